@@ -1,0 +1,176 @@
+-- One SCALE form a pair, and one verdict an input.
+use Rattle.std.proofs.Common.{◌≡◌, ℕ, zero, suc, ◌+◌, ◌/◌, ◌%◌, ◌^◌, ◌<◌, ◌≤◌, ◌⊎◌, cond, ltb, List, [], ◌∷◌, ◌++◌, length, get_or, take, drop, refl, sym, ap, ◌∙◌, arith, inl, inr, length-append, append_assoc, append-nil}
+use Rattle.std.specs.List.{All}
+use Rattle.std.proofs.Math.Nat.{pow-suc, pow-zero, div-add-mod}
+use Rattle.std.proofs.lemmas.Nat.{mod_below, div_below}
+use Rattle.std.proofs.lemmas.Bool.{cases_lt, lt-ltb, le-ltb}
+use Rattle.std.proofs.lemmas.List.{take_at, take-append-drop, length-take-le, drop_more}
+use Rattle.std.proofs.lemmas.List.Elements.{All-nil, All-cons, All-take}
+use Rattle.multihash.specs.Bytes.{IsBytes, IsBeginning, place_value}
+use Rattle.multihash.specs.Pair.{Pair}
+use Rattle.multihash.specs.Varint.{varint_limit}
+use Rattle.multihash.specs.Scale.{ScaleVerdict, decoded, refused_size, ended, IsScale, HasScaleSize, HasScaleVerdict}
+use Rattle.multihash.proofs.DigitLemmas.{place_value-nil, place_value-cons, place_value_below, place_value_unique}
+use Rattle.multihash.proofs.VerdictLemmas.{same_cut}
+
+-- a number in so many digits
+record FixedDigits (base count n : ℕ) : Type 0 where
+  digits : List ℕ
+  long : length digits ≡ count
+  each : All (λ d. d < base) digits
+  value : place_value base digits ≡ n
+
+fixed_digits : (base : ℕ) → 0 < base → (count n : ℕ) → n < base ^ count → FixedDigits base count n
+fixed_digits base pos zero n below = record {
+  digits = [];
+  long = refl;
+  each = All-nil (λ d. d < base);
+  value = rw place_value-nil (omega (arith, pow-zero base));
+}
+fixed_digits base pos (suc count) n below =
+    let h = fixed_digits base pos count (n / base) (div_below n base (base ^ count) pos (omega (arith, pow-suc base count))) in
+    record {
+      digits = n % base ∷ h.digits;
+      long = ap suc h.long;
+      each = All-cons (λ d. d < base) (n % base) h.digits (mod_below n base pos) h.each;
+      value = rw (place_value-cons base (n % base) h.digits, h.value) (omega (arith, div-add-mod n base));
+    }
+
+pub scale_exists : (p : Pair) → p.code < varint_limit → length p.digest < 256 → (bytes : List ℕ) × IsScale p bytes
+scale_exists p below size =
+    let d = fixed_digits 256 (omega arith) 8 p.code (omega (arith, below)) in (
+      d.digits ++ length p.digest ∷ p.digest,
+      record {
+        code = d.digits;
+        is_code = record { eight = d.long; are_bytes = d.each; value = d.value; in_range = below };
+        size = size;
+        spelled = refl;
+      },
+    )
+
+-- a pair has at most one form
+pub scale_same : (p : Pair) (a b : List ℕ) → IsScale p a → IsScale p b → a ≡ b
+scale_same p a b h k =
+    let codes = place_value_unique 256 h.code k.code h.is_code.are_bytes k.is_code.are_bytes (h.is_code.eight ∙ sym k.is_code.eight)
+    (h.is_code.value ∙ sym k.is_code.value) in
+    cc (codes, h.spelled, k.spelled)
+
+-- ---- the verdict
+
+scale_judged : ℕ → ℕ → ℕ → List ℕ → ScaleVerdict
+scale_judged S code size rest =
+    cond (ltb S size) (refused_size size)
+    (cond (ltb (length rest) size) ended (decoded (record { code = code; digest = take size rest })))
+
+-- too short for a size, or judged by the size and what follows
+abbrev ScaleTrace : ℕ → List ℕ → ScaleVerdict → Type 0
+ScaleTrace S x v =
+    ((length x < 9) × (v ≡ ended))
+    ⊎ ((size : ℕ) × (rest : List ℕ) × (h : HasScaleSize size x rest) × (v ≡ scale_judged S h.code size rest))
+
+scale_trace : (S : ℕ) (x : List ℕ) (v : ScaleVerdict) → HasScaleVerdict S x v → ScaleTrace S x v
+unfolding scale_judged
+scale_trace S x (decoded p) (bytes, rest, h, fits, cut) =
+    inr (
+      length p.digest,
+      p.digest ++ rest,
+      record {
+        code = p.code;
+        code_bytes = h.code;
+        is_code = h.is_code;
+        cut = cut ∙ (ap (λ (z : List ℕ). z ++ rest) h.spelled ∙ append_assoc h.code (length p.digest ∷ p.digest) rest);
+      },
+      rw (
+        le-ltb S (length p.digest) fits,
+        le-ltb (length (p.digest ++ rest)) (length p.digest) (omega (arith, length-append p.digest rest)),
+        take_at p.digest rest (length p.digest) refl,
+      ) refl,
+    )
+scale_trace S x (refused_size size) (rest, h, over) = inr (size, rest, h, rw (lt-ltb S size over) refl)
+scale_trace S x ended (inl short) = inl (short, refl)
+scale_trace S x ended (inr (size, rest, h, within, short)) =
+    inr (size, rest, h, rw (le-ltb S size within, lt-ltb (length rest) size short) refl)
+
+no_size : (size : ℕ) (x rest : List ℕ) → length x < 9 → HasScaleSize size x rest → ⊥
+no_size size x rest short h = omega (arith, ap length h.cut, length-append h.code_bytes (size ∷ rest), h.is_code.eight)
+
+scale_trace_unique : (S : ℕ) (x : List ℕ) (v w : ScaleVerdict) → ScaleTrace S x v → ScaleTrace S x w → v ≡ w
+scale_trace_unique S x v w (inl h) (inl k) = h.1 ∙ sym k.1
+scale_trace_unique S x v w (inl h) (inr (size, rest, k, e)) = absurd (no_size size x rest h.0 k)
+scale_trace_unique S x v w (inr (size, rest, h, e)) (inl k) = absurd (no_size size x rest k.0 h)
+scale_trace_unique S x v w (inr (m, r, h, e)) (inr (n, q, k, d)) =
+    let cut = same_cut h.code_bytes k.code_bytes (m ∷ r) (n ∷ q) (h.is_code.eight ∙ sym k.is_code.eight) (sym h.cut ∙ k.cut) in
+    let codes : h.code ≡ k.code = sym h.is_code.value ∙ (ap (place_value 256) cut.0 ∙ k.is_code.value) in
+    let sizes : m ≡ n = cc (cut.1) in
+    let rests : r ≡ q = cc (cut.1) in
+    cc (e, d, codes, sizes, rests)
+
+pub scale_verdict_unique : (S : ℕ) (x : List ℕ) (v w : ScaleVerdict) → HasScaleVerdict S x v → HasScaleVerdict S x w → v ≡ w
+scale_verdict_unique S x v w h k = scale_trace_unique S x v w (scale_trace S x v h) (scale_trace S x w k)
+
+-- a form and anything behind it
+pub scale_own : (S : ℕ) (p : Pair) (bytes rest : List ℕ) → IsScale p bytes → length p.digest ≤ S
+    → HasScaleVerdict S (bytes ++ rest) (decoded p)
+scale_own S p bytes rest h fits = (bytes, rest, h, fits, refl)
+
+pub scale_begins : (p q : Pair) (a b : List ℕ) → IsScale p a → IsScale q b → IsBeginning a b → p ≡ q
+scale_begins p q a b h k (rest, cut) =
+    let first : HasScaleVerdict 255 b (decoded p) = (a, rest, h, omega (arith, h.size), cut) in
+    let second : HasScaleVerdict 255 b (decoded q) = (b, [], k, omega (arith, k.size), sym (append-nil b)) in
+    let same : decoded p ≡ decoded q = scale_verdict_unique 255 b (decoded p) (decoded q) first second in
+    cc
+
+-- a list up to one place, the number there, and the rest
+split_at : (k : ℕ) (x : List ℕ) → k < length x → x ≡ take k x ++ get_or x k 0 ∷ drop (k + 1) x
+split_at k x below = sym (take-append-drop k x) ∙ ap (λ (back : List ℕ). take k x ++ back) (drop_more x k 0 below)
+
+scale_sized : (S size : ℕ) (x rest : List ℕ) → HasScaleSize size x rest → size < 256 → (v : ScaleVerdict) × HasScaleVerdict S x v
+scale_sized S size x rest h byte =
+    elim (cases_lt S size) [
+      | inl over ↦ (refused_size size, (rest, h, over))
+      | inr within ↦ elim (cases_lt (length rest) size) [
+        | inl short ↦ (ended, inr (size, rest, h, within, short))
+        | inr full ↦ whole within full
+      ]
+    ]
+  where
+    whole : size ≤ S → size ≤ length rest → (v : ScaleVerdict) × HasScaleVerdict S x v
+    whole within full =
+        let digest : List ℕ = take size rest in
+        let len : length digest ≡ size = length-take-le size rest full in
+        let p : Pair = record { code = h.code; digest = digest } in
+        let split : size ∷ rest ≡ (length digest ∷ digest) ++ drop size rest = cc (len, take-append-drop size rest) in (
+          decoded p,
+          (
+            h.code_bytes ++ length digest ∷ digest,
+            drop size rest,
+            record { code = h.code_bytes; is_code = h.is_code; size = omega arith; spelled = refl },
+            omega arith,
+            h.cut ∙ (ap (λ (z : List ℕ). h.code_bytes ++ z) split ∙ sym (append_assoc h.code_bytes (length digest ∷ digest) (drop size rest))),
+          ),
+        )
+
+code_in_range : (code : List ℕ) → length code ≡ 8 → IsBytes code → place_value 256 code < varint_limit
+code_in_range code eight bytes = omega (arith, place_value_below 256 code bytes, ap (λ (k : ℕ). 256 ^ k) eight)
+
+-- k is 8, and a variable, so that `take` stays as it is
+scale_from : (k S : ℕ) (x : List ℕ) → k ≡ 8 → IsBytes x → k < length x → (v : ScaleVerdict) × HasScaleVerdict S x v
+scale_from k S x eight bytes long =
+    scale_sized S (get_or x k 0) x (drop (k + 1) x) (record {
+      code = place_value 256 (take k x);
+      code_bytes = take k x;
+      is_code = record {
+        eight = length-take-le k x (omega arith) ∙ eight;
+        are_bytes = All-take (λ b. b < 256) k x bytes;
+        value = refl;
+        in_range = code_in_range (take k x) (length-take-le k x (omega arith) ∙ eight) (All-take (λ b. b < 256) k x bytes);
+      };
+      cut = split_at k x long;
+    }) (bytes k 0 long)
+
+pub scale_verdict_exists : (S : ℕ) (x : List ℕ) → IsBytes x → (v : ScaleVerdict) × HasScaleVerdict S x v
+scale_verdict_exists S x bytes =
+    elim (cases_lt (length x) 9) [
+      | inl short ↦ (ended, inl short)
+      | inr long ↦ scale_from 8 S x refl bytes long
+    ]

@@ -1,0 +1,22 @@
+use Rattle.std.proofs.Common.{arith}
+use Rattle.multihash.proofs.ScaleLemmas.{scale_exists, scale_same, scale_verdict_exists, scale_verdict_unique, scale_begins, scale_own}
+use Rattle.multihash.proofs.laws.scale_unique.Goals as goal
+
+pub returns-clause-one_form : goal.returns-clause-one_form
+returns-clause-one_form c p pair size =
+    let e = scale_exists p pair.code (omega arith) in
+    record { value = e.0; holds = e.1; only = λ other h. scale_same p other e.0 h e.1 }
+
+pub returns-clause-one_verdict : goal.returns-clause-one_verdict
+returns-clause-one_verdict c S input bytes =
+    let v = scale_verdict_exists S input bytes in
+    record { value = v.0; holds = v.1; only = λ w h. scale_verdict_unique S input w v.0 h v.1 }
+
+pub returns-clause-verdict_unique : goal.returns-clause-verdict_unique
+returns-clause-verdict_unique c = scale_verdict_unique
+
+pub returns-clause-begins_no_other : goal.returns-clause-begins_no_other
+returns-clause-begins_no_other c = scale_begins
+
+pub returns-clause-own_verdict : goal.returns-clause-own_verdict
+returns-clause-own_verdict c S p bytes rest h fits = scale_own S p bytes rest h (omega arith)

@@ -1,0 +1,11 @@
+use Rattle.multihash.proofs.SettlingLemmas.{settles_exactly, one_shortest, none_settles}
+use Rattle.multihash.proofs.laws.settles.Goals as goal
+
+pub returns-clause-exactly : goal.returns-clause-exactly
+returns-clause-exactly c = settles_exactly
+
+pub returns-clause-one_shortest : goal.returns-clause-one_shortest
+returns-clause-one_shortest c = one_shortest
+
+pub returns-clause-none : goal.returns-clause-none
+returns-clause-none c = none_settles

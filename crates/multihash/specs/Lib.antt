@@ -1,0 +1,16 @@
+pub mod Answer
+pub mod Bytes
+pub mod Encoding
+pub mod Fault
+pub mod Joined
+pub mod Json
+pub mod Order
+pub mod Pair
+pub mod Places
+pub mod Reading
+pub mod Refusal
+pub mod Scale
+pub mod Settling
+pub mod Varint
+pub mod Verdict
+pub mod Writing

@@ -1,0 +1,65 @@
+-- What a contract sees of the library's error.
+use Rattle.std.specs.Prelude.{◌≡◌, ℕ, ◌++◌, List, ◌⊎◌, codes}
+use Rattle.std.specs.Fmt.{decimal}
+use Rattle.multihash.specs.declared.error.Kind.{Kind}
+use Rattle.multihash.specs.declared.error.Kind.TheVariants.{Io, InvalidSize, Insufficient, Overflow, NotMinimal, NotBytes}
+use Rattle.multihash.specs.Varint.{VarintFault, insufficient, overflow, not_minimal}
+use Rattle.multihash.specs.Fault.{Fault, IsUnexpectedEof, IsOutOfMemory, IsOwnFault}
+
+-- why a call was refused: a fault of a reader or a writer, a size, a varint, or a JSON value that is
+-- no byte array
+pub data Refusal : Type 0 where
+  of_io : Fault → Refusal
+  of_size : ℕ → Refusal
+  of_varint : VarintFault → Refusal
+  of_not_bytes : Refusal
+
+-- the refusal of each kind of error
+abbrev pub refusal_of : Kind → Refusal
+refusal_of (Io fault) = of_io fault
+refusal_of (InvalidSize size) = of_size size
+refusal_of Insufficient = of_varint insufficient
+refusal_of Overflow = of_varint overflow
+refusal_of NotMinimal = of_varint not_minimal
+refusal_of NotBytes = of_not_bytes
+
+-- the refusal passes on a fault of which P holds
+abbrev pub IsIo : (Fault → Type 0) → Refusal → Type 0
+IsIo P e = (fault : Fault) × (e ≡ of_io fault) × P fault
+
+-- the input ended before a digest or a fixed part was whole
+abbrev pub IsEof : Refusal → Type 0
+IsEof e = IsIo IsUnexpectedEof e
+
+-- memory was refused
+abbrev pub IsMemory : Refusal → Type 0
+IsMemory e = IsIo IsOutOfMemory e
+
+-- a fault of the reader's own
+abbrev pub IsReaderFault : Refusal → Type 0
+IsReaderFault e = IsIo IsOwnFault e
+
+-- a size that the buffer or the input contradicts
+abbrev pub IsInvalidSize : ℕ → Refusal → Type 0
+IsInvalidSize size e = e ≡ of_size size
+
+-- no varint stands where one should
+abbrev pub IsFaulty : VarintFault → Refusal → Type 0
+IsFaulty fault e = e ≡ of_varint fault
+
+-- a JSON value that is no byte array
+abbrev pub IsNotBytes : Refusal → Type 0
+IsNotBytes e = e ≡ of_not_bytes
+
+-- the text that a varint's fault prints
+abbrev pub varint_text : VarintFault → List ℕ
+varint_text insufficient = codes "not enough input bytes"
+varint_text overflow = codes "input bytes exceed maximum"
+varint_text not_minimal = codes "encoding is not minimal"
+
+-- the text that a refusal prints
+abbrev pub refusal_text : Refusal → List ℕ
+refusal_text (of_io fault) = fault.text
+refusal_text (of_size size) = codes "Invalid multihash size " ++ decimal size ++ codes "."
+refusal_text (of_varint fault) = varint_text fault
+refusal_text of_not_bytes = codes "Failed to deserialize Multihash"

@@ -1,0 +1,41 @@
+-- The SCALE form: the code as eight bytes, the digest's length as one, and the digest.
+use Rattle.std.specs.Prelude.{◌≡◌, ℕ, ◌<◌, ◌≤◌, ◌⊎◌, List, ◌∷◌, ◌++◌, length}
+use Rattle.multihash.specs.Bytes.{IsBytes, place_value}
+use Rattle.multihash.specs.Pair.{Pair}
+use Rattle.multihash.specs.Varint.{varint_limit}
+
+-- what decoding answers
+pub data ScaleVerdict : Type 0 where
+  decoded : Pair → ScaleVerdict
+  refused_size : ℕ → ScaleVerdict
+  ended : ScaleVerdict
+
+-- the bytes are the eight of the code, the lowest first
+pub record IsScaleCode (code : ℕ) (bytes : List ℕ) : Type 0 where
+  pub eight : length bytes ≡ 8
+  pub are_bytes : IsBytes bytes
+  pub value : place_value 256 bytes ≡ code
+  pub in_range : code < varint_limit
+
+-- the bytes are the SCALE form of the pair
+pub record IsScale (p : Pair) (bytes : List ℕ) : Type 0 where
+  pub code : List ℕ
+  pub is_code : IsScaleCode p.code code
+  pub size : length p.digest < 256
+  pub spelled : bytes ≡ code ++ length p.digest ∷ p.digest
+
+-- the input is a code's eight bytes, the size, and the rest
+pub record HasScaleSize (size : ℕ) (input rest : List ℕ) : Type 0 where
+  pub code : ℕ
+  pub code_bytes : List ℕ
+  pub is_code : IsScaleCode code code_bytes
+  pub cut : input ≡ code_bytes ++ size ∷ rest
+
+-- the verdict of decoding on what begins with the input, for a buffer of size S
+abbrev pub HasScaleVerdict : ℕ → List ℕ → ScaleVerdict → Type 0
+HasScaleVerdict S input (decoded p) =
+    (bytes : List ℕ) × (rest : List ℕ) × IsScale p bytes × (length p.digest ≤ S) × (input ≡ bytes ++ rest)
+HasScaleVerdict S input (refused_size size) = (rest : List ℕ) × HasScaleSize size input rest × (S < size)
+HasScaleVerdict S input ended =
+    (length input < 9)
+    ⊎ ((size : ℕ) × (rest : List ℕ) × HasScaleSize size input rest × (size ≤ S) × (length rest < size))

@@ -1,0 +1,67 @@
+-- Unsigned varints: a number's base-128 digits, the lowest first, one a byte.
+use Rattle.std.specs.Prelude.{◌≡◌, ℕ, ◌+◌, ◌<◌, ◌≤◌, ◌^◌, List, [], ◌∷◌, ◌++◌, length, map, All}
+use Rattle.multihash.specs.Bytes.{place_value}
+
+-- a varint's number lies below this one
+abbrev pub varint_limit : ℕ
+varint_limit = 2 ^ 64
+
+-- the most marked bytes of a varint
+abbrev pub most_marked : ℕ
+most_marked = 9
+
+-- after that many marked bytes, a byte from this one on is too large
+abbrev pub first_too_large : ℕ
+first_too_large = 2
+
+-- a byte that others follow has 128 added to its digit
+abbrev pub IsMarked : ℕ → Type 0
+IsMarked byte = 128 ≤ byte
+
+-- the digits with 128 added to each
+abbrev pub marked : List ℕ → List ℕ
+marked digits = map (λ digit. digit + 128) digits
+
+-- the bytes are the varint of n, whose digits are those of the front and the last
+pub record IsVarint (n : ℕ) (bytes : List ℕ) : Type 0 where
+  pub front : List ℕ
+  pub last : ℕ
+  pub digits : All (λ digit. digit < 128) (front ++ last ∷ [])
+  pub minimal : last ≡ 0 → front ≡ []
+  pub value : place_value 128 (front ++ last ∷ []) ≡ n
+  pub in_range : n < varint_limit
+  pub spelled : bytes ≡ marked front ++ last ∷ []
+
+-- the ways in which no varint begins an input
+pub data VarintFault : Type 0 where
+  insufficient overflow not_minimal : VarintFault
+
+-- the input ends inside or before a varint
+pub record IsInsufficient (input : List ℕ) : Type 0 where
+  pub few : length input ≤ most_marked
+  pub all_marked : All IsMarked input
+
+-- after the most marked bytes comes one that is too large
+pub record IsOverflow (input : List ℕ) : Type 0 where
+  pub front : List ℕ
+  pub byte : ℕ
+  pub rest : List ℕ
+  pub all_marked : All IsMarked front
+  pub most : length front ≡ most_marked
+  pub too_large : first_too_large ≤ byte
+  pub cut : input ≡ front ++ byte ∷ rest
+
+-- a zero ends the marked bytes
+pub record IsNotMinimal (input : List ℕ) : Type 0 where
+  pub front : List ℕ
+  pub rest : List ℕ
+  pub all_marked : All IsMarked front
+  pub some : 0 < length front
+  pub few : length front ≤ most_marked
+  pub cut : input ≡ front ++ 0 ∷ rest
+
+-- the input begins with that fault
+abbrev pub HasFaultyFront : VarintFault → List ℕ → Type 0
+HasFaultyFront insufficient input = IsInsufficient input
+HasFaultyFront overflow input = IsOverflow input
+HasFaultyFront not_minimal input = IsNotMinimal input

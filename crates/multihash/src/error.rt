@@ -1,0 +1,161 @@
+//! The library's error.
+ghost use Rattle.std.specs.Prelude.{◌≡◌, ◌≢◌, ℕ, ◌↔◌, IsTrue, Some, IfSome, IfNone};
+ghost use Rattle.std.specs.Fmt.{WritesOnOk, WritesStyledOnOk};
+ghost use Rattle.multihash.specs.Varint.{insufficient, overflow, not_minimal};
+ghost use Rattle.multihash.specs.Fault.{Fault};
+ghost use Rattle.multihash.specs.Refusal.{of_io, of_size, refusal_text, IsInvalidSize, IsFaulty, IsNotBytes};
+
+use crate::no_std_io;
+use std::fmt;
+use std::marker::Model;
+
+#[derive(Debug, Drop)]
+enum Kind {
+    Io(no_std_io::Error),
+    InvalidSize(u64),
+    Insufficient,
+    Overflow,
+    NotMinimal,
+    NotBytes,
+}
+
+/// Why a call was refused.
+///
+/// Exactly one of six kinds applies to an error: [`Error::invalid_size`] or [`Error::io`] is
+/// `Some`, or one of the four tests is true.
+#[derive(Debug, Drop)]
+pub struct Error {
+    kind: Kind,
+}
+
+impl Model for Error {
+    ghost use Rattle.multihash.specs.Refusal.{Refusal, refusal_of};
+
+    ghost Value = { Refusal };
+
+    ghost view = { λ e. refusal_of e.kind };
+}
+
+impl Error {
+    pub(crate) fn from_size(size: u64) -> Self
+        ensures { IsInvalidSize size result }
+    {
+        Error {
+            kind: Kind::InvalidSize(size),
+        }
+    }
+
+    pub(crate) fn insufficient() -> Self
+        ensures { IsFaulty insufficient result }
+    {
+        Error {
+            kind: Kind::Insufficient,
+        }
+    }
+
+    pub(crate) fn overflow() -> Self
+        ensures { IsFaulty overflow result }
+    {
+        Error {
+            kind: Kind::Overflow,
+        }
+    }
+
+    pub(crate) fn not_minimal() -> Self
+        ensures { IsFaulty not_minimal result }
+    {
+        Error {
+            kind: Kind::NotMinimal,
+        }
+    }
+
+    /// The size that was refused: that of a digest longer than the buffer holds, or the number of
+    /// bytes that were left over.
+    pub fn invalid_size(&self) -> Option<u64>
+        ensures { (size : ℕ) → ((result ≡ Some size) ↔ IsInvalidSize size self.now) }
+    {
+        match self.kind {
+            Kind::InvalidSize(size) => Some(size),
+            _ => None,
+        }
+    }
+
+    /// Whether the input ended inside or before a varint.
+    pub fn is_insufficient(&self) -> bool
+        ensures { IsTrue result ↔ IsFaulty insufficient self.now }
+    {
+        matches!(self.kind, Kind::Insufficient)
+    }
+
+    /// Whether a varint's number does not fit in 64 bits.
+    pub fn is_overflow(&self) -> bool
+        ensures { IsTrue result ↔ IsFaulty overflow self.now }
+    {
+        matches!(self.kind, Kind::Overflow)
+    }
+
+    /// Whether a varint of more than one byte ends in a zero.
+    pub fn is_not_minimal(&self) -> bool
+        ensures { IsTrue result ↔ IsFaulty not_minimal self.now }
+    {
+        matches!(self.kind, Kind::NotMinimal)
+    }
+
+    /// Whether a JSON value is not an array of whole numbers from 0 to 255.
+    pub fn is_not_bytes(&self) -> bool
+        ensures { IsTrue result ↔ IsNotBytes self.now }
+    {
+        matches!(self.kind, Kind::NotBytes)
+    }
+
+    /// The error of the reader or the writer, where it is one: the input's end before a digest or a
+    /// fixed part was whole, a writer with no place left, want of memory, or a fault of its own.
+    pub fn io(&self) -> Option<&no_std_io::Error>
+        ensures some { IfSome result (λ e. self.now ≡ of_io e.now) }
+        ensures none { IfNone result ((fault : Fault) → self.now ≢ of_io fault) }
+    {
+        match &self.kind {
+            Kind::Io(e) => Some(e),
+            _ => None,
+        }
+    }
+}
+
+impl From<no_std_io::Error> for Error {
+    ghost from_gives = { λ fault e. e ≡ of_io fault };
+
+    fn from(e: no_std_io::Error) -> Self {
+        Error { kind: Kind::Io(e) }
+    }
+}
+
+// Not `write!`, whose contract says nothing where a width or a precision is asked.
+fn write_size_text<W: fmt::Write>(f: &mut fmt::Formatter<W>, size: u64) -> fmt::Result
+    ensures plain { WritesOnOk W.write_str_gives f.old result (refusal_text (of_size size)) f.new }
+    ensures styled { WritesStyledOnOk W.write_str_gives f.old result (refusal_text (of_size size)) f.new }
+{
+    let mut digits = itoa::Buffer::new();
+    f.write_str("Invalid multihash size ")?;
+    f.write_str(digits.format(size))?;
+    f.write_str(".")
+}
+
+/// Prints the text alone, whatever width or precision is asked.
+impl fmt::Display for Error {
+    ghost output = { λ e. Some (refusal_text e) };
+
+    ghost styled_output = { λ e _. Some (refusal_text e) };
+
+    fn fmt<W: fmt::Write>(&self, f: &mut fmt::Formatter<W>) -> fmt::Result {
+        match &self.kind {
+            Kind::Io(e) => f.write_str(e.text()),
+            Kind::InvalidSize(size) => write_size_text(f, *size),
+            Kind::Insufficient => f.write_str("not enough input bytes"),
+            Kind::Overflow => f.write_str("input bytes exceed maximum"),
+            Kind::NotMinimal => f.write_str("encoding is not minimal"),
+            Kind::NotBytes => f.write_str("Failed to deserialize Multihash"),
+        }
+    }
+}
+
+impl std::error::Error for Error {}

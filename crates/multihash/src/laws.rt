@@ -1,0 +1,75 @@
+// Laws of the definitions alone: each function does nothing, and its contract is a law.
+ghost use Rattle.std.specs.Prelude.{◌≡◌, ℕ, ◌<◌, ◌≤◌, ◌↔◌, List, ◌++◌, length};
+ghost use Rattle.serde_json.specs.Data.{Data};
+ghost use Rattle.multihash.specs.Bytes.{IsBytes, IsBeginning, ExactlyOne};
+ghost use Rattle.multihash.specs.Pair.{Pair, IsPair, IsSame, FitsBuffer};
+ghost use Rattle.multihash.specs.Encoding.{IsEncoding};
+ghost use Rattle.multihash.specs.Verdict.{Verdict, accepted, HasVerdict, HasWholeVerdict, IsEarlyEnd};
+ghost use Rattle.multihash.specs.Settling.{Settles, IsShortestSettling};
+ghost use Rattle.multihash.specs.Joined.{AreJoined};
+ghost use Rattle.multihash.specs.Scale.{ScaleVerdict, decoded, IsScale, HasScaleVerdict};
+ghost use Rattle.multihash.specs.Json.{IsJsonList, IsByteArray};
+
+/// Each input has one verdict, for each size of buffer.
+pub fn one_verdict()
+    ensures read { (S : ℕ) (input : List ℕ) → IsBytes input → ExactlyOne (HasVerdict S input) }
+    ensures whole { (S : ℕ) (input : List ℕ) → IsBytes input → ExactlyOne (HasWholeVerdict S input) }
+
+    // No two verdicts hold of one list, of bytes or not.
+    ensures read_unique { (S : ℕ) (input : List ℕ) (v w : Verdict) →
+        HasVerdict S input v → HasVerdict S input w → v ≡ w }
+    ensures whole_unique { (S : ℕ) (input : List ℕ) (v w : Verdict) →
+        HasWholeVerdict S input v → HasWholeVerdict S input w → v ≡ w }
+{}
+
+/// An input settles its verdict unless that is an early end.
+pub fn settles()
+    ensures exactly { (S : ℕ) (input : List ℕ) (v : Verdict) → HasVerdict S input v →
+        (Settles S input ↔ ¬ (IsEarlyEnd v)) }
+    ensures one_shortest { (S : ℕ) (input : List ℕ) (v : Verdict) → HasVerdict S input v →
+        ¬ (IsEarlyEnd v) → ExactlyOne (IsShortestSettling S input) }
+    ensures none { (S : ℕ) (input : List ℕ) (v : Verdict) → HasVerdict S input v →
+        IsEarlyEnd v → (front : List ℕ) → IsBeginning front input → ¬ (Settles S front) }
+{}
+
+/// A pair has one encoding, which tells the pair, whatever follows.
+pub fn prefix_free()
+    ensures one_encoding { (p : Pair) → IsPair p → length p.digest ≤ 255 → ExactlyOne (IsEncoding p) }
+    ensures begins_no_other { (p q : Pair) (a b : List ℕ) →
+        IsEncoding p a → IsEncoding q b → IsBeginning a b → p ≡ q }
+    ensures own_verdict { (S : ℕ) (p : Pair) (encoding rest : List ℕ) → IsEncoding p encoding →
+        FitsBuffer S p → HasVerdict S (encoding ++ rest) (accepted p) }
+    ensures no_other_verdict { (S : ℕ) (p : Pair) (encoding rest : List ℕ) (v : Verdict) →
+        IsEncoding p encoding → FitsBuffer S p → HasVerdict S (encoding ++ rest) v → v ≡ accepted p }
+{}
+
+/// A stream of encodings is taken apart in one way only.
+pub fn split_unique()
+    ensures as_many { (ps qs : List Pair) (a b r s : List ℕ) → length ps ≡ length qs →
+        AreJoined ps a → AreJoined qs b → a ++ r ≡ b ++ s → (ps ≡ qs) × (r ≡ s) }
+    ensures whole { (ps qs : List Pair) (bytes : List ℕ) → AreJoined ps bytes → AreJoined qs bytes → ps ≡ qs }
+{}
+
+/// A pair has one SCALE form, which tells the pair, whatever follows, and each input has one verdict.
+pub fn scale_unique()
+    ensures one_form { (p : Pair) → IsPair p → length p.digest ≤ 255 → ExactlyOne (IsScale p) }
+    ensures one_verdict { (S : ℕ) (input : List ℕ) → IsBytes input → ExactlyOne (HasScaleVerdict S input) }
+    ensures verdict_unique { (S : ℕ) (input : List ℕ) (v w : ScaleVerdict) →
+        HasScaleVerdict S input v → HasScaleVerdict S input w → v ≡ w }
+    ensures begins_no_other { (p q : Pair) (a b : List ℕ) →
+        IsScale p a → IsScale q b → IsBeginning a b → p ≡ q }
+    ensures own_verdict { (S : ℕ) (p : Pair) (bytes rest : List ℕ) → IsScale p bytes →
+        FitsBuffer S p → HasScaleVerdict S (bytes ++ rest) (decoded p) }
+{}
+
+/// A JSON list tells its pair.
+pub fn json_unique()
+    ensures same { (p q : Pair) (value : Data) → IsJsonList p value → IsJsonList q value → IsSame p q }
+    ensures byte_array { (p : Pair) (value : Data) → IsPair p → IsJsonList p value →
+        ExactlyOne (IsByteArray value) }
+    ensures own_verdict { (S : ℕ) (p : Pair) (value : Data) (bytes : List ℕ) → IsJsonList p value →
+        FitsBuffer S p → IsByteArray value bytes → HasWholeVerdict S bytes (accepted p) }
+    ensures no_other_verdict { (S : ℕ) (p : Pair) (value : Data) (bytes : List ℕ) (v : Verdict) →
+        IsJsonList p value → FitsBuffer S p → IsByteArray value bytes → HasWholeVerdict S bytes v →
+        v ≡ accepted p }
+{}

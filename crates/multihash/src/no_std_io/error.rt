@@ -1,0 +1,126 @@
+//! The error of readers and writers.
+ghost use Rattle.std.specs.Prelude.{◌≡◌, ◌↔◌, IsTrue, Some};
+ghost use Rattle.multihash.specs.Fault.{IsUnexpectedEof, IsWriteZero, IsOutOfMemory, IsOther, HasStandardText};
+
+use std::fmt;
+use std::marker::Model;
+
+#[derive(Clone, Copy, Debug, PartialEq, Eq)]
+enum Kind {
+    UnexpectedEof,
+    WriteZero,
+    OutOfMemory,
+    Other,
+}
+
+/// Why a reader or a writer refused: one of four kinds, and the text that it prints.
+///
+/// Exactly one of `is_unexpected_eof`, `is_write_zero`, `is_out_of_memory` and `is_other` is true of
+/// an error.
+#[derive(Debug, Drop)]
+pub struct Error {
+    kind: Kind,
+    text: &'static str,
+}
+
+impl Model for Error {
+    ghost use Rattle.multihash.specs.Fault.{Fault, HasStandardText};
+
+    ghost Value = { Fault };
+
+    ghost view = { λ e. record { kind = e.kind; text = e.text.now } };
+
+    ghost invariant = { λ e. HasStandardText (record { kind = e.kind; text = e.text.now }) };
+}
+
+impl Error {
+    // The input ended before a buffer was full.
+    pub(crate) fn unexpected_eof() -> Self
+        ensures { IsUnexpectedEof result }
+    {
+        Error {
+            kind: Kind::UnexpectedEof,
+            text: "failed to fill whole buffer",
+        }
+    }
+
+    // A writer had no place left.
+    pub(crate) fn write_zero() -> Self
+        ensures { IsWriteZero result }
+    {
+        Error {
+            kind: Kind::WriteZero,
+            text: "failed to write whole buffer",
+        }
+    }
+
+    /// An error that says that memory was refused. It prints `out of memory`.
+    pub fn out_of_memory() -> Self
+        ensures { IsOutOfMemory result }
+    {
+        Error {
+            kind: Kind::OutOfMemory,
+            text: "out of memory",
+        }
+    }
+
+    /// A fault of a reader's or a writer's own, which prints `text`.
+    pub fn other(text: &'static str) -> Self
+        ensures kind { IsOther result }
+        ensures text { result.text ≡ text.now }
+    {
+        Error {
+            kind: Kind::Other,
+            text,
+        }
+    }
+
+    /// The text that `Display` prints.
+    pub fn text(&self) -> &'static str
+        ensures text { result.now ≡ self.now.text }
+        ensures standard { HasStandardText self.now }
+    {
+        self.text
+    }
+
+    /// Whether the input ended before a buffer was full.
+    pub fn is_unexpected_eof(&self) -> bool
+        ensures { IsTrue result ↔ IsUnexpectedEof self.now }
+    {
+        matches!(self.kind, Kind::UnexpectedEof)
+    }
+
+    /// Whether a writer had no place left.
+    pub fn is_write_zero(&self) -> bool
+        ensures { IsTrue result ↔ IsWriteZero self.now }
+    {
+        matches!(self.kind, Kind::WriteZero)
+    }
+
+    /// Whether memory was refused.
+    pub fn is_out_of_memory(&self) -> bool
+        ensures { IsTrue result ↔ IsOutOfMemory self.now }
+    {
+        matches!(self.kind, Kind::OutOfMemory)
+    }
+
+    /// Whether it is a fault of the reader's or the writer's own, made by [`Error::other`].
+    pub fn is_other(&self) -> bool
+        ensures { IsTrue result ↔ IsOther self.now }
+    {
+        matches!(self.kind, Kind::Other)
+    }
+}
+
+/// Prints the text alone, whatever width or precision is asked.
+impl fmt::Display for Error {
+    ghost output = { λ e. Some e.text };
+
+    ghost styled_output = { λ e _. Some e.text };
+
+    fn fmt<W: fmt::Write>(&self, f: &mut fmt::Formatter<W>) -> fmt::Result {
+        f.write_str(self.text)
+    }
+}
+
+impl std::error::Error for Error {}
