@@ -1,5 +1,5 @@
 -- One encoding a pair, and one verdict an input.
-use Rattle.std.proofs.Common.{◌≡◌, ℕ, ◌<◌, ◌≤◌, cond, ltb, List, [], ◌++◌, length, take, drop, refl, sym, ap, ◌∙◌, subst, arith, inl, inr, length-append, append_assoc, append-nil}
+use Rattle.std.proofs.Common.{◌≡◌, ℕ, ◌<◌, cond, ltb, List, [], ◌++◌, length, take, drop, refl, sym, ap, ◌∙◌, subst, arith, inl, inr, length-append, append_assoc, append-nil}
 use Rattle.std.proofs.lemmas.Bool.{cases_lt, lt-ltb, le-ltb}
 use Rattle.std.proofs.lemmas.List.{take_at, take-append-drop, length-take-le, append_cancel_left, append_cancel_right, nil_from_length}
 use Rattle.std.proofs.lemmas.List.Elements.{All-same}
@@ -116,38 +116,49 @@ verdict_unique S x v w h k =
 
 -- ---- some verdict
 
-sized : (S size code : ℕ) (x rest a b : List ℕ) → IsVarint code a → IsVarint size b → x ≡ a ++ (b ++ rest) → (v : Verdict) × HasVerdict S x v
-sized S size code x rest a b is_code is_size cut =
+-- a digest of the size behind both varints ends an encoding
+pub pair_begins : (size : ℕ) (x rest : List ℕ) (h : HasSize size x rest) (digest after : List ℕ) → length digest ≡ size
+    → rest ≡ digest ++ after → BeginsWith (record { code = h.code; digest = digest }) x after
+pair_begins size x rest h digest after long split = record {
+  encoding = h.code_bytes ++ (h.size_bytes ++ digest);
+  encodes = encodes;
+  cut = h.cut ∙ (ap (λ (z : List ℕ). h.code_bytes ++ (h.size_bytes ++ z)) split
+      ∙ sym (encoding_cut (record { code = h.code; digest = digest }) (h.code_bytes ++ (h.size_bytes ++ digest)) after encodes));
+}
+  where
+    encodes : IsEncoding (record { code = h.code; digest = digest }) (h.code_bytes ++ (h.size_bytes ++ digest))
+    encodes = record {
+      code = h.code_bytes;
+      size = h.size_bytes;
+      is_code = h.is_code;
+      is_size = subst (λ (n : ℕ). IsVarint n h.size_bytes) (sym long) h.is_size;
+      spelled = refl;
+    }
+
+sized : (S size : ℕ) (x rest : List ℕ) → HasSize size x rest → (v : Verdict) × HasVerdict S x v
+sized S size x rest h =
     elim (cases_lt (digest_limit S) size) [
-      | inl over ↦ (invalid_size size, (rest, record { code = code; code_bytes = a; size_bytes = b; is_code = is_code; is_size = is_size; cut = cut }, over))
+      | inl over ↦ (invalid_size size, (rest, h, over))
       | inr within ↦ elim (cases_lt (length rest) size) [
-        | inl short ↦ (unexpected_eof, (size, rest, record { code = code; code_bytes = a; size_bytes = b; is_code = is_code; is_size = is_size; cut = cut }, within, short))
-        | inr full ↦ whole within full
+        | inl short ↦ (unexpected_eof, (size, rest, h, within, short))
+        | inr full ↦
+            let long : length (take size rest) ≡ size = length-take-le size rest full in (
+              accepted (record { code = h.code; digest = take size rest }),
+              (drop size rest, pair_begins size x rest h (take size rest) (drop size rest) long (sym (take-append-drop size rest)), omega arith),
+            )
       ]
     ]
-  where
-    whole : size ≤ digest_limit S → size ≤ length rest → (v : Verdict) × HasVerdict S x v
-    whole within full =
-        let len : length (take size rest) ≡ size = length-take-le size rest full in
-        let p : Pair = record { code = code; digest = take size rest } in
-        let encodes : IsEncoding p (a ++ (b ++ take size rest)) =
-        record { code = a; size = b; is_code = is_code; is_size = subst (λ (n : ℕ). IsVarint n b) (sym len) is_size; spelled = refl } in
-        let split : rest ≡ take size rest ++ drop size rest = sym (take-append-drop size rest) in (
-          accepted p,
-          (
-            drop size rest,
-            record {
-              encoding = a ++ (b ++ take size rest);
-              encodes = encodes;
-              cut = cut ∙ (ap (λ (z : List ℕ). a ++ (b ++ z)) split ∙ sym (encoding_cut p (a ++ (b ++ take size rest)) (drop size rest) encodes));
-            },
-            omega arith,
-          ),
-        )
 
 behind_code : (S code : ℕ) (x r a : List ℕ) → IsVarint code a → x ≡ a ++ r → (g : Front) → HasFront r g → (v : Verdict) × HasVerdict S x v
 behind_code S code x r a is_code cut (number size rest) (b, is_size, e) =
-    sized S size code x rest a b is_code is_size (cut ∙ ap (λ (z : List ℕ). a ++ z) e)
+    sized S size x rest (record {
+      code = code;
+      code_bytes = a;
+      size_bytes = b;
+      is_code = is_code;
+      is_size = is_size;
+      cut = cut ∙ ap (λ (z : List ℕ). a ++ z) e;
+    })
 behind_code S code x r a is_code cut (fault f) h = (faulty f, inr (r, record { code = code; code_bytes = a; is_code = is_code; cut = cut }, h))
 
 from_front : (S : ℕ) (x : List ℕ) → IsBytes x → (f : Front) → HasFront x f → (v : Verdict) × HasVerdict S x v

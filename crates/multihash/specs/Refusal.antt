@@ -1,5 +1,5 @@
 -- What a contract sees of the library's error.
-use Rattle.std.specs.Prelude.{◌≡◌, ℕ, ◌++◌, List, ◌⊎◌, codes}
+use Rattle.std.specs.Prelude.{◌≡◌, ℕ, ◌++◌, List, codes}
 use Rattle.std.specs.Fmt.{decimal}
 use Rattle.multihash.specs.declared.error.Kind.{Kind}
 use Rattle.multihash.specs.declared.error.Kind.TheVariants.{Io, InvalidSize, Insufficient, Overflow, NotMinimal, NotBytes}

@@ -6,10 +6,10 @@
 #![tactic(auto)]
 
 mod error;
-
 pub mod laws;
+mod multihash;
 pub mod no_std_io;
-
+mod varint;
 
 pub use crate::error::Error;
-
+pub use crate::multihash::Multihash;
