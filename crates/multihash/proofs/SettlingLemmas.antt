@@ -1,5 +1,5 @@
 -- An input settles its verdict where that is no early end, and has one shortest beginning that does.
-use Rattle.std.proofs.Common.{◌≡◌, ◌≢◌, ℕ, ◌+◌, ◌-◌, ◌<◌, ◌≤◌, ◌⊎◌, ◌↔◌, List, [], ◌∷◌, ◌++◌, length, replicate, get_or, refl, sym, ap, ◌∙◌, subst, arith, inl, inr, length-append, append_assoc, append-nil}
+use Rattle.std.proofs.Common.{◌≡◌, ℕ, ◌+◌, ◌-◌, ◌<◌, ◌≤◌, ◌⊎◌, ◌↔◌, List, [], ◌∷◌, ◌++◌, length, replicate, get_or, refl, sym, ap, ◌∙◌, subst, arith, inl, inr, length-append, append_assoc, append-nil}
 use Rattle.std.specs.List.{All}
 use Rattle.std.proofs.lemmas.List.{get_or_append_left, length-map, length-replicate}
 use Rattle.std.proofs.lemmas.List.Elements.{All-nil, All-cons, All-replicate}
@@ -13,6 +13,7 @@ use Rattle.multihash.proofs.DigitLemmas.{place_value-cons, place_value-nil}
 use Rattle.multihash.proofs.RunLemmas.{All-marked}
 use Rattle.multihash.proofs.VarintLemmas.{varint_length}
 use Rattle.multihash.proofs.VerdictLemmas.{verdict_unique}
+use Rattle.multihash.proofs.WritingLemmas.{some_items}
 
 -- ---- a verdict that is no early end stays
 
@@ -269,10 +270,6 @@ varint_step n bytes v = record {
   cut = v.spelled;
 }
 
-positive : (r : List ℕ) → r ≢ [] → 0 < length r
-positive [] n = absurd (n refl)
-positive (c ∷ r) n = omega arith
-
 pub before_step : (t p : List ℕ) → IsStep t → IsProperBeginning p t → IsInsufficient p
 before_step t p s (rest, some, cut) = record { few = omega (arith, s.few, short); all_marked = marks }
   where
@@ -280,7 +277,7 @@ before_step t p s (rest, some, cut) = record { few = omega (arith, s.few, short)
     same = sym s.cut ∙ cut
 
     short : length p ≤ length s.front
-    short = omega (arith, ap length same, length-append s.front (s.last ∷ []), length-append p rest, positive rest some)
+    short = omega (arith, ap length same, length-append s.front (s.last ∷ []), length-append p rest, some_items rest some)
 
     marks : All IsMarked p
     marks k d below =
@@ -326,7 +323,7 @@ before_digest S p t x e fits (rest, some, cut) =
               cut = y_cut ∙ ap (λ (w : List ℕ). e.code ++ w) z_cut;
             },
             fits,
-            omega (arith, ap length d_cut, length-append z left, positive left nonempty),
+            omega (arith, ap length d_cut, length-append z left, some_items left nonempty),
           ),
           tt,
         )

@@ -1,5 +1,8 @@
 //! Readers and writers that need no operating system, and their error.
 
 mod error;
+mod impls;
+mod traits;
 
 pub use error::Error;
+pub use traits::{Read, Write};

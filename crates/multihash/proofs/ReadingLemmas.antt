@@ -1,0 +1,44 @@
+-- What two calls took one after the other, and what stands at the front of a buffer after them.
+use Rattle.std.proofs.Common.{◌≡◌, ℕ, ◌+◌, ◌≤◌, List, ◌++◌, Option, None, Some, IfSome, subst, length, take, refl, sym, ap, ◌∙◌, arith, append_assoc, length-append, length-take-le}
+use Rattle.std.proofs.lemmas.List.{take-append-le}
+use Rattle.std.proofs.Math.Seq.{take-append-add}
+use borrow.Rule.Slice.PartMut.{put_mid, post_of}
+use Rattle.multihash.specs.Reading.{preceded_by, Takes, HasFewerThan, TakesFewerThan}
+
+pub preceded_by-append : (xs ys : List ℕ) (rest : Option (List ℕ)) → preceded_by xs (preceded_by ys rest) ≡ preceded_by (xs ++ ys) rest
+preceded_by-append xs ys None = refl
+preceded_by-append xs ys (Some rest) = ap Some (sym (append_assoc xs ys rest))
+
+pub Takes-joined : (a b c : Option (List ℕ)) (xs ys whole : List ℕ) → whole ≡ xs ++ ys → Takes a xs b → Takes b ys c → Takes a whole c
+Takes-joined a b c xs ys whole joined first second =
+    first ∙ ap (preceded_by xs) second ∙ preceded_by-append xs ys c ∙ ap (λ l. preceded_by l c) (sym joined)
+
+-- a buffer whose places from `at` on were handed out begins with what it began with, and then with
+-- what was put at the front of those places
+pub take-put_mid_more : (at k n : ℕ) (xs ys : List ℕ) → at ≤ length xs → n ≤ length ys → take (at + n) (put_mid at k xs ys) ≡ take at xs ++ take n ys
+take-put_mid_more at k n xs ys within fits =
+    let after = post_of at k xs in
+    ap (λ m. take (m + n) (take at xs ++ (ys ++ after))) (sym (length-take-le at xs within))
+    ∙ take-append-add (take at xs) (ys ++ after) n
+    ∙ ap (λ l. take at xs ++ l) (take-append-le n ys after fits)
+
+-- what holds of `taken` and whatever follows holds of the rest at entry, where it is told
+pub IfSome-taken : (old new : Option (List ℕ)) (taken : List ℕ) (P : List ℕ → Type 0) → Takes old taken new → ((left : List ℕ) → new ≡ Some left → P (taken ++ left)) → IfSome old P
+IfSome-taken None new taken P takes h = tt
+IfSome-taken (Some xs) None taken P takes h = cc
+IfSome-taken (Some xs) (Some left) taken P takes h = let same : xs ≡ taken ++ left = cc in subst P (sym same) (h left refl)
+
+-- fewer bytes are left after `taken` than n, so there were fewer than n and those before
+pub HasFewerThan-joined : (old new : Option (List ℕ)) (taken : List ℕ) (n : ℕ) → Takes old taken new → HasFewerThan n new → HasFewerThan (length taken + n) old
+HasFewerThan-joined None new taken n takes h = tt
+HasFewerThan-joined (Some xs) None taken n takes h = cc
+HasFewerThan-joined (Some xs) (Some left) taken n takes h =
+    let same : xs ≡ taken ++ left = cc in omega (arith, ap length same, length-append taken left, h)
+
+-- a call that took all of `front`, and one that took fewer than n bytes
+pub TakesFewerThan-joined : (a b c : Option (List ℕ)) (front : List ℕ) (m n : ℕ) → m ≡ length front + n → Takes a front b → TakesFewerThan n b c → TakesFewerThan m a c
+TakesFewerThan-joined a b c front m n sum first h = record {
+  taken = front ++ h.taken;
+  fewer = omega (arith, length-append front h.taken, h.fewer);
+  takes = Takes-joined a b c front h.taken _ refl first h.takes;
+}

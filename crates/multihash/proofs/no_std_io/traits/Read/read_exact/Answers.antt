@@ -1,0 +1,15 @@
+use Rattle.std.proofs.Common.{◌-◌, rules, length}
+use Rattle.multihash.proofs.ReadingLemmas.{Takes-joined, take-put_mid_more}
+use Rattle.multihash.proofs.no_std_io.traits.Read.read_exact.Goals as goal
+
+pub loop-filled-preserved : goal.loop-filled-preserved
+loop-filled-preserved g c =
+    let filled = c.loop-filled.filled in
+    let buf = c.loop-filled.buf in
+    let front = take-put_mid_more filled (length buf - filled) c.in-Ok.n buf c.read.new.buf c.loop-filled.invariant.in_buffer (search rules) in
+    record {
+      in_buffer = search rules;
+      same_length = search rules;
+      takes = Takes-joined _ _ _ _ _ _ front c.loop-filled.invariant.takes c.in-Ok.ensures.takes;
+      unfailed = search rules;
+    }

@@ -1,0 +1,25 @@
+use Rattle.std.proofs.Common.{[], ◌++◌, rules, take}
+use Rattle.multihash.proofs.WritingLemmas.{joined-take-range, IsProperBeginning-take}
+use Rattle.multihash.proofs.no_std_io.traits.Write.write_all.Goals as goal
+
+pub loop-left-preserved : goal.loop-left-preserved
+loop-left-preserved g c = let before = c.loop-left.invariant in record {
+  done = before.done ++ take c.in-Ok.n c.loop-left.left.now;
+  joined = joined-take-range _ _ _ c.in-Ok.n before.joined;
+  stands = g.met.Self.Write.appends_joined _ _ _ _ _ before.stands c.in-Ok.ensures.ok;
+  unfailed = search rules;
+}
+
+pub returns-in-Ok-eq0-clause-err : goal.returns-in-Ok-eq0-clause-err
+returns-in-Ok-eq0-clause-err g c = let before = c.loop-left.invariant in record {
+  part = before.done ++ take c.in-Ok-eq0.field-0 c.loop-left.left.now;
+  proper = IsProperBeginning-take _ _ _ c.in-Ok-eq0.field-0 before.joined (search rules);
+  stands = g.met.Self.Write.appends_joined _ _ _ _ _ before.stands c.in-Ok-eq0.ensures.ok;
+}
+
+pub returns-in-Err-clause-err : goal.returns-in-Err-clause-err
+returns-in-Err-clause-err g c = let before = c.loop-left.invariant in record {
+  part = before.done ++ [];
+  proper = IsProperBeginning-take _ _ _ 0 before.joined (search rules);
+  stands = g.met.Self.Write.appends_joined _ _ _ _ _ before.stands c.in-Err.ensures.err;
+}

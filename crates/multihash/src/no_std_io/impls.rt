@@ -1,0 +1,195 @@
+//! Slices, vectors and references as readers and writers.
+ghost use Rattle.std.specs.Prelude.{◌≡◌, ◌<◌, ◌≤◌, Some, Ok, [], ◌++◌, min, length, take, drop, true, false, IfOk, IfErr, OnOk, OnErr, IsOk, IsErr, ◌↔◌};
+ghost use Rattle.multihash.specs.Fault.{IsUnexpectedEof, IsWriteZero, IsOutOfMemory};
+ghost use Rattle.multihash.specs.Reading.{Takes, IsAtEnd, HasFewerThan, TakesFewerThan, CountsFaults, CountsFaultsOrEof};
+ghost use Rattle.multihash.specs.Writing.{CountsWriterFaults, CountsWriterFaultsOrFull, AppendsPart};
+ghost use Rattle.multihash.specs.Places.{GivesUpFor, GivesUpPlaces-none, GivesUpPlaces-joined};
+ghost use Rattle.multihash.specs.Places.{AppendsAtEnd, AppendsAtEnd-none, AppendsAtEnd-joined};
+
+use super::{Error, Read, Write};
+
+// Copies as many bytes as both have, and returns how many.
+fn copy_front(from: &[u8], to: &mut [u8]) -> usize
+    ensures count { result ≡ min (length from.now) (length to.old) }
+    ensures copied { to.new ≡ take result from.now ++ drop result to.old }
+{
+    let n = from.len().min(to.len());
+    to[..n].copy_from_slice(&from[..n]);
+    n
+}
+
+/// The rest is the slice, and it never fails.
+impl Read for &[u8] {
+    ghost rest = { λ s. Some s.now };
+
+    ghost failures = { λ _. 0 };
+
+    fn read(&mut self, buf: &mut [u8]) -> Result<usize, Error>
+        ensures count { IfOk result (λ n. n ≤ length buf.old) }
+        ensures beyond { IfOk result (λ n. drop n buf.new ≡ drop n buf.old) }
+        ensures faults { CountsFaults 0 0 result }
+        ensures takes { IfOk result (λ n. Takes (Some self.old.now) (take n buf.new) (Some self.new.now)) }
+        ensures at_end { IfOk result (λ n. n ≡ 0 → 0 < length buf.old → IsAtEnd (Some self.old.now)) }
+        ensures err { OnErr result (Some self.new.now ≡ Some self.old.now) }
+
+        ensures smaller { result ≡ Ok (min (length self.old.now) (length buf.old)) }
+    {
+        let all: &[u8] = *self;
+        let n = copy_front(all, buf);
+        *self = &all[n..];
+        Ok(n)
+    }
+
+    fn read_exact(&mut self, buf: &mut [u8]) -> Result<(), Error>
+        ensures faults { CountsFaultsOrEof 0 0 result }
+        ensures takes { OnOk result (Takes (Some self.old.now) buf.new (Some self.new.now)) }
+        ensures empty { length buf.old ≡ 0 → IsOk result }
+        ensures eof { IfErr result (λ e. IsUnexpectedEof e → HasFewerThan (length buf.old) (Some self.old.now)) }
+        ensures err { OnErr result (TakesFewerThan (length buf.old) (Some self.old.now) (Some self.new.now)) }
+
+        ensures too_short { IsErr result ↔ (length self.old.now < length buf.old) }
+        ensures slice_kept { OnErr result (self.new.now ≡ self.old.now) }
+        ensures buffer_kept { OnErr result (buf.new ≡ buf.old) }
+    {
+        let all: &[u8] = *self;
+        if buf.len() > all.len() {
+            return Err(Error::unexpected_eof());
+        }
+        let n = copy_front(all, buf);
+        *self = &all[n..];
+        Ok(())
+    }
+}
+
+impl<R: Read> Read for &mut R {
+    ghost rest = { λ r. R.rest r.now };
+
+    ghost failures = { λ r. R.failures r.now };
+
+    fn read(&mut self, buf: &mut [u8]) -> Result<usize, Error> {
+        Read::read(&mut **self, buf)
+    }
+
+    fn read_exact(&mut self, buf: &mut [u8]) -> Result<(), Error> {
+        Read::read_exact(&mut **self, buf)
+    }
+}
+
+/// The bytes go to the front of the slice, which then begins after them.
+impl Write for &mut [u8] {
+    const ALLOCATES: bool = false;
+
+    ghost allocates = { false };
+
+    ghost appended = { λ old bytes new. GivesUpFor old.now bytes new.now };
+
+    ghost full = { λ s. s.now ≡ [] };
+
+    ghost failures = { λ _. 0 };
+
+    ghost appends_nothing = { λ w. GivesUpPlaces-none w.now };
+
+    ghost appends_joined = { λ a b c x y first second. GivesUpPlaces-joined a.now b.now c.now x y first second };
+
+    fn write(&mut self, buf: &[u8]) -> Result<usize, Error>
+        ensures count { IfOk result (λ n. n ≤ length buf.now) }
+        ensures ok { IfOk result (λ n. GivesUpFor self.old.now (take n buf.now) self.new.now) }
+        ensures stuck { IfOk result (λ n. n ≡ 0 → 0 < length buf.now → self.new.now ≡ []) }
+        ensures err { OnErr result (GivesUpFor self.old.now [] self.new.now) }
+        ensures faults { CountsWriterFaults false 0 0 result }
+
+        ensures smaller { result ≡ Ok (min (length buf.now) (length self.old.now)) }
+    {
+        let all = std::mem::take(self);
+        let n = copy_front(buf, all);
+        *self = &mut all[n..];
+        Ok(n)
+    }
+
+    fn write_all(&mut self, buf: &[u8]) -> Result<(), Error>
+        ensures ok { OnOk result (GivesUpFor self.old.now buf.now self.new.now) }
+        ensures empty { length buf.now ≡ 0 → IsOk result }
+        ensures err { OnErr result
+            (AppendsPart (λ old bytes new. GivesUpFor old.now bytes new.now) self.old buf.now self.new) }
+        ensures faults { CountsWriterFaultsOrFull false 0 0 (self.new.now ≡ []) result }
+
+        ensures fits { IsOk result ↔ (length buf.now ≤ length self.old.now) }
+        ensures filled { OnErr result (self.new.now ≡ []) }
+    {
+        if self.write(buf)? == buf.len() {
+            Ok(())
+        } else {
+            Err(Error::write_zero())
+        }
+    }
+}
+
+/// The bytes go to the vector's end.
+impl Write for Vec<u8> {
+    const ALLOCATES: bool = true;
+
+    ghost allocates = { true };
+
+    ghost appended = { λ old bytes new. AppendsAtEnd old.items bytes new.items };
+
+    ghost full = { λ _. ⊥ };
+
+    ghost failures = { λ _. 0 };
+
+    ghost appends_nothing = { λ w. AppendsAtEnd-none w.items };
+
+    ghost appends_joined = { λ a b c x y first second. AppendsAtEnd-joined a.items b.items c.items x y first second };
+
+    fn write(&mut self, buf: &[u8]) -> Result<usize, Error>
+        ensures count { IfOk result (λ n. n ≤ length buf.now) }
+        ensures ok { IfOk result (λ n. AppendsAtEnd self.old.items (take n buf.now) self.new.items) }
+        ensures stuck { IfOk result (λ n. n ≡ 0 → 0 < length buf.now → ⊥) }
+        ensures err { OnErr result (AppendsAtEnd self.old.items [] self.new.items) }
+        ensures faults { CountsWriterFaults true 0 0 result }
+
+        ensures whole { IfOk result (λ n. n ≡ length buf.now) }
+        ensures unchanged { OnErr result (self.new.items ≡ self.old.items) }
+        ensures kind { IfErr result IsOutOfMemory }
+    {
+        match self.extend_from_slice(buf) {
+            Ok(()) => Ok(buf.len()),
+            Err(_) => Err(Error::out_of_memory()),
+        }
+    }
+
+    fn write_all(&mut self, buf: &[u8]) -> Result<(), Error>
+        ensures ok { OnOk result (AppendsAtEnd self.old.items buf.now self.new.items) }
+        ensures empty { length buf.now ≡ 0 → IsOk result }
+        ensures err { OnErr result
+            (AppendsPart (λ old bytes new. AppendsAtEnd old.items bytes new.items) self.old buf.now self.new) }
+        ensures faults { CountsWriterFaultsOrFull true 0 0 ⊥ result }
+
+        ensures unchanged { OnErr result (self.new.items ≡ self.old.items) }
+        ensures kind { IfErr result IsOutOfMemory }
+    {
+        match self.extend_from_slice(buf) {
+            Ok(()) => Ok(()),
+            Err(_) => Err(Error::out_of_memory()),
+        }
+    }
+}
+
+impl<W: Write> Write for &mut W {
+    const ALLOCATES: bool = W::ALLOCATES;
+
+    ghost allocates = { W.allocates };
+
+    ghost appended = { λ old bytes new. W.appended old.now bytes new.now };
+
+    ghost full = { λ w. W.full w.now };
+
+    ghost failures = { λ w. W.failures w.now };
+
+    ghost appends_nothing = { λ w. W.appends_nothing w.now };
+
+    ghost appends_joined = { λ a b c x y first second. W.appends_joined a.now b.now c.now x y first second };
+
+    fn write(&mut self, buf: &[u8]) -> Result<usize, Error> {
+        Write::write(&mut **self, buf)
+    }
+}
