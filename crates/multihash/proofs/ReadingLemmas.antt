@@ -1,9 +1,9 @@
 -- What two calls took one after the other, and what stands at the front of a buffer after them.
-use Rattle.std.proofs.Common.{◌≡◌, ℕ, ◌+◌, ◌≤◌, List, ◌++◌, Option, None, Some, IfSome, subst, length, take, refl, sym, ap, ◌∙◌, arith, append_assoc, length-append, length-take-le}
+use Rattle.std.proofs.Common.{◌≡◌, ℕ, ◌+◌, ◌≤◌, List, [], ◌++◌, Option, None, Some, IfSome, subst, length, take, refl, sym, ap, ◌∙◌, arith, append_assoc, length-append, length-take-le}
 use Rattle.std.proofs.lemmas.List.{take-append-le}
 use Rattle.std.proofs.Math.Seq.{take-append-add}
 use borrow.Rule.Slice.PartMut.{put_mid, post_of}
-use Rattle.multihash.specs.Reading.{preceded_by, Takes, HasFewerThan, TakesFewerThan}
+use Rattle.multihash.specs.Reading.{preceded_by, Takes, IsAtEnd, HasFewerThan, TakesFewerThan}
 
 pub preceded_by-append : (xs ys : List ℕ) (rest : Option (List ℕ)) → preceded_by xs (preceded_by ys rest) ≡ preceded_by (xs ++ ys) rest
 preceded_by-append xs ys None = refl
@@ -42,3 +42,16 @@ TakesFewerThan-joined a b c front m n sum first h = record {
   fewer = omega (arith, length-append front h.taken, h.fewer);
   takes = Takes-joined a b c front h.taken _ refl first h.takes;
 }
+
+-- nothing was taken
+pub Takes-none : (a : Option (List ℕ)) → Takes a [] a
+Takes-none None = refl
+Takes-none (Some rest) = refl
+
+-- a call that took `front`, and one that took nothing
+pub Takes-kept : (a b c : Option (List ℕ)) (front : List ℕ) → c ≡ b → Takes a front b → Takes a front c
+Takes-kept a b c front same takes = subst (λ r. Takes a front r) (sym same) takes
+
+-- at an input's end nothing was left, and nothing is
+pub IsAtEnd-kept : (b c : Option (List ℕ)) → c ≡ b → IsAtEnd b → IsAtEnd c
+IsAtEnd-kept b c same ends = subst IsAtEnd (sym same) ends

@@ -226,7 +226,7 @@ none_settles S x v h early front (rest, cut) s =
 
 -- ---- beginnings of a list
 
-split_beginning : (f g p : List ℕ) → IsProperBeginning p (f ++ g)
+pub split_beginning : (f g p : List ℕ) → IsProperBeginning p (f ++ g)
     → IsProperBeginning p f ⊎ ((q : List ℕ) × (p ≡ f ++ q) × IsProperBeginning q g)
 split_beginning [] g p h = inr (p, refl, h)
 split_beginning (c ∷ f) g [] h = inl (c ∷ f, (λ e. cc), refl)
@@ -331,7 +331,7 @@ before_digest S p t x e fits (rest, some, cut) =
     ]
 
 -- a beginning with a verdict of its own that is no early end, all of whose own beginnings end early
-shortest_from : (S : ℕ) (x t rest : List ℕ) (v : Verdict) → x ≡ t ++ rest → HasVerdict S t v → ¬ (IsEarlyEnd v)
+pub shortest_from : (S : ℕ) (x t rest : List ℕ) (v : Verdict) → x ≡ t ++ rest → HasVerdict S t v → ¬ (IsEarlyEnd v)
     → ((p : List ℕ) → IsProperBeginning p t → EndsEarly S p) → IsShortestSettling S x t
 shortest_from S x t rest v cut h late before = record {
   begins = (rest, cut);

@@ -11,6 +11,7 @@ pub mod Reading
 pub mod Refusal
 pub mod Scale
 pub mod Settling
+pub mod Taking
 pub mod Varint
 pub mod Verdict
 pub mod Writing

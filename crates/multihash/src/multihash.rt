@@ -1,11 +1,15 @@
 //! The type, and its binary form.
-ghost use Rattle.std.specs.Prelude.{◌≡◌, ◌<◌, ◌≤◌, ◌↔◌, length, IfOk, IfErr, OnOk, OnErr, IsErr};
+ghost use Rattle.std.specs.Prelude.{◌≡◌, ◌<◌, ◌≤◌, ◌⊎◌, ◌↔◌, ℕ, List, length, Some, IfSome, IfOk, IfErr, OnOk, OnErr, IsErr};
 ghost use Rattle.multihash.specs.Pair.{digest_limit, FitsBuffer};
-ghost use Rattle.multihash.specs.Verdict.{Verdict, BeginsWith, HasVerdict, HasWholeVerdict};
+ghost use Rattle.multihash.specs.Encoding.{IsEncoding};
+ghost use Rattle.multihash.specs.Verdict.{Verdict, HasVerdict, IsEarlyEnd, HasWholeVerdict};
 ghost use Rattle.multihash.specs.Refusal.{IsInvalidSize};
-ghost use Rattle.multihash.specs.Answer.{pair_of, IsRefusal, Answers};
+ghost use Rattle.multihash.specs.Reading.{Takes};
+ghost use Rattle.multihash.specs.Taking.{CountsReaderFaults, IsReadRefusal, TakesAtRefusal, TakesShortestSettling, TakesUnsettled};
+ghost use Rattle.multihash.specs.Answer.{pair_of, Answers};
 
-use crate::{Error, no_std_io, varint};
+use crate::no_std_io::Read;
+use crate::{Error, varint};
 use std::marker::Model;
 
 /// A code and a digest of at most `min(S, 255)` bytes, kept in a buffer of `S` bytes.
@@ -79,6 +83,45 @@ impl<const S: usize> Multihash<S> {
         &self.digest[..usize::from(self.size)]
     }
 
+    /// Reads the multihash whose encoding comes next, and takes exactly that encoding: what follows it
+    /// in `r` stays unread. In a varint it asks for one byte at a time, and it judges the size before
+    /// it asks for the digest.
+    ///
+    /// # Errors
+    ///
+    /// - [`Error::is_insufficient`] where the input ends inside or before a varint; all of it was taken;
+    /// - [`Error::is_overflow`] where a varint's number does not fit in 64 bits, and
+    ///   [`Error::is_not_minimal`] where a varint of more than one byte ends in a zero; the bytes up to
+    ///   the one that shows it were taken;
+    /// - [`Error::invalid_size`] with the digest's length, where that is more than `min(S, 255)`; both
+    ///   varints were taken, and nothing of the digest;
+    /// - [`Error::io`] with an unexpected end where the input ends inside the digest; both varints were
+    ///   taken, and how much of the digest depends on the reader's `read_exact`;
+    /// - [`Error::io`] with the reader's own error, where it failed; the bytes taken are by themselves
+    ///   an input that ends early.
+    pub fn read<R: Read>(r: &mut R) -> Result<Self, Error>
+        ensures faults { CountsReaderFaults (IsReadRefusal S) (R.failures r.old) (R.failures r.new) result }
+        ensures verdict { IfSome (R.rest r.old) (λ rest. R.failures r.new ≡ R.failures r.old →
+            (v : Verdict) × HasVerdict S rest v × Answers result v) }
+        ensures ok { IfOk result (λ m. (bytes : List ℕ) × IsEncoding (pair_of m) bytes
+            × Takes (R.rest r.old) bytes (R.rest r.new)) }
+        ensures err { IfErr result (λ e. TakesAtRefusal S e (R.rest r.old) (R.rest r.new)) }
+
+        // Where the verdict is no early end, exactly the shortest beginning that settles it was taken;
+        // where it is one, or the reader failed, no beginning of what was taken settles.
+        ensures settled { IfSome (R.rest r.old) (λ rest. R.failures r.new ≡ R.failures r.old →
+            (v : Verdict) → HasVerdict S rest v → ¬ (IsEarlyEnd v) → TakesShortestSettling S rest (R.rest r.new)) }
+        ensures unsettled { IfSome (R.rest r.old) (λ rest.
+            (R.failures r.old < R.failures r.new) ⊎ ((v : Verdict) × HasVerdict S rest v × IsEarlyEnd v) →
+            TakesUnsettled S (Some rest) (R.rest r.new)) }
+    {
+        let code = varint::read(r)?;
+        let size = Self::fitting_size(varint::read(r)?)?;
+        let mut digest = [0; S];
+        r.read_exact(&mut digest[..usize::from(size)])?;
+        Ok(Multihash { code, size, digest })
+    }
+
     /// Reads the multihash whose encoding is the whole of `bytes`: the varint of the code, the varint
     /// of the digest's length, and the digest.
     ///
@@ -93,7 +136,8 @@ impl<const S: usize> Multihash<S> {
     pub fn from_bytes(bytes: &[u8]) -> Result<Self, Error>
         ensures { (v : Verdict) × HasWholeVerdict S bytes.now v × Answers result v }
     {
-        let (multihash, left) = Self::split_first(bytes)?;
+        let mut left = bytes;
+        let multihash = Self::read(&mut left)?;
         if !left.is_empty() {
             return Err(Error::from_size(left.len() as u64));
         }
@@ -111,22 +155,5 @@ impl<const S: usize> Multihash<S> {
             Ok(byte) if usize::from(byte) <= S => Ok(byte),
             _ => Err(Error::from_size(size)),
         }
-    }
-
-    // The multihash whose encoding begins the bytes, and what follows it.
-    fn split_first(bytes: &[u8]) -> Result<(Self, &[u8]), Error>
-        ensures begins { IfOk result (λ found. BeginsWith (pair_of found.0) bytes.now found.1.now) }
-        ensures fits { IfOk result (λ found. FitsBuffer S (pair_of found.0)) }
-        ensures err { IfErr result (λ e. (v : Verdict) × HasVerdict S bytes.now v × IsRefusal e v) }
-    {
-        let (code, after_code) = varint::split_first(bytes)?;
-        let (size, rest) = varint::split_first(after_code)?;
-        let size = usize::from(Self::fitting_size(size)?);
-        if rest.len() < size {
-            return Err(Error::from(no_std_io::Error::unexpected_eof()));
-        }
-        let (digest, left) = rest.split_at(size);
-        let multihash = Self::wrap(code, digest)?;
-        Ok((multihash, left))
     }
 }

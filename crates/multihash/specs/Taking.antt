@@ -1,0 +1,60 @@
+-- What the library's calls took from a reader, and how a reader or a writer made them fail.
+use Rattle.std.specs.Prelude.{◌≡◌, ◌<◌, ◌≤◌, ℕ, Bool, List, ◌++◌, ◌⊎◌, length, Option, Some, Result, MatchResult, IfSome}
+use Rattle.multihash.specs.Bytes.{IsBeginning, IsProperBeginning}
+use Rattle.multihash.specs.Pair.{digest_limit}
+use Rattle.multihash.specs.Varint.{VarintFault, insufficient, IsInsufficient, HasFaultyFront}
+use Rattle.multihash.specs.Verdict.{Verdict, faulty, unexpected_eof, HasVerdict, IsEarlyEnd}
+use Rattle.multihash.specs.Settling.{Settles, IsShortestSettling}
+use Rattle.multihash.specs.Reading.{Takes, IsAtEnd}
+use Rattle.multihash.specs.Writing.{IsWriterFaultOrFull}
+use Rattle.multihash.specs.Refusal.{Refusal, IsIo, IsEof, IsReaderFault, IsInvalidSize, IsFaulty}
+
+-- an Ok left the count of failures alone; an Err raised it, by a fault of the reader's own, or left it
+-- alone and is a listed refusal
+abbrev pub CountsReaderFaults : {A : Type 0} → (Refusal → Type 0) → ℕ → ℕ → Result A Refusal → Type 0
+CountsReaderFaults IsListed before after outcome = MatchResult outcome (λ _. after ≡ before)
+    (λ e. ((before < after) × IsReaderFault e) ⊎ ((after ≡ before) × IsListed e))
+
+-- an Ok left the count of failures alone; an Err is the writer's fault, or says that it is full
+abbrev pub CountsFaultsOfWriter : {A : Type 0} → Bool → ℕ → ℕ → Type 0 → Result A Refusal → Type 0
+CountsFaultsOfWriter allocates before after is_full outcome = MatchResult outcome (λ _. after ≡ before)
+    (λ e. (before ≤ after) × IsIo (IsWriterFaultOrFull allocates before after is_full) e)
+
+-- a varint's fault
+abbrev pub IsVarintRefusal : Refusal → Type 0
+IsVarintRefusal e = (fault : VarintFault) × IsFaulty fault e
+
+-- a refusal of reading: a size that is too large, a varint's fault, or a digest that is cut
+abbrev pub IsReadRefusal : ℕ → Refusal → Type 0
+IsReadRefusal S e = ((size : ℕ) × IsInvalidSize size e × (digest_limit S < size)) ⊎ IsVarintRefusal e ⊎ IsEof e
+
+-- what reading a varint took where it was refused: bytes that show the fault at the last of them; after
+-- a failure of the reader, bytes that are insufficient
+pub record TakesAtVarintRefusal (e : Refusal) (old new : Option (List ℕ)) : Type 0 where
+  pub taken : List ℕ
+  pub takes : Takes old taken new
+  pub shows : (fault : VarintFault) → IsFaulty fault e → HasFaultyFront fault taken
+  pub no_sooner : (shorter : List ℕ) → IsProperBeginning shorter taken → IsInsufficient shorter
+  pub all : IsFaulty insufficient e → IsAtEnd new
+  pub failed : IsReaderFault e → IsInsufficient taken
+
+-- what `read` took where it was refused: all of an input that is insufficient, both varints at least of
+-- a cut digest; after a failure of the reader, bytes whose own verdict is an early end
+pub record TakesAtRefusal (S : ℕ) (e : Refusal) (old new : Option (List ℕ)) : Type 0 where
+  pub taken : List ℕ
+  pub takes : Takes old taken new
+  pub insufficient : IsFaulty insufficient e → HasVerdict S taken (faulty insufficient) × IsAtEnd new
+  pub eof : IsEof e → HasVerdict S taken unexpected_eof
+  pub fault : IsReaderFault e → (v : Verdict) × IsEarlyEnd v × HasVerdict S taken v
+
+-- a call took exactly the shortest beginning that settles the verdict
+pub record TakesShortestSettling (S : ℕ) (rest : List ℕ) (new : Option (List ℕ)) : Type 0 where
+  pub front : List ℕ
+  pub shortest : IsShortestSettling S rest front
+  pub takes : Takes (Some rest) front new
+
+-- no beginning of what a call took settles a verdict
+pub record TakesUnsettled (S : ℕ) (old new : Option (List ℕ)) : Type 0 where
+  pub taken : List ℕ
+  pub takes : Takes old taken new
+  pub unsettled : (front : List ℕ) → IsBeginning front taken → ¬ (Settles S front)
