@@ -246,21 +246,7 @@ answered S taken old new before after m unrisen encodes fits takes = record {
 
 -- ---- the whole input
 
--- a refusal of the verdict is one of the whole verdict
-pub whole_refused : (S : ℕ) (x : List ℕ) (e : Refusal) (v : Verdict) → HasVerdict S x v → IsRefusal e v
-    → (w : Verdict) × HasWholeVerdict S x w × IsRefusal e w
-whole_refused S x e (accepted p) has given = absurd given
-whole_refused S x e (invalid_size size) has given = (invalid_size size, inl has, given)
-whole_refused S x e (faulty fault) has given = (faulty fault, has, given)
-whole_refused S x e unexpected_eof has given = (unexpected_eof, has, given)
-
--- a pair with nothing behind it, and one with some bytes
-pub whole_pair : (S : ℕ) (x encoding : List ℕ) (p : Pair) (v : Verdict) → HasVerdict S x v → v ≡ accepted p → IsEncoding p encoding
-    → x ≡ encoding ++ [] → HasWholeVerdict S x (accepted p)
-whole_pair S x encoding p v has same encodes cut =
-    let mine : HasVerdict S x (accepted p) = subst (λ w. HasVerdict S x w) same has in
-    (subst (IsEncoding p) (sym (cut ∙ append-nil encoding)) encodes, mine.2)
-
+-- a pair with some bytes behind it
 pub whole_left_over : (S : ℕ) (x encoding left : List ℕ) (p : Pair) (v : Verdict) → HasVerdict S x v → v ≡ accepted p → IsEncoding p encoding
     → x ≡ encoding ++ left → 0 < length left → HasWholeVerdict S x (invalid_size (length left))
 whole_left_over S x encoding left p v has same encodes cut some =

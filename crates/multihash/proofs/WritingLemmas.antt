@@ -1,5 +1,5 @@
 -- What stands appended after several writes, and what part of a buffer does.
-use Rattle.std.proofs.Common.{◌≡◌, ◌≢◌, ◌<◌, [], ◌∷◌, refl, ℕ, ◌-◌, List, ◌++◌, length, take, drop, sym, ap, ◌∙◌, arith, append_assoc, take-append-drop, length-append, length-drop}
+use Rattle.std.proofs.Common.{◌≡◌, ◌≢◌, ◌<◌, [], ◌∷◌, refl, ℕ, ◌-◌, List, ◌++◌, length, take, drop, Result, Ok, Err, OnErr, sym, ap, ◌∙◌, arith, append_assoc, take-append-drop, length-append, length-drop}
 use Rattle.std.proofs.lemmas.List.{take_rest}
 use Rattle.multihash.specs.Bytes.{IsProperBeginning}
 use Rattle.multihash.specs.Writing.{AppendsPart}
@@ -47,3 +47,9 @@ module _ {W : Type 0} (appended : W → List ℕ → W → Type 0) where
     proper = IsProperBeginning-prepend _ _ x h.proper;
     stands = join a b c x h.part first h.stands;
   }
+
+-- a writer that stopped has a part of bytes of which the fact holds
+pub stopped : {T E W : Type 0} (IsForm : List ℕ → Type 0) (appended : W → List ℕ → W → Type 0) (old new : W) (r : Result T E) (bytes : List ℕ)
+    → IsForm bytes → AppendsPart appended old bytes new → OnErr r ((bytes : List ℕ) × IsForm bytes × AppendsPart appended old bytes new)
+stopped IsForm appended old new (Ok x) bytes is_form part = tt
+stopped IsForm appended old new (Err e) bytes is_form part = (bytes, is_form, part)

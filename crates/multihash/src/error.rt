@@ -3,9 +3,10 @@ ghost use Rattle.std.specs.Prelude.{◌≡◌, ◌≢◌, ℕ, ◌↔◌, IsTrue
 ghost use Rattle.std.specs.Fmt.{WritesOnOk, WritesStyledOnOk};
 ghost use Rattle.multihash.specs.Varint.{insufficient, overflow, not_minimal};
 ghost use Rattle.multihash.specs.Fault.{Fault};
-ghost use Rattle.multihash.specs.Refusal.{of_io, of_size, refusal_text, IsInvalidSize, IsFaulty, IsNotBytes};
+ghost use Rattle.multihash.specs.Refusal.{of_io, of_size, refusal_text, IsInvalidSize, IsFaulty, IsNotBytes, IsMemory};
 
 use crate::no_std_io;
+use std::alloc::AllocError;
 use std::fmt;
 use std::marker::Model;
 
@@ -126,6 +127,14 @@ impl From<no_std_io::Error> for Error {
 
     fn from(e: no_std_io::Error) -> Self {
         Error { kind: Kind::Io(e) }
+    }
+}
+
+impl From<AllocError> for Error {
+    ghost from_gives = { λ _ e. IsMemory e };
+
+    fn from(_e: AllocError) -> Self {
+        Error::from(no_std_io::Error::out_of_memory())
     }
 }
 

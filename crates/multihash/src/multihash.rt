@@ -3,13 +3,15 @@ ghost use Rattle.std.specs.Prelude.{◌≡◌, ◌<◌, ◌≤◌, ◌⊎◌, �
 ghost use Rattle.multihash.specs.Pair.{digest_limit, FitsBuffer};
 ghost use Rattle.multihash.specs.Encoding.{IsEncoding};
 ghost use Rattle.multihash.specs.Verdict.{Verdict, HasVerdict, IsEarlyEnd, HasWholeVerdict};
-ghost use Rattle.multihash.specs.Refusal.{IsInvalidSize};
+ghost use Rattle.multihash.specs.Refusal.{IsInvalidSize, IsMemory};
 ghost use Rattle.multihash.specs.Reading.{Takes};
-ghost use Rattle.multihash.specs.Taking.{CountsReaderFaults, IsReadRefusal, TakesAtRefusal, TakesShortestSettling, TakesUnsettled};
+ghost use Rattle.multihash.specs.Writing.{AppendsPart};
+ghost use Rattle.multihash.specs.Taking.{CountsReaderFaults, CountsFaultsOfWriter, IsReadRefusal, TakesAtRefusal, TakesShortestSettling, TakesUnsettled};
 ghost use Rattle.multihash.specs.Answer.{pair_of, Answers};
 
-use crate::no_std_io::Read;
+use crate::no_std_io::{Read, Write};
 use crate::{Error, varint};
+use std::alloc::Global;
 use std::marker::Model;
 
 /// A code and a digest of at most `min(S, 255)` bytes, kept in a buffer of `S` bytes.
@@ -142,6 +144,54 @@ impl<const S: usize> Multihash<S> {
             return Err(Error::from_size(left.len() as u64));
         }
         Ok(multihash)
+    }
+
+    /// Appends the encoding to `w`: the varint of the code, the varint of the digest's length, and the
+    /// digest, each by one call of `write_all`. It answers how many bytes that was.
+    ///
+    /// # Errors
+    ///
+    /// [`Error::io`] with what the writer answered: no place left, a fault of its own, or want of memory
+    /// where it allocates. A proper beginning of the encoding was appended then.
+    pub fn write<W: Write>(&self, w: &mut W) -> Result<usize, Error>
+        ensures ok { IfOk result (λ n. (bytes : List ℕ) × IsEncoding (pair_of self.now) bytes
+            × (n ≡ length bytes) × W.appended w.old bytes w.new) }
+        ensures err { OnErr result ((bytes : List ℕ) × IsEncoding (pair_of self.now) bytes
+            × AppendsPart W.appended w.old bytes w.new) }
+        ensures faults { CountsFaultsOfWriter W.allocates
+            (W.failures w.old) (W.failures w.new) (W.full w.new) result }
+    {
+        let code = varint::encode(self.code());
+        let size = varint::encode(u64::from(self.size()));
+        let digest = self.digest();
+        w.write_all(code.as_bytes())?;
+        w.write_all(size.as_bytes())?;
+        w.write_all(digest)?;
+        Ok(code.as_bytes().len() + size.as_bytes().len() + digest.len())
+    }
+
+    /// The length of the encoding in bytes, at most 267.
+    pub fn encoded_len(&self) -> usize
+        ensures encoding { (bytes : List ℕ) × IsEncoding (pair_of self.now) bytes × (result ≡ length bytes) }
+        ensures short { result ≤ 267 }
+    {
+        let code = varint::encode(self.code());
+        let size = varint::encode(u64::from(self.size()));
+        code.as_bytes().len() + size.as_bytes().len() + usize::from(self.size())
+    }
+
+    /// The encoding. Its room is asked for once, and nothing more is asked for then.
+    ///
+    /// # Errors
+    ///
+    /// [`Error::io`] with want of memory.
+    pub fn to_bytes(&self, alloc: Global) -> Result<Vec<u8>, Error>
+        ensures ok { IfOk result (λ v. IsEncoding (pair_of self.now) v.items) }
+        ensures memory { IfErr result IsMemory }
+    {
+        let mut bytes = Vec::with_capacity(alloc, self.encoded_len())?;
+        self.write(&mut bytes)?;
+        Ok(bytes)
     }
 
     // The size of a digest, where the buffer holds one so long.

@@ -6,12 +6,61 @@ ghost use Rattle.multihash.specs.Taking.{CountsReaderFaults, IsVarintRefusal, Ta
 
 use crate::Error;
 use crate::no_std_io::{self, Read};
+use std::marker::Model;
 
 // The most marked bytes of a varint.
 const MOST_MARKED: usize = 9;
 
 // After that many marked bytes, a byte from this one on is too large.
 const FIRST_TOO_LARGE: u8 = 2;
+
+// The most bytes of a varint.
+const MAX_LEN: usize = MOST_MARKED + 1;
+
+/// The varint of a number.
+#[derive(Drop)]
+pub(crate) struct Encoded {
+    bytes: [u8; MAX_LEN],
+    len: usize,
+}
+
+impl Model for Encoded {
+    ghost use Rattle.std.specs.Prelude.{ℕ, List, ◌≤◌, take, length};
+
+    ghost Value = { List ℕ };
+
+    ghost view = { λ e. take e.len e.bytes };
+
+    ghost invariant = { λ e. e.len ≤ length e.bytes };
+}
+
+impl Encoded {
+    /// The bytes, one to ten of them.
+    pub(crate) fn as_bytes(&self) -> &[u8]
+        ensures { result.now ≡ self.now }
+    {
+        &self.bytes[..self.len]
+    }
+}
+
+/// Makes the varint of a number.
+pub(crate) fn encode(n: u64) -> Encoded
+    ensures { IsVarint n result }
+{
+    let mut bytes = [0; MAX_LEN];
+    let mut len = 0;
+    let mut rest = n;
+    while rest >= 128 {
+        bytes[len] = (rest & 0x7f) as u8 | 0x80;
+        len += 1;
+        rest >>= 7;
+    }
+    bytes[len] = rest as u8;
+    Encoded {
+        bytes,
+        len: len + 1,
+    }
+}
 
 /// Reads a varint, one byte at a time, and answers its number.
 ///
