@@ -1,5 +1,6 @@
 pub mod Answer
 pub mod Bytes
+pub mod Comparing
 pub mod Encoding
 pub mod Fault
 pub mod Joined
@@ -10,6 +11,7 @@ pub mod Places
 pub mod Reading
 pub mod Refusal
 pub mod Scale
+pub mod ScaleTaking
 pub mod Settling
 pub mod Taking
 pub mod Varint

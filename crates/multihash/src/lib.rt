@@ -9,6 +9,7 @@ mod error;
 pub mod laws;
 mod multihash;
 pub mod no_std_io;
+mod scale;
 mod varint;
 
 pub use crate::error::Error;

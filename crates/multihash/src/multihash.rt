@@ -1,6 +1,12 @@
 //! The type, and its binary form.
-ghost use Rattle.std.specs.Prelude.{◌≡◌, ◌<◌, ◌≤◌, ◌⊎◌, ◌↔◌, ℕ, List, length, Some, IfSome, IfOk, IfErr, OnOk, OnErr, IsErr};
-ghost use Rattle.multihash.specs.Pair.{digest_limit, FitsBuffer};
+ghost use Rattle.std.specs.Prelude.{◌≡◌, ◌<◌, ◌≤◌, ◌-◌, ◌⊎◌, ◌↔◌, ℕ, List, [], ◌++◌, length, replicate, Some, IfSome, IfOk, IfErr, OnOk, OnErr, IsErr, IsTrue};
+ghost use Rattle.std.proofs.Common.{rules};
+ghost use Rattle.std.specs.Cmp.{partial_order_from_own_ties};
+ghost use Rattle.std.specs.Cmp.Rules.{comparing, hashing};
+ghost use Rattle.std.specs.Ordering.{on, as_partial_cmp};
+ghost use Rattle.multihash.specs.Pair.{IsSame, digest_limit, truncated, FitsBuffer};
+ghost use Rattle.multihash.specs.Order.{Compares};
+ghost use Rattle.multihash.specs.Comparing.{equal_pairs, compare_pairs, hashed_pair};
 ghost use Rattle.multihash.specs.Encoding.{IsEncoding};
 ghost use Rattle.multihash.specs.Verdict.{Verdict, HasVerdict, IsEarlyEnd, HasWholeVerdict};
 ghost use Rattle.multihash.specs.Refusal.{IsInvalidSize, IsMemory};
@@ -12,6 +18,8 @@ ghost use Rattle.multihash.specs.Answer.{pair_of, Answers};
 use crate::no_std_io::{Read, Write};
 use crate::{Error, varint};
 use std::alloc::Global;
+use std::cmp::Ordering;
+use std::hash::{Hash, Hasher};
 use std::marker::Model;
 
 /// A code and a digest of at most `min(S, 255)` bytes, kept in a buffer of `S` bytes.
@@ -194,6 +202,51 @@ impl<const S: usize> Multihash<S> {
         Ok(bytes)
     }
 
+    /// The same code and the first `size` bytes of the digest, or the whole of it where it is shorter.
+    ///
+    /// Whether so short a digest is safe is for the caller to say.
+    pub fn truncate(&self, size: u8) -> Self
+        ensures { pair_of result ≡ truncated size (pair_of self.now) }
+    {
+        Multihash {
+            size: self.size.min(size),
+            ..*self
+        }
+    }
+
+    /// The same code and digest in a buffer of `R` bytes.
+    ///
+    /// # Errors
+    ///
+    /// [`Error::invalid_size`] with the digest's length, where that is more than `R`.
+    pub fn resize<const R: usize>(&self) -> Result<Multihash<R>, Error>
+        ensures ok { IfOk result (λ m. pair_of m ≡ pair_of self.now) }
+        ensures exactly { IsErr result ↔ (R < length (pair_of self.now).digest) }
+        ensures err { IfErr result (IsInvalidSize (length (pair_of self.now).digest)) }
+    {
+        Multihash::wrap(self.code(), self.digest())
+    }
+
+    /// The code, an array of `S` bytes that begins with the digest and is zero after it, and the
+    /// digest's length.
+    pub fn into_inner(self) -> (u64, [u8; S], u8)
+        ensures code { result.0 ≡ (pair_of self.entry).code }
+        ensures array { result.1 ≡ (pair_of self.entry).digest
+            ++ replicate (S - length (pair_of self.entry).digest) 0 }
+        ensures size { result.2 ≡ length (pair_of self.entry).digest }
+    {
+        let mut array = [0; S];
+        array[..usize::from(self.size)].copy_from_slice(self.digest());
+        (self.code, array, self.size)
+    }
+
+    /// Whether both have the same code and the same digest, whatever their buffers' sizes are.
+    pub fn same_as<const B: usize>(&self, other: &Multihash<B>) -> bool
+        ensures { IsTrue result ↔ IsSame (pair_of self.now) (pair_of other.now) }
+    {
+        self.code() == other.code() && self.digest() == other.digest()
+    }
+
     // The size of a digest, where the buffer holds one so long.
     fn fitting_size(size: u64) -> Result<u8, Error>
         ensures ok { IfOk result (λ byte. byte ≡ size) }
@@ -205,5 +258,76 @@ impl<const S: usize> Multihash<S> {
             Ok(byte) if usize::from(byte) <= S => Ok(byte),
             _ => Err(Error::from_size(size)),
         }
+    }
+}
+
+/// The code 0 and the empty digest.
+impl<const S: usize> Default for Multihash<S> {
+    ghost is_default = { λ m. pair_of m ≡ record { code = 0; digest = [] } };
+
+    fn default() -> Self {
+        Multihash {
+            code: 0,
+            size: 0,
+            digest: [0; S],
+        }
+    }
+}
+
+/// Equal where the codes and the digests are; [`Multihash::same_as`] compares across buffer sizes.
+impl<const S: usize> PartialEq for Multihash<S> {
+    ghost eq = { on pair_of equal_pairs };
+
+    ghost laws = { Prim.search (comparing, rules) depth 9 };
+
+    fn eq(&self, other: &Self) -> bool
+        ensures computes { result ≡ equal_pairs (pair_of self.now) (pair_of other.now) }
+        ensures same { IsTrue result ↔ IsSame (pair_of self.now) (pair_of other.now) }
+    {
+        self.code == other.code && self.size == other.size && self.digest() == other.digest()
+    }
+}
+
+impl<const S: usize> Eq for Multihash<S> {
+    ghost laws = { Prim.search (comparing, rules) depth 9 };
+}
+
+/// By the code, then by the digest's length, then by the first byte that differs.
+impl<const S: usize> Ord for Multihash<S> {
+    ghost cmp = { on pair_of compare_pairs };
+
+    ghost total = { Prim.search (comparing, rules) depth 9 };
+
+    ghost matches_partial_cmp = { Prim.search (comparing, rules) depth 9 };
+
+    ghost matches_eq = { Prim.search (comparing, rules) depth 9 };
+
+    fn cmp(&self, other: &Self) -> Ordering
+        ensures computes { result ≡ compare_pairs (pair_of self.now) (pair_of other.now) }
+        ensures order { Compares (pair_of self.now) (pair_of other.now) result }
+    {
+        (self.code, self.size, self.digest()).cmp(&(other.code, other.size, other.digest()))
+    }
+}
+
+impl<const S: usize> PartialOrd for Multihash<S> {
+    ghost partial_cmp = { as_partial_cmp (on pair_of compare_pairs) };
+
+    ghost laws = { partial_order_from_own_ties (Prim.search (comparing, rules) depth 9) (Prim.search (comparing, rules) depth 9) };
+
+    fn partial_cmp(&self, other: &Self) -> Option<Ordering> {
+        Some(self.cmp(other))
+    }
+}
+
+/// Feeds what the pair of the code and the digest, `(u64, &[u8])`, feeds.
+impl<const S: usize> Hash for Multihash<S> {
+    ghost hash_input = { λ m. hashed_pair (pair_of m) };
+
+    ghost respects_eq = { Prim.search (hashing, rules) depth 9 };
+
+    fn hash<H: Hasher>(&self, state: &mut H) {
+        self.code.hash(state);
+        self.digest().hash(state);
     }
 }

@@ -1,0 +1,104 @@
+-- What encoding the SCALE form appends, and where decoding it stops.
+use Rattle.std.proofs.Common.{◌≡◌, ◌<◌, ◌≤◌, ◌⊎◌, ℕ, ◌+◌, List, [], ◌∷◌, ◌++◌, Option, None, Some, Result, Ok, Err, IfSome, IfOk, IsErr, length, get_or, refl, sym, ap, ◌∙◌, subst, inl, inr, arith, append_assoc, length-append}
+use Rattle.std.specs.Result.{IsErrAnd}
+use Rattle.multihash.specs.Pair.{Pair}
+use Rattle.multihash.specs.Scale.{ScaleVerdict, decoded, refused_size, ended, IsScaleCode, IsScale, HasScaleSize, HasScaleVerdict}
+use Rattle.multihash.specs.Fault.{Fault, IsUnexpectedEof, IsOwnFault}
+use Rattle.multihash.specs.Reading.{preceded_by, Takes, HasFewerThan}
+use Rattle.multihash.specs.Refusal.{Refusal, of_io, IsReaderFault, IsEof, IsInvalidSize}
+use Rattle.multihash.specs.Answer.{Fields, pair_of}
+use Rattle.multihash.specs.ScaleTaking.{IsScaleRefusal, AnswersScale, TakesAtScaleRefusal}
+use Rattle.multihash.proofs.ReadingLemmas.{IfSome-taken}
+
+-- the parts of a form, one after another
+pub scale_of : (p : Pair) (code size : ℕ) (a digest : List ℕ) → code ≡ p.code → size ≡ length p.digest → digest ≡ p.digest → size < 256
+    → IsScaleCode code a → IsScale p (a ++ ((size ∷ []) ++ digest))
+scale_of p code size a digest same_code same_size same_digest byte is_code = record {
+  code = a;
+  is_code = subst (λ n. IsScaleCode n a) same_code is_code;
+  size = omega (arith, byte, same_size);
+  spelled = cc (same_size, same_digest);
+}
+
+pub scale_length : (code size : ℕ) (a digest : List ℕ) → IsScaleCode code a → 9 + length digest ≡ length (a ++ ((size ∷ []) ++ digest))
+scale_length code size a digest is_code = omega (arith, is_code.eight, length-append a (size ∷ digest))
+
+-- one byte
+pub one_item : (xs : List ℕ) → length xs ≡ 1 → xs ≡ get_or xs 0 0 ∷ []
+one_item [] one = absurd (omega arith)
+one_item (x ∷ []) one = refl
+one_item (x ∷ y ∷ xs) one = absurd (omega arith)
+
+-- ---- decoding
+
+module _ (S code size : ℕ) (a : List ℕ) (is_code : IsScaleCode code a) where
+  has_size : (rest : List ℕ) → HasScaleSize size (a ++ size ∷ rest) rest
+  has_size rest = record { code = code; code_bytes = a; is_code = is_code; cut = refl }
+
+  -- a size that is too large
+  pub large_verdict : (e : Refusal) (old new : Option (List ℕ)) (before after : ℕ) → S < size → IsInvalidSize size e → Takes old (a ++ size ∷ []) new
+      → IfSome old (λ rest. after ≡ before → (v : ScaleVerdict) × HasScaleVerdict S rest v × IsScaleRefusal e v)
+  large_verdict e old new before after over given takes =
+      IfSome-taken old new (a ++ size ∷ []) _ takes
+      (λ left _ _. (refused_size size, (left, rw (append_assoc a (size ∷ []) left) (has_size left), over), given))
+
+  pub large_taken : (e : Refusal) (old new : Option (List ℕ)) → S < size → IsInvalidSize size e → Takes old (a ++ size ∷ []) new
+      → TakesAtScaleRefusal S e old new
+  large_taken e old new over given takes = record {
+    taken = a ++ size ∷ [];
+    takes = takes;
+    size = λ k same.
+        let is : size ≡ k = cc (given, same) in (
+          subst (λ n. HasScaleVerdict S (a ++ size ∷ []) (refused_size n)) is ([], has_size [], over),
+          omega (arith, is_code.eight, length-append a (size ∷ [])),
+        );
+    early = λ io. elim io [ inl eof ↦ absurd (cc (given, eof.1)) | inr own ↦ absurd (cc (given, own.1)) ];
+  }
+
+  -- a digest that is cut
+  pub cut_verdict : (fault : Fault) (front : List ℕ) (old mid new : Option (List ℕ)) (before after : ℕ) → size ≤ S → Takes mid front new
+      → (IsUnexpectedEof fault → HasFewerThan size mid)
+      → ((before < after) × IsOwnFault fault) ⊎ ((after ≡ before) × IsUnexpectedEof fault) → Takes old (a ++ size ∷ front) new
+      → IfSome old (λ rest. after ≡ before → (v : ScaleVerdict) × HasScaleVerdict S rest v × IsScaleRefusal (of_io fault) v)
+  cut_verdict fault front old mid new before after within took few (inl (rose, own)) takes =
+      IfSome-taken old new (a ++ size ∷ front) _ takes (λ left _ same. absurd (omega arith))
+  cut_verdict fault front old mid new before after within took few (inr (same, ended_early)) takes =
+      IfSome-taken old new (a ++ size ∷ front) _ takes
+      (λ left told _. (
+        ended,
+        inr (size, front ++ left, rw (append_assoc a (size ∷ front) left) (has_size (front ++ left)), within, short left told),
+        (fault, refl, ended_early),
+      ))
+    where
+      short : (left : List ℕ) → new ≡ Some left → length (front ++ left) < size
+      short left told = subst (HasFewerThan size) (took ∙ ap (λ o. preceded_by front o) told) (few ended_early)
+
+  pub cut_taken : (fault : Fault) (front : List ℕ) (old new : Option (List ℕ)) → size ≤ S → length front < size → Takes old (a ++ size ∷ front) new
+      → TakesAtScaleRefusal S (of_io fault) old new
+  cut_taken fault front old new within short takes = record {
+    taken = a ++ size ∷ front;
+    takes = takes;
+    size = λ k same. absurd (cc same);
+    early = λ _. inr (size, front, has_size front, within, short);
+  }
+
+  -- the whole form
+  pub whole_form : (digest : List ℕ) → size < 256 → length digest ≡ size → IsScale (record { code = code; digest = digest }) (a ++ size ∷ digest)
+  whole_form digest byte long = record { code = a; is_code = is_code; size = omega (arith, byte, long); spelled = ap (λ n. a ++ n ∷ digest) (sym long) }
+
+-- an outcome that makes the pair, where nothing refuses it
+pub made_ok : (r : Result Fields Refusal) (p : Pair) (bytes : List ℕ) (old new : Option (List ℕ)) → IfOk r (λ m. pair_of m ≡ p) → IsScale p bytes
+    → Takes old bytes new → IfOk r (λ m. (bytes : List ℕ) × IsScale (pair_of m) bytes × Takes old bytes new)
+made_ok (Ok m) p bytes old new made form takes = (bytes, subst (λ q. IsScale q bytes) (sym made) form, takes)
+made_ok (Err e) p bytes old new made form takes = tt
+
+made_answer : (S : ℕ) (r : Result Fields Refusal) (p : Pair) (rest : List ℕ) → IfOk r (λ m. pair_of m ≡ p) → ¬ (IsErr r)
+    → HasScaleVerdict S rest (decoded p) → (v : ScaleVerdict) × HasScaleVerdict S rest v × AnswersScale r v
+made_answer S (Ok m) p rest made fine has = (decoded p, has, ap decoded (sym made))
+made_answer S (Err e) p rest made fine has = absurd (fine refl)
+
+pub made_verdict : (S : ℕ) (r : Result Fields Refusal) (p : Pair) (bytes : List ℕ) (old new : Option (List ℕ)) (before after : ℕ)
+    → IfOk r (λ m. pair_of m ≡ p) → ¬ (IsErr r) → IsScale p bytes → length p.digest ≤ S → Takes old bytes new
+    → IfSome old (λ rest. after ≡ before → (v : ScaleVerdict) × HasScaleVerdict S rest v × AnswersScale r v)
+made_verdict S r p bytes old new before after made fine form fits takes =
+    IfSome-taken old new bytes _ takes (λ left _ _. made_answer S r p (bytes ++ left) made fine (bytes, left, form, fits, refl))

@@ -1,0 +1,65 @@
+use Rattle.std.proofs.Common.{◌≡◌, ◌+◌, [], ◌∷◌, ◌++◌, length, ap, ◌∙◌, arith}
+use Rattle.multihash.specs.Scale.{IsScaleCode, IsScale}
+use Rattle.multihash.specs.Answer.{pair_of}
+use Rattle.multihash.proofs.ScaleCodeLemmas.{code_bytes}
+use Rattle.multihash.proofs.ScaleTakingLemmas.{scale_of, scale_length}
+use Rattle.multihash.proofs.WritingLemmas.{AppendsPart-append, AppendsPart-joined, stopped}
+use Rattle.multihash.proofs.multihash.Multihash.scale_encode.Goals as goal
+
+pub returns-in_err-write_all-clause-err : goal.returns-in_err-write_all-clause-err
+returns-in_err-write_all-clause-err g c =
+    let p = pair_of c.args.self.now in
+    let a = c.to_le_bytes-code.result in
+    let size = c.size-size.result in
+    let d = c.digest-digest.result.now in
+    let is_code : IsScaleCode c.code.result a = rw c.to_le_bytes-code.ensures (code_bytes c.code.result (omega (arith, c.code.type_inv))) in
+    let form : IsScale p (a ++ ((size ∷ []) ++ d)) =
+    scale_of p _ size a d c.code.ensures c.size-size.ensures.size c.digest-digest.ensures.digest (omega (arith, c.size-size.type_inv)) is_code in
+    stopped (IsScale p) _ _ _ _ (a ++ ((size ∷ []) ++ d)) form
+    (AppendsPart-append g.W.Write.appended _ _ a ((size ∷ []) ++ d) c.in_err-write_all.ensures.err)
+
+pub returns-in_err-write_all-2-clause-err : goal.returns-in_err-write_all-2-clause-err
+returns-in_err-write_all-2-clause-err g c =
+    let p = pair_of c.args.self.now in
+    let a = c.to_le_bytes-code.result in
+    let size = c.size-size.result in
+    let d = c.digest-digest.result.now in
+    let is_code : IsScaleCode c.code.result a = rw c.to_le_bytes-code.ensures (code_bytes c.code.result (omega (arith, c.code.type_inv))) in
+    let form : IsScale p (a ++ ((size ∷ []) ++ d)) =
+    scale_of p _ size a d c.code.ensures c.size-size.ensures.size c.digest-digest.ensures.digest (omega (arith, c.size-size.type_inv)) is_code in
+    let join = g.met.W.Write.appends_joined in
+    let appended = g.W.Write.appended in
+    stopped (IsScale p) _ _ _ _ (a ++ ((size ∷ []) ++ d)) form
+    (AppendsPart-joined appended join _ _ _ a ((size ∷ []) ++ d) c.in_ok-write_all.ensures.ok
+    (AppendsPart-append appended _ _ (size ∷ []) d c.in_err-write_all-2.ensures.err))
+
+pub returns-in_err-write_all-3-clause-err : goal.returns-in_err-write_all-3-clause-err
+returns-in_err-write_all-3-clause-err g c =
+    let p = pair_of c.args.self.now in
+    let a = c.to_le_bytes-code.result in
+    let size = c.size-size.result in
+    let d = c.digest-digest.result.now in
+    let is_code : IsScaleCode c.code.result a = rw c.to_le_bytes-code.ensures (code_bytes c.code.result (omega (arith, c.code.type_inv))) in
+    let form : IsScale p (a ++ ((size ∷ []) ++ d)) =
+    scale_of p _ size a d c.code.ensures c.size-size.ensures.size c.digest-digest.ensures.digest (omega (arith, c.size-size.type_inv)) is_code in
+    let join = g.met.W.Write.appends_joined in
+    let appended = g.W.Write.appended in
+    stopped (IsScale p) _ _ _ _ (a ++ ((size ∷ []) ++ d)) form
+    (AppendsPart-joined appended join _ _ _ a ((size ∷ []) ++ d) c.in_ok-write_all.ensures.ok
+    (AppendsPart-joined appended join _ _ _ (size ∷ []) d c.in_ok-write_all-2.ensures.ok c.in_err-write_all-3.ensures.err))
+
+pub returns-clause-ok : goal.returns-clause-ok
+returns-clause-ok g c =
+    let p = pair_of c.args.self.now in
+    let a = c.to_le_bytes-code.result in
+    let size = c.size-size.result in
+    let d = c.digest-digest.result.now in
+    let is_code : IsScaleCode c.code.result a = rw c.to_le_bytes-code.ensures (code_bytes c.code.result (omega (arith, c.code.type_inv))) in
+    let form : IsScale p (a ++ ((size ∷ []) ++ d)) =
+    scale_of p _ size a d c.code.ensures c.size-size.ensures.size c.digest-digest.ensures.digest (omega (arith, c.size-size.type_inv)) is_code in
+    let join = g.met.W.Write.appends_joined in (
+      a ++ ((size ∷ []) ++ d),
+      form,
+      scale_length _ size a d is_code,
+      join _ _ _ a ((size ∷ []) ++ d) c.in_ok-write_all.ensures.ok (join _ _ _ (size ∷ []) d c.in_ok-write_all-2.ensures.ok c.in_ok-write_all-3.ensures.ok),
+    )

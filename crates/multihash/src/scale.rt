@@ -1,0 +1,68 @@
+//! The SCALE form: the code as eight bytes, the lowest first; the digest's length as one; the digest.
+ghost use Rattle.std.specs.Prelude.{◌≡◌, ◌+◌, ◌<◌, ℕ, List, length, IfSome, IfOk, IfErr, OnErr};
+ghost use Rattle.multihash.specs.Scale.{ScaleVerdict, IsScale, HasScaleVerdict};
+ghost use Rattle.multihash.specs.Reading.{Takes};
+ghost use Rattle.multihash.specs.Writing.{AppendsPart};
+ghost use Rattle.multihash.specs.Taking.{CountsReaderFaults, CountsFaultsOfWriter};
+ghost use Rattle.multihash.specs.ScaleTaking.{IsScaleListed, TakesAtScaleRefusal, AnswersScale};
+ghost use Rattle.multihash.specs.Answer.{pair_of};
+
+use crate::no_std_io::{Read, Write};
+use crate::{Error, Multihash};
+
+impl<const S: usize> Multihash<S> {
+    /// Appends the SCALE form to `w`: nine bytes and the digest. It answers how many bytes that was.
+    ///
+    /// # Errors
+    ///
+    /// [`Error::io`] with what the writer answered: no place left, a fault of its own, or want of memory
+    /// where it allocates. A proper beginning of the form was appended then.
+    pub fn scale_encode<W: Write>(&self, w: &mut W) -> Result<usize, Error>
+        ensures ok { IfOk result (λ n. (bytes : List ℕ) × IsScale (pair_of self.now) bytes
+            × (n ≡ length bytes) × W.appended w.old bytes w.new) }
+        ensures answer { IfOk result (λ n. n ≡ 9 + length (pair_of self.now).digest) }
+        ensures err { OnErr result ((bytes : List ℕ) × IsScale (pair_of self.now) bytes
+            × AppendsPart W.appended w.old bytes w.new) }
+        ensures faults { CountsFaultsOfWriter W.allocates
+            (W.failures w.old) (W.failures w.new) (W.full w.new) result }
+    {
+        let code = self.code().to_le_bytes();
+        let size = self.size();
+        let digest = self.digest();
+        w.write_all(&code)?;
+        w.write_all(&[size])?;
+        w.write_all(digest)?;
+        Ok(9 + digest.len())
+    }
+
+    /// Reads the multihash whose SCALE form comes next, and takes exactly that form: what follows the
+    /// digest in `r` stays unread.
+    ///
+    /// # Errors
+    ///
+    /// - [`Error::invalid_size`] with the size, where it exceeds `S`; exactly nine bytes were taken;
+    /// - [`Error::io`] with an unexpected end, where the input ends before the size or inside the digest;
+    /// - [`Error::io`] with the reader's own error, where it failed.
+    ///
+    /// In the last two cases the bytes taken are by themselves an input that ends early.
+    pub fn scale_decode<R: Read>(r: &mut R) -> Result<Self, Error>
+        ensures faults { CountsReaderFaults (IsScaleListed S) (R.failures r.old) (R.failures r.new) result }
+        ensures verdict { IfSome (R.rest r.old) (λ rest. R.failures r.new ≡ R.failures r.old →
+            (v : ScaleVerdict) × HasScaleVerdict S rest v × AnswersScale result v) }
+        ensures ok { IfOk result (λ m. (bytes : List ℕ) × IsScale (pair_of m) bytes
+            × Takes (R.rest r.old) bytes (R.rest r.new)) }
+        ensures err { IfErr result (λ e. TakesAtScaleRefusal S e (R.rest r.old) (R.rest r.new)) }
+    {
+        let mut code = [0; 8];
+        r.read_exact(&mut code)?;
+        let mut size = [0; 1];
+        r.read_exact(&mut size)?;
+        let size = usize::from(size[0]);
+        if size > S {
+            return Err(Error::from_size(size as u64));
+        }
+        let mut digest = [0; S];
+        r.read_exact(&mut digest[..size])?;
+        Self::wrap(u64::from_le_bytes(code), &digest[..size])
+    }
+}
