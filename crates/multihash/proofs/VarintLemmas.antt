@@ -19,12 +19,12 @@ limit_is : first_too_large * 128 ^ most_marked ≡ varint_limit
 limit_is = refl
 
 -- a last digit that isn't zero has at least its place's value
-last_counts : (front : List ℕ) (last : ℕ) → 0 < last → 128 ^ length front ≤ place_value 128 (front ++ last ∷ [])
+pub last_counts : (front : List ℕ) (last : ℕ) → 0 < last → 128 ^ length front ≤ place_value 128 (front ++ last ∷ [])
 last_counts front last pos =
     rw (place_value_last 128 last front) (omega (arith, mul-le-mul_left (128 ^ length front) pos))
 
 -- a last digit of zero stands alone
-last_pos : (front : List ℕ) (last : ℕ) → (last ≡ 0 → front ≡ []) → 0 < length front → 0 < last
+pub last_pos : (front : List ℕ) (last : ℕ) → (last ≡ 0 → front ≡ []) → 0 < length front → 0 < last
 last_pos front last minimal some =
     elim (cases_lt 0 last) [
       | inl pos ↦ pos
