@@ -6,7 +6,7 @@ use Rattle.multihash.specs.declared.no_std_io.error.Kind.TheVariants.{Unexpected
 use Rattle.multihash.specs.Pair.{Pair}
 use Rattle.multihash.specs.Varint.{insufficient, overflow, not_minimal}
 use Rattle.multihash.specs.Fault.{Fault, IsOwnFault, HasStandardText}
-use Rattle.multihash.specs.Refusal.{Refusal, of_io, of_size, of_varint, of_not_bytes, refusal_text}
+use Rattle.multihash.specs.Refusal.{Refusal, of_io, of_size, of_varint, of_not_bytes, IsMemory, IsReaderFault, IsNotBytes, refusal_text}
 use Rattle.multihash.specs.Verdict.{accepted, invalid_size, faulty, unexpected_eof}
 use Rattle.multihash.specs.Answer.{Fields, pair_of, Answers}
 use Rattle.multihash.proofs.PairVectors.{pair}
@@ -74,6 +74,30 @@ own_not_eof text (inr h) = cc
 own_not_full : (text : List ℕ) → ¬ (IsOwnFault (record { kind = WriteZero; text = text }))
 own_not_full text (inl h) = cc
 own_not_full text (inr h) = cc
+
+-- ---- what a refusal passes on
+
+passes_on_own : (text : List ℕ) → IsReaderFault (of_io (record { kind = Other; text = text }))
+passes_on_own text = (record { kind = Other; text = text }, refl, inl refl)
+
+eof_is_no_own : (text : List ℕ) → ¬ (IsReaderFault (of_io (record { kind = UnexpectedEof; text = text })))
+eof_is_no_own text (fault, e, inl kind) = cc
+eof_is_no_own text (fault, e, inr kind) = cc
+
+size_is_no_own : (size : ℕ) → ¬ (IsReaderFault (of_size size))
+size_is_no_own size (fault, e, own) = cc
+
+passes_on_memory : (text : List ℕ) → IsMemory (of_io (record { kind = OutOfMemory; text = text }))
+passes_on_memory text = (record { kind = OutOfMemory; text = text }, refl, refl)
+
+other_is_no_memory : (text : List ℕ) → ¬ (IsMemory (of_io (record { kind = Other; text = text })))
+other_is_no_memory text (fault, e, kind) = cc
+
+is_not_bytes : IsNotBytes of_not_bytes
+is_not_bytes = refl
+
+size_is_bytes : (size : ℕ) → ¬ (IsNotBytes (of_size size))
+size_is_bytes size h = cc
 
 -- ---- texts
 

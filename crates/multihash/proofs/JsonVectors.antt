@@ -1,9 +1,11 @@
 -- The JSON lists of known pairs, and values that are or aren't byte arrays.
-use Rattle.std.proofs.Common.{ℕ, List, [], ◌∷◌, get_or, refl, ap, arith}
+use Rattle.std.proofs.Common.{ℕ, ◌<◌, List, [], ◌∷◌, get_or, replicate, refl, ap, arith}
 use Rattle.std.specs.Prelude.{codes}
+use Rattle.std.proofs.lemmas.List.Elements.{All-replicate}
 use Rattle.serde_json.specs.Data.{number, unsigned, string, array, no_items, item}
 use Rattle.multihash.specs.Json.{IsByteArray, IsJsonList, number_array}
-use Rattle.multihash.proofs.VarintVectors.{all_below, varint_0, varint_1, varint_128}
+use Rattle.multihash.proofs.BytesVectors.{all_below}
+use Rattle.multihash.proofs.VarintVectors.{varint_0, varint_1, varint_128}
 use Rattle.multihash.proofs.PairVectors.{pair}
 use Rattle.multihash.proofs.JsonLemmas.{no_256, no_text, array_unique}
 
@@ -28,6 +30,10 @@ array_of_255 = record { array = refl; are_bytes = all_below 256 (0 ∷ 255 ∷ [
 
 array_of_nothing : IsByteArray (array no_items) []
 array_of_nothing = record { array = refl; are_bytes = all_below 256 [] refl }
+
+-- of any length
+array_of_many : (n : ℕ) → IsByteArray (number_array (replicate n 7)) (replicate n 7)
+array_of_many n = record { array = refl; are_bytes = All-replicate (λ byte. byte < 256) n 7 (omega arith) }
 
 array_0_256 : (bytes : List ℕ) → ¬ (IsByteArray (number_array (0 ∷ 256 ∷ [])) bytes)
 array_0_256 = no_256 (0 ∷ []) [] 256 (omega arith)

@@ -2,6 +2,9 @@
 use Rattle.std.proofs.Common.{◌≡◌, ℕ, ◌+◌, ◌<◌, ◌⊎◌, List, [], ◌∷◌, ◌++◌, length, get_or, take, drop, refl, sym, ap, ◌∙◌, subst, arith, inl, inr}
 use Rattle.std.proofs.lemmas.Bool.{cases_order}
 use Rattle.std.proofs.lemmas.List.{take-append-drop, drop_more}
+use Rattle.std.proofs.lemmas.Cmp.{ranked}
+use Rattle.std.specs.Cmp.Lexicographic.{slice_cmp}
+use Rattle.std.specs.Ordering.{MatchOrdering, nat_cmp, ordering_then}
 use Rattle.std.specs.declared.cmp.Ordering.{Ordering}
 use Rattle.std.specs.declared.cmp.Ordering.TheVariants.{Less, Equal, Greater}
 use Rattle.multihash.specs.Bytes.{ExactlyOne}
@@ -155,6 +158,24 @@ compare_lists (a ∷ x) (b ∷ y) l =
     behind e (inr (inl left)) = inr (inl (IsSmallerWhereFirstDifferent-cons a b x y e left))
     behind e (inr (inr right)) = inr (inr (IsSmallerWhereFirstDifferent-cons b a y x (sym e) right))
 
+-- what comparing one byte after another answers, at lists as long as each other
+slice_cmp-step : (a b : ℕ) (x y : List ℕ) (o r : Ordering) → MatchOrdering o (a < b) (a ≡ b) (b < a)
+    → MatchOrdering r (IsSmallerWhereFirstDifferent x y) (x ≡ y) (IsSmallerWhereFirstDifferent y x)
+    → MatchOrdering (ordering_then o r) (IsSmallerWhereFirstDifferent (a ∷ x) (b ∷ y)) (a ∷ x ≡ b ∷ y) (IsSmallerWhereFirstDifferent (b ∷ y) (a ∷ x))
+slice_cmp-step a b x y Less r h k = IsSmallerWhereFirstDifferent-head a b x y h
+slice_cmp-step a b x y Equal Less h k = IsSmallerWhereFirstDifferent-cons a b x y h k
+slice_cmp-step a b x y Equal Equal h k = cc (h, k)
+slice_cmp-step a b x y Equal Greater h k = IsSmallerWhereFirstDifferent-cons b a y x (sym h) k
+slice_cmp-step a b x y Greater r h k = IsSmallerWhereFirstDifferent-head b a y x h
+
+pub slice_cmp-says : (x y : List ℕ) → length x ≡ length y
+    → MatchOrdering (slice_cmp nat_cmp x y) (IsSmallerWhereFirstDifferent x y) (x ≡ y) (IsSmallerWhereFirstDifferent y x)
+slice_cmp-says [] [] l = refl
+slice_cmp-says [] (b ∷ y) l = absurd (omega arith)
+slice_cmp-says (a ∷ x) [] l = absurd (omega arith)
+slice_cmp-says (a ∷ x) (b ∷ y) l =
+    slice_cmp-step a b x y (nat_cmp a b) (slice_cmp nat_cmp x y) (ranked a b (nat_cmp a b) refl) (slice_cmp-says x y (omega arith))
+
 -- ---- pairs
 
 -- of two pairs that are the same neither comes before the other
@@ -227,3 +248,35 @@ compares_unique p q Greater Greater h k = refl
 pub compares_exactly_one : (p q : Pair) → ExactlyOne (Compares p q)
 compares_exactly_one p q =
     let c = compares_some p q in record { value = c.0; holds = c.1; only = λ other h. compares_unique p q other c.0 h c.1 }
+
+-- by the code, then by the length, then by one byte after another
+pub compares_by_parts : (p q : Pair) (code size bytes : Ordering) → code ≡ nat_cmp p.code q.code
+    → size ≡ nat_cmp (length p.digest) (length q.digest) → bytes ≡ slice_cmp nat_cmp p.digest q.digest
+    → Compares p q (ordering_then code (ordering_then size bytes))
+compares_by_parts p q code size bytes c s b =
+    by_code code (ranked p.code q.code code c) size (ranked (length p.digest) (length q.digest) size s) bytes b
+  where
+    by_bytes : p.code ≡ q.code → length p.digest ≡ length q.digest → (o : Ordering)
+        → MatchOrdering o (IsSmallerWhereFirstDifferent p.digest q.digest) (p.digest ≡ q.digest) (IsSmallerWhereFirstDifferent q.digest p.digest)
+        → Compares p q o
+    by_bytes e l Less h = inr (inr (e, l, h))
+    by_bytes e l Equal h = record { code = e; digest = h }
+    by_bytes e l Greater h = inr (inr (sym e, sym l, h))
+
+    at_bytes : p.code ≡ q.code → length p.digest ≡ length q.digest → (o : Ordering) → o ≡ slice_cmp nat_cmp p.digest q.digest → Compares p q o
+    at_bytes e l o d =
+        by_bytes e l o (subst (λ (z : Ordering). MatchOrdering z (IsSmallerWhereFirstDifferent p.digest q.digest) (p.digest ≡ q.digest) (IsSmallerWhereFirstDifferent q.digest p.digest))
+        (sym d) (slice_cmp-says p.digest q.digest l))
+
+    by_size : p.code ≡ q.code → (m : Ordering) → MatchOrdering m (length p.digest < length q.digest) (length p.digest ≡ length q.digest) (length q.digest < length p.digest)
+        → (o : Ordering) → o ≡ slice_cmp nat_cmp p.digest q.digest → Compares p q (ordering_then m o)
+    by_size e Less h o d = inr (inl (e, h))
+    by_size e Equal h o d = at_bytes e h o d
+    by_size e Greater h o d = inr (inl (sym e, h))
+
+    by_code : (n : Ordering) → MatchOrdering n (p.code < q.code) (p.code ≡ q.code) (q.code < p.code)
+        → (m : Ordering) → MatchOrdering m (length p.digest < length q.digest) (length p.digest ≡ length q.digest) (length q.digest < length p.digest)
+        → (o : Ordering) → o ≡ slice_cmp nat_cmp p.digest q.digest → Compares p q (ordering_then n (ordering_then m o))
+    by_code Less h m k o d = inl h
+    by_code Equal h m k o d = by_size h m k o d
+    by_code Greater h m k o d = inl h

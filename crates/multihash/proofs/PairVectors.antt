@@ -3,7 +3,7 @@ use Rattle.std.proofs.Common.{◌≡◌, ℕ, List, [], ◌∷◌, ◌<◌, repl
 use Rattle.std.specs.Prelude.{codes}
 use Rattle.std.proofs.lemmas.List.Elements.{All-head}
 use Rattle.multihash.specs.Pair.{Pair, IsPair, IsSame, digest_limit, FitsBuffer, truncated}
-use Rattle.multihash.proofs.VarintVectors.{all_below}
+use Rattle.multihash.proofs.BytesVectors.{all_below}
 
 abbrev pub pair : ℕ → List ℕ → Pair
 pair code digest = record { code = code; digest = digest }

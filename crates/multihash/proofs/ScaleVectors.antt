@@ -1,11 +1,11 @@
 -- The SCALE form of known pairs, and the verdicts on known inputs.
-use Rattle.std.proofs.Common.{◌≡◌, ℕ, List, [], ◌∷◌, ◌<◌, length, refl, arith, inl, inr}
+use Rattle.std.proofs.Common.{◌≡◌, ℕ, List, [], ◌∷◌, ◌<◌, ◌++◌, length, replicate, refl, arith, inl, inr}
 use Rattle.std.specs.Prelude.{codes}
 use Rattle.std.proofs.lemmas.List.Elements.{All-head}
 use Rattle.multihash.specs.Bytes.{place_value}
 use Rattle.multihash.specs.Pair.{Pair}
 use Rattle.multihash.specs.Scale.{decoded, refused_size, ended, IsScaleCode, IsScale, HasScaleVerdict}
-use Rattle.multihash.proofs.VarintVectors.{all_below}
+use Rattle.multihash.proofs.BytesVectors.{all_below}
 use Rattle.multihash.proofs.PairVectors.{pair}
 use Rattle.multihash.proofs.ScaleLemmas.{scale_verdict_unique}
 
@@ -98,6 +98,17 @@ scale_full = (
 -- a size above the buffer is refused before the digest is looked at
 scale_size_first : HasScaleVerdict 4 (0 ∷ 0 ∷ 0 ∷ 0 ∷ 0 ∷ 0 ∷ 0 ∷ 0 ∷ 5 ∷ []) (refused_size 5)
 scale_size_first = ([], record { code = 0; code_bytes = zeros; is_code = zero_code; cut = refl }, omega arith)
+
+-- the longest digest
+scale_255 : IsScale (pair 0 (replicate 255 7)) (zeros ++ 255 ∷ replicate 255 7)
+scale_255 = record { code = zeros; is_code = zero_code; size = omega arith; spelled = refl }
+
+scale_255_is : length (zeros ++ 255 ∷ replicate 255 7) ≡ 264
+scale_255_is = refl
+
+-- a size that just fits waits for its digest
+scale_at_limit : HasScaleVerdict 5 (0 ∷ 0 ∷ 0 ∷ 0 ∷ 0 ∷ 0 ∷ 0 ∷ 0 ∷ 5 ∷ 0xaa ∷ 0xbb ∷ []) ended
+scale_at_limit = inr (5, 0xaa ∷ 0xbb ∷ [], record { code = 0; code_bytes = zeros; is_code = zero_code; cut = refl }, omega arith, omega arith)
 
 -- ---- what does not hold
 

@@ -1,13 +1,12 @@
 -- Known inputs that settle their verdict, and inputs that don't.
-use Rattle.std.proofs.Common.{ℕ, List, [], ◌∷◌, length, get_or, refl, ap, arith}
-use Rattle.multihash.specs.Bytes.{IsBytes, IsBeginning, IsProperBeginning}
-use Rattle.multihash.specs.Varint.{insufficient, not_minimal}
+use Rattle.std.proofs.Common.{ℕ, List, [], ◌∷◌, ◌++◌, length, get_or, refl, ap, arith}
+use Rattle.multihash.specs.Varint.{insufficient, overflow, not_minimal}
 use Rattle.multihash.specs.Verdict.{accepted, invalid_size, faulty, unexpected_eof, HasSize}
 use Rattle.multihash.specs.Settling.{Settles, IsShortestSettling}
 use Rattle.multihash.proofs.PairVectors.{pair}
-use Rattle.multihash.proofs.VarintVectors.{all_below, varint_0, varint_5}
+use Rattle.multihash.proofs.VarintVectors.{all_marked, varint_0, varint_4, varint_5, varint_133}
 use Rattle.multihash.proofs.VerdictVectors.{empty_input, size_open, code_padded, code_alone, digest_cut, digest_full}
-use Rattle.multihash.proofs.SettlingLemmas.{early_not_settles, late_settles, shortest_size}
+use Rattle.multihash.proofs.SettlingLemmas.{early_not_settles, late_settles, shortest_pair, shortest_size, shortest_code_fault, shortest_size_fault}
 
 size_5 : (more : List ℕ) → HasSize 5 (0 ∷ 5 ∷ more) more
 size_5 more = record { code = 0; code_bytes = 0 ∷ []; size_bytes = 5 ∷ []; is_code = varint_0; is_size = varint_5; cut = refl }
@@ -48,6 +47,11 @@ shortest_of_size = record {
   shortest = λ shorter before. (shortest_size 4 5 (0 ∷ 5 ∷ 9 ∷ []) (9 ∷ []) (size_5 (9 ∷ [])) (omega arith)).shortest shorter before;
 }
 
+-- which may be the whole input
+shortest_whole : IsShortestSettling 4 (0 ∷ 5 ∷ []) (0 ∷ 5 ∷ [])
+unfolding size_5
+shortest_whole = shortest_size 4 5 (0 ∷ 5 ∷ []) [] (size_5 []) (omega arith)
+
 -- the whole input settles too, but is not the shortest
 not_shortest : ¬ (IsShortestSettling 4 (0 ∷ 5 ∷ 9 ∷ []) (0 ∷ 5 ∷ 9 ∷ []))
 not_shortest h =
@@ -57,29 +61,73 @@ not_shortest h =
 not_begun : ¬ (IsShortestSettling 4 (0 ∷ 5 ∷ 9 ∷ []) (0 ∷ 6 ∷ []))
 not_begun h = omega (arith, ap (λ (z : List ℕ). get_or z 1 0) h.begins.1)
 
--- ---- beginnings
+-- an input that is longer than what settles it, and what does: the bytes that a call takes
+abbrev nine : List ℕ
+nine = 0x80 ∷ 0x80 ∷ 0x80 ∷ 0x80 ∷ 0x80 ∷ 0x80 ∷ 0x80 ∷ 0x80 ∷ 0x80 ∷ []
 
-begins_itself : IsBeginning (1 ∷ 2 ∷ []) (1 ∷ 2 ∷ [])
-begins_itself = ([], refl)
+shortest_of_padded_code : IsShortestSettling 4 (0x80 ∷ 0x00 ∷ 0x07 ∷ []) (0x80 ∷ 0x00 ∷ [])
+shortest_of_padded_code =
+    shortest_code_fault 4 not_minimal (0x80 ∷ 0x00 ∷ 0x07 ∷ []) (λ early. early) (record {
+      shown = 0x80 ∷ 0x00 ∷ [];
+      rest = 0x07 ∷ [];
+      cut = refl;
+      step = record { front = 0x80 ∷ []; last = 0x00; all_marked = all_marked (0x80 ∷ []) refl; few = omega arith; cut = refl };
+      has = record { front = 0x80 ∷ []; rest = []; all_marked = all_marked (0x80 ∷ []) refl; some = omega arith; few = omega arith; cut = refl };
+    })
 
-begins_longer : IsBeginning [] (1 ∷ 2 ∷ [])
-begins_longer = (1 ∷ 2 ∷ [], refl)
+shortest_of_padded_size : IsShortestSettling 4 (0x00 ∷ 0x85 ∷ 0x00 ∷ 0x07 ∷ []) (0x00 ∷ 0x85 ∷ 0x00 ∷ [])
+shortest_of_padded_size =
+    shortest_size_fault 4 not_minimal (0x00 ∷ 0x85 ∷ 0x00 ∷ 0x07 ∷ []) (0x85 ∷ 0x00 ∷ 0x07 ∷ []) (λ early. early)
+    (record { code = 0; code_bytes = 0x00 ∷ []; is_code = varint_0; cut = refl }) (record {
+      shown = 0x85 ∷ 0x00 ∷ [];
+      rest = 0x07 ∷ [];
+      cut = refl;
+      step = record { front = 0x85 ∷ []; last = 0x00; all_marked = all_marked (0x85 ∷ []) refl; few = omega arith; cut = refl };
+      has = record { front = 0x85 ∷ []; rest = []; all_marked = all_marked (0x85 ∷ []) refl; some = omega arith; few = omega arith; cut = refl };
+    })
 
-begins_no_shorter : ¬ (IsBeginning (1 ∷ 2 ∷ []) (1 ∷ []))
-begins_no_shorter h = omega (arith, ap (λ (z : List ℕ). length z) h.1)
+shortest_of_overflow : IsShortestSettling 4 (nine ++ 0x02 ∷ 0x07 ∷ []) (nine ++ 0x02 ∷ [])
+shortest_of_overflow =
+    shortest_code_fault 4 overflow (nine ++ 0x02 ∷ 0x07 ∷ []) (λ early. early) (record {
+      shown = nine ++ 0x02 ∷ [];
+      rest = 0x07 ∷ [];
+      cut = refl;
+      step = record { front = nine; last = 0x02; all_marked = all_marked nine refl; few = omega arith; cut = refl };
+      has = record { front = nine; byte = 0x02; rest = []; all_marked = all_marked nine refl; most = refl; too_large = omega arith; cut = refl };
+    })
 
-begins_no_other : ¬ (IsBeginning (2 ∷ []) (1 ∷ 2 ∷ []))
-begins_no_other h = omega (arith, ap (λ (z : List ℕ). get_or z 0 0) h.1)
+-- a marked byte behind nine marked ones is enough
+shortest_of_ten_marked : IsShortestSettling 4 (nine ++ 0x81 ∷ 0x07 ∷ []) (nine ++ 0x81 ∷ [])
+shortest_of_ten_marked =
+    shortest_code_fault 4 overflow (nine ++ 0x81 ∷ 0x07 ∷ []) (λ early. early) (record {
+      shown = nine ++ 0x81 ∷ [];
+      rest = 0x07 ∷ [];
+      cut = refl;
+      step = record { front = nine; last = 0x81; all_marked = all_marked nine refl; few = omega arith; cut = refl };
+      has = record { front = nine; byte = 0x81; rest = []; all_marked = all_marked nine refl; most = refl; too_large = omega arith; cut = refl };
+    })
 
-begins_properly : IsProperBeginning (1 ∷ []) (1 ∷ 2 ∷ [])
-begins_properly = (2 ∷ [], (λ e. omega (arith, ap (λ (z : List ℕ). length z) e)), refl)
+shortest_of_empty_digest : IsShortestSettling 4 (0x00 ∷ 0x00 ∷ 0x07 ∷ []) (0x00 ∷ 0x00 ∷ [])
+shortest_of_empty_digest =
+    shortest_pair 4 (pair 0 []) (0x00 ∷ 0x00 ∷ 0x07 ∷ []) (0x07 ∷ []) (record {
+      encoding = 0x00 ∷ 0x00 ∷ [];
+      encodes = record { code = 0x00 ∷ []; size = 0x00 ∷ []; is_code = varint_0; is_size = varint_0; spelled = refl };
+      cut = refl;
+    }) (omega arith)
 
-not_properly_itself : ¬ (IsProperBeginning (1 ∷ 2 ∷ []) (1 ∷ 2 ∷ []))
-not_properly_itself ([], some, cut) = some refl
-not_properly_itself (r ∷ rest, some, cut) = omega (arith, ap (λ (z : List ℕ). length z) cut)
+shortest_of_pair : IsShortestSettling 4 (0x00 ∷ 0x04 ∷ 0x01 ∷ 0x02 ∷ 0x03 ∷ 0x04 ∷ 0x09 ∷ []) (0x00 ∷ 0x04 ∷ 0x01 ∷ 0x02 ∷ 0x03 ∷ 0x04 ∷ [])
+shortest_of_pair =
+    shortest_pair 4 (pair 0 (0x01 ∷ 0x02 ∷ 0x03 ∷ 0x04 ∷ [])) (0x00 ∷ 0x04 ∷ 0x01 ∷ 0x02 ∷ 0x03 ∷ 0x04 ∷ 0x09 ∷ []) (0x09 ∷ []) (record {
+      encoding = 0x00 ∷ 0x04 ∷ 0x01 ∷ 0x02 ∷ 0x03 ∷ 0x04 ∷ [];
+      encodes = record { code = 0x00 ∷ []; size = 0x04 ∷ []; is_code = varint_0; is_size = varint_4; spelled = refl };
+      cut = refl;
+    }) (omega arith)
 
-bytes_0_255 : IsBytes (0 ∷ 255 ∷ [])
-bytes_0_255 = all_below 256 (0 ∷ 255 ∷ []) refl
+shortest_of_long_size : IsShortestSettling 4 (0x00 ∷ 0x85 ∷ 0x01 ∷ 0x07 ∷ []) (0x00 ∷ 0x85 ∷ 0x01 ∷ [])
+shortest_of_long_size =
+    shortest_size 4 133 (0x00 ∷ 0x85 ∷ 0x01 ∷ 0x07 ∷ []) (0x07 ∷ [])
+    (record { code = 0; code_bytes = 0x00 ∷ []; size_bytes = 0x85 ∷ 0x01 ∷ []; is_code = varint_0; is_size = varint_133; cut = refl }) (omega arith)
 
-no_byte_256 : ¬ (IsBytes (0 ∷ 256 ∷ []))
-no_byte_256 h = omega (arith, h 1 0 (omega arith))
+-- no byte at all is too few
+not_shorter : ¬ (IsShortestSettling 4 (0 ∷ 5 ∷ 9 ∷ []) [])
+not_shorter h = empty_waits h.settles

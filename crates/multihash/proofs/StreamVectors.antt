@@ -49,6 +49,9 @@ not_at_end h = omega (arith, ap (λ (z : List ℕ). length z) h)
 fewer_than_two : HasFewerThan 2 (Some (1 ∷ []))
 fewer_than_two = omega arith
 
+fewer_silent : HasFewerThan 0 None
+fewer_silent = tt
+
 not_fewer_than_one : ¬ (HasFewerThan 1 (Some (1 ∷ [])))
 not_fewer_than_one h = omega (arith, h)
 
@@ -161,6 +164,16 @@ wrote_all_with_fault h = omega (arith, h)
 
 wrote_all_full : CountsWriterFaultsOrFull {A = ℕ} false 3 3 ⊤ (Err full)
 wrote_all_full = (omega arith, writer_full)
+
+-- a count never falls
+no_count_falls : ¬ (CountsWriterFaults {A = ℕ} true 4 3 (Err memory))
+no_count_falls h = omega (arith, h.0)
+
+no_count_falls_writing_all : ¬ (CountsWriterFaultsOrFull {A = ℕ} true 4 3 ⊤ (Err memory))
+no_count_falls_writing_all h = omega (arith, h.0)
+
+wrote_nothing_for_want_of_memory : CountsWriterFaults {A = ℕ} true 3 3 (Err memory)
+wrote_nothing_for_want_of_memory = (omega arith, writer_refused_memory)
 
 -- ---- what was appended
 

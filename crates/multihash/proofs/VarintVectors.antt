@@ -1,17 +1,12 @@
 -- Varints of known numbers, and bytes that are no varint.
-use Rattle.std.proofs.Common.{◌≡◌, ℕ, ◌<◌, ltb, Bool, true, List, [], ◌∷◌, ◌++◌, refl, sym, ap, arith, append-nil, get_or}
+use Rattle.std.proofs.Common.{◌≡◌, ℕ, ltb, Bool, true, List, [], ◌∷◌, ◌++◌, refl, sym, ap, arith, append-nil, get_or}
 use Rattle.std.specs.List.{All, list_all}
 use Rattle.std.proofs.lemmas.Bool.{ltb-true, and_parts}
 use Rattle.std.proofs.lemmas.List.Elements.{All-nil, All-cons}
 use Rattle.multihash.specs.Bytes.{place_value}
 use Rattle.multihash.specs.Varint.{IsMarked, marked, varint_limit, IsVarint, VarintFault, insufficient, not_minimal, HasFaultyFront}
+use Rattle.multihash.proofs.BytesVectors.{all_below}
 use Rattle.multihash.proofs.VarintLemmas.{number, fault, front_unique, varint_unique}
-
-pub all_below : (bound : ℕ) (xs : List ℕ) → list_all (λ x. ltb x bound) xs ≡ true → All (λ x. x < bound) xs
-all_below bound [] e = All-nil (λ x. x < bound)
-all_below bound (x ∷ xs) e =
-    let parts = and_parts (ltb x bound) (list_all (λ y. ltb y bound) xs) e in
-    All-cons (λ y. y < bound) x xs (ltb-true x bound parts.0) (all_below bound xs parts.1)
 
 -- every number in a literal list has 128 added
 pub all_marked : (xs : List ℕ) → list_all (λ x. ltb 127 x) xs ≡ true → All IsMarked xs
@@ -117,20 +112,6 @@ varint_133 = varint_of (0x05 ∷ []) 0x01 133 refl refl refl refl
 pub varint_4 : IsVarint 4 (0x04 ∷ [])
 unfolding place_value ends_well
 varint_4 = varint_of [] 0x04 4 refl refl refl refl
-
--- ---- the lowest digit stands first, in both bases
-
-lowest_first : place_value 128 (44 ∷ 2 ∷ []) ≡ 300
-unfolding place_value
-lowest_first = refl
-
-lowest_byte_first : place_value 256 (1 ∷ 2 ∷ 3 ∷ []) ≡ 197121
-unfolding place_value
-lowest_byte_first = refl
-
-no_digits : place_value 128 [] ≡ 0
-unfolding place_value
-no_digits = refl
 
 -- ---- what is no varint
 

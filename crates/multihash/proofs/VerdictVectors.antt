@@ -82,6 +82,10 @@ digest_and_one_more = (0x09 ∷ [], record { encoding = 0x00 ∷ 0x04 ∷ 0x01 �
 digest_and_one_more_whole : HasWholeVerdict 4 (0x00 ∷ 0x04 ∷ 0x01 ∷ 0x02 ∷ 0x03 ∷ 0x04 ∷ 0x09 ∷ []) (invalid_size 1)
 digest_and_one_more_whole = inr (pair 0 (0x01 ∷ 0x02 ∷ 0x03 ∷ 0x04 ∷ []), 0x09 ∷ [], record { encoding = 0x00 ∷ 0x04 ∷ 0x01 ∷ 0x02 ∷ 0x03 ∷ 0x04 ∷ []; encodes = record { code = 0x00 ∷ []; size = 0x04 ∷ []; is_code = varint_0; is_size = varint_4; spelled = refl }; cut = refl }, omega arith, refl, omega arith)
 
+-- as many as are left over, whatever they are
+digest_and_three_more_whole : HasWholeVerdict 4 (0x00 ∷ 0x01 ∷ 0x07 ∷ 0x00 ∷ 0x80 ∷ 0x05 ∷ []) (invalid_size 3)
+digest_and_three_more_whole = inr (pair 0 (0x07 ∷ []), 0x00 ∷ 0x80 ∷ 0x05 ∷ [], record { encoding = 0x00 ∷ 0x01 ∷ 0x07 ∷ []; encodes = record { code = 0x00 ∷ []; size = 0x01 ∷ []; is_code = varint_0; is_size = varint_1; spelled = refl }; cut = refl }, omega arith, refl, omega arith)
+
 nine_marked : HasVerdict 4 nine (faulty insufficient)
 nine_marked = inl (record { few = omega arith; all_marked = all_marked nine refl })
 
@@ -129,6 +133,12 @@ no_room_for_one = ([], record { code = 0; code_bytes = 0x00 ∷ []; size_bytes =
 
 no_room_for_one_whole : HasWholeVerdict 0 (0x00 ∷ 0x01 ∷ []) (invalid_size 1)
 no_room_for_one_whole = inl no_room_for_one
+
+no_room_empty : HasVerdict 0 (0x00 ∷ 0x00 ∷ []) (accepted (pair 0 []))
+no_room_empty = ([], record { encoding = 0x00 ∷ 0x00 ∷ []; encodes = record { code = 0x00 ∷ []; size = 0x00 ∷ []; is_code = varint_0; is_size = varint_0; spelled = refl }; cut = refl }, omega arith)
+
+no_room_empty_whole : HasWholeVerdict 0 (0x00 ∷ 0x00 ∷ []) (accepted (pair 0 []))
+no_room_empty_whole = (record { code = 0x00 ∷ []; size = 0x00 ∷ []; is_code = varint_0; is_size = varint_0; spelled = refl }, omega arith)
 
 digest_of_255_missing : HasVerdict 300 (0x00 ∷ 0xff ∷ 0x01 ∷ []) unexpected_eof
 digest_of_255_missing = (255, [], record { code = 0; code_bytes = 0x00 ∷ []; size_bytes = 0xff ∷ 0x01 ∷ []; is_code = varint_0; is_size = varint_255; cut = refl }, omega arith, omega arith)
