@@ -1,6 +1,7 @@
 -- The encodings of known pairs.
-use Rattle.std.proofs.Common.{◌≡◌, ℕ, List, [], ◌∷◌, ◌++◌, length, replicate, get_or, refl, ap, arith}
+use Rattle.std.proofs.Common.{◌≡◌, ℕ, ◌+◌, List, [], ◌∷◌, ◌++◌, length, replicate, get_or, refl, ap, arith}
 use Rattle.std.specs.Prelude.{codes}
+use Rattle.multihash.specs.Varint.{most_marked}
 use Rattle.multihash.specs.Encoding.{IsEncoding}
 use Rattle.multihash.proofs.LengthLemmas.{encoding_shortest}
 use Rattle.multihash.proofs.VerdictLemmas.{encoding_same}
@@ -38,6 +39,10 @@ encodes_longest = record {
 
 longest_is : length longest ≡ 267
 longest_is = refl
+
+-- no encoding is longer
+most_bytes : (most_marked + 1) + 2 + 255 ≡ 267
+most_bytes = refl
 
 -- ---- what does not hold
 
