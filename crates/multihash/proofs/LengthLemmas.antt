@@ -1,5 +1,5 @@
 -- How long varints and encodings are.
-use Rattle.std.proofs.Common.{◌≡◌, ℕ, suc, ◌+◌, ◌^◌, ◌<◌, ◌≤◌, List, [], ◌∷◌, ◌++◌, length, refl, ap, arith, inl, inr, length-append}
+use Rattle.std.proofs.Common.{◌≡◌, ℕ, suc, ◌+◌, ◌^◌, ◌<◌, ◌≤◌, List, [], ◌∷◌, ◌++◌, length, ap, arith, inl, inr, length-append}
 use Rattle.std.proofs.Math.Nat.{pow-le-pow_right}
 use Rattle.std.proofs.lemmas.Bool.{cases_lt}
 use Rattle.std.proofs.lemmas.List.{length-map}
@@ -51,6 +51,3 @@ encoding_length p bytes e fits =
       varint_longest p.code e.code e.is_code,
       varint_below 1 (length p.digest) e.size e.is_size (omega arith),
     )
-
-most_bytes : (most_marked + 1) + 2 + 255 ≡ 267
-most_bytes = refl

@@ -1,14 +1,13 @@
 -- A number's bytes, the lowest first, are its digits to the base 256.
-use Rattle.std.proofs.Common.{◌≡◌, ℕ, zero, suc, ◌*◌, ◌/◌, ◌%◌, ◌^◌, ◌<◌, List, [], ◌∷◌, length, get_or, refl, sym, ap, ◌∙◌, arith}
-use Rattle.std.specs.List.{All}
+use Rattle.std.proofs.Common.{◌≡◌, ℕ, zero, suc, ◌/◌, ◌%◌, ◌^◌, ◌<◌, List, length, get_or, refl, sym, ap, ◌∙◌, arith}
 use Rattle.std.specs.Int.{byte_at, bytes_low_first, to_le_bytes, from_le_bytes, w64}
 use Rattle.std.proofs.Math.Nat.{pow-suc, pow-zero, div-add-mod, div-div-eq-div-mul, div-one}
 use Rattle.std.proofs.lemmas.Nat.{mod_below, div_below, le_bytes_8}
-use Rattle.std.proofs.lemmas.List.Elements.{All-nil, All-cons}
+use Rattle.std.proofs.lemmas.List.Elements.{All-nil, All-cons, All-from_get_or}
 use Rattle.multihash.specs.Bytes.{IsBytes, place_value}
 use Rattle.multihash.specs.Varint.{varint_limit}
 use Rattle.multihash.specs.Scale.{IsScaleCode}
-use Rattle.multihash.proofs.DigitLemmas.{place_value-nil, place_value-cons}
+use Rattle.multihash.proofs.DigitLemmas.{place_value-nil, place_value-cons, place_value_below}
 
 byte_at-is : (i n : ℕ) → byte_at i n ≡ n / 256 ^ i % 256
 byte_at-is zero n = ap (λ (m : ℕ). m % 256) (sym (ap (λ (p : ℕ). n / p) (pow-zero 256) ∙ div-one n))
@@ -42,7 +41,20 @@ code_bytes code range = record {
   in_range = range;
 }
 
--- eight bytes are those of the code that is read from them
-pub code_read : (bytes : List ℕ) (code : ℕ) → length bytes ≡ 8 → ((i : ℕ) → get_or bytes i 0 < 256) → code < varint_limit → code ≡ from_le_bytes w64 bytes → IsScaleCode code bytes
+-- eight bytes are those of some code
+pub some_code : (bytes : List ℕ) → length bytes ≡ 8 → ((i : ℕ) → get_or bytes i 0 < 256) → IsScaleCode (place_value 256 bytes) bytes
+some_code bytes eight each = record {
+  eight = eight;
+  are_bytes = all;
+  value = refl;
+  in_range = omega (arith, place_value_below 256 bytes all, ap (λ (k : ℕ). 256 ^ k) eight);
+}
+  where
+    all : IsBytes bytes
+    all = All-from_get_or (λ b. b < 256) bytes 0 (λ i _. each i)
+
+-- and of the code that is read from them
+pub code_read : (bytes : List ℕ) (code : ℕ) → length bytes ≡ 8 → ((i : ℕ) → get_or bytes i 0 < 256) → code < varint_limit
+    → code ≡ from_le_bytes w64 bytes → IsScaleCode code bytes
 code_read bytes code eight each range read =
     rw (← le_bytes_8 bytes code eight each read) (code_bytes code range)

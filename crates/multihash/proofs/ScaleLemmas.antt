@@ -55,6 +55,13 @@ scale_same p a b h k =
     (h.is_code.value ∙ sym k.is_code.value) in
     cc (codes, h.spelled, k.spelled)
 
+-- eight bytes of the code, one of the size, and the digest
+pub scale_length : (p : Pair) (bytes : List ℕ) → IsScale p bytes → length bytes ≡ 9 + length p.digest
+scale_length p bytes h = omega (arith, ap length h.spelled, length-append h.code (length p.digest ∷ p.digest), h.is_code.eight)
+
+pub scale_longest : (p : Pair) (bytes : List ℕ) → IsScale p bytes → length bytes ≤ 264
+scale_longest p bytes h = omega (arith, scale_length p bytes h, h.size)
+
 -- ---- the verdict
 
 scale_judged : ℕ → ℕ → ℕ → List ℕ → ScaleVerdict

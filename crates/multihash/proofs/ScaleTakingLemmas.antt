@@ -1,11 +1,11 @@
 -- What encoding the SCALE form appends, and where decoding it stops.
-use Rattle.std.proofs.Common.{◌≡◌, ◌<◌, ◌≤◌, ◌⊎◌, ℕ, ◌+◌, List, [], ◌∷◌, ◌++◌, Option, None, Some, Result, Ok, Err, IfSome, IfOk, IsErr, length, get_or, refl, sym, ap, ◌∙◌, subst, inl, inr, arith, append_assoc, length-append}
+use Rattle.std.proofs.Common.{◌≡◌, ◌<◌, ◌≤◌, ◌⊎◌, ℕ, ◌+◌, List, [], ◌∷◌, ◌++◌, Option, Some, Result, Ok, Err, IfSome, IfOk, IsErr, length, get_or, refl, sym, ap, ◌∙◌, subst, inl, inr, arith, append_assoc, length-append}
 use Rattle.std.specs.Result.{IsErrAnd}
 use Rattle.multihash.specs.Pair.{Pair}
 use Rattle.multihash.specs.Scale.{ScaleVerdict, decoded, refused_size, ended, IsScaleCode, IsScale, HasScaleSize, HasScaleVerdict}
 use Rattle.multihash.specs.Fault.{Fault, IsUnexpectedEof, IsOwnFault}
 use Rattle.multihash.specs.Reading.{preceded_by, Takes, HasFewerThan}
-use Rattle.multihash.specs.Refusal.{Refusal, of_io, IsReaderFault, IsEof, IsInvalidSize}
+use Rattle.multihash.specs.Refusal.{Refusal, of_io, IsInvalidSize}
 use Rattle.multihash.specs.Answer.{Fields, pair_of}
 use Rattle.multihash.specs.ScaleTaking.{IsScaleRefusal, AnswersScale, TakesAtScaleRefusal}
 use Rattle.multihash.proofs.ReadingLemmas.{IfSome-taken}
@@ -102,3 +102,11 @@ pub made_verdict : (S : ℕ) (r : Result Fields Refusal) (p : Pair) (bytes : Lis
     → IfSome old (λ rest. after ≡ before → (v : ScaleVerdict) × HasScaleVerdict S rest v × AnswersScale r v)
 made_verdict S r p bytes old new before after made fine form fits takes =
     IfSome-taken old new bytes _ takes (λ left _ _. made_answer S r p (bytes ++ left) made fine (bytes, left, form, fits, refl))
+
+-- the refusal that is passed on answers the verdict that it was met with
+pub passed_answer : (S : ℕ) (r : Result Fields Refusal) (e : Refusal) (old : Option (List ℕ)) (before after : ℕ) → IsErrAnd r (λ x. x ≡ e)
+    → IfSome old (λ rest. after ≡ before → (v : ScaleVerdict) × HasScaleVerdict S rest v × IsScaleRefusal e v)
+    → IfSome old (λ rest. after ≡ before → (v : ScaleVerdict) × HasScaleVerdict S rest v × AnswersScale r v)
+passed_answer S (Ok m) e old before after given h = absurd given
+passed_answer S (Err x) e old before after given h =
+    subst (λ (y : Refusal). IfSome old (λ rest. after ≡ before → (v : ScaleVerdict) × HasScaleVerdict S rest v × IsScaleRefusal y v)) (sym given) h

@@ -9,6 +9,7 @@ use Rattle.multihash.specs.Varint.{most_marked, IsMarked, marked, IsVarint, Vari
 use Rattle.multihash.specs.Encoding.{IsEncoding}
 use Rattle.multihash.specs.Verdict.{Verdict, accepted, invalid_size, faulty, unexpected_eof, BeginsWith, HasSize, HasCode, HasVerdict, IsEarlyEnd}
 use Rattle.multihash.specs.Settling.{Settles, IsShortestSettling}
+use Rattle.multihash.proofs.BeginningLemmas.{split_beginning, compare_beginnings}
 use Rattle.multihash.proofs.DigitLemmas.{place_value-cons, place_value-nil}
 use Rattle.multihash.proofs.RunLemmas.{All-marked}
 use Rattle.multihash.proofs.VarintLemmas.{varint_length}
@@ -222,33 +223,6 @@ none_settles S x v h early front (rest, cut) s =
           let kept : HasVerdict S (front ++ rest) s.verdict = verdict_kept S front rest s.verdict late (own_verdict S front s) in
           let moved : HasVerdict S x s.verdict = subst (λ (z : List ℕ). HasVerdict S z s.verdict) (sym cut) kept in
           late (subst IsEarlyEnd (verdict_unique S x v s.verdict h moved) early)
-    ]
-
--- ---- beginnings of a list
-
-pub split_beginning : (f g p : List ℕ) → IsProperBeginning p (f ++ g)
-    → IsProperBeginning p f ⊎ ((q : List ℕ) × (p ≡ f ++ q) × IsProperBeginning q g)
-split_beginning [] g p h = inr (p, refl, h)
-split_beginning (c ∷ f) g [] h = inl (c ∷ f, (λ e. cc), refl)
-split_beginning (c ∷ f) g (d ∷ p) (rest, some, e) =
-    let heads : c ≡ d = cc in
-    let tails : f ++ g ≡ p ++ rest = cc in
-    elim (split_beginning f g p (rest, some, tails)) [
-      | inl (q, more, cut) ↦ inl (q, more, cc (heads, cut))
-      | inr (q, cut, more) ↦ inr (q, cc (heads, cut), more)
-    ]
-
-compare_beginnings : (a b r q : List ℕ) → a ++ r ≡ b ++ q → (a ≡ b) ⊎ IsProperBeginning a b ⊎ IsProperBeginning b a
-compare_beginnings [] [] r q e = inl refl
-compare_beginnings [] (c ∷ b) r q e = inr (inl (c ∷ b, (λ n. cc), refl))
-compare_beginnings (c ∷ a) [] r q e = inr (inr (c ∷ a, (λ n. cc), refl))
-compare_beginnings (c ∷ a) (d ∷ b) r q e =
-    let heads : c ≡ d = cc in
-    let tails : a ++ r ≡ b ++ q = cc in
-    elim (compare_beginnings a b r q tails) [
-      | inl same ↦ inl (cc (heads, same))
-      | inr (inl (more, some, cut)) ↦ inr (inl (more, some, cc (heads, cut)))
-      | inr (inr (more, some, cut)) ↦ inr (inr (more, some, cc (heads, cut)))
     ]
 
 -- ---- the shortest that settles

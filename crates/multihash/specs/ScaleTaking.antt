@@ -1,5 +1,5 @@
 -- What decoding the SCALE form answers, and what it took from a reader.
-use Rattle.std.specs.Prelude.{◌≡◌, ◌<◌, ◌≤◌, ℕ, List, ◌⊎◌, length, Option, Result, MatchResult}
+use Rattle.std.specs.Prelude.{◌≡◌, ◌<◌, ℕ, List, ◌⊎◌, length, Option, Result, MatchResult}
 use Rattle.multihash.specs.Scale.{ScaleVerdict, decoded, refused_size, ended, HasScaleVerdict}
 use Rattle.multihash.specs.Reading.{Takes}
 use Rattle.multihash.specs.Refusal.{Refusal, IsEof, IsReaderFault, IsInvalidSize}

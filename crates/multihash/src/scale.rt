@@ -1,13 +1,14 @@
 //! The SCALE form: the code as eight bytes, the lowest first; the digest's length as one; the digest.
 ghost use Rattle.std.specs.Prelude.{◌≡◌, ◌+◌, ◌<◌, ℕ, List, length, IfSome, IfOk, IfErr, OnErr};
 ghost use Rattle.multihash.specs.Scale.{ScaleVerdict, IsScale, HasScaleVerdict};
-ghost use Rattle.multihash.specs.Reading.{Takes};
+ghost use Rattle.multihash.specs.Fault.{IsUnexpectedEof};
+ghost use Rattle.multihash.specs.Reading.{Takes, HasFewerThan, TakesFewerThan, CountsFaultsOrEof};
 ghost use Rattle.multihash.specs.Writing.{AppendsPart};
 ghost use Rattle.multihash.specs.Taking.{CountsReaderFaults, CountsFaultsOfWriter};
 ghost use Rattle.multihash.specs.ScaleTaking.{IsScaleListed, TakesAtScaleRefusal, AnswersScale};
 ghost use Rattle.multihash.specs.Answer.{pair_of};
 
-use crate::no_std_io::{Read, Write};
+use crate::no_std_io::{self, Read, Write};
 use crate::{Error, Multihash};
 
 impl<const S: usize> Multihash<S> {
@@ -53,11 +54,9 @@ impl<const S: usize> Multihash<S> {
             × Takes (R.rest r.old) bytes (R.rest r.new)) }
         ensures err { IfErr result (λ e. TakesAtScaleRefusal S e (R.rest r.old) (R.rest r.new)) }
     {
-        let mut code = [0; 8];
-        r.read_exact(&mut code)?;
-        let mut size = [0; 1];
-        r.read_exact(&mut size)?;
-        let size = usize::from(size[0]);
+        let code = read_array::<8, R>(r)?;
+        let size_byte = read_array::<1, R>(r)?;
+        let size = usize::from(size_byte[0]);
         if size > S {
             return Err(Error::from_size(size as u64));
         }
@@ -65,4 +64,16 @@ impl<const S: usize> Multihash<S> {
         r.read_exact(&mut digest[..size])?;
         Self::wrap(u64::from_le_bytes(code), &digest[..size])
     }
+}
+
+// The next `N` bytes.
+fn read_array<const N: usize, R: Read>(r: &mut R) -> Result<[u8; N], no_std_io::Error>
+    ensures faults { CountsFaultsOrEof (R.failures r.old) (R.failures r.new) result }
+    ensures takes { IfOk result (λ bytes. Takes (R.rest r.old) bytes (R.rest r.new)) }
+    ensures eof { IfErr result (λ e. IsUnexpectedEof e → HasFewerThan N (R.rest r.old)) }
+    ensures err { OnErr result (TakesFewerThan N (R.rest r.old) (R.rest r.new)) }
+{
+    let mut bytes = [0; N];
+    r.read_exact(&mut bytes)?;
+    Ok(bytes)
 }

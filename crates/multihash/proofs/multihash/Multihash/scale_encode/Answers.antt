@@ -1,4 +1,4 @@
-use Rattle.std.proofs.Common.{◌≡◌, ◌+◌, [], ◌∷◌, ◌++◌, length, ap, ◌∙◌, arith}
+use Rattle.std.proofs.Common.{[], ◌∷◌, ◌++◌, arith}
 use Rattle.multihash.specs.Scale.{IsScaleCode, IsScale}
 use Rattle.multihash.specs.Answer.{pair_of}
 use Rattle.multihash.proofs.ScaleCodeLemmas.{code_bytes}

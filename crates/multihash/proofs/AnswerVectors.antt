@@ -1,0 +1,133 @@
+-- What answers a verdict, the texts of refusals, and the kinds of faults.
+use Rattle.std.proofs.Common.{◌≡◌, ℕ, List, length, refl, ap, arith, inl, inr}
+use Rattle.std.specs.Prelude.{codes, Ok, Err}
+use Rattle.std.specs.Fmt.{digits}
+use Rattle.multihash.specs.declared.no_std_io.error.Kind.TheVariants.{UnexpectedEof, WriteZero, OutOfMemory, Other}
+use Rattle.multihash.specs.Pair.{Pair}
+use Rattle.multihash.specs.Varint.{insufficient, overflow, not_minimal}
+use Rattle.multihash.specs.Fault.{Fault, IsOwnFault, HasStandardText}
+use Rattle.multihash.specs.Refusal.{Refusal, of_io, of_size, of_varint, of_not_bytes, IsMemory, IsReaderFault, IsNotBytes, refusal_text}
+use Rattle.multihash.specs.Verdict.{accepted, invalid_size, faulty, unexpected_eof}
+use Rattle.multihash.specs.Answer.{Fields, pair_of, Answers}
+use Rattle.multihash.proofs.PairVectors.{pair}
+
+abbrev stale : Fields
+stale = record { code = 7; size = 2; buffer = codes "abcd" }
+
+-- the buffer past the size means nothing
+means_ab : pair_of stale ≡ pair 7 (codes "ab")
+means_ab = refl
+
+answers_pair : Answers (Ok stale) (accepted (pair 7 (codes "ab")))
+answers_pair = refl
+
+answers_no_longer_pair : ¬ (Answers (Ok stale) (accepted (pair 7 (codes "abcd"))))
+answers_no_longer_pair h =
+    let same : pair 7 (codes "ab") ≡ pair 7 (codes "abcd") = cc in omega (arith, ap (λ (p : Pair). length p.digest) same)
+
+no_pair_answers_refusal : ¬ (Answers (Ok stale) unexpected_eof)
+no_pair_answers_refusal h = cc
+
+no_refusal_answers_pair : (e : Refusal) (p : Pair) → ¬ (Answers (Err e) (accepted p))
+no_refusal_answers_pair e p h = h
+
+answers_size : Answers (Err (of_size 5)) (invalid_size 5)
+answers_size = refl
+
+abbrev size_in : Refusal → ℕ
+size_in (of_io fault) = 0
+size_in (of_size size) = size
+size_in (of_varint fault) = 0
+size_in of_not_bytes = 0
+
+answers_no_other_size : ¬ (Answers (Err (of_size 6)) (invalid_size 5))
+answers_no_other_size h = omega (arith, ap size_in h)
+
+answers_varint : Answers (Err (of_varint overflow)) (faulty overflow)
+answers_varint = refl
+
+answers_no_other_varint : ¬ (Answers (Err (of_varint insufficient)) (faulty overflow))
+answers_no_other_varint h = cc
+
+answers_eof : Answers (Err (of_io (record { kind = UnexpectedEof; text = codes "failed to fill whole buffer" }))) unexpected_eof
+answers_eof = (record { kind = UnexpectedEof; text = codes "failed to fill whole buffer" }, refl, refl)
+
+-- a reader's own fault answers no verdict
+no_own_fault_answers : (text : List ℕ) → ¬ (Answers (Err (of_io (record { kind = Other; text = text }))) unexpected_eof)
+no_own_fault_answers text (fault, e, kind) = cc
+
+no_end_inside_varint : (fault : Fault) → ¬ (Answers (Err (of_io fault)) (faulty insufficient))
+no_end_inside_varint fault h = cc
+
+-- ---- faults
+
+own_other : (text : List ℕ) → IsOwnFault (record { kind = Other; text = text })
+own_other text = inl refl
+
+own_memory : (text : List ℕ) → IsOwnFault (record { kind = OutOfMemory; text = text })
+own_memory text = inr refl
+
+own_not_eof : (text : List ℕ) → ¬ (IsOwnFault (record { kind = UnexpectedEof; text = text }))
+own_not_eof text (inl h) = cc
+own_not_eof text (inr h) = cc
+
+own_not_full : (text : List ℕ) → ¬ (IsOwnFault (record { kind = WriteZero; text = text }))
+own_not_full text (inl h) = cc
+own_not_full text (inr h) = cc
+
+-- ---- what a refusal passes on
+
+passes_on_own : (text : List ℕ) → IsReaderFault (of_io (record { kind = Other; text = text }))
+passes_on_own text = (record { kind = Other; text = text }, refl, inl refl)
+
+eof_is_no_own : (text : List ℕ) → ¬ (IsReaderFault (of_io (record { kind = UnexpectedEof; text = text })))
+eof_is_no_own text (fault, e, inl kind) = cc
+eof_is_no_own text (fault, e, inr kind) = cc
+
+size_is_no_own : (size : ℕ) → ¬ (IsReaderFault (of_size size))
+size_is_no_own size (fault, e, own) = cc
+
+passes_on_memory : (text : List ℕ) → IsMemory (of_io (record { kind = OutOfMemory; text = text }))
+passes_on_memory text = (record { kind = OutOfMemory; text = text }, refl, refl)
+
+other_is_no_memory : (text : List ℕ) → ¬ (IsMemory (of_io (record { kind = Other; text = text })))
+other_is_no_memory text (fault, e, kind) = cc
+
+is_not_bytes : IsNotBytes of_not_bytes
+is_not_bytes = refl
+
+size_is_bytes : (size : ℕ) → ¬ (IsNotBytes (of_size size))
+size_is_bytes size h = cc
+
+-- ---- texts
+
+eof_text : HasStandardText (record { kind = UnexpectedEof; text = codes "failed to fill whole buffer" })
+eof_text = refl
+
+full_text : HasStandardText (record { kind = WriteZero; text = codes "failed to write whole buffer" })
+full_text = refl
+
+memory_text : HasStandardText (record { kind = OutOfMemory; text = codes "out of memory" })
+memory_text = refl
+
+any_text : (text : List ℕ) → HasStandardText (record { kind = Other; text = text })
+any_text text = tt
+
+size_text : refusal_text (of_size 256) ≡ codes "Invalid multihash size 256."
+unfolding digits
+size_text = refl
+
+insufficient_text : refusal_text (of_varint insufficient) ≡ codes "not enough input bytes"
+insufficient_text = refl
+
+overflow_text : refusal_text (of_varint overflow) ≡ codes "input bytes exceed maximum"
+overflow_text = refl
+
+not_minimal_text : refusal_text (of_varint not_minimal) ≡ codes "encoding is not minimal"
+not_minimal_text = refl
+
+not_bytes_text : refusal_text of_not_bytes ≡ codes "Failed to deserialize Multihash"
+not_bytes_text = refl
+
+passed_on_text : (fault : Fault) → refusal_text (of_io fault) ≡ fault.text
+passed_on_text fault = refl

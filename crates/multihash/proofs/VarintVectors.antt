@@ -1,0 +1,161 @@
+-- Varints of known numbers, and bytes that are no varint.
+use Rattle.std.proofs.Common.{◌≡◌, ℕ, ltb, Bool, true, List, [], ◌∷◌, ◌++◌, refl, sym, ap, arith, append-nil, get_or}
+use Rattle.std.specs.List.{All, list_all}
+use Rattle.std.proofs.lemmas.Bool.{ltb-true, and_parts}
+use Rattle.std.proofs.lemmas.List.Elements.{All-nil, All-cons}
+use Rattle.multihash.specs.Bytes.{place_value}
+use Rattle.multihash.specs.Varint.{IsMarked, marked, varint_limit, IsVarint, VarintFault, insufficient, not_minimal, HasFaultyFront}
+use Rattle.multihash.proofs.BytesVectors.{all_below}
+use Rattle.multihash.proofs.VarintLemmas.{number, fault, front_unique, varint_unique}
+
+-- every number in a literal list has 128 added
+pub all_marked : (xs : List ℕ) → list_all (λ x. ltb 127 x) xs ≡ true → All IsMarked xs
+all_marked [] e = All-nil IsMarked
+all_marked (x ∷ xs) e =
+    let parts = and_parts (ltb 127 x) (list_all (λ y. ltb 127 y) xs) e in
+    All-cons IsMarked x xs (ltb-true 127 x parts.0) (all_marked xs parts.1)
+
+ends_well : List ℕ → ℕ → Bool
+ends_well [] last = true
+ends_well (d ∷ front) last = ltb 0 last
+
+ends_well-minimal : (front : List ℕ) (last : ℕ) → ends_well front last ≡ true → last ≡ 0 → front ≡ []
+unfolding ends_well
+ends_well-minimal [] last e z = refl
+ends_well-minimal (d ∷ front) last e z = absurd (omega (arith, ltb-true 0 last e, z))
+
+-- a varint in literal digits, each fact by computing
+varint_of : (front : List ℕ) (last n : ℕ) → list_all (λ d. ltb d 128) (front ++ last ∷ []) ≡ true → ends_well front last ≡ true
+    → place_value 128 (front ++ last ∷ []) ≡ n → ltb n varint_limit ≡ true → IsVarint n (marked front ++ last ∷ [])
+varint_of front last n digits minimal value range = record {
+  front = front;
+  last = last;
+  digits = all_below 128 (front ++ last ∷ []) digits;
+  minimal = ends_well-minimal front last minimal;
+  value = value;
+  in_range = ltb-true n varint_limit range;
+  spelled = refl;
+}
+
+pub varint_0 : IsVarint 0 (0x00 ∷ [])
+unfolding place_value ends_well
+varint_0 = varint_of [] 0x00 0 refl refl refl refl
+
+pub varint_1 : IsVarint 1 (0x01 ∷ [])
+unfolding place_value ends_well
+varint_1 = varint_of [] 0x01 1 refl refl refl refl
+
+pub varint_2 : IsVarint 2 (0x02 ∷ [])
+unfolding place_value ends_well
+varint_2 = varint_of [] 0x02 2 refl refl refl refl
+
+pub varint_127 : IsVarint 127 (0x7f ∷ [])
+unfolding place_value ends_well
+varint_127 = varint_of [] 0x7f 127 refl refl refl refl
+
+pub varint_128 : IsVarint 128 (0x80 ∷ 0x01 ∷ [])
+unfolding place_value ends_well
+varint_128 = varint_of (0x00 ∷ []) 0x01 128 refl refl refl refl
+
+pub varint_255 : IsVarint 255 (0xff ∷ 0x01 ∷ [])
+unfolding place_value ends_well
+varint_255 = varint_of (0x7f ∷ []) 0x01 255 refl refl refl refl
+
+pub varint_256 : IsVarint 256 (0x80 ∷ 0x02 ∷ [])
+unfolding place_value ends_well
+varint_256 = varint_of (0x00 ∷ []) 0x02 256 refl refl refl refl
+
+pub varint_300 : IsVarint 300 (0xac ∷ 0x02 ∷ [])
+unfolding place_value ends_well
+varint_300 = varint_of (0x2c ∷ []) 0x02 300 refl refl refl refl
+
+pub varint_16383 : IsVarint 16383 (0xff ∷ 0x7f ∷ [])
+unfolding place_value ends_well
+varint_16383 = varint_of (0x7f ∷ []) 0x7f 16383 refl refl refl refl
+
+pub varint_16384 : IsVarint 16384 (0x80 ∷ 0x80 ∷ 0x01 ∷ [])
+unfolding place_value ends_well
+varint_16384 = varint_of (0x00 ∷ 0x00 ∷ []) 0x01 16384 refl refl refl refl
+
+pub varint_2097151 : IsVarint 2097151 (0xff ∷ 0xff ∷ 0x7f ∷ [])
+unfolding place_value ends_well
+varint_2097151 = varint_of (0x7f ∷ 0x7f ∷ []) 0x7f 2097151 refl refl refl refl
+
+pub varint_2097152 : IsVarint 2097152 (0x80 ∷ 0x80 ∷ 0x80 ∷ 0x01 ∷ [])
+unfolding place_value ends_well
+varint_2097152 = varint_of (0x00 ∷ 0x00 ∷ 0x00 ∷ []) 0x01 2097152 refl refl refl refl
+
+pub varint_72057594037927936 : IsVarint 72057594037927936 (0x80 ∷ 0x80 ∷ 0x80 ∷ 0x80 ∷ 0x80 ∷ 0x80 ∷ 0x80 ∷ 0x80 ∷ 0x01 ∷ [])
+unfolding place_value ends_well
+varint_72057594037927936 = varint_of (0x00 ∷ 0x00 ∷ 0x00 ∷ 0x00 ∷ 0x00 ∷ 0x00 ∷ 0x00 ∷ 0x00 ∷ []) 0x01 72057594037927936 refl refl refl refl
+
+pub varint_9223372036854775807 : IsVarint 9223372036854775807 (0xff ∷ 0xff ∷ 0xff ∷ 0xff ∷ 0xff ∷ 0xff ∷ 0xff ∷ 0xff ∷ 0x7f ∷ [])
+unfolding place_value ends_well
+varint_9223372036854775807 = varint_of (0x7f ∷ 0x7f ∷ 0x7f ∷ 0x7f ∷ 0x7f ∷ 0x7f ∷ 0x7f ∷ 0x7f ∷ []) 0x7f 9223372036854775807 refl refl refl refl
+
+pub varint_9223372036854775808 : IsVarint 9223372036854775808 (0x80 ∷ 0x80 ∷ 0x80 ∷ 0x80 ∷ 0x80 ∷ 0x80 ∷ 0x80 ∷ 0x80 ∷ 0x80 ∷ 0x01 ∷ [])
+unfolding place_value ends_well
+varint_9223372036854775808 = varint_of (0x00 ∷ 0x00 ∷ 0x00 ∷ 0x00 ∷ 0x00 ∷ 0x00 ∷ 0x00 ∷ 0x00 ∷ 0x00 ∷ []) 0x01 9223372036854775808 refl refl refl refl
+
+pub varint_18446744073709551615 : IsVarint 18446744073709551615 (0xff ∷ 0xff ∷ 0xff ∷ 0xff ∷ 0xff ∷ 0xff ∷ 0xff ∷ 0xff ∷ 0xff ∷ 0x01 ∷ [])
+unfolding place_value ends_well
+varint_18446744073709551615 = varint_of (0x7f ∷ 0x7f ∷ 0x7f ∷ 0x7f ∷ 0x7f ∷ 0x7f ∷ 0x7f ∷ 0x7f ∷ 0x7f ∷ []) 0x01 18446744073709551615 refl refl refl refl
+
+pub varint_5 : IsVarint 5 (0x05 ∷ [])
+unfolding place_value ends_well
+varint_5 = varint_of [] 0x05 5 refl refl refl refl
+
+pub varint_133 : IsVarint 133 (0x85 ∷ 0x01 ∷ [])
+unfolding place_value ends_well
+varint_133 = varint_of (0x05 ∷ []) 0x01 133 refl refl refl refl
+
+pub varint_4 : IsVarint 4 (0x04 ∷ [])
+unfolding place_value ends_well
+varint_4 = varint_of [] 0x04 4 refl refl refl refl
+
+-- ---- what is no varint
+
+-- bytes that have a faulty front are no varint
+not_with_fault : (n : ℕ) (bytes : List ℕ) (f : VarintFault) → HasFaultyFront f bytes → ¬ (IsVarint n bytes)
+not_with_fault n bytes f h v =
+    let same : number n [] ≡ fault f = front_unique bytes (number n []) (fault f) (bytes, v, sym (append-nil bytes)) h in
+    cc
+
+-- bytes that are a varint of one number are none of another
+not_another : (m n : ℕ) (bytes : List ℕ) → IsVarint n bytes → (m ≡ n → ⊥) → ¬ (IsVarint m bytes)
+not_another m n bytes v other w =
+    let same : number m [] ≡ number n [] =
+    front_unique bytes (number m []) (number n []) (bytes, w, sym (append-nil bytes)) (bytes, v, sym (append-nil bytes)) in
+    other (cc)
+
+no_varint_of_nothing : (n : ℕ) → ¬ (IsVarint n [])
+no_varint_of_nothing n = not_with_fault n [] insufficient (record { few = omega arith; all_marked = all_marked [] refl })
+
+no_open_varint : (n : ℕ) → ¬ (IsVarint n (0x80 ∷ []))
+no_open_varint n = not_with_fault n (0x80 ∷ []) insufficient (record { few = omega arith; all_marked = all_marked (0x80 ∷ []) refl })
+
+no_padded_zero : (n : ℕ) → ¬ (IsVarint n (0x80 ∷ 0x00 ∷ []))
+no_padded_zero n = not_with_fault n (0x80 ∷ 0x00 ∷ []) not_minimal (record { front = 0x80 ∷ []; rest = []; all_marked = all_marked (0x80 ∷ []) refl; some = omega arith; few = omega arith; cut = refl })
+
+no_padded_300 : (n : ℕ) → ¬ (IsVarint n (0xac ∷ 0x82 ∷ 0x00 ∷ []))
+no_padded_300 n = not_with_fault n (0xac ∷ 0x82 ∷ 0x00 ∷ []) not_minimal (record { front = 0xac ∷ 0x82 ∷ []; rest = []; all_marked = all_marked (0xac ∷ 0x82 ∷ []) refl; some = omega arith; few = omega arith; cut = refl })
+
+-- the first number that has none
+no_varint_of_limit : (bytes : List ℕ) → ¬ (IsVarint varint_limit bytes)
+no_varint_of_limit bytes v = omega (arith, v.in_range)
+
+no_varint_of_18446744073709551616 : (bytes : List ℕ) → ¬ (IsVarint 18446744073709551616 bytes)
+no_varint_of_18446744073709551616 bytes v = omega (arith, v.in_range)
+
+no_two_varints : (n : ℕ) → ¬ (IsVarint n (0x01 ∷ 0x01 ∷ []))
+no_two_varints n v =
+    let same : number n [] ≡ number 1 (0x01 ∷ []) =
+    front_unique (0x01 ∷ 0x01 ∷ []) (number n []) (number 1 (0x01 ∷ [])) (0x01 ∷ 0x01 ∷ [], v, refl) (0x01 ∷ [], varint_1, refl) in
+    cc
+
+highest_last : ¬ (IsVarint 300 (0x02 ∷ 0xac ∷ []))
+highest_last v =
+    omega (arith, ap (λ (z : List ℕ). get_or z 0 0) (varint_unique 300 (0x02 ∷ 0xac ∷ []) (0xac ∷ 0x02 ∷ []) v varint_300))
+
+not_128 : ¬ (IsVarint 128 (0xff ∷ 0x01 ∷ []))
+not_128 = not_another 128 255 (0xff ∷ 0x01 ∷ []) varint_255 (λ e. omega (arith, e))
