@@ -1,5 +1,5 @@
 -- Where `read` stops, and what each of its clauses says there.
-use Rattle.std.proofs.Common.{◌≡◌, ◌<◌, ◌⊎◌, ℕ, List, [], ◌++◌, Option, None, Some, Result, Ok, Err, IfSome, IfOk, IfErr, length, refl, sym, ap, subst, inl, inr, arith, append-nil}
+use Rattle.std.proofs.Common.{◌≡◌, ◌<◌, ◌⊎◌, ℕ, List, [], ◌++◌, Option, None, Some, Result, Ok, Err, IfSome, IfOk, IfErr, length, refl, sym, ap, ◌∙◌, subst, inl, inr, arith, append-nil}
 use Rattle.std.specs.Result.{IsErrAnd}
 use Rattle.multihash.specs.Bytes.{IsBeginning, IsProperBeginning}
 use Rattle.multihash.specs.Pair.{Pair, FitsBuffer}
@@ -245,6 +245,27 @@ answered S taken old new before after m unrisen encodes fits takes = record {
 }
 
 -- ---- the whole input
+
+-- a refusal of the verdict is one of the whole verdict
+whole_refused : (S : ℕ) (x : List ℕ) (e : Refusal) (v : Verdict) → HasVerdict S x v → IsRefusal e v
+    → (w : Verdict) × HasWholeVerdict S x w × IsRefusal e w
+whole_refused S x e (accepted p) has given = absurd given
+whole_refused S x e (invalid_size size) has given = (invalid_size size, inl has, given)
+whole_refused S x e (faulty fault) has given = (faulty fault, has, given)
+whole_refused S x e unexpected_eof has given = (unexpected_eof, has, given)
+
+pub whole_passed_on : (S : ℕ) (x : List ℕ) (r : Result Fields Refusal) (e : Refusal) (v : Verdict) → IsErrAnd r (λ y. y ≡ e) → HasVerdict S x v
+    → IsRefusal e v → (w : Verdict) × HasWholeVerdict S x w × Answers r w
+whole_passed_on S x (Ok m) e v given has refusal = absurd given
+whole_passed_on S x (Err y) e v given has refusal =
+    whole_refused S x y v has (subst (λ (z : Refusal). IsRefusal z v) (sym given) refusal)
+
+-- a pair with nothing behind it
+pub whole_pair : (S : ℕ) (x encoding : List ℕ) (p : Pair) (v : Verdict) → HasVerdict S x v → v ≡ accepted p → IsEncoding p encoding
+    → x ≡ encoding ++ [] → HasWholeVerdict S x (accepted p)
+whole_pair S x encoding p v has same encodes cut =
+    let mine : HasVerdict S x (accepted p) = subst (λ w. HasVerdict S x w) same has in
+    (subst (IsEncoding p) (sym (cut ∙ append-nil encoding)) encodes, mine.2)
 
 -- a pair with some bytes behind it
 pub whole_left_over : (S : ℕ) (x encoding left : List ℕ) (p : Pair) (v : Verdict) → HasVerdict S x v → v ≡ accepted p → IsEncoding p encoding

@@ -5,6 +5,7 @@ pub mod Encoding
 pub mod Fault
 pub mod Joined
 pub mod Json
+pub mod Members
 pub mod Order
 pub mod Pair
 pub mod Places

@@ -70,6 +70,14 @@ impl Error {
         }
     }
 
+    pub(crate) fn not_bytes() -> Self
+        ensures { IsNotBytes result }
+    {
+        Error {
+            kind: Kind::NotBytes,
+        }
+    }
+
     /// The size that was refused: that of a digest longer than the buffer holds, or the number of
     /// bytes that were left over.
     pub fn invalid_size(&self) -> Option<u64>

@@ -6,6 +6,7 @@
 #![tactic(auto)]
 
 mod error;
+mod json;
 pub mod laws;
 mod multihash;
 pub mod no_std_io;
@@ -14,3 +15,9 @@ mod varint;
 
 pub use crate::error::Error;
 pub use crate::multihash::Multihash;
+
+/// What the library's calls answer.
+pub type Result<T> = std::result::Result<T, Error>;
+
+/// The same type under its older name.
+pub type MultihashGeneric<const N: usize> = Multihash<N>;

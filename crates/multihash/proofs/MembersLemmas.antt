@@ -1,0 +1,102 @@
+-- The members of a byte array, and the bytes that they are.
+use Rattle.std.proofs.Common.{◌≡◌, ℕ, suc, ◌<◌, List, [], ◌∷◌, map, true, false, length, take, set, is_some, Option, Some, None, refl, sym, ap, ◌∙◌, arith, inl, inr}
+use Rattle.std.specs.List.{list_all}
+use Rattle.std.proofs.lemmas.Bool.{false≢true, and_parts, cases_lt, lt-ltb, le-ltb}
+use Rattle.std.proofs.lemmas.List.Elements.{All-nil, All-cons, All-head, All-tail}
+use Rattle.serde_json.specs.Data.{unsigned, negative, float, Data, null, boolean, number, string, array, object, Items}
+use Rattle.serde_json.specs.Find.{as_array}
+use Rattle.serde_json.specs.View.{view, items_of, items_view}
+use Rattle.serde_json.specs.declared.value.Value.{Value}
+use Rattle.multihash.specs.Bytes.{IsBytes}
+use Rattle.multihash.specs.Json.{IsByteArray}
+use Rattle.multihash.specs.Members.{byte_of_data, member_bytes, is_byte}
+
+abbrev numbers : List ℕ → Items
+numbers ns = items_of (map (λ n. number (unsigned n)) ns)
+
+some_value : (o : Option ℕ) → is_some o ≡ true → (b : ℕ) × (o ≡ Some b)
+some_value None e = absurd (false≢true e)
+some_value (Some b) e = (b, refl)
+
+-- a byte is held as its number
+byte_data : (d : Data) (b : ℕ) → byte_of_data d ≡ Some b → (d ≡ number (unsigned b)) × (b < 256)
+byte_data null b e = cc
+byte_data (boolean _) b e = cc
+byte_data (number (unsigned n)) b e =
+    elim (cases_lt n 256) [
+      | inl small ↦
+          let found : Some n ≡ Some b = sym (rw (lt-ltb n 256 small) refl) ∙ e in
+          let same : n ≡ b = cc in (ap (λ m. number (unsigned m)) same, omega arith)
+      | inr large ↦ let none : None ≡ Some b = sym (rw (le-ltb n 256 large) refl) ∙ e in cc
+    ]
+byte_data (number (negative _)) b e = cc
+byte_data (number (float _)) b e = cc
+byte_data (string _) b e = cc
+byte_data (array _) b e = cc
+byte_data (object _) b e = cc
+
+byte_found : (b : ℕ) → b < 256 → byte_of_data (number (unsigned b)) ≡ Some b
+byte_found b small = rw (lt-ltb b 256 small) refl
+
+-- members that are all bytes are those of their array
+pub all_bytes : (vs : List Value) → list_all is_byte vs ≡ true → (items_view vs ≡ numbers (member_bytes vs)) × IsBytes (member_bytes vs)
+all_bytes [] e = (refl, All-nil (λ b. b < 256))
+all_bytes (v ∷ vs) e =
+    let parts = and_parts (is_byte v) (list_all is_byte vs) e in
+    let found = some_value (byte_of_data (view v)) parts.0 in
+    let held = byte_data (view v) found.0 found.1 in
+    let others = all_bytes vs parts.1 in
+    rw found.1 (cc (held.0, others.0), All-cons (λ b. b < 256) found.0 (member_bytes vs) held.1 others.1)
+
+-- the members of a byte array are all bytes, and those
+pub bytes_all : (vs : List Value) (bytes : List ℕ) → items_view vs ≡ numbers bytes → IsBytes bytes
+    → (list_all is_byte vs ≡ true) × (member_bytes vs ≡ bytes)
+bytes_all [] [] e h = (refl, refl)
+bytes_all [] (b ∷ bytes) e h = cc
+bytes_all (v ∷ vs) [] e h = cc
+bytes_all (v ∷ vs) (b ∷ bytes) e h =
+    let heads : view v ≡ number (unsigned b) = cc in
+    let tails : items_view vs ≡ numbers bytes = cc in
+    let found : byte_of_data (view v) ≡ Some b = ap byte_of_data heads ∙ byte_found b (All-head (λ x. x < 256) b bytes h) in
+    let others = bytes_all vs bytes tails (All-tail (λ x. x < 256) b bytes h) in
+    rw found (others.0, ap (λ l. b ∷ l) others.1)
+
+array_data : (d : Data) (items : Items) → as_array d ≡ Some items → d ≡ array items
+array_data null items e = cc
+array_data (boolean _) items e = cc
+array_data (number _) items e = cc
+array_data (string _) items e = cc
+array_data (array found) items e = let same : found ≡ items = cc in ap array same
+array_data (object _) items e = cc
+
+pub byte_array : (d : Data) (vs : List Value) → as_array d ≡ Some (items_view vs) → list_all is_byte vs ≡ true → IsByteArray d (member_bytes vs)
+byte_array d vs e all =
+    let found = all_bytes vs all in record { array = array_data d (items_view vs) e ∙ ap array found.0; are_bytes = found.1 }
+
+pub no_byte_array : (d : Data) (vs : List Value) (bytes : List ℕ) → as_array d ≡ Some (items_view vs) → list_all is_byte vs ≡ false
+    → ¬ (IsByteArray d bytes)
+no_byte_array d vs bytes e some h =
+    let same : Some (items_view vs) ≡ Some (numbers bytes) = sym e ∙ ap as_array h.array in
+    let items : items_view vs ≡ numbers bytes = cc in
+    false≢true (sym some ∙ (bytes_all vs bytes items h.are_bytes).0)
+
+-- the first member's byte, and the others'
+pub first_byte : (v : Value) (vs : List Value) (b : ℕ) → byte_of_data (view v) ≡ Some b → member_bytes (v ∷ vs) ≡ b ∷ member_bytes vs
+first_byte v vs b found = rw found refl
+
+pub take_first : (buf : List ℕ) (b : ℕ) → 0 < length buf → take 1 (set buf 0 b) ≡ b ∷ []
+take_first [] b some = absurd (omega arith)
+take_first (x ∷ buf) b some = refl
+
+-- as many bytes as members
+pub length-member_bytes : (vs : List Value) → list_all is_byte vs ≡ true → length (member_bytes vs) ≡ length vs
+length-member_bytes [] e = refl
+length-member_bytes (v ∷ vs) e =
+    let parts = and_parts (is_byte v) (list_all is_byte vs) e in
+    let found = some_value (byte_of_data (view v)) parts.0 in
+    rw found.1 (ap suc (length-member_bytes vs parts.1))
+
+-- no member is left where no byte is
+pub no_member_bytes : (vs : List Value) → list_all is_byte vs ≡ true → length vs ≡ 0 → member_bytes vs ≡ []
+no_member_bytes [] e none = refl
+no_member_bytes (v ∷ vs) e none = absurd (omega arith)

@@ -1,0 +1,19 @@
+use Rattle.std.proofs.Common.{◌≡◌, Some, true, false, sym, ap, ◌∙◌}
+use Rattle.std.specs.List.{list_all}
+use Rattle.serde_json.specs.View.{view, items_view}
+use Rattle.multihash.specs.Members.{is_byte}
+use Rattle.multihash.proofs.MembersLemmas.{byte_array, no_byte_array}
+use Rattle.multihash.proofs.json.byte_members.Goals as goal
+
+pub returns-then-are_bytes : goal.returns-then-are_bytes
+returns-then-are_bytes c =
+    let items = c.as_slice.result.now in
+    let same = c.as_slice.ensures.value in
+    let all : list_all is_byte items ≡ true = ap (list_all is_byte) (same ∙ sym c.deref.ensures.value) ∙ sym c.if-are_bytes.ensures in
+    (all, byte_array (view c.args.value.now) items (sym c.in_ok-members.ensures ∙ ap (λ l. Some (items_view l)) (sym same)) all)
+
+pub returns-else-are_bytes : goal.returns-else-are_bytes
+returns-else-are_bytes c bytes =
+    let none : list_all is_byte c.in_ok-members.members.now.items ≡ false =
+    ap (list_all is_byte) (sym c.deref.ensures.value) ∙ sym c.if-are_bytes.ensures in
+    no_byte_array (view c.args.value.now) c.in_ok-members.members.now.items bytes (sym c.in_ok-members.ensures) none

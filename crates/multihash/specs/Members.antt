@@ -1,0 +1,37 @@
+-- The bytes that the members of a JSON array are.
+use Rattle.std.specs.Prelude.{ℕ, List, [], ◌∷◌, map, Option, Some, None, Bool, nat_lt, is_some, if◌then◌else◌}
+use Rattle.serde_json.specs.Data.{Num, unsigned, negative, float, Data, null, boolean, number, string, array, object}
+use Rattle.serde_json.specs.View.{view}
+use Rattle.serde_json.specs.declared.value.Value.{Value}
+
+-- a number that is held as a whole number from 0 to 255
+abbrev pub byte_of_number : Num → Option ℕ
+byte_of_number (unsigned n) = if nat_lt n 256 then Some n else None
+byte_of_number (negative _) = None
+byte_of_number (float _) = None
+
+-- the byte that a value is, where it is one
+abbrev pub byte_of_data : Data → Option ℕ
+byte_of_data null = None
+byte_of_data (boolean _) = None
+byte_of_data (number n) = byte_of_number n
+byte_of_data (string _) = None
+byte_of_data (array _) = None
+byte_of_data (object _) = None
+
+abbrev pub byte_then : Option ℕ → List ℕ → List ℕ
+byte_then None bytes = []
+byte_then (Some byte) bytes = byte ∷ bytes
+
+-- the bytes of the values up to the first that is none
+abbrev pub leading_bytes : List Data → List ℕ
+leading_bytes [] = []
+leading_bytes (d ∷ ds) = byte_then (byte_of_data d) (leading_bytes ds)
+
+-- the same of members as the program holds them
+abbrev pub member_bytes : List Value → List ℕ
+member_bytes members = leading_bytes (map view members)
+
+-- whether a member is a byte
+abbrev pub is_byte : Value → Bool
+is_byte member = is_some (byte_of_data (view member))

@@ -1,0 +1,109 @@
+//! The JSON form: the encoding's bytes as an array of whole numbers.
+ghost use Rattle.std.specs.Prelude.{◌≡◌, ◌<◌, ◌≤◌, ℕ, List, [], ◌∷◌, length, take, drop, Some, IfOk, IfErr, OnErr, IsErrAnd, MatchOption, true};
+ghost use Rattle.std.specs.List.{list_all};
+ghost use Rattle.serde_json.specs.View.{view};
+ghost use Rattle.multihash.specs.Json.{IsByteArray, IsJsonList};
+ghost use Rattle.multihash.specs.Members.{byte_of_data, member_bytes, is_byte};
+ghost use Rattle.multihash.specs.Verdict.{Verdict, HasWholeVerdict};
+ghost use Rattle.multihash.specs.Refusal.{IsNotBytes, IsMemory};
+ghost use Rattle.multihash.specs.Answer.{pair_of, Answers};
+
+use crate::no_std_io::{self, Read};
+use crate::{Error, Multihash};
+use serde_json::Value;
+use std::alloc::Global;
+
+impl<const S: usize> Multihash<S> {
+    /// Makes the array of the encoding's bytes as whole numbers, in order: at most 267 members.
+    ///
+    /// # Errors
+    ///
+    /// [`Error::io`] with want of memory.
+    pub fn to_value(&self, alloc: Global) -> Result<Value, Error>
+        ensures ok { IfOk result (λ value. IsJsonList (pair_of self.now) (view value)) }
+        ensures memory { IfErr result IsMemory }
+    {
+        let bytes = self.to_bytes(alloc)?;
+        let mut members = Vec::with_capacity(alloc, bytes.len())?;
+        for byte in &bytes {
+            members.push(Value::from(*byte)).unwrap();
+        }
+        Ok(Value::Array(members))
+    }
+
+    /// Reads the multihash whose encoding an array of byte numbers lists, as [`Multihash::from_bytes`]
+    /// reads it from the bytes. All members are looked at first, and no memory is asked for.
+    ///
+    /// # Errors
+    ///
+    /// [`Error::is_not_bytes`] for any value but an array whose members are all held as whole numbers
+    /// from 0 to 255 (`1.0` is not); then those of [`Multihash::from_bytes`].
+    pub fn from_value(value: &Value) -> Result<Self, Error>
+        ensures verdict { (bytes : List ℕ) → IsByteArray (view value.now) bytes →
+            (v : Verdict) × HasWholeVerdict S bytes v × Answers result v }
+        ensures not_bytes { ((bytes : List ℕ) → ¬ (IsByteArray (view value.now) bytes)) →
+            IsErrAnd result IsNotBytes }
+    {
+        let Some(members) = byte_members(value) else {
+            return Err(Error::not_bytes());
+        };
+        let mut left = ByteMembers { left: members };
+        let multihash = Self::read(&mut left)?;
+        if !left.left.is_empty() {
+            return Err(Error::from_size(left.left.len() as u64));
+        }
+        Ok(multihash)
+    }
+}
+
+// The members of an array of byte numbers, or none where the value is another.
+fn byte_members(value: &Value) -> Option<&[Value]>
+    ensures { MatchOption result ((bytes : List ℕ) → ¬ (IsByteArray (view value.now) bytes))
+        (λ members. (list_all is_byte members.now ≡ true)
+            × IsByteArray (view value.now) (member_bytes members.now)) }
+{
+    let members = value.as_array()?;
+    if are_bytes(members) {
+        Some(members.as_slice())
+    } else {
+        None
+    }
+}
+
+fn are_bytes(members: &[Value]) -> bool
+    ensures { result ≡ list_all is_byte members.now }
+{
+    members.iter().all(|member| byte_of(member).is_some())
+}
+
+// The byte that a member is, where it is a whole number from 0 to 255.
+fn byte_of(member: &Value) -> Option<u8>
+    ensures { result ≡ byte_of_data (view member.now) }
+{
+    u8::try_from(member.as_u64()?).ok()
+}
+
+// Reads the bytes that the members of an array of byte numbers are, one a call.
+#[derive(Drop)]
+struct ByteMembers<'a> {
+    left: &'a [Value],
+    ghost are_bytes: { list_all is_byte left.now ≡ true },
+}
+
+impl Read for ByteMembers<'_> {
+    ghost rest = { λ m. Some (member_bytes m.left.now) };
+
+    ghost failures = { λ _. 0 };
+
+    fn read(&mut self, buf: &mut [u8]) -> Result<usize, no_std_io::Error> {
+        let Some((first, left)) = self.left.split_first() else {
+            return Ok(0);
+        };
+        let (Some(byte), false) = (byte_of(first), buf.is_empty()) else {
+            return Ok(0);
+        };
+        buf[0] = byte;
+        self.left = left;
+        Ok(1)
+    }
+}
