@@ -1,11 +1,11 @@
 -- Joined encodings can be taken apart in one way only.
-use Rattle.std.proofs.Common.{◌≡◌, ℕ, ◌<◌, List, [], ◌∷◌, ◌++◌, length, refl, sym, ap, ◌∙◌, arith, length-append, append_assoc}
+use Rattle.std.proofs.Common.{◌≡◌, ℕ, ◌<◌, List, [], ◌∷◌, ◌++◌, length, refl, sym, ap, ◌∙◌, arith, length-append, append_assoc, append-nil}
 use Rattle.std.specs.List.{concat, AllZip}
 use Rattle.multihash.specs.Pair.{Pair}
 use Rattle.multihash.specs.Varint.{marked}
 use Rattle.multihash.specs.Encoding.{IsEncoding}
 use Rattle.multihash.specs.Joined.{AreJoined}
-use Rattle.multihash.proofs.VerdictLemmas.{encoding_unique}
+use Rattle.multihash.proofs.VerdictLemmas.{encoding_unique, encoding_same}
 
 -- as many encodings in front of one input are of the same pairs
 each_unique : (ps qs : List Pair) (es fs : List (List ℕ)) (r s : List ℕ) → AllZip IsEncoding ps es → AllZip IsEncoding qs fs
@@ -61,3 +61,62 @@ whole_unique (p ∷ ps) (q ∷ qs) (x ∷ es) (y ∷ fs) h k e =
 
 pub joined_whole : (ps qs : List Pair) (bytes : List ℕ) → AreJoined ps bytes → AreJoined qs bytes → ps ≡ qs
 joined_whole ps qs bytes h k = whole_unique ps qs h.encodings k.encodings h.each k.each (sym h.joined ∙ k.joined)
+
+-- ---- one more pair
+
+each_push : (ps : List Pair) (es : List (List ℕ)) (p : Pair) (e : List ℕ) → AllZip IsEncoding ps es → IsEncoding p e
+    → AllZip IsEncoding (ps ++ p ∷ []) (es ++ e ∷ [])
+each_push [] [] p e h k = (k, tt)
+each_push [] (x ∷ es) p e h k = absurd h
+each_push (q ∷ ps) [] p e h k = absurd h
+each_push (q ∷ ps) (x ∷ es) p e h k = (h.0, each_push ps es p e h.1 k)
+
+concat_push : (es : List (List ℕ)) (e : List ℕ) → concat (es ++ e ∷ []) ≡ concat es ++ e
+concat_push [] e = append-nil e
+concat_push (x ∷ es) e = ap (λ z. x ++ z) (concat_push es e) ∙ sym (append_assoc x (concat es) e)
+
+pub AreJoined-none : AreJoined [] []
+AreJoined-none = record { encodings = []; each = tt; joined = refl }
+
+pub AreJoined-push : (ps : List Pair) (p : Pair) (bytes e : List ℕ) → AreJoined ps bytes → IsEncoding p e → AreJoined (ps ++ p ∷ []) (bytes ++ e)
+AreJoined-push ps p bytes e h k = record {
+  encodings = h.encodings ++ e ∷ [];
+  each = each_push ps h.encodings p e h.each k;
+  joined = ap (λ z. z ++ e) h.joined ∙ sym (concat_push h.encodings e);
+}
+
+pub AreJoined-cons : (p : Pair) (ps : List Pair) (e bytes : List ℕ) → IsEncoding p e → AreJoined ps bytes → AreJoined (p ∷ ps) (e ++ bytes)
+AreJoined-cons p ps e bytes k h = record { encodings = e ∷ h.encodings; each = (k, h.each); joined = ap (λ z. e ++ z) h.joined }
+
+pub AreJoined-append : (ps qs : List Pair) (a b : List ℕ) → AreJoined ps a → AreJoined qs b → AreJoined (ps ++ qs) (a ++ b)
+AreJoined-append ps qs a b h k = joined ps h.encodings a h.each h.joined
+  where
+    joined : (ps : List Pair) (es : List (List ℕ)) (a : List ℕ) → AllZip IsEncoding ps es → a ≡ concat es → AreJoined (ps ++ qs) (a ++ b)
+    joined [] [] a h e = record { encodings = k.encodings; each = k.each; joined = ap (λ z. z ++ b) e ∙ k.joined }
+    joined [] (x ∷ es) a h e = absurd h
+    joined (p ∷ ps) [] a h e = absurd h
+    joined (p ∷ ps) (x ∷ es) a h e =
+        let others = joined ps es (concat es) h.1 refl in
+        record {
+          encodings = x ∷ others.encodings;
+          each = (h.0, others.each);
+          joined = ap (λ z. z ++ b) e ∙ append_assoc x (concat es) b ∙ ap (λ z. x ++ z) others.joined;
+        }
+
+-- the first of some pairs are joined at the front
+each_front : (ps qs : List Pair) (es fs : List (List ℕ)) → AllZip IsEncoding (ps ++ qs) es → AllZip IsEncoding ps fs
+    → (rest : List ℕ) × (concat es ≡ concat fs ++ rest)
+each_front [] qs es [] h k = (concat es, refl)
+each_front [] qs es (y ∷ fs) h k = absurd k
+each_front (p ∷ ps) qs [] fs h k = absurd h
+each_front (p ∷ ps) qs (x ∷ es) [] h k = absurd k
+each_front (p ∷ ps) qs (x ∷ es) (y ∷ fs) h k =
+    let first : x ≡ y = encoding_same p x y h.0 k.0 in
+    let others = each_front ps qs es fs h.1 k.1 in
+    (others.0, ap (λ z. z ++ concat es) first ∙ (ap (λ z. y ++ z) others.1 ∙ sym (append_assoc y (concat fs) others.0)))
+
+pub joined_front : (ps qs : List Pair) (all front : List ℕ) → AreJoined (ps ++ qs) all → AreJoined ps front
+    → (rest : List ℕ) × (all ≡ front ++ rest)
+joined_front ps qs all front h k =
+    let cut = each_front ps qs h.encodings k.encodings h.each k.each in
+    (cut.0, h.joined ∙ (cut.1 ∙ ap (λ z. z ++ cut.0) (sym k.joined)))

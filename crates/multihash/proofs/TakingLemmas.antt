@@ -214,6 +214,7 @@ pub record ReadMeets (S : ℕ) (old new : Option (List ℕ)) (before after : ℕ
   pub faults : CountsReaderFaults (IsReadRefusal S) before after r
   pub verdict : IfSome old (λ rest. after ≡ before → (v : Verdict) × HasVerdict S rest v × Answers r v)
   pub ok : IfOk r (λ m. (bytes : List ℕ) × IsEncoding (pair_of m) bytes × Takes old bytes new)
+  pub fits : IfOk r (λ m. FitsBuffer S (pair_of m))
   pub err : IfErr r (λ e. TakesAtRefusal S e old new)
   pub settled : IfSome old (λ rest. after ≡ before → (v : Verdict) → HasVerdict S rest v → ¬ (IsEarlyEnd v) → TakesShortestSettling S rest new)
   pub unsettled : IfSome old (λ rest. EndsOrFails S rest before after → TakesUnsettled S (Some rest) new)
@@ -225,6 +226,7 @@ refused S taken old new before after (Err x) e given takes stop = record {
   faults = stop_faults S x taken old new before after takes own;
   verdict = stop_verdict S x taken old new before after takes own;
   ok = tt;
+  fits = tt;
   err = stop_err S x taken old new before after takes own;
   settled = stop_settled S x taken old new before after takes own;
   unsettled = stop_unsettled S x taken old new before after takes own;
@@ -239,6 +241,7 @@ answered S taken old new before after m unrisen encodes fits takes = record {
   faults = unrisen;
   verdict = IfSome-weaker old (λ rest h _. (accepted (pair_of m), h, refl)) (pair_verdict S (pair_of m) taken encodes fits old new takes);
   ok = (taken, encodes, takes);
+  fits = fits;
   err = tt;
   settled = IfSome-weaker old (λ rest h _ v has stays. h) (pair_settled S (pair_of m) taken encodes fits old new takes);
   unsettled = pair_unsettled S (pair_of m) taken encodes fits old new before after unrisen takes;

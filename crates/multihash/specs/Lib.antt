@@ -14,6 +14,7 @@ pub mod Refusal
 pub mod Scale
 pub mod ScaleTaking
 pub mod Settling
+pub mod Streams
 pub mod Taking
 pub mod Varint
 pub mod Verdict

@@ -8,6 +8,7 @@
 mod error;
 mod json;
 pub mod laws;
+pub mod list;
 mod multihash;
 pub mod no_std_io;
 mod scale;

@@ -115,6 +115,7 @@ impl<const S: usize> Multihash<S> {
             (v : Verdict) × HasVerdict S rest v × Answers result v) }
         ensures ok { IfOk result (λ m. (bytes : List ℕ) × IsEncoding (pair_of m) bytes
             × Takes (R.rest r.old) bytes (R.rest r.new)) }
+        ensures fits { IfOk result (λ m. FitsBuffer S (pair_of m)) }
         ensures err { IfErr result (λ e. TakesAtRefusal S e (R.rest r.old) (R.rest r.new)) }
 
         // Where the verdict is no early end, exactly the shortest beginning that settles it was taken;

@@ -13,7 +13,7 @@ returns-in_err-code g c =
     let t = c.in_err-code.ensures.err in
     let met = refused S t.taken _ _ _ _ c.from_residual.result _ c.from_residual.ensures.1 t.takes
     (stops_in_code S _ _ _ _ _ t c.in_err-code.ensures.faults) in
-    record { faults = met.faults; verdict = met.verdict; ok = met.ok; err = met.err; settled = met.settled; unsettled = met.unsettled }
+    record { faults = met.faults; verdict = met.verdict; ok = met.ok; fits = met.fits; err = met.err; settled = met.settled; unsettled = met.unsettled }
 
 pub returns-in_err-read : goal.returns-in_err-read
 returns-in_err-read g c =
@@ -24,7 +24,7 @@ returns-in_err-read g c =
     let met = refused S (code.ok.0 ++ t.taken) _ _ _ _ c.from_residual-in_err-read.result _ c.from_residual-in_err-read.ensures.1
     (Takes-joined _ _ _ code.ok.0 t.taken _ refl code.ok.2 t.takes)
     (stops_in_size S _ code.ok.0 code.ok.1 _ _ _ _ _ t (rw same at c.in_err-read.ensures.faults)) in
-    record { faults = met.faults; verdict = met.verdict; ok = met.ok; err = met.err; settled = met.settled; unsettled = met.unsettled }
+    record { faults = met.faults; verdict = met.verdict; ok = met.ok; fits = met.fits; err = met.err; settled = met.settled; unsettled = met.unsettled }
 
 pub returns-in_err-size : goal.returns-in_err-size
 returns-in_err-size g c =
@@ -34,7 +34,7 @@ returns-in_err-size g c =
     let met = refused S (code.ok.0 ++ size.ok.0) _ _ _ _ c.from_residual-in_err-size.result _ c.from_residual-in_err-size.ensures.1
     (Takes-joined _ _ _ code.ok.0 size.ok.0 _ refl code.ok.2 size.ok.2)
     (stops_at_size S _ _ code.ok.0 size.ok.0 code.ok.1 size.ok.1 _ _ _ _ (size.faults ∙ code.faults) c.in_err-size.ensures.over c.in_err-size.ensures.err) in
-    record { faults = met.faults; verdict = met.verdict; ok = met.ok; err = met.err; settled = met.settled; unsettled = met.unsettled }
+    record { faults = met.faults; verdict = met.verdict; ok = met.ok; fits = met.fits; err = met.err; settled = met.settled; unsettled = met.unsettled }
 
 pub returns-in_err-read_exact : goal.returns-in_err-read_exact
 returns-in_err-read_exact g c =
@@ -50,7 +50,7 @@ returns-in_err-read_exact g c =
     (stops_in_digest S _ _ code.ok.0 size.ok.0 code.ok.1 size.ok.1 _ t.taken _ _ _ _ c.in_ok-size.ensures.fits
     (omega (arith, t.fewer, room)) t.takes (rw room at c.in_err-read_exact.ensures.eof)
     (rw (size.faults ∙ code.faults) at c.in_err-read_exact.ensures.faults)) in
-    record { faults = met.faults; verdict = met.verdict; ok = met.ok; err = met.err; settled = met.settled; unsettled = met.unsettled }
+    record { faults = met.faults; verdict = met.verdict; ok = met.ok; fits = met.fits; err = met.err; settled = met.settled; unsettled = met.unsettled }
 
 pub returns : goal.returns
 returns g c =
@@ -68,4 +68,4 @@ returns g c =
     (encodes_fields S _ _ code.ok.0 size.ok.0 code.ok.1 is_size buffer digest front long)
     (fields_fit S _ _ code.ok.0 size.ok.0 code.ok.1 is_size buffer digest front long within)
     (Takes-joined _ _ _ code.ok.0 (size.ok.0 ++ digest) _ refl code.ok.2 (Takes-joined _ _ _ size.ok.0 digest _ refl size.ok.2 c.in_ok-read_exact.ensures.takes)) in
-    record { faults = met.faults; verdict = met.verdict; ok = met.ok; err = met.err; settled = met.settled; unsettled = met.unsettled }
+    record { faults = met.faults; verdict = met.verdict; ok = met.ok; fits = met.fits; err = met.err; settled = met.settled; unsettled = met.unsettled }

@@ -1,0 +1,45 @@
+use Rattle.std.proofs.Common.{◌≡◌, ◌<◌, [], ◌∷◌, ◌++◌, length, map, refl, ap, ◌∙◌, inr, arith, rules}
+use Rattle.std.proofs.lemmas.List.{length-map}
+use Rattle.multihash.specs.Answer.{pair_of}
+use Rattle.multihash.proofs.ResultLemmas.{passed_on}
+use Rattle.multihash.proofs.StreamLemmas.{TakesPairs-none, TakesPairs-more}
+use Rattle.multihash.proofs.list.read_list.Goals as goal
+
+pub loop-init : goal.loop-init
+loop-init g c = record {
+  pairs = rw c.in_ok-list.ensures.items (TakesPairs-none g.row.S _);
+  count = ap length c.in_ok-list.ensures.items;
+  room = c.in_ok-list.ensures.capacity;
+  unfailed = refl;
+}
+
+pub returns-in_err-read-clause-err : goal.returns-in_err-read-clause-err
+returns-in_err-read-clause-err g c =
+    let before = c.loop.invariant in
+    let met = c.in_err-read.ensures in
+    let same = before.unfailed in
+    let fewer : length (map pair_of c.loop.list.items) < c.args.count = omega (arith, length-map c.loop.list.items pair_of, before.count, c.loop-test.true) in
+    passed_on c.from_residual-in_err-read.result _ _ c.from_residual-in_err-read.ensures.1
+    (inr (record {
+      pairs = map pair_of c.loop.list.items;
+      middle = _;
+      fewer = fewer;
+      good = before.pairs;
+      refused = met.err;
+      verdict = rw same at met.verdict;
+      settled = rw same at met.settled;
+      unsettled = rw same at met.unsettled;
+    }))
+
+pub loop-preserved : goal.loop-preserved
+loop-preserved g c =
+    let before = c.loop.invariant in
+    let met = c.in_ok-read.ensures in
+    let m = c.in_ok-read.field-0 in
+    let items : c.push.new.self.items ≡ c.loop.list.items ++ m ∷ [] = search rules in
+    record {
+      pairs = rw items (TakesPairs-more g.row.S c.loop.list.items m met.ok.0 _ _ _ before.pairs met.ok.1 met.fits met.ok.2);
+      count = search rules;
+      room = search rules;
+      unfailed = met.faults ∙ before.unfailed;
+    }
