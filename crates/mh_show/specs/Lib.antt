@@ -1,0 +1,2 @@
+pub mod ShowError
+pub mod Shown
