@@ -4,6 +4,9 @@ use Rattle.std.specs.List.{AllZip, flat_map}
 use Rattle.std.specs.Fmt.{decimal}
 use Rattle.hex.specs.Hex.{encode_lower, hex_digit_value}
 use Rattle.multihash.specs.Pair.{Pair}
+use Rattle.multihash.specs.Verdict.{Verdict, accepted, HasWholeVerdict}
+use Rattle.multihash.specs.Refusal.{Refusal}
+use Rattle.multihash.specs.Answer.{IsRefusal}
 
 -- a newline
 abbrev pub newline : List ℕ
@@ -38,3 +41,19 @@ pub record NamesBytes (line bytes : List ℕ) : Type 0 where
   pub digits : List (ℕ × ℕ)
   pub spelled : line ≡ flat_map (λ two. two.0 ∷ two.1 ∷ []) digits
   pub each : AllZip NamesByte digits bytes
+
+-- the text names the bytes of a pair, and the lines are those of the pair
+abbrev pub ShowsAs : List ℕ → List ℕ → Type 0
+ShowsAs text lines =
+    (line : List ℕ) × (bytes : List ℕ) × (p : Pair) × IsLine line text × NamesBytes line bytes
+    × HasWholeVerdict 64 bytes (accepted p) × (lines ≡ shown p)
+
+-- the text names no bytes
+abbrev pub NamesNone : List ℕ → Type 0
+NamesNone text = (line bytes : List ℕ) → IsLine line text → ¬ (NamesBytes line bytes)
+
+-- the text names bytes that are refused so
+abbrev pub IsRefusedAs : List ℕ → Refusal → Type 0
+IsRefusedAs text e =
+    (line : List ℕ) × (bytes : List ℕ) × (v : Verdict) × IsLine line text × NamesBytes line bytes
+    × HasWholeVerdict 64 bytes v × IsRefusal e v

@@ -1,6 +1,8 @@
 //! The whole program, over any input and outputs.
-ghost use Rattle.std.specs.Prelude.{◌≡◌, ℕ, ◌≤◌, ◌<◌, List, length, take, IfOk, IfErr, OnOk, OnErr, Some};
+ghost use Rattle.std.specs.Prelude.{◌≡◌, ℕ, ◌≤◌, ◌<◌, ◌⊎◌, List, length, take, codes, IfOk, IfErr, OnOk, OnErr};
 ghost use Rattle.std.specs.Io.KnownBytes.{Appends, Consumes, IsAtEnd};
+ghost use Rattle.mh_show.specs.Shown.{ShowsAs};
+ghost use Rattle.mh_show.specs.Run.{ReadsWhole, AppendsPart, TriesToAppend, IsCause, error_line, run_error_text};
 
 use crate::show::{ShowError, show};
 use std::alloc::{AllocError, Global};
@@ -19,6 +21,13 @@ enum RunError {
 }
 
 impl fmt::Display for RunError {
+    ghost use Rattle.std.specs.Prelude.{Some};
+    ghost use Rattle.mh_show.specs.Run.{run_error_text};
+
+    ghost output = { λ e. Some (run_error_text e) };
+
+    ghost styled_output = { λ e _. Some (run_error_text e) };
+
     fn fmt<W: fmt::Write>(&self, f: &mut fmt::Formatter<W>) -> fmt::Result {
         match self {
             RunError::Input => f.write_str("input not read"),
@@ -62,7 +71,18 @@ pub fn run<I: Read, O: Write, E: Write>(
     out: &mut O,
     err: &mut E,
 ) -> u8
-    ensures { result ≤ 1 }
+    ensures status { result ≤ 1 }
+
+    // Of an input and outputs that tell their bytes: at status 0 the lines were written, and else no
+    // more than a part of them, and nothing unless the fault was in writing them.
+    ensures shown { result ≡ 0 → (text lines : List ℕ) × ReadsWhole (I.remaining input.old) (I.remaining input.new) text
+        × ShowsAs text lines × Appends (O.contents out.old) (O.contents out.new) lines }
+    ensures quiet { result ≡ 0 → err.new ≡ err.old }
+    ensures kept { result ≡ 1 → (out.new ≡ out.old)
+        ⊎ ((text lines : List ℕ) × ReadsWhole (I.remaining input.old) (I.remaining input.new) text
+        × ShowsAs text lines × AppendsPart (O.contents out.old) (O.contents out.new) lines) }
+    ensures told { result ≡ 1 → (e : RunError) × IsCause (I.remaining input.old) (I.remaining input.new) e
+        × TriesToAppend (E.contents err.old) (E.contents err.new) (error_line (run_error_text e)) }
 {
     match show_input(alloc, input, out) {
         Ok(()) => 0,
@@ -77,14 +97,24 @@ fn show_input<I: Read, O: Write>(
     alloc: Global,
     input: &mut I,
     out: &mut O,
-) -> Result<(), RunError> {
+) -> Result<(), RunError>
+    ensures ok { OnOk result ((text lines : List ℕ) × ReadsWhole (I.remaining input.old) (I.remaining input.new) text
+        × ShowsAs text lines × Appends (O.contents out.old) (O.contents out.new) lines) }
+    ensures cause { IfErr result (IsCause (I.remaining input.old) (I.remaining input.new)) }
+    ensures kept { OnErr result ((out.new ≡ out.old)
+        ⊎ ((text lines : List ℕ) × ReadsWhole (I.remaining input.old) (I.remaining input.new) text
+        × ShowsAs text lines × AppendsPart (O.contents out.old) (O.contents out.new) lines)) }
+{
     let text = read_input(alloc, input)?;
     let lines = show(alloc, text.as_slice())?;
     write_whole(out, lines.as_str().as_bytes())
 }
 
 // The whole input. Memory for the largest is asked first.
-fn read_input<I: Read>(alloc: Global, input: &mut I) -> Result<Vec<u8>, RunError> {
+fn read_input<I: Read>(alloc: Global, input: &mut I) -> Result<Vec<u8>, RunError>
+    ensures ok { IfOk result (λ text. ReadsWhole (I.remaining input.old) (I.remaining input.new) text.items) }
+    ensures err { IfErr result (λ e. (e ≡ RunError.Input) ⊎ (e ≡ RunError.NotShown ShowError.Memory)) }
+{
     let mut text = vec![in alloc; 0; MOST_INPUT + 1]?;
     let length = read_to_end(input, text.as_mut_slice())?;
     text.truncate(length);
@@ -113,6 +143,7 @@ fn read_to_end<I: Read>(input: &mut I, room: &mut [u8]) -> Result<usize, RunErro
 // Not the writer's own `write_all`, which asks again after an interruption.
 fn write_whole<W: Write>(out: &mut W, bytes: &[u8]) -> Result<(), RunError>
     ensures ok { OnOk result (Appends (W.contents out.old) (W.contents out.new) bytes.now) }
+    ensures part { OnErr result (AppendsPart (W.contents out.old) (W.contents out.new) bytes.now) }
     ensures err { IfErr result (λ e. e ≡ RunError.Output) }
 {
     let mut rest = bytes;
@@ -126,7 +157,10 @@ fn write_whole<W: Write>(out: &mut W, bytes: &[u8]) -> Result<(), RunError>
 }
 
 // Writes the line that says why, where it can.
-fn tell<E: Write>(alloc: Global, err: &mut E, e: &RunError) {
+fn tell<E: Write>(alloc: Global, err: &mut E, e: &RunError)
+    ensures { TriesToAppend (E.contents err.old) (E.contents err.new) (error_line (run_error_text e.now))
+        ⊎ TriesToAppend (E.contents err.old) (E.contents err.new) (error_line (codes "out of memory")) }
+{
     let _ = match format!(in alloc; "mh_show: {e}\n") {
         Ok(line) => write_whole(err, line.as_str().as_bytes()),
         Err(AllocError) => write_whole(err, b"mh_show: out of memory\n"),
