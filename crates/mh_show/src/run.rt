@@ -4,6 +4,9 @@ ghost use Rattle.std.specs.Io.KnownBytes.{Appends, Consumes, IsAtEnd};
 ghost use Rattle.mh_show.specs.Shown.{ShowsAs};
 ghost use Rattle.mh_show.specs.Run.{ReadsWhole, AppendsPart, TriesToAppend, IsCause, error_line, run_error_text};
 
+#[cfg(test)]
+mod tests;
+
 use crate::show::{ShowError, show};
 use std::alloc::{AllocError, Global};
 use std::fmt;
@@ -93,11 +96,7 @@ pub fn run<I: Read, O: Write, E: Write>(
     }
 }
 
-fn show_input<I: Read, O: Write>(
-    alloc: Global,
-    input: &mut I,
-    out: &mut O,
-) -> Result<(), RunError>
+fn show_input<I: Read, O: Write>(alloc: Global, input: &mut I, out: &mut O) -> Result<(), RunError>
     ensures ok { OnOk result ((text lines : List ℕ) × ReadsWhole (I.remaining input.old) (I.remaining input.new) text
         × ShowsAs text lines × Appends (O.contents out.old) (O.contents out.new) lines) }
     ensures cause { IfErr result (IsCause (I.remaining input.old) (I.remaining input.new)) }

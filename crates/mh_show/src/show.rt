@@ -7,6 +7,9 @@ ghost use Rattle.multihash.specs.Answer.{pair_of, IsRefusal};
 ghost use Rattle.mh_show.specs.Shown.{shown, shown_digest, IsLine, NamesBytes};
 ghost use Rattle.mh_show.specs.ShowError.{show_error_text};
 
+#[cfg(test)]
+mod tests;
+
 use hex::FromHexError;
 use multihash::Multihash;
 use std::alloc::{AllocError, Global};

@@ -1,4 +1,4 @@
-use Rattle.std.proofs.Common.{◌≡◌, ℕ, List, Option, Result, Ok, Err, OnOk, OnErr, inl, inr}
+use Rattle.std.proofs.Common.{ℕ, List, Option, Result, Ok, Err, OnOk, OnErr, inl, inr}
 use Rattle.std.specs.Io.KnownBytes.{Appends}
 use Rattle.mh_show.specs.Run.{AppendsPart, TriesToAppend}
 use Rattle.mh_show.proofs.run.tell.Goals as goal

@@ -1,4 +1,4 @@
-use Rattle.std.proofs.Common.{◌≡◌, ℕ, List, ◌++◌, length, codes, Result, Ok, Err, IfOk, String, Global, string_bytes, sym, ap, ◌∙◌, append_assoc}
+use Rattle.std.proofs.Common.{◌≡◌, ℕ, List, ◌++◌, length, codes, Result, Ok, Err, IfOk, String, Global, string_bytes, ap, ◌∙◌, append_assoc}
 use Rattle.std.specs.Fmt.{decimal}
 use Rattle.multihash.specs.Pair.{Pair}
 use Rattle.mh_show.specs.Shown.{newline, shown_digest, shown}

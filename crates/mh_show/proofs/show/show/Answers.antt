@@ -7,7 +7,7 @@ use Rattle.multihash.specs.Refusal.{Refusal}
 use Rattle.multihash.specs.Answer.{pair_of, IsRefusal}
 use Rattle.multihash.specs.Verdict.{HasWholeVerdict}
 use Rattle.mh_show.specs.declared.show.ShowError.{ShowError}
-use Rattle.mh_show.specs.declared.show.ShowError.TheVariants.{NotHex, Refused}
+use Rattle.mh_show.specs.declared.show.ShowError.TheVariants.{NotHex}
 use Rattle.mh_show.specs.Shown.{IsLine, NamesBytes}
 use Rattle.mh_show.specs.ShowError.{decoding_error}
 use Rattle.mh_show.proofs.NamingLemmas.{line_unique, decoded_names, named_decodes}
