@@ -34,10 +34,29 @@ pub record AppendsPart (old new : Option (List ℕ)) (bytes : List ℕ) : Type 0
 abbrev pub TriesToAppend : Option (List ℕ) → Option (List ℕ) → List ℕ → Type 0
 TriesToAppend old new bytes = Appends old new bytes ⊎ AppendsPart old new bytes
 
--- what the input was where a fault is told
-abbrev pub IsCause : Option (List ℕ) → Option (List ℕ) → RunError → Type 0
-IsCause old new Input = ⊤
-IsCause old new (NotShown NotHex) = (text : List ℕ) × ReadsWhole old new text × NamesNone text
-IsCause old new (NotShown (Refused e)) = (text : List ℕ) × ReadsWhole old new text × IsRefusedAs text e
-IsCause old new (NotShown Memory) = ⊤
-IsCause old new Output = (text : List ℕ) × (lines : List ℕ) × ReadsWhole old new text × ShowsAs text lines
+-- the whole input was read, and the lines that show it were written
+abbrev pub ShowsInput : (old_input new_input old_out new_out : Option (List ℕ)) → Type 0
+ShowsInput old_input new_input old_out new_out =
+    (text : List ℕ) × (lines : List ℕ) × ReadsWhole old_input new_input text × ShowsAs text lines
+    × Appends old_out new_out lines
+
+-- the same, but only a part of the lines was written
+abbrev pub ShowsPart : (old_input new_input old_out new_out : Option (List ℕ)) → Type 0
+ShowsPart old_input new_input old_out new_out =
+    (text : List ℕ) × (lines : List ℕ) × ReadsWhole old_input new_input text × ShowsAs text lines
+    × AppendsPart old_out new_out lines
+
+-- what was so where that fault ended the run; `kept` says that the output is as it was
+abbrev pub EndsRun : (kept : Type 0) (old_input new_input old_out new_out : Option (List ℕ)) → RunError → Type 0
+EndsRun kept old_input new_input old_out new_out Input = kept
+EndsRun kept old_input new_input old_out new_out (NotShown NotHex) =
+    kept × (text : List ℕ) × ReadsWhole old_input new_input text × NamesNone text
+EndsRun kept old_input new_input old_out new_out (NotShown (Refused e)) =
+    kept × (text : List ℕ) × ReadsWhole old_input new_input text × IsRefusedAs text e
+EndsRun kept old_input new_input old_out new_out (NotShown Memory) = kept
+EndsRun kept old_input new_input old_out new_out Output = ShowsPart old_input new_input old_out new_out
+
+-- the line of that fault was written, or that of want of memory, or a part of one
+abbrev pub TellsFault : Option (List ℕ) → Option (List ℕ) → RunError → Type 0
+TellsFault old new e =
+    TriesToAppend old new (error_line (run_error_text e)) ⊎ TriesToAppend old new (error_line (codes "out of memory"))

@@ -1,8 +1,7 @@
 //! The whole program, over any input and outputs.
-ghost use Rattle.std.specs.Prelude.{◌≡◌, ℕ, ◌≤◌, ◌<◌, ◌⊎◌, List, length, take, codes, IfOk, IfErr, OnOk, OnErr};
+ghost use Rattle.std.specs.Prelude.{◌≡◌, ℕ, ◌≤◌, ◌<◌, ◌⊎◌, length, take, IfOk, IfErr, OnOk, OnErr};
 ghost use Rattle.std.specs.Io.KnownBytes.{Appends, Consumes, IsAtEnd};
-ghost use Rattle.mh_show.specs.Shown.{ShowsAs};
-ghost use Rattle.mh_show.specs.Run.{ReadsWhole, AppendsPart, TriesToAppend, IsCause, error_line, run_error_text};
+ghost use Rattle.mh_show.specs.Run.{ReadsWhole, AppendsPart, ShowsInput, EndsRun, TellsFault};
 
 #[cfg(test)]
 mod tests;
@@ -75,17 +74,12 @@ pub fn run<I: Read, O: Write, E: Write>(
     err: &mut E,
 ) -> u8
     ensures status { result ≤ 1 }
-
-    // Of an input and outputs that tell their bytes: at status 0 the lines were written, and else no
-    // more than a part of them, and nothing unless the fault was in writing them.
-    ensures shown { result ≡ 0 → (text lines : List ℕ) × ReadsWhole (I.remaining input.old) (I.remaining input.new) text
-        × ShowsAs text lines × Appends (O.contents out.old) (O.contents out.new) lines }
+    ensures shown { result ≡ 0 → ShowsInput (I.remaining input.old) (I.remaining input.new)
+        (O.contents out.old) (O.contents out.new) }
     ensures quiet { result ≡ 0 → err.new ≡ err.old }
-    ensures kept { result ≡ 1 → (out.new ≡ out.old)
-        ⊎ ((text lines : List ℕ) × ReadsWhole (I.remaining input.old) (I.remaining input.new) text
-        × ShowsAs text lines × AppendsPart (O.contents out.old) (O.contents out.new) lines) }
-    ensures told { result ≡ 1 → (e : RunError) × IsCause (I.remaining input.old) (I.remaining input.new) e
-        × TriesToAppend (E.contents err.old) (E.contents err.new) (error_line (run_error_text e)) }
+    ensures told { result ≡ 1 → (e : RunError) × EndsRun (out.new ≡ out.old) (I.remaining input.old)
+        (I.remaining input.new) (O.contents out.old) (O.contents out.new) e
+        × TellsFault (E.contents err.old) (E.contents err.new) e }
 {
     match show_input(alloc, input, out) {
         Ok(()) => 0,
@@ -97,12 +91,10 @@ pub fn run<I: Read, O: Write, E: Write>(
 }
 
 fn show_input<I: Read, O: Write>(alloc: Global, input: &mut I, out: &mut O) -> Result<(), RunError>
-    ensures ok { OnOk result ((text lines : List ℕ) × ReadsWhole (I.remaining input.old) (I.remaining input.new) text
-        × ShowsAs text lines × Appends (O.contents out.old) (O.contents out.new) lines) }
-    ensures cause { IfErr result (IsCause (I.remaining input.old) (I.remaining input.new)) }
-    ensures kept { OnErr result ((out.new ≡ out.old)
-        ⊎ ((text lines : List ℕ) × ReadsWhole (I.remaining input.old) (I.remaining input.new) text
-        × ShowsAs text lines × AppendsPart (O.contents out.old) (O.contents out.new) lines)) }
+    ensures ok { OnOk result (ShowsInput (I.remaining input.old) (I.remaining input.new)
+        (O.contents out.old) (O.contents out.new)) }
+    ensures err { IfErr result (EndsRun (out.new ≡ out.old) (I.remaining input.old) (I.remaining input.new)
+        (O.contents out.old) (O.contents out.new)) }
 {
     let text = read_input(alloc, input)?;
     let lines = show(alloc, text.as_slice())?;
@@ -157,8 +149,7 @@ fn write_whole<W: Write>(out: &mut W, bytes: &[u8]) -> Result<(), RunError>
 
 // Writes the line that says why, where it can.
 fn tell<E: Write>(alloc: Global, err: &mut E, e: &RunError)
-    ensures { TriesToAppend (E.contents err.old) (E.contents err.new) (error_line (run_error_text e.now))
-        ⊎ TriesToAppend (E.contents err.old) (E.contents err.new) (error_line (codes "out of memory")) }
+    ensures { TellsFault (E.contents err.old) (E.contents err.new) e.now }
 {
     let _ = match format!(in alloc; "mh_show: {e}\n") {
         Ok(line) => write_whole(err, line.as_str().as_bytes()),
