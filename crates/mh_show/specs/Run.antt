@@ -1,5 +1,5 @@
 -- What a run of the program does to an input and to outputs that tell their bytes.
-use Rattle.std.specs.Prelude.{◌≤◌, ℕ, ◌⊎◌, ⊤, List, ◌++◌, length, codes, Option}
+use Rattle.std.specs.Prelude.{◌≤◌, ℕ, ◌⊎◌, List, ◌++◌, length, codes, Option}
 use Rattle.std.specs.Io.KnownBytes.{Appends, Consumes, IsAtEnd}
 use Rattle.multihash.specs.Bytes.{IsProperBeginning}
 use Rattle.mh_show.specs.declared.run.RunError.{RunError}
