@@ -1,9 +1,10 @@
 -- The definitions at texts that are known.
 use Rattle.std.proofs.Common.{◌≡◌, ℕ, List, ◌∷◌, [], codes, refl, inl}
 use Rattle.std.specs.Fmt.{digits}
-use Rattle.hex.specs.Hex.{encode_with}
+use Rattle.hex.specs.Hex.{encode_with, decode_pairs}
 use Rattle.multihash.specs.Pair.{Pair}
 use Rattle.mh_show.specs.Shown.{newline, shown, IsLine, NamesBytes}
+use Rattle.mh_show.proofs.NamingLemmas.{named_decodes}
 
 abbrev pair : ℕ → List ℕ → Pair
 pair code digest = record { code = code; digest = digest }
@@ -21,6 +22,21 @@ shown_three = refl
 
 line_of : IsLine (codes "0000") (codes "0000\n")
 line_of = inl refl
+
+-- of two newlines one is left
+line_of_two : IsLine (codes "00\n") (codes "00\n\n")
+line_of_two = inl refl
+
+-- a carriage return stays
+line_of_return : IsLine (codes "00\r") (codes "00\r\n")
+line_of_return = inl refl
+
+odd_names_none : (bytes : List ℕ) → ¬ (NamesBytes (codes "0") bytes)
+odd_names_none bytes named = cc (named_decodes (codes "0") bytes named)
+
+no_digit_names_none : (bytes : List ℕ) → ¬ (NamesBytes (codes "0g") bytes)
+unfolding decode_pairs
+no_digit_names_none bytes named = cc (named_decodes (codes "0g") bytes named)
 
 names_two : NamesBytes (codes "1Fa0") (0x1f ∷ 0xa0 ∷ [])
 names_two = record {

@@ -1,3 +1,6 @@
+ghost use Rattle.std.specs.Prelude.{◌≡◌, ℕ, List, ◌++◌};
+ghost use Rattle.mh_show.specs.Shown.{ShowsAs};
+
 mod fakes;
 
 use super::*;
@@ -13,7 +16,7 @@ const EXAMPLE_LINES: &[u8] =
 
 const OUT_OF_MEMORY: &[u8] = b"mh_show: out of memory\n";
 
-// A run over the text, given by itself and a byte a read, and the lines written a byte a call.
+// The text is read in ones, in fives and all at once.
 fn expect_lines<R: Abort + AllocGlobal>(rt: &R, text: &[u8], lines: &[u8]) {
     for most in [1, 5, 65537] {
         let mut input = Drip::new(text, most);
@@ -31,6 +34,15 @@ fn expect_refusal<R: Abort + AllocGlobal, I: Read>(rt: &R, input: &mut I, line: 
     assert_eq!(rt; status, 1);
     assert_eq!(rt; out.written(), b"".as_slice());
     assert_eq!(rt; err.written(), line);
+}
+
+// What a run over memory leaves, from its contract alone.
+fn shows_memory(alloc: Global, mut text: &[u8], out: &mut Vec<u8>, err: &mut Vec<u8>) -> u8
+    ensures shown { result ≡ 0 → (lines : List ℕ) × ShowsAs text.entry.now lines
+        × (out.new.items ≡ out.old.items ++ lines) }
+    ensures kept { result ≡ 0 → err.new ≡ err.old }
+{
+    run(alloc, &mut text, out, err)
 }
 
 #[test]
@@ -196,6 +208,20 @@ fn expect_or_memory<R: Abort + AllocGlobal>(
         assert_eq!(rt; out.written(), lines);
         assert_eq!(rt; err.written(), line);
     }
+}
+
+#[test]
+fn appends_to_a_vector(rt: HostRuntime) -> Result<(), Fail> {
+    let (mut out, mut err) = (Vec::new(rt.alloc()), Vec::new(rt.alloc()));
+    for _ in 0..2 {
+        assert_eq!(rt; shows_memory(rt.alloc(), b"0000", &mut out, &mut err), 0);
+    }
+    assert_eq!(rt;
+        out.as_slice(),
+        b"code 0\nsize 0\ndigest -\ncode 0\nsize 0\ndigest -\n".as_slice()
+    );
+    assert!(rt; err.is_empty());
+    Ok(())
 }
 
 #[test]
