@@ -18,6 +18,7 @@ show_ends kept old new out after text NotHex same reads none refused = (same, te
 show_ends kept old new out after text (Refused r) same reads none refused = (same, text, reads, refused r refl)
 show_ends kept old new out after text Memory same reads none refused = same
 
+-- the end that a failed write of the lines makes
 output_ends : {T : Type 0} (r : Result T RunError) (kept : Type 0) (old new out after : Option (List ℕ)) (text lines : List ℕ)
     → IfErr r (λ e. e ≡ Output) → ReadsWhole old new text → ShowsAs text lines → OnErr r (AppendsPart out after lines)
     → IfErr r (EndsRun kept old new out after)
