@@ -66,14 +66,15 @@ impl From<AllocError> for RunError {
 ///
 /// The input is refused past 65536 bytes. Any error of a read or a write is a failure, also an
 /// interruption, and so is a write that takes no byte. The first fault is told. A fault in writing to
-/// `err` changes nothing. Nothing is flushed, so the outputs are to keep no buffer, as the standard ones.
+/// `err` changes nothing. Nothing is flushed, so the outputs are to keep no buffer, as the standard
+/// ones keep none.
 pub fn run<I: Read, O: Write, E: Write>(
     alloc: Global,
     input: &mut I,
     out: &mut O,
     err: &mut E,
 ) -> u8
-    // When a reader or a writer fails no contract says, nor when memory is refused.
+    // No contract can say when a reader or a writer fails, nor when memory is refused.
     ensures status { result ≤ 1 }
     ensures shown { result ≡ 0 → ShowsInput (I.remaining input.old) (I.remaining input.new)
         (O.contents out.old) (O.contents out.new) }
