@@ -66,8 +66,8 @@ impl From<AllocError> for RunError {
 ///
 /// The input is refused past 65536 bytes. Any error of a read or a write is a failure, also an
 /// interruption, and so is a write that takes no byte. The first fault is told. A fault in writing to
-/// `err` changes nothing. Nothing is flushed, so the outputs are to keep no buffer, as the standard
-/// ones keep none.
+/// `err` changes nothing, and where memory for its line is refused, the line says `out of memory`.
+/// Nothing is flushed, so the outputs are to keep no buffer, as the standard ones keep none.
 pub fn run<I: Read, O: Write, E: Write>(
     alloc: Global,
     input: &mut I,
