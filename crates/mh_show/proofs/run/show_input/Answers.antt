@@ -1,0 +1,45 @@
+use Rattle.std.proofs.Common.{◌≡◌, ℕ, List, Option, Result, Ok, Err, IfErr, OnErr, refl, sym, ap, subst}
+use Rattle.multihash.specs.Refusal.{Refusal}
+use Rattle.multihash.proofs.ResultLemmas.{passed_on}
+use Rattle.mh_show.specs.declared.run.RunError.{RunError}
+use Rattle.mh_show.specs.declared.run.RunError.TheVariants.{NotShown, Output}
+use Rattle.mh_show.specs.declared.show.ShowError.{ShowError}
+use Rattle.mh_show.specs.declared.show.ShowError.TheVariants.{NotHex, Refused, Memory}
+use Rattle.mh_show.specs.Shown.{IsLine, NamesBytes, IsRefusedAs, ShowsAs}
+use Rattle.mh_show.specs.Run.{ReadsWhole, AppendsPart, EndsRun}
+use Rattle.mh_show.proofs.run.show_input.Goals as goal
+
+-- the end that each error of `show` makes
+show_ends : (kept : Type 0) (old new out after : Option (List ℕ)) (text : List ℕ) (e : ShowError) → kept
+    → ReadsWhole old new text
+    → ((line bytes : List ℕ) → e ≡ NotHex → IsLine line text → ¬ (NamesBytes line bytes))
+    → ((r : Refusal) → e ≡ Refused r → IsRefusedAs text r) → EndsRun kept old new out after (NotShown e)
+show_ends kept old new out after text NotHex same reads none refused = (same, text, reads, λ line bytes. none line bytes refl)
+show_ends kept old new out after text (Refused r) same reads none refused = (same, text, reads, refused r refl)
+show_ends kept old new out after text Memory same reads none refused = same
+
+-- the end that a failed write of the lines makes
+output_ends : {T : Type 0} (r : Result T RunError) (kept : Type 0) (old new out after : Option (List ℕ)) (text lines : List ℕ)
+    → IfErr r (λ e. e ≡ Output) → ReadsWhole old new text → ShowsAs text lines → OnErr r (AppendsPart out after lines)
+    → IfErr r (EndsRun kept old new out after)
+output_ends (Ok t) kept old new out after text lines met reads shows part = tt
+output_ends (Err e) kept old new out after text lines met reads shows part =
+    subst (EndsRun kept old new out after) (sym met) (text, lines, reads, shows, part)
+
+pub returns-in_err-lines-clause-err : goal.returns-in_err-lines-clause-err
+returns-in_err-lines-clause-err g c =
+    let met = c.in_err-lines.ensures in
+    let old = g.I.Read.remaining c.args.input.now in
+    let new = g.I.Read.remaining c.read_input.new.input in
+    let out = g.O.Write.contents c.args.out.now in
+    let ends : RunError → Type 0 = EndsRun (c.args.out.now ≡ c.args.out.now) old new out out in
+    passed_on c.from_residual-in_err-lines.result _ ends c.from_residual-in_err-lines.ensures.1
+    (show_ends (c.args.out.now ≡ c.args.out.now) old new out out c.as_slice.result.now c.in_err-lines.field-0.0 refl (rw c.as_slice.ensures.value c.in_ok-text.ensures.ok)
+    (λ line bytes same. met.not_hex line bytes (ap Err same))
+    (λ r same. met.refused r (ap Err same)))
+
+pub returns-clause-err : goal.returns-clause-err
+returns-clause-err g c =
+    output_ends c.write_whole.result _ _ _ _ _ c.as_slice.result.now _ c.write_whole.ensures.err
+    (rw c.as_slice.ensures.value c.in_ok-text.ensures.ok)
+    (rw (c.as_bytes.ensures.value, c.as_str.ensures.value) c.in_ok-lines.ensures.ok) c.write_whole.ensures.part

@@ -1,0 +1,65 @@
+use Rattle.std.proofs.Common.{◌≡◌, ℕ, ◌%◌, ◌⊎◌, List, length, Result, Ok, Err, sym, ap, ◌∙◌, subst, inl, inr}
+use Rattle.std.specs.Result.{IsErrAnd}
+use Rattle.hex.specs.declared.error.FromHexError.{FromHexError}
+use Rattle.hex.specs.declared.error.FromHexError.TheVariants.{OutOfMemory}
+use Rattle.hex.specs.Hex.{decode_of}
+use Rattle.multihash.specs.Refusal.{Refusal}
+use Rattle.multihash.specs.Answer.{pair_of, IsRefusal}
+use Rattle.multihash.specs.Verdict.{HasWholeVerdict}
+use Rattle.mh_show.specs.declared.show.ShowError.{ShowError}
+use Rattle.mh_show.specs.declared.show.ShowError.TheVariants.{NotHex}
+use Rattle.mh_show.specs.Shown.{IsLine, NamesBytes}
+use Rattle.mh_show.specs.ShowError.{decoding_error}
+use Rattle.mh_show.proofs.NamingLemmas.{line_unique, decoded_names, named_decodes}
+use Rattle.mh_show.proofs.show.show.Goals as goal
+
+-- one line of a text is as odd as the other
+odd_line : (text a b : List ℕ) → IsLine a text → IsLine b text → length a % 2 ≡ 1 → length b % 2 ≡ 1
+odd_line text a b e f odd = ap (λ (l : List ℕ). length l % 2) (sym (line_unique text a b e f)) ∙ odd
+
+-- a line that names bytes is not refused as no hexadecimal
+not_refused : (line bytes : List ℕ) (e : FromHexError) → (e ≡ OutOfMemory) ⊎ (decode_of line ≡ Err e)
+    → NamesBytes line bytes → ¬ (NotHex ≡ decoding_error e)
+not_refused line bytes e (inl full) named gives = cc (gives ∙ ap decoding_error full)
+not_refused line bytes e (inr refused) named gives = cc (sym refused ∙ named_decodes line bytes named)
+
+-- the error that is answered is the one that was made
+same_error : {T : Type 0} (r : Result T ShowError) (e made : ShowError) → r ≡ Err e → IsErrAnd r (λ x. x ≡ made) → e ≡ made
+same_error (Ok t) e made same given = absurd given
+same_error (Err x) e made same given = cc (same, given)
+
+pub returns-in_err-bytes-clause-not_hex : goal.returns-in_err-bytes-clause-not_hex
+returns-in_err-bytes-clause-not_hex c line bytes same is_line named =
+    let found = line_unique _ line _ is_line c.line_of.ensures in
+    not_refused _ bytes _ c.in_err-bytes.ensures.err (subst (λ (l : List ℕ). NamesBytes l bytes) found named)
+    (same_error c.from_residual.result _ _ same c.from_residual.ensures.1)
+
+pub returns-in_err-multihash-clause-refused : goal.returns-in_err-multihash-clause-refused
+returns-in_err-multihash-clause-refused c e same =
+    let met = c.in_err-multihash.ensures in
+    let made = same_error c.from_residual-in_err-multihash.result _ _ same c.from_residual-in_err-multihash.ensures.1 in
+    let refusal : c.in_err-multihash.field-0.0 ≡ e = cc made in (
+      _,
+      c.as_slice.result.now,
+      met.0,
+      c.line_of.ensures,
+      rw c.as_slice.ensures.value (decoded_names _ _ c.in_ok-bytes.ensures.ok),
+      met.1,
+      subst (λ (r : Refusal). IsRefusal r met.0) refusal met.2,
+    )
+
+pub returns-clause-ok : goal.returns-clause-ok
+returns-clause-ok c =
+    let met = c.in_ok-multihash.ensures in (
+      _,
+      c.as_slice.result.now,
+      pair_of c.in_ok-multihash.multihash,
+      c.line_of.ensures,
+      rw c.as_slice.ensures.value (decoded_names _ _ c.in_ok-bytes.ensures.ok),
+      subst (HasWholeVerdict 64 c.as_slice.result.now) met.2 met.1,
+      c.in_ok-lines.ensures,
+    )
+
+pub returns-clause-odd : goal.returns-clause-odd
+returns-clause-odd c line is_line odd =
+    cc (c.in_ok-bytes.ensures.odd (odd_line _ line c.line_of.result.now is_line c.line_of.ensures odd))

@@ -1,0 +1,18 @@
+//! Reads one line of hexadecimal, and shows the multihash that it names: its code, its size and its
+//! digest, each on a line. No arguments are looked at.
+#![tactic(auto)]
+
+mod run;
+mod show;
+
+use std::process::ExitCode;
+
+fn main(rt: HostRuntime) -> ExitCode {
+    let status = run::run(
+        rt.alloc(),
+        &mut rt.stdin(),
+        &mut rt.stdout(),
+        &mut rt.stderr(),
+    );
+    ExitCode::from(status)
+}

@@ -1,0 +1,134 @@
+//! A line of hexadecimal, as the three lines of its multihash.
+ghost use Rattle.std.specs.Prelude.{◌≡◌, ◌≢◌, ℕ, ◌%◌, ◌⊎◌, List, length, Some, IfOk, IfErr, string_bytes};
+ghost use Rattle.multihash.specs.Pair.{Pair};
+ghost use Rattle.multihash.specs.Verdict.{Verdict, accepted, HasWholeVerdict};
+ghost use Rattle.multihash.specs.Refusal.{Refusal};
+ghost use Rattle.multihash.specs.Answer.{pair_of, IsRefusal};
+ghost use Rattle.mh_show.specs.Shown.{shown, shown_digest, IsLine, NamesBytes};
+ghost use Rattle.mh_show.specs.ShowError.{show_error_text};
+
+#[cfg(test)]
+mod tests;
+
+use hex::FromHexError;
+use multihash::Multihash;
+use std::alloc::{AllocError, Global};
+use std::fmt;
+
+/// Why a text was not shown.
+#[derive(Debug, Drop)]
+pub enum ShowError {
+    /// The line is not an even number of hexadecimal digits.
+    NotHex,
+    /// The line's bytes are not one multihash with a digest of at most 64 bytes.
+    Refused(multihash::Error),
+    /// Memory was refused.
+    Memory,
+}
+
+/// Prints the text alone, whatever width or precision is asked.
+impl fmt::Display for ShowError {
+    ghost output = { λ e. Some (show_error_text e) };
+
+    ghost styled_output = { λ e _. Some (show_error_text e) };
+
+    fn fmt<W: fmt::Write>(&self, f: &mut fmt::Formatter<W>) -> fmt::Result {
+        match self {
+            ShowError::NotHex => f.write_str("not hexadecimal"),
+            ShowError::Refused(e) => fmt::Display::fmt(e, f),
+            ShowError::Memory => f.write_str("out of memory"),
+        }
+    }
+}
+
+impl std::error::Error for ShowError {}
+
+impl From<FromHexError> for ShowError {
+    ghost use Rattle.mh_show.specs.ShowError.{decoding_error};
+
+    ghost from_gives = { λ cause e. e ≡ decoding_error cause };
+
+    fn from(e: FromHexError) -> Self {
+        match e {
+            FromHexError::OutOfMemory => ShowError::Memory,
+            _ => ShowError::NotHex,
+        }
+    }
+}
+
+impl From<multihash::Error> for ShowError {
+    ghost use Rattle.mh_show.specs.declared.show.ShowError.{ShowError};
+
+    ghost from_gives = { λ refusal e. e ≡ ShowError.Refused refusal };
+
+    fn from(e: multihash::Error) -> Self {
+        ShowError::Refused(e)
+    }
+}
+
+impl From<AllocError> for ShowError {
+    ghost use Rattle.mh_show.specs.declared.show.ShowError.{ShowError};
+
+    ghost from_gives = { λ _ e. e ≡ ShowError.Memory };
+
+    fn from(_e: AllocError) -> Self {
+        ShowError::Memory
+    }
+}
+
+/// The three lines of the multihash that the text names in hexadecimal digits of either case: its
+/// code and its size in decimal, and its digest in lower-case digits, or `-` where that is empty.
+/// One newline at the text's end is not looked at.
+///
+/// # Errors
+///
+/// - [`ShowError::NotHex`] where the line is not an even number of hexadecimal digits;
+/// - [`ShowError::Refused`] where its bytes are not one multihash of at most 64 bytes of digest;
+/// - [`ShowError::Memory`] where memory was refused, but never for a line of odd length.
+pub fn show(alloc: Global, text: &[u8]) -> Result<String, ShowError>
+    ensures ok { IfOk result (λ s. (line : List ℕ) × (bytes : List ℕ) × (p : Pair) × IsLine line text.now
+        × NamesBytes line bytes × HasWholeVerdict 64 bytes (accepted p) × (string_bytes s ≡ shown p)) }
+
+    // Each refusal comes for its own reason only.
+    ensures not_hex { (line bytes : List ℕ) → result ≡ Err ShowError.NotHex → IsLine line text.now
+        → ¬ (NamesBytes line bytes) }
+    ensures refused { (e : Refusal) → result ≡ Err (ShowError.Refused e)
+        → (line : List ℕ) × (bytes : List ℕ) × (v : Verdict) × IsLine line text.now
+        × NamesBytes line bytes × HasWholeVerdict 64 bytes v × IsRefusal e v }
+    ensures odd { (line : List ℕ) → IsLine line text.now → length line % 2 ≡ 1
+        → result ≡ Err ShowError.NotHex }
+{
+    let bytes = hex::decode(alloc, line_of(text))?;
+    let multihash = Multihash::<64>::from_bytes(bytes.as_slice())?;
+    let lines = lines_of(alloc, &multihash)?;
+    Ok(lines)
+}
+
+// The text without a newline at its end, where it has one.
+fn line_of(text: &[u8]) -> &[u8]
+    ensures { IsLine result.now text.now }
+{
+    match text.split_last() {
+        Some((b'\n', line)) => line,
+        _ => text,
+    }
+}
+
+fn lines_of(alloc: Global, multihash: &Multihash<64>) -> Result<String, AllocError>
+    ensures { IfOk result (λ lines. string_bytes lines ≡ shown (pair_of multihash.now)) }
+{
+    let code = multihash.code();
+    let size = multihash.size();
+    let digest = digest_of(alloc, multihash.digest())?;
+    format!(in alloc; "code {code}\nsize {size}\ndigest {digest}\n")
+}
+
+// Two digits a byte, or a dash where there is none.
+fn digest_of(alloc: Global, digest: &[u8]) -> Result<String, AllocError>
+    ensures { IfOk result (λ text. string_bytes text ≡ shown_digest digest.now) }
+{
+    if digest.is_empty() {
+        return String::from_str(alloc, "-");
+    }
+    hex::encode(alloc, digest)
+}

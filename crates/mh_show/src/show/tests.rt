@@ -1,0 +1,59 @@
+use super::*;
+use std::test::Fail;
+
+#[test]
+fn shows_a_full_digest(rt: HostRuntime) -> Result<(), Fail> {
+    let mut text = [b'a'; 132];
+    text[..4].copy_from_slice(b"0040");
+    let lines = show(rt.alloc(), &text)?;
+    let head = "code 0\nsize 64\ndigest aaaaaaaa";
+    assert!(rt; lines.as_str().starts_with(head));
+    assert_eq!(rt; lines.len(), "code 0\nsize 64\ndigest \n".len() + 128);
+    Ok(())
+}
+
+#[test]
+fn refuses_a_longer_digest(rt: HostRuntime) -> Result<(), Fail> {
+    let mut text = [b'0'; 262];
+    text[..6].copy_from_slice(b"008001");
+    match show(rt.alloc(), &text) {
+        Err(ShowError::Refused(e)) => assert_eq!(rt; e.invalid_size(), Some(128)),
+        Err(_e) => assert!(rt; false),
+        Ok(_lines) => assert!(rt; false),
+    }
+    Ok(())
+}
+
+// Passes also where a request for memory is refused.
+#[test]
+fn each_request_of_show_refused(rt: HostRuntime) -> Result<(), Fail> {
+    match show(rt.alloc(), b"1603AABBCC\n") {
+        Ok(lines) => assert_eq!(rt; lines.as_str(), "code 22\nsize 3\ndigest aabbcc\n"),
+        Err(e) => assert!(rt; matches!(&e, ShowError::Memory)),
+    }
+    Ok(())
+}
+
+#[test]
+fn an_odd_line_takes_no_memory(rt: HostRuntime) -> Result<(), Fail> {
+    assert!(rt; matches!(show(rt.alloc(), b"0"), Err(ShowError::NotHex)));
+    assert!(rt; matches!(show(rt.alloc(), b"0\n"), Err(ShowError::NotHex)));
+    Ok(())
+}
+
+fn is_error<E: std::error::Error>(_e: &E) -> bool {
+    true
+}
+
+#[test]
+fn an_error_prints_its_text_alone(rt: HostRuntime) -> Result<(), Fail> {
+    assert!(rt; is_error(&ShowError::NotHex));
+    for (e, text) in [
+        (ShowError::NotHex, "not hexadecimal"),
+        (ShowError::Memory, "out of memory"),
+    ] {
+        assert_eq!(rt; format!(in rt.alloc(); "{e}")?.as_str(), text);
+        assert_eq!(rt; format!(in rt.alloc(); "{e:>40.3}")?.as_str(), text);
+    }
+    Ok(())
+}
