@@ -9,6 +9,8 @@ mod error;
 pub mod laws;
 mod multihash;
 pub mod no_std_io;
+#[cfg(test)]
+mod tests;
 mod varint;
 
 pub use crate::error::Error;
