@@ -12,6 +12,8 @@ pub mod list;
 mod multihash;
 pub mod no_std_io;
 mod scale;
+#[cfg(test)]
+mod tests;
 mod varint;
 
 pub use crate::error::Error;

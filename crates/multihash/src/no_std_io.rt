@@ -2,6 +2,7 @@
 
 mod error;
 mod impls;
+mod told;
 mod traits;
 
 pub use error::Error;

@@ -1,5 +1,5 @@
 //! Slices, vectors and references as readers and writers.
-ghost use Rattle.std.specs.Prelude.{◌≡◌, ◌<◌, ◌≤◌, Some, Ok, [], ◌++◌, min, length, take, drop, true, false, IfOk, IfErr, OnOk, OnErr, IsOk, IsErr, ◌↔◌};
+ghost use Rattle.std.specs.Prelude.{◌≡◌, ◌<◌, ◌≤◌, ◌+◌, vec_len, vec_capacity, Some, Ok, [], ◌++◌, min, length, take, drop, true, false, IfOk, IfErr, OnOk, OnErr, IsOk, IsErr, ◌↔◌};
 ghost use Rattle.multihash.specs.Fault.{IsUnexpectedEof, IsWriteZero, IsOutOfMemory};
 ghost use Rattle.multihash.specs.Reading.{Takes, IsAtEnd, HasFewerThan, TakesFewerThan, CountsFaults, CountsFaultsOrEof};
 ghost use Rattle.multihash.specs.Writing.{CountsWriterFaults, CountsWriterFaultsOrFull, AppendsPart};
@@ -148,6 +148,7 @@ impl Write for Vec<u8> {
         ensures faults { CountsWriterFaults true 0 0 result }
 
         ensures whole { IfOk result (λ n. n ≡ length buf.now) }
+        ensures room { vec_len self.old + length buf.now ≤ vec_capacity self.old → IsOk result }
         ensures unchanged { OnErr result (self.new.items ≡ self.old.items) }
         ensures kind { IfErr result IsOutOfMemory }
     {
@@ -164,6 +165,7 @@ impl Write for Vec<u8> {
             (AppendsPart (λ old bytes new. AppendsAtEnd old.items bytes new.items) self.old buf.now self.new) }
         ensures faults { CountsWriterFaultsOrFull true 0 0 ⊥ result }
 
+        ensures room { vec_len self.old + length buf.now ≤ vec_capacity self.old → IsOk result }
         ensures unchanged { OnErr result (self.new.items ≡ self.old.items) }
         ensures kind { IfErr result IsOutOfMemory }
     {

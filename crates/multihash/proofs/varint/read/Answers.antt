@@ -48,8 +48,8 @@ returns-then-byte-lt128-clause-ok g c =
     let next = rw c.in-Some.is at c.in_ok-byte.ensures.byte in (
       before.front ++ byte ∷ [],
       rw c.from.ensures
-      (read_last before.front _ byte c.loop-i.i before.long (omega arith) before.reads
-      (first_of_two _ _ c.else-i-eq-MOST_MARKED.either) c.if-byte-lt128.true (λ z. omega (arith, first_of_two _ _ c.else-byte-eq0.either z))),
+          (read_last before.front _ byte c.loop-i.i before.long (omega arith) before.reads
+          (first_of_two _ _ c.else-i-eq-MOST_MARKED.either) c.if-byte-lt128.true (λ z. omega (arith, first_of_two _ _ c.else-byte-eq0.either z))),
       Takes-joined _ _ _ before.front (byte ∷ []) _ refl before.takes next,
     )
 

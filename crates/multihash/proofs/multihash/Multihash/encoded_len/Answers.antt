@@ -11,7 +11,7 @@ returns-clause-encoding g c =
     let b = c.as_bytes-2.result.now in (
       a ++ (b ++ p.digest),
       encoding_of p _ _ p.digest a b c.code.ensures (c.from.ensures ∙ c.size.ensures.size) refl
-      (rw c.as_bytes.ensures c.encode-code.ensures) (rw c.as_bytes-2.ensures c.encode-size.ensures),
+          (rw c.as_bytes.ensures c.encode-code.ensures) (rw c.as_bytes-2.ensures c.encode-size.ensures),
       ap (λ n. length a + length b + n) (c.from-2.ensures ∙ c.size-2.ensures.size) ∙ length-parts a b p.digest,
     )
 

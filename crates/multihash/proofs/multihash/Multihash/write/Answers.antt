@@ -54,7 +54,7 @@ returns-clause-ok g c =
     let same_size : c.as_bytes-4.result.now ≡ b = c.as_bytes-4.ensures ∙ sym c.as_bytes-2.ensures in (
       a ++ (b ++ d),
       encoding_of p _ _ d a b c.code.ensures (c.from.ensures ∙ c.size.ensures.size) c.digest-digest.ensures.digest
-      (rw c.as_bytes.ensures c.encode-code.ensures) (rw c.as_bytes-2.ensures c.encode-size.ensures),
+          (rw c.as_bytes.ensures c.encode-code.ensures) (rw c.as_bytes-2.ensures c.encode-size.ensures),
       omega (arith, ap length same_code, ap length same_size, length-parts a b d),
       join _ _ _ a (b ++ d) c.in_ok-write_all.ensures.ok (join _ _ _ b d c.in_ok-write_all-2.ensures.ok c.in_ok-write_all-3.ensures.ok),
     )

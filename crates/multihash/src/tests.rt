@@ -1,0 +1,9 @@
+mod clients;
+mod error;
+mod fakes;
+mod faults;
+mod multihash;
+mod no_std_io;
+mod told;
+mod varint;
+mod verdicts;
