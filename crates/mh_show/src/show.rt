@@ -1,10 +1,11 @@
 //! A line of hexadecimal, as the three lines of its multihash.
-ghost use Rattle.std.specs.Prelude.{◌≡◌, ◌≢◌, ℕ, ◌%◌, ◌⊎◌, List, length, Some, IfOk, IfErr, string_bytes};
+ghost use Rattle.std.specs.Prelude.{◌≡◌, ◌≢◌, ℕ, ◌*◌, ◌%◌, ◌<◌, ◌⊎◌, List, length, codes, Some, IfOk, IfErr, IsAscii, string_bytes};
+ghost use Rattle.hex.specs.Hex.{encode_lower};
 ghost use Rattle.multihash.specs.Pair.{Pair};
 ghost use Rattle.multihash.specs.Verdict.{Verdict, accepted, HasWholeVerdict};
 ghost use Rattle.multihash.specs.Refusal.{Refusal};
 ghost use Rattle.multihash.specs.Answer.{pair_of, IsRefusal};
-ghost use Rattle.mh_show.specs.Shown.{shown, shown_digest, IsLine, NamesBytes};
+ghost use Rattle.mh_show.specs.Shown.{shown, IsLine, NamesBytes};
 ghost use Rattle.mh_show.specs.ShowError.{show_error_text};
 
 #[cfg(test)]
@@ -14,6 +15,9 @@ use hex::FromHexError;
 use multihash::Multihash;
 use std::alloc::{AllocError, Global};
 use std::fmt;
+
+// The most digits of a digest.
+const MOST_DIGITS: usize = 2 * 64;
 
 /// Why a text was not shown.
 #[derive(Debug, Drop)]
@@ -119,16 +123,31 @@ fn lines_of(alloc: Global, multihash: &Multihash<64>) -> Result<String, AllocErr
 {
     let code = multihash.code();
     let size = multihash.size();
-    let digest = digest_of(alloc, multihash.digest())?;
+    let mut room = [0; MOST_DIGITS];
+    let digits = &mut room[..2 * usize::from(size)];
+    write_digits(multihash.digest(), digits);
+    let digest = text_of(digits);
     format!(in alloc; "code {code}\nsize {size}\ndigest {digest}\n")
 }
 
-// Two digits a byte, or a dash where there is none.
-fn digest_of(alloc: Global, digest: &[u8]) -> Result<String, AllocError>
-    ensures { IfOk result (λ text. string_bytes text ≡ shown_digest digest.now) }
+// Two digits a byte, in places that are twice as many.
+fn write_digits(digest: &[u8], places: &mut [u8])
+    requires { length places.old ≡ 2 * length digest.now }
+    ensures digits { places.new ≡ encode_lower digest.now }
+    ensures ascii { IsAscii places.new }
 {
-    if digest.is_empty() {
-        return String::from_str(alloc, "-");
+    hex::encode_to_slice(digest, places).unwrap();
+}
+
+// The digits, or a dash where there is none.
+fn text_of(digits: &[u8]) -> &str
+    requires ascii { IsAscii digits.now }
+    ensures none { length digits.now ≡ 0 → result.now ≡ codes "-" }
+    ensures some { 0 < length digits.now → result.now ≡ digits.now }
+{
+    if digits.is_empty() {
+        "-"
+    } else {
+        str::from_utf8(digits).unwrap()
     }
-    hex::encode(alloc, digest)
 }

@@ -1,6 +1,8 @@
-use Rattle.std.proofs.Common.{◌≡◌, ℕ, List, ◌++◌, length, codes, Result, Ok, Err, IfOk, String, Global, string_bytes, ap, ◌∙◌, append_assoc}
+use Rattle.std.proofs.Common.{◌≡◌, ◌*◌, ◌<◌, ℕ, List, [], ◌∷◌, ◌++◌, length, codes, Result, Ok, Err, IfOk, String, Global, string_bytes, ap, ◌∙◌, append_assoc, arith, rules}
 use Rattle.std.specs.Fmt.{decimal}
+use Rattle.hex.specs.Hex.{encode_lower}
 use Rattle.multihash.specs.Pair.{Pair}
+use Rattle.multihash.specs.Answer.{pair_of}
 use Rattle.mh_show.specs.Shown.{newline, shown_digest, shown}
 use Rattle.mh_show.proofs.show.lines_of.Goals as goal
 
@@ -9,6 +11,12 @@ same_text : {E : Type 0} (r : Result (String Global) E) (a b : List ℕ) → IfO
 same_text (Ok s) a b h e = h ∙ e
 same_text (Err x) a b h e = tt
 
+-- the digits of a digest, or a dash
+digest_text : (digest digits text : List ℕ) → length digits ≡ 2 * length digest → digits ≡ encode_lower digest
+    → (length digits ≡ 0 → text ≡ codes "-") → (0 < length digits → text ≡ digits) → text ≡ shown_digest digest
+digest_text [] digits text long same none some = none long
+digest_text (b ∷ digest) digits text long same none some = some (omega arith) ∙ same
+
 -- what the format writes
 three_lines : (p : Pair) (code size : ℕ) (digest : List ℕ) → code ≡ p.code → size ≡ length p.digest → digest ≡ shown_digest p.digest
     → codes "code " ++ (decimal code ++ (codes "\nsize " ++ (decimal size ++ (codes "\ndigest " ++ (digest ++ newline))))) ≡ shown p
@@ -16,5 +24,10 @@ three_lines p code size digest c s d = rw (c, s, d) (simp append_assoc)
 
 pub returns : goal.returns
 returns c =
+    let p = pair_of c.args.multihash.now in
+    let digits = c.write_digits.new.places in
+    let same : digits ≡ encode_lower p.digest = c.write_digits.ensures.digits ∙ ap encode_lower c.digest.ensures.digest in
+    let long : length digits ≡ 2 * length p.digest = search rules in
     same_text c.format.result _ _ c.format.ensures.ok
-    (three_lines _ _ _ _ c.code-code.ensures c.size-size.ensures.size (c.in_ok-digest.ensures ∙ ap shown_digest c.digest.ensures.digest))
+    (three_lines _ _ _ _ c.code-code.ensures c.size-size.ensures.size
+    (digest_text p.digest digits _ long same c.text_of-digest.ensures.none c.text_of-digest.ensures.some))
