@@ -1,0 +1,55 @@
+-- What a line of the list says, in the grammar's words.
+use Rattle.std.specs.Prelude.{◌≡◌, ℕ, List, [], Option, Ok, ◌⊎◌, length, codes, All, MatchOption}
+use Rattle.hex.specs.Hex.{decode_of}
+use Rattle.multihash.specs.Settling.{IsShortestSettling}
+use Rattle.multihash.specs.Varint.{insufficient, overflow, not_minimal}
+use Rattle.multihash.specs.Verdict.{Verdict as Meaning, accepted, invalid_size, faulty, unexpected_eof, HasVerdict, HasWholeVerdict, IsEarlyEnd}
+use Rattle.vectors.specs.declared.check.Check.{Check}
+use Rattle.vectors.specs.declared.check.Check.TheVariants.{FromBytes, ReadSlice, ReadOneByte, ReadThreeBytes}
+use Rattle.vectors.specs.declared.line.Line.{Line}
+use Rattle.vectors.specs.declared.line.Reading.{Reading}
+use Rattle.vectors.specs.declared.verdict.Verdict.{Verdict}
+use Rattle.vectors.specs.declared.verdict.Verdict.TheVariants.{Pair as Listed, InvalidSize, Insufficient, Overflow, NotMinimal, UnexpectedEof}
+
+-- the text is a dash for no bytes, or the bytes in hexadecimal
+abbrev pub NamesBytes : List ℕ → List ℕ → Type 0
+NamesBytes text bytes = ((text ≡ codes "-") × (bytes ≡ [])) ⊎ (decode_of text ≡ Ok bytes)
+
+-- the verdict that is listed
+abbrev pub meaning : Verdict → Meaning
+meaning (Listed code digest) = accepted (record { code = code; digest = digest.items })
+meaning (InvalidSize size) = invalid_size size
+meaning Insufficient = faulty insufficient
+meaning Overflow = faulty overflow
+meaning NotMinimal = faulty not_minimal
+meaning UnexpectedEof = unexpected_eof
+
+-- the shortest beginning that settles the verdict has so many bytes
+pub record SettlesAfter (S : ℕ) (input : List ℕ) (count : ℕ) : Type 0 where
+  pub front : List ℕ
+  pub shortest : IsShortestSettling S input front
+  pub long : length front ≡ count
+
+-- the verdict settles after so many bytes, or where none are listed it is an early end
+abbrev pub IsTaken : ℕ → List ℕ → Meaning → Option ℕ → Type 0
+IsTaken S input v taken = MatchOption taken (IsEarlyEnd v) (SettlesAfter S input)
+
+-- the listed verdict is that of what begins with the input, and so is the number of bytes
+pub record IsReading (S : ℕ) (input : List ℕ) (listed : Reading) : Type 0 where
+  pub verdict : HasVerdict S input (meaning listed.verdict)
+  pub taken : IsTaken S input (meaning listed.verdict) listed.taken
+
+-- what the line says for this check is what the grammar says
+abbrev pub IsRight : Check → ℕ → Line → Type 0
+IsRight FromBytes S line = HasWholeVerdict S line.input.items (meaning line.from_bytes)
+IsRight ReadSlice S line = IsReading S line.input.items line.read
+IsRight ReadOneByte S line = IsReading S line.input.items line.read
+IsRight ReadThreeBytes S line = IsReading S line.input.items line.read
+
+-- each line is right for this check
+abbrev pub AreRightFor : Check → List Line → Type 0
+AreRightFor check lines = All (λ line. IsRight check line.size line) lines
+
+-- each line is right for each check
+abbrev pub AreRight : List Line → Type 0
+AreRight lines = (check : Check) → AreRightFor check lines

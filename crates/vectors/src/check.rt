@@ -1,0 +1,135 @@
+//! The checks on one line.
+ghost use Rattle.std.specs.Prelude.{◌≡◌, ◌+◌, ◌<◌, ◌≤◌, ◌↔◌, length, IsTrue, IfSome, IfNone, IfOk};
+ghost use Rattle.std.specs.Bool.{OnTrue};
+ghost use Rattle.multihash.specs.Verdict.{HasWholeVerdict, IsEarlyEnd};
+ghost use Rattle.vectors.specs.Listed.{meaning, IsReading, IsRight};
+
+use crate::cuts::Cuts;
+use crate::line::{Line, Reading};
+use crate::verdict::Verdict;
+use anyhow::{Result, bail};
+use multihash::{Multihash, laws};
+use std::fmt;
+
+// The largest buffer of a list.
+const LARGEST: usize = 300;
+
+/// A call that is to answer what a line says.
+#[derive(Clone, Copy, Debug, PartialEq, Eq)]
+pub enum Check {
+    FromBytes,
+    ReadSlice,
+    ReadOneByte,
+    ReadThreeBytes,
+}
+
+impl fmt::Display for Check {
+    fn fmt<W: fmt::Write>(&self, f: &mut fmt::Formatter<W>) -> fmt::Result {
+        f.write_str(match self {
+            Check::FromBytes => "from_bytes",
+            Check::ReadSlice => "read over the slice",
+            Check::ReadOneByte => "read, one byte a call",
+            Check::ReadThreeBytes => "read, three bytes a call",
+        })
+    }
+}
+
+impl Check {
+    /// Each check, in the order in which they are made.
+    pub const ALL: [Check; 4] = [
+        Check::FromBytes,
+        Check::ReadSlice,
+        Check::ReadOneByte,
+        Check::ReadThreeBytes,
+    ];
+
+    /// Whether the call answers what the line says.
+    ///
+    /// # Errors
+    ///
+    /// A size of buffer that no list has.
+    pub fn agrees(self, line: &Line) -> Result<bool>
+        ensures { IfOk result (λ agrees. OnTrue agrees (IsRight self line.now.size line.now)) }
+    {
+        Ok(match line.size {
+            0 => self.agrees_at::<0>(line),
+            1 => self.agrees_at::<1>(line),
+            2 => self.agrees_at::<2>(line),
+            4 => self.agrees_at::<4>(line),
+            32 => self.agrees_at::<32>(line),
+            64 => self.agrees_at::<64>(line),
+            128 => self.agrees_at::<128>(line),
+            200 => self.agrees_at::<200>(line),
+            255 => self.agrees_at::<255>(line),
+            256 => self.agrees_at::<256>(line),
+            300 => self.agrees_at::<300>(line),
+            size => bail!("no buffer of size {size}"),
+        })
+    }
+
+    fn agrees_at<const S: usize>(self, line: &Line) -> bool
+        requires { S ≤ LARGEST }
+        ensures { OnTrue result (IsRight self S line.now) }
+    {
+        match self {
+            Check::FromBytes => whole_agrees::<S>(&line.input, &line.from_bytes),
+            Check::ReadSlice => slice_agrees::<S>(&line.input, &line.read),
+            Check::ReadOneByte => cuts_agree::<S>(&line.input, &line.read, 1),
+            Check::ReadThreeBytes => cuts_agree::<S>(&line.input, &line.read, 3),
+        }
+    }
+}
+
+// Whether `from_bytes` answers as is listed.
+fn whole_agrees<const S: usize>(input: &[u8], listed: &Verdict) -> bool
+    requires { S ≤ LARGEST }
+    ensures { IsTrue result ↔ HasWholeVerdict S input.now (meaning listed.now) }
+{
+    // That an input has one verdict: what isn't answered isn't the grammar's either.
+    laws::one_verdict();
+    listed.is_answer(&Multihash::<S>::from_bytes(input))
+}
+
+// Whether `read` over the slice does as is listed.
+fn slice_agrees<const S: usize>(input: &[u8], listed: &Reading) -> bool
+    requires { S ≤ LARGEST }
+    ensures { OnTrue result (IsReading S input.now listed.now) }
+{
+    let mut left = input;
+    let answer = Multihash::<S>::read(&mut left);
+    listed.verdict.is_answer(&answer) && takes_as_listed(input, left, listed)
+}
+
+// Whether `read` does as is listed, over a reader that gives at most so many bytes a call.
+fn cuts_agree<const S: usize>(input: &[u8], listed: &Reading, most: usize) -> bool
+    requires size { S ≤ LARGEST }
+    requires some { 0 < most }
+    ensures { OnTrue result (IsReading S input.now listed.now) }
+{
+    let mut cuts = Cuts::new(input, most);
+    let answer = Multihash::<S>::read(&mut cuts);
+    listed.verdict.is_answer(&answer) && takes_as_listed(input, cuts.left, listed)
+}
+
+// Whether as many bytes were taken as is listed: a number of them, exactly where the verdict is no
+// early end. Of an input that ends in a varint all were taken, and of one that ends in the digest at
+// least both varints.
+fn takes_as_listed(input: &[u8], left: &[u8], listed: &Reading) -> bool
+    requires { length left.now ≤ length input.now }
+    ensures count { OnTrue result (IfSome listed.now.taken (λ taken. length input.now ≡ taken + length left.now)) }
+    ensures settled { OnTrue result (IfSome listed.now.taken (λ _. ¬ (IsEarlyEnd (meaning listed.now.verdict)))) }
+    ensures unsettled { OnTrue result (IfNone listed.now.taken (IsEarlyEnd (meaning listed.now.verdict))) }
+{
+    let taken = input.len() - left.len();
+    match (&listed.verdict, listed.taken) {
+        (Verdict::Insufficient, None) => taken == input.len(),
+        (Verdict::UnexpectedEof, None) => holds_two_varints(&input[..taken]),
+        (Verdict::Insufficient | Verdict::UnexpectedEof, Some(_)) | (_, None) => false,
+        (_, Some(count)) => taken == count,
+    }
+}
+
+// Whether two bytes could end a varint.
+fn holds_two_varints(bytes: &[u8]) -> bool {
+    bytes.iter().filter(|&&byte| byte < 128).count() >= 2
+}

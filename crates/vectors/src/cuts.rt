@@ -1,0 +1,47 @@
+//! A reader over a slice that gives few bytes a call.
+ghost use Rattle.std.specs.Prelude.{◌≡◌, ◌<◌, ◌≤◌, Some, Ok, min, length, take, drop, IfOk, OnErr};
+ghost use Rattle.multihash.specs.Reading.{Takes, IsAtEnd, CountsFaults};
+
+use multihash::no_std_io::{Error, Read};
+
+/// A reader of the bytes that are left, which gives at most so many a call and never fails.
+#[derive(Drop)]
+pub struct Cuts<'a> {
+    pub left: &'a [u8],
+    pub most: usize,
+    ghost gives_some: { 0 < most },
+}
+
+impl<'a> Cuts<'a> {
+    pub fn new(left: &'a [u8], most: usize) -> Self
+        requires { 0 < most }
+        ensures left { result.left.now ≡ left.now }
+        ensures most { result.most ≡ most }
+    {
+        Cuts { left, most }
+    }
+}
+
+impl Read for Cuts<'_> {
+    ghost rest = { λ cuts. Some cuts.left.now };
+
+    ghost failures = { λ _. 0 };
+
+    fn read(&mut self, buf: &mut [u8]) -> Result<usize, Error>
+        ensures count { IfOk result (λ n. n ≤ length buf.old) }
+        ensures beyond { IfOk result (λ n. drop n buf.new ≡ drop n buf.old) }
+        ensures faults { CountsFaults 0 0 result }
+        ensures takes { IfOk result (λ n. Takes (Some self.old.left.now) (take n buf.new) (Some self.new.left.now)) }
+        ensures at_end { IfOk result (λ n. n ≡ 0 → 0 < length buf.old → IsAtEnd (Some self.old.left.now)) }
+        ensures err { OnErr result (Some self.new.left.now ≡ Some self.old.left.now) }
+
+        ensures smallest { result ≡ Ok (min (min (length self.old.left.now) (length buf.old)) self.old.most) }
+        ensures same_most { self.new.most ≡ self.old.most }
+    {
+        let n = self.left.len().min(buf.len()).min(self.most);
+        let (front, left) = self.left.split_at(n);
+        buf[..n].copy_from_slice(front);
+        self.left = left;
+        Ok(n)
+    }
+}

@@ -1,0 +1,68 @@
+//! A line of the list.
+use crate::verdict::{self, Verdict};
+use anyhow::{Context, Result, bail};
+use std::alloc::Global;
+
+/// The first line of a list, which names the columns.
+pub const COLUMNS: &str = "S\tinput\tread\tread_taken\tfrom_bytes\tscale_decode\tscale_taken";
+
+/// What a reading call is to answer, and how many bytes it is to take: none is said where more input
+/// could change the answer.
+#[derive(Debug, Drop)]
+pub struct Reading {
+    pub verdict: Verdict,
+    pub taken: Option<usize>,
+}
+
+impl Reading {
+    fn parse(alloc: Global, verdict: &str, taken: &str) -> Result<Self> {
+        Ok(Reading {
+            verdict: Verdict::parse(alloc, verdict)?,
+            taken: match taken {
+                "-" => None,
+                _ => Some(taken.parse::<usize>().context("bytes taken")?),
+            },
+        })
+    }
+}
+
+/// An input, with what the calls are to answer to it.
+#[derive(Debug, Drop)]
+pub struct Line {
+    /// The size of the buffer.
+    pub size: usize,
+    pub input: Vec<u8>,
+    pub read: Reading,
+    pub from_bytes: Verdict,
+    pub scale_decode: Reading,
+}
+
+impl Line {
+    /// Reads a line: its columns, with tabs between them.
+    ///
+    /// # Errors
+    ///
+    /// A line with other columns, and want of memory.
+    pub fn parse(alloc: Global, text: &str) -> Result<Self> {
+        let columns: Vec<&str> = text.split('\t').collect(alloc)?;
+        let [
+            size,
+            input,
+            read,
+            read_taken,
+            from_bytes,
+            scale_decode,
+            scale_taken,
+        ] = columns.as_slice()
+        else {
+            bail!("{} columns", columns.len());
+        };
+        Ok(Line {
+            size: size.parse::<usize>().context("a size")?,
+            input: verdict::parse_bytes(alloc, input)?,
+            read: Reading::parse(alloc, read, read_taken)?,
+            from_bytes: Verdict::parse(alloc, from_bytes)?,
+            scale_decode: Reading::parse(alloc, scale_decode, scale_taken)?,
+        })
+    }
+}

@@ -1,0 +1,75 @@
+//! A list, replayed.
+ghost use Rattle.std.specs.Prelude.{IfOk};
+ghost use Rattle.std.specs.Bool.{OnTrue};
+ghost use Rattle.vectors.specs.Listed.{AreRightFor, AreRight};
+
+use crate::check::Check;
+use crate::line::{COLUMNS, Line};
+use anyhow::{Context, Result, ensure};
+use std::alloc::Global;
+use std::fmt::Write;
+
+/// Makes each check on each line of a list, and tells whether all of them agree. It writes one line
+/// for each check, and before it one for each disagreement.
+///
+/// # Errors
+///
+/// A list with other columns, a line that is malformed or has a size of buffer that no list has, want
+/// of memory, and what the writer answers.
+pub fn replay<W: Write>(alloc: Global, list: &str, report: &mut W) -> Result<bool> {
+    replay_lines(&parse(alloc, list)?, report)
+}
+
+// Makes each check on each line.
+fn replay_lines<W: Write>(lines: &[Line], report: &mut W) -> Result<bool>
+    ensures { IfOk result (λ all_agree. OnTrue all_agree (AreRight lines.now)) }
+{
+    let mut all_agree = true;
+    for check in Check::ALL {
+        all_agree = replay_check(check, lines, report)? && all_agree;
+    }
+    Ok(all_agree)
+}
+
+// The lines of a list, below the first, which names the columns.
+fn parse(alloc: Global, list: &str) -> Result<Vec<Line>> {
+    let mut texts = list.lines();
+    ensure!(texts.next() == Some(COLUMNS), "a list with other columns");
+    let mut lines = Vec::new(alloc);
+    for text in texts {
+        let line = Line::parse(alloc, text).context(format_args!("the line {text:?}"))?;
+        lines.push(line)?;
+    }
+    Ok(lines)
+}
+
+// Makes one check on each line.
+fn replay_check<W: Write>(check: Check, lines: &[Line], report: &mut W) -> Result<bool>
+    ensures { IfOk result (λ all_agree. OnTrue all_agree (AreRightFor check lines.now)) }
+{
+    let mut agree = 0;
+    for line in lines {
+        if check.agrees(line)? {
+            agree += 1;
+        } else {
+            write_disagreement(check, line, report)?;
+        }
+    }
+    writeln!(report, "{check}: {agree} lines agree")?;
+    Ok(agree == lines.len())
+}
+
+fn write_disagreement<W: Write>(check: Check, line: &Line, report: &mut W) -> Result<()> {
+    write!(report, "{check}: disagrees at size {}, input ", line.size)?;
+    if line.input.is_empty() {
+        write!(report, "-")?;
+    }
+    for byte in &line.input {
+        write!(report, "{byte:02x}")?;
+    }
+    writeln!(report)?;
+    Ok(())
+}
+
+#[cfg(test)]
+mod tests;

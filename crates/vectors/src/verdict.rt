@@ -1,0 +1,96 @@
+//! What a call is to answer.
+ghost use Rattle.std.specs.Prelude.{◌↔◌, IsTrue, IfOk};
+ghost use Rattle.multihash.specs.Answer.{Answers};
+ghost use Rattle.multihash.specs.Refusal.{IsEof};
+ghost use Rattle.vectors.specs.Listed.{meaning, NamesBytes};
+
+use anyhow::{Context, Result, bail, ensure};
+use multihash::{Error, Multihash};
+use std::alloc::Global;
+
+/// The verdict on an input, as a line of the list says it.
+#[derive(Debug, Drop)]
+pub enum Verdict {
+    Pair { code: u64, digest: Vec<u8> },
+    InvalidSize(u64),
+    Insufficient,
+    Overflow,
+    NotMinimal,
+    UnexpectedEof,
+}
+
+impl Verdict {
+    /// Reads a verdict: its name, and then the numbers or bytes that it has.
+    ///
+    /// # Errors
+    ///
+    /// A text that is no verdict, and want of memory.
+    pub fn parse(alloc: Global, text: &str) -> Result<Self> {
+        match text.split_once(' ') {
+            Some(("pair", pair)) => {
+                let (code, digest) = pair.split_once(' ').context("a pair with no digest")?;
+                Ok(Verdict::Pair {
+                    code: code.parse::<u64>().context("a code")?,
+                    digest: parse_bytes(alloc, digest)?,
+                })
+            }
+            Some(("invalid_size", size)) => Ok(Verdict::InvalidSize(
+                size.parse::<u64>().context("an invalid size")?,
+            )),
+            _ => Self::parse_bare(text),
+        }
+    }
+
+    // A verdict that is its name alone.
+    fn parse_bare(text: &str) -> Result<Self> {
+        Ok(match text {
+            "insufficient" => Verdict::Insufficient,
+            "overflow" => Verdict::Overflow,
+            "not_minimal" => Verdict::NotMinimal,
+            "unexpected_eof" => Verdict::UnexpectedEof,
+            _ => bail!("no verdict: {text:?}"),
+        })
+    }
+
+    /// Whether this is what the call answered.
+    pub fn is_answer<const S: usize>(&self, answer: &Result<Multihash<S>, Error>) -> bool
+        ensures { IsTrue result ↔ Answers answer.now (meaning self.now) }
+    {
+        match (self, answer) {
+            (Verdict::Pair { code, digest }, Ok(multihash)) => {
+                multihash.code() == *code && multihash.digest() == digest.as_slice()
+            }
+            (Verdict::InvalidSize(size), Err(error)) => error.invalid_size() == Some(*size),
+            (Verdict::Insufficient, Err(error)) => error.is_insufficient(),
+            (Verdict::Overflow, Err(error)) => error.is_overflow(),
+            (Verdict::NotMinimal, Err(error)) => error.is_not_minimal(),
+            (Verdict::UnexpectedEof, Err(error)) => is_unexpected_eof(error),
+            _ => false,
+        }
+    }
+}
+
+// Whether the input ended inside the digest.
+fn is_unexpected_eof(error: &Error) -> bool
+    ensures { IsTrue result ↔ IsEof error.now }
+{
+    match error.io() {
+        Some(io) => io.is_unexpected_eof(),
+        None => false,
+    }
+}
+
+/// Reads bytes in hexadecimal, or `-` for none.
+///
+/// # Errors
+///
+/// A text that is neither, and want of memory.
+pub fn parse_bytes(alloc: Global, text: &str) -> Result<Vec<u8>>
+    ensures { IfOk result (λ bytes. NamesBytes text.now bytes.items) }
+{
+    if text == "-" {
+        return Ok(Vec::new(alloc));
+    }
+    ensure!(!text.is_empty(), "no bytes where some should be");
+    Ok(hex::decode(alloc, text)?)
+}
