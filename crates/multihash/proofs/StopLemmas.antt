@@ -1,15 +1,15 @@
 -- Where `read` stops in the code, the size, or the digest.
-use Rattle.std.proofs.Common.{◌≡◌, ◌<◌, ◌≤◌, ◌⊎◌, ℕ, List, [], ◌++◌, Option, None, Some, IfSome, length, take, refl, sym, ap, ◌∙◌, subst, inl, inr, arith, append-nil, append_assoc, length-append}
+use Rattle.std.proofs.Common.{◌≡◌, ◌<◌, ◌≤◌, ◌⊎◌, ℕ, List, [], ◌++◌, Option, None, Some, IfSome, length, take, refl, sym, ap, ◌∙◌, subst, inl, inr, arith, append-nil, append_assoc}
 use Rattle.multihash.specs.Bytes.{IsProperBeginning}
 use Rattle.multihash.specs.Pair.{FitsBuffer, digest_limit}
-use Rattle.multihash.specs.Varint.{VarintFault, insufficient, overflow, not_minimal, IsVarint, IsInsufficient, HasFaultyFront}
+use Rattle.multihash.specs.Varint.{VarintFault, insufficient, overflow, not_minimal, IsVarint, HasFaultyFront}
 use Rattle.multihash.specs.Encoding.{IsEncoding}
 use Rattle.multihash.specs.Verdict.{invalid_size, faulty, unexpected_eof, HasSize, HasVerdict}
 use Rattle.multihash.specs.Fault.{Fault, IsUnexpectedEof, IsOwnFault}
 use Rattle.multihash.specs.Reading.{Takes, IsAtEnd, HasFewerThan}
 use Rattle.multihash.specs.Refusal.{Refusal, of_io, IsReaderFault, IsInvalidSize, IsFaulty}
 use Rattle.multihash.specs.Taking.{IsVarintRefusal, TakesAtVarintRefusal}
-use Rattle.multihash.specs.Answer.{Fields, pair_of}
+use Rattle.multihash.specs.Answer.{pair_of}
 use Rattle.multihash.proofs.SettlingLemmas.{EndsEarly, split_beginning, varint_step, before_first, before_second}
 use Rattle.multihash.proofs.TakingLemmas.{Stops, late, early, failed}
 

@@ -1,5 +1,5 @@
 -- What reading a varint took where it was refused.
-use Rattle.std.proofs.Common.{◌≡◌, ℕ, List, [], ◌∷◌, ◌++◌, Option, sym, ◌∙◌, subst}
+use Rattle.std.proofs.Common.{◌≡◌, ℕ, List, Option, subst}
 use Rattle.multihash.specs.Bytes.{IsProperBeginning}
 use Rattle.multihash.specs.Varint.{VarintFault, insufficient, IsInsufficient, HasFaultyFront}
 use Rattle.multihash.specs.Fault.{Fault}

@@ -1,5 +1,5 @@
 -- What the library's calls took from a reader, and how a reader or a writer made them fail.
-use Rattle.std.specs.Prelude.{◌≡◌, ◌<◌, ◌≤◌, ℕ, Bool, List, ◌++◌, ◌⊎◌, length, Option, Some, Result, MatchResult, IfSome}
+use Rattle.std.specs.Prelude.{◌≡◌, ◌<◌, ◌≤◌, ℕ, Bool, List, ◌⊎◌, Option, Some, Result, MatchResult}
 use Rattle.multihash.specs.Bytes.{IsBeginning, IsProperBeginning}
 use Rattle.multihash.specs.Pair.{digest_limit}
 use Rattle.multihash.specs.Varint.{VarintFault, insufficient, IsInsufficient, HasFaultyFront}

@@ -1,7 +1,6 @@
-use Rattle.std.proofs.Common.{◌≡◌, ◌+◌, ◌<◌, length, take, refl, ◌∙◌, arith, bit_and, bit_or}
+use Rattle.std.proofs.Common.{◌<◌, length, refl, ◌∙◌, arith, bit_and, bit_or}
 use Rattle.std.proofs.lemmas.List.{length-take-le, take_more_set}
 use Rattle.std.proofs.Math.ListN.{length-set}
-use Rattle.multihash.specs.Varint.{varint_limit, most_marked}
 use Rattle.multihash.proofs.WriteLemmas.{none_wrote, wrote_more, wrote_last, wrote_few, wrote_fewer}
 use Rattle.multihash.proofs.varint.encode.Goals as goal
 

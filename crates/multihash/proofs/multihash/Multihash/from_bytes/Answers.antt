@@ -1,5 +1,5 @@
-use Rattle.std.proofs.Common.{◌≡◌, ◌<◌, ◌++◌, length, refl, rules}
-use Rattle.multihash.specs.Verdict.{accepted, invalid_size}
+use Rattle.std.proofs.Common.{◌≡◌, ◌++◌, refl, rules}
+use Rattle.multihash.specs.Verdict.{invalid_size}
 use Rattle.multihash.proofs.TakingLemmas.{whole_left_over}
 use Rattle.multihash.proofs.multihash.Multihash.from_bytes.Goals as goal
 
