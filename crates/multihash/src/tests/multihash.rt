@@ -171,8 +171,18 @@ fn slices_that_fit_and_that_do_not(rt: HostRuntime) -> Result<(), Fail> {
     let mut places = [7u8; 7];
     assert_eq!(rt; fills(&m, &mut places), (true, 2));
     assert_eq!(rt; places, [0, 3, 65, 66, 67, 7, 7]);
+    Ok(())
+}
+
+#[test]
+fn write_counts_its_bytes(rt: HostRuntime) -> Result<(), Fail> {
+    let m = Multihash::<4>::wrap(0, b"ABC")?;
+    let mut left: &mut [u8] = &mut [0; 4];
+    let refused = m.write(&mut left);
+    assert!(rt; refused.is_err_and(|e| e.io().is_some_and(|e| e.is_write_zero())));
+    assert_eq!(rt; m.write(&mut [0; 5].as_mut_slice())?, 5);
     let empty = Multihash::<4>::wrap(0, &[])?;
-    assert_eq!(rt; fills(&empty, &mut [7; 2]), (true, 0));
+    assert_eq!(rt; empty.write(&mut [0; 2].as_mut_slice())?, 2);
     Ok(())
 }
 

@@ -1,4 +1,4 @@
-use Rattle.std.proofs.Common.{◌≡◌, ◌≤◌, ◌-◌, ℕ, List, [], length, Bool, false, true, IsTrue, ◌↔◌, Result, Ok, Err, IfOk, OnErr, refl, sym, ap, ◌∙◌, arith, length-drop}
+use Rattle.std.proofs.Common.{◌≡◌, ◌≤◌, ◌-◌, ℕ, List, [], length, Bool, false, IsTrue, ◌↔◌, Result, Ok, Err, IfOk, OnErr, sym, ap, ◌∙◌, arith, length-drop}
 use Rattle.std.specs.Result.{is_ok}
 use Rattle.std.proofs.lemmas.Bool.{false≢true}
 use Rattle.multihash.specs.Pair.{Pair}

@@ -1,7 +1,7 @@
-use Rattle.std.proofs.Common.{◌≡◌, ◌≢◌, ◌+◌, ℕ, Bool, true, false, Option, Some, None, IsTrue, IfSome, IfNone, ◌↔◌, refl, ap, arith}
+use Rattle.std.proofs.Common.{◌≡◌, ◌≢◌, ◌+◌, ℕ, Bool, true, false, Option, Some, None, IsTrue, IfSome, IfNone, ◌↔◌, refl, ap}
 use Rattle.std.specs.Option.{is_some}
 use mir.Val.{bool_byte}
-use Rattle.multihash.specs.Varint.{VarintFault, insufficient, overflow, not_minimal}
+use Rattle.multihash.specs.Varint.{insufficient, overflow, not_minimal}
 use Rattle.multihash.specs.Fault.{Fault}
 use Rattle.multihash.specs.Refusal.{Refusal, of_io, of_size, of_varint, of_not_bytes, IsInvalidSize, IsFaulty, IsNotBytes}
 use Rattle.multihash.proofs.tests.clients.one_of_six.Goals as goal
