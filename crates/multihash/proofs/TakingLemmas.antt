@@ -1,5 +1,5 @@
 -- Where `read` stops, and what each of its clauses says there.
-use Rattle.std.proofs.Common.{◌≡◌, ◌<◌, ◌⊎◌, ℕ, List, [], ◌++◌, Option, None, Some, Result, Ok, Err, IfSome, IfOk, IfErr, length, refl, sym, ap, subst, inl, inr, arith, append-nil}
+use Rattle.std.proofs.Common.{◌∙◌, ◌≡◌, ◌<◌, ◌⊎◌, ℕ, List, [], ◌++◌, Option, None, Some, Result, Ok, Err, IfSome, IfOk, IfErr, length, refl, sym, ap, subst, inl, inr, arith, append-nil}
 use Rattle.std.specs.Result.{IsErrAnd}
 use Rattle.multihash.specs.Bytes.{IsBeginning, IsProperBeginning}
 use Rattle.multihash.specs.Pair.{Pair, FitsBuffer}

@@ -60,7 +60,7 @@ impl<const S: usize> Multihash<S> {
 fn byte_members(value: &Value) -> Option<&[Value]>
     ensures { MatchOption result ((bytes : List ℕ) → ¬ (IsByteArray (view value.now) bytes))
         (λ members. (list_all is_byte members.now ≡ true)
-            × IsByteArray (view value.now) (member_bytes members.now)) }
+        × IsByteArray (view value.now) (member_bytes members.now)) }
 {
     let members = value.as_array()?;
     if are_bytes(members) {

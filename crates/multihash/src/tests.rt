@@ -4,6 +4,7 @@ mod fakes;
 mod faults;
 mod multihash;
 mod no_std_io;
+mod readme;
 mod told;
 mod varint;
 mod verdicts;
