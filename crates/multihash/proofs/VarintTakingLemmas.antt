@@ -6,7 +6,7 @@ use Rattle.multihash.specs.Fault.{Fault}
 use Rattle.multihash.specs.Reading.{Takes, IsAtEnd}
 use Rattle.multihash.specs.Refusal.{Refusal, of_io, of_varint}
 use Rattle.multihash.specs.Taking.{TakesAtVarintRefusal}
-use Rattle.multihash.proofs.ReadLemmas.{ReadsMarked, read_whole, before_end}
+use Rattle.multihash.proofs.VarintReadLemmas.{ReadsMarked, read_whole, before_end}
 
 -- the reader failed behind marked bytes
 pub failed_behind : (e : Refusal) (fault : Fault) (old new : Option (List ℕ)) (front : List ℕ) (sum : ℕ) → e ≡ of_io fault

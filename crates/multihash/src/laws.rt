@@ -1,4 +1,4 @@
-// Laws of the definitions alone: each function does nothing, and its contract is a law.
+//! Laws of the definitions alone: each function does nothing, and its contract is a law.
 ghost use Rattle.std.specs.Prelude.{◌≡◌, ℕ, ◌<◌, ◌≤◌, ◌↔◌, List, ◌++◌, length};
 ghost use Rattle.serde_json.specs.Data.{Data};
 ghost use Rattle.multihash.specs.Bytes.{IsBytes, IsBeginning, ExactlyOne};

@@ -3,8 +3,7 @@ ghost use Rattle.std.specs.Prelude.{◌≡◌, ◌<◌, ◌≤◌, ◌+◌, vec_
 ghost use Rattle.multihash.specs.Fault.{IsUnexpectedEof, IsWriteZero, IsOutOfMemory};
 ghost use Rattle.multihash.specs.Reading.{Takes, IsAtEnd, HasFewerThan, TakesFewerThan, CountsFaults, CountsFaultsOrEof};
 ghost use Rattle.multihash.specs.Writing.{CountsWriterFaults, CountsWriterFaultsOrFull, AppendsPart};
-ghost use Rattle.multihash.specs.Places.{GivesUpFor, GivesUpPlaces-none, GivesUpPlaces-joined};
-ghost use Rattle.multihash.specs.Places.{AppendsAtEnd, AppendsAtEnd-none, AppendsAtEnd-joined};
+ghost use Rattle.multihash.specs.Places.{GivesUpFor, GivesUpPlaces-none, GivesUpPlaces-joined, AppendsAtEnd, AppendsAtEnd-none, AppendsAtEnd-joined};
 
 use super::{Error, Read, Write};
 

@@ -1,7 +1,7 @@
 -- The first `len` bytes spell the digits that were written.
 use Rattle.std.proofs.Common.{◌≡◌, ◌+◌, ◌≤◌, length, take}
 use Rattle.multihash.specs.Varint.{most_marked}
-use Rattle.multihash.proofs.WriteLemmas.{Wrote}
+use Rattle.multihash.proofs.VarintWriteLemmas.{Wrote}
 use Rattle.multihash.proofs.varint.encode.Given as goal
 
 abbrev pub invariant-loop-rest : goal.invariant-loop-rest
