@@ -2,7 +2,7 @@
 ghost use Rattle.std.specs.Prelude.{◌≡◌, ◌+◌, ◌<◌, ◌≤◌, ◌↔◌, length, IsTrue, IfSome, IfNone, IfOk};
 ghost use Rattle.std.specs.Bool.{OnTrue};
 ghost use Rattle.multihash.specs.Verdict.{HasWholeVerdict, IsEarlyEnd};
-ghost use Rattle.vectors.specs.Listed.{meaning, IsReading, IsRight};
+ghost use Rattle.vectors.specs.Listed.{meaning, IsReading, IsScaleReading, TakesAsListed, IsRight};
 
 use crate::cuts::Cuts;
 use crate::line::{Line, Reading};
@@ -21,6 +21,9 @@ pub enum Check {
     ReadSlice,
     ReadOneByte,
     ReadThreeBytes,
+    ScaleSlice,
+    ScaleOneByte,
+    FromValue,
 }
 
 impl fmt::Display for Check {
@@ -30,17 +33,23 @@ impl fmt::Display for Check {
             Check::ReadSlice => "read over the slice",
             Check::ReadOneByte => "read, one byte a call",
             Check::ReadThreeBytes => "read, three bytes a call",
+            Check::ScaleSlice => "scale_decode over the slice",
+            Check::ScaleOneByte => "scale_decode, one byte a call",
+            Check::FromValue => "from_value",
         })
     }
 }
 
 impl Check {
     /// Each check, in the order in which they are made.
-    pub const ALL: [Check; 4] = [
+    pub const ALL: [Check; 7] = [
         Check::FromBytes,
         Check::ReadSlice,
         Check::ReadOneByte,
         Check::ReadThreeBytes,
+        Check::ScaleSlice,
+        Check::ScaleOneByte,
+        Check::FromValue,
     ];
 
     /// Whether the call answers what the line says.
@@ -76,6 +85,9 @@ impl Check {
             Check::ReadSlice => slice_agrees::<S>(&line.input, &line.read),
             Check::ReadOneByte => cuts_agree::<S>(&line.input, &line.read, 1),
             Check::ReadThreeBytes => cuts_agree::<S>(&line.input, &line.read, 3),
+            Check::ScaleSlice => scale_slice_agrees::<S>(&line.input, &line.scale_decode),
+            Check::ScaleOneByte => scale_cuts_agree::<S>(&line.input, &line.scale_decode),
+            Check::FromValue => value_agrees::<S>(line),
         }
     }
 }
@@ -88,6 +100,16 @@ fn whole_agrees<const S: usize>(input: &[u8], listed: &Verdict) -> bool
     // That an input has one verdict: what isn't answered isn't the grammar's either.
     laws::one_verdict();
     listed.is_answer(&Multihash::<S>::from_bytes(input))
+}
+
+// Whether `from_value` of the input as an array of numbers answers as is listed for `from_bytes`.
+fn value_agrees<const S: usize>(line: &Line) -> bool
+    requires { S ≤ LARGEST }
+    ensures { IsTrue result ↔ HasWholeVerdict S line.now.input.items (meaning line.now.from_bytes) }
+{
+    laws::one_verdict();
+    line.from_bytes
+        .is_answer(&Multihash::<S>::from_value(&line.json))
 }
 
 // Whether `read` over the slice does as is listed.
@@ -126,6 +148,41 @@ fn takes_as_listed(input: &[u8], left: &[u8], listed: &Reading) -> bool
         (Verdict::UnexpectedEof, None) => holds_two_varints(&input[..taken]),
         (Verdict::Insufficient | Verdict::UnexpectedEof, Some(_)) | (_, None) => false,
         (_, Some(count)) => taken == count,
+    }
+}
+
+// Whether `scale_decode` over the slice does as is listed.
+fn scale_slice_agrees<const S: usize>(input: &[u8], listed: &Reading) -> bool
+    requires { S ≤ LARGEST }
+    ensures { IsTrue result ↔ IsScaleReading S input.now listed.now }
+{
+    laws::scale_unique();
+    let mut left = input;
+    let answer = Multihash::<S>::scale_decode(&mut left);
+    listed.verdict.is_scale_answer(&answer) && takes_as_scale_listed(input, left, listed)
+}
+
+// Whether `scale_decode` does as is listed, over a reader that gives one byte a call.
+fn scale_cuts_agree<const S: usize>(input: &[u8], listed: &Reading) -> bool
+    requires { S ≤ LARGEST }
+    ensures { IsTrue result ↔ IsScaleReading S input.now listed.now }
+{
+    laws::scale_unique();
+    let mut cuts = Cuts::new(input, 1);
+    let answer = Multihash::<S>::scale_decode(&mut cuts);
+    listed.verdict.is_scale_answer(&answer) && takes_as_scale_listed(input, cuts.left, listed)
+}
+
+// Whether as many bytes were taken as is listed: a number of them, or any where the verdict is an
+// early end.
+fn takes_as_scale_listed(input: &[u8], left: &[u8], listed: &Reading) -> bool
+    requires { length left.now ≤ length input.now }
+    ensures { IsTrue result ↔ TakesAsListed input.now left.now listed.now }
+{
+    match (&listed.verdict, listed.taken) {
+        (Verdict::UnexpectedEof, None) => true,
+        (Verdict::UnexpectedEof, Some(_)) | (_, None) => false,
+        (_, Some(count)) => input.len() - left.len() == count,
     }
 }
 

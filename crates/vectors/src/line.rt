@@ -1,6 +1,11 @@
 //! A line of the list.
+ghost use Rattle.std.specs.Prelude.{◌≡◌, IfOk, map, take};
+ghost use Rattle.serde_json.specs.View.{view};
+ghost use Rattle.multihash.specs.Json.{IsByteArray};
+
 use crate::verdict::{self, Verdict};
 use anyhow::{Context, Result, bail};
+use serde_json::Value;
 use std::alloc::Global;
 
 /// The first line of a list, which names the columns.
@@ -32,9 +37,12 @@ pub struct Line {
     /// The size of the buffer.
     pub size: usize,
     pub input: Vec<u8>,
+    /// The input as an array of numbers.
+    pub json: Value,
     pub read: Reading,
     pub from_bytes: Verdict,
     pub scale_decode: Reading,
+    ghost lists_input: { ∥ IsByteArray (view json) input.items ∥₁ },
 }
 
 impl Line {
@@ -57,12 +65,25 @@ impl Line {
         else {
             bail!("{} columns", columns.len());
         };
+        let input = verdict::parse_bytes(alloc, input)?;
         Ok(Line {
             size: size.parse::<usize>().context("a size")?,
-            input: verdict::parse_bytes(alloc, input)?,
+            json: number_array(alloc, &input)?,
+            input,
             read: Reading::parse(alloc, read, read_taken)?,
             from_bytes: Verdict::parse(alloc, from_bytes)?,
             scale_decode: Reading::parse(alloc, scale_decode, scale_taken)?,
         })
     }
+}
+
+// The bytes as an array of numbers.
+fn number_array(alloc: Global, bytes: &[u8]) -> Result<Value>
+    ensures { IfOk result (λ value. IsByteArray (view value) bytes.now) }
+{
+    let mut members = Vec::with_capacity(alloc, bytes.len())?;
+    for byte in bytes {
+        members.push(Value::from(*byte))?;
+    }
+    Ok(Value::Array(members))
 }

@@ -25,93 +25,157 @@ fn reports_agreement(rt: HostRuntime) -> Result<(), Fail> {
 read over the slice: 1 lines agree
 read, one byte a call: 1 lines agree
 read, three bytes a call: 1 lines agree
+scale_decode over the slice: 1 lines agree
+scale_decode, one byte a call: 1 lines agree
+from_value: 1 lines agree
 "
     );
     Ok(())
 }
 
-// Lines with a false column, and whether it is that of `from_bytes` or one of `read`.
-const FALSE_LINES: [(&str, bool, bool); 12] = [
+// What a check compares with.
+#[derive(Clone, Copy, PartialEq)]
+enum Part {
+    Whole,
+    Read,
+    Scale,
+}
+
+fn part_of(check: Check) -> Part {
+    match check {
+        Check::FromBytes | Check::FromValue => Part::Whole,
+        Check::ReadSlice | Check::ReadOneByte | Check::ReadThreeBytes => Part::Read,
+        Check::ScaleSlice | Check::ScaleOneByte => Part::Scale,
+    }
+}
+
+// Lines with a false column, and the part that it is in.
+const FALSE_LINES: [(&str, Part); 22] = [
     // The digest of a pair, its code, and a pair where there is none.
     (
         "4\t390286ce\tpair 57 86ce\t4\tpair 57 86cf\tunexpected_eof\t-",
-        true,
-        false,
+        Part::Whole,
     ),
     (
         "4\t390286ce\tpair 58 86ce\t4\tpair 57 86ce\tunexpected_eof\t-",
-        false,
-        true,
+        Part::Read,
     ),
     (
         "4\t390286ce\tpair 57 86\t4\tpair 57 86ce\tunexpected_eof\t-",
-        false,
-        true,
+        Part::Read,
     ),
     (
         "1\t390286ce\tpair 57 86ce\t2\tinvalid_size 2\tunexpected_eof\t-",
-        false,
-        true,
+        Part::Read,
     ),
     // The size that was refused, and a byte that is left over.
     (
         "1\t390286ce\tinvalid_size 3\t2\tinvalid_size 2\tunexpected_eof\t-",
-        false,
-        true,
+        Part::Read,
     ),
     (
         "2\t0000ff\tpair 0 -\t2\tpair 0 -\tunexpected_eof\t-",
-        true,
-        false,
+        Part::Whole,
     ),
     // Another refusal.
     (
         "1\t8000\tinsufficient\t-\tnot_minimal\tunexpected_eof\t-",
-        false,
-        true,
+        Part::Read,
     ),
     (
         "1\t80\tinsufficient\t-\toverflow\tunexpected_eof\t-",
-        true,
-        false,
+        Part::Whole,
     ),
     (
         "4\t0002ff\tunexpected_eof\t-\tinsufficient\tunexpected_eof\t-",
-        true,
-        false,
+        Part::Whole,
     ),
     // More bytes or fewer, a number where nothing settles, and none where something does.
     (
         "4\t390286ce\tpair 57 86ce\t3\tpair 57 86ce\tunexpected_eof\t-",
-        false,
-        true,
+        Part::Read,
     ),
     (
         "1\t80\tinsufficient\t1\tinsufficient\tunexpected_eof\t-",
-        false,
-        true,
+        Part::Read,
     ),
     (
         "4\t390286ce\tpair 57 86ce\t-\tpair 57 86ce\tunexpected_eof\t-",
-        false,
-        true,
+        Part::Read,
+    ),
+    // The SCALE form: its digest, its code, and a pair where there is none.
+    (
+        "4\t39000000000000000286ce\tpair 57 -\t2\tinvalid_size 9\tpair 57 86cf\t11",
+        Part::Scale,
+    ),
+    (
+        "4\t39000000000000000286ce\tpair 57 -\t2\tinvalid_size 9\tpair 58 86ce\t11",
+        Part::Scale,
+    ),
+    (
+        "1\t39000000000000000286ce\tpair 57 -\t2\tinvalid_size 9\tpair 57 86ce\t11",
+        Part::Scale,
+    ),
+    // The size that was refused, and another refusal.
+    (
+        "1\t39000000000000000286ce\tpair 57 -\t2\tinvalid_size 9\tinvalid_size 3\t9",
+        Part::Scale,
+    ),
+    (
+        "1\t39000000000000000286ce\tpair 57 -\t2\tinvalid_size 9\tunexpected_eof\t-",
+        Part::Scale,
+    ),
+    (
+        "4\t39000000000000000286ce\tpair 57 -\t2\tinvalid_size 9\tinvalid_size 2\t9",
+        Part::Scale,
+    ),
+    (
+        "4\t39000000000000000286\tpair 57 -\t2\tinvalid_size 8\tinsufficient\t-",
+        Part::Scale,
+    ),
+    // More bytes or fewer, none where something is decided, and a number where nothing is.
+    (
+        "4\t39000000000000000286ce\tpair 57 -\t2\tinvalid_size 9\tpair 57 86ce\t10",
+        Part::Scale,
+    ),
+    (
+        "1\t39000000000000000286ce\tpair 57 -\t2\tinvalid_size 9\tinvalid_size 2\t-",
+        Part::Scale,
+    ),
+    (
+        "4\t39000000000000000286\tpair 57 -\t2\tinvalid_size 8\tunexpected_eof\t10",
+        Part::Scale,
     ),
 ];
 
+// Lines on which each check agrees: a SCALE form with a byte behind it, one whose size is too large for
+// the buffer, and one that is cut.
+const TRUE_LINES: [&str; 3] = [
+    "4\t39000000000000000286ceff\tpair 57 -\t2\tinvalid_size 10\tpair 57 86ce\t11",
+    "1\t39000000000000000286ce\tpair 57 -\t2\tinvalid_size 9\tinvalid_size 2\t9",
+    "4\t39000000000000000286\tpair 57 -\t2\tinvalid_size 8\tunexpected_eof\t-",
+];
+
+#[test]
+fn agrees_on_scale_forms(rt: HostRuntime) -> Result<(), Fail> {
+    for line in TRUE_LINES {
+        let list = list_of(rt.alloc(), line)?;
+        let mut report = String::new(rt.alloc());
+        assert!(rt; replay(rt.alloc(), list.as_str(), &mut report)?, "{line}");
+    }
+    Ok(())
+}
+
 #[test]
 fn reports_disagreement(rt: HostRuntime) -> Result<(), Fail> {
-    for (line, in_whole, in_read) in FALSE_LINES {
+    for (line, part) in FALSE_LINES {
         let list = list_of(rt.alloc(), line)?;
         let mut report = String::new(rt.alloc());
         assert!(rt; !replay(rt.alloc(), list.as_str(), &mut report)?, "{line}");
         let (size, columns) = line.split_once('\t').ok_or("one column")?;
         let (input, _) = columns.split_once('\t').ok_or("two columns")?;
-        for (check, is_false) in [
-            (Check::FromBytes, in_whole),
-            (Check::ReadSlice, in_read),
-            (Check::ReadOneByte, in_read),
-            (Check::ReadThreeBytes, in_read),
-        ] {
+        for check in Check::ALL {
+            let is_false = part_of(check) == part;
             let disagrees = format!(in rt.alloc();
                 "{check}: disagrees at size {size}, input {input}"
             )?;
