@@ -41,6 +41,45 @@ fn an_odd_line_takes_no_memory(rt: HostRuntime) -> Result<(), Fail> {
     Ok(())
 }
 
+#[test]
+fn shows_what_a_line_names(rt: HostRuntime) -> Result<(), Fail> {
+    let empty = "code 0\nsize 0\ndigest -\n";
+    let three = "code 22\nsize 3\ndigest aabbcc\n";
+    for (text, lines) in [
+        ("0000", empty),
+        ("0000\n", empty),
+        ("1603AABBCC\n", three),
+        ("1603aaBBcc", three),
+    ] {
+        assert_eq!(rt; show(rt.alloc(), text.as_bytes())?.as_str(), lines);
+    }
+    Ok(())
+}
+
+#[test]
+fn tells_why_a_line_is_refused(rt: HostRuntime) -> Result<(), Fail> {
+    for (text, reason) in [
+        ("", "not enough input bytes"),
+        ("\n", "not enough input bytes"),
+        ("0", "not hexadecimal"),
+        ("zz", "not hexadecimal"),
+        ("00\n\n", "not hexadecimal"),
+        ("0041", "Invalid multihash size 65."),
+        ("8000", "encoding is not minimal"),
+        ("0001", "failed to fill whole buffer"),
+    ] {
+        match show(rt.alloc(), text.as_bytes()) {
+            Err(e) => {
+                assert_eq!(rt; format!(in rt.alloc(); "{e}")?.as_str(), reason);
+                assert_eq!(rt; format!(in rt.alloc(); "{e:>40.3}")?.as_str(), reason);
+                assert!(rt; !format!(in rt.alloc(); "{e:?}")?.is_empty());
+            }
+            Ok(_lines) => assert!(rt; false),
+        }
+    }
+    Ok(())
+}
+
 fn is_error<E: std::error::Error>(_e: &E) -> bool {
     true
 }

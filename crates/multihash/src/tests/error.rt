@@ -76,6 +76,7 @@ fn refusals_print_their_texts(rt: HostRuntime) -> Result<(), Fail> {
         (Error::insufficient(), "not enough input bytes"),
         (Error::overflow(), "input bytes exceed maximum"),
         (Error::not_minimal(), "encoding is not minimal"),
+        (Error::not_bytes(), "Failed to deserialize Multihash"),
         (
             Error::from(no_std_io::Error::unexpected_eof()),
             "failed to fill whole buffer",
@@ -108,6 +109,8 @@ fn refusals_tell_their_kind(rt: HostRuntime) {
     assert!(rt; Error::overflow().is_overflow());
     assert!(rt; Error::not_minimal().is_not_minimal());
     assert!(rt; !Error::not_minimal().is_not_bytes());
+    assert!(rt; Error::not_bytes().is_not_bytes());
+    assert!(rt; !Error::not_bytes().is_not_minimal());
     assert!(rt; Error::not_minimal().invalid_size().is_none());
     let passed_on = Error::from(no_std_io::Error::other("x"));
     assert!(rt;
