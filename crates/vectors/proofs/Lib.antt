@@ -1,3 +1,4 @@
+pub mod AllLemmas
 pub mod AnswerLemmas
 pub mod ScaleAnswerLemmas
 pub mod ValueLemmas

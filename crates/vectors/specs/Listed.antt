@@ -1,5 +1,5 @@
 -- What a line of the list says, in the grammar's words.
-use Rattle.std.specs.Prelude.{◌≡◌, ◌≢◌, ℕ, ◌+◌, List, [], Option, None, Some, Ok, ◌⊎◌, length, codes, All, MatchOption, IsSomeAnd}
+use Rattle.std.specs.Prelude.{◌≡◌, ◌≢◌, ℕ, ◌+◌, List, [], Option, None, Some, Ok, ◌⊎◌, length, take, count_by, nat_lt, ◌-◌, ◌≤◌, Bool, codes, All, MatchOption, IsSomeAnd}
 use Rattle.hex.specs.Hex.{decode_of}
 use Rattle.multihash.specs.Bytes.{IsBeginning, IsProperBeginning}
 use Rattle.multihash.specs.Scale.{ScaleVerdict, decoded, refused_size, ended, HasScaleVerdict}
@@ -69,9 +69,28 @@ abbrev pub IsScaleReading : ℕ → List ℕ → Reading → Type 0
 IsScaleReading S input listed =
     IsSomeAnd (scale_meaning listed.verdict) (λ v. HasScaleVerdict S input v × IsScaleTaken S input v listed.taken)
 
--- as many bytes were taken as are listed; none are listed exactly where decoding ends early
-abbrev pub TakesAsListed : List ℕ → List ℕ → Reading → Type 0
-TakesAsListed input left listed = MatchOption listed.taken (scale_meaning listed.verdict ≡ Some ended)
+-- the byte ends a varint
+abbrev pub ends_varint : ℕ → Bool
+ends_varint byte = nat_lt byte 128
+
+-- where more input could change the verdict, as many bytes were taken as reading takes at least: all of an
+-- input that ends in a varint, and both varints of one that ends in the digest
+abbrev pub TakesEnough : Meaning → List ℕ → List ℕ → Type 0
+TakesEnough (accepted p) input left = ⊥
+TakesEnough (invalid_size size) input left = ⊥
+TakesEnough (faulty insufficient) input left = left ≡ []
+TakesEnough (faulty overflow) input left = ⊥
+TakesEnough (faulty not_minimal) input left = ⊥
+TakesEnough unexpected_eof input left = 2 ≤ count_by ends_varint (take (length input - length left) input)
+
+-- reading took as many bytes as are listed; none are listed exactly where more input could change the verdict
+abbrev pub TakesAsReadListed : List ℕ → List ℕ → Reading → Type 0
+TakesAsReadListed input left listed = MatchOption listed.taken (TakesEnough (meaning listed.verdict) input left)
+    (λ taken. ¬ (IsEarlyEnd (meaning listed.verdict)) × (length input ≡ taken + length left))
+
+-- decoding took as many bytes as are listed; none are listed exactly where it ends early
+abbrev pub TakesAsScaleListed : List ℕ → List ℕ → Reading → Type 0
+TakesAsScaleListed input left listed = MatchOption listed.taken (scale_meaning listed.verdict ≡ Some ended)
     (λ taken. (scale_meaning listed.verdict ≢ Some ended) × (length input ≡ taken + length left))
 
 -- what the line says for this check is what the grammar says

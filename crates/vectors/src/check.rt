@@ -1,8 +1,7 @@
 //! The checks on one line.
-ghost use Rattle.std.specs.Prelude.{◌≡◌, ◌+◌, ◌<◌, ◌≤◌, ◌↔◌, length, IsTrue, IfSome, IfNone, IfOk};
-ghost use Rattle.std.specs.Bool.{OnTrue};
-ghost use Rattle.multihash.specs.Verdict.{HasWholeVerdict, IsEarlyEnd};
-ghost use Rattle.vectors.specs.Listed.{meaning, IsReading, IsScaleReading, TakesAsListed, IsRight};
+ghost use Rattle.std.specs.Prelude.{◌<◌, ◌≤◌, ◌↔◌, length, count_by, IsTrue, IfOk};
+ghost use Rattle.multihash.specs.Verdict.{HasWholeVerdict};
+ghost use Rattle.vectors.specs.Listed.{meaning, IsReading, IsScaleReading, ends_varint, TakesAsReadListed, TakesAsScaleListed, IsRight};
 
 use crate::cuts::Cuts;
 use crate::line::{Line, Reading};
@@ -58,7 +57,7 @@ impl Check {
     ///
     /// A size of buffer that no list has.
     pub fn agrees(self, line: &Line) -> Result<bool>
-        ensures { IfOk result (λ agrees. OnTrue agrees (IsRight self line.now.size line.now)) }
+        ensures { IfOk result (λ agrees. IsTrue agrees ↔ IsRight self line.now.size line.now) }
     {
         Ok(match line.size {
             0 => self.agrees_at::<0>(line),
@@ -78,7 +77,7 @@ impl Check {
 
     fn agrees_at<const S: usize>(self, line: &Line) -> bool
         requires { S ≤ LARGEST }
-        ensures { OnTrue result (IsRight self S line.now) }
+        ensures { IsTrue result ↔ IsRight self S line.now }
     {
         match self {
             Check::FromBytes => whole_agrees::<S>(&line.input, &line.from_bytes),
@@ -108,15 +107,17 @@ fn value_agrees<const S: usize>(line: &Line) -> bool
     ensures { IsTrue result ↔ HasWholeVerdict S line.now.input.items (meaning line.now.from_bytes) }
 {
     laws::one_verdict();
-    line.from_bytes
-        .is_answer(&Multihash::<S>::from_value(&line.json))
+    let answer = Multihash::<S>::from_value(&line.json);
+    line.from_bytes.is_answer(&answer)
 }
 
 // Whether `read` over the slice does as is listed.
 fn slice_agrees<const S: usize>(input: &[u8], listed: &Reading) -> bool
     requires { S ≤ LARGEST }
-    ensures { OnTrue result (IsReading S input.now listed.now) }
+    ensures { IsTrue result ↔ IsReading S input.now listed.now }
 {
+    laws::one_verdict();
+    laws::settles();
     let mut left = input;
     let answer = Multihash::<S>::read(&mut left);
     listed.verdict.is_answer(&answer) && takes_as_listed(input, left, listed)
@@ -126,8 +127,10 @@ fn slice_agrees<const S: usize>(input: &[u8], listed: &Reading) -> bool
 fn cuts_agree<const S: usize>(input: &[u8], listed: &Reading, most: usize) -> bool
     requires size { S ≤ LARGEST }
     requires some { 0 < most }
-    ensures { OnTrue result (IsReading S input.now listed.now) }
+    ensures { IsTrue result ↔ IsReading S input.now listed.now }
 {
+    laws::one_verdict();
+    laws::settles();
     let mut cuts = Cuts::new(input, most);
     let answer = Multihash::<S>::read(&mut cuts);
     listed.verdict.is_answer(&answer) && takes_as_listed(input, cuts.left, listed)
@@ -138,13 +141,11 @@ fn cuts_agree<const S: usize>(input: &[u8], listed: &Reading, most: usize) -> bo
 // least both varints.
 fn takes_as_listed(input: &[u8], left: &[u8], listed: &Reading) -> bool
     requires { length left.now ≤ length input.now }
-    ensures count { OnTrue result (IfSome listed.now.taken (λ taken. length input.now ≡ taken + length left.now)) }
-    ensures settled { OnTrue result (IfSome listed.now.taken (λ _. ¬ (IsEarlyEnd (meaning listed.now.verdict)))) }
-    ensures unsettled { OnTrue result (IfNone listed.now.taken (IsEarlyEnd (meaning listed.now.verdict))) }
+    ensures { IsTrue result ↔ TakesAsReadListed input.now left.now listed.now }
 {
     let taken = input.len() - left.len();
     match (&listed.verdict, listed.taken) {
-        (Verdict::Insufficient, None) => taken == input.len(),
+        (Verdict::Insufficient, None) => left.is_empty(),
         (Verdict::UnexpectedEof, None) => holds_two_varints(&input[..taken]),
         (Verdict::Insufficient | Verdict::UnexpectedEof, Some(_)) | (_, None) => false,
         (_, Some(count)) => taken == count,
@@ -177,7 +178,7 @@ fn scale_cuts_agree<const S: usize>(input: &[u8], listed: &Reading) -> bool
 // early end.
 fn takes_as_scale_listed(input: &[u8], left: &[u8], listed: &Reading) -> bool
     requires { length left.now ≤ length input.now }
-    ensures { IsTrue result ↔ TakesAsListed input.now left.now listed.now }
+    ensures { IsTrue result ↔ TakesAsScaleListed input.now left.now listed.now }
 {
     match (&listed.verdict, listed.taken) {
         (Verdict::UnexpectedEof, None) => true,
@@ -187,6 +188,8 @@ fn takes_as_scale_listed(input: &[u8], left: &[u8], listed: &Reading) -> bool
 }
 
 // Whether two bytes could end a varint.
-fn holds_two_varints(bytes: &[u8]) -> bool {
+fn holds_two_varints(bytes: &[u8]) -> bool
+    ensures { IsTrue result ↔ 2 ≤ count_by ends_varint bytes.now }
+{
     bytes.iter().filter(|&&byte| byte < 128).count() >= 2
 }

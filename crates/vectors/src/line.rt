@@ -1,5 +1,5 @@
 //! A line of the list.
-ghost use Rattle.std.specs.Prelude.{◌≡◌, IfOk, map, take};
+ghost use Rattle.std.specs.Prelude.{IfOk};
 ghost use Rattle.serde_json.specs.View.{view};
 ghost use Rattle.multihash.specs.Json.{IsByteArray};
 

@@ -1,6 +1,5 @@
 //! A list, replayed.
-ghost use Rattle.std.specs.Prelude.{IfOk};
-ghost use Rattle.std.specs.Bool.{OnTrue};
+ghost use Rattle.std.specs.Prelude.{◌↔◌, IsTrue, IfOk};
 ghost use Rattle.vectors.specs.Listed.{AreRightFor, AreRight};
 
 use crate::check::Check;
@@ -22,7 +21,7 @@ pub fn replay<W: Write>(alloc: Global, list: &str, report: &mut W) -> Result<boo
 
 // Makes each check on each line.
 fn replay_lines<W: Write>(lines: &[Line], report: &mut W) -> Result<bool>
-    ensures { IfOk result (λ all_agree. OnTrue all_agree (AreRight lines.now)) }
+    ensures { IfOk result (λ all_agree. IsTrue all_agree ↔ AreRight lines.now) }
 {
     let mut all_agree = true;
     for check in Check::ALL {
@@ -45,7 +44,7 @@ fn parse(alloc: Global, list: &str) -> Result<Vec<Line>> {
 
 // Makes one check on each line.
 fn replay_check<W: Write>(check: Check, lines: &[Line], report: &mut W) -> Result<bool>
-    ensures { IfOk result (λ all_agree. OnTrue all_agree (AreRightFor check lines.now)) }
+    ensures { IfOk result (λ all_agree. IsTrue all_agree ↔ AreRightFor check lines.now) }
 {
     let mut agree = 0;
     for line in lines {

@@ -1,12 +1,23 @@
-use Rattle.std.proofs.Common.{refl}
-use Rattle.vectors.proofs.AnswerLemmas.{is_reading}
+use Rattle.std.proofs.Common.{refl, sym, ◌∙◌}
+use Rattle.std.proofs.lemmas.Bool.{false≢true}
+use Rattle.vectors.proofs.AnswerLemmas.{ReadCall, reading, no_reading}
 use Rattle.vectors.proofs.check.cuts_agree.Goals as goal
 
 pub returns-then-is_answer : goal.returns-then-is_answer
 returns-then-is_answer g c =
-    let read = c.read-answer.ensures in
-    let verdict = rw c.new-cuts.ensures.left at (read.verdict refl) in
-    let settled = rw c.new-cuts.ensures.left at (read.settled refl) in
-    let listed = c.takes_as_listed.ensures in
-    is_reading g.row.S _ c.read-answer.new.r.left.now _ _ verdict settled
-    (c.is_answer.ensures.0 c.if-is_answer.true) _ listed.count listed.settled listed.unsettled
+    let call = c.read-answer in
+    let d : ReadCall g.row.S c.args.input.now call.new.r.left.now call.result =
+    record { unique = c.one_verdict.ensures.read_unique g.row.S _; unsettled = c.settles.ensures.none g.row.S _; verdict = rw c.new-cuts.ensures.left at (call.ensures.verdict refl); settled = rw c.new-cuts.ensures.left at (call.ensures.settled refl); err = rw c.new-cuts.ensures.left at call.ensures.err } in
+    let test = c.takes_as_listed.ensures in
+    let both = reading g.row.S _ _ _ d c.args.listed.now (c.is_answer.ensures.0 c.if-is_answer.true) in
+    (λ holds. both.0 (test.0 holds), λ right. test.1 (both.1 right))
+
+pub returns-else-is_answer : goal.returns-else-is_answer
+returns-else-is_answer g c =
+    let call = c.read-answer in
+    let d : ReadCall g.row.S c.args.input.now call.new.r.left.now call.result =
+    record { unique = c.one_verdict.ensures.read_unique g.row.S _; unsettled = c.settles.ensures.none g.row.S _; verdict = rw c.new-cuts.ensures.left at (call.ensures.verdict refl); settled = rw c.new-cuts.ensures.left at (call.ensures.settled refl); err = rw c.new-cuts.ensures.left at call.ensures.err } in (
+      λ holds. absurd (false≢true (sym c.if-is_answer.false ∙ holds)),
+      λ right. absurd (no_reading g.row.S _ _ _ d c.args.listed.now
+          (λ answers. false≢true (sym c.if-is_answer.false ∙ c.is_answer.ensures.1 answers)) right),
+    )

@@ -1,7 +1,5 @@
-use Rattle.std.proofs.Common.{◌≡◌, ℕ, List, Result, refl, sym, ◌∙◌}
+use Rattle.std.proofs.Common.{refl, sym, ◌∙◌}
 use Rattle.std.proofs.lemmas.Bool.{false≢true}
-use Rattle.multihash.specs.Answer.{Fields}
-use Rattle.multihash.specs.Refusal.{Refusal}
 use Rattle.vectors.proofs.ScaleAnswerLemmas.{Decoding, reading, no_reading}
 use Rattle.vectors.proofs.check.scale_cuts_agree.Goals as goal
 

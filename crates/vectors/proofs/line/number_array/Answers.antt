@@ -1,4 +1,4 @@
-use Rattle.std.proofs.Common.{◌≡◌, ◌<◌, ℕ, List, map, arith, ap, ◌∙◌}
+use Rattle.std.proofs.Common.{◌<◌, ℕ, List, map, arith, ap, ◌∙◌}
 use Rattle.std.proofs.lemmas.List.{take_all}
 use Rattle.std.proofs.lemmas.List.Elements.{All-from_get_or}
 use Rattle.serde_json.specs.Data.{Data, number, unsigned, array}

@@ -1,10 +1,11 @@
-use Rattle.std.proofs.Common.{List, [], ◌∷◌, All, arith, ◌∙◌, sym, subst}
-use Rattle.std.proofs.lemmas.Bool.{OnTrue_from, OnTrue_at}
+use Rattle.std.proofs.Common.{List, [], ◌∷◌, All, get_or, take, arith, ◌∙◌, sym, subst}
+use Rattle.std.proofs.lemmas.Bool.{false≢true}
 use Rattle.std.proofs.lemmas.List.{take_all}
 use Rattle.std.proofs.lemmas.List.Elements.{All-more}
-use Rattle.vectors.specs.Listed.{AreRightFor, AreRight}
+use Rattle.vectors.specs.Listed.{AreRightFor}
 use Rattle.vectors.specs.declared.check.Check.{Check}
 use Rattle.vectors.specs.declared.check.Check.TheVariants.{FromBytes, ReadSlice, ReadOneByte, ReadThreeBytes, ScaleSlice, ScaleOneByte, FromValue}
+use Rattle.vectors.proofs.AllLemmas.{All-fewer, All-last}
 use Rattle.vectors.proofs.replay.replay_lines.Goals as goal
 use Rattle.vectors.proofs.replay.replay_lines.Goals.{then-branch, else-branch}
 
@@ -24,16 +25,27 @@ of_each P all FromValue = all 6 FromBytes (omega arith)
 pub loop-check-preserved : goal.loop-check-preserved
 loop-check-preserved g c =
     let Holds : Check → Type 0 = λ check. AreRightFor check c.args.lines.now in
+    let before = c.loop-check.invariant in
+    let i = c.loop-check.check-index in
+    let test = c.in_ok-all_agree.ensures in
     elim c.if-branch.branch [
-      | then-branch w ↦ λ each.
-          let right = OnTrue_at w.if-branch.true c.in_ok-all_agree.ensures in
-          All-more Holds checks c.loop-check.check-index FromBytes c.loop-check-test.true
-          (c.loop-check.invariant (sym w.all_agree-is ∙ each)) right
-      | else-branch w ↦ λ each. cc
+      | then-branch w ↦ (
+        λ each. All-more Holds checks i FromBytes c.loop-check-test.true (before.0 (sym w.all_agree-is ∙ each)) (test.0 w.if-branch.true),
+        λ all. w.all_agree-is ∙ before.1 (All-fewer Holds checks i all),
+      )
+      | else-branch w ↦ (
+        λ each. cc,
+        λ all.
+            let right = All-last Holds checks i FromBytes c.loop-check-test.true all in
+            absurd (false≢true (sym w.if-branch.false ∙ test.1 right)),
+      )
     ]
 
 pub returns : goal.returns
-returns g c = OnTrue_from c.loop-check.all_agree (AreRight c.args.lines.now) (λ each.
+returns g c =
     let Holds : Check → Type 0 = λ check. AreRightFor check c.args.lines.now in
-    let whole = take_all c.loop-check.check-index checks (omega arith) in
-    of_each Holds (subst (λ (xs : List Check). All Holds xs) whole (c.loop-check.invariant each)))
+    let before = c.loop-check.invariant in
+    let whole = take_all c.loop-check.check-index checks (omega arith) in (
+      λ each. of_each Holds (subst (λ (xs : List Check). All Holds xs) whole (before.0 each)),
+      λ right. before.1 (λ k d below. right (get_or (take c.loop-check.check-index checks) k d)),
+    )
