@@ -1,3 +1,5 @@
+mod client_streams;
+mod client_values;
 mod clients;
 mod error;
 mod fakes;
