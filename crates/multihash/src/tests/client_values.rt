@@ -61,7 +61,7 @@ pub fn keep_ordered<const S: usize>(
     key: Multihash<S>,
     value: u32,
 ) -> Result<(), AllocFailed<(Multihash<S>, u32)>>
-    ensures { OnOk result (ordered.get (on pair_of compare_pairs) map.new key ≡ Some value) }
+    ensures { OnOk result (ordered.get (on pair_of compare_pairs) map.new key.entry ≡ Some value) }
 {
     map.insert(key, value)?;
     Ok(())
@@ -73,7 +73,7 @@ pub fn keep_hashed<const S: usize>(
     key: Multihash<S>,
     value: u32,
 ) -> Result<(), AllocFailed<(Multihash<S>, u32)>>
-    ensures { OnOk result (hashed.get (on pair_of equal_pairs) map.new key ≡ Some value) }
+    ensures { OnOk result (hashed.get (on pair_of equal_pairs) map.new key.entry ≡ Some value) }
 {
     map.insert(key, value)?;
     Ok(())
