@@ -1,5 +1,5 @@
 -- What callers conclude from the contracts of several calls.
-use Rattle.std.proofs.Common.{Vec, Global, ◌≡◌, ℕ, ◌<◌, ◌≤◌, ◌-◌, ◌⊎◌, IfOk, IfErr, OnOk, OnErr, inl, inr, length-drop, List, [], ◌∷◌, ◌++◌, length, map, Bool, true, false, IsTrue, ◌↔◌, Option, None, Some, Result, Ok, Err, MatchResult, IfSome, refl, sym, ap, ◌∙◌, subst, arith, append_assoc, length-append}
+use Rattle.std.proofs.Common.{Vec, Global, ◌≡◌, ℕ, ◌<◌, ◌≤◌, ◌-◌, ◌⊎◌, IfOk, IfErr, OnOk, OnErr, inl, inr, length-drop, List, [], ◌∷◌, ◌++◌, length, map, Bool, true, false, IsTrue, ◌↔◌, Option, None, Some, Result, Ok, Err, MatchResult, IfSome, refl, sym, ap, ◌∙◌, subst, arith, append_assoc}
 use Rattle.std.specs.List.{concat, AllZip, All}
 use Rattle.std.specs.Result.{is_ok, IsErrAnd}
 use Rattle.std.proofs.lemmas.List.{length-map}
@@ -27,11 +27,10 @@ use Rattle.multihash.proofs.JoinedLemmas.{joined_unique}
 
 -- two pairs are the same exactly where their encodings are one list
 pub same_encoding : (p q : Pair) (x y : List ℕ) → IsEncoding p x → IsEncoding q y → IsSame p q ↔ (x ≡ y)
-same_encoding p q x y e f =
-    (
-      (λ same. encoding_same q x y (subst (λ r. IsEncoding r x) (IsSame-equal p q same) e) f),
-      λ same. subst (IsSame p) (encoding_unique p q x y [] [] e f (ap (λ (z : List ℕ). z ++ []) same)).0 (IsSame-refl p),
-    )
+same_encoding p q x y e f = (
+  (λ same. encoding_same q x y (subst (λ r. IsEncoding r x) (IsSame-equal p q same) e) f),
+  λ same. subst (IsSame p) (encoding_unique p q x y [] [] e f (ap (λ (z : List ℕ). z ++ []) same)).0 (IsSame-refl p),
+)
 
 -- two tests for what follows from each other answer the same
 pub tests_agree : {P Q : Type 0} (a b : Bool) → (IsTrue a ↔ P) → (IsTrue b ↔ Q) → (P ↔ Q) → IsTrue (beq a b)

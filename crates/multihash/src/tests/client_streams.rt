@@ -125,7 +125,7 @@ pub fn forms_back<const S: usize, const M: usize, const R: usize>(
 ) -> Result<(Multihash<M>, Multihash<R>), Error>
     ensures { FitsBuffer M (pair_of m.now) → FitsBuffer R (pair_of m.now) →
         MatchResult result
-            (λ back. (pair_of back.0 ≡ pair_of m.now) × (pair_of back.1 ≡ pair_of m.now)) IsMemory }
+        (λ back. (pair_of back.0 ≡ pair_of m.now) × (pair_of back.1 ≡ pair_of m.now)) IsMemory }
 {
     let between = form_back::<S, M>(alloc, first, m)?;
     let back = form_back::<M, R>(alloc, second, &between)?;
@@ -158,7 +158,7 @@ pub fn stream_back<const S: usize, const R: usize>(
 ) -> Result<(Vec<Multihash<R>>, bool), Error>
     ensures { All (FitsBuffer R) (map pair_of items.now) →
         MatchResult result
-            (λ back. (map pair_of back.0.items ≡ map pair_of items.now) × IsTrue back.1) IsMemory }
+        (λ back. (map pair_of back.0.items ≡ map pair_of items.now) × IsTrue back.1) IsMemory }
 {
     let mut bytes = Vec::new(alloc);
     write_list(items, &mut bytes)?;

@@ -115,14 +115,23 @@ fn a_multihash_hashes_as_its_pair(rt: HostRuntime) -> Result<(), Fail> {
 #[test]
 fn stale_tails_stay_inside(rt: HostRuntime) -> Result<(), Fail> {
     let m = Multihash::<6>::wrap(0, b"foobar")?.truncate(3);
-    assert_eq!(rt; m.to_bytes(rt.alloc())?.as_slice(), [0, 3, 102, 111, 111].as_slice());
+    assert_eq!(rt;
+        m.to_bytes(rt.alloc())?.as_slice(),
+        [0, 3, 102, 111, 111].as_slice()
+    );
     let mut scale = Vec::new(rt.alloc());
     assert_eq!(rt; m.scale_encode(&mut scale)?, 12);
-    assert_eq!(rt; scale.as_slice(), [0, 0, 0, 0, 0, 0, 0, 0, 3, 102, 111, 111].as_slice());
+    assert_eq!(rt;
+        scale.as_slice(),
+        [0, 0, 0, 0, 0, 0, 0, 0, 3, 102, 111, 111].as_slice()
+    );
     let json = m.to_value(rt.alloc())?.to_string(rt.alloc())?;
     assert_eq!(rt; json.as_str(), "[0,3,102,111,111]");
     assert_eq!(rt; m.into_inner(), (0, [102, 111, 111, 0, 0, 0], 3));
-    for other in [Multihash::wrap(0, b"foo")?, Multihash::wrap(0, b"fooxyz")?.truncate(3)] {
+    for other in [
+        Multihash::wrap(0, b"foo")?,
+        Multihash::wrap(0, b"fooxyz")?.truncate(3),
+    ] {
         assert_eq!(rt; m, other);
         assert_eq!(rt; m.cmp(&other), Ordering::Equal);
         assert_eq!(rt; hash_of(&m), hash_of(&other));

@@ -1,6 +1,5 @@
-use Rattle.std.proofs.Common.{◌≡◌, ◌+◌, ◌≤◌, List, [], ◌∷◌, ◌++◌, length, map, min, take, refl, sym, ap, ◌∙◌, arith, rules, length-append, length-take-le}
+use Rattle.std.proofs.Common.{◌≡◌, ◌+◌, [], ◌∷◌, ◌++◌, map, take, refl, sym, ap, ◌∙◌, arith, length-append}
 use Rattle.std.proofs.lemmas.List.{take_more, map_push, take_all}
-use Rattle.multihash.specs.Joined.{AreJoined}
 use Rattle.multihash.specs.Answer.{Fields, pair_of}
 use Rattle.multihash.proofs.JoinedLemmas.{AreJoined-none, AreJoined-push}
 use Rattle.multihash.proofs.tests.client_streams.joined_len.Goals as goal

@@ -1,6 +1,4 @@
-use Rattle.std.proofs.Common.{◌≡◌, List, ℕ, Result, Ok, Err, MatchResult, sym, ◌∙◌, subst}
 use Rattle.serde_json.specs.View.{view}
-use Rattle.multihash.specs.Verdict.{accepted}
 use Rattle.multihash.specs.Answer.{pair_of}
 use Rattle.multihash.proofs.ClientLemmas.{verdict_back}
 use Rattle.multihash.proofs.JsonLemmas.{json_bytes, json_is_array}

@@ -1,4 +1,4 @@
-use Rattle.std.proofs.Common.{◌≡◌, ◌++◌, [], List, ℕ, Some, IsTrue, refl, sym, ap, ◌∙◌, arith, rules}
+use Rattle.std.proofs.Common.{◌≡◌, ◌++◌, refl, rules}
 use Rattle.multihash.specs.Answer.{pair_of}
 use Rattle.multihash.proofs.ClientLemmas.{scale_pair, scale_taken}
 use Rattle.multihash.proofs.tests.client_streams.scale_back.Goals as goal

@@ -1,4 +1,4 @@
-use Rattle.std.proofs.Common.{◌≡◌, ◌++◌, map, length, Some, refl, ap, ◌∙◌, rules}
+use Rattle.std.proofs.Common.{◌≡◌, ◌++◌, map, Some, refl, ap, rules}
 use Rattle.std.proofs.lemmas.List.{length-map}
 use Rattle.multihash.specs.Answer.{pair_of}
 use Rattle.multihash.proofs.ClientLemmas.{refused_by}

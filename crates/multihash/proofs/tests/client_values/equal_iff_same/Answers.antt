@@ -1,4 +1,4 @@
-use Rattle.std.proofs.Common.{◌≡◌, IsTrue, ◌↔◌, refl, sym, ◌∙◌, false}
+use Rattle.std.proofs.Common.{IsTrue, ◌↔◌, refl, sym, ◌∙◌}
 use Rattle.std.proofs.lemmas.Bool.{false≢true}
 use Rattle.std.specs.Ordering.{is_eq}
 use Rattle.std.specs.declared.cmp.Ordering.{Ordering}
