@@ -14,6 +14,7 @@ pub mod no_std_io;
 mod scale;
 #[cfg(test)]
 mod tests;
+mod told;
 mod varint;
 
 pub use crate::error::Error;
