@@ -95,7 +95,7 @@ fn slices_that_fit_and_that_do_not(rt: HostRuntime) -> Result<(), Fail> {
     Ok(())
 }
 
-// The same bytes are left over readers that cut.
+// What was read is what was written, in order.
 fn expect_back(rt: &impl Abort, input: &[u8], wanted: &[Multihash<4>], list: &[Multihash<9>]) {
     assert_eq!(rt; list.len(), wanted.len(), "{input:?}");
     for (read, written) in list.iter().zip(wanted) {
