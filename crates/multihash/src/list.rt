@@ -1,10 +1,10 @@
 //! Many multihashes in one stream, one after another.
-ghost use Rattle.std.specs.Prelude.{◌≡◌, ◌⊎◌, ℕ, List, length, map, IfOk, IfErr, OnOk, OnErr, IsOk};
+ghost use Rattle.std.specs.Prelude.{◌≡◌, ◌⊎◌, ℕ, List, length, map, min, IfOk, IfErr, OnOk, OnErr, IsOk};
 ghost use Rattle.multihash.specs.Joined.{AreJoined};
 ghost use Rattle.multihash.specs.Writing.{AppendsPart};
 ghost use Rattle.multihash.specs.Refusal.{IsMemory};
 ghost use Rattle.multihash.specs.Taking.{CountsReaderFaults, CountsFaultsOfWriter, IsReadRefusal};
-ghost use Rattle.multihash.specs.Streams.{TakesPairs, AppendsPartOfPairs, StopsAfterPairs};
+ghost use Rattle.multihash.specs.Streams.{TakesPairs, StopsAfterPairs};
 ghost use Rattle.multihash.specs.Answer.{pair_of};
 
 use crate::no_std_io::{Read, Write};
@@ -20,16 +20,34 @@ pub fn write_list<const S: usize, W: Write>(items: &[Multihash<S>], w: &mut W) -
     ensures ok { OnOk result ((bytes : List ℕ) × AreJoined (map pair_of items.now) bytes
         × W.appended w.old bytes w.new) }
     ensures empty { length items.now ≡ 0 → IsOk result }
-    ensures stops { OnErr result (AppendsPartOfPairs W.appended w.old (map pair_of items.now) w.new) }
-    ensures err { OnErr result ((bytes : List ℕ) → AreJoined (map pair_of items.now) bytes →
-        AppendsPart W.appended w.old bytes w.new) }
+    ensures err { OnErr result ((bytes : List ℕ) × AreJoined (map pair_of items.now) bytes
+        × AppendsPart W.appended w.old bytes w.new) }
     ensures faults { CountsFaultsOfWriter W.allocates
         (W.failures w.old) (W.failures w.new) (W.full w.new) result }
 {
     for item in items {
-        item.write(w)?;
+        match item.write(w) {
+            Ok(_) => {}
+            Err(e) => {
+                // The contract names the encodings of all items, those that were not reached among them.
+                joined_len(items);
+                return Err(e);
+            }
+        }
     }
     Ok(())
+}
+
+// How many bytes the joined encodings have. There are such bytes.
+fn joined_len<const S: usize>(items: &[Multihash<S>]) -> usize
+    ensures { (bytes : List ℕ) × AreJoined (map pair_of items.now) bytes
+        × (result ≡ min (length bytes) usize.MAX) }
+{
+    let mut len = 0usize;
+    for item in items {
+        len = len.saturating_add(item.encoded_len());
+    }
+    len
 }
 
 /// Reads `count` multihashes, one after another; what follows them in `r` stays unread. Their places

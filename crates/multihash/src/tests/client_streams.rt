@@ -33,18 +33,6 @@ pub fn fills_scale<const S: usize>(m: &Multihash<S>, places: &mut [u8]) -> (bool
     (is_whole, left.len())
 }
 
-/// How many bytes the encodings of some multihashes have together. There are such bytes.
-pub fn joined_len<const S: usize>(items: &[Multihash<S>]) -> usize
-    ensures { (bytes : List ℕ) × AreJoined (map pair_of items.now) bytes
-        × (result ≡ min (length bytes) usize.MAX) }
-{
-    let mut len = 0usize;
-    for item in items {
-        len = len.saturating_add(item.encoded_len());
-    }
-    len
-}
-
 /// Whether the encodings of some multihashes were written to the front of `places`, and how many are
 /// left then: they are where there is room, which gives up that many, and else none is left.
 pub fn fills_list<const S: usize>(items: &[Multihash<S>], places: &mut [u8]) -> (bool, usize)
@@ -52,7 +40,6 @@ pub fn fills_list<const S: usize>(items: &[Multihash<S>], places: &mut [u8]) -> 
         × (IsTrue result.0 ↔ (length bytes ≤ length places.old))
         × (result.1 ≡ length places.old - length bytes) }
 {
-    joined_len(items);
     let mut left = places;
     let is_whole = write_list(items, &mut left).is_ok();
     (is_whole, left.len())

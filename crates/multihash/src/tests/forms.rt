@@ -32,6 +32,21 @@ fn from_form_to_form(rt: HostRuntime) -> Result<(), Fail> {
 }
 
 #[test]
+fn full_digests_pass_through_forms(rt: HostRuntime) -> Result<(), Fail> {
+    let digest = [7; 128];
+    for code in [0, 72057594037927936, 9223372036854775808] {
+        let m = Multihash::<128>::wrap(code, &digest)?;
+        for first in FORMS {
+            for second in FORMS {
+                let (between, back) = forms_back::<128, 128, 128>(rt.alloc(), first, second, &m)?;
+                assert!(rt; between == m && back == m, "{first:?}, {second:?}");
+            }
+        }
+    }
+    Ok(())
+}
+
+#[test]
 fn a_smaller_buffer_refuses_each_form(rt: HostRuntime) -> Result<(), Fail> {
     let m = Multihash::<6>::wrap(18, b"foobar")?;
     for form in FORMS {

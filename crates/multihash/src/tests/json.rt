@@ -48,7 +48,10 @@ fn full_buffers_come_back(rt: HostRuntime) -> Result<(), Fail> {
     Ok(())
 }
 
-fn read_text(alloc: Global, text: &str) -> Result<Result<Multihash<2>, Error>, serde_json::Error> {
+fn read_text<const S: usize>(
+    alloc: Global,
+    text: &str,
+) -> Result<Result<Multihash<S>, Error>, serde_json::Error> {
     Ok(Multihash::from_value(&Value::from_str(alloc, text)?))
 }
 
@@ -79,7 +82,7 @@ fn other_values_are_no_bytes(rt: HostRuntime) -> Result<(), Fail> {
         "[0,0,18446744073709551615]",
         "[0,0,18446744073709551616]",
     ] {
-        let answer = read_text(rt.alloc(), text)?;
+        let answer = read_text::<32>(rt.alloc(), text)?;
         assert!(rt; answer.is_err_and(|e| e.is_not_bytes()), "{text}");
     }
     Ok(())
@@ -88,15 +91,15 @@ fn other_values_are_no_bytes(rt: HostRuntime) -> Result<(), Fail> {
 #[test]
 fn arrays_of_bytes_are_read(rt: HostRuntime) -> Result<(), Fail> {
     let alloc = rt.alloc();
-    assert!(rt; read_text(alloc, "[]")?.is_err_and(|e| e.is_insufficient()));
-    assert!(rt; read_text(alloc, "[0]")?.is_err_and(|e| e.is_insufficient()));
-    assert!(rt; read_text(alloc, "[0,0,7]")?.is_err_and(|e| is_size(&e, 1)));
-    assert!(rt; read_text(alloc, "[0,3]")?.is_err_and(|e| is_size(&e, 3)));
-    assert!(rt; read_text(alloc, "[0,2,9]")?.is_err_and(|e| is_eof(&e)));
-    assert!(rt; read_text(alloc, "[128,0]")?.is_err_and(|e| e.is_not_minimal()));
+    assert!(rt; read_text::<32>(alloc, "[]")?.is_err_and(|e| e.is_insufficient()));
+    assert!(rt; read_text::<2>(alloc, "[0]")?.is_err_and(|e| e.is_insufficient()));
+    assert!(rt; read_text::<32>(alloc, "[0,0,7]")?.is_err_and(|e| is_size(&e, 1)));
+    assert!(rt; read_text::<2>(alloc, "[0,3]")?.is_err_and(|e| is_size(&e, 3)));
+    assert!(rt; read_text::<2>(alloc, "[0,2,9]")?.is_err_and(|e| is_eof(&e)));
+    assert!(rt; read_text::<2>(alloc, "[128,0]")?.is_err_and(|e| e.is_not_minimal()));
     let overflow = "[128,128,128,128,128,128,128,128,128,2]";
-    assert!(rt; read_text(alloc, overflow)?.is_err_and(|e| e.is_overflow()));
-    let m = read_text(alloc, "[ 128, 1, 2, 255, 0 ]")??;
+    assert!(rt; read_text::<2>(alloc, overflow)?.is_err_and(|e| e.is_overflow()));
+    let m = read_text::<2>(alloc, "[ 128, 1, 2, 255, 0 ]")??;
     assert_eq!(rt; m, Multihash::wrap(128, &[255, 0])?);
     Ok(())
 }

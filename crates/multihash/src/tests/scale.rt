@@ -5,6 +5,7 @@ use super::client_streams::{fills_scale, scale_back};
 use super::fakes::{Cuts, Silent};
 use super::kinds::{is_eof, is_size};
 use crate::{Error, Multihash};
+use std::alloc::Global;
 use std::process::Abort;
 use std::test::Fail;
 
@@ -32,6 +33,22 @@ fn a_text_in_two_buffers(rt: HostRuntime) -> Result<(), Fail> {
     Ok(())
 }
 
+fn expect_written<const S: usize, R: Abort>(
+    rt: &R,
+    alloc: Global,
+    code: u64,
+    digest: &[u8],
+    wanted: &[u8],
+) -> Result<(), Fail> {
+    let m = Multihash::<S>::wrap(code, digest)?;
+    let mut bytes = Vec::new(alloc);
+    assert_eq!(rt; m.scale_encode(&mut bytes)?, wanted.len());
+    assert_eq!(rt; bytes.as_slice(), wanted);
+    let (back, is_left) = scale_back::<S, 255>(alloc, &m, b"more")?;
+    assert!(rt; is_left && back.same_as(&m));
+    Ok(())
+}
+
 #[test]
 fn pairs_are_written(rt: HostRuntime) -> Result<(), Fail> {
     for (code, digest, wanted) in [
@@ -41,17 +58,11 @@ fn pairs_are_written(rt: HostRuntime) -> Result<(), Fail> {
             [8, 7, 6, 5, 4, 3, 2, 1, 1, 0xaa].as_slice(),
         ),
         (u64::MAX, &[], &[255, 255, 255, 255, 255, 255, 255, 255, 0]),
-        (0, b"hello world", &HELLO),
         (18, b"B", &[18, 0, 0, 0, 0, 0, 0, 0, 1, 66]),
     ] {
-        let m = Multihash::<32>::wrap(code, digest)?;
-        let mut bytes = Vec::new(rt.alloc());
-        assert_eq!(rt; m.scale_encode(&mut bytes)?, wanted.len());
-        assert_eq!(rt; bytes.as_slice(), wanted);
-        let (back, is_left) = scale_back::<32, 255>(rt.alloc(), &m, b"more")?;
-        assert!(rt; is_left && back.same_as(&m));
+        expect_written::<4, _>(&rt, rt.alloc(), code, digest, wanted)?;
     }
-    Ok(())
+    expect_written::<32, _>(&rt, rt.alloc(), 0, b"hello world", &HELLO)
 }
 
 /// What decoding answers.

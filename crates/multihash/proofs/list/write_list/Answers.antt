@@ -1,9 +1,7 @@
 use Rattle.std.proofs.Common.{◌≡◌, ◌+◌, List, [], ◌∷◌, ◌++◌, map, take, drop, refl, sym, ap, ◌∙◌}
 use Rattle.std.proofs.lemmas.List.{take_more, drop_more, take-append-drop, map_push}
-use Rattle.std.proofs.lemmas.Result.{on_err_weaker}
 use Rattle.multihash.specs.Answer.{Fields, pair_of}
 use Rattle.multihash.proofs.JoinedLemmas.{AreJoined-none, AreJoined-push}
-use Rattle.multihash.proofs.ResultLemmas.{OnErr-always}
 use Rattle.multihash.proofs.StreamLemmas.{stops_at, part_of_all}
 use Rattle.multihash.proofs.list.write_list.Goals as goal
 
@@ -13,7 +11,7 @@ loop-item-init g c = record { bytes = []; joined = AreJoined-none; stands = g.me
 pub loop-item-preserved : goal.loop-item-preserved
 loop-item-preserved g c =
     let before = c.loop-item.invariant in
-    let met = c.in_ok-write.ensures in
+    let met = c.in-Ok.ensures in
     let items = c.args.items.now in
     let i = c.loop-item.item-index in
     let m = c.item-item.result in
@@ -27,20 +25,16 @@ loop-item-preserved g c =
       unfailed = met.faults ∙ before.unfailed;
     }
 
-pub returns-in_err-write-clause-stops : goal.returns-in_err-write-clause-stops
-returns-in_err-write-clause-stops g c =
+pub returns-in-Err-clause-err : goal.returns-in-Err-clause-err
+returns-in-Err-clause-err g c =
     let before = c.loop-item.invariant in
-    let met = c.in_err-write.ensures.err in
+    let met = c.in-Err.ensures.err in
+    let all = c.joined_len.ensures in
     let items = c.args.items.now in
     let i = c.loop-item.item-index in
     let m = c.item-item.result in
     let cut : items ≡ take i items ++ m ∷ drop (i + 1) items =
     sym (take-append-drop i items) ∙ ap (λ (l : List Fields). take i items ++ l)
     (drop_more items i m c.loop-item-test.true ∙ ap (λ (x : Fields). x ∷ drop (i + 1) items) (sym c.item-item.is)) in
-    OnErr-always _
-    (stops_at g.W.Write.appended g.met.W.Write.appends_joined _ _ _ items i m before.bytes met.0 cut before.joined before.stands met.1 met.2)
-
-pub returns-in_err-write-clause-err : goal.returns-in_err-write-clause-err
-returns-in_err-write-clause-err g c =
-    on_err_weaker c.from_residual.result (λ h bytes joined. part_of_all g.W.Write.appended _ _ (map pair_of c.args.items.now) bytes h joined)
-    (returns-in_err-write-clause-stops g c)
+    let part = stops_at g.W.Write.appended g.met.W.Write.appends_joined _ _ _ items i m before.bytes met.0 cut before.joined before.stands met.1 met.2 in
+    (all.0, all.1, part_of_all g.W.Write.appended _ _ (map pair_of items) all.0 part all.1)

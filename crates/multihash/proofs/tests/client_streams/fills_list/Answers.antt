@@ -1,5 +1,4 @@
 use Rattle.std.proofs.Common.{map}
-use Rattle.std.proofs.lemmas.Result.{on_err_weaker}
 use Rattle.multihash.specs.Joined.{AreJoined}
 use Rattle.multihash.specs.Answer.{pair_of}
 use Rattle.multihash.proofs.ClientLemmas.{filled}
@@ -7,8 +6,7 @@ use Rattle.multihash.proofs.tests.client_streams.fills_list.Goals as goal
 
 pub returns : goal.returns
 returns g c =
-    let all = c.joined_len.ensures in
     filled _ _ _ (AreJoined (map pair_of c.args.items.now)) c.args.places.now c.write_list.new.w.now (λ part h. h)
     c.write_list.result c.is_ok-is_whole.result c.is_ok-is_whole.ensures.value
-    c.write_list.ensures.ok (on_err_weaker c.write_list.result (λ stops. (all.0, all.1, stops all.0 all.1)) c.write_list.ensures.err)
+    c.write_list.ensures.ok c.write_list.ensures.err
     c.write_list.ensures.faults

@@ -2,7 +2,7 @@
 use Rattle.std.proofs.Common.{◌≡◌, ℕ, List, length, map, min, take}
 use Rattle.multihash.specs.Joined.{AreJoined}
 use Rattle.multihash.specs.Answer.{pair_of}
-use Rattle.multihash.proofs.tests.client_streams.joined_len.Given as goal
+use Rattle.multihash.proofs.list.joined_len.Given as goal
 
 abbrev pub invariant-loop-item : goal.invariant-loop-item
 invariant-loop-item g l = record {

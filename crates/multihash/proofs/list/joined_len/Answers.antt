@@ -2,7 +2,7 @@ use Rattle.std.proofs.Common.{◌≡◌, ◌+◌, [], ◌∷◌, ◌++◌, map, 
 use Rattle.std.proofs.lemmas.List.{take_more, map_push, take_all}
 use Rattle.multihash.specs.Answer.{Fields, pair_of}
 use Rattle.multihash.proofs.JoinedLemmas.{AreJoined-none, AreJoined-push}
-use Rattle.multihash.proofs.tests.client_streams.joined_len.Goals as goal
+use Rattle.multihash.proofs.list.joined_len.Goals as goal
 
 pub loop-item-init : goal.loop-item-init
 loop-item-init g c = record { bytes = []; joined = AreJoined-none; count = refl }
