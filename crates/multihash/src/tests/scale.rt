@@ -39,7 +39,9 @@ fn expect_written<const S: usize, R: Abort>(
     code: u64,
     digest: &[u8],
     wanted: &[u8],
-) -> Result<(), Fail> {
+) -> Result<(), Fail>
+    requires { S < 2 ^ 16 }
+{
     let m = Multihash::<S>::wrap(code, digest)?;
     let mut bytes = Vec::new(alloc);
     assert_eq!(rt; m.scale_encode(&mut bytes)?, wanted.len());
