@@ -78,8 +78,8 @@ impl Error {
         }
     }
 
-    /// The size that was refused: that of a digest longer than the buffer holds, or the number of
-    /// bytes that were left over.
+    /// The size that was refused: that of a digest longer than `min(S, 255)` for a buffer of `S` bytes,
+    /// or the number of bytes, or of members of a JSON array, that were left over.
     pub fn invalid_size(&self) -> Option<u64>
         ensures { (size : ℕ) → ((result ≡ Some size) ↔ IsInvalidSize size self.now) }
     {
@@ -96,7 +96,7 @@ impl Error {
         matches!(self.kind, Kind::Insufficient)
     }
 
-    /// Whether a varint's number does not fit in 64 bits.
+    /// Whether a varint has more than ten bytes, or its number does not fit in 64 bits.
     pub fn is_overflow(&self) -> bool
         ensures { IsTrue result ↔ IsFaulty overflow self.now }
     {

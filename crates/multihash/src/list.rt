@@ -51,13 +51,13 @@ fn joined_len<const S: usize>(items: &[Multihash<S>]) -> usize
 }
 
 /// Reads `count` multihashes, one after another; what follows them in `r` stays unread. Their places
-/// are asked for before anything is read.
+/// are asked for before anything is read. A `count` of 0 takes nothing, and needs no memory.
 ///
 /// # Errors
 ///
-/// [`Error::io`] with want of memory, and nothing taken, where the places were refused; else the first
-/// refusal of [`Multihash::read`]. The encodings before it were taken then, and what the refused call
-/// took; the values that were read are dropped.
+/// [`Error::io`] with want of memory, and nothing taken, where the places were refused, which too many
+/// always are; else the first refusal of [`Multihash::read`]. The encodings before it were taken then,
+/// and what the refused call took; the values that were read are dropped.
 pub fn read_list<const S: usize, R: Read>(
     alloc: Global,
     r: &mut R,

@@ -100,9 +100,9 @@ impl<const S: usize> Multihash<S> {
     /// # Errors
     ///
     /// - [`Error::is_insufficient`] where the input ends inside or before a varint; all of it was taken;
-    /// - [`Error::is_overflow`] where a varint's number does not fit in 64 bits, and
-    ///   [`Error::is_not_minimal`] where a varint of more than one byte ends in a zero; the bytes up to
-    ///   the one that shows it were taken;
+    /// - [`Error::is_overflow`] where a varint has more than ten bytes or its number does not fit in 64
+    ///   bits, and [`Error::is_not_minimal`] where a varint of more than one byte ends in a zero; the
+    ///   bytes up to the one that shows it were taken;
     /// - [`Error::invalid_size`] with the digest's length, where that is more than `min(S, 255)`; both
     ///   varints were taken, and nothing of the digest;
     /// - [`Error::io`] with an unexpected end where the input ends inside the digest; both varints were
@@ -139,7 +139,8 @@ impl<const S: usize> Multihash<S> {
     /// # Errors
     ///
     /// - [`Error::is_insufficient`] where the bytes end inside or before a varint;
-    /// - [`Error::is_overflow`] where a varint's number does not fit in 64 bits;
+    /// - [`Error::is_overflow`] where a varint has more than ten bytes, or its number does not fit in
+    ///   64 bits;
     /// - [`Error::is_not_minimal`] where a varint of more than one byte ends in a zero;
     /// - [`Error::invalid_size`] with the digest's length, where that is more than `min(S, 255)`, and
     ///   with the number of bytes left over, where some follow the digest;

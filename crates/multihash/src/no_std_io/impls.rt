@@ -17,7 +17,8 @@ fn copy_front(from: &[u8], to: &mut [u8]) -> usize
     n
 }
 
-/// The rest is the slice, and it never fails.
+/// The rest is the slice, and it never fails. Where fewer bytes are left than `read_exact` wants, the
+/// slice and the buffer stay as they are.
 impl Read for &[u8] {
     ghost rest = { λ s. Some s.now };
 
@@ -60,6 +61,7 @@ impl Read for &[u8] {
     }
 }
 
+/// A lent reader reads as the reader does.
 impl<R: Read> Read for &mut R {
     ghost rest = { λ r. R.rest r.now };
 
@@ -74,7 +76,8 @@ impl<R: Read> Read for &mut R {
     }
 }
 
-/// The bytes go to the front of the slice, which then begins after them.
+/// The bytes go to the front of the slice, which then begins after them. Where not all fit, `write_all`
+/// fills what is left, and answers that no place is left.
 impl Write for &mut [u8] {
     const ALLOCATES: bool = false;
 
@@ -123,7 +126,7 @@ impl Write for &mut [u8] {
     }
 }
 
-/// The bytes go to the vector's end.
+/// The bytes go to the vector's end. Where memory is refused, it is unchanged.
 impl Write for Vec<u8> {
     const ALLOCATES: bool = true;
 
@@ -175,6 +178,7 @@ impl Write for Vec<u8> {
     }
 }
 
+/// A lent writer writes as the writer does.
 impl<W: Write> Write for &mut W {
     const ALLOCATES: bool = W::ALLOCATES;
 

@@ -26,7 +26,7 @@ pub trait Read {
     /// # Errors
     ///
     /// A fault of the reader's own, of the kind [`Error::is_other`] or [`Error::is_out_of_memory`],
-    /// exactly where the reader counts one more failure. Nothing was taken then, and what the places
+    /// exactly where the reader's count of failures rises. Nothing was taken then, and what the places
     /// of `buf` hold is not said.
     fn read(&mut self, buf: &mut [u8]) -> Result<usize, Error>
         ensures count { IfOk result (λ n. n ≤ length buf.old) }
@@ -42,7 +42,7 @@ pub trait Read {
     /// # Errors
     ///
     /// [`Error::is_unexpected_eof`] where fewer bytes are left, or a fault of the reader's own,
-    /// exactly where the reader counts one more failure. Fewer bytes than `buf` has places were taken
+    /// exactly where the reader's count of failures rises. Fewer bytes than `buf` has places were taken
     /// then, and what the places of `buf` hold is not said.
     fn read_exact(&mut self, buf: &mut [u8]) -> Result<(), Error>
         ensures faults { CountsFaultsOrEof (failures self.old) (failures self.new) result }
@@ -90,7 +90,7 @@ pub trait Write {
     /// # Errors
     ///
     /// A fault of the writer's own, of the kind [`Error::is_other`] or [`Error::is_out_of_memory`],
-    /// where the writer counts one more failure; or want of memory, where it allocates. Nothing was
+    /// where the writer's count of failures rises; or want of memory, where it allocates. Nothing was
     /// appended then.
     fn write(&mut self, buf: &[u8]) -> Result<usize, Error>
         ensures count { IfOk result (λ n. n ≤ length buf.now) }
