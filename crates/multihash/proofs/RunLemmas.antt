@@ -74,6 +74,10 @@ pub unmarked-nil : unmarked [] ≡ []
 unfolding unmarked
 unmarked-nil = refl
 
+pub unmarked-cons : (b : ℕ) (bytes : List ℕ) → unmarked (b ∷ bytes) ≡ (b - 128) ∷ unmarked bytes
+unfolding unmarked
+unmarked-cons b bytes = refl
+
 pub length-unmarked : (bytes : List ℕ) → length (unmarked bytes) ≡ length bytes
 unfolding unmarked
 length-unmarked bytes = length-map bytes (λ b. b - 128)

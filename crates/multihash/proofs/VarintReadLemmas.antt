@@ -28,7 +28,7 @@ none_read = record {
   value = sym (ap (place_value 128) unmarked-nil ∙ place_value-nil 128);
 }
 
-pow_digits : (i : ℕ) → 2 ^ (7 * i) ≡ 128 ^ i
+pub pow_digits : (i : ℕ) → 2 ^ (7 * i) ≡ 128 ^ i
 pow_digits zero = refl
 pow_digits (suc i) =
     let places : 7 * suc i ≡ 7 * i + 7 = omega arith in

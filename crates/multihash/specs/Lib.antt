@@ -18,4 +18,5 @@ pub mod Streams
 pub mod Taking
 pub mod Varint
 pub mod Verdict
+pub mod Word
 pub mod Writing

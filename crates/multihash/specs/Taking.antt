@@ -2,7 +2,7 @@
 use Rattle.std.specs.Prelude.{◌≡◌, ◌<◌, ◌≤◌, ℕ, Bool, List, ◌⊎◌, Option, Some, Result, MatchResult}
 use Rattle.multihash.specs.Bytes.{IsBeginning, IsProperBeginning}
 use Rattle.multihash.specs.Pair.{digest_limit}
-use Rattle.multihash.specs.Varint.{VarintFault, insufficient, IsInsufficient, HasFaultyFront}
+use Rattle.multihash.specs.Varint.{VarintFault, insufficient, IsVarint, IsInsufficient, HasFaultyFront}
 use Rattle.multihash.specs.Verdict.{Verdict, faulty, unexpected_eof, HasVerdict, IsEarlyEnd}
 use Rattle.multihash.specs.Settling.{Settles, IsShortestSettling}
 use Rattle.multihash.specs.Reading.{Takes, IsAtEnd}
@@ -23,6 +23,14 @@ CountsFaultsOfWriter allocates before after is_full outcome = MatchResult outcom
 -- a varint's fault
 abbrev pub IsVarintRefusal : Refusal → Type 0
 IsVarintRefusal e = (fault : VarintFault) × IsFaulty fault e
+
+-- the varint's fault that begins the input
+abbrev pub IsFrontRefusal : List ℕ → Refusal → Type 0
+IsFrontRefusal input e = (fault : VarintFault) × IsFaulty fault e × HasFaultyFront fault input
+
+-- a varint of the number was taken
+abbrev pub TakesVarint : ℕ → Option (List ℕ) → Option (List ℕ) → Type 0
+TakesVarint n old new = (bytes : List ℕ) × IsVarint n bytes × Takes old bytes new
 
 -- a refusal of reading: a size that is too large, a varint's fault, or a digest that is cut
 abbrev pub IsReadRefusal : ℕ → Refusal → Type 0

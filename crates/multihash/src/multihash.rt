@@ -15,7 +15,7 @@ ghost use Rattle.multihash.specs.Writing.{AppendsPart};
 ghost use Rattle.multihash.specs.Taking.{CountsReaderFaults, CountsFaultsOfWriter, IsReadRefusal, TakesAtRefusal, TakesShortestSettling, TakesUnsettled};
 ghost use Rattle.multihash.specs.Answer.{pair_of, Answers};
 
-use crate::no_std_io::{Read, Write};
+use crate::no_std_io::{self, Read, Write};
 use crate::{Error, varint};
 use std::alloc::Global;
 use std::cmp::Ordering;
@@ -65,9 +65,13 @@ impl<const S: usize> Multihash<S> {
         ensures err { IfErr result (IsInvalidSize (length input_digest.now)) }
     {
         let size = Self::fitting_size(input_digest.len() as u64)?;
-        let mut digest = [0; S];
-        digest[..input_digest.len()].copy_from_slice(input_digest);
-        Ok(Multihash { code, size, digest })
+        let mut multihash = Multihash {
+            code,
+            size,
+            digest: [0; S],
+        };
+        multihash.fill(input_digest);
+        Ok(multihash)
     }
 
     /// The code, which names the hash function.
@@ -148,11 +152,22 @@ impl<const S: usize> Multihash<S> {
     pub fn from_bytes(bytes: &[u8]) -> Result<Self, Error>
         ensures { (v : Verdict) × HasWholeVerdict S bytes.now v × Answers result v }
     {
-        let mut left = bytes;
-        let multihash = Self::read(&mut left)?;
-        if !left.is_empty() {
-            return Err(Error::from_size(left.len() as u64));
+        let (code, left) = varint::read_front(bytes)?;
+        let (size, digest) = varint::read_front(left)?;
+        let size = Self::fitting_size(size)?;
+        let len = usize::from(size);
+        if digest.len() < len {
+            return Err(Error::from(no_std_io::Error::unexpected_eof()));
         }
+        if digest.len() > len {
+            return Err(Error::from_size((digest.len() - len) as u64));
+        }
+        let mut multihash = Multihash {
+            code,
+            size,
+            digest: [0; S],
+        };
+        multihash.fill(digest);
         Ok(multihash)
     }
 
@@ -249,17 +264,27 @@ impl<const S: usize> Multihash<S> {
         self.code() == other.code() && self.digest() == other.digest()
     }
 
+    // Puts a digest of the size that is set already, in place of zeros.
+    #[inline(always)]
+    fn fill(&mut self, digest: &[u8])
+        requires { self.old.size ≡ length digest.now }
+        ensures { pair_of self.new ≡ record { code = self.old.code; digest = digest.now } }
+    {
+        self.digest[..digest.len()].copy_from_slice(digest);
+    }
+
     // The size of a digest, where the buffer holds one so long.
+    #[inline(always)]
     fn fitting_size(size: u64) -> Result<u8, Error>
         ensures ok { IfOk result (λ byte. byte ≡ size) }
         ensures fits { OnOk result (size ≤ digest_limit S) }
         ensures over { OnErr result (digest_limit S < size) }
         ensures err { IfErr result (IsInvalidSize size) }
     {
-        match u8::try_from(size) {
-            Ok(byte) if usize::from(byte) <= S => Ok(byte),
-            _ => Err(Error::from_size(size)),
+        if size > u64::from(u8::MAX) || size > S as u64 {
+            return Err(Error::from_size(size));
         }
+        Ok(size as u8)
     }
 }
 

@@ -1,8 +1,10 @@
 //! Minimal unsigned varints of multiformats, for all of `u64`: at most ten bytes.
-ghost use Rattle.std.specs.Prelude.{◌≡◌, ℕ, List, [], ◌∷◌, MatchOption, IfOk, IfErr, OnErr};
-ghost use Rattle.multihash.specs.Varint.{IsVarint};
+ghost use Rattle.std.specs.Prelude.{◌≡◌, ◌<◌, ◌≤◌, ◌+◌, ℕ, List, [], ◌∷◌, length, take, Some, IfSome, MatchOption, IfOk, IfErr, OnErr};
+ghost use Rattle.multihash.specs.Bytes.{IsBytes, place_value};
+ghost use Rattle.multihash.specs.Varint.{IsVarint, most_marked};
+ghost use Rattle.multihash.specs.Word.{IsFrontWord, digits_low};
 ghost use Rattle.multihash.specs.Reading.{Takes, IsAtEnd, CountsFaults};
-ghost use Rattle.multihash.specs.Taking.{CountsReaderFaults, IsVarintRefusal, TakesAtVarintRefusal};
+ghost use Rattle.multihash.specs.Taking.{CountsReaderFaults, IsVarintRefusal, IsFrontRefusal, TakesVarint, TakesAtVarintRefusal};
 
 use crate::Error;
 use crate::no_std_io::{self, Read};
@@ -16,6 +18,15 @@ const FIRST_TOO_LARGE: u8 = 2;
 
 // The most bytes of a varint.
 const MAX_LEN: usize = MOST_MARKED + 1;
+
+// The bytes of a word.
+const WORD_LEN: usize = 16;
+
+// The high bit of each of a word's bytes.
+const HIGH_BITS: u128 = 0x8080_8080_8080_8080_8080_8080_8080_8080;
+
+// A word whose varint has a byte that is too large is no less.
+const TOO_LARGE: u128 = (FIRST_TOO_LARGE as u128) << (8 * MOST_MARKED);
 
 /// The varint of a number.
 #[derive(Drop)]
@@ -69,8 +80,9 @@ pub(crate) fn encode(n: u64) -> Encoded
 /// The fault that begins the input, once the byte that shows it was taken, or the reader's own.
 pub(crate) fn read<R: Read>(r: &mut R) -> Result<u64, Error>
     ensures faults { CountsReaderFaults IsVarintRefusal (R.failures r.old) (R.failures r.new) result }
-    ensures ok { IfOk result (λ n. (bytes : List ℕ) × IsVarint n bytes × Takes (R.rest r.old) bytes (R.rest r.new)) }
+    ensures ok { IfOk result (λ n. TakesVarint n (R.rest r.old) (R.rest r.new)) }
     ensures err { IfErr result (λ e. TakesAtVarintRefusal e (R.rest r.old) (R.rest r.new)) }
+    ensures front { IfSome (R.rest r.old) (λ input. R.failures r.new ≡ R.failures r.old → IfErr result (IsFrontRefusal input)) }
 {
     let mut value: u64 = 0;
     for i in 0..=MOST_MARKED {
@@ -89,6 +101,88 @@ pub(crate) fn read<R: Read>(r: &mut R) -> Result<u64, Error>
         }
     }
     unreachable!()
+}
+
+/// Reads the varint that begins the bytes, from one word, and answers its number and what follows it.
+///
+/// # Errors
+///
+/// The fault that begins the bytes.
+#[inline(always)]
+pub(crate) fn read_front(bytes: &[u8]) -> Result<(u64, &[u8]), Error>
+    ensures ok { IfOk result (λ found. TakesVarint found.0 (Some bytes.now) (Some found.1.now)) }
+    ensures err { IfErr result (IsFrontRefusal bytes.now) }
+{
+    let (word, present) = front_word(bytes);
+    let (number, taken) = read_word(word, present)?;
+    Ok((number, &bytes[taken..]))
+}
+
+// The first sixteen bytes, the lowest first, with zeros for those that are missing, and how many are
+// there.
+#[inline(always)]
+fn front_word(bytes: &[u8]) -> (u128, usize)
+    ensures { IsFrontWord bytes.now result.0 result.1 }
+{
+    match bytes.first_chunk::<WORD_LEN>() {
+        Some(front) => (u128::from_le_bytes(*front), WORD_LEN),
+        None => (short_word(bytes), bytes.len()),
+    }
+}
+
+// The word of fewer than sixteen bytes.
+#[cold]
+#[inline(never)]
+fn short_word(bytes: &[u8]) -> u128
+    requires { length bytes.now < 16 }
+    ensures { result ≡ place_value 256 bytes.now }
+{
+    let mut front = [0; WORD_LEN];
+    front[..bytes.len()].copy_from_slice(bytes);
+    u128::from_le_bytes(front)
+}
+
+// The number whose varint begins the bytes that the word holds the first of, and the varint's length.
+#[inline(always)]
+fn read_word(word: u128, present: usize) -> Result<(u64, usize), Error>
+    ensures ok { IfOk result (λ found. (bytes : List ℕ) → IsBytes bytes → IsFrontWord bytes word present →
+        IsVarint found.0 (take found.1 bytes)) }
+    ensures within { IfOk result (λ found. found.1 ≤ present) }
+    ensures err { IfErr result (λ e. (bytes : List ℕ) → IsBytes bytes → IsFrontWord bytes word present →
+        IsFrontRefusal bytes e) }
+{
+    // Most varints have one byte.
+    if present > 0 && word & 0x80 == 0 {
+        return Ok(((word & 0x7f) as u64, 1));
+    }
+    // Set where a byte is unmarked: its highest bit.
+    let stops = !word & HIGH_BITS;
+    // Nothing behind the first of them is set in both.
+    let varint = word & stops.wrapping_sub(1);
+    if varint >= TOO_LARGE {
+        return Err(Error::overflow());
+    }
+    let marked = (stops.trailing_zeros() / 8) as usize;
+    if marked >= present {
+        return Err(Error::insufficient());
+    }
+    let number = (join_digits(varint) & 0xffff_ffff_ffff_ffff) as u64;
+    if number >> (7 * marked) == 0 {
+        return Err(Error::not_minimal());
+    }
+    Ok((number, marked + 1))
+}
+
+// The number of the low seven bits of each byte that a varint can have.
+#[inline(always)]
+fn join_digits(word: u128) -> u128
+    ensures { result ≡ digits_low (most_marked + 1) word }
+{
+    let mut number: u128 = 0;
+    for i in 0..MAX_LEN {
+        number |= word >> i & 0x7f << (7 * i);
+    }
+    number
 }
 
 // The next byte, or none where the input has ended.

@@ -65,6 +65,41 @@ fn codes_both_ways(rt: HostRuntime) -> Result<(), Fail> {
     Ok(())
 }
 
+// What may follow a beginning of a varint.
+const BEHIND: [&[u8]; 6] = [&[], &[0], &[1], &[2], &[0, 7], &[0x80; 17]];
+
+#[test]
+fn a_slice_is_read_as_its_bytes_are(rt: HostRuntime) -> Result<(), Fail> {
+    for (_, code) in VARINTS {
+        for n in 0..11 {
+            for behind in BEHIND {
+                if n > code.len() {
+                    continue;
+                }
+                let mut bytes = code[..n].to_vec(rt.alloc())?;
+                bytes.extend_from_slice(behind)?;
+                let mut left = bytes.as_slice();
+                let read = Multihash::<4>::read(&mut left);
+                match (read, Multihash::<4>::from_bytes(&bytes)) {
+                    (Ok(m), Ok(whole)) => {
+                        assert!(rt; left.is_empty());
+                        assert_eq!(rt; m, whole);
+                    }
+                    (Ok(_), Err(e)) => {
+                        assert!(rt; !left.is_empty());
+                        assert_eq!(rt; e.invalid_size(), Some(left.len() as u64));
+                    }
+                    (Err(e), Err(whole)) => {
+                        assert_eq!(rt; e.to_string(rt.alloc())?, whole.to_string(rt.alloc())?);
+                    }
+                    (Err(_), Ok(_)) => assert!(rt; false, "from_bytes alone answers a pair"),
+                }
+            }
+        }
+    }
+    Ok(())
+}
+
 #[test]
 fn a_varint_asks_byte_by_byte(rt: HostRuntime) {
     // The code 300, and the digest `AB`.

@@ -1,0 +1,14 @@
+-- The first bytes of an input as one number.
+use Rattle.std.specs.Prelude.{◌≡◌, ℕ, zero, suc, ◌+◌, ◌*◌, ◌/◌, ◌%◌, ◌^◌, min, List, take, length}
+use Rattle.multihash.specs.Bytes.{place_value}
+
+-- the word holds the first sixteen bytes, the lowest first, with zeros for those that are missing,
+-- and that many are there
+pub record IsFrontWord (bytes : List ℕ) (word present : ℕ) : Type 0 where
+  pub word_is : word ≡ place_value 256 (take 16 bytes)
+  pub present_is : present ≡ min 16 (length bytes)
+
+-- the low seven bits of each of the lowest n bytes, seven bits apart
+unfoldable pub digits_low : ℕ → ℕ → ℕ
+digits_low zero word = 0
+digits_low (suc i) word = digits_low i word + word / 2 ^ (8 * i) % 128 * 2 ^ (7 * i)
