@@ -11,12 +11,10 @@ use Rattle.multihash.specs.Encoding.{IsEncoding}
 use Rattle.multihash.specs.Joined.{AreJoined}
 use Rattle.multihash.specs.Verdict.{Verdict, accepted, HasVerdict, HasWholeVerdict}
 use Rattle.multihash.specs.Reading.{Takes}
-use Rattle.multihash.specs.Scale.{ScaleVerdict, decoded, IsScale, HasScaleVerdict}
-use Rattle.multihash.specs.ScaleTaking.{IsScaleRefusal}
+use Rattle.multihash.specs.Scale.{IsScale, HasScaleVerdict}
 use Rattle.multihash.specs.Places.{GivesUpFor}
-use Rattle.multihash.specs.Writing.{AppendsPart}
-use Rattle.multihash.specs.Taking.{CountsFaultsOfWriter}
-use Rattle.multihash.specs.Refusal.{Refusal, IsMemory}
+use Rattle.multihash.specs.Writing.{AppendsPart, CountsWriter}
+use Rattle.multihash.specs.Refusal.{Refusal, IsIo, IsMemory}
 use Rattle.multihash.specs.Streams.{TakesPairs, StopsAfterPairs}
 use Rattle.multihash.specs.Answer.{Fields, pair_of, IsRefusal, Answers}
 use Rattle.multihash.proofs.PlacesLemmas.{fewer_places, full_of_faults}
@@ -107,7 +105,7 @@ module _ {W : Type 0} (appended : W → List ℕ → W → Type 0) (a b : W) (Is
   pub filled : {T : Type 0} (r : Result T Refusal) (is_whole : Bool) → is_whole ≡ is_ok r
       → OnOk r ((bytes : List ℕ) × IsForm bytes × appended a bytes b)
       → OnErr r ((bytes : List ℕ) × IsForm bytes × AppendsPart appended a bytes b)
-      → CountsFaultsOfWriter false 0 0 (new ≡ []) r
+      → CountsWriter IsIo false 0 0 (new ≡ []) r
       → (bytes : List ℕ) × IsForm bytes × (IsTrue is_whole ↔ (length bytes ≤ length old)) × (length new ≡ length old - length bytes)
   filled (Ok n) is_whole told wrote stopped faults =
       let given = gives wrote.0 wrote.2 in (
@@ -130,28 +128,28 @@ module _ {W : Type 0} (appended : W → List ℕ → W → Type 0) (a b : W) (Is
   pub filled_count : (r : Result ℕ Refusal) (is_whole : Bool) → is_whole ≡ is_ok r
       → IfOk r (λ n. (bytes : List ℕ) × IsForm bytes × (n ≡ length bytes) × appended a bytes b)
       → OnErr r ((bytes : List ℕ) × IsForm bytes × AppendsPart appended a bytes b)
-      → CountsFaultsOfWriter false 0 0 (new ≡ []) r
+      → CountsWriter IsIo false 0 0 (new ≡ []) r
       → (bytes : List ℕ) × IsForm bytes × (IsTrue is_whole ↔ (length bytes ≤ length old)) × (length new ≡ length old - length bytes)
   filled_count (Ok n) is_whole told wrote stopped faults = filled (Ok n) is_whole told (wrote.0, wrote.1, wrote.3) stopped faults
   filled_count (Err e) is_whole told wrote stopped faults = filled {T = ℕ} (Err e) is_whole told tt stopped faults
 
 -- decoding a pair's SCALE form and more gives the pair and leaves what follows
-pub scale_pair : (S : ℕ) (p q : Pair) (input bytes taken more left : List ℕ) (v : ScaleVerdict) → input ≡ bytes ++ more → IsScale p bytes
-    → FitsBuffer S p → HasScaleVerdict S input v → v ≡ decoded q → IsScale q taken → input ≡ taken ++ left → (q ≡ p) × (left ≡ more)
+pub scale_pair : (S : ℕ) (p q : Pair) (input bytes taken more left : List ℕ) (v : Verdict) → input ≡ bytes ++ more → IsScale p bytes
+    → FitsBuffer S p → HasScaleVerdict S input v → v ≡ accepted q → IsScale q taken → input ≡ taken ++ left → (q ≡ p) × (left ≡ more)
 scale_pair S p q input bytes taken more left v whole form fits found answers is_taken cut =
     let own = scale_own S p bytes more form (omega arith) in
-    let same : decoded q ≡ decoded p =
-    sym answers ∙ scale_verdict_unique S input v (decoded p) found (subst (λ x. HasScaleVerdict S x (decoded p)) (sym whole) own) in
+    let same : accepted q ≡ accepted p =
+    sym answers ∙ scale_verdict_unique S input v (accepted p) found (subst (λ x. HasScaleVerdict S x (accepted p)) (sym whole) own) in
     let pairs : q ≡ p = cc in
     let bytes_same : taken ≡ bytes = scale_same p taken bytes (subst (λ r. IsScale r taken) pairs is_taken) form in
     (pairs, (same_cut taken bytes left more (ap length bytes_same) (sym cut ∙ whole)).1)
 
 -- and it is not refused
-pub scale_taken : (S : ℕ) (p : Pair) (input bytes more : List ℕ) (v : ScaleVerdict) (e : Refusal) → input ≡ bytes ++ more → IsScale p bytes
-    → FitsBuffer S p → HasScaleVerdict S input v → IsScaleRefusal e v → ⊥
+pub scale_taken : (S : ℕ) (p : Pair) (input bytes more : List ℕ) (v : Verdict) (e : Refusal) → input ≡ bytes ++ more → IsScale p bytes
+    → FitsBuffer S p → HasScaleVerdict S input v → IsRefusal e v → ⊥
 scale_taken S p input bytes more v e whole form fits found refused =
     let own = scale_own S p bytes more form (omega arith) in
-    subst (IsScaleRefusal e) (scale_verdict_unique S input v (decoded p) found (subst (λ x. HasScaleVerdict S x (decoded p)) (sym whole) own)) refused
+    subst (IsRefusal e) (scale_verdict_unique S input v (accepted p) found (subst (λ x. HasScaleVerdict S x (accepted p)) (sym whole) own)) refused
 
 -- the error that is answered is the one that was met
 pub refused_by : {T E : Type 0} (r : Result T E) (e : E) (Q : T → Type 0) (P : E → Type 0) → IsErrAnd r (λ x. x ≡ e) → P e → MatchResult r Q P

@@ -62,6 +62,21 @@ whole_unique (p ∷ ps) (q ∷ qs) (x ∷ es) (y ∷ fs) h k e =
 pub joined_whole : (ps qs : List Pair) (bytes : List ℕ) → AreJoined ps bytes → AreJoined qs bytes → ps ≡ qs
 joined_whole ps qs bytes h k = whole_unique ps qs h.encodings k.encodings h.each k.each (sym h.joined ∙ k.joined)
 
+-- some pairs have one joined encoding
+same_each : (ps : List Pair) (es fs : List (List ℕ)) → AllZip IsEncoding ps es → AllZip IsEncoding ps fs → concat es ≡ concat fs
+same_each [] [] [] h k = refl
+same_each [] [] (f ∷ fs) h k = absurd k
+same_each [] (e ∷ es) fs h k = absurd h
+same_each (p ∷ ps) [] fs h k = absurd h
+same_each (p ∷ ps) (e ∷ es) [] h k = absurd k
+same_each (p ∷ ps) (e ∷ es) (f ∷ fs) h k =
+    let x : e ≡ f = encoding_same p e f h.0 k.0 in
+    let y : concat es ≡ concat fs = same_each ps es fs h.1 k.1 in
+    cc
+
+pub joined_same : (ps : List Pair) (a b : List ℕ) → AreJoined ps a → AreJoined ps b → a ≡ b
+joined_same ps a b h k = h.joined ∙ (same_each ps h.encodings k.encodings h.each k.each ∙ sym k.joined)
+
 -- ---- one more pair
 
 each_push : (ps : List Pair) (es : List (List ℕ)) (p : Pair) (e : List ℕ) → AllZip IsEncoding ps es → IsEncoding p e
@@ -84,24 +99,6 @@ AreJoined-push ps p bytes e h k = record {
   each = each_push ps h.encodings p e h.each k;
   joined = ap (λ z. z ++ e) h.joined ∙ sym (concat_push h.encodings e);
 }
-
-pub AreJoined-cons : (p : Pair) (ps : List Pair) (e bytes : List ℕ) → IsEncoding p e → AreJoined ps bytes → AreJoined (p ∷ ps) (e ++ bytes)
-AreJoined-cons p ps e bytes k h = record { encodings = e ∷ h.encodings; each = (k, h.each); joined = ap (λ z. e ++ z) h.joined }
-
-pub AreJoined-append : (ps qs : List Pair) (a b : List ℕ) → AreJoined ps a → AreJoined qs b → AreJoined (ps ++ qs) (a ++ b)
-AreJoined-append ps qs a b h k = joined ps h.encodings a h.each h.joined
-  where
-    joined : (ps : List Pair) (es : List (List ℕ)) (a : List ℕ) → AllZip IsEncoding ps es → a ≡ concat es → AreJoined (ps ++ qs) (a ++ b)
-    joined [] [] a h e = record { encodings = k.encodings; each = k.each; joined = ap (λ z. z ++ b) e ∙ k.joined }
-    joined [] (x ∷ es) a h e = absurd h
-    joined (p ∷ ps) [] a h e = absurd h
-    joined (p ∷ ps) (x ∷ es) a h e =
-        let others = joined ps es (concat es) h.1 refl in
-        record {
-          encodings = x ∷ others.encodings;
-          each = (h.0, others.each);
-          joined = ap (λ z. z ++ b) e ∙ append_assoc x (concat es) b ∙ ap (λ z. x ++ z) others.joined;
-        }
 
 -- the first of some pairs are joined at the front
 each_front : (ps qs : List Pair) (es fs : List (List ℕ)) → AllZip IsEncoding (ps ++ qs) es → AllZip IsEncoding ps fs

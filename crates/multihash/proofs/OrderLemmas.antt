@@ -40,23 +40,6 @@ IsSmallerWhereFirstDifferent-append [] x y h = h
 IsSmallerWhereFirstDifferent-append (c ∷ front) x y h =
     IsSmallerWhereFirstDifferent-cons c c (front ++ x) (front ++ y) refl (IsSmallerWhereFirstDifferent-append front x y h)
 
--- equal up to a place, and there the left one is smaller
-pub IsSmallerWhereFirstDifferent-at : (i : ℕ) (x y : List ℕ) → i < length x → i < length y → take i x ≡ take i y
-    → get_or x i 0 < get_or y i 0 → IsSmallerWhereFirstDifferent x y
-IsSmallerWhereFirstDifferent-at i x y in_x in_y same below = record {
-  same = take i x;
-  left_byte = get_or x i 0;
-  right_byte = get_or y i 0;
-  left_rest = drop (i + 1) x;
-  right_rest = drop (i + 1) y;
-  smaller = below;
-  left_cut = cut x in_x;
-  right_cut = cut y in_y ∙ ap (λ (z : List ℕ). z ++ get_or y i 0 ∷ drop (i + 1) y) (sym same);
-}
-  where
-    cut : (z : List ℕ) → i < length z → z ≡ take i z ++ get_or z i 0 ∷ drop (i + 1) z
-    cut z within = sym (take-append-drop i z) ∙ ap (λ (back : List ℕ). take i z ++ back) (drop_more z i 0 within)
-
 -- what the heads say
 pub IsSmallerWhereFirstDifferent-parts : (a b : ℕ) (x y : List ℕ) → IsSmallerWhereFirstDifferent (a ∷ x) (b ∷ y)
     → (a < b) ⊎ ((a ≡ b) × IsSmallerWhereFirstDifferent x y)
@@ -243,11 +226,6 @@ compares_unique p q Equal Greater h k = absurd (same_not_before q p (IsSame-sym 
 compares_unique p q Greater Less h k = absurd (ComesBefore-asym p q k h)
 compares_unique p q Greater Equal h k = absurd (same_not_before q p (IsSame-sym p q k) h)
 compares_unique p q Greater Greater h k = refl
-
--- two pairs compare in one way
-pub compares_exactly_one : (p q : Pair) → ExactlyOne (Compares p q)
-compares_exactly_one p q =
-    let c = compares_some p q in record { value = c.0; holds = c.1; only = λ other h. compares_unique p q other c.0 h c.1 }
 
 -- by the code, then by the length, then by one byte after another
 pub compares_by_parts : (p q : Pair) (code size bytes : Ordering) → code ≡ nat_cmp p.code q.code

@@ -35,14 +35,6 @@ HasFewerThan-joined (Some xs) None taken n takes h = cc
 HasFewerThan-joined (Some xs) (Some left) taken n takes h =
     let same : xs ≡ taken ++ left = cc in omega (arith, ap length same, length-append taken left, h)
 
--- a call that took all of `front`, and one that took fewer than n bytes
-pub TakesFewerThan-joined : (a b c : Option (List ℕ)) (front : List ℕ) (m n : ℕ) → m ≡ length front + n → Takes a front b → TakesFewerThan n b c → TakesFewerThan m a c
-TakesFewerThan-joined a b c front m n sum first h = record {
-  taken = front ++ h.taken;
-  fewer = omega (arith, length-append front h.taken, h.fewer);
-  takes = Takes-joined a b c front h.taken _ refl first h.takes;
-}
-
 -- nothing was taken
 pub Takes-none : (a : Option (List ℕ)) → Takes a [] a
 Takes-none None = refl

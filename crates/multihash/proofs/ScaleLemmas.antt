@@ -1,5 +1,5 @@
 -- One SCALE form a pair, and one verdict an input.
-use Rattle.std.proofs.Common.{◌≡◌, ℕ, zero, suc, ◌+◌, ◌/◌, ◌%◌, ◌^◌, ◌<◌, ◌≤◌, ◌⊎◌, cond, ltb, List, [], ◌∷◌, ◌++◌, length, get_or, take, drop, refl, sym, ap, ◌∙◌, arith, inl, inr, length-append, append_assoc, append-nil}
+use Rattle.std.proofs.Common.{◌≡◌, ℕ, zero, suc, ◌+◌, ◌/◌, ◌%◌, ◌^◌, ◌<◌, ◌≤◌, ◌⊎◌, cond, ltb, List, [], ◌∷◌, ◌++◌, length, get_or, take, drop, refl, subst, sym, ap, ◌∙◌, arith, inl, inr, length-append, append_assoc, append-nil}
 use Rattle.std.specs.List.{All}
 use Rattle.std.proofs.Math.Nat.{pow-suc, pow-zero, div-add-mod}
 use Rattle.std.proofs.lemmas.Nat.{mod_below, div_below}
@@ -9,7 +9,8 @@ use Rattle.std.proofs.lemmas.List.Elements.{All-nil, All-cons, All-take}
 use Rattle.multihash.specs.Bytes.{IsBytes, IsBeginning, place_value}
 use Rattle.multihash.specs.Pair.{Pair}
 use Rattle.multihash.specs.Varint.{varint_limit}
-use Rattle.multihash.specs.Scale.{ScaleVerdict, decoded, refused_size, ended, IsScale, HasScaleSize, HasScaleVerdict}
+use Rattle.multihash.specs.Verdict.{Verdict, accepted, invalid_size, faulty, unexpected_eof}
+use Rattle.multihash.specs.Scale.{IsScale, HasScaleSize, HasScaleVerdict}
 use Rattle.multihash.proofs.DigitLemmas.{place_value-nil, place_value-cons, place_value_below, place_value_unique}
 use Rattle.multihash.proofs.VerdictLemmas.{same_cut}
 
@@ -59,25 +60,22 @@ scale_same p a b h k =
 pub scale_length : (p : Pair) (bytes : List ℕ) → IsScale p bytes → length bytes ≡ 9 + length p.digest
 scale_length p bytes h = omega (arith, ap length h.spelled, length-append h.code (length p.digest ∷ p.digest), h.is_code.eight)
 
-pub scale_longest : (p : Pair) (bytes : List ℕ) → IsScale p bytes → length bytes ≤ 264
-scale_longest p bytes h = omega (arith, scale_length p bytes h, h.size)
-
 -- ---- the verdict
 
-scale_judged : ℕ → ℕ → ℕ → List ℕ → ScaleVerdict
+scale_judged : ℕ → ℕ → ℕ → List ℕ → Verdict
 scale_judged S code size rest =
-    cond (ltb S size) (refused_size size)
-    (cond (ltb (length rest) size) ended (decoded (record { code = code; digest = take size rest })))
+    cond (ltb S size) (invalid_size size)
+    (cond (ltb (length rest) size) unexpected_eof (accepted (record { code = code; digest = take size rest })))
 
 -- too short for a size, or judged by the size and what follows
-abbrev ScaleTrace : ℕ → List ℕ → ScaleVerdict → Type 0
+abbrev ScaleTrace : ℕ → List ℕ → Verdict → Type 0
 ScaleTrace S x v =
-    ((length x < 9) × (v ≡ ended))
+    ((length x < 9) × (v ≡ unexpected_eof))
     ⊎ ((size : ℕ) × (rest : List ℕ) × (h : HasScaleSize size x rest) × (v ≡ scale_judged S h.code size rest))
 
-scale_trace : (S : ℕ) (x : List ℕ) (v : ScaleVerdict) → HasScaleVerdict S x v → ScaleTrace S x v
+scale_trace : (S : ℕ) (x : List ℕ) (v : Verdict) → HasScaleVerdict S x v → ScaleTrace S x v
 unfolding scale_judged
-scale_trace S x (decoded p) (bytes, rest, h, fits, cut) =
+scale_trace S x (accepted p) (bytes, rest, h, fits, cut) =
     inr (
       length p.digest,
       p.digest ++ rest,
@@ -93,15 +91,16 @@ scale_trace S x (decoded p) (bytes, rest, h, fits, cut) =
         take_at p.digest rest (length p.digest) refl,
       ) refl,
     )
-scale_trace S x (refused_size size) (rest, h, over) = inr (size, rest, h, rw (lt-ltb S size over) refl)
-scale_trace S x ended (inl short) = inl (short, refl)
-scale_trace S x ended (inr (size, rest, h, within, short)) =
+scale_trace S x (invalid_size size) (rest, h, over) = inr (size, rest, h, rw (lt-ltb S size over) refl)
+scale_trace S x (faulty fault) h = absurd h
+scale_trace S x unexpected_eof (inl short) = inl (short, refl)
+scale_trace S x unexpected_eof (inr (size, rest, h, within, short)) =
     inr (size, rest, h, rw (le-ltb S size within, lt-ltb (length rest) size short) refl)
 
 no_size : (size : ℕ) (x rest : List ℕ) → length x < 9 → HasScaleSize size x rest → ⊥
 no_size size x rest short h = omega (arith, ap length h.cut, length-append h.code_bytes (size ∷ rest), h.is_code.eight)
 
-scale_trace_unique : (S : ℕ) (x : List ℕ) (v w : ScaleVerdict) → ScaleTrace S x v → ScaleTrace S x w → v ≡ w
+scale_trace_unique : (S : ℕ) (x : List ℕ) (v w : Verdict) → ScaleTrace S x v → ScaleTrace S x w → v ≡ w
 scale_trace_unique S x v w (inl h) (inl k) = h.1 ∙ sym k.1
 scale_trace_unique S x v w (inl h) (inr (size, rest, k, e)) = absurd (no_size size x rest h.0 k)
 scale_trace_unique S x v w (inr (size, rest, h, e)) (inl k) = absurd (no_size size x rest k.0 h)
@@ -112,42 +111,51 @@ scale_trace_unique S x v w (inr (m, r, h, e)) (inr (n, q, k, d)) =
     let rests : r ≡ q = cc (cut.1) in
     cc (e, d, codes, sizes, rests)
 
-pub scale_verdict_unique : (S : ℕ) (x : List ℕ) (v w : ScaleVerdict) → HasScaleVerdict S x v → HasScaleVerdict S x w → v ≡ w
+pub scale_verdict_unique : (S : ℕ) (x : List ℕ) (v w : Verdict) → HasScaleVerdict S x v → HasScaleVerdict S x w → v ≡ w
 scale_verdict_unique S x v w h k = scale_trace_unique S x v w (scale_trace S x v h) (scale_trace S x w k)
 
 -- a form and anything behind it
 pub scale_own : (S : ℕ) (p : Pair) (bytes rest : List ℕ) → IsScale p bytes → length p.digest ≤ S
-    → HasScaleVerdict S (bytes ++ rest) (decoded p)
+    → HasScaleVerdict S (bytes ++ rest) (accepted p)
 scale_own S p bytes rest h fits = (bytes, rest, h, fits, refl)
 
 pub scale_begins : (p q : Pair) (a b : List ℕ) → IsScale p a → IsScale q b → IsBeginning a b → p ≡ q
 scale_begins p q a b h k (rest, cut) =
-    let first : HasScaleVerdict 255 b (decoded p) = (a, rest, h, omega (arith, h.size), cut) in
-    let second : HasScaleVerdict 255 b (decoded q) = (b, [], k, omega (arith, k.size), sym (append-nil b)) in
-    let same : decoded p ≡ decoded q = scale_verdict_unique 255 b (decoded p) (decoded q) first second in
+    let first : HasScaleVerdict 255 b (accepted p) = (a, rest, h, omega (arith, h.size), cut) in
+    let second : HasScaleVerdict 255 b (accepted q) = (b, [], k, omega (arith, k.size), sym (append-nil b)) in
+    let same : accepted p ≡ accepted q = scale_verdict_unique 255 b (accepted p) (accepted q) first second in
     cc
+
+-- two forms in front of one input are of one pair
+pub scale_split : (p q : Pair) (a b r s : List ℕ) → IsScale p a → IsScale q b → a ++ r ≡ b ++ s → (p ≡ q) × (a ≡ b) × (r ≡ s)
+scale_split p q a b r s h k e =
+    let verdicts : accepted p ≡ accepted q = scale_verdict_unique 255 (a ++ r) (accepted p) (accepted q)
+    (a, r, h, omega (arith, h.size), refl) (b, s, k, omega (arith, k.size), e) in
+    let pairs : p ≡ q = cc in
+    let forms : a ≡ b = scale_same q a b (subst (λ x. IsScale x a) pairs h) k in
+    (pairs, forms, (same_cut a b r s (ap length forms) e).1)
 
 -- a list up to one place, the number there, and the rest
 split_at : (k : ℕ) (x : List ℕ) → k < length x → x ≡ take k x ++ get_or x k 0 ∷ drop (k + 1) x
 split_at k x below = sym (take-append-drop k x) ∙ ap (λ (back : List ℕ). take k x ++ back) (drop_more x k 0 below)
 
-scale_sized : (S size : ℕ) (x rest : List ℕ) → HasScaleSize size x rest → size < 256 → (v : ScaleVerdict) × HasScaleVerdict S x v
+scale_sized : (S size : ℕ) (x rest : List ℕ) → HasScaleSize size x rest → size < 256 → (v : Verdict) × HasScaleVerdict S x v
 scale_sized S size x rest h byte =
     elim (cases_lt S size) [
-      | inl over ↦ (refused_size size, (rest, h, over))
+      | inl over ↦ (invalid_size size, (rest, h, over))
       | inr within ↦ elim (cases_lt (length rest) size) [
-        | inl short ↦ (ended, inr (size, rest, h, within, short))
+        | inl short ↦ (unexpected_eof, inr (size, rest, h, within, short))
         | inr full ↦ whole within full
       ]
     ]
   where
-    whole : size ≤ S → size ≤ length rest → (v : ScaleVerdict) × HasScaleVerdict S x v
+    whole : size ≤ S → size ≤ length rest → (v : Verdict) × HasScaleVerdict S x v
     whole within full =
         let digest : List ℕ = take size rest in
         let len : length digest ≡ size = length-take-le size rest full in
         let p : Pair = record { code = h.code; digest = digest } in
         let split : size ∷ rest ≡ (length digest ∷ digest) ++ drop size rest = cc (len, take-append-drop size rest) in (
-          decoded p,
+          accepted p,
           (
             h.code_bytes ++ length digest ∷ digest,
             drop size rest,
@@ -161,7 +169,7 @@ code_in_range : (code : List ℕ) → length code ≡ 8 → IsBytes code → pla
 code_in_range code eight bytes = omega (arith, place_value_below 256 code bytes, ap (λ (k : ℕ). 256 ^ k) eight)
 
 -- k is 8, and a variable, so that `take` stays as it is
-scale_from : (k S : ℕ) (x : List ℕ) → k ≡ 8 → IsBytes x → k < length x → (v : ScaleVerdict) × HasScaleVerdict S x v
+scale_from : (k S : ℕ) (x : List ℕ) → k ≡ 8 → IsBytes x → k < length x → (v : Verdict) × HasScaleVerdict S x v
 scale_from k S x eight bytes long =
     scale_sized S (get_or x k 0) x (drop (k + 1) x) (record {
       code = place_value 256 (take k x);
@@ -175,9 +183,9 @@ scale_from k S x eight bytes long =
       cut = split_at k x long;
     }) (bytes k 0 long)
 
-pub scale_verdict_exists : (S : ℕ) (x : List ℕ) → IsBytes x → (v : ScaleVerdict) × HasScaleVerdict S x v
+pub scale_verdict_exists : (S : ℕ) (x : List ℕ) → IsBytes x → (v : Verdict) × HasScaleVerdict S x v
 scale_verdict_exists S x bytes =
     elim (cases_lt (length x) 9) [
-      | inl short ↦ (ended, inl short)
+      | inl short ↦ (unexpected_eof, inl short)
       | inr long ↦ scale_from 8 S x refl bytes long
     ]

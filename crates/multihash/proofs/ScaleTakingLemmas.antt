@@ -2,12 +2,13 @@
 use Rattle.std.proofs.Common.{◌≡◌, ◌<◌, ◌≤◌, ◌⊎◌, ℕ, ◌+◌, List, [], ◌∷◌, ◌++◌, Option, Some, Result, Ok, Err, IfSome, IfOk, IsErr, length, get_or, refl, sym, ap, ◌∙◌, subst, inl, inr, arith, append_assoc, length-append}
 use Rattle.std.specs.Result.{IsErrAnd}
 use Rattle.multihash.specs.Pair.{Pair}
-use Rattle.multihash.specs.Scale.{ScaleVerdict, decoded, refused_size, ended, IsScaleCode, IsScale, HasScaleSize, HasScaleVerdict}
+use Rattle.multihash.specs.Verdict.{Verdict, accepted, invalid_size, unexpected_eof}
+use Rattle.multihash.specs.Scale.{IsScaleCode, IsScale, HasScaleSize, HasScaleVerdict}
 use Rattle.multihash.specs.Fault.{Fault, IsUnexpectedEof, IsOwnFault}
 use Rattle.multihash.specs.Reading.{preceded_by, Takes, HasFewerThan}
 use Rattle.multihash.specs.Refusal.{Refusal, of_io, IsInvalidSize}
-use Rattle.multihash.specs.Answer.{Fields, pair_of}
-use Rattle.multihash.specs.ScaleTaking.{IsScaleRefusal, AnswersScale, TakesAtScaleRefusal}
+use Rattle.multihash.specs.Answer.{Fields, pair_of, IsRefusal, Answers}
+use Rattle.multihash.specs.ScaleTaking.{TakesAtScaleRefusal}
 use Rattle.multihash.proofs.ReadingLemmas.{IfSome-taken}
 
 -- the parts of a form, one after another
@@ -37,10 +38,10 @@ module _ (S code size : ℕ) (a : List ℕ) (is_code : IsScaleCode code a) where
 
   -- a size that is too large
   pub large_verdict : (e : Refusal) (old new : Option (List ℕ)) (before after : ℕ) → S < size → IsInvalidSize size e → Takes old (a ++ size ∷ []) new
-      → IfSome old (λ rest. after ≡ before → (v : ScaleVerdict) × HasScaleVerdict S rest v × IsScaleRefusal e v)
+      → IfSome old (λ rest. after ≡ before → (v : Verdict) × HasScaleVerdict S rest v × IsRefusal e v)
   large_verdict e old new before after over given takes =
       IfSome-taken old new (a ++ size ∷ []) _ takes
-      (λ left _ _. (refused_size size, (left, rw (append_assoc a (size ∷ []) left) (has_size left), over), given))
+      (λ left _ _. (invalid_size size, (left, rw (append_assoc a (size ∷ []) left) (has_size left), over), given))
 
   pub large_taken : (e : Refusal) (old new : Option (List ℕ)) → S < size → IsInvalidSize size e → Takes old (a ++ size ∷ []) new
       → TakesAtScaleRefusal S e old new
@@ -49,7 +50,7 @@ module _ (S code size : ℕ) (a : List ℕ) (is_code : IsScaleCode code a) where
     takes = takes;
     size = λ k same.
         let is : size ≡ k = cc (given, same) in (
-          subst (λ n. HasScaleVerdict S (a ++ size ∷ []) (refused_size n)) is ([], has_size [], over),
+          subst (λ n. HasScaleVerdict S (a ++ size ∷ []) (invalid_size n)) is ([], has_size [], over),
           omega (arith, is_code.eight, length-append a (size ∷ [])),
         );
     early = λ io. elim io [ inl eof ↦ absurd (cc (given, eof.1)) | inr own ↦ absurd (cc (given, own.1)) ];
@@ -59,13 +60,13 @@ module _ (S code size : ℕ) (a : List ℕ) (is_code : IsScaleCode code a) where
   pub cut_verdict : (fault : Fault) (front : List ℕ) (old mid new : Option (List ℕ)) (before after : ℕ) → size ≤ S → Takes mid front new
       → (IsUnexpectedEof fault → HasFewerThan size mid)
       → ((before < after) × IsOwnFault fault) ⊎ ((after ≡ before) × IsUnexpectedEof fault) → Takes old (a ++ size ∷ front) new
-      → IfSome old (λ rest. after ≡ before → (v : ScaleVerdict) × HasScaleVerdict S rest v × IsScaleRefusal (of_io fault) v)
+      → IfSome old (λ rest. after ≡ before → (v : Verdict) × HasScaleVerdict S rest v × IsRefusal (of_io fault) v)
   cut_verdict fault front old mid new before after within took few (inl (rose, own)) takes =
       IfSome-taken old new (a ++ size ∷ front) _ takes (λ left _ same. absurd (omega arith))
   cut_verdict fault front old mid new before after within took few (inr (same, ended_early)) takes =
       IfSome-taken old new (a ++ size ∷ front) _ takes
       (λ left told _. (
-        ended,
+        unexpected_eof,
         inr (size, front ++ left, rw (append_assoc a (size ∷ front) left) (has_size (front ++ left)), within, short left told),
         (fault, refl, ended_early),
       ))
@@ -93,20 +94,20 @@ made_ok (Ok m) p bytes old new made form takes = (bytes, subst (λ q. IsScale q 
 made_ok (Err e) p bytes old new made form takes = tt
 
 made_answer : (S : ℕ) (r : Result Fields Refusal) (p : Pair) (rest : List ℕ) → IfOk r (λ m. pair_of m ≡ p) → ¬ (IsErr r)
-    → HasScaleVerdict S rest (decoded p) → (v : ScaleVerdict) × HasScaleVerdict S rest v × AnswersScale r v
-made_answer S (Ok m) p rest made fine has = (decoded p, has, ap decoded (sym made))
+    → HasScaleVerdict S rest (accepted p) → (v : Verdict) × HasScaleVerdict S rest v × Answers r v
+made_answer S (Ok m) p rest made fine has = (accepted p, has, ap accepted (sym made))
 made_answer S (Err e) p rest made fine has = absurd (fine refl)
 
 pub made_verdict : (S : ℕ) (r : Result Fields Refusal) (p : Pair) (bytes : List ℕ) (old new : Option (List ℕ)) (before after : ℕ)
     → IfOk r (λ m. pair_of m ≡ p) → ¬ (IsErr r) → IsScale p bytes → length p.digest ≤ S → Takes old bytes new
-    → IfSome old (λ rest. after ≡ before → (v : ScaleVerdict) × HasScaleVerdict S rest v × AnswersScale r v)
+    → IfSome old (λ rest. after ≡ before → (v : Verdict) × HasScaleVerdict S rest v × Answers r v)
 made_verdict S r p bytes old new before after made fine form fits takes =
     IfSome-taken old new bytes _ takes (λ left _ _. made_answer S r p (bytes ++ left) made fine (bytes, left, form, fits, refl))
 
 -- the refusal that is passed on answers the verdict that it was met with
 pub passed_answer : (S : ℕ) (r : Result Fields Refusal) (e : Refusal) (old : Option (List ℕ)) (before after : ℕ) → IsErrAnd r (λ x. x ≡ e)
-    → IfSome old (λ rest. after ≡ before → (v : ScaleVerdict) × HasScaleVerdict S rest v × IsScaleRefusal e v)
-    → IfSome old (λ rest. after ≡ before → (v : ScaleVerdict) × HasScaleVerdict S rest v × AnswersScale r v)
+    → IfSome old (λ rest. after ≡ before → (v : Verdict) × HasScaleVerdict S rest v × IsRefusal e v)
+    → IfSome old (λ rest. after ≡ before → (v : Verdict) × HasScaleVerdict S rest v × Answers r v)
 passed_answer S (Ok m) e old before after given h = absurd given
 passed_answer S (Err x) e old before after given h =
-    subst (λ (y : Refusal). IfSome old (λ rest. after ≡ before → (v : ScaleVerdict) × HasScaleVerdict S rest v × IsScaleRefusal y v)) (sym given) h
+    subst (λ (y : Refusal). IfSome old (λ rest. after ≡ before → (v : Verdict) × HasScaleVerdict S rest v × IsRefusal y v)) (sym given) h

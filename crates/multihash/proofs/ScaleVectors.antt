@@ -4,7 +4,8 @@ use Rattle.std.specs.Prelude.{codes}
 use Rattle.std.proofs.lemmas.List.Elements.{All-head}
 use Rattle.multihash.specs.Bytes.{place_value}
 use Rattle.multihash.specs.Pair.{Pair}
-use Rattle.multihash.specs.Scale.{decoded, refused_size, ended, IsScaleCode, IsScale, HasScaleVerdict}
+use Rattle.multihash.specs.Verdict.{accepted, invalid_size, unexpected_eof}
+use Rattle.multihash.specs.Scale.{IsScaleCode, IsScale, HasScaleVerdict}
 use Rattle.multihash.proofs.BytesVectors.{all_below}
 use Rattle.multihash.proofs.PairVectors.{pair}
 use Rattle.multihash.proofs.ScaleLemmas.{scale_verdict_unique}
@@ -26,16 +27,16 @@ zero_code : IsScaleCode 0 zeros
 unfolding place_value
 zero_code = record { eight = refl; are_bytes = all_below 256 zeros refl; value = refl; in_range = omega arith }
 
-scale_eight_bytes : HasScaleVerdict 4 (0 ∷ 0 ∷ 0 ∷ 0 ∷ 0 ∷ 0 ∷ 0 ∷ 0 ∷ []) ended
+scale_eight_bytes : HasScaleVerdict 4 (0 ∷ 0 ∷ 0 ∷ 0 ∷ 0 ∷ 0 ∷ 0 ∷ 0 ∷ []) unexpected_eof
 scale_eight_bytes = inl (omega arith)
 
-scale_cut : HasScaleVerdict 4 (0 ∷ 0 ∷ 0 ∷ 0 ∷ 0 ∷ 0 ∷ 0 ∷ 0 ∷ 3 ∷ 0xaa ∷ 0xbb ∷ []) ended
+scale_cut : HasScaleVerdict 4 (0 ∷ 0 ∷ 0 ∷ 0 ∷ 0 ∷ 0 ∷ 0 ∷ 0 ∷ 3 ∷ 0xaa ∷ 0xbb ∷ []) unexpected_eof
 scale_cut = inr (3, 0xaa ∷ 0xbb ∷ [], record { code = 0; code_bytes = zeros; is_code = zero_code; cut = refl }, omega arith, omega arith)
 
-scale_size_above : HasScaleVerdict 4 (0 ∷ 0 ∷ 0 ∷ 0 ∷ 0 ∷ 0 ∷ 0 ∷ 0 ∷ 5 ∷ 0xaa ∷ 0xbb ∷ []) (refused_size 5)
+scale_size_above : HasScaleVerdict 4 (0 ∷ 0 ∷ 0 ∷ 0 ∷ 0 ∷ 0 ∷ 0 ∷ 0 ∷ 5 ∷ 0xaa ∷ 0xbb ∷ []) (invalid_size 5)
 scale_size_above = (0xaa ∷ 0xbb ∷ [], record { code = 0; code_bytes = zeros; is_code = zero_code; cut = refl }, omega arith)
 
-scale_decoded : HasScaleVerdict 4 (0x12 ∷ 0 ∷ 0 ∷ 0 ∷ 0 ∷ 0 ∷ 0 ∷ 0 ∷ 1 ∷ 0xaa ∷ 0xbb ∷ []) (decoded (pair 18 (0xaa ∷ [])))
+scale_decoded : HasScaleVerdict 4 (0x12 ∷ 0 ∷ 0 ∷ 0 ∷ 0 ∷ 0 ∷ 0 ∷ 0 ∷ 1 ∷ 0xaa ∷ 0xbb ∷ []) (accepted (pair 18 (0xaa ∷ [])))
 unfolding place_value
 scale_decoded = (
   0x12 ∷ 0 ∷ 0 ∷ 0 ∷ 0 ∷ 0 ∷ 0 ∷ 0 ∷ 1 ∷ 0xaa ∷ [],
@@ -50,10 +51,10 @@ scale_decoded = (
   refl,
 )
 
-scale_size_above_no_pair : (p : Pair) → ¬ (HasScaleVerdict 4 (0 ∷ 0 ∷ 0 ∷ 0 ∷ 0 ∷ 0 ∷ 0 ∷ 0 ∷ 5 ∷ 0xaa ∷ 0xbb ∷ []) (decoded p))
+scale_size_above_no_pair : (p : Pair) → ¬ (HasScaleVerdict 4 (0 ∷ 0 ∷ 0 ∷ 0 ∷ 0 ∷ 0 ∷ 0 ∷ 0 ∷ 5 ∷ 0xaa ∷ 0xbb ∷ []) (accepted p))
 scale_size_above_no_pair p h =
-    let same : decoded p ≡ refused_size 5 =
-    scale_verdict_unique 4 (0 ∷ 0 ∷ 0 ∷ 0 ∷ 0 ∷ 0 ∷ 0 ∷ 0 ∷ 5 ∷ 0xaa ∷ 0xbb ∷ []) (decoded p) (refused_size 5) h scale_size_above in
+    let same : accepted p ≡ invalid_size 5 =
+    scale_verdict_unique 4 (0 ∷ 0 ∷ 0 ∷ 0 ∷ 0 ∷ 0 ∷ 0 ∷ 0 ∷ 5 ∷ 0xaa ∷ 0xbb ∷ []) (accepted p) (invalid_size 5) h scale_size_above in
     cc
 
 abbrev largest : List ℕ
@@ -72,11 +73,11 @@ scale_hello_world : IsScale (pair 0 (codes "hello world"))
     (0 ∷ 0 ∷ 0 ∷ 0 ∷ 0 ∷ 0 ∷ 0 ∷ 0 ∷ 11 ∷ 104 ∷ 101 ∷ 108 ∷ 108 ∷ 111 ∷ 32 ∷ 119 ∷ 111 ∷ 114 ∷ 108 ∷ 100 ∷ [])
 scale_hello_world = record { code = zeros; is_code = zero_code; size = omega arith; spelled = refl }
 
-scale_empty_input : HasScaleVerdict 4 [] ended
+scale_empty_input : HasScaleVerdict 4 [] unexpected_eof
 scale_empty_input = inl (omega arith)
 
 -- nine bytes and no digest to follow
-scale_empty_digest : HasScaleVerdict 0 (0 ∷ 0 ∷ 0 ∷ 0 ∷ 0 ∷ 0 ∷ 0 ∷ 0 ∷ 0 ∷ []) (decoded (pair 0 []))
+scale_empty_digest : HasScaleVerdict 0 (0 ∷ 0 ∷ 0 ∷ 0 ∷ 0 ∷ 0 ∷ 0 ∷ 0 ∷ 0 ∷ []) (accepted (pair 0 []))
 scale_empty_digest = (
   0 ∷ 0 ∷ 0 ∷ 0 ∷ 0 ∷ 0 ∷ 0 ∷ 0 ∷ 0 ∷ [],
   [],
@@ -86,7 +87,7 @@ scale_empty_digest = (
 )
 
 -- a digest as long as the buffer
-scale_full : HasScaleVerdict 2 (0 ∷ 0 ∷ 0 ∷ 0 ∷ 0 ∷ 0 ∷ 0 ∷ 0 ∷ 2 ∷ 0xaa ∷ 0xbb ∷ []) (decoded (pair 0 (0xaa ∷ 0xbb ∷ [])))
+scale_full : HasScaleVerdict 2 (0 ∷ 0 ∷ 0 ∷ 0 ∷ 0 ∷ 0 ∷ 0 ∷ 0 ∷ 2 ∷ 0xaa ∷ 0xbb ∷ []) (accepted (pair 0 (0xaa ∷ 0xbb ∷ [])))
 scale_full = (
   0 ∷ 0 ∷ 0 ∷ 0 ∷ 0 ∷ 0 ∷ 0 ∷ 0 ∷ 2 ∷ 0xaa ∷ 0xbb ∷ [],
   [],
@@ -96,7 +97,7 @@ scale_full = (
 )
 
 -- a size above the buffer is refused before the digest is looked at
-scale_size_first : HasScaleVerdict 4 (0 ∷ 0 ∷ 0 ∷ 0 ∷ 0 ∷ 0 ∷ 0 ∷ 0 ∷ 5 ∷ []) (refused_size 5)
+scale_size_first : HasScaleVerdict 4 (0 ∷ 0 ∷ 0 ∷ 0 ∷ 0 ∷ 0 ∷ 0 ∷ 0 ∷ 5 ∷ []) (invalid_size 5)
 scale_size_first = ([], record { code = 0; code_bytes = zeros; is_code = zero_code; cut = refl }, omega arith)
 
 -- the longest digest
@@ -107,7 +108,7 @@ scale_255_is : length (zeros ++ 255 ∷ replicate 255 7) ≡ 264
 scale_255_is = refl
 
 -- a size that just fits waits for its digest
-scale_at_limit : HasScaleVerdict 5 (0 ∷ 0 ∷ 0 ∷ 0 ∷ 0 ∷ 0 ∷ 0 ∷ 0 ∷ 5 ∷ 0xaa ∷ 0xbb ∷ []) ended
+scale_at_limit : HasScaleVerdict 5 (0 ∷ 0 ∷ 0 ∷ 0 ∷ 0 ∷ 0 ∷ 0 ∷ 0 ∷ 5 ∷ 0xaa ∷ 0xbb ∷ []) unexpected_eof
 scale_at_limit = inr (5, 0xaa ∷ 0xbb ∷ [], record { code = 0; code_bytes = zeros; is_code = zero_code; cut = refl }, omega arith, omega arith)
 
 -- ---- what does not hold
@@ -128,8 +129,8 @@ no_highest_first h = omega (arith, h.value)
 no_number_above_255 : ¬ (IsScaleCode 256 (256 ∷ 0 ∷ 0 ∷ 0 ∷ 0 ∷ 0 ∷ 0 ∷ 0 ∷ []))
 no_number_above_255 h = omega (arith, All-head (λ byte. byte < 256) 256 (0 ∷ 0 ∷ 0 ∷ 0 ∷ 0 ∷ 0 ∷ 0 ∷ []) h.are_bytes)
 
-scale_full_no_end : ¬ (HasScaleVerdict 2 (0 ∷ 0 ∷ 0 ∷ 0 ∷ 0 ∷ 0 ∷ 0 ∷ 0 ∷ 2 ∷ 0xaa ∷ 0xbb ∷ []) ended)
+scale_full_no_end : ¬ (HasScaleVerdict 2 (0 ∷ 0 ∷ 0 ∷ 0 ∷ 0 ∷ 0 ∷ 0 ∷ 0 ∷ 2 ∷ 0xaa ∷ 0xbb ∷ []) unexpected_eof)
 scale_full_no_end h =
-    let same : ended ≡ decoded (pair 0 (0xaa ∷ 0xbb ∷ [])) =
-    scale_verdict_unique 2 (0 ∷ 0 ∷ 0 ∷ 0 ∷ 0 ∷ 0 ∷ 0 ∷ 0 ∷ 2 ∷ 0xaa ∷ 0xbb ∷ []) ended (decoded (pair 0 (0xaa ∷ 0xbb ∷ []))) h scale_full in
+    let same : unexpected_eof ≡ accepted (pair 0 (0xaa ∷ 0xbb ∷ [])) =
+    scale_verdict_unique 2 (0 ∷ 0 ∷ 0 ∷ 0 ∷ 0 ∷ 0 ∷ 0 ∷ 0 ∷ 2 ∷ 0xaa ∷ 0xbb ∷ []) unexpected_eof (accepted (pair 0 (0xaa ∷ 0xbb ∷ []))) h scale_full in
     cc

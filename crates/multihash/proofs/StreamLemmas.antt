@@ -7,7 +7,7 @@ use Rattle.multihash.specs.Encoding.{IsEncoding}
 use Rattle.multihash.specs.Reading.{Takes}
 use Rattle.multihash.specs.Joined.{AreJoined}
 use Rattle.multihash.specs.Writing.{AppendsPart}
-use Rattle.multihash.specs.Streams.{TakesPairs}
+use Rattle.multihash.specs.Streams.{TakesPairs, AppendsPartOfPairs}
 use Rattle.multihash.specs.Answer.{Fields, pair_of}
 use Rattle.multihash.proofs.JoinedLemmas.{AreJoined-none, AreJoined-push, joined_front}
 use Rattle.multihash.proofs.ReadingLemmas.{Takes-none, Takes-joined}
@@ -25,15 +25,6 @@ TakesPairs-more S items m encoding a b c before encodes fits takes =
       fit = All-push (FitsBuffer S) (map pair_of items) (pair_of m) before.fit fits;
       takes = Takes-joined a b c before.bytes encoding _ refl before.takes takes;
     })
-
--- a proper beginning of the encodings of the first of these pairs was appended, one after another
-pub record AppendsPartOfPairs {W : Type 0} (appended : W → List ℕ → W → Type 0) (old : W) (pairs : List Pair) (new : W) : Type 0 where
-  pub first : List Pair
-  pub later : List Pair
-  pub bytes : List ℕ
-  pub cut : pairs ≡ first ++ later
-  pub joined : AreJoined first bytes
-  pub part : AppendsPart appended old bytes new
 
 module _ {W : Type 0} (appended : W → List ℕ → W → Type 0) where
   -- what stopped in the first of some pairs stopped in all

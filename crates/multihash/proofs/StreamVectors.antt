@@ -3,9 +3,9 @@ use Rattle.std.proofs.Common.{◌≡◌, ◌<◌, ℕ, true, false, List, [], �
 use Rattle.std.specs.Prelude.{⊤, Option, Some, None, Ok, Err}
 use Rattle.std.proofs.lemmas.Bool.{false≢true}
 use Rattle.multihash.specs.declared.no_std_io.error.Kind.TheVariants.{UnexpectedEof, WriteZero, OutOfMemory, Other}
-use Rattle.multihash.specs.Fault.{Fault}
-use Rattle.multihash.specs.Reading.{Takes, IsAtEnd, HasFewerThan, TakesFewerThan, CountsFaults, CountsFaultsOrEof}
-use Rattle.multihash.specs.Writing.{IsWriterFault, AppendsPart, IsWriterFaultOrFull, CountsWriterFaults, CountsWriterFaultsOrFull}
+use Rattle.multihash.specs.Fault.{Fault, IsUnexpectedEof, IsOwnFault}
+use Rattle.multihash.specs.Reading.{Takes, IsAtEnd, HasFewerThan, TakesFewerThan, CountsReader}
+use Rattle.multihash.specs.Writing.{IsWriterFault, AppendsPart, IsWriterFaultOrFull, CountsWriter}
 use Rattle.multihash.specs.Places.{GivesUpPlaces, GivesUpFor, AppendsAtEnd}
 
 -- ---- what was taken
@@ -79,42 +79,44 @@ full = record { kind = WriteZero; text = [] }
 abbrev memory : Fault
 memory = record { kind = OutOfMemory; text = [] }
 
-read_ok : CountsFaults {A = ℕ} 3 3 (Ok 1)
+read_ok : CountsReader {A = ℕ} IsOwnFault (λ _. ⊥) 3 3 (Ok 1)
 read_ok = refl
 
-read_failed : CountsFaults {A = ℕ} 3 4 (Err other)
-read_failed = (omega arith, inl refl)
+read_failed : CountsReader {A = ℕ} IsOwnFault (λ _. ⊥) 3 4 (Err other)
+read_failed = inl (omega arith, inl refl)
 
-read_ok_uncounted : ¬ (CountsFaults {A = ℕ} 3 4 (Ok 1))
+read_ok_uncounted : ¬ (CountsReader {A = ℕ} IsOwnFault (λ _. ⊥) 3 4 (Ok 1))
 read_ok_uncounted h = omega (arith, h)
 
-read_failed_uncounted : ¬ (CountsFaults {A = ℕ} 3 3 (Err other))
-read_failed_uncounted h = omega (arith, h.0)
+read_failed_uncounted : ¬ (CountsReader {A = ℕ} IsOwnFault (λ _. ⊥) 3 3 (Err other))
+read_failed_uncounted (inl h) = omega (arith, h.0)
+read_failed_uncounted (inr h) = h.1
 
 -- `read` tells the end by a count of 0, and by no refusal
-read_no_eof : ¬ (CountsFaults {A = ℕ} 3 4 (Err eof))
-read_no_eof (more, inl h) = cc
-read_no_eof (more, inr h) = cc
+read_no_eof : ¬ (CountsReader {A = ℕ} IsOwnFault (λ _. ⊥) 3 4 (Err eof))
+read_no_eof (inl (more, inl h)) = cc
+read_no_eof (inl (more, inr h)) = cc
+read_no_eof (inr h) = h.1
 
-filled : CountsFaultsOrEof {A = ℕ} 3 3 (Ok 0)
+filled : CountsReader {A = ℕ} IsOwnFault IsUnexpectedEof 3 3 (Ok 0)
 filled = refl
 
-fill_ended : CountsFaultsOrEof {A = ℕ} 3 3 (Err eof)
+fill_ended : CountsReader {A = ℕ} IsOwnFault IsUnexpectedEof 3 3 (Err eof)
 fill_ended = inr (refl, refl)
 
-fill_failed : CountsFaultsOrEof {A = ℕ} 3 4 (Err memory)
+fill_failed : CountsReader {A = ℕ} IsOwnFault IsUnexpectedEof 3 4 (Err memory)
 fill_failed = inl (omega arith, inr refl)
 
 -- a fault that was counted is told
-fill_hides_no_fault : ¬ (CountsFaultsOrEof {A = ℕ} 3 4 (Err eof))
+fill_hides_no_fault : ¬ (CountsReader {A = ℕ} IsOwnFault IsUnexpectedEof 3 4 (Err eof))
 fill_hides_no_fault (inl (more, inl h)) = cc
 fill_hides_no_fault (inl (more, inr h)) = cc
 fill_hides_no_fault (inr (same, h)) = omega (arith, same)
 
-fill_swallows_no_fault : ¬ (CountsFaultsOrEof {A = ℕ} 3 4 (Ok 0))
+fill_swallows_no_fault : ¬ (CountsReader {A = ℕ} IsOwnFault IsUnexpectedEof 3 4 (Ok 0))
 fill_swallows_no_fault h = omega (arith, h)
 
-fill_invents_no_fault : ¬ (CountsFaultsOrEof {A = ℕ} 3 3 (Err other))
+fill_invents_no_fault : ¬ (CountsReader {A = ℕ} IsOwnFault IsUnexpectedEof 3 3 (Err other))
 fill_invents_no_fault (inl (more, h)) = omega arith
 fill_invents_no_fault (inr (same, h)) = cc
 
@@ -150,30 +152,31 @@ writer_full_counts_nothing : ¬ (IsWriterFaultOrFull false 3 4 ⊤ full)
 writer_full_counts_nothing (inl h) = elim h.kind [ inl e ↦ cc | inr e ↦ cc ]
 writer_full_counts_nothing (inr h) = omega (arith, h.1)
 
-wrote : CountsWriterFaults {A = ℕ} true 3 3 (Ok 1)
+wrote : CountsWriter {A = ℕ} (λ P. P) true 3 3 ⊥ (Ok 1)
 wrote = refl
 
-wrote_with_fault : ¬ (CountsWriterFaults {A = ℕ} true 3 4 (Ok 1))
+wrote_with_fault : ¬ (CountsWriter {A = ℕ} (λ P. P) true 3 4 ⊥ (Ok 1))
 wrote_with_fault h = omega (arith, h)
 
-write_never_full : ¬ (CountsWriterFaults {A = ℕ} true 3 4 (Err full))
-write_never_full h = writer_not_full h.1
+write_never_full : ¬ (CountsWriter {A = ℕ} (λ P. P) true 3 4 ⊥ (Err full))
+write_never_full (more, inl h) = writer_not_full h
+write_never_full (more, inr h) = h.2
 
-wrote_all_with_fault : ¬ (CountsWriterFaultsOrFull {A = ℕ} true 3 4 ⊤ (Ok 1))
+wrote_all_with_fault : ¬ (CountsWriter {A = ℕ} (λ P. P) true 3 4 ⊤ (Ok 1))
 wrote_all_with_fault h = omega (arith, h)
 
-wrote_all_full : CountsWriterFaultsOrFull {A = ℕ} false 3 3 ⊤ (Err full)
+wrote_all_full : CountsWriter {A = ℕ} (λ P. P) false 3 3 ⊤ (Err full)
 wrote_all_full = (omega arith, writer_full)
 
 -- a count never falls
-no_count_falls : ¬ (CountsWriterFaults {A = ℕ} true 4 3 (Err memory))
+no_count_falls : ¬ (CountsWriter {A = ℕ} (λ P. P) true 4 3 ⊥ (Err memory))
 no_count_falls h = omega (arith, h.0)
 
-no_count_falls_writing_all : ¬ (CountsWriterFaultsOrFull {A = ℕ} true 4 3 ⊤ (Err memory))
+no_count_falls_writing_all : ¬ (CountsWriter {A = ℕ} (λ P. P) true 4 3 ⊤ (Err memory))
 no_count_falls_writing_all h = omega (arith, h.0)
 
-wrote_nothing_for_want_of_memory : CountsWriterFaults {A = ℕ} true 3 3 (Err memory)
-wrote_nothing_for_want_of_memory = (omega arith, writer_refused_memory)
+wrote_nothing_for_want_of_memory : CountsWriter {A = ℕ} (λ P. P) true 3 3 ⊥ (Err memory)
+wrote_nothing_for_want_of_memory = (omega arith, inl writer_refused_memory)
 
 -- ---- what was appended
 

@@ -7,10 +7,10 @@ use Rattle.multihash.specs.Varint.{insufficient, overflow, not_minimal}
 use Rattle.multihash.specs.Encoding.{IsEncoding}
 use Rattle.multihash.specs.Verdict.{Verdict, accepted, invalid_size, faulty, unexpected_eof, HasVerdict, HasWholeVerdict, IsEarlyEnd}
 use Rattle.multihash.specs.Settling.{Settles, IsShortestSettling}
-use Rattle.multihash.specs.Reading.{Takes, IsAtEnd}
+use Rattle.multihash.specs.Reading.{Takes, IsAtEnd, CountsReader}
 use Rattle.multihash.specs.Fault.{Fault}
 use Rattle.multihash.specs.Refusal.{Refusal, IsReaderFault, IsEof, IsFaulty}
-use Rattle.multihash.specs.Taking.{CountsReaderFaults, IsReadRefusal, TakesAtRefusal, TakesShortestSettling, TakesUnsettled}
+use Rattle.multihash.specs.Taking.{IsReadRefusal, TakesAtRefusal, TakesShortestSettling, TakesUnsettled}
 use Rattle.multihash.specs.Answer.{Fields, pair_of, IsRefusal, Answers}
 use Rattle.multihash.proofs.VerdictLemmas.{verdict_unique}
 use Rattle.multihash.proofs.SettlingLemmas.{verdict_kept, none_settles, EndsEarly, before_digest, shortest_from}
@@ -210,14 +210,16 @@ module _ (S : ℕ) (p : Pair) (taken : List ℕ) (encodes : IsEncoding p taken) 
 -- ---- the whole contract
 
 -- what `read` promises of an outcome
-pub record ReadMeets (S : ℕ) (old new : Option (List ℕ)) (before after : ℕ) (r : Result Fields Refusal) : Type 0 where
-  pub faults : CountsReaderFaults (IsReadRefusal S) before after r
-  pub verdict : IfSome old (λ rest. after ≡ before → (v : Verdict) × HasVerdict S rest v × Answers r v)
-  pub ok : IfOk r (λ m. (bytes : List ℕ) × IsEncoding (pair_of m) bytes × Takes old bytes new)
-  pub fits : IfOk r (λ m. FitsBuffer S (pair_of m))
-  pub err : IfErr r (λ e. TakesAtRefusal S e old new)
-  pub settled : IfSome old (λ rest. after ≡ before → (v : Verdict) → HasVerdict S rest v → ¬ (IsEarlyEnd v) → TakesShortestSettling S rest new)
-  pub unsettled : IfSome old (λ rest. EndsOrFails S rest before after → TakesUnsettled S (Some rest) new)
+abbrev pub ReadMeets : ℕ → Option (List ℕ) → Option (List ℕ) → ℕ → ℕ → Result Fields Refusal → Type 0
+ReadMeets S old new before after r = record {
+  faults : CountsReader IsReaderFault (IsReadRefusal S) before after r;
+  verdict : IfSome old (λ rest. after ≡ before → (v : Verdict) × HasVerdict S rest v × Answers r v);
+  ok : IfOk r (λ m. (bytes : List ℕ) × IsEncoding (pair_of m) bytes × Takes old bytes new);
+  fits : IfOk r (λ m. FitsBuffer S (pair_of m));
+  err : IfErr r (λ e. TakesAtRefusal S e old new);
+  settled : IfSome old (λ rest. after ≡ before → (v : Verdict) → HasVerdict S rest v → ¬ (IsEarlyEnd v) → TakesShortestSettling S rest new);
+  unsettled : IfSome old (λ rest. EndsOrFails S rest before after → TakesUnsettled S (Some rest) new);
+}
 
 pub refused : (S : ℕ) (taken : List ℕ) (old new : Option (List ℕ)) (before after : ℕ) (r : Result Fields Refusal) (e : Refusal)
     → IsErrAnd r (λ x. x ≡ e) → Takes old taken new → Stops S e taken new before after → ReadMeets S old new before after r

@@ -14,10 +14,6 @@ use Rattle.multihash.proofs.RunLemmas.{All-append_left, All-append_right, cut_un
 abbrev IsDigit : ℕ → Type 0
 IsDigit d = d < 128
 
--- the limit is the first byte that is too large, at its place
-limit_is : first_too_large * 128 ^ most_marked ≡ varint_limit
-limit_is = refl
-
 -- a last digit that isn't zero has at least its place's value
 pub last_counts : (front : List ℕ) (last : ℕ) → 0 < last → 128 ^ length front ≤ place_value 128 (front ++ last ∷ [])
 last_counts front last pos =

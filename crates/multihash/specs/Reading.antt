@@ -1,5 +1,5 @@
 -- What a call took from a reader, and how it failed.
-use Rattle.std.specs.Prelude.{◌≡◌, ◌<◌, ℕ, List, [], ◌++◌, ◌⊎◌, length, Option, None, Some, Result, MatchResult, IfSome}
+use Rattle.std.specs.Prelude.{◌≡◌, ◌<◌, ◌≤◌, ℕ, List, [], ◌++◌, ◌⊎◌, length, take, drop, Option, None, Some, Result, MatchResult, IfSome, IfOk, IfErr, OnOk, OnErr, IsOk}
 use Rattle.multihash.specs.Fault.{Fault, IsUnexpectedEof, IsOwnFault}
 
 -- the bytes of a reader that still has `front` before these, where it tells them
@@ -26,11 +26,29 @@ pub record TakesFewerThan (n : ℕ) (old new : Option (List ℕ)) : Type 0 where
   pub fewer : length taken < n
   pub takes : Takes old taken new
 
--- an Ok left the count of failures alone; an Err raised it, by a fault of the reader's own
-abbrev pub CountsFaults : {A : Type 0} → ℕ → ℕ → Result A Fault → Type 0
-CountsFaults before after outcome = MatchResult outcome (λ _. after ≡ before) (λ e. (before < after) × IsOwnFault e)
+-- an Ok left the count of failures alone; an Err raised it, by a fault of the reader's own, or left it
+-- alone and is listed
+abbrev pub CountsReader : {A E : Type 0} → (E → Type 0) → (E → Type 0) → ℕ → ℕ → Result A E → Type 0
+CountsReader IsOwn IsListed before after outcome = MatchResult outcome (λ _. after ≡ before)
+    (λ e. ((before < after) × IsOwn e) ⊎ ((after ≡ before) × IsListed e))
 
--- as `CountsFaults`, but an Err may also say that the input ended too early, and then raised nothing
-abbrev pub CountsFaultsOrEof : {A : Type 0} → ℕ → ℕ → Result A Fault → Type 0
-CountsFaultsOrEof before after outcome = MatchResult outcome (λ _. after ≡ before)
-    (λ e. ((before < after) × IsOwnFault e) ⊎ ((after ≡ before) × IsUnexpectedEof e))
+-- the laws of `read`
+abbrev pub ReadLaws : {S : Type 0} → (S → Option (List ℕ)) → (S → ℕ) → S → S → List ℕ → List ℕ → Result ℕ Fault → Type 0
+ReadLaws rest failures old new places filled outcome = record {
+  count : IfOk outcome (λ n. n ≤ length places);
+  beyond : IfOk outcome (λ n. drop n filled ≡ drop n places);
+  faults : CountsReader IsOwnFault (λ _. ⊥) (failures old) (failures new) outcome;
+  takes : IfOk outcome (λ n. Takes (rest old) (take n filled) (rest new));
+  at_end : IfOk outcome (λ n. n ≡ 0 → 0 < length places → IsAtEnd (rest old));
+  err : OnErr outcome (rest new ≡ rest old);
+}
+
+-- the laws of `read_exact`
+abbrev pub ReadExactLaws : {S A : Type 0} → (S → Option (List ℕ)) → (S → ℕ) → S → S → List ℕ → List ℕ → Result A Fault → Type 0
+ReadExactLaws rest failures old new places filled outcome = record {
+  faults : CountsReader IsOwnFault IsUnexpectedEof (failures old) (failures new) outcome;
+  takes : OnOk outcome (Takes (rest old) filled (rest new));
+  empty : length places ≡ 0 → IsOk outcome;
+  eof : IfErr outcome (λ e. IsUnexpectedEof e → HasFewerThan (length places) (rest old));
+  err : OnErr outcome (TakesFewerThan (length places) (rest old) (rest new));
+}

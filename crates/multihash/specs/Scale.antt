@@ -3,12 +3,7 @@ use Rattle.std.specs.Prelude.{◌≡◌, ℕ, ◌<◌, ◌≤◌, ◌⊎◌, Lis
 use Rattle.multihash.specs.Bytes.{IsBytes, place_value}
 use Rattle.multihash.specs.Pair.{Pair}
 use Rattle.multihash.specs.Varint.{varint_limit}
-
--- what decoding answers
-pub data ScaleVerdict : Type 0 where
-  decoded : Pair → ScaleVerdict
-  refused_size : ℕ → ScaleVerdict
-  ended : ScaleVerdict
+use Rattle.multihash.specs.Verdict.{Verdict, accepted, invalid_size, faulty, unexpected_eof}
 
 -- the bytes are the eight of the code, the lowest first
 pub record IsScaleCode (code : ℕ) (bytes : List ℕ) : Type 0 where
@@ -31,11 +26,12 @@ pub record HasScaleSize (size : ℕ) (input rest : List ℕ) : Type 0 where
   pub is_code : IsScaleCode code code_bytes
   pub cut : input ≡ code_bytes ++ size ∷ rest
 
--- the verdict of decoding on what begins with the input, for a buffer of size S
-abbrev pub HasScaleVerdict : ℕ → List ℕ → ScaleVerdict → Type 0
-HasScaleVerdict S input (decoded p) =
+-- the verdict of decoding on what begins with the input, for a buffer of size S; no varint is read
+abbrev pub HasScaleVerdict : ℕ → List ℕ → Verdict → Type 0
+HasScaleVerdict S input (accepted p) =
     (bytes : List ℕ) × (rest : List ℕ) × IsScale p bytes × (length p.digest ≤ S) × (input ≡ bytes ++ rest)
-HasScaleVerdict S input (refused_size size) = (rest : List ℕ) × HasScaleSize size input rest × (S < size)
-HasScaleVerdict S input ended =
+HasScaleVerdict S input (invalid_size size) = (rest : List ℕ) × HasScaleSize size input rest × (S < size)
+HasScaleVerdict S input (faulty fault) = ⊥
+HasScaleVerdict S input unexpected_eof =
     (length input < 9)
     ⊎ ((size : ℕ) × (rest : List ℕ) × HasScaleSize size input rest × (size ≤ S) × (length rest < size))

@@ -1,24 +1,12 @@
--- What the library's calls took from a reader, and how a reader or a writer made them fail.
-use Rattle.std.specs.Prelude.{◌≡◌, ◌<◌, ◌≤◌, ℕ, Bool, List, ◌⊎◌, Option, Some, Result, MatchResult}
+-- What the library's calls took from a reader.
+use Rattle.std.specs.Prelude.{◌≡◌, ◌<◌, ◌≤◌, ℕ, List, ◌⊎◌, Option, Some}
 use Rattle.multihash.specs.Bytes.{IsBeginning, IsProperBeginning}
 use Rattle.multihash.specs.Pair.{digest_limit}
 use Rattle.multihash.specs.Varint.{VarintFault, insufficient, IsVarint, IsInsufficient, HasFaultyFront}
 use Rattle.multihash.specs.Verdict.{Verdict, faulty, unexpected_eof, HasVerdict, IsEarlyEnd}
 use Rattle.multihash.specs.Settling.{Settles, IsShortestSettling}
 use Rattle.multihash.specs.Reading.{Takes, IsAtEnd}
-use Rattle.multihash.specs.Writing.{IsWriterFaultOrFull}
-use Rattle.multihash.specs.Refusal.{Refusal, IsIo, IsEof, IsReaderFault, IsInvalidSize, IsFaulty}
-
--- an Ok left the count of failures alone; an Err raised it, by a fault of the reader's own, or left it
--- alone and is a listed refusal
-abbrev pub CountsReaderFaults : {A : Type 0} → (Refusal → Type 0) → ℕ → ℕ → Result A Refusal → Type 0
-CountsReaderFaults IsListed before after outcome = MatchResult outcome (λ _. after ≡ before)
-    (λ e. ((before < after) × IsReaderFault e) ⊎ ((after ≡ before) × IsListed e))
-
--- an Ok left the count of failures alone; an Err is the writer's fault, or says that it is full
-abbrev pub CountsFaultsOfWriter : {A : Type 0} → Bool → ℕ → ℕ → Type 0 → Result A Refusal → Type 0
-CountsFaultsOfWriter allocates before after is_full outcome = MatchResult outcome (λ _. after ≡ before)
-    (λ e. (before ≤ after) × IsIo (IsWriterFaultOrFull allocates before after is_full) e)
+use Rattle.multihash.specs.Refusal.{Refusal, IsEof, IsReaderFault, IsInvalidSize, IsFaulty}
 
 -- a varint's fault
 abbrev pub IsVarintRefusal : Refusal → Type 0

@@ -1,5 +1,5 @@
 -- How a writer failed.
-use Rattle.std.specs.Prelude.{◌≡◌, ◌<◌, ◌≤◌, ℕ, Bool, IsTrue, List, ◌⊎◌, Result, MatchResult}
+use Rattle.std.specs.Prelude.{◌≡◌, ◌<◌, ◌≤◌, ℕ, Bool, IsTrue, List, [], ◌⊎◌, length, take, Result, MatchResult, IfOk, OnOk, OnErr, IsOk}
 use Rattle.multihash.specs.Fault.{Fault, IsWriteZero, IsOutOfMemory, IsOwnFault}
 use Rattle.multihash.specs.Bytes.{IsProperBeginning}
 
@@ -19,12 +19,27 @@ abbrev pub IsWriterFaultOrFull : Bool → ℕ → ℕ → Type 0 → Fault → T
 IsWriterFaultOrFull allocates before after is_full e =
     IsWriterFault allocates before after e ⊎ (IsWriteZero e × (after ≡ before) × is_full)
 
--- an Ok left the count of failures alone; an Err is the writer's fault, and lowered no count
-abbrev pub CountsWriterFaults : {A : Type 0} → Bool → ℕ → ℕ → Result A Fault → Type 0
-CountsWriterFaults allocates before after outcome = MatchResult outcome (λ _. after ≡ before)
-    (λ e. (before ≤ after) × IsWriterFault allocates before after e)
+-- an Ok left the count of failures alone; an Err says the writer's fault or that it is full, and lowered
+-- no count
+abbrev pub CountsWriter : {A E : Type 0} → ((Fault → Type 0) → E → Type 0) → Bool → ℕ → ℕ → Type 0 → Result A E → Type 0
+CountsWriter Says allocates before after is_full outcome = MatchResult outcome (λ _. after ≡ before)
+    (λ e. (before ≤ after) × Says (IsWriterFaultOrFull allocates before after is_full) e)
 
--- as `CountsWriterFaults`, but an Err may also say that no place was left, and then counted nothing
-abbrev pub CountsWriterFaultsOrFull : {A : Type 0} → Bool → ℕ → ℕ → Type 0 → Result A Fault → Type 0
-CountsWriterFaultsOrFull allocates before after is_full outcome = MatchResult outcome (λ _. after ≡ before)
-    (λ e. (before ≤ after) × IsWriterFaultOrFull allocates before after is_full e)
+-- the laws of `write`
+abbrev pub WriteLaws : {S : Type 0} → (S → List ℕ → S → Type 0) → (S → Type 0) → (S → ℕ) → Bool → S → List ℕ → S → Result ℕ Fault → Type 0
+WriteLaws appended full failures allocates old bytes new outcome = record {
+  count : IfOk outcome (λ n. n ≤ length bytes);
+  ok : IfOk outcome (λ n. appended old (take n bytes) new);
+  stuck : IfOk outcome (λ n. n ≡ 0 → 0 < length bytes → full new);
+  err : OnErr outcome (appended old [] new);
+  faults : CountsWriter (λ P. P) allocates (failures old) (failures new) ⊥ outcome;
+}
+
+-- the laws of `write_all`
+abbrev pub WriteAllLaws : {S A : Type 0} → (S → List ℕ → S → Type 0) → (S → Type 0) → (S → ℕ) → Bool → S → List ℕ → S → Result A Fault → Type 0
+WriteAllLaws appended full failures allocates old bytes new outcome = record {
+  ok : OnOk outcome (appended old bytes new);
+  empty : length bytes ≡ 0 → IsOk outcome;
+  err : OnErr outcome (AppendsPart appended old bytes new);
+  faults : CountsWriter (λ P. P) allocates (failures old) (failures new) (full new) outcome;
+}

@@ -3,11 +3,12 @@ ghost use Rattle.std.specs.Prelude.{◌≡◌, ℕ, ◌<◌, ◌≤◌, ◌↔�
 ghost use Rattle.serde_json.specs.Data.{Data};
 ghost use Rattle.multihash.specs.Bytes.{IsBytes, IsBeginning, ExactlyOne};
 ghost use Rattle.multihash.specs.Pair.{Pair, IsPair, IsSame, FitsBuffer};
+ghost use Rattle.multihash.specs.Varint.{varint_limit};
 ghost use Rattle.multihash.specs.Encoding.{IsEncoding};
 ghost use Rattle.multihash.specs.Verdict.{Verdict, accepted, HasVerdict, HasWholeVerdict, IsEarlyEnd};
 ghost use Rattle.multihash.specs.Settling.{Settles, IsShortestSettling};
 ghost use Rattle.multihash.specs.Joined.{AreJoined};
-ghost use Rattle.multihash.specs.Scale.{ScaleVerdict, decoded, IsScale, HasScaleVerdict};
+ghost use Rattle.multihash.specs.Scale.{IsScale, HasScaleVerdict};
 ghost use Rattle.multihash.specs.Json.{IsJsonList, IsByteArray};
 
 /// Each input has one verdict, for each size of buffer.
@@ -34,7 +35,11 @@ pub fn settles()
 
 /// A pair has one encoding, which tells the pair, whatever follows.
 pub fn prefix_free()
-    ensures one_encoding { (p : Pair) → IsPair p → length p.digest ≤ 255 → ExactlyOne (IsEncoding p) }
+    ensures one_encoding { (p : Pair) → p.code < varint_limit → length p.digest ≤ 255 →
+        ExactlyOne (IsEncoding p) }
+    ensures same { (p : Pair) (a b : List ℕ) → IsEncoding p a → IsEncoding p b → a ≡ b }
+    ensures unique { (p q : Pair) (a b r s : List ℕ) → IsEncoding p a → IsEncoding q b →
+        a ++ r ≡ b ++ s → (p ≡ q) × (a ≡ b) × (r ≡ s) }
     ensures begins_no_other { (p q : Pair) (a b : List ℕ) →
         IsEncoding p a → IsEncoding q b → IsBeginning a b → p ≡ q }
     ensures own_verdict { (S : ℕ) (p : Pair) (encoding rest : List ℕ) → IsEncoding p encoding →
@@ -48,18 +53,22 @@ pub fn split_unique()
     ensures as_many { (ps qs : List Pair) (a b r s : List ℕ) → length ps ≡ length qs →
         AreJoined ps a → AreJoined qs b → a ++ r ≡ b ++ s → (ps ≡ qs) × (r ≡ s) }
     ensures whole { (ps qs : List Pair) (bytes : List ℕ) → AreJoined ps bytes → AreJoined qs bytes → ps ≡ qs }
+    ensures one_stream { (ps : List Pair) (a b : List ℕ) → AreJoined ps a → AreJoined ps b → a ≡ b }
 {}
 
 /// A pair has one SCALE form, which tells the pair, whatever follows, and each input has one verdict.
 pub fn scale_unique()
-    ensures one_form { (p : Pair) → IsPair p → length p.digest ≤ 255 → ExactlyOne (IsScale p) }
+    ensures one_form { (p : Pair) → p.code < varint_limit → length p.digest ≤ 255 → ExactlyOne (IsScale p) }
+    ensures same { (p : Pair) (a b : List ℕ) → IsScale p a → IsScale p b → a ≡ b }
+    ensures unique { (p q : Pair) (a b r s : List ℕ) → IsScale p a → IsScale q b →
+        a ++ r ≡ b ++ s → (p ≡ q) × (a ≡ b) × (r ≡ s) }
     ensures one_verdict { (S : ℕ) (input : List ℕ) → IsBytes input → ExactlyOne (HasScaleVerdict S input) }
-    ensures verdict_unique { (S : ℕ) (input : List ℕ) (v w : ScaleVerdict) →
+    ensures verdict_unique { (S : ℕ) (input : List ℕ) (v w : Verdict) →
         HasScaleVerdict S input v → HasScaleVerdict S input w → v ≡ w }
     ensures begins_no_other { (p q : Pair) (a b : List ℕ) →
         IsScale p a → IsScale q b → IsBeginning a b → p ≡ q }
     ensures own_verdict { (S : ℕ) (p : Pair) (bytes rest : List ℕ) → IsScale p bytes →
-        FitsBuffer S p → HasScaleVerdict S (bytes ++ rest) (decoded p) }
+        FitsBuffer S p → HasScaleVerdict S (bytes ++ rest) (accepted p) }
 {}
 
 /// A JSON list tells its pair.

@@ -1,10 +1,12 @@
 //! Many multihashes in one stream, one after another.
-ghost use Rattle.std.specs.Prelude.{◌≡◌, ◌⊎◌, ℕ, List, length, map, min, IfOk, IfErr, OnOk, OnErr, IsOk};
+ghost use Rattle.std.specs.Prelude.{◌≡◌, ◌⊎◌, ℕ, List, length, map, All, IfOk, IfErr, OnOk, OnErr, IsOk};
+ghost use Rattle.multihash.specs.Pair.{FitsBuffer};
 ghost use Rattle.multihash.specs.Joined.{AreJoined};
-ghost use Rattle.multihash.specs.Writing.{AppendsPart};
-ghost use Rattle.multihash.specs.Refusal.{IsMemory};
-ghost use Rattle.multihash.specs.Taking.{CountsReaderFaults, CountsFaultsOfWriter, IsReadRefusal};
-ghost use Rattle.multihash.specs.Streams.{TakesPairs, StopsAfterPairs};
+ghost use Rattle.multihash.specs.Writing.{AppendsPart, CountsWriter};
+ghost use Rattle.multihash.specs.Refusal.{IsMemory, IsIo, IsReaderFault};
+ghost use Rattle.multihash.specs.Reading.{CountsReader};
+ghost use Rattle.multihash.specs.Taking.{IsReadRefusal};
+ghost use Rattle.multihash.specs.Streams.{TakesPairs, StopsAfterPairs, AppendsPartOfPairs};
 ghost use Rattle.multihash.specs.Answer.{pair_of};
 
 use crate::no_std_io::{Read, Write};
@@ -20,34 +22,17 @@ pub fn write_list<const S: usize, W: Write>(items: &[Multihash<S>], w: &mut W) -
     ensures ok { OnOk result ((bytes : List ℕ) × AreJoined (map pair_of items.now) bytes
         × W.appended w.old bytes w.new) }
     ensures empty { length items.now ≡ 0 → IsOk result }
-    ensures err { OnErr result ((bytes : List ℕ) × AreJoined (map pair_of items.now) bytes
-        × AppendsPart W.appended w.old bytes w.new) }
-    ensures faults { CountsFaultsOfWriter W.allocates
+    ensures fit { OnOk result (All (FitsBuffer S) (map pair_of items.now)) }
+    ensures stopped { OnErr result (AppendsPartOfPairs W.appended w.old (map pair_of items.now) w.new) }
+    ensures err { OnErr result ((bytes : List ℕ) → AreJoined (map pair_of items.now) bytes →
+        AppendsPart W.appended w.old bytes w.new) }
+    ensures faults { CountsWriter IsIo W.allocates
         (W.failures w.old) (W.failures w.new) (W.full w.new) result }
 {
     for item in items {
-        match item.write(w) {
-            Ok(_) => {}
-            Err(e) => {
-                // The contract names the encodings of all items, those that were not reached among them.
-                joined_len(items);
-                return Err(e);
-            }
-        }
+        item.write(w)?;
     }
     Ok(())
-}
-
-// How many bytes the joined encodings have. There are such bytes.
-fn joined_len<const S: usize>(items: &[Multihash<S>]) -> usize
-    ensures { (bytes : List ℕ) × AreJoined (map pair_of items.now) bytes
-        × (result ≡ min (length bytes) usize.MAX) }
-{
-    let mut len = 0usize;
-    for item in items {
-        len = len.saturating_add(item.encoded_len());
-    }
-    len
 }
 
 /// Reads `count` multihashes, one after another; what follows them in `r` stays unread. Their places
@@ -63,7 +48,7 @@ pub fn read_list<const S: usize, R: Read>(
     r: &mut R,
     count: usize,
 ) -> Result<Vec<Multihash<S>>, Error>
-    ensures faults { CountsReaderFaults (λ e. IsReadRefusal S e ⊎ IsMemory e) (R.failures r.old) (R.failures r.new) result }
+    ensures faults { CountsReader IsReaderFault (λ e. IsReadRefusal S e ⊎ IsMemory e) (R.failures r.old) (R.failures r.new) result }
     ensures none { count ≡ 0 → IsOk result }
     ensures ok { IfOk result (λ list. (length list.items ≡ count)
         × TakesPairs S (map pair_of list.items) (R.rest r.old) (R.rest r.new)) }

@@ -4,15 +4,16 @@ ghost use Rattle.std.proofs.Common.{rules};
 ghost use Rattle.std.specs.Cmp.{partial_order_from_own_ties};
 ghost use Rattle.std.specs.Cmp.Rules.{comparing, hashing};
 ghost use Rattle.std.specs.Ordering.{on, as_partial_cmp};
-ghost use Rattle.multihash.specs.Pair.{IsSame, digest_limit, truncated, FitsBuffer};
+ghost use Rattle.multihash.specs.Bytes.{IsBytes};
+ghost use Rattle.multihash.specs.Pair.{IsPair, IsSame, digest_limit, truncated, FitsBuffer};
 ghost use Rattle.multihash.specs.Order.{Compares};
 ghost use Rattle.multihash.specs.Comparing.{equal_pairs, compare_pairs, hashed_pair};
 ghost use Rattle.multihash.specs.Encoding.{IsEncoding};
 ghost use Rattle.multihash.specs.Verdict.{Verdict, HasVerdict, IsEarlyEnd, HasWholeVerdict};
-ghost use Rattle.multihash.specs.Refusal.{IsInvalidSize, IsMemory};
-ghost use Rattle.multihash.specs.Reading.{Takes};
-ghost use Rattle.multihash.specs.Writing.{AppendsPart};
-ghost use Rattle.multihash.specs.Taking.{CountsReaderFaults, CountsFaultsOfWriter, IsReadRefusal, TakesAtRefusal, TakesShortestSettling, TakesUnsettled};
+ghost use Rattle.multihash.specs.Refusal.{IsInvalidSize, IsMemory, IsIo, IsReaderFault};
+ghost use Rattle.multihash.specs.Reading.{Takes, CountsReader};
+ghost use Rattle.multihash.specs.Writing.{AppendsPart, CountsWriter};
+ghost use Rattle.multihash.specs.Taking.{IsReadRefusal, TakesAtRefusal, TakesShortestSettling, TakesUnsettled};
 ghost use Rattle.multihash.specs.Answer.{pair_of, Answers};
 
 use crate::no_std_io::{self, Read, Write};
@@ -93,8 +94,12 @@ impl<const S: usize> Multihash<S> {
     pub fn digest(&self) -> &[u8]
         ensures digest { result.now ≡ (pair_of self.now).digest }
         ensures fits { FitsBuffer S (pair_of self.now) }
+        ensures pair { IsPair (pair_of self.now) }
     {
-        &self.digest[..usize::from(self.size)]
+        let digest = &self.digest[..usize::from(self.size)];
+        are_bytes(digest);
+        let _value = self.code;
+        digest
     }
 
     /// Reads the multihash whose encoding comes next, and takes exactly that encoding: what follows it
@@ -114,7 +119,7 @@ impl<const S: usize> Multihash<S> {
     /// - [`Error::io`] with the reader's own error, where it failed; the bytes taken are by themselves
     ///   an input that ends early.
     pub fn read<R: Read>(r: &mut R) -> Result<Self, Error>
-        ensures faults { CountsReaderFaults (IsReadRefusal S) (R.failures r.old) (R.failures r.new) result }
+        ensures faults { CountsReader IsReaderFault (IsReadRefusal S) (R.failures r.old) (R.failures r.new) result }
         ensures verdict { IfSome (R.rest r.old) (λ rest. R.failures r.new ≡ R.failures r.old →
             (v : Verdict) × HasVerdict S rest v × Answers result v) }
         ensures ok { IfOk result (λ m. (bytes : List ℕ) × IsEncoding (pair_of m) bytes
@@ -179,11 +184,12 @@ impl<const S: usize> Multihash<S> {
     /// [`Error::io`] with what the writer answered: no place left, a fault of its own, or want of memory
     /// where it allocates. A proper beginning of the encoding was appended then.
     pub fn write<W: Write>(&self, w: &mut W) -> Result<usize, Error>
+        ensures fits { FitsBuffer S (pair_of self.now) }
         ensures ok { IfOk result (λ n. (bytes : List ℕ) × IsEncoding (pair_of self.now) bytes
             × (n ≡ length bytes) × W.appended w.old bytes w.new) }
         ensures err { OnErr result ((bytes : List ℕ) × IsEncoding (pair_of self.now) bytes
             × AppendsPart W.appended w.old bytes w.new) }
-        ensures faults { CountsFaultsOfWriter W.allocates
+        ensures faults { CountsWriter IsIo W.allocates
             (W.failures w.old) (W.failures w.new) (W.full w.new) result }
     {
         let code = varint::encode(self.code());
@@ -358,3 +364,8 @@ impl<const S: usize> Hash for Multihash<S> {
         self.digest().hash(state);
     }
 }
+
+// Each number of a slice of bytes is a byte.
+fn are_bytes(bytes: &[u8])
+    ensures { IsBytes bytes.now }
+{}

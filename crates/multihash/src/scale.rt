@@ -1,12 +1,13 @@
 //! The SCALE form: the code as eight bytes, the lowest first; the digest's length as one; the digest.
 ghost use Rattle.std.specs.Prelude.{◌≡◌, ◌+◌, ◌<◌, ℕ, List, length, IfSome, IfOk, IfErr, OnErr};
-ghost use Rattle.multihash.specs.Scale.{ScaleVerdict, IsScale, HasScaleVerdict};
-ghost use Rattle.multihash.specs.Fault.{IsUnexpectedEof};
-ghost use Rattle.multihash.specs.Reading.{Takes, HasFewerThan, TakesFewerThan, CountsFaultsOrEof};
-ghost use Rattle.multihash.specs.Writing.{AppendsPart};
-ghost use Rattle.multihash.specs.Taking.{CountsReaderFaults, CountsFaultsOfWriter};
-ghost use Rattle.multihash.specs.ScaleTaking.{IsScaleListed, TakesAtScaleRefusal, AnswersScale};
-ghost use Rattle.multihash.specs.Answer.{pair_of};
+ghost use Rattle.multihash.specs.Scale.{IsScale, HasScaleVerdict};
+ghost use Rattle.multihash.specs.Verdict.{Verdict};
+ghost use Rattle.multihash.specs.Fault.{IsUnexpectedEof, IsOwnFault};
+ghost use Rattle.multihash.specs.Reading.{Takes, HasFewerThan, TakesFewerThan, CountsReader};
+ghost use Rattle.multihash.specs.Writing.{AppendsPart, CountsWriter};
+ghost use Rattle.multihash.specs.Refusal.{IsIo, IsReaderFault};
+ghost use Rattle.multihash.specs.ScaleTaking.{IsScaleListed, TakesAtScaleRefusal};
+ghost use Rattle.multihash.specs.Answer.{pair_of, Answers};
 
 use crate::no_std_io::{self, Read, Write};
 use crate::{Error, Multihash};
@@ -24,7 +25,7 @@ impl<const S: usize> Multihash<S> {
         ensures answer { IfOk result (λ n. n ≡ 9 + length (pair_of self.now).digest) }
         ensures err { OnErr result ((bytes : List ℕ) × IsScale (pair_of self.now) bytes
             × AppendsPart W.appended w.old bytes w.new) }
-        ensures faults { CountsFaultsOfWriter W.allocates
+        ensures faults { CountsWriter IsIo W.allocates
             (W.failures w.old) (W.failures w.new) (W.full w.new) result }
     {
         let code = self.code().to_le_bytes();
@@ -47,9 +48,9 @@ impl<const S: usize> Multihash<S> {
     ///
     /// In the last two cases the bytes taken are by themselves an input that ends early.
     pub fn scale_decode<R: Read>(r: &mut R) -> Result<Self, Error>
-        ensures faults { CountsReaderFaults (IsScaleListed S) (R.failures r.old) (R.failures r.new) result }
+        ensures faults { CountsReader IsReaderFault (IsScaleListed S) (R.failures r.old) (R.failures r.new) result }
         ensures verdict { IfSome (R.rest r.old) (λ rest. R.failures r.new ≡ R.failures r.old →
-            (v : ScaleVerdict) × HasScaleVerdict S rest v × AnswersScale result v) }
+            (v : Verdict) × HasScaleVerdict S rest v × Answers result v) }
         ensures ok { IfOk result (λ m. (bytes : List ℕ) × IsScale (pair_of m) bytes
             × Takes (R.rest r.old) bytes (R.rest r.new)) }
         ensures err { IfErr result (λ e. TakesAtScaleRefusal S e (R.rest r.old) (R.rest r.new)) }
@@ -68,7 +69,7 @@ impl<const S: usize> Multihash<S> {
 
 // The next `N` bytes.
 fn read_array<const N: usize, R: Read>(r: &mut R) -> Result<[u8; N], no_std_io::Error>
-    ensures faults { CountsFaultsOrEof (R.failures r.old) (R.failures r.new) result }
+    ensures faults { CountsReader IsOwnFault IsUnexpectedEof (R.failures r.old) (R.failures r.new) result }
     ensures takes { IfOk result (λ bytes. Takes (R.rest r.old) bytes (R.rest r.new)) }
     ensures eof { IfErr result (λ e. IsUnexpectedEof e → HasFewerThan N (R.rest r.old)) }
     ensures err { OnErr result (TakesFewerThan N (R.rest r.old) (R.rest r.new)) }

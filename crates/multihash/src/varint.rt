@@ -3,8 +3,10 @@ ghost use Rattle.std.specs.Prelude.{◌≡◌, ◌<◌, ◌≤◌, ◌+◌, ℕ,
 ghost use Rattle.multihash.specs.Bytes.{IsBytes, place_value};
 ghost use Rattle.multihash.specs.Varint.{IsVarint, most_marked};
 ghost use Rattle.multihash.specs.Word.{IsFrontWord, digits_low};
-ghost use Rattle.multihash.specs.Reading.{Takes, IsAtEnd, CountsFaults};
-ghost use Rattle.multihash.specs.Taking.{CountsReaderFaults, IsVarintRefusal, IsFrontRefusal, TakesVarint, TakesAtVarintRefusal};
+ghost use Rattle.multihash.specs.Reading.{Takes, IsAtEnd, CountsReader};
+ghost use Rattle.multihash.specs.Fault.{IsOwnFault};
+ghost use Rattle.multihash.specs.Refusal.{IsReaderFault};
+ghost use Rattle.multihash.specs.Taking.{IsVarintRefusal, IsFrontRefusal, TakesVarint, TakesAtVarintRefusal};
 
 use crate::Error;
 use crate::no_std_io::{self, Read};
@@ -79,7 +81,7 @@ pub(crate) fn encode(n: u64) -> Encoded
 ///
 /// The fault that begins the input, once the byte that shows it was taken, or the reader's own.
 pub(crate) fn read<R: Read>(r: &mut R) -> Result<u64, Error>
-    ensures faults { CountsReaderFaults IsVarintRefusal (R.failures r.old) (R.failures r.new) result }
+    ensures faults { CountsReader IsReaderFault IsVarintRefusal (R.failures r.old) (R.failures r.new) result }
     ensures ok { IfOk result (λ n. TakesVarint n (R.rest r.old) (R.rest r.new)) }
     ensures err { IfErr result (λ e. TakesAtVarintRefusal e (R.rest r.old) (R.rest r.new)) }
     ensures front { IfSome (R.rest r.old) (λ input. R.failures r.new ≡ R.failures r.old → IfErr result (IsFrontRefusal input)) }
@@ -187,7 +189,7 @@ fn join_digits(word: u128) -> u128
 
 // The next byte, or none where the input has ended.
 fn read_byte<R: Read>(r: &mut R) -> Result<Option<u8>, no_std_io::Error>
-    ensures faults { CountsFaults (R.failures r.old) (R.failures r.new) result }
+    ensures faults { CountsReader IsOwnFault (λ _. ⊥) (R.failures r.old) (R.failures r.new) result }
     ensures byte { IfOk result (λ next. MatchOption next
         (IsAtEnd (R.rest r.old) × (R.rest r.new ≡ R.rest r.old))
         (λ byte. Takes (R.rest r.old) (byte ∷ []) (R.rest r.new))) }

@@ -1,28 +1,16 @@
 -- An answer of decoding has one verdict, and a reading is as listed where its answer and the bytes
 -- taken are.
 use Rattle.std.proofs.Common.{◌≡◌, ◌≢◌, ◌↔◌, ℕ, ◌+◌, ◌<◌, ◌≤◌, List, [], ◌∷◌, ◌++◌, Option, None, Some, Ok, Err, IfOk, IfErr, IsSomeAnd, MatchOption, Result, length, length-append, append-nil, append_assoc, arith, subst, ap, sym, ◌∙◌, refl, inl, inr}
-use Rattle.multihash.specs.Answer.{Fields, pair_of}
+use Rattle.multihash.specs.Answer.{Fields, pair_of, IsRefusal, Answers}
 use Rattle.multihash.specs.Bytes.{IsProperBeginning}
 use Rattle.multihash.specs.Reading.{Takes}
 use Rattle.multihash.specs.Refusal.{Refusal}
-use Rattle.multihash.specs.Scale.{ScaleVerdict, decoded, refused_size, ended, IsScaleCode, IsScale, HasScaleVerdict}
-use Rattle.multihash.specs.ScaleTaking.{IsScaleRefusal, AnswersScale, TakesAtScaleRefusal}
+use Rattle.multihash.specs.Verdict.{Verdict, accepted, invalid_size, faulty, unexpected_eof}
+use Rattle.multihash.specs.Scale.{IsScaleCode, IsScale, HasScaleVerdict}
+use Rattle.multihash.specs.ScaleTaking.{TakesAtScaleRefusal}
 use Rattle.multihash.proofs.BeginningLemmas.{split_beginning, compare_beginnings}
+use Rattle.vectors.proofs.AnswerLemmas.{answers_unique}
 use Rattle.vectors.specs.Listed.{DecodesAfter, IsScaleTaken}
-
--- a refusal has one verdict
-refusal_unique : (e : Refusal) (v w : ScaleVerdict) → IsScaleRefusal e v → IsScaleRefusal e w → v ≡ w
-refusal_unique e (decoded p) w left right = absurd left
-refusal_unique e (refused_size a) (decoded q) left right = absurd right
-refusal_unique e (refused_size a) (refused_size b) left right = cc
-refusal_unique e (refused_size a) ended left right = let is = right.1 in cc
-refusal_unique e ended (decoded q) left right = absurd right
-refusal_unique e ended (refused_size b) left right = let is = left.1 in cc
-refusal_unique e ended ended left right = refl
-
-answers_unique : (r : Result Fields Refusal) (v w : ScaleVerdict) → AnswersScale r v → AnswersScale r w → v ≡ w
-answers_unique (Ok m) v w left right = cc
-answers_unique (Err e) v w left right = refusal_unique e v w left right
 
 -- ---- beginnings
 
@@ -36,7 +24,7 @@ proper_shorter front whole (rest, some, cut) =
 
 -- where the input ends after the code
 after_code : (S code size : ℕ) (a digest q : List ℕ) → IsScaleCode code a → size ≤ S → length digest ≡ size
-    → IsProperBeginning q (size ∷ digest) → HasScaleVerdict S (a ++ q) ended
+    → IsProperBeginning q (size ∷ digest) → HasScaleVerdict S (a ++ q) unexpected_eof
 after_code S code size a digest [] is_code fits long proper =
     inl (omega (arith, is_code.eight, length-append a []))
 after_code S code size a digest (d ∷ q) is_code fits long (rest, some, cut) =
@@ -52,21 +40,21 @@ after_code S code size a digest (d ∷ q) is_code fits long (rest, some, cut) =
 
 -- each proper beginning of a form ends early
 form_shortest : (S code size : ℕ) (a digest shorter : List ℕ) → IsScaleCode code a → size ≤ S → length digest ≡ size
-    → IsProperBeginning shorter (a ++ size ∷ digest) → HasScaleVerdict S shorter ended
+    → IsProperBeginning shorter (a ++ size ∷ digest) → HasScaleVerdict S shorter unexpected_eof
 form_shortest S code size a digest shorter is_code fits long proper =
     elim (split_beginning a (size ∷ digest) shorter proper) [
       | inl within ↦ inl (omega (arith, is_code.eight, proper_shorter shorter a within))
       | inr (q, cut, more) ↦
-          subst (λ (z : List ℕ). HasScaleVerdict S z ended) (sym cut)
+          subst (λ (z : List ℕ). HasScaleVerdict S z unexpected_eof) (sym cut)
           (after_code S code size a digest q is_code fits long more)
     ]
 
 -- more input leaves the verdict, where that is no early end
-with_more : (S : ℕ) (front rest : List ℕ) (v : ScaleVerdict) → v ≢ ended → HasScaleVerdict S front v
+with_more : (S : ℕ) (front rest : List ℕ) (v : Verdict) → v ≢ unexpected_eof → HasScaleVerdict S front v
     → HasScaleVerdict S (front ++ rest) v
-with_more S front rest (decoded p) late (bytes, behind, form, fits, cut) =
+with_more S front rest (accepted p) late (bytes, behind, form, fits, cut) =
     (bytes, behind ++ rest, form, fits, ap (λ (z : List ℕ). z ++ rest) cut ∙ append_assoc bytes behind rest)
-with_more S front rest (refused_size size) late (behind, h, over) = (
+with_more S front rest (invalid_size size) late (behind, h, over) = (
   behind ++ rest,
   record {
     code = h.code;
@@ -76,28 +64,29 @@ with_more S front rest (refused_size size) late (behind, h, over) = (
   },
   over,
 )
-with_more S front rest ended late h = absurd (late refl)
+with_more S front rest (faulty f) late h = absurd h
+with_more S front rest unexpected_eof late h = absurd (late refl)
 
 -- ---- what decoding takes
 
 -- no list has two verdicts
 abbrev pub IsOneVerdict : ℕ → Type 0
-IsOneVerdict S = (input : List ℕ) (v w : ScaleVerdict) → HasScaleVerdict S input v → HasScaleVerdict S input w → v ≡ w
+IsOneVerdict S = (input : List ℕ) (v w : Verdict) → HasScaleVerdict S input v → HasScaleVerdict S input w → v ≡ w
 
 count_unique : (S : ℕ) → IsOneVerdict S → (input : List ℕ) (m n : ℕ) → DecodesAfter S input m → DecodesAfter S input n → m ≡ n
 count_unique S unique input m n f g =
     elim (compare_beginnings f.front g.front f.begins.0 g.begins.0 (sym f.begins.1 ∙ g.begins.1)) [
       | inl same ↦ sym f.long ∙ ap length same ∙ g.long
-      | inr (inl sooner) ↦ absurd (f.late (unique f.front f.verdict ended f.decodes (g.shortest f.front sooner)))
-      | inr (inr sooner) ↦ absurd (g.late (unique g.front g.verdict ended g.decodes (f.shortest g.front sooner)))
+      | inr (inl sooner) ↦ absurd (f.late (unique f.front f.verdict unexpected_eof f.decodes (g.shortest f.front sooner)))
+      | inr (inr sooner) ↦ absurd (g.late (unique g.front g.verdict unexpected_eof g.decodes (f.shortest g.front sooner)))
     ]
 
 -- what decodes after some bytes doesn't end early
-no_early_end : (S : ℕ) → IsOneVerdict S → (input : List ℕ) (n : ℕ) → DecodesAfter S input n → ¬ (HasScaleVerdict S input ended)
+no_early_end : (S : ℕ) → IsOneVerdict S → (input : List ℕ) (n : ℕ) → DecodesAfter S input n → ¬ (HasScaleVerdict S input unexpected_eof)
 no_early_end S unique input n f early =
     let whole : HasScaleVerdict S input f.verdict =
     subst (λ (z : List ℕ). HasScaleVerdict S z f.verdict) (sym f.begins.1) (with_more S f.front f.begins.0 f.verdict f.late f.decodes) in
-    f.late (unique input f.verdict ended whole early)
+    f.late (unique input f.verdict unexpected_eof whole early)
 
 -- a call took the shortest beginning that doesn't end early
 record TakesDecoded (S : ℕ) (input left : List ℕ) : Type 0 where
@@ -108,7 +97,7 @@ record TakesDecoded (S : ℕ) (input left : List ℕ) : Type 0 where
 -- what a call of decoding has to say
 pub record Decoding (S : ℕ) (input left : List ℕ) (r : Result Fields Refusal) : Type 0 where
   pub unique : IsOneVerdict S
-  pub verdict : (v : ScaleVerdict) × HasScaleVerdict S input v × AnswersScale r v
+  pub verdict : (v : Verdict) × HasScaleVerdict S input v × Answers r v
   pub ok : IfOk r (λ m. (bytes : List ℕ) × IsScale (pair_of m) bytes × Takes (Some input) bytes (Some left))
   pub err : IfErr r (λ e. TakesAtScaleRefusal S e (Some input) (Some left))
 
@@ -120,7 +109,7 @@ takes_form S input left m bytes form takes fits =
       decodes = record {
         front = bytes;
         begins = (left, cut);
-        verdict = decoded (pair_of m);
+        verdict = accepted (pair_of m);
         decodes = (bytes, [], form, fits, sym (append-nil bytes));
         late = λ e. cc;
         shortest = λ shorter proper.
@@ -131,7 +120,7 @@ takes_form S input left m bytes form takes fits =
       taken = ap length cut ∙ length-append bytes left;
     }
 
-takes_size : (S : ℕ) (input left : List ℕ) (e : Refusal) (size : ℕ) → IsScaleRefusal e (refused_size size)
+takes_size : (S : ℕ) (input left : List ℕ) (e : Refusal) (size : ℕ) → IsRefusal e (invalid_size size)
     → TakesAtScaleRefusal S e (Some input) (Some left) → TakesDecoded S input left
 takes_size S input left e size is h =
     let found = h.size size is in
@@ -140,7 +129,7 @@ takes_size S input left e size is h =
       decodes = record {
         front = h.taken;
         begins = (left, cut);
-        verdict = refused_size size;
+        verdict = invalid_size size;
         decodes = found.0;
         late = λ e. cc;
         shortest = λ shorter proper. inl (omega (arith, proper_shorter shorter h.taken proper, found.1));
@@ -149,54 +138,52 @@ takes_size S input left e size is h =
       taken = omega (arith, ap length cut, length-append h.taken left, found.1);
     }
 
-takes_decoded : (S : ℕ) (input left : List ℕ) (r : Result Fields Refusal) → Decoding S input left r → (v : ScaleVerdict)
-    → HasScaleVerdict S input v → AnswersScale r v → v ≢ ended → TakesDecoded S input left
+takes_decoded : (S : ℕ) (input left : List ℕ) (r : Result Fields Refusal) → Decoding S input left r → (v : Verdict)
+    → HasScaleVerdict S input v → Answers r v → v ≢ unexpected_eof → TakesDecoded S input left
 takes_decoded S input left (Ok m) d v has answers late =
-    let own : HasScaleVerdict S input (decoded (pair_of m)) = subst (λ (w : ScaleVerdict). HasScaleVerdict S input w) answers has in
+    let own : HasScaleVerdict S input (accepted (pair_of m)) = subst (λ (w : Verdict). HasScaleVerdict S input w) answers has in
     takes_form S input left m d.ok.0 d.ok.1 d.ok.2 own.3
-takes_decoded S input left (Err e) d (decoded p) has answers late = absurd answers
-takes_decoded S input left (Err e) d (refused_size size) has answers late = takes_size S input left e size answers d.err
-takes_decoded S input left (Err e) d ended has answers late = absurd (late refl)
+takes_decoded S input left (Err e) d (accepted p) has answers late = absurd answers
+takes_decoded S input left (Err e) d (invalid_size size) has answers late = takes_size S input left e size answers d.err
+takes_decoded S input left (Err e) d (faulty f) has answers late = absurd has
+takes_decoded S input left (Err e) d unexpected_eof has answers late = absurd (late refl)
 
 -- ---- what is listed
 
 -- a listed verdict is the input's where it is the answer's
-answered : (S : ℕ) (input left : List ℕ) (r : Result Fields Refusal) → Decoding S input left r → (w : ScaleVerdict)
-    → AnswersScale r w → HasScaleVerdict S input w
+answered : (S : ℕ) (input left : List ℕ) (r : Result Fields Refusal) → Decoding S input left r → (w : Verdict)
+    → Answers r w → HasScaleVerdict S input w
 answered S input left r d w answers =
-    subst (λ (v : ScaleVerdict). HasScaleVerdict S input v) (answers_unique r d.verdict.0 w d.verdict.2 answers) d.verdict.1
+    subst (λ (v : Verdict). HasScaleVerdict S input v) (answers_unique r d.verdict.0 w d.verdict.2 answers) d.verdict.1
 
 -- where the answer is the listed one, the bytes taken tell whether the reading is
 pub reading : (S : ℕ) (input left : List ℕ) (r : Result Fields Refusal) → Decoding S input left r
-    → (o : Option ScaleVerdict) (taken : Option ℕ) → IsSomeAnd o (AnswersScale r)
-    → MatchOption taken (o ≡ Some ended) (λ n. (o ≢ Some ended) × (length input ≡ n + length left))
-    ↔ IsSomeAnd o (λ v. HasScaleVerdict S input v × IsScaleTaken S input v taken)
-reading S input left r d None taken answers = absurd answers
-reading S input left r d (Some w) None answers =
-    (λ same. (answered S input left r d w answers, cc), λ right. ap (λ v. Some v) right.1)
-reading S input left r d (Some w) (Some n) answers = (there, back)
+    → (w : Verdict) (taken : Option ℕ) → Answers r w
+    → MatchOption taken (w ≡ unexpected_eof) (λ n. (w ≢ unexpected_eof) × (length input ≡ n + length left))
+    ↔ HasScaleVerdict S input w × IsScaleTaken S input w taken
+reading S input left r d w None answers = (λ same. (answered S input left r d w answers, same), λ right. right.1)
+reading S input left r d w (Some n) answers = (there, back)
   where
     has : HasScaleVerdict S input w
     has = answered S input left r d w answers
 
-    there : (Some w ≢ Some ended) × (length input ≡ n + length left) → HasScaleVerdict S input w × DecodesAfter S input n
+    there : (w ≢ unexpected_eof) × (length input ≡ n + length left) → HasScaleVerdict S input w × DecodesAfter S input n
     there (late, count) =
-        let t = takes_decoded S input left r d w has answers (λ e. late (ap (λ v. Some v) e)) in
+        let t = takes_decoded S input left r d w has answers late in
         let same : t.count ≡ n = omega (arith, t.taken, count) in
         (has, subst (λ k. DecodesAfter S input k) same t.decodes)
 
-    back : HasScaleVerdict S input w × DecodesAfter S input n → (Some w ≢ Some ended) × (length input ≡ n + length left)
+    back : HasScaleVerdict S input w × DecodesAfter S input n → (w ≢ unexpected_eof) × (length input ≡ n + length left)
     back (_, f) =
-        let late : w ≢ ended = λ e. no_early_end S d.unique input n f (subst (λ (v : ScaleVerdict). HasScaleVerdict S input v) e has) in
+        let late : w ≢ unexpected_eof = λ e. no_early_end S d.unique input n f (subst (λ (v : Verdict). HasScaleVerdict S input v) e has) in
         let t = takes_decoded S input left r d w has answers late in
         let same : t.count ≡ n = count_unique S d.unique input t.count n t.decodes f in
-        (λ e. late (cc), omega (arith, t.taken, same))
+        (late, omega (arith, t.taken, same))
 
 -- where the answer is another, the reading isn't as listed
 pub no_reading : (S : ℕ) (input left : List ℕ) (r : Result Fields Refusal) → Decoding S input left r
-    → (o : Option ScaleVerdict) (taken : Option ℕ) → ¬ (IsSomeAnd o (AnswersScale r))
-    → ¬ (IsSomeAnd o (λ v. HasScaleVerdict S input v × IsScaleTaken S input v taken))
-no_reading S input left r d None taken other right = absurd right
-no_reading S input left r d (Some w) taken other right =
+    → (w : Verdict) (taken : Option ℕ) → ¬ (Answers r w)
+    → ¬ (HasScaleVerdict S input w × IsScaleTaken S input w taken)
+no_reading S input left r d w taken other right =
     let same : d.verdict.0 ≡ w = d.unique input d.verdict.0 w d.verdict.1 right.0 in
-    other (subst (λ (v : ScaleVerdict). AnswersScale r v) same d.verdict.2)
+    other (subst (λ (v : Verdict). Answers r v) same d.verdict.2)

@@ -1,8 +1,8 @@
 -- What a line of the list says, in the grammar's words.
-use Rattle.std.specs.Prelude.{◌≡◌, ◌≢◌, ℕ, ◌+◌, List, [], Option, None, Some, Ok, ◌⊎◌, length, take, count_by, nat_lt, ◌-◌, ◌≤◌, Bool, codes, All, MatchOption, IsSomeAnd}
+use Rattle.std.specs.Prelude.{◌≡◌, ◌≢◌, ℕ, ◌+◌, List, [], Option, None, Some, Ok, ◌⊎◌, length, take, count_by, nat_lt, ◌-◌, ◌≤◌, Bool, codes, All, MatchOption}
 use Rattle.hex.specs.Hex.{decode_of}
 use Rattle.multihash.specs.Bytes.{IsBeginning, IsProperBeginning}
-use Rattle.multihash.specs.Scale.{ScaleVerdict, decoded, refused_size, ended, HasScaleVerdict}
+use Rattle.multihash.specs.Scale.{HasScaleVerdict}
 use Rattle.multihash.specs.Settling.{IsShortestSettling}
 use Rattle.multihash.specs.Varint.{insufficient, overflow, not_minimal}
 use Rattle.multihash.specs.Verdict.{Verdict as Meaning, accepted, invalid_size, faulty, unexpected_eof, HasVerdict, HasWholeVerdict, IsEarlyEnd}
@@ -41,33 +41,24 @@ pub record IsReading (S : ℕ) (input : List ℕ) (listed : Reading) : Type 0 wh
   pub verdict : HasVerdict S input (meaning listed.verdict)
   pub taken : IsTaken S input (meaning listed.verdict) listed.taken
 
--- the verdict of decoding the SCALE form that is listed: a varint's fault is none
-abbrev pub scale_meaning : Verdict → Option ScaleVerdict
-scale_meaning (Listed code digest) = Some (decoded (record { code = code; digest = digest.items }))
-scale_meaning (InvalidSize size) = Some (refused_size size)
-scale_meaning Insufficient = None
-scale_meaning Overflow = None
-scale_meaning NotMinimal = None
-scale_meaning UnexpectedEof = Some ended
-
 -- the shortest beginning on which decoding does not end early has so many bytes
 pub record DecodesAfter (S : ℕ) (input : List ℕ) (count : ℕ) : Type 0 where
   pub front : List ℕ
   pub begins : IsBeginning front input
-  pub verdict : ScaleVerdict
+  pub verdict : Meaning
   pub decodes : HasScaleVerdict S front verdict
-  pub late : verdict ≢ ended
-  pub shortest : (shorter : List ℕ) → IsProperBeginning shorter front → HasScaleVerdict S shorter ended
+  pub late : verdict ≢ unexpected_eof
+  pub shortest : (shorter : List ℕ) → IsProperBeginning shorter front → HasScaleVerdict S shorter unexpected_eof
   pub long : length front ≡ count
 
 -- decoding needs so many bytes, or where none are listed it ends early
-abbrev pub IsScaleTaken : ℕ → List ℕ → ScaleVerdict → Option ℕ → Type 0
-IsScaleTaken S input v taken = MatchOption taken (v ≡ ended) (DecodesAfter S input)
+abbrev pub IsScaleTaken : ℕ → List ℕ → Meaning → Option ℕ → Type 0
+IsScaleTaken S input v taken = MatchOption taken (v ≡ unexpected_eof) (DecodesAfter S input)
 
 -- the listed verdict is that of decoding what begins with the input, and so is the number of bytes
 abbrev pub IsScaleReading : ℕ → List ℕ → Reading → Type 0
 IsScaleReading S input listed =
-    IsSomeAnd (scale_meaning listed.verdict) (λ v. HasScaleVerdict S input v × IsScaleTaken S input v listed.taken)
+    HasScaleVerdict S input (meaning listed.verdict) × IsScaleTaken S input (meaning listed.verdict) listed.taken
 
 -- the byte ends a varint
 abbrev pub ends_varint : ℕ → Bool
@@ -90,8 +81,8 @@ TakesAsReadListed input left listed = MatchOption listed.taken (TakesEnough (mea
 
 -- decoding took as many bytes as are listed; none are listed exactly where it ends early
 abbrev pub TakesAsScaleListed : List ℕ → List ℕ → Reading → Type 0
-TakesAsScaleListed input left listed = MatchOption listed.taken (scale_meaning listed.verdict ≡ Some ended)
-    (λ taken. (scale_meaning listed.verdict ≢ Some ended) × (length input ≡ taken + length left))
+TakesAsScaleListed input left listed = MatchOption listed.taken (meaning listed.verdict ≡ unexpected_eof)
+    (λ taken. (meaning listed.verdict ≢ unexpected_eof) × (length input ≡ taken + length left))
 
 -- what the line says for this check is what the grammar says
 abbrev pub IsRight : Check → ℕ → Line → Type 0

@@ -160,7 +160,7 @@ fn scale_slice_agrees<const S: usize>(input: &[u8], listed: &Reading) -> bool
     laws::scale_unique();
     let mut left = input;
     let answer = Multihash::<S>::scale_decode(&mut left);
-    listed.verdict.is_scale_answer(&answer) && takes_as_scale_listed(input, left, listed)
+    listed.verdict.is_answer(&answer) && takes_as_scale_listed(input, left, listed)
 }
 
 // Whether `scale_decode` does as is listed, over a reader that gives one byte a call.
@@ -171,7 +171,7 @@ fn scale_cuts_agree<const S: usize>(input: &[u8], listed: &Reading) -> bool
     laws::scale_unique();
     let mut cuts = Cuts::new(input, 1);
     let answer = Multihash::<S>::scale_decode(&mut cuts);
-    listed.verdict.is_scale_answer(&answer) && takes_as_scale_listed(input, cuts.left, listed)
+    listed.verdict.is_answer(&answer) && takes_as_scale_listed(input, cuts.left, listed)
 }
 
 // Whether as many bytes were taken as is listed: a number of them, or any where the verdict is an

@@ -1,6 +1,6 @@
 //! A reader over a slice that gives few bytes a call.
-ghost use Rattle.std.specs.Prelude.{◌≡◌, ◌<◌, ◌≤◌, Some, Ok, min, length, take, drop, IfOk, OnErr};
-ghost use Rattle.multihash.specs.Reading.{Takes, IsAtEnd, CountsFaults};
+ghost use Rattle.std.specs.Prelude.{◌≡◌, ◌<◌, Some, Ok, min, length};
+ghost use Rattle.multihash.specs.Reading.{ReadLaws};
 
 use multihash::no_std_io::{Error, Read};
 
@@ -28,12 +28,7 @@ impl Read for Cuts<'_> {
     ghost failures = { λ _. 0 };
 
     fn read(&mut self, buf: &mut [u8]) -> Result<usize, Error>
-        ensures count { IfOk result (λ n. n ≤ length buf.old) }
-        ensures beyond { IfOk result (λ n. drop n buf.new ≡ drop n buf.old) }
-        ensures faults { CountsFaults 0 0 result }
-        ensures takes { IfOk result (λ n. Takes (Some self.old.left.now) (take n buf.new) (Some self.new.left.now)) }
-        ensures at_end { IfOk result (λ n. n ≡ 0 → 0 < length buf.old → IsAtEnd (Some self.old.left.now)) }
-        ensures err { OnErr result (Some self.new.left.now ≡ Some self.old.left.now) }
+        ensures laws { ReadLaws (λ cuts. Some cuts.left.now) (λ _. 0) self.old self.new buf.old buf.new result }
 
         ensures smallest { result ≡ Ok (min (min (length self.old.left.now) (length buf.old)) self.old.most) }
         ensures same_most { self.new.most ≡ self.old.most }

@@ -1,9 +1,8 @@
 //! What a call is to answer.
-ghost use Rattle.std.specs.Prelude.{◌↔◌, IsTrue, IfOk, IsSomeAnd};
+ghost use Rattle.std.specs.Prelude.{◌↔◌, IsTrue, IfOk};
 ghost use Rattle.multihash.specs.Answer.{Answers};
-ghost use Rattle.multihash.specs.ScaleTaking.{AnswersScale};
 ghost use Rattle.multihash.specs.Refusal.{IsEof};
-ghost use Rattle.vectors.specs.Listed.{meaning, scale_meaning, NamesBytes};
+ghost use Rattle.vectors.specs.Listed.{meaning, NamesBytes};
 
 use anyhow::{Context, Result, bail, ensure};
 use multihash::{Error, Multihash};
@@ -67,18 +66,6 @@ impl Verdict {
             (Verdict::NotMinimal, Err(error)) => error.is_not_minimal(),
             (Verdict::UnexpectedEof, Err(error)) => is_unexpected_eof(error),
             _ => false,
-        }
-    }
-
-    /// Whether this is what a call that decodes the SCALE form answered. No fault of a varint is.
-    pub fn is_scale_answer<const S: usize>(&self, answer: &Result<Multihash<S>, Error>) -> bool
-        ensures { IsTrue result ↔ IsSomeAnd (scale_meaning self.now) (AnswersScale answer.now) }
-    {
-        match self {
-            Verdict::Pair { .. } | Verdict::InvalidSize(_) | Verdict::UnexpectedEof => {
-                self.is_answer(answer)
-            }
-            Verdict::Insufficient | Verdict::Overflow | Verdict::NotMinimal => false,
         }
     }
 }

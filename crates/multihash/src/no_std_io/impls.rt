@@ -1,8 +1,8 @@
 //! Slices, vectors and references as readers and writers.
 ghost use Rattle.std.specs.Prelude.{◌≡◌, ◌<◌, ◌≤◌, ◌+◌, vec_len, vec_capacity, Some, Ok, [], ◌++◌, min, length, take, drop, true, false, IfOk, IfErr, OnOk, OnErr, IsOk, IsErr, ◌↔◌};
-ghost use Rattle.multihash.specs.Fault.{IsUnexpectedEof, IsWriteZero, IsOutOfMemory};
-ghost use Rattle.multihash.specs.Reading.{Takes, IsAtEnd, HasFewerThan, TakesFewerThan, CountsFaults, CountsFaultsOrEof};
-ghost use Rattle.multihash.specs.Writing.{CountsWriterFaults, CountsWriterFaultsOrFull, AppendsPart};
+ghost use Rattle.multihash.specs.Fault.{IsOutOfMemory};
+ghost use Rattle.multihash.specs.Reading.{ReadLaws, ReadExactLaws};
+ghost use Rattle.multihash.specs.Writing.{WriteLaws, WriteAllLaws};
 ghost use Rattle.multihash.specs.Places.{GivesUpFor, GivesUpPlaces-none, GivesUpPlaces-joined, AppendsAtEnd, AppendsAtEnd-none, AppendsAtEnd-joined};
 
 use super::{Error, Read, Write};
@@ -25,12 +25,7 @@ impl Read for &[u8] {
     ghost failures = { λ _. 0 };
 
     fn read(&mut self, buf: &mut [u8]) -> Result<usize, Error>
-        ensures count { IfOk result (λ n. n ≤ length buf.old) }
-        ensures beyond { IfOk result (λ n. drop n buf.new ≡ drop n buf.old) }
-        ensures faults { CountsFaults 0 0 result }
-        ensures takes { IfOk result (λ n. Takes (Some self.old.now) (take n buf.new) (Some self.new.now)) }
-        ensures at_end { IfOk result (λ n. n ≡ 0 → 0 < length buf.old → IsAtEnd (Some self.old.now)) }
-        ensures err { OnErr result (Some self.new.now ≡ Some self.old.now) }
+        ensures laws { ReadLaws (λ s. Some s.now) (λ _. 0) self.old self.new buf.old buf.new result }
 
         ensures smaller { result ≡ Ok (min (length self.old.now) (length buf.old)) }
     {
@@ -41,11 +36,7 @@ impl Read for &[u8] {
     }
 
     fn read_exact(&mut self, buf: &mut [u8]) -> Result<(), Error>
-        ensures faults { CountsFaultsOrEof 0 0 result }
-        ensures takes { OnOk result (Takes (Some self.old.now) buf.new (Some self.new.now)) }
-        ensures empty { length buf.old ≡ 0 → IsOk result }
-        ensures eof { IfErr result (λ e. IsUnexpectedEof e → HasFewerThan (length buf.old) (Some self.old.now)) }
-        ensures err { OnErr result (TakesFewerThan (length buf.old) (Some self.old.now) (Some self.new.now)) }
+        ensures laws { ReadExactLaws (λ s. Some s.now) (λ _. 0) self.old self.new buf.old buf.new result }
 
         ensures too_short { IsErr result ↔ (length self.old.now < length buf.old) }
         ensures slice_kept { OnErr result (self.new.now ≡ self.old.now) }
@@ -94,11 +85,8 @@ impl Write for &mut [u8] {
     ghost appends_joined = { λ a b c x y first second. GivesUpPlaces-joined a.now b.now c.now x y first second };
 
     fn write(&mut self, buf: &[u8]) -> Result<usize, Error>
-        ensures count { IfOk result (λ n. n ≤ length buf.now) }
-        ensures ok { IfOk result (λ n. GivesUpFor self.old.now (take n buf.now) self.new.now) }
-        ensures stuck { IfOk result (λ n. n ≡ 0 → 0 < length buf.now → self.new.now ≡ []) }
-        ensures err { OnErr result (GivesUpFor self.old.now [] self.new.now) }
-        ensures faults { CountsWriterFaults false 0 0 result }
+        ensures laws { WriteLaws (λ old bytes new. GivesUpFor old.now bytes new.now) (λ s. s.now ≡ []) (λ _. 0) false
+            self.old buf.now self.new result }
 
         ensures smaller { result ≡ Ok (min (length buf.now) (length self.old.now)) }
     {
@@ -109,11 +97,8 @@ impl Write for &mut [u8] {
     }
 
     fn write_all(&mut self, buf: &[u8]) -> Result<(), Error>
-        ensures ok { OnOk result (GivesUpFor self.old.now buf.now self.new.now) }
-        ensures empty { length buf.now ≡ 0 → IsOk result }
-        ensures err { OnErr result
-            (AppendsPart (λ old bytes new. GivesUpFor old.now bytes new.now) self.old buf.now self.new) }
-        ensures faults { CountsWriterFaultsOrFull false 0 0 (self.new.now ≡ []) result }
+        ensures laws { WriteAllLaws (λ old bytes new. GivesUpFor old.now bytes new.now) (λ s. s.now ≡ []) (λ _. 0) false
+            self.old buf.now self.new result }
 
         ensures fits { IsOk result ↔ (length buf.now ≤ length self.old.now) }
         ensures filled { OnErr result (self.new.now ≡ []) }
@@ -143,11 +128,8 @@ impl Write for Vec<u8> {
     ghost appends_joined = { λ a b c x y first second. AppendsAtEnd-joined a.items b.items c.items x y first second };
 
     fn write(&mut self, buf: &[u8]) -> Result<usize, Error>
-        ensures count { IfOk result (λ n. n ≤ length buf.now) }
-        ensures ok { IfOk result (λ n. AppendsAtEnd self.old.items (take n buf.now) self.new.items) }
-        ensures stuck { IfOk result (λ n. n ≡ 0 → 0 < length buf.now → ⊥) }
-        ensures err { OnErr result (AppendsAtEnd self.old.items [] self.new.items) }
-        ensures faults { CountsWriterFaults true 0 0 result }
+        ensures laws { WriteLaws (λ old bytes new. AppendsAtEnd old.items bytes new.items) (λ _. ⊥) (λ _. 0) true
+            self.old buf.now self.new result }
 
         ensures whole { IfOk result (λ n. n ≡ length buf.now) }
         ensures room { vec_len self.old + length buf.now ≤ vec_capacity self.old → IsOk result }
@@ -161,11 +143,8 @@ impl Write for Vec<u8> {
     }
 
     fn write_all(&mut self, buf: &[u8]) -> Result<(), Error>
-        ensures ok { OnOk result (AppendsAtEnd self.old.items buf.now self.new.items) }
-        ensures empty { length buf.now ≡ 0 → IsOk result }
-        ensures err { OnErr result
-            (AppendsPart (λ old bytes new. AppendsAtEnd old.items bytes new.items) self.old buf.now self.new) }
-        ensures faults { CountsWriterFaultsOrFull true 0 0 ⊥ result }
+        ensures laws { WriteAllLaws (λ old bytes new. AppendsAtEnd old.items bytes new.items) (λ _. ⊥) (λ _. 0) true
+            self.old buf.now self.new result }
 
         ensures room { vec_len self.old + length buf.now ≤ vec_capacity self.old → IsOk result }
         ensures unchanged { OnErr result (self.new.items ≡ self.old.items) }

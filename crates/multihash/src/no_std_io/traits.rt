@@ -1,8 +1,7 @@
 //! What can be read from and written to, and the laws that every implementation keeps.
-ghost use Rattle.std.specs.Prelude.{◌≡◌, ◌<◌, ◌≤◌, ℕ, Bool, List, Option, [], ◌++◌, length, take, drop, IfOk, IfErr, OnOk, OnErr, IsOk};
-ghost use Rattle.multihash.specs.Fault.{IsUnexpectedEof};
-ghost use Rattle.multihash.specs.Reading.{Takes, IsAtEnd, HasFewerThan, TakesFewerThan, CountsFaults, CountsFaultsOrEof};
-ghost use Rattle.multihash.specs.Writing.{CountsWriterFaults, CountsWriterFaultsOrFull, AppendsPart};
+ghost use Rattle.std.specs.Prelude.{ℕ, Bool, List, Option, ◌++◌, []};
+ghost use Rattle.multihash.specs.Reading.{ReadLaws, ReadExactLaws};
+ghost use Rattle.multihash.specs.Writing.{WriteLaws, WriteAllLaws};
 
 use super::Error;
 
@@ -29,12 +28,7 @@ pub trait Read {
     /// exactly where the reader's count of failures rises. Nothing was taken then, and what the places
     /// of `buf` hold is not said.
     fn read(&mut self, buf: &mut [u8]) -> Result<usize, Error>
-        ensures count { IfOk result (λ n. n ≤ length buf.old) }
-        ensures beyond { IfOk result (λ n. drop n buf.new ≡ drop n buf.old) }
-        ensures faults { CountsFaults (failures self.old) (failures self.new) result }
-        ensures takes { IfOk result (λ n. Takes (rest self.old) (take n buf.new) (rest self.new)) }
-        ensures at_end { IfOk result (λ n. n ≡ 0 → 0 < length buf.old → IsAtEnd (rest self.old)) }
-        ensures err { OnErr result (rest self.new ≡ rest self.old) };
+        ensures laws { ReadLaws rest failures self.old self.new buf.old buf.new result };
 
     /// Takes as many of the next bytes as `buf` has places, and fills it with them. An empty buffer is
     /// always filled.
@@ -45,11 +39,7 @@ pub trait Read {
     /// exactly where the reader's count of failures rises. Fewer bytes than `buf` has places were taken
     /// then, and what the places of `buf` hold is not said.
     fn read_exact(&mut self, buf: &mut [u8]) -> Result<(), Error>
-        ensures faults { CountsFaultsOrEof (failures self.old) (failures self.new) result }
-        ensures takes { OnOk result (Takes (rest self.old) buf.new (rest self.new)) }
-        ensures empty { length buf.old ≡ 0 → IsOk result }
-        ensures eof { IfErr result (λ e. IsUnexpectedEof e → HasFewerThan (length buf.old) (rest self.old)) }
-        ensures err { OnErr result (TakesFewerThan (length buf.old) (rest self.old) (rest self.new)) }
+        ensures laws { ReadExactLaws rest failures self.old self.new buf.old buf.new result }
     {
         let mut filled = 0;
         while filled < buf.len() {
@@ -93,11 +83,7 @@ pub trait Write {
     /// where the writer's count of failures rises; or want of memory, where it allocates. Nothing was
     /// appended then.
     fn write(&mut self, buf: &[u8]) -> Result<usize, Error>
-        ensures count { IfOk result (λ n. n ≤ length buf.now) }
-        ensures ok { IfOk result (λ n. appended self.old (take n buf.now) self.new) }
-        ensures stuck { IfOk result (λ n. n ≡ 0 → 0 < length buf.now → full self.new) }
-        ensures err { OnErr result (appended self.old [] self.new) }
-        ensures faults { CountsWriterFaults allocates (failures self.old) (failures self.new) result };
+        ensures laws { WriteLaws appended full failures allocates self.old buf.now self.new result };
 
     /// Appends the whole of `buf`. No bytes are always appended.
     ///
@@ -106,11 +92,7 @@ pub trait Write {
     /// [`Error::is_write_zero`] where no place is left, or what [`Write::write`] answers. A proper
     /// beginning of `buf` was appended then.
     fn write_all(&mut self, buf: &[u8]) -> Result<(), Error>
-        ensures ok { OnOk result (appended self.old buf.now self.new) }
-        ensures empty { length buf.now ≡ 0 → IsOk result }
-        ensures err { OnErr result (AppendsPart appended self.old buf.now self.new) }
-        ensures faults { CountsWriterFaultsOrFull allocates
-            (failures self.old) (failures self.new) (full self.new) result }
+        ensures laws { WriteAllLaws appended full failures allocates self.old buf.now self.new result }
     {
         let mut left = buf;
         while !left.is_empty() {

@@ -1,5 +1,6 @@
 //! Readers and writers that cut, end and fail in the midst of a multihash.
 use super::fakes::{Cuts, Drip, FailAt, FailWrite, Silent};
+use super::kinds::{is_disk_gone, is_full, is_link_down};
 use crate::{Error, Multihash};
 use std::test::Fail;
 
@@ -10,20 +11,6 @@ const ENCODING_AND_MORE: [u8; 6] = [172, 2, 2, 65, 66, 9];
 
 fn is_the_pair(answer: Result<Multihash<4>, Error>) -> bool {
     answer.is_ok_and(|m| m.code() == 300 && m.digest() == b"AB".as_slice())
-}
-
-fn is_link_down(e: &Error) -> bool {
-    e.io()
-        .is_some_and(|e| e.is_other() && e.text() == "link down")
-}
-
-fn is_disk_gone(e: &Error) -> bool {
-    e.io()
-        .is_some_and(|e| e.is_other() && e.text() == "disk gone")
-}
-
-fn is_full(e: &Error) -> bool {
-    e.io().is_some_and(|e| e.is_write_zero())
 }
 
 #[test]

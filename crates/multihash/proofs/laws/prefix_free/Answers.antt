@@ -5,12 +5,18 @@ use Rattle.multihash.proofs.laws.prefix_free.Goals as goal
 
 pub returns-clause-one_encoding : goal.returns-clause-one_encoding
 returns-clause-one_encoding c p pair size =
-    let e = encoding_exists p pair.code (omega arith) in
+    let e = encoding_exists p pair (omega arith) in
     record {
       value = e.0;
       holds = e.1;
       only = λ other h. encoding_same p other e.0 h e.1;
     }
+
+pub returns-clause-same : goal.returns-clause-same
+returns-clause-same c = encoding_same
+
+pub returns-clause-unique : goal.returns-clause-unique
+returns-clause-unique c = encoding_unique
 
 pub returns-clause-begins_no_other : goal.returns-clause-begins_no_other
 returns-clause-begins_no_other c p q a b e f begins =

@@ -1,11 +1,17 @@
 use Rattle.std.proofs.Common.{arith}
-use Rattle.multihash.proofs.ScaleLemmas.{scale_exists, scale_same, scale_verdict_exists, scale_verdict_unique, scale_begins, scale_own}
+use Rattle.multihash.proofs.ScaleLemmas.{scale_exists, scale_same, scale_verdict_exists, scale_verdict_unique, scale_begins, scale_own, scale_split}
 use Rattle.multihash.proofs.laws.scale_unique.Goals as goal
 
 pub returns-clause-one_form : goal.returns-clause-one_form
 returns-clause-one_form c p pair size =
-    let e = scale_exists p pair.code (omega arith) in
+    let e = scale_exists p pair (omega arith) in
     record { value = e.0; holds = e.1; only = λ other h. scale_same p other e.0 h e.1 }
+
+pub returns-clause-same : goal.returns-clause-same
+returns-clause-same c = scale_same
+
+pub returns-clause-unique : goal.returns-clause-unique
+returns-clause-unique c = scale_split
 
 pub returns-clause-one_verdict : goal.returns-clause-one_verdict
 returns-clause-one_verdict c S input bytes =

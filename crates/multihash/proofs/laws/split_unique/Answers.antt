@@ -1,4 +1,4 @@
-use Rattle.multihash.proofs.JoinedLemmas.{joined_unique, joined_whole}
+use Rattle.multihash.proofs.JoinedLemmas.{joined_unique, joined_whole, joined_same}
 use Rattle.multihash.proofs.laws.split_unique.Goals as goal
 
 pub returns-clause-as_many : goal.returns-clause-as_many
@@ -6,3 +6,6 @@ returns-clause-as_many c = joined_unique
 
 pub returns-clause-whole : goal.returns-clause-whole
 returns-clause-whole c = joined_whole
+
+pub returns-clause-one_stream : goal.returns-clause-one_stream
+returns-clause-one_stream c = joined_same

@@ -3,21 +3,21 @@ use Rattle.std.proofs.lemmas.Bool.{false≢true}
 use Rattle.vectors.proofs.ScaleAnswerLemmas.{Decoding, reading, no_reading}
 use Rattle.vectors.proofs.check.scale_slice_agrees.Goals as goal
 
-pub returns-then-is_scale_answer : goal.returns-then-is_scale_answer
-returns-then-is_scale_answer g c =
+pub returns-then-is_answer : goal.returns-then-is_answer
+returns-then-is_answer g c =
     let call = c.scale_decode-answer in
     let d : Decoding g.row.S c.args.input.now call.new.r.now call.result =
     record { unique = c.scale_unique.ensures.verdict_unique g.row.S; verdict = call.ensures.verdict refl; ok = call.ensures.ok; err = call.ensures.err } in
     let test = c.takes_as_scale_listed.ensures in
-    let both = reading g.row.S _ _ _ d _ c.args.listed.now.taken (c.is_scale_answer.ensures.0 c.if-is_scale_answer.true) in
+    let both = reading g.row.S _ _ _ d _ c.args.listed.now.taken (c.is_answer.ensures.0 c.if-is_answer.true) in
     (λ holds. both.0 (test.0 holds), λ right. test.1 (both.1 right))
 
-pub returns-else-is_scale_answer : goal.returns-else-is_scale_answer
-returns-else-is_scale_answer g c =
+pub returns-else-is_answer : goal.returns-else-is_answer
+returns-else-is_answer g c =
     let call = c.scale_decode-answer in
     let d : Decoding g.row.S c.args.input.now call.new.r.now call.result =
     record { unique = c.scale_unique.ensures.verdict_unique g.row.S; verdict = call.ensures.verdict refl; ok = call.ensures.ok; err = call.ensures.err } in (
-      λ holds. absurd (false≢true (sym c.if-is_scale_answer.false ∙ holds)),
+      λ holds. absurd (false≢true (sym c.if-is_answer.false ∙ holds)),
       λ right. absurd (no_reading g.row.S _ _ _ d _ c.args.listed.now.taken
-          (λ answers. false≢true (sym c.if-is_scale_answer.false ∙ c.is_scale_answer.ensures.1 answers)) right),
+          (λ answers. false≢true (sym c.if-is_answer.false ∙ c.is_answer.ensures.1 answers)) right),
     )

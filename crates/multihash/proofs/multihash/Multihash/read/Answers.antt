@@ -11,9 +11,8 @@ pub returns-in_err-code : goal.returns-in_err-code
 returns-in_err-code g c =
     let S = g.row.S in
     let t = c.in_err-code.ensures.err in
-    let met = refused S t.taken _ _ _ _ c.from_residual.result _ c.from_residual.ensures.1 t.takes
-    (stops_in_code S _ _ _ _ _ t c.in_err-code.ensures.faults) in
-    record { faults = met.faults; verdict = met.verdict; ok = met.ok; fits = met.fits; err = met.err; settled = met.settled; unsettled = met.unsettled }
+    refused S t.taken _ _ _ _ c.from_residual.result _ c.from_residual.ensures.1 t.takes
+    (stops_in_code S _ _ _ _ _ t c.in_err-code.ensures.faults)
 
 pub returns-in_err-read : goal.returns-in_err-read
 returns-in_err-read g c =
@@ -21,36 +20,33 @@ returns-in_err-read g c =
     let code = c.in_ok-code.ensures in
     let t = c.in_err-read.ensures.err in
     let same = code.faults in
-    let met = refused S (code.ok.0 ++ t.taken) _ _ _ _ c.from_residual-in_err-read.result _ c.from_residual-in_err-read.ensures.1
+    refused S (code.ok.0 ++ t.taken) _ _ _ _ c.from_residual-in_err-read.result _ c.from_residual-in_err-read.ensures.1
     (Takes-joined _ _ _ code.ok.0 t.taken _ refl code.ok.2 t.takes)
-    (stops_in_size S _ code.ok.0 code.ok.1 _ _ _ _ _ t (rw same at c.in_err-read.ensures.faults)) in
-    record { faults = met.faults; verdict = met.verdict; ok = met.ok; fits = met.fits; err = met.err; settled = met.settled; unsettled = met.unsettled }
+    (stops_in_size S _ code.ok.0 code.ok.1 _ _ _ _ _ t (rw same at c.in_err-read.ensures.faults))
 
 pub returns-in_err-size : goal.returns-in_err-size
 returns-in_err-size g c =
     let S = g.row.S in
     let code = c.in_ok-code.ensures in
     let size = c.in_ok-read.ensures in
-    let met = refused S (code.ok.0 ++ size.ok.0) _ _ _ _ c.from_residual-in_err-size.result _ c.from_residual-in_err-size.ensures.1
+    refused S (code.ok.0 ++ size.ok.0) _ _ _ _ c.from_residual-in_err-size.result _ c.from_residual-in_err-size.ensures.1
     (Takes-joined _ _ _ code.ok.0 size.ok.0 _ refl code.ok.2 size.ok.2)
-    (stops_at_size S _ _ code.ok.0 size.ok.0 code.ok.1 size.ok.1 _ _ _ _ (size.faults ∙ code.faults) c.in_err-size.ensures.over c.in_err-size.ensures.err) in
-    record { faults = met.faults; verdict = met.verdict; ok = met.ok; fits = met.fits; err = met.err; settled = met.settled; unsettled = met.unsettled }
+    (stops_at_size S _ _ code.ok.0 size.ok.0 code.ok.1 size.ok.1 _ _ _ _ (size.faults ∙ code.faults) c.in_err-size.ensures.over c.in_err-size.ensures.err)
 
 pub returns-in_err-read_exact : goal.returns-in_err-read_exact
 returns-in_err-read_exact g c =
     let S = g.row.S in
     let code = c.in_ok-code.ensures in
     let size = c.in_ok-read.ensures in
-    let t = c.in_err-read_exact.ensures.err in
+    let t = c.in_err-read_exact.ensures.laws.err in
     let room : length (take c.from.result (replicate {A = ℕ} S 0)) ≡ c.in_ok-read.field-0 =
     length-take-le c.from.result (replicate {A = ℕ} S 0) (omega (arith, length-replicate {A = ℕ} S 0, c.in_ok-size.ensures.ok, c.in_ok-size.ensures.fits))
     ∙ (c.from.ensures ∙ c.in_ok-size.ensures.ok) in
-    let met = refused S (code.ok.0 ++ (size.ok.0 ++ t.taken)) _ _ _ _ c.from_residual-in_err-read_exact.result _ c.from_residual-in_err-read_exact.ensures.1
+    refused S (code.ok.0 ++ (size.ok.0 ++ t.taken)) _ _ _ _ c.from_residual-in_err-read_exact.result _ c.from_residual-in_err-read_exact.ensures.1
     (Takes-joined _ _ _ code.ok.0 (size.ok.0 ++ t.taken) _ refl code.ok.2 (Takes-joined _ _ _ size.ok.0 t.taken _ refl size.ok.2 t.takes))
     (stops_in_digest S _ _ code.ok.0 size.ok.0 code.ok.1 size.ok.1 _ t.taken _ _ _ _ c.in_ok-size.ensures.fits
-    (omega (arith, t.fewer, room)) t.takes (rw room at c.in_err-read_exact.ensures.eof)
-    (rw (size.faults ∙ code.faults) at c.in_err-read_exact.ensures.faults)) in
-    record { faults = met.faults; verdict = met.verdict; ok = met.ok; fits = met.fits; err = met.err; settled = met.settled; unsettled = met.unsettled }
+    (omega (arith, t.fewer, room)) t.takes (rw room at c.in_err-read_exact.ensures.laws.eof)
+    (rw (size.faults ∙ code.faults) at c.in_err-read_exact.ensures.laws.faults))
 
 pub returns : goal.returns
 returns g c =
@@ -63,9 +59,8 @@ returns g c =
     let long : length digest ≡ c.in_ok-size.size = search rules in
     let front : take c.in_ok-size.size buffer ≡ digest = take_at digest _ _ long in
     let within : c.in_ok-size.size ≤ digest_limit S = omega (arith, c.in_ok-size.ensures.ok, c.in_ok-size.ensures.fits) in
-    let met = answered S (code.ok.0 ++ (size.ok.0 ++ digest)) _ _ _ _ (record { code = c.in_ok-code.code; size = c.in_ok-size.size; buffer = buffer })
-    (c.in_ok-read_exact.ensures.faults ∙ (size.faults ∙ code.faults))
+    answered S (code.ok.0 ++ (size.ok.0 ++ digest)) _ _ _ _ (record { code = c.in_ok-code.code; size = c.in_ok-size.size; buffer = buffer })
+    (c.in_ok-read_exact.ensures.laws.faults ∙ (size.faults ∙ code.faults))
     (encodes_fields S _ _ code.ok.0 size.ok.0 code.ok.1 is_size buffer digest front long)
     (fields_fit S _ _ code.ok.0 size.ok.0 code.ok.1 is_size buffer digest front long within)
-    (Takes-joined _ _ _ code.ok.0 (size.ok.0 ++ digest) _ refl code.ok.2 (Takes-joined _ _ _ size.ok.0 digest _ refl size.ok.2 c.in_ok-read_exact.ensures.takes)) in
-    record { faults = met.faults; verdict = met.verdict; ok = met.ok; fits = met.fits; err = met.err; settled = met.settled; unsettled = met.unsettled }
+    (Takes-joined _ _ _ code.ok.0 (size.ok.0 ++ digest) _ refl code.ok.2 (Takes-joined _ _ _ size.ok.0 digest _ refl size.ok.2 c.in_ok-read_exact.ensures.laws.takes))

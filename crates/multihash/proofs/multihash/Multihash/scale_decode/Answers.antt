@@ -38,13 +38,13 @@ returns-in_err-read_exact-clause-verdict g c =
     let one : c.in_ok-size_byte.size_byte ≡ size ∷ [] = one_item _ single ∙ ap (λ n. n ∷ []) (sym c.from-size.ensures) in
     let room : length (take size (replicate {A = ℕ} g.row.S 0)) ≡ size =
     length-take-le size (replicate {A = ℕ} g.row.S 0) (omega (arith, length-replicate {A = ℕ} g.row.S 0, c.if-size.false)) in
-    let t = c.in_err-read_exact.ensures.err in
+    let t = c.in_err-read_exact.ensures.laws.err in
     let cut_takes = Takes-joined _ _ _ a (size ∷ t.taken) _ refl c.in_ok-code.ensures.takes
     (Takes-joined _ _ _ (size ∷ []) t.taken _ refl (rw one at c.in_ok-size_byte.ensures.takes) t.takes) in
     let unrisen = c.in_ok-size_byte.ensures.faults ∙ c.in_ok-code.ensures.faults in
     passed_answer g.row.S c.from_residual-in_err-read_exact.result _ _ _ _ c.from_residual-in_err-read_exact.ensures.1
     (cut_verdict g.row.S _ size a (some_code a eight each) _ t.taken _ _ _ _ _ c.if-size.false t.takes
-    (rw room at c.in_err-read_exact.ensures.eof) (rw unrisen at c.in_err-read_exact.ensures.faults) cut_takes)
+    (rw room at c.in_err-read_exact.ensures.laws.eof) (rw unrisen at c.in_err-read_exact.ensures.laws.faults) cut_takes)
 
 pub returns-in_err-read_exact-clause-err : goal.returns-in_err-read_exact-clause-err
 returns-in_err-read_exact-clause-err g c =
@@ -56,7 +56,7 @@ returns-in_err-read_exact-clause-err g c =
     let one : c.in_ok-size_byte.size_byte ≡ size ∷ [] = one_item _ single ∙ ap (λ n. n ∷ []) (sym c.from-size.ensures) in
     let room : length (take size (replicate {A = ℕ} g.row.S 0)) ≡ size =
     length-take-le size (replicate {A = ℕ} g.row.S 0) (omega (arith, length-replicate {A = ℕ} g.row.S 0, c.if-size.false)) in
-    let t = c.in_err-read_exact.ensures.err in
+    let t = c.in_err-read_exact.ensures.laws.err in
     let cut_takes = Takes-joined _ _ _ a (size ∷ t.taken) _ refl c.in_ok-code.ensures.takes
     (Takes-joined _ _ _ (size ∷ []) t.taken _ refl (rw one at c.in_ok-size_byte.ensures.takes) t.takes) in
     passed_on c.from_residual-in_err-read_exact.result _ _ c.from_residual-in_err-read_exact.ensures.1
@@ -73,7 +73,7 @@ returns-clause-verdict g c =
     let d = c.read_exact.new.buf in
     let long : length d ≡ size = search rules in
     let whole_takes = Takes-joined _ _ _ a (size ∷ d) _ refl c.in_ok-code.ensures.takes
-    (Takes-joined _ _ _ (size ∷ []) d _ refl (rw one at c.in_ok-size_byte.ensures.takes) c.in_ok-read_exact.ensures.takes) in
+    (Takes-joined _ _ _ (size ∷ []) d _ refl (rw one at c.in_ok-size_byte.ensures.takes) c.in_ok-read_exact.ensures.laws.takes) in
     let is_code = code_read a c.from_le_bytes.result eight each (omega (arith, c.from_le_bytes.type_inv)) c.from_le_bytes.ensures in
     let front : take size (d ++ drop size (replicate {A = ℕ} g.row.S 0)) ≡ d = take_at d _ size long in
     let byte : size < 256 = search rules in
@@ -93,7 +93,7 @@ returns-clause-ok g c =
     let d = c.read_exact.new.buf in
     let long : length d ≡ size = search rules in
     let whole_takes = Takes-joined _ _ _ a (size ∷ d) _ refl c.in_ok-code.ensures.takes
-    (Takes-joined _ _ _ (size ∷ []) d _ refl (rw one at c.in_ok-size_byte.ensures.takes) c.in_ok-read_exact.ensures.takes) in
+    (Takes-joined _ _ _ (size ∷ []) d _ refl (rw one at c.in_ok-size_byte.ensures.takes) c.in_ok-read_exact.ensures.laws.takes) in
     let is_code = code_read a c.from_le_bytes.result eight each (omega (arith, c.from_le_bytes.type_inv)) c.from_le_bytes.ensures in
     let front : take size (d ++ drop size (replicate {A = ℕ} g.row.S 0)) ≡ d = take_at d _ size long in
     let byte : size < 256 = search rules in

@@ -16,7 +16,7 @@ returns-in_err-write_all-clause-err g c =
     let form : IsScale p (a ++ ((size ∷ []) ++ d)) =
     scale_of p _ size a d c.code.ensures c.size-size.ensures.size c.digest-digest.ensures.digest (omega (arith, c.size-size.type_inv)) is_code in
     stopped (IsScale p) _ _ _ _ (a ++ ((size ∷ []) ++ d)) form
-    (AppendsPart-append g.W.Write.appended _ _ a ((size ∷ []) ++ d) c.in_err-write_all.ensures.err)
+    (AppendsPart-append g.W.Write.appended _ _ a ((size ∷ []) ++ d) c.in_err-write_all.ensures.laws.err)
 
 pub returns-in_err-write_all-2-clause-err : goal.returns-in_err-write_all-2-clause-err
 returns-in_err-write_all-2-clause-err g c =
@@ -30,8 +30,8 @@ returns-in_err-write_all-2-clause-err g c =
     let join = g.met.W.Write.appends_joined in
     let appended = g.W.Write.appended in
     stopped (IsScale p) _ _ _ _ (a ++ ((size ∷ []) ++ d)) form
-    (AppendsPart-joined appended join _ _ _ a ((size ∷ []) ++ d) c.in_ok-write_all.ensures.ok
-    (AppendsPart-append appended _ _ (size ∷ []) d c.in_err-write_all-2.ensures.err))
+    (AppendsPart-joined appended join _ _ _ a ((size ∷ []) ++ d) c.in_ok-write_all.ensures.laws.ok
+    (AppendsPart-append appended _ _ (size ∷ []) d c.in_err-write_all-2.ensures.laws.err))
 
 pub returns-in_err-write_all-3-clause-err : goal.returns-in_err-write_all-3-clause-err
 returns-in_err-write_all-3-clause-err g c =
@@ -45,8 +45,8 @@ returns-in_err-write_all-3-clause-err g c =
     let join = g.met.W.Write.appends_joined in
     let appended = g.W.Write.appended in
     stopped (IsScale p) _ _ _ _ (a ++ ((size ∷ []) ++ d)) form
-    (AppendsPart-joined appended join _ _ _ a ((size ∷ []) ++ d) c.in_ok-write_all.ensures.ok
-    (AppendsPart-joined appended join _ _ _ (size ∷ []) d c.in_ok-write_all-2.ensures.ok c.in_err-write_all-3.ensures.err))
+    (AppendsPart-joined appended join _ _ _ a ((size ∷ []) ++ d) c.in_ok-write_all.ensures.laws.ok
+    (AppendsPart-joined appended join _ _ _ (size ∷ []) d c.in_ok-write_all-2.ensures.laws.ok c.in_err-write_all-3.ensures.laws.err))
 
 pub returns-clause-ok : goal.returns-clause-ok
 returns-clause-ok g c =
@@ -61,5 +61,5 @@ returns-clause-ok g c =
       a ++ ((size ∷ []) ++ d),
       form,
       scale_length _ size a d is_code,
-      join _ _ _ a ((size ∷ []) ++ d) c.in_ok-write_all.ensures.ok (join _ _ _ (size ∷ []) d c.in_ok-write_all-2.ensures.ok c.in_ok-write_all-3.ensures.ok),
+      join _ _ _ a ((size ∷ []) ++ d) c.in_ok-write_all.ensures.laws.ok (join _ _ _ (size ∷ []) d c.in_ok-write_all-2.ensures.laws.ok c.in_ok-write_all-3.ensures.laws.ok),
     )

@@ -14,7 +14,7 @@ returns-in_err-write_all-clause-err g c =
     stopped (IsEncoding p) _ _ _ _ (a ++ (b ++ d))
     (encoding_of p _ _ d a b c.code.ensures (c.from.ensures ∙ c.size.ensures.size) c.digest-digest.ensures.digest
     (rw c.as_bytes.ensures c.encode-code.ensures) c.encode-size.ensures)
-    (AppendsPart-append g.W.Write.appended _ _ a (b ++ d) c.in_err-write_all.ensures.err)
+    (AppendsPart-append g.W.Write.appended _ _ a (b ++ d) c.in_err-write_all.ensures.laws.err)
 
 pub returns-in_err-write_all-2-clause-err : goal.returns-in_err-write_all-2-clause-err
 returns-in_err-write_all-2-clause-err g c =
@@ -26,8 +26,8 @@ returns-in_err-write_all-2-clause-err g c =
     stopped (IsEncoding p) _ _ _ _ (a ++ (b ++ d))
     (encoding_of p _ _ d a b c.code.ensures (c.from.ensures ∙ c.size.ensures.size) c.digest-digest.ensures.digest
     (rw c.as_bytes.ensures c.encode-code.ensures) (rw c.as_bytes-2.ensures c.encode-size.ensures))
-    (AppendsPart-joined appended g.met.W.Write.appends_joined _ _ _ a (b ++ d) c.in_ok-write_all.ensures.ok
-    (AppendsPart-append appended _ _ b d c.in_err-write_all-2.ensures.err))
+    (AppendsPart-joined appended g.met.W.Write.appends_joined _ _ _ a (b ++ d) c.in_ok-write_all.ensures.laws.ok
+    (AppendsPart-append appended _ _ b d c.in_err-write_all-2.ensures.laws.err))
 
 pub returns-in_err-write_all-3-clause-err : goal.returns-in_err-write_all-3-clause-err
 returns-in_err-write_all-3-clause-err g c =
@@ -40,8 +40,8 @@ returns-in_err-write_all-3-clause-err g c =
     stopped (IsEncoding p) _ _ _ _ (a ++ (b ++ d))
     (encoding_of p _ _ d a b c.code.ensures (c.from.ensures ∙ c.size.ensures.size) c.digest-digest.ensures.digest
     (rw c.as_bytes.ensures c.encode-code.ensures) (rw c.as_bytes-2.ensures c.encode-size.ensures))
-    (AppendsPart-joined appended join _ _ _ a (b ++ d) c.in_ok-write_all.ensures.ok
-    (AppendsPart-joined appended join _ _ _ b d c.in_ok-write_all-2.ensures.ok c.in_err-write_all-3.ensures.err))
+    (AppendsPart-joined appended join _ _ _ a (b ++ d) c.in_ok-write_all.ensures.laws.ok
+    (AppendsPart-joined appended join _ _ _ b d c.in_ok-write_all-2.ensures.laws.ok c.in_err-write_all-3.ensures.laws.err))
 
 pub returns-clause-ok : goal.returns-clause-ok
 returns-clause-ok g c =
@@ -56,5 +56,5 @@ returns-clause-ok g c =
       encoding_of p _ _ d a b c.code.ensures (c.from.ensures ∙ c.size.ensures.size) c.digest-digest.ensures.digest
           (rw c.as_bytes.ensures c.encode-code.ensures) (rw c.as_bytes-2.ensures c.encode-size.ensures),
       omega (arith, ap length same_code, ap length same_size, length-parts a b d),
-      join _ _ _ a (b ++ d) c.in_ok-write_all.ensures.ok (join _ _ _ b d c.in_ok-write_all-2.ensures.ok c.in_ok-write_all-3.ensures.ok),
+      join _ _ _ a (b ++ d) c.in_ok-write_all.ensures.laws.ok (join _ _ _ b d c.in_ok-write_all-2.ensures.laws.ok c.in_ok-write_all-3.ensures.laws.ok),
     )

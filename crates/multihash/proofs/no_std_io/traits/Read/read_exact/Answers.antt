@@ -10,6 +10,6 @@ loop-filled-preserved g c =
     record {
       in_buffer = search rules;
       same_length = search rules;
-      takes = Takes-joined _ _ _ _ _ _ front c.loop-filled.invariant.takes c.in-Ok.ensures.takes;
+      takes = Takes-joined _ _ _ _ _ _ front c.loop-filled.invariant.takes c.in-Ok.ensures.laws.takes;
       unfailed = search rules;
     }

@@ -1,4 +1,5 @@
-use Rattle.std.proofs.Common.{[], ◌++◌, rules, take}
+use Rattle.std.proofs.Common.{[], ◌++◌, rules, take, arith}
+use Rattle.std.proofs.lemmas.Grind.{common_steps}
 use Rattle.multihash.proofs.WritingLemmas.{joined-take-range, IsProperBeginning-take}
 use Rattle.multihash.proofs.no_std_io.traits.Write.write_all.Goals as goal
 
@@ -6,20 +7,34 @@ pub loop-left-preserved : goal.loop-left-preserved
 loop-left-preserved g c = let before = c.loop-left.invariant in record {
   done = before.done ++ take c.in-Ok.n c.loop-left.left.now;
   joined = joined-take-range _ _ _ c.in-Ok.n before.joined;
-  stands = g.met.Self.Write.appends_joined _ _ _ _ _ before.stands c.in-Ok.ensures.ok;
+  stands = g.met.Self.Write.appends_joined _ _ _ _ _ before.stands c.in-Ok.ensures.laws.ok;
   unfailed = search rules;
 }
 
-pub returns-in-Ok-eq0-clause-err : goal.returns-in-Ok-eq0-clause-err
-returns-in-Ok-eq0-clause-err g c = let before = c.loop-left.invariant in record {
-  part = before.done ++ take c.in-Ok-eq0.field-0 c.loop-left.left.now;
-  proper = IsProperBeginning-take _ _ _ c.in-Ok-eq0.field-0 before.joined (search rules);
-  stands = g.met.Self.Write.appends_joined _ _ _ _ _ before.stands c.in-Ok-eq0.ensures.ok;
+pub returns-in-Ok-eq0 : goal.returns-in-Ok-eq0
+returns-in-Ok-eq0 g c = let before = c.loop-left.invariant in record {
+  laws = record {
+    ok = tt;
+    empty = grind (arith, common_steps);
+    err = record {
+      part = before.done ++ take c.in-Ok-eq0.field-0 c.loop-left.left.now;
+      proper = IsProperBeginning-take _ _ _ c.in-Ok-eq0.field-0 before.joined (search rules);
+      stands = g.met.Self.Write.appends_joined _ _ _ _ _ before.stands c.in-Ok-eq0.ensures.laws.ok;
+    };
+    faults = grind (arith, common_steps);
+  };
 }
 
-pub returns-in-Err-clause-err : goal.returns-in-Err-clause-err
-returns-in-Err-clause-err g c = let before = c.loop-left.invariant in record {
-  part = before.done ++ [];
-  proper = IsProperBeginning-take _ _ _ 0 before.joined (search rules);
-  stands = g.met.Self.Write.appends_joined _ _ _ _ _ before.stands c.in-Err.ensures.err;
+pub returns-in-Err : goal.returns-in-Err
+returns-in-Err g c = let before = c.loop-left.invariant in record {
+  laws = record {
+    ok = tt;
+    empty = grind (arith, common_steps);
+    err = record {
+      part = before.done ++ [];
+      proper = IsProperBeginning-take _ _ _ 0 before.joined (search rules);
+      stands = g.met.Self.Write.appends_joined _ _ _ _ _ before.stands c.in-Err.ensures.laws.err;
+    };
+    faults = grind (arith, common_steps);
+  };
 }
