@@ -83,3 +83,7 @@ wrote_fewer now n rest range h large =
           let high : 128 ^ most_marked ≤ 128 ^ length h.front = pow-le-pow_right base long in
           absurd (omega (arith, high, h.value, range, mul-le-mul_right (128 ^ length h.front) large))
     ]
+
+-- a small number is its own varint
+pub one_byte : (n : ℕ) → n < 128 → IsVarint n (n ∷ [])
+one_byte n small = wrote_last [] n n (omega (arith, small)) (none_wrote n) small

@@ -1,7 +1,8 @@
 //! The type, and its binary form.
-ghost use Rattle.std.specs.Prelude.{◌≡◌, ◌<◌, ◌≤◌, ◌-◌, ◌⊎◌, ◌↔◌, ℕ, List, [], ◌++◌, length, replicate, Some, IfSome, IfOk, IfErr, OnOk, OnErr, IsErr, IsTrue};
+ghost use Rattle.std.specs.Prelude.{◌≡◌, ◌==◌, ◌<◌, ◌≤◌, ◌-◌, ◌⊎◌, ◌↔◌, ℕ, List, [], ◌++◌, length, replicate, Some, IfSome, IfOk, IfErr, OnOk, OnErr, IsErr, IsTrue};
 ghost use Rattle.std.proofs.Common.{rules};
 ghost use Rattle.std.specs.Cmp.{partial_order_from_own_ties};
+ghost use Rattle.std.specs.Cmp.Lexicographic.{pointwise};
 ghost use Rattle.std.specs.Cmp.Rules.{comparing, hashing};
 ghost use Rattle.std.specs.Ordering.{on, as_partial_cmp};
 ghost use Rattle.multihash.specs.Bytes.{IsBytes};
@@ -36,8 +37,9 @@ use std::marker::Model;
 #[derive(Clone, Copy, Debug)]
 pub struct Multihash<const S: usize> {
     code: u64,
-    size: u8,
     digest: [u8; S],
+    // A machine word, so that no padding is copied behind the digest.
+    size: usize,
 }
 
 impl<const S: usize> Model for Multihash<S> {
@@ -65,14 +67,42 @@ impl<const S: usize> Multihash<S> {
         ensures exactly { IsErr result ↔ (digest_limit S < length input_digest.now) }
         ensures err { IfErr result (IsInvalidSize (length input_digest.now)) }
     {
-        let size = Self::fitting_size(input_digest.len() as u64)?;
-        let mut multihash = Multihash {
+        let len = input_digest.len();
+        if len > S || len > 255 {
+            return Err(Error::from_size(len as u64));
+        }
+        Ok(Multihash {
             code,
-            size,
-            digest: [0; S],
-        };
-        multihash.fill(input_digest);
-        Ok(multihash)
+            digest: Self::padded(input_digest),
+            size: len,
+        })
+    }
+
+    // The bytes, and zeros behind them.
+    #[inline(always)]
+    fn padded(bytes: &[u8]) -> [u8; S]
+        requires { length bytes.now ≤ S }
+        ensures { result ≡ bytes.now ++ replicate (S - length bytes.now) 0 }
+    {
+        // The usual length is copied as a whole, which is no call.
+        if bytes.len() == 32 {
+            if let Some(all) = bytes.first_chunk::<32>() {
+                return Self::padded_whole(all);
+            }
+        }
+        let mut array = [0; S];
+        array[..bytes.len()].copy_from_slice(bytes);
+        array
+    }
+
+    #[inline(always)]
+    fn padded_whole(bytes: &[u8; 32]) -> [u8; S]
+        requires { 32 ≤ S }
+        ensures { result ≡ bytes.now ++ replicate (S - 32) 0 }
+    {
+        let mut array = [0; S];
+        array[..32].copy_from_slice(bytes);
+        array
     }
 
     /// The code, which names the hash function.
@@ -87,7 +117,7 @@ impl<const S: usize> Multihash<S> {
         ensures size { result ≡ length (pair_of self.now).digest }
         ensures fits { FitsBuffer S (pair_of self.now) }
     {
-        self.size
+        self.size as u8
     }
 
     /// The digest.
@@ -96,7 +126,7 @@ impl<const S: usize> Multihash<S> {
         ensures fits { FitsBuffer S (pair_of self.now) }
         ensures pair { IsPair (pair_of self.now) }
     {
-        let digest = &self.digest[..usize::from(self.size)];
+        let digest = &self.digest[..self.size];
         are_bytes(digest);
         let _value = self.code;
         digest
@@ -138,8 +168,13 @@ impl<const S: usize> Multihash<S> {
         let code = varint::read(r)?;
         let size = Self::fitting_size(varint::read(r)?)?;
         let mut digest = [0; S];
-        r.read_exact(&mut digest[..usize::from(size)])?;
-        Ok(Multihash { code, size, digest })
+        let len = usize::from(size);
+        r.read_exact(&mut digest[..len])?;
+        Ok(Multihash {
+            code,
+            digest,
+            size: len,
+        })
     }
 
     /// Reads the multihash whose encoding is the whole of `bytes`: the varint of the code, the varint
@@ -169,8 +204,8 @@ impl<const S: usize> Multihash<S> {
         }
         let mut multihash = Multihash {
             code,
-            size,
             digest: [0; S],
+            size: len,
         };
         multihash.fill(digest);
         Ok(multihash)
@@ -183,6 +218,7 @@ impl<const S: usize> Multihash<S> {
     ///
     /// [`Error::io`] with what the writer answered: no place left, a fault of its own, or want of memory
     /// where it allocates. A proper beginning of the encoding was appended then.
+    #[inline(always)]
     pub fn write<W: Write>(&self, w: &mut W) -> Result<usize, Error>
         ensures fits { FitsBuffer S (pair_of self.now) }
         ensures ok { IfOk result (λ n. (bytes : List ℕ) × IsEncoding (pair_of self.now) bytes
@@ -192,13 +228,11 @@ impl<const S: usize> Multihash<S> {
         ensures faults { CountsWriter IsIo W.allocates
             (W.failures w.old) (W.failures w.new) (W.full w.new) result }
     {
-        let code = varint::encode(self.code());
-        let size = varint::encode(u64::from(self.size()));
         let digest = self.digest();
-        w.write_all(code.as_bytes())?;
-        w.write_all(size.as_bytes())?;
+        let code = varint::write(self.code(), w)?;
+        let size = varint::write(u64::from(self.size()), w)?;
         w.write_all(digest)?;
-        Ok(code.as_bytes().len() + size.as_bytes().len() + digest.len())
+        Ok(code + size + digest.len())
     }
 
     /// The length of the encoding in bytes, at most 267.
@@ -206,9 +240,9 @@ impl<const S: usize> Multihash<S> {
         ensures encoding { (bytes : List ℕ) × IsEncoding (pair_of self.now) bytes × (result ≡ length bytes) }
         ensures short { result ≤ 267 }
     {
-        let code = varint::encode(self.code());
-        let size = varint::encode(u64::from(self.size()));
-        code.as_bytes().len() + size.as_bytes().len() + usize::from(self.size())
+        let code = varint::len(self.code());
+        let size = varint::len(u64::from(self.size()));
+        code + size + usize::from(self.size())
     }
 
     /// The encoding. Its room is asked for once, and nothing more is asked for then.
@@ -232,7 +266,7 @@ impl<const S: usize> Multihash<S> {
         ensures { pair_of result ≡ truncated size (pair_of self.now) }
     {
         Multihash {
-            size: self.size.min(size),
+            size: self.size.min(usize::from(size)),
             ..*self
         }
     }
@@ -259,15 +293,15 @@ impl<const S: usize> Multihash<S> {
         ensures size { result.2 ≡ length (pair_of self.entry).digest }
     {
         let mut array = [0; S];
-        array[..usize::from(self.size)].copy_from_slice(self.digest());
-        (self.code, array, self.size)
+        array[..self.size].copy_from_slice(self.digest());
+        (self.code, array, self.size as u8)
     }
 
     /// Whether both have the same code and the same digest, whatever their buffers' sizes are.
     pub fn same_as<const B: usize>(&self, other: &Multihash<B>) -> bool
         ensures { IsTrue result ↔ IsSame (pair_of self.now) (pair_of other.now) }
     {
-        self.code() == other.code() && self.digest() == other.digest()
+        self.code() == other.code() && same_bytes(self.digest(), other.digest())
     }
 
     // Puts a digest of the size that is set already, in place of zeros.
@@ -287,11 +321,25 @@ impl<const S: usize> Multihash<S> {
         ensures over { OnErr result (digest_limit S < size) }
         ensures err { IfErr result (IsInvalidSize size) }
     {
-        if size > u64::from(u8::MAX) || size > S as u64 {
-            return Err(Error::from_size(size));
+        if size > S as u64 || size > 255 {
+            Err(Error::from_size(size))
+        } else {
+            Ok(size as u8)
         }
-        Ok(size as u8)
     }
+}
+
+// Whether the bytes are equal. The usual length is compared as a whole, which is no call.
+#[inline(always)]
+fn same_bytes(a: &[u8], b: &[u8]) -> bool
+    ensures { result ≡ pointwise ◌==◌ a.now b.now }
+{
+    if a.len() == 32 && b.len() == 32 {
+        if let (Some(whole), Some(other)) = (a.first_chunk::<32>(), b.first_chunk::<32>()) {
+            return whole == other;
+        }
+    }
+    a == b
 }
 
 /// The code 0 and the empty digest.
@@ -317,7 +365,9 @@ impl<const S: usize> PartialEq for Multihash<S> {
         ensures computes { result ≡ equal_pairs (pair_of self.now) (pair_of other.now) }
         ensures same { IsTrue result ↔ IsSame (pair_of self.now) (pair_of other.now) }
     {
-        self.code == other.code && self.size == other.size && self.digest() == other.digest()
+        self.code == other.code
+            && self.size == other.size
+            && same_bytes(self.digest(), other.digest())
     }
 }
 

@@ -4,12 +4,13 @@ ghost use Rattle.multihash.specs.Bytes.{IsBytes, place_value};
 ghost use Rattle.multihash.specs.Varint.{IsVarint, most_marked};
 ghost use Rattle.multihash.specs.Word.{IsFrontWord, digits_low};
 ghost use Rattle.multihash.specs.Reading.{Takes, IsAtEnd, CountsReader};
+ghost use Rattle.multihash.specs.Writing.{AppendsPart, CountsWriter};
 ghost use Rattle.multihash.specs.Fault.{IsOwnFault};
 ghost use Rattle.multihash.specs.Refusal.{IsReaderFault};
 ghost use Rattle.multihash.specs.Taking.{IsVarintRefusal, IsFrontRefusal, TakesVarint, TakesAtVarintRefusal};
 
 use crate::Error;
-use crate::no_std_io::{self, Read};
+use crate::no_std_io::{self, Read, Write};
 use std::marker::Model;
 
 // The most marked bytes of a varint.
@@ -20,6 +21,9 @@ const FIRST_TOO_LARGE: u8 = 2;
 
 // The most bytes of a varint.
 const MAX_LEN: usize = MOST_MARKED + 1;
+
+// The room for a varint: at least as many bytes as one has, and a whole machine word's copy.
+const ROOM: usize = 16;
 
 // The bytes of a word.
 const WORD_LEN: usize = 16;
@@ -33,7 +37,7 @@ const TOO_LARGE: u128 = (FIRST_TOO_LARGE as u128) << (8 * MOST_MARKED);
 /// The varint of a number.
 #[derive(Drop)]
 pub(crate) struct Encoded {
-    bytes: [u8; MAX_LEN],
+    bytes: [u8; ROOM],
     len: usize,
 }
 
@@ -49,6 +53,7 @@ impl Model for Encoded {
 
 impl Encoded {
     /// The bytes, one to ten of them.
+    #[inline(always)]
     pub(crate) fn as_bytes(&self) -> &[u8]
         ensures { result.now ≡ self.now }
     {
@@ -60,7 +65,7 @@ impl Encoded {
 pub(crate) fn encode(n: u64) -> Encoded
     ensures { IsVarint n result }
 {
-    let mut bytes = [0; MAX_LEN];
+    let mut bytes = [0; ROOM];
     let mut len = 0;
     let mut rest = n;
     while rest >= 128 {
@@ -73,6 +78,41 @@ pub(crate) fn encode(n: u64) -> Encoded
         bytes,
         len: len + 1,
     }
+}
+
+/// How many bytes the varint of a number has, at most ten.
+#[inline(always)]
+pub(crate) fn len(n: u64) -> usize
+    ensures varint { (bytes : List ℕ) × IsVarint n bytes × (result ≡ length bytes) }
+    ensures short { result ≤ 10 }
+{
+    if n < 128 {
+        return 1;
+    }
+    encode(n).as_bytes().len()
+}
+
+/// Appends the varint of a number to `w` by one call of `write_all`, and answers how many bytes it has.
+///
+/// # Errors
+///
+/// What the writer answered. A proper beginning of the varint was appended then.
+#[inline(always)]
+pub(crate) fn write<W: Write>(n: u64, w: &mut W) -> Result<usize, no_std_io::Error>
+    ensures ok { IfOk result (λ len. (bytes : List ℕ) × IsVarint n bytes × (len ≡ length bytes)
+        × W.appended w.old bytes w.new) }
+    ensures short { IfOk result (λ len. len ≤ 10) }
+    ensures err { OnErr result ((bytes : List ℕ) × IsVarint n bytes × AppendsPart W.appended w.old bytes w.new) }
+    ensures faults { CountsWriter (λ P. P) W.allocates
+        (W.failures w.old) (W.failures w.new) (W.full w.new) result }
+{
+    if n < 128 {
+        w.write_all(&[n as u8])?;
+        return Ok(1);
+    }
+    let varint = encode(n);
+    w.write_all(varint.as_bytes())?;
+    Ok(varint.as_bytes().len())
 }
 
 /// Reads a varint, one byte at a time, and answers its number.
@@ -188,6 +228,7 @@ fn join_digits(word: u128) -> u128
 }
 
 // The next byte, or none where the input has ended.
+#[inline(always)]
 fn read_byte<R: Read>(r: &mut R) -> Result<Option<u8>, no_std_io::Error>
     ensures faults { CountsReader IsOwnFault (λ _. ⊥) (R.failures r.old) (R.failures r.new) result }
     ensures byte { IfOk result (λ next. MatchOption next

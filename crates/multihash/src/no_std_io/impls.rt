@@ -8,13 +8,23 @@ ghost use Rattle.multihash.specs.Places.{GivesUpFor, GivesUpPlaces-none, GivesUp
 use super::{Error, Read, Write};
 
 // Copies as many bytes as both have, and returns how many.
+#[inline(always)]
 fn copy_front(from: &[u8], to: &mut [u8]) -> usize
     ensures count { result ≡ min (length from.now) (length to.old) }
     ensures copied { to.new ≡ take result from.now ++ drop result to.old }
 {
-    let n = from.len().min(to.len());
-    to[..n].copy_from_slice(&from[..n]);
-    n
+    // A copy whose length the compiler knows is no call: here it may know either.
+    if from.len() < to.len() {
+        if from.len() == 1 {
+            to[0] = from[0];
+        } else {
+            to[..from.len()].copy_from_slice(from);
+        }
+        from.len()
+    } else {
+        to.copy_from_slice(&from[..to.len()]);
+        to.len()
+    }
 }
 
 /// The rest is the slice, and it never fails. Where fewer bytes are left than `read_exact` wants, the
@@ -150,9 +160,14 @@ impl Write for Vec<u8> {
         ensures unchanged { OnErr result (self.new.items ≡ self.old.items) }
         ensures kind { IfErr result IsOutOfMemory }
     {
-        match self.extend_from_slice(buf) {
-            Ok(()) => Ok(()),
-            Err(_) => Err(Error::out_of_memory()),
+        let extended = match buf {
+            [byte] => self.push(*byte).is_ok(),
+            _ => self.extend_from_slice(buf).is_ok(),
+        };
+        if extended {
+            Ok(())
+        } else {
+            Err(Error::out_of_memory())
         }
     }
 }

@@ -1,6 +1,5 @@
 -- The first `len` bytes spell the digits that were written.
-use Rattle.std.proofs.Common.{◌≡◌, ◌+◌, ◌≤◌, length, take}
-use Rattle.multihash.specs.Varint.{most_marked}
+use Rattle.std.proofs.Common.{◌≡◌, ◌≤◌, length, take}
 use Rattle.multihash.proofs.VarintWriteLemmas.{Wrote}
 use Rattle.multihash.proofs.varint.encode.Given as goal
 
@@ -8,7 +7,7 @@ abbrev pub invariant-loop-rest : goal.invariant-loop-rest
 invariant-loop-rest l = record {
   wrote : Wrote (take l.len l.bytes) l.n l.rest;
   in_bytes : l.len ≤ length l.bytes;
-  places : length l.bytes ≡ most_marked + 1;
+  places : length l.bytes ≡ 16;
 }
 
 abbrev pub decreases-loop-rest : goal.decreases-loop-rest

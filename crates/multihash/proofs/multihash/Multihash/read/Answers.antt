@@ -39,9 +39,9 @@ returns-in_err-read_exact g c =
     let code = c.in_ok-code.ensures in
     let size = c.in_ok-read.ensures in
     let t = c.in_err-read_exact.ensures.laws.err in
-    let room : length (take c.from.result (replicate {A = ℕ} S 0)) ≡ c.in_ok-read.field-0 =
-    length-take-le c.from.result (replicate {A = ℕ} S 0) (omega (arith, length-replicate {A = ℕ} S 0, c.in_ok-size.ensures.ok, c.in_ok-size.ensures.fits))
-    ∙ (c.from.ensures ∙ c.in_ok-size.ensures.ok) in
+    let room : length (take c.from-len.result (replicate {A = ℕ} S 0)) ≡ c.in_ok-read.field-0 =
+    length-take-le c.from-len.result (replicate {A = ℕ} S 0) (omega (arith, length-replicate {A = ℕ} S 0, c.in_ok-size.ensures.ok, c.in_ok-size.ensures.fits))
+    ∙ (c.from-len.ensures ∙ c.in_ok-size.ensures.ok) in
     refused S (code.ok.0 ++ (size.ok.0 ++ t.taken)) _ _ _ _ c.from_residual-in_err-read_exact.result _ c.from_residual-in_err-read_exact.ensures.1
     (Takes-joined _ _ _ code.ok.0 (size.ok.0 ++ t.taken) _ refl code.ok.2 (Takes-joined _ _ _ size.ok.0 t.taken _ refl size.ok.2 t.takes))
     (stops_in_digest S _ _ code.ok.0 size.ok.0 code.ok.1 size.ok.1 _ t.taken _ _ _ _ c.in_ok-size.ensures.fits
@@ -54,12 +54,12 @@ returns g c =
     let code = c.in_ok-code.ensures in
     let size = c.in_ok-read.ensures in
     let digest = c.read_exact.new.buf in
-    let buffer = digest ++ drop c.from.result (replicate {A = ℕ} S 0) in
-    let is_size : IsVarint c.in_ok-size.size size.ok.0 = rw c.in_ok-size.ensures.ok size.ok.1 in
-    let long : length digest ≡ c.in_ok-size.size = search rules in
-    let front : take c.in_ok-size.size buffer ≡ digest = take_at digest _ _ long in
-    let within : c.in_ok-size.size ≤ digest_limit S = omega (arith, c.in_ok-size.ensures.ok, c.in_ok-size.ensures.fits) in
-    answered S (code.ok.0 ++ (size.ok.0 ++ digest)) _ _ _ _ (record { code = c.in_ok-code.code; size = c.in_ok-size.size; buffer = buffer })
+    let buffer = digest ++ drop c.from-len.result (replicate {A = ℕ} S 0) in
+    let is_size : IsVarint c.from-len.result size.ok.0 = rw (c.from-len.ensures ∙ c.in_ok-size.ensures.ok) size.ok.1 in
+    let long : length digest ≡ c.from-len.result = search rules in
+    let front : take c.from-len.result buffer ≡ digest = take_at digest _ _ long in
+    let within : c.from-len.result ≤ digest_limit S = omega (arith, c.from-len.ensures, c.in_ok-size.ensures.ok, c.in_ok-size.ensures.fits) in
+    answered S (code.ok.0 ++ (size.ok.0 ++ digest)) _ _ _ _ (record { code = c.in_ok-code.code; size = c.from-len.result; buffer = buffer })
     (c.in_ok-read_exact.ensures.laws.faults ∙ (size.faults ∙ code.faults))
     (encodes_fields S _ _ code.ok.0 size.ok.0 code.ok.1 is_size buffer digest front long)
     (fields_fit S _ _ code.ok.0 size.ok.0 code.ok.1 is_size buffer digest front long within)

@@ -1,60 +1,55 @@
-use Rattle.std.proofs.Common.{◌≡◌, ◌++◌, length, sym, ap, ◌∙◌, arith}
+use Rattle.std.proofs.Common.{◌++◌, length, refl, ◌∙◌, arith}
 use Rattle.multihash.specs.Encoding.{IsEncoding}
 use Rattle.multihash.specs.Answer.{pair_of}
 use Rattle.multihash.proofs.EncodingLemmas.{encoding_of, length-parts}
+use Rattle.multihash.proofs.VarintLemmas.{varint_exists}
 use Rattle.multihash.proofs.WritingLemmas.{AppendsPart-append, AppendsPart-joined, stopped}
 use Rattle.multihash.proofs.multihash.Multihash.write.Goals as goal
 
-pub returns-in_err-write_all-clause-err : goal.returns-in_err-write_all-clause-err
-returns-in_err-write_all-clause-err g c =
+pub returns-in_err-code-clause-err : goal.returns-in_err-code-clause-err
+returns-in_err-code-clause-err g c =
     let p = pair_of c.args.self.now in
-    let a = c.as_bytes.result.now in
-    let b = c.encode-size.result in
+    let a = c.in_err-code.ensures.err in
+    let b = varint_exists (length p.digest) (omega (arith, c.digest-digest.ensures.fits)) in
     let d = c.digest-digest.result.now in
-    stopped (IsEncoding p) _ _ _ _ (a ++ (b ++ d))
-    (encoding_of p _ _ d a b c.code.ensures (c.from.ensures ∙ c.size.ensures.size) c.digest-digest.ensures.digest
-    (rw c.as_bytes.ensures c.encode-code.ensures) c.encode-size.ensures)
-    (AppendsPart-append g.W.Write.appended _ _ a (b ++ d) c.in_err-write_all.ensures.laws.err)
+    stopped (IsEncoding p) _ _ _ _ (a.0 ++ (b.0 ++ d))
+    (encoding_of p _ _ d a.0 b.0 c.code.ensures refl c.digest-digest.ensures.digest a.1 b.1)
+    (AppendsPart-append g.W.Write.appended _ _ a.0 (b.0 ++ d) a.2)
 
-pub returns-in_err-write_all-2-clause-err : goal.returns-in_err-write_all-2-clause-err
-returns-in_err-write_all-2-clause-err g c =
+pub returns-in_err-size-clause-err : goal.returns-in_err-size-clause-err
+returns-in_err-size-clause-err g c =
     let appended = g.W.Write.appended in
     let p = pair_of c.args.self.now in
-    let a = c.as_bytes.result.now in
-    let b = c.as_bytes-2.result.now in
+    let a = c.in_ok-code.ensures.ok in
+    let b = c.in_err-size.ensures.err in
     let d = c.digest-digest.result.now in
-    stopped (IsEncoding p) _ _ _ _ (a ++ (b ++ d))
-    (encoding_of p _ _ d a b c.code.ensures (c.from.ensures ∙ c.size.ensures.size) c.digest-digest.ensures.digest
-    (rw c.as_bytes.ensures c.encode-code.ensures) (rw c.as_bytes-2.ensures c.encode-size.ensures))
-    (AppendsPart-joined appended g.met.W.Write.appends_joined _ _ _ a (b ++ d) c.in_ok-write_all.ensures.laws.ok
-    (AppendsPart-append appended _ _ b d c.in_err-write_all-2.ensures.laws.err))
+    stopped (IsEncoding p) _ _ _ _ (a.0 ++ (b.0 ++ d))
+    (encoding_of p _ _ d a.0 b.0 c.code.ensures (c.from.ensures ∙ c.size.ensures.size) c.digest-digest.ensures.digest a.1 b.1)
+    (AppendsPart-joined appended g.met.W.Write.appends_joined _ _ _ a.0 (b.0 ++ d) a.3
+    (AppendsPart-append appended _ _ b.0 d b.2))
 
-pub returns-in_err-write_all-3-clause-err : goal.returns-in_err-write_all-3-clause-err
-returns-in_err-write_all-3-clause-err g c =
+pub returns-in_err-write_all-clause-err : goal.returns-in_err-write_all-clause-err
+returns-in_err-write_all-clause-err g c =
     let appended = g.W.Write.appended in
     let join = g.met.W.Write.appends_joined in
     let p = pair_of c.args.self.now in
-    let a = c.as_bytes.result.now in
-    let b = c.as_bytes-2.result.now in
+    let a = c.in_ok-code.ensures.ok in
+    let b = c.in_ok-size.ensures.ok in
     let d = c.digest-digest.result.now in
-    stopped (IsEncoding p) _ _ _ _ (a ++ (b ++ d))
-    (encoding_of p _ _ d a b c.code.ensures (c.from.ensures ∙ c.size.ensures.size) c.digest-digest.ensures.digest
-    (rw c.as_bytes.ensures c.encode-code.ensures) (rw c.as_bytes-2.ensures c.encode-size.ensures))
-    (AppendsPart-joined appended join _ _ _ a (b ++ d) c.in_ok-write_all.ensures.laws.ok
-    (AppendsPart-joined appended join _ _ _ b d c.in_ok-write_all-2.ensures.laws.ok c.in_err-write_all-3.ensures.laws.err))
+    stopped (IsEncoding p) _ _ _ _ (a.0 ++ (b.0 ++ d))
+    (encoding_of p _ _ d a.0 b.0 c.code.ensures (c.from.ensures ∙ c.size.ensures.size) c.digest-digest.ensures.digest a.1 b.1)
+    (AppendsPart-joined appended join _ _ _ a.0 (b.0 ++ d) a.3
+    (AppendsPart-joined appended join _ _ _ b.0 d b.3 c.in_err-write_all.ensures.laws.err))
 
 pub returns-clause-ok : goal.returns-clause-ok
 returns-clause-ok g c =
     let join = g.met.W.Write.appends_joined in
     let p = pair_of c.args.self.now in
-    let a = c.as_bytes.result.now in
-    let b = c.as_bytes-2.result.now in
-    let d = c.digest-digest.result.now in
-    let same_code : c.as_bytes-3.result.now ≡ a = c.as_bytes-3.ensures ∙ sym c.as_bytes.ensures in
-    let same_size : c.as_bytes-4.result.now ≡ b = c.as_bytes-4.ensures ∙ sym c.as_bytes-2.ensures in (
-      a ++ (b ++ d),
-      encoding_of p _ _ d a b c.code.ensures (c.from.ensures ∙ c.size.ensures.size) c.digest-digest.ensures.digest
-          (rw c.as_bytes.ensures c.encode-code.ensures) (rw c.as_bytes-2.ensures c.encode-size.ensures),
-      omega (arith, ap length same_code, ap length same_size, length-parts a b d),
-      join _ _ _ a (b ++ d) c.in_ok-write_all.ensures.laws.ok (join _ _ _ b d c.in_ok-write_all-2.ensures.laws.ok c.in_ok-write_all-3.ensures.laws.ok),
+    let a = c.in_ok-code.ensures.ok in
+    let b = c.in_ok-size.ensures.ok in
+    let d = c.digest-digest.result.now in (
+      a.0 ++ (b.0 ++ d),
+      encoding_of p _ _ d a.0 b.0 c.code.ensures (c.from.ensures ∙ c.size.ensures.size) c.digest-digest.ensures.digest a.1 b.1,
+      omega (arith, a.2, b.2, length-parts a.0 b.0 d),
+      join _ _ _ a.0 (b.0 ++ d) a.3 (join _ _ _ b.0 d b.3 c.in_ok-write_all.ensures.laws.ok),
     )

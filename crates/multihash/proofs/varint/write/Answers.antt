@@ -1,0 +1,16 @@
+use Rattle.std.proofs.Common.{[], ◌∷◌, refl, arith, ap, length}
+use Rattle.multihash.specs.Varint.{IsVarint}
+use Rattle.multihash.proofs.VarintWriteLemmas.{one_byte}
+use Rattle.multihash.proofs.LengthLemmas.{varint_longest}
+use Rattle.multihash.proofs.WritingLemmas.{stopped}
+use Rattle.multihash.proofs.varint.write.Goals as goal
+
+pub returns-in_err-write_all-clause-err : goal.returns-in_err-write_all-clause-err
+returns-in_err-write_all-clause-err g c =
+    stopped (IsVarint c.args.n) _ _ _ _ (c.args.n ∷ []) (one_byte c.args.n c.if-n-lt128.true) c.in_err-write_all.ensures.laws.err
+
+pub returns-then-n-lt128-clause-ok : goal.returns-then-n-lt128-clause-ok
+returns-then-n-lt128-clause-ok g c = (c.args.n ∷ [], one_byte c.args.n c.if-n-lt128.true, refl, c.in_ok-write_all.ensures.laws.ok)
+
+pub returns-clause-short : goal.returns-clause-short
+returns-clause-short g c = omega (arith, ap length c.as_bytes-2.ensures, varint_longest _ _ c.encode-varint.ensures)
