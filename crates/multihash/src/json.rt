@@ -26,7 +26,7 @@ impl<const S: usize> Multihash<S> {
         let bytes = self.to_bytes(alloc)?;
         let mut members = Vec::with_capacity(alloc, bytes.len())?;
         for byte in &bytes {
-            members.push(Value::from(*byte)).unwrap();
+            members.push_reserved(Value::from(*byte));
         }
         Ok(Value::Array(members))
     }

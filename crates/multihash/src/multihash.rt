@@ -2,9 +2,9 @@
 ghost use Rattle.std.specs.Prelude.{◌≡◌, ◌==◌, ◌<◌, ◌≤◌, ◌-◌, ◌⊎◌, ◌↔◌, ℕ, List, [], ◌++◌, length, replicate, Some, IfSome, IfOk, IfErr, OnOk, OnErr, IsErr, IsTrue};
 ghost use Rattle.std.proofs.Common.{rules};
 ghost use Rattle.std.specs.Cmp.{partial_order_from_own_ties};
-ghost use Rattle.std.specs.Cmp.Lexicographic.{pointwise};
+ghost use Rattle.std.specs.Cmp.Lexicographic.{pointwise, slice_cmp};
 ghost use Rattle.std.specs.Cmp.Rules.{comparing, hashing};
-ghost use Rattle.std.specs.Ordering.{on, as_partial_cmp};
+ghost use Rattle.std.specs.Ordering.{nat_cmp, on, as_partial_cmp};
 ghost use Rattle.multihash.specs.Bytes.{IsBytes};
 ghost use Rattle.multihash.specs.Pair.{IsPair, IsSame, digest_limit, truncated, FitsBuffer};
 ghost use Rattle.multihash.specs.Order.{Compares};
@@ -342,6 +342,19 @@ fn same_bytes(a: &[u8], b: &[u8]) -> bool
     a == b
 }
 
+// How the bytes compare. The usual length is compared as a whole, with no loop.
+#[inline(always)]
+fn order_of_bytes(a: &[u8], b: &[u8]) -> Ordering
+    ensures { result ≡ slice_cmp nat_cmp a.now b.now }
+{
+    if a.len() == 32 && b.len() == 32 {
+        if let (Some(whole), Some(other)) = (a.first_chunk::<32>(), b.first_chunk::<32>()) {
+            return whole.cmp(other);
+        }
+    }
+    a.cmp(b)
+}
+
 /// The code 0 and the empty digest.
 impl<const S: usize> Default for Multihash<S> {
     ghost is_default = { λ m. pair_of m ≡ record { code = 0; digest = [] } };
@@ -389,7 +402,10 @@ impl<const S: usize> Ord for Multihash<S> {
         ensures computes { result ≡ compare_pairs (pair_of self.now) (pair_of other.now) }
         ensures order { Compares (pair_of self.now) (pair_of other.now) result }
     {
-        (self.code, self.size, self.digest()).cmp(&(other.code, other.size, other.digest()))
+        match (self.code, self.size).cmp(&(other.code, other.size)) {
+            Ordering::Equal => order_of_bytes(self.digest(), other.digest()),
+            unequal => unequal,
+        }
     }
 }
 
