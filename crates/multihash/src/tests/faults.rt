@@ -155,6 +155,34 @@ fn a_reader_is_read_on_after_a_fault(rt: HostRuntime) -> Result<(), Fail> {
     Ok(())
 }
 
+// A refused form, and how many multihashes of a list it is the end of.
+const REFUSED: [(Form, &[u8]); 6] = [
+    (Form::Binary, &[0, 5]),
+    (Form::Binary, &[128, 0]),
+    (
+        Form::Binary,
+        &[255, 255, 255, 255, 255, 255, 255, 255, 255, 2],
+    ),
+    (Form::Scale, &[0, 0, 0, 0, 0, 0, 0, 0, 5]),
+    (Form::List, &[0, 5]),
+    (Form::List, &[0, 1, 65, 128, 0]),
+];
+
+#[test]
+fn a_reader_is_read_on_after_a_refusal(rt: HostRuntime) -> Result<(), Fail> {
+    for (form, refused) in REFUSED {
+        let mut input = Vec::new(rt.alloc());
+        assert!(rt; input.write_all(refused).is_ok());
+        assert!(rt; input.write_all(form.and_more()).is_ok());
+        let mut left = input.as_slice();
+        assert!(rt; form.reads(rt.alloc(), &mut left).is_err(), "{refused:?}");
+        assert_eq!(rt; left, form.and_more());
+        assert!(rt; form.reads(rt.alloc(), &mut left)?, "{refused:?}");
+        assert_eq!(rt; left, [9].as_slice());
+    }
+    Ok(())
+}
+
 #[test]
 fn every_beginning_ends_early(rt: HostRuntime) {
     for form in Form::ALL {
