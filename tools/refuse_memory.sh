@@ -52,6 +52,11 @@ refuse() {
     while [ $met = yes ] && [ $n -lt $most ]; do
         n=$((n + 1)) met=no
         (cd "crates/$crate" && rt try --test --fail-alloc $n) >"$out.run" 2>&1
+        if ! grep -q '^test result: ' "$out.run"; then
+            echo "failed: $crate: no tests ran"
+            tail -n 20 "$out.run"
+            return
+        fi
         while read -r test wanted; do
             answer=$(outcome "$out.run" "$test")
             echo "$test $answer" >>"$out.outcomes"
