@@ -13,8 +13,8 @@ use std::fmt::Write;
 ///
 /// # Errors
 ///
-/// A list with other columns, a line that is malformed or has a size of buffer that no list has, want
-/// of memory, and what the writer answers.
+/// A list with other columns or with no line below them, a line that is malformed, told with its number,
+/// or that has a size of buffer that no list has, want of memory, and what the writer answers.
 pub fn replay<W: Write>(alloc: Global, list: &str, report: &mut W) -> Result<bool> {
     replay_lines(&parse(alloc, list)?, report)
 }
@@ -35,10 +35,11 @@ fn parse(alloc: Global, list: &str) -> Result<Vec<Line>> {
     let mut texts = list.lines();
     ensure!(texts.next() == Some(COLUMNS), "a list with other columns");
     let mut lines = Vec::new(alloc);
-    for text in texts {
-        let line = Line::parse(alloc, text).context(format_args!("the line {text:?}"))?;
+    for (number, text) in (2u64..).zip(texts) {
+        let line = Line::parse(alloc, text).context(format_args!("line {number}, {text:?}"))?;
         lines.push(line)?;
     }
+    ensure!(!lines.is_empty(), "a list of no lines");
     Ok(lines)
 }
 

@@ -190,26 +190,6 @@ fn first_fault_first(rt: HostRuntime) -> Result<(), Fail> {
     Ok(())
 }
 
-// Passes also where a request for memory is refused.
-fn expect_or_memory<R: Abort + AllocGlobal>(
-    rt: &R,
-    text: &[u8],
-    status: u8,
-    lines: &[u8],
-    line: &[u8],
-) {
-    let (mut out, mut err) = (Page::new(), Page::new());
-    let answered = run(rt.alloc(), &mut Drip::new(text, 9), &mut out, &mut err);
-    if err.written() == OUT_OF_MEMORY {
-        assert_eq!(rt; answered, 1);
-        assert_eq!(rt; out.written(), b"".as_slice());
-    } else {
-        assert_eq!(rt; answered, status);
-        assert_eq!(rt; out.written(), lines);
-        assert_eq!(rt; err.written(), line);
-    }
-}
-
 #[test]
 fn appends_to_a_vector(rt: HostRuntime) -> Result<(), Fail> {
     let (mut out, mut err) = (Vec::new(rt.alloc()), Vec::new(rt.alloc()));
@@ -224,20 +204,51 @@ fn appends_to_a_vector(rt: HostRuntime) -> Result<(), Fail> {
     Ok(())
 }
 
-#[test]
-fn each_request_refused(rt: HostRuntime) -> Result<(), Fail> {
-    expect_or_memory(&rt, EXAMPLE, 0, EXAMPLE_LINES, b"");
+// A `refused` test passes where nothing is refused. Where a request is, it looks at what stands then,
+// and fails so: `tools/refuse_memory.sh` refuses each request in turn, and counts them.
+const REFUSED: &str = "memory was refused";
+
+// A run over slices. Where memory was refused, nothing is shown, and a line says so.
+fn expect_unless_refused<R: Abort + AllocGlobal>(
+    rt: &R,
+    text: &[u8],
+    wanted: (u8, &[u8], &[u8]),
+) -> Result<(), Fail> {
+    let (mut out, mut err) = ([0u8; 128], [0u8; 128]);
+    let (mut out_left, mut err_left) = (out.as_mut_slice(), err.as_mut_slice());
+    let status = run(rt.alloc(), &mut &text[..], &mut out_left, &mut err_left);
+    let (shown, told) = (128 - out_left.len(), 128 - err_left.len());
+    let answer = (status, &out[..shown], &err[..told]);
+    if answer == (1, b"", OUT_OF_MEMORY) {
+        Err(REFUSED)?;
+    }
+    assert_eq!(rt; answer, wanted);
     Ok(())
 }
 
 #[test]
-fn each_request_of_a_refusal_refused(rt: HostRuntime) -> Result<(), Fail> {
-    expect_or_memory(
-        &rt,
-        b"0041",
-        1,
-        b"",
-        b"mh_show: Invalid multihash size 65.\n",
-    );
+fn refused_run_of_the_example(rt: HostRuntime) -> Result<(), Fail> {
+    expect_unless_refused(&rt, EXAMPLE, (0, EXAMPLE_LINES, b""))
+}
+
+#[test]
+fn refused_run_of_a_refusal(rt: HostRuntime) -> Result<(), Fail> {
+    let line = b"mh_show: Invalid multihash size 65.\n";
+    expect_unless_refused(&rt, b"0041", (1, b"", line))
+}
+
+// The room for the input is asked for before it is read: one request can be refused with no read.
+#[test]
+fn refused_before_a_read(rt: HostRuntime) -> Result<(), Fail> {
+    let (mut out, mut err) = (Page::new(), Page::new());
+    let mut broken = Drip::failing(b"", ErrorKind::NotConnected);
+    let status = run(rt.alloc(), &mut broken, &mut out, &mut err);
+    assert_eq!(rt; status, 1);
+    assert_eq!(rt; out.calls, 0);
+    if broken.calls == 0 {
+        assert_eq!(rt; err.written(), OUT_OF_MEMORY);
+        Err(REFUSED)?;
+    }
+    assert_eq!(rt; broken.calls, 1);
     Ok(())
 }

@@ -17,25 +17,36 @@ fn refuses_a_longer_digest(rt: HostRuntime) -> Result<(), Fail> {
     let mut text = [b'0'; 262];
     text[..6].copy_from_slice(b"008001");
     match show(rt.alloc(), &text) {
-        Err(ShowError::Refused(e)) => assert_eq!(rt; e.invalid_size(), Some(128)),
+        Err(ShowError::Refused(e)) => {
+            assert_eq!(rt; e.invalid_size(), Some(128));
+            let text = format!(in rt.alloc(); "{e}")?;
+            assert_eq!(rt; text.as_str(), "Invalid multihash size 128.");
+        }
         Err(_e) => assert!(rt; false),
         Ok(_lines) => assert!(rt; false),
     }
     Ok(())
 }
 
-// Passes also where a request for memory is refused.
+// A `refused` test passes where nothing is refused. Where a request is, it looks at what stands then,
+// and fails so: `tools/refuse_memory.sh` refuses each request in turn, and counts them.
+const REFUSED: &str = "memory was refused";
+
 #[test]
-fn each_request_of_show_refused(rt: HostRuntime) -> Result<(), Fail> {
+fn refused_show(rt: HostRuntime) -> Result<(), Fail> {
     match show(rt.alloc(), b"1603AABBCC\n") {
         Ok(lines) => assert_eq!(rt; lines.as_str(), "code 22\nsize 3\ndigest aabbcc\n"),
-        Err(e) => assert!(rt; matches!(&e, ShowError::Memory)),
+        Err(e) => {
+            assert!(rt; matches!(&e, ShowError::Memory));
+            Err(REFUSED)?;
+        }
     }
     Ok(())
 }
 
+// Passes also where each request is refused.
 #[test]
-fn an_odd_line_takes_no_memory(rt: HostRuntime) -> Result<(), Fail> {
+fn an_odd_line_needs_no_memory(rt: HostRuntime) -> Result<(), Fail> {
     assert!(rt; matches!(show(rt.alloc(), b"0"), Err(ShowError::NotHex)));
     assert!(rt; matches!(show(rt.alloc(), b"0\n"), Err(ShowError::NotHex)));
     Ok(())

@@ -45,8 +45,16 @@ fn beginnings_of_a_long_encoding(rt: HostRuntime) -> Result<(), Fail> {
             is_eof(&e)
         });
         assert!(rt; is_early, "{len} bytes");
+        let answer = Multihash::<200>::read(&mut &bytes[..len]);
+        let is_early = answer.is_err_and(|e| if len < 4 {
+            e.is_insufficient()
+        } else {
+            is_eof(&e)
+        });
+        assert!(rt; is_early, "{len} bytes");
     }
     assert_eq!(rt; Multihash::from_bytes(&bytes)?, m);
+    assert_eq!(rt; Multihash::read(&mut bytes.as_slice())?, m);
     Ok(())
 }
 

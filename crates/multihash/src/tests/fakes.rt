@@ -1,5 +1,5 @@
 //! Readers and writers that cut, fail, keep their bytes to themselves or count what they are asked.
-ghost use Rattle.std.specs.Prelude.{◌≡◌, ◌<◌, ◌≤◌, ◌+◌, Some, None, false, length, vec_len, vec_capacity, if◌then◌else◌};
+ghost use Rattle.std.specs.Prelude.{◌≡◌, ◌<◌, ◌≤◌, ◌+◌, Some, None, true, false, length, vec_len, vec_capacity, if◌then◌else◌};
 ghost use Rattle.multihash.specs.Places.{AppendsAtEnd, AppendsAtEnd-none, AppendsAtEnd-joined};
 
 use crate::no_std_io::{Error, Read, Write};
@@ -39,6 +39,8 @@ impl Read for Cuts<'_> {
 #[derive(Drop)]
 pub struct FailAt<'a> {
     pub cuts: Cuts<'a>,
+    /// How often it was asked.
+    pub asked: usize,
     calls: usize,
     wants_memory: bool,
     failed: bool,
@@ -49,6 +51,7 @@ impl<'a> FailAt<'a> {
     pub fn new(cuts: Cuts<'a>, calls: usize) -> Self {
         FailAt {
             cuts,
+            asked: 0,
             calls,
             wants_memory: false,
             failed: false,
@@ -59,6 +62,7 @@ impl<'a> FailAt<'a> {
     pub fn out_of_memory(cuts: Cuts<'a>, calls: usize) -> Self {
         FailAt {
             cuts,
+            asked: 0,
             calls,
             wants_memory: true,
             failed: false,
@@ -72,6 +76,7 @@ impl Read for FailAt<'_> {
     ghost failures = { λ f. (if f.failed then 1 else 0) };
 
     fn read(&mut self, buf: &mut [u8]) -> Result<usize, Error> {
+        self.asked = self.asked.saturating_add(1);
         if self.calls > 0 {
             self.calls -= 1;
         } else if !self.failed {
@@ -99,7 +104,8 @@ impl Read for Silent<'_> {
     }
 }
 
-/// A telling reader over a slice, which counts what it is asked.
+/// A telling reader over a slice, which counts what it is asked. It may fail once, after `calls` calls
+/// of either kind that did not.
 #[derive(Drop)]
 pub struct Counts<'a> {
     pub left: &'a [u8],
@@ -109,6 +115,8 @@ pub struct Counts<'a> {
     pub others: usize,
     /// The calls of `read_exact`.
     pub whole: usize,
+    calls: usize,
+    may_fail: bool,
 }
 
 impl<'a> Counts<'a> {
@@ -118,14 +126,33 @@ impl<'a> Counts<'a> {
             single: 0,
             others: 0,
             whole: 0,
+            calls: 0,
+            may_fail: false,
         }
+    }
+
+    /// Fails with an error of its own.
+    pub fn failing(left: &'a [u8], calls: usize) -> Self {
+        Counts {
+            left,
+            single: 0,
+            others: 0,
+            whole: 0,
+            calls,
+            may_fail: true,
+        }
+    }
+
+    /// The calls of `read` for one byte, those for more or none, and those of `read_exact`.
+    pub fn asked(&self) -> (usize, usize, usize) {
+        (self.single, self.others, self.whole)
     }
 }
 
 impl Read for Counts<'_> {
     ghost rest = { λ c. Some c.left.now };
 
-    ghost failures = { λ _. 0 };
+    ghost failures = { λ c. (if c.may_fail then 0 else 1) };
 
     fn read(&mut self, buf: &mut [u8]) -> Result<usize, Error> {
         if buf.len() == 1 {
@@ -133,11 +160,23 @@ impl Read for Counts<'_> {
         } else {
             self.others = self.others.saturating_add(1);
         }
+        if self.calls > 0 {
+            self.calls -= 1;
+        } else if self.may_fail {
+            self.may_fail = false;
+            return Err(Error::other("link down"));
+        }
         self.left.read(buf)
     }
 
     fn read_exact(&mut self, buf: &mut [u8]) -> Result<(), Error> {
         self.whole = self.whole.saturating_add(1);
+        if self.calls > 0 {
+            self.calls -= 1;
+        } else if self.may_fail {
+            self.may_fail = false;
+            return Err(Error::other("link down"));
+        }
         self.left.read_exact(buf)
     }
 }
@@ -147,6 +186,8 @@ impl Read for Counts<'_> {
 #[derive(Drop)]
 pub struct Drip {
     pub held: Vec<u8>,
+    /// How often it was asked.
+    pub asked: usize,
     room: usize,
     most: usize,
     ghost reserved: { vec_len held + room ≤ vec_capacity held },
@@ -159,6 +200,7 @@ impl Drip {
     {
         Ok(Drip {
             held: Vec::with_capacity(alloc, room)?,
+            asked: 0,
             room,
             most,
         })
@@ -181,6 +223,7 @@ impl Write for Drip {
     ghost appends_joined = { λ a b c x y first second. AppendsAtEnd-joined a.held.items b.held.items c.held.items x y first second };
 
     fn write(&mut self, buf: &[u8]) -> Result<usize, Error> {
+        self.asked = self.asked.saturating_add(1);
         let n = buf.len().min(self.most).min(self.room);
         self.held.extend_from_slice(&buf[..n]).unwrap();
         self.room -= n;
@@ -192,15 +235,32 @@ impl Write for Drip {
 #[derive(Drop)]
 pub struct FailWrite {
     pub drip: Drip,
+    /// How often it was asked.
+    pub asked: usize,
     calls: usize,
+    wants_memory: bool,
     failed: bool,
 }
 
 impl FailWrite {
+    /// Fails with an error of its own.
     pub fn new(drip: Drip, calls: usize) -> Self {
         FailWrite {
             drip,
+            asked: 0,
             calls,
+            wants_memory: false,
+            failed: false,
+        }
+    }
+
+    /// Fails with want of memory.
+    pub fn out_of_memory(drip: Drip, calls: usize) -> Self {
+        FailWrite {
+            drip,
+            asked: 0,
+            calls,
+            wants_memory: true,
             failed: false,
         }
     }
@@ -222,12 +282,90 @@ impl Write for FailWrite {
     ghost appends_joined = { λ a b c x y first second. AppendsAtEnd-joined a.drip.held.items b.drip.held.items c.drip.held.items x y first second };
 
     fn write(&mut self, buf: &[u8]) -> Result<usize, Error> {
+        self.asked = self.asked.saturating_add(1);
         if self.calls > 0 {
             self.calls -= 1;
         } else if !self.failed {
             self.failed = true;
+            if self.wants_memory {
+                return Err(Error::out_of_memory());
+            }
             return Err(Error::other("disk gone"));
         }
         self.drip.write(buf)
+    }
+}
+
+/// A vector as a writer, which counts what it is asked. It may fail once, after `calls` calls of
+/// either kind that did not.
+#[derive(Drop)]
+pub struct CountsWrites {
+    pub held: Vec<u8>,
+    /// The calls of `write`.
+    pub parts: usize,
+    /// The calls of `write_all`.
+    pub whole: usize,
+    calls: usize,
+    may_fail: bool,
+}
+
+impl CountsWrites {
+    pub fn new(alloc: Global) -> Self {
+        CountsWrites {
+            held: Vec::new(alloc),
+            parts: 0,
+            whole: 0,
+            calls: 0,
+            may_fail: false,
+        }
+    }
+
+    /// Fails with an error of its own.
+    pub fn failing(alloc: Global, calls: usize) -> Self {
+        CountsWrites {
+            held: Vec::new(alloc),
+            parts: 0,
+            whole: 0,
+            calls,
+            may_fail: true,
+        }
+    }
+}
+
+impl Write for CountsWrites {
+    const ALLOCATES: bool = true;
+
+    ghost allocates = { true };
+
+    ghost appended = { λ old bytes new. AppendsAtEnd old.held.items bytes new.held.items };
+
+    ghost full = { λ _. ⊥ };
+
+    ghost failures = { λ w. (if w.may_fail then 0 else 1) };
+
+    ghost appends_nothing = { λ w. AppendsAtEnd-none w.held.items };
+
+    ghost appends_joined = { λ a b c x y first second. AppendsAtEnd-joined a.held.items b.held.items c.held.items x y first second };
+
+    fn write(&mut self, buf: &[u8]) -> Result<usize, Error> {
+        self.parts = self.parts.saturating_add(1);
+        if self.calls > 0 {
+            self.calls -= 1;
+        } else if self.may_fail {
+            self.may_fail = false;
+            return Err(Error::other("disk gone"));
+        }
+        self.held.write(buf)
+    }
+
+    fn write_all(&mut self, buf: &[u8]) -> Result<(), Error> {
+        self.whole = self.whole.saturating_add(1);
+        if self.calls > 0 {
+            self.calls -= 1;
+        } else if self.may_fail {
+            self.may_fail = false;
+            return Err(Error::other("disk gone"));
+        }
+        self.held.write_all(buf)
     }
 }

@@ -84,6 +84,8 @@ fn other_values_are_no_bytes(rt: HostRuntime) -> Result<(), Fail> {
     ] {
         let answer = read_text::<32>(rt.alloc(), text)?;
         assert!(rt; answer.is_err_and(|e| e.is_not_bytes()), "{text}");
+        let answer = read_text::<2>(rt.alloc(), text)?;
+        assert!(rt; answer.is_err_and(|e| e.is_not_bytes()), "{text}");
     }
     Ok(())
 }
@@ -132,14 +134,18 @@ fn after_zero(alloc: Global, value: Value) -> Result<Value, AllocError> {
     Ok(Value::Array(members))
 }
 
+fn is_no_bytes<const S: usize>(value: &Value) -> bool {
+    Multihash::<S>::from_value(value).is_err_and(|e| e.is_not_bytes())
+}
+
 #[test]
 fn only_small_whole_numbers_are_bytes(rt: HostRuntime) -> Result<(), Fail> {
     for value in kinds(rt.alloc())? {
-        let alone = Multihash::<255>::from_value(&value);
-        assert!(rt; alone.is_err_and(|e| e.is_not_bytes()));
+        assert!(rt; is_no_bytes::<2>(&value) && is_no_bytes::<32>(&value));
+        assert!(rt; is_no_bytes::<255>(&value), "{value:?}");
         let second = after_zero(rt.alloc(), value)?;
-        let answer = Multihash::<255>::from_value(&second);
-        assert!(rt; answer.is_err_and(|e| e.is_not_bytes()));
+        assert!(rt; is_no_bytes::<2>(&second) && is_no_bytes::<32>(&second));
+        assert!(rt; is_no_bytes::<255>(&second), "{second:?}");
     }
     for n in 0u16..256 {
         let alone = Multihash::<255>::from_value(&Value::from(n));

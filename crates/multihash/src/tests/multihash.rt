@@ -54,6 +54,8 @@ fn ten_bytes_of_a_code(rt: HostRuntime) -> Result<(), Fail> {
     assert!(rt; too_large.is_err_and(|e| e.is_overflow()));
     let padded = Multihash::<4>::from_bytes(&ten_bytes_and_zero(128, 0));
     assert!(rt; padded.is_err_and(|e| e.is_not_minimal()));
+    let padded_alone = Multihash::<4>::from_bytes(&ten_bytes_and_zero(128, 0)[..10]);
+    assert!(rt; padded_alone.is_err_and(|e| e.is_not_minimal()));
     let marked = Multihash::<4>::from_bytes(&[128; 10]);
     assert!(rt; marked.is_err_and(|e| e.is_overflow()));
     let largest = Multihash::<4>::from_bytes(&ten_bytes_and_zero(128, 1))?;
@@ -198,7 +200,7 @@ fn a_buffer_of_no_places(rt: HostRuntime) -> Result<(), Fail> {
 }
 
 #[test]
-fn to_bytes_asks_once(rt: HostRuntime) -> Result<(), Fail> {
+fn to_bytes_fills_its_room(rt: HostRuntime) -> Result<(), Fail> {
     for digest in [[].as_slice(), b"A", b"foobar", &[7; 200]] {
         let m = Multihash::<255>::wrap(300, digest)?;
         let bytes = m.to_bytes(rt.alloc())?;

@@ -22,6 +22,9 @@ fn a_text_in_two_buffers(rt: HostRuntime) -> Result<(), Fail> {
     assert_eq!(rt; large.scale_encode(&mut bytes)?, 20);
     assert_eq!(rt; &bytes[..20], HELLO.as_slice());
     assert_eq!(rt; &bytes[20..], HELLO.as_slice());
+    let mut alone = Vec::new(rt.alloc());
+    assert_eq!(rt; large.scale_encode(&mut alone)?, 20);
+    assert_eq!(rt; alone.as_slice(), HELLO.as_slice());
     let mut left = bytes.as_slice();
     assert_eq!(rt; Multihash::scale_decode(&mut left)?, small);
     assert_eq!(rt; Multihash::scale_decode(&mut left)?, large);

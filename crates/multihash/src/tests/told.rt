@@ -1,8 +1,8 @@
 //! What the readers and writers for tests tell to contracts.
-ghost use Rattle.std.specs.Prelude.{◌≡◌, ◌↔◌, ℕ, List, Some, None, false, if◌then◌else◌};
+ghost use Rattle.std.specs.Prelude.{◌≡◌, ◌↔◌, ℕ, List, Some, None, true, false, if◌then◌else◌};
 ghost use Rattle.multihash.specs.Places.{AppendsAtEnd};
 
-use super::fakes::{Counts, Cuts, Drip, FailAt, FailWrite, Silent};
+use super::fakes::{Counts, CountsWrites, Cuts, Drip, FailAt, FailWrite, Silent};
 use crate::no_std_io::{Read, Write};
 
 fn cuts(c: &Cuts)
@@ -22,7 +22,7 @@ fn silent(s: &Silent)
 
 fn counts(c: &Counts)
     ensures rest { ⟦<Counts<'static> as Read>⟧.rest c.now ≡ Some c.now.left.now }
-    ensures failures { ⟦<Counts<'static> as Read>⟧.failures c.now ≡ 0 }
+    ensures failures { ⟦<Counts<'static> as Read>⟧.failures c.now ≡ (if c.now.may_fail then 0 else 1) }
 {}
 
 fn drip(d: &Drip, e: &Drip)
@@ -39,4 +39,12 @@ fn fail_write(f: &FailWrite, g: &FailWrite)
         ⟦<FailWrite as Write>⟧.appended f.now bytes g.now ↔ AppendsAtEnd f.now.drip.held.items bytes g.now.drip.held.items }
     ensures full { ⟦<FailWrite as Write>⟧.full f.now ↔ (f.now.drip.room ≡ 0) }
     ensures failures { ⟦<FailWrite as Write>⟧.failures f.now ≡ (if f.now.failed then 1 else 0) }
+{}
+
+fn counts_writes(v: &CountsWrites, w: &CountsWrites)
+    ensures allocates { ⟦<CountsWrites as Write>⟧.allocates ≡ true }
+    ensures appended { (bytes : List ℕ) →
+        ⟦<CountsWrites as Write>⟧.appended v.now bytes w.now ↔ AppendsAtEnd v.now.held.items bytes w.now.held.items }
+    ensures full { ¬ (⟦<CountsWrites as Write>⟧.full v.now) }
+    ensures failures { ⟦<CountsWrites as Write>⟧.failures v.now ≡ (if v.now.may_fail then 0 else 1) }
 {}

@@ -26,6 +26,14 @@ fn defaults_are_empty(rt: HostRuntime) -> Result<(), Fail> {
 }
 
 #[test]
+fn a_clone_is_the_same(rt: HostRuntime) -> Result<(), Fail> {
+    let m = Multihash::<4>::wrap(18, b"AB")?;
+    assert_eq!(rt; m.clone()?, m);
+    assert_eq!(rt; m.clone()?.code(), 18);
+    Ok(())
+}
+
+#[test]
 fn a_digest_is_cut(rt: HostRuntime) -> Result<(), Fail> {
     let m = Multihash::<64>::wrap(0, b"foobar")?;
     let cut = m.truncate(3);

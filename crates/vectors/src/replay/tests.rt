@@ -217,9 +217,72 @@ fn refuses_malformed_lines(rt: HostRuntime) -> Result<(), Fail> {
             replay(rt.alloc(), list.as_str(), &mut report).is_err(),
             "{line}"
         );
+        assert!(rt; report.is_empty());
     }
-    let mut report = String::new(rt.alloc());
-    assert!(rt; replay(rt.alloc(), "S\tinput\n", &mut report).is_err());
-    assert!(rt; replay(rt.alloc(), "", &mut report).is_err());
+    Ok(())
+}
+
+const GOOD: &str = "4\t390286ce\tpair 57 86ce\t4\tpair 57 86ce\tunexpected_eof\t-";
+
+// The refusal of a list, and its causes, or nothing where it is none.
+fn refusal_of(alloc: Global, list: &str) -> Result<String> {
+    let mut report = String::new(alloc);
+    match replay(alloc, list, &mut report) {
+        Ok(_) => Ok(String::new(alloc)),
+        Err(e) => Ok(format!(in alloc; "{e:#}")?),
+    }
+}
+
+#[test]
+fn refuses_other_lists(rt: HostRuntime) -> Result<(), Fail> {
+    let alloc = rt.alloc();
+    for list in [
+        format!(in alloc; "")?,
+        format!(in alloc; "S\tinput\n")?,
+        format!(in alloc; "{COLUMNS}\tmore\n{GOOD}\n")?,
+        format!(in alloc; "{COLUMNS} \n{GOOD}\n")?,
+        format!(in alloc; "{GOOD}\n")?,
+    ] {
+        let told = refusal_of(alloc, list.as_str())?;
+        assert_eq!(rt; told.as_str(), "a list with other columns");
+    }
+    for list in [
+        format!(in alloc; "{COLUMNS}")?,
+        format!(in alloc; "{COLUMNS}\n")?,
+    ] {
+        assert_eq!(rt;
+            refusal_of(alloc, list.as_str())?.as_str(),
+            "a list of no lines"
+        );
+    }
+    Ok(())
+}
+
+#[test]
+fn tells_the_number_of_a_malformed_line(rt: HostRuntime) -> Result<(), Fail> {
+    let alloc = rt.alloc();
+    let eight = format!(in alloc; "{GOOD}\t-")?;
+    let list = format!(in alloc; "{COLUMNS}\n{eight}\n")?;
+    let told = refusal_of(alloc, list.as_str())?;
+    assert!(rt; told.as_str().starts_with("line 2, "), "{told}");
+    assert!(rt; told.as_str().ends_with(": 8 columns"), "{told}");
+    let list = format!(in alloc; "{COLUMNS}\n{GOOD}\n{GOOD}\n{eight}\n{GOOD}\n")?;
+    let told = refusal_of(alloc, list.as_str())?;
+    assert!(rt; told.as_str().starts_with("line 4, "), "{told}");
+    assert!(rt; told.as_str().ends_with(": 8 columns"), "{told}");
+    // A blank behind a word of the verdict, of a number and of the bytes, and a line that is empty.
+    for line in [
+        "1\t80\tinsufficient \t-\tinsufficient\tunexpected_eof\t-",
+        "4\t390286ce\tpair 57 86ce\t4 \tpair 57 86ce\tunexpected_eof\t-",
+        "4\t390286ce\tpair 57 86ce \t4\tpair 57 86ce\tunexpected_eof\t-",
+        "4\t390286ce \tpair 57 86ce\t4\tpair 57 86ce\tunexpected_eof\t-",
+        "4 \t390286ce\tpair 57 86ce\t4\tpair 57 86ce\tunexpected_eof\t-",
+        "4\t390286ce\tpair 57 86ce\t4\tpair 57 86ce\tunexpected_eof\t- ",
+        "",
+    ] {
+        let list = format!(in alloc; "{COLUMNS}\n{GOOD}\n{line}\n{GOOD}\n")?;
+        let told = refusal_of(alloc, list.as_str())?;
+        assert!(rt; told.as_str().starts_with("line 3, "), "{line}: {told}");
+    }
     Ok(())
 }
