@@ -6,6 +6,7 @@ ghost use Rattle.std.specs.Cmp.Lexicographic.{pointwise, slice_cmp};
 ghost use Rattle.std.specs.Cmp.Rules.{comparing, hashing};
 ghost use Rattle.std.specs.Ordering.{nat_cmp, on, as_partial_cmp};
 ghost use Rattle.multihash.specs.Bytes.{IsBytes};
+ghost use Rattle.multihash.specs.Varint.{varint_limit};
 ghost use Rattle.multihash.specs.Pair.{IsPair, IsSame, digest_limit, truncated, FitsBuffer};
 ghost use Rattle.multihash.specs.Order.{Compares};
 ghost use Rattle.multihash.specs.Comparing.{equal_pairs, compare_pairs, hashed_pair};
@@ -40,20 +41,31 @@ pub struct Multihash<const S: usize> {
     digest: [u8; S],
     // A machine word, so that no padding is copied behind the digest.
     size: usize,
+    // Facts that the fields keep, and that contracts know of every value.
+    ghost in_range: { code < varint_limit },
+    ghost fits: { size ≤ digest_limit S },
 }
 
 impl<const S: usize> Model for Multihash<S> {
-    ghost use Rattle.std.specs.Prelude.{◌≤◌};
-    ghost use Rattle.multihash.specs.Pair.{digest_limit};
     ghost use Rattle.multihash.specs.Answer.{Fields};
 
-    ghost Value = { Fields };
+    ghost Value = { Fields S };
 
-    ghost view = { λ m. record { code = m.code; size = m.size; buffer = m.digest } };
+    ghost view = { λ m. record {
+        code = m.code;
+        size = m.size;
+        buffer = m.digest;
+        in_range = m.in_range;
+        fits = m.fits;
+    } };
 
-    ghost invariant = { λ m. m.size ≤ digest_limit S };
-
-    ghost inverse = { λ fields. record { code = fields.code; size = fields.size; digest = fields.buffer } };
+    ghost inverse = { λ fields. record {
+        code = fields.code;
+        size = fields.size;
+        digest = fields.buffer;
+        in_range = fields.in_range;
+        fits = fields.fits;
+    } };
 }
 
 impl<const S: usize> Multihash<S> {
@@ -128,7 +140,6 @@ impl<const S: usize> Multihash<S> {
     {
         let digest = &self.digest[..self.size];
         are_bytes(digest);
-        let _value = self.code;
         digest
     }
 
@@ -266,8 +277,9 @@ impl<const S: usize> Multihash<S> {
         ensures { pair_of result ≡ truncated size (pair_of self.now) }
     {
         Multihash {
+            code: self.code,
+            digest: self.digest,
             size: self.size.min(usize::from(size)),
-            ..*self
         }
     }
 
@@ -432,6 +444,7 @@ impl<const S: usize> Hash for Multihash<S> {
 }
 
 // Each number of a slice of bytes is a byte.
+#[inline(always)]
 fn are_bytes(bytes: &[u8])
     ensures { IsBytes bytes.now }
 {}
