@@ -116,13 +116,13 @@ varint_4 = varint_of [] 0x04 4 refl refl refl refl
 -- ---- what is no varint
 
 -- bytes that have a faulty front are no varint
-not_with_fault : (n : ℕ) (bytes : List ℕ) (f : VarintFault) → HasFaultyFront f bytes → ¬ (IsVarint n bytes)
+pub not_with_fault : (n : ℕ) (bytes : List ℕ) (f : VarintFault) → HasFaultyFront f bytes → ¬ (IsVarint n bytes)
 not_with_fault n bytes f h v =
     let same : number n [] ≡ fault f = front_unique bytes (number n []) (fault f) (bytes, v, sym (append-nil bytes)) h in
     cc
 
 -- bytes that are a varint of one number are none of another
-not_another : (m n : ℕ) (bytes : List ℕ) → IsVarint n bytes → (m ≡ n → ⊥) → ¬ (IsVarint m bytes)
+pub not_another : (m n : ℕ) (bytes : List ℕ) → IsVarint n bytes → (m ≡ n → ⊥) → ¬ (IsVarint m bytes)
 not_another m n bytes v other w =
     let same : number m [] ≡ number n [] =
     front_unique bytes (number m []) (number n []) (bytes, w, sym (append-nil bytes)) (bytes, v, sym (append-nil bytes)) in
