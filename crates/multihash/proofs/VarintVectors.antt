@@ -113,6 +113,14 @@ pub varint_4 : IsVarint 4 (0x04 ∷ [])
 unfolding place_value ends_well
 varint_4 = varint_of [] 0x04 4 refl refl refl refl
 
+pub varint_64 : IsVarint 64 (0x40 ∷ [])
+unfolding place_value ends_well
+varint_64 = varint_of [] 0x40 64 refl refl refl refl
+
+pub varint_65 : IsVarint 65 (0x41 ∷ [])
+unfolding place_value ends_well
+varint_65 = varint_of [] 0x41 65 refl refl refl refl
+
 -- ---- what is no varint
 
 -- bytes that have a faulty front are no varint
