@@ -1,2 +1,4 @@
 pub mod NamingLemmas
+pub mod RunVectors
+pub mod ShowErrorVectors
 pub mod ShownVectors

@@ -41,6 +41,15 @@ not_properly_itself : ¬ (IsProperBeginning (1 ∷ 2 ∷ []) (1 ∷ 2 ∷ []))
 not_properly_itself ([], some, cut) = some refl
 not_properly_itself (r ∷ rest, some, cut) = omega (arith, ap (λ (z : List ℕ). length z) cut)
 
+begins_no_other_properly : ¬ (IsProperBeginning (2 ∷ []) (1 ∷ 2 ∷ []))
+begins_no_other_properly (rest, some, cut) = omega (arith, ap (λ (z : List ℕ). get_or z 0 0) cut)
+
+begins_no_shorter_properly : ¬ (IsProperBeginning (1 ∷ 2 ∷ []) (1 ∷ []))
+begins_no_shorter_properly (rest, some, cut) = omega (arith, ap (λ (z : List ℕ). length z) cut)
+
+nothing_begins_properly : IsProperBeginning [] (1 ∷ [])
+nothing_begins_properly = (1 ∷ [], (λ e. omega (arith, ap (λ (z : List ℕ). length z) e)), refl)
+
 -- ---- the lowest digit stands first, in both bases
 
 lowest_first : place_value 128 (44 ∷ 2 ∷ []) ≡ 300
@@ -50,6 +59,10 @@ lowest_first = refl
 lowest_byte_first : place_value 256 (1 ∷ 2 ∷ 3 ∷ []) ≡ 197121
 unfolding place_value
 lowest_byte_first = refl
+
+third_digit : place_value 128 (0 ∷ 0 ∷ 1 ∷ []) ≡ 16384
+unfolding place_value
+third_digit = refl
 
 no_digits : place_value 128 [] ≡ 0
 unfolding place_value

@@ -13,21 +13,21 @@ joined_none : AreJoined [] []
 joined_none = record { encodings = []; each = tt; joined = refl }
 
 -- and nothing else is
-joined_none_only : (bytes : List ℕ) → AreJoined [] bytes → bytes ≡ []
+pub joined_none_only : (bytes : List ℕ) → AreJoined [] bytes → bytes ≡ []
 joined_none_only bytes h = h.joined ∙ none h.encodings h.each
   where
     none : (es : List (List ℕ)) → AllZip IsEncoding [] es → concat es ≡ []
     none [] each = refl
     none (e ∷ es) each = absurd each
 
-joined_one : AreJoined (pair 0 (codes "A") ∷ []) (0 ∷ 1 ∷ 65 ∷ [])
+pub joined_one : AreJoined (pair 0 (codes "A") ∷ []) (0 ∷ 1 ∷ 65 ∷ [])
 joined_one = record {
   encodings = (0 ∷ 1 ∷ 65 ∷ []) ∷ [];
   each = (record { code = 0 ∷ []; size = 1 ∷ []; is_code = varint_0; is_size = varint_1; spelled = refl }, tt);
   joined = refl;
 }
 
-joined_two : AreJoined (pair 0 (codes "A") ∷ pair 1 (codes "B") ∷ []) (0 ∷ 1 ∷ 65 ∷ 1 ∷ 1 ∷ 66 ∷ [])
+pub joined_two : AreJoined (pair 0 (codes "A") ∷ pair 1 (codes "B") ∷ []) (0 ∷ 1 ∷ 65 ∷ 1 ∷ 1 ∷ 66 ∷ [])
 joined_two = record {
   encodings = (0 ∷ 1 ∷ 65 ∷ []) ∷ (1 ∷ 1 ∷ 66 ∷ []) ∷ [];
   each = (
@@ -37,7 +37,7 @@ joined_two = record {
   joined = refl;
 }
 
-abbrev first_code : List Pair → ℕ
+abbrev pub first_code : List Pair → ℕ
 first_code [] = 0
 first_code (p ∷ ps) = p.code
 

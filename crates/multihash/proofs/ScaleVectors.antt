@@ -1,13 +1,16 @@
 -- The SCALE form of known pairs, and the verdicts on known inputs.
-use Rattle.std.proofs.Common.{◌≡◌, ℕ, List, [], ◌∷◌, ◌<◌, ◌++◌, length, replicate, refl, arith, inl, inr}
+use Rattle.std.proofs.Common.{◌≡◌, ℕ, List, [], ◌∷◌, ◌<◌, ◌++◌, length, get_or, replicate, refl, sym, ap, arith, inl, inr, length-append}
 use Rattle.std.specs.Prelude.{codes}
 use Rattle.std.proofs.lemmas.List.Elements.{All-head}
 use Rattle.multihash.specs.Bytes.{place_value}
 use Rattle.multihash.specs.Pair.{Pair}
-use Rattle.multihash.specs.Verdict.{accepted, invalid_size, unexpected_eof}
-use Rattle.multihash.specs.Scale.{IsScaleCode, IsScale, HasScaleVerdict}
+use Rattle.multihash.specs.Varint.{VarintFault}
+use Rattle.multihash.specs.Verdict.{accepted, invalid_size, faulty, unexpected_eof}
+use Rattle.multihash.specs.Scale.{IsScaleCode, IsScale, HasScaleSize, HasScaleVerdict}
 use Rattle.multihash.proofs.BytesVectors.{all_below}
 use Rattle.multihash.proofs.PairVectors.{pair}
+use Rattle.multihash.proofs.VerdictVectors.{code_named}
+use Rattle.multihash.proofs.VerdictLemmas.{same_cut}
 use Rattle.multihash.proofs.ScaleLemmas.{scale_verdict_unique}
 
 -- the lowest byte of the code stands first
@@ -20,20 +23,20 @@ scale_lowest_first = record {
   spelled = refl;
 }
 
-abbrev zeros : List ℕ
+abbrev pub zeros : List ℕ
 zeros = 0 ∷ 0 ∷ 0 ∷ 0 ∷ 0 ∷ 0 ∷ 0 ∷ 0 ∷ []
 
 zero_code : IsScaleCode 0 zeros
 unfolding place_value
 zero_code = record { eight = refl; are_bytes = all_below 256 zeros refl; value = refl; in_range = omega arith }
 
-scale_eight_bytes : HasScaleVerdict 4 (0 ∷ 0 ∷ 0 ∷ 0 ∷ 0 ∷ 0 ∷ 0 ∷ 0 ∷ []) unexpected_eof
+pub scale_eight_bytes : HasScaleVerdict 4 (0 ∷ 0 ∷ 0 ∷ 0 ∷ 0 ∷ 0 ∷ 0 ∷ 0 ∷ []) unexpected_eof
 scale_eight_bytes = inl (omega arith)
 
-scale_cut : HasScaleVerdict 4 (0 ∷ 0 ∷ 0 ∷ 0 ∷ 0 ∷ 0 ∷ 0 ∷ 0 ∷ 3 ∷ 0xaa ∷ 0xbb ∷ []) unexpected_eof
+pub scale_cut : HasScaleVerdict 4 (0 ∷ 0 ∷ 0 ∷ 0 ∷ 0 ∷ 0 ∷ 0 ∷ 0 ∷ 3 ∷ 0xaa ∷ 0xbb ∷ []) unexpected_eof
 scale_cut = inr (3, 0xaa ∷ 0xbb ∷ [], record { code = 0; code_bytes = zeros; is_code = zero_code; cut = refl }, omega arith, omega arith)
 
-scale_size_above : HasScaleVerdict 4 (0 ∷ 0 ∷ 0 ∷ 0 ∷ 0 ∷ 0 ∷ 0 ∷ 0 ∷ 5 ∷ 0xaa ∷ 0xbb ∷ []) (invalid_size 5)
+pub scale_size_above : HasScaleVerdict 4 (0 ∷ 0 ∷ 0 ∷ 0 ∷ 0 ∷ 0 ∷ 0 ∷ 0 ∷ 5 ∷ 0xaa ∷ 0xbb ∷ []) (invalid_size 5)
 scale_size_above = (0xaa ∷ 0xbb ∷ [], record { code = 0; code_bytes = zeros; is_code = zero_code; cut = refl }, omega arith)
 
 scale_decoded : HasScaleVerdict 4 (0x12 ∷ 0 ∷ 0 ∷ 0 ∷ 0 ∷ 0 ∷ 0 ∷ 0 ∷ 1 ∷ 0xaa ∷ 0xbb ∷ []) (accepted (pair 18 (0xaa ∷ [])))
@@ -86,6 +89,15 @@ scale_empty_digest = (
   refl,
 )
 
+pub scale_empty_digest_of_4 : HasScaleVerdict 4 (zeros ++ 0 ∷ []) (accepted (pair 0 []))
+scale_empty_digest_of_4 = (
+  zeros ++ 0 ∷ [],
+  [],
+  record { code = zeros; is_code = zero_code; size = omega arith; spelled = refl },
+  omega arith,
+  refl,
+)
+
 -- a digest as long as the buffer
 scale_full : HasScaleVerdict 2 (0 ∷ 0 ∷ 0 ∷ 0 ∷ 0 ∷ 0 ∷ 0 ∷ 0 ∷ 2 ∷ 0xaa ∷ 0xbb ∷ []) (accepted (pair 0 (0xaa ∷ 0xbb ∷ [])))
 scale_full = (
@@ -97,7 +109,7 @@ scale_full = (
 )
 
 -- a size above the buffer is refused before the digest is looked at
-scale_size_first : HasScaleVerdict 4 (0 ∷ 0 ∷ 0 ∷ 0 ∷ 0 ∷ 0 ∷ 0 ∷ 0 ∷ 5 ∷ []) (invalid_size 5)
+pub scale_size_first : HasScaleVerdict 4 (0 ∷ 0 ∷ 0 ∷ 0 ∷ 0 ∷ 0 ∷ 0 ∷ 0 ∷ 5 ∷ []) (invalid_size 5)
 scale_size_first = ([], record { code = 0; code_bytes = zeros; is_code = zero_code; cut = refl }, omega arith)
 
 -- the longest digest
@@ -134,3 +146,74 @@ scale_full_no_end h =
     let same : unexpected_eof ≡ accepted (pair 0 (0xaa ∷ 0xbb ∷ [])) =
     scale_verdict_unique 2 (0 ∷ 0 ∷ 0 ∷ 0 ∷ 0 ∷ 0 ∷ 0 ∷ 0 ∷ 2 ∷ 0xaa ∷ 0xbb ∷ []) unexpected_eof (accepted (pair 0 (0xaa ∷ 0xbb ∷ []))) h scale_full in
     cc
+
+no_nine_bytes : (code : ℕ) → ¬ (IsScaleCode code (zeros ++ 0 ∷ []))
+no_nine_bytes code h = omega (arith, h.eight)
+
+-- the code stands in the form
+no_other_code : ¬ (IsScale (pair 1 []) (zeros ++ 0 ∷ []))
+no_other_code h =
+    let same : accepted (pair 1 []) ≡ accepted (pair 0 []) =
+    scale_verdict_unique 4 (zeros ++ 0 ∷ []) (accepted (pair 1 [])) (accepted (pair 0 []))
+    (zeros ++ 0 ∷ [], [], h, omega arith, refl) scale_empty_digest_of_4 in
+    omega (arith, ap code_named same)
+
+-- and the digest, with nothing behind it
+no_byte_behind : ¬ (IsScale (pair 0 []) (zeros ++ 0 ∷ 7 ∷ []))
+no_byte_behind h =
+    omega (arith, ap (λ (z : List ℕ). length z) h.spelled, h.is_code.eight, length-append h.code (0 ∷ []))
+
+no_digest_without_size : ¬ (IsScale (pair 0 (7 ∷ [])) (zeros ++ 7 ∷ []))
+no_digest_without_size h =
+    omega (arith, ap (λ (z : List ℕ). length z) h.spelled, h.is_code.eight, length-append h.code (1 ∷ 7 ∷ []))
+
+size_behind_code : HasScaleSize 5 (zeros ++ 5 ∷ 7 ∷ []) (7 ∷ [])
+size_behind_code = record { code = 0; code_bytes = zeros; is_code = zero_code; cut = refl }
+
+-- the size is the byte behind the eight
+no_size_in_code : ¬ (HasScaleSize 0 (zeros ++ 5 ∷ []) (5 ∷ []))
+no_size_in_code h =
+    omega (
+      arith,
+      ap (λ (z : List ℕ). length z) h.cut,
+      h.is_code.eight,
+      length-append h.code_bytes (0 ∷ 5 ∷ []),
+    )
+
+no_other_rest : ¬ (HasScaleSize 5 (zeros ++ 5 ∷ 7 ∷ []) [])
+no_other_rest h =
+    omega (arith, ap (λ (z : List ℕ). length z) h.cut, h.is_code.eight, length-append h.code_bytes (5 ∷ []))
+
+-- no verdict but one
+no_size_that_fits : ¬ (HasScaleVerdict 5 (zeros ++ 5 ∷ 0xaa ∷ 0xbb ∷ []) (invalid_size 5))
+no_size_that_fits (rest, has, large) = omega (arith, large)
+
+no_other_size_named : ¬ (HasScaleVerdict 4 (zeros ++ 5 ∷ []) (invalid_size 6))
+no_other_size_named (rest, has, large) =
+    let same = same_cut has.code_bytes zeros (6 ∷ rest) (5 ∷ []) has.is_code.eight (sym has.cut) in
+    omega (arith, ap (λ (z : List ℕ). get_or z 0 0) same.1)
+
+no_varint_is_read : (S : ℕ) (input : List ℕ) (fault : VarintFault) → ¬ (HasScaleVerdict S input (faulty fault))
+no_varint_is_read S input fault h = h
+
+size_above_is_no_end : ¬ (HasScaleVerdict 4 (zeros ++ 5 ∷ []) unexpected_eof)
+size_above_is_no_end h =
+    let same : unexpected_eof ≡ invalid_size 5 =
+    scale_verdict_unique 4 (zeros ++ 5 ∷ []) unexpected_eof (invalid_size 5) h scale_size_first in
+    cc
+
+nine_bytes_are_no_end : ¬ (HasScaleVerdict 4 (zeros ++ 0 ∷ []) unexpected_eof)
+nine_bytes_are_no_end h =
+    let same : unexpected_eof ≡ accepted (pair 0 []) =
+    scale_verdict_unique 4 (zeros ++ 0 ∷ []) unexpected_eof (accepted (pair 0 [])) h scale_empty_digest_of_4 in
+    cc
+
+no_pair_elsewhere : ¬ (HasScaleVerdict 4 (zeros ++ 0 ∷ []) (accepted (pair 1 [])))
+no_pair_elsewhere h =
+    let same : accepted (pair 1 []) ≡ accepted (pair 0 []) =
+    scale_verdict_unique 4 (zeros ++ 0 ∷ []) (accepted (pair 1 [])) (accepted (pair 0 [])) h scale_empty_digest_of_4 in
+    omega (arith, ap code_named same)
+
+no_pair_in_nothing : (p : Pair) → ¬ (HasScaleVerdict 4 [] (accepted p))
+no_pair_in_nothing p h =
+    let same : accepted p ≡ unexpected_eof = scale_verdict_unique 4 [] (accepted p) unexpected_eof h scale_empty_input in cc

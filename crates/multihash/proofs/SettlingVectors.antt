@@ -1,18 +1,15 @@
 -- Known inputs that settle their verdict, and inputs that don't.
 use Rattle.std.proofs.Common.{ℕ, List, [], ◌∷◌, ◌++◌, length, get_or, refl, ap, arith}
 use Rattle.multihash.specs.Varint.{insufficient, overflow, not_minimal}
-use Rattle.multihash.specs.Verdict.{accepted, invalid_size, faulty, unexpected_eof, HasSize}
+use Rattle.multihash.specs.Verdict.{accepted, invalid_size, faulty, unexpected_eof}
 use Rattle.multihash.specs.Settling.{Settles, IsShortestSettling}
 use Rattle.multihash.proofs.PairVectors.{pair}
 use Rattle.multihash.proofs.VarintVectors.{all_marked, varint_0, varint_4, varint_5, varint_133}
-use Rattle.multihash.proofs.VerdictVectors.{empty_input, size_open, code_padded, code_alone, digest_cut, digest_full}
+use Rattle.multihash.proofs.VerdictVectors.{size_5, empty_input, size_open, code_padded, code_alone, digest_cut, digest_full}
 use Rattle.multihash.proofs.SettlingLemmas.{early_not_settles, late_settles, shortest_pair, shortest_size, shortest_code_fault, shortest_size_fault}
 
-size_5 : (more : List ℕ) → HasSize 5 (0 ∷ 5 ∷ more) more
-size_5 more = record { code = 0; code_bytes = 0 ∷ []; size_bytes = 5 ∷ []; is_code = varint_0; is_size = varint_5; cut = refl }
-
 -- a size that the buffer can't hold, whatever follows
-size_settles : Settles 4 (0 ∷ 5 ∷ [])
+pub size_settles : Settles 4 (0 ∷ 5 ∷ [])
 size_settles = record { verdict = invalid_size 5; always = λ more _. (more, size_5 more, omega arith) }
 
 -- a larger buffer waits for the digest
@@ -32,15 +29,14 @@ code_waits = early_not_settles 4 (0 ∷ []) (faulty insufficient) tt code_alone
 digest_waits : ¬ (Settles 4 (0 ∷ 4 ∷ 1 ∷ 2 ∷ 3 ∷ []))
 digest_waits = early_not_settles 4 (0 ∷ 4 ∷ 1 ∷ 2 ∷ 3 ∷ []) unexpected_eof tt digest_cut
 
-padded_settles : Settles 4 (0x80 ∷ 0x00 ∷ [])
+pub padded_settles : Settles 4 (0x80 ∷ 0x00 ∷ [])
 padded_settles = late_settles 4 (0x80 ∷ 0x00 ∷ []) (faulty not_minimal) (λ early. early) code_padded
 
-pair_settles : Settles 4 (0 ∷ 4 ∷ 1 ∷ 2 ∷ 3 ∷ 4 ∷ [])
+pub pair_settles : Settles 4 (0 ∷ 4 ∷ 1 ∷ 2 ∷ 3 ∷ 4 ∷ [])
 pair_settles = late_settles 4 (0 ∷ 4 ∷ 1 ∷ 2 ∷ 3 ∷ 4 ∷ []) (accepted (pair 0 (1 ∷ 2 ∷ 3 ∷ 4 ∷ []))) (λ early. early) digest_full
 
 -- the two bytes of the size, and no byte behind them
-shortest_of_size : IsShortestSettling 4 (0 ∷ 5 ∷ 9 ∷ []) (0 ∷ 5 ∷ [])
-unfolding size_5
+pub shortest_of_size : IsShortestSettling 4 (0 ∷ 5 ∷ 9 ∷ []) (0 ∷ 5 ∷ [])
 shortest_of_size = record {
   begins = (9 ∷ [], refl);
   settles = size_settles;
@@ -49,7 +45,6 @@ shortest_of_size = record {
 
 -- which may be the whole input
 shortest_whole : IsShortestSettling 4 (0 ∷ 5 ∷ []) (0 ∷ 5 ∷ [])
-unfolding size_5
 shortest_whole = shortest_size 4 5 (0 ∷ 5 ∷ []) [] (size_5 []) (omega arith)
 
 -- the whole input settles too, but is not the shortest
@@ -115,7 +110,7 @@ shortest_of_empty_digest =
       cut = refl;
     }) (omega arith)
 
-shortest_of_pair : IsShortestSettling 4 (0x00 ∷ 0x04 ∷ 0x01 ∷ 0x02 ∷ 0x03 ∷ 0x04 ∷ 0x09 ∷ []) (0x00 ∷ 0x04 ∷ 0x01 ∷ 0x02 ∷ 0x03 ∷ 0x04 ∷ [])
+pub shortest_of_pair : IsShortestSettling 4 (0x00 ∷ 0x04 ∷ 0x01 ∷ 0x02 ∷ 0x03 ∷ 0x04 ∷ 0x09 ∷ []) (0x00 ∷ 0x04 ∷ 0x01 ∷ 0x02 ∷ 0x03 ∷ 0x04 ∷ [])
 shortest_of_pair =
     shortest_pair 4 (pair 0 (0x01 ∷ 0x02 ∷ 0x03 ∷ 0x04 ∷ [])) (0x00 ∷ 0x04 ∷ 0x01 ∷ 0x02 ∷ 0x03 ∷ 0x04 ∷ 0x09 ∷ []) (0x09 ∷ []) (record {
       encoding = 0x00 ∷ 0x04 ∷ 0x01 ∷ 0x02 ∷ 0x03 ∷ 0x04 ∷ [];

@@ -1,12 +1,13 @@
 -- Varints of known numbers, and bytes that are no varint.
-use Rattle.std.proofs.Common.{◌≡◌, ℕ, ltb, Bool, true, List, [], ◌∷◌, ◌++◌, refl, sym, ap, arith, append-nil, get_or}
+use Rattle.std.proofs.Common.{◌≡◌, ℕ, ltb, Bool, true, List, [], ◌∷◌, ◌++◌, refl, sym, ap, arith, append-nil, get_or, replicate, ◌-◌}
 use Rattle.std.specs.List.{All, list_all}
 use Rattle.std.proofs.lemmas.Bool.{ltb-true, and_parts}
 use Rattle.std.proofs.lemmas.List.Elements.{All-nil, All-cons}
 use Rattle.multihash.specs.Bytes.{place_value}
-use Rattle.multihash.specs.Varint.{IsMarked, marked, varint_limit, IsVarint, VarintFault, insufficient, not_minimal, HasFaultyFront}
+use Rattle.multihash.specs.Varint.{IsMarked, marked, varint_limit, most_marked, first_too_large, IsVarint, VarintFault, insufficient, overflow, not_minimal, IsInsufficient, IsOverflow, IsNotMinimal, HasFaultyFront}
 use Rattle.multihash.proofs.BytesVectors.{all_below}
-use Rattle.multihash.proofs.VarintLemmas.{number, fault, front_unique, varint_unique}
+use Rattle.multihash.proofs.VarintLemmas.{Front, number, fault, HasFront, front_unique, varint_unique}
+use Rattle.multihash.proofs.VerdictLemmas.{same_cut}
 
 -- every number in a literal list has 128 added
 pub all_marked : (xs : List ℕ) → list_all (λ x. ltb 127 x) xs ≡ true → All IsMarked xs
@@ -113,16 +114,24 @@ pub varint_4 : IsVarint 4 (0x04 ∷ [])
 unfolding place_value ends_well
 varint_4 = varint_of [] 0x04 4 refl refl refl refl
 
+pub varint_64 : IsVarint 64 (0x40 ∷ [])
+unfolding place_value ends_well
+varint_64 = varint_of [] 0x40 64 refl refl refl refl
+
+pub varint_65 : IsVarint 65 (0x41 ∷ [])
+unfolding place_value ends_well
+varint_65 = varint_of [] 0x41 65 refl refl refl refl
+
 -- ---- what is no varint
 
 -- bytes that have a faulty front are no varint
-not_with_fault : (n : ℕ) (bytes : List ℕ) (f : VarintFault) → HasFaultyFront f bytes → ¬ (IsVarint n bytes)
+pub not_with_fault : (n : ℕ) (bytes : List ℕ) (f : VarintFault) → HasFaultyFront f bytes → ¬ (IsVarint n bytes)
 not_with_fault n bytes f h v =
     let same : number n [] ≡ fault f = front_unique bytes (number n []) (fault f) (bytes, v, sym (append-nil bytes)) h in
     cc
 
 -- bytes that are a varint of one number are none of another
-not_another : (m n : ℕ) (bytes : List ℕ) → IsVarint n bytes → (m ≡ n → ⊥) → ¬ (IsVarint m bytes)
+pub not_another : (m n : ℕ) (bytes : List ℕ) → IsVarint n bytes → (m ≡ n → ⊥) → ¬ (IsVarint m bytes)
 not_another m n bytes v other w =
     let same : number m [] ≡ number n [] =
     front_unique bytes (number m []) (number n []) (bytes, w, sym (append-nil bytes)) (bytes, v, sym (append-nil bytes)) in
@@ -159,3 +168,105 @@ highest_last v =
 
 not_128 : ¬ (IsVarint 128 (0xff ∷ 0x01 ∷ []))
 not_128 = not_another 128 255 (0xff ∷ 0x01 ∷ []) varint_255 (λ e. omega (arith, e))
+
+-- ---- marks
+
+marked_from_128 : IsMarked 128
+marked_from_128 = omega arith
+
+not_marked_below : ¬ (IsMarked 127)
+not_marked_below h = omega (arith, h)
+
+marks_each : marked (0 ∷ 127 ∷ []) ≡ 128 ∷ 255 ∷ []
+marks_each = refl
+
+-- ---- inputs that begin with no varint: each fault, and what is none, failing by one part alone
+
+-- an input with one front has no other fault
+no_fault : (x : List ℕ) (f : VarintFault) (front : Front) → HasFront x front → (fault f ≡ front → ⊥) → ¬ (HasFaultyFront f x)
+no_fault x f front has other h = other (front_unique x (fault f) front h has)
+
+-- as many marked bytes as a varint may have
+abbrev most : List ℕ
+most = replicate most_marked 0x80
+
+marked_most : All IsMarked most
+marked_most = all_marked most refl
+
+insufficient_most : IsInsufficient most
+insufficient_most = record { few = omega arith; all_marked = marked_most }
+
+insufficient_none : IsInsufficient []
+insufficient_none = record { few = omega arith; all_marked = all_marked [] refl }
+
+-- one more is too many to wait
+no_insufficient_past_most : ¬ (IsInsufficient (0x80 ∷ most))
+no_insufficient_past_most h = omega (arith, h.few)
+
+-- a byte that isn't marked ends a varint
+no_insufficient_with_end : ¬ (IsInsufficient (0x80 ∷ 0x01 ∷ []))
+no_insufficient_with_end =
+    no_fault (0x80 ∷ 0x01 ∷ []) insufficient (number 128 []) (0x80 ∷ 0x01 ∷ [], varint_128, refl) (λ e. cc)
+
+overflow_at_first_too_large : IsOverflow (most ++ first_too_large ∷ [])
+overflow_at_first_too_large = record {
+  front = most;
+  byte = first_too_large;
+  rest = [];
+  all_marked = marked_most;
+  most = refl;
+  too_large = omega arith;
+  cut = refl;
+}
+
+-- a marked byte is too large there too
+overflow_at_marked : IsOverflow (most ++ 0x80 ∷ 0x01 ∷ [])
+overflow_at_marked = record {
+  front = most;
+  byte = 0x80;
+  rest = 0x01 ∷ [];
+  all_marked = marked_most;
+  most = refl;
+  too_large = omega arith;
+  cut = refl;
+}
+
+-- the byte before is still within
+no_overflow_below : ¬ (IsOverflow (most ++ (first_too_large - 1) ∷ []))
+no_overflow_below h =
+    let (same, rest) = same_cut h.front most (h.byte ∷ h.rest) ((first_too_large - 1) ∷ []) (h.most) (sym h.cut) in
+    omega (arith, h.too_large, ap (λ (z : List ℕ). get_or z 0 0) rest)
+
+-- fewer marked bytes don't overflow
+no_overflow_of_one : ¬ (IsOverflow (0x02 ∷ []))
+no_overflow_of_one = no_fault (0x02 ∷ []) overflow (number 2 []) (0x02 ∷ [], varint_2, refl) (λ e. cc)
+
+-- nor do bytes that aren't marked
+no_overflow_unmarked : ¬ (IsOverflow (replicate most_marked 0 ++ first_too_large ∷ []))
+no_overflow_unmarked =
+    no_fault (replicate most_marked 0 ++ first_too_large ∷ []) overflow (number 0 (replicate (most_marked - 1) 0 ++ first_too_large ∷ []))
+    (0 ∷ [], varint_0, refl) (λ e. cc)
+
+no_overflow_of_nothing : ¬ (IsOverflow [])
+no_overflow_of_nothing = no_fault [] overflow (fault insufficient) insufficient_none (λ e. cc)
+
+zero_behind_most : IsNotMinimal (most ++ 0 ∷ 7 ∷ [])
+zero_behind_most = record { front = most; rest = 7 ∷ []; all_marked = marked_most; some = omega arith; few = omega arith; cut = refl }
+
+-- a zero alone is a varint
+zero_is_minimal : ¬ (IsNotMinimal (0x00 ∷ []))
+zero_is_minimal = no_fault (0x00 ∷ []) not_minimal (number 0 []) (0x00 ∷ [], varint_0, refl) (λ e. cc)
+
+-- a zero behind a whole varint doesn't belong to it
+zero_behind_varint : ¬ (IsNotMinimal (0x01 ∷ 0x00 ∷ []))
+zero_behind_varint = no_fault (0x01 ∷ 0x00 ∷ []) not_minimal (number 1 (0x00 ∷ [])) (0x01 ∷ [], varint_1, refl) (λ e. cc)
+
+last_is_no_zero : ¬ (IsNotMinimal (0x80 ∷ 0x01 ∷ []))
+last_is_no_zero = no_fault (0x80 ∷ 0x01 ∷ []) not_minimal (number 128 []) (0x80 ∷ 0x01 ∷ [], varint_128, refl) (λ e. cc)
+
+-- behind more marked bytes than a varint may have it is too late
+zero_too_late : ¬ (IsNotMinimal (most ++ 0x80 ∷ 0x00 ∷ []))
+zero_too_late =
+    no_fault (most ++ 0x80 ∷ 0x00 ∷ []) not_minimal (fault overflow)
+    (record { front = most; byte = 0x80; rest = 0x00 ∷ []; all_marked = marked_most; most = refl; too_large = omega arith; cut = refl })
+    (λ e. cc)

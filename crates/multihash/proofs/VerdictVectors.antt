@@ -1,14 +1,34 @@
 -- The verdicts on known inputs, and what more input may change.
-use Rattle.std.proofs.Common.{◌≡◌, ℕ, List, [], ◌∷◌, ◌++◌, refl, arith, inl, inr}
+use Rattle.std.proofs.Common.{◌≡◌, ℕ, List, [], ◌∷◌, ◌++◌, length, refl, sym, ap, arith, inl, inr, length-append}
 use Rattle.multihash.specs.Pair.{Pair}
-use Rattle.multihash.specs.Varint.{insufficient, overflow, not_minimal}
-use Rattle.multihash.specs.Verdict.{accepted, invalid_size, faulty, unexpected_eof, HasVerdict, HasWholeVerdict, IsEarlyEnd}
+use Rattle.multihash.specs.Varint.{VarintFault, insufficient, overflow, not_minimal, HasFaultyFront}
+use Rattle.multihash.specs.Verdict.{Verdict, accepted, invalid_size, faulty, unexpected_eof, BeginsWith, HasSize, HasCode, HasVerdict, HasLeftOver, HasWholeVerdict, IsEarlyEnd}
 use Rattle.multihash.proofs.VarintVectors.{all_marked, varint_0, varint_1, varint_4, varint_5, varint_133, varint_255, varint_256, varint_9223372036854775808, varint_18446744073709551615}
 use Rattle.multihash.proofs.PairVectors.{pair}
-use Rattle.multihash.proofs.VerdictLemmas.{verdict_unique, whole_verdict_unique}
+use Rattle.multihash.proofs.VerdictLemmas.{encoding_same, same_number, verdict_unique, whole_verdict_unique}
+use Rattle.multihash.proofs.VarintLemmas.{number, fault, front_unique}
 
-abbrev nine : List ℕ
+abbrev pub nine : List ℕ
 nine = 0x80 ∷ 0x80 ∷ 0x80 ∷ 0x80 ∷ 0x80 ∷ 0x80 ∷ 0x80 ∷ 0x80 ∷ 0x80 ∷ []
+
+-- what a verdict names, where it names one
+abbrev pub code_named : Verdict → ℕ
+code_named (accepted p) = p.code
+code_named (invalid_size size) = 0
+code_named (faulty f) = 0
+code_named unexpected_eof = 0
+
+abbrev pub size_named : Verdict → ℕ
+size_named (accepted p) = 0
+size_named (invalid_size size) = size
+size_named (faulty f) = 0
+size_named unexpected_eof = 0
+
+abbrev digest_named : Verdict → List ℕ
+digest_named (accepted p) = p.digest
+digest_named (invalid_size size) = []
+digest_named (faulty f) = []
+digest_named unexpected_eof = []
 
 pub empty_input : HasVerdict 4 [] (faulty insufficient)
 empty_input = inl (record { few = omega arith; all_marked = all_marked [] refl })
@@ -16,7 +36,7 @@ empty_input = inl (record { few = omega arith; all_marked = all_marked [] refl }
 empty_input_whole : HasWholeVerdict 4 [] (faulty insufficient)
 empty_input_whole = empty_input
 
-code_open : HasVerdict 4 (0x80 ∷ []) (faulty insufficient)
+pub code_open : HasVerdict 4 (0x80 ∷ []) (faulty insufficient)
 code_open = inl (record { few = omega arith; all_marked = all_marked (0x80 ∷ []) refl })
 
 code_open_whole : HasWholeVerdict 4 (0x80 ∷ []) (faulty insufficient)
@@ -46,7 +66,7 @@ size_open = inr (0x85 ∷ [], record { code = 0; code_bytes = 0x00 ∷ []; is_co
 size_open_whole : HasWholeVerdict 4 (0x00 ∷ 0x85 ∷ []) (faulty insufficient)
 size_open_whole = size_open
 
-size_above_limit : HasVerdict 4 (0x00 ∷ 0x05 ∷ []) (invalid_size 5)
+pub size_above_limit : HasVerdict 4 (0x00 ∷ 0x05 ∷ []) (invalid_size 5)
 size_above_limit = ([], record { code = 0; code_bytes = 0x00 ∷ []; size_bytes = 0x05 ∷ []; is_code = varint_0; is_size = varint_5; cut = refl }, omega arith)
 
 size_above_limit_whole : HasWholeVerdict 4 (0x00 ∷ 0x05 ∷ []) (invalid_size 5)
@@ -86,7 +106,7 @@ digest_and_one_more_whole = inr (pair 0 (0x01 ∷ 0x02 ∷ 0x03 ∷ 0x04 ∷ [])
 digest_and_three_more_whole : HasWholeVerdict 4 (0x00 ∷ 0x01 ∷ 0x07 ∷ 0x00 ∷ 0x80 ∷ 0x05 ∷ []) (invalid_size 3)
 digest_and_three_more_whole = inr (pair 0 (0x07 ∷ []), 0x00 ∷ 0x80 ∷ 0x05 ∷ [], record { encoding = 0x00 ∷ 0x01 ∷ 0x07 ∷ []; encodes = record { code = 0x00 ∷ []; size = 0x01 ∷ []; is_code = varint_0; is_size = varint_1; spelled = refl }; cut = refl }, omega arith, refl, omega arith)
 
-nine_marked : HasVerdict 4 nine (faulty insufficient)
+pub nine_marked : HasVerdict 4 nine (faulty insufficient)
 nine_marked = inl (record { few = omega arith; all_marked = all_marked nine refl })
 
 nine_marked_whole : HasWholeVerdict 4 nine (faulty insufficient)
@@ -98,7 +118,7 @@ nine_marked_zero = inl (record { front = nine; rest = []; all_marked = all_marke
 nine_marked_zero_whole : HasWholeVerdict 4 (nine ++ 0x00 ∷ []) (faulty not_minimal)
 nine_marked_zero_whole = nine_marked_zero
 
-nine_marked_two : HasVerdict 4 (nine ++ 0x02 ∷ []) (faulty overflow)
+pub nine_marked_two : HasVerdict 4 (nine ++ 0x02 ∷ []) (faulty overflow)
 nine_marked_two = inl (record { front = nine; byte = 0x02; rest = []; all_marked = all_marked nine refl; most = refl; too_large = omega arith; cut = refl })
 
 nine_marked_two_whole : HasWholeVerdict 4 (nine ++ 0x02 ∷ []) (faulty overflow)
@@ -140,7 +160,7 @@ no_room_empty = ([], record { encoding = 0x00 ∷ 0x00 ∷ []; encodes = record 
 no_room_empty_whole : HasWholeVerdict 0 (0x00 ∷ 0x00 ∷ []) (accepted (pair 0 []))
 no_room_empty_whole = (record { code = 0x00 ∷ []; size = 0x00 ∷ []; is_code = varint_0; is_size = varint_0; spelled = refl }, omega arith)
 
-digest_of_255_missing : HasVerdict 300 (0x00 ∷ 0xff ∷ 0x01 ∷ []) unexpected_eof
+pub digest_of_255_missing : HasVerdict 300 (0x00 ∷ 0xff ∷ 0x01 ∷ []) unexpected_eof
 digest_of_255_missing = (255, [], record { code = 0; code_bytes = 0x00 ∷ []; size_bytes = 0xff ∷ 0x01 ∷ []; is_code = varint_0; is_size = varint_255; cut = refl }, omega arith, omega arith)
 
 digest_of_255_missing_whole : HasWholeVerdict 300 (0x00 ∷ 0xff ∷ 0x01 ∷ []) unexpected_eof
@@ -151,6 +171,30 @@ size_256 = ([], record { code = 0; code_bytes = 0x00 ∷ []; size_bytes = 0x80 �
 
 size_256_whole : HasWholeVerdict 300 (0x00 ∷ 0x80 ∷ 0x02 ∷ []) (invalid_size 256)
 size_256_whole = inl size_256
+
+-- an empty digest of the code 0, and what follows
+abbrev begins_empty : (rest : List ℕ) → BeginsWith (pair 0 []) (0x00 ∷ 0x00 ∷ rest) rest
+begins_empty rest = record {
+  encoding = 0x00 ∷ 0x00 ∷ [];
+  encodes = record { code = 0x00 ∷ []; size = 0x00 ∷ []; is_code = varint_0; is_size = varint_0; spelled = refl };
+  cut = refl;
+}
+
+empty_digest_and_one_more : HasVerdict 4 (0x00 ∷ 0x00 ∷ 0x07 ∷ []) (accepted (pair 0 []))
+empty_digest_and_one_more = (0x07 ∷ [], begins_empty (0x07 ∷ []), omega arith)
+
+-- the code 0, the size 5, and what follows
+abbrev pub size_5 : (more : List ℕ) → HasSize 5 (0x00 ∷ 0x05 ∷ more) more
+size_5 more = record { code = 0; code_bytes = 0x00 ∷ []; size_bytes = 0x05 ∷ []; is_code = varint_0; is_size = varint_5; cut = refl }
+
+-- and no other size
+size_is_5 : (size : ℕ) → HasSize size (0x00 ∷ 0x05 ∷ []) [] → (size ≡ 5 → ⊥) → ⊥
+size_is_5 size h other =
+    let behind = same_number (0x00 ∷ 0x05 ∷ []) h.code 0 (h.size_bytes ++ []) (0x05 ∷ []) (h.code_bytes, h.is_code, h.cut) (0x00 ∷ [], varint_0, refl) in
+    other (same_number (0x05 ∷ []) size 5 [] [] (h.size_bytes, h.is_size, sym behind.1) (0x05 ∷ [], varint_5, refl)).0
+
+open_front : HasFaultyFront insufficient (0x80 ∷ [])
+open_front = record { few = omega arith; all_marked = all_marked (0x80 ∷ []) refl }
 
 -- ---- what does not hold
 
@@ -172,6 +216,151 @@ nine_marked_two_no_code p h =
     let same : accepted p ≡ faulty overflow =
     verdict_unique 4 (nine ++ 0x02 ∷ []) (accepted p) (faulty overflow) h nine_marked_two in
     cc
+
+-- the code and the digest are those that the input begins with
+no_other_code : ¬ (HasVerdict 4 (0x00 ∷ 0x00 ∷ []) (accepted (pair 1 [])))
+no_other_code h =
+    omega (arith, ap code_named (verdict_unique 4 (0x00 ∷ 0x00 ∷ []) (accepted (pair 1 [])) (accepted (pair 0 [])) h empty_digest))
+
+no_longer_digest : ¬ (HasVerdict 4 (0x00 ∷ 0x00 ∷ 0x07 ∷ []) (accepted (pair 0 (0x07 ∷ []))))
+no_longer_digest h =
+    omega (arith, ap (λ (v : Verdict). length (digest_named v))
+    (verdict_unique 4 (0x00 ∷ 0x00 ∷ 0x07 ∷ []) (accepted (pair 0 (0x07 ∷ []))) (accepted (pair 0 [])) h empty_digest_and_one_more))
+
+abbrev five : List ℕ
+five = 0x01 ∷ 0x02 ∷ 0x03 ∷ 0x04 ∷ 0x05 ∷ []
+
+five_above_limit : HasVerdict 4 (0x00 ∷ 0x05 ∷ five) (invalid_size 5)
+five_above_limit = (five, size_5 five, omega arith)
+
+-- a digest that doesn't fit is no pair's, though it is whole
+no_pair_above_limit : ¬ (HasVerdict 4 (0x00 ∷ 0x05 ∷ five) (accepted (pair 0 five)))
+no_pair_above_limit h =
+    let same : accepted (pair 0 five) ≡ invalid_size 5 =
+    verdict_unique 4 (0x00 ∷ 0x05 ∷ five) (accepted (pair 0 five)) (invalid_size 5) h five_above_limit in
+    cc
+
+no_whole_pair_above_limit : ¬ (HasWholeVerdict 4 (0x00 ∷ 0x05 ∷ five) (accepted (pair 0 five)))
+no_whole_pair_above_limit h =
+    let same : accepted (pair 0 five) ≡ invalid_size 5 =
+    whole_verdict_unique 4 (0x00 ∷ 0x05 ∷ five) (accepted (pair 0 five)) (invalid_size 5) h (inl five_above_limit) in
+    cc
+
+-- the limit itself is no size that is refused
+no_refusal_at_limit : ¬ (HasVerdict 4 (0x00 ∷ 0x04 ∷ 0x01 ∷ 0x02 ∷ 0x03 ∷ []) (invalid_size 4))
+no_refusal_at_limit (rest, has, large) = omega (arith, large)
+
+no_other_size_refused : ¬ (HasVerdict 4 (0x00 ∷ 0x05 ∷ []) (invalid_size 6))
+no_other_size_refused h =
+    omega (arith, ap size_named (verdict_unique 4 (0x00 ∷ 0x05 ∷ []) (invalid_size 6) (invalid_size 5) h size_above_limit))
+
+-- a pair's bytes have no fault, neither behind the code
+no_fault_in_pair : (f : VarintFault) → ¬ (HasVerdict 4 (0x00 ∷ 0x00 ∷ []) (faulty f))
+no_fault_in_pair f h =
+    let same : faulty f ≡ accepted (pair 0 []) =
+    verdict_unique 4 (0x00 ∷ 0x00 ∷ []) (faulty f) (accepted (pair 0 [])) h empty_digest in
+    cc
+
+no_other_fault_in_size : ¬ (HasVerdict 4 (0x00 ∷ 0x85 ∷ 0x00 ∷ []) (faulty overflow))
+no_other_fault_in_size h =
+    let same : faulty overflow ≡ faulty not_minimal =
+    verdict_unique 4 (0x00 ∷ 0x85 ∷ 0x00 ∷ []) (faulty overflow) (faulty not_minimal) h size_padded in
+    cc
+
+-- no digest is cut before its size is known
+no_end_before_size : ¬ (HasVerdict 4 [] unexpected_eof)
+no_end_before_size h =
+    let same : unexpected_eof ≡ faulty insufficient = verdict_unique 4 [] unexpected_eof (faulty insufficient) h empty_input in cc
+
+-- nor one that doesn't fit
+no_end_above_limit : ¬ (HasVerdict 4 (0x00 ∷ 0x05 ∷ []) unexpected_eof)
+no_end_above_limit h =
+    let same : unexpected_eof ≡ invalid_size 5 =
+    verdict_unique 4 (0x00 ∷ 0x05 ∷ []) unexpected_eof (invalid_size 5) h size_above_limit in
+    cc
+
+-- nor one that is whole
+no_end_of_whole_digest : ¬ (HasVerdict 4 (0x00 ∷ 0x00 ∷ []) unexpected_eof)
+no_end_of_whole_digest h =
+    let same : unexpected_eof ≡ accepted (pair 0 []) =
+    verdict_unique 4 (0x00 ∷ 0x00 ∷ []) unexpected_eof (accepted (pair 0 [])) h empty_digest in
+    cc
+
+-- ---- what is left over
+
+one_left_over : HasLeftOver 4 (0x00 ∷ 0x00 ∷ 0x07 ∷ []) 1
+one_left_over = (pair 0 [], 0x07 ∷ [], begins_empty (0x07 ∷ []), omega arith, refl, omega arith)
+
+nothing_left_over : ¬ (HasLeftOver 4 (0x00 ∷ 0x00 ∷ []) 0)
+nothing_left_over (p, rest, begins, fits, count, some) = omega (arith, some)
+
+no_other_count_left_over : ¬ (HasWholeVerdict 4 (0x00 ∷ 0x00 ∷ 0x07 ∷ []) (invalid_size 2))
+no_other_count_left_over h =
+    omega (arith, ap size_named
+    (whole_verdict_unique 4 (0x00 ∷ 0x00 ∷ 0x07 ∷ []) (invalid_size 2) (invalid_size 1) h (inr one_left_over)))
+
+-- nothing is left over of what begins with no pair
+none_left_over_of_fault : ¬ (HasWholeVerdict 4 (0x80 ∷ []) (invalid_size 1))
+none_left_over_of_fault h =
+    let same : invalid_size 1 ≡ faulty insufficient =
+    whole_verdict_unique 4 (0x80 ∷ []) (invalid_size 1) (faulty insufficient) h code_open_whole in
+    cc
+
+-- nor behind a digest that doesn't fit
+none_left_over_above_limit : ¬ (HasWholeVerdict 4 (0x00 ∷ 0x05 ∷ five ++ 0x09 ∷ []) (invalid_size 1))
+none_left_over_above_limit h =
+    omega (arith, ap size_named
+    (whole_verdict_unique 4 (0x00 ∷ 0x05 ∷ five ++ 0x09 ∷ []) (invalid_size 1) (invalid_size 5) h
+    (inl (five ++ 0x09 ∷ [], size_5 (five ++ 0x09 ∷ []), omega arith))))
+
+no_pair_but_the_whole : ¬ (HasWholeVerdict 4 (0x00 ∷ 0x00 ∷ 0x07 ∷ []) (accepted (pair 0 [])))
+no_pair_but_the_whole h =
+    let same : accepted (pair 0 []) ≡ invalid_size 1 =
+    whole_verdict_unique 4 (0x00 ∷ 0x00 ∷ 0x07 ∷ []) (accepted (pair 0 [])) (invalid_size 1) h (inr one_left_over) in
+    cc
+
+-- ---- what begins an input
+
+begins_with_one : BeginsWith (pair 0 []) (0x00 ∷ 0x00 ∷ 0x07 ∷ []) (0x07 ∷ [])
+begins_with_one = begins_empty (0x07 ∷ [])
+
+begins_with_no_other : ¬ (BeginsWith (pair 1 []) (0x00 ∷ 0x00 ∷ []) [])
+begins_with_no_other h = no_other_code ([], h, omega arith)
+
+rest_is_all_that_follows : ¬ (BeginsWith (pair 0 []) (0x00 ∷ 0x00 ∷ 0x07 ∷ []) [])
+rest_is_all_that_follows h =
+    omega (
+      arith,
+      ap (λ (z : List ℕ). length z) (encoding_same (pair 0 []) h.encoding (0x00 ∷ 0x00 ∷ []) h.encodes (begins_empty []).encodes),
+      ap (λ (z : List ℕ). length z) h.cut,
+      length-append h.encoding [],
+    )
+
+has_code : HasCode (0x00 ∷ 0x07 ∷ []) (0x07 ∷ [])
+has_code = record { code = 0; code_bytes = 0x00 ∷ []; is_code = varint_0; cut = refl }
+
+open_code_is_none : (rest : List ℕ) → ¬ (HasCode (0x80 ∷ []) rest)
+open_code_is_none rest h =
+    let same : number h.code rest ≡ fault insufficient =
+    front_unique (0x80 ∷ []) (number h.code rest) (fault insufficient) (h.code_bytes, h.is_code, h.cut) (open_front) in
+    cc
+
+-- no byte of the code is left
+code_leaves_what_follows : ¬ (HasCode (0x00 ∷ 0x07 ∷ []) (0x00 ∷ 0x07 ∷ []))
+code_leaves_what_follows h =
+    omega (arith, ap (λ (z : List ℕ). length z)
+    (same_number (0x00 ∷ 0x07 ∷ []) h.code 0 (0x00 ∷ 0x07 ∷ []) (0x07 ∷ []) (h.code_bytes, h.is_code, h.cut) (0x00 ∷ [], varint_0, refl)).1)
+
+has_size : HasSize 5 (0x00 ∷ 0x05 ∷ 0x07 ∷ []) (0x07 ∷ [])
+has_size = size_5 (0x07 ∷ [])
+
+-- the code is no size
+code_is_no_size : ¬ (HasSize 0 (0x00 ∷ 0x05 ∷ []) [])
+code_is_no_size h = size_is_5 0 h (λ e. omega (arith, e))
+
+no_size_without_code : (size : ℕ) (rest : List ℕ) → ¬ (HasSize size (0x80 ∷ []) rest)
+no_size_without_code size rest h =
+    open_code_is_none (h.size_bytes ++ rest) (record { code = h.code; code_bytes = h.code_bytes; is_code = h.is_code; cut = h.cut })
 
 -- ---- the verdicts that more input may change
 
