@@ -2,7 +2,7 @@
 use Rattle.std.proofs.Common.{◌≡◌, ℕ, List, [], length, get_or, refl, ap, arith, inl, inr}
 use Rattle.std.specs.Prelude.{codes}
 use Rattle.multihash.specs.declared.no_std_io.error.Kind.TheVariants.{UnexpectedEof, WriteZero, OutOfMemory, Other}
-use Rattle.multihash.specs.Fault.{Fault, IsUnexpectedEof, IsWriteZero, IsOutOfMemory, IsOther, IsOwnFault, StandardText, HasStandardText}
+use Rattle.multihash.specs.Fault.{Fault, IsUnexpectedEof, IsWriteZero, IsOutOfMemory, IsOther, IsOwnFault, HasStandardText}
 
 abbrev pub other : Fault
 other = record { kind = Other; text = [] }
@@ -83,16 +83,16 @@ no_own_full (inr h) = cc
 
 -- ---- texts: no kind has that of another
 
-eof_text_of_full : ¬ (StandardText UnexpectedEof (codes "failed to write whole buffer"))
+eof_text_of_full : ¬ (HasStandardText (record { kind = UnexpectedEof; text = (codes "failed to write whole buffer") }))
 eof_text_of_full h = omega (arith, ap (λ (z : List ℕ). get_or z 10 0) h)
 
-eof_text_of_memory : ¬ (StandardText UnexpectedEof (codes "out of memory"))
+eof_text_of_memory : ¬ (HasStandardText (record { kind = UnexpectedEof; text = (codes "out of memory") }))
 eof_text_of_memory h = omega (arith, ap (λ (z : List ℕ). length z) h)
 
-full_text_of_eof : ¬ (StandardText WriteZero (codes "failed to fill whole buffer"))
+full_text_of_eof : ¬ (HasStandardText (record { kind = WriteZero; text = (codes "failed to fill whole buffer") }))
 full_text_of_eof h = omega (arith, ap (λ (z : List ℕ). get_or z 10 0) h)
 
-memory_text_of_eof : ¬ (StandardText OutOfMemory (codes "failed to fill whole buffer"))
+memory_text_of_eof : ¬ (HasStandardText (record { kind = OutOfMemory; text = (codes "failed to fill whole buffer") }))
 memory_text_of_eof h = omega (arith, ap (λ (z : List ℕ). length z) h)
 
 no_text_of_eof : ¬ (HasStandardText eof)
@@ -105,5 +105,5 @@ no_text_of_memory : ¬ (HasStandardText memory)
 no_text_of_memory h = omega (arith, ap (λ (z : List ℕ). length z) h)
 
 -- only a text of the reader's or the writer's own is free
-any_text_of_other : (text : List ℕ) → StandardText Other text
-any_text_of_other text = tt
+any_text_of_other : (text : List ℕ) → HasStandardText (record { kind = Other; text = text })
+any_text_of_other text = refl
