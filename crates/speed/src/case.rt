@@ -1,0 +1,78 @@
+//! What is measured: an operation at its sizes.
+use crate::operation::Operation;
+use std::alloc::{AllocError, Global};
+use std::fmt;
+
+/// The most bytes that the varint of a code has.
+pub const LONGEST_CODE: u32 = 10;
+
+// Buffers and digests, in bytes. The first five are the main ones.
+const SIZES: [(usize, usize); 10] = [
+    (64, 0),
+    (64, 20),
+    (64, 32),
+    (64, 48),
+    (64, 64),
+    (0, 0),
+    (32, 20),
+    (32, 32),
+    (255, 32),
+    (255, 255),
+];
+
+/// An operation at its sizes.
+#[derive(Clone, Copy, Debug)]
+pub struct Case {
+    pub operation: Operation,
+    /// The digest's length in bytes.
+    pub size: usize,
+    /// The length of the code's varint in bytes.
+    pub code_len: u32,
+    /// The buffer's size in bytes.
+    pub buffer: usize,
+}
+
+impl fmt::Display for Case {
+    fn fmt<W: fmt::Write>(&self, f: &mut fmt::Formatter<W>) -> fmt::Result {
+        let (operation, size) = (self.operation, self.size);
+        write!(f, "{operation} {size} {} {}", self.code_len, self.buffer)
+    }
+}
+
+impl Case {
+    /// The cases of an operation: each pair of sizes with a code of one byte, and, where codes
+    /// matter, a digest of 32 bytes behind each longer code, and one of 64 behind the longest.
+    pub fn list(alloc: Global, operation: Operation) -> Result<Vec<Case>, AllocError> {
+        let mut cases = Vec::new(alloc);
+        for (buffer, size) in SIZES {
+            cases.push(Case {
+                operation,
+                size,
+                code_len: 1,
+                buffer,
+            })?;
+        }
+        if operation.has_varints() {
+            add_long_codes(&mut cases, operation)?;
+        }
+        Ok(cases)
+    }
+}
+
+fn add_long_codes(cases: &mut Vec<Case>, operation: Operation) -> Result<(), AllocError> {
+    for code_len in 2..=LONGEST_CODE {
+        cases.push(Case {
+            operation,
+            size: 32,
+            code_len,
+            buffer: 64,
+        })?;
+    }
+    cases.push(Case {
+        operation,
+        size: 64,
+        code_len: LONGEST_CODE,
+        buffer: 64,
+    })?;
+    Ok(())
+}

@@ -1,0 +1,100 @@
+//! What the calls of a case are made on.
+ghost use Rattle.std.specs.Prelude.{◌≡◌, ◌<◌, ◌≤◌, ◌^◌, ◌*◌, ◌-◌, length, IfOk};
+
+use crate::case::{Case, LONGEST_CODE};
+use anyhow::{Result, ensure};
+use multihash::{Multihash, list};
+use serde_json::Value;
+use std::alloc::Global;
+
+/// The number of items of a list.
+pub const LIST: usize = 1000;
+
+// The calls go round so many values.
+const ROUND: usize = 8;
+
+// Each byte of a digest.
+const DIGEST_BYTE: u8 = 0xa5;
+
+/// The inputs of a case's calls.
+#[derive(Drop)]
+pub struct Inputs<const S: usize> {
+    pub code: u64,
+    pub digest: Vec<u8>,
+    pub encoding: Vec<u8>,
+    pub scale: Vec<u8>,
+    /// All of `left` and `right` are equal.
+    pub left: Vec<Multihash<S>>,
+    pub right: Vec<Multihash<S>>,
+    pub values: Vec<Value>,
+    pub items: Vec<Multihash<S>>,
+    /// The items' encodings.
+    pub stream: Vec<u8>,
+    /// Places for what is written.
+    pub room: Vec<u8>,
+    /// A vector with places enough.
+    pub vector: Vec<u8>,
+    /// Which bits of the last byte may change from call to call: all of a digest's, and none of a size's.
+    pub varied: u8,
+    /// Half of the digest's size.
+    pub half: u8,
+    ghost small: { S ≤ 255 },
+}
+
+impl<const S: usize> Inputs<S> {
+    /// Makes the inputs of a case.
+    ///
+    /// # Errors
+    ///
+    /// A digest that does not fit, a code of no such length, and want of memory.
+    pub fn new(alloc: Global, case: Case) -> Result<Self>
+        requires { S ≤ 255 }
+        ensures code { IfOk result (λ inputs. inputs.code ≡ 2 ^ (7 * (case.code_len - 1))) }
+        ensures digest { IfOk result (λ inputs. length inputs.digest.items ≡ case.size) }
+    {
+        ensure!(
+            0 < case.code_len && case.code_len <= LONGEST_CODE,
+            "no code of such a length"
+        );
+        let code = first_code(case.code_len);
+        let digest = vec![in alloc; DIGEST_BYTE; case.size]?;
+        let multihash = Multihash::<S>::wrap(code, &digest)?;
+        let mut scale = Vec::new(alloc);
+        multihash.scale_encode(&mut scale)?;
+        let items = vec![in alloc; multihash; LIST]?;
+        let mut stream = Vec::new(alloc);
+        list::write_list(&items, &mut stream)?;
+        Ok(Inputs {
+            code,
+            digest,
+            encoding: multihash.to_bytes(alloc)?,
+            scale,
+            left: vec![in alloc; multihash; ROUND]?,
+            right: vec![in alloc; multihash; ROUND]?,
+            values: values(alloc, &multihash)?,
+            items,
+            room: stream.clone()?,
+            vector: stream.clone()?,
+            stream,
+            varied: if case.size == 0 { 0 } else { u8::MAX },
+            half: multihash.size() / 2,
+        })
+    }
+}
+
+// The smallest code whose varint has so many bytes, but for the one of one byte, which is 1.
+fn first_code(code_len: u32) -> u64
+    requires some { 0 < code_len }
+    requires most { code_len ≤ LONGEST_CODE }
+    ensures { result ≡ 2 ^ (7 * (code_len - 1)) }
+{
+    1 << (7 * (code_len - 1))
+}
+
+fn values<const S: usize>(alloc: Global, multihash: &Multihash<S>) -> Result<Vec<Value>> {
+    let mut all = Vec::new(alloc);
+    for _ in 0..ROUND {
+        all.push(multihash.to_value(alloc)?)?;
+    }
+    Ok(all)
+}

@@ -1,0 +1,55 @@
+//! How fast the library's calls are.
+//!
+//! - `speed` prints, for each case, the nanoseconds of a call: the best of some runs.
+//! - `speed cases` prints the cases, one a line: the operation, the digest's size, the number of bytes
+//!   of the code, and the buffer's size.
+//! - `speed check` makes some calls of each case, and prints a sum for each operation.
+//! - `speed OPERATION SIZE CODE_LEN BUFFER COUNT` makes `COUNT` calls of one case, and prints their
+//!   sum: so a tool that counts instructions sees what the calls cost.
+//!
+//! For a list a call is one item of a thousand.
+#![tactic(auto)]
+
+mod bench;
+mod calls;
+mod case;
+mod inputs;
+mod operation;
+mod report;
+mod run;
+
+use crate::case::Case;
+use crate::operation::Operation;
+use anyhow::{Context, Result, bail};
+use std::alloc::Global;
+use std::env;
+use std::time::Clock;
+
+fn main(rt: HostRuntime) -> Result<()> {
+    let words: Vec<String> = env::args(&rt)?.skip(1).collect(rt.alloc())?;
+    let text = answer(&rt, rt.alloc(), words.as_slice())?;
+    print!(rt; "{text}")?;
+    Ok(())
+}
+
+// What the program prints, by its arguments.
+fn answer<C: Clock>(clock: &C, alloc: Global, words: &[String]) -> Result<String> {
+    let mut out = String::new(alloc);
+    match words {
+        [] => report::write_times(clock, alloc, &mut out)?,
+        [word] if word.as_str() == "cases" => report::write_cases(alloc, &mut out)?,
+        [word] if word.as_str() == "check" => report::write_checks(alloc, &mut out)?,
+        [operation, size, code_len, buffer, count] => {
+            let case = Case {
+                operation: operation.parse::<Operation>()?,
+                size: size.parse::<usize>().context("a digest's size")?,
+                code_len: code_len.parse::<u32>().context("a code's length")?,
+                buffer: buffer.parse::<usize>().context("a buffer's size")?,
+            };
+            let count = count.parse::<u32>().context("a count")?;
+            report::write_sum(alloc, case, count, &mut out)?;
+        }
+        _ => bail!("wanted: no word, cases, check, or OPERATION SIZE CODE_LEN BUFFER COUNT"),
+    }
+    Ok(out)
+}

@@ -1,0 +1,116 @@
+//! The operations that are measured.
+use std::fmt;
+use std::str::FromStr;
+use thiserror::Error;
+
+/// A call of the library.
+#[derive(Clone, Copy, Debug, PartialEq, Eq)]
+pub enum Operation {
+    Wrap,
+    FromBytes,
+    ToBytes,
+    ReadSlice,
+    WriteSlice,
+    WriteVec,
+    EncodedLen,
+    Equal,
+    SameAs,
+    Compare,
+    Hash,
+    Truncate,
+    Resize,
+    IntoInner,
+    ScaleEncode,
+    ScaleDecode,
+    ToValue,
+    FromValue,
+    WriteList,
+    ReadList,
+}
+
+/// A word that names no operation.
+#[derive(Debug, Drop, Error)]
+#[error("no such operation")]
+pub struct UnknownOperation;
+
+impl Operation {
+    pub const ALL: [Operation; 20] = [
+        Operation::Wrap,
+        Operation::FromBytes,
+        Operation::ToBytes,
+        Operation::ReadSlice,
+        Operation::WriteSlice,
+        Operation::WriteVec,
+        Operation::EncodedLen,
+        Operation::Equal,
+        Operation::SameAs,
+        Operation::Compare,
+        Operation::Hash,
+        Operation::Truncate,
+        Operation::Resize,
+        Operation::IntoInner,
+        Operation::ScaleEncode,
+        Operation::ScaleDecode,
+        Operation::ToValue,
+        Operation::FromValue,
+        Operation::WriteList,
+        Operation::ReadList,
+    ];
+
+    fn name(self) -> &'static str {
+        match self {
+            Operation::Wrap => "wrap",
+            Operation::FromBytes => "from_bytes",
+            Operation::ToBytes => "to_bytes",
+            Operation::ReadSlice => "read_slice",
+            Operation::WriteSlice => "write_slice",
+            Operation::WriteVec => "write_vec",
+            Operation::EncodedLen => "encoded_len",
+            Operation::Equal => "eq",
+            Operation::SameAs => "same_as",
+            Operation::Compare => "cmp",
+            Operation::Hash => "hash",
+            Operation::Truncate => "truncate",
+            Operation::Resize => "resize",
+            Operation::IntoInner => "into_inner",
+            Operation::ScaleEncode => "scale_encode",
+            Operation::ScaleDecode => "scale_decode",
+            Operation::ToValue => "to_value",
+            Operation::FromValue => "from_value",
+            Operation::WriteList => "write_list",
+            Operation::ReadList => "read_list",
+        }
+    }
+
+    /// Whether what a call costs depends on the code's length.
+    pub fn has_varints(self) -> bool {
+        matches!(
+            self,
+            Operation::FromBytes
+                | Operation::ToBytes
+                | Operation::ReadSlice
+                | Operation::WriteSlice
+                | Operation::WriteVec
+                | Operation::EncodedLen
+        )
+    }
+}
+
+impl fmt::Display for Operation {
+    fn fmt<W: fmt::Write>(&self, f: &mut fmt::Formatter<W>) -> fmt::Result {
+        f.pad(self.name())
+    }
+}
+
+impl FromStr for Operation {
+    type Err = UnknownOperation;
+
+    fn from_str(text: &str) -> Result<Operation, UnknownOperation> {
+        for operation in Operation::ALL {
+            if operation.name() == text {
+                return Ok(operation);
+            }
+        }
+        Err(UnknownOperation)
+    }
+}

@@ -1,0 +1,108 @@
+//! What the program prints.
+use crate::bench::Bench;
+use crate::case::Case;
+use crate::operation::Operation;
+use anyhow::Result;
+use std::alloc::Global;
+use std::fmt::Write;
+use std::io;
+use std::time::{Clock, Duration, Instant};
+
+// How many calls of each case a check makes.
+const CHECK_CALLS: u32 = 1000;
+
+// The best of so many runs is taken.
+const RUNS: u32 = 7;
+
+// How long a run takes at least, so that the clock tells it well.
+const SHORTEST_MILLISECONDS: u128 = 4;
+
+/// Writes the cases, one a line.
+pub fn write_cases<W: Write>(alloc: Global, out: &mut W) -> Result<()> {
+    for operation in Operation::ALL {
+        for case in Case::list(alloc, operation)? {
+            writeln!(out, "{case}")?;
+        }
+    }
+    Ok(())
+}
+
+/// Makes some calls of each case, and writes the sum of what they tell, one operation a line.
+pub fn write_checks<W: Write>(alloc: Global, out: &mut W) -> Result<()> {
+    for operation in Operation::ALL {
+        writeln!(out, "{operation} {}", check(alloc, operation)?)?;
+    }
+    Ok(())
+}
+
+fn check(alloc: Global, operation: Operation) -> Result<u64> {
+    let mut sum = 0_u64;
+    for case in Case::list(alloc, operation)? {
+        let told = Bench::new(alloc, case)?.run(alloc, operation, CHECK_CALLS);
+        sum = sum.wrapping_add(told);
+    }
+    Ok(sum)
+}
+
+/// Makes so many calls of a case, and writes the sum of what they tell.
+pub fn write_sum<W: Write>(alloc: Global, case: Case, count: u32, out: &mut W) -> Result<()> {
+    let sum = Bench::new(alloc, case)?.run(alloc, case.operation, count);
+    writeln!(out, "{sum}")?;
+    Ok(())
+}
+
+/// Writes the nanoseconds that a call takes, one case a line.
+pub fn write_times<C: Clock, W: Write>(clock: &C, alloc: Global, out: &mut W) -> Result<()> {
+    for operation in Operation::ALL {
+        for case in Case::list(alloc, operation)? {
+            let mut bench = Bench::new(alloc, case)?;
+            let tenths = tenths_of_nanoseconds(clock, alloc, &mut bench, operation)?;
+            writeln!(out, "{case}\t{}.{}", tenths / 10, tenths % 10)?;
+        }
+    }
+    Ok(())
+}
+
+fn tenths_of_nanoseconds<C: Clock>(
+    clock: &C,
+    alloc: Global,
+    bench: &mut Bench,
+    operation: Operation,
+) -> Result<u128> {
+    let count = count_for_clock(clock, alloc, bench, operation)?;
+    let mut best = u128::MAX;
+    for _ in 0..RUNS {
+        let time = time_run(clock, alloc, bench, operation, count)?;
+        best = best.min(time.as_nanos());
+    }
+    Ok(best.saturating_mul(10) / u128::from(count.max(1)))
+}
+
+// A number of calls that take long enough.
+fn count_for_clock<C: Clock>(
+    clock: &C,
+    alloc: Global,
+    bench: &mut Bench,
+    operation: Operation,
+) -> io::Result<u32> {
+    let mut count = 1000_u32;
+    for _ in 0..16 {
+        if time_run(clock, alloc, bench, operation, count)?.as_millis() >= SHORTEST_MILLISECONDS {
+            break;
+        }
+        count = count.saturating_mul(2);
+    }
+    Ok(count)
+}
+
+fn time_run<C: Clock>(
+    clock: &C,
+    alloc: Global,
+    bench: &mut Bench,
+    operation: Operation,
+    count: u32,
+) -> io::Result<Duration> {
+    let start = Instant::now(clock)?;
+    bench.run(alloc, operation, count);
+    start.elapsed(clock)
+}

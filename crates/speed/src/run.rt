@@ -1,0 +1,229 @@
+//! Many calls of one operation. What a call is made on changes each time, so that no compiler makes
+//! one call for all of them, and something of each answer goes into a sum.
+use crate::calls;
+use crate::inputs::{Inputs, LIST};
+use crate::operation::Operation;
+use multihash::{Error, Multihash};
+use std::alloc::Global;
+use std::cmp::Ordering;
+
+// The sum of what calls tell, each on the next of the values, round and round.
+macro_rules! sum_of_values {
+    ($values:expr, $count:expr, |$value:ident| $told:expr) => {{
+        let values = $values.as_slice();
+        let mut sum = 0_u64;
+        for turn in 0..$count {
+            if let Some($value) = values.get((turn & 7) as usize) {
+                sum = sum.wrapping_add($told);
+            }
+        }
+        sum
+    }};
+}
+
+// The sum of what calls tell, each on the next value of either.
+macro_rules! sum_of_pairs {
+    ($left:expr, $right:expr, $count:expr, |$a:ident, $b:ident| $told:expr) => {{
+        let (left, right) = ($left.as_slice(), $right.as_slice());
+        let mut sum = 0_u64;
+        for turn in 0..$count {
+            let place = (turn & 7) as usize;
+            if let (Some($a), Some($b)) = (left.get(place), right.get(place)) {
+                sum = sum.wrapping_add($told);
+            }
+        }
+        sum
+    }};
+}
+
+// The sum of what calls tell, each on the same bytes with another last one, of which some bits may
+// change.
+macro_rules! sum_of_bytes {
+    ($bytes:expr, $varied:expr, $count:expr, |$now:ident| $told:expr) => {{
+        let (bytes, varied) = ($bytes.as_mut_slice(), $varied);
+        let mut sum = 0_u64;
+        for _ in 0..$count {
+            if let Some(last) = bytes.last_mut() {
+                *last = (sum & 0xff) as u8 & varied;
+            }
+            let $now: &[u8] = bytes;
+            sum = sum.wrapping_add($told);
+        }
+        sum
+    }};
+}
+
+impl<const S: usize> Inputs<S> {
+    /// Makes so many calls of an operation, and answers the sum of what they tell. Of a list, so many
+    /// items are written or read, by the thousand.
+    pub fn run(&mut self, alloc: Global, operation: Operation, count: u32) -> u64 {
+        match operation {
+            Operation::Wrap => self.wrap(count),
+            Operation::FromBytes => self.from_bytes(count),
+            Operation::ToBytes => self.to_bytes(alloc, count),
+            Operation::ReadSlice => self.read_slice(count),
+            Operation::WriteSlice => self.write_slice(count),
+            Operation::WriteVec => self.write_vec(count),
+            Operation::EncodedLen => self.encoded_len(count),
+            Operation::Equal => self.eq(count),
+            Operation::SameAs => self.same_as(count),
+            Operation::Compare => self.cmp(count),
+            Operation::Hash => self.hash(count),
+            Operation::Truncate => self.truncate(count),
+            Operation::Resize => self.resize(count),
+            Operation::IntoInner => self.into_inner(count),
+            Operation::ScaleEncode => self.scale_encode(count),
+            Operation::ScaleDecode => self.scale_decode(count),
+            Operation::ToValue => self.to_value(alloc, count),
+            Operation::FromValue => self.from_value(count),
+            Operation::WriteList => self.write_list(count),
+            Operation::ReadList => self.read_list(alloc, count),
+        }
+    }
+
+    fn wrap(&mut self, count: u32) -> u64 {
+        let code = self.code;
+        sum_of_bytes!(self.digest, self.varied, count, |digest| {
+            told(&calls::wrap::<S>(code, digest))
+        })
+    }
+
+    fn from_bytes(&mut self, count: u32) -> u64 {
+        sum_of_bytes!(self.encoding, self.varied, count, |bytes| {
+            told(&calls::from_bytes::<S>(bytes))
+        })
+    }
+
+    fn to_bytes(&self, alloc: Global, count: u32) -> u64 {
+        sum_of_values!(self.left, count, |m| match calls::to_bytes(alloc, m) {
+            Ok(bytes) => bytes.len() as u64,
+            Err(_) => 0,
+        })
+    }
+
+    fn read_slice(&mut self, count: u32) -> u64 {
+        sum_of_bytes!(self.encoding, self.varied, count, |bytes| {
+            let mut rest = bytes;
+            let read = told(&calls::read_slice::<S>(&mut rest));
+            read.wrapping_add(rest.len() as u64)
+        })
+    }
+
+    fn write_slice(&mut self, count: u32) -> u64 {
+        sum_of_values!(self.left, count, |m| {
+            told_count(&calls::write_slice(m, &mut self.room))
+        })
+    }
+
+    fn write_vec(&mut self, count: u32) -> u64 {
+        sum_of_values!(self.left, count, |m| {
+            told_count(&calls::write_vec(m, &mut self.vector))
+        })
+    }
+
+    fn encoded_len(&self, count: u32) -> u64 {
+        sum_of_values!(self.left, count, |m| calls::encoded_len(m) as u64)
+    }
+
+    fn eq(&self, count: u32) -> u64 {
+        sum_of_pairs!(self.left, self.right, count, |a, b| {
+            u64::from(calls::eq(a, b))
+        })
+    }
+
+    fn same_as(&self, count: u32) -> u64 {
+        sum_of_pairs!(self.left, self.right, count, |a, b| {
+            u64::from(calls::same_as(a, b))
+        })
+    }
+
+    fn cmp(&self, count: u32) -> u64 {
+        sum_of_pairs!(self.left, self.right, count, |a, b| {
+            u64::from(calls::cmp(a, b) == Ordering::Equal)
+        })
+    }
+
+    fn hash(&self, count: u32) -> u64 {
+        sum_of_values!(self.left, count, |m| calls::hash(m))
+    }
+
+    fn truncate(&self, count: u32) -> u64 {
+        sum_of_values!(self.left, count, |m| {
+            let front = calls::truncate(m, self.half);
+            front.code().wrapping_add(u64::from(front.size()))
+        })
+    }
+
+    fn resize(&self, count: u32) -> u64 {
+        sum_of_values!(self.left, count, |m| told(&calls::resize(m)))
+    }
+
+    fn into_inner(&self, count: u32) -> u64 {
+        sum_of_values!(self.left, count, |m| {
+            let (code, _, size) = calls::into_inner(m);
+            code.wrapping_add(u64::from(size))
+        })
+    }
+
+    fn scale_encode(&mut self, count: u32) -> u64 {
+        sum_of_values!(self.left, count, |m| {
+            told_count(&calls::scale_encode(m, &mut self.room))
+        })
+    }
+
+    fn scale_decode(&mut self, count: u32) -> u64 {
+        sum_of_bytes!(self.scale, self.varied, count, |bytes| {
+            let mut rest = bytes;
+            let read = told(&calls::scale_decode::<S>(&mut rest));
+            read.wrapping_add(rest.len() as u64)
+        })
+    }
+
+    fn to_value(&self, alloc: Global, count: u32) -> u64 {
+        sum_of_values!(self.left, count, |m| match calls::to_value(alloc, m) {
+            Ok(value) => u64::from(value.is_array()),
+            Err(_) => 0,
+        })
+    }
+
+    fn from_value(&self, count: u32) -> u64 {
+        sum_of_values!(self.values, count, |value| {
+            told(&calls::from_value::<S>(value))
+        })
+    }
+
+    fn write_list(&mut self, count: u32) -> u64 {
+        let mut sum = 0_u64;
+        for _ in 0..count / LIST as u32 {
+            let written = calls::write_list(&self.items, &mut self.room);
+            sum = sum.wrapping_add(u64::from(written.is_ok()));
+        }
+        sum
+    }
+
+    fn read_list(&mut self, alloc: Global, count: u32) -> u64 {
+        sum_of_bytes!(self.stream, self.varied, count / LIST as u32, |bytes| {
+            let mut rest = bytes;
+            let read = match calls::read_list::<S>(alloc, &mut rest, LIST) {
+                Ok(items) => items.len() as u64,
+                Err(_) => 0,
+            };
+            read.wrapping_add(rest.len() as u64)
+        })
+    }
+}
+
+// What of an answer goes into the sum.
+fn told<const S: usize>(answer: &Result<Multihash<S>, Error>) -> u64 {
+    match answer {
+        Ok(m) => m.code().wrapping_add(u64::from(m.size())),
+        Err(_) => 0,
+    }
+}
+
+fn told_count(answer: &Result<usize, Error>) -> u64 {
+    match answer {
+        Ok(count) => *count as u64,
+        Err(_) => 0,
+    }
+}
