@@ -4,7 +4,8 @@ use Rattle.std.specs.Prelude.{Option, Some, None, Result, Ok, Err}
 use Rattle.std.proofs.lemmas.Bool.{false≢true}
 use Rattle.std.proofs.lemmas.List.{append_cancel_right}
 use Rattle.multihash.specs.Fault.{Fault, IsUnexpectedEof, IsOwnFault}
-use Rattle.multihash.specs.Reading.{preceded_by, Takes, IsAtEnd, HasFewerThan, TakesFewerThan, CountsReader, ReadLaws, ReadExactLaws}
+use Rattle.std.specs.Io.KnownBytes.{prepend_known, IsAtEnd}
+use Rattle.multihash.specs.Reading.{Takes, HasFewerThan, TakesFewerThan, CountsReader, ReadLaws, ReadExactLaws}
 use Rattle.multihash.proofs.FaultVectors.{other, eof, full, memory}
 
 -- ---- what was taken
@@ -17,10 +18,10 @@ told (Some bytes) = bytes
 pub taken_is : (a b taken : List ℕ) → Takes (Some (a ++ b)) taken (Some b) → taken ≡ a
 taken_is a b taken h = append_cancel_right taken a b (sym (ap told h))
 
-precedes : preceded_by (1 ∷ []) (Some (2 ∷ [])) ≡ Some (1 ∷ 2 ∷ [])
+precedes : prepend_known (1 ∷ []) (Some (2 ∷ [])) ≡ Some (1 ∷ 2 ∷ [])
 precedes = refl
 
-precedes_silently : preceded_by (1 ∷ []) None ≡ None
+precedes_silently : prepend_known (1 ∷ []) None ≡ None
 precedes_silently = refl
 
 takes_two : Takes (Some (1 ∷ 2 ∷ 3 ∷ [])) (1 ∷ 2 ∷ []) (Some (3 ∷ []))

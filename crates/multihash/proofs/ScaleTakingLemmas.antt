@@ -5,7 +5,8 @@ use Rattle.multihash.specs.Pair.{Pair}
 use Rattle.multihash.specs.Verdict.{Verdict, accepted, invalid_size, unexpected_eof}
 use Rattle.multihash.specs.Scale.{IsScaleCode, IsScale, HasScaleSize, HasScaleVerdict}
 use Rattle.multihash.specs.Fault.{Fault, IsUnexpectedEof, IsOwnFault}
-use Rattle.multihash.specs.Reading.{preceded_by, Takes, HasFewerThan}
+use Rattle.std.specs.Io.KnownBytes.{prepend_known}
+use Rattle.multihash.specs.Reading.{Takes, HasFewerThan}
 use Rattle.multihash.specs.Refusal.{Refusal, of_io, IsInvalidSize}
 use Rattle.multihash.specs.Answer.{Fields, pair_of, IsRefusal, Answers}
 use Rattle.multihash.specs.ScaleTaking.{TakesAtScaleRefusal}
@@ -72,7 +73,7 @@ module _ (S code size : ℕ) (a : List ℕ) (is_code : IsScaleCode code a) where
       ))
     where
       short : (left : List ℕ) → new ≡ Some left → length (front ++ left) < size
-      short left told = subst (HasFewerThan size) (took ∙ ap (λ o. preceded_by front o) told) (few ended_early)
+      short left told = subst (HasFewerThan size) (took ∙ ap (λ o. prepend_known front o) told) (few ended_early)
 
   pub cut_taken : (fault : Fault) (front : List ℕ) (old new : Option (List ℕ)) → size ≤ S → length front < size → Takes old (a ++ size ∷ front) new
       → TakesAtScaleRefusal S (of_io fault) old new

@@ -6,7 +6,8 @@ use Rattle.multihash.specs.Varint.{VarintFault, insufficient, overflow, not_mini
 use Rattle.multihash.specs.Encoding.{IsEncoding}
 use Rattle.multihash.specs.Verdict.{invalid_size, faulty, unexpected_eof, HasSize, HasVerdict}
 use Rattle.multihash.specs.Fault.{Fault, IsUnexpectedEof, IsOwnFault}
-use Rattle.multihash.specs.Reading.{Takes, IsAtEnd, HasFewerThan}
+use Rattle.std.specs.Io.KnownBytes.{IsAtEnd}
+use Rattle.multihash.specs.Reading.{Takes, HasFewerThan}
 use Rattle.multihash.specs.Refusal.{Refusal, of_io, IsReaderFault, IsInvalidSize, IsFaulty}
 use Rattle.multihash.specs.Taking.{IsVarintRefusal, TakesAtVarintRefusal}
 use Rattle.multihash.specs.Answer.{Fields, pair_of}

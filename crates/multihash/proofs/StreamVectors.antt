@@ -138,7 +138,7 @@ fails_with_nothing_settled h =
     let at = none_before 4 h.pairs (Some (0 ∷ 0 ∷ 7 ∷ [])) h.middle h.fewer h.good in
     let u =
     subst
-    (λ (o : Option (List ℕ)). IfSome o (λ left. (3 < 4) ⊎ ((v : Verdict) × HasVerdict 4 left v × IsEarlyEnd v) → TakesUnsettled 4 (Some left) (Some (7 ∷ []))))
+    (λ (o : Option (List ℕ)). IfSome o (λ left. (3 < 4) ⊎ ((v : Verdict) × HasVerdict 4 left v × IsEarlyEnd v) → TakesUnsettled 4 left (Some (7 ∷ []))))
     at h.unsettled (inl (omega arith)) in
     u.unsettled (0 ∷ 0 ∷ []) ([], taken_is (0 ∷ 0 ∷ []) (7 ∷ []) u.taken u.takes ∙ sym (append-nil (0 ∷ 0 ∷ []))) empty_digest_settles
 

@@ -7,7 +7,8 @@ use Rattle.multihash.specs.Varint.{insufficient, overflow, not_minimal}
 use Rattle.multihash.specs.Encoding.{IsEncoding}
 use Rattle.multihash.specs.Verdict.{Verdict, accepted, invalid_size, faulty, unexpected_eof, HasVerdict, HasWholeVerdict, IsEarlyEnd}
 use Rattle.multihash.specs.Settling.{Settles, IsShortestSettling}
-use Rattle.multihash.specs.Reading.{Takes, IsAtEnd, CountsReader}
+use Rattle.std.specs.Io.KnownBytes.{IsAtEnd}
+use Rattle.multihash.specs.Reading.{Takes, CountsReader}
 use Rattle.multihash.specs.Fault.{Fault}
 use Rattle.multihash.specs.Refusal.{Refusal, IsReaderFault, IsEof, IsFaulty}
 use Rattle.multihash.specs.Taking.{IsReadRefusal, TakesAtRefusal, TakesShortestSettling, TakesUnsettled}
@@ -154,7 +155,7 @@ stop_none S e taken left before after (early v same soon given has all whole) wh
 stop_none S e taken left before after (failed v rose own soon has) why = none_settles S taken v has soon
 
 pub stop_unsettled : (S : ℕ) (e : Refusal) (taken : List ℕ) (old new : Option (List ℕ)) (before after : ℕ) → Takes old taken new
-    → Stops S e taken new before after → IfSome old (λ rest. EndsOrFails S rest before after → TakesUnsettled S (Some rest) new)
+    → Stops S e taken new before after → IfSome old (λ rest. EndsOrFails S rest before after → TakesUnsettled S rest new)
 stop_unsettled S e taken None new before after takes stop = tt
 stop_unsettled S e taken (Some rest) None before after takes stop = cc
 stop_unsettled S e taken (Some rest) (Some left) before after takes stop =
@@ -197,7 +198,7 @@ module _ (S : ℕ) (p : Pair) (taken : List ℕ) (encodes : IsEncoding p taken) 
       }
 
   pub pair_unsettled : (old new : Option (List ℕ)) (before after : ℕ) → after ≡ before → Takes old taken new
-      → IfSome old (λ rest. EndsOrFails S rest before after → TakesUnsettled S (Some rest) new)
+      → IfSome old (λ rest. EndsOrFails S rest before after → TakesUnsettled S rest new)
   pair_unsettled None new before after unrisen takes = tt
   pair_unsettled (Some rest) None before after unrisen takes = cc
   pair_unsettled (Some rest) (Some left) before after unrisen takes =
@@ -219,7 +220,7 @@ ReadMeets S old new before after r = record {
   fits : IfOk r (λ m. FitsBuffer S (pair_of m));
   err : IfErr r (λ e. TakesAtRefusal S e old new);
   settled : IfSome old (λ rest. after ≡ before → (v : Verdict) → HasVerdict S rest v → ¬ (IsEarlyEnd v) → TakesShortestSettling S rest new);
-  unsettled : IfSome old (λ rest. EndsOrFails S rest before after → TakesUnsettled S (Some rest) new);
+  unsettled : IfSome old (λ rest. EndsOrFails S rest before after → TakesUnsettled S rest new);
 }
 
 pub refused : (S : ℕ) (taken : List ℕ) (old new : Option (List ℕ)) (before after : ℕ) (r : Result (Fields S) Refusal) (e : Refusal)

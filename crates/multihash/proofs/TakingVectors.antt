@@ -271,28 +271,28 @@ takes_no_fewer h =
 
 -- ---- nothing that was taken settles
 
-takes_code_alone : TakesUnsettled 4 (Some (0 ∷ [])) (Some [])
+takes_code_alone : TakesUnsettled 4 (0 ∷ []) (Some [])
 takes_code_alone = record {
   taken = 0 ∷ [];
   takes = refl;
   unsettled = λ front begins. none_settles 4 (0 ∷ []) (faulty insufficient) code_alone tt front begins;
 }
 
-takes_nothing_unsettled : TakesUnsettled 4 (Some (0x80 ∷ 0x00 ∷ [])) (Some (0x80 ∷ 0x00 ∷ []))
+takes_nothing_unsettled : TakesUnsettled 4 (0x80 ∷ 0x00 ∷ []) (Some (0x80 ∷ 0x00 ∷ []))
 takes_nothing_unsettled = record {
   taken = [];
   takes = refl;
   unsettled = λ front begins. none_settles 4 [] (faulty insufficient) empty_input tt front begins;
 }
 
-pub takes_what_settles : ¬ (TakesUnsettled 4 (Some (0 ∷ 5 ∷ 9 ∷ [])) (Some (9 ∷ [])))
+pub takes_what_settles : ¬ (TakesUnsettled 4 (0 ∷ 5 ∷ 9 ∷ []) (Some (9 ∷ [])))
 takes_what_settles h =
     h.unsettled (0 ∷ 5 ∷ []) ([], taken_is (0 ∷ 5 ∷ []) (9 ∷ []) h.taken h.takes ∙ sym (append-nil (0 ∷ 5 ∷ []))) size_settles
 
 -- also where it is only the beginning
-takes_beyond_what_settles : ¬ (TakesUnsettled 4 (Some (0 ∷ 5 ∷ 9 ∷ [])) (Some []))
+takes_beyond_what_settles : ¬ (TakesUnsettled 4 (0 ∷ 5 ∷ 9 ∷ []) (Some []))
 takes_beyond_what_settles h =
     h.unsettled (0 ∷ 5 ∷ []) (9 ∷ [], taken_is (0 ∷ 5 ∷ 9 ∷ []) [] h.taken h.takes) size_settles
 
-unsettled_takes_its_own : ¬ (TakesUnsettled 4 (Some []) (Some (7 ∷ [])))
+unsettled_takes_its_own : ¬ (TakesUnsettled 4 [] (Some (7 ∷ [])))
 unsettled_takes_its_own h = gives_none_back h.taken h.takes

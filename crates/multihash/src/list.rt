@@ -27,7 +27,8 @@ pub fn write_list<const S: usize, W: Write>(items: &[Multihash<S>], w: &mut W) -
         × AppendsPart W.appended w.old bytes w.new) }
     ensures any { OnErr result ((bytes : List ℕ) → AreJoined (map pair_of items.now) bytes →
         AppendsPart W.appended w.old bytes w.new) }
-    ensures stopped { OnErr result (AppendsPartOfPairs W.appended w.old (map pair_of items.now) w.new) }
+    ensures stopped { OnErr result
+        (AppendsPartOfPairs W.appended w.old (map pair_of items.now) w.new) }
     ensures faults { CountsWriter IsIo W.allocates
         (W.failures w.old) (W.failures w.new) (W.full w.new) result }
 {

@@ -75,7 +75,8 @@ impl<const S: usize> Multihash<S> {
     ///
     /// [`Error::invalid_size`] with the digest's length, where that is more than `min(S, 255)`.
     pub fn wrap(code: u64, input_digest: &[u8]) -> Result<Self, Error>
-        ensures ok { IfOk result (λ m. pair_of m ≡ record { code = code; digest = input_digest.now }) }
+        ensures ok { IfOk result (λ m.
+            pair_of m ≡ record { code = code; digest = input_digest.now }) }
         ensures exactly { IsErr result ↔ (digest_limit S < length input_digest.now) }
         ensures err { IfErr result (IsInvalidSize (length input_digest.now)) }
     {
@@ -160,7 +161,8 @@ impl<const S: usize> Multihash<S> {
     /// - [`Error::io`] with the reader's own error, where it failed; the bytes taken are by themselves
     ///   an input that ends early.
     pub fn read<R: Read>(r: &mut R) -> Result<Self, Error>
-        ensures faults { CountsReader IsReaderFault (IsReadRefusal S) (R.failures r.old) (R.failures r.new) result }
+        ensures faults { CountsReader IsReaderFault (IsReadRefusal S)
+            (R.failures r.old) (R.failures r.new) result }
         ensures verdict { IfSome (R.rest r.old) (λ rest. R.failures r.new ≡ R.failures r.old →
             (v : Verdict) × HasVerdict S rest v × Answers result v) }
         ensures ok { IfOk result (λ m. (bytes : List ℕ) × IsEncoding (pair_of m) bytes
@@ -171,10 +173,12 @@ impl<const S: usize> Multihash<S> {
         // Where the verdict is no early end, exactly the shortest beginning that settles it was taken;
         // where it is one, or the reader failed, no beginning of what was taken settles.
         ensures settled { IfSome (R.rest r.old) (λ rest. R.failures r.new ≡ R.failures r.old →
-            (v : Verdict) → HasVerdict S rest v → ¬ (IsEarlyEnd v) → TakesShortestSettling S rest (R.rest r.new)) }
+            (v : Verdict) → HasVerdict S rest v → ¬ (IsEarlyEnd v) →
+            TakesShortestSettling S rest (R.rest r.new)) }
         ensures unsettled { IfSome (R.rest r.old) (λ rest.
-            (R.failures r.old < R.failures r.new) ⊎ ((v : Verdict) × HasVerdict S rest v × IsEarlyEnd v) →
-            TakesUnsettled S (Some rest) (R.rest r.new)) }
+            (R.failures r.old < R.failures r.new)
+            ⊎ ((v : Verdict) × HasVerdict S rest v × IsEarlyEnd v) →
+            TakesUnsettled S rest (R.rest r.new)) }
     {
         let code = varint::read(r)?;
         let size = Self::fitting_size(varint::read(r)?)?;
@@ -248,7 +252,8 @@ impl<const S: usize> Multihash<S> {
 
     /// The length of the encoding in bytes, at most 267.
     pub fn encoded_len(&self) -> usize
-        ensures encoding { (bytes : List ℕ) × IsEncoding (pair_of self.now) bytes × (result ≡ length bytes) }
+        ensures encoding { (bytes : List ℕ) × IsEncoding (pair_of self.now) bytes
+            × (result ≡ length bytes) }
         ensures short { result ≤ 267 }
     {
         let code = varint::len(self.code());
