@@ -1,37 +1,33 @@
 -- What the whole verdict is where a varint or two begin the input.
-use Rattle.std.proofs.Common.{◌≡◌, ◌<◌, ◌≤◌, ◌-◌, ℕ, List, ◌++◌, Some, Result, Ok, Err, length, sym, ap, ◌∙◌, subst, inl, inr, arith, take, drop}
-use Rattle.std.specs.Result.{IsErrAnd}
-use Rattle.std.proofs.lemmas.List.{take-append-drop, length-take-le, length-drop}
+use Rattle.std.proofs.Common.{◌≡◌, ◌<◌, ◌≤◌, ◌-◌, ℕ, List, ◌++◌, Some, length, sym, ap, ◌∙◌, subst, inl, inr, arith, take, drop}
+use Rattle.std.proofs.lemmas.List.{take-append-drop, take_all, length-take-le, length-drop}
 use Rattle.multihash.specs.Pair.{digest_limit}
 use Rattle.multihash.specs.Varint.{IsVarint}
 use Rattle.multihash.specs.Verdict.{Verdict, accepted, invalid_size, faulty, unexpected_eof, HasSize, HasWholeVerdict}
-use Rattle.multihash.specs.Refusal.{Refusal, IsInvalidSize}
+use Rattle.multihash.specs.Refusal.{Refusal}
 use Rattle.multihash.specs.Taking.{IsFrontRefusal, TakesVarint}
-use Rattle.multihash.specs.Answer.{Fields, IsRefusal, Answers}
+use Rattle.multihash.specs.Answer.{IsRefusal}
 use Rattle.multihash.proofs.VerdictLemmas.{pair_begins}
 
--- the verdict that a call's outcome answers
-abbrev pub AnswersWhole : (S : ℕ) → List ℕ → Result (Fields S) Refusal → Type 0
-AnswersWhole S input r = (v : Verdict) × HasWholeVerdict S input v × Answers r v
-
-passed_on_whole : (S : ℕ) (input : List ℕ) (r : Result (Fields S) Refusal) (e : Refusal) → IsErrAnd r (λ x. x ≡ e)
-    → (v : Verdict) × HasWholeVerdict S input v × IsRefusal e v → AnswersWhole S input r
-passed_on_whole S input (Ok m) e given found = absurd given
-passed_on_whole S input (Err x) e given (v, has, refusal) = (v, has, subst (λ z. IsRefusal z v) (sym given) refusal)
+-- a slice from there on is the rest
+pub sliced : (n : ℕ) (xs : List ℕ) (k : ℕ) → TakesVarint n (Some xs) (Some (drop k xs))
+    → TakesVarint n (Some xs) (Some (take (length xs - k) (drop k xs)))
+sliced n xs k met =
+    let all : take (length xs - k) (drop k xs) ≡ drop k xs = take_all (length xs - k) (drop k xs) (omega (arith, length-drop k xs)) in
+    subst (λ (back : List ℕ). TakesVarint n (Some xs) (Some back)) (sym all) met
 
 -- no varint of a code
-pub no_code : (S : ℕ) (input : List ℕ) (r : Result (Fields S) Refusal) (e : Refusal) → IsErrAnd r (λ x. x ≡ e) → IsFrontRefusal input e
-    → AnswersWhole S input r
-no_code S input r e given (fault, named, shows) = passed_on_whole S input r e given (faulty fault, inl shows, named)
+pub no_code : (S : ℕ) (input : List ℕ) (e : Refusal) → IsFrontRefusal input e
+    → (v : Verdict) × HasWholeVerdict S input v × IsRefusal e v
+no_code S input e (fault, named, shows) = (faulty fault, inl shows, named)
 
 module _ (S code : ℕ) (input left : List ℕ) (is_code : TakesVarint code (Some input) (Some left)) where
   cut_code : input ≡ is_code.0 ++ left
   cut_code = cc (is_code.2)
 
   -- no varint of a size
-  pub no_size : (r : Result (Fields S) Refusal) (e : Refusal) → IsErrAnd r (λ x. x ≡ e) → IsFrontRefusal left e → AnswersWhole S input r
-  no_size r e given (fault, named, shows) =
-      passed_on_whole S input r e given
+  pub no_size : (e : Refusal) → IsFrontRefusal left e → (v : Verdict) × HasWholeVerdict S input v × IsRefusal e v
+  no_size e (fault, named, shows) =
       (faulty fault, inr (left, record { code = code; code_bytes = is_code.0; is_code = is_code.1; cut = cut_code }, shows), named)
 
   module _ (size : ℕ) (rest : List ℕ) (is_size : TakesVarint size (Some left) (Some rest)) where
@@ -49,9 +45,8 @@ module _ (S code : ℕ) (input left : List ℕ) (is_code : TakesVarint code (Som
     }
 
     -- a size that is too large
-    pub over : (r : Result (Fields S) Refusal) (e : Refusal) → IsErrAnd r (λ x. x ≡ e) → digest_limit S < size → IsInvalidSize size e
-        → AnswersWhole S input r
-    over r e given large named = passed_on_whole S input r e given (invalid_size size, inl (rest, sized, large), named)
+    pub over : digest_limit S < size → HasWholeVerdict S input (invalid_size size)
+    over large = inl (rest, sized, large)
 
     -- a digest that is cut
     pub cut_digest : size ≤ digest_limit S → length rest < size → HasWholeVerdict S input unexpected_eof

@@ -1,7 +1,7 @@
 -- Sameness of pairs, and pairs that are truncated.
-use Rattle.std.proofs.Common.{◌≡◌, ℕ, ◌≤◌, min, List, length, take, refl, sym, ◌∙◌, arith, inl, inr}
+use Rattle.std.proofs.Common.{◌≡◌, ℕ, ◌≤◌, min, List, ◌++◌, length, take, refl, sym, ap, ◌∙◌, arith, inl, inr}
 use Rattle.std.proofs.lemmas.Bool.{cases_lt}
-use Rattle.std.proofs.lemmas.List.{take_all, take-take, length-take-le}
+use Rattle.std.proofs.lemmas.List.{take_all, take_at, take-take, length-take-le}
 use Rattle.multihash.specs.Pair.{Pair, IsSame, truncated}
 use Rattle.multihash.proofs.VerdictLemmas.{same_pair}
 
@@ -29,3 +29,10 @@ take_twice a b xs =
           ]
       | inr fewer ↦ let m : min a b ≡ a = omega arith in rw m (take-take a b xs fewer)
     ]
+
+-- a digest in front of a buffer is the pair's
+pub filled : (code size : ℕ) (digest front rest : List ℕ) → size ≡ length digest → front ≡ digest
+    → ◌≡◌ {A = Pair} (record { code = code; digest = take size (front ++ rest) }) (record { code = code; digest = digest })
+filled code size digest front rest long same =
+    same_pair (record { code = code; digest = take size (front ++ rest) }) (record { code = code; digest = digest }) refl
+    (take_at front rest size (ap length same ∙ sym long) ∙ same)

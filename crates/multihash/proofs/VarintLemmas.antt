@@ -221,7 +221,7 @@ overflow_not_ends x ms b r all small e few most o =
           omega (arith, within, length-append o.front (o.byte ∷ []), o.most)
     ]
 
-number_no_fault : (x : List ℕ) (n : ℕ) (r : List ℕ) (f : VarintFault) → HasFront x (number n r) → HasFaultyFront f x → ⊥
+pub number_no_fault : (x : List ℕ) (n : ℕ) (r : List ℕ) (f : VarintFault) → HasFront x (number n r) → HasFaultyFront f x → ⊥
 number_no_fault x n r insufficient (a, v, e) h =
     ends_not_whole x (marked v.front) v.last r (last_digit n a v) (spelled_front n x r a v e) h.all_marked
 number_no_fault x n r overflow (a, v, e) h =

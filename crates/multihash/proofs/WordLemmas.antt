@@ -2,21 +2,20 @@
 use Rattle.std.proofs.Common.{◌≡◌, ℕ, zero, suc, ◌+◌, ◌-◌, ◌*◌, ◌/◌, ◌%◌, ◌^◌, ◌<◌, ◌≤◌, List, [], ◌∷◌, ◌++◌, length, get_or, take, drop, replicate, Some, refl, sym, ap, ◌∙◌, subst, inl, inr, arith, bit_and, bit_or, mul-le-mul_right, length-append, length-drop}
 use Prim.Native.Nat.{min}
 use Rattle.std.specs.List.{All}
-use Rattle.std.specs.Int.{byte_worth, sum_through, from_le_bytes, w128, bit_at, bit_not, trailing_zeros}
+use Rattle.std.specs.Int.{byte_worth, sum_through, from_le_bytes, w64, w128, bit_at, bit_not, trailing_zeros}
 use Rattle.std.specs.Int.Count.{trailing_of_zero}
-use Rattle.std.proofs.Math.Nat.{pow-le-pow_right, pow-suc, pow-zero, mod-eq_of_lt, div-add-mod}
+use Rattle.std.proofs.Math.Nat.{pow-le-pow_right, pow-suc, pow-zero, mod-eq_of_lt, div-add-mod, mul_assoc}
 use Rattle.std.proofs.lemmas.Bool.{cases_lt, cases_eq}
 use Rattle.std.proofs.lemmas.Nat.{div_below, mod_below, and_mask, and_le_r, trailing_le, or_comm, or_shifted, shr-shr, shr_high, mod_low, mod-pow-add, pow-add, pow_pos}
 use Rattle.std.proofs.lemmas.Nat.Bits.{bit_at-zero, bit_at_and, bit_at_not, and_high, and_pow, bit_at-pow_other, bit_at-pow_same, bit_at-trailing_zeros, bit_at_cat_low, bit_at_cat_high, bit_at_ones, bit_at_ones_above, bit_at_above, bit_at-lt, same_from_bits}
-use Rattle.std.proofs.lemmas.List.{get_or_past, get_or-take, get_or-replicate, length-replicate, length-take, length-take-le, take_more, take-take, take_all, take-append-drop, drop_more}
+use Rattle.std.proofs.lemmas.List.{get_or_past, get_or-take, get_or-drop, get_or-replicate, nil_from_length, length-replicate, length-take, length-take-le, take_more, take-take, take_all, take-append-drop, drop_more}
 use Rattle.std.proofs.lemmas.List.Elements.{All-nil, All-cons, All-head, All-tail, All-take, All-drop, All-replicate, All-get_or, All-from_get_or}
 use Rattle.multihash.specs.Bytes.{IsBytes, place_value}
 use Rattle.multihash.specs.Varint.{most_marked, first_too_large, IsMarked, IsVarint, IsInsufficient, IsOverflow, IsNotMinimal}
-use Rattle.multihash.specs.Word.{IsFrontWord, digits_low}
+use Rattle.multihash.specs.Word.{IsFrontWord, BeginsMarked, digits_low}
 use Rattle.multihash.proofs.DigitLemmas.{place_value-nil, place_value-cons, place_value_below, place_value_last}
 use Rattle.multihash.proofs.RunLemmas.{unmarked, unmarked-nil, unmarked-cons, length-unmarked, unmarked_digits}
 use Rattle.multihash.proofs.VarintLemmas.{in_range, varint_from_bytes}
-use Rattle.multihash.proofs.VarintReadLemmas.{pow_digits}
 
 -- ---- one byte more
 
@@ -67,6 +66,24 @@ low_bytes (y ∷ ys) (suc n) all =
     )
     (sym (byte_more y (take n ys)))
 
+-- the bytes above the lowest n
+pub high_bytes : (ys : List ℕ) (n : ℕ) → IsBytes ys → place_value 256 ys / 2 ^ (8 * n) ≡ place_value 256 (drop n ys)
+high_bytes [] zero all = rw (place_value-nil 256) (omega arith)
+high_bytes [] (suc n) all = rw (place_value-nil 256) (omega (arith, pow_pos (8 * suc n)))
+high_bytes (y ∷ ys) zero all = omega arith
+high_bytes (y ∷ ys) (suc n) all =
+    let small : y < 2 ^ 8 = All-head (λ b. b < 256) y ys all in
+    let places : 8 * suc n ≡ 8 + 8 * n = omega arith in
+    rw (byte_more y ys, places, ← shr-shr (place_value 256 ys * 2 ^ 8 + y) 8 (8 * n), shr_high (place_value 256 ys) 8 y small)
+    (high_bytes ys n (All-tail (λ b. b < 256) y ys all))
+
+pub pow_bytes : (i : ℕ) → 2 ^ (8 * i) ≡ 256 ^ i
+pow_bytes zero = refl
+pow_bytes (suc i) =
+    let places : 8 * suc i ≡ 8 * i + 8 = omega arith in
+    let powers : 2 ^ (8 * suc i) ≡ 2 ^ (8 * i + 8) = ap (λ (k : ℕ). 2 ^ k) places in
+    omega (arith, powers, pow-add 2 (8 * i) 8, pow_bytes i, pow-suc 256 i)
+
 -- ---- the number of the digits
 
 pub digits_low-zero : (word : ℕ) → digits_low 0 word ≡ 0
@@ -113,6 +130,38 @@ digits_low-cons (suc i) word =
 pub digits_low_none : (i : ℕ) → digits_low i 0 ≡ 0
 digits_low_none zero = digits_low-zero 0
 digits_low_none (suc i) = rw (digits_low-cons i 0) (omega (arith, digits_low_none i))
+
+-- those of the lowest bytes and those of the bytes above
+pub digits_low_split : (i j low high : ℕ) → low < 2 ^ (8 * i)
+    → digits_low (i + j) (low + high * 2 ^ (8 * i)) ≡ digits_low i low + digits_low j high * 2 ^ (7 * i)
+digits_low_split zero j low high fits =
+    let none : low ≡ 0 = omega arith in
+    let all : low + high * 2 ^ (8 * zero) ≡ high = omega arith in
+    let start : zero + j ≡ j = omega arith in
+    rw (all, start, digits_low-zero low) (omega arith)
+digits_low_split (suc i) j low high fits =
+    let places : 8 * suc i ≡ 8 * i + 8 = omega arith in
+    let power : 2 ^ (8 * suc i) ≡ 2 ^ (8 * i) * 256 = ap (λ (k : ℕ). 2 ^ k) places ∙ pow-add 2 (8 * i) 8 in
+    let sevens : 7 * suc i ≡ 7 * i + 7 = omega arith in
+    let apart : 2 ^ (7 * suc i) ≡ 2 ^ (7 * i) * 128 = ap (λ (k : ℕ). 2 ^ k) sevens ∙ pow-add 2 (7 * i) 7 in
+    let product : high * 2 ^ (8 * suc i) ≡ high * 2 ^ (8 * i) * 256 = omega (arith, ap (λ (n : ℕ). high * n) power, mul_assoc high (2 ^ (8 * i)) 256) in
+    let above = digits_low j high in
+    let digits : above * 2 ^ (7 * suc i) ≡ above * 2 ^ (7 * i) * 128 = omega (arith, ap (λ (n : ℕ). above * n) apart, mul_assoc above (2 ^ (7 * i)) 128) in
+    let next : suc i + j ≡ suc (i + j) = omega arith in
+    let whole = low + high * 2 ^ (8 * suc i) in
+    let digit : whole % 128 ≡ low % 128 = omega (arith, product) in
+    let rest : whole / 256 ≡ low / 256 + high * 2 ^ (8 * i) = omega (arith, product) in
+    let ih = digits_low_split i j (low / 256) high (div_below low 256 (2 ^ (8 * i)) (omega arith) (omega (arith, power, fits))) in
+    ap (λ (n : ℕ). digits_low n whole) next
+    ∙ (digits_low-cons (i + j) whole ∙ omega (arith, digit, ap (digits_low (i + j)) rest, ih, digits_low-cons i low, digits))
+
+-- a small number has few digits
+pub digits_few : (i j n : ℕ) → n < 2 ^ (8 * i) → digits_low i n ≡ digits_low (i + j) n
+digits_few i j n fits =
+    let all : n + 0 * 2 ^ (8 * i) ≡ n = omega arith in
+    let split = digits_low_split i j n 0 fits in
+    let none : digits_low j 0 * 2 ^ (7 * i) ≡ 0 = rw (digits_low_none j) (omega arith) in
+    omega (arith, split, none, ap (digits_low (i + j)) all)
 
 -- of marked bytes and a last one
 pub digits_low_is : (i : ℕ) (ms : List ℕ) (b : ℕ) → IsBytes ms → All IsMarked ms → b < 128 → length ms < i
@@ -185,9 +234,9 @@ module _ (n t : ℕ) (set : bit_at n t ≡ 1) (unset : (i : ℕ) → i < t → b
 
 -- 128 in each byte
 abbrev pub stop_bits : ℕ
-stop_bits = 170808403787765189503184116671632670848
+stop_bits = 9259542123273814144
 
-stop_bytes : stop_bits ≡ place_value 256 (replicate 16 128)
+stop_bytes : stop_bits ≡ place_value 256 (replicate 8 128)
 unfolding place_value
 stop_bytes = refl
 
@@ -197,58 +246,58 @@ byte_below ys i all = elim (cases_lt i (length ys)) [
   | inr past ↦ omega (arith, get_or_past ys i 0 past)
 ]
 
--- the bits of the word before its first stop bit
+-- the bits of half a word before its first stop bit
 abbrev pub varint_bits : ℕ → ℕ
-varint_bits word = bit_and word ((bit_and (bit_not w128 word) stop_bits + (2 ^ 128 - 1)) % 2 ^ 128)
+varint_bits half = bit_and half ((bit_and (bit_not w64 half) stop_bits + (2 ^ 64 - 1)) % 2 ^ 64)
 
--- t is the place of the high bit of the first unmarked of a word's bytes, or 128
-pub record FirstUnmarked (ys : List ℕ) (word t : ℕ) : Type 0 where
-  pub within : t ≤ 128
+-- t is the place of the high bit of the first unmarked of eight bytes, or 64
+pub record FirstUnmarked (ys : List ℕ) (half t : ℕ) : Type 0 where
+  pub within : t ≤ 64
   pub before : (i : ℕ) → i < t / 8 → 128 ≤ get_or ys i 0
-  pub high_bit : t < 128 → t ≡ 8 * (t / 8) + 7
-  pub here : t < 128 → get_or ys (t / 8) 0 < 128
-  pub varint : t < 128 → varint_bits word ≡ place_value 256 (take (t / 8 + 1) ys)
-  pub all : t ≡ 128 → varint_bits word ≡ place_value 256 ys
+  pub high_bit : t < 64 → t ≡ 8 * (t / 8) + 7
+  pub here : t < 64 → get_or ys (t / 8) 0 < 128
+  pub varint : t < 64 → varint_bits half ≡ place_value 256 (take (t / 8 + 1) ys)
+  pub all : t ≡ 64 → varint_bits half ≡ place_value 256 ys
 
-module _ (ys : List ℕ) (bytes : IsBytes ys) (sixteen : length ys ≤ 16) where
+module _ (ys : List ℕ) (bytes : IsBytes ys) (eight : length ys ≤ 8) where
   stops : ℕ
-  stops = bit_and (bit_not w128 (place_value 256 ys)) stop_bits
+  stops = bit_and (bit_not w64 (place_value 256 ys)) stop_bits
 
-  pub word_below : place_value 256 ys < 2 ^ 128
+  pub word_below : place_value 256 ys < 2 ^ 64
   word_below =
       let base : 0 < 256 = omega arith in
-      let most : 256 ^ length ys ≤ 256 ^ 16 = pow-le-pow_right base sixteen in
+      let most : 256 ^ length ys ≤ 256 ^ 8 = pow-le-pow_right base eight in
       omega (arith, place_value_below 256 ys bytes, most)
 
-  bit_of_stops : (i r : ℕ) → i < 16 → r < 8 → bit_at stops (8 * i + r) ≡ min (1 - bit_at (get_or ys i 0) r) (bit_at 128 r)
+  bit_of_stops : (i r : ℕ) → i < 8 → r < 8 → bit_at stops (8 * i + r) ≡ min (1 - bit_at (get_or ys i 0) r) (bit_at 128 r)
   unfolding stops
   bit_of_stops i r p q =
-      let place : 8 * i + r < 128 = omega arith in
-      let of_word : bit_at (bit_not w128 (place_value 256 ys)) (8 * i + r) ≡ 1 - bit_at (get_or ys i 0) r =
-      bit_at_not w128 (place_value 256 ys) (8 * i + r) word_below place ∙ ap (λ (b : ℕ). 1 - b) (bit_of_byte ys i r bytes q) in
+      let place : 8 * i + r < 64 = omega arith in
+      let of_word : bit_at (bit_not w64 (place_value 256 ys)) (8 * i + r) ≡ 1 - bit_at (get_or ys i 0) r =
+      bit_at_not w64 (place_value 256 ys) (8 * i + r) word_below place ∙ ap (λ (b : ℕ). 1 - b) (bit_of_byte ys i r bytes q) in
       let of_stops : bit_at stop_bits (8 * i + r) ≡ bit_at 128 r =
       ap (λ (n : ℕ). bit_at n (8 * i + r)) stop_bytes
-      ∙ (bit_of_byte (replicate 16 128) i r (All-replicate (λ b. b < 256) 16 128 (omega arith)) q
-      ∙ ap (λ (b : ℕ). bit_at b r) (get_or-replicate 16 i 128 0 p)) in
-      rw (bit_at_and (bit_not w128 (place_value 256 ys)) stop_bits (8 * i + r), of_word, of_stops) refl
+      ∙ (bit_of_byte (replicate 8 128) i r (All-replicate (λ b. b < 256) 8 128 (omega arith)) q
+      ∙ ap (λ (b : ℕ). bit_at b r) (get_or-replicate 8 i 128 0 p)) in
+      rw (bit_at_and (bit_not w64 (place_value 256 ys)) stop_bits (8 * i + r), of_word, of_stops) refl
 
   place : ℕ
-  place = trailing_zeros w128 stops
+  place = trailing_zeros w64 stops
 
-  lowest : (place < 128 → bit_at stops place ≡ 1) × ((j : ℕ) → j < place → bit_at stops j ≡ 0)
+  lowest : (place < 64 → bit_at stops place ≡ 1) × ((j : ℕ) → j < place → bit_at stops j ≡ 0)
   unfolding place stops
   lowest = elim (cases_lt 0 stops) [
     | inl some ↦
-        let h = bit_at-trailing_zeros w128 stops some (omega (arith, and_le_r (bit_not w128 (place_value 256 ys)) stop_bits)) in
+        let h = bit_at-trailing_zeros w64 stops some (omega (arith, and_le_r (bit_not w64 (place_value 256 ys)) stop_bits)) in
         (λ _. h.1, h.2)
     | inr none ↦
         let null : stops ≡ 0 = omega arith in
-        let all : place ≡ 128 = ap (trailing_zeros w128) null ∙ trailing_of_zero 128 in
+        let all : place ≡ 64 = ap (trailing_zeros w64) null ∙ trailing_of_zero 64 in
         (λ below. absurd (omega arith), λ j _. ap (λ (n : ℕ). bit_at n j) null ∙ bit_at-zero j)
   ]
 
   -- the bit that is set is a byte's highest
-  highest : place < 128 → place % 8 ≡ 7
+  highest : place < 64 → place % 8 ≡ 7
   highest below =
       let i = place / 8 in
       let r = place % 8 in
@@ -259,18 +308,18 @@ module _ (ys : List ℕ) (bytes : IsBytes ys) (sixteen : length ys ≤ 16) where
         | inr other ↦ absurd (omega (arith, set, bit_of_stops i r (omega arith) (omega arith), bit_at-pow_other 7 r other))
       ]
 
-  stops_below : stops < 2 ^ 128
+  stops_below : stops < 2 ^ 64
   unfolding stops
-  stops_below = omega (arith, and_le_r (bit_not w128 (place_value 256 ys)) stop_bits)
+  stops_below = omega (arith, and_le_r (bit_not w64 (place_value 256 ys)) stop_bits)
 
   less : ℕ
-  less = (stops + (2 ^ 128 - 1)) % 2 ^ 128
+  less = (stops + (2 ^ 64 - 1)) % 2 ^ 64
 
   less_is : 0 < stops → less ≡ stops - 1
   unfolding less
   less_is some = omega (arith, stops_below)
 
-  some_stop : place < 128 → 0 < stops
+  some_stop : place < 64 → 0 < stops
   some_stop below = elim (cases_lt 0 stops) [
     | inl some ↦ some
     | inr none ↦
@@ -278,13 +327,13 @@ module _ (ys : List ℕ) (bytes : IsBytes ys) (sixteen : length ys ≤ 16) where
         absurd (omega (arith, lowest.0 below, ap (λ (n : ℕ). bit_at n place) null, bit_at-zero place))
   ]
 
-  bit_of_stop : (i : ℕ) → i < 128 → bit_at stops i ≡ min (1 - bit_at (place_value 256 ys) i) (bit_at stop_bits i)
+  bit_of_stop : (i : ℕ) → i < 64 → bit_at stops i ≡ min (1 - bit_at (place_value 256 ys) i) (bit_at stop_bits i)
   unfolding stops
   bit_of_stop i below =
-      bit_at_and (bit_not w128 (place_value 256 ys)) stop_bits i
-      ∙ ap (λ (b : ℕ). min b (bit_at stop_bits i)) (bit_at_not w128 (place_value 256 ys) i word_below below)
+      bit_at_and (bit_not w64 (place_value 256 ys)) stop_bits i
+      ∙ ap (λ (b : ℕ). min b (bit_at stop_bits i)) (bit_at_not w64 (place_value 256 ys) i word_below below)
 
-  kept_bit : place < 128 → (i : ℕ) → min (bit_at (place_value 256 ys) i) (bit_at (stops - 1) i)
+  kept_bit : place < 64 → (i : ℕ) → min (bit_at (place_value 256 ys) i) (bit_at (stops - 1) i)
       ≡ min (bit_at (place_value 256 ys) i) (bit_at (2 ^ (place + 1) - 1) i)
   kept_bit early i =
       let set = lowest.0 early in
@@ -300,7 +349,7 @@ module _ (ys : List ℕ) (bytes : IsBytes ys) (sixteen : length ys ≤ 16) where
             bit_of_stop place early,
             set,
           )
-          | inr other ↦ elim (cases_lt i 128) [
+          | inr other ↦ elim (cases_lt i 64) [
             | inl within ↦ omega (
               arith,
               less_above stops place set unset i (omega arith),
@@ -308,12 +357,12 @@ module _ (ys : List ℕ) (bytes : IsBytes ys) (sixteen : length ys ≤ 16) where
               bit_at_ones_above (place + 1) i (omega arith),
               bit_at-lt (place_value 256 ys) i,
             )
-            | inr past ↦ omega (arith, bit_at_above (place_value 256 ys) 128 i word_below (omega arith))
+            | inr past ↦ omega (arith, bit_at_above (place_value 256 ys) 64 i word_below (omega arith))
           ]
         ]
       ]
 
-  varint_bytes : place < 128 → varint_bits (place_value 256 ys) ≡ place_value 256 (take (place / 8 + 1) ys)
+  varint_bytes : place < 64 → varint_bits (place_value 256 ys) ≡ place_value 256 (take (place / 8 + 1) ys)
   unfolding stops less
   varint_bytes early =
       let places : place + 1 ≡ 8 * (place / 8 + 1) = omega (arith, highest early) in
@@ -324,22 +373,22 @@ module _ (ys : List ℕ) (bytes : IsBytes ys) (sixteen : length ys ≤ 16) where
       ∙ (ap (λ (k : ℕ). place_value 256 ys % 2 ^ k) places ∙ low_bytes ys (place / 8 + 1) bytes)))
 
   -- with no unmarked byte, all bits are kept
-  all_bits : place ≡ 128 → varint_bits (place_value 256 ys) ≡ place_value 256 ys
+  all_bits : place ≡ 64 → varint_bits (place_value 256 ys) ≡ place_value 256 ys
   unfolding stops less place
   all_bits none =
       let null : stops ≡ 0 = elim (cases_lt 0 stops) [
-        | inl some ↦ absurd (omega (arith, none, (bit_at-trailing_zeros w128 stops some stops_below).0))
+        | inl some ↦ absurd (omega (arith, none, (bit_at-trailing_zeros w64 stops some stops_below).0))
         | inr zero_stops ↦ omega arith
       ] in
-      ap (λ (n : ℕ). bit_and (place_value 256 ys) ((n + (2 ^ 128 - 1)) % 2 ^ 128)) null
-      ∙ (and_mask (place_value 256 ys) 128 ∙ mod-eq_of_lt word_below)
+      ap (λ (n : ℕ). bit_and (place_value 256 ys) ((n + (2 ^ 64 - 1)) % 2 ^ 64)) null
+      ∙ (and_mask (place_value 256 ys) 64 ∙ mod-eq_of_lt word_below)
 
-  pub first_unmarked : FirstUnmarked ys (place_value 256 ys) (trailing_zeros w128 (bit_and (bit_not w128 (place_value 256 ys)) stop_bits))
+  pub first_unmarked : FirstUnmarked ys (place_value 256 ys) (trailing_zeros w64 (bit_and (bit_not w64 (place_value 256 ys)) stop_bits))
   unfolding place stops
   first_unmarked = record {
-    within = trailing_le 128 stops;
+    within = trailing_le 64 stops;
     before = λ i below.
-        let le : place ≤ 128 = trailing_le 128 stops in
+        let le : place ≤ 64 = trailing_le 64 stops in
         let set : bit_at stops (8 * i + 7) ≡ 0 = lowest.1 (8 * i + 7) (omega arith) in
         omega (arith, set, bit_of_stops i 7 (omega arith) (omega arith), byte_below ys i bytes);
     high_bit = λ below. omega (arith, highest below);
@@ -352,33 +401,169 @@ module _ (ys : List ℕ) (bytes : IsBytes ys) (sixteen : length ys ≤ 16) where
     all = all_bits;
   }
 
+-- the place in the high half of the byte that may be too large
+abbrev pub last_place : ℕ
+last_place = most_marked - 8
+
+-- what the code compares a high half with
+abbrev pub too_large : ℕ
+too_large = first_too_large * 256 ^ last_place
+
+-- a stop bit is within the half
+pub stop_early : (half : ℕ) → ¬ (bit_and (bit_not w64 half) stop_bits ≡ 0) → trailing_zeros w64 (bit_and (bit_not w64 half) stop_bits) < 64
+stop_early half some = elim (cases_lt 0 (bit_and (bit_not w64 half) stop_bits)) [
+  | inl set ↦ (bit_at-trailing_zeros w64 (bit_and (bit_not w64 half) stop_bits) set (omega (arith, and_le_r (bit_not w64 half) stop_bits))).0
+  | inr none ↦ absurd (some (omega arith))
+]
+
+-- the bytes through the first unmarked one
+module _ (ys : List ℕ) (half t : ℕ) (bytes : IsBytes ys) (eight : length ys ≤ 8) (first : FirstUnmarked ys half t) where
+  abbrev pub varint : ℕ
+  varint = varint_bits half
+
+  pub kept_byte : (i : ℕ) → i ≤ t / 8 → i < 8 → varint / 2 ^ (8 * i) % 2 ^ 8 ≡ get_or ys i 0
+  kept_byte i run few = elim (cases_lt t 64) [
+    | inl early ↦
+        let kept = t / 8 + 1 in
+        let within : i < kept = omega arith in
+        ap (λ (n : ℕ). n / 2 ^ (8 * i) % 2 ^ 8) (first.varint early)
+        ∙ (byte_of (take kept ys) i (All-take (λ b. b < 256) kept ys bytes) ∙ get_or-take kept ys i 0 within)
+    | inr late ↦ ap (λ (n : ℕ). n / 2 ^ (8 * i) % 2 ^ 8) (first.all (omega (arith, first.within))) ∙ byte_of ys i bytes
+  ]
+
+  -- few bytes make a small number
+  pub kept_below : (m : ℕ) → t / 8 < m → t < 64 → varint < 256 ^ m
+  kept_below m few early =
+      let kept = t / 8 + 1 in
+      let base : 0 < 256 = omega arith in
+      let long : length (take kept ys) ≤ m = omega (arith, length-take kept ys) in
+      let most : 256 ^ length (take kept ys) ≤ 256 ^ m = pow-le-pow_right base long in
+      omega (arith, first.varint early, place_value_below 256 (take kept ys) (All-take (λ b. b < 256) kept ys bytes), most)
+
+  -- the unmarked byte is the highest
+  pub kept_last : t < 64 → varint / 2 ^ (8 * (t / 8)) ≡ get_or ys (t / 8) 0
+  kept_last early =
+      let power : 256 ^ suc (t / 8) ≡ 256 * 2 ^ (8 * (t / 8)) = omega (arith, pow-suc 256 (t / 8), pow_bytes (t / 8)) in
+      let small : varint / 2 ^ (8 * (t / 8)) < 256 =
+      div_below varint (2 ^ (8 * (t / 8))) 256 (pow_pos (8 * (t / 8))) (omega (arith, power, kept_below (suc (t / 8)) (omega arith) early)) in
+      omega (arith, small, kept_byte (t / 8) (omega arith) (omega arith))
+
+  -- no more marked bytes than a varint has
+  pub few_marked : varint < too_large → t / 8 ≤ last_place
+  few_marked small = elim (cases_lt last_place (t / 8)) [
+    | inl more ↦ absurd (omega (arith, small, kept_byte last_place (omega arith) (omega arith), first.before last_place more))
+    | inr few ↦ few
+  ]
+
 -- the code's mask of seven bits at the place of digit i
-pub digit_mask : (i : ℕ) → i ≤ most_marked → 127 * 2 ^ (7 * i) % 2 ^ 128 ≡ 2 ^ (7 + 7 * i) - 2 ^ (7 * i)
+pub digit_mask : (i : ℕ) → i < 8 → 127 * 2 ^ (7 * i) % 2 ^ 64 ≡ 2 ^ (7 + 7 * i) - 2 ^ (7 * i)
 digit_mask i few =
     let base : 0 < 2 = omega arith in
-    let le : 7 * i ≤ 7 * most_marked = omega arith in
-    let most : 2 ^ (7 * i) ≤ 2 ^ (7 * most_marked) = pow-le-pow_right base le in
-    let fits : 127 * 2 ^ (7 * i) < 2 ^ 128 = omega arith in
+    let le : 7 * i ≤ 49 = omega arith in
+    let most : 2 ^ (7 * i) ≤ 2 ^ 49 = pow-le-pow_right base le in
+    let fits : 127 * 2 ^ (7 * i) < 2 ^ 64 = omega arith in
     mod-eq_of_lt fits ∙ omega (arith, pow-add 2 7 (7 * i))
+
+-- ---- where the marked bytes of an input end
+
+module _ (xs : List ℕ) (k : ℕ) (bytes : IsBytes xs) (before : (i : ℕ) → i < k → 128 ≤ get_or xs i 0) where
+  pub run_within_input : k ≤ length xs
+  run_within_input = elim (cases_lt (length xs) k) [
+    | inl short ↦ absurd (omega (arith, before (length xs) short, get_or_past xs (length xs) 0 (omega arith)))
+    | inr within ↦ within
+  ]
+
+  pub run_marked : All IsMarked (take k xs)
+  run_marked = All-from_get_or IsMarked (take k xs) 0 (λ i within.
+      let below : i < k = omega (arith, length-take k xs) in
+      rw (get_or-take k xs i 0 below) (before i below))
+
+  cut_at : k < length xs → xs ≡ take k xs ++ get_or xs k 0 ∷ drop (k + 1) xs
+  cut_at below = sym (take-append-drop k xs) ∙ ap (λ (back : List ℕ). take k xs ++ back) (drop_more xs k 0 below)
+
+  pub overflow_at : k ≡ most_marked → first_too_large ≤ get_or xs k 0 → IsOverflow xs
+  overflow_at most large =
+      let below : k < length xs = elim (cases_lt k (length xs)) [
+        | inl within ↦ within
+        | inr past ↦ absurd (omega (arith, get_or_past xs k 0 past))
+      ] in
+      record {
+        front = take k xs;
+        byte = get_or xs k 0;
+        rest = drop (k + 1) xs;
+        all_marked = run_marked;
+        most = omega (arith, length-take-le k xs (omega arith));
+        too_large = large;
+        cut = cut_at below;
+      }
+
+  module _ (few : k ≤ most_marked) where
+    pub insufficient_at : length xs ≤ k → IsInsufficient xs
+    insufficient_at past =
+        let whole : take k xs ≡ xs = take_all k xs past in
+        record { few = omega arith; all_marked = subst (All IsMarked) whole run_marked }
+
+    module _ (below : k < length xs) where
+      pub zero_at : 0 < k → get_or xs k 0 ≡ 0 → IsNotMinimal xs
+      zero_at some null = record {
+        front = take k xs;
+        rest = drop (k + 1) xs;
+        all_marked = run_marked;
+        some = omega (arith, length-take-le k xs (omega arith));
+        few = omega (arith, length-take-le k xs (omega arith));
+        cut = cut_at below ∙ ap (λ (b : ℕ). take k xs ++ b ∷ drop (k + 1) xs) null;
+      }
+
+      module _ (here : get_or xs k 0 < 128) (last_small : k ≡ most_marked → get_or xs k 0 < first_too_large) where
+        marks : List ℕ
+        marks = take k xs
+
+        marks_bytes : IsBytes marks
+        unfolding marks
+        marks_bytes = All-take (λ b. b < 256) k xs bytes
+
+        marks_marked : All IsMarked marks
+        unfolding marks
+        marks_marked = run_marked
+
+        marks_long : length marks ≡ k
+        unfolding marks
+        marks_long = length-take-le k xs (omega arith)
+
+        more : take (k + 1) xs ≡ marks ++ get_or xs k 0 ∷ []
+        unfolding marks
+        more = take_more xs k 0 below
+
+        -- the number of the digits, where there are enough of them
+        number_is : (n : ℕ) → k < n → digits_low n (place_value 256 (take (k + 1) xs)) ≡ place_value 128 (unmarked marks ++ get_or xs k 0 ∷ [])
+        number_is n enough =
+            ap (digits_low n) (ap (place_value 256) more)
+            ∙ digits_low_is n marks (get_or xs k 0) marks_bytes marks_marked here (omega (arith, marks_long))
+
+        pub number_below : (n : ℕ) → k < n → digits_low n (place_value 256 (take (k + 1) xs)) < 2 ^ 64
+        number_below n enough =
+            let fits = in_range (unmarked marks) (get_or xs k 0) (unmarked_digits marks marks_bytes) here (omega (arith, length-unmarked marks, marks_long))
+            (λ e. last_small (omega (arith, e, length-unmarked marks, marks_long))) in
+            omega (arith, number_is n enough, fits)
+
+        pub number_at : (n : ℕ) → k < n → (get_or xs k 0 ≡ 0 → k ≡ 0)
+            → IsVarint (digits_low n (place_value 256 (take (k + 1) xs))) (take (k + 1) xs)
+        number_at n enough minimal =
+            rw (number_is n enough, more)
+            (varint_from_bytes marks (get_or xs k 0) marks_bytes marks_marked here (omega (arith, marks_long))
+            (λ e. last_small (omega (arith, e, marks_long))) (λ z. nil_from_length marks (omega (arith, marks_long, minimal z))))
 
 -- ---- what a word says of the bytes that it holds the first of
 
 module _ (xs : List ℕ) (word present : ℕ) (bytes : IsBytes xs) (f : IsFrontWord xs word present) where
-  abbrev pub stop : ℕ
-  stop = trailing_zeros w128 (bit_and (bit_not w128 word) stop_bits)
-
   front_bytes : IsBytes (take 16 xs)
   front_bytes = All-take (λ b. b < 256) 16 xs bytes
 
-  first : FirstUnmarked (take 16 xs) word stop
-  first = rw f.word_is (first_unmarked (take 16 xs) front_bytes (omega (arith, length-take 16 xs)))
-
-  byte_at : (i : ℕ) → i < 16 → word / 2 ^ (8 * i) % 2 ^ 8 ≡ get_or xs i 0
-  byte_at i few = ap (λ (n : ℕ). n / 2 ^ (8 * i) % 2 ^ 8) f.word_is ∙ (byte_of (take 16 xs) i front_bytes ∙ get_or-take 16 xs i 0 few)
-
   -- the first byte alone
   lowest_byte : word % 256 ≡ get_or xs 0 0
-  lowest_byte = omega (arith, byte_at 0 (omega arith))
+  lowest_byte =
+      let byte = ap (λ (n : ℕ). n / 2 ^ (8 * 0) % 2 ^ 8) f.word_is ∙ (byte_of (take 16 xs) 0 front_bytes ∙ get_or-take 16 xs 0 0 (omega arith)) in
+      omega (arith, byte)
 
   lowest_bit : bit_and word 128 ≡ bit_at word 7 * 128
   lowest_bit = and_pow word 7
@@ -395,197 +580,217 @@ module _ (xs : List ℕ) (word present : ℕ) (bytes : IsBytes xs) (f : IsFrontW
       (varint_from_bytes [] b (λ k d within. absurd (omega arith)) (λ k d within. absurd (omega arith)) small (omega arith)
       (λ e. absurd (omega arith)) (λ z. refl))
 
-  marked_at : (i : ℕ) → i < stop / 8 → i < 16 → 128 ≤ get_or xs i 0
-  marked_at i before few = rw (← get_or-take 16 xs i 0 few) (first.before i before)
+  -- ---- the low half
 
-  run_within_input : (k : ℕ) → k ≤ stop / 8 → k ≤ 16 → k ≤ length xs
-  run_within_input k run few = elim (cases_lt (length xs) k) [
-    | inl short ↦ absurd (omega (arith, marked_at (length xs) (omega arith) (omega arith), get_or_past xs (length xs) 0 (omega arith)))
-    | inr within ↦ within
-  ]
+  abbrev pub lower : ℕ
+  lower = bit_and word 18446744073709551615
 
-  run_marked : (k : ℕ) → k ≤ stop / 8 → k ≤ most_marked → All IsMarked (take k xs)
-  run_marked k run few = All-from_get_or IsMarked (take k xs) 0 (λ i within.
-      let below : i < k = omega (arith, length-take k xs) in
-      rw (get_or-take k xs i 0 below) (marked_at i (omega arith) (omega arith)))
+  lows : List ℕ
+  lows = take 8 (take 16 xs)
 
-  cut_at : (k : ℕ) → k < length xs → xs ≡ take k xs ++ get_or xs k 0 ∷ drop (k + 1) xs
-  cut_at k below = sym (take-append-drop k xs) ∙ ap (λ (back : List ℕ). take k xs ++ back) (drop_more xs k 0 below)
+  low_is : lower ≡ place_value 256 lows
+  unfolding lows
+  low_is = and_mask word 64 ∙ (ap (λ (n : ℕ). n % 2 ^ 64) f.word_is ∙ low_bytes (take 16 xs) 8 front_bytes)
 
-  -- where the first byte isn't a varint, it is marked
-  some_marked : ¬ (bit_and word 128 ≡ 0) → stop / 8 ≤ most_marked → 0 < stop / 8
-  some_marked set few = elim (cases_lt 0 (stop / 8)) [
-    | inl some ↦ some
-    | inr none ↦
-        let start : stop / 8 ≡ 0 = omega arith in
-        let here : get_or xs (stop / 8) 0 < 128 = rw (← get_or-take 16 xs (stop / 8) 0 (omega arith)) (first.here (omega arith)) in
-        let low : get_or xs 0 0 < 128 = rw start at here in
-        absurd (set (omega (arith, lowest_bit, lowest_byte, low)))
-  ]
+  lows_bytes : IsBytes lows
+  unfolding lows
+  lows_bytes = All-take (λ b. b < 256) 8 (take 16 xs) front_bytes
 
-  abbrev pub varint : ℕ
-  varint = varint_bits word
+  lows_eight : length lows ≤ 8
+  unfolding lows
+  lows_eight = omega (arith, length-take 8 (take 16 xs))
 
-  -- what the code compares with
-  abbrev pub too_large : ℕ
-  too_large = first_too_large * 256 ^ most_marked
+  low_byte : (i : ℕ) → i < 8 → get_or lows i 0 ≡ get_or xs i 0
+  unfolding lows
+  low_byte i few = get_or-take 8 (take 16 xs) i 0 few ∙ get_or-take 16 xs i 0 (omega arith)
 
-  varint_is : stop < 128 → varint ≡ place_value 256 (take (stop / 8 + 1) xs)
-  varint_is early = first.varint early ∙ ap (place_value 256) (take-take (stop / 8 + 1) 16 xs (omega arith))
+  abbrev pub low_stop : ℕ
+  low_stop = trailing_zeros w64 (bit_and (bit_not w64 lower) stop_bits)
 
-  -- the marked bytes and the one behind them are the word's
-  kept_byte : (i : ℕ) → i ≤ stop / 8 → i < 16 → varint / 2 ^ (8 * i) % 2 ^ 8 ≡ get_or xs i 0
-  kept_byte i run few = elim (cases_lt stop 128) [
-    | inl early ↦
-        let kept = stop / 8 + 1 in
-        let within : i < kept = omega arith in
-        ap (λ (n : ℕ). n / 2 ^ (8 * i) % 2 ^ 8) (varint_is early)
-        ∙ (byte_of (take kept xs) i (All-take (λ b. b < 256) kept xs bytes) ∙ get_or-take kept xs i 0 within)
-    | inr late ↦
-        ap (λ (n : ℕ). n / 2 ^ (8 * i) % 2 ^ 8) (first.all (omega (arith, first.within)))
-        ∙ (byte_of (take 16 xs) i front_bytes ∙ get_or-take 16 xs i 0 few)
-  ]
+  first_low : FirstUnmarked lows lower low_stop
+  first_low = rw low_is (first_unmarked lows lows_bytes lows_eight)
 
-  -- few bytes make a small number
-  kept_below : (m : ℕ) → stop / 8 < m → stop < 128 → varint < 256 ^ m
-  kept_below m few early =
-      let kept = stop / 8 + 1 in
-      let base : 0 < 256 = omega arith in
-      let long : length (take kept xs) ≤ m = omega (arith, length-take kept xs) in
-      let most : 256 ^ length (take kept xs) ≤ 256 ^ m = pow-le-pow_right base long in
-      omega (arith, varint_is early, place_value_below 256 (take kept xs) (All-take (λ b. b < 256) kept xs bytes), most)
+  low_before : (i : ℕ) → i < low_stop / 8 → 128 ≤ get_or xs i 0
+  low_before i run = rw (← low_byte i (omega (arith, first_low.within))) (first_low.before i run)
 
-  pub word_over : too_large ≤ varint → IsOverflow xs
-  word_over large = elim (cases_lt (stop / 8) most_marked) [
-    | inl few ↦ absurd (omega (arith, kept_below most_marked few (omega arith)))
-    | inr run ↦ overflows run (too_large_byte run)
-  ]
-    where
-      too_large_byte : most_marked ≤ stop / 8 → first_too_large ≤ get_or xs most_marked 0
-      too_large_byte run = elim (cases_lt most_marked (stop / 8)) [
-        | inl more ↦ omega (arith, marked_at most_marked more (omega arith))
-        | inr exact ↦ omega (arith, kept_byte most_marked run (omega arith), kept_below (most_marked + 1) (omega arith) (omega arith))
-      ]
+  -- no byte of it is unmarked
+  pub low_marked : bit_and (bit_not w64 lower) stop_bits ≡ 0 → BeginsMarked 8 xs
+  low_marked none =
+      let end : low_stop ≡ 64 = ap (trailing_zeros w64) none ∙ trailing_of_zero 64 in
+      let all = λ (i : ℕ) (run : i < 8). low_before i (omega (arith, end)) in
+      record { enough = run_within_input xs 8 bytes all; all_marked = run_marked xs 8 bytes all }
 
-      overflows : most_marked ≤ stop / 8 → first_too_large ≤ get_or xs most_marked 0 → IsOverflow xs
-      overflows run at_most =
-          let below : most_marked < length xs = elim (cases_lt most_marked (length xs)) [
-            | inl within ↦ within
-            | inr past ↦ absurd (omega (arith, get_or_past xs most_marked 0 past))
-          ] in
-          record {
-            front = take most_marked xs;
-            byte = get_or xs most_marked 0;
-            rest = drop (most_marked + 1) xs;
-            all_marked = run_marked most_marked run (omega arith);
-            most = length-take-le most_marked xs (omega arith);
-            too_large = at_most;
-            cut = cut_at most_marked below;
-          }
+  module _ (some : ¬ (bit_and (bit_not w64 lower) stop_bits ≡ 0)) where
+    low_early : low_stop < 64
+    low_early = stop_early lower some
 
-  module _ (small : varint < too_large) where
-    -- no more marked bytes than a varint has
-    few_marked : stop / 8 ≤ most_marked
-    few_marked = elim (cases_lt most_marked (stop / 8)) [
-      | inl more ↦ absurd (omega (arith, small, kept_byte most_marked (omega arith) (omega arith), marked_at most_marked more (omega arith)))
-      | inr few ↦ few
+    low_kept : varint_bits lower ≡ place_value 256 (take (low_stop / 8 + 1) xs)
+    unfolding lows
+    low_kept =
+        first_low.varint low_early
+        ∙ ap (place_value 256) (take-take (low_stop / 8 + 1) 8 (take 16 xs) (omega (arith, low_early)) ∙ take-take (low_stop / 8 + 1) 16 xs (omega (arith, low_early)))
+
+    low_here : get_or xs (low_stop / 8) 0 < 128
+    low_here = rw (← low_byte (low_stop / 8) (omega (arith, low_early))) (first_low.here low_early)
+
+    low_last : varint_bits lower / 2 ^ (8 * (low_stop / 8)) ≡ get_or xs (low_stop / 8) 0
+    low_last = kept_last lows lower low_stop lows_bytes lows_eight first_low low_early ∙ low_byte (low_stop / 8) (omega (arith, low_early))
+
+    pub low_short : present ≤ low_stop / 8 → IsInsufficient xs
+    low_short past = insufficient_at xs (low_stop / 8) bytes low_before (omega (arith, low_early)) (omega (arith, low_early, f.present_is))
+
+    module _ (within : low_stop / 8 < present) where
+      low_below : low_stop / 8 < length xs
+      low_below = omega (arith, f.present_is)
+
+      pub low_zero : varint_bits lower / 2 ^ (8 * (low_stop / 8)) ≡ 0 → 0 < low_stop / 8 → IsNotMinimal xs
+      low_zero null more = zero_at xs (low_stop / 8) bytes low_before (omega (arith, low_early)) low_below more (sym low_last ∙ null)
+
+      pub low_number : (varint_bits lower / 2 ^ (8 * (low_stop / 8)) ≡ 0 → low_stop / 8 ≡ 0)
+          → IsVarint (digits_low 8 (varint_bits lower)) (take (low_stop / 8 + 1) xs)
+      low_number minimal =
+          rw low_kept
+          (number_at xs (low_stop / 8) bytes low_before (omega (arith, low_early)) low_below low_here (λ e. absurd (omega (arith, e, low_early))) 8
+          (omega (arith, low_early)) (λ z. minimal (low_last ∙ z)))
+
+  -- ---- the high half
+
+  module _ (marked_low : BeginsMarked 8 xs) where
+    abbrev pub upper : ℕ
+    upper = word / 2 ^ 64
+
+    highs : List ℕ
+    highs = drop 8 (take 16 xs)
+
+    high_is : upper ≡ place_value 256 highs
+    unfolding highs
+    high_is = ap (λ (n : ℕ). n / 2 ^ 64) f.word_is ∙ high_bytes (take 16 xs) 8 front_bytes
+
+    highs_bytes : IsBytes highs
+    unfolding highs
+    highs_bytes = All-drop (λ b. b < 256) 8 (take 16 xs) front_bytes
+
+    highs_eight : length highs ≤ 8
+    unfolding highs
+    highs_eight = omega (arith, length-drop 8 (take 16 xs), length-take 16 xs)
+
+    high_byte : (i : ℕ) → i < 8 → get_or highs i 0 ≡ get_or xs (8 + i) 0
+    unfolding highs
+    high_byte i few = get_or-drop 8 (take 16 xs) i 0 ∙ get_or-take 16 xs (8 + i) 0 (omega arith)
+
+    abbrev pub high_stop : ℕ
+    high_stop = trailing_zeros w64 (bit_and (bit_not w64 upper) stop_bits)
+
+    first_high : FirstUnmarked highs upper high_stop
+    first_high = rw high_is (first_unmarked highs highs_bytes highs_eight)
+
+    marked_byte : (i : ℕ) → i < 8 → 128 ≤ get_or xs i 0
+    marked_byte i few =
+        rw (← get_or-take 8 xs i 0 few) (All-get_or IsMarked (take 8 xs) i 0 (omega (arith, length-take 8 xs, marked_low.enough)) marked_low.all_marked)
+
+    high_before : (i : ℕ) → i < 8 + high_stop / 8 → 128 ≤ get_or xs i 0
+    high_before i run = elim (cases_lt i 8) [
+      | inl early ↦ marked_byte i early
+      | inr late ↦
+          let place : 8 + (i - 8) ≡ i = omega arith in
+          let at : get_or xs (8 + (i - 8)) 0 ≡ get_or xs i 0 = ap (λ (k : ℕ). get_or xs k 0) place in
+          omega (arith, at, high_byte (i - 8) (omega (arith, first_high.within)), first_high.before (i - 8) (omega arith))
     ]
 
-    last_below : stop / 8 ≡ most_marked → get_or xs (stop / 8) 0 < first_too_large
-    last_below most =
-        let same : get_or xs (stop / 8) 0 ≡ get_or xs most_marked 0 = ap (λ (k : ℕ). get_or xs k 0) most in
-        omega (arith, small, same, kept_byte most_marked (omega arith) (omega arith))
+    pub high_over : too_large ≤ varint_bits upper → IsOverflow xs
+    high_over large = elim (cases_lt (high_stop / 8) last_place) [
+      | inl few ↦ absurd (omega (arith, kept_below highs upper high_stop highs_bytes highs_eight first_high last_place few (omega arith)))
+      | inr run ↦ overflow_at xs most_marked bytes (λ i below. high_before i (omega arith)) refl (too_large_byte run)
+    ]
+      where
+        too_large_byte : last_place ≤ high_stop / 8 → first_too_large ≤ get_or xs most_marked 0
+        too_large_byte run = elim (cases_lt last_place (high_stop / 8)) [
+          | inl more ↦ omega (arith, high_before most_marked (omega arith))
+          | inr exact ↦ omega (
+            arith,
+            kept_byte highs upper high_stop highs_bytes highs_eight first_high last_place run (omega arith),
+            kept_below highs upper high_stop highs_bytes highs_eight first_high (last_place + 1) (omega arith) (omega arith),
+            high_byte last_place (omega arith),
+          )
+        ]
 
-    pub shift_fits : stop / 8 ≤ most_marked
-    shift_fits = few_marked
+    module _ (small : varint_bits upper < too_large) where
+      high_few : high_stop / 8 ≤ last_place
+      high_few = few_marked highs upper high_stop highs_bytes highs_eight first_high small
 
-    pub word_short : present ≤ stop / 8 → IsInsufficient xs
-    word_short past =
-        let whole : take (stop / 8) xs ≡ xs = take_all (stop / 8) xs (omega (arith, f.present_is, few_marked)) in record {
-          few = omega (arith, f.present_is, few_marked);
-          all_marked = subst (All IsMarked) whole (run_marked (stop / 8) (omega arith) few_marked);
-        }
+      high_early : high_stop < 64
+      high_early = omega (arith, high_few)
 
-    module _ (within : stop / 8 < present) where
-      last : ℕ
-      last = get_or xs (stop / 8) 0
+      few : 8 + high_stop / 8 ≤ most_marked
+      few = omega (arith, high_few)
 
-      marks : List ℕ
-      marks = take (stop / 8) xs
+      high_here : get_or xs (8 + high_stop / 8) 0 < 128
+      high_here = rw (← high_byte (high_stop / 8) (omega (arith, high_few))) (first_high.here high_early)
 
-      below : stop / 8 < length xs
-      below = omega (arith, f.present_is)
+      high_last : varint_bits upper / 2 ^ (8 * (high_stop / 8)) ≡ get_or xs (8 + high_stop / 8) 0
+      high_last = kept_last highs upper high_stop highs_bytes highs_eight first_high high_early ∙ high_byte (high_stop / 8) (omega (arith, high_few))
 
-      early : stop < 128
-      early = omega (arith, few_marked)
+      last_small : 8 + high_stop / 8 ≡ most_marked → get_or xs (8 + high_stop / 8) 0 < first_too_large
+      last_small most =
+          let same : high_stop / 8 ≡ last_place = omega arith in
+          omega (
+            arith,
+            small,
+            ap (λ (k : ℕ). get_or xs (8 + k) 0) same,
+            kept_byte highs upper high_stop highs_bytes highs_eight first_high last_place (omega arith) (omega arith),
+            high_byte last_place (omega arith),
+          )
 
-      here : last < 128
-      unfolding last
-      here = rw (← get_or-take 16 xs (stop / 8) 0 (omega (arith, few_marked))) (first.here early)
+      pub high_short : present ≤ 8 + high_stop / 8 → IsInsufficient xs
+      high_short past = insufficient_at xs (8 + high_stop / 8) bytes high_before few (omega (arith, few, f.present_is))
 
-      last_small : stop / 8 ≡ most_marked → last < first_too_large
-      unfolding last
-      last_small most = last_below most
+      module _ (within : 8 + high_stop / 8 < present) where
+        high_below : 8 + high_stop / 8 < length xs
+        high_below = omega (arith, f.present_is)
 
-      marks_bytes : IsBytes marks
-      unfolding marks
-      marks_bytes = All-take (λ b. b < 256) (stop / 8) xs bytes
+        pub high_zero : varint_bits upper / 2 ^ (8 * (high_stop / 8)) ≡ 0 → IsNotMinimal xs
+        high_zero null = zero_at xs (8 + high_stop / 8) bytes high_before few high_below (omega arith) (sym high_last ∙ null)
 
-      marks_marked : All IsMarked marks
-      unfolding marks
-      marks_marked = run_marked (stop / 8) (omega arith) few_marked
+        -- both halves of the varint
+        high_kept : lower + varint_bits upper * 2 ^ 64 ≡ place_value 256 (take (8 + high_stop / 8 + 1) xs)
+        unfolding highs
+        high_kept =
+            let j = high_stop / 8 + 1 in
+            let places : 8 * (8 + high_stop / 8 + 1) ≡ 8 * j + 64 = omega arith in
+            let above : varint_bits upper ≡ upper % 2 ^ (8 * j) =
+            first_high.varint high_early ∙ (sym (low_bytes highs j highs_bytes) ∙ ap (λ (n : ℕ). n % 2 ^ (8 * j)) (sym high_is)) in
+            let whole : word % 2 ^ (8 * (8 + high_stop / 8 + 1)) ≡ place_value 256 (take (8 + high_stop / 8 + 1) xs) =
+            ap (λ (n : ℕ). n % 2 ^ (8 * (8 + high_stop / 8 + 1))) f.word_is
+            ∙ (low_bytes (take 16 xs) (8 + high_stop / 8 + 1) front_bytes
+            ∙ ap (place_value 256) (take-take (8 + high_stop / 8 + 1) 16 xs (omega (arith, high_few)))) in
+            let cut : word % 2 ^ (8 * (8 + high_stop / 8 + 1)) ≡ word / 2 ^ 64 % 2 ^ (8 * j) * 2 ^ 64 + word % 2 ^ 64 =
+            ap (λ (n : ℕ). word % 2 ^ n) places ∙ mod-pow-add word (8 * j) 64 in
+            omega (arith, above, whole, cut, and_mask word 64)
 
-      marks_long : length marks ≡ stop / 8
-      unfolding marks
-      marks_long = length-take-le (stop / 8) xs (omega (arith, below))
+        digits_split : digits_low (8 + (most_marked - 7)) (place_value 256 (take (8 + high_stop / 8 + 1) xs))
+            ≡ digits_low 8 lower + digits_low (most_marked - 7) (varint_bits upper) * 2 ^ 56
+        digits_split =
+            let low_fits : lower < 2 ^ (8 * 8) = omega (arith, and_mask word 64) in
+            ap (digits_low (8 + (most_marked - 7))) (sym high_kept) ∙ digits_low_split 8 (most_marked - 7) lower (varint_bits upper) low_fits
 
-      more : take (stop / 8 + 1) xs ≡ marks ++ last ∷ []
-      unfolding marks last
-      more = take_more xs (stop / 8) 0 below
+        -- the code's number
+        abbrev pub high_value : ℕ
+        high_value = bit_or (digits_low 8 lower) (digits_low (most_marked - 7) (varint_bits upper) * 2 ^ 56 % 2 ^ 64)
 
-      -- the code's number
-      abbrev pub number : ℕ
-      number = bit_and (digits_low (most_marked + 1) varint) 18446744073709551615
+        high_value_is : high_value ≡ digits_low (8 + (most_marked - 7)) (place_value 256 (take (8 + high_stop / 8 + 1) xs))
+        high_value_is =
+            let below = number_below xs (8 + high_stop / 8) bytes high_before few high_below high_here last_small (8 + (most_marked - 7)) (omega (arith, few)) in
+            let fits : digits_low (most_marked - 7) (varint_bits upper) * 2 ^ 56 < 2 ^ 64 = omega (arith, below, digits_split) in
+            ap (bit_or (digits_low 8 lower)) (mod-eq_of_lt fits)
+            ∙ (or_comm (digits_low 8 lower) (digits_low (most_marked - 7) (varint_bits upper) * 2 ^ 56)
+            ∙ (or_shifted (digits_low (most_marked - 7) (varint_bits upper)) 56 (digits_low 8 lower) (digits_low_below 8 lower)
+            ∙ (omega arith ∙ sym digits_split)))
 
-      number_is : number ≡ place_value 128 (unmarked marks ++ last ∷ [])
-      number_is =
-          let value : digits_low (most_marked + 1) varint ≡ place_value 128 (unmarked marks ++ last ∷ []) =
-          ap (digits_low (most_marked + 1)) (varint_is early ∙ ap (place_value 256) more)
-          ∙ digits_low_is (most_marked + 1) marks last marks_bytes marks_marked here (omega (arith, marks_long, few_marked)) in
-          let fits = in_range (unmarked marks) last (unmarked_digits marks marks_bytes) here (omega (arith, length-unmarked marks, marks_long, few_marked))
-          (λ e. last_small (omega (arith, e, length-unmarked marks, marks_long))) in
-          let in_word : place_value 128 (unmarked marks ++ last ∷ []) < 2 ^ 64 = omega (arith, fits) in
-          ap (λ (n : ℕ). bit_and n 18446744073709551615) value
-          ∙ (and_mask (place_value 128 (unmarked marks ++ last ∷ [])) 64 ∙ mod-eq_of_lt in_word)
-
-      last_digit : number / 2 ^ (7 * (stop / 8)) ≡ last
-      last_digit =
-          let place : 128 ^ length (unmarked marks) ≡ 2 ^ (7 * (stop / 8)) =
-          ap (λ (i : ℕ). 128 ^ i) (length-unmarked marks ∙ marks_long) ∙ sym (pow_digits (stop / 8)) in
-          let under : place_value 128 (unmarked marks) < 2 ^ (7 * (stop / 8)) =
-          omega (arith, place, place_value_below 128 (unmarked marks) (unmarked_digits marks marks_bytes)) in
-          let product : last * 128 ^ length (unmarked marks) ≡ last * 2 ^ (7 * (stop / 8)) = ap (λ (p : ℕ). last * p) place in
-          let split : number ≡ last * 2 ^ (7 * (stop / 8)) + place_value 128 (unmarked marks) =
-          omega (arith, number_is, place_value_last 128 last (unmarked marks), product) in
-          ap (λ (n : ℕ). n / 2 ^ (7 * (stop / 8))) split ∙ shr_high last (7 * (stop / 8)) (place_value 128 (unmarked marks)) under
-
-      pub word_zero : ¬ (bit_and word 128 ≡ 0) → number / 2 ^ (7 * (stop / 8)) ≡ 0 → IsNotMinimal xs
-      unfolding marks last
-      word_zero set zero_last =
-          let null : get_or xs (stop / 8) 0 ≡ 0 = sym last_digit ∙ zero_last in record {
-            front = take (stop / 8) xs;
-            rest = drop (stop / 8 + 1) xs;
-            all_marked = marks_marked;
-            some = omega (arith, marks_long, some_marked set few_marked);
-            few = omega (arith, marks_long, few_marked);
-            cut = cut_at (stop / 8) below ∙ ap (λ (b : ℕ). take (stop / 8) xs ++ b ∷ drop (stop / 8 + 1) xs) null;
-          }
-
-      pub word_number : ¬ (number / 2 ^ (7 * (stop / 8)) ≡ 0) → IsVarint number (take (stop / 8 + 1) xs)
-      word_number minimal =
-          rw (number_is, more)
-          (varint_from_bytes marks last marks_bytes marks_marked here (omega (arith, marks_long, few_marked))
-          (λ e. last_small (omega (arith, e, marks_long))) (λ z. absurd (minimal (last_digit ∙ z))))
+        pub high_number : ¬ (varint_bits upper / 2 ^ (8 * (high_stop / 8)) ≡ 0) → IsVarint high_value (take (8 + high_stop / 8 + 1) xs)
+        high_number minimal =
+            rw high_value_is
+            (number_at xs (8 + high_stop / 8) bytes high_before few high_below high_here last_small (8 + (most_marked - 7)) (omega (arith, few))
+            (λ z. absurd (minimal (high_last ∙ z))))
 
 -- each number is a word of some bytes
 bytes_exist : (k n : ℕ) → n < 256 ^ k → (ys : List ℕ) × IsBytes ys × (length ys ≡ k) × (place_value 256 ys ≡ n)
@@ -598,13 +803,13 @@ bytes_exist (suc k) n below =
       place_value-cons 256 (n % 256) ys ∙ omega (arith, value, div-add-mod n 256),
     )
 
--- a small number stands behind few marked bytes
-pub few_marked_bytes : (word : ℕ) → word < 2 ^ 128 → varint_bits word < first_too_large * 256 ^ most_marked
-    → trailing_zeros w128 (bit_and (bit_not w128 word) stop_bits) / 8 ≤ most_marked
-few_marked_bytes word fits small =
-    let (ys, bytes, long, value) = bytes_exist 16 word fits in
-    shift_fits ys word 16 bytes
-    (record { word_is = sym value ∙ ap (place_value 256) (sym (take_all 16 ys (omega (arith, long)))); present_is = omega (arith, long) }) small
+-- a small high half has few marked bytes
+pub few_marked_high : (half : ℕ) → half < 2 ^ 64 → varint_bits half < too_large
+    → trailing_zeros w64 (bit_and (bit_not w64 half) stop_bits) / 8 ≤ last_place
+few_marked_high half fits small =
+    let (ys, bytes, long, value) = bytes_exist 8 half fits in
+    let eight : length ys ≤ 8 = omega (arith, long) in
+    few_marked ys half (trailing_zeros w64 (bit_and (bit_not w64 half) stop_bits)) bytes eight (subst (λ (n : ℕ). FirstUnmarked ys n (trailing_zeros w64 (bit_and (bit_not w64 n) stop_bits))) value (first_unmarked ys bytes eight)) small
 
 -- ---- filling a word
 
@@ -631,7 +836,7 @@ zeros_behind [] (z ∷ zs) all =
     omega (arith, place_value-cons 256 z zs, rest, All-head (λ z. z ≡ 0) z zs all, place_value-nil 256)
 zeros_behind (x ∷ xs) zs all = rw (place_value-cons 256 x (xs ++ zs), place_value-cons 256 x xs, zeros_behind xs zs all) refl
 
-pub padded_word : (xs ys : List ℕ) → ys ≡ xs → length xs < 16
+pub padded_word : (xs ys : List ℕ) → ys ≡ xs → length xs ≤ 16
     → from_le_bytes w128 (ys ++ drop (length xs) (replicate 16 0)) ≡ place_value 256 xs
 padded_word xs ys same few =
     let zeros = drop (length xs) (replicate 16 0) in
@@ -647,5 +852,34 @@ pub bytes_of : (xs : List ℕ) → ((i : ℕ) → get_or xs i 0 < 256) → IsByt
 bytes_of xs each = All-from_get_or (λ b. b < 256) xs 0 (λ i _. each i)
 
 -- a slice is its first bytes and those from there on
-pub takes_front : (xs : List ℕ) (n : ℕ) → Some xs ≡ Some (take n xs ++ take (length xs - n) (drop n xs))
-takes_front xs n = ap Some (sym (ap (λ (back : List ℕ). take n xs ++ back) (take_all (length xs - n) (drop n xs) (omega (arith, length-drop n xs))) ∙ take-append-drop n xs))
+pub takes_front : (xs : List ℕ) (n : ℕ) → Some xs ≡ Some (take n xs ++ drop n xs)
+takes_front xs n = ap Some (sym (take-append-drop n xs))
+
+-- the word of a slice's first sixteen bytes
+pub whole_front : (xs front : List ℕ) (word : ℕ) → word ≡ from_le_bytes w128 front → front ≡ take 16 xs → 16 ≤ length xs
+    → IsFrontWord xs word 16
+whole_front xs front word is same enough = record {
+  word_is = is ∙ (le_word front (ap length same ∙ length-take-le 16 xs enough) ∙ ap (place_value 256) same);
+  present_is = omega arith;
+}
+
+-- the word of all bytes of a slice, where they are fewer
+pub all_front : (xs : List ℕ) (word : ℕ) → length xs < 16 → word ≡ place_value 256 xs → IsFrontWord xs word (length xs)
+all_front xs word few is = record {
+  word_is = is ∙ ap (place_value 256) (sym (take_all 16 xs (omega arith)));
+  present_is = omega arith;
+}
+
+-- the word of as many as there are
+pub cut_front : (xs : List ℕ) (n word : ℕ) → n ≡ min 16 (length xs) → word ≡ place_value 256 (take n xs)
+    → IsFrontWord xs word (length (take n xs))
+cut_front xs n word few is = record {
+  word_is = is ∙ ap (place_value 256) (first few);
+  present_is = omega (arith, length-take n xs);
+}
+  where
+    first : n ≡ min 16 (length xs) → take n xs ≡ take 16 xs
+    first few = elim (cases_lt 16 (length xs)) [
+      | inl long ↦ let same : n ≡ 16 = omega arith in ap (λ (k : ℕ). take k xs) same
+      | inr short ↦ take_all n xs (omega arith) ∙ sym (take_all 16 xs (omega arith))
+    ]

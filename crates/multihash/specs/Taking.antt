@@ -17,6 +17,10 @@ IsVarintRefusal e = (fault : VarintFault) × IsFaulty fault e
 abbrev pub IsFrontRefusal : List ℕ → Refusal → Type 0
 IsFrontRefusal input e = (fault : VarintFault) × IsFaulty fault e × HasFaultyFront fault input
 
+-- no varint begins the input
+abbrev pub BeginsNoVarint : List ℕ → Type 0
+BeginsNoVarint input = (fault : VarintFault) × HasFaultyFront fault input
+
 -- a varint of the number was taken
 abbrev pub TakesVarint : ℕ → Option (List ℕ) → Option (List ℕ) → Type 0
 TakesVarint n old new = (bytes : List ℕ) × IsVarint n bytes × Takes old bytes new

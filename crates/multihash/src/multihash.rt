@@ -84,38 +84,13 @@ impl<const S: usize> Multihash<S> {
         if len > S || len > 255 {
             return Err(Error::from_size(len as u64));
         }
-        Ok(Multihash {
+        let mut multihash = Multihash {
             code,
-            digest: Self::padded(input_digest),
+            digest: [0; S],
             size: len,
-        })
-    }
-
-    // The bytes, and zeros behind them.
-    #[inline(always)]
-    fn padded(bytes: &[u8]) -> [u8; S]
-        requires { length bytes.now ≤ S }
-        ensures { result ≡ bytes.now ++ replicate (S - length bytes.now) 0 }
-    {
-        // The usual length is copied as a whole, which is no call.
-        if bytes.len() == 32 {
-            if let Some(all) = bytes.first_chunk::<32>() {
-                return Self::padded_whole(all);
-            }
-        }
-        let mut array = [0; S];
-        array[..bytes.len()].copy_from_slice(bytes);
-        array
-    }
-
-    #[inline(always)]
-    fn padded_whole(bytes: &[u8; 32]) -> [u8; S]
-        requires { 32 ≤ S }
-        ensures { result ≡ bytes.now ++ replicate (S - 32) 0 }
-    {
-        let mut array = [0; S];
-        array[..32].copy_from_slice(bytes);
-        array
+        };
+        multihash.fill(input_digest);
+        Ok(multihash)
     }
 
     /// The code, which names the hash function.
@@ -207,10 +182,18 @@ impl<const S: usize> Multihash<S> {
     pub fn from_bytes(bytes: &[u8]) -> Result<Self, Error>
         ensures { (v : Verdict) × HasWholeVerdict S bytes.now v × Answers result v }
     {
-        let (code, left) = varint::read_front(bytes)?;
-        let (size, digest) = varint::read_front(left)?;
-        let size = Self::fitting_size(size)?;
-        let len = usize::from(size);
+        let Some((code, code_len)) = varint::read_front(bytes) else {
+            return Err(varint::front_fault(bytes));
+        };
+        let left = &bytes[code_len..];
+        let Some((size, size_len)) = varint::read_front(left) else {
+            return Err(varint::front_fault(left));
+        };
+        if size > S as u64 || size > 255 {
+            return Err(Error::from_size(size));
+        }
+        let len = size as usize;
+        let digest = &left[size_len..];
         if digest.len() < len {
             return Err(Error::from(no_std_io::Error::unexpected_eof()));
         }
@@ -327,6 +310,13 @@ impl<const S: usize> Multihash<S> {
         requires { self.old.size ≡ length digest.now }
         ensures { pair_of self.new ≡ record { code = self.old.code; digest = digest.now } }
     {
+        // The usual length is copied as a whole, which is no call.
+        if digest.len() == 32 {
+            if let Some(whole) = digest.first_chunk::<32>() {
+                self.digest[..32].copy_from_slice(whole);
+                return;
+            }
+        }
         self.digest[..digest.len()].copy_from_slice(digest);
     }
 

@@ -1,14 +1,14 @@
 //! Minimal unsigned varints of multiformats, for all of `u64`: at most ten bytes.
-ghost use Rattle.std.specs.Prelude.{◌≡◌, ◌<◌, ◌≤◌, ◌+◌, ℕ, List, [], ◌∷◌, length, take, Some, IfSome, MatchOption, IfOk, IfErr, OnErr};
+ghost use Rattle.std.specs.Prelude.{◌≡◌, ◌<◌, ◌≤◌, ℕ, List, [], ◌∷◌, length, take, drop, Some, IfSome, IfNone, MatchOption, IfOk, IfErr, OnErr};
 ghost use Rattle.multihash.specs.Bytes.{IsBytes, place_value};
 ghost use Rattle.multihash.specs.Varint.{IsVarint, most_marked};
-ghost use Rattle.multihash.specs.Word.{IsFrontWord, digits_low};
+ghost use Rattle.multihash.specs.Word.{IsFrontWord, BeginsMarked, IsFoundFront, digits_low};
 ghost use Rattle.std.specs.Io.KnownBytes.{IsAtEnd};
 ghost use Rattle.multihash.specs.Reading.{Takes, CountsReader};
 ghost use Rattle.multihash.specs.Writing.{AppendsPart, CountsWriter};
 ghost use Rattle.multihash.specs.Fault.{IsOwnFault};
 ghost use Rattle.multihash.specs.Refusal.{IsReaderFault};
-ghost use Rattle.multihash.specs.Taking.{IsVarintRefusal, IsFrontRefusal, TakesVarint, TakesAtVarintRefusal};
+ghost use Rattle.multihash.specs.Taking.{IsVarintRefusal, IsFrontRefusal, BeginsNoVarint, TakesVarint, TakesAtVarintRefusal};
 
 use crate::Error;
 use crate::no_std_io::{self, Read, Write};
@@ -29,11 +29,17 @@ const ROOM: usize = 16;
 // The bytes of a word.
 const WORD_LEN: usize = 16;
 
-// The high bit of each of a word's bytes.
-const HIGH_BITS: u128 = 0x8080_8080_8080_8080_8080_8080_8080_8080;
+// The bytes of half a word.
+const HALF_LEN: usize = 8;
 
-// A word whose varint has a byte that is too large is no less.
-const TOO_LARGE: u128 = (FIRST_TOO_LARGE as u128) << (8 * MOST_MARKED);
+// The high bit of each byte of a half.
+const HIGH_BITS: u64 = 0x8080_8080_8080_8080;
+
+// The most bytes of a varint in the high half.
+const HIGH_LEN: usize = MAX_LEN - HALF_LEN;
+
+// A high half in which a varint has a byte that is too large is no less.
+const TOO_LARGE: u64 = (FIRST_TOO_LARGE as u64) << (8 * (MOST_MARKED - HALF_LEN));
 
 /// The varint of a number.
 #[derive(Drop)]
@@ -149,43 +155,85 @@ pub(crate) fn read<R: Read>(r: &mut R) -> Result<u64, Error>
     unreachable!()
 }
 
-/// Reads the varint that begins the bytes, from one word, and answers its number and what follows it.
-///
-/// # Errors
-///
-/// The fault that begins the bytes.
+/// Reads the varint that begins the bytes, from one word: its number and how many bytes it has. It
+/// answers none where no varint begins them, and `front_fault` says why.
 #[inline(always)]
-pub(crate) fn read_front(bytes: &[u8]) -> Result<(u64, &[u8]), Error>
-    ensures ok { IfOk result (λ found. TakesVarint found.0 (Some bytes.now) (Some found.1.now)) }
-    ensures err { IfErr result (IsFrontRefusal bytes.now) }
+pub(crate) fn read_front(bytes: &[u8]) -> Option<(u64, usize)>
+    ensures some { IfSome result (λ found. TakesVarint found.0 (Some bytes.now) (Some (drop found.1 bytes.now))) }
+    ensures within { IfSome result (λ found. found.1 ≤ length bytes.now) }
+    ensures none { IfNone result (BeginsNoVarint bytes.now) }
 {
-    let (word, present) = front_word(bytes);
-    let (number, taken) = read_word(word, present)?;
-    Ok((number, &bytes[taken..]))
+    let (number, len) = find_front(bytes);
+    if len == 0 { None } else { Some((number, len)) }
 }
 
-// The first sixteen bytes, the lowest first, with zeros for those that are missing, and how many are
-// there.
-#[inline(always)]
-fn front_word(bytes: &[u8]) -> (u128, usize)
-    ensures { IsFrontWord bytes.now result.0 result.1 }
+/// Why no varint begins the bytes.
+#[cold]
+#[inline(never)]
+pub(crate) fn front_fault(bytes: &[u8]) -> Error
+    requires { BeginsNoVarint bytes.now }
+    ensures { IsFrontRefusal bytes.now result }
 {
-    match bytes.first_chunk::<WORD_LEN>() {
-        Some(front) => (u128::from_le_bytes(*front), WORD_LEN),
-        None => (short_word(bytes), bytes.len()),
+    let front = &bytes[..bytes.len().min(WORD_LEN)];
+    match read_word(padded_word(front), front.len()) {
+        Err(fault) => fault,
+        Ok(_) => unreachable!(),
     }
 }
 
-// The word of fewer than sixteen bytes.
-#[cold]
+// The number and the length of the varint that begins the bytes, and no length where none begins them:
+// plain numbers, which stay in registers.
+#[inline(always)]
+fn find_front(bytes: &[u8]) -> (u64, usize)
+    ensures { IsFoundFront bytes.now result.0 result.1 }
+{
+    match bytes.first_chunk::<WORD_LEN>() {
+        Some(front) => find_in(u128::from_le_bytes(*front), WORD_LEN),
+        None => find_short(bytes),
+    }
+}
+
+// As `find_front`, where fewer bytes are left than a word has.
 #[inline(never)]
-fn short_word(bytes: &[u8]) -> u128
+fn find_short(bytes: &[u8]) -> (u64, usize)
     requires { length bytes.now < 16 }
+    ensures { IsFoundFront bytes.now result.0 result.1 }
+{
+    find_in(padded_word(bytes), bytes.len())
+}
+
+// The word of at most sixteen bytes, the lowest first, with zeros for those that are missing.
+#[inline(always)]
+fn padded_word(bytes: &[u8]) -> u128
+    requires { length bytes.now ≤ 16 }
     ensures { result ≡ place_value 256 bytes.now }
 {
     let mut front = [0; WORD_LEN];
     front[..bytes.len()].copy_from_slice(bytes);
     u128::from_le_bytes(front)
+}
+
+// As `find_front` of the bytes that the word holds the first of.
+#[inline(always)]
+fn find_in(word: u128, present: usize) -> (u64, usize)
+    ensures { (bytes : List ℕ) → IsBytes bytes → IsFrontWord bytes word present → IsFoundFront bytes result.0 result.1 }
+{
+    // Most varints have one byte.
+    if word & 0x80 == 0 && present > 0 {
+        ((word & 0x7f) as u64, 1)
+    } else {
+        find_long(word, present)
+    }
+}
+
+#[inline(never)]
+fn find_long(word: u128, present: usize) -> (u64, usize)
+    ensures { (bytes : List ℕ) → IsBytes bytes → IsFrontWord bytes word present → IsFoundFront bytes result.0 result.1 }
+{
+    match read_word(word, present) {
+        Ok(found) => found,
+        Err(_) => (0, 0),
+    }
 }
 
 // The number whose varint begins the bytes that the word holds the first of, and the varint's length.
@@ -194,41 +242,77 @@ fn read_word(word: u128, present: usize) -> Result<(u64, usize), Error>
     ensures ok { IfOk result (λ found. (bytes : List ℕ) → IsBytes bytes →
         IsFrontWord bytes word present →
         IsVarint found.0 (take found.1 bytes)) }
-    ensures within { IfOk result (λ found. found.1 ≤ present) }
+    ensures within { IfOk result (λ found. (0 < found.1) × (found.1 ≤ present)) }
     ensures err { IfErr result (λ e. (bytes : List ℕ) → IsBytes bytes →
         IsFrontWord bytes word present →
         IsFrontRefusal bytes e) }
 {
-    // Most varints have one byte.
-    if present > 0 && word & 0x80 == 0 {
-        return Ok(((word & 0x7f) as u64, 1));
-    }
+    let low = (word & 0xffff_ffff_ffff_ffff) as u64;
     // Set where a byte is unmarked: its highest bit.
-    let stops = !word & HIGH_BITS;
-    // Nothing behind the first of them is set in both.
-    let varint = word & stops.wrapping_sub(1);
-    if varint >= TOO_LARGE {
-        return Err(Error::overflow());
+    let stops = !low & HIGH_BITS;
+    if stops == 0 {
+        return read_high(word, present);
     }
+    // Nothing behind the first of them is set in both.
+    let varint = low & stops.wrapping_sub(1);
     let marked = (stops.trailing_zeros() / 8) as usize;
     if marked >= present {
         return Err(Error::insufficient());
     }
-    let number = (join_digits(varint) & 0xffff_ffff_ffff_ffff) as u64;
-    if number >> (7 * marked) == 0 {
+    if varint >> (8 * marked) == 0 && marked > 0 {
         return Err(Error::not_minimal());
     }
-    Ok((number, marked + 1))
+    Ok((join_low(varint), marked + 1))
 }
 
-// The number of the low seven bits of each byte that a varint can have.
+// As `read_word`, where the bytes of the low half are marked.
 #[inline(always)]
-fn join_digits(word: u128) -> u128
-    ensures { result ≡ digits_low (most_marked + 1) word }
+fn read_high(word: u128, present: usize) -> Result<(u64, usize), Error>
+    ensures ok { IfOk result (λ found. (bytes : List ℕ) → IsBytes bytes → IsFrontWord bytes word present →
+        BeginsMarked 8 bytes → IsVarint found.0 (take found.1 bytes)) }
+    ensures within { IfOk result (λ found. (0 < found.1) × (found.1 ≤ present)) }
+    ensures err { IfErr result (λ e. (bytes : List ℕ) → IsBytes bytes → IsFrontWord bytes word present →
+        BeginsMarked 8 bytes → IsFrontRefusal bytes e) }
 {
-    let mut number: u128 = 0;
-    for i in 0..MAX_LEN {
-        number |= word >> i & 0x7f << (7 * i);
+    let low = (word & 0xffff_ffff_ffff_ffff) as u64;
+    let high = (word >> 64) as u64;
+    let stops = !high & HIGH_BITS;
+    let varint = high & stops.wrapping_sub(1);
+    if varint >= TOO_LARGE {
+        return Err(Error::overflow());
+    }
+    let marked = (stops.trailing_zeros() / 8) as usize;
+    if HALF_LEN + marked >= present {
+        return Err(Error::insufficient());
+    }
+    if varint >> (8 * marked) == 0 {
+        return Err(Error::not_minimal());
+    }
+    let number = join_digits::<HALF_LEN>(low) | join_digits::<HIGH_LEN>(varint) << (7 * HALF_LEN);
+    Ok((number, HALF_LEN + marked + 1))
+}
+
+// The number of the low seven bits of each byte of a low half, which mostly has few bytes of a varint.
+#[inline(always)]
+fn join_low(half: u64) -> u64
+    ensures { result ≡ digits_low 8 half }
+{
+    if half < 1 << 32 {
+        join_digits::<4>(half)
+    } else {
+        join_digits::<HALF_LEN>(half)
+    }
+}
+
+// The number of the low seven bits of each of the lowest `N` bytes.
+#[inline(always)]
+fn join_digits<const N: usize>(half: u64) -> u64
+    requires { N ≤ 8 }
+    ensures { result ≡ digits_low N half }
+{
+    let mut number = 0;
+    for i in 0..N {
+        number |= half >> i & 0x7f << (7 * i);
     }
     number
 }

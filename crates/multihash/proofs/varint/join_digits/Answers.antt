@@ -3,8 +3,8 @@ use Rattle.multihash.proofs.WordLemmas.{digits_low-zero, term_more, digit_mask}
 use Rattle.multihash.proofs.varint.join_digits.Goals as goal
 
 pub loop-i-init : goal.loop-i-init
-loop-i-init c = sym (digits_low-zero c.args.word)
+loop-i-init g c = sym (digits_low-zero c.args.half)
 
 pub loop-i-preserved : goal.loop-i-preserved
-loop-i-preserved c =
-    rw (digit_mask c.loop-i.i (omega arith), c.loop-i.invariant, add-one c.loop-i.i) (term_more c.loop-i.i c.args.word)
+loop-i-preserved g c =
+    rw (digit_mask c.loop-i.i (omega arith), c.loop-i.invariant, add-one c.loop-i.i) (term_more c.loop-i.i c.args.half)

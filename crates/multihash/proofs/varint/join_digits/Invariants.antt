@@ -3,4 +3,4 @@ use Rattle.multihash.specs.Word.{digits_low}
 use Rattle.multihash.proofs.varint.join_digits.Given as goal
 
 abbrev pub invariant-loop-i : goal.invariant-loop-i
-invariant-loop-i l = l.number ≡ digits_low l.i l.word
+invariant-loop-i g l = l.number ≡ digits_low l.i l.half

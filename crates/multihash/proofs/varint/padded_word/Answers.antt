@@ -1,6 +1,6 @@
 use Rattle.std.proofs.Common.{◌∙◌}
 use Rattle.multihash.proofs.WordLemmas.{padded_word}
-use Rattle.multihash.proofs.varint.short_word.Goals as goal
+use Rattle.multihash.proofs.varint.padded_word.Goals as goal
 
 pub returns : goal.returns
 returns c = c.from_le_bytes.ensures ∙ padded_word c.args.bytes.now c.copy_from_slice.new.self c.copy_from_slice.ensures.after c.requires
