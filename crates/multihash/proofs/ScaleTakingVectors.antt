@@ -5,7 +5,7 @@ use Rattle.multihash.specs.Varint.{VarintFault, overflow}
 use Rattle.multihash.specs.Verdict.{accepted, invalid_size, unexpected_eof}
 use Rattle.multihash.specs.Scale.{HasScaleVerdict}
 use Rattle.multihash.specs.Refusal.{Refusal, of_io, of_size, of_varint, of_not_bytes}
-use Rattle.multihash.specs.ScaleTaking.{IsScaleListed, TakesAtScaleRefusal}
+use Rattle.multihash.specs.ScaleTaking.{IsScaleRefusal, TakesAtScaleRefusal}
 use Rattle.multihash.proofs.ScaleLemmas.{scale_verdict_unique}
 use Rattle.multihash.proofs.FaultVectors.{other, eof, memory}
 use Rattle.multihash.proofs.RefusalVectors.{size_in}
@@ -17,31 +17,31 @@ use Rattle.multihash.proofs.ScaleVectors.{zeros, scale_eight_bytes, scale_cut, s
 
 -- ---- refusals
 
-decoding_refuses_size : IsScaleListed 4 (of_size 5)
+decoding_refuses_size : IsScaleRefusal 4 (of_size 5)
 decoding_refuses_size = inl (5, refl, omega arith)
 
 -- a digest's length is one byte in this form, so a larger buffer has no limit of its own
-decoding_refuses_end : IsScaleListed 300 (of_io eof)
+decoding_refuses_end : IsScaleRefusal 300 (of_io eof)
 decoding_refuses_end = inr (eof, refl, refl)
 
-decoding_refuses_no_size_that_fits : ¬ (IsScaleListed 4 (of_size 4))
+decoding_refuses_no_size_that_fits : ¬ (IsScaleRefusal 4 (of_size 4))
 decoding_refuses_no_size_that_fits (inl (size, e, large)) = omega (arith, ap size_in e, large)
 decoding_refuses_no_size_that_fits (inr (f, e, kind)) = cc
 
 -- no varint is read
-decoding_refuses_no_varint : (f : VarintFault) → ¬ (IsScaleListed 4 (of_varint f))
+decoding_refuses_no_varint : (f : VarintFault) → ¬ (IsScaleRefusal 4 (of_varint f))
 decoding_refuses_no_varint f (inl (size, e, large)) = cc
 decoding_refuses_no_varint f (inr (fault, e, kind)) = cc
 
-decoding_refuses_by_no_own_fault : ¬ (IsScaleListed 4 (of_io other))
+decoding_refuses_by_no_own_fault : ¬ (IsScaleRefusal 4 (of_io other))
 decoding_refuses_by_no_own_fault (inl (size, e, large)) = cc
 decoding_refuses_by_no_own_fault (inr (f, e, kind)) = cc
 
-decoding_refuses_by_no_want_of_memory : ¬ (IsScaleListed 4 (of_io memory))
+decoding_refuses_by_no_want_of_memory : ¬ (IsScaleRefusal 4 (of_io memory))
 decoding_refuses_by_no_want_of_memory (inl (size, e, large)) = cc
 decoding_refuses_by_no_want_of_memory (inr (f, e, kind)) = cc
 
-decoding_refuses_no_value : ¬ (IsScaleListed 4 of_not_bytes)
+decoding_refuses_no_value : ¬ (IsScaleRefusal 4 of_not_bytes)
 decoding_refuses_no_value (inl (size, e, large)) = cc
 decoding_refuses_no_value (inr (f, e, kind)) = cc
 
