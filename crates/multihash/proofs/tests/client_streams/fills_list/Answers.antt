@@ -3,7 +3,7 @@ use Rattle.std.proofs.lemmas.Result.{on_ok_weaker, on_err_weaker}
 use Rattle.multihash.specs.Joined.{AreJoined}
 use Rattle.multihash.specs.Answer.{pair_of}
 use Rattle.multihash.proofs.JoinedLemmas.{joined_same}
-use Rattle.multihash.proofs.ClientLemmas.{filled}
+use Rattle.multihash.proofs.CallingLemmas.{filled}
 use Rattle.multihash.proofs.tests.client_streams.fills_list.Goals as goal
 
 pub returns : goal.returns

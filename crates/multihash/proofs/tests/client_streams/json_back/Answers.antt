@@ -1,6 +1,6 @@
 use Rattle.serde_json.specs.View.{view}
 use Rattle.multihash.specs.Answer.{pair_of}
-use Rattle.multihash.proofs.ClientLemmas.{verdict_back}
+use Rattle.multihash.proofs.CallingLemmas.{verdict_back}
 use Rattle.multihash.proofs.JsonLemmas.{json_bytes, json_is_array}
 use Rattle.multihash.proofs.tests.client_streams.json_back.Goals as goal
 

@@ -1,4 +1,4 @@
-use Rattle.multihash.proofs.ClientLemmas.{pairs_read}
+use Rattle.multihash.proofs.CallingLemmas.{pairs_read}
 use Rattle.multihash.proofs.tests.client_streams.read_pairs.Goals as goal
 
 pub returns : goal.returns

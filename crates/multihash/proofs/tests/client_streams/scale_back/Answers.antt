@@ -1,6 +1,6 @@
 use Rattle.std.proofs.Common.{◌≡◌, ◌++◌, refl, rules}
 use Rattle.multihash.specs.Answer.{pair_of}
-use Rattle.multihash.proofs.ClientLemmas.{scale_pair, scale_taken}
+use Rattle.multihash.proofs.CallingLemmas.{scale_pair, scale_taken}
 use Rattle.multihash.proofs.tests.client_streams.scale_back.Goals as goal
 
 pub returns-in_err-back : goal.returns-in_err-back

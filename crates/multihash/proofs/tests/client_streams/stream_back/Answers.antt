@@ -1,7 +1,7 @@
 use Rattle.std.proofs.Common.{◌≡◌, ◌++◌, map, Some, refl, ap, rules}
 use Rattle.std.proofs.lemmas.List.{length-map}
 use Rattle.multihash.specs.Answer.{pair_of}
-use Rattle.multihash.proofs.ClientLemmas.{refused_by}
+use Rattle.multihash.proofs.CallingLemmas.{refused_by}
 use Rattle.multihash.proofs.tests.client_streams.stream_back.Goals as goal
 
 pub returns-in_err-back : goal.returns-in_err-back

@@ -8,7 +8,7 @@ use Rattle.multihash.specs.Order.{Compares}
 use Rattle.multihash.specs.Answer.{pair_of}
 use Rattle.multihash.proofs.PairLemmas.{IsSame-sym}
 use Rattle.multihash.proofs.OrderLemmas.{same_not_before}
-use Rattle.multihash.proofs.ClientLemmas.{tests_agree}
+use Rattle.multihash.proofs.CallingLemmas.{tests_agree}
 use Rattle.multihash.proofs.tests.client_values.equal_iff_same.Goals as goal
 
 equal_order : (p q : Pair) (o : Ordering) → Compares p q o → IsTrue (is_eq o) ↔ IsSame p q

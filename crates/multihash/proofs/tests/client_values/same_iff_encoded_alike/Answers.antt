@@ -1,6 +1,6 @@
 use Rattle.std.proofs.Common.{◌≡◌, IsTrue, ◌↔◌, rules}
 use Rattle.multihash.specs.Answer.{pair_of}
-use Rattle.multihash.proofs.ClientLemmas.{same_encoding, tests_agree}
+use Rattle.multihash.proofs.CallingLemmas.{same_encoding, tests_agree}
 use Rattle.multihash.proofs.tests.client_values.same_iff_encoded_alike.Goals as goal
 
 pub returns-clause-always : goal.returns-clause-always

@@ -1,7 +1,7 @@
 use Rattle.std.proofs.Common.{sym, subst}
 use Rattle.multihash.specs.Encoding.{IsEncoding}
 use Rattle.multihash.specs.Answer.{pair_of}
-use Rattle.multihash.proofs.ClientLemmas.{verdict_back}
+use Rattle.multihash.proofs.CallingLemmas.{verdict_back}
 use Rattle.multihash.proofs.tests.clients.bytes_back.Goals as goal
 
 pub returns : goal.returns

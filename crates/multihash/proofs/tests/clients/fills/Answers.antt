@@ -1,6 +1,6 @@
 use Rattle.multihash.specs.Answer.{pair_of}
 use Rattle.multihash.specs.Encoding.{IsEncoding}
-use Rattle.multihash.proofs.ClientLemmas.{filled_count}
+use Rattle.multihash.proofs.CallingLemmas.{filled_count}
 use Rattle.multihash.proofs.tests.clients.fills.Goals as goal
 
 pub returns : goal.returns

@@ -151,6 +151,27 @@ scale_taken S p input bytes more v e whole form fits found refused =
     let own = scale_own S p bytes more form (omega arith) in
     subst (IsRefusal e) (scale_verdict_unique S input v (accepted p) found (subst (λ x. HasScaleVerdict S x (accepted p)) (sym whole) own)) refused
 
+-- reading where a pair's encoding comes next gives the pair and leaves what follows
+pub pair_read : (S before after : ℕ) (old new : Option (List ℕ)) (p : Pair) (bytes more : List ℕ) (r : Result Fields Refusal)
+    → IsEncoding p bytes → FitsBuffer S p → old ≡ Some (bytes ++ more) → after ≡ before
+    → IfSome old (λ rest. after ≡ before → (v : Verdict) × HasVerdict S rest v × Answers r v)
+    → IfOk r (λ m. (taken : List ℕ) × IsEncoding (pair_of m) taken × Takes old taken new)
+    → MatchResult r (λ m. (pair_of m ≡ p) × (new ≡ Some more)) (λ _. ⊥)
+pair_read S before after None new p bytes more r encodes fits rest same verdict ok = cc
+pair_read S before after (Some input) new p bytes more (Ok m) encodes fits rest same verdict ok = at new ok.2
+  where
+    at : (new : Option (List ℕ)) → Takes (Some input) ok.0 new → (pair_of m ≡ p) × (new ≡ Some more)
+    at None takes = cc
+    at (Some left) takes =
+        let cut : ok.0 ++ left ≡ bytes ++ more = cc in
+        let told = encoding_unique (pair_of m) p ok.0 bytes left more ok.1 encodes cut in
+        (told.0, ap Some told.2)
+pair_read S before after (Some input) new p bytes more (Err e) encodes fits rest same verdict ok =
+    let v = verdict same in
+    let spelled : input ≡ bytes ++ more = cc in
+    let own : HasVerdict S input (accepted p) = (more, record { encoding = bytes; encodes = encodes; cut = spelled }, fits) in
+    subst (IsRefusal e) (verdict_unique S input v.0 (accepted p) v.1 own) v.2
+
 -- the error that is answered is the one that was met
 pub refused_by : {T E : Type 0} (r : Result T E) (e : E) (Q : T → Type 0) (P : E → Type 0) → IsErrAnd r (λ x. x ≡ e) → P e → MatchResult r Q P
 refused_by (Ok t) e Q P given p = absurd given
