@@ -5,7 +5,7 @@ use Rattle.std.specs.Fmt.{digits}
 use Rattle.multihash.specs.declared.no_std_io.error.Kind.TheVariants.{UnexpectedEof, WriteZero, OutOfMemory, Other}
 use Rattle.multihash.specs.Pair.{Pair}
 use Rattle.multihash.specs.Varint.{insufficient, overflow, not_minimal}
-use Rattle.multihash.specs.Fault.{Fault, IsOwnFault, HasStandardText}
+use Rattle.multihash.specs.Fault.{Fault, IsOwnFault, HasStandardText, printed}
 use Rattle.multihash.specs.Refusal.{Refusal, of_io, of_size, of_varint, of_not_bytes, IsMemory, IsReaderFault, IsNotBytes, refusal_text}
 use Rattle.multihash.specs.Verdict.{accepted, invalid_size, faulty, unexpected_eof}
 use Rattle.multihash.specs.Answer.{Fields, pair_of, Answers}
@@ -101,17 +101,24 @@ size_is_bytes size h = cc
 
 -- ---- texts
 
-eof_text : HasStandardText (record { kind = UnexpectedEof; text = codes "failed to fill whole buffer" })
-eof_text = refl
+eof_prints : (own : List ℕ) → printed (record { kind = UnexpectedEof; text = own }) ≡ codes "failed to fill whole buffer"
+eof_prints own = refl
 
-full_text : HasStandardText (record { kind = WriteZero; text = codes "failed to write whole buffer" })
-full_text = refl
+full_prints : (own : List ℕ) → printed (record { kind = WriteZero; text = own }) ≡ codes "failed to write whole buffer"
+full_prints own = refl
 
-memory_text : HasStandardText (record { kind = OutOfMemory; text = codes "out of memory" })
-memory_text = refl
+memory_prints : (own : List ℕ) → printed (record { kind = OutOfMemory; text = own }) ≡ codes "out of memory"
+memory_prints own = refl
 
+other_prints : (own : List ℕ) → printed (record { kind = Other; text = own }) ≡ own
+other_prints own = refl
+
+-- an error carries the text that it prints, and none but a fault of one's own carries another
 any_text : (text : List ℕ) → HasStandardText (record { kind = Other; text = text })
-any_text text = tt
+any_text text = refl
+
+no_other_text : ¬ (HasStandardText (record { kind = WriteZero; text = codes "x" }))
+no_other_text h = omega (arith, ap length h)
 
 size_text : refusal_text (of_size 256) ≡ codes "Invalid multihash size 256."
 unfolding digits
@@ -129,5 +136,5 @@ not_minimal_text = refl
 not_bytes_text : refusal_text of_not_bytes ≡ codes "Failed to deserialize Multihash"
 not_bytes_text = refl
 
-passed_on_text : (fault : Fault) → refusal_text (of_io fault) ≡ fault.text
+passed_on_text : (fault : Fault) → refusal_text (of_io fault) ≡ printed fault
 passed_on_text fault = refl

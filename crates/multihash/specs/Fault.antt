@@ -1,5 +1,5 @@
 -- What a contract sees of an error.
-use Rattle.std.specs.Prelude.{◌≡◌, ℕ, List, ◌⊎◌, ⊤, codes}
+use Rattle.std.specs.Prelude.{◌≡◌, ℕ, List, ◌⊎◌, codes}
 use Rattle.multihash.specs.declared.no_std_io.error.Kind.{Kind}
 use Rattle.multihash.specs.declared.no_std_io.error.Kind.TheVariants.{UnexpectedEof, WriteZero, OutOfMemory, Other}
 
@@ -28,12 +28,18 @@ IsOther e = e.kind ≡ Other
 abbrev pub IsOwnFault : Fault → Type 0
 IsOwnFault e = IsOther e ⊎ IsOutOfMemory e
 
--- the text of each kind but `Other`, whose text is the caller's
-abbrev pub StandardText : Kind → List ℕ → Type 0
-StandardText UnexpectedEof text = text ≡ codes "failed to fill whole buffer"
-StandardText WriteZero text = text ≡ codes "failed to write whole buffer"
-StandardText OutOfMemory text = text ≡ codes "out of memory"
-StandardText Other text = ⊤
+-- the text that an error of this kind prints, where it was made with that text: only a reader's or a
+-- writer's own fault prints what it was made with
+abbrev pub text_of : Kind → List ℕ → List ℕ
+text_of UnexpectedEof own = codes "failed to fill whole buffer"
+text_of WriteZero own = codes "failed to write whole buffer"
+text_of OutOfMemory own = codes "out of memory"
+text_of Other own = own
 
+-- the text that an error prints
+abbrev pub printed : Fault → List ℕ
+printed e = text_of e.kind e.text
+
+-- an error carries the text that it prints
 abbrev pub HasStandardText : Fault → Type 0
-HasStandardText e = StandardText e.kind e.text
+HasStandardText e = e.text ≡ printed e

@@ -4,7 +4,7 @@ use Rattle.std.specs.Fmt.{decimal}
 use Rattle.multihash.specs.declared.error.Kind.{Kind}
 use Rattle.multihash.specs.declared.error.Kind.TheVariants.{Io, InvalidSize, Insufficient, Overflow, NotMinimal, NotBytes}
 use Rattle.multihash.specs.Varint.{VarintFault, insufficient, overflow, not_minimal}
-use Rattle.multihash.specs.Fault.{Fault, IsUnexpectedEof, IsOutOfMemory, IsOwnFault}
+use Rattle.multihash.specs.Fault.{Fault, IsUnexpectedEof, IsOutOfMemory, IsOwnFault, printed}
 
 -- why a call was refused: a fault of a reader or a writer, a size, a varint, or a JSON value that is
 -- no byte array
@@ -59,7 +59,7 @@ varint_text not_minimal = codes "encoding is not minimal"
 
 -- the text that a refusal prints
 abbrev pub refusal_text : Refusal → List ℕ
-refusal_text (of_io fault) = fault.text
+refusal_text (of_io fault) = printed fault
 refusal_text (of_size size) = codes "Invalid multihash size " ++ decimal size ++ codes "."
 refusal_text (of_varint fault) = varint_text fault
 refusal_text of_not_bytes = codes "Failed to deserialize Multihash"

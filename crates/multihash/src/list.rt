@@ -1,5 +1,5 @@
 //! Many multihashes in one stream, one after another.
-ghost use Rattle.std.specs.Prelude.{◌≡◌, ◌⊎◌, ℕ, List, length, map, All, IfOk, IfErr, OnOk, OnErr, IsOk};
+ghost use Rattle.std.specs.Prelude.{◌≡◌, ◌⊎◌, ℕ, List, length, map, vec_capacity, All, IfOk, IfErr, OnOk, OnErr, IsOk};
 ghost use Rattle.multihash.specs.Pair.{FitsBuffer};
 ghost use Rattle.multihash.specs.Joined.{AreJoined};
 ghost use Rattle.multihash.specs.Writing.{AppendsPart, CountsWriter};
@@ -36,7 +36,7 @@ pub fn write_list<const S: usize, W: Write>(items: &[Multihash<S>], w: &mut W) -
 }
 
 /// Reads `count` multihashes, one after another; what follows them in `r` stays unread. Their places
-/// are asked for before anything is read. A `count` of 0 takes nothing, and needs no memory.
+/// are asked for before anything is read, `count` of them and no more. A `count` of 0 takes nothing, and needs no memory.
 ///
 /// # Errors
 ///
@@ -48,17 +48,20 @@ pub fn read_list<const S: usize, R: Read>(
     r: &mut R,
     count: usize,
 ) -> Result<Vec<Multihash<S>>, Error>
-    ensures faults { CountsReader IsReaderFault (λ e. IsReadRefusal S e ⊎ IsMemory e) (R.failures r.old) (R.failures r.new) result }
+    ensures faults { CountsReader IsReaderFault (λ e. IsReadRefusal S e ⊎ IsMemory e)
+        (R.failures r.old) (R.failures r.new) result }
     ensures none { count ≡ 0 → IsOk result }
+    ensures places { IfOk result (λ list. vec_capacity list ≡ count) }
     ensures ok { IfOk result (λ list. (length list.items ≡ count)
         × TakesPairs S (map pair_of list.items) (R.rest r.old) (R.rest r.new)) }
     ensures err { IfErr result (λ e.
         (IsMemory e × (R.failures r.new ≡ R.failures r.old) × (R.rest r.new ≡ R.rest r.old))
-        ⊎ StopsAfterPairs S count e (R.failures r.old) (R.failures r.new) (R.rest r.old) (R.rest r.new)) }
+        ⊎ StopsAfterPairs S count e (R.failures r.old) (R.failures r.new)
+            (R.rest r.old) (R.rest r.new)) }
 {
     let mut list = Vec::with_capacity(alloc, count)?;
     for _ in 0..count {
-        list.push(Multihash::read(r)?).unwrap();
+        list.push_reserved(Multihash::read(r)?);
     }
     Ok(list)
 }

@@ -1,6 +1,6 @@
 //! The error of readers and writers.
 ghost use Rattle.std.specs.Prelude.{◌≡◌, ◌↔◌, IsTrue, Some};
-ghost use Rattle.multihash.specs.Fault.{IsUnexpectedEof, IsWriteZero, IsOutOfMemory, IsOther, HasStandardText};
+ghost use Rattle.multihash.specs.Fault.{IsUnexpectedEof, IsWriteZero, IsOutOfMemory, IsOther, HasStandardText, printed};
 
 use std::fmt;
 use std::marker::Model;
@@ -114,9 +114,9 @@ impl Error {
 
 /// Prints the text alone, whatever width or precision is asked.
 impl fmt::Display for Error {
-    ghost output = { λ e. Some e.text };
+    ghost output = { λ e. Some (printed e) };
 
-    ghost styled_output = { λ e _. Some e.text };
+    ghost styled_output = { λ e _. Some (printed e) };
 
     fn fmt<W: fmt::Write>(&self, f: &mut fmt::Formatter<W>) -> fmt::Result {
         f.write_str(self.text)

@@ -10,6 +10,7 @@ loop-init g c = record {
   pairs = rw c.in_ok-list.ensures.items (TakesPairs-none g.row.S _);
   count = ap length c.in_ok-list.ensures.items;
   room = c.in_ok-list.ensures.capacity;
+  places = c.in_ok-list.ensures.exact;
   unfailed = refl;
 }
 
@@ -36,10 +37,11 @@ loop-preserved g c =
     let before = c.loop.invariant in
     let met = c.in_ok-read.ensures in
     let m = c.in_ok-read.field-0 in
-    let items : c.push.new.self.items ≡ c.loop.list.items ++ m ∷ [] = search rules in
+    let items : c.push_reserved.new.self.items ≡ c.loop.list.items ++ m ∷ [] = search rules in
     record {
       pairs = rw items (TakesPairs-more g.row.S c.loop.list.items m met.ok.0 _ _ _ before.pairs met.ok.1 met.fits met.ok.2);
       count = search rules;
       room = search rules;
+      places = search rules;
       unfailed = met.faults ∙ before.unfailed;
     }

@@ -9,5 +9,6 @@ invariant-loop g l = record {
   pairs : TakesPairs g.row.S (map pair_of l.list.items) (g.R.Read.rest l.initial.r) (g.R.Read.rest l.r);
   count : length l.list.items ≡ l.counter;
   room : l.count ≤ vec_capacity l.list;
+  places : vec_capacity l.list ≡ l.count;
   unfailed : g.R.Read.failures l.r ≡ g.R.Read.failures l.initial.r;
 }
