@@ -1,5 +1,5 @@
 -- What answers a verdict, the texts of refusals, and the kinds of faults.
-use Rattle.std.proofs.Common.{◌≡◌, ℕ, List, length, refl, ap, arith, inl, inr}
+use Rattle.std.proofs.Common.{◌≡◌, ℕ, List, length, refl, ap, arith, rules, inl, inr}
 use Rattle.std.specs.Prelude.{codes, Ok, Err}
 use Rattle.std.specs.Fmt.{digits}
 use Rattle.multihash.specs.declared.no_std_io.error.Kind.TheVariants.{UnexpectedEof, WriteZero, OutOfMemory, Other}
@@ -11,8 +11,8 @@ use Rattle.multihash.specs.Verdict.{accepted, invalid_size, faulty, unexpected_e
 use Rattle.multihash.specs.Answer.{Fields, pair_of, Answers}
 use Rattle.multihash.proofs.PairVectors.{pair}
 
-abbrev stale : Fields
-stale = record { code = 7; size = 2; buffer = codes "abcd" }
+abbrev stale : Fields 4
+stale = record { code = 7; size = 2; buffer = codes "abcd"; in_range = omega arith; fits = omega arith }
 
 -- the buffer past the size means nothing
 means_ab : pair_of stale ≡ pair 7 (codes "ab")
@@ -28,10 +28,10 @@ answers_no_longer_pair h =
 no_pair_answers_refusal : ¬ (Answers (Ok stale) unexpected_eof)
 no_pair_answers_refusal h = cc
 
-no_refusal_answers_pair : (e : Refusal) (p : Pair) → ¬ (Answers (Err e) (accepted p))
+no_refusal_answers_pair : (e : Refusal) (p : Pair) → ¬ (Answers {S = 4} (Err e) (accepted p))
 no_refusal_answers_pair e p h = h
 
-answers_size : Answers (Err (of_size 5)) (invalid_size 5)
+answers_size : Answers {S = 4} (Err (of_size 5)) (invalid_size 5)
 answers_size = refl
 
 abbrev size_in : Refusal → ℕ
@@ -40,23 +40,23 @@ size_in (of_size size) = size
 size_in (of_varint fault) = 0
 size_in of_not_bytes = 0
 
-answers_no_other_size : ¬ (Answers (Err (of_size 6)) (invalid_size 5))
+answers_no_other_size : ¬ (Answers {S = 4} (Err (of_size 6)) (invalid_size 5))
 answers_no_other_size h = omega (arith, ap size_in h)
 
-answers_varint : Answers (Err (of_varint overflow)) (faulty overflow)
+answers_varint : Answers {S = 4} (Err (of_varint overflow)) (faulty overflow)
 answers_varint = refl
 
-answers_no_other_varint : ¬ (Answers (Err (of_varint insufficient)) (faulty overflow))
+answers_no_other_varint : ¬ (Answers {S = 4} (Err (of_varint insufficient)) (faulty overflow))
 answers_no_other_varint h = cc
 
-answers_eof : Answers (Err (of_io (record { kind = UnexpectedEof; text = codes "failed to fill whole buffer" }))) unexpected_eof
+answers_eof : Answers {S = 4} (Err (of_io (record { kind = UnexpectedEof; text = codes "failed to fill whole buffer" }))) unexpected_eof
 answers_eof = (record { kind = UnexpectedEof; text = codes "failed to fill whole buffer" }, refl, refl)
 
 -- a reader's own fault answers no verdict
-no_own_fault_answers : (text : List ℕ) → ¬ (Answers (Err (of_io (record { kind = Other; text = text }))) unexpected_eof)
+no_own_fault_answers : (text : List ℕ) → ¬ (Answers {S = 4} (Err (of_io (record { kind = Other; text = text }))) unexpected_eof)
 no_own_fault_answers text (fault, e, kind) = cc
 
-no_end_inside_varint : (fault : Fault) → ¬ (Answers (Err (of_io fault)) (faulty insufficient))
+no_end_inside_varint : (fault : Fault) → ¬ (Answers {S = 4} (Err (of_io fault)) (faulty insufficient))
 no_end_inside_varint fault h = cc
 
 -- ---- faults

@@ -80,7 +80,7 @@ never_stops S count e n new pairs bytes more joined fit many stop = at stop.midd
 
 -- reading a stream of so many pairs gives them and leaves what follows, or there was no memory
 pub pairs_read : (S count before after : ℕ) (old new : Option (List ℕ)) (pairs : List Pair) (bytes more : List ℕ)
-    (r : Result (Vec Fields Global) Refusal) → AreJoined pairs bytes → All (FitsBuffer S) pairs → length pairs ≡ count
+    (r : Result (Vec (Fields S) Global) Refusal) → AreJoined pairs bytes → All (FitsBuffer S) pairs → length pairs ≡ count
     → old ≡ Some (bytes ++ more) → after ≡ before
     → IfOk r (λ list. (length list.items ≡ count) × TakesPairs S (map pair_of list.items) old new)
     → IfErr r (λ e. (IsMemory e × (after ≡ before) × (new ≡ old)) ⊎ StopsAfterPairs S count e before after old new)
@@ -178,7 +178,7 @@ refused_by (Ok t) e Q P given p = absurd given
 refused_by (Err x) e Q P given p = subst P (sym given) p
 
 -- the verdict on a pair's encoding is the pair
-pub verdict_back : (S : ℕ) (p : Pair) (bytes : List ℕ) (r : Result Fields Refusal) (v : Verdict) → HasWholeVerdict S bytes v → Answers r v
+pub verdict_back : (S : ℕ) (p : Pair) (bytes : List ℕ) (r : Result (Fields S) Refusal) (v : Verdict) → HasWholeVerdict S bytes v → Answers r v
     → IsEncoding p bytes → FitsBuffer S p → MatchResult r (λ m. pair_of m ≡ p) IsMemory
 verdict_back S p bytes (Ok m) v h answers encodes fits =
     let same : accepted (pair_of m) ≡ accepted p = sym answers ∙ whole_verdict_unique S bytes v (accepted p) h (encodes, fits) in

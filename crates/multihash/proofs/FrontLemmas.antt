@@ -11,16 +11,16 @@ use Rattle.multihash.specs.Answer.{Fields, IsRefusal, Answers}
 use Rattle.multihash.proofs.VerdictLemmas.{pair_begins}
 
 -- the verdict that a call's outcome answers
-abbrev pub AnswersWhole : ℕ → List ℕ → Result Fields Refusal → Type 0
+abbrev pub AnswersWhole : (S : ℕ) → List ℕ → Result (Fields S) Refusal → Type 0
 AnswersWhole S input r = (v : Verdict) × HasWholeVerdict S input v × Answers r v
 
-passed_on_whole : (S : ℕ) (input : List ℕ) (r : Result Fields Refusal) (e : Refusal) → IsErrAnd r (λ x. x ≡ e)
+passed_on_whole : (S : ℕ) (input : List ℕ) (r : Result (Fields S) Refusal) (e : Refusal) → IsErrAnd r (λ x. x ≡ e)
     → (v : Verdict) × HasWholeVerdict S input v × IsRefusal e v → AnswersWhole S input r
 passed_on_whole S input (Ok m) e given found = absurd given
 passed_on_whole S input (Err x) e given (v, has, refusal) = (v, has, subst (λ z. IsRefusal z v) (sym given) refusal)
 
 -- no varint of a code
-pub no_code : (S : ℕ) (input : List ℕ) (r : Result Fields Refusal) (e : Refusal) → IsErrAnd r (λ x. x ≡ e) → IsFrontRefusal input e
+pub no_code : (S : ℕ) (input : List ℕ) (r : Result (Fields S) Refusal) (e : Refusal) → IsErrAnd r (λ x. x ≡ e) → IsFrontRefusal input e
     → AnswersWhole S input r
 no_code S input r e given (fault, named, shows) = passed_on_whole S input r e given (faulty fault, inl shows, named)
 
@@ -29,7 +29,7 @@ module _ (S code : ℕ) (input left : List ℕ) (is_code : TakesVarint code (Som
   cut_code = cc (is_code.2)
 
   -- no varint of a size
-  pub no_size : (r : Result Fields Refusal) (e : Refusal) → IsErrAnd r (λ x. x ≡ e) → IsFrontRefusal left e → AnswersWhole S input r
+  pub no_size : (r : Result (Fields S) Refusal) (e : Refusal) → IsErrAnd r (λ x. x ≡ e) → IsFrontRefusal left e → AnswersWhole S input r
   no_size r e given (fault, named, shows) =
       passed_on_whole S input r e given
       (faulty fault, inr (left, record { code = code; code_bytes = is_code.0; is_code = is_code.1; cut = cut_code }, shows), named)
@@ -49,7 +49,7 @@ module _ (S code : ℕ) (input left : List ℕ) (is_code : TakesVarint code (Som
     }
 
     -- a size that is too large
-    pub over : (r : Result Fields Refusal) (e : Refusal) → IsErrAnd r (λ x. x ≡ e) → digest_limit S < size → IsInvalidSize size e
+    pub over : (r : Result (Fields S) Refusal) (e : Refusal) → IsErrAnd r (λ x. x ≡ e) → digest_limit S < size → IsInvalidSize size e
         → AnswersWhole S input r
     over r e given large named = passed_on_whole S input r e given (invalid_size size, inl (rest, sized, large), named)
 

@@ -93,6 +93,14 @@ concat_push (x ∷ es) e = ap (λ z. x ++ z) (concat_push es e) ∙ sym (append_
 pub AreJoined-none : AreJoined [] []
 AreJoined-none = record { encodings = []; each = tt; joined = refl }
 
+pub AreJoined-first : (p : Pair) (ps : List Pair) (e bytes : List ℕ) → IsEncoding p e → AreJoined ps bytes
+    → AreJoined (p ∷ ps) (e ++ bytes)
+AreJoined-first p ps e bytes h k = record {
+  encodings = e ∷ k.encodings;
+  each = (h, k.each);
+  joined = ap (λ z. e ++ z) k.joined;
+}
+
 pub AreJoined-push : (ps : List Pair) (p : Pair) (bytes e : List ℕ) → AreJoined ps bytes → IsEncoding p e → AreJoined (ps ++ p ∷ []) (bytes ++ e)
 AreJoined-push ps p bytes e h k = record {
   encodings = h.encodings ++ e ∷ [];

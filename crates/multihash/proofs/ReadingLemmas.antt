@@ -3,15 +3,16 @@ use Rattle.std.proofs.Common.{◌≡◌, ℕ, ◌+◌, ◌≤◌, List, [], ◌+
 use Rattle.std.proofs.lemmas.List.{take-append-le}
 use Rattle.std.proofs.Math.Seq.{take-append-add}
 use borrow.Rule.Slice.PartMut.{put_mid, post_of}
-use Rattle.multihash.specs.Reading.{preceded_by, Takes, IsAtEnd, HasFewerThan, TakesFewerThan}
+use Rattle.std.specs.Io.KnownBytes.{prepend_known, IsAtEnd}
+use Rattle.multihash.specs.Reading.{Takes, HasFewerThan, TakesFewerThan}
 
-pub preceded_by-append : (xs ys : List ℕ) (rest : Option (List ℕ)) → preceded_by xs (preceded_by ys rest) ≡ preceded_by (xs ++ ys) rest
-preceded_by-append xs ys None = refl
-preceded_by-append xs ys (Some rest) = ap Some (sym (append_assoc xs ys rest))
+pub prepend_known-append : (xs ys : List ℕ) (rest : Option (List ℕ)) → prepend_known xs (prepend_known ys rest) ≡ prepend_known (xs ++ ys) rest
+prepend_known-append xs ys None = refl
+prepend_known-append xs ys (Some rest) = ap Some (sym (append_assoc xs ys rest))
 
 pub Takes-joined : (a b c : Option (List ℕ)) (xs ys whole : List ℕ) → whole ≡ xs ++ ys → Takes a xs b → Takes b ys c → Takes a whole c
 Takes-joined a b c xs ys whole joined first second =
-    first ∙ ap (preceded_by xs) second ∙ preceded_by-append xs ys c ∙ ap (λ l. preceded_by l c) (sym joined)
+    first ∙ ap (prepend_known xs) second ∙ prepend_known-append xs ys c ∙ ap (λ l. prepend_known l c) (sym joined)
 
 -- a buffer whose places from `at` on were handed out begins with what it began with, and then with
 -- what was put at the front of those places

@@ -5,7 +5,8 @@ use Rattle.multihash.specs.Pair.{Pair}
 use Rattle.multihash.specs.Verdict.{Verdict, accepted, invalid_size, unexpected_eof}
 use Rattle.multihash.specs.Scale.{IsScaleCode, IsScale, HasScaleSize, HasScaleVerdict}
 use Rattle.multihash.specs.Fault.{Fault, IsUnexpectedEof, IsOwnFault}
-use Rattle.multihash.specs.Reading.{preceded_by, Takes, HasFewerThan}
+use Rattle.std.specs.Io.KnownBytes.{prepend_known}
+use Rattle.multihash.specs.Reading.{Takes, HasFewerThan}
 use Rattle.multihash.specs.Refusal.{Refusal, of_io, IsInvalidSize}
 use Rattle.multihash.specs.Answer.{Fields, pair_of, IsRefusal, Answers}
 use Rattle.multihash.specs.ScaleTaking.{TakesAtScaleRefusal}
@@ -72,7 +73,7 @@ module _ (S code size : ℕ) (a : List ℕ) (is_code : IsScaleCode code a) where
       ))
     where
       short : (left : List ℕ) → new ≡ Some left → length (front ++ left) < size
-      short left told = subst (HasFewerThan size) (took ∙ ap (λ o. preceded_by front o) told) (few ended_early)
+      short left told = subst (HasFewerThan size) (took ∙ ap (λ o. prepend_known front o) told) (few ended_early)
 
   pub cut_taken : (fault : Fault) (front : List ℕ) (old new : Option (List ℕ)) → size ≤ S → length front < size → Takes old (a ++ size ∷ front) new
       → TakesAtScaleRefusal S (of_io fault) old new
@@ -88,24 +89,24 @@ module _ (S code size : ℕ) (a : List ℕ) (is_code : IsScaleCode code a) where
   whole_form digest byte long = record { code = a; is_code = is_code; size = omega (arith, byte, long); spelled = ap (λ n. a ++ n ∷ digest) (sym long) }
 
 -- an outcome that makes the pair, where nothing refuses it
-pub made_ok : (r : Result Fields Refusal) (p : Pair) (bytes : List ℕ) (old new : Option (List ℕ)) → IfOk r (λ m. pair_of m ≡ p) → IsScale p bytes
+pub made_ok : {S : ℕ} (r : Result (Fields S) Refusal) (p : Pair) (bytes : List ℕ) (old new : Option (List ℕ)) → IfOk r (λ m. pair_of m ≡ p) → IsScale p bytes
     → Takes old bytes new → IfOk r (λ m. (bytes : List ℕ) × IsScale (pair_of m) bytes × Takes old bytes new)
 made_ok (Ok m) p bytes old new made form takes = (bytes, subst (λ q. IsScale q bytes) (sym made) form, takes)
 made_ok (Err e) p bytes old new made form takes = tt
 
-made_answer : (S : ℕ) (r : Result Fields Refusal) (p : Pair) (rest : List ℕ) → IfOk r (λ m. pair_of m ≡ p) → ¬ (IsErr r)
+made_answer : (S : ℕ) (r : Result (Fields S) Refusal) (p : Pair) (rest : List ℕ) → IfOk r (λ m. pair_of m ≡ p) → ¬ (IsErr r)
     → HasScaleVerdict S rest (accepted p) → (v : Verdict) × HasScaleVerdict S rest v × Answers r v
 made_answer S (Ok m) p rest made fine has = (accepted p, has, ap accepted (sym made))
 made_answer S (Err e) p rest made fine has = absurd (fine refl)
 
-pub made_verdict : (S : ℕ) (r : Result Fields Refusal) (p : Pair) (bytes : List ℕ) (old new : Option (List ℕ)) (before after : ℕ)
+pub made_verdict : (S : ℕ) (r : Result (Fields S) Refusal) (p : Pair) (bytes : List ℕ) (old new : Option (List ℕ)) (before after : ℕ)
     → IfOk r (λ m. pair_of m ≡ p) → ¬ (IsErr r) → IsScale p bytes → length p.digest ≤ S → Takes old bytes new
     → IfSome old (λ rest. after ≡ before → (v : Verdict) × HasScaleVerdict S rest v × Answers r v)
 made_verdict S r p bytes old new before after made fine form fits takes =
     IfSome-taken old new bytes _ takes (λ left _ _. made_answer S r p (bytes ++ left) made fine (bytes, left, form, fits, refl))
 
 -- the refusal that is passed on answers the verdict that it was met with
-pub passed_answer : (S : ℕ) (r : Result Fields Refusal) (e : Refusal) (old : Option (List ℕ)) (before after : ℕ) → IsErrAnd r (λ x. x ≡ e)
+pub passed_answer : (S : ℕ) (r : Result (Fields S) Refusal) (e : Refusal) (old : Option (List ℕ)) (before after : ℕ) → IsErrAnd r (λ x. x ≡ e)
     → IfSome old (λ rest. after ≡ before → (v : Verdict) × HasScaleVerdict S rest v × IsRefusal e v)
     → IfSome old (λ rest. after ≡ before → (v : Verdict) × HasScaleVerdict S rest v × Answers r v)
 passed_answer S (Ok m) e old before after given h = absurd given

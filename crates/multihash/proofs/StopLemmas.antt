@@ -6,10 +6,11 @@ use Rattle.multihash.specs.Varint.{VarintFault, insufficient, overflow, not_mini
 use Rattle.multihash.specs.Encoding.{IsEncoding}
 use Rattle.multihash.specs.Verdict.{invalid_size, faulty, unexpected_eof, HasSize, HasVerdict}
 use Rattle.multihash.specs.Fault.{Fault, IsUnexpectedEof, IsOwnFault}
-use Rattle.multihash.specs.Reading.{Takes, IsAtEnd, HasFewerThan}
+use Rattle.std.specs.Io.KnownBytes.{IsAtEnd}
+use Rattle.multihash.specs.Reading.{Takes, HasFewerThan}
 use Rattle.multihash.specs.Refusal.{Refusal, of_io, IsReaderFault, IsInvalidSize, IsFaulty}
 use Rattle.multihash.specs.Taking.{IsVarintRefusal, TakesAtVarintRefusal}
-use Rattle.multihash.specs.Answer.{pair_of}
+use Rattle.multihash.specs.Answer.{Fields, pair_of}
 use Rattle.multihash.proofs.BeginningLemmas.{split_beginning}
 use Rattle.multihash.proofs.SettlingLemmas.{EndsEarly, varint_step, before_first, before_second}
 use Rattle.multihash.proofs.TakingLemmas.{Stops, late, early, failed}
@@ -105,16 +106,12 @@ module _ (S code size : ℕ) (a b : List ℕ) (is_code : IsVarint code a) (is_si
       (cut_whole front mid new within takes (few ended))
 
   -- the fields that were read mean the pair that was encoded
-  pub encodes_fields : (buffer digest : List ℕ) → take size buffer ≡ digest → length digest ≡ size
-      → IsEncoding (pair_of (record { code = code; size = size; buffer = buffer })) (a ++ (b ++ digest))
-  encodes_fields buffer digest same long = record {
+  pub encodes_fields : (m : Fields S) (digest : List ℕ) → m.code ≡ code → take m.size m.buffer ≡ digest
+      → length digest ≡ size → IsEncoding (pair_of m) (a ++ (b ++ digest))
+  encodes_fields m digest same_code same long = record {
     code = a;
     size = b;
-    is_code = is_code;
+    is_code = subst (λ n. IsVarint n a) (sym same_code) is_code;
     is_size = subst (λ n. IsVarint n b) (sym (ap length same ∙ long)) is_size;
     spelled = ap (λ z. a ++ (b ++ z)) (sym same);
   }
-
-  pub fields_fit : (buffer digest : List ℕ) → take size buffer ≡ digest → length digest ≡ size → size ≤ digest_limit S
-      → FitsBuffer S (pair_of (record { code = code; size = size; buffer = buffer }))
-  fields_fit buffer digest same long within = omega (arith, ap length same, long, within)

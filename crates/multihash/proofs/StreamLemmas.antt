@@ -16,7 +16,7 @@ use Rattle.multihash.proofs.WritingLemmas.{AppendsPart-append, AppendsPart-joine
 pub TakesPairs-none : (S : ℕ) (a : Option (List ℕ)) → TakesPairs S [] a a
 TakesPairs-none S a = record { bytes = []; joined = AreJoined-none; fit = All-nil (FitsBuffer S); takes = Takes-none a }
 
-pub TakesPairs-more : (S : ℕ) (items : List Fields) (m : Fields) (encoding : List ℕ) (a b c : Option (List ℕ)) → TakesPairs S (map pair_of items) a b
+pub TakesPairs-more : (S : ℕ) (items : List (Fields S)) (m : Fields S) (encoding : List ℕ) (a b c : Option (List ℕ)) → TakesPairs S (map pair_of items) a b
     → IsEncoding (pair_of m) encoding → FitsBuffer S (pair_of m) → Takes b encoding c → TakesPairs S (map pair_of (items ++ m ∷ [])) a c
 TakesPairs-more S items m encoding a b c before encodes fits takes =
     rw (map_push pair_of items m) (record {
@@ -35,8 +35,8 @@ module _ {W : Type 0} (appended : W → List ℕ → W → Type 0) where
       subst (λ z. AppendsPart appended old z new) (sym front.1) (AppendsPart-append appended old new h.bytes front.0 h.part)
 
   -- the items before this one stand appended, and a part of this one
-  pub stops_at : ((a b c : W) (x y : List ℕ) → appended a x b → appended b y c → appended a (x ++ y) c) → (old mid new : W) (items : List Fields)
-      (i : ℕ) (m : Fields) (done encoding : List ℕ) → items ≡ take i items ++ m ∷ drop (i + 1) items → AreJoined (map pair_of (take i items)) done
+  pub stops_at : ((a b c : W) (x y : List ℕ) → appended a x b → appended b y c → appended a (x ++ y) c) → {S : ℕ} (old mid new : W) (items : List (Fields S))
+      (i : ℕ) (m : Fields S) (done encoding : List ℕ) → items ≡ take i items ++ m ∷ drop (i + 1) items → AreJoined (map pair_of (take i items)) done
       → appended old done mid → IsEncoding (pair_of m) encoding → AppendsPart appended mid encoding new
       → AppendsPartOfPairs appended old (map pair_of items) new
   stops_at join old mid new items i m done encoding cut joined stands encodes part = record {

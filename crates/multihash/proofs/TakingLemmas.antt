@@ -7,11 +7,13 @@ use Rattle.multihash.specs.Varint.{insufficient, overflow, not_minimal}
 use Rattle.multihash.specs.Encoding.{IsEncoding}
 use Rattle.multihash.specs.Verdict.{Verdict, accepted, invalid_size, faulty, unexpected_eof, HasVerdict, HasWholeVerdict, IsEarlyEnd}
 use Rattle.multihash.specs.Settling.{Settles, IsShortestSettling}
-use Rattle.multihash.specs.Reading.{Takes, IsAtEnd, CountsReader}
+use Rattle.std.specs.Io.KnownBytes.{IsAtEnd}
+use Rattle.multihash.specs.Reading.{Takes, CountsReader}
 use Rattle.multihash.specs.Fault.{Fault}
 use Rattle.multihash.specs.Refusal.{Refusal, IsReaderFault, IsEof, IsFaulty}
 use Rattle.multihash.specs.Taking.{IsReadRefusal, TakesAtRefusal, TakesShortestSettling, TakesUnsettled}
 use Rattle.multihash.specs.Answer.{Fields, pair_of, IsRefusal, Answers}
+use Rattle.multihash.proofs.ValueLemmas.{digest_fits}
 use Rattle.multihash.proofs.VerdictLemmas.{verdict_unique}
 use Rattle.multihash.proofs.SettlingLemmas.{verdict_kept, none_settles, EndsEarly, before_digest, shortest_from}
 
@@ -153,7 +155,7 @@ stop_none S e taken left before after (early v same soon given has all whole) wh
 stop_none S e taken left before after (failed v rose own soon has) why = none_settles S taken v has soon
 
 pub stop_unsettled : (S : ℕ) (e : Refusal) (taken : List ℕ) (old new : Option (List ℕ)) (before after : ℕ) → Takes old taken new
-    → Stops S e taken new before after → IfSome old (λ rest. EndsOrFails S rest before after → TakesUnsettled S (Some rest) new)
+    → Stops S e taken new before after → IfSome old (λ rest. EndsOrFails S rest before after → TakesUnsettled S rest new)
 stop_unsettled S e taken None new before after takes stop = tt
 stop_unsettled S e taken (Some rest) None before after takes stop = cc
 stop_unsettled S e taken (Some rest) (Some left) before after takes stop =
@@ -196,7 +198,7 @@ module _ (S : ℕ) (p : Pair) (taken : List ℕ) (encodes : IsEncoding p taken) 
       }
 
   pub pair_unsettled : (old new : Option (List ℕ)) (before after : ℕ) → after ≡ before → Takes old taken new
-      → IfSome old (λ rest. EndsOrFails S rest before after → TakesUnsettled S (Some rest) new)
+      → IfSome old (λ rest. EndsOrFails S rest before after → TakesUnsettled S rest new)
   pair_unsettled None new before after unrisen takes = tt
   pair_unsettled (Some rest) None before after unrisen takes = cc
   pair_unsettled (Some rest) (Some left) before after unrisen takes =
@@ -210,7 +212,7 @@ module _ (S : ℕ) (p : Pair) (taken : List ℕ) (encodes : IsEncoding p taken) 
 -- ---- the whole contract
 
 -- what `read` promises of an outcome
-abbrev pub ReadMeets : ℕ → Option (List ℕ) → Option (List ℕ) → ℕ → ℕ → Result Fields Refusal → Type 0
+abbrev pub ReadMeets : (S : ℕ) → Option (List ℕ) → Option (List ℕ) → ℕ → ℕ → Result (Fields S) Refusal → Type 0
 ReadMeets S old new before after r = record {
   faults : CountsReader IsReaderFault (IsReadRefusal S) before after r;
   verdict : IfSome old (λ rest. after ≡ before → (v : Verdict) × HasVerdict S rest v × Answers r v);
@@ -218,10 +220,10 @@ ReadMeets S old new before after r = record {
   fits : IfOk r (λ m. FitsBuffer S (pair_of m));
   err : IfErr r (λ e. TakesAtRefusal S e old new);
   settled : IfSome old (λ rest. after ≡ before → (v : Verdict) → HasVerdict S rest v → ¬ (IsEarlyEnd v) → TakesShortestSettling S rest new);
-  unsettled : IfSome old (λ rest. EndsOrFails S rest before after → TakesUnsettled S (Some rest) new);
+  unsettled : IfSome old (λ rest. EndsOrFails S rest before after → TakesUnsettled S rest new);
 }
 
-pub refused : (S : ℕ) (taken : List ℕ) (old new : Option (List ℕ)) (before after : ℕ) (r : Result Fields Refusal) (e : Refusal)
+pub refused : (S : ℕ) (taken : List ℕ) (old new : Option (List ℕ)) (before after : ℕ) (r : Result (Fields S) Refusal) (e : Refusal)
     → IsErrAnd r (λ x. x ≡ e) → Takes old taken new → Stops S e taken new before after → ReadMeets S old new before after r
 refused S taken old new before after (Ok m) e given takes stop = absurd given
 refused S taken old new before after (Err x) e given takes stop = record {
@@ -237,17 +239,20 @@ refused S taken old new before after (Err x) e given takes stop = record {
     own : Stops S x taken new before after
     own = subst (λ (y : Refusal). Stops S y taken new before after) (sym given) stop
 
-pub answered : (S : ℕ) (taken : List ℕ) (old new : Option (List ℕ)) (before after : ℕ) (m : Fields) → after ≡ before
-    → IsEncoding (pair_of m) taken → FitsBuffer S (pair_of m) → Takes old taken new → ReadMeets S old new before after (Ok m)
-answered S taken old new before after m unrisen encodes fits takes = record {
-  faults = unrisen;
-  verdict = IfSome-weaker old (λ rest h _. (accepted (pair_of m), h, refl)) (pair_verdict S (pair_of m) taken encodes fits old new takes);
-  ok = (taken, encodes, takes);
-  fits = fits;
-  err = tt;
-  settled = IfSome-weaker old (λ rest h _ v has stays. h) (pair_settled S (pair_of m) taken encodes fits old new takes);
-  unsettled = pair_unsettled S (pair_of m) taken encodes fits old new before after unrisen takes;
-}
+pub answered : (S : ℕ) (taken : List ℕ) (old new : Option (List ℕ)) (before after : ℕ) (m : Fields S) → after ≡ before
+    → IsEncoding (pair_of m) taken → Takes old taken new → ReadMeets S old new before after (Ok m)
+answered S taken old new before after m unrisen encodes takes =
+    let fits = digest_fits m in record {
+      faults = unrisen;
+      verdict = IfSome-weaker old (λ rest h _. (accepted (pair_of m), h, refl))
+          (pair_verdict S (pair_of m) taken encodes fits old new takes);
+      ok = (taken, encodes, takes);
+      fits = fits;
+      err = tt;
+      settled = IfSome-weaker old (λ rest h _ v has stays. h)
+          (pair_settled S (pair_of m) taken encodes fits old new takes);
+      unsettled = pair_unsettled S (pair_of m) taken encodes fits old new before after unrisen takes;
+    }
 
 -- ---- the whole input
 
@@ -259,7 +264,7 @@ whole_refused S x e (invalid_size size) has given = (invalid_size size, inl has,
 whole_refused S x e (faulty fault) has given = (faulty fault, has, given)
 whole_refused S x e unexpected_eof has given = (unexpected_eof, has, given)
 
-pub whole_passed_on : (S : ℕ) (x : List ℕ) (r : Result Fields Refusal) (e : Refusal) (v : Verdict) → IsErrAnd r (λ y. y ≡ e) → HasVerdict S x v
+pub whole_passed_on : (S : ℕ) (x : List ℕ) (r : Result (Fields S) Refusal) (e : Refusal) (v : Verdict) → IsErrAnd r (λ y. y ≡ e) → HasVerdict S x v
     → IsRefusal e v → (w : Verdict) × HasWholeVerdict S x w × Answers r w
 whole_passed_on S x (Ok m) e v given has refusal = absurd given
 whole_passed_on S x (Err y) e v given has refusal =

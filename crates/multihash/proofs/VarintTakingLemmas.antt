@@ -3,7 +3,8 @@ use Rattle.std.proofs.Common.{◌≡◌, ℕ, List, Option, subst}
 use Rattle.multihash.specs.Bytes.{IsProperBeginning}
 use Rattle.multihash.specs.Varint.{VarintFault, insufficient, IsInsufficient, HasFaultyFront}
 use Rattle.multihash.specs.Fault.{Fault}
-use Rattle.multihash.specs.Reading.{Takes, IsAtEnd}
+use Rattle.std.specs.Io.KnownBytes.{IsAtEnd}
+use Rattle.multihash.specs.Reading.{Takes}
 use Rattle.multihash.specs.Refusal.{Refusal, of_io, of_varint}
 use Rattle.multihash.specs.Taking.{TakesAtVarintRefusal}
 use Rattle.multihash.proofs.VarintReadLemmas.{ReadsMarked, read_whole, before_end}

@@ -1,17 +1,22 @@
 -- What a call answers where a verdict holds, and what the fields of a multihash mean.
-use Rattle.std.specs.Prelude.{◌≡◌, ℕ, List, take, Result, MatchResult}
-use Rattle.multihash.specs.Pair.{Pair}
+use Rattle.std.specs.Prelude.{◌≡◌, ◌<◌, ◌≤◌, ℕ, List, take, Result, MatchResult}
+use Rattle.multihash.specs.Varint.{varint_limit}
+use Rattle.multihash.specs.Pair.{Pair, digest_limit}
 use Rattle.multihash.specs.Verdict.{Verdict, accepted, invalid_size, faulty, unexpected_eof}
 use Rattle.multihash.specs.Refusal.{Refusal, IsEof, IsInvalidSize, IsFaulty}
 
--- the fields of a multihash: the code, the digest's size, and the buffer that begins with the digest
-pub record Fields : Type 0 where
+-- what a multihash holds: the code, the digest's size, and the buffer of S bytes that begins with the
+-- digest. That the code is in range and the digest fits is part of the value itself, so that it is
+-- known also of a value that nothing has read yet
+pub record Fields (S : ℕ) : Type 0 where
   pub code : ℕ
   pub size : ℕ
   pub buffer : List ℕ
+  pub in_range : code < varint_limit
+  pub fits : size ≤ digest_limit S
 
 -- the pair that a multihash means
-abbrev pub pair_of : Fields → Pair
+abbrev pub pair_of : {S : ℕ} → Fields S → Pair
 pair_of m = record { code = m.code; digest = take m.size m.buffer }
 
 -- the refusal that a verdict asks for
@@ -22,5 +27,5 @@ IsRefusal e (faulty fault) = IsFaulty fault e
 IsRefusal e unexpected_eof = IsEof e
 
 -- the outcome is the verdict's: its pair, or its refusal
-abbrev pub Answers : Result Fields Refusal → Verdict → Type 0
+abbrev pub Answers : {S : ℕ} → Result (Fields S) Refusal → Verdict → Type 0
 Answers outcome v = MatchResult outcome (λ m. v ≡ accepted (pair_of m)) (λ e. IsRefusal e v)

@@ -9,12 +9,14 @@ use Rattle.multihash.specs.Pair.{Pair}
 -- the codes, the digests' lengths and the digests are equal
 abbrev pub equal_pairs : Pair → Pair → Bool
 equal_pairs =
-    eq_of_both (on (λ p. p.code) ◌==◌) (eq_of_both (on (λ p. length p.digest) ◌==◌) (on (λ p. p.digest) (pointwise ◌==◌)))
+    eq_of_both (on (λ p. p.code) ◌==◌)
+    (eq_of_both (on (λ p. length p.digest) ◌==◌) (on (λ p. p.digest) (pointwise ◌==◌)))
 
 -- by the code, then by the digest's length, then by its bytes
 abbrev pub compare_pairs : Pair → Pair → Ordering
 compare_pairs =
-    then_cmp (on (λ p. p.code) nat_cmp) (then_cmp (on (λ p. length p.digest) nat_cmp) (on (λ p. p.digest) (slice_cmp nat_cmp)))
+    then_cmp (on (λ p. p.code) nat_cmp)
+    (then_cmp (on (λ p. length p.digest) nat_cmp) (on (λ p. p.digest) (slice_cmp nat_cmp)))
 
 -- the code, then the digest as a slice of bytes
 abbrev pub hashed_pair : Pair → List (List ℕ)

@@ -20,7 +20,8 @@ abbrev pub ComesBefore : Pair → Pair → Type 0
 ComesBefore p q =
     (p.code < q.code)
     ⊎ ((p.code ≡ q.code) × (length p.digest < length q.digest))
-    ⊎ ((p.code ≡ q.code) × (length p.digest ≡ length q.digest) × IsSmallerWhereFirstDifferent p.digest q.digest)
+    ⊎ ((p.code ≡ q.code) × (length p.digest ≡ length q.digest)
+        × IsSmallerWhereFirstDifferent p.digest q.digest)
 
 -- how two pairs compare
 abbrev pub Compares : Pair → Pair → Ordering → Type 0

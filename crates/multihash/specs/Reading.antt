@@ -1,20 +1,13 @@
 -- What a call took from a reader, and how it failed.
-use Rattle.std.specs.Prelude.{◌≡◌, ◌<◌, ◌≤◌, ℕ, List, [], ◌++◌, ◌⊎◌, length, take, drop, Option, None, Some, Result, MatchResult, IfSome, IfOk, IfErr, OnOk, OnErr, IsOk}
+use Rattle.std.specs.Prelude.{◌≡◌, ◌<◌, ◌≤◌, ℕ, List, ◌⊎◌, length, take, drop, Option, Result, MatchResult, IfSome, IfOk, IfErr}
+use Rattle.std.specs.Prelude.{OnOk, OnErr, IsOk}
+use Rattle.std.specs.Io.KnownBytes.{prepend_known, IsAtEnd}
 use Rattle.multihash.specs.Fault.{Fault, IsUnexpectedEof, IsOwnFault}
-
--- the bytes of a reader that still has `front` before these, where it tells them
-abbrev pub preceded_by : List ℕ → Option (List ℕ) → Option (List ℕ)
-preceded_by front None = None
-preceded_by front (Some rest) = Some (front ++ rest)
 
 -- a call took `taken`: the rest was `taken` and then what is the rest now. A reader that doesn't
 -- tell its rest still doesn't tell it
 abbrev pub Takes : Option (List ℕ) → List ℕ → Option (List ℕ) → Type 0
-Takes old taken new = old ≡ preceded_by taken new
-
--- no byte is left, where the reader tells
-abbrev pub IsAtEnd : Option (List ℕ) → Type 0
-IsAtEnd rest = IfSome rest (λ bytes. bytes ≡ [])
+Takes old taken new = old ≡ prepend_known taken new
 
 -- fewer than `n` bytes are left, where the reader tells
 abbrev pub HasFewerThan : ℕ → Option (List ℕ) → Type 0
@@ -26,14 +19,15 @@ pub record TakesFewerThan (n : ℕ) (old new : Option (List ℕ)) : Type 0 where
   pub fewer : length taken < n
   pub takes : Takes old taken new
 
--- an Ok left the count of failures alone; an Err raised it, by a fault of the reader's own, or left it
--- alone and is listed
+-- an Ok left the count of failures alone; an Err raised it, by a fault of the reader's own, or left
+-- it alone and is listed
 abbrev pub CountsReader : {A E : Type 0} → (E → Type 0) → (E → Type 0) → ℕ → ℕ → Result A E → Type 0
 CountsReader IsOwn IsListed before after outcome = MatchResult outcome (λ _. after ≡ before)
     (λ e. ((before < after) × IsOwn e) ⊎ ((after ≡ before) × IsListed e))
 
 -- the laws of `read`
-abbrev pub ReadLaws : {S : Type 0} → (S → Option (List ℕ)) → (S → ℕ) → S → S → List ℕ → List ℕ → Result ℕ Fault → Type 0
+abbrev pub ReadLaws : {S : Type 0} → (S → Option (List ℕ)) → (S → ℕ) → S → S → List ℕ → List ℕ
+    → Result ℕ Fault → Type 0
 ReadLaws rest failures old new places filled outcome = record {
   count : IfOk outcome (λ n. n ≤ length places);
   beyond : IfOk outcome (λ n. drop n filled ≡ drop n places);
@@ -44,7 +38,8 @@ ReadLaws rest failures old new places filled outcome = record {
 }
 
 -- the laws of `read_exact`
-abbrev pub ReadExactLaws : {S A : Type 0} → (S → Option (List ℕ)) → (S → ℕ) → S → S → List ℕ → List ℕ → Result A Fault → Type 0
+abbrev pub ReadExactLaws : {S A : Type 0} → (S → Option (List ℕ)) → (S → ℕ) → S → S
+    → List ℕ → List ℕ → Result A Fault → Type 0
 ReadExactLaws rest failures old new places filled outcome = record {
   faults : CountsReader IsOwnFault IsUnexpectedEof (failures old) (failures new) outcome;
   takes : OnOk outcome (Takes (rest old) filled (rest new));

@@ -29,9 +29,12 @@ pub record HasScaleSize (size : ℕ) (input rest : List ℕ) : Type 0 where
 -- the verdict of decoding on what begins with the input, for a buffer of size S; no varint is read
 abbrev pub HasScaleVerdict : ℕ → List ℕ → Verdict → Type 0
 HasScaleVerdict S input (accepted p) =
-    (bytes : List ℕ) × (rest : List ℕ) × IsScale p bytes × (length p.digest ≤ S) × (input ≡ bytes ++ rest)
-HasScaleVerdict S input (invalid_size size) = (rest : List ℕ) × HasScaleSize size input rest × (S < size)
+    (bytes : List ℕ) × (rest : List ℕ) × IsScale p bytes × (length p.digest ≤ S)
+    × (input ≡ bytes ++ rest)
+HasScaleVerdict S input (invalid_size size) =
+    (rest : List ℕ) × HasScaleSize size input rest × (S < size)
 HasScaleVerdict S input (faulty fault) = ⊥
 HasScaleVerdict S input unexpected_eof =
     (length input < 9)
-    ⊎ ((size : ℕ) × (rest : List ℕ) × HasScaleSize size input rest × (size ≤ S) × (length rest < size))
+    ⊎ ((size : ℕ) × (rest : List ℕ) × HasScaleSize size input rest × (size ≤ S)
+        × (length rest < size))

@@ -6,13 +6,14 @@ use Rattle.multihash.specs.Reading.{Takes}
 use Rattle.multihash.specs.Refusal.{Refusal, IsEof, IsReaderFault, IsInvalidSize}
 
 -- a refusal of decoding: a size that is too large, or an input that ends early
-abbrev pub IsScaleListed : ℕ → Refusal → Type 0
-IsScaleListed S e = ((size : ℕ) × IsInvalidSize size e × (S < size)) ⊎ IsEof e
+abbrev pub IsScaleRefusal : ℕ → Refusal → Type 0
+IsScaleRefusal S e = ((size : ℕ) × IsInvalidSize size e × (S < size)) ⊎ IsEof e
 
 -- what decoding took where it was refused: nine bytes where the size is too large; else, after a failure
 -- of the reader too, bytes that by themselves end early
 pub record TakesAtScaleRefusal (S : ℕ) (e : Refusal) (old new : Option (List ℕ)) : Type 0 where
   pub taken : List ℕ
   pub takes : Takes old taken new
-  pub size : (size : ℕ) → IsInvalidSize size e → HasScaleVerdict S taken (invalid_size size) × (length taken ≡ 9)
+  pub size : (size : ℕ) → IsInvalidSize size e →
+      HasScaleVerdict S taken (invalid_size size) × (length taken ≡ 9)
   pub early : (IsEof e ⊎ IsReaderFault e) → HasScaleVerdict S taken unexpected_eof

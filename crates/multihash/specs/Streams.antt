@@ -17,22 +17,27 @@ pub record TakesPairs (S : ℕ) (pairs : List Pair) (old new : Option (List ℕ)
   pub takes : Takes old bytes new
 
 -- the call took the encodings of fewer pairs than it was asked for, and then what the refused `read` took
-pub record StopsAfterPairs (S count : ℕ) (e : Refusal) (before after : ℕ) (old new : Option (List ℕ)) : Type 0 where
+pub record StopsAfterPairs (S count : ℕ) (e : Refusal) (before after : ℕ)
+    (old new : Option (List ℕ)) : Type 0 where
   pub pairs : List Pair
   pub middle : Option (List ℕ)
   pub fewer : length pairs < count
   pub good : TakesPairs S pairs old middle
   pub refused : TakesAtRefusal S e middle new
   -- the refusal is that of the verdict on what follows the pairs
-  pub verdict : IfSome middle (λ left. after ≡ before → (v : Verdict) × HasVerdict S left v × IsRefusal e v)
+  pub verdict : IfSome middle (λ left. after ≡ before →
+      (v : Verdict) × HasVerdict S left v × IsRefusal e v)
   -- where that is no early end, exactly the shortest beginning that settles it was taken; else nothing
   -- that was taken of it settles
-  pub settled : IfSome middle (λ left. after ≡ before → (v : Verdict) → HasVerdict S left v → ¬ (IsEarlyEnd v) → TakesShortestSettling S left new)
+  pub settled : IfSome middle (λ left. after ≡ before → (v : Verdict) → HasVerdict S left v →
+      ¬ (IsEarlyEnd v) → TakesShortestSettling S left new)
   pub unsettled : IfSome middle (λ left.
-      (before < after) ⊎ ((v : Verdict) × HasVerdict S left v × IsEarlyEnd v) → TakesUnsettled S (Some left) new)
+      (before < after) ⊎ ((v : Verdict) × HasVerdict S left v × IsEarlyEnd v) →
+      TakesUnsettled S left new)
 
 -- a proper beginning of the encodings of the first of these pairs was appended, one after another
-pub record AppendsPartOfPairs {W : Type 0} (appended : W → List ℕ → W → Type 0) (old : W) (pairs : List Pair) (new : W) : Type 0 where
+pub record AppendsPartOfPairs {W : Type 0} (appended : W → List ℕ → W → Type 0) (old : W)
+    (pairs : List Pair) (new : W) : Type 0 where
   pub first : List Pair
   pub later : List Pair
   pub bytes : List ℕ

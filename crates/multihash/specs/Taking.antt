@@ -5,7 +5,8 @@ use Rattle.multihash.specs.Pair.{digest_limit}
 use Rattle.multihash.specs.Varint.{VarintFault, insufficient, IsVarint, IsInsufficient, HasFaultyFront}
 use Rattle.multihash.specs.Verdict.{Verdict, faulty, unexpected_eof, HasVerdict, IsEarlyEnd}
 use Rattle.multihash.specs.Settling.{Settles, IsShortestSettling}
-use Rattle.multihash.specs.Reading.{Takes, IsAtEnd}
+use Rattle.std.specs.Io.KnownBytes.{IsAtEnd}
+use Rattle.multihash.specs.Reading.{Takes}
 use Rattle.multihash.specs.Refusal.{Refusal, IsEof, IsReaderFault, IsInvalidSize, IsFaulty}
 
 -- a varint's fault
@@ -22,7 +23,8 @@ TakesVarint n old new = (bytes : List ℕ) × IsVarint n bytes × Takes old byte
 
 -- a refusal of reading: a size that is too large, a varint's fault, or a digest that is cut
 abbrev pub IsReadRefusal : ℕ → Refusal → Type 0
-IsReadRefusal S e = ((size : ℕ) × IsInvalidSize size e × (digest_limit S < size)) ⊎ IsVarintRefusal e ⊎ IsEof e
+IsReadRefusal S e =
+    ((size : ℕ) × IsInvalidSize size e × (digest_limit S < size)) ⊎ IsVarintRefusal e ⊎ IsEof e
 
 -- what reading a varint took where it was refused: bytes that show the fault at the last of them; after
 -- a failure of the reader, bytes that are insufficient
@@ -39,7 +41,8 @@ pub record TakesAtVarintRefusal (e : Refusal) (old new : Option (List ℕ)) : Ty
 pub record TakesAtRefusal (S : ℕ) (e : Refusal) (old new : Option (List ℕ)) : Type 0 where
   pub taken : List ℕ
   pub takes : Takes old taken new
-  pub insufficient : IsFaulty insufficient e → HasVerdict S taken (faulty insufficient) × IsAtEnd new
+  pub insufficient : IsFaulty insufficient e →
+      HasVerdict S taken (faulty insufficient) × IsAtEnd new
   pub eof : IsEof e → HasVerdict S taken unexpected_eof
   pub fault : IsReaderFault e → (v : Verdict) × IsEarlyEnd v × HasVerdict S taken v
 
@@ -50,7 +53,7 @@ pub record TakesShortestSettling (S : ℕ) (rest : List ℕ) (new : Option (List
   pub takes : Takes (Some rest) front new
 
 -- no beginning of what a call took settles a verdict
-pub record TakesUnsettled (S : ℕ) (old new : Option (List ℕ)) : Type 0 where
+pub record TakesUnsettled (S : ℕ) (rest : List ℕ) (new : Option (List ℕ)) : Type 0 where
   pub taken : List ℕ
-  pub takes : Takes old taken new
+  pub takes : Takes (Some rest) taken new
   pub unsettled : (front : List ℕ) → IsBeginning front taken → ¬ (Settles S front)

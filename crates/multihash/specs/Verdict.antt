@@ -36,11 +36,13 @@ pub record HasCode (input rest : List ℕ) : Type 0 where
 -- the verdict on what begins with the input
 abbrev pub HasVerdict : ℕ → List ℕ → Verdict → Type 0
 HasVerdict S input (accepted p) = (rest : List ℕ) × BeginsWith p input rest × FitsBuffer S p
-HasVerdict S input (invalid_size size) = (rest : List ℕ) × HasSize size input rest × (digest_limit S < size)
+HasVerdict S input (invalid_size size) =
+    (rest : List ℕ) × HasSize size input rest × (digest_limit S < size)
 HasVerdict S input (faulty fault) =
     HasFaultyFront fault input ⊎ ((rest : List ℕ) × HasCode input rest × HasFaultyFront fault rest)
 HasVerdict S input unexpected_eof =
-    (size : ℕ) × (rest : List ℕ) × HasSize size input rest × (size ≤ digest_limit S) × (length rest < size)
+    (size : ℕ) × (rest : List ℕ) × HasSize size input rest × (size ≤ digest_limit S)
+    × (length rest < size)
 
 -- more input can change the verdict
 abbrev pub IsEarlyEnd : Verdict → Type 0
@@ -54,11 +56,13 @@ IsEarlyEnd unexpected_eof = ⊤
 -- an encoding of a pair that fits begins the input, and so many bytes are left over
 abbrev pub HasLeftOver : ℕ → List ℕ → ℕ → Type 0
 HasLeftOver S input left =
-    (p : Pair) × (rest : List ℕ) × BeginsWith p input rest × FitsBuffer S p × (length rest ≡ left) × (0 < left)
+    (p : Pair) × (rest : List ℕ) × BeginsWith p input rest × FitsBuffer S p
+    × (length rest ≡ left) × (0 < left)
 
 -- the verdict on the input as a whole
 abbrev pub HasWholeVerdict : ℕ → List ℕ → Verdict → Type 0
 HasWholeVerdict S input (accepted p) = IsEncoding p input × FitsBuffer S p
-HasWholeVerdict S input (invalid_size size) = HasVerdict S input (invalid_size size) ⊎ HasLeftOver S input size
+HasWholeVerdict S input (invalid_size size) =
+    HasVerdict S input (invalid_size size) ⊎ HasLeftOver S input size
 HasWholeVerdict S input (faulty fault) = HasVerdict S input (faulty fault)
 HasWholeVerdict S input unexpected_eof = HasVerdict S input unexpected_eof

@@ -9,7 +9,8 @@ pub record IsWriterFault (allocates : Bool) (before after : ℕ) (e : Fault) : T
   pub cause : (before < after) ⊎ (IsTrue allocates × IsOutOfMemory e)
 
 -- a proper beginning of `bytes` stands appended between the two states
-pub record AppendsPart {W : Type 0} (appended : W → List ℕ → W → Type 0) (old : W) (bytes : List ℕ) (new : W) : Type 0 where
+pub record AppendsPart {W : Type 0} (appended : W → List ℕ → W → Type 0) (old : W)
+    (bytes : List ℕ) (new : W) : Type 0 where
   pub part : List ℕ
   pub proper : IsProperBeginning part bytes
   pub stands : appended old part new
@@ -21,12 +22,14 @@ IsWriterFaultOrFull allocates before after is_full e =
 
 -- an Ok left the count of failures alone; an Err says the writer's fault or that it is full, and lowered
 -- no count
-abbrev pub CountsWriter : {A E : Type 0} → ((Fault → Type 0) → E → Type 0) → Bool → ℕ → ℕ → Type 0 → Result A E → Type 0
+abbrev pub CountsWriter : {A E : Type 0} → ((Fault → Type 0) → E → Type 0) → Bool → ℕ → ℕ → Type 0
+    → Result A E → Type 0
 CountsWriter Says allocates before after is_full outcome = MatchResult outcome (λ _. after ≡ before)
     (λ e. (before ≤ after) × Says (IsWriterFaultOrFull allocates before after is_full) e)
 
 -- the laws of `write`
-abbrev pub WriteLaws : {S : Type 0} → (S → List ℕ → S → Type 0) → (S → Type 0) → (S → ℕ) → Bool → S → List ℕ → S → Result ℕ Fault → Type 0
+abbrev pub WriteLaws : {S : Type 0} → (S → List ℕ → S → Type 0) → (S → Type 0) → (S → ℕ) → Bool
+    → S → List ℕ → S → Result ℕ Fault → Type 0
 WriteLaws appended full failures allocates old bytes new outcome = record {
   count : IfOk outcome (λ n. n ≤ length bytes);
   ok : IfOk outcome (λ n. appended old (take n bytes) new);
@@ -36,7 +39,8 @@ WriteLaws appended full failures allocates old bytes new outcome = record {
 }
 
 -- the laws of `write_all`
-abbrev pub WriteAllLaws : {S A : Type 0} → (S → List ℕ → S → Type 0) → (S → Type 0) → (S → ℕ) → Bool → S → List ℕ → S → Result A Fault → Type 0
+abbrev pub WriteAllLaws : {S A : Type 0} → (S → List ℕ → S → Type 0) → (S → Type 0) → (S → ℕ) → Bool
+    → S → List ℕ → S → Result A Fault → Type 0
 WriteAllLaws appended full failures allocates old bytes new outcome = record {
   ok : OnOk outcome (appended old bytes new);
   empty : length bytes ≡ 0 → IsOk outcome;

@@ -149,7 +149,8 @@ impl From<AllocError> for Error {
 // Not `write!`, whose contract says nothing where a width or a precision is asked.
 fn write_size_text<W: fmt::Write>(f: &mut fmt::Formatter<W>, size: u64) -> fmt::Result
     ensures plain { WritesOnOk W.write_str_gives f.old result (refusal_text (of_size size)) f.new }
-    ensures styled { WritesStyledOnOk W.write_str_gives f.old result (refusal_text (of_size size)) f.new }
+    ensures styled { WritesStyledOnOk W.write_str_gives f.old result
+        (refusal_text (of_size size)) f.new }
 {
     let mut digits = itoa::Buffer::new();
     f.write_str("Invalid multihash size ")?;

@@ -110,6 +110,7 @@ impl Read for ByteMembers<'_> {
 
 // The reader tells its members' bytes, and never fails.
 fn array_reader(m: &ByteMembers)
-    ensures rest { ⟦<ByteMembers<'static> as Read>⟧.rest m.now ≡ Some (member_bytes m.now.left.now) }
+    ensures rest { ⟦<ByteMembers<'static> as Read>⟧.rest m.now
+        ≡ Some (member_bytes m.now.left.now) }
     ensures failures { ⟦<ByteMembers<'static> as Read>⟧.failures m.now ≡ 0 }
 {}

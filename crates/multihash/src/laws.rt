@@ -2,7 +2,7 @@
 ghost use Rattle.std.specs.Prelude.{◌≡◌, ℕ, ◌<◌, ◌≤◌, ◌↔◌, List, ◌++◌, length};
 ghost use Rattle.serde_json.specs.Data.{Data};
 ghost use Rattle.multihash.specs.Bytes.{IsBytes, IsBeginning, ExactlyOne};
-ghost use Rattle.multihash.specs.Pair.{Pair, IsPair, IsSame, FitsBuffer};
+ghost use Rattle.multihash.specs.Pair.{Pair, IsSame, FitsBuffer};
 ghost use Rattle.multihash.specs.Varint.{varint_limit};
 ghost use Rattle.multihash.specs.Encoding.{IsEncoding};
 ghost use Rattle.multihash.specs.Verdict.{Verdict, accepted, HasVerdict, HasWholeVerdict, IsEarlyEnd};
@@ -14,7 +14,8 @@ ghost use Rattle.multihash.specs.Json.{IsJsonList, IsByteArray};
 /// Each input has one verdict, for each size of buffer.
 pub fn one_verdict()
     ensures read { (S : ℕ) (input : List ℕ) → IsBytes input → ExactlyOne (HasVerdict S input) }
-    ensures whole { (S : ℕ) (input : List ℕ) → IsBytes input → ExactlyOne (HasWholeVerdict S input) }
+    ensures whole { (S : ℕ) (input : List ℕ) → IsBytes input →
+        ExactlyOne (HasWholeVerdict S input) }
 
     // No two verdicts hold of one list, of bytes or not.
     ensures read_unique { (S : ℕ) (input : List ℕ) (v w : Verdict) →
@@ -45,24 +46,28 @@ pub fn prefix_free()
     ensures own_verdict { (S : ℕ) (p : Pair) (encoding rest : List ℕ) → IsEncoding p encoding →
         FitsBuffer S p → HasVerdict S (encoding ++ rest) (accepted p) }
     ensures no_other_verdict { (S : ℕ) (p : Pair) (encoding rest : List ℕ) (v : Verdict) →
-        IsEncoding p encoding → FitsBuffer S p → HasVerdict S (encoding ++ rest) v → v ≡ accepted p }
+        IsEncoding p encoding → FitsBuffer S p → HasVerdict S (encoding ++ rest) v →
+        v ≡ accepted p }
 {}
 
 /// A stream of encodings is taken apart in one way only.
 pub fn split_unique()
     ensures as_many { (ps qs : List Pair) (a b r s : List ℕ) → length ps ≡ length qs →
         AreJoined ps a → AreJoined qs b → a ++ r ≡ b ++ s → (ps ≡ qs) × (r ≡ s) }
-    ensures whole { (ps qs : List Pair) (bytes : List ℕ) → AreJoined ps bytes → AreJoined qs bytes → ps ≡ qs }
+    ensures whole { (ps qs : List Pair) (bytes : List ℕ) →
+        AreJoined ps bytes → AreJoined qs bytes → ps ≡ qs }
     ensures one_stream { (ps : List Pair) (a b : List ℕ) → AreJoined ps a → AreJoined ps b → a ≡ b }
 {}
 
 /// A pair has one SCALE form, which tells the pair, whatever follows, and each input has one verdict.
 pub fn scale_unique()
-    ensures one_form { (p : Pair) → p.code < varint_limit → length p.digest ≤ 255 → ExactlyOne (IsScale p) }
+    ensures one_form { (p : Pair) → p.code < varint_limit → length p.digest ≤ 255 →
+        ExactlyOne (IsScale p) }
     ensures same { (p : Pair) (a b : List ℕ) → IsScale p a → IsScale p b → a ≡ b }
     ensures unique { (p q : Pair) (a b r s : List ℕ) → IsScale p a → IsScale q b →
         a ++ r ≡ b ++ s → (p ≡ q) × (a ≡ b) × (r ≡ s) }
-    ensures one_verdict { (S : ℕ) (input : List ℕ) → IsBytes input → ExactlyOne (HasScaleVerdict S input) }
+    ensures one_verdict { (S : ℕ) (input : List ℕ) → IsBytes input →
+        ExactlyOne (HasScaleVerdict S input) }
     ensures verdict_unique { (S : ℕ) (input : List ℕ) (v w : Verdict) →
         HasScaleVerdict S input v → HasScaleVerdict S input w → v ≡ w }
     ensures begins_no_other { (p q : Pair) (a b : List ℕ) →
@@ -73,8 +78,9 @@ pub fn scale_unique()
 
 /// A JSON list tells its pair.
 pub fn json_unique()
-    ensures same { (p q : Pair) (value : Data) → IsJsonList p value → IsJsonList q value → IsSame p q }
-    ensures byte_array { (p : Pair) (value : Data) → IsPair p → IsJsonList p value →
+    ensures same { (p q : Pair) (value : Data) →
+        IsJsonList p value → IsJsonList q value → IsSame p q }
+    ensures byte_array { (p : Pair) (value : Data) → IsBytes p.digest → IsJsonList p value →
         ExactlyOne (IsByteArray value) }
     ensures own_verdict { (S : ℕ) (p : Pair) (value : Data) (bytes : List ℕ) → IsJsonList p value →
         FitsBuffer S p → IsByteArray value bytes → HasWholeVerdict S bytes (accepted p) }

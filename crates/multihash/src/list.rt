@@ -22,10 +22,13 @@ pub fn write_list<const S: usize, W: Write>(items: &[Multihash<S>], w: &mut W) -
     ensures ok { OnOk result ((bytes : List ℕ) × AreJoined (map pair_of items.now) bytes
         × W.appended w.old bytes w.new) }
     ensures empty { length items.now ≡ 0 → IsOk result }
-    ensures fit { OnOk result (All (FitsBuffer S) (map pair_of items.now)) }
-    ensures stopped { OnErr result (AppendsPartOfPairs W.appended w.old (map pair_of items.now) w.new) }
-    ensures err { OnErr result ((bytes : List ℕ) → AreJoined (map pair_of items.now) bytes →
+    ensures fit { All (FitsBuffer S) (map pair_of items.now) }
+    ensures err { OnErr result ((bytes : List ℕ) × AreJoined (map pair_of items.now) bytes
+        × AppendsPart W.appended w.old bytes w.new) }
+    ensures any { OnErr result ((bytes : List ℕ) → AreJoined (map pair_of items.now) bytes →
         AppendsPart W.appended w.old bytes w.new) }
+    ensures stopped { OnErr result
+        (AppendsPartOfPairs W.appended w.old (map pair_of items.now) w.new) }
     ensures faults { CountsWriter IsIo W.allocates
         (W.failures w.old) (W.failures w.new) (W.full w.new) result }
 {

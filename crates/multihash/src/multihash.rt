@@ -6,6 +6,7 @@ ghost use Rattle.std.specs.Cmp.Lexicographic.{pointwise};
 ghost use Rattle.std.specs.Cmp.Rules.{comparing, hashing};
 ghost use Rattle.std.specs.Ordering.{on, as_partial_cmp};
 ghost use Rattle.multihash.specs.Bytes.{IsBytes};
+ghost use Rattle.multihash.specs.Varint.{varint_limit};
 ghost use Rattle.multihash.specs.Pair.{IsPair, IsSame, digest_limit, truncated, FitsBuffer};
 ghost use Rattle.multihash.specs.Order.{Compares};
 ghost use Rattle.multihash.specs.Comparing.{equal_pairs, compare_pairs, hashed_pair};
@@ -40,20 +41,31 @@ pub struct Multihash<const S: usize> {
     digest: [u8; S],
     // A machine word, so that no padding is copied behind the digest.
     size: usize,
+    // Facts that the fields keep, and that contracts know of every value.
+    ghost in_range: { code < varint_limit },
+    ghost fits: { size ≤ digest_limit S },
 }
 
 impl<const S: usize> Model for Multihash<S> {
-    ghost use Rattle.std.specs.Prelude.{◌≤◌};
-    ghost use Rattle.multihash.specs.Pair.{digest_limit};
     ghost use Rattle.multihash.specs.Answer.{Fields};
 
-    ghost Value = { Fields };
+    ghost Value = { Fields S };
 
-    ghost view = { λ m. record { code = m.code; size = m.size; buffer = m.digest } };
+    ghost view = { λ m. record {
+        code = m.code;
+        size = m.size;
+        buffer = m.digest;
+        in_range = m.in_range;
+        fits = m.fits;
+    } };
 
-    ghost invariant = { λ m. m.size ≤ digest_limit S };
-
-    ghost inverse = { λ fields. record { code = fields.code; size = fields.size; digest = fields.buffer } };
+    ghost inverse = { λ fields. record {
+        code = fields.code;
+        size = fields.size;
+        digest = fields.buffer;
+        in_range = fields.in_range;
+        fits = fields.fits;
+    } };
 }
 
 impl<const S: usize> Multihash<S> {
@@ -63,7 +75,8 @@ impl<const S: usize> Multihash<S> {
     ///
     /// [`Error::invalid_size`] with the digest's length, where that is more than `min(S, 255)`.
     pub fn wrap(code: u64, input_digest: &[u8]) -> Result<Self, Error>
-        ensures ok { IfOk result (λ m. pair_of m ≡ record { code = code; digest = input_digest.now }) }
+        ensures ok { IfOk result (λ m.
+            pair_of m ≡ record { code = code; digest = input_digest.now }) }
         ensures exactly { IsErr result ↔ (digest_limit S < length input_digest.now) }
         ensures err { IfErr result (IsInvalidSize (length input_digest.now)) }
     {
@@ -128,7 +141,6 @@ impl<const S: usize> Multihash<S> {
     {
         let digest = &self.digest[..self.size];
         are_bytes(digest);
-        let _value = self.code;
         digest
     }
 
@@ -149,7 +161,8 @@ impl<const S: usize> Multihash<S> {
     /// - [`Error::io`] with the reader's own error, where it failed; the bytes taken are by themselves
     ///   an input that ends early.
     pub fn read<R: Read>(r: &mut R) -> Result<Self, Error>
-        ensures faults { CountsReader IsReaderFault (IsReadRefusal S) (R.failures r.old) (R.failures r.new) result }
+        ensures faults { CountsReader IsReaderFault (IsReadRefusal S)
+            (R.failures r.old) (R.failures r.new) result }
         ensures verdict { IfSome (R.rest r.old) (λ rest. R.failures r.new ≡ R.failures r.old →
             (v : Verdict) × HasVerdict S rest v × Answers result v) }
         ensures ok { IfOk result (λ m. (bytes : List ℕ) × IsEncoding (pair_of m) bytes
@@ -160,10 +173,12 @@ impl<const S: usize> Multihash<S> {
         // Where the verdict is no early end, exactly the shortest beginning that settles it was taken;
         // where it is one, or the reader failed, no beginning of what was taken settles.
         ensures settled { IfSome (R.rest r.old) (λ rest. R.failures r.new ≡ R.failures r.old →
-            (v : Verdict) → HasVerdict S rest v → ¬ (IsEarlyEnd v) → TakesShortestSettling S rest (R.rest r.new)) }
+            (v : Verdict) → HasVerdict S rest v → ¬ (IsEarlyEnd v) →
+            TakesShortestSettling S rest (R.rest r.new)) }
         ensures unsettled { IfSome (R.rest r.old) (λ rest.
-            (R.failures r.old < R.failures r.new) ⊎ ((v : Verdict) × HasVerdict S rest v × IsEarlyEnd v) →
-            TakesUnsettled S (Some rest) (R.rest r.new)) }
+            (R.failures r.old < R.failures r.new)
+            ⊎ ((v : Verdict) × HasVerdict S rest v × IsEarlyEnd v) →
+            TakesUnsettled S rest (R.rest r.new)) }
     {
         let code = varint::read(r)?;
         let size = Self::fitting_size(varint::read(r)?)?;
@@ -237,7 +252,8 @@ impl<const S: usize> Multihash<S> {
 
     /// The length of the encoding in bytes, at most 267.
     pub fn encoded_len(&self) -> usize
-        ensures encoding { (bytes : List ℕ) × IsEncoding (pair_of self.now) bytes × (result ≡ length bytes) }
+        ensures encoding { (bytes : List ℕ) × IsEncoding (pair_of self.now) bytes
+            × (result ≡ length bytes) }
         ensures short { result ≤ 267 }
     {
         let code = varint::len(self.code());
@@ -266,8 +282,9 @@ impl<const S: usize> Multihash<S> {
         ensures { pair_of result ≡ truncated size (pair_of self.now) }
     {
         Multihash {
+            code: self.code,
+            digest: self.digest,
             size: self.size.min(usize::from(size)),
-            ..*self
         }
     }
 
@@ -416,6 +433,7 @@ impl<const S: usize> Hash for Multihash<S> {
 }
 
 // Each number of a slice of bytes is a byte.
+#[inline(always)]
 fn are_bytes(bytes: &[u8])
     ensures { IsBytes bytes.now }
 {}

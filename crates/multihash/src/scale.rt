@@ -6,7 +6,7 @@ ghost use Rattle.multihash.specs.Fault.{IsUnexpectedEof, IsOwnFault};
 ghost use Rattle.multihash.specs.Reading.{Takes, HasFewerThan, TakesFewerThan, CountsReader};
 ghost use Rattle.multihash.specs.Writing.{AppendsPart, CountsWriter};
 ghost use Rattle.multihash.specs.Refusal.{IsIo, IsReaderFault};
-ghost use Rattle.multihash.specs.ScaleTaking.{IsScaleListed, TakesAtScaleRefusal};
+ghost use Rattle.multihash.specs.ScaleTaking.{IsScaleRefusal, TakesAtScaleRefusal};
 ghost use Rattle.multihash.specs.Answer.{pair_of, Answers};
 
 use crate::no_std_io::{self, Read, Write};
@@ -48,7 +48,8 @@ impl<const S: usize> Multihash<S> {
     ///
     /// In the last two cases the bytes taken are by themselves an input that ends early.
     pub fn scale_decode<R: Read>(r: &mut R) -> Result<Self, Error>
-        ensures faults { CountsReader IsReaderFault (IsScaleListed S) (R.failures r.old) (R.failures r.new) result }
+        ensures faults { CountsReader IsReaderFault (IsScaleRefusal S)
+            (R.failures r.old) (R.failures r.new) result }
         ensures verdict { IfSome (R.rest r.old) (λ rest. R.failures r.new ≡ R.failures r.old →
             (v : Verdict) × HasScaleVerdict S rest v × Answers result v) }
         ensures ok { IfOk result (λ m. (bytes : List ℕ) × IsScale (pair_of m) bytes
@@ -69,7 +70,8 @@ impl<const S: usize> Multihash<S> {
 
 // The next `N` bytes.
 fn read_array<const N: usize, R: Read>(r: &mut R) -> Result<[u8; N], no_std_io::Error>
-    ensures faults { CountsReader IsOwnFault IsUnexpectedEof (R.failures r.old) (R.failures r.new) result }
+    ensures faults { CountsReader IsOwnFault IsUnexpectedEof
+        (R.failures r.old) (R.failures r.new) result }
     ensures takes { IfOk result (λ bytes. Takes (R.rest r.old) bytes (R.rest r.new)) }
     ensures eof { IfErr result (λ e. IsUnexpectedEof e → HasFewerThan N (R.rest r.old)) }
     ensures err { OnErr result (TakesFewerThan N (R.rest r.old) (R.rest r.new)) }

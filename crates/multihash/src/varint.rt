@@ -3,7 +3,8 @@ ghost use Rattle.std.specs.Prelude.{◌≡◌, ◌<◌, ◌≤◌, ◌+◌, ℕ,
 ghost use Rattle.multihash.specs.Bytes.{IsBytes, place_value};
 ghost use Rattle.multihash.specs.Varint.{IsVarint, most_marked};
 ghost use Rattle.multihash.specs.Word.{IsFrontWord, digits_low};
-ghost use Rattle.multihash.specs.Reading.{Takes, IsAtEnd, CountsReader};
+ghost use Rattle.std.specs.Io.KnownBytes.{IsAtEnd};
+ghost use Rattle.multihash.specs.Reading.{Takes, CountsReader};
 ghost use Rattle.multihash.specs.Writing.{AppendsPart, CountsWriter};
 ghost use Rattle.multihash.specs.Fault.{IsOwnFault};
 ghost use Rattle.multihash.specs.Refusal.{IsReaderFault};
@@ -102,7 +103,8 @@ pub(crate) fn write<W: Write>(n: u64, w: &mut W) -> Result<usize, no_std_io::Err
     ensures ok { IfOk result (λ len. (bytes : List ℕ) × IsVarint n bytes × (len ≡ length bytes)
         × W.appended w.old bytes w.new) }
     ensures short { IfOk result (λ len. len ≤ 10) }
-    ensures err { OnErr result ((bytes : List ℕ) × IsVarint n bytes × AppendsPart W.appended w.old bytes w.new) }
+    ensures err { OnErr result ((bytes : List ℕ) × IsVarint n bytes
+        × AppendsPart W.appended w.old bytes w.new) }
     ensures faults { CountsWriter (λ P. P) W.allocates
         (W.failures w.old) (W.failures w.new) (W.full w.new) result }
 {
@@ -121,10 +123,12 @@ pub(crate) fn write<W: Write>(n: u64, w: &mut W) -> Result<usize, no_std_io::Err
 ///
 /// The fault that begins the input, once the byte that shows it was taken, or the reader's own.
 pub(crate) fn read<R: Read>(r: &mut R) -> Result<u64, Error>
-    ensures faults { CountsReader IsReaderFault IsVarintRefusal (R.failures r.old) (R.failures r.new) result }
+    ensures faults { CountsReader IsReaderFault IsVarintRefusal
+        (R.failures r.old) (R.failures r.new) result }
     ensures ok { IfOk result (λ n. TakesVarint n (R.rest r.old) (R.rest r.new)) }
     ensures err { IfErr result (λ e. TakesAtVarintRefusal e (R.rest r.old) (R.rest r.new)) }
-    ensures front { IfSome (R.rest r.old) (λ input. R.failures r.new ≡ R.failures r.old → IfErr result (IsFrontRefusal input)) }
+    ensures front { IfSome (R.rest r.old) (λ input. R.failures r.new ≡ R.failures r.old →
+        IfErr result (IsFrontRefusal input)) }
 {
     let mut value: u64 = 0;
     for i in 0..=MOST_MARKED {
@@ -187,10 +191,12 @@ fn short_word(bytes: &[u8]) -> u128
 // The number whose varint begins the bytes that the word holds the first of, and the varint's length.
 #[inline(always)]
 fn read_word(word: u128, present: usize) -> Result<(u64, usize), Error>
-    ensures ok { IfOk result (λ found. (bytes : List ℕ) → IsBytes bytes → IsFrontWord bytes word present →
+    ensures ok { IfOk result (λ found. (bytes : List ℕ) → IsBytes bytes →
+        IsFrontWord bytes word present →
         IsVarint found.0 (take found.1 bytes)) }
     ensures within { IfOk result (λ found. found.1 ≤ present) }
-    ensures err { IfErr result (λ e. (bytes : List ℕ) → IsBytes bytes → IsFrontWord bytes word present →
+    ensures err { IfErr result (λ e. (bytes : List ℕ) → IsBytes bytes →
+        IsFrontWord bytes word present →
         IsFrontRefusal bytes e) }
 {
     // Most varints have one byte.

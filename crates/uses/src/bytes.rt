@@ -1,7 +1,8 @@
 //! Callers that read and write bytes, and ask what an error is.
 ghost use Rattle.std.specs.Prelude.{◌≡◌, ℕ, ◌+◌, ◌-◌, ◌≤◌, ◌↔◌, List, [], ◌∷◌, ◌++◌, Some, length, slice_get, IsTrue, IfSome, IfOk, IfErr, OnOk, OnErr, MatchOption, MatchResult};
 ghost use Rattle.multihash.specs.Fault.{IsOutOfMemory, IsOwnFault};
-ghost use Rattle.multihash.specs.Reading.{Takes, IsAtEnd, CountsReader};
+ghost use Rattle.std.specs.Io.KnownBytes.{IsAtEnd};
+ghost use Rattle.multihash.specs.Reading.{Takes, CountsReader};
 ghost use Rattle.multihash.specs.Writing.{CountsWriter, AppendsPart};
 ghost use Rattle.multihash.specs.Pair.{FitsBuffer};
 ghost use Rattle.multihash.specs.Encoding.{IsEncoding};

@@ -33,7 +33,7 @@ refusal_unique e unexpected_eof (faulty g) left right = let is = left.1 in cc
 refusal_unique e unexpected_eof unexpected_eof left right = refl
 
 -- an answer has one verdict
-pub answers_unique : (r : Result Fields Refusal) (v w : Verdict) → Answers r v → Answers r w → v ≡ w
+pub answers_unique : {S : ℕ} (r : Result (Fields S) Refusal) (v w : Verdict) → Answers r v → Answers r w → v ≡ w
 answers_unique (Ok m) v w left right = cc
 answers_unique (Err e) v w left right = refusal_unique e v w left right
 
@@ -68,7 +68,7 @@ front_taken input front left cut =
     rw (long, cut, take-append-le (length front) front left (omega arith)) (take_all (length front) front (omega arith))
 
 -- what a call of `read` has to say
-pub record ReadCall (S : ℕ) (input left : List ℕ) (r : Result Fields Refusal) : Type 0 where
+pub record ReadCall (S : ℕ) (input left : List ℕ) (r : Result (Fields S) Refusal) : Type 0 where
   pub unique : (v w : Verdict) → HasVerdict S input v → HasVerdict S input w → v ≡ w
   pub unsettled : (v : Verdict) → HasVerdict S input v → IsEarlyEnd v → (front : List ℕ) → IsBeginning front input → ¬ (Settles S front)
   pub verdict : (v : Verdict) × HasVerdict S input v × Answers r v
@@ -88,7 +88,7 @@ refused_enough S input left e h unexpected_eof is early =
     rw (front_taken input h.taken left cut) (two_varints found.0 h.taken found.1 found.2)
 
 -- an early end took as many bytes as it takes at least
-enough : (S : ℕ) (input left : List ℕ) (r : Result Fields Refusal) → ReadCall S input left r → (v : Verdict)
+enough : (S : ℕ) (input left : List ℕ) (r : Result (Fields S) Refusal) → ReadCall S input left r → (v : Verdict)
     → Answers r v → IsEarlyEnd v → TakesEnough v input left
 enough S input left (Ok m) d v answers early =
     absurd (subst IsEarlyEnd answers early)
@@ -117,7 +117,7 @@ taken_long S input left t =
 -- ---- what is listed
 
 -- where the answer is the listed one, the bytes taken tell whether the reading is
-read_as_listed : (S : ℕ) (input left : List ℕ) (r : Result Fields Refusal) → ReadCall S input left r → (w : Verdict)
+read_as_listed : (S : ℕ) (input left : List ℕ) (r : Result (Fields S) Refusal) → ReadCall S input left r → (w : Verdict)
     → Answers r w → HasVerdict S input w → (taken : Option ℕ)
     → MatchOption taken (TakesEnough w input left) (λ n. ¬ (IsEarlyEnd w) × (length input ≡ n + length left)) ↔ IsTaken S input w taken
 read_as_listed S input left r d w answers has None =
@@ -136,7 +136,7 @@ read_as_listed S input left r d w answers has (Some n) = (there, back)
         let same = ap length (shortest_same S input t.front f.front t.shortest f.shortest) in
         (late, omega (arith, taken_long S input left t, same, f.long))
 
-pub reading : (S : ℕ) (input left : List ℕ) (r : Result Fields Refusal) → ReadCall S input left r → (listed : Reading)
+pub reading : (S : ℕ) (input left : List ℕ) (r : Result (Fields S) Refusal) → ReadCall S input left r → (listed : Reading)
     → Answers r (meaning listed.verdict) → TakesAsReadListed input left listed ↔ IsReading S input listed
 reading S input left r d listed answers =
     let w = meaning listed.verdict in
@@ -146,7 +146,7 @@ reading S input left r d listed answers =
     (λ t. record { verdict = has; taken = both.0 t }, λ right. both.1 right.taken)
 
 -- where the answer is another, the reading isn't as listed
-pub no_reading : (S : ℕ) (input left : List ℕ) (r : Result Fields Refusal) → ReadCall S input left r → (listed : Reading)
+pub no_reading : (S : ℕ) (input left : List ℕ) (r : Result (Fields S) Refusal) → ReadCall S input left r → (listed : Reading)
     → ¬ (Answers r (meaning listed.verdict)) → ¬ (IsReading S input listed)
 no_reading S input left r d listed other right =
     let same = d.unique d.verdict.0 (meaning listed.verdict) d.verdict.1 right.verdict in

@@ -95,13 +95,13 @@ record TakesDecoded (S : ℕ) (input left : List ℕ) : Type 0 where
   pub taken : length input ≡ count + length left
 
 -- what a call of decoding has to say
-pub record Decoding (S : ℕ) (input left : List ℕ) (r : Result Fields Refusal) : Type 0 where
+pub record Decoding (S : ℕ) (input left : List ℕ) (r : Result (Fields S) Refusal) : Type 0 where
   pub unique : IsOneVerdict S
   pub verdict : (v : Verdict) × HasScaleVerdict S input v × Answers r v
   pub ok : IfOk r (λ m. (bytes : List ℕ) × IsScale (pair_of m) bytes × Takes (Some input) bytes (Some left))
   pub err : IfErr r (λ e. TakesAtScaleRefusal S e (Some input) (Some left))
 
-takes_form : (S : ℕ) (input left : List ℕ) (m : Fields) (bytes : List ℕ) → IsScale (pair_of m) bytes → Takes (Some input) bytes (Some left)
+takes_form : (S : ℕ) (input left : List ℕ) (m : Fields S) (bytes : List ℕ) → IsScale (pair_of m) bytes → Takes (Some input) bytes (Some left)
     → length (pair_of m).digest ≤ S → TakesDecoded S input left
 takes_form S input left m bytes form takes fits =
     let cut : input ≡ bytes ++ left = cc (takes) in record {
@@ -138,7 +138,7 @@ takes_size S input left e size is h =
       taken = omega (arith, ap length cut, length-append h.taken left, found.1);
     }
 
-takes_decoded : (S : ℕ) (input left : List ℕ) (r : Result Fields Refusal) → Decoding S input left r → (v : Verdict)
+takes_decoded : (S : ℕ) (input left : List ℕ) (r : Result (Fields S) Refusal) → Decoding S input left r → (v : Verdict)
     → HasScaleVerdict S input v → Answers r v → v ≢ unexpected_eof → TakesDecoded S input left
 takes_decoded S input left (Ok m) d v has answers late =
     let own : HasScaleVerdict S input (accepted (pair_of m)) = subst (λ (w : Verdict). HasScaleVerdict S input w) answers has in
@@ -151,13 +151,13 @@ takes_decoded S input left (Err e) d unexpected_eof has answers late = absurd (l
 -- ---- what is listed
 
 -- a listed verdict is the input's where it is the answer's
-answered : (S : ℕ) (input left : List ℕ) (r : Result Fields Refusal) → Decoding S input left r → (w : Verdict)
+answered : (S : ℕ) (input left : List ℕ) (r : Result (Fields S) Refusal) → Decoding S input left r → (w : Verdict)
     → Answers r w → HasScaleVerdict S input w
 answered S input left r d w answers =
     subst (λ (v : Verdict). HasScaleVerdict S input v) (answers_unique r d.verdict.0 w d.verdict.2 answers) d.verdict.1
 
 -- where the answer is the listed one, the bytes taken tell whether the reading is
-pub reading : (S : ℕ) (input left : List ℕ) (r : Result Fields Refusal) → Decoding S input left r
+pub reading : (S : ℕ) (input left : List ℕ) (r : Result (Fields S) Refusal) → Decoding S input left r
     → (w : Verdict) (taken : Option ℕ) → Answers r w
     → MatchOption taken (w ≡ unexpected_eof) (λ n. (w ≢ unexpected_eof) × (length input ≡ n + length left))
     ↔ HasScaleVerdict S input w × IsScaleTaken S input w taken
@@ -181,7 +181,7 @@ reading S input left r d w (Some n) answers = (there, back)
         (late, omega (arith, t.taken, same))
 
 -- where the answer is another, the reading isn't as listed
-pub no_reading : (S : ℕ) (input left : List ℕ) (r : Result Fields Refusal) → Decoding S input left r
+pub no_reading : (S : ℕ) (input left : List ℕ) (r : Result (Fields S) Refusal) → Decoding S input left r
     → (w : Verdict) (taken : Option ℕ) → ¬ (Answers r w)
     → ¬ (HasScaleVerdict S input w × IsScaleTaken S input w taken)
 no_reading S input left r d w taken other right =

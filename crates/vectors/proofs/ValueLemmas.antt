@@ -47,7 +47,7 @@ coded_verdict =
     parts_of (λ v w same. sym (back v) ∙ ap verdict_of same ∙ back w)
 
 -- the test of an answer to an array of the bytes tells the verdict on the bytes
-pub value_right : (S : ℕ) (input : List ℕ) (listed : Verdict) (r : Result Fields Refusal) (d : Data) → ∥ IsByteArray d input ∥₁
+pub value_right : (S : ℕ) (input : List ℕ) (listed : Verdict) (r : Result (Fields S) Refusal) (d : Data) → ∥ IsByteArray d input ∥₁
     → ((bytes : List ℕ) → IsByteArray d bytes → (v : Verdict) × HasWholeVerdict S bytes v × Answers r v)
     → (IsBytes input → ExactlyOne (HasWholeVerdict S input)) → (b : Bool) → (IsTrue b ↔ Answers r listed)
     → IsTrue b ↔ HasWholeVerdict S input listed

@@ -35,7 +35,8 @@ impl Read for &[u8] {
     ghost failures = { λ _. 0 };
 
     fn read(&mut self, buf: &mut [u8]) -> Result<usize, Error>
-        ensures laws { ReadLaws (λ s. Some s.now) (λ _. 0) self.old self.new buf.old buf.new result }
+        ensures laws { ReadLaws (λ s. Some s.now) (λ _. 0)
+            self.old self.new buf.old buf.new result }
 
         ensures smaller { result ≡ Ok (min (length self.old.now) (length buf.old)) }
     {
@@ -46,7 +47,8 @@ impl Read for &[u8] {
     }
 
     fn read_exact(&mut self, buf: &mut [u8]) -> Result<(), Error>
-        ensures laws { ReadExactLaws (λ s. Some s.now) (λ _. 0) self.old self.new buf.old buf.new result }
+        ensures laws { ReadExactLaws (λ s. Some s.now) (λ _. 0)
+            self.old self.new buf.old buf.new result }
 
         ensures too_short { IsErr result ↔ (length self.old.now < length buf.old) }
         ensures slice_kept { OnErr result (self.new.now ≡ self.old.now) }
@@ -92,11 +94,12 @@ impl Write for &mut [u8] {
 
     ghost appends_nothing = { λ w. GivesUpPlaces-none w.now };
 
-    ghost appends_joined = { λ a b c x y first second. GivesUpPlaces-joined a.now b.now c.now x y first second };
+    ghost appends_joined = { λ a b c x y first second.
+        GivesUpPlaces-joined a.now b.now c.now x y first second };
 
     fn write(&mut self, buf: &[u8]) -> Result<usize, Error>
-        ensures laws { WriteLaws (λ old bytes new. GivesUpFor old.now bytes new.now) (λ s. s.now ≡ []) (λ _. 0) false
-            self.old buf.now self.new result }
+        ensures laws { WriteLaws (λ old bytes new. GivesUpFor old.now bytes new.now) (λ s. s.now ≡ [])
+            (λ _. 0) false self.old buf.now self.new result }
 
         ensures smaller { result ≡ Ok (min (length buf.now) (length self.old.now)) }
     {
@@ -107,8 +110,8 @@ impl Write for &mut [u8] {
     }
 
     fn write_all(&mut self, buf: &[u8]) -> Result<(), Error>
-        ensures laws { WriteAllLaws (λ old bytes new. GivesUpFor old.now bytes new.now) (λ s. s.now ≡ []) (λ _. 0) false
-            self.old buf.now self.new result }
+        ensures laws { WriteAllLaws (λ old bytes new. GivesUpFor old.now bytes new.now) (λ s. s.now ≡ [])
+            (λ _. 0) false self.old buf.now self.new result }
 
         ensures fits { IsOk result ↔ (length buf.now ≤ length self.old.now) }
         ensures filled { OnErr result (self.new.now ≡ []) }
@@ -135,11 +138,12 @@ impl Write for Vec<u8> {
 
     ghost appends_nothing = { λ w. AppendsAtEnd-none w.items };
 
-    ghost appends_joined = { λ a b c x y first second. AppendsAtEnd-joined a.items b.items c.items x y first second };
+    ghost appends_joined = { λ a b c x y first second.
+        AppendsAtEnd-joined a.items b.items c.items x y first second };
 
     fn write(&mut self, buf: &[u8]) -> Result<usize, Error>
-        ensures laws { WriteLaws (λ old bytes new. AppendsAtEnd old.items bytes new.items) (λ _. ⊥) (λ _. 0) true
-            self.old buf.now self.new result }
+        ensures laws { WriteLaws (λ old bytes new. AppendsAtEnd old.items bytes new.items) (λ _. ⊥)
+            (λ _. 0) true self.old buf.now self.new result }
 
         ensures whole { IfOk result (λ n. n ≡ length buf.now) }
         ensures room { vec_len self.old + length buf.now ≤ vec_capacity self.old → IsOk result }
@@ -153,8 +157,8 @@ impl Write for Vec<u8> {
     }
 
     fn write_all(&mut self, buf: &[u8]) -> Result<(), Error>
-        ensures laws { WriteAllLaws (λ old bytes new. AppendsAtEnd old.items bytes new.items) (λ _. ⊥) (λ _. 0) true
-            self.old buf.now self.new result }
+        ensures laws { WriteAllLaws (λ old bytes new. AppendsAtEnd old.items bytes new.items) (λ _. ⊥)
+            (λ _. 0) true self.old buf.now self.new result }
 
         ensures room { vec_len self.old + length buf.now ≤ vec_capacity self.old → IsOk result }
         ensures unchanged { OnErr result (self.new.items ≡ self.old.items) }
@@ -186,7 +190,8 @@ impl<W: Write> Write for &mut W {
 
     ghost appends_nothing = { λ w. W.appends_nothing w.now };
 
-    ghost appends_joined = { λ a b c x y first second. W.appends_joined a.now b.now c.now x y first second };
+    ghost appends_joined = { λ a b c x y first second.
+        W.appends_joined a.now b.now c.now x y first second };
 
     fn write(&mut self, buf: &[u8]) -> Result<usize, Error> {
         Write::write(&mut **self, buf)

@@ -83,7 +83,8 @@ pub trait Write {
     /// where the writer's count of failures rises; or want of memory, where it allocates. Nothing was
     /// appended then.
     fn write(&mut self, buf: &[u8]) -> Result<usize, Error>
-        ensures laws { WriteLaws appended full failures allocates self.old buf.now self.new result };
+        ensures laws { WriteLaws appended full failures allocates
+            self.old buf.now self.new result };
 
     /// Appends the whole of `buf`. No bytes are always appended.
     ///
@@ -92,7 +93,8 @@ pub trait Write {
     /// [`Error::is_write_zero`] where no place is left, or what [`Write::write`] answers. A proper
     /// beginning of `buf` was appended then.
     fn write_all(&mut self, buf: &[u8]) -> Result<(), Error>
-        ensures laws { WriteAllLaws appended full failures allocates self.old buf.now self.new result }
+        ensures laws { WriteAllLaws appended full failures allocates
+            self.old buf.now self.new result }
     {
         let mut left = buf;
         while !left.is_empty() {
@@ -107,5 +109,6 @@ pub trait Write {
 
     ghost appends_nothing: { (w : Self) → appended w [] w };
 
-    ghost appends_joined: { (a b c : Self) (x y : List ℕ) → appended a x b → appended b y c → appended a (x ++ y) c };
+    ghost appends_joined: { (a b c : Self) (x y : List ℕ) →
+        appended a x b → appended b y c → appended a (x ++ y) c };
 }

@@ -11,8 +11,8 @@ returns-clause-same c p q value h k =
     record { code = ap (λ (r : Pair). r.code) same; digest = ap (λ (r : Pair). r.digest) same }
 
 pub returns-clause-byte_array : goal.returns-clause-byte_array
-returns-clause-byte_array c p value pair h =
-    let b = json_is_array p value pair.digest h in
+returns-clause-byte_array c p value bytes h =
+    let b = json_is_array p value bytes h in
     record { value = b.0; holds = b.1; only = λ other k. array_unique other b.0 (sym k.array ∙ b.1.array) }
 
 pub returns-clause-own_verdict : goal.returns-clause-own_verdict

@@ -2,8 +2,9 @@ use Rattle.std.proofs.Common.{◌≡◌, ◌≤◌, ℕ, ◌++◌, length, take,
 use Rattle.std.proofs.lemmas.List.{take_at, length-take-le, length-replicate}
 use Rattle.multihash.specs.Pair.{digest_limit}
 use Rattle.multihash.specs.Varint.{IsVarint}
+use Rattle.multihash.specs.Answer.{Fields}
 use Rattle.multihash.proofs.ReadingLemmas.{Takes-joined}
-use Rattle.multihash.proofs.StopLemmas.{stops_in_code, stops_in_size, stops_at_size, stops_in_digest, encodes_fields, fields_fit}
+use Rattle.multihash.proofs.StopLemmas.{stops_in_code, stops_in_size, stops_at_size, stops_in_digest, encodes_fields}
 use Rattle.multihash.proofs.TakingLemmas.{refused, answered}
 use Rattle.multihash.proofs.multihash.Multihash.read.Goals as goal
 
@@ -59,8 +60,14 @@ returns g c =
     let long : length digest ≡ c.from-len.result = search rules in
     let front : take c.from-len.result buffer ≡ digest = take_at digest _ _ long in
     let within : c.from-len.result ≤ digest_limit S = omega (arith, c.from-len.ensures, c.in_ok-size.ensures.ok, c.in_ok-size.ensures.fits) in
-    answered S (code.ok.0 ++ (size.ok.0 ++ digest)) _ _ _ _ (record { code = c.in_ok-code.code; size = c.from-len.result; buffer = buffer })
+    let made : Fields S = record {
+      code = c.in_ok-code.code;
+      size = c.from-len.result;
+      buffer = buffer;
+      in_range = code.ok.1.in_range;
+      fits = within;
+    } in
+    answered S (code.ok.0 ++ (size.ok.0 ++ digest)) _ _ _ _ made
     (c.in_ok-read_exact.ensures.laws.faults ∙ (size.faults ∙ code.faults))
-    (encodes_fields S _ _ code.ok.0 size.ok.0 code.ok.1 is_size buffer digest front long)
-    (fields_fit S _ _ code.ok.0 size.ok.0 code.ok.1 is_size buffer digest front long within)
+    (encodes_fields S _ _ code.ok.0 size.ok.0 code.ok.1 is_size made digest refl front long)
     (Takes-joined _ _ _ code.ok.0 (size.ok.0 ++ digest) _ refl code.ok.2 (Takes-joined _ _ _ size.ok.0 digest _ refl size.ok.2 c.in_ok-read_exact.ensures.laws.takes))
