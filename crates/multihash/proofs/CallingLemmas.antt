@@ -152,7 +152,7 @@ scale_taken S p input bytes more v e whole form fits found refused =
     subst (IsRefusal e) (scale_verdict_unique S input v (accepted p) found (subst (λ x. HasScaleVerdict S x (accepted p)) (sym whole) own)) refused
 
 -- reading where a pair's encoding comes next gives the pair and leaves what follows
-pub pair_read : (S before after : ℕ) (old new : Option (List ℕ)) (p : Pair) (bytes more : List ℕ) (r : Result Fields Refusal)
+pub pair_read : (S before after : ℕ) (old new : Option (List ℕ)) (p : Pair) (bytes more : List ℕ) (r : Result (Fields S) Refusal)
     → IsEncoding p bytes → FitsBuffer S p → old ≡ Some (bytes ++ more) → after ≡ before
     → IfSome old (λ rest. after ≡ before → (v : Verdict) × HasVerdict S rest v × Answers r v)
     → IfOk r (λ m. (taken : List ℕ) × IsEncoding (pair_of m) taken × Takes old taken new)

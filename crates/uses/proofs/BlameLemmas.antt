@@ -14,7 +14,7 @@ use Rattle.multihash.proofs.SettlingLemmas.{shortest_size, shortest_unique, sett
 use Rattle.multihash.proofs.WritingLemmas.{some_items}
 
 -- a size that is too large is refused
-pub refused_size : (S size : ℕ) (input rest : List ℕ) (r : Result Fields Refusal) → HasSize size input rest → digest_limit S < size
+pub refused_size : (S size : ℕ) (input rest : List ℕ) (r : Result (Fields S) Refusal) → HasSize size input rest → digest_limit S < size
     → (v : Verdict) × HasVerdict S input v × Answers r v → IsErrAnd r (IsInvalidSize size)
 refused_size S size input rest (Ok m) h over v =
     let same : v.0 ≡ invalid_size size = verdict_unique S input v.0 (invalid_size size) v.1 (rest, h, over) in

@@ -45,7 +45,7 @@ pub fn put_hashed(
 
 /// The place that is kept under a multihash, whatever the size of its buffer.
 pub fn find_ordered<const S: usize>(store: &Ordered, key: &Multihash<S>) -> Option<u32>
-    ensures { (same : Fields) → FitsBuffer 64 (pair_of same) → pair_of same ≡ pair_of key.now →
+    ensures { (same : Fields 64) → pair_of same ≡ pair_of key.now →
         result ≡ ordered.get (on pair_of compare_pairs) store.now same }
 {
     store.get(&key.resize::<64>().ok()?).copied()
@@ -53,7 +53,7 @@ pub fn find_ordered<const S: usize>(store: &Ordered, key: &Multihash<S>) -> Opti
 
 /// The same, by the hash.
 pub fn find_hashed<const S: usize>(store: &Hashed, key: &Multihash<S>) -> Option<u32>
-    ensures { (same : Fields) → FitsBuffer 64 (pair_of same) → pair_of same ≡ pair_of key.now →
+    ensures { (same : Fields 64) → pair_of same ≡ pair_of key.now →
         result ≡ hashed.get (on pair_of equal_pairs) store.now same }
 {
     store.get(&key.resize::<64>().ok()?).copied()
