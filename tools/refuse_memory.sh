@@ -10,7 +10,7 @@ most=40
 # The tests, by crate, and how many requests each makes: 'some' where that may change.
 tests() {
     case $1 in
-    multihash) cat <<-'LIST'
+    uses) cat <<-'LIST'
 		tests::memory::refused_to_bytes 1
 		tests::memory::refused_long_to_bytes 1
 		tests::memory::refused_to_value some
@@ -88,7 +88,7 @@ judge() {
 
 folder=$(mktemp -d) || exit 2
 trap 'rm -rf "$folder"' EXIT
-for crate in multihash mh_show; do
+for crate in uses mh_show; do
     refuse $crate "$folder" >"$folder/$crate.lines" &
 done
 wait

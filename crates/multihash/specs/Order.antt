@@ -21,7 +21,7 @@ ComesBefore p q =
     (p.code < q.code)
     ⊎ ((p.code ≡ q.code) × (length p.digest < length q.digest))
     ⊎ ((p.code ≡ q.code) × (length p.digest ≡ length q.digest)
-        × IsSmallerWhereFirstDifferent p.digest q.digest)
+    × IsSmallerWhereFirstDifferent p.digest q.digest)
 
 -- how two pairs compare
 abbrev pub Compares : Pair → Pair → Ordering → Type 0

@@ -37,4 +37,4 @@ HasScaleVerdict S input (faulty fault) = ⊥
 HasScaleVerdict S input unexpected_eof =
     (length input < 9)
     ⊎ ((size : ℕ) × (rest : List ℕ) × HasScaleSize size input rest × (size ≤ S)
-        × (length rest < size))
+    × (length rest < size))

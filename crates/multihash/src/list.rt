@@ -60,7 +60,7 @@ pub fn read_list<const S: usize, R: Read>(
     ensures err { IfErr result (λ e.
         (IsMemory e × (R.failures r.new ≡ R.failures r.old) × (R.rest r.new ≡ R.rest r.old))
         ⊎ StopsAfterPairs S count e (R.failures r.old) (R.failures r.new)
-            (R.rest r.old) (R.rest r.new)) }
+        (R.rest r.old) (R.rest r.new)) }
 {
     let mut list = Vec::with_capacity(alloc, count)?;
     for _ in 0..count {

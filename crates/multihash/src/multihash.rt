@@ -52,19 +52,19 @@ impl<const S: usize> Model for Multihash<S> {
     ghost Value = { Fields S };
 
     ghost view = { λ m. record {
-        code = m.code;
-        size = m.size;
-        buffer = m.digest;
-        in_range = m.in_range;
-        fits = m.fits;
+      code = m.code;
+      size = m.size;
+      buffer = m.digest;
+      in_range = m.in_range;
+      fits = m.fits;
     } };
 
     ghost inverse = { λ fields. record {
-        code = fields.code;
-        size = fields.size;
-        digest = fields.buffer;
-        in_range = fields.in_range;
-        fits = fields.fits;
+      code = fields.code;
+      size = fields.size;
+      digest = fields.buffer;
+      in_range = fields.in_range;
+      fits = fields.fits;
     } };
 }
 

@@ -15,5 +15,5 @@ fn clones_are_same<const S: usize>(m: &Multihash<S>, n: &Multihash<S>)
 fn hashes_as_the_pair<const S: usize>(m: &Multihash<S>, pair: &(u64, &'static [u8]))
     ensures { pair.now.0 ≡ (pair_of m.now).code → pair.now.1.now ≡ (pair_of m.now).digest →
         ⟦<Multihash<S> as Hash>⟧.hash_input m.now
-            ≡ ⟦<(u64, &'static [u8]) as Hash>⟧.hash_input pair.now }
+        ≡ ⟦<(u64, &'static [u8]) as Hash>⟧.hash_input pair.now }
 {}

@@ -19,7 +19,7 @@ fn slice_writer(s: &mut [u8], t: &mut [u8])
     ensures allocates { ⟦<&'static mut [u8] as Write>⟧.allocates ≡ false }
     ensures appended { (bytes : List ℕ) →
         ⟦<&'static mut [u8] as Write>⟧.appended s.entry bytes t.entry
-            ↔ GivesUpFor s.old bytes t.old }
+        ↔ GivesUpFor s.old bytes t.old }
     ensures full { ⟦<&'static mut [u8] as Write>⟧.full s.entry ↔ (s.old ≡ []) }
     ensures failures { ⟦<&'static mut [u8] as Write>⟧.failures s.entry ≡ 0 }
 {}
@@ -28,7 +28,7 @@ fn vector_writer(v: &Vec<u8>, w: &Vec<u8>)
     ensures allocates { ⟦<Vec<u8> as Write>⟧.allocates ≡ true }
     ensures appended { (bytes : List ℕ) →
         ⟦<Vec<u8> as Write>⟧.appended v.now bytes w.now
-            ↔ AppendsAtEnd v.now.items bytes w.now.items }
+        ↔ AppendsAtEnd v.now.items bytes w.now.items }
     ensures full { ¬ (⟦<Vec<u8> as Write>⟧.full v.now) }
     ensures failures { ⟦<Vec<u8> as Write>⟧.failures v.now ≡ 0 }
 {}

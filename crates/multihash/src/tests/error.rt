@@ -1,5 +1,4 @@
 //! The texts and the tests of both errors.
-use super::clients::{one_of_four, one_of_six};
 use crate::{Error, Multihash, no_std_io};
 use std::alloc::Global;
 use std::fmt::Display;
@@ -58,7 +57,6 @@ fn faults_print_their_texts(rt: HostRuntime) -> Result<(), Fail> {
         (no_std_io::Error::other(""), ""),
     ] {
         assert_eq!(rt; e.text(), text);
-        assert_eq!(rt; one_of_four(&e), 1);
         expect_text(&rt, rt.alloc(), &e, text)?;
     }
     Ok(())
@@ -94,7 +92,6 @@ fn refusals_print_their_texts(rt: HostRuntime) -> Result<(), Fail> {
             "disk gone",
         ),
     ] {
-        assert_eq!(rt; one_of_six(&e), 1);
         expect_text(&rt, rt.alloc(), &e, text)?;
     }
     Ok(())

@@ -1,0 +1,187 @@
+-- What callers conclude from the contracts of several calls.
+use Rattle.std.proofs.Common.{Vec, Global, ◌≡◌, ℕ, ◌<◌, ◌≤◌, ◌-◌, ◌⊎◌, IfOk, IfErr, OnOk, OnErr, inl, inr, length-drop, List, [], ◌∷◌, ◌++◌, length, map, Bool, true, false, IsTrue, ◌↔◌, Option, None, Some, Result, Ok, Err, MatchResult, IfSome, refl, sym, ap, ◌∙◌, subst, arith, append_assoc}
+use Rattle.std.specs.List.{concat, AllZip, All}
+use Rattle.std.specs.Result.{is_ok, IsErrAnd}
+use Rattle.std.proofs.lemmas.List.{length-map}
+use Rattle.std.proofs.lemmas.Bool.{false≢true}
+use Rattle.std.proofs.lemmas.List.Elements.{All-head, All-tail}
+use mathlib.Core.Bool.{beq}
+use Rattle.multihash.specs.Pair.{Pair, IsSame, FitsBuffer}
+use Rattle.multihash.specs.Encoding.{IsEncoding}
+use Rattle.multihash.specs.Joined.{AreJoined}
+use Rattle.multihash.specs.Verdict.{Verdict, accepted, HasVerdict, HasWholeVerdict}
+use Rattle.multihash.specs.Reading.{Takes}
+use Rattle.multihash.specs.Scale.{IsScale, HasScaleVerdict}
+use Rattle.multihash.specs.Places.{GivesUpFor}
+use Rattle.multihash.specs.Writing.{AppendsPart, CountsWriter}
+use Rattle.multihash.specs.Refusal.{Refusal, IsIo, IsMemory}
+use Rattle.multihash.specs.Streams.{TakesPairs, StopsAfterPairs}
+use Rattle.multihash.specs.Answer.{Fields, pair_of, IsRefusal, Answers}
+use Rattle.multihash.proofs.PlacesLemmas.{fewer_places, full_of_faults}
+use Rattle.multihash.proofs.PairLemmas.{IsSame-refl, IsSame-equal}
+use Rattle.multihash.proofs.VerdictLemmas.{same_cut, encoding_same, encoding_unique, verdict_unique, whole_verdict_unique}
+use Rattle.multihash.proofs.ScaleLemmas.{scale_same, scale_own, scale_verdict_unique}
+use Rattle.multihash.proofs.JoinedLemmas.{joined_unique}
+
+-- two pairs are the same exactly where their encodings are one list
+pub same_encoding : (p q : Pair) (x y : List ℕ) → IsEncoding p x → IsEncoding q y → IsSame p q ↔ (x ≡ y)
+same_encoding p q x y e f = (
+  (λ same. encoding_same q x y (subst (λ r. IsEncoding r x) (IsSame-equal p q same) e) f),
+  λ same. subst (IsSame p) (encoding_unique p q x y [] [] e f (ap (λ (z : List ℕ). z ++ []) same)).0 (IsSame-refl p),
+)
+
+-- two tests for what follows from each other answer the same
+pub tests_agree : {P Q : Type 0} (a b : Bool) → (IsTrue a ↔ P) → (IsTrue b ↔ Q) → (P ↔ Q) → IsTrue (beq a b)
+tests_agree true true p q both = refl
+tests_agree true false p q both = absurd (false≢true (q.1 (both.0 (p.0 refl))))
+tests_agree false true p q both = absurd (false≢true (p.1 (both.1 (q.0 refl))))
+tests_agree false false p q both = refl
+
+-- what follows some encodings begins with the next, where those of more pairs begin the input
+next_each : (S : ℕ) (qs ps : List Pair) (fs es : List (List ℕ)) (rest more : List ℕ) → AllZip IsEncoding qs fs → AllZip IsEncoding ps es
+    → All (FitsBuffer S) ps → length qs < length ps → concat fs ++ rest ≡ concat es ++ more → (p : Pair) × HasVerdict S rest (accepted p)
+next_each S qs [] fs es rest more h k fit less e = absurd (omega arith)
+next_each S qs (p ∷ ps) fs [] rest more h k fit less e = absurd k
+next_each S [] (p ∷ ps) (y ∷ fs) (x ∷ es) rest more h k fit less e = absurd h
+next_each S [] (p ∷ ps) [] (x ∷ es) rest more h k fit less e = (
+  p,
+  (
+    concat es ++ more,
+    record { encoding = x; encodes = k.0; cut = e ∙ append_assoc x (concat es) more },
+    All-head (FitsBuffer S) p ps fit,
+  ),
+)
+next_each S (q ∷ qs) (p ∷ ps) [] (x ∷ es) rest more h k fit less e = absurd h
+next_each S (q ∷ qs) (p ∷ ps) (y ∷ fs) (x ∷ es) rest more h k fit less e =
+    let first = encoding_unique q p y x (concat fs ++ rest) (concat es ++ more) h.0 k.0
+    (sym (append_assoc y (concat fs) rest) ∙ (e ∙ append_assoc x (concat es) more)) in
+    next_each S qs ps fs es rest more h.1 k.1 (All-tail (FitsBuffer S) p ps fit) (omega arith) first.2
+
+pub next_joined : (S : ℕ) (qs ps : List Pair) (b a rest more : List ℕ) → AreJoined qs b → AreJoined ps a → All (FitsBuffer S) ps
+    → length qs < length ps → b ++ rest ≡ a ++ more → (p : Pair) × HasVerdict S rest (accepted p)
+next_joined S qs ps b a rest more h k fit less e =
+    next_each S qs ps h.encodings k.encodings rest more h.each k.each fit less
+    (sym (ap (λ (z : List ℕ). z ++ rest) h.joined) ∙ (e ∙ ap (λ (z : List ℕ). z ++ more) k.joined))
+
+-- reading a stream of so many pairs did not stop at a refusal
+pub never_stops : (S count : ℕ) (e : Refusal) (n : ℕ) (new : Option (List ℕ)) (pairs : List Pair) (bytes more : List ℕ)
+    → AreJoined pairs bytes → All (FitsBuffer S) pairs → length pairs ≡ count
+    → StopsAfterPairs S count e n n (Some (bytes ++ more)) new → ⊥
+never_stops S count e n new pairs bytes more joined fit many stop = at stop.middle stop.good.takes stop.verdict
+  where
+    at : (middle : Option (List ℕ)) → Takes (Some (bytes ++ more)) stop.good.bytes middle
+        → IfSome middle (λ left. n ≡ n → (v : Verdict) × HasVerdict S left v × IsRefusal e v) → ⊥
+    at None takes verdict = cc
+    at (Some left) takes verdict =
+        let cut : stop.good.bytes ++ left ≡ bytes ++ more = cc in
+        let next = next_joined S stop.pairs pairs stop.good.bytes bytes left more stop.good.joined joined fit (omega (arith, stop.fewer)) cut in
+        let found = verdict refl in
+        subst (IsRefusal e) (verdict_unique S left found.0 (accepted next.0) found.1 next.1) found.2
+
+-- reading a stream of so many pairs gives them and leaves what follows, or there was no memory
+pub pairs_read : (S count before after : ℕ) (old new : Option (List ℕ)) (pairs : List Pair) (bytes more : List ℕ)
+    (r : Result (Vec (Fields S) Global) Refusal) → AreJoined pairs bytes → All (FitsBuffer S) pairs → length pairs ≡ count
+    → old ≡ Some (bytes ++ more) → after ≡ before
+    → IfOk r (λ list. (length list.items ≡ count) × TakesPairs S (map pair_of list.items) old new)
+    → IfErr r (λ e. (IsMemory e × (after ≡ before) × (new ≡ old)) ⊎ StopsAfterPairs S count e before after old new)
+    → MatchResult r (λ list. (map pair_of list.items ≡ pairs) × (new ≡ Some more)) IsMemory
+pairs_read S count before after old new pairs bytes more (Ok list) joined fit many rest same ok err = at new ok.1.takes
+  where
+    at : (new : Option (List ℕ)) → Takes old ok.1.bytes new → (map pair_of list.items ≡ pairs) × (new ≡ Some more)
+    at None takes = cc
+    at (Some left) takes =
+        let cut : ok.1.bytes ++ left ≡ bytes ++ more = cc in
+        let told = joined_unique (map pair_of list.items) pairs ok.1.bytes bytes left more
+        (omega (arith, length-map list.items pair_of, ok.0)) ok.1.joined joined cut in
+        (told.0, ap Some told.1)
+pairs_read S count before after old new pairs bytes more (Err e) joined fit many rest same ok (inl memory) = memory.0
+pairs_read S count before after old new pairs bytes more (Err e) joined fit many rest same ok (inr stop) =
+    absurd (never_stops S count e before new pairs bytes more joined fit many
+    (subst (λ o. StopsAfterPairs S count e before before o new) rest (subst (λ n. StopsAfterPairs S count e before n old new) same stop)))
+
+-- a slice is written to where it has room for all bytes, and else no place is left
+module _ {W : Type 0} (appended : W → List ℕ → W → Type 0) (a b : W) (IsForm : List ℕ → Type 0) (old new : List ℕ)
+    (gives : (part : List ℕ) → appended a part b → GivesUpFor old part new) where
+  pub filled : {T : Type 0} (r : Result T Refusal) (is_whole : Bool) → is_whole ≡ is_ok r
+      → OnOk r ((bytes : List ℕ) × IsForm bytes × appended a bytes b)
+      → OnErr r ((bytes : List ℕ) × IsForm bytes × AppendsPart appended a bytes b)
+      → CountsWriter IsIo false 0 0 (new ≡ []) r
+      → (bytes : List ℕ) × IsForm bytes × (IsTrue is_whole ↔ (length bytes ≤ length old)) × (length new ≡ length old - length bytes)
+  filled (Ok n) is_whole told wrote stopped faults =
+      let given = gives wrote.0 wrote.2 in (
+        wrote.0,
+        wrote.1,
+        ((λ _. given.room), λ _. told),
+        ap length given.left ∙ length-drop (length wrote.0) old,
+      )
+  filled (Err e) is_whole told wrote stopped faults =
+      let part = stopped.2 in
+      let none = full_of_faults 0 (new ≡ []) faults.1.0 faults.1.2 in
+      let fewer = fewer_places old new stopped.0 part.part (gives part.part part.stands) part.proper none in (
+        stopped.0,
+        stopped.1,
+        ((λ is_true. absurd (false≢true (sym told ∙ is_true))), λ fits. absurd (omega (arith, fewer, fits))),
+        omega (arith, fewer, ap length none),
+      )
+
+  -- the same of a writer's answer that counts the bytes
+  pub filled_count : (r : Result ℕ Refusal) (is_whole : Bool) → is_whole ≡ is_ok r
+      → IfOk r (λ n. (bytes : List ℕ) × IsForm bytes × (n ≡ length bytes) × appended a bytes b)
+      → OnErr r ((bytes : List ℕ) × IsForm bytes × AppendsPart appended a bytes b)
+      → CountsWriter IsIo false 0 0 (new ≡ []) r
+      → (bytes : List ℕ) × IsForm bytes × (IsTrue is_whole ↔ (length bytes ≤ length old)) × (length new ≡ length old - length bytes)
+  filled_count (Ok n) is_whole told wrote stopped faults = filled (Ok n) is_whole told (wrote.0, wrote.1, wrote.3) stopped faults
+  filled_count (Err e) is_whole told wrote stopped faults = filled {T = ℕ} (Err e) is_whole told tt stopped faults
+
+-- decoding a pair's SCALE form and more gives the pair and leaves what follows
+pub scale_pair : (S : ℕ) (p q : Pair) (input bytes taken more left : List ℕ) (v : Verdict) → input ≡ bytes ++ more → IsScale p bytes
+    → FitsBuffer S p → HasScaleVerdict S input v → v ≡ accepted q → IsScale q taken → input ≡ taken ++ left → (q ≡ p) × (left ≡ more)
+scale_pair S p q input bytes taken more left v whole form fits found answers is_taken cut =
+    let own = scale_own S p bytes more form (omega arith) in
+    let same : accepted q ≡ accepted p =
+    sym answers ∙ scale_verdict_unique S input v (accepted p) found (subst (λ x. HasScaleVerdict S x (accepted p)) (sym whole) own) in
+    let pairs : q ≡ p = cc in
+    let bytes_same : taken ≡ bytes = scale_same p taken bytes (subst (λ r. IsScale r taken) pairs is_taken) form in
+    (pairs, (same_cut taken bytes left more (ap length bytes_same) (sym cut ∙ whole)).1)
+
+-- and it is not refused
+pub scale_taken : (S : ℕ) (p : Pair) (input bytes more : List ℕ) (v : Verdict) (e : Refusal) → input ≡ bytes ++ more → IsScale p bytes
+    → FitsBuffer S p → HasScaleVerdict S input v → IsRefusal e v → ⊥
+scale_taken S p input bytes more v e whole form fits found refused =
+    let own = scale_own S p bytes more form (omega arith) in
+    subst (IsRefusal e) (scale_verdict_unique S input v (accepted p) found (subst (λ x. HasScaleVerdict S x (accepted p)) (sym whole) own)) refused
+
+-- reading where a pair's encoding comes next gives the pair and leaves what follows
+pub pair_read : (S before after : ℕ) (old new : Option (List ℕ)) (p : Pair) (bytes more : List ℕ) (r : Result (Fields S) Refusal)
+    → IsEncoding p bytes → FitsBuffer S p → old ≡ Some (bytes ++ more) → after ≡ before
+    → IfSome old (λ rest. after ≡ before → (v : Verdict) × HasVerdict S rest v × Answers r v)
+    → IfOk r (λ m. (taken : List ℕ) × IsEncoding (pair_of m) taken × Takes old taken new)
+    → MatchResult r (λ m. (pair_of m ≡ p) × (new ≡ Some more)) (λ _. ⊥)
+pair_read S before after None new p bytes more r encodes fits rest same verdict ok = cc
+pair_read S before after (Some input) new p bytes more (Ok m) encodes fits rest same verdict ok = at new ok.2
+  where
+    at : (new : Option (List ℕ)) → Takes (Some input) ok.0 new → (pair_of m ≡ p) × (new ≡ Some more)
+    at None takes = cc
+    at (Some left) takes =
+        let cut : ok.0 ++ left ≡ bytes ++ more = cc in
+        let told = encoding_unique (pair_of m) p ok.0 bytes left more ok.1 encodes cut in
+        (told.0, ap Some told.2)
+pair_read S before after (Some input) new p bytes more (Err e) encodes fits rest same verdict ok =
+    let v = verdict same in
+    let spelled : input ≡ bytes ++ more = cc in
+    let own : HasVerdict S input (accepted p) = (more, record { encoding = bytes; encodes = encodes; cut = spelled }, fits) in
+    subst (IsRefusal e) (verdict_unique S input v.0 (accepted p) v.1 own) v.2
+
+-- the error that is answered is the one that was met
+pub refused_by : {T E : Type 0} (r : Result T E) (e : E) (Q : T → Type 0) (P : E → Type 0) → IsErrAnd r (λ x. x ≡ e) → P e → MatchResult r Q P
+refused_by (Ok t) e Q P given p = absurd given
+refused_by (Err x) e Q P given p = subst P (sym given) p
+
+-- the verdict on a pair's encoding is the pair
+pub verdict_back : (S : ℕ) (p : Pair) (bytes : List ℕ) (r : Result (Fields S) Refusal) (v : Verdict) → HasWholeVerdict S bytes v → Answers r v
+    → IsEncoding p bytes → FitsBuffer S p → MatchResult r (λ m. pair_of m ≡ p) IsMemory
+verdict_back S p bytes (Ok m) v h answers encodes fits =
+    let same : accepted (pair_of m) ≡ accepted p = sym answers ∙ whole_verdict_unique S bytes v (accepted p) h (encodes, fits) in
+    cc
+verdict_back S p bytes (Err e) v h answers encodes fits =
+    absurd (subst (IsRefusal e) (whole_verdict_unique S bytes v (accepted p) h (encodes, fits)) answers)

@@ -1,7 +1,0 @@
-use Rattle.multihash.proofs.ClientLemmas.{pairs_read}
-use Rattle.multihash.proofs.tests.client_streams.read_pairs.Goals as goal
-
-pub returns : goal.returns
-returns g c pairs bytes more joined fit many rest unfailed =
-    pairs_read g.row.S c.args.count _ _ _ _ pairs bytes more c.read_list.result joined fit many rest unfailed
-    c.read_list.ensures.ok c.read_list.ensures.err

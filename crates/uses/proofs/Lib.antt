@@ -1,0 +1,5 @@
+pub mod BlameLemmas
+pub mod ContentIdLemmas
+pub mod DumpLemmas
+pub mod MerkleLemmas
+pub mod StreamLemmas

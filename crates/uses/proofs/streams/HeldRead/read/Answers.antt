@@ -1,0 +1,26 @@
+use Rattle.std.proofs.Common.{◌≡◌, ◌+◌, ◌-◌, Some, [], ◌++◌, length, take, drop, refl, sym, ap, ◌∙◌, subst, rules}
+use Rattle.std.proofs.lemmas.List.{take_rest}
+use Rattle.uses.proofs.StreamLemmas.{behind_front}
+use Rattle.uses.proofs.streams.HeldRead.read.Goals as goal
+
+pub returns : goal.returns
+returns c =
+    let items = c.args.self.now.bytes.items in
+    let at = c.args.self.now.at in
+    let all = c.deref.result.now in
+    let read = c.in_ok-n.ensures.laws in
+    let front = take c.in_ok-n.n c.read.new.buf in
+    let given : take (length all - at) (drop at all) ≡ drop at items = take_rest all at ∙ ap (drop at) c.deref.ensures.value in
+    let cut : drop at items ≡ front ++ c.read.new.self.now = cc (given, read.takes) in
+    let long : length front ≡ c.in_ok-n.n = search rules in
+    let left = behind_front items front c.read.new.self.now at cut ∙ ap (λ n. drop (at + n) items) long in
+    record {
+      laws = record {
+        count = read.count;
+        beyond = read.beyond;
+        faults = refl;
+        takes = ap Some (cut ∙ ap (λ l. front ++ l) left);
+        at_end = λ none some. sym given ∙ read.at_end none some;
+        err = tt;
+      };
+    }

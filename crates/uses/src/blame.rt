@@ -1,0 +1,59 @@
+//! What a refusal tells: who is to blame for it, what was taken, and whether more input could help.
+ghost use Rattle.std.specs.Prelude.{◌≡◌, ◌<◌, ◌↔◌, ℕ, List, ◌++◌, length, Some, IsTrue, IfSome, IsErrAnd};
+ghost use Rattle.multihash.specs.Pair.{Pair, FitsBuffer, digest_limit};
+ghost use Rattle.multihash.specs.Encoding.{IsEncoding};
+ghost use Rattle.multihash.specs.Verdict.{HasSize};
+ghost use Rattle.multihash.specs.Refusal.{IsInvalidSize};
+ghost use Rattle.multihash.specs.Settling.{Settles};
+
+use multihash::no_std_io::Read;
+use multihash::{Error, Multihash, laws};
+
+/// Whether a call of `read` failed by the reader's own fault: exactly where its failures rose.
+pub fn reader_failed<const S: usize, R: Read>(r: &mut R) -> (Option<Multihash<S>>, bool)
+    ensures { IsTrue result.1 ↔ (R.failures r.old < R.failures r.new) }
+{
+    match Multihash::read(r) {
+        Ok(multihash) => (Some(multihash), false),
+        Err(e) => {
+            let failed = match e.io() {
+                Some(fault) => !fault.is_unexpected_eof(),
+                None => false,
+            };
+            (None, failed)
+        }
+    }
+}
+
+/// What `read` answers to a slice, and what it leaves. Of a digest that is too long for the buffer the
+/// size is answered, and the digest is left, so that a caller can skip it.
+pub fn read_slice<const S: usize>(stream: &[u8]) -> (Result<Multihash<S>, Error>, &[u8])
+    ensures { (size : ℕ) (rest : List ℕ) → HasSize size stream.now rest → digest_limit S < size →
+        IsErrAnd result.0 (IsInvalidSize size) × (result.1.now ≡ rest) }
+{
+    let mut left = stream;
+    let answer = Multihash::read(&mut left);
+    (answer, left)
+}
+
+/// Whether more input could change the answer of `read`.
+pub fn wants_more<const S: usize>(input: &[u8]) -> bool
+    requires { S < 65536 }
+    ensures { IsTrue result ↔ ¬ (Settles S input.now) }
+{
+    laws::settles();
+    let mut left = input;
+    match Multihash::<S>::read(&mut left) {
+        Ok(_) => false,
+        Err(e) => e.is_insufficient() || e.io().is_some(),
+    }
+}
+
+/// Reads a multihash. Where the reader fails inside it, the end of the multihash was not taken.
+pub fn read_part<const S: usize, R: Read>(r: &mut R) -> Result<Multihash<S>, Error>
+    ensures { (p : Pair) (bytes more : List ℕ) → IsEncoding p bytes → FitsBuffer S p →
+        R.rest r.old ≡ Some (bytes ++ more) → R.failures r.old < R.failures r.new →
+        IfSome (R.rest r.new) (λ left. length more < length left) }
+{
+    Multihash::read(r)
+}

@@ -1,0 +1,88 @@
+//! Stores of blocks: what is kept under a multihash, in order or by its hash.
+ghost use Rattle.std.specs.Prelude.{◌≡◌, Some, IfOk, OnOk, OnErr};
+ghost use Rattle.std.specs.BTreeMap as ordered;
+ghost use Rattle.std.specs.HashMap as hashed;
+ghost use Rattle.std.specs.Ordering.{on};
+ghost use Rattle.multihash.specs.Pair.{IsSame, FitsBuffer};
+ghost use Rattle.multihash.specs.Comparing.{compare_pairs, equal_pairs};
+ghost use Rattle.multihash.specs.Answer.{Fields, pair_of};
+
+use multihash::Multihash;
+use std::alloc::AllocFailed;
+use std::collections::{BTreeMap, HashMap};
+
+/// A block's place, under the multihash of the block, in the order of multihashes.
+pub type Ordered = BTreeMap<Multihash<64>, u32>;
+
+/// The same, by the hash of the multihash.
+pub type Hashed = HashMap<Multihash<64>, u32>;
+
+/// Keeps a block's place. What is kept under other multihashes stays.
+pub fn put_ordered(
+    store: &mut Ordered,
+    key: Multihash<64>,
+    place: u32,
+) -> Result<(), AllocFailed<(Multihash<64>, u32)>>
+    ensures kept { OnOk result (ordered.Updates (on pair_of compare_pairs) store.old store.new key (Some place)) }
+    ensures unchanged { OnErr result (ordered.IsUnchanged store.old store.new) }
+{
+    store.insert(key, place)?;
+    Ok(())
+}
+
+/// The same, by the hash.
+pub fn put_hashed(
+    store: &mut Hashed,
+    key: Multihash<64>,
+    place: u32,
+) -> Result<(), AllocFailed<(Multihash<64>, u32)>>
+    ensures kept { OnOk result (hashed.Updates (on pair_of equal_pairs) store.old store.new key (Some place)) }
+    ensures unchanged { OnErr result (hashed.IsUnchanged store.old store.new) }
+{
+    store.insert(key, place)?;
+    Ok(())
+}
+
+/// The place that is kept under a multihash, whatever the size of its buffer.
+pub fn find_ordered<const S: usize>(store: &Ordered, key: &Multihash<S>) -> Option<u32>
+    ensures { (same : Fields 64) → pair_of same ≡ pair_of key.now →
+        result ≡ ordered.get (on pair_of compare_pairs) store.now same }
+{
+    store.get(&key.resize::<64>().ok()?).copied()
+}
+
+/// The same, by the hash.
+pub fn find_hashed<const S: usize>(store: &Hashed, key: &Multihash<S>) -> Option<u32>
+    ensures { (same : Fields 64) → pair_of same ≡ pair_of key.now →
+        result ≡ hashed.get (on pair_of equal_pairs) store.now same }
+{
+    store.get(&key.resize::<64>().ok()?).copied()
+}
+
+/// Keeps a place, and finds it under another multihash: it is there where the two are the same.
+pub fn kept_is_found<const S: usize>(
+    store: &mut Ordered,
+    key: Multihash<64>,
+    place: u32,
+    other: &Multihash<S>,
+) -> Result<Option<u32>, AllocFailed<(Multihash<64>, u32)>>
+    ensures { IfOk result (λ found. IsSame (pair_of key) (pair_of other.now) → found ≡ Some place) }
+{
+    key.size();
+    put_ordered(store, key, place)?;
+    Ok(find_ordered(store, other))
+}
+
+/// The same, by the hash.
+pub fn kept_is_found_hashed<const S: usize>(
+    store: &mut Hashed,
+    key: Multihash<64>,
+    place: u32,
+    other: &Multihash<S>,
+) -> Result<Option<u32>, AllocFailed<(Multihash<64>, u32)>>
+    ensures { IfOk result (λ found. IsSame (pair_of key) (pair_of other.now) → found ≡ Some place) }
+{
+    key.size();
+    put_hashed(store, key, place)?;
+    Ok(find_hashed(store, other))
+}

@@ -1,0 +1,133 @@
+//! Callers that read and write bytes, and ask what an error is.
+ghost use Rattle.std.specs.Prelude.{◌≡◌, ℕ, ◌+◌, ◌-◌, ◌≤◌, ◌↔◌, List, [], ◌∷◌, ◌++◌, Some, length, slice_get, IsTrue, IfSome, IfOk, IfErr, OnOk, OnErr, MatchOption, MatchResult};
+ghost use Rattle.multihash.specs.Fault.{IsOutOfMemory, IsOwnFault};
+ghost use Rattle.std.specs.Io.KnownBytes.{IsAtEnd};
+ghost use Rattle.multihash.specs.Reading.{Takes, CountsReader};
+ghost use Rattle.multihash.specs.Writing.{CountsWriter, AppendsPart};
+ghost use Rattle.multihash.specs.Pair.{FitsBuffer};
+ghost use Rattle.multihash.specs.Encoding.{IsEncoding};
+ghost use Rattle.multihash.specs.Refusal.{IsMemory};
+ghost use Rattle.multihash.specs.Answer.{pair_of};
+
+use multihash::no_std_io::{self, Read, Write};
+use multihash::{Error, Multihash};
+use std::alloc::Global;
+
+/// How many of the four tests are true of an error: always one.
+pub fn one_of_four(e: &no_std_io::Error) -> u8
+    ensures { result ≡ 1 }
+{
+    u8::from(e.is_unexpected_eof())
+        + u8::from(e.is_write_zero())
+        + u8::from(e.is_out_of_memory())
+        + u8::from(e.is_other())
+}
+
+/// How many of the six tests apply to an error: always one.
+pub fn one_of_six(e: &Error) -> u8
+    ensures { result ≡ 1 }
+{
+    u8::from(e.invalid_size().is_some())
+        + u8::from(e.is_insufficient())
+        + u8::from(e.is_overflow())
+        + u8::from(e.is_not_minimal())
+        + u8::from(e.is_not_bytes())
+        + u8::from(e.io().is_some())
+}
+
+/// The next byte, or none where the input has ended.
+pub fn read_one<R: Read>(r: &mut R) -> Result<Option<u8>, no_std_io::Error>
+    ensures faults { CountsReader IsOwnFault (λ _. ⊥) (R.failures r.old) (R.failures r.new) result }
+    ensures byte { IfOk result (λ next. MatchOption next
+        (IsAtEnd (R.rest r.old) × (R.rest r.new ≡ R.rest r.old))
+        (λ byte. Takes (R.rest r.old) (byte ∷ []) (R.rest r.new))) }
+    ensures first { IfSome (R.rest r.old) (λ rest. IfOk result (λ next. next ≡ slice_get rest 0)) }
+    ensures err { OnErr result (R.rest r.new ≡ R.rest r.old) }
+{
+    let mut one = [0u8; 1];
+    match r.read(&mut one)? {
+        0 => Ok(None),
+        _ => Ok(Some(one[0])),
+    }
+}
+
+/// The first byte of a slice.
+pub fn first_byte(bytes: &[u8]) -> Option<u8>
+    ensures { MatchOption result (bytes.now ≡ []) (λ byte. slice_get bytes.now 0 ≡ Some byte) }
+{
+    let mut left = bytes;
+    match read_one(&mut left) {
+        Ok(next) => next,
+        Err(_) => unreachable!(),
+    }
+}
+
+/// Writes `a` and then `b`.
+pub fn write_two<W: Write>(w: &mut W, a: &[u8], b: &[u8]) -> Result<(), no_std_io::Error>
+    ensures ok { OnOk result (W.appended w.old (a.now ++ b.now) w.new) }
+    ensures err { OnErr result (AppendsPart W.appended w.old (a.now ++ b.now) w.new) }
+    ensures faults { CountsWriter (λ P. P) W.allocates
+        (W.failures w.old) (W.failures w.new) (W.full w.new) result }
+{
+    w.write_all(a)?;
+    w.write_all(b)
+}
+
+/// Writes `a` and then `b` to the front of `places`, which have room, and says how many are left.
+pub fn fill_two(places: &mut [u8], a: &[u8], b: &[u8]) -> usize
+    requires { length a.now + length b.now ≤ length places.old }
+    ensures { result + length a.now + length b.now ≡ length places.old }
+{
+    let mut left = places;
+    match write_two(&mut left, a, b) {
+        Ok(()) => left.len(),
+        Err(_) => unreachable!(),
+    }
+}
+
+/// `a` and then `b`.
+pub fn joined(alloc: Global, a: &[u8], b: &[u8]) -> Result<Vec<u8>, no_std_io::Error>
+    ensures value { IfOk result (λ all. all.items ≡ a.now ++ b.now) }
+    ensures memory { IfErr result IsOutOfMemory }
+{
+    let mut all = Vec::new(alloc);
+    write_two(&mut all, a, b)?;
+    Ok(all)
+}
+
+/// Whether the encoding was written to the front of `places`, and how many are left then: it is
+/// where there is room, which gives up that many, and else none is left.
+pub fn fills<const S: usize>(m: &Multihash<S>, places: &mut [u8]) -> (bool, usize)
+    ensures { (bytes : List ℕ) × IsEncoding (pair_of m.now) bytes
+        × (IsTrue result.0 ↔ (length bytes ≤ length places.old))
+        × (result.1 ≡ length places.old - length bytes) }
+{
+    let mut left = places;
+    let is_whole = m.write(&mut left).is_ok();
+    (is_whole, left.len())
+}
+
+/// A multihash written to bytes and read from them, into a buffer of its own size or another: the
+/// same pair, where it fits. Nothing but want of memory refuses it.
+pub fn bytes_back<const S: usize, const R: usize>(
+    alloc: Global,
+    m: &Multihash<S>,
+) -> Result<Multihash<R>, Error>
+    ensures { FitsBuffer R (pair_of m.now) →
+        MatchResult result (λ back. pair_of back ≡ pair_of m.now) IsMemory }
+{
+    let bytes = m.to_bytes(alloc)?;
+    Multihash::from_bytes(&bytes)
+}
+
+/// The multihash of bytes that are accepted, and the bytes that it is written as: the same ones.
+pub fn accepted_back<const S: usize>(
+    alloc: Global,
+    bytes: &[u8],
+) -> Result<(Multihash<S>, Vec<u8>), Error>
+    ensures { IfOk result (λ back. back.1.items ≡ bytes.now) }
+{
+    let accepted = Multihash::from_bytes(bytes)?;
+    let back = accepted.to_bytes(alloc)?;
+    Ok((accepted, back))
+}

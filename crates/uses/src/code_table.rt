@@ -1,0 +1,62 @@
+//! A table of allowed codes, each with its digest's length.
+ghost use Rattle.std.specs.Prelude.{◌≡◌, ◌≤◌, ◌↔◌, ℕ, List, length, IsSome, IfSome, IfOk, MatchOption, Contains};
+ghost use Rattle.multihash.specs.Pair.{Pair, digest_limit};
+ghost use Rattle.multihash.specs.Encoding.{IsEncoding};
+ghost use Rattle.multihash.specs.Reading.{Takes, CountsReader};
+ghost use Rattle.multihash.specs.Refusal.{IsReaderFault};
+ghost use Rattle.multihash.specs.Taking.{IsReadRefusal};
+ghost use Rattle.multihash.specs.Answer.{pair_of};
+
+use multihash::no_std_io::Read;
+use multihash::{Error, Multihash};
+
+/// A code, and the length of the digests that it is allowed with.
+#[derive(Clone, Copy, Debug, PartialEq, Eq)]
+pub struct Entry {
+    pub code: u64,
+    pub size: usize,
+}
+
+/// Wraps a digest, where the table allows its code with its length and the buffer holds it.
+pub fn wrap<const S: usize>(table: &[Entry], code: u64, digest: &[u8]) -> Option<Multihash<S>>
+    ensures some { IfSome result (λ m. pair_of m ≡ record { code = code; digest = digest.now }) }
+    ensures exactly { IsSome result ↔
+        (Contains table.now (record { code = code; size = length digest.now })
+        × (length digest.now ≤ digest_limit S)) }
+{
+    let size = digest.len();
+    if !table.contains(&Entry { code, size }) {
+        return None;
+    }
+    Multihash::wrap(code, digest).ok()
+}
+
+/// Reads the multihash that comes next, and answers none where the table does not allow it. It is taken
+/// in either case.
+///
+/// # Errors
+///
+/// Those of [`Multihash::read`].
+pub fn read<const S: usize, R: Read>(
+    table: &[Entry],
+    r: &mut R,
+) -> Result<Option<Multihash<S>>, Error>
+    ensures ok { IfOk result (λ read. (p : Pair) × (bytes : List ℕ) × IsEncoding p bytes
+        × Takes (R.rest r.old) bytes (R.rest r.new)
+        × MatchOption read
+        (¬ (Contains table.now (record { code = p.code; size = length p.digest })))
+        (λ m. (pair_of m ≡ p) × Contains table.now (record { code = p.code; size = length p.digest }))) }
+    ensures faults { CountsReader IsReaderFault (IsReadRefusal S)
+        (R.failures r.old) (R.failures r.new) result }
+{
+    let multihash = Multihash::read(r)?;
+    let entry = Entry {
+        code: multihash.code(),
+        size: multihash.digest().len(),
+    };
+    Ok(if table.contains(&entry) {
+        Some(multihash)
+    } else {
+        None
+    })
+}

@@ -1,0 +1,52 @@
+//! A dump of a stream: every multihash of an input until its end, or the first refusal.
+ghost use Rattle.std.specs.Prelude.{◌<◌, [], Some, map, drop, IfOk, IfSome, IfNone};
+ghost use Rattle.multihash.specs.Verdict.{Verdict, HasVerdict};
+ghost use Rattle.multihash.specs.Streams.{TakesPairs};
+ghost use Rattle.multihash.specs.Answer.{pair_of, IsRefusal};
+
+use multihash::{Error, Multihash};
+use std::alloc::{AllocError, Global};
+
+/// The multihashes of an input, in order, and where they stop before its end.
+#[derive(Drop)]
+pub struct Dump<const S: usize> {
+    pub items: Vec<Multihash<S>>,
+    pub stop: Option<Stop>,
+}
+
+/// The place of the first bytes that are no multihash, and the reason.
+#[derive(Debug, Drop)]
+pub struct Stop {
+    pub at: usize,
+    pub reason: Error,
+}
+
+/// Reads multihashes until the input ends, or one is refused.
+///
+/// # Errors
+///
+/// Want of memory.
+pub fn read_all<const S: usize>(alloc: Global, input: &[u8]) -> Result<Dump<S>, AllocError>
+    requires { S < 65536 }
+    ensures end { IfOk result (λ dump. IfNone dump.stop
+        (TakesPairs S (map pair_of dump.items.items) (Some input.now) (Some []))) }
+    ensures stop { IfOk result (λ dump. IfSome dump.stop (λ stop.
+        TakesPairs S (map pair_of dump.items.items) (Some input.now) (Some (drop stop.at input.now))
+        × ((v : Verdict) × HasVerdict S (drop stop.at input.now) v × IsRefusal stop.reason v))) }
+{
+    let mut items = Vec::new(alloc);
+    let mut left = input;
+    while !left.is_empty() {
+        let at = input.len() - left.len();
+        match Multihash::read(&mut left) {
+            Ok(multihash) => items.push(multihash)?,
+            Err(reason) => {
+                return Ok(Dump {
+                    items,
+                    stop: Some(Stop { at, reason }),
+                });
+            }
+        }
+    }
+    Ok(Dump { items, stop: None })
+}

@@ -1,0 +1,148 @@
+//! Callers that write multihashes in one form and read them back, alone and many in a stream.
+ghost use Rattle.std.specs.Prelude.{◌≡◌, ◌≤◌, ◌-◌, ◌+◌, ℕ, List, ◌++◌, length, map, min, All, Some, IsTrue, ◌↔◌, IfSome, MatchResult};
+ghost use Rattle.multihash.specs.Pair.{Pair, FitsBuffer};
+ghost use Rattle.multihash.specs.Joined.{AreJoined};
+ghost use Rattle.multihash.specs.Scale.{IsScale};
+ghost use Rattle.multihash.specs.Refusal.{IsMemory};
+ghost use Rattle.multihash.specs.Answer.{pair_of};
+
+use crate::bytes::bytes_back;
+use multihash::list::{read_list, write_list};
+use multihash::no_std_io::{Read, Write};
+use multihash::{Error, Multihash};
+use std::alloc::Global;
+
+/// The three forms of a multihash.
+#[derive(Clone, Copy, Debug)]
+pub enum Form {
+    Binary,
+    Scale,
+    Json,
+}
+
+/// Whether the SCALE form was written to the front of `places`, and how many are left then: it is
+/// where there is room, which gives up that many, and else none is left.
+pub fn fills_scale<const S: usize>(m: &Multihash<S>, places: &mut [u8]) -> (bool, usize)
+    ensures { (bytes : List ℕ) × IsScale (pair_of m.now) bytes
+        × (IsTrue result.0 ↔ (length bytes ≤ length places.old))
+        × (result.1 ≡ length places.old - length bytes) }
+{
+    let mut left = places;
+    let is_whole = m.scale_encode(&mut left).is_ok();
+    (is_whole, left.len())
+}
+
+/// Whether the encodings of some multihashes were written to the front of `places`, and how many are
+/// left then: they are where there is room, which gives up that many, and else none is left.
+pub fn fills_list<const S: usize>(items: &[Multihash<S>], places: &mut [u8]) -> (bool, usize)
+    ensures { (bytes : List ℕ) → AreJoined (map pair_of items.now) bytes →
+        (IsTrue result.0 ↔ (length bytes ≤ length places.old))
+        × (result.1 ≡ length places.old - length bytes) }
+{
+    let mut left = places;
+    let is_whole = write_list(items, &mut left).is_ok();
+    (is_whole, left.len())
+}
+
+/// A multihash written in the SCALE form, with `more` behind it, and read from there into a buffer of
+/// its own size or another: the same pair, where it fits, and whether `more` was left, which it is.
+/// Nothing but want of memory refuses it.
+pub fn scale_back<const S: usize, const R: usize>(
+    alloc: Global,
+    m: &Multihash<S>,
+    more: &[u8],
+) -> Result<(Multihash<R>, bool), Error>
+    ensures { FitsBuffer R (pair_of m.now) →
+        MatchResult result (λ back. (pair_of back.0 ≡ pair_of m.now) × IsTrue back.1) IsMemory }
+{
+    let mut bytes = Vec::new(alloc);
+    m.scale_encode(&mut bytes)?;
+    bytes.write_all(more)?;
+    let mut left = bytes.as_slice();
+    let back = Multihash::scale_decode(&mut left)?;
+    Ok((back, left == more))
+}
+
+/// A multihash written in the JSON form, and read from it into a buffer of its own size or another: the
+/// same pair, where it fits. Nothing but want of memory refuses it.
+pub fn json_back<const S: usize, const R: usize>(
+    alloc: Global,
+    m: &Multihash<S>,
+) -> Result<Multihash<R>, Error>
+    ensures { FitsBuffer R (pair_of m.now) →
+        MatchResult result (λ back. pair_of back ≡ pair_of m.now) IsMemory }
+{
+    m.digest();
+    let value = m.to_value(alloc)?;
+    Multihash::from_value(&value)
+}
+
+/// A multihash written in any form, and read from it into a buffer of its own size or another: the same
+/// pair, where it fits. Nothing but want of memory refuses it.
+pub fn form_back<const S: usize, const R: usize>(
+    alloc: Global,
+    form: Form,
+    m: &Multihash<S>,
+) -> Result<Multihash<R>, Error>
+    ensures { FitsBuffer R (pair_of m.now) →
+        MatchResult result (λ back. pair_of back ≡ pair_of m.now) IsMemory }
+{
+    match form {
+        Form::Binary => bytes_back(alloc, m),
+        Form::Scale => Ok(scale_back(alloc, m, &[])?.0),
+        Form::Json => json_back(alloc, m),
+    }
+}
+
+/// A multihash that passes through one form into another buffer, and through a second form into a third
+/// buffer: the same pair, where it fits. Nothing but want of memory refuses it.
+pub fn forms_back<const S: usize, const M: usize, const R: usize>(
+    alloc: Global,
+    first: Form,
+    second: Form,
+    m: &Multihash<S>,
+) -> Result<(Multihash<M>, Multihash<R>), Error>
+    ensures { FitsBuffer M (pair_of m.now) → FitsBuffer R (pair_of m.now) →
+        MatchResult result
+        (λ back. (pair_of back.0 ≡ pair_of m.now) × (pair_of back.1 ≡ pair_of m.now)) IsMemory }
+{
+    let between = form_back::<S, M>(alloc, first, m)?;
+    let back = form_back::<M, R>(alloc, second, &between)?;
+    Ok((between, back))
+}
+
+/// Reads so many multihashes. Where the encodings of as many pairs that fit begin what the reader has
+/// left, and nothing fails, these pairs are read in order, and what follows them is left. Nothing but
+/// want of memory refuses it then.
+pub fn read_pairs<const S: usize, R: Read>(
+    alloc: Global,
+    r: &mut R,
+    count: usize,
+) -> Result<Vec<Multihash<S>>, Error>
+    ensures { (pairs : List Pair) (bytes more : List ℕ) → AreJoined pairs bytes →
+        All (FitsBuffer S) pairs → length pairs ≡ count → R.rest r.old ≡ Some (bytes ++ more) →
+        R.failures r.new ≡ R.failures r.old →
+        MatchResult result (λ list. (map pair_of list.items ≡ pairs) × (R.rest r.new ≡ Some more)) IsMemory }
+{
+    read_list(alloc, r, count)
+}
+
+/// Multihashes written to a stream, with `more` behind them, and read from there into buffers of their
+/// own size or another: the same pairs in order, where they fit, and whether `more` was left, which it
+/// is. Nothing but want of memory refuses it.
+pub fn stream_back<const S: usize, const R: usize>(
+    alloc: Global,
+    items: &[Multihash<S>],
+    more: &[u8],
+) -> Result<(Vec<Multihash<R>>, bool), Error>
+    ensures { All (FitsBuffer R) (map pair_of items.now) →
+        MatchResult result
+        (λ back. (map pair_of back.0.items ≡ map pair_of items.now) × IsTrue back.1) IsMemory }
+{
+    let mut bytes = Vec::new(alloc);
+    write_list(items, &mut bytes)?;
+    bytes.write_all(more)?;
+    let mut left = bytes.as_slice();
+    let back = read_pairs(alloc, &mut left, items.len())?;
+    Ok((back, left == more))
+}

@@ -1,0 +1,86 @@
+//! Merkle nodes: links, and data behind them.
+ghost use Rattle.std.specs.Prelude.{◌≡◌, ℕ, List, ◌++◌, length, map, All, Some, IfOk, OnOk, OnErr, IsTrue, MatchResult};
+ghost use Rattle.multihash.specs.Pair.{FitsBuffer};
+ghost use Rattle.multihash.specs.Joined.{AreJoined};
+ghost use Rattle.multihash.specs.Writing.{AppendsPart, CountsWriter};
+ghost use Rattle.multihash.specs.Refusal.{IsIo, IsMemory};
+ghost use Rattle.multihash.specs.Answer.{pair_of};
+
+use multihash::no_std_io::{Read, Write};
+use multihash::{Error, Multihash, list};
+use std::alloc::Global;
+
+/// Appends the links, one after another, and then the data.
+///
+/// # Errors
+///
+/// What the writer answers. A proper beginning of the node was appended then.
+pub fn write_node<const S: usize, W: Write>(
+    links: &[Multihash<S>],
+    data: &[u8],
+    w: &mut W,
+) -> Result<(), Error>
+    ensures ok { OnOk result ((bytes : List ℕ) × AreJoined (map pair_of links.now) bytes
+        × W.appended w.old (bytes ++ data.now) w.new) }
+    ensures fit { OnOk result (All (FitsBuffer S) (map pair_of links.now)) }
+    ensures err { OnErr result ((bytes : List ℕ) → AreJoined (map pair_of links.now) bytes →
+        AppendsPart W.appended w.old (bytes ++ data.now) w.new) }
+    ensures faults { CountsWriter IsIo W.allocates
+        (W.failures w.old) (W.failures w.new) (W.full w.new) result }
+{
+    list::write_list(links, w)?;
+    w.write_all(data)?;
+    Ok(())
+}
+
+/// Writes a node by any writer, and reads its links by any reader that tells what was appended: the same
+/// links, and the data is what is left.
+pub fn through<const S: usize, const T: usize, W: Write, R: Read>(
+    alloc: Global,
+    links: &[Multihash<S>],
+    data: &[u8],
+    w: &mut W,
+    r: &mut R,
+) -> Result<Vec<Multihash<T>>, Error>
+    ensures { ((bytes : List ℕ) → W.appended w.old bytes w.new → R.rest r.old ≡ Some bytes) →
+        All (FitsBuffer T) (map pair_of links.now) → R.failures r.new ≡ R.failures r.old →
+        IfOk result (λ read. (map pair_of read.items ≡ map pair_of links.now)
+        × (R.rest r.new ≡ Some data.now)) }
+{
+    write_node(links, data, w)?;
+    list::read_list(alloc, r, links.len())
+}
+
+/// A list that any writer took is read back by any reader that tells what was appended, with `more`
+/// behind it: the same values in order, and `more` is left.
+pub fn list_through<const S: usize, W: Write, R: Read>(
+    alloc: Global,
+    items: &[Multihash<S>],
+    w: &mut W,
+    r: &mut R,
+) -> Result<Vec<Multihash<S>>, Error>
+    ensures { (more : List ℕ) →
+        ((bytes : List ℕ) → W.appended w.old bytes w.new → R.rest r.old ≡ Some (bytes ++ more)) →
+        R.failures r.new ≡ R.failures r.old →
+        IfOk result (λ list. (map pair_of list.items ≡ map pair_of items.now) × (R.rest r.new ≡ Some more)) }
+{
+    list::write_list(items, w)?;
+    list::read_list(alloc, r, items.len())
+}
+
+/// A node written to memory and read from there: the same links, and whether the data was left, which it
+/// is. Nothing but want of memory refuses it.
+pub fn node_back<const S: usize>(
+    alloc: Global,
+    links: &[Multihash<S>],
+    data: &[u8],
+) -> Result<(Vec<Multihash<S>>, bool), Error>
+    ensures { MatchResult result
+        (λ back. (map pair_of back.0.items ≡ map pair_of links.now) × IsTrue back.1) IsMemory }
+{
+    let mut bytes = Vec::new(alloc);
+    write_node(links, data, &mut bytes)?;
+    let mut left = bytes.as_slice();
+    let back = list::read_list(alloc, &mut left, links.len())?;
+    Ok((back, left == data))
+}

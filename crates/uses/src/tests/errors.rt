@@ -1,0 +1,34 @@
+//! Exactly one of the tests of an error is true.
+use crate::bytes::{one_of_four, one_of_six};
+use multihash::{Multihash, no_std_io};
+use serde_json::Value;
+use std::test::Fail;
+
+#[test]
+fn one_test_of_six_is_true(rt: HostRuntime) -> Result<(), Fail> {
+    let m = Multihash::<4>::wrap(0, &[7])?;
+    for refused in [
+        Multihash::<4>::wrap(0, &[0; 5]).err(),
+        Multihash::<4>::from_bytes(&[]).err(),
+        Multihash::<4>::from_bytes(&[0xff; 12]).err(),
+        Multihash::<4>::from_bytes(&[0x80, 0]).err(),
+        Multihash::<4>::from_bytes(&[0, 1]).err(),
+        Multihash::<4>::from_value(&Value::Null).err(),
+        m.write(&mut [].as_mut_slice()).err(),
+        Some(no_std_io::Error::out_of_memory().into()),
+        Some(no_std_io::Error::other("disk gone").into()),
+    ] {
+        assert!(rt; refused.is_some_and(|e| one_of_six(&e) == 1));
+    }
+    Ok(())
+}
+
+#[test]
+fn one_test_of_four_is_true(rt: HostRuntime) {
+    for e in [
+        no_std_io::Error::out_of_memory(),
+        no_std_io::Error::other("disk gone"),
+    ] {
+        assert_eq!(rt; one_of_four(&e), 1);
+    }
+}
