@@ -1,7 +1,7 @@
 -- What a run of the program does to an input and to outputs that tell their bytes.
 use Rattle.std.specs.Prelude.{◌≤◌, ℕ, ◌⊎◌, List, ◌++◌, length, codes, Option}
 use Rattle.std.specs.Io.KnownBytes.{Appends, Consumes, IsAtEnd}
-use Rattle.multihash.specs.Bytes.{IsProperBeginning}
+use Rattle.multihash.specs.Writing.{AppendsPart}
 use Rattle.mh_show.specs.declared.run.RunError.{RunError}
 use Rattle.mh_show.specs.declared.run.RunError.TheVariants.{Input, NotShown, Output}
 use Rattle.mh_show.specs.declared.show.ShowError.TheVariants.{NotHex, Refused, Memory}
@@ -18,21 +18,23 @@ run_error_text Output = codes "output not written"
 abbrev pub error_line : List ℕ → List ℕ
 error_line text = codes "mh_show: " ++ text ++ newline
 
+-- the program reads at most so many bytes
+abbrev pub most_input : ℕ
+most_input = 65536
+
 -- the text is all that the input had
 pub record ReadsWhole (old new : Option (List ℕ)) (text : List ℕ) : Type 0 where
   pub takes : Consumes old new text
   pub at_end : IsAtEnd new
-  pub short : length text ≤ 65536
+  pub short : length text ≤ most_input
 
 -- a proper beginning of the bytes was appended
-pub record AppendsPart (old new : Option (List ℕ)) (bytes : List ℕ) : Type 0 where
-  pub part : List ℕ
-  pub proper : IsProperBeginning part bytes
-  pub appends : Appends old new part
+abbrev pub AppendsPartOf : Option (List ℕ) → Option (List ℕ) → List ℕ → Type 0
+AppendsPartOf old new bytes = AppendsPart (λ before part after. Appends before after part) old bytes new
 
 -- the bytes were appended, or a part of them
 abbrev pub TriesToAppend : Option (List ℕ) → Option (List ℕ) → List ℕ → Type 0
-TriesToAppend old new bytes = Appends old new bytes ⊎ AppendsPart old new bytes
+TriesToAppend old new bytes = Appends old new bytes ⊎ AppendsPartOf old new bytes
 
 -- the whole input was read, and the lines that show it were written
 abbrev pub ShowsInput : (old_input new_input old_out new_out : Option (List ℕ)) → Type 0
@@ -44,19 +46,22 @@ ShowsInput old_input new_input old_out new_out =
 abbrev pub ShowsPart : (old_input new_input old_out new_out : Option (List ℕ)) → Type 0
 ShowsPart old_input new_input old_out new_out =
     (text : List ℕ) × (lines : List ℕ) × ReadsWhole old_input new_input text × ShowsAs text lines
-    × AppendsPart old_out new_out lines
+    × AppendsPartOf old_out new_out lines
 
 -- what was so where that fault ended the run; `kept` says that the output is as it was
-abbrev pub EndsRun : (kept : Type 0) (old_input new_input old_out new_out : Option (List ℕ)) → RunError → Type 0
+abbrev pub EndsRun : (kept : Type 0) (old_input new_input old_out new_out : Option (List ℕ))
+    → RunError → Type 0
 EndsRun kept old_input new_input old_out new_out Input = kept
 EndsRun kept old_input new_input old_out new_out (NotShown NotHex) =
     kept × (text : List ℕ) × ReadsWhole old_input new_input text × NamesNone text
 EndsRun kept old_input new_input old_out new_out (NotShown (Refused e)) =
     kept × (text : List ℕ) × ReadsWhole old_input new_input text × IsRefusedAs text e
 EndsRun kept old_input new_input old_out new_out (NotShown Memory) = kept
-EndsRun kept old_input new_input old_out new_out Output = ShowsPart old_input new_input old_out new_out
+EndsRun kept old_input new_input old_out new_out Output =
+    ShowsPart old_input new_input old_out new_out
 
 -- the line of that fault was written, or that of want of memory, or a part of one
 abbrev pub TellsFault : Option (List ℕ) → Option (List ℕ) → RunError → Type 0
 TellsFault old new e =
-    TriesToAppend old new (error_line (run_error_text e)) ⊎ TriesToAppend old new (error_line (codes "out of memory"))
+    TriesToAppend old new (error_line (run_error_text e))
+    ⊎ TriesToAppend old new (error_line (codes "out of memory"))

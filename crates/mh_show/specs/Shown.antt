@@ -8,6 +8,10 @@ use Rattle.multihash.specs.Verdict.{Verdict, accepted, HasWholeVerdict}
 use Rattle.multihash.specs.Refusal.{Refusal}
 use Rattle.multihash.specs.Answer.{IsRefusal}
 
+-- a digest has at most so many bytes, and the program's buffer as many places
+abbrev pub most_bytes : ℕ
+most_bytes = 64
+
 -- a newline
 abbrev pub newline : List ℕ
 newline = codes "\n"
@@ -26,7 +30,8 @@ shown p =
 
 -- the line is the text without a newline at its end, where it has one
 abbrev pub IsLine : List ℕ → List ℕ → Type 0
-IsLine line text = (text ≡ line ++ newline) ⊎ ((line ≡ text) × ((front : List ℕ) → text ≢ front ++ newline))
+IsLine line text =
+    (text ≡ line ++ newline) ⊎ ((line ≡ text) × ((front : List ℕ) → text ≢ front ++ newline))
 
 -- two hexadecimal digits of either case, the higher first, name the byte
 pub record NamesByte (digits : ℕ × ℕ) (byte : ℕ) : Type 0 where
@@ -46,7 +51,7 @@ pub record NamesBytes (line bytes : List ℕ) : Type 0 where
 abbrev pub ShowsAs : List ℕ → List ℕ → Type 0
 ShowsAs text lines =
     (line : List ℕ) × (bytes : List ℕ) × (p : Pair) × IsLine line text × NamesBytes line bytes
-    × HasWholeVerdict 64 bytes (accepted p) × (lines ≡ shown p)
+    × HasWholeVerdict most_bytes bytes (accepted p) × (lines ≡ shown p)
 
 -- the text names no bytes
 abbrev pub NamesNone : List ℕ → Type 0
@@ -56,4 +61,4 @@ NamesNone text = (line bytes : List ℕ) → IsLine line text → ¬ (NamesBytes
 abbrev pub IsRefusedAs : List ℕ → Refusal → Type 0
 IsRefusedAs text e =
     (line : List ℕ) × (bytes : List ℕ) × (v : Verdict) × IsLine line text × NamesBytes line bytes
-    × HasWholeVerdict 64 bytes v × IsRefusal e v
+    × HasWholeVerdict most_bytes bytes v × IsRefusal e v

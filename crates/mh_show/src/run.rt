@@ -1,7 +1,7 @@
 //! The whole program, over any input and outputs.
 ghost use Rattle.std.specs.Prelude.{◌≡◌, ℕ, ◌≤◌, ◌<◌, ◌⊎◌, length, take, IfOk, IfErr, OnOk, OnErr};
 ghost use Rattle.std.specs.Io.KnownBytes.{Appends, Consumes, IsAtEnd};
-ghost use Rattle.mh_show.specs.Run.{ReadsWhole, AppendsPart, ShowsInput, EndsRun, TellsFault};
+ghost use Rattle.mh_show.specs.Run.{ReadsWhole, AppendsPartOf, ShowsInput, EndsRun, TellsFault};
 
 #[cfg(test)]
 mod tests;
@@ -136,7 +136,7 @@ fn read_to_end<I: Read>(input: &mut I, room: &mut [u8]) -> Result<usize, RunErro
 // Not the writer's own `write_all`, which asks again after an interruption.
 fn write_whole<W: Write>(out: &mut W, bytes: &[u8]) -> Result<(), RunError>
     ensures ok { OnOk result (Appends (W.contents out.old) (W.contents out.new) bytes.now) }
-    ensures part { OnErr result (AppendsPart (W.contents out.old) (W.contents out.new) bytes.now) }
+    ensures part { OnErr result (AppendsPartOf (W.contents out.old) (W.contents out.new) bytes.now) }
     ensures err { IfErr result (λ e. e ≡ RunError.Output) }
 {
     let mut rest = bytes;

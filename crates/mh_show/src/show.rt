@@ -5,7 +5,7 @@ ghost use Rattle.multihash.specs.Pair.{Pair};
 ghost use Rattle.multihash.specs.Verdict.{Verdict, accepted, HasWholeVerdict};
 ghost use Rattle.multihash.specs.Refusal.{Refusal};
 ghost use Rattle.multihash.specs.Answer.{pair_of, IsRefusal};
-ghost use Rattle.mh_show.specs.Shown.{shown, IsLine, NamesBytes};
+ghost use Rattle.mh_show.specs.Shown.{shown, IsLine, NamesBytes, ShowsAs, IsRefusedAs};
 ghost use Rattle.mh_show.specs.ShowError.{show_error_text};
 
 #[cfg(test)]
@@ -90,15 +90,12 @@ impl From<AllocError> for ShowError {
 /// - [`ShowError::Refused`] where its bytes are not one multihash of at most 64 bytes of digest;
 /// - [`ShowError::Memory`] where memory was refused, but never for a line of odd length.
 pub fn show(alloc: Global, text: &[u8]) -> Result<String, ShowError>
-    ensures ok { IfOk result (λ s. (line : List ℕ) × (bytes : List ℕ) × (p : Pair) × IsLine line text.now
-        × NamesBytes line bytes × HasWholeVerdict 64 bytes (accepted p) × (string_bytes s ≡ shown p)) }
+    ensures ok { IfOk result (λ s. ShowsAs text.now (string_bytes s)) }
 
     // Each refusal comes for its own reason only.
     ensures not_hex { (line bytes : List ℕ) → result ≡ Err ShowError.NotHex → IsLine line text.now
         → ¬ (NamesBytes line bytes) }
-    ensures refused { (e : Refusal) → result ≡ Err (ShowError.Refused e)
-        → (line : List ℕ) × (bytes : List ℕ) × (v : Verdict) × IsLine line text.now
-        × NamesBytes line bytes × HasWholeVerdict 64 bytes v × IsRefusal e v }
+    ensures refused { (e : Refusal) → result ≡ Err (ShowError.Refused e) → IsRefusedAs text.now e }
     ensures odd { (line : List ℕ) → IsLine line text.now → length line % 2 ≡ 1
         → result ≡ Err ShowError.NotHex }
 {

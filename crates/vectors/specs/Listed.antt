@@ -14,8 +14,8 @@ use Rattle.vectors.specs.declared.verdict.Verdict.{Verdict}
 use Rattle.vectors.specs.declared.verdict.Verdict.TheVariants.{Pair as Listed, InvalidSize, Insufficient, Overflow, NotMinimal, UnexpectedEof}
 
 -- the text is a dash for no bytes, or the bytes in hexadecimal
-abbrev pub NamesBytes : List ℕ → List ℕ → Type 0
-NamesBytes text bytes = ((text ≡ codes "-") × (bytes ≡ [])) ⊎ (decode_of text ≡ Ok bytes)
+abbrev pub ListsBytes : List ℕ → List ℕ → Type 0
+ListsBytes text bytes = ((text ≡ codes "-") × (bytes ≡ [])) ⊎ (decode_of text ≡ Ok bytes)
 
 -- the verdict that is listed
 abbrev pub meaning : Verdict → Meaning

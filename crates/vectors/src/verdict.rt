@@ -2,7 +2,7 @@
 ghost use Rattle.std.specs.Prelude.{◌↔◌, IsTrue, IfOk};
 ghost use Rattle.multihash.specs.Answer.{Answers};
 ghost use Rattle.multihash.specs.Refusal.{IsEof};
-ghost use Rattle.vectors.specs.Listed.{meaning, NamesBytes};
+ghost use Rattle.vectors.specs.Listed.{meaning, ListsBytes};
 
 use anyhow::{Context, Result, bail, ensure};
 use multihash::{Error, Multihash};
@@ -86,7 +86,7 @@ fn is_unexpected_eof(error: &Error) -> bool
 ///
 /// A text that is neither, and want of memory.
 pub fn parse_bytes(alloc: Global, text: &str) -> Result<Vec<u8>>
-    ensures { IfOk result (λ bytes. NamesBytes text.now bytes.items) }
+    ensures { IfOk result (λ bytes. ListsBytes text.now bytes.items) }
 {
     if text == "-" {
         return Ok(Vec::new(alloc));

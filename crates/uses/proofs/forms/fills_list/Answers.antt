@@ -11,6 +11,6 @@ returns g c bytes joined =
     let told = filled _ _ _ (λ b. b ≡ bytes) c.args.places.now c.write_list.new.w.now (λ part h. h)
     c.write_list.result c.is_ok-is_whole.result c.is_ok-is_whole.ensures.value
     (on_ok_weaker c.write_list.result (λ h. (h.0, joined_same _ h.0 bytes h.1 joined, h.2)) c.write_list.ensures.ok)
-    (on_err_weaker c.write_list.result (λ h. (bytes, refl, h bytes joined)) c.write_list.ensures.err)
+    (on_err_weaker c.write_list.result (λ h. (bytes, refl, h bytes joined)) c.write_list.ensures.any)
     c.write_list.ensures.faults in
     (rw told.1 at told.2, rw told.1 at told.3)
