@@ -100,21 +100,30 @@ no_low_digit byte h = let none = h.is_low in cc
 no_lower_first : ¬ (NamesBytes (codes "10") (0x01 ∷ []))
 unfolding decode_pairs
 no_lower_first h =
-    omega (arith, ap (λ (z : List ℕ). get_or z 0 0)
-    (bytes_unique (codes "10") (0x01 ∷ []) (0x10 ∷ []) h (decoded_names (codes "10") (0x10 ∷ []) refl)))
+    omega (
+      arith,
+      ap (λ (z : List ℕ). get_or z 0 0)
+          (bytes_unique (codes "10") (0x01 ∷ []) (0x10 ∷ []) h (decoded_names (codes "10") (0x10 ∷ []) refl)),
+    )
 
 no_fewer_bytes : ¬ (NamesBytes (codes "0001") (0 ∷ []))
 unfolding decode_pairs
 no_fewer_bytes h =
-    omega (arith, ap (λ (z : List ℕ). length z)
-    (bytes_unique (codes "0001") (0 ∷ []) (0 ∷ 1 ∷ []) h (decoded_names (codes "0001") (0 ∷ 1 ∷ []) refl)))
+    omega (
+      arith,
+      ap (λ (z : List ℕ). length z)
+          (bytes_unique (codes "0001") (0 ∷ []) (0 ∷ 1 ∷ []) h (decoded_names (codes "0001") (0 ∷ 1 ∷ []) refl)),
+    )
 
 -- each two digits in their order
 no_other_order : ¬ (NamesBytes (codes "0001") (1 ∷ 0 ∷ []))
 unfolding decode_pairs
 no_other_order h =
-    omega (arith, ap (λ (z : List ℕ). get_or z 0 0)
-    (bytes_unique (codes "0001") (1 ∷ 0 ∷ []) (0 ∷ 1 ∷ []) h (decoded_names (codes "0001") (0 ∷ 1 ∷ []) refl)))
+    omega (
+      arith,
+      ap (λ (z : List ℕ). get_or z 0 0)
+          (bytes_unique (codes "0001") (1 ∷ 0 ∷ []) (0 ∷ 1 ∷ []) h (decoded_names (codes "0001") (0 ∷ 1 ∷ []) refl)),
+    )
 
 -- ---- what a text shows
 

@@ -112,6 +112,9 @@ scale_full = (
 pub scale_size_first : HasScaleVerdict 4 (0 ∷ 0 ∷ 0 ∷ 0 ∷ 0 ∷ 0 ∷ 0 ∷ 0 ∷ 5 ∷ []) (invalid_size 5)
 scale_size_first = ([], record { code = 0; code_bytes = zeros; is_code = zero_code; cut = refl }, omega arith)
 
+pub scale_size_behind : HasScaleVerdict 4 (zeros ++ 5 ∷ 7 ∷ []) (invalid_size 5)
+scale_size_behind = (7 ∷ [], record { code = 0; code_bytes = zeros; is_code = zero_code; cut = refl }, omega arith)
+
 -- the longest digest
 scale_255 : IsScale (pair 0 (replicate 255 7)) (zeros ++ 255 ∷ replicate 255 7)
 scale_255 = record { code = zeros; is_code = zero_code; size = omega arith; spelled = refl }

@@ -182,14 +182,20 @@ fails_not_behind_varint h =
 -- ---- a refused `read`
 
 digest_missing : HasVerdict 4 (0 ∷ 4 ∷ []) unexpected_eof
-digest_missing = (4, [], record {
-  code = 0;
-  code_bytes = 0 ∷ [];
-  size_bytes = 4 ∷ [];
-  is_code = varint_0;
-  is_size = varint_4;
-  cut = refl;
-}, omega arith, omega arith)
+digest_missing = (
+  4,
+  [],
+  record {
+    code = 0;
+    code_bytes = 0 ∷ [];
+    size_bytes = 4 ∷ [];
+    is_code = varint_0;
+    is_size = varint_4;
+    cut = refl;
+  },
+  omega arith,
+  omega arith,
+)
 
 -- what has a verdict that stays has no early end
 not_early : (S : ℕ) (input : List ℕ) (v w : Verdict) → HasVerdict S input w → ¬ (IsEarlyEnd w) → HasVerdict S input v → ¬ (IsEarlyEnd v)

@@ -224,8 +224,11 @@ no_other_code h =
 
 no_longer_digest : ¬ (HasVerdict 4 (0x00 ∷ 0x00 ∷ 0x07 ∷ []) (accepted (pair 0 (0x07 ∷ []))))
 no_longer_digest h =
-    omega (arith, ap (λ (v : Verdict). length (digest_named v))
-    (verdict_unique 4 (0x00 ∷ 0x00 ∷ 0x07 ∷ []) (accepted (pair 0 (0x07 ∷ []))) (accepted (pair 0 [])) h empty_digest_and_one_more))
+    omega (
+      arith,
+      ap (λ (v : Verdict). length (digest_named v))
+          (verdict_unique 4 (0x00 ∷ 0x00 ∷ 0x07 ∷ []) (accepted (pair 0 (0x07 ∷ []))) (accepted (pair 0 [])) h empty_digest_and_one_more),
+    )
 
 abbrev five : List ℕ
 five = 0x01 ∷ 0x02 ∷ 0x03 ∷ 0x04 ∷ 0x05 ∷ []
@@ -296,8 +299,11 @@ nothing_left_over (p, rest, begins, fits, count, some) = omega (arith, some)
 
 no_other_count_left_over : ¬ (HasWholeVerdict 4 (0x00 ∷ 0x00 ∷ 0x07 ∷ []) (invalid_size 2))
 no_other_count_left_over h =
-    omega (arith, ap size_named
-    (whole_verdict_unique 4 (0x00 ∷ 0x00 ∷ 0x07 ∷ []) (invalid_size 2) (invalid_size 1) h (inr one_left_over)))
+    omega (
+      arith,
+      ap size_named
+          (whole_verdict_unique 4 (0x00 ∷ 0x00 ∷ 0x07 ∷ []) (invalid_size 2) (invalid_size 1) h (inr one_left_over)),
+    )
 
 -- nothing is left over of what begins with no pair
 none_left_over_of_fault : ¬ (HasWholeVerdict 4 (0x80 ∷ []) (invalid_size 1))
@@ -309,9 +315,12 @@ none_left_over_of_fault h =
 -- nor behind a digest that doesn't fit
 none_left_over_above_limit : ¬ (HasWholeVerdict 4 (0x00 ∷ 0x05 ∷ five ++ 0x09 ∷ []) (invalid_size 1))
 none_left_over_above_limit h =
-    omega (arith, ap size_named
-    (whole_verdict_unique 4 (0x00 ∷ 0x05 ∷ five ++ 0x09 ∷ []) (invalid_size 1) (invalid_size 5) h
-    (inl (five ++ 0x09 ∷ [], size_5 (five ++ 0x09 ∷ []), omega arith))))
+    omega (
+      arith,
+      ap size_named
+          (whole_verdict_unique 4 (0x00 ∷ 0x05 ∷ five ++ 0x09 ∷ []) (invalid_size 1) (invalid_size 5) h
+          (inl (five ++ 0x09 ∷ [], size_5 (five ++ 0x09 ∷ []), omega arith))),
+    )
 
 no_pair_but_the_whole : ¬ (HasWholeVerdict 4 (0x00 ∷ 0x00 ∷ 0x07 ∷ []) (accepted (pair 0 [])))
 no_pair_but_the_whole h =
@@ -348,8 +357,11 @@ open_code_is_none rest h =
 -- no byte of the code is left
 code_leaves_what_follows : ¬ (HasCode (0x00 ∷ 0x07 ∷ []) (0x00 ∷ 0x07 ∷ []))
 code_leaves_what_follows h =
-    omega (arith, ap (λ (z : List ℕ). length z)
-    (same_number (0x00 ∷ 0x07 ∷ []) h.code 0 (0x00 ∷ 0x07 ∷ []) (0x07 ∷ []) (h.code_bytes, h.is_code, h.cut) (0x00 ∷ [], varint_0, refl)).1)
+    omega (
+      arith,
+      ap (λ (z : List ℕ). length z)
+          (same_number (0x00 ∷ 0x07 ∷ []) h.code 0 (0x00 ∷ 0x07 ∷ []) (0x07 ∷ []) (h.code_bytes, h.is_code, h.cut) (0x00 ∷ [], varint_0, refl)).1,
+    )
 
 has_size : HasSize 5 (0x00 ∷ 0x05 ∷ 0x07 ∷ []) (0x07 ∷ [])
 has_size = size_5 (0x07 ∷ [])
