@@ -58,7 +58,8 @@ settles_after_two = record { front = 0 ∷ 5 ∷ []; shortest = shortest_of_size
 
 settles_after_no_other : (count : ℕ) → (count ≡ 2 → ⊥) → ¬ (SettlesAfter 4 (0 ∷ 5 ∷ 9 ∷ []) count)
 settles_after_no_other count other h =
-    other (sym h.long ∙ ap (λ (z : List ℕ). length z) (shortest_unique 4 (0 ∷ 5 ∷ 9 ∷ []) h.front (0 ∷ 5 ∷ []) h.shortest shortest_of_size))
+    other (sym h.long ∙ ap (λ (z : List ℕ). length z)
+    (shortest_unique 4 (0 ∷ 5 ∷ 9 ∷ []) h.front (0 ∷ 5 ∷ []) h.shortest shortest_of_size))
 
 -- no count is listed of an early end, and of nothing else
 taken_of_early_end : IsTaken 4 [] (faulty insufficient) None
@@ -71,12 +72,17 @@ abbrev size_after : ℕ → Option ℕ → Reading
 size_after size taken = record { verdict = InvalidSize size; taken = taken }
 
 reading_of_size : IsReading 4 (0 ∷ 5 ∷ 9 ∷ []) (size_after 5 (Some 2))
-reading_of_size = record { verdict = (9 ∷ [], size_5 (9 ∷ []), omega arith); taken = settles_after_two }
+reading_of_size =
+    record { verdict = (9 ∷ [], size_5 (9 ∷ []), omega arith); taken = settles_after_two }
 
 no_reading_of_other_size : ¬ (IsReading 4 (0 ∷ 5 ∷ 9 ∷ []) (size_after 6 (Some 2)))
 no_reading_of_other_size h =
-    omega (arith, ap size_named
-    (verdict_unique 4 (0 ∷ 5 ∷ 9 ∷ []) (invalid_size 6) (invalid_size 5) h.verdict (9 ∷ [], size_5 (9 ∷ []), omega arith)))
+    omega (
+      arith,
+      ap size_named
+          (verdict_unique 4 (0 ∷ 5 ∷ 9 ∷ []) (invalid_size 6) (invalid_size 5) h.verdict
+          (9 ∷ [], size_5 (9 ∷ []), omega arith)),
+    )
 
 no_reading_after_three : ¬ (IsReading 4 (0 ∷ 5 ∷ 9 ∷ []) (size_after 5 (Some 3)))
 no_reading_after_three h = settles_after_no_other 3 (λ e. omega (arith, e)) h.taken
@@ -86,9 +92,15 @@ no_reading_without_count h = h.taken
 
 -- ---- readings of the SCALE form
 
-before_nine : (shorter : List ℕ) → IsProperBeginning shorter (zeros ++ 5 ∷ []) → HasScaleVerdict 4 shorter unexpected_eof
+before_nine : (shorter : List ℕ) → IsProperBeginning shorter (zeros ++ 5 ∷ [])
+    → HasScaleVerdict 4 shorter unexpected_eof
 before_nine shorter (rest, some, cut) =
-    inl (omega (arith, some_items rest some, ap (λ (z : List ℕ). length z) cut, length-append shorter rest))
+    inl (omega (
+      arith,
+      some_items rest some,
+      ap (λ (z : List ℕ). length z) cut,
+      length-append shorter rest,
+    ))
 
 decodes_after_nine : DecodesAfter 4 (zeros ++ 5 ∷ 7 ∷ []) 9
 decodes_after_nine = record {
@@ -106,9 +118,12 @@ decodes_after_no_ten : ¬ (DecodesAfter 4 (zeros ++ 5 ∷ 7 ∷ []) 10)
 decodes_after_no_ten h =
     let (rest, cut) = h.begins in
     let (whole, none) = same_cut h.front (zeros ++ 5 ∷ 7 ∷ []) rest [] h.long (sym cut) in
-    let ends = h.shortest (zeros ++ 5 ∷ []) (7 ∷ [], (λ e. omega (arith, ap (λ (z : List ℕ). length z) e)), whole) in
+    let ends =
+    h.shortest (zeros ++ 5 ∷ [])
+    (7 ∷ [], (λ e. omega (arith, ap (λ (z : List ℕ). length z) e)), whole) in
     let same : unexpected_eof ≡ invalid_size 5 =
-    scale_verdict_unique 4 (zeros ++ 5 ∷ []) unexpected_eof (invalid_size 5) ends scale_size_first in
+    scale_verdict_unique 4 (zeros ++ 5 ∷ []) unexpected_eof
+    (invalid_size 5) ends scale_size_first in
     cc
 
 -- what ends early decodes after no byte
@@ -127,8 +142,12 @@ no_scale_reading_without_count h = let e = h.1 in cc
 
 no_scale_reading_of_other_size : ¬ (IsScaleReading 4 (zeros ++ 5 ∷ 7 ∷ []) (size_after 6 (Some 9)))
 no_scale_reading_of_other_size h =
-    omega (arith, ap size_named
-    (scale_verdict_unique 4 (zeros ++ 5 ∷ 7 ∷ []) (invalid_size 6) (invalid_size 5) h.0 scale_size_behind))
+    omega (
+      arith,
+      ap size_named
+          (scale_verdict_unique 4 (zeros ++ 5 ∷ 7 ∷ []) (invalid_size 6)
+          (invalid_size 5) h.0 scale_size_behind),
+    )
 
 scale_cut_has_no_count : IsScaleTaken 4 (zeros ++ 3 ∷ 0xaa ∷ 0xbb ∷ []) unexpected_eof None
 scale_cut_has_no_count = refl
@@ -171,16 +190,23 @@ takes_as_listed = ((λ early. early), refl)
 takes_no_other_count : ¬ (TakesAsReadListed (0 ∷ 5 ∷ 9 ∷ []) [] (size_after 5 (Some 2)))
 takes_no_other_count h = omega (arith, h.1)
 
-takes_no_count_of_early_end : ¬ (TakesAsReadListed (0x80 ∷ []) [] (record { verdict = Insufficient; taken = Some 1 }))
+takes_no_count_of_early_end : ¬ (TakesAsReadListed (0x80 ∷ []) [] (record {
+  verdict = Insufficient;
+  taken = Some 1;
+}))
 takes_no_count_of_early_end h = h.0 tt
 
 decoding_takes_as_listed : TakesAsScaleListed (zeros ++ 5 ∷ 7 ∷ []) (7 ∷ []) (size_after 5 (Some 9))
 decoding_takes_as_listed = ((λ e. cc), refl)
 
-decoding_takes_no_other_count : ¬ (TakesAsScaleListed (zeros ++ 5 ∷ 7 ∷ []) [] (size_after 5 (Some 9)))
+decoding_takes_no_other_count : ¬
+    (TakesAsScaleListed (zeros ++ 5 ∷ 7 ∷ []) [] (size_after 5 (Some 9)))
 decoding_takes_no_other_count h = omega (arith, h.1)
 
-decoding_takes_no_count_of_end : ¬ (TakesAsScaleListed zeros [] (record { verdict = UnexpectedEof; taken = Some 8 }))
+decoding_takes_no_count_of_end : ¬ (TakesAsScaleListed zeros [] (record {
+  verdict = UnexpectedEof;
+  taken = Some 8;
+}))
 decoding_takes_no_count_of_end h = h.0 refl
 
 decoding_lists_a_count_of_size : ¬ (TakesAsScaleListed (zeros ++ 5 ∷ []) [] (size_after 5 None))
