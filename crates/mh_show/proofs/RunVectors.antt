@@ -19,7 +19,8 @@ input_text = refl
 output_text : run_error_text Output ≡ codes "output not written"
 output_text = refl
 
-not_shown_text : run_error_text (NotShown (Refused (of_varint not_minimal))) ≡ codes "encoding is not minimal"
+not_shown_text : run_error_text (NotShown (Refused (of_varint not_minimal)))
+    ≡ codes "encoding is not minimal"
 not_shown_text = refl
 
 line_of_input : error_line (run_error_text Input) ≡ codes "mh_show: input not read\n"
@@ -39,7 +40,8 @@ leaves_no_text : ¬ (ReadsWhole (Some (codes "0000")) (Some (codes "00")) (codes
 leaves_no_text h = omega (arith, ap (λ (z : List ℕ). length z) h.at_end)
 
 reads_the_longest : (text : List ℕ) → length text ≡ 65536 → ReadsWhole (Some text) (Some []) text
-reads_the_longest text long = record { takes = sym (append-nil text); at_end = refl; short = omega (arith, long) }
+reads_the_longest text long =
+    record { takes = sym (append-nil text); at_end = refl; short = omega (arith, long) }
 
 reads_no_longer : (text : List ℕ) → length text ≡ 65537 → ¬ (ReadsWhole (Some text) (Some []) text)
 reads_no_longer text long h = omega (arith, long, h.short)
@@ -68,13 +70,19 @@ appends_no_whole h =
     )
 
 -- the bytes that begin an output are known
-first_of : (part rest bytes new : List ℕ) → bytes ≡ part ++ rest → new ≡ part → 0 < length new → get_or bytes 0 0 ≡ get_or new 0 0
+first_of : (part rest bytes new : List ℕ) → bytes ≡ part ++ rest → new ≡ part → 0 < length new
+    → get_or bytes 0 0 ≡ get_or new 0 0
 first_of [] rest bytes new cut is some = absurd (omega (arith, ap (λ (z : List ℕ). length z) is))
-first_of (c ∷ part) rest bytes new cut is some = ap (λ (z : List ℕ). get_or z 0 0) cut ∙ sym (ap (λ (z : List ℕ). get_or z 0 0) is)
+first_of (c ∷ part) rest bytes new cut is some =
+    ap (λ (z : List ℕ). get_or z 0 0) cut ∙ sym (ap (λ (z : List ℕ). get_or z 0 0) is)
 
 appends_no_other_part : ¬ (AppendsPart (Some []) (Some (codes "b")) (codes "ab"))
 appends_no_other_part h =
-    omega (arith, first_of h.part h.proper.0 (codes "ab") (codes "b") h.proper.2 h.appends (omega arith))
+    omega (
+      arith,
+      first_of h.part h.proper.0 (codes "ab") (codes "b") h.proper.2 h.appends
+          (omega arith),
+    )
 
 tries_with_all : TriesToAppend (Some (codes "x")) (Some (codes "xab")) (codes "ab")
 tries_with_all = inl refl
@@ -95,17 +103,22 @@ text_is whole text h = append_cancel_right text whole [] (sym h.takes ∙ sym (a
 abbrev shown_empty : List ℕ
 shown_empty = codes "code 0\nsize 0\ndigest -\n"
 
-shows_input : ShowsInput (Some (codes "0000\n")) (Some []) (Some (codes "x")) (Some (codes "xcode 0\nsize 0\ndigest -\n"))
+shows_input : ShowsInput (Some (codes "0000\n")) (Some []) (Some (codes "x"))
+    (Some (codes "xcode 0\nsize 0\ndigest -\n"))
 shows_input = (codes "0000\n", shown_empty, reads_whole, shows_0000, refl)
 
 -- nothing is left of the input
-shows_the_whole_input : (out : List ℕ) → ¬ (ShowsInput (Some (codes "0000\n")) (Some (codes "\n")) (Some []) (Some out))
-shows_the_whole_input out (text, lines, reads, shows, appends) = omega (arith, ap (λ (z : List ℕ). length z) reads.at_end)
+shows_the_whole_input : (out : List ℕ)
+    → ¬ (ShowsInput (Some (codes "0000\n")) (Some (codes "\n")) (Some []) (Some out))
+shows_the_whole_input out (text, lines, reads, shows, appends) =
+    omega (arith, ap (λ (z : List ℕ). length z) reads.at_end)
 
 -- the lines are those of the text, and all of them
 shows_all_lines : ¬ (ShowsInput (Some (codes "0000\n")) (Some []) (Some []) (Some []))
 shows_all_lines (text, lines, reads, shows, appends) =
-    let is = shows_only lines (subst (λ (z : List ℕ). ShowsAs z lines) (text_is (codes "0000\n") text reads) shows) in
+    let is =
+    shows_only lines
+    (subst (λ (z : List ℕ). ShowsAs z lines) (text_is (codes "0000\n") text reads) shows) in
     omega (arith, ap (λ (z : List ℕ). length z) is, ap (λ (z : List ℕ). length z) appends)
 
 shows_part : ShowsPart (Some (codes "0000\n")) (Some []) (Some []) (Some (codes "code"))
@@ -116,14 +129,20 @@ shows_part = (
   shows_0000,
   record {
     part = codes "code";
-    proper = (codes " 0\nsize 0\ndigest -\n", (λ e. omega (arith, ap (λ (z : List ℕ). length z) e)), refl);
+    proper = (
+      codes " 0\nsize 0\ndigest -\n",
+      (λ e. omega (arith, ap (λ (z : List ℕ). length z) e)),
+      refl,
+    );
     appends = refl;
   },
 )
 
 no_part_is_all : ¬ (ShowsPart (Some (codes "0000\n")) (Some []) (Some []) (Some shown_empty))
 no_part_is_all (text, lines, reads, shows, part) =
-    let is = shows_only lines (subst (λ (z : List ℕ). ShowsAs z lines) (text_is (codes "0000\n") text reads) shows) in
+    let is =
+    shows_only lines
+    (subst (λ (z : List ℕ). ShowsAs z lines) (text_is (codes "0000\n") text reads) shows) in
     let (rest, some, cut) = part.proper in
     omega (
       arith,
@@ -134,8 +153,10 @@ no_part_is_all (text, lines, reads, shows, part) =
       length-append part.part rest,
     )
 
-no_part_of_an_input_left : (out : List ℕ) → ¬ (ShowsPart (Some (codes "0000\n")) (Some (codes "0000\n")) (Some []) (Some out))
-no_part_of_an_input_left out (text, lines, reads, shows, part) = omega (arith, ap (λ (z : List ℕ). length z) reads.at_end)
+no_part_of_an_input_left : (out : List ℕ)
+    → ¬ (ShowsPart (Some (codes "0000\n")) (Some (codes "0000\n")) (Some []) (Some out))
+no_part_of_an_input_left out (text, lines, reads, shows, part) =
+    omega (arith, ap (λ (z : List ℕ). length z) reads.at_end)
 
 -- ---- the faults that end a run: where one of them says more than that the output is kept, its input is known
 
@@ -143,7 +164,8 @@ no_part_of_an_input_left out (text, lines, reads, shows, part) = omega (arith, a
 ends_at_input : EndsRun ⊤ (Some (codes "0")) (Some (codes "0")) (Some []) (Some []) Input
 ends_at_input = tt
 
-input_keeps_output : (input output new_input new_output : Option (List ℕ)) → ¬ (EndsRun ⊥ input output new_input new_output Input)
+input_keeps_output : (input output new_input new_output : Option (List ℕ))
+    → ¬ (EndsRun ⊥ input output new_input new_output Input)
 input_keeps_output input output new_input new_output h = h
 
 memory_keeps_output : (input output new_input new_output : Option (List ℕ))
@@ -158,34 +180,53 @@ refusal_keeps_output : (e : Refusal) (input output new_input new_output : Option
     → ¬ (EndsRun ⊥ input output new_input new_output (NotShown (Refused e)))
 refusal_keeps_output e input output new_input new_output h = h.0
 
-ends_at_no_digits : EndsRun ⊤ (Some (codes "00\n\n")) (Some []) (Some []) (Some []) (NotShown NotHex)
-ends_at_no_digits = (tt, codes "00\n\n", record { takes = refl; at_end = refl; short = omega arith }, second_newline_names_none)
+ends_at_no_digits : EndsRun ⊤ (Some (codes "00\n\n")) (Some []) (Some []) (Some [])
+    (NotShown NotHex)
+ends_at_no_digits = (
+  tt,
+  codes "00\n\n",
+  record { takes = refl; at_end = refl; short = omega arith },
+  second_newline_names_none,
+)
 
 -- a text that names bytes is hexadecimal
 digits_are_hex : ¬ (EndsRun ⊤ (Some (codes "00\n")) (Some []) (Some []) (Some []) (NotShown NotHex))
 digits_are_hex (kept, text, reads, none) =
     digits_name_some (subst (λ (z : List ℕ). NamesNone z) (text_is (codes "00\n") text reads) none)
 
-digits_are_looked_at_whole : ¬ (EndsRun ⊤ (Some (codes "zz")) (Some (codes "z")) (Some []) (Some []) (NotShown NotHex))
-digits_are_looked_at_whole (kept, text, reads, none) = omega (arith, ap (λ (z : List ℕ). length z) reads.at_end)
+digits_are_looked_at_whole : ¬
+    (EndsRun ⊤ (Some (codes "zz")) (Some (codes "z")) (Some []) (Some []) (NotShown NotHex))
+digits_are_looked_at_whole (kept, text, reads, none) =
+    omega (arith, ap (λ (z : List ℕ). length z) reads.at_end)
 
-ends_at_refusal : EndsRun ⊤ (Some (codes "8000\n")) (Some []) (Some []) (Some []) (NotShown (Refused (of_varint not_minimal)))
-ends_at_refusal = (tt, codes "8000\n", record { takes = refl; at_end = refl; short = omega arith }, refused_padded)
+ends_at_refusal : EndsRun ⊤ (Some (codes "8000\n")) (Some []) (Some []) (Some [])
+    (NotShown (Refused (of_varint not_minimal)))
+ends_at_refusal = (
+  tt,
+  codes "8000\n",
+  record { takes = refl; at_end = refl; short = omega arith },
+  refused_padded,
+)
 
 -- a pair is refused for nothing
-pair_is_not_refused : (e : Refusal) → ¬ (EndsRun ⊤ (Some (codes "0000\n")) (Some []) (Some []) (Some []) (NotShown (Refused e)))
+pair_is_not_refused : (e : Refusal)
+    → ¬ (EndsRun ⊤ (Some (codes "0000\n")) (Some []) (Some []) (Some []) (NotShown (Refused e)))
 pair_is_not_refused e (kept, text, reads, refused) =
-    no_pair_refused e (subst (λ (z : List ℕ). IsRefusedAs z e) (text_is (codes "0000\n") text reads) refused)
+    no_pair_refused e
+    (subst (λ (z : List ℕ). IsRefusedAs z e) (text_is (codes "0000\n") text reads) refused)
 
 refused_when_read_whole : (e : Refusal)
-    → ¬ (EndsRun ⊤ (Some (codes "8000\n")) (Some (codes "8000\n")) (Some []) (Some []) (NotShown (Refused e)))
-refused_when_read_whole e (kept, text, reads, refused) = omega (arith, ap (λ (z : List ℕ). length z) reads.at_end)
+    → ¬ (EndsRun ⊤ (Some (codes "8000\n")) (Some (codes "8000\n")) (Some []) (Some [])
+    (NotShown (Refused e)))
+refused_when_read_whole e (kept, text, reads, refused) =
+    omega (arith, ap (λ (z : List ℕ). length z) reads.at_end)
 
 ends_at_output : EndsRun ⊥ (Some (codes "0000\n")) (Some []) (Some []) (Some (codes "code")) Output
 ends_at_output = shows_part
 
 -- a run that wrote all its lines didn't end there
-output_was_not_written : ¬ (EndsRun ⊥ (Some (codes "0000\n")) (Some []) (Some []) (Some shown_empty) Output)
+output_was_not_written : ¬
+    (EndsRun ⊥ (Some (codes "0000\n")) (Some []) (Some []) (Some shown_empty) Output)
 output_was_not_written h = no_part_is_all h
 
 -- ---- the line that tells a fault
@@ -199,21 +240,30 @@ tells_memory = inr (inl refl)
 tells_nothing : TellsFault (Some (codes "x")) (Some (codes "x")) Input
 tells_nothing = inl (inr (record {
   part = [];
-  proper = (error_line (codes "input not read"), (λ e. omega (arith, ap (λ (z : List ℕ). length z) e)), refl);
+  proper = (
+    error_line (codes "input not read"),
+    (λ e. omega (arith, ap (λ (z : List ℕ). length z) e)),
+    refl,
+  );
   appends = refl;
 }))
 
-first_tried : (new line : List ℕ) → 0 < length new → TriesToAppend (Some []) (Some new) line → get_or line 0 0 ≡ get_or new 0 0
+first_tried : (new line : List ℕ) → 0 < length new → TriesToAppend (Some []) (Some new) line
+    → get_or line 0 0 ≡ get_or new 0 0
 first_tried new line some (inl e) = ap (λ (z : List ℕ). get_or z 0 0) (sym e)
-first_tried new line some (inr part) = first_of part.part part.proper.0 line new part.proper.2 part.appends some
+first_tried new line some (inr part) =
+    first_of part.part part.proper.0 line new part.proper.2 part.appends some
 
 -- no other bytes are written
 tells_no_other_bytes : ¬ (TellsFault (Some []) (Some (codes "x")) Input)
-tells_no_other_bytes (inl tries) = omega (arith, first_tried (codes "x") (error_line (codes "input not read")) (omega arith) tries)
-tells_no_other_bytes (inr tries) = omega (arith, first_tried (codes "x") (error_line (codes "out of memory")) (omega arith) tries)
+tells_no_other_bytes (inl tries) =
+    omega (arith, first_tried (codes "x") (error_line (codes "input not read")) (omega arith) tries)
+tells_no_other_bytes (inr tries) =
+    omega (arith, first_tried (codes "x") (error_line (codes "out of memory")) (omega arith) tries)
 
 -- nor the line of another fault
-longer_than : (new line : List ℕ) → length line < length new → ¬ (TriesToAppend (Some []) (Some new) line)
+longer_than : (new line : List ℕ) → length line < length new
+    → ¬ (TriesToAppend (Some []) (Some new) line)
 longer_than new line more (inl e) = omega (arith, more, ap (λ (z : List ℕ). length z) e)
 longer_than new line more (inr part) =
     omega (
@@ -226,6 +276,8 @@ longer_than new line more (inr part) =
 
 tells_no_other_fault : ¬ (TellsFault (Some []) (Some (codes "mh_show: output not written\n")) Input)
 tells_no_other_fault (inl tries) =
-    longer_than (codes "mh_show: output not written\n") (error_line (codes "input not read")) (omega arith) tries
+    longer_than (codes "mh_show: output not written\n") (error_line (codes "input not read"))
+    (omega arith) tries
 tells_no_other_fault (inr tries) =
-    longer_than (codes "mh_show: output not written\n") (error_line (codes "out of memory")) (omega arith) tries
+    longer_than (codes "mh_show: output not written\n") (error_line (codes "out of memory"))
+    (omega arith) tries

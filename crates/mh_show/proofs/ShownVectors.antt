@@ -103,7 +103,8 @@ no_lower_first h =
     omega (
       arith,
       ap (λ (z : List ℕ). get_or z 0 0)
-          (bytes_unique (codes "10") (0x01 ∷ []) (0x10 ∷ []) h (decoded_names (codes "10") (0x10 ∷ []) refl)),
+          (bytes_unique (codes "10") (0x01 ∷ []) (0x10 ∷ []) h
+          (decoded_names (codes "10") (0x10 ∷ []) refl)),
     )
 
 no_fewer_bytes : ¬ (NamesBytes (codes "0001") (0 ∷ []))
@@ -112,7 +113,8 @@ no_fewer_bytes h =
     omega (
       arith,
       ap (λ (z : List ℕ). length z)
-          (bytes_unique (codes "0001") (0 ∷ []) (0 ∷ 1 ∷ []) h (decoded_names (codes "0001") (0 ∷ 1 ∷ []) refl)),
+          (bytes_unique (codes "0001") (0 ∷ []) (0 ∷ 1 ∷ []) h
+          (decoded_names (codes "0001") (0 ∷ 1 ∷ []) refl)),
     )
 
 -- each two digits in their order
@@ -122,16 +124,19 @@ no_other_order h =
     omega (
       arith,
       ap (λ (z : List ℕ). get_or z 0 0)
-          (bytes_unique (codes "0001") (1 ∷ 0 ∷ []) (0 ∷ 1 ∷ []) h (decoded_names (codes "0001") (0 ∷ 1 ∷ []) refl)),
+          (bytes_unique (codes "0001") (1 ∷ 0 ∷ []) (0 ∷ 1 ∷ []) h
+          (decoded_names (codes "0001") (0 ∷ 1 ∷ []) refl)),
     )
 
 -- ---- what a text shows
 
 -- a text that ends with a newline names one list of bytes
-bytes_of : (line bytes : List ℕ) → NamesBytes line bytes → (l b : List ℕ) → IsLine l (line ++ newline) → NamesBytes l b → b ≡ bytes
+bytes_of : (line bytes : List ℕ) → NamesBytes line bytes → (l b : List ℕ)
+    → IsLine l (line ++ newline) → NamesBytes l b → b ≡ bytes
 bytes_of line bytes named l b is names =
     bytes_unique line b bytes
-    (subst (λ (z : List ℕ). NamesBytes z b) (line_unique (line ++ newline) l line is (inl refl)) names) named
+    (subst (λ (z : List ℕ). NamesBytes z b)
+    (line_unique (line ++ newline) l line is (inl refl)) names) named
 
 named_0000 : NamesBytes (codes "0000") (0 ∷ 0 ∷ [])
 unfolding decode_pairs
@@ -158,7 +163,8 @@ unfolding decode_pairs
 named_8000 = decoded_names (codes "8000") (0x80 ∷ 0 ∷ []) refl
 
 whole_0000 : HasWholeVerdict 64 (0 ∷ 0 ∷ []) (accepted (pair 0 []))
-whole_0000 = (record { code = 0 ∷ []; size = 0 ∷ []; is_code = varint_0; is_size = varint_0; spelled = refl }, omega arith)
+whole_0000 =
+    (record { code = 0 ∷ []; size = 0 ∷ []; is_code = varint_0; is_size = varint_0; spelled = refl }, omega arith)
 
 whole_00 : HasWholeVerdict 64 (0 ∷ []) (faulty insufficient)
 whole_00 =
@@ -196,31 +202,41 @@ unfolding digits
 shows_0000 = (codes "0000", 0 ∷ 0 ∷ [], pair 0 [], inl refl, named_0000, whole_0000, refl)
 
 -- and shows no other lines
-pub shows_only : (lines : List ℕ) → ShowsAs (codes "0000\n") lines → lines ≡ codes "code 0\nsize 0\ndigest -\n"
+pub shows_only : (lines : List ℕ) → ShowsAs (codes "0000\n") lines
+    → lines ≡ codes "code 0\nsize 0\ndigest -\n"
 unfolding digits
 shows_only lines (line, bytes, p, is, names, whole, e) =
     let same : accepted p ≡ accepted (pair 0 []) =
     whole_verdict_unique 64 (0 ∷ 0 ∷ []) (accepted p) (accepted (pair 0 []))
-    (subst (λ (z : List ℕ). HasWholeVerdict 64 z (accepted p)) (bytes_of (codes "0000") (0 ∷ 0 ∷ []) named_0000 line bytes is names) whole)
+    (subst (λ (z : List ℕ). HasWholeVerdict 64 z (accepted p))
+    (bytes_of (codes "0000") (0 ∷ 0 ∷ []) named_0000 line bytes is names) whole)
     whole_0000 in
     let of : p ≡ pair 0 [] = cc in
     subst (λ (q : Pair). lines ≡ shown q) of e
 
 shows_no_other_code : ¬ (ShowsAs (codes "0000\n") (codes "code 1\nsize 0\ndigest -\n"))
-shows_no_other_code h = omega (arith, ap (λ (z : List ℕ). get_or z 5 0) (shows_only (codes "code 1\nsize 0\ndigest -\n") h))
+shows_no_other_code h =
+    omega (
+      arith,
+      ap (λ (z : List ℕ). get_or z 5 0)
+          (shows_only (codes "code 1\nsize 0\ndigest -\n") h),
+    )
 
 -- a text that names no bytes shows nothing
 no_digits_show : (lines : List ℕ) → ¬ (ShowsAs (codes "zz\n") lines)
 unfolding decode_pairs
 no_digits_show lines (line, bytes, p, is, names, whole, e) =
-    cc (named_decodes (codes "zz") bytes (subst (λ (z : List ℕ). NamesBytes z bytes) (line_unique (codes "zz\n") line (codes "zz") is (inl refl)) names))
+    cc (named_decodes (codes "zz") bytes
+    (subst (λ (z : List ℕ). NamesBytes z bytes)
+    (line_unique (codes "zz\n") line (codes "zz") is (inl refl)) names))
 
 -- nor bytes that are refused
 no_refused_bytes_show : (lines : List ℕ) → ¬ (ShowsAs (codes "0001\n") lines)
 no_refused_bytes_show lines (line, bytes, p, is, names, whole, e) =
     let same : accepted p ≡ unexpected_eof =
     whole_verdict_unique 64 (0 ∷ 1 ∷ []) (accepted p) unexpected_eof
-    (subst (λ (z : List ℕ). HasWholeVerdict 64 z (accepted p)) (bytes_of (codes "0001") (0 ∷ 1 ∷ []) named_0001 line bytes is names) whole)
+    (subst (λ (z : List ℕ). HasWholeVerdict 64 z (accepted p))
+    (bytes_of (codes "0001") (0 ∷ 1 ∷ []) named_0001 line bytes is names) whole)
     whole_0001 in
     cc
 
@@ -230,7 +246,9 @@ no_refused_bytes_show lines (line, bytes, p, is, names, whole, e) =
 pub second_newline_names_none : NamesNone (codes "00\n\n")
 unfolding decode_pairs
 second_newline_names_none line bytes is names =
-    cc (named_decodes (codes "00\n") bytes (subst (λ (z : List ℕ). NamesBytes z bytes) (line_unique (codes "00\n\n") line (codes "00\n") is (inl refl)) names))
+    cc (named_decodes (codes "00\n") bytes
+    (subst (λ (z : List ℕ). NamesBytes z bytes)
+    (line_unique (codes "00\n\n") line (codes "00\n") is (inl refl)) names))
 
 pub digits_name_some : ¬ (NamesNone (codes "00\n"))
 digits_name_some none = none (codes "00") (0 ∷ []) (inl refl) named_00
@@ -239,20 +257,24 @@ refused_code_alone : IsRefusedAs (codes "00\n") (of_varint insufficient)
 refused_code_alone = (codes "00", 0 ∷ [], faulty insufficient, inl refl, named_00, whole_00, refl)
 
 pub refused_padded : IsRefusedAs (codes "8000\n") (of_varint not_minimal)
-refused_padded = (codes "8000", 0x80 ∷ 0 ∷ [], faulty not_minimal, inl refl, named_8000, whole_8000, refl)
+refused_padded =
+    (codes "8000", 0x80 ∷ 0 ∷ [], faulty not_minimal, inl refl, named_8000, whole_8000, refl)
 
 -- the buffer has 64 places
 refused_65 : IsRefusedAs (codes "0041\n") (of_size 65)
 refused_65 = (codes "0041", 0 ∷ 65 ∷ [], invalid_size 65, inl refl, named_0041, whole_0041, refl)
 
 refused_without_64 : IsRefusedAs (codes "0040\n") (of_io eof)
-refused_without_64 = (codes "0040", 0 ∷ 64 ∷ [], unexpected_eof, inl refl, named_0040, whole_0040, (eof, refl, refl))
+refused_without_64 =
+    (codes "0040", 0 ∷ 64 ∷ [], unexpected_eof, inl refl, named_0040, whole_0040, (eof, refl, refl))
 
 refused_for_no_other_fault : ¬ (IsRefusedAs (codes "8000\n") (of_varint overflow))
 refused_for_no_other_fault (line, bytes, v, is, names, whole, refuses) =
     let same : v ≡ faulty not_minimal =
     whole_verdict_unique 64 (0x80 ∷ 0 ∷ []) v (faulty not_minimal)
-    (subst (λ (z : List ℕ). HasWholeVerdict 64 z v) (bytes_of (codes "8000") (0x80 ∷ 0 ∷ []) named_8000 line bytes is names) whole) whole_8000 in
+    (subst (λ (z : List ℕ). HasWholeVerdict 64 z v)
+    (bytes_of (codes "8000")
+    (0x80 ∷ 0 ∷ []) named_8000 line bytes is names) whole) whole_8000 in
     let e = subst (λ (w : Verdict). IsRefusal (of_varint overflow) w) same refuses in
     cc
 
@@ -260,7 +282,8 @@ refused_for_no_other_size : ¬ (IsRefusedAs (codes "0041\n") (of_size 64))
 refused_for_no_other_size (line, bytes, v, is, names, whole, refuses) =
     let same : v ≡ invalid_size 65 =
     whole_verdict_unique 64 (0 ∷ 65 ∷ []) v (invalid_size 65)
-    (subst (λ (z : List ℕ). HasWholeVerdict 64 z v) (bytes_of (codes "0041") (0 ∷ 65 ∷ []) named_0041 line bytes is names) whole) whole_0041 in
+    (subst (λ (z : List ℕ). HasWholeVerdict 64 z v)
+    (bytes_of (codes "0041") (0 ∷ 65 ∷ []) named_0041 line bytes is names) whole) whole_0041 in
     omega (arith, ap size_in (subst (λ (w : Verdict). IsRefusal (of_size 64) w) same refuses))
 
 -- a pair is refused for nothing
@@ -268,11 +291,14 @@ pub no_pair_refused : (e : Refusal) → ¬ (IsRefusedAs (codes "0000\n") e)
 no_pair_refused e (line, bytes, v, is, names, whole, refuses) =
     let same : v ≡ accepted (pair 0 []) =
     whole_verdict_unique 64 (0 ∷ 0 ∷ []) v (accepted (pair 0 []))
-    (subst (λ (z : List ℕ). HasWholeVerdict 64 z v) (bytes_of (codes "0000") (0 ∷ 0 ∷ []) named_0000 line bytes is names) whole) whole_0000 in
+    (subst (λ (z : List ℕ). HasWholeVerdict 64 z v)
+    (bytes_of (codes "0000") (0 ∷ 0 ∷ []) named_0000 line bytes is names) whole) whole_0000 in
     subst (λ (w : Verdict). IsRefusal e w) same refuses
 
 -- a text that names no bytes is refused in another way
 no_digits_refused : (e : Refusal) → ¬ (IsRefusedAs (codes "zz\n") e)
 unfolding decode_pairs
 no_digits_refused e (line, bytes, v, is, names, whole, refuses) =
-    cc (named_decodes (codes "zz") bytes (subst (λ (z : List ℕ). NamesBytes z bytes) (line_unique (codes "zz\n") line (codes "zz") is (inl refl)) names))
+    cc (named_decodes (codes "zz") bytes
+    (subst (λ (z : List ℕ). NamesBytes z bytes)
+    (line_unique (codes "zz\n") line (codes "zz") is (inl refl)) names))

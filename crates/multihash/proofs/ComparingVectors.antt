@@ -46,7 +46,8 @@ abbrev eight : List ℕ → List ℕ
 eight front = front ++ 0 ∷ 0 ∷ 0 ∷ 0 ∷ 0 ∷ 0 ∷ 0 ∷ []
 
 -- the code, the digest's length, and each byte
-feeds_code_length_and_bytes : hashed_pair (pair 3 (codes "AB")) ≡ eight (3 ∷ []) ∷ eight (2 ∷ []) ∷ (65 ∷ []) ∷ (66 ∷ []) ∷ []
+feeds_code_length_and_bytes : hashed_pair (pair 3 (codes "AB")) ≡ eight (3 ∷ []) ∷ eight
+    (2 ∷ []) ∷ (65 ∷ []) ∷ (66 ∷ []) ∷ []
 unfolding le_bytes
 feeds_code_length_and_bytes = refl
 

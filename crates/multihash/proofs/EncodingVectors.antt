@@ -13,7 +13,14 @@ encodes_ab : IsEncoding (pair 0 (codes "ab")) (0x00 ∷ 0x02 ∷ 0x61 ∷ 0x62 �
 encodes_ab = record { code = 0x00 ∷ []; size = 0x02 ∷ []; is_code = varint_0; is_size = varint_2; spelled = refl }
 
 encodes_nothing : IsEncoding (pair 0 []) (0x00 ∷ 0x00 ∷ [])
-encodes_nothing = record { code = 0x00 ∷ []; size = 0x00 ∷ []; is_code = varint_0; is_size = varint_0; spelled = refl }
+encodes_nothing =
+    record {
+      code = 0x00 ∷ [];
+      size = 0x00 ∷ [];
+      is_code = varint_0;
+      is_size = varint_0;
+      spelled = refl;
+    }
 
 encodes_128 : IsEncoding (pair 128 []) (0x80 ∷ 0x01 ∷ 0x00 ∷ [])
 encodes_128 = record { code = 0x80 ∷ 0x01 ∷ []; size = 0x00 ∷ []; is_code = varint_128; is_size = varint_0; spelled = refl }
@@ -82,20 +89,30 @@ no_code_alone code digest e = omega (arith, encoding_shortest (pair code digest)
 no_other_code : ¬ (IsEncoding (pair 1 (codes "ab")) (0x00 ∷ 0x02 ∷ 0x61 ∷ 0x62 ∷ []))
 no_other_code e =
     let (same, bytes, rest) =
-    encoding_unique (pair 1 (codes "ab")) (pair 0 (codes "ab")) (0x00 ∷ 0x02 ∷ 0x61 ∷ 0x62 ∷ []) (0x00 ∷ 0x02 ∷ 0x61 ∷ 0x62 ∷ []) [] [] e encodes_ab refl in
+    encoding_unique (pair 1 (codes "ab")) (pair 0 (codes "ab")) (0x00 ∷ 0x02 ∷ 0x61 ∷ 0x62 ∷ [])
+    (0x00 ∷ 0x02 ∷ 0x61 ∷ 0x62 ∷ []) [] [] e encodes_ab refl in
     omega (arith, ap (λ (p : Pair). p.code) same)
 
 no_other_digest : ¬ (IsEncoding (pair 0 (codes "ac")) (0x00 ∷ 0x02 ∷ 0x61 ∷ 0x62 ∷ []))
 no_other_digest e =
     let (same, bytes, rest) =
-    encoding_unique (pair 0 (codes "ac")) (pair 0 (codes "ab")) (0x00 ∷ 0x02 ∷ 0x61 ∷ 0x62 ∷ []) (0x00 ∷ 0x02 ∷ 0x61 ∷ 0x62 ∷ []) [] [] e encodes_ab refl in
+    encoding_unique (pair 0 (codes "ac")) (pair 0 (codes "ab")) (0x00 ∷ 0x02 ∷ 0x61 ∷ 0x62 ∷ [])
+    (0x00 ∷ 0x02 ∷ 0x61 ∷ 0x62 ∷ []) [] [] e encodes_ab refl in
     omega (arith, ap (λ (p : Pair). get_or p.digest 1 0) same)
 
 -- a size is its shortest bytes
 no_padded_size : ¬ (IsEncoding (pair 0 []) (0x00 ∷ 0x80 ∷ 0x00 ∷ []))
 no_padded_size e =
-    omega (arith, ap (λ (z : List ℕ). length z) (encoding_same (pair 0 []) (0x00 ∷ 0x80 ∷ 0x00 ∷ []) (0x00 ∷ 0x00 ∷ []) e encodes_nothing))
+    omega (
+      arith,
+      ap (λ (z : List ℕ). length z)
+          (encoding_same (pair 0 []) (0x00 ∷ 0x80 ∷ 0x00 ∷ []) (0x00 ∷ 0x00 ∷ []) e encodes_nothing),
+    )
 
 no_padded_code : ¬ (IsEncoding (pair 0 []) (0x80 ∷ 0x00 ∷ 0x00 ∷ []))
 no_padded_code e =
-    omega (arith, ap (λ (z : List ℕ). length z) (encoding_same (pair 0 []) (0x80 ∷ 0x00 ∷ 0x00 ∷ []) (0x00 ∷ 0x00 ∷ []) e encodes_nothing))
+    omega (
+      arith,
+      ap (λ (z : List ℕ). length z)
+          (encoding_same (pair 0 []) (0x80 ∷ 0x00 ∷ 0x00 ∷ []) (0x00 ∷ 0x00 ∷ []) e encodes_nothing),
+    )

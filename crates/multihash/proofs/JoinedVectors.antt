@@ -27,7 +27,8 @@ joined_one = record {
   joined = refl;
 }
 
-pub joined_two : AreJoined (pair 0 (codes "A") ∷ pair 1 (codes "B") ∷ []) (0 ∷ 1 ∷ 65 ∷ 1 ∷ 1 ∷ 66 ∷ [])
+pub joined_two : AreJoined (pair 0 (codes "A") ∷ pair 1 (codes "B") ∷ [])
+    (0 ∷ 1 ∷ 65 ∷ 1 ∷ 1 ∷ 66 ∷ [])
 joined_two = record {
   encodings = (0 ∷ 1 ∷ 65 ∷ []) ∷ (1 ∷ 1 ∷ 66 ∷ []) ∷ [];
   each = (

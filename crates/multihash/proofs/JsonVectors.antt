@@ -12,7 +12,8 @@ use Rattle.multihash.proofs.VerdictLemmas.{encoding_same}
 use Rattle.multihash.proofs.JsonLemmas.{no_256, no_text, no_null, no_negative, no_float, array_unique}
 
 json_list_encodes : IsEncoding (pair 0 (codes "A")) (0 ∷ 1 ∷ 65 ∷ [])
-json_list_encodes = record { code = 0 ∷ []; size = 1 ∷ []; is_code = varint_0; is_size = varint_1; spelled = refl }
+json_list_encodes =
+    record { code = 0 ∷ []; size = 1 ∷ []; is_code = varint_0; is_size = varint_1; spelled = refl }
 
 json_list : IsJsonList (pair 0 (codes "A")) (array (item (number (unsigned 0)) (item (number (unsigned 1)) (item (number (unsigned 65)) no_items))))
 json_list = record {
@@ -55,13 +56,15 @@ not_another_order h =
 lists_no_other_bytes : ¬ (IsJsonList (pair 0 (codes "A")) (number_array (0 ∷ 1 ∷ 66 ∷ [])))
 lists_no_other_bytes h =
     let bytes = array_unique (0 ∷ 1 ∷ 66 ∷ []) h.encoding h.lists in
-    let same = encoding_same (pair 0 (codes "A")) h.encoding (0 ∷ 1 ∷ 65 ∷ []) h.encodes json_list_encodes in
+    let same =
+    encoding_same (pair 0 (codes "A")) h.encoding (0 ∷ 1 ∷ 65 ∷ []) h.encodes json_list_encodes in
     omega (arith, ap (λ (z : List ℕ). get_or z 2 0) (bytes ∙ same))
 
 lists_no_digest_alone : ¬ (IsJsonList (pair 0 (codes "A")) (number_array (65 ∷ [])))
 lists_no_digest_alone h =
     let bytes = array_unique (65 ∷ []) h.encoding h.lists in
-    let same = encoding_same (pair 0 (codes "A")) h.encoding (0 ∷ 1 ∷ 65 ∷ []) h.encodes json_list_encodes in
+    let same =
+    encoding_same (pair 0 (codes "A")) h.encoding (0 ∷ 1 ∷ 65 ∷ []) h.encodes json_list_encodes in
     omega (arith, ap (λ (z : List ℕ). length z) (bytes ∙ same))
 
 -- and no text
@@ -71,8 +74,11 @@ lists_no_text h = let e = h.lists in cc
 null_is_no_array : (bytes : List ℕ) → ¬ (IsByteArray null bytes)
 null_is_no_array = no_null
 
-negative_is_no_member : (z : ℤ) (bytes : List ℕ) → ¬ (IsByteArray (array (item (number (unsigned 0)) (item (number (negative z)) no_items))) bytes)
+negative_is_no_member : (z : ℤ) (bytes : List ℕ)
+    → ¬ (IsByteArray
+    (array (item (number (unsigned 0)) (item (number (negative z)) no_items))) bytes)
 negative_is_no_member z bytes = no_negative (number (unsigned 0) ∷ []) [] z bytes
 
-float_is_no_member : (x : Float) (bytes : List ℕ) → ¬ (IsByteArray (array (item (number (unsigned 0)) (item (number (float x)) no_items))) bytes)
+float_is_no_member : (x : Float) (bytes : List ℕ)
+    → ¬ (IsByteArray (array (item (number (unsigned 0)) (item (number (float x)) no_items))) bytes)
 float_is_no_member x bytes = no_float (number (unsigned 0) ∷ []) [] x bytes

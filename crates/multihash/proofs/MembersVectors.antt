@@ -45,7 +45,8 @@ nothing_after_no_byte : byte_then None (8 ∷ []) ≡ []
 nothing_after_no_byte = refl
 
 -- up to the first that is none
-leading_two : leading_bytes (number (unsigned 1) ∷ number (unsigned 2) ∷ null ∷ number (unsigned 3) ∷ []) ≡ 1 ∷ 2 ∷ []
+leading_two : leading_bytes
+    (number (unsigned 1) ∷ number (unsigned 2) ∷ null ∷ number (unsigned 3) ∷ []) ≡ 1 ∷ 2 ∷ []
 leading_two = refl
 
 leading_none : leading_bytes (null ∷ number (unsigned 3) ∷ []) ≡ []

@@ -89,24 +89,28 @@ not_smaller_than_itself = IsSmallerWhereFirstDifferent-irrefl (codes "a")
 
 -- each way of coming before, refuted where only its own part fails
 larger_code_comes_not_before : ¬ (ComesBefore (pair 1 []) (pair 0 (codes "a")))
-larger_code_comes_not_before h = ComesBefore-asym (pair 1 []) (pair 0 (codes "a")) h (inl (omega arith))
+larger_code_comes_not_before h =
+    ComesBefore-asym (pair 1 []) (pair 0 (codes "a")) h (inl (omega arith))
 
 larger_code_comes_not_before_by_bytes : ¬ (ComesBefore (pair 1 (codes "ab")) (pair 0 (codes "ac")))
-larger_code_comes_not_before_by_bytes h = ComesBefore-asym (pair 1 (codes "ab")) (pair 0 (codes "ac")) h (inl (omega arith))
+larger_code_comes_not_before_by_bytes h =
+    ComesBefore-asym (pair 1 (codes "ab")) (pair 0 (codes "ac")) h (inl (omega arith))
 
 longer_comes_not_before : ¬ (ComesBefore (pair 0 (codes "aaa")) (pair 0 (codes "ab")))
 longer_comes_not_before h =
     ComesBefore-asym (pair 0 (codes "aaa")) (pair 0 (codes "ab")) h (inr (inl (refl, omega arith)))
 
 larger_byte_comes_not_before : ¬ (ComesBefore (pair 0 (codes "ac")) (pair 0 (codes "ab")))
-larger_byte_comes_not_before h = ComesBefore-asym (pair 0 (codes "ac")) (pair 0 (codes "ab")) h by_bytes
+larger_byte_comes_not_before h =
+    ComesBefore-asym (pair 0 (codes "ac")) (pair 0 (codes "ab")) h by_bytes
 
 comes_not_before_itself : ¬ (ComesBefore (pair 0 (codes "ab")) (pair 0 (codes "ab")))
 comes_not_before_itself h = ComesBefore-asym (pair 0 (codes "ab")) (pair 0 (codes "ab")) h h
 
 -- and in what order they compare
 greater_only : (o : Ordering) → Compares (pair 1 (codes "a")) (pair 0 (codes "a")) o → o ≡ Greater
-greater_only o h = compares_unique (pair 1 (codes "a")) (pair 0 (codes "a")) o Greater h greater_code
+greater_only o h =
+    compares_unique (pair 1 (codes "a")) (pair 0 (codes "a")) o Greater h greater_code
 
 by_bytes_only : (o : Ordering) → Compares (pair 0 (codes "ab")) (pair 0 (codes "ac")) o → o ≡ Less
 by_bytes_only o h = compares_unique (pair 0 (codes "ab")) (pair 0 (codes "ac")) o Less h by_bytes

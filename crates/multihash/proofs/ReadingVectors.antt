@@ -144,7 +144,8 @@ left s = Some s.0
 abbrev failed : State → ℕ
 failed s = s.1
 
-reads_two : ReadLaws left failed (1 ∷ 2 ∷ 3 ∷ [], 0) (3 ∷ [], 0) (7 ∷ 8 ∷ 9 ∷ []) (1 ∷ 2 ∷ 9 ∷ []) (Ok 2)
+reads_two : ReadLaws left failed (1 ∷ 2 ∷ 3 ∷ [], 0) (3 ∷ [], 0) (7 ∷ 8 ∷ 9 ∷ []) (1 ∷ 2 ∷ 9 ∷ [])
+    (Ok 2)
 reads_two = record {
   count = omega arith;
   beyond = refl;
@@ -155,7 +156,15 @@ reads_two = record {
 }
 
 reads_end : ReadLaws left failed ([], 0) ([], 0) (7 ∷ []) (7 ∷ []) (Ok 0)
-reads_end = record { count = omega arith; beyond = refl; faults = refl; takes = refl; at_end = λ none some. refl; err = tt }
+reads_end =
+    record {
+      count = omega arith;
+      beyond = refl;
+      faults = refl;
+      takes = refl;
+      at_end = λ none some. refl;
+      err = tt;
+    }
 
 -- an empty buffer tells of no end
 reads_into_nothing : ReadLaws left failed (1 ∷ [], 0) (1 ∷ [], 0) [] [] (Ok 0)
@@ -178,10 +187,12 @@ reads_with_fault = record {
   err = refl;
 }
 
-counts_no_more_than_places : ¬ (ReadLaws left failed (1 ∷ 2 ∷ 3 ∷ [], 0) (3 ∷ [], 0) (7 ∷ 8 ∷ []) (1 ∷ 2 ∷ []) (Ok 3))
+counts_no_more_than_places : ¬
+    (ReadLaws left failed (1 ∷ 2 ∷ 3 ∷ [], 0) (3 ∷ [], 0) (7 ∷ 8 ∷ []) (1 ∷ 2 ∷ []) (Ok 3))
 counts_no_more_than_places h = omega (arith, h.count)
 
-writes_not_beyond_count : ¬ (ReadLaws left failed (1 ∷ 2 ∷ [], 0) (2 ∷ [], 0) (7 ∷ 8 ∷ []) (1 ∷ 9 ∷ []) (Ok 1))
+writes_not_beyond_count : ¬
+    (ReadLaws left failed (1 ∷ 2 ∷ [], 0) (2 ∷ [], 0) (7 ∷ 8 ∷ []) (1 ∷ 9 ∷ []) (Ok 1))
 writes_not_beyond_count h = omega (arith, ap (λ (z : List ℕ). get_or z 0 0) h.beyond)
 
 reads_with_no_hidden_fault : ¬ (ReadLaws left failed (1 ∷ [], 0) ([], 1) (7 ∷ []) (1 ∷ []) (Ok 1))
@@ -190,8 +201,10 @@ reads_with_no_hidden_fault h = omega (arith, h.faults)
 reads_no_other_bytes : ¬ (ReadLaws left failed (1 ∷ 2 ∷ [], 0) (2 ∷ [], 0) (7 ∷ []) (5 ∷ []) (Ok 1))
 reads_no_other_bytes h = omega (arith, ap (λ (o : Option (List ℕ)). get_or (told o) 0 0) h.takes)
 
-reads_nothing_at_end_alone : ¬ (ReadLaws left failed (1 ∷ [], 0) (1 ∷ [], 0) (7 ∷ []) (7 ∷ []) (Ok 0))
-reads_nothing_at_end_alone h = omega (arith, ap (λ (z : List ℕ). length z) (h.at_end refl (omega arith)))
+reads_nothing_at_end_alone : ¬
+    (ReadLaws left failed (1 ∷ [], 0) (1 ∷ [], 0) (7 ∷ []) (7 ∷ []) (Ok 0))
+reads_nothing_at_end_alone h =
+    omega (arith, ap (λ (z : List ℕ). length z) (h.at_end refl (omega arith)))
 
 fails_and_takes_nothing : ¬ (ReadLaws left failed (1 ∷ [], 0) ([], 1) (7 ∷ []) (7 ∷ []) (Err other))
 fails_and_takes_nothing h = omega (arith, ap (λ (o : Option (List ℕ)). length (told o)) h.err)
@@ -217,10 +230,12 @@ fills_with_no_hidden_fault : ¬ (Filling (1 ∷ [], 0) ([], 1) (7 ∷ []) (1 ∷
 fills_with_no_hidden_fault h = omega (arith, h.faults)
 
 fails_with_a_counted_fault : ¬ (Filling (1 ∷ [], 0) (1 ∷ [], 0) (7 ∷ []) (7 ∷ []) (Err other))
-fails_with_a_counted_fault h = elim h.faults [ inl counted ↦ omega (arith, counted.0) | inr listed ↦ cc ]
+fails_with_a_counted_fault h =
+    elim h.faults [ inl counted ↦ omega (arith, counted.0) | inr listed ↦ cc ]
 
 fills_with_no_other_bytes : ¬ (Filling (1 ∷ 2 ∷ [], 0) (2 ∷ [], 0) (7 ∷ []) (5 ∷ []) (Ok 0))
-fills_with_no_other_bytes h = omega (arith, ap (λ (o : Option (List ℕ)). get_or (told o) 0 0) h.takes)
+fills_with_no_other_bytes h =
+    omega (arith, ap (λ (o : Option (List ℕ)). get_or (told o) 0 0) h.takes)
 
 fills_no_places_always : ¬ (Filling (1 ∷ [], 0) (1 ∷ [], 1) [] [] (Err other))
 fills_no_places_always h = false≢true (h.empty refl)

@@ -48,16 +48,21 @@ decoding_refuses_no_value (inr (f, e, kind)) = cc
 -- ---- what was taken
 
 -- nine bytes, and those behind them are left
-takes_nine : TakesAtScaleRefusal 4 (of_size 5) (Some (zeros ++ 5 ∷ 0xaa ∷ 0xbb ∷ [])) (Some (0xaa ∷ 0xbb ∷ []))
+takes_nine : TakesAtScaleRefusal 4 (of_size 5) (Some (zeros ++ 5 ∷ 0xaa ∷ 0xbb ∷ []))
+    (Some (0xaa ∷ 0xbb ∷ []))
 takes_nine = record {
   taken = zeros ++ 5 ∷ [];
   takes = refl;
-  size = λ size given.
-      (subst (λ (n : ℕ). HasScaleVerdict 4 (zeros ++ 5 ∷ []) (invalid_size n)) (ap size_in given) scale_size_first, refl);
+  size = λ size given. (
+    subst (λ (n : ℕ). HasScaleVerdict 4 (zeros ++ 5 ∷ []) (invalid_size n))
+        (ap size_in given) scale_size_first,
+    refl,
+  );
   early = λ ends. elim ends [ inl end ↦ absurd (cc (end.1)) | inr own ↦ absurd (cc (own.1)) ];
 }
 
-takes_a_cut_digest : TakesAtScaleRefusal 4 (of_io eof) (Some (zeros ++ 3 ∷ 0xaa ∷ 0xbb ∷ [])) (Some [])
+takes_a_cut_digest : TakesAtScaleRefusal 4 (of_io eof) (Some (zeros ++ 3 ∷ 0xaa ∷ 0xbb ∷ []))
+    (Some [])
 takes_a_cut_digest = record {
   taken = zeros ++ 3 ∷ 0xaa ∷ 0xbb ∷ [];
   takes = refl;
@@ -85,21 +90,29 @@ takes_no_other_size : ¬ (TakesAtScaleRefusal 4 (of_size 6) (Some (zeros ++ 5 �
 takes_no_other_size h =
     let same : invalid_size 6 ≡ invalid_size 5 =
     scale_verdict_unique 4 (zeros ++ 5 ∷ []) (invalid_size 6) (invalid_size 5)
-    (subst (λ (z : List ℕ). HasScaleVerdict 4 z (invalid_size 6)) (taken_is (zeros ++ 5 ∷ []) [] h.taken h.takes) (h.size 6 refl).0)
+    (subst (λ (z : List ℕ). HasScaleVerdict 4 z (invalid_size 6))
+    (taken_is (zeros ++ 5 ∷ []) [] h.taken h.takes) (h.size 6 refl).0)
     scale_size_first in
     omega (arith, ap size_named same)
 
 -- no byte behind the size
-takes_no_more_than_nine : ¬ (TakesAtScaleRefusal 4 (of_size 5) (Some (zeros ++ 5 ∷ 7 ∷ [])) (Some []))
+takes_no_more_than_nine : ¬
+    (TakesAtScaleRefusal 4 (of_size 5) (Some (zeros ++ 5 ∷ 7 ∷ [])) (Some []))
 takes_no_more_than_nine h =
-    omega (arith, (h.size 5 refl).1, ap (λ (z : List ℕ). length z) (taken_is (zeros ++ 5 ∷ 7 ∷ []) [] h.taken h.takes))
+    omega (
+      arith,
+      (h.size 5 refl).1,
+      ap (λ (z : List ℕ). length z)
+          (taken_is (zeros ++ 5 ∷ 7 ∷ []) [] h.taken h.takes),
+    )
 
 -- no end where a pair is whole
 ends_not_behind_pair : ¬ (TakesAtScaleRefusal 4 (of_io eof) (Some (zeros ++ 0 ∷ [])) (Some []))
 ends_not_behind_pair h =
     let same : unexpected_eof ≡ accepted (pair 0 []) =
     scale_verdict_unique 4 (zeros ++ 0 ∷ []) unexpected_eof (accepted (pair 0 []))
-    (subst (λ (z : List ℕ). HasScaleVerdict 4 z unexpected_eof) (taken_is (zeros ++ 0 ∷ []) [] h.taken h.takes)
+    (subst (λ (z : List ℕ). HasScaleVerdict 4 z unexpected_eof)
+    (taken_is (zeros ++ 0 ∷ []) [] h.taken h.takes)
     (h.early (inl (eof, refl, refl)))) scale_empty_digest_of_4 in
     cc
 
@@ -108,6 +121,7 @@ fails_not_behind_size : ¬ (TakesAtScaleRefusal 4 (of_io other) (Some (zeros ++ 
 fails_not_behind_size h =
     let same : unexpected_eof ≡ invalid_size 5 =
     scale_verdict_unique 4 (zeros ++ 5 ∷ []) unexpected_eof (invalid_size 5)
-    (subst (λ (z : List ℕ). HasScaleVerdict 4 z unexpected_eof) (taken_is (zeros ++ 5 ∷ []) [] h.taken h.takes)
+    (subst (λ (z : List ℕ). HasScaleVerdict 4 z unexpected_eof)
+    (taken_is (zeros ++ 5 ∷ []) [] h.taken h.takes)
     (h.early (inr (other, refl, inl refl)))) scale_size_first in
     cc

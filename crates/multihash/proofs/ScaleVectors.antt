@@ -33,10 +33,12 @@ zero_code = record { eight = refl; are_bytes = all_below 256 zeros refl; value =
 pub scale_eight_bytes : HasScaleVerdict 4 (0 ∷ 0 ∷ 0 ∷ 0 ∷ 0 ∷ 0 ∷ 0 ∷ 0 ∷ []) unexpected_eof
 scale_eight_bytes = inl (omega arith)
 
-pub scale_cut : HasScaleVerdict 4 (0 ∷ 0 ∷ 0 ∷ 0 ∷ 0 ∷ 0 ∷ 0 ∷ 0 ∷ 3 ∷ 0xaa ∷ 0xbb ∷ []) unexpected_eof
+pub scale_cut : HasScaleVerdict 4
+    (0 ∷ 0 ∷ 0 ∷ 0 ∷ 0 ∷ 0 ∷ 0 ∷ 0 ∷ 3 ∷ 0xaa ∷ 0xbb ∷ []) unexpected_eof
 scale_cut = inr (3, 0xaa ∷ 0xbb ∷ [], record { code = 0; code_bytes = zeros; is_code = zero_code; cut = refl }, omega arith, omega arith)
 
-pub scale_size_above : HasScaleVerdict 4 (0 ∷ 0 ∷ 0 ∷ 0 ∷ 0 ∷ 0 ∷ 0 ∷ 0 ∷ 5 ∷ 0xaa ∷ 0xbb ∷ []) (invalid_size 5)
+pub scale_size_above : HasScaleVerdict 4 (0 ∷ 0 ∷ 0 ∷ 0 ∷ 0 ∷ 0 ∷ 0 ∷ 0 ∷ 5 ∷ 0xaa ∷ 0xbb ∷ [])
+    (invalid_size 5)
 scale_size_above = (0xaa ∷ 0xbb ∷ [], record { code = 0; code_bytes = zeros; is_code = zero_code; cut = refl }, omega arith)
 
 scale_decoded : HasScaleVerdict 4 (0x12 ∷ 0 ∷ 0 ∷ 0 ∷ 0 ∷ 0 ∷ 0 ∷ 0 ∷ 1 ∷ 0xaa ∷ 0xbb ∷ []) (accepted (pair 18 (0xaa ∷ [])))
@@ -112,6 +114,10 @@ scale_full = (
 pub scale_size_first : HasScaleVerdict 4 (0 ∷ 0 ∷ 0 ∷ 0 ∷ 0 ∷ 0 ∷ 0 ∷ 0 ∷ 5 ∷ []) (invalid_size 5)
 scale_size_first = ([], record { code = 0; code_bytes = zeros; is_code = zero_code; cut = refl }, omega arith)
 
+pub scale_size_behind : HasScaleVerdict 4 (zeros ++ 5 ∷ 7 ∷ []) (invalid_size 5)
+scale_size_behind =
+    (7 ∷ [], record { code = 0; code_bytes = zeros; is_code = zero_code; cut = refl }, omega arith)
+
 -- the longest digest
 scale_255 : IsScale (pair 0 (replicate 255 7)) (zeros ++ 255 ∷ replicate 255 7)
 scale_255 = record { code = zeros; is_code = zero_code; size = omega arith; spelled = refl }
@@ -161,11 +167,23 @@ no_other_code h =
 -- and the digest, with nothing behind it
 no_byte_behind : ¬ (IsScale (pair 0 []) (zeros ++ 0 ∷ 7 ∷ []))
 no_byte_behind h =
-    omega (arith, ap (λ (z : List ℕ). length z) h.spelled, h.is_code.eight, length-append h.code (0 ∷ []))
+    omega (
+      arith,
+      ap (λ (z : List ℕ). length z) h.spelled,
+      h.is_code.eight,
+      length-append h.code
+          (0 ∷ []),
+    )
 
 no_digest_without_size : ¬ (IsScale (pair 0 (7 ∷ [])) (zeros ++ 7 ∷ []))
 no_digest_without_size h =
-    omega (arith, ap (λ (z : List ℕ). length z) h.spelled, h.is_code.eight, length-append h.code (1 ∷ 7 ∷ []))
+    omega (
+      arith,
+      ap (λ (z : List ℕ). length z) h.spelled,
+      h.is_code.eight,
+      length-append h.code
+          (1 ∷ 7 ∷ []),
+    )
 
 size_behind_code : HasScaleSize 5 (zeros ++ 5 ∷ 7 ∷ []) (7 ∷ [])
 size_behind_code = record { code = 0; code_bytes = zeros; is_code = zero_code; cut = refl }
@@ -182,7 +200,13 @@ no_size_in_code h =
 
 no_other_rest : ¬ (HasScaleSize 5 (zeros ++ 5 ∷ 7 ∷ []) [])
 no_other_rest h =
-    omega (arith, ap (λ (z : List ℕ). length z) h.cut, h.is_code.eight, length-append h.code_bytes (5 ∷ []))
+    omega (
+      arith,
+      ap (λ (z : List ℕ). length z) h.cut,
+      h.is_code.eight,
+      length-append h.code_bytes
+          (5 ∷ []),
+    )
 
 -- no verdict but one
 no_size_that_fits : ¬ (HasScaleVerdict 5 (zeros ++ 5 ∷ 0xaa ∷ 0xbb ∷ []) (invalid_size 5))
@@ -193,7 +217,8 @@ no_other_size_named (rest, has, large) =
     let same = same_cut has.code_bytes zeros (6 ∷ rest) (5 ∷ []) has.is_code.eight (sym has.cut) in
     omega (arith, ap (λ (z : List ℕ). get_or z 0 0) same.1)
 
-no_varint_is_read : (S : ℕ) (input : List ℕ) (fault : VarintFault) → ¬ (HasScaleVerdict S input (faulty fault))
+no_varint_is_read : (S : ℕ) (input : List ℕ) (fault : VarintFault)
+    → ¬ (HasScaleVerdict S input (faulty fault))
 no_varint_is_read S input fault h = h
 
 size_above_is_no_end : ¬ (HasScaleVerdict 4 (zeros ++ 5 ∷ []) unexpected_eof)
@@ -205,15 +230,18 @@ size_above_is_no_end h =
 nine_bytes_are_no_end : ¬ (HasScaleVerdict 4 (zeros ++ 0 ∷ []) unexpected_eof)
 nine_bytes_are_no_end h =
     let same : unexpected_eof ≡ accepted (pair 0 []) =
-    scale_verdict_unique 4 (zeros ++ 0 ∷ []) unexpected_eof (accepted (pair 0 [])) h scale_empty_digest_of_4 in
+    scale_verdict_unique 4 (zeros ++ 0 ∷ []) unexpected_eof
+    (accepted (pair 0 [])) h scale_empty_digest_of_4 in
     cc
 
 no_pair_elsewhere : ¬ (HasScaleVerdict 4 (zeros ++ 0 ∷ []) (accepted (pair 1 [])))
 no_pair_elsewhere h =
     let same : accepted (pair 1 []) ≡ accepted (pair 0 []) =
-    scale_verdict_unique 4 (zeros ++ 0 ∷ []) (accepted (pair 1 [])) (accepted (pair 0 [])) h scale_empty_digest_of_4 in
+    scale_verdict_unique 4 (zeros ++ 0 ∷ []) (accepted (pair 1 []))
+    (accepted (pair 0 [])) h scale_empty_digest_of_4 in
     omega (arith, ap code_named same)
 
 no_pair_in_nothing : (p : Pair) → ¬ (HasScaleVerdict 4 [] (accepted p))
 no_pair_in_nothing p h =
-    let same : accepted p ≡ unexpected_eof = scale_verdict_unique 4 [] (accepted p) unexpected_eof h scale_empty_input in cc
+    let same : accepted p ≡ unexpected_eof =
+    scale_verdict_unique 4 [] (accepted p) unexpected_eof h scale_empty_input in cc

@@ -46,7 +46,8 @@ front_refusal = (not_minimal, refl, padded_front)
 -- the fault that is named is the input's
 no_other_front_refusal : ¬ (IsFrontRefusal (0x80 ∷ 0x00 ∷ []) (of_varint overflow))
 no_other_front_refusal (f, e, has) =
-    let same : fault f ≡ fault not_minimal = front_unique (0x80 ∷ 0x00 ∷ []) (fault f) (fault not_minimal) has padded_front in
+    let same : fault f ≡ fault not_minimal =
+    front_unique (0x80 ∷ 0x00 ∷ []) (fault f) (fault not_minimal) has padded_front in
     cc
 
 -- and is named
@@ -94,7 +95,8 @@ takes_varint = (5 ∷ [], varint_5, refl)
 
 takes_no_other_varint : ¬ (TakesVarint 6 (Some (5 ∷ 9 ∷ [])) (Some (9 ∷ [])))
 takes_no_other_varint (bytes, is, takes) =
-    not_another 6 5 (5 ∷ []) varint_5 (λ e. omega (arith, e)) (subst (IsVarint 6) (taken_is (5 ∷ []) (9 ∷ []) bytes takes) is)
+    not_another 6 5 (5 ∷ []) varint_5 (λ e. omega (arith, e))
+    (subst (IsVarint 6) (taken_is (5 ∷ []) (9 ∷ []) bytes takes) is)
 
 -- nothing more is taken
 takes_varint_alone : ¬ (TakesVarint 5 (Some (5 ∷ 9 ∷ [])) (Some []))
@@ -131,12 +133,14 @@ one_marked_is_insufficient : IsInsufficient (0x80 ∷ [])
 one_marked_is_insufficient = record { few = omega arith; all_marked = all_marked (0x80 ∷ []) refl }
 
 -- a reader that failed behind a marked byte
-fails_inside_varint : TakesAtVarintRefusal (of_io other) (Some (0x80 ∷ 0x01 ∷ [])) (Some (0x01 ∷ []))
+fails_inside_varint : TakesAtVarintRefusal (of_io other) (Some (0x80 ∷ 0x01 ∷ []))
+    (Some (0x01 ∷ []))
 fails_inside_varint = record {
   taken = 0x80 ∷ [];
   takes = refl;
   shows = λ f e. absurd cc;
-  no_sooner = λ shorter before. subst IsInsufficient (sym (before_one 0x80 shorter before)) none_is_insufficient;
+  no_sooner = λ shorter before. subst IsInsufficient
+      (sym (before_one 0x80 shorter before)) none_is_insufficient;
   all = λ e. absurd cc;
   failed = λ own. one_marked_is_insufficient;
 }
@@ -145,8 +149,10 @@ ends_inside_varint : TakesAtVarintRefusal (of_varint insufficient) (Some (0x80 �
 ends_inside_varint = record {
   taken = 0x80 ∷ [];
   takes = refl;
-  shows = λ f e. subst (λ (g : VarintFault). HasFaultyFront g (0x80 ∷ [])) (insufficient_is f e) one_marked_is_insufficient;
-  no_sooner = λ shorter before. subst IsInsufficient (sym (before_one 0x80 shorter before)) none_is_insufficient;
+  shows = λ f e. subst (λ (g : VarintFault). HasFaultyFront g (0x80 ∷ []))
+      (insufficient_is f e) one_marked_is_insufficient;
+  no_sooner = λ shorter before. subst IsInsufficient
+      (sym (before_one 0x80 shorter before)) none_is_insufficient;
   all = λ e. refl;
   failed = λ own. one_marked_is_insufficient;
 }
@@ -158,26 +164,35 @@ varint_takes_its_own : ¬ (TakesAtVarintRefusal (of_varint insufficient) (Some [
 varint_takes_its_own h = gives_none_back h.taken h.takes
 
 -- the bytes that were taken show the fault
-shows_no_other_fault : ¬ (TakesAtVarintRefusal (of_varint overflow) (Some (0x80 ∷ 0x00 ∷ [])) (Some []))
+shows_no_other_fault : ¬
+    (TakesAtVarintRefusal (of_varint overflow) (Some (0x80 ∷ 0x00 ∷ [])) (Some []))
 shows_no_other_fault h =
-    let has = subst (HasFaultyFront overflow) (taken_is (0x80 ∷ 0x00 ∷ []) [] h.taken h.takes) (h.shows overflow refl) in
+    let has =
+    subst (HasFaultyFront overflow) (taken_is (0x80 ∷ 0x00 ∷ []) [] h.taken h.takes)
+    (h.shows overflow refl) in
     let same : fault overflow ≡ fault not_minimal =
     front_unique (0x80 ∷ 0x00 ∷ []) (fault overflow) (fault not_minimal) has padded_front in
     cc
 
-no_byte_after_the_zero : ¬ (TakesAtVarintRefusal (of_varint not_minimal) (Some (0x80 ∷ 0x00 ∷ 0x07 ∷ [])) (Some []))
+no_byte_after_the_zero : ¬
+    (TakesAtVarintRefusal (of_varint not_minimal) (Some (0x80 ∷ 0x00 ∷ 0x07 ∷ [])) (Some []))
 no_byte_after_the_zero h =
     let is = taken_is (0x80 ∷ 0x00 ∷ 0x07 ∷ []) [] h.taken h.takes in
-    let early = h.no_sooner (0x80 ∷ 0x00 ∷ []) (0x07 ∷ [], (λ e. omega (arith, ap (λ (z : List ℕ). length z) e)), is) in
+    let early =
+    h.no_sooner (0x80 ∷ 0x00 ∷ [])
+    (0x07 ∷ [], (λ e. omega (arith, ap (λ (z : List ℕ). length z) e)), is) in
     not_insufficient early
 
-insufficient_takes_all : ¬ (TakesAtVarintRefusal (of_varint insufficient) (Some (0x80 ∷ 0x80 ∷ [])) (Some (0x80 ∷ [])))
+insufficient_takes_all : ¬
+    (TakesAtVarintRefusal (of_varint insufficient) (Some (0x80 ∷ 0x80 ∷ [])) (Some (0x80 ∷ [])))
 insufficient_takes_all h = omega (arith, ap (λ (z : List ℕ). length z) (h.all refl))
 
 -- a reader that fails after the varint's last byte isn't asked
 fails_not_behind_varint : ¬ (TakesAtVarintRefusal (of_io other) (Some (0x80 ∷ 0x00 ∷ [])) (Some []))
 fails_not_behind_varint h =
-    not_insufficient (subst IsInsufficient (taken_is (0x80 ∷ 0x00 ∷ []) [] h.taken h.takes) (h.failed (other, refl, inl refl)))
+    not_insufficient
+    (subst IsInsufficient (taken_is (0x80 ∷ 0x00 ∷ []) [] h.taken h.takes)
+    (h.failed (other, refl, inl refl)))
 
 -- ---- a refused `read`
 
@@ -198,8 +213,10 @@ digest_missing = (
 )
 
 -- what has a verdict that stays has no early end
-not_early : (S : ℕ) (input : List ℕ) (v w : Verdict) → HasVerdict S input w → ¬ (IsEarlyEnd w) → HasVerdict S input v → ¬ (IsEarlyEnd v)
-not_early S input v w late stays h early = stays (subst IsEarlyEnd (verdict_unique S input v w h late) early)
+not_early : (S : ℕ) (input : List ℕ) (v w : Verdict) → HasVerdict S input w → ¬ (IsEarlyEnd w)
+    → HasVerdict S input v → ¬ (IsEarlyEnd v)
+not_early S input v w late stays h early =
+    stays (subst IsEarlyEnd (verdict_unique S input v w h late) early)
 
 ends_inside_digest : TakesAtRefusal 4 (of_io eof) (Some (0 ∷ 4 ∷ 1 ∷ 2 ∷ 3 ∷ [])) (Some [])
 ends_inside_digest = record {
@@ -211,7 +228,8 @@ ends_inside_digest = record {
 }
 
 -- the digest's bytes may be left
-leaves_a_cut_digest : TakesAtRefusal 4 (of_io eof) (Some (0 ∷ 4 ∷ 1 ∷ 2 ∷ 3 ∷ [])) (Some (1 ∷ 2 ∷ 3 ∷ []))
+leaves_a_cut_digest : TakesAtRefusal 4 (of_io eof) (Some (0 ∷ 4 ∷ 1 ∷ 2 ∷ 3 ∷ []))
+    (Some (1 ∷ 2 ∷ 3 ∷ []))
 leaves_a_cut_digest = record {
   taken = 0 ∷ 4 ∷ [];
   takes = refl;
@@ -224,13 +242,16 @@ read_takes_its_own : ¬ (TakesAtRefusal 4 (of_varint insufficient) (Some []) (So
 read_takes_its_own h = gives_none_back h.taken h.takes
 
 -- what was taken is insufficient itself
-insufficient_behind_no_size : ¬ (TakesAtRefusal 4 (of_varint insufficient) (Some (0 ∷ 5 ∷ [])) (Some []))
+insufficient_behind_no_size : ¬
+    (TakesAtRefusal 4 (of_varint insufficient) (Some (0 ∷ 5 ∷ [])) (Some []))
 insufficient_behind_no_size h =
     not_early 4 (0 ∷ 5 ∷ []) (faulty insufficient) (invalid_size 5) size_above_limit (λ e. e)
-    (subst (λ (z : List ℕ). HasVerdict 4 z (faulty insufficient)) (taken_is (0 ∷ 5 ∷ []) [] h.taken h.takes) (h.insufficient refl).0) tt
+    (subst (λ (z : List ℕ). HasVerdict 4 z (faulty insufficient))
+    (taken_is (0 ∷ 5 ∷ []) [] h.taken h.takes) (h.insufficient refl).0) tt
 
 -- and all of the input
-insufficient_leaves_none : ¬ (TakesAtRefusal 4 (of_varint insufficient) (Some (0x80 ∷ [])) (Some (0x80 ∷ [])))
+insufficient_leaves_none : ¬
+    (TakesAtRefusal 4 (of_varint insufficient) (Some (0x80 ∷ [])) (Some (0x80 ∷ [])))
 insufficient_leaves_none h = omega (arith, ap (λ (z : List ℕ). length z) (h.insufficient refl).1)
 
 -- both varints of a cut digest were taken
@@ -238,7 +259,8 @@ ends_not_inside_varint : ¬ (TakesAtRefusal 4 (of_io eof) (Some (0 ∷ [])) (Som
 ends_not_inside_varint h =
     let same : unexpected_eof ≡ faulty insufficient =
     verdict_unique 4 (0 ∷ []) unexpected_eof (faulty insufficient)
-    (subst (λ (z : List ℕ). HasVerdict 4 z unexpected_eof) (taken_is (0 ∷ []) [] h.taken h.takes) (h.eof (eof, refl, refl))) code_alone in
+    (subst (λ (z : List ℕ). HasVerdict 4 z unexpected_eof) (taken_is (0 ∷ []) [] h.taken h.takes)
+    (h.eof (eof, refl, refl))) code_alone in
     cc
 
 -- a reader that fails behind what settles isn't asked
@@ -248,11 +270,14 @@ fails_not_behind_size h =
     not_early 4 (0 ∷ 5 ∷ []) v (invalid_size 5) size_above_limit (λ e. e)
     (subst (λ (z : List ℕ). HasVerdict 4 z v) (taken_is (0 ∷ 5 ∷ []) [] h.taken h.takes) has) early
 
-fails_not_behind_pair : ¬ (TakesAtRefusal 4 (of_io memory) (Some (0 ∷ 4 ∷ 1 ∷ 2 ∷ 3 ∷ 4 ∷ [])) (Some []))
+fails_not_behind_pair : ¬
+    (TakesAtRefusal 4 (of_io memory) (Some (0 ∷ 4 ∷ 1 ∷ 2 ∷ 3 ∷ 4 ∷ [])) (Some []))
 fails_not_behind_pair h =
     let (v, early, has) = h.fault (memory, refl, inr refl) in
-    not_early 4 (0 ∷ 4 ∷ 1 ∷ 2 ∷ 3 ∷ 4 ∷ []) v (accepted (pair 0 (1 ∷ 2 ∷ 3 ∷ 4 ∷ []))) digest_full (λ e. e)
-    (subst (λ (z : List ℕ). HasVerdict 4 z v) (taken_is (0 ∷ 4 ∷ 1 ∷ 2 ∷ 3 ∷ 4 ∷ []) [] h.taken h.takes) has) early
+    not_early 4 (0 ∷ 4 ∷ 1 ∷ 2 ∷ 3 ∷ 4 ∷ []) v
+    (accepted (pair 0 (1 ∷ 2 ∷ 3 ∷ 4 ∷ []))) digest_full (λ e. e)
+    (subst (λ (z : List ℕ). HasVerdict 4 z v)
+    (taken_is (0 ∷ 4 ∷ 1 ∷ 2 ∷ 3 ∷ 4 ∷ []) [] h.taken h.takes) has) early
 
 -- ---- the shortest that settles
 
@@ -263,7 +288,8 @@ pub takes_no_byte_behind_size : ¬ (TakesShortestSettling 4 (0 ∷ 5 ∷ 9 ∷ [
 takes_no_byte_behind_size h =
     omega (
       arith,
-      ap (λ (z : List ℕ). length z) (shortest_unique 4 (0 ∷ 5 ∷ 9 ∷ []) h.front (0 ∷ 5 ∷ []) h.shortest shortest_of_size),
+      ap (λ (z : List ℕ). length z)
+          (shortest_unique 4 (0 ∷ 5 ∷ 9 ∷ []) h.front (0 ∷ 5 ∷ []) h.shortest shortest_of_size),
       ap (λ (z : List ℕ). length z) (taken_is (0 ∷ 5 ∷ 9 ∷ []) [] h.front h.takes),
     )
 
@@ -271,7 +297,8 @@ takes_no_fewer : ¬ (TakesShortestSettling 4 (0 ∷ 5 ∷ 9 ∷ []) (Some (5 ∷
 takes_no_fewer h =
     omega (
       arith,
-      ap (λ (z : List ℕ). length z) (shortest_unique 4 (0 ∷ 5 ∷ 9 ∷ []) h.front (0 ∷ 5 ∷ []) h.shortest shortest_of_size),
+      ap (λ (z : List ℕ). length z)
+          (shortest_unique 4 (0 ∷ 5 ∷ 9 ∷ []) h.front (0 ∷ 5 ∷ []) h.shortest shortest_of_size),
       ap (λ (z : List ℕ). length z) (taken_is (0 ∷ []) (5 ∷ 9 ∷ []) h.front h.takes),
     )
 
@@ -281,7 +308,8 @@ takes_code_alone : TakesUnsettled 4 (0 ∷ []) (Some [])
 takes_code_alone = record {
   taken = 0 ∷ [];
   takes = refl;
-  unsettled = λ front begins. none_settles 4 (0 ∷ []) (faulty insufficient) code_alone tt front begins;
+  unsettled = λ front begins. none_settles 4 (0 ∷ [])
+      (faulty insufficient) code_alone tt front begins;
 }
 
 takes_nothing_unsettled : TakesUnsettled 4 (0x80 ∷ 0x00 ∷ []) (Some (0x80 ∷ 0x00 ∷ []))
@@ -293,7 +321,11 @@ takes_nothing_unsettled = record {
 
 pub takes_what_settles : ¬ (TakesUnsettled 4 (0 ∷ 5 ∷ 9 ∷ []) (Some (9 ∷ [])))
 takes_what_settles h =
-    h.unsettled (0 ∷ 5 ∷ []) ([], taken_is (0 ∷ 5 ∷ []) (9 ∷ []) h.taken h.takes ∙ sym (append-nil (0 ∷ 5 ∷ []))) size_settles
+    h.unsettled (0 ∷ 5 ∷ []) (
+      [],
+      taken_is (0 ∷ 5 ∷ []) (9 ∷ []) h.taken h.takes ∙ sym
+          (append-nil (0 ∷ 5 ∷ [])),
+    ) size_settles
 
 -- also where it is only the beginning
 takes_beyond_what_settles : ¬ (TakesUnsettled 4 (0 ∷ 5 ∷ 9 ∷ []) (Some []))

@@ -125,7 +125,8 @@ varint_65 = varint_of [] 0x41 65 refl refl refl refl
 -- ---- what is no varint
 
 -- bytes that have a faulty front are no varint
-pub not_with_fault : (n : ℕ) (bytes : List ℕ) (f : VarintFault) → HasFaultyFront f bytes → ¬ (IsVarint n bytes)
+pub not_with_fault : (n : ℕ) (bytes : List ℕ) (f : VarintFault) → HasFaultyFront f bytes
+    → ¬ (IsVarint n bytes)
 not_with_fault n bytes f h v =
     let same : number n [] ≡ fault f = front_unique bytes (number n []) (fault f) (bytes, v, sym (append-nil bytes)) h in
     cc
@@ -183,7 +184,8 @@ marks_each = refl
 -- ---- inputs that begin with no varint: each fault, and what is none, failing by one part alone
 
 -- an input with one front has no other fault
-no_fault : (x : List ℕ) (f : VarintFault) (front : Front) → HasFront x front → (fault f ≡ front → ⊥) → ¬ (HasFaultyFront f x)
+no_fault : (x : List ℕ) (f : VarintFault) (front : Front) → HasFront x front
+    → (fault f ≡ front → ⊥) → ¬ (HasFaultyFront f x)
 no_fault x f front has other h = other (front_unique x (fault f) front h has)
 
 -- as many marked bytes as a varint may have
@@ -206,7 +208,8 @@ no_insufficient_past_most h = omega (arith, h.few)
 -- a byte that isn't marked ends a varint
 no_insufficient_with_end : ¬ (IsInsufficient (0x80 ∷ 0x01 ∷ []))
 no_insufficient_with_end =
-    no_fault (0x80 ∷ 0x01 ∷ []) insufficient (number 128 []) (0x80 ∷ 0x01 ∷ [], varint_128, refl) (λ e. cc)
+    no_fault (0x80 ∷ 0x01 ∷ []) insufficient (number 128 []) (0x80 ∷ 0x01 ∷ [], varint_128, refl)
+    (λ e. cc)
 
 overflow_at_first_too_large : IsOverflow (most ++ first_too_large ∷ [])
 overflow_at_first_too_large = record {
@@ -234,39 +237,63 @@ overflow_at_marked = record {
 -- the byte before is still within
 no_overflow_below : ¬ (IsOverflow (most ++ (first_too_large - 1) ∷ []))
 no_overflow_below h =
-    let (same, rest) = same_cut h.front most (h.byte ∷ h.rest) ((first_too_large - 1) ∷ []) (h.most) (sym h.cut) in
+    let (same, rest) =
+    same_cut h.front most (h.byte ∷ h.rest) ((first_too_large - 1) ∷ []) (h.most) (sym h.cut) in
     omega (arith, h.too_large, ap (λ (z : List ℕ). get_or z 0 0) rest)
 
 -- fewer marked bytes don't overflow
 no_overflow_of_one : ¬ (IsOverflow (0x02 ∷ []))
-no_overflow_of_one = no_fault (0x02 ∷ []) overflow (number 2 []) (0x02 ∷ [], varint_2, refl) (λ e. cc)
+no_overflow_of_one =
+    no_fault (0x02 ∷ []) overflow (number 2 []) (0x02 ∷ [], varint_2, refl) (λ e. cc)
 
 -- nor do bytes that aren't marked
 no_overflow_unmarked : ¬ (IsOverflow (replicate most_marked 0 ++ first_too_large ∷ []))
 no_overflow_unmarked =
-    no_fault (replicate most_marked 0 ++ first_too_large ∷ []) overflow (number 0 (replicate (most_marked - 1) 0 ++ first_too_large ∷ []))
+    no_fault (replicate most_marked 0 ++ first_too_large ∷ []) overflow
+    (number 0 (replicate (most_marked - 1) 0 ++ first_too_large ∷ []))
     (0 ∷ [], varint_0, refl) (λ e. cc)
 
 no_overflow_of_nothing : ¬ (IsOverflow [])
 no_overflow_of_nothing = no_fault [] overflow (fault insufficient) insufficient_none (λ e. cc)
 
 zero_behind_most : IsNotMinimal (most ++ 0 ∷ 7 ∷ [])
-zero_behind_most = record { front = most; rest = 7 ∷ []; all_marked = marked_most; some = omega arith; few = omega arith; cut = refl }
+zero_behind_most =
+    record {
+      front = most;
+      rest = 7 ∷ [];
+      all_marked = marked_most;
+      some = omega arith;
+      few = omega arith;
+      cut = refl;
+    }
 
 -- a zero alone is a varint
 zero_is_minimal : ¬ (IsNotMinimal (0x00 ∷ []))
-zero_is_minimal = no_fault (0x00 ∷ []) not_minimal (number 0 []) (0x00 ∷ [], varint_0, refl) (λ e. cc)
+zero_is_minimal =
+    no_fault (0x00 ∷ []) not_minimal (number 0 []) (0x00 ∷ [], varint_0, refl) (λ e. cc)
 
 -- a zero behind a whole varint doesn't belong to it
 zero_behind_varint : ¬ (IsNotMinimal (0x01 ∷ 0x00 ∷ []))
-zero_behind_varint = no_fault (0x01 ∷ 0x00 ∷ []) not_minimal (number 1 (0x00 ∷ [])) (0x01 ∷ [], varint_1, refl) (λ e. cc)
+zero_behind_varint =
+    no_fault (0x01 ∷ 0x00 ∷ []) not_minimal (number 1 (0x00 ∷ [])) (0x01 ∷ [], varint_1, refl)
+    (λ e. cc)
 
 last_is_no_zero : ¬ (IsNotMinimal (0x80 ∷ 0x01 ∷ []))
-last_is_no_zero = no_fault (0x80 ∷ 0x01 ∷ []) not_minimal (number 128 []) (0x80 ∷ 0x01 ∷ [], varint_128, refl) (λ e. cc)
+last_is_no_zero =
+    no_fault (0x80 ∷ 0x01 ∷ []) not_minimal (number 128 []) (0x80 ∷ 0x01 ∷ [], varint_128, refl)
+    (λ e. cc)
 
 -- behind more marked bytes than a varint may have it is too late
 zero_too_late : ¬ (IsNotMinimal (most ++ 0x80 ∷ 0x00 ∷ []))
 zero_too_late =
     no_fault (most ++ 0x80 ∷ 0x00 ∷ []) not_minimal (fault overflow)
-    (record { front = most; byte = 0x80; rest = 0x00 ∷ []; all_marked = marked_most; most = refl; too_large = omega arith; cut = refl })
+    (record {
+      front = most;
+      byte = 0x80;
+      rest = 0x00 ∷ [];
+      all_marked = marked_most;
+      most = refl;
+      too_large = omega arith;
+      cut = refl;
+    })
     (λ e. cc)

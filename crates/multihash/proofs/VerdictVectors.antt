@@ -176,7 +176,13 @@ size_256_whole = inl size_256
 abbrev begins_empty : (rest : List ℕ) → BeginsWith (pair 0 []) (0x00 ∷ 0x00 ∷ rest) rest
 begins_empty rest = record {
   encoding = 0x00 ∷ 0x00 ∷ [];
-  encodes = record { code = 0x00 ∷ []; size = 0x00 ∷ []; is_code = varint_0; is_size = varint_0; spelled = refl };
+  encodes = record {
+    code = 0x00 ∷ [];
+    size = 0x00 ∷ [];
+    is_code = varint_0;
+    is_size = varint_0;
+    spelled = refl;
+  };
   cut = refl;
 }
 
@@ -185,13 +191,24 @@ empty_digest_and_one_more = (0x07 ∷ [], begins_empty (0x07 ∷ []), omega arit
 
 -- the code 0, the size 5, and what follows
 abbrev pub size_5 : (more : List ℕ) → HasSize 5 (0x00 ∷ 0x05 ∷ more) more
-size_5 more = record { code = 0; code_bytes = 0x00 ∷ []; size_bytes = 0x05 ∷ []; is_code = varint_0; is_size = varint_5; cut = refl }
+size_5 more =
+    record {
+      code = 0;
+      code_bytes = 0x00 ∷ [];
+      size_bytes = 0x05 ∷ [];
+      is_code = varint_0;
+      is_size = varint_5;
+      cut = refl;
+    }
 
 -- and no other size
 size_is_5 : (size : ℕ) → HasSize size (0x00 ∷ 0x05 ∷ []) [] → (size ≡ 5 → ⊥) → ⊥
 size_is_5 size h other =
-    let behind = same_number (0x00 ∷ 0x05 ∷ []) h.code 0 (h.size_bytes ++ []) (0x05 ∷ []) (h.code_bytes, h.is_code, h.cut) (0x00 ∷ [], varint_0, refl) in
-    other (same_number (0x05 ∷ []) size 5 [] [] (h.size_bytes, h.is_size, sym behind.1) (0x05 ∷ [], varint_5, refl)).0
+    let behind =
+    same_number (0x00 ∷ 0x05 ∷ []) h.code 0 (h.size_bytes ++ []) (0x05 ∷ [])
+    (h.code_bytes, h.is_code, h.cut) (0x00 ∷ [], varint_0, refl) in
+    other (same_number (0x05 ∷ []) size 5 [] [] (h.size_bytes, h.is_size, sym behind.1)
+    (0x05 ∷ [], varint_5, refl)).0
 
 open_front : HasFaultyFront insufficient (0x80 ∷ [])
 open_front = record { few = omega arith; all_marked = all_marked (0x80 ∷ []) refl }
@@ -220,14 +237,20 @@ nine_marked_two_no_code p h =
 -- the code and the digest are those that the input begins with
 no_other_code : ¬ (HasVerdict 4 (0x00 ∷ 0x00 ∷ []) (accepted (pair 1 [])))
 no_other_code h =
-    omega (arith, ap code_named (verdict_unique 4 (0x00 ∷ 0x00 ∷ []) (accepted (pair 1 [])) (accepted (pair 0 [])) h empty_digest))
+    omega (
+      arith,
+      ap code_named
+          (verdict_unique 4 (0x00 ∷ 0x00 ∷ []) (accepted (pair 1 []))
+          (accepted (pair 0 [])) h empty_digest),
+    )
 
 no_longer_digest : ¬ (HasVerdict 4 (0x00 ∷ 0x00 ∷ 0x07 ∷ []) (accepted (pair 0 (0x07 ∷ []))))
 no_longer_digest h =
     omega (
       arith,
       ap (λ (v : Verdict). length (digest_named v))
-          (verdict_unique 4 (0x00 ∷ 0x00 ∷ 0x07 ∷ []) (accepted (pair 0 (0x07 ∷ []))) (accepted (pair 0 [])) h empty_digest_and_one_more),
+          (verdict_unique 4 (0x00 ∷ 0x00 ∷ 0x07 ∷ []) (accepted (pair 0 (0x07 ∷ [])))
+          (accepted (pair 0 [])) h empty_digest_and_one_more),
     )
 
 abbrev five : List ℕ
@@ -240,13 +263,15 @@ five_above_limit = (five, size_5 five, omega arith)
 no_pair_above_limit : ¬ (HasVerdict 4 (0x00 ∷ 0x05 ∷ five) (accepted (pair 0 five)))
 no_pair_above_limit h =
     let same : accepted (pair 0 five) ≡ invalid_size 5 =
-    verdict_unique 4 (0x00 ∷ 0x05 ∷ five) (accepted (pair 0 five)) (invalid_size 5) h five_above_limit in
+    verdict_unique 4 (0x00 ∷ 0x05 ∷ five) (accepted (pair 0 five))
+    (invalid_size 5) h five_above_limit in
     cc
 
 no_whole_pair_above_limit : ¬ (HasWholeVerdict 4 (0x00 ∷ 0x05 ∷ five) (accepted (pair 0 five)))
 no_whole_pair_above_limit h =
     let same : accepted (pair 0 five) ≡ invalid_size 5 =
-    whole_verdict_unique 4 (0x00 ∷ 0x05 ∷ five) (accepted (pair 0 five)) (invalid_size 5) h (inl five_above_limit) in
+    whole_verdict_unique 4 (0x00 ∷ 0x05 ∷ five) (accepted (pair 0 five)) (invalid_size 5) h
+    (inl five_above_limit) in
     cc
 
 -- the limit itself is no size that is refused
@@ -255,7 +280,11 @@ no_refusal_at_limit (rest, has, large) = omega (arith, large)
 
 no_other_size_refused : ¬ (HasVerdict 4 (0x00 ∷ 0x05 ∷ []) (invalid_size 6))
 no_other_size_refused h =
-    omega (arith, ap size_named (verdict_unique 4 (0x00 ∷ 0x05 ∷ []) (invalid_size 6) (invalid_size 5) h size_above_limit))
+    omega (
+      arith,
+      ap size_named
+          (verdict_unique 4 (0x00 ∷ 0x05 ∷ []) (invalid_size 6) (invalid_size 5) h size_above_limit),
+    )
 
 -- a pair's bytes have no fault, neither behind the code
 no_fault_in_pair : (f : VarintFault) → ¬ (HasVerdict 4 (0x00 ∷ 0x00 ∷ []) (faulty f))
@@ -267,13 +296,15 @@ no_fault_in_pair f h =
 no_other_fault_in_size : ¬ (HasVerdict 4 (0x00 ∷ 0x85 ∷ 0x00 ∷ []) (faulty overflow))
 no_other_fault_in_size h =
     let same : faulty overflow ≡ faulty not_minimal =
-    verdict_unique 4 (0x00 ∷ 0x85 ∷ 0x00 ∷ []) (faulty overflow) (faulty not_minimal) h size_padded in
+    verdict_unique 4 (0x00 ∷ 0x85 ∷ 0x00 ∷ []) (faulty overflow)
+    (faulty not_minimal) h size_padded in
     cc
 
 -- no digest is cut before its size is known
 no_end_before_size : ¬ (HasVerdict 4 [] unexpected_eof)
 no_end_before_size h =
-    let same : unexpected_eof ≡ faulty insufficient = verdict_unique 4 [] unexpected_eof (faulty insufficient) h empty_input in cc
+    let same : unexpected_eof ≡ faulty insufficient =
+    verdict_unique 4 [] unexpected_eof (faulty insufficient) h empty_input in cc
 
 -- nor one that doesn't fit
 no_end_above_limit : ¬ (HasVerdict 4 (0x00 ∷ 0x05 ∷ []) unexpected_eof)
@@ -302,7 +333,8 @@ no_other_count_left_over h =
     omega (
       arith,
       ap size_named
-          (whole_verdict_unique 4 (0x00 ∷ 0x00 ∷ 0x07 ∷ []) (invalid_size 2) (invalid_size 1) h (inr one_left_over)),
+          (whole_verdict_unique 4 (0x00 ∷ 0x00 ∷ 0x07 ∷ []) (invalid_size 2) (invalid_size 1) h
+          (inr one_left_over)),
     )
 
 -- nothing is left over of what begins with no pair
@@ -313,19 +345,22 @@ none_left_over_of_fault h =
     cc
 
 -- nor behind a digest that doesn't fit
-none_left_over_above_limit : ¬ (HasWholeVerdict 4 (0x00 ∷ 0x05 ∷ five ++ 0x09 ∷ []) (invalid_size 1))
+none_left_over_above_limit : ¬
+    (HasWholeVerdict 4 (0x00 ∷ 0x05 ∷ five ++ 0x09 ∷ []) (invalid_size 1))
 none_left_over_above_limit h =
     omega (
       arith,
       ap size_named
-          (whole_verdict_unique 4 (0x00 ∷ 0x05 ∷ five ++ 0x09 ∷ []) (invalid_size 1) (invalid_size 5) h
+          (whole_verdict_unique 4 (0x00 ∷ 0x05 ∷ five ++ 0x09 ∷ []) (invalid_size 1)
+          (invalid_size 5) h
           (inl (five ++ 0x09 ∷ [], size_5 (five ++ 0x09 ∷ []), omega arith))),
     )
 
 no_pair_but_the_whole : ¬ (HasWholeVerdict 4 (0x00 ∷ 0x00 ∷ 0x07 ∷ []) (accepted (pair 0 [])))
 no_pair_but_the_whole h =
     let same : accepted (pair 0 []) ≡ invalid_size 1 =
-    whole_verdict_unique 4 (0x00 ∷ 0x00 ∷ 0x07 ∷ []) (accepted (pair 0 [])) (invalid_size 1) h (inr one_left_over) in
+    whole_verdict_unique 4 (0x00 ∷ 0x00 ∷ 0x07 ∷ []) (accepted (pair 0 [])) (invalid_size 1) h
+    (inr one_left_over) in
     cc
 
 -- ---- what begins an input
@@ -340,7 +375,9 @@ rest_is_all_that_follows : ¬ (BeginsWith (pair 0 []) (0x00 ∷ 0x00 ∷ 0x07 �
 rest_is_all_that_follows h =
     omega (
       arith,
-      ap (λ (z : List ℕ). length z) (encoding_same (pair 0 []) h.encoding (0x00 ∷ 0x00 ∷ []) h.encodes (begins_empty []).encodes),
+      ap (λ (z : List ℕ). length z)
+          (encoding_same (pair 0 []) h.encoding (0x00 ∷ 0x00 ∷ []) h.encodes
+          (begins_empty []).encodes),
       ap (λ (z : List ℕ). length z) h.cut,
       length-append h.encoding [],
     )
@@ -351,7 +388,8 @@ has_code = record { code = 0; code_bytes = 0x00 ∷ []; is_code = varint_0; cut 
 open_code_is_none : (rest : List ℕ) → ¬ (HasCode (0x80 ∷ []) rest)
 open_code_is_none rest h =
     let same : number h.code rest ≡ fault insufficient =
-    front_unique (0x80 ∷ []) (number h.code rest) (fault insufficient) (h.code_bytes, h.is_code, h.cut) (open_front) in
+    front_unique (0x80 ∷ []) (number h.code rest) (fault insufficient)
+    (h.code_bytes, h.is_code, h.cut) (open_front) in
     cc
 
 -- no byte of the code is left
@@ -360,7 +398,8 @@ code_leaves_what_follows h =
     omega (
       arith,
       ap (λ (z : List ℕ). length z)
-          (same_number (0x00 ∷ 0x07 ∷ []) h.code 0 (0x00 ∷ 0x07 ∷ []) (0x07 ∷ []) (h.code_bytes, h.is_code, h.cut) (0x00 ∷ [], varint_0, refl)).1,
+          (same_number (0x00 ∷ 0x07 ∷ []) h.code 0 (0x00 ∷ 0x07 ∷ []) (0x07 ∷ [])
+          (h.code_bytes, h.is_code, h.cut) (0x00 ∷ [], varint_0, refl)).1,
     )
 
 has_size : HasSize 5 (0x00 ∷ 0x05 ∷ 0x07 ∷ []) (0x07 ∷ [])
@@ -372,7 +411,12 @@ code_is_no_size h = size_is_5 0 h (λ e. omega (arith, e))
 
 no_size_without_code : (size : ℕ) (rest : List ℕ) → ¬ (HasSize size (0x80 ∷ []) rest)
 no_size_without_code size rest h =
-    open_code_is_none (h.size_bytes ++ rest) (record { code = h.code; code_bytes = h.code_bytes; is_code = h.is_code; cut = h.cut })
+    open_code_is_none (h.size_bytes ++ rest) (record {
+      code = h.code;
+      code_bytes = h.code_bytes;
+      is_code = h.is_code;
+      cut = h.cut;
+    })
 
 -- ---- the verdicts that more input may change
 

@@ -17,7 +17,8 @@ writer_refused_memory = record { kind = inr refl; cause = inr (refl, refl) }
 
 -- one that doesn't allocate has no want of memory but as a counted fault
 writer_wants_no_memory : ¬ (IsWriterFault false 3 3 memory)
-writer_wants_no_memory h = elim h.cause [ inl more ↦ omega arith | inr (allocates, e) ↦ false≢true allocates ]
+writer_wants_no_memory h =
+    elim h.cause [ inl more ↦ omega arith | inr (allocates, e) ↦ false≢true allocates ]
 
 -- a fault that isn't counted is want of memory
 writer_invents_no_fault : ¬ (IsWriterFault true 3 3 other)
@@ -78,17 +79,24 @@ no_count_falls_by_own : ¬ (CountsWriter {A = ℕ} (λ P. P) false 4 3 ⊤ (Err 
 no_count_falls_by_own h = omega (arith, h.0)
 
 write_hides_no_fault : ¬ (CountsWriter {A = ℕ} (λ P. P) false 3 3 ⊤ (Err other))
-write_hides_no_fault (more, inl h) = elim h.cause [ inl counted ↦ omega (arith, counted) | inr (allocates, e) ↦ cc ]
+write_hides_no_fault (more, inl h) =
+    elim h.cause [ inl counted ↦ omega (arith, counted) | inr (allocates, e) ↦ cc ]
 write_hides_no_fault (more, inr h) = cc
 
 -- ---- what was appended
 
 appends_part : AppendsPart AppendsAtEnd (7 ∷ []) (1 ∷ 2 ∷ []) (7 ∷ 1 ∷ [])
-appends_part = record { part = 1 ∷ []; proper = (2 ∷ [], (λ e. omega (arith, ap (λ (z : List ℕ). length z) e)), refl); stands = refl }
+appends_part =
+    record {
+      part = 1 ∷ [];
+      proper = (2 ∷ [], (λ e. omega (arith, ap (λ (z : List ℕ). length z) e)), refl);
+      stands = refl;
+    }
 
 -- a part is never the whole
 appends_no_whole : ¬ (AppendsPart AppendsAtEnd [] (1 ∷ 2 ∷ []) (1 ∷ 2 ∷ []))
-appends_no_whole h = none h.proper.0 h.proper.1 (h.proper.2 ∙ ap (λ (z : List ℕ). z ++ h.proper.0) (sym h.stands))
+appends_no_whole h =
+    none h.proper.0 h.proper.1 (h.proper.2 ∙ ap (λ (z : List ℕ). z ++ h.proper.0) (sym h.stands))
   where
     none : (rest : List ℕ) → rest ≢ [] → ¬ (1 ∷ 2 ∷ [] ≡ (1 ∷ 2 ∷ []) ++ rest)
     none [] some e = some refl
@@ -96,7 +104,11 @@ appends_no_whole h = none h.proper.0 h.proper.1 (h.proper.2 ∙ ap (λ (z : List
 
 appends_no_other_part : ¬ (AppendsPart AppendsAtEnd [] (1 ∷ 2 ∷ []) (2 ∷ []))
 appends_no_other_part h =
-    omega (arith, ap (λ (z : List ℕ). get_or z 0 0) (h.proper.2 ∙ ap (λ (z : List ℕ). z ++ h.proper.0) (sym h.stands)))
+    omega (
+      arith,
+      ap (λ (z : List ℕ). get_or z 0 0)
+          (h.proper.2 ∙ ap (λ (z : List ℕ). z ++ h.proper.0) (sym h.stands)),
+    )
 
 -- ---- the laws of `write`, each refuted where the others hold
 
@@ -126,7 +138,14 @@ writes_one_of_two = record {
 }
 
 writes_none_when_full : Writes (7 ∷ 8 ∷ 9 ∷ [], 0) (1 ∷ []) (7 ∷ 8 ∷ 9 ∷ [], 0) (Ok 0)
-writes_none_when_full = record { count = omega arith; ok = refl; stuck = λ none some. omega arith; err = tt; faults = refl }
+writes_none_when_full =
+    record {
+      count = omega arith;
+      ok = refl;
+      stuck = λ none some. omega arith;
+      err = tt;
+      faults = refl;
+    }
 
 writes_with_fault : Writes (7 ∷ [], 0) (1 ∷ []) (7 ∷ [], 1) (Err other)
 writes_with_fault = record {
@@ -166,7 +185,8 @@ full_is_no_fault h = write_never_full_uncounted h.faults
 -- ---- the laws of `write_all`
 
 abbrev WritesAll : State → List ℕ → State → Result ℕ Fault → Type 0
-WritesAll old bytes new outcome = WriteAllLaws stands has_no_place failed false old bytes new outcome
+WritesAll old bytes new outcome =
+    WriteAllLaws stands has_no_place failed false old bytes new outcome
 
 writes_both : WritesAll (7 ∷ [], 0) (1 ∷ 2 ∷ []) (7 ∷ 1 ∷ 2 ∷ [], 0) (Ok 0)
 writes_both = record { ok = refl; empty = λ none. refl; err = tt; faults = refl }
@@ -175,7 +195,11 @@ writes_until_full : WritesAll (7 ∷ 8 ∷ [], 0) (1 ∷ 2 ∷ []) (7 ∷ 8 ∷ 
 writes_until_full = record {
   ok = tt;
   empty = λ none. absurd (omega (arith, none));
-  err = record { part = 1 ∷ []; proper = (2 ∷ [], (λ e. omega (arith, ap (λ (z : List ℕ). length z) e)), refl); stands = refl };
+  err = record {
+    part = 1 ∷ [];
+    proper = (2 ∷ [], (λ e. omega (arith, ap (λ (z : List ℕ). length z) e)), refl);
+    stands = refl;
+  };
   faults = (omega arith, inr (refl, refl, omega arith));
 }
 

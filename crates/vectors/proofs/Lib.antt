@@ -1,4 +1,5 @@
 pub mod AllLemmas
 pub mod AnswerLemmas
+pub mod ListedVectors
 pub mod ScaleAnswerLemmas
 pub mod ValueLemmas

@@ -1,0 +1,213 @@
+-- What known lines of a list say, and what they don't.
+use Rattle.std.proofs.Common.{◌≡◌, ℕ, List, [], ◌∷◌, ◌++◌, Option, None, Some, true, false, length, refl, sym, ap, ◌∙◌, subst, arith, inl, inr, length-append}
+use Rattle.std.specs.Prelude.{codes}
+use Rattle.hex.specs.Hex.{decode_pairs}
+use Rattle.multihash.specs.Bytes.{IsProperBeginning}
+use Rattle.multihash.specs.Varint.{insufficient, overflow, not_minimal}
+use Rattle.multihash.specs.Verdict.{accepted, invalid_size, faulty, unexpected_eof}
+use Rattle.multihash.specs.Scale.{HasScaleVerdict}
+use Rattle.multihash.proofs.WritingLemmas.{some_items}
+use Rattle.multihash.proofs.VerdictLemmas.{same_cut, verdict_unique}
+use Rattle.multihash.proofs.ScaleLemmas.{scale_verdict_unique}
+use Rattle.multihash.proofs.SettlingLemmas.{shortest_unique}
+use Rattle.multihash.proofs.PairVectors.{pair}
+use Rattle.multihash.proofs.VerdictVectors.{size_5, size_named}
+use Rattle.multihash.proofs.SettlingVectors.{shortest_of_size}
+use Rattle.multihash.proofs.ScaleVectors.{zeros, scale_eight_bytes, scale_size_first, scale_size_behind}
+use Rattle.vectors.specs.declared.line.Reading.{Reading}
+use Rattle.vectors.specs.declared.verdict.Verdict.TheVariants.{InvalidSize, Insufficient, Overflow, NotMinimal, UnexpectedEof}
+use Rattle.vectors.specs.Listed.{NamesBytes, meaning, SettlesAfter, IsTaken, IsReading, DecodesAfter, IsScaleTaken, IsScaleReading, ends_varint, TakesEnough, TakesAsReadListed, TakesAsScaleListed}
+
+-- ---- words of a line
+
+dash_names_nothing : NamesBytes (codes "-") []
+dash_names_nothing = inl (refl, refl)
+
+digits_name : NamesBytes (codes "00ff") (0 ∷ 255 ∷ [])
+unfolding decode_pairs
+digits_name = inr refl
+
+dash_names_no_byte : ¬ (NamesBytes (codes "-") (0 ∷ []))
+dash_names_no_byte (inl h) = omega (arith, ap (λ (z : List ℕ). length z) h.1)
+dash_names_no_byte (inr h) = cc
+
+digits_name_no_other : ¬ (NamesBytes (codes "00") [])
+unfolding decode_pairs
+digits_name_no_other (inl h) = omega (arith, ap (λ (z : List ℕ). length z) h.0)
+digits_name_no_other (inr h) = cc
+
+means_size : (size : ℕ) → meaning (InvalidSize size) ≡ invalid_size size
+means_size size = refl
+
+means_insufficient : meaning Insufficient ≡ faulty insufficient
+means_insufficient = refl
+
+means_overflow : meaning Overflow ≡ faulty overflow
+means_overflow = refl
+
+means_not_minimal : meaning NotMinimal ≡ faulty not_minimal
+means_not_minimal = refl
+
+means_eof : meaning UnexpectedEof ≡ unexpected_eof
+means_eof = refl
+
+-- ---- readings
+
+settles_after_two : SettlesAfter 4 (0 ∷ 5 ∷ 9 ∷ []) 2
+settles_after_two = record { front = 0 ∷ 5 ∷ []; shortest = shortest_of_size; long = refl }
+
+settles_after_no_other : (count : ℕ) → (count ≡ 2 → ⊥) → ¬ (SettlesAfter 4 (0 ∷ 5 ∷ 9 ∷ []) count)
+settles_after_no_other count other h =
+    other (sym h.long ∙ ap (λ (z : List ℕ). length z)
+    (shortest_unique 4 (0 ∷ 5 ∷ 9 ∷ []) h.front (0 ∷ 5 ∷ []) h.shortest shortest_of_size))
+
+-- no count is listed of an early end, and of nothing else
+taken_of_early_end : IsTaken 4 [] (faulty insufficient) None
+taken_of_early_end = tt
+
+no_count_of_size : ¬ (IsTaken 4 (0 ∷ 5 ∷ 9 ∷ []) (invalid_size 5) None)
+no_count_of_size h = h
+
+abbrev size_after : ℕ → Option ℕ → Reading
+size_after size taken = record { verdict = InvalidSize size; taken = taken }
+
+reading_of_size : IsReading 4 (0 ∷ 5 ∷ 9 ∷ []) (size_after 5 (Some 2))
+reading_of_size =
+    record { verdict = (9 ∷ [], size_5 (9 ∷ []), omega arith); taken = settles_after_two }
+
+no_reading_of_other_size : ¬ (IsReading 4 (0 ∷ 5 ∷ 9 ∷ []) (size_after 6 (Some 2)))
+no_reading_of_other_size h =
+    omega (
+      arith,
+      ap size_named
+          (verdict_unique 4 (0 ∷ 5 ∷ 9 ∷ []) (invalid_size 6) (invalid_size 5) h.verdict
+          (9 ∷ [], size_5 (9 ∷ []), omega arith)),
+    )
+
+no_reading_after_three : ¬ (IsReading 4 (0 ∷ 5 ∷ 9 ∷ []) (size_after 5 (Some 3)))
+no_reading_after_three h = settles_after_no_other 3 (λ e. omega (arith, e)) h.taken
+
+no_reading_without_count : ¬ (IsReading 4 (0 ∷ 5 ∷ 9 ∷ []) (size_after 5 None))
+no_reading_without_count h = h.taken
+
+-- ---- readings of the SCALE form
+
+before_nine : (shorter : List ℕ) → IsProperBeginning shorter (zeros ++ 5 ∷ [])
+    → HasScaleVerdict 4 shorter unexpected_eof
+before_nine shorter (rest, some, cut) =
+    inl (omega (
+      arith,
+      some_items rest some,
+      ap (λ (z : List ℕ). length z) cut,
+      length-append shorter rest,
+    ))
+
+decodes_after_nine : DecodesAfter 4 (zeros ++ 5 ∷ 7 ∷ []) 9
+decodes_after_nine = record {
+  front = zeros ++ 5 ∷ [];
+  begins = (7 ∷ [], refl);
+  verdict = invalid_size 5;
+  decodes = scale_size_first;
+  late = λ e. cc;
+  shortest = before_nine;
+  long = refl;
+}
+
+-- not the shortest
+decodes_after_no_ten : ¬ (DecodesAfter 4 (zeros ++ 5 ∷ 7 ∷ []) 10)
+decodes_after_no_ten h =
+    let (rest, cut) = h.begins in
+    let (whole, none) = same_cut h.front (zeros ++ 5 ∷ 7 ∷ []) rest [] h.long (sym cut) in
+    let ends =
+    h.shortest (zeros ++ 5 ∷ [])
+    (7 ∷ [], (λ e. omega (arith, ap (λ (z : List ℕ). length z) e)), whole) in
+    let same : unexpected_eof ≡ invalid_size 5 =
+    scale_verdict_unique 4 (zeros ++ 5 ∷ []) unexpected_eof
+    (invalid_size 5) ends scale_size_first in
+    cc
+
+-- what ends early decodes after no byte
+decodes_no_early_end : ¬ (DecodesAfter 4 zeros 8)
+decodes_no_early_end h =
+    let (rest, cut) = h.begins in
+    let (whole, none) = same_cut h.front zeros rest [] h.long (sym cut) in
+    h.late (scale_verdict_unique 4 zeros h.verdict unexpected_eof
+    (subst (λ (z : List ℕ). HasScaleVerdict 4 z h.verdict) whole h.decodes) scale_eight_bytes)
+
+scale_reading_of_size : IsScaleReading 4 (zeros ++ 5 ∷ 7 ∷ []) (size_after 5 (Some 9))
+scale_reading_of_size = (scale_size_behind, decodes_after_nine)
+
+no_scale_reading_without_count : ¬ (IsScaleReading 4 (zeros ++ 5 ∷ 7 ∷ []) (size_after 5 None))
+no_scale_reading_without_count h = let e = h.1 in cc
+
+no_scale_reading_of_other_size : ¬ (IsScaleReading 4 (zeros ++ 5 ∷ 7 ∷ []) (size_after 6 (Some 9)))
+no_scale_reading_of_other_size h =
+    omega (
+      arith,
+      ap size_named
+          (scale_verdict_unique 4 (zeros ++ 5 ∷ 7 ∷ []) (invalid_size 6)
+          (invalid_size 5) h.0 scale_size_behind),
+    )
+
+scale_cut_has_no_count : IsScaleTaken 4 (zeros ++ 3 ∷ 0xaa ∷ 0xbb ∷ []) unexpected_eof None
+scale_cut_has_no_count = refl
+
+-- ---- what was taken
+
+digit_ends_varint : ends_varint 127 ≡ true
+digit_ends_varint = refl
+
+mark_ends_no_varint : ends_varint 128 ≡ false
+mark_ends_no_varint = refl
+
+takes_all_of_an_open_varint : TakesEnough (faulty insufficient) (0x80 ∷ []) []
+takes_all_of_an_open_varint = refl
+
+leaves_none_of_an_open_varint : ¬ (TakesEnough (faulty insufficient) (0x80 ∷ []) (0x80 ∷ []))
+leaves_none_of_an_open_varint h = omega (arith, ap (λ (z : List ℕ). length z) h)
+
+takes_both_varints : TakesEnough unexpected_eof (0 ∷ 4 ∷ 1 ∷ []) (1 ∷ [])
+takes_both_varints = omega arith
+
+leaves_no_size : ¬ (TakesEnough unexpected_eof (0 ∷ 4 ∷ 1 ∷ []) (4 ∷ 1 ∷ []))
+leaves_no_size h = omega (arith, h)
+
+enough_of_no_size : ¬ (TakesEnough (invalid_size 5) [] [])
+enough_of_no_size h = h
+
+enough_of_no_overflow : ¬ (TakesEnough (faulty overflow) [] [])
+enough_of_no_overflow h = h
+
+enough_of_no_padding : ¬ (TakesEnough (faulty not_minimal) [] [])
+enough_of_no_padding h = h
+
+enough_of_no_pair : ¬ (TakesEnough (accepted (pair 0 [])) [] [])
+enough_of_no_pair h = h
+
+takes_as_listed : TakesAsReadListed (0 ∷ 5 ∷ 9 ∷ []) (9 ∷ []) (size_after 5 (Some 2))
+takes_as_listed = ((λ early. early), refl)
+
+takes_no_other_count : ¬ (TakesAsReadListed (0 ∷ 5 ∷ 9 ∷ []) [] (size_after 5 (Some 2)))
+takes_no_other_count h = omega (arith, h.1)
+
+takes_no_count_of_early_end : ¬ (TakesAsReadListed (0x80 ∷ []) [] (record {
+  verdict = Insufficient;
+  taken = Some 1;
+}))
+takes_no_count_of_early_end h = h.0 tt
+
+decoding_takes_as_listed : TakesAsScaleListed (zeros ++ 5 ∷ 7 ∷ []) (7 ∷ []) (size_after 5 (Some 9))
+decoding_takes_as_listed = ((λ e. cc), refl)
+
+decoding_takes_no_other_count : ¬
+    (TakesAsScaleListed (zeros ++ 5 ∷ 7 ∷ []) [] (size_after 5 (Some 9)))
+decoding_takes_no_other_count h = omega (arith, h.1)
+
+decoding_takes_no_count_of_end : ¬ (TakesAsScaleListed zeros [] (record {
+  verdict = UnexpectedEof;
+  taken = Some 8;
+}))
+decoding_takes_no_count_of_end h = h.0 refl
+
+decoding_lists_a_count_of_size : ¬ (TakesAsScaleListed (zeros ++ 5 ∷ []) [] (size_after 5 None))
+decoding_lists_a_count_of_size h = let e : invalid_size 5 ≡ unexpected_eof = h in cc
