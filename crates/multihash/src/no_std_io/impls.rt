@@ -112,8 +112,8 @@ impl Write for &mut [u8] {
         GivesUpPlaces-joined a.now b.now c.now x y first second };
 
     fn write(&mut self, buf: &[u8]) -> Result<usize, Error>
-        ensures laws { WriteLaws (λ old bytes new. GivesUpFor old.now bytes new.now) (λ s. s.now ≡ [])
-            (λ _. 0) false self.old buf.now self.new result }
+        ensures laws { WriteLaws (λ old bytes new. GivesUpFor old.now bytes new.now)
+            (λ s. s.now ≡ []) (λ _. 0) false self.old buf.now self.new result }
 
         ensures smaller { result ≡ Ok (min (length buf.now) (length self.old.now)) }
     {
@@ -124,8 +124,8 @@ impl Write for &mut [u8] {
     }
 
     fn write_all(&mut self, buf: &[u8]) -> Result<(), Error>
-        ensures laws { WriteAllLaws (λ old bytes new. GivesUpFor old.now bytes new.now) (λ s. s.now ≡ [])
-            (λ _. 0) false self.old buf.now self.new result }
+        ensures laws { WriteAllLaws (λ old bytes new. GivesUpFor old.now bytes new.now)
+            (λ s. s.now ≡ []) (λ _. 0) false self.old buf.now self.new result }
 
         ensures fits { IsOk result ↔ (length buf.now ≤ length self.old.now) }
         ensures filled { OnErr result (self.new.now ≡ []) }
@@ -159,8 +159,8 @@ impl Write for Vec<u8> {
         AppendsAtEnd-joined a.items b.items c.items x y first second };
 
     fn write(&mut self, buf: &[u8]) -> Result<usize, Error>
-        ensures laws { WriteLaws (λ old bytes new. AppendsAtEnd old.items bytes new.items) (λ _. ⊥)
-            (λ _. 0) true self.old buf.now self.new result }
+        ensures laws { WriteLaws (λ old bytes new. AppendsAtEnd old.items bytes new.items)
+            (λ _. ⊥) (λ _. 0) true self.old buf.now self.new result }
 
         ensures whole { IfOk result (λ n. n ≡ length buf.now) }
         ensures room { vec_len self.old + length buf.now ≤ vec_capacity self.old → IsOk result }
@@ -174,8 +174,8 @@ impl Write for Vec<u8> {
     }
 
     fn write_all(&mut self, buf: &[u8]) -> Result<(), Error>
-        ensures laws { WriteAllLaws (λ old bytes new. AppendsAtEnd old.items bytes new.items) (λ _. ⊥)
-            (λ _. 0) true self.old buf.now self.new result }
+        ensures laws { WriteAllLaws (λ old bytes new. AppendsAtEnd old.items bytes new.items)
+            (λ _. ⊥) (λ _. 0) true self.old buf.now self.new result }
 
         ensures room { vec_len self.old + length buf.now ≤ vec_capacity self.old → IsOk result }
         ensures unchanged { OnErr result (self.new.items ≡ self.old.items) }
