@@ -301,7 +301,9 @@ impl<const S: usize> Multihash<S> {
     pub fn same_as<const B: usize>(&self, other: &Multihash<B>) -> bool
         ensures { IsTrue result ↔ IsSame (pair_of self.now) (pair_of other.now) }
     {
-        self.code() == other.code() && same_bytes(self.digest(), other.digest())
+        self.size == other.size
+            && self.code == other.code
+            && same_bytes(self.digest(), other.digest())
     }
 
     // Puts a digest of the size that is set already, in place of zeros.
