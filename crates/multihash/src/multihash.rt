@@ -301,7 +301,9 @@ impl<const S: usize> Multihash<S> {
     pub fn same_as<const B: usize>(&self, other: &Multihash<B>) -> bool
         ensures { IsTrue result ↔ IsSame (pair_of self.now) (pair_of other.now) }
     {
-        self.code() == other.code() && same_bytes(self.digest(), other.digest())
+        self.size == other.size
+            && self.code == other.code
+            && same_bytes(self.digest(), other.digest())
     }
 
     // Puts a digest of the size that is set already, in place of zeros.
@@ -409,10 +411,13 @@ impl<const S: usize> Ord for Multihash<S> {
         ensures computes { result ≡ compare_pairs (pair_of self.now) (pair_of other.now) }
         ensures order { Compares (pair_of self.now) (pair_of other.now) result }
     {
-        match (self.code, self.size).cmp(&(other.code, other.size)) {
-            Ordering::Equal => order_of_bytes(self.digest(), other.digest()),
-            unequal => unequal,
+        if self.code != other.code {
+            return self.code.cmp(&other.code);
         }
+        if self.size != other.size {
+            return self.size.cmp(&other.size);
+        }
+        order_of_bytes(self.digest(), other.digest())
     }
 }
 

@@ -91,7 +91,7 @@ pub(crate) fn encode(n: u64) -> Encoded
 #[inline(always)]
 pub(crate) fn len(n: u64) -> usize
     ensures varint { (bytes : List ℕ) × IsVarint n bytes × (result ≡ length bytes) }
-    ensures short { result ≤ 10 }
+    ensures short { result ≤ most_marked + 1 }
 {
     if n < 128 {
         return 1;
@@ -108,7 +108,7 @@ pub(crate) fn len(n: u64) -> usize
 pub(crate) fn write<W: Write>(n: u64, w: &mut W) -> Result<usize, no_std_io::Error>
     ensures ok { IfOk result (λ len. (bytes : List ℕ) × IsVarint n bytes × (len ≡ length bytes)
         × W.appended w.old bytes w.new) }
-    ensures short { IfOk result (λ len. len ≤ 10) }
+    ensures short { IfOk result (λ len. len ≤ most_marked + 1) }
     ensures err { OnErr result ((bytes : List ℕ) × IsVarint n bytes
         × AppendsPart W.appended w.old bytes w.new) }
     ensures faults { CountsWriter (λ P. P) W.allocates

@@ -27,20 +27,6 @@ fn copy_front(from: &[u8], to: &mut [u8]) -> usize
     }
 }
 
-// Puts all the bytes to the front.
-#[inline(always)]
-fn put_front(bytes: &[u8], places: &mut [u8])
-    requires { length bytes.now ≤ length places.old }
-    ensures { places.new ≡ bytes.now ++ drop (length bytes.now) places.old }
-{
-    // The usual length of a digest is copied as a whole, which is no call.
-    if bytes.len() == 32 {
-        places[..32].copy_from_slice(bytes);
-    } else {
-        places[..bytes.len()].copy_from_slice(bytes);
-    }
-}
-
 /// The rest is the slice, and it never fails. Where fewer bytes are left than `read_exact` wants, the
 /// slice and the buffer stay as they are.
 impl Read for &[u8] {
@@ -130,14 +116,11 @@ impl Write for &mut [u8] {
         ensures fits { IsOk result ↔ (length buf.now ≤ length self.old.now) }
         ensures filled { OnErr result (self.new.now ≡ []) }
     {
-        if self.len() < buf.len() {
-            self.write(buf)?;
-            return Err(Error::write_zero());
+        if self.write(buf)? == buf.len() {
+            Ok(())
+        } else {
+            Err(Error::write_zero())
         }
-        let all = std::mem::take(self);
-        put_front(buf, all);
-        *self = &mut all[buf.len()..];
-        Ok(())
     }
 }
 

@@ -6,8 +6,8 @@ use Rattle.multihash.specs.Order.{Compares}
 use Rattle.multihash.proofs.OrderLemmas.{compares_by_parts}
 use Rattle.multihash.proofs.multihash.MultihashOrd.cmp.Goals as goal
 
-pub returns-in-Equal-clause-order : goal.returns-in-Equal-clause-order
-returns-in-Equal-clause-order g c =
+pub returns-clause-order : goal.returns-clause-order
+returns-clause-order g c =
     let p = pair_of c.args.self.now in
     let q = pair_of c.args.other.now in
     let computes : c.order_of_bytes.result ≡ compare_pairs p q = search rules in
