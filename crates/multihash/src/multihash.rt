@@ -22,6 +22,7 @@ use crate::no_std_io::{self, Read, Write};
 use crate::{Error, varint};
 use std::alloc::Global;
 use std::cmp::Ordering;
+use std::fmt;
 use std::hash::{Hash, Hasher};
 use std::marker::Model;
 
@@ -35,7 +36,7 @@ use std::marker::Model;
 /// assert_eq!(rt; multihash.code(), SHA3_256);
 /// assert_eq!(rt; multihash.size(), 32);
 /// ```
-#[derive(Clone, Copy, Debug)]
+#[derive(Clone, Copy)]
 pub struct Multihash<const S: usize> {
     code: u64,
     digest: [u8; S],
@@ -362,6 +363,17 @@ fn order_of_bytes(a: &[u8], b: &[u8]) -> Ordering
         }
     }
     a.cmp(b)
+}
+
+/// Prints the code, the size and the digest, and nothing of the buffer behind it.
+impl<const S: usize> fmt::Debug for Multihash<S> {
+    fn fmt<W: fmt::Write>(&self, f: &mut fmt::Formatter<W>) -> fmt::Result {
+        f.debug_struct("Multihash")
+            .field("code", &self.code())
+            .field("size", &self.size())
+            .field("digest", &self.digest())
+            .finish()
+    }
 }
 
 /// The code 0 and the empty digest.
