@@ -155,7 +155,7 @@ fn a_reader_is_read_on_after_a_fault(rt: HostRuntime) -> Result<(), Fail> {
     Ok(())
 }
 
-// A refused form, and how many multihashes of a list it is the end of.
+// Bytes that the form's reading call refuses once it has taken the last of them.
 const REFUSED: [(Form, &[u8]); 6] = [
     (Form::Binary, &[0, 5]),
     (Form::Binary, &[128, 0]),
@@ -181,6 +181,32 @@ fn a_reader_is_read_on_after_a_refusal(rt: HostRuntime) -> Result<(), Fail> {
         assert_eq!(rt; left, [9].as_slice());
     }
     Ok(())
+}
+
+#[test]
+fn a_fault_comes_before_another_refusal(rt: HostRuntime) {
+    for (form, refused) in REFUSED {
+        for calls in 0..refused.len() {
+            let mut reader = FailAt::new(Cuts::new(refused, 1), calls);
+            let answer = form.reads(rt.alloc(), &mut reader);
+            assert!(rt;
+                answer.is_err_and(|e| is_link_down(&e)),
+                "{refused:?}, call {calls}"
+            );
+            assert_eq!(rt; Some(reader.cuts.left), refused.get(calls..));
+        }
+    }
+    for form in Form::ALL {
+        for len in 0..form.bytes().len() {
+            let mut reader = FailAt::new(Cuts::new(&form.bytes()[..len], 1), len);
+            let answer = form.reads(rt.alloc(), &mut reader);
+            assert!(rt;
+                answer.is_err_and(|e| is_link_down(&e)),
+                "{form:?}, {len} bytes"
+            );
+            assert!(rt; reader.cuts.left.is_empty());
+        }
+    }
 }
 
 #[test]
