@@ -21,7 +21,7 @@ refused_size S size input rest (Ok m) h over v =
     absurd (let e : invalid_size size ≡ accepted (pair_of m) = sym same ∙ v.2 in cc)
 refused_size S size input rest (Err e) h over v =
     let same : v.0 ≡ invalid_size size = verdict_unique S input v.0 (invalid_size size) v.1 (rest, h, over) in
-    subst (λ w. Answers (Err e) w) same v.2
+    subst (λ w. Answers {S = S} (Err e) w) same v.2
 
 -- and what follows the two varints is left
 pub left_behind : (S size : ℕ) (input rest left : List ℕ) → HasSize size input rest → digest_limit S < size
@@ -34,7 +34,7 @@ left_behind S size input rest left h over took =
 
 -- of an encoding that was taken in part, more is left than what follows it
 pub end_left : (S : ℕ) (p : Pair) (bytes more : List ℕ) (new : Option (List ℕ)) → IsEncoding p bytes → FitsBuffer S p
-    → TakesUnsettled S (Some (bytes ++ more)) new → IfSome new (λ left. length more < length left)
+    → TakesUnsettled S (bytes ++ more) new → IfSome new (λ left. length more < length left)
 end_left S p bytes more None encodes fits took = tt
 end_left S p bytes more (Some left) encodes fits took =
     let own : HasVerdict S bytes (accepted p) = ([], record { encoding = bytes; encodes = encodes; cut = sym (append-nil bytes) }, fits) in
@@ -56,8 +56,8 @@ end_left S p bytes more (Some left) encodes fits took =
 
 -- what was told of a reader's rest, of the rest that it had
 pub at_failure : {P : List ℕ → Type 0} (S : ℕ) (old new : Option (List ℕ)) (input : List ℕ) → old ≡ Some input
-    → IfSome old (λ rest. P rest → TakesUnsettled S (Some rest) new) → ((rest : List ℕ) → P rest) → TakesUnsettled S (Some input) new
+    → IfSome old (λ rest. P rest → TakesUnsettled S rest new) → ((rest : List ℕ) → P rest) → TakesUnsettled S input new
 at_failure S None new input rest told why = cc
 at_failure S (Some x) new input rest told why =
     let same : x ≡ input = cc in
-    subst (λ l. TakesUnsettled S (Some l) new) same (told (why x))
+    subst (λ l. TakesUnsettled S l new) same (told (why x))

@@ -35,8 +35,8 @@ pub fn fills_scale<const S: usize>(m: &Multihash<S>, places: &mut [u8]) -> (bool
 /// Whether the encodings of some multihashes were written to the front of `places`, and how many are
 /// left then: they are where there is room, which gives up that many, and else none is left.
 pub fn fills_list<const S: usize>(items: &[Multihash<S>], places: &mut [u8]) -> (bool, usize)
-    ensures { (bytes : List ℕ) → AreJoined (map pair_of items.now) bytes →
-        (IsTrue result.0 ↔ (length bytes ≤ length places.old))
+    ensures { (bytes : List ℕ) × AreJoined (map pair_of items.now) bytes
+        × (IsTrue result.0 ↔ (length bytes ≤ length places.old))
         × (result.1 ≡ length places.old - length bytes) }
 {
     let mut left = places;

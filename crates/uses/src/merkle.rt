@@ -23,8 +23,8 @@ pub fn write_node<const S: usize, W: Write>(
     ensures ok { OnOk result ((bytes : List ℕ) × AreJoined (map pair_of links.now) bytes
         × W.appended w.old (bytes ++ data.now) w.new) }
     ensures fit { OnOk result (All (FitsBuffer S) (map pair_of links.now)) }
-    ensures err { OnErr result ((bytes : List ℕ) → AreJoined (map pair_of links.now) bytes →
-        AppendsPart W.appended w.old (bytes ++ data.now) w.new) }
+    ensures err { OnErr result ((bytes : List ℕ) × AreJoined (map pair_of links.now) bytes
+        × AppendsPart W.appended w.old (bytes ++ data.now) w.new) }
     ensures faults { CountsWriter IsIo W.allocates
         (W.failures w.old) (W.failures w.new) (W.full w.new) result }
 {
