@@ -85,13 +85,11 @@ impl<const S: usize> Multihash<S> {
         if len > S || len > 255 {
             return Err(Error::from_size(len as u64));
         }
-        let mut multihash = Multihash {
+        Ok(Multihash {
             code,
-            digest: [0; S],
+            digest: Self::padded(input_digest),
             size: len,
-        };
-        multihash.fill(input_digest);
-        Ok(multihash)
+        })
     }
 
     /// The code, which names the hash function.
@@ -321,6 +319,32 @@ impl<const S: usize> Multihash<S> {
             }
         }
         self.digest[..digest.len()].copy_from_slice(digest);
+    }
+
+    // The bytes, and zeros behind them. Where the digest alone is made, this is faster than `fill`.
+    #[inline(always)]
+    fn padded(bytes: &[u8]) -> [u8; S]
+        requires { length bytes.now ≤ S }
+        ensures { result ≡ bytes.now ++ replicate (S - length bytes.now) 0 }
+    {
+        if bytes.len() == 32 {
+            if let Some(all) = bytes.first_chunk::<32>() {
+                return Self::padded_whole(all);
+            }
+        }
+        let mut array = [0; S];
+        array[..bytes.len()].copy_from_slice(bytes);
+        array
+    }
+
+    #[inline(always)]
+    fn padded_whole(bytes: &[u8; 32]) -> [u8; S]
+        requires { 32 ≤ S }
+        ensures { result ≡ bytes.now ++ replicate (S - 32) 0 }
+    {
+        let mut array = [0; S];
+        array[..32].copy_from_slice(bytes);
+        array
     }
 
     // The size of a digest, where the buffer holds one so long.
