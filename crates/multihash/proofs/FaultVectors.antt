@@ -2,7 +2,7 @@
 use Rattle.std.proofs.Common.{◌≡◌, ℕ, List, [], length, get_or, refl, ap, arith, inl, inr}
 use Rattle.std.specs.Prelude.{codes}
 use Rattle.multihash.specs.declared.no_std_io.error.Kind.TheVariants.{UnexpectedEof, WriteZero, OutOfMemory, Other}
-use Rattle.multihash.specs.Fault.{Fault, IsUnexpectedEof, IsWriteZero, IsOutOfMemory, IsOther, IsOwnFault, HasStandardText}
+use Rattle.multihash.specs.Fault.{Fault, IsUnexpectedEof, IsWriteZero, IsOutOfMemory, IsOther, IsOwnFault, text_of, printed, HasStandardText}
 
 abbrev pub other : Fault
 other = record { kind = Other; text = [] }
@@ -81,19 +81,22 @@ no_own_full : ¬ (IsOwnFault full)
 no_own_full (inl h) = cc
 no_own_full (inr h) = cc
 
--- ---- texts: no kind has that of another
+-- ---- texts: of each kind its own, whatever the error was made with
 
-eof_text_of_full : ¬ (HasStandardText (record { kind = UnexpectedEof; text = (codes "failed to write whole buffer") }))
-eof_text_of_full h = omega (arith, ap (λ (z : List ℕ). get_or z 10 0) h)
+eof_prints : (own : List ℕ) → text_of UnexpectedEof own ≡ codes "failed to fill whole buffer"
+eof_prints own = refl
 
-eof_text_of_memory : ¬ (HasStandardText (record { kind = UnexpectedEof; text = (codes "out of memory") }))
-eof_text_of_memory h = omega (arith, ap (λ (z : List ℕ). length z) h)
+full_prints : (own : List ℕ) → text_of WriteZero own ≡ codes "failed to write whole buffer"
+full_prints own = refl
 
-full_text_of_eof : ¬ (HasStandardText (record { kind = WriteZero; text = (codes "failed to fill whole buffer") }))
-full_text_of_eof h = omega (arith, ap (λ (z : List ℕ). get_or z 10 0) h)
+memory_prints : (own : List ℕ) → text_of OutOfMemory own ≡ codes "out of memory"
+memory_prints own = refl
 
-memory_text_of_eof : ¬ (HasStandardText (record { kind = OutOfMemory; text = (codes "failed to fill whole buffer") }))
-memory_text_of_eof h = omega (arith, ap (λ (z : List ℕ). length z) h)
+other_prints_its_own : (own : List ℕ) → text_of Other own ≡ own
+other_prints_its_own own = refl
+
+prints_by_its_kind : printed eof ≡ codes "failed to fill whole buffer"
+prints_by_its_kind = refl
 
 no_text_of_eof : ¬ (HasStandardText eof)
 no_text_of_eof h = omega (arith, ap (λ (z : List ℕ). length z) h)
@@ -104,6 +107,6 @@ no_text_of_full h = omega (arith, ap (λ (z : List ℕ). length z) h)
 no_text_of_memory : ¬ (HasStandardText memory)
 no_text_of_memory h = omega (arith, ap (λ (z : List ℕ). length z) h)
 
--- only a text of the reader's or the writer's own is free
-any_text_of_other : (text : List ℕ) → HasStandardText (record { kind = Other; text = text })
-any_text_of_other text = refl
+-- only the text of a reader's or a writer's own fault is free
+any_text_of_other : (own : List ℕ) → HasStandardText (record { kind = Other; text = own })
+any_text_of_other own = refl
