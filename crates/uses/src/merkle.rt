@@ -17,19 +17,19 @@ use std::alloc::Global;
 /// What the writer answers. A proper beginning of the node was appended then.
 pub fn write_node<const S: usize, W: Write>(
     links: &[Multihash<S>],
-    data: &[u8],
+    content: &[u8],
     w: &mut W,
 ) -> Result<(), Error>
     ensures ok { OnOk result ((bytes : List ℕ) × AreJoined (map pair_of links.now) bytes
-        × W.appended w.old (bytes ++ data.now) w.new) }
+        × W.appended w.old (bytes ++ content.now) w.new) }
     ensures fit { OnOk result (All (FitsBuffer S) (map pair_of links.now)) }
     ensures err { OnErr result ((bytes : List ℕ) × AreJoined (map pair_of links.now) bytes
-        × AppendsPart W.appended w.old (bytes ++ data.now) w.new) }
+        × AppendsPart W.appended w.old (bytes ++ content.now) w.new) }
     ensures faults { CountsWriter IsIo W.allocates
         (W.failures w.old) (W.failures w.new) (W.full w.new) result }
 {
     list::write_list(links, w)?;
-    w.write_all(data)?;
+    w.write_all(content)?;
     Ok(())
 }
 
@@ -38,16 +38,16 @@ pub fn write_node<const S: usize, W: Write>(
 pub fn through<const S: usize, const T: usize, W: Write, R: Read>(
     alloc: Global,
     links: &[Multihash<S>],
-    data: &[u8],
+    content: &[u8],
     w: &mut W,
     r: &mut R,
 ) -> Result<Vec<Multihash<T>>, Error>
     ensures { ((bytes : List ℕ) → W.appended w.old bytes w.new → R.rest r.old ≡ Some bytes) →
         All (FitsBuffer T) (map pair_of links.now) → R.failures r.new ≡ R.failures r.old →
         IfOk result (λ read. (map pair_of read.items ≡ map pair_of links.now)
-        × (R.rest r.new ≡ Some data.now)) }
+        × (R.rest r.new ≡ Some content.now)) }
 {
-    write_node(links, data, w)?;
+    write_node(links, content, w)?;
     list::read_list(alloc, r, links.len())
 }
 
@@ -73,14 +73,14 @@ pub fn list_through<const S: usize, W: Write, R: Read>(
 pub fn node_back<const S: usize>(
     alloc: Global,
     links: &[Multihash<S>],
-    data: &[u8],
+    content: &[u8],
 ) -> Result<(Vec<Multihash<S>>, bool), Error>
     ensures { MatchResult result
         (λ back. (map pair_of back.0.items ≡ map pair_of links.now) × IsTrue back.1) IsMemory }
 {
     let mut bytes = Vec::new(alloc);
-    write_node(links, data, &mut bytes)?;
+    write_node(links, content, &mut bytes)?;
     let mut left = bytes.as_slice();
     let back = list::read_list(alloc, &mut left, links.len())?;
-    Ok((back, left == data))
+    Ok((back, left == content))
 }

@@ -1,3 +1,4 @@
+mod binary;
 mod boundaries;
 mod calls;
 mod errors;
@@ -8,7 +9,6 @@ mod json;
 mod kinds;
 mod list;
 mod memory;
-mod multihash;
 mod no_std_io;
 mod readme;
 mod scale;

@@ -55,7 +55,10 @@ fn a_digest_is_cut(rt: HostRuntime) -> Result<(), Fail> {
 fn a_cut_digest_is_printed_alone(rt: HostRuntime) -> Result<(), Fail> {
     let cut = Multihash::<64>::wrap(18, b"foobar")?.truncate(3);
     let text = format!(in rt.alloc(); "{cut:?}")?;
-    assert_eq!(rt; text.as_str(), "Multihash { code: 18, size: 3, digest: [102, 111, 111] }");
+    assert_eq!(rt;
+        text.as_str(),
+        "Multihash { code: 18, size: 3, digest: [102, 111, 111] }"
+    );
     Ok(())
 }
 

@@ -9,7 +9,7 @@ pub returns : goal.returns
 returns g c pipe fit unfailed =
     let wrote = c.in_ok-write_node.ensures.ok in
     let links = c.args.links.now in
-    let body = c.args.data.now in
+    let body = c.args.content.now in
     of_success _ _ c.read_list.result
     (pairs_read g.row.T _ _ _ _ _ (map pair_of links) wrote.0 body c.read_list.result wrote.1 fit (length-map links pair_of)
     (pipe (wrote.0 ++ body) wrote.2) unfailed c.read_list.ensures.ok c.read_list.ensures.err)

@@ -8,7 +8,7 @@ use Rattle.uses.proofs.merkle.write_node.Goals as goal
 
 pub returns-in_err-write_list-clause-err : goal.returns-in_err-write_list-clause-err
 returns-in_err-write_list-clause-err g c =
-    let body = c.args.data.now in
+    let body = c.args.content.now in
     let h = c.in_err-write_list.ensures.err in
     let stops : (bytes : List ℕ) × AreJoined (map pair_of c.args.links.now) bytes
     × AppendsPart g.W.Write.appended c.args.w.now (bytes ++ body) c.write_list.new.w =
@@ -17,7 +17,7 @@ returns-in_err-write_list-clause-err g c =
 
 pub returns-in_err-write_all-clause-err : goal.returns-in_err-write_all-clause-err
 returns-in_err-write_all-clause-err g c =
-    let body = c.args.data.now in
+    let body = c.args.content.now in
     let wrote = c.in_ok-write_list.ensures.ok in
     let part = AppendsPart-joined g.W.Write.appended g.met.W.Write.appends_joined _ _ _ wrote.0 body wrote.2 c.in_err-write_all.ensures.laws.err in
     let stops : (bytes : List ℕ) × AreJoined (map pair_of c.args.links.now) bytes
