@@ -8,7 +8,7 @@ use Rattle.multihash.proofs.WritingLemmas.{some_items}
 use Rattle.mh_show.specs.declared.run.RunError.TheVariants.{Input, NotShown, Output}
 use Rattle.mh_show.specs.declared.show.ShowError.TheVariants.{NotHex, Refused, Memory}
 use Rattle.mh_show.specs.Shown.{ShowsAs, NamesNone, IsRefusedAs}
-use Rattle.mh_show.specs.Run.{run_error_text, error_line, ReadsWhole, AppendsPart, TriesToAppend, ShowsInput, ShowsPart, EndsRun, TellsFault}
+use Rattle.mh_show.specs.Run.{run_error_text, error_line, ReadsWhole, AppendsPartOf, TriesToAppend, ShowsInput, ShowsPart, EndsRun, TellsFault}
 use Rattle.mh_show.proofs.ShownVectors.{shows_0000, second_newline_names_none, digits_name_some, no_pair_refused, refused_padded, shows_only}
 
 -- ---- texts
@@ -51,20 +51,20 @@ reads_silently = record { takes = tt; at_end = tt; short = omega arith }
 
 -- ---- a part
 
-appends_one_of_two : AppendsPart (Some (codes "x")) (Some (codes "xa")) (codes "ab")
+appends_one_of_two : AppendsPartOf (Some (codes "x")) (Some (codes "xa")) (codes "ab")
 appends_one_of_two = record {
   part = codes "a";
   proper = (codes "b", (λ e. omega (arith, ap (λ (z : List ℕ). length z) e)), refl);
-  appends = refl;
+  stands = refl;
 }
 
-appends_no_whole : ¬ (AppendsPart (Some []) (Some (codes "ab")) (codes "ab"))
+appends_no_whole : ¬ (AppendsPartOf (Some []) (Some (codes "ab")) (codes "ab"))
 appends_no_whole h =
     let (rest, some, cut) = h.proper in
     omega (
       arith,
       some_items rest some,
-      ap (λ (z : List ℕ). length z) h.appends,
+      ap (λ (z : List ℕ). length z) h.stands,
       ap (λ (z : List ℕ). length z) cut,
       length-append h.part rest,
     )
@@ -76,11 +76,11 @@ first_of [] rest bytes new cut is some = absurd (omega (arith, ap (λ (z : List 
 first_of (c ∷ part) rest bytes new cut is some =
     ap (λ (z : List ℕ). get_or z 0 0) cut ∙ sym (ap (λ (z : List ℕ). get_or z 0 0) is)
 
-appends_no_other_part : ¬ (AppendsPart (Some []) (Some (codes "b")) (codes "ab"))
+appends_no_other_part : ¬ (AppendsPartOf (Some []) (Some (codes "b")) (codes "ab"))
 appends_no_other_part h =
     omega (
       arith,
-      first_of h.part h.proper.0 (codes "ab") (codes "b") h.proper.2 h.appends
+      first_of h.part h.proper.0 (codes "ab") (codes "b") h.proper.2 h.stands
           (omega arith),
     )
 
@@ -134,7 +134,7 @@ shows_part = (
       (λ e. omega (arith, ap (λ (z : List ℕ). length z) e)),
       refl,
     );
-    appends = refl;
+    stands = refl;
   },
 )
 
@@ -148,7 +148,7 @@ no_part_is_all (text, lines, reads, shows, part) =
       arith,
       some_items rest some,
       ap (λ (z : List ℕ). length z) is,
-      ap (λ (z : List ℕ). length z) part.appends,
+      ap (λ (z : List ℕ). length z) part.stands,
       ap (λ (z : List ℕ). length z) cut,
       length-append part.part rest,
     )
@@ -245,14 +245,14 @@ tells_nothing = inl (inr (record {
     (λ e. omega (arith, ap (λ (z : List ℕ). length z) e)),
     refl,
   );
-  appends = refl;
+  stands = refl;
 }))
 
 first_tried : (new line : List ℕ) → 0 < length new → TriesToAppend (Some []) (Some new) line
     → get_or line 0 0 ≡ get_or new 0 0
 first_tried new line some (inl e) = ap (λ (z : List ℕ). get_or z 0 0) (sym e)
 first_tried new line some (inr part) =
-    first_of part.part part.proper.0 line new part.proper.2 part.appends some
+    first_of part.part part.proper.0 line new part.proper.2 part.stands some
 
 -- no other bytes are written
 tells_no_other_bytes : ¬ (TellsFault (Some []) (Some (codes "x")) Input)
@@ -269,7 +269,7 @@ longer_than new line more (inr part) =
     omega (
       arith,
       more,
-      ap (λ (z : List ℕ). length z) part.appends,
+      ap (λ (z : List ℕ). length z) part.stands,
       ap (λ (z : List ℕ). length z) part.proper.2,
       length-append part.part part.proper.0,
     )

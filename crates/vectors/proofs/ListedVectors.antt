@@ -16,22 +16,22 @@ use Rattle.multihash.proofs.SettlingVectors.{shortest_of_size}
 use Rattle.multihash.proofs.ScaleVectors.{zeros, scale_eight_bytes, scale_size_first, scale_size_behind}
 use Rattle.vectors.specs.declared.line.Reading.{Reading}
 use Rattle.vectors.specs.declared.verdict.Verdict.TheVariants.{InvalidSize, Insufficient, Overflow, NotMinimal, UnexpectedEof}
-use Rattle.vectors.specs.Listed.{NamesBytes, meaning, SettlesAfter, IsTaken, IsReading, DecodesAfter, IsScaleTaken, IsScaleReading, ends_varint, TakesEnough, TakesAsReadListed, TakesAsScaleListed}
+use Rattle.vectors.specs.Listed.{ListsBytes, meaning, SettlesAfter, IsTaken, IsReading, DecodesAfter, IsScaleTaken, IsScaleReading, ends_varint, TakesEnough, TakesAsReadListed, TakesAsScaleListed}
 
 -- ---- words of a line
 
-dash_names_nothing : NamesBytes (codes "-") []
+dash_names_nothing : ListsBytes (codes "-") []
 dash_names_nothing = inl (refl, refl)
 
-digits_name : NamesBytes (codes "00ff") (0 ∷ 255 ∷ [])
+digits_name : ListsBytes (codes "00ff") (0 ∷ 255 ∷ [])
 unfolding decode_pairs
 digits_name = inr refl
 
-dash_names_no_byte : ¬ (NamesBytes (codes "-") (0 ∷ []))
+dash_names_no_byte : ¬ (ListsBytes (codes "-") (0 ∷ []))
 dash_names_no_byte (inl h) = omega (arith, ap (λ (z : List ℕ). length z) h.1)
 dash_names_no_byte (inr h) = cc
 
-digits_name_no_other : ¬ (NamesBytes (codes "00") [])
+digits_name_no_other : ¬ (ListsBytes (codes "00") [])
 unfolding decode_pairs
 digits_name_no_other (inl h) = omega (arith, ap (λ (z : List ℕ). length z) h.0)
 digits_name_no_other (inr h) = cc
