@@ -13,6 +13,9 @@ use std::fmt;
 // The largest buffer of a list.
 const LARGEST: usize = 300;
 
+// The sizes of buffers that a list may have, as `Check::agrees` tells them apart.
+const SIZES: &str = "0, 1, 2, 4, 16, 32, 64, 128, 200, 255, 256 and 300";
+
 /// A call that is to answer what a line says.
 #[derive(Clone, Copy, Debug, PartialEq, Eq)]
 pub enum Check {
@@ -64,6 +67,7 @@ impl Check {
             1 => self.agrees_at::<1>(line),
             2 => self.agrees_at::<2>(line),
             4 => self.agrees_at::<4>(line),
+            16 => self.agrees_at::<16>(line),
             32 => self.agrees_at::<32>(line),
             64 => self.agrees_at::<64>(line),
             128 => self.agrees_at::<128>(line),
@@ -71,7 +75,7 @@ impl Check {
             255 => self.agrees_at::<255>(line),
             256 => self.agrees_at::<256>(line),
             300 => self.agrees_at::<300>(line),
-            size => bail!("no buffer of size {size}"),
+            size => bail!("no buffer of size {size}: the sizes are {SIZES}"),
         })
     }
 
