@@ -30,7 +30,8 @@ pub record ReadsWhole (old new : Option (List ℕ)) (text : List ℕ) : Type 0 w
 
 -- a proper beginning of the bytes was appended
 abbrev pub AppendsPartOf : Option (List ℕ) → Option (List ℕ) → List ℕ → Type 0
-AppendsPartOf old new bytes = AppendsPart (λ before part after. Appends before after part) old bytes new
+AppendsPartOf old new bytes =
+    AppendsPart (λ before part after. Appends before after part) old bytes new
 
 -- the bytes were appended, or a part of them
 abbrev pub TriesToAppend : Option (List ℕ) → Option (List ℕ) → List ℕ → Type 0

@@ -95,7 +95,8 @@ pub fn run<I: Read, O: Write, E: Write>(
 fn show_input<I: Read, O: Write>(alloc: Global, input: &mut I, out: &mut O) -> Result<(), RunError>
     ensures ok { OnOk result (ShowsInput (I.remaining input.old) (I.remaining input.new)
         (O.contents out.old) (O.contents out.new)) }
-    ensures err { IfErr result (EndsRun (out.new ≡ out.old) (I.remaining input.old) (I.remaining input.new)
+    ensures err { IfErr result (EndsRun (out.new ≡ out.old)
+        (I.remaining input.old) (I.remaining input.new)
         (O.contents out.old) (O.contents out.new)) }
 {
     let text = read_input(alloc, input)?;
@@ -105,8 +106,10 @@ fn show_input<I: Read, O: Write>(alloc: Global, input: &mut I, out: &mut O) -> R
 
 // The whole input. Memory for the largest is asked first.
 fn read_input<I: Read>(alloc: Global, input: &mut I) -> Result<Vec<u8>, RunError>
-    ensures ok { IfOk result (λ text. ReadsWhole (I.remaining input.old) (I.remaining input.new) text.items) }
-    ensures err { IfErr result (λ e. (e ≡ RunError.Input) ⊎ (e ≡ RunError.NotShown ShowError.Memory)) }
+    ensures ok { IfOk result (λ text.
+        ReadsWhole (I.remaining input.old) (I.remaining input.new) text.items) }
+    ensures err { IfErr result (λ e.
+        (e ≡ RunError.Input) ⊎ (e ≡ RunError.NotShown ShowError.Memory)) }
 {
     let mut text = vec![in alloc; 0; MOST_INPUT + 1]?;
     let length = read_to_end(input, text.as_mut_slice())?;
@@ -118,7 +121,8 @@ fn read_input<I: Read>(alloc: Global, input: &mut I) -> Result<Vec<u8>, RunError
 // some room.
 fn read_to_end<I: Read>(input: &mut I, room: &mut [u8]) -> Result<usize, RunError>
     ensures within { IfOk result (λ n. n < length room.new) }
-    ensures read { IfOk result (λ n. Consumes (I.remaining input.old) (I.remaining input.new) (take n room.new)) }
+    ensures read { IfOk result (λ n.
+        Consumes (I.remaining input.old) (I.remaining input.new) (take n room.new)) }
     ensures end { OnOk result (IsAtEnd (I.remaining input.new)) }
     ensures err { IfErr result (λ e. e ≡ RunError.Input) }
 {
@@ -136,7 +140,8 @@ fn read_to_end<I: Read>(input: &mut I, room: &mut [u8]) -> Result<usize, RunErro
 // Not the writer's own `write_all`, which asks again after an interruption.
 fn write_whole<W: Write>(out: &mut W, bytes: &[u8]) -> Result<(), RunError>
     ensures ok { OnOk result (Appends (W.contents out.old) (W.contents out.new) bytes.now) }
-    ensures part { OnErr result (AppendsPartOf (W.contents out.old) (W.contents out.new) bytes.now) }
+    ensures part { OnErr result
+        (AppendsPartOf (W.contents out.old) (W.contents out.new) bytes.now) }
     ensures err { IfErr result (λ e. e ≡ RunError.Output) }
 {
     let mut rest = bytes;

@@ -460,7 +460,8 @@ impl<const S: usize> Ord for Multihash<S> {
 impl<const S: usize> PartialOrd for Multihash<S> {
     ghost partial_cmp = { as_partial_cmp (on pair_of compare_pairs) };
 
-    ghost laws = { partial_order_from_own_ties (Prim.search (comparing, rules) depth 9) (Prim.search (comparing, rules) depth 9) };
+    ghost laws = { partial_order_from_own_ties
+        (Prim.search (comparing, rules) depth 9) (Prim.search (comparing, rules) depth 9) };
 
     fn partial_cmp(&self, other: &Self) -> Option<Ordering> {
         Some(self.cmp(other))

@@ -159,7 +159,8 @@ pub(crate) fn read<R: Read>(r: &mut R) -> Result<u64, Error>
 /// answers none where no varint begins them, and `front_fault` says why.
 #[inline(always)]
 pub(crate) fn read_front(bytes: &[u8]) -> Option<(u64, usize)>
-    ensures some { IfSome result (λ found. TakesVarint found.0 (Some bytes.now) (Some (drop found.1 bytes.now))) }
+    ensures some { IfSome result (λ found.
+        TakesVarint found.0 (Some bytes.now) (Some (drop found.1 bytes.now))) }
     ensures within { IfSome result (λ found. found.1 ≤ length bytes.now) }
     ensures none { IfNone result (BeginsNoVarint bytes.now) }
 {
@@ -216,7 +217,8 @@ fn padded_word(bytes: &[u8]) -> u128
 // As `find_front` of the bytes that the word holds the first of.
 #[inline(always)]
 fn find_in(word: u128, present: usize) -> (u64, usize)
-    ensures { (bytes : List ℕ) → IsBytes bytes → IsFrontWord bytes word present → IsFoundFront bytes result.0 result.1 }
+    ensures { (bytes : List ℕ) → IsBytes bytes → IsFrontWord bytes word present →
+        IsFoundFront bytes result.0 result.1 }
 {
     // Most varints have one byte.
     if word & 0x80 == 0 && present > 0 {
@@ -228,7 +230,8 @@ fn find_in(word: u128, present: usize) -> (u64, usize)
 
 #[inline(never)]
 fn find_long(word: u128, present: usize) -> (u64, usize)
-    ensures { (bytes : List ℕ) → IsBytes bytes → IsFrontWord bytes word present → IsFoundFront bytes result.0 result.1 }
+    ensures { (bytes : List ℕ) → IsBytes bytes → IsFrontWord bytes word present →
+        IsFoundFront bytes result.0 result.1 }
 {
     match read_word(word, present) {
         Ok(found) => found,
@@ -268,11 +271,13 @@ fn read_word(word: u128, present: usize) -> Result<(u64, usize), Error>
 // As `read_word`, where the bytes of the low half are marked.
 #[inline(always)]
 fn read_high(word: u128, present: usize) -> Result<(u64, usize), Error>
-    ensures ok { IfOk result (λ found. (bytes : List ℕ) → IsBytes bytes → IsFrontWord bytes word present →
-        BeginsMarked 8 bytes → IsVarint found.0 (take found.1 bytes)) }
+    ensures ok { IfOk result (λ found. (bytes : List ℕ) → IsBytes bytes →
+        IsFrontWord bytes word present → BeginsMarked 8 bytes →
+        IsVarint found.0 (take found.1 bytes)) }
     ensures within { IfOk result (λ found. (0 < found.1) × (found.1 ≤ present)) }
-    ensures err { IfErr result (λ e. (bytes : List ℕ) → IsBytes bytes → IsFrontWord bytes word present →
-        BeginsMarked 8 bytes → IsFrontRefusal bytes e) }
+    ensures err { IfErr result (λ e. (bytes : List ℕ) → IsBytes bytes →
+        IsFrontWord bytes word present → BeginsMarked 8 bytes →
+        IsFrontRefusal bytes e) }
 {
     let low = (word & 0xffff_ffff_ffff_ffff) as u64;
     let high = (word >> 64) as u64;

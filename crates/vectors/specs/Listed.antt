@@ -48,7 +48,8 @@ pub record DecodesAfter (S : ℕ) (input : List ℕ) (count : ℕ) : Type 0 wher
   pub verdict : Meaning
   pub decodes : HasScaleVerdict S front verdict
   pub late : verdict ≢ unexpected_eof
-  pub shortest : (shorter : List ℕ) → IsProperBeginning shorter front → HasScaleVerdict S shorter unexpected_eof
+  pub shortest : (shorter : List ℕ) → IsProperBeginning shorter front →
+      HasScaleVerdict S shorter unexpected_eof
   pub long : length front ≡ count
 
 -- decoding needs so many bytes, or where none are listed it ends early
@@ -58,7 +59,8 @@ IsScaleTaken S input v taken = MatchOption taken (v ≡ unexpected_eof) (Decodes
 -- the listed verdict is that of decoding what begins with the input, and so is the number of bytes
 abbrev pub IsScaleReading : ℕ → List ℕ → Reading → Type 0
 IsScaleReading S input listed =
-    HasScaleVerdict S input (meaning listed.verdict) × IsScaleTaken S input (meaning listed.verdict) listed.taken
+    HasScaleVerdict S input (meaning listed.verdict)
+    × IsScaleTaken S input (meaning listed.verdict) listed.taken
 
 -- the byte ends a varint
 abbrev pub ends_varint : ℕ → Bool
@@ -72,16 +74,19 @@ TakesEnough (invalid_size size) input left = ⊥
 TakesEnough (faulty insufficient) input left = left ≡ []
 TakesEnough (faulty overflow) input left = ⊥
 TakesEnough (faulty not_minimal) input left = ⊥
-TakesEnough unexpected_eof input left = 2 ≤ count_by ends_varint (take (length input - length left) input)
+TakesEnough unexpected_eof input left =
+    2 ≤ count_by ends_varint (take (length input - length left) input)
 
 -- reading took as many bytes as are listed; none are listed exactly where more input could change the verdict
 abbrev pub TakesAsReadListed : List ℕ → List ℕ → Reading → Type 0
-TakesAsReadListed input left listed = MatchOption listed.taken (TakesEnough (meaning listed.verdict) input left)
+TakesAsReadListed input left listed =
+    MatchOption listed.taken (TakesEnough (meaning listed.verdict) input left)
     (λ taken. ¬ (IsEarlyEnd (meaning listed.verdict)) × (length input ≡ taken + length left))
 
 -- decoding took as many bytes as are listed; none are listed exactly where it ends early
 abbrev pub TakesAsScaleListed : List ℕ → List ℕ → Reading → Type 0
-TakesAsScaleListed input left listed = MatchOption listed.taken (meaning listed.verdict ≡ unexpected_eof)
+TakesAsScaleListed input left listed =
+    MatchOption listed.taken (meaning listed.verdict ≡ unexpected_eof)
     (λ taken. (meaning listed.verdict ≢ unexpected_eof) × (length input ≡ taken + length left))
 
 -- what the line says for this check is what the grammar says

@@ -28,9 +28,11 @@ impl Read for Cuts<'_> {
     ghost failures = { λ _. 0 };
 
     fn read(&mut self, buf: &mut [u8]) -> Result<usize, Error>
-        ensures laws { ReadLaws (λ cuts. Some cuts.left.now) (λ _. 0) self.old self.new buf.old buf.new result }
+        ensures laws { ReadLaws (λ cuts. Some cuts.left.now) (λ _. 0)
+            self.old self.new buf.old buf.new result }
 
-        ensures smallest { result ≡ Ok (min (min (length self.old.left.now) (length buf.old)) self.old.most) }
+        ensures smallest { result ≡
+            Ok (min (min (length self.old.left.now) (length buf.old)) self.old.most) }
         ensures same_most { self.new.most ≡ self.old.most }
     {
         let n = self.left.len().min(buf.len()).min(self.most);

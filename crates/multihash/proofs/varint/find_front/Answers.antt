@@ -1,5 +1,5 @@
 use Rattle.std.proofs.Common.{arith}
-use Rattle.multihash.proofs.WordLemmas.{bytes_of, whole_front}
+use Rattle.multihash.proofs.WordFrontLemmas.{bytes_of, whole_front}
 use Rattle.multihash.proofs.varint.find_front.Goals as goal
 
 pub returns-in-Some : goal.returns-in-Some

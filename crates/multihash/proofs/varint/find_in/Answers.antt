@@ -1,5 +1,5 @@
 use Rattle.std.proofs.Common.{arith}
-use Rattle.multihash.proofs.WordLemmas.{one_byte}
+use Rattle.multihash.proofs.WordFrontLemmas.{one_byte}
 use Rattle.multihash.proofs.varint.find_in.Goals as goal
 
 pub returns-then-present-gt0 : goal.returns-then-present-gt0

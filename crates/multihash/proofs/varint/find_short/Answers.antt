@@ -1,6 +1,5 @@
-use Rattle.std.proofs.Common.{arith, sym, subst, length, take}
-use Rattle.std.proofs.lemmas.List.{take_all}
-use Rattle.multihash.proofs.WordLemmas.{bytes_of, all_front}
+use Rattle.std.proofs.Common.{arith}
+use Rattle.multihash.proofs.WordFrontLemmas.{bytes_of, all_front}
 use Rattle.multihash.proofs.varint.find_short.Goals as goal
 
 pub returns : goal.returns

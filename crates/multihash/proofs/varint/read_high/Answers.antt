@@ -1,6 +1,7 @@
 use Rattle.std.proofs.Common.{arith, ◌/◌, ◌^◌}
 use Rattle.multihash.specs.Varint.{insufficient, overflow, not_minimal}
-use Rattle.multihash.proofs.WordLemmas.{high_over, high_short, high_zero, high_number, few_marked_high}
+use Rattle.multihash.proofs.WordFrontLemmas.{high_over, high_short, high_zero, high_number}
+use Rattle.multihash.proofs.WordLemmas.{few_marked_high}
 use Rattle.multihash.proofs.varint.read_high.Goals as goal
 
 pub returns-then-varint-ge-TOO_LARGE-clause-err : goal.returns-then-varint-ge-TOO_LARGE-clause-err

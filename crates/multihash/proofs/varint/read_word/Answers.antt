@@ -1,7 +1,8 @@
 use Rattle.std.proofs.Common.{arith}
 use Rattle.std.proofs.lemmas.Result.{IfOk-weaker, IfErr-weaker}
 use Rattle.multihash.specs.Varint.{insufficient, not_minimal}
-use Rattle.multihash.proofs.WordLemmas.{low_marked, low_short, low_zero, low_number, stop_early}
+use Rattle.multihash.proofs.WordFrontLemmas.{low_marked, low_short, low_zero, low_number}
+use Rattle.multihash.proofs.WordLemmas.{stop_early}
 use Rattle.multihash.proofs.varint.read_word.Goals as goal
 use Rattle.multihash.proofs.varint.read_word.Goals.{else-varint-marked-eq0-via-then-varint-marked-eq0+else-marked-gt0, else-varint-marked-eq0-via-else-varint-marked-eq0}
 
