@@ -10,7 +10,7 @@ use Rattle.multihash.specs.Pair.{Pair}
 use Rattle.multihash.specs.Varint.{IsVarint, marked}
 use Rattle.multihash.specs.Encoding.{IsEncoding}
 use Rattle.multihash.specs.Json.{number_array, IsByteArray, IsJsonList}
-use Rattle.multihash.proofs.RunLemmas.{All-append_left, All-append_right}
+use Rattle.multihash.proofs.MarkedLemmas.{All-append_left, All-append_right}
 use Rattle.multihash.proofs.VerdictLemmas.{encoding_unique}
 
 abbrev IsByte : ℕ → Type 0

@@ -31,8 +31,8 @@ take_twice a b xs =
     ]
 
 -- a digest in front of a buffer is the pair's
-pub filled : (code size : ℕ) (digest front rest : List ℕ) → size ≡ length digest → front ≡ digest
+pub pair_in_front : (code size : ℕ) (digest front rest : List ℕ) → size ≡ length digest → front ≡ digest
     → ◌≡◌ {A = Pair} (record { code = code; digest = take size (front ++ rest) }) (record { code = code; digest = digest })
-filled code size digest front rest long same =
+pair_in_front code size digest front rest long same =
     same_pair (record { code = code; digest = take size (front ++ rest) }) (record { code = code; digest = digest }) refl
     (take_at front rest size (ap length same ∙ sym long) ∙ same)

@@ -11,7 +11,7 @@ use Rattle.multihash.specs.Verdict.{Verdict, accepted, invalid_size, faulty, une
 use Rattle.multihash.specs.Settling.{Settles, IsShortestSettling}
 use Rattle.multihash.proofs.BeginningLemmas.{split_beginning, compare_beginnings}
 use Rattle.multihash.proofs.DigitLemmas.{place_value-cons, place_value-nil}
-use Rattle.multihash.proofs.RunLemmas.{All-marked}
+use Rattle.multihash.proofs.MarkedLemmas.{All-marked}
 use Rattle.multihash.proofs.VarintLemmas.{varint_length}
 use Rattle.multihash.proofs.VerdictLemmas.{verdict_unique}
 use Rattle.multihash.proofs.WritingLemmas.{some_items}

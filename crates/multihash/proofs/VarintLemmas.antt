@@ -9,7 +9,7 @@ use Rattle.std.proofs.lemmas.List.Elements.{All-nil, All-cons, All-head, All-tai
 use Rattle.multihash.specs.Bytes.{IsBytes, place_value}
 use Rattle.multihash.specs.Varint.{varint_limit, most_marked, first_too_large, IsMarked, marked, IsVarint, VarintFault, insufficient, overflow, not_minimal, IsInsufficient, IsOverflow, IsNotMinimal, HasFaultyFront}
 use Rattle.multihash.proofs.DigitLemmas.{place_value-nil, place_value-cons, place_value_below, place_value_last}
-use Rattle.multihash.proofs.RunLemmas.{All-append_left, All-append_right, cut_unique, run_within, Run, whole, ends, run, All-marked, marked-unique, unmarked, marked-unmarked, unmarked_digits, unmarked-nil, length-unmarked}
+use Rattle.multihash.proofs.MarkedLemmas.{All-append_left, All-append_right, cut_unique, run_within, Run, whole, ends, run, All-marked, marked-unique, unmarked, marked-unmarked, unmarked_digits, unmarked-nil, length-unmarked}
 
 abbrev IsDigit : ℕ → Type 0
 IsDigit d = d < 128

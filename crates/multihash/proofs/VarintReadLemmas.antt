@@ -9,7 +9,7 @@ use Rattle.std.proofs.lemmas.List.Elements.{All-nil, All-push}
 use Rattle.multihash.specs.Bytes.{IsBytes, IsProperBeginning, place_value}
 use Rattle.multihash.specs.Varint.{most_marked, first_too_large, IsMarked, IsVarint, IsInsufficient, IsOverflow, IsNotMinimal}
 use Rattle.multihash.proofs.DigitLemmas.{place_value-nil, place_value_below, place_value_last}
-use Rattle.multihash.proofs.RunLemmas.{unmarked, unmarked-nil, unmarked_push, length-unmarked, unmarked_digits}
+use Rattle.multihash.proofs.MarkedLemmas.{unmarked, unmarked-nil, unmarked_push, length-unmarked, unmarked_digits}
 use Rattle.multihash.proofs.VarintLemmas.{in_range, varint_from_bytes}
 use Rattle.multihash.proofs.SettlingLemmas.{before_step}
 

@@ -8,7 +8,7 @@ use Rattle.multihash.specs.Pair.{Pair, FitsBuffer, digest_limit}
 use Rattle.multihash.specs.Varint.{varint_limit, IsVarint}
 use Rattle.multihash.specs.Encoding.{IsEncoding}
 use Rattle.multihash.specs.Verdict.{Verdict, accepted, invalid_size, faulty, unexpected_eof, BeginsWith, HasSize, HasVerdict, HasWholeVerdict}
-use Rattle.multihash.proofs.RunLemmas.{All-append_right}
+use Rattle.multihash.proofs.MarkedLemmas.{All-append_right}
 use Rattle.multihash.proofs.VarintLemmas.{varint_exists, varint_unique, Front, number, fault, HasFront, front_unique, front_exists}
 
 -- ---- encodings

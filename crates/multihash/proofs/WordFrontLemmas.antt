@@ -14,7 +14,7 @@ use Rattle.multihash.specs.Bytes.{IsBytes, place_value}
 use Rattle.multihash.specs.Varint.{most_marked, first_too_large, IsMarked, IsVarint, IsInsufficient, IsOverflow, IsNotMinimal}
 use Rattle.multihash.specs.Word.{IsFrontWord, BeginsMarked, digits_low}
 use Rattle.multihash.proofs.DigitLemmas.{place_value-nil, place_value-cons, place_value_last}
-use Rattle.multihash.proofs.RunLemmas.{unmarked, unmarked-nil, length-unmarked, unmarked_digits}
+use Rattle.multihash.proofs.MarkedLemmas.{unmarked, unmarked-nil, length-unmarked, unmarked_digits}
 use Rattle.multihash.proofs.VarintLemmas.{in_range, varint_from_bytes}
 use Rattle.multihash.proofs.WordLemmas.{byte_of, low_bytes, high_bytes, digits_low_below, digits_low_split, digits_low_is, stop_bits, varint_bits, FirstUnmarked, first_unmarked, last_place, too_large, stop_early, kept_byte, kept_below, kept_last, few_marked}
 

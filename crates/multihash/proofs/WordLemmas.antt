@@ -14,7 +14,7 @@ use Rattle.multihash.specs.Bytes.{IsBytes, place_value}
 use Rattle.multihash.specs.Varint.{most_marked, first_too_large, IsMarked}
 use Rattle.multihash.specs.Word.{digits_low}
 use Rattle.multihash.proofs.DigitLemmas.{place_value-nil, place_value-cons, place_value_below}
-use Rattle.multihash.proofs.RunLemmas.{unmarked, unmarked-nil, unmarked-cons}
+use Rattle.multihash.proofs.MarkedLemmas.{unmarked, unmarked-nil, unmarked-cons}
 
 -- ---- one byte more
 

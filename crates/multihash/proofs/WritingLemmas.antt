@@ -49,7 +49,7 @@ module _ {W : Type 0} (appended : W → List ℕ → W → Type 0) where
   }
 
 -- a writer that stopped has a part of bytes of which the fact holds
-pub stopped : {T E W : Type 0} (IsForm : List ℕ → Type 0) (appended : W → List ℕ → W → Type 0) (old new : W) (r : Result T E) (bytes : List ℕ)
+pub appends_part_of_a_form : {T E W : Type 0} (IsForm : List ℕ → Type 0) (appended : W → List ℕ → W → Type 0) (old new : W) (r : Result T E) (bytes : List ℕ)
     → IsForm bytes → AppendsPart appended old bytes new → OnErr r ((bytes : List ℕ) × IsForm bytes × AppendsPart appended old bytes new)
-stopped IsForm appended old new (Ok x) bytes is_form part = tt
-stopped IsForm appended old new (Err e) bytes is_form part = (bytes, is_form, part)
+appends_part_of_a_form IsForm appended old new (Ok x) bytes is_form part = tt
+appends_part_of_a_form IsForm appended old new (Err e) bytes is_form part = (bytes, is_form, part)

@@ -1,6 +1,6 @@
 use Rattle.std.proofs.Common.{◌≡◌, ℕ, List, Option, Result, Ok, Err, IfErr, OnErr, refl, sym, ap, subst}
 use Rattle.multihash.specs.Refusal.{Refusal}
-use Rattle.multihash.proofs.ResultLemmas.{passed_on}
+use Rattle.multihash.proofs.OutcomeLemmas.{passed_on}
 use Rattle.mh_show.specs.declared.run.RunError.{RunError}
 use Rattle.mh_show.specs.declared.run.RunError.TheVariants.{NotShown, Output}
 use Rattle.mh_show.specs.declared.show.ShowError.{ShowError}

@@ -1,7 +1,7 @@
 use Rattle.std.proofs.Common.{◌≡◌, ◌<◌, [], ◌∷◌, ◌++◌, length, map, refl, ap, ◌∙◌, inr, arith, rules}
 use Rattle.std.proofs.lemmas.List.{length-map}
 use Rattle.multihash.specs.Answer.{pair_of}
-use Rattle.multihash.proofs.ResultLemmas.{passed_on}
+use Rattle.multihash.proofs.OutcomeLemmas.{passed_on}
 use Rattle.multihash.proofs.StreamLemmas.{TakesPairs-none, TakesPairs-more}
 use Rattle.multihash.proofs.list.read_list.Goals as goal
 

@@ -4,7 +4,7 @@ use Rattle.multihash.specs.Answer.{Fields, pair_of}
 use Rattle.multihash.specs.Joined.{AreJoined}
 use Rattle.multihash.specs.Writing.{AppendsPart}
 use Rattle.multihash.specs.Streams.{AppendsPartOfPairs}
-use Rattle.multihash.proofs.ResultLemmas.{OnErr-always}
+use Rattle.multihash.proofs.OutcomeLemmas.{OnErr-always}
 use Rattle.multihash.proofs.JoinedLemmas.{AreJoined-none, AreJoined-push}
 use Rattle.multihash.proofs.StreamLemmas.{stops_at, part_of_all}
 use Rattle.multihash.proofs.ValueLemmas.{all_fit, have_stream}

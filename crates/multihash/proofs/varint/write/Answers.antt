@@ -2,12 +2,12 @@ use Rattle.std.proofs.Common.{[], ◌∷◌, refl, arith, ap, length}
 use Rattle.multihash.specs.Varint.{IsVarint}
 use Rattle.multihash.proofs.VarintWriteLemmas.{one_byte}
 use Rattle.multihash.proofs.LengthLemmas.{varint_longest}
-use Rattle.multihash.proofs.WritingLemmas.{stopped}
+use Rattle.multihash.proofs.WritingLemmas.{appends_part_of_a_form}
 use Rattle.multihash.proofs.varint.write.Goals as goal
 
 pub returns-in_err-write_all-clause-err : goal.returns-in_err-write_all-clause-err
 returns-in_err-write_all-clause-err g c =
-    stopped (IsVarint c.args.n) _ _ _ _ (c.args.n ∷ []) (one_byte c.args.n c.if-n-lt128.true) c.in_err-write_all.ensures.laws.err
+    appends_part_of_a_form (IsVarint c.args.n) _ _ _ _ (c.args.n ∷ []) (one_byte c.args.n c.if-n-lt128.true) c.in_err-write_all.ensures.laws.err
 
 pub returns-then-n-lt128-clause-ok : goal.returns-then-n-lt128-clause-ok
 returns-then-n-lt128-clause-ok g c = (c.args.n ∷ [], one_byte c.args.n c.if-n-lt128.true, refl, c.in_ok-write_all.ensures.laws.ok)

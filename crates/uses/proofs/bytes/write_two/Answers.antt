@@ -1,4 +1,4 @@
-use Rattle.multihash.proofs.ResultLemmas.{OnErr-always}
+use Rattle.multihash.proofs.OutcomeLemmas.{OnErr-always}
 use Rattle.multihash.proofs.WritingLemmas.{AppendsPart-append, AppendsPart-joined}
 use Rattle.std.proofs.lemmas.Result.{on_err_weaker}
 use Rattle.uses.proofs.bytes.write_two.Goals as goal

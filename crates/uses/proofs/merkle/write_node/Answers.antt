@@ -2,7 +2,7 @@ use Rattle.std.proofs.Common.{List, ℕ, ◌++◌, map}
 use Rattle.multihash.specs.Joined.{AreJoined}
 use Rattle.multihash.specs.Writing.{AppendsPart}
 use Rattle.multihash.specs.Answer.{pair_of}
-use Rattle.multihash.proofs.ResultLemmas.{OnErr-always}
+use Rattle.multihash.proofs.OutcomeLemmas.{OnErr-always}
 use Rattle.multihash.proofs.WritingLemmas.{AppendsPart-append, AppendsPart-joined}
 use Rattle.uses.proofs.merkle.write_node.Goals as goal
 

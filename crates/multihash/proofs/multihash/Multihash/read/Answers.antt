@@ -4,15 +4,15 @@ use Rattle.multihash.specs.Pair.{digest_limit}
 use Rattle.multihash.specs.Varint.{IsVarint}
 use Rattle.multihash.specs.Answer.{Fields}
 use Rattle.multihash.proofs.ReadingLemmas.{Takes-joined}
-use Rattle.multihash.proofs.StopLemmas.{stops_in_code, stops_in_size, stops_at_size, stops_in_digest, encodes_fields}
-use Rattle.multihash.proofs.TakingLemmas.{refused, answered}
+use Rattle.multihash.proofs.ReadStopLemmas.{stops_in_code, stops_in_size, stops_at_size, stops_in_digest, encodes_fields}
+use Rattle.multihash.proofs.ReadTakingLemmas.{read_refused, read_answered}
 use Rattle.multihash.proofs.multihash.Multihash.read.Goals as goal
 
 pub returns-in_err-code : goal.returns-in_err-code
 returns-in_err-code g c =
     let S = g.row.S in
     let t = c.in_err-code.ensures.err in
-    refused S t.taken _ _ _ _ c.from_residual.result _ c.from_residual.ensures.1 t.takes
+    read_refused S t.taken _ _ _ _ c.from_residual.result _ c.from_residual.ensures.1 t.takes
     (stops_in_code S _ _ _ _ _ t c.in_err-code.ensures.faults)
 
 pub returns-in_err-read : goal.returns-in_err-read
@@ -21,7 +21,7 @@ returns-in_err-read g c =
     let code = c.in_ok-code.ensures in
     let t = c.in_err-read.ensures.err in
     let same = code.faults in
-    refused S (code.ok.0 ++ t.taken) _ _ _ _ c.from_residual-in_err-read.result _ c.from_residual-in_err-read.ensures.1
+    read_refused S (code.ok.0 ++ t.taken) _ _ _ _ c.from_residual-in_err-read.result _ c.from_residual-in_err-read.ensures.1
     (Takes-joined _ _ _ code.ok.0 t.taken _ refl code.ok.2 t.takes)
     (stops_in_size S _ code.ok.0 code.ok.1 _ _ _ _ _ t (rw same at c.in_err-read.ensures.faults))
 
@@ -30,7 +30,7 @@ returns-in_err-size g c =
     let S = g.row.S in
     let code = c.in_ok-code.ensures in
     let size = c.in_ok-read.ensures in
-    refused S (code.ok.0 ++ size.ok.0) _ _ _ _ c.from_residual-in_err-size.result _ c.from_residual-in_err-size.ensures.1
+    read_refused S (code.ok.0 ++ size.ok.0) _ _ _ _ c.from_residual-in_err-size.result _ c.from_residual-in_err-size.ensures.1
     (Takes-joined _ _ _ code.ok.0 size.ok.0 _ refl code.ok.2 size.ok.2)
     (stops_at_size S _ _ code.ok.0 size.ok.0 code.ok.1 size.ok.1 _ _ _ _ (size.faults ∙ code.faults) c.in_err-size.ensures.over c.in_err-size.ensures.err)
 
@@ -43,7 +43,7 @@ returns-in_err-read_exact g c =
     let room : length (take c.from-len.result (replicate {A = ℕ} S 0)) ≡ c.in_ok-read.field-0 =
     length-take-le c.from-len.result (replicate {A = ℕ} S 0) (omega (arith, length-replicate {A = ℕ} S 0, c.in_ok-size.ensures.ok, c.in_ok-size.ensures.fits))
     ∙ (c.from-len.ensures ∙ c.in_ok-size.ensures.ok) in
-    refused S (code.ok.0 ++ (size.ok.0 ++ t.taken)) _ _ _ _ c.from_residual-in_err-read_exact.result _ c.from_residual-in_err-read_exact.ensures.1
+    read_refused S (code.ok.0 ++ (size.ok.0 ++ t.taken)) _ _ _ _ c.from_residual-in_err-read_exact.result _ c.from_residual-in_err-read_exact.ensures.1
     (Takes-joined _ _ _ code.ok.0 (size.ok.0 ++ t.taken) _ refl code.ok.2 (Takes-joined _ _ _ size.ok.0 t.taken _ refl size.ok.2 t.takes))
     (stops_in_digest S _ _ code.ok.0 size.ok.0 code.ok.1 size.ok.1 _ t.taken _ _ _ _ c.in_ok-size.ensures.fits
     (omega (arith, t.fewer, room)) t.takes (rw room at c.in_err-read_exact.ensures.laws.eof)
@@ -67,7 +67,7 @@ returns g c =
       in_range = code.ok.1.in_range;
       fits = within;
     } in
-    answered S (code.ok.0 ++ (size.ok.0 ++ digest)) _ _ _ _ made
+    read_answered S (code.ok.0 ++ (size.ok.0 ++ digest)) _ _ _ _ made
     (c.in_ok-read_exact.ensures.laws.faults ∙ (size.faults ∙ code.faults))
     (encodes_fields S _ _ code.ok.0 size.ok.0 code.ok.1 is_size made digest refl front long)
     (Takes-joined _ _ _ code.ok.0 (size.ok.0 ++ digest) _ refl code.ok.2 (Takes-joined _ _ _ size.ok.0 digest _ refl size.ok.2 c.in_ok-read_exact.ensures.laws.takes))

@@ -1,7 +1,7 @@
 use Rattle.std.proofs.Common.{IsErr, ◌≡◌, ◌<◌, ℕ, [], ◌∷◌, ◌++◌, length, get_or, take, drop, replicate, refl, sym, ap, ◌∙◌, arith, rules}
 use Rattle.std.proofs.lemmas.List.{take_at, length-take-le, length-replicate}
 use Rattle.multihash.proofs.ReadingLemmas.{Takes-joined}
-use Rattle.multihash.proofs.ResultLemmas.{passed_on}
+use Rattle.multihash.proofs.OutcomeLemmas.{passed_on}
 use Rattle.multihash.proofs.ScaleCodeLemmas.{some_code, code_read}
 use Rattle.multihash.proofs.ScaleTakingLemmas.{one_item, large_verdict, large_taken, cut_verdict, cut_taken, whole_form, made_ok, made_verdict, passed_answer}
 use Rattle.multihash.proofs.multihash.Multihash.scale_decode.Goals as goal

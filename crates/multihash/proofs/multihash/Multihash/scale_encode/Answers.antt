@@ -3,7 +3,7 @@ use Rattle.multihash.specs.Scale.{IsScaleCode, IsScale}
 use Rattle.multihash.specs.Answer.{pair_of}
 use Rattle.multihash.proofs.ScaleCodeLemmas.{code_bytes}
 use Rattle.multihash.proofs.ScaleTakingLemmas.{scale_of, scale_length}
-use Rattle.multihash.proofs.WritingLemmas.{AppendsPart-append, AppendsPart-joined, stopped}
+use Rattle.multihash.proofs.WritingLemmas.{AppendsPart-append, AppendsPart-joined, appends_part_of_a_form}
 use Rattle.multihash.proofs.multihash.Multihash.scale_encode.Goals as goal
 
 pub returns-in_err-write_all-clause-err : goal.returns-in_err-write_all-clause-err
@@ -15,7 +15,7 @@ returns-in_err-write_all-clause-err g c =
     let is_code : IsScaleCode c.code.result a = rw c.to_le_bytes-code.ensures (code_bytes c.code.result (omega (arith, c.code.type_inv))) in
     let form : IsScale p (a ++ ((size ∷ []) ++ d)) =
     scale_of p _ size a d c.code.ensures c.size-size.ensures.size c.digest-digest.ensures.digest (omega (arith, c.size-size.type_inv)) is_code in
-    stopped (IsScale p) _ _ _ _ (a ++ ((size ∷ []) ++ d)) form
+    appends_part_of_a_form (IsScale p) _ _ _ _ (a ++ ((size ∷ []) ++ d)) form
     (AppendsPart-append g.W.Write.appended _ _ a ((size ∷ []) ++ d) c.in_err-write_all.ensures.laws.err)
 
 pub returns-in_err-write_all-2-clause-err : goal.returns-in_err-write_all-2-clause-err
@@ -29,7 +29,7 @@ returns-in_err-write_all-2-clause-err g c =
     scale_of p _ size a d c.code.ensures c.size-size.ensures.size c.digest-digest.ensures.digest (omega (arith, c.size-size.type_inv)) is_code in
     let join = g.met.W.Write.appends_joined in
     let appended = g.W.Write.appended in
-    stopped (IsScale p) _ _ _ _ (a ++ ((size ∷ []) ++ d)) form
+    appends_part_of_a_form (IsScale p) _ _ _ _ (a ++ ((size ∷ []) ++ d)) form
     (AppendsPart-joined appended join _ _ _ a ((size ∷ []) ++ d) c.in_ok-write_all.ensures.laws.ok
     (AppendsPart-append appended _ _ (size ∷ []) d c.in_err-write_all-2.ensures.laws.err))
 
@@ -44,7 +44,7 @@ returns-in_err-write_all-3-clause-err g c =
     scale_of p _ size a d c.code.ensures c.size-size.ensures.size c.digest-digest.ensures.digest (omega (arith, c.size-size.type_inv)) is_code in
     let join = g.met.W.Write.appends_joined in
     let appended = g.W.Write.appended in
-    stopped (IsScale p) _ _ _ _ (a ++ ((size ∷ []) ++ d)) form
+    appends_part_of_a_form (IsScale p) _ _ _ _ (a ++ ((size ∷ []) ++ d)) form
     (AppendsPart-joined appended join _ _ _ a ((size ∷ []) ++ d) c.in_ok-write_all.ensures.laws.ok
     (AppendsPart-joined appended join _ _ _ (size ∷ []) d c.in_ok-write_all-2.ensures.laws.ok c.in_err-write_all-3.ensures.laws.err))
 

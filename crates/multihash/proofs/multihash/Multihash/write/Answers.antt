@@ -3,7 +3,7 @@ use Rattle.multihash.specs.Encoding.{IsEncoding}
 use Rattle.multihash.specs.Answer.{pair_of}
 use Rattle.multihash.proofs.EncodingLemmas.{encoding_of, length-parts}
 use Rattle.multihash.proofs.VarintLemmas.{varint_exists}
-use Rattle.multihash.proofs.WritingLemmas.{AppendsPart-append, AppendsPart-joined, stopped}
+use Rattle.multihash.proofs.WritingLemmas.{AppendsPart-append, AppendsPart-joined, appends_part_of_a_form}
 use Rattle.multihash.proofs.multihash.Multihash.write.Goals as goal
 
 pub returns-in_err-code-clause-err : goal.returns-in_err-code-clause-err
@@ -12,7 +12,7 @@ returns-in_err-code-clause-err g c =
     let a = c.in_err-code.ensures.err in
     let b = varint_exists (length p.digest) (omega (arith, c.digest-digest.ensures.fits)) in
     let d = c.digest-digest.result.now in
-    stopped (IsEncoding p) _ _ _ _ (a.0 ++ (b.0 ++ d))
+    appends_part_of_a_form (IsEncoding p) _ _ _ _ (a.0 ++ (b.0 ++ d))
     (encoding_of p _ _ d a.0 b.0 c.code.ensures refl c.digest-digest.ensures.digest a.1 b.1)
     (AppendsPart-append g.W.Write.appended _ _ a.0 (b.0 ++ d) a.2)
 
@@ -23,7 +23,7 @@ returns-in_err-size-clause-err g c =
     let a = c.in_ok-code.ensures.ok in
     let b = c.in_err-size.ensures.err in
     let d = c.digest-digest.result.now in
-    stopped (IsEncoding p) _ _ _ _ (a.0 ++ (b.0 ++ d))
+    appends_part_of_a_form (IsEncoding p) _ _ _ _ (a.0 ++ (b.0 ++ d))
     (encoding_of p _ _ d a.0 b.0 c.code.ensures (c.from.ensures ∙ c.size.ensures.size) c.digest-digest.ensures.digest a.1 b.1)
     (AppendsPart-joined appended g.met.W.Write.appends_joined _ _ _ a.0 (b.0 ++ d) a.3
     (AppendsPart-append appended _ _ b.0 d b.2))
@@ -36,7 +36,7 @@ returns-in_err-write_all-clause-err g c =
     let a = c.in_ok-code.ensures.ok in
     let b = c.in_ok-size.ensures.ok in
     let d = c.digest-digest.result.now in
-    stopped (IsEncoding p) _ _ _ _ (a.0 ++ (b.0 ++ d))
+    appends_part_of_a_form (IsEncoding p) _ _ _ _ (a.0 ++ (b.0 ++ d))
     (encoding_of p _ _ d a.0 b.0 c.code.ensures (c.from.ensures ∙ c.size.ensures.size) c.digest-digest.ensures.digest a.1 b.1)
     (AppendsPart-joined appended join _ _ _ a.0 (b.0 ++ d) a.3
     (AppendsPart-joined appended join _ _ _ b.0 d b.3 c.in_err-write_all.ensures.laws.err))

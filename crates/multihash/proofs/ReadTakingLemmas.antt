@@ -223,10 +223,10 @@ ReadMeets S old new before after r = record {
   unsettled : IfSome old (λ rest. EndsOrFails S rest before after → TakesUnsettled S rest new);
 }
 
-pub refused : (S : ℕ) (taken : List ℕ) (old new : Option (List ℕ)) (before after : ℕ) (r : Result (Fields S) Refusal) (e : Refusal)
+pub read_refused : (S : ℕ) (taken : List ℕ) (old new : Option (List ℕ)) (before after : ℕ) (r : Result (Fields S) Refusal) (e : Refusal)
     → IsErrAnd r (λ x. x ≡ e) → Takes old taken new → Stops S e taken new before after → ReadMeets S old new before after r
-refused S taken old new before after (Ok m) e given takes stop = absurd given
-refused S taken old new before after (Err x) e given takes stop = record {
+read_refused S taken old new before after (Ok m) e given takes stop = absurd given
+read_refused S taken old new before after (Err x) e given takes stop = record {
   faults = stop_faults S x taken old new before after takes own;
   verdict = stop_verdict S x taken old new before after takes own;
   ok = tt;
@@ -239,9 +239,9 @@ refused S taken old new before after (Err x) e given takes stop = record {
     own : Stops S x taken new before after
     own = subst (λ (y : Refusal). Stops S y taken new before after) (sym given) stop
 
-pub answered : (S : ℕ) (taken : List ℕ) (old new : Option (List ℕ)) (before after : ℕ) (m : Fields S) → after ≡ before
+pub read_answered : (S : ℕ) (taken : List ℕ) (old new : Option (List ℕ)) (before after : ℕ) (m : Fields S) → after ≡ before
     → IsEncoding (pair_of m) taken → Takes old taken new → ReadMeets S old new before after (Ok m)
-answered S taken old new before after m unrisen encodes takes =
+read_answered S taken old new before after m unrisen encodes takes =
     let fits = digest_fits m in record {
       faults = unrisen;
       verdict = IfSome-weaker old (λ rest h _. (accepted (pair_of m), h, refl))

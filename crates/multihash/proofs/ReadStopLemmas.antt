@@ -13,7 +13,7 @@ use Rattle.multihash.specs.Taking.{IsVarintRefusal, TakesAtVarintRefusal}
 use Rattle.multihash.specs.Answer.{Fields, pair_of}
 use Rattle.multihash.proofs.BeginningLemmas.{split_beginning}
 use Rattle.multihash.proofs.SettlingLemmas.{EndsEarly, varint_step, before_first, before_second}
-use Rattle.multihash.proofs.TakingLemmas.{Stops, late, early, failed}
+use Rattle.multihash.proofs.ReadTakingLemmas.{Stops, late, early, failed}
 
 -- how reading a varint counted
 abbrev pub VarintCounts : ℕ → ℕ → Refusal → Type 0
