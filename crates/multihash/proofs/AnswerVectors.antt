@@ -1,5 +1,5 @@
 -- What answers a verdict, the texts of refusals, and the kinds of faults.
-use Rattle.std.proofs.Common.{◌≡◌, ℕ, List, length, refl, ap, arith, rules, inl, inr}
+use Rattle.std.proofs.Common.{◌≡◌, ℕ, List, length, refl, ap, arith, inl, inr}
 use Rattle.std.specs.Prelude.{codes, Ok, Err}
 use Rattle.std.specs.Fmt.{digits}
 use Rattle.multihash.specs.declared.no_std_io.error.Kind.TheVariants.{UnexpectedEof, WriteZero, OutOfMemory, Other}

@@ -1,5 +1,5 @@
 -- The kinds of faults, each told from the others, and their texts.
-use Rattle.std.proofs.Common.{◌≡◌, ℕ, List, [], length, get_or, refl, ap, arith, inl, inr}
+use Rattle.std.proofs.Common.{◌≡◌, ℕ, List, [], length, refl, ap, arith, inl, inr}
 use Rattle.std.specs.Prelude.{codes}
 use Rattle.multihash.specs.declared.no_std_io.error.Kind.TheVariants.{UnexpectedEof, WriteZero, OutOfMemory, Other}
 use Rattle.multihash.specs.Fault.{Fault, IsUnexpectedEof, IsWriteZero, IsOutOfMemory, IsOther, IsOwnFault, text_of, printed, HasStandardText}

@@ -1,7 +1,7 @@
 -- The bytes that known JSON values are.
 use Rattle.std.proofs.Common.{◌≡◌, ℕ, List, [], ◌∷◌, refl}
-use Rattle.std.specs.Prelude.{Option, Some, None, ℤ, Float, Bool, codes}
-use Rattle.serde_json.specs.Data.{Data, unsigned, negative, float, null, boolean, number, string, array, object, Items, Members}
+use Rattle.std.specs.Prelude.{Some, None, ℤ, Float, Bool}
+use Rattle.serde_json.specs.Data.{unsigned, negative, float, null, boolean, number, string, array, object, Items, Members}
 use Rattle.multihash.specs.Members.{byte_of_number, byte_of_data, byte_then, leading_bytes, member_bytes}
 
 zero_is_a_byte : byte_of_number (unsigned 0) ≡ Some 0

@@ -1,8 +1,8 @@
 -- Sameness of pairs, and pairs that are truncated.
-use Rattle.std.proofs.Common.{◌≡◌, ℕ, ◌≤◌, min, List, ◌++◌, length, take, refl, sym, ap, ◌∙◌, arith, inl, inr}
+use Rattle.std.proofs.Common.{◌≡◌, ℕ, min, List, ◌++◌, length, take, refl, sym, ap, ◌∙◌, arith, inl, inr}
 use Rattle.std.proofs.lemmas.Bool.{cases_lt}
 use Rattle.std.proofs.lemmas.List.{take_all, take_at, take-take, length-take-le}
-use Rattle.multihash.specs.Pair.{Pair, IsSame, truncated}
+use Rattle.multihash.specs.Pair.{Pair, IsSame}
 use Rattle.multihash.proofs.VerdictLemmas.{same_pair}
 
 pub IsSame-refl : (p : Pair) → IsSame p p

@@ -1,5 +1,5 @@
 -- What known slices gave up and what known vectors gained.
-use Rattle.std.proofs.Common.{◌≡◌, ℕ, List, [], ◌∷◌, length, get_or, refl, ap, arith}
+use Rattle.std.proofs.Common.{ℕ, List, [], ◌∷◌, length, get_or, refl, ap, arith}
 use Rattle.multihash.specs.Places.{GivesUpPlaces, GivesUpFor, AppendsAtEnd}
 
 gives_up_two : GivesUpFor (7 ∷ 8 ∷ 9 ∷ []) (1 ∷ 2 ∷ []) (9 ∷ [])

@@ -1,7 +1,7 @@
 -- Where `read` stops in the code, the size, or the digest.
-use Rattle.std.proofs.Common.{◌≡◌, ◌<◌, ◌≤◌, ◌⊎◌, ℕ, List, [], ◌++◌, Option, None, Some, IfSome, length, take, refl, sym, ap, ◌∙◌, subst, inl, inr, arith, append-nil, append_assoc}
+use Rattle.std.proofs.Common.{◌≡◌, ◌<◌, ◌≤◌, ◌⊎◌, ℕ, List, [], ◌++◌, Option, None, Some, IfSome, length, take, refl, sym, ap, ◌∙◌, subst, inl, inr, append-nil, append_assoc}
 use Rattle.multihash.specs.Bytes.{IsProperBeginning}
-use Rattle.multihash.specs.Pair.{FitsBuffer, digest_limit}
+use Rattle.multihash.specs.Pair.{digest_limit}
 use Rattle.multihash.specs.Varint.{VarintFault, insufficient, overflow, not_minimal, IsVarint, HasFaultyFront}
 use Rattle.multihash.specs.Encoding.{IsEncoding}
 use Rattle.multihash.specs.Verdict.{invalid_size, faulty, unexpected_eof, HasSize, HasVerdict}

@@ -4,7 +4,7 @@ use Rattle.std.proofs.lemmas.List.{take-append-le}
 use Rattle.std.proofs.Math.Seq.{take-append-add}
 use borrow.Rule.Slice.PartMut.{put_mid, post_of}
 use Rattle.std.specs.Io.KnownBytes.{prepend_known, IsAtEnd}
-use Rattle.multihash.specs.Reading.{Takes, HasFewerThan, TakesFewerThan}
+use Rattle.multihash.specs.Reading.{Takes, HasFewerThan}
 
 pub prepend_known-append : (xs ys : List ℕ) (rest : Option (List ℕ)) → prepend_known xs (prepend_known ys rest) ≡ prepend_known (xs ++ ys) rest
 prepend_known-append xs ys None = refl

@@ -1,19 +1,19 @@
 -- What a refused decoding took from known readers.
-use Rattle.std.proofs.Common.{◌≡◌, ℕ, List, [], ◌∷◌, ◌++◌, length, refl, sym, ap, arith, subst, inl, inr}
-use Rattle.std.specs.Prelude.{Option, Some}
-use Rattle.multihash.specs.Varint.{VarintFault, overflow}
+use Rattle.std.proofs.Common.{◌≡◌, ℕ, List, [], ◌∷◌, ◌++◌, length, refl, ap, arith, subst, inl, inr}
+use Rattle.std.specs.Prelude.{Some}
+use Rattle.multihash.specs.Varint.{VarintFault}
 use Rattle.multihash.specs.Verdict.{accepted, invalid_size, unexpected_eof}
 use Rattle.multihash.specs.Scale.{HasScaleVerdict}
-use Rattle.multihash.specs.Refusal.{Refusal, of_io, of_size, of_varint, of_not_bytes}
+use Rattle.multihash.specs.Refusal.{of_io, of_size, of_varint, of_not_bytes}
 use Rattle.multihash.specs.ScaleTaking.{IsScaleRefusal, TakesAtScaleRefusal}
 use Rattle.multihash.proofs.ScaleLemmas.{scale_verdict_unique}
 use Rattle.multihash.proofs.FaultVectors.{other, eof, memory}
 use Rattle.multihash.proofs.RefusalVectors.{size_in}
-use Rattle.multihash.proofs.ReadingVectors.{told, taken_is}
+use Rattle.multihash.proofs.ReadingVectors.{taken_is}
 use Rattle.multihash.proofs.TakingVectors.{gives_none_back}
 use Rattle.multihash.proofs.VerdictVectors.{size_named}
 use Rattle.multihash.proofs.PairVectors.{pair}
-use Rattle.multihash.proofs.ScaleVectors.{zeros, scale_eight_bytes, scale_cut, scale_size_first, scale_size_above, scale_empty_digest_of_4}
+use Rattle.multihash.proofs.ScaleVectors.{zeros, scale_eight_bytes, scale_cut, scale_size_first, scale_empty_digest_of_4}
 
 -- ---- refusals
 

@@ -4,7 +4,7 @@ use Rattle.multihash.specs.Varint.{insufficient, overflow, not_minimal}
 use Rattle.multihash.specs.Verdict.{accepted, invalid_size, faulty, unexpected_eof}
 use Rattle.multihash.specs.Settling.{Settles, IsShortestSettling}
 use Rattle.multihash.proofs.PairVectors.{pair}
-use Rattle.multihash.proofs.VarintVectors.{all_marked, varint_0, varint_4, varint_5, varint_133}
+use Rattle.multihash.proofs.VarintVectors.{all_marked, varint_0, varint_4, varint_133}
 use Rattle.multihash.proofs.VerdictVectors.{size_5, empty_input, size_open, code_padded, code_alone, digest_cut, digest_full}
 use Rattle.multihash.proofs.SettlingLemmas.{early_not_settles, late_settles, shortest_pair, shortest_size, shortest_code_fault, shortest_size_fault}
 

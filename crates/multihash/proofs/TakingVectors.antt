@@ -1,22 +1,21 @@
 -- What refused calls took from known readers.
-use Rattle.std.proofs.Common.{◌≡◌, ◌<◌, ℕ, List, [], ◌∷◌, ◌++◌, length, refl, sym, ap, ◌∙◌, arith, subst, inl, inr, length-append, append-nil}
+use Rattle.std.proofs.Common.{◌≡◌, ℕ, List, [], ◌∷◌, length, refl, sym, ap, ◌∙◌, arith, subst, inl, inr, length-append, append-nil}
 use Rattle.std.specs.Prelude.{Option, Some}
-use Rattle.multihash.specs.Bytes.{IsBeginning, IsProperBeginning}
+use Rattle.multihash.specs.Bytes.{IsProperBeginning}
 use Rattle.multihash.specs.Varint.{VarintFault, insufficient, overflow, not_minimal, IsVarint, IsInsufficient, HasFaultyFront}
 use Rattle.multihash.specs.Verdict.{Verdict, accepted, invalid_size, faulty, unexpected_eof, HasVerdict, IsEarlyEnd}
-use Rattle.multihash.specs.Settling.{Settles}
 use Rattle.multihash.specs.Reading.{Takes}
-use Rattle.multihash.specs.Refusal.{Refusal, of_io, of_size, of_varint, of_not_bytes, IsFaulty}
+use Rattle.multihash.specs.Refusal.{of_io, of_size, of_varint, of_not_bytes, IsFaulty}
 use Rattle.multihash.specs.Taking.{IsVarintRefusal, IsFrontRefusal, TakesVarint, IsReadRefusal, TakesAtVarintRefusal, TakesAtRefusal, TakesShortestSettling, TakesUnsettled}
 use Rattle.multihash.proofs.VarintLemmas.{front_unique, fault, varint_unique}
 use Rattle.multihash.proofs.VerdictLemmas.{verdict_unique}
 use Rattle.multihash.proofs.SettlingLemmas.{none_settles, shortest_unique}
-use Rattle.multihash.proofs.FaultVectors.{other, eof, full, memory}
+use Rattle.multihash.proofs.FaultVectors.{other, eof, memory}
 use Rattle.multihash.proofs.RefusalVectors.{size_in}
 use Rattle.multihash.proofs.ReadingVectors.{told, taken_is}
 use Rattle.multihash.proofs.VarintVectors.{all_marked, varint_0, varint_4, varint_5, not_another}
 use Rattle.multihash.proofs.PairVectors.{pair}
-use Rattle.multihash.proofs.VerdictVectors.{empty_input, code_open, code_alone, code_padded, digest_cut, digest_full, size_above_limit}
+use Rattle.multihash.proofs.VerdictVectors.{empty_input, code_alone, digest_cut, digest_full, size_above_limit}
 use Rattle.multihash.proofs.SettlingVectors.{size_settles, shortest_of_size}
 
 -- ---- refusals

@@ -1,5 +1,5 @@
 -- The first bytes of known inputs as one number.
-use Rattle.std.proofs.Common.{◌≡◌, ℕ, List, [], ◌∷◌, ◌++◌, replicate, refl, arith}
+use Rattle.std.proofs.Common.{◌≡◌, [], ◌∷◌, ◌++◌, replicate, refl, arith}
 use Rattle.multihash.specs.Bytes.{place_value}
 use Rattle.multihash.specs.Word.{IsFrontWord, digits_low}
 

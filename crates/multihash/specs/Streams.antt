@@ -1,5 +1,5 @@
 -- What reading and writing many multihashes took and appended.
-use Rattle.std.specs.Prelude.{◌≡◌, ◌<◌, ◌⊎◌, ℕ, List, ◌++◌, length, Option, Some, IfSome, All}
+use Rattle.std.specs.Prelude.{◌≡◌, ◌<◌, ◌⊎◌, ℕ, List, ◌++◌, length, Option, IfSome, All}
 use Rattle.multihash.specs.Pair.{Pair, FitsBuffer}
 use Rattle.multihash.specs.Verdict.{Verdict, HasVerdict, IsEarlyEnd}
 use Rattle.multihash.specs.Joined.{AreJoined}

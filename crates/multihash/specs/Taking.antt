@@ -1,5 +1,5 @@
 -- What the library's calls took from a reader.
-use Rattle.std.specs.Prelude.{◌≡◌, ◌<◌, ◌≤◌, ℕ, List, ◌⊎◌, Option, Some}
+use Rattle.std.specs.Prelude.{◌<◌, ℕ, List, ◌⊎◌, Option, Some}
 use Rattle.multihash.specs.Bytes.{IsBeginning, IsProperBeginning}
 use Rattle.multihash.specs.Pair.{digest_limit}
 use Rattle.multihash.specs.Varint.{VarintFault, insufficient, IsVarint, IsInsufficient, HasFaultyFront}

@@ -1,4 +1,4 @@
-use Rattle.std.proofs.Common.{◌≡◌, ◌∙◌, length, take, drop, ◌++◌, arith, ap, sym}
+use Rattle.std.proofs.Common.{◌∙◌, arith}
 use Rattle.std.proofs.lemmas.List.{take_all}
 use Rattle.multihash.proofs.PairLemmas.{pair_in_front}
 use Rattle.multihash.proofs.multihash.Multihash.fill.Goals as goal
