@@ -1,13 +1,14 @@
 //! What a refusal tells: who is to blame for it, what was taken, and whether more input could help.
-ghost use Rattle.std.specs.Prelude.{◌≡◌, ◌<◌, ◌↔◌, ℕ, List, ◌++◌, length, Some, IsTrue, IfSome, IsErrAnd};
+ghost use Rattle.std.specs.Prelude.{◌≡◌, ◌<◌, ◌≤◌, ◌↔◌, ℕ, List, ◌++◌, length, codes, string_bytes, Some, IsTrue, IfSome, IfOk, IsErrAnd, MatchOption};
 ghost use Rattle.multihash.specs.Pair.{Pair, FitsBuffer, digest_limit};
 ghost use Rattle.multihash.specs.Encoding.{IsEncoding};
 ghost use Rattle.multihash.specs.Verdict.{HasSize};
 ghost use Rattle.multihash.specs.Refusal.{IsInvalidSize};
 ghost use Rattle.multihash.specs.Settling.{Settles};
 
-use multihash::no_std_io::Read;
+use multihash::no_std_io::{Read, Write};
 use multihash::{Error, Multihash, laws};
+use std::alloc::{AllocError, Global};
 
 /// Whether a call of `read` failed by the reader's own fault: exactly where its failures rose.
 pub fn reader_failed<const S: usize, R: Read>(r: &mut R) -> (Option<Multihash<S>>, bool)
@@ -56,4 +57,32 @@ pub fn read_part<const S: usize, R: Read>(r: &mut R) -> Result<Multihash<S>, Err
         IfSome (R.rest r.new) (λ left. length more < length left) }
 {
     Multihash::read(r)
+}
+
+/// What the error prints of a slice that has too few bytes for four places.
+pub fn early_end_text(alloc: Global, bytes: &[u8]) -> Result<Option<String>, AllocError>
+    ensures { IfOk result (λ told. MatchOption told (4 ≤ length bytes.now)
+        (λ text. string_bytes text ≡ codes "failed to fill whole buffer")) }
+{
+    let mut left = bytes;
+    match left.read_exact(&mut [0; 4]) {
+        Ok(()) => Ok(None),
+        Err(e) => Ok(Some(e.to_string(alloc)?)),
+    }
+}
+
+/// What the error prints of a slice that has too few places for the bytes.
+pub fn full_text(
+    alloc: Global,
+    bytes: &[u8],
+    places: &mut [u8],
+) -> Result<Option<String>, AllocError>
+    ensures { IfOk result (λ told. MatchOption told (length bytes.now ≤ length places.old)
+        (λ text. string_bytes text ≡ codes "failed to write whole buffer")) }
+{
+    let mut left = places;
+    match left.write_all(bytes) {
+        Ok(()) => Ok(None),
+        Err(e) => Ok(Some(format!(in alloc; "{e}")?)),
+    }
 }

@@ -68,7 +68,6 @@ pub fn kept_is_found<const S: usize>(
 ) -> Result<Option<u32>, AllocFailed<(Multihash<64>, u32)>>
     ensures { IfOk result (λ found. IsSame (pair_of key) (pair_of other.now) → found ≡ Some place) }
 {
-    key.size();
     put_ordered(store, key, place)?;
     Ok(find_ordered(store, other))
 }
@@ -82,7 +81,6 @@ pub fn kept_is_found_hashed<const S: usize>(
 ) -> Result<Option<u32>, AllocFailed<(Multihash<64>, u32)>>
     ensures { IfOk result (λ found. IsSame (pair_of key) (pair_of other.now) → found ≡ Some place) }
 {
-    key.size();
     put_hashed(store, key, place)?;
     Ok(find_hashed(store, other))
 }

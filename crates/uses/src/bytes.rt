@@ -107,6 +107,14 @@ pub fn fills<const S: usize>(m: &Multihash<S>, places: &mut [u8]) -> (bool, usiz
     (is_whole, left.len())
 }
 
+/// Writes the encoding to the front of as many places as the longest has, and says its length.
+pub fn fills_longest<const S: usize>(m: &Multihash<S>, places: &mut [u8; 267]) -> usize
+    ensures { (bytes : List ℕ) × IsEncoding (pair_of m.now) bytes × (result ≡ length bytes) }
+{
+    let mut left = places.as_mut_slice();
+    m.write(&mut left).unwrap()
+}
+
 /// A multihash written to bytes and read from them, into a buffer of its own size or another: the
 /// same pair, where it fits. Nothing but want of memory refuses it.
 pub fn bytes_back<const S: usize, const R: usize>(

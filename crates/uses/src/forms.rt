@@ -32,6 +32,14 @@ pub fn fills_scale<const S: usize>(m: &Multihash<S>, places: &mut [u8]) -> (bool
     (is_whole, left.len())
 }
 
+/// Writes the SCALE form to the front of as many places as the longest has, and says its length.
+pub fn fills_longest_scale<const S: usize>(m: &Multihash<S>, places: &mut [u8; 264]) -> usize
+    ensures { result ≡ 9 + length (pair_of m.now).digest }
+{
+    let mut left = places.as_mut_slice();
+    m.scale_encode(&mut left).unwrap()
+}
+
 /// Whether the encodings of some multihashes were written to the front of `places`, and how many are
 /// left then: they are where there is room, which gives up that many, and else none is left.
 pub fn fills_list<const S: usize>(items: &[Multihash<S>], places: &mut [u8]) -> (bool, usize)

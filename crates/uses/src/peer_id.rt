@@ -11,7 +11,6 @@ use std::alloc::Global;
 pub fn is_peer<const S: usize>(peer: &Multihash<S>, bytes: &[u8]) -> bool
     ensures { IsTrue result ↔ IsEncoding (pair_of peer.now) bytes.now }
 {
-    peer.size();
     match Multihash::<S>::from_bytes(bytes) {
         Ok(other) => other.same_as(peer),
         Err(_) => false,

@@ -25,7 +25,7 @@ pub fn lines(alloc: Global) -> Result<String> {
     show_peer_id(alloc, &mut lines)?;
     show_streams(alloc, &mut lines)?;
     show_dump(alloc, &mut lines)?;
-    show_blame(&mut lines)?;
+    show_blame(alloc, &mut lines)?;
     show_forms(alloc, &mut lines)?;
     show_values(&mut lines)?;
     show_bytes(alloc, &mut lines)?;
@@ -129,7 +129,7 @@ fn show_dump(alloc: Global, lines: &mut String) -> Result<()> {
     Ok(())
 }
 
-fn show_blame(lines: &mut String) -> Result<()> {
+fn show_blame(alloc: Global, lines: &mut String) -> Result<()> {
     let (answer, left) = blame::read_slice::<4>(&[0, 5, 1, 2, 3, 4, 5, 6]);
     let wants = blame::wants_more::<4>(&[0, 2, 7]);
     let mut short = [0u8, 2, 7].as_slice();
@@ -143,6 +143,9 @@ fn show_blame(lines: &mut String) -> Result<()> {
         answer.err().and_then(|e| e.invalid_size()),
         read.digest()
     )?;
+    let ended = blame::early_end_text(alloc, &[7, 8, 9])?.context("no end")?;
+    let full = blame::full_text(alloc, &[7, 8], &mut [0])?.context("not full")?;
+    writeln!(lines, "texts: {ended}, {full}")?;
     Ok(())
 }
 
@@ -156,9 +159,10 @@ fn show_forms(alloc: Global, lines: &mut String) -> Result<()> {
     )?;
     writeln!(
         lines,
-        "forms: {}, {}",
+        "forms: {}, {}, {} bytes",
         between.same_as(&m),
-        back.same_as(&m)
+        back.same_as(&m),
+        forms::fills_longest_scale(&m, &mut [0; 264])
     )?;
     Ok(())
 }
@@ -167,14 +171,27 @@ fn show_values(lines: &mut String) -> Result<()> {
     let m = Multihash::<4>::wrap(SHA2_256, &[7, 8])?;
     let (wide, same) = values::resized_is_same::<4, 300>(&m)?;
     let twice = values::truncate_twice(&m, 2, 1);
-    writeln!(lines, "values: {}, {same}, {twice}", wide.size())?;
+    let long = Multihash::wrap(SHA2_256, &[7; 24])?;
+    writeln!(
+        lines,
+        "values: {}, {same}, {twice}, {} and {}",
+        wide.size(),
+        values::widened(&long).size(),
+        values::cut_to_fit(&long).size()
+    )?;
     Ok(())
 }
 
 fn show_bytes(alloc: Global, lines: &mut String) -> Result<()> {
     let first = bytes::first_byte(&[7, 8]);
     let joined = bytes::joined(alloc, &[7], &[8])?;
-    writeln!(lines, "bytes: {first:?}, {:?}", joined.as_slice())?;
+    let longest = Multihash::<300>::wrap(u64::MAX, &[7; 255])?;
+    let filled = bytes::fills_longest(&longest, &mut [0; 267]);
+    writeln!(
+        lines,
+        "bytes: {first:?}, {:?}, {filled} places",
+        joined.as_slice()
+    )?;
     Ok(())
 }
 

@@ -1,8 +1,9 @@
 //! Callers that compare, order, cut and resize multihashes.
-ghost use Rattle.std.specs.Prelude.{◌<◌, length, IsTrue, OnOk, MatchResult};
+ghost use Rattle.std.specs.Prelude.{◌≡◌, ◌<◌, length, IsTrue, OnOk, MatchResult};
 ghost use Rattle.std.specs.List.Sorted.{IsSorted, IsPermutation};
 ghost use Rattle.std.specs.Ordering.{on};
 ghost use Rattle.multihash.specs.Comparing.{compare_pairs};
+ghost use Rattle.multihash.specs.Pair.{truncated};
 ghost use Rattle.multihash.specs.Answer.{pair_of};
 
 use multihash::{Error, Multihash};
@@ -48,6 +49,20 @@ pub fn resized_is_same<const S: usize, const R: usize>(
 {
     let resized = m.resize::<R>()?;
     Ok((resized, resized.same_as(m)))
+}
+
+/// A multihash in a larger buffer, which has room for every digest of the smaller one.
+pub fn widened(m: &Multihash<32>) -> Multihash<64>
+    ensures { pair_of result ≡ pair_of m.now }
+{
+    m.resize::<64>().unwrap()
+}
+
+/// A multihash cut to 20 bytes, in a buffer of as many.
+pub fn cut_to_fit<const S: usize>(m: &Multihash<S>) -> Multihash<20>
+    ensures { pair_of result ≡ truncated 20 (pair_of m.now) }
+{
+    m.truncate(20).resize::<20>().unwrap()
 }
 
 /// Puts multihashes in order.

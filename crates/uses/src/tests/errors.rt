@@ -1,6 +1,7 @@
 //! Exactly one of the tests of an error is true.
 use crate::bytes::{one_of_four, one_of_six};
-use multihash::{Multihash, no_std_io};
+use multihash::Multihash;
+use multihash::no_std_io::{self, Read, Write};
 use serde_json::Value;
 use std::test::Fail;
 
@@ -25,10 +26,12 @@ fn one_test_of_six_is_true(rt: HostRuntime) -> Result<(), Fail> {
 
 #[test]
 fn one_test_of_four_is_true(rt: HostRuntime) {
-    for e in [
-        no_std_io::Error::out_of_memory(),
-        no_std_io::Error::other("disk gone"),
+    for refused in [
+        [7u8].as_slice().read_exact(&mut [0; 2]).err(),
+        [0u8].as_mut_slice().write_all(&[7, 8]).err(),
+        Some(no_std_io::Error::out_of_memory()),
+        Some(no_std_io::Error::other("disk gone")),
     ] {
-        assert_eq!(rt; one_of_four(&e), 1);
+        assert!(rt; refused.is_some_and(|e| one_of_four(&e) == 1));
     }
 }

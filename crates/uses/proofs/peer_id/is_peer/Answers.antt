@@ -5,6 +5,7 @@ use Rattle.multihash.specs.Verdict.{accepted, HasWholeVerdict}
 use Rattle.multihash.specs.Answer.{pair_of, IsRefusal}
 use Rattle.multihash.proofs.VerdictLemmas.{whole_verdict_unique}
 use Rattle.multihash.proofs.PairLemmas.{IsSame-equal, IsSame-refl}
+use Rattle.multihash.proofs.ValueLemmas.{digest_fits}
 use Rattle.uses.proofs.peer_id.is_peer.Goals as goal
 
 pub returns-in-Ok : goal.returns-in-Ok
@@ -16,7 +17,7 @@ returns-in-Ok g c =
     let has : HasWholeVerdict g.row.S bytes (accepted q) = subst (HasWholeVerdict g.row.S bytes) v.2 v.1 in (
       (λ is_true. subst (λ r. IsEncoding r bytes) (IsSame-equal q p (c.same_as.ensures.0 is_true)) has.0),
       λ encodes.
-          let same : accepted q ≡ accepted p = whole_verdict_unique g.row.S bytes (accepted q) (accepted p) has (encodes, c.size.ensures.fits) in
+          let same : accepted q ≡ accepted p = whole_verdict_unique g.row.S bytes (accepted q) (accepted p) has (encodes, digest_fits c.args.peer.now) in
           let pairs : q ≡ p = cc in
           c.same_as.ensures.1 (subst (λ r. IsSame q r) pairs (IsSame-refl q)),
     )
@@ -27,5 +28,5 @@ returns-in-Err g c =
     let p = pair_of c.args.peer.now in
     let bytes = c.args.bytes.now in (
       (λ is_false. cc),
-      λ encodes. absurd (subst (IsRefusal c.in-Err.field-0) (whole_verdict_unique g.row.S bytes v.0 (accepted p) v.1 (encodes, c.size.ensures.fits)) v.2),
+      λ encodes. absurd (subst (IsRefusal c.in-Err.field-0) (whole_verdict_unique g.row.S bytes v.0 (accepted p) v.1 (encodes, digest_fits c.args.peer.now)) v.2),
     )
