@@ -1,6 +1,5 @@
 -- What a refusal leaves behind.
-use Rattle.std.proofs.Common.{◌≡◌, ℕ, ◌<◌, ◌⊎◌, inl, inr, List, [], ◌++◌, length, Option, None, Some, Result, Ok, Err, IsErrAnd, IfSome, sym, ap, ◌∙◌, subst, arith, append_assoc, append-nil, length-append}
-use Rattle.multihash.specs.Bytes.{IsBeginning, IsProperBeginning}
+use Rattle.std.proofs.Common.{◌≡◌, ℕ, ◌<◌, inl, inr, List, [], ◌++◌, length, Option, None, Some, Result, Ok, Err, IsErrAnd, IfSome, sym, ap, ◌∙◌, subst, arith, append_assoc, append-nil, length-append}
 use Rattle.multihash.specs.Pair.{Pair, FitsBuffer, digest_limit}
 use Rattle.multihash.specs.Encoding.{IsEncoding}
 use Rattle.multihash.specs.Verdict.{Verdict, accepted, invalid_size, HasSize, HasVerdict}

@@ -1,5 +1,5 @@
 -- The two bytes in front of a content identifier's multihash.
-use Rattle.std.proofs.Common.{◌≡◌, ℕ, List, [], ◌∷◌, ◌++◌, length, Option, None, Some, slice_index_or, Result, Ok, Err, OnErr, refl, ap, subst, arith}
+use Rattle.std.proofs.Common.{◌≡◌, ℕ, List, [], ◌∷◌, ◌++◌, length, Option, None, Some, slice_index_or, Result, Ok, Err, OnErr, refl, subst, arith}
 use Rattle.multihash.specs.Pair.{Pair}
 use Rattle.multihash.specs.Encoding.{IsEncoding}
 use Rattle.multihash.specs.Reading.{Takes}

@@ -1,6 +1,6 @@
 -- An answer of decoding has one verdict, and a reading is as listed where its answer and the bytes
 -- taken are.
-use Rattle.std.proofs.Common.{◌≡◌, ◌≢◌, ◌↔◌, ℕ, ◌+◌, ◌<◌, ◌≤◌, List, [], ◌∷◌, ◌++◌, Option, None, Some, Ok, Err, IfOk, IfErr, IsSomeAnd, MatchOption, Result, length, length-append, append-nil, append_assoc, arith, subst, ap, sym, ◌∙◌, refl, inl, inr}
+use Rattle.std.proofs.Common.{◌≡◌, ◌≢◌, ◌↔◌, ℕ, ◌+◌, ◌<◌, ◌≤◌, List, [], ◌∷◌, ◌++◌, Option, None, Some, Ok, Err, IfOk, IfErr, MatchOption, Result, length, length-append, append-nil, append_assoc, arith, subst, ap, sym, ◌∙◌, refl, inl, inr}
 use Rattle.multihash.specs.Answer.{Fields, pair_of, IsRefusal, Answers}
 use Rattle.multihash.specs.Bytes.{IsProperBeginning}
 use Rattle.multihash.specs.Reading.{Takes}

@@ -1,5 +1,5 @@
 -- What a line of the list says, in the grammar's words.
-use Rattle.std.specs.Prelude.{◌≡◌, ◌≢◌, ℕ, ◌+◌, List, [], Option, None, Some, Ok, ◌⊎◌, length, take, count_by, nat_lt, ◌-◌, ◌≤◌, Bool, codes, All, MatchOption}
+use Rattle.std.specs.Prelude.{◌≡◌, ◌≢◌, ℕ, ◌+◌, List, [], Option, Ok, ◌⊎◌, length, take, count_by, nat_lt, ◌-◌, ◌≤◌, Bool, codes, All, MatchOption}
 use Rattle.hex.specs.Hex.{decode_of}
 use Rattle.multihash.specs.Bytes.{IsBeginning, IsProperBeginning}
 use Rattle.multihash.specs.Scale.{HasScaleVerdict}

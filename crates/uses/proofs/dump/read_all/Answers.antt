@@ -1,5 +1,4 @@
-use Rattle.std.proofs.Common.{◌≡◌, ◌-◌, [], ◌∷◌, ◌++◌, Some, length, drop, refl, rules}
-use Rattle.multihash.specs.Streams.{TakesPairs}
+use Rattle.std.proofs.Common.{◌≡◌, [], ◌∷◌, ◌++◌, refl, rules}
 use Rattle.multihash.proofs.StreamLemmas.{TakesPairs-more}
 use Rattle.uses.proofs.DumpLemmas.{at_rest}
 use Rattle.uses.proofs.dump.read_all.Goals as goal

@@ -1,4 +1,4 @@
-use Rattle.std.proofs.Common.{◌≡◌, ◌+◌, ◌-◌, Some, [], ◌++◌, length, take, drop, refl, sym, ap, ◌∙◌, subst, rules}
+use Rattle.std.proofs.Common.{◌≡◌, ◌+◌, ◌-◌, Some, ◌++◌, length, take, drop, refl, sym, ap, ◌∙◌, rules}
 use Rattle.std.proofs.lemmas.List.{take_rest}
 use Rattle.uses.proofs.StreamLemmas.{behind_front}
 use Rattle.uses.proofs.streams.HeldRead.read.Goals as goal
