@@ -23,7 +23,8 @@ pub fn put_ordered(
     key: Multihash<64>,
     place: u32,
 ) -> Result<(), AllocFailed<(Multihash<64>, u32)>>
-    ensures kept { OnOk result (ordered.Updates (on pair_of compare_pairs) store.old store.new key (Some place)) }
+    ensures kept { OnOk result
+        (ordered.Updates (on pair_of compare_pairs) store.old store.new key (Some place)) }
     ensures unchanged { OnErr result (ordered.IsUnchanged store.old store.new) }
 {
     store.insert(key, place)?;
@@ -36,7 +37,8 @@ pub fn put_hashed(
     key: Multihash<64>,
     place: u32,
 ) -> Result<(), AllocFailed<(Multihash<64>, u32)>>
-    ensures kept { OnOk result (hashed.Updates (on pair_of equal_pairs) store.old store.new key (Some place)) }
+    ensures kept { OnOk result
+        (hashed.Updates (on pair_of equal_pairs) store.old store.new key (Some place)) }
     ensures unchanged { OnErr result (hashed.IsUnchanged store.old store.new) }
 {
     store.insert(key, place)?;

@@ -45,7 +45,8 @@ pub fn read<const S: usize, R: Read>(
         × Takes (R.rest r.old) bytes (R.rest r.new)
         × MatchOption read
         (¬ (Contains table.now (record { code = p.code; size = length p.digest })))
-        (λ m. (pair_of m ≡ p) × Contains table.now (record { code = p.code; size = length p.digest }))) }
+        (λ m. (pair_of m ≡ p)
+        × Contains table.now (record { code = p.code; size = length p.digest }))) }
     ensures faults { CountsReader IsReaderFault (IsReadRefusal S)
         (R.failures r.old) (R.failures r.new) result }
 {

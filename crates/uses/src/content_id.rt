@@ -37,7 +37,8 @@ impl<const S: usize> ContentId<S> {
 
         // What stands there is found, and what follows it is left.
         ensures found { (version codec : ℕ) (p : Pair) (bytes more : List ℕ) →
-            IsContentId version codec p bytes → FitsBuffer S p → R.rest r.old ≡ Some (bytes ++ more) →
+            IsContentId version codec p bytes → FitsBuffer S p →
+            R.rest r.old ≡ Some (bytes ++ more) →
             R.failures r.new ≡ R.failures r.old → MatchResult result
             (λ id. (id.version ≡ version) × (id.codec ≡ codec) × (pair_of id.hash ≡ p)
             × (R.rest r.new ≡ Some more)) (λ _. ⊥) }
@@ -75,7 +76,8 @@ impl<const S: usize> ContentId<S> {
 
 /// Two identifiers at one place of a stream are the same, and the same follows them.
 pub fn one_identifier()
-    ensures { (v w c d : ℕ) (p q : Pair) (a b r s : List ℕ) → IsContentId v c p a → IsContentId w d q b →
+    ensures { (v w c d : ℕ) (p q : Pair) (a b r s : List ℕ) →
+        IsContentId v c p a → IsContentId w d q b →
         a ++ r ≡ b ++ s → (v ≡ w) × (c ≡ d) × (p ≡ q) × (a ≡ b) × (r ≡ s) }
 {
     laws::prefix_free();

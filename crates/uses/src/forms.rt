@@ -130,7 +130,8 @@ pub fn read_pairs<const S: usize, R: Read>(
     ensures { (pairs : List Pair) (bytes more : List ℕ) → AreJoined pairs bytes →
         All (FitsBuffer S) pairs → length pairs ≡ count → R.rest r.old ≡ Some (bytes ++ more) →
         R.failures r.new ≡ R.failures r.old →
-        MatchResult result (λ list. (map pair_of list.items ≡ pairs) × (R.rest r.new ≡ Some more)) IsMemory }
+        MatchResult result
+        (λ list. (map pair_of list.items ≡ pairs) × (R.rest r.new ≡ Some more)) IsMemory }
 {
     read_list(alloc, r, count)
 }

@@ -62,7 +62,8 @@ pub fn list_through<const S: usize, W: Write, R: Read>(
     ensures { (more : List ℕ) →
         ((bytes : List ℕ) → W.appended w.old bytes w.new → R.rest r.old ≡ Some (bytes ++ more)) →
         R.failures r.new ≡ R.failures r.old →
-        IfOk result (λ list. (map pair_of list.items ≡ map pair_of items.now) × (R.rest r.new ≡ Some more)) }
+        IfOk result (λ list. (map pair_of list.items ≡ map pair_of items.now)
+        × (R.rest r.new ≡ Some more)) }
 {
     list::write_list(items, w)?;
     list::read_list(alloc, r, items.len())

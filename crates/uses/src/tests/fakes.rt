@@ -220,7 +220,8 @@ impl Write for Drip {
 
     ghost appends_nothing = { λ w. AppendsAtEnd-none w.held.items };
 
-    ghost appends_joined = { λ a b c x y first second. AppendsAtEnd-joined a.held.items b.held.items c.held.items x y first second };
+    ghost appends_joined = { λ a b c x y first second.
+        AppendsAtEnd-joined a.held.items b.held.items c.held.items x y first second };
 
     fn write(&mut self, buf: &[u8]) -> Result<usize, Error> {
         self.asked = self.asked.saturating_add(1);
@@ -271,7 +272,8 @@ impl Write for FailWrite {
 
     ghost allocates = { false };
 
-    ghost appended = { λ old bytes new. AppendsAtEnd old.drip.held.items bytes new.drip.held.items };
+    ghost appended = { λ old bytes new.
+        AppendsAtEnd old.drip.held.items bytes new.drip.held.items };
 
     ghost full = { λ f. f.drip.room ≡ 0 };
 
@@ -279,7 +281,8 @@ impl Write for FailWrite {
 
     ghost appends_nothing = { λ w. AppendsAtEnd-none w.drip.held.items };
 
-    ghost appends_joined = { λ a b c x y first second. AppendsAtEnd-joined a.drip.held.items b.drip.held.items c.drip.held.items x y first second };
+    ghost appends_joined = { λ a b c x y first second. AppendsAtEnd-joined
+        a.drip.held.items b.drip.held.items c.drip.held.items x y first second };
 
     fn write(&mut self, buf: &[u8]) -> Result<usize, Error> {
         self.asked = self.asked.saturating_add(1);
@@ -345,7 +348,8 @@ impl Write for CountsWrites {
 
     ghost appends_nothing = { λ w. AppendsAtEnd-none w.held.items };
 
-    ghost appends_joined = { λ a b c x y first second. AppendsAtEnd-joined a.held.items b.held.items c.held.items x y first second };
+    ghost appends_joined = { λ a b c x y first second.
+        AppendsAtEnd-joined a.held.items b.held.items c.held.items x y first second };
 
     fn write(&mut self, buf: &[u8]) -> Result<usize, Error> {
         self.parts = self.parts.saturating_add(1);

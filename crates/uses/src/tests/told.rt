@@ -12,7 +12,8 @@ fn cuts(c: &Cuts)
 
 fn fail_at(f: &FailAt)
     ensures rest { ⟦<FailAt<'static> as Read>⟧.rest f.now ≡ Some f.now.cuts.left.now }
-    ensures failures { ⟦<FailAt<'static> as Read>⟧.failures f.now ≡ (if f.now.failed then 1 else 0) }
+    ensures failures { ⟦<FailAt<'static> as Read>⟧.failures f.now
+        ≡ (if f.now.failed then 1 else 0) }
 {}
 
 fn silent(s: &Silent)
@@ -22,13 +23,15 @@ fn silent(s: &Silent)
 
 fn counts(c: &Counts)
     ensures rest { ⟦<Counts<'static> as Read>⟧.rest c.now ≡ Some c.now.left.now }
-    ensures failures { ⟦<Counts<'static> as Read>⟧.failures c.now ≡ (if c.now.may_fail then 0 else 1) }
+    ensures failures { ⟦<Counts<'static> as Read>⟧.failures c.now
+        ≡ (if c.now.may_fail then 0 else 1) }
 {}
 
 fn drip(d: &Drip, e: &Drip)
     ensures allocates { ⟦<Drip as Write>⟧.allocates ≡ false }
     ensures appended { (bytes : List ℕ) →
-        ⟦<Drip as Write>⟧.appended d.now bytes e.now ↔ AppendsAtEnd d.now.held.items bytes e.now.held.items }
+        ⟦<Drip as Write>⟧.appended d.now bytes e.now
+        ↔ AppendsAtEnd d.now.held.items bytes e.now.held.items }
     ensures full { ⟦<Drip as Write>⟧.full d.now ↔ (d.now.room ≡ 0) }
     ensures failures { ⟦<Drip as Write>⟧.failures d.now ≡ 0 }
 {}
@@ -36,7 +39,8 @@ fn drip(d: &Drip, e: &Drip)
 fn fail_write(f: &FailWrite, g: &FailWrite)
     ensures allocates { ⟦<FailWrite as Write>⟧.allocates ≡ false }
     ensures appended { (bytes : List ℕ) →
-        ⟦<FailWrite as Write>⟧.appended f.now bytes g.now ↔ AppendsAtEnd f.now.drip.held.items bytes g.now.drip.held.items }
+        ⟦<FailWrite as Write>⟧.appended f.now bytes g.now
+        ↔ AppendsAtEnd f.now.drip.held.items bytes g.now.drip.held.items }
     ensures full { ⟦<FailWrite as Write>⟧.full f.now ↔ (f.now.drip.room ≡ 0) }
     ensures failures { ⟦<FailWrite as Write>⟧.failures f.now ≡ (if f.now.failed then 1 else 0) }
 {}
@@ -44,7 +48,9 @@ fn fail_write(f: &FailWrite, g: &FailWrite)
 fn counts_writes(v: &CountsWrites, w: &CountsWrites)
     ensures allocates { ⟦<CountsWrites as Write>⟧.allocates ≡ true }
     ensures appended { (bytes : List ℕ) →
-        ⟦<CountsWrites as Write>⟧.appended v.now bytes w.now ↔ AppendsAtEnd v.now.held.items bytes w.now.held.items }
+        ⟦<CountsWrites as Write>⟧.appended v.now bytes w.now
+        ↔ AppendsAtEnd v.now.held.items bytes w.now.held.items }
     ensures full { ¬ (⟦<CountsWrites as Write>⟧.full v.now) }
-    ensures failures { ⟦<CountsWrites as Write>⟧.failures v.now ≡ (if v.now.may_fail then 0 else 1) }
+    ensures failures { ⟦<CountsWrites as Write>⟧.failures v.now
+        ≡ (if v.now.may_fail then 0 else 1) }
 {}
