@@ -217,7 +217,8 @@ fn expect_unless_refused<R: Abort + AllocGlobal>(
     let (mut out, mut err) = ([0u8; 128], [0u8; 128]);
     let (mut out_left, mut err_left) = (out.as_mut_slice(), err.as_mut_slice());
     let status = run(rt.alloc(), &mut &text[..], &mut out_left, &mut err_left);
-    let (shown, told) = (128 - out_left.len(), 128 - err_left.len());
+    let shown = 128_usize.saturating_sub(out_left.len());
+    let told = 128_usize.saturating_sub(err_left.len());
     let answer = (status, &out[..shown], &err[..told]);
     if answer == (1, b"", OUT_OF_MEMORY) {
         Err(REFUSED)?;
