@@ -173,7 +173,7 @@ impl Read for Counts<'_> {
         self.whole = self.whole.saturating_add(1);
         if self.calls > 0 {
             self.calls -= 1;
-        } else if self.may_fail {
+        } else if self.may_fail && !buf.is_empty() {
             self.may_fail = false;
             return Err(Error::other("link down"));
         }
@@ -366,7 +366,7 @@ impl Write for CountsWrites {
         self.whole = self.whole.saturating_add(1);
         if self.calls > 0 {
             self.calls -= 1;
-        } else if self.may_fail {
+        } else if self.may_fail && !buf.is_empty() {
             self.may_fail = false;
             return Err(Error::other("disk gone"));
         }

@@ -197,8 +197,9 @@ fn a_fault_comes_before_another_refusal(rt: HostRuntime) {
         }
     }
     for form in Form::ALL {
-        for len in 0..form.bytes().len() {
-            let mut reader = FailAt::new(Cuts::new(&form.bytes()[..len], 1), len);
+        let bytes = form.bytes();
+        for len in 0..bytes.len() {
+            let mut reader = FailAt::new(Cuts::new(&bytes[..len], 1), len);
             let answer = form.reads(rt.alloc(), &mut reader);
             assert!(rt;
                 answer.is_err_and(|e| is_link_down(&e)),
@@ -209,24 +210,37 @@ fn a_fault_comes_before_another_refusal(rt: HostRuntime) {
     }
 }
 
+// Whether the first so many bytes of a form were refused as an input that ends early.
+fn ends_early(form: Form, len: usize, answer: Result<bool, Error>) -> bool {
+    match answer {
+        Ok(_) => false,
+        Err(e) if form.ends_in_a_varint(len) => e.is_insufficient(),
+        Err(e) => is_eof(&e),
+    }
+}
+
 #[test]
 fn every_beginning_ends_early(rt: HostRuntime) {
     for form in Form::ALL {
-        for len in 0..form.bytes().len() {
-            let input = &form.bytes()[..len];
-            let early = |e: Error| if form.ends_in_a_varint(len) {
-                e.is_insufficient()
-            } else {
-                is_eof(&e)
-            };
-            let mut left = input;
-            let refused = form.reads(rt.alloc(), &mut left);
-            assert!(rt; refused.is_err_and(early), "{form:?}, {len} bytes");
+        let bytes = form.bytes();
+        for len in 0..bytes.len() {
+            let mut left = &bytes[..len];
+            let answer = form.reads(rt.alloc(), &mut left);
+            assert!(rt; ends_early(form, len, answer), "{form:?}, {len} bytes");
+        }
+    }
+}
+
+#[test]
+fn every_beginning_in_cuts_ends_early(rt: HostRuntime) {
+    for form in Form::ALL {
+        let bytes = form.bytes();
+        for len in 0..bytes.len() {
             for most in 1..8 {
-                let mut reader = Cuts::new(input, most);
-                let refused = form.reads(rt.alloc(), &mut reader);
+                let mut reader = Cuts::new(&bytes[..len], most);
+                let answer = form.reads(rt.alloc(), &mut reader);
                 assert!(rt;
-                    refused.is_err_and(early),
+                    ends_early(form, len, answer),
                     "{form:?}, {len} bytes, {most} a call"
                 );
                 assert!(rt; reader.left.is_empty());

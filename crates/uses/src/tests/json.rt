@@ -1,4 +1,6 @@
 //! Worked values of the JSON form.
+ghost use Rattle.std.specs.Prelude.{◌≤◌};
+
 use super::kinds::{is_eof, is_size};
 use crate::forms::json_back;
 use multihash::{Error, Multihash};
@@ -134,7 +136,9 @@ fn after_zero(alloc: Global, value: Value) -> Result<Value, AllocError> {
     Ok(Value::Array(members))
 }
 
-fn is_no_bytes<const S: usize>(value: &Value) -> bool {
+fn is_no_bytes<const S: usize>(value: &Value) -> bool
+    requires { S ≤ 255 }
+{
     Multihash::<S>::from_value(value).is_err_and(|e| e.is_not_bytes())
 }
 
