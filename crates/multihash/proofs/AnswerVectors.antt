@@ -4,7 +4,7 @@ use Rattle.std.specs.Prelude.{codes, Ok, Err}
 use Rattle.std.specs.Fmt.{digits}
 use Rattle.multihash.specs.declared.no_std_io.error.Kind.TheVariants.{UnexpectedEof, WriteZero, OutOfMemory, Other}
 use Rattle.multihash.specs.Pair.{Pair}
-use Rattle.multihash.specs.Varint.{insufficient, overflow, not_minimal}
+use Rattle.multihash.specs.Varint.{VarintFault, insufficient, overflow, not_minimal}
 use Rattle.multihash.specs.Fault.{Fault, IsOwnFault, HasStandardText, printed}
 use Rattle.multihash.specs.Refusal.{Refusal, of_io, of_size, of_varint, of_not_bytes, IsMemory, IsReaderFault, IsNotBytes, refusal_text}
 use Rattle.multihash.specs.Verdict.{accepted, invalid_size, faulty, unexpected_eof}
@@ -58,6 +58,30 @@ no_own_fault_answers text (fault, e, kind) = cc
 
 no_end_inside_varint : (fault : Fault) → ¬ (Answers {S = 4} (Err (of_io fault)) (faulty insufficient))
 no_end_inside_varint fault h = cc
+
+-- each verdict has its own refusal, and no other
+size_alone : (e : Refusal) → Answers {S = 4} (Err e) (invalid_size 5) → e ≡ of_size 5
+size_alone e h = h
+
+varint_alone : (f : VarintFault) (e : Refusal) → Answers {S = 4} (Err e) (faulty f)
+    → e ≡ of_varint f
+varint_alone f e h = h
+
+eof_alone : (e : Refusal) → Answers {S = 4} (Err e) unexpected_eof
+    → (fault : Fault) × (e ≡ of_io fault) × (fault.kind ≡ UnexpectedEof)
+eof_alone e h = h
+
+-- ---- every value, also one that nothing has read: its code is in range, and its digest fits
+
+no_value_of_larger_code : (m : Fields 4) → ¬ (m.code ≡ 18446744073709551616)
+no_value_of_larger_code m e = omega (arith, m.in_range, e)
+
+no_value_past_its_buffer : (m : Fields 4) → ¬ (m.size ≡ 5)
+no_value_past_its_buffer m e = omega (arith, m.fits, e)
+
+-- however large the buffer
+no_value_past_a_byte : (m : Fields 300) → ¬ (m.size ≡ 256)
+no_value_past_a_byte m e = omega (arith, m.fits, e)
 
 -- ---- faults
 

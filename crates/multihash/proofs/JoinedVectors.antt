@@ -1,11 +1,11 @@
 -- Joined encodings of known pairs.
-use Rattle.std.proofs.Common.{◌≡◌, ℕ, List, [], ◌∷◌, refl, ap, ◌∙◌, arith}
+use Rattle.std.proofs.Common.{◌≡◌, ℕ, List, [], ◌∷◌, length, refl, ap, ◌∙◌, arith}
 use Rattle.std.specs.Prelude.{codes}
 use Rattle.std.specs.List.{concat, AllZip}
 use Rattle.multihash.specs.Pair.{Pair}
 use Rattle.multihash.specs.Encoding.{IsEncoding}
 use Rattle.multihash.specs.Joined.{AreJoined}
-use Rattle.multihash.proofs.JoinedLemmas.{joined_whole}
+use Rattle.multihash.proofs.JoinedLemmas.{joined_whole, joined_same}
 use Rattle.multihash.proofs.VarintVectors.{varint_0, varint_1}
 use Rattle.multihash.proofs.PairVectors.{pair}
 
@@ -48,3 +48,21 @@ not_joined_backwards h =
     let same = joined_whole (pair 1 (codes "B") ∷ pair 0 (codes "A") ∷ []) (pair 0 (codes "A") ∷ pair 1 (codes "B") ∷ [])
     (0 ∷ 1 ∷ 65 ∷ 1 ∷ 1 ∷ 66 ∷ []) h joined_two in
     omega (arith, ap first_code same)
+
+-- and each pair has its encoding
+no_pair_without_bytes : (p : Pair) → ¬ (AreJoined (p ∷ []) [])
+no_pair_without_bytes p h =
+    omega (
+      arith,
+      ap (λ (ps : List Pair). length ps)
+          (joined_whole (p ∷ []) [] [] h joined_none),
+    )
+
+no_pair_is_left_out : ¬ (AreJoined (pair 0 (codes "A") ∷ pair 1 (codes "B") ∷ []) (0 ∷ 1 ∷ 65 ∷ []))
+no_pair_is_left_out h =
+    omega (
+      arith,
+      ap (λ (z : List ℕ). length z)
+          (joined_same (pair 0 (codes "A") ∷ pair 1 (codes "B") ∷ []) (0 ∷ 1 ∷ 65 ∷ [])
+          (0 ∷ 1 ∷ 65 ∷ 1 ∷ 1 ∷ 66 ∷ []) h joined_two),
+    )

@@ -1,8 +1,10 @@
 -- The bytes that known JSON values are.
-use Rattle.std.proofs.Common.{◌≡◌, ℕ, List, [], ◌∷◌, refl}
-use Rattle.std.specs.Prelude.{Some, None, ℤ, Float, Bool}
-use Rattle.serde_json.specs.Data.{unsigned, negative, float, null, boolean, number, string, array, object, Items, Members}
-use Rattle.multihash.specs.Members.{byte_of_number, byte_of_data, byte_then, leading_bytes, member_bytes}
+use Rattle.std.proofs.Common.{◌≡◌, ℕ, List, [], ◌∷◌, true, false, refl, ap}
+use Rattle.std.specs.Prelude.{Some, None, ℤ, Float, Bool, is_some}
+use Rattle.serde_json.specs.Data.{Data, unsigned, negative, float, null, boolean, number, string, array, object, Items, Members}
+use Rattle.serde_json.specs.View.{view}
+use Rattle.serde_json.specs.declared.value.Value.{Value}
+use Rattle.multihash.specs.Members.{byte_of_number, byte_of_data, byte_then, leading_bytes, member_bytes, is_byte}
 
 zero_is_a_byte : byte_of_number (unsigned 0) ≡ Some 0
 zero_is_a_byte = refl
@@ -57,3 +59,24 @@ leading_all = refl
 
 no_members : member_bytes [] ≡ []
 no_members = refl
+
+-- ---- members as the program holds them, by what they are
+
+leads_with_a_byte : (m : Value) (ms : List Value) → view m ≡ number (unsigned 7)
+    → member_bytes (m ∷ ms) ≡ 7 ∷ member_bytes ms
+leads_with_a_byte m ms is =
+    ap (λ (d : Data). byte_then (byte_of_data d) (member_bytes ms)) is
+
+stops_at_no_byte : (m : Value) (ms : List Value) → view m ≡ number (unsigned 256)
+    → member_bytes (m ∷ ms) ≡ []
+stops_at_no_byte m ms is =
+    ap (λ (d : Data). byte_then (byte_of_data d) (member_bytes ms)) is
+
+largest_is_byte : (m : Value) → view m ≡ number (unsigned 255) → is_byte m ≡ true
+largest_is_byte m is = ap (λ (d : Data). is_some (byte_of_data d)) is
+
+larger_is_no_byte : (m : Value) → view m ≡ number (unsigned 256) → is_byte m ≡ false
+larger_is_no_byte m is = ap (λ (d : Data). is_some (byte_of_data d)) is
+
+null_member_is_no_byte : (m : Value) → view m ≡ null → is_byte m ≡ false
+null_member_is_no_byte m is = ap (λ (d : Data). is_some (byte_of_data d)) is

@@ -26,3 +26,10 @@ gives_up_no_fewer h = omega (arith, ap (λ (z : List ℕ). length z) h.left)
 -- all places may be given up
 gives_up_all : GivesUpFor (7 ∷ 8 ∷ []) (1 ∷ 2 ∷ []) []
 gives_up_all = record { room = omega arith; left = refl }
+
+-- and no more than that
+gives_up_no_further : ¬ (GivesUpFor (7 ∷ 8 ∷ 9 ∷ []) (1 ∷ []) [])
+gives_up_no_further h = omega (arith, ap (λ (z : List ℕ). length z) h.left)
+
+appends_no_more : ¬ (AppendsAtEnd (7 ∷ []) (1 ∷ []) (7 ∷ 1 ∷ 2 ∷ []))
+appends_no_more h = omega (arith, ap (λ (z : List ℕ). length z) h)

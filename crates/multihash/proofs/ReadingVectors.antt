@@ -37,6 +37,10 @@ takes_no_last h = omega (arith, ap (λ (o : Option (List ℕ)). get_or (told o) 
 takes_no_more : ¬ (Takes (Some (1 ∷ 2 ∷ [])) (1 ∷ []) (Some []))
 takes_no_more h = omega (arith, ap (λ (o : Option (List ℕ)). length (told o)) h)
 
+-- and are left no longer
+takes_and_keeps_none : ¬ (Takes (Some (1 ∷ [])) (1 ∷ []) (Some (1 ∷ [])))
+takes_and_keeps_none h = omega (arith, ap (λ (o : Option (List ℕ)). length (told o)) h)
+
 -- a reader that doesn't tell says nothing of what was taken
 takes_silently : (taken : List ℕ) → Takes None taken None
 takes_silently taken = refl
@@ -94,6 +98,9 @@ read_failed = inl (omega arith, inl refl)
 
 read_ok_uncounted : ¬ (CountsReader {A = ℕ} IsOwnFault (λ _. ⊥) 3 4 (Ok 1))
 read_ok_uncounted h = omega (arith, h)
+
+read_ok_lowers_no_count : ¬ (CountsReader {A = ℕ} IsOwnFault (λ _. ⊥) 4 3 (Ok 1))
+read_ok_lowers_no_count h = omega (arith, h)
 
 read_failed_uncounted : ¬ (CountsReader {A = ℕ} IsOwnFault (λ _. ⊥) 3 3 (Err other))
 read_failed_uncounted (inl h) = omega (arith, h.0)

@@ -7,7 +7,7 @@ use Rattle.multihash.specs.Scale.{HasScaleVerdict}
 use Rattle.multihash.specs.Refusal.{of_io, of_size, of_varint, of_not_bytes}
 use Rattle.multihash.specs.ScaleTaking.{IsScaleRefusal, TakesAtScaleRefusal}
 use Rattle.multihash.proofs.ScaleLemmas.{scale_verdict_unique}
-use Rattle.multihash.proofs.FaultVectors.{other, eof, memory}
+use Rattle.multihash.proofs.FaultVectors.{other, eof, full, memory}
 use Rattle.multihash.proofs.RefusalVectors.{size_in}
 use Rattle.multihash.proofs.ReadingVectors.{taken_is}
 use Rattle.multihash.proofs.TakingVectors.{gives_none_back}
@@ -40,6 +40,10 @@ decoding_refuses_by_no_own_fault (inr (f, e, kind)) = cc
 decoding_refuses_by_no_want_of_memory : ¬ (IsScaleRefusal 4 (of_io memory))
 decoding_refuses_by_no_want_of_memory (inl (size, e, large)) = cc
 decoding_refuses_by_no_want_of_memory (inr (f, e, kind)) = cc
+
+decoding_refuses_by_no_full_writer : ¬ (IsScaleRefusal 4 (of_io full))
+decoding_refuses_by_no_full_writer (inl (size, e, large)) = cc
+decoding_refuses_by_no_full_writer (inr (f, e, kind)) = cc
 
 decoding_refuses_no_value : ¬ (IsScaleRefusal 4 of_not_bytes)
 decoding_refuses_no_value (inl (size, e, large)) = cc
@@ -124,4 +128,14 @@ fails_not_behind_size h =
     (subst (λ (z : List ℕ). HasScaleVerdict 4 z unexpected_eof)
     (taken_is (zeros ++ 5 ∷ []) [] h.taken h.takes)
     (h.early (inr (other, refl, inl refl)))) scale_size_first in
+    cc
+
+memory_fails_not_behind_size : ¬
+    (TakesAtScaleRefusal 4 (of_io memory) (Some (zeros ++ 5 ∷ [])) (Some []))
+memory_fails_not_behind_size h =
+    let same : unexpected_eof ≡ invalid_size 5 =
+    scale_verdict_unique 4 (zeros ++ 5 ∷ []) unexpected_eof (invalid_size 5)
+    (subst (λ (z : List ℕ). HasScaleVerdict 4 z unexpected_eof)
+    (taken_is (zeros ++ 5 ∷ []) [] h.taken h.takes)
+    (h.early (inr (memory, refl, inr refl)))) scale_size_first in
     cc

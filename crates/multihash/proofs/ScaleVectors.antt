@@ -245,3 +245,8 @@ no_pair_in_nothing : (p : Pair) → ¬ (HasScaleVerdict 4 [] (accepted p))
 no_pair_in_nothing p h =
     let same : accepted p ≡ unexpected_eof =
     scale_verdict_unique 4 [] (accepted p) unexpected_eof h scale_empty_input in cc
+
+-- a digest that doesn't fit is no pair's, though it is whole
+no_pair_above_limit : ¬
+    (HasScaleVerdict 4 (zeros ++ 5 ∷ 1 ∷ 2 ∷ 3 ∷ 4 ∷ 5 ∷ []) (accepted (pair 0 (1 ∷ 2 ∷ 3 ∷ 4 ∷ 5 ∷ []))))
+no_pair_above_limit (bytes, rest, is, fits, cut) = omega (arith, fits)

@@ -5,7 +5,7 @@ use Rattle.multihash.specs.Verdict.{accepted, invalid_size, faulty, unexpected_e
 use Rattle.multihash.specs.Settling.{Settles, IsShortestSettling}
 use Rattle.multihash.proofs.PairVectors.{pair}
 use Rattle.multihash.proofs.VarintVectors.{all_marked, varint_0, varint_4, varint_133}
-use Rattle.multihash.proofs.VerdictVectors.{size_5, empty_input, size_open, code_padded, code_alone, digest_cut, digest_full}
+use Rattle.multihash.proofs.VerdictVectors.{size_5, empty_input, size_open, code_padded, code_alone, digest_cut, digest_full, digest_of_255_missing}
 use Rattle.multihash.proofs.SettlingLemmas.{early_not_settles, late_settles, shortest_pair, shortest_size, shortest_code_fault, shortest_size_fault}
 
 -- a size that the buffer can't hold, whatever follows
@@ -28,6 +28,11 @@ code_waits = early_not_settles 4 (0 ∷ []) (faulty insufficient) tt code_alone
 
 digest_waits : ¬ (Settles 4 (0 ∷ 4 ∷ 1 ∷ 2 ∷ 3 ∷ []))
 digest_waits = early_not_settles 4 (0 ∷ 4 ∷ 1 ∷ 2 ∷ 3 ∷ []) unexpected_eof tt digest_cut
+
+-- however many bytes it takes
+longest_digest_waits : ¬ (Settles 300 (0x00 ∷ 0xff ∷ 0x01 ∷ []))
+longest_digest_waits =
+    early_not_settles 300 (0x00 ∷ 0xff ∷ 0x01 ∷ []) unexpected_eof tt digest_of_255_missing
 
 pub padded_settles : Settles 4 (0x80 ∷ 0x00 ∷ [])
 padded_settles = late_settles 4 (0x80 ∷ 0x00 ∷ []) (faulty not_minimal) (λ early. early) code_padded

@@ -1,8 +1,8 @@
 -- What reading and writing of many multihashes took and appended, at known pairs.
 use Rattle.std.proofs.Common.{◌≡◌, ◌<◌, ◌⊎◌, ℕ, List, [], ◌∷◌, ◌++◌, length, get_or, refl, sym, ap, ◌∙◌, subst, arith, inl, inr, length-append, append-nil}
-use Rattle.std.specs.Prelude.{Option, Some, IfSome, codes}
+use Rattle.std.specs.Prelude.{Option, Some, None, IfSome, codes}
 use Rattle.std.specs.List.{All}
-use Rattle.std.proofs.lemmas.List.Elements.{All-nil, All-cons, All-head}
+use Rattle.std.proofs.lemmas.List.Elements.{All-nil, All-cons, All-head, All-tail}
 use Rattle.multihash.specs.Bytes.{IsProperBeginning}
 use Rattle.multihash.specs.Varint.{insufficient}
 use Rattle.multihash.specs.Pair.{Pair, FitsBuffer}
@@ -17,16 +17,17 @@ use Rattle.multihash.specs.Taking.{TakesShortestSettling, TakesUnsettled}
 use Rattle.multihash.specs.Streams.{TakesPairs, StopsAfterPairs, AppendsPartOfPairs}
 use Rattle.multihash.proofs.ReadingLemmas.{Takes-none}
 use Rattle.multihash.proofs.WritingLemmas.{some_items}
-use Rattle.multihash.proofs.StreamLemmas.{TakesPairs-none}
+use Rattle.multihash.proofs.StreamLemmas.{TakesPairs-none, part_of_all}
 use Rattle.multihash.proofs.VerdictLemmas.{verdict_unique}
 use Rattle.multihash.proofs.SettlingLemmas.{late_settles, none_settles}
-use Rattle.multihash.proofs.JoinedLemmas.{joined_whole, joined_same}
+use Rattle.multihash.proofs.JoinedLemmas.{joined_whole, joined_same, joined_unique}
 use Rattle.multihash.proofs.FaultVectors.{other}
 use Rattle.multihash.proofs.RefusalVectors.{size_in}
-use Rattle.multihash.proofs.ReadingVectors.{taken_is}
+use Rattle.multihash.proofs.ReadingVectors.{told, taken_is}
+use Rattle.multihash.proofs.VarintVectors.{varint_0, varint_1}
 use Rattle.multihash.proofs.PairVectors.{pair}
 use Rattle.multihash.proofs.VerdictVectors.{size_5, code_open, empty_digest}
-use Rattle.multihash.proofs.TakingVectors.{takes_no_byte_behind_size}
+use Rattle.multihash.proofs.TakingVectors.{takes_no_byte_behind_size, takes_what_settles}
 use Rattle.multihash.proofs.JoinedVectors.{first_code, joined_none_only, joined_one, joined_two}
 
 abbrev a : Pair
@@ -65,6 +66,15 @@ takes_pairs_in_order h =
 -- each fits the buffer
 takes_no_pair_that_fits_not : ¬ (TakesPairs 0 (a ∷ []) (Some (0 ∷ 1 ∷ 65 ∷ [])) (Some []))
 takes_no_pair_that_fits_not h = omega (arith, All-head (FitsBuffer 0) a [] h.fit)
+
+takes_no_second_pair_that_fits_not : (old new : Option (List ℕ))
+    → ¬ (TakesPairs 1 (a ∷ pair 1 (codes "BB") ∷ []) old new)
+takes_no_second_pair_that_fits_not old new h =
+    omega (
+      arith,
+      All-head (FitsBuffer 1) (pair 1 (codes "BB")) []
+          (All-tail (FitsBuffer 1) a (pair 1 (codes "BB") ∷ []) h.fit),
+    )
 
 -- nothing behind the last is taken
 takes_nothing_behind_pairs : ¬ (TakesPairs 4 (a ∷ []) (Some (0 ∷ 1 ∷ 65 ∷ 7 ∷ [])) (Some []))
@@ -182,6 +192,117 @@ fails_with_nothing_settled h =
           (append-nil (0 ∷ 0 ∷ [])),
     ) empty_digest_settles
 
+-- ---- where a list was refused behind its first pair
+
+-- a pair, and a size that is refused
+abbrev stream : List ℕ
+stream = 0 ∷ 1 ∷ 65 ∷ 0 ∷ 5 ∷ 9 ∷ []
+
+pair_and_more : (more : List ℕ) → HasVerdict 4 (0 ∷ 1 ∷ 65 ∷ more) (accepted a)
+pair_and_more more = (
+  more,
+  record {
+    encoding = 0 ∷ 1 ∷ 65 ∷ [];
+    encodes = record {
+      code = 0 ∷ [];
+      size = 1 ∷ [];
+      is_code = varint_0;
+      is_size = varint_1;
+      spelled = refl;
+    };
+    cut = refl;
+  },
+  omega arith,
+)
+
+pair_settles : Settles 4 (0 ∷ 1 ∷ 65 ∷ [])
+pair_settles =
+    late_settles 4 (0 ∷ 1 ∷ 65 ∷ []) (accepted a) (λ early. early) (pair_and_more [])
+
+behind_first : (p : Pair) (middle : Option (List ℕ)) → TakesPairs 4 (p ∷ []) (Some stream) middle
+    → middle ≡ Some (0 ∷ 5 ∷ 9 ∷ [])
+behind_first p None h = let none = h.takes in absurd cc
+behind_first p (Some rest) h =
+    ap Some (joined_unique (p ∷ []) (a ∷ []) h.bytes (0 ∷ 1 ∷ 65 ∷ []) rest (0 ∷ 5 ∷ 9 ∷ []) refl
+    h.joined joined_one (sym (ap told h.takes))).1
+
+-- of two pairs that were asked for, the first was taken before, or none
+one_before : (pairs : List Pair) (middle : Option (List ℕ)) → length pairs < 2
+    → TakesPairs 4 pairs (Some stream) middle
+    → (middle ≡ Some stream) ⊎ (middle ≡ Some (0 ∷ 5 ∷ 9 ∷ []))
+one_before [] middle fewer h = inl (none_before 4 [] (Some stream) middle (omega arith) h)
+one_before (p ∷ []) middle fewer h = inr (behind_first p middle h)
+one_before (p ∷ q ∷ ps) middle fewer h = absurd (omega arith)
+
+-- a refused size is refused where it stands
+no_size_at_first : (size : ℕ)
+    → ((v : Verdict) × HasVerdict 4 stream v × IsRefusal (of_size size) v) → ⊥
+no_size_at_first size (v, has, names) =
+    subst (λ (w : Verdict). IsRefusal (of_size size) w)
+    (verdict_unique 4 stream v (accepted a) has (pair_and_more (0 ∷ 5 ∷ 9 ∷ []))) names
+
+-- the refusal is that of what follows the first pair
+refuses_second_by_the_verdict : ¬ (StopsAfterPairs 4 2 (of_size 6) 3 3 (Some stream) (Some (9 ∷ [])))
+refuses_second_by_the_verdict h =
+    elim (one_before h.pairs h.middle h.fewer h.good) [
+      | inl at ↦
+          no_size_at_first 6
+          (subst (λ (o : Option (List ℕ)). IfSome o
+          (λ left. ◌≡◌ {A = ℕ} 3 3 → (v : Verdict) × HasVerdict 4 left v × IsRefusal (of_size 6) v))
+          at h.verdict refl)
+      | inr at ↦
+          let (v, has, names) =
+          subst (λ (o : Option (List ℕ)). IfSome o
+          (λ left. ◌≡◌ {A = ℕ} 3 3 → (v : Verdict) × HasVerdict 4 left v × IsRefusal (of_size 6) v))
+          at h.verdict refl in
+          let same : v ≡ invalid_size 5 =
+          verdict_unique 4 (0 ∷ 5 ∷ 9 ∷ []) v (invalid_size 5) has
+          (9 ∷ [], size_5 (9 ∷ []), omega arith) in
+          omega (arith, ap size_in (subst (λ (w : Verdict). IsRefusal (of_size 6) w) same names))
+    ]
+
+-- no byte behind what settles was taken
+refuses_second_with_nothing_behind : ¬
+    (StopsAfterPairs 4 2 (of_size 5) 3 3 (Some stream) (Some []))
+refuses_second_with_nothing_behind h =
+    elim (one_before h.pairs h.middle h.fewer h.good) [
+      | inl at ↦
+          no_size_at_first 5
+          (subst (λ (o : Option (List ℕ)). IfSome o
+          (λ left. ◌≡◌ {A = ℕ} 3 3 → (v : Verdict) × HasVerdict 4 left v × IsRefusal (of_size 5) v))
+          at h.verdict refl)
+      | inr at ↦
+          takes_no_byte_behind_size
+          (subst (λ (o : Option (List ℕ)). IfSome o
+          (λ left. ◌≡◌ {A = ℕ} 3 3 → (v : Verdict) → HasVerdict 4 left v → ¬ (IsEarlyEnd v)
+          → TakesShortestSettling 4 left (Some [])))
+          at h.settled refl (invalid_size 5) (9 ∷ [], size_5 (9 ∷ []), omega arith)
+          (λ early. early))
+    ]
+
+-- after a failure nothing that settles was taken, neither of the first nor behind it
+fails_at_second_with_nothing_settled : ¬
+    (StopsAfterPairs 4 2 (of_io other) 3 4 (Some stream) (Some (9 ∷ [])))
+fails_at_second_with_nothing_settled h =
+    elim (one_before h.pairs h.middle h.fewer h.good) [
+      | inl at ↦
+          let u =
+          subst (λ (o : Option (List ℕ)). IfSome o
+          (λ left. (3 < 4) ⊎ ((v : Verdict) × HasVerdict 4 left v × IsEarlyEnd v) →
+          TakesUnsettled 4 left (Some (9 ∷ []))))
+          at h.unsettled (inl (omega arith)) in
+          u.unsettled (0 ∷ 1 ∷ 65 ∷ []) (
+            0 ∷ 5 ∷ [],
+            taken_is (0 ∷ 1 ∷ 65 ∷ 0 ∷ 5 ∷ []) (9 ∷ []) u.taken u.takes,
+          ) pair_settles
+      | inr at ↦
+          takes_what_settles
+          (subst (λ (o : Option (List ℕ)). IfSome o
+          (λ left. (3 < 4) ⊎ ((v : Verdict) × HasVerdict 4 left v × IsEarlyEnd v) →
+          TakesUnsettled 4 left (Some (9 ∷ []))))
+          at h.unsettled (inl (omega arith)))
+    ]
+
 -- ---- a part of the pairs
 
 appends_part_of_second : AppendsPartOfPairs AppendsAtEnd [] (a ∷ b ∷ []) (0 ∷ 1 ∷ 65 ∷ 1 ∷ [])
@@ -221,6 +342,17 @@ no_part_of_nothing bytes part none (rest, some, cut) =
       ap (λ (z : List ℕ). length z) none,
       ap (λ (z : List ℕ). length z) cut,
       length-append part rest,
+    )
+
+-- nor does a part begin with a later pair
+no_part_of_a_later_pair : ¬ (AppendsPartOfPairs AppendsAtEnd [] (a ∷ b ∷ []) (1 ∷ []))
+no_part_of_a_later_pair h =
+    let p =
+    part_of_all AppendsAtEnd [] (1 ∷ []) (a ∷ b ∷ []) (0 ∷ 1 ∷ 65 ∷ 1 ∷ 1 ∷ 66 ∷ []) h joined_two in
+    omega (
+      arith,
+      ap (λ (z : List ℕ). get_or z 0 0)
+          (p.proper.2 ∙ ap (λ (z : List ℕ). z ++ p.proper.0) (sym p.stands)),
     )
 
 first_of_one : (first later : List Pair) → a ∷ [] ≡ first ++ later → (first ≡ []) ⊎ (first ≡ a ∷ [])

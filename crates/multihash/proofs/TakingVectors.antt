@@ -6,11 +6,11 @@ use Rattle.multihash.specs.Varint.{VarintFault, insufficient, overflow, not_mini
 use Rattle.multihash.specs.Verdict.{Verdict, accepted, invalid_size, faulty, unexpected_eof, HasVerdict, IsEarlyEnd}
 use Rattle.multihash.specs.Reading.{Takes}
 use Rattle.multihash.specs.Refusal.{of_io, of_size, of_varint, of_not_bytes, IsFaulty}
-use Rattle.multihash.specs.Taking.{IsVarintRefusal, IsFrontRefusal, TakesVarint, IsReadRefusal, TakesAtVarintRefusal, TakesAtRefusal, TakesShortestSettling, TakesUnsettled}
-use Rattle.multihash.proofs.VarintLemmas.{front_unique, fault, varint_unique}
+use Rattle.multihash.specs.Taking.{IsVarintRefusal, IsFrontRefusal, BeginsNoVarint, TakesVarint, IsReadRefusal, TakesAtVarintRefusal, TakesAtRefusal, TakesShortestSettling, TakesUnsettled}
+use Rattle.multihash.proofs.VarintLemmas.{front_unique, number, fault, varint_unique}
 use Rattle.multihash.proofs.VerdictLemmas.{verdict_unique}
 use Rattle.multihash.proofs.SettlingLemmas.{none_settles, shortest_unique}
-use Rattle.multihash.proofs.FaultVectors.{other, eof, memory}
+use Rattle.multihash.proofs.FaultVectors.{other, eof, full, memory}
 use Rattle.multihash.proofs.RefusalVectors.{size_in}
 use Rattle.multihash.proofs.ReadingVectors.{told, taken_is}
 use Rattle.multihash.proofs.VarintVectors.{all_marked, varint_0, varint_4, varint_5, not_another}
@@ -87,6 +87,12 @@ read_refuses_by_no_want_of_memory (inl (size, e, large)) = cc
 read_refuses_by_no_want_of_memory (inr (inl (f, e))) = cc
 read_refuses_by_no_want_of_memory (inr (inr (f, e, kind))) = cc
 
+-- nor does anything but the end of the input
+read_refuses_by_no_full_writer : ¬ (IsReadRefusal 4 (of_io full))
+read_refuses_by_no_full_writer (inl (size, e, large)) = cc
+read_refuses_by_no_full_writer (inr (inl (f, e))) = cc
+read_refuses_by_no_full_writer (inr (inr (f, e, kind))) = cc
+
 -- ---- a varint that was taken
 
 takes_varint : TakesVarint 5 (Some (5 ∷ 9 ∷ [])) (Some (9 ∷ []))
@@ -130,6 +136,19 @@ none_is_insufficient = record { few = omega arith; all_marked = all_marked [] re
 
 one_marked_is_insufficient : IsInsufficient (0x80 ∷ [])
 one_marked_is_insufficient = record { few = omega arith; all_marked = all_marked (0x80 ∷ []) refl }
+
+-- an input begins with a varint or with one fault
+pub begins_no_varint : BeginsNoVarint (0x80 ∷ [])
+begins_no_varint = (insufficient, one_marked_is_insufficient)
+
+begins_padded : BeginsNoVarint (0x80 ∷ 0x00 ∷ [])
+begins_padded = (not_minimal, padded_front)
+
+pub begins_a_varint : ¬ (BeginsNoVarint (5 ∷ []))
+begins_a_varint (f, has) =
+    let same : number 5 [] ≡ fault f =
+    front_unique (5 ∷ []) (number 5 []) (fault f) (5 ∷ [], varint_5, refl) has in
+    cc
 
 -- a reader that failed behind a marked byte
 fails_inside_varint : TakesAtVarintRefusal (of_io other) (Some (0x80 ∷ 0x01 ∷ []))
@@ -192,6 +211,13 @@ fails_not_behind_varint h =
     not_insufficient
     (subst IsInsufficient (taken_is (0x80 ∷ 0x00 ∷ []) [] h.taken h.takes)
     (h.failed (other, refl, inl refl)))
+
+memory_fails_not_behind_varint : ¬
+    (TakesAtVarintRefusal (of_io memory) (Some (0x80 ∷ 0x00 ∷ [])) (Some []))
+memory_fails_not_behind_varint h =
+    not_insufficient
+    (subst IsInsufficient (taken_is (0x80 ∷ 0x00 ∷ []) [] h.taken h.takes)
+    (h.failed (memory, refl, inr refl)))
 
 -- ---- a refused `read`
 

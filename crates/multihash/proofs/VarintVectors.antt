@@ -1,8 +1,8 @@
 -- Varints of known numbers, and bytes that are no varint.
-use Rattle.std.proofs.Common.{◌≡◌, ℕ, ltb, Bool, true, List, [], ◌∷◌, ◌++◌, refl, sym, ap, arith, append-nil, get_or, replicate, ◌-◌}
+use Rattle.std.proofs.Common.{◌≡◌, ◌<◌, ℕ, ltb, Bool, true, List, [], ◌∷◌, ◌++◌, length, refl, sym, ap, arith, append-nil, get_or, replicate, ◌-◌}
 use Rattle.std.specs.List.{All, list_all}
 use Rattle.std.proofs.lemmas.Bool.{ltb-true, and_parts}
-use Rattle.std.proofs.lemmas.List.Elements.{All-nil, All-cons}
+use Rattle.std.proofs.lemmas.List.Elements.{All-nil, All-cons, All-head}
 use Rattle.multihash.specs.Bytes.{place_value}
 use Rattle.multihash.specs.Varint.{IsMarked, marked, varint_limit, most_marked, first_too_large, IsVarint, VarintFault, insufficient, overflow, not_minimal, IsInsufficient, IsOverflow, IsNotMinimal, HasFaultyFront}
 use Rattle.multihash.proofs.BytesVectors.{all_below}
@@ -297,3 +297,30 @@ zero_too_late =
       cut = refl;
     })
     (λ e. cc)
+
+-- ---- what only long inputs show
+
+-- the padding may stand behind as many marked bytes as a varint has
+no_longest_padded : (n : ℕ) → ¬ (IsVarint n (most ++ 0x00 ∷ []))
+no_longest_padded n = not_with_fault n (most ++ 0x00 ∷ []) not_minimal (record {
+  front = most;
+  rest = [];
+  all_marked = marked_most;
+  some = omega arith;
+  few = omega arith;
+  cut = refl;
+})
+
+-- a digit is one of seven bits, whatever follows it
+no_varint_of_larger_digits : (n : ℕ) → ¬ (IsVarint n (256 ∷ 1 ∷ []))
+no_varint_of_larger_digits n v = none v.front v.last v.digits v.spelled
+  where
+    none : (front : List ℕ) (last : ℕ) → All (λ digit. digit < 128) (front ++ last ∷ [])
+        → 256 ∷ 1 ∷ [] ≡ marked front ++ last ∷ [] → ⊥
+    none [] last digits e = omega (arith, ap (λ (z : List ℕ). length z) e)
+    none (d ∷ front) last digits e =
+        omega (
+          arith,
+          All-head (λ digit. digit < 128) d (front ++ last ∷ []) digits,
+          ap (λ (z : List ℕ). get_or z 0 0) e,
+        )

@@ -5,6 +5,7 @@ use Rattle.multihash.specs.Varint.{VarintFault, insufficient, overflow, not_mini
 use Rattle.multihash.specs.Verdict.{Verdict, accepted, invalid_size, faulty, unexpected_eof, BeginsWith, HasSize, HasCode, HasVerdict, HasLeftOver, HasWholeVerdict, IsEarlyEnd}
 use Rattle.multihash.proofs.VarintVectors.{all_marked, varint_0, varint_1, varint_4, varint_5, varint_133, varint_255, varint_256, varint_9223372036854775808, varint_18446744073709551615}
 use Rattle.multihash.proofs.PairVectors.{pair}
+use Rattle.multihash.proofs.LengthLemmas.{varint_some}
 use Rattle.multihash.proofs.VerdictLemmas.{encoding_same, same_number, verdict_unique, whole_verdict_unique}
 use Rattle.multihash.proofs.VarintLemmas.{number, fault, front_unique}
 
@@ -363,6 +364,39 @@ no_pair_but_the_whole h =
     (inr one_left_over) in
     cc
 
+-- the count is that of all that follow
+no_fewer_left_over : ¬ (HasWholeVerdict 4 (0x00 ∷ 0x00 ∷ 0x07 ∷ 0x08 ∷ []) (invalid_size 1))
+no_fewer_left_over h =
+    omega (
+      arith,
+      ap size_named
+          (whole_verdict_unique 4 (0x00 ∷ 0x00 ∷ 0x07 ∷ 0x08 ∷ []) (invalid_size 1) (invalid_size 2) h
+          (inr (
+            pair 0 [],
+            0x07 ∷ 0x08 ∷ [],
+            begins_empty (0x07 ∷ 0x08 ∷ []),
+            omega arith,
+            refl,
+            omega arith,
+          ))),
+    )
+
+-- what is left over is no fault of a varint, and no early end
+no_fault_of_left_over : (f : VarintFault)
+    → ¬ (HasWholeVerdict 4 (0x00 ∷ 0x00 ∷ 0x07 ∷ []) (faulty f))
+no_fault_of_left_over f h =
+    let same : faulty f ≡ invalid_size 1 =
+    whole_verdict_unique 4 (0x00 ∷ 0x00 ∷ 0x07 ∷ []) (faulty f) (invalid_size 1) h
+    (inr one_left_over) in
+    cc
+
+no_end_of_left_over : ¬ (HasWholeVerdict 4 (0x00 ∷ 0x00 ∷ 0x07 ∷ []) unexpected_eof)
+no_end_of_left_over h =
+    let same : unexpected_eof ≡ invalid_size 1 =
+    whole_verdict_unique 4 (0x00 ∷ 0x00 ∷ 0x07 ∷ []) unexpected_eof (invalid_size 1) h
+    (inr one_left_over) in
+    cc
+
 -- ---- what begins an input
 
 begins_with_one : BeginsWith (pair 0 []) (0x00 ∷ 0x00 ∷ 0x07 ∷ []) (0x07 ∷ [])
@@ -408,6 +442,19 @@ has_size = size_5 (0x07 ∷ [])
 -- the code is no size
 code_is_no_size : ¬ (HasSize 0 (0x00 ∷ 0x05 ∷ []) [])
 code_is_no_size h = size_is_5 0 h (λ e. omega (arith, e))
+
+-- nor does a size stand alone
+no_size_alone : ¬ (HasSize 5 (0x05 ∷ []) [])
+no_size_alone h =
+    let (same, rest) =
+    same_number (0x05 ∷ []) h.code 5 (h.size_bytes ++ []) [] (h.code_bytes, h.is_code, h.cut)
+    (0x05 ∷ [], varint_5, refl) in
+    omega (
+      arith,
+      ap (λ (z : List ℕ). length z) rest,
+      length-append h.size_bytes [],
+      varint_some 5 h.size_bytes h.is_size,
+    )
 
 no_size_without_code : (size : ℕ) (rest : List ℕ) → ¬ (HasSize size (0x80 ∷ []) rest)
 no_size_without_code size rest h =

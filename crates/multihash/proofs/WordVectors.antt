@@ -1,7 +1,11 @@
 -- The first bytes of known inputs as one number.
-use Rattle.std.proofs.Common.{◌≡◌, [], ◌∷◌, ◌++◌, replicate, refl, arith}
+use Rattle.std.proofs.Common.{◌≡◌, ℕ, [], ◌∷◌, ◌++◌, replicate, refl, arith}
+use Rattle.std.proofs.lemmas.List.Elements.{All-nil, All-cons, All-head, All-tail}
 use Rattle.multihash.specs.Bytes.{place_value}
-use Rattle.multihash.specs.Word.{IsFrontWord, digits_low}
+use Rattle.multihash.specs.Varint.{IsMarked}
+use Rattle.multihash.specs.Word.{IsFrontWord, BeginsMarked, IsFoundFront, digits_low}
+use Rattle.multihash.proofs.VarintVectors.{all_marked, varint_5, varint_300, not_another}
+use Rattle.multihash.proofs.TakingVectors.{begins_no_varint, begins_a_varint}
 
 -- the lowest byte first
 word_of_three : IsFrontWord (1 ∷ 2 ∷ 3 ∷ []) 197121 3
@@ -55,3 +59,49 @@ digits_of_none = refl
 digits_of_the_third : digits_low 3 0x018080 ≡ 16384
 unfolding digits_low
 digits_of_the_third = refl
+
+-- ---- marked bytes at the front
+
+begins_marked : BeginsMarked 2 (0x80 ∷ 0xff ∷ 0x05 ∷ [])
+begins_marked =
+    record { enough = omega arith; all_marked = all_marked (0x80 ∷ 0xff ∷ []) refl }
+
+begins_with_no_third_mark : ¬ (BeginsMarked 3 (0x80 ∷ 0xff ∷ 0x05 ∷ []))
+begins_with_no_third_mark h =
+    omega (
+      arith,
+      All-head IsMarked 0x05 []
+          (All-tail IsMarked 0xff (0x05 ∷ []) (All-tail IsMarked 0x80 (0xff ∷ 0x05 ∷ []) h.all_marked)),
+    )
+
+begins_with_no_missing_mark : ¬ (BeginsMarked 2 (0x80 ∷ []))
+begins_with_no_missing_mark h = omega (arith, h.enough)
+
+-- ---- what was found at the front
+
+finds_a_varint : IsFoundFront (0xac ∷ 0x02 ∷ 0x07 ∷ []) 300 2
+finds_a_varint =
+    record {
+      some = λ more. varint_300;
+      within = omega arith;
+      none = λ e. absurd (omega (arith, e));
+    }
+
+finds_none : (n : ℕ) → IsFoundFront (0x80 ∷ []) n 0
+finds_none n =
+    record {
+      some = λ more. absurd (omega (arith, more));
+      within = omega arith;
+      none = λ e. begins_no_varint;
+    }
+
+finds_no_other_number : ¬ (IsFoundFront (5 ∷ []) 6 1)
+finds_no_other_number h =
+    not_another 6 5 (5 ∷ []) varint_5 (λ e. omega (arith, e)) (h.some (omega arith))
+
+finds_within_the_input : ¬ (IsFoundFront (5 ∷ []) 5 2)
+finds_within_the_input h = omega (arith, h.within)
+
+-- where a varint begins the input, it is found
+misses_no_varint : (n : ℕ) → ¬ (IsFoundFront (5 ∷ []) n 0)
+misses_no_varint n h = begins_a_varint (h.none refl)

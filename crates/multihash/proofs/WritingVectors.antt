@@ -54,6 +54,9 @@ wrote = refl
 wrote_with_fault : ¬ (CountsWriter {A = ℕ} (λ P. P) true 3 4 ⊥ (Ok 1))
 wrote_with_fault h = omega (arith, h)
 
+wrote_and_lowered_no_count : ¬ (CountsWriter {A = ℕ} (λ P. P) true 4 3 ⊥ (Ok 1))
+wrote_and_lowered_no_count h = omega (arith, h)
+
 write_never_full : ¬ (CountsWriter {A = ℕ} (λ P. P) true 3 4 ⊥ (Err full))
 write_never_full (more, inl h) = writer_not_full h
 write_never_full (more, inr h) = h.2
