@@ -19,7 +19,7 @@ use Rattle.vectors.specs.declared.check.Check.TheVariants.{FromBytes, ReadSlice,
 use Rattle.vectors.specs.declared.line.Line.{Line}
 use Rattle.vectors.specs.declared.line.Reading.{Reading}
 use Rattle.vectors.specs.declared.verdict.Verdict.{Verdict}
-use Rattle.vectors.specs.declared.verdict.Verdict.TheVariants.{InvalidSize, Insufficient, Overflow, NotMinimal, UnexpectedEof}
+use Rattle.vectors.specs.declared.verdict.Verdict.TheVariants.{Pair as Listed, InvalidSize, Insufficient, Overflow, NotMinimal, UnexpectedEof}
 use Rattle.vectors.specs.Listed.{ListsBytes, meaning, SettlesAfter, IsTaken, IsReading, DecodesAfter, IsScaleTaken, IsScaleReading, ends_varint, TakesEnough, TakesAsReadListed, TakesAsScaleListed, IsRight, AreRightFor, AreRight}
 
 -- ---- words of a line
@@ -54,6 +54,9 @@ means_not_minimal = refl
 
 means_eof : meaning UnexpectedEof ≡ unexpected_eof
 means_eof = refl
+
+means_pair : (code : ℕ) → (digest : _) → meaning (Listed code digest) ≡ accepted (pair code digest.items)
+means_pair code digest = refl
 
 -- ---- readings
 
