@@ -1,6 +1,5 @@
 //! A line of hexadecimal, as the three lines of its multihash.
-ghost use Rattle.std.specs.Prelude.{◌≡◌, ◌≢◌, ℕ, ◌*◌, ◌%◌, ◌<◌, ◌⊎◌, List, length, codes, Some, IfOk, IfErr, IsAscii, string_bytes};
-ghost use Rattle.hex.specs.Hex.{encode_lower};
+ghost use Rattle.std.specs.Prelude.{◌≡◌, ◌≢◌, ℕ, ◌%◌, ◌⊎◌, List, length, Some, IfOk, IfErr, string_bytes};
 ghost use Rattle.multihash.specs.Pair.{Pair};
 ghost use Rattle.multihash.specs.Verdict.{Verdict, accepted, HasWholeVerdict};
 ghost use Rattle.multihash.specs.Refusal.{Refusal};
@@ -15,9 +14,6 @@ use hex::FromHexError;
 use multihash::Multihash;
 use std::alloc::{AllocError, Global};
 use std::fmt;
-
-// The most digits of a digest.
-const MOST_DIGITS: usize = 2 * 64;
 
 /// Why a text was not shown.
 #[derive(Debug, Drop)]
@@ -120,31 +116,11 @@ fn lines_of(alloc: Global, multihash: &Multihash<64>) -> Result<String, AllocErr
 {
     let code = multihash.code();
     let size = multihash.size();
-    let mut room = [0; MOST_DIGITS];
-    let digits = &mut room[..2 * usize::from(size)];
-    write_digits(multihash.digest(), digits);
-    let digest = text_of(digits);
-    format!(in alloc; "code {code}\nsize {size}\ndigest {digest}\n")
-}
-
-// Two digits a byte, in places that are twice as many.
-fn write_digits(digest: &[u8], places: &mut [u8])
-    requires { length places.old ≡ 2 * length digest.now }
-    ensures digits { places.new ≡ encode_lower digest.now }
-    ensures ascii { IsAscii places.new }
-{
-    hex::encode_to_slice(digest, places).unwrap();
-}
-
-// The digits, or a dash where there is none.
-fn text_of(digits: &[u8]) -> &str
-    requires ascii { IsAscii digits.now }
-    ensures none { length digits.now ≡ 0 → result.now ≡ codes "-" }
-    ensures some { 0 < length digits.now → result.now ≡ digits.now }
-{
-    if digits.is_empty() {
+    let digits = hex::encode(alloc, multihash.digest())?;
+    let digest = if digits.is_empty() {
         "-"
     } else {
-        str::from_utf8(digits).unwrap()
-    }
+        digits.as_str()
+    };
+    format!(in alloc; "code {code}\nsize {size}\ndigest {digest}\n")
 }

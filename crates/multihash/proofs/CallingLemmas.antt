@@ -124,15 +124,6 @@ module _ {W : Type 0} (appended : W → List ℕ → W → Type 0) (a b : W) (Is
         omega (arith, fewer, ap length none),
       )
 
-  -- the same of a writer's answer that counts the bytes
-  pub filled_count : (r : Result ℕ Refusal) (is_whole : Bool) → is_whole ≡ is_ok r
-      → IfOk r (λ n. (bytes : List ℕ) × IsForm bytes × (n ≡ length bytes) × appended a bytes b)
-      → OnErr r ((bytes : List ℕ) × IsForm bytes × AppendsPart appended a bytes b)
-      → CountsWriter IsIo false 0 0 (new ≡ []) r
-      → (bytes : List ℕ) × IsForm bytes × (IsTrue is_whole ↔ (length bytes ≤ length old)) × (length new ≡ length old - length bytes)
-  filled_count (Ok n) is_whole told wrote stopped faults = filled (Ok n) is_whole told (wrote.0, wrote.1, wrote.3) stopped faults
-  filled_count (Err e) is_whole told wrote stopped faults = filled {T = ℕ} (Err e) is_whole told tt stopped faults
-
 -- decoding a pair's SCALE form and more gives the pair and leaves what follows
 pub scale_pair : (S : ℕ) (p q : Pair) (input bytes taken more left : List ℕ) (v : Verdict) → input ≡ bytes ++ more → IsScale p bytes
     → FitsBuffer S p → HasScaleVerdict S input v → v ≡ accepted q → IsScale q taken → input ≡ taken ++ left → (q ≡ p) × (left ≡ more)

@@ -34,8 +34,8 @@ module _ (S code : ℕ) (input left : List ℕ) (is_code : TakesVarint code (Som
     cut_size : left ≡ is_size.0 ++ rest
     cut_size = cc (is_size.2)
 
-    sized : HasSize size input rest
-    sized = record {
+    has_size : HasSize size input rest
+    has_size = record {
       code = code;
       code_bytes = is_code.0;
       size_bytes = is_size.0;
@@ -46,21 +46,21 @@ module _ (S code : ℕ) (input left : List ℕ) (is_code : TakesVarint code (Som
 
     -- a size that is too large
     pub over : digest_limit S < size → HasWholeVerdict S input (invalid_size size)
-    over large = inl (rest, sized, large)
+    over large = inl (rest, has_size, large)
 
     -- a digest that is cut
     pub cut_digest : size ≤ digest_limit S → length rest < size → HasWholeVerdict S input unexpected_eof
-    cut_digest within short = (size, rest, sized, within, short)
+    cut_digest within short = (size, rest, has_size, within, short)
 
     -- bytes behind the digest
     pub left_over : (n : ℕ) → size ≤ digest_limit S → size < length rest → n ≡ length rest - size → HasWholeVerdict S input (invalid_size n)
-    unfolding sized
+    unfolding has_size
     left_over n within more count =
         let long : length (take size rest) ≡ size = length-take-le size rest (omega arith) in
         inr (
           record { code = code; digest = take size rest },
           drop size rest,
-          pair_begins size input rest sized (take size rest) (drop size rest) long (sym (take-append-drop size rest)),
+          pair_begins size input rest has_size (take size rest) (drop size rest) long (sym (take-append-drop size rest)),
           omega arith,
           omega (arith, length-drop size rest, count),
           omega arith,

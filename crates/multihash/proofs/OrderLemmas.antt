@@ -128,16 +128,16 @@ compare_lists [] (b ∷ y) l = absurd (omega arith)
 compare_lists (a ∷ x) [] l = absurd (omega arith)
 compare_lists (a ∷ x) (b ∷ y) l =
     elim (cases_order a b) [
-      | inl e ↦ behind e (compare_lists x y (omega arith))
+      | inl e ↦ after_same_head e (compare_lists x y (omega arith))
       | inr (inl below) ↦ inr (inl (IsSmallerWhereFirstDifferent-head a b x y below))
       | inr (inr above) ↦ inr (inr (IsSmallerWhereFirstDifferent-head b a y x above))
     ]
   where
-    behind : a ≡ b → (x ≡ y) ⊎ IsSmallerWhereFirstDifferent x y ⊎ IsSmallerWhereFirstDifferent y x
+    after_same_head : a ≡ b → (x ≡ y) ⊎ IsSmallerWhereFirstDifferent x y ⊎ IsSmallerWhereFirstDifferent y x
         → (a ∷ x ≡ b ∷ y) ⊎ IsSmallerWhereFirstDifferent (a ∷ x) (b ∷ y) ⊎ IsSmallerWhereFirstDifferent (b ∷ y) (a ∷ x)
-    behind e (inl same) = inl (cc (e, same))
-    behind e (inr (inl left)) = inr (inl (IsSmallerWhereFirstDifferent-cons a b x y e left))
-    behind e (inr (inr right)) = inr (inr (IsSmallerWhereFirstDifferent-cons b a y x (sym e) right))
+    after_same_head e (inl same) = inl (cc (e, same))
+    after_same_head e (inr (inl left)) = inr (inl (IsSmallerWhereFirstDifferent-cons a b x y e left))
+    after_same_head e (inr (inr right)) = inr (inr (IsSmallerWhereFirstDifferent-cons b a y x (sym e) right))
 
 -- what comparing one byte after another answers, at lists as long as each other
 slice_cmp-step : (a b : ℕ) (x y : List ℕ) (o r : Ordering) → MatchOrdering o (a < b) (a ≡ b) (b < a)

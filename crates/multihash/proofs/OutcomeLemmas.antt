@@ -1,5 +1,5 @@
 -- What holds of the outcome where a `?` passes an error on.
-use Rattle.std.proofs.Common.{◌≡◌, Result, Ok, Err, IfErr, OnErr, sym, subst}
+use Rattle.std.proofs.Common.{◌≡◌, Result, Ok, Err, IfOk, IfErr, OnOk, OnErr, sym, subst}
 use Rattle.std.specs.Result.{IsErrAnd}
 
 -- the error that is answered is the one that was met, and what holds of that one holds of it
@@ -11,3 +11,8 @@ passed_on (Err x) e P given p = subst P (sym given) p
 pub OnErr-always : {T E P : Type 0} (r : Result T E) → P → OnErr r P
 OnErr-always (Ok x) p = tt
 OnErr-always (Err e) p = p
+
+-- what follows from what is known of an answer holds where there is one
+pub OnOk-answered : {T E P : Type 0} {Q : T → Type 0} (r : Result T E) → IfOk r Q → ((t : T) → Q t → P) → OnOk r P
+OnOk-answered (Ok t) known follows = follows t known
+OnOk-answered (Err e) known follows = tt

@@ -13,7 +13,7 @@ use Rattle.multihash.specs.Taking.{IsVarintRefusal, TakesAtVarintRefusal}
 use Rattle.multihash.specs.Answer.{Fields, pair_of}
 use Rattle.multihash.proofs.BeginningLemmas.{split_beginning}
 use Rattle.multihash.proofs.SettlingLemmas.{EndsEarly, varint_step, before_first, before_second}
-use Rattle.multihash.proofs.ReadTakingLemmas.{Stops, late, early, failed}
+use Rattle.multihash.proofs.ReadTakingLemmas.{Stops, at_settled, at_early_end, at_failure}
 
 -- how reading a varint counted
 abbrev pub VarintCounts : ℕ → ℕ → Refusal → Type 0
@@ -35,21 +35,21 @@ module _ (S : ℕ) (e : Refusal) (old new : Option (List ℕ)) (before after : �
 
   code_refused : (f : VarintFault) → after ≡ before → IsFaulty f e → Stops S e t.taken new before after
   code_refused insufficient same given =
-      early (faulty insufficient) same tt given (code_shows insufficient given) (λ _. t.all given)
+      at_early_end (faulty insufficient) same tt given (code_shows insufficient given) (λ _. t.all given)
       (at_end (λ x. HasVerdict S x (faulty insufficient)) t.taken new (t.all given) (code_shows insufficient given))
-  code_refused overflow same given = late (faulty overflow) same (λ h. h) given (code_shows overflow given) code_no_sooner
-  code_refused not_minimal same given = late (faulty not_minimal) same (λ h. h) given (code_shows not_minimal given) code_no_sooner
+  code_refused overflow same given = at_settled (faulty overflow) same (λ h. h) given (code_shows overflow given) code_no_sooner
+  code_refused not_minimal same given = at_settled (faulty not_minimal) same (λ h. h) given (code_shows not_minimal given) code_no_sooner
 
   pub stops_in_code : VarintCounts before after e → Stops S e t.taken new before after
-  stops_in_code (inl (rose, own)) = failed (faulty insufficient) rose own tt (inl (t.failed own))
+  stops_in_code (inl (rose, own)) = at_failure (faulty insufficient) rose own tt (inl (t.failed own))
   stops_in_code (inr (same, (f, given))) = code_refused f same given
 
 -- ---- in the size
 
 module _ (S code : ℕ) (a : List ℕ) (is_code : IsVarint code a) (e : Refusal) (old new : Option (List ℕ)) (before after : ℕ)
     (t : TakesAtVarintRefusal e old new) where
-  behind : (f : VarintFault) → HasFaultyFront f t.taken → HasVerdict S (a ++ t.taken) (faulty f)
-  behind f h = inr (t.taken, record { code = code; code_bytes = a; is_code = is_code; cut = refl }, h)
+  size_shows : (f : VarintFault) → HasFaultyFront f t.taken → HasVerdict S (a ++ t.taken) (faulty f)
+  size_shows f h = inr (t.taken, record { code = code; code_bytes = a; is_code = is_code; cut = refl }, h)
 
   size_no_sooner : (p : List ℕ) → IsProperBeginning p (a ++ t.taken) → EndsEarly S p
   size_no_sooner p b =
@@ -61,30 +61,30 @@ module _ (S code : ℕ) (a : List ℕ) (is_code : IsVarint code a) (e : Refusal)
 
   size_refused : (f : VarintFault) → after ≡ before → IsFaulty f e → Stops S e (a ++ t.taken) new before after
   size_refused insufficient same given =
-      early (faulty insufficient) same tt given (behind insufficient (t.shows insufficient given)) (λ _. t.all given)
-      (at_end (λ x. HasVerdict S x (faulty insufficient)) (a ++ t.taken) new (t.all given) (behind insufficient (t.shows insufficient given)))
-  size_refused overflow same given = late (faulty overflow) same (λ h. h) given (behind overflow (t.shows overflow given)) size_no_sooner
-  size_refused not_minimal same given = late (faulty not_minimal) same (λ h. h) given (behind not_minimal (t.shows not_minimal given)) size_no_sooner
+      at_early_end (faulty insufficient) same tt given (size_shows insufficient (t.shows insufficient given)) (λ _. t.all given)
+      (at_end (λ x. HasVerdict S x (faulty insufficient)) (a ++ t.taken) new (t.all given) (size_shows insufficient (t.shows insufficient given)))
+  size_refused overflow same given = at_settled (faulty overflow) same (λ h. h) given (size_shows overflow (t.shows overflow given)) size_no_sooner
+  size_refused not_minimal same given = at_settled (faulty not_minimal) same (λ h. h) given (size_shows not_minimal (t.shows not_minimal given)) size_no_sooner
 
   pub stops_in_size : VarintCounts before after e → Stops S e (a ++ t.taken) new before after
-  stops_in_size (inl (rose, own)) = failed (faulty insufficient) rose own tt (behind insufficient (t.failed own))
+  stops_in_size (inl (rose, own)) = at_failure (faulty insufficient) rose own tt (size_shows insufficient (t.failed own))
   stops_in_size (inr (same, (f, given))) = size_refused f same given
 
 -- ---- behind both varints
 
 module _ (S code size : ℕ) (a b : List ℕ) (is_code : IsVarint code a) (is_size : IsVarint size b) where
-  sized : (rest : List ℕ) → HasSize size (a ++ (b ++ rest)) rest
-  sized rest = record { code = code; code_bytes = a; size_bytes = b; is_code = is_code; is_size = is_size; cut = refl }
+  has_size : (rest : List ℕ) → HasSize size (a ++ (b ++ rest)) rest
+  has_size rest = record { code = code; code_bytes = a; size_bytes = b; is_code = is_code; is_size = is_size; cut = refl }
 
   pub stops_at_size : (e : Refusal) (new : Option (List ℕ)) (before after : ℕ) → after ≡ before → digest_limit S < size → IsInvalidSize size e
       → Stops S e (a ++ b) new before after
   stops_at_size e new before after same over given =
-      late (invalid_size size) same (λ h. h) given
-      ([], subst (λ z. HasSize size (a ++ z) []) (append-nil b) (sized []), over)
+      at_settled (invalid_size size) same (λ h. h) given
+      ([], subst (λ z. HasSize size (a ++ z) []) (append-nil b) (has_size []), over)
       (λ p begins. before_second S code a b p is_code (varint_step size b is_size) begins)
 
   cut_digest : (rest : List ℕ) → size ≤ digest_limit S → length rest < size → HasVerdict S (a ++ (b ++ rest)) unexpected_eof
-  cut_digest rest within short = (size, rest, sized rest, within, short)
+  cut_digest rest within short = (size, rest, has_size rest, within, short)
 
   cut_whole : (front : List ℕ) (mid new : Option (List ℕ)) → size ≤ digest_limit S → Takes mid front new → HasFewerThan size mid
       → IfSome new (λ left. HasVerdict S ((a ++ (b ++ front)) ++ left) unexpected_eof)
@@ -100,9 +100,9 @@ module _ (S code size : ℕ) (a b : List ℕ) (is_code : IsVarint code a) (is_si
       → ((before < after) × IsOwnFault fault) ⊎ ((after ≡ before) × IsUnexpectedEof fault)
       → Stops S (of_io fault) (a ++ (b ++ front)) new before after
   stops_in_digest fault front mid new before after within short takes few (inl (rose, own)) =
-      failed unexpected_eof rose (fault, refl, own) tt (cut_digest front within short)
+      at_failure unexpected_eof rose (fault, refl, own) tt (cut_digest front within short)
   stops_in_digest fault front mid new before after within short takes few (inr (same, ended)) =
-      early unexpected_eof same tt (fault, refl, ended) (cut_digest front within short) (λ no. cc)
+      at_early_end unexpected_eof same tt (fault, refl, ended) (cut_digest front within short) (λ no. cc)
       (cut_whole front mid new within takes (few ended))
 
   -- the fields that were read mean the pair that was encoded

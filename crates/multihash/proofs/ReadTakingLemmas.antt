@@ -20,13 +20,13 @@ use Rattle.multihash.proofs.SettlingLemmas.{verdict_kept, none_settles, EndsEarl
 -- what was taken where a refusal was answered
 pub data Stops (S : ℕ) (e : Refusal) (taken : List ℕ) (new : Option (List ℕ)) (before after : ℕ) : Type 0 where
   -- it has a verdict that is no early end, and nothing shorter has
-  late : (v : Verdict) → after ≡ before → ¬ (IsEarlyEnd v) → IsRefusal e v → HasVerdict S taken v
+  at_settled : (v : Verdict) → after ≡ before → ¬ (IsEarlyEnd v) → IsRefusal e v → HasVerdict S taken v
       → ((p : List ℕ) → IsProperBeginning p taken → EndsEarly S p) → Stops S e taken new before after
   -- it ends early, and so does the whole input
-  early : (v : Verdict) → after ≡ before → IsEarlyEnd v → IsRefusal e v → HasVerdict S taken v → (v ≡ faulty insufficient → IsAtEnd new)
+  at_early_end : (v : Verdict) → after ≡ before → IsEarlyEnd v → IsRefusal e v → HasVerdict S taken v → (v ≡ faulty insufficient → IsAtEnd new)
       → IfSome new (λ left. HasVerdict S (taken ++ left) v) → Stops S e taken new before after
   -- it ends early, and the reader failed
-  failed : (v : Verdict) → before < after → IsReaderFault e → IsEarlyEnd v → HasVerdict S taken v → Stops S e taken new before after
+  at_failure : (v : Verdict) → before < after → IsReaderFault e → IsEarlyEnd v → HasVerdict S taken v → Stops S e taken new before after
 
 -- a refusal of a verdict is one that `read` lists
 listed : (S : ℕ) (e : Refusal) (taken : List ℕ) (v : Verdict) → IsRefusal e v → HasVerdict S taken v → IsReadRefusal S e
@@ -76,27 +76,27 @@ own_not_eof e (fault, given, inr memory) h =
 module _ (S : ℕ) (e : Refusal) (taken : List ℕ) (old new : Option (List ℕ)) (before after : ℕ) (takes : Takes old taken new) where
   -- the count of failures, and the kind of the refusal
   pub stop_faults : Stops S e taken new before after → ((before < after) × IsReaderFault e) ⊎ ((after ≡ before) × IsReadRefusal S e)
-  stop_faults (late v same stays given has no_sooner) = inr (same, listed S e taken v given has)
-  stop_faults (early v same soon given has all whole) = inr (same, listed S e taken v given has)
-  stop_faults (failed v rose own soon has) = inl (rose, own)
+  stop_faults (at_settled v same stays given has no_sooner) = inr (same, listed S e taken v given has)
+  stop_faults (at_early_end v same soon given has all whole) = inr (same, listed S e taken v given has)
+  stop_faults (at_failure v rose own soon has) = inl (rose, own)
 
   -- what was taken, by the refusal
   pub stop_err : Stops S e taken new before after → TakesAtRefusal S e old new
-  stop_err (late v same stays given has no_sooner) = record {
+  stop_err (at_settled v same stays given has no_sooner) = record {
     taken = taken;
     takes = takes;
     insufficient = λ h. absurd (late_not_insufficient e v stays given h);
     eof = λ h. late_not_io _ e v stays given (inr h);
     fault = λ h. late_not_io _ e v stays given (inl h);
   }
-  stop_err (early v same soon given has all whole) = record {
+  stop_err (at_early_end v same soon given has all whole) = record {
     taken = taken;
     takes = takes;
     insufficient = λ h. let found = early_insufficient S e taken v given has h in (found.1, all found.0);
     eof = early_eof S e taken v given has;
     fault = λ _. (v, soon, has);
   }
-  stop_err (failed v rose own soon has) = record {
+  stop_err (at_failure v rose own soon has) = record {
     taken = taken;
     takes = takes;
     insufficient = λ h. absurd (cc (own.1, h));
@@ -107,9 +107,9 @@ module _ (S : ℕ) (e : Refusal) (taken : List ℕ) (old new : Option (List ℕ)
 -- the verdict of what was taken and of what is left
 stop_whole : (S : ℕ) (e : Refusal) (taken left : List ℕ) (before after : ℕ) → Stops S e taken (Some left) before after → after ≡ before
     → (v : Verdict) × HasVerdict S (taken ++ left) v × IsRefusal e v
-stop_whole S e taken left before after (late v same stays given has no_sooner) unrisen = (v, verdict_kept S taken left v stays has, given)
-stop_whole S e taken left before after (early v same soon given has all whole) unrisen = (v, whole, given)
-stop_whole S e taken left before after (failed v rose own soon has) unrisen = absurd (omega arith)
+stop_whole S e taken left before after (at_settled v same stays given has no_sooner) unrisen = (v, verdict_kept S taken left v stays has, given)
+stop_whole S e taken left before after (at_early_end v same soon given has all whole) unrisen = (v, whole, given)
+stop_whole S e taken left before after (at_failure v rose own soon has) unrisen = absurd (omega arith)
 
 pub stop_verdict : (S : ℕ) (e : Refusal) (taken : List ℕ) (old new : Option (List ℕ)) (before after : ℕ) → Takes old taken new
     → Stops S e taken new before after
@@ -122,11 +122,11 @@ stop_verdict S e taken (Some rest) (Some left) before after takes stop =
 
 stop_shortest : (S : ℕ) (e : Refusal) (taken left : List ℕ) (before after : ℕ) → Stops S e taken (Some left) before after → after ≡ before
     → (v : Verdict) → HasVerdict S (taken ++ left) v → ¬ (IsEarlyEnd v) → IsShortestSettling S (taken ++ left) taken
-stop_shortest S e taken left before after (late v same stays given has no_sooner) unrisen w holds later =
+stop_shortest S e taken left before after (at_settled v same stays given has no_sooner) unrisen w holds later =
     shortest_from S (taken ++ left) taken left v refl has stays no_sooner
-stop_shortest S e taken left before after (early v same soon given has all whole) unrisen w holds later =
+stop_shortest S e taken left before after (at_early_end v same soon given has all whole) unrisen w holds later =
     absurd (later (subst IsEarlyEnd (verdict_unique S (taken ++ left) v w whole holds) soon))
-stop_shortest S e taken left before after (failed v rose own soon has) unrisen w holds later = absurd (omega arith)
+stop_shortest S e taken left before after (at_failure v rose own soon has) unrisen w holds later = absurd (omega arith)
 
 pub stop_settled : (S : ℕ) (e : Refusal) (taken : List ℕ) (old new : Option (List ℕ)) (before after : ℕ) → Takes old taken new
     → Stops S e taken new before after
@@ -148,11 +148,11 @@ EndsOrFails S rest before after = (before < after) ⊎ ((v : Verdict) × HasVerd
 
 stop_none : (S : ℕ) (e : Refusal) (taken left : List ℕ) (before after : ℕ) → Stops S e taken (Some left) before after
     → EndsOrFails S (taken ++ left) before after → (front : List ℕ) → IsBeginning front taken → ¬ (Settles S front)
-stop_none S e taken left before after (late v same stays given has no_sooner) (inl rose) = absurd (omega arith)
-stop_none S e taken left before after (late v same stays given has no_sooner) (inr (w, holds, soon)) =
+stop_none S e taken left before after (at_settled v same stays given has no_sooner) (inl rose) = absurd (omega arith)
+stop_none S e taken left before after (at_settled v same stays given has no_sooner) (inr (w, holds, soon)) =
     absurd (stays (subst IsEarlyEnd (verdict_unique S (taken ++ left) w v holds (verdict_kept S taken left v stays has)) soon))
-stop_none S e taken left before after (early v same soon given has all whole) why = none_settles S taken v has soon
-stop_none S e taken left before after (failed v rose own soon has) why = none_settles S taken v has soon
+stop_none S e taken left before after (at_early_end v same soon given has all whole) why = none_settles S taken v has soon
+stop_none S e taken left before after (at_failure v rose own soon has) why = none_settles S taken v has soon
 
 pub stop_unsettled : (S : ℕ) (e : Refusal) (taken : List ℕ) (old new : Option (List ℕ)) (before after : ℕ) → Takes old taken new
     → Stops S e taken new before after → IfSome old (λ rest. EndsOrFails S rest before after → TakesUnsettled S rest new)

@@ -22,9 +22,6 @@ scale_of p code size a digest same_code same_size same_digest byte is_code = rec
   spelled = cc (same_size, same_digest);
 }
 
-pub scale_length : (code size : ℕ) (a digest : List ℕ) → IsScaleCode code a → 9 + length digest ≡ length (a ++ ((size ∷ []) ++ digest))
-scale_length code size a digest is_code = omega (arith, is_code.eight, length-append a (size ∷ digest))
-
 -- one byte
 pub one_item : (xs : List ℕ) → length xs ≡ 1 → xs ≡ get_or xs 0 0 ∷ []
 one_item [] one = absurd (omega arith)

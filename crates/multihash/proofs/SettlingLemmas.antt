@@ -78,7 +78,7 @@ record Opens (S : ℕ) (x : List ℕ) : Type 0 where
   bytes : IsBytes more
   verdict : Verdict
   has : HasVerdict S (x ++ more) verdict
-  late : ¬ (IsEarlyEnd verdict)
+  stays : ¬ (IsEarlyEnd verdict)
 
 IsZeroVarint : IsVarint 0 (0 ∷ [])
 IsZeroVarint = record {
@@ -111,14 +111,14 @@ open_insufficient S [] h = record {
     },
     omega arith,
   );
-  late = λ e. e;
+  stays = λ e. e;
 }
 open_insufficient S (m ∷ ms) h = record {
   more = 0 ∷ 0 ∷ [];
   bytes = two_zeros;
   verdict = faulty not_minimal;
   has = inl (zero_ends (m ∷ ms) m ms refl h);
-  late = λ e. e;
+  stays = λ e. e;
 }
 
 open_size : (S : ℕ) (x rest : List ℕ) → HasCode x rest → IsInsufficient rest → Opens S x
@@ -135,14 +135,14 @@ open_size S x [] c h = record {
     },
     omega arith,
   );
-  late = λ e. e;
+  stays = λ e. e;
 }
 open_size S x (m ∷ ms) c h = record {
   more = 0 ∷ 0 ∷ [];
   bytes = two_zeros;
   verdict = faulty not_minimal;
   has = inr ((m ∷ ms) ++ 0 ∷ 0 ∷ [], code_kept x (m ∷ ms) (0 ∷ 0 ∷ []) c, zero_ends (m ∷ ms) m ms refl h);
-  late = λ e. e;
+  stays = λ e. e;
 }
 
 open_digest : (S size : ℕ) (x rest : List ℕ) → HasSize size x rest → size ≤ digest_limit S → length rest < size → Opens S x
@@ -165,7 +165,7 @@ open_digest S size x rest h within short = record {
     },
     omega (arith, len, within),
   );
-  late = λ e. e;
+  stays = λ e. e;
 }
   where
     more : List ℕ
@@ -197,7 +197,7 @@ early_not_settles S x v early h s =
     let o = opens S x v early h in
     let first : v ≡ s.verdict = verdict_unique S x v s.verdict h (own_verdict S x s) in
     let after : s.verdict ≡ o.verdict = verdict_unique S (x ++ o.more) s.verdict o.verdict (s.always o.more o.bytes) o.has in
-    o.late (subst IsEarlyEnd (first ∙ after) early)
+    o.stays (subst IsEarlyEnd (first ∙ after) early)
 
 pub late_settles : (S : ℕ) (x : List ℕ) (v : Verdict) → ¬ (IsEarlyEnd v) → HasVerdict S x v → Settles S x
 late_settles S x v late h = record { verdict = v; always = λ more _. verdict_kept S x more v late h }

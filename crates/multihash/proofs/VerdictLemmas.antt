@@ -135,8 +135,8 @@ pair_begins size x rest h digest after long split = record {
       spelled = refl;
     }
 
-sized : (S size : ℕ) (x rest : List ℕ) → HasSize size x rest → (v : Verdict) × HasVerdict S x v
-sized S size x rest h =
+judged_at_size : (S size : ℕ) (x rest : List ℕ) → HasSize size x rest → (v : Verdict) × HasVerdict S x v
+judged_at_size S size x rest h =
     elim (cases_lt (digest_limit S) size) [
       | inl over ↦ (invalid_size size, (rest, h, over))
       | inr within ↦ elim (cases_lt (length rest) size) [
@@ -151,7 +151,7 @@ sized S size x rest h =
 
 behind_code : (S code : ℕ) (x r a : List ℕ) → IsVarint code a → x ≡ a ++ r → (g : Front) → HasFront r g → (v : Verdict) × HasVerdict S x v
 behind_code S code x r a is_code cut (number size rest) (b, is_size, e) =
-    sized S size x rest (record {
+    judged_at_size S size x rest (record {
       code = code;
       code_bytes = a;
       size_bytes = b;

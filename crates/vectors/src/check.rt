@@ -58,7 +58,7 @@ impl Check {
     ///
     /// # Errors
     ///
-    /// A size of buffer that no list has.
+    /// A size of buffer that no list has, with the line's number.
     pub fn agrees(self, line: &Line) -> Result<bool>
         ensures { IfOk result (λ agrees. IsTrue agrees ↔ IsRight self line.now.size line.now) }
     {
@@ -75,7 +75,10 @@ impl Check {
             255 => self.agrees_at::<255>(line),
             256 => self.agrees_at::<256>(line),
             300 => self.agrees_at::<300>(line),
-            size => bail!("no buffer of size {size}: the sizes are {SIZES}"),
+            size => bail!(
+                "line {}: no buffer of size {size}: the sizes are {SIZES}",
+                line.number
+            ),
         })
     }
 

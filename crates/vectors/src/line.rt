@@ -34,6 +34,8 @@ impl Reading {
 /// An input, with what the calls are to answer to it.
 #[derive(Debug, Drop)]
 pub struct Line {
+    /// Its number in the list, whose first line names the columns.
+    pub number: u64,
     /// The size of the buffer.
     pub size: usize,
     pub input: Vec<u8>,
@@ -51,7 +53,7 @@ impl Line {
     /// # Errors
     ///
     /// A line with other columns, and want of memory.
-    pub fn parse(alloc: Global, text: &str) -> Result<Self> {
+    pub fn parse(alloc: Global, number: u64, text: &str) -> Result<Self> {
         let columns: Vec<&str> = text.split('\t').collect(alloc)?;
         let [
             size,
@@ -67,6 +69,7 @@ impl Line {
         };
         let input = verdict::parse_bytes(alloc, input)?;
         Ok(Line {
+            number,
             size: size.parse::<usize>().context("a size")?,
             json: number_array(alloc, &input)?,
             input,

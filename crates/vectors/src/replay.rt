@@ -13,8 +13,9 @@ use std::fmt::Write;
 ///
 /// # Errors
 ///
-/// A list with other columns or with no line below them, a line that is malformed, told with its number,
-/// or that has a size of buffer that no list has, want of memory, and what the writer answers.
+/// A first line with other columns, a line that is malformed, and one with a size of buffer that no list
+/// has, each told with its number; a list with no line below the first, which has none; want of memory,
+/// and what the writer answers.
 pub fn replay<W: Write>(alloc: Global, list: &str, report: &mut W) -> Result<bool> {
     replay_lines(&parse(alloc, list)?, report)
 }
@@ -33,10 +34,13 @@ fn replay_lines<W: Write>(lines: &[Line], report: &mut W) -> Result<bool>
 // The lines of a list, below the first, which names the columns.
 fn parse(alloc: Global, list: &str) -> Result<Vec<Line>> {
     let mut texts = list.lines();
-    ensure!(texts.next() == Some(COLUMNS), "a list with other columns");
+    let header = texts.next().unwrap_or("");
+    ensure!(header == COLUMNS, "line 1, {header:?}: other columns");
     let mut lines = Vec::new(alloc);
     for (number, text) in (2u64..).zip(texts) {
-        let line = Line::parse(alloc, text).context(format_args!("line {number}, {text:?}"))?;
+        let line = Line::parse(alloc, number, text).context(format_args!(
+            "line {number}, {text:?}"
+        ))?;
         lines.push(line)?;
     }
     ensure!(!lines.is_empty(), "a list of no lines");

@@ -1,10 +1,11 @@
-use Rattle.std.proofs.Common.{◌≡◌, ◌*◌, ◌<◌, ℕ, List, [], ◌∷◌, ◌++◌, length, codes, Result, Ok, Err, IfOk, String, Global, string_bytes, ap, ◌∙◌, append_assoc, arith, rules}
+use Rattle.std.proofs.Common.{◌≡◌, ◌<◌, ℕ, List, [], ◌∷◌, ◌++◌, length, codes, Result, Ok, Err, IfOk, String, Global, string_bytes, ap, ◌∙◌, append_assoc, arith, rules}
 use Rattle.std.specs.Fmt.{decimal}
-use Rattle.hex.specs.Hex.{encode_lower}
+use Rattle.hex.specs.Hex.{encode_lower, encode_with}
 use Rattle.multihash.specs.Pair.{Pair}
 use Rattle.multihash.specs.Answer.{pair_of}
 use Rattle.mh_show.specs.Shown.{newline, shown_digest, shown}
 use Rattle.mh_show.proofs.show.lines_of.Goals as goal
+use Rattle.mh_show.proofs.show.lines_of.Goals.{then-is_empty, else-is_empty}
 
 -- a text that is known by another name
 same_text : {E : Type 0} (r : Result (String Global) E) (a b : List ℕ) → IfOk r (λ s. string_bytes s ≡ a) → a ≡ b → IfOk r (λ s. string_bytes s ≡ b)
@@ -12,10 +13,11 @@ same_text (Ok s) a b h e = h ∙ e
 same_text (Err x) a b h e = tt
 
 -- the digits of a digest, or a dash
-digest_text : (digest digits text : List ℕ) → length digits ≡ 2 * length digest → digits ≡ encode_lower digest
-    → (length digits ≡ 0 → text ≡ codes "-") → (0 < length digits → text ≡ digits) → text ≡ shown_digest digest
-digest_text [] digits text long same none some = none long
-digest_text (b ∷ digest) digits text long same none some = some (omega arith) ∙ same
+digest_text : (digest digits text : List ℕ) → digits ≡ encode_lower digest → (length digits ≡ 0 → text ≡ codes "-")
+    → (0 < length digits → text ≡ digits) → text ≡ shown_digest digest
+unfolding encode_with
+digest_text [] digits text same none some = none (ap length same)
+digest_text (b ∷ digest) digits text same none some = some (omega (arith, ap length same)) ∙ same
 
 -- what the format writes
 three_lines : (p : Pair) (code size : ℕ) (digest : List ℕ) → code ≡ p.code → size ≡ length p.digest → digest ≡ shown_digest p.digest
@@ -25,9 +27,11 @@ three_lines p code size digest c s d = rw (c, s, d) (simp append_assoc)
 pub returns : goal.returns
 returns c =
     let p = pair_of c.args.multihash.now in
-    let digits = c.write_digits.new.places in
-    let same : digits ≡ encode_lower p.digest = c.write_digits.ensures.digits ∙ ap encode_lower c.digest.ensures.digest in
-    let long : length digits ≡ 2 * length p.digest = search rules in
+    let digits = string_bytes c.in_ok-digits.digits in
+    let same : digits ≡ encode_lower p.digest = c.in_ok-digits.ensures ∙ ap encode_lower c.digest.ensures.digest in
+    let none : length digits ≡ 0 → c.if-is_empty.digest.now ≡ codes "-" =
+    λ empty. elim c.if-is_empty.branch [ then-is_empty w ↦ search rules | else-is_empty w ↦ search rules ] in
+    let some : 0 < length digits → c.if-is_empty.digest.now ≡ digits =
+    λ long. elim c.if-is_empty.branch [ then-is_empty w ↦ search rules | else-is_empty w ↦ search rules ] in
     same_text c.format.result _ _ c.format.ensures.ok
-    (three_lines _ _ _ _ c.code-code.ensures c.size-size.ensures.size
-    (digest_text p.digest digits _ long same c.text_of-digest.ensures.none c.text_of-digest.ensures.some))
+    (three_lines _ _ _ _ c.code-code.ensures c.size-size.ensures.size (digest_text p.digest digits _ same none some))

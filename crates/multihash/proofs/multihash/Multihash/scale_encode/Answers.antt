@@ -1,8 +1,9 @@
-use Rattle.std.proofs.Common.{[], ◌∷◌, ◌++◌, arith}
+use Rattle.std.proofs.Common.{[], ◌∷◌, ◌++◌, length, ap, arith}
 use Rattle.multihash.specs.Scale.{IsScaleCode, IsScale}
 use Rattle.multihash.specs.Answer.{pair_of}
 use Rattle.multihash.proofs.ScaleCodeLemmas.{code_bytes}
-use Rattle.multihash.proofs.ScaleTakingLemmas.{scale_of, scale_length}
+use Rattle.multihash.proofs.ScaleLemmas.{scale_length}
+use Rattle.multihash.proofs.ScaleTakingLemmas.{scale_of}
 use Rattle.multihash.proofs.WritingLemmas.{AppendsPart-append, AppendsPart-joined, appends_part_of_a_form}
 use Rattle.multihash.proofs.multihash.Multihash.scale_encode.Goals as goal
 
@@ -60,6 +61,6 @@ returns-clause-ok g c =
     let join = g.met.W.Write.appends_joined in (
       a ++ ((size ∷ []) ++ d),
       form,
-      scale_length _ size a d is_code,
+      omega (arith, scale_length p _ form, ap length c.digest-digest.ensures.digest),
       join _ _ _ a ((size ∷ []) ++ d) c.in_ok-write_all.ensures.laws.ok (join _ _ _ (size ∷ []) d c.in_ok-write_all-2.ensures.laws.ok c.in_ok-write_all-3.ensures.laws.ok),
     )
