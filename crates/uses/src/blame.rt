@@ -1,18 +1,25 @@
 //! What a refusal tells: who is to blame for it, what was taken, and whether more input could help.
-ghost use Rattle.std.specs.Prelude.{◌≡◌, ◌<◌, ◌≤◌, ◌↔◌, ℕ, List, ◌++◌, length, codes, string_bytes, Some, IsTrue, IfSome, IfOk, IsErrAnd, MatchOption};
+ghost use Rattle.std.specs.Prelude.{◌≡◌, ◌<◌, ◌≤◌, ◌↔◌, ℕ, List, ◌++◌, length, codes, string_bytes, Some, IsTrue, IfSome, IfNone, IfOk, IsErrAnd, MatchOption};
 ghost use Rattle.multihash.specs.Pair.{Pair, FitsBuffer, digest_limit};
 ghost use Rattle.multihash.specs.Encoding.{IsEncoding};
-ghost use Rattle.multihash.specs.Verdict.{HasSize};
+ghost use Rattle.multihash.specs.Verdict.{Verdict, accepted, HasSize, HasVerdict};
+ghost use Rattle.multihash.specs.Reading.{Takes};
 ghost use Rattle.multihash.specs.Refusal.{IsInvalidSize};
 ghost use Rattle.multihash.specs.Settling.{Settles};
+ghost use Rattle.multihash.specs.Answer.{pair_of, Answers};
 
 use multihash::no_std_io::{Read, Write};
 use multihash::{Error, Multihash, laws};
 use std::alloc::{AllocError, Global};
 
-/// Whether a call of `read` failed by the reader's own fault: exactly where its failures rose.
+/// What was read, and whether the call failed by the reader's own fault: exactly where its failures rose.
+/// Where nothing was read and the reader did not fail, no multihash that fits stands there.
 pub fn reader_failed<const S: usize, R: Read>(r: &mut R) -> (Option<Multihash<S>>, bool)
-    ensures { IsTrue result.1 ↔ (R.failures r.old < R.failures r.new) }
+    ensures failed { IsTrue result.1 ↔ (R.failures r.old < R.failures r.new) }
+    ensures read { IfSome result.0 (λ m. (bytes : List ℕ) × IsEncoding (pair_of m) bytes
+        × Takes (R.rest r.old) bytes (R.rest r.new)) }
+    ensures none { IfNone result.0 (IfSome (R.rest r.old) (λ rest.
+        R.failures r.new ≡ R.failures r.old → (p : Pair) → ¬ (HasVerdict S rest (accepted p)))) }
 {
     match Multihash::read(r) {
         Ok(multihash) => (Some(multihash), false),
@@ -29,7 +36,11 @@ pub fn reader_failed<const S: usize, R: Read>(r: &mut R) -> (Option<Multihash<S>
 /// What `read` answers to a slice, and what it leaves. Of a digest that is too long for the buffer the
 /// size is answered, and the digest is left, so that a caller can skip it.
 pub fn read_slice<const S: usize>(stream: &[u8]) -> (Result<Multihash<S>, Error>, &[u8])
-    ensures { (size : ℕ) (rest : List ℕ) → HasSize size stream.now rest → digest_limit S < size →
+    ensures verdict { (v : Verdict) × HasVerdict S stream.now v × Answers result.0 v }
+    ensures ok { IfOk result.0 (λ m. (bytes : List ℕ) × IsEncoding (pair_of m) bytes
+        × (stream.now ≡ bytes ++ result.1.now)) }
+    ensures long { (size : ℕ) (rest : List ℕ) → HasSize size stream.now rest →
+        digest_limit S < size →
         IsErrAnd result.0 (IsInvalidSize size) × (result.1.now ≡ rest) }
 {
     let mut left = stream;
@@ -50,9 +61,12 @@ pub fn wants_more<const S: usize>(input: &[u8]) -> bool
     }
 }
 
-/// Reads a multihash. Where the reader fails inside it, the end of the multihash was not taken.
+/// Reads a multihash, and takes exactly its encoding. Where the reader fails inside it, the end of the
+/// multihash was not taken.
 pub fn read_part<const S: usize, R: Read>(r: &mut R) -> Result<Multihash<S>, Error>
-    ensures { (p : Pair) (bytes more : List ℕ) → IsEncoding p bytes → FitsBuffer S p →
+    ensures ok { IfOk result (λ m. (bytes : List ℕ) × IsEncoding (pair_of m) bytes
+        × Takes (R.rest r.old) bytes (R.rest r.new)) }
+    ensures part { (p : Pair) (bytes more : List ℕ) → IsEncoding p bytes → FitsBuffer S p →
         R.rest r.old ≡ Some (bytes ++ more) → R.failures r.old < R.failures r.new →
         IfSome (R.rest r.new) (λ left. length more < length left) }
 {
@@ -62,7 +76,8 @@ pub fn read_part<const S: usize, R: Read>(r: &mut R) -> Result<Multihash<S>, Err
 /// What the error prints of a slice that has too few bytes for four places.
 pub fn early_end_text(alloc: Global, bytes: &[u8]) -> Result<Option<String>, AllocError>
     ensures { IfOk result (λ told. MatchOption told (4 ≤ length bytes.now)
-        (λ text. string_bytes text ≡ codes "failed to fill whole buffer")) }
+        (λ text. (length bytes.now < 4)
+        × (string_bytes text ≡ codes "failed to fill whole buffer"))) }
 {
     let mut left = bytes;
     match left.read_exact(&mut [0; 4]) {
@@ -78,7 +93,8 @@ pub fn full_text(
     places: &mut [u8],
 ) -> Result<Option<String>, AllocError>
     ensures { IfOk result (λ told. MatchOption told (length bytes.now ≤ length places.old)
-        (λ text. string_bytes text ≡ codes "failed to write whole buffer")) }
+        (λ text. (length places.old < length bytes.now)
+        × (string_bytes text ≡ codes "failed to write whole buffer"))) }
 {
     let mut left = places;
     match left.write_all(bytes) {

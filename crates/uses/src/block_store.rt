@@ -1,5 +1,5 @@
 //! Stores of blocks: what is kept under a multihash, in order or by its hash.
-ghost use Rattle.std.specs.Prelude.{◌≡◌, Some, IfOk, OnOk, OnErr};
+ghost use Rattle.std.specs.Prelude.{◌≡◌, ◌<◌, length, None, Some, IfOk, OnOk, OnErr};
 ghost use Rattle.std.specs.BTreeMap as ordered;
 ghost use Rattle.std.specs.HashMap as hashed;
 ghost use Rattle.std.specs.Ordering.{on};
@@ -33,32 +33,35 @@ pub fn put_ordered(
 
 /// The same, by the hash.
 pub fn put_hashed(
-    store: &mut Hashed,
+    table: &mut Hashed,
     key: Multihash<64>,
     place: u32,
 ) -> Result<(), AllocFailed<(Multihash<64>, u32)>>
     ensures kept { OnOk result
-        (hashed.Updates (on pair_of equal_pairs) store.old store.new key (Some place)) }
-    ensures unchanged { OnErr result (hashed.IsUnchanged store.old store.new) }
+        (hashed.Updates (on pair_of equal_pairs) table.old table.new key (Some place)) }
+    ensures unchanged { OnErr result (hashed.IsUnchanged table.old table.new) }
 {
-    store.insert(key, place)?;
+    table.insert(key, place)?;
     Ok(())
 }
 
-/// The place that is kept under a multihash, whatever the size of its buffer.
+/// The place that is kept under a multihash, whatever the size of its buffer: none where its digest is
+/// longer than any that is kept.
 pub fn find_ordered<const S: usize>(store: &Ordered, key: &Multihash<S>) -> Option<u32>
-    ensures { (same : Fields 64) → pair_of same ≡ pair_of key.now →
+    ensures kept { (same : Fields 64) → pair_of same ≡ pair_of key.now →
         result ≡ ordered.get (on pair_of compare_pairs) store.now same }
+    ensures long { 64 < length (pair_of key.now).digest → result ≡ None }
 {
     store.get(&key.resize::<64>().ok()?).copied()
 }
 
 /// The same, by the hash.
-pub fn find_hashed<const S: usize>(store: &Hashed, key: &Multihash<S>) -> Option<u32>
-    ensures { (same : Fields 64) → pair_of same ≡ pair_of key.now →
-        result ≡ hashed.get (on pair_of equal_pairs) store.now same }
+pub fn find_hashed<const S: usize>(table: &Hashed, key: &Multihash<S>) -> Option<u32>
+    ensures kept { (same : Fields 64) → pair_of same ≡ pair_of key.now →
+        result ≡ hashed.get (on pair_of equal_pairs) table.now same }
+    ensures long { 64 < length (pair_of key.now).digest → result ≡ None }
 {
-    store.get(&key.resize::<64>().ok()?).copied()
+    table.get(&key.resize::<64>().ok()?).copied()
 }
 
 /// Keeps a place, and finds it under another multihash: it is there where the two are the same.
@@ -76,13 +79,13 @@ pub fn kept_is_found<const S: usize>(
 
 /// The same, by the hash.
 pub fn kept_is_found_hashed<const S: usize>(
-    store: &mut Hashed,
+    table: &mut Hashed,
     key: Multihash<64>,
     place: u32,
     other: &Multihash<S>,
 ) -> Result<Option<u32>, AllocFailed<(Multihash<64>, u32)>>
     ensures { IfOk result (λ found. IsSame (pair_of key) (pair_of other.now) → found ≡ Some place) }
 {
-    put_hashed(store, key, place)?;
-    Ok(find_hashed(store, other))
+    put_hashed(table, key, place)?;
+    Ok(find_hashed(table, other))
 }

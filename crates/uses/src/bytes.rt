@@ -1,5 +1,5 @@
 //! Callers that read and write bytes, and ask what an error is.
-ghost use Rattle.std.specs.Prelude.{◌≡◌, ℕ, ◌+◌, ◌-◌, ◌≤◌, ◌↔◌, List, [], ◌∷◌, ◌++◌, Some, length, slice_get, IsTrue, IfSome, IfOk, IfErr, OnOk, OnErr, MatchOption, MatchResult};
+ghost use Rattle.std.specs.Prelude.{◌≡◌, ℕ, ◌+◌, ◌-◌, ◌≤◌, ◌↔◌, ◌⊎◌, List, [], ◌∷◌, ◌++◌, Some, length, slice_get, IsTrue, IfSome, IfOk, IfErr, OnOk, OnErr, MatchOption, MatchResult};
 ghost use Rattle.multihash.specs.Fault.{IsOutOfMemory, IsOwnFault};
 ghost use Rattle.std.specs.Io.KnownBytes.{IsAtEnd};
 ghost use Rattle.multihash.specs.Reading.{Takes, CountsReader};
@@ -7,7 +7,8 @@ ghost use Rattle.multihash.specs.Writing.{CountsWriter, AppendsPart};
 ghost use Rattle.multihash.specs.Pair.{FitsBuffer};
 ghost use Rattle.multihash.specs.Encoding.{IsEncoding};
 ghost use Rattle.multihash.specs.Refusal.{IsMemory};
-ghost use Rattle.multihash.specs.Answer.{pair_of};
+ghost use Rattle.multihash.specs.Verdict.{Verdict, HasWholeVerdict};
+ghost use Rattle.multihash.specs.Answer.{pair_of, IsRefusal};
 
 use multihash::no_std_io::{self, Read, Write};
 use multihash::{Error, Multihash};
@@ -128,12 +129,16 @@ pub fn bytes_back<const S: usize, const R: usize>(
     Multihash::from_bytes(&bytes)
 }
 
-/// The multihash of bytes that are accepted, and the bytes that it is written as: the same ones.
+/// The multihash of bytes that are accepted, and the bytes that it is written as: the same ones. It is
+/// refused as the bytes' verdict says, or for want of memory.
 pub fn accepted_back<const S: usize>(
     alloc: Global,
     bytes: &[u8],
 ) -> Result<(Multihash<S>, Vec<u8>), Error>
-    ensures { IfOk result (λ back. back.1.items ≡ bytes.now) }
+    ensures ok { IfOk result (λ back.
+        IsEncoding (pair_of back.0) bytes.now × (back.1.items ≡ bytes.now)) }
+    ensures err { IfErr result (λ e.
+        IsMemory e ⊎ ((v : Verdict) × HasWholeVerdict S bytes.now v × IsRefusal e v)) }
 {
     let accepted = Multihash::from_bytes(bytes)?;
     let back = accepted.to_bytes(alloc)?;

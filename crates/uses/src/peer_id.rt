@@ -1,5 +1,5 @@
 //! Peer identifiers: a multihash and its bytes, whatever the size of the buffer.
-ghost use Rattle.std.specs.Prelude.{◌≡◌, ◌↔◌, IsTrue, IfOk, IfErr};
+ghost use Rattle.std.specs.Prelude.{◌≡◌, ◌↔◌, IsTrue, IfOk, IfErr, MatchResult};
 ghost use Rattle.multihash.specs.Encoding.{IsEncoding};
 ghost use Rattle.multihash.specs.Refusal.{IsMemory};
 ghost use Rattle.multihash.specs.Answer.{pair_of};
@@ -31,9 +31,10 @@ pub fn same_iff_encoded_alike<const A: usize, const B: usize>(
     Ok(a.same_as(b) == (first.as_slice() == second.as_slice()))
 }
 
-/// The peer's bytes. Two peers are the same exactly where these are equal.
+/// The peer's bytes. Two peers are the same exactly where these are equal. Nothing but want of memory
+/// refuses them.
 pub fn peer_bytes<const S: usize>(alloc: Global, peer: &Multihash<S>) -> Result<Vec<u8>, Error>
-    ensures { IfOk result (λ bytes. IsEncoding (pair_of peer.now) bytes.items) }
+    ensures { MatchResult result (λ bytes. IsEncoding (pair_of peer.now) bytes.items) IsMemory }
 {
     peer.to_bytes(alloc)
 }

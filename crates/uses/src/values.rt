@@ -4,6 +4,7 @@ ghost use Rattle.std.specs.List.Sorted.{IsSorted, IsPermutation};
 ghost use Rattle.std.specs.Ordering.{on};
 ghost use Rattle.multihash.specs.Comparing.{compare_pairs};
 ghost use Rattle.multihash.specs.Pair.{truncated};
+ghost use Rattle.multihash.specs.Refusal.{IsInvalidSize};
 ghost use Rattle.multihash.specs.Answer.{pair_of};
 
 use multihash::{Error, Multihash};
@@ -40,12 +41,15 @@ pub fn truncate_twice<const S: usize>(m: &Multihash<S>, first: u8, second: u8) -
     m.truncate(first).truncate(second) == m.truncate(first.min(second))
 }
 
-/// A multihash in another buffer, where it is short enough, and whether that is the same: always.
+/// A multihash in another buffer, and whether that is the same: always. A digest that is too long for
+/// the buffer is refused with its length.
 pub fn resized_is_same<const S: usize, const R: usize>(
     m: &Multihash<S>,
 ) -> Result<(Multihash<R>, bool), Error>
-    ensures { MatchResult result (λ resized. IsTrue resized.1)
-        (λ _. R < length (pair_of m.now).digest) }
+    ensures { MatchResult result
+        (λ resized. (pair_of resized.0 ≡ pair_of m.now) × IsTrue resized.1)
+        (λ e. IsInvalidSize (length (pair_of m.now).digest) e
+        × (R < length (pair_of m.now).digest)) }
 {
     let resized = m.resize::<R>()?;
     Ok((resized, resized.same_as(m)))

@@ -10,8 +10,10 @@ use Rattle.uses.proofs.bytes.accepted_back.Goals as goal
 is_whole : (S : ℕ) (p : Pair) (bytes : List ℕ) (v : Verdict) → HasWholeVerdict S bytes v → v ≡ accepted p → IsEncoding p bytes
 is_whole S p bytes v h e = (subst (HasWholeVerdict S bytes) e h).0
 
-pub returns : goal.returns
-returns g c =
+pub returns-clause-ok : goal.returns-clause-ok
+returns-clause-ok g c =
     let v = c.in_ok-accepted.ensures in
     let p = pair_of c.in_ok-accepted.accepted in
-    encoding_same p _ _ c.in_ok-back.ensures.ok (is_whole g.row.S p _ v.0 v.1 v.2)
+    let bytes = c.args.bytes.now in
+    let whole = is_whole g.row.S p bytes v.0 v.1 v.2 in
+    (whole, encoding_same p _ _ c.in_ok-back.ensures.ok whole)
