@@ -1,9 +1,7 @@
 //! A line of hexadecimal, as the three lines of its multihash.
-ghost use Rattle.std.specs.Prelude.{◌≡◌, ◌≢◌, ℕ, ◌%◌, ◌⊎◌, List, length, Some, IfOk, IfErr, string_bytes};
-ghost use Rattle.multihash.specs.Pair.{Pair};
-ghost use Rattle.multihash.specs.Verdict.{Verdict, accepted, HasWholeVerdict};
+ghost use Rattle.std.specs.Prelude.{◌≡◌, ℕ, ◌%◌, List, length, Some, IfOk, IfErr, string_bytes};
 ghost use Rattle.multihash.specs.Refusal.{Refusal};
-ghost use Rattle.multihash.specs.Answer.{pair_of, IsRefusal};
+ghost use Rattle.multihash.specs.Answer.{pair_of};
 ghost use Rattle.mh_show.specs.Shown.{shown, IsLine, NamesBytes, ShowsAs, IsRefusedAs};
 ghost use Rattle.mh_show.specs.ShowError.{show_error_text};
 

@@ -5,7 +5,7 @@ use Rattle.std.proofs.lemmas.Bool.{false≢true}
 use Rattle.std.proofs.lemmas.List.{append_cancel_right}
 use Rattle.multihash.specs.Fault.{Fault, IsUnexpectedEof, IsOwnFault}
 use Rattle.std.specs.Io.KnownBytes.{prepend_known, IsAtEnd}
-use Rattle.multihash.specs.Reading.{Takes, HasFewerThan, TakesFewerThan, CountsReader, ReadLaws, ReadExactLaws}
+use Rattle.multihash.specs.Reading.{Takes, HasFewerThan, TakesFewerThan, CountsReader, ReadLaws, ReadExactLaws, NoneListed}
 use Rattle.multihash.proofs.FaultVectors.{other, eof, memory}
 
 -- ---- what was taken
@@ -90,24 +90,24 @@ takes_fewer_of_its_own h = none h.taken h.takes
 
 -- ---- how a reader failed
 
-read_ok : CountsReader {A = ℕ} IsOwnFault (λ _. ⊥) 3 3 (Ok 1)
+read_ok : CountsReader {A = ℕ} IsOwnFault NoneListed 3 3 (Ok 1)
 read_ok = refl
 
-read_failed : CountsReader {A = ℕ} IsOwnFault (λ _. ⊥) 3 4 (Err other)
+read_failed : CountsReader {A = ℕ} IsOwnFault NoneListed 3 4 (Err other)
 read_failed = inl (omega arith, inl refl)
 
-read_ok_uncounted : ¬ (CountsReader {A = ℕ} IsOwnFault (λ _. ⊥) 3 4 (Ok 1))
+read_ok_uncounted : ¬ (CountsReader {A = ℕ} IsOwnFault NoneListed 3 4 (Ok 1))
 read_ok_uncounted h = omega (arith, h)
 
-read_ok_lowers_no_count : ¬ (CountsReader {A = ℕ} IsOwnFault (λ _. ⊥) 4 3 (Ok 1))
+read_ok_lowers_no_count : ¬ (CountsReader {A = ℕ} IsOwnFault NoneListed 4 3 (Ok 1))
 read_ok_lowers_no_count h = omega (arith, h)
 
-read_failed_uncounted : ¬ (CountsReader {A = ℕ} IsOwnFault (λ _. ⊥) 3 3 (Err other))
+read_failed_uncounted : ¬ (CountsReader {A = ℕ} IsOwnFault NoneListed 3 3 (Err other))
 read_failed_uncounted (inl h) = omega (arith, h.0)
 read_failed_uncounted (inr h) = h.1
 
 -- `read` tells the end by a count of 0, and by no refusal
-read_no_eof : ¬ (CountsReader {A = ℕ} IsOwnFault (λ _. ⊥) 3 4 (Err eof))
+read_no_eof : ¬ (CountsReader {A = ℕ} IsOwnFault NoneListed 3 4 (Err eof))
 read_no_eof (inl (more, inl h)) = cc
 read_no_eof (inl (more, inr h)) = cc
 read_no_eof (inr h) = h.1

@@ -3,7 +3,7 @@ use Rattle.std.proofs.Common.{◌≡◌, ◌≢◌, ◌≤◌, ℕ, true, false,
 use Rattle.std.specs.Prelude.{⊤, Result, Ok, Err}
 use Rattle.std.proofs.lemmas.Bool.{false≢true}
 use Rattle.multihash.specs.Fault.{Fault}
-use Rattle.multihash.specs.Writing.{IsWriterFault, AppendsPart, IsWriterFaultOrFull, CountsWriter, WriteLaws, WriteAllLaws}
+use Rattle.multihash.specs.Writing.{IsWriterFault, AppendsPart, IsWriterFaultOrFull, CountsWriter, WriteLaws, WriteAllLaws, IsFault}
 use Rattle.multihash.specs.Places.{AppendsAtEnd}
 use Rattle.multihash.proofs.FaultVectors.{other, eof, full, memory}
 
@@ -48,40 +48,40 @@ writer_full_counts_nothing : ¬ (IsWriterFaultOrFull false 3 4 ⊤ full)
 writer_full_counts_nothing (inl h) = elim h.kind [ inl e ↦ cc | inr e ↦ cc ]
 writer_full_counts_nothing (inr h) = omega (arith, h.1)
 
-wrote : CountsWriter {A = ℕ} (λ P. P) true 3 3 ⊥ (Ok 1)
+wrote : CountsWriter {A = ℕ} IsFault true 3 3 ⊥ (Ok 1)
 wrote = refl
 
-wrote_with_fault : ¬ (CountsWriter {A = ℕ} (λ P. P) true 3 4 ⊥ (Ok 1))
+wrote_with_fault : ¬ (CountsWriter {A = ℕ} IsFault true 3 4 ⊥ (Ok 1))
 wrote_with_fault h = omega (arith, h)
 
-wrote_and_lowered_no_count : ¬ (CountsWriter {A = ℕ} (λ P. P) true 4 3 ⊥ (Ok 1))
+wrote_and_lowered_no_count : ¬ (CountsWriter {A = ℕ} IsFault true 4 3 ⊥ (Ok 1))
 wrote_and_lowered_no_count h = omega (arith, h)
 
-write_never_full : ¬ (CountsWriter {A = ℕ} (λ P. P) true 3 4 ⊥ (Err full))
+write_never_full : ¬ (CountsWriter {A = ℕ} IsFault true 3 4 ⊥ (Err full))
 write_never_full (more, inl h) = writer_not_full h
 write_never_full (more, inr h) = h.2
 
-wrote_all_with_fault : ¬ (CountsWriter {A = ℕ} (λ P. P) true 3 4 ⊤ (Ok 1))
+wrote_all_with_fault : ¬ (CountsWriter {A = ℕ} IsFault true 3 4 ⊤ (Ok 1))
 wrote_all_with_fault h = omega (arith, h)
 
-wrote_all_full : CountsWriter {A = ℕ} (λ P. P) false 3 3 ⊤ (Err full)
+wrote_all_full : CountsWriter {A = ℕ} IsFault false 3 3 ⊤ (Err full)
 wrote_all_full = (omega arith, writer_full)
 
 -- a count never falls
-no_count_falls : ¬ (CountsWriter {A = ℕ} (λ P. P) true 4 3 ⊥ (Err memory))
+no_count_falls : ¬ (CountsWriter {A = ℕ} IsFault true 4 3 ⊥ (Err memory))
 no_count_falls h = omega (arith, h.0)
 
-no_count_falls_writing_all : ¬ (CountsWriter {A = ℕ} (λ P. P) true 4 3 ⊤ (Err memory))
+no_count_falls_writing_all : ¬ (CountsWriter {A = ℕ} IsFault true 4 3 ⊤ (Err memory))
 no_count_falls_writing_all h = omega (arith, h.0)
 
-wrote_nothing_for_want_of_memory : CountsWriter {A = ℕ} (λ P. P) true 3 3 ⊥ (Err memory)
+wrote_nothing_for_want_of_memory : CountsWriter {A = ℕ} IsFault true 3 3 ⊥ (Err memory)
 wrote_nothing_for_want_of_memory = (omega arith, inl writer_refused_memory)
 
 -- a count never falls, by whatever fault
-no_count_falls_by_own : ¬ (CountsWriter {A = ℕ} (λ P. P) false 4 3 ⊤ (Err full))
+no_count_falls_by_own : ¬ (CountsWriter {A = ℕ} IsFault false 4 3 ⊤ (Err full))
 no_count_falls_by_own h = omega (arith, h.0)
 
-write_hides_no_fault : ¬ (CountsWriter {A = ℕ} (λ P. P) false 3 3 ⊤ (Err other))
+write_hides_no_fault : ¬ (CountsWriter {A = ℕ} IsFault false 3 3 ⊤ (Err other))
 write_hides_no_fault (more, inl h) =
     elim h.cause [ inl counted ↦ omega (arith, counted) | inr (allocates, e) ↦ cc ]
 write_hides_no_fault (more, inr h) = cc
@@ -181,7 +181,7 @@ writes_with_no_hidden_fault h = omega (arith, h.faults)
 full_is_no_fault : ¬ (Writes (7 ∷ 8 ∷ 9 ∷ [], 0) (1 ∷ []) (7 ∷ 8 ∷ 9 ∷ [], 0) (Err full))
 full_is_no_fault h = write_never_full_uncounted h.faults
   where
-    write_never_full_uncounted : ¬ (CountsWriter {A = ℕ} (λ P. P) false 0 0 ⊥ (Err full))
+    write_never_full_uncounted : ¬ (CountsWriter {A = ℕ} IsFault false 0 0 ⊥ (Err full))
     write_never_full_uncounted (more, inl e) = elim e.kind [ inl is ↦ cc | inr is ↦ cc ]
     write_never_full_uncounted (more, inr e) = e.2
 

@@ -19,6 +19,10 @@ pub record TakesFewerThan (n : ℕ) (old new : Option (List ℕ)) : Type 0 where
   pub fewer : length taken < n
   pub takes : Takes old taken new
 
+-- no error is listed
+abbrev pub NoneListed : {E : Type 0} → E → Type 0
+NoneListed e = ⊥
+
 -- an Ok left the count of failures alone; an Err raised it, by a fault of the reader's own, or left
 -- it alone and is listed
 abbrev pub CountsReader : {A E : Type 0} → (E → Type 0) → (E → Type 0) → ℕ → ℕ → Result A E → Type 0
@@ -31,7 +35,7 @@ abbrev pub ReadLaws : {S : Type 0} → (S → Option (List ℕ)) → (S → ℕ)
 ReadLaws rest failures old new places filled outcome = record {
   count : IfOk outcome (λ n. n ≤ length places);
   beyond : IfOk outcome (λ n. drop n filled ≡ drop n places);
-  faults : CountsReader IsOwnFault (λ _. ⊥) (failures old) (failures new) outcome;
+  faults : CountsReader IsOwnFault NoneListed (failures old) (failures new) outcome;
   takes : IfOk outcome (λ n. Takes (rest old) (take n filled) (rest new));
   at_end : IfOk outcome (λ n. n ≡ 0 → 0 < length places → IsAtEnd (rest old));
   err : OnErr outcome (rest new ≡ rest old);

@@ -20,6 +20,10 @@ abbrev pub IsWriterFaultOrFull : Bool → ℕ → ℕ → Type 0 → Fault → T
 IsWriterFaultOrFull allocates before after is_full e =
     IsWriterFault allocates before after e ⊎ (IsWriteZero e × (after ≡ before) × is_full)
 
+-- the error is itself a fault of which P holds
+abbrev pub IsFault : (Fault → Type 0) → Fault → Type 0
+IsFault P fault = P fault
+
 -- an Ok left the count of failures alone; an Err says the writer's fault or that it is full, and lowered
 -- no count
 abbrev pub CountsWriter : {A E : Type 0} → ((Fault → Type 0) → E → Type 0) → Bool → ℕ → ℕ → Type 0
@@ -35,7 +39,7 @@ WriteLaws appended full failures allocates old bytes new outcome = record {
   ok : IfOk outcome (λ n. appended old (take n bytes) new);
   stuck : IfOk outcome (λ n. n ≡ 0 → 0 < length bytes → full new);
   err : OnErr outcome (appended old [] new);
-  faults : CountsWriter (λ P. P) allocates (failures old) (failures new) ⊥ outcome;
+  faults : CountsWriter IsFault allocates (failures old) (failures new) ⊥ outcome;
 }
 
 -- the laws of `write_all`
@@ -45,5 +49,5 @@ WriteAllLaws appended full failures allocates old bytes new outcome = record {
   ok : OnOk outcome (appended old bytes new);
   empty : length bytes ≡ 0 → IsOk outcome;
   err : OnErr outcome (AppendsPart appended old bytes new);
-  faults : CountsWriter (λ P. P) allocates (failures old) (failures new) (full new) outcome;
+  faults : CountsWriter IsFault allocates (failures old) (failures new) (full new) outcome;
 }

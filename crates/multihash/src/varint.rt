@@ -4,8 +4,8 @@ ghost use Rattle.multihash.specs.Bytes.{IsBytes, place_value};
 ghost use Rattle.multihash.specs.Varint.{IsVarint, most_marked};
 ghost use Rattle.multihash.specs.Word.{IsFrontWord, BeginsMarked, IsFoundFront, digits_low};
 ghost use Rattle.std.specs.Io.KnownBytes.{IsAtEnd};
-ghost use Rattle.multihash.specs.Reading.{Takes, CountsReader};
-ghost use Rattle.multihash.specs.Writing.{AppendsPart, CountsWriter};
+ghost use Rattle.multihash.specs.Reading.{Takes, CountsReader, NoneListed};
+ghost use Rattle.multihash.specs.Writing.{AppendsPart, CountsWriter, IsFault};
 ghost use Rattle.multihash.specs.Fault.{IsOwnFault};
 ghost use Rattle.multihash.specs.Refusal.{IsReaderFault};
 ghost use Rattle.multihash.specs.Taking.{IsVarintRefusal, IsFrontRefusal, BeginsNoVarint, TakesVarint, TakesAtVarintRefusal};
@@ -111,7 +111,7 @@ pub(crate) fn write<W: Write>(n: u64, w: &mut W) -> Result<usize, no_std_io::Err
     ensures short { IfOk result (λ len. len ≤ most_marked + 1) }
     ensures err { OnErr result ((bytes : List ℕ) × IsVarint n bytes
         × AppendsPart W.appended w.old bytes w.new) }
-    ensures faults { CountsWriter (λ P. P) W.allocates
+    ensures faults { CountsWriter IsFault W.allocates
         (W.failures w.old) (W.failures w.new) (W.full w.new) result }
 {
     if n < 128 {
@@ -325,7 +325,8 @@ fn join_digits<const N: usize>(half: u64) -> u64
 // The next byte, or none where the input has ended.
 #[inline(always)]
 fn read_byte<R: Read>(r: &mut R) -> Result<Option<u8>, no_std_io::Error>
-    ensures faults { CountsReader IsOwnFault (λ _. ⊥) (R.failures r.old) (R.failures r.new) result }
+    ensures faults { CountsReader IsOwnFault NoneListed
+        (R.failures r.old) (R.failures r.new) result }
     ensures byte { IfOk result (λ next. MatchOption next
         (IsAtEnd (R.rest r.old) × (R.rest r.new ≡ R.rest r.old))
         (λ byte. Takes (R.rest r.old) (byte ∷ []) (R.rest r.new))) }

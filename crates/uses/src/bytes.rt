@@ -2,8 +2,8 @@
 ghost use Rattle.std.specs.Prelude.{◌≡◌, ℕ, ◌+◌, ◌-◌, ◌≤◌, ◌↔◌, ◌⊎◌, List, [], ◌∷◌, ◌++◌, Some, length, slice_get, IsTrue, IfSome, IfOk, IfErr, OnOk, OnErr, MatchOption, MatchResult};
 ghost use Rattle.multihash.specs.Fault.{IsOutOfMemory, IsOwnFault};
 ghost use Rattle.std.specs.Io.KnownBytes.{IsAtEnd};
-ghost use Rattle.multihash.specs.Reading.{Takes, CountsReader};
-ghost use Rattle.multihash.specs.Writing.{CountsWriter, AppendsPart};
+ghost use Rattle.multihash.specs.Reading.{Takes, CountsReader, NoneListed};
+ghost use Rattle.multihash.specs.Writing.{CountsWriter, AppendsPart, IsFault};
 ghost use Rattle.multihash.specs.Pair.{FitsBuffer};
 ghost use Rattle.multihash.specs.Encoding.{IsEncoding};
 ghost use Rattle.multihash.specs.Refusal.{IsMemory};
@@ -38,7 +38,8 @@ pub fn one_of_six(e: &Error) -> u8
 
 /// The next byte, or none where the input has ended.
 pub fn read_one<R: Read>(r: &mut R) -> Result<Option<u8>, no_std_io::Error>
-    ensures faults { CountsReader IsOwnFault (λ _. ⊥) (R.failures r.old) (R.failures r.new) result }
+    ensures faults { CountsReader IsOwnFault NoneListed
+        (R.failures r.old) (R.failures r.new) result }
     ensures byte { IfOk result (λ next. MatchOption next
         (IsAtEnd (R.rest r.old) × (R.rest r.new ≡ R.rest r.old))
         (λ byte. Takes (R.rest r.old) (byte ∷ []) (R.rest r.new))) }
@@ -67,7 +68,7 @@ pub fn first_byte(bytes: &[u8]) -> Option<u8>
 pub fn write_two<W: Write>(w: &mut W, a: &[u8], b: &[u8]) -> Result<(), no_std_io::Error>
     ensures ok { OnOk result (W.appended w.old (a.now ++ b.now) w.new) }
     ensures err { OnErr result (AppendsPart W.appended w.old (a.now ++ b.now) w.new) }
-    ensures faults { CountsWriter (λ P. P) W.allocates
+    ensures faults { CountsWriter IsFault W.allocates
         (W.failures w.old) (W.failures w.new) (W.full w.new) result }
 {
     w.write_all(a)?;
