@@ -291,9 +291,11 @@ impl<const S: usize> Multihash<S> {
             ++ replicate (S - length (pair_of self.entry).digest) 0 }
         ensures size { result.2 ≡ length (pair_of self.entry).digest }
     {
+        // Taken apart, so that what is copied is the buffer alone.
+        let (digest, size) = (self.digest, self.size);
         let mut array = [0; S];
-        array[..self.size].copy_from_slice(self.digest());
-        (self.code, array, self.size as u8)
+        array[..size].copy_from_slice(&digest[..size]);
+        (self.code, array, size as u8)
     }
 
     /// Whether both have the same code and the same digest, whatever their buffers' sizes are.
