@@ -60,7 +60,7 @@ module _ (S code size : ℕ) (a : List ℕ) (is_code : IsScaleCode code a) where
   -- a digest that is cut
   pub cut_verdict : (fault : Fault) (front : List ℕ) (old mid new : Option (List ℕ)) (before after : ℕ) → size ≤ S → Takes mid front new
       → (IsUnexpectedEof fault → HasFewerThan size mid)
-      → ((before < after) × IsOwnFault fault) ⊎ ((after ≡ before) × IsUnexpectedEof fault) → Takes old (a ++ size ∷ front) new
+      → ((after ≡ before + 1) × IsOwnFault fault) ⊎ ((after ≡ before) × IsUnexpectedEof fault) → Takes old (a ++ size ∷ front) new
       → IfSome old (λ rest. after ≡ before → (v : Verdict) × HasScaleVerdict S rest v × IsRefusal (of_io fault) v)
   cut_verdict fault front old mid new before after within took few (inl (rose, own)) takes =
       IfSome-taken old new (a ++ size ∷ front) _ takes (λ left _ same. absurd (omega arith))
