@@ -19,7 +19,7 @@ pub record TakesFewerThan (n : ℕ) (old new : Option (List ℕ)) : Type 0 where
   pub fewer : length taken < n
   pub takes : Takes old taken new
 
--- an Ok left the count of failures alone; an Err raised it, by a fault of the reader's own, or left
+-- an Ok left the count of failures alone; an Err raised it by one, by a fault of the reader's own, or left
 -- it alone and is listed
 abbrev pub CountsReader : {A E : Type 0} → (E → Type 0) → (E → Type 0) → ℕ → ℕ → Result A E → Type 0
 CountsReader IsOwn IsListed before after outcome = MatchResult outcome (λ _. after ≡ before)
