@@ -162,6 +162,10 @@ named_8000 : NamesBytes (codes "8000") (0x80 ∷ 0 ∷ [])
 unfolding decode_pairs
 named_8000 = decoded_names (codes "8000") (0x80 ∷ 0 ∷ []) refl
 
+named_000007 : NamesBytes (codes "000007") (0 ∷ 0 ∷ 7 ∷ [])
+unfolding decode_pairs
+named_000007 = decoded_names (codes "000007") (0 ∷ 0 ∷ 7 ∷ []) refl
+
 whole_0000 : HasWholeVerdict 64 (0 ∷ 0 ∷ []) (accepted (pair 0 []))
 whole_0000 =
     (record { code = 0 ∷ []; size = 0 ∷ []; is_code = varint_0; is_size = varint_0; spelled = refl }, omega arith)
@@ -181,6 +185,17 @@ whole_0001 =
 whole_0040 : HasWholeVerdict 64 (0 ∷ 64 ∷ []) unexpected_eof
 whole_0040 =
     (64, [], record { code = 0; code_bytes = 0 ∷ []; size_bytes = 64 ∷ []; is_code = varint_0; is_size = varint_64; cut = refl }, omega arith, omega arith)
+
+whole_000007 : HasWholeVerdict 64 (0 ∷ 0 ∷ 7 ∷ []) (invalid_size 1)
+whole_000007 =
+    inr (
+      pair 0 [],
+      7 ∷ [],
+      record { encoding = 0 ∷ 0 ∷ []; encodes = whole_0000.0; cut = refl },
+      omega arith,
+      refl,
+      omega arith,
+    )
 
 whole_0041 : HasWholeVerdict 64 (0 ∷ 65 ∷ []) (invalid_size 65)
 whole_0041 =
@@ -240,6 +255,16 @@ no_refused_bytes_show lines (line, bytes, p, is, names, whole, e) =
     whole_0001 in
     cc
 
+-- nor a pair with more bytes behind it
+no_left_over_shows : (lines : List ℕ) → ¬ (ShowsAs (codes "000007\n") lines)
+no_left_over_shows lines (line, bytes, p, is, names, whole, e) =
+    let same : accepted p ≡ invalid_size 1 =
+    whole_verdict_unique 64 (0 ∷ 0 ∷ 7 ∷ []) (accepted p) (invalid_size 1)
+    (subst (λ (z : List ℕ). HasWholeVerdict 64 z (accepted p))
+    (bytes_of (codes "000007") (0 ∷ 0 ∷ 7 ∷ []) named_000007 line bytes is names) whole)
+    whole_000007 in
+    cc
+
 -- ---- what a text is refused for
 
 -- of two newlines one is left, which is no digit
@@ -263,6 +288,11 @@ refused_padded =
 -- the buffer has 64 places
 refused_65 : IsRefusedAs (codes "0041\n") (of_size 65)
 refused_65 = (codes "0041", 0 ∷ 65 ∷ [], invalid_size 65, inl refl, named_0041, whole_0041, refl)
+
+-- and counts what is left over
+refused_left_over : IsRefusedAs (codes "000007\n") (of_size 1)
+refused_left_over =
+    (codes "000007", 0 ∷ 0 ∷ 7 ∷ [], invalid_size 1, inl refl, named_000007, whole_000007, refl)
 
 refused_without_64 : IsRefusedAs (codes "0040\n") (of_io eof)
 refused_without_64 =

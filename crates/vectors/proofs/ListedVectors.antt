@@ -1,22 +1,26 @@
 -- What known lines of a list say, and what they don't.
 use Rattle.std.proofs.Common.{◌≡◌, ℕ, List, [], ◌∷◌, ◌++◌, Option, None, Some, true, false, length, refl, sym, ap, ◌∙◌, subst, arith, inl, inr, length-append}
 use Rattle.std.specs.Prelude.{codes}
+use Rattle.std.proofs.lemmas.List.Elements.{All-head, All-tail}
 use Rattle.hex.specs.Hex.{decode_pairs}
 use Rattle.multihash.specs.Bytes.{IsProperBeginning}
 use Rattle.multihash.specs.Varint.{insufficient, overflow, not_minimal}
-use Rattle.multihash.specs.Verdict.{accepted, invalid_size, faulty, unexpected_eof}
+use Rattle.multihash.specs.Verdict.{accepted, invalid_size, faulty, unexpected_eof, HasWholeVerdict}
 use Rattle.multihash.specs.Scale.{HasScaleVerdict}
 use Rattle.multihash.proofs.WritingLemmas.{some_items}
-use Rattle.multihash.proofs.VerdictLemmas.{same_cut, verdict_unique}
+use Rattle.multihash.proofs.VerdictLemmas.{same_cut, verdict_unique, whole_verdict_unique}
 use Rattle.multihash.proofs.ScaleLemmas.{scale_verdict_unique}
 use Rattle.multihash.proofs.SettlingLemmas.{shortest_unique}
 use Rattle.multihash.proofs.PairVectors.{pair}
 use Rattle.multihash.proofs.VerdictVectors.{size_5, size_named}
 use Rattle.multihash.proofs.SettlingVectors.{shortest_of_size}
 use Rattle.multihash.proofs.ScaleVectors.{zeros, scale_eight_bytes, scale_size_first, scale_size_behind}
+use Rattle.vectors.specs.declared.check.Check.TheVariants.{FromBytes, ReadSlice, ReadOneByte, ReadThreeBytes, ScaleSlice, ScaleOneByte, FromValue}
+use Rattle.vectors.specs.declared.line.Line.{Line}
 use Rattle.vectors.specs.declared.line.Reading.{Reading}
-use Rattle.vectors.specs.declared.verdict.Verdict.TheVariants.{InvalidSize, Insufficient, Overflow, NotMinimal, UnexpectedEof}
-use Rattle.vectors.specs.Listed.{ListsBytes, meaning, SettlesAfter, IsTaken, IsReading, DecodesAfter, IsScaleTaken, IsScaleReading, ends_varint, TakesEnough, TakesAsReadListed, TakesAsScaleListed}
+use Rattle.vectors.specs.declared.verdict.Verdict.{Verdict}
+use Rattle.vectors.specs.declared.verdict.Verdict.TheVariants.{Pair as Listed, InvalidSize, Insufficient, Overflow, NotMinimal, UnexpectedEof}
+use Rattle.vectors.specs.Listed.{ListsBytes, meaning, SettlesAfter, IsTaken, IsReading, DecodesAfter, IsScaleTaken, IsScaleReading, ends_varint, TakesEnough, TakesAsReadListed, TakesAsScaleListed, IsRight, AreRightFor, AreRight}
 
 -- ---- words of a line
 
@@ -50,6 +54,9 @@ means_not_minimal = refl
 
 means_eof : meaning UnexpectedEof ≡ unexpected_eof
 means_eof = refl
+
+means_pair : (code : ℕ) → (digest : _) → meaning (Listed code digest) ≡ accepted (pair code digest.items)
+means_pair code digest = refl
 
 -- ---- readings
 
@@ -211,3 +218,78 @@ decoding_takes_no_count_of_end h = h.0 refl
 
 decoding_lists_a_count_of_size : ¬ (TakesAsScaleListed (zeros ++ 5 ∷ []) [] (size_after 5 None))
 decoding_lists_a_count_of_size h = let e : invalid_size 5 ≡ unexpected_eof = h in cc
+
+-- ---- checks: of a line over these bytes, each is right of what the grammar says and of nothing else
+
+abbrev three : List ℕ
+three = 0 ∷ 5 ∷ 9 ∷ []
+
+no_other_whole_size : (line : Line) → line.input.items ≡ three → line.from_bytes ≡ InvalidSize 6
+    → ¬ (HasWholeVerdict 4 line.input.items (meaning line.from_bytes))
+no_other_whole_size line input says h =
+    omega (
+      arith,
+      ap size_named
+          (whole_verdict_unique 4 three (invalid_size 6) (invalid_size 5)
+          (subst (λ (v : Verdict). HasWholeVerdict 4 three (meaning v)) says
+          (subst (λ (z : List ℕ). HasWholeVerdict 4 z (meaning line.from_bytes)) input h))
+          (inl (9 ∷ [], size_5 (9 ∷ []), omega arith))),
+    )
+
+from_bytes_answers_no_other : (line : Line) → line.input.items ≡ three
+    → line.from_bytes ≡ InvalidSize 6 → ¬ (IsRight FromBytes 4 line)
+from_bytes_answers_no_other line input says h = no_other_whole_size line input says h
+
+from_value_answers_no_other : (line : Line) → line.input.items ≡ three
+    → line.from_bytes ≡ InvalidSize 6 → ¬ (IsRight FromValue 4 line)
+from_value_answers_no_other line input says h = no_other_whole_size line input says h
+
+no_other_count : (line : Line) → line.input.items ≡ three → line.read ≡ size_after 5 (Some 3)
+    → ¬ (IsReading 4 line.input.items line.read)
+no_other_count line input says h =
+    no_reading_after_three
+    (subst (λ (r : Reading). IsReading 4 three r) says
+    (subst (λ (z : List ℕ). IsReading 4 z line.read) input h))
+
+read_takes_no_other_count : (line : Line) → line.input.items ≡ three
+    → line.read ≡ size_after 5 (Some 3) → ¬ (IsRight ReadSlice 4 line)
+read_takes_no_other_count line input says h = no_other_count line input says h
+
+read_by_one_takes_no_other_count : (line : Line) → line.input.items ≡ three
+    → line.read ≡ size_after 5 (Some 3) → ¬ (IsRight ReadOneByte 4 line)
+read_by_one_takes_no_other_count line input says h = no_other_count line input says h
+
+read_by_three_takes_no_other_count : (line : Line) → line.input.items ≡ three
+    → line.read ≡ size_after 5 (Some 3) → ¬ (IsRight ReadThreeBytes 4 line)
+read_by_three_takes_no_other_count line input says h = no_other_count line input says h
+
+no_other_decoded_size : (line : Line) → line.input.items ≡ zeros ++ 5 ∷ 7 ∷ []
+    → line.scale_decode ≡ size_after 6 (Some 9)
+    → ¬ (IsScaleReading 4 line.input.items line.scale_decode)
+no_other_decoded_size line input says h =
+    no_scale_reading_of_other_size
+    (subst (λ (r : Reading). IsScaleReading 4 (zeros ++ 5 ∷ 7 ∷ []) r) says
+    (subst (λ (z : List ℕ). IsScaleReading 4 z line.scale_decode) input h))
+
+decoding_answers_no_other : (line : Line) → line.input.items ≡ zeros ++ 5 ∷ 7 ∷ []
+    → line.scale_decode ≡ size_after 6 (Some 9) → ¬ (IsRight ScaleSlice 4 line)
+decoding_answers_no_other line input says h = no_other_decoded_size line input says h
+
+decoding_by_one_answers_no_other : (line : Line) → line.input.items ≡ zeros ++ 5 ∷ 7 ∷ []
+    → line.scale_decode ≡ size_after 6 (Some 9) → ¬ (IsRight ScaleOneByte 4 line)
+decoding_by_one_answers_no_other line input says h = no_other_decoded_size line input says h
+
+-- one wrong line makes a list wrong, wherever it stands
+no_list_with_a_wrong_line : (first wrong : Line) → wrong.size ≡ 4 → wrong.input.items ≡ three
+    → wrong.from_bytes ≡ InvalidSize 6 → ¬ (AreRightFor FromBytes (first ∷ wrong ∷ []))
+no_list_with_a_wrong_line first wrong size input says h =
+    from_bytes_answers_no_other wrong input says
+    (subst (λ (S : ℕ). IsRight FromBytes S wrong) size
+    (All-head (λ line. IsRight FromBytes line.size line) wrong []
+    (All-tail (λ line. IsRight FromBytes line.size line) first (wrong ∷ []) h)))
+
+-- and one check is enough
+right_for_each_check : (first wrong : Line) → wrong.size ≡ 4 → wrong.input.items ≡ three
+    → wrong.from_bytes ≡ InvalidSize 6 → ¬ (AreRight (first ∷ wrong ∷ []))
+right_for_each_check first wrong size input says h =
+    no_list_with_a_wrong_line first wrong size input says (h FromBytes)
