@@ -248,5 +248,6 @@ no_pair_in_nothing p h =
 
 -- a digest that doesn't fit is no pair's, though it is whole
 no_pair_above_limit : ¬
-    (HasScaleVerdict 4 (zeros ++ 5 ∷ 1 ∷ 2 ∷ 3 ∷ 4 ∷ 5 ∷ []) (accepted (pair 0 (1 ∷ 2 ∷ 3 ∷ 4 ∷ 5 ∷ []))))
+    (HasScaleVerdict 4 (zeros ++ 5 ∷ 1 ∷ 2 ∷ 3 ∷ 4 ∷ 5 ∷ [])
+    (accepted (pair 0 (1 ∷ 2 ∷ 3 ∷ 4 ∷ 5 ∷ []))))
 no_pair_above_limit (bytes, rest, is, fits, cut) = omega (arith, fits)

@@ -242,7 +242,8 @@ no_size_at_first size (v, has, names) =
     (verdict_unique 4 stream v (accepted a) has (pair_and_more (0 ∷ 5 ∷ 9 ∷ []))) names
 
 -- the refusal is that of what follows the first pair
-refuses_second_by_the_verdict : ¬ (StopsAfterPairs 4 2 (of_size 6) 3 3 (Some stream) (Some (9 ∷ [])))
+refuses_second_by_the_verdict : ¬
+    (StopsAfterPairs 4 2 (of_size 6) 3 3 (Some stream) (Some (9 ∷ [])))
 refuses_second_by_the_verdict h =
     elim (one_before h.pairs h.middle h.fewer h.good) [
       | inl at ↦

@@ -370,7 +370,8 @@ no_fewer_left_over h =
     omega (
       arith,
       ap size_named
-          (whole_verdict_unique 4 (0x00 ∷ 0x00 ∷ 0x07 ∷ 0x08 ∷ []) (invalid_size 1) (invalid_size 2) h
+          (whole_verdict_unique 4 (0x00 ∷ 0x00 ∷ 0x07 ∷ 0x08 ∷ []) (invalid_size 1)
+          (invalid_size 2) h
           (inr (
             pair 0 [],
             0x07 ∷ 0x08 ∷ [],

@@ -71,7 +71,8 @@ begins_with_no_third_mark h =
     omega (
       arith,
       All-head IsMarked 0x05 []
-          (All-tail IsMarked 0xff (0x05 ∷ []) (All-tail IsMarked 0x80 (0xff ∷ 0x05 ∷ []) h.all_marked)),
+          (All-tail IsMarked 0xff (0x05 ∷ [])
+          (All-tail IsMarked 0x80 (0xff ∷ 0x05 ∷ []) h.all_marked)),
     )
 
 begins_with_no_missing_mark : ¬ (BeginsMarked 2 (0x80 ∷ []))

@@ -55,7 +55,8 @@ means_not_minimal = refl
 means_eof : meaning UnexpectedEof ≡ unexpected_eof
 means_eof = refl
 
-means_pair : (code : ℕ) → (digest : _) → meaning (Listed code digest) ≡ accepted (pair code digest.items)
+means_pair : (code : ℕ) → (digest : _)
+    → meaning (Listed code digest) ≡ accepted (pair code digest.items)
 means_pair code digest = refl
 
 -- ---- readings
@@ -219,7 +220,7 @@ decoding_takes_no_count_of_end h = h.0 refl
 decoding_lists_a_count_of_size : ¬ (TakesAsScaleListed (zeros ++ 5 ∷ []) [] (size_after 5 None))
 decoding_lists_a_count_of_size h = let e : invalid_size 5 ≡ unexpected_eof = h in cc
 
--- ---- checks: of a line over these bytes, each is right of what the grammar says and of nothing else
+-- ---- checks: over these bytes each is right of what the grammar says, and of nothing else
 
 abbrev three : List ℕ
 three = 0 ∷ 5 ∷ 9 ∷ []
