@@ -1,5 +1,5 @@
 -- Where `read` stops in the code, the size, or the digest.
-use Rattle.std.proofs.Common.{◌≡◌, ◌<◌, ◌≤◌, ◌⊎◌, ℕ, List, [], ◌++◌, Option, None, Some, IfSome, length, take, refl, sym, ap, ◌∙◌, subst, inl, inr, append-nil, append_assoc}
+use Rattle.std.proofs.Common.{◌≡◌, ◌+◌, ◌<◌, ◌≤◌, ◌⊎◌, ℕ, List, [], ◌++◌, Option, None, Some, IfSome, length, take, refl, sym, ap, ◌∙◌, subst, inl, inr, append-nil, append_assoc}
 use Rattle.multihash.specs.Bytes.{IsProperBeginning}
 use Rattle.multihash.specs.Pair.{digest_limit}
 use Rattle.multihash.specs.Varint.{VarintFault, insufficient, overflow, not_minimal, IsVarint, HasFaultyFront}
@@ -17,7 +17,7 @@ use Rattle.multihash.proofs.ReadTakingLemmas.{Stops, at_settled, at_early_end, a
 
 -- how reading a varint counted
 abbrev pub VarintCounts : ℕ → ℕ → Refusal → Type 0
-VarintCounts before after e = ((before < after) × IsReaderFault e) ⊎ ((after ≡ before) × IsVarintRefusal e)
+VarintCounts before after e = ((after ≡ before + 1) × IsReaderFault e) ⊎ ((after ≡ before) × IsVarintRefusal e)
 
 -- nothing is left behind bytes at an input's end
 at_end : (P : List ℕ → Type 0) (taken : List ℕ) (new : Option (List ℕ)) → IsAtEnd new → P taken → IfSome new (λ left. P (taken ++ left))
@@ -97,7 +97,7 @@ module _ (S code size : ℕ) (a b : List ℕ) (is_code : IsVarint code a) (is_si
 
   pub stops_in_digest : (fault : Fault) (front : List ℕ) (mid new : Option (List ℕ)) (before after : ℕ) → size ≤ digest_limit S
       → length front < size → Takes mid front new → (IsUnexpectedEof fault → HasFewerThan size mid)
-      → ((before < after) × IsOwnFault fault) ⊎ ((after ≡ before) × IsUnexpectedEof fault)
+      → ((after ≡ before + 1) × IsOwnFault fault) ⊎ ((after ≡ before) × IsUnexpectedEof fault)
       → Stops S (of_io fault) (a ++ (b ++ front)) new before after
   stops_in_digest fault front mid new before after within short takes few (inl (rose, own)) =
       at_failure unexpected_eof rose (fault, refl, own) tt (cut_digest front within short)

@@ -1,5 +1,5 @@
 -- Where `read` stops, and what each of its clauses says there.
-use Rattle.std.proofs.Common.{◌∙◌, ◌≡◌, ◌<◌, ◌⊎◌, ℕ, List, [], ◌++◌, Option, None, Some, Result, Ok, Err, IfSome, IfOk, IfErr, length, refl, sym, ap, subst, inl, inr, arith, append-nil}
+use Rattle.std.proofs.Common.{◌∙◌, ◌≡◌, ◌+◌, ◌<◌, ◌⊎◌, ℕ, List, [], ◌++◌, Option, None, Some, Result, Ok, Err, IfSome, IfOk, IfErr, length, refl, sym, ap, subst, inl, inr, arith, append-nil}
 use Rattle.std.specs.Result.{IsErrAnd}
 use Rattle.multihash.specs.Bytes.{IsBeginning, IsProperBeginning}
 use Rattle.multihash.specs.Pair.{Pair, FitsBuffer}
@@ -26,7 +26,7 @@ pub data Stops (S : ℕ) (e : Refusal) (taken : List ℕ) (new : Option (List �
   at_early_end : (v : Verdict) → after ≡ before → IsEarlyEnd v → IsRefusal e v → HasVerdict S taken v → (v ≡ faulty insufficient → IsAtEnd new)
       → IfSome new (λ left. HasVerdict S (taken ++ left) v) → Stops S e taken new before after
   -- it ends early, and the reader failed
-  at_failure : (v : Verdict) → before < after → IsReaderFault e → IsEarlyEnd v → HasVerdict S taken v → Stops S e taken new before after
+  at_failure : (v : Verdict) → after ≡ before + 1 → IsReaderFault e → IsEarlyEnd v → HasVerdict S taken v → Stops S e taken new before after
 
 -- a refusal of a verdict is one that `read` lists
 listed : (S : ℕ) (e : Refusal) (taken : List ℕ) (v : Verdict) → IsRefusal e v → HasVerdict S taken v → IsReadRefusal S e
@@ -75,7 +75,7 @@ own_not_eof e (fault, given, inr memory) h =
 
 module _ (S : ℕ) (e : Refusal) (taken : List ℕ) (old new : Option (List ℕ)) (before after : ℕ) (takes : Takes old taken new) where
   -- the count of failures, and the kind of the refusal
-  pub stop_faults : Stops S e taken new before after → ((before < after) × IsReaderFault e) ⊎ ((after ≡ before) × IsReadRefusal S e)
+  pub stop_faults : Stops S e taken new before after → ((after ≡ before + 1) × IsReaderFault e) ⊎ ((after ≡ before) × IsReadRefusal S e)
   stop_faults (at_settled v same stays given has no_sooner) = inr (same, listed S e taken v given has)
   stop_faults (at_early_end v same soon given has all whole) = inr (same, listed S e taken v given has)
   stop_faults (at_failure v rose own soon has) = inl (rose, own)

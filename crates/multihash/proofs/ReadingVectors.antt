@@ -106,6 +106,11 @@ read_failed_uncounted : ¬ (CountsReader {A = ℕ} IsOwnFault NoneListed 3 3 (Er
 read_failed_uncounted (inl h) = omega (arith, h.0)
 read_failed_uncounted (inr h) = h.1
 
+-- a failing call counts one failure
+read_counts_one_failure : ¬ (CountsReader {A = ℕ} IsOwnFault (λ _. ⊥) 3 5 (Err other))
+read_counts_one_failure (inl h) = omega (arith, h.0)
+read_counts_one_failure (inr h) = h.1
+
 -- `read` tells the end by a count of 0, and by no refusal
 read_no_eof : ¬ (CountsReader {A = ℕ} IsOwnFault NoneListed 3 4 (Err eof))
 read_no_eof (inl (more, inl h)) = cc

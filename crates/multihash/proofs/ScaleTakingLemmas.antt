@@ -1,5 +1,5 @@
 -- What encoding the SCALE form appends, and where decoding it stops.
-use Rattle.std.proofs.Common.{◌≡◌, ◌<◌, ◌≤◌, ◌⊎◌, ℕ, List, [], ◌∷◌, ◌++◌, Option, Some, Result, Ok, Err, IfSome, IfOk, IsErr, length, get_or, refl, sym, ap, ◌∙◌, subst, inl, inr, arith, append_assoc, length-append}
+use Rattle.std.proofs.Common.{◌≡◌, ◌<◌, ◌+◌, ◌≤◌, ◌⊎◌, ℕ, List, [], ◌∷◌, ◌++◌, Option, Some, Result, Ok, Err, IfSome, IfOk, IsErr, length, get_or, refl, sym, ap, ◌∙◌, subst, inl, inr, arith, append_assoc, length-append}
 use Rattle.std.specs.Result.{IsErrAnd}
 use Rattle.multihash.specs.Pair.{Pair}
 use Rattle.multihash.specs.Verdict.{Verdict, accepted, invalid_size, unexpected_eof}
@@ -57,7 +57,7 @@ module _ (S code size : ℕ) (a : List ℕ) (is_code : IsScaleCode code a) where
   -- a digest that is cut
   pub cut_verdict : (fault : Fault) (front : List ℕ) (old mid new : Option (List ℕ)) (before after : ℕ) → size ≤ S → Takes mid front new
       → (IsUnexpectedEof fault → HasFewerThan size mid)
-      → ((before < after) × IsOwnFault fault) ⊎ ((after ≡ before) × IsUnexpectedEof fault) → Takes old (a ++ size ∷ front) new
+      → ((after ≡ before + 1) × IsOwnFault fault) ⊎ ((after ≡ before) × IsUnexpectedEof fault) → Takes old (a ++ size ∷ front) new
       → IfSome old (λ rest. after ≡ before → (v : Verdict) × HasScaleVerdict S rest v × IsRefusal (of_io fault) v)
   cut_verdict fault front old mid new before after within took few (inl (rose, own)) takes =
       IfSome-taken old new (a ++ size ∷ front) _ takes (λ left _ same. absurd (omega arith))

@@ -13,16 +13,25 @@ writer_failed : IsWriterFault false 3 4 other
 writer_failed = record { kind = inl refl; cause = inl (omega arith) }
 
 writer_refused_memory : IsWriterFault true 3 3 memory
-writer_refused_memory = record { kind = inr refl; cause = inr (refl, refl) }
+writer_refused_memory = record { kind = inr refl; cause = inr (refl, refl, refl) }
+
+-- a failing call counts one failure, and want of memory none
+writer_counts_one_failure : ¬ (IsWriterFault true 3 5 other)
+writer_counts_one_failure h =
+    elim h.cause [ inl one ↦ omega (arith, one) | inr (allocates, e, same) ↦ cc ]
+
+writer_counts_no_want_of_memory : ¬ (IsWriterFault true 3 5 memory)
+writer_counts_no_want_of_memory h =
+    elim h.cause [ inl one ↦ omega (arith, one) | inr (allocates, e, same) ↦ omega (arith, same) ]
 
 -- one that doesn't allocate has no want of memory but as a counted fault
 writer_wants_no_memory : ¬ (IsWriterFault false 3 3 memory)
 writer_wants_no_memory h =
-    elim h.cause [ inl more ↦ omega arith | inr (allocates, e) ↦ false≢true allocates ]
+    elim h.cause [ inl more ↦ omega arith | inr (allocates, e, same) ↦ false≢true allocates ]
 
 -- a fault that isn't counted is want of memory
 writer_invents_no_fault : ¬ (IsWriterFault true 3 3 other)
-writer_invents_no_fault h = elim h.cause [ inl more ↦ omega arith | inr (allocates, e) ↦ cc ]
+writer_invents_no_fault h = elim h.cause [ inl more ↦ omega arith | inr (allocates, e, same) ↦ cc ]
 
 -- the end of an input is no fault of a writer
 writer_meets_no_end : ¬ (IsWriterFault true 3 4 eof)
@@ -83,7 +92,7 @@ no_count_falls_by_own h = omega (arith, h.0)
 
 write_hides_no_fault : ¬ (CountsWriter {A = ℕ} IsFault false 3 3 ⊤ (Err other))
 write_hides_no_fault (more, inl h) =
-    elim h.cause [ inl counted ↦ omega (arith, counted) | inr (allocates, e) ↦ cc ]
+    elim h.cause [ inl counted ↦ omega (arith, counted) | inr (allocates, e, same) ↦ cc ]
 write_hides_no_fault (more, inr h) = cc
 
 -- ---- what was appended

@@ -1,5 +1,5 @@
 -- What a call took from a reader, and how it failed.
-use Rattle.std.specs.Prelude.{◌≡◌, ◌<◌, ◌≤◌, ℕ, List, ◌⊎◌, length, take, drop, Option, Result, MatchResult, IfSome, IfOk, IfErr}
+use Rattle.std.specs.Prelude.{◌≡◌, ◌+◌, ◌<◌, ◌≤◌, ℕ, List, ◌⊎◌, length, take, drop, Option, Result, MatchResult, IfSome, IfOk, IfErr}
 use Rattle.std.specs.Prelude.{OnOk, OnErr, IsOk}
 use Rattle.std.specs.Io.KnownBytes.{prepend_known, IsAtEnd}
 use Rattle.multihash.specs.Fault.{Fault, IsUnexpectedEof, IsOwnFault}
@@ -23,11 +23,11 @@ pub record TakesFewerThan (n : ℕ) (old new : Option (List ℕ)) : Type 0 where
 abbrev pub NoneListed : {E : Type 0} → E → Type 0
 NoneListed e = ⊥
 
--- an Ok left the count of failures alone; an Err raised it, by a fault of the reader's own, or left
+-- an Ok left the count of failures alone; an Err raised it by one, by a fault of the reader's own, or left
 -- it alone and is listed
 abbrev pub CountsReader : {A E : Type 0} → (E → Type 0) → (E → Type 0) → ℕ → ℕ → Result A E → Type 0
 CountsReader IsOwn IsListed before after outcome = MatchResult outcome (λ _. after ≡ before)
-    (λ e. ((before < after) × IsOwn e) ⊎ ((after ≡ before) × IsListed e))
+    (λ e. ((after ≡ before + 1) × IsOwn e) ⊎ ((after ≡ before) × IsListed e))
 
 -- the laws of `read`
 abbrev pub ReadLaws : {S : Type 0} → (S → Option (List ℕ)) → (S → ℕ) → S → S → List ℕ → List ℕ

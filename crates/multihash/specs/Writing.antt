@@ -1,12 +1,12 @@
 -- How a writer failed.
-use Rattle.std.specs.Prelude.{◌≡◌, ◌<◌, ◌≤◌, ℕ, Bool, IsTrue, List, [], ◌⊎◌, length, take, Result, MatchResult, IfOk, OnOk, OnErr, IsOk}
+use Rattle.std.specs.Prelude.{◌≡◌, ◌+◌, ◌<◌, ◌≤◌, ℕ, Bool, IsTrue, List, [], ◌⊎◌, length, take, Result, MatchResult, IfOk, OnOk, OnErr, IsOk}
 use Rattle.multihash.specs.Fault.{Fault, IsWriteZero, IsOutOfMemory, IsOwnFault}
 use Rattle.multihash.specs.Bytes.{IsProperBeginning}
 
--- the writer counted a failure, or it allocates and was refused memory
+-- the writer counted one failure, or it allocates and was refused memory and counted none
 pub record IsWriterFault (allocates : Bool) (before after : ℕ) (e : Fault) : Type 0 where
   pub kind : IsOwnFault e
-  pub cause : (before < after) ⊎ (IsTrue allocates × IsOutOfMemory e)
+  pub cause : (after ≡ before + 1) ⊎ (IsTrue allocates × IsOutOfMemory e × (after ≡ before))
 
 -- a proper beginning of `bytes` stands appended between the two states
 pub record AppendsPart {W : Type 0} (appended : W → List ℕ → W → Type 0) (old : W)
