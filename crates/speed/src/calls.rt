@@ -1,5 +1,19 @@
 //! The calls, each in a function of its own that is not inlined: so no call is left out, none is made
-//! for a whole loop at once, and each pays for its arguments and its answer.
+//! for a whole loop at once, and each pays for its arguments and its answer. What each answers is what
+//! the library's call does.
+ghost use Rattle.std.specs.Prelude.{◌≡◌, ◌+◌, ◌<◌, ◌≤◌, ◌↔◌, ℕ, List, Some, length, map, IsTrue, IsErr, IfOk, OnOk, MatchResult};
+ghost use Rattle.serde_json.specs.View.{view};
+ghost use Rattle.multihash.specs.Pair.{IsSame, digest_limit, truncated};
+ghost use Rattle.multihash.specs.Order.{Compares};
+ghost use Rattle.multihash.specs.Encoding.{IsEncoding};
+ghost use Rattle.multihash.specs.Joined.{AreJoined};
+ghost use Rattle.multihash.specs.Verdict.{Verdict, HasVerdict, HasWholeVerdict};
+ghost use Rattle.multihash.specs.Scale.{HasScaleVerdict};
+ghost use Rattle.multihash.specs.Json.{IsByteArray, IsJsonList};
+ghost use Rattle.multihash.specs.Refusal.{IsMemory};
+ghost use Rattle.multihash.specs.Streams.{TakesPairs};
+ghost use Rattle.multihash.specs.Answer.{pair_of, Answers};
+
 use multihash::{Error, Multihash, list};
 use serde_json::Value;
 use std::alloc::Global;
@@ -10,55 +24,78 @@ use std::hash::{DefaultHasher, Hash, Hasher};
 pub const RESIZED: usize = 255;
 
 #[inline(never)]
-pub fn wrap<const S: usize>(code: u64, digest: &[u8]) -> Result<Multihash<S>, Error> {
+pub fn wrap<const S: usize>(code: u64, digest: &[u8]) -> Result<Multihash<S>, Error>
+    ensures ok { IfOk result (λ m. pair_of m ≡ record { code = code; digest = digest.now }) }
+    ensures exactly { IsErr result ↔ (digest_limit S < length digest.now) }
+{
     Multihash::wrap(code, digest)
 }
 
 #[inline(never)]
-pub fn from_bytes<const S: usize>(bytes: &[u8]) -> Result<Multihash<S>, Error> {
+pub fn from_bytes<const S: usize>(bytes: &[u8]) -> Result<Multihash<S>, Error>
+    ensures { (v : Verdict) × HasWholeVerdict S bytes.now v × Answers result v }
+{
     Multihash::from_bytes(bytes)
 }
 
 #[inline(never)]
-pub fn to_bytes<const S: usize>(alloc: Global, m: &Multihash<S>) -> Result<Vec<u8>, Error> {
+pub fn to_bytes<const S: usize>(alloc: Global, m: &Multihash<S>) -> Result<Vec<u8>, Error>
+    ensures { MatchResult result (λ bytes. IsEncoding (pair_of m.now) bytes.items) IsMemory }
+{
     m.to_bytes(alloc)
 }
 
 #[inline(never)]
-pub fn read_slice<const S: usize>(bytes: &mut &[u8]) -> Result<Multihash<S>, Error> {
+pub fn read_slice<const S: usize>(bytes: &mut &[u8]) -> Result<Multihash<S>, Error>
+    ensures { (v : Verdict) × HasVerdict S bytes.old.now v × Answers result v }
+{
     Multihash::read(bytes)
 }
 
 #[inline(never)]
-pub fn write_slice<const S: usize>(m: &Multihash<S>, room: &mut [u8]) -> Result<usize, Error> {
+pub fn write_slice<const S: usize>(m: &Multihash<S>, room: &mut [u8]) -> Result<usize, Error>
+    ensures { IfOk result (λ n. (bytes : List ℕ) × IsEncoding (pair_of m.now) bytes
+        × (n ≡ length bytes) × (n ≤ length room.old)) }
+{
     let mut places = room;
     m.write(&mut places)
 }
 
 /// What the vector holds is let go first, and its places are kept.
 #[inline(never)]
-pub fn write_vec<const S: usize>(m: &Multihash<S>, vector: &mut Vec<u8>) -> Result<usize, Error> {
+pub fn write_vec<const S: usize>(m: &Multihash<S>, vector: &mut Vec<u8>) -> Result<usize, Error>
+    ensures { IfOk result (λ n. IsEncoding (pair_of m.now) vector.new.items
+        × (n ≡ length vector.new.items)) }
+{
     vector.clear();
     m.write(vector)
 }
 
 #[inline(never)]
-pub fn encoded_len<const S: usize>(m: &Multihash<S>) -> usize {
+pub fn encoded_len<const S: usize>(m: &Multihash<S>) -> usize
+    ensures { (bytes : List ℕ) × IsEncoding (pair_of m.now) bytes × (result ≡ length bytes) }
+{
     m.encoded_len()
 }
 
 #[inline(never)]
-pub fn eq<const S: usize>(a: &Multihash<S>, b: &Multihash<S>) -> bool {
+pub fn eq<const S: usize>(a: &Multihash<S>, b: &Multihash<S>) -> bool
+    ensures { IsTrue result ↔ IsSame (pair_of a.now) (pair_of b.now) }
+{
     a == b
 }
 
 #[inline(never)]
-pub fn same_as<const S: usize>(a: &Multihash<S>, b: &Multihash<S>) -> bool {
+pub fn same_as<const S: usize>(a: &Multihash<S>, b: &Multihash<S>) -> bool
+    ensures { IsTrue result ↔ IsSame (pair_of a.now) (pair_of b.now) }
+{
     a.same_as(b)
 }
 
 #[inline(never)]
-pub fn cmp<const S: usize>(a: &Multihash<S>, b: &Multihash<S>) -> Ordering {
+pub fn cmp<const S: usize>(a: &Multihash<S>, b: &Multihash<S>) -> Ordering
+    ensures { Compares (pair_of a.now) (pair_of b.now) result }
+{
     a.cmp(b)
 }
 
@@ -70,43 +107,63 @@ pub fn hash<const S: usize>(m: &Multihash<S>) -> u64 {
 }
 
 #[inline(never)]
-pub fn truncate<const S: usize>(m: &Multihash<S>, size: u8) -> Multihash<S> {
+pub fn truncate<const S: usize>(m: &Multihash<S>, size: u8) -> Multihash<S>
+    ensures { pair_of result ≡ truncated size (pair_of m.now) }
+{
     m.truncate(size)
 }
 
 #[inline(never)]
-pub fn resize<const S: usize>(m: &Multihash<S>) -> Result<Multihash<RESIZED>, Error> {
+pub fn resize<const S: usize>(m: &Multihash<S>) -> Result<Multihash<RESIZED>, Error>
+    ensures { MatchResult result (λ moved. pair_of moved ≡ pair_of m.now)
+        (λ _. RESIZED < length (pair_of m.now).digest) }
+{
     m.resize()
 }
 
 #[inline(never)]
-pub fn into_inner<const S: usize>(m: &Multihash<S>) -> (u64, [u8; S], u8) {
+pub fn into_inner<const S: usize>(m: &Multihash<S>) -> (u64, [u8; S], u8)
+    ensures code { result.0 ≡ (pair_of m.now).code }
+    ensures size { result.2 ≡ length (pair_of m.now).digest }
+{
     m.into_inner()
 }
 
 #[inline(never)]
-pub fn scale_encode<const S: usize>(m: &Multihash<S>, room: &mut [u8]) -> Result<usize, Error> {
+pub fn scale_encode<const S: usize>(m: &Multihash<S>, room: &mut [u8]) -> Result<usize, Error>
+    ensures { IfOk result (λ n. n ≡ 9 + length (pair_of m.now).digest) }
+{
     let mut places = room;
     m.scale_encode(&mut places)
 }
 
 #[inline(never)]
-pub fn scale_decode<const S: usize>(bytes: &mut &[u8]) -> Result<Multihash<S>, Error> {
+pub fn scale_decode<const S: usize>(bytes: &mut &[u8]) -> Result<Multihash<S>, Error>
+    ensures { (v : Verdict) × HasScaleVerdict S bytes.old.now v × Answers result v }
+{
     Multihash::scale_decode(bytes)
 }
 
 #[inline(never)]
-pub fn to_value<const S: usize>(alloc: Global, m: &Multihash<S>) -> Result<Value, Error> {
+pub fn to_value<const S: usize>(alloc: Global, m: &Multihash<S>) -> Result<Value, Error>
+    ensures { MatchResult result (λ value. IsJsonList (pair_of m.now) (view value)) IsMemory }
+{
     m.to_value(alloc)
 }
 
 #[inline(never)]
-pub fn from_value<const S: usize>(value: &Value) -> Result<Multihash<S>, Error> {
+pub fn from_value<const S: usize>(value: &Value) -> Result<Multihash<S>, Error>
+    ensures { (bytes : List ℕ) → IsByteArray (view value.now) bytes →
+        (v : Verdict) × HasWholeVerdict S bytes v × Answers result v }
+{
     Multihash::from_value(value)
 }
 
 #[inline(never)]
-pub fn write_list<const S: usize>(items: &[Multihash<S>], room: &mut [u8]) -> Result<(), Error> {
+pub fn write_list<const S: usize>(items: &[Multihash<S>], room: &mut [u8]) -> Result<(), Error>
+    ensures { OnOk result ((bytes : List ℕ) × AreJoined (map pair_of items.now) bytes
+        × (length bytes ≤ length room.old)) }
+{
     let mut places = room;
     list::write_list(items, &mut places)
 }
@@ -116,6 +173,9 @@ pub fn read_list<const S: usize>(
     alloc: Global,
     bytes: &mut &[u8],
     count: usize,
-) -> Result<Vec<Multihash<S>>, Error> {
+) -> Result<Vec<Multihash<S>>, Error>
+    ensures { IfOk result (λ list. (length list.items ≡ count)
+        × TakesPairs S (map pair_of list.items) (Some bytes.old.now) (Some bytes.new.now)) }
+{
     list::read_list(alloc, bytes, count)
 }
