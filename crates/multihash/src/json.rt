@@ -21,10 +21,12 @@ impl<const S: usize> Multihash<S> {
     /// [`Error::io`] with want of memory.
     pub fn to_value(&self, alloc: Global) -> Result<Value, Error>
         ensures ok { IfOk result (λ value. IsJsonList (pair_of self.now) (view value)) }
+        ensures array { IfOk result (λ value. (bytes : List ℕ) × IsByteArray (view value) bytes) }
         ensures memory { IfErr result IsMemory }
     {
         let bytes = self.to_bytes(alloc)?;
         let mut members = Vec::with_capacity(alloc, bytes.len())?;
+        crate::multihash::are_bytes(&bytes);
         for byte in &bytes {
             members.push_reserved(Value::from(*byte));
         }

@@ -484,6 +484,6 @@ impl<const S: usize> Hash for Multihash<S> {
 
 // Each number of a slice of bytes is a byte.
 #[inline(always)]
-fn are_bytes(bytes: &[u8])
+pub(crate) fn are_bytes(bytes: &[u8])
     ensures { IsBytes bytes.now }
 {}

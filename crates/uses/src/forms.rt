@@ -80,7 +80,6 @@ pub fn json_back<const S: usize, const R: usize>(
     ensures { FitsBuffer R (pair_of m.now) →
         MatchResult result (λ back. pair_of back ≡ pair_of m.now) IsMemory }
 {
-    m.digest();
     let value = m.to_value(alloc)?;
     Multihash::from_value(&value)
 }

@@ -1,13 +1,12 @@
-use Rattle.serde_json.specs.View.{view}
 use Rattle.multihash.specs.Answer.{pair_of}
 use Rattle.multihash.proofs.CallingLemmas.{verdict_back}
-use Rattle.multihash.proofs.JsonLemmas.{json_bytes, json_is_array}
+use Rattle.multihash.proofs.JsonLemmas.{json_bytes}
 use Rattle.uses.proofs.forms.json_back.Goals as goal
 
 pub returns : goal.returns
 returns g c fits =
     let p = pair_of c.args.m.now in
     let listed = c.in_ok-value.ensures.ok in
-    let array = json_is_array p (view c.in_ok-value.value) c.digest.ensures.pair.digest listed in
+    let array = c.in_ok-value.ensures.array in
     let v = c.from_value.ensures.verdict array.0 array.1 in
     verdict_back g.row.R p array.0 c.from_value.result v.0 v.1 v.2 (json_bytes p _ array.0 listed array.1) fits
