@@ -39,7 +39,9 @@ pub fn scale(alloc: Global, multihash: &Multihash<32>) -> Result<Multihash<64>, 
     Multihash::scale_decode(&mut bytes.as_slice())
 }
 
-pub fn json(alloc: Global, multihash: &Multihash<32>) -> Result<Multihash<64>, Error> {
+pub fn json(alloc: Global, multihash: &Multihash<32>) -> Result<Multihash<64>, Error>
+    ensures { MatchResult result (λ back. pair_of back ≡ pair_of multihash.now) IsMemory }
+{
     let value = multihash.to_value(alloc)?;
     Multihash::from_value(&value)
 }

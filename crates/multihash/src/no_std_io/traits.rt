@@ -25,8 +25,8 @@ pub trait Read {
     /// # Errors
     ///
     /// A fault of the reader's own, of the kind [`Error::is_other`] or [`Error::is_out_of_memory`],
-    /// exactly where the reader's count of failures rises. Nothing was taken then, and what the places
-    /// of `buf` hold is not said.
+    /// exactly where the reader's count of failures rises, and by one. Nothing was taken then, and what
+    /// the places of `buf` hold is not said.
     fn read(&mut self, buf: &mut [u8]) -> Result<usize, Error>
         ensures laws { ReadLaws rest failures self.old self.new buf.old buf.new result };
 
@@ -36,8 +36,8 @@ pub trait Read {
     /// # Errors
     ///
     /// [`Error::is_unexpected_eof`] where fewer bytes are left, or a fault of the reader's own,
-    /// exactly where the reader's count of failures rises. Fewer bytes than `buf` has places were taken
-    /// then, and what the places of `buf` hold is not said.
+    /// exactly where the reader's count of failures rises, and by one. Fewer bytes than `buf` has places
+    /// were taken then, and what the places of `buf` hold is not said.
     fn read_exact(&mut self, buf: &mut [u8]) -> Result<(), Error>
         ensures laws { ReadExactLaws rest failures self.old self.new buf.old buf.new result }
     {
@@ -80,8 +80,8 @@ pub trait Write {
     /// # Errors
     ///
     /// A fault of the writer's own, of the kind [`Error::is_other`] or [`Error::is_out_of_memory`],
-    /// where the writer's count of failures rises; or want of memory, where it allocates. Nothing was
-    /// appended then.
+    /// where the writer's count of failures rises by one; or want of memory, where it allocates. Nothing
+    /// was appended then.
     fn write(&mut self, buf: &[u8]) -> Result<usize, Error>
         ensures laws { WriteLaws appended full failures allocates
             self.old buf.now self.new result };
