@@ -1,5 +1,5 @@
 -- The members of a byte array, and the bytes that they are.
-use Rattle.std.proofs.Common.{◌≡◌, ℕ, suc, ◌<◌, List, [], ◌∷◌, map, true, false, length, take, set, is_some, Option, Some, None, refl, sym, ap, ◌∙◌, arith, inl, inr}
+use Rattle.std.proofs.Common.{◌≡◌, ℕ, zero, suc, ◌<◌, List, [], ◌∷◌, map, true, false, length, take, drop, set, ◌++◌, slice_index_or, is_some, Option, Some, None, refl, sym, ap, ◌∙◌, arith, inl, inr}
 use Rattle.std.specs.List.{list_all}
 use Rattle.std.proofs.lemmas.Bool.{false≢true, and_parts, cases_lt, lt-ltb, le-ltb}
 use Rattle.std.proofs.lemmas.List.Elements.{All-nil, All-cons, All-head, All-tail}
@@ -100,3 +100,33 @@ length-member_bytes (v ∷ vs) e =
 pub no_member_bytes : (vs : List Value) → list_all is_byte vs ≡ true → length vs ≡ 0 → member_bytes vs ≡ []
 no_member_bytes [] e none = refl
 no_member_bytes (v ∷ vs) e none = absurd (omega arith)
+
+-- the byte that a member is
+pub byte_at : (vs : List Value) (at : ℕ) (v : Value) → list_all is_byte vs ≡ true → at < length vs → v ≡ slice_index_or vs at v
+    → (b : ℕ) × (byte_of_data (view v) ≡ Some b)
+byte_at [] at v e inside is = absurd (omega arith)
+byte_at (w ∷ vs) zero v e inside is =
+    let found = some_value (byte_of_data (view w)) (and_parts (is_byte w) (list_all is_byte vs) e).0 in
+    (found.0, ap (λ x. byte_of_data (view x)) is ∙ found.1)
+byte_at (w ∷ vs) (suc at) v e inside is =
+    byte_at vs at v (and_parts (is_byte w) (list_all is_byte vs) e).1 (omega arith) is
+
+-- one member more is one byte more
+pub one_more_byte : (vs : List Value) (at : ℕ) (v : Value) (b : ℕ) → list_all is_byte vs ≡ true → at < length vs → v ≡ slice_index_or vs at v
+    → byte_of_data (view v) ≡ Some b → member_bytes (take (suc at) vs) ≡ member_bytes (take at vs) ++ b ∷ []
+one_more_byte [] at v b e inside is held = absurd (omega arith)
+one_more_byte (w ∷ vs) zero v b e inside is held =
+    let found : byte_of_data (view w) ≡ Some b = ap (λ x. byte_of_data (view x)) (sym is) ∙ held in rw found refl
+one_more_byte (w ∷ vs) (suc at) v b e inside is held =
+    let parts = and_parts (is_byte w) (list_all is_byte vs) e in
+    let found = some_value (byte_of_data (view w)) parts.0 in
+    rw found.1 (ap (λ l. found.0 ∷ l) (one_more_byte vs at v b parts.1 (omega arith) is held))
+
+-- the bytes of the first members, and of the others
+pub bytes_split : (n : ℕ) (vs : List Value) → list_all is_byte vs ≡ true → member_bytes vs ≡ member_bytes (take n vs) ++ member_bytes (drop n vs)
+bytes_split zero vs e = refl
+bytes_split (suc n) [] e = refl
+bytes_split (suc n) (v ∷ vs) e =
+    let parts = and_parts (is_byte v) (list_all is_byte vs) e in
+    let found = some_value (byte_of_data (view v)) parts.0 in
+    rw found.1 (ap (λ l. found.0 ∷ l) (bytes_split n vs parts.1))

@@ -108,6 +108,29 @@ impl Read for ByteMembers<'_> {
         self.left = left;
         Ok(1)
     }
+
+    fn read_exact(&mut self, buf: &mut [u8]) -> Result<(), no_std_io::Error> {
+        if self.left.len() < buf.len() {
+            return Err(no_std_io::Error::unexpected_eof());
+        }
+        let (these, left) = self.left.split_at(buf.len());
+        put_bytes(these, buf);
+        self.left = left;
+        Ok(())
+    }
+}
+
+// Puts the bytes that the members are into as many places.
+fn put_bytes(members: &[Value], places: &mut [u8])
+    requires bytes { list_all is_byte members.now ≡ true }
+    requires count { length members.now ≡ length places.old }
+    ensures { places.new ≡ member_bytes members.now }
+{
+    for (at, member) in members.iter().enumerate() {
+        if let Some(byte) = byte_of(member) {
+            places[at] = byte;
+        }
+    }
 }
 
 // The reader tells its members' bytes, and never fails.

@@ -1,11 +1,11 @@
 //! The type, and its binary form.
-ghost use Rattle.std.specs.Prelude.{◌≡◌, ◌==◌, ◌<◌, ◌≤◌, ◌-◌, ◌⊎◌, ◌↔◌, ℕ, List, [], ◌++◌, length, replicate, Some, IfSome, IfOk, IfErr, OnOk, OnErr, IsErr, IsTrue};
+ghost use Rattle.std.specs.Prelude.{◌≡◌, ◌==◌, ◌<◌, ◌≤◌, ◌+◌, ◌-◌, ◌⊎◌, ◌↔◌, ℕ, List, [], ◌++◌, length, take, drop, replicate, Some, IfSome, IfOk, IfErr, OnOk, OnErr, IsErr, IsTrue};
 ghost use Rattle.std.proofs.Common.{rules};
 ghost use Rattle.std.specs.Cmp.{partial_order_from_own_ties};
 ghost use Rattle.std.specs.Cmp.Lexicographic.{pointwise, slice_cmp};
 ghost use Rattle.std.specs.Cmp.Rules.{comparing, hashing};
 ghost use Rattle.std.specs.Ordering.{nat_cmp, on, as_partial_cmp};
-ghost use Rattle.multihash.specs.Bytes.{IsBytes};
+ghost use Rattle.multihash.specs.Bytes.{IsBytes, place_value};
 ghost use Rattle.multihash.specs.Varint.{varint_limit};
 ghost use Rattle.multihash.specs.Pair.{IsPair, IsSame, digest_limit, truncated, FitsBuffer};
 ghost use Rattle.multihash.specs.Order.{Compares};
@@ -365,17 +365,60 @@ impl<const S: usize> Multihash<S> {
     }
 }
 
-// Whether the bytes are equal. The usual length is compared as a whole, which is no call.
+// Whether the bytes are equal. A difference at the front is seen first, and 16 to 64 bytes are compared
+// as words, which is no call.
 #[inline(always)]
 fn same_bytes(a: &[u8], b: &[u8]) -> bool
     ensures { result ≡ pointwise ◌==◌ a.now b.now }
 {
-    if a.len() == 32 && b.len() == 32 {
-        if let (Some(whole), Some(other)) = (a.first_chunk::<32>(), b.first_chunk::<32>()) {
-            return whole == other;
+    if let (Some(front), Some(other)) = (a.first_chunk::<4>(), b.first_chunk::<4>()) {
+        if u32::from_le_bytes(*front) != u32::from_le_bytes(*other) {
+            return false;
         }
     }
-    a == b
+    let len = a.len();
+    if len > 64 || len < 16 || len != b.len() {
+        return a == b;
+    }
+    same_words(a, b)
+}
+
+// Whether 16 to 64 bytes are equal, by words that may overlap.
+#[inline(always)]
+fn same_words(a: &[u8], b: &[u8]) -> bool
+    requires least { 16 ≤ length a.now }
+    requires most { length a.now ≤ 64 }
+    requires same { length a.now ≡ length b.now }
+    ensures { result ≡ pointwise ◌==◌ a.now b.now }
+{
+    let len = a.len();
+    let ends = same_word(a, b, 0) & same_word(a, b, len - 16);
+    if len <= 32 {
+        return ends;
+    }
+    ends & same_word(a, b, 16) & same_word(a, b, len - 32)
+}
+
+// Whether the sixteen bytes from there on are equal.
+#[inline(always)]
+fn same_word(a: &[u8], b: &[u8], at: usize) -> bool
+    requires a { at + 16 ≤ length a.now }
+    requires b { at + 16 ≤ length b.now }
+    ensures { IsTrue result ↔ (take 16 (drop at a.now) ≡ take 16 (drop at b.now)) }
+{
+    word_at(a, at) == word_at(b, at)
+}
+
+// The sixteen bytes from there on, as one number.
+#[inline(always)]
+fn word_at(bytes: &[u8], at: usize) -> u128
+    requires { at + 16 ≤ length bytes.now }
+    ensures { result ≡ place_value 256 (take 16 (drop at bytes.now)) }
+{
+    match bytes[at..].first_chunk::<16>() {
+        Some(word) => u128::from_le_bytes(*word),
+        None => 0,
+    }
 }
 
 // How the bytes compare. The usual length is compared as a whole, with no loop.
