@@ -1,5 +1,5 @@
 -- What encoding the SCALE form appends, and where decoding it stops.
-use Rattle.std.proofs.Common.{◌≡◌, ◌<◌, ◌+◌, ◌≤◌, ◌⊎◌, ℕ, List, [], ◌∷◌, ◌++◌, Option, Some, Result, Ok, Err, IfSome, IfOk, IsErr, length, get_or, refl, sym, ap, ◌∙◌, subst, inl, inr, arith, append_assoc, length-append}
+use Rattle.std.proofs.Common.{◌≡◌, ◌<◌, ◌+◌, ◌≤◌, ◌⊎◌, ℕ, List, [], ◌∷◌, ◌++◌, Option, Some, Result, Ok, Err, IfSome, length, get_or, refl, sym, ap, ◌∙◌, subst, inl, inr, arith, append_assoc, length-append}
 use Rattle.std.specs.Result.{IsErrAnd}
 use Rattle.multihash.specs.Pair.{Pair}
 use Rattle.multihash.specs.Verdict.{Verdict, accepted, invalid_size, unexpected_eof}
@@ -85,22 +85,16 @@ module _ (S code size : ℕ) (a : List ℕ) (is_code : IsScaleCode code a) where
   pub whole_form : (digest : List ℕ) → size < 256 → length digest ≡ size → IsScale (record { code = code; digest = digest }) (a ++ size ∷ digest)
   whole_form digest byte long = record { code = a; is_code = is_code; size = omega (arith, byte, long); spelled = ap (λ n. a ++ n ∷ digest) (sym long) }
 
--- an outcome that makes the pair, where nothing refuses it
-pub made_ok : {S : ℕ} (r : Result (Fields S) Refusal) (p : Pair) (bytes : List ℕ) (old new : Option (List ℕ)) → IfOk r (λ m. pair_of m ≡ p) → IsScale p bytes
-    → Takes old bytes new → IfOk r (λ m. (bytes : List ℕ) × IsScale (pair_of m) bytes × Takes old bytes new)
-made_ok (Ok m) p bytes old new made form takes = (bytes, subst (λ q. IsScale q bytes) (sym made) form, takes)
-made_ok (Err e) p bytes old new made form takes = tt
+-- what was made means the pair whose form was taken
+pub made_ok : {S : ℕ} (m : Fields S) (p : Pair) (bytes : List ℕ) (old new : Option (List ℕ)) → pair_of m ≡ p → IsScale p bytes
+    → Takes old bytes new → (bytes : List ℕ) × IsScale (pair_of m) bytes × Takes old bytes new
+made_ok m p bytes old new made form takes = (bytes, subst (λ q. IsScale q bytes) (sym made) form, takes)
 
-made_answer : (S : ℕ) (r : Result (Fields S) Refusal) (p : Pair) (rest : List ℕ) → IfOk r (λ m. pair_of m ≡ p) → ¬ (IsErr r)
-    → HasScaleVerdict S rest (accepted p) → (v : Verdict) × HasScaleVerdict S rest v × Answers r v
-made_answer S (Ok m) p rest made fine has = (accepted p, has, ap accepted (sym made))
-made_answer S (Err e) p rest made fine has = absurd (fine refl)
-
-pub made_verdict : (S : ℕ) (r : Result (Fields S) Refusal) (p : Pair) (bytes : List ℕ) (old new : Option (List ℕ)) (before after : ℕ)
-    → IfOk r (λ m. pair_of m ≡ p) → ¬ (IsErr r) → IsScale p bytes → length p.digest ≤ S → Takes old bytes new
-    → IfSome old (λ rest. after ≡ before → (v : Verdict) × HasScaleVerdict S rest v × Answers r v)
-made_verdict S r p bytes old new before after made fine form fits takes =
-    IfSome-taken old new bytes _ takes (λ left _ _. made_answer S r p (bytes ++ left) made fine (bytes, left, form, fits, refl))
+pub made_verdict : (S : ℕ) (m : Fields S) (p : Pair) (bytes : List ℕ) (old new : Option (List ℕ)) (before after : ℕ)
+    → pair_of m ≡ p → IsScale p bytes → length p.digest ≤ S → Takes old bytes new
+    → IfSome old (λ rest. after ≡ before → (v : Verdict) × HasScaleVerdict S rest v × (v ≡ accepted (pair_of m)))
+made_verdict S m p bytes old new before after made form fits takes =
+    IfSome-taken old new bytes _ takes (λ left _ _. (accepted p, (bytes, left, form, fits, refl), ap accepted (sym made)))
 
 -- the refusal that is passed on answers the verdict that it was met with
 pub passed_answer : (S : ℕ) (r : Result (Fields S) Refusal) (e : Refusal) (old : Option (List ℕ)) (before after : ℕ) → IsErrAnd r (λ x. x ≡ e)

@@ -85,9 +85,21 @@ impl<const S: usize> Multihash<S> {
         if len > S || len > 255 {
             return Err(Error::from_size(len as u64));
         }
+        // The usual length is copied as a whole, which is no call.
+        if len == 32 {
+            if let Some(whole) = input_digest.first_chunk::<32>() {
+                return Ok(Multihash {
+                    code,
+                    digest: Self::padded_whole(whole),
+                    size: 32,
+                });
+            }
+        }
+        let mut digest = [0; S];
+        digest[..len].copy_from_slice(input_digest);
         Ok(Multihash {
             code,
-            digest: Self::padded(input_digest),
+            digest,
             size: len,
         })
     }
@@ -280,7 +292,16 @@ impl<const S: usize> Multihash<S> {
         ensures exactly { IsErr result ↔ (R < length (pair_of self.now).digest) }
         ensures err { IfErr result (IsInvalidSize (length (pair_of self.now).digest)) }
     {
-        Multihash::wrap(self.code(), self.digest())
+        if self.size > R {
+            return Err(Error::from_size(self.size as u64));
+        }
+        let mut resized = Multihash {
+            code: self.code(),
+            digest: [0; R],
+            size: self.size,
+        };
+        resized.fill(self.digest());
+        Ok(resized)
     }
 
     /// The code, an array of `S` bytes that begins with the digest and is zero after it, and the
@@ -307,6 +328,15 @@ impl<const S: usize> Multihash<S> {
             && same_bytes(self.digest(), other.digest())
     }
 
+    // The multihash of a buffer that begins with the digest.
+    #[inline(always)]
+    pub(crate) fn in_buffer(code: u64, size: usize, digest: [u8; S]) -> Self
+        requires { size ≤ digest_limit S }
+        ensures { pair_of result ≡ record { code = code; digest = take size digest.entry } }
+    {
+        Multihash { code, digest, size }
+    }
+
     // Puts a digest of the size that is set already, in place of zeros.
     #[inline(always)]
     fn fill(&mut self, digest: &[u8])
@@ -321,22 +351,6 @@ impl<const S: usize> Multihash<S> {
             }
         }
         self.digest[..digest.len()].copy_from_slice(digest);
-    }
-
-    // The bytes, and zeros behind them. Where the digest alone is made, this is faster than `fill`.
-    #[inline(always)]
-    fn padded(bytes: &[u8]) -> [u8; S]
-        requires { length bytes.now ≤ S }
-        ensures { result ≡ bytes.now ++ replicate (S - length bytes.now) 0 }
-    {
-        if bytes.len() == 32 {
-            if let Some(all) = bytes.first_chunk::<32>() {
-                return Self::padded_whole(all);
-            }
-        }
-        let mut array = [0; S];
-        array[..bytes.len()].copy_from_slice(bytes);
-        array
     }
 
     #[inline(always)]

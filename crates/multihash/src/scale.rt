@@ -64,7 +64,7 @@ impl<const S: usize> Multihash<S> {
         }
         let mut digest = [0; S];
         r.read_exact(&mut digest[..size])?;
-        Self::wrap(u64::from_le_bytes(code), &digest[..size])
+        Ok(Self::in_buffer(u64::from_le_bytes(code), size, digest))
     }
 }
 

@@ -1,4 +1,4 @@
-use Rattle.std.proofs.Common.{IsErr, ◌≡◌, ◌<◌, ℕ, [], ◌∷◌, ◌++◌, length, get_or, take, drop, replicate, refl, sym, ap, ◌∙◌, arith, rules}
+use Rattle.std.proofs.Common.{◌≡◌, ◌<◌, ℕ, [], ◌∷◌, ◌++◌, length, get_or, take, drop, replicate, refl, sym, ap, ◌∙◌, arith, rules}
 use Rattle.std.proofs.lemmas.List.{take_at, length-take-le, length-replicate}
 use Rattle.multihash.proofs.ReadingLemmas.{Takes-joined}
 use Rattle.multihash.proofs.OutcomeLemmas.{passed_on}
@@ -78,9 +78,8 @@ returns-clause-verdict g c =
     let front : take size (d ++ drop size (replicate {A = ℕ} g.row.S 0)) ≡ d = take_at d _ size long in
     let byte : size < 256 = search rules in
     let form = whole_form g.row.S _ size a is_code d byte long in
-    let made = rw front at c.wrap.ensures.ok in
-    let fine : ¬ (IsErr c.wrap.result) = λ e. let over = rw front at (c.wrap.ensures.exactly.0 e) in omega (arith, over, long, byte, c.if-size.false) in
-    made_verdict g.row.S c.wrap.result _ (a ++ size ∷ d) _ _ _ _ made fine form (omega (arith, long, c.if-size.false)) whole_takes
+    let means = rw front at c.in_buffer.ensures in
+    made_verdict g.row.S c.in_buffer.result _ (a ++ size ∷ d) _ _ _ _ means form (omega (arith, long, c.if-size.false)) whole_takes
 
 pub returns-clause-ok : goal.returns-clause-ok
 returns-clause-ok g c =
@@ -98,5 +97,5 @@ returns-clause-ok g c =
     let front : take size (d ++ drop size (replicate {A = ℕ} g.row.S 0)) ≡ d = take_at d _ size long in
     let byte : size < 256 = search rules in
     let form = whole_form g.row.S _ size a is_code d byte long in
-    let made = rw front at c.wrap.ensures.ok in
-    made_ok c.wrap.result _ (a ++ size ∷ d) _ _ made form whole_takes
+    let means = rw front at c.in_buffer.ensures in
+    made_ok c.in_buffer.result _ (a ++ size ∷ d) _ _ means form whole_takes
