@@ -26,7 +26,6 @@ impl<const S: usize> Multihash<S> {
     {
         let bytes = self.to_bytes(alloc)?;
         let mut members = Vec::with_capacity(alloc, bytes.len())?;
-        crate::multihash::are_bytes(&bytes);
         for byte in &bytes {
             members.push_reserved(Value::from(*byte));
         }

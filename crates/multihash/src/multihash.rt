@@ -125,9 +125,7 @@ impl<const S: usize> Multihash<S> {
         ensures fits { FitsBuffer S (pair_of self.now) }
         ensures pair { IsPair (pair_of self.now) }
     {
-        let digest = &self.digest[..self.size];
-        are_bytes(digest);
-        digest
+        front(&self.digest, self.size)
     }
 
     /// Reads the multihash whose encoding comes next, and takes exactly that encoding: what follows it
@@ -539,8 +537,12 @@ impl<const S: usize> Hash for Multihash<S> {
     }
 }
 
-// Each number of a slice of bytes is a byte.
+// The first `len` bytes. Of a slice that is handed in it is known that its numbers are bytes.
 #[inline(always)]
-pub(crate) fn are_bytes(bytes: &[u8])
-    ensures { IsBytes bytes.now }
-{}
+fn front(bytes: &[u8], len: usize) -> &[u8]
+    requires { len ≤ length bytes.now }
+    ensures front { result.now ≡ take len bytes.now }
+    ensures bytes { IsBytes result.now }
+{
+    &bytes[..len]
+}
