@@ -14,7 +14,7 @@ use serde_json::Value;
 use std::alloc::Global;
 
 impl<const S: usize> Multihash<S> {
-    /// Makes the array of the encoding's bytes as whole numbers, in order: at most 267 members.
+    /// Makes the array of the encoding's bytes as whole numbers, in order: at most 266 members.
     ///
     /// # Errors
     ///
