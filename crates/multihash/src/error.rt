@@ -1,9 +1,9 @@
 //! The library's error.
-ghost use Rattle.std.specs.Prelude.{◌≡◌, ◌≢◌, ℕ, ◌↔◌, IsTrue, Some, IfSome, IfNone};
-ghost use Rattle.std.specs.Fmt.{WritesOnOk, WritesStyledOnOk};
+ghost use Rattle.std.specs.Prelude.{◌≡◌, ◌≢◌, ◌++◌, ℕ, ◌↔◌, IsTrue, Some, IfSome, IfNone, codes};
+ghost use Rattle.std.specs.Fmt.{WritesOnOk, WritesStyledOnOk, decimal};
 ghost use Rattle.multihash.specs.Varint.{insufficient, overflow, not_minimal};
 ghost use Rattle.multihash.specs.Fault.{Fault};
-ghost use Rattle.multihash.specs.Refusal.{of_io, of_size, of_code, refusal_text, IsInvalidSize, IsInvalidCode, IsFaulty, IsNotBytes, IsMemory};
+ghost use Rattle.multihash.specs.Refusal.{of_io, refusal_text, IsInvalidSize, IsInvalidCode, IsFaulty, IsNotBytes, IsMemory};
 
 use crate::no_std_io;
 use std::alloc::AllocError;
@@ -166,25 +166,19 @@ impl From<AllocError> for Error {
 }
 
 // Not `write!`, whose contract says nothing where a width or a precision is asked.
-fn write_size_text<W: fmt::Write>(f: &mut fmt::Formatter<W>, size: u64) -> fmt::Result
-    ensures plain { WritesOnOk W.write_str_gives f.old result (refusal_text (of_size size)) f.new }
+fn write_number_text<W: fmt::Write>(
+    f: &mut fmt::Formatter<W>,
+    front: &str,
+    number: u64,
+) -> fmt::Result
+    ensures plain { WritesOnOk W.write_str_gives f.old result
+        (front.now ++ decimal number ++ codes ".") f.new }
     ensures styled { WritesStyledOnOk W.write_str_gives f.old result
-        (refusal_text (of_size size)) f.new }
+        (front.now ++ decimal number ++ codes ".") f.new }
 {
     let mut digits = itoa::Buffer::new();
-    f.write_str("Invalid multihash size ")?;
-    f.write_str(digits.format(size))?;
-    f.write_str(".")
-}
-
-fn write_code_text<W: fmt::Write>(f: &mut fmt::Formatter<W>, code: u64) -> fmt::Result
-    ensures plain { WritesOnOk W.write_str_gives f.old result (refusal_text (of_code code)) f.new }
-    ensures styled { WritesStyledOnOk W.write_str_gives f.old result
-        (refusal_text (of_code code)) f.new }
-{
-    let mut digits = itoa::Buffer::new();
-    f.write_str("Invalid multihash code ")?;
-    f.write_str(digits.format(code))?;
+    f.write_str(front)?;
+    f.write_str(digits.format(number))?;
     f.write_str(".")
 }
 
@@ -197,8 +191,8 @@ impl fmt::Display for Error {
     fn fmt<W: fmt::Write>(&self, f: &mut fmt::Formatter<W>) -> fmt::Result {
         match &self.kind {
             Kind::Io(e) => f.write_str(e.text()),
-            Kind::InvalidSize(size) => write_size_text(f, *size),
-            Kind::InvalidCode(code) => write_code_text(f, *code),
+            Kind::InvalidSize(size) => write_number_text(f, "Invalid multihash size ", *size),
+            Kind::InvalidCode(code) => write_number_text(f, "Invalid multihash code ", *code),
             Kind::Insufficient => f.write_str("not enough input bytes"),
             Kind::Overflow => f.write_str("input bytes exceed maximum"),
             Kind::NotMinimal => f.write_str("encoding is not minimal"),

@@ -57,7 +57,8 @@ impl<const S: usize> Multihash<S> {
             × Takes (R.rest r.old) bytes (R.rest r.new)) }
         ensures err { IfErr result (λ e. TakesAtScaleRefusal S e (R.rest r.old) (R.rest r.new)) }
     {
-        let code = u64::from_le_bytes(read_array::<8, R>(r)?);
+        let code_bytes = read_array::<8, R>(r)?;
+        let code = u64::from_le_bytes(code_bytes);
         if code > varint::MAX {
             return Err(Error::from_code(code));
         }
