@@ -147,7 +147,7 @@ takes_code S input left e code is h =
     }
 
 -- each proper beginning of nine bytes that show a size ends early
-size_shortest : (S size : ℕ) (taken rest shorter : List ℕ) → HasScaleSize size taken rest → length taken ≡ 9
+pub size_shortest : (S size : ℕ) (taken rest shorter : List ℕ) → HasScaleSize size taken rest → length taken ≡ 9
     → IsProperBeginning shorter taken → HasScaleVerdict S shorter unexpected_eof
 size_shortest S size taken rest shorter h nine proper =
     let none : length rest ≡ 0 = omega (arith, nine, ap length h.cut, length-append h.code_bytes (size ∷ rest), h.is_code.eight) in
