@@ -116,7 +116,7 @@ module _ {W : Type 0} (appended : W → List ℕ → W → Type 0) (a b : W) (Is
       )
   filled (Err e) is_whole told wrote stopped faults =
       let part = stopped.2 in
-      let none = full_of_faults 0 (new ≡ []) faults.1.0 faults.1.2 in
+      let none = full_of_faults 0 (new ≡ []) faults.0 faults.2 in
       let fewer = fewer_places old new stopped.0 part.part (gives part.part part.stands) part.proper none in (
         stopped.0,
         stopped.1,

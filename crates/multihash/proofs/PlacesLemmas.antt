@@ -36,6 +36,6 @@ pub slice_takes_all : {T W : Type 0} (appended : W → List ℕ → W → Type 0
 slice_takes_all appended a b IsForm old new (Ok x) gives stopped faults enough = refl
 slice_takes_all appended a b IsForm old new (Err e) gives stopped faults enough =
     let h = stopped.2 in
-    let none = full_of_faults 0 (new ≡ []) faults.1.0 faults.1.2 in
+    let none = full_of_faults 0 (new ≡ []) faults.0 faults.2 in
     let fewer = fewer_places old new stopped.0 h.part (gives h.part h.stands) h.proper none in
     absurd (omega (arith, fewer, enough stopped.0 stopped.1))

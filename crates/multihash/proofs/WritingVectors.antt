@@ -1,5 +1,5 @@
 -- How known writers failed, what they appended, and what their laws rule out.
-use Rattle.std.proofs.Common.{◌≡◌, ◌≢◌, ◌≤◌, ℕ, true, false, List, [], ◌∷◌, ◌++◌, length, get_or, refl, sym, ap, ◌∙◌, arith, inl, inr, length-append}
+use Rattle.std.proofs.Common.{◌≡◌, ◌≢◌, ◌≤◌, ℕ, Bool, true, false, List, [], ◌∷◌, ◌++◌, length, get_or, refl, sym, ap, ◌∙◌, arith, inl, inr, length-append}
 use Rattle.std.specs.Prelude.{⊤, Result, Ok, Err}
 use Rattle.std.proofs.lemmas.Bool.{false≢true}
 use Rattle.multihash.specs.Fault.{Fault}
@@ -67,33 +67,38 @@ wrote_and_lowered_no_count : ¬ (CountsWriter {A = ℕ} IsFault true 4 3 ⊥ (Ok
 wrote_and_lowered_no_count h = omega (arith, h)
 
 write_never_full : ¬ (CountsWriter {A = ℕ} IsFault true 3 4 ⊥ (Err full))
-write_never_full (more, inl h) = writer_not_full h
-write_never_full (more, inr h) = h.2
+write_never_full (inl h) = writer_not_full h
+write_never_full (inr h) = h.2
 
 wrote_all_with_fault : ¬ (CountsWriter {A = ℕ} IsFault true 3 4 ⊤ (Ok 1))
 wrote_all_with_fault h = omega (arith, h)
 
 wrote_all_full : CountsWriter {A = ℕ} IsFault false 3 3 ⊤ (Err full)
-wrote_all_full = (omega arith, writer_full)
+wrote_all_full = writer_full
 
 -- a count never falls
+writer_count_rises : {allocates : Bool} {before after : ℕ} {is_full : Type 0} {e : Fault}
+    → IsWriterFaultOrFull allocates before after is_full e → before ≤ after
+writer_count_rises (inl h) = elim h.cause [ inl counted ↦ omega (arith, counted) | inr refused ↦ omega (arith, refused.2) ]
+writer_count_rises (inr h) = omega (arith, h.1)
+
 no_count_falls : ¬ (CountsWriter {A = ℕ} IsFault true 4 3 ⊥ (Err memory))
-no_count_falls h = omega (arith, h.0)
+no_count_falls h = omega (arith, writer_count_rises h)
 
 no_count_falls_writing_all : ¬ (CountsWriter {A = ℕ} IsFault true 4 3 ⊤ (Err memory))
-no_count_falls_writing_all h = omega (arith, h.0)
+no_count_falls_writing_all h = omega (arith, writer_count_rises h)
 
 wrote_nothing_for_want_of_memory : CountsWriter {A = ℕ} IsFault true 3 3 ⊥ (Err memory)
-wrote_nothing_for_want_of_memory = (omega arith, inl writer_refused_memory)
+wrote_nothing_for_want_of_memory = inl writer_refused_memory
 
 -- a count never falls, by whatever fault
 no_count_falls_by_own : ¬ (CountsWriter {A = ℕ} IsFault false 4 3 ⊤ (Err full))
-no_count_falls_by_own h = omega (arith, h.0)
+no_count_falls_by_own h = omega (arith, writer_count_rises h)
 
 write_hides_no_fault : ¬ (CountsWriter {A = ℕ} IsFault false 3 3 ⊤ (Err other))
-write_hides_no_fault (more, inl h) =
+write_hides_no_fault (inl h) =
     elim h.cause [ inl counted ↦ omega (arith, counted) | inr (allocates, e, same) ↦ cc ]
-write_hides_no_fault (more, inr h) = cc
+write_hides_no_fault (inr h) = cc
 
 -- ---- what was appended
 
@@ -165,7 +170,7 @@ writes_with_fault = record {
   ok = tt;
   stuck = tt;
   err = refl;
-  faults = (omega arith, inl (record { kind = inl refl; cause = inl (omega arith) }));
+  faults = inl (record { kind = inl refl; cause = inl (omega arith) });
 }
 
 counts_no_more_than_bytes : ¬ (Writes ([], 0) (1 ∷ []) (1 ∷ [], 0) (Ok 2))
@@ -191,8 +196,8 @@ full_is_no_fault : ¬ (Writes (7 ∷ 8 ∷ 9 ∷ [], 0) (1 ∷ []) (7 ∷ 8 ∷ 
 full_is_no_fault h = write_never_full_uncounted h.faults
   where
     write_never_full_uncounted : ¬ (CountsWriter {A = ℕ} IsFault false 0 0 ⊥ (Err full))
-    write_never_full_uncounted (more, inl e) = elim e.kind [ inl is ↦ cc | inr is ↦ cc ]
-    write_never_full_uncounted (more, inr e) = e.2
+    write_never_full_uncounted (inl e) = elim e.kind [ inl is ↦ cc | inr is ↦ cc ]
+    write_never_full_uncounted (inr e) = e.2
 
 -- ---- the laws of `write_all`
 
@@ -212,7 +217,7 @@ writes_until_full = record {
     proper = (2 ∷ [], (λ e. omega (arith, ap (λ (z : List ℕ). length z) e)), refl);
     stands = refl;
   };
-  faults = (omega arith, inr (refl, refl, omega arith));
+  faults = inr (refl, refl, omega arith);
 }
 
 writes_all_or_fails : ¬ (WritesAll ([], 0) (1 ∷ 2 ∷ []) (1 ∷ [], 0) (Ok 0))
@@ -235,7 +240,7 @@ writes_all_with_no_hidden_fault h = omega (arith, h.faults)
 
 full_with_no_place_alone : ¬ (WritesAll ([], 0) (1 ∷ 2 ∷ []) (1 ∷ [], 0) (Err full))
 full_with_no_place_alone h =
-    elim h.faults.1 [
+    elim h.faults [
       | inl own ↦ elim own.kind [ inl e ↦ cc | inr e ↦ cc ]
       | inr stuck ↦ omega (arith, stuck.2)
     ]

@@ -24,12 +24,12 @@ IsWriterFaultOrFull allocates before after is_full e =
 abbrev pub IsFault : (Fault → Type 0) → Fault → Type 0
 IsFault P fault = P fault
 
--- an Ok left the count of failures alone; an Err says the writer's fault or that it is full, and lowered
--- no count
+-- an Ok left the count of failures alone; an Err says the writer's fault or that it is full, and what was
+-- counted
 abbrev pub CountsWriter : {A E : Type 0} → ((Fault → Type 0) → E → Type 0) → Bool → ℕ → ℕ → Type 0
     → Result A E → Type 0
 CountsWriter Says allocates before after is_full outcome = MatchResult outcome (λ _. after ≡ before)
-    (λ e. (before ≤ after) × Says (IsWriterFaultOrFull allocates before after is_full) e)
+    (λ e. Says (IsWriterFaultOrFull allocates before after is_full) e)
 
 -- the laws of `write`
 abbrev pub WriteLaws : {S : Type 0} → (S → List ℕ → S → Type 0) → (S → Type 0) → (S → ℕ) → Bool
