@@ -59,8 +59,8 @@ pub fn decode_slice<const S: usize>(stream: &[u8]) -> (Result<Multihash<S>, Erro
         IsErrAnd result.0 (IsInvalidCode code) × (result.1.now ≡ rest) }
 {
     let mut left = stream;
-    let answer = Multihash::scale_decode(&mut left);
-    (answer, left)
+    let decoded = Multihash::scale_decode(&mut left);
+    (decoded, left)
 }
 
 /// The code that `wrap` refuses: none where it is in range, nor where the digest does not fit, which is
