@@ -1,5 +1,5 @@
 -- What a refusal leaves behind.
-use Rattle.std.proofs.Common.{◌≡◌, ℕ, ◌<◌, ◌≤◌, ◌↔◌, refl, inl, inr, List, [], ◌++◌, length, Option, None, Some, Result, Ok, Err, IfErr, IsErrAnd, IfSome, sym, ap, ◌∙◌, subst, arith, append_assoc, append-nil, length-append}
+use Rattle.std.proofs.Common.{◌≡◌, ℕ, ◌<◌, ◌≤◌, ◌↔◌, refl, inl, inr, List, [], ◌++◌, length, Option, None, Some, Result, Ok, Err, IfErr, IsErrAnd, IfSome, MatchOption, ◌⊎◌, sym, ap, ◌∙◌, subst, arith, append_assoc, append-nil, length-append}
 use Rattle.multihash.specs.Varint.{varint_limit}
 use Rattle.multihash.specs.Pair.{Pair, FitsBuffer, digest_limit}
 use Rattle.multihash.specs.Encoding.{IsEncoding}
@@ -8,7 +8,7 @@ use Rattle.multihash.specs.Scale.{IsScaleCode, HasScaleVerdict}
 use Rattle.multihash.specs.ScaleTaking.{TakesAtScaleRefusal}
 use Rattle.multihash.specs.Settling.{Settles}
 use Rattle.multihash.specs.Taking.{TakesShortestSettling, TakesUnsettled}
-use Rattle.multihash.specs.Refusal.{Refusal, IsInvalidSize, IsInvalidCode}
+use Rattle.multihash.specs.Refusal.{Refusal, of_size, of_code, IsInvalidSize, IsInvalidCode}
 use Rattle.multihash.specs.Answer.{Fields, pair_of, IsRefusal, Answers}
 use Rattle.multihash.proofs.BeginningLemmas.{compare_beginnings}
 use Rattle.multihash.proofs.VerdictLemmas.{same_cut, verdict_unique}
@@ -54,6 +54,21 @@ left_behind_code S code input bytes rest left (Err e) is cut refused took =
     let found = took.code code refused in
     let whole : input ≡ took.taken ++ left = cc (took.takes) in
     (same_cut took.taken bytes left rest (found.1 ∙ sym is.eight) (sym whole ∙ cut)).1
+
+-- where `wrap` refuses a code, it tells the code, and else the digest's length
+pub refused_of : (limit code size : ℕ) (told : Option ℕ) (e : Refusal)
+    → (IsInvalidSize size e × (limit < size)) ⊎ (IsInvalidCode code e × (size ≤ limit) × (varint_limit ≤ code))
+    → ((n : ℕ) → ((told ≡ Some n) ↔ IsInvalidCode n e))
+    → MatchOption told ((code < varint_limit) ⊎ (limit < size))
+      (λ refused. (refused ≡ code) × (varint_limit ≤ code) × (size ≤ limit))
+refused_of limit code size None e (inl (is, over)) tells = inr over
+refused_of limit code size None e (inr (is, fits, large)) tells = absurd (let none : None ≡ Some code = (tells code).1 is in cc)
+refused_of limit code size (Some n) e (inl (is, over)) tells =
+    absurd (let both : of_code n ≡ of_size size = sym ((tells n).0 refl) ∙ is in cc)
+refused_of limit code size (Some n) e (inr (is, fits, large)) tells =
+    let both : of_code n ≡ of_code code = sym ((tells n).0 refl) ∙ is in
+    let same : n ≡ code = cc in
+    (same, large, fits)
 
 -- the whole verdict is no refusal of a code
 no_code : (S n : ℕ) (input : List ℕ) (e : Refusal) (v : Verdict) → HasWholeVerdict S input v → IsRefusal e v → ¬ (IsInvalidCode n e)
