@@ -91,8 +91,8 @@ table '0|20|32|48|64' '0 1 64|20 1 64|32 1 64|48 1 64|64 1 64'
 echo
 echo "By the code's length, with a digest of 32 bytes, in a buffer of 64 bytes; last with one of 64:"
 echo
-table '1|2|3|4|5|6|7|8|9|10|10, 64' \
-    '32 1 64|32 2 64|32 3 64|32 4 64|32 5 64|32 6 64|32 7 64|32 8 64|32 9 64|32 10 64|64 10 64'
+table '1|2|3|4|5|6|7|8|9|9, 64' \
+    '32 1 64|32 2 64|32 3 64|32 4 64|32 5 64|32 6 64|32 7 64|32 8 64|32 9 64|64 9 64'
 echo
 echo "In other buffers, as the digest's size in the buffer's, with a code of one byte:"
 echo

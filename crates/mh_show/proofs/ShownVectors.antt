@@ -4,8 +4,8 @@ use Rattle.std.specs.Fmt.{digits}
 use Rattle.hex.specs.Hex.{encode_with, decode_pairs}
 use Rattle.multihash.specs.Varint.{insufficient, overflow, not_minimal}
 use Rattle.multihash.specs.Pair.{Pair}
-use Rattle.multihash.specs.Verdict.{Verdict, accepted, invalid_size, faulty, unexpected_eof, HasWholeVerdict}
-use Rattle.multihash.specs.Refusal.{Refusal, of_io, of_size, of_varint}
+use Rattle.multihash.specs.Verdict.{Verdict, accepted, invalid_size, invalid_code, faulty, unexpected_eof, HasWholeVerdict}
+use Rattle.multihash.specs.Refusal.{Refusal, of_io, of_size, of_code, of_varint}
 use Rattle.multihash.specs.Answer.{IsRefusal}
 use Rattle.multihash.proofs.VerdictLemmas.{whole_verdict_unique}
 use Rattle.multihash.proofs.FaultVectors.{eof}
@@ -284,6 +284,38 @@ refused_code_alone = (codes "00", 0 ∷ [], faulty insufficient, inl refl, named
 pub refused_padded : IsRefusedAs (codes "8000\n") (of_varint not_minimal)
 refused_padded =
     (codes "8000", 0x80 ∷ 0 ∷ [], faulty not_minimal, inl refl, named_8000, whole_8000, refl)
+
+abbrev nine_marked : List ℕ
+nine_marked = 0xff ∷ 0xff ∷ 0xff ∷ 0xff ∷ 0xff ∷ 0xff ∷ 0xff ∷ 0xff ∷ 0xff ∷ 1 ∷ 0 ∷ []
+
+named_nine_marked : NamesBytes (codes "ffffffffffffffffff0100") nine_marked
+unfolding decode_pairs
+named_nine_marked = decoded_names (codes "ffffffffffffffffff0100") nine_marked refl
+
+whole_nine_marked : HasWholeVerdict 64 nine_marked (faulty overflow)
+whole_nine_marked =
+    inl (record {
+      front = 0xff ∷ 0xff ∷ 0xff ∷ 0xff ∷ 0xff ∷ 0xff ∷ 0xff ∷ 0xff ∷ [];
+      byte = 0xff;
+      rest = 1 ∷ 0 ∷ [];
+      all_marked = all_marked (0xff ∷ 0xff ∷ 0xff ∷ 0xff ∷ 0xff ∷ 0xff ∷ 0xff ∷ 0xff ∷ []) refl;
+      most = refl;
+      too_large = omega arith;
+      cut = refl;
+    })
+
+-- a code of 64 bits has no varint
+refused_nine_marked : IsRefusedAs (codes "ffffffffffffffffff0100\n") (of_varint overflow)
+refused_nine_marked =
+    (codes "ffffffffffffffffff0100", nine_marked, faulty overflow, inl refl, named_nine_marked, whole_nine_marked, refl)
+
+-- and no text is refused for its code
+no_code_refused : (text : List ℕ) (code : ℕ) → ¬ (IsRefusedAs text (of_code code))
+no_code_refused text code (line, bytes, accepted p, is, names, whole, refuses) = refuses
+no_code_refused text code (line, bytes, invalid_size size, is, names, whole, refuses) = cc
+no_code_refused text code (line, bytes, invalid_code other, is, names, whole, refuses) = whole
+no_code_refused text code (line, bytes, faulty fault, is, names, whole, refuses) = cc
+no_code_refused text code (line, bytes, unexpected_eof, is, names, whole, refuses) = let e = refuses.1 in cc
 
 -- the buffer has 64 places
 refused_65 : IsRefusedAs (codes "0041\n") (of_size 65)

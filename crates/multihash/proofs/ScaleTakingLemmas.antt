@@ -53,7 +53,7 @@ module _ (S code : ℕ) (a : List ℕ) (is_code : IsScaleCode code a) where
           is_code.eight,
         );
     size = λ k same. absurd (cc (given, same));
-    early = λ io. elim io [ inl eof ↦ absurd (cc (given, eof.1)) | inr own ↦ absurd (cc (given, own.1)) ];
+    early = λ ends. elim ends [ inl eof ↦ absurd (cc (given, eof.1)) | inr own ↦ absurd (cc (given, own.1)) ];
   }
 
   -- no size behind a code in range

@@ -6,7 +6,7 @@ ghost use Rattle.std.specs.Cmp.Lexicographic.{pointwise, slice_cmp};
 ghost use Rattle.std.specs.Cmp.Rules.{comparing, hashing};
 ghost use Rattle.std.specs.Ordering.{nat_cmp, on, as_partial_cmp};
 ghost use Rattle.multihash.specs.Bytes.{IsBytes, place_value};
-ghost use Rattle.multihash.specs.Varint.{varint_limit};
+ghost use Rattle.multihash.specs.Varint.{varint_limit, most_marked};
 ghost use Rattle.multihash.specs.Pair.{IsPair, IsSame, digest_limit, truncated, FitsBuffer};
 ghost use Rattle.multihash.specs.Order.{Compares};
 ghost use Rattle.multihash.specs.Comparing.{equal_pairs, compare_pairs, hashed_pair};
@@ -254,7 +254,7 @@ impl<const S: usize> Multihash<S> {
     pub fn encoded_len(&self) -> usize
         ensures encoding { (bytes : List ℕ) × IsEncoding (pair_of self.now) bytes
             × (result ≡ length bytes) }
-        ensures short { result ≤ 266 }
+        ensures short { result ≤ (most_marked + 1) + 2 + 255 }
     {
         let code = varint::len(self.code());
         let size = varint::len(u64::from(self.size()));

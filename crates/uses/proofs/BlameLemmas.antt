@@ -1,14 +1,18 @@
 -- What a refusal leaves behind.
-use Rattle.std.proofs.Common.{◌≡◌, ℕ, ◌<◌, inl, inr, List, [], ◌++◌, length, Option, None, Some, Result, Ok, Err, IsErrAnd, IfSome, sym, ap, ◌∙◌, subst, arith, append_assoc, append-nil, length-append}
+use Rattle.std.proofs.Common.{◌≡◌, ℕ, ◌<◌, ◌≤◌, ◌↔◌, refl, inl, inr, List, [], ◌++◌, length, Option, None, Some, Result, Ok, Err, IfErr, IsErrAnd, IfSome, MatchOption, ◌⊎◌, sym, ap, ◌∙◌, subst, arith, append_assoc, append-nil, length-append}
+use Rattle.multihash.specs.Varint.{varint_limit}
 use Rattle.multihash.specs.Pair.{Pair, FitsBuffer, digest_limit}
 use Rattle.multihash.specs.Encoding.{IsEncoding}
-use Rattle.multihash.specs.Verdict.{Verdict, accepted, invalid_size, HasSize, HasVerdict}
+use Rattle.multihash.specs.Verdict.{Verdict, accepted, invalid_size, invalid_code, faulty, unexpected_eof, HasSize, HasVerdict, HasWholeVerdict}
+use Rattle.multihash.specs.Scale.{IsScaleCode, HasScaleVerdict}
+use Rattle.multihash.specs.ScaleTaking.{TakesAtScaleRefusal}
 use Rattle.multihash.specs.Settling.{Settles}
 use Rattle.multihash.specs.Taking.{TakesShortestSettling, TakesUnsettled}
-use Rattle.multihash.specs.Refusal.{Refusal, IsInvalidSize}
-use Rattle.multihash.specs.Answer.{Fields, pair_of, Answers}
+use Rattle.multihash.specs.Refusal.{Refusal, of_size, of_code, IsInvalidSize, IsInvalidCode}
+use Rattle.multihash.specs.Answer.{Fields, pair_of, IsRefusal, Answers}
 use Rattle.multihash.proofs.BeginningLemmas.{compare_beginnings}
 use Rattle.multihash.proofs.VerdictLemmas.{same_cut, verdict_unique}
+use Rattle.multihash.proofs.ScaleLemmas.{scale_verdict_unique}
 use Rattle.multihash.proofs.SettlingLemmas.{shortest_size, shortest_unique, settles_exactly}
 use Rattle.multihash.proofs.WritingLemmas.{some_items}
 
@@ -30,6 +34,54 @@ left_behind S size input rest left h over took =
     let same : took.front ≡ front = shortest_unique S input took.front front took.shortest (shortest_size S size input rest h over) in
     let cut : input ≡ took.front ++ left = cc (took.takes) in
     (same_cut took.front front left rest (ap length same) (sym cut ∙ (h.cut ∙ sym (append_assoc h.code_bytes h.size_bytes rest)))).1
+
+-- a code that is out of range is refused
+pub refused_large : (S code : ℕ) (input bytes rest : List ℕ) (r : Result (Fields S) Refusal) → IsScaleCode code bytes → varint_limit ≤ code
+    → input ≡ bytes ++ rest → (v : Verdict) × HasScaleVerdict S input v × Answers r v → IsErrAnd r (IsInvalidCode code)
+refused_large S code input bytes rest (Ok m) is over cut v =
+    let same : v.0 ≡ invalid_code code = scale_verdict_unique S input v.0 (invalid_code code) v.1 (bytes, rest, is, over, cut) in
+    absurd (let e : invalid_code code ≡ accepted (pair_of m) = sym same ∙ v.2 in cc)
+refused_large S code input bytes rest (Err e) is over cut v =
+    let same : v.0 ≡ invalid_code code = scale_verdict_unique S input v.0 (invalid_code code) v.1 (bytes, rest, is, over, cut) in
+    subst (λ w. Answers {S = S} (Err e) w) same v.2
+
+-- and what follows its eight bytes is left
+pub left_behind_code : (S code : ℕ) (input bytes rest left : List ℕ) (r : Result (Fields S) Refusal) → IsScaleCode code bytes
+    → input ≡ bytes ++ rest → IsErrAnd r (IsInvalidCode code)
+    → IfErr r (λ e. TakesAtScaleRefusal S e (Some input) (Some left)) → left ≡ rest
+left_behind_code S code input bytes rest left (Ok m) is cut refused took = absurd refused
+left_behind_code S code input bytes rest left (Err e) is cut refused took =
+    let found = took.code code refused in
+    let whole : input ≡ took.taken ++ left = cc (took.takes) in
+    (same_cut took.taken bytes left rest (found.1 ∙ sym is.eight) (sym whole ∙ cut)).1
+
+-- where `wrap` refuses a code, it tells the code, and else the digest's length
+pub refused_of : (limit code size : ℕ) (told : Option ℕ) (e : Refusal)
+    → (IsInvalidSize size e × (limit < size)) ⊎ (IsInvalidCode code e × (size ≤ limit) × (varint_limit ≤ code))
+    → ((n : ℕ) → ((told ≡ Some n) ↔ IsInvalidCode n e))
+    → MatchOption told ((code < varint_limit) ⊎ (limit < size))
+      (λ refused. (refused ≡ code) × (varint_limit ≤ code) × (size ≤ limit))
+refused_of limit code size None e (inl (is, over)) tells = inr over
+refused_of limit code size None e (inr (is, fits, large)) tells = absurd (let none : None ≡ Some code = (tells code).1 is in cc)
+refused_of limit code size (Some n) e (inl (is, over)) tells =
+    absurd (let both : of_code n ≡ of_size size = sym ((tells n).0 refl) ∙ is in cc)
+refused_of limit code size (Some n) e (inr (is, fits, large)) tells =
+    let both : of_code n ≡ of_code code = sym ((tells n).0 refl) ∙ is in
+    let same : n ≡ code = cc in
+    (same, large, fits)
+
+-- the whole verdict is no refusal of a code
+no_code : (S n : ℕ) (input : List ℕ) (e : Refusal) (v : Verdict) → HasWholeVerdict S input v → IsRefusal e v → ¬ (IsInvalidCode n e)
+no_code S n input e (accepted p) has is refused = is
+no_code S n input e (invalid_size size) has is refused = cc
+no_code S n input e (invalid_code code) has is refused = has
+no_code S n input e (faulty fault) has is refused = cc
+no_code S n input e unexpected_eof has is refused = let same = is.1 in cc
+
+pub no_refused_code : (S : ℕ) (input : List ℕ) (code : Option ℕ) (e : Refusal) → (v : Verdict) × HasWholeVerdict S input v × IsRefusal e v
+    → ((n : ℕ) → ((code ≡ Some n) ↔ IsInvalidCode n e)) → code ≡ None
+no_refused_code S input None e v test = refl
+no_refused_code S input (Some n) e v test = absurd (no_code S n input e v.0 v.1 v.2 ((test n).0 refl))
 
 -- of an encoding that was taken in part, more is left than what follows it
 pub end_left : (S : ℕ) (p : Pair) (bytes more : List ℕ) (new : Option (List ℕ)) → IsEncoding p bytes → FitsBuffer S p

@@ -1,10 +1,12 @@
 //! What a refusal tells: who is to blame for it, what was taken, and whether more input could help.
-ghost use Rattle.std.specs.Prelude.{◌≡◌, ◌<◌, ◌≤◌, ◌↔◌, ℕ, List, ◌++◌, length, codes, string_bytes, Some, IsTrue, IfSome, IfNone, IfOk, IsErrAnd, MatchOption};
+ghost use Rattle.std.specs.Prelude.{◌≡◌, ◌<◌, ◌≤◌, ◌↔◌, ◌⊎◌, ℕ, List, ◌++◌, length, codes, string_bytes, Some, None, IsTrue, IfSome, IfNone, IfOk, IsErrAnd, MatchOption};
+ghost use Rattle.multihash.specs.Varint.{varint_limit};
 ghost use Rattle.multihash.specs.Pair.{Pair, FitsBuffer, digest_limit};
 ghost use Rattle.multihash.specs.Encoding.{IsEncoding};
 ghost use Rattle.multihash.specs.Verdict.{Verdict, accepted, HasSize, HasVerdict};
 ghost use Rattle.multihash.specs.Reading.{Takes};
-ghost use Rattle.multihash.specs.Refusal.{IsInvalidSize};
+ghost use Rattle.multihash.specs.Scale.{IsScaleCode, HasScaleVerdict};
+ghost use Rattle.multihash.specs.Refusal.{IsInvalidSize, IsInvalidCode};
 ghost use Rattle.multihash.specs.Settling.{Settles};
 ghost use Rattle.multihash.specs.Answer.{pair_of, Answers};
 
@@ -46,6 +48,45 @@ pub fn read_slice<const S: usize>(stream: &[u8]) -> (Result<Multihash<S>, Error>
     let mut left = stream;
     let answer = Multihash::read(&mut left);
     (answer, left)
+}
+
+/// The same of the SCALE form. Of a code that is out of range only its eight bytes are taken, and the
+/// size is left with all that follows it.
+pub fn decode_slice<const S: usize>(stream: &[u8]) -> (Result<Multihash<S>, Error>, &[u8])
+    ensures verdict { (v : Verdict) × HasScaleVerdict S stream.now v × Answers result.0 v }
+    ensures large { (code : ℕ) (bytes rest : List ℕ) → IsScaleCode code bytes →
+        varint_limit ≤ code → stream.now ≡ bytes ++ rest →
+        IsErrAnd result.0 (IsInvalidCode code) × (result.1.now ≡ rest) }
+{
+    let mut left = stream;
+    let decoded = Multihash::scale_decode(&mut left);
+    (decoded, left)
+}
+
+/// The code that `wrap` refuses: none where it is in range, nor where the digest does not fit, which is
+/// refused first.
+pub fn refused_code<const S: usize>(code: u64, digest: &[u8]) -> Option<u64>
+    requires { S < 65536 }
+    ensures { MatchOption result
+        ((code < varint_limit) ⊎ (digest_limit S < length digest.now))
+        (λ refused. (refused ≡ code) × (varint_limit ≤ code)
+        × (length digest.now ≤ digest_limit S)) }
+{
+    match Multihash::<S>::wrap(code, digest) {
+        Ok(_) => None,
+        Err(e) => e.invalid_code(),
+    }
+}
+
+/// The code that reading refuses: none, whatever the bytes are.
+pub fn code_refused_by_reading<const S: usize>(bytes: &[u8]) -> Option<u64>
+    requires { S < 65536 }
+    ensures { result ≡ None }
+{
+    match Multihash::<S>::from_bytes(bytes) {
+        Ok(_) => None,
+        Err(e) => e.invalid_code(),
+    }
 }
 
 /// Whether more input could change the answer of `read`.

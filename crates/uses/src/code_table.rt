@@ -1,5 +1,6 @@
 //! A table of allowed codes, each with its digest's length.
-ghost use Rattle.std.specs.Prelude.{◌≡◌, ◌≤◌, ◌↔◌, ℕ, List, length, IsSome, IfSome, IfOk, MatchOption, Contains};
+ghost use Rattle.std.specs.Prelude.{◌≡◌, ◌<◌, ◌≤◌, ◌↔◌, ℕ, List, length, IsSome, IfSome, IfOk, MatchOption, Contains};
+ghost use Rattle.multihash.specs.Varint.{varint_limit};
 ghost use Rattle.multihash.specs.Pair.{Pair, digest_limit};
 ghost use Rattle.multihash.specs.Encoding.{IsEncoding};
 ghost use Rattle.multihash.specs.Reading.{Takes, CountsReader};
@@ -17,12 +18,13 @@ pub struct Entry {
     pub size: usize,
 }
 
-/// Wraps a digest, where the table allows its code with its length and the buffer holds it.
+/// Wraps a digest, where the table allows its code with its length, the buffer holds it, and the code is
+/// in range.
 pub fn wrap<const S: usize>(table: &[Entry], code: u64, digest: &[u8]) -> Option<Multihash<S>>
     ensures some { IfSome result (λ m. pair_of m ≡ record { code = code; digest = digest.now }) }
     ensures exactly { IsSome result ↔
         (Contains table.now (record { code = code; size = length digest.now })
-        × (length digest.now ≤ digest_limit S)) }
+        × (length digest.now ≤ digest_limit S) × (code < varint_limit)) }
 {
     let size = digest.len();
     if !table.contains(&Entry { code, size }) {

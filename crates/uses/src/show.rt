@@ -28,6 +28,7 @@ pub fn lines(alloc: Global) -> Result<String> {
     show_streams(alloc, &mut lines)?;
     show_dump(alloc, &mut lines)?;
     show_blame(alloc, &mut lines)?;
+    show_codes(&mut lines)?;
     show_forms(alloc, &mut lines)?;
     show_values(&mut lines)?;
     show_bytes(alloc, &mut lines)?;
@@ -148,6 +149,19 @@ fn show_blame(alloc: Global, lines: &mut String) -> Result<()> {
     let ended = blame::early_end_text(alloc, &[7, 8, 9])?.context("no end")?;
     let full = blame::full_text(alloc, &[7, 8], &mut [0])?.context("not full")?;
     writeln!(lines, "texts: {ended}, {full}")?;
+    Ok(())
+}
+
+fn show_codes(lines: &mut String) -> Result<()> {
+    let (refused, left) = blame::decode_slice::<4>(&[255; 10]);
+    writeln!(
+        lines,
+        "codes: {} left of {:?}, {:?}, {:?}",
+        left.len(),
+        refused.err().and_then(|e| e.invalid_code()),
+        blame::refused_code::<4>(LARGEST_CODE, &[7]),
+        blame::code_refused_by_reading::<4>(&[255; 10])
+    )?;
     Ok(())
 }
 

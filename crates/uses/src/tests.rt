@@ -1,6 +1,7 @@
 mod binary;
 mod boundaries;
 mod calls;
+mod codes;
 mod errors;
 mod fakes;
 mod faults;

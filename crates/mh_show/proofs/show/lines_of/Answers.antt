@@ -34,4 +34,4 @@ returns c =
     let some : 0 < length digits → c.if-is_empty.digest.now ≡ digits =
     λ long. elim c.if-is_empty.branch [ then-is_empty w ↦ search rules | else-is_empty w ↦ search rules ] in
     same_text c.format.result _ _ c.format.ensures.ok
-    (three_lines _ _ _ _ c.code-code.ensures c.size-size.ensures.size (digest_text p.digest digits _ same none some))
+    (three_lines _ _ _ _ c.code-code.ensures.code c.size-size.ensures.size (digest_text p.digest digits _ same none some))
