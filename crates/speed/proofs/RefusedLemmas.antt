@@ -24,11 +24,10 @@ module _ {T W : Type 0} (appended : W → List ℕ → W → Type 0) (a b : W) (
       → IfErr r (λ e. IsIo IsWriteZero e × ((bytes : List ℕ) × IsForm bytes × (length old < length bytes)))
   refused_by_slice (Ok x) gives stopped faults = tt
   refused_by_slice (Err e) gives stopped faults =
-      let found = faults.1 in
       let h = stopped.2 in
-      let none = full_of_faults 0 (new ≡ []) found.0 found.2 in
+      let none = full_of_faults 0 (new ≡ []) faults.0 faults.2 in
       let fewer = fewer_places old new stopped.0 h.part (gives h.part h.stands) h.proper none in
-      ((found.0, found.1, zero_of_faults (new ≡ []) found.0 found.2), (stopped.0, stopped.1, fewer))
+      ((faults.0, faults.1, zero_of_faults (new ≡ []) faults.0 faults.2), (stopped.0, stopped.1, fewer))
 
   -- a vector that was empty got no memory, and holds a part of the bytes
   pub refused_by_vector : (r : Result T Refusal) → ((part : List ℕ) → appended a part b → new ≡ part)
@@ -37,7 +36,6 @@ module _ {T W : Type 0} (appended : W → List ℕ → W → Type 0) (a b : W) (
       → IfErr r (λ e. IsMemory e × ((bytes : List ℕ) × IsForm bytes × IsProperBeginning new bytes))
   refused_by_vector (Ok x) holds stopped faults = tt
   refused_by_vector (Err e) holds stopped faults =
-      let found = faults.1 in
       let h = stopped.2 in
       let proper = subst (λ part. IsProperBeginning part stopped.0) (sym (holds h.part h.stands)) h.proper in
-      ((found.0, found.1, memory_of_faults found.0 found.2), (stopped.0, stopped.1, proper))
+      ((faults.0, faults.1, memory_of_faults faults.0 faults.2), (stopped.0, stopped.1, proper))

@@ -1,5 +1,5 @@
 //! The varints of numbers, both ways.
-use crate::varint;
+use crate::{Error, varint};
 use std::test::Fail;
 
 const VARINTS: [(u64, &[u8]); 13] = [
@@ -49,16 +49,23 @@ fn varints_both_ways(rt: HostRuntime) -> Result<(), Fail> {
     Ok(())
 }
 
+// Why no varint begins the bytes, as they are read in memory.
+fn fault(bytes: &[u8]) -> Option<Error> {
+    match varint::read_front(bytes) {
+        Some(_) => None,
+        None => Some(varint::front_fault(bytes)),
+    }
+}
+
 #[test]
 fn ninth_marked_byte_overflows(rt: HostRuntime) {
     for bytes in TOO_LONG {
         let mut left = bytes;
         assert!(rt; varint::read(&mut left).is_err_and(|e| e.is_overflow()));
         assert_eq!(rt; left, &bytes[9..]);
-        assert!(rt; varint::read_front(bytes).is_none());
-        assert!(rt; varint::front_fault(bytes).is_overflow());
-        assert!(rt; varint::front_fault(&bytes[..9]).is_overflow());
-        assert!(rt; varint::front_fault(&bytes[..8]).is_insufficient());
+        assert!(rt; fault(bytes).is_some_and(|e| e.is_overflow()));
+        assert!(rt; fault(&bytes[..9]).is_some_and(|e| e.is_overflow()));
+        assert!(rt; fault(&bytes[..8]).is_some_and(|e| e.is_insufficient()));
     }
 }
 
