@@ -14,7 +14,8 @@ const CHUNK: usize = 64;
 /// tries that are left are counted together, so that a failure for which a try is spent counts none.
 #[derive(Drop)]
 pub struct Retries<R> {
-    reader: R,
+    /// The reader that is asked.
+    pub reader: R,
     tries: u64,
 }
 
