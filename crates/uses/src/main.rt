@@ -11,6 +11,7 @@ mod forms;
 mod merkle;
 mod peer_id;
 mod readme;
+mod retries;
 mod show;
 mod streams;
 #[cfg(test)]

@@ -1,6 +1,7 @@
 //! One line for each use, on fixed bytes.
 use crate::code_table::Entry;
 use crate::content_id::ContentId;
+use crate::retries::Retries;
 use crate::streams::{Held, Room};
 use crate::{blame, block_store, bytes, code_table, dump, forms, merkle, peer_id, readme, values};
 use anyhow::{Context, Result};
@@ -26,6 +27,7 @@ pub fn lines(alloc: Global) -> Result<String> {
     show_merkle(alloc, &mut lines)?;
     show_peer_id(alloc, &mut lines)?;
     show_streams(alloc, &mut lines)?;
+    show_retries(&mut lines)?;
     show_dump(alloc, &mut lines)?;
     show_blame(alloc, &mut lines)?;
     show_codes(&mut lines)?;
@@ -115,6 +117,19 @@ fn show_streams(alloc: Global, lines: &mut String) -> Result<()> {
         room.written(),
         back.len(),
         held.left()
+    )?;
+    Ok(())
+}
+
+// A slice never fails, so no try is spent.
+fn show_retries(lines: &mut String) -> Result<()> {
+    let mut reader = Retries::new([0u8, 1, 65, 9].as_slice(), 2);
+    let multihash = Multihash::<4>::read(&mut reader)?;
+    writeln!(
+        lines,
+        "asked again: {:?}, {} tries left",
+        multihash.digest(),
+        reader.tries()
     )?;
     Ok(())
 }

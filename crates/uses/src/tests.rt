@@ -12,6 +12,7 @@ mod list;
 mod memory;
 mod no_std_io;
 mod readme;
+mod retries;
 mod scale;
 mod told;
 mod values;

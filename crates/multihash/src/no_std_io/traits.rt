@@ -10,7 +10,8 @@ use super::Error;
 /// An implementation says two things to contracts: its `rest`, which is the list of bytes still to
 /// come or `None` where it does not tell them, and its `failures`, a count of the times that it
 /// failed. Its methods are proved to keep the laws that stand as their clauses. Whether the rest is
-/// told never changes, and the count never falls.
+/// told never changes. A call that fails by a fault of the reader's own raises the count by exactly one,
+/// and no other call changes it; so a reader that asks another one again has a count of its own.
 pub trait Read {
     // The bytes still to come, where the reader tells them.
     ghost rest: { Self → Option (List ℕ) };
@@ -57,7 +58,9 @@ pub trait Read {
 ///
 /// An implementation says three things to contracts: which list of bytes stands `appended` between
 /// two of its states, whether it is `full`, and its `failures`, a count of the times that it failed.
-/// Its methods are proved to keep the laws that stand as their clauses.
+/// Its methods are proved to keep the laws that stand as their clauses. A call that fails by a fault of
+/// the writer's own raises the count by exactly one, and no other call changes it; so a writer that asks
+/// another one again has a count of its own.
 pub trait Write {
     /// Whether a call may ask for memory, and so answer [`Error::out_of_memory`] without a failure.
     const ALLOCATES: bool;

@@ -1,0 +1,63 @@
+//! A reader that asks another one again where it failed.
+ghost use Rattle.std.specs.Prelude.{◌≡◌, ◌+◌, OnErr};
+ghost use Rattle.multihash.specs.Reading.{ReadLaws};
+
+use multihash::no_std_io::{Error, Read};
+
+// The most bytes that are asked for at once.
+const CHUNK: usize = 64;
+
+/// Asks its reader again where it failed, as long as it has tries left. It lends a buffer of its own, since
+/// what a failed call leaves in a buffer is not known.
+///
+/// Each of its failing calls counts one failure, as the law of `Read` asks: the reader's failures and the
+/// tries that are left are counted together, so that a failure for which a try is spent counts none.
+#[derive(Drop)]
+pub struct Retries<R> {
+    /// The reader that is asked.
+    pub reader: R,
+    tries: u64,
+}
+
+impl<R: Read> Retries<R> {
+    /// Asks at most `tries` times again, over all calls.
+    pub fn new(reader: R, tries: u64) -> Self
+        ensures rest { ⟦<Retries<R> as Read>⟧.rest result ≡ R.rest reader }
+        ensures failures { ⟦<Retries<R> as Read>⟧.failures result ≡ R.failures reader + tries }
+    {
+        Retries { reader, tries }
+    }
+
+    /// How many tries are left.
+    pub fn tries(&self) -> u64
+        ensures { result ≡ self.now.tries }
+    {
+        self.tries
+    }
+}
+
+impl<R: Read> Read for Retries<R> {
+    ghost rest = { λ r. R.rest r.reader };
+
+    ghost failures = { λ r. R.failures r.reader + r.tries };
+
+    fn read(&mut self, buf: &mut [u8]) -> Result<usize, Error>
+        ensures laws { ReadLaws (λ r. R.rest r.reader) (λ r. R.failures r.reader + r.tries)
+            self.old self.new buf.old buf.new result }
+
+        ensures spent { OnErr result (self.new.tries ≡ 0) }
+    {
+        let mut chunk = [0; CHUNK];
+        let len = buf.len().min(CHUNK);
+        loop {
+            match self.reader.read(&mut chunk[..len]) {
+                Ok(n) => {
+                    buf[..n].copy_from_slice(&chunk[..n]);
+                    return Ok(n);
+                }
+                Err(_) if self.tries > 0 => self.tries -= 1,
+                Err(e) => return Err(e),
+            }
+        }
+    }
+}
