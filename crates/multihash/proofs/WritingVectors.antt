@@ -33,6 +33,15 @@ writer_wants_no_memory h =
 writer_invents_no_fault : ¬ (IsWriterFault true 3 3 other)
 writer_invents_no_fault h = elim h.cause [ inl more ↦ omega arith | inr (allocates, e, same) ↦ cc ]
 
+-- and no call lowers the count, whatever it answers
+writer_lowers_no_count : ¬ (IsWriterFault true 4 3 memory)
+writer_lowers_no_count h =
+    elim h.cause [ inl one ↦ omega (arith, one) | inr (allocates, e, same) ↦ omega (arith, same) ]
+
+full_lowers_no_count : ¬ (IsWriterFaultOrFull false 4 3 ⊤ full)
+full_lowers_no_count (inl h) = elim h.kind [ inl e ↦ cc | inr e ↦ cc ]
+full_lowers_no_count (inr h) = omega (arith, h.1)
+
 -- the end of an input is no fault of a writer
 writer_meets_no_end : ¬ (IsWriterFault true 3 4 eof)
 writer_meets_no_end h = elim h.kind [ inl e ↦ cc | inr e ↦ cc ]
@@ -84,6 +93,11 @@ writer_count_rises (inr h) = omega (arith, h.1)
 
 no_count_falls : ¬ (CountsWriter {A = ℕ} IsFault true 4 3 ⊥ (Err memory))
 no_count_falls h = omega (arith, writer_count_rises h)
+
+-- also where nothing is said of the fault
+no_count_falls_silently : (Says : (Fault → Type 0) → Fault → Type 0)
+    → ¬ (CountsWriter {A = ℕ} Says true 4 3 ⊤ (Err memory))
+no_count_falls_silently Says h = omega (arith, h.0)
 
 no_count_falls_writing_all : ¬ (CountsWriter {A = ℕ} IsFault true 4 3 ⊤ (Err memory))
 no_count_falls_writing_all h = omega (arith, writer_count_rises h)

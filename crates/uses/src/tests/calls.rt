@@ -1,5 +1,5 @@
 //! How often readers and writers are asked, and that one that failed is not asked again.
-use super::fakes::{Counts, CountsWrites, Drip};
+use super::fakes::{Counts, CountsWrites, Cuts, Drip, FailAt};
 use super::kinds::{LARGEST_CODE, is_code, is_disk_gone, is_eof, is_full, is_link_down};
 use multihash::Multihash;
 use multihash::list::{read_list, write_list};
@@ -106,6 +106,17 @@ fn an_ended_reader_is_not_asked_again(rt: HostRuntime) {
     let mut reader = Counts::new(&SCALE[..4]);
     assert!(rt; Multihash::<4>::scale_decode(&mut reader).is_err_and(|e| is_eof(&e)));
     assert_eq!(rt; reader.asked(), (0, 0, 1));
+}
+
+// By the trait's own `read_exact`: the digest is asked for twice, and the second answer ends it.
+#[test]
+fn an_end_is_met_once(rt: HostRuntime) {
+    let mut reader = FailAt::new(Cuts::new(&[0, 2, 9], 8), 9);
+    assert!(rt; Multihash::<4>::read(&mut reader).is_err_and(|e| is_eof(&e)));
+    assert_eq!(rt; reader.asked, 4);
+    let mut reader = FailAt::new(Cuts::new(&SCALE[..4], 8), 9);
+    assert!(rt; Multihash::<4>::scale_decode(&mut reader).is_err_and(|e| is_eof(&e)));
+    assert_eq!(rt; reader.asked, 2);
 }
 
 #[test]
