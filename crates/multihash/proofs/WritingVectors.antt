@@ -94,11 +94,6 @@ writer_count_rises (inr h) = omega (arith, h.1)
 no_count_falls : ¬ (CountsWriter {A = ℕ} IsFault true 4 3 ⊥ (Err memory))
 no_count_falls h = omega (arith, writer_count_rises h)
 
--- also where nothing is said of the fault
-no_count_falls_silently : (Says : (Fault → Type 0) → Fault → Type 0)
-    → ¬ (CountsWriter {A = ℕ} Says true 4 3 ⊤ (Err memory))
-no_count_falls_silently Says h = omega (arith, h.0)
-
 no_count_falls_writing_all : ¬ (CountsWriter {A = ℕ} IsFault true 4 3 ⊤ (Err memory))
 no_count_falls_writing_all h = omega (arith, writer_count_rises h)
 
