@@ -61,7 +61,10 @@ fn shows_what_a_line_names(rt: HostRuntime) -> Result<(), Fail> {
         ("0000\n", empty),
         ("1603AABBCC\n", three),
         ("1603aaBBcc", three),
-        ("ffffffffffffffff7f00", "code 9223372036854775807\nsize 0\ndigest -\n"),
+        (
+            "ffffffffffffffff7f00",
+            "code 9223372036854775807\nsize 0\ndigest -\n",
+        ),
     ] {
         assert_eq!(rt; show(rt.alloc(), text.as_bytes())?.as_str(), lines);
     }
