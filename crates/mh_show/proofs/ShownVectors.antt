@@ -1,5 +1,5 @@
 -- The definitions at texts that are known.
-use Rattle.std.proofs.Common.{◌≡◌, ◌≢◌, ℕ, List, ◌∷◌, [], ◌++◌, length, get_or, codes, refl, ap, subst, arith, inl, inr}
+use Rattle.std.proofs.Common.{◌≡◌, ◌≢◌, ℕ, List, ◌∷◌, [], ◌++◌, length, get_or, replicate, codes, refl, ap, subst, arith, inl, inr}
 use Rattle.std.specs.Fmt.{digits}
 use Rattle.hex.specs.Hex.{encode_with, decode_pairs}
 use Rattle.multihash.specs.Varint.{insufficient, overflow, not_minimal}
@@ -201,6 +201,21 @@ whole_0041 : HasWholeVerdict 64 (0 ∷ 65 ∷ []) (invalid_size 65)
 whole_0041 =
     inl ([], record { code = 0; code_bytes = 0 ∷ []; size_bytes = 65 ∷ []; is_code = varint_0; is_size = varint_65; cut = refl }, omega arith)
 
+whole_65 : HasWholeVerdict 64 (0 ∷ 65 ∷ replicate 65 0) (invalid_size 65)
+whole_65 =
+    inl (
+      replicate 65 0,
+      record {
+        code = 0;
+        code_bytes = 0 ∷ [];
+        size_bytes = 65 ∷ [];
+        is_code = varint_0;
+        is_size = varint_65;
+        cut = refl;
+      },
+      omega arith,
+    )
+
 whole_8000 : HasWholeVerdict 64 (0x80 ∷ 0 ∷ []) (faulty not_minimal)
 whole_8000 =
     inl (record {
@@ -263,6 +278,23 @@ no_left_over_shows lines (line, bytes, p, is, names, whole, e) =
     (subst (λ (z : List ℕ). HasWholeVerdict 64 z (accepted p))
     (bytes_of (codes "000007") (0 ∷ 0 ∷ 7 ∷ []) named_000007 line bytes is names) whole)
     whole_000007 in
+    cc
+
+-- nor a pair whose digest has a byte more than the buffer
+abbrev digits_of_65 : List ℕ
+digits_of_65 = codes "0041" ++ replicate 130 48
+
+named_65 : NamesBytes digits_of_65 (0 ∷ 65 ∷ replicate 65 0)
+unfolding decode_pairs
+named_65 = decoded_names digits_of_65 (0 ∷ 65 ∷ replicate 65 0) refl
+
+no_65_bytes_show : (lines : List ℕ) → ¬ (ShowsAs (digits_of_65 ++ newline) lines)
+no_65_bytes_show lines (line, bytes, p, is, names, whole, e) =
+    let has =
+    subst (λ (z : List ℕ). HasWholeVerdict 64 z (accepted p))
+    (bytes_of digits_of_65 (0 ∷ 65 ∷ replicate 65 0) named_65 line bytes is names) whole in
+    let same : accepted p ≡ invalid_size 65 =
+    whole_verdict_unique 64 (0 ∷ 65 ∷ replicate 65 0) (accepted p) (invalid_size 65) has whole_65 in
     cc
 
 -- ---- what a text is refused for
