@@ -1,0 +1,68 @@
+//! What a decoding answers.
+ghost use Rattle.std.specs.Prelude.{◌≡◌, ◌+◌, ◌≤◌, ℕ, List, length, take, drop};
+ghost use Rattle.multihash.specs.Pair.{Pair};
+ghost use Rattle.multihash.specs.Verdict.{Verdict, accepted};
+ghost use Rattle.multihash.specs.Answer.{IsRefusal};
+ghost use Rattle.multihash_c.specs.Decoded.{Tells};
+
+use crate::status;
+use multihash::Error;
+
+/// What a decoding answered. A field that the status leaves without a meaning is 0.
+#[repr(C)]
+#[derive(Clone, Copy, Debug, PartialEq, Eq)]
+pub struct Decoded {
+    pub status: u32,
+    pub size: u64,
+    pub code: u64,
+    pub digest_offset: usize,
+    pub digest_length: usize,
+    pub taken: usize,
+}
+
+// The answer at a pair whose digest ends what was taken.
+pub(crate) fn accept(code: u64, digest_length: usize, taken: usize) -> Decoded
+    requires { digest_length ≤ taken }
+    ensures tells { (input : List ℕ) (p : Pair) → p.code ≡ code → length p.digest ≡ digest_length
+        → taken ≤ length input
+        → p.digest ≡ take result.digest_length (drop result.digest_offset input)
+        → Tells input result (accepted p) }
+    ensures offset { result.digest_offset + digest_length ≡ taken }
+    ensures length { result.digest_length ≡ digest_length }
+    ensures taken { result.taken ≡ taken }
+{
+    Decoded {
+        status: status::OK,
+        size: 0,
+        code,
+        digest_offset: taken - digest_length,
+        digest_length,
+        taken,
+    }
+}
+
+// The answer at a refusal.
+pub(crate) fn refuse(error: &Error, taken: usize) -> Decoded
+    ensures tells { (input : List ℕ) (v : Verdict) → IsRefusal error.now v → Tells input result v }
+    ensures taken { result.taken ≡ taken }
+{
+    let (status, size) = if let Some(size) = error.invalid_size() {
+        (status::INVALID_SIZE, size)
+    } else if error.is_insufficient() {
+        (status::INSUFFICIENT, 0)
+    } else if error.is_overflow() {
+        (status::OVERFLOW, 0)
+    } else if error.is_not_minimal() {
+        (status::NOT_MINIMAL, 0)
+    } else {
+        (status::UNEXPECTED_EOF, 0)
+    };
+    Decoded {
+        status,
+        size,
+        code: 0,
+        digest_offset: 0,
+        digest_length: 0,
+        taken,
+    }
+}
