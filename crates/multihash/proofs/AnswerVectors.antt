@@ -6,8 +6,8 @@ use Rattle.multihash.specs.declared.no_std_io.error.Kind.TheVariants.{Unexpected
 use Rattle.multihash.specs.Pair.{Pair}
 use Rattle.multihash.specs.Varint.{VarintFault, insufficient, overflow, not_minimal}
 use Rattle.multihash.specs.Fault.{Fault, IsOwnFault, HasStandardText, printed}
-use Rattle.multihash.specs.Refusal.{Refusal, of_io, of_size, of_varint, of_not_bytes, IsMemory, IsReaderFault, IsNotBytes, refusal_text}
-use Rattle.multihash.specs.Verdict.{accepted, invalid_size, faulty, unexpected_eof}
+use Rattle.multihash.specs.Refusal.{Refusal, of_io, of_size, of_code, of_varint, of_not_bytes, IsMemory, IsReaderFault, IsNotBytes, refusal_text}
+use Rattle.multihash.specs.Verdict.{accepted, invalid_size, invalid_code, faulty, unexpected_eof}
 use Rattle.multihash.specs.Answer.{Fields, pair_of, Answers}
 use Rattle.multihash.proofs.PairVectors.{pair}
 
@@ -37,11 +37,35 @@ answers_size = refl
 abbrev size_in : Refusal → ℕ
 size_in (of_io fault) = 0
 size_in (of_size size) = size
+size_in (of_code code) = 0
 size_in (of_varint fault) = 0
 size_in of_not_bytes = 0
 
+abbrev code_in : Refusal → ℕ
+code_in (of_io fault) = 0
+code_in (of_size size) = 0
+code_in (of_code code) = code
+code_in (of_varint fault) = 0
+code_in of_not_bytes = 0
+
 answers_no_other_size : ¬ (Answers {S = 4} (Err (of_size 6)) (invalid_size 5))
 answers_no_other_size h = omega (arith, ap size_in h)
+
+answers_code : Answers {S = 4} (Err (of_code 18446744073709551615)) (invalid_code 18446744073709551615)
+answers_code = refl
+
+answers_no_other_code : ¬ (Answers {S = 4} (Err (of_code 9223372036854775808)) (invalid_code 9223372036854775809))
+answers_no_other_code h = omega (arith, ap code_in h)
+
+-- a size is no code
+no_size_answers_code : (n : ℕ) → ¬ (Answers {S = 4} (Err (of_size n)) (invalid_code n))
+no_size_answers_code n h = cc
+
+no_code_answers_size : (n : ℕ) → ¬ (Answers {S = 4} (Err (of_code n)) (invalid_size n))
+no_code_answers_size n h = cc
+
+no_pair_answers_code : (code : ℕ) → ¬ (Answers (Ok stale) (invalid_code code))
+no_pair_answers_code code h = cc
 
 answers_varint : Answers {S = 4} (Err (of_varint overflow)) (faulty overflow)
 answers_varint = refl
@@ -63,6 +87,9 @@ no_end_inside_varint fault h = cc
 size_alone : (e : Refusal) → Answers {S = 4} (Err e) (invalid_size 5) → e ≡ of_size 5
 size_alone e h = h
 
+code_alone : (code : ℕ) (e : Refusal) → Answers {S = 4} (Err e) (invalid_code code) → e ≡ of_code code
+code_alone code e h = h
+
 varint_alone : (f : VarintFault) (e : Refusal) → Answers {S = 4} (Err e) (faulty f)
     → e ≡ of_varint f
 varint_alone f e h = h
@@ -73,8 +100,17 @@ eof_alone e h = h
 
 -- ---- every value, also one that nothing has read: its code is in range, and its digest fits
 
-no_value_of_larger_code : (m : Fields 4) → ¬ (m.code ≡ 18446744073709551616)
+no_value_of_larger_code : (m : Fields 4) → ¬ (m.code ≡ 9223372036854775808)
 no_value_of_larger_code m e = omega (arith, m.in_range, e)
+
+largest_code : Fields 4
+largest_code = record {
+  code = 9223372036854775807;
+  size = 2;
+  buffer = codes "abcd";
+  in_range = omega arith;
+  fits = omega arith;
+}
 
 no_value_past_its_buffer : (m : Fields 4) → ¬ (m.size ≡ 5)
 no_value_past_its_buffer m e = omega (arith, m.fits, e)
@@ -111,6 +147,9 @@ eof_is_no_own text (fault, e, inr kind) = cc
 size_is_no_own : (size : ℕ) → ¬ (IsReaderFault (of_size size))
 size_is_no_own size (fault, e, own) = cc
 
+code_is_no_own : (code : ℕ) → ¬ (IsReaderFault (of_code code))
+code_is_no_own code (fault, e, own) = cc
+
 passes_on_memory : (text : List ℕ) → IsMemory (of_io (record { kind = OutOfMemory; text = text }))
 passes_on_memory text = (record { kind = OutOfMemory; text = text }, refl, refl)
 
@@ -122,6 +161,9 @@ is_not_bytes = refl
 
 size_is_bytes : (size : ℕ) → ¬ (IsNotBytes (of_size size))
 size_is_bytes size h = cc
+
+code_is_bytes : (code : ℕ) → ¬ (IsNotBytes (of_code code))
+code_is_bytes code h = cc
 
 -- ---- texts
 
@@ -147,6 +189,10 @@ no_other_text h = omega (arith, ap length h)
 size_text : refusal_text (of_size 256) ≡ codes "Invalid multihash size 256."
 unfolding digits
 size_text = refl
+
+code_text : refusal_text (of_code 18446744073709551615) ≡ codes "Invalid multihash code 18446744073709551615."
+unfolding digits
+code_text = refl
 
 insufficient_text : refusal_text (of_varint insufficient) ≡ codes "not enough input bytes"
 insufficient_text = refl

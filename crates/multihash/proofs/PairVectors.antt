@@ -20,10 +20,10 @@ limit_of_255 = refl
 limit_of_300 : digest_limit 300 ≡ 255
 limit_of_300 = refl
 
-largest_code : IsPair (pair 18446744073709551615 (0 ∷ 255 ∷ []))
+largest_code : IsPair (pair 9223372036854775807 (0 ∷ 255 ∷ []))
 largest_code = record { code = omega arith; digest = all_below 256 (0 ∷ 255 ∷ []) refl }
 
-no_larger_code : (digest : List ℕ) → ¬ (IsPair (pair 18446744073709551616 digest))
+no_larger_code : (digest : List ℕ) → ¬ (IsPair (pair 9223372036854775808 digest))
 no_larger_code digest h = omega (arith, h.code)
 
 no_digest_of_256 : (code : ℕ) → ¬ (IsPair (pair code (256 ∷ [])))

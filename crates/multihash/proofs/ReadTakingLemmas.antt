@@ -5,7 +5,7 @@ use Rattle.multihash.specs.Bytes.{IsBeginning, IsProperBeginning}
 use Rattle.multihash.specs.Pair.{Pair, FitsBuffer}
 use Rattle.multihash.specs.Varint.{insufficient, overflow, not_minimal}
 use Rattle.multihash.specs.Encoding.{IsEncoding}
-use Rattle.multihash.specs.Verdict.{Verdict, accepted, invalid_size, faulty, unexpected_eof, HasVerdict, HasWholeVerdict, IsEarlyEnd}
+use Rattle.multihash.specs.Verdict.{Verdict, accepted, invalid_size, invalid_code, faulty, unexpected_eof, HasVerdict, HasWholeVerdict, IsEarlyEnd}
 use Rattle.multihash.specs.Settling.{Settles, IsShortestSettling}
 use Rattle.std.specs.Io.KnownBytes.{IsAtEnd}
 use Rattle.multihash.specs.Reading.{Takes, CountsReader}
@@ -32,6 +32,7 @@ pub data Stops (S : ℕ) (e : Refusal) (taken : List ℕ) (new : Option (List �
 listed : (S : ℕ) (e : Refusal) (taken : List ℕ) (v : Verdict) → IsRefusal e v → HasVerdict S taken v → IsReadRefusal S e
 listed S e taken (accepted p) given has = absurd given
 listed S e taken (invalid_size size) given has = inl (size, given, has.2)
+listed S e taken (invalid_code code) given has = absurd has
 listed S e taken (faulty fault) given has = inr (inl (fault, given))
 listed S e taken unexpected_eof given has = inr (inr given)
 
@@ -39,6 +40,7 @@ listed S e taken unexpected_eof given has = inr (inr given)
 late_not_insufficient : (e : Refusal) (v : Verdict) → ¬ (IsEarlyEnd v) → IsRefusal e v → IsFaulty insufficient e → ⊥
 late_not_insufficient e (accepted p) stays given h = given
 late_not_insufficient e (invalid_size size) stays given h = cc
+late_not_insufficient e (invalid_code code) stays given h = cc
 late_not_insufficient e (faulty insufficient) stays given h = stays tt
 late_not_insufficient e (faulty overflow) stays given h = cc
 late_not_insufficient e (faulty not_minimal) stays given h = cc
@@ -48,6 +50,8 @@ late_not_io : (P : Type 0) (e : Refusal) (v : Verdict) → ¬ (IsEarlyEnd v) →
 late_not_io P e (accepted p) stays given h = absurd given
 late_not_io P e (invalid_size size) stays given (inl h) = absurd (cc (given, h.1))
 late_not_io P e (invalid_size size) stays given (inr h) = absurd (cc (given, h.1))
+late_not_io P e (invalid_code code) stays given (inl h) = absurd (cc (given, h.1))
+late_not_io P e (invalid_code code) stays given (inr h) = absurd (cc (given, h.1))
 late_not_io P e (faulty fault) stays given (inl h) = absurd (cc (given, h.1))
 late_not_io P e (faulty fault) stays given (inr h) = absurd (cc (given, h.1))
 late_not_io P e unexpected_eof stays given h = absurd (stays tt)
@@ -56,6 +60,7 @@ early_insufficient : (S : ℕ) (e : Refusal) (taken : List ℕ) (v : Verdict) �
     → (v ≡ faulty insufficient) × HasVerdict S taken (faulty insufficient)
 early_insufficient S e taken (accepted p) given has h = absurd given
 early_insufficient S e taken (invalid_size size) given has h = absurd (cc (given, h))
+early_insufficient S e taken (invalid_code code) given has h = absurd has
 early_insufficient S e taken (faulty insufficient) given has h = (refl, has)
 early_insufficient S e taken (faulty overflow) given has h = absurd (cc (given, h))
 early_insufficient S e taken (faulty not_minimal) given has h = absurd (cc (given, h))
@@ -64,6 +69,7 @@ early_insufficient S e taken unexpected_eof given has h = absurd (cc (given.1, h
 early_eof : (S : ℕ) (e : Refusal) (taken : List ℕ) (v : Verdict) → IsRefusal e v → HasVerdict S taken v → IsEof e → HasVerdict S taken unexpected_eof
 early_eof S e taken (accepted p) given has h = absurd given
 early_eof S e taken (invalid_size size) given has h = absurd (cc (given, h.1))
+early_eof S e taken (invalid_code code) given has h = absurd has
 early_eof S e taken (faulty fault) given has h = absurd (cc (given, h.1))
 early_eof S e taken unexpected_eof given has h = has
 
@@ -261,6 +267,7 @@ whole_refused : (S : ℕ) (x : List ℕ) (e : Refusal) (v : Verdict) → HasVerd
     → (w : Verdict) × HasWholeVerdict S x w × IsRefusal e w
 whole_refused S x e (accepted p) has given = absurd given
 whole_refused S x e (invalid_size size) has given = (invalid_size size, inl has, given)
+whole_refused S x e (invalid_code code) has given = absurd has
 whole_refused S x e (faulty fault) has given = (faulty fault, has, given)
 whole_refused S x e unexpected_eof has given = (unexpected_eof, has, given)
 

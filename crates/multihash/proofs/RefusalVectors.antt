@@ -1,17 +1,26 @@
 -- The refusals, each told from the others.
 use Rattle.std.proofs.Common.{◌≡◌, ℕ, refl, ap, arith, inl, inr}
-use Rattle.multihash.specs.declared.error.Kind.TheVariants.{Io, InvalidSize, Insufficient, Overflow, NotMinimal, NotBytes}
+use Rattle.multihash.specs.declared.error.Kind.TheVariants.{Io, InvalidSize, InvalidCode, Insufficient, Overflow, NotMinimal, NotBytes}
 use Rattle.multihash.specs.Varint.{VarintFault, insufficient, overflow, not_minimal}
 use Rattle.multihash.specs.Fault.{Fault, IsOther}
-use Rattle.multihash.specs.Refusal.{Refusal, of_io, of_size, of_varint, of_not_bytes, refusal_of, IsIo, IsEof, IsMemory, IsReaderFault, IsInvalidSize, IsFaulty, IsNotBytes}
+use Rattle.multihash.specs.Refusal.{Refusal, of_io, of_size, of_code, of_varint, of_not_bytes, refusal_of, IsIo, IsEof, IsMemory, IsReaderFault, IsInvalidSize, IsInvalidCode, IsFaulty, IsNotBytes}
 use Rattle.multihash.proofs.FaultVectors.{other, eof, full, memory}
 
 -- the size that a refusal names
 abbrev pub size_in : Refusal → ℕ
 size_in (of_io fault) = 0
 size_in (of_size size) = size
+size_in (of_code code) = 0
 size_in (of_varint fault) = 0
 size_in of_not_bytes = 0
+
+-- and the code
+abbrev pub code_in : Refusal → ℕ
+code_in (of_io fault) = 0
+code_in (of_size size) = 0
+code_in (of_code code) = code
+code_in (of_varint fault) = 0
+code_in of_not_bytes = 0
 
 -- ---- of each kind of error
 
@@ -20,6 +29,9 @@ of_fault fault = refl
 
 of_a_size : (size : ℕ) → refusal_of (InvalidSize size) ≡ of_size size
 of_a_size size = refl
+
+of_a_code : (code : ℕ) → refusal_of (InvalidCode code) ≡ of_code code
+of_a_code code = refl
 
 of_insufficient : refusal_of Insufficient ≡ of_varint insufficient
 of_insufficient = refl
@@ -44,6 +56,9 @@ passes_on_no_other_fault (fault, e, kind) = cc
 passes_on_no_size : ¬ (IsIo IsOther (of_size 5))
 passes_on_no_size (fault, e, kind) = cc
 
+passes_on_no_code : ¬ (IsIo IsOther (of_code 5))
+passes_on_no_code (fault, e, kind) = cc
+
 ends : IsEof (of_io eof)
 ends = (eof, refl, refl)
 
@@ -58,6 +73,9 @@ memory_is_no_end (fault, e, kind) = cc
 
 insufficient_is_no_end : ¬ (IsEof (of_varint insufficient))
 insufficient_is_no_end (fault, e, kind) = cc
+
+code_is_no_end : (code : ℕ) → ¬ (IsEof (of_code code))
+code_is_no_end code (fault, e, kind) = cc
 
 wants_memory : IsMemory (of_io memory)
 wants_memory = (memory, refl, refl)
@@ -98,6 +116,24 @@ size_5_is_not_6 h = omega (arith, ap size_in h)
 
 varint_is_no_size : ¬ (IsInvalidSize 0 (of_varint overflow))
 varint_is_no_size h = cc
+
+code_of_2_63 : IsInvalidCode 9223372036854775808 (of_code 9223372036854775808)
+code_of_2_63 = refl
+
+code_5_is_not_6 : ¬ (IsInvalidCode 6 (of_code 5))
+code_5_is_not_6 h = omega (arith, ap code_in h)
+
+size_is_no_code : (n : ℕ) → ¬ (IsInvalidCode n (of_size n))
+size_is_no_code n h = cc
+
+code_is_no_size : (n : ℕ) → ¬ (IsInvalidSize n (of_code n))
+code_is_no_size n h = cc
+
+varint_is_no_code : ¬ (IsInvalidCode 0 (of_varint overflow))
+varint_is_no_code h = cc
+
+code_is_no_overflow : (code : ℕ) → ¬ (IsFaulty overflow (of_code code))
+code_is_no_overflow code h = cc
 
 overflow_is : IsFaulty overflow (of_varint overflow)
 overflow_is = refl

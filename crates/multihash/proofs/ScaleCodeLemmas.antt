@@ -5,9 +5,8 @@ use Rattle.std.proofs.Math.Nat.{pow-suc, pow-zero, div-add-mod, div-div-eq-div-m
 use Rattle.std.proofs.lemmas.Nat.{mod_below, div_below, le_bytes_8}
 use Rattle.std.proofs.lemmas.List.Elements.{All-nil, All-cons, All-from_get_or}
 use Rattle.multihash.specs.Bytes.{IsBytes, place_value}
-use Rattle.multihash.specs.Varint.{varint_limit}
 use Rattle.multihash.specs.Scale.{IsScaleCode}
-use Rattle.multihash.proofs.DigitLemmas.{place_value-nil, place_value-cons, place_value_below}
+use Rattle.multihash.proofs.DigitLemmas.{place_value-nil, place_value-cons}
 
 byte_at-is : (i n : ℕ) → byte_at i n ≡ n / 256 ^ i % 256
 byte_at-is zero n = ap (λ (m : ℕ). m % 256) (sym (ap (λ (p : ℕ). n / p) (pow-zero 256) ∙ div-one n))
@@ -33,12 +32,11 @@ value_of_bytes (suc k) i n below =
     ∙ omega (arith, rest, next_byte i n, byte_at-is i n, div-add-mod m 256)
 
 -- the eight bytes that are written for a code
-pub code_bytes : (code : ℕ) → code < varint_limit → IsScaleCode code (to_le_bytes w64 code)
+pub code_bytes : (code : ℕ) → code < 256 ^ 8 → IsScaleCode code (to_le_bytes w64 code)
 code_bytes code range = record {
   eight = refl;
   are_bytes = are_bytes 8 0 code;
   value = value_of_bytes 8 0 code (rw (pow-zero 256, div-one code) (omega (arith, range))) ∙ (ap (λ (p : ℕ). code / p) (pow-zero 256) ∙ div-one code);
-  in_range = range;
 }
 
 -- eight bytes are those of some code
@@ -47,14 +45,13 @@ some_code bytes eight each = record {
   eight = eight;
   are_bytes = all;
   value = refl;
-  in_range = omega (arith, place_value_below 256 bytes all, ap (λ (k : ℕ). 256 ^ k) eight);
 }
   where
     all : IsBytes bytes
     all = All-from_get_or (λ b. b < 256) bytes 0 (λ i _. each i)
 
 -- and of the code that is read from them
-pub code_read : (bytes : List ℕ) (code : ℕ) → length bytes ≡ 8 → ((i : ℕ) → get_or bytes i 0 < 256) → code < varint_limit
+pub code_read : (bytes : List ℕ) (code : ℕ) → length bytes ≡ 8 → ((i : ℕ) → get_or bytes i 0 < 256) → code < 256 ^ 8
     → code ≡ from_le_bytes w64 bytes → IsScaleCode code bytes
 code_read bytes code eight each range read =
     rw (← le_bytes_8 bytes code eight each read) (code_bytes code range)

@@ -4,14 +4,15 @@ use Rattle.std.specs.List.{All}
 use Rattle.std.proofs.Math.Nat.{pow-suc, pow-zero, div-add-mod}
 use Rattle.std.proofs.lemmas.Nat.{mod_below, div_below}
 use Rattle.std.proofs.lemmas.Bool.{cases_lt, lt-ltb, le-ltb}
-use Rattle.std.proofs.lemmas.List.{take_at, take-append-drop, length-take-le, drop_more}
-use Rattle.std.proofs.lemmas.List.Elements.{All-nil, All-cons, All-take}
+use Rattle.std.proofs.lemmas.List.{take_at, take-append-drop, length-take-le}
+use Rattle.std.proofs.lemmas.List.Elements.{All-nil, All-cons, All-take, All-head, All-same}
 use Rattle.multihash.specs.Bytes.{IsBytes, IsBeginning, place_value}
 use Rattle.multihash.specs.Pair.{Pair}
 use Rattle.multihash.specs.Varint.{varint_limit}
-use Rattle.multihash.specs.Verdict.{Verdict, accepted, invalid_size, faulty, unexpected_eof}
-use Rattle.multihash.specs.Scale.{IsScale, HasScaleSize, HasScaleVerdict}
+use Rattle.multihash.specs.Verdict.{Verdict, accepted, invalid_size, invalid_code, faulty, unexpected_eof}
+use Rattle.multihash.specs.Scale.{IsScaleCode, IsScale, HasScaleSize, HasScaleVerdict}
 use Rattle.multihash.proofs.DigitLemmas.{place_value-nil, place_value-cons, place_value_below, place_value_unique}
+use Rattle.multihash.proofs.MarkedLemmas.{All-append_right}
 use Rattle.multihash.proofs.VerdictLemmas.{same_cut}
 
 -- a number in so many digits
@@ -43,7 +44,8 @@ scale_exists p below size =
       d.digits ++ length p.digest ∷ p.digest,
       record {
         code = d.digits;
-        is_code = record { eight = d.long; are_bytes = d.each; value = d.value; in_range = below };
+        is_code = record { eight = d.long; are_bytes = d.each; value = d.value };
+        in_range = below;
         size = size;
         spelled = refl;
       },
@@ -62,54 +64,67 @@ scale_length p bytes h = omega (arith, ap length h.spelled, length-append h.code
 
 -- ---- the verdict
 
-scale_judged : ℕ → ℕ → ℕ → List ℕ → Verdict
-scale_judged S code size rest =
+-- the verdict on what follows a code in range
+scale_behind : ℕ → ℕ → List ℕ → Verdict
+scale_behind S code [] = unexpected_eof
+scale_behind S code (size ∷ rest) =
     cond (ltb S size) (invalid_size size)
     (cond (ltb (length rest) size) unexpected_eof (accepted (record { code = code; digest = take size rest })))
 
--- too short for a size, or judged by the size and what follows
+scale_judged : ℕ → ℕ → List ℕ → Verdict
+scale_judged S code rest = cond (ltb code varint_limit) (scale_behind S code rest) (invalid_code code)
+
+-- too short for a code, or judged by the code and what follows
 abbrev ScaleTrace : ℕ → List ℕ → Verdict → Type 0
 ScaleTrace S x v =
-    ((length x < 9) × (v ≡ unexpected_eof))
-    ⊎ ((size : ℕ) × (rest : List ℕ) × (h : HasScaleSize size x rest) × (v ≡ scale_judged S h.code size rest))
+    ((length x < 8) × (v ≡ unexpected_eof))
+    ⊎ ((code : ℕ) × (bytes : List ℕ) × (rest : List ℕ) × IsScaleCode code bytes × (x ≡ bytes ++ rest) × (v ≡ scale_judged S code rest))
 
 scale_trace : (S : ℕ) (x : List ℕ) (v : Verdict) → HasScaleVerdict S x v → ScaleTrace S x v
-unfolding scale_judged
+unfolding scale_judged scale_behind
 scale_trace S x (accepted p) (bytes, rest, h, fits, cut) =
     inr (
-      length p.digest,
-      p.digest ++ rest,
-      record {
-        code = p.code;
-        code_bytes = h.code;
-        is_code = h.is_code;
-        cut = cut ∙ (ap (λ (z : List ℕ). z ++ rest) h.spelled ∙ append_assoc h.code (length p.digest ∷ p.digest) rest);
-      },
+      p.code,
+      h.code,
+      length p.digest ∷ (p.digest ++ rest),
+      h.is_code,
+      cut ∙ (ap (λ (z : List ℕ). z ++ rest) h.spelled ∙ append_assoc h.code (length p.digest ∷ p.digest) rest),
       rw (
+        lt-ltb p.code varint_limit h.in_range,
         le-ltb S (length p.digest) fits,
         le-ltb (length (p.digest ++ rest)) (length p.digest) (omega (arith, length-append p.digest rest)),
         take_at p.digest rest (length p.digest) refl,
       ) refl,
     )
-scale_trace S x (invalid_size size) (rest, h, over) = inr (size, rest, h, rw (lt-ltb S size over) refl)
+scale_trace S x (invalid_code code) (bytes, rest, is_code, above, cut) =
+    inr (code, bytes, rest, is_code, cut, rw (le-ltb code varint_limit above) refl)
+scale_trace S x (invalid_size size) (rest, h, over) =
+    inr (h.code, h.code_bytes, size ∷ rest, h.is_code, h.cut, rw (lt-ltb h.code varint_limit h.in_range, lt-ltb S size over) refl)
 scale_trace S x (faulty fault) h = absurd h
 scale_trace S x unexpected_eof (inl short) = inl (short, refl)
-scale_trace S x unexpected_eof (inr (size, rest, h, within, short)) =
-    inr (size, rest, h, rw (le-ltb S size within, lt-ltb (length rest) size short) refl)
+scale_trace S x unexpected_eof (inr (inl (code, is_code, below))) =
+    inr (code, x, [], is_code, sym (append-nil x), rw (lt-ltb code varint_limit below) refl)
+scale_trace S x unexpected_eof (inr (inr (size, rest, h, within, short))) =
+    inr (
+      h.code,
+      h.code_bytes,
+      size ∷ rest,
+      h.is_code,
+      h.cut,
+      rw (lt-ltb h.code varint_limit h.in_range, le-ltb S size within, lt-ltb (length rest) size short) refl,
+    )
 
-no_size : (size : ℕ) (x rest : List ℕ) → length x < 9 → HasScaleSize size x rest → ⊥
-no_size size x rest short h = omega (arith, ap length h.cut, length-append h.code_bytes (size ∷ rest), h.is_code.eight)
+no_code : (code : ℕ) (x bytes rest : List ℕ) → length x < 8 → IsScaleCode code bytes → x ≡ bytes ++ rest → ⊥
+no_code code x bytes rest short is_code cut = omega (arith, ap length cut, length-append bytes rest, is_code.eight)
 
 scale_trace_unique : (S : ℕ) (x : List ℕ) (v w : Verdict) → ScaleTrace S x v → ScaleTrace S x w → v ≡ w
 scale_trace_unique S x v w (inl h) (inl k) = h.1 ∙ sym k.1
-scale_trace_unique S x v w (inl h) (inr (size, rest, k, e)) = absurd (no_size size x rest h.0 k)
-scale_trace_unique S x v w (inr (size, rest, h, e)) (inl k) = absurd (no_size size x rest k.0 h)
-scale_trace_unique S x v w (inr (m, r, h, e)) (inr (n, q, k, d)) =
-    let cut = same_cut h.code_bytes k.code_bytes (m ∷ r) (n ∷ q) (h.is_code.eight ∙ sym k.is_code.eight) (sym h.cut ∙ k.cut) in
-    let codes : h.code ≡ k.code = sym h.is_code.value ∙ (ap (place_value 256) cut.0 ∙ k.is_code.value) in
-    let sizes : m ≡ n = cc (cut.1) in
-    let rests : r ≡ q = cc (cut.1) in
-    cc (e, d, codes, sizes, rests)
+scale_trace_unique S x v w (inl h) (inr (n, b, q, k, e, d)) = absurd (no_code n x b q h.0 k e)
+scale_trace_unique S x v w (inr (m, a, r, h, c, e)) (inl k) = absurd (no_code m x a r k.0 h c)
+scale_trace_unique S x v w (inr (m, a, r, h, c, e)) (inr (n, b, q, k, d, f)) =
+    let cut = same_cut a b r q (h.eight ∙ sym k.eight) (sym c ∙ d) in
+    let codes : m ≡ n = sym h.value ∙ (ap (place_value 256) cut.0 ∙ k.value) in
+    cc (e, f, codes, cut.1)
 
 pub scale_verdict_unique : (S : ℕ) (x : List ℕ) (v w : Verdict) → HasScaleVerdict S x v → HasScaleVerdict S x w → v ≡ w
 scale_verdict_unique S x v w h k = scale_trace_unique S x v w (scale_trace S x v h) (scale_trace S x w k)
@@ -135,16 +150,12 @@ scale_split p q a b r s h k e =
     let forms : a ≡ b = scale_same q a b (subst (λ x. IsScale x a) pairs h) k in
     (pairs, forms, (same_cut a b r s (ap length forms) e).1)
 
--- a list up to one place, the number there, and the rest
-split_at : (k : ℕ) (x : List ℕ) → k < length x → x ≡ take k x ++ get_or x k 0 ∷ drop (k + 1) x
-split_at k x below = sym (take-append-drop k x) ∙ ap (λ (back : List ℕ). take k x ++ back) (drop_more x k 0 below)
-
 scale_sized : (S size : ℕ) (x rest : List ℕ) → HasScaleSize size x rest → size < 256 → (v : Verdict) × HasScaleVerdict S x v
 scale_sized S size x rest h byte =
     elim (cases_lt S size) [
       | inl over ↦ (invalid_size size, (rest, h, over))
       | inr within ↦ elim (cases_lt (length rest) size) [
-        | inl short ↦ (unexpected_eof, inr (size, rest, h, within, short))
+        | inl short ↦ (unexpected_eof, inr (inr (size, rest, h, within, short)))
         | inr full ↦ whole within full
       ]
     ]
@@ -159,33 +170,50 @@ scale_sized S size x rest h byte =
           (
             h.code_bytes ++ length digest ∷ digest,
             drop size rest,
-            record { code = h.code_bytes; is_code = h.is_code; size = omega arith; spelled = refl },
+            record { code = h.code_bytes; is_code = h.is_code; in_range = h.in_range; size = omega arith; spelled = refl },
             omega arith,
             h.cut ∙ (ap (λ (z : List ℕ). h.code_bytes ++ z) split ∙ sym (append_assoc h.code_bytes (length digest ∷ digest) (drop size rest))),
           ),
         )
 
-code_in_range : (code : List ℕ) → length code ≡ 8 → IsBytes code → place_value 256 code < varint_limit
-code_in_range code eight bytes = omega (arith, place_value_below 256 code bytes, ap (λ (k : ℕ). 256 ^ k) eight)
+scale_coded : (S code : ℕ) (x bytes rest : List ℕ) → IsScaleCode code bytes → x ≡ bytes ++ rest → IsBytes rest
+    → code < varint_limit → (v : Verdict) × HasScaleVerdict S x v
+scale_coded S code x bytes [] is_code cut each below =
+    (unexpected_eof, inr (inl (code, subst (IsScaleCode code) (sym (cut ∙ append-nil bytes)) is_code, below)))
+scale_coded S code x bytes (size ∷ rest) is_code cut each below =
+    scale_sized S size x rest (record { code = code; code_bytes = bytes; is_code = is_code; in_range = below; cut = cut })
+    (All-head (λ b. b < 256) size rest each)
 
 -- k is 8, and a variable, so that `take` stays as it is
-scale_from : (k S : ℕ) (x : List ℕ) → k ≡ 8 → IsBytes x → k < length x → (v : Verdict) × HasScaleVerdict S x v
+scale_from : (k S : ℕ) (x : List ℕ) → k ≡ 8 → IsBytes x → k ≤ length x → (v : Verdict) × HasScaleVerdict S x v
 scale_from k S x eight bytes long =
-    scale_sized S (get_or x k 0) x (drop (k + 1) x) (record {
-      code = place_value 256 (take k x);
-      code_bytes = take k x;
-      is_code = record {
-        eight = length-take-le k x (omega arith) ∙ eight;
-        are_bytes = All-take (λ b. b < 256) k x bytes;
-        value = refl;
-        in_range = code_in_range (take k x) (length-take-le k x (omega arith) ∙ eight) (All-take (λ b. b < 256) k x bytes);
-      };
-      cut = split_at k x long;
-    }) (bytes k 0 long)
+    elim (cases_lt code varint_limit) [
+      | inl below ↦ scale_coded S code x front (drop k x) is_code cut (All-append_right (λ b. b < 256) front (drop k x) whole) below
+      | inr above ↦ (invalid_code code, (front, drop k x, is_code, above, cut))
+    ]
+  where
+    front : List ℕ
+    front = take k x
+
+    code : ℕ
+    code = place_value 256 front
+
+    cut : x ≡ front ++ drop k x
+    cut = sym (take-append-drop k x)
+
+    whole : IsBytes (front ++ drop k x)
+    whole = All-same (λ b. b < 256) (front ++ drop k x) x (sym cut) bytes
+
+    is_code : IsScaleCode code front
+    is_code = record {
+      eight = length-take-le k x long ∙ eight;
+      are_bytes = All-take (λ b. b < 256) k x bytes;
+      value = refl;
+    }
 
 pub scale_verdict_exists : (S : ℕ) (x : List ℕ) → IsBytes x → (v : Verdict) × HasScaleVerdict S x v
 scale_verdict_exists S x bytes =
-    elim (cases_lt (length x) 9) [
+    elim (cases_lt (length x) 8) [
       | inl short ↦ (unexpected_eof, inl short)
       | inr long ↦ scale_from 8 S x refl bytes long
     ]

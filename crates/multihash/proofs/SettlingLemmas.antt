@@ -7,7 +7,7 @@ use Rattle.multihash.specs.Bytes.{IsBytes, IsBeginning, IsProperBeginning, Exact
 use Rattle.multihash.specs.Pair.{Pair, FitsBuffer, digest_limit}
 use Rattle.multihash.specs.Varint.{most_marked, IsMarked, marked, IsVarint, VarintFault, insufficient, overflow, not_minimal, IsInsufficient, IsNotMinimal, HasFaultyFront}
 use Rattle.multihash.specs.Encoding.{IsEncoding}
-use Rattle.multihash.specs.Verdict.{Verdict, accepted, invalid_size, faulty, unexpected_eof, BeginsWith, HasSize, HasCode, HasVerdict, IsEarlyEnd}
+use Rattle.multihash.specs.Verdict.{Verdict, accepted, invalid_size, invalid_code, faulty, unexpected_eof, BeginsWith, HasSize, HasCode, HasVerdict, IsEarlyEnd}
 use Rattle.multihash.specs.Settling.{Settles, IsShortestSettling}
 use Rattle.multihash.proofs.BeginningLemmas.{split_beginning, compare_beginnings}
 use Rattle.multihash.proofs.DigitLemmas.{place_value-cons, place_value-nil}
@@ -65,6 +65,7 @@ pub verdict_kept : (S : ℕ) (x more : List ℕ) (v : Verdict) → ¬ (IsEarlyEn
 verdict_kept S x more (accepted p) late (rest, b, fits) =
     (rest ++ more, record { encoding = b.encoding; encodes = b.encodes; cut = append_more x b.encoding rest more b.cut }, fits)
 verdict_kept S x more (invalid_size size) late (rest, h, over) = (rest ++ more, size_kept size x rest more h, over)
+verdict_kept S x more (invalid_code code) late h = h
 verdict_kept S x more (faulty f) late (inl h) = inl (fault_kept f x more late h)
 verdict_kept S x more (faulty f) late (inr (rest, c, h)) =
     inr (rest ++ more, code_kept x rest more c, fault_kept f rest more late h)
@@ -180,6 +181,7 @@ open_digest S size x rest h within short = record {
 opens : (S : ℕ) (x : List ℕ) (v : Verdict) → IsEarlyEnd v → HasVerdict S x v → Opens S x
 opens S x (accepted p) early h = absurd early
 opens S x (invalid_size size) early h = absurd early
+opens S x (invalid_code code) early h = absurd early
 opens S x (faulty insufficient) early (inl h) = open_insufficient S x h
 opens S x (faulty insufficient) early (inr (rest, c, h)) = open_size S x rest c h
 opens S x (faulty overflow) early h = absurd early
@@ -208,6 +210,7 @@ settles_exactly S x v h = (λ s early. early_not_settles S x v early h s, λ lat
 early_or_late : (v : Verdict) → IsEarlyEnd v ⊎ ¬ (IsEarlyEnd v)
 early_or_late (accepted p) = inr (λ e. e)
 early_or_late (invalid_size size) = inr (λ e. e)
+early_or_late (invalid_code code) = inr (λ e. e)
 early_or_late (faulty insufficient) = inl tt
 early_or_late (faulty overflow) = inr (λ e. e)
 early_or_late (faulty not_minimal) = inr (λ e. e)
@@ -381,6 +384,7 @@ pub shortest_exists : (S : ℕ) (x : List ℕ) (v : Verdict) → HasVerdict S x 
     → (t : List ℕ) × IsShortestSettling S x t
 shortest_exists S x (accepted p) (rest, b, fits) late = (b.encoding, shortest_pair S p x rest b fits)
 shortest_exists S x (invalid_size size) (rest, h, over) late = (h.code_bytes ++ h.size_bytes, shortest_size S size x rest h over)
+shortest_exists S x (invalid_code code) h late = absurd h
 shortest_exists S x (faulty f) (inl h) late =
     let s = shows_fault f x late h in (s.shown, shortest_code_fault S f x late s)
 shortest_exists S x (faulty f) (inr (rest, c, h)) late =

@@ -5,7 +5,7 @@ use Rattle.multihash.specs.Verdict.{accepted, invalid_size, faulty, unexpected_e
 use Rattle.multihash.specs.Settling.{Settles, IsShortestSettling}
 use Rattle.multihash.proofs.PairVectors.{pair}
 use Rattle.multihash.proofs.VarintVectors.{all_marked, varint_0, varint_4, varint_133}
-use Rattle.multihash.proofs.VerdictVectors.{size_5, empty_input, size_open, code_padded, code_alone, digest_cut, digest_full, digest_of_255_missing}
+use Rattle.multihash.proofs.VerdictVectors.{size_5, empty_input, eight_marked, size_open, code_padded, code_alone, digest_cut, digest_full, digest_of_255_missing}
 use Rattle.multihash.proofs.SettlingLemmas.{early_not_settles, late_settles, shortest_pair, shortest_size, shortest_code_fault, shortest_size_fault}
 
 -- a size that the buffer can't hold, whatever follows
@@ -62,8 +62,8 @@ not_begun : ¬ (IsShortestSettling 4 (0 ∷ 5 ∷ 9 ∷ []) (0 ∷ 6 ∷ []))
 not_begun h = omega (arith, ap (λ (z : List ℕ). get_or z 1 0) h.begins.1)
 
 -- an input that is longer than what settles it, and what does: the bytes that a call takes
-abbrev nine : List ℕ
-nine = 0x80 ∷ 0x80 ∷ 0x80 ∷ 0x80 ∷ 0x80 ∷ 0x80 ∷ 0x80 ∷ 0x80 ∷ 0x80 ∷ []
+abbrev eight : List ℕ
+eight = 0x80 ∷ 0x80 ∷ 0x80 ∷ 0x80 ∷ 0x80 ∷ 0x80 ∷ 0x80 ∷ 0x80 ∷ []
 
 shortest_of_padded_code : IsShortestSettling 4 (0x80 ∷ 0x00 ∷ 0x07 ∷ []) (0x80 ∷ 0x00 ∷ [])
 shortest_of_padded_code =
@@ -86,26 +86,32 @@ shortest_of_padded_size =
       has = record { front = 0x85 ∷ []; rest = []; all_marked = all_marked (0x85 ∷ []) refl; some = omega arith; few = omega arith; cut = refl };
     })
 
-shortest_of_overflow : IsShortestSettling 4 (nine ++ 0x02 ∷ 0x07 ∷ []) (nine ++ 0x02 ∷ [])
-shortest_of_overflow =
-    shortest_code_fault 4 overflow (nine ++ 0x02 ∷ 0x07 ∷ []) (λ early. early) (record {
-      shown = nine ++ 0x02 ∷ [];
-      rest = 0x07 ∷ [];
+-- a ninth marked byte is enough, whatever follows
+shortest_of_overflow : (rest : List ℕ) → IsShortestSettling 4 (eight ++ 0x80 ∷ rest) (eight ++ 0x80 ∷ [])
+shortest_of_overflow rest =
+    shortest_code_fault 4 overflow (eight ++ 0x80 ∷ rest) (λ early. early) (record {
+      shown = eight ++ 0x80 ∷ [];
+      rest = rest;
       cut = refl;
-      step = record { front = nine; last = 0x02; all_marked = all_marked nine refl; few = omega arith; cut = refl };
-      has = record { front = nine; byte = 0x02; rest = []; all_marked = all_marked nine refl; most = refl; too_large = omega arith; cut = refl };
+      step = record { front = eight; last = 0x80; all_marked = all_marked eight refl; few = omega arith; cut = refl };
+      has = record { front = eight; byte = 0x80; rest = []; all_marked = all_marked eight refl; most = refl; too_large = omega arith; cut = refl };
     })
 
--- a marked byte behind nine marked ones is enough
-shortest_of_ten_marked : IsShortestSettling 4 (nine ++ 0x81 ∷ 0x07 ∷ []) (nine ++ 0x81 ∷ [])
-shortest_of_ten_marked =
-    shortest_code_fault 4 overflow (nine ++ 0x81 ∷ 0x07 ∷ []) (λ early. early) (record {
-      shown = nine ++ 0x81 ∷ [];
-      rest = 0x07 ∷ [];
+-- in a size too: one byte of the code, and nine
+shortest_of_size_overflow : IsShortestSettling 4 (0x00 ∷ eight ++ 0xff ∷ 0x01 ∷ []) (0x00 ∷ eight ++ 0xff ∷ [])
+shortest_of_size_overflow =
+    shortest_size_fault 4 overflow (0x00 ∷ eight ++ 0xff ∷ 0x01 ∷ []) (eight ++ 0xff ∷ 0x01 ∷ []) (λ early. early)
+    (record { code = 0; code_bytes = 0x00 ∷ []; is_code = varint_0; cut = refl }) (record {
+      shown = eight ++ 0xff ∷ [];
+      rest = 0x01 ∷ [];
       cut = refl;
-      step = record { front = nine; last = 0x81; all_marked = all_marked nine refl; few = omega arith; cut = refl };
-      has = record { front = nine; byte = 0x81; rest = []; all_marked = all_marked nine refl; most = refl; too_large = omega arith; cut = refl };
+      step = record { front = eight; last = 0xff; all_marked = all_marked eight refl; few = omega arith; cut = refl };
+      has = record { front = eight; byte = 0xff; rest = []; all_marked = all_marked eight refl; most = refl; too_large = omega arith; cut = refl };
     })
+
+-- eight wait
+eight_marked_wait : ¬ (Settles 4 eight)
+eight_marked_wait = early_not_settles 4 eight (faulty insufficient) tt eight_marked
 
 shortest_of_empty_digest : IsShortestSettling 4 (0x00 ∷ 0x00 ∷ 0x07 ∷ []) (0x00 ∷ 0x00 ∷ [])
 shortest_of_empty_digest =

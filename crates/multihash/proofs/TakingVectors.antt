@@ -5,7 +5,7 @@ use Rattle.multihash.specs.Bytes.{IsProperBeginning}
 use Rattle.multihash.specs.Varint.{VarintFault, insufficient, overflow, not_minimal, IsVarint, IsInsufficient, HasFaultyFront}
 use Rattle.multihash.specs.Verdict.{Verdict, accepted, invalid_size, faulty, unexpected_eof, HasVerdict, IsEarlyEnd}
 use Rattle.multihash.specs.Reading.{Takes}
-use Rattle.multihash.specs.Refusal.{of_io, of_size, of_varint, of_not_bytes, IsFaulty}
+use Rattle.multihash.specs.Refusal.{of_io, of_size, of_code, of_varint, of_not_bytes, IsFaulty}
 use Rattle.multihash.specs.Taking.{IsVarintRefusal, IsFrontRefusal, BeginsNoVarint, TakesVarint, IsReadRefusal, TakesAtVarintRefusal, TakesAtRefusal, TakesShortestSettling, TakesUnsettled}
 use Rattle.multihash.proofs.VarintLemmas.{front_unique, number, fault, varint_unique}
 use Rattle.multihash.proofs.VerdictLemmas.{verdict_unique}
@@ -25,6 +25,9 @@ varint_refusal = (overflow, refl)
 
 size_is_no_varint_refusal : ¬ (IsVarintRefusal (of_size 5))
 size_is_no_varint_refusal (f, e) = cc
+
+code_is_no_varint_refusal : (code : ℕ) → ¬ (IsVarintRefusal (of_code code))
+code_is_no_varint_refusal code (f, e) = cc
 
 fault_is_no_varint_refusal : ¬ (IsVarintRefusal (of_io eof))
 fault_is_no_varint_refusal (f, e) = cc
@@ -70,6 +73,12 @@ read_refuses_no_size_that_fits : ¬ (IsReadRefusal 4 (of_size 4))
 read_refuses_no_size_that_fits (inl (size, e, large)) = omega (arith, ap size_in e, large)
 read_refuses_no_size_that_fits (inr (inl (f, e))) = cc
 read_refuses_no_size_that_fits (inr (inr (f, e, kind))) = cc
+
+-- a varint has no number that is too large for a code
+read_refuses_no_code : (code : ℕ) → ¬ (IsReadRefusal 4 (of_code code))
+read_refuses_no_code code (inl (size, e, large)) = cc
+read_refuses_no_code code (inr (inl (f, e))) = cc
+read_refuses_no_code code (inr (inr (f, e, kind))) = cc
 
 read_refuses_no_value : ¬ (IsReadRefusal 4 of_not_bytes)
 read_refuses_no_value (inl (size, e, large)) = cc

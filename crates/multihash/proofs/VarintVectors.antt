@@ -94,14 +94,6 @@ pub varint_9223372036854775807 : IsVarint 9223372036854775807 (0xff ∷ 0xff ∷
 unfolding place_value ends_well
 varint_9223372036854775807 = varint_of (0x7f ∷ 0x7f ∷ 0x7f ∷ 0x7f ∷ 0x7f ∷ 0x7f ∷ 0x7f ∷ 0x7f ∷ []) 0x7f 9223372036854775807 refl refl refl refl
 
-pub varint_9223372036854775808 : IsVarint 9223372036854775808 (0x80 ∷ 0x80 ∷ 0x80 ∷ 0x80 ∷ 0x80 ∷ 0x80 ∷ 0x80 ∷ 0x80 ∷ 0x80 ∷ 0x01 ∷ [])
-unfolding place_value ends_well
-varint_9223372036854775808 = varint_of (0x00 ∷ 0x00 ∷ 0x00 ∷ 0x00 ∷ 0x00 ∷ 0x00 ∷ 0x00 ∷ 0x00 ∷ 0x00 ∷ []) 0x01 9223372036854775808 refl refl refl refl
-
-pub varint_18446744073709551615 : IsVarint 18446744073709551615 (0xff ∷ 0xff ∷ 0xff ∷ 0xff ∷ 0xff ∷ 0xff ∷ 0xff ∷ 0xff ∷ 0xff ∷ 0x01 ∷ [])
-unfolding place_value ends_well
-varint_18446744073709551615 = varint_of (0x7f ∷ 0x7f ∷ 0x7f ∷ 0x7f ∷ 0x7f ∷ 0x7f ∷ 0x7f ∷ 0x7f ∷ 0x7f ∷ []) 0x01 18446744073709551615 refl refl refl refl
-
 pub varint_5 : IsVarint 5 (0x05 ∷ [])
 unfolding place_value ends_well
 varint_5 = varint_of [] 0x05 5 refl refl refl refl
@@ -154,8 +146,8 @@ no_padded_300 n = not_with_fault n (0xac ∷ 0x82 ∷ 0x00 ∷ []) not_minimal (
 no_varint_of_limit : (bytes : List ℕ) → ¬ (IsVarint varint_limit bytes)
 no_varint_of_limit bytes v = omega (arith, v.in_range)
 
-no_varint_of_18446744073709551616 : (bytes : List ℕ) → ¬ (IsVarint 18446744073709551616 bytes)
-no_varint_of_18446744073709551616 bytes v = omega (arith, v.in_range)
+no_varint_of_9223372036854775808 : (bytes : List ℕ) → ¬ (IsVarint 9223372036854775808 bytes)
+no_varint_of_9223372036854775808 bytes v = omega (arith, v.in_range)
 
 no_two_varints : (n : ℕ) → ¬ (IsVarint n (0x01 ∷ 0x01 ∷ []))
 no_two_varints n v =
@@ -299,6 +291,11 @@ zero_too_late =
     (λ e. cc)
 
 -- ---- what only long inputs show
+
+-- a byte more than a varint may have, as 2^63 would need it
+no_varint_of_ten_bytes : (n : ℕ)
+    → ¬ (IsVarint n (0x80 ∷ 0x80 ∷ 0x80 ∷ 0x80 ∷ 0x80 ∷ 0x80 ∷ 0x80 ∷ 0x80 ∷ 0x80 ∷ 0x01 ∷ []))
+no_varint_of_ten_bytes n = not_with_fault n (most ++ 0x80 ∷ 0x01 ∷ []) overflow overflow_at_marked
 
 -- the padding may stand behind as many marked bytes as a varint has
 no_longest_padded : (n : ℕ) → ¬ (IsVarint n (most ++ 0x00 ∷ []))

@@ -7,7 +7,7 @@ use Rattle.multihash.specs.Bytes.{IsBytes}
 use Rattle.multihash.specs.Pair.{Pair, FitsBuffer, digest_limit}
 use Rattle.multihash.specs.Varint.{varint_limit, IsVarint}
 use Rattle.multihash.specs.Encoding.{IsEncoding}
-use Rattle.multihash.specs.Verdict.{Verdict, accepted, invalid_size, faulty, unexpected_eof, BeginsWith, HasSize, HasVerdict, HasWholeVerdict}
+use Rattle.multihash.specs.Verdict.{Verdict, accepted, invalid_size, invalid_code, faulty, unexpected_eof, BeginsWith, HasSize, HasVerdict, HasWholeVerdict}
 use Rattle.multihash.proofs.MarkedLemmas.{All-append_right}
 use Rattle.multihash.proofs.VarintLemmas.{varint_exists, varint_unique, Front, number, fault, HasFront, front_unique, front_exists}
 
@@ -101,6 +101,7 @@ trace : (S : ℕ) (x : List ℕ) (v : Verdict) → HasVerdict S x v → Trace S 
 unfolding judged
 trace S x (accepted p) (rest, b, fits) = trace_pair S x rest p b fits
 trace S x (invalid_size size) (rest, h, over) = trace_size S size x rest (invalid_size size) h (rw (lt-ltb (digest_limit S) size over) refl)
+trace S x (invalid_code code) h = absurd h
 trace S x (faulty f) (inl h) = (fault f, h, refl)
 trace S x (faulty f) (inr (rest, c, h)) = (number c.code rest, (c.code_bytes, c.is_code, c.cut), (fault f, h, refl))
 trace S x unexpected_eof (size, rest, h, within, short) =
@@ -179,6 +180,7 @@ left_over p left = cond (ltb 0 left) (invalid_size left) (accepted p)
 abbrev WholeAfter : List ℕ → Verdict → Verdict → Type 0
 WholeAfter x (accepted p) v = (rest : List ℕ) × BeginsWith p x rest × (v ≡ left_over p (length rest))
 WholeAfter x (invalid_size size) v = v ≡ invalid_size size
+WholeAfter x (invalid_code code) v = v ≡ invalid_code code
 WholeAfter x (faulty f) v = v ≡ faulty f
 WholeAfter x unexpected_eof v = v ≡ unexpected_eof
 
@@ -187,6 +189,7 @@ whole_after_unique x (accepted p) v w (r, b, e) (q, c, d) =
     let same = encoding_unique p p b.encoding c.encoding r q b.encodes c.encodes (sym b.cut ∙ c.cut) in
     e ∙ (ap (λ (z : List ℕ). left_over p (length z)) same.2 ∙ sym d)
 whole_after_unique x (invalid_size size) v w e d = e ∙ sym d
+whole_after_unique x (invalid_code code) v w e d = e ∙ sym d
 whole_after_unique x (faulty f) v w e d = e ∙ sym d
 whole_after_unique x unexpected_eof v w e d = e ∙ sym d
 
@@ -198,6 +201,7 @@ whole_trace S x (accepted p) (e, fits) =
 whole_trace S x (invalid_size size) (inl h) = (invalid_size size, h, refl)
 whole_trace S x (invalid_size size) (inr (p, rest, b, fits, len, pos)) =
     (accepted p, (rest, b, fits), (rest, b, rw (len, lt-ltb 0 size pos) refl))
+whole_trace S x (invalid_code code) h = (invalid_code code, h, refl)
 whole_trace S x (faulty f) h = (faulty f, h, refl)
 whole_trace S x unexpected_eof h = (unexpected_eof, h, refl)
 
@@ -219,6 +223,7 @@ whole_from S x (accepted p) (rest, b, fits) =
     all : rest ≡ [] → IsEncoding p x
     all e = subst (IsEncoding p) (sym (b.cut ∙ (ap (λ (z : List ℕ). b.encoding ++ z) e ∙ append-nil b.encoding))) b.encodes
 whole_from S x (invalid_size size) h = (invalid_size size, inl h)
+whole_from S x (invalid_code code) h = (invalid_code code, h)
 whole_from S x (faulty f) h = (faulty f, h)
 whole_from S x unexpected_eof h = (unexpected_eof, h)
 

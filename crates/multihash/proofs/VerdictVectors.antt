@@ -2,32 +2,38 @@
 use Rattle.std.proofs.Common.{◌≡◌, ℕ, List, [], ◌∷◌, ◌++◌, length, refl, sym, ap, arith, inl, inr, length-append}
 use Rattle.multihash.specs.Pair.{Pair}
 use Rattle.multihash.specs.Varint.{VarintFault, insufficient, overflow, not_minimal, HasFaultyFront}
-use Rattle.multihash.specs.Verdict.{Verdict, accepted, invalid_size, faulty, unexpected_eof, BeginsWith, HasSize, HasCode, HasVerdict, HasLeftOver, HasWholeVerdict, IsEarlyEnd}
-use Rattle.multihash.proofs.VarintVectors.{all_marked, varint_0, varint_1, varint_4, varint_5, varint_133, varint_255, varint_256, varint_9223372036854775808, varint_18446744073709551615}
+use Rattle.multihash.specs.Verdict.{Verdict, accepted, invalid_size, invalid_code, faulty, unexpected_eof, BeginsWith, HasSize, HasCode, HasVerdict, HasLeftOver, HasWholeVerdict, IsEarlyEnd}
+use Rattle.multihash.proofs.VarintVectors.{all_marked, varint_0, varint_1, varint_4, varint_5, varint_133, varint_255, varint_256, varint_72057594037927936, varint_9223372036854775807}
 use Rattle.multihash.proofs.PairVectors.{pair}
 use Rattle.multihash.proofs.LengthLemmas.{varint_some}
 use Rattle.multihash.proofs.VerdictLemmas.{encoding_same, same_number, verdict_unique, whole_verdict_unique}
 use Rattle.multihash.proofs.VarintLemmas.{number, fault, front_unique}
 
+abbrev pub eight : List ℕ
+eight = 0x80 ∷ 0x80 ∷ 0x80 ∷ 0x80 ∷ 0x80 ∷ 0x80 ∷ 0x80 ∷ 0x80 ∷ []
+
 abbrev pub nine : List ℕ
-nine = 0x80 ∷ 0x80 ∷ 0x80 ∷ 0x80 ∷ 0x80 ∷ 0x80 ∷ 0x80 ∷ 0x80 ∷ 0x80 ∷ []
+nine = eight ++ 0x80 ∷ []
 
 -- what a verdict names, where it names one
 abbrev pub code_named : Verdict → ℕ
 code_named (accepted p) = p.code
 code_named (invalid_size size) = 0
+code_named (invalid_code code) = code
 code_named (faulty f) = 0
 code_named unexpected_eof = 0
 
 abbrev pub size_named : Verdict → ℕ
 size_named (accepted p) = 0
 size_named (invalid_size size) = size
+size_named (invalid_code code) = 0
 size_named (faulty f) = 0
 size_named unexpected_eof = 0
 
 abbrev digest_named : Verdict → List ℕ
 digest_named (accepted p) = p.digest
 digest_named (invalid_size size) = []
+digest_named (invalid_code code) = []
 digest_named (faulty f) = []
 digest_named unexpected_eof = []
 
@@ -107,41 +113,52 @@ digest_and_one_more_whole = inr (pair 0 (0x01 ∷ 0x02 ∷ 0x03 ∷ 0x04 ∷ [])
 digest_and_three_more_whole : HasWholeVerdict 4 (0x00 ∷ 0x01 ∷ 0x07 ∷ 0x00 ∷ 0x80 ∷ 0x05 ∷ []) (invalid_size 3)
 digest_and_three_more_whole = inr (pair 0 (0x07 ∷ []), 0x00 ∷ 0x80 ∷ 0x05 ∷ [], record { encoding = 0x00 ∷ 0x01 ∷ 0x07 ∷ []; encodes = record { code = 0x00 ∷ []; size = 0x01 ∷ []; is_code = varint_0; is_size = varint_1; spelled = refl }; cut = refl }, omega arith, refl, omega arith)
 
-pub nine_marked : HasVerdict 4 nine (faulty insufficient)
-nine_marked = inl (record { few = omega arith; all_marked = all_marked nine refl })
+-- eight marked bytes wait for a ninth
+pub eight_marked : HasVerdict 4 eight (faulty insufficient)
+eight_marked = inl (record { few = omega arith; all_marked = all_marked eight refl })
 
-nine_marked_whole : HasWholeVerdict 4 nine (faulty insufficient)
+eight_marked_whole : HasWholeVerdict 4 eight (faulty insufficient)
+eight_marked_whole = eight_marked
+
+eight_marked_zero : HasVerdict 4 (eight ++ 0x00 ∷ 0x00 ∷ []) (faulty not_minimal)
+eight_marked_zero = inl (record { front = eight; rest = 0x00 ∷ []; all_marked = all_marked eight refl; some = omega arith; few = omega arith; cut = refl })
+
+eight_marked_zero_whole : HasWholeVerdict 4 (eight ++ 0x00 ∷ 0x00 ∷ []) (faulty not_minimal)
+eight_marked_zero_whole = eight_marked_zero
+
+nine_byte_code_alone : HasVerdict 4 (eight ++ 0x01 ∷ []) (faulty insufficient)
+nine_byte_code_alone = inr ([], record { code = 72057594037927936; code_bytes = eight ++ 0x01 ∷ []; is_code = varint_72057594037927936; cut = refl }, record { few = omega arith; all_marked = all_marked [] refl })
+
+nine_byte_code_alone_whole : HasWholeVerdict 4 (eight ++ 0x01 ∷ []) (faulty insufficient)
+nine_byte_code_alone_whole = nine_byte_code_alone
+
+nine_byte_code : HasVerdict 4 (eight ++ 0x01 ∷ 0x00 ∷ []) (accepted (pair 72057594037927936 []))
+nine_byte_code = ([], record { encoding = eight ++ 0x01 ∷ 0x00 ∷ []; encodes = record { code = eight ++ 0x01 ∷ []; size = 0x00 ∷ []; is_code = varint_72057594037927936; is_size = varint_0; spelled = refl }; cut = refl }, omega arith)
+
+nine_byte_code_whole : HasWholeVerdict 4 (eight ++ 0x01 ∷ 0x00 ∷ []) (accepted (pair 72057594037927936 []))
+nine_byte_code_whole = (record { code = eight ++ 0x01 ∷ []; size = 0x00 ∷ []; is_code = varint_72057594037927936; is_size = varint_0; spelled = refl }, omega arith)
+
+largest_code : HasVerdict 4 (0xff ∷ 0xff ∷ 0xff ∷ 0xff ∷ 0xff ∷ 0xff ∷ 0xff ∷ 0xff ∷ 0x7f ∷ 0x00 ∷ []) (accepted (pair 9223372036854775807 []))
+largest_code = ([], record { encoding = 0xff ∷ 0xff ∷ 0xff ∷ 0xff ∷ 0xff ∷ 0xff ∷ 0xff ∷ 0xff ∷ 0x7f ∷ 0x00 ∷ []; encodes = record { code = 0xff ∷ 0xff ∷ 0xff ∷ 0xff ∷ 0xff ∷ 0xff ∷ 0xff ∷ 0xff ∷ 0x7f ∷ []; size = 0x00 ∷ []; is_code = varint_9223372036854775807; is_size = varint_0; spelled = refl }; cut = refl }, omega arith)
+
+-- nine are too many, whatever follows: nothing, a zero, or what a tenth byte would have to be
+nine_marked : (rest : List ℕ) → HasVerdict 4 (nine ++ rest) (faulty overflow)
+nine_marked rest = inl (record { front = eight; byte = 0x80; rest = rest; all_marked = all_marked eight refl; most = refl; too_large = omega arith; cut = refl })
+
+nine_marked_whole : (rest : List ℕ) → HasWholeVerdict 4 (nine ++ rest) (faulty overflow)
 nine_marked_whole = nine_marked
 
-nine_marked_zero : HasVerdict 4 (nine ++ 0x00 ∷ []) (faulty not_minimal)
-nine_marked_zero = inl (record { front = nine; rest = []; all_marked = all_marked nine refl; some = omega arith; few = omega arith; cut = refl })
+largest_size : HasVerdict 4 (0x00 ∷ 0xff ∷ 0xff ∷ 0xff ∷ 0xff ∷ 0xff ∷ 0xff ∷ 0xff ∷ 0xff ∷ 0x7f ∷ []) (invalid_size 9223372036854775807)
+largest_size = ([], record { code = 0; code_bytes = 0x00 ∷ []; size_bytes = 0xff ∷ 0xff ∷ 0xff ∷ 0xff ∷ 0xff ∷ 0xff ∷ 0xff ∷ 0xff ∷ 0x7f ∷ []; is_code = varint_0; is_size = varint_9223372036854775807; cut = refl }, omega arith)
 
-nine_marked_zero_whole : HasWholeVerdict 4 (nine ++ 0x00 ∷ []) (faulty not_minimal)
-nine_marked_zero_whole = nine_marked_zero
-
-pub nine_marked_two : HasVerdict 4 (nine ++ 0x02 ∷ []) (faulty overflow)
-nine_marked_two = inl (record { front = nine; byte = 0x02; rest = []; all_marked = all_marked nine refl; most = refl; too_large = omega arith; cut = refl })
-
-nine_marked_two_whole : HasWholeVerdict 4 (nine ++ 0x02 ∷ []) (faulty overflow)
-nine_marked_two_whole = nine_marked_two
-
-ten_marked : HasVerdict 4 (nine ++ 0x81 ∷ []) (faulty overflow)
-ten_marked = inl (record { front = nine; byte = 0x81; rest = []; all_marked = all_marked nine refl; most = refl; too_large = omega arith; cut = refl })
-
-ten_marked_whole : HasWholeVerdict 4 (nine ++ 0x81 ∷ []) (faulty overflow)
-ten_marked_whole = ten_marked
-
-ten_byte_code_alone : HasVerdict 4 (nine ++ 0x01 ∷ []) (faulty insufficient)
-ten_byte_code_alone = inr ([], record { code = 9223372036854775808; code_bytes = nine ++ 0x01 ∷ []; is_code = varint_9223372036854775808; cut = refl }, record { few = omega arith; all_marked = all_marked [] refl })
-
-ten_byte_code_alone_whole : HasWholeVerdict 4 (nine ++ 0x01 ∷ []) (faulty insufficient)
-ten_byte_code_alone_whole = ten_byte_code_alone
-
-largest_size : HasVerdict 4 (0x00 ∷ 0xff ∷ 0xff ∷ 0xff ∷ 0xff ∷ 0xff ∷ 0xff ∷ 0xff ∷ 0xff ∷ 0xff ∷ 0x01 ∷ []) (invalid_size 18446744073709551615)
-largest_size = ([], record { code = 0; code_bytes = 0x00 ∷ []; size_bytes = 0xff ∷ 0xff ∷ 0xff ∷ 0xff ∷ 0xff ∷ 0xff ∷ 0xff ∷ 0xff ∷ 0xff ∷ 0x01 ∷ []; is_code = varint_0; is_size = varint_18446744073709551615; cut = refl }, omega arith)
-
-largest_size_whole : HasWholeVerdict 4 (0x00 ∷ 0xff ∷ 0xff ∷ 0xff ∷ 0xff ∷ 0xff ∷ 0xff ∷ 0xff ∷ 0xff ∷ 0xff ∷ 0x01 ∷ []) (invalid_size 18446744073709551615)
+largest_size_whole : HasWholeVerdict 4 (0x00 ∷ 0xff ∷ 0xff ∷ 0xff ∷ 0xff ∷ 0xff ∷ 0xff ∷ 0xff ∷ 0xff ∷ 0x7f ∷ []) (invalid_size 9223372036854775807)
 largest_size_whole = inl largest_size
+
+ten_byte_size : HasVerdict 4 (0x00 ∷ 0xff ∷ 0xff ∷ 0xff ∷ 0xff ∷ 0xff ∷ 0xff ∷ 0xff ∷ 0xff ∷ 0xff ∷ 0x01 ∷ []) (faulty overflow)
+ten_byte_size = inr (0xff ∷ 0xff ∷ 0xff ∷ 0xff ∷ 0xff ∷ 0xff ∷ 0xff ∷ 0xff ∷ 0xff ∷ 0x01 ∷ [], record { code = 0; code_bytes = 0x00 ∷ []; is_code = varint_0; cut = refl }, record { front = 0xff ∷ 0xff ∷ 0xff ∷ 0xff ∷ 0xff ∷ 0xff ∷ 0xff ∷ 0xff ∷ []; byte = 0xff; rest = 0x01 ∷ []; all_marked = all_marked (0xff ∷ 0xff ∷ 0xff ∷ 0xff ∷ 0xff ∷ 0xff ∷ 0xff ∷ 0xff ∷ []) refl; most = refl; too_large = omega arith; cut = refl })
+
+ten_byte_size_whole : HasWholeVerdict 4 (0x00 ∷ 0xff ∷ 0xff ∷ 0xff ∷ 0xff ∷ 0xff ∷ 0xff ∷ 0xff ∷ 0xff ∷ 0xff ∷ 0x01 ∷ []) (faulty overflow)
+ten_byte_size_whole = ten_byte_size
 
 no_room_size_open : HasVerdict 0 (0x00 ∷ 0x80 ∷ []) (faulty insufficient)
 no_room_size_open = inr (0x80 ∷ [], record { code = 0; code_bytes = 0x00 ∷ []; is_code = varint_0; cut = refl }, record { few = omega arith; all_marked = all_marked (0x80 ∷ []) refl })
@@ -228,12 +245,27 @@ digest_and_one_more_whole_no_pair p h =
     whole_verdict_unique 4 (0x00 ∷ 0x04 ∷ 0x01 ∷ 0x02 ∷ 0x03 ∷ 0x04 ∷ 0x09 ∷ []) (accepted p) (invalid_size 1) h digest_and_one_more_whole in
     cc
 
--- ten bytes whose number is above the limit are no varint
-nine_marked_two_no_code : (p : Pair) → ¬ (HasVerdict 4 (nine ++ 0x02 ∷ []) (accepted p))
-nine_marked_two_no_code p h =
+-- ten bytes are no varint
+no_code_of_ten_bytes : (p : Pair) → ¬ (HasVerdict 4 (nine ++ 0x01 ∷ 0x00 ∷ []) (accepted p))
+no_code_of_ten_bytes p h =
     let same : accepted p ≡ faulty overflow =
-    verdict_unique 4 (nine ++ 0x02 ∷ []) (accepted p) (faulty overflow) h nine_marked_two in
+    verdict_unique 4 (nine ++ 0x01 ∷ 0x00 ∷ []) (accepted p) (faulty overflow) h
+    (nine_marked (0x01 ∷ 0x00 ∷ [])) in
     cc
+
+-- nor do they wait for more
+no_end_of_nine_marked : ¬ (HasVerdict 4 nine (faulty insufficient))
+no_end_of_nine_marked h =
+    let same : faulty insufficient ≡ faulty overflow =
+    verdict_unique 4 nine (faulty insufficient) (faulty overflow) h (nine_marked []) in
+    cc
+
+-- no code that a varint spells is out of range
+no_code_refused : (S code : ℕ) (input : List ℕ) → ¬ (HasVerdict S input (invalid_code code))
+no_code_refused S code input h = h
+
+no_code_refused_whole : (S code : ℕ) (input : List ℕ) → ¬ (HasWholeVerdict S input (invalid_code code))
+no_code_refused_whole S code input h = h
 
 -- the code and the digest are those that the input begins with
 no_other_code : ¬ (HasVerdict 4 (0x00 ∷ 0x00 ∷ []) (accepted (pair 1 [])))
@@ -479,6 +511,9 @@ pair_stays p early = early
 
 size_stays : (size : ℕ) → ¬ (IsEarlyEnd (invalid_size size))
 size_stays size early = early
+
+code_stays : (code : ℕ) → ¬ (IsEarlyEnd (invalid_code code))
+code_stays code early = early
 
 overflow_stays : ¬ (IsEarlyEnd (faulty overflow))
 overflow_stays early = early

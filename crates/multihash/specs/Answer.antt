@@ -2,8 +2,8 @@
 use Rattle.std.specs.Prelude.{◌≡◌, ◌<◌, ◌≤◌, ℕ, List, take, Result, MatchResult}
 use Rattle.multihash.specs.Varint.{varint_limit}
 use Rattle.multihash.specs.Pair.{Pair, digest_limit}
-use Rattle.multihash.specs.Verdict.{Verdict, accepted, invalid_size, faulty, unexpected_eof}
-use Rattle.multihash.specs.Refusal.{Refusal, IsEof, IsInvalidSize, IsFaulty}
+use Rattle.multihash.specs.Verdict.{Verdict, accepted, invalid_size, invalid_code, faulty, unexpected_eof}
+use Rattle.multihash.specs.Refusal.{Refusal, IsEof, IsInvalidSize, IsInvalidCode, IsFaulty}
 
 -- what a multihash holds: the code, the digest's size, and the buffer of S bytes that begins with the
 -- digest. That the code is in range and the digest fits is part of the value itself, so that it is
@@ -23,6 +23,7 @@ pair_of m = record { code = m.code; digest = take m.size m.buffer }
 abbrev pub IsRefusal : Refusal → Verdict → Type 0
 IsRefusal e (accepted p) = ⊥
 IsRefusal e (invalid_size size) = IsInvalidSize size e
+IsRefusal e (invalid_code code) = IsInvalidCode code e
 IsRefusal e (faulty fault) = IsFaulty fault e
 IsRefusal e unexpected_eof = IsEof e
 

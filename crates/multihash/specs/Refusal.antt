@@ -2,15 +2,16 @@
 use Rattle.std.specs.Prelude.{◌≡◌, ℕ, ◌++◌, List, codes}
 use Rattle.std.specs.Fmt.{decimal}
 use Rattle.multihash.specs.declared.error.Kind.{Kind}
-use Rattle.multihash.specs.declared.error.Kind.TheVariants.{Io, InvalidSize, Insufficient, Overflow, NotMinimal, NotBytes}
+use Rattle.multihash.specs.declared.error.Kind.TheVariants.{Io, InvalidSize, InvalidCode, Insufficient, Overflow, NotMinimal, NotBytes}
 use Rattle.multihash.specs.Varint.{VarintFault, insufficient, overflow, not_minimal}
 use Rattle.multihash.specs.Fault.{Fault, IsUnexpectedEof, IsOutOfMemory, IsOwnFault, printed}
 
--- why a call was refused: a fault of a reader or a writer, a size, a varint, or a JSON value that is
--- no byte array
+-- why a call was refused: a fault of a reader or a writer, a size, a code, a varint, or a JSON value that
+-- is no byte array
 pub data Refusal : Type 0 where
   of_io : Fault → Refusal
   of_size : ℕ → Refusal
+  of_code : ℕ → Refusal
   of_varint : VarintFault → Refusal
   of_not_bytes : Refusal
 
@@ -18,6 +19,7 @@ pub data Refusal : Type 0 where
 abbrev pub refusal_of : Kind → Refusal
 refusal_of (Io fault) = of_io fault
 refusal_of (InvalidSize size) = of_size size
+refusal_of (InvalidCode code) = of_code code
 refusal_of Insufficient = of_varint insufficient
 refusal_of Overflow = of_varint overflow
 refusal_of NotMinimal = of_varint not_minimal
@@ -43,6 +45,10 @@ IsReaderFault e = IsIo IsOwnFault e
 abbrev pub IsInvalidSize : ℕ → Refusal → Type 0
 IsInvalidSize size e = e ≡ of_size size
 
+-- a code that is out of range
+abbrev pub IsInvalidCode : ℕ → Refusal → Type 0
+IsInvalidCode code e = e ≡ of_code code
+
 -- no varint stands where one should
 abbrev pub IsFaulty : VarintFault → Refusal → Type 0
 IsFaulty fault e = e ≡ of_varint fault
@@ -61,5 +67,6 @@ varint_text not_minimal = codes "encoding is not minimal"
 abbrev pub refusal_text : Refusal → List ℕ
 refusal_text (of_io fault) = printed fault
 refusal_text (of_size size) = codes "Invalid multihash size " ++ decimal size ++ codes "."
+refusal_text (of_code code) = codes "Invalid multihash code " ++ decimal code ++ codes "."
 refusal_text (of_varint fault) = varint_text fault
 refusal_text of_not_bytes = codes "Failed to deserialize Multihash"

@@ -3,27 +3,28 @@ use Rattle.std.specs.Prelude.{◌≡◌, ℕ, ◌<◌, ◌≤◌, ◌⊎◌, Lis
 use Rattle.multihash.specs.Bytes.{IsBytes, place_value}
 use Rattle.multihash.specs.Pair.{Pair}
 use Rattle.multihash.specs.Varint.{varint_limit}
-use Rattle.multihash.specs.Verdict.{Verdict, accepted, invalid_size, faulty, unexpected_eof}
+use Rattle.multihash.specs.Verdict.{Verdict, accepted, invalid_size, invalid_code, faulty, unexpected_eof}
 
 -- the bytes are the eight of the code, the lowest first
 pub record IsScaleCode (code : ℕ) (bytes : List ℕ) : Type 0 where
   pub eight : length bytes ≡ 8
   pub are_bytes : IsBytes bytes
   pub value : place_value 256 bytes ≡ code
-  pub in_range : code < varint_limit
 
 -- the bytes are the SCALE form of the pair
 pub record IsScale (p : Pair) (bytes : List ℕ) : Type 0 where
   pub code : List ℕ
   pub is_code : IsScaleCode p.code code
+  pub in_range : p.code < varint_limit
   pub size : length p.digest < 256
   pub spelled : bytes ≡ code ++ length p.digest ∷ p.digest
 
--- the input is a code's eight bytes, the size, and the rest
+-- the input is the eight bytes of a code in range, the size, and the rest
 pub record HasScaleSize (size : ℕ) (input rest : List ℕ) : Type 0 where
   pub code : ℕ
   pub code_bytes : List ℕ
   pub is_code : IsScaleCode code code_bytes
+  pub in_range : code < varint_limit
   pub cut : input ≡ code_bytes ++ size ∷ rest
 
 -- the verdict of decoding on what begins with the input, for a buffer of size S; no varint is read
@@ -31,10 +32,14 @@ abbrev pub HasScaleVerdict : ℕ → List ℕ → Verdict → Type 0
 HasScaleVerdict S input (accepted p) =
     (bytes : List ℕ) × (rest : List ℕ) × IsScale p bytes × (length p.digest ≤ S)
     × (input ≡ bytes ++ rest)
+HasScaleVerdict S input (invalid_code code) =
+    (bytes : List ℕ) × (rest : List ℕ) × IsScaleCode code bytes × (varint_limit ≤ code)
+    × (input ≡ bytes ++ rest)
 HasScaleVerdict S input (invalid_size size) =
     (rest : List ℕ) × HasScaleSize size input rest × (S < size)
 HasScaleVerdict S input (faulty fault) = ⊥
 HasScaleVerdict S input unexpected_eof =
-    (length input < 9)
+    (length input < 8)
+    ⊎ ((code : ℕ) × IsScaleCode code input × (code < varint_limit))
     ⊎ ((size : ℕ) × (rest : List ℕ) × HasScaleSize size input rest × (size ≤ S)
     × (length rest < size))

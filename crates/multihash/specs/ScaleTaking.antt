@@ -1,19 +1,23 @@
 -- What decoding the SCALE form took from a reader, and how it refuses.
-use Rattle.std.specs.Prelude.{◌≡◌, ◌<◌, ℕ, List, ◌⊎◌, length, Option}
-use Rattle.multihash.specs.Verdict.{invalid_size, unexpected_eof}
+use Rattle.std.specs.Prelude.{◌≡◌, ◌<◌, ◌≤◌, ℕ, List, ◌⊎◌, length, Option}
+use Rattle.multihash.specs.Varint.{varint_limit}
+use Rattle.multihash.specs.Verdict.{invalid_size, invalid_code, unexpected_eof}
 use Rattle.multihash.specs.Scale.{HasScaleVerdict}
 use Rattle.multihash.specs.Reading.{Takes}
-use Rattle.multihash.specs.Refusal.{Refusal, IsEof, IsReaderFault, IsInvalidSize}
+use Rattle.multihash.specs.Refusal.{Refusal, IsEof, IsReaderFault, IsInvalidSize, IsInvalidCode}
 
--- a refusal of decoding: a size that is too large, or an input that ends early
+-- a refusal of decoding: a code or a size that is too large, or an input that ends early
 abbrev pub IsScaleRefusal : ℕ → Refusal → Type 0
-IsScaleRefusal S e = ((size : ℕ) × IsInvalidSize size e × (S < size)) ⊎ IsEof e
+IsScaleRefusal S e = ((code : ℕ) × IsInvalidCode code e × (varint_limit ≤ code))
+    ⊎ ((size : ℕ) × IsInvalidSize size e × (S < size)) ⊎ IsEof e
 
--- what decoding took where it was refused: nine bytes where the size is too large; else, after a failure
--- of the reader too, bytes that by themselves end early
+-- what decoding took where it was refused: eight bytes where the code is too large, nine where the size
+-- is; else, after a failure of the reader too, bytes that by themselves end early
 pub record TakesAtScaleRefusal (S : ℕ) (e : Refusal) (old new : Option (List ℕ)) : Type 0 where
   pub taken : List ℕ
   pub takes : Takes old taken new
+  pub code : (code : ℕ) → IsInvalidCode code e →
+      HasScaleVerdict S taken (invalid_code code) × (length taken ≡ 8)
   pub size : (size : ℕ) → IsInvalidSize size e →
       HasScaleVerdict S taken (invalid_size size) × (length taken ≡ 9)
   pub early : (IsEof e ⊎ IsReaderFault e) → HasScaleVerdict S taken unexpected_eof

@@ -4,15 +4,15 @@ use Rattle.multihash.specs.Bytes.{place_value}
 
 -- a varint's number lies below this one
 abbrev pub varint_limit : ℕ
-varint_limit = 2 ^ 64
+varint_limit = 2 ^ 63
 
 -- the most marked bytes of a varint
 abbrev pub most_marked : ℕ
-most_marked = 9
+most_marked = 8
 
 -- after that many marked bytes, a byte from this one on is too large
 abbrev pub first_too_large : ℕ
-first_too_large = 2
+first_too_large = 128
 
 -- a byte that others follow has 128 added to its digit
 abbrev pub IsMarked : ℕ → Type 0

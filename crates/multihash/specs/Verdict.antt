@@ -8,6 +8,7 @@ use Rattle.multihash.specs.Encoding.{IsEncoding}
 pub data Verdict : Type 0 where
   accepted : Pair → Verdict
   invalid_size : ℕ → Verdict
+  invalid_code : ℕ → Verdict
   faulty : VarintFault → Verdict
   unexpected_eof : Verdict
 
@@ -33,11 +34,12 @@ pub record HasCode (input rest : List ℕ) : Type 0 where
   pub is_code : IsVarint code code_bytes
   pub cut : input ≡ code_bytes ++ rest
 
--- the verdict on what begins with the input
+-- the verdict on what begins with the input; no varint's number is out of range
 abbrev pub HasVerdict : ℕ → List ℕ → Verdict → Type 0
 HasVerdict S input (accepted p) = (rest : List ℕ) × BeginsWith p input rest × FitsBuffer S p
 HasVerdict S input (invalid_size size) =
     (rest : List ℕ) × HasSize size input rest × (digest_limit S < size)
+HasVerdict S input (invalid_code code) = ⊥
 HasVerdict S input (faulty fault) =
     HasFaultyFront fault input ⊎ ((rest : List ℕ) × HasCode input rest × HasFaultyFront fault rest)
 HasVerdict S input unexpected_eof =
@@ -48,6 +50,7 @@ HasVerdict S input unexpected_eof =
 abbrev pub IsEarlyEnd : Verdict → Type 0
 IsEarlyEnd (accepted p) = ⊥
 IsEarlyEnd (invalid_size size) = ⊥
+IsEarlyEnd (invalid_code code) = ⊥
 IsEarlyEnd (faulty insufficient) = ⊤
 IsEarlyEnd (faulty overflow) = ⊥
 IsEarlyEnd (faulty not_minimal) = ⊥
@@ -64,5 +67,6 @@ abbrev pub HasWholeVerdict : ℕ → List ℕ → Verdict → Type 0
 HasWholeVerdict S input (accepted p) = IsEncoding p input × FitsBuffer S p
 HasWholeVerdict S input (invalid_size size) =
     HasVerdict S input (invalid_size size) ⊎ HasLeftOver S input size
+HasWholeVerdict S input (invalid_code code) = HasVerdict S input (invalid_code code)
 HasWholeVerdict S input (faulty fault) = HasVerdict S input (faulty fault)
 HasWholeVerdict S input unexpected_eof = HasVerdict S input unexpected_eof

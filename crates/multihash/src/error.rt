@@ -1,9 +1,9 @@
 //! The library's error.
-ghost use Rattle.std.specs.Prelude.{◌≡◌, ◌≢◌, ℕ, ◌↔◌, IsTrue, Some, IfSome, IfNone};
-ghost use Rattle.std.specs.Fmt.{WritesOnOk, WritesStyledOnOk};
+ghost use Rattle.std.specs.Prelude.{◌≡◌, ◌≢◌, ◌++◌, ℕ, ◌↔◌, IsTrue, Some, IfSome, IfNone, codes};
+ghost use Rattle.std.specs.Fmt.{WritesOnOk, WritesStyledOnOk, decimal};
 ghost use Rattle.multihash.specs.Varint.{insufficient, overflow, not_minimal};
 ghost use Rattle.multihash.specs.Fault.{Fault};
-ghost use Rattle.multihash.specs.Refusal.{of_io, of_size, refusal_text, IsInvalidSize, IsFaulty, IsNotBytes, IsMemory};
+ghost use Rattle.multihash.specs.Refusal.{of_io, refusal_text, IsInvalidSize, IsInvalidCode, IsFaulty, IsNotBytes, IsMemory};
 
 use crate::no_std_io;
 use std::alloc::AllocError;
@@ -14,6 +14,7 @@ use std::marker::Model;
 enum Kind {
     Io(no_std_io::Error),
     InvalidSize(u64),
+    InvalidCode(u64),
     Insufficient,
     Overflow,
     NotMinimal,
@@ -22,8 +23,8 @@ enum Kind {
 
 /// Why a call was refused.
 ///
-/// Exactly one of six kinds applies to an error: [`Error::invalid_size`] or [`Error::io`] is
-/// `Some`, or one of the four tests is true.
+/// Exactly one of seven kinds applies to an error: [`Error::invalid_size`], [`Error::invalid_code`] or
+/// [`Error::io`] is `Some`, or one of the four tests is true.
 #[derive(Debug, Drop)]
 pub struct Error {
     kind: Kind,
@@ -43,6 +44,14 @@ impl Error {
     {
         Error {
             kind: Kind::InvalidSize(size),
+        }
+    }
+
+    pub(crate) fn from_code(code: u64) -> Self
+        ensures { IsInvalidCode code result }
+    {
+        Error {
+            kind: Kind::InvalidCode(code),
         }
     }
 
@@ -89,6 +98,16 @@ impl Error {
         }
     }
 
+    /// The code that was refused: one of 2^63 or more.
+    pub fn invalid_code(&self) -> Option<u64>
+        ensures { (code : ℕ) → ((result ≡ Some code) ↔ IsInvalidCode code self.now) }
+    {
+        match self.kind {
+            Kind::InvalidCode(code) => Some(code),
+            _ => None,
+        }
+    }
+
     /// Whether the input ended inside or before a varint.
     pub fn is_insufficient(&self) -> bool
         ensures { IsTrue result ↔ IsFaulty insufficient self.now }
@@ -96,7 +115,7 @@ impl Error {
         matches!(self.kind, Kind::Insufficient)
     }
 
-    /// Whether a varint has more than ten bytes, or its number does not fit in 64 bits.
+    /// Whether a varint has more than nine bytes, as a number of 2^63 or more would need.
     pub fn is_overflow(&self) -> bool
         ensures { IsTrue result ↔ IsFaulty overflow self.now }
     {
@@ -147,14 +166,19 @@ impl From<AllocError> for Error {
 }
 
 // Not `write!`, whose contract says nothing where a width or a precision is asked.
-fn write_size_text<W: fmt::Write>(f: &mut fmt::Formatter<W>, size: u64) -> fmt::Result
-    ensures plain { WritesOnOk W.write_str_gives f.old result (refusal_text (of_size size)) f.new }
+fn write_number_text<W: fmt::Write>(
+    f: &mut fmt::Formatter<W>,
+    front: &str,
+    number: u64,
+) -> fmt::Result
+    ensures plain { WritesOnOk W.write_str_gives f.old result
+        (front.now ++ decimal number ++ codes ".") f.new }
     ensures styled { WritesStyledOnOk W.write_str_gives f.old result
-        (refusal_text (of_size size)) f.new }
+        (front.now ++ decimal number ++ codes ".") f.new }
 {
     let mut digits = itoa::Buffer::new();
-    f.write_str("Invalid multihash size ")?;
-    f.write_str(digits.format(size))?;
+    f.write_str(front)?;
+    f.write_str(digits.format(number))?;
     f.write_str(".")
 }
 
@@ -167,7 +191,8 @@ impl fmt::Display for Error {
     fn fmt<W: fmt::Write>(&self, f: &mut fmt::Formatter<W>) -> fmt::Result {
         match &self.kind {
             Kind::Io(e) => f.write_str(e.text()),
-            Kind::InvalidSize(size) => write_size_text(f, *size),
+            Kind::InvalidSize(size) => write_number_text(f, "Invalid multihash size ", *size),
+            Kind::InvalidCode(code) => write_number_text(f, "Invalid multihash code ", *code),
             Kind::Insufficient => f.write_str("not enough input bytes"),
             Kind::Overflow => f.write_str("input bytes exceed maximum"),
             Kind::NotMinimal => f.write_str("encoding is not minimal"),

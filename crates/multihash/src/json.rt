@@ -14,7 +14,7 @@ use serde_json::Value;
 use std::alloc::Global;
 
 impl<const S: usize> Multihash<S> {
-    /// Makes the array of the encoding's bytes as whole numbers, in order: at most 267 members.
+    /// Makes the array of the encoding's bytes as whole numbers, in order: at most 266 members.
     ///
     /// # Errors
     ///
@@ -26,7 +26,6 @@ impl<const S: usize> Multihash<S> {
     {
         let bytes = self.to_bytes(alloc)?;
         let mut members = Vec::with_capacity(alloc, bytes.len())?;
-        crate::multihash::are_bytes(&bytes);
         for byte in &bytes {
             members.push_reserved(Value::from(*byte));
         }

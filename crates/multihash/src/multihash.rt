@@ -12,7 +12,7 @@ ghost use Rattle.multihash.specs.Order.{Compares};
 ghost use Rattle.multihash.specs.Comparing.{equal_pairs, compare_pairs, hashed_pair};
 ghost use Rattle.multihash.specs.Encoding.{IsEncoding};
 ghost use Rattle.multihash.specs.Verdict.{Verdict, HasVerdict, IsEarlyEnd, HasWholeVerdict};
-ghost use Rattle.multihash.specs.Refusal.{IsInvalidSize, IsMemory, IsIo, IsReaderFault};
+ghost use Rattle.multihash.specs.Refusal.{IsInvalidSize, IsInvalidCode, IsMemory, IsIo, IsReaderFault};
 ghost use Rattle.multihash.specs.Reading.{Takes, CountsReader};
 ghost use Rattle.multihash.specs.Writing.{AppendsPart, CountsWriter};
 ghost use Rattle.multihash.specs.Taking.{IsReadRefusal, TakesAtRefusal, TakesShortestSettling, TakesUnsettled};
@@ -74,16 +74,24 @@ impl<const S: usize> Multihash<S> {
     ///
     /// # Errors
     ///
-    /// [`Error::invalid_size`] with the digest's length, where that is more than `min(S, 255)`.
+    /// - [`Error::invalid_size`] with the digest's length, where that is more than `min(S, 255)`;
+    /// - else [`Error::invalid_code`] with the code, where that is 2^63 or more.
     pub fn wrap(code: u64, input_digest: &[u8]) -> Result<Self, Error>
         ensures ok { IfOk result (λ m.
             pair_of m ≡ record { code = code; digest = input_digest.now }) }
-        ensures exactly { IsErr result ↔ (digest_limit S < length input_digest.now) }
-        ensures err { IfErr result (IsInvalidSize (length input_digest.now)) }
+        ensures exactly { IsErr result ↔
+            ((digest_limit S < length input_digest.now) ⊎ (varint_limit ≤ code)) }
+        ensures err { IfErr result (λ e.
+            (IsInvalidSize (length input_digest.now) e × (digest_limit S < length input_digest.now))
+            ⊎ (IsInvalidCode code e × (length input_digest.now ≤ digest_limit S)
+            × (varint_limit ≤ code))) }
     {
         let len = input_digest.len();
         if len > S || len > 255 {
             return Err(Error::from_size(len as u64));
+        }
+        if code > varint::MAX {
+            return Err(Error::from_code(code));
         }
         // The usual length is copied as a whole, which is no call.
         if len == 32 {
@@ -104,9 +112,10 @@ impl<const S: usize> Multihash<S> {
         })
     }
 
-    /// The code, which names the hash function.
+    /// The code, which names the hash function: less than 2^63.
     pub fn code(&self) -> u64
-        ensures { result ≡ (pair_of self.now).code }
+        ensures code { result ≡ (pair_of self.now).code }
+        ensures in_range { result < varint_limit }
     {
         self.code
     }
@@ -125,9 +134,7 @@ impl<const S: usize> Multihash<S> {
         ensures fits { FitsBuffer S (pair_of self.now) }
         ensures pair { IsPair (pair_of self.now) }
     {
-        let digest = &self.digest[..self.size];
-        are_bytes(digest);
-        digest
+        front(&self.digest, self.size)
     }
 
     /// Reads the multihash whose encoding comes next, and takes exactly that encoding: what follows it
@@ -137,9 +144,9 @@ impl<const S: usize> Multihash<S> {
     /// # Errors
     ///
     /// - [`Error::is_insufficient`] where the input ends inside or before a varint; all of it was taken;
-    /// - [`Error::is_overflow`] where a varint has more than ten bytes or its number does not fit in 64
-    ///   bits, and [`Error::is_not_minimal`] where a varint of more than one byte ends in a zero; the
-    ///   bytes up to the one that shows it were taken;
+    /// - [`Error::is_overflow`] where a varint has more than nine bytes, and [`Error::is_not_minimal`]
+    ///   where a varint of more than one byte ends in a zero; the bytes up to the one that shows it were
+    ///   taken;
     /// - [`Error::invalid_size`] with the digest's length, where that is more than `min(S, 255)`; both
     ///   varints were taken, and nothing of the digest;
     /// - [`Error::io`] with an unexpected end where the input ends inside the digest; both varints were
@@ -184,8 +191,7 @@ impl<const S: usize> Multihash<S> {
     /// # Errors
     ///
     /// - [`Error::is_insufficient`] where the bytes end inside or before a varint;
-    /// - [`Error::is_overflow`] where a varint has more than ten bytes, or its number does not fit in
-    ///   64 bits;
+    /// - [`Error::is_overflow`] where a varint has more than nine bytes;
     /// - [`Error::is_not_minimal`] where a varint of more than one byte ends in a zero;
     /// - [`Error::invalid_size`] with the digest's length, where that is more than `min(S, 255)`, and
     ///   with the number of bytes left over, where some follow the digest;
@@ -244,11 +250,11 @@ impl<const S: usize> Multihash<S> {
         Ok(code + size + digest.len())
     }
 
-    /// The length of the encoding in bytes, at most 267.
+    /// The length of the encoding in bytes, at most 266.
     pub fn encoded_len(&self) -> usize
         ensures encoding { (bytes : List ℕ) × IsEncoding (pair_of self.now) bytes
             × (result ≡ length bytes) }
-        ensures short { result ≤ 267 }
+        ensures short { result ≤ 266 }
     {
         let code = varint::len(self.code());
         let size = varint::len(u64::from(self.size()));
@@ -331,7 +337,8 @@ impl<const S: usize> Multihash<S> {
     // The multihash of a buffer that begins with the digest.
     #[inline(always)]
     pub(crate) fn in_buffer(code: u64, size: usize, digest: [u8; S]) -> Self
-        requires { size ≤ digest_limit S }
+        requires in_range { code < varint_limit }
+        requires fits { size ≤ digest_limit S }
         ensures { pair_of result ≡ record { code = code; digest = take size digest.entry } }
     {
         Multihash { code, digest, size }
@@ -539,8 +546,12 @@ impl<const S: usize> Hash for Multihash<S> {
     }
 }
 
-// Each number of a slice of bytes is a byte.
+// The first `len` bytes. Of a slice that is handed in it is known that its numbers are bytes.
 #[inline(always)]
-pub(crate) fn are_bytes(bytes: &[u8])
-    ensures { IsBytes bytes.now }
-{}
+fn front(bytes: &[u8], len: usize) -> &[u8]
+    requires { len ≤ length bytes.now }
+    ensures front { result.now ≡ take len bytes.now }
+    ensures bytes { IsBytes result.now }
+{
+    &bytes[..len]
+}

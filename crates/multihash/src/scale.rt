@@ -10,7 +10,7 @@ ghost use Rattle.multihash.specs.ScaleTaking.{IsScaleRefusal, TakesAtScaleRefusa
 ghost use Rattle.multihash.specs.Answer.{pair_of, Answers};
 
 use crate::no_std_io::{self, Read, Write};
-use crate::{Error, Multihash};
+use crate::{Error, Multihash, varint};
 
 impl<const S: usize> Multihash<S> {
     /// Appends the SCALE form to `w`: nine bytes and the digest. It answers how many bytes that was.
@@ -42,6 +42,7 @@ impl<const S: usize> Multihash<S> {
     ///
     /// # Errors
     ///
+    /// - [`Error::invalid_code`] with the code, where it is 2^63 or more; exactly eight bytes were taken;
     /// - [`Error::invalid_size`] with the size, where it exceeds `S`; exactly nine bytes were taken;
     /// - [`Error::io`] with an unexpected end, where the input ends before the size or inside the digest;
     /// - [`Error::io`] with the reader's own error, where it failed.
@@ -56,7 +57,11 @@ impl<const S: usize> Multihash<S> {
             × Takes (R.rest r.old) bytes (R.rest r.new)) }
         ensures err { IfErr result (λ e. TakesAtScaleRefusal S e (R.rest r.old) (R.rest r.new)) }
     {
-        let code = read_array::<8, R>(r)?;
+        let code_bytes = read_array::<8, R>(r)?;
+        let code = u64::from_le_bytes(code_bytes);
+        if code > varint::MAX {
+            return Err(Error::from_code(code));
+        }
         let size_byte = read_array::<1, R>(r)?;
         let size = usize::from(size_byte[0]);
         if size > S {
@@ -64,7 +69,7 @@ impl<const S: usize> Multihash<S> {
         }
         let mut digest = [0; S];
         r.read_exact(&mut digest[..size])?;
-        Ok(Self::in_buffer(u64::from_le_bytes(code), size, digest))
+        Ok(Self::in_buffer(code, size, digest))
     }
 }
 

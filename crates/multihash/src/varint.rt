@@ -1,7 +1,7 @@
-//! Minimal unsigned varints of multiformats, for all of `u64`: at most ten bytes.
+//! Minimal unsigned varints of multiformats, for numbers below 2^63: at most nine bytes.
 ghost use Rattle.std.specs.Prelude.{◌≡◌, ◌<◌, ◌≤◌, ◌+◌, ℕ, List, [], ◌∷◌, length, take, drop, Some, IfSome, IfNone, MatchOption, IfOk, IfErr, OnErr};
 ghost use Rattle.multihash.specs.Bytes.{IsBytes, place_value};
-ghost use Rattle.multihash.specs.Varint.{IsVarint, most_marked};
+ghost use Rattle.multihash.specs.Varint.{IsVarint, varint_limit, most_marked};
 ghost use Rattle.multihash.specs.Word.{IsFrontWord, BeginsMarked, IsFoundFront, digits_low};
 ghost use Rattle.std.specs.Io.KnownBytes.{IsAtEnd};
 ghost use Rattle.multihash.specs.Reading.{Takes, CountsReader, NoneListed};
@@ -15,10 +15,13 @@ use crate::no_std_io::{self, Read, Write};
 use std::marker::Model;
 
 // The most marked bytes of a varint.
-const MOST_MARKED: usize = 9;
+const MOST_MARKED: usize = 8;
 
 // After that many marked bytes, a byte from this one on is too large.
-const FIRST_TOO_LARGE: u8 = 2;
+const FIRST_TOO_LARGE: u8 = 128;
+
+// The largest number that has a varint.
+pub(crate) const MAX: u64 = (((FIRST_TOO_LARGE as u128) << (7 * MOST_MARKED)) - 1) as u64;
 
 // The most bytes of a varint.
 const MAX_LEN: usize = MOST_MARKED + 1;
@@ -59,7 +62,7 @@ impl Model for Encoded {
 }
 
 impl Encoded {
-    /// The bytes, one to ten of them.
+    /// The bytes, one to nine of them.
     #[inline(always)]
     pub(crate) fn as_bytes(&self) -> &[u8]
         ensures { result.now ≡ self.now }
@@ -70,6 +73,7 @@ impl Encoded {
 
 /// Makes the varint of a number.
 pub(crate) fn encode(n: u64) -> Encoded
+    requires { n < varint_limit }
     ensures { IsVarint n result }
 {
     let mut bytes = [0; ROOM];
@@ -87,9 +91,10 @@ pub(crate) fn encode(n: u64) -> Encoded
     }
 }
 
-/// How many bytes the varint of a number has, at most ten.
+/// How many bytes the varint of a number has, at most nine.
 #[inline(always)]
 pub(crate) fn len(n: u64) -> usize
+    requires { n < varint_limit }
     ensures varint { (bytes : List ℕ) × IsVarint n bytes × (result ≡ length bytes) }
     ensures short { result ≤ most_marked + 1 }
 {
@@ -106,6 +111,7 @@ pub(crate) fn len(n: u64) -> usize
 /// What the writer answered. A proper beginning of the varint was appended then.
 #[inline(always)]
 pub(crate) fn write<W: Write>(n: u64, w: &mut W) -> Result<usize, no_std_io::Error>
+    requires { n < varint_limit }
     ensures ok { IfOk result (λ len. (bytes : List ℕ) × IsVarint n bytes × (len ≡ length bytes)
         × W.appended w.old bytes w.new) }
     ensures short { IfOk result (λ len. len ≤ most_marked + 1) }

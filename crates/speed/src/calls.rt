@@ -1,8 +1,9 @@
 //! The calls, each in a function of its own that is not inlined: so no call is left out, none is made
 //! for a whole loop at once, and each pays for its arguments and its answer. What each answers is what
 //! the library's call does.
-ghost use Rattle.std.specs.Prelude.{◌≡◌, ◌+◌, ◌<◌, ◌≤◌, ◌↔◌, ℕ, List, Some, length, map, IsTrue, IsErr, IfOk, OnOk, MatchResult};
+ghost use Rattle.std.specs.Prelude.{◌≡◌, ◌+◌, ◌<◌, ◌≤◌, ◌↔◌, ◌⊎◌, ℕ, List, Some, length, map, IsTrue, IsErr, IfOk, OnOk, MatchResult};
 ghost use Rattle.serde_json.specs.View.{view};
+ghost use Rattle.multihash.specs.Varint.{varint_limit};
 ghost use Rattle.multihash.specs.Pair.{IsSame, digest_limit, truncated};
 ghost use Rattle.multihash.specs.Order.{Compares};
 ghost use Rattle.multihash.specs.Encoding.{IsEncoding};
@@ -26,7 +27,8 @@ pub const RESIZED: usize = 255;
 #[inline(never)]
 pub fn wrap<const S: usize>(code: u64, digest: &[u8]) -> Result<Multihash<S>, Error>
     ensures ok { IfOk result (λ m. pair_of m ≡ record { code = code; digest = digest.now }) }
-    ensures exactly { IsErr result ↔ (digest_limit S < length digest.now) }
+    ensures exactly { IsErr result ↔
+        ((digest_limit S < length digest.now) ⊎ (varint_limit ≤ code)) }
 {
     Multihash::wrap(code, digest)
 }

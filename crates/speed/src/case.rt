@@ -4,7 +4,7 @@ use std::alloc::{AllocError, Global};
 use std::fmt;
 
 /// The most bytes that the varint of a code has.
-pub const LONGEST_CODE: u32 = 10;
+pub const LONGEST_CODE: u32 = 9;
 
 // Buffers and digests, in bytes. The first five are the main ones.
 const SIZES: [(usize, usize); 10] = [

@@ -24,11 +24,12 @@ pub fn one_of_four(e: &no_std_io::Error) -> u8
         + u8::from(e.is_other())
 }
 
-/// How many of the six tests apply to an error: always one.
-pub fn one_of_six(e: &Error) -> u8
+/// How many of the seven tests apply to an error: always one.
+pub fn one_of_seven(e: &Error) -> u8
     ensures { result ≡ 1 }
 {
     u8::from(e.invalid_size().is_some())
+        + u8::from(e.invalid_code().is_some())
         + u8::from(e.is_insufficient())
         + u8::from(e.is_overflow())
         + u8::from(e.is_not_minimal())
@@ -110,7 +111,7 @@ pub fn fills<const S: usize>(m: &Multihash<S>, places: &mut [u8]) -> (bool, usiz
 }
 
 /// Writes the encoding to the front of as many places as the longest has, and says its length.
-pub fn fills_longest<const S: usize>(m: &Multihash<S>, places: &mut [u8; 267]) -> usize
+pub fn fills_longest<const S: usize>(m: &Multihash<S>, places: &mut [u8; 266]) -> usize
     ensures { (bytes : List ℕ) × IsEncoding (pair_of m.now) bytes × (result ≡ length bytes) }
 {
     let mut left = places.as_mut_slice();

@@ -11,6 +11,8 @@ use std::fmt::Write;
 
 const SHA2_256: u64 = 0x12;
 
+const LARGEST_CODE: u64 = 9223372036854775807;
+
 /// A line for each use.
 ///
 /// # Errors
@@ -185,8 +187,8 @@ fn show_values(lines: &mut String) -> Result<()> {
 fn show_bytes(alloc: Global, lines: &mut String) -> Result<()> {
     let first = bytes::first_byte(&[7, 8]);
     let joined = bytes::joined(alloc, &[7], &[8])?;
-    let longest = Multihash::<300>::wrap(u64::MAX, &[7; 255])?;
-    let filled = bytes::fills_longest(&longest, &mut [0; 267]);
+    let longest = Multihash::<300>::wrap(LARGEST_CODE, &[7; 255])?;
+    let filled = bytes::fills_longest(&longest, &mut [0; 266]);
     writeln!(
         lines,
         "bytes: {first:?}, {:?}, {filled} places",

@@ -10,7 +10,7 @@ use Rattle.multihash.specs.Refusal.{Refusal}
 use Rattle.multihash.specs.Settling.{Settles, IsShortestSettling}
 use Rattle.multihash.specs.Taking.{TakesAtRefusal, TakesShortestSettling}
 use Rattle.multihash.specs.Varint.{insufficient, overflow, not_minimal, marked, IsVarint}
-use Rattle.multihash.specs.Verdict.{Verdict, accepted, invalid_size, faulty, unexpected_eof, HasSize, HasVerdict, IsEarlyEnd}
+use Rattle.multihash.specs.Verdict.{Verdict, accepted, invalid_size, invalid_code, faulty, unexpected_eof, HasSize, HasVerdict, IsEarlyEnd}
 use Rattle.multihash.proofs.BeginningLemmas.{compare_beginnings}
 use Rattle.multihash.proofs.MarkedLemmas.{All-append_right}
 use Rattle.vectors.specs.declared.line.Reading.{Reading}
@@ -21,14 +21,22 @@ refusal_unique : (e : Refusal) (v w : Verdict) → IsRefusal e v → IsRefusal e
 refusal_unique e (accepted p) w left right = absurd left
 refusal_unique e (invalid_size a) (accepted q) left right = absurd right
 refusal_unique e (invalid_size a) (invalid_size b) left right = cc
+refusal_unique e (invalid_size a) (invalid_code b) left right = cc
 refusal_unique e (invalid_size a) (faulty g) left right = cc
 refusal_unique e (invalid_size a) unexpected_eof left right = let is = right.1 in cc
+refusal_unique e (invalid_code a) (accepted q) left right = absurd right
+refusal_unique e (invalid_code a) (invalid_size b) left right = cc
+refusal_unique e (invalid_code a) (invalid_code b) left right = cc
+refusal_unique e (invalid_code a) (faulty g) left right = cc
+refusal_unique e (invalid_code a) unexpected_eof left right = let is = right.1 in cc
 refusal_unique e (faulty f) (accepted q) left right = absurd right
 refusal_unique e (faulty f) (invalid_size b) left right = cc
+refusal_unique e (faulty f) (invalid_code b) left right = cc
 refusal_unique e (faulty f) (faulty g) left right = cc
 refusal_unique e (faulty f) unexpected_eof left right = let is = right.1 in cc
 refusal_unique e unexpected_eof (accepted q) left right = absurd right
 refusal_unique e unexpected_eof (invalid_size b) left right = let is = left.1 in cc
+refusal_unique e unexpected_eof (invalid_code b) left right = let is = left.1 in cc
 refusal_unique e unexpected_eof (faulty g) left right = let is = left.1 in cc
 refusal_unique e unexpected_eof unexpected_eof left right = refl
 
@@ -79,6 +87,7 @@ refused_enough : (S : ℕ) (input left : List ℕ) (e : Refusal) → TakesAtRefu
     → IsRefusal e v → IsEarlyEnd v → TakesEnough v input left
 refused_enough S input left e h (accepted p) is early = early
 refused_enough S input left e h (invalid_size size) is early = early
+refused_enough S input left e h (invalid_code code) is early = early
 refused_enough S input left e h (faulty insufficient) is early = (h.insufficient is).1
 refused_enough S input left e h (faulty overflow) is early = early
 refused_enough S input left e h (faulty not_minimal) is early = early
@@ -97,6 +106,7 @@ enough S input left (Err e) d v answers early = refused_enough S input left e d.
 enough_early : (v : Verdict) (input left : List ℕ) → TakesEnough v input left → IsEarlyEnd v
 enough_early (accepted p) input left h = h
 enough_early (invalid_size size) input left h = h
+enough_early (invalid_code code) input left h = h
 enough_early (faulty insufficient) input left h = tt
 enough_early (faulty overflow) input left h = h
 enough_early (faulty not_minimal) input left h = h

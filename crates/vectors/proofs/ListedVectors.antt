@@ -3,23 +3,25 @@ use Rattle.std.proofs.Common.{◌≡◌, ℕ, List, [], ◌∷◌, ◌++◌, Opt
 use Rattle.std.specs.Prelude.{codes}
 use Rattle.std.proofs.lemmas.List.Elements.{All-head, All-tail}
 use Rattle.hex.specs.Hex.{decode_pairs}
-use Rattle.multihash.specs.Bytes.{IsProperBeginning}
+use Rattle.multihash.specs.Bytes.{IsProperBeginning, place_value}
 use Rattle.multihash.specs.Varint.{insufficient, overflow, not_minimal}
-use Rattle.multihash.specs.Verdict.{accepted, invalid_size, faulty, unexpected_eof, HasWholeVerdict}
-use Rattle.multihash.specs.Scale.{HasScaleVerdict}
+use Rattle.multihash.specs.Verdict.{accepted, invalid_size, invalid_code, faulty, unexpected_eof, HasWholeVerdict}
+use Rattle.multihash.specs.Scale.{IsScaleCode, HasScaleVerdict}
 use Rattle.multihash.proofs.WritingLemmas.{some_items}
 use Rattle.multihash.proofs.VerdictLemmas.{same_cut, verdict_unique, whole_verdict_unique}
 use Rattle.multihash.proofs.ScaleLemmas.{scale_verdict_unique}
 use Rattle.multihash.proofs.SettlingLemmas.{shortest_unique}
+use Rattle.multihash.proofs.BytesVectors.{all_below}
 use Rattle.multihash.proofs.PairVectors.{pair}
-use Rattle.multihash.proofs.VerdictVectors.{size_5, size_named}
+use Rattle.multihash.proofs.VerdictVectors.{size_5, size_named, code_named}
 use Rattle.multihash.proofs.SettlingVectors.{shortest_of_size}
-use Rattle.multihash.proofs.ScaleVectors.{zeros, scale_eight_bytes, scale_size_first, scale_size_behind}
+use Rattle.multihash.proofs.ScaleVectors.{zeros, all_255, scale_eight_bytes, scale_size_first, scale_size_behind}
+use Rattle.vectors.proofs.ScaleAnswerLemmas.{size_shortest}
 use Rattle.vectors.specs.declared.check.Check.TheVariants.{FromBytes, ReadSlice, ReadOneByte, ReadThreeBytes, ScaleSlice, ScaleOneByte, FromValue}
 use Rattle.vectors.specs.declared.line.Line.{Line}
 use Rattle.vectors.specs.declared.line.Reading.{Reading}
 use Rattle.vectors.specs.declared.verdict.Verdict.{Verdict}
-use Rattle.vectors.specs.declared.verdict.Verdict.TheVariants.{Pair as Listed, InvalidSize, Insufficient, Overflow, NotMinimal, UnexpectedEof}
+use Rattle.vectors.specs.declared.verdict.Verdict.TheVariants.{Pair as Listed, InvalidSize, InvalidCode, Insufficient, Overflow, NotMinimal, UnexpectedEof}
 use Rattle.vectors.specs.Listed.{ListsBytes, meaning, SettlesAfter, IsTaken, IsReading, DecodesAfter, IsScaleTaken, IsScaleReading, ends_varint, TakesEnough, TakesAsReadListed, TakesAsScaleListed, IsRight, AreRightFor, AreRight}
 
 -- ---- words of a line
@@ -42,6 +44,9 @@ digits_name_no_other (inr h) = cc
 
 means_size : (size : ℕ) → meaning (InvalidSize size) ≡ invalid_size size
 means_size size = refl
+
+means_code : (code : ℕ) → meaning (InvalidCode code) ≡ invalid_code code
+means_code code = refl
 
 means_insufficient : meaning Insufficient ≡ faulty insufficient
 means_insufficient = refl
@@ -98,17 +103,20 @@ no_reading_after_three h = settles_after_no_other 3 (λ e. omega (arith, e)) h.t
 no_reading_without_count : ¬ (IsReading 4 (0 ∷ 5 ∷ 9 ∷ []) (size_after 5 None))
 no_reading_without_count h = h.taken
 
+abbrev code_after : ℕ → Option ℕ → Reading
+code_after code taken = record { verdict = InvalidCode code; taken = taken }
+
+-- reading refuses no code
+no_reading_of_code : (S : ℕ) (input : List ℕ) (code : ℕ) (taken : Option ℕ)
+    → ¬ (IsReading S input (code_after code taken))
+no_reading_of_code S input code taken h = h.verdict
+
 -- ---- readings of the SCALE form
 
 before_nine : (shorter : List ℕ) → IsProperBeginning shorter (zeros ++ 5 ∷ [])
     → HasScaleVerdict 4 shorter unexpected_eof
-before_nine shorter (rest, some, cut) =
-    inl (omega (
-      arith,
-      some_items rest some,
-      ap (λ (z : List ℕ). length z) cut,
-      length-append shorter rest,
-    ))
+before_nine shorter proper =
+    size_shortest 4 5 (zeros ++ 5 ∷ []) scale_size_first.0 shorter scale_size_first.1 refl proper
 
 decodes_after_nine : DecodesAfter 4 (zeros ++ 5 ∷ 7 ∷ []) 9
 decodes_after_nine = record {
@@ -157,6 +165,68 @@ no_scale_reading_of_other_size h =
           (invalid_size 5) h.0 scale_size_behind),
     )
 
+before_eight : (shorter : List ℕ) → IsProperBeginning shorter all_255
+    → HasScaleVerdict 4 shorter unexpected_eof
+before_eight shorter (rest, some, cut) =
+    inl (omega (
+      arith,
+      some_items rest some,
+      ap (λ (z : List ℕ). length z) cut,
+      length-append shorter rest,
+    ))
+
+code_of_255 : IsScaleCode 18446744073709551615 all_255
+unfolding place_value
+code_of_255 = record { eight = refl; are_bytes = all_below 256 all_255 refl; value = refl }
+
+code_above : (rest : List ℕ) → HasScaleVerdict 4 (all_255 ++ rest) (invalid_code 18446744073709551615)
+code_above rest = (all_255, rest, code_of_255, omega arith, refl)
+
+decodes_after_eight : DecodesAfter 4 (all_255 ++ 5 ∷ []) 8
+decodes_after_eight = record {
+  front = all_255;
+  begins = (5 ∷ [], refl);
+  verdict = invalid_code 18446744073709551615;
+  decodes = code_above [];
+  late = λ e. cc;
+  shortest = before_eight;
+  long = refl;
+}
+
+-- the size isn't waited for
+decodes_after_no_nine : ¬ (DecodesAfter 4 (all_255 ++ 5 ∷ []) 9)
+decodes_after_no_nine h =
+    let (rest, cut) = h.begins in
+    let (whole, none) = same_cut h.front (all_255 ++ 5 ∷ []) rest [] h.long (sym cut) in
+    let ends =
+    h.shortest all_255
+    (5 ∷ [], (λ e. omega (arith, ap (λ (z : List ℕ). length z) e)), whole) in
+    let same : unexpected_eof ≡ invalid_code 18446744073709551615 =
+    scale_verdict_unique 4 all_255 unexpected_eof
+    (invalid_code 18446744073709551615) ends (code_above []) in
+    cc
+
+scale_reading_of_code : IsScaleReading 4 (all_255 ++ 5 ∷ []) (code_after 18446744073709551615 (Some 8))
+scale_reading_of_code = (code_above (5 ∷ []), decodes_after_eight)
+
+no_scale_reading_of_code_without_count : ¬
+    (IsScaleReading 4 (all_255 ++ 5 ∷ []) (code_after 18446744073709551615 None))
+no_scale_reading_of_code_without_count h = let e = h.1 in cc
+
+no_scale_reading_of_other_code : ¬
+    (IsScaleReading 4 (all_255 ++ 5 ∷ []) (code_after 9223372036854775808 (Some 8)))
+no_scale_reading_of_other_code h =
+    omega (
+      arith,
+      ap code_named
+          (scale_verdict_unique 4 (all_255 ++ 5 ∷ []) (invalid_code 9223372036854775808)
+          (invalid_code 18446744073709551615) h.0 (code_above (5 ∷ []))),
+    )
+
+-- the code is refused before the size
+no_scale_reading_of_size_first : ¬ (IsScaleReading 4 (all_255 ++ 5 ∷ []) (size_after 5 (Some 9)))
+no_scale_reading_of_size_first h = decodes_after_no_nine h.1
+
 scale_cut_has_no_count : IsScaleTaken 4 (zeros ++ 3 ∷ 0xaa ∷ 0xbb ∷ []) unexpected_eof None
 scale_cut_has_no_count = refl
 
@@ -183,6 +253,9 @@ leaves_no_size h = omega (arith, h)
 enough_of_no_size : ¬ (TakesEnough (invalid_size 5) [] [])
 enough_of_no_size h = h
 
+enough_of_no_code : ¬ (TakesEnough (invalid_code 5) [] [])
+enough_of_no_code h = h
+
 enough_of_no_overflow : ¬ (TakesEnough (faulty overflow) [] [])
 enough_of_no_overflow h = h
 
@@ -206,6 +279,14 @@ takes_no_count_of_early_end h = h.0 tt
 
 decoding_takes_as_listed : TakesAsScaleListed (zeros ++ 5 ∷ 7 ∷ []) (7 ∷ []) (size_after 5 (Some 9))
 decoding_takes_as_listed = ((λ e. cc), refl)
+
+decoding_takes_eight_of_code : TakesAsScaleListed (all_255 ++ 5 ∷ []) (5 ∷ [])
+    (code_after 18446744073709551615 (Some 8))
+decoding_takes_eight_of_code = ((λ e. cc), refl)
+
+decoding_takes_no_nine_of_code : ¬ (TakesAsScaleListed (all_255 ++ 5 ∷ []) []
+    (code_after 18446744073709551615 (Some 8)))
+decoding_takes_no_nine_of_code h = omega (arith, h.1)
 
 decoding_takes_no_other_count : ¬
     (TakesAsScaleListed (zeros ++ 5 ∷ 7 ∷ []) [] (size_after 5 (Some 9)))
@@ -240,6 +321,11 @@ no_other_whole_size line input says h =
 from_bytes_answers_no_other : (line : Line) → line.input.items ≡ three
     → line.from_bytes ≡ InvalidSize 6 → ¬ (IsRight FromBytes 4 line)
 from_bytes_answers_no_other line input says h = no_other_whole_size line input says h
+
+from_bytes_refuses_no_code : (line : Line) (code : ℕ) → line.from_bytes ≡ InvalidCode code
+    → ¬ (IsRight FromBytes 4 line)
+from_bytes_refuses_no_code line code says h =
+    subst (λ (v : Verdict). HasWholeVerdict 4 line.input.items (meaning v)) says h
 
 from_value_answers_no_other : (line : Line) → line.input.items ≡ three
     → line.from_bytes ≡ InvalidSize 6 → ¬ (IsRight FromValue 4 line)

@@ -5,8 +5,9 @@ use Rattle.multihash.specs.Answer.{Fields, pair_of, IsRefusal, Answers}
 use Rattle.multihash.specs.Bytes.{IsProperBeginning}
 use Rattle.multihash.specs.Reading.{Takes}
 use Rattle.multihash.specs.Refusal.{Refusal}
-use Rattle.multihash.specs.Verdict.{Verdict, accepted, invalid_size, faulty, unexpected_eof}
-use Rattle.multihash.specs.Scale.{IsScaleCode, IsScale, HasScaleVerdict}
+use Rattle.multihash.specs.Varint.{varint_limit}
+use Rattle.multihash.specs.Verdict.{Verdict, accepted, invalid_size, invalid_code, faulty, unexpected_eof}
+use Rattle.multihash.specs.Scale.{IsScaleCode, IsScale, HasScaleSize, HasScaleVerdict}
 use Rattle.multihash.specs.ScaleTaking.{TakesAtScaleRefusal}
 use Rattle.multihash.proofs.BeginningLemmas.{split_beginning, compare_beginnings}
 use Rattle.vectors.proofs.AnswerLemmas.{answers_unique}
@@ -23,30 +24,34 @@ proper_shorter front whole (rest, some, cut) =
     omega (arith, some_left rest some, ap length cut, length-append front rest)
 
 -- where the input ends after the code
-after_code : (S code size : ℕ) (a digest q : List ℕ) → IsScaleCode code a → size ≤ S → length digest ≡ size
+after_code : (S code size : ℕ) (a digest q : List ℕ) → IsScaleCode code a → code < varint_limit
+    → (0 < length q → (size ≤ S) × (length digest ≡ size))
     → IsProperBeginning q (size ∷ digest) → HasScaleVerdict S (a ++ q) unexpected_eof
-after_code S code size a digest [] is_code fits long proper =
-    inl (omega (arith, is_code.eight, length-append a []))
-after_code S code size a digest (d ∷ q) is_code fits long (rest, some, cut) =
+after_code S code size a digest [] is_code in_range sized proper =
+    inr (inl (code, subst (IsScaleCode code) (sym (append-nil a)) is_code, in_range))
+after_code S code size a digest (d ∷ q) is_code in_range sized (rest, some, cut) =
     let heads : size ≡ d = cc in
     let tails : digest ≡ q ++ rest = cc in
-    inr (
+    let (fits, long) = sized (omega arith) in
+    inr (inr (
       size,
       q,
-      record { code = code; code_bytes = a; is_code = is_code; cut = ap (λ n. a ++ n ∷ q) (sym heads) },
+      record { code = code; code_bytes = a; is_code = is_code; in_range = in_range; cut = ap (λ n. a ++ n ∷ q) (sym heads) },
       fits,
       omega (arith, some_left rest some, ap length tails, length-append q rest, long),
-    )
+    ))
 
--- each proper beginning of a form ends early
-form_shortest : (S code size : ℕ) (a digest shorter : List ℕ) → IsScaleCode code a → size ≤ S → length digest ≡ size
+-- each proper beginning of a form ends early, and so does each of a code and a size
+form_shortest : (S code size : ℕ) (a digest shorter : List ℕ) → IsScaleCode code a → code < varint_limit
+    → (0 < length digest → (size ≤ S) × (length digest ≡ size))
     → IsProperBeginning shorter (a ++ size ∷ digest) → HasScaleVerdict S shorter unexpected_eof
-form_shortest S code size a digest shorter is_code fits long proper =
+form_shortest S code size a digest shorter is_code in_range sized proper =
     elim (split_beginning a (size ∷ digest) shorter proper) [
       | inl within ↦ inl (omega (arith, is_code.eight, proper_shorter shorter a within))
       | inr (q, cut, more) ↦
           subst (λ (z : List ℕ). HasScaleVerdict S z unexpected_eof) (sym cut)
-          (after_code S code size a digest q is_code fits long more)
+          (after_code S code size a digest q is_code in_range
+          (λ some. sized (omega (arith, some, proper_shorter q (size ∷ digest) more))) more)
     ]
 
 -- more input leaves the verdict, where that is no early end
@@ -54,12 +59,15 @@ with_more : (S : ℕ) (front rest : List ℕ) (v : Verdict) → v ≢ unexpected
     → HasScaleVerdict S (front ++ rest) v
 with_more S front rest (accepted p) late (bytes, behind, form, fits, cut) =
     (bytes, behind ++ rest, form, fits, ap (λ (z : List ℕ). z ++ rest) cut ∙ append_assoc bytes behind rest)
+with_more S front rest (invalid_code code) late (bytes, behind, is_code, over, cut) =
+    (bytes, behind ++ rest, is_code, over, ap (λ (z : List ℕ). z ++ rest) cut ∙ append_assoc bytes behind rest)
 with_more S front rest (invalid_size size) late (behind, h, over) = (
   behind ++ rest,
   record {
     code = h.code;
     code_bytes = h.code_bytes;
     is_code = h.is_code;
+    in_range = h.in_range;
     cut = ap (λ (z : List ℕ). z ++ rest) h.cut ∙ append_assoc h.code_bytes (size ∷ behind) rest;
   },
   over,
@@ -113,12 +121,38 @@ takes_form S input left m bytes form takes fits =
         decodes = (bytes, [], form, fits, sym (append-nil bytes));
         late = λ e. cc;
         shortest = λ shorter proper.
-            form_shortest S (pair_of m).code (length (pair_of m).digest) form.code (pair_of m).digest shorter form.is_code fits refl
-            (subst (λ (z : List ℕ). IsProperBeginning shorter z) form.spelled proper);
+            form_shortest S (pair_of m).code (length (pair_of m).digest) form.code (pair_of m).digest shorter form.is_code
+            form.in_range (λ some. (fits, refl)) (subst (λ (z : List ℕ). IsProperBeginning shorter z) form.spelled proper);
         long = refl;
       };
       taken = ap length cut ∙ length-append bytes left;
     }
+
+takes_code : (S : ℕ) (input left : List ℕ) (e : Refusal) (code : ℕ) → IsRefusal e (invalid_code code)
+    → TakesAtScaleRefusal S e (Some input) (Some left) → TakesDecoded S input left
+takes_code S input left e code is h =
+    let found = h.code code is in
+    let cut : input ≡ h.taken ++ left = cc (h.takes) in record {
+      count = 8;
+      decodes = record {
+        front = h.taken;
+        begins = (left, cut);
+        verdict = invalid_code code;
+        decodes = found.0;
+        late = λ e. cc;
+        shortest = λ shorter proper. inl (omega (arith, proper_shorter shorter h.taken proper, found.1));
+        long = found.1;
+      };
+      taken = omega (arith, ap length cut, length-append h.taken left, found.1);
+    }
+
+-- each proper beginning of nine bytes that show a size ends early
+pub size_shortest : (S size : ℕ) (taken rest shorter : List ℕ) → HasScaleSize size taken rest → length taken ≡ 9
+    → IsProperBeginning shorter taken → HasScaleVerdict S shorter unexpected_eof
+size_shortest S size taken rest shorter h nine proper =
+    let none : length rest ≡ 0 = omega (arith, nine, ap length h.cut, length-append h.code_bytes (size ∷ rest), h.is_code.eight) in
+    form_shortest S h.code size h.code_bytes rest shorter h.is_code h.in_range (λ some. absurd (omega (arith, none, some)))
+    (subst (λ (z : List ℕ). IsProperBeginning shorter z) h.cut proper)
 
 takes_size : (S : ℕ) (input left : List ℕ) (e : Refusal) (size : ℕ) → IsRefusal e (invalid_size size)
     → TakesAtScaleRefusal S e (Some input) (Some left) → TakesDecoded S input left
@@ -132,7 +166,7 @@ takes_size S input left e size is h =
         verdict = invalid_size size;
         decodes = found.0;
         late = λ e. cc;
-        shortest = λ shorter proper. inl (omega (arith, proper_shorter shorter h.taken proper, found.1));
+        shortest = λ shorter proper. size_shortest S size h.taken found.0.0 shorter found.0.1 found.1 proper;
         long = found.1;
       };
       taken = omega (arith, ap length cut, length-append h.taken left, found.1);
@@ -145,6 +179,7 @@ takes_decoded S input left (Ok m) d v has answers late =
     takes_form S input left m d.ok.0 d.ok.1 d.ok.2 own.3
 takes_decoded S input left (Err e) d (accepted p) has answers late = absurd answers
 takes_decoded S input left (Err e) d (invalid_size size) has answers late = takes_size S input left e size answers d.err
+takes_decoded S input left (Err e) d (invalid_code code) has answers late = takes_code S input left e code answers d.err
 takes_decoded S input left (Err e) d (faulty f) has answers late = absurd has
 takes_decoded S input left (Err e) d unexpected_eof has answers late = absurd (late refl)
 

@@ -10,31 +10,34 @@ use Rattle.multihash.specs.Bytes.{IsBytes, ExactlyOne}
 use Rattle.multihash.specs.Json.{IsByteArray}
 use Rattle.multihash.specs.Refusal.{Refusal}
 use Rattle.multihash.specs.Varint.{insufficient, overflow, not_minimal}
-use Rattle.multihash.specs.Verdict.{Verdict, accepted, invalid_size, faulty, unexpected_eof, HasWholeVerdict}
+use Rattle.multihash.specs.Verdict.{Verdict, accepted, invalid_size, invalid_code, faulty, unexpected_eof, HasWholeVerdict}
 use Rattle.vectors.proofs.AnswerLemmas.{answers_unique}
 
 abbrev Parts : Type 0
-Parts = (ℕ × List ℕ) ⊎ (ℕ ⊎ (Bool × Bool))
+Parts = (ℕ × List ℕ) ⊎ (ℕ ⊎ (ℕ ⊎ (Bool × Bool)))
 
 abbrev parts_of : Verdict → Parts
 parts_of (accepted p) = inl (p.code, p.digest)
 parts_of (invalid_size size) = inr (inl size)
-parts_of (faulty insufficient) = inr (inr (true, true))
-parts_of (faulty overflow) = inr (inr (true, false))
-parts_of (faulty not_minimal) = inr (inr (false, true))
-parts_of unexpected_eof = inr (inr (false, false))
+parts_of (invalid_code code) = inr (inr (inl code))
+parts_of (faulty insufficient) = inr (inr (inr (true, true)))
+parts_of (faulty overflow) = inr (inr (inr (true, false)))
+parts_of (faulty not_minimal) = inr (inr (inr (false, true)))
+parts_of unexpected_eof = inr (inr (inr (false, false)))
 
 abbrev verdict_of : Parts → Verdict
 verdict_of (inl (code, digest)) = accepted (record { code = code; digest = digest })
 verdict_of (inr (inl size)) = invalid_size size
-verdict_of (inr (inr (true, true))) = faulty insufficient
-verdict_of (inr (inr (true, false))) = faulty overflow
-verdict_of (inr (inr (false, true))) = faulty not_minimal
-verdict_of (inr (inr (false, false))) = unexpected_eof
+verdict_of (inr (inr (inl code))) = invalid_code code
+verdict_of (inr (inr (inr (true, true)))) = faulty insufficient
+verdict_of (inr (inr (inr (true, false)))) = faulty overflow
+verdict_of (inr (inr (inr (false, true)))) = faulty not_minimal
+verdict_of (inr (inr (inr (false, false)))) = unexpected_eof
 
 back : (v : Verdict) → verdict_of (parts_of v) ≡ v
 back (accepted p) = refl
 back (invalid_size size) = refl
+back (invalid_code code) = refl
 back (faulty insufficient) = refl
 back (faulty overflow) = refl
 back (faulty not_minimal) = refl
@@ -43,7 +46,7 @@ back unexpected_eof = refl
 -- verdicts can be told apart
 coded_verdict : Coded Verdict
 coded_verdict =
-    coded_via (coded⊎ (coded× coded_ℕ (coded_list coded_ℕ)) (coded⊎ coded_ℕ (coded× coded_bool coded_bool)))
+    coded_via (coded⊎ (coded× coded_ℕ (coded_list coded_ℕ)) (coded⊎ coded_ℕ (coded⊎ coded_ℕ (coded× coded_bool coded_bool))))
     parts_of (λ v w same. sym (back v) ∙ ap verdict_of same ∙ back w)
 
 -- the test of an answer to an array of the bytes tells the verdict on the bytes

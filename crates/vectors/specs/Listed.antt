@@ -5,13 +5,13 @@ use Rattle.multihash.specs.Bytes.{IsBeginning, IsProperBeginning}
 use Rattle.multihash.specs.Scale.{HasScaleVerdict}
 use Rattle.multihash.specs.Settling.{IsShortestSettling}
 use Rattle.multihash.specs.Varint.{insufficient, overflow, not_minimal}
-use Rattle.multihash.specs.Verdict.{Verdict as Meaning, accepted, invalid_size, faulty, unexpected_eof, HasVerdict, HasWholeVerdict, IsEarlyEnd}
+use Rattle.multihash.specs.Verdict.{Verdict as Meaning, accepted, invalid_size, invalid_code, faulty, unexpected_eof, HasVerdict, HasWholeVerdict, IsEarlyEnd}
 use Rattle.vectors.specs.declared.check.Check.{Check}
 use Rattle.vectors.specs.declared.check.Check.TheVariants.{FromBytes, ReadSlice, ReadOneByte, ReadThreeBytes, ScaleSlice, ScaleOneByte, FromValue}
 use Rattle.vectors.specs.declared.line.Line.{Line}
 use Rattle.vectors.specs.declared.line.Reading.{Reading}
 use Rattle.vectors.specs.declared.verdict.Verdict.{Verdict}
-use Rattle.vectors.specs.declared.verdict.Verdict.TheVariants.{Pair as Listed, InvalidSize, Insufficient, Overflow, NotMinimal, UnexpectedEof}
+use Rattle.vectors.specs.declared.verdict.Verdict.TheVariants.{Pair as Listed, InvalidSize, InvalidCode, Insufficient, Overflow, NotMinimal, UnexpectedEof}
 
 -- the text is a dash for no bytes, or the bytes in hexadecimal
 abbrev pub ListsBytes : List ℕ → List ℕ → Type 0
@@ -21,6 +21,7 @@ ListsBytes text bytes = ((text ≡ codes "-") × (bytes ≡ [])) ⊎ (decode_of 
 abbrev pub meaning : Verdict → Meaning
 meaning (Listed code digest) = accepted (record { code = code; digest = digest.items })
 meaning (InvalidSize size) = invalid_size size
+meaning (InvalidCode code) = invalid_code code
 meaning Insufficient = faulty insufficient
 meaning Overflow = faulty overflow
 meaning NotMinimal = faulty not_minimal
@@ -71,6 +72,7 @@ ends_varint byte = nat_lt byte 128
 abbrev pub TakesEnough : Meaning → List ℕ → List ℕ → Type 0
 TakesEnough (accepted p) input left = ⊥
 TakesEnough (invalid_size size) input left = ⊥
+TakesEnough (invalid_code code) input left = ⊥
 TakesEnough (faulty insufficient) input left = left ≡ []
 TakesEnough (faulty overflow) input left = ⊥
 TakesEnough (faulty not_minimal) input left = ⊥

@@ -13,6 +13,7 @@ use std::alloc::Global;
 pub enum Verdict {
     Pair { code: u64, digest: Vec<u8> },
     InvalidSize(u64),
+    InvalidCode(u64),
     Insufficient,
     Overflow,
     NotMinimal,
@@ -36,6 +37,9 @@ impl Verdict {
             }
             Some(("invalid_size", size)) => Ok(Verdict::InvalidSize(
                 size.parse::<u64>().context("an invalid size")?,
+            )),
+            Some(("invalid_code", code)) => Ok(Verdict::InvalidCode(
+                code.parse::<u64>().context("an invalid code")?,
             )),
             _ => Self::parse_bare(text),
         }
@@ -61,6 +65,7 @@ impl Verdict {
                 multihash.code() == *code && multihash.digest() == digest.as_slice()
             }
             (Verdict::InvalidSize(size), Err(error)) => error.invalid_size() == Some(*size),
+            (Verdict::InvalidCode(code), Err(error)) => error.invalid_code() == Some(*code),
             (Verdict::Insufficient, Err(error)) => error.is_insufficient(),
             (Verdict::Overflow, Err(error)) => error.is_overflow(),
             (Verdict::NotMinimal, Err(error)) => error.is_not_minimal(),

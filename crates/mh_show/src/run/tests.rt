@@ -54,8 +54,8 @@ fn shows_the_example(rt: HostRuntime) -> Result<(), Fail> {
     expect_lines(&rt, b"1603aAbBCc", b"code 22\nsize 3\ndigest aabbcc\n");
     expect_lines(
         &rt,
-        b"ffffffffffffffffff0100\n",
-        b"code 18446744073709551615\nsize 0\ndigest -\n",
+        b"ffffffffffffffff7f00\n",
+        b"code 9223372036854775807\nsize 0\ndigest -\n",
     );
     Ok(())
 }
@@ -64,7 +64,7 @@ fn shows_the_example(rt: HostRuntime) -> Result<(), Fail> {
 fn tells_why_a_text_is_refused(rt: HostRuntime) -> Result<(), Fail> {
     let not_hex = b"mh_show: not hexadecimal\n".as_slice();
     let too_short = b"mh_show: not enough input bytes\n".as_slice();
-    let rows: [(&[u8], &[u8]); 14] = [
+    let rows: [(&[u8], &[u8]); 16] = [
         (b"", too_short),
         (b"\n", too_short),
         (b"00", too_short),
@@ -78,6 +78,14 @@ fn tells_why_a_text_is_refused(rt: HostRuntime) -> Result<(), Fail> {
         (b"0041", b"mh_show: Invalid multihash size 65.\n"),
         (b"8000", b"mh_show: encoding is not minimal\n"),
         (b"0001", b"mh_show: failed to fill whole buffer\n"),
+        (
+            b"ffffffffffffffffff",
+            b"mh_show: input bytes exceed maximum\n",
+        ),
+        (
+            b"ffffffffffffffffff0100",
+            b"mh_show: input bytes exceed maximum\n",
+        ),
         (
             b"ffffffffffffffffff0200",
             b"mh_show: input bytes exceed maximum\n",

@@ -61,6 +61,7 @@ fn shows_what_a_line_names(rt: HostRuntime) -> Result<(), Fail> {
         ("0000\n", empty),
         ("1603AABBCC\n", three),
         ("1603aaBBcc", three),
+        ("ffffffffffffffff7f00", "code 9223372036854775807\nsize 0\ndigest -\n"),
     ] {
         assert_eq!(rt; show(rt.alloc(), text.as_bytes())?.as_str(), lines);
     }
@@ -78,6 +79,8 @@ fn tells_why_a_line_is_refused(rt: HostRuntime) -> Result<(), Fail> {
         ("0041", "Invalid multihash size 65."),
         ("8000", "encoding is not minimal"),
         ("0001", "failed to fill whole buffer"),
+        ("808080808080808000", "encoding is not minimal"),
+        ("ffffffffffffffffff0100", "input bytes exceed maximum"),
     ] {
         match show(rt.alloc(), text.as_bytes()) {
             Err(e) => {

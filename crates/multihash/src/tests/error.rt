@@ -71,6 +71,11 @@ fn refusals_print_their_texts(rt: HostRuntime) -> Result<(), Fail> {
             Error::from_size(u64::MAX),
             "Invalid multihash size 18446744073709551615.",
         ),
+        (Error::from_code(0), "Invalid multihash code 0."),
+        (
+            Error::from_code(u64::MAX),
+            "Invalid multihash code 18446744073709551615.",
+        ),
         (Error::insufficient(), "not enough input bytes"),
         (Error::overflow(), "input bytes exceed maximum"),
         (Error::not_minimal(), "encoding is not minimal"),
@@ -100,7 +105,12 @@ fn refusals_print_their_texts(rt: HostRuntime) -> Result<(), Fail> {
 #[test]
 fn refusals_tell_their_kind(rt: HostRuntime) {
     assert_eq!(rt; Error::from_size(7).invalid_size(), Some(7));
+    assert!(rt; Error::from_size(7).invalid_code().is_none());
     assert!(rt; Error::from_size(7).io().is_none());
+    assert_eq!(rt; Error::from_code(7).invalid_code(), Some(7));
+    assert!(rt; Error::from_code(7).invalid_size().is_none());
+    assert!(rt; Error::from_code(7).io().is_none());
+    assert!(rt; !Error::from_code(7).is_overflow());
     assert!(rt; Error::insufficient().is_insufficient());
     assert!(rt; !Error::insufficient().is_overflow());
     assert!(rt; Error::overflow().is_overflow());
@@ -109,6 +119,7 @@ fn refusals_tell_their_kind(rt: HostRuntime) {
     assert!(rt; Error::not_bytes().is_not_bytes());
     assert!(rt; !Error::not_bytes().is_not_minimal());
     assert!(rt; Error::not_minimal().invalid_size().is_none());
+    assert!(rt; Error::not_minimal().invalid_code().is_none());
     let passed_on = Error::from(no_std_io::Error::other("x"));
     assert!(rt;
         passed_on

@@ -2,7 +2,7 @@
 use crate::varint;
 use std::test::Fail;
 
-const VARINTS: [(u64, &[u8]); 15] = [
+const VARINTS: [(u64, &[u8]); 13] = [
     (0, &[0x00]),
     (1, &[0x01]),
     (127, &[0x7f]),
@@ -22,14 +22,14 @@ const VARINTS: [(u64, &[u8]); 15] = [
         9223372036854775807,
         &[0xff, 0xff, 0xff, 0xff, 0xff, 0xff, 0xff, 0xff, 0x7f],
     ),
-    (
-        9223372036854775808,
-        &[0x80, 0x80, 0x80, 0x80, 0x80, 0x80, 0x80, 0x80, 0x80, 0x01],
-    ),
-    (
-        18446744073709551615,
-        &[0xff, 0xff, 0xff, 0xff, 0xff, 0xff, 0xff, 0xff, 0xff, 0x01],
-    ),
+];
+
+// What the first numbers too large for a varint would be as ten bytes, and marked bytes that go on.
+const TOO_LONG: [&[u8]; 4] = [
+    &[0x80, 0x80, 0x80, 0x80, 0x80, 0x80, 0x80, 0x80, 0x80, 0x01],
+    &[0xff, 0xff, 0xff, 0xff, 0xff, 0xff, 0xff, 0xff, 0xff, 0x01],
+    &[0x80, 0x80, 0x80, 0x80, 0x80, 0x80, 0x80, 0x80, 0x80, 0x00],
+    &[0x80, 0x80, 0x80, 0x80, 0x80, 0x80, 0x80, 0x80, 0x80, 0x80],
 ];
 
 #[test]
@@ -47,4 +47,24 @@ fn varints_both_ways(rt: HostRuntime) -> Result<(), Fail> {
         assert_eq!(rt; varint::read_front(&followed), Some((value, bytes.len())));
     }
     Ok(())
+}
+
+#[test]
+fn ninth_marked_byte_overflows(rt: HostRuntime) {
+    for bytes in TOO_LONG {
+        let mut left = bytes;
+        assert!(rt; varint::read(&mut left).is_err_and(|e| e.is_overflow()));
+        assert_eq!(rt; left, &bytes[9..]);
+        assert!(rt; varint::read_front(bytes).is_none());
+        assert!(rt; varint::front_fault(bytes).is_overflow());
+        assert!(rt; varint::front_fault(&bytes[..9]).is_overflow());
+        assert!(rt; varint::front_fault(&bytes[..8]).is_insufficient());
+    }
+}
+
+#[test]
+fn largest_number_has_nine_bytes(rt: HostRuntime) {
+    assert_eq!(rt; varint::MAX, 9223372036854775807);
+    assert_eq!(rt; varint::len(varint::MAX), 9);
+    assert_eq!(rt; varint::len(72057594037927935), 8);
 }

@@ -1,10 +1,19 @@
 //! Worked values of the type and of its binary form.
 use super::fakes::Cuts;
+use super::kinds::{LARGEST_CODE, is_code};
 use crate::bytes::{accepted_back, bytes_back, fills};
 use multihash::no_std_io::Read;
 use multihash::{Error, Multihash, laws};
 use std::process::Abort;
 use std::test::Fail;
+
+// Eight marked bytes, one more and a zero.
+fn nine_bytes_and_zero(marked: u8, ninth: u8) -> [u8; 10] {
+    let mut bytes = [marked; 10];
+    bytes[8] = ninth;
+    bytes[9] = 0;
+    bytes
+}
 
 // Nine marked bytes, one more and a zero.
 fn ten_bytes_and_zero(marked: u8, tenth: u8) -> [u8; 11] {
@@ -40,28 +49,66 @@ fn a_code_of_two_bytes(rt: HostRuntime) -> Result<(), Fail> {
 
 #[test]
 fn the_largest_code(rt: HostRuntime) -> Result<(), Fail> {
-    let m = Multihash::<4>::wrap(u64::MAX, &[])?;
+    let m = Multihash::<4>::wrap(LARGEST_CODE, &[])?;
     let bytes = m.to_bytes(rt.alloc())?;
-    assert_eq!(rt; bytes.as_slice(), ten_bytes_and_zero(255, 1).as_slice());
-    assert_eq!(rt; m.encoded_len(), 11);
-    assert_eq!(rt; Multihash::<4>::from_bytes(&bytes)?.code(), u64::MAX);
+    assert_eq!(rt; bytes.as_slice(), nine_bytes_and_zero(255, 127).as_slice());
+    assert_eq!(rt; m.encoded_len(), 10);
+    let back = Multihash::<4>::from_bytes(&bytes)?;
+    assert_eq!(rt; (back.code(), back.size()), (LARGEST_CODE, 0));
     Ok(())
 }
 
 #[test]
-fn ten_bytes_of_a_code(rt: HostRuntime) -> Result<(), Fail> {
-    let too_large = Multihash::<4>::from_bytes(&ten_bytes_and_zero(255, 2));
-    assert!(rt; too_large.is_err_and(|e| e.is_overflow()));
-    let padded = Multihash::<4>::from_bytes(&ten_bytes_and_zero(128, 0));
-    assert!(rt; padded.is_err_and(|e| e.is_not_minimal()));
-    let padded_alone = Multihash::<4>::from_bytes(&ten_bytes_and_zero(128, 0)[..10]);
-    assert!(rt; padded_alone.is_err_and(|e| e.is_not_minimal()));
-    let marked = Multihash::<4>::from_bytes(&[128; 10]);
-    assert!(rt; marked.is_err_and(|e| e.is_overflow()));
-    let largest = Multihash::<4>::from_bytes(&ten_bytes_and_zero(128, 1))?;
-    assert_eq!(rt; largest.code(), 9223372036854775808);
-    assert!(rt; largest.digest().is_empty());
+fn larger_codes_are_refused(rt: HostRuntime) -> Result<(), Fail> {
+    match Multihash::<4>::wrap(u64::MAX, &[]) {
+        Ok(_) => assert!(rt; false),
+        Err(e) => {
+            assert_eq!(rt; e.invalid_code(), Some(u64::MAX));
+            assert_eq!(rt;
+                format!(in rt.alloc(); "{e}")?.as_str(),
+                "Invalid multihash code 18446744073709551615."
+            );
+        }
+    }
+    for code in [9223372036854775808, 9223372036854775809, u64::MAX] {
+        assert!(rt; Multihash::<4>::wrap(code, b"AB").is_err_and(|e| is_code(&e, code)));
+        assert!(rt; Multihash::<0>::wrap(code, &[]).is_err_and(|e| is_code(&e, code)));
+    }
     Ok(())
+}
+
+#[test]
+fn a_size_is_refused_before_a_code(rt: HostRuntime) {
+    assert!(rt; is_size(Multihash::<2>::wrap(u64::MAX, b"foobar"), 6));
+    assert!(rt; is_size(Multihash::<300>::wrap(u64::MAX, &[0; 256]), 256));
+}
+
+#[test]
+fn nine_bytes_of_a_code(rt: HostRuntime) -> Result<(), Fail> {
+    let padded = Multihash::<4>::from_bytes(&nine_bytes_and_zero(128, 0));
+    assert!(rt; padded.is_err_and(|e| e.is_not_minimal()));
+    let code = Multihash::<4>::from_bytes(&nine_bytes_and_zero(128, 1))?;
+    assert_eq!(rt; code.code(), 72057594037927936);
+    assert!(rt; code.digest().is_empty());
+    Ok(())
+}
+
+#[test]
+fn ten_bytes_of_a_code_overflow(rt: HostRuntime) {
+    for bytes in [
+        ten_bytes_and_zero(255, 2).as_slice(),
+        &ten_bytes_and_zero(128, 0)[..10],
+        &ten_bytes_and_zero(128, 0),
+        &[128; 10],
+        &ten_bytes_and_zero(128, 1),
+    ] {
+        let whole = Multihash::<4>::from_bytes(bytes);
+        assert!(rt; whole.is_err_and(|e| e.is_overflow()), "{bytes:?}");
+        let mut left = bytes;
+        let read = Multihash::<4>::read(&mut left);
+        assert!(rt; read.is_err_and(|e| e.is_overflow()), "{bytes:?}");
+        assert_eq!(rt; left, &bytes[9..]);
+    }
 }
 
 #[test]

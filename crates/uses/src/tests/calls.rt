@@ -1,6 +1,6 @@
 //! How often readers and writers are asked, and that one that failed is not asked again.
 use super::fakes::{Counts, CountsWrites, Drip};
-use super::kinds::{is_disk_gone, is_eof, is_full, is_link_down};
+use super::kinds::{LARGEST_CODE, is_code, is_disk_gone, is_eof, is_full, is_link_down};
 use multihash::Multihash;
 use multihash::list::{read_list, write_list};
 use multihash::no_std_io::Write;
@@ -16,7 +16,7 @@ const STREAM: [u8; 7] = [0, 1, 65, 18, 1, 66, 7];
 
 #[test]
 fn write_makes_three_calls(rt: HostRuntime) -> Result<(), Fail> {
-    for (code, digest) in [(300, b"AB".as_slice()), (0, b""), (u64::MAX, b"ABCD")] {
+    for (code, digest) in [(300, b"AB".as_slice()), (0, b""), (LARGEST_CODE, b"ABCD")] {
         let m = Multihash::<4>::wrap(code, digest)?;
         let mut writer = CountsWrites::new(rt.alloc());
         m.write(&mut writer)?;
@@ -117,6 +117,12 @@ fn scale_decode_asks_for_its_three_parts(rt: HostRuntime) {
     let mut reader = Counts::new(&SCALE);
     assert!(rt; Multihash::<1>::scale_decode(&mut reader).is_err());
     assert_eq!(rt; reader.asked(), (0, 0, 2));
+    // A code that is refused asks for no size.
+    let mut reader = Counts::new(&[255, 255, 255, 255, 255, 255, 255, 255, 0]);
+    let refused = Multihash::<4>::scale_decode(&mut reader);
+    assert!(rt; refused.is_err_and(|e| is_code(&e, u64::MAX)));
+    assert_eq!(rt; reader.asked(), (0, 0, 1));
+    assert_eq!(rt; reader.left, [0].as_slice());
 }
 
 // How often a reader was asked in all.

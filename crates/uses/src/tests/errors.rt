@@ -1,15 +1,17 @@
 //! Exactly one of the tests of an error is true.
-use crate::bytes::{one_of_four, one_of_six};
+use crate::bytes::{one_of_four, one_of_seven};
 use multihash::Multihash;
 use multihash::no_std_io::{self, Read, Write};
 use serde_json::Value;
 use std::test::Fail;
 
 #[test]
-fn one_test_of_six_is_true(rt: HostRuntime) -> Result<(), Fail> {
+fn one_test_of_seven_is_true(rt: HostRuntime) -> Result<(), Fail> {
     let m = Multihash::<4>::wrap(0, &[7])?;
     for refused in [
         Multihash::<4>::wrap(0, &[0; 5]).err(),
+        Multihash::<4>::wrap(1 << 63, &[]).err(),
+        Multihash::<4>::scale_decode(&mut [0xff; 8].as_slice()).err(),
         Multihash::<4>::from_bytes(&[]).err(),
         Multihash::<4>::from_bytes(&[0xff; 12]).err(),
         Multihash::<4>::from_bytes(&[0x80, 0]).err(),
@@ -19,7 +21,7 @@ fn one_test_of_six_is_true(rt: HostRuntime) -> Result<(), Fail> {
         Some(no_std_io::Error::out_of_memory().into()),
         Some(no_std_io::Error::other("disk gone").into()),
     ] {
-        assert!(rt; refused.is_some_and(|e| one_of_six(&e) == 1));
+        assert!(rt; refused.is_some_and(|e| one_of_seven(&e) == 1));
     }
     Ok(())
 }

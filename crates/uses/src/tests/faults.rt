@@ -156,14 +156,12 @@ fn a_reader_is_read_on_after_a_fault(rt: HostRuntime) -> Result<(), Fail> {
 }
 
 // Bytes that the form's reading call refuses once it has taken the last of them.
-const REFUSED: [(Form, &[u8]); 6] = [
+const REFUSED: [(Form, &[u8]); 7] = [
     (Form::Binary, &[0, 5]),
     (Form::Binary, &[128, 0]),
-    (
-        Form::Binary,
-        &[255, 255, 255, 255, 255, 255, 255, 255, 255, 2],
-    ),
+    (Form::Binary, &[255; 9]),
     (Form::Scale, &[0, 0, 0, 0, 0, 0, 0, 0, 5]),
+    (Form::Scale, &[255; 8]),
     (Form::List, &[0, 5]),
     (Form::List, &[0, 1, 65, 128, 0]),
 ];

@@ -1,4 +1,5 @@
 //! Multihashes that pass from one form to another.
+use super::kinds::LARGEST_CODE;
 use crate::forms::{Form, form_back, forms_back};
 use multihash::Multihash;
 use std::test::Fail;
@@ -17,7 +18,7 @@ fn from_form_to_form(rt: HostRuntime) -> Result<(), Fail> {
         (18, b"B"),
         (0, b"hello world"),
         (18, &DIGEST),
-        (u64::MAX, b""),
+        (LARGEST_CODE, b""),
     ] {
         let m = Multihash::<32>::wrap(code, digest)?;
         for first in FORMS {
@@ -34,7 +35,7 @@ fn from_form_to_form(rt: HostRuntime) -> Result<(), Fail> {
 #[test]
 fn full_digests_pass_through_forms(rt: HostRuntime) -> Result<(), Fail> {
     let digest = [7; 128];
-    for code in [0, 72057594037927936, 9223372036854775808] {
+    for code in [0, 72057594037927936, LARGEST_CODE] {
         let m = Multihash::<128>::wrap(code, &digest)?;
         for first in FORMS {
             for second in FORMS {

@@ -1,7 +1,7 @@
 //! Worked values of the JSON form.
 ghost use Rattle.std.specs.Prelude.{◌≤◌};
 
-use super::kinds::{is_eof, is_size};
+use super::kinds::{LARGEST_CODE, is_code, is_eof, is_size};
 use crate::forms::json_back;
 use multihash::{Error, Multihash};
 use serde_json::{Value, json};
@@ -34,17 +34,19 @@ fn json_text(rt: HostRuntime) -> Result<(), Fail> {
 
 #[test]
 fn full_buffers_come_back(rt: HostRuntime) -> Result<(), Fail> {
-    for (code, count) in [(72057594037927936, 139), (9223372036854775808, 140)] {
+    for code in [72057594037927936, LARGEST_CODE] {
         let m = Multihash::<128>::wrap(code, &[200; 128])?;
         let value = m.to_value(rt.alloc())?;
-        assert_eq!(rt; count_of_members(&value), count);
+        assert_eq!(rt; count_of_members(&value), 139);
         assert_eq!(rt; Multihash::from_value(&value)?, m);
     }
-    let longest = Multihash::<255>::wrap(u64::MAX, &[7; 255])?;
+    let refused = Multihash::<128>::wrap(9223372036854775808, &[200; 128]);
+    assert!(rt; refused.is_err_and(|e| is_code(&e, 9223372036854775808)));
+    let longest = Multihash::<255>::wrap(LARGEST_CODE, &[7; 255])?;
     let value = longest.to_value(rt.alloc())?;
     assert_eq!(rt;
         (longest.encoded_len(), count_of_members(&value)),
-        (267, 267)
+        (266, 266)
     );
     assert_eq!(rt; Multihash::from_value(&value)?, longest);
     Ok(())
@@ -101,8 +103,14 @@ fn arrays_of_bytes_are_read(rt: HostRuntime) -> Result<(), Fail> {
     assert!(rt; read_text::<2>(alloc, "[0,3]")?.is_err_and(|e| is_size(&e, 3)));
     assert!(rt; read_text::<2>(alloc, "[0,2,9]")?.is_err_and(|e| is_eof(&e)));
     assert!(rt; read_text::<2>(alloc, "[128,0]")?.is_err_and(|e| e.is_not_minimal()));
-    let overflow = "[128,128,128,128,128,128,128,128,128,2]";
-    assert!(rt; read_text::<2>(alloc, overflow)?.is_err_and(|e| e.is_overflow()));
+    for overflow in [
+        "[128,128,128,128,128,128,128,128,128]",
+        "[128,128,128,128,128,128,128,128,128,2]",
+        "[255,255,255,255,255,255,255,255,255,1,0]",
+    ] {
+        let answer = read_text::<2>(alloc, overflow)?;
+        assert!(rt; answer.is_err_and(|e| e.is_overflow()), "{overflow}");
+    }
     let m = read_text::<2>(alloc, "[ 128, 1, 2, 255, 0 ]")??;
     assert_eq!(rt; m, Multihash::wrap(128, &[255, 0])?);
     Ok(())

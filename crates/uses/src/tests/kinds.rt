@@ -1,8 +1,15 @@
 //! What an error is, for tests that look at one.
 use multihash::Error;
 
+/// The largest code of a multihash: 2^63 - 1.
+pub const LARGEST_CODE: u64 = 9223372036854775807;
+
 pub fn is_size(e: &Error, size: u64) -> bool {
     e.invalid_size() == Some(size)
+}
+
+pub fn is_code(e: &Error, code: u64) -> bool {
+    e.invalid_code() == Some(code)
 }
 
 pub fn is_eof(e: &Error) -> bool {

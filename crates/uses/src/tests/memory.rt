@@ -1,7 +1,7 @@
 //! Memory that is refused. A test whose name begins with `refused` passes where nothing is refused.
 //! Where a request is, it looks at what stands then, and fails with `REFUSED`:
 //! `tools/refuse_memory.sh` refuses each request in turn, and counts them so.
-use super::kinds::is_memory;
+use super::kinds::{LARGEST_CODE, is_code, is_memory};
 use multihash::list::{read_list, write_list};
 use multihash::no_std_io::Write;
 use multihash::{Error, Multihash};
@@ -149,6 +149,9 @@ fn needs_no_memory(rt: HostRuntime) -> Result<(), Fail> {
     assert_eq!(rt; second.scale_encode(&mut free)?, 10);
     assert!(rt; free.is_empty());
     assert!(rt; Multihash::<4>::scale_decode(&mut &places[6..])? == second);
+    assert!(rt; Multihash::<4>::wrap(u64::MAX, &[]).is_err_and(|e| is_code(&e, u64::MAX)));
+    let refused = Multihash::<4>::scale_decode(&mut [255; 8].as_slice());
+    assert!(rt; refused.is_err_and(|e| is_code(&e, u64::MAX)));
     Ok(())
 }
 
@@ -220,14 +223,14 @@ fn a_list_has_no_more_places_than_items(rt: HostRuntime) -> Result<(), Fail> {
 #[test]
 fn to_bytes_has_no_more_places_than_bytes(rt: HostRuntime) -> Result<(), Fail> {
     for digest in [[].as_slice(), &[7; 127], &[7; 128], &[7; 255]] {
-        let m = Multihash::<255>::wrap(u64::MAX, digest)?;
+        let m = Multihash::<255>::wrap(LARGEST_CODE, digest)?;
         let bytes = m.to_bytes(rt.alloc())?;
         assert_eq!(rt;
             (bytes.len(), bytes.capacity()),
             (m.encoded_len(), m.encoded_len())
         );
     }
-    for shift in 0..64u32 {
+    for shift in 0..63u32 {
         let m = Multihash::<4>::wrap(1u64 << shift, b"AB")?;
         assert_eq!(rt;
             m.to_bytes(rt.alloc())?.capacity(),

@@ -2,7 +2,7 @@
 ghost use Rattle.std.specs.Prelude.{◌<◌, ◌^◌};
 
 use super::fakes::{Cuts, Silent};
-use super::kinds::{is_eof, is_size};
+use super::kinds::{LARGEST_CODE, is_code, is_eof, is_size};
 use crate::forms::{fills_scale, scale_back};
 use multihash::{Error, Multihash};
 use std::alloc::Global;
@@ -62,7 +62,11 @@ fn pairs_are_written(rt: HostRuntime) -> Result<(), Fail> {
             [0xaa].as_slice(),
             [8, 7, 6, 5, 4, 3, 2, 1, 1, 0xaa].as_slice(),
         ),
-        (u64::MAX, &[], &[255, 255, 255, 255, 255, 255, 255, 255, 0]),
+        (
+            LARGEST_CODE,
+            &[],
+            &[255, 255, 255, 255, 255, 255, 255, 127, 0],
+        ),
         (18, b"B", &[18, 0, 0, 0, 0, 0, 0, 0, 1, 66]),
     ] {
         expect_written::<4, _>(&rt, rt.alloc(), code, digest, wanted)?;
@@ -75,13 +79,14 @@ fn pairs_are_written(rt: HostRuntime) -> Result<(), Fail> {
 enum Want {
     Pair(u64, &'static [u8]),
     InvalidSize(u64),
+    InvalidCode(u64),
     UnexpectedEof,
 }
 
 /// An input, what decoding answers to it, and how many bytes of it are left, where that is said.
 type Row = (&'static [u8], Want, Option<usize>);
 
-const UP_TO_FOUR: [Row; 9] = [
+const UP_TO_FOUR: [Row; 15] = [
     (&[], Want::UnexpectedEof, None),
     (&[0; 8], Want::UnexpectedEof, None),
     (
@@ -109,15 +114,38 @@ const UP_TO_FOUR: [Row; 9] = [
         Want::Pair(72623859790382856, &[0xaa]),
         Some(0),
     ),
+    // The largest code, and larger ones: these are refused before the size is taken.
+    (
+        &[255, 255, 255, 255, 255, 255, 255, 127],
+        Want::UnexpectedEof,
+        None,
+    ),
+    (
+        &[255, 255, 255, 255, 255, 255, 255, 127, 0, 9],
+        Want::Pair(LARGEST_CODE, &[]),
+        Some(1),
+    ),
+    (
+        &[255, 255, 255, 255, 255, 255, 255, 127, 5],
+        Want::InvalidSize(5),
+        Some(0),
+    ),
+    (&[255; 7], Want::UnexpectedEof, None),
+    (&[255; 8], Want::InvalidCode(u64::MAX), Some(0)),
     (
         &[255, 255, 255, 255, 255, 255, 255, 255, 0],
-        Want::Pair(u64::MAX, &[]),
-        Some(0),
+        Want::InvalidCode(u64::MAX),
+        Some(1),
+    ),
+    (
+        &[255, 255, 255, 255, 255, 255, 255, 255, 5, 0xaa],
+        Want::InvalidCode(u64::MAX),
+        Some(2),
     ),
     (
         &[0, 0, 0, 0, 0, 0, 0, 128, 0, 0],
-        Want::Pair(9223372036854775808, &[]),
-        Some(1),
+        Want::InvalidCode(9223372036854775808),
+        Some(2),
     ),
 ];
 
@@ -126,6 +154,7 @@ fn is_wanted<const S: usize>(want: Want, answer: &Result<Multihash<S>, Error>) -
     match (want, answer) {
         (Want::Pair(code, digest), Ok(m)) => m.code() == code && m.digest() == digest,
         (Want::InvalidSize(size), Err(e)) => is_size(e, size),
+        (Want::InvalidCode(code), Err(e)) => is_code(e, code),
         (Want::UnexpectedEof, Err(e)) => is_eof(e),
         _ => false,
     }
@@ -173,6 +202,19 @@ fn inputs_are_read(rt: HostRuntime) {
         &rt,
         &[(&[0, 0, 0, 0, 0, 0, 0, 0, 255, 7], Want::UnexpectedEof, None)],
     );
+}
+
+#[test]
+fn a_large_code_is_told(rt: HostRuntime) -> Result<(), Fail> {
+    assert!(rt; Multihash::<4>::wrap(u64::MAX, &[]).is_err_and(|e| is_code(&e, u64::MAX)));
+    match Multihash::<4>::scale_decode(&mut [255; 9].as_slice()) {
+        Ok(_) => assert!(rt; false),
+        Err(e) => assert_eq!(rt;
+            format!(in rt.alloc(); "{e}")?.as_str(),
+            "Invalid multihash code 18446744073709551615."
+        ),
+    }
+    Ok(())
 }
 
 #[test]

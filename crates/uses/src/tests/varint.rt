@@ -1,10 +1,13 @@
 //! Varints, both ways.
 use super::fakes::{Counts, Cuts};
+use super::kinds::is_code;
 use crate::bytes::bytes_back;
 use multihash::Multihash;
+use std::alloc::Global;
+use std::process::Abort;
 use std::test::Fail;
 
-const VARINTS: [(u64, &[u8]); 15] = [
+const VARINTS: [(u64, &[u8]); 13] = [
     (0, &[0x00]),
     (1, &[0x01]),
     (127, &[0x7f]),
@@ -24,6 +27,10 @@ const VARINTS: [(u64, &[u8]); 15] = [
         9223372036854775807,
         &[0xff, 0xff, 0xff, 0xff, 0xff, 0xff, 0xff, 0xff, 0x7f],
     ),
+];
+
+// Numbers of 64 bits, and the digits that they would have: these have nine marked bytes.
+const TOO_LARGE: [(u64, &[u8]); 2] = [
     (
         9223372036854775808,
         &[0x80, 0x80, 0x80, 0x80, 0x80, 0x80, 0x80, 0x80, 0x80, 0x01],
@@ -55,37 +62,66 @@ fn codes_both_ways(rt: HostRuntime) -> Result<(), Fail> {
     Ok(())
 }
 
+#[test]
+fn larger_codes_have_no_varint(rt: HostRuntime) -> Result<(), Fail> {
+    for (value, code) in TOO_LARGE {
+        let refused = Multihash::<4>::wrap(value, &[]);
+        assert!(rt; refused.is_err_and(|e| is_code(&e, value)), "at {value}");
+        let mut bytes = code.to_vec(rt.alloc())?;
+        bytes.push(0)?;
+        let whole = Multihash::<4>::from_bytes(&bytes);
+        assert!(rt; whole.is_err_and(|e| e.is_overflow()), "at {value}");
+        let mut reader = Cuts::new(&bytes, 1);
+        let read = Multihash::<4>::read(&mut reader);
+        assert!(rt; read.is_err_and(|e| e.is_overflow()), "at {value}");
+        assert_eq!(rt; reader.left, [1, 0].as_slice());
+    }
+    Ok(())
+}
+
 // What may follow a beginning of a varint.
 const BEHIND: [&[u8]; 6] = [&[], &[0], &[1], &[2], &[0, 7], &[0x80; 17]];
+
+// `read` and `from_bytes` answer alike, but for bytes that are left over.
+fn expect_alike(rt: &impl Abort, alloc: Global, bytes: &[u8]) -> Result<(), Fail> {
+    let mut left = bytes;
+    let read = Multihash::<4>::read(&mut left);
+    match (read, Multihash::<4>::from_bytes(bytes)) {
+        (Ok(m), Ok(whole)) => {
+            assert!(rt; left.is_empty());
+            assert_eq!(rt; m, whole);
+        }
+        (Ok(_), Err(e)) => {
+            assert!(rt; !left.is_empty());
+            assert_eq!(rt; e.invalid_size(), Some(left.len() as u64));
+        }
+        (Err(e), Err(whole)) => {
+            assert_eq!(rt; e.to_string(alloc)?, whole.to_string(alloc)?);
+        }
+        (Err(_), Ok(_)) => assert!(rt; false, "from_bytes alone answers a pair"),
+    }
+    Ok(())
+}
+
+// The same of each beginning of the bytes, whatever follows it.
+fn expect_beginnings_alike(rt: &impl Abort, alloc: Global, code: &[u8]) -> Result<(), Fail> {
+    for n in 0..=code.len() {
+        for behind in BEHIND {
+            let mut bytes = code[..n].to_vec(alloc)?;
+            bytes.extend_from_slice(behind)?;
+            expect_alike(rt, alloc, &bytes)?;
+        }
+    }
+    Ok(())
+}
 
 #[test]
 fn a_slice_is_read_as_its_bytes_are(rt: HostRuntime) -> Result<(), Fail> {
     for (_, code) in VARINTS {
-        for n in 0..11 {
-            for behind in BEHIND {
-                if n > code.len() {
-                    continue;
-                }
-                let mut bytes = code[..n].to_vec(rt.alloc())?;
-                bytes.extend_from_slice(behind)?;
-                let mut left = bytes.as_slice();
-                let read = Multihash::<4>::read(&mut left);
-                match (read, Multihash::<4>::from_bytes(&bytes)) {
-                    (Ok(m), Ok(whole)) => {
-                        assert!(rt; left.is_empty());
-                        assert_eq!(rt; m, whole);
-                    }
-                    (Ok(_), Err(e)) => {
-                        assert!(rt; !left.is_empty());
-                        assert_eq!(rt; e.invalid_size(), Some(left.len() as u64));
-                    }
-                    (Err(e), Err(whole)) => {
-                        assert_eq!(rt; e.to_string(rt.alloc())?, whole.to_string(rt.alloc())?);
-                    }
-                    (Err(_), Ok(_)) => assert!(rt; false, "from_bytes alone answers a pair"),
-                }
-            }
-        }
+        expect_beginnings_alike(&rt, rt.alloc(), code)?;
+    }
+    for (_, code) in TOO_LARGE {
+        expect_beginnings_alike(&rt, rt.alloc(), code)?;
     }
     Ok(())
 }

@@ -33,7 +33,7 @@ enum Taken {
 /// An input, what `read` answers to it and takes of it, and what `from_bytes` answers.
 type Row = (&'static [u8], Want, Taken, Want);
 
-const UP_TO_FOUR: [Row; 18] = [
+const UP_TO_FOUR: [Row; 22] = [
     (&[], Want::Insufficient, Taken::All, Want::Insufficient),
     (&[0x80], Want::Insufficient, Taken::All, Want::Insufficient),
     (
@@ -92,40 +92,64 @@ const UP_TO_FOUR: [Row; 18] = [
         Want::InvalidSize(1),
     ),
     (
-        &[0x80; 9],
+        &[0x80; 8],
         Want::Insufficient,
         Taken::All,
         Want::Insufficient,
     ),
     (
+        &[0x80, 0x80, 0x80, 0x80, 0x80, 0x80, 0x80, 0x80, 0],
+        Want::NotMinimal,
+        Taken::Settled(9),
+        Want::NotMinimal,
+    ),
+    (
+        &[0x80, 0x80, 0x80, 0x80, 0x80, 0x80, 0x80, 0x80, 1],
+        Want::Insufficient,
+        Taken::All,
+        Want::Insufficient,
+    ),
+    (
+        &[0x80; 9],
+        Want::Overflow,
+        Taken::Settled(9),
+        Want::Overflow,
+    ),
+    (
         &[0x80, 0x80, 0x80, 0x80, 0x80, 0x80, 0x80, 0x80, 0x80, 0],
-        Want::NotMinimal,
-        Taken::Settled(10),
-        Want::NotMinimal,
+        Want::Overflow,
+        Taken::Settled(9),
+        Want::Overflow,
     ),
     (
         &[0x80, 0x80, 0x80, 0x80, 0x80, 0x80, 0x80, 0x80, 0x80, 2],
         Want::Overflow,
-        Taken::Settled(10),
+        Taken::Settled(9),
         Want::Overflow,
     ),
     (
         &[0x80, 0x80, 0x80, 0x80, 0x80, 0x80, 0x80, 0x80, 0x80, 0x81],
         Want::Overflow,
-        Taken::Settled(10),
+        Taken::Settled(9),
         Want::Overflow,
     ),
     (
         &[0x80, 0x80, 0x80, 0x80, 0x80, 0x80, 0x80, 0x80, 0x80, 1],
-        Want::Insufficient,
-        Taken::All,
-        Want::Insufficient,
+        Want::Overflow,
+        Taken::Settled(9),
+        Want::Overflow,
     ),
     (
         &[0, 0xff, 0xff, 0xff, 0xff, 0xff, 0xff, 0xff, 0xff, 0xff, 1],
-        Want::InvalidSize(18446744073709551615),
-        Taken::Settled(11),
-        Want::InvalidSize(18446744073709551615),
+        Want::Overflow,
+        Taken::Settled(10),
+        Want::Overflow,
+    ),
+    (
+        &[0, 0xff, 0xff, 0xff, 0xff, 0xff, 0xff, 0xff, 0xff, 0x7f],
+        Want::InvalidSize(9223372036854775807),
+        Taken::Settled(10),
+        Want::InvalidSize(9223372036854775807),
     ),
 ];
 

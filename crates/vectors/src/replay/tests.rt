@@ -50,7 +50,7 @@ fn part_of(check: Check) -> Part {
 }
 
 // Lines with a false column, and the part that it is in.
-const FALSE_LINES: [(&str, Part); 22] = [
+const FALSE_LINES: [(&str, Part); 28] = [
     // The digest of a pair, its code, and a pair where there is none.
     (
         "4\t390286ce\tpair 57 86ce\t4\tpair 57 86cf\tunexpected_eof\t-",
@@ -133,7 +133,32 @@ const FALSE_LINES: [(&str, Part); 22] = [
         "4\t39000000000000000286\tpair 57 -\t2\tinvalid_size 8\tinsufficient\t-",
         Part::Scale,
     ),
+    // The code that was refused, a size in its place, and a code where there is none.
+    (
+        "4\t000000000000008000\tpair 0 -\t2\tinvalid_size 7\tinvalid_code 9223372036854775809\t8",
+        Part::Scale,
+    ),
+    (
+        "4\t000000000000008000\tpair 0 -\t2\tinvalid_size 7\tinvalid_size 9223372036854775808\t8",
+        Part::Scale,
+    ),
+    (
+        "4\t000000000000008000\tpair 0 -\t2\tinvalid_size 7\tpair 9223372036854775808 -\t9",
+        Part::Scale,
+    ),
+    (
+        "4\t00000000000000800000\tinvalid_code 0\t2\tinvalid_size 8\tinvalid_code 9223372036854775808\t8",
+        Part::Read,
+    ),
+    (
+        "4\t000000000000008000\tpair 0 -\t2\tinvalid_code 7\tinvalid_code 9223372036854775808\t8",
+        Part::Whole,
+    ),
     // More bytes or fewer, none where something is decided, and a number where nothing is.
+    (
+        "4\t000000000000008000\tpair 0 -\t2\tinvalid_size 7\tinvalid_code 9223372036854775808\t9",
+        Part::Scale,
+    ),
     (
         "4\t39000000000000000286ce\tpair 57 -\t2\tinvalid_size 9\tpair 57 86ce\t10",
         Part::Scale,
@@ -149,11 +174,12 @@ const FALSE_LINES: [(&str, Part); 22] = [
 ];
 
 // Lines on which each check agrees: a SCALE form with a byte behind it, one whose size is too large for
-// the buffer, and one that is cut.
-const TRUE_LINES: [&str; 3] = [
+// the buffer, one that is cut, and one whose code is too large.
+const TRUE_LINES: [&str; 4] = [
     "4\t39000000000000000286ceff\tpair 57 -\t2\tinvalid_size 10\tpair 57 86ce\t11",
     "1\t39000000000000000286ce\tpair 57 -\t2\tinvalid_size 9\tinvalid_size 2\t9",
     "4\t39000000000000000286\tpair 57 -\t2\tinvalid_size 8\tunexpected_eof\t-",
+    "4\t000000000000008000\tpair 0 -\t2\tinvalid_size 7\tinvalid_code 9223372036854775808\t8",
 ];
 
 #[test]
@@ -209,6 +235,8 @@ fn refuses_malformed_lines(rt: HostRuntime) -> Result<(), Fail> {
         "4\t390286ce\tpair 57 86ce\t4\tpairs 57 86ce\tunexpected_eof\t-",
         "1\t390286ce\tinvalid_size two\t2\tinvalid_size 2\tunexpected_eof\t-",
         "1\t80\tinsufficient 1\t-\tinsufficient\tunexpected_eof\t-",
+        "4\t000000000000008000\tpair 0 -\t2\tinvalid_size 7\tinvalid_code\t8",
+        "4\t000000000000008000\tpair 0 -\t2\tinvalid_size 7\tinvalid_code -1\t8",
     ];
     for line in lines {
         let list = list_of(rt.alloc(), line)?;
@@ -236,17 +264,18 @@ fn refusal_of(alloc: Global, list: &str) -> Result<String> {
 #[test]
 fn refuses_other_lists(rt: HostRuntime) -> Result<(), Fail> {
     let alloc = rt.alloc();
-    for list in [
-        format!(in alloc; "")?,
-        format!(in alloc; "S\tinput\n")?,
-        format!(in alloc; "{COLUMNS}\tmore\n{GOOD}\n")?,
-        format!(in alloc; "{COLUMNS} \n{GOOD}\n")?,
-        format!(in alloc; "{GOOD}\n")?,
-    ] {
-        let told = refusal_of(alloc, list.as_str())?;
-        assert!(rt; told.as_str().starts_with("line 1, "), "{told}");
-        assert!(rt; told.as_str().ends_with(": other columns"), "{told}");
+    let more = format!(in alloc; "{COLUMNS}\tmore")?;
+    let blank = format!(in alloc; "{COLUMNS} ")?;
+    for header in ["", "S\tinput", more.as_str(), blank.as_str(), GOOD] {
+        let list = format!(in alloc; "{header}\n{GOOD}\n")?;
+        let told = format!(in alloc; "line 1, {header:?}: other columns")?;
+        assert_eq!(rt; refusal_of(alloc, list.as_str())?, told);
+        assert_eq!(rt; refusal_of(alloc, header)?, told);
     }
+    assert_eq!(rt;
+        refusal_of(alloc, "S\tinput\n")?.as_str(),
+        "line 1, \"S\\tinput\": other columns"
+    );
     for list in [
         format!(in alloc; "{COLUMNS}")?,
         format!(in alloc; "{COLUMNS}\n")?,
@@ -264,13 +293,11 @@ fn tells_the_number_of_a_malformed_line(rt: HostRuntime) -> Result<(), Fail> {
     let alloc = rt.alloc();
     let eight = format!(in alloc; "{GOOD}\t-")?;
     let list = format!(in alloc; "{COLUMNS}\n{eight}\n")?;
-    let told = refusal_of(alloc, list.as_str())?;
-    assert!(rt; told.as_str().starts_with("line 2, "), "{told}");
-    assert!(rt; told.as_str().ends_with(": 8 columns"), "{told}");
+    let told = format!(in alloc; "line 2, {eight:?}: 8 columns")?;
+    assert_eq!(rt; refusal_of(alloc, list.as_str())?, told);
     let list = format!(in alloc; "{COLUMNS}\n{GOOD}\n{GOOD}\n{eight}\n{GOOD}\n")?;
-    let told = refusal_of(alloc, list.as_str())?;
-    assert!(rt; told.as_str().starts_with("line 4, "), "{told}");
-    assert!(rt; told.as_str().ends_with(": 8 columns"), "{told}");
+    let told = format!(in alloc; "line 4, {eight:?}: 8 columns")?;
+    assert_eq!(rt; refusal_of(alloc, list.as_str())?, told);
     let other_size = "3\t390286ce\tpair 57 86ce\t4\tpair 57 86ce\tunexpected_eof\t-";
     let list = format!(in alloc; "{COLUMNS}\n{GOOD}\n{other_size}\n")?;
     let told = refusal_of(alloc, list.as_str())?;

@@ -15,7 +15,7 @@ returns-in_err-write_all-clause-err g c =
     let d = c.digest-digest.result.now in
     let is_code : IsScaleCode c.code.result a = rw c.to_le_bytes-code.ensures (code_bytes c.code.result (omega (arith, c.code.type_inv))) in
     let form : IsScale p (a ++ ((size ∷ []) ++ d)) =
-    scale_of p _ size a d c.code.ensures c.size-size.ensures.size c.digest-digest.ensures.digest (omega (arith, c.size-size.type_inv)) is_code in
+    scale_of p _ size a d c.code.ensures.code c.size-size.ensures.size c.digest-digest.ensures.digest (omega (arith, c.size-size.type_inv)) c.args.self.now.in_range is_code in
     appends_part_of_a_form (IsScale p) _ _ _ _ (a ++ ((size ∷ []) ++ d)) form
     (AppendsPart-append g.W.Write.appended _ _ a ((size ∷ []) ++ d) c.in_err-write_all.ensures.laws.err)
 
@@ -27,7 +27,7 @@ returns-in_err-write_all-2-clause-err g c =
     let d = c.digest-digest.result.now in
     let is_code : IsScaleCode c.code.result a = rw c.to_le_bytes-code.ensures (code_bytes c.code.result (omega (arith, c.code.type_inv))) in
     let form : IsScale p (a ++ ((size ∷ []) ++ d)) =
-    scale_of p _ size a d c.code.ensures c.size-size.ensures.size c.digest-digest.ensures.digest (omega (arith, c.size-size.type_inv)) is_code in
+    scale_of p _ size a d c.code.ensures.code c.size-size.ensures.size c.digest-digest.ensures.digest (omega (arith, c.size-size.type_inv)) c.args.self.now.in_range is_code in
     let join = g.met.W.Write.appends_joined in
     let appended = g.W.Write.appended in
     appends_part_of_a_form (IsScale p) _ _ _ _ (a ++ ((size ∷ []) ++ d)) form
@@ -42,7 +42,7 @@ returns-in_err-write_all-3-clause-err g c =
     let d = c.digest-digest.result.now in
     let is_code : IsScaleCode c.code.result a = rw c.to_le_bytes-code.ensures (code_bytes c.code.result (omega (arith, c.code.type_inv))) in
     let form : IsScale p (a ++ ((size ∷ []) ++ d)) =
-    scale_of p _ size a d c.code.ensures c.size-size.ensures.size c.digest-digest.ensures.digest (omega (arith, c.size-size.type_inv)) is_code in
+    scale_of p _ size a d c.code.ensures.code c.size-size.ensures.size c.digest-digest.ensures.digest (omega (arith, c.size-size.type_inv)) c.args.self.now.in_range is_code in
     let join = g.met.W.Write.appends_joined in
     let appended = g.W.Write.appended in
     appends_part_of_a_form (IsScale p) _ _ _ _ (a ++ ((size ∷ []) ++ d)) form
@@ -57,7 +57,7 @@ returns-clause-ok g c =
     let d = c.digest-digest.result.now in
     let is_code : IsScaleCode c.code.result a = rw c.to_le_bytes-code.ensures (code_bytes c.code.result (omega (arith, c.code.type_inv))) in
     let form : IsScale p (a ++ ((size ∷ []) ++ d)) =
-    scale_of p _ size a d c.code.ensures c.size-size.ensures.size c.digest-digest.ensures.digest (omega (arith, c.size-size.type_inv)) is_code in
+    scale_of p _ size a d c.code.ensures.code c.size-size.ensures.size c.digest-digest.ensures.digest (omega (arith, c.size-size.type_inv)) c.args.self.now.in_range is_code in
     let join = g.met.W.Write.appends_joined in (
       a ++ ((size ∷ []) ++ d),
       form,

@@ -13,7 +13,7 @@ returns-in_err-code-clause-err g c =
     let b = varint_exists (length p.digest) (omega (arith, c.digest-digest.ensures.fits)) in
     let d = c.digest-digest.result.now in
     appends_part_of_a_form (IsEncoding p) _ _ _ _ (a.0 ++ (b.0 ++ d))
-    (encoding_of p _ _ d a.0 b.0 c.code.ensures refl c.digest-digest.ensures.digest a.1 b.1)
+    (encoding_of p _ _ d a.0 b.0 c.code.ensures.code refl c.digest-digest.ensures.digest a.1 b.1)
     (AppendsPart-append g.W.Write.appended _ _ a.0 (b.0 ++ d) a.2)
 
 pub returns-in_err-size-clause-err : goal.returns-in_err-size-clause-err
@@ -24,7 +24,7 @@ returns-in_err-size-clause-err g c =
     let b = c.in_err-size.ensures.err in
     let d = c.digest-digest.result.now in
     appends_part_of_a_form (IsEncoding p) _ _ _ _ (a.0 ++ (b.0 ++ d))
-    (encoding_of p _ _ d a.0 b.0 c.code.ensures (c.from.ensures ∙ c.size.ensures.size) c.digest-digest.ensures.digest a.1 b.1)
+    (encoding_of p _ _ d a.0 b.0 c.code.ensures.code (c.from.ensures ∙ c.size.ensures.size) c.digest-digest.ensures.digest a.1 b.1)
     (AppendsPart-joined appended g.met.W.Write.appends_joined _ _ _ a.0 (b.0 ++ d) a.3
     (AppendsPart-append appended _ _ b.0 d b.2))
 
@@ -37,7 +37,7 @@ returns-in_err-write_all-clause-err g c =
     let b = c.in_ok-size.ensures.ok in
     let d = c.digest-digest.result.now in
     appends_part_of_a_form (IsEncoding p) _ _ _ _ (a.0 ++ (b.0 ++ d))
-    (encoding_of p _ _ d a.0 b.0 c.code.ensures (c.from.ensures ∙ c.size.ensures.size) c.digest-digest.ensures.digest a.1 b.1)
+    (encoding_of p _ _ d a.0 b.0 c.code.ensures.code (c.from.ensures ∙ c.size.ensures.size) c.digest-digest.ensures.digest a.1 b.1)
     (AppendsPart-joined appended join _ _ _ a.0 (b.0 ++ d) a.3
     (AppendsPart-joined appended join _ _ _ b.0 d b.3 c.in_err-write_all.ensures.laws.err))
 
@@ -49,7 +49,7 @@ returns-clause-ok g c =
     let b = c.in_ok-size.ensures.ok in
     let d = c.digest-digest.result.now in (
       a.0 ++ (b.0 ++ d),
-      encoding_of p _ _ d a.0 b.0 c.code.ensures (c.from.ensures ∙ c.size.ensures.size) c.digest-digest.ensures.digest a.1 b.1,
+      encoding_of p _ _ d a.0 b.0 c.code.ensures.code (c.from.ensures ∙ c.size.ensures.size) c.digest-digest.ensures.digest a.1 b.1,
       omega (arith, a.2, b.2, length-parts a.0 b.0 d),
       join _ _ _ a.0 (b.0 ++ d) a.3 (join _ _ _ b.0 d b.3 c.in_ok-write_all.ensures.laws.ok),
     )

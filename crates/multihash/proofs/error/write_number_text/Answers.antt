@@ -1,6 +1,6 @@
 use Rattle.std.proofs.Common.{true, refl}
 use Rattle.std.proofs.Output.{has_written_styled_append}
-use Rattle.multihash.proofs.error.write_size_text.Goals as goal
+use Rattle.multihash.proofs.error.write_number_text.Goals as goal
 
 pub returns-clause-styled : goal.returns-clause-styled
 returns-clause-styled g c flush ok =
