@@ -16,6 +16,7 @@ WORDS = {
     "OVERFLOW": "overflow",
     "NOT_MINIMAL": "not_minimal",
     "INVALID_SIZE": "of_size",
+    "INVALID_CODE": "of_code",
     "UNEXPECTED_EOF": "UnexpectedEof",
     "NO_ROOM": "WriteZero",
 }

@@ -103,7 +103,7 @@ static void check_back(encoder encode, const uint8_t *input, multihash_decoded f
 /* The answer as the list spells it. What the status leaves without a meaning must be 0. */
 static void spell(multihash_decoded found, const uint8_t *input, char *to, size_t places)
 {
-    static const char *const words[] = {"?", "insufficient", "overflow", "not_minimal", "?", "unexpected_eof", "?"};
+    static const char *const words[] = {"?", "insufficient", "overflow", "not_minimal", "?", "?", "unexpected_eof", "?"};
     if (found.status == MULTIHASH_OK) {
         CHECK(found.size == 0 && found.digest_offset + found.digest_length == found.taken);
         int at = snprintf(to, places, "pair %" PRIu64 " %s", found.code, found.digest_length == 0 ? "-" : "");
@@ -112,12 +112,18 @@ static void spell(multihash_decoded found, const uint8_t *input, char *to, size_
         }
         return;
     }
-    CHECK(found.code == 0 && found.digest_offset == 0 && found.digest_length == 0);
+    CHECK(found.digest_offset == 0 && found.digest_length == 0);
     if (found.status == MULTIHASH_INVALID_SIZE) {
+        CHECK(found.code == 0);
         snprintf(to, places, "invalid_size %" PRIu64, found.size);
         return;
     }
-    CHECK(found.size == 0 && found.status < sizeof words / sizeof words[0]);
+    if (found.status == MULTIHASH_INVALID_CODE) {
+        CHECK(found.size == 0);
+        snprintf(to, places, "invalid_code %" PRIu64, found.code);
+        return;
+    }
+    CHECK(found.size == 0 && found.code == 0 && found.status < sizeof words / sizeof words[0]);
     snprintf(to, places, "%s", words[found.status]);
 }
 
@@ -216,7 +222,7 @@ static void check_refusals(void)
 {
     static const uint8_t marked[] = {0x80};
     static const uint8_t padded[] = {0x80, 0x00};
-    static const uint8_t large[] = {0xff, 0xff, 0xff, 0xff, 0xff, 0xff, 0xff, 0xff, 0xff, 0x7f};
+    static const uint8_t large[] = {0xff, 0xff, 0xff, 0xff, 0xff, 0xff, 0xff, 0xff, 0xff, 0x01};
     static const uint8_t long_digest[] = {0x01, 0x80, 0x02, 0x00};
     static const uint8_t cut_digest[] = {0x01, 0x02, 0x00};
     static const uint8_t left_over[] = {0x01, 0x01, 0x00, 0x00, 0x00};
@@ -224,7 +230,7 @@ static void check_refusals(void)
     for (size_t i = 0; i < 2; i++) {
         check_refusal(decoders[i](marked, 1), MULTIHASH_INSUFFICIENT, 0, 1);
         check_refusal(decoders[i](padded, 2), MULTIHASH_NOT_MINIMAL, 0, 2);
-        check_refusal(decoders[i](large, 10), MULTIHASH_OVERFLOW, 0, 10);
+        check_refusal(decoders[i](large, 9), MULTIHASH_OVERFLOW, 0, 9);
         check_refusal(decoders[i](long_digest, 3), MULTIHASH_INVALID_SIZE, 256, 3);
         CHECK(decoders[i](cut_digest, 3).status == MULTIHASH_UNEXPECTED_EOF);
     }
@@ -232,7 +238,10 @@ static void check_refusals(void)
     check_refusal(multihash_read(long_digest, 4), MULTIHASH_INVALID_SIZE, 256, 3);
     check_refusal(multihash_from_bytes(left_over, 5), MULTIHASH_INVALID_SIZE, 2, 5);
     CHECK(multihash_read(left_over, 5).status == MULTIHASH_OK && multihash_read(left_over, 5).taken == 3);
-    CHECK(multihash_scale_decode(large, 8).status == MULTIHASH_UNEXPECTED_EOF);
+    CHECK(multihash_read(large, 10).taken == 9);
+    CHECK(multihash_scale_decode(large, 7).status == MULTIHASH_UNEXPECTED_EOF);
+    multihash_decoded scale = multihash_scale_decode(large, 10);
+    CHECK(scale.status == MULTIHASH_INVALID_CODE && scale.code == UINT64_MAX && scale.size == 0 && scale.taken == 8);
 }
 
 static void check_null(void)
@@ -248,17 +257,28 @@ static void check_null(void)
     CHECK(multihash_compare(1, NULL, 0, 1, out, 1) == -1);
 }
 
-/* A digest that is too long is refused before the room is judged, and `out` stays as it was. */
-static void check_too_long(encoder encode, const uint8_t *digest)
+/* A digest that is too long is refused first, and then a code that is out of range; the room is judged last, and `out`
+ * stays as it was. */
+static void check_refused(encoder encode, const uint8_t *digest, size_t length, uint64_t code)
 {
     uint8_t out[600];
-    for (size_t length = 256; length <= 300; length += 44) {
-        for (size_t room = 0; room <= sizeof out; room += 300) {
-            memset(out, MARK, sizeof out);
-            multihash_encoded answer = encode(1, digest, length, out, room);
-            CHECK(answer.status == MULTIHASH_INVALID_SIZE && answer.size == length && answer.length == 0);
-            check_marks(out, sizeof out);
-        }
+    for (size_t room = 0; room <= sizeof out; room += 300) {
+        memset(out, MARK, sizeof out);
+        multihash_encoded answer = encode(code, digest, length, out, room);
+        CHECK(answer.status == (length > 255 ? MULTIHASH_INVALID_SIZE : MULTIHASH_INVALID_CODE));
+        CHECK(answer.size == (length > 255 ? length : 0) && answer.length == 0);
+        check_marks(out, sizeof out);
+    }
+}
+
+static void check_refused_forms(const uint8_t *digest)
+{
+    static const encoder encoders[] = {multihash_encode, multihash_scale_encode};
+    for (size_t i = 0; i < 2; i++) {
+        check_refused(encoders[i], digest, 256, 1);
+        check_refused(encoders[i], digest, 300, UINT64_MAX);
+        check_refused(encoders[i], digest, 255, (uint64_t)INT64_MAX + 1);
+        check_refused(encoders[i], NULL, 0, UINT64_MAX);
     }
 }
 
@@ -268,8 +288,7 @@ static void check_longest(uint64_t largest)
     static uint8_t digest[300];
     uint8_t bytes[MULTIHASH_LENGTH_MAX], form[MULTIHASH_SCALE_LENGTH_MAX];
     for (size_t i = 0; i < sizeof digest; i++) digest[i] = (uint8_t)(7 * i + 3);
-    check_too_long(multihash_encode, digest);
-    check_too_long(multihash_scale_encode, digest);
+    check_refused_forms(digest);
     CHECK(multihash_encode(largest, digest, 255, bytes, sizeof bytes).status == MULTIHASH_OK);
     CHECK(multihash_scale_encode(largest, digest, 255, form, sizeof form).status == MULTIHASH_OK);
     for (size_t room = 0; room <= sizeof bytes + 1; room++) {
@@ -309,7 +328,7 @@ int main(int argc, char **argv)
     check_example();
     check_refusals();
     check_null();
-    check_longest(UINT64_MAX);
+    check_longest(INT64_MAX);
     check_order();
     check_texts();
     size_t lines = replay(argv[1]);

@@ -27,21 +27,23 @@ enum {
     MULTIHASH_OK = 0,
     /* The input ends inside or before a varint. More input can change that. */
     MULTIHASH_INSUFFICIENT = 1,
-    /* A varint has more than ten bytes, or its number does not fit in 64 bits. */
+    /* A varint has more than nine bytes. */
     MULTIHASH_OVERFLOW = 2,
     /* A varint of more than one byte ends in a zero. */
     MULTIHASH_NOT_MINIMAL = 3,
     /* A digest is too long, or bytes are left over: `size` is its length, or how many they are. */
     MULTIHASH_INVALID_SIZE = 4,
+    /* A code is 2^63 or more: a decoding tells it in `code`. */
+    MULTIHASH_INVALID_CODE = 5,
     /* The input ends inside the digest, or before it in the SCALE form. More input can change that. */
-    MULTIHASH_UNEXPECTED_EOF = 5,
+    MULTIHASH_UNEXPECTED_EOF = 6,
     /* `out` has fewer places than the bytes need: `length` is how many they need. */
-    MULTIHASH_NO_ROOM = 6
+    MULTIHASH_NO_ROOM = 7
 };
 
 /* The most bytes of a digest, of an encoding, and of a SCALE form. */
 #define MULTIHASH_DIGEST_MAX 255
-#define MULTIHASH_LENGTH_MAX 267
+#define MULTIHASH_LENGTH_MAX 266
 #define MULTIHASH_SCALE_LENGTH_MAX 264
 
 /* What a decoding answers. A field that the status leaves without a meaning is 0. Between the fields is
@@ -49,7 +51,7 @@ enum {
 typedef struct multihash_decoded {
     multihash_status status;
     uint64_t size;        /* at MULTIHASH_INVALID_SIZE: the size that is refused */
-    uint64_t code;        /* at MULTIHASH_OK: the code */
+    uint64_t code;        /* at MULTIHASH_OK: the code; at MULTIHASH_INVALID_CODE: the one that is refused */
     size_t digest_offset; /* at MULTIHASH_OK: where in `bytes` the digest begins */
     size_t digest_length; /* at MULTIHASH_OK: the digest's length, at most 255 */
     size_t taken;         /* always: how many bytes were taken, as each function tells */
@@ -83,17 +85,19 @@ multihash_decoded multihash_read(const uint8_t *bytes, size_t bytes_length);
 
 /* Decodes the multihash whose SCALE form begins `bytes`: eight bytes of the code, the lowest first, one of the
  * digest's length, the digest. More bytes may follow it.
- * Takes:   the form; at MULTIHASH_UNEXPECTED_EOF bytes that by themselves end early.
+ * Takes:   the form; at MULTIHASH_INVALID_CODE the code's eight bytes; at MULTIHASH_UNEXPECTED_EOF bytes that by
+ *          themselves end early.
  * Answers: the code, and where in `bytes` the digest stands.
- * Refuses: MULTIHASH_UNEXPECTED_EOF. More bytes can change that.
+ * Refuses: MULTIHASH_INVALID_CODE with the code, where it is 2^63 or more; MULTIHASH_UNEXPECTED_EOF, which more bytes
+ *          can change.
  * Leaves:  `bytes` as they were. */
 multihash_decoded multihash_scale_decode(const uint8_t *bytes, size_t bytes_length);
 
 /* Puts the encoding of a code and a digest at the front of `out`.
  * Takes:   a code and a digest, and `out_length` places.
  * Answers: `length`, how many bytes stand at `out`: at most MULTIHASH_LENGTH_MAX.
- * Refuses: MULTIHASH_INVALID_SIZE with the digest's length above 255; MULTIHASH_NO_ROOM with the `length` that is
- *          needed, so a call with no place at all tells it.
+ * Refuses: MULTIHASH_INVALID_SIZE with the digest's length above 255; else MULTIHASH_INVALID_CODE with a code of 2^63
+ *          or more; else MULTIHASH_NO_ROOM with the `length` that is needed, so a call with no place at all tells it.
  * Leaves:  at a refusal the whole of `out` as it was, else the places behind the encoding. */
 multihash_encoded multihash_encode(uint64_t code, const uint8_t *digest, size_t digest_length,
                                    uint8_t *out, size_t out_length);
@@ -101,8 +105,8 @@ multihash_encoded multihash_encode(uint64_t code, const uint8_t *digest, size_t 
 /* Puts the SCALE form of a code and a digest at the front of `out`.
  * Takes:   a code and a digest, and `out_length` places.
  * Answers: `length`, how many bytes stand at `out`: nine and the digest's.
- * Refuses: MULTIHASH_INVALID_SIZE with the digest's length above 255; MULTIHASH_NO_ROOM with the `length` that is
- *          needed, so a call with no place at all tells it.
+ * Refuses: MULTIHASH_INVALID_SIZE with the digest's length above 255; else MULTIHASH_INVALID_CODE with a code of 2^63
+ *          or more; else MULTIHASH_NO_ROOM with the `length` that is needed, so a call with no place at all tells it.
  * Leaves:  at a refusal the whole of `out` as it was, else the places behind the form. */
 multihash_encoded multihash_scale_encode(uint64_t code, const uint8_t *digest, size_t digest_length,
                                          uint8_t *out, size_t out_length);
@@ -117,7 +121,7 @@ int32_t multihash_compare(uint64_t left_code, const uint8_t *left_digest, size_t
 
 /* Says what a status means.
  * Takes:   any number.
- * Answers: the library's own text, without the number that goes with MULTIHASH_INVALID_SIZE. It stays valid.
+ * Answers: the library's own text, without the size or the code that is refused. It stays valid.
  * Refuses: nothing: a number that is no status has a text too.
  * Leaves:  nothing changed. */
 static inline const char *multihash_status_text(multihash_status status)
@@ -133,6 +137,8 @@ static inline const char *multihash_status_text(multihash_status status)
         return "encoding is not minimal";
     case MULTIHASH_INVALID_SIZE:
         return "Invalid multihash size";
+    case MULTIHASH_INVALID_CODE:
+        return "Invalid multihash code";
     case MULTIHASH_UNEXPECTED_EOF:
         return "failed to fill whole buffer";
     case MULTIHASH_NO_ROOM:

@@ -6,8 +6,8 @@ use Rattle.multihash.specs.Varint.{insufficient, overflow, not_minimal}
 use Rattle.multihash.specs.Encoding.{IsEncoding}
 use Rattle.multihash.specs.Scale.{IsScale, HasScaleVerdict}
 use Rattle.multihash.specs.ScaleTaking.{TakesAtScaleRefusal}
-use Rattle.multihash.specs.Verdict.{Verdict, accepted, invalid_size, faulty, unexpected_eof}
-use Rattle.multihash.specs.Refusal.{Refusal, IsInvalidSize, IsFaulty}
+use Rattle.multihash.specs.Verdict.{Verdict, accepted, invalid_size, invalid_code, faulty, unexpected_eof}
+use Rattle.multihash.specs.Refusal.{Refusal, IsInvalidSize, IsInvalidCode, IsFaulty}
 use Rattle.multihash.specs.Answer.{IsRefusal}
 use Rattle.multihash_c.specs.declared.decoded.Decoded.{Decoded}
 use Rattle.multihash_c.specs.Decoded.{Tells, TakesForm}
@@ -54,33 +54,45 @@ form_stands p input bytes rest offset n taken e cut long all ends =
     long (all ∙ ap length spelled) ends
 
 -- a refusal's answer
-abbrev pub refusal : ℕ → ℕ → ℕ → Decoded
-refusal status size taken =
-    record { status = status; size = size; code = 0; digest_offset = 0; digest_length = 0; taken = taken }
+abbrev pub refusal : ℕ → ℕ → ℕ → ℕ → Decoded
+refusal status size code taken =
+    record { status = status; size = size; code = code; digest_offset = 0; digest_length = 0; taken = taken }
 
 module _ (input : List ℕ) (taken : ℕ) (e : Refusal) where
-  pub size_told : (size : ℕ) → IsInvalidSize size e → (v : Verdict) → IsRefusal e v → Tells input (refusal 4 size taken) v
+  pub size_told : (size : ℕ) → IsInvalidSize size e → (v : Verdict) → IsRefusal e v → Tells input (refusal 4 size 0 taken) v
   size_told size is (accepted p) r = absurd r
   size_told size is (invalid_size n) r =
       let same : size ≡ n = cc in
-      record { is_status = refl; is_size = same; no_code = refl; no_offset = refl; no_length = refl }
+      record { is_status = refl; is_size = same; is_code = refl; no_offset = refl; no_length = refl }
+  size_told size is (invalid_code n) r = absurd (cc)
   size_told size is (faulty fault) r = absurd (cc)
   size_told size is unexpected_eof r = let other = r.1 in absurd (cc)
 
-  pub end_told : ((n : ℕ) → ¬ (IsInvalidSize n e)) → ¬ (IsFaulty insufficient e) → ¬ (IsFaulty overflow e) → ¬ (IsFaulty not_minimal e)
-      → (v : Verdict) → IsRefusal e v → Tells input (refusal 5 0 taken) v
-  end_told no_size a b c (accepted p) r = absurd r
-  end_told no_size a b c (invalid_size n) r = absurd (no_size n r)
-  end_told no_size a b c (faulty insufficient) r = absurd (a r)
-  end_told no_size a b c (faulty overflow) r = absurd (b r)
-  end_told no_size a b c (faulty not_minimal) r = absurd (c r)
-  end_told no_size a b c unexpected_eof r =
-      record { is_status = refl; is_size = refl; no_code = refl; no_offset = refl; no_length = refl }
+  pub code_told : (code : ℕ) → IsInvalidCode code e → (v : Verdict) → IsRefusal e v → Tells input (refusal 5 0 code taken) v
+  code_told code is (accepted p) r = absurd r
+  code_told code is (invalid_size n) r = absurd (cc)
+  code_told code is (invalid_code n) r =
+      let same : code ≡ n = cc in
+      record { is_status = refl; is_size = refl; is_code = same; no_offset = refl; no_length = refl }
+  code_told code is (faulty fault) r = absurd (cc)
+  code_told code is unexpected_eof r = let other = r.1 in absurd (cc)
+
+  pub end_told : ((n : ℕ) → ¬ (IsInvalidSize n e)) → ((n : ℕ) → ¬ (IsInvalidCode n e)) → ¬ (IsFaulty insufficient e) → ¬ (IsFaulty overflow e)
+      → ¬ (IsFaulty not_minimal e) → (v : Verdict) → IsRefusal e v → Tells input (refusal 6 0 0 taken) v
+  end_told no_size no_code a b c (accepted p) r = absurd r
+  end_told no_size no_code a b c (invalid_size n) r = absurd (no_size n r)
+  end_told no_size no_code a b c (invalid_code n) r = absurd (no_code n r)
+  end_told no_size no_code a b c (faulty insufficient) r = absurd (a r)
+  end_told no_size no_code a b c (faulty overflow) r = absurd (b r)
+  end_told no_size no_code a b c (faulty not_minimal) r = absurd (c r)
+  end_told no_size no_code a b c unexpected_eof r =
+      record { is_status = refl; is_size = refl; is_code = refl; no_offset = refl; no_length = refl }
 
 -- a refusal's verdict says what was taken
 pub taken_at_refusal : (input : List ℕ) (new : Option (List ℕ)) (e : Refusal) (t : TakesAtScaleRefusal 255 e (Some input) new) (v : Verdict)
     → HasScaleVerdict 255 input v → IsRefusal e v → TakesForm v t.taken
 taken_at_refusal input new e t (accepted p) has r = absurd r
 taken_at_refusal input new e t (invalid_size size) has r = t.size size r
+taken_at_refusal input new e t (invalid_code code) has r = t.code code r
 taken_at_refusal input new e t (faulty fault) has r = absurd has
 taken_at_refusal input new e t unexpected_eof has r = t.early (inl r)

@@ -16,10 +16,14 @@ status_of_fault not_minimal = 3
 abbrev pub status_invalid_size : ℕ
 status_invalid_size = 4
 
+-- a code that is out of range
+abbrev pub status_invalid_code : ℕ
+status_invalid_code = 5
+
 -- the input ends inside the digest, or inside the fixed part of the SCALE form
 abbrev pub status_unexpected_eof : ℕ
-status_unexpected_eof = 5
+status_unexpected_eof = 6
 
 -- the buffer has fewer places than the bytes need
 abbrev pub status_no_room : ℕ
-status_no_room = 6
+status_no_room = 7

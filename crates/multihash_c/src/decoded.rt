@@ -46,21 +46,23 @@ pub(crate) fn refuse(error: &Error, taken: usize) -> Decoded
     ensures tells { (input : List ℕ) (v : Verdict) → IsRefusal error.now v → Tells input result v }
     ensures taken { result.taken ≡ taken }
 {
-    let (status, size) = if let Some(size) = error.invalid_size() {
-        (status::INVALID_SIZE, size)
+    let (status, size, code) = if let Some(size) = error.invalid_size() {
+        (status::INVALID_SIZE, size, 0)
+    } else if let Some(code) = error.invalid_code() {
+        (status::INVALID_CODE, 0, code)
     } else if error.is_insufficient() {
-        (status::INSUFFICIENT, 0)
+        (status::INSUFFICIENT, 0, 0)
     } else if error.is_overflow() {
-        (status::OVERFLOW, 0)
+        (status::OVERFLOW, 0, 0)
     } else if error.is_not_minimal() {
-        (status::NOT_MINIMAL, 0)
+        (status::NOT_MINIMAL, 0, 0)
     } else {
-        (status::UNEXPECTED_EOF, 0)
+        (status::UNEXPECTED_EOF, 0, 0)
     };
     Decoded {
         status,
         size,
-        code: 0,
+        code,
         digest_offset: 0,
         digest_length: 0,
         taken,

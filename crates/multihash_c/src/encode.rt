@@ -1,9 +1,10 @@
 //! Encoding, for C.
 ghost use Rattle.std.specs.Prelude.{◌≡◌, ◌<◌, ◌≤◌, length};
+ghost use Rattle.multihash.specs.Varint.{varint_limit};
 ghost use Rattle.multihash.specs.Encoding.{IsEncoding};
 ghost use Rattle.multihash.specs.Scale.{IsScale};
 ghost use Rattle.multihash.specs.Answer.{pair_of};
-ghost use Rattle.multihash_c.specs.Encoded.{IsTooLong, Puts};
+ghost use Rattle.multihash_c.specs.Encoded.{IsTooLong, IsLargeCode, Puts};
 
 use crate::encoded::{self, Encoded};
 use crate::room::Room;
@@ -14,12 +15,14 @@ use multihash::Multihash;
 pub extern "C" fn multihash_encode(code: u64, digest: &[u8], out: &mut [u8]) -> Encoded
     ensures too_long { 255 < length digest.now →
         IsTooLong (length digest.now) result × (out.new ≡ out.old) }
-    ensures puts { length digest.now ≤ 255 →
+    ensures large_code { length digest.now ≤ 255 → varint_limit ≤ code →
+        IsLargeCode result × (out.new ≡ out.old) }
+    ensures puts { length digest.now ≤ 255 → code < varint_limit →
         Puts (IsEncoding (record { code = code; digest = digest.now })) result out.old out.new }
 {
     match Multihash::<255>::wrap(code, digest) {
         Ok(multihash) => encoded::put(encoding(&multihash).as_bytes(), out),
-        Err(_) => encoded::too_long(digest.len()),
+        Err(error) => encoded::refuse(&error),
     }
 }
 
@@ -28,12 +31,14 @@ pub extern "C" fn multihash_encode(code: u64, digest: &[u8], out: &mut [u8]) -> 
 pub extern "C" fn multihash_scale_encode(code: u64, digest: &[u8], out: &mut [u8]) -> Encoded
     ensures too_long { 255 < length digest.now →
         IsTooLong (length digest.now) result × (out.new ≡ out.old) }
-    ensures puts { length digest.now ≤ 255 →
+    ensures large_code { length digest.now ≤ 255 → varint_limit ≤ code →
+        IsLargeCode result × (out.new ≡ out.old) }
+    ensures puts { length digest.now ≤ 255 → code < varint_limit →
         Puts (IsScale (record { code = code; digest = digest.now })) result out.old out.new }
 {
     match Multihash::<255>::wrap(code, digest) {
         Ok(multihash) => encoded::put(scale_form(&multihash).as_bytes(), out),
-        Err(_) => encoded::too_long(digest.len()),
+        Err(error) => encoded::refuse(&error),
     }
 }
 

@@ -1,8 +1,10 @@
 //! What an encoding answers.
-ghost use Rattle.std.specs.Prelude.{length};
-ghost use Rattle.multihash_c.specs.Encoded.{IsTooLong, IsPut};
+ghost use Rattle.std.specs.Prelude.{ℕ};
+ghost use Rattle.multihash.specs.Refusal.{IsInvalidSize, IsInvalidCode};
+ghost use Rattle.multihash_c.specs.Encoded.{IsTooLong, IsLargeCode, IsPut};
 
 use crate::status;
+use multihash::Error;
 
 /// What an encoding answered. A field that the status leaves without a meaning is 0.
 #[repr(C)]
@@ -13,13 +15,18 @@ pub struct Encoded {
     pub length: usize,
 }
 
-// The refusal of a digest that is too long.
-pub(crate) fn too_long(length: usize) -> Encoded
-    ensures { IsTooLong length result }
+// The answer at a refusal of a size or of a code.
+pub(crate) fn refuse(error: &Error) -> Encoded
+    ensures size { (size : ℕ) → IsInvalidSize size error.now → IsTooLong size result }
+    ensures code { (code : ℕ) → IsInvalidCode code error.now → IsLargeCode result }
 {
+    let (status, size) = match error.invalid_size() {
+        Some(size) => (status::INVALID_SIZE, size),
+        None => (status::INVALID_CODE, 0),
+    };
     Encoded {
-        status: status::INVALID_SIZE,
-        size: length as u64,
+        status,
+        size,
         length: 0,
     }
 }

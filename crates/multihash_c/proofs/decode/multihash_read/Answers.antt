@@ -30,7 +30,7 @@ returns-in-Ok-clause-verdict c =
     let all : answer.taken ≡ length met.ok.0 = omega (arith, c.accept.ensures.taken, ap length cut, length-append met.ok.0 left) in
     let stands = encoding_stands p input met.ok.0 left answer.digest_offset answer.digest_length answer.taken met.ok.1 cut
     (c.accept.ensures.length ∙ long) all (omega (arith, c.accept.ensures.offset, c.accept.ensures.length, c.accept.ensures.taken)) in
-    (accepted p, has, c.accept.ensures.tells input p (sym c.code.ensures) (sym long) (omega arith) stands)
+    (accepted p, has, c.accept.ensures.tells input p (sym c.code.ensures.code) (sym long) (omega arith) stands)
 
 pub returns-in-Ok-clause-settled : goal.returns-in-Ok-clause-settled
 returns-in-Ok-clause-settled c v has late =

@@ -23,7 +23,7 @@ returns-in-Ok-clause-verdict c =
     let front : take answer.taken input ≡ met.ok.0 = ap (λ n. take n input) c.accept.ensures.taken ∙ taken_front input met.ok.0 left cut in (
       accepted p,
       has,
-      c.accept.ensures.tells input p (sym c.code.ensures) (sym long) (omega arith) stands,
+      c.accept.ensures.tells input p (sym c.code.ensures.code) (sym long) (omega arith) stands,
       subst (λ (z : List ℕ). IsScale p z) (sym front) met.ok.1,
     )
 
