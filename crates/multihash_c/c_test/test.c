@@ -170,6 +170,9 @@ static void check_line(const verdict_line *line)
     multihash_decoded whole = multihash_from_bytes(input, length);
     multihash_decoded scale = multihash_scale_decode(input, length);
     CHECK(read.taken <= length && whole.taken == length && scale.taken <= length);
+    multihash_decoded within = multihash_read_limit(input, length, line->size);
+    check_answer(within, input, line->column[2], line->column[3]);
+    if (within.status == MULTIHASH_INSUFFICIENT) CHECK(within.taken == length);
     if (is_for_all(line->column[2], line->size)) {
         check_answer(read, input, line->column[2], line->column[3]);
         check_answer(whole, input, line->column[4], "-");
@@ -234,6 +237,11 @@ static void check_refusals(void)
         check_refusal(decoders[i](long_digest, 3), MULTIHASH_INVALID_SIZE, 256, 3);
         CHECK(decoders[i](cut_digest, 3).status == MULTIHASH_UNEXPECTED_EOF);
     }
+    check_refusal(multihash_read_limit(long_digest, 4, SIZE_MAX), MULTIHASH_INVALID_SIZE, 256, 3);
+    check_refusal(multihash_read_limit(cut_digest, 3, 1), MULTIHASH_INVALID_SIZE, 2, 2);
+    CHECK(multihash_read_limit(cut_digest, 3, 2).status == MULTIHASH_UNEXPECTED_EOF);
+    CHECK(multihash_read_limit(left_over, 5, 1).status == MULTIHASH_OK);
+    check_refusal(multihash_read_limit(left_over, 5, 0), MULTIHASH_INVALID_SIZE, 1, 2);
     check_refusal(multihash_from_bytes(long_digest, 4), MULTIHASH_INVALID_SIZE, 256, 4);
     check_refusal(multihash_read(long_digest, 4), MULTIHASH_INVALID_SIZE, 256, 3);
     check_refusal(multihash_from_bytes(left_over, 5), MULTIHASH_INVALID_SIZE, 2, 5);
@@ -249,6 +257,7 @@ static void check_null(void)
     uint8_t out[2] = {MARK, MARK};
     check_refusal(multihash_from_bytes(NULL, 0), MULTIHASH_INSUFFICIENT, 0, 0);
     check_refusal(multihash_read(NULL, 0), MULTIHASH_INSUFFICIENT, 0, 0);
+    check_refusal(multihash_read_limit(NULL, 0, 0), MULTIHASH_INSUFFICIENT, 0, 0);
     check_refusal(multihash_scale_decode(NULL, 0), MULTIHASH_UNEXPECTED_EOF, 0, 0);
     CHECK(multihash_encode(0, NULL, 0, NULL, 0).length == 2);
     CHECK(multihash_scale_encode(0, NULL, 0, NULL, 0).length == 9);

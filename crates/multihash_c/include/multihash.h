@@ -83,6 +83,14 @@ multihash_decoded multihash_from_bytes(const uint8_t *bytes, size_t bytes_length
  * Leaves:  `bytes` as they were. */
 multihash_decoded multihash_read(const uint8_t *bytes, size_t bytes_length);
 
+/* Decodes as multihash_read does, where the caller holds digests of at most `limit` bytes.
+ * Takes:   what multihash_read takes.
+ * Answers: what multihash_read answers, where the digest has at most `limit` bytes.
+ * Refuses: what multihash_read refuses, but MULTIHASH_INVALID_SIZE with each digest's length above `limit` or 255, and
+ *          that before it looks whether the digest is there.
+ * Leaves:  `bytes` as they were. */
+multihash_decoded multihash_read_limit(const uint8_t *bytes, size_t bytes_length, size_t limit);
+
 /* Decodes the multihash whose SCALE form begins `bytes`: eight bytes of the code, the lowest first, one of the
  * digest's length, the digest. More bytes may follow it.
  * Takes:   the form; at MULTIHASH_INVALID_CODE the code's eight bytes; at MULTIHASH_UNEXPECTED_EOF bytes that by

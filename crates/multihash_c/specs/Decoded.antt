@@ -1,7 +1,8 @@
 -- What a decoding tells a C caller where a verdict holds.
-use Rattle.std.specs.Prelude.{◌≡◌, ℕ, ◌+◌, ◌≤◌, List, length, take, drop}
+use Rattle.std.specs.Prelude.{◌≡◌, ℕ, ◌+◌, ◌≤◌, List, Some, length, take, drop}
 use Rattle.multihash.specs.Pair.{Pair}
-use Rattle.multihash.specs.Verdict.{Verdict, accepted, invalid_size, invalid_code, faulty, unexpected_eof}
+use Rattle.multihash.specs.Verdict.{Verdict, accepted, invalid_size, invalid_code, faulty, unexpected_eof, HasVerdict, IsEarlyEnd}
+use Rattle.multihash.specs.Taking.{TakesShortestSettling, TakesUnsettled}
 use Rattle.multihash.specs.Scale.{IsScale, HasScaleVerdict}
 use Rattle.multihash_c.specs.Status.{status_ok, status_of_fault, status_invalid_size, status_invalid_code, status_unexpected_eof}
 use Rattle.multihash_c.specs.declared.decoded.Decoded.{Decoded}
@@ -39,3 +40,13 @@ TakesForm (invalid_size size) taken = HasScaleVerdict 255 taken (invalid_size si
 TakesForm (invalid_code code) taken = HasScaleVerdict 255 taken (invalid_code code) × (length taken ≡ 8)
 TakesForm (faulty fault) taken = ⊥
 TakesForm unexpected_eof taken = HasScaleVerdict 255 taken unexpected_eof
+
+-- what reading answers for a digest of at most so many bytes, and what it took: where the verdict is no
+-- early end, exactly the shortest beginning that settles it; else nothing that settles
+pub record ReadsWithin (limit : ℕ) (input : List ℕ) (d : Decoded) : Type 0 where
+  pub verdict : (v : Verdict) × HasVerdict limit input v × Tells input d v
+  pub inside : d.taken ≤ length input
+  pub settled : (v : Verdict) → HasVerdict limit input v → ¬ (IsEarlyEnd v) →
+      TakesShortestSettling limit input (Some (drop d.taken input))
+  pub unsettled : (v : Verdict) → HasVerdict limit input v → IsEarlyEnd v →
+      TakesUnsettled limit input (Some (drop d.taken input))

@@ -1,11 +1,11 @@
 //! Decoding, for C.
-ghost use Rattle.std.specs.Prelude.{◌≡◌, ◌≤◌, Some, length, take, drop};
-ghost use Rattle.multihash.specs.Verdict.{Verdict, HasVerdict, HasWholeVerdict, IsEarlyEnd};
-ghost use Rattle.multihash.specs.Taking.{TakesShortestSettling, TakesUnsettled};
+ghost use Rattle.std.specs.Prelude.{◌≡◌, ◌≤◌, length, take};
+ghost use Rattle.multihash.specs.Verdict.{Verdict, HasWholeVerdict};
 ghost use Rattle.multihash.specs.Scale.{HasScaleVerdict};
-ghost use Rattle.multihash_c.specs.Decoded.{Tells, TakesForm};
+ghost use Rattle.multihash_c.specs.Decoded.{Tells, TakesForm, ReadsWithin};
 
 use crate::decoded::{self, Decoded};
+use crate::read;
 use multihash::Multihash;
 
 /// Decodes the multihash whose encoding is the whole of `bytes`.
@@ -25,20 +25,17 @@ pub extern "C" fn multihash_from_bytes(bytes: &[u8]) -> Decoded
 /// Decodes the multihash whose encoding begins `bytes`.
 #[unsafe(no_mangle)]
 pub extern "C" fn multihash_read(bytes: &[u8]) -> Decoded
-    ensures verdict { (v : Verdict) × HasVerdict 255 bytes.now v × Tells bytes.now result v }
-    ensures inside { result.taken ≤ length bytes.now }
-    ensures settled { (v : Verdict) → HasVerdict 255 bytes.now v → ¬ (IsEarlyEnd v)
-        → TakesShortestSettling 255 bytes.now (Some (drop result.taken bytes.now)) }
-    ensures unsettled { (v : Verdict) → HasVerdict 255 bytes.now v → IsEarlyEnd v
-        → TakesUnsettled 255 bytes.now (Some (drop result.taken bytes.now)) }
+    ensures { ReadsWithin 255 bytes.now result }
 {
-    let mut rest = bytes;
-    let answer = Multihash::<255>::read(&mut rest);
-    let taken = bytes.len() - rest.len();
-    match answer {
-        Ok(multihash) => decoded::accept(multihash.code(), usize::from(multihash.size()), taken),
-        Err(error) => decoded::refuse(&error, taken),
-    }
+    read::read_within(bytes, 255)
+}
+
+/// Decodes the multihash whose encoding begins `bytes`, and whose digest has at most `limit` bytes.
+#[unsafe(no_mangle)]
+pub extern "C" fn multihash_read_limit(bytes: &[u8], limit: usize) -> Decoded
+    ensures { ReadsWithin limit bytes.now result }
+{
+    read::read_within(bytes, limit)
 }
 
 /// Decodes the multihash whose SCALE form begins `bytes`.

@@ -1,7 +1,7 @@
 //! What a decoding answers.
 ghost use Rattle.std.specs.Prelude.{◌≡◌, ◌+◌, ◌≤◌, ℕ, List, length, take, drop};
 ghost use Rattle.multihash.specs.Pair.{Pair};
-ghost use Rattle.multihash.specs.Verdict.{Verdict, accepted};
+ghost use Rattle.multihash.specs.Verdict.{Verdict, accepted, invalid_size, unexpected_eof};
 ghost use Rattle.multihash.specs.Answer.{IsRefusal};
 ghost use Rattle.multihash_c.specs.Decoded.{Tells};
 
@@ -63,6 +63,36 @@ pub(crate) fn refuse(error: &Error, taken: usize) -> Decoded
         status,
         size,
         code,
+        digest_offset: 0,
+        digest_length: 0,
+        taken,
+    }
+}
+
+// The answer at a digest that is too long.
+pub(crate) fn refuse_size(size: u64, taken: usize) -> Decoded
+    ensures tells { (input : List ℕ) → Tells input result (invalid_size size) }
+    ensures taken { result.taken ≡ taken }
+{
+    Decoded {
+        status: status::INVALID_SIZE,
+        size,
+        code: 0,
+        digest_offset: 0,
+        digest_length: 0,
+        taken,
+    }
+}
+
+// The answer at a digest that is cut.
+pub(crate) fn refuse_end(taken: usize) -> Decoded
+    ensures tells { (input : List ℕ) → Tells input result unexpected_eof }
+    ensures taken { result.taken ≡ taken }
+{
+    Decoded {
+        status: status::UNEXPECTED_EOF,
+        size: 0,
+        code: 0,
         digest_offset: 0,
         digest_length: 0,
         taken,

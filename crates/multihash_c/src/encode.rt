@@ -1,5 +1,5 @@
 //! Encoding, for C.
-ghost use Rattle.std.specs.Prelude.{◌≡◌, ◌<◌, ◌≤◌, length};
+ghost use Rattle.std.specs.Prelude.{◌≡◌, ◌<◌, ◌≤◌, [], length};
 ghost use Rattle.multihash.specs.Varint.{varint_limit};
 ghost use Rattle.multihash.specs.Encoding.{IsEncoding};
 ghost use Rattle.multihash.specs.Scale.{IsScale};
@@ -20,10 +20,13 @@ pub extern "C" fn multihash_encode(code: u64, digest: &[u8], out: &mut [u8]) -> 
     ensures puts { length digest.now ≤ 255 → code < varint_limit →
         Puts (IsEncoding (record { code = code; digest = digest.now })) result out.old out.new }
 {
-    match Multihash::<255>::wrap(code, digest) {
-        Ok(multihash) => encoded::put(encoding(&multihash).as_bytes(), out),
-        Err(error) => encoded::refuse(&error),
-    }
+    let multihash = match Multihash::<255>::wrap(code, digest) {
+        Ok(multihash) => multihash,
+        Err(error) => return encoded::refuse(&error),
+    };
+    let mut room = Room::new();
+    write_encoding(&multihash, &mut room);
+    encoded::put(room.as_bytes(), out)
 }
 
 /// Puts the SCALE form of a code and a digest at the front of `out`.
@@ -36,30 +39,33 @@ pub extern "C" fn multihash_scale_encode(code: u64, digest: &[u8], out: &mut [u8
     ensures puts { length digest.now ≤ 255 → code < varint_limit →
         Puts (IsScale (record { code = code; digest = digest.now })) result out.old out.new }
 {
-    match Multihash::<255>::wrap(code, digest) {
-        Ok(multihash) => encoded::put(scale_form(&multihash).as_bytes(), out),
-        Err(error) => encoded::refuse(&error),
-    }
+    let multihash = match Multihash::<255>::wrap(code, digest) {
+        Ok(multihash) => multihash,
+        Err(error) => return encoded::refuse(&error),
+    };
+    let mut room = Room::new();
+    write_scale_form(&multihash, &mut room);
+    encoded::put(room.as_bytes(), out)
 }
 
-// The encoding of a multihash, for which there is always room.
-fn encoding(multihash: &Multihash<255>) -> Room
-    ensures { IsEncoding (pair_of multihash.now) result }
+// Writes the encoding of a multihash into an empty room, which has places for each.
+fn write_encoding(multihash: &Multihash<255>, room: &mut Room)
+    requires { room.old ≡ [] }
+    ensures { IsEncoding (pair_of multihash.now) room.new }
 {
-    let mut room = Room::new();
-    match multihash.write(&mut room) {
-        Ok(_) => room,
+    match multihash.write(room) {
+        Ok(_) => {}
         Err(_) => unreachable!(),
     }
 }
 
-// The SCALE form of a multihash, for which there is always room.
-fn scale_form(multihash: &Multihash<255>) -> Room
-    ensures { IsScale (pair_of multihash.now) result }
+// Writes the SCALE form of a multihash into an empty room, which has places for each.
+fn write_scale_form(multihash: &Multihash<255>, room: &mut Room)
+    requires { room.old ≡ [] }
+    ensures { IsScale (pair_of multihash.now) room.new }
 {
-    let mut room = Room::new();
-    match multihash.scale_encode(&mut room) {
-        Ok(_) => room,
+    match multihash.scale_encode(room) {
+        Ok(_) => {}
         Err(_) => unreachable!(),
     }
 }

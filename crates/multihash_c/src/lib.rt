@@ -8,6 +8,7 @@ mod decode;
 mod decoded;
 mod encode;
 mod encoded;
+mod read;
 mod room;
 mod status;
 #[cfg(test)]
