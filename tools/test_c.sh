@@ -36,6 +36,11 @@ has() {
   return 1
 }
 
+# The calls that are counted for docs/SPEED.md compile too.
+counted_calls() {
+  cc "${c_flags[@]}" -O2 -I "$crate/include" "$crate/c_test/count.c" "$library" -o "$work/count" && "$work/count" read_34 10
+}
+
 # The library needs nothing but copies of memory.
 needs_copies_alone() {
   local others
@@ -103,6 +108,7 @@ try "static library" env -C "$crate" rt lib
 try "what it needs" needs_copies_alone
 has cc && has c++ && test_compilers cc c++
 has clang && has clang++ && test_compilers clang clang++
+has cc && try "the counted calls" counted_calls
 has cc && try "the example in C" c_example
 has cc && has python3 && try "the example in Python" python_example
 has rustc && try "the example in Rust" rust_example
