@@ -97,7 +97,7 @@ PLANTED = [
     ("header", "size_t digest_length; /*", "size_t digest_len; /*"),
     ("header", "MULTIHASH_OVERFLOW = 2", "MULTIHASH_OVERFLOW = 3"),
     ("header", '"input bytes exceed maximum"', '"input bytes exceed the maximum"'),
-    ("header", "size_t bytes_length);\n\n/* Decodes the multihash whose encoding begins", "uint32_t bytes_length);\n\n/*"),
+    ("header", "multihash_read(const uint8_t *bytes,", "multihash_read(uint8_t *bytes,"),
     ("header", "int32_t multihash_compare(", "int multihash_compare("),
     ("header", "#define MULTIHASH_LENGTH_MAX 2", "#define MULTIHASH_LENGTH_MAX 3"),
     ("crate", "    pub size: u64,\n    pub code: u64,", "    pub code: u64,\n    pub size: u64,"),

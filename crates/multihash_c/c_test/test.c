@@ -103,7 +103,8 @@ static void check_back(encoder encode, const uint8_t *input, multihash_decoded f
 /* The answer as the list spells it. What the status leaves without a meaning must be 0. */
 static void spell(multihash_decoded found, const uint8_t *input, char *to, size_t places)
 {
-    static const char *const words[] = {"?", "insufficient", "overflow", "not_minimal", "?", "?", "unexpected_eof", "?"};
+    static const char *const words[] = {"?", "insufficient", "overflow", "not_minimal",
+                                        "?", "?",            "unexpected_eof", "?"};
     if (found.status == MULTIHASH_OK) {
         CHECK(found.size == 0 && found.digest_offset + found.digest_length == found.taken);
         int at = snprintf(to, places, "pair %" PRIu64 " %s", found.code, found.digest_length == 0 ? "-" : "");
