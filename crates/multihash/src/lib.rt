@@ -6,6 +6,7 @@
 #![tactic(auto)]
 
 mod error;
+mod head;
 mod json;
 pub mod laws;
 pub mod list;
@@ -18,6 +19,7 @@ mod told;
 mod varint;
 
 pub use crate::error::Error;
+pub use crate::head::Head;
 pub use crate::multihash::Multihash;
 
 /// What the library's calls answer.

@@ -1,0 +1,48 @@
+//! What begins an encoding, for those who keep the digest where it is.
+ghost use Rattle.std.specs.Prelude.{ℕ, IfOk, IfErr};
+ghost use Rattle.multihash.specs.Varint.{VarintFault};
+ghost use Rattle.multihash.specs.Verdict.{faulty, HasVerdict};
+ghost use Rattle.multihash.specs.Head.{HasHead};
+ghost use Rattle.multihash.specs.Refusal.{IsFaulty};
+
+use crate::{Error, varint};
+
+/// The code and the digest's length that begin an encoding.
+#[derive(Clone, Copy, Debug, PartialEq, Eq)]
+pub struct Head {
+    /// The code, which names the hash function.
+    pub code: u64,
+    /// The digest's length in bytes, also one that no buffer holds.
+    pub size: u64,
+    /// How many bytes both varints have: behind them the digest begins.
+    pub len: usize,
+}
+
+impl Head {
+    /// Reads both varints that begin `bytes`, and looks at no digest: neither whether it is there, nor
+    /// whether it fits a buffer.
+    ///
+    /// # Errors
+    ///
+    /// [`Error::is_insufficient`], [`Error::is_overflow`] or [`Error::is_not_minimal`], where no two
+    /// varints begin the bytes; `from_bytes` and `read` refuse them so for every size of buffer.
+    #[inline(always)]
+    pub fn read_front(bytes: &[u8]) -> Result<Self, Error>
+        ensures ok { IfOk result (λ h. HasHead h.code h.size h.len bytes.now) }
+        ensures err { IfErr result (λ e. (fault : VarintFault) × IsFaulty fault e
+            × ((S : ℕ) → HasVerdict S bytes.now (faulty fault))) }
+    {
+        let Some((code, code_len)) = varint::read_front(bytes) else {
+            return Err(varint::front_fault(bytes));
+        };
+        let left = &bytes[code_len..];
+        let Some((size, size_len)) = varint::read_front(left) else {
+            return Err(varint::front_fault(left));
+        };
+        Ok(Head {
+            code,
+            size,
+            len: code_len + size_len,
+        })
+    }
+}

@@ -1,0 +1,95 @@
+/* Makes many calls of one operation, to be counted: its name and the number of calls are the arguments, and none
+ * prints the names. Inputs and answers go by memory that the compiler can't see through. */
+#include "multihash.h"
+
+#include <stdio.h>
+#include <stdlib.h>
+#include <string.h>
+
+static uint8_t digest[64], short_bytes[34], long_bytes[75], out[MULTIHASH_LENGTH_MAX];
+
+/* The pointer, of which the compiler no longer knows what it points at. */
+static void *hidden(void *pointer)
+{
+    __asm__ volatile("" : "+r"(pointer) : : "memory");
+    return pointer;
+}
+
+static uint64_t count_of(multihash_decoded found)
+{
+    return found.status + found.code + found.taken;
+}
+
+static uint64_t from_bytes_34(void)
+{
+    return count_of(multihash_from_bytes((uint8_t *)hidden(short_bytes), 34));
+}
+
+static uint64_t from_bytes_long_code(void)
+{
+    return count_of(multihash_from_bytes((uint8_t *)hidden(long_bytes), 74));
+}
+
+static uint64_t read_34(void)
+{
+    return count_of(multihash_read((uint8_t *)hidden(short_bytes), 34));
+}
+
+static uint64_t read_long_code(void)
+{
+    return count_of(multihash_read((uint8_t *)hidden(long_bytes), 74));
+}
+
+static uint64_t scale_decode_32(void)
+{
+    return count_of(multihash_scale_decode((uint8_t *)hidden(out), 41));
+}
+
+static uint64_t encode_32(void)
+{
+    return multihash_encode(18, (uint8_t *)hidden(digest), 32, (uint8_t *)hidden(out), sizeof out).length;
+}
+
+static uint64_t scale_encode_32(void)
+{
+    return multihash_scale_encode(18, (uint8_t *)hidden(digest), 32, (uint8_t *)hidden(out), sizeof out).length;
+}
+
+static uint64_t compare_32(void)
+{
+    return (uint64_t)multihash_compare(18, (uint8_t *)hidden(digest), 32, 18, (uint8_t *)hidden(digest + 32), 32);
+}
+
+static const struct {
+    const char *name;
+    uint64_t (*call)(void);
+} operations[] = {
+    {"from_bytes_34", from_bytes_34},     {"from_bytes_long_code", from_bytes_long_code},
+    {"read_34", read_34},                 {"read_long_code", read_long_code},
+    {"encode_32", encode_32},             {"compare_32", compare_32},
+    {"scale_encode_32", scale_encode_32}, {"scale_decode_32", scale_decode_32},
+};
+
+static void fill(void)
+{
+    memset(digest, 9, sizeof digest);
+    multihash_encode(18, digest, 32, short_bytes, sizeof short_bytes);
+    multihash_encode(INT64_MAX, digest, 64, long_bytes, sizeof long_bytes);
+    multihash_scale_encode(18, digest, 32, out, sizeof out);
+}
+
+int main(int argc, char **argv)
+{
+    uint64_t sum = 0;
+    fill();
+    for (size_t i = 0; i < sizeof operations / sizeof operations[0]; i++) {
+        if (argc != 3) {
+            printf("%s\n", operations[i].name);
+        } else if (strcmp(argv[1], operations[i].name) == 0) {
+            long calls = strtol(argv[2], NULL, 10);
+            for (long k = 0; k < calls; k++) sum += operations[i].call();
+            printf("%llu\n", (unsigned long long)sum);
+        }
+    }
+    return 0;
+}

@@ -1,0 +1,98 @@
+-- Where the digest stands in the input, what decoding the SCALE form took, and what a refusal tells.
+use Rattle.std.proofs.Common.{◌≡◌, ℕ, ◌+◌, ◌-◌, List, [], ◌∷◌, ◌++◌, length, take, drop, ap, sym, ◌∙◌, refl, inl, arith, Option, Some, append_assoc, length-append}
+use Rattle.std.proofs.Math.Seq.{drop-append_seam, take-append_seam}
+use Rattle.multihash.specs.Pair.{Pair}
+use Rattle.multihash.specs.Varint.{insufficient, overflow, not_minimal}
+use Rattle.multihash.specs.Encoding.{IsEncoding}
+use Rattle.multihash.specs.Scale.{IsScale, HasScaleVerdict}
+use Rattle.multihash.specs.ScaleTaking.{TakesAtScaleRefusal}
+use Rattle.multihash.specs.Verdict.{Verdict, accepted, invalid_size, invalid_code, faulty, unexpected_eof}
+use Rattle.multihash.specs.Refusal.{Refusal, IsInvalidSize, IsInvalidCode, IsFaulty}
+use Rattle.multihash.specs.Answer.{IsRefusal}
+use Rattle.multihash_c.specs.declared.decoded.Decoded.{Decoded}
+use Rattle.multihash_c.specs.Decoded.{Tells, TakesForm}
+
+-- what is left after the front
+pub left_over : (input front left : List ℕ) → input ≡ front ++ left → left ≡ drop (length input - length left) input
+left_over input front left cut =
+    let long : length input - length left ≡ length front = omega (arith, ap length cut, length-append front left) in
+    rw (long, cut) (sym (drop-append_seam front left))
+
+-- what was taken is the front
+pub taken_front : (input front left : List ℕ) → input ≡ front ++ left → take (length input - length left) input ≡ front
+taken_front input front left cut =
+    let long : length input - length left ≡ length front = omega (arith, ap length cut, length-append front left) in
+    rw (long, cut) (take-append_seam front left)
+
+-- behind a front of so many bytes stands the digest
+behind_front : (input front digest rest : List ℕ) (offset n : ℕ) → input ≡ front ++ (digest ++ rest) → offset ≡ length front
+    → n ≡ length digest → digest ≡ take n (drop offset input)
+behind_front input front digest rest offset n cut at long =
+    rw (at, long, cut, drop-append_seam front (digest ++ rest)) (sym (take-append_seam digest rest))
+
+-- the digest ends the bytes that were taken
+pub stands_at_end : (input front digest rest : List ℕ) (offset n taken : ℕ) → input ≡ (front ++ digest) ++ rest
+    → n ≡ length digest → taken ≡ length (front ++ digest) → offset + n ≡ taken → digest ≡ take n (drop offset input)
+stands_at_end input front digest rest offset n taken cut long all ends =
+    behind_front input front digest rest offset n (cut ∙ append_assoc front digest rest) (omega (arith, long, all, ends, length-append front digest)) long
+
+-- the digest ends the encoding
+pub encoding_stands : (p : Pair) (input bytes rest : List ℕ) (offset n taken : ℕ) → IsEncoding p bytes → input ≡ bytes ++ rest
+    → n ≡ length p.digest → taken ≡ length bytes → offset + n ≡ taken → p.digest ≡ take n (drop offset input)
+encoding_stands p input bytes rest offset n taken e cut long all ends =
+    let spelled : bytes ≡ (e.code ++ e.size) ++ p.digest = e.spelled ∙ sym (append_assoc e.code e.size p.digest) in
+    stands_at_end input (e.code ++ e.size) p.digest rest offset n taken (cut ∙ ap (λ (z : List ℕ). z ++ rest) spelled)
+    long (all ∙ ap length spelled) ends
+
+-- the digest ends the SCALE form
+pub form_stands : (p : Pair) (input bytes rest : List ℕ) (offset n taken : ℕ) → IsScale p bytes → input ≡ bytes ++ rest
+    → n ≡ length p.digest → taken ≡ length bytes → offset + n ≡ taken → p.digest ≡ take n (drop offset input)
+form_stands p input bytes rest offset n taken e cut long all ends =
+    let spelled : bytes ≡ (e.code ++ (length p.digest ∷ [])) ++ p.digest =
+    e.spelled ∙ sym (append_assoc e.code (length p.digest ∷ []) p.digest) in
+    stands_at_end input (e.code ++ (length p.digest ∷ [])) p.digest rest offset n taken (cut ∙ ap (λ (z : List ℕ). z ++ rest) spelled)
+    long (all ∙ ap length spelled) ends
+
+-- a refusal's answer
+abbrev pub refusal : ℕ → ℕ → ℕ → ℕ → Decoded
+refusal status size code taken =
+    record { status = status; size = size; code = code; digest_offset = 0; digest_length = 0; taken = taken }
+
+module _ (input : List ℕ) (taken : ℕ) (e : Refusal) where
+  pub size_told : (size : ℕ) → IsInvalidSize size e → (v : Verdict) → IsRefusal e v → Tells input (refusal 4 size 0 taken) v
+  size_told size is (accepted p) r = absurd r
+  size_told size is (invalid_size n) r =
+      let same : size ≡ n = cc in
+      record { is_status = refl; is_size = same; is_code = refl; no_offset = refl; no_length = refl }
+  size_told size is (invalid_code n) r = absurd (cc)
+  size_told size is (faulty fault) r = absurd (cc)
+  size_told size is unexpected_eof r = let other = r.1 in absurd (cc)
+
+  pub code_told : (code : ℕ) → IsInvalidCode code e → (v : Verdict) → IsRefusal e v → Tells input (refusal 5 0 code taken) v
+  code_told code is (accepted p) r = absurd r
+  code_told code is (invalid_size n) r = absurd (cc)
+  code_told code is (invalid_code n) r =
+      let same : code ≡ n = cc in
+      record { is_status = refl; is_size = refl; is_code = same; no_offset = refl; no_length = refl }
+  code_told code is (faulty fault) r = absurd (cc)
+  code_told code is unexpected_eof r = let other = r.1 in absurd (cc)
+
+  pub end_told : ((n : ℕ) → ¬ (IsInvalidSize n e)) → ((n : ℕ) → ¬ (IsInvalidCode n e)) → ¬ (IsFaulty insufficient e) → ¬ (IsFaulty overflow e)
+      → ¬ (IsFaulty not_minimal e) → (v : Verdict) → IsRefusal e v → Tells input (refusal 6 0 0 taken) v
+  end_told no_size no_code a b c (accepted p) r = absurd r
+  end_told no_size no_code a b c (invalid_size n) r = absurd (no_size n r)
+  end_told no_size no_code a b c (invalid_code n) r = absurd (no_code n r)
+  end_told no_size no_code a b c (faulty insufficient) r = absurd (a r)
+  end_told no_size no_code a b c (faulty overflow) r = absurd (b r)
+  end_told no_size no_code a b c (faulty not_minimal) r = absurd (c r)
+  end_told no_size no_code a b c unexpected_eof r =
+      record { is_status = refl; is_size = refl; is_code = refl; no_offset = refl; no_length = refl }
+
+-- a refusal's verdict says what was taken
+pub taken_at_refusal : (input : List ℕ) (new : Option (List ℕ)) (e : Refusal) (t : TakesAtScaleRefusal 255 e (Some input) new) (v : Verdict)
+    → HasScaleVerdict 255 input v → IsRefusal e v → TakesForm v t.taken
+taken_at_refusal input new e t (accepted p) has r = absurd r
+taken_at_refusal input new e t (invalid_size size) has r = t.size size r
+taken_at_refusal input new e t (invalid_code code) has r = t.code code r
+taken_at_refusal input new e t (faulty fault) has r = absurd has
+taken_at_refusal input new e t unexpected_eof has r = t.early (inl r)

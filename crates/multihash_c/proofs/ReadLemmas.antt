@@ -1,0 +1,133 @@
+-- What reading in place answers where two varints begin the input, and where none do.
+use Rattle.std.proofs.Common.{◌≡◌, ◌<◌, ◌≤◌, ◌+◌, ◌-◌, ℕ, List, [], ◌++◌, Some, length, take, drop, refl, sym, ap, ◌∙◌, subst, arith, append_assoc, append-nil, take-append-drop, length-drop}
+use Rattle.std.proofs.lemmas.List.{drop-drop, length-take-le}
+use Rattle.std.proofs.lemmas.List.Elements.{All-nil}
+use Rattle.multihash.specs.Bytes.{IsBeginning}
+use Rattle.multihash.specs.Pair.{Pair, digest_limit}
+use Rattle.multihash.specs.Varint.{VarintFault}
+use Rattle.multihash.specs.Verdict.{Verdict, accepted, invalid_size, faulty, unexpected_eof, BeginsWith, HasVerdict, IsEarlyEnd}
+use Rattle.multihash.specs.Settling.{Settles, IsShortestSettling}
+use Rattle.multihash.specs.Head.{HasHead}
+use Rattle.multihash.specs.Taking.{TakesShortestSettling, TakesUnsettled}
+use Rattle.multihash.proofs.VerdictLemmas.{verdict_unique, pair_begins}
+use Rattle.multihash.proofs.SettlingLemmas.{verdict_kept, late_settles, settles_exactly, none_settles, shortest_pair, shortest_size}
+use Rattle.multihash_c.specs.declared.decoded.Decoded.{Decoded}
+use Rattle.multihash_c.specs.Decoded.{Tells, ReadsWithin}
+
+-- what begins a beginning begins the whole
+pub begins_whole : (front middle whole : List ℕ) → IsBeginning front middle → IsBeginning middle whole → IsBeginning front whole
+begins_whole front middle whole (rest, cut) (more, whole_cut) =
+    (rest ++ more, whole_cut ∙ ap (λ (z : List ℕ). z ++ more) cut ∙ append_assoc front rest more)
+
+-- an input has one verdict, so it is not both an early end and none
+other_kind : (S : ℕ) (x : List ℕ) (v w : Verdict) → HasVerdict S x v → HasVerdict S x w → IsEarlyEnd w → ¬ (IsEarlyEnd v) → ⊥
+other_kind S x v w has also early late = late (subst IsEarlyEnd (verdict_unique S x w v also has) early)
+
+module _ (limit code size len : ℕ) (input : List ℕ) (h : HasHead code size len input) (d : Decoded) where
+  varints : List ℕ
+  varints = h.varints.code_bytes ++ h.varints.size_bytes
+
+  cut_at : d.taken ≡ len → input ≡ varints ++ drop d.taken input
+  unfolding varints
+  cut_at at =
+      h.varints.cut ∙ sym (append_assoc h.varints.code_bytes h.varints.size_bytes (drop len input))
+      ∙ ap (λ n. (h.varints.code_bytes ++ h.varints.size_bytes) ++ drop n input) (sym at)
+
+  -- a size that is too large
+  pub size_read : digest_limit limit < size → d.taken ≡ len → Tells input d (invalid_size size) → ReadsWithin limit input d
+  unfolding varints
+  size_read over at tells =
+      let has : HasVerdict limit input (invalid_size size) = (drop len input, h.varints, over) in
+      record {
+        verdict = (invalid_size size, has, tells);
+        inside = omega (arith, h.within, at);
+        settled = λ v also late.
+            record { front = varints; shortest = shortest_size limit size input (drop len input) h.varints over; takes = ap Some (cut_at at) };
+        unsettled = λ v also early. absurd (other_kind limit input (invalid_size size) v has also early (λ e. e));
+      }
+
+  -- a digest that is cut
+  pub end_read : size ≤ digest_limit limit → length input - len < size → d.taken ≡ len → Tells input d unexpected_eof → ReadsWithin limit input d
+  end_read within short at tells =
+      let has : HasVerdict limit input unexpected_eof =
+      (size, drop len input, h.varints, within, omega (arith, short, length-drop len input)) in
+      record {
+        verdict = (unexpected_eof, has, tells);
+        inside = omega (arith, h.within, at);
+        settled = λ v also late. absurd (other_kind limit input v unexpected_eof also has tt late);
+        unsettled = λ v also early. record {
+          taken = varints;
+          takes = ap Some (cut_at at);
+          unsettled = λ front begins.
+              none_settles limit input unexpected_eof has tt front (begins_whole front varints input begins (drop d.taken input, cut_at at));
+        };
+      }
+
+  -- the digest is there
+  pub pair_read : size ≤ digest_limit limit → len + size ≤ length input → d.taken ≡ len + size
+      → ((p : Pair) → p.code ≡ code → length p.digest ≡ size → p.digest ≡ take size (drop len input) → Tells input d (accepted p))
+      → ReadsWithin limit input d
+  pair_read within there at tells =
+      let rest = drop size (drop len input) in
+      let p : Pair = record { code = h.varints.code; digest = take size (drop len input) } in
+      let long : length p.digest ≡ size = length-take-le size (drop len input) (omega (arith, there, length-drop len input)) in
+      let begins : BeginsWith p input rest =
+      pair_begins size input (drop len input) h.varints p.digest rest long (sym (take-append-drop size (drop len input))) in
+      let left : rest ≡ drop d.taken input = drop-drop size len input ∙ ap (λ n. drop n input) (sym at) in
+      let fits : length p.digest ≤ digest_limit limit = omega (arith, long, within) in
+      let has : HasVerdict limit input (accepted p) = (rest, begins, fits) in
+      record {
+        verdict = (accepted p, has, tells p h.is_code long refl);
+        inside = omega (arith, there, at);
+        settled = λ v also late. record {
+          front = begins.encoding;
+          shortest = shortest_pair limit p input rest begins fits;
+          takes = ap Some (begins.cut ∙ ap (λ (z : List ℕ). begins.encoding ++ z) left);
+        };
+        unsettled = λ v also early. absurd (other_kind limit input (accepted p) v has also early (λ e. e));
+      }
+
+-- where no two varints begin the input, a beginning settles for each limit or for none
+pub settles_alike : (A B : ℕ) (f : VarintFault) (x front : List ℕ) → ((S : ℕ) → HasVerdict S x (faulty f)) → IsBeginning front x → Settles A front
+    → Settles B front
+settles_alike A B f x front has (rest, cut) s =
+    let own : HasVerdict A front s.verdict =
+    subst (λ (z : List ℕ). HasVerdict A z s.verdict) (append-nil front) (s.always [] (All-nil (λ b. b < 256))) in
+    let late : ¬ (IsEarlyEnd s.verdict) = (settles_exactly A front s.verdict own).0 s in
+    let whole : HasVerdict A x s.verdict =
+    subst (λ (z : List ℕ). HasVerdict A z s.verdict) (sym cut) (verdict_kept A front rest s.verdict late own) in
+    let same : s.verdict ≡ faulty f = verdict_unique A x s.verdict (faulty f) whole (has A) in
+    let shows : HasVerdict A front (faulty f) = subst (HasVerdict A front) same own in
+    late_settles B front (faulty f) (subst (λ (v : Verdict). ¬ (IsEarlyEnd v)) same late) shows
+
+module _ (f : VarintFault) (input : List ℕ) (has : (S : ℕ) → HasVerdict S input (faulty f)) (limit : ℕ) where
+  shortest_alike : (front : List ℕ) → IsShortestSettling 0 input front → IsShortestSettling limit input front
+  shortest_alike front s = record {
+    begins = s.begins;
+    settles = settles_alike 0 limit f input front has s.begins s.settles;
+    shortest = λ shorter proper settles.
+        s.shortest shorter proper
+        (settles_alike limit 0 f input shorter has (begins_whole shorter front input (proper.0, proper.2) s.begins) settles);
+  }
+
+  -- what reading for an empty buffer took is what reading for any takes
+  pub fault_read : (d : Decoded) → Tells input d (faulty f) → d.taken ≤ length input
+      → (¬ (IsEarlyEnd (faulty f)) → TakesShortestSettling 0 input (Some (drop d.taken input)))
+      → (IsEarlyEnd (faulty f) → TakesUnsettled 0 input (Some (drop d.taken input))) → ReadsWithin limit input d
+  fault_read d tells inside settled unsettled = record {
+    verdict = (faulty f, has limit, tells);
+    inside = inside;
+    settled = λ v also late.
+        let t = settled (λ early. other_kind limit input v (faulty f) also (has limit) early late) in
+        record { front = t.front; shortest = shortest_alike t.front t.shortest; takes = t.takes };
+    unsettled = λ v also early.
+        let same : v ≡ faulty f = verdict_unique limit input v (faulty f) also (has limit) in
+        let t = unsettled (subst IsEarlyEnd same early) in
+        record {
+          taken = t.taken;
+          takes = t.takes;
+          unsettled = λ front begins settles.
+              t.unsettled front begins
+              (settles_alike limit 0 f input front has (begins_whole front t.taken input begins (drop d.taken input, cc (t.takes))) settles);
+        };
+  }

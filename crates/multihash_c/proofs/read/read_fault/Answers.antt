@@ -1,0 +1,34 @@
+use Rattle.std.proofs.Common.{◌≡◌, ◌≤◌, ◌++◌, List, ℕ, Some, length, drop, refl, sym, ap, ◌∙◌, subst, inr, arith}
+use Rattle.multihash.specs.Verdict.{Verdict, faulty}
+use Rattle.multihash.specs.Taking.{TakesShortestSettling, TakesUnsettled}
+use Rattle.multihash.specs.Answer.{IsRefusal}
+use Rattle.multihash.proofs.VerdictLemmas.{verdict_unique}
+use Rattle.multihash_c.specs.Decoded.{Tells}
+use Rattle.multihash_c.proofs.DecodedLemmas.{left_over}
+use Rattle.multihash_c.proofs.ReadLemmas.{fault_read}
+use Rattle.multihash_c.proofs.read.read_fault.Goals as goal
+
+pub unreachable-requires : goal.unreachable-requires
+unreachable-requires c =
+    let input = c.args.bytes.now in
+    let found = c.in-Ok.ensures.verdict refl in
+    let same = verdict_unique 0 input found.0 (faulty c.requires.0) found.1 (c.requires.1 0) in
+    let pair = found.2 in
+    absurd (cc)
+
+pub returns : goal.returns
+returns c limit =
+    let input = c.args.bytes.now in
+    let left = c.read-answer.new.r.now in
+    let v : Verdict = faulty c.requires.0 in
+    let met = c.in-Err.ensures in
+    let found = met.verdict refl in
+    let same : found.0 ≡ v = verdict_unique 0 input found.0 v found.1 (c.requires.1 0) in
+    let tells : Tells input c.refuse.result v = c.refuse.ensures.tells input v (subst (IsRefusal c.in-Err.error) same found.2) in
+    let cut : input ≡ met.err.taken ++ left = cc (met.err.takes) in
+    let at : left ≡ drop c.refuse.result.taken input =
+    left_over input met.err.taken left cut ∙ ap (λ n. drop n input) (sym c.refuse.ensures.taken) in
+    let inside : c.refuse.result.taken ≤ length input = omega (arith, c.refuse.ensures.taken) in
+    fault_read c.requires.0 input c.requires.1 limit c.refuse.result tells inside
+    (λ late. subst (λ (z : List ℕ). TakesShortestSettling 0 input (Some z)) at (met.settled refl v (c.requires.1 0) late))
+    (λ early. subst (λ (z : List ℕ). TakesUnsettled 0 input (Some z)) at (met.unsettled (inr (v, c.requires.1 0, early))))

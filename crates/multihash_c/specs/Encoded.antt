@@ -1,0 +1,29 @@
+-- What an encoding tells a C caller, and what it puts in the caller's buffer.
+use Rattle.std.specs.Prelude.{◌≡◌, ℕ, ◌<◌, ◌≤◌, List, ◌++◌, length, drop}
+use Rattle.multihash_c.specs.Status.{status_ok, status_invalid_size, status_invalid_code, status_no_room}
+use Rattle.multihash_c.specs.declared.encoded.Encoded.{Encoded}
+
+-- the digest has so many bytes, which is too many
+pub record IsTooLong (size : ℕ) (e : Encoded) : Type 0 where
+  pub is_status : e.status ≡ status_invalid_size
+  pub is_size : e.size ≡ size
+  pub no_length : e.length ≡ 0
+
+-- the code is out of range
+pub record IsLargeCode (e : Encoded) : Type 0 where
+  pub is_status : e.status ≡ status_invalid_code
+  pub no_size : e.size ≡ 0
+  pub no_length : e.length ≡ 0
+
+-- the bytes stand at the front of the buffer where they fit; else it is as it was. Their count is told
+-- in both cases
+pub record IsPut (bytes : List ℕ) (e : Encoded) (old new : List ℕ) : Type 0 where
+  pub is_length : e.length ≡ length bytes
+  pub no_size : e.size ≡ 0
+  pub fits : length bytes ≤ length old →
+      (e.status ≡ status_ok) × (new ≡ bytes ++ drop (length bytes) old)
+  pub no_room : length old < length bytes → (e.status ≡ status_no_room) × (new ≡ old)
+
+-- some bytes of which the fact holds were put
+abbrev pub Puts : (List ℕ → Type 0) → Encoded → List ℕ → List ℕ → Type 0
+Puts IsForm e old new = (bytes : List ℕ) × IsForm bytes × IsPut bytes e old new

@@ -1,0 +1,55 @@
+//! Decoding, for C.
+ghost use Rattle.std.specs.Prelude.{◌≡◌, ◌≤◌, length, take};
+ghost use Rattle.multihash.specs.Verdict.{Verdict, HasWholeVerdict};
+ghost use Rattle.multihash.specs.Scale.{HasScaleVerdict};
+ghost use Rattle.multihash_c.specs.Decoded.{Tells, TakesForm, ReadsWithin};
+
+use crate::decoded::{self, Decoded};
+use crate::read;
+use multihash::Multihash;
+
+/// Decodes the multihash whose encoding is the whole of `bytes`.
+#[unsafe(no_mangle)]
+pub extern "C" fn multihash_from_bytes(bytes: &[u8]) -> Decoded
+    ensures verdict { (v : Verdict) × HasWholeVerdict 255 bytes.now v × Tells bytes.now result v }
+    ensures taken { result.taken ≡ length bytes.now }
+{
+    match Multihash::<255>::from_bytes(bytes) {
+        Ok(multihash) => {
+            decoded::accept(multihash.code(), usize::from(multihash.size()), bytes.len())
+        }
+        Err(error) => decoded::refuse(&error, bytes.len()),
+    }
+}
+
+/// Decodes the multihash whose encoding begins `bytes`.
+#[unsafe(no_mangle)]
+pub extern "C" fn multihash_read(bytes: &[u8]) -> Decoded
+    ensures { ReadsWithin 255 bytes.now result }
+{
+    read::read_within(bytes, 255)
+}
+
+/// Decodes the multihash whose encoding begins `bytes`, and whose digest has at most `limit` bytes.
+#[unsafe(no_mangle)]
+pub extern "C" fn multihash_read_limit(bytes: &[u8], limit: usize) -> Decoded
+    ensures { ReadsWithin limit bytes.now result }
+{
+    read::read_within(bytes, limit)
+}
+
+/// Decodes the multihash whose SCALE form begins `bytes`.
+#[unsafe(no_mangle)]
+pub extern "C" fn multihash_scale_decode(bytes: &[u8]) -> Decoded
+    ensures verdict { (v : Verdict) × HasScaleVerdict 255 bytes.now v × Tells bytes.now result v
+        × TakesForm v (take result.taken bytes.now) }
+    ensures inside { result.taken ≤ length bytes.now }
+{
+    let mut rest = bytes;
+    let answer = Multihash::<255>::scale_decode(&mut rest);
+    let taken = bytes.len() - rest.len();
+    match answer {
+        Ok(multihash) => decoded::accept(multihash.code(), usize::from(multihash.size()), taken),
+        Err(error) => decoded::refuse(&error, taken),
+    }
+}

@@ -1,0 +1,100 @@
+//! What a decoding answers.
+ghost use Rattle.std.specs.Prelude.{◌≡◌, ◌+◌, ◌≤◌, ℕ, List, length, take, drop};
+ghost use Rattle.multihash.specs.Pair.{Pair};
+ghost use Rattle.multihash.specs.Verdict.{Verdict, accepted, invalid_size, unexpected_eof};
+ghost use Rattle.multihash.specs.Answer.{IsRefusal};
+ghost use Rattle.multihash_c.specs.Decoded.{Tells};
+
+use crate::status;
+use multihash::Error;
+
+/// What a decoding answered. A field that the status leaves without a meaning is 0.
+#[repr(C)]
+#[derive(Clone, Copy, Debug, PartialEq, Eq)]
+pub struct Decoded {
+    pub status: u32,
+    pub size: u64,
+    pub code: u64,
+    pub digest_offset: usize,
+    pub digest_length: usize,
+    pub taken: usize,
+}
+
+// The answer at a pair whose digest ends what was taken.
+pub(crate) fn accept(code: u64, digest_length: usize, taken: usize) -> Decoded
+    requires { digest_length ≤ taken }
+    ensures tells { (input : List ℕ) (p : Pair) → p.code ≡ code → length p.digest ≡ digest_length
+        → taken ≤ length input
+        → p.digest ≡ take result.digest_length (drop result.digest_offset input)
+        → Tells input result (accepted p) }
+    ensures offset { result.digest_offset + digest_length ≡ taken }
+    ensures length { result.digest_length ≡ digest_length }
+    ensures taken { result.taken ≡ taken }
+{
+    Decoded {
+        status: status::OK,
+        size: 0,
+        code,
+        digest_offset: taken - digest_length,
+        digest_length,
+        taken,
+    }
+}
+
+// The answer at a refusal.
+pub(crate) fn refuse(error: &Error, taken: usize) -> Decoded
+    ensures tells { (input : List ℕ) (v : Verdict) → IsRefusal error.now v → Tells input result v }
+    ensures taken { result.taken ≡ taken }
+{
+    let (status, size, code) = if let Some(size) = error.invalid_size() {
+        (status::INVALID_SIZE, size, 0)
+    } else if let Some(code) = error.invalid_code() {
+        (status::INVALID_CODE, 0, code)
+    } else if error.is_insufficient() {
+        (status::INSUFFICIENT, 0, 0)
+    } else if error.is_overflow() {
+        (status::OVERFLOW, 0, 0)
+    } else if error.is_not_minimal() {
+        (status::NOT_MINIMAL, 0, 0)
+    } else {
+        (status::UNEXPECTED_EOF, 0, 0)
+    };
+    Decoded {
+        status,
+        size,
+        code,
+        digest_offset: 0,
+        digest_length: 0,
+        taken,
+    }
+}
+
+// The answer at a digest that is too long.
+pub(crate) fn refuse_size(size: u64, taken: usize) -> Decoded
+    ensures tells { (input : List ℕ) → Tells input result (invalid_size size) }
+    ensures taken { result.taken ≡ taken }
+{
+    Decoded {
+        status: status::INVALID_SIZE,
+        size,
+        code: 0,
+        digest_offset: 0,
+        digest_length: 0,
+        taken,
+    }
+}
+
+// The answer at a digest that is cut.
+pub(crate) fn refuse_end(taken: usize) -> Decoded
+    ensures tells { (input : List ℕ) → Tells input result unexpected_eof }
+    ensures taken { result.taken ≡ taken }
+{
+    Decoded {
+        status: status::UNEXPECTED_EOF,
+        size: 0,
+        code: 0,
+        digest_offset: 0,
+        digest_length: 0,
+        taken,
+    }
+}

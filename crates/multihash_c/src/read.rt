@@ -1,0 +1,41 @@
+//! Reading an encoding in place, for a digest of at most so many bytes.
+ghost use Rattle.std.specs.Prelude.{ℕ};
+ghost use Rattle.multihash.specs.Varint.{VarintFault};
+ghost use Rattle.multihash.specs.Verdict.{faulty, HasVerdict};
+ghost use Rattle.multihash_c.specs.Decoded.{ReadsWithin};
+
+use crate::decoded::{self, Decoded};
+use multihash::{Head, Multihash};
+
+/// Decodes the multihash whose encoding begins `bytes`, as `read` does for a buffer of `limit` bytes.
+pub(crate) fn read_within(bytes: &[u8], limit: usize) -> Decoded
+    ensures { ReadsWithin limit bytes.now result }
+{
+    let Ok(head) = Head::read_front(bytes) else {
+        return read_fault(bytes);
+    };
+    if head.size > limit as u64 || head.size > 255 {
+        return decoded::refuse_size(head.size, head.len);
+    }
+    let size = head.size as usize;
+    if bytes.len() - head.len < size {
+        return decoded::refuse_end(head.len);
+    }
+    decoded::accept(head.code, size, head.len + size)
+}
+
+// Decodes where no two varints begin the bytes: the answer is the same for each limit.
+#[cold]
+#[inline(never)]
+fn read_fault(bytes: &[u8]) -> Decoded
+    requires { (fault : VarintFault) × ((S : ℕ) → HasVerdict S bytes.now (faulty fault)) }
+    ensures { (limit : ℕ) → ReadsWithin limit bytes.now result }
+{
+    let mut rest = bytes;
+    let answer = Multihash::<0>::read(&mut rest);
+    let taken = bytes.len() - rest.len();
+    match answer {
+        Ok(_) => unreachable!(),
+        Err(error) => decoded::refuse(&error, taken),
+    }
+}

@@ -1,0 +1,78 @@
+//! Each export on its happy path, with values from outside.
+use crate::compare::multihash_compare;
+use crate::decode::{
+    multihash_from_bytes, multihash_read, multihash_read_limit, multihash_scale_decode,
+};
+use crate::decoded::Decoded;
+use crate::encode::{multihash_encode, multihash_scale_encode};
+use crate::status::{
+    INSUFFICIENT, INVALID_CODE, INVALID_SIZE, NO_ROOM, NOT_MINIMAL, OK, OVERFLOW, UNEXPECTED_EOF,
+};
+
+#[test]
+fn documented_example(rt: HostRuntime) {
+    let mut bytes = [0; 10];
+    let encoded = multihash_encode(22, b"\x64\x4b\xcc", &mut bytes);
+    assert_eq!(rt; encoded.status, OK);
+    assert_eq!(rt;
+        &bytes[..encoded.length],
+        b"\x16\x03\x64\x4b\xcc".as_slice()
+    );
+    let want = Decoded {
+        status: OK,
+        size: 0,
+        code: 22,
+        digest_offset: 2,
+        digest_length: 3,
+        taken: 5,
+    };
+    assert_eq!(rt; multihash_from_bytes(&bytes[..encoded.length]), want);
+    assert_eq!(rt; multihash_read(&bytes), want);
+    assert_eq!(rt;
+        multihash_encode(22, b"\x64\x4b\xcc", &mut bytes[..4]).status,
+        NO_ROOM
+    );
+}
+
+#[test]
+fn scale(rt: HostRuntime) {
+    let mut bytes = [0; 264];
+    let encoded = multihash_scale_encode(22, b"\x64\x4b\xcc", &mut bytes);
+    assert_eq!(rt;
+        &bytes[..encoded.length],
+        b"\x16\0\0\0\0\0\0\0\x03\x64\x4b\xcc".as_slice()
+    );
+    assert_eq!(rt; multihash_scale_decode(&bytes).digest_offset, 9);
+}
+
+#[test]
+fn order(rt: HostRuntime) {
+    assert_eq!(rt; multihash_compare(1, b"b", 2, b"a"), -1);
+    assert_eq!(rt; multihash_compare(1, b"b", 1, b"b"), 0);
+    assert_eq!(rt; multihash_compare(1, b"aa", 1, b"b"), 1);
+}
+
+#[test]
+fn refusals(rt: HostRuntime) {
+    let refused = multihash_read_limit(b"\x16\x03\x64", 2);
+    assert_eq!(rt; refused.status, INVALID_SIZE);
+    assert_eq!(rt; refused.size, 3);
+    assert_eq!(rt; refused.taken, 2);
+    assert_eq!(rt;
+        multihash_read_limit(b"\x16\x03\x64", 3).status,
+        UNEXPECTED_EOF
+    );
+    assert_eq!(rt; multihash_read(b"\x96").status, INSUFFICIENT);
+    assert_eq!(rt; multihash_read(b"\x96\x00\x00").status, NOT_MINIMAL);
+    assert_eq!(rt;
+        multihash_read(b"\xff\xff\xff\xff\xff\xff\xff\xff\xff").status,
+        OVERFLOW
+    );
+    let refused = multihash_scale_decode(b"\xff\xff\xff\xff\xff\xff\xff\xff\xff");
+    assert_eq!(rt; refused.status, INVALID_CODE);
+    assert_eq!(rt; refused.code, u64::MAX);
+    assert_eq!(rt;
+        multihash_encode(u64::MAX, b"", &mut []).status,
+        INVALID_CODE
+    );
+}
