@@ -1,6 +1,7 @@
 //! The checks on one line.
-ghost use Rattle.std.specs.Prelude.{◌<◌, ◌≤◌, ◌↔◌, length, count_by, IsTrue, IfOk};
+ghost use Rattle.std.specs.Prelude.{◌≡◌, ◌<◌, ◌≤◌, ◌↔◌, ◌⊎◌, length, count_by, IsTrue, IfOk};
 ghost use Rattle.multihash.specs.Verdict.{HasWholeVerdict};
+ghost use Rattle.vectors.specs.declared.check.Check.TheVariants.{ReadOneByte, ReadThreeBytes, ScaleOneByte};
 ghost use Rattle.vectors.specs.Listed.{meaning, IsReading, IsScaleReading, ends_varint, TakesAsReadListed, TakesAsScaleListed, IsRight};
 
 use crate::cuts::Cuts;
@@ -89,11 +90,26 @@ impl Check {
         match self {
             Check::FromBytes => whole_agrees::<S>(&line.input, &line.from_bytes),
             Check::ReadSlice => slice_agrees::<S>(&line.input, &line.read),
-            Check::ReadOneByte => cuts_agree::<S>(&line.input, &line.read, 1),
-            Check::ReadThreeBytes => cuts_agree::<S>(&line.input, &line.read, 3),
+            Check::ReadOneByte | Check::ReadThreeBytes => {
+                cuts_agree::<S>(&line.input, &line.read, self.bytes_a_call())
+            }
             Check::ScaleSlice => scale_slice_agrees::<S>(&line.input, &line.scale_decode),
-            Check::ScaleOneByte => scale_cuts_agree::<S>(&line.input, &line.scale_decode),
+            Check::ScaleOneByte => {
+                scale_cuts_agree::<S>(&line.input, &line.scale_decode, self.bytes_a_call())
+            }
             Check::FromValue => value_agrees::<S>(line),
+        }
+    }
+
+    // The most bytes that the reader of a check over cut input gives a call.
+    fn bytes_a_call(self) -> usize
+        ensures some { 0 < result }
+        ensures one { (self ≡ ReadOneByte) ⊎ (self ≡ ScaleOneByte) → result ≡ 1 }
+        ensures three { self ≡ ReadThreeBytes → result ≡ 3 }
+    {
+        match self {
+            Check::ReadThreeBytes => 3,
+            _ => 1,
         }
     }
 }
@@ -170,13 +186,14 @@ fn scale_slice_agrees<const S: usize>(input: &[u8], listed: &Reading) -> bool
     listed.verdict.is_answer(&answer) && takes_as_scale_listed(input, left, listed)
 }
 
-// Whether `scale_decode` does as is listed, over a reader that gives one byte a call.
-fn scale_cuts_agree<const S: usize>(input: &[u8], listed: &Reading) -> bool
-    requires { S ≤ LARGEST }
+// Whether `scale_decode` does as is listed, over a reader that gives at most so many bytes a call.
+fn scale_cuts_agree<const S: usize>(input: &[u8], listed: &Reading, most: usize) -> bool
+    requires size { S ≤ LARGEST }
+    requires some { 0 < most }
     ensures { IsTrue result ↔ IsScaleReading S input.now listed.now }
 {
     laws::scale_unique();
-    let mut cuts = Cuts::new(input, 1);
+    let mut cuts = Cuts::new(input, most);
     let answer = Multihash::<S>::scale_decode(&mut cuts);
     listed.verdict.is_answer(&answer) && takes_as_scale_listed(input, cuts.left, listed)
 }
