@@ -9,7 +9,7 @@ use Rattle.multihash_c.proofs.encode.write_encoding.Goals as goal
 pub unreachable-requires : goal.unreachable-requires
 unreachable-requires c =
     let met = c.in-Err.ensures in
-    let full = full_of_faults 0 _ met.faults.1.0 met.faults.1.2 in
+    let full = full_of_faults 0 _ met.faults.0 met.faults.2 in
     let shorter = part_is_shorter _ _ met.err.0 c.requires met.err.2 in
     let fits = digest_fits c.args.multihash.now in
     omega (arith, full, shorter, encoding_length (pair_of c.args.multihash.now) met.err.0 met.err.1 (omega (arith, fits)))
