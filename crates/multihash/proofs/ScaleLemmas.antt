@@ -1,5 +1,5 @@
 -- One SCALE form a pair, and one verdict an input.
-use Rattle.std.proofs.Common.{◌≡◌, ℕ, zero, suc, ◌+◌, ◌/◌, ◌%◌, ◌^◌, ◌<◌, ◌≤◌, ◌⊎◌, cond, ltb, List, [], ◌∷◌, ◌++◌, length, get_or, take, drop, refl, subst, sym, ap, ◌∙◌, arith, inl, inr, length-append, append_assoc, append-nil}
+use Rattle.std.proofs.Common.{◌≡◌, ℕ, zero, suc, ◌+◌, ◌/◌, ◌%◌, ◌^◌, ◌<◌, ◌≤◌, ◌⊎◌, cond, ltb, List, [], ◌∷◌, ◌++◌, length, take, drop, refl, subst, sym, ap, ◌∙◌, arith, inl, inr, length-append, append_assoc, append-nil}
 use Rattle.std.specs.List.{All}
 use Rattle.std.proofs.Math.Nat.{pow-suc, pow-zero, div-add-mod}
 use Rattle.std.proofs.lemmas.Nat.{mod_below, div_below}
@@ -11,7 +11,7 @@ use Rattle.multihash.specs.Pair.{Pair}
 use Rattle.multihash.specs.Varint.{varint_limit}
 use Rattle.multihash.specs.Verdict.{Verdict, accepted, invalid_size, invalid_code, faulty, unexpected_eof}
 use Rattle.multihash.specs.Scale.{IsScaleCode, IsScale, HasScaleSize, HasScaleVerdict}
-use Rattle.multihash.proofs.DigitLemmas.{place_value-nil, place_value-cons, place_value_below, place_value_unique}
+use Rattle.multihash.proofs.DigitLemmas.{place_value-nil, place_value-cons, place_value_unique}
 use Rattle.multihash.proofs.MarkedLemmas.{All-append_right}
 use Rattle.multihash.proofs.VerdictLemmas.{same_cut}
 

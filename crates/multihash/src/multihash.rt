@@ -26,7 +26,7 @@ use std::fmt;
 use std::hash::{Hash, Hasher};
 use std::marker::Model;
 
-/// A code and a digest of at most `min(S, 255)` bytes, kept in a buffer of `S` bytes.
+/// A code below 2^63 and a digest of at most `min(S, 255)` bytes, kept in a buffer of `S` bytes.
 ///
 /// ```
 /// use multihash::Multihash;

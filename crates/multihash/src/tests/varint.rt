@@ -1,5 +1,5 @@
 //! The varints of numbers, both ways.
-use crate::varint;
+use crate::{Multihash, varint};
 use std::test::Fail;
 
 const VARINTS: [(u64, &[u8]); 13] = [
@@ -24,12 +24,12 @@ const VARINTS: [(u64, &[u8]); 13] = [
     ),
 ];
 
-// What the first numbers too large for a varint would be as ten bytes, and marked bytes that go on.
-const TOO_LONG: [&[u8]; 4] = [
-    &[0x80, 0x80, 0x80, 0x80, 0x80, 0x80, 0x80, 0x80, 0x80, 0x01],
-    &[0xff, 0xff, 0xff, 0xff, 0xff, 0xff, 0xff, 0xff, 0xff, 0x01],
-    &[0x80, 0x80, 0x80, 0x80, 0x80, 0x80, 0x80, 0x80, 0x80, 0x00],
-    &[0x80, 0x80, 0x80, 0x80, 0x80, 0x80, 0x80, 0x80, 0x80, 0x80],
+// What 2^63 and 2^64 - 1 would be as ten bytes, and nine marked bytes before a zero or another.
+const TOO_LONG: [[u8; 10]; 4] = [
+    [0x80, 0x80, 0x80, 0x80, 0x80, 0x80, 0x80, 0x80, 0x80, 0x01],
+    [0xff, 0xff, 0xff, 0xff, 0xff, 0xff, 0xff, 0xff, 0xff, 0x01],
+    [0x80, 0x80, 0x80, 0x80, 0x80, 0x80, 0x80, 0x80, 0x80, 0x00],
+    [0x80, 0x80, 0x80, 0x80, 0x80, 0x80, 0x80, 0x80, 0x80, 0x80],
 ];
 
 #[test]
@@ -52,13 +52,13 @@ fn varints_both_ways(rt: HostRuntime) -> Result<(), Fail> {
 #[test]
 fn ninth_marked_byte_overflows(rt: HostRuntime) {
     for bytes in TOO_LONG {
-        let mut left = bytes;
+        let mut left: &[u8] = &bytes;
         assert!(rt; varint::read(&mut left).is_err_and(|e| e.is_overflow()));
         assert_eq!(rt; left, &bytes[9..]);
-        assert!(rt; varint::read_front(bytes).is_none());
-        assert!(rt; varint::front_fault(bytes).is_overflow());
-        assert!(rt; varint::front_fault(&bytes[..9]).is_overflow());
-        assert!(rt; varint::front_fault(&bytes[..8]).is_insufficient());
+        assert!(rt; varint::read_front(&bytes).is_none());
+        assert!(rt; Multihash::<4>::from_bytes(&bytes).is_err_and(|e| e.is_overflow()));
+        assert!(rt; Multihash::<4>::from_bytes(&bytes[..9]).is_err_and(|e| e.is_overflow()));
+        assert!(rt; Multihash::<4>::from_bytes(&bytes[..8]).is_err_and(|e| e.is_insufficient()));
     }
 }
 
