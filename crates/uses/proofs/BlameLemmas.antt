@@ -60,7 +60,7 @@ pub refused_of : (limit code size : ℕ) (told : Option ℕ) (e : Refusal)
     → (IsInvalidSize size e × (limit < size)) ⊎ (IsInvalidCode code e × (size ≤ limit) × (varint_limit ≤ code))
     → ((n : ℕ) → ((told ≡ Some n) ↔ IsInvalidCode n e))
     → MatchOption told ((code < varint_limit) ⊎ (limit < size))
-      (λ refused. (refused ≡ code) × (varint_limit ≤ code) × (size ≤ limit))
+    (λ refused. (refused ≡ code) × (varint_limit ≤ code) × (size ≤ limit))
 refused_of limit code size None e (inl (is, over)) tells = inr over
 refused_of limit code size None e (inr (is, fits, large)) tells = absurd (let none : None ≡ Some code = (tells code).1 is in cc)
 refused_of limit code size (Some n) e (inl (is, over)) tells =

@@ -120,7 +120,11 @@ fn the_smaller_size_counts(rt: HostRuntime) -> Result<(), Fail> {
 
 #[test]
 fn a_multihash_hashes_as_its_pair(rt: HostRuntime) -> Result<(), Fail> {
-    for (code, digest) in [(0u64, b"foo".as_slice()), (LARGEST_CODE, b""), (18, b"foobar")] {
+    for (code, digest) in [
+        (0u64, b"foo".as_slice()),
+        (LARGEST_CODE, b""),
+        (18, b"foobar"),
+    ] {
         let m = Multihash::<6>::wrap(code, digest)?;
         assert_eq!(rt; hash_of(&m), hash_of(&(code, digest)));
         let resized = m.resize::<300>()?;
