@@ -6,7 +6,7 @@ use Rattle.multihash.proofs.PairVectors.{pair}
 use Rattle.multihash_c.specs.declared.decoded.Decoded.{Decoded}
 use Rattle.multihash_c.specs.Decoded.{TellsPair, TellsRefusal, Tells}
 
-abbrev answer : ℕ → ℕ → ℕ → ℕ → ℕ → ℕ → Decoded
+abbrev pub answer : ℕ → ℕ → ℕ → ℕ → ℕ → ℕ → Decoded
 answer status size code offset length taken = record {
   status = status;
   size = size;
@@ -19,10 +19,10 @@ answer status size code offset length taken = record {
 -- ---- a pair
 
 -- the code 0, one byte of a digest, and what stands behind it
-abbrev input : List ℕ
+abbrev pub input : List ℕ
 input = 0 ∷ 1 ∷ 9 ∷ 8 ∷ []
 
-tells_pair : TellsPair input (answer 0 0 0 2 1 3) (pair 0 (9 ∷ []))
+pub tells_pair : TellsPair input (answer 0 0 0 2 1 3) (pair 0 (9 ∷ []))
 tells_pair = record {
   is_ok = refl;
   no_size = refl;
