@@ -1,0 +1,124 @@
+-- What known encodings tell a C caller and put in a buffer, and what no encoding tells.
+use Rattle.std.proofs.Common.{◌≡◌, ℕ, List, [], ◌∷◌, length, get_or, refl, ap, arith}
+use Rattle.multihash_c.specs.declared.encoded.Encoded.{Encoded}
+use Rattle.multihash_c.specs.Encoded.{IsTooLong, IsLargeCode, IsPut, Puts}
+
+abbrev answer : ℕ → ℕ → ℕ → Encoded
+answer status size length = record { status = status; size = size; length = length }
+
+-- ---- a digest that is too long
+
+too_long : IsTooLong 256 (answer 4 256 0)
+too_long = record { is_status = refl; is_size = refl; no_length = refl }
+
+too_long_is_not_ok : ¬ (IsTooLong 256 (answer 0 256 0))
+too_long_is_not_ok h = omega (arith, h.is_status)
+
+too_long_is_no_large_code : ¬ (IsTooLong 256 (answer 5 256 0))
+too_long_is_no_large_code h = omega (arith, h.is_status)
+
+too_long_has_its_size : ¬ (IsTooLong 256 (answer 4 255 0))
+too_long_has_its_size h = omega (arith, h.is_size)
+
+too_long_has_no_bytes : ¬ (IsTooLong 256 (answer 4 256 1))
+too_long_has_no_bytes h = omega (arith, h.no_length)
+
+-- ---- a code out of range
+
+large_code : IsLargeCode (answer 5 0 0)
+large_code = record { is_status = refl; no_size = refl; no_length = refl }
+
+large_code_is_not_ok : ¬ (IsLargeCode (answer 0 0 0))
+large_code_is_not_ok h = omega (arith, h.is_status)
+
+large_code_is_not_too_long : ¬ (IsLargeCode (answer 4 0 0))
+large_code_is_not_too_long h = omega (arith, h.is_status)
+
+large_code_has_no_size : ¬ (IsLargeCode (answer 5 1 0))
+large_code_has_no_size h = omega (arith, h.no_size)
+
+large_code_has_no_bytes : ¬ (IsLargeCode (answer 5 0 1))
+large_code_has_no_bytes h = omega (arith, h.no_length)
+
+-- ---- bytes in a buffer
+
+-- the place behind them is as it was
+puts_in_front : IsPut (1 ∷ 2 ∷ []) (answer 0 0 2) (7 ∷ 8 ∷ 9 ∷ []) (1 ∷ 2 ∷ 9 ∷ [])
+puts_in_front =
+    record { is_length = refl; no_size = refl; fits = λ room. (refl, refl); no_room = λ short. absurd (omega (arith, short)) }
+
+-- as many places as bytes are enough
+puts_in_all : IsPut (1 ∷ 2 ∷ []) (answer 0 0 2) (7 ∷ 8 ∷ []) (1 ∷ 2 ∷ [])
+puts_in_all =
+    record { is_length = refl; no_size = refl; fits = λ room. (refl, refl); no_room = λ short. absurd (omega (arith, short)) }
+
+-- one place is too few: it keeps what it holds, and the count is told
+has_no_room : IsPut (1 ∷ 2 ∷ []) (answer 7 0 2) (7 ∷ []) (7 ∷ [])
+has_no_room =
+    record { is_length = refl; no_size = refl; fits = λ room. absurd (omega (arith, room)); no_room = λ short. (refl, refl) }
+
+counts_no_fewer : ¬ (IsPut (1 ∷ 2 ∷ []) (answer 0 0 1) (7 ∷ 8 ∷ 9 ∷ []) (1 ∷ 2 ∷ 9 ∷ []))
+counts_no_fewer h = omega (arith, h.is_length)
+
+-- nor the places of the buffer
+counts_no_places : ¬ (IsPut (1 ∷ 2 ∷ []) (answer 0 0 3) (7 ∷ 8 ∷ 9 ∷ []) (1 ∷ 2 ∷ 9 ∷ []))
+counts_no_places h = omega (arith, h.is_length)
+
+counts_without_room : ¬ (IsPut (1 ∷ 2 ∷ []) (answer 7 0 0) (7 ∷ []) (7 ∷ []))
+counts_without_room h = omega (arith, h.is_length)
+
+names_no_size : ¬ (IsPut (1 ∷ 2 ∷ []) (answer 0 2 2) (7 ∷ 8 ∷ 9 ∷ []) (1 ∷ 2 ∷ 9 ∷ []))
+names_no_size h = omega (arith, h.no_size)
+
+names_no_size_without_room : ¬ (IsPut (1 ∷ 2 ∷ []) (answer 7 2 2) (7 ∷ []) (7 ∷ []))
+names_no_size_without_room h = omega (arith, h.no_size)
+
+-- bytes that fit are not refused, whether or not they are written
+refuses_none_that_fit : ¬ (IsPut (1 ∷ 2 ∷ []) (answer 7 0 2) (7 ∷ 8 ∷ []) (1 ∷ 2 ∷ []))
+refuses_none_that_fit h = omega (arith, (h.fits (omega arith)).0)
+
+leaves_none_that_fit : ¬ (IsPut (1 ∷ 2 ∷ []) (answer 7 0 2) (7 ∷ 8 ∷ []) (7 ∷ 8 ∷ []))
+leaves_none_that_fit h = omega (arith, (h.fits (omega arith)).0)
+
+writes_what_fits : ¬ (IsPut (1 ∷ 2 ∷ []) (answer 0 0 2) (7 ∷ 8 ∷ []) (7 ∷ 8 ∷ []))
+writes_what_fits h = omega (arith, ap (λ (z : List ℕ). get_or z 0 0) (h.fits (omega arith)).1)
+
+writes_all_of_it : ¬ (IsPut (1 ∷ 2 ∷ []) (answer 0 0 2) (7 ∷ 8 ∷ []) (1 ∷ 8 ∷ []))
+writes_all_of_it h = omega (arith, ap (λ (z : List ℕ). get_or z 1 0) (h.fits (omega arith)).1)
+
+-- at the front
+writes_not_behind : ¬ (IsPut (1 ∷ 2 ∷ []) (answer 0 0 2) (7 ∷ 8 ∷ 9 ∷ []) (7 ∷ 1 ∷ 2 ∷ []))
+writes_not_behind h = omega (arith, ap (λ (z : List ℕ). get_or z 0 0) (h.fits (omega arith)).1)
+
+-- and nothing else
+keeps_the_places_behind : ¬ (IsPut (1 ∷ 2 ∷ []) (answer 0 0 2) (7 ∷ 8 ∷ 9 ∷ []) (1 ∷ 2 ∷ 0 ∷ []))
+keeps_the_places_behind h = omega (arith, ap (λ (z : List ℕ). get_or z 2 0) (h.fits (omega arith)).1)
+
+keeps_every_place : ¬ (IsPut (1 ∷ 2 ∷ []) (answer 0 0 2) (7 ∷ 8 ∷ 9 ∷ []) (1 ∷ 2 ∷ []))
+keeps_every_place h = omega (arith, ap (λ (z : List ℕ). length z) (h.fits (omega arith)).1)
+
+-- without room the call has not done what it was asked for
+is_not_ok_without_room : ¬ (IsPut (1 ∷ 2 ∷ []) (answer 0 0 2) (7 ∷ []) (7 ∷ []))
+is_not_ok_without_room h = omega (arith, (h.no_room (omega arith)).0)
+
+-- it is the room that is missing
+refuses_no_size_without_room : ¬ (IsPut (1 ∷ 2 ∷ []) (answer 4 0 2) (7 ∷ []) (7 ∷ []))
+refuses_no_size_without_room h = omega (arith, (h.no_room (omega arith)).0)
+
+-- and nothing is written, not even what fits
+writes_none_without_room : ¬ (IsPut (1 ∷ 2 ∷ []) (answer 7 0 2) (7 ∷ []) (1 ∷ []))
+writes_none_without_room h = omega (arith, ap (λ (z : List ℕ). get_or z 0 0) (h.no_room (omega arith)).1)
+
+-- ---- bytes of which a fact holds
+
+puts_two_bytes : Puts (λ bytes. length bytes ≡ 2) (answer 0 0 2) (7 ∷ 8 ∷ 9 ∷ []) (1 ∷ 2 ∷ 9 ∷ [])
+puts_two_bytes = (1 ∷ 2 ∷ [], refl, puts_in_front)
+
+-- the fact holds of the bytes that were put
+puts_no_three_bytes : ¬ (Puts (λ bytes. length bytes ≡ 3) (answer 0 0 2) (7 ∷ 8 ∷ 9 ∷ []) (1 ∷ 2 ∷ 9 ∷ []))
+puts_no_three_bytes (bytes, three, put) = omega (arith, three, put.is_length)
+
+-- which were put
+puts_what_it_tells : ¬ (Puts (λ bytes. bytes ≡ 1 ∷ 2 ∷ []) (answer 7 0 2) (7 ∷ []) (1 ∷ []))
+puts_what_it_tells (bytes, is, put) =
+    omega (arith, ap (λ (z : List ℕ). get_or z 0 0) (put.no_room (omega (arith, ap (λ (z : List ℕ). length z) is))).1)

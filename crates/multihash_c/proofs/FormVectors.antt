@@ -1,0 +1,116 @@
+-- What known decodings of the SCALE form took.
+use Rattle.std.proofs.Common.{◌≡◌, ◌<◌, ℕ, List, [], ◌∷◌, ◌++◌, length, drop, refl, ap, ◌∙◌, subst, arith, inl, inr, length-append}
+use Rattle.std.proofs.lemmas.List.Elements.{All-head, All-drop}
+use Rattle.std.proofs.Math.Seq.{drop-append_seam}
+use Rattle.multihash.specs.Bytes.{IsBytes, place_value}
+use Rattle.multihash.specs.Varint.{VarintFault}
+use Rattle.multihash.specs.Verdict.{accepted, invalid_size, invalid_code, faulty, unexpected_eof}
+use Rattle.multihash.specs.Scale.{IsScaleCode, IsScale, HasScaleVerdict}
+use Rattle.multihash.proofs.BytesVectors.{all_below}
+use Rattle.multihash.proofs.PairVectors.{pair}
+use Rattle.multihash.proofs.ScaleLemmas.{scale_verdict_unique}
+use Rattle.multihash.proofs.ScaleVectors.{zeros, all_255, scale_code_above}
+use Rattle.multihash.proofs.VerdictVectors.{code_named}
+use Rattle.multihash_c.specs.Decoded.{TakesForm}
+
+zero_code : IsScaleCode 0 zeros
+unfolding place_value
+zero_code = record { eight = refl; are_bytes = all_below 256 zeros refl; value = refl }
+
+empty_form : IsScale (pair 0 []) (zeros ++ 0 ∷ [])
+empty_form =
+    record { code = zeros; is_code = zero_code; in_range = omega arith; size = omega arith; spelled = refl }
+
+empty_verdict : HasScaleVerdict 255 (zeros ++ 0 ∷ []) (accepted (pair 0 []))
+empty_verdict = (zeros ++ 0 ∷ [], [], empty_form, omega arith, refl)
+
+-- ---- a pair
+
+takes_form : TakesForm (accepted (pair 0 [])) (zeros ++ 0 ∷ [])
+takes_form = empty_form
+
+takes_no_byte_behind_form : ¬ (TakesForm (accepted (pair 0 [])) (zeros ++ 0 ∷ 7 ∷ []))
+takes_no_byte_behind_form h =
+    omega (arith, ap (λ (z : List ℕ). length z) h.spelled, h.is_code.eight, length-append h.code (0 ∷ []))
+
+takes_no_part_of_form : ¬ (TakesForm (accepted (pair 0 [])) zeros)
+takes_no_part_of_form h =
+    omega (arith, ap (λ (z : List ℕ). length z) h.spelled, h.is_code.eight, length-append h.code (0 ∷ []))
+
+-- ---- a size that is too large
+
+takes_nine : TakesForm (invalid_size 256) (zeros ++ 256 ∷ [])
+takes_nine =
+    (([], record { code = 0; code_bytes = zeros; is_code = zero_code; in_range = omega arith; cut = refl }, omega arith), refl)
+
+takes_no_ten : ¬ (TakesForm (invalid_size 256) (zeros ++ 256 ∷ 7 ∷ []))
+takes_no_ten h = omega (arith, h.1)
+
+takes_no_size_that_fits : ¬ (TakesForm (invalid_size 255) (zeros ++ 255 ∷ []))
+takes_no_size_that_fits ((rest, has, over), nine) = omega (arith, over)
+
+-- no byte is such a size
+takes_no_byte_for_it : (size : ℕ) (taken : List ℕ) → IsBytes taken → ¬ (TakesForm (invalid_size size) taken)
+takes_no_byte_for_it size taken bytes ((rest, has, over), nine) =
+    let left : drop (length has.code_bytes) taken ≡ size ∷ rest =
+    ap (λ (z : List ℕ). drop (length has.code_bytes) z) has.cut ∙ drop-append_seam has.code_bytes (size ∷ rest) in
+    let behind : IsBytes (size ∷ rest) =
+    subst IsBytes left (All-drop (λ byte. byte < 256) (length has.code_bytes) taken bytes) in
+    omega (arith, over, All-head (λ byte. byte < 256) size rest behind)
+
+-- ---- a code that is too large
+
+takes_eight : TakesForm (invalid_code 18446744073709551615) all_255
+takes_eight = (scale_code_above [], refl)
+
+takes_no_size_behind_code : ¬ (TakesForm (invalid_code 18446744073709551615) (all_255 ++ 0 ∷ []))
+takes_no_size_behind_code h = omega (arith, h.1)
+
+takes_no_code_in_range : ¬ (TakesForm (invalid_code 0) zeros)
+takes_no_code_in_range ((bytes, rest, is, above, cut), eight) = omega (arith, above)
+
+takes_no_other_code : ¬ (TakesForm (invalid_code 9223372036854775808) all_255)
+takes_no_other_code h =
+    omega (
+      arith,
+      ap code_named
+          (scale_verdict_unique 255 all_255 (invalid_code 9223372036854775808)
+          (invalid_code 18446744073709551615) h.0 (scale_code_above [])),
+    )
+
+-- ---- no varint is read
+
+takes_no_varint : (f : VarintFault) (taken : List ℕ) → ¬ (TakesForm (faulty f) taken)
+takes_no_varint f taken h = h
+
+-- ---- an early end
+
+takes_nothing : TakesForm unexpected_eof []
+takes_nothing = inl (omega arith)
+
+takes_code_alone : TakesForm unexpected_eof zeros
+takes_code_alone = inr (inl (0, zero_code, omega arith))
+
+takes_cut_digest : TakesForm unexpected_eof (zeros ++ 2 ∷ 7 ∷ [])
+takes_cut_digest =
+    inr (inr (
+      2,
+      7 ∷ [],
+      record { code = 0; code_bytes = zeros; is_code = zero_code; in_range = omega arith; cut = refl },
+      omega arith,
+      omega arith,
+    ))
+
+-- a whole form does not end early
+takes_no_whole_form_early : ¬ (TakesForm unexpected_eof (zeros ++ 0 ∷ []))
+takes_no_whole_form_early h =
+    let same : unexpected_eof ≡ accepted (pair 0 []) =
+    scale_verdict_unique 255 (zeros ++ 0 ∷ []) unexpected_eof (accepted (pair 0 [])) h empty_verdict in
+    cc
+
+-- nor a code that is refused
+takes_no_large_code_early : ¬ (TakesForm unexpected_eof all_255)
+takes_no_large_code_early h =
+    let same : unexpected_eof ≡ invalid_code 18446744073709551615 =
+    scale_verdict_unique 255 all_255 unexpected_eof (invalid_code 18446744073709551615) h (scale_code_above []) in
+    cc
