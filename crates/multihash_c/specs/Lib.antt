@@ -1,4 +1,5 @@
 pub mod Compared
 pub mod Decoded
 pub mod Encoded
+pub mod Slots
 pub mod Status

@@ -4,10 +4,10 @@ ghost use Rattle.multihash.specs.Varint.{varint_limit};
 ghost use Rattle.multihash.specs.Encoding.{IsEncoding};
 ghost use Rattle.multihash.specs.Scale.{IsScale};
 ghost use Rattle.multihash.specs.Answer.{pair_of};
-ghost use Rattle.multihash_c.specs.Encoded.{IsTooLong, IsLargeCode, Puts};
+ghost use Rattle.multihash_c.specs.Encoded.{IsTooLong, IsLargeCode, Puts, Fit, Begin};
 
 use crate::encoded::{self, Encoded};
-use crate::room::Room;
+use crate::room::SliceWriter;
 use multihash::Multihash;
 
 /// Puts the encoding of a code and a digest at the front of `out`.
@@ -24,9 +24,11 @@ pub extern "C" fn multihash_encode(code: u64, digest: &[u8], out: &mut [u8]) -> 
         Ok(multihash) => multihash,
         Err(error) => return encoded::refuse(&error),
     };
-    let mut room = Room::new();
-    write_encoding(&multihash, &mut room);
-    encoded::put(room.as_bytes(), out)
+    let length = multihash.encoded_len();
+    if length <= out.len() {
+        put_encoding(&multihash, out);
+    }
+    encoded::count(length, out.len())
 }
 
 /// Puts the SCALE form of a code and a digest at the front of `out`.
@@ -43,28 +45,32 @@ pub extern "C" fn multihash_scale_encode(code: u64, digest: &[u8], out: &mut [u8
         Ok(multihash) => multihash,
         Err(error) => return encoded::refuse(&error),
     };
-    let mut room = Room::new();
-    write_scale_form(&multihash, &mut room);
-    encoded::put(room.as_bytes(), out)
+    let length = 9 + digest.len();
+    if length <= out.len() {
+        put_scale_form(&multihash, out);
+    }
+    encoded::count(length, out.len())
 }
 
-// Writes the encoding of a multihash into an empty room, which has places for each.
-fn write_encoding(multihash: &Multihash<255>, room: &mut Room)
-    requires { room.old ≡ [] }
-    ensures { IsEncoding (pair_of multihash.now) room.new }
+// Puts the encoding of a multihash at the front of places that have room for it.
+fn put_encoding(multihash: &Multihash<255>, places: &mut [u8])
+    requires { Fit (IsEncoding (pair_of multihash.now)) places.old }
+    ensures { Begin (IsEncoding (pair_of multihash.now)) places.old places.new }
 {
-    match multihash.write(room) {
+    let mut writer = SliceWriter::new(places);
+    match multihash.write(&mut writer) {
         Ok(_) => {}
         Err(_) => unreachable!(),
     }
 }
 
-// Writes the SCALE form of a multihash into an empty room, which has places for each.
-fn write_scale_form(multihash: &Multihash<255>, room: &mut Room)
-    requires { room.old ≡ [] }
-    ensures { IsScale (pair_of multihash.now) room.new }
+// Puts the SCALE form of a multihash at the front of places that have room for it.
+fn put_scale_form(multihash: &Multihash<255>, places: &mut [u8])
+    requires { Fit (IsScale (pair_of multihash.now)) places.old }
+    ensures { Begin (IsScale (pair_of multihash.now)) places.old places.new }
 {
-    match multihash.scale_encode(room) {
+    let mut writer = SliceWriter::new(places);
+    match multihash.scale_encode(&mut writer) {
         Ok(_) => {}
         Err(_) => unreachable!(),
     }

@@ -1,7 +1,8 @@
 //! What an encoding answers.
-ghost use Rattle.std.specs.Prelude.{ℕ};
+ghost use Rattle.std.specs.Prelude.{◌≡◌, ◌<◌, ◌≤◌, ℕ};
 ghost use Rattle.multihash.specs.Refusal.{IsInvalidSize, IsInvalidCode};
-ghost use Rattle.multihash_c.specs.Encoded.{IsTooLong, IsLargeCode, IsPut};
+ghost use Rattle.multihash_c.specs.Encoded.{IsTooLong, IsLargeCode};
+ghost use Rattle.multihash_c.specs.Status.{status_ok, status_no_room};
 
 use crate::status;
 use multihash::Error;
@@ -31,19 +32,21 @@ pub(crate) fn refuse(error: &Error) -> Encoded
     }
 }
 
-// Puts the bytes at the front of `out`, where they fit.
-pub(crate) fn put(bytes: &[u8], out: &mut [u8]) -> Encoded
-    ensures { IsPut bytes.now result out.old out.new }
+// The answer for so many bytes and so many places: they were put where they fit.
+pub(crate) fn count(length: usize, places: usize) -> Encoded
+    ensures length { result.length ≡ length }
+    ensures no_size { result.size ≡ 0 }
+    ensures fits { length ≤ places → result.status ≡ status_ok }
+    ensures no_room { places < length → result.status ≡ status_no_room }
 {
-    let status = if out.len() < bytes.len() {
-        status::NO_ROOM
-    } else {
-        out[..bytes.len()].copy_from_slice(bytes);
+    let status = if length <= places {
         status::OK
+    } else {
+        status::NO_ROOM
     };
     Encoded {
         status,
         size: 0,
-        length: bytes.len(),
+        length,
     }
 }

@@ -3,7 +3,7 @@ use Rattle.multihash.specs.Answer.{pair_of}
 use Rattle.multihash.proofs.PlacesLemmas.{full_of_faults}
 use Rattle.multihash.proofs.ValueLemmas.{digest_fits}
 use Rattle.multihash_c.proofs.RoomLemmas.{part_is_shorter, form_length}
-use Rattle.multihash_c.proofs.encode.write_scale_form.Goals as goal
+use Rattle.multihash_c.proofs.encode.put_scale_form.Goals as goal
 
 pub unreachable-requires : goal.unreachable-requires
 unreachable-requires c =

@@ -4,7 +4,7 @@ use Rattle.multihash.proofs.LengthLemmas.{encoding_length}
 use Rattle.multihash.proofs.PlacesLemmas.{full_of_faults}
 use Rattle.multihash.proofs.ValueLemmas.{digest_fits}
 use Rattle.multihash_c.proofs.RoomLemmas.{part_is_shorter}
-use Rattle.multihash_c.proofs.encode.write_encoding.Goals as goal
+use Rattle.multihash_c.proofs.encode.put_encoding.Goals as goal
 
 pub unreachable-requires : goal.unreachable-requires
 unreachable-requires c =
