@@ -3,6 +3,7 @@ pub mod Bytes
 pub mod Comparing
 pub mod Encoding
 pub mod Fault
+pub mod Filling
 pub mod Head
 pub mod Joined
 pub mod Json

@@ -2,8 +2,10 @@
 
 mod error;
 mod impls;
+mod slice_writer;
 mod told;
 mod traits;
 
 pub use error::Error;
+pub use slice_writer::SliceWriter;
 pub use traits::{Read, Write};

@@ -1,14 +1,13 @@
 -- What an encoding tells and puts, where the bytes fit and where they do not.
 use Rattle.std.proofs.Common.{◌≡◌, ℕ, ◌<◌, ◌≤◌, List, ◌++◌, length, drop, sym, ap, ◌∙◌, arith}
 use Rattle.multihash_c.specs.Status.{status_ok, status_no_room}
-use Rattle.multihash_c.specs.Encoded.{Begin, Puts}
+use Rattle.multihash_c.specs.Encoded.{Puts}
 use Rattle.multihash_c.specs.declared.encoded.Encoded.{Encoded}
 
 module _ (IsForm : List ℕ → Type 0) (old new : List ℕ) (e : Encoded) (no_size : e.size ≡ 0)
     (told : (bytes : List ℕ) → IsForm bytes → e.length ≡ length bytes) where
-  pub puts_all : Begin IsForm old new → e.length ≤ length old → e.status ≡ status_ok → Puts IsForm e old new
-  puts_all begun there ok =
-      let (bytes, is_form, stands) = begun in
+  pub puts_all : (bytes : List ℕ) → IsForm bytes → new ≡ bytes ++ drop (length bytes) old → e.length ≤ length old → e.status ≡ status_ok → Puts IsForm e old new
+  puts_all bytes is_form stands there ok =
       let long = told bytes is_form in
       (bytes, is_form, record {
         is_length = long;

@@ -27,11 +27,3 @@ pub record IsPut (bytes : List ℕ) (e : Encoded) (old new : List ℕ) : Type 0 
 -- some bytes of which the fact holds were put
 abbrev pub Puts : (List ℕ → Type 0) → Encoded → List ℕ → List ℕ → Type 0
 Puts IsForm e old new = (bytes : List ℕ) × IsForm bytes × IsPut bytes e old new
-
--- some bytes of which the fact holds fit the buffer
-abbrev pub Fit : (List ℕ → Type 0) → List ℕ → Type 0
-Fit IsForm old = (bytes : List ℕ) × IsForm bytes × (length bytes ≤ length old)
-
--- some bytes of which the fact holds stand at the front of the buffer, and the rest is as it was
-abbrev pub Begin : (List ℕ → Type 0) → List ℕ → List ℕ → Type 0
-Begin IsForm old new = (bytes : List ℕ) × IsForm bytes × (new ≡ bytes ++ drop (length bytes) old)

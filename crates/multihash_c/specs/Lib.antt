@@ -1,5 +1,4 @@
 pub mod Compared
 pub mod Decoded
 pub mod Encoded
-pub mod Slots
 pub mod Status

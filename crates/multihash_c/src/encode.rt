@@ -1,14 +1,14 @@
 //! Encoding, for C.
-ghost use Rattle.std.specs.Prelude.{◌≡◌, ◌<◌, ◌≤◌, [], length};
+ghost use Rattle.std.specs.Prelude.{◌≡◌, ◌<◌, ◌≤◌, ℕ, List, ◌++◌, length, drop};
 ghost use Rattle.multihash.specs.Varint.{varint_limit};
 ghost use Rattle.multihash.specs.Encoding.{IsEncoding};
 ghost use Rattle.multihash.specs.Scale.{IsScale};
 ghost use Rattle.multihash.specs.Answer.{pair_of};
-ghost use Rattle.multihash_c.specs.Encoded.{IsTooLong, IsLargeCode, Puts, Fit, Begin};
+ghost use Rattle.multihash_c.specs.Encoded.{IsTooLong, IsLargeCode, Puts};
 
 use crate::encoded::{self, Encoded};
-use crate::room::SliceWriter;
 use multihash::Multihash;
+use multihash::no_std_io::SliceWriter;
 
 /// Puts the encoding of a code and a digest at the front of `out`.
 #[unsafe(no_mangle)]
@@ -54,8 +54,10 @@ pub extern "C" fn multihash_scale_encode(code: u64, digest: &[u8], out: &mut [u8
 
 // Puts the encoding of a multihash at the front of places that have room for it.
 fn put_encoding(multihash: &Multihash<255>, places: &mut [u8])
-    requires { Fit (IsEncoding (pair_of multihash.now)) places.old }
-    ensures { Begin (IsEncoding (pair_of multihash.now)) places.old places.new }
+    requires { (bytes : List ℕ) × IsEncoding (pair_of multihash.now) bytes
+        × (length bytes ≤ length places.old) }
+    ensures { (bytes : List ℕ) × IsEncoding (pair_of multihash.now) bytes
+        × (places.new ≡ bytes ++ drop (length bytes) places.old) }
 {
     let mut writer = SliceWriter::new(places);
     match multihash.write(&mut writer) {
@@ -66,8 +68,10 @@ fn put_encoding(multihash: &Multihash<255>, places: &mut [u8])
 
 // Puts the SCALE form of a multihash at the front of places that have room for it.
 fn put_scale_form(multihash: &Multihash<255>, places: &mut [u8])
-    requires { Fit (IsScale (pair_of multihash.now)) places.old }
-    ensures { Begin (IsScale (pair_of multihash.now)) places.old places.new }
+    requires { (bytes : List ℕ) × IsScale (pair_of multihash.now) bytes
+        × (length bytes ≤ length places.old) }
+    ensures { (bytes : List ℕ) × IsScale (pair_of multihash.now) bytes
+        × (places.new ≡ bytes ++ drop (length bytes) places.old) }
 {
     let mut writer = SliceWriter::new(places);
     match multihash.scale_encode(&mut writer) {

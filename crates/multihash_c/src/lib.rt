@@ -9,7 +9,6 @@ mod decoded;
 mod encode;
 mod encoded;
 mod read;
-mod room;
 mod status;
 #[cfg(test)]
 mod tests;

@@ -9,7 +9,7 @@ use super::{Error, Read, Write};
 
 // Copies as many bytes as both have, and returns how many.
 #[inline(always)]
-fn copy_front(from: &[u8], to: &mut [u8]) -> usize
+pub(super) fn copy_front(from: &[u8], to: &mut [u8]) -> usize
     ensures count { result ≡ min (length from.now) (length to.old) }
     ensures copied { to.new ≡ take result from.now ++ drop result to.old }
 {

@@ -2,8 +2,9 @@
 //! ghost members, which no law ties to anything but the implementation itself.
 ghost use Rattle.std.specs.Prelude.{◌≡◌, ◌↔◌, ℕ, List, [], Some, true, false};
 ghost use Rattle.multihash.specs.Places.{GivesUpFor, AppendsAtEnd};
+ghost use Rattle.multihash.specs.Filling.{Fills, IsFilled};
 
-use super::{Read, Write};
+use super::{Read, SliceWriter, Write};
 
 fn slice_reader(s: &[u8])
     ensures rest { ⟦<&'static [u8] as Read>⟧.rest s.entry ≡ Some s.now }
@@ -22,6 +23,14 @@ fn slice_writer(s: &mut [u8], t: &mut [u8])
         ↔ GivesUpFor s.old bytes t.old }
     ensures full { ⟦<&'static mut [u8] as Write>⟧.full s.entry ↔ (s.old ≡ []) }
     ensures failures { ⟦<&'static mut [u8] as Write>⟧.failures s.entry ≡ 0 }
+{}
+
+fn keeping_writer(s: &mut SliceWriter, t: &mut SliceWriter)
+    ensures allocates { ⟦<SliceWriter<'static> as Write>⟧.allocates ≡ false }
+    ensures appended { (bytes : List ℕ) →
+        ⟦<SliceWriter<'static> as Write>⟧.appended s.old bytes t.old ↔ Fills s.old bytes t.old }
+    ensures full { ⟦<SliceWriter<'static> as Write>⟧.full s.old ↔ IsFilled s.old }
+    ensures failures { ⟦<SliceWriter<'static> as Write>⟧.failures s.old ≡ 0 }
 {}
 
 fn vector_writer(v: &Vec<u8>, w: &Vec<u8>)
@@ -52,4 +61,10 @@ fn slice_allocates() -> bool
     ensures { result ≡ ⟦<&'static mut [u8] as Write>⟧.allocates }
 {
     <&'static mut [u8] as Write>::ALLOCATES
+}
+
+fn slice_writer_allocates() -> bool
+    ensures { result ≡ ⟦<SliceWriter<'static> as Write>⟧.allocates }
+{
+    SliceWriter::ALLOCATES
 }

@@ -2,7 +2,7 @@ use Rattle.std.proofs.Common.{◌≡◌, ℕ, List, length, subst, sym, ap, ◌�
 use Rattle.multihash.specs.Pair.{Pair}
 use Rattle.multihash.specs.Encoding.{IsEncoding}
 use Rattle.multihash.specs.Answer.{pair_of}
-use Rattle.multihash_c.proofs.RoomLemmas.{one_length}
+use Rattle.multihash.proofs.VerdictLemmas.{encoding_same}
 use Rattle.multihash_c.proofs.EncodedLemmas.{puts_all, puts_none}
 use Rattle.multihash_c.proofs.encode.multihash_encode.Goals as goal
 use Rattle.multihash_c.proofs.encode.multihash_encode.Goals.{then-length-out, else-length-out}
@@ -15,12 +15,12 @@ returns-clause-puts c = λ fits small.
     let encodes : IsEncoding p bytes = subst (λ q. IsEncoding q bytes) same own in
     let room : length c.if-length-out.out ≡ length c.args.out.now = c.if-length-out.auto.out in
     let counted = c.count.ensures.length in
-    let told : (z : List ℕ) → IsEncoding p z → c.count.result.length ≡ length z = λ z e. counted ∙ long ∙ one_length p bytes z encodes e in
+    let told : (z : List ℕ) → IsEncoding p z → c.count.result.length ≡ length z = λ z e. counted ∙ long ∙ ap (λ (y : List ℕ). length y) (encoding_same p bytes z encodes e) in
     elim c.if-length-out.branch [
       | then-length-out w ↦
           let (put, is_own, stands) = w.put_encoding.ensures in
-          puts_all (IsEncoding p) c.args.out.now c.if-length-out.out c.count.result c.count.ensures.no_size told
-          (put, subst (λ q. IsEncoding q put) same is_own, w.out-is ∙ stands) (omega (arith, counted, w.if-length-out.true))
+          puts_all (IsEncoding p) c.args.out.now c.if-length-out.out c.count.result c.count.ensures.no_size told put
+          (subst (λ q. IsEncoding q put) same is_own) (w.out-is ∙ stands) (omega (arith, counted, w.if-length-out.true))
           (c.count.ensures.fits (omega (arith, room, w.if-length-out.true)))
       | else-length-out w ↦
           puts_none (IsEncoding p) c.args.out.now c.if-length-out.out c.count.result c.count.ensures.no_size told bytes encodes

@@ -26,8 +26,8 @@ returns-clause-puts c = λ fits small.
     elim c.if-length-out.branch [
       | then-length-out w ↦
           let (put, is_own, stands) = w.put_scale_form.ensures in
-          puts_all (IsScale p) c.args.out.now c.if-length-out.out c.count.result c.count.ensures.no_size told
-          (put, subst (λ q. IsScale q put) same is_own, w.out-is ∙ stands) (omega (arith, counted, w.if-length-out.true))
+          puts_all (IsScale p) c.args.out.now c.if-length-out.out c.count.result c.count.ensures.no_size told put
+          (subst (λ q. IsScale q put) same is_own) (w.out-is ∙ stands) (omega (arith, counted, w.if-length-out.true))
           (c.count.ensures.fits (omega (arith, room, w.if-length-out.true)))
       | else-length-out w ↦
           puts_none (IsScale p) c.args.out.now c.if-length-out.out c.count.result c.count.ensures.no_size told bytes is_form

@@ -1,0 +1,73 @@
+//! A writer that keeps the slice that it fills.
+ghost use Rattle.std.specs.Prelude.{◌≡◌, ◌+◌, ◌-◌, ◌≤◌, ◌↔◌, Ok, min, length, false, IsOk, OnErr};
+
+use super::impls::copy_front;
+use super::{Error, Write};
+
+/// A writer that fills the places of a slice from the front on, and keeps them. So contracts tell which bytes
+/// stand in them: `&mut [u8]` as a writer gives up the places that it fills, and no contract can speak of those.
+#[derive(Drop)]
+pub struct SliceWriter<'a> {
+    /// The bytes that were written, and behind them the places as they were.
+    pub places: &'a mut [u8],
+    /// How many bytes were written.
+    pub filled: usize,
+    pub ghost inside: { filled ≤ length places.now },
+}
+
+impl<'a> SliceWriter<'a> {
+    /// A writer that has written nothing, and has room for as many bytes as there are places.
+    pub fn new(places: &'a mut [u8]) -> Self
+        ensures same_reference { result.places.ghost_name ≡ places.entry.ghost_name }
+        ensures kept { result.places.now ≡ places.old }
+        ensures empty { result.filled ≡ 0 }
+    {
+        SliceWriter { places, filled: 0 }
+    }
+}
+
+/// The bytes go behind those that were written. Where not all fit, `write_all` fills what is left, and answers
+/// that no place is left.
+impl Write for SliceWriter<'_> {
+    ghost use Rattle.multihash.specs.Writing.{WriteLaws, WriteAllLaws};
+    ghost use Rattle.multihash.specs.Filling.{Fills, IsFilled, Fills-none, Fills-joined};
+
+    const ALLOCATES: bool = false;
+
+    ghost allocates = { false };
+
+    ghost appended = { Fills };
+
+    ghost full = { IsFilled };
+
+    ghost failures = { λ _. 0 };
+
+    ghost appends_nothing = { Fills-none };
+
+    ghost appends_joined = { Fills-joined };
+
+    fn write(&mut self, buf: &[u8]) -> Result<usize, Error>
+        ensures laws { WriteLaws Fills IsFilled (λ _. 0) false self.old buf.now self.new result }
+
+        ensures smaller { result ≡ Ok (min (length buf.now)
+            (length self.old.places.now - self.old.filled)) }
+    {
+        let n = copy_front(buf, &mut self.places[self.filled..]);
+        self.filled += n;
+        Ok(n)
+    }
+
+    fn write_all(&mut self, buf: &[u8]) -> Result<(), Error>
+        ensures laws { WriteAllLaws Fills IsFilled (λ _. 0) false self.old buf.now self.new result }
+
+        ensures fits { IsOk result ↔
+            (self.old.filled + length buf.now ≤ length self.old.places.now) }
+        ensures filled { OnErr result (IsFilled self.new) }
+    {
+        if self.write(buf)? == buf.len() {
+            Ok(())
+        } else {
+            Err(Error::write_zero())
+        }
+    }
+}
