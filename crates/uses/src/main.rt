@@ -10,6 +10,7 @@ mod dump;
 mod forms;
 mod merkle;
 mod peer_id;
+mod places;
 mod readme;
 mod retries;
 mod show;

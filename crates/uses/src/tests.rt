@@ -11,6 +11,7 @@ mod kinds;
 mod list;
 mod memory;
 mod no_std_io;
+mod places;
 mod readme;
 mod retries;
 mod scale;
