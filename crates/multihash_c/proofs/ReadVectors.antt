@@ -1,15 +1,16 @@
 -- What reading known inputs answers for digests of at most four bytes, and what it took.
-use Rattle.std.proofs.Common.{◌≡◌, ℕ, List, [], ◌∷◌, ◌++◌, length, drop, refl, sym, ap, subst, arith, length-drop}
-use Rattle.multihash.specs.Varint.{insufficient}
+use Rattle.std.proofs.Common.{◌≡◌, ℕ, List, [], ◌∷◌, ◌++◌, length, drop, refl, sym, ap, subst, arith, inl, length-drop}
+use Rattle.multihash.specs.Varint.{insufficient, not_minimal, HasFaultyFront}
 use Rattle.multihash.specs.Verdict.{BeginsWith, accepted, invalid_size, faulty, unexpected_eof, HasVerdict}
+use Rattle.multihash.specs.Settling.{IsShortestSettling}
 use Rattle.multihash.specs.Head.{HasHead}
 use Rattle.multihash.proofs.VerdictLemmas.{verdict_unique, same_number}
-use Rattle.multihash.proofs.SettlingLemmas.{shortest_pair, shortest_unique}
+use Rattle.multihash.proofs.SettlingLemmas.{shortest_pair, shortest_code_fault, shortest_unique}
 use Rattle.multihash.proofs.SettlingVectors.{shortest_of_size}
 use Rattle.multihash.proofs.ReadingVectors.{taken_is}
 use Rattle.multihash.proofs.TakingVectors.{takes_no_byte_behind_size}
 use Rattle.multihash.proofs.PairVectors.{pair}
-use Rattle.multihash.proofs.VarintVectors.{varint_0, varint_1, varint_4}
+use Rattle.multihash.proofs.VarintVectors.{all_marked, varint_0, varint_1, varint_4}
 use Rattle.multihash.proofs.VerdictVectors.{size_5, digest_cut, empty_input, code_alone, size_open}
 use Rattle.multihash_c.specs.Decoded.{Tells, ReadsWithin}
 use Rattle.multihash_c.proofs.DecodedVectors.{answer, input}
@@ -102,6 +103,37 @@ reads_code_alone = reads_insufficient (0 ∷ []) (λ S. code_alone)
 reads_open_size : ReadsWithin 4 (0 ∷ 0x85 ∷ []) (answer 1 0 0 0 0 2)
 reads_open_size = reads_insufficient (0 ∷ 0x85 ∷ []) (λ S. size_open)
 
+-- a varint that a zero ends, and a byte behind it
+abbrev padded : List ℕ
+padded = 0x80 ∷ 0x00 ∷ 0x07 ∷ []
+
+abbrev padded_front : (rest : List ℕ) → HasFaultyFront not_minimal (0x80 ∷ 0x00 ∷ rest)
+padded_front rest = record {
+  front = 0x80 ∷ [];
+  rest = rest;
+  all_marked = all_marked (0x80 ∷ []) refl;
+  some = omega arith;
+  few = omega arith;
+  cut = refl;
+}
+
+shortest_of_padded : (S : ℕ) → IsShortestSettling S padded (0x80 ∷ 0x00 ∷ [])
+shortest_of_padded S =
+    shortest_code_fault S not_minimal padded (λ early. early) (record {
+      shown = 0x80 ∷ 0x00 ∷ [];
+      rest = 0x07 ∷ [];
+      cut = refl;
+      step = record { front = 0x80 ∷ []; last = 0x00; all_marked = all_marked (0x80 ∷ []) refl; few = omega arith; cut = refl };
+      has = padded_front [];
+    })
+
+-- the bytes up to the zero
+reads_fault : ReadsWithin 4 padded (answer 3 0 0 0 0 2)
+reads_fault =
+    fault_read not_minimal padded (λ S. inl (padded_front (0x07 ∷ []))) 4 (answer 3 0 0 0 0 2)
+    (record { is_status = refl; is_size = refl; is_code = refl; no_offset = refl; no_length = refl })
+    (omega arith) (λ late. record { front = 0x80 ∷ 0x00 ∷ []; shortest = shortest_of_padded 0; takes = refl }) (λ same. absurd cc)
+
 -- ---- what does not hold
 
 -- the verdict is the one that holds
@@ -168,6 +200,15 @@ reads_no_second h =
       arith,
       ap (λ (z : List ℕ). length z) (shortest_unique 4 twice t.front (0 ∷ 1 ∷ 9 ∷ []) t.shortest shortest),
       ap (λ (z : List ℕ). length z) (taken_is twice [] t.front t.takes),
+    )
+
+reads_no_byte_behind_fault : ¬ (ReadsWithin 4 padded (answer 3 0 0 0 0 3))
+reads_no_byte_behind_fault h =
+    let t = h.settled (faulty not_minimal) (inl (padded_front (0x07 ∷ []))) (λ early. early) in
+    omega (
+      arith,
+      ap (λ (z : List ℕ). length z) (shortest_unique 4 padded t.front (0x80 ∷ 0x00 ∷ []) t.shortest (shortest_of_padded 4)),
+      ap (λ (z : List ℕ). length z) (taken_is padded [] t.front t.takes),
     )
 
 -- nothing of an insufficient input is left
