@@ -1,6 +1,6 @@
-/* Calls each export: the documented example, each refusal, null with length 0, every room around the need, and each
- * line of a list of verdicts, whose file is the argument. Valid C11 and C++17. Says what it did on one line, and ends
- * with status 1 at the first thing that is wrong. */
+/* Calls each export: the documented example, each refusal, each beginning of an encoding, null with length 0, every room
+ * around the need, and each line of a list of verdicts, whose file is the argument. Valid C11 and C++17. Says what it
+ * did on one line, and ends with status 1 at the first thing that is wrong. */
 #include "multihash.h"
 
 #include <inttypes.h>
@@ -31,7 +31,7 @@ typedef struct verdict_line {
     const char *column[7];
 } verdict_line;
 
-static size_t rooms_tried, answers_compared;
+static size_t rooms_tried, answers_compared, ends_compared;
 
 /* The bytes that hexadecimal text spells; a dash spells none. */
 static size_t parse_hex(const char *text, uint8_t *to, size_t places)
@@ -145,6 +145,31 @@ static int is_for_all(const char *verdict, unsigned long size)
     return size >= 255 || refused > 255;
 }
 
+/* How many bytes two varints at the front have: each ends at the first of its bytes that is below 128. */
+static size_t two_varints(const uint8_t *input, size_t length)
+{
+    size_t at = 0;
+    for (int i = 0; i < 2; i++) {
+        while (at < length && input[at] >= 0x80) at++;
+        CHECK(at < length);
+        at++;
+    }
+    return at;
+}
+
+/* What reading takes of an input that ends early: all of it, or both varints where the digest is cut. */
+static void check_early_end(multihash_decoded found, const uint8_t *input, size_t length)
+{
+    if (found.status == MULTIHASH_INSUFFICIENT) {
+        CHECK(found.taken == length);
+    } else if (found.status == MULTIHASH_UNEXPECTED_EOF) {
+        CHECK(found.taken == two_varints(input, length));
+    } else {
+        return;
+    }
+    ends_compared++;
+}
+
 /* Splits a line at its tabs. */
 static void parse_line(char *text, verdict_line *line)
 {
@@ -173,13 +198,13 @@ static void check_line(const verdict_line *line)
     CHECK(read.taken <= length && whole.taken == length && scale.taken <= length);
     multihash_decoded within = multihash_read_limit(input, length, line->size);
     check_answer(within, input, line->column[2], line->column[3]);
-    if (within.status == MULTIHASH_INSUFFICIENT) CHECK(within.taken == length);
+    check_early_end(within, input, length);
+    check_early_end(read, input, length);
     if (is_for_all(line->column[2], line->size)) {
         check_answer(read, input, line->column[2], line->column[3]);
         check_answer(whole, input, line->column[4], "-");
     }
     if (is_for_all(line->column[5], line->size)) check_answer(scale, input, line->column[5], line->column[6]);
-    if (read.status == MULTIHASH_INSUFFICIENT) CHECK(read.taken == length);
     if (read.status == MULTIHASH_OK) check_back(multihash_encode, input, read);
     if (scale.status == MULTIHASH_OK) check_back(multihash_scale_encode, input, scale);
     free(input);
@@ -199,7 +224,7 @@ static size_t replay(const char *name)
         check_line(&line);
         lines++;
     }
-    CHECK(fclose(list) == 0 && lines > 0);
+    CHECK(fclose(list) == 0 && lines > 0 && ends_compared > 0);
     return lines;
 }
 
@@ -236,11 +261,12 @@ static void check_refusals(void)
         check_refusal(decoders[i](padded, 2), MULTIHASH_NOT_MINIMAL, 0, 2);
         check_refusal(decoders[i](large, 9), MULTIHASH_OVERFLOW, 0, 9);
         check_refusal(decoders[i](long_digest, 3), MULTIHASH_INVALID_SIZE, 256, 3);
-        CHECK(decoders[i](cut_digest, 3).status == MULTIHASH_UNEXPECTED_EOF);
     }
+    check_refusal(multihash_from_bytes(cut_digest, 3), MULTIHASH_UNEXPECTED_EOF, 0, 3);
+    check_refusal(multihash_read(cut_digest, 3), MULTIHASH_UNEXPECTED_EOF, 0, 2);
     check_refusal(multihash_read_limit(long_digest, 4, SIZE_MAX), MULTIHASH_INVALID_SIZE, 256, 3);
     check_refusal(multihash_read_limit(cut_digest, 3, 1), MULTIHASH_INVALID_SIZE, 2, 2);
-    CHECK(multihash_read_limit(cut_digest, 3, 2).status == MULTIHASH_UNEXPECTED_EOF);
+    check_refusal(multihash_read_limit(cut_digest, 3, 2), MULTIHASH_UNEXPECTED_EOF, 0, 2);
     CHECK(multihash_read_limit(left_over, 5, 1).status == MULTIHASH_OK);
     check_refusal(multihash_read_limit(left_over, 5, 0), MULTIHASH_INVALID_SIZE, 1, 2);
     check_refusal(multihash_from_bytes(long_digest, 4), MULTIHASH_INVALID_SIZE, 256, 4);
@@ -251,6 +277,37 @@ static void check_refusals(void)
     CHECK(multihash_scale_decode(large, 7).status == MULTIHASH_UNEXPECTED_EOF);
     multihash_decoded scale = multihash_scale_decode(large, 10);
     CHECK(scale.status == MULTIHASH_INVALID_CODE && scale.code == UINT64_MAX && scale.size == 0 && scale.taken == 8);
+}
+
+/* Each beginning of the encoding of a code and a digest whose varints have so many bytes, and then the whole: what is
+ * taken is known from how the encoding was put together. */
+static void check_cuts(size_t code_bytes, size_t size_bytes)
+{
+    uint8_t bytes[MULTIHASH_LENGTH_MAX] = {0};
+    size_t head = code_bytes + size_bytes, size = size_bytes == 1 ? 127 : 255;
+    memset(bytes, 0x80, code_bytes - 1);
+    bytes[code_bytes - 1] = 0x01;
+    bytes[code_bytes] = size_bytes == 1 ? 0x7f : 0xff;
+    if (size_bytes == 2) bytes[code_bytes + 1] = 0x01;
+    for (size_t length = 0; length < head + size; length++) {
+        uint8_t *input = exact_copy(bytes, length);
+        multihash_status status = length < head ? MULTIHASH_INSUFFICIENT : MULTIHASH_UNEXPECTED_EOF;
+        size_t taken = length < head ? length : head;
+        check_refusal(multihash_read(input, length), status, 0, taken);
+        check_refusal(multihash_read_limit(input, length, size), status, 0, taken);
+        check_refusal(multihash_from_bytes(input, length), status, 0, length);
+        free(input);
+    }
+    multihash_decoded found = multihash_read(bytes, head + size);
+    CHECK(found.status == MULTIHASH_OK && found.digest_offset == head && found.taken == head + size);
+}
+
+static void check_every_cut(void)
+{
+    for (size_t code_bytes = 1; code_bytes <= 9; code_bytes++) {
+        check_cuts(code_bytes, 1);
+        check_cuts(code_bytes, 2);
+    }
 }
 
 static void check_null(void)
@@ -337,11 +394,12 @@ int main(int argc, char **argv)
     CHECK(argc == 2);
     check_example();
     check_refusals();
+    check_every_cut();
     check_null();
     check_longest(INT64_MAX);
     check_order();
     check_texts();
     size_t lines = replay(argv[1]);
-    printf("%zu lines, %zu answers, %zu rooms\n", lines, answers_compared, rooms_tried);
+    printf("%zu lines, %zu answers, %zu early ends, %zu rooms\n", lines, answers_compared, ends_compared, rooms_tried);
     return 0;
 }

@@ -73,9 +73,9 @@ typedef struct multihash_encoded {
 multihash_decoded multihash_from_bytes(const uint8_t *bytes, size_t bytes_length);
 
 /* Decodes the multihash whose encoding begins `bytes`; more bytes may follow it.
- * Takes:   the encoding. At a refusal that more input can't change, the bytes up to the one that shows it; at
- *          MULTIHASH_INVALID_SIZE both varints, and nothing of the digest. Else no beginning of what was taken
- *          settles the answer.
+ * Takes:   the encoding. At MULTIHASH_OVERFLOW and MULTIHASH_NOT_MINIMAL the bytes up to the one that shows it; at
+ *          MULTIHASH_INVALID_SIZE and MULTIHASH_UNEXPECTED_EOF both varints, and nothing of the digest; at
+ *          MULTIHASH_INSUFFICIENT the whole input.
  * Answers: the code, and where in `bytes` the digest stands. The next multihash of a stream stands at `taken`.
  * Refuses: MULTIHASH_INSUFFICIENT, MULTIHASH_OVERFLOW, MULTIHASH_NOT_MINIMAL, MULTIHASH_INVALID_SIZE with the
  *          digest's length above 255, MULTIHASH_UNEXPECTED_EOF. Only at the first and the last can more bytes

@@ -1,6 +1,9 @@
 -- Where the digest stands in the input, what decoding the SCALE form took, and what a refusal tells.
-use Rattle.std.proofs.Common.{◌≡◌, ℕ, ◌+◌, ◌-◌, List, [], ◌∷◌, ◌++◌, length, take, drop, ap, sym, ◌∙◌, refl, inl, arith, Option, Some, append_assoc, length-append}
+use Rattle.std.proofs.Common.{◌≡◌, ℕ, ◌+◌, ◌-◌, ◌<◌, List, [], ◌∷◌, ◌++◌, length, take, drop, ap, sym, ◌∙◌, subst, inl, arith, Option, Some, append_assoc, length-append, length-drop}
+use Rattle.std.proofs.lemmas.List.{length-take-le}
+use Rattle.std.proofs.lemmas.List.Elements.{All-head, All-drop}
 use Rattle.std.proofs.Math.Seq.{drop-append_seam, take-append_seam}
+use Rattle.multihash.specs.Bytes.{IsBytes}
 use Rattle.multihash.specs.Pair.{Pair}
 use Rattle.multihash.specs.Varint.{insufficient, overflow, not_minimal}
 use Rattle.multihash.specs.Encoding.{IsEncoding}
@@ -10,7 +13,7 @@ use Rattle.multihash.specs.Verdict.{Verdict, accepted, invalid_size, invalid_cod
 use Rattle.multihash.specs.Refusal.{Refusal, IsInvalidSize, IsInvalidCode, IsFaulty}
 use Rattle.multihash.specs.Answer.{IsRefusal}
 use Rattle.multihash_c.specs.declared.decoded.Decoded.{Decoded}
-use Rattle.multihash_c.specs.Decoded.{Tells, TakesForm}
+use Rattle.multihash_c.specs.Decoded.{TellsPair, TellsRefusal, Tells, TakesForm}
 
 -- what is left after the front
 pub left_over : (input front left : List ℕ) → input ≡ front ++ left → left ≡ drop (length input - length left) input
@@ -53,46 +56,56 @@ form_stands p input bytes rest offset n taken e cut long all ends =
     stands_at_end input (e.code ++ (length p.digest ∷ [])) p.digest rest offset n taken (cut ∙ ap (λ (z : List ℕ). z ++ rest) spelled)
     long (all ∙ ap length spelled) ends
 
--- a refusal's answer
-abbrev pub refusal : ℕ → ℕ → ℕ → ℕ → Decoded
-refusal status size code taken =
-    record { status = status; size = size; code = code; digest_offset = 0; digest_length = 0; taken = taken }
+-- a digest that ends what was taken is as long as it is told
+pub told_length : (input : List ℕ) (d : Decoded) (p : Pair) → TellsPair input d p → d.digest_length ≡ length p.digest
+told_length input d p h =
+    omega (
+      arith,
+      h.is_end,
+      h.inside,
+      ap length h.is_digest,
+      length-take-le d.digest_length (drop d.digest_offset input) (omega (arith, h.is_end, h.inside, length-drop d.digest_offset input)),
+    )
 
-module _ (input : List ℕ) (taken : ℕ) (e : Refusal) where
-  pub size_told : (size : ℕ) → IsInvalidSize size e → (v : Verdict) → IsRefusal e v → Tells input (refusal 4 size 0 taken) v
-  size_told size is (accepted p) r = absurd r
-  size_told size is (invalid_size n) r =
-      let same : size ≡ n = cc in
-      record { is_status = refl; is_size = same; is_code = refl; no_offset = refl; no_length = refl }
-  size_told size is (invalid_code n) r = absurd (cc)
-  size_told size is (faulty fault) r = absurd (cc)
-  size_told size is unexpected_eof r = let other = r.1 in absurd (cc)
+module _ (input : List ℕ) (d : Decoded) (e : Refusal) where
+  pub size_told : (size : ℕ) → IsInvalidSize size e → TellsRefusal d 4 size 0 → (v : Verdict) → IsRefusal e v → Tells input d v
+  size_told size is told (accepted p) r = absurd r
+  size_told size is told (invalid_size n) r = let same : size ≡ n = cc in subst (λ k. TellsRefusal d 4 k 0) same told
+  size_told size is told (invalid_code n) r = absurd (cc)
+  size_told size is told (faulty fault) r = absurd (cc)
+  size_told size is told unexpected_eof r = let other = r.1 in absurd (cc)
 
-  pub code_told : (code : ℕ) → IsInvalidCode code e → (v : Verdict) → IsRefusal e v → Tells input (refusal 5 0 code taken) v
-  code_told code is (accepted p) r = absurd r
-  code_told code is (invalid_size n) r = absurd (cc)
-  code_told code is (invalid_code n) r =
-      let same : code ≡ n = cc in
-      record { is_status = refl; is_size = refl; is_code = same; no_offset = refl; no_length = refl }
-  code_told code is (faulty fault) r = absurd (cc)
-  code_told code is unexpected_eof r = let other = r.1 in absurd (cc)
+  pub code_told : (code : ℕ) → IsInvalidCode code e → TellsRefusal d 5 0 code → (v : Verdict) → IsRefusal e v → Tells input d v
+  code_told code is told (accepted p) r = absurd r
+  code_told code is told (invalid_size n) r = absurd (cc)
+  code_told code is told (invalid_code n) r = let same : code ≡ n = cc in subst (TellsRefusal d 5 0) same told
+  code_told code is told (faulty fault) r = absurd (cc)
+  code_told code is told unexpected_eof r = let other = r.1 in absurd (cc)
 
   pub end_told : ((n : ℕ) → ¬ (IsInvalidSize n e)) → ((n : ℕ) → ¬ (IsInvalidCode n e)) → ¬ (IsFaulty insufficient e) → ¬ (IsFaulty overflow e)
-      → ¬ (IsFaulty not_minimal e) → (v : Verdict) → IsRefusal e v → Tells input (refusal 6 0 0 taken) v
-  end_told no_size no_code a b c (accepted p) r = absurd r
-  end_told no_size no_code a b c (invalid_size n) r = absurd (no_size n r)
-  end_told no_size no_code a b c (invalid_code n) r = absurd (no_code n r)
-  end_told no_size no_code a b c (faulty insufficient) r = absurd (a r)
-  end_told no_size no_code a b c (faulty overflow) r = absurd (b r)
-  end_told no_size no_code a b c (faulty not_minimal) r = absurd (c r)
-  end_told no_size no_code a b c unexpected_eof r =
-      record { is_status = refl; is_size = refl; is_code = refl; no_offset = refl; no_length = refl }
+      → ¬ (IsFaulty not_minimal e) → TellsRefusal d 6 0 0 → (v : Verdict) → IsRefusal e v → Tells input d v
+  end_told no_size no_code a b c told (accepted p) r = absurd r
+  end_told no_size no_code a b c told (invalid_size n) r = absurd (no_size n r)
+  end_told no_size no_code a b c told (invalid_code n) r = absurd (no_code n r)
+  end_told no_size no_code a b c told (faulty insufficient) r = absurd (a r)
+  end_told no_size no_code a b c told (faulty overflow) r = absurd (b r)
+  end_told no_size no_code a b c told (faulty not_minimal) r = absurd (c r)
+  end_told no_size no_code a b c told unexpected_eof r = told
+
+-- a size that is one byte is not above 255
+pub byte_fits : (input : List ℕ) (size : ℕ) → IsBytes input → ¬ (HasScaleVerdict 255 input (invalid_size size))
+byte_fits input size bytes (rest, has, over) =
+    let left : drop (length has.code_bytes) input ≡ size ∷ rest =
+    ap (λ (z : List ℕ). drop (length has.code_bytes) z) has.cut ∙ drop-append_seam has.code_bytes (size ∷ rest) in
+    let behind : IsBytes (size ∷ rest) =
+    subst IsBytes left (All-drop (λ byte. byte < 256) (length has.code_bytes) input bytes) in
+    omega (arith, over, All-head (λ byte. byte < 256) size rest behind)
 
 -- a refusal's verdict says what was taken
-pub taken_at_refusal : (input : List ℕ) (new : Option (List ℕ)) (e : Refusal) (t : TakesAtScaleRefusal 255 e (Some input) new) (v : Verdict)
-    → HasScaleVerdict 255 input v → IsRefusal e v → TakesForm v t.taken
-taken_at_refusal input new e t (accepted p) has r = absurd r
-taken_at_refusal input new e t (invalid_size size) has r = t.size size r
-taken_at_refusal input new e t (invalid_code code) has r = t.code code r
-taken_at_refusal input new e t (faulty fault) has r = absurd has
-taken_at_refusal input new e t unexpected_eof has r = t.early (inl r)
+pub taken_at_refusal : (input : List ℕ) (new : Option (List ℕ)) (e : Refusal) (t : TakesAtScaleRefusal 255 e (Some input) new) → IsBytes input
+    → (v : Verdict) → HasScaleVerdict 255 input v → IsRefusal e v → TakesForm v t.taken
+taken_at_refusal input new e t bytes (accepted p) has r = absurd r
+taken_at_refusal input new e t bytes (invalid_size size) has r = absurd (byte_fits input size bytes has)
+taken_at_refusal input new e t bytes (invalid_code code) has r = t.code code r
+taken_at_refusal input new e t bytes (faulty fault) has r = absurd has
+taken_at_refusal input new e t bytes unexpected_eof has r = t.early (inl r)

@@ -5,6 +5,7 @@ use Rattle.multihash.specs.Verdict.{accepted, invalid_size, invalid_code, faulty
 use Rattle.multihash.proofs.PairVectors.{pair}
 use Rattle.multihash_c.specs.declared.decoded.Decoded.{Decoded}
 use Rattle.multihash_c.specs.Decoded.{TellsPair, TellsRefusal, Tells}
+use Rattle.multihash_c.proofs.DecodedLemmas.{told_length}
 
 abbrev pub answer : ℕ → ℕ → ℕ → ℕ → ℕ → ℕ → Decoded
 answer status size code offset length taken = record {
@@ -27,7 +28,6 @@ tells_pair = record {
   is_ok = refl;
   no_size = refl;
   is_code = refl;
-  is_length = refl;
   is_end = refl;
   inside = omega arith;
   is_digest = refl;
@@ -42,9 +42,9 @@ pair_has_no_size h = omega (arith, h.no_size)
 pair_has_its_code : ¬ (TellsPair input (answer 0 0 1 2 1 3) (pair 0 (9 ∷ [])))
 pair_has_its_code h = omega (arith, h.is_code)
 
--- though the input ends with the digest
+-- the length is the digest's, also where the input ends with the digest
 pair_has_its_length : ¬ (TellsPair (0 ∷ 1 ∷ 9 ∷ []) (answer 0 0 0 2 2 4) (pair 0 (9 ∷ [])))
-pair_has_its_length h = omega (arith, h.is_length)
+pair_has_its_length h = omega (arith, told_length (0 ∷ 1 ∷ 9 ∷ []) (answer 0 0 0 2 2 4) (pair 0 (9 ∷ [])) h)
 
 -- the digest is the last that was taken
 pair_ends_what_was_taken : ¬ (TellsPair input (answer 0 0 0 2 1 4) (pair 0 (9 ∷ [])))

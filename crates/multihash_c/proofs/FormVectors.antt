@@ -1,8 +1,6 @@
 -- What known decodings of the SCALE form took.
-use Rattle.std.proofs.Common.{◌≡◌, ◌<◌, ℕ, List, [], ◌∷◌, ◌++◌, length, drop, refl, ap, ◌∙◌, subst, arith, inl, inr, length-append}
-use Rattle.std.proofs.lemmas.List.Elements.{All-head, All-drop}
-use Rattle.std.proofs.Math.Seq.{drop-append_seam}
-use Rattle.multihash.specs.Bytes.{IsBytes, place_value}
+use Rattle.std.proofs.Common.{◌≡◌, ℕ, List, [], ◌∷◌, ◌++◌, length, refl, ap, arith, inl, inr, length-append}
+use Rattle.multihash.specs.Bytes.{place_value}
 use Rattle.multihash.specs.Varint.{VarintFault}
 use Rattle.multihash.specs.Verdict.{accepted, invalid_size, invalid_code, faulty, unexpected_eof}
 use Rattle.multihash.specs.Scale.{IsScaleCode, IsScale, HasScaleVerdict}
@@ -12,6 +10,7 @@ use Rattle.multihash.proofs.ScaleLemmas.{scale_verdict_unique}
 use Rattle.multihash.proofs.ScaleVectors.{zeros, all_255, scale_code_above}
 use Rattle.multihash.proofs.VerdictVectors.{code_named}
 use Rattle.multihash_c.specs.Decoded.{TakesForm}
+use Rattle.multihash_c.proofs.DecodedLemmas.{byte_fits}
 
 zero_code : IsScaleCode 0 zeros
 unfolding place_value
@@ -37,26 +36,18 @@ takes_no_part_of_form : ¬ (TakesForm (accepted (pair 0 [])) zeros)
 takes_no_part_of_form h =
     omega (arith, ap (λ (z : List ℕ). length z) h.spelled, h.is_code.eight, length-append h.code (0 ∷ []))
 
--- ---- a size that is too large
+-- ---- no size is refused
 
-takes_nine : TakesForm (invalid_size 256) (zeros ++ 256 ∷ [])
-takes_nine =
-    (([], record { code = 0; code_bytes = zeros; is_code = zero_code; in_range = omega arith; cut = refl }, omega arith), refl)
+takes_no_size : (size : ℕ) (taken : List ℕ) → ¬ (TakesForm (invalid_size size) taken)
+takes_no_size size taken h = h
 
-takes_no_ten : ¬ (TakesForm (invalid_size 256) (zeros ++ 256 ∷ 7 ∷ []))
-takes_no_ten h = omega (arith, h.1)
+-- a size that is a byte is not too large, and a larger number is no byte
+no_byte_is_too_large : (size : ℕ) → ¬ (HasScaleVerdict 255 (zeros ++ 255 ∷ []) (invalid_size size))
+no_byte_is_too_large size = byte_fits (zeros ++ 255 ∷ []) size (all_below 256 (zeros ++ 255 ∷ []) refl)
 
-takes_no_size_that_fits : ¬ (TakesForm (invalid_size 255) (zeros ++ 255 ∷ []))
-takes_no_size_that_fits ((rest, has, over), nine) = omega (arith, over)
-
--- no byte is such a size
-takes_no_byte_for_it : (size : ℕ) (taken : List ℕ) → IsBytes taken → ¬ (TakesForm (invalid_size size) taken)
-takes_no_byte_for_it size taken bytes ((rest, has, over), nine) =
-    let left : drop (length has.code_bytes) taken ≡ size ∷ rest =
-    ap (λ (z : List ℕ). drop (length has.code_bytes) z) has.cut ∙ drop-append_seam has.code_bytes (size ∷ rest) in
-    let behind : IsBytes (size ∷ rest) =
-    subst IsBytes left (All-drop (λ byte. byte < 256) (length has.code_bytes) taken bytes) in
-    omega (arith, over, All-head (λ byte. byte < 256) size rest behind)
+larger_number_is_too_large : HasScaleVerdict 255 (zeros ++ 256 ∷ []) (invalid_size 256)
+larger_number_is_too_large =
+    ([], record { code = 0; code_bytes = zeros; is_code = zero_code; in_range = omega arith; cut = refl }, omega arith)
 
 -- ---- a code that is too large
 

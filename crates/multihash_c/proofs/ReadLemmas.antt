@@ -4,13 +4,13 @@ use Rattle.std.proofs.lemmas.List.{drop-drop, length-take-le}
 use Rattle.std.proofs.lemmas.List.Elements.{All-nil}
 use Rattle.multihash.specs.Bytes.{IsBeginning}
 use Rattle.multihash.specs.Pair.{Pair, digest_limit}
-use Rattle.multihash.specs.Varint.{VarintFault}
+use Rattle.multihash.specs.Varint.{VarintFault, insufficient}
 use Rattle.multihash.specs.Verdict.{Verdict, accepted, invalid_size, faulty, unexpected_eof, BeginsWith, HasVerdict, IsEarlyEnd}
 use Rattle.multihash.specs.Settling.{Settles, IsShortestSettling}
 use Rattle.multihash.specs.Head.{HasHead}
-use Rattle.multihash.specs.Taking.{TakesShortestSettling, TakesUnsettled}
+use Rattle.multihash.specs.Taking.{TakesShortestSettling}
 use Rattle.multihash.proofs.VerdictLemmas.{verdict_unique, pair_begins}
-use Rattle.multihash.proofs.SettlingLemmas.{verdict_kept, late_settles, settles_exactly, none_settles, shortest_pair, shortest_size}
+use Rattle.multihash.proofs.SettlingLemmas.{verdict_kept, late_settles, settles_exactly, shortest_pair, shortest_size}
 use Rattle.multihash_c.specs.declared.decoded.Decoded.{Decoded}
 use Rattle.multihash_c.specs.Decoded.{Tells, ReadsWithin}
 
@@ -43,7 +43,8 @@ module _ (limit code size len : ℕ) (input : List ℕ) (h : HasHead code size l
         inside = omega (arith, h.within, at);
         settled = λ v also late.
             record { front = varints; shortest = shortest_size limit size input (drop len input) h.varints over; takes = ap Some (cut_at at) };
-        unsettled = λ v also early. absurd (other_kind limit input (invalid_size size) v has also early (λ e. e));
+        insufficient = λ also. absurd (other_kind limit input (invalid_size size) (faulty insufficient) has also tt (λ e. e));
+        cut = λ also. absurd (other_kind limit input (invalid_size size) unexpected_eof has also tt (λ e. e));
       }
 
   -- a digest that is cut
@@ -55,17 +56,16 @@ module _ (limit code size len : ℕ) (input : List ℕ) (h : HasHead code size l
         verdict = (unexpected_eof, has, tells);
         inside = omega (arith, h.within, at);
         settled = λ v also late. absurd (other_kind limit input v unexpected_eof also has tt late);
-        unsettled = λ v also early. record {
-          taken = varints;
-          takes = ap Some (cut_at at);
-          unsettled = λ front begins.
-              none_settles limit input unexpected_eof has tt front (begins_whole front varints input begins (drop d.taken input, cut_at at));
-        };
+        insufficient = λ also.
+            let same : unexpected_eof ≡ faulty insufficient =
+            verdict_unique limit input unexpected_eof (faulty insufficient) has also in
+            absurd (cc);
+        cut = λ also. (code, size, subst (λ n. HasHead code size n input) (sym at) h);
       }
 
   -- the digest is there
   pub pair_read : size ≤ digest_limit limit → len + size ≤ length input → d.taken ≡ len + size
-      → ((p : Pair) → p.code ≡ code → length p.digest ≡ size → p.digest ≡ take size (drop len input) → Tells input d (accepted p))
+      → ((p : Pair) → p.code ≡ code → p.digest ≡ take size (drop len input) → Tells input d (accepted p))
       → ReadsWithin limit input d
   pair_read within there at tells =
       let rest = drop size (drop len input) in
@@ -77,14 +77,15 @@ module _ (limit code size len : ℕ) (input : List ℕ) (h : HasHead code size l
       let fits : length p.digest ≤ digest_limit limit = omega (arith, long, within) in
       let has : HasVerdict limit input (accepted p) = (rest, begins, fits) in
       record {
-        verdict = (accepted p, has, tells p h.is_code long refl);
+        verdict = (accepted p, has, tells p h.is_code refl);
         inside = omega (arith, there, at);
         settled = λ v also late. record {
           front = begins.encoding;
           shortest = shortest_pair limit p input rest begins fits;
           takes = ap Some (begins.cut ∙ ap (λ (z : List ℕ). begins.encoding ++ z) left);
         };
-        unsettled = λ v also early. absurd (other_kind limit input (accepted p) v has also early (λ e. e));
+        insufficient = λ also. absurd (other_kind limit input (accepted p) (faulty insufficient) has also tt (λ e. e));
+        cut = λ also. absurd (other_kind limit input (accepted p) unexpected_eof has also tt (λ e. e));
       }
 
 -- where no two varints begin the input, a beginning settles for each limit or for none
@@ -113,21 +114,17 @@ module _ (f : VarintFault) (input : List ℕ) (has : (S : ℕ) → HasVerdict S 
   -- what reading for an empty buffer took is what reading for any takes
   pub fault_read : (d : Decoded) → Tells input d (faulty f) → d.taken ≤ length input
       → (¬ (IsEarlyEnd (faulty f)) → TakesShortestSettling 0 input (Some (drop d.taken input)))
-      → (IsEarlyEnd (faulty f) → TakesUnsettled 0 input (Some (drop d.taken input))) → ReadsWithin limit input d
-  fault_read d tells inside settled unsettled = record {
+      → (f ≡ insufficient → d.taken ≡ length input) → ReadsWithin limit input d
+  fault_read d tells inside settled all = record {
     verdict = (faulty f, has limit, tells);
     inside = inside;
     settled = λ v also late.
         let t = settled (λ early. other_kind limit input v (faulty f) also (has limit) early late) in
         record { front = t.front; shortest = shortest_alike t.front t.shortest; takes = t.takes };
-    unsettled = λ v also early.
-        let same : v ≡ faulty f = verdict_unique limit input v (faulty f) also (has limit) in
-        let t = unsettled (subst IsEarlyEnd same early) in
-        record {
-          taken = t.taken;
-          takes = t.takes;
-          unsettled = λ front begins settles.
-              t.unsettled front begins
-              (settles_alike limit 0 f input front has (begins_whole front t.taken input begins (drop d.taken input, cc (t.takes))) settles);
-        };
+    insufficient = λ also.
+        let same : faulty f ≡ faulty insufficient = verdict_unique limit input (faulty f) (faulty insufficient) (has limit) also in
+        all (cc);
+    cut = λ also.
+        let same : faulty f ≡ unexpected_eof = verdict_unique limit input (faulty f) unexpected_eof (has limit) also in
+        absurd (cc);
   }

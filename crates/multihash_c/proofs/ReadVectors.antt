@@ -1,39 +1,22 @@
 -- What reading known inputs answers for digests of at most four bytes, and what it took.
-use Rattle.std.proofs.Common.{◌≡◌, ◌≤◌, ℕ, List, [], ◌∷◌, ◌++◌, length, take, drop, refl, sym, ap, subst, arith, Some, take-append-drop}
-use Rattle.multihash.specs.Varint.{insufficient}
-use Rattle.multihash.specs.Verdict.{Verdict, BeginsWith, accepted, invalid_size, faulty, unexpected_eof, HasVerdict, IsEarlyEnd}
+use Rattle.std.proofs.Common.{◌≡◌, ℕ, List, [], ◌∷◌, ◌++◌, length, drop, refl, sym, ap, subst, arith, inl, length-drop}
+use Rattle.multihash.specs.Varint.{insufficient, not_minimal, HasFaultyFront}
+use Rattle.multihash.specs.Verdict.{BeginsWith, accepted, invalid_size, faulty, unexpected_eof, HasVerdict}
+use Rattle.multihash.specs.Settling.{IsShortestSettling}
 use Rattle.multihash.specs.Head.{HasHead}
-use Rattle.multihash.proofs.VerdictLemmas.{verdict_unique}
-use Rattle.multihash.proofs.SettlingLemmas.{none_settles, shortest_pair, shortest_unique}
+use Rattle.multihash.proofs.VerdictLemmas.{verdict_unique, same_number}
+use Rattle.multihash.proofs.SettlingLemmas.{shortest_pair, shortest_code_fault, shortest_unique}
 use Rattle.multihash.proofs.SettlingVectors.{shortest_of_size}
 use Rattle.multihash.proofs.ReadingVectors.{taken_is}
 use Rattle.multihash.proofs.TakingVectors.{takes_no_byte_behind_size}
 use Rattle.multihash.proofs.PairVectors.{pair}
-use Rattle.multihash.proofs.VarintVectors.{varint_0, varint_1}
-use Rattle.multihash.proofs.VerdictVectors.{size_5, digest_cut, code_alone}
-use Rattle.multihash_c.specs.declared.decoded.Decoded.{Decoded}
+use Rattle.multihash.proofs.VarintVectors.{all_marked, varint_0, varint_1, varint_4}
+use Rattle.multihash.proofs.VerdictVectors.{size_5, digest_cut, empty_input, code_alone, size_open}
 use Rattle.multihash_c.specs.Decoded.{Tells, ReadsWithin}
 use Rattle.multihash_c.proofs.DecodedVectors.{answer, input}
-use Rattle.multihash_c.proofs.ReadLemmas.{begins_whole, size_read, pair_read}
+use Rattle.multihash_c.proofs.ReadLemmas.{size_read, end_read, pair_read, fault_read}
 
 -- ---- examples
-
--- where the input ends early, none of its beginnings settles, so any may have been taken
-early_read : (S : ℕ) (x : List ℕ) (v : Verdict) → HasVerdict S x v → IsEarlyEnd v → (d : Decoded) → d.taken ≤ length x
-    → Tells x d v → ReadsWithin S x d
-early_read S x v has early d within tells =
-    let begins : x ≡ take d.taken x ++ drop d.taken x = sym (take-append-drop d.taken x) in
-    record {
-      verdict = (v, has, tells);
-      inside = within;
-      settled = λ w also late. absurd (late (subst IsEarlyEnd (verdict_unique S x v w has also) early));
-      unsettled = λ w also ends. record {
-        taken = take d.taken x;
-        takes = ap Some begins;
-        unsettled = λ front first.
-            none_settles S x v has early front (begins_whole front (take d.taken x) x first (drop d.taken x, begins));
-      };
-    }
 
 -- the code 0 and the size 5
 abbrev large : List ℕ
@@ -70,32 +53,86 @@ pair_head = record {
 reads_pair : ReadsWithin 4 input (answer 0 0 0 2 1 3)
 reads_pair =
     pair_read 4 0 1 2 input pair_head (answer 0 0 0 2 1 3) (omega arith) (omega arith) refl
-    (λ p code long stands. record {
+    (λ p code stands. record {
       is_ok = refl;
       no_size = refl;
       is_code = sym code;
-      is_length = sym long;
       is_end = refl;
       inside = omega arith;
       is_digest = stands;
     })
 
--- a digest that is cut, of which any part may be taken
+-- the code 0, the size 4, and three bytes of the digest
 abbrev cut : List ℕ
 cut = 0 ∷ 4 ∷ 1 ∷ 2 ∷ 3 ∷ []
 
-end_told : (n : ℕ) → Tells cut (answer 6 0 0 0 0 n) unexpected_eof
-end_told n = record { is_status = refl; is_size = refl; is_code = refl; no_offset = refl; no_length = refl }
+cut_head : HasHead 0 4 2 cut
+cut_head = record {
+  within = omega arith;
+  varints = record {
+    code = 0;
+    code_bytes = 0 ∷ [];
+    size_bytes = 4 ∷ [];
+    is_code = varint_0;
+    is_size = varint_4;
+    cut = refl;
+  };
+  is_code = refl;
+}
 
-reads_end : (n : ℕ) → n ≤ 5 → ReadsWithin 4 cut (answer 6 0 0 0 0 n)
-reads_end n within =
-    early_read 4 cut unexpected_eof digest_cut tt (answer 6 0 0 0 0 n) within (end_told n)
-
--- the code alone
-reads_insufficient : ReadsWithin 4 (0 ∷ []) (answer 1 0 0 0 0 1)
-reads_insufficient =
-    early_read 4 (0 ∷ []) (faulty insufficient) code_alone tt (answer 1 0 0 0 0 1) (omega arith)
+-- both varints, and nothing of the digest
+reads_end : ReadsWithin 4 cut (answer 6 0 0 0 0 2)
+reads_end =
+    end_read 4 0 4 2 cut cut_head (answer 6 0 0 0 0 2) (omega arith) (omega arith) refl
     (record { is_status = refl; is_size = refl; is_code = refl; no_offset = refl; no_length = refl })
+
+-- all of an input that is insufficient
+reads_insufficient : (input : List ℕ) → ((S : ℕ) → HasVerdict S input (faulty insufficient))
+    → ReadsWithin 4 input (answer 1 0 0 0 0 (length input))
+reads_insufficient input has =
+    fault_read insufficient input has 4 (answer 1 0 0 0 0 (length input))
+    (record { is_status = refl; is_size = refl; is_code = refl; no_offset = refl; no_length = refl })
+    (omega arith) (λ late. absurd (late tt)) (λ same. refl)
+
+reads_nothing : ReadsWithin 4 [] (answer 1 0 0 0 0 0)
+reads_nothing = reads_insufficient [] (λ S. empty_input)
+
+reads_code_alone : ReadsWithin 4 (0 ∷ []) (answer 1 0 0 0 0 1)
+reads_code_alone = reads_insufficient (0 ∷ []) (λ S. code_alone)
+
+reads_open_size : ReadsWithin 4 (0 ∷ 0x85 ∷ []) (answer 1 0 0 0 0 2)
+reads_open_size = reads_insufficient (0 ∷ 0x85 ∷ []) (λ S. size_open)
+
+-- a varint that a zero ends, and a byte behind it
+abbrev padded : List ℕ
+padded = 0x80 ∷ 0x00 ∷ 0x07 ∷ []
+
+abbrev padded_front : (rest : List ℕ) → HasFaultyFront not_minimal (0x80 ∷ 0x00 ∷ rest)
+padded_front rest = record {
+  front = 0x80 ∷ [];
+  rest = rest;
+  all_marked = all_marked (0x80 ∷ []) refl;
+  some = omega arith;
+  few = omega arith;
+  cut = refl;
+}
+
+shortest_of_padded : (S : ℕ) → IsShortestSettling S padded (0x80 ∷ 0x00 ∷ [])
+shortest_of_padded S =
+    shortest_code_fault S not_minimal padded (λ early. early) (record {
+      shown = 0x80 ∷ 0x00 ∷ [];
+      rest = 0x07 ∷ [];
+      cut = refl;
+      step = record { front = 0x80 ∷ []; last = 0x00; all_marked = all_marked (0x80 ∷ []) refl; few = omega arith; cut = refl };
+      has = padded_front [];
+    })
+
+-- the bytes up to the zero
+reads_fault : ReadsWithin 4 padded (answer 3 0 0 0 0 2)
+reads_fault =
+    fault_read not_minimal padded (λ S. inl (padded_front (0x07 ∷ []))) 4 (answer 3 0 0 0 0 2)
+    (record { is_status = refl; is_size = refl; is_code = refl; no_offset = refl; no_length = refl })
+    (omega arith) (λ late. record { front = 0x80 ∷ 0x00 ∷ []; shortest = shortest_of_padded 0; takes = refl }) (λ same. absurd cc)
 
 -- ---- what does not hold
 
@@ -150,7 +187,6 @@ tells_second = record {
   is_ok = refl;
   no_size = refl;
   is_code = refl;
-  is_length = refl;
   is_end = refl;
   inside = omega arith;
   is_digest = refl;
@@ -165,3 +201,47 @@ reads_no_second h =
       ap (λ (z : List ℕ). length z) (shortest_unique 4 twice t.front (0 ∷ 1 ∷ 9 ∷ []) t.shortest shortest),
       ap (λ (z : List ℕ). length z) (taken_is twice [] t.front t.takes),
     )
+
+reads_no_byte_behind_fault : ¬ (ReadsWithin 4 padded (answer 3 0 0 0 0 3))
+reads_no_byte_behind_fault h =
+    let t = h.settled (faulty not_minimal) (inl (padded_front (0x07 ∷ []))) (λ early. early) in
+    omega (
+      arith,
+      ap (λ (z : List ℕ). length z) (shortest_unique 4 padded t.front (0x80 ∷ 0x00 ∷ []) t.shortest (shortest_of_padded 4)),
+      ap (λ (z : List ℕ). length z) (taken_is padded [] t.front t.takes),
+    )
+
+-- nothing of an insufficient input is left
+reads_no_part_of_insufficient : ¬ (ReadsWithin 4 (0 ∷ []) (answer 1 0 0 0 0 0))
+reads_no_part_of_insufficient h = omega (arith, h.insufficient code_alone)
+
+reads_no_code_of_open_size : ¬ (ReadsWithin 4 (0 ∷ 0x85 ∷ []) (answer 1 0 0 0 0 1))
+reads_no_code_of_open_size h = omega (arith, h.insufficient size_open)
+
+-- the head of the cut digest has two bytes
+cut_head_is : (code size len : ℕ) → HasHead code size len cut → len ≡ 2
+cut_head_is code size len h =
+    let has = h.varints in
+    let first =
+    same_number cut has.code 0 (has.size_bytes ++ drop len cut) (4 ∷ 1 ∷ 2 ∷ 3 ∷ [])
+    (has.code_bytes, has.is_code, has.cut) (0 ∷ [], varint_0, refl) in
+    let second =
+    same_number (4 ∷ 1 ∷ 2 ∷ 3 ∷ []) size 4 (drop len cut) (1 ∷ 2 ∷ 3 ∷ [])
+    (has.size_bytes, has.is_size, sym first.1) (4 ∷ [], varint_4, refl) in
+    omega (arith, h.within, length-drop len cut, ap (λ (z : List ℕ). length z) second.1)
+
+reads_end_at_head : (taken : ℕ) → ReadsWithin 4 cut (answer 6 0 0 0 0 taken) → taken ≡ 2
+reads_end_at_head taken h = let (code, size, head) = h.cut digest_cut in cut_head_is code size taken head
+
+-- of a cut digest not nothing, nor the code alone, nor a byte of the digest, nor all
+reads_no_end_before_head : ¬ (ReadsWithin 4 cut (answer 6 0 0 0 0 0))
+reads_no_end_before_head h = omega (arith, reads_end_at_head 0 h)
+
+reads_no_end_before_size : ¬ (ReadsWithin 4 cut (answer 6 0 0 0 0 1))
+reads_no_end_before_size h = omega (arith, reads_end_at_head 1 h)
+
+reads_no_byte_of_cut_digest : ¬ (ReadsWithin 4 cut (answer 6 0 0 0 0 3))
+reads_no_byte_of_cut_digest h = omega (arith, reads_end_at_head 3 h)
+
+reads_no_cut_digest : ¬ (ReadsWithin 4 cut (answer 6 0 0 0 0 5))
+reads_no_cut_digest h = omega (arith, reads_end_at_head 5 h)

@@ -1,18 +1,19 @@
 -- What a decoding tells a C caller where a verdict holds.
 use Rattle.std.specs.Prelude.{◌≡◌, ℕ, ◌+◌, ◌≤◌, List, Some, length, take, drop}
 use Rattle.multihash.specs.Pair.{Pair}
+use Rattle.multihash.specs.Varint.{insufficient}
 use Rattle.multihash.specs.Verdict.{Verdict, accepted, invalid_size, invalid_code, faulty, unexpected_eof, HasVerdict, IsEarlyEnd}
-use Rattle.multihash.specs.Taking.{TakesShortestSettling, TakesUnsettled}
+use Rattle.multihash.specs.Head.{HasHead}
+use Rattle.multihash.specs.Taking.{TakesShortestSettling}
 use Rattle.multihash.specs.Scale.{IsScale, HasScaleVerdict}
 use Rattle.multihash_c.specs.Status.{status_ok, status_of_fault, status_invalid_size, status_invalid_code, status_unexpected_eof}
 use Rattle.multihash_c.specs.declared.decoded.Decoded.{Decoded}
 
--- the code, and where in the input the digest is: it ends what was taken
+-- the code, and where in the input the digest is: it ends what was taken, so it is as long as is told
 pub record TellsPair (input : List ℕ) (d : Decoded) (p : Pair) : Type 0 where
   pub is_ok : d.status ≡ status_ok
   pub no_size : d.size ≡ 0
   pub is_code : d.code ≡ p.code
-  pub is_length : d.digest_length ≡ length p.digest
   pub is_end : d.digest_offset + d.digest_length ≡ d.taken
   pub inside : d.taken ≤ length input
   pub is_digest : p.digest ≡ take d.digest_length (drop d.digest_offset input)
@@ -32,21 +33,23 @@ Tells input d (invalid_code code) = TellsRefusal d status_invalid_code 0 code
 Tells input d (faulty fault) = TellsRefusal d (status_of_fault fault) 0 0
 Tells input d unexpected_eof = TellsRefusal d status_unexpected_eof 0 0
 
--- what decoding the SCALE form took: the form, the bytes that show a code or a size that is too large, or
--- bytes that by themselves end early
+-- what decoding the SCALE form took: the form, the eight bytes of a code that is too large, or bytes that
+-- by themselves end early. No size is refused, since it is one byte
 abbrev pub TakesForm : Verdict → List ℕ → Type 0
 TakesForm (accepted p) taken = IsScale p taken
-TakesForm (invalid_size size) taken = HasScaleVerdict 255 taken (invalid_size size) × (length taken ≡ 9)
+TakesForm (invalid_size size) taken = ⊥
 TakesForm (invalid_code code) taken = HasScaleVerdict 255 taken (invalid_code code) × (length taken ≡ 8)
 TakesForm (faulty fault) taken = ⊥
 TakesForm unexpected_eof taken = HasScaleVerdict 255 taken unexpected_eof
 
--- what reading answers for a digest of at most so many bytes, and what it took: where the verdict is no
--- early end, exactly the shortest beginning that settles it; else nothing that settles
+-- what reading answers for a digest of at most so many bytes, and how many bytes it took: those of the
+-- shortest beginning that settles the verdict; all of an input that is insufficient; those of both varints
+-- of a digest that is cut
 pub record ReadsWithin (limit : ℕ) (input : List ℕ) (d : Decoded) : Type 0 where
   pub verdict : (v : Verdict) × HasVerdict limit input v × Tells input d v
   pub inside : d.taken ≤ length input
   pub settled : (v : Verdict) → HasVerdict limit input v → ¬ (IsEarlyEnd v) →
       TakesShortestSettling limit input (Some (drop d.taken input))
-  pub unsettled : (v : Verdict) → HasVerdict limit input v → IsEarlyEnd v →
-      TakesUnsettled limit input (Some (drop d.taken input))
+  pub insufficient : HasVerdict limit input (faulty insufficient) → d.taken ≡ length input
+  pub cut : HasVerdict limit input unexpected_eof →
+      (code : ℕ) × (size : ℕ) × HasHead code size d.taken input

@@ -3,7 +3,7 @@ ghost use Rattle.std.specs.Prelude.{◌≡◌, ◌+◌, ◌≤◌, ℕ, List, le
 ghost use Rattle.multihash.specs.Pair.{Pair};
 ghost use Rattle.multihash.specs.Verdict.{Verdict, accepted, invalid_size, unexpected_eof};
 ghost use Rattle.multihash.specs.Answer.{IsRefusal};
-ghost use Rattle.multihash_c.specs.Decoded.{Tells};
+ghost use Rattle.multihash_c.specs.Decoded.{Tells, TellsRefusal};
 
 use crate::status;
 use multihash::Error;
@@ -23,8 +23,7 @@ pub struct Decoded {
 // The answer at a pair whose digest ends what was taken.
 pub(crate) fn accept(code: u64, digest_length: usize, taken: usize) -> Decoded
     requires { digest_length ≤ taken }
-    ensures tells { (input : List ℕ) (p : Pair) → p.code ≡ code → length p.digest ≡ digest_length
-        → taken ≤ length input
+    ensures tells { (input : List ℕ) (p : Pair) → p.code ≡ code → taken ≤ length input
         → p.digest ≡ take result.digest_length (drop result.digest_offset input)
         → Tells input result (accepted p) }
     ensures offset { result.digest_offset + digest_length ≡ taken }
@@ -46,26 +45,18 @@ pub(crate) fn refuse(error: &Error, taken: usize) -> Decoded
     ensures tells { (input : List ℕ) (v : Verdict) → IsRefusal error.now v → Tells input result v }
     ensures taken { result.taken ≡ taken }
 {
-    let (status, size, code) = if let Some(size) = error.invalid_size() {
-        (status::INVALID_SIZE, size, 0)
+    if let Some(size) = error.invalid_size() {
+        refuse_size(size, taken)
     } else if let Some(code) = error.invalid_code() {
-        (status::INVALID_CODE, 0, code)
+        refusal(status::INVALID_CODE, 0, code, taken)
     } else if error.is_insufficient() {
-        (status::INSUFFICIENT, 0, 0)
+        refusal(status::INSUFFICIENT, 0, 0, taken)
     } else if error.is_overflow() {
-        (status::OVERFLOW, 0, 0)
+        refusal(status::OVERFLOW, 0, 0, taken)
     } else if error.is_not_minimal() {
-        (status::NOT_MINIMAL, 0, 0)
+        refusal(status::NOT_MINIMAL, 0, 0, taken)
     } else {
-        (status::UNEXPECTED_EOF, 0, 0)
-    };
-    Decoded {
-        status,
-        size,
-        code,
-        digest_offset: 0,
-        digest_length: 0,
-        taken,
+        refuse_end(taken)
     }
 }
 
@@ -74,14 +65,7 @@ pub(crate) fn refuse_size(size: u64, taken: usize) -> Decoded
     ensures tells { (input : List ℕ) → Tells input result (invalid_size size) }
     ensures taken { result.taken ≡ taken }
 {
-    Decoded {
-        status: status::INVALID_SIZE,
-        size,
-        code: 0,
-        digest_offset: 0,
-        digest_length: 0,
-        taken,
-    }
+    refusal(status::INVALID_SIZE, size, 0, taken)
 }
 
 // The answer at a digest that is cut.
@@ -89,10 +73,18 @@ pub(crate) fn refuse_end(taken: usize) -> Decoded
     ensures tells { (input : List ℕ) → Tells input result unexpected_eof }
     ensures taken { result.taken ≡ taken }
 {
+    refusal(status::UNEXPECTED_EOF, 0, 0, taken)
+}
+
+// The answer with that status, which has no digest.
+fn refusal(status: u32, size: u64, code: u64, taken: usize) -> Decoded
+    ensures tells { TellsRefusal result status size code }
+    ensures taken { result.taken ≡ taken }
+{
     Decoded {
-        status: status::UNEXPECTED_EOF,
-        size: 0,
-        code: 0,
+        status,
+        size,
+        code,
         digest_offset: 0,
         digest_length: 0,
         taken,

@@ -14,4 +14,4 @@ returns-in-Ok-clause-verdict c =
     let answer = c.accept.result in
     let stands = encoding_stands p input input [] answer.digest_offset answer.digest_length answer.taken has.0 (sym (append-nil input))
     (c.accept.ensures.length ∙ long) c.accept.ensures.taken (omega (arith, c.accept.ensures.offset, c.accept.ensures.length, c.accept.ensures.taken)) in
-    (accepted p, has, c.accept.ensures.tells input p (sym c.code.ensures.code) (sym long) (omega arith) stands)
+    (accepted p, has, c.accept.ensures.tells input p (sym c.code.ensures.code) (omega arith) stands)

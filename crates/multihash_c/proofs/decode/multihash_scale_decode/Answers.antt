@@ -1,7 +1,9 @@
 use Rattle.std.proofs.Common.{◌≡◌, ◌++◌, List, ℕ, length, take, sym, ap, ◌∙◌, subst, refl, arith, length-append}
+use Rattle.multihash.specs.Bytes.{IsBytes}
 use Rattle.multihash.specs.Scale.{IsScale, HasScaleVerdict}
 use Rattle.multihash.specs.Verdict.{Verdict, accepted}
 use Rattle.multihash.specs.Answer.{pair_of}
+use Rattle.multihash.proofs.WordFrontLemmas.{bytes_of}
 use Rattle.multihash_c.specs.Decoded.{TakesForm}
 use Rattle.multihash_c.proofs.DecodedLemmas.{form_stands, taken_front, taken_at_refusal}
 use Rattle.multihash_c.proofs.decode.multihash_scale_decode.Goals as goal
@@ -23,7 +25,7 @@ returns-in-Ok-clause-verdict c =
     let front : take answer.taken input ≡ met.ok.0 = ap (λ n. take n input) c.accept.ensures.taken ∙ taken_front input met.ok.0 left cut in (
       accepted p,
       has,
-      c.accept.ensures.tells input p (sym c.code.ensures.code) (sym long) (omega arith) stands,
+      c.accept.ensures.tells input p (sym c.code.ensures.code) (omega arith) stands,
       subst (λ (z : List ℕ). IsScale p z) (sym front) met.ok.1,
     )
 
@@ -33,11 +35,12 @@ returns-in-Err-clause-verdict c =
     let left = c.scale_decode-answer.new.r.now in
     let met = c.in-Err.ensures in
     let found = met.verdict refl in
+    let bytes : IsBytes input = bytes_of input (λ i. omega (arith, c.type_inv.bytes i)) in
     let cut : input ≡ met.err.taken ++ left = cc (met.err.takes) in
     let front : take c.refuse.result.taken input ≡ met.err.taken =
     ap (λ n. take n input) c.refuse.ensures.taken ∙ taken_front input met.err.taken left cut in (
       found.0,
       found.1,
       c.refuse.ensures.tells input found.0 found.2,
-      subst (λ (z : List ℕ). TakesForm found.0 z) (sym front) (taken_at_refusal input _ _ met.err found.0 found.1 found.2),
+      subst (λ (z : List ℕ). TakesForm found.0 z) (sym front) (taken_at_refusal input _ _ met.err bytes found.0 found.1 found.2),
     )

@@ -1,6 +1,8 @@
-use Rattle.std.proofs.Common.{◌≡◌, ◌≤◌, ◌++◌, List, ℕ, Some, length, drop, refl, sym, ap, ◌∙◌, subst, inr, arith}
+use Rattle.std.proofs.Common.{◌≡◌, ◌≤◌, ◌++◌, List, [], ℕ, Some, length, drop, refl, sym, ap, ◌∙◌, subst, arith}
+use Rattle.multihash.specs.Varint.{VarintFault, insufficient}
 use Rattle.multihash.specs.Verdict.{Verdict, faulty}
-use Rattle.multihash.specs.Taking.{TakesShortestSettling, TakesUnsettled}
+use Rattle.multihash.specs.Refusal.{IsFaulty}
+use Rattle.multihash.specs.Taking.{TakesShortestSettling}
 use Rattle.multihash.specs.Answer.{IsRefusal}
 use Rattle.multihash.proofs.VerdictLemmas.{verdict_unique}
 use Rattle.multihash_c.specs.Decoded.{Tells}
@@ -31,4 +33,8 @@ returns c limit =
     let inside : c.refuse.result.taken ≤ length input = omega (arith, c.refuse.ensures.taken) in
     fault_read c.requires.0 input c.requires.1 limit c.refuse.result tells inside
     (λ late. subst (λ (z : List ℕ). TakesShortestSettling 0 input (Some z)) at (met.settled refl v (c.requires.1 0) late))
-    (λ early. subst (λ (z : List ℕ). TakesUnsettled 0 input (Some z)) at (met.unsettled (inr (v, c.requires.1 0, early))))
+    (λ short.
+    let told : IsFaulty insufficient c.in-Err.error =
+    subst (λ (f : VarintFault). IsFaulty f c.in-Err.error) short (subst (IsRefusal c.in-Err.error) same found.2) in
+    let none : left ≡ [] = (met.err.insufficient told).1 in
+    omega (arith, c.refuse.ensures.taken, ap length none))

@@ -27,4 +27,4 @@ returns c =
     let there : c.in-Ok.head.len + c.in-Ok.head.size ≤ length input = omega (arith, head.within, c.if-bytes-head.false) in
     pair_read c.args.limit c.in-Ok.head.code c.in-Ok.head.size c.in-Ok.head.len input head answer
     (omega (arith, c.if-head-limit.false, c.if-head-gt255.false)) there c.accept.ensures.taken
-    (λ p code long is. c.accept.ensures.tells input p code long there (rw (c.accept.ensures.length, at) is))
+    (λ p code is. c.accept.ensures.tells input p code there (rw (c.accept.ensures.length, at) is))
