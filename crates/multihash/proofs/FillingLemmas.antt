@@ -1,7 +1,6 @@
 -- A writer that keeps its slice, and stopped early, had too few places: so one with enough takes all.
 use Rattle.std.proofs.Common.{◌≡◌, ◌+◌, ◌<◌, ◌≤◌, ℕ, List, ◌++◌, length, take, drop, false, ap, refl, arith, length-append, length-drop, Result, Ok, Err, OnErr, IsOk}
 use Rattle.std.proofs.lemmas.List.{length-take-le}
-use Rattle.multihash.specs.Bytes.{IsProperBeginning}
 use Rattle.multihash.specs.Places.{FillsPlaces}
 use Rattle.multihash.specs.Filling.{Fills, IsFilled}
 use Rattle.multihash.specs.Writing.{AppendsPart, CountsWriter}

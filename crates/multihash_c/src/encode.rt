@@ -60,10 +60,7 @@ fn put_encoding(multihash: &Multihash<255>, places: &mut [u8])
         × (places.new ≡ bytes ++ drop (length bytes) places.old) }
 {
     let mut writer = SliceWriter::new(places);
-    match multihash.write(&mut writer) {
-        Ok(_) => {}
-        Err(_) => unreachable!(),
-    }
+    multihash.write(&mut writer).unwrap();
 }
 
 // Puts the SCALE form of a multihash at the front of places that have room for it.
@@ -74,8 +71,5 @@ fn put_scale_form(multihash: &Multihash<255>, places: &mut [u8])
         × (places.new ≡ bytes ++ drop (length bytes) places.old) }
 {
     let mut writer = SliceWriter::new(places);
-    match multihash.scale_encode(&mut writer) {
-        Ok(_) => {}
-        Err(_) => unreachable!(),
-    }
+    multihash.scale_encode(&mut writer).unwrap();
 }

@@ -1,23 +1,21 @@
-use Rattle.std.proofs.Common.{◌≡◌, List, ℕ, length, Err, ap, arith}
-use Rattle.std.proofs.lemmas.Bool.{false≢true}
+use Rattle.std.proofs.Common.{List, ℕ, length, ap, arith}
 use Rattle.multihash.specs.Encoding.{IsEncoding}
 use Rattle.multihash.specs.Answer.{pair_of}
-use Rattle.multihash.proofs.FillingLemmas.{fewer_left}
-use Rattle.multihash.proofs.PlacesLemmas.{full_of_faults}
+use Rattle.multihash.proofs.FillingLemmas.{filler_takes_all}
 use Rattle.multihash.proofs.VerdictLemmas.{encoding_same}
 use Rattle.multihash_c.proofs.encode.put_encoding.Goals as goal
 
-pub unreachable-requires : goal.unreachable-requires
-unreachable-requires c =
+pub unwrap-requires : goal.unwrap-requires
+unwrap-requires c =
+    let p = pair_of c.args.multihash.now in
     let (bytes, is_form, fit) = c.requires in
-    let (stopped, is_own, part) = c.in-Err.ensures.err in
-    let faults = c.in-Err.ensures.faults in
     let made = c.new-writer.ensures in
+    filler_takes_all c.new-writer.result c.write.new.w (IsEncoding p) c.write.result c.write.ensures.err c.write.ensures.faults
+    (λ other is_own.
     omega (
       arith,
-      fewer_left c.new-writer.result c.write.new.w stopped part (full_of_faults 0 _ faults.0 faults.2),
+      fit,
       made.empty,
       ap (λ (z : List ℕ). length z) made.kept,
-      fit,
-      ap (λ (z : List ℕ). length z) (encoding_same (pair_of c.args.multihash.now) bytes stopped is_form is_own),
-    )
+      ap (λ (z : List ℕ). length z) (encoding_same p bytes other is_form is_own),
+    ))
