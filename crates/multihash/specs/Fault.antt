@@ -1,7 +1,12 @@
 -- What a contract sees of an error.
 use Rattle.std.specs.Prelude.{◌≡◌, ℕ, List, ◌⊎◌, codes}
 use Rattle.multihash.specs.declared.no_std_io.error.Kind.{Kind}
-use Rattle.multihash.specs.declared.no_std_io.error.Kind.TheVariants.{UnexpectedEof, WriteZero, OutOfMemory, Other}
+use Rattle.multihash.specs.declared.no_std_io.error.Kind.TheVariants.{
+  UnexpectedEof,
+  WriteZero,
+  OutOfMemory,
+  Other,
+}
 
 -- an error's kind, and the text that it prints
 pub record Fault : Type 0 where

@@ -26,4 +26,4 @@ pub use crate::multihash::Multihash;
 pub type Result<T> = std::result::Result<T, Error>;
 
 /// The same type under its older name.
-pub type MultihashGeneric<const N: usize> = Multihash<N>;
+pub type MultihashGeneric<const S: usize> = Multihash<S>;

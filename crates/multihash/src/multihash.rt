@@ -336,12 +336,16 @@ impl<const S: usize> Multihash<S> {
 
     // The multihash of a buffer that begins with the digest.
     #[inline(always)]
-    pub(crate) fn in_buffer(code: u64, size: usize, digest: [u8; S]) -> Self
+    pub(crate) fn in_buffer(code: u64, size: usize, buffer: [u8; S]) -> Self
         requires in_range { code < varint_limit }
         requires fits { size ≤ digest_limit S }
-        ensures { pair_of result ≡ record { code = code; digest = take size digest.entry } }
+        ensures { pair_of result ≡ record { code = code; digest = take size buffer.entry } }
     {
-        Multihash { code, digest, size }
+        Multihash {
+            code,
+            digest: buffer,
+            size,
+        }
     }
 
     // Puts a digest of the size that is set already, in place of zeros.
@@ -438,7 +442,7 @@ fn word_at(bytes: &[u8], at: usize) -> u128
 {
     match bytes[at..].first_chunk::<16>() {
         Some(word) => u128::from_le_bytes(*word),
-        None => 0,
+        None => unreachable!(),
     }
 }
 

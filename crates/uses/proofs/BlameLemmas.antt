@@ -1,5 +1,5 @@
 -- What a refusal leaves behind.
-use Rattle.std.proofs.Common.{◌≡◌, ℕ, ◌<◌, ◌≤◌, ◌↔◌, refl, inl, inr, List, [], ◌++◌, length, Option, None, Some, Result, Ok, Err, IfErr, IsErrAnd, IfSome, MatchOption, ◌⊎◌, sym, ap, ◌∙◌, subst, arith, append_assoc, append-nil, length-append}
+use Rattle.std.proofs.Common.{◌≡◌, ℕ, ◌<◌, ◌≤◌, ◌↔◌, refl, inl, inr, List, [], ◌++◌, length, Option, None, Some, Result, Ok, Err, IfOk, IfErr, IsErrAnd, IfSome, MatchOption, ◌⊎◌, sym, ap, ◌∙◌, subst, arith, append_assoc, append-nil, length-append}
 use Rattle.multihash.specs.Varint.{varint_limit}
 use Rattle.multihash.specs.Pair.{Pair, FitsBuffer, digest_limit}
 use Rattle.multihash.specs.Encoding.{IsEncoding}
@@ -8,6 +8,7 @@ use Rattle.multihash.specs.Scale.{IsScaleCode, HasScaleVerdict}
 use Rattle.multihash.specs.ScaleTaking.{TakesAtScaleRefusal}
 use Rattle.multihash.specs.Settling.{Settles}
 use Rattle.multihash.specs.Taking.{TakesShortestSettling, TakesUnsettled}
+use Rattle.multihash.specs.Reading.{Takes}
 use Rattle.multihash.specs.Refusal.{Refusal, of_size, of_code, IsInvalidSize, IsInvalidCode}
 use Rattle.multihash.specs.Answer.{Fields, pair_of, IsRefusal, Answers}
 use Rattle.multihash.proofs.BeginningLemmas.{compare_beginnings}
@@ -15,6 +16,15 @@ use Rattle.multihash.proofs.VerdictLemmas.{same_cut, verdict_unique}
 use Rattle.multihash.proofs.ScaleLemmas.{scale_verdict_unique}
 use Rattle.multihash.proofs.SettlingLemmas.{shortest_size, shortest_unique, settles_exactly}
 use Rattle.multihash.proofs.WritingLemmas.{some_items}
+
+-- what was taken stands in front of what is left
+pub in_front : (Form : Pair → List ℕ → Type 0) (S : ℕ) (input left : List ℕ) (r : Result (Fields S) Refusal)
+    → IfOk r (λ m. (bytes : List ℕ) × Form (pair_of m) bytes × Takes (Some input) bytes (Some left))
+    → IfOk r (λ m. (bytes : List ℕ) × Form (pair_of m) bytes × (input ≡ bytes ++ left))
+in_front Form S input left (Ok m) ok =
+    let cut : input ≡ ok.0 ++ left = cc (ok.2) in
+    (ok.0, ok.1, cut)
+in_front Form S input left (Err e) ok = tt
 
 -- a size that is too large is refused
 pub refused_size : (S size : ℕ) (input rest : List ℕ) (r : Result (Fields S) Refusal) → HasSize size input rest → digest_limit S < size

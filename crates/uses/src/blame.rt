@@ -1,13 +1,15 @@
 //! What a refusal tells: who is to blame for it, what was taken, and whether more input could help.
-ghost use Rattle.std.specs.Prelude.{◌≡◌, ◌<◌, ◌≤◌, ◌↔◌, ◌⊎◌, ℕ, List, ◌++◌, length, codes, string_bytes, Some, None, IsTrue, IfSome, IfNone, IfOk, IsErrAnd, MatchOption};
+ghost use Rattle.std.specs.Prelude.{◌≡◌, ◌<◌, ◌≤◌, ◌↔◌, ◌⊎◌, ℕ, List, ◌++◌, length, codes, string_bytes, Some, None, IsTrue, IfSome, IfNone, IfOk, IfErr, IsErrAnd, MatchOption};
 ghost use Rattle.multihash.specs.Varint.{varint_limit};
 ghost use Rattle.multihash.specs.Pair.{Pair, FitsBuffer, digest_limit};
 ghost use Rattle.multihash.specs.Encoding.{IsEncoding};
-ghost use Rattle.multihash.specs.Verdict.{Verdict, accepted, HasSize, HasVerdict};
+ghost use Rattle.multihash.specs.Verdict.{Verdict, accepted, HasSize, HasVerdict, IsEarlyEnd, HasWholeVerdict};
 ghost use Rattle.multihash.specs.Reading.{Takes};
-ghost use Rattle.multihash.specs.Scale.{IsScaleCode, HasScaleVerdict};
+ghost use Rattle.multihash.specs.Scale.{IsScale, IsScaleCode, HasScaleVerdict};
+ghost use Rattle.multihash.specs.ScaleTaking.{TakesAtScaleRefusal};
 ghost use Rattle.multihash.specs.Refusal.{IsInvalidSize, IsInvalidCode};
 ghost use Rattle.multihash.specs.Settling.{Settles};
+ghost use Rattle.multihash.specs.Taking.{TakesAtRefusal, TakesShortestSettling};
 ghost use Rattle.multihash.specs.Answer.{pair_of, Answers};
 
 use multihash::no_std_io::{Read, Write};
@@ -41,6 +43,9 @@ pub fn read_slice<const S: usize>(stream: &[u8]) -> (Result<Multihash<S>, Error>
     ensures verdict { (v : Verdict) × HasVerdict S stream.now v × Answers result.0 v }
     ensures ok { IfOk result.0 (λ m. (bytes : List ℕ) × IsEncoding (pair_of m) bytes
         × (stream.now ≡ bytes ++ result.1.now)) }
+    ensures err { IfErr result.0 (λ e. TakesAtRefusal S e (Some stream.now) (Some result.1.now)) }
+    ensures settled { (v : Verdict) → HasVerdict S stream.now v → ¬ (IsEarlyEnd v) →
+        TakesShortestSettling S stream.now (Some result.1.now) }
     ensures long { (size : ℕ) (rest : List ℕ) → HasSize size stream.now rest →
         digest_limit S < size →
         IsErrAnd result.0 (IsInvalidSize size) × (result.1.now ≡ rest) }
@@ -54,6 +59,10 @@ pub fn read_slice<const S: usize>(stream: &[u8]) -> (Result<Multihash<S>, Error>
 /// size is left with all that follows it.
 pub fn decode_slice<const S: usize>(stream: &[u8]) -> (Result<Multihash<S>, Error>, &[u8])
     ensures verdict { (v : Verdict) × HasScaleVerdict S stream.now v × Answers result.0 v }
+    ensures ok { IfOk result.0 (λ m. (bytes : List ℕ) × IsScale (pair_of m) bytes
+        × (stream.now ≡ bytes ++ result.1.now)) }
+    ensures err { IfErr result.0 (λ e.
+        TakesAtScaleRefusal S e (Some stream.now) (Some result.1.now)) }
     ensures large { (code : ℕ) (bytes rest : List ℕ) → IsScaleCode code bytes →
         varint_limit ≤ code → stream.now ≡ bytes ++ rest →
         IsErrAnd result.0 (IsInvalidCode code) × (result.1.now ≡ rest) }
@@ -78,15 +87,19 @@ pub fn refused_code<const S: usize>(code: u64, digest: &[u8]) -> Option<u64>
     }
 }
 
-/// The code that reading refuses: none, whatever the bytes are.
-pub fn code_refused_by_reading<const S: usize>(bytes: &[u8]) -> Option<u64>
-    requires { S < 65536 }
-    ensures { result ≡ None }
+/// What `from_bytes` answers, and the code that it refuses: none, whatever the bytes are.
+pub fn code_refused_by_reading<const S: usize>(
+    bytes: &[u8],
+) -> (Result<Multihash<S>, Error>, Option<u64>)
+    ensures verdict { (v : Verdict) × HasWholeVerdict S bytes.now v × Answers result.0 v }
+    ensures none { result.1 ≡ None }
 {
-    match Multihash::<S>::from_bytes(bytes) {
+    let answer = Multihash::from_bytes(bytes);
+    let refused = match &answer {
         Ok(_) => None,
         Err(e) => e.invalid_code(),
-    }
+    };
+    (answer, refused)
 }
 
 /// Whether more input could change the answer of `read`.

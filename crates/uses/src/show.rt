@@ -169,13 +169,14 @@ fn show_blame(alloc: Global, lines: &mut String) -> Result<()> {
 
 fn show_codes(lines: &mut String) -> Result<()> {
     let (refused, left) = blame::decode_slice::<4>(&[255; 10]);
+    let (_, by_reading) = blame::code_refused_by_reading::<4>(&[255; 10]);
     writeln!(
         lines,
         "codes: {} left of {:?}, {:?}, {:?}",
         left.len(),
         refused.err().and_then(|e| e.invalid_code()),
         blame::refused_code::<4>(LARGEST_CODE, &[7]),
-        blame::code_refused_by_reading::<4>(&[255; 10])
+        by_reading
     )?;
     Ok(())
 }

@@ -57,7 +57,9 @@ fn reading_refuses_no_code(rt: HostRuntime) {
         &[0],
         &[0, 0],
     ] {
-        assert!(rt; code_refused_by_reading::<4>(bytes).is_none());
+        let (answer, refused) = code_refused_by_reading::<4>(bytes);
+        assert_eq!(rt; answer.is_ok(), bytes == [0, 0].as_slice());
+        assert!(rt; refused.is_none());
     }
 }
 

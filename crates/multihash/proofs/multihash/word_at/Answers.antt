@@ -4,8 +4,8 @@ use Rattle.multihash.specs.Bytes.{place_value}
 use Rattle.multihash.proofs.WordFrontLemmas.{whole_front}
 use Rattle.multihash.proofs.multihash.word_at.Goals as goal
 
-pub returns-in-Some : goal.returns-in-Some
-returns-in-Some c =
+pub returns : goal.returns
+returns c =
     let bytes = c.args.bytes.now in
     let at = c.args.at in
     let left = length bytes - at in

@@ -1,5 +1,12 @@
+use Rattle.std.proofs.Common.{◌∙◌}
 use Rattle.uses.proofs.BlameLemmas.{no_refused_code}
+use Rattle.uses.proofs.blame.code_refused_by_reading.Goals.{in-Ok, in-Err}
 use Rattle.uses.proofs.blame.code_refused_by_reading.Goals as goal
 
-pub returns-in-Err : goal.returns-in-Err
-returns-in-Err g c = no_refused_code g.row.S c.args.bytes.now c.invalid_code.result _ c.in-Err.ensures c.invalid_code.ensures
+pub returns-clause-none : goal.returns-clause-none
+returns-clause-none g c = elim c.match-answer.branch [
+  | in-Ok w ↦ w.refused-is
+  | in-Err w ↦
+      let told = w.invalid_code-refused in
+      w.refused-is ∙ no_refused_code g.row.S c.args.bytes.now told.result _ (rw w.in-Err.is at c.from_bytes-answer.ensures) told.ensures
+]

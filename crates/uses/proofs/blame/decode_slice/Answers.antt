@@ -1,9 +1,15 @@
 use Rattle.std.proofs.Common.{refl}
-use Rattle.uses.proofs.BlameLemmas.{refused_large, left_behind_code}
+use Rattle.multihash.specs.Scale.{IsScale}
+use Rattle.uses.proofs.BlameLemmas.{in_front, refused_large, left_behind_code}
 use Rattle.uses.proofs.blame.decode_slice.Goals as goal
 
 pub returns-clause-verdict : goal.returns-clause-verdict
 returns-clause-verdict g c = c.scale_decode-decoded.ensures.verdict refl
+
+pub returns-clause-ok : goal.returns-clause-ok
+returns-clause-ok g c =
+    let call = c.scale_decode-decoded in
+    in_front IsScale g.row.S c.args.stream.now call.new.r.now call.result call.ensures.ok
 
 pub returns-clause-large : goal.returns-clause-large
 returns-clause-large g c code bytes rest is over cut =
