@@ -20,6 +20,13 @@ appends_no_front h = omega (arith, ap (λ (z : List ℕ). get_or z 0 0) h)
 appends_no_fewer : ¬ (AppendsAtEnd (7 ∷ []) (1 ∷ 2 ∷ []) (7 ∷ 1 ∷ []))
 appends_no_fewer h = omega (arith, ap (λ (z : List ℕ). length z) h)
 
+-- what was there stays, and no other bytes stand behind it
+appends_to_no_other : ¬ (AppendsAtEnd (7 ∷ []) (1 ∷ []) (8 ∷ 1 ∷ []))
+appends_to_no_other h = omega (arith, ap (λ (z : List ℕ). get_or z 0 0) h)
+
+appends_no_other_bytes : ¬ (AppendsAtEnd (7 ∷ []) (1 ∷ []) (7 ∷ 2 ∷ []))
+appends_no_other_bytes h = omega (arith, ap (λ (z : List ℕ). get_or z 1 0) h)
+
 gives_up_no_fewer : ¬ (GivesUpFor (7 ∷ 8 ∷ 9 ∷ []) (1 ∷ 2 ∷ []) (8 ∷ 9 ∷ []))
 gives_up_no_fewer h = omega (arith, ap (λ (z : List ℕ). length z) h.left)
 

@@ -221,6 +221,18 @@ reads_nothing_at_end_alone h =
 fails_and_takes_nothing : ¬ (ReadLaws left failed (1 ∷ [], 0) ([], 1) (7 ∷ []) (7 ∷ []) (Err other))
 fails_and_takes_nothing h = omega (arith, ap (λ (o : Option (List ℕ)). length (told o)) h.err)
 
+-- `read` tells the end by no refusal, counted or not
+reads_no_end_by_refusal : ¬ (ReadLaws left failed ([], 0) ([], 0) (7 ∷ []) (7 ∷ []) (Err eof))
+reads_no_end_by_refusal h =
+    elim h.faults [ inl counted ↦ omega (arith, counted.0) | inr listed ↦ listed.1 ]
+
+reads_no_end_by_fault : ¬ (ReadLaws left failed ([], 0) ([], 1) (7 ∷ []) (7 ∷ []) (Err eof))
+reads_no_end_by_fault h =
+    elim h.faults [
+      | inl (counted, own) ↦ elim own [ inl is ↦ cc | inr is ↦ cc ]
+      | inr listed ↦ listed.1
+    ]
+
 -- ---- the laws of `read_exact`
 
 abbrev Filling : State → State → List ℕ → List ℕ → Result ℕ Fault → Type 0
@@ -244,6 +256,15 @@ fills_with_no_hidden_fault h = omega (arith, h.faults)
 fails_with_a_counted_fault : ¬ (Filling (1 ∷ [], 0) (1 ∷ [], 0) (7 ∷ []) (7 ∷ []) (Err other))
 fails_with_a_counted_fault h =
     elim h.faults [ inl counted ↦ omega (arith, counted.0) | inr listed ↦ cc ]
+
+-- the end is no fault of the reader's own
+ends_by_no_counted_fault : ¬ (Filling ([], 0) ([], 1) (7 ∷ []) (7 ∷ []) (Err eof))
+ends_by_no_counted_fault h = none h.faults
+  where
+    none : ¬ (CountsReader {A = ℕ} IsOwnFault IsUnexpectedEof 0 1 (Err eof))
+    none (inl (counted, inl is)) = cc
+    none (inl (counted, inr is)) = cc
+    none (inr (same, is)) = omega (arith, same)
 
 fills_with_no_other_bytes : ¬ (Filling (1 ∷ 2 ∷ [], 0) (2 ∷ [], 0) (7 ∷ []) (5 ∷ []) (Ok 0))
 fills_with_no_other_bytes h =

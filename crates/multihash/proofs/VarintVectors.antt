@@ -238,6 +238,23 @@ no_overflow_of_one : ¬ (IsOverflow (0x02 ∷ []))
 no_overflow_of_one =
     no_fault (0x02 ∷ []) overflow (number 2 []) (0x02 ∷ [], varint_2, refl) (λ e. cc)
 
+-- nor does a marked byte that stands sooner
+no_overflow_sooner : ¬ (IsOverflow (0x80 ∷ 0x01 ∷ []))
+no_overflow_sooner =
+    no_fault (0x80 ∷ 0x01 ∷ []) overflow (number 128 []) (0x80 ∷ 0x01 ∷ [], varint_128, refl)
+    (λ e. cc)
+
+-- nor does the largest number
+no_overflow_of_largest : ¬ (IsOverflow (0xff ∷ 0xff ∷ 0xff ∷ 0xff ∷ 0xff ∷ 0xff ∷ 0xff ∷ 0xff ∷ 0x7f ∷ []))
+no_overflow_of_largest =
+    no_fault (0xff ∷ 0xff ∷ 0xff ∷ 0xff ∷ 0xff ∷ 0xff ∷ 0xff ∷ 0xff ∷ 0x7f ∷ []) overflow
+    (number 9223372036854775807 []) (
+      0xff ∷ 0xff ∷ 0xff ∷ 0xff ∷ 0xff ∷ 0xff ∷ 0xff ∷ 0xff ∷ 0x7f ∷ [],
+      varint_9223372036854775807,
+      refl,
+    )
+    (λ e. cc)
+
 -- nor do bytes that aren't marked
 no_overflow_unmarked : ¬ (IsOverflow (replicate most_marked 0 ++ first_too_large ∷ []))
 no_overflow_unmarked =

@@ -208,6 +208,14 @@ full_is_no_fault h = write_never_full_uncounted h.faults
     write_never_full_uncounted (inl e) = elim e.kind [ inl is ↦ cc | inr is ↦ cc ]
     write_never_full_uncounted (inr e) = e.2
 
+-- nor has this one, which doesn't allocate, want of memory that it doesn't count
+write_wants_no_memory : ¬ (Writes ([], 0) (1 ∷ []) ([], 0) (Err memory))
+write_wants_no_memory h =
+    elim h.faults [
+      | inl own ↦ elim own.cause [ inl one ↦ omega (arith, one) | inr (allocates, e, same) ↦ false≢true allocates ]
+      | inr stuck ↦ stuck.2
+    ]
+
 -- ---- the laws of `write_all`
 
 abbrev WritesAll : State → List ℕ → State → Result ℕ Fault → Type 0
@@ -246,6 +254,13 @@ fails_before_the_end h = none h.err.part h.err.proper.0 h.err.proper.1 (h.err.st
 
 writes_all_with_no_hidden_fault : ¬ (WritesAll ([], 0) (1 ∷ []) (1 ∷ [], 1) (Ok 0))
 writes_all_with_no_hidden_fault h = omega (arith, h.faults)
+
+write_all_wants_no_memory : ¬ (WritesAll ([], 0) (1 ∷ []) ([], 0) (Err memory))
+write_all_wants_no_memory h =
+    elim h.faults [
+      | inl own ↦ elim own.cause [ inl one ↦ omega (arith, one) | inr (allocates, e, same) ↦ false≢true allocates ]
+      | inr stuck ↦ let is = stuck.0 in cc
+    ]
 
 full_with_no_place_alone : ¬ (WritesAll ([], 0) (1 ∷ 2 ∷ []) (1 ∷ [], 0) (Err full))
 full_with_no_place_alone h =

@@ -1,12 +1,13 @@
 -- What known lines of a list say, and what they don't.
 use Rattle.std.proofs.Common.{◌≡◌, ℕ, List, [], ◌∷◌, ◌++◌, Option, None, Some, true, false, length, refl, sym, ap, ◌∙◌, subst, arith, inl, inr, length-append}
 use Rattle.std.specs.Prelude.{codes}
-use Rattle.std.proofs.lemmas.List.Elements.{All-head, All-tail}
+use Rattle.std.proofs.lemmas.List.Elements.{All-head}
 use Rattle.hex.specs.Hex.{decode_pairs}
 use Rattle.multihash.specs.Bytes.{IsProperBeginning, place_value}
 use Rattle.multihash.specs.Varint.{insufficient, overflow, not_minimal}
 use Rattle.multihash.specs.Verdict.{accepted, invalid_size, invalid_code, faulty, unexpected_eof, HasWholeVerdict}
 use Rattle.multihash.specs.Scale.{IsScaleCode, HasScaleVerdict}
+use Rattle.multihash.proofs.MarkedLemmas.{All-append_right}
 use Rattle.multihash.proofs.WritingLemmas.{some_items}
 use Rattle.multihash.proofs.VerdictLemmas.{same_cut, verdict_unique, whole_verdict_unique}
 use Rattle.multihash.proofs.ScaleLemmas.{scale_verdict_unique}
@@ -17,6 +18,7 @@ use Rattle.multihash.proofs.VerdictVectors.{size_5, size_named, code_named}
 use Rattle.multihash.proofs.SettlingVectors.{shortest_of_size}
 use Rattle.multihash.proofs.ScaleVectors.{zeros, all_255, scale_eight_bytes, scale_size_first, scale_size_behind}
 use Rattle.vectors.proofs.ScaleAnswerLemmas.{size_shortest}
+use Rattle.vectors.specs.declared.check.Check.{Check}
 use Rattle.vectors.specs.declared.check.Check.TheVariants.{FromBytes, ReadSlice, ReadOneByte, ReadThreeBytes, ScaleSlice, ScaleOneByte, FromValue}
 use Rattle.vectors.specs.declared.line.Line.{Line}
 use Rattle.vectors.specs.declared.line.Reading.{Reading}
@@ -156,6 +158,9 @@ scale_reading_of_size = (scale_size_behind, decodes_after_nine)
 no_scale_reading_without_count : ¬ (IsScaleReading 4 (zeros ++ 5 ∷ 7 ∷ []) (size_after 5 None))
 no_scale_reading_without_count h = let e = h.1 in cc
 
+no_scale_reading_after_ten : ¬ (IsScaleReading 4 (zeros ++ 5 ∷ 7 ∷ []) (size_after 5 (Some 10)))
+no_scale_reading_after_ten h = decodes_after_no_ten h.1
+
 no_scale_reading_of_other_size : ¬ (IsScaleReading 4 (zeros ++ 5 ∷ 7 ∷ []) (size_after 6 (Some 9)))
 no_scale_reading_of_other_size h =
     omega (
@@ -250,6 +255,11 @@ takes_both_varints = omega arith
 leaves_no_size : ¬ (TakesEnough unexpected_eof (0 ∷ 4 ∷ 1 ∷ []) (4 ∷ 1 ∷ []))
 leaves_no_size h = omega (arith, h)
 
+-- two bytes of one varint aren't both varints
+leaves_no_size_behind_two_bytes : ¬
+    (TakesEnough unexpected_eof (0x80 ∷ 1 ∷ 4 ∷ 1 ∷ []) (4 ∷ 1 ∷ []))
+leaves_no_size_behind_two_bytes h = omega (arith, h)
+
 enough_of_no_size : ¬ (TakesEnough (invalid_size 5) [] [])
 enough_of_no_size h = h
 
@@ -276,6 +286,9 @@ takes_no_count_of_early_end : ¬ (TakesAsReadListed (0x80 ∷ []) [] (record {
   taken = Some 1;
 }))
 takes_no_count_of_early_end h = h.0 tt
+
+lists_a_count_of_size : ¬ (TakesAsReadListed (0 ∷ 5 ∷ 9 ∷ []) (9 ∷ []) (size_after 5 None))
+lists_a_count_of_size h = h
 
 decoding_takes_as_listed : TakesAsScaleListed (zeros ++ 5 ∷ 7 ∷ []) (7 ∷ []) (size_after 5 (Some 9))
 decoding_takes_as_listed = ((λ e. cc), refl)
@@ -367,16 +380,16 @@ decoding_by_one_answers_no_other : (line : Line) → line.input.items ≡ zeros 
 decoding_by_one_answers_no_other line input says h = no_other_decoded_size line input says h
 
 -- one wrong line makes a list wrong, wherever it stands
-no_list_with_a_wrong_line : (first wrong : Line) → wrong.size ≡ 4 → wrong.input.items ≡ three
-    → wrong.from_bytes ≡ InvalidSize 6 → ¬ (AreRightFor FromBytes (first ∷ wrong ∷ []))
-no_list_with_a_wrong_line first wrong size input says h =
+no_list_with_a_wrong_line : (before after : List Line) (wrong : Line) → wrong.size ≡ 4
+    → wrong.input.items ≡ three → wrong.from_bytes ≡ InvalidSize 6
+    → ¬ (AreRightFor FromBytes (before ++ wrong ∷ after))
+no_list_with_a_wrong_line before after wrong size input says h =
     from_bytes_answers_no_other wrong input says
     (subst (λ (S : ℕ). IsRight FromBytes S wrong) size
-    (All-head (λ line. IsRight FromBytes line.size line) wrong []
-    (All-tail (λ line. IsRight FromBytes line.size line) first (wrong ∷ []) h)))
+    (All-head (λ line. IsRight FromBytes line.size line) wrong after
+    (All-append_right (λ line. IsRight FromBytes line.size line) before (wrong ∷ after) h)))
 
--- and one check is enough
-right_for_each_check : (first wrong : Line) → wrong.size ≡ 4 → wrong.input.items ≡ three
-    → wrong.from_bytes ≡ InvalidSize 6 → ¬ (AreRight (first ∷ wrong ∷ []))
-right_for_each_check first wrong size input says h =
-    no_list_with_a_wrong_line first wrong size input says (h FromBytes)
+-- and one check is enough, whichever it is
+right_for_each_check : (check : Check) (lines : List Line) → ¬ (AreRightFor check lines)
+    → ¬ (AreRight lines)
+right_for_each_check check lines wrong h = wrong (h check)
