@@ -57,7 +57,8 @@ def of_crate(source, specs):
     for name, fields in re.findall(r"#\[repr\(C\)\]\s*#\[derive\([^)]*\)\]\s*pub struct (\w+) \{([^}]*)\}", source):
         structs[c_type(name)] = [(c_type(kind), field) for field, kind in re.findall(r"pub (\w+): (\w+)", fields)]
     spelled = dict(re.findall(r'^(?:refusal_text|varint_text|text_of) \(?(\w+)[^=\n]*= codes "([^"]*)"', specs, re.M))
-    longest = int(re.search(r"const LONGEST: usize = (\d+);", source)[1])
+    # The bytes of the longest code and of the longest size, and the digest's.
+    longest = int(re.search(r"^most_marked = (\d+)", specs, re.M)[1]) + 1 + 2 + 255
     return {
         "functions": functions,
         "structs": structs,
@@ -112,7 +113,7 @@ def main():
     names = sorted(glob.glob("crates/multihash_c/src/*.rt", root_dir=TOP))
     files = {
         "crate": "\n".join(read(name) for name in names if not name.endswith("/tests.rt")),
-        "specs": read("crates/multihash/specs/Refusal.antt") + read("crates/multihash/specs/Fault.antt"),
+        "specs": "".join(read(f"crates/multihash/specs/{name}.antt") for name in ("Refusal", "Fault", "Varint")),
         "header": read("crates/multihash_c/include/multihash.h"),
     }
     faults = differences(files["crate"], files["specs"], files["header"])
