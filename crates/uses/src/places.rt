@@ -12,7 +12,7 @@ use multihash::no_std_io::SliceWriter;
 pub fn encode_into<const S: usize>(m: &Multihash<S>, places: &mut [u8]) -> Option<usize>
     ensures { (bytes : List ℕ) × IsEncoding (pair_of m.now) bytes
         × MatchOption result (length places.old < length bytes)
-            (λ n. (n ≡ length bytes) × (places.new ≡ bytes ++ drop n places.old)) }
+        (λ n. (n ≡ length bytes) × (places.new ≡ bytes ++ drop n places.old)) }
 {
     let mut writer = SliceWriter::new(places);
     m.write(&mut writer).ok()
@@ -23,7 +23,7 @@ pub fn encode_into<const S: usize>(m: &Multihash<S>, places: &mut [u8]) -> Optio
 pub fn encode_all_into<const S: usize>(items: &[Multihash<S>], places: &mut [u8]) -> Option<usize>
     ensures { (bytes : List ℕ) × AreJoined (map pair_of items.now) bytes
         × MatchOption result (length places.old < length bytes)
-            (λ n. (n ≡ length bytes) × (places.new ≡ bytes ++ drop n places.old)) }
+        (λ n. (n ≡ length bytes) × (places.new ≡ bytes ++ drop n places.old)) }
 {
     let mut writer = SliceWriter::new(places);
     match write_list(items, &mut writer) {
