@@ -1,5 +1,5 @@
 -- What known places hold when they were filled.
-use Rattle.std.proofs.Common.{◌≡◌, ℕ, List, [], ◌∷◌, length, get_or, refl, ap, arith}
+use Rattle.std.proofs.Common.{◌≡◌, ℕ, List, [], ◌∷◌, length, get_or, refl, sym, ap, arith}
 use Rattle.multihash.specs.Places.{FillsPlaces}
 use Rattle.multihash.specs.Filling.{Fills, IsFilled}
 use Rattle.multihash.specs.declared.no_std_io.slice_writer.SliceWriter.{SliceWriter}
@@ -37,6 +37,24 @@ counts_no_fewer h = omega (arith, h.count)
 
 counts_no_more : ¬ (FillsPlaces (7 ∷ 8 ∷ 9 ∷ []) 0 (1 ∷ []) (1 ∷ 8 ∷ 9 ∷ []) 2)
 counts_no_more h = omega (arith, h.count)
+
+-- what became of the places is what makes a writer's state the next one
+fills_slice : (old new : SliceWriter) → new.places.ghost_name ≡ old.places.ghost_name → old.places.now ≡ 7 ∷ 8 ∷ []
+    → old.filled ≡ 1 → new.places.now ≡ 7 ∷ 1 ∷ [] → new.filled ≡ 2 → Fills old (1 ∷ []) new
+fills_slice old new same before from after to = record {
+  same_slice = same;
+  fills = rw (before, from, after, to) (record { room = omega arith; puts = refl; count = refl });
+}
+
+fills_slice_with_no_other : (old new : SliceWriter) → new.places.ghost_name ≡ old.places.ghost_name → old.places.now ≡ 7 ∷ 8 ∷ []
+    → old.filled ≡ 1 → new.places.now ≡ 7 ∷ 6 ∷ [] → new.filled ≡ 2 → ¬ (Fills old (5 ∷ []) new)
+fills_slice_with_no_other old new same before from after to h =
+    let filled : FillsPlaces (7 ∷ 8 ∷ []) 1 (5 ∷ []) (7 ∷ 6 ∷ []) 2 = rw (sym before, sym from, sym after, sym to) h.fills in
+    omega (arith, ap (λ (z : List ℕ). get_or z 1 0) filled.puts)
+
+fills_slice_uncounted : (old new : SliceWriter) → new.places.ghost_name ≡ old.places.ghost_name → old.filled ≡ 1 → new.filled ≡ 1
+    → ¬ (Fills old (1 ∷ []) new)
+fills_slice_uncounted old new same from to h = omega (arith, from, to, h.fills.count)
 
 -- another slice is not the one that was filled
 fills_no_other_slice : (old new : SliceWriter) (bytes : List ℕ) → ¬ (new.places.ghost_name ≡ old.places.ghost_name) → ¬ (Fills old bytes new)

@@ -26,8 +26,8 @@ GivesUpPlaces-joined a b c x y first second =
           ∙ ap (λ n. drop n a) (sym sum);
     }
 
--- the bytes stand behind the first `filled` places, and all other places are as they were; `after` of them are
--- filled now
+-- the bytes stand behind the first `filled` places, and all other places are as they were; `after` places are
+-- filled then
 pub record FillsPlaces (old : List ℕ) (filled : ℕ) (bytes new : List ℕ) (after : ℕ) : Type 0 where
   pub room : filled + length bytes ≤ length old
   pub puts : new ≡ take filled old ++ (bytes ++ drop (filled + length bytes) old)

@@ -274,7 +274,10 @@ static void check_refusals(void)
     check_refusal(multihash_from_bytes(left_over, 5), MULTIHASH_INVALID_SIZE, 2, 5);
     CHECK(multihash_read(left_over, 5).status == MULTIHASH_OK && multihash_read(left_over, 5).taken == 3);
     CHECK(multihash_read(large, 10).taken == 9);
-    CHECK(multihash_scale_decode(large, 7).status == MULTIHASH_UNEXPECTED_EOF);
+    static const uint8_t scale_form[] = {0x01, 0, 0, 0, 0, 0, 0, 0, 0x02, 0x07};
+    check_refusal(multihash_scale_decode(scale_form, 7), MULTIHASH_UNEXPECTED_EOF, 0, 0);
+    check_refusal(multihash_scale_decode(scale_form, 8), MULTIHASH_UNEXPECTED_EOF, 0, 8);
+    check_refusal(multihash_scale_decode(scale_form, 10), MULTIHASH_UNEXPECTED_EOF, 0, 9);
     multihash_decoded scale = multihash_scale_decode(large, 10);
     CHECK(scale.status == MULTIHASH_INVALID_CODE && scale.code == UINT64_MAX && scale.size == 0 && scale.taken == 8);
 }

@@ -1,6 +1,6 @@
 //! The library for C: what `include/multihash.h` declares.
 //!
-//! Each export calls the library, and its contract restates the library's clause.
+//! Each export answers what the library answers, and its contract says so in the library's definitions.
 #![tactic(auto)]
 
 mod compare;

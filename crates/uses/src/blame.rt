@@ -38,7 +38,8 @@ pub fn reader_failed<const S: usize, R: Read>(r: &mut R) -> (Option<Multihash<S>
 }
 
 /// What `read` answers to a slice, and what it leaves. Of a digest that is too long for the buffer the
-/// size is answered, and the digest is left, so that a caller can skip it.
+/// size is answered, and the digest is left, so that a caller can skip it. Of a digest that is cut both
+/// varints are taken, and how much of the digest is not told.
 pub fn read_slice<const S: usize>(stream: &[u8]) -> (Result<Multihash<S>, Error>, &[u8])
     ensures verdict { (v : Verdict) × HasVerdict S stream.now v × Answers result.0 v }
     ensures ok { IfOk result.0 (λ m. (bytes : List ℕ) × IsEncoding (pair_of m) bytes

@@ -8,7 +8,8 @@ use multihash::Multihash;
 use multihash::list::write_list;
 use multihash::no_std_io::SliceWriter;
 
-/// Writes the encoding to the front of `places`, and says how many it fills; none where it does not fit.
+/// Writes the encoding to the front of `places`, and says how many it fills; none where it does not fit,
+/// and what the places hold then is not told.
 pub fn encode_into<const S: usize>(m: &Multihash<S>, places: &mut [u8]) -> Option<usize>
     ensures { (bytes : List ℕ) × IsEncoding (pair_of m.now) bytes
         × MatchOption result (length places.old < length bytes)
@@ -19,7 +20,7 @@ pub fn encode_into<const S: usize>(m: &Multihash<S>, places: &mut [u8]) -> Optio
 }
 
 /// Writes the encodings of some multihashes to the front of `places`, and says how many they fill; none
-/// where they do not fit.
+/// where they do not fit, and what the places hold then is not told.
 pub fn encode_all_into<const S: usize>(items: &[Multihash<S>], places: &mut [u8]) -> Option<usize>
     ensures { (bytes : List ℕ) × AreJoined (map pair_of items.now) bytes
         × MatchOption result (length places.old < length bytes)

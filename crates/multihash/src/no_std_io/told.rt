@@ -63,7 +63,7 @@ fn slice_allocates() -> bool
     <&'static mut [u8] as Write>::ALLOCATES
 }
 
-fn slice_writer_allocates() -> bool
+fn keeping_writer_allocates() -> bool
     ensures { result ≡ ⟦<SliceWriter<'static> as Write>⟧.allocates }
 {
     SliceWriter::ALLOCATES
