@@ -1,10 +1,10 @@
 use Rattle.std.proofs.Common.{◌≡◌, ◌<◌, ℕ, [], ◌∷◌, ◌++◌, length, get_or, take, drop, replicate, refl, sym, ap, ◌∙◌, arith, rules}
 use Rattle.std.proofs.lemmas.List.{take_at, length-take-le, length-replicate}
 use Rattle.multihash.specs.Varint.{varint_limit}
-use Rattle.multihash.proofs.ReadingLemmas.{Takes-joined}
+use Rattle.multihash.proofs.Readings.ReadingLemmas.{Takes-joined}
 use Rattle.multihash.proofs.OutcomeLemmas.{passed_on}
-use Rattle.multihash.proofs.ScaleCodeLemmas.{code_read}
-use Rattle.multihash.proofs.ScaleTakingLemmas.{one_item, large_code_verdict, large_code_taken, no_size_verdict, no_size_taken, large_verdict, large_taken, cut_verdict, cut_taken, whole_form, made_ok, made_verdict, passed_answer}
+use Rattle.multihash.proofs.Forms.ScaleCodeLemmas.{code_read}
+use Rattle.multihash.proofs.Forms.ScaleTakingLemmas.{one_item, large_code_verdict, large_code_taken, no_size_verdict, no_size_taken, large_verdict, large_taken, cut_verdict, cut_taken, whole_form, made_ok, made_verdict, passed_answer}
 use Rattle.multihash.proofs.multihash.Multihash.scale_decode.Goals as goal
 
 pub returns-then-code-gt-MAX-clause-verdict : goal.returns-then-code-gt-MAX-clause-verdict
