@@ -1,10 +1,10 @@
 -- One SCALE form a pair, and one verdict an input.
-use Rattle.std.proofs.Common.{◌≡◌, ℕ, zero, suc, ◌+◌, ◌/◌, ◌%◌, ◌^◌, ◌<◌, ◌≤◌, ◌⊎◌, cond, ltb, List, [], ◌∷◌, ◌++◌, length, take, drop, refl, subst, sym, ap, ◌∙◌, arith, inl, inr, length-append, append_assoc, append-nil}
+use Rattle.std.proofs.Common.{◌≡◌, ℕ, zero, suc, ◌+◌, ◌/◌, ◌%◌, ◌^◌, ◌<◌, ◌≤◌, cond, ltb, List, [], ◌∷◌, ◌++◌, length, take, drop, refl, subst, sym, ap, ◌∙◌, arith, inl, inr, length-append, append_assoc, append-nil}
 use Rattle.std.specs.List.{All}
 use Rattle.std.proofs.Math.Nat.{pow-suc, pow-zero, div-add-mod}
 use Rattle.std.proofs.lemmas.Nat.{mod_below, div_below}
 use Rattle.std.proofs.lemmas.Bool.{cases_lt, lt-ltb, le-ltb}
-use Rattle.std.proofs.lemmas.List.{take_at, take-append-drop, length-take-le}
+use Rattle.std.proofs.lemmas.List.{take_at, drop_at, take-append-drop, length-take-le, append_cancel_left}
 use Rattle.std.proofs.lemmas.List.Elements.{All-nil, All-cons, All-take, All-head, All-same}
 use Rattle.multihash.specs.Bytes.{IsBytes, IsBeginning, place_value}
 use Rattle.multihash.specs.Pair.{Pair}
@@ -13,7 +13,6 @@ use Rattle.multihash.specs.Verdict.{Verdict, accepted, invalid_size, invalid_cod
 use Rattle.multihash.specs.Scale.{IsScaleCode, IsScale, HasScaleSize, HasScaleVerdict}
 use Rattle.multihash.proofs.Varints.DigitLemmas.{place_value-nil, place_value-cons, place_value_unique}
 use Rattle.multihash.proofs.Varints.MarkedLemmas.{All-append_right}
-use Rattle.multihash.proofs.Readings.VerdictLemmas.{same_cut}
 
 -- a number in so many digits
 record FixedDigits (base count n : ℕ) : Type 0 where
@@ -62,84 +61,56 @@ scale_same p a b h k =
 pub scale_length : (p : Pair) (bytes : List ℕ) → IsScale p bytes → length bytes ≡ 9 + length p.digest
 scale_length p bytes h = omega (arith, ap length h.spelled, length-append h.code (length p.digest ∷ p.digest), h.is_code.eight)
 
--- ---- the verdict
+-- ---- the verdict, computed
 
 -- the verdict on what follows a code in range
-scale_behind : ℕ → ℕ → List ℕ → Verdict
+abbrev scale_behind : ℕ → ℕ → List ℕ → Verdict
 scale_behind S code [] = unexpected_eof
 scale_behind S code (size ∷ rest) =
     cond (ltb S size) (invalid_size size)
     (cond (ltb (length rest) size) unexpected_eof (accepted (record { code = code; digest = take size rest })))
 
-scale_judged : ℕ → ℕ → List ℕ → Verdict
+abbrev scale_judged : ℕ → ℕ → List ℕ → Verdict
 scale_judged S code rest = cond (ltb code varint_limit) (scale_behind S code rest) (invalid_code code)
 
--- too short for a code, or judged by the code and what follows
-abbrev ScaleTrace : ℕ → List ℕ → Verdict → Type 0
-ScaleTrace S x v =
-    ((length x < 8) × (v ≡ unexpected_eof))
-    ⊎ ((code : ℕ) × (bytes : List ℕ) × (rest : List ℕ) × IsScaleCode code bytes × (x ≡ bytes ++ rest) × (v ≡ scale_judged S code rest))
+-- k is 8, and a variable, so that `take` stays as it is
+abbrev found : ℕ → ℕ → List ℕ → Verdict
+found k S x = cond (ltb (length x) k) unexpected_eof (scale_judged S (place_value 256 (take k x)) (drop k x))
 
-scale_trace : (S : ℕ) (x : List ℕ) (v : Verdict) → HasScaleVerdict S x v → ScaleTrace S x v
-unfolding scale_judged scale_behind
-scale_trace S x (accepted p) (bytes, rest, h, fits, cut) =
-    inr (
-      p.code,
-      h.code,
-      length p.digest ∷ (p.digest ++ rest),
-      h.is_code,
-      cut ∙ (ap (λ (z : List ℕ). z ++ rest) h.spelled ∙ append_assoc h.code (length p.digest ∷ p.digest) rest),
-      rw (
-        lt-ltb p.code varint_limit h.in_range,
-        le-ltb S (length p.digest) fits,
-        le-ltb (length (p.digest ++ rest)) (length p.digest) (omega (arith, length-append p.digest rest)),
-        take_at p.digest rest (length p.digest) refl,
-      ) refl,
-    )
-scale_trace S x (invalid_code code) (bytes, rest, is_code, above, cut) =
-    inr (code, bytes, rest, is_code, cut, rw (le-ltb code varint_limit above) refl)
-scale_trace S x (invalid_size size) (rest, h, over) =
-    inr (h.code, h.code_bytes, size ∷ rest, h.is_code, h.cut, rw (lt-ltb h.code varint_limit h.in_range, lt-ltb S size over) refl)
-scale_trace S x (faulty fault) h = absurd h
-scale_trace S x unexpected_eof (inl short) = inl (short, refl)
-scale_trace S x unexpected_eof (inr (inl (code, is_code, below))) =
-    inr (code, x, [], is_code, sym (append-nil x), rw (lt-ltb code varint_limit below) refl)
-scale_trace S x unexpected_eof (inr (inr (size, rest, h, within, short))) =
-    inr (
-      h.code,
-      h.code_bytes,
-      size ∷ rest,
-      h.is_code,
-      h.cut,
-      rw (lt-ltb h.code varint_limit h.in_range, le-ltb S size within, lt-ltb (length rest) size short) refl,
-    )
+found_behind : (k S code : ℕ) (x bytes rest : List ℕ) → k ≡ 8 → IsScaleCode code bytes → x ≡ bytes ++ rest → found k S x ≡ scale_judged S code rest
+found_behind k S code x bytes rest eight is cut =
+    let long : length bytes ≡ k = is.eight ∙ sym eight in
+    rw (cut, le-ltb (length (bytes ++ rest)) k (omega (arith, length-append bytes rest, long)), take_at bytes rest k long, drop_at bytes rest k long, is.value) refl
 
-no_code : (code : ℕ) (x bytes rest : List ℕ) → length x < 8 → IsScaleCode code bytes → x ≡ bytes ++ rest → ⊥
-no_code code x bytes rest short is_code cut = omega (arith, ap length cut, length-append bytes rest, is_code.eight)
-
-scale_trace_unique : (S : ℕ) (x : List ℕ) (v w : Verdict) → ScaleTrace S x v → ScaleTrace S x w → v ≡ w
-scale_trace_unique S x v w (inl h) (inl k) = h.1 ∙ sym k.1
-scale_trace_unique S x v w (inl h) (inr (n, b, q, k, e, d)) = absurd (no_code n x b q h.0 k e)
-scale_trace_unique S x v w (inr (m, a, r, h, c, e)) (inl k) = absurd (no_code m x a r k.0 h c)
-scale_trace_unique S x v w (inr (m, a, r, h, c, e)) (inr (n, b, q, k, d, f)) =
-    let cut = same_cut a b r q (h.eight ∙ sym k.eight) (sym c ∙ d) in
-    let codes : m ≡ n = sym h.value ∙ (ap (place_value 256) cut.0 ∙ k.value) in
-    cc (e, f, codes, cut.1)
+found_is : (k S : ℕ) (x : List ℕ) (v : Verdict) → k ≡ 8 → HasScaleVerdict S x v → found k S x ≡ v
+found_is k S x (accepted p) eight (bytes, rest, h, fits, cut) =
+    found_behind k S p.code x h.code (length p.digest ∷ (p.digest ++ rest)) eight h.is_code
+    (cut ∙ (ap (λ (z : List ℕ). z ++ rest) h.spelled ∙ append_assoc h.code (length p.digest ∷ p.digest) rest))
+    ∙ rw (
+      lt-ltb p.code varint_limit h.in_range,
+      le-ltb S (length p.digest) fits,
+      le-ltb (length (p.digest ++ rest)) (length p.digest) (omega (arith, length-append p.digest rest)),
+      take_at p.digest rest (length p.digest) refl,
+    ) refl
+found_is k S x (invalid_code code) eight (bytes, rest, is_code, above, cut) =
+    found_behind k S code x bytes rest eight is_code cut ∙ rw (le-ltb code varint_limit above) refl
+found_is k S x (invalid_size size) eight (rest, h, over) =
+    found_behind k S h.code x h.code_bytes (size ∷ rest) eight h.is_code h.cut ∙ rw (lt-ltb h.code varint_limit h.in_range, lt-ltb S size over) refl
+found_is k S x (faulty fault) eight h = absurd h
+found_is k S x unexpected_eof eight (inl short) = rw (lt-ltb (length x) k (omega (arith, short, eight))) refl
+found_is k S x unexpected_eof eight (inr (inl (code, is_code, below))) =
+    found_behind k S code x x [] eight is_code (sym (append-nil x)) ∙ rw (lt-ltb code varint_limit below) refl
+found_is k S x unexpected_eof eight (inr (inr (size, rest, h, within, short))) =
+    found_behind k S h.code x h.code_bytes (size ∷ rest) eight h.is_code h.cut
+    ∙ rw (lt-ltb h.code varint_limit h.in_range, le-ltb S size within, lt-ltb (length rest) size short) refl
 
 pub scale_verdict_unique : (S : ℕ) (x : List ℕ) (v w : Verdict) → HasScaleVerdict S x v → HasScaleVerdict S x w → v ≡ w
-scale_verdict_unique S x v w h k = scale_trace_unique S x v w (scale_trace S x v h) (scale_trace S x w k)
+scale_verdict_unique S x v w h k = sym (found_is 8 S x v refl h) ∙ found_is 8 S x w refl k
 
 -- a form and anything behind it
 pub scale_own : (S : ℕ) (p : Pair) (bytes rest : List ℕ) → IsScale p bytes → length p.digest ≤ S
     → HasScaleVerdict S (bytes ++ rest) (accepted p)
 scale_own S p bytes rest h fits = (bytes, rest, h, fits, refl)
-
-pub scale_begins : (p q : Pair) (a b : List ℕ) → IsScale p a → IsScale q b → IsBeginning a b → p ≡ q
-scale_begins p q a b h k (rest, cut) =
-    let first : HasScaleVerdict 255 b (accepted p) = (a, rest, h, omega (arith, h.size), cut) in
-    let second : HasScaleVerdict 255 b (accepted q) = (b, [], k, omega (arith, k.size), sym (append-nil b)) in
-    let same : accepted p ≡ accepted q = scale_verdict_unique 255 b (accepted p) (accepted q) first second in
-    cc
 
 -- two forms in front of one input are of one pair
 pub scale_split : (p q : Pair) (a b r s : List ℕ) → IsScale p a → IsScale q b → a ++ r ≡ b ++ s → (p ≡ q) × (a ≡ b) × (r ≡ s)
@@ -148,7 +119,10 @@ scale_split p q a b r s h k e =
     (a, r, h, omega (arith, h.size), refl) (b, s, k, omega (arith, k.size), e) in
     let pairs : p ≡ q = cc in
     let forms : a ≡ b = scale_same q a b (subst (λ x. IsScale x a) pairs h) k in
-    (pairs, forms, (same_cut a b r s (ap length forms) e).1)
+    (pairs, forms, append_cancel_left b r s (ap (λ x. x ++ r) (sym forms) ∙ e))
+
+pub scale_begins : (p q : Pair) (a b : List ℕ) → IsScale p a → IsScale q b → IsBeginning a b → p ≡ q
+scale_begins p q a b h k (rest, cut) = (scale_split p q a b rest [] h k (sym (append-nil b ∙ cut))).0
 
 scale_sized : (S size : ℕ) (x rest : List ℕ) → HasScaleSize size x rest → size < 256 → (v : Verdict) × HasScaleVerdict S x v
 scale_sized S size x rest h byte =
@@ -217,3 +191,7 @@ scale_verdict_exists S x bytes =
       | inl short ↦ (unexpected_eof, inl short)
       | inr long ↦ scale_from 8 S x refl bytes long
     ]
+
+-- and it is the one that is computed
+pub scale_found : (S : ℕ) (x : List ℕ) → IsBytes x → HasScaleVerdict S x (found 8 S x)
+scale_found S x bytes = let (v, h) = scale_verdict_exists S x bytes in subst (HasScaleVerdict S x) (sym (found_is 8 S x v refl h)) h

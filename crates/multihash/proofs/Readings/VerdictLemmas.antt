@@ -9,7 +9,7 @@ use Rattle.multihash.specs.Varint.{varint_limit, IsVarint}
 use Rattle.multihash.specs.Encoding.{IsEncoding}
 use Rattle.multihash.specs.Verdict.{Verdict, accepted, invalid_size, invalid_code, faulty, unexpected_eof, BeginsWith, HasSize, HasVerdict, HasWholeVerdict}
 use Rattle.multihash.proofs.Varints.MarkedLemmas.{All-append_right}
-use Rattle.multihash.proofs.Varints.VarintLemmas.{varint_exists, varint_unique, Front, number, fault, HasFront, front_unique, front_exists}
+use Rattle.multihash.proofs.Varints.VarintLemmas.{varint_exists, varint_unique, Front, number, fault, HasFront, front_unique, front_of, front_of_has, front_exists}
 
 -- ---- encodings
 
@@ -58,7 +58,7 @@ encoding_exists p code size =
 -- ---- one verdict
 
 -- the verdict on a size and what follows it
-judged : ℕ → ℕ → Front → Verdict
+abbrev pub judged : ℕ → ℕ → Front → Verdict
 judged S code (number size rest) =
     cond (ltb (digest_limit S) size) (invalid_size size)
     (cond (ltb (length rest) size) unexpected_eof (accepted (record { code = code; digest = take size rest })))
@@ -83,7 +83,6 @@ trace_size S size x rest v h e =
     (number h.code (h.size_bytes ++ rest), (h.code_bytes, h.is_code, h.cut), (number size rest, (h.size_bytes, h.is_size, refl), e))
 
 trace_pair : (S : ℕ) (x rest : List ℕ) (p : Pair) → BeginsWith p x rest → FitsBuffer S p → Trace S x (accepted p)
-unfolding judged
 trace_pair S x rest p b fits =
     trace_size S (length p.digest) x (p.digest ++ rest)
     (accepted p)
@@ -98,7 +97,6 @@ trace_pair S x rest p b fits =
     (rw (le-ltb (digest_limit S) (length p.digest) fits, le-ltb (length (p.digest ++ rest)) (length p.digest) (omega (arith, length-append p.digest rest)), take_at p.digest rest (length p.digest) refl) refl)
 
 trace : (S : ℕ) (x : List ℕ) (v : Verdict) → HasVerdict S x v → Trace S x v
-unfolding judged
 trace S x (accepted p) (rest, b, fits) = trace_pair S x rest p b fits
 trace S x (invalid_size size) (rest, h, over) = trace_size S size x rest (invalid_size size) h (rw (lt-ltb (digest_limit S) size over) refl)
 trace S x (invalid_code code) h = absurd h
@@ -170,6 +168,30 @@ from_front S x bytes (fault f) h = (faulty f, inl h)
 
 pub verdict_exists : (S : ℕ) (x : List ℕ) → IsBytes x → (v : Verdict) × HasVerdict S x v
 verdict_exists S x bytes = let f = front_exists x bytes in from_front S x bytes f.0 f.1
+
+-- ---- the verdict, computed
+
+abbrev follows : ℕ → Front → Verdict
+follows S (number code rest) = judged S code (front_of rest)
+follows S (fault f) = faulty f
+
+abbrev pub found : ℕ → List ℕ → Verdict
+found S x = follows S (front_of x)
+
+after_is : (S : ℕ) (x : List ℕ) (f : Front) (v : Verdict) → IsBytes x → HasFront x f → After S f v → v ≡ follows S f
+after_is S x (number code rest) v bytes (a, is, cut) (g, has, e) =
+    let behind = All-append_right (λ byte. byte < 256) a rest (All-same (λ byte. byte < 256) (a ++ rest) x (sym cut) bytes) in
+    e ∙ ap (judged S code) (front_unique rest g (front_of rest) has (front_of_has rest behind))
+after_is S x (fault f) v bytes h e = e
+
+pub verdict_is : (S : ℕ) (x : List ℕ) (v : Verdict) → IsBytes x → HasVerdict S x v → v ≡ found S x
+verdict_is S x v bytes h =
+    let (f, has, after) = trace S x v h in
+    let own = front_of_has x bytes in
+    after_is S x (front_of x) v bytes own (subst (λ (g : Front). After S g v) (front_unique x f (front_of x) has own) after)
+
+pub has_found : (S : ℕ) (x : List ℕ) → IsBytes x → HasVerdict S x (found S x)
+has_found S x bytes = let (v, h) = verdict_exists S x bytes in subst (HasVerdict S x) (verdict_is S x v bytes h) h
 
 -- ---- the verdict on the whole
 

@@ -1,15 +1,15 @@
 -- One varint a number, and one front an input.
-use Rattle.std.proofs.Common.{◌≡◌, ℕ, zero, suc, ◌+◌, ◌/◌, ◌%◌, ◌^◌, ◌<◌, ◌≤◌, List, [], ◌∷◌, ◌++◌, length, refl, sym, ap, ◌∙◌, subst, arith, inl, inr, length-append, append_assoc, append-nil, take, drop, get_or}
+use Rattle.std.proofs.Common.{◌≡◌, ℕ, zero, suc, ◌+◌, ◌-◌, cond, ltb, ◌/◌, ◌%◌, ◌^◌, ◌<◌, ◌≤◌, List, [], ◌∷◌, ◌++◌, length, refl, sym, ap, ◌∙◌, subst, arith, inl, inr, length-append, append_assoc, append-nil}
 use Rattle.std.specs.List.{All}
 use Rattle.std.proofs.Math.Nat.{pow-suc, pow-zero, mul-le-mul_left, one-le-pow, pow-le-pow_right, div-add-mod}
 use Rattle.std.proofs.lemmas.Nat.{same_from_place, mod_below, div_below}
-use Rattle.std.proofs.lemmas.Bool.{cases_lt, cases_eq}
-use Rattle.std.proofs.lemmas.List.{length-map, length-take-le, take-append-drop, drop_more, nil_from_length}
-use Rattle.std.proofs.lemmas.List.Elements.{All-nil, All-cons, All-head, All-tail, All-push, All-take, All-same}
+use Rattle.std.proofs.lemmas.Bool.{cases_lt, lt-ltb, le-ltb}
+use Rattle.std.proofs.lemmas.List.{length-map, map-append}
+use Rattle.std.proofs.lemmas.List.Elements.{All-nil, All-cons, All-head, All-tail, All-push}
 use Rattle.multihash.specs.Bytes.{IsBytes, place_value}
 use Rattle.multihash.specs.Varint.{varint_limit, most_marked, first_too_large, IsMarked, marked, IsVarint, VarintFault, insufficient, overflow, not_minimal, IsInsufficient, IsOverflow, IsNotMinimal, HasFaultyFront}
 use Rattle.multihash.proofs.Varints.DigitLemmas.{place_value-nil, place_value-cons, place_value_below, place_value_last}
-use Rattle.multihash.proofs.Varints.MarkedLemmas.{All-append_left, All-append_right, cut_unique, run_within, Run, whole, ends, run, All-marked, marked-unique, unmarked, marked-unmarked, unmarked_digits, unmarked-nil, length-unmarked}
+use Rattle.multihash.proofs.Varints.MarkedLemmas.{All-append_right, cut_unique, run_within, All-marked, marked-unique, unmarked, marked-unmarked, unmarked_digits, unmarked-nil, length-unmarked}
 
 abbrev IsDigit : ℕ → Type 0
 IsDigit d = d < 128
@@ -260,21 +260,6 @@ front_unique x (number m r) (fault g) h k = absurd (number_no_fault x m r g h k)
 front_unique x (fault f) (number n q) h k = absurd (number_no_fault x n q f k h)
 front_unique x (fault f) (fault g) h k = ap fault (fault_unique x f g h k)
 
--- too many marked bytes are an overflow
-long_overflow : (x ms q : List ℕ) → All IsMarked ms → most_marked < length ms → x ≡ ms ++ q → IsOverflow x
-long_overflow x ms q all long e = record {
-  front = take most_marked ms;
-  byte = get_or ms most_marked 0;
-  rest = drop (most_marked + 1) ms ++ q;
-  all_marked = All-take IsMarked most_marked ms all;
-  most = length-take-le most_marked ms (omega arith);
-  too_large = omega (arith, all most_marked 0 long);
-  cut = e ∙ (ap (λ (front : List ℕ). front ++ q) cut ∙ append_assoc (take most_marked ms) (get_or ms most_marked 0 ∷ drop (most_marked + 1) ms) q);
-}
-  where
-    cut : ms ≡ take most_marked ms ++ get_or ms most_marked 0 ∷ drop (most_marked + 1) ms
-    cut = sym (take-append-drop most_marked ms) ∙ ap (λ (back : List ℕ). take most_marked ms ++ back) (drop_more ms most_marked 0 long)
-
 -- digits that may end where they do are a varint
 pub varint_from_digits : (front : List ℕ) (last : ℕ) → All IsDigit front → last < 128 → length front ≤ most_marked
     → (length front ≡ most_marked → last < first_too_large) → (last ≡ 0 → front ≡ [])
@@ -298,54 +283,57 @@ varint_from_bytes ms b bytes all small few most minimal =
     (varint_from_digits (unmarked ms) b (unmarked_digits ms bytes) small (omega (arith, few, length-unmarked ms))
     (λ long. most (sym (length-unmarked ms) ∙ long)) (λ z. ap unmarked (minimal z) ∙ unmarked-nil))
 
-ends_number : (x ms : List ℕ) (b : ℕ) (r : List ℕ) → IsBytes x → All IsMarked ms → b < 128 → x ≡ ms ++ b ∷ r
-    → length ms ≤ most_marked → (length ms ≡ most_marked → b < first_too_large) → (b ≡ 0 → ms ≡ [])
-    → (f : Front) × HasFront x f
-ends_number x ms b r bytes all small e few most minimal = (
-  number (place_value 128 (unmarked ms ++ b ∷ [])) r,
-  (ms ++ b ∷ [], varint_from_bytes ms b ms_bytes all small few most minimal, e ∙ sym (append_assoc ms (b ∷ []) r)),
+-- ---- the front of an input, computed
+
+-- behind these digits, the last byte and what follows it
+abbrev ends_with : List ℕ → ℕ → List ℕ → Front
+ends_with [] b rest = number (place_value 128 (b ∷ [])) rest
+ends_with (d ∷ ds) zero rest = fault not_minimal
+ends_with (d ∷ ds) (suc b) rest = number (place_value 128 ((d ∷ ds) ++ suc b ∷ [])) rest
+
+-- behind these digits, where so many more marked bytes may come
+abbrev front_from : ℕ → List ℕ → List ℕ → Front
+front_from left ds [] = fault insufficient
+front_from zero ds (b ∷ rest) = cond (ltb b first_too_large) (ends_with ds b rest) (fault overflow)
+front_from (suc left) ds (b ∷ rest) = cond (ltb b 128) (ends_with ds b rest) (front_from left (ds ++ (b - 128) ∷ []) rest)
+
+abbrev pub front_of : List ℕ → Front
+front_of x = front_from most_marked [] x
+
+ends_has : (ds : List ℕ) (b : ℕ) (rest x : List ℕ) → All IsDigit ds → b < 128 → length ds ≤ most_marked → (length ds ≡ most_marked → b < first_too_large)
+    → x ≡ marked ds ++ b ∷ rest → HasFront x (ends_with ds b rest)
+ends_has [] b rest x digits small few most cut = (b ∷ [], varint_from_digits [] b digits small few most (λ _. refl), cut)
+ends_has (d ∷ ds) zero rest x digits small few most cut =
+    record { front = marked (d ∷ ds); rest = rest; all_marked = All-marked (d ∷ ds); some = omega arith; few = omega (arith, length-map (d ∷ ds) (λ d. d + 128), few); cut = cut }
+ends_has (d ∷ ds) (suc b) rest x digits small few most cut = (
+  marked (d ∷ ds) ++ suc b ∷ [],
+  varint_from_digits (d ∷ ds) (suc b) digits small few most (λ z. absurd (omega (arith, z))),
+  cut ∙ sym (append_assoc (marked (d ∷ ds)) (suc b ∷ []) rest),
 )
-  where
-    ms_bytes : IsBytes ms
-    ms_bytes = All-append_left (λ byte. byte < 256) ms (b ∷ r) (All-same (λ byte. byte < 256) (ms ++ b ∷ r) x (sym e) bytes)
 
--- an input with an unmarked byte has a front
-ends_front : (x ms : List ℕ) (b : ℕ) (r : List ℕ) → IsBytes x → All IsMarked ms → b < 128 → x ≡ ms ++ b ∷ r
-    → (f : Front) × HasFront x f
-ends_front x ms b r bytes all small e =
-    elim (cases_lt most_marked (length ms)) [
-      | inl long ↦ (fault overflow, long_overflow x ms (b ∷ r) all long e)
-      | inr few ↦ elim (cases_lt 0 (length ms)) [
-        | inl some ↦ elim (cases_eq b 0) [
-          | inl null ↦ (fault not_minimal, record { front = ms; rest = r; all_marked = all; some = some; few = few; cut = e ∙ ap (λ (c : ℕ). ms ++ c ∷ r) null })
-          | inr pos ↦ nonzero few pos
-        ]
-        | inr none ↦ ends_number x ms b r bytes all small e few (λ most. absurd (omega arith)) (λ z. nil_from_length ms (omega arith))
-      ]
+front_has : (left : ℕ) (ds y x : List ℕ) → All IsDigit ds → length ds + left ≡ most_marked → IsBytes y → x ≡ marked ds ++ y → HasFront x (front_from left ds y)
+front_has left ds [] x digits room bytes cut = rw (cut, append-nil (marked ds)) (record { few = omega (arith, length-map ds (λ d. d + 128), room); all_marked = All-marked ds })
+front_has zero ds (b ∷ rest) x digits room bytes cut =
+    elim (cases_lt b first_too_large) [
+      | inl low ↦ rw (lt-ltb b first_too_large low) (ends_has ds b rest x digits (omega arith) (omega (arith, room)) (λ _. low) cut)
+      | inr high ↦ rw (le-ltb b first_too_large high)
+          (record { front = marked ds; byte = b; rest = rest; all_marked = All-marked ds; most = omega (arith, length-map ds (λ d. d + 128), room); too_large = high; cut = cut })
     ]
-  where
-    nonzero : length ms ≤ most_marked → (b ≡ 0 → ⊥) → (f : Front) × HasFront x f
-    nonzero few pos =
-        elim (cases_lt b first_too_large) [
-          | inl low ↦ ends_number x ms b r bytes all small e few (λ most. low) (λ z. absurd (pos z))
-          | inr high ↦ elim (cases_eq (length ms) most_marked) [
-            | inl most ↦ (fault overflow, record { front = ms; byte = b; rest = r; all_marked = all; most = most; too_large = high; cut = e })
-            | inr fewer ↦ ends_number x ms b r bytes all small e few (λ most. absurd (fewer most)) (λ z. absurd (pos z))
-          ]
-        ]
+front_has (suc left) ds (b ∷ rest) x digits room bytes cut =
+    elim (cases_lt b 128) [
+      | inl small ↦ rw (lt-ltb b 128 small) (ends_has ds b rest x digits small (omega (arith, room)) (λ most. absurd (omega (arith, room, most))) cut)
+      | inr large ↦
+          let byte = All-head (λ n. n < 256) b rest bytes in
+          let back : b - 128 + 128 ≡ b = omega arith in
+          let more : marked (ds ++ (b - 128) ∷ []) ≡ marked ds ++ b ∷ [] = map-append (λ d. d + 128) ds ((b - 128) ∷ []) ∙ ap (λ n. marked ds ++ n ∷ []) back in
+          rw (le-ltb b 128 large)
+          (front_has left (ds ++ (b - 128) ∷ []) rest x (All-push IsDigit ds (b - 128) digits (omega arith)) (omega (arith, room, length-append ds ((b - 128) ∷ [])))
+          (All-tail (λ n. n < 256) b rest bytes) (cut ∙ (sym (append_assoc (marked ds) (b ∷ []) rest) ∙ ap (λ z. z ++ rest) (sym more))))
+    ]
 
--- an input of marked bytes has a front
-whole_front : (x : List ℕ) → All IsMarked x → (f : Front) × HasFront x f
-whole_front x all =
-    elim (cases_lt most_marked (length x)) [
-      | inl long ↦ (fault overflow, long_overflow x x [] all long (sym (append-nil x)))
-      | inr few ↦ (fault insufficient, record { few = few; all_marked = all })
-    ]
+pub front_of_has : (x : List ℕ) → IsBytes x → HasFront x (front_of x)
+front_of_has x bytes = front_has most_marked [] x x (All-nil IsDigit) refl bytes refl
 
 -- an input of bytes has a front
 pub front_exists : (x : List ℕ) → IsBytes x → (f : Front) × HasFront x f
-front_exists x bytes = from_run (run x)
-  where
-    from_run : Run x → (f : Front) × HasFront x f
-    from_run (whole all) = whole_front x all
-    from_run (ends ms b r all small e) = ends_front x ms b r bytes all small e
+front_exists x bytes = (front_of x, front_of_has x bytes)
