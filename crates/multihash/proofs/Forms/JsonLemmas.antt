@@ -1,9 +1,9 @@
 -- The JSON list of a pair tells the pair.
-use Rattle.std.proofs.Common.{◌≡◌, ℕ, ◌+◌, ◌<◌, List, [], ◌∷◌, ◌++◌, length, map, refl, sym, ap, ◌∙◌, subst, arith, Bool}
+use Rattle.std.proofs.Common.{◌≡◌, ℕ, ◌+◌, ◌<◌, List, [], ◌∷◌, ◌++◌, length, map, refl, sym, ap, ◌∙◌, subst, arith}
 use Rattle.std.specs.Prelude.{ℤ, Float}
 use Rattle.std.specs.List.{All}
 use Rattle.std.proofs.lemmas.List.Elements.{All-append, All-push, All-same, All-map, All-head}
-use Rattle.serde_json.specs.Data.{Num, Data, null, boolean, number, unsigned, negative, float, string, array, object, Items, Members}
+use Rattle.serde_json.specs.Data.{Data, null, number, unsigned, negative, float, string, array, Items}
 use Rattle.serde_json.specs.View.{items_of}
 use Rattle.multihash.specs.Bytes.{IsBytes}
 use Rattle.multihash.specs.Pair.{Pair}
@@ -99,21 +99,8 @@ pub no_negative : (before after : List Data) (z : ℤ) (bytes : List ℕ)
     → ¬ (IsByteArray (array (items_of (before ++ number (negative z) ∷ after))) bytes)
 no_negative before after z = no_other_member before after (number (negative z)) (λ n e. cc)
 
-pub no_array_inside : (before after : List Data) (items : Items) (bytes : List ℕ)
-    → ¬ (IsByteArray (array (items_of (before ++ array items ∷ after))) bytes)
-no_array_inside before after items = no_other_member before after (array items) (λ n e. cc)
-
 pub no_text : (text bytes : List ℕ) → ¬ (IsByteArray (string text) bytes)
 no_text text bytes h = let e = h.array in cc
 
 pub no_null : (bytes : List ℕ) → ¬ (IsByteArray null bytes)
 no_null bytes h = let e = h.array in cc
-
-pub no_boolean : (b : Bool) (bytes : List ℕ) → ¬ (IsByteArray (boolean b) bytes)
-no_boolean b bytes h = let e = h.array in cc
-
-pub no_number : (n : Num) (bytes : List ℕ) → ¬ (IsByteArray (number n) bytes)
-no_number n bytes h = let e = h.array in cc
-
-pub no_object : (ms : Members) (bytes : List ℕ) → ¬ (IsByteArray (object ms) bytes)
-no_object ms bytes h = let e = h.array in cc
