@@ -12,15 +12,10 @@ use Rattle.multihash.proofs.Readings.VerdictLemmas.{encoding_same}
 use Rattle.multihash.proofs.Forms.JsonLemmas.{no_256, no_text, no_null, no_negative, no_float, array_unique}
 
 json_list_encodes : IsEncoding (pair 0 (codes "A")) (0 ∷ 1 ∷ 65 ∷ [])
-json_list_encodes =
-    record { code = 0 ∷ []; size = 1 ∷ []; is_code = varint_0; is_size = varint_1; spelled = refl }
+json_list_encodes = record { code = 0 ∷ []; size = 1 ∷ []; is_code = varint_0; is_size = varint_1; spelled = refl }
 
 json_list : IsJsonList (pair 0 (codes "A")) (array (item (number (unsigned 0)) (item (number (unsigned 1)) (item (number (unsigned 65)) no_items))))
-json_list = record {
-  encoding = 0 ∷ 1 ∷ 65 ∷ [];
-  encodes = json_list_encodes;
-  lists = refl;
-}
+json_list = record { encoding = 0 ∷ 1 ∷ 65 ∷ []; encodes = json_list_encodes; lists = refl }
 
 -- the code's varint is two members
 json_list_128 : IsJsonList (pair 128 []) (number_array (128 ∷ 1 ∷ 0 ∷ []))
@@ -49,8 +44,7 @@ text_aa = no_text (codes "AA")
 
 -- the members are the bytes, in their order
 not_another_order : ¬ (IsByteArray (number_array (1 ∷ 2 ∷ [])) (2 ∷ 1 ∷ []))
-not_another_order h =
-    omega (arith, ap (λ (z : List ℕ). get_or z 0 0) (array_unique (1 ∷ 2 ∷ []) (2 ∷ 1 ∷ []) h.array))
+not_another_order h = omega (arith, ap (λ (z : List ℕ). get_or z 0 0) (array_unique (1 ∷ 2 ∷ []) (2 ∷ 1 ∷ []) h.array))
 
 -- a list is that of the pair's encoding
 lists_no_other_bytes : ¬ (IsJsonList (pair 0 (codes "A")) (number_array (0 ∷ 1 ∷ 66 ∷ [])))

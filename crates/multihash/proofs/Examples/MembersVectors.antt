@@ -30,13 +30,11 @@ leading = (refl, refl, refl, refl)
 
 leads_with_a_byte : (m : Value) (ms : List Value) → view m ≡ number (unsigned 7)
     → member_bytes (m ∷ ms) ≡ 7 ∷ member_bytes ms
-leads_with_a_byte m ms is =
-    ap (λ (d : Data). byte_then (byte_of_data d) (member_bytes ms)) is
+leads_with_a_byte m ms is = ap (λ (d : Data). byte_then (byte_of_data d) (member_bytes ms)) is
 
 stops_at_no_byte : (m : Value) (ms : List Value) → view m ≡ number (unsigned 256)
     → member_bytes (m ∷ ms) ≡ []
-stops_at_no_byte m ms is =
-    ap (λ (d : Data). byte_then (byte_of_data d) (member_bytes ms)) is
+stops_at_no_byte m ms is = ap (λ (d : Data). byte_then (byte_of_data d) (member_bytes ms)) is
 
 largest_is_byte : (m : Value) → view m ≡ number (unsigned 255) → is_byte m ≡ true
 largest_is_byte m is = ap (λ (d : Data). is_some (byte_of_data d)) is

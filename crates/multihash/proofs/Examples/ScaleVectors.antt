@@ -135,23 +135,11 @@ no_nine_bytes code h = omega (arith, h.eight)
 -- and the digest, with nothing behind it
 no_byte_behind : ¬ (IsScale (pair 0 []) (zeros ++ 0 ∷ 7 ∷ []))
 no_byte_behind h =
-    omega (
-      arith,
-      ap (λ (z : List ℕ). length z) h.spelled,
-      h.is_code.eight,
-      length-append h.code
-          (0 ∷ []),
-    )
+    omega (arith, ap (λ (z : List ℕ). length z) h.spelled, h.is_code.eight, length-append h.code (0 ∷ []))
 
 no_digest_without_size : ¬ (IsScale (pair 0 (7 ∷ [])) (zeros ++ 7 ∷ []))
 no_digest_without_size h =
-    omega (
-      arith,
-      ap (λ (z : List ℕ). length z) h.spelled,
-      h.is_code.eight,
-      length-append h.code
-          (1 ∷ 7 ∷ []),
-    )
+    omega (arith, ap (λ (z : List ℕ). length z) h.spelled, h.is_code.eight, length-append h.code (1 ∷ 7 ∷ []))
 
 size_behind_code : HasScaleSize 5 (zeros ++ 5 ∷ 7 ∷ []) (7 ∷ [])
 size_behind_code = record { code = 0; code_bytes = zeros; is_code = zero_code; in_range = omega arith; cut = refl }
@@ -159,19 +147,8 @@ size_behind_code = record { code = 0; code_bytes = zeros; is_code = zero_code; i
 -- the size is the byte behind the eight
 no_size_in_code : ¬ (HasScaleSize 0 (zeros ++ 5 ∷ []) (5 ∷ []))
 no_size_in_code h =
-    omega (
-      arith,
-      ap (λ (z : List ℕ). length z) h.cut,
-      h.is_code.eight,
-      length-append h.code_bytes (0 ∷ 5 ∷ []),
-    )
+    omega (arith, ap (λ (z : List ℕ). length z) h.cut, h.is_code.eight, length-append h.code_bytes (0 ∷ 5 ∷ []))
 
 no_other_rest : ¬ (HasScaleSize 5 (zeros ++ 5 ∷ 7 ∷ []) [])
 no_other_rest h =
-    omega (
-      arith,
-      ap (λ (z : List ℕ). length z) h.cut,
-      h.is_code.eight,
-      length-append h.code_bytes
-          (5 ∷ []),
-    )
+    omega (arith, ap (λ (z : List ℕ). length z) h.cut, h.is_code.eight, length-append h.code_bytes (5 ∷ []))

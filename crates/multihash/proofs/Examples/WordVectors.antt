@@ -51,8 +51,7 @@ digits_are = (refl, refl, refl, refl)
 -- ---- marked bytes at the front
 
 begins_marked : BeginsMarked 2 (0x80 ∷ 0xff ∷ 0x05 ∷ [])
-begins_marked =
-    record { enough = omega arith; all_marked = all_marked (0x80 ∷ 0xff ∷ []) refl }
+begins_marked = record { enough = omega arith; all_marked = all_marked (0x80 ∷ 0xff ∷ []) refl }
 
 begins_with_no_third_mark : ¬ (BeginsMarked 3 (0x80 ∷ 0xff ∷ 0x05 ∷ []))
 begins_with_no_third_mark h =
@@ -75,8 +74,7 @@ finds_none : (n : ℕ) → IsFoundFront (0x80 ∷ []) n 0
 finds_none n = record { some = λ more. absurd (omega (arith, more)); within = omega arith; none = λ e. begins_no_varint }
 
 finds_no_other_number : ¬ (IsFoundFront (5 ∷ []) 6 1)
-finds_no_other_number h =
-    not_another 6 5 (5 ∷ []) varint_5 (λ e. omega (arith, e)) (h.some (omega arith))
+finds_no_other_number h = not_another 6 5 (5 ∷ []) varint_5 (λ e. omega (arith, e)) (h.some (omega arith))
 
 finds_within_the_input : ¬ (IsFoundFront (5 ∷ []) 5 2)
 finds_within_the_input h = omega (arith, h.within)
