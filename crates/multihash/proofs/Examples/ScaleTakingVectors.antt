@@ -121,8 +121,11 @@ takes_no_other_size h =
 
 takes_no_other_code : ¬ (TakesAtScaleRefusal 4 (of_code 9223372036854775808) (Some all_255) (Some []))
 takes_no_other_code h =
-    omega (arith, ap code_named (claimed all_255 h.taken (invalid_code 9223372036854775808) (invalid_code 18446744073709551615) h.takes
-    (h.code 9223372036854775808 refl).0 (scale_code_above [])))
+    omega (
+      arith,
+      ap code_named (claimed all_255 h.taken (invalid_code 9223372036854775808) (invalid_code 18446744073709551615) h.takes
+          (h.code 9223372036854775808 refl).0 (scale_code_above [])),
+    )
 
 -- no end where a pair is whole, and none behind a code that is refused
 ends_not_behind_pair : ¬ (TakesAtScaleRefusal 4 (of_io eof) (Some (zeros ++ 0 ∷ [])) (Some []))

@@ -15,7 +15,7 @@ use Rattle.multihash.specs.Answer.{IsRefusal}
 use Rattle.multihash.specs.Taking.{TakesShortestSettling, TakesUnsettled}
 use Rattle.multihash.specs.Streams.{TakesPairs, StopsAfterPairs, AppendsPartOfPairs}
 use Rattle.multihash.proofs.Readings.ReadingLemmas.{Takes-none}
-use Rattle.multihash.proofs.Writings.WritingLemmas.{some_items}
+use Rattle.multihash.proofs.Writings.WritingLemmas.{length_of_not_nil}
 use Rattle.multihash.proofs.Forms.StreamLemmas.{TakesPairs-none, part_of_all}
 use Rattle.multihash.proofs.Readings.VerdictLemmas.{verdict_unique}
 use Rattle.multihash.proofs.Readings.SettlingLemmas.{late_settles, none_settles}
@@ -302,7 +302,7 @@ no_part_is_the_whole h =
     let p = part_of_all AppendsAtEnd [] (0 ∷ 1 ∷ 65 ∷ []) (a ∷ []) (0 ∷ 1 ∷ 65 ∷ []) h joined_one in
     omega (
       arith,
-      some_items p.proper.0 p.proper.1,
+      length_of_not_nil p.proper.0 p.proper.1,
       ap (λ (z : List ℕ). length z) p.proper.2,
       length-append p.part p.proper.0,
       ap (λ (z : List ℕ). length z) p.stands,

@@ -5,10 +5,10 @@ use Rattle.multihash.specs.Bytes.{IsProperBeginning}
 use Rattle.multihash.specs.Writing.{AppendsPart}
 use Rattle.multihash.proofs.OutcomeLemmas.{OnErr-always}
 
--- a list that isn't empty has some items
-pub some_items : (xs : List ℕ) → xs ≢ [] → 0 < length xs
-some_items [] some = absurd (some refl)
-some_items (x ∷ xs) some = omega arith
+-- a list that isn't empty has a length
+pub length_of_not_nil : (xs : List ℕ) → xs ≢ [] → 0 < length xs
+length_of_not_nil [] some = absurd (some refl)
+length_of_not_nil (x ∷ xs) some = omega arith
 
 -- the first n bytes of what is left are the next of the whole
 pub joined-take-drop : (whole done left : List ℕ) (n : ℕ) → whole ≡ done ++ left → whole ≡ (done ++ take n left) ++ drop n left
@@ -27,7 +27,7 @@ IsProperBeginning-take whole done left n e less =
 pub IsProperBeginning-append : (x y z : List ℕ) → IsProperBeginning x y → IsProperBeginning x (y ++ z)
 IsProperBeginning-append x y z h = (
   h.0 ++ z,
-  (λ none. omega (arith, ap length none, length-append h.0 z, some_items h.0 h.1)),
+  (λ none. omega (arith, ap length none, length-append h.0 z, length_of_not_nil h.0 h.1)),
   ap (λ l. l ++ z) h.2 ∙ append_assoc x h.0 z,
 )
 
