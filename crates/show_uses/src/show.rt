@@ -1,14 +1,14 @@
 //! One line for each use, on fixed bytes.
-use crate::code_table::Entry;
-use crate::content_id::ContentId;
-use crate::retries::Retries;
-use crate::streams::{Held, Room};
-use crate::{blame, block_store, bytes, code_table, dump, forms, merkle, peer_id, readme, values};
 use anyhow::{Context, Result};
 use multihash::Multihash;
 use std::alloc::Global;
 use std::collections::{BTreeMap, HashMap};
 use std::fmt::Write;
+use uses::code_table::Entry;
+use uses::content_id::ContentId;
+use uses::retries::Retries;
+use uses::streams::{Held, Room};
+use uses::{blame, block_store, bytes, code_table, dump, forms, merkle, peer_id, readme, values};
 
 const SHA2_256: u64 = 0x12;
 
