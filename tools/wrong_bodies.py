@@ -199,7 +199,9 @@ def main():
         proved = given.proved or f"{folder}/proved"
         crates = lanes.crates_of(given.root)
         asked = words_of(given.crates) or {it: set() for it in crates}
-        known, unproved = copy_of.prove(given.root, proved, crates, jobs, say)
+        needed = [it for crate in asked if crate in crates for it in [*lanes.below(crates, crate), crate]]
+        needed = {it: crates[it] for it in crates if it in needed}
+        known, unproved = copy_of.prove(given.root, proved, needed, jobs, say)
         for crate in unproved:
             judged.fails(crate, "it is not proved without an edit")
         works = []

@@ -18,9 +18,12 @@ def parts_of(folder):
 
 def copy(root, to, crates):
     """Copies what a check reads, and what the crates' tests run on, without what earlier checks left."""
+    if os.path.realpath(root) == os.path.realpath(to):
+        return
     os.makedirs(f"{to}/crates", exist_ok=True)
-    for name in ("crates.txt", "HANDLES"):
-        shutil.copy(f"{root}/{name}", f"{to}/{name}")
+    shutil.copy(f"{root}/HANDLES", f"{to}/HANDLES")
+    with open(f"{to}/crates.txt", "w", encoding="utf-8") as it:
+        it.write(lanes.lines_of_crates(root, {*crates, *os.listdir(f"{to}/crates")}))
     for crate in crates:
         source, target = f"{root}/crates/{crate}", f"{to}/crates/{crate}"
         if os.path.isdir(target) and parts_of(source) == parts_of(target):
