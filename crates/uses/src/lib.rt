@@ -14,6 +14,4 @@ pub mod places;
 pub mod readme;
 pub mod retries;
 pub mod streams;
-#[cfg(test)]
-mod tests;
 pub mod values;

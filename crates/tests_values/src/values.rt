@@ -1,15 +1,15 @@
 //! Worked values of comparing, hashing, truncating and resizing.
-use super::kinds::{LARGEST_CODE, is_size};
-use crate::block_store::{put_hashed, put_ordered};
-use crate::peer_id::same_iff_encoded_alike;
-use crate::values::{
-    equal_iff_same, resized_is_same, same_as_is_an_equivalence, sort_them, truncate_twice,
-};
+use fakes::kinds::{LARGEST_CODE, is_size};
 use multihash::{Multihash, MultihashGeneric, list, no_std_io};
 use std::cmp::Ordering;
 use std::collections::{BTreeMap, HashMap};
 use std::hash::{DefaultHasher, Hash, Hasher};
 use std::test::Fail;
+use uses::block_store::{put_hashed, put_ordered};
+use uses::peer_id::same_iff_encoded_alike;
+use uses::values::{
+    equal_iff_same, resized_is_same, same_as_is_an_equivalence, sort_them, truncate_twice,
+};
 
 fn hash_of<T: Hash>(x: &T) -> u64 {
     let mut state = DefaultHasher::new();

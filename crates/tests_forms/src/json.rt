@@ -1,12 +1,12 @@
 //! Worked values of the JSON form.
 ghost use Rattle.std.specs.Prelude.{◌≤◌};
 
-use super::kinds::{LARGEST_CODE, is_code, is_eof, is_size};
-use crate::forms::json_back;
+use fakes::kinds::{LARGEST_CODE, is_code, is_eof, is_size};
 use multihash::{Error, Multihash};
 use serde_json::{Value, json};
 use std::alloc::{AllocError, Global};
 use std::test::Fail;
+use uses::forms::json_back;
 
 const DIGEST: [u8; 32] = [
     159, 228, 204, 198, 222, 22, 114, 79, 58, 48, 199, 232, 242, 84, 243, 198, 71, 25, 134, 172,

@@ -1,11 +1,11 @@
 //! Varints, both ways.
-use super::fakes::{Counts, Cuts};
-use super::kinds::is_code;
-use crate::bytes::bytes_back;
+use fakes::kinds::is_code;
+use fakes::readers::{Counts, Cuts};
 use multihash::Multihash;
 use std::alloc::Global;
 use std::process::Abort;
 use std::test::Fail;
+use uses::bytes::bytes_back;
 
 const VARINTS: [(u64, &[u8]); 13] = [
     (0, &[0x00]),

@@ -1,9 +1,9 @@
 //! Exactly one of the tests of an error is true.
-use crate::bytes::{one_of_four, one_of_seven};
 use multihash::Multihash;
 use multihash::no_std_io::{self, Read, Write};
 use serde_json::Value;
 use std::test::Fail;
+use uses::bytes::{one_of_four, one_of_seven};
 
 #[test]
 fn one_test_of_seven_is_true(rt: HostRuntime) -> Result<(), Fail> {

@@ -1,9 +1,9 @@
 //! Codes at the limit, and who refuses a larger one.
-use super::kinds::{LARGEST_CODE, is_code, is_size};
-use crate::blame::{code_refused_by_reading, decode_slice, refused_code};
-use crate::code_table::{self, Entry};
+use fakes::kinds::{LARGEST_CODE, is_code, is_size};
 use multihash::{Error, Multihash};
 use std::test::Fail;
+use uses::blame::{code_refused_by_reading, decode_slice, refused_code};
+use uses::code_table::{self, Entry};
 
 const LARGER: [u64; 3] = [9223372036854775808, 9223372036854775809, u64::MAX];
 

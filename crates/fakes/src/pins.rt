@@ -2,7 +2,8 @@
 ghost use Rattle.std.specs.Prelude.{◌≡◌, ◌↔◌, ℕ, List, Some, None, true, false, if◌then◌else◌};
 ghost use Rattle.multihash.specs.Places.{AppendsAtEnd};
 
-use super::fakes::{Counts, CountsWrites, Cuts, Drip, FailAt, FailWrite, Silent};
+use crate::readers::{Counts, Cuts, FailAt, Silent};
+use crate::writers::{CountsWrites, Drip, FailWrite};
 use multihash::no_std_io::{Read, Write};
 
 fn cuts(c: &Cuts)

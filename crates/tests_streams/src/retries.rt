@@ -1,8 +1,8 @@
 //! A reader that asks another one again where it failed.
-use super::fakes::{Cuts, FailAt};
-use super::kinds::is_link_down;
-use crate::retries::Retries;
+use fakes::kinds::is_link_down;
+use fakes::readers::{Cuts, FailAt};
 use multihash::{Error, Multihash};
+use uses::retries::Retries;
 
 const STREAM: [u8; 5] = [0, 2, 7, 8, 9];
 

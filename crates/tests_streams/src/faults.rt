@@ -1,7 +1,8 @@
 //! Readers and writers that cut, end and fail, at each call and in each room: what was taken or
 //! appended then, and that a fault comes out as it went in.
-use super::fakes::{Cuts, Drip, FailAt, FailWrite, Silent};
-use super::kinds::{is_disk_gone, is_eof, is_full, is_link_down, is_memory};
+use fakes::kinds::{is_disk_gone, is_eof, is_full, is_link_down, is_memory};
+use fakes::readers::{Cuts, FailAt, Silent};
+use fakes::writers::{Drip, FailWrite};
 use multihash::list::{read_list, write_list};
 use multihash::no_std_io::{Read, Write};
 use multihash::{Error, Multihash};

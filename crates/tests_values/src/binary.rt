@@ -1,11 +1,11 @@
 //! Worked values of the type and of its binary form.
-use super::fakes::Cuts;
-use super::kinds::{LARGEST_CODE, is_code};
-use crate::bytes::{accepted_back, bytes_back, fills};
+use fakes::kinds::{LARGEST_CODE, is_code};
+use fakes::readers::Cuts;
 use multihash::no_std_io::Read;
 use multihash::{Error, Multihash, laws};
 use std::process::Abort;
 use std::test::Fail;
+use uses::bytes::{accepted_back, bytes_back, fills};
 
 // Eight marked bytes, one more and a zero.
 fn nine_bytes_and_zero(marked: u8, ninth: u8) -> [u8; 10] {

@@ -1,7 +1,7 @@
 //! Memory that is refused. A test whose name begins with `refused` passes where nothing is refused.
 //! Where a request is, it looks at what stands then, and fails with `REFUSED`:
 //! `tools/refuse_memory.sh` refuses each request in turn, and counts them so.
-use super::kinds::{LARGEST_CODE, is_code, is_memory};
+use fakes::kinds::{LARGEST_CODE, is_code, is_memory};
 use multihash::list::{read_list, write_list};
 use multihash::no_std_io::Write;
 use multihash::{Error, Multihash};

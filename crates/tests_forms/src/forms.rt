@@ -1,8 +1,8 @@
 //! Multihashes that pass from one form to another.
-use super::kinds::LARGEST_CODE;
-use crate::forms::{Form, form_back, forms_back};
+use fakes::kinds::LARGEST_CODE;
 use multihash::Multihash;
 use std::test::Fail;
+use uses::forms::{Form, form_back, forms_back};
 
 const DIGEST: [u8; 32] = [
     159, 228, 204, 198, 222, 22, 114, 79, 58, 48, 199, 232, 242, 84, 243, 198, 71, 25, 134, 172,

@@ -1,8 +1,9 @@
 //! Which bytes stand where, and that the calls of readers and writers succeed.
-use super::fakes::{Cuts, Drip, FailAt, FailWrite, Silent};
-use crate::bytes::{fill_two, first_byte, joined, read_one, write_two};
+use fakes::readers::{Cuts, FailAt, Silent};
+use fakes::writers::{Drip, FailWrite};
 use multihash::no_std_io::{Read, Write};
 use std::test::Fail;
+use uses::bytes::{fill_two, first_byte, joined, read_one, write_two};
 
 #[test]
 fn a_short_slice_is_left_as_it_is(rt: HostRuntime) {

@@ -1,7 +1,7 @@
 //! Slices that are filled and kept.
-use crate::places::{encode_all_into, encode_into};
 use multihash::Multihash;
 use multihash::no_std_io::{SliceWriter, Write};
+use uses::places::{encode_all_into, encode_into};
 
 #[test]
 fn a_slice_writer_keeps_its_slice(rt: HostRuntime) {

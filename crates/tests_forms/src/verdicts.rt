@@ -1,12 +1,12 @@
 //! What reading answers to each kind of input, and which bytes it takes.
 ghost use Rattle.std.specs.Prelude.{◌<◌, ◌^◌};
 
-use super::fakes::{Cuts, Silent};
-use crate::bytes::bytes_back;
+use fakes::readers::{Cuts, Silent};
 use multihash::{Error, Multihash};
 use std::alloc::Global;
 use std::process::Abort;
 use std::test::Fail;
+use uses::bytes::bytes_back;
 
 /// The answer that is wanted.
 #[derive(Clone, Copy, Debug)]

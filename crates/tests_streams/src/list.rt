@@ -1,11 +1,11 @@
 //! Worked values of streams.
-use super::fakes::{Cuts, Silent};
-use super::kinds::{is_eof, is_full, is_size};
-use crate::forms::{fills_list, read_pairs, stream_back};
+use fakes::kinds::{is_eof, is_full, is_size};
+use fakes::readers::{Cuts, Silent};
 use multihash::list::{read_list, write_list};
 use multihash::{Error, Multihash};
 use std::process::Abort;
 use std::test::Fail;
+use uses::forms::{fills_list, read_pairs, stream_back};
 
 // (0, `A`), (18, `B`), and a byte behind them.
 const STREAM: [u8; 7] = [0, 1, 65, 18, 1, 66, 7];

@@ -1,13 +1,13 @@
 //! Worked values of the SCALE form.
 ghost use Rattle.std.specs.Prelude.{◌<◌, ◌^◌};
 
-use super::fakes::{Cuts, Silent};
-use super::kinds::{LARGEST_CODE, is_code, is_eof, is_size};
-use crate::forms::{fills_scale, scale_back};
+use fakes::kinds::{LARGEST_CODE, is_code, is_eof, is_size};
+use fakes::readers::{Cuts, Silent};
 use multihash::{Error, Multihash};
 use std::alloc::Global;
 use std::process::Abort;
 use std::test::Fail;
+use uses::forms::{fills_scale, scale_back};
 
 const HELLO: [u8; 20] = [
     0, 0, 0, 0, 0, 0, 0, 0, 11, 104, 101, 108, 108, 111, 32, 119, 111, 114, 108, 100,

@@ -1,6 +1,7 @@
 //! How often readers and writers are asked, and that one that failed is not asked again.
-use super::fakes::{Counts, CountsWrites, Cuts, Drip, FailAt};
-use super::kinds::{LARGEST_CODE, is_code, is_disk_gone, is_eof, is_full, is_link_down};
+use fakes::kinds::{LARGEST_CODE, is_code, is_disk_gone, is_eof, is_full, is_link_down};
+use fakes::readers::{Counts, Cuts, FailAt};
+use fakes::writers::{CountsWrites, Drip};
 use multihash::Multihash;
 use multihash::list::{read_list, write_list};
 use multihash::no_std_io::Write;

@@ -1,5 +1,5 @@
 //! The longest and the shortest digests, and each beginning of a long form.
-use super::kinds::{is_eof, is_size};
+use fakes::kinds::{is_eof, is_size};
 use multihash::Multihash;
 use std::test::Fail;
 

@@ -1,7 +1,7 @@
 //! The examples of the README.
-use crate::readme::{head, json, scale, store, there_and_back};
 use multihash::Multihash;
 use std::test::Fail;
+use uses::readme::{head, json, scale, store, there_and_back};
 
 const SHA2_256: u64 = 0x12;
 
