@@ -19,8 +19,8 @@ class Evidence:
 
 
 class Said:
-    def __init__(self, status, text):
-        self.status, self.lines = status, text.rstrip("\n").split("\n")
+    def __init__(self, status, text, took=()):
+        self.status, self.lines, self.took = status, text.rstrip("\n").split("\n"), dict(took)
         verdicts = [it for it in self.lines if it.startswith("logic=")]
         self.proved = status == 0 and bool(verdicts) and verdicts[-1].startswith("logic=proved")
         self.refused = status == 1 and bool(verdicts) and verdicts[-1].startswith("logic=not-proved")
