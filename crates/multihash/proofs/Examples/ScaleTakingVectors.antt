@@ -1,13 +1,13 @@
 -- What a refused decoding took from known readers.
-use Rattle.std.proofs.Common.{◌≡◌, ℕ, List, [], ◌∷◌, ◌++◌, length, refl, ap, arith, subst, inl, inr}
+use Rattle.std.proofs.Common.{◌≡◌, ◌<◌, ℕ, List, [], ◌∷◌, ◌++◌, length, refl, sym, ap, arith, subst, inl, inr}
 use Rattle.std.specs.Prelude.{Some}
-use Rattle.multihash.specs.Varint.{VarintFault}
+use Rattle.multihash.specs.Fault.{IsUnexpectedEof}
 use Rattle.multihash.specs.Verdict.{accepted, invalid_size, invalid_code, unexpected_eof}
 use Rattle.multihash.specs.Scale.{HasScaleVerdict}
-use Rattle.multihash.specs.Refusal.{of_io, of_size, of_code, of_varint, of_not_bytes}
+use Rattle.multihash.specs.Refusal.{Refusal, of_io, of_size, of_code, of_varint, of_not_bytes}
 use Rattle.multihash.specs.ScaleTaking.{IsScaleRefusal, TakesAtScaleRefusal}
 use Rattle.multihash.proofs.Forms.ScaleLemmas.{scale_verdict_unique}
-use Rattle.multihash.proofs.Examples.FaultVectors.{other, eof, full, memory}
+use Rattle.multihash.proofs.Examples.FaultVectors.{other, eof, memory}
 use Rattle.multihash.proofs.Examples.RefusalVectors.{size_in, code_in}
 use Rattle.multihash.proofs.Examples.ReadingVectors.{taken_is}
 use Rattle.multihash.proofs.Examples.TakingVectors.{gives_none_back}
@@ -17,51 +17,29 @@ use Rattle.multihash.proofs.Examples.ScaleVectors.{zeros, all_255, scale_code_ab
 
 -- ---- refusals
 
-decoding_refuses_size : IsScaleRefusal 4 (of_size 5)
-decoding_refuses_size = inr (inl (5, refl, omega arith))
+-- into four bytes: no varint is read, and no value
+abbrev DecodingRefuses : Refusal → Type 0
+DecodingRefuses (of_io fault) = IsUnexpectedEof fault
+DecodingRefuses (of_size size) = 4 < size
+DecodingRefuses (of_code code) = 9223372036854775807 < code
+DecodingRefuses (of_varint f) = ⊥
+DecodingRefuses of_not_bytes = ⊥
 
-decoding_refuses_code : IsScaleRefusal 4 (of_code 9223372036854775808)
-decoding_refuses_code = inl (9223372036854775808, refl, omega arith)
+decoding_refuses : (e : Refusal) → DecodingRefuses e → IsScaleRefusal 4 e
+decoding_refuses (of_io fault) h = inr (inr (fault, refl, h))
+decoding_refuses (of_size size) h = inr (inl (size, refl, h))
+decoding_refuses (of_code code) h = inl (code, refl, omega (arith, h))
+decoding_refuses (of_varint f) h = absurd h
+decoding_refuses of_not_bytes h = absurd h
 
-decoding_refuses_no_code_in_range : ¬ (IsScaleRefusal 4 (of_code 9223372036854775807))
-decoding_refuses_no_code_in_range (inl (code, e, large)) = omega (arith, ap code_in e, large)
-decoding_refuses_no_code_in_range (inr (inl (size, e, large))) = cc
-decoding_refuses_no_code_in_range (inr (inr (f, e, kind))) = cc
+decoding_refuses_only : (e : Refusal) → IsScaleRefusal 4 e → DecodingRefuses e
+decoding_refuses_only e (inl (code, is, large)) = subst DecodingRefuses (sym is) (omega (arith, large))
+decoding_refuses_only e (inr (inl (size, is, large))) = subst DecodingRefuses (sym is) large
+decoding_refuses_only e (inr (inr (fault, is, kind))) = subst DecodingRefuses (sym is) kind
 
 -- a digest's length is one byte in this form, so a larger buffer has no limit of its own
-decoding_refuses_end : IsScaleRefusal 300 (of_io eof)
-decoding_refuses_end = inr (inr (eof, refl, refl))
-
-decoding_refuses_no_size_that_fits : ¬ (IsScaleRefusal 4 (of_size 4))
-decoding_refuses_no_size_that_fits (inl (code, e, large)) = cc
-decoding_refuses_no_size_that_fits (inr (inl (size, e, large))) = omega (arith, ap size_in e, large)
-decoding_refuses_no_size_that_fits (inr (inr (f, e, kind))) = cc
-
--- no varint is read
-decoding_refuses_no_varint : (f : VarintFault) → ¬ (IsScaleRefusal 4 (of_varint f))
-decoding_refuses_no_varint f (inl (code, e, large)) = cc
-decoding_refuses_no_varint f (inr (inl (size, e, large))) = cc
-decoding_refuses_no_varint f (inr (inr (fault, e, kind))) = cc
-
-decoding_refuses_by_no_own_fault : ¬ (IsScaleRefusal 4 (of_io other))
-decoding_refuses_by_no_own_fault (inl (code, e, large)) = cc
-decoding_refuses_by_no_own_fault (inr (inl (size, e, large))) = cc
-decoding_refuses_by_no_own_fault (inr (inr (f, e, kind))) = cc
-
-decoding_refuses_by_no_want_of_memory : ¬ (IsScaleRefusal 4 (of_io memory))
-decoding_refuses_by_no_want_of_memory (inl (code, e, large)) = cc
-decoding_refuses_by_no_want_of_memory (inr (inl (size, e, large))) = cc
-decoding_refuses_by_no_want_of_memory (inr (inr (f, e, kind))) = cc
-
-decoding_refuses_by_no_full_writer : ¬ (IsScaleRefusal 4 (of_io full))
-decoding_refuses_by_no_full_writer (inl (code, e, large)) = cc
-decoding_refuses_by_no_full_writer (inr (inl (size, e, large))) = cc
-decoding_refuses_by_no_full_writer (inr (inr (f, e, kind))) = cc
-
-decoding_refuses_no_value : ¬ (IsScaleRefusal 4 of_not_bytes)
-decoding_refuses_no_value (inl (code, e, large)) = cc
-decoding_refuses_no_value (inr (inl (size, e, large))) = cc
-decoding_refuses_no_value (inr (inr (f, e, kind))) = cc
+decoding_refuses_above_a_byte : (size : ℕ) → 300 < size → IsScaleRefusal 300 (of_size size)
+decoding_refuses_above_a_byte size large = inr (inl (size, refl, large))
 
 -- ---- what was taken
 
@@ -135,12 +113,7 @@ takes_no_other_size h =
 takes_no_more_than_nine : ¬
     (TakesAtScaleRefusal 4 (of_size 5) (Some (zeros ++ 5 ∷ 7 ∷ [])) (Some []))
 takes_no_more_than_nine h =
-    omega (
-      arith,
-      (h.size 5 refl).1,
-      ap (λ (z : List ℕ). length z)
-          (taken_is (zeros ++ 5 ∷ 7 ∷ []) [] h.taken h.takes),
-    )
+    omega (arith, (h.size 5 refl).1, ap (λ (z : List ℕ). length z) (taken_is (zeros ++ 5 ∷ 7 ∷ []) [] h.taken h.takes))
 
 -- nor the size behind a code that is too large
 takes_no_size_behind_code : ¬

@@ -32,8 +32,7 @@ digest_waits = early_not_settles 4 (0 ∷ 4 ∷ 1 ∷ 2 ∷ 3 ∷ []) unexpected
 
 -- however many bytes it takes
 longest_digest_waits : ¬ (Settles 300 (0x00 ∷ 0xff ∷ 0x01 ∷ []))
-longest_digest_waits =
-    early_not_settles 300 (0x00 ∷ 0xff ∷ 0x01 ∷ []) unexpected_eof tt digest_of_255_missing
+longest_digest_waits = early_not_settles 300 (0x00 ∷ 0xff ∷ 0x01 ∷ []) unexpected_eof tt digest_of_255_missing
 
 pub padded_settles : Settles 4 (0x80 ∷ 0x00 ∷ [])
 padded_settles = late_settles 4 (0x80 ∷ 0x00 ∷ []) (faulty not_minimal) (λ early. early) code_padded

@@ -45,13 +45,7 @@ both_fit =
 
 takes_two_pairs : TakesPairs 4 (a ∷ b ∷ []) (Some (0 ∷ 1 ∷ 65 ∷ 1 ∷ 1 ∷ 66 ∷ 7 ∷ []))
     (Some (7 ∷ []))
-takes_two_pairs =
-    record {
-      bytes = 0 ∷ 1 ∷ 65 ∷ 1 ∷ 1 ∷ 66 ∷ [];
-      joined = joined_two;
-      fit = both_fit;
-      takes = refl;
-    }
+takes_two_pairs = record { bytes = 0 ∷ 1 ∷ 65 ∷ 1 ∷ 1 ∷ 66 ∷ []; joined = joined_two; fit = both_fit; takes = refl }
 
 -- the pairs are those of the bytes, in their order
 takes_pairs_in_order : ¬
@@ -142,8 +136,7 @@ skips_no_pair h =
 -- an insufficient input was taken whole
 refuses_with_all_taken : ¬
     (StopsAfterPairs 4 1 (of_varint insufficient) 3 3 (Some (0x80 ∷ [])) (Some (0x80 ∷ [])))
-refuses_with_all_taken h =
-    omega (arith, ap (λ (z : List ℕ). length z) (h.refused.insufficient refl).1)
+refuses_with_all_taken h = omega (arith, ap (λ (z : List ℕ). length z) (h.refused.insufficient refl).1)
 
 -- the refusal is that of what follows the pairs
 refuses_by_the_verdict : ¬
@@ -172,8 +165,7 @@ refuses_with_nothing_behind h =
     at h.settled refl (invalid_size 5) (9 ∷ [], size_5 (9 ∷ []), omega arith) (λ early. early))
 
 empty_digest_settles : Settles 4 (0 ∷ 0 ∷ [])
-empty_digest_settles =
-    late_settles 4 (0 ∷ 0 ∷ []) (accepted (pair 0 [])) (λ early. early) empty_digest
+empty_digest_settles = late_settles 4 (0 ∷ 0 ∷ []) (accepted (pair 0 [])) (λ early. early) empty_digest
 
 -- after a failure nothing that settles was taken
 fails_with_nothing_settled : ¬
@@ -203,21 +195,14 @@ pair_and_more more = (
   more,
   record {
     encoding = 0 ∷ 1 ∷ 65 ∷ [];
-    encodes = record {
-      code = 0 ∷ [];
-      size = 1 ∷ [];
-      is_code = varint_0;
-      is_size = varint_1;
-      spelled = refl;
-    };
+    encodes = record { code = 0 ∷ []; size = 1 ∷ []; is_code = varint_0; is_size = varint_1; spelled = refl };
     cut = refl;
   },
   omega arith,
 )
 
 pair_settles : Settles 4 (0 ∷ 1 ∷ 65 ∷ [])
-pair_settles =
-    late_settles 4 (0 ∷ 1 ∷ 65 ∷ []) (accepted a) (λ early. early) (pair_and_more [])
+pair_settles = late_settles 4 (0 ∷ 1 ∷ 65 ∷ []) (accepted a) (λ early. early) (pair_and_more [])
 
 behind_first : (p : Pair) (middle : Option (List ℕ)) → TakesPairs 4 (p ∷ []) (Some stream) middle
     → middle ≡ Some (0 ∷ 5 ∷ 9 ∷ [])
@@ -350,11 +335,7 @@ no_part_of_a_later_pair : ¬ (AppendsPartOfPairs AppendsAtEnd [] (a ∷ b ∷ []
 no_part_of_a_later_pair h =
     let p =
     part_of_all AppendsAtEnd [] (1 ∷ []) (a ∷ b ∷ []) (0 ∷ 1 ∷ 65 ∷ 1 ∷ 1 ∷ 66 ∷ []) h joined_two in
-    omega (
-      arith,
-      ap (λ (z : List ℕ). get_or z 0 0)
-          (p.proper.2 ∙ ap (λ (z : List ℕ). z ++ p.proper.0) (sym p.stands)),
-    )
+    omega (arith, ap (λ (z : List ℕ). get_or z 0 0) (p.proper.2 ∙ ap (λ (z : List ℕ). z ++ p.proper.0) (sym p.stands)))
 
 first_of_one : (first later : List Pair) → a ∷ [] ≡ first ++ later → (first ≡ []) ⊎ (first ≡ a ∷ [])
 first_of_one [] later e = inl refl
@@ -391,16 +372,10 @@ no_part_of_no_pairs h = none h.first h.later h.cut h.bytes h.joined h.part.part 
 -- and of their encodings
 no_part_of_other_bytes : ¬ (AppendsPartOfPairs AppendsAtEnd [] (a ∷ []) (9 ∷ []))
 no_part_of_other_bytes h =
-    let (rest, some, cut) =
-    part_of_one (9 ∷ []) h in omega (arith, ap (λ (z : List ℕ). get_or z 0 0) cut)
+    let (rest, some, cut) = part_of_one (9 ∷ []) h in omega (arith, ap (λ (z : List ℕ). get_or z 0 0) cut)
 
 -- the whole is no part
 no_part_is_the_whole : ¬ (AppendsPartOfPairs AppendsAtEnd [] (a ∷ []) (0 ∷ 1 ∷ 65 ∷ []))
 no_part_is_the_whole h =
     let (rest, some, cut) = part_of_one (0 ∷ 1 ∷ 65 ∷ []) h in
-    omega (
-      arith,
-      some_items rest some,
-      ap (λ (z : List ℕ). length z) cut,
-      length-append (0 ∷ 1 ∷ 65 ∷ []) rest,
-    )
+    omega (arith, some_items rest some, ap (λ (z : List ℕ). length z) cut, length-append (0 ∷ 1 ∷ 65 ∷ []) rest)
