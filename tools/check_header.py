@@ -1,7 +1,7 @@
 #!/usr/bin/env python3
 """Checks that crates/multihash_c/include/multihash.h and the crate declare the same: the functions with their
 parameters, the structs with the order and the types of their fields, the status's type and numbers, the largest
-lengths, and the library's texts. Header and crate are read whole: a line that is none of the forms known here is a
+lengths, the texts of the statuses, and the version. Header and crate are read whole: a line that is none of the forms known here is a
 fault. Then plants differences in copies, each of which must be seen.
 
     tools/check_header.py              checks
@@ -16,19 +16,8 @@ import tempfile
 TOP = os.path.dirname(os.path.dirname(os.path.realpath(__file__)))
 HEADER = "crates/multihash_c/include/multihash.h"
 SOURCE = "crates/multihash_c/src"
-SPECS = ["crates/multihash/specs/%s.antt" % name for name in ("Refusal", "Fault", "Varint")]
+VARINT = "crates/multihash/specs/Varint.antt"
 TYPES = {"u8": "uint8_t", "u32": "uint32_t", "u64": "uint64_t", "i32": "int32_t", "usize": "size_t"}
-
-# The statuses whose text is that of a word of the library's specs.
-WORDS = {
-    "INSUFFICIENT": "insufficient",
-    "OVERFLOW": "overflow",
-    "NOT_MINIMAL": "not_minimal",
-    "INVALID_SIZE": "of_size",
-    "INVALID_CODE": "of_code",
-    "UNEXPECTED_EOF": "UnexpectedEof",
-    "NO_ROOM": "WriteZero",
-}
 
 # The lines of the preprocessor that the header may have, beside those that define a number.
 DIRECTIVES = [
@@ -36,6 +25,9 @@ DIRECTIVES = [
     "#define MULTIHASH_H",
     "#include <stddef.h>",
     "#include <stdint.h>",
+    "#if !defined(__x86_64__) || !defined(__ELF__) || SIZE_MAX != UINT64_MAX",
+    '#error "libmultihash_c is built for x86-64 with ELF and a size_t of 64 bits"',
+    "#endif",
     "#ifdef __cplusplus",
     "#endif",
     "#ifdef __cplusplus",
@@ -80,12 +72,13 @@ def once(table, name, value):
 
 
 def sources(top):
-    """The text of each source file but the tests', also in folders below."""
-    found = []
+    """The text of each source file but the tests', also in folders below, by its path."""
+    found = {}
     for folder, _, names in os.walk(os.path.join(top, SOURCE)):
-        found += [os.path.join(folder, name) for name in names if name.endswith(".rt")]
-    tests = os.path.join(top, SOURCE, "tests.rt")
-    return [re.sub(r"//[^\n]*", "", read(path)) for path in sorted(found) if path != tests]
+        for path in (os.path.join(folder, name) for name in names if name.endswith(".rt")):
+            found[os.path.relpath(path, os.path.join(top, SOURCE))] = re.sub(r"//[^\n]*", "", read(path))
+    del found["tests.rt"]
+    return found
 
 
 def c_type(kind, structs):
@@ -126,7 +119,7 @@ def crate_functions(text, structs):
         raise Unread("not read: an export")
     functions = {}
     for name, parameters, result in found:
-        parts = [c_parameter(part, structs) for part in pieces(parameters, ",")]
+        parts = [c_parameter(part, structs) for part in pieces(parameters, ",")] or ["void"]
         once(functions, name, flat("%s(%s)" % (c_type(result, structs), ", ".join(parts))))
     return functions
 
@@ -140,27 +133,38 @@ def crate_numbers(text):
     return numbers
 
 
+def crate_texts(text):
+    """The texts of the statuses, of which the prover knows that they are the library's."""
+    texts = {}
+    body = whole(r".*fn multihash_put_status_text\(.*?match status \{([^{}]*)\}.*", text)[1]
+    for line in pieces(body, ",\n"):
+        name, spelled = whole(r'(?:status::(\w+)|_) => put\(b"([^"]*)",out\)', line).groups()
+        once(texts, name or "default", spelled)
+    return texts
+
+
+def crate_version(text):
+    """The three numbers of the version, as a text and as one number."""
+    numbers = [int(whole(r".*const %s: u32 = (\d+);.*" % name, text)[1]) for name in ("MAJOR", "MINOR", "PATCH")]
+    number = numbers[0] * 10000 + numbers[1] * 100 + numbers[2]
+    return {"VERSION": '"%d.%d.%d"' % tuple(numbers), "VERSION_NUMBER": number}
+
+
 def of_crate(top):
-    """What the crate's source declares, in C's words, and the texts of the library."""
-    texts = sources(top)
-    text = "\n".join(texts)
-    specs = "".join(read(os.path.join(top, name)) for name in SPECS)
-    spelled = dict(re.findall(r'^(?:refusal_text|varint_text|text_of) \(?(\w+)[^=\n]*= codes "([^"]*)"', specs, re.M))
+    """What the crate's source declares, in C's words."""
+    files = sources(top)
+    text = "\n".join(files.values())
     structs = crate_structs(text)
-    status = re.sub(r"//[^\n]*", "", read(os.path.join(top, SOURCE, "status.rt")))
-    varint = int(re.search(r"^most_marked = (\d+)$", specs, re.M)[1]) + 1
+    # A varint has this many bytes at most. A size that is not refused has two.
+    varint = int(whole(r".*\nmost_marked = (\d+)\n.*", read(os.path.join(top, VARINT)))[1]) + 1
+    lengths = {"DIGEST_MAX": 255, "HEAD_MAX": 2 * varint, "LENGTH_MAX": varint + 2 + 255, "SCALE_LENGTH_MAX": 9 + 255}
     return {
         "types": {"multihash_status": "uint32_t"},
         "structs": {"multihash_%s" % name.lower(): fields for name, fields in structs.items()},
         "functions": crate_functions(text, structs),
-        "numbers": crate_numbers(status),
-        "texts": {
-            "OK": "ok",
-            "default": "unknown status",
-            **{name: spelled.get(word, "?").strip() for name, word in WORDS.items()},
-        },
-        # A code has the bytes of a varint; a size that is not refused has two.
-        "limits": {"DIGEST_MAX": 255, "LENGTH_MAX": varint + 2 + 255, "SCALE_LENGTH_MAX": 9 + 255},
+        "numbers": crate_numbers(files["status.rt"]),
+        "texts": crate_texts(files["text.rt"]),
+        "constants": {**lengths, **crate_version(files["version.rt"])},
     }
 
 
@@ -186,17 +190,17 @@ def header_numbers(body):
 
 
 def header_directives(lines):
-    """The numbers that are defined; each other line stands in its place."""
-    limits, others = {}, []
+    """The constants that are defined; each other line stands in its place."""
+    constants, others = {}, []
     for line in lines:
-        found = re.fullmatch(r"#define MULTIHASH_(\w+) (\d+)", line)
+        found = re.fullmatch(r'#define MULTIHASH_(\w+) (?:(\d+)|("[^"\\]*"))', line)
         if found:
-            once(limits, found[1], int(found[2]))
+            once(constants, found[1], found[3] or int(found[2]))
         else:
             others.append(line)
     if others != DIRECTIVES:
         raise Unread("not read: one of the lines %s" % ", ".join(others))
-    return limits
+    return constants
 
 
 # The forms that stand in the header one after the other, and what each declares.
@@ -239,7 +243,7 @@ def of_header(top):
     text = re.sub(r"/\*.*?\*/", "", read(os.path.join(top, HEADER)), flags=re.S)
     lines = [line.rstrip() for line in text.split("\n")]
     found = {"types": {}, "structs": {}, "functions": {}, "numbers": {}, "texts": {}}
-    found["limits"] = header_directives([line for line in lines if line.lstrip().startswith("#")])
+    found["constants"] = header_directives([line for line in lines if line.lstrip().startswith("#")])
     rest = declarations("\n".join(line for line in lines if not line.lstrip().startswith("#")))
     for form, groups in rest:
         if form == "type":
@@ -288,7 +292,7 @@ def planted(name):
 def is_seen(path, old, new):
     """Whether a difference that is planted in a copy is seen."""
     with tempfile.TemporaryDirectory() as top:
-        for name in [HEADER] + SPECS:
+        for name in [HEADER, VARINT]:
             os.makedirs(os.path.dirname(os.path.join(top, name)), exist_ok=True)
             shutil.copy(os.path.join(TOP, name), os.path.join(top, name))
         shutil.copytree(os.path.join(TOP, SOURCE), os.path.join(top, SOURCE))
