@@ -17,11 +17,11 @@ use Rattle.multihash.specs.Writing.{AppendsPart, CountsWriter}
 use Rattle.multihash.specs.Refusal.{Refusal, IsIo, IsMemory}
 use Rattle.multihash.specs.Streams.{TakesPairs, StopsAfterPairs}
 use Rattle.multihash.specs.Answer.{Fields, pair_of, IsRefusal, Answers}
-use Rattle.multihash.proofs.PlacesLemmas.{fewer_places, full_of_faults}
-use Rattle.multihash.proofs.PairLemmas.{IsSame-refl, IsSame-equal}
-use Rattle.multihash.proofs.VerdictLemmas.{same_cut, encoding_same, encoding_unique, verdict_unique, whole_verdict_unique}
-use Rattle.multihash.proofs.ScaleLemmas.{scale_same, scale_own, scale_verdict_unique}
-use Rattle.multihash.proofs.JoinedLemmas.{joined_unique}
+use Rattle.multihash.proofs.Writings.PlacesLemmas.{fewer_places, full_of_faults}
+use Rattle.multihash.proofs.Values.PairLemmas.{IsSame-refl, IsSame-equal}
+use Rattle.multihash.proofs.Readings.VerdictLemmas.{same_cut, encoding_same, encoding_unique, verdict_unique, whole_verdict_unique}
+use Rattle.multihash.proofs.Forms.ScaleLemmas.{scale_same, scale_own, scale_verdict_unique}
+use Rattle.multihash.proofs.Forms.JoinedLemmas.{joined_unique}
 
 -- two pairs are the same exactly where their encodings are one list
 pub same_encoding : (p q : Pair) (x y : List ℕ) → IsEncoding p x → IsEncoding q y → IsSame p q ↔ (x ≡ y)

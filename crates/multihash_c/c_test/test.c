@@ -3,7 +3,9 @@
  * did on one line, and ends with status 1 at the first thing that is wrong. */
 #include "multihash.h"
 
+#include <assert.h>
 #include <inttypes.h>
+#include <stddef.h>
 #include <stdio.h>
 #include <stdlib.h>
 #include <string.h>
@@ -15,6 +17,20 @@
             exit(1);                                                         \
         }                                                                    \
     } while (0)
+
+/* The size of each struct, and where its fields stand: what the library has compiled in. */
+static_assert(sizeof(multihash_status) == 4, "the status");
+static_assert(sizeof(multihash_decoded) == 48, "multihash_decoded");
+static_assert(offsetof(multihash_decoded, status) == 0, "multihash_decoded.status");
+static_assert(offsetof(multihash_decoded, size) == 8, "multihash_decoded.size");
+static_assert(offsetof(multihash_decoded, code) == 16, "multihash_decoded.code");
+static_assert(offsetof(multihash_decoded, digest_offset) == 24, "multihash_decoded.digest_offset");
+static_assert(offsetof(multihash_decoded, digest_length) == 32, "multihash_decoded.digest_length");
+static_assert(offsetof(multihash_decoded, taken) == 40, "multihash_decoded.taken");
+static_assert(sizeof(multihash_encoded) == 24, "multihash_encoded");
+static_assert(offsetof(multihash_encoded, status) == 0, "multihash_encoded.status");
+static_assert(offsetof(multihash_encoded, size) == 8, "multihash_encoded.size");
+static_assert(offsetof(multihash_encoded, length) == 16, "multihash_encoded.length");
 
 #define LINE_MAX_BYTES 8192
 #define GUARD 16

@@ -2,7 +2,7 @@ use Rattle.std.proofs.Common.{◌≡◌, ◌<◌, [], ◌∷◌, ◌++◌, lengt
 use Rattle.std.proofs.lemmas.List.{length-map}
 use Rattle.multihash.specs.Answer.{pair_of}
 use Rattle.multihash.proofs.OutcomeLemmas.{passed_on}
-use Rattle.multihash.proofs.StreamLemmas.{TakesPairs-none, TakesPairs-more}
+use Rattle.multihash.proofs.Forms.StreamLemmas.{TakesPairs-none, TakesPairs-more}
 use Rattle.multihash.proofs.list.read_list.Goals as goal
 
 pub loop-init : goal.loop-init

@@ -1,10 +1,10 @@
 use Rattle.std.proofs.Common.{[], ◌∷◌, ◌++◌, refl, ◌∙◌, arith}
 use Rattle.std.proofs.lemmas.List.{length_push}
 use Rattle.multihash.specs.Varint.{insufficient, overflow, not_minimal}
-use Rattle.multihash.proofs.VarintReadLemmas.{none_read, read_last, read_more, read_zero, read_overflow, read_whole, before_last, before_end, first_of_two}
-use Rattle.multihash.proofs.ReadingLemmas.{Takes-none, Takes-kept, Takes-joined, IsAtEnd-kept}
+use Rattle.multihash.proofs.Varints.VarintReadLemmas.{none_read, read_last, read_more, read_zero, read_overflow, read_whole, before_last, before_end, first_of_two}
+use Rattle.multihash.proofs.Readings.ReadingLemmas.{Takes-none, Takes-kept, Takes-joined, IsAtEnd-kept}
 use Rattle.multihash.proofs.OutcomeLemmas.{passed_on}
-use Rattle.multihash.proofs.VarintTakingLemmas.{failed_behind, refused_behind}
+use Rattle.multihash.proofs.Varints.VarintTakingLemmas.{failed_behind, refused_behind}
 use Rattle.multihash.proofs.varint.read.Goals as goal
 
 pub loop-i-init : goal.loop-i-init

@@ -3,7 +3,7 @@ use Rattle.multihash.specs.Bytes.{IsBytes}
 use Rattle.multihash.specs.Scale.{IsScale, HasScaleVerdict}
 use Rattle.multihash.specs.Verdict.{Verdict, accepted}
 use Rattle.multihash.specs.Answer.{pair_of}
-use Rattle.multihash.proofs.WordFrontLemmas.{bytes_of}
+use Rattle.multihash.proofs.Varints.WordFillingLemmas.{bytes_of}
 use Rattle.multihash_c.specs.Decoded.{TakesForm}
 use Rattle.multihash_c.proofs.DecodedLemmas.{form_stands, taken_front, taken_at_refusal}
 use Rattle.multihash_c.proofs.decode.multihash_scale_decode.Goals as goal

@@ -2,8 +2,8 @@ use Rattle.std.proofs.Common.{◌≡◌, inl, Ok, Err, sym, subst}
 use Rattle.multihash.specs.Pair.{IsSame}
 use Rattle.multihash.specs.Encoding.{IsEncoding}
 use Rattle.multihash.specs.Answer.{pair_of}
-use Rattle.multihash.proofs.PairLemmas.{IsSame-refl}
-use Rattle.multihash.proofs.ValueLemmas.{digest_fits}
+use Rattle.multihash.proofs.Values.PairLemmas.{IsSame-refl}
+use Rattle.multihash.proofs.Values.ValueLemmas.{digest_fits}
 use Rattle.multihash.proofs.CallingLemmas.{refused_by, verdict_back}
 use Rattle.uses.proofs.readme.there_and_back.Goals as goal
 

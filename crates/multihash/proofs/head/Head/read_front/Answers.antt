@@ -1,6 +1,6 @@
 use Rattle.std.proofs.Common.{◌≡◌, ◌++◌, drop, inl, inr, subst}
 use Rattle.multihash.specs.Varint.{HasFaultyFront}
-use Rattle.multihash.proofs.HeadLemmas.{slice_is, head_of}
+use Rattle.multihash.proofs.Readings.HeadLemmas.{slice_is, head_of}
 use Rattle.multihash.proofs.head.Head.read_front.Goals as goal
 
 pub returns-in_default-clause-err : goal.returns-in_default-clause-err

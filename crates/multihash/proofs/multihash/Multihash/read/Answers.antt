@@ -3,9 +3,9 @@ use Rattle.std.proofs.lemmas.List.{take_at, length-take-le, length-replicate}
 use Rattle.multihash.specs.Pair.{digest_limit}
 use Rattle.multihash.specs.Varint.{IsVarint}
 use Rattle.multihash.specs.Answer.{Fields}
-use Rattle.multihash.proofs.ReadingLemmas.{Takes-joined}
-use Rattle.multihash.proofs.ReadStopLemmas.{stops_in_code, stops_in_size, stops_at_size, stops_in_digest, encodes_fields}
-use Rattle.multihash.proofs.ReadTakingLemmas.{read_refused, read_answered}
+use Rattle.multihash.proofs.Readings.ReadingLemmas.{Takes-joined}
+use Rattle.multihash.proofs.Readings.ReadStopLemmas.{stops_in_code, stops_in_size, stops_at_size, stops_in_digest, encodes_fields}
+use Rattle.multihash.proofs.Readings.ReadTakingLemmas.{read_refused, read_answered}
 use Rattle.multihash.proofs.multihash.Multihash.read.Goals as goal
 
 pub returns-in_err-code : goal.returns-in_err-code
