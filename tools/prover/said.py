@@ -51,4 +51,8 @@ class Said:
     def of(self, name, path, first, last):
         """Returns what is said of one function: of its lines in the source, or in its own proof files."""
         own = f"proofs/{name.partition('::')[2].replace('::', '/')}/"
-        return [it for it in self.evidence if it.path.startswith(own) or it.path == path and first <= it.line <= last]
+        found = [it for it in self.evidence if it.path.startswith(own) or it.path == path and first <= it.line <= last]
+        # with an invariant that is lost for a name, goals are open that the invariant would close
+        if any(it.of_names and it.path.endswith("/Invariants.antt") for it in found):
+            return [it for it in found if not it.path.startswith("src/")]
+        return found
