@@ -8,7 +8,7 @@ use Rattle.std.proofs.lemmas.Bool.{and_parts, eqb-true}
 use Rattle.multihash.specs.Pair.{Pair}
 use Rattle.multihash.specs.Order.{Compares}
 use Rattle.multihash.specs.Comparing.{compare_pairs, equal_pairs}
-use Rattle.multihash.proofs.Values.OrderLemmas.{compares_by_parts}
+use Rattle.multihash.proofs.Values.OrderLemmas.{Compares-computed}
 use Rattle.multihash.proofs.Values.PairLemmas.{IsSame-equal}
 
 -- a test that is true of equal pairs alone is false of others
@@ -23,7 +23,7 @@ same_order p q Greater h e = cc
 
 -- for a `BTreeMap`
 pub other_ordered : (p q : Pair) → ¬ (q ≡ p) → is_eq (compare_pairs p q) ≡ false
-other_ordered p q = refuted p q _ (same_order p q _ (compares_by_parts p q _ _ _ refl refl refl))
+other_ordered p q = refuted p q _ (same_order p q _ (Compares-computed p q _ _ _ refl refl refl))
 
 same_parts : (p q : Pair) → equal_pairs p q ≡ true → p ≡ q
 same_parts p q e =
