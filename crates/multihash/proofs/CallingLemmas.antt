@@ -1,7 +1,7 @@
 -- What callers conclude from the contracts of several calls.
 use Rattle.std.proofs.Common.{Vec, Global, ◌≡◌, ℕ, ◌<◌, ◌≤◌, ◌-◌, ◌⊎◌, IfOk, IfErr, OnOk, OnErr, inl, inr, length-drop, List, [], ◌∷◌, ◌++◌, length, map, Bool, true, false, IsTrue, ◌↔◌, Option, None, Some, Result, Ok, Err, MatchResult, IfSome, refl, sym, ap, ◌∙◌, subst, arith, append_assoc}
 use Rattle.std.specs.List.{concat, AllZip, All}
-use Rattle.std.specs.Result.{is_ok, IsErrAnd}
+use Rattle.std.specs.Result.{is_ok}
 use Rattle.std.proofs.lemmas.List.{length-map}
 use Rattle.std.proofs.lemmas.Bool.{false≢true}
 use Rattle.std.proofs.lemmas.List.Elements.{All-head, All-tail}
@@ -17,11 +17,11 @@ use Rattle.multihash.specs.Writing.{AppendsPart, CountsWriter}
 use Rattle.multihash.specs.Refusal.{Refusal, IsIo, IsMemory}
 use Rattle.multihash.specs.Streams.{TakesPairs, StopsAfterPairs}
 use Rattle.multihash.specs.Answer.{Fields, pair_of, IsRefusal, Answers}
-use Rattle.multihash.proofs.PlacesLemmas.{fewer_places, full_of_faults}
-use Rattle.multihash.proofs.PairLemmas.{IsSame-refl, IsSame-equal}
-use Rattle.multihash.proofs.VerdictLemmas.{same_cut, encoding_same, encoding_unique, verdict_unique, whole_verdict_unique}
-use Rattle.multihash.proofs.ScaleLemmas.{scale_same, scale_own, scale_verdict_unique}
-use Rattle.multihash.proofs.JoinedLemmas.{joined_unique}
+use Rattle.multihash.proofs.Writings.PlacesLemmas.{fewer_places, full_of_faults}
+use Rattle.multihash.proofs.Values.PairLemmas.{IsSame-refl, IsSame-equal}
+use Rattle.multihash.proofs.Readings.VerdictLemmas.{same_cut, encoding_same, encoding_unique, verdict_unique, whole_verdict_unique}
+use Rattle.multihash.proofs.Forms.ScaleLemmas.{scale_same, scale_own, scale_verdict_unique}
+use Rattle.multihash.proofs.Forms.JoinedLemmas.{joined_unique}
 
 -- two pairs are the same exactly where their encodings are one list
 pub same_encoding : (p q : Pair) (x y : List ℕ) → IsEncoding p x → IsEncoding q y → IsSame p q ↔ (x ≡ y)
@@ -162,11 +162,6 @@ pair_read S before after (Some input) new p bytes more (Err e) encodes fits rest
     let spelled : input ≡ bytes ++ more = cc in
     let own : HasVerdict S input (accepted p) = (more, record { encoding = bytes; encodes = encodes; cut = spelled }, fits) in
     subst (IsRefusal e) (verdict_unique S input v.0 (accepted p) v.1 own) v.2
-
--- the error that is answered is the one that was met
-pub refused_by : {T E : Type 0} (r : Result T E) (e : E) (Q : T → Type 0) (P : E → Type 0) → IsErrAnd r (λ x. x ≡ e) → P e → MatchResult r Q P
-refused_by (Ok t) e Q P given p = absurd given
-refused_by (Err x) e Q P given p = subst P (sym given) p
 
 -- the verdict on a pair's encoding is the pair
 pub verdict_back : (S : ℕ) (p : Pair) (bytes : List ℕ) (r : Result (Fields S) Refusal) (v : Verdict) → HasWholeVerdict S bytes v → Answers r v

@@ -4,11 +4,11 @@ use Rattle.multihash.specs.Bytes.{place_value}
 use Rattle.multihash.specs.Varint.{VarintFault}
 use Rattle.multihash.specs.Verdict.{accepted, invalid_size, invalid_code, faulty, unexpected_eof}
 use Rattle.multihash.specs.Scale.{IsScaleCode, IsScale, HasScaleVerdict}
-use Rattle.multihash.proofs.BytesVectors.{all_below}
-use Rattle.multihash.proofs.PairVectors.{pair}
-use Rattle.multihash.proofs.ScaleLemmas.{scale_verdict_unique}
-use Rattle.multihash.proofs.ScaleVectors.{zeros, all_255, scale_code_above}
-use Rattle.multihash.proofs.VerdictVectors.{code_named}
+use Rattle.multihash.proofs.Examples.BytesVectors.{all_below}
+use Rattle.multihash.proofs.Examples.PairVectors.{pair}
+use Rattle.multihash.proofs.Forms.ScaleLemmas.{scale_verdict_unique}
+use Rattle.multihash.proofs.Examples.ScaleVectors.{zeros, all_255, scale_code_above}
+use Rattle.multihash.proofs.Examples.VerdictVectors.{code_named}
 use Rattle.multihash_c.specs.Decoded.{TakesForm}
 use Rattle.multihash_c.proofs.DecodedLemmas.{byte_fits}
 

@@ -9,8 +9,9 @@ use Rattle.multihash.specs.Verdict.{Verdict, accepted, invalid_size, faulty, une
 use Rattle.multihash.specs.Settling.{Settles, IsShortestSettling}
 use Rattle.multihash.specs.Head.{HasHead}
 use Rattle.multihash.specs.Taking.{TakesShortestSettling}
-use Rattle.multihash.proofs.VerdictLemmas.{verdict_unique, pair_begins}
-use Rattle.multihash.proofs.SettlingLemmas.{verdict_kept, late_settles, settles_exactly, shortest_pair, shortest_size}
+use Rattle.multihash.proofs.Readings.VerdictLemmas.{verdict_unique, pair_begins}
+use Rattle.multihash.proofs.Readings.SettlingLemmas.{verdict_kept, late_settles, settles_exactly}
+use Rattle.multihash.proofs.Readings.ShortestLemmas.{shortest_pair, shortest_size}
 use Rattle.multihash_c.specs.declared.decoded.Decoded.{Decoded}
 use Rattle.multihash_c.specs.Decoded.{Tells, ReadsWithin}
 

@@ -5,9 +5,9 @@ use Rattle.multihash.specs.Joined.{AreJoined}
 use Rattle.multihash.specs.Writing.{AppendsPart}
 use Rattle.multihash.specs.Streams.{AppendsPartOfPairs}
 use Rattle.multihash.proofs.OutcomeLemmas.{OnErr-always}
-use Rattle.multihash.proofs.JoinedLemmas.{AreJoined-none, AreJoined-push}
-use Rattle.multihash.proofs.StreamLemmas.{stops_at, part_of_all}
-use Rattle.multihash.proofs.ValueLemmas.{all_fit, have_stream}
+use Rattle.multihash.proofs.Forms.JoinedLemmas.{AreJoined-none, AreJoined-push}
+use Rattle.multihash.proofs.Forms.StreamLemmas.{stops_at, part_of_all}
+use Rattle.multihash.proofs.Values.ValueLemmas.{all_fit, have_stream}
 use Rattle.multihash.proofs.list.write_list.Given as given
 use Rattle.multihash.proofs.list.write_list.Goals as goal
 

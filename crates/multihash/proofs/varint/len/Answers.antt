@@ -1,6 +1,6 @@
 use Rattle.std.proofs.Common.{[], ◌∷◌, refl, arith, ap, length}
-use Rattle.multihash.proofs.VarintWriteLemmas.{one_byte}
-use Rattle.multihash.proofs.LengthLemmas.{varint_longest}
+use Rattle.multihash.proofs.Varints.VarintWriteLemmas.{one_byte}
+use Rattle.multihash.proofs.Varints.LengthLemmas.{varint_longest}
 use Rattle.multihash.proofs.varint.len.Goals as goal
 
 pub returns-then-n-lt128-clause-varint : goal.returns-then-n-lt128-clause-varint

@@ -1,8 +1,8 @@
 use Rattle.std.proofs.Common.{[], ◌∷◌, refl, arith, ap, length}
 use Rattle.multihash.specs.Varint.{IsVarint}
-use Rattle.multihash.proofs.VarintWriteLemmas.{one_byte}
-use Rattle.multihash.proofs.LengthLemmas.{varint_longest}
-use Rattle.multihash.proofs.WritingLemmas.{appends_part_of_a_form}
+use Rattle.multihash.proofs.Varints.VarintWriteLemmas.{one_byte}
+use Rattle.multihash.proofs.Varints.LengthLemmas.{varint_longest}
+use Rattle.multihash.proofs.Writings.WritingLemmas.{appends_part_of_a_form}
 use Rattle.multihash.proofs.varint.write.Goals as goal
 
 pub returns-in_err-write_all-clause-err : goal.returns-in_err-write_all-clause-err

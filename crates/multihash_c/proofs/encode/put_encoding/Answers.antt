@@ -1,8 +1,8 @@
 use Rattle.std.proofs.Common.{List, ℕ, length, ap, arith}
 use Rattle.multihash.specs.Encoding.{IsEncoding}
 use Rattle.multihash.specs.Answer.{pair_of}
-use Rattle.multihash.proofs.FillingLemmas.{filler_takes_all}
-use Rattle.multihash.proofs.VerdictLemmas.{encoding_same}
+use Rattle.multihash.proofs.Writings.FillingLemmas.{filler_takes_all}
+use Rattle.multihash.proofs.Readings.VerdictLemmas.{encoding_same}
 use Rattle.multihash_c.proofs.encode.put_encoding.Goals as goal
 
 pub unwrap-requires : goal.unwrap-requires

@@ -1,8 +1,8 @@
 use Rattle.std.proofs.Common.{List, ℕ, length, ap, arith}
 use Rattle.multihash.specs.Scale.{IsScale}
 use Rattle.multihash.specs.Answer.{pair_of}
-use Rattle.multihash.proofs.FillingLemmas.{filler_takes_all}
-use Rattle.multihash.proofs.ScaleLemmas.{scale_same}
+use Rattle.multihash.proofs.Writings.FillingLemmas.{filler_takes_all}
+use Rattle.multihash.proofs.Forms.ScaleLemmas.{scale_same}
 use Rattle.multihash_c.proofs.encode.put_scale_form.Goals as goal
 
 pub unwrap-requires : goal.unwrap-requires

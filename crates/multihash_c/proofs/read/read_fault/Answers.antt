@@ -4,7 +4,7 @@ use Rattle.multihash.specs.Verdict.{Verdict, faulty}
 use Rattle.multihash.specs.Refusal.{IsFaulty}
 use Rattle.multihash.specs.Taking.{TakesShortestSettling}
 use Rattle.multihash.specs.Answer.{IsRefusal}
-use Rattle.multihash.proofs.VerdictLemmas.{verdict_unique}
+use Rattle.multihash.proofs.Readings.VerdictLemmas.{verdict_unique}
 use Rattle.multihash_c.specs.Decoded.{Tells}
 use Rattle.multihash_c.proofs.DecodedLemmas.{left_over}
 use Rattle.multihash_c.proofs.ReadLemmas.{fault_read}

@@ -1,8 +1,8 @@
 use Rattle.std.proofs.Common.{length, ap, arith}
 use Rattle.multihash.specs.Answer.{pair_of}
 use Rattle.multihash.specs.Encoding.{IsEncoding}
-use Rattle.multihash.proofs.PlacesLemmas.{slice_takes_all}
-use Rattle.multihash.proofs.ValueLemmas.{encoding_within}
+use Rattle.multihash.proofs.Writings.PlacesLemmas.{slice_takes_all}
+use Rattle.multihash.proofs.Values.ValueLemmas.{encoding_within}
 use Rattle.uses.proofs.bytes.fills_longest.Goals as goal
 
 pub unwrap-requires : goal.unwrap-requires

@@ -1,8 +1,8 @@
 use Rattle.std.proofs.Common.{length, ap, arith}
 use Rattle.multihash.specs.Answer.{pair_of}
 use Rattle.multihash.specs.Scale.{IsScale}
-use Rattle.multihash.proofs.PlacesLemmas.{slice_takes_all}
-use Rattle.multihash.proofs.ScaleLemmas.{scale_length}
+use Rattle.multihash.proofs.Writings.PlacesLemmas.{slice_takes_all}
+use Rattle.multihash.proofs.Forms.ScaleLemmas.{scale_length}
 use Rattle.uses.proofs.forms.fills_longest_scale.Goals as goal
 
 pub unwrap-requires : goal.unwrap-requires

@@ -1,6 +1,6 @@
 use Rattle.multihash.specs.Answer.{pair_of}
 use Rattle.multihash.proofs.CallingLemmas.{verdict_back}
-use Rattle.multihash.proofs.JsonLemmas.{json_bytes}
+use Rattle.multihash.proofs.Forms.JsonLemmas.{json_bytes}
 use Rattle.uses.proofs.forms.json_back.Goals as goal
 
 pub returns : goal.returns

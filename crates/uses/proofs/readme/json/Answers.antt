@@ -1,8 +1,8 @@
 use Rattle.std.proofs.Common.{arith}
 use Rattle.multihash.specs.Answer.{pair_of}
 use Rattle.multihash.proofs.CallingLemmas.{verdict_back}
-use Rattle.multihash.proofs.JsonLemmas.{json_bytes}
-use Rattle.multihash.proofs.ValueLemmas.{digest_fits}
+use Rattle.multihash.proofs.Forms.JsonLemmas.{json_bytes}
+use Rattle.multihash.proofs.Values.ValueLemmas.{digest_fits}
 use Rattle.uses.proofs.readme.json.Goals as goal
 
 pub returns : goal.returns

@@ -2,9 +2,9 @@ use Rattle.std.proofs.Common.{◌≡◌, ◌<◌, ◌++◌, length, true, refl, 
 use Rattle.std.specs.List.{list_all}
 use Rattle.multihash.specs.Members.{member_bytes, is_byte}
 use Rattle.multihash.specs.Verdict.{invalid_size}
-use Rattle.multihash.proofs.JsonLemmas.{array_unique}
-use Rattle.multihash.proofs.MembersLemmas.{length-member_bytes, no_member_bytes}
-use Rattle.multihash.proofs.ReadTakingLemmas.{whole_passed_on, whole_pair, whole_left_over}
+use Rattle.multihash.proofs.Forms.JsonLemmas.{array_unique}
+use Rattle.multihash.proofs.Forms.MembersLemmas.{length-member_bytes, no_member_bytes}
+use Rattle.multihash.proofs.Readings.ReadTakingLemmas.{whole_passed_on, whole_pair, whole_left_over}
 use Rattle.multihash.proofs.multihash.Multihash.from_value.Goals as goal
 
 pub returns-in_err-multihash-clause-verdict : goal.returns-in_err-multihash-clause-verdict

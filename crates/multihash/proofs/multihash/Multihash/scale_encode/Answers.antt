@@ -1,10 +1,10 @@
 use Rattle.std.proofs.Common.{[], ◌∷◌, ◌++◌, length, ap, arith}
 use Rattle.multihash.specs.Scale.{IsScaleCode, IsScale}
 use Rattle.multihash.specs.Answer.{pair_of}
-use Rattle.multihash.proofs.ScaleCodeLemmas.{code_bytes}
-use Rattle.multihash.proofs.ScaleLemmas.{scale_length}
-use Rattle.multihash.proofs.ScaleTakingLemmas.{scale_of}
-use Rattle.multihash.proofs.WritingLemmas.{AppendsPart-append, AppendsPart-joined, appends_part_of_a_form}
+use Rattle.multihash.proofs.Forms.ScaleCodeLemmas.{code_bytes}
+use Rattle.multihash.proofs.Forms.ScaleLemmas.{scale_length}
+use Rattle.multihash.proofs.Forms.ScaleTakingLemmas.{scale_of}
+use Rattle.multihash.proofs.Writings.WritingLemmas.{AppendsPart-append, AppendsPart-joined, appends_part_of_a_form}
 use Rattle.multihash.proofs.multihash.Multihash.scale_encode.Goals as goal
 
 pub returns-in_err-write_all-clause-err : goal.returns-in_err-write_all-clause-err

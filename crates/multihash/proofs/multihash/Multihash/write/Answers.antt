@@ -1,9 +1,9 @@
 use Rattle.std.proofs.Common.{◌++◌, length, refl, ◌∙◌, arith}
 use Rattle.multihash.specs.Encoding.{IsEncoding}
 use Rattle.multihash.specs.Answer.{pair_of}
-use Rattle.multihash.proofs.EncodingLemmas.{encoding_of, length-parts}
-use Rattle.multihash.proofs.VarintLemmas.{varint_exists}
-use Rattle.multihash.proofs.WritingLemmas.{AppendsPart-append, AppendsPart-joined, appends_part_of_a_form}
+use Rattle.multihash.proofs.Writings.EncodingLemmas.{encoding_of, length-parts}
+use Rattle.multihash.proofs.Varints.VarintLemmas.{varint_exists}
+use Rattle.multihash.proofs.Writings.WritingLemmas.{AppendsPart-append, AppendsPart-joined, appends_part_of_a_form}
 use Rattle.multihash.proofs.multihash.Multihash.write.Goals as goal
 
 pub returns-in_err-code-clause-err : goal.returns-in_err-code-clause-err

@@ -2,7 +2,7 @@ use Rattle.std.proofs.Common.{◌≡◌, length, Ok, Err, refl, sym, ◌∙◌, 
 use Rattle.multihash.specs.Reading.{Takes}
 use Rattle.multihash.specs.Answer.{pair_of}
 use Rattle.multihash.proofs.CallingLemmas.{pair_read}
-use Rattle.multihash.proofs.ReadingLemmas.{Takes-joined}
+use Rattle.multihash.proofs.Readings.ReadingLemmas.{Takes-joined}
 use Rattle.uses.proofs.ContentIdLemmas.{identifier, head_taken}
 use Rattle.uses.proofs.content_id.ContentId.read.Goals as goal
 

@@ -1,0 +1,4 @@
+pub mod OrderLemmas
+pub mod PairLemmas
+pub mod ValueLemmas
+pub mod WindowLemmas
