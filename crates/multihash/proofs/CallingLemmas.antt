@@ -1,15 +1,19 @@
 -- What callers conclude from the contracts of several calls.
-use Rattle.std.proofs.Common.{Vec, Global, ◌≡◌, ℕ, ◌<◌, ◌≤◌, ◌-◌, ◌⊎◌, IfOk, IfErr, OnOk, OnErr, inl, inr, length-drop, List, [], ◌∷◌, ◌++◌, length, map, Bool, true, false, IsTrue, ◌↔◌, Option, None, Some, Result, Ok, Err, MatchResult, IfSome, refl, sym, ap, ◌∙◌, subst, arith, append_assoc}
+use Rattle.std.proofs.Common.{Vec, Global, length-append, ◌≡◌, ℕ, ◌<◌, ◌≤◌, ◌-◌, ◌⊎◌, IfOk, IfErr, OnOk, OnErr, inl, inr, length-drop, List, [], ◌∷◌, ◌++◌, length, map, Bool, true, false, IsTrue, ◌↔◌, Option, None, Some, Result, Ok, Err, MatchResult, IfSome, refl, sym, ap, ◌∙◌, subst, arith, append_assoc}
 use Rattle.std.specs.List.{concat, AllZip, All}
 use Rattle.std.specs.Result.{is_ok}
 use Rattle.std.proofs.lemmas.List.{length-map}
 use Rattle.std.proofs.lemmas.Bool.{false≢true}
-use Rattle.std.proofs.lemmas.List.Elements.{All-head, All-tail}
+use Rattle.std.proofs.lemmas.List.Elements.{All-nil, All-head, All-tail}
 use mathlib.Core.Bool.{beq}
 use Rattle.multihash.specs.Pair.{Pair, IsSame, FitsBuffer}
 use Rattle.multihash.specs.Encoding.{IsEncoding}
 use Rattle.multihash.specs.Joined.{AreJoined}
-use Rattle.multihash.specs.Verdict.{Verdict, accepted, HasVerdict, HasWholeVerdict}
+use Rattle.multihash.specs.Varint.{insufficient, IsMarked}
+use Rattle.multihash.specs.Verdict.{Verdict, accepted, faulty, HasVerdict, HasWholeVerdict}
+use Rattle.multihash.specs.Settling.{Settles}
+use Rattle.multihash.specs.Taking.{TakesShortestSettling}
+use Rattle.multihash.proofs.Readings.SettlingLemmas.{early_not_settles}
 use Rattle.multihash.specs.Reading.{Takes}
 use Rattle.multihash.specs.Scale.{IsScale, HasScaleVerdict}
 use Rattle.multihash.specs.Places.{GivesUpFor}
@@ -171,3 +175,16 @@ verdict_back S p bytes (Ok m) v h answers encodes fits =
     cc
 verdict_back S p bytes (Err e) v h answers encodes fits =
     absurd (subst (IsRefusal e) (whole_verdict_unique S bytes v (accepted p) h (encodes, fits)) answers)
+
+-- reading took something where its verdict is no early end
+pub takes_some : (S : ℕ) (old new : List ℕ) → TakesShortestSettling S old (Some new) → length new < length old
+takes_some S old new taken = by taken.front refl
+  where
+    split : old ≡ taken.front ++ new
+    split = cc (taken.takes)
+
+    by : (front : List ℕ) → taken.front ≡ front → length new < length old
+    by [] e =
+        absurd (early_not_settles S [] (faulty insufficient) tt
+        (inl (record { few = omega arith; all_marked = All-nil IsMarked })) (subst (Settles S) e taken.shortest.settles))
+    by (b ∷ front) e = omega (arith, ap (λ (z : List ℕ). length z) split, length-append taken.front new, ap (λ (z : List ℕ). length z) e)

@@ -1,7 +1,7 @@
 -- What an encoding tells and puts, where the bytes fit and where they do not.
 use Rattle.std.proofs.Common.{◌≡◌, ℕ, ◌+◌, ◌<◌, ◌≤◌, List, [], ◌++◌, length, drop, arith}
 use Rattle.multihash.specs.Encoding.{IsEncoding}
-use Rattle.multihash.proofs.LengthLemmas.{varint_some, varint_below, encoding_bytes_count}
+use Rattle.multihash.proofs.Varints.LengthLemmas.{varint_bytes, varint_below, encoding_bytes_count}
 use Rattle.multihash_c.specs.Status.{status_ok, status_no_room}
 use Rattle.multihash_c.specs.Encoded.{Puts}
 use Rattle.multihash_c.specs.declared.encoded.Encoded.{Encoded}
@@ -13,7 +13,7 @@ empty_encoding code bytes e =
     omega (
       arith,
       encoding_bytes_count (record { code = code; digest = [] }) bytes e,
-      varint_some 0 e.size e.is_size,
+      varint_bytes 0 e.size e.is_size,
       varint_below 0 0 e.size e.is_size (omega arith),
     )
 

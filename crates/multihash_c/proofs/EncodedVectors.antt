@@ -2,8 +2,8 @@
 use Rattle.std.proofs.Common.{◌≡◌, ℕ, List, [], ◌∷◌, length, get_or, replicate, refl, sym, ap, ◌∙◌, subst, arith}
 use Rattle.multihash.specs.Varint.{IsVarint}
 use Rattle.multihash.specs.Encoding.{IsEncoding}
-use Rattle.multihash.proofs.VarintVectors.{varint_0, varint_1, varint_128}
-use Rattle.multihash.proofs.VerdictLemmas.{encoding_same}
+use Rattle.multihash.proofs.Examples.VarintVectors.{varint_0, varint_1, varint_128}
+use Rattle.multihash.proofs.Readings.VerdictLemmas.{encoding_same}
 use Rattle.multihash_c.specs.declared.encoded.Encoded.{Encoded}
 use Rattle.multihash_c.specs.Encoded.{IsTooLong, IsLargeCode, IsPut, TellsLength, Puts}
 

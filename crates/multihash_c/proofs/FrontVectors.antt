@@ -3,9 +3,9 @@ use Rattle.std.proofs.Common.{◌≡◌, ℕ, List, [], ◌∷◌, ◌++◌, len
 use Rattle.multihash.specs.Varint.{VarintFault, insufficient, overflow, not_minimal}
 use Rattle.multihash.specs.Verdict.{faulty}
 use Rattle.multihash.specs.Head.{HasHead}
-use Rattle.multihash.proofs.VerdictLemmas.{verdict_unique, same_number}
-use Rattle.multihash.proofs.VarintVectors.{varint_0, varint_5}
-use Rattle.multihash.proofs.VerdictVectors.{code_alone}
+use Rattle.multihash.proofs.Readings.VerdictLemmas.{verdict_unique, same_number}
+use Rattle.multihash.proofs.Examples.VarintVectors.{varint_0, varint_5}
+use Rattle.multihash.proofs.Examples.VerdictVectors.{code_alone}
 use Rattle.multihash_c.specs.declared.front.Front.{Front}
 use Rattle.multihash_c.specs.Decoded.{Tells}
 use Rattle.multihash_c.specs.Status.{status_of_fault}

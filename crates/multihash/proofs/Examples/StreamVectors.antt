@@ -1,23 +1,20 @@
 -- What reading and writing of many multihashes took and appended, at known pairs.
-use Rattle.std.proofs.Common.{◌≡◌, ◌<◌, ◌⊎◌, ℕ, List, [], ◌∷◌, ◌++◌, length, get_or, refl, sym, ap, ◌∙◌, subst, arith, inl, inr, length-append, append-nil}
+use Rattle.std.proofs.Common.{◌≡◌, ◌<◌, ◌⊎◌, ℕ, List, [], ◌∷◌, length, refl, sym, ap, ◌∙◌, subst, arith, inl, inr, append-nil}
 use Rattle.std.specs.Prelude.{Option, Some, None, IfSome, codes}
 use Rattle.std.specs.List.{All}
 use Rattle.std.proofs.lemmas.List.Elements.{All-nil, All-cons, All-head, All-tail}
-use Rattle.multihash.specs.Bytes.{IsProperBeginning}
 use Rattle.multihash.specs.Varint.{insufficient}
 use Rattle.multihash.specs.Pair.{Pair, FitsBuffer}
 use Rattle.multihash.specs.Verdict.{Verdict, accepted, invalid_size, faulty, HasVerdict, IsEarlyEnd}
 use Rattle.multihash.specs.Settling.{Settles}
 use Rattle.multihash.specs.Joined.{AreJoined}
-use Rattle.multihash.specs.Places.{AppendsAtEnd}
 use Rattle.multihash.specs.Reading.{Takes}
 use Rattle.multihash.specs.Refusal.{of_io, of_size, of_varint}
 use Rattle.multihash.specs.Answer.{IsRefusal}
 use Rattle.multihash.specs.Taking.{TakesShortestSettling, TakesUnsettled}
-use Rattle.multihash.specs.Streams.{TakesPairs, StopsAfterPairs, AppendsPartOfPairs}
+use Rattle.multihash.specs.Streams.{TakesPairs, StopsAfterPairs}
 use Rattle.multihash.proofs.Readings.ReadingLemmas.{Takes-none}
-use Rattle.multihash.proofs.Writings.WritingLemmas.{some_items}
-use Rattle.multihash.proofs.Forms.StreamLemmas.{TakesPairs-none, part_of_all}
+use Rattle.multihash.proofs.Forms.StreamLemmas.{TakesPairs-none}
 use Rattle.multihash.proofs.Readings.VerdictLemmas.{verdict_unique}
 use Rattle.multihash.proofs.Readings.SettlingLemmas.{late_settles, none_settles}
 use Rattle.multihash.proofs.Forms.JoinedLemmas.{joined_whole, joined_same, joined_unique}
@@ -288,94 +285,3 @@ fails_at_second_with_nothing_settled h =
           TakesUnsettled 4 left (Some (9 ∷ []))))
           at h.unsettled (inl (omega arith)))
     ]
-
--- ---- a part of the pairs
-
-appends_part_of_second : AppendsPartOfPairs AppendsAtEnd [] (a ∷ b ∷ []) (0 ∷ 1 ∷ 65 ∷ 1 ∷ [])
-appends_part_of_second = record {
-  first = a ∷ b ∷ [];
-  later = [];
-  bytes = 0 ∷ 1 ∷ 65 ∷ 1 ∷ 1 ∷ 66 ∷ [];
-  cut = refl;
-  joined = joined_two;
-  part = record {
-    part = 0 ∷ 1 ∷ 65 ∷ 1 ∷ [];
-    proper = (1 ∷ 66 ∷ [], (λ e. omega (arith, ap (λ (z : List ℕ). length z) e)), refl);
-    stands = refl;
-  };
-}
-
-appends_nothing_of_two : AppendsPartOfPairs AppendsAtEnd [] (a ∷ b ∷ []) []
-appends_nothing_of_two = record {
-  first = a ∷ [];
-  later = b ∷ [];
-  bytes = 0 ∷ 1 ∷ 65 ∷ [];
-  cut = refl;
-  joined = joined_one;
-  part = record {
-    part = [];
-    proper = (0 ∷ 1 ∷ 65 ∷ [], (λ e. omega (arith, ap (λ (z : List ℕ). length z) e)), refl);
-    stands = refl;
-  };
-}
-
--- nothing is a part of nothing
-no_part_of_nothing : (bytes part : List ℕ) → bytes ≡ [] → ¬ (IsProperBeginning part bytes)
-no_part_of_nothing bytes part none (rest, some, cut) =
-    omega (
-      arith,
-      some_items rest some,
-      ap (λ (z : List ℕ). length z) none,
-      ap (λ (z : List ℕ). length z) cut,
-      length-append part rest,
-    )
-
--- nor does a part begin with a later pair
-no_part_of_a_later_pair : ¬ (AppendsPartOfPairs AppendsAtEnd [] (a ∷ b ∷ []) (1 ∷ []))
-no_part_of_a_later_pair h =
-    let p =
-    part_of_all AppendsAtEnd [] (1 ∷ []) (a ∷ b ∷ []) (0 ∷ 1 ∷ 65 ∷ 1 ∷ 1 ∷ 66 ∷ []) h joined_two in
-    omega (arith, ap (λ (z : List ℕ). get_or z 0 0) (p.proper.2 ∙ ap (λ (z : List ℕ). z ++ p.proper.0) (sym p.stands)))
-
-first_of_one : (first later : List Pair) → a ∷ [] ≡ first ++ later → (first ≡ []) ⊎ (first ≡ a ∷ [])
-first_of_one [] later e = inl refl
-first_of_one (p ∷ []) later e = inr cc
-first_of_one (p ∷ q ∷ ps) later e = absurd (omega (arith, ap (λ (z : List Pair). length z) e))
-
-part_of_one : (new : List ℕ) → AppendsPartOfPairs AppendsAtEnd [] (a ∷ []) new
-    → IsProperBeginning new (0 ∷ 1 ∷ 65 ∷ [])
-part_of_one new h =
-    subst (λ (z : List ℕ). IsProperBeginning z (0 ∷ 1 ∷ 65 ∷ [])) (sym h.part.stands)
-    (elim (first_of_one h.first h.later h.cut) [
-      | inl none ↦
-          absurd (no_part_of_nothing h.bytes h.part.part
-          (joined_none_only h.bytes
-          (subst (λ (ps : List Pair). AreJoined ps h.bytes) none h.joined)) h.part.proper)
-      | inr one ↦
-          subst (IsProperBeginning h.part.part)
-          (joined_same (a ∷ []) h.bytes (0 ∷ 1 ∷ 65 ∷ [])
-          (subst (λ (ps : List Pair). AreJoined ps h.bytes) one h.joined) joined_one)
-          h.part.proper
-    ])
-
--- what was appended is of the pairs that were to be written
-no_part_of_no_pairs : ¬ (AppendsPartOfPairs AppendsAtEnd [] [] (0 ∷ []))
-no_part_of_no_pairs h = none h.first h.later h.cut h.bytes h.joined h.part.part h.part.proper
-  where
-    none : (first later : List Pair) → [] ≡ first ++ later → (bytes : List ℕ)
-        → AreJoined first bytes → (part : List ℕ) → ¬ (IsProperBeginning part bytes)
-    none [] later cut bytes joined part proper = no_part_of_nothing bytes part
-        (joined_none_only bytes joined) proper
-    none (p ∷ first) later cut bytes joined part proper = omega
-        (arith, ap (λ (z : List Pair). length z) cut)
-
--- and of their encodings
-no_part_of_other_bytes : ¬ (AppendsPartOfPairs AppendsAtEnd [] (a ∷ []) (9 ∷ []))
-no_part_of_other_bytes h =
-    let (rest, some, cut) = part_of_one (9 ∷ []) h in omega (arith, ap (λ (z : List ℕ). get_or z 0 0) cut)
-
--- the whole is no part
-no_part_is_the_whole : ¬ (AppendsPartOfPairs AppendsAtEnd [] (a ∷ []) (0 ∷ 1 ∷ 65 ∷ []))
-no_part_is_the_whole h =
-    let (rest, some, cut) = part_of_one (0 ∷ 1 ∷ 65 ∷ []) h in
-    omega (arith, some_items rest some, ap (λ (z : List ℕ). length z) cut, length-append (0 ∷ 1 ∷ 65 ∷ []) rest)

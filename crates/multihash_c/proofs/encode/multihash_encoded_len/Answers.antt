@@ -1,5 +1,5 @@
 use Rattle.std.proofs.Common.{◌++◌, refl, sym, arith}
-use Rattle.multihash.proofs.EncodingLemmas.{encoding_of, length-parts}
+use Rattle.multihash.proofs.Writings.EncodingLemmas.{encoding_of, length-parts}
 use Rattle.multihash_c.proofs.encode.multihash_encoded_len.Goals as goal
 
 pub returns-in-Some-Some-clause-length : goal.returns-in-Some-Some-clause-length

@@ -1,6 +1,6 @@
 use Rattle.std.proofs.Common.{subst, arith}
 use Rattle.multihash.specs.Encoding.{IsEncoding}
-use Rattle.multihash.proofs.LengthLemmas.{varint_longest}
+use Rattle.multihash.proofs.Varints.LengthLemmas.{varint_longest}
 use Rattle.multihash_c.proofs.EncodedLemmas.{empty_encoding}
 use Rattle.multihash_c.proofs.encode.varint_len.Goals as goal
 
