@@ -1,7 +1,7 @@
 #!/usr/bin/env python3
 """Checks that crates/multihash_c/include/multihash.h and the crate declare the same: the functions with their
 parameters, the structs with the order and the types of their fields, the status's type and numbers, the largest
-lengths, the texts of the statuses, and the version. Header and crate are read whole: a line that is none of the forms known here is a
+lengths, the texts of the statuses, and the version; and that the bindings have its numbers and structs. Header and crate are read whole: a line that is none of the forms known here is a
 fault. Then plants differences in copies, each of which must be seen.
 
     tools/check_header.py              checks
@@ -16,6 +16,9 @@ import tempfile
 TOP = os.path.dirname(os.path.dirname(os.path.realpath(__file__)))
 HEADER = "crates/multihash_c/include/multihash.h"
 SOURCE = "crates/multihash_c/src"
+RUST = "bindings/rust/src"
+CARGO = "bindings/rust/Cargo.toml"
+PYTHON = "bindings/python/multihash_c.py"
 VARINT = "crates/multihash/specs/Varint.antt"
 TYPES = {"u8": "uint8_t", "u32": "uint32_t", "u64": "uint64_t", "i32": "int32_t", "usize": "size_t"}
 
@@ -262,13 +265,60 @@ def of_header(top):
     return found
 
 
+# ---- the bindings
+
+
+def of_rust(top):
+    """What the crate for Rust declares of the numbers, the structs and the lengths."""
+    text = read(os.path.join(top, RUST, "ffi.rs")) + read(os.path.join(top, RUST, "lib.rs"))
+    structs = {}
+    for name, body in re.findall(r"#\[repr\(C\)\]\npub\(crate\) struct (\w+) \{([^{}]*)\}", text):
+        fields = [whole(r"pub\(crate\) ?(\w+): (\w+)", field) for field in pieces(body, ",")]
+        structs["multihash_%s" % name.lower()] = [(TYPES[field[2]], field[1]) for field in fields]
+    version = whole(r'.*\nversion = ("[^"]*")\n.*', read(os.path.join(top, CARGO)))[1]
+    lengths = re.findall(r"pub const (\w+): usize = (\d+);", text)
+    return {
+        "numbers": {name: int(number) for name, number in re.findall(r"const (\w+): u32 = (\d+);", text)},
+        "structs": structs,
+        "constants": {"VERSION": version, **{name: int(number) for name, number in lengths}},
+    }
+
+
+def of_python(top):
+    """What the module for Python declares of the numbers, the structs and the lengths."""
+    text = read(os.path.join(top, PYTHON))
+    types = {"c_" + name[: -len("_t")].replace("_", ""): name for name in TYPES.values()}
+    types["c_size_t"] = "size_t"
+    structs = {}
+    for name, body in re.findall(r"class _(\w+)\(ctypes.Structure\):\n    _fields_ = \[(.*?)\]\n", text, re.S):
+        fields = re.findall(r'\("(\w+)", ctypes\.(\w+)\)', body)
+        structs["multihash_%s" % name.lower()] = [(types[kind], field) for field, kind in fields]
+    numbers = {name: int(number) for name, number in re.findall(r"^(\w+) = (\d+)$", text, re.M)}
+    lengths = {name: numbers.pop(name) for name in list(numbers) if name.endswith("_MAX")}
+    return {"numbers": numbers, "structs": structs, "constants": lengths}
+
+
+def of_bindings(top, header):
+    """The faults of the bindings: each number and struct of the header is theirs, and what they name of its constants."""
+    faults = []
+    for name, found in (("Rust", of_rust(top)), ("Python", of_python(top))):
+        wanted = {**header, "constants": {part: header["constants"].get(part) for part in found["constants"]}}
+        faults += [
+            "%s: the binding for %s has %s, the header %s" % (part, name, found[part], wanted[part])
+            for part in found
+            if found[part] != wanted[part] or not found[part]
+        ]
+    return faults
+
+
 def differences(top):
     try:
         crate, header = of_crate(top), of_header(top)
+        bindings = of_bindings(top, header)
     except Unread as fault:
         return [str(fault)]
     empty = ["%s: none" % part for part in crate if not crate[part]]
-    return empty + [
+    return empty + bindings + [
         "%s: the crate has %s, the header %s" % (part, crate[part], header[part])
         for part in crate
         if crate[part] != header[part]
@@ -292,7 +342,7 @@ def planted(name):
 def is_seen(path, old, new):
     """Whether a difference that is planted in a copy is seen."""
     with tempfile.TemporaryDirectory() as top:
-        for name in [HEADER, VARINT]:
+        for name in [HEADER, VARINT, CARGO, PYTHON, RUST + "/lib.rs", RUST + "/ffi.rs"]:
             os.makedirs(os.path.dirname(os.path.join(top, name)), exist_ok=True)
             shutil.copy(os.path.join(TOP, name), os.path.join(top, name))
         shutil.copytree(os.path.join(TOP, SOURCE), os.path.join(top, SOURCE))
