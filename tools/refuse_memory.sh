@@ -2,7 +2,8 @@
 # Refuses each request for memory in turn: runs the tests with the Nth request of each refused, N
 # counted upwards until no test meets a refusal. A test that met one, and found all as it should be,
 # fails with REFUSED. It says how many requests each call made, and closes with 'N passed, M failed'.
-cd "$(dirname "$0")/.." || exit 2
+# PROVED may name a copy of the repository whose crates are built already: then that one is run.
+cd "${PROVED:-$(dirname "$0")/..}" || exit 2
 
 told='    error: "memory was refused"'
 most=40
@@ -10,16 +11,16 @@ most=40
 # The tests, by crate, and how many requests each makes: 'some' where that may change.
 tests() {
     case $1 in
-    uses) cat <<-'LIST'
-		tests::memory::refused_to_bytes 1
-		tests::memory::refused_long_to_bytes 1
-		tests::memory::refused_to_value some
-		tests::memory::refused_read_list 1
-		tests::memory::refused_write some
-		tests::memory::refused_scale_encode some
-		tests::memory::refused_write_list some
-		tests::memory::refused_write_of_a_long_list some
-		tests::memory::needs_no_memory 0
+    tests_memory) cat <<-'LIST'
+		memory::refused_to_bytes 1
+		memory::refused_long_to_bytes 1
+		memory::refused_to_value some
+		memory::refused_read_list 1
+		memory::refused_write some
+		memory::refused_scale_encode some
+		memory::refused_write_list some
+		memory::refused_write_of_a_long_list some
+		memory::needs_no_memory 0
 		LIST
         ;;
     mh_show) cat <<-'LIST'
@@ -51,6 +52,7 @@ refuse() {
     local crate=$1 out=$2/$1 n=0 met=yes test wanted answer
     while [ $met = yes ] && [ $n -lt $most ]; do
         n=$((n + 1)) met=no
+        echo "$crate: request $n"
         (cd "crates/$crate" && rt try --test --fail-alloc $n) >"$out.run" 2>&1
         if ! grep -q '^test result: ' "$out.run"; then
             echo "failed: $crate: no tests ran"
@@ -88,11 +90,10 @@ judge() {
 
 folder=$(mktemp -d) || exit 2
 trap 'rm -rf "$folder"' EXIT
-for crate in uses mh_show; do
-    refuse $crate "$folder" >"$folder/$crate.lines" &
+for crate in tests_memory mh_show; do
+    refuse $crate "$folder" | tee "$folder/$crate.lines" &
 done
 wait
-cat "$folder"/*.lines
 passed=$(cat "$folder"/*.lines | grep -c '^passed')
 failed=$(cat "$folder"/*.lines | grep -c '^failed')
 echo "$passed passed, $failed failed"

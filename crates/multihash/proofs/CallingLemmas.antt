@@ -1,15 +1,19 @@
 -- What callers conclude from the contracts of several calls.
-use Rattle.std.proofs.Common.{Vec, Global, ◌≡◌, ℕ, ◌<◌, ◌≤◌, ◌-◌, ◌⊎◌, IfOk, IfErr, OnOk, OnErr, inl, inr, length-drop, List, [], ◌∷◌, ◌++◌, length, map, Bool, true, false, IsTrue, ◌↔◌, Option, None, Some, Result, Ok, Err, MatchResult, IfSome, refl, sym, ap, ◌∙◌, subst, arith, append_assoc}
+use Rattle.std.proofs.Common.{Vec, Global, length-append, ◌≡◌, ℕ, ◌<◌, ◌≤◌, ◌-◌, ◌⊎◌, IfOk, IfErr, OnOk, OnErr, inl, inr, length-drop, List, [], ◌∷◌, ◌++◌, length, map, Bool, true, false, IsTrue, ◌↔◌, Option, None, Some, Result, Ok, Err, MatchResult, IfSome, refl, sym, ap, ◌∙◌, subst, arith, append_assoc}
 use Rattle.std.specs.List.{concat, AllZip, All}
 use Rattle.std.specs.Result.{is_ok}
 use Rattle.std.proofs.lemmas.List.{length-map}
 use Rattle.std.proofs.lemmas.Bool.{false≢true}
-use Rattle.std.proofs.lemmas.List.Elements.{All-head, All-tail}
+use Rattle.std.proofs.lemmas.List.Elements.{All-nil, All-head, All-tail}
 use mathlib.Core.Bool.{beq}
 use Rattle.multihash.specs.Pair.{Pair, IsSame, FitsBuffer}
 use Rattle.multihash.specs.Encoding.{IsEncoding}
 use Rattle.multihash.specs.Joined.{AreJoined}
-use Rattle.multihash.specs.Verdict.{Verdict, accepted, HasVerdict, HasWholeVerdict}
+use Rattle.multihash.specs.Varint.{insufficient, IsMarked, IsVarint}
+use Rattle.multihash.specs.Verdict.{Verdict, accepted, faulty, HasVerdict, HasWholeVerdict}
+use Rattle.multihash.specs.Settling.{Settles}
+use Rattle.multihash.specs.Taking.{TakesShortestSettling, TakesVarint, IsFrontRefusal}
+use Rattle.multihash.proofs.Readings.SettlingLemmas.{early_not_settles}
 use Rattle.multihash.specs.Reading.{Takes}
 use Rattle.multihash.specs.Scale.{IsScale, HasScaleVerdict}
 use Rattle.multihash.specs.Places.{GivesUpFor}
@@ -19,7 +23,8 @@ use Rattle.multihash.specs.Streams.{TakesPairs, StopsAfterPairs}
 use Rattle.multihash.specs.Answer.{Fields, pair_of, IsRefusal, Answers}
 use Rattle.multihash.proofs.Writings.PlacesLemmas.{fewer_places, full_of_faults}
 use Rattle.multihash.proofs.Values.PairLemmas.{IsSame-refl, IsSame-equal}
-use Rattle.multihash.proofs.Readings.VerdictLemmas.{same_cut, encoding_same, encoding_unique, verdict_unique, whole_verdict_unique}
+use Rattle.multihash.proofs.Readings.VerdictLemmas.{same_cut, same_number, encoding_same, encoding_unique, verdict_unique, whole_verdict_unique}
+use Rattle.multihash.proofs.Varints.VarintLemmas.{number_no_fault}
 use Rattle.multihash.proofs.Forms.ScaleLemmas.{scale_same, scale_own, scale_verdict_unique}
 use Rattle.multihash.proofs.Forms.JoinedLemmas.{joined_unique}
 
@@ -171,3 +176,36 @@ from_bytes_of_encoding S p bytes (Ok m) v h answers encodes fits =
     cc
 from_bytes_of_encoding S p bytes (Err e) v h answers encodes fits =
     absurd (subst (IsRefusal e) (whole_verdict_unique S bytes v (accepted p) h (encodes, fits)) answers)
+
+-- reading took something where its verdict is no early end
+pub takes_some : (S : ℕ) (old new : List ℕ) → TakesShortestSettling S old (Some new) → length new < length old
+takes_some S old new taken = by taken.front refl
+  where
+    split : old ≡ taken.front ++ new
+    split = cc (taken.takes)
+
+    by : (front : List ℕ) → taken.front ≡ front → length new < length old
+    by [] e =
+        absurd (early_not_settles S [] (faulty insufficient) tt
+        (inl (record { few = omega arith; all_marked = All-nil IsMarked })) (subst (Settles S) e taken.shortest.settles))
+    by (b ∷ front) e = omega (arith, ap (λ (z : List ℕ). length z) split, length-append taken.front new, ap (λ (z : List ℕ). length z) e)
+
+-- reading the varint that comes next gives its number and leaves what follows
+pub varint_read : (n before after : ℕ) (old new : Option (List ℕ)) (bytes more : List ℕ) (r : Result ℕ Refusal)
+    → IsVarint n bytes → old ≡ Some (bytes ++ more) → after ≡ before
+    → IfOk r (λ m. TakesVarint m old new)
+    → IfSome old (λ input. after ≡ before → IfErr r (IsFrontRefusal input))
+    → MatchResult r (λ m. (m ≡ n) × (new ≡ Some more)) (λ _. ⊥)
+varint_read n before after None new bytes more r is rest same ok front = cc
+varint_read n before after (Some input) new bytes more (Ok m) is rest same ok front = at new ok.2
+  where
+    at : (new : Option (List ℕ)) → Takes (Some input) ok.0 new → (m ≡ n) × (new ≡ Some more)
+    at None takes = cc
+    at (Some left) takes =
+        let cut : ok.0 ++ left ≡ bytes ++ more = cc in
+        let told = same_number (bytes ++ more) m n left more (ok.0, ok.1, sym cut) (bytes, is, refl) in
+        (told.0, ap Some told.1)
+varint_read n before after (Some input) new bytes more (Err e) is rest same ok front =
+    let met = front same in
+    let spelled : input ≡ bytes ++ more = cc in
+    absurd (number_no_fault input n more met.0 (bytes, is, spelled) met.2)

@@ -1,3 +1,4 @@
+pub mod KeyLemmas
 pub mod OrderLemmas
 pub mod PairLemmas
 pub mod ValueLemmas

@@ -1,5 +1,5 @@
 -- What reading and writing of many multihashes took and appended, at known pairs.
-use Rattle.std.proofs.Common.{◌≡◌, ◌<◌, ◌⊎◌, ℕ, List, [], ◌∷◌, ◌++◌, length, get_or, refl, sym, ap, ◌∙◌, subst, arith, inl, inr, length-append, append-nil}
+use Rattle.std.proofs.Common.{◌≡◌, ◌<◌, ◌⊎◌, ℕ, List, [], ◌∷◌, length, refl, sym, ap, ◌∙◌, subst, arith, inl, inr, append-nil}
 use Rattle.std.specs.Prelude.{Option, Some, None, IfSome, codes}
 use Rattle.std.specs.List.{All}
 use Rattle.std.proofs.lemmas.List.Elements.{All-nil, All-cons, All-head, All-tail}
@@ -8,18 +8,16 @@ use Rattle.multihash.specs.Pair.{Pair, FitsBuffer}
 use Rattle.multihash.specs.Verdict.{Verdict, accepted, invalid_size, faulty, HasVerdict, IsEarlyEnd}
 use Rattle.multihash.specs.Settling.{Settles}
 use Rattle.multihash.specs.Joined.{AreJoined}
-use Rattle.multihash.specs.Places.{AppendsAtEnd}
 use Rattle.multihash.specs.Reading.{Takes}
 use Rattle.multihash.specs.Refusal.{Refusal, of_io, of_size, of_varint}
 use Rattle.multihash.specs.Answer.{IsRefusal}
 use Rattle.multihash.specs.Taking.{TakesShortestSettling, TakesUnsettled}
-use Rattle.multihash.specs.Streams.{TakesPairs, StopsAfterPairs, AppendsPartOfPairs}
+use Rattle.multihash.specs.Streams.{TakesPairs, StopsAfterPairs}
 use Rattle.multihash.proofs.Readings.ReadingLemmas.{Takes-none}
-use Rattle.multihash.proofs.Writings.WritingLemmas.{length_of_not_nil}
-use Rattle.multihash.proofs.Forms.StreamLemmas.{TakesPairs-none, part_of_all}
+use Rattle.multihash.proofs.Forms.StreamLemmas.{TakesPairs-none}
 use Rattle.multihash.proofs.Readings.VerdictLemmas.{verdict_unique}
 use Rattle.multihash.proofs.Readings.SettlingLemmas.{late_settles, none_settles}
-use Rattle.multihash.proofs.Forms.JoinedLemmas.{AreJoined-none, joined_whole, joined_same, joined_unique}
+use Rattle.multihash.proofs.Forms.JoinedLemmas.{joined_whole, joined_same, joined_unique}
 use Rattle.multihash.proofs.Examples.FaultVectors.{other}
 use Rattle.multihash.proofs.Examples.RefusalVectors.{size_in}
 use Rattle.multihash.proofs.Examples.ReadingVectors.{told, taken_is}
@@ -247,63 +245,3 @@ fails_at_second_with_nothing_settled h =
           u.unsettled (0 ∷ 1 ∷ 65 ∷ []) (0 ∷ 5 ∷ [], taken_is (0 ∷ 1 ∷ 65 ∷ 0 ∷ 5 ∷ []) (9 ∷ []) u.taken u.takes) pair_settles
       | inr at ↦ takes_what_settles (unsettled_behind 2 (of_io other) 3 4 _ _ (0 ∷ 5 ∷ 9 ∷ []) h at (omega arith))
     ]
-
--- ---- a part of the pairs
-
-appends_part_of_second : AppendsPartOfPairs AppendsAtEnd [] (a ∷ b ∷ []) (0 ∷ 1 ∷ 65 ∷ 1 ∷ [])
-appends_part_of_second = record {
-  first = a ∷ b ∷ [];
-  later = [];
-  bytes = 0 ∷ 1 ∷ 65 ∷ 1 ∷ 1 ∷ 66 ∷ [];
-  cut = refl;
-  joined = joined_two;
-  part = record {
-    part = 0 ∷ 1 ∷ 65 ∷ 1 ∷ [];
-    proper = (1 ∷ 66 ∷ [], (λ e. omega (arith, ap (λ (z : List ℕ). length z) e)), refl);
-    stands = refl;
-  };
-}
-
-appends_nothing_of_two : AppendsPartOfPairs AppendsAtEnd [] (a ∷ b ∷ []) []
-appends_nothing_of_two = record {
-  first = a ∷ [];
-  later = b ∷ [];
-  bytes = 0 ∷ 1 ∷ 65 ∷ [];
-  cut = refl;
-  joined = joined_one;
-  part = record {
-    part = [];
-    proper = (0 ∷ 1 ∷ 65 ∷ [], (λ e. omega (arith, ap (λ (z : List ℕ). length z) e)), refl);
-    stands = refl;
-  };
-}
-
--- no part begins with a later pair
-no_part_of_a_later_pair : ¬ (AppendsPartOfPairs AppendsAtEnd [] (a ∷ b ∷ []) (1 ∷ []))
-no_part_of_a_later_pair h =
-    let p =
-    part_of_all AppendsAtEnd [] (1 ∷ []) (a ∷ b ∷ []) (0 ∷ 1 ∷ 65 ∷ 1 ∷ 1 ∷ 66 ∷ []) h joined_two in
-    omega (arith, ap (λ (z : List ℕ). get_or z 0 0) (p.proper.2 ∙ ap (λ (z : List ℕ). z ++ p.proper.0) (sym p.stands)))
-
--- what was appended is of the pairs that were to be written, and of their encodings
-no_part_of_no_pairs : ¬ (AppendsPartOfPairs AppendsAtEnd [] [] (0 ∷ []))
-no_part_of_no_pairs h =
-    let p = part_of_all AppendsAtEnd [] (0 ∷ []) [] [] h AreJoined-none in
-    omega (arith, ap (λ (z : List ℕ). length z) p.proper.2, length-append p.part p.proper.0, ap (λ (z : List ℕ). length z) p.stands)
-
-no_part_of_other_bytes : ¬ (AppendsPartOfPairs AppendsAtEnd [] (a ∷ []) (9 ∷ []))
-no_part_of_other_bytes h =
-    let p = part_of_all AppendsAtEnd [] (9 ∷ []) (a ∷ []) (0 ∷ 1 ∷ 65 ∷ []) h joined_one in
-    omega (arith, ap (λ (z : List ℕ). get_or z 0 0) (p.proper.2 ∙ ap (λ (z : List ℕ). z ++ p.proper.0) (sym p.stands)))
-
--- the whole is no part
-no_part_is_the_whole : ¬ (AppendsPartOfPairs AppendsAtEnd [] (a ∷ []) (0 ∷ 1 ∷ 65 ∷ []))
-no_part_is_the_whole h =
-    let p = part_of_all AppendsAtEnd [] (0 ∷ 1 ∷ 65 ∷ []) (a ∷ []) (0 ∷ 1 ∷ 65 ∷ []) h joined_one in
-    omega (
-      arith,
-      length_of_not_nil p.proper.0 p.proper.1,
-      ap (λ (z : List ℕ). length z) p.proper.2,
-      length-append p.part p.proper.0,
-      ap (λ (z : List ℕ). length z) p.stands,
-    )

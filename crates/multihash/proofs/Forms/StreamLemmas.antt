@@ -2,12 +2,12 @@
 use Rattle.std.proofs.Common.{◌≡◌, ℕ, List, [], ◌∷◌, ◌++◌, ◌+◌, Option, map, take, drop, refl, sym, ap, ◌∙◌, subst, append_assoc}
 use Rattle.std.proofs.lemmas.List.{map_push, map-append}
 use Rattle.std.proofs.lemmas.List.Elements.{All-nil, All-push}
-use Rattle.multihash.specs.Pair.{Pair, FitsBuffer}
+use Rattle.multihash.specs.Pair.{FitsBuffer}
 use Rattle.multihash.specs.Encoding.{IsEncoding}
 use Rattle.multihash.specs.Reading.{Takes}
 use Rattle.multihash.specs.Joined.{AreJoined}
 use Rattle.multihash.specs.Writing.{AppendsPart}
-use Rattle.multihash.specs.Streams.{TakesPairs, AppendsPartOfPairs}
+use Rattle.multihash.specs.Streams.{TakesPairs}
 use Rattle.multihash.specs.Answer.{Fields, pair_of}
 use Rattle.multihash.proofs.Forms.JoinedLemmas.{AreJoined-none, AreJoined-push, joined_front}
 use Rattle.multihash.proofs.Readings.ReadingLemmas.{Takes-none, Takes-joined}
@@ -26,25 +26,17 @@ TakesPairs-more S items m encoding a b c before encodes fits takes =
       takes = Takes-joined a b c before.bytes encoding _ refl before.takes takes;
     })
 
-module _ {W : Type 0} (appended : W → List ℕ → W → Type 0) where
-  -- what stopped in the first of some pairs stopped in all
-  pub part_of_all : (old new : W) (pairs : List Pair) (bytes : List ℕ) → AppendsPartOfPairs appended old pairs new → AreJoined pairs bytes
-      → AppendsPart appended old bytes new
-  part_of_all old new pairs bytes h joined =
-      let front = joined_front h.first h.later bytes h.bytes (subst (λ ps. AreJoined ps bytes) h.cut joined) h.joined in
-      subst (λ z. AppendsPart appended old z new) (sym front.1) (AppendsPart-append appended old new h.bytes front.0 h.part)
-
-  -- the items before this one stand appended, and a part of this one
-  pub stops_at : ((a b c : W) (x y : List ℕ) → appended a x b → appended b y c → appended a (x ++ y) c) → {S : ℕ} (old mid new : W) (items : List (Fields S))
-      (i : ℕ) (m : Fields S) (done encoding : List ℕ) → items ≡ take i items ++ m ∷ drop (i + 1) items → AreJoined (map pair_of (take i items)) done
-      → appended old done mid → IsEncoding (pair_of m) encoding → AppendsPart appended mid encoding new
-      → AppendsPartOfPairs appended old (map pair_of items) new
-  stops_at join old mid new items i m done encoding cut joined stands encodes part = record {
-    first = map pair_of (take i items) ++ pair_of m ∷ [];
-    later = map pair_of (drop (i + 1) items);
-    bytes = done ++ encoding;
-    cut = ap (map pair_of) cut ∙ (map-append pair_of (take i items) (m ∷ drop (i + 1) items)
-        ∙ sym (append_assoc (map pair_of (take i items)) (pair_of m ∷ []) (map pair_of (drop (i + 1) items))));
-    joined = AreJoined-push (map pair_of (take i items)) (pair_of m) done encoding joined encodes;
-    part = AppendsPart-joined appended join old mid new done encoding stands part;
-  }
+-- the items before this one stand appended, and a part of this one: so a part of all
+pub stops_in_all : {W : Type 0} (appended : W → List ℕ → W → Type 0) → ((a b c : W) (x y : List ℕ) → appended a x b → appended b y c → appended a (x ++ y) c)
+    → {S : ℕ} (old mid new : W) (items : List (Fields S)) (i : ℕ) (m : Fields S) (done encoding all : List ℕ) → items ≡ take i items ++ m ∷ drop (i + 1) items
+    → AreJoined (map pair_of (take i items)) done → appended old done mid → IsEncoding (pair_of m) encoding → AppendsPart appended mid encoding new
+    → AreJoined (map pair_of items) all → AppendsPart appended old all new
+stops_in_all appended join old mid new items i m done encoding all cut joined stands encodes part whole =
+    let before = map pair_of (take i items) in
+    let after = map pair_of (drop (i + 1) items) in
+    let pairs : map pair_of items ≡ (before ++ pair_of m ∷ []) ++ after =
+    ap (map pair_of) cut ∙ (map-append pair_of (take i items) (m ∷ drop (i + 1) items) ∙ sym (append_assoc before (pair_of m ∷ []) after)) in
+    let front = joined_front (before ++ pair_of m ∷ []) after all (done ++ encoding) (subst (λ ps. AreJoined ps all) pairs whole)
+    (AreJoined-push before (pair_of m) done encoding joined encodes) in
+    subst (λ z. AppendsPart appended old z new) (sym front.1)
+    (AppendsPart-append appended old new (done ++ encoding) front.0 (AppendsPart-joined appended join old mid new done encoding stands part))

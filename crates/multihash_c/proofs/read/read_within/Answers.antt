@@ -3,7 +3,7 @@ use Rattle.multihash_c.proofs.ReadLemmas.{size_read, end_read, read_of_encoding}
 use Rattle.multihash_c.proofs.read.read_within.Goals as goal
 
 pub returns-in_default : goal.returns-in_default
-returns-in_default c = c.read_fault.ensures c.args.limit
+returns-in_default c = c.read_fault.ensures.reads c.args.limit
 
 pub returns-then-head-limit : goal.returns-then-head-limit
 returns-then-head-limit c =

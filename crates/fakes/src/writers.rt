@@ -1,0 +1,199 @@
+//! Writers that fill up, fail or count what they are asked.
+ghost use Rattle.std.specs.Prelude.{◌≡◌, ◌<◌, ◌≤◌, ◌+◌, true, false, vec_len, vec_capacity, if◌then◌else◌};
+ghost use Rattle.multihash.specs.Places.{AppendsAtEnd, AppendsAtEnd-none, AppendsAtEnd-joined};
+
+use multihash::no_std_io::{Error, Write};
+use std::alloc::{AllocError, Global};
+
+/// A writer with `room` places left, which were reserved before, and which takes at most `most`
+/// bytes a call.
+#[derive(Drop)]
+pub struct Drip {
+    pub held: Vec<u8>,
+    /// How often it was asked.
+    pub asked: usize,
+    room: usize,
+    most: usize,
+    ghost reserved: { vec_len held + room ≤ vec_capacity held },
+    ghost takes_some: { 0 < most },
+}
+
+impl Drip {
+    pub fn new(alloc: Global, room: usize, most: usize) -> Result<Self, AllocError>
+        requires { 0 < most }
+    {
+        Ok(Drip {
+            held: Vec::with_capacity(alloc, room)?,
+            asked: 0,
+            room,
+            most,
+        })
+    }
+}
+
+impl Write for Drip {
+    const ALLOCATES: bool = false;
+
+    ghost allocates = { false };
+
+    ghost appended = { λ old bytes new. AppendsAtEnd old.held.items bytes new.held.items };
+
+    ghost full = { λ d. d.room ≡ 0 };
+
+    ghost failures = { λ _. 0 };
+
+    ghost appends_nothing = { λ w. AppendsAtEnd-none w.held.items };
+
+    ghost appends_joined = { λ a b c x y first second.
+        AppendsAtEnd-joined a.held.items b.held.items c.held.items x y first second };
+
+    fn write(&mut self, buf: &[u8]) -> Result<usize, Error> {
+        self.asked = self.asked.saturating_add(1);
+        let n = buf.len().min(self.most).min(self.room);
+        self.held.extend_from_slice(&buf[..n]).unwrap();
+        self.room -= n;
+        Ok(n)
+    }
+}
+
+/// As `Drip`, and it fails once, after `calls` calls that did not.
+#[derive(Drop)]
+pub struct FailWrite {
+    pub drip: Drip,
+    /// How often it was asked.
+    pub asked: usize,
+    calls: usize,
+    wants_memory: bool,
+    failed: bool,
+}
+
+impl FailWrite {
+    /// Fails with an error of its own.
+    pub fn new(drip: Drip, calls: usize) -> Self {
+        FailWrite {
+            drip,
+            asked: 0,
+            calls,
+            wants_memory: false,
+            failed: false,
+        }
+    }
+
+    /// Fails with want of memory.
+    pub fn out_of_memory(drip: Drip, calls: usize) -> Self {
+        FailWrite {
+            drip,
+            asked: 0,
+            calls,
+            wants_memory: true,
+            failed: false,
+        }
+    }
+}
+
+impl Write for FailWrite {
+    const ALLOCATES: bool = false;
+
+    ghost allocates = { false };
+
+    ghost appended = { λ old bytes new.
+        AppendsAtEnd old.drip.held.items bytes new.drip.held.items };
+
+    ghost full = { λ f. f.drip.room ≡ 0 };
+
+    ghost failures = { λ f. (if f.failed then 1 else 0) };
+
+    ghost appends_nothing = { λ w. AppendsAtEnd-none w.drip.held.items };
+
+    ghost appends_joined = { λ a b c x y first second. AppendsAtEnd-joined
+        a.drip.held.items b.drip.held.items c.drip.held.items x y first second };
+
+    fn write(&mut self, buf: &[u8]) -> Result<usize, Error> {
+        self.asked = self.asked.saturating_add(1);
+        if self.calls > 0 {
+            self.calls -= 1;
+        } else if !self.failed {
+            self.failed = true;
+            if self.wants_memory {
+                return Err(Error::out_of_memory());
+            }
+            return Err(Error::other("disk gone"));
+        }
+        self.drip.write(buf)
+    }
+}
+
+/// A vector as a writer, which counts what it is asked. It may fail once, after `calls` calls of
+/// either kind that did not.
+#[derive(Drop)]
+pub struct CountsWrites {
+    pub held: Vec<u8>,
+    /// The calls of `write`.
+    pub parts: usize,
+    /// The calls of `write_all`.
+    pub whole: usize,
+    calls: usize,
+    may_fail: bool,
+}
+
+impl CountsWrites {
+    pub fn new(alloc: Global) -> Self {
+        CountsWrites {
+            held: Vec::new(alloc),
+            parts: 0,
+            whole: 0,
+            calls: 0,
+            may_fail: false,
+        }
+    }
+
+    /// Fails with an error of its own.
+    pub fn failing(alloc: Global, calls: usize) -> Self {
+        CountsWrites {
+            held: Vec::new(alloc),
+            parts: 0,
+            whole: 0,
+            calls,
+            may_fail: true,
+        }
+    }
+}
+
+impl Write for CountsWrites {
+    const ALLOCATES: bool = true;
+
+    ghost allocates = { true };
+
+    ghost appended = { λ old bytes new. AppendsAtEnd old.held.items bytes new.held.items };
+
+    ghost full = { λ _. ⊥ };
+
+    ghost failures = { λ w. (if w.may_fail then 0 else 1) };
+
+    ghost appends_nothing = { λ w. AppendsAtEnd-none w.held.items };
+
+    ghost appends_joined = { λ a b c x y first second.
+        AppendsAtEnd-joined a.held.items b.held.items c.held.items x y first second };
+
+    fn write(&mut self, buf: &[u8]) -> Result<usize, Error> {
+        self.parts = self.parts.saturating_add(1);
+        if self.calls > 0 {
+            self.calls -= 1;
+        } else if self.may_fail {
+            self.may_fail = false;
+            return Err(Error::other("disk gone"));
+        }
+        self.held.write(buf)
+    }
+
+    fn write_all(&mut self, buf: &[u8]) -> Result<(), Error> {
+        self.whole = self.whole.saturating_add(1);
+        if self.calls > 0 {
+            self.calls -= 1;
+        } else if self.may_fail && !buf.is_empty() {
+            self.may_fail = false;
+            return Err(Error::other("disk gone"));
+        }
+        self.held.write_all(buf)
+    }
+}

@@ -1,0 +1,235 @@
+//! One line for each use, on fixed bytes.
+use anyhow::{Context, Result};
+use multihash::Multihash;
+use std::alloc::Global;
+use std::collections::{BTreeMap, HashMap};
+use std::fmt::Write;
+use uses::code_table::Entry;
+use uses::content_id::ContentId;
+use uses::retries::Retries;
+use uses::streams::{Held, Room};
+use uses::{blame, block_store, bytes, code_table, dump, forms, merkle, peer_id, readme, values};
+
+const SHA2_256: u64 = 0x12;
+
+const LARGEST_CODE: u64 = 9223372036854775807;
+
+/// A line for each use.
+///
+/// # Errors
+///
+/// Want of memory.
+pub fn lines(alloc: Global) -> Result<String> {
+    let mut lines = String::new(alloc);
+    show_content_id(alloc, &mut lines)?;
+    show_code_table(&mut lines)?;
+    show_block_store(alloc, &mut lines)?;
+    show_merkle(alloc, &mut lines)?;
+    show_peer_id(alloc, &mut lines)?;
+    show_streams(alloc, &mut lines)?;
+    show_retries(&mut lines)?;
+    show_dump(alloc, &mut lines)?;
+    show_blame(alloc, &mut lines)?;
+    show_codes(&mut lines)?;
+    show_forms(alloc, &mut lines)?;
+    show_values(&mut lines)?;
+    show_bytes(alloc, &mut lines)?;
+    show_readme(alloc, &mut lines)?;
+    Ok(lines)
+}
+
+// Version 1, codec 0x55, and the digest 7, 8; then a 9.
+fn show_content_id(alloc: Global, lines: &mut String) -> Result<()> {
+    let mut stream = [1u8, 0x55, 0x12, 2, 7, 8, 9].as_slice();
+    let id = ContentId::<4>::read(&mut stream)?;
+    let mut bytes = Vec::new(alloc);
+    id.write(&mut bytes)?;
+    writeln!(
+        lines,
+        "content identifier: version {}, codec {}, {} bytes, {} left",
+        id.version,
+        id.codec,
+        bytes.len(),
+        stream.len()
+    )?;
+    Ok(())
+}
+
+fn show_code_table(lines: &mut String) -> Result<()> {
+    let table = [Entry {
+        code: SHA2_256,
+        size: 2,
+    }];
+    let allowed = code_table::wrap::<4>(&table, SHA2_256, &[7, 8]).is_some();
+    let short = code_table::wrap::<4>(&table, SHA2_256, &[7]).is_some();
+    let mut stream = [0x13u8, 2, 7, 8].as_slice();
+    let other = code_table::read::<4, _>(&table, &mut stream)?.is_some();
+    writeln!(lines, "code table: {allowed}, {short}, {other}")?;
+    Ok(())
+}
+
+fn show_block_store(alloc: Global, lines: &mut String) -> Result<()> {
+    let key = Multihash::<64>::wrap(SHA2_256, &[7, 8])?;
+    let small = Multihash::<2>::wrap(SHA2_256, &[7, 8])?;
+    let mut ordered = BTreeMap::new(alloc);
+    let found = block_store::kept_is_found(&mut ordered, key, 5, &small)?;
+    let mut hashed = HashMap::new(alloc);
+    let also = block_store::kept_is_found_hashed(&mut hashed, key, 6, &small)?;
+    writeln!(lines, "block store: {found:?}, {also:?}")?;
+    Ok(())
+}
+
+fn show_merkle(alloc: Global, lines: &mut String) -> Result<()> {
+    let links = [
+        Multihash::<4>::wrap(0, &[65])?,
+        Multihash::wrap(SHA2_256, &[66])?,
+    ];
+    let mut bytes = Vec::new(alloc);
+    merkle::write_node(&links, b"data", &mut bytes)?;
+    let (back, is_left) = merkle::node_back(alloc, &links, b"data")?;
+    writeln!(
+        lines,
+        "merkle node: {} bytes, {} links, data {is_left}",
+        bytes.len(),
+        back.len()
+    )?;
+    Ok(())
+}
+
+fn show_peer_id(alloc: Global, lines: &mut String) -> Result<()> {
+    let small = Multihash::<2>::wrap(0, &[7, 8])?;
+    let large = Multihash::<300>::wrap(0, &[7, 8])?;
+    let alike = peer_id::same_iff_encoded_alike(alloc, &small, &large)?;
+    let spelled = peer_id::is_peer(&large, &[0, 2, 7, 8]);
+    let padded = peer_id::is_peer(&large, &[0x80, 0, 2, 7, 8]);
+    writeln!(lines, "peer identifier: {alike}, {spelled}, {padded}")?;
+    Ok(())
+}
+
+fn show_streams(alloc: Global, lines: &mut String) -> Result<()> {
+    let items = [Multihash::<4>::wrap(0, &[65])?];
+    let mut room = Room::<4>::new();
+    let mut held = Held::new([0u8, 1, 65, 9].to_vec(alloc)?);
+    let back = merkle::list_through(alloc, &items, &mut room, &mut held)?;
+    writeln!(
+        lines,
+        "own reader and writer: {:?}, {} back, {:?} left",
+        room.written(),
+        back.len(),
+        held.left()
+    )?;
+    Ok(())
+}
+
+// A slice never fails, so no try is spent.
+fn show_retries(lines: &mut String) -> Result<()> {
+    let mut reader = Retries::new([0u8, 1, 65, 9].as_slice(), 2);
+    let multihash = Multihash::<4>::read(&mut reader)?;
+    writeln!(
+        lines,
+        "asked again: {:?}, {} tries left",
+        multihash.digest(),
+        reader.tries()
+    )?;
+    Ok(())
+}
+
+fn show_dump(alloc: Global, lines: &mut String) -> Result<()> {
+    let dump = dump::read_all::<4>(alloc, &[0, 1, 65, 0x12, 1, 66, 0x80, 0])?;
+    let stop = dump.stop.context("no stop")?;
+    writeln!(
+        lines,
+        "dump: {} before {}: {}",
+        dump.items.len(),
+        stop.at,
+        stop.reason
+    )?;
+    Ok(())
+}
+
+fn show_blame(alloc: Global, lines: &mut String) -> Result<()> {
+    let (answer, left) = blame::read_slice::<4>(&[0, 5, 1, 2, 3, 4, 5, 6]);
+    let wants = blame::wants_more::<4>(&[0, 2, 7]);
+    let mut short = [0u8, 2, 7].as_slice();
+    let (_, failed) = blame::reader_failed::<4, _>(&mut short);
+    let mut whole = [0u8, 1, 7].as_slice();
+    let read = blame::read_part::<4, _>(&mut whole)?;
+    writeln!(
+        lines,
+        "refusals: {} left of {:?}, {wants}, {failed}, {:?}",
+        left.len(),
+        answer.err().and_then(|e| e.invalid_size()),
+        read.digest()
+    )?;
+    let ended = blame::early_end_text(alloc, &[7, 8, 9])?.context("no end")?;
+    let full = blame::full_text(alloc, &[7, 8], &mut [0])?.context("not full")?;
+    writeln!(lines, "texts: {ended}, {full}")?;
+    Ok(())
+}
+
+fn show_codes(lines: &mut String) -> Result<()> {
+    let (refused, left) = blame::decode_slice::<4>(&[255; 10]);
+    let (_, by_reading) = blame::code_refused_by_reading::<4>(&[255; 10]);
+    writeln!(
+        lines,
+        "codes: {} left of {:?}, {:?}, {:?}",
+        left.len(),
+        refused.err().and_then(|e| e.invalid_code()),
+        blame::refused_code::<4>(LARGEST_CODE, &[7]),
+        by_reading
+    )?;
+    Ok(())
+}
+
+fn show_forms(alloc: Global, lines: &mut String) -> Result<()> {
+    let m = Multihash::<2>::wrap(SHA2_256, &[7, 8])?;
+    let (between, back) = forms::forms_back::<2, 4, 300>(
+        alloc,
+        forms::Form::Scale,
+        forms::Form::Json,
+        &m,
+    )?;
+    writeln!(
+        lines,
+        "forms: {}, {}, {} bytes",
+        between.same_as(&m),
+        back.same_as(&m),
+        forms::fills_longest_scale(&m, &mut [0; 264])
+    )?;
+    Ok(())
+}
+
+fn show_values(lines: &mut String) -> Result<()> {
+    let m = Multihash::<4>::wrap(SHA2_256, &[7, 8])?;
+    let (wide, same) = values::resized_is_same::<4, 300>(&m)?;
+    let twice = values::truncate_twice(&m, 2, 1);
+    let long = Multihash::wrap(SHA2_256, &[7; 24])?;
+    writeln!(
+        lines,
+        "values: {}, {same}, {twice}, {} and {}",
+        wide.size(),
+        values::widened(&long).size(),
+        values::cut_to_fit(&long).size()
+    )?;
+    Ok(())
+}
+
+fn show_bytes(alloc: Global, lines: &mut String) -> Result<()> {
+    let first = bytes::first_byte(&[7, 8]);
+    let joined = bytes::joined(alloc, &[7], &[8])?;
+    let longest = Multihash::<300>::wrap(LARGEST_CODE, &[7; 255])?;
+    let filled = bytes::fills_longest(&longest, &mut [0; 266]);
+    writeln!(
+        lines,
+        "bytes: {first:?}, {:?}, {filled} places",
+        joined.as_slice()
+    )?;
+    Ok(())
+}
+
+fn show_readme(alloc: Global, lines: &mut String) -> Result<()> {
+    let (multihash, rest) = readme::head(&[0x12, 2, 7, 8, 9])?;
+    let back = readme::there_and_back(alloc, multihash.digest())?;
+    writeln!(lines, "README: {back}, {} left", rest.len())?;
+    Ok(())
+}

@@ -1,0 +1,62 @@
+//! Multihashes that pass from one form to another.
+use fakes::kinds::LARGEST_CODE;
+use multihash::Multihash;
+use std::test::Fail;
+use uses::forms::{Form, form_back, forms_back};
+
+const DIGEST: [u8; 32] = [
+    159, 228, 204, 198, 222, 22, 114, 79, 58, 48, 199, 232, 242, 84, 243, 198, 71, 25, 134, 172,
+    177, 248, 216, 207, 142, 150, 206, 42, 215, 219, 231, 251,
+];
+
+const FORMS: [Form; 3] = [Form::Binary, Form::Scale, Form::Json];
+
+#[test]
+fn from_form_to_form(rt: HostRuntime) -> Result<(), Fail> {
+    for (code, digest) in [
+        (0, b"A".as_slice()),
+        (18, b"B"),
+        (0, b"hello world"),
+        (18, &DIGEST),
+        (LARGEST_CODE, b""),
+    ] {
+        let m = Multihash::<32>::wrap(code, digest)?;
+        for first in FORMS {
+            for second in FORMS {
+                let (between, back) = forms_back::<32, 64, 128>(rt.alloc(), first, second, &m)?;
+                assert!(rt; between.same_as(&m), "{first:?} of {digest:?}");
+                assert_eq!(rt; (back.code(), back.digest()), (code, digest), "{second:?}");
+            }
+        }
+    }
+    Ok(())
+}
+
+#[test]
+fn full_digests_pass_through_forms(rt: HostRuntime) -> Result<(), Fail> {
+    let digest = [7; 128];
+    for code in [0, 72057594037927936, LARGEST_CODE] {
+        let m = Multihash::<128>::wrap(code, &digest)?;
+        for first in FORMS {
+            for second in FORMS {
+                let (between, back) = forms_back::<128, 128, 128>(rt.alloc(), first, second, &m)?;
+                assert!(rt; between == m && back == m, "{first:?}, {second:?}");
+            }
+        }
+    }
+    Ok(())
+}
+
+#[test]
+fn a_smaller_buffer_refuses_each_form(rt: HostRuntime) -> Result<(), Fail> {
+    let m = Multihash::<6>::wrap(18, b"foobar")?;
+    for form in FORMS {
+        assert!(rt; form_back::<6, 6>(rt.alloc(), form, &m)? == m);
+        let refused = form_back::<6, 5>(rt.alloc(), form, &m);
+        assert!(rt;
+            refused.is_err_and(|e| e.invalid_size() == Some(6)),
+            "{form:?}"
+        );
+    }
+    Ok(())
+}

@@ -1,0 +1,185 @@
+//! Worked values of the JSON form.
+ghost use Rattle.std.specs.Prelude.{◌≤◌};
+
+use fakes::kinds::{LARGEST_CODE, is_code, is_eof, is_size};
+use multihash::{Error, Multihash};
+use serde_json::{Value, json};
+use std::alloc::{AllocError, Global};
+use std::test::Fail;
+use uses::forms::json_back;
+
+const DIGEST: [u8; 32] = [
+    159, 228, 204, 198, 222, 22, 114, 79, 58, 48, 199, 232, 242, 84, 243, 198, 71, 25, 134, 172,
+    177, 248, 216, 207, 142, 150, 206, 42, 215, 219, 231, 251,
+];
+
+const DIGEST_TEXT: &str = "[18,32,159,228,204,198,222,22,114,79,58,48,199,232,242,84,243,198,71,\
+    25,134,172,177,248,216,207,142,150,206,42,215,219,231,251]";
+
+fn count_of_members(value: &Value) -> usize {
+    value.as_array().map_or(0, |members| members.len())
+}
+
+#[test]
+fn json_text(rt: HostRuntime) -> Result<(), Fail> {
+    let m = Multihash::<32>::wrap(18, &DIGEST)?;
+    let value = m.to_value(rt.alloc())?;
+    assert_eq!(rt; value.to_string(rt.alloc())?.as_str(), DIGEST_TEXT);
+    assert_eq!(rt; Multihash::from_value(&value)?, m);
+    assert_eq!(rt; json_back::<32, 32>(rt.alloc(), &m)?, m);
+    let read = Value::from_str(rt.alloc(), DIGEST_TEXT)?;
+    assert_eq!(rt; Multihash::from_value(&read)?, m);
+    Ok(())
+}
+
+#[test]
+fn full_buffers_come_back(rt: HostRuntime) -> Result<(), Fail> {
+    for code in [72057594037927936, LARGEST_CODE] {
+        let m = Multihash::<128>::wrap(code, &[200; 128])?;
+        let value = m.to_value(rt.alloc())?;
+        assert_eq!(rt; count_of_members(&value), 139);
+        assert_eq!(rt; Multihash::from_value(&value)?, m);
+    }
+    let refused = Multihash::<128>::wrap(9223372036854775808, &[200; 128]);
+    assert!(rt; refused.is_err_and(|e| is_code(&e, 9223372036854775808)));
+    let longest = Multihash::<255>::wrap(LARGEST_CODE, &[7; 255])?;
+    let value = longest.to_value(rt.alloc())?;
+    assert_eq!(rt;
+        (longest.encoded_len(), count_of_members(&value)),
+        (266, 266)
+    );
+    assert_eq!(rt; Multihash::from_value(&value)?, longest);
+    Ok(())
+}
+
+fn read_text<const S: usize>(
+    alloc: Global,
+    text: &str,
+) -> Result<Result<Multihash<S>, Error>, serde_json::Error> {
+    Ok(Multihash::from_value(&Value::from_str(alloc, text)?))
+}
+
+#[test]
+fn other_values_are_no_bytes(rt: HostRuntime) -> Result<(), Fail> {
+    for text in [
+        "null",
+        "true",
+        "false",
+        "0",
+        "7",
+        "-1",
+        "1.0",
+        "1e300",
+        "\"\"",
+        "\"AA\"",
+        "{}",
+        "{\"0\":0}",
+        "[[0]]",
+        "[0,\"0\"]",
+        "[0,null]",
+        "[0,3,256]",
+        "[0,256]",
+        "[0,1.0]",
+        "[0,-1]",
+        "[0,0,0,0.0]",
+        "[256]",
+        "[0,0,18446744073709551615]",
+        "[0,0,18446744073709551616]",
+    ] {
+        let answer = read_text::<32>(rt.alloc(), text)?;
+        assert!(rt; answer.is_err_and(|e| e.is_not_bytes()), "{text}");
+        let answer = read_text::<2>(rt.alloc(), text)?;
+        assert!(rt; answer.is_err_and(|e| e.is_not_bytes()), "{text}");
+    }
+    Ok(())
+}
+
+#[test]
+fn arrays_of_bytes_are_read(rt: HostRuntime) -> Result<(), Fail> {
+    let alloc = rt.alloc();
+    assert!(rt; read_text::<32>(alloc, "[]")?.is_err_and(|e| e.is_insufficient()));
+    assert!(rt; read_text::<2>(alloc, "[0]")?.is_err_and(|e| e.is_insufficient()));
+    assert!(rt; read_text::<32>(alloc, "[0,0,7]")?.is_err_and(|e| is_size(&e, 1)));
+    assert!(rt; read_text::<2>(alloc, "[0,3]")?.is_err_and(|e| is_size(&e, 3)));
+    assert!(rt; read_text::<2>(alloc, "[0,2,9]")?.is_err_and(|e| is_eof(&e)));
+    assert!(rt; read_text::<2>(alloc, "[128,0]")?.is_err_and(|e| e.is_not_minimal()));
+    for overflow in [
+        "[128,128,128,128,128,128,128,128,128]",
+        "[128,128,128,128,128,128,128,128,128,2]",
+        "[255,255,255,255,255,255,255,255,255,1,0]",
+    ] {
+        let answer = read_text::<2>(alloc, overflow)?;
+        assert!(rt; answer.is_err_and(|e| e.is_overflow()), "{overflow}");
+    }
+    let m = read_text::<2>(alloc, "[ 128, 1, 2, 255, 0 ]")??;
+    assert_eq!(rt; m, Multihash::wrap(128, &[255, 0])?);
+    Ok(())
+}
+
+// Every kind of value, made as the program makes one.
+fn kinds(alloc: Global) -> Result<Vec<Value>, AllocError> {
+    Ok(vec![in alloc;
+        Value::Null,
+        Value::from(true),
+        Value::from(false),
+        Value::from(256u16),
+        Value::from(u64::MAX),
+        Value::from(-1i8),
+        Value::from(i64::MIN),
+        Value::from(1.0f64),
+        Value::from(0.5f64),
+        json!(in alloc; "")?,
+        json!(in alloc; "0")?,
+        json!(in alloc; [[]])?,
+        json!(in alloc; [[0]])?,
+        json!(in alloc; {})?,
+        json!(in alloc; { "0": 0 })?,
+    ]?)
+}
+
+fn after_zero(alloc: Global, value: Value) -> Result<Value, AllocError> {
+    let mut members = Vec::with_capacity(alloc, 2)?;
+    members.push(Value::from(0u8))?;
+    members.push(value)?;
+    Ok(Value::Array(members))
+}
+
+fn is_no_bytes<const S: usize>(value: &Value) -> bool
+    requires { S ≤ 255 }
+{
+    Multihash::<S>::from_value(value).is_err_and(|e| e.is_not_bytes())
+}
+
+#[test]
+fn only_small_whole_numbers_are_bytes(rt: HostRuntime) -> Result<(), Fail> {
+    for value in kinds(rt.alloc())? {
+        assert!(rt; is_no_bytes::<2>(&value) && is_no_bytes::<32>(&value));
+        assert!(rt; is_no_bytes::<255>(&value), "{value:?}");
+        let second = after_zero(rt.alloc(), value)?;
+        assert!(rt; is_no_bytes::<2>(&second) && is_no_bytes::<32>(&second));
+        assert!(rt; is_no_bytes::<255>(&second), "{second:?}");
+    }
+    for n in 0u16..256 {
+        let alone = Multihash::<255>::from_value(&Value::from(n));
+        assert!(rt; alone.is_err_and(|e| e.is_not_bytes()));
+        let second = after_zero(rt.alloc(), Value::from(n))?;
+        match Multihash::<255>::from_value(&second) {
+            Ok(m) => assert!(rt; n == 0 && m == Multihash::default()),
+            Err(e) => assert!(rt; !e.is_not_bytes() && (is_eof(&e) == (n < 128))),
+        }
+    }
+    Ok(())
+}
+
+#[test]
+fn a_long_array_is_counted(rt: HostRuntime) -> Result<(), Fail> {
+    let mut members = Vec::with_capacity(rt.alloc(), 100002)?;
+    members.push(Value::from(0u8))?;
+    members.push(Value::from(0u8))?;
+    for _ in 0..100000 {
+        members.push(Value::from(7u8))?;
+    }
+    let answer = Multihash::<2>::from_value(&Value::Array(members));
+    assert!(rt; answer.is_err_and(|e| is_size(&e, 100000)));
+    Ok(())
+}

@@ -1,0 +1,230 @@
+//! Worked values of the SCALE form.
+ghost use Rattle.std.specs.Prelude.{◌<◌, ◌^◌};
+
+use fakes::kinds::{LARGEST_CODE, is_code, is_eof, is_size};
+use fakes::readers::{Cuts, Silent};
+use multihash::{Error, Multihash};
+use std::alloc::Global;
+use std::process::Abort;
+use std::test::Fail;
+use uses::forms::{fills_scale, scale_back};
+
+const HELLO: [u8; 20] = [
+    0, 0, 0, 0, 0, 0, 0, 0, 11, 104, 101, 108, 108, 111, 32, 119, 111, 114, 108, 100,
+];
+
+#[test]
+fn a_text_in_two_buffers(rt: HostRuntime) -> Result<(), Fail> {
+    let small = Multihash::<32>::wrap(0, b"hello world")?;
+    let large = Multihash::<64>::wrap(0, b"hello world")?;
+    let mut bytes = Vec::new(rt.alloc());
+    assert_eq!(rt; small.scale_encode(&mut bytes)?, 20);
+    assert_eq!(rt; large.scale_encode(&mut bytes)?, 20);
+    assert_eq!(rt; &bytes[..20], HELLO.as_slice());
+    assert_eq!(rt; &bytes[20..], HELLO.as_slice());
+    let mut alone = Vec::new(rt.alloc());
+    assert_eq!(rt; large.scale_encode(&mut alone)?, 20);
+    assert_eq!(rt; alone.as_slice(), HELLO.as_slice());
+    let mut left = bytes.as_slice();
+    assert_eq!(rt; Multihash::scale_decode(&mut left)?, small);
+    assert_eq!(rt; Multihash::scale_decode(&mut left)?, large);
+    assert!(rt; left.is_empty());
+    let mut left = HELLO.as_slice();
+    let refused = Multihash::<2>::scale_decode(&mut left);
+    assert!(rt; refused.is_err_and(|e| is_size(&e, 11)));
+    assert_eq!(rt; left, b"hello world".as_slice());
+    Ok(())
+}
+
+fn expect_written<const S: usize, R: Abort>(
+    rt: &R,
+    alloc: Global,
+    code: u64,
+    digest: &[u8],
+    wanted: &[u8],
+) -> Result<(), Fail>
+    requires { S < 2 ^ 16 }
+{
+    let m = Multihash::<S>::wrap(code, digest)?;
+    let mut bytes = Vec::new(alloc);
+    assert_eq!(rt; m.scale_encode(&mut bytes)?, wanted.len());
+    assert_eq!(rt; bytes.as_slice(), wanted);
+    let (back, is_left) = scale_back::<S, 255>(alloc, &m, b"more")?;
+    assert!(rt; is_left && back.same_as(&m));
+    Ok(())
+}
+
+#[test]
+fn pairs_are_written(rt: HostRuntime) -> Result<(), Fail> {
+    for (code, digest, wanted) in [
+        (
+            72623859790382856,
+            [0xaa].as_slice(),
+            [8, 7, 6, 5, 4, 3, 2, 1, 1, 0xaa].as_slice(),
+        ),
+        (
+            LARGEST_CODE,
+            &[],
+            &[255, 255, 255, 255, 255, 255, 255, 127, 0],
+        ),
+        (18, b"B", &[18, 0, 0, 0, 0, 0, 0, 0, 1, 66]),
+    ] {
+        expect_written::<4, _>(&rt, rt.alloc(), code, digest, wanted)?;
+    }
+    expect_written::<32, _>(&rt, rt.alloc(), 0, b"hello world", &HELLO)
+}
+
+/// What decoding answers.
+#[derive(Clone, Copy, Debug)]
+enum Want {
+    Pair(u64, &'static [u8]),
+    InvalidSize(u64),
+    InvalidCode(u64),
+    UnexpectedEof,
+}
+
+/// An input, what decoding answers to it, and how many bytes of it are left, where that is said.
+type Row = (&'static [u8], Want, Option<usize>);
+
+const UP_TO_FOUR: [Row; 15] = [
+    (&[], Want::UnexpectedEof, None),
+    (&[0; 8], Want::UnexpectedEof, None),
+    (
+        &[0, 0, 0, 0, 0, 0, 0, 0, 3, 0xaa, 0xbb],
+        Want::UnexpectedEof,
+        None,
+    ),
+    (
+        &[0, 0, 0, 0, 0, 0, 0, 0, 5, 0xaa, 0xbb],
+        Want::InvalidSize(5),
+        Some(2),
+    ),
+    (
+        &[0, 0, 0, 0, 0, 0, 0, 0, 255],
+        Want::InvalidSize(255),
+        Some(0),
+    ),
+    (
+        &[18, 0, 0, 0, 0, 0, 0, 0, 1, 0xaa, 0xbb],
+        Want::Pair(18, &[0xaa]),
+        Some(1),
+    ),
+    (
+        &[8, 7, 6, 5, 4, 3, 2, 1, 1, 0xaa],
+        Want::Pair(72623859790382856, &[0xaa]),
+        Some(0),
+    ),
+    // The largest code, and larger ones: these are refused before the size is taken.
+    (
+        &[255, 255, 255, 255, 255, 255, 255, 127],
+        Want::UnexpectedEof,
+        None,
+    ),
+    (
+        &[255, 255, 255, 255, 255, 255, 255, 127, 0, 9],
+        Want::Pair(LARGEST_CODE, &[]),
+        Some(1),
+    ),
+    (
+        &[255, 255, 255, 255, 255, 255, 255, 127, 5],
+        Want::InvalidSize(5),
+        Some(0),
+    ),
+    (&[255; 7], Want::UnexpectedEof, None),
+    (&[255; 8], Want::InvalidCode(u64::MAX), Some(0)),
+    (
+        &[255, 255, 255, 255, 255, 255, 255, 255, 0],
+        Want::InvalidCode(u64::MAX),
+        Some(1),
+    ),
+    (
+        &[255, 255, 255, 255, 255, 255, 255, 255, 5, 0xaa],
+        Want::InvalidCode(u64::MAX),
+        Some(2),
+    ),
+    (
+        &[0, 0, 0, 0, 0, 0, 0, 128, 0, 0],
+        Want::InvalidCode(9223372036854775808),
+        Some(2),
+    ),
+];
+
+// Whether the answer is the one that is wanted.
+fn is_wanted<const S: usize>(want: Want, answer: &Result<Multihash<S>, Error>) -> bool {
+    match (want, answer) {
+        (Want::Pair(code, digest), Ok(m)) => m.code() == code && m.digest() == digest,
+        (Want::InvalidSize(size), Err(e)) => is_size(e, size),
+        (Want::InvalidCode(code), Err(e)) => is_code(e, code),
+        (Want::UnexpectedEof, Err(e)) => is_eof(e),
+        _ => false,
+    }
+}
+
+// Whether so many bytes of the input are left, where that is said.
+fn is_left(wanted: Option<usize>, input: &[u8], left: &[u8]) -> bool {
+    input.ends_with(left) && wanted.map_or(true, |n| n == left.len())
+}
+
+fn expect_rows<const S: usize>(rt: &impl Abort, rows: &[Row])
+    requires { S < 2 ^ 16 }
+{
+    for (input, want, wanted) in rows {
+        let mut left = *input;
+        let answer = Multihash::<S>::scale_decode(&mut left);
+        assert!(rt; is_wanted(*want, &answer), "{answer:?} for {input:?}");
+        assert!(rt; is_left(*wanted, input, left), "{left:?} of {input:?}");
+        let answer = Multihash::<S>::scale_decode(&mut Silent(input));
+        assert!(rt; is_wanted(*want, &answer), "{answer:?} for {input:?}");
+        for most in [1, 2, 3, 4, 7] {
+            let mut reader = Cuts::new(input, most);
+            let answer = Multihash::<S>::scale_decode(&mut reader);
+            assert!(rt; is_wanted(*want, &answer), "{answer:?} for {input:?}");
+            assert!(rt; is_left(*wanted, input, reader.left), "of {input:?}");
+        }
+    }
+}
+
+#[test]
+fn inputs_are_read(rt: HostRuntime) {
+    expect_rows::<4>(&rt, &UP_TO_FOUR);
+    expect_rows::<0>(
+        &rt,
+        &[
+            (&[0; 9], Want::Pair(0, &[]), Some(0)),
+            (
+                &[0, 0, 0, 0, 0, 0, 0, 0, 1, 7],
+                Want::InvalidSize(1),
+                Some(1),
+            ),
+        ],
+    );
+    expect_rows::<300>(
+        &rt,
+        &[(&[0, 0, 0, 0, 0, 0, 0, 0, 255, 7], Want::UnexpectedEof, None)],
+    );
+}
+
+#[test]
+fn a_large_code_is_told(rt: HostRuntime) -> Result<(), Fail> {
+    assert!(rt; Multihash::<4>::wrap(u64::MAX, &[]).is_err_and(|e| is_code(&e, u64::MAX)));
+    match Multihash::<4>::scale_decode(&mut [255; 9].as_slice()) {
+        Ok(_) => assert!(rt; false),
+        Err(e) => assert_eq!(rt;
+            format!(in rt.alloc(); "{e}")?.as_str(),
+            "Invalid multihash code 18446744073709551615."
+        ),
+    }
+    Ok(())
+}
+
+#[test]
+fn slices_that_fit_and_that_do_not(rt: HostRuntime) -> Result<(), Fail> {
+    let m = Multihash::<4>::wrap(300, b"AB")?;
+    let mut places = [7u8; 12];
+    assert_eq!(rt; fills_scale(&m, &mut places), (true, 1));
+    assert_eq!(rt; places, [44, 1, 0, 0, 0, 0, 0, 0, 2, 65, 66, 7]);
+    let mut places = [7u8; 10];
+    assert_eq!(rt; fills_scale(&m, &mut places), (false, 0));
+    assert_eq!(rt; places, [44, 1, 0, 0, 0, 0, 0, 0, 2, 65]);
+    Ok(())
+}

@@ -1,0 +1,144 @@
+//! Varints, both ways.
+use fakes::kinds::is_code;
+use fakes::readers::{Counts, Cuts};
+use multihash::Multihash;
+use std::alloc::Global;
+use std::process::Abort;
+use std::test::Fail;
+use uses::bytes::bytes_back;
+
+const VARINTS: [(u64, &[u8]); 13] = [
+    (0, &[0x00]),
+    (1, &[0x01]),
+    (127, &[0x7f]),
+    (128, &[0x80, 0x01]),
+    (255, &[0xff, 0x01]),
+    (256, &[0x80, 0x02]),
+    (300, &[0xac, 0x02]),
+    (16383, &[0xff, 0x7f]),
+    (16384, &[0x80, 0x80, 0x01]),
+    (2097151, &[0xff, 0xff, 0x7f]),
+    (2097152, &[0x80, 0x80, 0x80, 0x01]),
+    (
+        72057594037927936,
+        &[0x80, 0x80, 0x80, 0x80, 0x80, 0x80, 0x80, 0x80, 0x01],
+    ),
+    (
+        9223372036854775807,
+        &[0xff, 0xff, 0xff, 0xff, 0xff, 0xff, 0xff, 0xff, 0x7f],
+    ),
+];
+
+// Numbers of 64 bits, and the digits that they would have: these have nine marked bytes.
+const TOO_LARGE: [(u64, &[u8]); 2] = [
+    (
+        9223372036854775808,
+        &[0x80, 0x80, 0x80, 0x80, 0x80, 0x80, 0x80, 0x80, 0x80, 0x01],
+    ),
+    (
+        18446744073709551615,
+        &[0xff, 0xff, 0xff, 0xff, 0xff, 0xff, 0xff, 0xff, 0xff, 0x01],
+    ),
+];
+
+#[test]
+fn codes_both_ways(rt: HostRuntime) -> Result<(), Fail> {
+    for (value, code) in VARINTS {
+        let mut bytes = code.to_vec(rt.alloc())?;
+        bytes.push(0)?;
+        let m = Multihash::<4>::wrap(value, &[])?;
+        assert_eq!(rt; m.to_bytes(rt.alloc())?.as_slice(), bytes.as_slice());
+        assert_eq!(rt; m.encoded_len(), bytes.len());
+        let read = Multihash::<4>::from_bytes(&bytes)?;
+        assert_eq!(rt; read.code(), value);
+        assert!(rt; read.digest().is_empty());
+        let mut reader = Cuts::new(&bytes, 1);
+        assert!(rt; Multihash::<4>::read(&mut reader)? == read, "at {value}");
+        assert!(rt; reader.left.is_empty());
+        let back: Multihash<4> = bytes_back(rt.alloc(), &read)?;
+        assert_eq!(rt; back.code(), value);
+        assert!(rt; back.digest().is_empty());
+    }
+    Ok(())
+}
+
+#[test]
+fn larger_codes_have_no_varint(rt: HostRuntime) -> Result<(), Fail> {
+    for (value, code) in TOO_LARGE {
+        let refused = Multihash::<4>::wrap(value, &[]);
+        assert!(rt; refused.is_err_and(|e| is_code(&e, value)), "at {value}");
+        let mut bytes = code.to_vec(rt.alloc())?;
+        bytes.push(0)?;
+        let whole = Multihash::<4>::from_bytes(&bytes);
+        assert!(rt; whole.is_err_and(|e| e.is_overflow()), "at {value}");
+        let mut reader = Cuts::new(&bytes, 1);
+        let read = Multihash::<4>::read(&mut reader);
+        assert!(rt; read.is_err_and(|e| e.is_overflow()), "at {value}");
+        assert_eq!(rt; reader.left, [1, 0].as_slice());
+    }
+    Ok(())
+}
+
+// What may follow a beginning of a varint.
+const BEHIND: [&[u8]; 6] = [&[], &[0], &[1], &[2], &[0, 7], &[0x80; 17]];
+
+// `read` and `from_bytes` answer alike, but for bytes that are left over.
+fn expect_alike(rt: &impl Abort, alloc: Global, bytes: &[u8]) -> Result<(), Fail> {
+    let mut left = bytes;
+    let read = Multihash::<4>::read(&mut left);
+    match (read, Multihash::<4>::from_bytes(bytes)) {
+        (Ok(m), Ok(whole)) => {
+            assert!(rt; left.is_empty());
+            assert_eq!(rt; m, whole);
+        }
+        (Ok(_), Err(e)) => {
+            assert!(rt; !left.is_empty());
+            assert_eq!(rt; e.invalid_size(), Some(left.len() as u64));
+        }
+        (Err(e), Err(whole)) => {
+            assert_eq!(rt; e.to_string(alloc)?, whole.to_string(alloc)?);
+        }
+        (Err(_), Ok(_)) => assert!(rt; false, "from_bytes alone answers a pair"),
+    }
+    Ok(())
+}
+
+// The same of each beginning of the bytes, whatever follows it.
+fn expect_beginnings_alike(rt: &impl Abort, alloc: Global, code: &[u8]) -> Result<(), Fail> {
+    for n in 0..=code.len() {
+        for behind in BEHIND {
+            let mut bytes = code[..n].to_vec(alloc)?;
+            bytes.extend_from_slice(behind)?;
+            expect_alike(rt, alloc, &bytes)?;
+        }
+    }
+    Ok(())
+}
+
+#[test]
+fn a_slice_is_read_as_its_bytes_are(rt: HostRuntime) -> Result<(), Fail> {
+    for (_, code) in VARINTS {
+        expect_beginnings_alike(&rt, rt.alloc(), code)?;
+    }
+    for (_, code) in TOO_LARGE {
+        expect_beginnings_alike(&rt, rt.alloc(), code)?;
+    }
+    Ok(())
+}
+
+#[test]
+fn a_varint_asks_byte_by_byte(rt: HostRuntime) {
+    // The code 300, and the digest `AB`.
+    let mut reader = Counts::new(&[172, 2, 2, 65, 66, 9]);
+    assert!(rt; Multihash::<4>::read(&mut reader).is_ok());
+    assert_eq!(rt; (reader.single, reader.others, reader.whole), (3, 0, 1));
+    assert_eq!(rt; reader.left, [9].as_slice());
+    // A size that is refused asks for no digest.
+    let mut reader = Counts::new(&[0, 5, 1, 2, 3, 4, 5]);
+    assert!(rt; Multihash::<4>::read(&mut reader).is_err());
+    assert_eq!(rt; (reader.single, reader.others, reader.whole), (2, 0, 0));
+    // Nor does an input that ends in a varint; it is asked once more, and ends there.
+    let mut reader = Counts::new(&[0, 128]);
+    assert!(rt; Multihash::<4>::read(&mut reader).is_err());
+    assert_eq!(rt; (reader.single, reader.others, reader.whole), (3, 0, 0));
+}

@@ -1,0 +1,5 @@
+//! Tests of memory: how much is asked for, and what stands where it is refused.
+#![tactic(auto)]
+
+#[cfg(test)]
+mod memory;

@@ -1,0 +1,242 @@
+//! Memory that is refused. A test whose name begins with `refused` passes where nothing is refused.
+//! Where a request is, it looks at what stands then, and fails with `REFUSED`:
+//! `tools/refuse_memory.sh` refuses each request in turn, and counts them so.
+use fakes::kinds::{LARGEST_CODE, is_code, is_memory};
+use multihash::list::{read_list, write_list};
+use multihash::no_std_io::Write;
+use multihash::{Error, Multihash};
+use serde_json::Value;
+use std::process::Abort;
+use std::test::Fail;
+
+const REFUSED: &str = "memory was refused";
+
+// (0, `A`), (18, `B`), and a byte behind them.
+const STREAM: [u8; 7] = [0, 1, 65, 18, 1, 66, 7];
+
+fn two() -> Result<[Multihash<4>; 2], Error> {
+    Ok([Multihash::wrap(0, b"A")?, Multihash::wrap(18, b"B")?])
+}
+
+// The code 300, and 200 bytes `A`.
+fn long() -> Result<Multihash<200>, Error> {
+    Multihash::wrap(300, &[65; 200])
+}
+
+// What was answered, where that isn't want of memory.
+fn unless_refused<T>(rt: &impl Abort, answer: Result<T, Error>) -> Result<T, Fail> {
+    match answer {
+        Ok(answer) => Ok(answer),
+        Err(e) => {
+            assert!(rt; is_memory(&e));
+            assert_eq!(rt; e.io().map(|e| e.text()), Some("out of memory"));
+            Err(REFUSED)?
+        }
+    }
+}
+
+#[test]
+fn refused_to_bytes(rt: HostRuntime) -> Result<(), Fail> {
+    let [m, _] = two()?;
+    let bytes = unless_refused(&rt, m.to_bytes(rt.alloc()))?;
+    assert_eq!(rt; bytes.as_slice(), &STREAM[..3]);
+    assert_eq!(rt; bytes.capacity(), m.encoded_len());
+    Ok(())
+}
+
+#[test]
+fn refused_long_to_bytes(rt: HostRuntime) -> Result<(), Fail> {
+    let bytes = unless_refused(&rt, long()?.to_bytes(rt.alloc()))?;
+    assert_eq!(rt; (bytes.len(), bytes.capacity()), (204, 204));
+    Ok(())
+}
+
+#[test]
+fn refused_to_value(rt: HostRuntime) -> Result<(), Fail> {
+    let [m, _] = two()?;
+    let value = unless_refused(&rt, m.to_value(rt.alloc()))?;
+    assert!(rt; Multihash::from_value(&value)? == m);
+    Ok(())
+}
+
+#[test]
+fn refused_read_list(rt: HostRuntime) -> Result<(), Fail> {
+    let mut left = STREAM.as_slice();
+    let answer = read_list::<4, _>(rt.alloc(), &mut left, 2);
+    if answer.is_err() {
+        assert_eq!(rt; left, STREAM.as_slice());
+    }
+    let list = unless_refused(&rt, answer)?;
+    assert_eq!(rt; list.as_slice(), two()?.as_slice());
+    assert_eq!(rt; left, [7].as_slice());
+    Ok(())
+}
+
+// Where memory was refused, a proper beginning stands in the vector, and what is missing can be
+// appended.
+fn expect_appended<R: Abort>(rt: &R, mut held: Vec<u8>, refused: bool, wanted: &[u8]) {
+    if refused {
+        assert!(rt; held.len() < wanted.len());
+        assert_eq!(rt; Some(held.as_slice()), wanted.get(..held.len()));
+        let rest = wanted.get(held.len()..).unwrap_or(&[]);
+        assert!(rt; held.write_all(rest).is_ok());
+    }
+    assert_eq!(rt; held.as_slice(), wanted);
+}
+
+#[test]
+fn refused_write(rt: HostRuntime) -> Result<(), Fail> {
+    let mut held = Vec::new(rt.alloc());
+    let answer = long()?.write(&mut held);
+    let mut wanted = [65u8; 204];
+    wanted[..4].copy_from_slice(&[172, 2, 200, 1]);
+    expect_appended(&rt, held, answer.is_err(), &wanted);
+    assert_eq!(rt; unless_refused(&rt, answer)?, 204);
+    Ok(())
+}
+
+#[test]
+fn refused_scale_encode(rt: HostRuntime) -> Result<(), Fail> {
+    let mut held = Vec::new(rt.alloc());
+    let answer = long()?.scale_encode(&mut held);
+    let mut wanted = [65u8; 209];
+    wanted[..9].copy_from_slice(&[44, 1, 0, 0, 0, 0, 0, 0, 200]);
+    expect_appended(&rt, held, answer.is_err(), &wanted);
+    assert_eq!(rt; unless_refused(&rt, answer)?, 209);
+    Ok(())
+}
+
+#[test]
+fn refused_write_list(rt: HostRuntime) -> Result<(), Fail> {
+    let mut held = Vec::new(rt.alloc());
+    let answer = write_list(&two()?, &mut held);
+    expect_appended(&rt, held, answer.is_err(), &STREAM[..6]);
+    unless_refused(&rt, answer)
+}
+
+#[test]
+fn refused_write_of_a_long_list(rt: HostRuntime) -> Result<(), Fail> {
+    let item = long()?;
+    let mut wanted = [65u8; 408];
+    wanted[..4].copy_from_slice(&[172, 2, 200, 1]);
+    wanted[204..208].copy_from_slice(&[172, 2, 200, 1]);
+    let mut held = Vec::new(rt.alloc());
+    let answer = write_list(&[item, item], &mut held);
+    expect_appended(&rt, held, answer.is_err(), &wanted);
+    unless_refused(&rt, answer)
+}
+
+// Passes also where each request is refused, since none of these calls makes one.
+#[test]
+fn needs_no_memory(rt: HostRuntime) -> Result<(), Fail> {
+    let [first, second] = two()?;
+    assert!(rt; first < second && first != second && !first.same_as(&second));
+    assert!(rt;
+        first
+            .truncate(0)
+            .resize::<0>()?
+            .same_as(&Multihash::<4>::default())
+    );
+    assert!(rt; Multihash::<4>::from_bytes(&STREAM[..3])? == first);
+    assert!(rt; Multihash::<4>::from_value(&Value::Null).is_err_and(|e| e.is_not_bytes()));
+    let mut left = STREAM.as_slice();
+    assert!(rt; Multihash::<4>::read(&mut left)? == first);
+    assert!(rt; read_list::<4, _>(rt.alloc(), &mut left, 0)?.is_empty());
+    assert_eq!(rt; left, &STREAM[3..]);
+    let mut places = [0u8; 16];
+    let mut free = places.as_mut_slice();
+    write_list(&[first, second], &mut free)?;
+    assert_eq!(rt; second.scale_encode(&mut free)?, 10);
+    assert!(rt; free.is_empty());
+    assert!(rt; Multihash::<4>::scale_decode(&mut &places[6..])? == second);
+    assert!(rt; Multihash::<4>::wrap(u64::MAX, &[]).is_err_and(|e| is_code(&e, u64::MAX)));
+    let refused = Multihash::<4>::scale_decode(&mut [255; 8].as_slice());
+    assert!(rt; refused.is_err_and(|e| is_code(&e, u64::MAX)));
+    Ok(())
+}
+
+#[test]
+fn too_many_places_are_refused(rt: HostRuntime) -> Result<(), Fail> {
+    for count in [usize::MAX, usize::MAX / 2] {
+        let mut left = STREAM.as_slice();
+        let refused = read_list::<4, _>(rt.alloc(), &mut left, count);
+        assert!(rt; refused.is_err_and(|e| is_memory(&e)));
+        assert_eq!(rt; left, STREAM.as_slice());
+        let list = read_list::<4, _>(rt.alloc(), &mut left, 2)?;
+        assert_eq!(rt; list.as_slice(), two()?.as_slice());
+    }
+    Ok(())
+}
+
+#[test]
+fn ample_memory_is_enough(rt: HostRuntime) -> Result<(), Fail> {
+    let items = two()?;
+    let mut bytes = Vec::new(rt.alloc());
+    write_list(&items, &mut bytes)?;
+    for m in &items {
+        assert_eq!(rt; m.to_bytes(rt.alloc())?.len(), 3);
+        assert_eq!(rt; m.write(&mut bytes)?, 3);
+        assert_eq!(rt; m.scale_encode(&mut bytes)?, 10);
+        assert!(rt; m.to_value(rt.alloc())?.is_array());
+    }
+    assert_eq!(rt; bytes.len(), 32);
+    assert_eq!(rt;
+        read_list::<4, _>(rt.alloc(), &mut bytes.as_slice(), 2)?.len(),
+        2
+    );
+    Ok(())
+}
+
+#[test]
+fn memory_is_enough_at_each_size(rt: HostRuntime) -> Result<(), Fail> {
+    let m = Multihash::<0>::wrap(18, &[])?;
+    assert_eq!(rt; m.to_bytes(rt.alloc())?.as_slice(), [18, 0].as_slice());
+    assert_eq!(rt;
+        m.to_value(rt.alloc())?.to_string(rt.alloc())?.as_str(),
+        "[18,0]"
+    );
+    let m = Multihash::<1000>::wrap(18, &[])?;
+    assert_eq!(rt; m.to_bytes(rt.alloc())?.as_slice(), [18, 0].as_slice());
+    assert_eq!(rt;
+        m.to_value(rt.alloc())?.to_string(rt.alloc())?.as_str(),
+        "[18,0]"
+    );
+    Ok(())
+}
+
+#[test]
+fn a_list_of_70000(rt: HostRuntime) -> Result<(), Fail> {
+    let bytes = vec![in rt.alloc(); 0u8; 140000]?;
+    let mut left = bytes.as_slice();
+    let list = read_list::<4, _>(rt.alloc(), &mut left, 70000)?;
+    assert_eq!(rt; (list.len(), left.len()), (70000, 0));
+    Ok(())
+}
+
+#[test]
+fn a_list_has_no_more_places_than_items(rt: HostRuntime) -> Result<(), Fail> {
+    let list = read_list::<4, _>(rt.alloc(), &mut [0u8; 6].as_slice(), 3)?;
+    assert_eq!(rt; (list.len(), list.capacity()), (3, 3));
+    Ok(())
+}
+
+#[test]
+fn to_bytes_has_no_more_places_than_bytes(rt: HostRuntime) -> Result<(), Fail> {
+    for digest in [[].as_slice(), &[7; 127], &[7; 128], &[7; 255]] {
+        let m = Multihash::<255>::wrap(LARGEST_CODE, digest)?;
+        let bytes = m.to_bytes(rt.alloc())?;
+        assert_eq!(rt;
+            (bytes.len(), bytes.capacity()),
+            (m.encoded_len(), m.encoded_len())
+        );
+    }
+    for shift in 0..63u32 {
+        let m = Multihash::<4>::wrap(1u64 << shift, b"AB")?;
+        assert_eq!(rt;
+            m.to_bytes(rt.alloc())?.capacity(),
+            m.encoded_len(),
+            "shift {shift}"
+        );
+    }
+    Ok(())
+}

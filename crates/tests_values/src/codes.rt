@@ -1,0 +1,80 @@
+//! Codes at the limit, and who refuses a larger one.
+use fakes::kinds::{LARGEST_CODE, is_code, is_size};
+use multihash::{Error, Multihash};
+use std::test::Fail;
+use uses::blame::{code_refused_by_reading, decode_slice, refused_code};
+use uses::code_table::{self, Entry};
+
+const LARGER: [u64; 3] = [9223372036854775808, 9223372036854775809, u64::MAX];
+
+// Whether the error is a refusal of that code, and of nothing else.
+fn is_code_alone(e: &Error, code: u64) -> bool {
+    let is_other = e.is_insufficient()
+        || e.is_overflow()
+        || e.is_not_minimal()
+        || e.is_not_bytes()
+        || e.invalid_size().is_some()
+        || e.io().is_some();
+    is_code(e, code) && !is_other
+}
+
+#[test]
+fn wrap_refuses_a_larger_code(rt: HostRuntime) {
+    for code in LARGER {
+        let refused = Multihash::<4>::wrap(code, b"ABCD");
+        assert!(rt; refused.is_err_and(|e| is_code_alone(&e, code)));
+        assert_eq!(rt; refused_code::<4>(code, b"AB"), Some(code));
+        assert_eq!(rt; refused_code::<0>(code, &[]), Some(code));
+        assert!(rt; refused_code::<2>(code, b"foobar").is_none());
+        assert!(rt; Multihash::<2>::wrap(code, b"ABC").is_err_and(|e| is_size(&e, 3)));
+    }
+    assert!(rt; refused_code::<4>(LARGEST_CODE, b"AB").is_none());
+    assert!(rt; refused_code::<4>(0, b"foobar").is_none());
+}
+
+#[test]
+fn scale_decode_refuses_a_larger_code(rt: HostRuntime) {
+    for code in LARGER {
+        let mut input = [9u8; 12];
+        input[..8].copy_from_slice(&code.to_le_bytes());
+        for len in 8..13 {
+            let (refused, left) = decode_slice::<4>(&input[..len]);
+            assert!(rt; refused.is_err_and(|e| is_code_alone(&e, code)));
+            assert_eq!(rt; left, &input[8..len]);
+        }
+        let (cut, _) = decode_slice::<4>(&input[..7]);
+        assert!(rt; cut.is_err_and(|e| e.invalid_code().is_none()));
+    }
+}
+
+#[test]
+fn reading_refuses_no_code(rt: HostRuntime) {
+    for bytes in [
+        [255; 12].as_slice(),
+        &[128, 128, 128, 128, 128, 128, 128, 128, 128, 1, 0],
+        &[255, 255, 255, 255, 255, 255, 255, 255, 127, 5],
+        &[128, 0],
+        &[0],
+        &[0, 0],
+    ] {
+        let (answer, refused) = code_refused_by_reading::<4>(bytes);
+        assert_eq!(rt; answer.is_ok(), bytes == [0, 0].as_slice());
+        assert!(rt; refused.is_none());
+    }
+}
+
+#[test]
+fn no_table_allows_a_larger_code(rt: HostRuntime) -> Result<(), Fail> {
+    for code in LARGER {
+        let table = [
+            Entry { code, size: 2 },
+            Entry {
+                code: LARGEST_CODE,
+                size: 2,
+            },
+        ];
+        assert!(rt; code_table::wrap::<4>(&table, code, b"AB").is_none());
+        assert!(rt; code_table::wrap::<4>(&table, LARGEST_CODE, b"AB").is_some());
+    }
+    Ok(())
+}

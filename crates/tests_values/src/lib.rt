@@ -1,0 +1,11 @@
+//! Tests of values: how they are made, compared, cut and encoded, and of the errors.
+#![tactic(auto)]
+
+#[cfg(test)]
+mod binary;
+#[cfg(test)]
+mod codes;
+#[cfg(test)]
+mod errors;
+#[cfg(test)]
+mod values;

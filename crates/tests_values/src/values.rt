@@ -1,0 +1,215 @@
+//! Worked values of comparing, hashing, truncating and resizing.
+use fakes::kinds::{LARGEST_CODE, is_size};
+use multihash::{Multihash, MultihashGeneric, list, no_std_io};
+use std::cmp::Ordering;
+use std::collections::{BTreeMap, HashMap};
+use std::hash::{DefaultHasher, Hash, Hasher};
+use std::test::Fail;
+use uses::block_store::{put_hashed, put_ordered};
+use uses::peer_id::same_iff_encoded_alike;
+use uses::values::{
+    equal_iff_same, resized_is_same, same_as_is_an_equivalence, sort_them, truncate_twice,
+};
+
+fn hash_of<T: Hash>(x: &T) -> u64 {
+    let mut state = DefaultHasher::new();
+    x.hash(&mut state);
+    state.finish()
+}
+
+#[test]
+fn defaults_are_empty(rt: HostRuntime) -> Result<(), Fail> {
+    let m = Multihash::<32>::default();
+    assert_eq!(rt; m.to_bytes(rt.alloc())?.as_slice(), [0, 0].as_slice());
+    assert!(rt; m.same_as(&Multihash::<64>::default()));
+    assert_eq!(rt; Multihash::<0>::default().into_inner(), (0, [], 0));
+    Ok(())
+}
+
+#[test]
+fn a_clone_is_the_same(rt: HostRuntime) -> Result<(), Fail> {
+    let m = Multihash::<4>::wrap(18, b"AB")?;
+    assert_eq!(rt; m.clone()?, m);
+    assert_eq!(rt; m.clone()?.code(), 18);
+    Ok(())
+}
+
+#[test]
+fn a_digest_is_cut(rt: HostRuntime) -> Result<(), Fail> {
+    let m = Multihash::<64>::wrap(0, b"foobar")?;
+    let cut = m.truncate(3);
+    let short = Multihash::<64>::wrap(0, b"foo")?;
+    assert_eq!(rt; cut.digest(), b"foo".as_slice());
+    assert_eq!(rt; cut, short);
+    assert_eq!(rt; cut.cmp(&short), Ordering::Equal);
+    assert_eq!(rt; hash_of(&cut), hash_of(&short));
+    let mut array = [0u8; 64];
+    array[..3].copy_from_slice(b"foo");
+    assert_eq!(rt; cut.into_inner(), (0, array, 3));
+    assert_eq!(rt; m.truncate(9), m);
+    assert!(rt; m.resize::<2>().is_err_and(|e| is_size(&e, 6)));
+    Ok(())
+}
+
+#[test]
+fn a_cut_digest_is_printed_alone(rt: HostRuntime) -> Result<(), Fail> {
+    let cut = Multihash::<64>::wrap(18, b"foobar")?.truncate(3);
+    let text = format!(in rt.alloc(); "{cut:?}")?;
+    assert_eq!(rt;
+        text.as_str(),
+        "Multihash { code: 18, size: 3, digest: [102, 111, 111] }"
+    );
+    Ok(())
+}
+
+/// Two pairs, and how the left one compares with the right one.
+type Row = (u64, &'static [u8], u64, &'static [u8], Ordering);
+
+const ROWS: [Row; 6] = [
+    (0, b"zzz", 1, b"", Ordering::Less),
+    (0, b"b", 0, b"aa", Ordering::Less),
+    (0, b"ab", 0, b"ac", Ordering::Less),
+    (0, b"ab", 0, b"ab", Ordering::Equal),
+    (1, b"a", 0, b"a", Ordering::Greater),
+    (0, b"\xff", 0, b"\x01\x01", Ordering::Less),
+];
+
+#[test]
+fn pairs_are_ordered(rt: HostRuntime) -> Result<(), Fail> {
+    for (left_code, left_digest, right_code, right_digest, want) in ROWS {
+        let left = Multihash::<4>::wrap(left_code, left_digest)?;
+        let right = Multihash::<4>::wrap(right_code, right_digest)?;
+        assert_eq!(rt; left.cmp(&right), want, "{left_digest:?}");
+        assert_eq!(rt; right.cmp(&left), want.reverse());
+        assert_eq!(rt; left.partial_cmp(&right), Some(want));
+        assert_eq!(rt; left == right, want.is_eq());
+        assert_eq!(rt; left < right, want.is_lt());
+        assert_eq!(rt; left.same_as(&right), want.is_eq());
+        assert!(rt; equal_iff_same(&left, &right));
+    }
+    let cut = Multihash::<4>::wrap(0, b"ab")?.truncate(1);
+    assert_eq!(rt; cut.cmp(&Multihash::wrap(0, b"a")?), Ordering::Equal);
+    Ok(())
+}
+
+#[test]
+fn sizes_of_buffers_do_not_count(rt: HostRuntime) -> Result<(), Fail> {
+    let small = Multihash::<4>::wrap(0, b"ab")?;
+    let large = Multihash::<300>::wrap(0, b"ab")?;
+    assert!(rt; small.same_as(&large));
+    for bytes in [small.to_bytes(rt.alloc())?, large.to_bytes(rt.alloc())?] {
+        assert_eq!(rt; bytes.as_slice(), [0, 2, 0x61, 0x62].as_slice());
+    }
+    assert!(rt; !small.same_as(&Multihash::<300>::wrap(0, b"a")?));
+    assert!(rt; !small.same_as(&Multihash::<300>::wrap(1, b"ab")?));
+    assert!(rt; same_as_is_an_equivalence(&small, &large, &small.resize::<6>()?));
+    assert!(rt; same_iff_encoded_alike(rt.alloc(), &small, &large)?);
+    assert!(rt; same_iff_encoded_alike(rt.alloc(), &small.truncate(1), &large)?);
+    Ok(())
+}
+
+#[test]
+fn the_smaller_size_counts(rt: HostRuntime) -> Result<(), Fail> {
+    let m = Multihash::<6>::wrap(0, b"foobar")?;
+    let twice = m.truncate(5).truncate(2);
+    assert_eq!(rt; twice, m.truncate(2).truncate(5));
+    assert_eq!(rt; twice, m.truncate(2));
+    assert!(rt; truncate_twice(&m, 5, 2));
+    Ok(())
+}
+
+#[test]
+fn a_multihash_hashes_as_its_pair(rt: HostRuntime) -> Result<(), Fail> {
+    for (code, digest) in [
+        (0u64, b"foo".as_slice()),
+        (LARGEST_CODE, b""),
+        (18, b"foobar"),
+    ] {
+        let m = Multihash::<6>::wrap(code, digest)?;
+        assert_eq!(rt; hash_of(&m), hash_of(&(code, digest)));
+        let resized = m.resize::<300>()?;
+        assert!(rt; resized.same_as(&m));
+        assert_eq!(rt; hash_of(&resized), hash_of(&m));
+        let (large, same) = resized_is_same::<6, 300>(&m)?;
+        assert!(rt; same && large == resized);
+    }
+    Ok(())
+}
+
+#[test]
+fn stale_tails_stay_inside(rt: HostRuntime) -> Result<(), Fail> {
+    let m = Multihash::<6>::wrap(0, b"foobar")?.truncate(3);
+    assert_eq!(rt;
+        m.to_bytes(rt.alloc())?.as_slice(),
+        [0, 3, 102, 111, 111].as_slice()
+    );
+    let mut scale = Vec::new(rt.alloc());
+    assert_eq!(rt; m.scale_encode(&mut scale)?, 12);
+    assert_eq!(rt;
+        scale.as_slice(),
+        [0, 0, 0, 0, 0, 0, 0, 0, 3, 102, 111, 111].as_slice()
+    );
+    let json = m.to_value(rt.alloc())?.to_string(rt.alloc())?;
+    assert_eq!(rt; json.as_str(), "[0,3,102,111,111]");
+    assert_eq!(rt; m.into_inner(), (0, [102, 111, 111, 0, 0, 0], 3));
+    for other in [
+        Multihash::wrap(0, b"foo")?,
+        Multihash::wrap(0, b"fooxyz")?.truncate(3),
+    ] {
+        assert_eq!(rt; m, other);
+        assert_eq!(rt; m.cmp(&other), Ordering::Equal);
+        assert_eq!(rt; hash_of(&m), hash_of(&other));
+        assert!(rt; m.same_as(&other));
+    }
+    assert_eq!(rt; m.truncate(5).digest(), b"foo".as_slice());
+    assert!(rt; m.resize::<3>()?.same_as(&m));
+    Ok(())
+}
+
+#[test]
+fn multihashes_are_keys(rt: HostRuntime) -> Result<(), Fail> {
+    let m = Multihash::<64>::wrap(0, b"foobar")?;
+    let mut ordered = BTreeMap::new(rt.alloc());
+    let mut hashed = HashMap::new(rt.alloc());
+    for (key, value) in [(m, 1), (m.truncate(3), 2), (Multihash::wrap(0, b"foo")?, 3)] {
+        put_ordered(&mut ordered, key, value)?;
+        put_hashed(&mut hashed, key, value)?;
+    }
+    assert_eq!(rt; (ordered.len(), hashed.len()), (2, 2));
+    assert_eq!(rt; ordered.get(&m.truncate(3)), Some(&3));
+    assert_eq!(rt; hashed.get(&m.truncate(3)), Some(&3));
+    Ok(())
+}
+
+#[test]
+fn multihashes_are_sorted(rt: HostRuntime) -> Result<(), Fail> {
+    let m = Multihash::<6>::wrap(1, b"foobar")?;
+    let first = Multihash::wrap(0, b"zzz")?;
+    let mut items = vec![in rt.alloc(); m, m.truncate(1), first]?;
+    sort_them(&mut items)?;
+    assert_eq!(rt; items.as_slice(), [first, m.truncate(1), m].as_slice());
+    Ok(())
+}
+
+// The older name of the type, and that of what calls answer.
+fn read_alias(bytes: &[u8]) -> multihash::Result<MultihashGeneric<4>> {
+    Multihash::<4>::from_bytes(bytes)
+}
+
+#[test]
+fn aliases_name_the_types(rt: HostRuntime) -> Result<(), Fail> {
+    let m: Multihash<4> = read_alias(&[0, 0])?;
+    assert_eq!(rt; m, MultihashGeneric::default());
+    Ok(())
+}
+
+#[test]
+fn the_root_names(rt: HostRuntime) -> Result<(), Fail> {
+    let mut left = [18u8, 1, 66].as_slice();
+    let items: Vec<multihash::Multihash<1>> = list::read_list(rt.alloc(), &mut left, 1)?;
+    list::write_list(&items, &mut [0u8; 3].as_mut_slice())?;
+    let refused: multihash::Error = multihash::Error::from(no_std_io::Error::other("x"));
+    assert!(rt; refused.io().is_some_and(|e| e.is_other()));
+    multihash::laws::prefix_free();
+    Ok(())
+}

@@ -1,0 +1,19 @@
+//! Users of the library, each of another kind, over its public paths alone.
+#![tactic(auto)]
+
+pub mod blame;
+pub mod block_store;
+pub mod bytes;
+pub mod code_table;
+pub mod content_id;
+pub mod dump;
+pub mod forms;
+pub mod json_text;
+pub mod merkle;
+pub mod peer_id;
+pub mod places;
+pub mod readme;
+pub mod recovery;
+pub mod retries;
+pub mod streams;
+pub mod values;
