@@ -13,8 +13,6 @@ pub mod list;
 mod multihash;
 pub mod no_std_io;
 mod scale;
-#[cfg(test)]
-mod tests;
 mod told;
 mod varint;
 
