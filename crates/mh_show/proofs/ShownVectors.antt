@@ -7,10 +7,10 @@ use Rattle.multihash.specs.Pair.{Pair}
 use Rattle.multihash.specs.Verdict.{Verdict, accepted, invalid_size, invalid_code, faulty, unexpected_eof, HasWholeVerdict}
 use Rattle.multihash.specs.Refusal.{Refusal, of_io, of_size, of_code, of_varint}
 use Rattle.multihash.specs.Answer.{IsRefusal}
-use Rattle.multihash.proofs.VerdictLemmas.{whole_verdict_unique}
-use Rattle.multihash.proofs.FaultVectors.{eof}
-use Rattle.multihash.proofs.RefusalVectors.{size_in}
-use Rattle.multihash.proofs.VarintVectors.{all_marked, varint_0, varint_1, varint_64, varint_65}
+use Rattle.multihash.proofs.Readings.VerdictLemmas.{whole_verdict_unique}
+use Rattle.multihash.proofs.Examples.FaultVectors.{eof}
+use Rattle.multihash.proofs.Examples.RefusalVectors.{size_in}
+use Rattle.multihash.proofs.Examples.VarintVectors.{all_marked, varint_0, varint_1, varint_64, varint_65}
 use Rattle.mh_show.specs.Shown.{newline, shown, shown_digest, IsLine, NamesByte, NamesBytes, ShowsAs, NamesNone, IsRefusedAs}
 use Rattle.mh_show.proofs.NamingLemmas.{line_unique, named_decodes, decoded_names, bytes_unique}
 

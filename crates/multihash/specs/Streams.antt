@@ -1,10 +1,9 @@
 -- What reading and writing many multihashes took and appended.
-use Rattle.std.specs.Prelude.{◌≡◌, ◌<◌, ◌⊎◌, ℕ, List, ◌++◌, length, Option, IfSome, All}
+use Rattle.std.specs.Prelude.{◌≡◌, ◌<◌, ◌⊎◌, ℕ, List, length, Option, IfSome, All}
 use Rattle.multihash.specs.Pair.{Pair, FitsBuffer}
 use Rattle.multihash.specs.Verdict.{Verdict, HasVerdict, IsEarlyEnd}
 use Rattle.multihash.specs.Joined.{AreJoined}
 use Rattle.multihash.specs.Reading.{Takes}
-use Rattle.multihash.specs.Writing.{AppendsPart}
 use Rattle.multihash.specs.Refusal.{Refusal}
 use Rattle.multihash.specs.Answer.{IsRefusal}
 use Rattle.multihash.specs.Taking.{TakesAtRefusal, TakesShortestSettling, TakesUnsettled}
@@ -27,20 +26,10 @@ pub record StopsAfterPairs (S count : ℕ) (e : Refusal) (before after : ℕ)
   -- the refusal is that of the verdict on what follows the pairs
   pub verdict : IfSome middle (λ left. after ≡ before →
       (v : Verdict) × HasVerdict S left v × IsRefusal e v)
-  -- where that is no early end, exactly the shortest beginning that settles it was taken; else nothing
-  -- that was taken of it settles
+  -- where that is no early end, exactly the shortest beginning that settles it was taken; otherwise no
+  -- beginning of what was taken settles it
   pub settled : IfSome middle (λ left. after ≡ before → (v : Verdict) → HasVerdict S left v →
       ¬ (IsEarlyEnd v) → TakesShortestSettling S left new)
   pub unsettled : IfSome middle (λ left.
       (before < after) ⊎ ((v : Verdict) × HasVerdict S left v × IsEarlyEnd v) →
       TakesUnsettled S left new)
-
--- a proper beginning of the encodings of the first of these pairs was appended, one after another
-pub record AppendsPartOfPairs {W : Type 0} (appended : W → List ℕ → W → Type 0) (old : W)
-    (pairs : List Pair) (new : W) : Type 0 where
-  pub first : List Pair
-  pub later : List Pair
-  pub bytes : List ℕ
-  pub cut : pairs ≡ first ++ later
-  pub joined : AreJoined first bytes
-  pub part : AppendsPart appended old bytes new

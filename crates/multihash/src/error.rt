@@ -1,12 +1,14 @@
 //! The library's error.
-ghost use Rattle.std.specs.Prelude.{◌≡◌, ◌≢◌, ◌++◌, ℕ, ◌↔◌, IsTrue, Some, IfSome, IfNone, codes};
+ghost use Rattle.std.specs.Prelude.{◌≡◌, ◌≢◌, ◌++◌, ◌⊎◌, ℕ, ◌↔◌, IsTrue, Some, IfSome, IfNone, codes};
 ghost use Rattle.std.specs.Fmt.{WritesOnOk, WritesStyledOnOk, decimal};
 ghost use Rattle.multihash.specs.Varint.{insufficient, overflow, not_minimal};
 ghost use Rattle.multihash.specs.Fault.{Fault};
-ghost use Rattle.multihash.specs.Refusal.{of_io, refusal_text, IsInvalidSize, IsInvalidCode, IsFaulty, IsNotBytes, IsMemory};
+ghost use Rattle.multihash.specs.Refusal.{of_io, refusal_text, IsInvalidSize, IsInvalidCode, IsFaulty, IsNotBytes, IsEof, IsMemory};
+ghost use Rattle.multihash.specs.Verdict.{Verdict, IsEarlyEnd};
+ghost use Rattle.multihash.specs.Answer.{IsRefusal};
 
 use crate::no_std_io;
-use std::alloc::AllocError;
+use std::alloc::{AllocError, AllocFailed};
 use std::fmt;
 use std::marker::Model;
 
@@ -24,7 +26,8 @@ enum Kind {
 /// Why a call was refused.
 ///
 /// Exactly one of seven kinds applies to an error: [`Error::invalid_size`], [`Error::invalid_code`] or
-/// [`Error::io`] is `Some`, or one of the four tests is true.
+/// [`Error::io`] is `Some`, or one of the four tests [`Error::is_insufficient`], [`Error::is_overflow`],
+/// [`Error::is_not_minimal`] and [`Error::is_not_bytes`] is true.
 #[derive(Debug, Drop)]
 pub struct Error {
     kind: Kind,
@@ -136,6 +139,19 @@ impl Error {
         matches!(self.kind, Kind::NotBytes)
     }
 
+    /// Whether more input could have changed the answer: the input ended inside or before a varint, or before a
+    /// digest or a fixed part was whole. It goes across the seven kinds: true of some errors of two of them.
+    pub fn is_early_end(&self) -> bool
+        ensures ends { IsTrue result ↔ (IsFaulty insufficient self.now ⊎ IsEof self.now) }
+        ensures early { (v : Verdict) → IsRefusal self.now v → (IsTrue result ↔ IsEarlyEnd v) }
+    {
+        match &self.kind {
+            Kind::Io(e) => e.is_unexpected_eof(),
+            Kind::Insufficient => true,
+            _ => false,
+        }
+    }
+
     /// The error of the reader or the writer, where it is one: the input's end before a digest or a
     /// fixed part was whole, a writer with no place left, want of memory, or a fault of its own.
     pub fn io(&self) -> Option<&no_std_io::Error>
@@ -162,6 +178,15 @@ impl From<AllocError> for Error {
 
     fn from(_e: AllocError) -> Self {
         Error::from(no_std_io::Error::out_of_memory())
+    }
+}
+
+/// So that `?` works behind `v.push(x)`. The value that was not stored is dropped.
+impl<T: Drop> From<AllocFailed<T>> for Error {
+    ghost from_gives = { λ _ e. IsMemory e };
+
+    fn from(_refused: AllocFailed<T>) -> Self {
+        Error::from(AllocError)
     }
 }
 

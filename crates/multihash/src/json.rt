@@ -1,7 +1,8 @@
 //! The JSON form: the encoding's bytes as an array of whole numbers.
-ghost use Rattle.std.specs.Prelude.{◌≡◌, ◌<◌, ◌≤◌, ℕ, List, [], ◌∷◌, length, take, drop, Some, IfOk, IfErr, OnErr, IsErrAnd, MatchOption, true};
+ghost use Rattle.std.specs.Prelude.{◌≡◌, ◌<◌, ℕ, List, length, Some, IfOk, IfErr, IsErrAnd, MatchOption, true};
 ghost use Rattle.std.specs.List.{list_all};
 ghost use Rattle.serde_json.specs.View.{view};
+ghost use Rattle.multihash.specs.Encoding.{IsEncoding};
 ghost use Rattle.multihash.specs.Json.{IsByteArray, IsJsonList};
 ghost use Rattle.multihash.specs.Members.{byte_of_data, member_bytes, is_byte};
 ghost use Rattle.multihash.specs.Verdict.{Verdict, HasWholeVerdict};
@@ -42,6 +43,8 @@ impl<const S: usize> Multihash<S> {
     pub fn from_value(value: &Value) -> Result<Self, Error>
         ensures verdict { (bytes : List ℕ) → IsByteArray (view value.now) bytes →
             (v : Verdict) × HasWholeVerdict S bytes v × Answers result v }
+        ensures ok { IfOk result (λ m. (bytes : List ℕ) × IsByteArray (view value.now) bytes
+            × IsEncoding (pair_of m) bytes) }
         ensures not_bytes { ((bytes : List ℕ) → ¬ (IsByteArray (view value.now) bytes)) →
             IsErrAnd result IsNotBytes }
     {

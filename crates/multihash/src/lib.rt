@@ -5,6 +5,8 @@
 //! length, and the digest. The library does no hashing, and knows no table of codes.
 #![tactic(auto)]
 
+mod binary;
+mod compare;
 mod error;
 mod head;
 mod json;
@@ -12,9 +14,9 @@ pub mod laws;
 pub mod list;
 mod multihash;
 pub mod no_std_io;
+mod pins;
 mod scale;
-mod told;
-mod varint;
+pub mod varint;
 
 pub use crate::error::Error;
 pub use crate::head::Head;

@@ -6,14 +6,15 @@ ghost use Rattle.multihash.specs.Writing.{AppendsPart, CountsWriter};
 ghost use Rattle.multihash.specs.Refusal.{IsMemory, IsIo, IsReaderFault};
 ghost use Rattle.multihash.specs.Reading.{CountsReader};
 ghost use Rattle.multihash.specs.Taking.{IsReadRefusal};
-ghost use Rattle.multihash.specs.Streams.{TakesPairs, StopsAfterPairs, AppendsPartOfPairs};
+ghost use Rattle.multihash.specs.Streams.{TakesPairs, StopsAfterPairs};
 ghost use Rattle.multihash.specs.Answer.{pair_of};
 
 use crate::no_std_io::{Read, Write};
 use crate::{Error, Multihash};
 use std::alloc::Global;
 
-/// Appends the encodings of the items to `w`, in order. No items make no call.
+/// Appends the encodings of the items to `w`, in order. An empty list asks the
+/// writer nothing.
 ///
 /// # Errors
 ///
@@ -27,8 +28,6 @@ pub fn write_list<const S: usize, W: Write>(items: &[Multihash<S>], w: &mut W) -
         × AppendsPart W.appended w.old bytes w.new) }
     ensures any { OnErr result ((bytes : List ℕ) → AreJoined (map pair_of items.now) bytes →
         AppendsPart W.appended w.old bytes w.new) }
-    ensures stopped { OnErr result
-        (AppendsPartOfPairs W.appended w.old (map pair_of items.now) w.new) }
     ensures faults { CountsWriter IsIo W.allocates
         (W.failures w.old) (W.failures w.new) (W.full w.new) result }
 {

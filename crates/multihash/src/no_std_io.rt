@@ -2,8 +2,8 @@
 
 mod error;
 mod impls;
+mod pins;
 mod slice_writer;
-mod told;
 mod traits;
 
 pub use error::Error;

@@ -9,8 +9,9 @@ use Rattle.multihash.specs.Verdict.{Verdict, accepted, invalid_size, faulty, une
 use Rattle.multihash.specs.Settling.{Settles, IsShortestSettling}
 use Rattle.multihash.specs.Head.{HasHead}
 use Rattle.multihash.specs.Taking.{TakesShortestSettling}
-use Rattle.multihash.proofs.VerdictLemmas.{verdict_unique, pair_begins}
-use Rattle.multihash.proofs.SettlingLemmas.{verdict_kept, late_settles, settles_exactly, shortest_pair, shortest_size}
+use Rattle.multihash.proofs.Readings.VerdictLemmas.{verdict_unique, pair_begins}
+use Rattle.multihash.proofs.Readings.SettlingLemmas.{verdict_kept, late_settles, settles_exactly}
+use Rattle.multihash.proofs.Readings.ShortestLemmas.{shortest_pair, shortest_size}
 use Rattle.multihash_c.specs.declared.decoded.Decoded.{Decoded}
 use Rattle.multihash_c.specs.Decoded.{Tells, ReadsWithin}
 
@@ -64,10 +65,10 @@ module _ (limit code size len : ℕ) (input : List ℕ) (h : HasHead code size l
       }
 
   -- the digest is there
-  pub pair_read : size ≤ digest_limit limit → len + size ≤ length input → d.taken ≡ len + size
+  pub read_of_encoding : size ≤ digest_limit limit → len + size ≤ length input → d.taken ≡ len + size
       → ((p : Pair) → p.code ≡ code → p.digest ≡ take size (drop len input) → Tells input d (accepted p))
       → ReadsWithin limit input d
-  pair_read within there at tells =
+  read_of_encoding within there at tells =
       let rest = drop size (drop len input) in
       let p : Pair = record { code = h.varints.code; digest = take size (drop len input) } in
       let long : length p.digest ≡ size = length-take-le size (drop len input) (omega (arith, there, length-drop len input)) in

@@ -6,7 +6,7 @@ use Rattle.multihash.specs.Fault.{Fault, IsWriteZero, IsOutOfMemory}
 use Rattle.multihash.specs.Places.{GivesUpFor}
 use Rattle.multihash.specs.Refusal.{Refusal, IsIo, IsMemory}
 use Rattle.multihash.specs.Writing.{IsWriterFaultOrFull, AppendsPart, CountsWriter}
-use Rattle.multihash.proofs.PlacesLemmas.{fewer_places, full_of_faults}
+use Rattle.multihash.proofs.Writings.PlacesLemmas.{fewer_places, full_of_faults}
 
 zero_of_faults : (is_full : Type 0) (e : Fault) → IsWriterFaultOrFull false 0 0 is_full e → IsWriteZero e
 zero_of_faults is_full e (inl fault) = elim fault.cause [ inl rose ↦ absurd (omega arith) | inr memory ↦ absurd (false≢true memory.0) ]

@@ -1,8 +1,8 @@
 //! Varints, both ways.
 use fakes::expect::expect_bytes;
 use fakes::readers::{Counts, Cuts};
-use fakes::refusal::{LARGEST_CODE, Refusal, is_refused};
-use multihash::{Head, Multihash};
+use fakes::refusal::{Refusal, is_refused};
+use multihash::{Multihash, varint};
 use std::alloc::Global;
 use std::process::Abort;
 use std::test::Fail;
@@ -63,23 +63,19 @@ fn codes_both_ways(rt: HostRuntime) -> Result<(), Fail> {
     Ok(())
 }
 
-// The same numbers as sizes, and what stands behind them as the digest's length.
 #[test]
 fn varints_both_ways(rt: HostRuntime) -> Result<(), Fail> {
-    for (value, varint) in VARINTS {
-        let mut coded = varint.to_vec(rt.alloc())?;
-        coded.push(7)?;
-        let head = Head::read_front(&coded)?;
-        assert_eq!(rt; (head.code, head.size, head.len), (value, 7, coded.len()));
-        let mut sized = vec![in rt.alloc(); 0u8]?;
-        sized.extend_from_slice(varint)?;
-        let head = Head::read_front(&sized)?;
-        assert_eq!(rt; (head.code, head.size, head.len), (0, value, sized.len()));
-        let mut left = sized.as_slice();
-        let read = Multihash::<0>::read(&mut left);
-        let is_read = value == 0 && read.is_ok() || is_refused(&read, Refusal::InvalidSize(value));
-        assert!(rt; is_read, "at {value}");
+    for (value, bytes) in VARINTS {
+        let mut left = bytes;
+        assert_eq!(rt; varint::read(&mut left)?, value);
         assert!(rt; left.is_empty(), "at {value}");
+        let mut followed = bytes.to_vec(rt.alloc())?;
+        followed.push(7)?;
+        assert_eq!(rt; varint::read_front(&followed)?, (value, bytes.len()));
+        assert_eq!(rt; varint::len(value)?, bytes.len());
+        let mut written = Vec::new(rt.alloc());
+        assert_eq!(rt; varint::write(value, &mut written)?, bytes.len());
+        expect_bytes(&rt, &written, bytes);
     }
     Ok(())
 }
@@ -96,11 +92,11 @@ const TOO_LONG: [[u8; 10]; 4] = [
 fn ninth_marked_byte_overflows(rt: HostRuntime) {
     for bytes in TOO_LONG {
         let mut left: &[u8] = &bytes;
-        let read = Multihash::<4>::read(&mut left);
+        let read = varint::read(&mut left);
         assert!(rt; is_refused(&read, Refusal::Overflow), "{bytes:?}");
         expect_bytes(&rt, left, &bytes[9..]);
-        let head = Head::read_front(&bytes);
-        assert!(rt; is_refused(&head, Refusal::Overflow), "{bytes:?}");
+        let front = varint::read_front(&bytes);
+        assert!(rt; is_refused(&front, Refusal::Overflow), "{bytes:?}");
         let whole = Multihash::<4>::from_bytes(&bytes);
         assert!(rt; is_refused(&whole, Refusal::Overflow), "{bytes:?}");
         let nine = Multihash::<4>::from_bytes(&bytes[..9]);
@@ -112,18 +108,21 @@ fn ninth_marked_byte_overflows(rt: HostRuntime) {
 
 #[test]
 fn largest_number_has_nine_bytes(rt: HostRuntime) -> Result<(), Fail> {
-    assert_eq!(rt; LARGEST_CODE, 9223372036854775807);
-    assert_eq!(rt;
-        Multihash::<4>::wrap(LARGEST_CODE, &[])?.encoded_len(),
-        9 + 1
-    );
-    assert_eq!(rt;
-        Multihash::<4>::wrap(72057594037927935, &[])?.encoded_len(),
-        8 + 1
-    );
-    let larger = Multihash::<4>::wrap(LARGEST_CODE + 1, &[]);
-    assert!(rt; is_refused(&larger, Refusal::InvalidCode(LARGEST_CODE + 1)));
+    assert_eq!(rt; varint::MAX, 9223372036854775807);
+    assert_eq!(rt; varint::len(varint::MAX)?, 9);
+    assert_eq!(rt; varint::len(72057594037927935)?, 8);
     Ok(())
+}
+
+#[test]
+fn larger_numbers_have_no_varint(rt: HostRuntime) {
+    for number in [varint::MAX + 1, u64::MAX] {
+        let why = Refusal::InvalidCode(number);
+        let mut written = Vec::new(rt.alloc());
+        assert!(rt; is_refused(&varint::write(number, &mut written), why));
+        assert!(rt; written.is_empty());
+        assert!(rt; is_refused(&varint::len(number), why));
+    }
 }
 
 #[test]

@@ -1,9 +1,10 @@
 //! Slices that are filled and kept.
 use fakes::expect::expect_bytes;
-use fakes::refusal::{Refusal, is_failed};
+use fakes::refusal::{Refusal, is_failed, is_refused};
 use multihash::Multihash;
 use multihash::no_std_io::{SliceWriter, Write};
-use uses::places::{encode_all_into, encode_into};
+use std::test::Fail;
+use uses::places::{encode_all_into, encode_into, list_back};
 
 #[test]
 fn a_slice_writer_keeps_its_slice(rt: HostRuntime) {
@@ -51,4 +52,21 @@ fn encodings_go_into_a_slice(rt: HostRuntime) {
     expect_bytes(&rt, &places, &[1, 2, 7, 8, 2, 0, 5]);
     assert_eq!(rt; encode_all_into(&items, &mut places[..5]), None);
     assert_eq!(rt; encode_all_into::<4>(&[], &mut []), Some(0));
+}
+
+#[test]
+fn a_list_comes_back_from_a_slice(rt: HostRuntime) -> Result<(), Fail> {
+    let items = [
+        Multihash::<4>::wrap(1, &[7, 8])?,
+        Multihash::<4>::wrap(300, &[])?,
+    ];
+    let mut places = [5u8; 8];
+    let back = list_back::<4, 2>(rt.alloc(), &items, &mut places)?.ok_or("no room")?;
+    assert_eq!(rt; back.len(), 2);
+    assert!(rt; back[0].same_as(&items[0]) && back[1].same_as(&items[1]));
+    expect_bytes(&rt, &places, &[1, 2, 7, 8, 0xac, 0x02, 0, 5]);
+    assert!(rt; list_back::<4, 2>(rt.alloc(), &items, &mut places[..6])?.is_none());
+    let refused = list_back::<4, 1>(rt.alloc(), &items, &mut places);
+    assert!(rt; is_refused(&refused, Refusal::InvalidSize(2)));
+    Ok(())
 }

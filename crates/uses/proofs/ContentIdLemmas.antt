@@ -4,7 +4,7 @@ use Rattle.multihash.specs.Pair.{Pair}
 use Rattle.multihash.specs.Encoding.{IsEncoding}
 use Rattle.multihash.specs.Reading.{Takes}
 use Rattle.multihash.specs.Writing.{AppendsPart}
-use Rattle.multihash.proofs.VerdictLemmas.{encoding_same}
+use Rattle.multihash.proofs.Readings.VerdictLemmas.{encoding_same}
 use Rattle.uses.specs.ContentId.{IsContentId}
 
 -- two bytes and an encoding are an identifier

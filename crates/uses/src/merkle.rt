@@ -1,8 +1,8 @@
 //! Merkle nodes: links, and data behind them.
-ghost use Rattle.std.specs.Prelude.{◌≡◌, ℕ, List, ◌++◌, length, map, All, Some, IfOk, OnOk, OnErr, IsTrue, MatchResult};
+ghost use Rattle.std.specs.Prelude.{◌≡◌, ◌⊎◌, ℕ, List, ◌++◌, length, map, All, Some, OnOk, OnErr, IsTrue, MatchResult};
 ghost use Rattle.multihash.specs.Pair.{FitsBuffer};
 ghost use Rattle.multihash.specs.Joined.{AreJoined};
-ghost use Rattle.multihash.specs.Writing.{AppendsPart, CountsWriter};
+ghost use Rattle.multihash.specs.Writing.{AppendsPart, CountsWriter, IsWriterFaultOrFull};
 ghost use Rattle.multihash.specs.Refusal.{IsIo, IsMemory};
 ghost use Rattle.multihash.specs.Answer.{pair_of};
 
@@ -34,7 +34,8 @@ pub fn write_node<const S: usize, W: Write>(
 }
 
 /// Writes a node by any writer, and reads its links by any reader that tells what was appended: the same
-/// links, and the data is what is left.
+/// links, where their digests fit, and the data is what is left. Where the reader does not fail, nothing refuses it
+/// but want of memory and what the writer lacked.
 pub fn through<const S: usize, const T: usize, W: Write, R: Read>(
     alloc: Global,
     links: &[Multihash<S>],
@@ -44,15 +45,21 @@ pub fn through<const S: usize, const T: usize, W: Write, R: Read>(
 ) -> Result<Vec<Multihash<T>>, Error>
     ensures { ((bytes : List ℕ) → W.appended w.old bytes w.new → R.rest r.old ≡ Some bytes) →
         All (FitsBuffer T) (map pair_of links.now) → R.failures r.new ≡ R.failures r.old →
-        IfOk result (λ read. (map pair_of read.items ≡ map pair_of links.now)
-        × (R.rest r.new ≡ Some content.now)) }
+        MatchResult result (λ read. (map pair_of read.items ≡ map pair_of links.now)
+        × (R.rest r.new ≡ Some content.now))
+        (λ e. IsMemory e ⊎ IsIo (IsWriterFaultOrFull W.allocates
+        (W.failures w.old) (W.failures w.new) (W.full w.new)) e) }
 {
     write_node(links, content, w)?;
     list::read_list(alloc, r, links.len())
 }
 
 /// A list that any writer took is read back by any reader that tells what was appended, with `more`
-/// behind it: the same values in order, and `more` is left.
+/// behind it: the same values in order, and `more` is left. Where the reader does not fail, nothing refuses it but
+/// want of memory and what the writer lacked.
+///
+/// From a `&mut [u8]` to what is left of it, any bytes stand appended, so no reader can tell just these: a list
+/// goes through a slice in `places::list_back`.
 pub fn list_through<const S: usize, W: Write, R: Read>(
     alloc: Global,
     items: &[Multihash<S>],
@@ -62,8 +69,10 @@ pub fn list_through<const S: usize, W: Write, R: Read>(
     ensures { (more : List ℕ) →
         ((bytes : List ℕ) → W.appended w.old bytes w.new → R.rest r.old ≡ Some (bytes ++ more)) →
         R.failures r.new ≡ R.failures r.old →
-        IfOk result (λ list. (map pair_of list.items ≡ map pair_of items.now)
-        × (R.rest r.new ≡ Some more)) }
+        MatchResult result (λ list. (map pair_of list.items ≡ map pair_of items.now)
+        × (R.rest r.new ≡ Some more))
+        (λ e. IsMemory e ⊎ IsIo (IsWriterFaultOrFull W.allocates
+        (W.failures w.old) (W.failures w.new) (W.full w.new)) e) }
 {
     list::write_list(items, w)?;
     list::read_list(alloc, r, items.len())

@@ -1,12 +1,16 @@
 //! Callers that fill a slice, and whose contracts tell the bytes in it.
-ghost use Rattle.std.specs.Prelude.{◌≡◌, ◌<◌, ℕ, List, ◌++◌, length, map, drop, MatchOption};
+ghost use Rattle.std.specs.Prelude.{◌≡◌, ◌<◌, ℕ, List, ◌++◌, length, map, drop, All, MatchOption, MatchResult};
 ghost use Rattle.multihash.specs.Encoding.{IsEncoding};
 ghost use Rattle.multihash.specs.Joined.{AreJoined};
+ghost use Rattle.multihash.specs.Pair.{FitsBuffer};
+ghost use Rattle.multihash.specs.Refusal.{IsMemory};
 ghost use Rattle.multihash.specs.Answer.{pair_of};
 
-use multihash::Multihash;
+use crate::forms::read_pairs;
 use multihash::list::write_list;
 use multihash::no_std_io::SliceWriter;
+use multihash::{Error, Multihash};
+use std::alloc::Global;
 
 /// Writes the encoding to the front of `places`, and says how many it fills; none where it does not fit,
 /// and what the places hold then is not told.
@@ -31,4 +35,24 @@ pub fn encode_all_into<const S: usize>(items: &[Multihash<S>], places: &mut [u8]
         Ok(()) => Some(writer.filled),
         Err(_) => None,
     }
+}
+
+/// Writes multihashes to the front of `places`, and reads them from there into buffers of their own size or
+/// another: the same pairs in order, where they fit; none where the places do not suffice. Nothing but want of
+/// memory refuses it.
+pub fn list_back<const S: usize, const R: usize>(
+    alloc: Global,
+    items: &[Multihash<S>],
+    places: &mut [u8],
+) -> Result<Option<Vec<Multihash<R>>>, Error>
+    ensures { All (FitsBuffer R) (map pair_of items.now) →
+        MatchResult result (λ back. (bytes : List ℕ) × AreJoined (map pair_of items.now) bytes
+        × MatchOption back (length places.old < length bytes)
+        (λ list. map pair_of list.items ≡ map pair_of items.now)) IsMemory }
+{
+    let Some(filled) = encode_all_into(items, places) else {
+        return Ok(None);
+    };
+    let mut left = &places[..filled];
+    Ok(Some(read_pairs(alloc, &mut left, items.len())?))
 }

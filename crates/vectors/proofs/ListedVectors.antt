@@ -7,16 +7,16 @@ use Rattle.multihash.specs.Bytes.{IsProperBeginning, place_value}
 use Rattle.multihash.specs.Varint.{insufficient, overflow, not_minimal}
 use Rattle.multihash.specs.Verdict.{accepted, invalid_size, invalid_code, faulty, unexpected_eof, HasWholeVerdict}
 use Rattle.multihash.specs.Scale.{IsScaleCode, HasScaleVerdict}
-use Rattle.multihash.proofs.MarkedLemmas.{All-append_right}
-use Rattle.multihash.proofs.WritingLemmas.{some_items}
-use Rattle.multihash.proofs.VerdictLemmas.{same_cut, verdict_unique, whole_verdict_unique}
-use Rattle.multihash.proofs.ScaleLemmas.{scale_verdict_unique}
-use Rattle.multihash.proofs.SettlingLemmas.{shortest_unique}
-use Rattle.multihash.proofs.BytesVectors.{all_below}
-use Rattle.multihash.proofs.PairVectors.{pair}
-use Rattle.multihash.proofs.VerdictVectors.{size_5, size_named, code_named}
-use Rattle.multihash.proofs.SettlingVectors.{shortest_of_size}
-use Rattle.multihash.proofs.ScaleVectors.{zeros, all_255, scale_eight_bytes, scale_size_first, scale_size_behind}
+use Rattle.multihash.proofs.Varints.MarkedLemmas.{All-append_right}
+use Rattle.multihash.proofs.Writings.WritingLemmas.{length_of_not_nil}
+use Rattle.multihash.proofs.Readings.VerdictLemmas.{same_cut, verdict_unique, whole_verdict_unique}
+use Rattle.multihash.proofs.Forms.ScaleLemmas.{scale_verdict_unique}
+use Rattle.multihash.proofs.Readings.ShortestLemmas.{shortest_unique}
+use Rattle.multihash.proofs.Examples.BytesVectors.{all_below}
+use Rattle.multihash.proofs.Examples.PairVectors.{pair}
+use Rattle.multihash.proofs.Examples.VerdictVectors.{size_5, size_named, code_named}
+use Rattle.multihash.proofs.Examples.SettlingVectors.{shortest_of_size}
+use Rattle.multihash.proofs.Examples.ScaleVectors.{zeros, all_255, scale_eight_bytes, scale_size_first, scale_size_behind}
 use Rattle.vectors.proofs.ScaleAnswerLemmas.{size_shortest}
 use Rattle.vectors.specs.declared.check.Check.{Check}
 use Rattle.vectors.specs.declared.check.Check.TheVariants.{FromBytes, ReadSlice, ReadOneByte, ReadThreeBytes, ScaleSlice, ScaleOneByte, FromValue}
@@ -175,7 +175,7 @@ before_eight : (shorter : List ℕ) → IsProperBeginning shorter all_255
 before_eight shorter (rest, some, cut) =
     inl (omega (
       arith,
-      some_items rest some,
+      length_of_not_nil rest some,
       ap (λ (z : List ℕ). length z) cut,
       length-append shorter rest,
     ))

@@ -2,7 +2,7 @@ use Rattle.std.proofs.Common.{◌≡◌, ◌+◌, ◌∙◌, [], ◌∷◌, ◌+
 use Rattle.std.proofs.Math.Seq.{take-suc-set}
 use Rattle.std.proofs.lemmas.List.{take_all}
 use Rattle.multihash.specs.Members.{member_bytes}
-use Rattle.multihash.proofs.MembersLemmas.{byte_at, one_more_byte}
+use Rattle.multihash.proofs.Forms.MembersLemmas.{byte_at, one_more_byte}
 use Rattle.multihash.proofs.json.put_bytes.Goals as goal
 use Rattle.multihash.proofs.json.put_bytes.Goals.{in-Some, in_default}
 

@@ -1,4 +1,4 @@
-use Rattle.multihash.proofs.VerdictLemmas.{verdict_exists, verdict_unique, whole_verdict_exists, whole_verdict_unique}
+use Rattle.multihash.proofs.Readings.VerdictLemmas.{verdict_exists, verdict_unique, whole_verdict_exists, whole_verdict_unique}
 use Rattle.multihash.proofs.laws.one_verdict.Goals as goal
 
 pub returns-clause-read : goal.returns-clause-read

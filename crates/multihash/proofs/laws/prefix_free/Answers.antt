@@ -1,6 +1,6 @@
 use Rattle.std.proofs.Common.{[], refl, ◌++◌, sym, ◌∙◌, append-nil, arith}
 use Rattle.multihash.specs.Verdict.{accepted}
-use Rattle.multihash.proofs.VerdictLemmas.{encoding_exists, encoding_unique, encoding_same, verdict_unique}
+use Rattle.multihash.proofs.Readings.VerdictLemmas.{encoding_exists, encoding_unique, encoding_same, verdict_unique}
 use Rattle.multihash.proofs.laws.prefix_free.Goals as goal
 
 pub returns-clause-one_encoding : goal.returns-clause-one_encoding

@@ -1,4 +1,5 @@
-use Rattle.multihash.proofs.SettlingLemmas.{settles_exactly, one_shortest, none_settles}
+use Rattle.multihash.proofs.Readings.SettlingLemmas.{settles_exactly, none_settles}
+use Rattle.multihash.proofs.Readings.ShortestLemmas.{one_shortest}
 use Rattle.multihash.proofs.laws.settles.Goals as goal
 
 pub returns-clause-exactly : goal.returns-clause-exactly

@@ -3,11 +3,10 @@ use Rattle.std.proofs.lemmas.List.{take_more, drop_more, take-append-drop, map_p
 use Rattle.multihash.specs.Answer.{Fields, pair_of}
 use Rattle.multihash.specs.Joined.{AreJoined}
 use Rattle.multihash.specs.Writing.{AppendsPart}
-use Rattle.multihash.specs.Streams.{AppendsPartOfPairs}
 use Rattle.multihash.proofs.OutcomeLemmas.{OnErr-always}
-use Rattle.multihash.proofs.JoinedLemmas.{AreJoined-none, AreJoined-push}
-use Rattle.multihash.proofs.StreamLemmas.{stops_at, part_of_all}
-use Rattle.multihash.proofs.ValueLemmas.{all_fit, have_stream}
+use Rattle.multihash.proofs.Forms.JoinedLemmas.{AreJoined-none, AreJoined-push}
+use Rattle.multihash.proofs.Forms.StreamLemmas.{stops_in_all}
+use Rattle.multihash.proofs.Values.ValueLemmas.{all_fit, have_stream}
 use Rattle.multihash.proofs.list.write_list.Given as given
 use Rattle.multihash.proofs.list.write_list.Goals as goal
 
@@ -31,10 +30,10 @@ loop-item-preserved g c =
       unfailed = met.faults ∙ before.unfailed;
     }
 
--- where it stopped
-stop : (g : given.Over) (c : goal.After-from_residual g)
-    → AppendsPartOfPairs g.W.Write.appended c.args.w.now (map pair_of c.args.items.now) c.write.new.w
-stop g c =
+-- of all encodings a part stands appended
+stop : (g : given.Over) (c : goal.After-from_residual g) (all : List ℕ) → AreJoined (map pair_of c.args.items.now) all
+    → AppendsPart g.W.Write.appended c.args.w.now all c.write.new.w
+stop g c all joined =
     let before = c.loop-item.invariant in
     let met = c.in_err-write.ensures.err in
     let items = c.args.items.now in
@@ -43,24 +42,17 @@ stop g c =
     let cut : items ≡ take i items ++ m ∷ drop (i + 1) items =
     sym (take-append-drop i items) ∙ ap (λ (l : List (Fields g.row.S)). take i items ++ l)
     (drop_more items i m c.loop-item-test.true ∙ ap (λ (x : Fields g.row.S). x ∷ drop (i + 1) items) (sym c.item-item.is)) in
-    stops_at g.W.Write.appended g.met.W.Write.appends_joined _ _ _ items i m before.bytes met.0 cut before.joined before.stands met.1 met.2
-
-pub returns-in_err-write-clause-stopped : goal.returns-in_err-write-clause-stopped
-returns-in_err-write-clause-stopped g c = OnErr-always _ (stop g c)
+    stops_in_all g.W.Write.appended g.met.W.Write.appends_joined _ _ _ items i m before.bytes met.0 all cut before.joined before.stands met.1 met.2 joined
 
 pub returns-in_err-write-clause-any : goal.returns-in_err-write-clause-any
-returns-in_err-write-clause-any g c =
-    let pairs = map pair_of c.args.items.now in
-    let part : (bytes : List ℕ) → AreJoined pairs bytes → AppendsPart g.W.Write.appended c.args.w.now bytes c.write.new.w =
-    λ bytes joined. part_of_all g.W.Write.appended _ _ pairs bytes (stop g c) joined in
-    OnErr-always _ part
+returns-in_err-write-clause-any g c = OnErr-always _ (stop g c)
 
 pub returns-in_err-write-clause-err : goal.returns-in_err-write-clause-err
 returns-in_err-write-clause-err g c =
     let pairs = map pair_of c.args.items.now in
     let all = have_stream c.args.items.now in
     let part : (bytes : List ℕ) × AreJoined pairs bytes × AppendsPart g.W.Write.appended c.args.w.now bytes c.write.new.w =
-    (all.0, all.1, part_of_all g.W.Write.appended _ _ pairs all.0 (stop g c) all.1) in
+    (all.0, all.1, stop g c all.0 all.1) in
     OnErr-always _ part
 
 pub returns-in_err-write-clause-fit : goal.returns-in_err-write-clause-fit

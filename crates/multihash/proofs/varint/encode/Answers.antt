@@ -1,7 +1,7 @@
 use Rattle.std.proofs.Common.{◌<◌, length, refl, ◌∙◌, arith, bit_and, bit_or}
 use Rattle.std.proofs.lemmas.List.{length-take-le, take_more_set}
 use Rattle.std.proofs.Math.ListN.{length-set}
-use Rattle.multihash.proofs.VarintWriteLemmas.{none_wrote, wrote_more, wrote_last, wrote_few, wrote_fewer}
+use Rattle.multihash.proofs.Varints.VarintWriteLemmas.{none_wrote, wrote_more, wrote_last, wrote_few, wrote_fewer}
 use Rattle.multihash.proofs.varint.encode.Goals as goal
 
 pub loop-rest-init : goal.loop-rest-init

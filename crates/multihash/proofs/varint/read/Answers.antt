@@ -1,10 +1,10 @@
 use Rattle.std.proofs.Common.{[], ◌∷◌, ◌++◌, refl, ◌∙◌, arith}
 use Rattle.std.proofs.lemmas.List.{length_push}
 use Rattle.multihash.specs.Varint.{insufficient, overflow, not_minimal}
-use Rattle.multihash.proofs.VarintReadLemmas.{none_read, read_last, read_more, read_zero, read_overflow, read_whole, before_last, before_end, first_of_two}
-use Rattle.multihash.proofs.ReadingLemmas.{Takes-none, Takes-kept, Takes-joined, IsAtEnd-kept}
+use Rattle.multihash.proofs.Varints.VarintReadLemmas.{none_read, read_last, read_more, read_zero, read_overflow, read_whole, before_last, before_end, first_of_two}
+use Rattle.multihash.proofs.Readings.ReadingLemmas.{Takes-none, Takes-kept, Takes-joined, IsAtEnd-kept}
 use Rattle.multihash.proofs.OutcomeLemmas.{passed_on}
-use Rattle.multihash.proofs.VarintTakingLemmas.{failed_behind, refused_behind}
+use Rattle.multihash.proofs.Varints.VarintTakingLemmas.{failed_behind, refused_behind}
 use Rattle.multihash.proofs.varint.read.Goals as goal
 
 pub loop-i-init : goal.loop-i-init
@@ -14,7 +14,7 @@ pub returns-in_err-byte-clause-err : goal.returns-in_err-byte-clause-err
 returns-in_err-byte-clause-err g c =
     let before = c.loop-i.invariant in
     let takes = Takes-kept _ _ _ before.front c.in_err-byte.ensures.err before.takes in
-    passed_on c.from_residual.result _ _ c.from_residual.ensures.1
+    passed_on c.from_residual.result _ _ _ c.from_residual.ensures.1
     (failed_behind _ c.in_err-byte.field-0.0 _ _ before.front _ refl before.reads takes)
 
 pub returns-in_default-clause-err : goal.returns-in_default-clause-err

@@ -1,7 +1,7 @@
 -- Only marked bytes were taken, their digits are in the sum, and no read failed.
 use Rattle.std.proofs.Common.{◌≡◌, ℕ, List, length}
 use Rattle.multihash.specs.Reading.{Takes}
-use Rattle.multihash.proofs.VarintReadLemmas.{ReadsMarked}
+use Rattle.multihash.proofs.Varints.VarintReadLemmas.{ReadsMarked}
 use Rattle.multihash.proofs.varint.read.Given as goal
 
 abbrev pub invariant-loop-i : goal.invariant-loop-i

@@ -2,7 +2,7 @@ use Rattle.std.proofs.Common.{◌≡◌, ℕ, List, length, subst, ap, ◌∙◌
 use Rattle.multihash.specs.Pair.{Pair}
 use Rattle.multihash.specs.Encoding.{IsEncoding}
 use Rattle.multihash.specs.Answer.{pair_of}
-use Rattle.multihash.proofs.VerdictLemmas.{encoding_same}
+use Rattle.multihash.proofs.Readings.VerdictLemmas.{encoding_same}
 use Rattle.multihash_c.proofs.EncodedLemmas.{puts_all, puts_none}
 use Rattle.multihash_c.proofs.encode.multihash_encode.Goals as goal
 use Rattle.multihash_c.proofs.encode.multihash_encode.Goals.{then-length-out, else-length-out}

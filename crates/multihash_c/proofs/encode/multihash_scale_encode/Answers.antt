@@ -2,8 +2,8 @@ use Rattle.std.proofs.Common.{◌≡◌, ℕ, ◌+◌, List, length, subst, sym,
 use Rattle.multihash.specs.Pair.{Pair}
 use Rattle.multihash.specs.Scale.{IsScale}
 use Rattle.multihash.specs.Answer.{pair_of}
-use Rattle.multihash.proofs.ScaleLemmas.{scale_exists, scale_length}
-use Rattle.multihash.proofs.ValueLemmas.{digest_fits}
+use Rattle.multihash.proofs.Forms.ScaleLemmas.{scale_exists, scale_length}
+use Rattle.multihash.proofs.Values.ValueLemmas.{digest_fits}
 use Rattle.multihash_c.proofs.EncodedLemmas.{puts_all, puts_none}
 use Rattle.multihash_c.proofs.encode.multihash_scale_encode.Goals as goal
 use Rattle.multihash_c.proofs.encode.multihash_scale_encode.Goals.{then-length-out, else-length-out}

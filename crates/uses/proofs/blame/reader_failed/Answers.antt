@@ -3,7 +3,7 @@ use Rattle.multihash.specs.Pair.{Pair}
 use Rattle.multihash.specs.Verdict.{Verdict, accepted, HasVerdict}
 use Rattle.multihash.specs.Refusal.{Refusal}
 use Rattle.multihash.specs.Answer.{IsRefusal}
-use Rattle.multihash.proofs.VerdictLemmas.{verdict_unique}
+use Rattle.multihash.proofs.Readings.VerdictLemmas.{verdict_unique}
 use Rattle.uses.proofs.blame.reader_failed.Goals as goal
 
 -- what is refused is no pair that fits

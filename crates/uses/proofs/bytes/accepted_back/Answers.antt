@@ -3,7 +3,7 @@ use Rattle.multihash.specs.Pair.{Pair}
 use Rattle.multihash.specs.Encoding.{IsEncoding}
 use Rattle.multihash.specs.Verdict.{Verdict, accepted, HasWholeVerdict}
 use Rattle.multihash.specs.Answer.{pair_of}
-use Rattle.multihash.proofs.VerdictLemmas.{encoding_same}
+use Rattle.multihash.proofs.Readings.VerdictLemmas.{encoding_same}
 use Rattle.uses.proofs.bytes.accepted_back.Goals as goal
 
 -- bytes whose verdict is a pair are its encoding

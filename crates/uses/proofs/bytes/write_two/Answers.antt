@@ -1,5 +1,5 @@
 use Rattle.multihash.proofs.OutcomeLemmas.{OnErr-always}
-use Rattle.multihash.proofs.WritingLemmas.{AppendsPart-append, AppendsPart-joined}
+use Rattle.multihash.proofs.Writings.WritingLemmas.{AppendsPart-append, AppendsPart-joined}
 use Rattle.std.proofs.lemmas.Result.{on_err_weaker}
 use Rattle.uses.proofs.bytes.write_two.Goals as goal
 

@@ -1,5 +1,5 @@
 use Rattle.std.proofs.Common.{◌≡◌, [], ◌∷◌, ◌++◌, refl, rules}
-use Rattle.multihash.proofs.StreamLemmas.{TakesPairs-more}
+use Rattle.multihash.proofs.Forms.StreamLemmas.{TakesPairs-more}
 use Rattle.uses.proofs.DumpLemmas.{at_rest}
 use Rattle.uses.proofs.dump.read_all.Goals as goal
 

@@ -3,7 +3,7 @@ use Rattle.multihash.specs.Joined.{AreJoined}
 use Rattle.multihash.specs.Writing.{AppendsPart}
 use Rattle.multihash.specs.Answer.{pair_of}
 use Rattle.multihash.proofs.OutcomeLemmas.{OnErr-always}
-use Rattle.multihash.proofs.WritingLemmas.{AppendsPart-append, AppendsPart-joined}
+use Rattle.multihash.proofs.Writings.WritingLemmas.{AppendsPart-append, AppendsPart-joined}
 use Rattle.uses.proofs.merkle.write_node.Goals as goal
 
 pub returns-in_err-write_list-clause-err : goal.returns-in_err-write_list-clause-err

@@ -3,9 +3,9 @@ use Rattle.multihash.specs.Encoding.{IsEncoding}
 use Rattle.multihash.specs.Pair.{IsSame}
 use Rattle.multihash.specs.Verdict.{accepted, HasWholeVerdict}
 use Rattle.multihash.specs.Answer.{pair_of, IsRefusal}
-use Rattle.multihash.proofs.VerdictLemmas.{whole_verdict_unique}
-use Rattle.multihash.proofs.PairLemmas.{IsSame-equal, IsSame-refl}
-use Rattle.multihash.proofs.ValueLemmas.{digest_fits}
+use Rattle.multihash.proofs.Readings.VerdictLemmas.{whole_verdict_unique}
+use Rattle.multihash.proofs.Values.PairLemmas.{IsSame-equal, IsSame-refl}
+use Rattle.multihash.proofs.Values.ValueLemmas.{digest_fits}
 use Rattle.uses.proofs.peer_id.is_peer.Goals as goal
 
 pub returns-in-Ok : goal.returns-in-Ok

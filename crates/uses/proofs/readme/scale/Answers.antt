@@ -4,8 +4,8 @@ use Rattle.multihash.specs.Scale.{IsScale, HasScaleVerdict}
 use Rattle.multihash.specs.Verdict.{Verdict, accepted}
 use Rattle.multihash.specs.Refusal.{Refusal, IsMemory}
 use Rattle.multihash.specs.Answer.{Fields, pair_of, IsRefusal, Answers}
-use Rattle.multihash.proofs.ScaleLemmas.{scale_verdict_unique}
-use Rattle.multihash.proofs.ValueLemmas.{digest_fits}
+use Rattle.multihash.proofs.Forms.ScaleLemmas.{scale_verdict_unique}
+use Rattle.multihash.proofs.Values.ValueLemmas.{digest_fits}
 use Rattle.uses.proofs.readme.scale.Goals as goal
 
 -- the verdict on a pair's form is the pair

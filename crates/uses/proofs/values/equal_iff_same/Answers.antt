@@ -6,8 +6,8 @@ use Rattle.std.specs.declared.cmp.Ordering.TheVariants.{Less, Equal, Greater}
 use Rattle.multihash.specs.Pair.{Pair, IsSame}
 use Rattle.multihash.specs.Order.{Compares}
 use Rattle.multihash.specs.Answer.{pair_of}
-use Rattle.multihash.proofs.PairLemmas.{IsSame-sym}
-use Rattle.multihash.proofs.OrderLemmas.{same_not_before}
+use Rattle.multihash.proofs.Values.PairLemmas.{IsSame-sym}
+use Rattle.multihash.proofs.Values.OrderLemmas.{same_not_before}
 use Rattle.multihash.proofs.CallingLemmas.{tests_agree}
 use Rattle.uses.proofs.values.equal_iff_same.Goals as goal
 

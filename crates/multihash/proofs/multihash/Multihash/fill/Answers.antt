@@ -1,6 +1,6 @@
 use Rattle.std.proofs.Common.{◌∙◌, arith}
 use Rattle.std.proofs.lemmas.List.{take_all}
-use Rattle.multihash.proofs.PairLemmas.{pair_in_front}
+use Rattle.multihash.proofs.Values.PairLemmas.{pair_in_front}
 use Rattle.multihash.proofs.multihash.Multihash.fill.Goals as goal
 
 pub returns-in-Some : goal.returns-in-Some

@@ -1,6 +1,6 @@
 use Rattle.std.proofs.Common.{refl, arith, sym, ap, inl, inr}
 use Rattle.multihash.specs.Verdict.{invalid_size, unexpected_eof, accepted}
-use Rattle.multihash.proofs.FrontLemmas.{sliced, no_code, no_size, over, cut_digest, left_over, whole}
+use Rattle.multihash.proofs.Readings.FrontLemmas.{sliced, no_code, no_size, over, cut_digest, left_over, whole}
 use Rattle.multihash.proofs.multihash.Multihash.from_bytes.Goals as goal
 
 pub returns-in_default : goal.returns-in_default

@@ -3,9 +3,9 @@ use Rattle.std.proofs.lemmas.List.{take_at, length-take-le, length-replicate}
 use Rattle.multihash.specs.Pair.{digest_limit}
 use Rattle.multihash.specs.Varint.{IsVarint}
 use Rattle.multihash.specs.Answer.{Fields}
-use Rattle.multihash.proofs.ReadingLemmas.{Takes-joined}
-use Rattle.multihash.proofs.ReadStopLemmas.{stops_in_code, stops_in_size, stops_at_size, stops_in_digest, encodes_fields}
-use Rattle.multihash.proofs.ReadTakingLemmas.{read_refused, read_answered}
+use Rattle.multihash.proofs.Readings.ReadingLemmas.{Takes-joined}
+use Rattle.multihash.proofs.Readings.ReadStopLemmas.{stops_in_code, stops_in_size, stops_at_size, stops_in_digest, encodes_fields}
+use Rattle.multihash.proofs.Readings.ReadTakingLemmas.{read_refused, read_answered}
 use Rattle.multihash.proofs.multihash.Multihash.read.Goals as goal
 
 pub returns-in_err-code : goal.returns-in_err-code
@@ -23,7 +23,7 @@ returns-in_err-read g c =
     let same = code.faults in
     read_refused S (code.ok.0 ++ t.taken) _ _ _ _ c.from_residual-in_err-read.result _ c.from_residual-in_err-read.ensures.1
     (Takes-joined _ _ _ code.ok.0 t.taken _ refl code.ok.2 t.takes)
-    (stops_in_size S _ code.ok.0 code.ok.1 _ _ _ _ _ t (rw same at c.in_err-read.ensures.faults))
+    (stops_in_size S _ _ _ _ _ t _ code.ok.0 code.ok.1 (rw same at c.in_err-read.ensures.faults))
 
 pub returns-in_err-size : goal.returns-in_err-size
 returns-in_err-size g c =

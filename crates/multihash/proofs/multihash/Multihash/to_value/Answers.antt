@@ -5,7 +5,7 @@ use Rattle.std.proofs.lemmas.List.Elements.{All-take, All-same}
 use Rattle.serde_json.specs.Data.{Data, number, unsigned, array}
 use Rattle.serde_json.specs.View.{items_of}
 use Rattle.serde_json.proofs.Views.{view-Array}
-use Rattle.multihash.proofs.WordFrontLemmas.{bytes_of}
+use Rattle.multihash.proofs.Varints.WordFillingLemmas.{bytes_of}
 use Rattle.multihash.proofs.multihash.Multihash.to_value.Goals as goal
 
 pub loop-byte-preserved : goal.loop-byte-preserved

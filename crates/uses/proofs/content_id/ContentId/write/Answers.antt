@@ -1,6 +1,6 @@
 use Rattle.std.proofs.Common.{[], ◌∷◌, ◌++◌, refl}
 use Rattle.multihash.specs.Answer.{pair_of}
-use Rattle.multihash.proofs.WritingLemmas.{AppendsPart-append, AppendsPart-joined}
+use Rattle.multihash.proofs.Writings.WritingLemmas.{AppendsPart-append, AppendsPart-joined}
 use Rattle.uses.proofs.ContentIdLemmas.{identifier, stops_all}
 use Rattle.uses.proofs.content_id.ContentId.write.Goals as goal
 

@@ -1,6 +1,6 @@
 use Rattle.std.proofs.Common.{[], rules, take, refl, arith}
 use Rattle.std.proofs.lemmas.Grind.{common_steps}
-use Rattle.multihash.proofs.WritingLemmas.{IsProperBeginning-take}
+use Rattle.multihash.proofs.Writings.WritingLemmas.{IsProperBeginning-take}
 use Rattle.multihash.proofs.no_std_io.impls.RefMutSliceU8Write.write_all.Goals as goal
 
 pub returns-else-branch-buf-clause-laws : goal.returns-else-branch-buf-clause-laws

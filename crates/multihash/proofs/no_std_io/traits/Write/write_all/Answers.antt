@@ -1,6 +1,6 @@
 use Rattle.std.proofs.Common.{[], ◌++◌, rules, take, arith}
 use Rattle.std.proofs.lemmas.Grind.{common_steps}
-use Rattle.multihash.proofs.WritingLemmas.{joined-take-range, IsProperBeginning-take}
+use Rattle.multihash.proofs.Writings.WritingLemmas.{joined-take-range, IsProperBeginning-take}
 use Rattle.multihash.proofs.no_std_io.traits.Write.write_all.Goals as goal
 
 pub loop-left-preserved : goal.loop-left-preserved

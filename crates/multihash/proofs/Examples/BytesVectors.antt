@@ -1,0 +1,67 @@
+-- Known lists of bytes, beginnings of lists, place values, and facts that hold of one value.
+use Rattle.std.proofs.Common.{◌≡◌, ℕ, ◌<◌, ltb, true, List, [], ◌∷◌, length, get_or, refl, ap, arith}
+use Rattle.std.specs.List.{All, list_all}
+use Rattle.std.proofs.lemmas.Bool.{ltb-true, and_parts}
+use Rattle.std.proofs.lemmas.List.Elements.{All-nil, All-cons}
+use Rattle.multihash.specs.Bytes.{IsBytes, IsBeginning, IsProperBeginning, place_value, ExactlyOne}
+
+-- each fact by computing
+pub all_below : (bound : ℕ) (xs : List ℕ) → list_all (λ x. ltb x bound) xs ≡ true → All (λ x. x < bound) xs
+all_below bound [] e = All-nil (λ x. x < bound)
+all_below bound (x ∷ xs) e =
+    let parts = and_parts (ltb x bound) (list_all (λ y. ltb y bound) xs) e in
+    All-cons (λ y. y < bound) x xs (ltb-true x bound parts.0) (all_below bound xs parts.1)
+
+-- ---- bytes
+
+bytes_0_255 : IsBytes (0 ∷ 255 ∷ [])
+bytes_0_255 = all_below 256 (0 ∷ 255 ∷ []) refl
+
+no_byte_256 : ¬ (IsBytes (0 ∷ 256 ∷ []))
+no_byte_256 h = omega (arith, h 1 0 (omega arith))
+
+-- ---- beginnings
+
+begins : IsBeginning (1 ∷ 2 ∷ []) (1 ∷ 2 ∷ []) × IsBeginning [] (1 ∷ 2 ∷ [])
+begins = (([], refl), (1 ∷ 2 ∷ [], refl))
+
+begins_no_shorter : ¬ (IsBeginning (1 ∷ 2 ∷ []) (1 ∷ []))
+begins_no_shorter h = omega (arith, ap (λ (z : List ℕ). length z) h.1)
+
+begins_no_other : ¬ (IsBeginning (2 ∷ []) (1 ∷ 2 ∷ []))
+begins_no_other h = omega (arith, ap (λ (z : List ℕ). get_or z 0 0) h.1)
+
+begins_properly : IsProperBeginning (1 ∷ []) (1 ∷ 2 ∷ [])
+begins_properly = (2 ∷ [], (λ e. omega (arith, ap (λ (z : List ℕ). length z) e)), refl)
+
+not_properly_itself : ¬ (IsProperBeginning (1 ∷ 2 ∷ []) (1 ∷ 2 ∷ []))
+not_properly_itself ([], some, cut) = some refl
+not_properly_itself (r ∷ rest, some, cut) = omega (arith, ap (λ (z : List ℕ). length z) cut)
+
+begins_no_other_properly : ¬ (IsProperBeginning (2 ∷ []) (1 ∷ 2 ∷ []))
+begins_no_other_properly (rest, some, cut) = omega (arith, ap (λ (z : List ℕ). get_or z 0 0) cut)
+
+begins_no_shorter_properly : ¬ (IsProperBeginning (1 ∷ 2 ∷ []) (1 ∷ []))
+begins_no_shorter_properly (rest, some, cut) = omega (arith, ap (λ (z : List ℕ). length z) cut)
+
+nothing_begins_properly : IsProperBeginning [] (1 ∷ [])
+nothing_begins_properly = (1 ∷ [], (λ e. omega (arith, ap (λ (z : List ℕ). length z) e)), refl)
+
+-- ---- the lowest digit stands first, in both bases
+
+values : (place_value 128 (44 ∷ 2 ∷ []) ≡ 300) × (place_value 256 (1 ∷ 2 ∷ 3 ∷ []) ≡ 197121) × (place_value 128 (0 ∷ 0 ∷ 1 ∷ []) ≡ 16384)
+    × (place_value 128 [] ≡ 0)
+unfolding place_value
+values = (refl, refl, refl, refl)
+
+-- ---- one value
+
+one_three : ExactlyOne (λ (n : ℕ). n ≡ 3)
+one_three = record { value = 3; holds = refl; only = λ other same. same }
+
+-- two values are not one
+two_are_not_one : ¬ (ExactlyOne (λ (n : ℕ). n < 2))
+two_are_not_one h = omega (arith, h.only 0 (omega arith), h.only 1 (omega arith))
+
+none_is_not_one : ¬ (ExactlyOne (λ (n : ℕ). n < 0))
+none_is_not_one h = omega (arith, h.holds)

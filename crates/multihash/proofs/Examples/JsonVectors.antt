@@ -1,0 +1,66 @@
+-- The JSON lists of known pairs, and values that are or aren't byte arrays.
+use Rattle.std.proofs.Common.{◌≡◌, ℕ, ◌<◌, List, [], ◌∷◌, get_or, replicate, refl, sym, subst, ap, arith}
+use Rattle.std.specs.Prelude.{codes, ℤ, Float}
+use Rattle.std.proofs.lemmas.List.Elements.{All-replicate}
+use Rattle.std.specs.List.{All}
+use Rattle.serde_json.specs.Data.{Data, number, unsigned, negative, float, null, string, array, no_items, item}
+use Rattle.multihash.specs.Encoding.{IsEncoding}
+use Rattle.multihash.specs.Json.{IsByteArray, IsJsonList, number_array}
+use Rattle.multihash.proofs.Examples.BytesVectors.{all_below}
+use Rattle.multihash.proofs.Examples.VarintVectors.{varint_0, varint_1, varint_128}
+use Rattle.multihash.proofs.Examples.PairVectors.{pair}
+use Rattle.multihash.proofs.Forms.JsonLemmas.{array_unique}
+
+json_list_encodes : IsEncoding (pair 0 (codes "A")) (0 ∷ 1 ∷ 65 ∷ [])
+json_list_encodes = record { code = 0 ∷ []; size = 1 ∷ []; is_code = varint_0; is_size = varint_1; spelled = refl }
+
+json_list : IsJsonList (pair 0 (codes "A")) (array (item (number (unsigned 0)) (item (number (unsigned 1)) (item (number (unsigned 65)) no_items))))
+json_list = record { encoding = 0 ∷ 1 ∷ 65 ∷ []; encodes = json_list_encodes; lists = refl }
+
+-- the code's varint is two members
+json_list_128 : IsJsonList (pair 128 []) (number_array (128 ∷ 1 ∷ 0 ∷ []))
+json_list_128 = record {
+  encoding = 128 ∷ 1 ∷ 0 ∷ [];
+  encodes = record { code = 128 ∷ 1 ∷ []; size = 0 ∷ []; is_code = varint_128; is_size = varint_0; spelled = refl };
+  lists = refl;
+}
+
+-- any bytes are a byte array, whether they encode a pair or not
+array_of_255 : IsByteArray (array (item (number (unsigned 0)) (item (number (unsigned 255)) no_items))) (0 ∷ 255 ∷ [])
+array_of_255 = record { array = refl; are_bytes = all_below 256 (0 ∷ 255 ∷ []) refl }
+
+array_of_nothing : IsByteArray (array no_items) []
+array_of_nothing = record { array = refl; are_bytes = all_below 256 [] refl }
+
+-- of any length
+array_of_many : (n : ℕ) → IsByteArray (number_array (replicate n 7)) (replicate n 7)
+array_of_many n = record { array = refl; are_bytes = All-replicate (λ byte. byte < 256) n 7 (omega arith) }
+
+array_0_256 : (bytes : List ℕ) → ¬ (IsByteArray (number_array (0 ∷ 256 ∷ [])) bytes)
+array_0_256 bytes h =
+    let all = subst (All (λ byte. byte < 256)) (sym (array_unique (0 ∷ 256 ∷ []) bytes h.array)) h.are_bytes in
+    omega (arith, all 1 0 (omega arith))
+
+-- the members are the bytes, in their order
+not_another_order : ¬ (IsByteArray (number_array (1 ∷ 2 ∷ [])) (2 ∷ 1 ∷ []))
+not_another_order h = omega (arith, ap (λ (z : List ℕ). get_or z 0 0) (array_unique (1 ∷ 2 ∷ []) (2 ∷ 1 ∷ []) h.array))
+
+-- and no text is a list, nor nothing
+no_array : (text bytes : List ℕ) → ¬ (IsByteArray (string text) bytes) × ¬ (IsByteArray null bytes)
+no_array text bytes = ((λ h. let e = h.array in cc), λ h. let e = h.array in cc)
+
+lists_no_text : ¬ (IsJsonList (pair 0 (codes "A")) (string (codes "A")))
+lists_no_text h = let e = h.lists in cc
+
+-- each member is held as a whole number: a float is none, however whole it is
+no_member : (d : Data) (bytes : List ℕ) → ((n : ℕ) → ¬ (d ≡ number (unsigned n)))
+    → ¬ (array (item (number (unsigned 0)) (item d no_items)) ≡ number_array bytes)
+no_member d [] other e = cc
+no_member d (b ∷ []) other e = cc
+no_member d (b ∷ c ∷ bytes) other e = other c (cc)
+
+negative_is_no_member : (z : ℤ) (bytes : List ℕ) → ¬ (IsByteArray (array (item (number (unsigned 0)) (item (number (negative z)) no_items))) bytes)
+negative_is_no_member z bytes h = no_member (number (negative z)) bytes (λ n e. cc) h.array
+
+float_is_no_member : (x : Float) (bytes : List ℕ) → ¬ (IsByteArray (array (item (number (unsigned 0)) (item (number (float x)) no_items))) bytes)
+float_is_no_member x bytes h = no_member (number (float x)) bytes (λ n e. cc) h.array

@@ -1,0 +1,227 @@
+-- What was taken from known readers, how they failed, and what their laws rule out.
+use Rattle.std.proofs.Common.{◌≡◌, ◌<◌, ℕ, List, [], ◌∷◌, ◌++◌, length, get_or, refl, sym, ap, arith, inl, inr}
+use Rattle.std.specs.Prelude.{Option, Some, None, Result, Ok, Err}
+use Rattle.std.proofs.lemmas.Bool.{false≢true}
+use Rattle.std.proofs.lemmas.List.{append_cancel_right}
+use Rattle.multihash.specs.Fault.{Fault, IsUnexpectedEof, IsOwnFault}
+use Rattle.std.specs.Io.KnownBytes.{prepend_known, IsAtEnd}
+use Rattle.multihash.specs.Reading.{Takes, HasFewerThan, TakesFewerThan, CountsReader, ReadLaws, ReadExactLaws, NoOtherError}
+use Rattle.multihash.proofs.Examples.FaultVectors.{other, eof, memory}
+
+-- ---- what was taken
+
+abbrev pub told : Option (List ℕ) → List ℕ
+told None = []
+told (Some bytes) = bytes
+
+-- where a reader tells its rest before and after, the bytes taken are known
+pub taken_is : (a b taken : List ℕ) → Takes (Some (a ++ b)) taken (Some b) → taken ≡ a
+taken_is a b taken h = append_cancel_right taken a b (sym (ap told h))
+
+precedes : (prepend_known (1 ∷ []) (Some (2 ∷ [])) ≡ Some (1 ∷ 2 ∷ [])) × (prepend_known (1 ∷ []) None ≡ None)
+precedes = (refl, refl)
+
+-- a reader that doesn't tell says nothing of what was taken
+takes : Takes (Some (1 ∷ 2 ∷ 3 ∷ [])) (1 ∷ 2 ∷ []) (Some (3 ∷ [])) × Takes (Some (1 ∷ [])) [] (Some (1 ∷ [])) × ((taken : List ℕ) → Takes None taken None)
+takes = (refl, refl, λ taken. refl)
+
+-- the bytes taken are the first ones
+takes_no_last : ¬ (Takes (Some (1 ∷ 2 ∷ 3 ∷ [])) (3 ∷ []) (Some (1 ∷ 2 ∷ [])))
+takes_no_last h = omega (arith, ap (λ (o : Option (List ℕ)). get_or (told o) 0 0) h)
+
+takes_no_more : ¬ (Takes (Some (1 ∷ 2 ∷ [])) (1 ∷ []) (Some []))
+takes_no_more h = omega (arith, ap (λ (o : Option (List ℕ)). length (told o)) h)
+
+-- and are left no longer
+takes_and_keeps_none : ¬ (Takes (Some (1 ∷ [])) (1 ∷ []) (Some (1 ∷ [])))
+takes_and_keeps_none h = omega (arith, ap (λ (o : Option (List ℕ)). length (told o)) h)
+
+-- and it tells no sooner and no later
+tells_no_more : (taken rest : List ℕ) → ¬ (Takes (Some rest) taken None) × ¬ (Takes None taken (Some rest))
+tells_no_more taken rest = ((λ h. cc), λ h. cc)
+
+at_end : IsAtEnd (Some []) × IsAtEnd None × ¬ (IsAtEnd (Some (1 ∷ [])))
+at_end = (refl, tt, λ h. omega (arith, ap (λ (z : List ℕ). length z) h))
+
+fewer_than : HasFewerThan 2 (Some (1 ∷ [])) × HasFewerThan 0 None × ¬ (HasFewerThan 1 (Some (1 ∷ [])))
+fewer_than = (omega arith, tt, λ h. omega (arith, h))
+
+takes_fewer : TakesFewerThan 2 (Some (1 ∷ 2 ∷ [])) (Some (2 ∷ []))
+takes_fewer = record { taken = 1 ∷ []; fewer = omega arith; takes = refl }
+
+takes_not_fewer : ¬ (TakesFewerThan 1 (Some (1 ∷ 2 ∷ [])) (Some (2 ∷ [])))
+takes_not_fewer h = none h.taken h.fewer h.takes
+  where
+    none : (taken : List ℕ) → length taken < 1 → Takes (Some (1 ∷ 2 ∷ [])) taken (Some (2 ∷ [])) → ⊥
+    none [] fewer e = omega (arith, ap (λ (o : Option (List ℕ)). length (told o)) e)
+    none (b ∷ taken) fewer e = omega arith
+
+-- what was taken is of the reader's bytes
+takes_fewer_of_its_own : ¬ (TakesFewerThan 9 (Some (1 ∷ [])) (Some (1 ∷ 2 ∷ [])))
+takes_fewer_of_its_own h = none h.taken h.takes
+  where
+    none : (taken : List ℕ) → Takes (Some (1 ∷ [])) taken (Some (1 ∷ 2 ∷ [])) → ⊥
+    none [] e = omega (arith, ap (λ (o : Option (List ℕ)). length (told o)) e)
+    none (b ∷ []) e = omega (arith, ap (λ (o : Option (List ℕ)). length (told o)) e)
+    none (b ∷ c ∷ taken) e = omega (arith, ap (λ (o : Option (List ℕ)). length (told o)) e)
+
+-- ---- how a reader failed
+
+abbrev Reads : ℕ → ℕ → Result ℕ Fault → Type 0
+Reads before after outcome = CountsReader IsOwnFault NoOtherError before after outcome
+
+-- an Ok leaves the count, and a fault of the reader's own raises it by one
+reads : Reads 3 3 (Ok 1) × Reads 3 4 (Err other) × ¬ (Reads 3 4 (Ok 1)) × ¬ (Reads 4 3 (Ok 1))
+reads = (refl, inl (refl, inl refl), (λ h. omega (arith, h)), λ h. omega (arith, h))
+
+fails_once : ¬ (Reads 3 3 (Err other)) × ¬ (Reads 3 5 (Err other))
+fails_once = ((λ h. elim h [ inl one ↦ omega (arith, one.0) | inr none ↦ none.1 ]), λ h. elim h [ inl one ↦ omega (arith, one.0) | inr none ↦ none.1 ])
+
+-- `read` tells the end by a count of 0, and by no refusal
+read_no_eof : ¬ (Reads 3 4 (Err eof))
+read_no_eof (inl (more, inl h)) = cc
+read_no_eof (inl (more, inr h)) = cc
+read_no_eof (inr h) = h.1
+
+abbrev Fills : ℕ → ℕ → Result ℕ Fault → Type 0
+Fills before after outcome = CountsReader IsOwnFault IsUnexpectedEof before after outcome
+
+fills : Fills 3 3 (Ok 0) × Fills 3 3 (Err eof) × Fills 3 4 (Err memory) × ¬ (Fills 3 4 (Ok 0))
+fills = (refl, inr (refl, refl), inl (refl, inr refl), λ h. omega (arith, h))
+
+-- a fault that was counted is told, and none is invented
+fill_hides_no_fault : ¬ (Fills 3 4 (Err eof))
+fill_hides_no_fault (inl (more, inl h)) = cc
+fill_hides_no_fault (inl (more, inr h)) = cc
+fill_hides_no_fault (inr (same, h)) = omega (arith, same)
+
+fill_invents_no_fault : ¬ (Fills 3 3 (Err other)) × ¬ (Fills 4 3 (Err eof))
+fill_invents_no_fault = (
+  (λ h. elim h [ inl one ↦ omega (arith, one.0) | inr listed ↦ let kind = listed.1 in cc ]),
+  λ h. elim h [ inl one ↦ omega (arith, one.0) | inr listed ↦ omega (arith, listed.0) ],
+)
+
+-- ---- the laws of `read`, each refuted where the others hold
+
+-- a reader that tells its rest and its count of failures
+abbrev State : Type 0
+State = List ℕ × ℕ
+
+abbrev left : State → Option (List ℕ)
+left s = Some s.0
+
+abbrev failed : State → ℕ
+failed s = s.1
+
+reads_two : ReadLaws left failed (1 ∷ 2 ∷ 3 ∷ [], 0) (3 ∷ [], 0) (7 ∷ 8 ∷ 9 ∷ []) (1 ∷ 2 ∷ 9 ∷ [])
+    (Ok 2)
+reads_two = record {
+  count = omega arith;
+  beyond = refl;
+  faults = refl;
+  takes = refl;
+  at_end = λ none some. absurd (omega (arith, none));
+  err = tt;
+}
+
+reads_end : ReadLaws left failed ([], 0) ([], 0) (7 ∷ []) (7 ∷ []) (Ok 0)
+reads_end =
+    record { count = omega arith; beyond = refl; faults = refl; takes = refl; at_end = λ none some. refl; err = tt }
+
+-- an empty buffer tells of no end
+reads_into_nothing : ReadLaws left failed (1 ∷ [], 0) (1 ∷ [], 0) [] [] (Ok 0)
+reads_into_nothing = record {
+  count = omega arith;
+  beyond = refl;
+  faults = refl;
+  takes = refl;
+  at_end = λ none some. absurd (omega (arith, some));
+  err = tt;
+}
+
+reads_with_fault : ReadLaws left failed (1 ∷ [], 0) (1 ∷ [], 1) (7 ∷ []) (8 ∷ []) (Err other)
+reads_with_fault = record {
+  count = tt;
+  beyond = tt;
+  faults = inl (omega arith, inl refl);
+  takes = tt;
+  at_end = tt;
+  err = refl;
+}
+
+counts_no_more_than_places : ¬
+    (ReadLaws left failed (1 ∷ 2 ∷ 3 ∷ [], 0) (3 ∷ [], 0) (7 ∷ 8 ∷ []) (1 ∷ 2 ∷ []) (Ok 3))
+counts_no_more_than_places h = omega (arith, h.count)
+
+writes_not_beyond_count : ¬
+    (ReadLaws left failed (1 ∷ 2 ∷ [], 0) (2 ∷ [], 0) (7 ∷ 8 ∷ []) (1 ∷ 9 ∷ []) (Ok 1))
+writes_not_beyond_count h = omega (arith, ap (λ (z : List ℕ). get_or z 0 0) h.beyond)
+
+reads_with_no_hidden_fault : ¬ (ReadLaws left failed (1 ∷ [], 0) ([], 1) (7 ∷ []) (1 ∷ []) (Ok 1))
+reads_with_no_hidden_fault h = omega (arith, h.faults)
+
+reads_no_other_bytes : ¬ (ReadLaws left failed (1 ∷ 2 ∷ [], 0) (2 ∷ [], 0) (7 ∷ []) (5 ∷ []) (Ok 1))
+reads_no_other_bytes h = omega (arith, ap (λ (o : Option (List ℕ)). get_or (told o) 0 0) h.takes)
+
+reads_nothing_at_end_alone : ¬
+    (ReadLaws left failed (1 ∷ [], 0) (1 ∷ [], 0) (7 ∷ []) (7 ∷ []) (Ok 0))
+reads_nothing_at_end_alone h = omega (arith, ap (λ (z : List ℕ). length z) (h.at_end refl (omega arith)))
+
+fails_and_takes_nothing : ¬ (ReadLaws left failed (1 ∷ [], 0) ([], 1) (7 ∷ []) (7 ∷ []) (Err other))
+fails_and_takes_nothing h = omega (arith, ap (λ (o : Option (List ℕ)). length (told o)) h.err)
+
+-- `read` tells the end by no refusal, counted or not
+reads_no_end_by_refusal : ¬ (ReadLaws left failed ([], 0) ([], 0) (7 ∷ []) (7 ∷ []) (Err eof))
+reads_no_end_by_refusal h =
+    elim h.faults [ inl counted ↦ omega (arith, counted.0) | inr listed ↦ listed.1 ]
+
+reads_no_end_by_fault : ¬ (ReadLaws left failed ([], 0) ([], 1) (7 ∷ []) (7 ∷ []) (Err eof))
+reads_no_end_by_fault h =
+    elim h.faults [
+      | inl (counted, own) ↦ elim own [ inl is ↦ cc | inr is ↦ cc ]
+      | inr listed ↦ listed.1
+    ]
+
+-- ---- the laws of `read_exact`
+
+abbrev Filling : State → State → List ℕ → List ℕ → Result ℕ Fault → Type 0
+Filling old new places filled outcome = ReadExactLaws left failed old new places filled outcome
+
+fills_two : Filling (1 ∷ 2 ∷ 3 ∷ [], 0) (3 ∷ [], 0) (7 ∷ 8 ∷ []) (1 ∷ 2 ∷ []) (Ok 0)
+fills_two = record { faults = refl; takes = refl; empty = λ none. refl; eof = tt; err = tt }
+
+fills_a_part : Filling (1 ∷ [], 0) ([], 0) (7 ∷ 8 ∷ []) (1 ∷ 8 ∷ []) (Err eof)
+fills_a_part = record {
+  faults = inr (refl, refl);
+  takes = tt;
+  empty = λ none. absurd (omega (arith, none));
+  eof = λ end. omega arith;
+  err = record { taken = 1 ∷ []; fewer = omega arith; takes = refl };
+}
+
+fills_with_no_hidden_fault : ¬ (Filling (1 ∷ [], 0) ([], 1) (7 ∷ []) (1 ∷ []) (Ok 0))
+fills_with_no_hidden_fault h = omega (arith, h.faults)
+
+fails_with_a_counted_fault : ¬ (Filling (1 ∷ [], 0) (1 ∷ [], 0) (7 ∷ []) (7 ∷ []) (Err other))
+fails_with_a_counted_fault h =
+    elim h.faults [ inl counted ↦ omega (arith, counted.0) | inr listed ↦ cc ]
+
+-- the end is no fault of the reader's own
+ends_by_no_counted_fault : ¬ (Filling ([], 0) ([], 1) (7 ∷ []) (7 ∷ []) (Err eof))
+ends_by_no_counted_fault h = elim h.faults [ inl (counted, own) ↦ elim own [ inl is ↦ cc | inr is ↦ cc ] | inr (same, is) ↦ omega (arith, same) ]
+
+fills_with_no_other_bytes : ¬ (Filling (1 ∷ 2 ∷ [], 0) (2 ∷ [], 0) (7 ∷ []) (5 ∷ []) (Ok 0))
+fills_with_no_other_bytes h = omega (arith, ap (λ (o : Option (List ℕ)). get_or (told o) 0 0) h.takes)
+
+fills_no_places_always : ¬ (Filling (1 ∷ [], 0) (1 ∷ [], 1) [] [] (Err other))
+fills_no_places_always h = false≢true (h.empty refl)
+
+ends_at_the_end_alone : ¬ (Filling (1 ∷ [], 0) (1 ∷ [], 0) (7 ∷ []) (7 ∷ []) (Err eof))
+ends_at_the_end_alone h = omega (arith, h.eof refl)
+
+fails_before_it_is_full : ¬ (Filling (1 ∷ [], 0) ([], 1) (7 ∷ []) (1 ∷ []) (Err other))
+fails_before_it_is_full h = none h.err.taken h.err.fewer h.err.takes
+  where
+    none : (taken : List ℕ) → length taken < 1 → Takes (Some (1 ∷ [])) taken (Some []) → ⊥
+    none [] fewer e = omega (arith, ap (λ (o : Option (List ℕ)). length (told o)) e)
+    none (b ∷ taken) fewer e = omega arith

@@ -1,0 +1,154 @@
+-- The SCALE form of known pairs, and the verdicts on known inputs. An input has no verdict but the one that is
+-- computed (`scale_verdict_is`), so a row says both what holds and what does not.
+use Rattle.std.proofs.Common.{◌≡◌, ℕ, List, [], ◌∷◌, ◌<◌, ◌++◌, ltb, true, length, replicate, refl, sym, subst, ap, ◌∙◌, arith, length-append}
+use Rattle.std.specs.Prelude.{codes, ◌↔◌}
+use Rattle.std.specs.List.{list_all}
+use Rattle.std.proofs.lemmas.List.Elements.{All-head}
+use Rattle.multihash.specs.Bytes.{place_value}
+use Rattle.multihash.specs.Pair.{Pair}
+use Rattle.multihash.specs.Verdict.{Verdict, accepted, invalid_size, invalid_code, unexpected_eof}
+use Rattle.multihash.specs.Scale.{IsScaleCode, IsScale, HasScaleSize, HasScaleVerdict}
+use Rattle.multihash.proofs.Examples.BytesVectors.{all_below}
+use Rattle.multihash.proofs.Examples.PairVectors.{pair}
+use Rattle.multihash.proofs.Readings.VerdictLemmas.{same_cut}
+use Rattle.multihash.proofs.Forms.ScaleLemmas.{scale_found, scale_verdict_is, has_scale_found}
+
+abbrev pub zeros : List ℕ
+zeros = 0 ∷ 0 ∷ 0 ∷ 0 ∷ 0 ∷ 0 ∷ 0 ∷ 0 ∷ []
+
+abbrev pub all_255 : List ℕ
+all_255 = 255 ∷ 255 ∷ 255 ∷ 255 ∷ 255 ∷ 255 ∷ 255 ∷ 255 ∷ []
+
+-- 2^63 - 1, the largest code, and 2^63, the first that is refused
+abbrev largest : List ℕ
+largest = 255 ∷ 255 ∷ 255 ∷ 255 ∷ 255 ∷ 255 ∷ 255 ∷ 127 ∷ []
+
+abbrev two_63 : List ℕ
+two_63 = 0 ∷ 0 ∷ 0 ∷ 0 ∷ 0 ∷ 0 ∷ 0 ∷ 128 ∷ []
+
+-- ---- the verdicts
+
+data Row : Type 0 where
+  row : (S : ℕ) (x : List ℕ) (v : Verdict) → list_all (λ b. ltb b 256) x ≡ true → scale_found S x ≡ v → Row
+
+abbrev Holds : Row → Type 0
+Holds (row S x v bytes same) = (w : Verdict) → HasScaleVerdict S x w ↔ (w ≡ v)
+
+holds : (r : Row) → Holds r
+holds (row S x v bytes same) =
+    λ w. ((λ h. scale_verdict_is S x w h ∙ same), λ is. subst (HasScaleVerdict S x) (same ∙ sym is) (has_scale_found S x (all_below 256 x bytes)))
+
+table : List Row
+unfolding place_value
+table =
+    -- the lowest byte of the code stands first
+    row 4 (0x08 ∷ 0x07 ∷ 0x06 ∷ 0x05 ∷ 0x04 ∷ 0x03 ∷ 0x02 ∷ 0x01 ∷ 1 ∷ 0xaa ∷ []) (accepted (pair 72623859790382856 (0xaa ∷ []))) refl refl ∷
+    row 4 (0x12 ∷ 0 ∷ 0 ∷ 0 ∷ 0 ∷ 0 ∷ 0 ∷ 0 ∷ 1 ∷ 0xaa ∷ 0xbb ∷ []) (accepted (pair 18 (0xaa ∷ []))) refl refl ∷
+    row 11 (zeros ++ 11 ∷ codes "hello world") (accepted (pair 0 (codes "hello world"))) refl refl ∷
+    row 255 (zeros ++ 255 ∷ replicate 255 7) (accepted (pair 0 (replicate 255 7))) refl refl ∷
+    -- an early end: before or inside the code, before the size, inside the digest
+    row 4 [] unexpected_eof refl refl ∷
+    row 4 (255 ∷ 255 ∷ 255 ∷ 255 ∷ 255 ∷ 255 ∷ 255 ∷ []) unexpected_eof refl refl ∷
+    row 4 zeros unexpected_eof refl refl ∷
+    row 4 (zeros ++ 3 ∷ 0xaa ∷ 0xbb ∷ []) unexpected_eof refl refl ∷
+    row 5 (zeros ++ 5 ∷ 0xaa ∷ 0xbb ∷ []) unexpected_eof refl refl ∷
+    -- a digest may be empty, or as long as the buffer
+    row 0 (zeros ++ 0 ∷ []) (accepted (pair 0 [])) refl refl ∷
+    row 4 (zeros ++ 0 ∷ []) (accepted (pair 0 [])) refl refl ∷
+    row 2 (zeros ++ 2 ∷ 0xaa ∷ 0xbb ∷ []) (accepted (pair 0 (0xaa ∷ 0xbb ∷ []))) refl refl ∷
+    -- a size above the buffer is refused before the digest is looked at, whole or not
+    row 4 (zeros ++ 5 ∷ []) (invalid_size 5) refl refl ∷
+    row 4 (zeros ++ 5 ∷ 0xaa ∷ 0xbb ∷ []) (invalid_size 5) refl refl ∷
+    row 4 (zeros ++ 5 ∷ 1 ∷ 2 ∷ 3 ∷ 4 ∷ 5 ∷ []) (invalid_size 5) refl refl ∷
+    -- a code that is too large is refused at its eighth byte, and its size is neither waited for nor looked at
+    row 4 (largest ++ 0 ∷ []) (accepted (pair 9223372036854775807 [])) refl refl ∷
+    row 4 largest unexpected_eof refl refl ∷
+    row 4 two_63 (invalid_code 9223372036854775808) refl refl ∷
+    row 4 (two_63 ++ 0 ∷ []) (invalid_code 9223372036854775808) refl refl ∷
+    row 4 all_255 (invalid_code 18446744073709551615) refl refl ∷
+    row 4 (all_255 ++ 5 ∷ []) (invalid_code 18446744073709551615) refl refl ∷
+    []
+
+-- an input whose verdict is the computed one
+known : (S : ℕ) (x : List ℕ) → list_all (λ b. ltb b 256) x ≡ true → HasScaleVerdict S x (scale_found S x)
+known S x bytes = has_scale_found S x (all_below 256 x bytes)
+
+pub scale_eight_bytes : HasScaleVerdict 4 zeros unexpected_eof
+unfolding place_value
+scale_eight_bytes = known 4 zeros refl
+
+pub scale_cut : HasScaleVerdict 4 (zeros ++ 3 ∷ 0xaa ∷ 0xbb ∷ []) unexpected_eof
+unfolding place_value
+scale_cut = known 4 (zeros ++ 3 ∷ 0xaa ∷ 0xbb ∷ []) refl
+
+pub scale_empty_digest_of_4 : HasScaleVerdict 4 (zeros ++ 0 ∷ []) (accepted (pair 0 []))
+unfolding place_value
+scale_empty_digest_of_4 = known 4 (zeros ++ 0 ∷ []) refl
+
+pub scale_size_first : HasScaleVerdict 4 (zeros ++ 5 ∷ []) (invalid_size 5)
+unfolding place_value
+scale_size_first = known 4 (zeros ++ 5 ∷ []) refl
+
+pub scale_size_behind : HasScaleVerdict 4 (zeros ++ 5 ∷ 7 ∷ []) (invalid_size 5)
+unfolding place_value
+scale_size_behind = known 4 (zeros ++ 5 ∷ 7 ∷ []) refl
+
+code_of_255 : IsScaleCode 18446744073709551615 all_255
+unfolding place_value
+code_of_255 = record { eight = refl; are_bytes = all_below 256 all_255 refl; value = refl }
+
+-- whatever follows
+pub scale_code_above : (rest : List ℕ) → HasScaleVerdict 4 (all_255 ++ rest) (invalid_code 18446744073709551615)
+scale_code_above rest = (all_255, rest, code_of_255, omega arith, refl)
+
+-- ---- the parts, failing by one part alone
+
+zero_code : IsScaleCode 0 zeros
+unfolding place_value
+zero_code = record { eight = refl; are_bytes = all_below 256 zeros refl; value = refl }
+
+no_scale_of_256 : (p : Pair) (bytes : List ℕ) → length p.digest ≡ 256 → ¬ (IsScale p bytes)
+no_scale_of_256 p bytes size h = omega (arith, h.size)
+
+no_scale_of_larger_code : (digest bytes : List ℕ) → ¬ (IsScale (pair 9223372036854775808 digest) bytes)
+no_scale_of_larger_code digest bytes h = omega (arith, h.in_range)
+
+no_scale_size_behind_larger_code : (size : ℕ) (rest : List ℕ) → ¬ (HasScaleSize size (all_255 ++ 0 ∷ []) rest)
+no_scale_size_behind_larger_code size rest h =
+    let cut = same_cut h.code_bytes all_255 (size ∷ rest) (0 ∷ []) h.is_code.eight (sym h.cut) in
+    let code : h.code ≡ 18446744073709551615 = sym h.is_code.value ∙ (ap (place_value 256) cut.0 ∙ code_of_255.value) in
+    omega (arith, h.in_range, code)
+
+no_seven_bytes : (code : ℕ) → ¬ (IsScaleCode code (0 ∷ 0 ∷ 0 ∷ 0 ∷ 0 ∷ 0 ∷ 0 ∷ []))
+no_seven_bytes code h = omega (arith, h.eight)
+
+no_highest_first : ¬ (IsScaleCode 1 (0 ∷ 0 ∷ 0 ∷ 0 ∷ 0 ∷ 0 ∷ 0 ∷ 1 ∷ []))
+unfolding place_value
+no_highest_first h = omega (arith, h.value)
+
+no_number_above_255 : ¬ (IsScaleCode 256 (256 ∷ 0 ∷ 0 ∷ 0 ∷ 0 ∷ 0 ∷ 0 ∷ 0 ∷ []))
+no_number_above_255 h = omega (arith, All-head (λ byte. byte < 256) 256 (0 ∷ 0 ∷ 0 ∷ 0 ∷ 0 ∷ 0 ∷ 0 ∷ []) h.are_bytes)
+
+no_nine_bytes : (code : ℕ) → ¬ (IsScaleCode code (zeros ++ 0 ∷ []))
+no_nine_bytes code h = omega (arith, h.eight)
+
+-- and the digest, with nothing behind it
+no_byte_behind : ¬ (IsScale (pair 0 []) (zeros ++ 0 ∷ 7 ∷ []))
+no_byte_behind h =
+    omega (arith, ap (λ (z : List ℕ). length z) h.spelled, h.is_code.eight, length-append h.code (0 ∷ []))
+
+no_digest_without_size : ¬ (IsScale (pair 0 (7 ∷ [])) (zeros ++ 7 ∷ []))
+no_digest_without_size h =
+    omega (arith, ap (λ (z : List ℕ). length z) h.spelled, h.is_code.eight, length-append h.code (1 ∷ 7 ∷ []))
+
+size_behind_code : HasScaleSize 5 (zeros ++ 5 ∷ 7 ∷ []) (7 ∷ [])
+size_behind_code = record { code = 0; code_bytes = zeros; is_code = zero_code; in_range = omega arith; cut = refl }
+
+-- the size is the byte behind the eight
+no_size_in_code : ¬ (HasScaleSize 0 (zeros ++ 5 ∷ []) (5 ∷ []))
+no_size_in_code h =
+    omega (arith, ap (λ (z : List ℕ). length z) h.cut, h.is_code.eight, length-append h.code_bytes (0 ∷ 5 ∷ []))
+
+no_other_rest : ¬ (HasScaleSize 5 (zeros ++ 5 ∷ 7 ∷ []) [])
+no_other_rest h =
+    omega (arith, ap (λ (z : List ℕ). length z) h.cut, h.is_code.eight, length-append h.code_bytes (5 ∷ []))

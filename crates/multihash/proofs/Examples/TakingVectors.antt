@@ -1,0 +1,319 @@
+-- What refused calls took from known readers.
+use Rattle.std.proofs.Common.{◌≡◌, ◌<◌, ℕ, List, [], ◌∷◌, ◌++◌, length, refl, sym, ap, ◌∙◌, arith, subst, inl, inr, length-append, append-nil}
+use Rattle.std.specs.Prelude.{⊤, Option, Some}
+use Rattle.multihash.specs.Bytes.{IsProperBeginning}
+use Rattle.multihash.specs.Varint.{VarintFault, insufficient, overflow, not_minimal, IsVarint, IsInsufficient, HasFaultyFront}
+use Rattle.multihash.specs.Verdict.{Verdict, accepted, invalid_size, faulty, unexpected_eof, HasVerdict, IsEarlyEnd}
+use Rattle.multihash.specs.Reading.{Takes}
+use Rattle.multihash.specs.Fault.{IsUnexpectedEof}
+use Rattle.multihash.specs.Refusal.{Refusal, of_io, of_size, of_code, of_varint, of_not_bytes, IsFaulty}
+use Rattle.multihash.specs.Taking.{IsVarintRefusal, IsFrontRefusal, BeginsNoVarint, TakesVarint, IsReadRefusal, TakesAtVarintRefusal, TakesAtRefusal, TakesShortestSettling, TakesUnsettled}
+use Rattle.multihash.proofs.Varints.VarintLemmas.{front_unique, number, fault, varint_unique}
+use Rattle.multihash.proofs.Readings.VerdictLemmas.{verdict_unique}
+use Rattle.multihash.proofs.Readings.SettlingLemmas.{none_settles}
+use Rattle.multihash.proofs.Readings.ShortestLemmas.{shortest_unique}
+use Rattle.multihash.proofs.Examples.FaultVectors.{other, eof, memory}
+use Rattle.multihash.proofs.Examples.ReadingVectors.{told, taken_is}
+use Rattle.multihash.proofs.Examples.VarintVectors.{all_marked, varint_0, varint_4, varint_5, not_another}
+use Rattle.multihash.proofs.Examples.PairVectors.{pair}
+use Rattle.multihash.proofs.Examples.VerdictVectors.{empty_input, code_alone, digest_cut, digest_full, size_above_limit}
+use Rattle.multihash.proofs.Examples.SettlingVectors.{size_settles, shortest_of_size}
+
+-- ---- refusals
+
+varint_refusal : IsVarintRefusal (of_varint overflow)
+varint_refusal = (overflow, refl)
+
+no_other_varint_refusal : ((n : ℕ) → ¬ (IsVarintRefusal (of_size n))) × ((n : ℕ) → ¬ (IsVarintRefusal (of_code n))) × ¬ (IsVarintRefusal (of_io eof))
+no_other_varint_refusal = ((λ n (f, e). cc), (λ n (f, e). cc), λ (f, e). cc)
+
+padded_front : HasFaultyFront not_minimal (0x80 ∷ 0x00 ∷ [])
+padded_front = record { front = 0x80 ∷ []; rest = []; all_marked = all_marked (0x80 ∷ []) refl; some = omega arith; few = omega arith; cut = refl }
+
+front_refusal : IsFrontRefusal (0x80 ∷ 0x00 ∷ []) (of_varint not_minimal)
+front_refusal = (not_minimal, refl, padded_front)
+
+-- the fault that is named is the input's
+no_other_front_refusal : ¬ (IsFrontRefusal (0x80 ∷ 0x00 ∷ []) (of_varint overflow))
+no_other_front_refusal (f, e, has) =
+    let same : fault f ≡ fault not_minimal =
+    front_unique (0x80 ∷ 0x00 ∷ []) (fault f) (fault not_minimal) has padded_front in
+    cc
+
+-- and is named
+no_size_is_front_refusal : ¬ (IsFrontRefusal (0x80 ∷ 0x00 ∷ []) (of_size 0))
+no_size_is_front_refusal (f, e, has) = cc
+
+-- the refusals of `read` into four bytes: a code has no number that is too large, an own fault is passed on and
+-- refuses nothing, and no writer and no value is there
+abbrev ReadRefuses : Refusal → Type 0
+ReadRefuses (of_io own) = IsUnexpectedEof own
+ReadRefuses (of_size size) = 4 < size
+ReadRefuses (of_code code) = ⊥
+ReadRefuses (of_varint f) = ⊤
+ReadRefuses of_not_bytes = ⊥
+
+read_refuses : (e : Refusal) → ReadRefuses e → IsReadRefusal 4 e
+read_refuses (of_io own) h = inr (inr (own, refl, h))
+read_refuses (of_size size) h = inl (size, refl, h)
+read_refuses (of_code code) h = absurd h
+read_refuses (of_varint f) h = inr (inl (f, refl))
+read_refuses of_not_bytes h = absurd h
+
+read_refuses_only : (e : Refusal) → IsReadRefusal 4 e → ReadRefuses e
+read_refuses_only e (inl (size, is, large)) = subst ReadRefuses (sym is) large
+read_refuses_only e (inr (inl (f, is))) = subst ReadRefuses (sym is) tt
+read_refuses_only e (inr (inr (own, is, kind))) = subst ReadRefuses (sym is) kind
+
+-- however large the buffer
+read_refuses_256 : IsReadRefusal 300 (of_size 256)
+read_refuses_256 = inl (256, refl, omega arith)
+
+-- ---- a varint that was taken
+
+takes_varint : TakesVarint 5 (Some (5 ∷ 9 ∷ [])) (Some (9 ∷ []))
+takes_varint = (5 ∷ [], varint_5, refl)
+
+takes_no_other_varint : ¬ (TakesVarint 6 (Some (5 ∷ 9 ∷ [])) (Some (9 ∷ [])))
+takes_no_other_varint (bytes, is, takes) =
+    not_another 6 5 (5 ∷ []) varint_5 (λ e. omega (arith, e))
+    (subst (IsVarint 6) (taken_is (5 ∷ []) (9 ∷ []) bytes takes) is)
+
+-- nothing more is taken
+takes_varint_alone : ¬ (TakesVarint 5 (Some (5 ∷ 9 ∷ [])) (Some []))
+takes_varint_alone (bytes, is, takes) =
+    omega (
+      arith,
+      ap (λ (z : List ℕ). length z) (varint_unique 5 bytes (5 ∷ []) is varint_5),
+      ap (λ (z : List ℕ). length z) (taken_is (5 ∷ 9 ∷ []) [] bytes takes),
+    )
+
+-- ---- a refused varint
+
+not_insufficient : ¬ (IsInsufficient (0x80 ∷ 0x00 ∷ []))
+not_insufficient h =
+    let same : fault insufficient ≡ fault not_minimal =
+    front_unique (0x80 ∷ 0x00 ∷ []) (fault insufficient) (fault not_minimal) h padded_front in
+    cc
+
+-- nothing gives back more than there was
+pub gives_none_back : (taken : List ℕ) → ¬ (Takes (Some []) taken (Some (7 ∷ [])))
+gives_none_back [] h = omega (arith, ap (λ (o : Option (List ℕ)). length (told o)) h)
+gives_none_back (b ∷ taken) h = omega (arith, ap (λ (o : Option (List ℕ)). length (told o)) h)
+
+before_one : (a : ℕ) (shorter : List ℕ) → IsProperBeginning shorter (a ∷ []) → shorter ≡ []
+before_one a [] h = refl
+before_one a (b ∷ shorter) ([], some, cut) = absurd (some refl)
+before_one a (b ∷ shorter) (r ∷ rest, some, cut) =
+    absurd (omega (arith, ap (λ (z : List ℕ). length z) cut, length-append shorter (r ∷ rest)))
+
+none_is_insufficient : IsInsufficient []
+none_is_insufficient = record { few = omega arith; all_marked = all_marked [] refl }
+
+one_marked_is_insufficient : IsInsufficient (0x80 ∷ [])
+one_marked_is_insufficient = record { few = omega arith; all_marked = all_marked (0x80 ∷ []) refl }
+
+-- an input begins with a varint or with one fault
+pub begins_no_varint : BeginsNoVarint (0x80 ∷ [])
+begins_no_varint = (insufficient, one_marked_is_insufficient)
+
+begins_padded : BeginsNoVarint (0x80 ∷ 0x00 ∷ [])
+begins_padded = (not_minimal, padded_front)
+
+pub begins_a_varint : ¬ (BeginsNoVarint (5 ∷ []))
+begins_a_varint (f, has) =
+    let same : number 5 [] ≡ fault f =
+    front_unique (5 ∷ []) (number 5 []) (fault f) (5 ∷ [], varint_5, refl) has in
+    cc
+
+-- a reader that failed behind a marked byte
+fails_inside_varint : TakesAtVarintRefusal (of_io other) (Some (0x80 ∷ 0x01 ∷ []))
+    (Some (0x01 ∷ []))
+fails_inside_varint = record {
+  taken = 0x80 ∷ [];
+  takes = refl;
+  shows = λ f e. absurd cc;
+  no_sooner = λ shorter before. subst IsInsufficient
+      (sym (before_one 0x80 shorter before)) none_is_insufficient;
+  all = λ e. absurd cc;
+  failed = λ own. one_marked_is_insufficient;
+}
+
+ends_inside_varint : TakesAtVarintRefusal (of_varint insufficient) (Some (0x80 ∷ [])) (Some [])
+ends_inside_varint = record {
+  taken = 0x80 ∷ [];
+  takes = refl;
+  shows = λ f e. subst (λ (g : VarintFault). HasFaultyFront g (0x80 ∷ []))
+      (insufficient_is f e) one_marked_is_insufficient;
+  no_sooner = λ shorter before. subst IsInsufficient
+      (sym (before_one 0x80 shorter before)) none_is_insufficient;
+  all = λ e. refl;
+  failed = λ own. one_marked_is_insufficient;
+}
+  where
+    insufficient_is : (f : VarintFault) → IsFaulty f (of_varint insufficient) → insufficient ≡ f
+    insufficient_is f e = cc
+
+varint_takes_its_own : ¬ (TakesAtVarintRefusal (of_varint insufficient) (Some []) (Some (7 ∷ [])))
+varint_takes_its_own h = gives_none_back h.taken h.takes
+
+-- the bytes that were taken show the fault
+shows_no_other_fault : ¬
+    (TakesAtVarintRefusal (of_varint overflow) (Some (0x80 ∷ 0x00 ∷ [])) (Some []))
+shows_no_other_fault h =
+    let has =
+    subst (HasFaultyFront overflow) (taken_is (0x80 ∷ 0x00 ∷ []) [] h.taken h.takes)
+    (h.shows overflow refl) in
+    let same : fault overflow ≡ fault not_minimal =
+    front_unique (0x80 ∷ 0x00 ∷ []) (fault overflow) (fault not_minimal) has padded_front in
+    cc
+
+no_byte_after_the_zero : ¬
+    (TakesAtVarintRefusal (of_varint not_minimal) (Some (0x80 ∷ 0x00 ∷ 0x07 ∷ [])) (Some []))
+no_byte_after_the_zero h =
+    let is = taken_is (0x80 ∷ 0x00 ∷ 0x07 ∷ []) [] h.taken h.takes in
+    let early =
+    h.no_sooner (0x80 ∷ 0x00 ∷ [])
+    (0x07 ∷ [], (λ e. omega (arith, ap (λ (z : List ℕ). length z) e)), is) in
+    not_insufficient early
+
+insufficient_takes_all : ¬
+    (TakesAtVarintRefusal (of_varint insufficient) (Some (0x80 ∷ 0x80 ∷ [])) (Some (0x80 ∷ [])))
+insufficient_takes_all h = omega (arith, ap (λ (z : List ℕ). length z) (h.all refl))
+
+-- a reader that fails after the varint's last byte isn't asked
+fails_not_behind_varint : ¬ (TakesAtVarintRefusal (of_io other) (Some (0x80 ∷ 0x00 ∷ [])) (Some []))
+fails_not_behind_varint h =
+    not_insufficient
+    (subst IsInsufficient (taken_is (0x80 ∷ 0x00 ∷ []) [] h.taken h.takes)
+    (h.failed (other, refl, inl refl)))
+
+memory_fails_not_behind_varint : ¬
+    (TakesAtVarintRefusal (of_io memory) (Some (0x80 ∷ 0x00 ∷ [])) (Some []))
+memory_fails_not_behind_varint h =
+    not_insufficient
+    (subst IsInsufficient (taken_is (0x80 ∷ 0x00 ∷ []) [] h.taken h.takes)
+    (h.failed (memory, refl, inr refl)))
+
+-- ---- a refused `read`
+
+digest_missing : HasVerdict 4 (0 ∷ 4 ∷ []) unexpected_eof
+digest_missing =
+    (4, [], record { code = 0; code_bytes = 0 ∷ []; size_bytes = 4 ∷ []; is_code = varint_0; is_size = varint_4; cut = refl }, omega arith, omega arith)
+
+-- what has a verdict that stays has no early end
+not_early : (a taken : List ℕ) (v w : Verdict) → Takes (Some (a ++ [])) taken (Some []) → HasVerdict 4 a w → ¬ (IsEarlyEnd w)
+    → HasVerdict 4 taken v → ¬ (IsEarlyEnd v)
+not_early a taken v w takes late stays h early =
+    stays (subst IsEarlyEnd (verdict_unique 4 a v w (subst (λ (z : List ℕ). HasVerdict 4 z v) (taken_is a [] taken takes) h) late) early)
+
+ends_inside_digest : TakesAtRefusal 4 (of_io eof) (Some (0 ∷ 4 ∷ 1 ∷ 2 ∷ 3 ∷ [])) (Some [])
+ends_inside_digest = record {
+  taken = 0 ∷ 4 ∷ 1 ∷ 2 ∷ 3 ∷ [];
+  takes = refl;
+  insufficient = λ e. absurd cc;
+  eof = λ end. digest_cut;
+  fault = λ own. (unexpected_eof, tt, digest_cut);
+}
+
+-- the digest's bytes may be left
+leaves_a_cut_digest : TakesAtRefusal 4 (of_io eof) (Some (0 ∷ 4 ∷ 1 ∷ 2 ∷ 3 ∷ []))
+    (Some (1 ∷ 2 ∷ 3 ∷ []))
+leaves_a_cut_digest = record {
+  taken = 0 ∷ 4 ∷ [];
+  takes = refl;
+  insufficient = λ e. absurd cc;
+  eof = λ end. digest_missing;
+  fault = λ own. (unexpected_eof, tt, digest_missing);
+}
+
+read_takes_its_own : ¬ (TakesAtRefusal 4 (of_varint insufficient) (Some []) (Some (7 ∷ [])))
+read_takes_its_own h = gives_none_back h.taken h.takes
+
+-- what was taken is insufficient itself
+insufficient_behind_no_size : ¬
+    (TakesAtRefusal 4 (of_varint insufficient) (Some (0 ∷ 5 ∷ [])) (Some []))
+insufficient_behind_no_size h =
+    not_early (0 ∷ 5 ∷ []) h.taken (faulty insufficient) (invalid_size 5) h.takes size_above_limit (λ e. e) (h.insufficient refl).0 tt
+
+-- and all of the input
+insufficient_leaves_none : ¬
+    (TakesAtRefusal 4 (of_varint insufficient) (Some (0x80 ∷ [])) (Some (0x80 ∷ [])))
+insufficient_leaves_none h = omega (arith, ap (λ (z : List ℕ). length z) (h.insufficient refl).1)
+
+-- both varints of a cut digest were taken
+ends_not_inside_varint : ¬ (TakesAtRefusal 4 (of_io eof) (Some (0 ∷ [])) (Some []))
+ends_not_inside_varint h =
+    let same : unexpected_eof ≡ faulty insufficient =
+    verdict_unique 4 (0 ∷ []) unexpected_eof (faulty insufficient)
+    (subst (λ (z : List ℕ). HasVerdict 4 z unexpected_eof) (taken_is (0 ∷ []) [] h.taken h.takes)
+    (h.eof (eof, refl, refl))) code_alone in
+    cc
+
+-- a reader that fails behind what settles isn't asked
+fails_not_behind_size : ¬ (TakesAtRefusal 4 (of_io other) (Some (0 ∷ 5 ∷ [])) (Some []))
+fails_not_behind_size h =
+    let (v, early, has) = h.fault (other, refl, inl refl) in
+    not_early (0 ∷ 5 ∷ []) h.taken v (invalid_size 5) h.takes size_above_limit (λ e. e) has early
+
+fails_not_behind_pair : ¬
+    (TakesAtRefusal 4 (of_io memory) (Some (0 ∷ 4 ∷ 1 ∷ 2 ∷ 3 ∷ 4 ∷ [])) (Some []))
+fails_not_behind_pair h =
+    let (v, early, has) = h.fault (memory, refl, inr refl) in
+    not_early (0 ∷ 4 ∷ 1 ∷ 2 ∷ 3 ∷ 4 ∷ []) h.taken v (accepted (pair 0 (1 ∷ 2 ∷ 3 ∷ 4 ∷ []))) h.takes digest_full (λ e. e) has early
+
+-- ---- the shortest that settles
+
+takes_both_bytes : TakesShortestSettling 4 (0 ∷ 5 ∷ 9 ∷ []) (Some (9 ∷ []))
+takes_both_bytes = record { front = 0 ∷ 5 ∷ []; shortest = shortest_of_size; takes = refl }
+
+pub takes_no_byte_behind_size : ¬ (TakesShortestSettling 4 (0 ∷ 5 ∷ 9 ∷ []) (Some []))
+takes_no_byte_behind_size h =
+    omega (
+      arith,
+      ap (λ (z : List ℕ). length z)
+          (shortest_unique 4 (0 ∷ 5 ∷ 9 ∷ []) h.front (0 ∷ 5 ∷ []) h.shortest shortest_of_size),
+      ap (λ (z : List ℕ). length z) (taken_is (0 ∷ 5 ∷ 9 ∷ []) [] h.front h.takes),
+    )
+
+takes_no_fewer : ¬ (TakesShortestSettling 4 (0 ∷ 5 ∷ 9 ∷ []) (Some (5 ∷ 9 ∷ [])))
+takes_no_fewer h =
+    omega (
+      arith,
+      ap (λ (z : List ℕ). length z)
+          (shortest_unique 4 (0 ∷ 5 ∷ 9 ∷ []) h.front (0 ∷ 5 ∷ []) h.shortest shortest_of_size),
+      ap (λ (z : List ℕ). length z) (taken_is (0 ∷ []) (5 ∷ 9 ∷ []) h.front h.takes),
+    )
+
+-- ---- nothing that was taken settles
+
+takes_code_alone : TakesUnsettled 4 (0 ∷ []) (Some [])
+takes_code_alone = record {
+  taken = 0 ∷ [];
+  takes = refl;
+  unsettled = λ front begins. none_settles 4 (0 ∷ [])
+      (faulty insufficient) code_alone tt front begins;
+}
+
+takes_nothing_unsettled : TakesUnsettled 4 (0x80 ∷ 0x00 ∷ []) (Some (0x80 ∷ 0x00 ∷ []))
+takes_nothing_unsettled = record {
+  taken = [];
+  takes = refl;
+  unsettled = λ front begins. none_settles 4 [] (faulty insufficient) empty_input tt front begins;
+}
+
+pub takes_what_settles : ¬ (TakesUnsettled 4 (0 ∷ 5 ∷ 9 ∷ []) (Some (9 ∷ [])))
+takes_what_settles h =
+    h.unsettled (0 ∷ 5 ∷ []) (
+      [],
+      taken_is (0 ∷ 5 ∷ []) (9 ∷ []) h.taken h.takes ∙ sym
+          (append-nil (0 ∷ 5 ∷ [])),
+    ) size_settles
+
+-- also where it is only the beginning
+takes_beyond_what_settles : ¬ (TakesUnsettled 4 (0 ∷ 5 ∷ 9 ∷ []) (Some []))
+takes_beyond_what_settles h =
+    h.unsettled (0 ∷ 5 ∷ []) (9 ∷ [], taken_is (0 ∷ 5 ∷ 9 ∷ []) [] h.taken h.takes) size_settles
+
+unsettled_takes_its_own : ¬ (TakesUnsettled 4 [] (Some (7 ∷ [])))
+unsettled_takes_its_own h = gives_none_back h.taken h.takes

@@ -1,0 +1,187 @@
+-- Varints of known numbers, and what begins known inputs. An input begins with nothing but what is computed
+-- (`front_is`), so a row says both what holds and what does not.
+use Rattle.std.proofs.Common.{◌≡◌, ◌<◌, ℕ, ltb, Bool, true, List, [], ◌∷◌, ◌++◌, length, refl, sym, subst, ap, ◌∙◌, arith, append-nil, get_or, replicate, ◌-◌}
+use Rattle.std.specs.Prelude.{◌↔◌}
+use Rattle.std.specs.List.{All, list_all}
+use Rattle.std.proofs.lemmas.Bool.{ltb-true, and_parts}
+use Rattle.std.proofs.lemmas.List.Elements.{All-nil, All-cons, All-head}
+use Rattle.multihash.specs.Bytes.{place_value}
+use Rattle.multihash.specs.Varint.{IsMarked, marked, varint_limit, most_marked, first_too_large, IsVarint, insufficient, overflow, not_minimal}
+use Rattle.multihash.proofs.Examples.BytesVectors.{all_below}
+use Rattle.multihash.proofs.Varints.VarintLemmas.{Front, number, fault, HasFront, front_of, front_is, front_of_has, front_unique}
+
+-- every number in a literal list has 128 added
+pub all_marked : (xs : List ℕ) → list_all (λ x. ltb 127 x) xs ≡ true → All IsMarked xs
+all_marked [] e = All-nil IsMarked
+all_marked (x ∷ xs) e =
+    let parts = and_parts (ltb 127 x) (list_all (λ y. ltb 127 y) xs) e in
+    All-cons IsMarked x xs (ltb-true 127 x parts.0) (all_marked xs parts.1)
+
+ends_well : List ℕ → ℕ → Bool
+ends_well [] last = true
+ends_well (d ∷ front) last = ltb 0 last
+
+ends_well-minimal : (front : List ℕ) (last : ℕ) → ends_well front last ≡ true → last ≡ 0 → front ≡ []
+unfolding ends_well
+ends_well-minimal [] last e z = refl
+ends_well-minimal (d ∷ front) last e z = absurd (omega (arith, ltb-true 0 last e, z))
+
+-- a varint in literal digits, each fact by computing
+varint_of : (front : List ℕ) (last n : ℕ) → list_all (λ d. ltb d 128) (front ++ last ∷ []) ≡ true → ends_well front last ≡ true
+    → place_value 128 (front ++ last ∷ []) ≡ n → ltb n varint_limit ≡ true → IsVarint n (marked front ++ last ∷ [])
+varint_of front last n digits minimal value range = record {
+  front = front;
+  last = last;
+  digits = all_below 128 (front ++ last ∷ []) digits;
+  minimal = ends_well-minimal front last minimal;
+  value = value;
+  in_range = ltb-true n varint_limit range;
+  spelled = refl;
+}
+
+pub varint_0 : IsVarint 0 (0x00 ∷ [])
+unfolding place_value ends_well
+varint_0 = varint_of [] 0x00 0 refl refl refl refl
+
+pub varint_1 : IsVarint 1 (0x01 ∷ [])
+unfolding place_value ends_well
+varint_1 = varint_of [] 0x01 1 refl refl refl refl
+
+pub varint_2 : IsVarint 2 (0x02 ∷ [])
+unfolding place_value ends_well
+varint_2 = varint_of [] 0x02 2 refl refl refl refl
+
+pub varint_4 : IsVarint 4 (0x04 ∷ [])
+unfolding place_value ends_well
+varint_4 = varint_of [] 0x04 4 refl refl refl refl
+
+pub varint_5 : IsVarint 5 (0x05 ∷ [])
+unfolding place_value ends_well
+varint_5 = varint_of [] 0x05 5 refl refl refl refl
+
+pub varint_64 : IsVarint 64 (0x40 ∷ [])
+unfolding place_value ends_well
+varint_64 = varint_of [] 0x40 64 refl refl refl refl
+
+pub varint_65 : IsVarint 65 (0x41 ∷ [])
+unfolding place_value ends_well
+varint_65 = varint_of [] 0x41 65 refl refl refl refl
+
+pub varint_128 : IsVarint 128 (0x80 ∷ 0x01 ∷ [])
+unfolding place_value ends_well
+varint_128 = varint_of (0x00 ∷ []) 0x01 128 refl refl refl refl
+
+pub varint_133 : IsVarint 133 (0x85 ∷ 0x01 ∷ [])
+unfolding place_value ends_well
+varint_133 = varint_of (0x05 ∷ []) 0x01 133 refl refl refl refl
+
+pub varint_255 : IsVarint 255 (0xff ∷ 0x01 ∷ [])
+unfolding place_value ends_well
+varint_255 = varint_of (0x7f ∷ []) 0x01 255 refl refl refl refl
+
+pub varint_300 : IsVarint 300 (0xac ∷ 0x02 ∷ [])
+unfolding place_value ends_well
+varint_300 = varint_of (0x2c ∷ []) 0x02 300 refl refl refl refl
+
+pub varint_72057594037927936 : IsVarint 72057594037927936 (0x80 ∷ 0x80 ∷ 0x80 ∷ 0x80 ∷ 0x80 ∷ 0x80 ∷ 0x80 ∷ 0x80 ∷ 0x01 ∷ [])
+unfolding place_value ends_well
+varint_72057594037927936 = varint_of (0x00 ∷ 0x00 ∷ 0x00 ∷ 0x00 ∷ 0x00 ∷ 0x00 ∷ 0x00 ∷ 0x00 ∷ []) 0x01 72057594037927936 refl refl refl refl
+
+pub varint_9223372036854775807 : IsVarint 9223372036854775807 (0xff ∷ 0xff ∷ 0xff ∷ 0xff ∷ 0xff ∷ 0xff ∷ 0xff ∷ 0xff ∷ 0x7f ∷ [])
+unfolding place_value ends_well
+varint_9223372036854775807 = varint_of (0x7f ∷ 0x7f ∷ 0x7f ∷ 0x7f ∷ 0x7f ∷ 0x7f ∷ 0x7f ∷ 0x7f ∷ []) 0x7f 9223372036854775807 refl refl refl refl
+
+-- bytes that are a varint of one number are none of another
+pub not_another : (m n : ℕ) (bytes : List ℕ) → IsVarint n bytes → (m ≡ n → ⊥) → ¬ (IsVarint m bytes)
+not_another m n bytes v other w =
+    let same : number m [] ≡ number n [] =
+    front_unique bytes (number m []) (number n []) (bytes, w, sym (append-nil bytes)) (bytes, v, sym (append-nil bytes)) in
+    other (cc)
+
+-- ---- what begins an input
+
+data Row : Type 0 where
+  row : (x : List ℕ) (f : Front) → list_all (λ b. ltb b 256) x ≡ true → front_of x ≡ f → Row
+
+abbrev Holds : Row → Type 0
+Holds (row x f bytes same) = (g : Front) → HasFront x g ↔ (g ≡ f)
+
+holds : (r : Row) → Holds r
+holds (row x f bytes same) =
+    λ g. ((λ h. front_is x g h ∙ same), λ is. subst (HasFront x) (same ∙ sym is) (front_of_has x (all_below 256 x bytes)))
+
+-- as many marked bytes as a varint may have, and the largest of them
+abbrev most : List ℕ
+most = replicate most_marked 0x80
+
+abbrev most_255 : List ℕ
+most_255 = replicate most_marked 0xff
+
+numbers : List Row
+unfolding place_value
+numbers =
+    row (0x00 ∷ []) (number 0 []) refl refl ∷
+    row (0x7f ∷ []) (number 127 []) refl refl ∷
+    row (0x80 ∷ 0x02 ∷ []) (number 256 []) refl refl ∷
+    -- the lowest digit stands first
+    row (0x02 ∷ 0xac ∷ []) (number 2 (0xac ∷ [])) refl refl ∷
+    row (0xff ∷ 0x01 ∷ []) (number 255 []) refl refl ∷
+    row (0xff ∷ 0x7f ∷ []) (number 16383 []) refl refl ∷
+    row (0x80 ∷ 0x80 ∷ 0x01 ∷ []) (number 16384 []) refl refl ∷
+    row (0xff ∷ 0xff ∷ 0x7f ∷ []) (number 2097151 []) refl refl ∷
+    row (0x80 ∷ 0x80 ∷ 0x80 ∷ 0x01 ∷ []) (number 2097152 []) refl refl ∷
+    -- the largest number, whose last byte is the one before the first that is too large
+    row (most_255 ++ (first_too_large - 1) ∷ []) (number 9223372036854775807 []) refl refl ∷
+    row (most ++ (first_too_large - 1) ∷ []) (number 9151314442816847872 []) refl refl ∷
+    -- what follows a whole varint does not belong to it
+    row (0x01 ∷ 0x01 ∷ []) (number 1 (0x01 ∷ [])) refl refl ∷
+    row (0x01 ∷ 0x00 ∷ []) (number 1 (0x00 ∷ [])) refl refl ∷
+    row (0x80 ∷ 0x01 ∷ 0x00 ∷ []) (number 128 (0x00 ∷ [])) refl refl ∷
+    row (replicate most_marked 0 ++ first_too_large ∷ []) (number 0 (replicate (most_marked - 1) 0 ++ first_too_large ∷ [])) refl refl ∷
+    []
+
+faults : List Row
+unfolding place_value
+faults =
+    row [] (fault insufficient) refl refl ∷
+    row (0x80 ∷ []) (fault insufficient) refl refl ∷
+    row most (fault insufficient) refl refl ∷
+    -- a ninth byte that is too large is enough, whatever follows
+    row (most ++ first_too_large ∷ []) (fault overflow) refl refl ∷
+    row (most ++ 0x80 ∷ 0x01 ∷ []) (fault overflow) refl refl ∷
+    row (most ++ 0x80 ∷ 0x00 ∷ []) (fault overflow) refl refl ∷
+    row (most_255 ++ 0xff ∷ 0x01 ∷ []) (fault overflow) refl refl ∷
+    -- a zero ends marked bytes, as many as there may be
+    row (0x80 ∷ 0x00 ∷ []) (fault not_minimal) refl refl ∷
+    row (0xac ∷ 0x82 ∷ 0x00 ∷ []) (fault not_minimal) refl refl ∷
+    row (most ++ 0x00 ∷ 0x07 ∷ []) (fault not_minimal) refl refl ∷
+    []
+
+-- ---- what no row says
+
+-- the first number that has no varint
+no_varint_of_9223372036854775808 : (bytes : List ℕ) → ¬ (IsVarint 9223372036854775808 bytes)
+no_varint_of_9223372036854775808 bytes v = omega (arith, v.in_range)
+
+marked_from_128 : IsMarked 128
+marked_from_128 = omega arith
+
+not_marked_below : ¬ (IsMarked 127)
+not_marked_below h = omega (arith, h)
+
+marks_each : marked (0 ∷ 127 ∷ []) ≡ 128 ∷ 255 ∷ []
+marks_each = refl
+
+-- a digit is one of seven bits, whatever follows it
+no_varint_of_larger_digits : (n : ℕ) → ¬ (IsVarint n (256 ∷ 1 ∷ []))
+no_varint_of_larger_digits n v = none v.front v.last v.digits v.spelled
+  where
+    none : (front : List ℕ) (last : ℕ) → All (λ digit. digit < 128) (front ++ last ∷ [])
+        → 256 ∷ 1 ∷ [] ≡ marked front ++ last ∷ [] → ⊥
+    none [] last digits e = omega (arith, ap (λ (z : List ℕ). length z) e)
+    none (d ∷ front) last digits e =
+        omega (
+          arith,
+          All-head (λ digit. digit < 128) d (front ++ last ∷ []) digits,
+          ap (λ (z : List ℕ). get_or z 0 0) e,
+        )

@@ -1,0 +1,211 @@
+-- The verdicts on known inputs, and what more input may change. An input has no verdict but the one that is computed
+-- (`verdict_is`), so a row says both what holds and what does not.
+use Rattle.std.proofs.Common.{◌≡◌, ◌∙◌, ltb, true, subst, ℕ, List, [], ◌∷◌, ◌++◌, refl, sym, arith, inl, inr}
+use Rattle.std.specs.Prelude.{◌↔◌}
+use Rattle.std.specs.List.{list_all}
+use Rattle.multihash.specs.Bytes.{place_value}
+use Rattle.multihash.specs.Pair.{Pair}
+use Rattle.multihash.specs.Varint.{insufficient, overflow, not_minimal}
+use Rattle.multihash.specs.Verdict.{Verdict, accepted, invalid_size, invalid_code, faulty, unexpected_eof, BeginsWith, HasSize, HasVerdict, HasLeftOver, HasWholeVerdict, IsEarlyEnd}
+use Rattle.multihash.proofs.Examples.BytesVectors.{all_below}
+use Rattle.multihash.proofs.Examples.VarintVectors.{all_marked, varint_0, varint_1, varint_4, varint_5, varint_72057594037927936}
+use Rattle.multihash.proofs.Examples.PairVectors.{pair}
+use Rattle.multihash.proofs.Readings.VerdictLemmas.{found, verdict_is, has_found}
+
+abbrev pub eight : List ℕ
+eight = 0x80 ∷ 0x80 ∷ 0x80 ∷ 0x80 ∷ 0x80 ∷ 0x80 ∷ 0x80 ∷ 0x80 ∷ []
+
+abbrev pub nine : List ℕ
+nine = eight ++ 0x80 ∷ []
+
+abbrev five : List ℕ
+five = 0x01 ∷ 0x02 ∷ 0x03 ∷ 0x04 ∷ 0x05 ∷ []
+
+-- what a verdict names, where it names one
+abbrev pub code_named : Verdict → ℕ
+code_named (accepted p) = p.code
+code_named (invalid_size size) = 0
+code_named (invalid_code code) = code
+code_named (faulty f) = 0
+code_named unexpected_eof = 0
+
+abbrev pub size_named : Verdict → ℕ
+size_named (accepted p) = 0
+size_named (invalid_size size) = size
+size_named (invalid_code code) = 0
+size_named (faulty f) = 0
+size_named unexpected_eof = 0
+
+-- an input whose verdict is the computed one
+abbrev pub known : (S : ℕ) (x : List ℕ) → list_all (λ b. ltb b 256) x ≡ true → HasVerdict S x (found S x)
+known S x bytes = has_found S x (all_below 256 x bytes)
+
+-- the verdict on the whole, where it is the same
+abbrev WholeToo : ℕ → List ℕ → Verdict → Type 0
+WholeToo S x (accepted p) = Unit {0}
+WholeToo S x (invalid_size size) = HasWholeVerdict S x (invalid_size size)
+WholeToo S x (invalid_code code) = HasWholeVerdict S x (invalid_code code)
+WholeToo S x (faulty f) = HasWholeVerdict S x (faulty f)
+WholeToo S x unexpected_eof = HasWholeVerdict S x unexpected_eof
+
+whole_too : (S : ℕ) (x : List ℕ) (v : Verdict) → HasVerdict S x v → WholeToo S x v
+whole_too S x (accepted p) h = tt
+whole_too S x (invalid_size size) h = inl h
+whole_too S x (invalid_code code) h = h
+whole_too S x (faulty f) h = h
+whole_too S x unexpected_eof h = h
+
+data Row : Type 0 where
+  row : (S : ℕ) (x : List ℕ) (v : Verdict) → list_all (λ b. ltb b 256) x ≡ true → found S x ≡ v → Row
+
+abbrev Holds : Row → Type 0
+Holds (row S x v bytes same) = ((w : Verdict) → HasVerdict S x w ↔ (w ≡ v)) × WholeToo S x v
+
+holds : (r : Row) → Holds r
+holds (row S x v bytes same) = (
+  λ w. ((λ h. verdict_is S x w h ∙ same), λ is. subst (HasVerdict S x) (same ∙ sym is) (known S x bytes)),
+  whole_too S x v (subst (HasVerdict S x) same (known S x bytes)),
+)
+
+table : List Row
+unfolding place_value
+table =
+    row 4 [] (faulty insufficient) refl refl ∷
+    row 4 (0x80 ∷ []) (faulty insufficient) refl refl ∷
+    row 4 (0x80 ∷ 0x00 ∷ []) (faulty not_minimal) refl refl ∷
+    row 4 (0x00 ∷ []) (faulty insufficient) refl refl ∷
+    row 4 (0x00 ∷ 0x00 ∷ []) (accepted (pair 0 [])) refl refl ∷
+    row 4 (0x00 ∷ 0x85 ∷ []) (faulty insufficient) refl refl ∷
+    row 4 (0x00 ∷ 0x05 ∷ []) (invalid_size 5) refl refl ∷
+    row 4 (0x00 ∷ 0x85 ∷ 0x01 ∷ []) (invalid_size 133) refl refl ∷
+    row 4 (0x00 ∷ 0x85 ∷ 0x00 ∷ []) (faulty not_minimal) refl refl ∷
+    row 4 (0x00 ∷ 0x04 ∷ 0x01 ∷ 0x02 ∷ 0x03 ∷ []) unexpected_eof refl refl ∷
+    row 4 (0x00 ∷ 0x04 ∷ 0x01 ∷ 0x02 ∷ 0x03 ∷ 0x04 ∷ []) (accepted (pair 0 (0x01 ∷ 0x02 ∷ 0x03 ∷ 0x04 ∷ []))) refl refl ∷
+    row 4 (0x00 ∷ 0x04 ∷ 0x01 ∷ 0x02 ∷ 0x03 ∷ 0x04 ∷ 0x09 ∷ []) (accepted (pair 0 (0x01 ∷ 0x02 ∷ 0x03 ∷ 0x04 ∷ []))) refl refl ∷
+    row 4 eight (faulty insufficient) refl refl ∷
+    row 4 (eight ++ 0x00 ∷ 0x00 ∷ []) (faulty not_minimal) refl refl ∷
+    row 4 (eight ++ 0x01 ∷ []) (faulty insufficient) refl refl ∷
+    row 4 (eight ++ 0x01 ∷ 0x00 ∷ []) (accepted (pair 72057594037927936 [])) refl refl ∷
+    row 4 (0xff ∷ 0xff ∷ 0xff ∷ 0xff ∷ 0xff ∷ 0xff ∷ 0xff ∷ 0xff ∷ 0x7f ∷ 0x00 ∷ []) (accepted (pair 9223372036854775807 [])) refl refl ∷
+    row 4 (0x00 ∷ 0xff ∷ 0xff ∷ 0xff ∷ 0xff ∷ 0xff ∷ 0xff ∷ 0xff ∷ 0xff ∷ 0x7f ∷ []) (invalid_size 9223372036854775807) refl refl ∷
+    row 4 (0x00 ∷ 0xff ∷ 0xff ∷ 0xff ∷ 0xff ∷ 0xff ∷ 0xff ∷ 0xff ∷ 0xff ∷ 0xff ∷ 0x01 ∷ []) (faulty overflow) refl refl ∷
+    row 0 (0x00 ∷ 0x80 ∷ []) (faulty insufficient) refl refl ∷
+    row 0 (0x00 ∷ 0x01 ∷ []) (invalid_size 1) refl refl ∷
+    row 0 (0x00 ∷ 0x00 ∷ []) (accepted (pair 0 [])) refl refl ∷
+    row 300 (0x00 ∷ 0xff ∷ 0x01 ∷ []) unexpected_eof refl refl ∷
+    row 300 (0x00 ∷ 0x80 ∷ 0x02 ∷ []) (invalid_size 256) refl refl ∷
+    row 4 (0x00 ∷ 0x00 ∷ 0x07 ∷ []) (accepted (pair 0 [])) refl refl ∷
+    row 4 (0x00 ∷ 0x05 ∷ five) (invalid_size 5) refl refl ∷
+    []
+
+pub empty_input : HasVerdict 4 [] (faulty insufficient)
+unfolding place_value
+empty_input = known 4 [] refl
+
+pub code_open : HasVerdict 4 (0x80 ∷ []) (faulty insufficient)
+unfolding place_value
+code_open = known 4 (0x80 ∷ []) refl
+
+pub code_padded : HasVerdict 4 (0x80 ∷ 0x00 ∷ []) (faulty not_minimal)
+unfolding place_value
+code_padded = known 4 (0x80 ∷ 0x00 ∷ []) refl
+
+pub code_alone : HasVerdict 4 (0x00 ∷ []) (faulty insufficient)
+unfolding place_value
+code_alone = known 4 (0x00 ∷ []) refl
+
+pub empty_digest : HasVerdict 4 (0x00 ∷ 0x00 ∷ []) (accepted (pair 0 []))
+unfolding place_value
+empty_digest = known 4 (0x00 ∷ 0x00 ∷ []) refl
+
+pub size_open : HasVerdict 4 (0x00 ∷ 0x85 ∷ []) (faulty insufficient)
+unfolding place_value
+size_open = known 4 (0x00 ∷ 0x85 ∷ []) refl
+
+pub size_above_limit : HasVerdict 4 (0x00 ∷ 0x05 ∷ []) (invalid_size 5)
+unfolding place_value
+size_above_limit = known 4 (0x00 ∷ 0x05 ∷ []) refl
+
+pub digest_cut : HasVerdict 4 (0x00 ∷ 0x04 ∷ 0x01 ∷ 0x02 ∷ 0x03 ∷ []) unexpected_eof
+unfolding place_value
+digest_cut = known 4 (0x00 ∷ 0x04 ∷ 0x01 ∷ 0x02 ∷ 0x03 ∷ []) refl
+
+pub digest_full : HasVerdict 4 (0x00 ∷ 0x04 ∷ 0x01 ∷ 0x02 ∷ 0x03 ∷ 0x04 ∷ []) (accepted (pair 0 (0x01 ∷ 0x02 ∷ 0x03 ∷ 0x04 ∷ [])))
+unfolding place_value
+digest_full = known 4 (0x00 ∷ 0x04 ∷ 0x01 ∷ 0x02 ∷ 0x03 ∷ 0x04 ∷ []) refl
+
+pub eight_marked : HasVerdict 4 eight (faulty insufficient)
+unfolding place_value
+eight_marked = known 4 eight refl
+
+pub digest_of_255_missing : HasVerdict 300 (0x00 ∷ 0xff ∷ 0x01 ∷ []) unexpected_eof
+unfolding place_value
+digest_of_255_missing = known 300 (0x00 ∷ 0xff ∷ 0x01 ∷ []) refl
+
+pub empty_digest_and_one_more : HasVerdict 4 (0x00 ∷ 0x00 ∷ 0x07 ∷ []) (accepted (pair 0 []))
+unfolding place_value
+empty_digest_and_one_more = known 4 (0x00 ∷ 0x00 ∷ 0x07 ∷ []) refl
+
+empty_digest_whole : HasWholeVerdict 4 (0x00 ∷ 0x00 ∷ []) (accepted (pair 0 []))
+empty_digest_whole = (record { code = 0x00 ∷ []; size = 0x00 ∷ []; is_code = varint_0; is_size = varint_0; spelled = refl }, omega arith)
+
+digest_full_whole : HasWholeVerdict 4 (0x00 ∷ 0x04 ∷ 0x01 ∷ 0x02 ∷ 0x03 ∷ 0x04 ∷ []) (accepted (pair 0 (0x01 ∷ 0x02 ∷ 0x03 ∷ 0x04 ∷ [])))
+digest_full_whole = (record { code = 0x00 ∷ []; size = 0x04 ∷ []; is_code = varint_0; is_size = varint_4; spelled = refl }, omega arith)
+
+digest_and_one_more_whole : HasWholeVerdict 4 (0x00 ∷ 0x04 ∷ 0x01 ∷ 0x02 ∷ 0x03 ∷ 0x04 ∷ 0x09 ∷ []) (invalid_size 1)
+digest_and_one_more_whole = inr (pair 0 (0x01 ∷ 0x02 ∷ 0x03 ∷ 0x04 ∷ []), 0x09 ∷ [], record { encoding = 0x00 ∷ 0x04 ∷ 0x01 ∷ 0x02 ∷ 0x03 ∷ 0x04 ∷ []; encodes = record { code = 0x00 ∷ []; size = 0x04 ∷ []; is_code = varint_0; is_size = varint_4; spelled = refl }; cut = refl }, omega arith, refl, omega arith)
+
+-- as many as are left over, whatever they are
+digest_and_three_more_whole : HasWholeVerdict 4 (0x00 ∷ 0x01 ∷ 0x07 ∷ 0x00 ∷ 0x80 ∷ 0x05 ∷ []) (invalid_size 3)
+digest_and_three_more_whole = inr (pair 0 (0x07 ∷ []), 0x00 ∷ 0x80 ∷ 0x05 ∷ [], record { encoding = 0x00 ∷ 0x01 ∷ 0x07 ∷ []; encodes = record { code = 0x00 ∷ []; size = 0x01 ∷ []; is_code = varint_0; is_size = varint_1; spelled = refl }; cut = refl }, omega arith, refl, omega arith)
+
+nine_byte_code_whole : HasWholeVerdict 4 (eight ++ 0x01 ∷ 0x00 ∷ []) (accepted (pair 72057594037927936 []))
+nine_byte_code_whole = (record { code = eight ++ 0x01 ∷ []; size = 0x00 ∷ []; is_code = varint_72057594037927936; is_size = varint_0; spelled = refl }, omega arith)
+
+-- nine are too many, whatever follows: nothing, a zero, or what a tenth byte would have to be
+nine_marked : (rest : List ℕ) → HasVerdict 4 (nine ++ rest) (faulty overflow)
+nine_marked rest = inl (record { front = eight; byte = 0x80; rest = rest; all_marked = all_marked eight refl; most = refl; too_large = omega arith; cut = refl })
+
+nine_marked_whole : (rest : List ℕ) → HasWholeVerdict 4 (nine ++ rest) (faulty overflow)
+nine_marked_whole = nine_marked
+
+no_room_empty_whole : HasWholeVerdict 0 (0x00 ∷ 0x00 ∷ []) (accepted (pair 0 []))
+no_room_empty_whole = (record { code = 0x00 ∷ []; size = 0x00 ∷ []; is_code = varint_0; is_size = varint_0; spelled = refl }, omega arith)
+
+-- an empty digest of the code 0, and what follows
+abbrev begins_empty : (rest : List ℕ) → BeginsWith (pair 0 []) (0x00 ∷ 0x00 ∷ rest) rest
+begins_empty rest = record {
+  encoding = 0x00 ∷ 0x00 ∷ [];
+  encodes = record { code = 0x00 ∷ []; size = 0x00 ∷ []; is_code = varint_0; is_size = varint_0; spelled = refl };
+  cut = refl;
+}
+
+-- the code 0, the size 5, and what follows
+abbrev pub size_5 : (more : List ℕ) → HasSize 5 (0x00 ∷ 0x05 ∷ more) more
+size_5 more = record { code = 0; code_bytes = 0x00 ∷ []; size_bytes = 0x05 ∷ []; is_code = varint_0; is_size = varint_5; cut = refl }
+
+-- ---- what does not hold
+
+-- no code that a varint spells is out of range
+no_code_refused : (S code : ℕ) (input : List ℕ) → ¬ (HasVerdict S input (invalid_code code))
+no_code_refused S code input h = h
+
+no_code_refused_whole : (S code : ℕ) (input : List ℕ) → ¬ (HasWholeVerdict S input (invalid_code code))
+no_code_refused_whole S code input h = h
+
+-- ---- what is left over
+
+one_left_over : HasLeftOver 4 (0x00 ∷ 0x00 ∷ 0x07 ∷ []) 1
+one_left_over = (pair 0 [], 0x07 ∷ [], begins_empty (0x07 ∷ []), omega arith, refl, omega arith)
+
+nothing_left_over : ¬ (HasLeftOver 4 (0x00 ∷ 0x00 ∷ []) 0)
+nothing_left_over (p, rest, begins, fits, count, some) = omega (arith, some)
+
+-- ---- the verdicts that more input may change
+
+early : IsEarlyEnd (faulty insufficient) × IsEarlyEnd unexpected_eof
+early = (tt, tt)
+
+stays : ((p : Pair) → ¬ (IsEarlyEnd (accepted p))) × ((n : ℕ) → ¬ (IsEarlyEnd (invalid_size n))) × ((n : ℕ) → ¬ (IsEarlyEnd (invalid_code n)))
+    × ¬ (IsEarlyEnd (faulty overflow)) × ¬ (IsEarlyEnd (faulty not_minimal))
+stays = ((λ p h. h), (λ n h. h), (λ n h. h), (λ h. h), λ h. h)

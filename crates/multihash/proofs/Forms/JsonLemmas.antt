@@ -1,0 +1,65 @@
+-- The JSON list of a pair tells the pair.
+use Rattle.std.proofs.Common.{◌≡◌, ℕ, ◌+◌, ◌<◌, List, [], ◌∷◌, ◌++◌, length, map, refl, sym, ap, ◌∙◌, subst, arith}
+use Rattle.std.specs.List.{All}
+use Rattle.std.proofs.lemmas.List.Elements.{All-append, All-push, All-same, All-map, All-head}
+use Rattle.serde_json.specs.Data.{Data, number, unsigned, Items}
+use Rattle.serde_json.specs.View.{items_of}
+use Rattle.multihash.specs.Bytes.{IsBytes}
+use Rattle.multihash.specs.Pair.{Pair}
+use Rattle.multihash.specs.Varint.{IsVarint, marked}
+use Rattle.multihash.specs.Encoding.{IsEncoding}
+use Rattle.multihash.specs.Json.{number_array, IsByteArray, IsJsonList}
+use Rattle.multihash.proofs.Varints.MarkedLemmas.{All-append_left, All-append_right}
+use Rattle.multihash.proofs.Readings.VerdictLemmas.{encoding_unique}
+
+abbrev IsByte : ℕ → Type 0
+IsByte b = b < 256
+
+abbrev numbers : List ℕ → Items
+numbers ns = items_of (map (λ n. number (unsigned n)) ns)
+
+numbers_unique : (a b : List ℕ) → numbers a ≡ numbers b → a ≡ b
+numbers_unique [] [] e = refl
+numbers_unique [] (y ∷ b) e = cc
+numbers_unique (x ∷ a) [] e = cc
+numbers_unique (x ∷ a) (y ∷ b) e =
+    let heads : x ≡ y = cc in
+    let tails : numbers a ≡ numbers b = cc in
+    cc (heads, numbers_unique a b tails)
+
+pub array_unique : (a b : List ℕ) → number_array a ≡ number_array b → a ≡ b
+array_unique a b e = let items : numbers a ≡ numbers b = cc in numbers_unique a b items
+
+pub json_same : (p q : Pair) (d : Data) → IsJsonList p d → IsJsonList q d → p ≡ q
+json_same p q d h k =
+    (encoding_unique p q h.encoding k.encoding [] [] h.encodes k.encodes
+    (ap (λ (z : List ℕ). z ++ []) (array_unique h.encoding k.encoding (sym h.lists ∙ k.lists)))).0
+
+-- the bytes of the list are the encoding
+pub json_bytes : (p : Pair) (d : Data) (bytes : List ℕ) → IsJsonList p d → IsByteArray d bytes → IsEncoding p bytes
+json_bytes p d bytes h k =
+    subst (IsEncoding p) (array_unique h.encoding bytes (sym h.lists ∙ k.array)) h.encodes
+
+varint_bytes : (n : ℕ) (bytes : List ℕ) → IsVarint n bytes → IsBytes bytes
+varint_bytes n bytes v =
+    All-same IsByte bytes (marked v.front ++ v.last ∷ []) v.spelled
+    (All-push IsByte (marked v.front) v.last front (omega (arith, last)))
+  where
+    digits : All (λ d. d < 128) v.front
+    digits = All-append_left (λ d. d < 128) v.front (v.last ∷ []) v.digits
+
+    last : v.last < 128
+    last = All-head (λ d. d < 128) v.last [] (All-append_right (λ d. d < 128) v.front (v.last ∷ []) v.digits)
+
+    front : IsBytes (marked v.front)
+    front = All-map IsByte (λ d. d + 128) v.front (λ k d below. omega (arith, digits k d below))
+
+pub encoding_bytes : (p : Pair) (bytes : List ℕ) → IsBytes p.digest → IsEncoding p bytes → IsBytes bytes
+encoding_bytes p bytes digest e =
+    All-same IsByte bytes (e.code ++ (e.size ++ p.digest)) e.spelled
+    (All-append IsByte e.code (e.size ++ p.digest) (varint_bytes p.code e.code e.is_code)
+    (All-append IsByte e.size p.digest (varint_bytes (length p.digest) e.size e.is_size) digest))
+
+pub json_is_array : (p : Pair) (d : Data) → IsBytes p.digest → IsJsonList p d → (bytes : List ℕ) × IsByteArray d bytes
+json_is_array p d digest h =
+    (h.encoding, record { array = h.lists; are_bytes = encoding_bytes p h.encoding digest h.encodes })

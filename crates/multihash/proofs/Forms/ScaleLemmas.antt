@@ -1,0 +1,204 @@
+-- One SCALE form a pair, and one verdict an input.
+use Rattle.std.proofs.Common.{◌≡◌, ℕ, zero, suc, ◌+◌, ◌/◌, ◌%◌, ◌^◌, ◌<◌, ◌≤◌, cond, ltb, List, [], ◌∷◌, ◌++◌, length, take, drop, refl, subst, sym, ap, ◌∙◌, arith, inl, inr, length-append, append_assoc, append-nil}
+use Rattle.std.specs.List.{All}
+use Rattle.std.proofs.Math.Nat.{pow-suc, pow-zero, div-add-mod}
+use Rattle.std.proofs.lemmas.Nat.{mod_below, div_below}
+use Rattle.std.proofs.lemmas.Bool.{cases_lt, lt-ltb, le-ltb}
+use Rattle.std.proofs.lemmas.List.{take_at, drop_at, take-append-drop, length-take-le, append_cancel_left}
+use Rattle.std.proofs.lemmas.List.Elements.{All-nil, All-cons, All-take, All-head, All-same}
+use Rattle.multihash.specs.Bytes.{IsBytes, IsBeginning, place_value}
+use Rattle.multihash.specs.Pair.{Pair}
+use Rattle.multihash.specs.Varint.{varint_limit}
+use Rattle.multihash.specs.Verdict.{Verdict, accepted, invalid_size, invalid_code, faulty, unexpected_eof}
+use Rattle.multihash.specs.Scale.{IsScaleCode, IsScale, HasScaleSize, HasScaleVerdict}
+use Rattle.multihash.proofs.Varints.DigitLemmas.{place_value-nil, place_value-cons, place_value_unique}
+use Rattle.multihash.proofs.Varints.MarkedLemmas.{All-append_right}
+
+-- a number in so many digits
+record FixedDigits (base count n : ℕ) : Type 0 where
+  digits : List ℕ
+  long : length digits ≡ count
+  each : All (λ d. d < base) digits
+  value : place_value base digits ≡ n
+
+fixed_digits : (base : ℕ) → 0 < base → (count n : ℕ) → n < base ^ count → FixedDigits base count n
+fixed_digits base pos zero n below = record {
+  digits = [];
+  long = refl;
+  each = All-nil (λ d. d < base);
+  value = rw place_value-nil (omega (arith, pow-zero base));
+}
+fixed_digits base pos (suc count) n below =
+    let h = fixed_digits base pos count (n / base) (div_below n base (base ^ count) pos (omega (arith, pow-suc base count))) in
+    record {
+      digits = n % base ∷ h.digits;
+      long = ap suc h.long;
+      each = All-cons (λ d. d < base) (n % base) h.digits (mod_below n base pos) h.each;
+      value = rw (place_value-cons base (n % base) h.digits, h.value) (omega (arith, div-add-mod n base));
+    }
+
+pub scale_exists : (p : Pair) → p.code < varint_limit → length p.digest < 256 → (bytes : List ℕ) × IsScale p bytes
+scale_exists p below size =
+    let d = fixed_digits 256 (omega arith) 8 p.code (omega (arith, below)) in (
+      d.digits ++ length p.digest ∷ p.digest,
+      record {
+        code = d.digits;
+        is_code = record { eight = d.long; are_bytes = d.each; value = d.value };
+        in_range = below;
+        size = size;
+        spelled = refl;
+      },
+    )
+
+-- a pair has at most one form
+pub scale_same : (p : Pair) (a b : List ℕ) → IsScale p a → IsScale p b → a ≡ b
+scale_same p a b h k =
+    let codes = place_value_unique 256 h.code k.code h.is_code.are_bytes k.is_code.are_bytes (h.is_code.eight ∙ sym k.is_code.eight)
+    (h.is_code.value ∙ sym k.is_code.value) in
+    cc (codes, h.spelled, k.spelled)
+
+-- eight bytes of the code, one of the size, and the digest
+pub scale_length : (p : Pair) (bytes : List ℕ) → IsScale p bytes → length bytes ≡ 9 + length p.digest
+scale_length p bytes h = omega (arith, ap length h.spelled, length-append h.code (length p.digest ∷ p.digest), h.is_code.eight)
+
+-- ---- the verdict, computed
+
+-- the verdict on what follows a code in range
+abbrev scale_behind : ℕ → ℕ → List ℕ → Verdict
+scale_behind S code [] = unexpected_eof
+scale_behind S code (size ∷ rest) =
+    cond (ltb S size) (invalid_size size)
+    (cond (ltb (length rest) size) unexpected_eof (accepted (record { code = code; digest = take size rest })))
+
+abbrev scale_judged : ℕ → ℕ → List ℕ → Verdict
+scale_judged S code rest = cond (ltb code varint_limit) (scale_behind S code rest) (invalid_code code)
+
+-- k is 8, and a variable, so that `take` stays as it is
+abbrev found_at : ℕ → ℕ → List ℕ → Verdict
+found_at k S x = cond (ltb (length x) k) unexpected_eof (scale_judged S (place_value 256 (take k x)) (drop k x))
+
+found_behind : (k S code : ℕ) (x bytes rest : List ℕ) → k ≡ 8 → IsScaleCode code bytes → x ≡ bytes ++ rest → found_at k S x ≡ scale_judged S code rest
+found_behind k S code x bytes rest eight is cut =
+    let long : length bytes ≡ k = is.eight ∙ sym eight in
+    rw (cut, le-ltb (length (bytes ++ rest)) k (omega (arith, length-append bytes rest, long)), take_at bytes rest k long, drop_at bytes rest k long, is.value) refl
+
+found_is : (k S : ℕ) (x : List ℕ) (v : Verdict) → k ≡ 8 → HasScaleVerdict S x v → found_at k S x ≡ v
+found_is k S x (accepted p) eight (bytes, rest, h, fits, cut) =
+    found_behind k S p.code x h.code (length p.digest ∷ (p.digest ++ rest)) eight h.is_code
+    (cut ∙ (ap (λ (z : List ℕ). z ++ rest) h.spelled ∙ append_assoc h.code (length p.digest ∷ p.digest) rest))
+    ∙ rw (
+      lt-ltb p.code varint_limit h.in_range,
+      le-ltb S (length p.digest) fits,
+      le-ltb (length (p.digest ++ rest)) (length p.digest) (omega (arith, length-append p.digest rest)),
+      take_at p.digest rest (length p.digest) refl,
+    ) refl
+found_is k S x (invalid_code code) eight (bytes, rest, is_code, above, cut) =
+    found_behind k S code x bytes rest eight is_code cut ∙ rw (le-ltb code varint_limit above) refl
+found_is k S x (invalid_size size) eight (rest, h, over) =
+    found_behind k S h.code x h.code_bytes (size ∷ rest) eight h.is_code h.cut ∙ rw (lt-ltb h.code varint_limit h.in_range, lt-ltb S size over) refl
+found_is k S x (faulty fault) eight h = absurd h
+found_is k S x unexpected_eof eight (inl short) = rw (lt-ltb (length x) k (omega (arith, short, eight))) refl
+found_is k S x unexpected_eof eight (inr (inl (code, is_code, below))) =
+    found_behind k S code x x [] eight is_code (sym (append-nil x)) ∙ rw (lt-ltb code varint_limit below) refl
+found_is k S x unexpected_eof eight (inr (inr (size, rest, h, within, short))) =
+    found_behind k S h.code x h.code_bytes (size ∷ rest) eight h.is_code h.cut
+    ∙ rw (lt-ltb h.code varint_limit h.in_range, le-ltb S size within, lt-ltb (length rest) size short) refl
+
+abbrev pub scale_found : ℕ → List ℕ → Verdict
+scale_found S x = found_at 8 S x
+
+-- an input has no verdict but that one
+pub scale_verdict_is : (S : ℕ) (x : List ℕ) (v : Verdict) → HasScaleVerdict S x v → v ≡ scale_found S x
+scale_verdict_is S x v h = sym (found_is 8 S x v refl h)
+
+pub scale_verdict_unique : (S : ℕ) (x : List ℕ) (v w : Verdict) → HasScaleVerdict S x v → HasScaleVerdict S x w → v ≡ w
+scale_verdict_unique S x v w h k = scale_verdict_is S x v h ∙ sym (scale_verdict_is S x w k)
+
+-- a form and anything behind it
+pub scale_own : (S : ℕ) (p : Pair) (bytes rest : List ℕ) → IsScale p bytes → length p.digest ≤ S
+    → HasScaleVerdict S (bytes ++ rest) (accepted p)
+scale_own S p bytes rest h fits = (bytes, rest, h, fits, refl)
+
+-- two forms in front of one input are of one pair
+pub scale_split : (p q : Pair) (a b r s : List ℕ) → IsScale p a → IsScale q b → a ++ r ≡ b ++ s → (p ≡ q) × (a ≡ b) × (r ≡ s)
+scale_split p q a b r s h k e =
+    let verdicts : accepted p ≡ accepted q = scale_verdict_unique 255 (a ++ r) (accepted p) (accepted q)
+    (a, r, h, omega (arith, h.size), refl) (b, s, k, omega (arith, k.size), e) in
+    let pairs : p ≡ q = cc in
+    let forms : a ≡ b = scale_same q a b (subst (λ x. IsScale x a) pairs h) k in
+    (pairs, forms, append_cancel_left b r s (ap (λ x. x ++ r) (sym forms) ∙ e))
+
+pub scale_begins : (p q : Pair) (a b : List ℕ) → IsScale p a → IsScale q b → IsBeginning a b → p ≡ q
+scale_begins p q a b h k (rest, cut) = (scale_split p q a b rest [] h k (sym (append-nil b ∙ cut))).0
+
+scale_sized : (S size : ℕ) (x rest : List ℕ) → HasScaleSize size x rest → size < 256 → (v : Verdict) × HasScaleVerdict S x v
+scale_sized S size x rest h byte =
+    elim (cases_lt S size) [
+      | inl over ↦ (invalid_size size, (rest, h, over))
+      | inr within ↦ elim (cases_lt (length rest) size) [
+        | inl short ↦ (unexpected_eof, inr (inr (size, rest, h, within, short)))
+        | inr full ↦ whole within full
+      ]
+    ]
+  where
+    whole : size ≤ S → size ≤ length rest → (v : Verdict) × HasScaleVerdict S x v
+    whole within full =
+        let digest : List ℕ = take size rest in
+        let len : length digest ≡ size = length-take-le size rest full in
+        let p : Pair = record { code = h.code; digest = digest } in
+        let split : size ∷ rest ≡ (length digest ∷ digest) ++ drop size rest = cc (len, take-append-drop size rest) in (
+          accepted p,
+          (
+            h.code_bytes ++ length digest ∷ digest,
+            drop size rest,
+            record { code = h.code_bytes; is_code = h.is_code; in_range = h.in_range; size = omega arith; spelled = refl },
+            omega arith,
+            h.cut ∙ (ap (λ (z : List ℕ). h.code_bytes ++ z) split ∙ sym (append_assoc h.code_bytes (length digest ∷ digest) (drop size rest))),
+          ),
+        )
+
+scale_coded : (S code : ℕ) (x bytes rest : List ℕ) → IsScaleCode code bytes → x ≡ bytes ++ rest → IsBytes rest
+    → code < varint_limit → (v : Verdict) × HasScaleVerdict S x v
+scale_coded S code x bytes [] is_code cut each below =
+    (unexpected_eof, inr (inl (code, subst (IsScaleCode code) (sym (cut ∙ append-nil bytes)) is_code, below)))
+scale_coded S code x bytes (size ∷ rest) is_code cut each below =
+    scale_sized S size x rest (record { code = code; code_bytes = bytes; is_code = is_code; in_range = below; cut = cut })
+    (All-head (λ b. b < 256) size rest each)
+
+-- k is 8, and a variable, so that `take` stays as it is
+scale_from : (k S : ℕ) (x : List ℕ) → k ≡ 8 → IsBytes x → k ≤ length x → (v : Verdict) × HasScaleVerdict S x v
+scale_from k S x eight bytes long =
+    elim (cases_lt code varint_limit) [
+      | inl below ↦ scale_coded S code x front (drop k x) is_code cut (All-append_right (λ b. b < 256) front (drop k x) whole) below
+      | inr above ↦ (invalid_code code, (front, drop k x, is_code, above, cut))
+    ]
+  where
+    front : List ℕ
+    front = take k x
+
+    code : ℕ
+    code = place_value 256 front
+
+    cut : x ≡ front ++ drop k x
+    cut = sym (take-append-drop k x)
+
+    whole : IsBytes (front ++ drop k x)
+    whole = All-same (λ b. b < 256) (front ++ drop k x) x (sym cut) bytes
+
+    is_code : IsScaleCode code front
+    is_code = record {
+      eight = length-take-le k x long ∙ eight;
+      are_bytes = All-take (λ b. b < 256) k x bytes;
+      value = refl;
+    }
+
+pub scale_verdict_exists : (S : ℕ) (x : List ℕ) → IsBytes x → (v : Verdict) × HasScaleVerdict S x v
+scale_verdict_exists S x bytes =
+    elim (cases_lt (length x) 8) [
+      | inl short ↦ (unexpected_eof, inl short)
+      | inr long ↦ scale_from 8 S x refl bytes long
+    ]
+
+-- and it is the one that is computed
+pub has_scale_found : (S : ℕ) (x : List ℕ) → IsBytes x → HasScaleVerdict S x (scale_found S x)
+has_scale_found S x bytes = let (v, h) = scale_verdict_exists S x bytes in subst (HasScaleVerdict S x) (scale_verdict_is S x v h) h

@@ -1,0 +1,9 @@
+pub mod BeginningLemmas
+pub mod FrontLemmas
+pub mod HeadLemmas
+pub mod ReadStopLemmas
+pub mod ReadTakingLemmas
+pub mod ReadingLemmas
+pub mod SettlingLemmas
+pub mod ShortestLemmas
+pub mod VerdictLemmas

@@ -1,0 +1,43 @@
+-- What two calls took one after the other, and what stands at the front of a buffer after them.
+use Rattle.std.proofs.Common.{◌≡◌, ℕ, ◌+◌, ◌≤◌, List, [], ◌++◌, Option, None, Some, IfSome, subst, length, take, refl, sym, ap, ◌∙◌, append_assoc, length-take-le}
+use Rattle.std.proofs.lemmas.List.{take-append-le}
+use Rattle.std.proofs.Math.Seq.{take-append-add}
+use borrow.Rule.Slice.PartMut.{put_mid, post_of}
+use Rattle.std.specs.Io.KnownBytes.{prepend_known, IsAtEnd}
+use Rattle.multihash.specs.Reading.{Takes}
+
+pub prepend_known-append : (xs ys : List ℕ) (rest : Option (List ℕ)) → prepend_known xs (prepend_known ys rest) ≡ prepend_known (xs ++ ys) rest
+prepend_known-append xs ys None = refl
+prepend_known-append xs ys (Some rest) = ap Some (sym (append_assoc xs ys rest))
+
+pub Takes-joined : (a b c : Option (List ℕ)) (xs ys whole : List ℕ) → whole ≡ xs ++ ys → Takes a xs b → Takes b ys c → Takes a whole c
+Takes-joined a b c xs ys whole joined first second =
+    first ∙ ap (prepend_known xs) second ∙ prepend_known-append xs ys c ∙ ap (λ l. prepend_known l c) (sym joined)
+
+-- a buffer whose places from `at` on were handed out begins with what it began with, and then with
+-- what was put at the front of those places
+pub take-put_mid_more : (at k n : ℕ) (xs ys : List ℕ) → at ≤ length xs → n ≤ length ys → take (at + n) (put_mid at k xs ys) ≡ take at xs ++ take n ys
+take-put_mid_more at k n xs ys within fits =
+    let after = post_of at k xs in
+    ap (λ m. take (m + n) (take at xs ++ (ys ++ after))) (sym (length-take-le at xs within))
+    ∙ take-append-add (take at xs) (ys ++ after) n
+    ∙ ap (λ l. take at xs ++ l) (take-append-le n ys after fits)
+
+-- what holds of `taken` and whatever follows holds of the rest at entry, where it is told
+pub IfSome-taken : (old new : Option (List ℕ)) (taken : List ℕ) (P : List ℕ → Type 0) → Takes old taken new → ((left : List ℕ) → new ≡ Some left → P (taken ++ left)) → IfSome old P
+IfSome-taken None new taken P takes h = tt
+IfSome-taken (Some xs) None taken P takes h = cc
+IfSome-taken (Some xs) (Some left) taken P takes h = let same : xs ≡ taken ++ left = cc in subst P (sym same) (h left refl)
+
+-- nothing was taken
+pub Takes-none : (a : Option (List ℕ)) → Takes a [] a
+Takes-none None = refl
+Takes-none (Some rest) = refl
+
+-- a call that took `front`, and one that took nothing
+pub Takes-kept : (a b c : Option (List ℕ)) (front : List ℕ) → c ≡ b → Takes a front b → Takes a front c
+Takes-kept a b c front same takes = subst (λ r. Takes a front r) (sym same) takes
+
+-- at an input's end nothing was left, and nothing is
+pub IsAtEnd-kept : (b c : Option (List ℕ)) → c ≡ b → IsAtEnd b → IsAtEnd c
+IsAtEnd-kept b c same ends = subst IsAtEnd (sym same) ends

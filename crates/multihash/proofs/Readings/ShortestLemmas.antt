@@ -1,0 +1,191 @@
+-- The shortest beginning that settles an input's verdict: which one it is, and that there is one.
+use Rattle.std.proofs.Common.{◌≡◌, ℕ, ◌+◌, ◌<◌, ◌≤◌, List, [], ◌∷◌, ◌++◌, length, get_or, refl, sym, ap, ◌∙◌, arith, inl, inr, length-append, append_assoc, append-nil}
+use Rattle.std.specs.List.{All}
+use Rattle.std.proofs.lemmas.List.{get_or_append_left, length-map}
+use Rattle.multihash.specs.Bytes.{IsProperBeginning, ExactlyOne}
+use Rattle.multihash.specs.Pair.{Pair, FitsBuffer, digest_limit}
+use Rattle.multihash.specs.Varint.{most_marked, IsMarked, marked, IsVarint, VarintFault, insufficient, overflow, not_minimal, IsInsufficient, HasFaultyFront}
+use Rattle.multihash.specs.Encoding.{IsEncoding}
+use Rattle.multihash.specs.Verdict.{Verdict, accepted, invalid_size, invalid_code, faulty, unexpected_eof, BeginsWith, HasSize, HasCode, HasVerdict, IsEarlyEnd}
+use Rattle.multihash.specs.Settling.{IsShortestSettling}
+use Rattle.multihash.proofs.Readings.BeginningLemmas.{split_beginning, compare_beginnings}
+use Rattle.multihash.proofs.Varints.MarkedLemmas.{All-marked}
+use Rattle.multihash.proofs.Varints.VarintLemmas.{varint_length}
+use Rattle.multihash.proofs.Writings.WritingLemmas.{length_of_not_nil}
+use Rattle.multihash.proofs.Readings.SettlingLemmas.{early_not_settles, late_settles}
+
+-- ---- the shortest that settles
+
+-- marked bytes, as many as a varint may have, and one more
+pub record IsStep (t : List ℕ) : Type 0 where
+  pub front : List ℕ
+  pub last : ℕ
+  pub all_marked : All IsMarked front
+  pub few : length front ≤ most_marked
+  pub cut : t ≡ front ++ last ∷ []
+
+pub varint_step : (n : ℕ) (bytes : List ℕ) → IsVarint n bytes → IsStep bytes
+varint_step n bytes v = record {
+  front = marked v.front;
+  last = v.last;
+  all_marked = All-marked v.front;
+  few = omega (arith, (varint_length n bytes v).0, length-map v.front (λ d. d + 128));
+  cut = v.spelled;
+}
+
+pub before_step : (t p : List ℕ) → IsStep t → IsProperBeginning p t → IsInsufficient p
+before_step t p s (rest, some, cut) = record { few = omega (arith, s.few, short); all_marked = marks }
+  where
+    same : s.front ++ s.last ∷ [] ≡ p ++ rest
+    same = sym s.cut ∙ cut
+
+    short : length p ≤ length s.front
+    short = omega (arith, ap length same, length-append s.front (s.last ∷ []), length-append p rest, length_of_not_nil rest some)
+
+    marks : All IsMarked p
+    marks k d below =
+        let value : get_or p k d ≡ get_or s.front k d =
+        sym (get_or_append_left p rest d k below)
+        ∙ (ap (λ (z : List ℕ). get_or z k d) (sym same) ∙ get_or_append_left s.front (s.last ∷ []) d k (omega (arith, short, below))) in
+        rw value (s.all_marked k d (omega (arith, short, below)))
+
+-- the input ends early
+abbrev pub EndsEarly : ℕ → List ℕ → Type 0
+EndsEarly S x = (v : Verdict) × HasVerdict S x v × IsEarlyEnd v
+
+pub before_first : (S : ℕ) (t p : List ℕ) → IsStep t → IsProperBeginning p t → EndsEarly S p
+before_first S t p s b = (faulty insufficient, inl (before_step t p s b), tt)
+
+pub before_second : (S code : ℕ) (f t p : List ℕ) → IsVarint code f → IsStep t → IsProperBeginning p (f ++ t) → EndsEarly S p
+before_second S code f t p is_code s b =
+    elim (split_beginning f t p b) [
+      | inl early ↦ before_first S f p (varint_step code f is_code) early
+      | inr (q, cut, more) ↦
+          (faulty insufficient, inr (q, record { code = code; code_bytes = f; is_code = is_code; cut = cut }, before_step t q s more), tt)
+    ]
+
+pub before_digest : (S : ℕ) (p : Pair) (t x : List ℕ) → IsEncoding p t → FitsBuffer S p → IsProperBeginning x t → EndsEarly S x
+before_digest S p t x e fits (rest, some, cut) =
+    elim (split_beginning e.code (e.size ++ p.digest) x (rest, some, sym e.spelled ∙ cut)) [
+      | inl early ↦ before_first S e.code x (varint_step p.code e.code e.is_code) early
+      | inr (y, y_cut, more) ↦ elim (split_beginning e.size p.digest y more) [
+        | inl (left, nonempty, s_cut) ↦
+            before_second S p.code e.code e.size x e.is_code (varint_step (length p.digest) e.size e.is_size)
+            (left, nonempty, ap (λ (z : List ℕ). e.code ++ z) s_cut ∙ (sym (append_assoc e.code y left) ∙ ap (λ (z : List ℕ). z ++ left) (sym y_cut)))
+        | inr (z, z_cut, (left, nonempty, d_cut)) ↦ (
+          unexpected_eof,
+          (
+            length p.digest,
+            z,
+            record {
+              code = p.code;
+              code_bytes = e.code;
+              size_bytes = e.size;
+              is_code = e.is_code;
+              is_size = e.is_size;
+              cut = y_cut ∙ ap (λ (w : List ℕ). e.code ++ w) z_cut;
+            },
+            fits,
+            omega (arith, ap length d_cut, length-append z left, length_of_not_nil left nonempty),
+          ),
+          tt,
+        )
+      ]
+    ]
+
+-- a beginning with a verdict of its own that is no early end, all of whose own beginnings end early
+pub shortest_from : (S : ℕ) (x t rest : List ℕ) (v : Verdict) → x ≡ t ++ rest → HasVerdict S t v → ¬ (IsEarlyEnd v)
+    → ((p : List ℕ) → IsProperBeginning p t → EndsEarly S p) → IsShortestSettling S x t
+shortest_from S x t rest v cut h late before = record {
+  begins = (rest, cut);
+  settles = late_settles S t v late h;
+  shortest = λ p b. let e = before p b in early_not_settles S p e.0 e.2 e.1;
+}
+
+-- the beginning that shows a fault
+pub record ShowsFault (f : VarintFault) (x : List ℕ) : Type 0 where
+  pub shown : List ℕ
+  pub rest : List ℕ
+  pub cut : x ≡ shown ++ rest
+  pub step : IsStep shown
+  pub has : HasFaultyFront f shown
+
+pub shows_fault : (f : VarintFault) (x : List ℕ) → ¬ (IsEarlyEnd (faulty f)) → HasFaultyFront f x → ShowsFault f x
+shows_fault insufficient x late h = absurd (late tt)
+shows_fault overflow x late h = record {
+  shown = h.front ++ h.byte ∷ [];
+  rest = h.rest;
+  cut = h.cut ∙ sym (append_assoc h.front (h.byte ∷ []) h.rest);
+  step = record { front = h.front; last = h.byte; all_marked = h.all_marked; few = omega (arith, h.most); cut = refl };
+  has = record { front = h.front; byte = h.byte; rest = []; all_marked = h.all_marked; most = h.most; too_large = h.too_large; cut = refl };
+}
+shows_fault not_minimal x late h = record {
+  shown = h.front ++ 0 ∷ [];
+  rest = h.rest;
+  cut = h.cut ∙ sym (append_assoc h.front (0 ∷ []) h.rest);
+  step = record { front = h.front; last = 0; all_marked = h.all_marked; few = h.few; cut = refl };
+  has = record { front = h.front; rest = []; all_marked = h.all_marked; some = h.some; few = h.few; cut = refl };
+}
+
+-- the shortest beginning that settles a pair is its encoding
+pub shortest_pair : (S : ℕ) (p : Pair) (x rest : List ℕ) (b : BeginsWith p x rest) → FitsBuffer S p → IsShortestSettling S x b.encoding
+shortest_pair S p x rest b fits =
+    shortest_from S x b.encoding rest (accepted p) b.cut
+    ([], record { encoding = b.encoding; encodes = b.encodes; cut = sym (append-nil b.encoding) }, fits) (λ e. e)
+    (λ y before. before_digest S p b.encoding y b.encodes fits before)
+
+-- that of a size that is too large is both varints
+pub shortest_size : (S size : ℕ) (x rest : List ℕ) (h : HasSize size x rest) → digest_limit S < size
+    → IsShortestSettling S x (h.code_bytes ++ h.size_bytes)
+shortest_size S size x rest h over =
+    shortest_from S x (h.code_bytes ++ h.size_bytes) rest (invalid_size size)
+    (h.cut ∙ sym (append_assoc h.code_bytes h.size_bytes rest)) ([], own, over) (λ e. e)
+    (λ y before. before_second S h.code h.code_bytes h.size_bytes y h.is_code (varint_step size h.size_bytes h.is_size) before)
+  where
+    own : HasSize size (h.code_bytes ++ h.size_bytes) []
+    own = record {
+      code = h.code;
+      code_bytes = h.code_bytes;
+      size_bytes = h.size_bytes;
+      is_code = h.is_code;
+      is_size = h.is_size;
+      cut = ap (λ (z : List ℕ). h.code_bytes ++ z) (sym (append-nil h.size_bytes));
+    }
+
+-- that of a fault in the code is what shows it
+pub shortest_code_fault : (S : ℕ) (f : VarintFault) (x : List ℕ) → ¬ (IsEarlyEnd (faulty f)) → (s : ShowsFault f x) → IsShortestSettling S x s.shown
+shortest_code_fault S f x late s =
+    shortest_from S x s.shown s.rest (faulty f) s.cut (inl s.has) late (λ y before. before_first S s.shown y s.step before)
+
+-- that of a fault in the size is the code and what shows it
+pub shortest_size_fault : (S : ℕ) (f : VarintFault) (x rest : List ℕ) → ¬ (IsEarlyEnd (faulty f)) → (c : HasCode x rest) (s : ShowsFault f rest)
+    → IsShortestSettling S x (c.code_bytes ++ s.shown)
+shortest_size_fault S f x rest late c s =
+    shortest_from S x (c.code_bytes ++ s.shown) s.rest (faulty f)
+    (c.cut ∙ (ap (λ (z : List ℕ). c.code_bytes ++ z) s.cut ∙ sym (append_assoc c.code_bytes s.shown s.rest)))
+    (inr (s.shown, record { code = c.code; code_bytes = c.code_bytes; is_code = c.is_code; cut = refl }, s.has)) late
+    (λ y before. before_second S c.code c.code_bytes s.shown y c.is_code s.step before)
+
+pub shortest_exists : (S : ℕ) (x : List ℕ) (v : Verdict) → HasVerdict S x v → ¬ (IsEarlyEnd v)
+    → (t : List ℕ) × IsShortestSettling S x t
+shortest_exists S x (accepted p) (rest, b, fits) late = (b.encoding, shortest_pair S p x rest b fits)
+shortest_exists S x (invalid_size size) (rest, h, over) late = (h.code_bytes ++ h.size_bytes, shortest_size S size x rest h over)
+shortest_exists S x (invalid_code code) h late = absurd h
+shortest_exists S x (faulty f) (inl h) late =
+    let s = shows_fault f x late h in (s.shown, shortest_code_fault S f x late s)
+shortest_exists S x (faulty f) (inr (rest, c, h)) late =
+    let s = shows_fault f rest late h in (c.code_bytes ++ s.shown, shortest_size_fault S f x rest late c s)
+shortest_exists S x unexpected_eof h late = absurd (late tt)
+
+pub shortest_unique : (S : ℕ) (x a b : List ℕ) → IsShortestSettling S x a → IsShortestSettling S x b → a ≡ b
+shortest_unique S x a b s t =
+    elim (compare_beginnings a b s.begins.0 t.begins.0 (sym s.begins.1 ∙ t.begins.1)) [
+      | inl same ↦ same
+      | inr (inl shorter) ↦ absurd (t.shortest a shorter s.settles)
+      | inr (inr shorter) ↦ absurd (s.shortest b shorter t.settles)
+    ]
+
+pub one_shortest : (S : ℕ) (x : List ℕ) (v : Verdict) → HasVerdict S x v → ¬ (IsEarlyEnd v) → ExactlyOne (IsShortestSettling S x)
+one_shortest S x v h late =
+    let t = shortest_exists S x v h late in
+    record { value = t.0; holds = t.1; only = λ other s. shortest_unique S x other t.0 s t.1 }

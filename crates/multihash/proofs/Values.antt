@@ -1,0 +1,5 @@
+pub mod KeyLemmas
+pub mod OrderLemmas
+pub mod PairLemmas
+pub mod ValueLemmas
+pub mod WindowLemmas

@@ -1,0 +1,32 @@
+-- What is known of every value, also of one that nothing has read yet: its digest fits the buffer.
+use Rattle.std.proofs.Common.{ℕ, ◌+◌, ◌≤◌, List, [], ◌∷◌, length, map, get_or, arith}
+use Rattle.std.specs.List.{All}
+use Rattle.std.proofs.lemmas.List.{length-take}
+use Rattle.std.proofs.lemmas.List.Elements.{All-map}
+use Rattle.multihash.specs.Pair.{FitsBuffer}
+use Rattle.multihash.specs.Varint.{most_marked}
+use Rattle.multihash.specs.Encoding.{IsEncoding}
+use Rattle.multihash.specs.Joined.{AreJoined}
+use Rattle.multihash.specs.Answer.{Fields, pair_of}
+use Rattle.multihash.proofs.Readings.VerdictLemmas.{encoding_exists}
+use Rattle.multihash.proofs.Varints.LengthLemmas.{encoding_length}
+use Rattle.multihash.proofs.Forms.JoinedLemmas.{AreJoined-none, AreJoined-first}
+
+pub digest_fits : {S : ℕ} (m : Fields S) → FitsBuffer S (pair_of m)
+digest_fits m = omega (arith, length-take m.size m.buffer, m.fits)
+
+-- an encoding is the code's bytes, two of the size and 255 of the digest at most
+pub encoding_within : {S : ℕ} (m : Fields S) (bytes : List ℕ) → IsEncoding (pair_of m) bytes
+    → length bytes ≤ (most_marked + 1) + 2 + 255
+encoding_within m bytes e = omega (arith, encoding_length (pair_of m) bytes e (omega (arith, digest_fits m)))
+
+pub all_fit : {S : ℕ} (items : List (Fields S)) → All (FitsBuffer S) (map pair_of items)
+all_fit {S} items = All-map (FitsBuffer S) pair_of items (λ k d within. digest_fits (get_or items k d))
+
+-- the values of a list have joined encodings
+pub have_stream : {S : ℕ} (items : List (Fields S)) → (bytes : List ℕ) × AreJoined (map pair_of items) bytes
+have_stream [] = ([], AreJoined-none)
+have_stream (m ∷ items) =
+    let first = encoding_exists (pair_of m) m.in_range (omega (arith, digest_fits m)) in
+    let later = have_stream items in
+    (_, AreJoined-first (pair_of m) (map pair_of items) first.0 later.0 first.1 later.1)

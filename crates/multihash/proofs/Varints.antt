@@ -1,0 +1,11 @@
+pub mod DigitLemmas
+pub mod LengthLemmas
+pub mod MarkedLemmas
+pub mod StopLemmas
+pub mod VarintLemmas
+pub mod VarintReadLemmas
+pub mod VarintTakingLemmas
+pub mod VarintWriteLemmas
+pub mod WordFillingLemmas
+pub mod WordFrontLemmas
+pub mod WordLemmas

@@ -1,0 +1,45 @@
+-- How long varints and encodings are.
+use Rattle.std.proofs.Common.{◌≡◌, ℕ, suc, ◌+◌, ◌^◌, ◌<◌, ◌≤◌, List, [], ◌∷◌, ◌++◌, length, ap, arith, inl, inr, length-append}
+use Rattle.std.proofs.Math.Nat.{pow-le-pow_right}
+use Rattle.std.proofs.lemmas.Bool.{cases_lt}
+use Rattle.std.proofs.lemmas.List.{length-map}
+use Rattle.multihash.specs.Pair.{Pair}
+use Rattle.multihash.specs.Varint.{most_marked, marked, IsVarint}
+use Rattle.multihash.specs.Encoding.{IsEncoding}
+use Rattle.multihash.proofs.Varints.VarintLemmas.{varint_length, last_counts, last_pos}
+
+-- a varint has a byte more than its front
+pub varint_bytes : (n : ℕ) (bytes : List ℕ) (v : IsVarint n bytes) → length bytes ≡ length v.front + 1
+varint_bytes n bytes v =
+    omega (arith, ap length v.spelled, length-append (marked v.front) (v.last ∷ []), length-map v.front (λ digit. digit + 128))
+
+pub varint_longest : (n : ℕ) (bytes : List ℕ) → IsVarint n bytes → length bytes ≤ most_marked + 1
+varint_longest n bytes v = omega (arith, varint_bytes n bytes v, (varint_length n bytes v).0)
+
+-- a number of at most so many digits
+pub varint_below : (k n : ℕ) (bytes : List ℕ) → IsVarint n bytes → n < 128 ^ suc k → length bytes ≤ suc k
+varint_below k n bytes v small =
+    elim (cases_lt k (length v.front)) [
+      | inl long ↦
+          let some : 0 < length v.front = omega arith in
+          let base : 0 < 128 = omega arith in
+          let high : 128 ^ suc k ≤ 128 ^ length v.front = pow-le-pow_right base long in
+          absurd (omega (arith, high, v.value, last_counts v.front v.last (last_pos v.front v.last v.minimal some)))
+      | inr short ↦ omega (arith, varint_bytes n bytes v)
+    ]
+
+pub encoding_bytes_count : (p : Pair) (bytes : List ℕ) (e : IsEncoding p bytes)
+    → length bytes ≡ length e.code + length e.size + length p.digest
+encoding_bytes_count p bytes e =
+    omega (arith, ap length e.spelled, length-append e.code (e.size ++ p.digest), length-append e.size p.digest)
+
+-- the longest encoding: the code's bytes, two of the size, and the digest
+pub encoding_length : (p : Pair) (bytes : List ℕ) → IsEncoding p bytes → length p.digest ≤ 255
+    → length bytes ≤ (most_marked + 1) + 2 + 255
+encoding_length p bytes e fits =
+    omega (
+      arith,
+      encoding_bytes_count p bytes e,
+      varint_longest p.code e.code e.is_code,
+      varint_below 1 (length p.digest) e.size e.is_size (omega arith),
+    )

@@ -1,0 +1,4 @@
+pub mod EncodingLemmas
+pub mod FillingLemmas
+pub mod PlacesLemmas
+pub mod WritingLemmas

@@ -1,0 +1,171 @@
+//! The binary form: the varint of the code, the varint of the digest's length, and the digest.
+ghost use Rattle.std.specs.Prelude.{◌≡◌, ◌<◌, ◌≤◌, ◌+◌, ◌-◌, ◌⊎◌, ℕ, List, length, Some, IfSome, IfOk, IfErr, OnOk, OnErr};
+ghost use Rattle.multihash.specs.Varint.{most_marked};
+ghost use Rattle.multihash.specs.Pair.{digest_limit, FitsBuffer};
+ghost use Rattle.multihash.specs.Encoding.{IsEncoding};
+ghost use Rattle.multihash.specs.Verdict.{Verdict, HasVerdict, IsEarlyEnd, HasWholeVerdict};
+ghost use Rattle.multihash.specs.Refusal.{IsInvalidSize, IsMemory, IsIo, IsReaderFault};
+ghost use Rattle.multihash.specs.Reading.{Takes, CountsReader};
+ghost use Rattle.multihash.specs.Writing.{AppendsPart, CountsWriter};
+ghost use Rattle.multihash.specs.Taking.{IsReadRefusal, TakesAtRefusal, TakesShortestSettling, TakesUnsettled};
+ghost use Rattle.multihash.specs.Answer.{pair_of, Answers};
+
+use crate::no_std_io::{self, Read, Write};
+use crate::varint::{self, word};
+use crate::{Error, Multihash};
+use std::alloc::Global;
+
+impl<const S: usize> Multihash<S> {
+    /// Reads the multihash whose encoding comes next, and takes exactly that encoding: what follows it
+    /// in `r` stays unread. In a varint it asks for one byte at a time, and it judges the size before
+    /// it asks for the digest.
+    ///
+    /// # Errors
+    ///
+    /// - [`Error::is_insufficient`] where the input ends inside or before a varint; all of it was taken;
+    /// - [`Error::is_overflow`] where a varint has more than nine bytes, and [`Error::is_not_minimal`]
+    ///   where a varint of more than one byte ends in a zero; the bytes up to the one that shows it were
+    ///   taken;
+    /// - [`Error::invalid_size`] with the digest's length, where that is more than `min(S, 255)`; both
+    ///   varints were taken, and nothing of the digest;
+    /// - [`Error::io`] with an unexpected end where the input ends inside the digest; both varints were
+    ///   taken, and how much of the digest depends on the reader's `read_exact`;
+    /// - [`Error::io`] with the reader's own error, where it failed; the bytes taken are by themselves
+    ///   an input that ends early.
+    pub fn read<R: Read>(r: &mut R) -> Result<Self, Error>
+        ensures faults { CountsReader IsReaderFault (IsReadRefusal S)
+            (R.failures r.old) (R.failures r.new) result }
+        ensures verdict { IfSome (R.rest r.old) (λ rest. R.failures r.new ≡ R.failures r.old →
+            (v : Verdict) × HasVerdict S rest v × Answers result v) }
+        ensures ok { IfOk result (λ m. (bytes : List ℕ) × IsEncoding (pair_of m) bytes
+            × Takes (R.rest r.old) bytes (R.rest r.new)) }
+        ensures fits { IfOk result (λ m. FitsBuffer S (pair_of m)) }
+        ensures err { IfErr result (λ e. TakesAtRefusal S e (R.rest r.old) (R.rest r.new)) }
+
+        // Where the verdict is no early end, exactly the shortest beginning that settles it was taken;
+        // where it is one, or the reader failed, no beginning of what was taken settles.
+        ensures settled { IfSome (R.rest r.old) (λ rest. R.failures r.new ≡ R.failures r.old →
+            (v : Verdict) → HasVerdict S rest v → ¬ (IsEarlyEnd v) →
+            TakesShortestSettling S rest (R.rest r.new)) }
+        ensures unsettled { IfSome (R.rest r.old) (λ rest.
+            (R.failures r.old < R.failures r.new)
+            ⊎ ((v : Verdict) × HasVerdict S rest v × IsEarlyEnd v) →
+            TakesUnsettled S rest (R.rest r.new)) }
+    {
+        let code = varint::read(r)?;
+        let size = Self::fitting_size(varint::read(r)?)?;
+        let mut digest = [0; S];
+        let len = usize::from(size);
+        r.read_exact(&mut digest[..len])?;
+        Ok(Multihash {
+            code,
+            digest,
+            size: len,
+        })
+    }
+
+    /// Reads the multihash whose encoding is the whole of `bytes`: the varint of the code, the varint
+    /// of the digest's length, and the digest.
+    ///
+    /// # Errors
+    ///
+    /// - [`Error::is_insufficient`] where the bytes end inside or before a varint;
+    /// - [`Error::is_overflow`] where a varint has more than nine bytes;
+    /// - [`Error::is_not_minimal`] where a varint of more than one byte ends in a zero;
+    /// - [`Error::invalid_size`] with the digest's length, where that is more than `min(S, 255)`, and
+    ///   with the number of bytes left over, where some follow the digest;
+    /// - [`Error::io`] with an unexpected end where the bytes end inside the digest.
+    pub fn from_bytes(bytes: &[u8]) -> Result<Self, Error>
+        ensures { (v : Verdict) × HasWholeVerdict S bytes.now v × Answers result v }
+    {
+        let Some((code, code_len)) = word::read_front(bytes) else {
+            return Err(word::front_fault(bytes));
+        };
+        let left = &bytes[code_len..];
+        let Some((size, size_len)) = word::read_front(left) else {
+            return Err(word::front_fault(left));
+        };
+        if size > S as u64 || size > 255 {
+            return Err(Error::from_size(size));
+        }
+        let len = size as usize;
+        let digest = &left[size_len..];
+        if digest.len() < len {
+            return Err(Error::from(no_std_io::Error::unexpected_eof()));
+        }
+        if digest.len() > len {
+            return Err(Error::from_size((digest.len() - len) as u64));
+        }
+        let mut multihash = Multihash {
+            code,
+            digest: [0; S],
+            size: len,
+        };
+        multihash.fill(digest);
+        Ok(multihash)
+    }
+
+    /// Appends the encoding to `w`: the varint of the code, the varint of the digest's length, and the
+    /// digest, each by one call of `write_all`. It answers how many bytes that was.
+    ///
+    /// # Errors
+    ///
+    /// [`Error::io`] with what the writer answered: no place left, a fault of its own, or want of memory
+    /// where it allocates. A proper beginning of the encoding was appended then.
+    #[inline(always)]
+    pub fn write<W: Write>(&self, w: &mut W) -> Result<usize, Error>
+        ensures fits { FitsBuffer S (pair_of self.now) }
+        ensures ok { IfOk result (λ n. (bytes : List ℕ) × IsEncoding (pair_of self.now) bytes
+            × (n ≡ length bytes) × W.appended w.old bytes w.new) }
+        ensures err { OnErr result ((bytes : List ℕ) × IsEncoding (pair_of self.now) bytes
+            × AppendsPart W.appended w.old bytes w.new) }
+        ensures faults { CountsWriter IsIo W.allocates
+            (W.failures w.old) (W.failures w.new) (W.full w.new) result }
+    {
+        let digest = self.digest();
+        let code = varint::write_in_range(self.code(), w)?;
+        let size = varint::write_in_range(u64::from(self.size()), w)?;
+        w.write_all(digest)?;
+        Ok(code + size + digest.len())
+    }
+
+    /// The length of the encoding in bytes, at most 266.
+    pub fn encoded_len(&self) -> usize
+        ensures encoding { (bytes : List ℕ) × IsEncoding (pair_of self.now) bytes
+            × (result ≡ length bytes) }
+        ensures short { result ≤ (most_marked + 1) + 2 + 255 }
+    {
+        let code = varint::len_in_range(self.code());
+        let size = varint::len_in_range(u64::from(self.size()));
+        code + size + usize::from(self.size())
+    }
+
+    /// The encoding. Its room is asked for once, and nothing more is asked for then.
+    ///
+    /// # Errors
+    ///
+    /// [`Error::io`] with want of memory.
+    pub fn to_bytes(&self, alloc: Global) -> Result<Vec<u8>, Error>
+        ensures ok { IfOk result (λ v. IsEncoding (pair_of self.now) v.items) }
+        ensures memory { IfErr result IsMemory }
+    {
+        let mut bytes = Vec::with_capacity(alloc, self.encoded_len())?;
+        self.write(&mut bytes)?;
+        Ok(bytes)
+    }
+
+    // The size of a digest, where the buffer holds one so long.
+    #[inline(always)]
+    fn fitting_size(size: u64) -> Result<u8, Error>
+        ensures ok { IfOk result (λ byte. byte ≡ size) }
+        ensures fits { OnOk result (size ≤ digest_limit S) }
+        ensures over { OnErr result (digest_limit S < size) }
+        ensures err { IfErr result (IsInvalidSize size) }
+    {
+        if size > S as u64 || size > 255 {
+            Err(Error::from_size(size))
+        } else {
+            Ok(size as u8)
+        }
+    }
+}

@@ -1,0 +1,191 @@
+//! The varint that begins a slice, from one word of its first bytes.
+ghost use Rattle.std.specs.Prelude.{◌≡◌, ◌<◌, ◌≤◌, ◌+◌, ℕ, List, length, take, drop, Some, IfSome, IfNone, IfOk, IfErr};
+ghost use Rattle.multihash.specs.Bytes.{IsBytes, place_value};
+ghost use Rattle.multihash.specs.Varint.{IsVarint};
+ghost use Rattle.multihash.specs.Word.{IsFrontWord, BeginsMarked, IsFoundFront, digits_low};
+ghost use Rattle.multihash.specs.Taking.{IsFrontRefusal, BeginsNoVarint, TakesVarint};
+
+use super::{FIRST_TOO_LARGE, MAX_LEN, MOST_MARKED};
+use crate::Error;
+
+// The bytes of a word.
+const WORD_LEN: usize = 16;
+
+// The bytes of half a word.
+const HALF_LEN: usize = 8;
+
+// The high bit of each byte of a half.
+const HIGH_BITS: u64 = 0x8080_8080_8080_8080;
+
+// The most bytes of a varint in the high half.
+const HIGH_LEN: usize = MAX_LEN - HALF_LEN;
+
+// A high half in which a varint has a byte that is too large is no less.
+const TOO_LARGE: u64 = (FIRST_TOO_LARGE as u64) << (8 * (MOST_MARKED - HALF_LEN));
+
+/// Reads the varint that begins the bytes, from one word: its number and how many bytes it has. It
+/// answers none where no varint begins them, and `front_fault` says why.
+#[inline(always)]
+pub(crate) fn read_front(bytes: &[u8]) -> Option<(u64, usize)>
+    ensures some { IfSome result (λ found.
+        TakesVarint found.0 (Some bytes.now) (Some (drop found.1 bytes.now))) }
+    ensures within { IfSome result (λ found. found.1 ≤ length bytes.now) }
+    ensures none { IfNone result (BeginsNoVarint bytes.now) }
+{
+    let (number, len) = find_front(bytes);
+    if len == 0 { None } else { Some((number, len)) }
+}
+
+/// Why no varint begins the bytes.
+#[cold]
+#[inline(never)]
+pub(crate) fn front_fault(bytes: &[u8]) -> Error
+    requires { BeginsNoVarint bytes.now }
+    ensures { IsFrontRefusal bytes.now result }
+{
+    let front = &bytes[..bytes.len().min(WORD_LEN)];
+    match read_word(padded_word(front), front.len()) {
+        Err(fault) => fault,
+        Ok(_) => unreachable!(),
+    }
+}
+
+// The number and the length of the varint that begins the bytes, and no length where none begins them:
+// plain numbers, which stay in registers.
+#[inline(always)]
+fn find_front(bytes: &[u8]) -> (u64, usize)
+    ensures { IsFoundFront bytes.now result.0 result.1 }
+{
+    match bytes.first_chunk::<WORD_LEN>() {
+        Some(front) => find_in(u128::from_le_bytes(*front), WORD_LEN),
+        None => find_short(bytes),
+    }
+}
+
+// As `find_front`, where fewer bytes are left than a word has.
+#[inline(never)]
+fn find_short(bytes: &[u8]) -> (u64, usize)
+    requires { length bytes.now < 16 }
+    ensures { IsFoundFront bytes.now result.0 result.1 }
+{
+    find_in(padded_word(bytes), bytes.len())
+}
+
+// The word of at most sixteen bytes, the lowest first, with zeros for those that are missing.
+#[inline(always)]
+fn padded_word(bytes: &[u8]) -> u128
+    requires { length bytes.now ≤ 16 }
+    ensures { result ≡ place_value 256 bytes.now }
+{
+    let mut front = [0; WORD_LEN];
+    front[..bytes.len()].copy_from_slice(bytes);
+    u128::from_le_bytes(front)
+}
+
+// As `find_front` of the bytes that the word holds the first of.
+#[inline(always)]
+fn find_in(word: u128, present: usize) -> (u64, usize)
+    ensures { (bytes : List ℕ) → IsBytes bytes → IsFrontWord bytes word present →
+        IsFoundFront bytes result.0 result.1 }
+{
+    // Most varints have one byte.
+    if word & 0x80 == 0 && present > 0 {
+        ((word & 0x7f) as u64, 1)
+    } else {
+        find_long(word, present)
+    }
+}
+
+#[inline(never)]
+fn find_long(word: u128, present: usize) -> (u64, usize)
+    ensures { (bytes : List ℕ) → IsBytes bytes → IsFrontWord bytes word present →
+        IsFoundFront bytes result.0 result.1 }
+{
+    match read_word(word, present) {
+        Ok(found) => found,
+        Err(_) => (0, 0),
+    }
+}
+
+// The number whose varint begins the bytes that the word holds the first of, and the varint's length.
+#[inline(always)]
+fn read_word(word: u128, present: usize) -> Result<(u64, usize), Error>
+    ensures ok { IfOk result (λ found. (bytes : List ℕ) → IsBytes bytes →
+        IsFrontWord bytes word present →
+        IsVarint found.0 (take found.1 bytes)) }
+    ensures within { IfOk result (λ found. (0 < found.1) × (found.1 ≤ present)) }
+    ensures err { IfErr result (λ e. (bytes : List ℕ) → IsBytes bytes →
+        IsFrontWord bytes word present →
+        IsFrontRefusal bytes e) }
+{
+    let low = (word & 0xffff_ffff_ffff_ffff) as u64;
+    // Set where a byte is unmarked: its highest bit.
+    let stops = !low & HIGH_BITS;
+    if stops == 0 {
+        return read_high(word, present);
+    }
+    // Nothing behind the first of them is set in both.
+    let varint = low & stops.wrapping_sub(1);
+    let marked = (stops.trailing_zeros() / 8) as usize;
+    if marked >= present {
+        return Err(Error::insufficient());
+    }
+    if varint >> (8 * marked) == 0 && marked > 0 {
+        return Err(Error::not_minimal());
+    }
+    Ok((join_low(varint), marked + 1))
+}
+
+// As `read_word`, where the bytes of the low half are marked.
+#[inline(always)]
+fn read_high(word: u128, present: usize) -> Result<(u64, usize), Error>
+    ensures ok { IfOk result (λ found. (bytes : List ℕ) → IsBytes bytes →
+        IsFrontWord bytes word present → BeginsMarked 8 bytes →
+        IsVarint found.0 (take found.1 bytes)) }
+    ensures within { IfOk result (λ found. (0 < found.1) × (found.1 ≤ present)) }
+    ensures err { IfErr result (λ e. (bytes : List ℕ) → IsBytes bytes →
+        IsFrontWord bytes word present → BeginsMarked 8 bytes →
+        IsFrontRefusal bytes e) }
+{
+    let low = (word & 0xffff_ffff_ffff_ffff) as u64;
+    let high = (word >> 64) as u64;
+    let stops = !high & HIGH_BITS;
+    let varint = high & stops.wrapping_sub(1);
+    if varint >= TOO_LARGE {
+        return Err(Error::overflow());
+    }
+    let marked = (stops.trailing_zeros() / 8) as usize;
+    if HALF_LEN + marked >= present {
+        return Err(Error::insufficient());
+    }
+    if varint >> (8 * marked) == 0 {
+        return Err(Error::not_minimal());
+    }
+    let number = join_digits::<HALF_LEN>(low) | join_digits::<HIGH_LEN>(varint) << (7 * HALF_LEN);
+    Ok((number, HALF_LEN + marked + 1))
+}
+
+// The number of the low seven bits of each byte of a low half, which mostly has few bytes of a varint.
+#[inline(always)]
+fn join_low(half: u64) -> u64
+    ensures { result ≡ digits_low 8 half }
+{
+    if half < 1 << 32 {
+        join_digits::<4>(half)
+    } else {
+        join_digits::<HALF_LEN>(half)
+    }
+}
+
+// The number of the low seven bits of each of the lowest `N` bytes.
+#[inline(always)]
+fn join_digits<const N: usize>(half: u64) -> u64
+    requires { N ≤ 8 }
+    ensures { result ≡ digits_low N half }
+{
+    let mut number = 0;
+    for i in 0..N {
+        number |= half >> i & 0x7f << (7 * i);
+    }
+    number
+}
