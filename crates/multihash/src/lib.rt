@@ -16,8 +16,6 @@ mod multihash;
 pub mod no_std_io;
 mod pins;
 mod scale;
-#[cfg(test)]
-mod tests;
 pub mod varint;
 
 pub use crate::error::Error;

@@ -1,5 +1,5 @@
 //! The longest and the shortest digests, and each beginning of a long form.
-use fakes::kinds::{is_eof, is_size};
+use fakes::refusal::{Refusal, is_refused};
 use multihash::Multihash;
 use std::test::Fail;
 
@@ -27,8 +27,18 @@ fn lengths_of_forms(rt: HostRuntime) -> Result<(), Fail> {
         assert_eq!(rt; m.scale_encode(&mut written)?, scale);
         assert_eq!(rt; written.len(), scale);
     }
-    assert!(rt; Multihash::<300>::wrap(0, &ZEROS).is_err_and(|e| is_size(&e, 256)));
-    assert!(rt; Multihash::<128>::wrap(0, &ZEROS[..129]).is_err_and(|e| is_size(&e, 129)));
+    assert!(rt;
+        is_refused(
+            &Multihash::<300>::wrap(0, &ZEROS),
+            Refusal::InvalidSize(256)
+        )
+    );
+    assert!(rt;
+        is_refused(
+            &Multihash::<128>::wrap(0, &ZEROS[..129]),
+            Refusal::InvalidSize(129)
+        )
+    );
     Ok(())
 }
 
@@ -38,20 +48,15 @@ fn beginnings_of_a_long_encoding(rt: HostRuntime) -> Result<(), Fail> {
     let bytes = m.to_bytes(rt.alloc())?;
     assert_eq!(rt; bytes.len(), 204);
     for len in 0..bytes.len() {
+        let early = if len < 4 {
+            Refusal::Insufficient
+        } else {
+            Refusal::UnexpectedEof
+        };
         let answer = Multihash::<200>::from_bytes(&bytes[..len]);
-        let is_early = answer.is_err_and(|e| if len < 4 {
-            e.is_insufficient()
-        } else {
-            is_eof(&e)
-        });
-        assert!(rt; is_early, "{len} bytes");
+        assert!(rt; is_refused(&answer, early), "{len} bytes");
         let answer = Multihash::<200>::read(&mut &bytes[..len]);
-        let is_early = answer.is_err_and(|e| if len < 4 {
-            e.is_insufficient()
-        } else {
-            is_eof(&e)
-        });
-        assert!(rt; is_early, "{len} bytes");
+        assert!(rt; is_refused(&answer, early), "{len} bytes");
     }
     assert_eq!(rt; Multihash::from_bytes(&bytes)?, m);
     assert_eq!(rt; Multihash::read(&mut bytes.as_slice())?, m);
@@ -66,7 +71,7 @@ fn beginnings_of_a_long_scale_form(rt: HostRuntime) -> Result<(), Fail> {
     assert_eq!(rt; bytes.len(), 209);
     for len in 0..bytes.len() {
         let answer = Multihash::<200>::scale_decode(&mut &bytes[..len]);
-        assert!(rt; answer.is_err_and(|e| is_eof(&e)), "{len} bytes");
+        assert!(rt; is_refused(&answer, Refusal::UnexpectedEof), "{len} bytes");
     }
     assert_eq!(rt; Multihash::scale_decode(&mut bytes.as_slice())?, m);
     Ok(())

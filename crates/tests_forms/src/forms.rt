@@ -1,5 +1,5 @@
 //! Multihashes that pass from one form to another.
-use fakes::kinds::LARGEST_CODE;
+use fakes::refusal::{LARGEST_CODE, Refusal, is_refused};
 use multihash::Multihash;
 use std::test::Fail;
 use uses::forms::{Form, form_back, forms_back};
@@ -53,10 +53,7 @@ fn a_smaller_buffer_refuses_each_form(rt: HostRuntime) -> Result<(), Fail> {
     for form in FORMS {
         assert!(rt; form_back::<6, 6>(rt.alloc(), form, &m)? == m);
         let refused = form_back::<6, 5>(rt.alloc(), form, &m);
-        assert!(rt;
-            refused.is_err_and(|e| e.invalid_size() == Some(6)),
-            "{form:?}"
-        );
+        assert!(rt; is_refused(&refused, Refusal::InvalidSize(6)), "{form:?}");
     }
     Ok(())
 }

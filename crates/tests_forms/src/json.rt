@@ -1,7 +1,7 @@
 //! Worked values of the JSON form.
 ghost use Rattle.std.specs.Prelude.{◌≤◌};
 
-use fakes::kinds::{LARGEST_CODE, is_code, is_eof, is_size};
+use fakes::refusal::{LARGEST_CODE, Refusal, is_refused};
 use multihash::{Error, Multihash};
 use serde_json::{Value, json};
 use std::alloc::{AllocError, Global};
@@ -41,7 +41,7 @@ fn full_buffers_come_back(rt: HostRuntime) -> Result<(), Fail> {
         assert_eq!(rt; Multihash::from_value(&value)?, m);
     }
     let refused = Multihash::<128>::wrap(9223372036854775808, &[200; 128]);
-    assert!(rt; refused.is_err_and(|e| is_code(&e, 9223372036854775808)));
+    assert!(rt; is_refused(&refused, Refusal::InvalidCode(9223372036854775808)));
     let longest = Multihash::<255>::wrap(LARGEST_CODE, &[7; 255])?;
     let value = longest.to_value(rt.alloc())?;
     assert_eq!(rt;
@@ -87,30 +87,35 @@ fn other_values_are_no_bytes(rt: HostRuntime) -> Result<(), Fail> {
         "[0,0,18446744073709551616]",
     ] {
         let answer = read_text::<32>(rt.alloc(), text)?;
-        assert!(rt; answer.is_err_and(|e| e.is_not_bytes()), "{text}");
+        assert!(rt; is_refused(&answer, Refusal::NotBytes), "{text}");
         let answer = read_text::<2>(rt.alloc(), text)?;
-        assert!(rt; answer.is_err_and(|e| e.is_not_bytes()), "{text}");
+        assert!(rt; is_refused(&answer, Refusal::NotBytes), "{text}");
     }
     Ok(())
 }
 
+// Arrays of bytes, and how a buffer of two bytes refuses them.
+const REFUSED: [(&str, Refusal); 7] = [
+    ("[0]", Refusal::Insufficient),
+    ("[0,3]", Refusal::InvalidSize(3)),
+    ("[0,2,9]", Refusal::UnexpectedEof),
+    ("[128,0]", Refusal::NotMinimal),
+    ("[128,128,128,128,128,128,128,128,128]", Refusal::Overflow),
+    ("[128,128,128,128,128,128,128,128,128,2]", Refusal::Overflow),
+    (
+        "[255,255,255,255,255,255,255,255,255,1,0]",
+        Refusal::Overflow,
+    ),
+];
+
 #[test]
 fn arrays_of_bytes_are_read(rt: HostRuntime) -> Result<(), Fail> {
     let alloc = rt.alloc();
-    assert!(rt; read_text::<32>(alloc, "[]")?.is_err_and(|e| e.is_insufficient()));
-    assert!(rt; read_text::<2>(alloc, "[0]")?.is_err_and(|e| e.is_insufficient()));
-    assert!(rt; read_text::<32>(alloc, "[0,0,7]")?.is_err_and(|e| is_size(&e, 1)));
-    assert!(rt; read_text::<2>(alloc, "[0,3]")?.is_err_and(|e| is_size(&e, 3)));
-    assert!(rt; read_text::<2>(alloc, "[0,2,9]")?.is_err_and(|e| is_eof(&e)));
-    assert!(rt; read_text::<2>(alloc, "[128,0]")?.is_err_and(|e| e.is_not_minimal()));
-    for overflow in [
-        "[128,128,128,128,128,128,128,128,128]",
-        "[128,128,128,128,128,128,128,128,128,2]",
-        "[255,255,255,255,255,255,255,255,255,1,0]",
-    ] {
-        let answer = read_text::<2>(alloc, overflow)?;
-        assert!(rt; answer.is_err_and(|e| e.is_overflow()), "{overflow}");
+    for (text, why) in REFUSED {
+        assert!(rt; is_refused(&read_text::<2>(alloc, text)?, why), "{text}");
     }
+    assert!(rt; is_refused(&read_text::<32>(alloc, "[]")?, Refusal::Insufficient));
+    assert!(rt; is_refused(&read_text::<32>(alloc, "[0,0,7]")?, Refusal::InvalidSize(1)));
     let m = read_text::<2>(alloc, "[ 128, 1, 2, 255, 0 ]")??;
     assert_eq!(rt; m, Multihash::wrap(128, &[255, 0])?);
     Ok(())
@@ -147,7 +152,7 @@ fn after_zero(alloc: Global, value: Value) -> Result<Value, AllocError> {
 fn is_no_bytes<const S: usize>(value: &Value) -> bool
     requires { S ≤ 255 }
 {
-    Multihash::<S>::from_value(value).is_err_and(|e| e.is_not_bytes())
+    is_refused(&Multihash::<S>::from_value(value), Refusal::NotBytes)
 }
 
 #[test]
@@ -161,11 +166,18 @@ fn only_small_whole_numbers_are_bytes(rt: HostRuntime) -> Result<(), Fail> {
     }
     for n in 0u16..256 {
         let alone = Multihash::<255>::from_value(&Value::from(n));
-        assert!(rt; alone.is_err_and(|e| e.is_not_bytes()));
+        assert!(rt; is_refused(&alone, Refusal::NotBytes));
         let second = after_zero(rt.alloc(), Value::from(n))?;
         match Multihash::<255>::from_value(&second) {
             Ok(m) => assert!(rt; n == 0 && m == Multihash::default()),
-            Err(e) => assert!(rt; !e.is_not_bytes() && (is_eof(&e) == (n < 128))),
+            Err(e) => {
+                let why = if n < 128 {
+                    Refusal::UnexpectedEof
+                } else {
+                    Refusal::Insufficient
+                };
+                assert_eq!(rt; Refusal::of(&e), Some(why), "{n}");
+            }
         }
     }
     Ok(())
@@ -180,6 +192,6 @@ fn a_long_array_is_counted(rt: HostRuntime) -> Result<(), Fail> {
         members.push(Value::from(7u8))?;
     }
     let answer = Multihash::<2>::from_value(&Value::Array(members));
-    assert!(rt; answer.is_err_and(|e| is_size(&e, 100000)));
+    assert!(rt; is_refused(&answer, Refusal::InvalidSize(100000)));
     Ok(())
 }

@@ -6,6 +6,8 @@ mod boundaries;
 #[cfg(test)]
 mod forms;
 #[cfg(test)]
+mod head;
+#[cfg(test)]
 mod json;
 #[cfg(test)]
 mod readme;

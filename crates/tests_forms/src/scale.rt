@@ -1,8 +1,9 @@
 //! Worked values of the SCALE form.
 ghost use Rattle.std.specs.Prelude.{◌<◌, ◌^◌};
 
-use fakes::kinds::{LARGEST_CODE, is_code, is_eof, is_size};
+use fakes::expect::expect_bytes;
 use fakes::readers::{Cuts, Silent};
+use fakes::refusal::{LARGEST_CODE, Refusal, is_refused};
 use multihash::{Error, Multihash};
 use std::alloc::Global;
 use std::process::Abort;
@@ -20,19 +21,19 @@ fn a_text_in_two_buffers(rt: HostRuntime) -> Result<(), Fail> {
     let mut bytes = Vec::new(rt.alloc());
     assert_eq!(rt; small.scale_encode(&mut bytes)?, 20);
     assert_eq!(rt; large.scale_encode(&mut bytes)?, 20);
-    assert_eq!(rt; &bytes[..20], HELLO.as_slice());
-    assert_eq!(rt; &bytes[20..], HELLO.as_slice());
+    expect_bytes(&rt, &bytes[..20], &HELLO);
+    expect_bytes(&rt, &bytes[20..], &HELLO);
     let mut alone = Vec::new(rt.alloc());
     assert_eq!(rt; large.scale_encode(&mut alone)?, 20);
-    assert_eq!(rt; alone.as_slice(), HELLO.as_slice());
+    expect_bytes(&rt, &alone, &HELLO);
     let mut left = bytes.as_slice();
     assert_eq!(rt; Multihash::scale_decode(&mut left)?, small);
     assert_eq!(rt; Multihash::scale_decode(&mut left)?, large);
     assert!(rt; left.is_empty());
     let mut left = HELLO.as_slice();
     let refused = Multihash::<2>::scale_decode(&mut left);
-    assert!(rt; refused.is_err_and(|e| is_size(&e, 11)));
-    assert_eq!(rt; left, b"hello world".as_slice());
+    assert!(rt; is_refused(&refused, Refusal::InvalidSize(11)));
+    expect_bytes(&rt, left, b"hello world");
     Ok(())
 }
 
@@ -48,7 +49,7 @@ fn expect_written<const S: usize, R: Abort>(
     let m = Multihash::<S>::wrap(code, digest)?;
     let mut bytes = Vec::new(alloc);
     assert_eq!(rt; m.scale_encode(&mut bytes)?, wanted.len());
-    assert_eq!(rt; bytes.as_slice(), wanted);
+    expect_bytes(rt, &bytes, wanted);
     let (back, is_left) = scale_back::<S, 255>(alloc, &m, b"more")?;
     assert!(rt; is_left && back.same_as(&m));
     Ok(())
@@ -74,77 +75,71 @@ fn pairs_are_written(rt: HostRuntime) -> Result<(), Fail> {
     expect_written::<32, _>(&rt, rt.alloc(), 0, b"hello world", &HELLO)
 }
 
-/// What decoding answers.
-#[derive(Clone, Copy, Debug)]
-enum Want {
-    Pair(u64, &'static [u8]),
-    InvalidSize(u64),
-    InvalidCode(u64),
-    UnexpectedEof,
-}
+/// What decoding answers: a pair, or a refusal.
+type Want = Result<(u64, &'static [u8]), Refusal>;
 
 /// An input, what decoding answers to it, and how many bytes of it are left, where that is said.
 type Row = (&'static [u8], Want, Option<usize>);
 
 const UP_TO_FOUR: [Row; 15] = [
-    (&[], Want::UnexpectedEof, None),
-    (&[0; 8], Want::UnexpectedEof, None),
+    (&[], Err(Refusal::UnexpectedEof), None),
+    (&[0; 8], Err(Refusal::UnexpectedEof), None),
     (
         &[0, 0, 0, 0, 0, 0, 0, 0, 3, 0xaa, 0xbb],
-        Want::UnexpectedEof,
+        Err(Refusal::UnexpectedEof),
         None,
     ),
     (
         &[0, 0, 0, 0, 0, 0, 0, 0, 5, 0xaa, 0xbb],
-        Want::InvalidSize(5),
+        Err(Refusal::InvalidSize(5)),
         Some(2),
     ),
     (
         &[0, 0, 0, 0, 0, 0, 0, 0, 255],
-        Want::InvalidSize(255),
+        Err(Refusal::InvalidSize(255)),
         Some(0),
     ),
     (
         &[18, 0, 0, 0, 0, 0, 0, 0, 1, 0xaa, 0xbb],
-        Want::Pair(18, &[0xaa]),
+        Ok((18, &[0xaa])),
         Some(1),
     ),
     (
         &[8, 7, 6, 5, 4, 3, 2, 1, 1, 0xaa],
-        Want::Pair(72623859790382856, &[0xaa]),
+        Ok((72623859790382856, &[0xaa])),
         Some(0),
     ),
     // The largest code, and larger ones: these are refused before the size is taken.
     (
         &[255, 255, 255, 255, 255, 255, 255, 127],
-        Want::UnexpectedEof,
+        Err(Refusal::UnexpectedEof),
         None,
     ),
     (
         &[255, 255, 255, 255, 255, 255, 255, 127, 0, 9],
-        Want::Pair(LARGEST_CODE, &[]),
+        Ok((LARGEST_CODE, &[])),
         Some(1),
     ),
     (
         &[255, 255, 255, 255, 255, 255, 255, 127, 5],
-        Want::InvalidSize(5),
+        Err(Refusal::InvalidSize(5)),
         Some(0),
     ),
-    (&[255; 7], Want::UnexpectedEof, None),
-    (&[255; 8], Want::InvalidCode(u64::MAX), Some(0)),
+    (&[255; 7], Err(Refusal::UnexpectedEof), None),
+    (&[255; 8], Err(Refusal::InvalidCode(u64::MAX)), Some(0)),
     (
         &[255, 255, 255, 255, 255, 255, 255, 255, 0],
-        Want::InvalidCode(u64::MAX),
+        Err(Refusal::InvalidCode(u64::MAX)),
         Some(1),
     ),
     (
         &[255, 255, 255, 255, 255, 255, 255, 255, 5, 0xaa],
-        Want::InvalidCode(u64::MAX),
+        Err(Refusal::InvalidCode(u64::MAX)),
         Some(2),
     ),
     (
         &[0, 0, 0, 0, 0, 0, 0, 128, 0, 0],
-        Want::InvalidCode(9223372036854775808),
+        Err(Refusal::InvalidCode(9223372036854775808)),
         Some(2),
     ),
 ];
@@ -152,10 +147,8 @@ const UP_TO_FOUR: [Row; 15] = [
 // Whether the answer is the one that is wanted.
 fn is_wanted<const S: usize>(want: Want, answer: &Result<Multihash<S>, Error>) -> bool {
     match (want, answer) {
-        (Want::Pair(code, digest), Ok(m)) => m.code() == code && m.digest() == digest,
-        (Want::InvalidSize(size), Err(e)) => is_size(e, size),
-        (Want::InvalidCode(code), Err(e)) => is_code(e, code),
-        (Want::UnexpectedEof, Err(e)) => is_eof(e),
+        (Ok((code, digest)), Ok(m)) => m.code() == code && m.digest() == digest,
+        (Err(why), _) => is_refused(answer, why),
         _ => false,
     }
 }
@@ -190,31 +183,22 @@ fn inputs_are_read(rt: HostRuntime) {
     expect_rows::<0>(
         &rt,
         &[
-            (&[0; 9], Want::Pair(0, &[]), Some(0)),
+            (&[0; 9], Ok((0, &[])), Some(0)),
             (
                 &[0, 0, 0, 0, 0, 0, 0, 0, 1, 7],
-                Want::InvalidSize(1),
+                Err(Refusal::InvalidSize(1)),
                 Some(1),
             ),
         ],
     );
     expect_rows::<300>(
         &rt,
-        &[(&[0, 0, 0, 0, 0, 0, 0, 0, 255, 7], Want::UnexpectedEof, None)],
+        &[(
+            &[0, 0, 0, 0, 0, 0, 0, 0, 255, 7],
+            Err(Refusal::UnexpectedEof),
+            None,
+        )],
     );
-}
-
-#[test]
-fn a_large_code_is_told(rt: HostRuntime) -> Result<(), Fail> {
-    assert!(rt; Multihash::<4>::wrap(u64::MAX, &[]).is_err_and(|e| is_code(&e, u64::MAX)));
-    match Multihash::<4>::scale_decode(&mut [255; 9].as_slice()) {
-        Ok(_) => assert!(rt; false),
-        Err(e) => assert_eq!(rt;
-            format!(in rt.alloc(); "{e}")?.as_str(),
-            "Invalid multihash code 18446744073709551615."
-        ),
-    }
-    Ok(())
 }
 
 #[test]
@@ -222,9 +206,9 @@ fn slices_that_fit_and_that_do_not(rt: HostRuntime) -> Result<(), Fail> {
     let m = Multihash::<4>::wrap(300, b"AB")?;
     let mut places = [7u8; 12];
     assert_eq!(rt; fills_scale(&m, &mut places), (true, 1));
-    assert_eq!(rt; places, [44, 1, 0, 0, 0, 0, 0, 0, 2, 65, 66, 7]);
+    expect_bytes(&rt, &places, &[44, 1, 0, 0, 0, 0, 0, 0, 2, 65, 66, 7]);
     let mut places = [7u8; 10];
     assert_eq!(rt; fills_scale(&m, &mut places), (false, 0));
-    assert_eq!(rt; places, [44, 1, 0, 0, 0, 0, 0, 0, 2, 65]);
+    expect_bytes(&rt, &places, &[44, 1, 0, 0, 0, 0, 0, 0, 2, 65]);
     Ok(())
 }

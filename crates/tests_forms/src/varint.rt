@@ -1,7 +1,8 @@
 //! Varints, both ways.
-use fakes::kinds::is_code;
+use fakes::expect::expect_bytes;
 use fakes::readers::{Counts, Cuts};
-use multihash::Multihash;
+use fakes::refusal::{Refusal, is_refused};
+use multihash::{Multihash, varint};
 use std::alloc::Global;
 use std::process::Abort;
 use std::test::Fail;
@@ -47,7 +48,7 @@ fn codes_both_ways(rt: HostRuntime) -> Result<(), Fail> {
         let mut bytes = code.to_vec(rt.alloc())?;
         bytes.push(0)?;
         let m = Multihash::<4>::wrap(value, &[])?;
-        assert_eq!(rt; m.to_bytes(rt.alloc())?.as_slice(), bytes.as_slice());
+        expect_bytes(&rt, &m.to_bytes(rt.alloc())?, &bytes);
         assert_eq!(rt; m.encoded_len(), bytes.len());
         let read = Multihash::<4>::from_bytes(&bytes)?;
         assert_eq!(rt; read.code(), value);
@@ -63,18 +64,83 @@ fn codes_both_ways(rt: HostRuntime) -> Result<(), Fail> {
 }
 
 #[test]
+fn varints_both_ways(rt: HostRuntime) -> Result<(), Fail> {
+    for (value, bytes) in VARINTS {
+        let mut left = bytes;
+        assert_eq!(rt; varint::read(&mut left)?, value);
+        assert!(rt; left.is_empty(), "at {value}");
+        let mut followed = bytes.to_vec(rt.alloc())?;
+        followed.push(7)?;
+        assert_eq!(rt; varint::read_front(&followed)?, (value, bytes.len()));
+        assert_eq!(rt; varint::len(value)?, bytes.len());
+        let mut written = Vec::new(rt.alloc());
+        assert_eq!(rt; varint::write(value, &mut written)?, bytes.len());
+        expect_bytes(&rt, &written, bytes);
+    }
+    Ok(())
+}
+
+// What 2^63 and 2^64 - 1 would be as ten bytes, and nine marked bytes before a zero or another.
+const TOO_LONG: [[u8; 10]; 4] = [
+    [0x80, 0x80, 0x80, 0x80, 0x80, 0x80, 0x80, 0x80, 0x80, 0x01],
+    [0xff, 0xff, 0xff, 0xff, 0xff, 0xff, 0xff, 0xff, 0xff, 0x01],
+    [0x80, 0x80, 0x80, 0x80, 0x80, 0x80, 0x80, 0x80, 0x80, 0x00],
+    [0x80, 0x80, 0x80, 0x80, 0x80, 0x80, 0x80, 0x80, 0x80, 0x80],
+];
+
+#[test]
+fn ninth_marked_byte_overflows(rt: HostRuntime) {
+    for bytes in TOO_LONG {
+        let mut left: &[u8] = &bytes;
+        let read = varint::read(&mut left);
+        assert!(rt; is_refused(&read, Refusal::Overflow), "{bytes:?}");
+        expect_bytes(&rt, left, &bytes[9..]);
+        let front = varint::read_front(&bytes);
+        assert!(rt; is_refused(&front, Refusal::Overflow), "{bytes:?}");
+        let whole = Multihash::<4>::from_bytes(&bytes);
+        assert!(rt; is_refused(&whole, Refusal::Overflow), "{bytes:?}");
+        let nine = Multihash::<4>::from_bytes(&bytes[..9]);
+        assert!(rt; is_refused(&nine, Refusal::Overflow), "{bytes:?}");
+        let eight = Multihash::<4>::from_bytes(&bytes[..8]);
+        assert!(rt; is_refused(&eight, Refusal::Insufficient), "{bytes:?}");
+    }
+}
+
+#[test]
+fn largest_number_has_nine_bytes(rt: HostRuntime) -> Result<(), Fail> {
+    assert_eq!(rt; varint::MAX, 9223372036854775807);
+    assert_eq!(rt; varint::len(varint::MAX)?, 9);
+    assert_eq!(rt; varint::len(72057594037927935)?, 8);
+    Ok(())
+}
+
+#[test]
+fn larger_numbers_have_no_varint(rt: HostRuntime) {
+    for number in [varint::MAX + 1, u64::MAX] {
+        let why = Refusal::InvalidCode(number);
+        let mut written = Vec::new(rt.alloc());
+        assert!(rt; is_refused(&varint::write(number, &mut written), why));
+        assert!(rt; written.is_empty());
+        assert!(rt; is_refused(&varint::len(number), why));
+    }
+}
+
+#[test]
 fn larger_codes_have_no_varint(rt: HostRuntime) -> Result<(), Fail> {
     for (value, code) in TOO_LARGE {
         let refused = Multihash::<4>::wrap(value, &[]);
-        assert!(rt; refused.is_err_and(|e| is_code(&e, value)), "at {value}");
+        assert!(rt;
+            is_refused(&refused, Refusal::InvalidCode(value)),
+            "at {value}"
+        );
         let mut bytes = code.to_vec(rt.alloc())?;
         bytes.push(0)?;
         let whole = Multihash::<4>::from_bytes(&bytes);
-        assert!(rt; whole.is_err_and(|e| e.is_overflow()), "at {value}");
+        assert!(rt; is_refused(&whole, Refusal::Overflow), "at {value}");
         let mut reader = Cuts::new(&bytes, 1);
         let read = Multihash::<4>::read(&mut reader);
-        assert!(rt; read.is_err_and(|e| e.is_overflow()), "at {value}");
-        assert_eq!(rt; reader.left, [1, 0].as_slice());
+        assert!(rt; is_refused(&read, Refusal::Overflow), "at {value}");
+        expect_bytes(&rt, reader.left, &[1, 0]);
     }
     Ok(())
 }
@@ -132,7 +198,7 @@ fn a_varint_asks_byte_by_byte(rt: HostRuntime) {
     let mut reader = Counts::new(&[172, 2, 2, 65, 66, 9]);
     assert!(rt; Multihash::<4>::read(&mut reader).is_ok());
     assert_eq!(rt; (reader.single, reader.others, reader.whole), (3, 0, 1));
-    assert_eq!(rt; reader.left, [9].as_slice());
+    expect_bytes(&rt, reader.left, &[9]);
     // A size that is refused asks for no digest.
     let mut reader = Counts::new(&[0, 5, 1, 2, 3, 4, 5]);
     assert!(rt; Multihash::<4>::read(&mut reader).is_err());

@@ -1,23 +1,18 @@
 //! What reading answers to each kind of input, and which bytes it takes.
 ghost use Rattle.std.specs.Prelude.{◌<◌, ◌^◌};
 
+use fakes::expect::expect_bytes;
 use fakes::readers::{Cuts, Silent};
+use fakes::refusal::Refusal::{Insufficient, InvalidSize, NotMinimal, Overflow, UnexpectedEof};
+use fakes::refusal::{Refusal, is_refused};
 use multihash::{Error, Multihash};
 use std::alloc::Global;
 use std::process::Abort;
 use std::test::Fail;
 use uses::bytes::bytes_back;
 
-/// The answer that is wanted.
-#[derive(Clone, Copy, Debug)]
-enum Want {
-    Pair(u64, &'static [u8]),
-    InvalidSize(u64),
-    Insufficient,
-    Overflow,
-    NotMinimal,
-    UnexpectedEof,
-}
+/// The answer that is wanted: a pair, or a refusal.
+type Want = Result<(u64, &'static [u8]), Refusal>;
 
 /// The bytes that are to be taken.
 #[derive(Clone, Copy, Debug)]
@@ -30,177 +25,190 @@ enum Taken {
     Varints(usize),
 }
 
+use Taken::{All, Settled, Varints};
+
 /// An input, what `read` answers to it and takes of it, and what `from_bytes` answers.
 type Row = (&'static [u8], Want, Taken, Want);
 
-const UP_TO_FOUR: [Row; 22] = [
-    (&[], Want::Insufficient, Taken::All, Want::Insufficient),
-    (&[0x80], Want::Insufficient, Taken::All, Want::Insufficient),
-    (
-        &[0x80, 0],
-        Want::NotMinimal,
-        Taken::Settled(2),
-        Want::NotMinimal,
-    ),
-    (&[0], Want::Insufficient, Taken::All, Want::Insufficient),
-    (
-        &[0, 0],
-        Want::Pair(0, &[]),
-        Taken::Settled(2),
-        Want::Pair(0, &[]),
-    ),
-    (
-        &[0, 0x85],
-        Want::Insufficient,
-        Taken::All,
-        Want::Insufficient,
-    ),
+const UP_TO_FOUR: [Row; 28] = [
+    (&[], Err(Insufficient), All, Err(Insufficient)),
+    (&[0x80], Err(Insufficient), All, Err(Insufficient)),
+    (&[0x80, 0], Err(NotMinimal), Settled(2), Err(NotMinimal)),
+    (&[0], Err(Insufficient), All, Err(Insufficient)),
+    (&[0, 0], Ok((0, &[])), Settled(2), Ok((0, &[]))),
+    (&[0, 0x85], Err(Insufficient), All, Err(Insufficient)),
     (
         &[0, 5],
-        Want::InvalidSize(5),
-        Taken::Settled(2),
-        Want::InvalidSize(5),
+        Err(InvalidSize(5)),
+        Settled(2),
+        Err(InvalidSize(5)),
     ),
     (
         &[0, 0x85, 1],
-        Want::InvalidSize(133),
-        Taken::Settled(3),
-        Want::InvalidSize(133),
+        Err(InvalidSize(133)),
+        Settled(3),
+        Err(InvalidSize(133)),
     ),
-    (
-        &[0, 0x85, 0],
-        Want::NotMinimal,
-        Taken::Settled(3),
-        Want::NotMinimal,
-    ),
+    (&[0, 0x85, 0], Err(NotMinimal), Settled(3), Err(NotMinimal)),
     (
         &[0, 4, 1, 2, 3],
-        Want::UnexpectedEof,
-        Taken::Varints(2),
-        Want::UnexpectedEof,
+        Err(UnexpectedEof),
+        Varints(2),
+        Err(UnexpectedEof),
     ),
     (
         &[0, 4, 1, 2, 3, 4],
-        Want::Pair(0, &[1, 2, 3, 4]),
-        Taken::Settled(6),
-        Want::Pair(0, &[1, 2, 3, 4]),
+        Ok((0, &[1, 2, 3, 4])),
+        Settled(6),
+        Ok((0, &[1, 2, 3, 4])),
     ),
     (
         &[0, 4, 1, 2, 3, 4, 9],
-        Want::Pair(0, &[1, 2, 3, 4]),
-        Taken::Settled(6),
-        Want::InvalidSize(1),
+        Ok((0, &[1, 2, 3, 4])),
+        Settled(6),
+        Err(InvalidSize(1)),
     ),
-    (
-        &[0x80; 8],
-        Want::Insufficient,
-        Taken::All,
-        Want::Insufficient,
-    ),
+    (&[0x80; 8], Err(Insufficient), All, Err(Insufficient)),
     (
         &[0x80, 0x80, 0x80, 0x80, 0x80, 0x80, 0x80, 0x80, 0],
-        Want::NotMinimal,
-        Taken::Settled(9),
-        Want::NotMinimal,
+        Err(NotMinimal),
+        Settled(9),
+        Err(NotMinimal),
     ),
     (
         &[0x80, 0x80, 0x80, 0x80, 0x80, 0x80, 0x80, 0x80, 1],
-        Want::Insufficient,
-        Taken::All,
-        Want::Insufficient,
+        Err(Insufficient),
+        All,
+        Err(Insufficient),
     ),
-    (
-        &[0x80; 9],
-        Want::Overflow,
-        Taken::Settled(9),
-        Want::Overflow,
-    ),
+    (&[0x80; 9], Err(Overflow), Settled(9), Err(Overflow)),
     (
         &[0x80, 0x80, 0x80, 0x80, 0x80, 0x80, 0x80, 0x80, 0x80, 0],
-        Want::Overflow,
-        Taken::Settled(9),
-        Want::Overflow,
+        Err(Overflow),
+        Settled(9),
+        Err(Overflow),
     ),
     (
         &[0x80, 0x80, 0x80, 0x80, 0x80, 0x80, 0x80, 0x80, 0x80, 2],
-        Want::Overflow,
-        Taken::Settled(9),
-        Want::Overflow,
+        Err(Overflow),
+        Settled(9),
+        Err(Overflow),
     ),
     (
         &[0x80, 0x80, 0x80, 0x80, 0x80, 0x80, 0x80, 0x80, 0x80, 0x81],
-        Want::Overflow,
-        Taken::Settled(9),
-        Want::Overflow,
+        Err(Overflow),
+        Settled(9),
+        Err(Overflow),
     ),
     (
         &[0x80, 0x80, 0x80, 0x80, 0x80, 0x80, 0x80, 0x80, 0x80, 1],
-        Want::Overflow,
-        Taken::Settled(9),
-        Want::Overflow,
+        Err(Overflow),
+        Settled(9),
+        Err(Overflow),
     ),
     (
         &[0, 0xff, 0xff, 0xff, 0xff, 0xff, 0xff, 0xff, 0xff, 0xff, 1],
-        Want::Overflow,
-        Taken::Settled(10),
-        Want::Overflow,
+        Err(Overflow),
+        Settled(10),
+        Err(Overflow),
     ),
     (
         &[0, 0xff, 0xff, 0xff, 0xff, 0xff, 0xff, 0xff, 0xff, 0x7f],
-        Want::InvalidSize(9223372036854775807),
-        Taken::Settled(10),
-        Want::InvalidSize(9223372036854775807),
+        Err(InvalidSize(9223372036854775807)),
+        Settled(10),
+        Err(InvalidSize(9223372036854775807)),
+    ),
+    // nine bytes of a code
+    (
+        &[0x80, 0x80, 0x80, 0x80, 0x80, 0x80, 0x80, 0x80, 0, 0],
+        Err(NotMinimal),
+        Settled(9),
+        Err(NotMinimal),
+    ),
+    (
+        &[0x80, 0x80, 0x80, 0x80, 0x80, 0x80, 0x80, 0x80, 1, 0],
+        Ok((72057594037927936, &[])),
+        Settled(10),
+        Ok((72057594037927936, &[])),
+    ),
+    // ten bytes of a code overflow
+    (
+        &[0xff, 0xff, 0xff, 0xff, 0xff, 0xff, 0xff, 0xff, 0xff, 2, 0],
+        Err(Overflow),
+        Settled(9),
+        Err(Overflow),
+    ),
+    (
+        &[0x80, 0x80, 0x80, 0x80, 0x80, 0x80, 0x80, 0x80, 0x80, 0, 0],
+        Err(Overflow),
+        Settled(9),
+        Err(Overflow),
+    ),
+    (&[0x80; 10], Err(Overflow), Settled(9), Err(Overflow)),
+    (
+        &[0x80, 0x80, 0x80, 0x80, 0x80, 0x80, 0x80, 0x80, 0x80, 1, 0],
+        Err(Overflow),
+        Settled(9),
+        Err(Overflow),
     ),
 ];
 
-const EMPTY_ONLY: [Row; 2] = [
-    (
-        &[0, 0x80],
-        Want::Insufficient,
-        Taken::All,
-        Want::Insufficient,
-    ),
+const EMPTY_ONLY: [Row; 3] = [
+    // a buffer of no places
+    (&[0, 0], Ok((0, &[])), Settled(2), Ok((0, &[]))),
+    (&[0, 0x80], Err(Insufficient), All, Err(Insufficient)),
     (
         &[0, 1],
-        Want::InvalidSize(1),
-        Taken::Settled(2),
-        Want::InvalidSize(1),
+        Err(InvalidSize(1)),
+        Settled(2),
+        Err(InvalidSize(1)),
     ),
 ];
+
+const UP_TO_TWO: [Row; 4] = [
+    // too few bytes
+    (&[], Err(Insufficient), All, Err(Insufficient)),
+    (&[0], Err(Insufficient), All, Err(Insufficient)),
+    // bytes left over are counted
+    (&[0, 0, 7], Ok((0, &[])), Settled(2), Err(InvalidSize(1))),
+    // a size is refused before the digest
+    (
+        &[0, 3, 9, 9, 9],
+        Err(InvalidSize(3)),
+        Settled(2),
+        Err(InvalidSize(3)),
+    ),
+];
+
+// A padded code is refused.
+const UP_TO_32: [Row; 1] = [(
+    &[241, 0, 0, 0, 0, 0, 128, 132, 132, 132, 58],
+    Err(NotMinimal),
+    Settled(2),
+    Err(NotMinimal),
+)];
 
 const UP_TO_255: [Row; 2] = [
     (
         &[0, 0xff, 1],
-        Want::UnexpectedEof,
-        Taken::Varints(3),
-        Want::UnexpectedEof,
+        Err(UnexpectedEof),
+        Varints(3),
+        Err(UnexpectedEof),
     ),
     (
         &[0, 0x80, 2],
-        Want::InvalidSize(256),
-        Taken::Settled(3),
-        Want::InvalidSize(256),
+        Err(InvalidSize(256)),
+        Settled(3),
+        Err(InvalidSize(256)),
     ),
 ];
 
-// Whether the error is the refusal that is wanted.
-fn is_refusal(want: Want, e: &Error) -> bool {
-    match want {
-        Want::Pair(_, _) => false,
-        Want::InvalidSize(size) => e.invalid_size() == Some(size),
-        Want::Insufficient => e.is_insufficient(),
-        Want::Overflow => e.is_overflow(),
-        Want::NotMinimal => e.is_not_minimal(),
-        Want::UnexpectedEof => e.io().is_some_and(|e| e.is_unexpected_eof()),
-    }
-}
-
 // Whether the answer is the one that is wanted.
 fn is_wanted<const S: usize>(want: Want, answer: &Result<Multihash<S>, Error>) -> bool {
-    match answer {
-        Ok(m) =>
-            matches!(want, Want::Pair(code, digest) if m.code() == code && m.digest() == digest),
-        Err(e) => is_refusal(want, e),
+    match (want, answer) {
+        (Ok((code, digest)), Ok(m)) => m.code() == code && m.digest() == digest,
+        (Err(why), _) => is_refused(answer, why),
+        _ => false,
     }
 }
 
@@ -230,6 +238,8 @@ fn expect_whole<const S: usize>(rt: &impl Abort, rows: &[Row])
 fn verdicts_of_the_whole(rt: HostRuntime) {
     expect_whole::<4>(&rt, &UP_TO_FOUR);
     expect_whole::<0>(&rt, &EMPTY_ONLY);
+    expect_whole::<2>(&rt, &UP_TO_TWO);
+    expect_whole::<32>(&rt, &UP_TO_32);
     expect_whole::<300>(&rt, &UP_TO_255);
 }
 
@@ -253,6 +263,8 @@ fn expect_over_slices<const S: usize>(rt: &impl Abort, rows: &[Row])
 fn verdicts_over_slices(rt: HostRuntime) {
     expect_over_slices::<4>(&rt, &UP_TO_FOUR);
     expect_over_slices::<0>(&rt, &EMPTY_ONLY);
+    expect_over_slices::<2>(&rt, &UP_TO_TWO);
+    expect_over_slices::<32>(&rt, &UP_TO_32);
     expect_over_slices::<300>(&rt, &UP_TO_255);
 }
 
@@ -273,6 +285,8 @@ fn expect_over_cuts<const S: usize>(rt: &impl Abort, rows: &[Row])
 fn verdicts_over_cuts(rt: HostRuntime) {
     expect_over_cuts::<4>(&rt, &UP_TO_FOUR);
     expect_over_cuts::<0>(&rt, &EMPTY_ONLY);
+    expect_over_cuts::<2>(&rt, &UP_TO_TWO);
+    expect_over_cuts::<32>(&rt, &UP_TO_32);
     expect_over_cuts::<300>(&rt, &UP_TO_255);
 }
 
@@ -291,13 +305,13 @@ fn expect_settled<const S: usize>(
         let mut left = bytes.as_slice();
         let answer = Multihash::<S>::read(&mut left);
         assert!(rt; is_wanted(want, &answer), "{answer:?} for {bytes:?}");
-        assert_eq!(rt; left, more);
+        expect_bytes(rt, left, more);
     }
     let shorter = front.split_last().map_or(front, |(_, shorter)| shorter);
     let mut left = shorter;
     let answer = Multihash::<S>::read(&mut left);
-    let is_early = is_wanted(Want::Insufficient, &answer)
-        || is_wanted(Want::UnexpectedEof, &answer);
+    let is_early = is_wanted(Err(Refusal::Insufficient), &answer)
+        || is_wanted(Err(Refusal::UnexpectedEof), &answer);
     assert!(rt; is_early, "{answer:?} for {shorter:?}");
     Ok(())
 }
@@ -322,17 +336,19 @@ fn expect_all_settled<const S: usize>(
 fn settled_after(rt: HostRuntime) -> Result<(), Fail> {
     expect_all_settled::<4>(&rt, rt.alloc(), &UP_TO_FOUR)?;
     expect_all_settled::<0>(&rt, rt.alloc(), &EMPTY_ONLY)?;
+    expect_all_settled::<2>(&rt, rt.alloc(), &UP_TO_TWO)?;
+    expect_all_settled::<32>(&rt, rt.alloc(), &UP_TO_32)?;
     expect_all_settled::<300>(&rt, rt.alloc(), &UP_TO_255)
 }
 
 #[test]
 fn accepted_pairs_come_back(rt: HostRuntime) -> Result<(), Fail> {
-    for (_, _, _, want) in UP_TO_FOUR {
-        if let Want::Pair(code, digest) = want {
+    for (_, _, _, want) in &UP_TO_FOUR {
+        if let Ok((code, digest)) = *want {
             let m = Multihash::<4>::wrap(code, digest)?;
             let back: Multihash<4> = bytes_back(rt.alloc(), &m)?;
             assert_eq!(rt; back.code(), code);
-            assert_eq!(rt; back.digest(), digest);
+            expect_bytes(&rt, back.digest(), digest);
         }
     }
     Ok(())

@@ -1,7 +1,8 @@
 //! Memory that is refused. A test whose name begins with `refused` passes where nothing is refused.
 //! Where a request is, it looks at what stands then, and fails with `REFUSED`:
 //! `tools/refuse_memory.sh` refuses each request in turn, and counts them so.
-use fakes::kinds::{LARGEST_CODE, is_code, is_memory};
+use fakes::expect::expect_bytes;
+use fakes::refusal::{LARGEST_CODE, Refusal, is_refused};
 use multihash::list::{read_list, write_list};
 use multihash::no_std_io::Write;
 use multihash::{Error, Multihash};
@@ -28,8 +29,8 @@ fn unless_refused<T>(rt: &impl Abort, answer: Result<T, Error>) -> Result<T, Fai
     match answer {
         Ok(answer) => Ok(answer),
         Err(e) => {
-            assert!(rt; is_memory(&e));
-            assert_eq!(rt; e.io().map(|e| e.text()), Some("out of memory"));
+            assert_eq!(rt; Refusal::of(&e), Some(Refusal::OutOfMemory));
+            assert!(rt; matches!(e.io(), Some(fault) if fault.text() == "out of memory"));
             Err(REFUSED)?
         }
     }
@@ -39,7 +40,7 @@ fn unless_refused<T>(rt: &impl Abort, answer: Result<T, Error>) -> Result<T, Fai
 fn refused_to_bytes(rt: HostRuntime) -> Result<(), Fail> {
     let [m, _] = two()?;
     let bytes = unless_refused(&rt, m.to_bytes(rt.alloc()))?;
-    assert_eq!(rt; bytes.as_slice(), &STREAM[..3]);
+    expect_bytes(&rt, &bytes, &STREAM[..3]);
     assert_eq!(rt; bytes.capacity(), m.encoded_len());
     Ok(())
 }
@@ -64,11 +65,11 @@ fn refused_read_list(rt: HostRuntime) -> Result<(), Fail> {
     let mut left = STREAM.as_slice();
     let answer = read_list::<4, _>(rt.alloc(), &mut left, 2);
     if answer.is_err() {
-        assert_eq!(rt; left, STREAM.as_slice());
+        expect_bytes(&rt, left, &STREAM);
     }
     let list = unless_refused(&rt, answer)?;
-    assert_eq!(rt; list.as_slice(), two()?.as_slice());
-    assert_eq!(rt; left, [7].as_slice());
+    assert!(rt; list.as_slice() == two()?.as_slice());
+    expect_bytes(&rt, left, &[7]);
     Ok(())
 }
 
@@ -81,7 +82,7 @@ fn expect_appended<R: Abort>(rt: &R, mut held: Vec<u8>, refused: bool, wanted: &
         let rest = wanted.get(held.len()..).unwrap_or(&[]);
         assert!(rt; held.write_all(rest).is_ok());
     }
-    assert_eq!(rt; held.as_slice(), wanted);
+    expect_bytes(rt, &held, wanted);
 }
 
 #[test]
@@ -138,20 +139,25 @@ fn needs_no_memory(rt: HostRuntime) -> Result<(), Fail> {
             .same_as(&Multihash::<4>::default())
     );
     assert!(rt; Multihash::<4>::from_bytes(&STREAM[..3])? == first);
-    assert!(rt; Multihash::<4>::from_value(&Value::Null).is_err_and(|e| e.is_not_bytes()));
+    assert!(rt; is_refused(&Multihash::<4>::from_value(&Value::Null), Refusal::NotBytes));
     let mut left = STREAM.as_slice();
     assert!(rt; Multihash::<4>::read(&mut left)? == first);
     assert!(rt; read_list::<4, _>(rt.alloc(), &mut left, 0)?.is_empty());
-    assert_eq!(rt; left, &STREAM[3..]);
+    expect_bytes(&rt, left, &STREAM[3..]);
     let mut places = [0u8; 16];
     let mut free = places.as_mut_slice();
     write_list(&[first, second], &mut free)?;
     assert_eq!(rt; second.scale_encode(&mut free)?, 10);
     assert!(rt; free.is_empty());
     assert!(rt; Multihash::<4>::scale_decode(&mut &places[6..])? == second);
-    assert!(rt; Multihash::<4>::wrap(u64::MAX, &[]).is_err_and(|e| is_code(&e, u64::MAX)));
+    assert!(rt;
+        is_refused(
+            &Multihash::<4>::wrap(u64::MAX, &[]),
+            Refusal::InvalidCode(u64::MAX)
+        )
+    );
     let refused = Multihash::<4>::scale_decode(&mut [255; 8].as_slice());
-    assert!(rt; refused.is_err_and(|e| is_code(&e, u64::MAX)));
+    assert!(rt; is_refused(&refused, Refusal::InvalidCode(u64::MAX)));
     Ok(())
 }
 
@@ -160,10 +166,10 @@ fn too_many_places_are_refused(rt: HostRuntime) -> Result<(), Fail> {
     for count in [usize::MAX, usize::MAX / 2] {
         let mut left = STREAM.as_slice();
         let refused = read_list::<4, _>(rt.alloc(), &mut left, count);
-        assert!(rt; refused.is_err_and(|e| is_memory(&e)));
-        assert_eq!(rt; left, STREAM.as_slice());
+        assert!(rt; is_refused(&refused, Refusal::OutOfMemory));
+        expect_bytes(&rt, left, &STREAM);
         let list = read_list::<4, _>(rt.alloc(), &mut left, 2)?;
-        assert_eq!(rt; list.as_slice(), two()?.as_slice());
+        assert!(rt; list.as_slice() == two()?.as_slice());
     }
     Ok(())
 }
@@ -190,13 +196,13 @@ fn ample_memory_is_enough(rt: HostRuntime) -> Result<(), Fail> {
 #[test]
 fn memory_is_enough_at_each_size(rt: HostRuntime) -> Result<(), Fail> {
     let m = Multihash::<0>::wrap(18, &[])?;
-    assert_eq!(rt; m.to_bytes(rt.alloc())?.as_slice(), [18, 0].as_slice());
+    expect_bytes(&rt, &m.to_bytes(rt.alloc())?, &[18, 0]);
     assert_eq!(rt;
         m.to_value(rt.alloc())?.to_string(rt.alloc())?.as_str(),
         "[18,0]"
     );
     let m = Multihash::<1000>::wrap(18, &[])?;
-    assert_eq!(rt; m.to_bytes(rt.alloc())?.as_slice(), [18, 0].as_slice());
+    expect_bytes(&rt, &m.to_bytes(rt.alloc())?, &[18, 0]);
     assert_eq!(rt;
         m.to_value(rt.alloc())?.to_string(rt.alloc())?.as_str(),
         "[18,0]"

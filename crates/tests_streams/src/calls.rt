@@ -1,6 +1,7 @@
 //! How often readers and writers are asked, and that one that failed is not asked again.
-use fakes::kinds::{LARGEST_CODE, is_code, is_disk_gone, is_eof, is_full, is_link_down};
+use fakes::expect::expect_bytes;
 use fakes::readers::{Counts, Cuts, FailAt};
+use fakes::refusal::{LARGEST_CODE, Refusal, is_failed, is_refused};
 use fakes::writers::{CountsWrites, Drip};
 use multihash::Multihash;
 use multihash::list::{read_list, write_list};
@@ -48,20 +49,20 @@ fn a_failed_vector_is_not_asked_again(rt: HostRuntime) -> Result<(), Fail> {
     for calls in 0..3 {
         let mut writer = CountsWrites::failing(rt.alloc(), calls);
         assert!(rt;
-            m.write(&mut writer).is_err_and(|e| is_disk_gone(&e)),
+            is_refused(&m.write(&mut writer), Refusal::DISK_GONE),
             "call {calls}"
         );
         assert_eq!(rt; (writer.parts, writer.whole), (0, calls + 1));
         let mut writer = CountsWrites::failing(rt.alloc(), calls);
         assert!(rt;
-            m.scale_encode(&mut writer).is_err_and(|e| is_disk_gone(&e)),
+            is_refused(&m.scale_encode(&mut writer), Refusal::DISK_GONE),
             "call {calls}"
         );
         assert_eq!(rt; (writer.parts, writer.whole), (0, calls + 1));
     }
     for calls in 0..6 {
         let mut writer = CountsWrites::failing(rt.alloc(), calls);
-        assert!(rt; write_list(&[m, m], &mut writer).is_err_and(|e| is_disk_gone(&e)));
+        assert!(rt; is_refused(&write_list(&[m, m], &mut writer), Refusal::DISK_GONE));
         assert_eq!(rt; (writer.parts, writer.whole), (0, calls + 1));
     }
     Ok(())
@@ -70,15 +71,11 @@ fn a_failed_vector_is_not_asked_again(rt: HostRuntime) -> Result<(), Fail> {
 #[test]
 fn a_full_writer_is_not_asked_again(rt: HostRuntime) -> Result<(), Fail> {
     let mut writer = Drip::new(rt.alloc(), 2, 1)?;
-    assert!(rt;
-        writer
-            .write_all(&[1, 2, 3])
-            .is_err_and(|e| e.is_write_zero())
-    );
+    assert!(rt; is_failed(&writer.write_all(&[1, 2, 3]), Refusal::WriteZero));
     assert_eq!(rt; writer.asked, 3);
     let m = Multihash::<4>::wrap(300, b"AB")?;
     let mut writer = Drip::new(rt.alloc(), 2, 7)?;
-    assert!(rt; m.write(&mut writer).is_err_and(|e| is_full(&e)));
+    assert!(rt; is_refused(&m.write(&mut writer), Refusal::WriteZero));
     assert_eq!(rt; writer.asked, 2);
     Ok(())
 }
@@ -86,14 +83,19 @@ fn a_full_writer_is_not_asked_again(rt: HostRuntime) -> Result<(), Fail> {
 #[test]
 fn a_cut_digest_asks_once(rt: HostRuntime) {
     let mut reader = Counts::new(&[0, 2, 9]);
-    assert!(rt; Multihash::<4>::read(&mut reader).is_err_and(|e| is_eof(&e)));
+    assert!(rt; is_refused(&Multihash::<4>::read(&mut reader), Refusal::UnexpectedEof));
     assert_eq!(rt; reader.asked(), (2, 0, 1));
     let mut reader = Counts::new(&SCALE[..10]);
-    assert!(rt; Multihash::<4>::scale_decode(&mut reader).is_err_and(|e| is_eof(&e)));
+    assert!(rt;
+        is_refused(
+            &Multihash::<4>::scale_decode(&mut reader),
+            Refusal::UnexpectedEof
+        )
+    );
     assert_eq!(rt; reader.asked(), (0, 0, 3));
     let mut reader = Counts::new(&STREAM[..5]);
     let refused = read_list::<4, _>(rt.alloc(), &mut reader, 2);
-    assert!(rt; refused.is_err_and(|e| is_eof(&e)));
+    assert!(rt; is_refused(&refused, Refusal::UnexpectedEof));
     assert_eq!(rt; reader.asked(), (4, 0, 2));
 }
 
@@ -101,11 +103,16 @@ fn a_cut_digest_asks_once(rt: HostRuntime) {
 fn an_ended_reader_is_not_asked_again(rt: HostRuntime) {
     for (input, single) in [([].as_slice(), 1), (&[128], 2), (&[172, 2], 3)] {
         let mut reader = Counts::new(input);
-        assert!(rt; Multihash::<4>::read(&mut reader).is_err_and(|e| e.is_insufficient()));
+        assert!(rt; is_refused(&Multihash::<4>::read(&mut reader), Refusal::Insufficient));
         assert_eq!(rt; reader.asked(), (single, 0, 0));
     }
     let mut reader = Counts::new(&SCALE[..4]);
-    assert!(rt; Multihash::<4>::scale_decode(&mut reader).is_err_and(|e| is_eof(&e)));
+    assert!(rt;
+        is_refused(
+            &Multihash::<4>::scale_decode(&mut reader),
+            Refusal::UnexpectedEof
+        )
+    );
     assert_eq!(rt; reader.asked(), (0, 0, 1));
 }
 
@@ -113,10 +120,15 @@ fn an_ended_reader_is_not_asked_again(rt: HostRuntime) {
 #[test]
 fn an_end_is_met_once(rt: HostRuntime) {
     let mut reader = FailAt::new(Cuts::new(&[0, 2, 9], 8), 9);
-    assert!(rt; Multihash::<4>::read(&mut reader).is_err_and(|e| is_eof(&e)));
+    assert!(rt; is_refused(&Multihash::<4>::read(&mut reader), Refusal::UnexpectedEof));
     assert_eq!(rt; reader.asked, 4);
     let mut reader = FailAt::new(Cuts::new(&SCALE[..4], 8), 9);
-    assert!(rt; Multihash::<4>::scale_decode(&mut reader).is_err_and(|e| is_eof(&e)));
+    assert!(rt;
+        is_refused(
+            &Multihash::<4>::scale_decode(&mut reader),
+            Refusal::UnexpectedEof
+        )
+    );
     assert_eq!(rt; reader.asked, 2);
 }
 
@@ -125,16 +137,16 @@ fn scale_decode_asks_for_its_three_parts(rt: HostRuntime) {
     let mut reader = Counts::new(&SCALE);
     assert!(rt; Multihash::<4>::scale_decode(&mut reader).is_ok());
     assert_eq!(rt; reader.asked(), (0, 0, 3));
-    assert_eq!(rt; reader.left, [9].as_slice());
+    expect_bytes(&rt, reader.left, &[9]);
     let mut reader = Counts::new(&SCALE);
     assert!(rt; Multihash::<1>::scale_decode(&mut reader).is_err());
     assert_eq!(rt; reader.asked(), (0, 0, 2));
     // A code that is refused asks for no size.
     let mut reader = Counts::new(&[255, 255, 255, 255, 255, 255, 255, 255, 0]);
     let refused = Multihash::<4>::scale_decode(&mut reader);
-    assert!(rt; refused.is_err_and(|e| is_code(&e, u64::MAX)));
+    assert!(rt; is_refused(&refused, Refusal::InvalidCode(u64::MAX)));
     assert_eq!(rt; reader.asked(), (0, 0, 1));
-    assert_eq!(rt; reader.left, [0].as_slice());
+    expect_bytes(&rt, reader.left, &[0]);
 }
 
 // How often a reader was asked in all.
@@ -147,18 +159,23 @@ fn all_calls(reader: &Counts) -> usize {
 fn a_failed_reader_is_not_asked_again(rt: HostRuntime) {
     for calls in 0..4 {
         let mut reader = Counts::failing(&ENCODING, calls);
-        assert!(rt; Multihash::<4>::read(&mut reader).is_err_and(|e| is_link_down(&e)));
+        assert!(rt; is_refused(&Multihash::<4>::read(&mut reader), Refusal::LINK_DOWN));
         assert_eq!(rt; all_calls(&reader), calls + 1);
     }
     for calls in 0..3 {
         let mut reader = Counts::failing(&SCALE, calls);
-        assert!(rt; Multihash::<4>::scale_decode(&mut reader).is_err_and(|e| is_link_down(&e)));
+        assert!(rt;
+            is_refused(
+                &Multihash::<4>::scale_decode(&mut reader),
+                Refusal::LINK_DOWN
+            )
+        );
         assert_eq!(rt; all_calls(&reader), calls + 1);
     }
     for calls in 0..6 {
         let mut reader = Counts::failing(&STREAM, calls);
         let refused = read_list::<4, _>(rt.alloc(), &mut reader, 2);
-        assert!(rt; refused.is_err_and(|e| is_link_down(&e)));
+        assert!(rt; is_refused(&refused, Refusal::LINK_DOWN));
         assert_eq!(rt; all_calls(&reader), calls + 1);
     }
 }

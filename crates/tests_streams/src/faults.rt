@@ -1,7 +1,8 @@
 //! Readers and writers that cut, end and fail, at each call and in each room: what was taken or
 //! appended then, and that a fault comes out as it went in.
-use fakes::kinds::{is_disk_gone, is_eof, is_full, is_link_down, is_memory};
+use fakes::expect::expect_bytes;
 use fakes::readers::{Cuts, FailAt, Silent};
+use fakes::refusal::{Refusal, is_refused};
 use fakes::writers::{Drip, FailWrite};
 use multihash::list::{read_list, write_list};
 use multihash::no_std_io::{Read, Write};
@@ -67,12 +68,17 @@ impl Form {
         }
     }
 
-    // Whether an input that ends after so many bytes ends inside a varint.
-    fn ends_in_a_varint(self, len: usize) -> bool {
-        match self {
+    // How an input is refused that ends after so many bytes: inside a varint, or not.
+    fn early_end(self, len: usize) -> Refusal {
+        let in_a_varint = match self {
             Form::Binary => len < 3,
             Form::Scale => false,
             Form::List => len != 2 && len != 5,
+        };
+        if in_a_varint {
+            Refusal::Insufficient
+        } else {
+            Refusal::UnexpectedEof
         }
     }
 }
@@ -85,7 +91,7 @@ fn a_reader_fails_at_every_call(rt: HostRuntime) {
             let mut reader = FailAt::new(Cuts::new(input, 1), calls);
             let refused = form.reads(rt.alloc(), &mut reader);
             assert!(rt;
-                refused.is_err_and(|e| is_link_down(&e)),
+                is_refused(&refused, Refusal::LINK_DOWN),
                 "{form:?}, call {calls}"
             );
             assert_eq!(rt; Some(reader.cuts.left), input.get(calls..));
@@ -93,7 +99,7 @@ fn a_reader_fails_at_every_call(rt: HostRuntime) {
             let mut reader = FailAt::out_of_memory(Cuts::new(input, 1), calls);
             let refused = form.reads(rt.alloc(), &mut reader);
             assert!(rt;
-                refused.is_err_and(|e| is_memory(&e)),
+                is_refused(&refused, Refusal::OutOfMemory),
                 "{form:?}, call {calls}"
             );
             assert_eq!(rt; Some(reader.cuts.left), input.get(calls..));
@@ -108,7 +114,7 @@ fn a_reader_fails_after_the_last_call(rt: HostRuntime) -> Result<(), Fail> {
         let calls = form.bytes().len();
         let mut reader = FailAt::new(Cuts::new(form.and_more(), 1), calls);
         assert!(rt; form.reads(rt.alloc(), &mut reader)?, "{form:?}");
-        assert_eq!(rt; reader.cuts.left, [9].as_slice());
+        expect_bytes(&rt, reader.cuts.left, &[9]);
         assert_eq!(rt; reader.asked, calls);
     }
     Ok(())
@@ -143,16 +149,16 @@ fn a_reader_is_read_on_after_a_fault(rt: HostRuntime) -> Result<(), Fail> {
             let mut reader = reader;
             assert!(rt; form.reads(rt.alloc(), &mut reader).is_err());
             assert!(rt; form.reads(rt.alloc(), &mut reader)?, "{form:?}");
-            assert_eq!(rt; reader.cuts.left, [9].as_slice());
+            expect_bytes(&rt, reader.cuts.left, &[9]);
         }
     }
     let mut reader = FailAt::new(Cuts::new(Form::List.and_more(), 1), 3);
     let refused = read_list::<4, _>(rt.alloc(), &mut reader, 2);
-    assert!(rt; refused.is_err_and(|e| is_link_down(&e)));
+    assert!(rt; is_refused(&refused, Refusal::LINK_DOWN));
     let list = read_list::<4, _>(rt.alloc(), &mut reader, 1)?;
     let [_, second] = two()?;
-    assert_eq!(rt; list.as_slice(), [second].as_slice());
-    assert_eq!(rt; reader.cuts.left, [9].as_slice());
+    assert!(rt; list.as_slice() == [second].as_slice());
+    expect_bytes(&rt, reader.cuts.left, &[9]);
     Ok(())
 }
 
@@ -175,9 +181,9 @@ fn a_reader_is_read_on_after_a_refusal(rt: HostRuntime) -> Result<(), Fail> {
         assert!(rt; input.write_all(form.and_more()).is_ok());
         let mut left = input.as_slice();
         assert!(rt; form.reads(rt.alloc(), &mut left).is_err(), "{refused:?}");
-        assert_eq!(rt; left, form.and_more());
+        expect_bytes(&rt, left, form.and_more());
         assert!(rt; form.reads(rt.alloc(), &mut left)?, "{refused:?}");
-        assert_eq!(rt; left, [9].as_slice());
+        expect_bytes(&rt, left, &[9]);
     }
     Ok(())
 }
@@ -189,7 +195,7 @@ fn a_fault_comes_before_another_refusal(rt: HostRuntime) {
             let mut reader = FailAt::new(Cuts::new(refused, 1), calls);
             let answer = form.reads(rt.alloc(), &mut reader);
             assert!(rt;
-                answer.is_err_and(|e| is_link_down(&e)),
+                is_refused(&answer, Refusal::LINK_DOWN),
                 "{refused:?}, call {calls}"
             );
             assert_eq!(rt; Some(reader.cuts.left), refused.get(calls..));
@@ -201,20 +207,11 @@ fn a_fault_comes_before_another_refusal(rt: HostRuntime) {
             let mut reader = FailAt::new(Cuts::new(&bytes[..len], 1), len);
             let answer = form.reads(rt.alloc(), &mut reader);
             assert!(rt;
-                answer.is_err_and(|e| is_link_down(&e)),
+                is_refused(&answer, Refusal::LINK_DOWN),
                 "{form:?}, {len} bytes"
             );
             assert!(rt; reader.cuts.left.is_empty());
         }
-    }
-}
-
-// Whether the first so many bytes of a form were refused as an input that ends early.
-fn ends_early(form: Form, len: usize, answer: Result<bool, Error>) -> bool {
-    match answer {
-        Ok(_) => false,
-        Err(e) if form.ends_in_a_varint(len) => e.is_insufficient(),
-        Err(e) => is_eof(&e),
     }
 }
 
@@ -225,7 +222,10 @@ fn every_beginning_ends_early(rt: HostRuntime) {
         for len in 0..bytes.len() {
             let mut left = &bytes[..len];
             let answer = form.reads(rt.alloc(), &mut left);
-            assert!(rt; ends_early(form, len, answer), "{form:?}, {len} bytes");
+            assert!(rt;
+                is_refused(&answer, form.early_end(len)),
+                "{form:?}, {len} bytes"
+            );
         }
     }
 }
@@ -239,7 +239,7 @@ fn every_beginning_in_cuts_ends_early(rt: HostRuntime) {
                 let mut reader = Cuts::new(&bytes[..len], most);
                 let answer = form.reads(rt.alloc(), &mut reader);
                 assert!(rt;
-                    ends_early(form, len, answer),
+                    is_refused(&answer, form.early_end(len)),
                     "{form:?}, {len} bytes, {most} a call"
                 );
                 assert!(rt; reader.left.is_empty());
@@ -261,7 +261,7 @@ fn cuts_change_no_answer(rt: HostRuntime) -> Result<(), Fail> {
                 form.reads(rt.alloc(), &mut reader)?,
                 "{form:?}, {most} a call"
             );
-            assert_eq!(rt; reader.left, [9].as_slice());
+            expect_bytes(&rt, reader.left, &[9]);
         }
     }
     Ok(())
@@ -275,7 +275,7 @@ fn a_writer_fails_at_every_call(rt: HostRuntime) -> Result<(), Fail> {
             let mut writer = FailWrite::new(Drip::new(rt.alloc(), wanted.len(), 1)?, calls);
             let refused = form.writes(&mut writer);
             assert!(rt;
-                refused.is_err_and(|e| is_disk_gone(&e)),
+                is_refused(&refused, Refusal::DISK_GONE),
                 "{form:?}, call {calls}"
             );
             assert_eq!(rt; Some(writer.drip.held.as_slice()), wanted.get(..calls));
@@ -286,7 +286,7 @@ fn a_writer_fails_at_every_call(rt: HostRuntime) -> Result<(), Fail> {
             );
             let refused = form.writes(&mut writer);
             assert!(rt;
-                refused.is_err_and(|e| is_memory(&e)),
+                is_refused(&refused, Refusal::OutOfMemory),
                 "{form:?}, call {calls}"
             );
             assert_eq!(rt; Some(writer.drip.held.as_slice()), wanted.get(..calls));
@@ -302,7 +302,7 @@ fn a_writer_fails_after_the_last_call(rt: HostRuntime) -> Result<(), Fail> {
         let wanted = form.bytes();
         let mut writer = FailWrite::new(Drip::new(rt.alloc(), wanted.len(), 1)?, wanted.len());
         assert!(rt; form.writes(&mut writer)?, "{form:?}");
-        assert_eq!(rt; writer.drip.held.as_slice(), wanted);
+        expect_bytes(&rt, &writer.drip.held, wanted);
         assert_eq!(rt; writer.asked, wanted.len());
     }
     Ok(())
@@ -319,12 +319,12 @@ fn a_writer_is_appended_to_after_a_fault(rt: HostRuntime) -> Result<(), Fail> {
                 writer.write_all(&wanted[calls..]).is_ok(),
                 "{form:?}, call {calls}"
             );
-            assert_eq!(rt; writer.drip.held.as_slice(), wanted);
+            expect_bytes(&rt, &writer.drip.held, wanted);
         }
         let mut writer = FailWrite::new(Drip::new(rt.alloc(), wanted.len(), 3)?, 0);
         assert!(rt; form.writes(&mut writer).is_err());
         assert!(rt; form.writes(&mut writer)?, "{form:?}");
-        assert_eq!(rt; writer.drip.held.as_slice(), wanted);
+        expect_bytes(&rt, &writer.drip.held, wanted);
     }
     Ok(())
 }
@@ -338,14 +338,14 @@ fn every_room(rt: HostRuntime) -> Result<(), Fail> {
                 let mut writer = Drip::new(rt.alloc(), room, most)?;
                 let refused = form.writes(&mut writer);
                 assert!(rt;
-                    refused.is_err_and(|e| is_full(&e)),
+                    is_refused(&refused, Refusal::WriteZero),
                     "{form:?}, room {room}"
                 );
                 assert_eq!(rt; Some(writer.held.as_slice()), wanted.get(..room));
             }
             let mut writer = Drip::new(rt.alloc(), wanted.len(), most)?;
             assert!(rt; form.writes(&mut writer)?, "{form:?}");
-            assert_eq!(rt; writer.held.as_slice(), wanted);
+            expect_bytes(&rt, &writer.held, wanted);
         }
     }
     Ok(())
@@ -362,7 +362,7 @@ fn slices_of_every_length(rt: HostRuntime) -> Result<(), Fail> {
             assert_eq!(rt; left.len(), room.saturating_sub(wanted.len()), "{form:?}");
             if room < wanted.len() {
                 assert!(rt;
-                    answer.is_err_and(|e| is_full(&e)),
+                    is_refused(&answer, Refusal::WriteZero),
                     "{form:?}, {room} places"
                 );
             } else {

@@ -1,6 +1,7 @@
 //! Worked values of streams.
-use fakes::kinds::{is_eof, is_full, is_size};
+use fakes::expect::expect_bytes;
 use fakes::readers::{Cuts, Silent};
+use fakes::refusal::{Refusal, is_refused};
 use multihash::list::{read_list, write_list};
 use multihash::{Error, Multihash};
 use std::process::Abort;
@@ -19,18 +20,18 @@ fn two_of_a_stream(rt: HostRuntime) -> Result<(), Fail> {
     let wanted = two()?;
     let mut left = STREAM.as_slice();
     let list = read_list::<4, _>(rt.alloc(), &mut left, 2)?;
-    assert_eq!(rt; list.as_slice(), wanted.as_slice());
-    assert_eq!(rt; left, [7].as_slice());
+    assert!(rt; list.as_slice() == wanted.as_slice());
+    expect_bytes(&rt, left, &[7]);
     let list = read_list::<4, _>(rt.alloc(), &mut Silent(&STREAM), 2)?;
-    assert_eq!(rt; list.as_slice(), wanted.as_slice());
+    assert!(rt; list.as_slice() == wanted.as_slice());
     for most in 1..8 {
         let mut reader = Cuts::new(&STREAM, most);
         let list = read_list::<4, _>(rt.alloc(), &mut reader, 2)?;
-        assert_eq!(rt; list.as_slice(), wanted.as_slice());
-        assert_eq!(rt; reader.left, [7].as_slice());
+        assert!(rt; list.as_slice() == wanted.as_slice());
+        expect_bytes(&rt, reader.left, &[7]);
         let mut reader = Cuts::new(&STREAM, most);
         let refused = read_list::<4, _>(rt.alloc(), &mut reader, 3);
-        assert!(rt; refused.is_err_and(|e| e.is_insufficient()));
+        assert!(rt; is_refused(&refused, Refusal::Insufficient));
         assert!(rt; reader.left.is_empty());
     }
     Ok(())
@@ -40,7 +41,7 @@ fn two_of_a_stream(rt: HostRuntime) -> Result<(), Fail> {
 fn no_items_take_nothing(rt: HostRuntime) -> Result<(), Fail> {
     let mut left = [5u8].as_slice();
     assert!(rt; read_list::<4, _>(rt.alloc(), &mut left, 0)?.is_empty());
-    assert_eq!(rt; left, [5].as_slice());
+    expect_bytes(&rt, left, &[5]);
     let none: [Multihash<4>; 0] = [];
     let mut places = [0u8; 0];
     write_list(&none, &mut places.as_mut_slice())?;
@@ -52,16 +53,16 @@ fn no_items_take_nothing(rt: HostRuntime) -> Result<(), Fail> {
 fn the_first_refusal_is_answered(rt: HostRuntime) {
     let mut left = [0u8, 1, 65, 0, 2, 66, 67].as_slice();
     let refused = read_list::<1, _>(rt.alloc(), &mut left, 2);
-    assert!(rt; refused.is_err_and(|e| is_size(&e, 2)));
-    assert_eq!(rt; left, [66, 67].as_slice());
+    assert!(rt; is_refused(&refused, Refusal::InvalidSize(2)));
+    expect_bytes(&rt, left, &[66, 67]);
     let mut left = [0u8, 1, 65, 128, 0, 0, 0].as_slice();
     let refused = read_list::<1, _>(rt.alloc(), &mut left, 3);
-    assert!(rt; refused.is_err_and(|e| e.is_not_minimal()));
-    assert_eq!(rt; left, [0, 0].as_slice());
+    assert!(rt; is_refused(&refused, Refusal::NotMinimal));
+    expect_bytes(&rt, left, &[0, 0]);
     let mut left = [0u8, 1, 65, 0, 4, 1, 2].as_slice();
     let refused = read_list::<4, _>(rt.alloc(), &mut left, 2);
-    assert!(rt; refused.is_err_and(|e| is_eof(&e)));
-    assert_eq!(rt; left, [1, 2].as_slice());
+    assert!(rt; is_refused(&refused, Refusal::UnexpectedEof));
+    expect_bytes(&rt, left, &[1, 2]);
 }
 
 #[test]
@@ -69,12 +70,12 @@ fn two_are_written(rt: HostRuntime) -> Result<(), Fail> {
     let items = two()?;
     let mut places = [0u8; 4];
     let mut left = places.as_mut_slice();
-    assert!(rt; write_list(&items, &mut left).is_err_and(|e| is_full(&e)));
+    assert!(rt; is_refused(&write_list(&items, &mut left), Refusal::WriteZero));
     assert!(rt; left.is_empty());
-    assert_eq!(rt; places, [0, 1, 65, 18]);
+    expect_bytes(&rt, &places, &[0, 1, 65, 18]);
     let mut bytes = Vec::new(rt.alloc());
     write_list(&items, &mut bytes)?;
-    assert_eq!(rt; bytes.as_slice(), &STREAM[..6]);
+    expect_bytes(&rt, &bytes, &STREAM[..6]);
     Ok(())
 }
 
@@ -86,7 +87,7 @@ fn slices_that_fit_and_that_do_not(rt: HostRuntime) -> Result<(), Fail> {
         let filled = fills_list(&items, &mut places[..room]);
         assert_eq!(rt; filled, (room >= 6, room.saturating_sub(6)));
         let written = room.min(6);
-        assert_eq!(rt; &places[..written], &STREAM[..written]);
+        expect_bytes(&rt, &places[..written], &STREAM[..written]);
     }
     Ok(())
 }

@@ -1,4 +1,6 @@
 //! Slices that are filled and kept.
+use fakes::expect::expect_bytes;
+use fakes::refusal::{Refusal, is_failed, is_refused};
 use multihash::Multihash;
 use multihash::no_std_io::{SliceWriter, Write};
 use std::test::Fail;
@@ -8,11 +10,11 @@ use uses::places::{encode_all_into, encode_into, list_back};
 fn a_slice_writer_keeps_its_slice(rt: HostRuntime) {
     let mut places = [9u8; 6];
     let mut writer = SliceWriter::new(&mut places);
-    assert!(rt; writer.write(&[1, 2]).is_ok_and(|n| n == 2));
+    assert_eq!(rt; writer.write(&[1, 2]).ok(), Some(2));
     assert!(rt; writer.write_all(&[3]).is_ok());
     assert!(rt; writer.write_all(&[]).is_ok());
     assert_eq!(rt; writer.filled, 3);
-    assert_eq!(rt; places, [1, 2, 3, 9, 9, 9]);
+    expect_bytes(&rt, &places, &[1, 2, 3, 9, 9, 9]);
 }
 
 #[test]
@@ -20,11 +22,11 @@ fn a_slice_writer_fills_what_is_left(rt: HostRuntime) {
     let mut places = [9u8; 3];
     let mut writer = SliceWriter::new(&mut places);
     assert!(rt; writer.write_all(&[1, 2]).is_ok());
-    assert!(rt; writer.write_all(&[3, 4]).is_err_and(|e| e.is_write_zero()));
+    assert!(rt; is_failed(&writer.write_all(&[3, 4]), Refusal::WriteZero));
     assert_eq!(rt; writer.filled, 3);
-    assert!(rt; writer.write(&[5]).is_ok_and(|n| n == 0));
+    assert_eq!(rt; writer.write(&[5]).ok(), Some(0));
     assert!(rt; writer.write_all(&[]).is_ok());
-    assert_eq!(rt; places, [1, 2, 3]);
+    expect_bytes(&rt, &places, &[1, 2, 3]);
 }
 
 #[test]
@@ -32,10 +34,10 @@ fn an_encoding_goes_into_a_slice(rt: HostRuntime) {
     let multihash = Multihash::<4>::wrap(300, &[7, 8, 9]).expect(&rt, "it fits");
     let mut places = [1u8; 8];
     assert_eq!(rt; encode_into(&multihash, &mut places), Some(6));
-    assert_eq!(rt; places, [0xac, 0x02, 3, 7, 8, 9, 1, 1]);
+    expect_bytes(&rt, &places, &[0xac, 0x02, 3, 7, 8, 9, 1, 1]);
     let mut places = [1u8; 6];
     assert_eq!(rt; encode_into(&multihash, &mut places), Some(6));
-    assert_eq!(rt; places, [0xac, 0x02, 3, 7, 8, 9]);
+    expect_bytes(&rt, &places, &[0xac, 0x02, 3, 7, 8, 9]);
     assert_eq!(rt; encode_into(&multihash, &mut places[..5]), None);
     assert_eq!(rt; encode_into(&multihash, &mut []), None);
 }
@@ -47,7 +49,7 @@ fn encodings_go_into_a_slice(rt: HostRuntime) {
     let items = [first, second];
     let mut places = [5u8; 7];
     assert_eq!(rt; encode_all_into(&items, &mut places), Some(6));
-    assert_eq!(rt; places, [1, 2, 7, 8, 2, 0, 5]);
+    expect_bytes(&rt, &places, &[1, 2, 7, 8, 2, 0, 5]);
     assert_eq!(rt; encode_all_into(&items, &mut places[..5]), None);
     assert_eq!(rt; encode_all_into::<4>(&[], &mut []), Some(0));
 }
@@ -62,11 +64,9 @@ fn a_list_comes_back_from_a_slice(rt: HostRuntime) -> Result<(), Fail> {
     let back = list_back::<4, 2>(rt.alloc(), &items, &mut places)?.ok_or("no room")?;
     assert_eq!(rt; back.len(), 2);
     assert!(rt; back[0].same_as(&items[0]) && back[1].same_as(&items[1]));
-    assert_eq!(rt; places, [1, 2, 7, 8, 0xac, 0x02, 0, 5]);
+    expect_bytes(&rt, &places, &[1, 2, 7, 8, 0xac, 0x02, 0, 5]);
     assert!(rt; list_back::<4, 2>(rt.alloc(), &items, &mut places[..6])?.is_none());
-    assert!(rt;
-        list_back::<4, 1>(rt.alloc(), &items, &mut places).is_err_and(|e| e.invalid_size()
-            == Some(2))
-    );
+    let refused = list_back::<4, 1>(rt.alloc(), &items, &mut places);
+    assert!(rt; is_refused(&refused, Refusal::InvalidSize(2)));
     Ok(())
 }

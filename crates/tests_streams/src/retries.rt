@@ -1,6 +1,7 @@
 //! A reader that asks another one again where it failed.
-use fakes::kinds::is_link_down;
+use fakes::expect::expect_bytes;
 use fakes::readers::{Cuts, FailAt};
+use fakes::refusal::{Refusal, is_refused};
 use multihash::{Error, Multihash};
 use uses::retries::Retries;
 
@@ -11,10 +12,10 @@ fn a_failure_costs_a_try(rt: HostRuntime) -> Result<(), Error> {
     for calls in 0..4 {
         let mut again = Retries::new(FailAt::new(Cuts::new(&STREAM, 1), calls), 2);
         let multihash = Multihash::<4>::read(&mut again)?;
-        assert_eq!(rt; multihash.digest(), [7, 8].as_slice());
+        expect_bytes(&rt, multihash.digest(), &[7, 8]);
         assert_eq!(rt; again.tries(), 1, "call {calls}");
         assert_eq!(rt; again.reader.asked, 5, "call {calls}");
-        assert_eq!(rt; again.reader.cuts.left, [9].as_slice());
+        expect_bytes(&rt, again.reader.cuts.left, &[9]);
     }
     Ok(())
 }
@@ -24,7 +25,7 @@ fn with_no_try_left_the_failure_is_handed_on(rt: HostRuntime) {
     for calls in 0..4 {
         let mut again = Retries::new(FailAt::new(Cuts::new(&STREAM, 1), calls), 0);
         let refused = Multihash::<4>::read(&mut again);
-        assert!(rt; refused.is_err_and(|e| is_link_down(&e)), "call {calls}");
+        assert!(rt; is_refused(&refused, Refusal::LINK_DOWN), "call {calls}");
         assert_eq!(rt; again.reader.asked, calls + 1);
     }
 }
@@ -35,7 +36,7 @@ fn a_long_digest_comes_in_parts(rt: HostRuntime) -> Result<(), Error> {
     stream[1] = 100;
     let mut again = Retries::new(FailAt::new(Cuts::new(&stream, 200), 3), 1);
     let multihash = Multihash::<100>::read(&mut again)?;
-    assert_eq!(rt; multihash.digest(), [7; 100].as_slice());
+    expect_bytes(&rt, multihash.digest(), &[7; 100]);
     assert_eq!(rt; again.reader.asked, 5);
     Ok(())
 }

@@ -1,5 +1,6 @@
 //! Codes at the limit, and who refuses a larger one.
-use fakes::kinds::{LARGEST_CODE, is_code, is_size};
+use fakes::expect::expect_bytes;
+use fakes::refusal::{LARGEST_CODE, Refusal, is_refused};
 use multihash::{Error, Multihash};
 use std::test::Fail;
 use uses::blame::{code_refused_by_reading, decode_slice, refused_code};
@@ -8,25 +9,28 @@ use uses::code_table::{self, Entry};
 const LARGER: [u64; 3] = [9223372036854775808, 9223372036854775809, u64::MAX];
 
 // Whether the error is a refusal of that code, and of nothing else.
-fn is_code_alone(e: &Error, code: u64) -> bool {
+fn is_code_alone(e: Option<&Error>, code: u64) -> bool {
+    let Some(e) = e else {
+        return false;
+    };
     let is_other = e.is_insufficient()
         || e.is_overflow()
         || e.is_not_minimal()
         || e.is_not_bytes()
         || e.invalid_size().is_some()
         || e.io().is_some();
-    is_code(e, code) && !is_other
+    e.invalid_code() == Some(code) && !is_other
 }
 
 #[test]
 fn wrap_refuses_a_larger_code(rt: HostRuntime) {
     for code in LARGER {
         let refused = Multihash::<4>::wrap(code, b"ABCD");
-        assert!(rt; refused.is_err_and(|e| is_code_alone(&e, code)));
+        assert!(rt; is_code_alone(refused.as_ref().err(), code));
         assert_eq!(rt; refused_code::<4>(code, b"AB"), Some(code));
         assert_eq!(rt; refused_code::<0>(code, &[]), Some(code));
         assert!(rt; refused_code::<2>(code, b"foobar").is_none());
-        assert!(rt; Multihash::<2>::wrap(code, b"ABC").is_err_and(|e| is_size(&e, 3)));
+        assert!(rt; is_refused(&Multihash::<2>::wrap(code, b"ABC"), Refusal::InvalidSize(3)));
     }
     assert!(rt; refused_code::<4>(LARGEST_CODE, b"AB").is_none());
     assert!(rt; refused_code::<4>(0, b"foobar").is_none());
@@ -39,11 +43,11 @@ fn scale_decode_refuses_a_larger_code(rt: HostRuntime) {
         input[..8].copy_from_slice(&code.to_le_bytes());
         for len in 8..13 {
             let (refused, left) = decode_slice::<4>(&input[..len]);
-            assert!(rt; refused.is_err_and(|e| is_code_alone(&e, code)));
-            assert_eq!(rt; left, &input[8..len]);
+            assert!(rt; is_code_alone(refused.as_ref().err(), code));
+            expect_bytes(&rt, left, &input[8..len]);
         }
         let (cut, _) = decode_slice::<4>(&input[..7]);
-        assert!(rt; cut.is_err_and(|e| e.invalid_code().is_none()));
+        assert!(rt; is_refused(&cut, Refusal::UnexpectedEof));
     }
 }
 

@@ -1,5 +1,6 @@
 //! Worked values of comparing, hashing, truncating and resizing.
-use fakes::kinds::{LARGEST_CODE, is_size};
+use fakes::expect::expect_bytes;
+use fakes::refusal::{LARGEST_CODE, Refusal, is_refused};
 use multihash::{Multihash, MultihashGeneric, list, no_std_io};
 use std::cmp::Ordering;
 use std::collections::{BTreeMap, HashMap};
@@ -20,7 +21,7 @@ fn hash_of<T: Hash>(x: &T) -> u64 {
 #[test]
 fn defaults_are_empty(rt: HostRuntime) -> Result<(), Fail> {
     let m = Multihash::<32>::default();
-    assert_eq!(rt; m.to_bytes(rt.alloc())?.as_slice(), [0, 0].as_slice());
+    expect_bytes(&rt, &m.to_bytes(rt.alloc())?, &[0, 0]);
     assert!(rt; m.same_as(&Multihash::<64>::default()));
     assert_eq!(rt; Multihash::<0>::default().into_inner(), (0, [], 0));
     Ok(())
@@ -39,7 +40,7 @@ fn a_digest_is_cut(rt: HostRuntime) -> Result<(), Fail> {
     let m = Multihash::<64>::wrap(0, b"foobar")?;
     let cut = m.truncate(3);
     let short = Multihash::<64>::wrap(0, b"foo")?;
-    assert_eq!(rt; cut.digest(), b"foo".as_slice());
+    expect_bytes(&rt, cut.digest(), b"foo");
     assert_eq!(rt; cut, short);
     assert_eq!(rt; cut.cmp(&short), Ordering::Equal);
     assert_eq!(rt; hash_of(&cut), hash_of(&short));
@@ -47,7 +48,14 @@ fn a_digest_is_cut(rt: HostRuntime) -> Result<(), Fail> {
     array[..3].copy_from_slice(b"foo");
     assert_eq!(rt; cut.into_inner(), (0, array, 3));
     assert_eq!(rt; m.truncate(9), m);
-    assert!(rt; m.resize::<2>().is_err_and(|e| is_size(&e, 6)));
+    assert!(rt; is_refused(&m.resize::<2>(), Refusal::InvalidSize(6)));
+    Ok(())
+}
+
+#[test]
+fn values_print(rt: HostRuntime) -> Result<(), Fail> {
+    let m = Multihash::<4>::wrap(18, &[1, 2])?;
+    assert!(rt; !format!(in rt.alloc(); "{m:?}")?.is_empty());
     Ok(())
 }
 
@@ -98,7 +106,7 @@ fn sizes_of_buffers_do_not_count(rt: HostRuntime) -> Result<(), Fail> {
     let large = Multihash::<300>::wrap(0, b"ab")?;
     assert!(rt; small.same_as(&large));
     for bytes in [small.to_bytes(rt.alloc())?, large.to_bytes(rt.alloc())?] {
-        assert_eq!(rt; bytes.as_slice(), [0, 2, 0x61, 0x62].as_slice());
+        expect_bytes(&rt, &bytes, &[0, 2, 0x61, 0x62]);
     }
     assert!(rt; !small.same_as(&Multihash::<300>::wrap(0, b"a")?));
     assert!(rt; !small.same_as(&Multihash::<300>::wrap(1, b"ab")?));
@@ -161,7 +169,7 @@ fn stale_tails_stay_inside(rt: HostRuntime) -> Result<(), Fail> {
         assert_eq!(rt; hash_of(&m), hash_of(&other));
         assert!(rt; m.same_as(&other));
     }
-    assert_eq!(rt; m.truncate(5).digest(), b"foo".as_slice());
+    expect_bytes(&rt, m.truncate(5).digest(), b"foo");
     assert!(rt; m.resize::<3>()?.same_as(&m));
     Ok(())
 }
@@ -187,7 +195,7 @@ fn multihashes_are_sorted(rt: HostRuntime) -> Result<(), Fail> {
     let first = Multihash::wrap(0, b"zzz")?;
     let mut items = vec![in rt.alloc(); m, m.truncate(1), first]?;
     sort_them(&mut items)?;
-    assert_eq!(rt; items.as_slice(), [first, m.truncate(1), m].as_slice());
+    assert!(rt; items.as_slice() == [first, m.truncate(1), m].as_slice());
     Ok(())
 }
 
@@ -209,7 +217,7 @@ fn the_root_names(rt: HostRuntime) -> Result<(), Fail> {
     let items: Vec<multihash::Multihash<1>> = list::read_list(rt.alloc(), &mut left, 1)?;
     list::write_list(&items, &mut [0u8; 3].as_mut_slice())?;
     let refused: multihash::Error = multihash::Error::from(no_std_io::Error::other("x"));
-    assert!(rt; refused.io().is_some_and(|e| e.is_other()));
+    assert_eq!(rt; Refusal::of(&refused), Some(Refusal::Other("x")));
     multihash::laws::prefix_free();
     Ok(())
 }

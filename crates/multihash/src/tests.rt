@@ -1,3 +1,0 @@
-mod error;
-mod head;
-mod varint;
