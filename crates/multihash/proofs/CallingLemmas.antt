@@ -9,10 +9,10 @@ use mathlib.Core.Bool.{beq}
 use Rattle.multihash.specs.Pair.{Pair, IsSame, FitsBuffer}
 use Rattle.multihash.specs.Encoding.{IsEncoding}
 use Rattle.multihash.specs.Joined.{AreJoined}
-use Rattle.multihash.specs.Varint.{insufficient, IsMarked}
+use Rattle.multihash.specs.Varint.{insufficient, IsMarked, IsVarint}
 use Rattle.multihash.specs.Verdict.{Verdict, accepted, faulty, HasVerdict, HasWholeVerdict}
 use Rattle.multihash.specs.Settling.{Settles}
-use Rattle.multihash.specs.Taking.{TakesShortestSettling}
+use Rattle.multihash.specs.Taking.{TakesShortestSettling, TakesVarint, IsFrontRefusal}
 use Rattle.multihash.proofs.Readings.SettlingLemmas.{early_not_settles}
 use Rattle.multihash.specs.Reading.{Takes}
 use Rattle.multihash.specs.Scale.{IsScale, HasScaleVerdict}
@@ -23,7 +23,8 @@ use Rattle.multihash.specs.Streams.{TakesPairs, StopsAfterPairs}
 use Rattle.multihash.specs.Answer.{Fields, pair_of, IsRefusal, Answers}
 use Rattle.multihash.proofs.Writings.PlacesLemmas.{fewer_places, full_of_faults}
 use Rattle.multihash.proofs.Values.PairLemmas.{IsSame-refl, IsSame-equal}
-use Rattle.multihash.proofs.Readings.VerdictLemmas.{same_cut, encoding_same, encoding_unique, verdict_unique, whole_verdict_unique}
+use Rattle.multihash.proofs.Readings.VerdictLemmas.{same_cut, same_number, encoding_same, encoding_unique, verdict_unique, whole_verdict_unique}
+use Rattle.multihash.proofs.Varints.VarintLemmas.{number_no_fault}
 use Rattle.multihash.proofs.Forms.ScaleLemmas.{scale_same, scale_own, scale_verdict_unique}
 use Rattle.multihash.proofs.Forms.JoinedLemmas.{joined_unique}
 
@@ -34,7 +35,7 @@ same_encoding p q x y e f = (
   λ same. subst (IsSame p) (encoding_unique p q x y [] [] e f (ap (λ (z : List ℕ). z ++ []) same)).0 (IsSame-refl p),
 )
 
--- two tests for what follows from each other answer the same
+-- tests of equivalent facts answer alike
 pub tests_agree : {P Q : Type 0} (a b : Bool) → (IsTrue a ↔ P) → (IsTrue b ↔ Q) → (P ↔ Q) → IsTrue (beq a b)
 tests_agree true true p q both = refl
 tests_agree true false p q both = absurd (false≢true (q.1 (both.0 (p.0 refl))))
@@ -83,13 +84,13 @@ never_stops S count e n new pairs bytes more joined fit many stop = at stop.midd
         subst (IsRefusal e) (verdict_unique S left found.0 (accepted next.0) found.1 next.1) found.2
 
 -- reading a stream of so many pairs gives them and leaves what follows, or there was no memory
-pub pairs_read : (S count before after : ℕ) (old new : Option (List ℕ)) (pairs : List Pair) (bytes more : List ℕ)
+pub read_list_of_encodings : (S count before after : ℕ) (old new : Option (List ℕ)) (pairs : List Pair) (bytes more : List ℕ)
     (r : Result (Vec (Fields S) Global) Refusal) → AreJoined pairs bytes → All (FitsBuffer S) pairs → length pairs ≡ count
     → old ≡ Some (bytes ++ more) → after ≡ before
     → IfOk r (λ list. (length list.items ≡ count) × TakesPairs S (map pair_of list.items) old new)
     → IfErr r (λ e. (IsMemory e × (after ≡ before) × (new ≡ old)) ⊎ StopsAfterPairs S count e before after old new)
     → MatchResult r (λ list. (map pair_of list.items ≡ pairs) × (new ≡ Some more)) IsMemory
-pairs_read S count before after old new pairs bytes more (Ok list) joined fit many rest same ok err = at new ok.1.takes
+read_list_of_encodings S count before after old new pairs bytes more (Ok list) joined fit many rest same ok err = at new ok.1.takes
   where
     at : (new : Option (List ℕ)) → Takes old ok.1.bytes new → (map pair_of list.items ≡ pairs) × (new ≡ Some more)
     at None takes = cc
@@ -98,8 +99,8 @@ pairs_read S count before after old new pairs bytes more (Ok list) joined fit ma
         let told = joined_unique (map pair_of list.items) pairs ok.1.bytes bytes left more
         (omega (arith, length-map list.items pair_of, ok.0)) ok.1.joined joined cut in
         (told.0, ap Some told.1)
-pairs_read S count before after old new pairs bytes more (Err e) joined fit many rest same ok (inl memory) = memory.0
-pairs_read S count before after old new pairs bytes more (Err e) joined fit many rest same ok (inr stop) =
+read_list_of_encodings S count before after old new pairs bytes more (Err e) joined fit many rest same ok (inl memory) = memory.0
+read_list_of_encodings S count before after old new pairs bytes more (Err e) joined fit many rest same ok (inr stop) =
     absurd (never_stops S count e before new pairs bytes more joined fit many
     (subst (λ o. StopsAfterPairs S count e before before o new) rest (subst (λ n. StopsAfterPairs S count e before n old new) same stop)))
 
@@ -147,13 +148,13 @@ scale_taken S p input bytes more v e whole form fits found refused =
     subst (IsRefusal e) (scale_verdict_unique S input v (accepted p) found (subst (λ x. HasScaleVerdict S x (accepted p)) (sym whole) own)) refused
 
 -- reading where a pair's encoding comes next gives the pair and leaves what follows
-pub pair_read : (S before after : ℕ) (old new : Option (List ℕ)) (p : Pair) (bytes more : List ℕ) (r : Result (Fields S) Refusal)
+pub read_of_encoding : (S before after : ℕ) (old new : Option (List ℕ)) (p : Pair) (bytes more : List ℕ) (r : Result (Fields S) Refusal)
     → IsEncoding p bytes → FitsBuffer S p → old ≡ Some (bytes ++ more) → after ≡ before
     → IfSome old (λ rest. after ≡ before → (v : Verdict) × HasVerdict S rest v × Answers r v)
     → IfOk r (λ m. (taken : List ℕ) × IsEncoding (pair_of m) taken × Takes old taken new)
     → MatchResult r (λ m. (pair_of m ≡ p) × (new ≡ Some more)) (λ _. ⊥)
-pair_read S before after None new p bytes more r encodes fits rest same verdict ok = cc
-pair_read S before after (Some input) new p bytes more (Ok m) encodes fits rest same verdict ok = at new ok.2
+read_of_encoding S before after None new p bytes more r encodes fits rest same verdict ok = cc
+read_of_encoding S before after (Some input) new p bytes more (Ok m) encodes fits rest same verdict ok = at new ok.2
   where
     at : (new : Option (List ℕ)) → Takes (Some input) ok.0 new → (pair_of m ≡ p) × (new ≡ Some more)
     at None takes = cc
@@ -161,19 +162,19 @@ pair_read S before after (Some input) new p bytes more (Ok m) encodes fits rest 
         let cut : ok.0 ++ left ≡ bytes ++ more = cc in
         let told = encoding_unique (pair_of m) p ok.0 bytes left more ok.1 encodes cut in
         (told.0, ap Some told.2)
-pair_read S before after (Some input) new p bytes more (Err e) encodes fits rest same verdict ok =
+read_of_encoding S before after (Some input) new p bytes more (Err e) encodes fits rest same verdict ok =
     let v = verdict same in
     let spelled : input ≡ bytes ++ more = cc in
     let own : HasVerdict S input (accepted p) = (more, record { encoding = bytes; encodes = encodes; cut = spelled }, fits) in
     subst (IsRefusal e) (verdict_unique S input v.0 (accepted p) v.1 own) v.2
 
 -- the verdict on a pair's encoding is the pair
-pub verdict_back : (S : ℕ) (p : Pair) (bytes : List ℕ) (r : Result (Fields S) Refusal) (v : Verdict) → HasWholeVerdict S bytes v → Answers r v
+pub from_bytes_of_encoding : (S : ℕ) (p : Pair) (bytes : List ℕ) (r : Result (Fields S) Refusal) (v : Verdict) → HasWholeVerdict S bytes v → Answers r v
     → IsEncoding p bytes → FitsBuffer S p → MatchResult r (λ m. pair_of m ≡ p) IsMemory
-verdict_back S p bytes (Ok m) v h answers encodes fits =
+from_bytes_of_encoding S p bytes (Ok m) v h answers encodes fits =
     let same : accepted (pair_of m) ≡ accepted p = sym answers ∙ whole_verdict_unique S bytes v (accepted p) h (encodes, fits) in
     cc
-verdict_back S p bytes (Err e) v h answers encodes fits =
+from_bytes_of_encoding S p bytes (Err e) v h answers encodes fits =
     absurd (subst (IsRefusal e) (whole_verdict_unique S bytes v (accepted p) h (encodes, fits)) answers)
 
 -- reading took something where its verdict is no early end
@@ -188,3 +189,23 @@ takes_some S old new taken = by taken.front refl
         absurd (early_not_settles S [] (faulty insufficient) tt
         (inl (record { few = omega arith; all_marked = All-nil IsMarked })) (subst (Settles S) e taken.shortest.settles))
     by (b ∷ front) e = omega (arith, ap (λ (z : List ℕ). length z) split, length-append taken.front new, ap (λ (z : List ℕ). length z) e)
+
+-- reading the varint that comes next gives its number and leaves what follows
+pub varint_read : (n before after : ℕ) (old new : Option (List ℕ)) (bytes more : List ℕ) (r : Result ℕ Refusal)
+    → IsVarint n bytes → old ≡ Some (bytes ++ more) → after ≡ before
+    → IfOk r (λ m. TakesVarint m old new)
+    → IfSome old (λ input. after ≡ before → IfErr r (IsFrontRefusal input))
+    → MatchResult r (λ m. (m ≡ n) × (new ≡ Some more)) (λ _. ⊥)
+varint_read n before after None new bytes more r is rest same ok front = cc
+varint_read n before after (Some input) new bytes more (Ok m) is rest same ok front = at new ok.2
+  where
+    at : (new : Option (List ℕ)) → Takes (Some input) ok.0 new → (m ≡ n) × (new ≡ Some more)
+    at None takes = cc
+    at (Some left) takes =
+        let cut : ok.0 ++ left ≡ bytes ++ more = cc in
+        let told = same_number (bytes ++ more) m n left more (ok.0, ok.1, sym cut) (bytes, is, refl) in
+        (told.0, ap Some told.1)
+varint_read n before after (Some input) new bytes more (Err e) is rest same ok front =
+    let met = front same in
+    let spelled : input ≡ bytes ++ more = cc in
+    absurd (number_no_fault input n more met.0 (bytes, is, spelled) met.2)

@@ -12,7 +12,7 @@ pub OnErr-always : {T E P : Type 0} (r : Result T E) → P → OnErr r P
 OnErr-always (Ok x) p = tt
 OnErr-always (Err e) p = p
 
--- what follows from what is known of an answer holds where there is one
-pub OnOk-answered : {T E P : Type 0} {Q : T → Type 0} (r : Result T E) → IfOk r Q → ((t : T) → Q t → P) → OnOk r P
-OnOk-answered (Ok t) known follows = follows t known
-OnOk-answered (Err e) known follows = tt
+-- IfOk, read as OnOk
+pub OnOk-from_IfOk : {T E P : Type 0} {Q : T → Type 0} (r : Result T E) → IfOk r Q → ((t : T) → Q t → P) → OnOk r P
+OnOk-from_IfOk (Ok t) known follows = follows t known
+OnOk-from_IfOk (Err e) known follows = tt

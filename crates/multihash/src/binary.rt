@@ -11,7 +11,8 @@ ghost use Rattle.multihash.specs.Taking.{IsReadRefusal, TakesAtRefusal, TakesSho
 ghost use Rattle.multihash.specs.Answer.{pair_of, Answers};
 
 use crate::no_std_io::{self, Read, Write};
-use crate::{Error, Multihash, varint};
+use crate::varint::{self, word};
+use crate::{Error, Multihash};
 use std::alloc::Global;
 
 impl<const S: usize> Multihash<S> {
@@ -77,12 +78,12 @@ impl<const S: usize> Multihash<S> {
     pub fn from_bytes(bytes: &[u8]) -> Result<Self, Error>
         ensures { (v : Verdict) × HasWholeVerdict S bytes.now v × Answers result v }
     {
-        let Some((code, code_len)) = varint::read_front(bytes) else {
-            return Err(varint::front_fault(bytes));
+        let Some((code, code_len)) = word::read_front(bytes) else {
+            return Err(word::front_fault(bytes));
         };
         let left = &bytes[code_len..];
-        let Some((size, size_len)) = varint::read_front(left) else {
-            return Err(varint::front_fault(left));
+        let Some((size, size_len)) = word::read_front(left) else {
+            return Err(word::front_fault(left));
         };
         if size > S as u64 || size > 255 {
             return Err(Error::from_size(size));
@@ -122,8 +123,8 @@ impl<const S: usize> Multihash<S> {
             (W.failures w.old) (W.failures w.new) (W.full w.new) result }
     {
         let digest = self.digest();
-        let code = varint::write(self.code(), w)?;
-        let size = varint::write(u64::from(self.size()), w)?;
+        let code = varint::write_in_range(self.code(), w)?;
+        let size = varint::write_in_range(u64::from(self.size()), w)?;
         w.write_all(digest)?;
         Ok(code + size + digest.len())
     }
@@ -134,8 +135,8 @@ impl<const S: usize> Multihash<S> {
             × (result ≡ length bytes) }
         ensures short { result ≤ (most_marked + 1) + 2 + 255 }
     {
-        let code = varint::len(self.code());
-        let size = varint::len(u64::from(self.size()));
+        let code = varint::len_in_range(self.code());
+        let size = varint::len_in_range(u64::from(self.size()));
         code + size + usize::from(self.size())
     }
 

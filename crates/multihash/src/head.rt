@@ -5,7 +5,8 @@ ghost use Rattle.multihash.specs.Verdict.{faulty, HasVerdict};
 ghost use Rattle.multihash.specs.Head.{HasHead};
 ghost use Rattle.multihash.specs.Refusal.{IsFaulty};
 
-use crate::{Error, varint};
+use crate::Error;
+use crate::varint::word;
 
 /// The code and the digest's length that begin an encoding.
 #[derive(Clone, Copy, Debug, PartialEq, Eq)]
@@ -32,12 +33,12 @@ impl Head {
         ensures err { IfErr result (λ e. (fault : VarintFault) × IsFaulty fault e
             × ((S : ℕ) → HasVerdict S bytes.now (faulty fault))) }
     {
-        let Some((code, code_len)) = varint::read_front(bytes) else {
-            return Err(varint::front_fault(bytes));
+        let Some((code, code_len)) = word::read_front(bytes) else {
+            return Err(word::front_fault(bytes));
         };
         let left = &bytes[code_len..];
-        let Some((size, size_len)) = varint::read_front(left) else {
-            return Err(varint::front_fault(left));
+        let Some((size, size_len)) = word::read_front(left) else {
+            return Err(word::front_fault(left));
         };
         Ok(Head {
             code,

@@ -18,7 +18,7 @@ mod pins;
 mod scale;
 #[cfg(test)]
 mod tests;
-mod varint;
+pub mod varint;
 
 pub use crate::error::Error;
 pub use crate::head::Head;

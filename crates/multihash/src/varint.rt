@@ -1,19 +1,23 @@
 //! Minimal unsigned varints of multiformats, for numbers below 2^63: at most nine bytes.
-ghost use Rattle.std.specs.Prelude.{◌≡◌, ◌<◌, ◌≤◌, ◌+◌, ℕ, List, [], ◌∷◌, length, take, Some, IfSome, MatchOption, IfOk, IfErr, OnErr};
+//!
+//! A number's base-128 digits, the lowest first, one a byte, and 128 added to each byte but the last
+//! (<https://github.com/multiformats/unsigned-varint>). It is the form in which multiformats spells its numbers:
+//! the code and the length of a multihash, the version and the codec of a content identifier, the parts of a
+//! multiaddr.
+ghost use Rattle.std.specs.Prelude.{◌≡◌, ◌<◌, ◌≤◌, ◌+◌, ◌⊎◌, ℕ, List, [], ◌∷◌, length, take, Some, IfSome, MatchOption, IfOk, IfErr, OnErr};
 ghost use Rattle.multihash.specs.Varint.{IsVarint, varint_limit, most_marked};
 ghost use Rattle.std.specs.Io.KnownBytes.{IsAtEnd};
-ghost use Rattle.multihash.specs.Reading.{Takes, CountsReader, NoneListed};
-ghost use Rattle.multihash.specs.Writing.{AppendsPart, CountsWriter, IsFault};
+ghost use Rattle.multihash.specs.Reading.{Takes, CountsReader, NoOtherError};
+ghost use Rattle.multihash.specs.Writing.{AppendsPart, CountsWriter, IsFault, IsWriterFaultOrFull};
 ghost use Rattle.multihash.specs.Fault.{IsOwnFault};
-ghost use Rattle.multihash.specs.Refusal.{IsReaderFault};
+ghost use Rattle.multihash.specs.Refusal.{IsIo, IsInvalidCode, IsReaderFault};
 ghost use Rattle.multihash.specs.Taking.{IsVarintRefusal, IsFrontRefusal, TakesVarint, TakesAtVarintRefusal};
 
-mod word;
+pub(crate) mod word;
 
 use crate::Error;
 use crate::no_std_io::{self, Read, Write};
 use std::marker::Model;
-pub(crate) use word::{front_fault, read_front};
 
 // The most marked bytes of a varint.
 const MOST_MARKED: usize = 8;
@@ -21,8 +25,8 @@ const MOST_MARKED: usize = 8;
 // After that many marked bytes, a byte from this one on is too large.
 const FIRST_TOO_LARGE: u8 = 128;
 
-// The largest number that has a varint.
-pub(crate) const MAX: u64 = (((FIRST_TOO_LARGE as u128) << (7 * MOST_MARKED)) - 1) as u64;
+/// The largest number that has a varint: 2^63 - 1.
+pub const MAX: u64 = (((FIRST_TOO_LARGE as u128) << (7 * MOST_MARKED)) - 1) as u64;
 
 // The most bytes of a varint.
 const MAX_LEN: usize = MOST_MARKED + 1;
@@ -30,7 +34,7 @@ const MAX_LEN: usize = MOST_MARKED + 1;
 // The room for a varint: at least as many bytes as one has, and a whole machine word's copy.
 const ROOM: usize = 16;
 
-/// The varint of a number.
+// The varint of a number.
 #[derive(Drop)]
 pub(crate) struct Encoded {
     bytes: [u8; ROOM],
@@ -48,7 +52,7 @@ impl Model for Encoded {
 }
 
 impl Encoded {
-    /// The bytes, one to nine of them.
+    // The bytes, one to nine of them.
     #[inline(always)]
     pub(crate) fn as_bytes(&self) -> &[u8]
         ensures { result.now ≡ self.now }
@@ -57,7 +61,7 @@ impl Encoded {
     }
 }
 
-/// Makes the varint of a number.
+// Makes the varint of a number.
 pub(crate) fn encode(n: u64) -> Encoded
     requires { n < varint_limit }
     ensures { IsVarint n result }
@@ -77,9 +81,60 @@ pub(crate) fn encode(n: u64) -> Encoded
     }
 }
 
-/// How many bytes the varint of a number has, at most nine.
+/// How many bytes the varint of a number has: one to nine.
+///
+/// # Errors
+///
+/// [`Error::invalid_code`] with the number, where it is 2^63 or more.
+pub fn len(n: u64) -> Result<usize, Error>
+    ensures ok { IfOk result (λ len. (bytes : List ℕ) × IsVarint n bytes × (len ≡ length bytes)) }
+    ensures err { IfErr result (λ e. IsInvalidCode n e × (varint_limit ≤ n)) }
+{
+    if n > MAX {
+        return Err(Error::from_code(n));
+    }
+    Ok(len_in_range(n))
+}
+
+/// Appends the varint of a number to `w` by one call of `write_all`, and answers how many bytes it has: one to nine.
+///
+/// # Errors
+///
+/// - [`Error::invalid_code`] with the number, where it is 2^63 or more; the writer was not called;
+/// - [`Error::io`] with what the writer answered: no place left, a fault of its own, or want of memory where it
+///   allocates. A proper beginning of the varint was appended then.
+pub fn write<W: Write>(n: u64, w: &mut W) -> Result<usize, Error>
+    ensures ok { IfOk result (λ len. (bytes : List ℕ) × IsVarint n bytes × (len ≡ length bytes)
+        × W.appended w.old bytes w.new × (W.failures w.new ≡ W.failures w.old)) }
+    ensures err { IfErr result (λ e. (IsInvalidCode n e × (varint_limit ≤ n) × (w.new ≡ w.old))
+        ⊎ (IsIo (IsWriterFaultOrFull W.allocates (W.failures w.old) (W.failures w.new) (W.full w.new)) e
+        × ((bytes : List ℕ) × IsVarint n bytes × AppendsPart W.appended w.old bytes w.new))) }
+{
+    if n > MAX {
+        return Err(Error::from_code(n));
+    }
+    Ok(write_in_range(n, w)?)
+}
+
+/// Reads the varint that begins the bytes, and answers its number and how many bytes it has: one to nine.
+///
+/// # Errors
+///
+/// [`Error::is_insufficient`], [`Error::is_overflow`] or [`Error::is_not_minimal`], the fault that begins the bytes.
+pub fn read_front(bytes: &[u8]) -> Result<(u64, usize), Error>
+    ensures ok { IfOk result (λ found. IsVarint found.0 (take found.1 bytes.now)
+        × (found.1 ≤ length bytes.now)) }
+    ensures err { IfErr result (IsFrontRefusal bytes.now) }
+{
+    match word::read_front(bytes) {
+        Some(found) => Ok(found),
+        None => Err(word::front_fault(bytes)),
+    }
+}
+
+// As `len`, of a number that is known to be in range.
 #[inline(always)]
-pub(crate) fn len(n: u64) -> usize
+pub(crate) fn len_in_range(n: u64) -> usize
     requires { n < varint_limit }
     ensures varint { (bytes : List ℕ) × IsVarint n bytes × (result ≡ length bytes) }
     ensures short { result ≤ most_marked + 1 }
@@ -90,13 +145,9 @@ pub(crate) fn len(n: u64) -> usize
     encode(n).as_bytes().len()
 }
 
-/// Appends the varint of a number to `w` by one call of `write_all`, and answers how many bytes it has.
-///
-/// # Errors
-///
-/// What the writer answered. A proper beginning of the varint was appended then.
+// As `write`, of a number that is known to be in range.
 #[inline(always)]
-pub(crate) fn write<W: Write>(n: u64, w: &mut W) -> Result<usize, no_std_io::Error>
+pub(crate) fn write_in_range<W: Write>(n: u64, w: &mut W) -> Result<usize, no_std_io::Error>
     requires { n < varint_limit }
     ensures ok { IfOk result (λ len. (bytes : List ℕ) × IsVarint n bytes × (len ≡ length bytes)
         × W.appended w.old bytes w.new) }
@@ -115,12 +166,15 @@ pub(crate) fn write<W: Write>(n: u64, w: &mut W) -> Result<usize, no_std_io::Err
     Ok(varint.as_bytes().len())
 }
 
-/// Reads a varint, one byte at a time, and answers its number.
+/// Reads the varint that comes next, one byte at a time, and answers its number: what follows it in `r` stays unread.
 ///
 /// # Errors
 ///
-/// The fault that begins the input, once the byte that shows it was taken, or the reader's own.
-pub(crate) fn read<R: Read>(r: &mut R) -> Result<u64, Error>
+/// - [`Error::is_insufficient`] where the input ends inside or before the varint; all of it was taken;
+/// - [`Error::is_overflow`] where after eight marked bytes a byte is too large, and [`Error::is_not_minimal`] where
+///   a varint of more than one byte ends in a zero; the bytes up to the one that shows it were taken;
+/// - [`Error::io`] with the reader's own error, where it failed; the bytes taken are a varint that is cut.
+pub fn read<R: Read>(r: &mut R) -> Result<u64, Error>
     ensures faults { CountsReader IsReaderFault IsVarintRefusal
         (R.failures r.old) (R.failures r.new) result }
     ensures ok { IfOk result (λ n. TakesVarint n (R.rest r.old) (R.rest r.new)) }
@@ -150,7 +204,7 @@ pub(crate) fn read<R: Read>(r: &mut R) -> Result<u64, Error>
 // The next byte, or none where the input has ended.
 #[inline(always)]
 fn read_byte<R: Read>(r: &mut R) -> Result<Option<u8>, no_std_io::Error>
-    ensures faults { CountsReader IsOwnFault NoneListed
+    ensures faults { CountsReader IsOwnFault NoOtherError
         (R.failures r.old) (R.failures r.new) result }
     ensures byte { IfOk result (λ next. MatchOption next
         (IsAtEnd (R.rest r.old) × (R.rest r.new ≡ R.rest r.old))

@@ -14,7 +14,7 @@ use Rattle.multihash.proofs.Examples.VarintVectors.{all_marked, varint_0, varint
 use Rattle.multihash.proofs.Examples.VerdictVectors.{size_5, digest_cut, empty_input, code_alone, size_open}
 use Rattle.multihash_c.specs.Decoded.{Tells, ReadsWithin}
 use Rattle.multihash_c.proofs.DecodedVectors.{answer, input}
-use Rattle.multihash_c.proofs.ReadLemmas.{size_read, end_read, pair_read, fault_read}
+use Rattle.multihash_c.proofs.ReadLemmas.{size_read, end_read, read_of_encoding, fault_read}
 
 -- ---- examples
 
@@ -52,7 +52,7 @@ pair_head = record {
 
 reads_pair : ReadsWithin 4 input (answer 0 0 0 2 1 3)
 reads_pair =
-    pair_read 4 0 1 2 input pair_head (answer 0 0 0 2 1 3) (omega arith) (omega arith) refl
+    read_of_encoding 4 0 1 2 input pair_head (answer 0 0 0 2 1 3) (omega arith) (omega arith) refl
     (λ p code stands. record {
       is_ok = refl;
       no_size = refl;

@@ -1,5 +1,7 @@
 pub mod BlameLemmas
 pub mod ContentIdLemmas
 pub mod DumpLemmas
+pub mod ListTextLemmas
 pub mod MerkleLemmas
+pub mod RecoveryLemmas
 pub mod StreamLemmas

@@ -1,1 +1,2 @@
 pub mod ContentId
+pub mod Recovery

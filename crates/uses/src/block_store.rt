@@ -25,6 +25,8 @@ pub fn put_ordered(
 ) -> Result<(), AllocFailed<(Multihash<64>, u32)>>
     ensures kept { OnOk result
         (ordered.Updates (on pair_of compare_pairs) store.old store.new key (Some place)) }
+    ensures others { OnOk result ((other : Fields 64) → ¬ (pair_of other ≡ pair_of key) →
+        ordered.get (on pair_of compare_pairs) store.new other ≡ ordered.get (on pair_of compare_pairs) store.old other) }
     ensures unchanged { OnErr result (ordered.IsUnchanged store.old store.new) }
 {
     store.insert(key, place)?;
@@ -39,6 +41,8 @@ pub fn put_hashed(
 ) -> Result<(), AllocFailed<(Multihash<64>, u32)>>
     ensures kept { OnOk result
         (hashed.Updates (on pair_of equal_pairs) table.old table.new key (Some place)) }
+    ensures others { OnOk result ((other : Fields 64) → ¬ (pair_of other ≡ pair_of key) →
+        hashed.get (on pair_of equal_pairs) table.new other ≡ hashed.get (on pair_of equal_pairs) table.old other) }
     ensures unchanged { OnErr result (hashed.IsUnchanged table.old table.new) }
 {
     table.insert(key, place)?;

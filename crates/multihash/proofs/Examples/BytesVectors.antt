@@ -22,11 +22,8 @@ no_byte_256 h = omega (arith, h 1 0 (omega arith))
 
 -- ---- beginnings
 
-begins_itself : IsBeginning (1 ∷ 2 ∷ []) (1 ∷ 2 ∷ [])
-begins_itself = ([], refl)
-
-begins_longer : IsBeginning [] (1 ∷ 2 ∷ [])
-begins_longer = (1 ∷ 2 ∷ [], refl)
+begins : IsBeginning (1 ∷ 2 ∷ []) (1 ∷ 2 ∷ []) × IsBeginning [] (1 ∷ 2 ∷ [])
+begins = (([], refl), (1 ∷ 2 ∷ [], refl))
 
 begins_no_shorter : ¬ (IsBeginning (1 ∷ 2 ∷ []) (1 ∷ []))
 begins_no_shorter h = omega (arith, ap (λ (z : List ℕ). length z) h.1)

@@ -6,7 +6,7 @@ use Rattle.std.specs.declared.cmp.Ordering.{Ordering}
 use Rattle.std.specs.declared.cmp.Ordering.TheVariants.{Less, Equal, Greater}
 use Rattle.std.specs.Hash.{le_bytes}
 use Rattle.multihash.specs.Pair.{Pair, truncated}
-use Rattle.multihash.specs.Order.{IsSmallerWhereFirstDifferent, Compares}
+use Rattle.multihash.specs.Order.{IsLexSmaller, Compares}
 use Rattle.multihash.specs.Comparing.{equal_pairs, compare_pairs, hashed_pair}
 use Rattle.multihash.proofs.Values.OrderLemmas.{Compares-only, Compares-computed}
 use Rattle.multihash.proofs.Examples.PairVectors.{pair}
@@ -42,14 +42,14 @@ orders =
     []
 
 -- no place of a list is past its end
-no_smaller_beginning : ¬ (IsSmallerWhereFirstDifferent [] (codes "a"))
+no_smaller_beginning : ¬ (IsLexSmaller [] (codes "a"))
 no_smaller_beginning h = past h.same h.left_cut
   where
     past : (front : List ℕ) → [] ≡ front ++ h.left_byte ∷ h.left_rest → ⊥
     past [] e = cc
     past (c ∷ front) e = cc
 
-no_list_is_smaller_than_none : ¬ (IsSmallerWhereFirstDifferent (codes "a") [])
+no_list_is_smaller_than_none : ¬ (IsLexSmaller (codes "a") [])
 no_list_is_smaller_than_none h = past h.same h.right_cut
   where
     past : (front : List ℕ) → [] ≡ front ++ h.right_byte ∷ h.right_rest → ⊥

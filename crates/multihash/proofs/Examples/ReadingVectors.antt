@@ -5,7 +5,7 @@ use Rattle.std.proofs.lemmas.Bool.{false≢true}
 use Rattle.std.proofs.lemmas.List.{append_cancel_right}
 use Rattle.multihash.specs.Fault.{Fault, IsUnexpectedEof, IsOwnFault}
 use Rattle.std.specs.Io.KnownBytes.{prepend_known, IsAtEnd}
-use Rattle.multihash.specs.Reading.{Takes, HasFewerThan, TakesFewerThan, CountsReader, ReadLaws, ReadExactLaws, NoneListed}
+use Rattle.multihash.specs.Reading.{Takes, HasFewerThan, TakesFewerThan, CountsReader, ReadLaws, ReadExactLaws, NoOtherError}
 use Rattle.multihash.proofs.Examples.FaultVectors.{other, eof, memory}
 
 -- ---- what was taken
@@ -68,7 +68,7 @@ takes_fewer_of_its_own h = none h.taken h.takes
 -- ---- how a reader failed
 
 abbrev Reads : ℕ → ℕ → Result ℕ Fault → Type 0
-Reads before after outcome = CountsReader IsOwnFault NoneListed before after outcome
+Reads before after outcome = CountsReader IsOwnFault NoOtherError before after outcome
 
 -- an Ok leaves the count, and a fault of the reader's own raises it by one
 reads : Reads 3 3 (Ok 1) × Reads 3 4 (Err other) × ¬ (Reads 3 4 (Ok 1)) × ¬ (Reads 4 3 (Ok 1))

@@ -1,5 +1,5 @@
 -- What refused calls took from known readers.
-use Rattle.std.proofs.Common.{◌≡◌, ◌<◌, ℕ, List, [], ◌∷◌, length, refl, sym, ap, ◌∙◌, arith, subst, inl, inr, length-append, append-nil}
+use Rattle.std.proofs.Common.{◌≡◌, ◌<◌, ℕ, List, [], ◌∷◌, ◌++◌, length, refl, sym, ap, ◌∙◌, arith, subst, inl, inr, length-append, append-nil}
 use Rattle.std.specs.Prelude.{⊤, Option, Some}
 use Rattle.multihash.specs.Bytes.{IsProperBeginning}
 use Rattle.multihash.specs.Varint.{VarintFault, insufficient, overflow, not_minimal, IsVarint, IsInsufficient, HasFaultyFront}
@@ -198,18 +198,14 @@ memory_fails_not_behind_varint h =
 -- ---- a refused `read`
 
 digest_missing : HasVerdict 4 (0 ∷ 4 ∷ []) unexpected_eof
-digest_missing = (
-  4,
-  [],
-  record { code = 0; code_bytes = 0 ∷ []; size_bytes = 4 ∷ []; is_code = varint_0; is_size = varint_4; cut = refl },
-  omega arith,
-  omega arith,
-)
+digest_missing =
+    (4, [], record { code = 0; code_bytes = 0 ∷ []; size_bytes = 4 ∷ []; is_code = varint_0; is_size = varint_4; cut = refl }, omega arith, omega arith)
 
 -- what has a verdict that stays has no early end
-not_early : (S : ℕ) (input : List ℕ) (v w : Verdict) → HasVerdict S input w → ¬ (IsEarlyEnd w)
-    → HasVerdict S input v → ¬ (IsEarlyEnd v)
-not_early S input v w late stays h early = stays (subst IsEarlyEnd (verdict_unique S input v w h late) early)
+not_early : (a taken : List ℕ) (v w : Verdict) → Takes (Some (a ++ [])) taken (Some []) → HasVerdict 4 a w → ¬ (IsEarlyEnd w)
+    → HasVerdict 4 taken v → ¬ (IsEarlyEnd v)
+not_early a taken v w takes late stays h early =
+    stays (subst IsEarlyEnd (verdict_unique 4 a v w (subst (λ (z : List ℕ). HasVerdict 4 z v) (taken_is a [] taken takes) h) late) early)
 
 ends_inside_digest : TakesAtRefusal 4 (of_io eof) (Some (0 ∷ 4 ∷ 1 ∷ 2 ∷ 3 ∷ [])) (Some [])
 ends_inside_digest = record {
@@ -238,9 +234,7 @@ read_takes_its_own h = gives_none_back h.taken h.takes
 insufficient_behind_no_size : ¬
     (TakesAtRefusal 4 (of_varint insufficient) (Some (0 ∷ 5 ∷ [])) (Some []))
 insufficient_behind_no_size h =
-    not_early 4 (0 ∷ 5 ∷ []) (faulty insufficient) (invalid_size 5) size_above_limit (λ e. e)
-    (subst (λ (z : List ℕ). HasVerdict 4 z (faulty insufficient))
-    (taken_is (0 ∷ 5 ∷ []) [] h.taken h.takes) (h.insufficient refl).0) tt
+    not_early (0 ∷ 5 ∷ []) h.taken (faulty insufficient) (invalid_size 5) h.takes size_above_limit (λ e. e) (h.insufficient refl).0 tt
 
 -- and all of the input
 insufficient_leaves_none : ¬
@@ -260,17 +254,13 @@ ends_not_inside_varint h =
 fails_not_behind_size : ¬ (TakesAtRefusal 4 (of_io other) (Some (0 ∷ 5 ∷ [])) (Some []))
 fails_not_behind_size h =
     let (v, early, has) = h.fault (other, refl, inl refl) in
-    not_early 4 (0 ∷ 5 ∷ []) v (invalid_size 5) size_above_limit (λ e. e)
-    (subst (λ (z : List ℕ). HasVerdict 4 z v) (taken_is (0 ∷ 5 ∷ []) [] h.taken h.takes) has) early
+    not_early (0 ∷ 5 ∷ []) h.taken v (invalid_size 5) h.takes size_above_limit (λ e. e) has early
 
 fails_not_behind_pair : ¬
     (TakesAtRefusal 4 (of_io memory) (Some (0 ∷ 4 ∷ 1 ∷ 2 ∷ 3 ∷ 4 ∷ [])) (Some []))
 fails_not_behind_pair h =
     let (v, early, has) = h.fault (memory, refl, inr refl) in
-    not_early 4 (0 ∷ 4 ∷ 1 ∷ 2 ∷ 3 ∷ 4 ∷ []) v
-    (accepted (pair 0 (1 ∷ 2 ∷ 3 ∷ 4 ∷ []))) digest_full (λ e. e)
-    (subst (λ (z : List ℕ). HasVerdict 4 z v)
-    (taken_is (0 ∷ 4 ∷ 1 ∷ 2 ∷ 3 ∷ 4 ∷ []) [] h.taken h.takes) has) early
+    not_early (0 ∷ 4 ∷ 1 ∷ 2 ∷ 3 ∷ 4 ∷ []) h.taken v (accepted (pair 0 (1 ∷ 2 ∷ 3 ∷ 4 ∷ []))) h.takes digest_full (λ e. e) has early
 
 -- ---- the shortest that settles
 

@@ -7,20 +7,20 @@ use Rattle.std.specs.Ordering.{MatchOrdering, nat_cmp, ordering_then}
 use Rattle.std.specs.declared.cmp.Ordering.{Ordering}
 use Rattle.std.specs.declared.cmp.Ordering.TheVariants.{Less, Equal, Greater}
 use Rattle.multihash.specs.Pair.{Pair, IsSame}
-use Rattle.multihash.specs.Order.{IsSmallerWhereFirstDifferent, ComesBefore, Compares}
+use Rattle.multihash.specs.Order.{IsLexSmaller, ComesBefore, Compares}
 use Rattle.multihash.specs.Comparing.{compare_pairs}
 
 -- ---- lists
 
 -- the heads differ
-IsSmallerWhereFirstDifferent-head : (a b : ℕ) (x y : List ℕ) → a < b → IsSmallerWhereFirstDifferent (a ∷ x) (b ∷ y)
-IsSmallerWhereFirstDifferent-head a b x y below =
+IsLexSmaller-head : (a b : ℕ) (x y : List ℕ) → a < b → IsLexSmaller (a ∷ x) (b ∷ y)
+IsLexSmaller-head a b x y below =
     record { same = []; left_byte = a; right_byte = b; left_rest = x; right_rest = y; smaller = below; left_cut = refl; right_cut = refl }
 
 -- behind equal heads
-IsSmallerWhereFirstDifferent-cons : (a b : ℕ) (x y : List ℕ) → a ≡ b → IsSmallerWhereFirstDifferent x y
-    → IsSmallerWhereFirstDifferent (a ∷ x) (b ∷ y)
-IsSmallerWhereFirstDifferent-cons a b x y e h = record {
+IsLexSmaller-cons : (a b : ℕ) (x y : List ℕ) → a ≡ b → IsLexSmaller x y
+    → IsLexSmaller (a ∷ x) (b ∷ y)
+IsLexSmaller-cons a b x y e h = record {
   same = a ∷ h.same;
   left_byte = h.left_byte;
   right_byte = h.right_byte;
@@ -33,16 +33,16 @@ IsSmallerWhereFirstDifferent-cons a b x y e h = record {
 
 -- what comparing one byte after another answers, at lists as long as each other
 slice_cmp-step : (a b : ℕ) (x y : List ℕ) (o r : Ordering) → MatchOrdering o (a < b) (a ≡ b) (b < a)
-    → MatchOrdering r (IsSmallerWhereFirstDifferent x y) (x ≡ y) (IsSmallerWhereFirstDifferent y x)
-    → MatchOrdering (ordering_then o r) (IsSmallerWhereFirstDifferent (a ∷ x) (b ∷ y)) (a ∷ x ≡ b ∷ y) (IsSmallerWhereFirstDifferent (b ∷ y) (a ∷ x))
-slice_cmp-step a b x y Less r h k = IsSmallerWhereFirstDifferent-head a b x y h
-slice_cmp-step a b x y Equal Less h k = IsSmallerWhereFirstDifferent-cons a b x y h k
+    → MatchOrdering r (IsLexSmaller x y) (x ≡ y) (IsLexSmaller y x)
+    → MatchOrdering (ordering_then o r) (IsLexSmaller (a ∷ x) (b ∷ y)) (a ∷ x ≡ b ∷ y) (IsLexSmaller (b ∷ y) (a ∷ x))
+slice_cmp-step a b x y Less r h k = IsLexSmaller-head a b x y h
+slice_cmp-step a b x y Equal Less h k = IsLexSmaller-cons a b x y h k
 slice_cmp-step a b x y Equal Equal h k = cc (h, k)
-slice_cmp-step a b x y Equal Greater h k = IsSmallerWhereFirstDifferent-cons b a y x (sym h) k
-slice_cmp-step a b x y Greater r h k = IsSmallerWhereFirstDifferent-head b a y x h
+slice_cmp-step a b x y Equal Greater h k = IsLexSmaller-cons b a y x (sym h) k
+slice_cmp-step a b x y Greater r h k = IsLexSmaller-head b a y x h
 
 slice_cmp-says : (x y : List ℕ) → length x ≡ length y
-    → MatchOrdering (slice_cmp nat_cmp x y) (IsSmallerWhereFirstDifferent x y) (x ≡ y) (IsSmallerWhereFirstDifferent y x)
+    → MatchOrdering (slice_cmp nat_cmp x y) (IsLexSmaller x y) (x ≡ y) (IsLexSmaller y x)
 slice_cmp-says [] [] l = refl
 slice_cmp-says [] (b ∷ y) l = absurd (omega arith)
 slice_cmp-says (a ∷ x) [] l = absurd (omega arith)
@@ -57,12 +57,12 @@ slice_cmp-behind (c ∷ front) a b x y o is =
     slice_cmp-behind front a b x y o is
     ∙ ap (λ r. ordering_then r (slice_cmp nat_cmp (front ++ a ∷ x) (front ++ b ∷ y))) (nat_cmp_is c c Equal refl)
 
-slice_cmp-less : (x y : List ℕ) → IsSmallerWhereFirstDifferent x y → Less ≡ slice_cmp nat_cmp x y
+slice_cmp-less : (x y : List ℕ) → IsLexSmaller x y → Less ≡ slice_cmp nat_cmp x y
 slice_cmp-less x y h =
     rw (h.left_cut, h.right_cut)
     (slice_cmp-behind h.same h.left_byte h.right_byte h.left_rest h.right_rest Less (nat_cmp_is h.left_byte h.right_byte Less h.smaller))
 
-slice_cmp-greater : (x y : List ℕ) → IsSmallerWhereFirstDifferent y x → Greater ≡ slice_cmp nat_cmp x y
+slice_cmp-greater : (x y : List ℕ) → IsLexSmaller y x → Greater ≡ slice_cmp nat_cmp x y
 slice_cmp-greater x y h =
     rw (h.left_cut, h.right_cut)
     (slice_cmp-behind h.same h.right_byte h.left_byte h.right_rest h.left_rest Greater (nat_cmp_is h.right_byte h.left_byte Greater h.smaller))
@@ -101,7 +101,7 @@ module _ (p q : Pair) where
 
   -- and they do compare so
   by_bytes : p.code ≡ q.code → length p.digest ≡ length q.digest → (o : Ordering)
-      → MatchOrdering o (IsSmallerWhereFirstDifferent p.digest q.digest) (p.digest ≡ q.digest) (IsSmallerWhereFirstDifferent q.digest p.digest)
+      → MatchOrdering o (IsLexSmaller p.digest q.digest) (p.digest ≡ q.digest) (IsLexSmaller q.digest p.digest)
       → Compares p q o
   by_bytes e l Less h = inr (inr (e, l, h))
   by_bytes e l Equal h = record { code = e; digest = h }

@@ -1,5 +1,5 @@
 //! The varints of numbers, both ways.
-use crate::{Multihash, varint};
+use crate::{Error, Multihash, varint};
 use std::test::Fail;
 
 const VARINTS: [(u64, &[u8]); 13] = [
@@ -44,7 +44,14 @@ fn varints_both_ways(rt: HostRuntime) -> Result<(), Fail> {
         assert!(rt; left.is_empty());
         let mut followed = bytes.to_vec(rt.alloc())?;
         followed.push(7)?;
-        assert_eq!(rt; varint::read_front(&followed), Some((value, bytes.len())));
+        assert_eq!(rt;
+            varint::read_front(&followed).ok(),
+            Some((value, bytes.len()))
+        );
+        assert_eq!(rt; varint::len(value).ok(), Some(bytes.len()));
+        let mut written = Vec::new(rt.alloc());
+        assert_eq!(rt; varint::write(value, &mut written)?, bytes.len());
+        assert_eq!(rt; written.as_slice(), bytes);
     }
     Ok(())
 }
@@ -55,7 +62,7 @@ fn ninth_marked_byte_overflows(rt: HostRuntime) {
         let mut left: &[u8] = &bytes;
         assert!(rt; varint::read(&mut left).is_err_and(|e| e.is_overflow()));
         assert_eq!(rt; left, &bytes[9..]);
-        assert!(rt; varint::read_front(&bytes).is_none());
+        assert!(rt; varint::read_front(&bytes).is_err_and(|e| e.is_overflow()));
         assert!(rt; Multihash::<4>::from_bytes(&bytes).is_err_and(|e| e.is_overflow()));
         assert!(rt; Multihash::<4>::from_bytes(&bytes[..9]).is_err_and(|e| e.is_overflow()));
         assert!(rt; Multihash::<4>::from_bytes(&bytes[..8]).is_err_and(|e| e.is_insufficient()));
@@ -65,6 +72,17 @@ fn ninth_marked_byte_overflows(rt: HostRuntime) {
 #[test]
 fn largest_number_has_nine_bytes(rt: HostRuntime) {
     assert_eq!(rt; varint::MAX, 9223372036854775807);
-    assert_eq!(rt; varint::len(varint::MAX), 9);
-    assert_eq!(rt; varint::len(72057594037927935), 8);
+    assert_eq!(rt; varint::len(varint::MAX).ok(), Some(9));
+    assert_eq!(rt; varint::len(72057594037927935).ok(), Some(8));
+}
+
+#[test]
+fn larger_numbers_have_no_varint(rt: HostRuntime) {
+    for number in [varint::MAX + 1, u64::MAX] {
+        let mut written = Vec::new(rt.alloc());
+        let refused = |e: Error| e.invalid_code() == Some(number);
+        assert!(rt; varint::write(number, &mut written).is_err_and(refused));
+        assert!(rt; varint::len(number).is_err_and(|e| e.invalid_code() == Some(number)));
+        assert!(rt; written.is_empty());
+    }
 }

@@ -7,8 +7,8 @@ use Rattle.multihash.proofs.multihash.Multihash.encoded_len.Goals as goal
 pub returns-clause-encoding : goal.returns-clause-encoding
 returns-clause-encoding g c =
     let p = pair_of c.args.self.now in
-    let a = c.len-code.ensures.varint in
-    let b = c.len-size.ensures.varint in (
+    let a = c.len_in_range-code.ensures.varint in
+    let b = c.len_in_range-size.ensures.varint in (
       a.0 ++ (b.0 ++ p.digest),
       encoding_of p _ _ p.digest a.0 b.0 c.code.ensures.code (c.from.ensures ∙ c.size.ensures.size) refl a.1 b.1,
       omega (arith, a.2, b.2, c.from-2.ensures, c.size-2.ensures.size, length-parts a.0 b.0 p.digest),

@@ -1,0 +1,6 @@
+use Rattle.multihash.specs.Answer.{pair_of}
+use Rattle.multihash.proofs.Values.KeyLemmas.{other_key}
+use Rattle.uses.proofs.block_store.put_ordered.Goals as goal
+
+pub returns-clause-others : goal.returns-clause-others
+returns-clause-others c other differs = c.in_ok-insert.ensures.updates.2 other (other_key (pair_of c.args.key) (pair_of other) differs)

@@ -1,0 +1,73 @@
+//! JSON text: a multihash as the array of its encoding's bytes, printed and read by `serde_json`.
+ghost use Rattle.std.specs.Prelude.{◌≡◌, ℕ, List, Some, IfOk, string_bytes};
+ghost use Rattle.serde_json.specs.Data.{Data};
+ghost use Rattle.serde_json.specs.Read.{read};
+ghost use Rattle.multihash.specs.Encoding.{IsEncoding};
+ghost use Rattle.multihash.specs.Json.{IsByteArray, IsJsonList};
+ghost use Rattle.multihash.specs.Answer.{pair_of};
+
+use multihash::Multihash;
+use serde_json::Value;
+use std::alloc::Global;
+
+/// Why a text is no multihash, or none was printed.
+#[derive(Debug, Drop)]
+pub enum TextError {
+    /// The text is no JSON.
+    Text(serde_json::Error),
+    /// The value is no multihash.
+    Value(multihash::Error),
+    /// Memory was refused.
+    Memory,
+}
+
+/// The text, which reads back as the list of the encoding's bytes.
+///
+/// # Errors
+///
+/// Want of memory.
+pub fn print<const S: usize>(alloc: Global, m: &Multihash<S>) -> Result<String, TextError>
+    ensures { IfOk result (λ text. (d : Data) × (read (string_bytes text) ≡ Some d)
+        × IsJsonList (pair_of m.now) d) }
+{
+    match m.to_value(alloc) {
+        Ok(value) => match value.to_string(alloc) {
+            Ok(text) => Ok(text),
+            Err(_) => Err(TextError::Memory),
+        },
+        Err(e) => Err(TextError::Value(e)),
+    }
+}
+
+/// The multihash whose encoding the text lists.
+///
+/// # Errors
+///
+/// A text that is no JSON, a value that is no multihash, and want of memory.
+pub fn parse<const S: usize>(alloc: Global, text: &str) -> Result<Multihash<S>, TextError>
+    ensures { IfOk result (λ m. (d : Data) × (read text.now ≡ Some d)
+        × ((bytes : List ℕ) × IsByteArray d bytes × IsEncoding (pair_of m) bytes)) }
+{
+    match Value::from_str(alloc, text) {
+        Ok(value) => match Multihash::from_value(&value) {
+            Ok(m) => Ok(m),
+            Err(e) => Err(TextError::Value(e)),
+        },
+        Err(e) => Err(TextError::Text(e)),
+    }
+}
+
+/// A multihash printed, and read from the text into a buffer of its own size or another: the same pair.
+///
+/// # Errors
+///
+/// Want of memory, and a digest that does not fit.
+pub fn text_back<const S: usize, const R: usize>(
+    alloc: Global,
+    m: &Multihash<S>,
+) -> Result<Multihash<R>, TextError>
+    ensures { IfOk result (λ back. pair_of back ≡ pair_of m.now) }
+{
+    let text = print(alloc, m)?;
+    parse(alloc, text.as_str())
+}
