@@ -232,6 +232,7 @@ test_installed() {
   try "what was unpacked" is_installed "$unpacked"
   try "what was unpacked, shared" build_installed "$unpacked" cc "${c_flags[@]}"
   try "installing no archive" refuses refuses_to_install
+  has cargo && try "the crate for Rust, as installed" installed_rust_binding "$work/below/opt/multihash"
 }
 
 # ---- bindings
@@ -250,6 +251,13 @@ rust_binding() {
   grep -qx "version = \"$version\"" bindings/rust/Cargo.toml || return 1
   env -C bindings/rust MULTIHASH_C_LIB_DIR="$(dirname "$library")" MULTIHASH_VERDICTS="$list" RUSTFLAGS="-D warnings" \
     CARGO_TARGET_DIR="$work/target" cargo test --offline --locked
+}
+
+# The crate's tests by the shared library of a prefix.
+installed_rust_binding() {
+  sed "s|^prefix=.*|prefix=$1|" -i "$1/lib/pkgconfig/multihash_c.pc"
+  env -C bindings/rust PKG_CONFIG_PATH="$1/lib/pkgconfig" LD_LIBRARY_PATH="$1/lib" MULTIHASH_VERDICTS="$list" \
+    RUSTFLAGS="-D warnings" CARGO_TARGET_DIR="$work/target" cargo test --offline --locked
 }
 
 # The crate and its example by the compiler alone, in an edition.
