@@ -35,7 +35,7 @@ archive() {
 # The shared library of an archive, whose symbols are the archive's exports and nothing else.
 link_shared() {
   local from=$1 to=$2 exports
-  exports=$("${NM:-nm}" --defined-only --extern-only -f posix "$from" | awk 'NF > 1 { print $1 ";" }')
+  exports=$("${NM:-nm}" --defined-only --extern-only -f posix "$from" | awk '!/:$/ && NF { print $1 ";" }')
   [ -n "$exports" ] || { echo "install_c.sh: no exports: $from" >&2; exit 1; }
   printf '{ global: %s local: *; };\n' "$exports" > "$work/exports"
   "${CC:-cc}" -shared -Wl,-soname,"lib$name.so.$major" -Wl,--version-script="$work/exports" -Wl,--build-id=none \

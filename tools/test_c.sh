@@ -4,7 +4,8 @@
 # the examples of docs/C.md; installs it, and calls it from Rust and Python. The last line is 'N passed, M failed'.
 #
 #   PROVED=FOLDER      a copy of the repository whose crates are proved: the library is built there, else here
-#   LEAVE_OUT="WORDS"  parts that are left out: c++ nm objdump pkg-config. Each is wanted, and without it the script fails
+#   LEAVE_OUT="WORDS"  parts that are left out: c++ nm objdump pkg-config. Each is wanted, and without it the script fails.
+#                      Without the last three what is installed is not tested either
 #
 # What need not be installed is named before the last line where it is not: clang, valgrind, cargo, rustc.
 set -uo pipefail
@@ -63,7 +64,7 @@ wants() {
 # Whether a tool is there that need not be.
 has() {
   command -v "$1" > /dev/null && return 0
-  missing+=("$1")
+  [[ " ${missing[*]-} " == *" $1 "* ]] || missing+=("$1")
   return 1
 }
 
@@ -82,14 +83,14 @@ builds_the_same() {
 # The archive exports what the header declares, no more and no less.
 exports_exactly() {
   python3 tools/check_header.py --exports > "$work/declared" && [ -s "$work/declared" ] || return 1
-  nm --defined-only --extern-only -f posix "$1" | awk 'NF > 1 { print $1 }' | sort | diff "$work/declared" - &&
+  nm --defined-only --extern-only -f posix "$1" | awk '!/:$/ && NF { print $1 }' | sort | diff "$work/declared" - &&
     echo "exports the $(wc -l < "$work/declared") functions that the header declares"
 }
 
 # It needs copies and fills of memory, and nothing else.
 needs_copies_alone() {
   local needed
-  needed=$(nm --undefined-only -f posix "$1" | awk 'NF > 1 { print $1 }' | sort -u | tr '\n' ' ')
+  needed=$(nm --undefined-only -f posix "$1" | awk '!/:$/ && NF { print $1 }' | sort -u | tr '\n' ' ')
   echo "needs: $needed"
   [ "$needed" = "memcpy memset " ]
 }
@@ -218,6 +219,7 @@ refuses_to_install() {
 
 test_installed() {
   local prefix="$work/a prefix" unpacked="$work/un packed/multihash_c-$version"
+  example_in c > "$work/example.c"
   try "installing" env ARCHIVE="$library" tools/install_c.sh "$prefix"
   try "what is installed" is_installed "$prefix"
   try "shared" build_installed "$prefix" cc "${c_flags[@]}" -fno-pie -no-pie
@@ -230,13 +232,14 @@ test_installed() {
   try "what was unpacked" is_installed "$unpacked"
   try "what was unpacked, shared" build_installed "$unpacked" cc "${c_flags[@]}"
   try "installing no archive" refuses refuses_to_install
+  has cargo && try "the crate for Rust, as installed" installed_rust_binding "$work/below/opt/multihash"
 }
 
 # ---- bindings
 
 python_binding() {
   local at=$work/libmultihash_c.so
-  ARCHIVE=$library tools/install_c.sh "$work/for_python" && cp "$work/for_python/lib/libmultihash_c.so" "$at" || return 1
+  cc -shared -Wl,--whole-archive "$library" -Wl,--no-whole-archive -o "$at" || return 1
   export PYTHONDONTWRITEBYTECODE=1 MULTIHASH_C_LIBRARY=$at MULTIHASH_VERDICTS=$list
   (cd bindings/python && python3 -m unittest) || return 1
   example_in python > "$work/example.py"
@@ -248,6 +251,13 @@ rust_binding() {
   grep -qx "version = \"$version\"" bindings/rust/Cargo.toml || return 1
   env -C bindings/rust MULTIHASH_C_LIB_DIR="$(dirname "$library")" MULTIHASH_VERDICTS="$list" RUSTFLAGS="-D warnings" \
     CARGO_TARGET_DIR="$work/target" cargo test --offline --locked
+}
+
+# The crate's tests by the shared library of a prefix.
+installed_rust_binding() {
+  sed "s|^prefix=.*|prefix=$1|" -i "$1/lib/pkgconfig/multihash_c.pc"
+  env -C bindings/rust PKG_CONFIG_PATH="$1/lib/pkgconfig" LD_LIBRARY_PATH="$1/lib" MULTIHASH_VERDICTS="$list" \
+    RUSTFLAGS="-D warnings" CARGO_TARGET_DIR="$work/target" cargo test --offline --locked
 }
 
 # The crate and its example by the compiler alone, in an edition.
@@ -262,7 +272,10 @@ rust_example() {
 # ---- all of it
 
 test_library() {
-  wants nm && wants objdump && look_at_library
+  if wants nm && wants objdump; then
+    look_at_library
+    wants pkg-config && test_installed
+  fi
   test_compiler cc cc "${c_flags[@]}"
   wants c++ && test_compiler c++ c++ "${cpp_flags[@]}" -x c++
   has clang && test_compiler clang clang "${c_flags[@]}"
@@ -271,7 +284,6 @@ test_library() {
   try "the counted calls" counted_calls
   try "the example in C" c_example
   try "the reader of a stream" stream_example
-  wants pkg-config && test_installed
   try "the module for Python" python_binding
   has cargo && try "the crate for Rust" rust_binding
   if has rustc; then

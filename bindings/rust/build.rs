@@ -15,10 +15,15 @@ fn main() {
     }
 }
 
-/// The folder that pkg-config tells.
+/// The folder of an installed library that has this crate's first number.
 fn installed() -> String {
-    let wanted = ["--variable=libdir", "multihash_c >= 1", "multihash_c < 2"];
-    let answer = Command::new("pkg-config").args(wanted).output().expect("pkg-config runs");
+    pkg_config(&["--exists", "--print-errors", "multihash_c >= 1", "multihash_c < 2"]);
+    pkg_config(&["--variable=libdir", "multihash_c"])
+}
+
+/// What pkg-config answers.
+fn pkg_config(arguments: &[&str]) -> String {
+    let answer = Command::new("pkg-config").args(arguments).output().expect("pkg-config runs");
     let faults = String::from_utf8_lossy(&answer.stderr).into_owned();
     assert!(answer.status.success(), "pkg-config finds no multihash_c: {faults}");
     String::from_utf8(answer.stdout).expect("a folder in UTF-8").trim().to_owned()
