@@ -1,7 +1,7 @@
 #!/usr/bin/env python3
 """Checks that crates/multihash_c/include/multihash.h and the crate declare the same: the functions with their
 parameters, the structs with the order and the types of their fields, the status's type and numbers, the largest
-lengths, and the library's texts. Header and crate are read whole: a line that is none of the forms known here is a
+lengths, the texts of the statuses, and the version; and that the bindings have its numbers and structs. Header and crate are read whole: a line that is none of the forms known here is a
 fault. Then plants differences in copies, each of which must be seen.
 
     tools/check_header.py              checks
@@ -16,19 +16,11 @@ import tempfile
 TOP = os.path.dirname(os.path.dirname(os.path.realpath(__file__)))
 HEADER = "crates/multihash_c/include/multihash.h"
 SOURCE = "crates/multihash_c/src"
-SPECS = ["crates/multihash/specs/%s.antt" % name for name in ("Refusal", "Fault", "Varint")]
+RUST = "bindings/rust/src"
+CARGO = "bindings/rust/Cargo.toml"
+PYTHON = "bindings/python/multihash_c.py"
+VARINT = "crates/multihash/specs/Varint.antt"
 TYPES = {"u8": "uint8_t", "u32": "uint32_t", "u64": "uint64_t", "i32": "int32_t", "usize": "size_t"}
-
-# The statuses whose text is that of a word of the library's specs.
-WORDS = {
-    "INSUFFICIENT": "insufficient",
-    "OVERFLOW": "overflow",
-    "NOT_MINIMAL": "not_minimal",
-    "INVALID_SIZE": "of_size",
-    "INVALID_CODE": "of_code",
-    "UNEXPECTED_EOF": "UnexpectedEof",
-    "NO_ROOM": "WriteZero",
-}
 
 # The lines of the preprocessor that the header may have, beside those that define a number.
 DIRECTIVES = [
@@ -36,6 +28,9 @@ DIRECTIVES = [
     "#define MULTIHASH_H",
     "#include <stddef.h>",
     "#include <stdint.h>",
+    "#if !defined(__x86_64__) || !defined(__ELF__) || SIZE_MAX != UINT64_MAX",
+    '#error "libmultihash_c is built for x86-64 with ELF and a size_t of 64 bits"',
+    "#endif",
     "#ifdef __cplusplus",
     "#endif",
     "#ifdef __cplusplus",
@@ -80,12 +75,13 @@ def once(table, name, value):
 
 
 def sources(top):
-    """The text of each source file but the tests', also in folders below."""
-    found = []
+    """The text of each source file but the tests', also in folders below, by its path."""
+    found = {}
     for folder, _, names in os.walk(os.path.join(top, SOURCE)):
-        found += [os.path.join(folder, name) for name in names if name.endswith(".rt")]
-    tests = os.path.join(top, SOURCE, "tests.rt")
-    return [re.sub(r"//[^\n]*", "", read(path)) for path in sorted(found) if path != tests]
+        for path in (os.path.join(folder, name) for name in names if name.endswith(".rt")):
+            found[os.path.relpath(path, os.path.join(top, SOURCE))] = re.sub(r"//[^\n]*", "", read(path))
+    del found["tests.rt"]
+    return found
 
 
 def c_type(kind, structs):
@@ -126,7 +122,7 @@ def crate_functions(text, structs):
         raise Unread("not read: an export")
     functions = {}
     for name, parameters, result in found:
-        parts = [c_parameter(part, structs) for part in pieces(parameters, ",")]
+        parts = [c_parameter(part, structs) for part in pieces(parameters, ",")] or ["void"]
         once(functions, name, flat("%s(%s)" % (c_type(result, structs), ", ".join(parts))))
     return functions
 
@@ -140,27 +136,38 @@ def crate_numbers(text):
     return numbers
 
 
+def crate_texts(text):
+    """The texts of the statuses, of which the prover knows that they are the library's."""
+    texts = {}
+    body = whole(r".*fn multihash_put_status_text\(.*?match status \{([^{}]*)\}.*", text)[1]
+    for line in pieces(body, ",\n"):
+        name, spelled = whole(r'(?:status::(\w+)|_) => put\(b"([^"]*)",out\)', line).groups()
+        once(texts, name or "default", spelled)
+    return texts
+
+
+def crate_version(text):
+    """The three numbers of the version, as a text and as one number."""
+    numbers = [int(whole(r".*const %s: u32 = (\d+);.*" % name, text)[1]) for name in ("MAJOR", "MINOR", "PATCH")]
+    number = numbers[0] * 10000 + numbers[1] * 100 + numbers[2]
+    return {"VERSION": '"%d.%d.%d"' % tuple(numbers), "VERSION_NUMBER": number}
+
+
 def of_crate(top):
-    """What the crate's source declares, in C's words, and the texts of the library."""
-    texts = sources(top)
-    text = "\n".join(texts)
-    specs = "".join(read(os.path.join(top, name)) for name in SPECS)
-    spelled = dict(re.findall(r'^(?:refusal_text|varint_text|text_of) \(?(\w+)[^=\n]*= codes "([^"]*)"', specs, re.M))
+    """What the crate's source declares, in C's words."""
+    files = sources(top)
+    text = "\n".join(files.values())
     structs = crate_structs(text)
-    status = re.sub(r"//[^\n]*", "", read(os.path.join(top, SOURCE, "status.rt")))
-    varint = int(re.search(r"^most_marked = (\d+)$", specs, re.M)[1]) + 1
+    # A varint has this many bytes at most. A size that is not refused has two.
+    varint = int(whole(r".*\nmost_marked = (\d+)\n.*", read(os.path.join(top, VARINT)))[1]) + 1
+    lengths = {"DIGEST_MAX": 255, "HEAD_MAX": 2 * varint, "LENGTH_MAX": varint + 2 + 255, "SCALE_LENGTH_MAX": 9 + 255}
     return {
         "types": {"multihash_status": "uint32_t"},
         "structs": {"multihash_%s" % name.lower(): fields for name, fields in structs.items()},
         "functions": crate_functions(text, structs),
-        "numbers": crate_numbers(status),
-        "texts": {
-            "OK": "ok",
-            "default": "unknown status",
-            **{name: spelled.get(word, "?").strip() for name, word in WORDS.items()},
-        },
-        # A code has the bytes of a varint; a size that is not refused has two.
-        "limits": {"DIGEST_MAX": 255, "LENGTH_MAX": varint + 2 + 255, "SCALE_LENGTH_MAX": 9 + 255},
+        "numbers": crate_numbers(files["status.rt"]),
+        "texts": crate_texts(files["text.rt"]),
+        "constants": {**lengths, **crate_version(files["version.rt"])},
     }
 
 
@@ -186,17 +193,17 @@ def header_numbers(body):
 
 
 def header_directives(lines):
-    """The numbers that are defined; each other line stands in its place."""
-    limits, others = {}, []
+    """The constants that are defined; each other line stands in its place."""
+    constants, others = {}, []
     for line in lines:
-        found = re.fullmatch(r"#define MULTIHASH_(\w+) (\d+)", line)
+        found = re.fullmatch(r'#define MULTIHASH_(\w+) (?:(\d+)|("[^"\\]*"))', line)
         if found:
-            once(limits, found[1], int(found[2]))
+            once(constants, found[1], found[3] or int(found[2]))
         else:
             others.append(line)
     if others != DIRECTIVES:
         raise Unread("not read: one of the lines %s" % ", ".join(others))
-    return limits
+    return constants
 
 
 # The forms that stand in the header one after the other, and what each declares.
@@ -239,7 +246,7 @@ def of_header(top):
     text = re.sub(r"/\*.*?\*/", "", read(os.path.join(top, HEADER)), flags=re.S)
     lines = [line.rstrip() for line in text.split("\n")]
     found = {"types": {}, "structs": {}, "functions": {}, "numbers": {}, "texts": {}}
-    found["limits"] = header_directives([line for line in lines if line.lstrip().startswith("#")])
+    found["constants"] = header_directives([line for line in lines if line.lstrip().startswith("#")])
     rest = declarations("\n".join(line for line in lines if not line.lstrip().startswith("#")))
     for form, groups in rest:
         if form == "type":
@@ -258,13 +265,60 @@ def of_header(top):
     return found
 
 
+# ---- the bindings
+
+
+def of_rust(top):
+    """What the crate for Rust declares of the numbers, the structs and the lengths."""
+    text = read(os.path.join(top, RUST, "ffi.rs")) + read(os.path.join(top, RUST, "lib.rs"))
+    structs = {}
+    for name, body in re.findall(r"#\[repr\(C\)\]\npub\(crate\) struct (\w+) \{([^{}]*)\}", text):
+        fields = [whole(r"pub\(crate\) ?(\w+): (\w+)", field) for field in pieces(body, ",")]
+        structs["multihash_%s" % name.lower()] = [(TYPES[field[2]], field[1]) for field in fields]
+    version = whole(r'.*\nversion = ("[^"]*")\n.*', read(os.path.join(top, CARGO)))[1]
+    lengths = re.findall(r"pub const (\w+): usize = (\d+);", text)
+    return {
+        "numbers": {name: int(number) for name, number in re.findall(r"const (\w+): u32 = (\d+);", text)},
+        "structs": structs,
+        "constants": {"VERSION": version, **{name: int(number) for name, number in lengths}},
+    }
+
+
+def of_python(top):
+    """What the module for Python declares of the numbers, the structs and the lengths."""
+    text = read(os.path.join(top, PYTHON))
+    types = {"c_" + name[: -len("_t")].replace("_", ""): name for name in TYPES.values()}
+    types["c_size_t"] = "size_t"
+    structs = {}
+    for name, body in re.findall(r"class _(\w+)\(ctypes.Structure\):\n    _fields_ = \[(.*?)\]\n", text, re.S):
+        fields = re.findall(r'\("(\w+)", ctypes\.(\w+)\)', body)
+        structs["multihash_%s" % name.lower()] = [(types[kind], field) for field, kind in fields]
+    numbers = {name: int(number) for name, number in re.findall(r"^(\w+) = (\d+)$", text, re.M)}
+    lengths = {name: numbers.pop(name) for name in list(numbers) if name.endswith("_MAX")}
+    return {"numbers": numbers, "structs": structs, "constants": lengths}
+
+
+def of_bindings(top, header):
+    """The faults of the bindings: each number and struct of the header is theirs, and what they name of its constants."""
+    faults = []
+    for name, found in (("Rust", of_rust(top)), ("Python", of_python(top))):
+        wanted = {**header, "constants": {part: header["constants"].get(part) for part in found["constants"]}}
+        faults += [
+            "%s: the binding for %s has %s, the header %s" % (part, name, found[part], wanted[part])
+            for part in found
+            if found[part] != wanted[part] or not found[part]
+        ]
+    return faults
+
+
 def differences(top):
     try:
         crate, header = of_crate(top), of_header(top)
+        bindings = of_bindings(top, header)
     except Unread as fault:
         return [str(fault)]
     empty = ["%s: none" % part for part in crate if not crate[part]]
-    return empty + [
+    return empty + bindings + [
         "%s: the crate has %s, the header %s" % (part, crate[part], header[part])
         for part in crate
         if crate[part] != header[part]
@@ -288,7 +342,7 @@ def planted(name):
 def is_seen(path, old, new):
     """Whether a difference that is planted in a copy is seen."""
     with tempfile.TemporaryDirectory() as top:
-        for name in [HEADER] + SPECS:
+        for name in [HEADER, VARINT, CARGO, PYTHON, RUST + "/lib.rs", RUST + "/ffi.rs"]:
             os.makedirs(os.path.dirname(os.path.join(top, name)), exist_ok=True)
             shutil.copy(os.path.join(TOP, name), os.path.join(top, name))
         shutil.copytree(os.path.join(TOP, SOURCE), os.path.join(top, SOURCE))

@@ -1,12 +1,12 @@
 #!/usr/bin/env bash
 # Checks the header for C, builds the static library, looks at what it exports and needs, and calls it from C and C++:
 # plain, on buffers that unreadable pages fence, under sanitizers and under valgrind, with all warnings as errors; and runs
-# the examples of docs/C.md. The last line is 'N passed, M failed'.
+# the examples of docs/C.md; installs it, and calls it from Rust and Python. The last line is 'N passed, M failed'.
 #
 #   PROVED=FOLDER      a copy of the repository whose crates are proved: the library is built there, else here
-#   LEAVE_OUT="WORDS"  parts that are left out: c++ nm objdump. Each is wanted, and without it the script fails
+#   LEAVE_OUT="WORDS"  parts that are left out: c++ nm objdump pkg-config. Each is wanted, and without it the script fails
 #
-# What need not be installed is named before the last line where it is not: clang, valgrind, rustc.
+# What need not be installed is named before the last line where it is not: clang, valgrind, cargo, rustc.
 set -uo pipefail
 top=$(dirname "$(dirname "$(readlink -f "${BASH_SOURCE[0]}")")")
 cd "$top" || exit 2
@@ -15,9 +15,12 @@ proved=${PROVED:-$top}
 library=$proved/crates/multihash_c/out/libmultihash_c.a
 list=$top/crates/vectors/data/verdicts.tsv
 example=$top/crates/mh_show/stdout
+version=$(sed -n 's/^#define MULTIHASH_VERSION "\([0-9.]*\)"$/\1/p' "$crate/include/multihash.h")
 warnings=(-Wall -Wextra -Wpedantic -Wconversion -Wsign-conversion -Wshadow -Wcast-qual -Werror)
 c_flags=(-std=c11 "${warnings[@]}" -Wstrict-prototypes -Wmissing-prototypes)
 cpp_flags=(-std=c++17 "${warnings[@]}")
+# The documented example's encoding, as printf spells it.
+documented='\x16\x20\x64\x4b\xcc\x7e\x56\x43\x73\x04\x09\x99\xaa\xc8\x9e\x76\x22\xf3\xca\x71\xfb\xa1\xd9\x72\xfd\x94\xa3\x1c\x3b\xfb\xf2\x4e\x39\x38'
 passed=0
 failed=0
 missing=()
@@ -69,6 +72,11 @@ has() {
 build_library() {
   rm -f "$library"
   env -C "$proved/crates/multihash_c" rt lib && [ -s "$library" ]
+}
+
+# A second build gives the same bytes.
+builds_the_same() {
+  cp "$library" "$work/first.a" && build_library && cmp "$work/first.a" "$library"
 }
 
 # The archive exports what the header declares, no more and no less.
@@ -156,9 +164,9 @@ counted_calls() {
 
 # ---- the examples of docs/C.md
 
-# The first example of docs/C.md in that language.
+# The example of docs/C.md in that language, the first or the Nth.
 example_in() {
-  awk -v fence="\`\`\`$1" '$0 == fence { on = 1; next } on && /^```/ { exit } on' docs/C.md
+  awk -v fence="\`\`\`$1" -v nth="${2-1}" '$0 == fence && ++seen == nth { on = 1; next } on && /^```/ { exit } on' docs/C.md
 }
 
 c_example() {
@@ -167,15 +175,87 @@ c_example() {
     "$work/example_c" | diff - "$example"
 }
 
-python_example() {
-  example_in python > "$work/example.py"
-  cc -shared -Wl,--whole-archive "$library" -Wl,--no-whole-archive -o "$work/libmultihash_c.so" &&
-    python3 "$work/example.py" "$work/libmultihash_c.so" | diff - "$example"
+# The reader of a stream, over the documented example, and over pipes that are cut at each byte.
+stream_example() {
+  example_in c 2 > "$work/stream_example.h"
+  cc "${c_flags[@]}" -I "$crate/include" -x c "$work/stream_example.h" -x none "$library" -o "$work/stream_example" &&
+    printf "$documented" | "$work/stream_example" | diff - "$example" || return 1
+  cc "${c_flags[@]}" -I "$crate/include" -I "$work" "$crate/c_test/stream.c" "$library" -o "$work/stream" && "$work/stream"
 }
 
+# ---- what is installed
+
+# Whether a prefix has what it should, with a shared library of that name and those symbols.
+is_installed() {
+  local lib=$1/lib/libmultihash_c.so
+  (cd "$1" && find . ! -type d | sort) > "$work/installed"
+  printf './%s\n' include/multihash.h lib/libmultihash_c.a lib/libmultihash_c.so "lib/libmultihash_c.so.1" \
+    "lib/libmultihash_c.so.$version" lib/pkgconfig/multihash_c.pc share/doc/multihash_c/C.md \
+    share/licenses/multihash_c/LICENSE | diff - "$work/installed" || return 1
+  objdump -p "$lib" | grep -q 'SONAME *libmultihash_c.so.1$' || return 1
+  nm -D --defined-only -f posix "$lib" | awk '{ print $1 }' | sort | diff "$work/declared" -
+}
+
+# An example is built with what pkg-config tells of a prefix, by the rest of the words.
+build_installed() {
+  local prefix=$1 flags
+  shift
+  flags=$(PKG_CONFIG_PATH=$prefix/lib/pkgconfig pkg-config --cflags --libs "multihash_c = $version") || return 1
+  eval "flags=($flags)"
+  "$@" "$work/example.c" "${flags[@]}" -o "$work/installed_example" &&
+    LD_LIBRARY_PATH=$prefix/lib "$work/installed_example" | diff - "$example"
+}
+
+unpack_dist() {
+  local name
+  for name in one two; do ARCHIVE=$library tools/install_c.sh --dist "$work/$name.tar.gz" || return 1; done
+  cmp "$work/one.tar.gz" "$work/two.tar.gz" && mkdir "$work/un packed" && tar xf "$work/one.tar.gz" -C "$work/un packed"
+}
+
+refuses_to_install() {
+  ARCHIVE=$work/none.a tools/install_c.sh "$work/none"
+}
+
+test_installed() {
+  local prefix="$work/a prefix" unpacked="$work/un packed/multihash_c-$version"
+  try "installing" env ARCHIVE="$library" tools/install_c.sh "$prefix"
+  try "what is installed" is_installed "$prefix"
+  try "shared" build_installed "$prefix" cc "${c_flags[@]}" -fno-pie -no-pie
+  try "static" build_installed "$prefix" cc "${c_flags[@]}" -static
+  try "position independent" build_installed "$prefix" cc "${c_flags[@]}" -fPIE -pie
+  try "optimised when linked" build_installed "$prefix" cc "${c_flags[@]}" -O2 -flto
+  try "installing below a folder" env ARCHIVE="$library" tools/install_c.sh /opt/multihash "$work/below"
+  try "what is below it" is_installed "$work/below/opt/multihash"
+  try "packing twice, and unpacking" unpack_dist
+  try "what was unpacked" is_installed "$unpacked"
+  try "what was unpacked, shared" build_installed "$unpacked" cc "${c_flags[@]}"
+  try "installing no archive" refuses refuses_to_install
+}
+
+# ---- bindings
+
+python_binding() {
+  local at=$work/libmultihash_c.so
+  ARCHIVE=$library tools/install_c.sh "$work/for_python" && cp "$work/for_python/lib/libmultihash_c.so" "$at" || return 1
+  export PYTHONDONTWRITEBYTECODE=1 MULTIHASH_C_LIBRARY=$at MULTIHASH_VERDICTS=$list
+  (cd bindings/python && python3 -m unittest) || return 1
+  example_in python > "$work/example.py"
+  PYTHONPATH=bindings/python python3 "$work/example.py" | diff - "$example"
+}
+
+# The version of the crate is the header's, and its tests pass.
+rust_binding() {
+  grep -qx "version = \"$version\"" bindings/rust/Cargo.toml || return 1
+  env -C bindings/rust MULTIHASH_C_LIB_DIR="$(dirname "$library")" MULTIHASH_VERDICTS="$list" RUSTFLAGS="-D warnings" \
+    CARGO_TARGET_DIR="$work/target" cargo test --offline --locked
+}
+
+# The crate and its example by the compiler alone, in an edition.
 rust_example() {
+  local rust=(rustc -D warnings --edition "$1" -L "$(dirname "$library")" -l static=multihash_c)
   example_in rust > "$work/example.rs"
-  rustc -D warnings --edition 2021 -L "$(dirname "$library")" -l static=multihash_c "$work/example.rs" -o "$work/example_rs" &&
+  "${rust[@]}" --crate-name multihash_c --crate-type rlib bindings/rust/src/lib.rs -o "$work/libmultihash_c.rlib" &&
+    "${rust[@]}" --extern multihash_c="$work/libmultihash_c.rlib" "$work/example.rs" -o "$work/example_rs" &&
     "$work/example_rs" | diff - "$example"
 }
 
@@ -190,13 +270,20 @@ test_library() {
   try "fenced buffers" build_and_run fenced "" cc "${c_flags[@]}" -O2 "$crate/c_test/fenced.c" "$library"
   try "the counted calls" counted_calls
   try "the example in C" c_example
-  try "the example in Python" python_example
-  has rustc && try "the example in Rust" rust_example
+  try "the reader of a stream" stream_example
+  wants pkg-config && test_installed
+  try "the module for Python" python_binding
+  has cargo && try "the crate for Rust" rust_binding
+  if has rustc; then
+    try "the example in Rust, edition 2021" rust_example 2021
+    try "the example in Rust, edition 2024" rust_example 2024
+  fi
 }
 
 if wants cc && wants python3 && wants rt; then
   try "header and crate" python3 tools/check_header.py
   try "static library" build_library
+  try "the same library again" builds_the_same
   [ -s "$library" ] && test_library
 fi
 [ ${#left_out[@]} = 0 ] || echo "left out, as LEAVE_OUT says: ${left_out[*]}"

@@ -40,7 +40,7 @@ class Judged:
     """What became of the edits so far."""
 
     def __init__(self):
-        self.passed, self.failed = 0, []
+        self.passed, self.failed, self.took = 0, [], []
 
     def refused(self, label, why):
         with speaking:
@@ -111,6 +111,7 @@ class Work:
             say(f"# {self.crate}: a round of {len(room)} was not judged, so in halves: {said.last()}")
             return [(6 + 4 * half, self.round_task(room[:half])), (6 + 4 * half, self.round_task(room[half:]))]
         of = {it.name: said.of(it.name, *places[it.name]) for it in room}
+        self.judged.took += [(said.took.get(it.name, 0), it.edit.label) for it in room]
         known = {id(it) for its in of.values() for it in its}
         stray = [it for it in said.evidence if id(it) not in known and not it.of_names]
         unclear = []
@@ -214,7 +215,8 @@ def main():
         try_all(works, proved, crates, jobs, f"{folder}/lanes")
         for crate in copy_of.spoilt(proved, [it.crate for it in works if it.left]):
             judged.fails(crate, "it is not proved over the state that its edits were tried over")
-    say(f"# {time.time() - began:.0f} s")
+    dear = ", ".join(f"{label} {took:.0f}" for took, label in sorted(judged.took, reverse=True)[:12])
+    say(f"# {time.time() - began:.0f} s; the dearest in seconds: {dear}")
     for it in judged.failed:
         say(f"failed: {it}")
     if not judged.passed:

@@ -4,7 +4,7 @@ use Rattle.std.specs.Prelude.{⊤, Option, Some, None}
 use Rattle.std.proofs.lemmas.List.{append_cancel_right}
 use Rattle.multihash.specs.Refusal.{Refusal, of_varint}
 use Rattle.multihash.specs.Varint.{not_minimal}
-use Rattle.multihash.proofs.Writings.WritingLemmas.{some_items}
+use Rattle.multihash.proofs.Writings.WritingLemmas.{length_of_not_nil}
 use Rattle.mh_show.specs.declared.run.RunError.TheVariants.{Input, NotShown, Output}
 use Rattle.mh_show.specs.declared.show.ShowError.TheVariants.{NotHex, Refused, Memory}
 use Rattle.mh_show.specs.Shown.{ShowsAs, NamesNone, IsRefusedAs}
@@ -63,7 +63,7 @@ appends_no_whole h =
     let (rest, some, cut) = h.proper in
     omega (
       arith,
-      some_items rest some,
+      length_of_not_nil rest some,
       ap (λ (z : List ℕ). length z) h.stands,
       ap (λ (z : List ℕ). length z) cut,
       length-append h.part rest,
@@ -146,7 +146,7 @@ no_part_is_all (text, lines, reads, shows, part) =
     let (rest, some, cut) = part.proper in
     omega (
       arith,
-      some_items rest some,
+      length_of_not_nil rest some,
       ap (λ (z : List ℕ). length z) is,
       ap (λ (z : List ℕ). length z) part.stands,
       ap (λ (z : List ℕ). length z) cut,

@@ -1,7 +1,7 @@
 -- What callers conclude from the contracts of several calls.
 use Rattle.std.proofs.Common.{Vec, Global, length-append, ◌≡◌, ℕ, ◌<◌, ◌≤◌, ◌-◌, ◌⊎◌, IfOk, IfErr, OnOk, OnErr, inl, inr, length-drop, List, [], ◌∷◌, ◌++◌, length, map, Bool, true, false, IsTrue, ◌↔◌, Option, None, Some, Result, Ok, Err, MatchResult, IfSome, refl, sym, ap, ◌∙◌, subst, arith, append_assoc}
 use Rattle.std.specs.List.{concat, AllZip, All}
-use Rattle.std.specs.Result.{is_ok, IsErrAnd}
+use Rattle.std.specs.Result.{is_ok}
 use Rattle.std.proofs.lemmas.List.{length-map}
 use Rattle.std.proofs.lemmas.Bool.{false≢true}
 use Rattle.std.proofs.lemmas.List.Elements.{All-nil, All-head, All-tail}
@@ -35,7 +35,7 @@ same_encoding p q x y e f = (
   λ same. subst (IsSame p) (encoding_unique p q x y [] [] e f (ap (λ (z : List ℕ). z ++ []) same)).0 (IsSame-refl p),
 )
 
--- two tests for what follows from each other answer the same
+-- tests of equivalent facts answer alike
 pub tests_agree : {P Q : Type 0} (a b : Bool) → (IsTrue a ↔ P) → (IsTrue b ↔ Q) → (P ↔ Q) → IsTrue (beq a b)
 tests_agree true true p q both = refl
 tests_agree true false p q both = absurd (false≢true (q.1 (both.0 (p.0 refl))))
@@ -84,13 +84,13 @@ never_stops S count e n new pairs bytes more joined fit many stop = at stop.midd
         subst (IsRefusal e) (verdict_unique S left found.0 (accepted next.0) found.1 next.1) found.2
 
 -- reading a stream of so many pairs gives them and leaves what follows, or there was no memory
-pub pairs_read : (S count before after : ℕ) (old new : Option (List ℕ)) (pairs : List Pair) (bytes more : List ℕ)
+pub read_list_of_encodings : (S count before after : ℕ) (old new : Option (List ℕ)) (pairs : List Pair) (bytes more : List ℕ)
     (r : Result (Vec (Fields S) Global) Refusal) → AreJoined pairs bytes → All (FitsBuffer S) pairs → length pairs ≡ count
     → old ≡ Some (bytes ++ more) → after ≡ before
     → IfOk r (λ list. (length list.items ≡ count) × TakesPairs S (map pair_of list.items) old new)
     → IfErr r (λ e. (IsMemory e × (after ≡ before) × (new ≡ old)) ⊎ StopsAfterPairs S count e before after old new)
     → MatchResult r (λ list. (map pair_of list.items ≡ pairs) × (new ≡ Some more)) IsMemory
-pairs_read S count before after old new pairs bytes more (Ok list) joined fit many rest same ok err = at new ok.1.takes
+read_list_of_encodings S count before after old new pairs bytes more (Ok list) joined fit many rest same ok err = at new ok.1.takes
   where
     at : (new : Option (List ℕ)) → Takes old ok.1.bytes new → (map pair_of list.items ≡ pairs) × (new ≡ Some more)
     at None takes = cc
@@ -99,8 +99,8 @@ pairs_read S count before after old new pairs bytes more (Ok list) joined fit ma
         let told = joined_unique (map pair_of list.items) pairs ok.1.bytes bytes left more
         (omega (arith, length-map list.items pair_of, ok.0)) ok.1.joined joined cut in
         (told.0, ap Some told.1)
-pairs_read S count before after old new pairs bytes more (Err e) joined fit many rest same ok (inl memory) = memory.0
-pairs_read S count before after old new pairs bytes more (Err e) joined fit many rest same ok (inr stop) =
+read_list_of_encodings S count before after old new pairs bytes more (Err e) joined fit many rest same ok (inl memory) = memory.0
+read_list_of_encodings S count before after old new pairs bytes more (Err e) joined fit many rest same ok (inr stop) =
     absurd (never_stops S count e before new pairs bytes more joined fit many
     (subst (λ o. StopsAfterPairs S count e before before o new) rest (subst (λ n. StopsAfterPairs S count e before n old new) same stop)))
 
@@ -148,13 +148,13 @@ scale_taken S p input bytes more v e whole form fits found refused =
     subst (IsRefusal e) (scale_verdict_unique S input v (accepted p) found (subst (λ x. HasScaleVerdict S x (accepted p)) (sym whole) own)) refused
 
 -- reading where a pair's encoding comes next gives the pair and leaves what follows
-pub pair_read : (S before after : ℕ) (old new : Option (List ℕ)) (p : Pair) (bytes more : List ℕ) (r : Result (Fields S) Refusal)
+pub read_of_encoding : (S before after : ℕ) (old new : Option (List ℕ)) (p : Pair) (bytes more : List ℕ) (r : Result (Fields S) Refusal)
     → IsEncoding p bytes → FitsBuffer S p → old ≡ Some (bytes ++ more) → after ≡ before
     → IfSome old (λ rest. after ≡ before → (v : Verdict) × HasVerdict S rest v × Answers r v)
     → IfOk r (λ m. (taken : List ℕ) × IsEncoding (pair_of m) taken × Takes old taken new)
     → MatchResult r (λ m. (pair_of m ≡ p) × (new ≡ Some more)) (λ _. ⊥)
-pair_read S before after None new p bytes more r encodes fits rest same verdict ok = cc
-pair_read S before after (Some input) new p bytes more (Ok m) encodes fits rest same verdict ok = at new ok.2
+read_of_encoding S before after None new p bytes more r encodes fits rest same verdict ok = cc
+read_of_encoding S before after (Some input) new p bytes more (Ok m) encodes fits rest same verdict ok = at new ok.2
   where
     at : (new : Option (List ℕ)) → Takes (Some input) ok.0 new → (pair_of m ≡ p) × (new ≡ Some more)
     at None takes = cc
@@ -162,24 +162,19 @@ pair_read S before after (Some input) new p bytes more (Ok m) encodes fits rest 
         let cut : ok.0 ++ left ≡ bytes ++ more = cc in
         let told = encoding_unique (pair_of m) p ok.0 bytes left more ok.1 encodes cut in
         (told.0, ap Some told.2)
-pair_read S before after (Some input) new p bytes more (Err e) encodes fits rest same verdict ok =
+read_of_encoding S before after (Some input) new p bytes more (Err e) encodes fits rest same verdict ok =
     let v = verdict same in
     let spelled : input ≡ bytes ++ more = cc in
     let own : HasVerdict S input (accepted p) = (more, record { encoding = bytes; encodes = encodes; cut = spelled }, fits) in
     subst (IsRefusal e) (verdict_unique S input v.0 (accepted p) v.1 own) v.2
 
--- the error that is answered is the one that was met
-pub refused_by : {T E : Type 0} (r : Result T E) (e : E) (Q : T → Type 0) (P : E → Type 0) → IsErrAnd r (λ x. x ≡ e) → P e → MatchResult r Q P
-refused_by (Ok t) e Q P given p = absurd given
-refused_by (Err x) e Q P given p = subst P (sym given) p
-
 -- the verdict on a pair's encoding is the pair
-pub verdict_back : (S : ℕ) (p : Pair) (bytes : List ℕ) (r : Result (Fields S) Refusal) (v : Verdict) → HasWholeVerdict S bytes v → Answers r v
+pub from_bytes_of_encoding : (S : ℕ) (p : Pair) (bytes : List ℕ) (r : Result (Fields S) Refusal) (v : Verdict) → HasWholeVerdict S bytes v → Answers r v
     → IsEncoding p bytes → FitsBuffer S p → MatchResult r (λ m. pair_of m ≡ p) IsMemory
-verdict_back S p bytes (Ok m) v h answers encodes fits =
+from_bytes_of_encoding S p bytes (Ok m) v h answers encodes fits =
     let same : accepted (pair_of m) ≡ accepted p = sym answers ∙ whole_verdict_unique S bytes v (accepted p) h (encodes, fits) in
     cc
-verdict_back S p bytes (Err e) v h answers encodes fits =
+from_bytes_of_encoding S p bytes (Err e) v h answers encodes fits =
     absurd (subst (IsRefusal e) (whole_verdict_unique S bytes v (accepted p) h (encodes, fits)) answers)
 
 -- reading took something where its verdict is no early end

@@ -1,6 +1,5 @@
 pub mod AnswerVectors
 pub mod BytesVectors
-pub mod ComparingVectors
 pub mod EncodingVectors
 pub mod FaultVectors
 pub mod FillingVectors

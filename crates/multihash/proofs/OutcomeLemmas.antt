@@ -1,18 +1,18 @@
 -- What holds of the outcome where a `?` passes an error on.
-use Rattle.std.proofs.Common.{◌≡◌, Result, Ok, Err, IfOk, IfErr, OnOk, OnErr, sym, subst}
+use Rattle.std.proofs.Common.{◌≡◌, Result, Ok, Err, IfOk, MatchResult, OnOk, OnErr, sym, subst}
 use Rattle.std.specs.Result.{IsErrAnd}
 
 -- the error that is answered is the one that was met, and what holds of that one holds of it
-pub passed_on : {T E : Type 0} (r : Result T E) (e : E) (P : E → Type 0) → IsErrAnd r (λ x. x ≡ e) → P e → IfErr r P
-passed_on (Ok t) e P given p = absurd given
-passed_on (Err x) e P given p = subst P (sym given) p
+pub passed_on : {T E : Type 0} (r : Result T E) (e : E) (Q : T → Type 0) (P : E → Type 0) → IsErrAnd r (λ x. x ≡ e) → P e → MatchResult r Q P
+passed_on (Ok t) e Q P given p = absurd given
+passed_on (Err x) e Q P given p = subst P (sym given) p
 
 -- a fact that holds anyway holds at an Err
 pub OnErr-always : {T E P : Type 0} (r : Result T E) → P → OnErr r P
 OnErr-always (Ok x) p = tt
 OnErr-always (Err e) p = p
 
--- what follows from what is known of an answer holds where there is one
-pub OnOk-answered : {T E P : Type 0} {Q : T → Type 0} (r : Result T E) → IfOk r Q → ((t : T) → Q t → P) → OnOk r P
-OnOk-answered (Ok t) known follows = follows t known
-OnOk-answered (Err e) known follows = tt
+-- IfOk, read as OnOk
+pub OnOk-from_IfOk : {T E P : Type 0} {Q : T → Type 0} (r : Result T E) → IfOk r Q → ((t : T) → Q t → P) → OnOk r P
+OnOk-from_IfOk (Ok t) known follows = follows t known
+OnOk-from_IfOk (Err e) known follows = tt

@@ -33,8 +33,7 @@ IsOther e = e.kind ≡ Other
 abbrev pub IsOwnFault : Fault → Type 0
 IsOwnFault e = IsOther e ⊎ IsOutOfMemory e
 
--- the text that an error of this kind prints, where it was made with that text: only a reader's or a
--- writer's own fault prints what it was made with
+-- the text that an error of this kind prints; `own`, which it was made with, matters only for `Other`
 abbrev pub text_of : Kind → List ℕ → List ℕ
 text_of UnexpectedEof own = codes "failed to fill whole buffer"
 text_of WriteZero own = codes "failed to write whole buffer"

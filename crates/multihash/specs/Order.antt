@@ -5,7 +5,7 @@ use Rattle.std.specs.declared.cmp.Ordering.TheVariants.{Less, Equal, Greater}
 use Rattle.multihash.specs.Pair.{Pair, IsSame}
 
 -- at the first place where the two lists differ, the left one has the smaller byte
-pub record IsSmallerWhereFirstDifferent (left right : List ℕ) : Type 0 where
+pub record IsLexSmaller (left right : List ℕ) : Type 0 where
   pub same : List ℕ
   pub left_byte : ℕ
   pub right_byte : ℕ
@@ -21,7 +21,7 @@ ComesBefore p q =
     (p.code < q.code)
     ⊎ ((p.code ≡ q.code) × (length p.digest < length q.digest))
     ⊎ ((p.code ≡ q.code) × (length p.digest ≡ length q.digest)
-    × IsSmallerWhereFirstDifferent p.digest q.digest)
+    × IsLexSmaller p.digest q.digest)
 
 -- how two pairs compare
 abbrev pub Compares : Pair → Pair → Ordering → Type 0

@@ -19,12 +19,12 @@ pub record TakesFewerThan (n : ℕ) (old new : Option (List ℕ)) : Type 0 where
   pub fewer : length taken < n
   pub takes : Takes old taken new
 
--- no error is listed
-abbrev pub NoneListed : {E : Type 0} → E → Type 0
-NoneListed e = ⊥
+-- no error besides the reader's own
+abbrev pub NoOtherError : {E : Type 0} → E → Type 0
+NoOtherError e = ⊥
 
--- an Ok left the count of failures alone; an Err raised it by one, by a fault of the reader's own, or left
--- it alone and is listed
+-- an Ok left the count of failures alone; an Err is either a fault of the reader's own, counted once, or one
+-- of the listed errors, not counted
 abbrev pub CountsReader : {A E : Type 0} → (E → Type 0) → (E → Type 0) → ℕ → ℕ → Result A E → Type 0
 CountsReader IsOwn IsListed before after outcome = MatchResult outcome (λ _. after ≡ before)
     (λ e. ((after ≡ before + 1) × IsOwn e) ⊎ ((after ≡ before) × IsListed e))
@@ -35,7 +35,7 @@ abbrev pub ReadLaws : {S : Type 0} → (S → Option (List ℕ)) → (S → ℕ)
 ReadLaws rest failures old new places filled outcome = record {
   count : IfOk outcome (λ n. n ≤ length places);
   beyond : IfOk outcome (λ n. drop n filled ≡ drop n places);
-  faults : CountsReader IsOwnFault NoneListed (failures old) (failures new) outcome;
+  faults : CountsReader IsOwnFault NoOtherError (failures old) (failures new) outcome;
   takes : IfOk outcome (λ n. Takes (rest old) (take n filled) (rest new));
   at_end : IfOk outcome (λ n. n ≡ 0 → 0 < length places → IsAtEnd (rest old));
   err : OnErr outcome (rest new ≡ rest old);

@@ -26,8 +26,8 @@ pub record StopsAfterPairs (S count : ℕ) (e : Refusal) (before after : ℕ)
   -- the refusal is that of the verdict on what follows the pairs
   pub verdict : IfSome middle (λ left. after ≡ before →
       (v : Verdict) × HasVerdict S left v × IsRefusal e v)
-  -- where that is no early end, exactly the shortest beginning that settles it was taken; else nothing
-  -- that was taken of it settles
+  -- where that is no early end, exactly the shortest beginning that settles it was taken; otherwise no
+  -- beginning of what was taken settles it
   pub settled : IfSome middle (λ left. after ≡ before → (v : Verdict) → HasVerdict S left v →
       ¬ (IsEarlyEnd v) → TakesShortestSettling S left new)
   pub unsettled : IfSome middle (λ left.

@@ -9,11 +9,11 @@ use Rattle.std.specs.Io.KnownBytes.{IsAtEnd}
 use Rattle.multihash.specs.Reading.{Takes}
 use Rattle.multihash.specs.Refusal.{Refusal, IsEof, IsReaderFault, IsInvalidSize, IsFaulty}
 
--- a varint's fault
+-- an error that names a varint's fault
 abbrev pub IsVarintRefusal : Refusal → Type 0
 IsVarintRefusal e = (fault : VarintFault) × IsFaulty fault e
 
--- the varint's fault that begins the input
+-- the error names the fault at the front of the input
 abbrev pub IsFrontRefusal : List ℕ → Refusal → Type 0
 IsFrontRefusal input e = (fault : VarintFault) × IsFaulty fault e × HasFaultyFront fault input
 

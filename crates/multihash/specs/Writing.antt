@@ -24,8 +24,8 @@ IsWriterFaultOrFull allocates before after is_full e =
 abbrev pub IsFault : (Fault → Type 0) → Fault → Type 0
 IsFault P fault = P fault
 
--- an Ok left the count of failures alone; an Err says the writer's fault or that it is full, and what was
--- counted
+-- an Ok left the count of failures alone; an Err tells the writer's fault or that it is full, and only the
+-- former is counted
 abbrev pub CountsWriter : {A E : Type 0} → ((Fault → Type 0) → E → Type 0) → Bool → ℕ → ℕ → Type 0
     → Result A E → Type 0
 CountsWriter Says allocates before after is_full outcome = MatchResult outcome (λ _. after ≡ before)

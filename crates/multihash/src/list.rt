@@ -13,7 +13,8 @@ use crate::no_std_io::{Read, Write};
 use crate::{Error, Multihash};
 use std::alloc::Global;
 
-/// Appends the encodings of the items to `w`, in order. No items make no call.
+/// Appends the encodings of the items to `w`, in order. An empty list asks the
+/// writer nothing.
 ///
 /// # Errors
 ///

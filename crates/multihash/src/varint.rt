@@ -7,7 +7,7 @@
 ghost use Rattle.std.specs.Prelude.{◌≡◌, ◌<◌, ◌≤◌, ◌+◌, ◌⊎◌, ℕ, List, [], ◌∷◌, length, take, Some, IfSome, MatchOption, IfOk, IfErr, OnErr};
 ghost use Rattle.multihash.specs.Varint.{IsVarint, varint_limit, most_marked};
 ghost use Rattle.std.specs.Io.KnownBytes.{IsAtEnd};
-ghost use Rattle.multihash.specs.Reading.{Takes, CountsReader, NoneListed};
+ghost use Rattle.multihash.specs.Reading.{Takes, CountsReader, NoOtherError};
 ghost use Rattle.multihash.specs.Writing.{AppendsPart, CountsWriter, IsFault, IsWriterFaultOrFull};
 ghost use Rattle.multihash.specs.Fault.{IsOwnFault};
 ghost use Rattle.multihash.specs.Refusal.{IsIo, IsInvalidCode, IsReaderFault};
@@ -204,7 +204,7 @@ pub fn read<R: Read>(r: &mut R) -> Result<u64, Error>
 // The next byte, or none where the input has ended.
 #[inline(always)]
 fn read_byte<R: Read>(r: &mut R) -> Result<Option<u8>, no_std_io::Error>
-    ensures faults { CountsReader IsOwnFault NoneListed
+    ensures faults { CountsReader IsOwnFault NoOtherError
         (R.failures r.old) (R.failures r.new) result }
     ensures byte { IfOk result (λ next. MatchOption next
         (IsAtEnd (R.rest r.old) × (R.rest r.new ≡ R.rest r.old))

@@ -6,6 +6,7 @@
 #include <stdlib.h>
 #include <string.h>
 
+static uint64_t code = 18;
 static uint8_t digest[64], short_bytes[34], long_bytes[75], out[MULTIHASH_LENGTH_MAX];
 
 /* The pointer, of which the compiler no longer knows what it points at. */
@@ -40,9 +41,20 @@ static uint64_t read_long_code(void)
     return count_of(multihash_read((uint8_t *)hidden(long_bytes), 74));
 }
 
+static uint64_t head_34(void)
+{
+    multihash_front found = multihash_head((uint8_t *)hidden(short_bytes), 34);
+    return found.status + found.code + found.taken;
+}
+
 static uint64_t scale_decode_32(void)
 {
     return count_of(multihash_scale_decode((uint8_t *)hidden(out), 41));
+}
+
+static uint64_t encoded_len_32(void)
+{
+    return multihash_encoded_len(*(uint64_t *)hidden(&code), 32).length;
 }
 
 static uint64_t encode_32(void)
@@ -66,6 +78,7 @@ static const struct {
 } operations[] = {
     {"from_bytes_34", from_bytes_34},     {"from_bytes_long_code", from_bytes_long_code},
     {"read_34", read_34},                 {"read_long_code", read_long_code},
+    {"head_34", head_34},                 {"encoded_len_32", encoded_len_32},
     {"encode_32", encode_32},             {"compare_32", compare_32},
     {"scale_encode_32", scale_encode_32}, {"scale_decode_32", scale_decode_32},
 };

@@ -34,7 +34,7 @@ typedef struct fenced {
 } fenced;
 
 static fenced input, other_input, output;
-static size_t fences_seen, decodings, encodings, comparisons;
+static size_t fences_seen, decodings, encodings, texts, comparisons;
 
 static fenced make_fenced(void)
 {
@@ -82,6 +82,11 @@ static int same(multihash_decoded a, multihash_decoded b)
 {
     return a.status == b.status && a.size == b.size && a.code == b.code && a.digest_offset == b.digest_offset &&
            a.digest_length == b.digest_length && a.taken == b.taken;
+}
+
+static int same_front(multihash_front a, multihash_front b)
+{
+    return a.status == b.status && a.code == b.code && a.digest_length == b.digest_length && a.taken == b.taken;
 }
 
 /* A marked byte but for the last, which is `last`. */
@@ -141,10 +146,11 @@ static void check_decodings(const uint8_t *bytes, size_t length, const uint8_t *
     CHECK(same(multihash_from_bytes(bytes, length), multihash_from_bytes(roomy, length)));
     CHECK(same(multihash_read(bytes, length), multihash_read(roomy, length)));
     CHECK(same(multihash_scale_decode(bytes, length), multihash_scale_decode(roomy, length)));
+    CHECK(same_front(multihash_head(bytes, length), multihash_head(roomy, length)));
     for (size_t i = 0; i < sizeof limits / sizeof limits[0]; i++) {
         CHECK(same(multihash_read_limit(bytes, length, limits[i]), multihash_read_limit(roomy, length, limits[i])));
     }
-    decodings += 3 + sizeof limits / sizeof limits[0];
+    decodings += 4 + sizeof limits / sizeof limits[0];
 }
 
 static void check_input(size_t length, int kind)
@@ -256,6 +262,32 @@ static void check_digests(void)
     }
 }
 
+/* ---- texts */
+
+/* The text of a status in one room, and that nothing else of the page was written. */
+static void check_text(multihash_status status, size_t room, int at_end)
+{
+    static uint8_t want[PAGE];
+    uint8_t *out = places(output, room, at_end);
+    const char *text = multihash_status_text(status);
+    memset(output.page, MARK, PAGE);
+    memset(want, MARK, PAGE);
+    if (strlen(text) <= room) memcpy(want + (out - output.page), text, strlen(text));
+    CHECK(multihash_put_status_text(status, out, room).length == strlen(text));
+    CHECK(memcmp(output.page, want, PAGE) == 0);
+    texts++;
+}
+
+static void check_texts(void)
+{
+    for (multihash_status status = 0; status < 10; status++) {
+        for (size_t room = 0; room < 40; room++) {
+            check_text(status, room, 0);
+            check_text(status, room, 1);
+        }
+    }
+}
+
 /* ---- comparing */
 
 static int sign(int order)
@@ -307,8 +339,10 @@ int main(void)
     check_fence(output);
     check_inputs();
     check_digests();
+    check_texts();
     check_comparisons();
-    CHECK(fences_seen == 12 && decodings > 0 && encodings > 0 && comparisons > 0);
-    printf("%zu fences, %zu decodings, %zu encodings, %zu comparisons\n", fences_seen, decodings, encodings, comparisons);
+    CHECK(fences_seen == 12 && decodings > 0 && encodings > 0 && texts > 0 && comparisons > 0);
+    printf("%zu fences, %zu decodings, %zu encodings, %zu texts, %zu comparisons\n", fences_seen, decodings, encodings,
+           texts, comparisons);
     return 0;
 }

@@ -27,6 +27,11 @@ static_assert(offsetof(multihash_decoded, code) == 16, "multihash_decoded.code")
 static_assert(offsetof(multihash_decoded, digest_offset) == 24, "multihash_decoded.digest_offset");
 static_assert(offsetof(multihash_decoded, digest_length) == 32, "multihash_decoded.digest_length");
 static_assert(offsetof(multihash_decoded, taken) == 40, "multihash_decoded.taken");
+static_assert(sizeof(multihash_front) == 32, "multihash_front");
+static_assert(offsetof(multihash_front, status) == 0, "multihash_front.status");
+static_assert(offsetof(multihash_front, code) == 8, "multihash_front.code");
+static_assert(offsetof(multihash_front, digest_length) == 16, "multihash_front.digest_length");
+static_assert(offsetof(multihash_front, taken) == 24, "multihash_front.taken");
 static_assert(sizeof(multihash_encoded) == 24, "multihash_encoded");
 static_assert(offsetof(multihash_encoded, status) == 0, "multihash_encoded.status");
 static_assert(offsetof(multihash_encoded, size) == 8, "multihash_encoded.size");
@@ -47,7 +52,7 @@ typedef struct verdict_line {
     const char *column[7];
 } verdict_line;
 
-static size_t rooms_tried, answers_compared, ends_compared;
+static size_t rooms_tried, answers_compared, ends_compared, heads_compared;
 
 /* The bytes that hexadecimal text spells; a dash spells none. */
 static size_t parse_hex(const char *text, uint8_t *to, size_t places)
@@ -116,6 +121,37 @@ static void check_back(encoder encode, const uint8_t *input, multihash_decoded f
     free(digest);
 }
 
+/* How many bytes two varints at the front have: each ends at the first of its bytes that is below 128. */
+static size_t two_varints(const uint8_t *input, size_t length)
+{
+    size_t at = 0;
+    for (int i = 0; i < 2; i++) {
+        while (at < length && input[at] >= 0x80) at++;
+        CHECK(at < length);
+        at++;
+    }
+    return at;
+}
+
+/* The head of what reading, for a digest of any length, answers: a refusal of the varints is the same, and else both are
+ * there, where the pair and the refusals of the digest say. */
+static void check_head(const uint8_t *input, size_t length, multihash_decoded read)
+{
+    multihash_front head = multihash_head(input, length);
+    if (head.status == MULTIHASH_OK) {
+        CHECK(head.taken == two_varints(input, length));
+        CHECK(read.status == MULTIHASH_OK || read.status == MULTIHASH_INVALID_SIZE || read.status == MULTIHASH_UNEXPECTED_EOF);
+        CHECK(read.status != MULTIHASH_OK || (head.code == read.code && head.digest_length == read.digest_length));
+        CHECK(read.status != MULTIHASH_INVALID_SIZE || head.digest_length == read.size);
+        CHECK(read.status != MULTIHASH_UNEXPECTED_EOF || head.digest_length > length - head.taken);
+        CHECK(head.taken == (read.status == MULTIHASH_OK ? read.digest_offset : read.taken));
+    } else {
+        CHECK(head.status == read.status && head.taken == read.taken && head.code == 0 && head.digest_length == 0);
+        CHECK(head.status >= MULTIHASH_INSUFFICIENT && head.status <= MULTIHASH_NOT_MINIMAL);
+    }
+    heads_compared++;
+}
+
 /* The answer as the list spells it. What the status leaves without a meaning must be 0. */
 static void spell(multihash_decoded found, const uint8_t *input, char *to, size_t places)
 {
@@ -161,18 +197,6 @@ static int is_for_all(const char *verdict, unsigned long size)
     return size >= 255 || refused > 255;
 }
 
-/* How many bytes two varints at the front have: each ends at the first of its bytes that is below 128. */
-static size_t two_varints(const uint8_t *input, size_t length)
-{
-    size_t at = 0;
-    for (int i = 0; i < 2; i++) {
-        while (at < length && input[at] >= 0x80) at++;
-        CHECK(at < length);
-        at++;
-    }
-    return at;
-}
-
 /* What reading takes of an input that ends early: all of it, or both varints where the digest is cut. */
 static void check_early_end(multihash_decoded found, const uint8_t *input, size_t length)
 {
@@ -216,6 +240,7 @@ static void check_line(const verdict_line *line)
     check_answer(within, input, line->column[2], line->column[3]);
     check_early_end(within, input, length);
     check_early_end(read, input, length);
+    check_head(input, length, read);
     if (is_for_all(line->column[2], line->size)) {
         check_answer(read, input, line->column[2], line->column[3]);
         check_answer(whole, input, line->column[4], "-");
@@ -291,9 +316,9 @@ static void check_refusals(void)
     CHECK(multihash_read(left_over, 5).status == MULTIHASH_OK && multihash_read(left_over, 5).taken == 3);
     CHECK(multihash_read(large, 10).taken == 9);
     static const uint8_t scale_form[] = {0x01, 0, 0, 0, 0, 0, 0, 0, 0x02, 0x07};
-    check_refusal(multihash_scale_decode(scale_form, 7), MULTIHASH_UNEXPECTED_EOF, 0, 0);
-    check_refusal(multihash_scale_decode(scale_form, 8), MULTIHASH_UNEXPECTED_EOF, 0, 8);
-    check_refusal(multihash_scale_decode(scale_form, 10), MULTIHASH_UNEXPECTED_EOF, 0, 9);
+    for (size_t i = 0; i <= 10; i++) {
+        check_refusal(multihash_scale_decode(scale_form, i), MULTIHASH_UNEXPECTED_EOF, 0, i < 8 ? 0 : i == 8 ? 8 : 9);
+    }
     multihash_decoded scale = multihash_scale_decode(large, 10);
     CHECK(scale.status == MULTIHASH_INVALID_CODE && scale.code == UINT64_MAX && scale.size == 0 && scale.taken == 8);
 }
@@ -315,10 +340,14 @@ static void check_cuts(size_t code_bytes, size_t size_bytes)
         check_refusal(multihash_read(input, length), status, 0, taken);
         check_refusal(multihash_read_limit(input, length, size), status, 0, taken);
         check_refusal(multihash_from_bytes(input, length), status, 0, length);
+        check_head(input, length, multihash_read(input, length));
         free(input);
     }
     multihash_decoded found = multihash_read(bytes, head + size);
     CHECK(found.status == MULTIHASH_OK && found.digest_offset == head && found.taken == head + size);
+    multihash_front front = multihash_head(bytes, head);
+    CHECK(front.status == MULTIHASH_OK && front.taken == head && front.digest_length == size);
+    CHECK(front.code == (uint64_t)1 << (7 * (code_bytes - 1)));
 }
 
 static void check_every_cut(void)
@@ -336,6 +365,8 @@ static void check_null(void)
     check_refusal(multihash_read(NULL, 0), MULTIHASH_INSUFFICIENT, 0, 0);
     check_refusal(multihash_read_limit(NULL, 0, 0), MULTIHASH_INSUFFICIENT, 0, 0);
     check_refusal(multihash_scale_decode(NULL, 0), MULTIHASH_UNEXPECTED_EOF, 0, 0);
+    CHECK(multihash_head(NULL, 0).status == MULTIHASH_INSUFFICIENT && multihash_head(NULL, 0).taken == 0);
+    CHECK(multihash_put_status_text(0, NULL, 0).status == MULTIHASH_NO_ROOM);
     CHECK(multihash_encode(0, NULL, 0, NULL, 0).length == 2);
     CHECK(multihash_scale_encode(0, NULL, 0, NULL, 0).length == 9);
     CHECK(multihash_encode(0, NULL, 0, out, 2).status == MULTIHASH_OK && out[0] == 0 && out[1] == 0);
@@ -368,6 +399,28 @@ static void check_refused_forms(const uint8_t *digest)
     }
 }
 
+/* The length from the numbers alone is what encoding needs, and refusals are the same. */
+static void check_encoded_len(uint64_t code, size_t digest_length)
+{
+    static uint8_t digest[600];
+    multihash_encoded told = multihash_encoded_len(code, digest_length);
+    multihash_encoded asked = multihash_encode(code, digest, digest_length, NULL, 0);
+    CHECK(told.length == asked.length && told.size == asked.size);
+    CHECK(told.status == asked.status || (told.status == MULTIHASH_OK && asked.status == MULTIHASH_NO_ROOM));
+}
+
+static void check_lengths(void)
+{
+    for (size_t length = 0; length <= 600; length++) {
+        for (unsigned bits = 0; bits < 64; bits++) {
+            check_encoded_len(((uint64_t)1 << bits) - 1, length);
+            check_encoded_len((uint64_t)1 << bits, length);
+        }
+    }
+    CHECK(multihash_encoded_len(0, SIZE_MAX).size == SIZE_MAX);
+    CHECK(multihash_encoded_len(INT64_MAX, 255).length == MULTIHASH_LENGTH_MAX);
+}
+
 /* The longest forms, in every room from none to one place more than they need. */
 static void check_longest(uint64_t largest)
 {
@@ -397,6 +450,37 @@ static void check_order(void)
     CHECK(multihash_compare(2, zeros, 300, 2, ac, 2) == 1 && multihash_compare(2, zeros, 300, 2, zeros, 300) == 0);
 }
 
+/* The library puts the text that the header has, where there is room, and nothing else. */
+static void check_put_text(multihash_status status)
+{
+    const char *text = multihash_status_text(status);
+    size_t need = strlen(text);
+    for (size_t room = 0; room <= need + 2; room++) {
+        uint8_t out[64];
+        size_t written = room < need ? 0 : need;
+        memset(out, MARK, sizeof out);
+        multihash_encoded answer = multihash_put_status_text(status, out, room);
+        CHECK(answer.status == (room < need ? MULTIHASH_NO_ROOM : MULTIHASH_OK));
+        CHECK(answer.length == need && answer.size == 0 && memcmp(out, text, written) == 0);
+        check_marks(out + written, sizeof out - written);
+    }
+}
+
+static void check_put_texts(void)
+{
+    for (multihash_status i = 0; i < 300; i++) check_put_text(i);
+    for (unsigned bits = 9; bits < 32; bits++) check_put_text((uint32_t)1 << bits);
+    check_put_text(UINT32_MAX);
+}
+
+static void check_version(void)
+{
+    char text[32];
+    unsigned number = multihash_version();
+    snprintf(text, sizeof text, "%u.%u.%u", number / 10000, number / 100 % 100, number % 100);
+    CHECK(number == MULTIHASH_VERSION_NUMBER && strcmp(text, MULTIHASH_VERSION) == 0);
+}
+
 /* Each status has a text, and no two have the same; a number that is none has one too. */
 static void check_texts(void)
 {
@@ -417,8 +501,12 @@ int main(int argc, char **argv)
     check_null();
     check_longest(INT64_MAX);
     check_order();
+    check_lengths();
     check_texts();
+    check_put_texts();
+    check_version();
     size_t lines = replay(argv[1]);
-    printf("%zu lines, %zu answers, %zu early ends, %zu rooms\n", lines, answers_compared, ends_compared, rooms_tried);
+    printf("%zu lines, %zu answers, %zu early ends, %zu heads, %zu rooms\n", lines, answers_compared, ends_compared,
+           heads_compared, rooms_tried);
     return 0;
 }

@@ -15,6 +15,15 @@
 #include <stddef.h>
 #include <stdint.h>
 
+#if !defined(__x86_64__) || !defined(__ELF__) || SIZE_MAX != UINT64_MAX
+#error "libmultihash_c is built for x86-64 with ELF and a size_t of 64 bits"
+#endif
+
+/* The version of this header: as text, and as 10000 times the first number, 100 times the second, and the third.
+ * multihash_version tells that of the library. Where the first numbers differ, the one does not fit the other. */
+#define MULTIHASH_VERSION "1.0.0"
+#define MULTIHASH_VERSION_NUMBER 10000
+
 #ifdef __cplusplus
 extern "C" {
 #endif
@@ -41,8 +50,10 @@ enum {
     MULTIHASH_NO_ROOM = 7
 };
 
-/* The most bytes of a digest, of an encoding, and of a SCALE form. */
+/* The most bytes of a digest, of the two varints before it, of an encoding, and of a SCALE form. The two varints have
+ * fewer, MULTIHASH_LENGTH_MAX - MULTIHASH_DIGEST_MAX, where the digest is not too long. */
 #define MULTIHASH_DIGEST_MAX 255
+#define MULTIHASH_HEAD_MAX 18
 #define MULTIHASH_LENGTH_MAX 266
 #define MULTIHASH_SCALE_LENGTH_MAX 264
 
@@ -63,6 +74,15 @@ typedef struct multihash_encoded {
     uint64_t size; /* at MULTIHASH_INVALID_SIZE: the digest's length */
     size_t length; /* at MULTIHASH_OK: how many bytes stand at `out`; at MULTIHASH_NO_ROOM: how many are needed */
 } multihash_encoded;
+
+/* What the two varints that begin an encoding answer. A field that the status leaves without a meaning is 0; padding is
+ * not set. */
+typedef struct multihash_front {
+    multihash_status status;
+    uint64_t code;          /* at MULTIHASH_OK: the code */
+    uint64_t digest_length; /* at MULTIHASH_OK: the digest's length, below 2^63, also one that is too long */
+    size_t taken;           /* always: how many bytes were taken, at MULTIHASH_OK those of both varints */
+} multihash_front;
 
 /* Decodes the multihash whose encoding is the whole of `bytes`.
  * Takes:   the whole input, in each case: `taken` is `bytes_length`.
@@ -91,15 +111,32 @@ multihash_decoded multihash_read(const uint8_t *bytes, size_t bytes_length);
  * Leaves:  `bytes` as they were. */
 multihash_decoded multihash_read_limit(const uint8_t *bytes, size_t bytes_length, size_t limit);
 
+/* Decodes the two varints that begin an encoding, and looks at no digest: who reads from a stream is told how many bytes
+ * the multihash has, before there is a buffer for them.
+ * Takes:   both varints; at a refusal what multihash_read takes.
+ * Answers: the code and the digest's length, also one that multihash_read refuses. The multihash has `taken` +
+ *          `digest_length` bytes.
+ * Refuses: MULTIHASH_INSUFFICIENT, which more bytes can change, MULTIHASH_OVERFLOW, MULTIHASH_NOT_MINIMAL.
+ * Leaves:  `bytes` as they were. */
+multihash_front multihash_head(const uint8_t *bytes, size_t bytes_length);
+
 /* Decodes the multihash whose SCALE form begins `bytes`: eight bytes of the code, the lowest first, one of the
  * digest's length, the digest. More bytes may follow it.
- * Takes:   the form; at MULTIHASH_INVALID_CODE the code's eight bytes; at MULTIHASH_UNEXPECTED_EOF bytes that by
- *          themselves end early.
+ * Takes:   the form; at MULTIHASH_INVALID_CODE the code's eight bytes; at MULTIHASH_UNEXPECTED_EOF nothing of a code
+ *          that is cut, the eight bytes of a code behind which nothing stands, and nine of a form whose digest is cut.
  * Answers: the code, and where in `bytes` the digest stands.
  * Refuses: MULTIHASH_INVALID_CODE with the code, where it is 2^63 or more; MULTIHASH_UNEXPECTED_EOF, which more bytes
  *          can change.
  * Leaves:  `bytes` as they were. */
 multihash_decoded multihash_scale_decode(const uint8_t *bytes, size_t bytes_length);
+
+/* The length of the encoding of a code and a digest of so many bytes, of which no byte is needed.
+ * Takes:   a code and a digest's length.
+ * Answers: `length`, how many bytes multihash_encode puts: at most MULTIHASH_LENGTH_MAX.
+ * Refuses: MULTIHASH_INVALID_SIZE with the digest's length above 255; else MULTIHASH_INVALID_CODE with a code of 2^63
+ *          or more.
+ * Leaves:  nothing changed. */
+multihash_encoded multihash_encoded_len(uint64_t code, size_t digest_length);
 
 /* Puts the encoding of a code and a digest at the front of `out`.
  * Takes:   a code and a digest, and `out_length` places.
@@ -126,6 +163,20 @@ multihash_encoded multihash_scale_encode(uint64_t code, const uint8_t *digest, s
  * Leaves:  both digests as they were. */
 int32_t multihash_compare(uint64_t left_code, const uint8_t *left_digest, size_t left_digest_length,
                           uint64_t right_code, const uint8_t *right_digest, size_t right_digest_length);
+
+/* The version of the library, as MULTIHASH_VERSION_NUMBER is that of the header.
+ * Takes:   nothing.
+ * Answers: 10000 times the first number, 100 times the second, and the third.
+ * Refuses: nothing.
+ * Leaves:  nothing changed. */
+uint32_t multihash_version(void);
+
+/* Puts what a status means at the front of `out`, for callers that multihash_status_text does not reach.
+ * Takes:   any number, and `out_length` places.
+ * Answers: `length`, how many bytes of ASCII stand at `out`: the text of multihash_status_text, with no zero behind it.
+ * Refuses: MULTIHASH_NO_ROOM with the `length` that is needed.
+ * Leaves:  at a refusal the whole of `out` as it was, else the places behind the text. */
+multihash_encoded multihash_put_status_text(multihash_status status, uint8_t *out, size_t out_length);
 
 /* Says what a status means.
  * Takes:   any number.

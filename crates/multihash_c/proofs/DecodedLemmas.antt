@@ -1,5 +1,5 @@
 -- Where the digest stands in the input, what decoding the SCALE form took, and what a refusal tells.
-use Rattle.std.proofs.Common.{◌≡◌, ℕ, ◌+◌, ◌-◌, ◌<◌, List, [], ◌∷◌, ◌++◌, length, take, drop, ap, sym, ◌∙◌, subst, inl, arith, Option, Some, append_assoc, length-append, length-drop}
+use Rattle.std.proofs.Common.{◌≡◌, ℕ, ◌+◌, ◌-◌, ◌<◌, List, [], ◌∷◌, ◌++◌, length, take, drop, ap, sym, ◌∙◌, subst, arith, refl, Option, Some, append_assoc, length-append, length-drop}
 use Rattle.std.proofs.lemmas.List.{length-take-le}
 use Rattle.std.proofs.lemmas.List.Elements.{All-head, All-drop}
 use Rattle.std.proofs.Math.Seq.{drop-append_seam, take-append_seam}
@@ -67,6 +67,16 @@ told_length input d p h =
       length-take-le d.digest_length (drop d.digest_offset input) (omega (arith, h.is_end, h.inside, length-drop d.digest_offset input)),
     )
 
+-- an answer is its fields
+made_of : (d : Decoded) (size code offset n : ℕ) → d.size ≡ size → d.code ≡ code → d.digest_offset ≡ offset → d.digest_length ≡ n
+    → d ≡ record { status = d.status; size = size; code = code; digest_offset = offset; digest_length = n; taken = d.taken }
+made_of d size code offset n a b c e = rw (sym a, sym b, sym c, sym e) refl
+
+-- a refusal is what it tells, and what was taken
+pub refused_so : (d : Decoded) (status size code : ℕ) → TellsRefusal d status size code
+    → d ≡ record { status = d.status; size = size; code = code; digest_offset = 0; digest_length = 0; taken = d.taken }
+refused_so d status size code h = made_of d size code 0 0 h.is_size h.is_code h.no_offset h.no_length
+
 module _ (input : List ℕ) (d : Decoded) (e : Refusal) where
   pub size_told : (size : ℕ) → IsInvalidSize size e → TellsRefusal d 4 size 0 → (v : Verdict) → IsRefusal e v → Tells input d v
   size_told size is told (accepted p) r = absurd r
@@ -101,11 +111,23 @@ byte_fits input size bytes (rest, has, over) =
     subst IsBytes left (All-drop (λ byte. byte < 256) (length has.code_bytes) input bytes) in
     omega (arith, over, All-head (λ byte. byte < 256) size rest behind)
 
--- a refusal's verdict says what was taken
-pub taken_at_refusal : (input : List ℕ) (new : Option (List ℕ)) (e : Refusal) (t : TakesAtScaleRefusal 255 e (Some input) new) → IsBytes input
-    → (v : Verdict) → HasScaleVerdict 255 input v → IsRefusal e v → TakesForm v t.taken
-taken_at_refusal input new e t bytes (accepted p) has r = absurd r
-taken_at_refusal input new e t bytes (invalid_size size) has r = absurd (byte_fits input size bytes has)
-taken_at_refusal input new e t bytes (invalid_code code) has r = t.code code r
-taken_at_refusal input new e t bytes (faulty fault) has r = absurd has
-taken_at_refusal input new e t bytes unexpected_eof has r = t.early (inl r)
+-- a code that is refused is the verdict, and eight bytes were taken
+pub code_taken : (input : List ℕ) (new : Option (List ℕ)) (e : Refusal) (code taken : ℕ) (t : TakesAtScaleRefusal 255 e (Some input) new)
+    → take taken input ≡ t.taken → IsInvalidCode code e → (v : Verdict) → HasScaleVerdict 255 input v → IsRefusal e v
+    → (v ≡ invalid_code code) × TakesForm v input taken
+code_taken input new e code taken t front is (accepted p) has r = absurd r
+code_taken input new e code taken t front is (invalid_size size) has r = absurd (cc)
+code_taken input new e code taken t front is (invalid_code n) has r =
+    let same : code ≡ n = cc in
+    (ap (λ k. invalid_code k) (sym same), subst (λ (z : List ℕ). HasScaleVerdict 255 z (invalid_code n) × (length z ≡ 8)) (sym front) (t.code n r))
+code_taken input new e code taken t front is (faulty fault) has r = absurd has
+code_taken input new e code taken t front is unexpected_eof has r = let other = r.1 in absurd (cc)
+
+-- where no code is refused the input ends early
+pub ends_early : (input : List ℕ) (e : Refusal) → IsBytes input → ((n : ℕ) → ¬ (IsInvalidCode n e)) → (v : Verdict)
+    → HasScaleVerdict 255 input v → IsRefusal e v → v ≡ unexpected_eof
+ends_early input e bytes no_code (accepted p) has r = absurd r
+ends_early input e bytes no_code (invalid_size size) has r = absurd (byte_fits input size bytes has)
+ends_early input e bytes no_code (invalid_code n) has r = absurd (no_code n r)
+ends_early input e bytes no_code (faulty fault) has r = absurd has
+ends_early input e bytes no_code unexpected_eof has r = refl

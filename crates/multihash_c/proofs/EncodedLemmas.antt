@@ -1,8 +1,21 @@
 -- What an encoding tells and puts, where the bytes fit and where they do not.
-use Rattle.std.proofs.Common.{◌≡◌, ℕ, ◌<◌, ◌≤◌, List, ◌++◌, length, drop, arith}
+use Rattle.std.proofs.Common.{◌≡◌, ℕ, ◌+◌, ◌<◌, ◌≤◌, List, [], ◌++◌, length, drop, arith}
+use Rattle.multihash.specs.Encoding.{IsEncoding}
+use Rattle.multihash.proofs.Varints.LengthLemmas.{varint_bytes, varint_below, encoding_bytes_count}
 use Rattle.multihash_c.specs.Status.{status_ok, status_no_room}
 use Rattle.multihash_c.specs.Encoded.{Puts}
 use Rattle.multihash_c.specs.declared.encoded.Encoded.{Encoded}
+
+-- the encoding of a code and no digest has a byte more than the code's varint
+pub empty_encoding : (code : ℕ) (bytes : List ℕ) (e : IsEncoding (record { code = code; digest = [] }) bytes)
+    → length bytes ≡ length e.code + 1
+empty_encoding code bytes e =
+    omega (
+      arith,
+      encoding_bytes_count (record { code = code; digest = [] }) bytes e,
+      varint_bytes 0 e.size e.is_size,
+      varint_below 0 0 e.size e.is_size (omega arith),
+    )
 
 module _ (IsForm : List ℕ → Type 0) (old new : List ℕ) (e : Encoded) (no_size : e.size ≡ 0)
     (told : (bytes : List ℕ) → IsForm bytes → e.length ≡ length bytes) where

@@ -1,7 +1,11 @@
 -- What known encodings tell a C caller and put in a buffer, and what no encoding tells.
-use Rattle.std.proofs.Common.{◌≡◌, ℕ, List, [], ◌∷◌, length, get_or, refl, ap, arith}
+use Rattle.std.proofs.Common.{◌≡◌, ℕ, List, [], ◌∷◌, length, get_or, replicate, refl, sym, ap, ◌∙◌, subst, arith}
+use Rattle.multihash.specs.Varint.{IsVarint}
+use Rattle.multihash.specs.Encoding.{IsEncoding}
+use Rattle.multihash.proofs.Examples.VarintVectors.{varint_0, varint_1, varint_128}
+use Rattle.multihash.proofs.Readings.VerdictLemmas.{encoding_same}
 use Rattle.multihash_c.specs.declared.encoded.Encoded.{Encoded}
-use Rattle.multihash_c.specs.Encoded.{IsTooLong, IsLargeCode, IsPut, Puts}
+use Rattle.multihash_c.specs.Encoded.{IsTooLong, IsLargeCode, IsPut, TellsLength, Puts}
 
 abbrev answer : ℕ → ℕ → ℕ → Encoded
 answer status size length = record { status = status; size = size; length = length }
@@ -122,3 +126,58 @@ puts_no_three_bytes (bytes, three, put) = omega (arith, three, put.is_length)
 puts_what_it_tells : ¬ (Puts (λ bytes. bytes ≡ 1 ∷ 2 ∷ []) (answer 7 0 2) (7 ∷ []) (1 ∷ []))
 puts_what_it_tells (bytes, is, put) =
     omega (arith, ap (λ (z : List ℕ). get_or z 0 0) (put.no_room (omega (arith, ap (λ (z : List ℕ). length z) is))).1)
+
+-- ---- a length from the numbers alone
+
+-- a byte of each varint, and the digest's
+tells_length : TellsLength 0 1 (answer 0 0 3)
+tells_length = record {
+  is_ok = refl;
+  no_size = refl;
+  is_length = λ digest one. (
+    0 ∷ 1 ∷ digest,
+    record {
+      code = 0 ∷ [];
+      size = 1 ∷ [];
+      is_code = varint_0;
+      is_size = subst (λ n. IsVarint n (1 ∷ [])) (sym one) varint_1;
+      spelled = refl;
+    },
+    omega (arith, one),
+  );
+}
+
+length_is_ok : ¬ (TellsLength 0 1 (answer 7 0 3))
+length_is_ok h = omega (arith, h.is_ok)
+
+length_names_no_size : ¬ (TellsLength 0 1 (answer 0 1 3))
+length_names_no_size h = omega (arith, h.no_size)
+
+-- the length is that of the encoding
+length_told : (code size : ℕ) (e : Encoded) → TellsLength code size e → (digest bytes : List ℕ) → length digest ≡ size
+    → IsEncoding (record { code = code; digest = digest }) bytes → e.length ≡ length bytes
+length_told code size e h digest bytes long is =
+    let (own, is_own, counted) = h.is_length digest long in
+    counted ∙ ap (λ (z : List ℕ). length z) (encoding_same (record { code = code; digest = digest }) own bytes is_own is)
+
+-- a size of 128 needs a byte more
+length_of_128 : (n : ℕ) → TellsLength 0 128 (answer 0 0 n) → n ≡ 131
+length_of_128 n h =
+    length_told 0 128 (answer 0 0 n) h (replicate 128 0) (0 ∷ 128 ∷ 1 ∷ replicate 128 0) refl (record {
+      code = 0 ∷ [];
+      size = 128 ∷ 1 ∷ [];
+      is_code = varint_0;
+      is_size = varint_128;
+      spelled = refl;
+    })
+
+-- and so does a code of 128
+length_of_code_128 : (n : ℕ) → TellsLength 128 0 (answer 0 0 n) → n ≡ 3
+length_of_code_128 n h =
+    length_told 128 0 (answer 0 0 n) h [] (128 ∷ 1 ∷ 0 ∷ []) refl (record {
+      code = 128 ∷ 1 ∷ [];
+      size = 0 ∷ [];
+      is_code = varint_128;
+      is_size = varint_0;
+      spelled = refl;
+    })

@@ -1,5 +1,5 @@
 -- What known decodings of the SCALE form took.
-use Rattle.std.proofs.Common.{◌≡◌, ℕ, List, [], ◌∷◌, ◌++◌, length, refl, ap, arith, inl, inr, length-append}
+use Rattle.std.proofs.Common.{◌≡◌, ℕ, List, [], ◌∷◌, ◌++◌, length, refl, ap, arith, length-append}
 use Rattle.multihash.specs.Bytes.{place_value}
 use Rattle.multihash.specs.Varint.{VarintFault}
 use Rattle.multihash.specs.Verdict.{accepted, invalid_size, invalid_code, faulty, unexpected_eof}
@@ -25,21 +25,22 @@ empty_verdict = (zeros ++ 0 ∷ [], [], empty_form, omega arith, refl)
 
 -- ---- a pair
 
-takes_form : TakesForm (accepted (pair 0 [])) (zeros ++ 0 ∷ [])
+-- what stands behind the form is not taken
+takes_form : TakesForm (accepted (pair 0 [])) (zeros ++ 0 ∷ 7 ∷ []) 9
 takes_form = empty_form
 
-takes_no_byte_behind_form : ¬ (TakesForm (accepted (pair 0 [])) (zeros ++ 0 ∷ 7 ∷ []))
+takes_no_byte_behind_form : ¬ (TakesForm (accepted (pair 0 [])) (zeros ++ 0 ∷ 7 ∷ []) 10)
 takes_no_byte_behind_form h =
     omega (arith, ap (λ (z : List ℕ). length z) h.spelled, h.is_code.eight, length-append h.code (0 ∷ []))
 
-takes_no_part_of_form : ¬ (TakesForm (accepted (pair 0 [])) zeros)
+takes_no_part_of_form : ¬ (TakesForm (accepted (pair 0 [])) (zeros ++ 0 ∷ []) 8)
 takes_no_part_of_form h =
     omega (arith, ap (λ (z : List ℕ). length z) h.spelled, h.is_code.eight, length-append h.code (0 ∷ []))
 
 -- ---- no size is refused
 
-takes_no_size : (size : ℕ) (taken : List ℕ) → ¬ (TakesForm (invalid_size size) taken)
-takes_no_size size taken h = h
+takes_no_size : (size taken : ℕ) (input : List ℕ) → ¬ (TakesForm (invalid_size size) input taken)
+takes_no_size size taken input h = h
 
 -- a size that is a byte is not too large, and a larger number is no byte
 no_byte_is_too_large : (size : ℕ) → ¬ (HasScaleVerdict 255 (zeros ++ 255 ∷ []) (invalid_size size))
@@ -51,16 +52,16 @@ larger_number_is_too_large =
 
 -- ---- a code that is too large
 
-takes_eight : TakesForm (invalid_code 18446744073709551615) all_255
+takes_eight : TakesForm (invalid_code 18446744073709551615) (all_255 ++ 0 ∷ []) 8
 takes_eight = (scale_code_above [], refl)
 
-takes_no_size_behind_code : ¬ (TakesForm (invalid_code 18446744073709551615) (all_255 ++ 0 ∷ []))
+takes_no_size_behind_code : ¬ (TakesForm (invalid_code 18446744073709551615) (all_255 ++ 0 ∷ []) 9)
 takes_no_size_behind_code h = omega (arith, h.1)
 
-takes_no_code_in_range : ¬ (TakesForm (invalid_code 0) zeros)
+takes_no_code_in_range : ¬ (TakesForm (invalid_code 0) zeros 8)
 takes_no_code_in_range ((bytes, rest, is, above, cut), eight) = omega (arith, above)
 
-takes_no_other_code : ¬ (TakesForm (invalid_code 9223372036854775808) all_255)
+takes_no_other_code : ¬ (TakesForm (invalid_code 9223372036854775808) all_255 8)
 takes_no_other_code h =
     omega (
       arith,
@@ -71,37 +72,30 @@ takes_no_other_code h =
 
 -- ---- no varint is read
 
-takes_no_varint : (f : VarintFault) (taken : List ℕ) → ¬ (TakesForm (faulty f) taken)
-takes_no_varint f taken h = h
+takes_no_varint : (f : VarintFault) (taken : ℕ) (input : List ℕ) → ¬ (TakesForm (faulty f) input taken)
+takes_no_varint f taken input h = h
 
 -- ---- an early end
 
-takes_nothing : TakesForm unexpected_eof []
-takes_nothing = inl (omega arith)
+-- nothing of a code that is cut
+takes_nothing : TakesForm unexpected_eof (0 ∷ 0 ∷ 0 ∷ 0 ∷ 0 ∷ 0 ∷ 0 ∷ []) 0
+takes_nothing = record { no_code = λ cut. refl; code = λ whole. absurd (omega (arith, whole)); size = λ more. absurd (omega (arith, more)) }
 
-takes_code_alone : TakesForm unexpected_eof zeros
-takes_code_alone = inr (inl (0, zero_code, omega arith))
+-- the code alone
+takes_code_alone : TakesForm unexpected_eof zeros 8
+takes_code_alone =
+    record { no_code = λ cut. absurd (omega (arith, cut)); code = λ whole. refl; size = λ more. absurd (omega (arith, more)) }
 
-takes_cut_digest : TakesForm unexpected_eof (zeros ++ 2 ∷ 7 ∷ [])
+-- the code and the size, and nothing of a digest that is cut
+takes_cut_digest : TakesForm unexpected_eof (zeros ++ 2 ∷ 7 ∷ []) 9
 takes_cut_digest =
-    inr (inr (
-      2,
-      7 ∷ [],
-      record { code = 0; code_bytes = zeros; is_code = zero_code; in_range = omega arith; cut = refl },
-      omega arith,
-      omega arith,
-    ))
+    record { no_code = λ cut. absurd (omega (arith, cut)); code = λ whole. absurd (omega (arith, whole)); size = λ more. refl }
 
--- a whole form does not end early
-takes_no_whole_form_early : ¬ (TakesForm unexpected_eof (zeros ++ 0 ∷ []))
-takes_no_whole_form_early h =
-    let same : unexpected_eof ≡ accepted (pair 0 []) =
-    scale_verdict_unique 255 (zeros ++ 0 ∷ []) unexpected_eof (accepted (pair 0 [])) h empty_verdict in
-    cc
+takes_no_part_of_cut_code : (taken : ℕ) → TakesForm unexpected_eof (0 ∷ 0 ∷ 0 ∷ 0 ∷ 0 ∷ 0 ∷ 0 ∷ []) taken → taken ≡ 0
+takes_no_part_of_cut_code taken h = h.no_code (omega arith)
 
--- nor a code that is refused
-takes_no_large_code_early : ¬ (TakesForm unexpected_eof all_255)
-takes_no_large_code_early h =
-    let same : unexpected_eof ≡ invalid_code 18446744073709551615 =
-    scale_verdict_unique 255 all_255 unexpected_eof (invalid_code 18446744073709551615) h (scale_code_above []) in
-    cc
+takes_whole_code : (taken : ℕ) → TakesForm unexpected_eof zeros taken → taken ≡ 8
+takes_whole_code taken h = h.code refl
+
+takes_whole_size : (taken : ℕ) → TakesForm unexpected_eof (zeros ++ 2 ∷ 7 ∷ []) taken → taken ≡ 9
+takes_whole_size taken h = h.size (omega arith)

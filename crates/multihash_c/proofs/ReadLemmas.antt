@@ -65,10 +65,10 @@ module _ (limit code size len : ℕ) (input : List ℕ) (h : HasHead code size l
       }
 
   -- the digest is there
-  pub pair_read : size ≤ digest_limit limit → len + size ≤ length input → d.taken ≡ len + size
+  pub read_of_encoding : size ≤ digest_limit limit → len + size ≤ length input → d.taken ≡ len + size
       → ((p : Pair) → p.code ≡ code → p.digest ≡ take size (drop len input) → Tells input d (accepted p))
       → ReadsWithin limit input d
-  pair_read within there at tells =
+  read_of_encoding within there at tells =
       let rest = drop size (drop len input) in
       let p : Pair = record { code = h.varints.code; digest = take size (drop len input) } in
       let long : length p.digest ≡ size = length-take-le size (drop len input) (omega (arith, there, length-drop len input)) in

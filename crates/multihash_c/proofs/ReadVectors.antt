@@ -14,15 +14,15 @@ use Rattle.multihash.proofs.Examples.VarintVectors.{all_marked, varint_0, varint
 use Rattle.multihash.proofs.Examples.VerdictVectors.{size_5, digest_cut, empty_input, code_alone, size_open}
 use Rattle.multihash_c.specs.Decoded.{Tells, ReadsWithin}
 use Rattle.multihash_c.proofs.DecodedVectors.{answer, input}
-use Rattle.multihash_c.proofs.ReadLemmas.{size_read, end_read, pair_read, fault_read}
+use Rattle.multihash_c.proofs.ReadLemmas.{size_read, end_read, read_of_encoding, fault_read}
 
 -- ---- examples
 
 -- the code 0 and the size 5
-abbrev large : List ℕ
+abbrev pub large : List ℕ
 large = 0 ∷ 5 ∷ 9 ∷ []
 
-large_head : HasHead 0 5 2 large
+pub large_head : HasHead 0 5 2 large
 large_head = record { within = omega arith; varints = size_5 (9 ∷ []); is_code = refl }
 
 size_named : Tells large (answer 4 5 0 0 0 2) (invalid_size 5)
@@ -32,7 +32,7 @@ size_named = record { is_status = refl; is_size = refl; is_code = refl; no_offse
 reads_size : ReadsWithin 4 large (answer 4 5 0 0 0 2)
 reads_size = size_read 4 0 5 2 large large_head (answer 4 5 0 0 0 2) (omega arith) refl size_named
 
-large_verdict : HasVerdict 4 large (invalid_size 5)
+pub large_verdict : HasVerdict 4 large (invalid_size 5)
 large_verdict = (9 ∷ [], size_5 (9 ∷ []), omega arith)
 
 -- the code 0, one byte of a digest, and what stands behind it
@@ -52,7 +52,7 @@ pair_head = record {
 
 reads_pair : ReadsWithin 4 input (answer 0 0 0 2 1 3)
 reads_pair =
-    pair_read 4 0 1 2 input pair_head (answer 0 0 0 2 1 3) (omega arith) (omega arith) refl
+    read_of_encoding 4 0 1 2 input pair_head (answer 0 0 0 2 1 3) (omega arith) (omega arith) refl
     (λ p code stands. record {
       is_ok = refl;
       no_size = refl;
@@ -63,10 +63,10 @@ reads_pair =
     })
 
 -- the code 0, the size 4, and three bytes of the digest
-abbrev cut : List ℕ
+abbrev pub cut : List ℕ
 cut = 0 ∷ 4 ∷ 1 ∷ 2 ∷ 3 ∷ []
 
-cut_head : HasHead 0 4 2 cut
+pub cut_head : HasHead 0 4 2 cut
 cut_head = record {
   within = omega arith;
   varints = record {
@@ -104,10 +104,10 @@ reads_open_size : ReadsWithin 4 (0 ∷ 0x85 ∷ []) (answer 1 0 0 0 0 2)
 reads_open_size = reads_insufficient (0 ∷ 0x85 ∷ []) (λ S. size_open)
 
 -- a varint that a zero ends, and a byte behind it
-abbrev padded : List ℕ
+abbrev pub padded : List ℕ
 padded = 0x80 ∷ 0x00 ∷ 0x07 ∷ []
 
-abbrev padded_front : (rest : List ℕ) → HasFaultyFront not_minimal (0x80 ∷ 0x00 ∷ rest)
+abbrev pub padded_front : (rest : List ℕ) → HasFaultyFront not_minimal (0x80 ∷ 0x00 ∷ rest)
 padded_front rest = record {
   front = 0x80 ∷ [];
   rest = rest;
@@ -117,7 +117,7 @@ padded_front rest = record {
   cut = refl;
 }
 
-shortest_of_padded : (S : ℕ) → IsShortestSettling S padded (0x80 ∷ 0x00 ∷ [])
+pub shortest_of_padded : (S : ℕ) → IsShortestSettling S padded (0x80 ∷ 0x00 ∷ [])
 shortest_of_padded S =
     shortest_code_fault S not_minimal padded (λ early. early) (record {
       shown = 0x80 ∷ 0x00 ∷ [];
@@ -202,7 +202,7 @@ reads_no_second h =
       ap (λ (z : List ℕ). length z) (taken_is twice [] t.front t.takes),
     )
 
-reads_no_byte_behind_fault : ¬ (ReadsWithin 4 padded (answer 3 0 0 0 0 3))
+pub reads_no_byte_behind_fault : ¬ (ReadsWithin 4 padded (answer 3 0 0 0 0 3))
 reads_no_byte_behind_fault h =
     let t = h.settled (faulty not_minimal) (inl (padded_front (0x07 ∷ []))) (λ early. early) in
     omega (
@@ -212,14 +212,14 @@ reads_no_byte_behind_fault h =
     )
 
 -- nothing of an insufficient input is left
-reads_no_part_of_insufficient : ¬ (ReadsWithin 4 (0 ∷ []) (answer 1 0 0 0 0 0))
+pub reads_no_part_of_insufficient : ¬ (ReadsWithin 4 (0 ∷ []) (answer 1 0 0 0 0 0))
 reads_no_part_of_insufficient h = omega (arith, h.insufficient code_alone)
 
 reads_no_code_of_open_size : ¬ (ReadsWithin 4 (0 ∷ 0x85 ∷ []) (answer 1 0 0 0 0 1))
 reads_no_code_of_open_size h = omega (arith, h.insufficient size_open)
 
 -- the head of the cut digest has two bytes
-cut_head_is : (code size len : ℕ) → HasHead code size len cut → len ≡ 2
+pub cut_head_is : (code size len : ℕ) → HasHead code size len cut → len ≡ 2
 cut_head_is code size len h =
     let has = h.varints in
     let first =

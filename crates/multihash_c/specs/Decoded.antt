@@ -1,5 +1,5 @@
 -- What a decoding tells a C caller where a verdict holds.
-use Rattle.std.specs.Prelude.{◌≡◌, ℕ, ◌+◌, ◌≤◌, List, Some, length, take, drop}
+use Rattle.std.specs.Prelude.{◌≡◌, ℕ, ◌+◌, ◌<◌, ◌≤◌, List, Some, length, take, drop}
 use Rattle.multihash.specs.Pair.{Pair}
 use Rattle.multihash.specs.Varint.{insufficient}
 use Rattle.multihash.specs.Verdict.{Verdict, accepted, invalid_size, invalid_code, faulty, unexpected_eof, HasVerdict, IsEarlyEnd}
@@ -33,14 +33,22 @@ Tells input d (invalid_code code) = TellsRefusal d status_invalid_code 0 code
 Tells input d (faulty fault) = TellsRefusal d (status_of_fault fault) 0 0
 Tells input d unexpected_eof = TellsRefusal d status_unexpected_eof 0 0
 
--- what decoding the SCALE form took: the form, the eight bytes of a code that is too large, or bytes that
--- by themselves end early. No size is refused, since it is one byte
-abbrev pub TakesForm : Verdict → List ℕ → Type 0
-TakesForm (accepted p) taken = IsScale p taken
-TakesForm (invalid_size size) taken = ⊥
-TakesForm (invalid_code code) taken = HasScaleVerdict 255 taken (invalid_code code) × (length taken ≡ 8)
-TakesForm (faulty fault) taken = ⊥
-TakesForm unexpected_eof taken = HasScaleVerdict 255 taken unexpected_eof
+-- of an input of so many bytes that ends early the fixed parts were taken that are whole: the eight bytes of
+-- the code, and the one of the size
+pub record TakesWholeParts (present taken : ℕ) : Type 0 where
+  pub no_code : present < 8 → taken ≡ 0
+  pub code : present ≡ 8 → taken ≡ 8
+  pub size : 8 < present → taken ≡ 9
+
+-- what decoding the SCALE form took: the form, the eight bytes of a code that is too large, or the fixed
+-- parts that an early end leaves whole. No size is refused, since it is one byte
+abbrev pub TakesForm : Verdict → List ℕ → ℕ → Type 0
+TakesForm (accepted p) input taken = IsScale p (take taken input)
+TakesForm (invalid_size size) input taken = ⊥
+TakesForm (invalid_code code) input taken =
+    HasScaleVerdict 255 (take taken input) (invalid_code code) × (length (take taken input) ≡ 8)
+TakesForm (faulty fault) input taken = ⊥
+TakesForm unexpected_eof input taken = TakesWholeParts (length input) taken
 
 -- what reading answers for a digest of at most so many bytes, and how many bytes it took: those of the
 -- shortest beginning that settles the verdict; all of an input that is insufficient; those of both varints

@@ -1,5 +1,6 @@
 -- What an encoding tells a C caller, and what it puts in the caller's buffer.
 use Rattle.std.specs.Prelude.{◌≡◌, ℕ, ◌<◌, ◌≤◌, List, ◌++◌, length, drop}
+use Rattle.multihash.specs.Encoding.{IsEncoding}
 use Rattle.multihash_c.specs.Status.{status_ok, status_invalid_size, status_invalid_code, status_no_room}
 use Rattle.multihash_c.specs.declared.encoded.Encoded.{Encoded}
 
@@ -14,6 +15,14 @@ pub record IsLargeCode (e : Encoded) : Type 0 where
   pub is_status : e.status ≡ status_invalid_code
   pub no_size : e.size ≡ 0
   pub no_length : e.length ≡ 0
+
+-- the length of the encoding of a code and any digest of so many bytes
+pub record TellsLength (code size : ℕ) (e : Encoded) : Type 0 where
+  pub is_ok : e.status ≡ status_ok
+  pub no_size : e.size ≡ 0
+  pub is_length : (digest : List ℕ) → length digest ≡ size →
+      (bytes : List ℕ) × IsEncoding (record { code = code; digest = digest }) bytes
+      × (e.length ≡ length bytes)
 
 -- the bytes stand at the front of the buffer where they fit; else it is as it was. Their count is told
 -- in both cases

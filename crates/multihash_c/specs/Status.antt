@@ -1,6 +1,9 @@
 -- The statuses that a C caller is told.
-use Rattle.std.specs.Prelude.{ℕ}
+use Rattle.std.specs.Prelude.{◌≡◌, ◌<◌, ℕ, List, [], codes}
 use Rattle.multihash.specs.Varint.{VarintFault, insufficient, overflow, not_minimal}
+use Rattle.multihash.specs.Fault.{text_of}
+use Rattle.multihash.specs.Refusal.{varint_text}
+use Rattle.multihash.specs.declared.no_std_io.error.Kind.TheVariants.{UnexpectedEof, WriteZero}
 
 -- the call did what it was asked for
 abbrev pub status_ok : ℕ
@@ -27,3 +30,13 @@ status_unexpected_eof = 6
 -- the buffer has fewer places than the bytes need
 abbrev pub status_no_room : ℕ
 status_no_room = 7
+
+-- what a status means, in the library's words, without the size or the code that is refused
+pub record IsStatusText (status : ℕ) (text : List ℕ) : Type 0 where
+  pub ok : status ≡ status_ok → text ≡ codes "ok"
+  pub fault : (fault : VarintFault) → status ≡ status_of_fault fault → text ≡ varint_text fault
+  pub size : status ≡ status_invalid_size → text ≡ codes "Invalid multihash size"
+  pub code : status ≡ status_invalid_code → text ≡ codes "Invalid multihash code"
+  pub eof : status ≡ status_unexpected_eof → text ≡ text_of UnexpectedEof []
+  pub no_room : status ≡ status_no_room → text ≡ text_of WriteZero []
+  pub unknown : status_no_room < status → text ≡ codes "unknown status"

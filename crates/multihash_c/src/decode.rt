@@ -1,8 +1,8 @@
 //! Decoding, for C.
-ghost use Rattle.std.specs.Prelude.{◌≡◌, ◌≤◌, length, take};
+ghost use Rattle.std.specs.Prelude.{◌≡◌, ◌≤◌, length};
 ghost use Rattle.multihash.specs.Verdict.{Verdict, HasWholeVerdict};
 ghost use Rattle.multihash.specs.Scale.{HasScaleVerdict};
-ghost use Rattle.multihash_c.specs.Decoded.{Tells, TakesForm, ReadsWithin};
+ghost use Rattle.multihash_c.specs.Decoded.{Tells, TakesForm, TakesWholeParts, ReadsWithin};
 
 use crate::decoded::{self, Decoded};
 use crate::read;
@@ -42,7 +42,7 @@ pub extern "C" fn multihash_read_limit(bytes: &[u8], limit: usize) -> Decoded
 #[unsafe(no_mangle)]
 pub extern "C" fn multihash_scale_decode(bytes: &[u8]) -> Decoded
     ensures verdict { (v : Verdict) × HasScaleVerdict 255 bytes.now v × Tells bytes.now result v
-        × TakesForm v (take result.taken bytes.now) }
+        × TakesForm v bytes.now result.taken }
     ensures inside { result.taken ≤ length bytes.now }
 {
     let mut rest = bytes;
@@ -50,6 +50,21 @@ pub extern "C" fn multihash_scale_decode(bytes: &[u8]) -> Decoded
     let taken = bytes.len() - rest.len();
     match answer {
         Ok(multihash) => decoded::accept(multihash.code(), usize::from(multihash.size()), taken),
-        Err(error) => decoded::refuse(&error, taken),
+        Err(error) => match error.invalid_code() {
+            Some(code) => decoded::refuse_code(code, taken),
+            None => decoded::refuse_end(whole_parts(bytes.len())),
+        },
+    }
+}
+
+// How many bytes the fixed parts have that are whole in a SCALE form of which so many bytes are there.
+fn whole_parts(present: usize) -> usize
+    ensures parts { TakesWholeParts present result }
+    ensures inside { result ≤ present }
+{
+    match present {
+        0..8 => 0,
+        8 => 8,
+        _ => 9,
     }
 }

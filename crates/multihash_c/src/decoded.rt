@@ -1,7 +1,7 @@
 //! What a decoding answers.
 ghost use Rattle.std.specs.Prelude.{◌≡◌, ◌+◌, ◌≤◌, ℕ, List, length, take, drop};
 ghost use Rattle.multihash.specs.Pair.{Pair};
-ghost use Rattle.multihash.specs.Verdict.{Verdict, accepted, invalid_size, unexpected_eof};
+ghost use Rattle.multihash.specs.Verdict.{Verdict, accepted, invalid_size, invalid_code, unexpected_eof};
 ghost use Rattle.multihash.specs.Answer.{IsRefusal};
 ghost use Rattle.multihash_c.specs.Decoded.{Tells, TellsRefusal};
 
@@ -48,7 +48,7 @@ pub(crate) fn refuse(error: &Error, taken: usize) -> Decoded
     if let Some(size) = error.invalid_size() {
         refuse_size(size, taken)
     } else if let Some(code) = error.invalid_code() {
-        refusal(status::INVALID_CODE, 0, code, taken)
+        refuse_code(code, taken)
     } else if error.is_insufficient() {
         refusal(status::INSUFFICIENT, 0, 0, taken)
     } else if error.is_overflow() {
@@ -66,6 +66,14 @@ pub(crate) fn refuse_size(size: u64, taken: usize) -> Decoded
     ensures taken { result.taken ≡ taken }
 {
     refusal(status::INVALID_SIZE, size, 0, taken)
+}
+
+// The answer at a code that is out of range.
+pub(crate) fn refuse_code(code: u64, taken: usize) -> Decoded
+    ensures tells { (input : List ℕ) → Tells input result (invalid_code code) }
+    ensures taken { result.taken ≡ taken }
+{
+    refusal(status::INVALID_CODE, 0, code, taken)
 }
 
 // The answer at a digest that is cut.

@@ -1,10 +1,10 @@
 //! Encoding, for C.
-ghost use Rattle.std.specs.Prelude.{◌≡◌, ◌<◌, ◌≤◌, ℕ, List, ◌++◌, length, drop};
-ghost use Rattle.multihash.specs.Varint.{varint_limit};
+ghost use Rattle.std.specs.Prelude.{◌≡◌, ◌+◌, ◌<◌, ◌≤◌, ℕ, List, ◌++◌, length, drop, IfSome, IfNone};
+ghost use Rattle.multihash.specs.Varint.{varint_limit, most_marked, IsVarint};
 ghost use Rattle.multihash.specs.Encoding.{IsEncoding};
 ghost use Rattle.multihash.specs.Scale.{IsScale};
 ghost use Rattle.multihash.specs.Answer.{pair_of};
-ghost use Rattle.multihash_c.specs.Encoded.{IsTooLong, IsLargeCode, Puts};
+ghost use Rattle.multihash_c.specs.Encoded.{IsTooLong, IsLargeCode, TellsLength, Puts};
 
 use crate::encoded::{self, Encoded};
 use multihash::Multihash;
@@ -50,6 +50,40 @@ pub extern "C" fn multihash_scale_encode(code: u64, digest: &[u8], out: &mut [u8
         put_scale_form(&multihash, out);
     }
     encoded::count(length, out.len())
+}
+
+/// The length of the encoding of a code and a digest of so many bytes.
+#[unsafe(no_mangle)]
+pub extern "C" fn multihash_encoded_len(code: u64, digest_length: usize) -> Encoded
+    ensures too_long { 255 < digest_length → IsTooLong digest_length result }
+    ensures large_code { digest_length ≤ 255 → varint_limit ≤ code → IsLargeCode result }
+    ensures length { digest_length ≤ 255 → code < varint_limit →
+        TellsLength code digest_length result }
+{
+    if digest_length > 255 {
+        return encoded::refuse_size(digest_length as u64);
+    }
+    match (varint_len(code), varint_len(digest_length as u64)) {
+        (Some(code_length), Some(size_length)) => {
+            let length = code_length + size_length + digest_length;
+            encoded::count(length, length)
+        }
+        _ => encoded::refuse_code(),
+    }
+}
+
+// How many bytes the varint of a number has, where it has one: those of its encoding as the code of an empty
+// digest, but for the one of the size.
+fn varint_len(number: u64) -> Option<usize>
+    ensures some { IfSome result (λ n. (bytes : List ℕ) × IsVarint number bytes
+        × (n ≡ length bytes)) }
+    ensures short { IfSome result (λ n. n ≤ most_marked + 1) }
+    ensures none { IfNone result (varint_limit ≤ number) }
+{
+    match Multihash::<0>::wrap(number, &[]) {
+        Ok(empty) => Some(empty.encoded_len() - 1),
+        Err(_) => None,
+    }
 }
 
 // Puts the encoding of a multihash at the front of places that have room for it.

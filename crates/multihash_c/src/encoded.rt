@@ -21,13 +21,30 @@ pub(crate) fn refuse(error: &Error) -> Encoded
     ensures size { (size : ℕ) → IsInvalidSize size error.now → IsTooLong size result }
     ensures code { (code : ℕ) → IsInvalidCode code error.now → IsLargeCode result }
 {
-    let (status, size) = match error.invalid_size() {
-        Some(size) => (status::INVALID_SIZE, size),
-        None => (status::INVALID_CODE, 0),
-    };
+    match error.invalid_size() {
+        Some(size) => refuse_size(size),
+        None => refuse_code(),
+    }
+}
+
+// The answer at a digest that is too long.
+pub(crate) fn refuse_size(size: u64) -> Encoded
+    ensures { IsTooLong size result }
+{
     Encoded {
-        status,
+        status: status::INVALID_SIZE,
         size,
+        length: 0,
+    }
+}
+
+// The answer at a code that is out of range.
+pub(crate) fn refuse_code() -> Encoded
+    ensures { IsLargeCode result }
+{
+    Encoded {
+        status: status::INVALID_CODE,
+        size: 0,
         length: 0,
     }
 }

@@ -8,7 +8,10 @@ mod decode;
 mod decoded;
 mod encode;
 mod encoded;
+mod front;
 mod read;
 mod status;
 #[cfg(test)]
 mod tests;
+mod text;
+mod version;

@@ -2,7 +2,7 @@
 ghost use Rattle.std.specs.Prelude.{ℕ};
 ghost use Rattle.multihash.specs.Varint.{VarintFault};
 ghost use Rattle.multihash.specs.Verdict.{faulty, HasVerdict};
-ghost use Rattle.multihash_c.specs.Decoded.{ReadsWithin};
+ghost use Rattle.multihash_c.specs.Decoded.{Tells, ReadsWithin};
 
 use crate::decoded::{self, Decoded};
 use multihash::{Head, Multihash};
@@ -27,9 +27,10 @@ pub(crate) fn read_within(bytes: &[u8], limit: usize) -> Decoded
 // Decodes where no two varints begin the bytes: the answer is the same for each limit.
 #[cold]
 #[inline(never)]
-fn read_fault(bytes: &[u8]) -> Decoded
+pub(crate) fn read_fault(bytes: &[u8]) -> Decoded
     requires { (fault : VarintFault) × ((S : ℕ) → HasVerdict S bytes.now (faulty fault)) }
-    ensures { (limit : ℕ) → ReadsWithin limit bytes.now result }
+    ensures reads { (limit : ℕ) → ReadsWithin limit bytes.now result }
+    ensures tells { (fault : VarintFault) × Tells bytes.now result (faulty fault) }
 {
     let mut rest = bytes;
     let answer = Multihash::<0>::read(&mut rest);

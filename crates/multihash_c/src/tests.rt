@@ -4,10 +4,13 @@ use crate::decode::{
     multihash_from_bytes, multihash_read, multihash_read_limit, multihash_scale_decode,
 };
 use crate::decoded::Decoded;
-use crate::encode::{multihash_encode, multihash_scale_encode};
+use crate::encode::{multihash_encode, multihash_encoded_len, multihash_scale_encode};
+use crate::front::multihash_head;
 use crate::status::{
     INSUFFICIENT, INVALID_CODE, INVALID_SIZE, NO_ROOM, NOT_MINIMAL, OK, OVERFLOW, UNEXPECTED_EOF,
 };
+use crate::text::multihash_put_status_text;
+use crate::version::multihash_version;
 
 #[test]
 fn documented_example(rt: HostRuntime) {
@@ -43,6 +46,30 @@ fn scale(rt: HostRuntime) {
         b"\x16\0\0\0\0\0\0\0\x03\x64\x4b\xcc".as_slice()
     );
     assert_eq!(rt; multihash_scale_decode(&bytes).digest_offset, 9);
+}
+
+#[test]
+fn head(rt: HostRuntime) {
+    let head = multihash_head(b"\x16\x80\x02");
+    assert_eq!(rt; head.status, OK);
+    assert_eq!(rt; head.code, 22);
+    assert_eq!(rt; head.digest_length, 256);
+    assert_eq!(rt; head.taken, 3);
+    assert_eq!(rt; multihash_head(b"\x16\x80").status, INSUFFICIENT);
+}
+
+#[test]
+fn numbers_alone(rt: HostRuntime) {
+    assert_eq!(rt; multihash_encoded_len(22, 128).length, 131);
+    assert_eq!(rt; multihash_encoded_len(22, 256).status, INVALID_SIZE);
+    assert_eq!(rt; multihash_version(), 10000);
+}
+
+#[test]
+fn status_text(rt: HostRuntime) {
+    let mut bytes = [b'-'; 15];
+    assert_eq!(rt; multihash_put_status_text(8, &mut bytes).length, 14);
+    assert_eq!(rt; &bytes, b"unknown status-");
 }
 
 #[test]

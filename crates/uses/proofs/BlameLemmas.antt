@@ -16,7 +16,7 @@ use Rattle.multihash.proofs.Readings.VerdictLemmas.{same_cut, verdict_unique}
 use Rattle.multihash.proofs.Forms.ScaleLemmas.{scale_verdict_unique}
 use Rattle.multihash.proofs.Readings.ShortestLemmas.{shortest_size, shortest_unique}
 use Rattle.multihash.proofs.Readings.SettlingLemmas.{settles_exactly}
-use Rattle.multihash.proofs.Writings.WritingLemmas.{some_items}
+use Rattle.multihash.proofs.Writings.WritingLemmas.{length_of_not_nil}
 
 -- what was taken stands in front of what is left
 pub in_front : (Form : Pair → List ℕ → Type 0) (S : ℕ) (input left : List ℕ) (r : Result (Fields S) Refusal)
@@ -112,7 +112,7 @@ end_left S p bytes more (Some left) encodes fits took =
         length-append took.taken left,
         ap length longer.2,
         length-append took.taken longer.0,
-        some_items longer.0 longer.1,
+        length_of_not_nil longer.0 longer.1,
       )
     ]
 

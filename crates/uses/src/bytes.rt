@@ -2,7 +2,7 @@
 ghost use Rattle.std.specs.Prelude.{◌≡◌, ℕ, ◌+◌, ◌-◌, ◌≤◌, ◌↔◌, ◌⊎◌, List, [], ◌∷◌, ◌++◌, Some, length, slice_get, IsTrue, IfSome, IfOk, IfErr, OnOk, OnErr, MatchOption, MatchResult};
 ghost use Rattle.multihash.specs.Fault.{IsOutOfMemory, IsOwnFault};
 ghost use Rattle.std.specs.Io.KnownBytes.{IsAtEnd};
-ghost use Rattle.multihash.specs.Reading.{Takes, CountsReader, NoneListed};
+ghost use Rattle.multihash.specs.Reading.{Takes, CountsReader, NoOtherError};
 ghost use Rattle.multihash.specs.Writing.{CountsWriter, AppendsPart, IsFault};
 ghost use Rattle.multihash.specs.Pair.{FitsBuffer};
 ghost use Rattle.multihash.specs.Encoding.{IsEncoding};
@@ -39,7 +39,7 @@ pub fn one_of_seven(e: &Error) -> u8
 
 /// The next byte, or none where the input has ended.
 pub fn read_one<R: Read>(r: &mut R) -> Result<Option<u8>, no_std_io::Error>
-    ensures faults { CountsReader IsOwnFault NoneListed
+    ensures faults { CountsReader IsOwnFault NoOtherError
         (R.failures r.old) (R.failures r.new) result }
     ensures byte { IfOk result (λ next. MatchOption next
         (IsAtEnd (R.rest r.old) × (R.rest r.new ≡ R.rest r.old))

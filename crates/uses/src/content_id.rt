@@ -13,7 +13,8 @@ use multihash::{Error, Multihash, laws};
 
 /// What content is, and the hash that names it.
 ///
-/// The version and the codec are one byte each, as all in use below 128 are.
+/// The version and the codec are one byte each: codecs of 128 and above, such as dag-json (0x0129), are
+/// not covered.
 #[derive(Clone, Copy, Debug)]
 pub struct ContentId<const S: usize> {
     pub version: u8,

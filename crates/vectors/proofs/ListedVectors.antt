@@ -8,7 +8,7 @@ use Rattle.multihash.specs.Varint.{insufficient, overflow, not_minimal}
 use Rattle.multihash.specs.Verdict.{accepted, invalid_size, invalid_code, faulty, unexpected_eof, HasWholeVerdict}
 use Rattle.multihash.specs.Scale.{IsScaleCode, HasScaleVerdict}
 use Rattle.multihash.proofs.Varints.MarkedLemmas.{All-append_right}
-use Rattle.multihash.proofs.Writings.WritingLemmas.{some_items}
+use Rattle.multihash.proofs.Writings.WritingLemmas.{length_of_not_nil}
 use Rattle.multihash.proofs.Readings.VerdictLemmas.{same_cut, verdict_unique, whole_verdict_unique}
 use Rattle.multihash.proofs.Forms.ScaleLemmas.{scale_verdict_unique}
 use Rattle.multihash.proofs.Readings.ShortestLemmas.{shortest_unique}
@@ -175,7 +175,7 @@ before_eight : (shorter : List ℕ) → IsProperBeginning shorter all_255
 before_eight shorter (rest, some, cut) =
     inl (omega (
       arith,
-      some_items rest some,
+      length_of_not_nil rest some,
       ap (λ (z : List ℕ). length z) cut,
       length-append shorter rest,
     ))

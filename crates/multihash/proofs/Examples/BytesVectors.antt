@@ -22,11 +22,8 @@ no_byte_256 h = omega (arith, h 1 0 (omega arith))
 
 -- ---- beginnings
 
-begins_itself : IsBeginning (1 ∷ 2 ∷ []) (1 ∷ 2 ∷ [])
-begins_itself = ([], refl)
-
-begins_longer : IsBeginning [] (1 ∷ 2 ∷ [])
-begins_longer = (1 ∷ 2 ∷ [], refl)
+begins : IsBeginning (1 ∷ 2 ∷ []) (1 ∷ 2 ∷ []) × IsBeginning [] (1 ∷ 2 ∷ [])
+begins = (([], refl), (1 ∷ 2 ∷ [], refl))
 
 begins_no_shorter : ¬ (IsBeginning (1 ∷ 2 ∷ []) (1 ∷ []))
 begins_no_shorter h = omega (arith, ap (λ (z : List ℕ). length z) h.1)
@@ -52,21 +49,10 @@ nothing_begins_properly = (1 ∷ [], (λ e. omega (arith, ap (λ (z : List ℕ).
 
 -- ---- the lowest digit stands first, in both bases
 
-lowest_first : place_value 128 (44 ∷ 2 ∷ []) ≡ 300
+values : (place_value 128 (44 ∷ 2 ∷ []) ≡ 300) × (place_value 256 (1 ∷ 2 ∷ 3 ∷ []) ≡ 197121) × (place_value 128 (0 ∷ 0 ∷ 1 ∷ []) ≡ 16384)
+    × (place_value 128 [] ≡ 0)
 unfolding place_value
-lowest_first = refl
-
-lowest_byte_first : place_value 256 (1 ∷ 2 ∷ 3 ∷ []) ≡ 197121
-unfolding place_value
-lowest_byte_first = refl
-
-third_digit : place_value 128 (0 ∷ 0 ∷ 1 ∷ []) ≡ 16384
-unfolding place_value
-third_digit = refl
-
-no_digits : place_value 128 [] ≡ 0
-unfolding place_value
-no_digits = refl
+values = (refl, refl, refl, refl)
 
 -- ---- one value
 

@@ -1,11 +1,8 @@
 -- The encodings of known pairs.
-use Rattle.std.proofs.Common.{◌≡◌, ℕ, ◌+◌, List, [], ◌∷◌, ◌++◌, length, replicate, get_or, refl, ap, arith}
+use Rattle.std.proofs.Common.{◌≡◌, ℕ, ◌+◌, List, [], ◌∷◌, ◌++◌, length, replicate, refl}
 use Rattle.std.specs.Prelude.{codes}
-use Rattle.multihash.specs.Pair.{Pair}
 use Rattle.multihash.specs.Varint.{most_marked}
 use Rattle.multihash.specs.Encoding.{IsEncoding}
-use Rattle.multihash.proofs.Varints.LengthLemmas.{encoding_shortest}
-use Rattle.multihash.proofs.Readings.VerdictLemmas.{encoding_same, encoding_unique}
 use Rattle.multihash.proofs.Examples.VarintVectors.{varint_0, varint_2, varint_128, varint_255, varint_9223372036854775807}
 use Rattle.multihash.proofs.Examples.PairVectors.{pair}
 
@@ -13,14 +10,7 @@ encodes_ab : IsEncoding (pair 0 (codes "ab")) (0x00 ∷ 0x02 ∷ 0x61 ∷ 0x62 �
 encodes_ab = record { code = 0x00 ∷ []; size = 0x02 ∷ []; is_code = varint_0; is_size = varint_2; spelled = refl }
 
 encodes_nothing : IsEncoding (pair 0 []) (0x00 ∷ 0x00 ∷ [])
-encodes_nothing =
-    record {
-      code = 0x00 ∷ [];
-      size = 0x00 ∷ [];
-      is_code = varint_0;
-      is_size = varint_0;
-      spelled = refl;
-    }
+encodes_nothing = record { code = 0x00 ∷ []; size = 0x00 ∷ []; is_code = varint_0; is_size = varint_0; spelled = refl }
 
 encodes_128 : IsEncoding (pair 128 []) (0x80 ∷ 0x01 ∷ 0x00 ∷ [])
 encodes_128 = record { code = 0x80 ∷ 0x01 ∷ []; size = 0x00 ∷ []; is_code = varint_128; is_size = varint_0; spelled = refl }
@@ -54,65 +44,3 @@ longest_is = refl
 -- no encoding is longer
 most_bytes : (most_marked + 1) + 2 + 255 ≡ 266
 most_bytes = refl
-
--- ---- what does not hold
-
--- the size stands behind the code
-no_size_first : ¬ (IsEncoding (pair 0 (codes "ab")) (0x02 ∷ 0x00 ∷ 0x61 ∷ 0x62 ∷ []))
-no_size_first e =
-    omega (
-      arith,
-      ap (λ (z : List ℕ). get_or z 0 0)
-          (encoding_same (pair 0 (codes "ab")) (0x02 ∷ 0x00 ∷ 0x61 ∷ 0x62 ∷ []) (0x00 ∷ 0x02 ∷ 0x61 ∷ 0x62 ∷ []) e encodes_ab),
-    )
-
-no_other_size : ¬ (IsEncoding (pair 0 (codes "ab")) (0x00 ∷ 0x03 ∷ 0x61 ∷ 0x62 ∷ []))
-no_other_size e =
-    omega (
-      arith,
-      ap (λ (z : List ℕ). get_or z 1 0)
-          (encoding_same (pair 0 (codes "ab")) (0x00 ∷ 0x03 ∷ 0x61 ∷ 0x62 ∷ []) (0x00 ∷ 0x02 ∷ 0x61 ∷ 0x62 ∷ []) e encodes_ab),
-    )
-
--- nothing follows
-no_byte_behind : ¬ (IsEncoding (pair 0 (codes "ab")) (0x00 ∷ 0x02 ∷ 0x61 ∷ 0x62 ∷ 0x00 ∷ []))
-no_byte_behind e =
-    omega (
-      arith,
-      ap (λ (z : List ℕ). length z)
-          (encoding_same (pair 0 (codes "ab")) (0x00 ∷ 0x02 ∷ 0x61 ∷ 0x62 ∷ 0x00 ∷ []) (0x00 ∷ 0x02 ∷ 0x61 ∷ 0x62 ∷ []) e encodes_ab),
-    )
-
-no_code_alone : (code : ℕ) (digest : List ℕ) → ¬ (IsEncoding (pair code digest) (0x00 ∷ []))
-no_code_alone code digest e = omega (arith, encoding_shortest (pair code digest) (0x00 ∷ []) e)
-
-no_other_code : ¬ (IsEncoding (pair 1 (codes "ab")) (0x00 ∷ 0x02 ∷ 0x61 ∷ 0x62 ∷ []))
-no_other_code e =
-    let (same, bytes, rest) =
-    encoding_unique (pair 1 (codes "ab")) (pair 0 (codes "ab")) (0x00 ∷ 0x02 ∷ 0x61 ∷ 0x62 ∷ [])
-    (0x00 ∷ 0x02 ∷ 0x61 ∷ 0x62 ∷ []) [] [] e encodes_ab refl in
-    omega (arith, ap (λ (p : Pair). p.code) same)
-
-no_other_digest : ¬ (IsEncoding (pair 0 (codes "ac")) (0x00 ∷ 0x02 ∷ 0x61 ∷ 0x62 ∷ []))
-no_other_digest e =
-    let (same, bytes, rest) =
-    encoding_unique (pair 0 (codes "ac")) (pair 0 (codes "ab")) (0x00 ∷ 0x02 ∷ 0x61 ∷ 0x62 ∷ [])
-    (0x00 ∷ 0x02 ∷ 0x61 ∷ 0x62 ∷ []) [] [] e encodes_ab refl in
-    omega (arith, ap (λ (p : Pair). get_or p.digest 1 0) same)
-
--- a size is its shortest bytes
-no_padded_size : ¬ (IsEncoding (pair 0 []) (0x00 ∷ 0x80 ∷ 0x00 ∷ []))
-no_padded_size e =
-    omega (
-      arith,
-      ap (λ (z : List ℕ). length z)
-          (encoding_same (pair 0 []) (0x00 ∷ 0x80 ∷ 0x00 ∷ []) (0x00 ∷ 0x00 ∷ []) e encodes_nothing),
-    )
-
-no_padded_code : ¬ (IsEncoding (pair 0 []) (0x80 ∷ 0x00 ∷ 0x00 ∷ []))
-no_padded_code e =
-    omega (
-      arith,
-      ap (λ (z : List ℕ). length z)
-          (encoding_same (pair 0 []) (0x80 ∷ 0x00 ∷ 0x00 ∷ []) (0x00 ∷ 0x00 ∷ []) e encodes_nothing),
-    )

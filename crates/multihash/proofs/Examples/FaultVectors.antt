@@ -18,95 +18,46 @@ memory = record { kind = OutOfMemory; text = [] }
 
 -- ---- kinds
 
-eof_is : IsUnexpectedEof eof
-eof_is = refl
+kinds : IsUnexpectedEof eof × IsWriteZero full × IsOutOfMemory memory × IsOther other
+kinds = (refl, refl, refl, refl)
 
-full_is_no_eof : ¬ (IsUnexpectedEof full)
-full_is_no_eof h = cc
+no_other_is_eof : ¬ (IsUnexpectedEof full) × ¬ (IsUnexpectedEof memory) × ¬ (IsUnexpectedEof other)
+no_other_is_eof = ((λ h. cc), (λ h. cc), λ h. cc)
 
-memory_is_no_eof : ¬ (IsUnexpectedEof memory)
-memory_is_no_eof h = cc
+no_other_is_full : ¬ (IsWriteZero eof) × ¬ (IsWriteZero memory) × ¬ (IsWriteZero other)
+no_other_is_full = ((λ h. cc), (λ h. cc), λ h. cc)
 
-other_is_no_eof : ¬ (IsUnexpectedEof other)
-other_is_no_eof h = cc
+no_other_is_memory : ¬ (IsOutOfMemory eof) × ¬ (IsOutOfMemory full) × ¬ (IsOutOfMemory other)
+no_other_is_memory = ((λ h. cc), (λ h. cc), λ h. cc)
 
-full_is : IsWriteZero full
-full_is = refl
+none_is_other : ¬ (IsOther eof) × ¬ (IsOther full) × ¬ (IsOther memory)
+none_is_other = ((λ h. cc), (λ h. cc), λ h. cc)
 
-eof_is_not_full : ¬ (IsWriteZero eof)
-eof_is_not_full h = cc
+-- what a reader or a writer may answer by itself, whatever its text is
+own : (text : List ℕ) → IsOwnFault (record { kind = Other; text = text }) × IsOwnFault (record { kind = OutOfMemory; text = text })
+own text = (inl refl, inr refl)
 
-memory_is_not_full : ¬ (IsWriteZero memory)
-memory_is_not_full h = cc
+no_own_eof : (text : List ℕ) → ¬ (IsOwnFault (record { kind = UnexpectedEof; text = text }))
+no_own_eof text (inl h) = cc
+no_own_eof text (inr h) = cc
 
-other_is_not_full : ¬ (IsWriteZero other)
-other_is_not_full h = cc
-
-memory_is : IsOutOfMemory memory
-memory_is = refl
-
-eof_is_no_memory : ¬ (IsOutOfMemory eof)
-eof_is_no_memory h = cc
-
-full_is_no_memory : ¬ (IsOutOfMemory full)
-full_is_no_memory h = cc
-
-other_is_no_memory : ¬ (IsOutOfMemory other)
-other_is_no_memory h = cc
-
-other_is : IsOther other
-other_is = refl
-
-eof_is_no_other : ¬ (IsOther eof)
-eof_is_no_other h = cc
-
-full_is_no_other : ¬ (IsOther full)
-full_is_no_other h = cc
-
-memory_is_no_other : ¬ (IsOther memory)
-memory_is_no_other h = cc
-
--- what a reader or a writer may answer by itself
-own_other : IsOwnFault other
-own_other = inl refl
-
-own_memory : IsOwnFault memory
-own_memory = inr refl
-
-no_own_eof : ¬ (IsOwnFault eof)
-no_own_eof (inl h) = cc
-no_own_eof (inr h) = cc
-
-no_own_full : ¬ (IsOwnFault full)
-no_own_full (inl h) = cc
-no_own_full (inr h) = cc
+no_own_full : (text : List ℕ) → ¬ (IsOwnFault (record { kind = WriteZero; text = text }))
+no_own_full text (inl h) = cc
+no_own_full text (inr h) = cc
 
 -- ---- texts: of each kind its own, whatever the error was made with
 
-eof_prints : (own : List ℕ) → text_of UnexpectedEof own ≡ codes "failed to fill whole buffer"
-eof_prints own = refl
+texts : (made : List ℕ) → (text_of UnexpectedEof made ≡ codes "failed to fill whole buffer")
+    × (text_of WriteZero made ≡ codes "failed to write whole buffer") × (text_of OutOfMemory made ≡ codes "out of memory") × (text_of Other made ≡ made)
+texts made = (refl, refl, refl, refl)
 
-full_prints : (own : List ℕ) → text_of WriteZero own ≡ codes "failed to write whole buffer"
-full_prints own = refl
-
-memory_prints : (own : List ℕ) → text_of OutOfMemory own ≡ codes "out of memory"
-memory_prints own = refl
-
-other_prints_its_own : (own : List ℕ) → text_of Other own ≡ own
-other_prints_its_own own = refl
-
-prints_by_its_kind : printed eof ≡ codes "failed to fill whole buffer"
-prints_by_its_kind = refl
-
-no_text_of_eof : ¬ (HasStandardText eof)
-no_text_of_eof h = omega (arith, ap (λ (z : List ℕ). length z) h)
-
-no_text_of_full : ¬ (HasStandardText full)
-no_text_of_full h = omega (arith, ap (λ (z : List ℕ). length z) h)
-
-no_text_of_memory : ¬ (HasStandardText memory)
-no_text_of_memory h = omega (arith, ap (λ (z : List ℕ). length z) h)
+prints_by_its_kind : (made : List ℕ) → (printed (record { kind = UnexpectedEof; text = made }) ≡ codes "failed to fill whole buffer")
+    × (printed (record { kind = Other; text = made }) ≡ made)
+prints_by_its_kind made = (refl, refl)
 
 -- only the text of a reader's or a writer's own fault is free
-any_text_of_other : (own : List ℕ) → HasStandardText (record { kind = Other; text = own })
-any_text_of_other own = refl
+any_text_of_other : (text : List ℕ) → HasStandardText (record { kind = Other; text = text })
+any_text_of_other text = refl
+
+no_other_text : ¬ (HasStandardText eof) × ¬ (HasStandardText full) × ¬ (HasStandardText memory)
+no_other_text = ((λ h. omega (arith, ap length h)), (λ h. omega (arith, ap length h)), λ h. omega (arith, ap length h))

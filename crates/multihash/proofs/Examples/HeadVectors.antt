@@ -28,18 +28,12 @@ head_is code size len h =
     (h_size.size_bytes, h_size.is_size, sym first.1) (0x05 ∷ [], varint_5, refl) in
     (sym h.is_code ∙ first.0, second.0, second.1)
 
-no_other_code : ¬ (HasHead 1 5 2 input)
-no_other_code h = omega (arith, (head_is 1 5 2 h).0)
-
-no_other_size : ¬ (HasHead 0 4 2 input)
-no_other_size h = omega (arith, (head_is 0 4 2 h).1)
+no_other_number : ¬ (HasHead 1 5 2 input) × ¬ (HasHead 0 4 2 input)
+no_other_number = ((λ h. omega (arith, (head_is 1 5 2 h).0)), λ h. omega (arith, (head_is 0 4 2 h).1))
 
 -- the digest's first byte is no part of a head, and both varints are
-no_longer_head : ¬ (HasHead 0 5 3 input)
-no_longer_head h = omega (arith, ap (λ (z : List ℕ). length z) (head_is 0 5 3 h).2)
-
-no_shorter_head : ¬ (HasHead 0 5 1 input)
-no_shorter_head h = omega (arith, ap (λ (z : List ℕ). length z) (head_is 0 5 1 h).2)
+no_other_length : ¬ (HasHead 0 5 3 input) × ¬ (HasHead 0 5 1 input)
+no_other_length = ((λ h. omega (arith, ap length (head_is 0 5 3 h).2)), λ h. omega (arith, ap length (head_is 0 5 1 h).2))
 
 -- nor is a byte that is not there
 no_head_past_the_end : ¬ (HasHead 0 5 3 (0x00 ∷ 0x05 ∷ []))

@@ -52,11 +52,7 @@ not_joined_backwards h =
 -- and each pair has its encoding
 no_pair_without_bytes : (p : Pair) → ¬ (AreJoined (p ∷ []) [])
 no_pair_without_bytes p h =
-    omega (
-      arith,
-      ap (λ (ps : List Pair). length ps)
-          (joined_whole (p ∷ []) [] [] h joined_none),
-    )
+    omega (arith, ap (λ (ps : List Pair). length ps) (joined_whole (p ∷ []) [] [] h joined_none))
 
 no_pair_is_left_out : ¬ (AreJoined (pair 0 (codes "A") ∷ pair 1 (codes "B") ∷ []) (0 ∷ 1 ∷ 65 ∷ []))
 no_pair_is_left_out h =

@@ -6,71 +6,35 @@ use Rattle.serde_json.specs.View.{view}
 use Rattle.serde_json.specs.declared.value.Value.{Value}
 use Rattle.multihash.specs.Members.{byte_of_number, byte_of_data, byte_then, leading_bytes, member_bytes, is_byte}
 
-zero_is_a_byte : byte_of_number (unsigned 0) ≡ Some 0
-zero_is_a_byte = refl
+bytes_of_numbers : (byte_of_number (unsigned 0) ≡ Some 0) × (byte_of_number (unsigned 255) ≡ Some 255) × (byte_of_data (number (unsigned 7)) ≡ Some 7)
+bytes_of_numbers = (refl, refl, refl)
 
-largest_byte : byte_of_number (unsigned 255) ≡ Some 255
-largest_byte = refl
+-- a float is none, however whole it is
+no_byte : (byte_of_number (unsigned 256) ≡ None) × ((z : ℤ) → byte_of_number (negative z) ≡ None) × ((x : Float) → byte_of_number (float x) ≡ None)
+no_byte = (refl, (λ z. refl), λ x. refl)
 
-no_larger_byte : byte_of_number (unsigned 256) ≡ None
-no_larger_byte = refl
+nor_other_data : (byte_of_data null ≡ None) × ((b : Bool) → byte_of_data (boolean b) ≡ None) × ((text : List ℕ) → byte_of_data (string text) ≡ None)
+    × ((items : Items) → byte_of_data (array items) ≡ None) × ((ms : Members) → byte_of_data (object ms) ≡ None)
+nor_other_data = (refl, (λ b. refl), (λ text. refl), (λ items. refl), λ ms. refl)
 
-no_negative_byte : (z : ℤ) → byte_of_number (negative z) ≡ None
-no_negative_byte z = refl
-
--- however whole it is
-no_float_byte : (x : Float) → byte_of_number (float x) ≡ None
-no_float_byte x = refl
-
-number_byte : byte_of_data (number (unsigned 7)) ≡ Some 7
-number_byte = refl
-
-null_is_no_byte : byte_of_data null ≡ None
-null_is_no_byte = refl
-
-boolean_is_no_byte : (b : Bool) → byte_of_data (boolean b) ≡ None
-boolean_is_no_byte b = refl
-
-text_is_no_byte : (text : List ℕ) → byte_of_data (string text) ≡ None
-text_is_no_byte text = refl
-
-array_is_no_byte : (items : Items) → byte_of_data (array items) ≡ None
-array_is_no_byte items = refl
-
-object_is_no_byte : (ms : Members) → byte_of_data (object ms) ≡ None
-object_is_no_byte ms = refl
-
-byte_before : byte_then (Some 7) (8 ∷ []) ≡ 7 ∷ 8 ∷ []
-byte_before = refl
-
-nothing_after_no_byte : byte_then None (8 ∷ []) ≡ []
-nothing_after_no_byte = refl
+byte_and_more : (byte_then (Some 7) (8 ∷ []) ≡ 7 ∷ 8 ∷ []) × (byte_then None (8 ∷ []) ≡ [])
+byte_and_more = (refl, refl)
 
 -- up to the first that is none
-leading_two : leading_bytes
-    (number (unsigned 1) ∷ number (unsigned 2) ∷ null ∷ number (unsigned 3) ∷ []) ≡ 1 ∷ 2 ∷ []
-leading_two = refl
-
-leading_none : leading_bytes (null ∷ number (unsigned 3) ∷ []) ≡ []
-leading_none = refl
-
-leading_all : leading_bytes (number (unsigned 0) ∷ number (unsigned 255) ∷ []) ≡ 0 ∷ 255 ∷ []
-leading_all = refl
-
-no_members : member_bytes [] ≡ []
-no_members = refl
+leading : (leading_bytes (number (unsigned 1) ∷ number (unsigned 2) ∷ null ∷ number (unsigned 3) ∷ []) ≡ 1 ∷ 2 ∷ [])
+    × (leading_bytes (null ∷ number (unsigned 3) ∷ []) ≡ []) × (leading_bytes (number (unsigned 0) ∷ number (unsigned 255) ∷ []) ≡ 0 ∷ 255 ∷ [])
+    × (member_bytes [] ≡ [])
+leading = (refl, refl, refl, refl)
 
 -- ---- members as the program holds them, by what they are
 
 leads_with_a_byte : (m : Value) (ms : List Value) → view m ≡ number (unsigned 7)
     → member_bytes (m ∷ ms) ≡ 7 ∷ member_bytes ms
-leads_with_a_byte m ms is =
-    ap (λ (d : Data). byte_then (byte_of_data d) (member_bytes ms)) is
+leads_with_a_byte m ms is = ap (λ (d : Data). byte_then (byte_of_data d) (member_bytes ms)) is
 
 stops_at_no_byte : (m : Value) (ms : List Value) → view m ≡ number (unsigned 256)
     → member_bytes (m ∷ ms) ≡ []
-stops_at_no_byte m ms is =
-    ap (λ (d : Data). byte_then (byte_of_data d) (member_bytes ms)) is
+stops_at_no_byte m ms is = ap (λ (d : Data). byte_then (byte_of_data d) (member_bytes ms)) is
 
 largest_is_byte : (m : Value) → view m ≡ number (unsigned 255) → is_byte m ≡ true
 largest_is_byte m is = ap (λ (d : Data). is_some (byte_of_data d)) is

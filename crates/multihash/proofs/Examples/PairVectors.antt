@@ -8,17 +8,8 @@ use Rattle.multihash.proofs.Examples.BytesVectors.{all_below}
 abbrev pub pair : ℕ → List ℕ → Pair
 pair code digest = record { code = code; digest = digest }
 
-limit_of_no_buffer : digest_limit 0 ≡ 0
-limit_of_no_buffer = refl
-
-limit_of_64 : digest_limit 64 ≡ 64
-limit_of_64 = refl
-
-limit_of_255 : digest_limit 255 ≡ 255
-limit_of_255 = refl
-
-limit_of_300 : digest_limit 300 ≡ 255
-limit_of_300 = refl
+limits : (digest_limit 0 ≡ 0) × (digest_limit 64 ≡ 64) × (digest_limit 255 ≡ 255) × (digest_limit 300 ≡ 255)
+limits = (refl, refl, refl, refl)
 
 largest_code : IsPair (pair 9223372036854775807 (0 ∷ 255 ∷ []))
 largest_code = record { code = omega arith; digest = all_below 256 (0 ∷ 255 ∷ []) refl }
@@ -54,11 +45,6 @@ other_byte h = omega (arith, ap (λ (z : List ℕ). get_or z 1 0) h.digest)
 other_code : ¬ (IsSame (pair 0 (codes "ab")) (pair 1 (codes "ab")))
 other_code h = omega (arith, h.code)
 
-truncated_to_foo : truncated 3 (pair 7 (codes "foobar")) ≡ pair 7 (codes "foo")
-truncated_to_foo = refl
-
-truncated_to_nothing : truncated 0 (pair 7 (codes "foobar")) ≡ pair 7 []
-truncated_to_nothing = refl
-
-truncated_to_more : truncated 9 (pair 7 (codes "foobar")) ≡ pair 7 (codes "foobar")
-truncated_to_more = refl
+truncates : (truncated 3 (pair 7 (codes "foobar")) ≡ pair 7 (codes "foo")) × (truncated 0 (pair 7 (codes "foobar")) ≡ pair 7 [])
+    × (truncated 9 (pair 7 (codes "foobar")) ≡ pair 7 (codes "foobar"))
+truncates = (refl, refl, refl)

@@ -5,7 +5,7 @@ use Rattle.std.proofs.lemmas.Bool.{false≢true}
 use Rattle.std.proofs.lemmas.List.{append_cancel_right}
 use Rattle.multihash.specs.Fault.{Fault, IsUnexpectedEof, IsOwnFault}
 use Rattle.std.specs.Io.KnownBytes.{prepend_known, IsAtEnd}
-use Rattle.multihash.specs.Reading.{Takes, HasFewerThan, TakesFewerThan, CountsReader, ReadLaws, ReadExactLaws, NoneListed}
+use Rattle.multihash.specs.Reading.{Takes, HasFewerThan, TakesFewerThan, CountsReader, ReadLaws, ReadExactLaws, NoOtherError}
 use Rattle.multihash.proofs.Examples.FaultVectors.{other, eof, memory}
 
 -- ---- what was taken
@@ -18,17 +18,12 @@ told (Some bytes) = bytes
 pub taken_is : (a b taken : List ℕ) → Takes (Some (a ++ b)) taken (Some b) → taken ≡ a
 taken_is a b taken h = append_cancel_right taken a b (sym (ap told h))
 
-precedes : prepend_known (1 ∷ []) (Some (2 ∷ [])) ≡ Some (1 ∷ 2 ∷ [])
-precedes = refl
+precedes : (prepend_known (1 ∷ []) (Some (2 ∷ [])) ≡ Some (1 ∷ 2 ∷ [])) × (prepend_known (1 ∷ []) None ≡ None)
+precedes = (refl, refl)
 
-precedes_silently : prepend_known (1 ∷ []) None ≡ None
-precedes_silently = refl
-
-takes_two : Takes (Some (1 ∷ 2 ∷ 3 ∷ [])) (1 ∷ 2 ∷ []) (Some (3 ∷ []))
-takes_two = refl
-
-takes_nothing : Takes (Some (1 ∷ [])) [] (Some (1 ∷ []))
-takes_nothing = refl
+-- a reader that doesn't tell says nothing of what was taken
+takes : Takes (Some (1 ∷ 2 ∷ 3 ∷ [])) (1 ∷ 2 ∷ []) (Some (3 ∷ [])) × Takes (Some (1 ∷ [])) [] (Some (1 ∷ [])) × ((taken : List ℕ) → Takes None taken None)
+takes = (refl, refl, λ taken. refl)
 
 -- the bytes taken are the first ones
 takes_no_last : ¬ (Takes (Some (1 ∷ 2 ∷ 3 ∷ [])) (3 ∷ []) (Some (1 ∷ 2 ∷ [])))
@@ -41,33 +36,15 @@ takes_no_more h = omega (arith, ap (λ (o : Option (List ℕ)). length (told o))
 takes_and_keeps_none : ¬ (Takes (Some (1 ∷ [])) (1 ∷ []) (Some (1 ∷ [])))
 takes_and_keeps_none h = omega (arith, ap (λ (o : Option (List ℕ)). length (told o)) h)
 
--- a reader that doesn't tell says nothing of what was taken
-takes_silently : (taken : List ℕ) → Takes None taken None
-takes_silently taken = refl
+-- and it tells no sooner and no later
+tells_no_more : (taken rest : List ℕ) → ¬ (Takes (Some rest) taken None) × ¬ (Takes None taken (Some rest))
+tells_no_more taken rest = ((λ h. cc), λ h. cc)
 
-tells_no_more : (taken rest : List ℕ) → ¬ (Takes (Some rest) taken None)
-tells_no_more taken rest h = cc
+at_end : IsAtEnd (Some []) × IsAtEnd None × ¬ (IsAtEnd (Some (1 ∷ [])))
+at_end = (refl, tt, λ h. omega (arith, ap (λ (z : List ℕ). length z) h))
 
-tells_not_suddenly : (taken rest : List ℕ) → ¬ (Takes None taken (Some rest))
-tells_not_suddenly taken rest h = cc
-
-at_end : IsAtEnd (Some [])
-at_end = refl
-
-at_end_silent : IsAtEnd None
-at_end_silent = tt
-
-not_at_end : ¬ (IsAtEnd (Some (1 ∷ [])))
-not_at_end h = omega (arith, ap (λ (z : List ℕ). length z) h)
-
-fewer_than_two : HasFewerThan 2 (Some (1 ∷ []))
-fewer_than_two = omega arith
-
-fewer_silent : HasFewerThan 0 None
-fewer_silent = tt
-
-not_fewer_than_one : ¬ (HasFewerThan 1 (Some (1 ∷ [])))
-not_fewer_than_one h = omega (arith, h)
+fewer_than : HasFewerThan 2 (Some (1 ∷ [])) × HasFewerThan 0 None × ¬ (HasFewerThan 1 (Some (1 ∷ [])))
+fewer_than = (omega arith, tt, λ h. omega (arith, h))
 
 takes_fewer : TakesFewerThan 2 (Some (1 ∷ 2 ∷ [])) (Some (2 ∷ []))
 takes_fewer = record { taken = 1 ∷ []; fewer = omega arith; takes = refl }
@@ -90,59 +67,39 @@ takes_fewer_of_its_own h = none h.taken h.takes
 
 -- ---- how a reader failed
 
-read_ok : CountsReader {A = ℕ} IsOwnFault NoneListed 3 3 (Ok 1)
-read_ok = refl
+abbrev Reads : ℕ → ℕ → Result ℕ Fault → Type 0
+Reads before after outcome = CountsReader IsOwnFault NoOtherError before after outcome
 
-read_failed : CountsReader {A = ℕ} IsOwnFault NoneListed 3 4 (Err other)
-read_failed = inl (omega arith, inl refl)
+-- an Ok leaves the count, and a fault of the reader's own raises it by one
+reads : Reads 3 3 (Ok 1) × Reads 3 4 (Err other) × ¬ (Reads 3 4 (Ok 1)) × ¬ (Reads 4 3 (Ok 1))
+reads = (refl, inl (refl, inl refl), (λ h. omega (arith, h)), λ h. omega (arith, h))
 
-read_ok_uncounted : ¬ (CountsReader {A = ℕ} IsOwnFault NoneListed 3 4 (Ok 1))
-read_ok_uncounted h = omega (arith, h)
-
-read_ok_lowers_no_count : ¬ (CountsReader {A = ℕ} IsOwnFault NoneListed 4 3 (Ok 1))
-read_ok_lowers_no_count h = omega (arith, h)
-
-read_failed_uncounted : ¬ (CountsReader {A = ℕ} IsOwnFault NoneListed 3 3 (Err other))
-read_failed_uncounted (inl h) = omega (arith, h.0)
-read_failed_uncounted (inr h) = h.1
-
--- a failing call counts one failure
-read_counts_one_failure : ¬ (CountsReader {A = ℕ} IsOwnFault (λ _. ⊥) 3 5 (Err other))
-read_counts_one_failure (inl h) = omega (arith, h.0)
-read_counts_one_failure (inr h) = h.1
+fails_once : ¬ (Reads 3 3 (Err other)) × ¬ (Reads 3 5 (Err other))
+fails_once = ((λ h. elim h [ inl one ↦ omega (arith, one.0) | inr none ↦ none.1 ]), λ h. elim h [ inl one ↦ omega (arith, one.0) | inr none ↦ none.1 ])
 
 -- `read` tells the end by a count of 0, and by no refusal
-read_no_eof : ¬ (CountsReader {A = ℕ} IsOwnFault NoneListed 3 4 (Err eof))
+read_no_eof : ¬ (Reads 3 4 (Err eof))
 read_no_eof (inl (more, inl h)) = cc
 read_no_eof (inl (more, inr h)) = cc
 read_no_eof (inr h) = h.1
 
-filled : CountsReader {A = ℕ} IsOwnFault IsUnexpectedEof 3 3 (Ok 0)
-filled = refl
+abbrev Fills : ℕ → ℕ → Result ℕ Fault → Type 0
+Fills before after outcome = CountsReader IsOwnFault IsUnexpectedEof before after outcome
 
-fill_ended : CountsReader {A = ℕ} IsOwnFault IsUnexpectedEof 3 3 (Err eof)
-fill_ended = inr (refl, refl)
+fills : Fills 3 3 (Ok 0) × Fills 3 3 (Err eof) × Fills 3 4 (Err memory) × ¬ (Fills 3 4 (Ok 0))
+fills = (refl, inr (refl, refl), inl (refl, inr refl), λ h. omega (arith, h))
 
-fill_failed : CountsReader {A = ℕ} IsOwnFault IsUnexpectedEof 3 4 (Err memory)
-fill_failed = inl (omega arith, inr refl)
-
--- a fault that was counted is told
-fill_hides_no_fault : ¬ (CountsReader {A = ℕ} IsOwnFault IsUnexpectedEof 3 4 (Err eof))
+-- a fault that was counted is told, and none is invented
+fill_hides_no_fault : ¬ (Fills 3 4 (Err eof))
 fill_hides_no_fault (inl (more, inl h)) = cc
 fill_hides_no_fault (inl (more, inr h)) = cc
 fill_hides_no_fault (inr (same, h)) = omega (arith, same)
 
-fill_swallows_no_fault : ¬ (CountsReader {A = ℕ} IsOwnFault IsUnexpectedEof 3 4 (Ok 0))
-fill_swallows_no_fault h = omega (arith, h)
-
-fill_invents_no_fault : ¬ (CountsReader {A = ℕ} IsOwnFault IsUnexpectedEof 3 3 (Err other))
-fill_invents_no_fault (inl (more, h)) = omega arith
-fill_invents_no_fault (inr (same, h)) = cc
-
--- a count never falls
-read_count_falls_not : ¬ (CountsReader {A = ℕ} IsOwnFault IsUnexpectedEof 4 3 (Err eof))
-read_count_falls_not (inl (more, h)) = omega (arith, more)
-read_count_falls_not (inr (same, h)) = omega (arith, same)
+fill_invents_no_fault : ¬ (Fills 3 3 (Err other)) × ¬ (Fills 4 3 (Err eof))
+fill_invents_no_fault = (
+  (λ h. elim h [ inl one ↦ omega (arith, one.0) | inr listed ↦ let kind = listed.1 in cc ]),
+  λ h. elim h [ inl one ↦ omega (arith, one.0) | inr listed ↦ omega (arith, listed.0) ],
+)
 
 -- ---- the laws of `read`, each refuted where the others hold
 
@@ -169,14 +126,7 @@ reads_two = record {
 
 reads_end : ReadLaws left failed ([], 0) ([], 0) (7 ∷ []) (7 ∷ []) (Ok 0)
 reads_end =
-    record {
-      count = omega arith;
-      beyond = refl;
-      faults = refl;
-      takes = refl;
-      at_end = λ none some. refl;
-      err = tt;
-    }
+    record { count = omega arith; beyond = refl; faults = refl; takes = refl; at_end = λ none some. refl; err = tt }
 
 -- an empty buffer tells of no end
 reads_into_nothing : ReadLaws left failed (1 ∷ [], 0) (1 ∷ [], 0) [] [] (Ok 0)
@@ -215,8 +165,7 @@ reads_no_other_bytes h = omega (arith, ap (λ (o : Option (List ℕ)). get_or (t
 
 reads_nothing_at_end_alone : ¬
     (ReadLaws left failed (1 ∷ [], 0) (1 ∷ [], 0) (7 ∷ []) (7 ∷ []) (Ok 0))
-reads_nothing_at_end_alone h =
-    omega (arith, ap (λ (z : List ℕ). length z) (h.at_end refl (omega arith)))
+reads_nothing_at_end_alone h = omega (arith, ap (λ (z : List ℕ). length z) (h.at_end refl (omega arith)))
 
 fails_and_takes_nothing : ¬ (ReadLaws left failed (1 ∷ [], 0) ([], 1) (7 ∷ []) (7 ∷ []) (Err other))
 fails_and_takes_nothing h = omega (arith, ap (λ (o : Option (List ℕ)). length (told o)) h.err)
@@ -259,16 +208,10 @@ fails_with_a_counted_fault h =
 
 -- the end is no fault of the reader's own
 ends_by_no_counted_fault : ¬ (Filling ([], 0) ([], 1) (7 ∷ []) (7 ∷ []) (Err eof))
-ends_by_no_counted_fault h = none h.faults
-  where
-    none : ¬ (CountsReader {A = ℕ} IsOwnFault IsUnexpectedEof 0 1 (Err eof))
-    none (inl (counted, inl is)) = cc
-    none (inl (counted, inr is)) = cc
-    none (inr (same, is)) = omega (arith, same)
+ends_by_no_counted_fault h = elim h.faults [ inl (counted, own) ↦ elim own [ inl is ↦ cc | inr is ↦ cc ] | inr (same, is) ↦ omega (arith, same) ]
 
 fills_with_no_other_bytes : ¬ (Filling (1 ∷ 2 ∷ [], 0) (2 ∷ [], 0) (7 ∷ []) (5 ∷ []) (Ok 0))
-fills_with_no_other_bytes h =
-    omega (arith, ap (λ (o : Option (List ℕ)). get_or (told o) 0 0) h.takes)
+fills_with_no_other_bytes h = omega (arith, ap (λ (o : Option (List ℕ)). get_or (told o) 0 0) h.takes)
 
 fills_no_places_always : ¬ (Filling (1 ∷ [], 0) (1 ∷ [], 1) [] [] (Err other))
 fills_no_places_always h = false≢true (h.empty refl)

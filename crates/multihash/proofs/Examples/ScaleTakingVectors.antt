@@ -1,13 +1,14 @@
 -- What a refused decoding took from known readers.
-use Rattle.std.proofs.Common.{◌≡◌, ℕ, List, [], ◌∷◌, ◌++◌, length, refl, ap, arith, subst, inl, inr}
+use Rattle.std.proofs.Common.{◌≡◌, ◌<◌, ℕ, List, [], ◌∷◌, ◌++◌, length, refl, sym, ap, arith, subst, inl, inr}
 use Rattle.std.specs.Prelude.{Some}
-use Rattle.multihash.specs.Varint.{VarintFault}
-use Rattle.multihash.specs.Verdict.{accepted, invalid_size, invalid_code, unexpected_eof}
+use Rattle.multihash.specs.Fault.{IsUnexpectedEof}
+use Rattle.multihash.specs.Verdict.{Verdict, accepted, invalid_size, invalid_code, unexpected_eof}
 use Rattle.multihash.specs.Scale.{HasScaleVerdict}
-use Rattle.multihash.specs.Refusal.{of_io, of_size, of_code, of_varint, of_not_bytes}
+use Rattle.multihash.specs.Refusal.{Refusal, of_io, of_size, of_code, of_varint, of_not_bytes}
+use Rattle.multihash.specs.Reading.{Takes}
 use Rattle.multihash.specs.ScaleTaking.{IsScaleRefusal, TakesAtScaleRefusal}
 use Rattle.multihash.proofs.Forms.ScaleLemmas.{scale_verdict_unique}
-use Rattle.multihash.proofs.Examples.FaultVectors.{other, eof, full, memory}
+use Rattle.multihash.proofs.Examples.FaultVectors.{other, eof, memory}
 use Rattle.multihash.proofs.Examples.RefusalVectors.{size_in, code_in}
 use Rattle.multihash.proofs.Examples.ReadingVectors.{taken_is}
 use Rattle.multihash.proofs.Examples.TakingVectors.{gives_none_back}
@@ -17,51 +18,29 @@ use Rattle.multihash.proofs.Examples.ScaleVectors.{zeros, all_255, scale_code_ab
 
 -- ---- refusals
 
-decoding_refuses_size : IsScaleRefusal 4 (of_size 5)
-decoding_refuses_size = inr (inl (5, refl, omega arith))
+-- into four bytes: no varint is read, and no value
+abbrev DecodingRefuses : Refusal → Type 0
+DecodingRefuses (of_io fault) = IsUnexpectedEof fault
+DecodingRefuses (of_size size) = 4 < size
+DecodingRefuses (of_code code) = 9223372036854775807 < code
+DecodingRefuses (of_varint f) = ⊥
+DecodingRefuses of_not_bytes = ⊥
 
-decoding_refuses_code : IsScaleRefusal 4 (of_code 9223372036854775808)
-decoding_refuses_code = inl (9223372036854775808, refl, omega arith)
+decoding_refuses : (e : Refusal) → DecodingRefuses e → IsScaleRefusal 4 e
+decoding_refuses (of_io fault) h = inr (inr (fault, refl, h))
+decoding_refuses (of_size size) h = inr (inl (size, refl, h))
+decoding_refuses (of_code code) h = inl (code, refl, omega (arith, h))
+decoding_refuses (of_varint f) h = absurd h
+decoding_refuses of_not_bytes h = absurd h
 
-decoding_refuses_no_code_in_range : ¬ (IsScaleRefusal 4 (of_code 9223372036854775807))
-decoding_refuses_no_code_in_range (inl (code, e, large)) = omega (arith, ap code_in e, large)
-decoding_refuses_no_code_in_range (inr (inl (size, e, large))) = cc
-decoding_refuses_no_code_in_range (inr (inr (f, e, kind))) = cc
+decoding_refuses_only : (e : Refusal) → IsScaleRefusal 4 e → DecodingRefuses e
+decoding_refuses_only e (inl (code, is, large)) = subst DecodingRefuses (sym is) (omega (arith, large))
+decoding_refuses_only e (inr (inl (size, is, large))) = subst DecodingRefuses (sym is) large
+decoding_refuses_only e (inr (inr (fault, is, kind))) = subst DecodingRefuses (sym is) kind
 
 -- a digest's length is one byte in this form, so a larger buffer has no limit of its own
-decoding_refuses_end : IsScaleRefusal 300 (of_io eof)
-decoding_refuses_end = inr (inr (eof, refl, refl))
-
-decoding_refuses_no_size_that_fits : ¬ (IsScaleRefusal 4 (of_size 4))
-decoding_refuses_no_size_that_fits (inl (code, e, large)) = cc
-decoding_refuses_no_size_that_fits (inr (inl (size, e, large))) = omega (arith, ap size_in e, large)
-decoding_refuses_no_size_that_fits (inr (inr (f, e, kind))) = cc
-
--- no varint is read
-decoding_refuses_no_varint : (f : VarintFault) → ¬ (IsScaleRefusal 4 (of_varint f))
-decoding_refuses_no_varint f (inl (code, e, large)) = cc
-decoding_refuses_no_varint f (inr (inl (size, e, large))) = cc
-decoding_refuses_no_varint f (inr (inr (fault, e, kind))) = cc
-
-decoding_refuses_by_no_own_fault : ¬ (IsScaleRefusal 4 (of_io other))
-decoding_refuses_by_no_own_fault (inl (code, e, large)) = cc
-decoding_refuses_by_no_own_fault (inr (inl (size, e, large))) = cc
-decoding_refuses_by_no_own_fault (inr (inr (f, e, kind))) = cc
-
-decoding_refuses_by_no_want_of_memory : ¬ (IsScaleRefusal 4 (of_io memory))
-decoding_refuses_by_no_want_of_memory (inl (code, e, large)) = cc
-decoding_refuses_by_no_want_of_memory (inr (inl (size, e, large))) = cc
-decoding_refuses_by_no_want_of_memory (inr (inr (f, e, kind))) = cc
-
-decoding_refuses_by_no_full_writer : ¬ (IsScaleRefusal 4 (of_io full))
-decoding_refuses_by_no_full_writer (inl (code, e, large)) = cc
-decoding_refuses_by_no_full_writer (inr (inl (size, e, large))) = cc
-decoding_refuses_by_no_full_writer (inr (inr (f, e, kind))) = cc
-
-decoding_refuses_no_value : ¬ (IsScaleRefusal 4 of_not_bytes)
-decoding_refuses_no_value (inl (code, e, large)) = cc
-decoding_refuses_no_value (inr (inl (size, e, large))) = cc
-decoding_refuses_no_value (inr (inr (f, e, kind))) = cc
+decoding_refuses_above_a_byte : (size : ℕ) → 300 < size → IsScaleRefusal 300 (of_size size)
+decoding_refuses_above_a_byte size large = inr (inl (size, refl, large))
 
 -- ---- what was taken
 
@@ -117,95 +96,51 @@ fails_inside_code = record {
 decoding_takes_its_own : ¬ (TakesAtScaleRefusal 4 of_not_bytes (Some []) (Some (7 ∷ [])))
 decoding_takes_its_own h = gives_none_back h.taken h.takes
 
--- a size that fits isn't refused
+-- a size that fits isn't refused, nor a code in range
 takes_no_size_that_fits : ¬ (TakesAtScaleRefusal 4 (of_size 3) (Some (zeros ++ 3 ∷ [])) (Some []))
 takes_no_size_that_fits h = omega (arith, (h.size 3 refl).0.2)
 
--- and the size that is named is the one that was taken
+takes_no_code_in_range : ¬ (TakesAtScaleRefusal 4 (of_code 0) (Some zeros) (Some []))
+takes_no_code_in_range h = let (bytes, rest, is_code, above, cut) = (h.code 0 refl).0 in omega (arith, above)
+
+-- no byte behind the size, nor the size behind a code that is too large
+takes_no_more_than_nine : ¬ (TakesAtScaleRefusal 4 (of_size 5) (Some (zeros ++ 5 ∷ 7 ∷ [])) (Some []))
+takes_no_more_than_nine h = omega (arith, (h.size 5 refl).1, ap (λ (z : List ℕ). length z) (taken_is (zeros ++ 5 ∷ 7 ∷ []) [] h.taken h.takes))
+
+takes_no_size_behind_code : ¬ (TakesAtScaleRefusal 4 (of_code 18446744073709551615) (Some (all_255 ++ 0 ∷ [])) (Some []))
+takes_no_size_behind_code h =
+    omega (arith, (h.code 18446744073709551615 refl).1, ap (λ (z : List ℕ). length z) (taken_is (all_255 ++ 0 ∷ []) [] h.taken h.takes))
+
+-- where all of an input was taken, its verdict is the one that the refusal claims
+claimed : (a taken : List ℕ) (v w : Verdict) → Takes (Some (a ++ [])) taken (Some []) → HasScaleVerdict 4 taken v → HasScaleVerdict 4 a w → v ≡ w
+claimed a taken v w takes has own = scale_verdict_unique 4 a v w (subst (λ (z : List ℕ). HasScaleVerdict 4 z v) (taken_is a [] taken takes) has) own
+
 takes_no_other_size : ¬ (TakesAtScaleRefusal 4 (of_size 6) (Some (zeros ++ 5 ∷ [])) (Some []))
 takes_no_other_size h =
-    let same : invalid_size 6 ≡ invalid_size 5 =
-    scale_verdict_unique 4 (zeros ++ 5 ∷ []) (invalid_size 6) (invalid_size 5)
-    (subst (λ (z : List ℕ). HasScaleVerdict 4 z (invalid_size 6))
-    (taken_is (zeros ++ 5 ∷ []) [] h.taken h.takes) (h.size 6 refl).0)
-    scale_size_first in
-    omega (arith, ap size_named same)
+    omega (arith, ap size_named (claimed (zeros ++ 5 ∷ []) h.taken (invalid_size 6) (invalid_size 5) h.takes (h.size 6 refl).0 scale_size_first))
 
--- no byte behind the size
-takes_no_more_than_nine : ¬
-    (TakesAtScaleRefusal 4 (of_size 5) (Some (zeros ++ 5 ∷ 7 ∷ [])) (Some []))
-takes_no_more_than_nine h =
-    omega (
-      arith,
-      (h.size 5 refl).1,
-      ap (λ (z : List ℕ). length z)
-          (taken_is (zeros ++ 5 ∷ 7 ∷ []) [] h.taken h.takes),
-    )
-
--- nor the size behind a code that is too large
-takes_no_size_behind_code : ¬
-    (TakesAtScaleRefusal 4 (of_code 18446744073709551615) (Some (all_255 ++ 0 ∷ [])) (Some []))
-takes_no_size_behind_code h =
-    omega (
-      arith,
-      (h.code 18446744073709551615 refl).1,
-      ap (λ (z : List ℕ). length z)
-          (taken_is (all_255 ++ 0 ∷ []) [] h.taken h.takes),
-    )
-
--- a code in range isn't refused
-takes_no_code_in_range : ¬
-    (TakesAtScaleRefusal 4 (of_code 0) (Some zeros) (Some []))
-takes_no_code_in_range h =
-    let (bytes, rest, is_code, above, cut) = (h.code 0 refl).0 in omega (arith, above)
-
-takes_no_other_code : ¬
-    (TakesAtScaleRefusal 4 (of_code 9223372036854775808) (Some all_255) (Some []))
+takes_no_other_code : ¬ (TakesAtScaleRefusal 4 (of_code 9223372036854775808) (Some all_255) (Some []))
 takes_no_other_code h =
-    let same : invalid_code 9223372036854775808 ≡ invalid_code 18446744073709551615 =
-    scale_verdict_unique 4 all_255 (invalid_code 9223372036854775808)
-    (invalid_code 18446744073709551615)
-    (subst (λ (z : List ℕ). HasScaleVerdict 4 z (invalid_code 9223372036854775808))
-    (taken_is all_255 [] h.taken h.takes) (h.code 9223372036854775808 refl).0)
-    (scale_code_above []) in
-    omega (arith, ap code_named same)
+    omega (
+      arith,
+      ap code_named (claimed all_255 h.taken (invalid_code 9223372036854775808) (invalid_code 18446744073709551615) h.takes
+          (h.code 9223372036854775808 refl).0 (scale_code_above [])),
+    )
 
--- no end where a pair is whole
+-- no end where a pair is whole, and none behind a code that is refused
 ends_not_behind_pair : ¬ (TakesAtScaleRefusal 4 (of_io eof) (Some (zeros ++ 0 ∷ [])) (Some []))
 ends_not_behind_pair h =
-    let same : unexpected_eof ≡ accepted (pair 0 []) =
-    scale_verdict_unique 4 (zeros ++ 0 ∷ []) unexpected_eof (accepted (pair 0 []))
-    (subst (λ (z : List ℕ). HasScaleVerdict 4 z unexpected_eof)
-    (taken_is (zeros ++ 0 ∷ []) [] h.taken h.takes)
-    (h.early (inl (eof, refl, refl)))) scale_empty_digest_of_4 in
-    cc
+    let same = claimed (zeros ++ 0 ∷ []) h.taken unexpected_eof (accepted (pair 0 [])) h.takes (h.early (inl (eof, refl, refl))) scale_empty_digest_of_4 in cc
+
+ends_not_behind_code : ¬ (TakesAtScaleRefusal 4 (of_io eof) (Some all_255) (Some []))
+ends_not_behind_code h =
+    let same = claimed all_255 h.taken unexpected_eof (invalid_code 18446744073709551615) h.takes (h.early (inl (eof, refl, refl))) (scale_code_above []) in cc
 
 -- a reader that fails behind a size that is refused isn't asked
 fails_not_behind_size : ¬ (TakesAtScaleRefusal 4 (of_io other) (Some (zeros ++ 5 ∷ [])) (Some []))
 fails_not_behind_size h =
-    let same : unexpected_eof ≡ invalid_size 5 =
-    scale_verdict_unique 4 (zeros ++ 5 ∷ []) unexpected_eof (invalid_size 5)
-    (subst (λ (z : List ℕ). HasScaleVerdict 4 z unexpected_eof)
-    (taken_is (zeros ++ 5 ∷ []) [] h.taken h.takes)
-    (h.early (inr (other, refl, inl refl)))) scale_size_first in
-    cc
+    let same = claimed (zeros ++ 5 ∷ []) h.taken unexpected_eof (invalid_size 5) h.takes (h.early (inr (other, refl, inl refl))) scale_size_first in cc
 
--- nor behind a code that is
-ends_not_behind_code : ¬ (TakesAtScaleRefusal 4 (of_io eof) (Some all_255) (Some []))
-ends_not_behind_code h =
-    let same : unexpected_eof ≡ invalid_code 18446744073709551615 =
-    scale_verdict_unique 4 all_255 unexpected_eof (invalid_code 18446744073709551615)
-    (subst (λ (z : List ℕ). HasScaleVerdict 4 z unexpected_eof)
-    (taken_is all_255 [] h.taken h.takes)
-    (h.early (inl (eof, refl, refl)))) (scale_code_above []) in
-    cc
-
-memory_fails_not_behind_size : ¬
-    (TakesAtScaleRefusal 4 (of_io memory) (Some (zeros ++ 5 ∷ [])) (Some []))
+memory_fails_not_behind_size : ¬ (TakesAtScaleRefusal 4 (of_io memory) (Some (zeros ++ 5 ∷ [])) (Some []))
 memory_fails_not_behind_size h =
-    let same : unexpected_eof ≡ invalid_size 5 =
-    scale_verdict_unique 4 (zeros ++ 5 ∷ []) unexpected_eof (invalid_size 5)
-    (subst (λ (z : List ℕ). HasScaleVerdict 4 z unexpected_eof)
-    (taken_is (zeros ++ 5 ∷ []) [] h.taken h.takes)
-    (h.early (inr (memory, refl, inr refl)))) scale_size_first in
-    cc
+    let same = claimed (zeros ++ 5 ∷ []) h.taken unexpected_eof (invalid_size 5) h.takes (h.early (inr (memory, refl, inr refl))) scale_size_first in cc

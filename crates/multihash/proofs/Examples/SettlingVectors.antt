@@ -5,7 +5,7 @@ use Rattle.multihash.specs.Verdict.{accepted, invalid_size, faulty, unexpected_e
 use Rattle.multihash.specs.Settling.{Settles, IsShortestSettling}
 use Rattle.multihash.proofs.Examples.PairVectors.{pair}
 use Rattle.multihash.proofs.Examples.VarintVectors.{all_marked, varint_0, varint_4, varint_133}
-use Rattle.multihash.proofs.Examples.VerdictVectors.{size_5, empty_input, eight_marked, size_open, code_padded, code_alone, digest_cut, digest_full, digest_of_255_missing}
+use Rattle.multihash.proofs.Examples.VerdictVectors.{eight, size_5, empty_input, eight_marked, size_open, code_padded, code_alone, digest_cut, digest_full, digest_of_255_missing}
 use Rattle.multihash.proofs.Readings.SettlingLemmas.{early_not_settles, late_settles}
 use Rattle.multihash.proofs.Readings.ShortestLemmas.{shortest_pair, shortest_size, shortest_code_fault, shortest_size_fault}
 
@@ -13,27 +13,19 @@ use Rattle.multihash.proofs.Readings.ShortestLemmas.{shortest_pair, shortest_siz
 pub size_settles : Settles 4 (0 ∷ 5 ∷ [])
 size_settles = record { verdict = invalid_size 5; always = λ more _. (more, size_5 more, omega arith) }
 
--- a larger buffer waits for the digest
-size_waits : ¬ (Settles 5 (0 ∷ 5 ∷ []))
-size_waits = early_not_settles 5 (0 ∷ 5 ∷ []) unexpected_eof tt (5, [], size_5 [], omega arith, omega arith)
-
--- a marked byte of a size leaves the size open, though its digit is above the buffer's
-open_size_waits : ¬ (Settles 4 (0 ∷ 133 ∷ []))
-open_size_waits = early_not_settles 4 (0 ∷ 133 ∷ []) (faulty insufficient) tt size_open
-
-empty_waits : ¬ (Settles 4 [])
-empty_waits = early_not_settles 4 [] (faulty insufficient) tt empty_input
-
-code_waits : ¬ (Settles 4 (0 ∷ []))
-code_waits = early_not_settles 4 (0 ∷ []) (faulty insufficient) tt code_alone
-
-digest_waits : ¬ (Settles 4 (0 ∷ 4 ∷ 1 ∷ 2 ∷ 3 ∷ []))
-digest_waits = early_not_settles 4 (0 ∷ 4 ∷ 1 ∷ 2 ∷ 3 ∷ []) unexpected_eof tt digest_cut
-
--- however many bytes it takes
-longest_digest_waits : ¬ (Settles 300 (0x00 ∷ 0xff ∷ 0x01 ∷ []))
-longest_digest_waits =
-    early_not_settles 300 (0x00 ∷ 0xff ∷ 0x01 ∷ []) unexpected_eof tt digest_of_255_missing
+-- a larger buffer waits for the digest, however many bytes it takes; a marked byte of a size leaves the size open,
+-- though its digit is above the buffer's
+waits : ¬ (Settles 5 (0 ∷ 5 ∷ [])) × ¬ (Settles 4 (0 ∷ 133 ∷ [])) × ¬ (Settles 4 []) × ¬ (Settles 4 (0 ∷ [])) × ¬ (Settles 4 (0 ∷ 4 ∷ 1 ∷ 2 ∷ 3 ∷ []))
+    × ¬ (Settles 300 (0x00 ∷ 0xff ∷ 0x01 ∷ [])) × ¬ (Settles 4 eight)
+waits = (
+  early_not_settles 5 (0 ∷ 5 ∷ []) unexpected_eof tt (5, [], size_5 [], omega arith, omega arith),
+  early_not_settles 4 (0 ∷ 133 ∷ []) (faulty insufficient) tt size_open,
+  early_not_settles 4 [] (faulty insufficient) tt empty_input,
+  early_not_settles 4 (0 ∷ []) (faulty insufficient) tt code_alone,
+  early_not_settles 4 (0 ∷ 4 ∷ 1 ∷ 2 ∷ 3 ∷ []) unexpected_eof tt digest_cut,
+  early_not_settles 300 (0x00 ∷ 0xff ∷ 0x01 ∷ []) unexpected_eof tt digest_of_255_missing,
+  early_not_settles 4 eight (faulty insufficient) tt eight_marked,
+)
 
 pub padded_settles : Settles 4 (0x80 ∷ 0x00 ∷ [])
 padded_settles = late_settles 4 (0x80 ∷ 0x00 ∷ []) (faulty not_minimal) (λ early. early) code_padded
@@ -63,9 +55,6 @@ not_begun : ¬ (IsShortestSettling 4 (0 ∷ 5 ∷ 9 ∷ []) (0 ∷ 6 ∷ []))
 not_begun h = omega (arith, ap (λ (z : List ℕ). get_or z 1 0) h.begins.1)
 
 -- an input that is longer than what settles it, and what does: the bytes that a call takes
-abbrev eight : List ℕ
-eight = 0x80 ∷ 0x80 ∷ 0x80 ∷ 0x80 ∷ 0x80 ∷ 0x80 ∷ 0x80 ∷ 0x80 ∷ []
-
 shortest_of_padded_code : IsShortestSettling 4 (0x80 ∷ 0x00 ∷ 0x07 ∷ []) (0x80 ∷ 0x00 ∷ [])
 shortest_of_padded_code =
     shortest_code_fault 4 not_minimal (0x80 ∷ 0x00 ∷ 0x07 ∷ []) (λ early. early) (record {
@@ -110,10 +99,6 @@ shortest_of_size_overflow =
       has = record { front = eight; byte = 0xff; rest = []; all_marked = all_marked eight refl; most = refl; too_large = omega arith; cut = refl };
     })
 
--- eight wait
-eight_marked_wait : ¬ (Settles 4 eight)
-eight_marked_wait = early_not_settles 4 eight (faulty insufficient) tt eight_marked
-
 shortest_of_empty_digest : IsShortestSettling 4 (0x00 ∷ 0x00 ∷ 0x07 ∷ []) (0x00 ∷ 0x00 ∷ [])
 shortest_of_empty_digest =
     shortest_pair 4 (pair 0 []) (0x00 ∷ 0x00 ∷ 0x07 ∷ []) (0x07 ∷ []) (record {
@@ -138,4 +123,4 @@ shortest_of_long_size =
 
 -- no byte at all is too few
 not_shorter : ¬ (IsShortestSettling 4 (0 ∷ 5 ∷ 9 ∷ []) [])
-not_shorter h = empty_waits h.settles
+not_shorter h = waits.2 h.settles

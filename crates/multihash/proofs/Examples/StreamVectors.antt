@@ -9,7 +9,7 @@ use Rattle.multihash.specs.Verdict.{Verdict, accepted, invalid_size, faulty, Has
 use Rattle.multihash.specs.Settling.{Settles}
 use Rattle.multihash.specs.Joined.{AreJoined}
 use Rattle.multihash.specs.Reading.{Takes}
-use Rattle.multihash.specs.Refusal.{of_io, of_size, of_varint}
+use Rattle.multihash.specs.Refusal.{Refusal, of_io, of_size, of_varint}
 use Rattle.multihash.specs.Answer.{IsRefusal}
 use Rattle.multihash.specs.Taking.{TakesShortestSettling, TakesUnsettled}
 use Rattle.multihash.specs.Streams.{TakesPairs, StopsAfterPairs}
@@ -17,7 +17,7 @@ use Rattle.multihash.proofs.Readings.ReadingLemmas.{Takes-none}
 use Rattle.multihash.proofs.Forms.StreamLemmas.{TakesPairs-none}
 use Rattle.multihash.proofs.Readings.VerdictLemmas.{verdict_unique}
 use Rattle.multihash.proofs.Readings.SettlingLemmas.{late_settles, none_settles}
-use Rattle.multihash.proofs.Forms.JoinedLemmas.{joined_whole, joined_same, joined_unique}
+use Rattle.multihash.proofs.Forms.JoinedLemmas.{AreJoined-none, joined_whole, joined_same, joined_unique}
 use Rattle.multihash.proofs.Examples.FaultVectors.{other}
 use Rattle.multihash.proofs.Examples.RefusalVectors.{size_in}
 use Rattle.multihash.proofs.Examples.ReadingVectors.{told, taken_is}
@@ -42,13 +42,7 @@ both_fit =
 
 takes_two_pairs : TakesPairs 4 (a ∷ b ∷ []) (Some (0 ∷ 1 ∷ 65 ∷ 1 ∷ 1 ∷ 66 ∷ 7 ∷ []))
     (Some (7 ∷ []))
-takes_two_pairs =
-    record {
-      bytes = 0 ∷ 1 ∷ 65 ∷ 1 ∷ 1 ∷ 66 ∷ [];
-      joined = joined_two;
-      fit = both_fit;
-      takes = refl;
-    }
+takes_two_pairs = record { bytes = 0 ∷ 1 ∷ 65 ∷ 1 ∷ 1 ∷ 66 ∷ []; joined = joined_two; fit = both_fit; takes = refl }
 
 -- the pairs are those of the bytes, in their order
 takes_pairs_in_order : ¬
@@ -139,55 +133,48 @@ skips_no_pair h =
 -- an insufficient input was taken whole
 refuses_with_all_taken : ¬
     (StopsAfterPairs 4 1 (of_varint insufficient) 3 3 (Some (0x80 ∷ [])) (Some (0x80 ∷ [])))
-refuses_with_all_taken h =
-    omega (arith, ap (λ (z : List ℕ). length z) (h.refused.insufficient refl).1)
+refuses_with_all_taken h = omega (arith, ap (λ (z : List ℕ). length z) (h.refused.insufficient refl).1)
+
+-- what a refusal says of what was left behind the pairs
+module _ (count : ℕ) (e : Refusal) (before after : ℕ) (old new : Option (List ℕ)) (left : List ℕ) (h : StopsAfterPairs 4 count e before after old new)
+    (at : h.middle ≡ Some left) where
+  verdict_behind : after ≡ before → (v : Verdict) × HasVerdict 4 left v × IsRefusal e v
+  verdict_behind = subst (λ o. IfSome o (λ left. after ≡ before → (v : Verdict) × HasVerdict 4 left v × IsRefusal e v)) at h.verdict
+
+  settled_behind : after ≡ before → (v : Verdict) → HasVerdict 4 left v → ¬ (IsEarlyEnd v) → TakesShortestSettling 4 left new
+  settled_behind = subst (λ o. IfSome o (λ left. after ≡ before → (v : Verdict) → HasVerdict 4 left v → ¬ (IsEarlyEnd v) → TakesShortestSettling 4 left new)) at h.settled
+
+  unsettled_behind : before < after → TakesUnsettled 4 left new
+  unsettled_behind rose =
+      subst (λ o. IfSome o (λ left. (before < after) ⊎ ((v : Verdict) × HasVerdict 4 left v × IsEarlyEnd v) → TakesUnsettled 4 left new)) at h.unsettled (inl rose)
+
+size_5_refused : HasVerdict 4 (0 ∷ 5 ∷ 9 ∷ []) (invalid_size 5)
+size_5_refused = (9 ∷ [], size_5 (9 ∷ []), omega arith)
+
+-- a size that is refused is the one that stands there
+no_size_6 : ((v : Verdict) × HasVerdict 4 (0 ∷ 5 ∷ 9 ∷ []) v × IsRefusal (of_size 6) v) → ⊥
+no_size_6 (v, has, names) =
+    omega (arith, ap size_in (subst (IsRefusal (of_size 6)) (verdict_unique 4 (0 ∷ 5 ∷ 9 ∷ []) v (invalid_size 5) has size_5_refused) names))
 
 -- the refusal is that of what follows the pairs
-refuses_by_the_verdict : ¬
-    (StopsAfterPairs 4 1 (of_size 6) 3 3 (Some (0 ∷ 5 ∷ 9 ∷ [])) (Some (9 ∷ [])))
+refuses_by_the_verdict : ¬ (StopsAfterPairs 4 1 (of_size 6) 3 3 (Some (0 ∷ 5 ∷ 9 ∷ [])) (Some (9 ∷ [])))
 refuses_by_the_verdict h =
-    let at = none_before 4 h.pairs (Some (0 ∷ 5 ∷ 9 ∷ [])) h.middle h.fewer h.good in
-    let (v, has, names) =
-    subst (λ (o : Option (List ℕ)). IfSome o
-    (λ left. 3 ≡ 3 → (v : Verdict) × HasVerdict 4 left v × IsRefusal
-    (of_size 6) v)) at h.verdict refl in
-    let same : v ≡ invalid_size 5 =
-    verdict_unique 4 (0 ∷ 5 ∷ 9 ∷ []) v (invalid_size 5) has
-    (9 ∷ [], size_5 (9 ∷ []), omega arith) in
-    omega (arith, ap size_in (subst (λ (w : Verdict). IsRefusal (of_size 6) w) same names))
+    no_size_6 (verdict_behind 1 (of_size 6) 3 3 _ _ (0 ∷ 5 ∷ 9 ∷ []) h (none_before 4 h.pairs _ h.middle h.fewer h.good) refl)
 
 -- no byte behind what settles was taken
-refuses_with_nothing_behind : ¬
-    (StopsAfterPairs 4 1 (of_size 5) 3 3 (Some (0 ∷ 5 ∷ 9 ∷ [])) (Some []))
+refuses_with_nothing_behind : ¬ (StopsAfterPairs 4 1 (of_size 5) 3 3 (Some (0 ∷ 5 ∷ 9 ∷ [])) (Some []))
 refuses_with_nothing_behind h =
-    let at = none_before 4 h.pairs (Some (0 ∷ 5 ∷ 9 ∷ [])) h.middle h.fewer h.good in
-    takes_no_byte_behind_size
-    (subst
-    (λ (o : Option (List ℕ)). IfSome o
-    (λ left. 3 ≡ 3 → (v : Verdict) → HasVerdict 4 left v → ¬ (IsEarlyEnd v)
-    → TakesShortestSettling 4 left (Some [])))
-    at h.settled refl (invalid_size 5) (9 ∷ [], size_5 (9 ∷ []), omega arith) (λ early. early))
+    takes_no_byte_behind_size (settled_behind 1 (of_size 5) 3 3 _ _ (0 ∷ 5 ∷ 9 ∷ []) h (none_before 4 h.pairs _ h.middle h.fewer h.good) refl
+    (invalid_size 5) size_5_refused (λ early. early))
 
 empty_digest_settles : Settles 4 (0 ∷ 0 ∷ [])
-empty_digest_settles =
-    late_settles 4 (0 ∷ 0 ∷ []) (accepted (pair 0 [])) (λ early. early) empty_digest
+empty_digest_settles = late_settles 4 (0 ∷ 0 ∷ []) (accepted (pair 0 [])) (λ early. early) empty_digest
 
 -- after a failure nothing that settles was taken
-fails_with_nothing_settled : ¬
-    (StopsAfterPairs 4 1 (of_io other) 3 4 (Some (0 ∷ 0 ∷ 7 ∷ [])) (Some (7 ∷ [])))
+fails_with_nothing_settled : ¬ (StopsAfterPairs 4 1 (of_io other) 3 4 (Some (0 ∷ 0 ∷ 7 ∷ [])) (Some (7 ∷ [])))
 fails_with_nothing_settled h =
-    let at = none_before 4 h.pairs (Some (0 ∷ 0 ∷ 7 ∷ [])) h.middle h.fewer h.good in
-    let u =
-    subst
-    (λ (o : Option (List ℕ)). IfSome o
-    (λ left. (3 < 4) ⊎ ((v : Verdict) × HasVerdict 4 left v × IsEarlyEnd v) → TakesUnsettled 4
-    left (Some (7 ∷ []))))
-    at h.unsettled (inl (omega arith)) in
-    u.unsettled (0 ∷ 0 ∷ []) (
-      [],
-      taken_is (0 ∷ 0 ∷ []) (7 ∷ []) u.taken u.takes ∙ sym
-          (append-nil (0 ∷ 0 ∷ [])),
-    ) empty_digest_settles
+    let u = unsettled_behind 1 (of_io other) 3 4 _ _ (0 ∷ 0 ∷ 7 ∷ []) h (none_before 4 h.pairs _ h.middle h.fewer h.good) (omega arith) in
+    u.unsettled (0 ∷ 0 ∷ []) ([], taken_is (0 ∷ 0 ∷ []) (7 ∷ []) u.taken u.takes ∙ sym (append-nil (0 ∷ 0 ∷ []))) empty_digest_settles
 
 -- ---- where a list was refused behind its first pair
 
@@ -200,21 +187,14 @@ pair_and_more more = (
   more,
   record {
     encoding = 0 ∷ 1 ∷ 65 ∷ [];
-    encodes = record {
-      code = 0 ∷ [];
-      size = 1 ∷ [];
-      is_code = varint_0;
-      is_size = varint_1;
-      spelled = refl;
-    };
+    encodes = record { code = 0 ∷ []; size = 1 ∷ []; is_code = varint_0; is_size = varint_1; spelled = refl };
     cut = refl;
   },
   omega arith,
 )
 
 pair_settles : Settles 4 (0 ∷ 1 ∷ 65 ∷ [])
-pair_settles =
-    late_settles 4 (0 ∷ 1 ∷ 65 ∷ []) (accepted a) (λ early. early) (pair_and_more [])
+pair_settles = late_settles 4 (0 ∷ 1 ∷ 65 ∷ []) (accepted a) (λ early. early) (pair_and_more [])
 
 behind_first : (p : Pair) (middle : Option (List ℕ)) → TakesPairs 4 (p ∷ []) (Some stream) middle
     → middle ≡ Some (0 ∷ 5 ∷ 9 ∷ [])
@@ -239,64 +219,29 @@ no_size_at_first size (v, has, names) =
     (verdict_unique 4 stream v (accepted a) has (pair_and_more (0 ∷ 5 ∷ 9 ∷ []))) names
 
 -- the refusal is that of what follows the first pair
-refuses_second_by_the_verdict : ¬
-    (StopsAfterPairs 4 2 (of_size 6) 3 3 (Some stream) (Some (9 ∷ [])))
+refuses_second_by_the_verdict : ¬ (StopsAfterPairs 4 2 (of_size 6) 3 3 (Some stream) (Some (9 ∷ [])))
 refuses_second_by_the_verdict h =
     elim (one_before h.pairs h.middle h.fewer h.good) [
-      | inl at ↦
-          no_size_at_first 6
-          (subst (λ (o : Option (List ℕ)). IfSome o
-          (λ left. ◌≡◌ {A = ℕ} 3 3 → (v : Verdict) × HasVerdict 4 left v × IsRefusal (of_size 6) v))
-          at h.verdict refl)
-      | inr at ↦
-          let (v, has, names) =
-          subst (λ (o : Option (List ℕ)). IfSome o
-          (λ left. ◌≡◌ {A = ℕ} 3 3 → (v : Verdict) × HasVerdict 4 left v × IsRefusal (of_size 6) v))
-          at h.verdict refl in
-          let same : v ≡ invalid_size 5 =
-          verdict_unique 4 (0 ∷ 5 ∷ 9 ∷ []) v (invalid_size 5) has
-          (9 ∷ [], size_5 (9 ∷ []), omega arith) in
-          omega (arith, ap size_in (subst (λ (w : Verdict). IsRefusal (of_size 6) w) same names))
+      | inl at ↦ no_size_at_first 6 (verdict_behind 2 (of_size 6) 3 3 _ _ stream h at refl)
+      | inr at ↦ no_size_6 (verdict_behind 2 (of_size 6) 3 3 _ _ (0 ∷ 5 ∷ 9 ∷ []) h at refl)
     ]
 
 -- no byte behind what settles was taken
-refuses_second_with_nothing_behind : ¬
-    (StopsAfterPairs 4 2 (of_size 5) 3 3 (Some stream) (Some []))
+refuses_second_with_nothing_behind : ¬ (StopsAfterPairs 4 2 (of_size 5) 3 3 (Some stream) (Some []))
 refuses_second_with_nothing_behind h =
     elim (one_before h.pairs h.middle h.fewer h.good) [
-      | inl at ↦
-          no_size_at_first 5
-          (subst (λ (o : Option (List ℕ)). IfSome o
-          (λ left. ◌≡◌ {A = ℕ} 3 3 → (v : Verdict) × HasVerdict 4 left v × IsRefusal (of_size 5) v))
-          at h.verdict refl)
+      | inl at ↦ no_size_at_first 5 (verdict_behind 2 (of_size 5) 3 3 _ _ stream h at refl)
       | inr at ↦
           takes_no_byte_behind_size
-          (subst (λ (o : Option (List ℕ)). IfSome o
-          (λ left. ◌≡◌ {A = ℕ} 3 3 → (v : Verdict) → HasVerdict 4 left v → ¬ (IsEarlyEnd v)
-          → TakesShortestSettling 4 left (Some [])))
-          at h.settled refl (invalid_size 5) (9 ∷ [], size_5 (9 ∷ []), omega arith)
-          (λ early. early))
+          (settled_behind 2 (of_size 5) 3 3 _ _ (0 ∷ 5 ∷ 9 ∷ []) h at refl (invalid_size 5) size_5_refused (λ early. early))
     ]
 
 -- after a failure nothing that settles was taken, neither of the first nor behind it
-fails_at_second_with_nothing_settled : ¬
-    (StopsAfterPairs 4 2 (of_io other) 3 4 (Some stream) (Some (9 ∷ [])))
+fails_at_second_with_nothing_settled : ¬ (StopsAfterPairs 4 2 (of_io other) 3 4 (Some stream) (Some (9 ∷ [])))
 fails_at_second_with_nothing_settled h =
     elim (one_before h.pairs h.middle h.fewer h.good) [
       | inl at ↦
-          let u =
-          subst (λ (o : Option (List ℕ)). IfSome o
-          (λ left. (3 < 4) ⊎ ((v : Verdict) × HasVerdict 4 left v × IsEarlyEnd v) →
-          TakesUnsettled 4 left (Some (9 ∷ []))))
-          at h.unsettled (inl (omega arith)) in
-          u.unsettled (0 ∷ 1 ∷ 65 ∷ []) (
-            0 ∷ 5 ∷ [],
-            taken_is (0 ∷ 1 ∷ 65 ∷ 0 ∷ 5 ∷ []) (9 ∷ []) u.taken u.takes,
-          ) pair_settles
-      | inr at ↦
-          takes_what_settles
-          (subst (λ (o : Option (List ℕ)). IfSome o
-          (λ left. (3 < 4) ⊎ ((v : Verdict) × HasVerdict 4 left v × IsEarlyEnd v) →
-          TakesUnsettled 4 left (Some (9 ∷ []))))
-          at h.unsettled (inl (omega arith)))
+          let u = unsettled_behind 2 (of_io other) 3 4 _ _ stream h at (omega arith) in
+          u.unsettled (0 ∷ 1 ∷ 65 ∷ []) (0 ∷ 5 ∷ [], taken_is (0 ∷ 1 ∷ 65 ∷ 0 ∷ 5 ∷ []) (9 ∷ []) u.taken u.takes) pair_settles
+      | inr at ↦ takes_what_settles (unsettled_behind 2 (of_io other) 3 4 _ _ (0 ∷ 5 ∷ 9 ∷ []) h at (omega arith))
     ]

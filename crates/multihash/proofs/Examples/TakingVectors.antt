@@ -1,18 +1,18 @@
 -- What refused calls took from known readers.
-use Rattle.std.proofs.Common.{◌≡◌, ℕ, List, [], ◌∷◌, length, refl, sym, ap, ◌∙◌, arith, subst, inl, inr, length-append, append-nil}
-use Rattle.std.specs.Prelude.{Option, Some}
+use Rattle.std.proofs.Common.{◌≡◌, ◌<◌, ℕ, List, [], ◌∷◌, ◌++◌, length, refl, sym, ap, ◌∙◌, arith, subst, inl, inr, length-append, append-nil}
+use Rattle.std.specs.Prelude.{⊤, Option, Some}
 use Rattle.multihash.specs.Bytes.{IsProperBeginning}
 use Rattle.multihash.specs.Varint.{VarintFault, insufficient, overflow, not_minimal, IsVarint, IsInsufficient, HasFaultyFront}
 use Rattle.multihash.specs.Verdict.{Verdict, accepted, invalid_size, faulty, unexpected_eof, HasVerdict, IsEarlyEnd}
 use Rattle.multihash.specs.Reading.{Takes}
-use Rattle.multihash.specs.Refusal.{of_io, of_size, of_code, of_varint, of_not_bytes, IsFaulty}
+use Rattle.multihash.specs.Fault.{IsUnexpectedEof}
+use Rattle.multihash.specs.Refusal.{Refusal, of_io, of_size, of_code, of_varint, of_not_bytes, IsFaulty}
 use Rattle.multihash.specs.Taking.{IsVarintRefusal, IsFrontRefusal, BeginsNoVarint, TakesVarint, IsReadRefusal, TakesAtVarintRefusal, TakesAtRefusal, TakesShortestSettling, TakesUnsettled}
 use Rattle.multihash.proofs.Varints.VarintLemmas.{front_unique, number, fault, varint_unique}
 use Rattle.multihash.proofs.Readings.VerdictLemmas.{verdict_unique}
 use Rattle.multihash.proofs.Readings.SettlingLemmas.{none_settles}
 use Rattle.multihash.proofs.Readings.ShortestLemmas.{shortest_unique}
-use Rattle.multihash.proofs.Examples.FaultVectors.{other, eof, full, memory}
-use Rattle.multihash.proofs.Examples.RefusalVectors.{size_in}
+use Rattle.multihash.proofs.Examples.FaultVectors.{other, eof, memory}
 use Rattle.multihash.proofs.Examples.ReadingVectors.{told, taken_is}
 use Rattle.multihash.proofs.Examples.VarintVectors.{all_marked, varint_0, varint_4, varint_5, not_another}
 use Rattle.multihash.proofs.Examples.PairVectors.{pair}
@@ -24,24 +24,11 @@ use Rattle.multihash.proofs.Examples.SettlingVectors.{size_settles, shortest_of_
 varint_refusal : IsVarintRefusal (of_varint overflow)
 varint_refusal = (overflow, refl)
 
-size_is_no_varint_refusal : ¬ (IsVarintRefusal (of_size 5))
-size_is_no_varint_refusal (f, e) = cc
-
-code_is_no_varint_refusal : (code : ℕ) → ¬ (IsVarintRefusal (of_code code))
-code_is_no_varint_refusal code (f, e) = cc
-
-fault_is_no_varint_refusal : ¬ (IsVarintRefusal (of_io eof))
-fault_is_no_varint_refusal (f, e) = cc
+no_other_varint_refusal : ((n : ℕ) → ¬ (IsVarintRefusal (of_size n))) × ((n : ℕ) → ¬ (IsVarintRefusal (of_code n))) × ¬ (IsVarintRefusal (of_io eof))
+no_other_varint_refusal = ((λ n (f, e). cc), (λ n (f, e). cc), λ (f, e). cc)
 
 padded_front : HasFaultyFront not_minimal (0x80 ∷ 0x00 ∷ [])
-padded_front = record {
-  front = 0x80 ∷ [];
-  rest = [];
-  all_marked = all_marked (0x80 ∷ []) refl;
-  some = omega arith;
-  few = omega arith;
-  cut = refl;
-}
+padded_front = record { front = 0x80 ∷ []; rest = []; all_marked = all_marked (0x80 ∷ []) refl; some = omega arith; few = omega arith; cut = refl }
 
 front_refusal : IsFrontRefusal (0x80 ∷ 0x00 ∷ []) (of_varint not_minimal)
 front_refusal = (not_minimal, refl, padded_front)
@@ -57,51 +44,30 @@ no_other_front_refusal (f, e, has) =
 no_size_is_front_refusal : ¬ (IsFrontRefusal (0x80 ∷ 0x00 ∷ []) (of_size 0))
 no_size_is_front_refusal (f, e, has) = cc
 
-read_refuses_size : IsReadRefusal 4 (of_size 5)
-read_refuses_size = inl (5, refl, omega arith)
+-- the refusals of `read` into four bytes: a code has no number that is too large, an own fault is passed on and
+-- refuses nothing, and no writer and no value is there
+abbrev ReadRefuses : Refusal → Type 0
+ReadRefuses (of_io own) = IsUnexpectedEof own
+ReadRefuses (of_size size) = 4 < size
+ReadRefuses (of_code code) = ⊥
+ReadRefuses (of_varint f) = ⊤
+ReadRefuses of_not_bytes = ⊥
 
-read_refuses_varint : IsReadRefusal 4 (of_varint not_minimal)
-read_refuses_varint = inr (inl (not_minimal, refl))
+read_refuses : (e : Refusal) → ReadRefuses e → IsReadRefusal 4 e
+read_refuses (of_io own) h = inr (inr (own, refl, h))
+read_refuses (of_size size) h = inl (size, refl, h)
+read_refuses (of_code code) h = absurd h
+read_refuses (of_varint f) h = inr (inl (f, refl))
+read_refuses of_not_bytes h = absurd h
 
-read_refuses_end : IsReadRefusal 4 (of_io eof)
-read_refuses_end = inr (inr (eof, refl, refl))
+read_refuses_only : (e : Refusal) → IsReadRefusal 4 e → ReadRefuses e
+read_refuses_only e (inl (size, is, large)) = subst ReadRefuses (sym is) large
+read_refuses_only e (inr (inl (f, is))) = subst ReadRefuses (sym is) tt
+read_refuses_only e (inr (inr (own, is, kind))) = subst ReadRefuses (sym is) kind
 
 -- however large the buffer
 read_refuses_256 : IsReadRefusal 300 (of_size 256)
 read_refuses_256 = inl (256, refl, omega arith)
-
-read_refuses_no_size_that_fits : ¬ (IsReadRefusal 4 (of_size 4))
-read_refuses_no_size_that_fits (inl (size, e, large)) = omega (arith, ap size_in e, large)
-read_refuses_no_size_that_fits (inr (inl (f, e))) = cc
-read_refuses_no_size_that_fits (inr (inr (f, e, kind))) = cc
-
--- a varint has no number that is too large for a code
-read_refuses_no_code : (code : ℕ) → ¬ (IsReadRefusal 4 (of_code code))
-read_refuses_no_code code (inl (size, e, large)) = cc
-read_refuses_no_code code (inr (inl (f, e))) = cc
-read_refuses_no_code code (inr (inr (f, e, kind))) = cc
-
-read_refuses_no_value : ¬ (IsReadRefusal 4 of_not_bytes)
-read_refuses_no_value (inl (size, e, large)) = cc
-read_refuses_no_value (inr (inl (f, e))) = cc
-read_refuses_no_value (inr (inr (f, e, kind))) = cc
-
--- a fault of the reader's own is passed on, and refuses nothing
-read_refuses_by_no_own_fault : ¬ (IsReadRefusal 4 (of_io other))
-read_refuses_by_no_own_fault (inl (size, e, large)) = cc
-read_refuses_by_no_own_fault (inr (inl (f, e))) = cc
-read_refuses_by_no_own_fault (inr (inr (f, e, kind))) = cc
-
-read_refuses_by_no_want_of_memory : ¬ (IsReadRefusal 4 (of_io memory))
-read_refuses_by_no_want_of_memory (inl (size, e, large)) = cc
-read_refuses_by_no_want_of_memory (inr (inl (f, e))) = cc
-read_refuses_by_no_want_of_memory (inr (inr (f, e, kind))) = cc
-
--- nor does anything but the end of the input
-read_refuses_by_no_full_writer : ¬ (IsReadRefusal 4 (of_io full))
-read_refuses_by_no_full_writer (inl (size, e, large)) = cc
-read_refuses_by_no_full_writer (inr (inl (f, e))) = cc
-read_refuses_by_no_full_writer (inr (inr (f, e, kind))) = cc
 
 -- ---- a varint that was taken
 
@@ -232,26 +198,14 @@ memory_fails_not_behind_varint h =
 -- ---- a refused `read`
 
 digest_missing : HasVerdict 4 (0 ∷ 4 ∷ []) unexpected_eof
-digest_missing = (
-  4,
-  [],
-  record {
-    code = 0;
-    code_bytes = 0 ∷ [];
-    size_bytes = 4 ∷ [];
-    is_code = varint_0;
-    is_size = varint_4;
-    cut = refl;
-  },
-  omega arith,
-  omega arith,
-)
+digest_missing =
+    (4, [], record { code = 0; code_bytes = 0 ∷ []; size_bytes = 4 ∷ []; is_code = varint_0; is_size = varint_4; cut = refl }, omega arith, omega arith)
 
 -- what has a verdict that stays has no early end
-not_early : (S : ℕ) (input : List ℕ) (v w : Verdict) → HasVerdict S input w → ¬ (IsEarlyEnd w)
-    → HasVerdict S input v → ¬ (IsEarlyEnd v)
-not_early S input v w late stays h early =
-    stays (subst IsEarlyEnd (verdict_unique S input v w h late) early)
+not_early : (a taken : List ℕ) (v w : Verdict) → Takes (Some (a ++ [])) taken (Some []) → HasVerdict 4 a w → ¬ (IsEarlyEnd w)
+    → HasVerdict 4 taken v → ¬ (IsEarlyEnd v)
+not_early a taken v w takes late stays h early =
+    stays (subst IsEarlyEnd (verdict_unique 4 a v w (subst (λ (z : List ℕ). HasVerdict 4 z v) (taken_is a [] taken takes) h) late) early)
 
 ends_inside_digest : TakesAtRefusal 4 (of_io eof) (Some (0 ∷ 4 ∷ 1 ∷ 2 ∷ 3 ∷ [])) (Some [])
 ends_inside_digest = record {
@@ -280,9 +234,7 @@ read_takes_its_own h = gives_none_back h.taken h.takes
 insufficient_behind_no_size : ¬
     (TakesAtRefusal 4 (of_varint insufficient) (Some (0 ∷ 5 ∷ [])) (Some []))
 insufficient_behind_no_size h =
-    not_early 4 (0 ∷ 5 ∷ []) (faulty insufficient) (invalid_size 5) size_above_limit (λ e. e)
-    (subst (λ (z : List ℕ). HasVerdict 4 z (faulty insufficient))
-    (taken_is (0 ∷ 5 ∷ []) [] h.taken h.takes) (h.insufficient refl).0) tt
+    not_early (0 ∷ 5 ∷ []) h.taken (faulty insufficient) (invalid_size 5) h.takes size_above_limit (λ e. e) (h.insufficient refl).0 tt
 
 -- and all of the input
 insufficient_leaves_none : ¬
@@ -302,17 +254,13 @@ ends_not_inside_varint h =
 fails_not_behind_size : ¬ (TakesAtRefusal 4 (of_io other) (Some (0 ∷ 5 ∷ [])) (Some []))
 fails_not_behind_size h =
     let (v, early, has) = h.fault (other, refl, inl refl) in
-    not_early 4 (0 ∷ 5 ∷ []) v (invalid_size 5) size_above_limit (λ e. e)
-    (subst (λ (z : List ℕ). HasVerdict 4 z v) (taken_is (0 ∷ 5 ∷ []) [] h.taken h.takes) has) early
+    not_early (0 ∷ 5 ∷ []) h.taken v (invalid_size 5) h.takes size_above_limit (λ e. e) has early
 
 fails_not_behind_pair : ¬
     (TakesAtRefusal 4 (of_io memory) (Some (0 ∷ 4 ∷ 1 ∷ 2 ∷ 3 ∷ 4 ∷ [])) (Some []))
 fails_not_behind_pair h =
     let (v, early, has) = h.fault (memory, refl, inr refl) in
-    not_early 4 (0 ∷ 4 ∷ 1 ∷ 2 ∷ 3 ∷ 4 ∷ []) v
-    (accepted (pair 0 (1 ∷ 2 ∷ 3 ∷ 4 ∷ []))) digest_full (λ e. e)
-    (subst (λ (z : List ℕ). HasVerdict 4 z v)
-    (taken_is (0 ∷ 4 ∷ 1 ∷ 2 ∷ 3 ∷ 4 ∷ []) [] h.taken h.takes) has) early
+    not_early (0 ∷ 4 ∷ 1 ∷ 2 ∷ 3 ∷ 4 ∷ []) h.taken v (accepted (pair 0 (1 ∷ 2 ∷ 3 ∷ 4 ∷ []))) h.takes digest_full (λ e. e) has early
 
 -- ---- the shortest that settles
 

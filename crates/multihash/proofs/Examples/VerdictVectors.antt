@@ -1,16 +1,16 @@
--- The verdicts on known inputs, and what more input may change.
-use Rattle.std.proofs.Common.{◌≡◌, ltb, true, subst, ℕ, List, [], ◌∷◌, ◌++◌, length, refl, sym, ap, arith, inl, inr, length-append}
+-- The verdicts on known inputs, and what more input may change. An input has no verdict but the one that is computed
+-- (`verdict_is`), so a row says both what holds and what does not.
+use Rattle.std.proofs.Common.{◌≡◌, ◌∙◌, ltb, true, subst, ℕ, List, [], ◌∷◌, ◌++◌, refl, sym, arith, inl, inr}
+use Rattle.std.specs.Prelude.{◌↔◌}
 use Rattle.std.specs.List.{list_all}
 use Rattle.multihash.specs.Bytes.{place_value}
 use Rattle.multihash.specs.Pair.{Pair}
-use Rattle.multihash.specs.Varint.{insufficient, overflow, not_minimal, HasFaultyFront}
-use Rattle.multihash.specs.Verdict.{Verdict, accepted, invalid_size, invalid_code, faulty, unexpected_eof, BeginsWith, HasSize, HasCode, HasVerdict, HasLeftOver, HasWholeVerdict, IsEarlyEnd}
+use Rattle.multihash.specs.Varint.{insufficient, overflow, not_minimal}
+use Rattle.multihash.specs.Verdict.{Verdict, accepted, invalid_size, invalid_code, faulty, unexpected_eof, BeginsWith, HasSize, HasVerdict, HasLeftOver, HasWholeVerdict, IsEarlyEnd}
 use Rattle.multihash.proofs.Examples.BytesVectors.{all_below}
 use Rattle.multihash.proofs.Examples.VarintVectors.{all_marked, varint_0, varint_1, varint_4, varint_5, varint_72057594037927936}
 use Rattle.multihash.proofs.Examples.PairVectors.{pair}
-use Rattle.multihash.proofs.Varints.LengthLemmas.{varint_some}
-use Rattle.multihash.proofs.Readings.VerdictLemmas.{encoding_same, same_number, verdict_unique, found, has_found}
-use Rattle.multihash.proofs.Varints.VarintLemmas.{number, fault, front_unique}
+use Rattle.multihash.proofs.Readings.VerdictLemmas.{found, verdict_is, has_found}
 
 abbrev pub eight : List ℕ
 eight = 0x80 ∷ 0x80 ∷ 0x80 ∷ 0x80 ∷ 0x80 ∷ 0x80 ∷ 0x80 ∷ 0x80 ∷ []
@@ -36,13 +36,6 @@ size_named (invalid_code code) = 0
 size_named (faulty f) = 0
 size_named unexpected_eof = 0
 
-abbrev digest_named : Verdict → List ℕ
-digest_named (accepted p) = p.digest
-digest_named (invalid_size size) = []
-digest_named (invalid_code code) = []
-digest_named (faulty f) = []
-digest_named unexpected_eof = []
-
 -- an input whose verdict is the computed one
 abbrev pub known : (S : ℕ) (x : List ℕ) → list_all (λ b. ltb b 256) x ≡ true → HasVerdict S x (found S x)
 known S x bytes = has_found S x (all_below 256 x bytes)
@@ -66,10 +59,13 @@ data Row : Type 0 where
   row : (S : ℕ) (x : List ℕ) (v : Verdict) → list_all (λ b. ltb b 256) x ≡ true → found S x ≡ v → Row
 
 abbrev Holds : Row → Type 0
-Holds (row S x v bytes same) = HasVerdict S x v × WholeToo S x v
+Holds (row S x v bytes same) = ((w : Verdict) → HasVerdict S x w ↔ (w ≡ v)) × WholeToo S x v
 
 holds : (r : Row) → Holds r
-holds (row S x v bytes same) = let h = subst (HasVerdict S x) same (known S x bytes) in (h, whole_too S x v h)
+holds (row S x v bytes same) = (
+  λ w. ((λ h. verdict_is S x w h ∙ same), λ is. subst (HasVerdict S x) (same ∙ sym is) (known S x bytes)),
+  whole_too S x v (subst (HasVerdict S x) same (known S x bytes)),
+)
 
 table : List Row
 unfolding place_value
@@ -180,39 +176,13 @@ no_room_empty_whole = (record { code = 0x00 ∷ []; size = 0x00 ∷ []; is_code 
 abbrev begins_empty : (rest : List ℕ) → BeginsWith (pair 0 []) (0x00 ∷ 0x00 ∷ rest) rest
 begins_empty rest = record {
   encoding = 0x00 ∷ 0x00 ∷ [];
-  encodes = record {
-    code = 0x00 ∷ [];
-    size = 0x00 ∷ [];
-    is_code = varint_0;
-    is_size = varint_0;
-    spelled = refl;
-  };
+  encodes = record { code = 0x00 ∷ []; size = 0x00 ∷ []; is_code = varint_0; is_size = varint_0; spelled = refl };
   cut = refl;
 }
 
 -- the code 0, the size 5, and what follows
 abbrev pub size_5 : (more : List ℕ) → HasSize 5 (0x00 ∷ 0x05 ∷ more) more
-size_5 more =
-    record {
-      code = 0;
-      code_bytes = 0x00 ∷ [];
-      size_bytes = 0x05 ∷ [];
-      is_code = varint_0;
-      is_size = varint_5;
-      cut = refl;
-    }
-
--- and no other size
-size_is_5 : (size : ℕ) → HasSize size (0x00 ∷ 0x05 ∷ []) [] → (size ≡ 5 → ⊥) → ⊥
-size_is_5 size h other =
-    let behind =
-    same_number (0x00 ∷ 0x05 ∷ []) h.code 0 (h.size_bytes ++ []) (0x05 ∷ [])
-    (h.code_bytes, h.is_code, h.cut) (0x00 ∷ [], varint_0, refl) in
-    other (same_number (0x05 ∷ []) size 5 [] [] (h.size_bytes, h.is_size, sym behind.1)
-    (0x05 ∷ [], varint_5, refl)).0
-
-open_front : HasFaultyFront insufficient (0x80 ∷ [])
-open_front = record { few = omega arith; all_marked = all_marked (0x80 ∷ []) refl }
+size_5 more = record { code = 0; code_bytes = 0x00 ∷ []; size_bytes = 0x05 ∷ []; is_code = varint_0; is_size = varint_5; cut = refl }
 
 -- ---- what does not hold
 
@@ -223,20 +193,6 @@ no_code_refused S code input h = h
 no_code_refused_whole : (S code : ℕ) (input : List ℕ) → ¬ (HasWholeVerdict S input (invalid_code code))
 no_code_refused_whole S code input h = h
 
--- the code and the digest are those that the input begins with
-no_other_code : ¬ (HasVerdict 4 (0x00 ∷ 0x00 ∷ []) (accepted (pair 1 [])))
-no_other_code h =
-    omega (
-      arith,
-      ap code_named
-          (verdict_unique 4 (0x00 ∷ 0x00 ∷ []) (accepted (pair 1 []))
-          (accepted (pair 0 [])) h empty_digest),
-    )
-
--- the limit itself is no size that is refused
-no_refusal_at_limit : ¬ (HasVerdict 4 (0x00 ∷ 0x04 ∷ 0x01 ∷ 0x02 ∷ 0x03 ∷ []) (invalid_size 4))
-no_refusal_at_limit (rest, has, large) = omega (arith, large)
-
 -- ---- what is left over
 
 one_left_over : HasLeftOver 4 (0x00 ∷ 0x00 ∷ 0x07 ∷ []) 1
@@ -245,93 +201,11 @@ one_left_over = (pair 0 [], 0x07 ∷ [], begins_empty (0x07 ∷ []), omega arith
 nothing_left_over : ¬ (HasLeftOver 4 (0x00 ∷ 0x00 ∷ []) 0)
 nothing_left_over (p, rest, begins, fits, count, some) = omega (arith, some)
 
--- ---- what begins an input
-
-begins_with_one : BeginsWith (pair 0 []) (0x00 ∷ 0x00 ∷ 0x07 ∷ []) (0x07 ∷ [])
-begins_with_one = begins_empty (0x07 ∷ [])
-
-begins_with_no_other : ¬ (BeginsWith (pair 1 []) (0x00 ∷ 0x00 ∷ []) [])
-begins_with_no_other h = no_other_code ([], h, omega arith)
-
-rest_is_all_that_follows : ¬ (BeginsWith (pair 0 []) (0x00 ∷ 0x00 ∷ 0x07 ∷ []) [])
-rest_is_all_that_follows h =
-    omega (
-      arith,
-      ap (λ (z : List ℕ). length z)
-          (encoding_same (pair 0 []) h.encoding (0x00 ∷ 0x00 ∷ []) h.encodes
-          (begins_empty []).encodes),
-      ap (λ (z : List ℕ). length z) h.cut,
-      length-append h.encoding [],
-    )
-
-has_code : HasCode (0x00 ∷ 0x07 ∷ []) (0x07 ∷ [])
-has_code = record { code = 0; code_bytes = 0x00 ∷ []; is_code = varint_0; cut = refl }
-
-open_code_is_none : (rest : List ℕ) → ¬ (HasCode (0x80 ∷ []) rest)
-open_code_is_none rest h =
-    let same : number h.code rest ≡ fault insufficient =
-    front_unique (0x80 ∷ []) (number h.code rest) (fault insufficient)
-    (h.code_bytes, h.is_code, h.cut) (open_front) in
-    cc
-
--- no byte of the code is left
-code_leaves_what_follows : ¬ (HasCode (0x00 ∷ 0x07 ∷ []) (0x00 ∷ 0x07 ∷ []))
-code_leaves_what_follows h =
-    omega (
-      arith,
-      ap (λ (z : List ℕ). length z)
-          (same_number (0x00 ∷ 0x07 ∷ []) h.code 0 (0x00 ∷ 0x07 ∷ []) (0x07 ∷ [])
-          (h.code_bytes, h.is_code, h.cut) (0x00 ∷ [], varint_0, refl)).1,
-    )
-
-has_size : HasSize 5 (0x00 ∷ 0x05 ∷ 0x07 ∷ []) (0x07 ∷ [])
-has_size = size_5 (0x07 ∷ [])
-
--- the code is no size
-code_is_no_size : ¬ (HasSize 0 (0x00 ∷ 0x05 ∷ []) [])
-code_is_no_size h = size_is_5 0 h (λ e. omega (arith, e))
-
--- nor does a size stand alone
-no_size_alone : ¬ (HasSize 5 (0x05 ∷ []) [])
-no_size_alone h =
-    let (same, rest) =
-    same_number (0x05 ∷ []) h.code 5 (h.size_bytes ++ []) [] (h.code_bytes, h.is_code, h.cut)
-    (0x05 ∷ [], varint_5, refl) in
-    omega (
-      arith,
-      ap (λ (z : List ℕ). length z) rest,
-      length-append h.size_bytes [],
-      varint_some 5 h.size_bytes h.is_size,
-    )
-
-no_size_without_code : (size : ℕ) (rest : List ℕ) → ¬ (HasSize size (0x80 ∷ []) rest)
-no_size_without_code size rest h =
-    open_code_is_none (h.size_bytes ++ rest) (record {
-      code = h.code;
-      code_bytes = h.code_bytes;
-      is_code = h.is_code;
-      cut = h.cut;
-    })
-
 -- ---- the verdicts that more input may change
 
-ends_inside_varint : IsEarlyEnd (faulty insufficient)
-ends_inside_varint = tt
+early : IsEarlyEnd (faulty insufficient) × IsEarlyEnd unexpected_eof
+early = (tt, tt)
 
-ends_inside_digest : IsEarlyEnd unexpected_eof
-ends_inside_digest = tt
-
-pair_stays : (p : Pair) → ¬ (IsEarlyEnd (accepted p))
-pair_stays p early = early
-
-size_stays : (size : ℕ) → ¬ (IsEarlyEnd (invalid_size size))
-size_stays size early = early
-
-code_stays : (code : ℕ) → ¬ (IsEarlyEnd (invalid_code code))
-code_stays code early = early
-
-overflow_stays : ¬ (IsEarlyEnd (faulty overflow))
-overflow_stays early = early
-
-not_minimal_stays : ¬ (IsEarlyEnd (faulty not_minimal))
-not_minimal_stays early = early
+stays : ((p : Pair) → ¬ (IsEarlyEnd (accepted p))) × ((n : ℕ) → ¬ (IsEarlyEnd (invalid_size n))) × ((n : ℕ) → ¬ (IsEarlyEnd (invalid_code n)))
+    × ¬ (IsEarlyEnd (faulty overflow)) × ¬ (IsEarlyEnd (faulty not_minimal))
+stays = ((λ p h. h), (λ n h. h), (λ n h. h), (λ h. h), λ h. h)

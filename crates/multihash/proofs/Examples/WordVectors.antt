@@ -44,27 +44,14 @@ no_more_present_than_sixteen h = omega (arith, h.present_is)
 -- ---- the digits of its bytes
 
 -- the marks are left out, and the digits stand seven bits apart
-digits_of_300 : digits_low 2 0x02ac ≡ 300
+digits_are : (digits_low 2 0x02ac ≡ 300) × (digits_low 1 0x02ac ≡ 44) × (digits_low 0 0x02ac ≡ 0) × (digits_low 3 0x018080 ≡ 16384)
 unfolding digits_low
-digits_of_300 = refl
-
-digits_of_the_lowest : digits_low 1 0x02ac ≡ 44
-unfolding digits_low
-digits_of_the_lowest = refl
-
-digits_of_none : digits_low 0 0x02ac ≡ 0
-unfolding digits_low
-digits_of_none = refl
-
-digits_of_the_third : digits_low 3 0x018080 ≡ 16384
-unfolding digits_low
-digits_of_the_third = refl
+digits_are = (refl, refl, refl, refl)
 
 -- ---- marked bytes at the front
 
 begins_marked : BeginsMarked 2 (0x80 ∷ 0xff ∷ 0x05 ∷ [])
-begins_marked =
-    record { enough = omega arith; all_marked = all_marked (0x80 ∷ 0xff ∷ []) refl }
+begins_marked = record { enough = omega arith; all_marked = all_marked (0x80 ∷ 0xff ∷ []) refl }
 
 begins_with_no_third_mark : ¬ (BeginsMarked 3 (0x80 ∷ 0xff ∷ 0x05 ∷ []))
 begins_with_no_third_mark h =
@@ -81,24 +68,13 @@ begins_with_no_missing_mark h = omega (arith, h.enough)
 -- ---- what was found at the front
 
 finds_a_varint : IsFoundFront (0xac ∷ 0x02 ∷ 0x07 ∷ []) 300 2
-finds_a_varint =
-    record {
-      some = λ more. varint_300;
-      within = omega arith;
-      none = λ e. absurd (omega (arith, e));
-    }
+finds_a_varint = record { some = λ more. varint_300; within = omega arith; none = λ e. absurd (omega (arith, e)) }
 
 finds_none : (n : ℕ) → IsFoundFront (0x80 ∷ []) n 0
-finds_none n =
-    record {
-      some = λ more. absurd (omega (arith, more));
-      within = omega arith;
-      none = λ e. begins_no_varint;
-    }
+finds_none n = record { some = λ more. absurd (omega (arith, more)); within = omega arith; none = λ e. begins_no_varint }
 
 finds_no_other_number : ¬ (IsFoundFront (5 ∷ []) 6 1)
-finds_no_other_number h =
-    not_another 6 5 (5 ∷ []) varint_5 (λ e. omega (arith, e)) (h.some (omega arith))
+finds_no_other_number h = not_another 6 5 (5 ∷ []) varint_5 (λ e. omega (arith, e)) (h.some (omega arith))
 
 finds_within_the_input : ¬ (IsFoundFront (5 ∷ []) 5 2)
 finds_within_the_input h = omega (arith, h.within)

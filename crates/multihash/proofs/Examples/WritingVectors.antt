@@ -9,105 +9,69 @@ use Rattle.multihash.proofs.Examples.FaultVectors.{other, eof, full, memory}
 
 -- ---- how a writer failed
 
-writer_failed : IsWriterFault false 3 4 other
-writer_failed = record { kind = inl refl; cause = inl (omega arith) }
+failed_writer : IsWriterFault false 3 4 other × IsWriterFault true 3 3 memory
+failed_writer = (record { kind = inl refl; cause = inl refl }, record { kind = inr refl; cause = inr (refl, refl, refl) })
 
-writer_refused_memory : IsWriterFault true 3 3 memory
-writer_refused_memory = record { kind = inr refl; cause = inr (refl, refl, refl) }
-
--- a failing call counts one failure, and want of memory none
-writer_counts_one_failure : ¬ (IsWriterFault true 3 5 other)
-writer_counts_one_failure h =
-    elim h.cause [ inl one ↦ omega (arith, one) | inr (allocates, e, same) ↦ cc ]
-
-writer_counts_no_want_of_memory : ¬ (IsWriterFault true 3 5 memory)
-writer_counts_no_want_of_memory h =
-    elim h.cause [ inl one ↦ omega (arith, one) | inr (allocates, e, same) ↦ omega (arith, same) ]
-
--- one that doesn't allocate has no want of memory but as a counted fault
-writer_wants_no_memory : ¬ (IsWriterFault false 3 3 memory)
-writer_wants_no_memory h =
-    elim h.cause [ inl more ↦ omega arith | inr (allocates, e, same) ↦ false≢true allocates ]
+-- a failing call counts one failure, and want of memory none; no call lowers the count, whatever it answers
+counts_not_so : ¬ (IsWriterFault true 3 5 memory) × ¬ (IsWriterFault true 4 3 memory)
+counts_not_so = (
+  (λ h. elim h.cause [ inl one ↦ omega (arith, one) | inr (allocates, e, same) ↦ omega (arith, same) ]),
+  λ h. elim h.cause [ inl one ↦ omega (arith, one) | inr (allocates, e, same) ↦ omega (arith, same) ],
+)
 
 -- a fault that isn't counted is want of memory
-writer_invents_no_fault : ¬ (IsWriterFault true 3 3 other)
-writer_invents_no_fault h = elim h.cause [ inl more ↦ omega arith | inr (allocates, e, same) ↦ cc ]
+invents_no_fault : ¬ (IsWriterFault true 3 5 other) × ¬ (IsWriterFault true 3 3 other)
+invents_no_fault = (
+  (λ h. elim h.cause [ inl one ↦ omega (arith, one) | inr (allocates, e, same) ↦ cc ]),
+  λ h. elim h.cause [ inl one ↦ omega (arith, one) | inr (allocates, e, same) ↦ cc ],
+)
 
--- and no call lowers the count, whatever it answers
-writer_lowers_no_count : ¬ (IsWriterFault true 4 3 memory)
-writer_lowers_no_count h =
-    elim h.cause [ inl one ↦ omega (arith, one) | inr (allocates, e, same) ↦ omega (arith, same) ]
+-- one that doesn't allocate has no want of memory but as a counted fault
+wants_no_memory : ¬ (IsWriterFault false 3 3 memory)
+wants_no_memory h = elim h.cause [ inl one ↦ omega (arith, one) | inr (allocates, e, same) ↦ false≢true allocates ]
 
-full_lowers_no_count : ¬ (IsWriterFaultOrFull false 4 3 ⊤ full)
-full_lowers_no_count (inl h) = elim h.kind [ inl e ↦ cc | inr e ↦ cc ]
-full_lowers_no_count (inr h) = omega (arith, h.1)
+-- neither the end of an input nor a place that is missing is a fault of a writer's own
+no_own_kind : (allocates : Bool) (before after : ℕ) → ¬ (IsWriterFault allocates before after eof) × ¬ (IsWriterFault allocates before after full)
+no_own_kind allocates before after = ((λ h. elim h.kind [ inl e ↦ cc | inr e ↦ cc ]), λ h. elim h.kind [ inl e ↦ cc | inr e ↦ cc ])
 
--- the end of an input is no fault of a writer
-writer_meets_no_end : ¬ (IsWriterFault true 3 4 eof)
-writer_meets_no_end h = elim h.kind [ inl e ↦ cc | inr e ↦ cc ]
+abbrev Stops : ℕ → ℕ → Type 0 → Fault → Type 0
+Stops before after is_full e = IsWriterFaultOrFull false before after is_full e
 
-writer_not_full : ¬ (IsWriterFault true 3 4 full)
-writer_not_full h = elim h.kind [ inl e ↦ cc | inr e ↦ cc ]
+-- only one that is full has no place left, and nothing is counted then
+full_writer : Stops 3 3 ⊤ full
+full_writer = inr (refl, refl, tt)
 
-full_meets_no_end : ¬ (IsWriterFaultOrFull true 3 3 ⊤ eof)
-full_meets_no_end (inl h) = elim h.kind [ inl e ↦ cc | inr e ↦ cc ]
-full_meets_no_end (inr h) = cc
+full_alone : (before after : ℕ) (is_full : Type 0) → Stops before after is_full full → (after ≡ before) × is_full
+full_alone before after is_full (inl h) = absurd ((no_own_kind false before after).1 h)
+full_alone before after is_full (inr h) = (h.1, h.2)
 
-writer_full : IsWriterFaultOrFull false 3 3 ⊤ full
-writer_full = inr (refl, refl, tt)
+meets_no_end : ¬ (Stops 3 3 ⊤ eof)
+meets_no_end (inl h) = (no_own_kind false 3 3).0 h
+meets_no_end (inr h) = cc
 
--- only one that is full has no place left
-writer_has_room : ¬ (IsWriterFaultOrFull false 3 3 ⊥ full)
-writer_has_room (inl h) = elim h.kind [ inl e ↦ cc | inr e ↦ cc ]
-writer_has_room (inr h) = h.2
+abbrev Writer : ℕ → ℕ → Type 0 → Result ℕ Fault → Type 0
+Writer before after is_full outcome = CountsWriter IsFault true before after is_full outcome
 
--- and one that failed tells its fault
-writer_full_counts_nothing : ¬ (IsWriterFaultOrFull false 3 4 ⊤ full)
-writer_full_counts_nothing (inl h) = elim h.kind [ inl e ↦ cc | inr e ↦ cc ]
-writer_full_counts_nothing (inr h) = omega (arith, h.1)
+writer : Writer 3 3 ⊥ (Ok 1) × Writer 3 3 ⊤ (Err full) × Writer 3 3 ⊥ (Err memory)
+writer = (refl, inr (refl, refl, tt), inl (record { kind = inr refl; cause = inr (refl, refl, refl) }))
 
-wrote : CountsWriter {A = ℕ} IsFault true 3 3 ⊥ (Ok 1)
-wrote = refl
+-- an Ok leaves the count
+writer_counts_at_ok : ¬ (Writer 3 4 ⊥ (Ok 1)) × ¬ (Writer 4 3 ⊥ (Ok 1)) × ¬ (Writer 3 4 ⊤ (Ok 1))
+writer_counts_at_ok = ((λ h. omega (arith, h)), (λ h. omega (arith, h)), λ h. omega (arith, h))
 
-wrote_with_fault : ¬ (CountsWriter {A = ℕ} IsFault true 3 4 ⊥ (Ok 1))
-wrote_with_fault h = omega (arith, h)
-
-wrote_and_lowered_no_count : ¬ (CountsWriter {A = ℕ} IsFault true 4 3 ⊥ (Ok 1))
-wrote_and_lowered_no_count h = omega (arith, h)
-
-write_never_full : ¬ (CountsWriter {A = ℕ} IsFault true 3 4 ⊥ (Err full))
-write_never_full (inl h) = writer_not_full h
-write_never_full (inr h) = h.2
-
-wrote_all_with_fault : ¬ (CountsWriter {A = ℕ} IsFault true 3 4 ⊤ (Ok 1))
-wrote_all_with_fault h = omega (arith, h)
-
-wrote_all_full : CountsWriter {A = ℕ} IsFault false 3 3 ⊤ (Err full)
-wrote_all_full = writer_full
-
--- a count never falls
-writer_count_rises : {allocates : Bool} {before after : ℕ} {is_full : Type 0} {e : Fault}
-    → IsWriterFaultOrFull allocates before after is_full e → before ≤ after
-writer_count_rises (inl h) = elim h.cause [ inl counted ↦ omega (arith, counted) | inr refused ↦ omega (arith, refused.2) ]
-writer_count_rises (inr h) = omega (arith, h.1)
-
-no_count_falls : ¬ (CountsWriter {A = ℕ} IsFault true 4 3 ⊥ (Err memory))
-no_count_falls h = omega (arith, writer_count_rises h)
-
-no_count_falls_writing_all : ¬ (CountsWriter {A = ℕ} IsFault true 4 3 ⊤ (Err memory))
-no_count_falls_writing_all h = omega (arith, writer_count_rises h)
-
-wrote_nothing_for_want_of_memory : CountsWriter {A = ℕ} IsFault true 3 3 ⊥ (Err memory)
-wrote_nothing_for_want_of_memory = inl writer_refused_memory
+never_full : ¬ (Writer 3 4 ⊥ (Err full))
+never_full (inl h) = (no_own_kind true 3 4).1 h
+never_full (inr h) = h.2
 
 -- a count never falls, by whatever fault
-no_count_falls_by_own : ¬ (CountsWriter {A = ℕ} IsFault false 4 3 ⊤ (Err full))
-no_count_falls_by_own h = omega (arith, writer_count_rises h)
+count_rises : {allocates : Bool} {before after : ℕ} {is_full : Type 0} {e : Fault}
+    → IsWriterFaultOrFull allocates before after is_full e → before ≤ after
+count_rises (inl h) = elim h.cause [ inl counted ↦ omega (arith, counted) | inr refused ↦ omega (arith, refused.2) ]
+count_rises (inr h) = omega (arith, h.1)
 
-write_hides_no_fault : ¬ (CountsWriter {A = ℕ} IsFault false 3 3 ⊤ (Err other))
-write_hides_no_fault (inl h) =
-    elim h.cause [ inl counted ↦ omega (arith, counted) | inr (allocates, e, same) ↦ cc ]
-write_hides_no_fault (inr h) = cc
+hides_no_fault : ¬ (Writer 3 3 ⊤ (Err other))
+hides_no_fault (inl h) = elim h.cause [ inl counted ↦ omega (arith, counted) | inr (allocates, e, same) ↦ cc ]
+hides_no_fault (inr h) = cc
 
 -- ---- what was appended
 
@@ -130,11 +94,7 @@ appends_no_whole h =
 
 appends_no_other_part : ¬ (AppendsPart AppendsAtEnd [] (1 ∷ 2 ∷ []) (2 ∷ []))
 appends_no_other_part h =
-    omega (
-      arith,
-      ap (λ (z : List ℕ). get_or z 0 0)
-          (h.proper.2 ∙ ap (λ (z : List ℕ). z ++ h.proper.0) (sym h.stands)),
-    )
+    omega (arith, ap (λ (z : List ℕ). get_or z 0 0) (h.proper.2 ∙ ap (λ (z : List ℕ). z ++ h.proper.0) (sym h.stands)))
 
 -- ---- the laws of `write`, each refuted where the others hold
 
@@ -165,13 +125,7 @@ writes_one_of_two = record {
 
 writes_none_when_full : Writes (7 ∷ 8 ∷ 9 ∷ [], 0) (1 ∷ []) (7 ∷ 8 ∷ 9 ∷ [], 0) (Ok 0)
 writes_none_when_full =
-    record {
-      count = omega arith;
-      ok = refl;
-      stuck = λ none some. omega arith;
-      err = tt;
-      faults = refl;
-    }
+    record { count = omega arith; ok = refl; stuck = λ none some. omega arith; err = tt; faults = refl }
 
 writes_with_fault : Writes (7 ∷ [], 0) (1 ∷ []) (7 ∷ [], 1) (Err other)
 writes_with_fault = record {
@@ -202,11 +156,7 @@ writes_with_no_hidden_fault h = omega (arith, h.faults)
 
 -- a full writer answers a count of 0
 full_is_no_fault : ¬ (Writes (7 ∷ 8 ∷ 9 ∷ [], 0) (1 ∷ []) (7 ∷ 8 ∷ 9 ∷ [], 0) (Err full))
-full_is_no_fault h = write_never_full_uncounted h.faults
-  where
-    write_never_full_uncounted : ¬ (CountsWriter {A = ℕ} IsFault false 0 0 ⊥ (Err full))
-    write_never_full_uncounted (inl e) = elim e.kind [ inl is ↦ cc | inr is ↦ cc ]
-    write_never_full_uncounted (inr e) = e.2
+full_is_no_fault h = (full_alone 0 0 ⊥ h.faults).1
 
 -- nor has this one, which doesn't allocate, want of memory that it doesn't count
 write_wants_no_memory : ¬ (Writes ([], 0) (1 ∷ []) ([], 0) (Err memory))
@@ -219,8 +169,7 @@ write_wants_no_memory h =
 -- ---- the laws of `write_all`
 
 abbrev WritesAll : State → List ℕ → State → Result ℕ Fault → Type 0
-WritesAll old bytes new outcome =
-    WriteAllLaws stands has_no_place failed false old bytes new outcome
+WritesAll old bytes new outcome = WriteAllLaws stands has_no_place failed false old bytes new outcome
 
 writes_both : WritesAll (7 ∷ [], 0) (1 ∷ 2 ∷ []) (7 ∷ 1 ∷ 2 ∷ [], 0) (Ok 0)
 writes_both = record { ok = refl; empty = λ none. refl; err = tt; faults = refl }
@@ -263,8 +212,4 @@ write_all_wants_no_memory h =
     ]
 
 full_with_no_place_alone : ¬ (WritesAll ([], 0) (1 ∷ 2 ∷ []) (1 ∷ [], 0) (Err full))
-full_with_no_place_alone h =
-    elim h.faults [
-      | inl own ↦ elim own.kind [ inl e ↦ cc | inr e ↦ cc ]
-      | inr stuck ↦ omega (arith, stuck.2)
-    ]
+full_with_no_place_alone h = omega (arith, (full_alone 0 0 (has_no_place (1 ∷ [], 0)) h.faults).1)

@@ -7,7 +7,7 @@ use Rattle.multihash.specs.Encoding.{IsEncoding}
 use Rattle.multihash.specs.Joined.{AreJoined}
 use Rattle.multihash.proofs.Readings.VerdictLemmas.{encoding_unique, encoding_same}
 
--- as many encodings in front of one input are of the same pairs
+-- two lists of equally many encodings that begin one input encode the same pairs
 each_unique : (ps qs : List Pair) (es fs : List (List ℕ)) (r s : List ℕ) → AllZip IsEncoding ps es → AllZip IsEncoding qs fs
     → length ps ≡ length qs → concat es ++ r ≡ concat fs ++ s → (ps ≡ qs) × (r ≡ s)
 each_unique [] [] [] [] r s h k l e = (refl, e)

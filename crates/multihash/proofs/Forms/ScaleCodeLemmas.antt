@@ -3,7 +3,7 @@ use Rattle.std.proofs.Common.{◌≡◌, ℕ, zero, suc, ◌/◌, ◌%◌, ◌^�
 use Rattle.std.specs.Int.{byte_at, bytes_low_first, to_le_bytes, from_le_bytes, w64}
 use Rattle.std.proofs.Math.Nat.{pow-suc, pow-zero, div-add-mod, div-div-eq-div-mul, div-one}
 use Rattle.std.proofs.lemmas.Nat.{mod_below, div_below, le_bytes_8}
-use Rattle.std.proofs.lemmas.List.Elements.{All-nil, All-cons, All-from_get_or}
+use Rattle.std.proofs.lemmas.List.Elements.{All-nil, All-cons}
 use Rattle.multihash.specs.Bytes.{IsBytes, place_value}
 use Rattle.multihash.specs.Scale.{IsScaleCode}
 use Rattle.multihash.proofs.Varints.DigitLemmas.{place_value-nil, place_value-cons}
@@ -38,17 +38,6 @@ code_bytes code range = record {
   are_bytes = are_bytes 8 0 code;
   value = value_of_bytes 8 0 code (rw (pow-zero 256, div-one code) (omega (arith, range))) ∙ (ap (λ (p : ℕ). code / p) (pow-zero 256) ∙ div-one code);
 }
-
--- eight bytes are those of some code
-pub some_code : (bytes : List ℕ) → length bytes ≡ 8 → ((i : ℕ) → get_or bytes i 0 < 256) → IsScaleCode (place_value 256 bytes) bytes
-some_code bytes eight each = record {
-  eight = eight;
-  are_bytes = all;
-  value = refl;
-}
-  where
-    all : IsBytes bytes
-    all = All-from_get_or (λ b. b < 256) bytes 0 (λ i _. each i)
 
 -- and of the code that is read from them
 pub code_read : (bytes : List ℕ) (code : ℕ) → length bytes ≡ 8 → ((i : ℕ) → get_or bytes i 0 < 256) → code < 256 ^ 8

@@ -74,15 +74,15 @@ abbrev scale_judged : ℕ → ℕ → List ℕ → Verdict
 scale_judged S code rest = cond (ltb code varint_limit) (scale_behind S code rest) (invalid_code code)
 
 -- k is 8, and a variable, so that `take` stays as it is
-abbrev found : ℕ → ℕ → List ℕ → Verdict
-found k S x = cond (ltb (length x) k) unexpected_eof (scale_judged S (place_value 256 (take k x)) (drop k x))
+abbrev found_at : ℕ → ℕ → List ℕ → Verdict
+found_at k S x = cond (ltb (length x) k) unexpected_eof (scale_judged S (place_value 256 (take k x)) (drop k x))
 
-found_behind : (k S code : ℕ) (x bytes rest : List ℕ) → k ≡ 8 → IsScaleCode code bytes → x ≡ bytes ++ rest → found k S x ≡ scale_judged S code rest
+found_behind : (k S code : ℕ) (x bytes rest : List ℕ) → k ≡ 8 → IsScaleCode code bytes → x ≡ bytes ++ rest → found_at k S x ≡ scale_judged S code rest
 found_behind k S code x bytes rest eight is cut =
     let long : length bytes ≡ k = is.eight ∙ sym eight in
     rw (cut, le-ltb (length (bytes ++ rest)) k (omega (arith, length-append bytes rest, long)), take_at bytes rest k long, drop_at bytes rest k long, is.value) refl
 
-found_is : (k S : ℕ) (x : List ℕ) (v : Verdict) → k ≡ 8 → HasScaleVerdict S x v → found k S x ≡ v
+found_is : (k S : ℕ) (x : List ℕ) (v : Verdict) → k ≡ 8 → HasScaleVerdict S x v → found_at k S x ≡ v
 found_is k S x (accepted p) eight (bytes, rest, h, fits, cut) =
     found_behind k S p.code x h.code (length p.digest ∷ (p.digest ++ rest)) eight h.is_code
     (cut ∙ (ap (λ (z : List ℕ). z ++ rest) h.spelled ∙ append_assoc h.code (length p.digest ∷ p.digest) rest))
@@ -104,8 +104,15 @@ found_is k S x unexpected_eof eight (inr (inr (size, rest, h, within, short))) =
     found_behind k S h.code x h.code_bytes (size ∷ rest) eight h.is_code h.cut
     ∙ rw (lt-ltb h.code varint_limit h.in_range, le-ltb S size within, lt-ltb (length rest) size short) refl
 
+abbrev pub scale_found : ℕ → List ℕ → Verdict
+scale_found S x = found_at 8 S x
+
+-- an input has no verdict but that one
+pub scale_verdict_is : (S : ℕ) (x : List ℕ) (v : Verdict) → HasScaleVerdict S x v → v ≡ scale_found S x
+scale_verdict_is S x v h = sym (found_is 8 S x v refl h)
+
 pub scale_verdict_unique : (S : ℕ) (x : List ℕ) (v w : Verdict) → HasScaleVerdict S x v → HasScaleVerdict S x w → v ≡ w
-scale_verdict_unique S x v w h k = sym (found_is 8 S x v refl h) ∙ found_is 8 S x w refl k
+scale_verdict_unique S x v w h k = scale_verdict_is S x v h ∙ sym (scale_verdict_is S x w k)
 
 -- a form and anything behind it
 pub scale_own : (S : ℕ) (p : Pair) (bytes rest : List ℕ) → IsScale p bytes → length p.digest ≤ S
@@ -193,5 +200,5 @@ scale_verdict_exists S x bytes =
     ]
 
 -- and it is the one that is computed
-pub scale_found : (S : ℕ) (x : List ℕ) → IsBytes x → HasScaleVerdict S x (found 8 S x)
-scale_found S x bytes = let (v, h) = scale_verdict_exists S x bytes in subst (HasScaleVerdict S x) (sym (found_is 8 S x v refl h)) h
+pub has_scale_found : (S : ℕ) (x : List ℕ) → IsBytes x → HasScaleVerdict S x (scale_found S x)
+has_scale_found S x bytes = let (v, h) = scale_verdict_exists S x bytes in subst (HasScaleVerdict S x) (scale_verdict_is S x v h) h

@@ -1,5 +1,6 @@
 -- What encoding the SCALE form appends, and what decoding it promises of an outcome.
-use Rattle.std.proofs.Common.{◌≡◌, ◌<◌, ◌+◌, ◌≤◌, ◌⊎◌, ℕ, List, [], ◌∷◌, ◌++◌, Option, Result, Ok, Err, IfSome, IfOk, IfErr, length, sym, ap, ◌∙◌, subst, inl, inr, refl, arith, get_or, append_assoc, append-nil, length-append}
+use Rattle.std.proofs.Common.{◌≡◌, ◌<◌, ◌+◌, ◌^◌, ◌≤◌, ◌⊎◌, ℕ, List, [], ◌∷◌, ◌++◌, Option, Result, Ok, Err, IfSome, IfOk, IfErr, length, sym, ap, ◌∙◌, subst, inl, inr, refl, arith, get_or, append_assoc, append-nil, length-append}
+use Rattle.std.specs.Int.{to_le_bytes, w64}
 use Rattle.std.specs.Result.{IsErrAnd}
 use Rattle.multihash.specs.Pair.{Pair}
 use Rattle.multihash.specs.Varint.{varint_limit}
@@ -12,9 +13,10 @@ use Rattle.multihash.specs.Refusal.{Refusal, of_io, IsEof, IsReaderFault, IsInva
 use Rattle.multihash.specs.Answer.{Fields, pair_of, Answers}
 use Rattle.multihash.specs.ScaleTaking.{IsScaleRefusal, TakesAtScaleRefusal}
 use Rattle.multihash.proofs.Readings.ReadingLemmas.{IfSome-taken, Takes-joined}
+use Rattle.multihash.proofs.Forms.ScaleCodeLemmas.{code_bytes}
 
 -- the parts of a form, one after another
-pub scale_of : (p : Pair) (code size : ℕ) (a digest : List ℕ) → code ≡ p.code → size ≡ length p.digest → digest ≡ p.digest → size < 256
+scale_of : (p : Pair) (code size : ℕ) (a digest : List ℕ) → code ≡ p.code → size ≡ length p.digest → digest ≡ p.digest → size < 256
     → p.code < varint_limit → IsScaleCode code a → IsScale p (a ++ ((size ∷ []) ++ digest))
 scale_of p code size a digest same_code same_size same_digest byte below is_code = record {
   code = a;
@@ -23,6 +25,12 @@ scale_of p code size a digest same_code same_size same_digest byte below is_code
   size = omega (arith, byte, same_size);
   spelled = cc (same_size, same_digest);
 }
+
+-- those that a value's form is written in
+pub scale_written : {S : ℕ} (m : Fields S) (code size : ℕ) (a digest : List ℕ) → code ≡ (pair_of m).code → size ≡ length (pair_of m).digest
+    → digest ≡ (pair_of m).digest → code < 256 ^ 8 → size < 256 → a ≡ to_le_bytes w64 code → IsScale (pair_of m) (a ++ ((size ∷ []) ++ digest))
+scale_written m code size a digest same_code same_size same_digest range byte bytes =
+    scale_of (pair_of m) code size a digest same_code same_size same_digest byte m.in_range (rw bytes (code_bytes code range))
 
 -- one byte
 pub one_item : (xs : List ℕ) → length xs ≡ 1 → xs ≡ get_or xs 0 0 ∷ []

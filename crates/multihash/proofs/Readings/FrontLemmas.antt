@@ -1,6 +1,6 @@
 -- What the whole verdict is where a varint or two begin the input.
 use Rattle.std.proofs.Common.{◌≡◌, ◌<◌, ◌≤◌, ◌-◌, ℕ, List, ◌++◌, Some, length, sym, ap, ◌∙◌, subst, inl, inr, arith, take, drop}
-use Rattle.std.proofs.lemmas.List.{take-append-drop, take_all, length-take-le, length-drop}
+use Rattle.std.proofs.lemmas.List.{take-append-drop, take_rest, length-take-le, length-drop}
 use Rattle.multihash.specs.Pair.{digest_limit}
 use Rattle.multihash.specs.Varint.{IsVarint}
 use Rattle.multihash.specs.Verdict.{Verdict, accepted, invalid_size, faulty, unexpected_eof, HasSize, HasWholeVerdict}
@@ -12,9 +12,7 @@ use Rattle.multihash.proofs.Readings.VerdictLemmas.{pair_begins}
 -- a slice from there on is the rest
 pub sliced : (n : ℕ) (xs : List ℕ) (k : ℕ) → TakesVarint n (Some xs) (Some (drop k xs))
     → TakesVarint n (Some xs) (Some (take (length xs - k) (drop k xs)))
-sliced n xs k met =
-    let all : take (length xs - k) (drop k xs) ≡ drop k xs = take_all (length xs - k) (drop k xs) (omega (arith, length-drop k xs)) in
-    subst (λ (back : List ℕ). TakesVarint n (Some xs) (Some back)) (sym all) met
+sliced n xs k met = subst (λ (back : List ℕ). TakesVarint n (Some xs) (Some back)) (sym (take_rest xs k)) met
 
 -- no varint of a code
 pub no_code : (S : ℕ) (input : List ℕ) (e : Refusal) → IsFrontRefusal input e

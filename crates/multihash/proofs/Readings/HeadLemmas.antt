@@ -1,12 +1,8 @@
 -- Two varints, one after the other, are a head.
-use Rattle.std.proofs.Common.{◌≡◌, ◌≤◌, ◌+◌, ◌-◌, ℕ, List, ◌++◌, Some, length, take, drop, refl, sym, ap, ◌∙◌, arith, length-drop}
-use Rattle.std.proofs.lemmas.List.{drop-drop, take_all}
+use Rattle.std.proofs.Common.{◌≡◌, ◌≤◌, ◌+◌, ℕ, List, ◌++◌, Some, length, drop, refl, sym, ap, ◌∙◌, arith, length-drop}
+use Rattle.std.proofs.lemmas.List.{drop-drop}
 use Rattle.multihash.specs.Head.{HasHead}
 use Rattle.multihash.specs.Taking.{TakesVarint}
-
--- a slice from there on is the rest
-pub slice_is : (k : ℕ) (input : List ℕ) → take (length input - k) (drop k input) ≡ drop k input
-slice_is k input = take_all (length input - k) (drop k input) (omega (arith, length-drop k input))
 
 pub head_of : (code size k m : ℕ) (input left : List ℕ) → left ≡ drop k input → k ≤ length input → m ≤ length left
     → TakesVarint code (Some input) (Some (drop k input)) → TakesVarint size (Some left) (Some (drop m left)) → HasHead code size (k + m) input

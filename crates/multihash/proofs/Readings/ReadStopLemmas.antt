@@ -24,51 +24,37 @@ at_end : (P : List ℕ → Type 0) (taken : List ℕ) (new : Option (List ℕ)) 
 at_end P taken None ends p = tt
 at_end P taken (Some left) ends p = subst P (sym (ap (λ z. taken ++ z) ends ∙ append-nil taken)) p
 
--- ---- in the code
+-- ---- in the code or the size, behind what stands in front of it
 
 module _ (S : ℕ) (e : Refusal) (old new : Option (List ℕ)) (before after : ℕ) (t : TakesAtVarintRefusal e old new) where
-  code_shows : (f : VarintFault) → IsFaulty f e → HasVerdict S t.taken (faulty f)
-  code_shows f given = inl (t.shows f given)
+  module _ (a : List ℕ) (shows : (f : VarintFault) → HasFaultyFront f t.taken → HasVerdict S (a ++ t.taken) (faulty f))
+      (no_sooner : (p : List ℕ) → IsProperBeginning p (a ++ t.taken) → EndsEarly S p) where
+    refused : (f : VarintFault) → after ≡ before → IsFaulty f e → Stops S e (a ++ t.taken) new before after
+    refused insufficient same given =
+        let has = shows insufficient (t.shows insufficient given) in
+        at_early_end (faulty insufficient) same tt given has (λ _. t.all given) (at_end (λ x. HasVerdict S x (faulty insufficient)) (a ++ t.taken) new (t.all given) has)
+    refused overflow same given = at_settled (faulty overflow) same (λ h. h) given (shows overflow (t.shows overflow given)) no_sooner
+    refused not_minimal same given = at_settled (faulty not_minimal) same (λ h. h) given (shows not_minimal (t.shows not_minimal given)) no_sooner
 
-  code_no_sooner : (p : List ℕ) → IsProperBeginning p t.taken → EndsEarly S p
-  code_no_sooner p b = (faulty insufficient, inl (t.no_sooner p b), tt)
-
-  code_refused : (f : VarintFault) → after ≡ before → IsFaulty f e → Stops S e t.taken new before after
-  code_refused insufficient same given =
-      at_early_end (faulty insufficient) same tt given (code_shows insufficient given) (λ _. t.all given)
-      (at_end (λ x. HasVerdict S x (faulty insufficient)) t.taken new (t.all given) (code_shows insufficient given))
-  code_refused overflow same given = at_settled (faulty overflow) same (λ h. h) given (code_shows overflow given) code_no_sooner
-  code_refused not_minimal same given = at_settled (faulty not_minimal) same (λ h. h) given (code_shows not_minimal given) code_no_sooner
+    stops_in_varint : VarintCounts before after e → Stops S e (a ++ t.taken) new before after
+    stops_in_varint (inl (rose, own)) = at_failure (faulty insufficient) rose own tt (shows insufficient (t.failed own))
+    stops_in_varint (inr (same, (f, given))) = refused f same given
 
   pub stops_in_code : VarintCounts before after e → Stops S e t.taken new before after
-  stops_in_code (inl (rose, own)) = at_failure (faulty insufficient) rose own tt (inl (t.failed own))
-  stops_in_code (inr (same, (f, given))) = code_refused f same given
+  stops_in_code = stops_in_varint [] (λ f h. inl h) (λ p b. (faulty insufficient, inl (t.no_sooner p b), tt))
 
--- ---- in the size
+  module _ (code : ℕ) (a : List ℕ) (is_code : IsVarint code a) where
+    size_no_sooner : (p : List ℕ) → IsProperBeginning p (a ++ t.taken) → EndsEarly S p
+    size_no_sooner p b =
+        elim (split_beginning a t.taken p b) [
+          | inl soon ↦ before_first S a p (varint_step code a is_code) soon
+          | inr (q, cut, more) ↦
+              (faulty insufficient, inr (q, record { code = code; code_bytes = a; is_code = is_code; cut = cut }, t.no_sooner q more), tt)
+        ]
 
-module _ (S code : ℕ) (a : List ℕ) (is_code : IsVarint code a) (e : Refusal) (old new : Option (List ℕ)) (before after : ℕ)
-    (t : TakesAtVarintRefusal e old new) where
-  size_shows : (f : VarintFault) → HasFaultyFront f t.taken → HasVerdict S (a ++ t.taken) (faulty f)
-  size_shows f h = inr (t.taken, record { code = code; code_bytes = a; is_code = is_code; cut = refl }, h)
-
-  size_no_sooner : (p : List ℕ) → IsProperBeginning p (a ++ t.taken) → EndsEarly S p
-  size_no_sooner p b =
-      elim (split_beginning a t.taken p b) [
-        | inl soon ↦ before_first S a p (varint_step code a is_code) soon
-        | inr (q, cut, more) ↦
-            (faulty insufficient, inr (q, record { code = code; code_bytes = a; is_code = is_code; cut = cut }, t.no_sooner q more), tt)
-      ]
-
-  size_refused : (f : VarintFault) → after ≡ before → IsFaulty f e → Stops S e (a ++ t.taken) new before after
-  size_refused insufficient same given =
-      at_early_end (faulty insufficient) same tt given (size_shows insufficient (t.shows insufficient given)) (λ _. t.all given)
-      (at_end (λ x. HasVerdict S x (faulty insufficient)) (a ++ t.taken) new (t.all given) (size_shows insufficient (t.shows insufficient given)))
-  size_refused overflow same given = at_settled (faulty overflow) same (λ h. h) given (size_shows overflow (t.shows overflow given)) size_no_sooner
-  size_refused not_minimal same given = at_settled (faulty not_minimal) same (λ h. h) given (size_shows not_minimal (t.shows not_minimal given)) size_no_sooner
-
-  pub stops_in_size : VarintCounts before after e → Stops S e (a ++ t.taken) new before after
-  stops_in_size (inl (rose, own)) = at_failure (faulty insufficient) rose own tt (size_shows insufficient (t.failed own))
-  stops_in_size (inr (same, (f, given))) = size_refused f same given
+    pub stops_in_size : VarintCounts before after e → Stops S e (a ++ t.taken) new before after
+    stops_in_size =
+        stops_in_varint a (λ f h. inr (t.taken, record { code = code; code_bytes = a; is_code = is_code; cut = refl }, h)) size_no_sooner
 
 -- ---- behind both varints
 

@@ -7,13 +7,14 @@ use Rattle.multihash.specs.Varint.{insufficient, overflow, not_minimal}
 use Rattle.multihash.specs.Encoding.{IsEncoding}
 use Rattle.multihash.specs.Verdict.{Verdict, accepted, invalid_size, invalid_code, faulty, unexpected_eof, HasVerdict, HasWholeVerdict, IsEarlyEnd}
 use Rattle.multihash.specs.Settling.{Settles, IsShortestSettling}
-use Rattle.std.specs.Io.KnownBytes.{IsAtEnd}
+use Rattle.std.specs.Io.KnownBytes.{IsAtEnd, prepend_known}
 use Rattle.multihash.specs.Reading.{Takes, CountsReader}
 use Rattle.multihash.specs.Fault.{Fault}
 use Rattle.multihash.specs.Refusal.{Refusal, IsReaderFault, IsEof, IsFaulty}
 use Rattle.multihash.specs.Taking.{IsReadRefusal, TakesAtRefusal, TakesShortestSettling, TakesUnsettled}
 use Rattle.multihash.specs.Answer.{Fields, pair_of, IsRefusal, Answers}
 use Rattle.multihash.proofs.Values.ValueLemmas.{digest_fits}
+use Rattle.multihash.proofs.Readings.ReadingLemmas.{IfSome-taken}
 use Rattle.multihash.proofs.Readings.VerdictLemmas.{verdict_unique}
 use Rattle.multihash.proofs.Readings.SettlingLemmas.{verdict_kept, none_settles}
 use Rattle.multihash.proofs.Readings.ShortestLemmas.{EndsEarly, before_digest, shortest_from}
@@ -121,11 +122,8 @@ stop_whole S e taken left before after (at_failure v rose own soon has) unrisen 
 pub stop_verdict : (S : ℕ) (e : Refusal) (taken : List ℕ) (old new : Option (List ℕ)) (before after : ℕ) → Takes old taken new
     → Stops S e taken new before after
     → IfSome old (λ rest. after ≡ before → (v : Verdict) × HasVerdict S rest v × IsRefusal e v)
-stop_verdict S e taken None new before after takes stop = tt
-stop_verdict S e taken (Some rest) None before after takes stop = cc
-stop_verdict S e taken (Some rest) (Some left) before after takes stop =
-    let same : rest ≡ taken ++ left = cc in
-    subst (λ (x : List ℕ). after ≡ before → (v : Verdict) × HasVerdict S x v × IsRefusal e v) (sym same) (stop_whole S e taken left before after stop)
+stop_verdict S e taken old new before after takes stop =
+    IfSome-taken old new taken _ takes (λ left is. stop_whole S e taken left before after (subst (λ o. Stops S e taken o before after) is stop))
 
 stop_shortest : (S : ℕ) (e : Refusal) (taken left : List ℕ) (before after : ℕ) → Stops S e taken (Some left) before after → after ≡ before
     → (v : Verdict) → HasVerdict S (taken ++ left) v → ¬ (IsEarlyEnd v) → IsShortestSettling S (taken ++ left) taken
@@ -138,16 +136,12 @@ stop_shortest S e taken left before after (at_failure v rose own soon has) unris
 pub stop_settled : (S : ℕ) (e : Refusal) (taken : List ℕ) (old new : Option (List ℕ)) (before after : ℕ) → Takes old taken new
     → Stops S e taken new before after
     → IfSome old (λ rest. after ≡ before → (v : Verdict) → HasVerdict S rest v → ¬ (IsEarlyEnd v) → TakesShortestSettling S rest new)
-stop_settled S e taken None new before after takes stop = tt
-stop_settled S e taken (Some rest) None before after takes stop = cc
-stop_settled S e taken (Some rest) (Some left) before after takes stop =
-    let same : taken ++ left ≡ rest = cc in λ unrisen v has stays.
-    record {
+stop_settled S e taken old new before after takes stop =
+    IfSome-taken old new taken _ takes (λ left is unrisen v has stays. record {
       front = taken;
-      shortest = subst (λ (x : List ℕ). IsShortestSettling S x taken) same
-          (stop_shortest S e taken left before after stop unrisen v (subst (λ (x : List ℕ). HasVerdict S x v) (sym same) has) stays);
-      takes = takes;
-    }
+      shortest = stop_shortest S e taken left before after (subst (λ o. Stops S e taken o before after) is stop) unrisen v has stays;
+      takes = ap (prepend_known taken) (sym is);
+    })
 
 -- an input that ends early, or a reader that failed
 abbrev pub EndsOrFails : ℕ → List ℕ → ℕ → ℕ → Type 0
@@ -163,20 +157,17 @@ stop_none S e taken left before after (at_failure v rose own soon has) why = non
 
 pub stop_unsettled : (S : ℕ) (e : Refusal) (taken : List ℕ) (old new : Option (List ℕ)) (before after : ℕ) → Takes old taken new
     → Stops S e taken new before after → IfSome old (λ rest. EndsOrFails S rest before after → TakesUnsettled S rest new)
-stop_unsettled S e taken None new before after takes stop = tt
-stop_unsettled S e taken (Some rest) None before after takes stop = cc
-stop_unsettled S e taken (Some rest) (Some left) before after takes stop =
-    let same : rest ≡ taken ++ left = cc in λ why.
-    record {
+stop_unsettled S e taken old new before after takes stop =
+    IfSome-taken old new taken _ takes (λ left is why. record {
       taken = taken;
-      takes = takes;
-      unsettled = stop_none S e taken left before after stop (subst (λ (x : List ℕ). EndsOrFails S x before after) same why);
-    }
+      takes = ap (prepend_known taken) (sym is);
+      unsettled = stop_none S e taken left before after (subst (λ o. Stops S e taken o before after) is stop) why;
+    })
 
 -- what holds of the bytes that are told
-IfSome-weaker : {P Q : List ℕ → Type 0} (o : Option (List ℕ)) → ((rest : List ℕ) → P rest → Q rest) → IfSome o P → IfSome o Q
-IfSome-weaker None f h = tt
-IfSome-weaker (Some rest) f h = f rest h
+IfSome-weaker : {P Q : List ℕ → Type 0} (o : Option (List ℕ)) → IfSome o P → ((rest : List ℕ) → P rest → Q rest) → IfSome o Q
+IfSome-weaker None h f = tt
+IfSome-weaker (Some rest) h f = f rest h
 
 -- ---- a pair
 
@@ -184,37 +175,22 @@ module _ (S : ℕ) (p : Pair) (taken : List ℕ) (encodes : IsEncoding p taken) 
   begins : (left : List ℕ) → HasVerdict S (taken ++ left) (accepted p)
   begins left = (left, record { encoding = taken; encodes = encodes; cut = refl }, fits)
 
-  pub pair_verdict : (old new : Option (List ℕ)) → Takes old taken new → IfSome old (λ rest. HasVerdict S rest (accepted p))
-  pair_verdict None new takes = tt
-  pair_verdict (Some rest) None takes = cc
-  pair_verdict (Some rest) (Some left) takes =
-      let same : rest ≡ taken ++ left = cc in subst (λ (x : List ℕ). HasVerdict S x (accepted p)) (sym same) (begins left)
+  pair_settled : (old new : Option (List ℕ)) → Takes old taken new → IfSome old (λ rest. TakesShortestSettling S rest new)
+  pair_settled old new takes = IfSome-taken old new taken _ takes (λ left is. record {
+    front = taken;
+    shortest = shortest_from S (taken ++ left) taken left (accepted p) refl
+        (subst (λ (x : List ℕ). HasVerdict S x (accepted p)) (append-nil taken) (begins [])) (λ e. e)
+        (λ y before. before_digest S p taken y encodes fits before);
+    takes = ap (prepend_known taken) (sym is);
+  })
 
-  pub pair_settled : (old new : Option (List ℕ)) → Takes old taken new → IfSome old (λ rest. TakesShortestSettling S rest new)
-  pair_settled None new takes = tt
-  pair_settled (Some rest) None takes = cc
-  pair_settled (Some rest) (Some left) takes =
-      let same : rest ≡ taken ++ left = cc in
-      record {
-        front = taken;
-        shortest = subst (λ (x : List ℕ). IsShortestSettling S x taken) (sym same)
-            (shortest_from S (taken ++ left) taken left (accepted p) refl
-            (subst (λ (x : List ℕ). HasVerdict S x (accepted p)) (append-nil taken) (begins [])) (λ e. e)
-            (λ y before. before_digest S p taken y encodes fits before));
-        takes = takes;
-      }
-
-  pub pair_unsettled : (old new : Option (List ℕ)) (before after : ℕ) → after ≡ before → Takes old taken new
+  pair_unsettled : (old new : Option (List ℕ)) (before after : ℕ) → after ≡ before → Takes old taken new
       → IfSome old (λ rest. EndsOrFails S rest before after → TakesUnsettled S rest new)
-  pair_unsettled None new before after unrisen takes = tt
-  pair_unsettled (Some rest) None before after unrisen takes = cc
-  pair_unsettled (Some rest) (Some left) before after unrisen takes =
-      let same : rest ≡ taken ++ left = cc in
-      let has : HasVerdict S rest (accepted p) = subst (λ (x : List ℕ). HasVerdict S x (accepted p)) (sym same) (begins left) in λ why.
+  pair_unsettled old new before after unrisen takes = IfSome-taken old new taken _ takes (λ left is why.
       elim why [
-        | inl rose ↦ absurd (omega arith)
-        | inr (w, holds, soon) ↦ absurd (subst IsEarlyEnd (verdict_unique S rest w (accepted p) holds has) soon)
-      ]
+        | inl rose ↦ absurd (omega (arith, rose, unrisen))
+        | inr (w, holds, soon) ↦ absurd (subst IsEarlyEnd (verdict_unique S (taken ++ left) w (accepted p) holds (begins left)) soon)
+      ])
 
 -- ---- the whole contract
 
@@ -251,13 +227,11 @@ pub read_answered : (S : ℕ) (taken : List ℕ) (old new : Option (List ℕ)) (
 read_answered S taken old new before after m unrisen encodes takes =
     let fits = digest_fits m in record {
       faults = unrisen;
-      verdict = IfSome-weaker old (λ rest h _. (accepted (pair_of m), h, refl))
-          (pair_verdict S (pair_of m) taken encodes fits old new takes);
+      verdict = IfSome-taken old new taken _ takes (λ left is _. (accepted (pair_of m), begins S (pair_of m) taken encodes fits left, refl));
       ok = (taken, encodes, takes);
       fits = fits;
       err = tt;
-      settled = IfSome-weaker old (λ rest h _ v has stays. h)
-          (pair_settled S (pair_of m) taken encodes fits old new takes);
+      settled = IfSome-weaker old (pair_settled S (pair_of m) taken encodes fits old new takes) (λ rest h _ v has stays. h);
       unsettled = pair_unsettled S (pair_of m) taken encodes fits old new before after unrisen takes;
     }
 

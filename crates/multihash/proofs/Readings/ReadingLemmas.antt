@@ -1,10 +1,10 @@
 -- What two calls took one after the other, and what stands at the front of a buffer after them.
-use Rattle.std.proofs.Common.{◌≡◌, ℕ, ◌+◌, ◌≤◌, List, [], ◌++◌, Option, None, Some, IfSome, subst, length, take, refl, sym, ap, ◌∙◌, arith, append_assoc, length-append, length-take-le}
+use Rattle.std.proofs.Common.{◌≡◌, ℕ, ◌+◌, ◌≤◌, List, [], ◌++◌, Option, None, Some, IfSome, subst, length, take, refl, sym, ap, ◌∙◌, append_assoc, length-take-le}
 use Rattle.std.proofs.lemmas.List.{take-append-le}
 use Rattle.std.proofs.Math.Seq.{take-append-add}
 use borrow.Rule.Slice.PartMut.{put_mid, post_of}
 use Rattle.std.specs.Io.KnownBytes.{prepend_known, IsAtEnd}
-use Rattle.multihash.specs.Reading.{Takes, HasFewerThan}
+use Rattle.multihash.specs.Reading.{Takes}
 
 pub prepend_known-append : (xs ys : List ℕ) (rest : Option (List ℕ)) → prepend_known xs (prepend_known ys rest) ≡ prepend_known (xs ++ ys) rest
 prepend_known-append xs ys None = refl
@@ -28,13 +28,6 @@ pub IfSome-taken : (old new : Option (List ℕ)) (taken : List ℕ) (P : List �
 IfSome-taken None new taken P takes h = tt
 IfSome-taken (Some xs) None taken P takes h = cc
 IfSome-taken (Some xs) (Some left) taken P takes h = let same : xs ≡ taken ++ left = cc in subst P (sym same) (h left refl)
-
--- fewer bytes are left after `taken` than n, so there were fewer than n and those before
-pub HasFewerThan-joined : (old new : Option (List ℕ)) (taken : List ℕ) (n : ℕ) → Takes old taken new → HasFewerThan n new → HasFewerThan (length taken + n) old
-HasFewerThan-joined None new taken n takes h = tt
-HasFewerThan-joined (Some xs) None taken n takes h = cc
-HasFewerThan-joined (Some xs) (Some left) taken n takes h =
-    let same : xs ≡ taken ++ left = cc in omega (arith, ap length same, length-append taken left, h)
 
 -- nothing was taken
 pub Takes-none : (a : Option (List ℕ)) → Takes a [] a

@@ -4,10 +4,9 @@ use Rattle.std.proofs.lemmas.List.{length-replicate}
 use Rattle.std.proofs.lemmas.List.Elements.{All-nil, All-cons, All-replicate}
 use Rattle.multihash.specs.Bytes.{IsBytes, IsBeginning}
 use Rattle.multihash.specs.Pair.{Pair, digest_limit}
-use Rattle.multihash.specs.Varint.{IsVarint, VarintFault, insufficient, overflow, not_minimal, IsInsufficient, IsNotMinimal, HasFaultyFront}
+use Rattle.multihash.specs.Varint.{IsMarked, IsVarint, VarintFault, insufficient, overflow, not_minimal, IsInsufficient, IsNotMinimal, HasFaultyFront}
 use Rattle.multihash.specs.Verdict.{Verdict, accepted, invalid_size, invalid_code, faulty, unexpected_eof, HasSize, HasCode, HasVerdict, IsEarlyEnd}
 use Rattle.multihash.specs.Settling.{Settles}
-use Rattle.multihash.proofs.Varints.DigitLemmas.{place_value-cons, place_value-nil}
 use Rattle.multihash.proofs.Readings.VerdictLemmas.{verdict_unique}
 
 -- ---- a verdict that is no early end stays
@@ -75,70 +74,28 @@ record Opens (S : ℕ) (x : List ℕ) : Type 0 where
   has : HasVerdict S (x ++ more) verdict
   stays : ¬ (IsEarlyEnd verdict)
 
-IsZeroVarint : IsVarint 0 (0 ∷ [])
-IsZeroVarint = record {
-  front = [];
-  last = 0;
-  digits = All-cons (λ d. d < 128) 0 [] (omega arith) (All-nil (λ d. d < 128));
-  minimal = λ _. refl;
-  value = rw (place_value-cons 128 0 [], place_value-nil 128) refl;
-  in_range = omega arith;
-  spelled = refl;
-}
+-- a zero ends marked bytes, and a marked byte and a zero are as bad where there are none
+open_varint : (x : List ℕ) → IsInsufficient x → (more : List ℕ) × IsBytes more × IsNotMinimal (x ++ more)
+open_varint [] h = (
+  128 ∷ 0 ∷ [],
+  All-cons (λ b. b < 256) 128 (0 ∷ []) (omega arith) (All-cons (λ b. b < 256) 0 [] (omega arith) (All-nil (λ b. b < 256))),
+  record { front = 128 ∷ []; rest = []; all_marked = All-cons IsMarked 128 [] (omega arith) (All-nil IsMarked); some = omega arith; few = omega arith; cut = refl },
+)
+open_varint (m ∷ ms) h = (
+  0 ∷ [],
+  All-cons (λ b. b < 256) 0 [] (omega arith) (All-nil (λ b. b < 256)),
+  record { front = m ∷ ms; rest = []; all_marked = h.all_marked; some = omega arith; few = h.few; cut = refl },
+)
 
-two_zeros : IsBytes (0 ∷ 0 ∷ [])
-two_zeros = All-cons (λ b. b < 256) 0 (0 ∷ []) (omega arith) (All-cons (λ b. b < 256) 0 [] (omega arith) (All-nil (λ b. b < 256)))
-
-zero_ends : (x : List ℕ) (m : ℕ) (ms : List ℕ) → x ≡ m ∷ ms → IsInsufficient x → IsNotMinimal (x ++ 0 ∷ 0 ∷ [])
-zero_ends x m ms e h = record { front = x; rest = 0 ∷ []; all_marked = h.all_marked; some = omega (arith, ap length e); few = h.few; cut = refl }
-
-open_insufficient : (S : ℕ) (x : List ℕ) → IsInsufficient x → Opens S x
-open_insufficient S [] h = record {
-  more = 0 ∷ 0 ∷ [];
-  bytes = two_zeros;
-  verdict = accepted (record { code = 0; digest = [] });
-  has = (
-    [],
-    record {
-      encoding = 0 ∷ 0 ∷ [];
-      encodes = record { code = 0 ∷ []; size = 0 ∷ []; is_code = IsZeroVarint; is_size = IsZeroVarint; spelled = refl };
-      cut = refl;
-    },
-    omega arith,
-  );
-  stays = λ e. e;
-}
-open_insufficient S (m ∷ ms) h = record {
-  more = 0 ∷ 0 ∷ [];
-  bytes = two_zeros;
-  verdict = faulty not_minimal;
-  has = inl (zero_ends (m ∷ ms) m ms refl h);
-  stays = λ e. e;
-}
+open_code : (S : ℕ) (x : List ℕ) → IsInsufficient x → Opens S x
+open_code S x h =
+    let (more, bytes, ends) = open_varint x h in
+    record { more = more; bytes = bytes; verdict = faulty not_minimal; has = inl ends; stays = λ e. e }
 
 open_size : (S : ℕ) (x rest : List ℕ) → HasCode x rest → IsInsufficient rest → Opens S x
-open_size S x [] c h = record {
-  more = 0 ∷ 0 ∷ [];
-  bytes = two_zeros;
-  verdict = accepted (record { code = c.code; digest = [] });
-  has = (
-    0 ∷ [],
-    record {
-      encoding = c.code_bytes ++ 0 ∷ [];
-      encodes = record { code = c.code_bytes; size = 0 ∷ []; is_code = c.is_code; is_size = IsZeroVarint; spelled = refl };
-      cut = append_more x c.code_bytes [] (0 ∷ 0 ∷ []) c.cut ∙ sym (append_assoc c.code_bytes (0 ∷ []) (0 ∷ []));
-    },
-    omega arith,
-  );
-  stays = λ e. e;
-}
-open_size S x (m ∷ ms) c h = record {
-  more = 0 ∷ 0 ∷ [];
-  bytes = two_zeros;
-  verdict = faulty not_minimal;
-  has = inr ((m ∷ ms) ++ 0 ∷ 0 ∷ [], code_kept x (m ∷ ms) (0 ∷ 0 ∷ []) c, zero_ends (m ∷ ms) m ms refl h);
-  stays = λ e. e;
-}
+open_size S x rest c h =
+    let (more, bytes, ends) = open_varint rest h in
+    record { more = more; bytes = bytes; verdict = faulty not_minimal; has = inr (rest ++ more, code_kept x rest more c, ends); stays = λ e. e }
 
 open_digest : (S size : ℕ) (x rest : List ℕ) → HasSize size x rest → size ≤ digest_limit S → length rest < size → Opens S x
 open_digest S size x rest h within short = record {
@@ -176,7 +133,7 @@ opens : (S : ℕ) (x : List ℕ) (v : Verdict) → IsEarlyEnd v → HasVerdict S
 opens S x (accepted p) early h = absurd early
 opens S x (invalid_size size) early h = absurd early
 opens S x (invalid_code code) early h = absurd early
-opens S x (faulty insufficient) early (inl h) = open_insufficient S x h
+opens S x (faulty insufficient) early (inl h) = open_code S x h
 opens S x (faulty insufficient) early (inr (rest, c, h)) = open_size S x rest c h
 opens S x (faulty overflow) early h = absurd early
 opens S x (faulty not_minimal) early h = absurd early

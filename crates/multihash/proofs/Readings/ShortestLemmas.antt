@@ -11,7 +11,7 @@ use Rattle.multihash.specs.Settling.{IsShortestSettling}
 use Rattle.multihash.proofs.Readings.BeginningLemmas.{split_beginning, compare_beginnings}
 use Rattle.multihash.proofs.Varints.MarkedLemmas.{All-marked}
 use Rattle.multihash.proofs.Varints.VarintLemmas.{varint_length}
-use Rattle.multihash.proofs.Writings.WritingLemmas.{some_items}
+use Rattle.multihash.proofs.Writings.WritingLemmas.{length_of_not_nil}
 use Rattle.multihash.proofs.Readings.SettlingLemmas.{early_not_settles, late_settles}
 
 -- ---- the shortest that settles
@@ -40,7 +40,7 @@ before_step t p s (rest, some, cut) = record { few = omega (arith, s.few, short)
     same = sym s.cut ∙ cut
 
     short : length p ≤ length s.front
-    short = omega (arith, ap length same, length-append s.front (s.last ∷ []), length-append p rest, some_items rest some)
+    short = omega (arith, ap length same, length-append s.front (s.last ∷ []), length-append p rest, length_of_not_nil rest some)
 
     marks : All IsMarked p
     marks k d below =
@@ -86,7 +86,7 @@ before_digest S p t x e fits (rest, some, cut) =
               cut = y_cut ∙ ap (λ (w : List ℕ). e.code ++ w) z_cut;
             },
             fits,
-            omega (arith, ap length d_cut, length-append z left, some_items left nonempty),
+            omega (arith, ap length d_cut, length-append z left, length_of_not_nil left nonempty),
           ),
           tt,
         )
@@ -127,14 +127,14 @@ shows_fault not_minimal x late h = record {
   has = record { front = h.front; rest = []; all_marked = h.all_marked; some = h.some; few = h.few; cut = refl };
 }
 
--- of a pair, its encoding
+-- the shortest beginning that settles a pair is its encoding
 pub shortest_pair : (S : ℕ) (p : Pair) (x rest : List ℕ) (b : BeginsWith p x rest) → FitsBuffer S p → IsShortestSettling S x b.encoding
 shortest_pair S p x rest b fits =
     shortest_from S x b.encoding rest (accepted p) b.cut
     ([], record { encoding = b.encoding; encodes = b.encodes; cut = sym (append-nil b.encoding) }, fits) (λ e. e)
     (λ y before. before_digest S p b.encoding y b.encodes fits before)
 
--- of a size that is too large, both varints
+-- that of a size that is too large is both varints
 pub shortest_size : (S size : ℕ) (x rest : List ℕ) (h : HasSize size x rest) → digest_limit S < size
     → IsShortestSettling S x (h.code_bytes ++ h.size_bytes)
 shortest_size S size x rest h over =
@@ -152,12 +152,12 @@ shortest_size S size x rest h over =
       cut = ap (λ (z : List ℕ). h.code_bytes ++ z) (sym (append-nil h.size_bytes));
     }
 
--- of a fault in the code, what shows it
+-- that of a fault in the code is what shows it
 pub shortest_code_fault : (S : ℕ) (f : VarintFault) (x : List ℕ) → ¬ (IsEarlyEnd (faulty f)) → (s : ShowsFault f x) → IsShortestSettling S x s.shown
 shortest_code_fault S f x late s =
     shortest_from S x s.shown s.rest (faulty f) s.cut (inl s.has) late (λ y before. before_first S s.shown y s.step before)
 
--- of a fault in the size, the code and what shows it
+-- that of a fault in the size is the code and what shows it
 pub shortest_size_fault : (S : ℕ) (f : VarintFault) (x rest : List ℕ) → ¬ (IsEarlyEnd (faulty f)) → (c : HasCode x rest) (s : ShowsFault f rest)
     → IsShortestSettling S x (c.code_bytes ++ s.shown)
 shortest_size_fault S f x rest late c s =

@@ -4,12 +4,12 @@ use Rattle.std.proofs.lemmas.Bool.{cases_lt, lt-ltb, le-ltb}
 use Rattle.std.proofs.lemmas.List.{take_at, take-append-drop, length-take-le, append_cancel_left, append_cancel_right, nil_from_length}
 use Rattle.std.proofs.lemmas.List.Elements.{All-same}
 use Rattle.multihash.specs.Bytes.{IsBytes}
-use Rattle.multihash.specs.Pair.{Pair, FitsBuffer, digest_limit}
+use Rattle.multihash.specs.Pair.{Pair, digest_limit}
 use Rattle.multihash.specs.Varint.{varint_limit, IsVarint}
 use Rattle.multihash.specs.Encoding.{IsEncoding}
-use Rattle.multihash.specs.Verdict.{Verdict, accepted, invalid_size, invalid_code, faulty, unexpected_eof, BeginsWith, HasSize, HasVerdict, HasWholeVerdict}
+use Rattle.multihash.specs.Verdict.{Verdict, accepted, invalid_size, invalid_code, faulty, unexpected_eof, BeginsWith, HasSize, HasCode, HasVerdict, HasWholeVerdict}
 use Rattle.multihash.proofs.Varints.MarkedLemmas.{All-append_right}
-use Rattle.multihash.proofs.Varints.VarintLemmas.{varint_exists, varint_unique, Front, number, fault, HasFront, front_unique, front_of, front_of_has, front_exists}
+use Rattle.multihash.proofs.Varints.VarintLemmas.{varint_exists, varint_unique, Front, number, fault, HasFront, front_is, front_unique, front_of, front_of_has}
 
 -- ---- encodings
 
@@ -55,7 +55,7 @@ encoding_exists p code size =
     let s = varint_exists (length p.digest) size in
     (c.0 ++ (s.0 ++ p.digest), record { code = c.0; size = s.0; is_code = c.1; is_size = s.1; spelled = refl })
 
--- ---- one verdict
+-- ---- the verdict, computed
 
 -- the verdict on a size and what follows it
 abbrev pub judged : ℕ → ℕ → Front → Verdict
@@ -64,29 +64,27 @@ judged S code (number size rest) =
     (cond (ltb (length rest) size) unexpected_eof (accepted (record { code = code; digest = take size rest })))
 judged S code (fault f) = faulty f
 
--- the verdict on what follows a front
-abbrev After : ℕ → Front → Verdict → Type 0
-After S (number code rest) v = (g : Front) × HasFront rest g × (v ≡ judged S code g)
-After S (fault f) v = v ≡ faulty f
+abbrev follows : ℕ → Front → Verdict
+follows S (number code rest) = judged S code (front_of rest)
+follows S (fault f) = faulty f
 
-after_unique : (S : ℕ) (f : Front) (v w : Verdict) → After S f v → After S f w → v ≡ w
-after_unique S (number code rest) v w (g, h, e) (k, j, d) =
-    e ∙ (ap (judged S code) (front_unique rest g k h j) ∙ sym d)
-after_unique S (fault f) v w e d = e ∙ sym d
+abbrev pub found : ℕ → List ℕ → Verdict
+found S x = follows S (front_of x)
 
-abbrev Trace : ℕ → List ℕ → Verdict → Type 0
-Trace S x v = (f : Front) × HasFront x f × After S f v
+judged_at : (S : ℕ) (x rest : List ℕ) (c : HasCode x rest) (g : Front) → HasFront rest g → judged S c.code g ≡ found S x
+judged_at S x rest c g has =
+    ap (judged S c.code) (front_is rest g has) ∙ ap (follows S) (front_is x (number c.code rest) (c.code_bytes, c.is_code, c.cut))
 
-trace_size : (S size : ℕ) (x rest : List ℕ) (v : Verdict) (h : HasSize size x rest)
-    → v ≡ judged S h.code (number size rest) → Trace S x v
-trace_size S size x rest v h e =
-    (number h.code (h.size_bytes ++ rest), (h.code_bytes, h.is_code, h.cut), (number size rest, (h.size_bytes, h.is_size, refl), e))
+judged_size : (S size : ℕ) (x rest : List ℕ) (h : HasSize size x rest) → judged S h.code (number size rest) ≡ found S x
+judged_size S size x rest h =
+    judged_at S x (h.size_bytes ++ rest) (record { code = h.code; code_bytes = h.code_bytes; is_code = h.is_code; cut = h.cut }) (number size rest)
+    (h.size_bytes, h.is_size, refl)
 
-trace_pair : (S : ℕ) (x rest : List ℕ) (p : Pair) → BeginsWith p x rest → FitsBuffer S p → Trace S x (accepted p)
-trace_pair S x rest p b fits =
-    trace_size S (length p.digest) x (p.digest ++ rest)
-    (accepted p)
-    (record {
+-- an input has no verdict but that one
+pub verdict_is : (S : ℕ) (x : List ℕ) (v : Verdict) → HasVerdict S x v → v ≡ found S x
+verdict_is S x (accepted p) (rest, b, fits) =
+    rw (le-ltb (digest_limit S) (length p.digest) fits, le-ltb (length (p.digest ++ rest)) (length p.digest) (omega (arith, length-append p.digest rest)), take_at p.digest rest (length p.digest) refl) refl
+    ∙ judged_size S (length p.digest) x (p.digest ++ rest) (record {
       code = p.code;
       code_bytes = b.encodes.code;
       size_bytes = b.encodes.size;
@@ -94,24 +92,15 @@ trace_pair S x rest p b fits =
       is_size = b.encodes.is_size;
       cut = b.cut ∙ encoding_cut p b.encoding rest b.encodes;
     })
-    (rw (le-ltb (digest_limit S) (length p.digest) fits, le-ltb (length (p.digest ++ rest)) (length p.digest) (omega (arith, length-append p.digest rest)), take_at p.digest rest (length p.digest) refl) refl)
+verdict_is S x (invalid_size size) (rest, h, over) = rw (lt-ltb (digest_limit S) size over) refl ∙ judged_size S size x rest h
+verdict_is S x (invalid_code code) h = absurd h
+verdict_is S x (faulty f) (inl h) = ap (follows S) (front_is x (fault f) h)
+verdict_is S x (faulty f) (inr (rest, c, h)) = judged_at S x rest c (fault f) h
+verdict_is S x unexpected_eof (size, rest, h, within, short) =
+    rw (le-ltb (digest_limit S) size within, lt-ltb (length rest) size short) refl ∙ judged_size S size x rest h
 
-trace : (S : ℕ) (x : List ℕ) (v : Verdict) → HasVerdict S x v → Trace S x v
-trace S x (accepted p) (rest, b, fits) = trace_pair S x rest p b fits
-trace S x (invalid_size size) (rest, h, over) = trace_size S size x rest (invalid_size size) h (rw (lt-ltb (digest_limit S) size over) refl)
-trace S x (invalid_code code) h = absurd h
-trace S x (faulty f) (inl h) = (fault f, h, refl)
-trace S x (faulty f) (inr (rest, c, h)) = (number c.code rest, (c.code_bytes, c.is_code, c.cut), (fault f, h, refl))
-trace S x unexpected_eof (size, rest, h, within, short) =
-    trace_size S size x rest unexpected_eof h (rw (le-ltb (digest_limit S) size within, lt-ltb (length rest) size short) refl)
-
--- an input has at most one verdict
 pub verdict_unique : (S : ℕ) (x : List ℕ) (v w : Verdict) → HasVerdict S x v → HasVerdict S x w → v ≡ w
-verdict_unique S x v w h k =
-    let a = trace S x v h in
-    let b = trace S x w k in
-    let moved : After S b.0 v = subst (λ (f : Front). After S f v) (front_unique x a.0 b.0 a.1 b.1) a.2 in
-    after_unique S b.0 v w moved b.2
+verdict_unique S x v w h k = verdict_is S x v h ∙ sym (verdict_is S x w k)
 
 -- ---- some verdict
 
@@ -162,36 +151,16 @@ behind_code S code x r a is_code cut (fault f) h = (faulty f, inr (r, record { c
 
 from_front : (S : ℕ) (x : List ℕ) → IsBytes x → (f : Front) → HasFront x f → (v : Verdict) × HasVerdict S x v
 from_front S x bytes (number code r) (a, is_code, e) =
-    let g = front_exists r (All-append_right (λ byte. byte < 256) a r (All-same (λ byte. byte < 256) (a ++ r) x (sym e) bytes)) in
-    behind_code S code x r a is_code e g.0 g.1
+    behind_code S code x r a is_code e (front_of r)
+    (front_of_has r (All-append_right (λ byte. byte < 256) a r (All-same (λ byte. byte < 256) (a ++ r) x (sym e) bytes)))
 from_front S x bytes (fault f) h = (faulty f, inl h)
 
 pub verdict_exists : (S : ℕ) (x : List ℕ) → IsBytes x → (v : Verdict) × HasVerdict S x v
-verdict_exists S x bytes = let f = front_exists x bytes in from_front S x bytes f.0 f.1
+verdict_exists S x bytes = from_front S x bytes (front_of x) (front_of_has x bytes)
 
--- ---- the verdict, computed
-
-abbrev follows : ℕ → Front → Verdict
-follows S (number code rest) = judged S code (front_of rest)
-follows S (fault f) = faulty f
-
-abbrev pub found : ℕ → List ℕ → Verdict
-found S x = follows S (front_of x)
-
-after_is : (S : ℕ) (x : List ℕ) (f : Front) (v : Verdict) → IsBytes x → HasFront x f → After S f v → v ≡ follows S f
-after_is S x (number code rest) v bytes (a, is, cut) (g, has, e) =
-    let behind = All-append_right (λ byte. byte < 256) a rest (All-same (λ byte. byte < 256) (a ++ rest) x (sym cut) bytes) in
-    e ∙ ap (judged S code) (front_unique rest g (front_of rest) has (front_of_has rest behind))
-after_is S x (fault f) v bytes h e = e
-
-pub verdict_is : (S : ℕ) (x : List ℕ) (v : Verdict) → IsBytes x → HasVerdict S x v → v ≡ found S x
-verdict_is S x v bytes h =
-    let (f, has, after) = trace S x v h in
-    let own = front_of_has x bytes in
-    after_is S x (front_of x) v bytes own (subst (λ (g : Front). After S g v) (front_unique x f (front_of x) has own) after)
-
+-- and it is the one that is computed
 pub has_found : (S : ℕ) (x : List ℕ) → IsBytes x → HasVerdict S x (found S x)
-has_found S x bytes = let (v, h) = verdict_exists S x bytes in subst (HasVerdict S x) (verdict_is S x v bytes h) h
+has_found S x bytes = let (v, h) = verdict_exists S x bytes in subst (HasVerdict S x) (verdict_is S x v h) h
 
 -- ---- the verdict on the whole
 

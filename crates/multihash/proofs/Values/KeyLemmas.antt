@@ -6,7 +6,7 @@ use Rattle.std.specs.declared.cmp.Ordering.TheVariants.{Less, Equal, Greater}
 use Rattle.multihash.specs.Pair.{Pair}
 use Rattle.multihash.specs.Order.{Compares}
 use Rattle.multihash.specs.Comparing.{compare_pairs}
-use Rattle.multihash.proofs.Values.OrderLemmas.{compares_by_parts}
+use Rattle.multihash.proofs.Values.OrderLemmas.{Compares-computed}
 use Rattle.multihash.proofs.Values.PairLemmas.{IsSame-equal}
 
 same_order : (p q : Pair) (o : Ordering) → Compares p q o → is_eq o ≡ true → p ≡ q
@@ -18,5 +18,5 @@ pub other_key : (p q : Pair) → ¬ (q ≡ p) → is_eq (compare_pairs p q) ≡ 
 other_key p q other = by (is_eq (compare_pairs p q)) refl
   where
     by : (b : Bool) → is_eq (compare_pairs p q) ≡ b → b ≡ false
-    by true e = absurd (other (sym (same_order p q (compare_pairs p q) (compares_by_parts p q _ _ _ refl refl refl) e)))
+    by true e = absurd (other (sym (same_order p q (compare_pairs p q) (Compares-computed p q _ _ _ refl refl refl) e)))
     by false e = refl

@@ -13,9 +13,6 @@ pub varint_bytes : (n : ℕ) (bytes : List ℕ) (v : IsVarint n bytes) → lengt
 varint_bytes n bytes v =
     omega (arith, ap length v.spelled, length-append (marked v.front) (v.last ∷ []), length-map v.front (λ digit. digit + 128))
 
-pub varint_some : (n : ℕ) (bytes : List ℕ) → IsVarint n bytes → 0 < length bytes
-varint_some n bytes v = omega (arith, varint_bytes n bytes v)
-
 pub varint_longest : (n : ℕ) (bytes : List ℕ) → IsVarint n bytes → length bytes ≤ most_marked + 1
 varint_longest n bytes v = omega (arith, varint_bytes n bytes v, (varint_length n bytes v).0)
 
@@ -35,11 +32,6 @@ pub encoding_bytes_count : (p : Pair) (bytes : List ℕ) (e : IsEncoding p bytes
     → length bytes ≡ length e.code + length e.size + length p.digest
 encoding_bytes_count p bytes e =
     omega (arith, ap length e.spelled, length-append e.code (e.size ++ p.digest), length-append e.size p.digest)
-
--- an encoding has two bytes at least
-pub encoding_shortest : (p : Pair) (bytes : List ℕ) → IsEncoding p bytes → 2 ≤ length bytes
-encoding_shortest p bytes e =
-    omega (arith, encoding_bytes_count p bytes e, varint_some p.code e.code e.is_code, varint_some (length p.digest) e.size e.is_size)
 
 -- the longest encoding: the code's bytes, two of the size, and the digest
 pub encoding_length : (p : Pair) (bytes : List ℕ) → IsEncoding p bytes → length p.digest ≤ 255

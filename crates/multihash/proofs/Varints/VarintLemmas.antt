@@ -7,9 +7,9 @@ use Rattle.std.proofs.lemmas.Bool.{cases_lt, lt-ltb, le-ltb}
 use Rattle.std.proofs.lemmas.List.{length-map, map-append}
 use Rattle.std.proofs.lemmas.List.Elements.{All-nil, All-cons, All-head, All-tail, All-push}
 use Rattle.multihash.specs.Bytes.{IsBytes, place_value}
-use Rattle.multihash.specs.Varint.{varint_limit, most_marked, first_too_large, IsMarked, marked, IsVarint, VarintFault, insufficient, overflow, not_minimal, IsInsufficient, IsOverflow, IsNotMinimal, HasFaultyFront}
+use Rattle.multihash.specs.Varint.{varint_limit, most_marked, first_too_large, IsMarked, marked, IsVarint, VarintFault, insufficient, overflow, not_minimal, HasFaultyFront}
 use Rattle.multihash.proofs.Varints.DigitLemmas.{place_value-nil, place_value-cons, place_value_below, place_value_last}
-use Rattle.multihash.proofs.Varints.MarkedLemmas.{All-append_right, cut_unique, run_within, All-marked, marked-unique, unmarked, marked-unmarked, unmarked_digits, unmarked-nil, length-unmarked}
+use Rattle.multihash.proofs.Varints.MarkedLemmas.{All-append_right, All-marked, unmarked, marked-unmarked, unmarked-marked, unmarked_digits, unmarked-nil, unmarked-cons, length-unmarked}
 
 abbrev IsDigit : ℕ → Type 0
 IsDigit d = d < 128
@@ -191,75 +191,6 @@ spelled_front n x rest bytes v e = e ∙ (ap (λ (b : List ℕ). b ++ rest) v.sp
 last_digit : (n : ℕ) (bytes : List ℕ) (v : IsVarint n bytes) → v.last < 128
 last_digit n bytes v = All-head IsDigit v.last [] (All-append_right IsDigit v.front (v.last ∷ []) v.digits)
 
-number_number : (x : List ℕ) (m n : ℕ) (r q : List ℕ) → HasFront x (number m r) → HasFront x (number n q) → (m ≡ n) × (r ≡ q)
-number_number x m n r q (a, v, e) (b, w, d) =
-    let same = cut_unique (marked v.front) (marked w.front) v.last w.last r q (All-marked v.front) (All-marked w.front)
-    (last_digit m a v) (last_digit n b w) (sym (spelled_front m x r a v e) ∙ spelled_front n x q b w d) in
-    let fronts : v.front ≡ w.front = marked-unique v.front w.front same.0 in
-    let digits : v.front ++ v.last ∷ [] ≡ w.front ++ w.last ∷ [] = cc (fronts, same.1) in
-    (sym v.value ∙ (ap (place_value 128) digits ∙ w.value), same.2)
-
--- marked bytes with an unmarked one behind them are no whole input of marked ones
-ends_not_whole : (x ms : List ℕ) (b : ℕ) (r : List ℕ) → b < 128 → x ≡ ms ++ b ∷ r → All IsMarked x → ⊥
-ends_not_whole x ms b r small e all =
-    let within : length x ≤ length ms = run_within ms x b r [] all small (sym e ∙ sym (append-nil x)) in
-    omega (arith, within, ap length e, length-append ms (b ∷ r))
-
--- an overflow leaves more marked bytes than a varint has, or another byte behind as many
-overflow_not_ends : (x ms : List ℕ) (b : ℕ) (r : List ℕ) → All IsMarked ms → b < 128 → x ≡ ms ++ b ∷ r
-    → length ms ≤ most_marked → (length ms ≡ most_marked → b < first_too_large) → ¬ (IsOverflow x)
-overflow_not_ends x ms b r all small e few most o =
-    elim (cases_lt o.byte 128) [
-      | inl low ↦
-          let same = cut_unique ms o.front b o.byte r o.rest all o.all_marked small low (sym e ∙ o.cut) in
-          let long : length ms ≡ most_marked = ap length same.0 ∙ o.most in
-          omega (arith, most long, same.1, o.too_large)
-      | inr high ↦
-          let longer = o.front ++ o.byte ∷ [] in
-          let within = run_within ms longer b r o.rest (All-push IsMarked o.front o.byte o.all_marked high) small
-          (sym e ∙ (o.cut ∙ sym (append_assoc o.front (o.byte ∷ []) o.rest))) in
-          omega (arith, within, length-append o.front (o.byte ∷ []), o.most)
-    ]
-
-pub number_no_fault : (x : List ℕ) (n : ℕ) (r : List ℕ) (f : VarintFault) → HasFront x (number n r) → HasFaultyFront f x → ⊥
-number_no_fault x n r insufficient (a, v, e) h =
-    ends_not_whole x (marked v.front) v.last r (last_digit n a v) (spelled_front n x r a v e) h.all_marked
-number_no_fault x n r overflow (a, v, e) h =
-    let len = varint_length n a v in
-    overflow_not_ends x (marked v.front) v.last r (All-marked v.front) (last_digit n a v) (spelled_front n x r a v e)
-    (omega (arith, len.0, length-map v.front (λ d. d + 128))) (λ m. len.1 (sym (length-map v.front (λ d. d + 128)) ∙ m)) h
-number_no_fault x n r not_minimal (a, v, e) h =
-    let same = cut_unique (marked v.front) h.front v.last 0 r h.rest (All-marked v.front) h.all_marked (last_digit n a v) (omega arith)
-    (sym (spelled_front n x r a v e) ∙ h.cut) in
-    omega (arith, ap length same.0, ap length (v.minimal same.1), length-map v.front (λ d. d + 128), h.some)
-
-insufficient_no_overflow : (x : List ℕ) → IsInsufficient x → IsOverflow x → ⊥
-insufficient_no_overflow x h o = omega (arith, h.few, ap length o.cut, length-append o.front (o.byte ∷ o.rest), o.most)
-
-insufficient_no_zero : (x : List ℕ) → IsInsufficient x → IsNotMinimal x → ⊥
-insufficient_no_zero x h z = ends_not_whole x z.front 0 z.rest (omega arith) z.cut h.all_marked
-
-overflow_no_zero : (x : List ℕ) → IsOverflow x → IsNotMinimal x → ⊥
-overflow_no_zero x o z = overflow_not_ends x z.front 0 z.rest z.all_marked (omega arith) z.cut z.few (λ _. omega arith) o
-
-fault_unique : (x : List ℕ) (f g : VarintFault) → HasFaultyFront f x → HasFaultyFront g x → f ≡ g
-fault_unique x insufficient insufficient a b = refl
-fault_unique x insufficient overflow a b = absurd (insufficient_no_overflow x a b)
-fault_unique x insufficient not_minimal a b = absurd (insufficient_no_zero x a b)
-fault_unique x overflow insufficient a b = absurd (insufficient_no_overflow x b a)
-fault_unique x overflow overflow a b = refl
-fault_unique x overflow not_minimal a b = absurd (overflow_no_zero x a b)
-fault_unique x not_minimal insufficient a b = absurd (insufficient_no_zero x b a)
-fault_unique x not_minimal overflow a b = absurd (overflow_no_zero x b a)
-fault_unique x not_minimal not_minimal a b = refl
-
--- an input has one front
-pub front_unique : (x : List ℕ) (a b : Front) → HasFront x a → HasFront x b → a ≡ b
-front_unique x (number m r) (number n q) h k = let same = number_number x m n r q h k in cc (same.0, same.1)
-front_unique x (number m r) (fault g) h k = absurd (number_no_fault x m r g h k)
-front_unique x (fault f) (number n q) h k = absurd (number_no_fault x n q f k h)
-front_unique x (fault f) (fault g) h k = ap fault (fault_unique x f g h k)
-
 -- digits that may end where they do are a varint
 pub varint_from_digits : (front : List ℕ) (last : ℕ) → All IsDigit front → last < 128 → length front ≤ most_marked
     → (length front ≡ most_marked → last < first_too_large) → (last ≡ 0 → front ≡ [])
@@ -300,6 +231,59 @@ front_from (suc left) ds (b ∷ rest) = cond (ltb b 128) (ends_with ds b rest) (
 abbrev pub front_of : List ℕ → Front
 front_of x = front_from most_marked [] x
 
+-- marked bytes are digits in front of what follows them
+front_run : (ms : List ℕ) (n left : ℕ) (ds y : List ℕ) → All IsMarked ms → n ≡ length ms + left
+    → front_from n ds (ms ++ y) ≡ front_from left (ds ++ unmarked ms) y
+front_run [] n left ds y all room = let same : n ≡ left = omega (arith, room) in rw (same, unmarked-nil, append-nil ds) refl
+front_run (m ∷ ms) zero left ds y all room = absurd (omega (arith, room))
+front_run (m ∷ ms) (suc n) left ds y all room =
+    rw (le-ltb m 128 (All-head IsMarked m ms all))
+    (front_run ms n left (ds ++ (m - 128) ∷ []) y (All-tail IsMarked m ms all) (omega (arith, room))
+    ∙ ap (λ z. front_from left z y) (append_assoc ds ((m - 128) ∷ []) (unmarked ms) ∙ ap (λ z. ds ++ z) (sym (unmarked-cons m ms))))
+
+front_behind : (ms y x : List ℕ) → All IsMarked ms → length ms ≤ most_marked → x ≡ ms ++ y
+    → front_of x ≡ front_from (most_marked - length ms) (unmarked ms) y
+front_behind ms y x all few cut = ap front_of cut ∙ front_run ms most_marked (most_marked - length ms) [] y all (omega (arith, few))
+
+front_last : (left : ℕ) (ds : List ℕ) (b : ℕ) (rest : List ℕ) → b < 128 → (left ≡ 0 → b < first_too_large)
+    → front_from left ds (b ∷ rest) ≡ ends_with ds b rest
+front_last zero ds b rest small most = rw (lt-ltb b first_too_large (most refl)) refl
+front_last (suc left) ds b rest small most = rw (lt-ltb b 128 small) refl
+
+ends_number : (ds : List ℕ) (b : ℕ) (rest : List ℕ) → (b ≡ 0 → ds ≡ []) → ends_with ds b rest ≡ number (place_value 128 (ds ++ b ∷ [])) rest
+ends_number [] b rest minimal = refl
+ends_number (d ∷ ds) zero rest minimal = let none = minimal refl in cc
+ends_number (d ∷ ds) (suc b) rest minimal = refl
+
+ends_zero : (ds rest : List ℕ) → 0 < length ds → ends_with ds 0 rest ≡ fault not_minimal
+ends_zero [] rest some = absurd (omega arith)
+ends_zero (d ∷ ds) rest some = refl
+
+-- an input has no front but the one that is computed
+pub front_is : (x : List ℕ) (f : Front) → HasFront x f → f ≡ front_of x
+front_is x (number n rest) (bytes, v, cut) =
+    let few = varint_length n bytes v in
+    let long : length (marked v.front) ≡ length v.front = length-map v.front (λ d. d + 128) in
+    sym (rw (unmarked-marked v.front) at
+    (front_behind (marked v.front) (v.last ∷ rest) x (All-marked v.front) (omega (arith, few.0, long)) (spelled_front n x rest bytes v cut))
+    ∙ (front_last (most_marked - length (marked v.front)) v.front v.last rest (last_digit n bytes v) (λ none. few.1 (omega (arith, none, few.0, long)))
+    ∙ (ends_number v.front v.last rest v.minimal ∙ ap (λ m. number m rest) v.value)))
+front_is x (fault insufficient) h = sym (front_behind x [] x h.all_marked h.few (sym (append-nil x)))
+front_is x (fault overflow) h =
+    sym (ap front_of h.cut ∙ (front_run h.front most_marked 0 [] (h.byte ∷ h.rest) h.all_marked (omega (arith, h.most))
+    ∙ rw (le-ltb h.byte first_too_large h.too_large) refl))
+front_is x (fault not_minimal) h =
+    sym (front_behind h.front (0 ∷ h.rest) x h.all_marked h.few h.cut
+    ∙ (front_last (most_marked - length h.front) (unmarked h.front) 0 h.rest (omega arith) (λ _. omega arith)
+    ∙ ends_zero (unmarked h.front) h.rest (omega (arith, length-unmarked h.front, h.some))))
+
+pub front_unique : (x : List ℕ) (a b : Front) → HasFront x a → HasFront x b → a ≡ b
+front_unique x a b h k = front_is x a h ∙ sym (front_is x b k)
+
+pub number_no_fault : (x : List ℕ) (n : ℕ) (r : List ℕ) (f : VarintFault) → HasFront x (number n r) → HasFaultyFront f x → ⊥
+number_no_fault x n r f h k = let same : number n r ≡ fault f = front_unique x (number n r) (fault f) h k in cc
+
+-- and an input of bytes has that one
 ends_has : (ds : List ℕ) (b : ℕ) (rest x : List ℕ) → All IsDigit ds → b < 128 → length ds ≤ most_marked → (length ds ≡ most_marked → b < first_too_large)
     → x ≡ marked ds ++ b ∷ rest → HasFront x (ends_with ds b rest)
 ends_has [] b rest x digits small few most cut = (b ∷ [], varint_from_digits [] b digits small few most (λ _. refl), cut)
@@ -333,7 +317,3 @@ front_has (suc left) ds (b ∷ rest) x digits room bytes cut =
 
 pub front_of_has : (x : List ℕ) → IsBytes x → HasFront x (front_of x)
 front_of_has x bytes = front_has most_marked [] x x (All-nil IsDigit) refl bytes refl
-
--- an input of bytes has a front
-pub front_exists : (x : List ℕ) → IsBytes x → (f : Front) × HasFront x f
-front_exists x bytes = (front_of x, front_of_has x bytes)

@@ -121,7 +121,7 @@ before_end front sum h shorter (rest, some, cut) =
     before_last front sum 0 h shorter
     (rest ++ 0 ∷ [], (λ none. omega (arith, ap length none, length_push rest 0)), ap (λ z. z ++ 0 ∷ []) cut ∙ append_assoc shorter rest (0 ∷ []))
 
--- what an `if` of two tests left
+-- what is known behind `a && b`
 pub first_of_two : (A B : Type 0) → (A × B) ⊎ (A → ⊥) → A → B
 first_of_two A B (inl both) a = both.1
 first_of_two A B (inr none) a = absurd (none a)

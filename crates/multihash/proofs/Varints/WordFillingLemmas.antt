@@ -1,10 +1,10 @@
 -- The word that the bytes of a slice fill.
-use Rattle.std.proofs.Common.{◌≡◌, ℕ, zero, suc, ◌+◌, ◌^◌, ◌<◌, ◌≤◌, List, [], ◌∷◌, ◌++◌, length, get_or, take, drop, replicate, Some, refl, sym, ap, ◌∙◌, inl, inr, arith, length-append, length-drop}
+use Rattle.std.proofs.Common.{◌≡◌, ℕ, zero, suc, ◌+◌, ◌^◌, ◌<◌, ◌≤◌, List, [], ◌∷◌, ◌++◌, length, get_or, take, drop, replicate, refl, sym, ap, ◌∙◌, inl, inr, arith, length-append, length-drop}
 use Prim.Native.Nat.{min}
 use Rattle.std.specs.List.{All}
 use Rattle.std.specs.Int.{byte_worth, sum_through, from_le_bytes, w128}
 use Rattle.std.proofs.lemmas.Bool.{cases_lt}
-use Rattle.std.proofs.lemmas.List.{length-replicate, length-take, length-take-le, take_more, take_all, take-append-drop}
+use Rattle.std.proofs.lemmas.List.{length-replicate, length-take, length-take-le, take_more, take_all}
 use Rattle.std.proofs.lemmas.List.Elements.{All-head, All-tail, All-drop, All-replicate, All-from_get_or}
 use Rattle.multihash.specs.Bytes.{IsBytes, place_value}
 use Rattle.multihash.specs.Word.{IsFrontWord}
@@ -49,10 +49,6 @@ padded_word xs ys same few =
 
 pub bytes_of : (xs : List ℕ) → ((i : ℕ) → get_or xs i 0 < 256) → IsBytes xs
 bytes_of xs each = All-from_get_or (λ b. b < 256) xs 0 (λ i _. each i)
-
--- a slice is its first bytes and those from there on
-pub takes_front : (xs : List ℕ) (n : ℕ) → Some xs ≡ Some (take n xs ++ drop n xs)
-takes_front xs n = ap Some (sym (take-append-drop n xs))
 
 -- the word of a slice's first sixteen bytes
 pub whole_front : (xs front : List ℕ) (word : ℕ) → word ≡ from_le_bytes w128 front → front ≡ take 16 xs → 16 ≤ length xs

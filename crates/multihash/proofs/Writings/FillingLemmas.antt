@@ -7,7 +7,7 @@ use Rattle.multihash.specs.Writing.{AppendsPart, CountsWriter}
 use Rattle.multihash.specs.Refusal.{Refusal, IsIo}
 use Rattle.multihash.specs.declared.no_std_io.slice_writer.SliceWriter.{SliceWriter}
 use Rattle.multihash.proofs.Writings.PlacesLemmas.{full_of_faults}
-use Rattle.multihash.proofs.Writings.WritingLemmas.{some_items}
+use Rattle.multihash.proofs.Writings.WritingLemmas.{length_of_not_nil}
 
 -- filling keeps the number of places
 pub filled_length : (old bytes new : List ℕ) (n m : ℕ) → FillsPlaces old n bytes new m → length new ≡ length old
@@ -34,15 +34,15 @@ fewer_left old new bytes h full =
       filled_length old.places.now h.part new.places.now old.filled new.filled h.stands.fills,
       ap length h.proper.2,
       length-append h.part h.proper.0,
-      some_items h.proper.0 h.proper.1,
+      length_of_not_nil h.proper.0 h.proper.1,
     )
 
 -- `write`, `scale_encode` and `write_list` succeed where a place is left for each byte: the two facts are their
 -- clauses `err` and `faults`
-pub filler_takes_all : {T : Type 0} (old new : SliceWriter) (IsForm : List ℕ → Type 0) (r : Result T Refusal)
+pub slice_writer_has_room : {T : Type 0} (old new : SliceWriter) (IsForm : List ℕ → Type 0) (r : Result T Refusal)
     → OnErr r ((bytes : List ℕ) × IsForm bytes × AppendsPart Fills old bytes new) → CountsWriter IsIo false 0 0 (IsFilled new) r
     → ((bytes : List ℕ) → IsForm bytes → old.filled + length bytes ≤ length old.places.now) → IsOk r
-filler_takes_all old new IsForm (Ok x) stopped faults enough = refl
-filler_takes_all old new IsForm (Err e) stopped faults enough =
+slice_writer_has_room old new IsForm (Ok x) stopped faults enough = refl
+slice_writer_has_room old new IsForm (Err e) stopped faults enough =
     let (bytes, is_form, part) = stopped in
     absurd (omega (arith, fewer_left old new bytes part (full_of_faults 0 (IsFilled new) faults.0 faults.2), enough bytes is_form))

@@ -1,13 +1,14 @@
 -- What stands appended after several writes, and what part of a buffer does.
-use Rattle.std.proofs.Common.{◌≡◌, ◌≢◌, ◌<◌, [], ◌∷◌, refl, ℕ, ◌-◌, List, ◌++◌, length, take, drop, Result, Ok, Err, OnErr, sym, ap, ◌∙◌, arith, append_assoc, take-append-drop, length-append, length-drop}
+use Rattle.std.proofs.Common.{◌≡◌, ◌≢◌, ◌<◌, [], ◌∷◌, refl, ℕ, ◌-◌, List, ◌++◌, length, take, drop, Result, OnErr, sym, ap, ◌∙◌, arith, append_assoc, take-append-drop, length-append, length-drop}
 use Rattle.std.proofs.lemmas.List.{take_rest}
 use Rattle.multihash.specs.Bytes.{IsProperBeginning}
 use Rattle.multihash.specs.Writing.{AppendsPart}
+use Rattle.multihash.proofs.OutcomeLemmas.{OnErr-always}
 
--- a list that isn't empty has some items
-pub some_items : (xs : List ℕ) → xs ≢ [] → 0 < length xs
-some_items [] some = absurd (some refl)
-some_items (x ∷ xs) some = omega arith
+-- a list that isn't empty has a length
+pub length_of_not_nil : (xs : List ℕ) → xs ≢ [] → 0 < length xs
+length_of_not_nil [] some = absurd (some refl)
+length_of_not_nil (x ∷ xs) some = omega arith
 
 -- the first n bytes of what is left are the next of the whole
 pub joined-take-drop : (whole done left : List ℕ) (n : ℕ) → whole ≡ done ++ left → whole ≡ (done ++ take n left) ++ drop n left
@@ -26,7 +27,7 @@ IsProperBeginning-take whole done left n e less =
 pub IsProperBeginning-append : (x y z : List ℕ) → IsProperBeginning x y → IsProperBeginning x (y ++ z)
 IsProperBeginning-append x y z h = (
   h.0 ++ z,
-  (λ none. omega (arith, ap length none, length-append h.0 z, some_items h.0 h.1)),
+  (λ none. omega (arith, ap length none, length-append h.0 z, length_of_not_nil h.0 h.1)),
   ap (λ l. l ++ z) h.2 ∙ append_assoc x h.0 z,
 )
 
@@ -48,8 +49,22 @@ module _ {W : Type 0} (appended : W → List ℕ → W → Type 0) where
     stands = join a b c x h.part first h.stands;
   }
 
--- a writer that stopped has a part of bytes of which the fact holds
-pub appends_part_of_a_form : {T E W : Type 0} (IsForm : List ℕ → Type 0) (appended : W → List ℕ → W → Type 0) (old new : W) (r : Result T E) (bytes : List ℕ)
-    → IsForm bytes → AppendsPart appended old bytes new → OnErr r ((bytes : List ℕ) × IsForm bytes × AppendsPart appended old bytes new)
-appends_part_of_a_form IsForm appended old new (Ok x) bytes is_form part = tt
-appends_part_of_a_form IsForm appended old new (Err e) bytes is_form part = (bytes, is_form, part)
+-- a form of three parts, each written by itself
+module _ {W : Type 0} (appended : W → List ℕ → W → Type 0) (join : (a b c : W) (x y : List ℕ) → appended a x b → appended b y c → appended a (x ++ y) c)
+    (IsForm : List ℕ → Type 0) (a b d : List ℕ) (form : IsForm (a ++ (b ++ d))) where
+  abbrev Stopped : W → W → Type 0
+  Stopped old new = (bytes : List ℕ) × IsForm bytes × AppendsPart appended old bytes new
+
+  pub stops_in_first : {T E : Type 0} (r : Result T E) (u v : W) → AppendsPart appended u a v → OnErr r (Stopped u v)
+  stops_in_first r u v part = OnErr-always r (a ++ (b ++ d), form, AppendsPart-append appended u v a (b ++ d) part)
+
+  pub stops_in_second : {T E : Type 0} (r : Result T E) (u w v : W) → appended u a w → AppendsPart appended w b v → OnErr r (Stopped u v)
+  stops_in_second r u w v first part =
+      OnErr-always r (a ++ (b ++ d), form, AppendsPart-joined appended join u w v a (b ++ d) first (AppendsPart-append appended w v b d part))
+
+  pub stops_in_third : {T E : Type 0} (r : Result T E) (u w x v : W) → appended u a w → appended w b x → AppendsPart appended x d v → OnErr r (Stopped u v)
+  stops_in_third r u w x v first second part =
+      OnErr-always r (a ++ (b ++ d), form, AppendsPart-joined appended join u w v a (b ++ d) first (AppendsPart-joined appended join w x v b d second part))
+
+  pub stands_whole : (u w x v : W) → appended u a w → appended w b x → appended x d v → appended u (a ++ (b ++ d)) v
+  stands_whole u w x v first second third = join u w v a (b ++ d) first (join w x v b d second third)

@@ -16,7 +16,7 @@ fn lent_reader<R: Read>(r: &mut R)
     ensures failures { ⟦<&'static mut R as Read>⟧.failures r.entry ≡ R.failures r.old }
 {}
 
-fn slice_writer(s: &mut [u8], t: &mut [u8])
+fn mut_slice(s: &mut [u8], t: &mut [u8])
     ensures allocates { ⟦<&'static mut [u8] as Write>⟧.allocates ≡ false }
     ensures appended { (bytes : List ℕ) →
         ⟦<&'static mut [u8] as Write>⟧.appended s.entry bytes t.entry
@@ -25,7 +25,7 @@ fn slice_writer(s: &mut [u8], t: &mut [u8])
     ensures failures { ⟦<&'static mut [u8] as Write>⟧.failures s.entry ≡ 0 }
 {}
 
-fn keeping_writer(s: &mut SliceWriter, t: &mut SliceWriter)
+fn slice_writer(s: &mut SliceWriter, t: &mut SliceWriter)
     ensures allocates { ⟦<SliceWriter<'static> as Write>⟧.allocates ≡ false }
     ensures appended { (bytes : List ℕ) →
         ⟦<SliceWriter<'static> as Write>⟧.appended s.old bytes t.old ↔ Fills s.old bytes t.old }
@@ -57,13 +57,13 @@ fn vector_allocates() -> bool
     <Vec<u8> as Write>::ALLOCATES
 }
 
-fn slice_allocates() -> bool
+fn mut_slice_allocates() -> bool
     ensures { result ≡ ⟦<&'static mut [u8] as Write>⟧.allocates }
 {
     <&'static mut [u8] as Write>::ALLOCATES
 }
 
-fn keeping_writer_allocates() -> bool
+fn slice_writer_allocates() -> bool
     ensures { result ≡ ⟦<SliceWriter<'static> as Write>⟧.allocates }
 {
     SliceWriter::ALLOCATES

@@ -20,7 +20,7 @@ returns-in_err-read-clause-err g c =
     let met = c.in_err-read.ensures in
     let same = before.unfailed in
     let fewer : length (map pair_of c.loop.list.items) < c.args.count = omega (arith, length-map c.loop.list.items pair_of, before.count, c.loop-test.true) in
-    passed_on c.from_residual-in_err-read.result _ _ c.from_residual-in_err-read.ensures.1
+    passed_on c.from_residual-in_err-read.result _ _ _ c.from_residual-in_err-read.ensures.1
     (inr (record {
       pairs = map pair_of c.loop.list.items;
       middle = _;

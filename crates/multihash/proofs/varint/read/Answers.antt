@@ -14,7 +14,7 @@ pub returns-in_err-byte-clause-err : goal.returns-in_err-byte-clause-err
 returns-in_err-byte-clause-err g c =
     let before = c.loop-i.invariant in
     let takes = Takes-kept _ _ _ before.front c.in_err-byte.ensures.err before.takes in
-    passed_on c.from_residual.result _ _ c.from_residual.ensures.1
+    passed_on c.from_residual.result _ _ _ c.from_residual.ensures.1
     (failed_behind _ c.in_err-byte.field-0.0 _ _ before.front _ refl before.reads takes)
 
 pub returns-in_default-clause-err : goal.returns-in_default-clause-err

@@ -1,5 +1,6 @@
-use Rattle.std.proofs.Common.{[], ◌∷◌, refl, arith, ap, length}
+use Rattle.std.proofs.Common.{ℕ, List, [], ◌∷◌, refl, arith, ap, length}
 use Rattle.multihash.specs.Varint.{IsVarint}
+use Rattle.multihash.specs.Writing.{AppendsPart}
 use Rattle.multihash.proofs.Varints.VarintWriteLemmas.{one_byte}
 use Rattle.multihash.proofs.Varints.LengthLemmas.{varint_longest}
 use Rattle.multihash.proofs.Writings.WritingLemmas.{appends_part_of_a_form}
@@ -7,7 +8,9 @@ use Rattle.multihash.proofs.varint.write_in_range.Goals as goal
 
 pub returns-in_err-write_all-clause-err : goal.returns-in_err-write_all-clause-err
 returns-in_err-write_all-clause-err g c =
-    appends_part_of_a_form (IsVarint c.args.n) _ _ _ _ (c.args.n ∷ []) (one_byte c.args.n c.if-n-lt128.true) c.in_err-write_all.ensures.laws.err
+    let part : (bytes : List ℕ) × IsVarint c.args.n bytes × AppendsPart g.W.Write.appended _ bytes _ =
+    (c.args.n ∷ [], one_byte c.args.n c.if-n-lt128.true, c.in_err-write_all.ensures.laws.err) in
+    OnErr-always _ part
 
 pub returns-then-n-lt128-clause-ok : goal.returns-then-n-lt128-clause-ok
 returns-then-n-lt128-clause-ok g c = (c.args.n ∷ [], one_byte c.args.n c.if-n-lt128.true, refl, c.in_ok-write_all.ensures.laws.ok)

@@ -1,11 +1,12 @@
 use Rattle.std.proofs.Common.{◌≡◌, ◌++◌, List, ℕ, length, take, sym, ap, ◌∙◌, subst, refl, arith, length-append}
 use Rattle.multihash.specs.Bytes.{IsBytes}
 use Rattle.multihash.specs.Scale.{IsScale, HasScaleVerdict}
-use Rattle.multihash.specs.Verdict.{Verdict, accepted}
+use Rattle.multihash.specs.Refusal.{IsInvalidCode}
+use Rattle.multihash.specs.Verdict.{Verdict, accepted, unexpected_eof}
 use Rattle.multihash.specs.Answer.{pair_of}
 use Rattle.multihash.proofs.Varints.WordFillingLemmas.{bytes_of}
-use Rattle.multihash_c.specs.Decoded.{TakesForm}
-use Rattle.multihash_c.proofs.DecodedLemmas.{form_stands, taken_front, taken_at_refusal}
+use Rattle.multihash_c.specs.Decoded.{Tells, TakesWholeParts}
+use Rattle.multihash_c.proofs.DecodedLemmas.{form_stands, taken_front, code_taken, ends_early}
 use Rattle.multihash_c.proofs.decode.multihash_scale_decode.Goals as goal
 
 pub returns-in-Ok-clause-verdict : goal.returns-in-Ok-clause-verdict
@@ -29,18 +30,36 @@ returns-in-Ok-clause-verdict c =
       subst (λ (z : List ℕ). IsScale p z) (sym front) met.ok.1,
     )
 
-pub returns-in-Err-clause-verdict : goal.returns-in-Err-clause-verdict
-returns-in-Err-clause-verdict c =
+pub returns-in-Some-clause-verdict : goal.returns-in-Some-clause-verdict
+returns-in-Some-clause-verdict c =
     let input = c.args.bytes.now in
     let left = c.scale_decode-answer.new.r.now in
     let met = c.in-Err.ensures in
     let found = met.verdict refl in
-    let bytes : IsBytes input = bytes_of input (λ i. omega (arith, c.type_inv.bytes i)) in
     let cut : input ≡ met.err.taken ++ left = cc (met.err.takes) in
-    let front : take c.refuse.result.taken input ≡ met.err.taken =
-    ap (λ n. take n input) c.refuse.ensures.taken ∙ taken_front input met.err.taken left cut in (
+    let front : take c.refuse_code.result.taken input ≡ met.err.taken =
+    ap (λ n. take n input) c.refuse_code.ensures.taken ∙ taken_front input met.err.taken left cut in
+    let is = (c.invalid_code.ensures c.in-Some.code).0 c.in-Some.is in
+    let told = code_taken input _ _ c.in-Some.code c.refuse_code.result.taken met.err front is found.0 found.1 found.2 in (
       found.0,
       found.1,
-      c.refuse.ensures.tells input found.0 found.2,
-      subst (λ (z : List ℕ). TakesForm found.0 z) (sym front) (taken_at_refusal input _ _ met.err bytes found.0 found.1 found.2),
+      subst (λ (v : Verdict). Tells input c.refuse_code.result v) (sym told.0) (c.refuse_code.ensures.tells input),
+      told.1,
+    )
+
+pub returns-in-None-clause-verdict : goal.returns-in-None-clause-verdict
+returns-in-None-clause-verdict c =
+    let input = c.args.bytes.now in
+    let met = c.in-Err.ensures in
+    let found = met.verdict refl in
+    let bytes : IsBytes input = bytes_of input (λ i. omega (arith, c.type_inv.bytes i)) in
+    let no_code : (n : ℕ) → ¬ (IsInvalidCode n c.in-Err.error) = λ n h.
+    let told = (c.invalid_code.ensures n).1 h in
+    let none = c.in-None.is in
+    absurd (cc) in
+    let early = ends_early input _ bytes no_code found.0 found.1 found.2 in (
+      unexpected_eof,
+      subst (λ (v : Verdict). HasScaleVerdict 255 input v) early found.1,
+      c.refuse_end.ensures.tells input,
+      subst (λ n. TakesWholeParts (length input) n) (sym c.refuse_end.ensures.taken) c.whole_parts.ensures.parts,
     )

@@ -14,8 +14,8 @@ returns-in-Some-clause-tells c input v =
 
 pub returns-in-Some-invalid_code-clause-tells : goal.returns-in-Some-invalid_code-clause-tells
 returns-in-Some-invalid_code-clause-tells c input v =
-    code_told input c.refusal.result c.args.error.now c.in-Some-invalid_code.code
-    ((c.invalid_code.ensures c.in-Some-invalid_code.code).0 c.in-Some-invalid_code.is) c.refusal.ensures.tells v
+    code_told input c.refuse_code.result c.args.error.now c.in-Some-invalid_code.code
+    ((c.invalid_code.ensures c.in-Some-invalid_code.code).0 c.in-Some-invalid_code.is) (c.refuse_code.ensures.tells input) v
 
 pub returns-else-is_not_minimal-clause-tells : goal.returns-else-is_not_minimal-clause-tells
 returns-else-is_not_minimal-clause-tells c input v =

@@ -1,7 +1,7 @@
 use Rattle.std.proofs.Common.{List, ℕ, length, ap, arith}
 use Rattle.multihash.specs.Encoding.{IsEncoding}
 use Rattle.multihash.specs.Answer.{pair_of}
-use Rattle.multihash.proofs.Writings.FillingLemmas.{filler_takes_all}
+use Rattle.multihash.proofs.Writings.FillingLemmas.{slice_writer_has_room}
 use Rattle.multihash.proofs.Readings.VerdictLemmas.{encoding_same}
 use Rattle.multihash_c.proofs.encode.put_encoding.Goals as goal
 
@@ -10,7 +10,7 @@ unwrap-requires c =
     let p = pair_of c.args.multihash.now in
     let (bytes, is_form, fit) = c.requires in
     let made = c.new-writer.ensures in
-    filler_takes_all c.new-writer.result c.write.new.w (IsEncoding p) c.write.result c.write.ensures.err c.write.ensures.faults
+    slice_writer_has_room c.new-writer.result c.write.new.w (IsEncoding p) c.write.result c.write.ensures.err c.write.ensures.faults
     (λ other is_own.
     omega (
       arith,

@@ -19,7 +19,7 @@ unreachable-requires c =
     absurd (cc)
 
 pub returns : goal.returns
-returns c limit =
+returns c =
     let input = c.args.bytes.now in
     let left = c.read-answer.new.r.now in
     let v : Verdict = faulty c.requires.0 in
@@ -31,10 +31,14 @@ returns c limit =
     let at : left ≡ drop c.refuse.result.taken input =
     left_over input met.err.taken left cut ∙ ap (λ n. drop n input) (sym c.refuse.ensures.taken) in
     let inside : c.refuse.result.taken ≤ length input = omega (arith, c.refuse.ensures.taken) in
-    fault_read c.requires.0 input c.requires.1 limit c.refuse.result tells inside
-    (λ late. subst (λ (z : List ℕ). TakesShortestSettling 0 input (Some z)) at (met.settled refl v (c.requires.1 0) late))
-    (λ short.
-    let told : IsFaulty insufficient c.in-Err.error =
-    subst (λ (f : VarintFault). IsFaulty f c.in-Err.error) short (subst (IsRefusal c.in-Err.error) same found.2) in
-    let none : left ≡ [] = (met.err.insufficient told).1 in
-    omega (arith, c.refuse.ensures.taken, ap length none))
+    record {
+      reads = λ limit.
+          fault_read c.requires.0 input c.requires.1 limit c.refuse.result tells inside
+          (λ late. subst (λ (z : List ℕ). TakesShortestSettling 0 input (Some z)) at (met.settled refl v (c.requires.1 0) late))
+          (λ short.
+          let told : IsFaulty insufficient c.in-Err.error =
+          subst (λ (f : VarintFault). IsFaulty f c.in-Err.error) short (subst (IsRefusal c.in-Err.error) same found.2) in
+          let none : left ≡ [] = (met.err.insufficient told).1 in
+          omega (arith, c.refuse.ensures.taken, ap length none));
+      tells = (c.requires.0, tells);
+    }

@@ -1,9 +1,9 @@
 use Rattle.std.proofs.Common.{◌≡◌, ◌≤◌, ◌+◌, length, inl, inr, arith}
-use Rattle.multihash_c.proofs.ReadLemmas.{size_read, end_read, pair_read}
+use Rattle.multihash_c.proofs.ReadLemmas.{size_read, end_read, read_of_encoding}
 use Rattle.multihash_c.proofs.read.read_within.Goals as goal
 
 pub returns-in_default : goal.returns-in_default
-returns-in_default c = c.read_fault.ensures c.args.limit
+returns-in_default c = c.read_fault.ensures.reads c.args.limit
 
 pub returns-then-head-limit : goal.returns-then-head-limit
 returns-then-head-limit c =
@@ -25,6 +25,6 @@ returns c =
     let answer = c.accept.result in
     let at : answer.digest_offset ≡ c.in-Ok.head.len = omega (arith, c.accept.ensures.offset) in
     let there : c.in-Ok.head.len + c.in-Ok.head.size ≤ length input = omega (arith, head.within, c.if-bytes-head.false) in
-    pair_read c.args.limit c.in-Ok.head.code c.in-Ok.head.size c.in-Ok.head.len input head answer
+    read_of_encoding c.args.limit c.in-Ok.head.code c.in-Ok.head.size c.in-Ok.head.len input head answer
     (omega (arith, c.if-head-limit.false, c.if-head-gt255.false)) there c.accept.ensures.taken
     (λ p code is. c.accept.ensures.tells input p code there (rw (c.accept.ensures.length, at) is))

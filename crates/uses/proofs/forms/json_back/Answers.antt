@@ -1,5 +1,5 @@
 use Rattle.multihash.specs.Answer.{pair_of}
-use Rattle.multihash.proofs.CallingLemmas.{verdict_back}
+use Rattle.multihash.proofs.CallingLemmas.{from_bytes_of_encoding}
 use Rattle.multihash.proofs.Forms.JsonLemmas.{json_bytes}
 use Rattle.uses.proofs.forms.json_back.Goals as goal
 
@@ -9,4 +9,4 @@ returns g c fits =
     let listed = c.in_ok-value.ensures.ok in
     let array = c.in_ok-value.ensures.array in
     let v = c.from_value.ensures.verdict array.0 array.1 in
-    verdict_back g.row.R p array.0 c.from_value.result v.0 v.1 v.2 (json_bytes p _ array.0 listed array.1) fits
+    from_bytes_of_encoding g.row.R p array.0 c.from_value.result v.0 v.1 v.2 (json_bytes p _ array.0 listed array.1) fits

@@ -1,7 +1,7 @@
 use Rattle.std.proofs.Common.{◌≡◌, ◌++◌, map, Some, refl, ap, rules}
 use Rattle.std.proofs.lemmas.List.{length-map}
 use Rattle.multihash.specs.Answer.{pair_of}
-use Rattle.multihash.proofs.CallingLemmas.{refused_by}
+use Rattle.multihash.proofs.OutcomeLemmas.{passed_on}
 use Rattle.uses.proofs.forms.stream_back.Goals as goal
 
 pub returns-in_err-back : goal.returns-in_err-back
@@ -9,7 +9,7 @@ returns-in_err-back g c fits =
     let wrote = c.in_ok-write_list.ensures.ok in
     let items = c.args.items.now in
     let input : c.as_slice-left.result.now ≡ wrote.0 ++ c.args.more.now = search rules in
-    refused_by c.from_residual-in_err-back.result _ _ _ c.from_residual-in_err-back.ensures.1
+    passed_on c.from_residual-in_err-back.result _ _ _ c.from_residual-in_err-back.ensures.1
     (c.in_err-back.ensures (map pair_of items) wrote.0 c.args.more.now wrote.1 fits (length-map items pair_of) (ap Some input) refl)
 
 pub returns : goal.returns

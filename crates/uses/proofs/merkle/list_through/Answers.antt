@@ -1,18 +1,19 @@
 use Rattle.std.proofs.Common.{map, inr}
 use Rattle.std.proofs.lemmas.List.{length-map}
 use Rattle.multihash.specs.Answer.{pair_of}
-use Rattle.multihash.proofs.CallingLemmas.{pairs_read, refused_by}
+use Rattle.multihash.proofs.CallingLemmas.{read_list_of_encodings}
+use Rattle.multihash.proofs.OutcomeLemmas.{passed_on}
 use Rattle.uses.proofs.MerkleLemmas.{or_other}
 use Rattle.uses.proofs.merkle.list_through.Goals as goal
 
 pub returns-in_err-write_list : goal.returns-in_err-write_list
 returns-in_err-write_list g c more pipe unfailed =
-    refused_by c.from_residual.result _ _ _ c.from_residual.ensures.1 (inr c.in_err-write_list.ensures.faults)
+    passed_on c.from_residual.result _ _ _ c.from_residual.ensures.1 (inr c.in_err-write_list.ensures.faults)
 
 pub returns : goal.returns
 returns g c more pipe unfailed =
     let wrote = c.in_ok-write_list.ensures in
     let items = c.args.items.now in
     or_other _ _ _ c.read_list.result
-    (pairs_read g.row.S _ _ _ _ _ (map pair_of items) wrote.ok.0 more c.read_list.result wrote.ok.1 wrote.fit (length-map items pair_of)
+    (read_list_of_encodings g.row.S _ _ _ _ _ (map pair_of items) wrote.ok.0 more c.read_list.result wrote.ok.1 wrote.fit (length-map items pair_of)
     (pipe wrote.ok.0 wrote.ok.2) unfailed c.read_list.ensures.ok c.read_list.ensures.err)

@@ -2,7 +2,7 @@ use Rattle.std.proofs.Common.{◌≡◌, ◌∙◌, ◌++◌, ℕ, List, [], len
 use Rattle.std.proofs.lemmas.List.{length-map}
 use Rattle.std.proofs.Math.Seq.{take-append_seam}
 use Rattle.multihash.specs.Answer.{pair_of}
-use Rattle.multihash.proofs.CallingLemmas.{refused_by}
+use Rattle.multihash.proofs.OutcomeLemmas.{passed_on}
 use Rattle.uses.proofs.places.list_back.Goals as goal
 
 -- the bytes that were filled are what is read
@@ -14,7 +14,7 @@ returns-in_err-read_pairs g c fits =
     let (bytes, joined, (long, puts)) = c.in-Some.ensures in
     let items = c.args.items.now in
     let filled = first_filled bytes (drop c.in-Some.filled c.args.places.now) _ c.in-Some.filled long puts in
-    refused_by c.from_residual.result _ _ _ c.from_residual.ensures.1
+    passed_on c.from_residual.result _ _ _ c.from_residual.ensures.1
     (c.in_err-read_pairs.ensures (map pair_of items) bytes [] joined fits (length-map items pair_of) (ap Some filled) refl)
 
 pub returns : goal.returns

@@ -4,7 +4,8 @@ use Rattle.multihash.specs.Encoding.{IsEncoding}
 use Rattle.multihash.specs.Answer.{pair_of}
 use Rattle.multihash.proofs.Values.PairLemmas.{IsSame-refl}
 use Rattle.multihash.proofs.Values.ValueLemmas.{digest_fits}
-use Rattle.multihash.proofs.CallingLemmas.{refused_by, verdict_back}
+use Rattle.multihash.proofs.CallingLemmas.{from_bytes_of_encoding}
+use Rattle.multihash.proofs.OutcomeLemmas.{passed_on}
 use Rattle.uses.proofs.readme.there_and_back.Goals as goal
 
 pub returns-in_err-from_bytes : goal.returns-in_err-from_bytes
@@ -12,8 +13,8 @@ returns-in_err-from_bytes c =
     let v = c.in_err-from_bytes.ensures in
     let m = c.in_ok-multihash.multihash in
     let encodes = subst (IsEncoding (pair_of m)) (sym c.deref.ensures.value) c.in_ok-bytes.ensures.ok in
-    refused_by c.from_residual-in_err-from_bytes.result _ _ _ c.from_residual-in_err-from_bytes.ensures.1
-    (inl (verdict_back 64 (pair_of m) _ (Err c.in_err-from_bytes.field-0.0) v.0 v.1 v.2 encodes (digest_fits m)))
+    passed_on c.from_residual-in_err-from_bytes.result _ _ _ c.from_residual-in_err-from_bytes.ensures.1
+    (inl (from_bytes_of_encoding 64 (pair_of m) _ (Err c.in_err-from_bytes.field-0.0) v.0 v.1 v.2 encodes (digest_fits m)))
 
 pub returns : goal.returns
 returns c =
@@ -21,5 +22,5 @@ returns c =
     let m = c.in_ok-multihash.multihash in
     let back = pair_of c.in_ok-from_bytes.field-0 in
     let encodes = subst (IsEncoding (pair_of m)) (sym c.deref.ensures.value) c.in_ok-bytes.ensures.ok in
-    let same : back ≡ pair_of m = verdict_back 64 (pair_of m) _ (Ok c.in_ok-from_bytes.field-0) v.0 v.1 v.2 encodes (digest_fits m) in
+    let same : back ≡ pair_of m = from_bytes_of_encoding 64 (pair_of m) _ (Ok c.in_ok-from_bytes.field-0) v.0 v.1 v.2 encodes (digest_fits m) in
     c.eq.ensures.same.1 (subst (IsSame back) same (IsSame-refl back))

@@ -1,9 +1,9 @@
-use Rattle.std.proofs.Common.{◌≡◌, refl, sym, subst, rules}
+use Rattle.std.proofs.Common.{◌≡◌, sym, subst, rules}
 use Rattle.std.specs.declared.cmp.Ordering.{Ordering}
 use Rattle.multihash.specs.Answer.{pair_of}
 use Rattle.multihash.specs.Comparing.{compare_pairs}
 use Rattle.multihash.specs.Order.{Compares}
-use Rattle.multihash.proofs.Values.OrderLemmas.{compares_by_parts}
+use Rattle.multihash.proofs.Values.OrderLemmas.{Compares-computed}
 use Rattle.multihash.proofs.compare.MultihashOrd.cmp.Goals as goal
 
 pub returns-clause-order : goal.returns-clause-order
@@ -11,4 +11,4 @@ returns-clause-order g c =
     let p = pair_of c.args.self.now in
     let q = pair_of c.args.other.now in
     let computes : c.order_of_bytes.result ≡ compare_pairs p q = search rules in
-    subst (λ (o : Ordering). Compares p q o) (sym computes) (compares_by_parts p q _ _ _ refl refl refl)
+    subst (λ (o : Ordering). Compares p q o) (sym computes) (Compares-computed p q)

@@ -1,6 +1,7 @@
 use Rattle.std.proofs.Common.{◌≡◌, ◌++◌, drop, inl, inr, subst}
 use Rattle.multihash.specs.Varint.{HasFaultyFront}
-use Rattle.multihash.proofs.Readings.HeadLemmas.{slice_is, head_of}
+use Rattle.std.proofs.lemmas.List.{take_rest}
+use Rattle.multihash.proofs.Readings.HeadLemmas.{head_of}
 use Rattle.multihash.proofs.head.Head.read_front.Goals as goal
 
 pub returns-in_default-clause-err : goal.returns-in_default-clause-err
@@ -15,7 +16,7 @@ returns-in_default-read_front-clause-err c =
     let code = c.in-Some.ensures.some in
     let cut : input ≡ code.0 ++ drop k input = cc (code.2) in
     let refused = c.front_fault-in_default-read_front.ensures in
-    let shows = subst (HasFaultyFront refused.0) (slice_is k input) refused.2 in (
+    let shows = subst (HasFaultyFront refused.0) (take_rest input k) refused.2 in (
       refused.0,
       refused.1,
       λ S. inr (drop k input, record { code = c.in-Some.code; code_bytes = code.0; is_code = code.1; cut = cut }, shows),
@@ -24,5 +25,5 @@ returns-in_default-read_front-clause-err c =
 pub returns-clause-ok : goal.returns-clause-ok
 returns-clause-ok c =
     let input = c.args.bytes.now in
-    head_of c.in-Some.code c.in-Some-read_front.size c.in-Some.code_len c.in-Some-read_front.size_len input _ (slice_is c.in-Some.code_len input)
+    head_of c.in-Some.code c.in-Some-read_front.size c.in-Some.code_len c.in-Some-read_front.size_len input _ (take_rest input c.in-Some.code_len)
     c.in-Some.ensures.within c.in-Some-read_front.ensures.within c.in-Some.ensures.some c.in-Some-read_front.ensures.some

@@ -23,7 +23,7 @@ returns-in_err-read g c =
     let same = code.faults in
     read_refused S (code.ok.0 ++ t.taken) _ _ _ _ c.from_residual-in_err-read.result _ c.from_residual-in_err-read.ensures.1
     (Takes-joined _ _ _ code.ok.0 t.taken _ refl code.ok.2 t.takes)
-    (stops_in_size S _ code.ok.0 code.ok.1 _ _ _ _ _ t (rw same at c.in_err-read.ensures.faults))
+    (stops_in_size S _ _ _ _ _ t _ code.ok.0 code.ok.1 (rw same at c.in_err-read.ensures.faults))
 
 pub returns-in_err-size : goal.returns-in_err-size
 returns-in_err-size g c =

@@ -1,0 +1,170 @@
+/* Calls the reader of a stream that docs/C.md shows, which the script puts into stream_example.h, over pipes that are cut
+ * at each byte: by a pause, and by an end behind which another pipe goes on. C11 on POSIX. Says what it did on one line, and
+ * ends with status 1 at the first thing that is wrong. */
+int example_main(void);
+#define main example_main
+#include "stream_example.h"
+#undef main
+
+#include <fcntl.h>
+#include <stdlib.h>
+#include <string.h>
+
+#define CHECK(fact)                                                          \
+    do {                                                                     \
+        if (!(fact)) {                                                       \
+            fprintf(stderr, "%s:%d: not so: %s\n", __FILE__, __LINE__, #fact); \
+            exit(1);                                                         \
+        }                                                                    \
+    } while (0)
+
+#define LIMIT 64
+
+/* What the stream is put together from: the bytes of both varints, the code, and the digest's length. */
+static const struct item {
+    const char *head;
+    size_t head_length;
+    uint64_t code;
+    size_t digest_length;
+} items[] = {
+    {"\x12\x20", 2, 18, 32},
+    {"\x00\x00", 2, 0, 0},
+    {"\xb2\x40\x01", 3, 8242, 1},
+    {"\x16\x40", 2, 22, 64},
+    {"\xff\xff\xff\xff\xff\xff\xff\xff\x7f\x03", 10, INT64_MAX, 3},
+    {"\x81\x02\x00", 3, 257, 0},
+};
+
+#define ITEMS (sizeof items / sizeof items[0])
+
+static uint8_t whole[512];
+static size_t whole_length, ends[ITEMS + 1], reads_counted;
+
+static void put_together(void)
+{
+    for (size_t i = 0; i < ITEMS; i++) {
+        memcpy(whole + whole_length, items[i].head, items[i].head_length);
+        whole_length += items[i].head_length;
+        for (size_t k = 0; k < items[i].digest_length; k++) whole[whole_length++] = (uint8_t)(0x80 + 16 * i + k);
+        ends[i + 1] = whole_length;
+    }
+}
+
+/* A pipe that holds the bytes: its end for reading, which does not wait, and the one for writing. */
+static void open_pipe(int ends_of[2], const uint8_t *bytes, size_t length)
+{
+    CHECK(pipe(ends_of) == 0 && fcntl(ends_of[0], F_SETFL, O_NONBLOCK) == 0);
+    CHECK(write(ends_of[1], bytes, length) == (ssize_t)length);
+}
+
+/* How many whole multihashes the first bytes of the stream have. */
+static size_t items_in(size_t length)
+{
+    size_t count = 0;
+    while (count < ITEMS && ends[count + 1] <= length) count++;
+    return count;
+}
+
+/* Reads as long as multihashes come: each is the next of those that were put together. */
+static stream_answer read_on(stream *from, size_t *at)
+{
+    multihash_decoded found;
+    stream_answer answer;
+    while ((answer = next_multihash(from, &found)) == STREAM_FOUND) {
+        CHECK(*at < ITEMS && found.status == MULTIHASH_OK && found.code == items[*at].code);
+        CHECK(found.digest_length == items[*at].digest_length && from->have == ends[*at + 1] - ends[*at]);
+        CHECK(memcmp(from->bytes, whole + ends[*at], from->have) == 0);
+        *at += 1;
+        reads_counted++;
+    }
+    return answer;
+}
+
+/* The stream pauses at a byte, and comes on through the same pipe. */
+static void check_pause(size_t cut)
+{
+    int ends_of[2];
+    size_t at = 0;
+    open_pipe(ends_of, whole, cut);
+    stream from = {.descriptor = ends_of[0], .limit = LIMIT};
+    CHECK(read_on(&from, &at) == STREAM_FAILED && (errno == EAGAIN || errno == EWOULDBLOCK) && at == items_in(cut));
+    CHECK(read_on(&from, &at) == STREAM_FAILED && at == items_in(cut));
+    CHECK(write(ends_of[1], whole + cut, whole_length - cut) == (ssize_t)(whole_length - cut) && close(ends_of[1]) == 0);
+    CHECK(read_on(&from, &at) == STREAM_END && at == ITEMS);
+    CHECK(close(ends_of[0]) == 0);
+}
+
+/* The stream ends at a byte, and another goes on. */
+static void check_end(size_t cut)
+{
+    int ends_of[2], more[2];
+    size_t at = 0;
+    open_pipe(ends_of, whole, cut);
+    open_pipe(more, whole + cut, whole_length - cut);
+    CHECK(close(ends_of[1]) == 0 && close(more[1]) == 0);
+    stream from = {.descriptor = ends_of[0], .limit = LIMIT};
+    stream_answer want = ends[items_in(cut)] == cut ? STREAM_END : STREAM_EARLY_END;
+    CHECK(read_on(&from, &at) == want && at == items_in(cut));
+    CHECK(read_on(&from, &at) == want && at == items_in(cut));
+    from.descriptor = more[0];
+    CHECK(read_on(&from, &at) == STREAM_END && at == ITEMS);
+    CHECK(close(ends_of[0]) == 0 && close(more[0]) == 0);
+}
+
+/* Byte for byte: a multihash is found with its last one, and not before. */
+static void check_bytes(void)
+{
+    int ends_of[2];
+    size_t at = 0;
+    open_pipe(ends_of, whole, 0);
+    stream from = {.descriptor = ends_of[0], .limit = LIMIT};
+    for (size_t i = 0; i < whole_length; i++) {
+        CHECK(write(ends_of[1], whole + i, 1) == 1);
+        CHECK(read_on(&from, &at) == STREAM_FAILED && at == items_in(i + 1));
+    }
+    CHECK(close(ends_of[0]) == 0 && close(ends_of[1]) == 0);
+}
+
+/* What stands behind a multihash stays in the pipe. */
+static void check_rest(void)
+{
+    int ends_of[2];
+    uint8_t rest[sizeof whole];
+    multihash_decoded found;
+    open_pipe(ends_of, whole, whole_length);
+    stream from = {.descriptor = ends_of[0], .limit = LIMIT};
+    for (size_t i = 0; i < 3; i++) CHECK(next_multihash(&from, &found) == STREAM_FOUND);
+    CHECK(read(ends_of[0], rest, sizeof rest) == (ssize_t)(whole_length - ends[3]));
+    CHECK(memcmp(rest, whole + ends[3], whole_length - ends[3]) == 0);
+    CHECK(close(ends_of[0]) == 0 && close(ends_of[1]) == 0);
+}
+
+/* A stream that is refused, with nothing of a digest read. */
+static void check_refused(const char *bytes, size_t length, multihash_status status, uint64_t size, size_t left)
+{
+    int ends_of[2];
+    uint8_t rest[64];
+    multihash_decoded found;
+    open_pipe(ends_of, (const uint8_t *)bytes, length);
+    CHECK(close(ends_of[1]) == 0);
+    stream from = {.descriptor = ends_of[0], .limit = LIMIT};
+    CHECK(next_multihash(&from, &found) == STREAM_REFUSED && found.status == status && found.size == size);
+    CHECK(next_multihash(&from, &found) == STREAM_REFUSED && found.status == status);
+    CHECK(read(ends_of[0], rest, sizeof rest) == (ssize_t)left && close(ends_of[0]) == 0);
+}
+
+int main(void)
+{
+    put_together();
+    for (size_t cut = 0; cut <= whole_length; cut++) check_pause(cut);
+    for (size_t cut = 0; cut <= whole_length; cut++) check_end(cut);
+    check_bytes();
+    check_rest();
+    check_refused("\x12\x41\x07\x07", 4, MULTIHASH_INVALID_SIZE, 65, 2);
+    check_refused("\x12\xff\xff\xff\xff\xff\xff\xff\xff\x7f\x07", 11, MULTIHASH_INVALID_SIZE, INT64_MAX, 1);
+    check_refused("\x80\x00\x07", 3, MULTIHASH_NOT_MINIMAL, 0, 1);
+    check_refused("\xff\xff\xff\xff\xff\xff\xff\xff\xff\x01", 10, MULTIHASH_OVERFLOW, 0, 1);
+    CHECK(reads_counted >= 2 * (whole_length + 1) * ITEMS);
+    printf("%zu cuts, %zu multihashes\n", 2 * (whole_length + 1), reads_counted);
+    return 0;
+}

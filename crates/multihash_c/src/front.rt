@@ -1,0 +1,59 @@
+//! The front of an encoding, for C.
+ghost use Rattle.std.specs.Prelude.{ℕ, List};
+ghost use Rattle.multihash.specs.Head.{HasHead};
+ghost use Rattle.multihash_c.specs.Front.{TellsHead, ReadsFront};
+
+use crate::{read, status};
+use multihash::Head;
+
+/// What the two varints that begin an encoding answered. A field that the status leaves without a meaning is 0.
+#[repr(C)]
+#[derive(Clone, Copy, Debug, PartialEq, Eq)]
+pub struct Front {
+    pub status: u32,
+    pub code: u64,
+    pub digest_length: u64,
+    pub taken: usize,
+}
+
+/// Decodes the two varints that begin `bytes`: the code and the digest's length. It looks at no digest.
+#[unsafe(no_mangle)]
+pub extern "C" fn multihash_head(bytes: &[u8]) -> Front
+    ensures { ReadsFront bytes.now result }
+{
+    // Mostly each varint has one byte.
+    if bytes.len() >= 2 && bytes[0] < 128 && bytes[1] < 128 {
+        return found(u64::from(bytes[0]), u64::from(bytes[1]), 2);
+    }
+    read_long(bytes)
+}
+
+// As `multihash_head`, where a varint has more bytes than one.
+#[inline(never)]
+fn read_long(bytes: &[u8]) -> Front
+    ensures { ReadsFront bytes.now result }
+{
+    let Ok(head) = Head::read_front(bytes) else {
+        let refused = read::read_fault(bytes);
+        return Front {
+            status: refused.status,
+            code: 0,
+            digest_length: 0,
+            taken: refused.taken,
+        };
+    };
+    found(head.code, head.size, head.len)
+}
+
+// The answer at a code and a size, of which so many bytes are the varints.
+#[inline(always)]
+fn found(code: u64, digest_length: u64, taken: usize) -> Front
+    ensures { (input : List ℕ) → HasHead code digest_length taken input → TellsHead input result }
+{
+    Front {
+        status: status::OK,
+        code,
+        digest_length,
+        taken,
+    }
+}
