@@ -18,5 +18,5 @@ pub other_key : (p q : Pair) → ¬ (q ≡ p) → is_eq (compare_pairs p q) ≡ 
 other_key p q other = by (is_eq (compare_pairs p q)) refl
   where
     by : (b : Bool) → is_eq (compare_pairs p q) ≡ b → b ≡ false
-    by true e = absurd (other (sym (same_order p q (compare_pairs p q) (Compares-computed p q _ _ _ refl refl refl) e)))
+    by true e = absurd (other (sym (same_order p q (compare_pairs p q) (Compares-computed p q) e)))
     by false e = refl
