@@ -17,7 +17,7 @@ use Rattle.multihash.proofs.Readings.ReadingLemmas.{Takes-none}
 use Rattle.multihash.proofs.Forms.StreamLemmas.{TakesPairs-none}
 use Rattle.multihash.proofs.Readings.VerdictLemmas.{verdict_unique}
 use Rattle.multihash.proofs.Readings.SettlingLemmas.{late_settles, none_settles}
-use Rattle.multihash.proofs.Forms.JoinedLemmas.{AreJoined-none, joined_whole, joined_same, joined_unique}
+use Rattle.multihash.proofs.Forms.JoinedLemmas.{joined_whole, joined_same, joined_unique}
 use Rattle.multihash.proofs.Examples.FaultVectors.{other}
 use Rattle.multihash.proofs.Examples.RefusalVectors.{size_in}
 use Rattle.multihash.proofs.Examples.ReadingVectors.{told, taken_is}
