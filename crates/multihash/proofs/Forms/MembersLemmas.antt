@@ -18,6 +18,9 @@ some_value : (o : Option ℕ) → is_some o ≡ true → (b : ℕ) × (o ≡ Som
 some_value None e = absurd (false≢true e)
 some_value (Some b) e = (b, refl)
 
+byte_first : (v : Value) (vs : List Value) → list_all is_byte (v ∷ vs) ≡ true → ((b : ℕ) × (byte_of_data (view v) ≡ Some b)) × (list_all is_byte vs ≡ true)
+byte_first v vs e = let parts = and_parts (is_byte v) (list_all is_byte vs) e in (some_value (byte_of_data (view v)) parts.0, parts.1)
+
 -- a byte is held as its number
 byte_data : (d : Data) (b : ℕ) → byte_of_data d ≡ Some b → (d ≡ number (unsigned b)) × (b < 256)
 byte_data null b e = cc
@@ -42,11 +45,10 @@ byte_found b small = rw (lt-ltb b 256 small) refl
 pub all_bytes : (vs : List Value) → list_all is_byte vs ≡ true → (items_view vs ≡ numbers (member_bytes vs)) × IsBytes (member_bytes vs)
 all_bytes [] e = (refl, All-nil (λ b. b < 256))
 all_bytes (v ∷ vs) e =
-    let parts = and_parts (is_byte v) (list_all is_byte vs) e in
-    let found = some_value (byte_of_data (view v)) parts.0 in
+    let (found, others) = byte_first v vs e in
     let held = byte_data (view v) found.0 found.1 in
-    let others = all_bytes vs parts.1 in
-    rw found.1 (cc (held.0, others.0), All-cons (λ b. b < 256) found.0 (member_bytes vs) held.1 others.1)
+    let rest = all_bytes vs others in
+    rw found.1 (cc (held.0, rest.0), All-cons (λ b. b < 256) found.0 (member_bytes vs) held.1 rest.1)
 
 -- the members of a byte array are all bytes, and those
 pub bytes_all : (vs : List Value) (bytes : List ℕ) → items_view vs ≡ numbers bytes → IsBytes bytes
@@ -92,9 +94,8 @@ take_first (x ∷ buf) b some = refl
 pub length-member_bytes : (vs : List Value) → list_all is_byte vs ≡ true → length (member_bytes vs) ≡ length vs
 length-member_bytes [] e = refl
 length-member_bytes (v ∷ vs) e =
-    let parts = and_parts (is_byte v) (list_all is_byte vs) e in
-    let found = some_value (byte_of_data (view v)) parts.0 in
-    rw found.1 (ap suc (length-member_bytes vs parts.1))
+    let (found, others) = byte_first v vs e in
+    rw found.1 (ap suc (length-member_bytes vs others))
 
 -- no member is left where no byte is
 pub no_member_bytes : (vs : List Value) → list_all is_byte vs ≡ true → length vs ≡ 0 → member_bytes vs ≡ []
@@ -106,7 +107,7 @@ pub byte_at : (vs : List Value) (at : ℕ) (v : Value) → list_all is_byte vs �
     → (b : ℕ) × (byte_of_data (view v) ≡ Some b)
 byte_at [] at v e inside is = absurd (omega arith)
 byte_at (w ∷ vs) zero v e inside is =
-    let found = some_value (byte_of_data (view w)) (and_parts (is_byte w) (list_all is_byte vs) e).0 in
+    let found = (byte_first w vs e).0 in
     (found.0, ap (λ x. byte_of_data (view x)) is ∙ found.1)
 byte_at (w ∷ vs) (suc at) v e inside is =
     byte_at vs at v (and_parts (is_byte w) (list_all is_byte vs) e).1 (omega arith) is
@@ -118,15 +119,13 @@ one_more_byte [] at v b e inside is held = absurd (omega arith)
 one_more_byte (w ∷ vs) zero v b e inside is held =
     let found : byte_of_data (view w) ≡ Some b = ap (λ x. byte_of_data (view x)) (sym is) ∙ held in rw found refl
 one_more_byte (w ∷ vs) (suc at) v b e inside is held =
-    let parts = and_parts (is_byte w) (list_all is_byte vs) e in
-    let found = some_value (byte_of_data (view w)) parts.0 in
-    rw found.1 (ap (λ l. found.0 ∷ l) (one_more_byte vs at v b parts.1 (omega arith) is held))
+    let (found, others) = byte_first w vs e in
+    rw found.1 (ap (λ l. found.0 ∷ l) (one_more_byte vs at v b others (omega arith) is held))
 
 -- the bytes of the first members, and of the others
 pub bytes_split : (n : ℕ) (vs : List Value) → list_all is_byte vs ≡ true → member_bytes vs ≡ member_bytes (take n vs) ++ member_bytes (drop n vs)
 bytes_split zero vs e = refl
 bytes_split (suc n) [] e = refl
 bytes_split (suc n) (v ∷ vs) e =
-    let parts = and_parts (is_byte v) (list_all is_byte vs) e in
-    let found = some_value (byte_of_data (view v)) parts.0 in
-    rw found.1 (ap (λ l. found.0 ∷ l) (bytes_split n vs parts.1))
+    let (found, others) = byte_first v vs e in
+    rw found.1 (ap (λ l. found.0 ∷ l) (bytes_split n vs others))

@@ -1,53 +1,23 @@
 -- One SCALE form a pair, and one verdict an input.
-use Rattle.std.proofs.Common.{◌≡◌, ℕ, zero, suc, ◌+◌, ◌/◌, ◌%◌, ◌^◌, ◌<◌, ◌≤◌, cond, ltb, List, [], ◌∷◌, ◌++◌, length, take, drop, refl, subst, sym, ap, ◌∙◌, arith, inl, inr, length-append, append_assoc, append-nil}
-use Rattle.std.specs.List.{All}
-use Rattle.std.proofs.Math.Nat.{pow-suc, pow-zero, div-add-mod}
-use Rattle.std.proofs.lemmas.Nat.{mod_below, div_below}
+use Rattle.std.proofs.Common.{◌≡◌, ℕ, ◌+◌, ◌<◌, ◌≤◌, cond, ltb, List, [], ◌∷◌, ◌++◌, length, take, drop, refl, subst, sym, ap, ◌∙◌, arith, inl, inr, length-append, append_assoc, append-nil}
+use Rattle.std.specs.Int.{to_le_bytes, w64}
 use Rattle.std.proofs.lemmas.Bool.{cases_lt, lt-ltb, le-ltb}
 use Rattle.std.proofs.lemmas.List.{take_at, drop_at, take-append-drop, length-take-le, append_cancel_left}
-use Rattle.std.proofs.lemmas.List.Elements.{All-nil, All-cons, All-take, All-head, All-same}
+use Rattle.std.proofs.lemmas.List.Elements.{All-take, All-head, All-same}
 use Rattle.multihash.specs.Bytes.{IsBytes, IsBeginning, place_value}
 use Rattle.multihash.specs.Pair.{Pair}
 use Rattle.multihash.specs.Varint.{varint_limit}
 use Rattle.multihash.specs.Verdict.{Verdict, accepted, invalid_size, invalid_code, faulty, unexpected_eof}
 use Rattle.multihash.specs.Scale.{IsScaleCode, IsScale, HasScaleSize, HasScaleVerdict}
-use Rattle.multihash.proofs.Varints.DigitLemmas.{place_value-nil, place_value-cons, place_value_unique}
+use Rattle.multihash.proofs.Forms.ScaleCodeLemmas.{code_bytes}
+use Rattle.multihash.proofs.Varints.DigitLemmas.{place_value_unique}
 use Rattle.multihash.proofs.Varints.MarkedLemmas.{All-append_right}
-
--- a number in so many digits
-record FixedDigits (base count n : ℕ) : Type 0 where
-  digits : List ℕ
-  long : length digits ≡ count
-  each : All (λ d. d < base) digits
-  value : place_value base digits ≡ n
-
-fixed_digits : (base : ℕ) → 0 < base → (count n : ℕ) → n < base ^ count → FixedDigits base count n
-fixed_digits base pos zero n below = record {
-  digits = [];
-  long = refl;
-  each = All-nil (λ d. d < base);
-  value = rw place_value-nil (omega (arith, pow-zero base));
-}
-fixed_digits base pos (suc count) n below =
-    let h = fixed_digits base pos count (n / base) (div_below n base (base ^ count) pos (omega (arith, pow-suc base count))) in
-    record {
-      digits = n % base ∷ h.digits;
-      long = ap suc h.long;
-      each = All-cons (λ d. d < base) (n % base) h.digits (mod_below n base pos) h.each;
-      value = rw (place_value-cons base (n % base) h.digits, h.value) (omega (arith, div-add-mod n base));
-    }
 
 pub scale_exists : (p : Pair) → p.code < varint_limit → length p.digest < 256 → (bytes : List ℕ) × IsScale p bytes
 scale_exists p below size =
-    let d = fixed_digits 256 (omega arith) 8 p.code (omega (arith, below)) in (
-      d.digits ++ length p.digest ∷ p.digest,
-      record {
-        code = d.digits;
-        is_code = record { eight = d.long; are_bytes = d.each; value = d.value };
-        in_range = below;
-        size = size;
-        spelled = refl;
-      },
+    let code = to_le_bytes w64 p.code in (
+      code ++ length p.digest ∷ p.digest,
+      record { code = code; is_code = code_bytes p.code (omega (arith, below)); in_range = below; size = size; spelled = refl },
     )
 
 -- a pair has at most one form

@@ -9,7 +9,8 @@ use Rattle.multihash.specs.Varint.{varint_limit, IsVarint}
 use Rattle.multihash.specs.Encoding.{IsEncoding}
 use Rattle.multihash.specs.Verdict.{Verdict, accepted, invalid_size, invalid_code, faulty, unexpected_eof, BeginsWith, HasSize, HasCode, HasVerdict, HasWholeVerdict}
 use Rattle.multihash.proofs.Varints.MarkedLemmas.{All-append_right}
-use Rattle.multihash.proofs.Varints.VarintLemmas.{varint_exists, varint_unique, Front, number, fault, HasFront, front_is, front_unique, front_of, front_of_has}
+use Rattle.multihash.proofs.Varints.VarintWriteLemmas.{varint_exists}
+use Rattle.multihash.proofs.Varints.VarintLemmas.{varint_unique, Front, number, fault, HasFront, front_is, front_unique, front_of, front_of_has}
 
 -- ---- encodings
 

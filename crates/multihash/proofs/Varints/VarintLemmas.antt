@@ -1,11 +1,11 @@
 -- One varint a number, and one front an input.
-use Rattle.std.proofs.Common.{◌≡◌, ℕ, zero, suc, ◌+◌, ◌-◌, cond, ltb, ◌/◌, ◌%◌, ◌^◌, ◌<◌, ◌≤◌, List, [], ◌∷◌, ◌++◌, length, refl, sym, ap, ◌∙◌, subst, arith, inl, inr, length-append, append_assoc, append-nil}
+use Rattle.std.proofs.Common.{◌≡◌, ℕ, zero, suc, ◌+◌, ◌-◌, cond, ltb, ◌^◌, ◌<◌, ◌≤◌, List, [], ◌∷◌, ◌++◌, length, refl, sym, ap, ◌∙◌, subst, arith, inl, inr, length-append, append_assoc, append-nil}
 use Rattle.std.specs.List.{All}
-use Rattle.std.proofs.Math.Nat.{pow-suc, pow-zero, mul-le-mul_left, one-le-pow, pow-le-pow_right, div-add-mod}
-use Rattle.std.proofs.lemmas.Nat.{same_from_place, mod_below, div_below}
+use Rattle.std.proofs.Math.Nat.{pow-suc, mul-le-mul_left, one-le-pow, pow-le-pow_right}
+use Rattle.std.proofs.lemmas.Nat.{same_from_place}
 use Rattle.std.proofs.lemmas.Bool.{cases_lt, lt-ltb, le-ltb}
 use Rattle.std.proofs.lemmas.List.{length-map, map-append}
-use Rattle.std.proofs.lemmas.List.Elements.{All-nil, All-cons, All-head, All-tail, All-push}
+use Rattle.std.proofs.lemmas.List.Elements.{All-nil, All-head, All-tail, All-push}
 use Rattle.multihash.specs.Bytes.{IsBytes, place_value}
 use Rattle.multihash.specs.Varint.{varint_limit, most_marked, first_too_large, IsMarked, marked, IsVarint, VarintFault, insufficient, overflow, not_minimal, HasFaultyFront}
 use Rattle.multihash.proofs.Varints.DigitLemmas.{place_value-nil, place_value-cons, place_value_below, place_value_last}
@@ -77,62 +77,6 @@ in_range front last digits small few most =
             mul-le-mul_left (128 ^ length front) (most e),
           )
     ]
-
--- the digits of a number
-pub record Digits (n : ℕ) : Type 0 where
-  pub front : List ℕ
-  pub last : ℕ
-  pub digits : All IsDigit (front ++ last ∷ [])
-  pub minimal : last ≡ 0 → front ≡ []
-  pub value : place_value 128 (front ++ last ∷ []) ≡ n
-
-one_digit : (n : ℕ) → n < 128 → Digits n
-one_digit n small = record {
-  front = [];
-  last = n;
-  digits = All-cons IsDigit n [] small (All-nil IsDigit);
-  minimal = λ _. refl;
-  value = rw (place_value-cons 128 n [], place_value-nil 128) (omega arith);
-}
-
-one_more : (n : ℕ) → 128 ≤ n → Digits (n / 128) → Digits n
-one_more n large h = record {
-  front = n % 128 ∷ h.front;
-  last = h.last;
-  digits = All-cons IsDigit (n % 128) (h.front ++ h.last ∷ []) (mod_below n 128 (omega arith)) h.digits;
-  minimal = λ zero_last. absurd (contradiction zero_last);
-  value = rw (place_value-cons 128 (n % 128) (h.front ++ h.last ∷ []), h.value) (omega (arith, div-add-mod n 128));
-}
-  where
-    contradiction : h.last ≡ 0 → ⊥
-    contradiction z =
-        let alone : place_value 128 (h.front ++ h.last ∷ []) ≡ place_value 128 ([] ++ 0 ∷ []) = cc (z, h.minimal z) in
-        omega (arith, alone, h.value, place_value-cons 128 0 [], place_value-nil 128, div-add-mod n 128, mod_below n 128 (omega arith))
-
-digits_exist : (k n : ℕ) → n < 128 ^ suc k → Digits n
-digits_exist zero n below = one_digit n (omega (arith, pow-suc 128 0, pow-zero 128))
-digits_exist (suc k) n below =
-    elim (cases_lt n 128) [
-      | inl small ↦ one_digit n small
-      | inr large ↦ one_more n large (digits_exist k (n / 128)
-          (div_below n 128 (128 ^ suc k) (omega arith) (omega (arith, pow-suc 128 (suc k)))))
-    ]
-
--- each number in range has a varint
-pub varint_exists : (n : ℕ) → n < varint_limit → (bytes : List ℕ) × IsVarint n bytes
-varint_exists n below =
-    let d = digits_exist most_marked n (omega arith) in (
-      marked d.front ++ d.last ∷ [],
-      record {
-        front = d.front;
-        last = d.last;
-        digits = d.digits;
-        minimal = d.minimal;
-        value = d.value;
-        in_range = below;
-        spelled = refl;
-      },
-    )
 
 -- one digit is too little for two or more
 longer_differs : (d : ℕ) (g : List ℕ) (l m : ℕ) → l < 128 → (m ≡ 0 → d ∷ g ≡ [])

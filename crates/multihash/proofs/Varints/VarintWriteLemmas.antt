@@ -1,8 +1,8 @@
--- What the loop that writes a varint's bytes keeps.
-use Rattle.std.proofs.Common.{◌≡◌, ℕ, suc, ◌+◌, ◌*◌, ◌/◌, ◌%◌, ◌^◌, ◌<◌, ◌≤◌, List, [], ◌∷◌, ◌++◌, length, refl, sym, ap, ◌∙◌, arith, add-one, inl, inr, bit_and, bit_or}
+-- What the loop that writes a varint's bytes keeps, and that each number in range has a varint.
+use Rattle.std.proofs.Common.{◌≡◌, ℕ, zero, suc, ◌+◌, ◌*◌, ◌/◌, ◌%◌, ◌^◌, ◌<◌, ◌≤◌, List, [], ◌∷◌, ◌++◌, length, refl, sym, ap, ◌∙◌, arith, add-one, inl, inr, bit_and, bit_or}
 use Rattle.std.specs.List.{All}
-use Rattle.std.proofs.Math.Nat.{pow-suc, div-add-mod', pow-le-pow_right, mul-le-mul_right}
-use Rattle.std.proofs.lemmas.Nat.{and_mask, or_comm, or_shifted, mod_below}
+use Rattle.std.proofs.Math.Nat.{pow-suc, pow-zero, div-add-mod', pow-le-pow_right, mul-le-mul_right}
+use Rattle.std.proofs.lemmas.Nat.{and_mask, or_comm, or_shifted, mod_below, div_below}
 use Rattle.std.proofs.lemmas.List.{length-map, map_push, length_push, nil_from_length}
 use Rattle.std.proofs.lemmas.List.Elements.{All-nil, All-push}
 use Rattle.std.proofs.lemmas.Bool.{cases_lt}
@@ -87,3 +87,18 @@ wrote_fewer now n rest range h large =
 -- a small number is its own varint
 pub one_byte : (n : ℕ) → n < 128 → IsVarint n (n ∷ [])
 one_byte n small = wrote_last [] n n (omega (arith, small)) (none_wrote n) small
+
+-- each number in range has a varint
+exists_from : (k : ℕ) (now : List ℕ) (n rest : ℕ) → n < varint_limit → Wrote now n rest → rest < 128 ^ suc k → (bytes : List ℕ) × IsVarint n bytes
+exists_from zero now n rest range h below = (now ++ rest ∷ [], wrote_last now n rest range h (omega (arith, below, pow-suc 128 0, pow-zero 128)))
+exists_from (suc k) now n rest range h below =
+    elim (cases_lt rest 128) [
+      | inl small ↦ (now ++ rest ∷ [], wrote_last now n rest range h small)
+      | inr large ↦
+          exists_from k (now ++ bit_or (bit_and rest 127) 128 ∷ []) n (rest / 128) range
+          (wrote_more now (now ++ bit_or (bit_and rest 127) 128 ∷ []) n rest h large refl)
+          (div_below rest 128 (128 ^ suc k) (omega arith) (omega (arith, below, pow-suc 128 (suc k))))
+    ]
+
+pub varint_exists : (n : ℕ) → n < varint_limit → (bytes : List ℕ) × IsVarint n bytes
+varint_exists n below = exists_from most_marked [] n n below (none_wrote n) (omega (arith, below))

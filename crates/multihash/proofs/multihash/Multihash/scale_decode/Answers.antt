@@ -1,4 +1,4 @@
-use Rattle.std.proofs.Common.{◌≡◌, ◌<◌, ℕ, [], ◌∷◌, ◌++◌, length, get_or, take, drop, replicate, refl, sym, ap, ◌∙◌, arith, rules}
+use Rattle.std.proofs.Common.{◌≡◌, ◌<◌, ℕ, [], ◌∷◌, ◌++◌, length, take, drop, replicate, refl, sym, ap, ◌∙◌, arith, rules}
 use Rattle.std.proofs.lemmas.List.{take_at, length-take-le, length-replicate}
 use Rattle.multihash.specs.Varint.{varint_limit}
 use Rattle.multihash.proofs.Readings.ReadingLemmas.{Takes-joined}
@@ -9,18 +9,14 @@ use Rattle.multihash.proofs.multihash.Multihash.scale_decode.Goals as goal
 pub returns-then-code-gt-MAX : goal.returns-then-code-gt-MAX
 returns-then-code-gt-MAX g c =
     let a = c.in_ok-code_bytes.code_bytes in
-    let each : (i : ℕ) → get_or a i 0 < 256 = search rules in
-    let eight : length a ≡ 8 = search rules in
-    let is_code = code_read a c.from_le_bytes-code.result eight each (omega (arith, c.from_le_bytes-code.type_inv)) c.from_le_bytes-code.ensures in
+    let is_code = code_read a c.from_le_bytes-code.result (search rules) (search rules) (omega (arith, c.from_le_bytes-code.type_inv)) c.from_le_bytes-code.ensures in
     code_refused g.row.S _ a is_code _ _ _ _ _ (omega (arith, c.if-code-gt-MAX.true)) c.in_ok-code_bytes.ensures.faults c.from_code.ensures c.in_ok-code_bytes.ensures.takes
 
 pub returns-in_err-size_byte : goal.returns-in_err-size_byte
 returns-in_err-size_byte g c =
     let S = g.row.S in
     let a = c.in_ok-code_bytes.code_bytes in
-    let each : (i : ℕ) → get_or a i 0 < 256 = search rules in
-    let eight : length a ≡ 8 = search rules in
-    let is_code = code_read a c.from_le_bytes-code.result eight each (omega (arith, c.from_le_bytes-code.type_inv)) c.from_le_bytes-code.ensures in
+    let is_code = code_read a c.from_le_bytes-code.result (search rules) (search rules) (omega (arith, c.from_le_bytes-code.type_inv)) c.from_le_bytes-code.ensures in
     let t = c.in_err-size_byte.ensures.err in
     let unrisen = c.in_ok-code_bytes.ensures.faults in
     inside_refused S a 1 (no_size S _ a is_code (omega (arith, c.if-code-gt-MAX.false))) c.from_residual-in_err-size_byte.result _ t.taken _ _ _ _ _
@@ -30,12 +26,9 @@ pub returns-then-size : goal.returns-then-size
 returns-then-size g c =
     let a = c.in_ok-code_bytes.code_bytes in
     let size = c.from-size.result in
-    let each : (i : ℕ) → get_or a i 0 < 256 = search rules in
-    let eight : length a ≡ 8 = search rules in
-    let is_code = code_read a c.from_le_bytes-code.result eight each (omega (arith, c.from_le_bytes-code.type_inv)) c.from_le_bytes-code.ensures in
+    let is_code = code_read a c.from_le_bytes-code.result (search rules) (search rules) (omega (arith, c.from_le_bytes-code.type_inv)) c.from_le_bytes-code.ensures in
     let below : c.from_le_bytes-code.result < varint_limit = omega (arith, c.if-code-gt-MAX.false) in
-    let single : length c.in_ok-size_byte.size_byte ≡ 1 = search rules in
-    let one : c.in_ok-size_byte.size_byte ≡ size ∷ [] = one_item _ single ∙ ap (λ n. n ∷ []) (sym c.from-size.ensures) in
+    let one : c.in_ok-size_byte.size_byte ≡ size ∷ [] = one_item _ (search rules) ∙ ap (λ n. n ∷ []) (sym c.from-size.ensures) in
     size_refused g.row.S _ a is_code size below _ _ _ _ _ c.if-size.true (c.in_ok-size_byte.ensures.faults ∙ c.in_ok-code_bytes.ensures.faults) c.from_size.ensures
     (Takes-joined _ _ _ a (size ∷ []) _ refl c.in_ok-code_bytes.ensures.takes (rw one at c.in_ok-size_byte.ensures.takes))
 
@@ -44,12 +37,9 @@ returns-in_err-read_exact g c =
     let S = g.row.S in
     let a = c.in_ok-code_bytes.code_bytes in
     let size = c.from-size.result in
-    let each : (i : ℕ) → get_or a i 0 < 256 = search rules in
-    let eight : length a ≡ 8 = search rules in
-    let is_code = code_read a c.from_le_bytes-code.result eight each (omega (arith, c.from_le_bytes-code.type_inv)) c.from_le_bytes-code.ensures in
+    let is_code = code_read a c.from_le_bytes-code.result (search rules) (search rules) (omega (arith, c.from_le_bytes-code.type_inv)) c.from_le_bytes-code.ensures in
     let below : c.from_le_bytes-code.result < varint_limit = omega (arith, c.if-code-gt-MAX.false) in
-    let single : length c.in_ok-size_byte.size_byte ≡ 1 = search rules in
-    let one : c.in_ok-size_byte.size_byte ≡ size ∷ [] = one_item _ single ∙ ap (λ n. n ∷ []) (sym c.from-size.ensures) in
+    let one : c.in_ok-size_byte.size_byte ≡ size ∷ [] = one_item _ (search rules) ∙ ap (λ n. n ∷ []) (sym c.from-size.ensures) in
     let room : length (take size (replicate {A = ℕ} S 0)) ≡ size =
     length-take-le size (replicate {A = ℕ} S 0) (omega (arith, length-replicate {A = ℕ} S 0, c.if-size.false)) in
     let t = c.in_err-read_exact.ensures.laws.err in
@@ -63,12 +53,9 @@ pub returns : goal.returns
 returns g c =
     let a = c.in_ok-code_bytes.code_bytes in
     let size = c.from-size.result in
-    let each : (i : ℕ) → get_or a i 0 < 256 = search rules in
-    let eight : length a ≡ 8 = search rules in
-    let is_code = code_read a c.from_le_bytes-code.result eight each (omega (arith, c.from_le_bytes-code.type_inv)) c.from_le_bytes-code.ensures in
+    let is_code = code_read a c.from_le_bytes-code.result (search rules) (search rules) (omega (arith, c.from_le_bytes-code.type_inv)) c.from_le_bytes-code.ensures in
     let below : c.from_le_bytes-code.result < varint_limit = omega (arith, c.if-code-gt-MAX.false) in
-    let single : length c.in_ok-size_byte.size_byte ≡ 1 = search rules in
-    let one : c.in_ok-size_byte.size_byte ≡ size ∷ [] = one_item _ single ∙ ap (λ n. n ∷ []) (sym c.from-size.ensures) in
+    let one : c.in_ok-size_byte.size_byte ≡ size ∷ [] = one_item _ (search rules) ∙ ap (λ n. n ∷ []) (sym c.from-size.ensures) in
     let d = c.read_exact.new.buf in
     let long : length d ≡ size = search rules in
     let front : take size (d ++ drop size (replicate {A = ℕ} g.row.S 0)) ≡ d = take_at d _ size long in

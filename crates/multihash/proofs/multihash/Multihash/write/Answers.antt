@@ -2,7 +2,7 @@ use Rattle.std.proofs.Common.{length, refl, ◌∙◌, arith}
 use Rattle.multihash.specs.Encoding.{IsEncoding}
 use Rattle.multihash.specs.Answer.{pair_of}
 use Rattle.multihash.proofs.Writings.EncodingLemmas.{encoding_of, length-parts}
-use Rattle.multihash.proofs.Varints.VarintLemmas.{varint_exists}
+use Rattle.multihash.proofs.Varints.VarintWriteLemmas.{varint_exists}
 use Rattle.multihash.proofs.Writings.WritingLemmas.{stops_in_first, stops_in_second, stops_in_third, stands_whole}
 use Rattle.multihash.proofs.multihash.Multihash.write.Goals as goal
 
