@@ -20,7 +20,11 @@ tests() {
 		memory::refused_scale_encode some
 		memory::refused_write_list some
 		memory::refused_write_of_a_long_list some
+		memory::refused_write_of_a_vector 1
+		memory::refused_push 1
 		memory::needs_no_memory 0
+		memory::parts_and_slices_need_no_memory 0
+		memory::errors_need_no_memory 0
 		LIST
         ;;
     mh_show) cat <<-'LIST'

@@ -7,6 +7,7 @@ use serde_json::{Value, json};
 use std::alloc::{AllocError, Global};
 use std::test::Fail;
 use uses::forms::json_back;
+use uses::json_text::{self, TextError};
 
 const DIGEST: [u8; 32] = [
     159, 228, 204, 198, 222, 22, 114, 79, 58, 48, 199, 232, 242, 84, 243, 198, 71, 25, 134, 172,
@@ -81,6 +82,7 @@ fn other_values_are_no_bytes(rt: HostRuntime) -> Result<(), Fail> {
         "[0,256]",
         "[0,1.0]",
         "[0,-1]",
+        "[0,-0]",
         "[0,0,0,0.0]",
         "[256]",
         "[0,0,18446744073709551615]",
@@ -193,5 +195,21 @@ fn a_long_array_is_counted(rt: HostRuntime) -> Result<(), Fail> {
     }
     let answer = Multihash::<2>::from_value(&Value::Array(members));
     assert!(rt; is_refused(&answer, Refusal::InvalidSize(100000)));
+    Ok(())
+}
+
+#[test]
+fn a_multihash_comes_back_from_its_text(rt: HostRuntime) -> Result<(), Fail> {
+    let m = Multihash::<32>::wrap(18, &DIGEST)?;
+    let text = json_text::print(rt.alloc(), &m).map_err(|_| "not printed")?;
+    assert_eq!(rt; text.as_str(), DIGEST_TEXT);
+    let parsed = json_text::parse::<64>(rt.alloc(), DIGEST_TEXT);
+    assert!(rt; parsed.is_ok_and(|back| back.same_as(&m)));
+    let back = json_text::text_back::<32, 300>(rt.alloc(), &m);
+    assert!(rt; back.is_ok_and(|back| back.same_as(&m)));
+    let refused = json_text::text_back::<32, 31>(rt.alloc(), &m);
+    assert!(rt; matches!(&refused, Err(TextError::Value(e)) if is_size(e, 32)));
+    let refused = json_text::parse::<32>(rt.alloc(), "[0,0");
+    assert!(rt; matches!(&refused, Err(TextError::Text(_))));
     Ok(())
 }

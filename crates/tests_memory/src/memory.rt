@@ -4,9 +4,10 @@
 use fakes::expect::expect_bytes;
 use fakes::refusal::{LARGEST_CODE, Refusal, is_refused};
 use multihash::list::{read_list, write_list};
-use multihash::no_std_io::Write;
-use multihash::{Error, Multihash};
+use multihash::no_std_io::{self, Read, SliceWriter, Write};
+use multihash::{Error, Head, Multihash, laws, varint};
 use serde_json::Value;
+use std::hash::{DefaultHasher, Hash, Hasher};
 use std::process::Abort;
 use std::test::Fail;
 
@@ -127,6 +128,35 @@ fn refused_write_of_a_long_list(rt: HostRuntime) -> Result<(), Fail> {
     unless_refused(&rt, answer)
 }
 
+// A vector that is refused its room stays as it was, under both calls of a writer.
+#[test]
+fn refused_write_of_a_vector(rt: HostRuntime) -> Result<(), Fail> {
+    let mut held = Vec::new(rt.alloc());
+    let answer = held.write(&[1, 2, 3]);
+    if answer.is_err() {
+        assert!(rt; held.is_empty() && held.capacity() == 0);
+        assert!(rt; held.write_all(&[1, 2, 3]).is_ok());
+        assert_eq!(rt; held.as_slice(), [1, 2, 3].as_slice());
+    }
+    assert_eq!(rt; unless_refused(&rt, answer.map_err(Error::from))?, 3);
+    assert_eq!(rt; held.as_slice(), [1, 2, 3].as_slice());
+    Ok(())
+}
+
+// So does one under `?` behind a push: the error is the library's.
+#[test]
+fn refused_push(rt: HostRuntime) -> Result<(), Fail> {
+    let mut held = Vec::new(rt.alloc());
+    let answer = keep(&mut held, long()?);
+    assert_eq!(rt; held.len(), usize::from(answer.is_ok()));
+    unless_refused(&rt, answer)
+}
+
+fn keep(held: &mut Vec<Multihash<200>>, multihash: Multihash<200>) -> Result<(), Error> {
+    held.push(multihash)?;
+    Ok(())
+}
+
 // Passes also where each request is refused, since none of these calls makes one.
 #[test]
 fn needs_no_memory(rt: HostRuntime) -> Result<(), Fail> {
@@ -159,6 +189,57 @@ fn needs_no_memory(rt: HostRuntime) -> Result<(), Fail> {
     let refused = Multihash::<4>::scale_decode(&mut [255; 8].as_slice());
     assert!(rt; is_refused(&refused, Refusal::InvalidCode(u64::MAX)));
     Ok(())
+}
+
+// As `needs_no_memory`: the parts of a value, what a slice answers as a reader and a writer, the varints, the laws.
+#[test]
+fn parts_and_slices_need_no_memory(rt: HostRuntime) -> Result<(), Fail> {
+    let m = Multihash::<6>::wrap(300, b"foobar")?;
+    assert_eq!(rt; (m.code(), m.size(), m.encoded_len()), (300, 6, 9));
+    assert_eq!(rt; m.digest(), b"foobar".as_slice());
+    assert_eq!(rt; m.into_inner().2, 6);
+    let mut state = DefaultHasher::new();
+    m.hash(&mut state);
+    let mut again = DefaultHasher::new();
+    m.hash(&mut again);
+    assert_eq!(rt; state.finish(), again.finish());
+    let mut places = [0u8; 9];
+    assert_eq!(rt; m.write(&mut places.as_mut_slice())?, 9);
+    assert_eq!(rt; Head::read_front(&places)?.len, 3);
+    assert_eq!(rt; varint::read_front(&places)?, (300, 2));
+    assert_eq!(rt; varint::read(&mut places.as_slice())?, 300);
+    assert_eq!(rt; varint::len(300)?, 2);
+    assert_eq!(rt; varint::write(300, &mut [0u8; 2].as_mut_slice())?, 2);
+    let mut left = places.as_slice();
+    let mut buf = [0u8; 3];
+    assert!(rt; left.read(&mut buf).is_ok() && left.read_exact(&mut buf).is_ok());
+    let mut free: &mut [u8] = &mut [0; 3];
+    assert!(rt; free.write(&[1]).is_ok() && free.write_all(&[1, 2]).is_ok());
+    let mut kept = [0u8; 3];
+    let mut writer = SliceWriter::new(&mut kept);
+    assert!(rt; writer.write(&[1]).is_ok() && writer.write_all(&[1, 2]).is_ok());
+    laws::one_verdict();
+    laws::settles();
+    laws::prefix_free();
+    laws::split_unique();
+    laws::scale_unique();
+    laws::json_unique();
+    Ok(())
+}
+
+#[test]
+fn errors_need_no_memory(rt: HostRuntime) {
+    let e = Error::from(no_std_io::Error::other("x"));
+    assert!(rt;
+        e.io()
+            .is_some_and(|e| e.is_other() && e.text() == "x" && !e.is_write_zero())
+    );
+    assert!(rt; !e.is_overflow() && !e.is_insufficient() && !e.is_not_minimal());
+    assert!(rt; e.invalid_size().is_none() && e.invalid_code().is_none() && !e.is_early_end());
+    let e = Error::from(no_std_io::Error::out_of_memory());
+    assert!(rt; is_memory(&e) && !e.is_early_end() && !e.is_not_bytes());
+    let empty = Value::Array(Vec::new(rt.alloc()));
+    assert!(rt; Multihash::<4>::from_value(&empty).is_err_and(|e| e.is_insufficient()));
 }
 
 #[test]

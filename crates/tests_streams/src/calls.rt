@@ -99,6 +99,17 @@ fn a_cut_digest_asks_once(rt: HostRuntime) {
     assert_eq!(rt; reader.asked(), (4, 0, 2));
 }
 
+// For none, too: an empty digest is asked for once.
+#[test]
+fn an_empty_digest_is_asked_for_once(rt: HostRuntime) {
+    let mut reader = Counts::new(&[0, 0, 9]);
+    assert!(rt; Multihash::<4>::read(&mut reader).is_ok());
+    assert_eq!(rt; reader.asked(), (2, 0, 1));
+    let mut reader = Counts::new(&[0; 9]);
+    assert!(rt; Multihash::<4>::scale_decode(&mut reader).is_ok());
+    assert_eq!(rt; reader.asked(), (0, 0, 3));
+}
+
 #[test]
 fn an_ended_reader_is_not_asked_again(rt: HostRuntime) {
     for (input, single) in [([].as_slice(), 1), (&[128], 2), (&[172, 2], 3)] {

@@ -12,4 +12,6 @@ mod no_std_io;
 #[cfg(test)]
 mod places;
 #[cfg(test)]
+mod recovery;
+#[cfg(test)]
 mod retries;

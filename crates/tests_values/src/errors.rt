@@ -206,3 +206,32 @@ fn errors_are_errors(rt: HostRuntime) -> Result<(), Fail> {
     assert!(rt; !format!(in rt.alloc(); "{fault:?}")?.is_empty());
     Ok(())
 }
+
+#[test]
+fn more_input_helps_early_ends_alone(rt: HostRuntime) -> Result<(), Fail> {
+    for early in [&[][..], &[0x80], &[0x12], &[0x12, 0x80], &[0, 1]] {
+        assert!(rt;
+            Multihash::<4>::from_bytes(early).is_err_and(|e| e.is_early_end()),
+            "{early:?}"
+        );
+    }
+    assert!(rt;
+        Multihash::<4>::scale_decode(&mut [7; 7].as_slice()).is_err_and(|e| e.is_early_end())
+    );
+    let m = Multihash::<4>::wrap(0, &[7])?;
+    for late in [
+        Multihash::<4>::wrap(0, &[0; 5]).err(),
+        Multihash::<4>::wrap(1 << 63, &[]).err(),
+        Multihash::<4>::from_bytes(&[0xff; 12]).err(),
+        Multihash::<4>::from_bytes(&[0x80, 0]).err(),
+        Multihash::<4>::from_bytes(&[0, 5]).err(),
+        Multihash::<4>::from_bytes(&[0, 0, 7]).err(),
+        Multihash::<4>::from_value(&Value::Null).err(),
+        m.write(&mut [].as_mut_slice()).err(),
+        Some(no_std_io::Error::out_of_memory().into()),
+        Some(no_std_io::Error::other("disk gone").into()),
+    ] {
+        assert!(rt; late.is_some_and(|e| !e.is_early_end()));
+    }
+    Ok(())
+}

@@ -5,7 +5,7 @@ use Rattle.serde_json.specs.View.{items_of}
 use Rattle.serde_json.specs.Read.{max_depth, read}
 use Rattle.multihash.specs.Pair.{Pair}
 use Rattle.multihash.specs.Encoding.{IsEncoding}
-use Rattle.multihash.specs.Json.{IsJsonList, IsByteArray, number_array}
+use Rattle.multihash.specs.Json.{IsJsonList, IsByteArray}
 use Rattle.multihash.specs.Answer.{Fields, pair_of}
 use Rattle.multihash.proofs.Forms.JsonLemmas.{json_bytes}
 use Rattle.multihash.proofs.Readings.VerdictLemmas.{encoding_unique}

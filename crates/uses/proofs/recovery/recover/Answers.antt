@@ -1,9 +1,8 @@
-use Rattle.std.proofs.Common.{◌≡◌, ◌<◌, ◌+◌, ◌∙◌, List, [], ◌++◌, map, length, sym, arith, append-nil, subst, refl, rules}
+use Rattle.std.proofs.Common.{◌≡◌, ◌+◌, ◌∙◌, [], map, sym, arith, append-nil, subst, refl, rules}
 use Rattle.std.proofs.lemmas.Bool.{false≢true}
 use Rattle.std.proofs.lemmas.List.{nil_from_length}
-use Rattle.multihash.specs.Verdict.{accepted, IsEarlyEnd}
+use Rattle.multihash.specs.Verdict.{IsEarlyEnd}
 use Rattle.multihash.specs.Answer.{pair_of}
-use Rattle.multihash.specs.Taking.{TakesShortestSettling}
 use Rattle.multihash.proofs.CallingLemmas.{takes_some}
 use Rattle.uses.specs.Recovery.{Recovers, ended, cut}
 use Rattle.uses.proofs.RecoveryLemmas.{one_more_pair, one_more_refused}
