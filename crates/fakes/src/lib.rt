@@ -1,7 +1,6 @@
-//! Readers and writers for tests, and what tests ask of bytes and of errors.
+//! Readers and writers for tests, and what tests ask of errors.
 #![tactic(auto)]
 
-pub mod expect;
 mod pins;
 pub mod readers;
 pub mod refusal;

@@ -1,5 +1,5 @@
 //! The examples of the README.
-use fakes::expect::expect_bytes;
+use crate::expect::expect_bytes;
 use multihash::Multihash;
 use std::test::Fail;
 use uses::readme::{head, json, scale, store, there_and_back};

@@ -1,5 +1,5 @@
 //! Varints, both ways.
-use fakes::expect::expect_bytes;
+use crate::expect::expect_bytes;
 use fakes::readers::{Counts, Cuts};
 use fakes::refusal::{Refusal, is_refused};
 use multihash::{Multihash, varint};

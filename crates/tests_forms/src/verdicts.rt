@@ -1,7 +1,7 @@
 //! What reading answers to each kind of input, and which bytes it takes.
 ghost use Rattle.std.specs.Prelude.{◌<◌, ◌^◌};
 
-use fakes::expect::expect_bytes;
+use crate::expect::expect_bytes;
 use fakes::readers::{Cuts, Silent};
 use fakes::refusal::Refusal::{Insufficient, InvalidSize, NotMinimal, Overflow, UnexpectedEof};
 use fakes::refusal::{Refusal, is_refused};

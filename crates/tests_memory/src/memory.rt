@@ -1,7 +1,7 @@
 //! Memory that is refused. A test whose name begins with `refused` passes where nothing is refused.
 //! Where a request is, it looks at what stands then, and fails with `REFUSED`:
 //! `tools/refuse_memory.sh` refuses each request in turn, and counts them so.
-use fakes::expect::expect_bytes;
+use crate::expect::expect_bytes;
 use fakes::refusal::{LARGEST_CODE, Refusal, is_refused};
 use multihash::list::{read_list, write_list};
 use multihash::no_std_io::{self, Read, SliceWriter, Write};

@@ -1,5 +1,5 @@
 //! How often readers and writers are asked, and that one that failed is not asked again.
-use fakes::expect::expect_bytes;
+use crate::expect::expect_bytes;
 use fakes::readers::{Counts, Cuts, FailAt};
 use fakes::refusal::{LARGEST_CODE, Refusal, is_failed, is_refused};
 use fakes::writers::{CountsWrites, Drip};

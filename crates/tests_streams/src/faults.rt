@@ -1,6 +1,6 @@
 //! Readers and writers that cut, end and fail, at each call and in each room: what was taken or
 //! appended then, and that a fault comes out as it went in.
-use fakes::expect::expect_bytes;
+use crate::expect::expect_bytes;
 use fakes::readers::{Cuts, FailAt, Silent};
 use fakes::refusal::{Refusal, is_refused};
 use fakes::writers::{Drip, FailWrite};

@@ -1,5 +1,5 @@
 //! Worked values of streams.
-use fakes::expect::expect_bytes;
+use crate::expect::expect_bytes;
 use fakes::readers::{Cuts, Silent};
 use fakes::refusal::{Refusal, is_refused};
 use multihash::list::{read_list, write_list};

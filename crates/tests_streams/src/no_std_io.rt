@@ -1,5 +1,5 @@
 //! Which bytes stand where, and that the calls of readers and writers succeed.
-use fakes::expect::expect_bytes;
+use crate::expect::expect_bytes;
 use fakes::readers::{Cuts, FailAt, Silent};
 use fakes::refusal::{Refusal, is_failed};
 use fakes::writers::{Drip, FailWrite};

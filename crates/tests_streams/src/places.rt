@@ -1,5 +1,5 @@
 //! Slices that are filled and kept.
-use fakes::expect::expect_bytes;
+use crate::expect::expect_bytes;
 use fakes::refusal::{Refusal, is_failed, is_refused};
 use multihash::Multihash;
 use multihash::no_std_io::{SliceWriter, Write};

@@ -1,5 +1,5 @@
 //! A reader that asks another one again where it failed.
-use fakes::expect::expect_bytes;
+use crate::expect::expect_bytes;
 use fakes::readers::{Cuts, FailAt};
 use fakes::refusal::{Refusal, is_refused};
 use multihash::{Error, Multihash};

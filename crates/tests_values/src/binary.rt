@@ -1,7 +1,7 @@
 //! Worked values of the type and of its binary form.
 ghost use Rattle.std.specs.Prelude.{◌<◌, ◌^◌};
 
-use fakes::expect::expect_bytes;
+use crate::expect::expect_bytes;
 use fakes::readers::Cuts;
 use fakes::refusal::{LARGEST_CODE, Refusal, is_refused};
 use multihash::no_std_io::Read;

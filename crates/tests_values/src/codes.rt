@@ -1,5 +1,5 @@
 //! Codes at the limit, and who refuses a larger one.
-use fakes::expect::expect_bytes;
+use crate::expect::expect_bytes;
 use fakes::refusal::{LARGEST_CODE, Refusal, is_refused};
 use multihash::{Error, Multihash};
 use std::test::Fail;

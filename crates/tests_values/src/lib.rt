@@ -8,4 +8,6 @@ mod codes;
 #[cfg(test)]
 mod errors;
 #[cfg(test)]
+mod expect;
+#[cfg(test)]
 mod values;

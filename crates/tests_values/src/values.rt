@@ -1,5 +1,5 @@
 //! Worked values of comparing, hashing, truncating and resizing.
-use fakes::expect::expect_bytes;
+use crate::expect::expect_bytes;
 use fakes::refusal::{LARGEST_CODE, Refusal, is_refused};
 use multihash::{Multihash, MultihashGeneric, list, no_std_io};
 use std::cmp::Ordering;

@@ -1,4 +1,4 @@
-//! What a test expects, proved once for all of them. A failure names the line of the test.
+//! What a test expects of bytes, proved once for all of the crate: only tests may end the process, so no library has it.
 use std::process::Abort;
 
 /// Fails where the bytes are not those that are wanted.
