@@ -237,7 +237,9 @@ fn errors_need_no_memory(rt: HostRuntime) {
     assert!(rt; !e.is_overflow() && !e.is_insufficient() && !e.is_not_minimal());
     assert!(rt; e.invalid_size().is_none() && e.invalid_code().is_none() && !e.is_early_end());
     let e = Error::from(no_std_io::Error::out_of_memory());
-    assert!(rt; is_memory(&e) && !e.is_early_end() && !e.is_not_bytes());
+    assert!(rt;
+        Refusal::of(&e) == Some(Refusal::OutOfMemory) && !e.is_early_end() && !e.is_not_bytes()
+    );
     let empty = Value::Array(Vec::new(rt.alloc()));
     assert!(rt; Multihash::<4>::from_value(&empty).is_err_and(|e| e.is_insufficient()));
 }

@@ -113,7 +113,7 @@ fn a_reader_fails_at_every_call(rt: HostRuntime) {
 fn a_reader_fails_at_its_second_call(rt: HostRuntime) -> Result<(), Fail> {
     let mut reader = FailAt::new(Cuts::new(&[0, 1, 65], 1), 1);
     let refused = Multihash::<4>::read(&mut reader).err().ok_or("read")?;
-    assert!(rt; is_link_down(&refused) && !refused.is_early_end());
+    assert!(rt; Refusal::of(&refused) == Some(Refusal::LINK_DOWN) && !refused.is_early_end());
     assert_eq!(rt; format!(in rt.alloc(); "{refused}")?.as_str(), "link down");
     assert_eq!(rt; reader.cuts.left, [1, 65].as_slice());
     Ok(())
