@@ -37,16 +37,12 @@ fn expect_encoding<const S: usize>(rt: &impl Abort, alloc: Global, row: &Row) ->
     let (name, code, digest, encoding) = *row;
     let m = Multihash::<S>::wrap(code, digest)?;
     let bytes = m.to_bytes(alloc)?;
-    assert_eq!(rt; bytes.as_slice(), encoding, "{name}");
+    assert!(rt; bytes.as_slice() == encoding, "{name}");
     assert_eq!(rt; m.encoded_len(), encoding.len(), "{name}");
-    let back: Multihash<16> = bytes_back(alloc, &m)?;
-    for m in [m.code(), back.code()] {
-        assert_eq!(rt; m, code, "{name}");
-    }
-    for digest_of in [m.digest(), back.digest()] {
-        assert_eq!(rt; digest_of, digest, "{name}");
-    }
     assert_eq!(rt; usize::from(m.size()), digest.len(), "{name}");
+    assert!(rt; m.code() == code && m.digest() == digest, "{name}");
+    let back: Multihash<16> = bytes_back(alloc, &m)?;
+    assert!(rt; back.code() == code && back.digest() == digest, "{name}");
     Ok(())
 }
 
