@@ -199,7 +199,7 @@ def main():
     with tempfile.TemporaryDirectory(prefix="wrong-bodies-") as folder:
         proved = given.proved or f"{folder}/proved"
         crates = lanes.crates_of(given.root)
-        asked = words_of(given.crates) or {it: set() for it in crates}
+        asked = words_of(given.crates) or {it: set() for it in crates if os.path.isdir(f"{given.root}/crates/{it}/{given.part}")}
         needed = [it for crate in asked if crate in crates for it in [*lanes.below(crates, crate), crate]]
         needed = {it: crates[it] for it in crates if it in needed}
         known, unproved = copy_of.prove(given.root, proved, needed, jobs, say)
