@@ -7,6 +7,7 @@ use std::alloc::Global;
 use std::process::Abort;
 use std::test::Fail;
 use uses::bytes::bytes_back;
+use uses::parts::{PartError, first_part};
 
 const VARINTS: [(u64, &[u8]); 13] = [
     (0, &[0x00]),
@@ -207,4 +208,21 @@ fn a_varint_asks_byte_by_byte(rt: HostRuntime) {
     let mut reader = Counts::new(&[0, 128]);
     assert!(rt; Multihash::<4>::read(&mut reader).is_err());
     assert_eq!(rt; (reader.single, reader.others, reader.whole), (3, 0, 0));
+}
+
+// The code 421 is of two bytes; behind the part stands a byte of the next.
+#[test]
+fn an_address_is_taken_apart(rt: HostRuntime) {
+    match first_part(&[0xa5, 0x03, 2, 7, 8, 9]) {
+        Ok((part, rest)) => {
+            assert_eq!(rt; (part.code, part.bytes, rest), (421, &[7, 8][..], &[9][..]));
+        }
+        Err(_) => assert!(rt; false),
+    }
+    assert!(rt;
+        first_part(&[4, 0]).is_ok_and(|(part, rest)| part.bytes.is_empty() && rest.is_empty())
+    );
+    assert!(rt; matches!(first_part(&[4, 3, 1, 2]), Err(PartError::Cut)));
+    assert!(rt; matches!(first_part(&[0x80]), Err(PartError::Head(e)) if e.is_insufficient()));
+    assert!(rt; matches!(first_part(&[4, 0x80, 0]), Err(PartError::Head(e)) if e.is_not_minimal()));
 }

@@ -10,6 +10,7 @@ pub mod dump;
 pub mod forms;
 pub mod json_text;
 pub mod merkle;
+pub mod parts;
 pub mod peer_id;
 pub mod places;
 pub mod readme;

@@ -1,0 +1,49 @@
+//! Addresses of parts, as a multiaddr has them: each a code, a length and as many bytes.
+ghost use Rattle.std.specs.Prelude.{◌≡◌, ℕ, List, ◌++◌, length, IfOk};
+ghost use Rattle.multihash.specs.Varint.{IsVarint};
+
+use multihash::{Error, varint};
+
+/// A part of an address: what it is, and its bytes.
+#[derive(Clone, Copy, Debug)]
+pub struct Part<'a> {
+    pub code: u64,
+    pub bytes: &'a [u8],
+}
+
+/// Why no part begins an address.
+#[derive(Debug, Drop)]
+pub enum PartError {
+    /// No two varints begin it.
+    Head(Error),
+    /// Fewer bytes follow than the length says.
+    Cut,
+}
+
+impl From<Error> for PartError {
+    fn from(e: Error) -> Self {
+        PartError::Head(e)
+    }
+}
+
+/// Takes the part that begins the address apart: the varint of its code, the varint of its length, and its
+/// bytes. What follows it is the rest of the address.
+///
+/// # Errors
+///
+/// An address that no part begins.
+pub fn first_part(address: &[u8]) -> Result<(Part<'_>, &[u8]), PartError>
+    ensures { IfOk result (λ taken. (code size : List ℕ) × IsVarint taken.0.code code
+        × IsVarint (length taken.0.bytes.now) size
+        × (address.now ≡ code ++ (size ++ (taken.0.bytes.now ++ taken.1.now)))) }
+{
+    let (code, code_len) = varint::read_front(address)?;
+    let behind_code = &address[code_len..];
+    let (size, size_len) = varint::read_front(behind_code)?;
+    let behind_size = &behind_code[size_len..];
+    if size > behind_size.len() as u64 {
+        return Err(PartError::Cut);
+    }
+    let (bytes, rest) = behind_size.split_at(size as usize);
+    Ok((Part { code, bytes }, rest))
+}
