@@ -67,7 +67,7 @@ fn a_list_comes_back_from_a_slice(rt: HostRuntime) -> Result<(), Fail> {
         assert!(rt; read.same_as(written));
     }
     expect_bytes(&rt, &places, &[1, 2, 7, 8, 0xac, 0x02, 0, 5]);
-    assert!(rt; list_back::<4, 2>(rt.alloc(), &items, &mut places[..6])?.is_none());
+    assert!(rt; list_back::<4, 2>(rt.alloc(), &items, &mut [5; 6])?.is_none());
     let refused = list_back::<4, 1>(rt.alloc(), &items, &mut places);
     assert!(rt; is_refused(&refused, Refusal::InvalidSize(2)));
     Ok(())
