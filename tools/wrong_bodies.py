@@ -29,8 +29,6 @@ sys.path.insert(0, os.path.dirname(os.path.realpath(__file__)))
 from prover import copy_of, edits, lanes, rounds, source  # noqa: E402
 
 speaking = threading.Lock()
-# whether what is refused by names alone is told apart, and no failure
-APART = "--names-apart" in sys.argv
 
 
 def say(text):
@@ -146,8 +144,6 @@ class Work:
             self.judged.fails(edit.label, f"the borrow checker does not know its form: {uncovered[0]}")
         elif found:
             self.judged.refused(edit.label, f"alone: {found}")
-        elif APART and said.refused:
-            self.judged.refused(edit.label, f"TOLD APART, refused by names alone: {(evidence or said.lines)[0]}")
         elif evidence:
             self.judged.fails(edit.label, f"refused by names alone, with no open goal (keep the names, and change a value): {evidence[0]}")
         else:
@@ -196,7 +192,6 @@ def main():
     parser.add_argument("--proved", default="")
     parser.add_argument("--part", default="wrong")
     parser.add_argument("--jobs", type=int, default=0)
-    parser.add_argument("--names-apart", action="store_true")
     parser.add_argument("crates", nargs="*")
     given = parser.parse_args()
     jobs = given.jobs or lanes.jobs_here()

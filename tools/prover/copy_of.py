@@ -1,6 +1,7 @@
 """A copy of the repository whose crates are proved, and whose work is kept: what the tools of the gate start from."""
 import os
 import shutil
+import tempfile
 from concurrent.futures import FIRST_COMPLETED, ThreadPoolExecutor, wait
 
 from . import lanes
@@ -34,25 +35,31 @@ def copy(root, to, crates):
         shutil.copytree(source, target, ignore=shutil.ignore_patterns("out", "must-fail", "wrong"), dirs_exist_ok=True)
 
 
-def prove_crate(folder, jobs, is_below):
-    """Checks a crate over what is kept of it; of a library that others use it builds what they read."""
-    if is_below:
+def prove_crate(proved, crates, crate, jobs, to):
+    """Checks a crate over what is kept of it, and keeps what that leaves; of a library that others use it builds what they read."""
+    home = f"{proved}/crates/{crate}"
+    # checks in one tree wait for one another, so each crate that has others below it gets a tree of its own
+    lane = lanes.Lane(proved, crates, crate, to) if crates[crate] else None
+    folder = lane.bring() if lane else home
+    if any(crate in its for its in crates.values()):
         lanes.run(["rt", "lib", "--jobs", str(jobs)], folder)
-    return lanes.check(folder, jobs)
+    said = lanes.check(folder, jobs)
+    if lane and said.proved:
+        lanes.copied(f"{folder}/out", f"{home}/out", "-l")
+    return said
 
 
 def prove(root, proved, crates, jobs, say):
     """Proves the copy, a crate once those below it are, and returns the names of the functions by crate, and the crates that are not proved."""
     copy(root, proved, crates)
     known, unproved, left, running = {}, set(), [*crates], {}
-    with ThreadPoolExecutor(jobs) as pool:
+    with tempfile.TemporaryDirectory(prefix="proved-copy-", dir=os.path.dirname(os.path.realpath(proved))) as folder, ThreadPoolExecutor(jobs) as pool:
         while left or running:
             for crate in [it for it in left if all(below in known for below in crates[it])]:
                 left.remove(crate)
                 # the lowest crate has all processors to itself
-                share = max(1, min(4, jobs // max(1, len(left) and 1 + len(running)))) if not running else 1
-                is_below = any(crate in its for its in crates.values())
-                running[pool.submit(prove_crate, f"{proved}/crates/{crate}", share, is_below)] = crate
+                share = max(1, min(4, jobs)) if not running and left else 1
+                running[pool.submit(prove_crate, proved, crates, crate, share, f"{folder}/{crate}")] = crate
             if not running:
                 unproved.update(left)
                 break

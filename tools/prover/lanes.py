@@ -83,7 +83,11 @@ def lines_of_crates(root, names):
 def copied(source, to, *flags):
     shutil.rmtree(to, ignore_errors=True)
     os.makedirs(os.path.dirname(to), exist_ok=True)
-    subprocess.run(["cp", "-a", *flags, source, to], check=True)
+    if flags and subprocess.run(["cp", "-a", *flags, source, to], stderr=subprocess.DEVNULL).returncode == 0:
+        return
+    # without a flag, and where the file system has no links
+    shutil.rmtree(to, ignore_errors=True)
+    subprocess.run(["cp", "-a", source, to], check=True)
 
 
 class Lane:
@@ -102,10 +106,16 @@ class Lane:
             if os.path.isdir(f"{proved}/crates/{crate}/{part}"):
                 copied(f"{proved}/crates/{crate}/{part}", f"{self.home}/{part}")
 
+    def bring(self):
+        """Brings the lane to the state that was proved of the crate, and returns the crate's folder."""
+        # the prover writes each file anew and never into one, so links to what is kept serve
+        if os.path.isdir(self.kept):
+            copied(self.kept, f"{self.home}/out/incremental", "-l")
+        return self.home
+
     def check(self, texts):
         """Checks the crate with these texts in place of its own, over what was proved of it, and puts its own back."""
-        # the prover writes each file anew and never into one, so links to what is kept serve
-        copied(self.kept, f"{self.home}/out/incremental", "-l")
+        self.bring()
         old = {}
         for path, text in texts.items():
             with open(f"{self.home}/{path}", encoding="utf-8") as it:

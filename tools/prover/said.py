@@ -6,6 +6,8 @@ OPEN = re.compile(r"note: (?:\./)?(src/\S+?):(\d+):\d+: it is not proved that (.
 # an error that speaks of a name which the edit took away, or of what rests on such a one
 NAMES = re.compile(r"has no field|is not in scope|has no `|that can be named from here|is no name|was not admitted|depends? on `|^`[^`]*`: record `|^`[^`]*`: (`[^`]*`: )?module `")
 UNREAD = re.compile(r"is not in scope|has no field|is no name|operand is missing|expected the end|cannot continue")
+# what a function's own line says of a goal that no line of the source is named for
+SEARCHED = re.compile(r"`search` did not prove (`[^`]*`)")
 UNCOVERED = re.compile(r"does not cover|not covered by the borrow checker")
 
 
@@ -55,4 +57,7 @@ class Said:
         # with an invariant that is lost for a name, goals are open that the invariant would close
         if any(it.of_names and it.path.endswith("/Invariants.antt") for it in found):
             return [it for it in found if not it.path.startswith("src/")]
+        searched = SEARCHED.search(self.functions.get(name, ""))
+        if searched and not found:
+            return [Evidence(path, first, f"search did not prove {searched[1]}", False)]
         return found

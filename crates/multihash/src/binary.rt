@@ -23,9 +23,9 @@ impl<const S: usize> Multihash<S> {
     /// # Errors
     ///
     /// - [`Error::is_insufficient`] where the input ends inside or before a varint; all of it was taken;
-    /// - [`Error::is_overflow`] where a varint has more than nine bytes, and [`Error::is_not_minimal`]
-    ///   where a varint of more than one byte ends in a zero; the bytes up to the one that shows it were
-    ///   taken;
+    /// - [`Error::is_overflow`] where in a varint, after eight marked bytes, a byte is too large, and
+    ///   [`Error::is_not_minimal`] where a varint of more than one byte ends in a zero; the bytes up to the
+    ///   one that shows it were taken;
     /// - [`Error::invalid_size`] with the digest's length, where that is more than `min(S, 255)`; both
     ///   varints were taken, and nothing of the digest;
     /// - [`Error::io`] with an unexpected end where the input ends inside the digest; both varints were
@@ -70,7 +70,7 @@ impl<const S: usize> Multihash<S> {
     /// # Errors
     ///
     /// - [`Error::is_insufficient`] where the bytes end inside or before a varint;
-    /// - [`Error::is_overflow`] where a varint has more than nine bytes;
+    /// - [`Error::is_overflow`] where in a varint, after eight marked bytes, a byte is too large;
     /// - [`Error::is_not_minimal`] where a varint of more than one byte ends in a zero;
     /// - [`Error::invalid_size`] with the digest's length, where that is more than `min(S, 255)`, and
     ///   with the number of bytes left over, where some follow the digest;

@@ -118,7 +118,7 @@ impl Error {
         matches!(self.kind, Kind::Insufficient)
     }
 
-    /// Whether a varint has more than nine bytes, as a number of 2^63 or more would need.
+    /// Whether in a varint, after eight marked bytes, a byte is too large: the number would be 2^63 or more.
     pub fn is_overflow(&self) -> bool
         ensures { IsTrue result ↔ IsFaulty overflow self.now }
     {

@@ -36,7 +36,7 @@ enum {
     MULTIHASH_OK = 0,
     /* The input ends inside or before a varint. More input can change that. */
     MULTIHASH_INSUFFICIENT = 1,
-    /* A varint has more than nine bytes. */
+    /* In a varint, after eight marked bytes, a byte is too large. */
     MULTIHASH_OVERFLOW = 2,
     /* A varint of more than one byte ends in a zero. */
     MULTIHASH_NOT_MINIMAL = 3,

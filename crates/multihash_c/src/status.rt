@@ -6,7 +6,7 @@ pub const OK: u32 = 0;
 /// The input ends inside or before a varint.
 pub const INSUFFICIENT: u32 = 1;
 
-/// A varint has more than nine bytes.
+/// In a varint, after eight marked bytes, a byte is too large.
 pub const OVERFLOW: u32 = 2;
 
 /// A varint of more than one byte ends in a zero.
