@@ -145,7 +145,7 @@ stands_alone() {
 test_compiler() {
   local name=$1 under
   shift
-  local from=("$@") test=("$crate/c_test/test.c" -x none "$library")
+  local from=("$@") test=("$crate"/c_test/{test,decoding,encoding,verdicts,shared}.c -x none "$library")
   local sanitize=(-fsanitize=address -fsanitize=undefined -fno-sanitize-recover=all)
   try "$name, header alone" stands_alone "${from[@]}"
   try "$name, plain" build_and_run "$name" "" "${from[@]}" -O2 "${test[@]}"

@@ -3,30 +3,17 @@
  * written with what a model spells. C11 on POSIX. Says what it did on one line, and ends with status 1 at the first thing
  * that is wrong. */
 #define _GNU_SOURCE
-#include "multihash.h"
+#include "check.h"
 
 #include <signal.h>
-#include <stdio.h>
-#include <stdlib.h>
 #include <string.h>
 #include <sys/mman.h>
 #include <sys/wait.h>
 #include <unistd.h>
 
-#define CHECK(fact)                                                          \
-    do {                                                                     \
-        if (!(fact)) {                                                       \
-            fprintf(stderr, "%s:%d: not so: %s\n", __FILE__, __LINE__, #fact); \
-            exit(1);                                                         \
-        }                                                                    \
-    } while (0)
-
 #define PAGE ((size_t)4096)
-#define MARK 0xa5
 #define LONGEST 300
 #define ROOM_AROUND 64
-
-typedef multihash_encoded (*encoder)(uint64_t, const uint8_t *, size_t, uint8_t *, size_t);
 
 /* One page between two that cannot be touched. */
 typedef struct fenced {

@@ -6,17 +6,10 @@ int example_main(void);
 #include "stream_example.h"
 #undef main
 
-#include <fcntl.h>
-#include <stdlib.h>
-#include <string.h>
+#include "check.h"
 
-#define CHECK(fact)                                                          \
-    do {                                                                     \
-        if (!(fact)) {                                                       \
-            fprintf(stderr, "%s:%d: not so: %s\n", __FILE__, __LINE__, #fact); \
-            exit(1);                                                         \
-        }                                                                    \
-    } while (0)
+#include <fcntl.h>
+#include <string.h>
 
 #define LIMIT 64
 

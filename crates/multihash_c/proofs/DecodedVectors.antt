@@ -57,6 +57,20 @@ pair_is_inside h = omega (arith, h.inside)
 pair_has_its_digest : ¬ (TellsPair input (answer 0 0 0 1 1 2) (pair 0 (9 ∷ [])))
 pair_has_its_digest h = omega (arith, ap (λ (z : List ℕ). get_or z 0 0) h.is_digest)
 
+-- a digest that is there is not told as none, nor as more
+pair_has_no_empty_digest : ¬ (TellsPair input (answer 0 0 0 3 0 3) (pair 0 (9 ∷ [])))
+pair_has_no_empty_digest h = omega (arith, ap (λ (z : List ℕ). length z) h.is_digest)
+
+pair_has_no_longer_digest : ¬ (TellsPair input (answer 0 0 0 2 2 4) (pair 0 (9 ∷ [])))
+pair_has_no_longer_digest h = omega (arith, ap (λ (z : List ℕ). length z) h.is_digest)
+
+-- no less was taken than where the digest ends
+pair_was_taken_whole : ¬ (TellsPair input (answer 0 0 0 2 1 2) (pair 0 (9 ∷ [])))
+pair_was_taken_whole h = omega (arith, h.is_end)
+
+pair_has_no_smaller_code : ¬ (TellsPair input (answer 0 0 0 2 1 3) (pair 1 (9 ∷ [])))
+pair_has_no_smaller_code h = omega (arith, h.is_code)
+
 -- ---- a refusal
 
 tells_size : TellsRefusal (answer 4 5 0 0 0 2) 4 5 0

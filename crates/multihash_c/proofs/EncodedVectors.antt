@@ -24,6 +24,9 @@ too_long_is_no_large_code h = omega (arith, h.is_status)
 too_long_has_its_size : ¬ (IsTooLong 256 (answer 4 255 0))
 too_long_has_its_size h = omega (arith, h.is_size)
 
+too_long_has_no_larger_size : ¬ (IsTooLong 256 (answer 4 257 0))
+too_long_has_no_larger_size h = omega (arith, h.is_size)
+
 too_long_has_no_bytes : ¬ (IsTooLong 256 (answer 4 256 1))
 too_long_has_no_bytes h = omega (arith, h.no_length)
 
@@ -112,6 +115,17 @@ refuses_no_size_without_room h = omega (arith, (h.no_room (omega arith)).0)
 -- and nothing is written, not even what fits
 writes_none_without_room : ¬ (IsPut (1 ∷ 2 ∷ []) (answer 7 0 2) (7 ∷ []) (1 ∷ []))
 writes_none_without_room h = omega (arith, ap (λ (z : List ℕ). get_or z 0 0) (h.no_room (omega arith)).1)
+
+-- no places are no room either
+has_no_places : IsPut (1 ∷ 2 ∷ []) (answer 7 0 2) [] []
+has_no_places =
+    record { is_length = refl; no_size = refl; fits = λ room. absurd (omega (arith, room)); no_room = λ short. (refl, refl) }
+
+is_not_ok_without_places : ¬ (IsPut (1 ∷ 2 ∷ []) (answer 0 0 2) [] [])
+is_not_ok_without_places h = omega (arith, (h.no_room (omega arith)).0)
+
+makes_no_places : ¬ (IsPut (1 ∷ 2 ∷ []) (answer 7 0 2) [] (1 ∷ 2 ∷ []))
+makes_no_places h = omega (arith, ap (λ (z : List ℕ). length z) (h.no_room (omega arith)).1)
 
 -- ---- bytes of which a fact holds
 

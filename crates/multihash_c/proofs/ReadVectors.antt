@@ -97,6 +97,14 @@ reads_insufficient input has =
 reads_nothing : ReadsWithin 4 [] (answer 1 0 0 0 0 0)
 reads_nothing = reads_insufficient [] (λ S. empty_input)
 
+-- the verdict on no bytes is told too
+reads_nothing_as_no_end : ¬ (ReadsWithin 4 [] (answer 6 0 0 0 0 0))
+reads_nothing_as_no_end h =
+    let (v, has, tells) = h.verdict in
+    let told : Tells [] (answer 6 0 0 0 0 0) (faulty insufficient) =
+    subst (Tells [] (answer 6 0 0 0 0 0)) (verdict_unique 4 [] v (faulty insufficient) has empty_input) tells in
+    omega (arith, told.is_status)
+
 reads_code_alone : ReadsWithin 4 (0 ∷ []) (answer 1 0 0 0 0 1)
 reads_code_alone = reads_insufficient (0 ∷ []) (λ S. code_alone)
 

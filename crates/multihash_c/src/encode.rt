@@ -3,12 +3,12 @@ ghost use Rattle.std.specs.Prelude.{◌≡◌, ◌<◌, ◌≤◌, ℕ, List, �
 ghost use Rattle.multihash.specs.Varint.{varint_limit};
 ghost use Rattle.multihash.specs.Encoding.{IsEncoding};
 ghost use Rattle.multihash.specs.Scale.{IsScale};
-ghost use Rattle.multihash.specs.Answer.{pair_of};
 ghost use Rattle.multihash_c.specs.Encoded.{IsTooLong, IsLargeCode, TellsLength, Puts};
 
 use crate::encoded::{self, Encoded};
-use multihash::no_std_io::SliceWriter;
-use multihash::{Multihash, varint};
+use crate::status;
+use multihash::no_std_io::{SliceWriter, Write};
+use multihash::varint;
 
 /// Puts the encoding of a code and a digest at the front of `out`.
 #[unsafe(no_mangle)]
@@ -20,15 +20,14 @@ pub extern "C" fn multihash_encode(code: u64, digest: &[u8], out: &mut [u8]) -> 
     ensures puts { length digest.now ≤ 255 → code < varint_limit →
         Puts (IsEncoding (record { code = code; digest = digest.now })) result out.old out.new }
 {
-    let multihash = match Multihash::<255>::wrap(code, digest) {
-        Ok(multihash) => multihash,
-        Err(error) => return encoded::refuse(&error),
-    };
-    let length = multihash.encoded_len();
-    if length <= out.len() {
-        put_encoding(&multihash, out);
+    let needed = multihash_encoded_len(code, digest.len());
+    if needed.status != status::OK {
+        return needed;
     }
-    encoded::count(length, out.len())
+    if needed.length <= out.len() {
+        put_encoding(code, digest, out);
+    }
+    encoded::count(needed.length, out.len())
 }
 
 /// Puts the SCALE form of a code and a digest at the front of `out`.
@@ -41,13 +40,15 @@ pub extern "C" fn multihash_scale_encode(code: u64, digest: &[u8], out: &mut [u8
     ensures puts { length digest.now ≤ 255 → code < varint_limit →
         Puts (IsScale (record { code = code; digest = digest.now })) result out.old out.new }
 {
-    let multihash = match Multihash::<255>::wrap(code, digest) {
-        Ok(multihash) => multihash,
-        Err(error) => return encoded::refuse(&error),
-    };
+    if digest.len() > 255 {
+        return encoded::refuse_size(digest.len() as u64);
+    }
+    if code > varint::MAX {
+        return encoded::refuse_code();
+    }
     let length = 9 + digest.len();
     if length <= out.len() {
-        put_scale_form(&multihash, out);
+        put_scale_form(code, digest, out);
     }
     encoded::count(length, out.len())
 }
@@ -72,24 +73,31 @@ pub extern "C" fn multihash_encoded_len(code: u64, digest_length: usize) -> Enco
     }
 }
 
-// Puts the encoding of a multihash at the front of places that have room for it.
-fn put_encoding(multihash: &Multihash<255>, places: &mut [u8])
-    requires { (bytes : List ℕ) × IsEncoding (pair_of multihash.now) bytes
+// Puts the encoding of a code and a digest at the front of places that have room for it.
+fn put_encoding(code: u64, digest: &[u8], places: &mut [u8])
+    requires in_range { code < varint_limit }
+    requires short { length digest.now ≤ 255 }
+    requires fits { (bytes : List ℕ) × IsEncoding (record { code = code; digest = digest.now }) bytes
         × (length bytes ≤ length places.old) }
-    ensures { (bytes : List ℕ) × IsEncoding (pair_of multihash.now) bytes
+    ensures { (bytes : List ℕ) × IsEncoding (record { code = code; digest = digest.now }) bytes
         × (places.new ≡ bytes ++ drop (length bytes) places.old) }
 {
     let mut writer = SliceWriter::new(places);
-    multihash.write(&mut writer).unwrap();
+    varint::write(code, &mut writer).unwrap();
+    varint::write(digest.len() as u64, &mut writer).unwrap();
+    writer.write_all(digest).unwrap();
 }
 
-// Puts the SCALE form of a multihash at the front of places that have room for it.
-fn put_scale_form(multihash: &Multihash<255>, places: &mut [u8])
-    requires { (bytes : List ℕ) × IsScale (pair_of multihash.now) bytes
+// Puts the SCALE form of a code and a digest at the front of places that have room for it.
+fn put_scale_form(code: u64, digest: &[u8], places: &mut [u8])
+    requires short { length digest.now ≤ 255 }
+    requires fits { (bytes : List ℕ) × IsScale (record { code = code; digest = digest.now }) bytes
         × (length bytes ≤ length places.old) }
-    ensures { (bytes : List ℕ) × IsScale (pair_of multihash.now) bytes
+    ensures { (bytes : List ℕ) × IsScale (record { code = code; digest = digest.now }) bytes
         × (places.new ≡ bytes ++ drop (length bytes) places.old) }
 {
     let mut writer = SliceWriter::new(places);
-    multihash.scale_encode(&mut writer).unwrap();
+    writer.write_all(&code.to_le_bytes()).unwrap();
+    writer.write_all(&[digest.len() as u8]).unwrap();
+    writer.write_all(digest).unwrap();
 }

@@ -1,11 +1,9 @@
 //! What an encoding answers.
-ghost use Rattle.std.specs.Prelude.{◌≡◌, ◌<◌, ◌≤◌, ℕ};
-ghost use Rattle.multihash.specs.Refusal.{IsInvalidSize, IsInvalidCode};
+ghost use Rattle.std.specs.Prelude.{◌≡◌, ◌<◌, ◌≤◌};
 ghost use Rattle.multihash_c.specs.Encoded.{IsTooLong, IsLargeCode};
 ghost use Rattle.multihash_c.specs.Status.{status_ok, status_no_room};
 
 use crate::status;
-use multihash::Error;
 
 /// What an encoding answered. A field that the status leaves without a meaning is 0.
 #[repr(C)]
@@ -14,17 +12,6 @@ pub struct Encoded {
     pub status: u32,
     pub size: u64,
     pub length: usize,
-}
-
-// The answer at a refusal of a size or of a code.
-pub(crate) fn refuse(error: &Error) -> Encoded
-    ensures size { (size : ℕ) → IsInvalidSize size error.now → IsTooLong size result }
-    ensures code { (code : ℕ) → IsInvalidCode code error.now → IsLargeCode result }
-{
-    match error.invalid_size() {
-        Some(size) => refuse_size(size),
-        None => refuse_code(),
-    }
 }
 
 // The answer at a digest that is too long.

@@ -48,6 +48,20 @@ fn scale(rt: HostRuntime) {
     assert_eq!(rt; multihash_scale_decode(&bytes).digest_offset, 9);
 }
 
+// What stands behind the bytes that decoding the SCALE form took, which are there whatever it answers.
+fn behind_scale(bytes: &[u8]) -> &[u8] {
+    &bytes[multihash_scale_decode(bytes).taken..]
+}
+
+#[test]
+fn scale_rest(rt: HostRuntime) {
+    assert_eq!(rt;
+        behind_scale(b"\x16\0\0\0\0\0\0\0\x01\x64\xff"),
+        b"\xff".as_slice()
+    );
+    assert_eq!(rt; behind_scale(&[0xff; 8]), b"".as_slice());
+}
+
 #[test]
 fn head(rt: HostRuntime) {
     let head = multihash_head(b"\x16\x80\x02");

@@ -1,21 +1,27 @@
-use Rattle.std.proofs.Common.{List, ℕ, length, ap, arith}
+use Rattle.std.proofs.Common.{rules, ◌≡◌, ℕ, List, [], ◌∷◌, ◌++◌, length, drop, refl, subst, arith}
+use Rattle.std.specs.Int.{to_le_bytes, w64}
+use Rattle.multihash.specs.Pair.{Pair}
 use Rattle.multihash.specs.Scale.{IsScale}
-use Rattle.multihash.specs.Answer.{pair_of}
-use Rattle.multihash.proofs.Writings.FillingLemmas.{slice_writer_has_room}
-use Rattle.multihash.proofs.Forms.ScaleLemmas.{scale_same}
+use Rattle.multihash.specs.Filling.{Fills, Fills-joined}
+use Rattle.multihash.proofs.Forms.ScaleCodeLemmas.{code_bytes}
+use Rattle.multihash_c.proofs.PutLemmas.{of_ok, stands_at_front}
 use Rattle.multihash_c.proofs.encode.put_scale_form.Goals as goal
 
-pub unwrap-requires : goal.unwrap-requires
-unwrap-requires c =
-    let p = pair_of c.args.multihash.now in
-    let (bytes, is_form, fit) = c.requires in
+pub returns : goal.returns
+returns c =
+    let digest : List ℕ = c.args.digest.now in
+    let p : Pair = record { code = c.args.code; digest = digest } in
+    let (_, e, fit) = c.requires.fits in
     let made = c.new-writer.ensures in
-    slice_writer_has_room c.new-writer.result c.scale_encode.new.w (IsScale p) c.scale_encode.result c.scale_encode.ensures.err c.scale_encode.ensures.faults
-    (λ other is_own.
-    omega (
-      arith,
-      fit,
-      made.empty,
-      ap (λ (z : List ℕ). length z) made.kept,
-      ap (λ (z : List ℕ). length z) (scale_same p bytes other is_form is_own),
-    ))
+    let a = to_le_bytes w64 c.args.code in
+    let bytes : List ℕ = a ++ ((length digest ∷ []) ++ digest) in
+    let first : Fills c.new-writer.result a c.write_all.new.self =
+    subst (λ (z : List ℕ). Fills c.new-writer.result z c.write_all.new.self) c.to_le_bytes.ensures (of_ok _ _ _ c.unwrap.ensures c.write_all.ensures.laws.ok) in
+    let second = of_ok _ _ _ c.unwrap-2.ensures c.write_all-2.ensures.laws.ok in
+    let third = of_ok _ _ _ c.unwrap-3.ensures c.write_all-3.ensures.laws.ok in
+    let whole = Fills-joined _ _ _ a ((length digest ∷ []) ++ digest) first (Fills-joined _ _ _ (length digest ∷ []) digest second third) in
+    let form : IsScale p bytes = record { code = a; is_code = code_bytes c.args.code (omega (arith, e.in_range)); in_range = e.in_range; size = e.size; spelled = refl } in
+    let same : c.write_all-3.new.self.places.ghost_name ≡ c.new-writer.result.places.ghost_name = whole.same_slice in
+    let stands : c.write_all-3.new.self.places.now ≡ bytes ++ drop (length bytes) c.args.places.now =
+    stands_at_front c.args.places.now c.new-writer.result c.write_all-3.new.self bytes made.empty made.kept whole in
+    (bytes, form, search rules)
