@@ -1,4 +1,5 @@
 pub mod BlameLemmas
+pub mod ConclusionLemmas
 pub mod ContentIdLemmas
 pub mod DumpLemmas
 pub mod ListTextLemmas

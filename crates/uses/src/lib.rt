@@ -1,10 +1,12 @@
 //! Users of the library, each of another kind, over its public paths alone.
 #![tactic(auto)]
 
+pub mod any_reader;
 pub mod blame;
 pub mod block_store;
 pub mod bytes;
 pub mod code_table;
+pub mod conclusions;
 pub mod content_id;
 pub mod dump;
 pub mod forms;

@@ -1,0 +1,57 @@
+-- What the laws say of what a call answered.
+use Rattle.std.proofs.Common.{◌≡◌, ℕ, ◌-◌, List, ◌++◌, length, Option, None, Some, Result, Ok, Err, IfSome, IfOk, MatchResult, sym, ap, ◌∙◌, subst, arith, length-append}
+use Rattle.multihash.specs.Bytes.{ExactlyOne}
+use Rattle.multihash.specs.Pair.{Pair}
+use Rattle.multihash.specs.Verdict.{Verdict, accepted}
+use Rattle.multihash.specs.Settling.{IsShortestSettling}
+use Rattle.multihash.specs.Scale.{IsScale, HasScaleVerdict}
+use Rattle.multihash.specs.Taking.{TakesShortestSettling}
+use Rattle.multihash.specs.Reading.{Takes}
+use Rattle.multihash.specs.Refusal.{Refusal}
+use Rattle.multihash.specs.Answer.{Fields, pair_of, IsRefusal, Answers}
+use Rattle.multihash.proofs.Readings.VerdictLemmas.{same_cut}
+
+-- what was taken is as long as each shortest beginning that settles, since there is one
+pub shortest_len : (S : ℕ) (input left : List ℕ) → ExactlyOne (IsShortestSettling S input) → TakesShortestSettling S input (Some left)
+    → (front : List ℕ) → IsShortestSettling S input front → length front ≡ length input - length left
+shortest_len S input left one took front is =
+    let same : front ≡ took.front = one.only front is ∙ sym (one.only took.front took.shortest) in
+    let cut : input ≡ took.front ++ left = cc (took.takes) in
+    omega (arith, ap length cut, length-append took.front left, ap length same)
+
+-- the answer to a verdict that is a pair
+pub answered : (S : ℕ) (p : Pair) (r : Result (Fields S) Refusal) (v : Verdict) → v ≡ accepted p → Answers r v
+    → MatchResult r (λ m. pair_of m ≡ p) (λ _. ⊥)
+answered S p (Ok m) v same answers =
+    let told : accepted (pair_of m) ≡ accepted p = sym answers ∙ same in
+    cc
+answered S p (Err e) v same answers = subst (IsRefusal e) same answers
+
+-- decoding where a pair's form comes next gives the pair, and leaves what follows
+pub scale_next : (S before after : ℕ) (old new : Option (List ℕ)) (p : Pair) (bytes more : List ℕ) (r : Result (Fields S) Refusal)
+    → HasScaleVerdict S (bytes ++ more) (accepted p)
+    → ((v w : Verdict) → HasScaleVerdict S (bytes ++ more) v → HasScaleVerdict S (bytes ++ more) w → v ≡ w)
+    → ((other : List ℕ) → IsScale p other → other ≡ bytes)
+    → old ≡ Some (bytes ++ more) → after ≡ before
+    → IfSome old (λ rest. after ≡ before → (v : Verdict) × HasScaleVerdict S rest v × Answers r v)
+    → IfOk r (λ m. (taken : List ℕ) × IsScale (pair_of m) taken × Takes old taken new)
+    → MatchResult r (λ m. (pair_of m ≡ p) × (new ≡ Some more)) (λ _. ⊥)
+scale_next S before after None new p bytes more r own unique only rest same verdict ok = cc
+scale_next S before after (Some input) new p bytes more (Ok m) own unique only rest same verdict ok =
+    let v = verdict same in
+    let spelled : input ≡ bytes ++ more = cc in
+    let has : HasScaleVerdict S (bytes ++ more) v.0 = subst (λ x. HasScaleVerdict S x v.0) spelled v.1 in
+    let told : accepted (pair_of m) ≡ accepted p = sym v.2 ∙ unique v.0 (accepted p) has own in
+    let pairs : pair_of m ≡ p = cc in
+    (pairs, left new spelled (only ok.0 (subst (λ q. IsScale q ok.0) pairs ok.1)) ok.2)
+  where
+    left : (new : Option (List ℕ)) → input ≡ bytes ++ more → ok.0 ≡ bytes → Takes (Some input) ok.0 new → new ≡ Some more
+    left None spelled taken takes = cc
+    left (Some behind) spelled taken takes =
+        let cut : ok.0 ++ behind ≡ bytes ++ more = cc in
+        ap Some (same_cut ok.0 bytes behind more (ap length taken) cut).1
+scale_next S before after (Some input) new p bytes more (Err e) own unique only rest same verdict ok =
+    let v = verdict same in
+    let spelled : input ≡ bytes ++ more = cc in
+    let has : HasScaleVerdict S (bytes ++ more) v.0 = subst (λ x. HasScaleVerdict S x v.0) spelled v.1 in
+    subst (IsRefusal e) (unique v.0 (accepted p) has own) v.2

@@ -1,0 +1,11 @@
+use Rattle.std.proofs.Common.{◌++◌}
+use Rattle.uses.proofs.ConclusionLemmas.{scale_next}
+use Rattle.uses.proofs.any_reader.read_scale.Goals as goal
+
+pub returns-clause-found : goal.returns-clause-found
+returns-clause-found g c p bytes more form fits rest same =
+    let law = c.scale_unique.ensures in
+    let met = c.scale_decode.ensures in
+    scale_next g.row.S _ _ (g.R.Read.rest c.args.r.now) (g.R.Read.rest c.scale_decode.new.r) p bytes more c.scale_decode.result
+    (law.own_verdict g.row.S p bytes more form fits) (law.verdict_unique g.row.S (bytes ++ more)) (λ other is. law.same p other bytes is form)
+    rest same met.verdict met.ok

@@ -1,0 +1,11 @@
+use Rattle.std.proofs.Common.{refl, subst, arith}
+use Rattle.multihash.specs.Answer.{Answers}
+use Rattle.multihash.proofs.Varints.WordFillingLemmas.{bytes_of}
+use Rattle.uses.proofs.conclusions.decoded.Goals as goal
+
+pub returns : goal.returns
+returns g c =
+    let bytes = c.args.bytes.now in
+    let one = c.scale_unique.ensures.one_verdict g.row.S bytes (bytes_of bytes (λ k. omega (arith, c.type_inv.bytes k))) in
+    let v = c.scale_decode.ensures.verdict refl in
+    (one, subst (λ w. Answers c.scale_decode.result w) (one.only v.0 v.1) v.2)

@@ -1,0 +1,185 @@
+//! What the laws say to callers: which bytes spell which values, and where an answer stands.
+ghost use Rattle.std.specs.Prelude.{◌≡◌, ◌<◌, ◌↔◌, ℕ, List, length, map, IsTrue, IfSome, IfNone, MatchResult};
+ghost use Rattle.serde_json.specs.Data.{Data};
+ghost use Rattle.serde_json.specs.View.{view};
+ghost use Rattle.multihash.specs.Bytes.{ExactlyOne};
+ghost use Rattle.multihash.specs.Pair.{Pair, IsPair, FitsBuffer};
+ghost use Rattle.multihash.specs.Settling.{Settles, IsShortestSettling};
+ghost use Rattle.multihash.specs.Scale.{IsScale, HasScaleVerdict};
+ghost use Rattle.multihash.specs.Json.{IsByteArray, IsJsonList};
+ghost use Rattle.multihash.specs.Refusal.{IsMemory};
+ghost use Rattle.multihash.specs.Answer.{pair_of, Answers};
+
+use crate::merkle::write_node;
+use multihash::no_std_io::{self, Write};
+use multihash::{Error, Multihash, laws, list};
+use serde_json::Value;
+use std::alloc::Global;
+
+/// How many bytes of a stream settle what `read` answers, at the least; none where more bytes could
+/// still change it.
+pub fn settling_len<const S: usize>(stream: &[u8]) -> Option<usize>
+    requires { S < 65536 }
+    ensures none { IfNone result (¬ (Settles S stream.now)) }
+    ensures some { IfSome result (λ n. (front : List ℕ) →
+        IsShortestSettling S stream.now front → length front ≡ n) }
+{
+    laws::settles();
+    let mut left = stream;
+    match Multihash::<S>::read(&mut left) {
+        Ok(_) => Some(stream.len() - left.len()),
+        Err(e) => {
+            if e.is_early_end() {
+                None
+            } else {
+                Some(stream.len() - left.len())
+            }
+        }
+    }
+}
+
+/// Whether two lists are written alike: exactly where they have the same pairs, whatever their buffers.
+/// Nothing but want of memory refuses it.
+pub fn lists_written_alike<const A: usize, const B: usize>(
+    alloc: Global,
+    a: &[Multihash<A>],
+    b: &[Multihash<B>],
+) -> Result<bool, Error>
+    ensures { MatchResult result
+        (λ alike. IsTrue alike ↔ (map pair_of a.now ≡ map pair_of b.now)) IsMemory }
+{
+    laws::split_unique();
+    let mut first = Vec::new(alloc);
+    list::write_list(a, &mut first)?;
+    let mut second = Vec::new(alloc);
+    list::write_list(b, &mut second)?;
+    Ok(first.as_slice() == second.as_slice())
+}
+
+/// Whether two nodes with as many links are written alike: only where their links and their data are the
+/// same. Nothing but want of memory refuses it.
+pub fn nodes_written_alike<const A: usize, const B: usize>(
+    alloc: Global,
+    links: &[Multihash<A>],
+    content: &[u8],
+    other_links: &[Multihash<B>],
+    other_content: &[u8],
+) -> Result<bool, Error>
+    requires { length links.now ≡ length other_links.now }
+    ensures { MatchResult result (λ alike. IsTrue alike →
+        (map pair_of links.now ≡ map pair_of other_links.now)
+        × (content.now ≡ other_content.now)) IsMemory }
+{
+    laws::split_unique();
+    let mut first = Vec::new(alloc);
+    write_node(links, content, &mut first)?;
+    let mut second = Vec::new(alloc);
+    write_node(other_links, other_content, &mut second)?;
+    Ok(first.as_slice() == second.as_slice())
+}
+
+/// Whether the SCALE form of one multihash begins that of another: only where they have the same pair.
+/// Nothing but want of memory refuses it.
+pub fn begins_scale<const A: usize, const B: usize>(
+    alloc: Global,
+    a: &Multihash<A>,
+    b: &Multihash<B>,
+) -> Result<bool, Error>
+    ensures { MatchResult result
+        (λ begins. IsTrue begins → pair_of a.now ≡ pair_of b.now) IsMemory }
+{
+    laws::scale_unique();
+    let mut first = Vec::new(alloc);
+    a.scale_encode(&mut first)?;
+    let mut second = Vec::new(alloc);
+    b.scale_encode(&mut second)?;
+    Ok(second.as_slice().starts_with(first.as_slice()))
+}
+
+/// Whether two SCALE forms with bytes behind them are written alike: exactly where the pairs are the same,
+/// and so are the bytes. Nothing but want of memory refuses it.
+pub fn scale_streams_alike<const A: usize, const B: usize>(
+    alloc: Global,
+    a: &Multihash<A>,
+    behind_a: &[u8],
+    b: &Multihash<B>,
+    behind_b: &[u8],
+) -> Result<bool, Error>
+    ensures { MatchResult result (λ alike. IsTrue alike ↔
+        ((pair_of a.now ≡ pair_of b.now) × (behind_a.now ≡ behind_b.now))) IsMemory }
+{
+    laws::scale_unique();
+    let mut first = Vec::new(alloc);
+    a.scale_encode(&mut first)?;
+    first.write_all(behind_a)?;
+    let mut second = Vec::new(alloc);
+    b.scale_encode(&mut second)?;
+    second.write_all(behind_b)?;
+    Ok(first.as_slice() == second.as_slice())
+}
+
+/// The length of the one SCALE form that a multihash has.
+pub fn scale_len<const S: usize>(m: &Multihash<S>) -> usize
+    ensures { (form : ExactlyOne (IsScale (pair_of m.now))) × (result ≡ length form.value) }
+{
+    laws::scale_unique();
+    9 + m.digest().len()
+}
+
+/// What decoding the SCALE form answers to a slice: its one verdict.
+pub fn decoded<const S: usize>(bytes: &[u8]) -> Result<Multihash<S>, Error>
+    ensures { (one : ExactlyOne (HasScaleVerdict S bytes.now)) × Answers result one.value }
+{
+    laws::scale_unique();
+    let mut left = bytes;
+    Multihash::scale_decode(&mut left)
+}
+
+/// The multihash that a JSON value lists: that pair, where it fits.
+pub fn listed<const S: usize>(value: &Value) -> Result<Multihash<S>, Error>
+    ensures { (p : Pair) → IsPair p → IsJsonList p (view value.now) → FitsBuffer S p →
+        MatchResult result (λ m. pair_of m ≡ p) (λ _. ⊥) }
+{
+    laws::json_unique();
+    laws::one_verdict();
+    Multihash::from_value(value)
+}
+
+/// The multihash of the bytes that a JSON value lists: its pair, where it fits.
+pub fn of_listed_bytes<const S: usize>(bytes: &[u8]) -> Result<Multihash<S>, Error>
+    ensures { (p : Pair) (value : Data) → IsJsonList p value → FitsBuffer S p →
+        IsByteArray value bytes.now → MatchResult result (λ m. pair_of m ≡ p) (λ _. ⊥) }
+{
+    laws::json_unique();
+    Multihash::from_bytes(bytes)
+}
+
+/// Whether a JSON value is the same multihash in two buffers, where both hold it: always.
+pub fn same_in_both<const A: usize, const B: usize>(value: &Value) -> bool
+    requires { (A < 65536) × (B < 65536) }
+    ensures { IsTrue result }
+{
+    laws::json_unique();
+    match (
+        Multihash::<A>::from_value(value),
+        Multihash::<B>::from_value(value),
+    ) {
+        (Ok(a), Ok(b)) => a.same_as(&b),
+        _ => true,
+    }
+}
+
+/// A multihash that is taken apart and put together again: the same pair.
+pub fn put_together<const S: usize>(m: Multihash<S>) -> Multihash<S>
+    ensures { pair_of result ≡ pair_of m.entry }
+{
+    let (code, array, size) = m.into_inner();
+    Multihash::wrap(code, &array[..usize::from(size)]).unwrap()
+}
+
+/// Whether a fault of a reader's or a writer's own is told as such, whatever its text is: always.
+pub fn is_own_fault(text: &'static str) -> bool
+    ensures { IsTrue result }
+{
+    no_std_io::Error::other(text).is_other()
+}
