@@ -1,5 +1,6 @@
 pub mod BlameLemmas
 pub mod ContentIdLemmas
+pub mod ContentIdVectors
 pub mod DumpLemmas
 pub mod ListTextLemmas
 pub mod MerkleLemmas
