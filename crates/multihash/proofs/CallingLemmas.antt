@@ -14,7 +14,8 @@ use Rattle.multihash.specs.Verdict.{Verdict, accepted, faulty, HasVerdict, HasWh
 use Rattle.multihash.specs.Settling.{Settles}
 use Rattle.multihash.specs.Taking.{TakesShortestSettling, TakesVarint, IsFrontRefusal}
 use Rattle.multihash.proofs.Readings.SettlingLemmas.{early_not_settles}
-use Rattle.multihash.specs.Reading.{Takes}
+use Rattle.multihash.specs.Fault.{Fault, IsOwnFault, IsUnexpectedEof}
+use Rattle.multihash.specs.Reading.{Takes, CountsReader, HasFewerThan}
 use Rattle.multihash.specs.Scale.{IsScale, HasScaleVerdict}
 use Rattle.multihash.specs.Places.{GivesUpFor}
 use Rattle.multihash.specs.Writing.{AppendsPart, CountsWriter}
@@ -209,3 +210,19 @@ varint_read n before after (Some input) new bytes more (Err e) is rest same ok f
     let met = front same in
     let spelled : input ≡ bytes ++ more = cc in
     absurd (number_no_fault input n more met.0 (bytes, is, spelled) met.2)
+
+-- filling a buffer where as many bytes come next gives them and leaves what follows
+pub read_exact_of_bytes : {A : Type 0} (n before after : ℕ) (old new : Option (List ℕ)) (filled bytes more : List ℕ) (r : Result A Fault)
+    → old ≡ Some (bytes ++ more) → length bytes ≡ n → length filled ≡ n → after ≡ before → CountsReader IsOwnFault IsUnexpectedEof before after r
+    → OnOk r (Takes old filled new) → IfErr r (λ e. IsUnexpectedEof e → HasFewerThan n old)
+    → MatchResult r (λ _. (filled ≡ bytes) × (new ≡ Some more)) (λ _. ⊥)
+read_exact_of_bytes n before after None new filled bytes more r rest long whole same faults takes eof = cc
+read_exact_of_bytes n before after (Some input) None filled bytes more (Ok x) rest long whole same faults takes eof = cc
+read_exact_of_bytes n before after (Some input) (Some left) filled bytes more (Ok x) rest long whole same faults takes eof =
+    let cut : filled ++ left ≡ bytes ++ more = cc in
+    let told = same_cut filled bytes left more (whole ∙ sym long) cut in
+    (told.0, ap Some told.1)
+read_exact_of_bytes n before after (Some input) new filled bytes more (Err e) rest long whole same (inl own) takes eof = absurd (omega (arith, own.0, same))
+read_exact_of_bytes n before after (Some input) new filled bytes more (Err e) rest long whole same (inr ended) takes eof =
+    let spelled : input ≡ bytes ++ more = cc in
+    omega (arith, eof ended.1, ap (λ (z : List ℕ). length z) spelled, length-append bytes more, long)

@@ -38,19 +38,31 @@ pub fn lines(alloc: Global) -> Result<String> {
     Ok(lines)
 }
 
-// Version 1, codec 0x55, and the digest 7, 8; then a 9.
+// Version 1, dag-json, and the digest 7, 8; then a 9. Then a digest of version 0, and a version that is not known.
 fn show_content_id(alloc: Global, lines: &mut String) -> Result<()> {
-    let mut stream = [1u8, 0x55, 0x12, 2, 7, 8, 9].as_slice();
+    let mut stream = [1u8, 0xa9, 2, 0x12, 2, 7, 8, 9].as_slice();
     let id = ContentId::<4>::read(&mut stream)?;
     let mut bytes = Vec::new(alloc);
     id.write(&mut bytes)?;
+    let codec = match id {
+        ContentId::V1 { codec, .. } => Some(codec.number),
+        ContentId::V0(_) => None,
+    };
     writeln!(
         lines,
-        "content identifier: version {}, codec {}, {} bytes, {} left",
-        id.version,
-        id.codec,
+        "content identifier: codec {codec:?}, {} bytes, {} left",
         bytes.len(),
         stream.len()
+    )?;
+    let mut bare = Vec::new(alloc);
+    ContentId::<4>::V0([7; 32]).write(&mut bare)?;
+    let back = ContentId::<4>::from_bytes(&bare)?;
+    let refused = ContentId::<4>::from_bytes(&[2, 0x55]).err();
+    writeln!(
+        lines,
+        "version 0: {} bytes, {}, {refused:?}",
+        bare.len(),
+        matches!(back, ContentId::V0([7, ..]))
     )?;
     Ok(())
 }

@@ -1,6 +1,7 @@
 pub mod BlameLemmas
 pub mod ConclusionLemmas
 pub mod ContentIdLemmas
+pub mod ContentIdVectors
 pub mod DumpLemmas
 pub mod ListTextLemmas
 pub mod MerkleLemmas

@@ -1,57 +1,134 @@
-//! Content identifiers: a version, a codec and a multihash.
-ghost use Rattle.std.specs.Prelude.{◌≡◌, ℕ, List, ◌++◌, Some, IfOk, OnOk, OnErr, MatchResult};
-ghost use Rattle.multihash.specs.Pair.{Pair, FitsBuffer};
+//! Content identifiers of version 0 and of version 1, as <https://github.com/multiformats/cid> has them.
+ghost use Rattle.std.specs.Prelude.{◌≡◌, ℕ, List, ◌++◌, Some, IfOk, OnOk, OnErr, IsErrOf, MatchResult};
 ghost use Rattle.multihash.specs.Reading.{Takes, CountsReader};
 ghost use Rattle.multihash.specs.Writing.{AppendsPart, CountsWriter};
-ghost use Rattle.multihash.specs.Refusal.{IsIo, IsReaderFault};
-ghost use Rattle.multihash.specs.Taking.{IsReadRefusal};
-ghost use Rattle.multihash.specs.Answer.{pair_of};
-ghost use Rattle.uses.specs.ContentId.{IsContentId};
+ghost use Rattle.multihash.specs.Refusal.{IsIo, IsReaderFault, of_io};
+ghost use Rattle.uses.specs.ContentId.{Content, content_of, IsContentId, FitsContentId, IsRefused, IsContentIdRefusal, BeginsOtherwise};
+ghost use Rattle.uses.specs.declared.content_id.ContentIdError.TheVariants.{Refused, OtherVersion};
 
-use multihash::no_std_io::{Read, Write};
-use multihash::{Error, Multihash, laws};
+mod codec;
+
+pub use codec::Codec;
+use multihash::no_std_io::{self, Read, Write};
+use multihash::{Error, Multihash, laws, varint};
+use std::fmt;
+
+// The version that an identifier names.
+const VERSION: u64 = 1;
+
+// The hash function of version 0, and the length of its digests in bytes.
+const SHA2_256: u64 = 0x12;
+
+const SHA2_256_SIZE: u64 = 32;
 
 /// What content is, and the hash that names it.
-///
-/// The version and the codec are one byte each: codecs of 128 and above, such as dag-json (0x0129), are
-/// not covered.
 #[derive(Clone, Copy, Debug)]
-pub struct ContentId<const S: usize> {
-    pub version: u8,
-    pub codec: u8,
-    pub hash: Multihash<S>,
+pub enum ContentId<const S: usize> {
+    /// Version 0: the SHA2-256 digest of content in dag-pb. It is written as a bare multihash.
+    V0([u8; 32]),
+    /// Version 1: the codec and the multihash of the content.
+    V1 { codec: Codec, hash: Multihash<S> },
+}
+
+/// Why no content identifier was read.
+#[derive(Debug, Drop)]
+pub enum ContentIdError {
+    /// A varint or the multihash was refused, or the reader failed.
+    Refused(Error),
+    /// This number stands where the version should: it is not 1, and begins no multihash of version 0.
+    OtherVersion(u64),
+    /// So many bytes follow the identifier.
+    LeftOver(usize),
+}
+
+impl fmt::Display for ContentIdError {
+    fn fmt<W: fmt::Write>(&self, f: &mut fmt::Formatter<W>) -> fmt::Result {
+        match self {
+            ContentIdError::Refused(e) => write!(f, "{e}"),
+            ContentIdError::OtherVersion(n) => write!(f, "no content identifier of version {n}"),
+            ContentIdError::LeftOver(n) => write!(f, "{n} bytes behind a content identifier"),
+        }
+    }
+}
+
+impl std::error::Error for ContentIdError {}
+
+impl From<Error> for ContentIdError {
+    ghost from_gives = { λ refusal e. e ≡ Refused refusal };
+
+    fn from(e: Error) -> Self {
+        ContentIdError::Refused(e)
+    }
+}
+
+impl From<no_std_io::Error> for ContentIdError {
+    ghost from_gives = { λ fault e. e ≡ Refused (of_io fault) };
+
+    fn from(e: no_std_io::Error) -> Self {
+        ContentIdError::Refused(Error::from(e))
+    }
 }
 
 impl<const S: usize> ContentId<S> {
-    /// Reads the identifier that comes next, and takes exactly that: what follows it stays unread.
+    /// Reads the identifier that comes next, and takes exactly that: what follows it stays unread. The first
+    /// varint tells the version: it is 1, or else it begins the multihash of a SHA2-256 digest of 32 bytes.
     ///
     /// # Errors
     ///
-    /// An unexpected end where the input has fewer than two bytes, the reader's own error, and those of
-    /// [`Multihash::read`].
-    pub fn read<R: Read>(r: &mut R) -> Result<Self, Error>
-        ensures ok { IfOk result (λ id. (bytes : List ℕ)
-            × IsContentId id.version id.codec (pair_of id.hash) bytes
+    /// - [`ContentIdError::OtherVersion`] with the first varint's number, where that is neither 1 nor 0x12, and
+    ///   with 0x12 where a length other than 32 follows that;
+    /// - [`ContentIdError::Refused`] with the errors of [`varint::read`] and of [`Multihash::read`], an unexpected
+    ///   end inside the digest of version 0, and the reader's own error.
+    pub fn read<R: Read>(r: &mut R) -> Result<Self, ContentIdError>
+        ensures ok { IfOk result (λ id. (bytes : List ℕ) × IsContentId (content_of id) bytes
             × Takes (R.rest r.old) bytes (R.rest r.new)) }
-        ensures faults { CountsReader IsReaderFault (IsReadRefusal S)
+        ensures faults { CountsReader (IsRefused IsReaderFault) (IsContentIdRefusal S)
             (R.failures r.old) (R.failures r.new) result }
 
         // What stands there is found, and what follows it is left.
-        ensures found { (version codec : ℕ) (p : Pair) (bytes more : List ℕ) →
-            IsContentId version codec p bytes → FitsBuffer S p →
+        ensures found { (content : Content) (bytes more : List ℕ) →
+            IsContentId content bytes → FitsContentId S content →
             R.rest r.old ≡ Some (bytes ++ more) →
             R.failures r.new ≡ R.failures r.old → MatchResult result
-            (λ id. (id.version ≡ version) × (id.codec ≡ codec) × (pair_of id.hash ≡ p)
-            × (R.rest r.new ≡ Some more)) (λ _. ⊥) }
+            (λ id. (content_of id ≡ content) × (R.rest r.new ≡ Some more)) (λ _. ⊥) }
+        ensures other { (n : ℕ) (input : List ℕ) → BeginsOtherwise n input →
+            R.rest r.old ≡ Some input →
+            R.failures r.new ≡ R.failures r.old → IsErrOf result (OtherVersion n) }
     {
-        let mut head = [0; 2];
-        r.read_exact(&mut head)?;
-        let hash = Multihash::read(r)?;
-        Ok(ContentId {
-            version: head[0],
-            codec: head[1],
-            hash,
-        })
+        let version = varint::read(r)?;
+        if version != VERSION && version != SHA2_256 {
+            return Err(ContentIdError::OtherVersion(version));
+        }
+        let number = varint::read(r)?;
+        if version == VERSION {
+            let codec = Codec { number };
+            let hash = Multihash::read(r)?;
+            return Ok(ContentId::V1 { codec, hash });
+        }
+        if number != SHA2_256_SIZE {
+            return Err(ContentIdError::OtherVersion(version));
+        }
+        let mut digest = [0; 32];
+        r.read_exact(&mut digest)?;
+        Ok(ContentId::V0(digest))
+    }
+
+    /// Reads the identifier that is the whole of `bytes`.
+    ///
+    /// # Errors
+    ///
+    /// Those of [`ContentId::read`], and [`ContentIdError::LeftOver`] where bytes follow the identifier.
+    pub fn from_bytes(bytes: &[u8]) -> Result<Self, ContentIdError>
+        ensures ok { IfOk result (λ id. IsContentId (content_of id) bytes.now) }
+        ensures found { (content : Content) → IsContentId content bytes.now →
+            FitsContentId S content → MatchResult result (λ id. content_of id ≡ content) (λ _. ⊥) }
+    {
+        let mut left = bytes;
+        let id = Self::read(&mut left)?;
+        match left.len() {
+            0 => Ok(id),
+            more => Err(ContentIdError::LeftOver(more)),
+        }
     }
 
     /// Appends the identifier to `w`.
@@ -60,26 +137,33 @@ impl<const S: usize> ContentId<S> {
     ///
     /// What the writer answers. A proper beginning of the identifier was appended then.
     pub fn write<W: Write>(&self, w: &mut W) -> Result<(), Error>
-        ensures ok { OnOk result ((bytes : List ℕ)
-            × IsContentId self.now.version self.now.codec (pair_of self.now.hash) bytes
+        ensures ok { OnOk result ((bytes : List ℕ) × IsContentId (content_of self.now) bytes
             × W.appended w.old bytes w.new) }
-        ensures err { OnErr result ((bytes : List ℕ) →
-            IsContentId self.now.version self.now.codec (pair_of self.now.hash) bytes →
+        ensures err { OnErr result ((bytes : List ℕ) → IsContentId (content_of self.now) bytes →
             AppendsPart W.appended w.old bytes w.new) }
         ensures faults { CountsWriter IsIo W.allocates
             (W.failures w.old) (W.failures w.new) (W.full w.new) result }
     {
-        w.write_all(&[self.version, self.codec])?;
-        self.hash.write(w)?;
+        match self {
+            ContentId::V0(digest) => {
+                let hash = Multihash::<32>::wrap(SHA2_256, digest).unwrap();
+                hash.write(w)?;
+            }
+            ContentId::V1 { codec, hash } => {
+                varint::write(VERSION, w)?;
+                varint::write(codec.number, w)?;
+                hash.write(w)?;
+            }
+        }
         Ok(())
     }
 }
 
-/// Two identifiers at one place of a stream are the same, and the same follows them.
+/// Two identifiers at one place of a stream are the same, and the same follows them: neither version's bytes begin
+/// the other's.
 pub fn one_identifier()
-    ensures { (v w c d : ℕ) (p q : Pair) (a b r s : List ℕ) →
-        IsContentId v c p a → IsContentId w d q b →
-        a ++ r ≡ b ++ s → (v ≡ w) × (c ≡ d) × (p ≡ q) × (a ≡ b) × (r ≡ s) }
+    ensures { (c d : Content) (a b r s : List ℕ) → IsContentId c a → IsContentId d b →
+        a ++ r ≡ b ++ s → (c ≡ d) × (a ≡ b) × (r ≡ s) }
 {
     laws::prefix_free();
 }

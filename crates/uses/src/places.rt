@@ -12,15 +12,18 @@ use multihash::no_std_io::SliceWriter;
 use multihash::{Error, Multihash};
 use std::alloc::Global;
 
-/// Writes the encoding to the front of `places`, and says how many it fills; none where it does not fit,
-/// and what the places hold then is not told.
+/// Writes the encoding to the front of `places`, and says how many it fills; none where it does not fit, and
+/// then the places are as they were.
 pub fn encode_into<const S: usize>(m: &Multihash<S>, places: &mut [u8]) -> Option<usize>
     ensures { (bytes : List ℕ) × IsEncoding (pair_of m.now) bytes
-        × MatchOption result (length places.old < length bytes)
+        × MatchOption result ((length places.old < length bytes) × (places.new ≡ places.old))
         (λ n. (n ≡ length bytes) × (places.new ≡ bytes ++ drop n places.old)) }
 {
+    if m.encoded_len() > places.len() {
+        return None;
+    }
     let mut writer = SliceWriter::new(places);
-    m.write(&mut writer).ok()
+    Some(m.write(&mut writer).unwrap())
 }
 
 /// Writes the encodings of some multihashes to the front of `places`, and says how many they fill; none

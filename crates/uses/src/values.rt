@@ -1,5 +1,5 @@
 //! Callers that compare, order, cut and resize multihashes.
-ghost use Rattle.std.specs.Prelude.{◌≡◌, ◌<◌, length, IsTrue, OnOk, MatchResult};
+ghost use Rattle.std.specs.Prelude.{◌≡◌, ◌<◌, ◌≤◌, length, IsTrue, OnOk, MatchResult};
 ghost use Rattle.std.specs.List.Sorted.{IsSorted, IsPermutation};
 ghost use Rattle.std.specs.Ordering.{on};
 ghost use Rattle.multihash.specs.Comparing.{compare_pairs};
@@ -67,6 +67,14 @@ pub fn cut_to_fit<const S: usize>(m: &Multihash<S>) -> Multihash<20>
     ensures { pair_of result ≡ truncated 20 (pair_of m.now) }
 {
     m.truncate(20).resize::<20>().unwrap()
+}
+
+/// A multihash cut to `size` bytes, in a buffer that has room for as many.
+pub fn cut_to<const S: usize, const R: usize>(m: &Multihash<S>, size: u8) -> Multihash<R>
+    requires { size ≤ R }
+    ensures { pair_of result ≡ truncated size (pair_of m.now) }
+{
+    m.truncate(size).resize::<R>().unwrap()
 }
 
 /// Puts multihashes in order.

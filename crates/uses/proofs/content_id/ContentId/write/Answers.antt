@@ -1,33 +1,88 @@
-use Rattle.std.proofs.Common.{[], ◌∷◌, ◌++◌, refl}
+use Rattle.std.proofs.Common.{◌≡◌, ℕ, List, ◌++◌, length, inl, inr, refl, sym, ap, subst, arith, rules}
+use Rattle.multihash.specs.Pair.{Pair}
+use Rattle.multihash.specs.Encoding.{IsEncoding}
 use Rattle.multihash.specs.Answer.{pair_of}
 use Rattle.multihash.proofs.Writings.WritingLemmas.{AppendsPart-append, AppendsPart-joined}
-use Rattle.uses.proofs.ContentIdLemmas.{identifier, stops_all}
+use Rattle.multihash.proofs.Readings.VerdictLemmas.{encoding_exists}
+use Rattle.multihash.proofs.Varints.VarintWriteLemmas.{varint_exists}
+use Rattle.multihash.proofs.Values.ValueLemmas.{digest_fits}
+use Rattle.uses.specs.ContentId.{version_0, version_1, content_of, IsContentId}
+use Rattle.uses.proofs.ContentIdLemmas.{make_version_1, stops_all}
 use Rattle.uses.proofs.content_id.ContentId.write.Goals as goal
+use Rattle.uses.proofs.content_id.ContentId.write.Goals.{in-V0+in_ok-write-in-V0, in-V1+in_ok-write-in-V1+in_ok-write-in-V1-2+in_ok-write-in-V1-3}
+
+pub returns-in_err-write-in-V0-clause-err : goal.returns-in_err-write-in-V0-clause-err
+returns-in_err-write-in-V0-clause-err g c =
+    let digest = c.in-V0.digest in
+    let says : content_of c.args.self.now ≡ version_0 digest = search rules in
+    let whole : length digest ≡ 32 = search rules in
+    let made : pair_of c.unwrap-hash.result ≡ record { code = 0x12; digest = digest } = search rules in
+    let part = c.in_err-write-in-V0.ensures.err in
+    let is : IsContentId (content_of c.args.self.now) part.0 =
+    subst (λ x. IsContentId x part.0) (sym says) (record { whole = whole; encodes = subst (λ (p : Pair). IsEncoding p part.0) made part.1 }) in
+    stops_all g.W.Write.appended _ _ _ (content_of c.args.self.now) part.0 is part.2
+
+pub returns-in_err-write-in-V1-clause-err : goal.returns-in_err-write-in-V1-clause-err
+returns-in_err-write-in-V1-clause-err g c =
+    let says : content_of c.args.self.now ≡ version_1 c.in-V1.codec.number (pair_of c.in-V1.hash) = search rules in
+    let n = varint_exists c.in-V1.codec.number c.in-V1.codec.in_range in
+    let h = encoding_exists (pair_of c.in-V1.hash) c.in-V1.hash.in_range (omega (arith, digest_fits c.in-V1.hash)) in
+    elim c.in_err-write-in-V1.ensures.err [
+      | inl code ↦ absurd (omega (arith, code.1))
+      | inr io ↦
+          let part = io.1 in
+          let is = make_version_1 1 c.in-V1.codec.number (pair_of c.in-V1.hash) part.0 n.0 h.0 refl part.1 n.1 h.1 in
+          let stops = AppendsPart-append g.W.Write.appended _ _ part.0 (n.0 ++ h.0) part.2 in
+          stops_all g.W.Write.appended _ _ _ _ (part.0 ++ (n.0 ++ h.0)) (subst (λ x. IsContentId x (part.0 ++ (n.0 ++ h.0))) (sym says) is) stops
+    ]
+
+pub returns-in_err-write-in-V1-2-clause-err : goal.returns-in_err-write-in-V1-2-clause-err
+returns-in_err-write-in-V1-2-clause-err g c =
+    let says : content_of c.args.self.now ≡ version_1 c.in-V1.codec.number (pair_of c.in-V1.hash) = search rules in
+    let v = c.in_ok-write-in-V1.ensures.ok in
+    let h = encoding_exists (pair_of c.in-V1.hash) c.in-V1.hash.in_range (omega (arith, digest_fits c.in-V1.hash)) in
+    elim c.in_err-write-in-V1-2.ensures.err [
+      | inl code ↦ absurd (omega (arith, code.1, c.in-V1.codec.in_range))
+      | inr io ↦
+          let part = io.1 in
+          let is = make_version_1 1 c.in-V1.codec.number (pair_of c.in-V1.hash) v.0 part.0 h.0 refl v.1 part.1 h.1 in
+          let stops = AppendsPart-joined g.W.Write.appended g.met.W.Write.appends_joined _ _ _ v.0 _ v.3 (AppendsPart-append g.W.Write.appended _ _ part.0 h.0 part.2) in
+          stops_all g.W.Write.appended _ _ _ _ (v.0 ++ (part.0 ++ h.0)) (subst (λ x. IsContentId x (v.0 ++ (part.0 ++ h.0))) (sym says) is) stops
+    ]
+
+pub returns-in_err-write-in-V1-3-clause-err : goal.returns-in_err-write-in-V1-3-clause-err
+returns-in_err-write-in-V1-3-clause-err g c =
+    let says : content_of c.args.self.now ≡ version_1 c.in-V1.codec.number (pair_of c.in-V1.hash) = search rules in
+    let v = c.in_ok-write-in-V1.ensures.ok in
+    let n = c.in_ok-write-in-V1-2.ensures.ok in
+    let part = c.in_err-write-in-V1-3.ensures.err in
+    let is = make_version_1 1 c.in-V1.codec.number (pair_of c.in-V1.hash) v.0 n.0 part.0 refl v.1 n.1 part.1 in
+    let stops = AppendsPart-joined g.W.Write.appended g.met.W.Write.appends_joined _ _ _ v.0 _ v.3
+    (AppendsPart-joined g.W.Write.appended g.met.W.Write.appends_joined _ _ _ n.0 _ n.3 part.2) in
+    stops_all g.W.Write.appended _ _ _ _ (v.0 ++ (n.0 ++ part.0)) (subst (λ x. IsContentId x (v.0 ++ (n.0 ++ part.0))) (sym says) is) stops
 
 pub returns-clause-ok : goal.returns-clause-ok
 returns-clause-ok g c =
-    let hash = c.in_ok-write.ensures.ok in
-    let head = c.args.self.now.version ∷ c.args.self.now.codec ∷ [] in (
-      _,
-      identifier head hash.0 (pair_of c.args.self.now.hash) refl hash.1,
-      g.met.W.Write.appends_joined _ _ _ head hash.0 c.in_ok-write_all.ensures.laws.ok hash.3,
-    )
-
-pub returns-in_err-write_all-clause-err : goal.returns-in_err-write_all-clause-err
-returns-in_err-write_all-clause-err g c =
-    let head = c.args.self.now.version ∷ c.args.self.now.codec ∷ [] in
-    stops_all g.W.Write.appended _ _ _ c.args.self.now.version c.args.self.now.codec (pair_of c.args.self.now.hash) (λ bytes id. (
-      head ++ id.encoding,
-      identifier head id.encoding _ refl id.encodes,
-      AppendsPart-append g.W.Write.appended _ _ head id.encoding c.in_err-write_all.ensures.laws.err,
-    ))
-
-pub returns-in_err-write-clause-err : goal.returns-in_err-write-clause-err
-returns-in_err-write-clause-err g c =
-    let hash = c.in_err-write.ensures.err in
-    let head = c.args.self.now.version ∷ c.args.self.now.codec ∷ [] in
-    stops_all g.W.Write.appended _ _ _ c.args.self.now.version c.args.self.now.codec (pair_of c.args.self.now.hash) (λ bytes id. (
-      head ++ hash.0,
-      identifier head hash.0 _ refl hash.1,
-      AppendsPart-joined g.W.Write.appended g.met.W.Write.appends_joined _ _ _ head hash.0 c.in_ok-write_all.ensures.laws.ok hash.2,
-    ))
+    elim c.match-self.branch [
+      | in-V0+in_ok-write-in-V0 w ↦
+          let digest = w.in-V0.digest in
+          let says : content_of c.args.self.now ≡ version_0 digest = search rules in
+          let whole : length digest ≡ 32 = search rules in
+          let made : pair_of w.unwrap-hash.result ≡ record { code = 0x12; digest = digest } = search rules in
+          let wrote = w.in_ok-write-in-V0.ensures.ok in
+          let is : IsContentId (content_of c.args.self.now) wrote.0 =
+          subst (λ x. IsContentId x wrote.0) (sym says) (record { whole = whole; encodes = subst (λ (p : Pair). IsEncoding p wrote.0) made wrote.1 }) in
+          (wrote.0, is, subst (λ x. g.W.Write.appended c.args.w.now wrote.0 x) (sym w.w-is) wrote.3)
+      | in-V1+in_ok-write-in-V1+in_ok-write-in-V1-2+in_ok-write-in-V1-3 w ↦
+          let says : content_of c.args.self.now ≡ version_1 w.in-V1.codec.number (pair_of w.in-V1.hash) = search rules in
+          let v = w.in_ok-write-in-V1.ensures.ok in
+          let n = w.in_ok-write-in-V1-2.ensures.ok in
+          let h = w.in_ok-write-in-V1-3.ensures.ok in
+          let is = make_version_1 1 w.in-V1.codec.number (pair_of w.in-V1.hash) v.0 n.0 h.0 refl v.1 n.1 h.1 in
+          let join = g.met.W.Write.appends_joined in
+          let stands = join _ _ _ v.0 (n.0 ++ h.0) v.3 (join _ _ _ n.0 h.0 n.3 h.3) in (
+            v.0 ++ (n.0 ++ h.0),
+            subst (λ x. IsContentId x (v.0 ++ (n.0 ++ h.0))) (sym says) is,
+            subst (λ x. g.W.Write.appended c.args.w.now (v.0 ++ (n.0 ++ h.0)) x) (sym w.w-is) stands,
+          )
+    ]
