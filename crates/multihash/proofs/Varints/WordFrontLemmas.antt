@@ -1,33 +1,35 @@
 -- The varint or the fault at the front of an input, from the word of its first bytes.
-use Rattle.std.proofs.Common.{◌≡◌, ℕ, ◌+◌, ◌-◌, ◌*◌, ◌/◌, ◌%◌, ◌^◌, ◌<◌, ◌≤◌, List, [], ◌∷◌, ◌++◌, length, get_or, take, drop, refl, sym, ap, ◌∙◌, subst, inl, inr, arith, bit_and, bit_or, length-drop}
+use Rattle.std.proofs.Common.{◌≡◌, ℕ, ◌+◌, ◌-◌, ◌*◌, ◌/◌, ◌%◌, ◌^◌, ◌<◌, ◌≤◌, List, [], ◌∷◌, ◌++◌, length, get_or, take, drop, refl, sym, ap, ◌∙◌, subst, inl, inr, arith, bit_and, bit_or}
 use Rattle.std.specs.List.{All}
-use Rattle.std.specs.Int.{w64, bit_at, bit_not, trailing_zeros}
 use Rattle.std.specs.Int.Count.{trailing_of_zero}
+use Rattle.std.specs.Int.{w64, trailing_zeros}
 use Rattle.std.proofs.Math.Nat.{mod-eq_of_lt}
+use Rattle.std.proofs.Math.Seq.{take-add}
 use Rattle.std.proofs.lemmas.Bool.{cases_lt}
-use Rattle.std.proofs.lemmas.Nat.{and_mask, or_comm, or_shifted, mod-pow-add}
+use Rattle.std.proofs.lemmas.Nat.{and_mask, or_comm, or_shifted}
 use Rattle.std.proofs.lemmas.Nat.Bits.{and_pow}
-use Rattle.std.proofs.lemmas.List.{get_or_past, get_or-take, get_or-drop, nil_from_length, length-take, length-take-le, take_more, take-take, take_all, take-append-drop, drop_more}
+use Rattle.std.proofs.lemmas.List.{get_or_past, get_or-take, get_or-drop, length-map, length-take, length-take-le, map-append, nil_from_length, take_more, take-take, take_all, take-append-drop, drop_more, drop-take}
 use Rattle.std.proofs.lemmas.List.Elements.{All-take, All-drop, All-get_or, All-from_get_or}
 use Rattle.multihash.specs.Bytes.{IsBytes, place_value}
 use Rattle.multihash.specs.Varint.{most_marked, first_too_large, IsMarked, IsVarint, IsInsufficient, IsOverflow, IsNotMinimal}
 use Rattle.multihash.specs.Word.{IsFrontWord, BeginsMarked, digits_low}
-use Rattle.multihash.proofs.Varints.DigitLemmas.{place_value-nil, place_value-cons}
-use Rattle.multihash.proofs.Varints.MarkedLemmas.{unmarked, unmarked-nil, length-unmarked, unmarked_digits}
-use Rattle.multihash.proofs.Varints.VarintLemmas.{in_range, varint_from_bytes}
-use Rattle.multihash.proofs.Varints.WordLemmas.{byte_of, low_bytes, high_bytes, digits_low_below, digits_low_split, digits_low_is}
-use Rattle.multihash.proofs.Varints.StopLemmas.{stop_bits, varint_bits, FirstUnmarked, first_unmarked, last_place, too_large, stop_early, kept_byte, kept_below, kept_last, few_marked}
+use Rattle.multihash.proofs.Varints.DigitLemmas.{place_value_append, place_value_below}
+use Rattle.multihash.proofs.Varints.MarkedLemmas.{low_digits, low_digits_below}
+use Rattle.multihash.proofs.Varints.VarintLemmas.{varint_from_bytes}
+use Rattle.multihash.proofs.Varints.VarintWriteLemmas.{one_byte}
+use Rattle.multihash.proofs.Varints.WordLemmas.{byte_at, byte_of, halves, low_bytes, high_bytes, digits_low_of}
+use Rattle.multihash.proofs.Varints.StopLemmas.{stops, stop_at, varint_bits, StopsAt, first_unmarked, stop_early, last_place, too_large, kept_last, few_marked, too_large_byte}
 
 -- ---- where the marked bytes of an input end
 
-module _ (xs : List ℕ) (k : ℕ) (bytes : IsBytes xs) (before : (i : ℕ) → i < k → 128 ≤ get_or xs i 0) where
-  pub run_within_input : k ≤ length xs
+module _ (xs : List ℕ) (k : ℕ) (before : (i : ℕ) → i < k → 128 ≤ get_or xs i 0) where
+  run_within_input : k ≤ length xs
   run_within_input = elim (cases_lt (length xs) k) [
     | inl short ↦ absurd (omega (arith, before (length xs) short, get_or_past xs (length xs) 0 (omega arith)))
     | inr within ↦ within
   ]
 
-  pub run_marked : All IsMarked (take k xs)
+  run_marked : All IsMarked (take k xs)
   run_marked = All-from_get_or IsMarked (take k xs) 0 (λ i within.
       let below : i < k = omega (arith, length-take k xs) in
       rw (get_or-take k xs i 0 below) (before i below))
@@ -35,77 +37,79 @@ module _ (xs : List ℕ) (k : ℕ) (bytes : IsBytes xs) (before : (i : ℕ) → 
   cut_at : k < length xs → xs ≡ take k xs ++ get_or xs k 0 ∷ drop (k + 1) xs
   cut_at below = sym (take-append-drop k xs) ∙ ap (λ (back : List ℕ). take k xs ++ back) (drop_more xs k 0 below)
 
-  pub overflow_at : k ≡ most_marked → first_too_large ≤ get_or xs k 0 → IsOverflow xs
-  overflow_at most large =
-      let below : k < length xs = elim (cases_lt k (length xs)) [
-        | inl within ↦ within
-        | inr past ↦ absurd (omega (arith, get_or_past xs k 0 past))
-      ] in
-      record {
-        front = take k xs;
-        byte = get_or xs k 0;
-        rest = drop (k + 1) xs;
-        all_marked = run_marked;
-        most = omega (arith, length-take-le k xs (omega arith));
-        too_large = large;
-        cut = cut_at below;
-      }
+  overflow_at : k ≡ most_marked → first_too_large ≤ get_or xs k 0 → IsOverflow xs
+  overflow_at most large = record {
+    front = take k xs;
+    byte = get_or xs k 0;
+    rest = drop (k + 1) xs;
+    all_marked = run_marked;
+    most = omega (arith, length-take-le k xs run_within_input);
+    too_large = large;
+    cut = cut_at (elim (cases_lt k (length xs)) [
+      | inl within ↦ within
+      | inr past ↦ absurd (omega (arith, get_or_past xs k 0 past))
+    ]);
+  }
 
-  module _ (few : k ≤ most_marked) where
-    pub insufficient_at : length xs ≤ k → IsInsufficient xs
-    insufficient_at past =
-        let whole : take k xs ≡ xs = take_all k xs past in
-        record { few = omega arith; all_marked = subst (All IsMarked) whole run_marked }
+-- so many marked bytes begin the input, and an unmarked one is next, or none
+pub record EndsAt (xs : List ℕ) (k : ℕ) : Type 0 where
+  pub bytes : IsBytes xs
+  pub before : (i : ℕ) → i < k → 128 ≤ get_or xs i 0
+  pub few : k ≤ most_marked
+  pub here : get_or xs k 0 < 128
+  pub last_small : k ≡ most_marked → get_or xs k 0 < first_too_large
 
-    module _ (below : k < length xs) where
-      pub zero_at : 0 < k → get_or xs k 0 ≡ 0 → IsNotMinimal xs
-      zero_at some null = record {
-        front = take k xs;
-        rest = drop (k + 1) xs;
-        all_marked = run_marked;
-        some = omega (arith, length-take-le k xs (omega arith));
-        few = omega (arith, length-take-le k xs (omega arith));
-        cut = cut_at below ∙ ap (λ (b : ℕ). take k xs ++ b ∷ drop (k + 1) xs) null;
-      }
+module _ (xs : List ℕ) (k : ℕ) (end : EndsAt xs k) where
+  pub ends_short : length xs ≤ k → IsInsufficient xs
+  ends_short past =
+      record { few = omega (arith, end.few); all_marked = subst (All IsMarked) (take_all k xs past) (run_marked xs k end.before) }
 
-      module _ (here : get_or xs k 0 < 128) (last_small : k ≡ most_marked → get_or xs k 0 < first_too_large) where
-        marks : List ℕ
-        marks = take k xs
+  module _ (below : k < length xs) where
+    long : length (take k xs) ≡ k
+    long = length-take-le k xs (omega arith)
 
-        marks_bytes : IsBytes marks
-        unfolding marks
-        marks_bytes = All-take (λ b. b < 256) k xs bytes
+    pub ends_zero : 0 < k → get_or xs k 0 ≡ 0 → IsNotMinimal xs
+    ends_zero some null = record {
+      front = take k xs;
+      rest = drop (k + 1) xs;
+      all_marked = run_marked xs k end.before;
+      some = omega (arith, long);
+      few = omega (arith, long, end.few);
+      cut = cut_at xs k end.before below ∙ ap (λ (b : ℕ). take k xs ++ b ∷ drop (k + 1) xs) null;
+    }
 
-        marks_marked : All IsMarked marks
-        unfolding marks
-        marks_marked = run_marked
+    pub ends_number : (get_or xs k 0 ≡ 0 → k ≡ 0) → IsVarint (place_value 128 (low_digits (take (k + 1) xs))) (take (k + 1) xs)
+    ends_number minimal =
+        rw (take_more xs k 0 below)
+        (varint_from_bytes (take k xs) (get_or xs k 0) (All-take (λ b. b < 256) k xs end.bytes) (run_marked xs k end.before) end.here
+        (omega (arith, long, end.few)) (λ e. end.last_small (sym long ∙ e)) (λ z. nil_from_length (take k xs) (long ∙ minimal z)))
 
-        marks_long : length marks ≡ k
-        unfolding marks
-        marks_long = length-take-le k xs (omega arith)
+-- ---- what half a word says of the bytes that it holds
 
-        more : take (k + 1) xs ≡ marks ++ get_or xs k 0 ∷ []
-        unfolding marks
-        more = take_more xs k 0 below
+module _ (ys : List ℕ) (half : ℕ) (bytes : IsBytes ys) (is : half ≡ place_value 256 (take 8 ys)) where
+  half_stop : StopsAt half (stop_at half)
+  half_stop = first_unmarked half (omega (arith, is, (halves ys 8 bytes).0))
 
-        -- the number of the digits, where there are enough of them
-        number_is : (n : ℕ) → k < n → digits_low n (place_value 256 (take (k + 1) xs)) ≡ place_value 128 (unmarked marks ++ get_or xs k 0 ∷ [])
-        number_is n enough =
-            ap (digits_low n) (ap (place_value 256) more)
-            ∙ digits_low_is n marks (get_or xs k 0) marks_bytes marks_marked here (omega (arith, marks_long))
+  half_byte : (i : ℕ) → i < 8 → byte_at half i ≡ get_or ys i 0
+  half_byte i few = ap (λ (n : ℕ). byte_at n i) is ∙ (byte_of (take 8 ys) i (All-take (λ b. b < 256) 8 ys bytes) ∙ get_or-take 8 ys i 0 few)
 
-        pub number_below : (n : ℕ) → k < n → digits_low n (place_value 256 (take (k + 1) xs)) < 2 ^ 64
-        number_below n enough =
-            let fits = in_range (unmarked marks) (get_or xs k 0) (unmarked_digits marks marks_bytes) here (omega (arith, length-unmarked marks, marks_long))
-            (λ e. last_small (omega (arith, e, length-unmarked marks, marks_long))) in
-            omega (arith, number_is n enough, fits)
+  half_before : (i : ℕ) → i < stop_at half → 128 ≤ get_or ys i 0
+  half_before i run = rw (← half_byte i (omega (arith, half_stop.within))) (half_stop.before i run)
 
-        pub number_at : (n : ℕ) → k < n → (get_or xs k 0 ≡ 0 → k ≡ 0)
-            → IsVarint (digits_low n (place_value 256 (take (k + 1) xs))) (take (k + 1) xs)
-        number_at n enough minimal =
-            rw (number_is n enough, more)
-            (varint_from_bytes marks (get_or xs k 0) marks_bytes marks_marked here (omega (arith, marks_long))
-            (λ e. last_small (omega (arith, e, marks_long))) (λ z. nil_from_length marks (omega (arith, marks_long, minimal z))))
+  module _ (early : stop_at half < 8) where
+    half_here : get_or ys (stop_at half) 0 < 128
+    half_here = rw (← half_byte (stop_at half) early) half_stop.here
+
+    half_last : varint_bits half / 2 ^ (8 * stop_at half) ≡ get_or ys (stop_at half) 0
+    half_last = kept_last half (stop_at half) half_stop ∙ half_byte (stop_at half) early
+
+    half_digits : (n : ℕ) → stop_at half < n → digits_low n (varint_bits half) ≡ place_value 128 (low_digits (take (stop_at half + 1) ys))
+    half_digits n enough =
+        let j = stop_at half + 1 in
+        ap (digits_low n)
+        (half_stop.varint ∙ (ap (λ (m : ℕ). m % 2 ^ (8 * j)) is ∙ (low_bytes (take 8 ys) j (All-take (λ b. b < 256) 8 ys bytes)
+        ∙ ap (place_value 256) (take-take j 8 ys (omega arith)))))
+        ∙ digits_low_of n (take j ys) (All-take (λ b. b < 256) j ys bytes) (omega (arith, length-take j ys))
 
 -- ---- what a word says of the bytes that it holds the first of
 
@@ -113,99 +117,60 @@ module _ (xs : List ℕ) (word present : ℕ) (bytes : IsBytes xs) (f : IsFrontW
   front_bytes : IsBytes (take 16 xs)
   front_bytes = All-take (λ b. b < 256) 16 xs bytes
 
-  -- the first byte alone
-  lowest_byte : word % 256 ≡ get_or xs 0 0
-  lowest_byte =
-      let byte = ap (λ (n : ℕ). n / 2 ^ (8 * 0) % 2 ^ 8) f.word_is ∙ (byte_of (take 16 xs) 0 front_bytes ∙ get_or-take 16 xs 0 0 (omega arith)) in
-      omega (arith, byte)
-
-  lowest_bit : bit_and word 128 ≡ bit_at word 7 * 128
-  lowest_bit = and_pow word 7
-
-  pub one_byte : 0 < present → bit_and word 128 ≡ 0 → IsVarint (bit_and word 127) (take 1 xs)
-  one_byte some unset =
-      let b = get_or xs 0 0 in
+  pub single_byte : 0 < present → bit_and word 128 ≡ 0 → IsVarint (bit_and word 127) (take 1 xs)
+  single_byte some unset =
       let below : 0 < length xs = omega (arith, f.present_is) in
-      let one : take (0 + 1) xs ≡ take 0 xs ++ b ∷ [] = take_more xs 0 0 below in
-      let small : b < 128 = omega (arith, lowest_byte, lowest_bit) in
-      let value : bit_and word 127 ≡ place_value 128 (unmarked [] ++ b ∷ []) =
-      and_mask word 7 ∙ rw (unmarked-nil, place_value-cons 128 b [], place_value-nil 128) (omega (arith, lowest_byte)) in
-      rw (value, one)
-      (varint_from_bytes [] b (λ k d within. absurd (omega arith)) (λ k d within. absurd (omega arith)) small (omega arith)
-      (λ e. absurd (omega arith)) (λ z. refl))
+      let byte : word % 256 ≡ get_or xs 0 0 =
+      omega (arith, ap (λ (n : ℕ). byte_at n 0) f.word_is, byte_of (take 16 xs) 0 front_bytes, get_or-take 16 xs 0 0 (omega arith)) in
+      let small : get_or xs 0 0 < 128 = omega (arith, byte, and_pow word 7) in
+      let value : bit_and word 127 ≡ get_or xs 0 0 = omega (arith, byte, and_mask word 7, small) in
+      rw (value, take_more xs 0 0 below) (one_byte (get_or xs 0 0) small)
 
   -- ---- the low half
 
   abbrev pub lower : ℕ
   lower = bit_and word 18446744073709551615
 
-  lows : List ℕ
-  lows = take 8 (take 16 xs)
-
-  low_is : lower ≡ place_value 256 lows
-  unfolding lows
-  low_is = and_mask word 64 ∙ (ap (λ (n : ℕ). n % 2 ^ 64) f.word_is ∙ low_bytes (take 16 xs) 8 front_bytes)
-
-  lows_bytes : IsBytes lows
-  unfolding lows
-  lows_bytes = All-take (λ b. b < 256) 8 (take 16 xs) front_bytes
-
-  lows_eight : length lows ≤ 8
-  unfolding lows
-  lows_eight = omega (arith, length-take 8 (take 16 xs))
-
-  low_byte : (i : ℕ) → i < 8 → get_or lows i 0 ≡ get_or xs i 0
-  unfolding lows
-  low_byte i few = get_or-take 8 (take 16 xs) i 0 few ∙ get_or-take 16 xs i 0 (omega arith)
-
-  abbrev pub low_stop : ℕ
-  low_stop = trailing_zeros w64 (bit_and (bit_not w64 lower) stop_bits)
-
-  first_low : FirstUnmarked lows lower low_stop
-  first_low = rw low_is (first_unmarked lows lows_bytes lows_eight)
-
-  low_before : (i : ℕ) → i < low_stop / 8 → 128 ≤ get_or xs i 0
-  low_before i run = rw (← low_byte i (omega (arith, first_low.within))) (first_low.before i run)
+  low_is : lower ≡ place_value 256 (take 8 xs)
+  low_is =
+      and_mask word 64
+      ∙ (ap (λ (n : ℕ). n % 2 ^ 64) f.word_is ∙ (low_bytes (take 16 xs) 8 front_bytes ∙ ap (place_value 256) (take-take 8 16 xs (omega arith))))
 
   -- no byte of it is unmarked
-  pub low_marked : bit_and (bit_not w64 lower) stop_bits ≡ 0 → BeginsMarked 8 xs
+  pub low_marked : stops lower ≡ 0 → BeginsMarked 8 xs
   low_marked none =
-      let end : low_stop ≡ 64 = ap (trailing_zeros w64) none ∙ trailing_of_zero 64 in
-      let all = λ (i : ℕ) (run : i < 8). low_before i (omega (arith, end)) in
-      record { enough = run_within_input xs 8 bytes all; all_marked = run_marked xs 8 bytes all }
+      let end : stop_at lower ≡ 8 = ap (λ (n : ℕ). trailing_zeros w64 n / 8) none ∙ ap (λ (n : ℕ). n / 8) (trailing_of_zero 64) in
+      let all = λ (i : ℕ) (run : i < 8). half_before xs lower bytes low_is i (omega (arith, end)) in
+      record { enough = run_within_input xs 8 all; all_marked = run_marked xs 8 all }
 
-  module _ (some : ¬ (bit_and (bit_not w64 lower) stop_bits ≡ 0)) where
-    low_early : low_stop < 64
-    low_early = stop_early lower some
+  module _ (some : ¬ (stops lower ≡ 0)) where
+    low_early : stop_at lower < 8
+    low_early = omega (arith, stop_early lower some)
 
-    low_kept : varint_bits lower ≡ place_value 256 (take (low_stop / 8 + 1) xs)
-    unfolding lows
-    low_kept =
-        first_low.varint low_early
-        ∙ ap (place_value 256) (take-take (low_stop / 8 + 1) 8 (take 16 xs) (omega (arith, low_early)) ∙ take-take (low_stop / 8 + 1) 16 xs (omega (arith, low_early)))
+    low_end : EndsAt xs (stop_at lower)
+    low_end = record {
+      bytes = bytes;
+      before = half_before xs lower bytes low_is;
+      few = omega (arith, low_early);
+      here = half_here xs lower bytes low_is low_early;
+      last_small = λ e. absurd (omega (arith, e, low_early));
+    }
 
-    low_here : get_or xs (low_stop / 8) 0 < 128
-    low_here = rw (← low_byte (low_stop / 8) (omega (arith, low_early))) (first_low.here low_early)
+    low_last : varint_bits lower / 2 ^ (8 * stop_at lower) ≡ get_or xs (stop_at lower) 0
+    low_last = half_last xs lower bytes low_is low_early
 
-    low_last : varint_bits lower / 2 ^ (8 * (low_stop / 8)) ≡ get_or xs (low_stop / 8) 0
-    low_last = kept_last lows lower low_stop lows_bytes lows_eight first_low low_early ∙ low_byte (low_stop / 8) (omega (arith, low_early))
+    pub low_short : present ≤ stop_at lower → IsInsufficient xs
+    low_short past = ends_short xs (stop_at lower) low_end (omega (arith, low_early, f.present_is))
 
-    pub low_short : present ≤ low_stop / 8 → IsInsufficient xs
-    low_short past = insufficient_at xs (low_stop / 8) bytes low_before (omega (arith, low_early)) (omega (arith, low_early, f.present_is))
+    module _ (within : stop_at lower < present) where
+      pub low_zero : varint_bits lower / 2 ^ (8 * stop_at lower) ≡ 0 → 0 < stop_at lower → IsNotMinimal xs
+      low_zero null more = ends_zero xs (stop_at lower) low_end (omega (arith, f.present_is)) more (sym low_last ∙ null)
 
-    module _ (within : low_stop / 8 < present) where
-      low_below : low_stop / 8 < length xs
-      low_below = omega (arith, f.present_is)
-
-      pub low_zero : varint_bits lower / 2 ^ (8 * (low_stop / 8)) ≡ 0 → 0 < low_stop / 8 → IsNotMinimal xs
-      low_zero null more = zero_at xs (low_stop / 8) bytes low_before (omega (arith, low_early)) low_below more (sym low_last ∙ null)
-
-      pub low_number : (varint_bits lower / 2 ^ (8 * (low_stop / 8)) ≡ 0 → low_stop / 8 ≡ 0)
-          → IsVarint (digits_low 8 (varint_bits lower)) (take (low_stop / 8 + 1) xs)
+      pub low_number : (varint_bits lower / 2 ^ (8 * stop_at lower) ≡ 0 → stop_at lower ≡ 0)
+          → IsVarint (digits_low 8 (varint_bits lower)) (take (stop_at lower + 1) xs)
       low_number minimal =
-          rw low_kept
-          (number_at xs (low_stop / 8) bytes low_before (omega (arith, low_early)) low_below low_here (λ e. absurd (omega (arith, e, low_early))) 8
-          (omega (arith, low_early)) (λ z. minimal (low_last ∙ z)))
+          rw (half_digits xs lower bytes low_is low_early 8 low_early)
+          (ends_number xs (stop_at lower) low_end (omega (arith, f.present_is)) (λ z. minimal (low_last ∙ z)))
 
   -- ---- the high half
 
@@ -213,135 +178,91 @@ module _ (xs : List ℕ) (word present : ℕ) (bytes : IsBytes xs) (f : IsFrontW
     abbrev pub upper : ℕ
     upper = word / 2 ^ 64
 
-    highs : List ℕ
-    highs = drop 8 (take 16 xs)
+    above : List ℕ
+    above = drop 8 xs
 
-    high_is : upper ≡ place_value 256 highs
-    unfolding highs
-    high_is = ap (λ (n : ℕ). n / 2 ^ 64) f.word_is ∙ high_bytes (take 16 xs) 8 front_bytes
+    above_bytes : IsBytes above
+    unfolding above
+    above_bytes = All-drop (λ b. b < 256) 8 xs bytes
 
-    highs_bytes : IsBytes highs
-    unfolding highs
-    highs_bytes = All-drop (λ b. b < 256) 8 (take 16 xs) front_bytes
+    high_is : upper ≡ place_value 256 (take 8 above)
+    unfolding above
+    high_is = ap (λ (n : ℕ). n / 2 ^ 64) f.word_is ∙ (high_bytes (take 16 xs) 8 front_bytes ∙ ap (place_value 256) (drop-take 8 8 xs))
 
-    highs_eight : length highs ≤ 8
-    unfolding highs
-    highs_eight = omega (arith, length-drop 8 (take 16 xs), length-take 16 xs)
+    above_at : (i : ℕ) → get_or above i 0 ≡ get_or xs (8 + i) 0
+    unfolding above
+    above_at i = get_or-drop 8 xs i 0
 
-    high_byte : (i : ℕ) → i < 8 → get_or highs i 0 ≡ get_or xs (8 + i) 0
-    unfolding highs
-    high_byte i few = get_or-drop 8 (take 16 xs) i 0 ∙ get_or-take 16 xs (8 + i) 0 (omega arith)
-
-    abbrev pub high_stop : ℕ
-    high_stop = trailing_zeros w64 (bit_and (bit_not w64 upper) stop_bits)
-
-    first_high : FirstUnmarked highs upper high_stop
-    first_high = rw high_is (first_unmarked highs highs_bytes highs_eight)
-
-    marked_byte : (i : ℕ) → i < 8 → 128 ≤ get_or xs i 0
-    marked_byte i few =
-        rw (← get_or-take 8 xs i 0 few) (All-get_or IsMarked (take 8 xs) i 0 (omega (arith, length-take 8 xs, marked_low.enough)) marked_low.all_marked)
-
-    high_before : (i : ℕ) → i < 8 + high_stop / 8 → 128 ≤ get_or xs i 0
+    high_before : (i : ℕ) → i < 8 + stop_at upper → 128 ≤ get_or xs i 0
     high_before i run = elim (cases_lt i 8) [
-      | inl early ↦ marked_byte i early
+      | inl early ↦
+          rw (← get_or-take 8 xs i 0 early) (All-get_or IsMarked (take 8 xs) i 0 (omega (arith, length-take 8 xs, marked_low.enough)) marked_low.all_marked)
       | inr late ↦
           let place : 8 + (i - 8) ≡ i = omega arith in
-          let at : get_or xs (8 + (i - 8)) 0 ≡ get_or xs i 0 = ap (λ (k : ℕ). get_or xs k 0) place in
-          omega (arith, at, high_byte (i - 8) (omega (arith, first_high.within)), first_high.before (i - 8) (omega arith))
+          rw (← place, ← above_at (i - 8)) (half_before above upper above_bytes high_is (i - 8) (omega arith))
     ]
+
+    high_byte : byte_at upper last_place ≡ get_or xs most_marked 0
+    high_byte = half_byte above upper above_bytes high_is last_place (omega arith) ∙ above_at last_place
+
+    high_stop : StopsAt upper (stop_at upper)
+    high_stop = half_stop above upper above_bytes high_is
 
     pub high_over : too_large ≤ varint_bits upper → IsOverflow xs
-    high_over large = elim (cases_lt (high_stop / 8) last_place) [
-      | inl few ↦ absurd (omega (arith, kept_below highs upper high_stop highs_bytes highs_eight first_high last_place few (omega arith)))
-      | inr run ↦ overflow_at xs most_marked bytes (λ i below. high_before i (omega arith)) refl (too_large_byte run)
-    ]
-      where
-        too_large_byte : last_place ≤ high_stop / 8 → first_too_large ≤ get_or xs most_marked 0
-        too_large_byte run = elim (cases_lt last_place (high_stop / 8)) [
-          | inl more ↦ omega (arith, high_before most_marked (omega arith))
-          | inr exact ↦ omega (
-            arith,
-            kept_byte highs upper high_stop highs_bytes highs_eight first_high last_place run (omega arith),
-            kept_below highs upper high_stop highs_bytes highs_eight first_high (last_place + 1) (omega arith) (omega arith),
-            high_byte last_place (omega arith),
-          )
-        ]
+    high_over large =
+        let byte = too_large_byte upper (stop_at upper) high_stop large in
+        overflow_at xs most_marked (λ i below. high_before i (omega (arith, byte.0))) refl (omega (arith, byte.1, high_byte))
 
     module _ (small : varint_bits upper < too_large) where
-      high_few : high_stop / 8 ≤ last_place
-      high_few = few_marked highs upper high_stop highs_bytes highs_eight first_high small
+      high_few : stop_at upper ≤ last_place
+      high_few = few_marked upper (stop_at upper) high_stop small
 
-      high_early : high_stop < 64
-      high_early = omega (arith, high_few)
+      high_last : varint_bits upper / 2 ^ (8 * stop_at upper) ≡ get_or xs (8 + stop_at upper) 0
+      high_last = half_last above upper above_bytes high_is (omega (arith, high_few)) ∙ above_at (stop_at upper)
 
-      few : 8 + high_stop / 8 ≤ most_marked
-      few = omega (arith, high_few)
+      high_end : EndsAt xs (8 + stop_at upper)
+      high_end = record {
+        bytes = bytes;
+        before = high_before;
+        few = omega (arith, high_few);
+        here = rw (← above_at (stop_at upper)) (half_here above upper above_bytes high_is (omega (arith, high_few)));
+        last_small = λ most.
+            let same : stop_at upper ≡ last_place = omega (arith, most) in
+            rw same (omega (arith, small, rw same at high_last));
+      }
 
-      high_here : get_or xs (8 + high_stop / 8) 0 < 128
-      high_here = rw (← high_byte (high_stop / 8) (omega (arith, high_few))) (first_high.here high_early)
+      pub high_short : present ≤ 8 + stop_at upper → IsInsufficient xs
+      high_short past = ends_short xs (8 + stop_at upper) high_end (omega (arith, high_few, f.present_is))
 
-      high_last : varint_bits upper / 2 ^ (8 * (high_stop / 8)) ≡ get_or xs (8 + high_stop / 8) 0
-      high_last = kept_last highs upper high_stop highs_bytes highs_eight first_high high_early ∙ high_byte (high_stop / 8) (omega (arith, high_few))
-
-      last_small : 8 + high_stop / 8 ≡ most_marked → get_or xs (8 + high_stop / 8) 0 < first_too_large
-      last_small most =
-          let same : high_stop / 8 ≡ last_place = omega arith in
-          omega (
-            arith,
-            small,
-            ap (λ (k : ℕ). get_or xs (8 + k) 0) same,
-            kept_byte highs upper high_stop highs_bytes highs_eight first_high last_place (omega arith) (omega arith),
-            high_byte last_place (omega arith),
-          )
-
-      pub high_short : present ≤ 8 + high_stop / 8 → IsInsufficient xs
-      high_short past = insufficient_at xs (8 + high_stop / 8) bytes high_before few (omega (arith, few, f.present_is))
-
-      module _ (within : 8 + high_stop / 8 < present) where
-        high_below : 8 + high_stop / 8 < length xs
-        high_below = omega (arith, f.present_is)
-
-        pub high_zero : varint_bits upper / 2 ^ (8 * (high_stop / 8)) ≡ 0 → IsNotMinimal xs
-        high_zero null = zero_at xs (8 + high_stop / 8) bytes high_before few high_below (omega arith) (sym high_last ∙ null)
-
-        -- both halves of the varint
-        high_kept : lower + varint_bits upper * 2 ^ 64 ≡ place_value 256 (take (8 + high_stop / 8 + 1) xs)
-        unfolding highs
-        high_kept =
-            let j = high_stop / 8 + 1 in
-            let places : 8 * (8 + high_stop / 8 + 1) ≡ 8 * j + 64 = omega arith in
-            let above : varint_bits upper ≡ upper % 2 ^ (8 * j) =
-            first_high.varint high_early ∙ (sym (low_bytes highs j highs_bytes) ∙ ap (λ (n : ℕ). n % 2 ^ (8 * j)) (sym high_is)) in
-            let whole : word % 2 ^ (8 * (8 + high_stop / 8 + 1)) ≡ place_value 256 (take (8 + high_stop / 8 + 1) xs) =
-            ap (λ (n : ℕ). n % 2 ^ (8 * (8 + high_stop / 8 + 1))) f.word_is
-            ∙ (low_bytes (take 16 xs) (8 + high_stop / 8 + 1) front_bytes
-            ∙ ap (place_value 256) (take-take (8 + high_stop / 8 + 1) 16 xs (omega (arith, high_few)))) in
-            let cut : word % 2 ^ (8 * (8 + high_stop / 8 + 1)) ≡ word / 2 ^ 64 % 2 ^ (8 * j) * 2 ^ 64 + word % 2 ^ 64 =
-            ap (λ (n : ℕ). word % 2 ^ n) places ∙ mod-pow-add word (8 * j) 64 in
-            omega (arith, above, whole, cut, and_mask word 64)
-
-        digits_split : digits_low (8 + (most_marked - 7)) (place_value 256 (take (8 + high_stop / 8 + 1) xs))
-            ≡ digits_low 8 lower + digits_low (most_marked - 7) (varint_bits upper) * 2 ^ 56
-        digits_split =
-            let low_fits : lower < 2 ^ (8 * 8) = omega (arith, and_mask word 64) in
-            ap (digits_low (8 + (most_marked - 7))) (sym high_kept) ∙ digits_low_split 8 (most_marked - 7) lower (varint_bits upper) low_fits
+      module _ (within : 8 + stop_at upper < present) where
+        pub high_zero : varint_bits upper / 2 ^ (8 * stop_at upper) ≡ 0 → IsNotMinimal xs
+        high_zero null = ends_zero xs (8 + stop_at upper) high_end (omega (arith, f.present_is)) (omega arith) (sym high_last ∙ null)
 
         -- the code's number
         abbrev pub high_value : ℕ
         high_value = bit_or (digits_low 8 lower) (digits_low (most_marked - 7) (varint_bits upper) * 2 ^ 56 % 2 ^ 64)
 
-        high_value_is : high_value ≡ digits_low (8 + (most_marked - 7)) (place_value 256 (take (8 + high_stop / 8 + 1) xs))
-        high_value_is =
-            let below = number_below xs (8 + high_stop / 8) bytes high_before few high_below high_here last_small (8 + (most_marked - 7)) (omega (arith, few)) in
-            let fits : digits_low (most_marked - 7) (varint_bits upper) * 2 ^ 56 < 2 ^ 64 = omega (arith, below, digits_split) in
-            ap (bit_or (digits_low 8 lower)) (mod-eq_of_lt fits)
-            ∙ (or_comm (digits_low 8 lower) (digits_low (most_marked - 7) (varint_bits upper) * 2 ^ 56)
-            ∙ (or_shifted (digits_low (most_marked - 7) (varint_bits upper)) 56 (digits_low 8 lower) (digits_low_below 8 lower)
-            ∙ (omega arith ∙ sym digits_split)))
-
-        pub high_number : ¬ (varint_bits upper / 2 ^ (8 * (high_stop / 8)) ≡ 0) → IsVarint high_value (take (8 + high_stop / 8 + 1) xs)
+        pub high_number : ¬ (varint_bits upper / 2 ^ (8 * stop_at upper) ≡ 0) → IsVarint high_value (take (8 + stop_at upper + 1) xs)
+        unfolding above
         high_number minimal =
-            rw high_value_is
-            (number_at xs (8 + high_stop / 8) bytes high_before few high_below high_here last_small (8 + (most_marked - 7)) (omega (arith, few))
-            (λ z. absurd (minimal (high_last ∙ z))))
+            let j = stop_at upper + 1 in
+            let number = ends_number xs (8 + stop_at upper) high_end (omega (arith, f.present_is)) (λ z. absurd (minimal (high_last ∙ z))) in
+            let low = low_digits (take 8 xs) in
+            let digits = low_digits (take j above) in
+            let places : 8 + stop_at upper + 1 ≡ 8 + j = omega arith in
+            let long : length low ≡ 8 = length-map (take 8 xs) (λ b. b % 128) ∙ length-take-le 8 xs marked_low.enough in
+            let low_value : digits_low 8 lower ≡ place_value 128 low =
+            ap (digits_low 8) low_is ∙ digits_low_of 8 (take 8 xs) (All-take (λ b. b < 256) 8 xs bytes) (omega (arith, length-take 8 xs)) in
+            let whole : place_value 128 (low_digits (take (8 + stop_at upper + 1) xs)) ≡ place_value 128 digits * 2 ^ 56 + place_value 128 low =
+            rw (places, take-add 8 j xs, map-append (λ b. b % 128) (take 8 xs) (take j above), place_value_append 128 low digits, long) (omega arith) in
+            let under : place_value 128 low < 2 ^ 56 = rw long at (place_value_below 128 low (low_digits_below (take 8 xs))) in
+            let fits : place_value 128 digits * 2 ^ 56 < 2 ^ 64 = omega (arith, whole, number.in_range) in
+            rw (
+              low_value,
+              half_digits above upper above_bytes high_is (omega (arith, high_few)) (most_marked - 7) (omega (arith, high_few)),
+              mod-eq_of_lt fits,
+              or_comm (place_value 128 low) (place_value 128 digits * 2 ^ 56),
+              or_shifted (place_value 128 digits) 56 (place_value 128 low) under,
+              ← whole,
+            )
+            number

@@ -1,7 +1,7 @@
 use Rattle.std.proofs.Common.{arith, ◌/◌, ◌^◌}
 use Rattle.multihash.specs.Varint.{insufficient, overflow, not_minimal}
 use Rattle.multihash.proofs.Varints.WordFrontLemmas.{high_over, high_short, high_zero, high_number}
-use Rattle.multihash.proofs.Varints.StopLemmas.{few_marked_high}
+use Rattle.multihash.proofs.Varints.StopLemmas.{few_marked, first_unmarked}
 use Rattle.multihash.proofs.varint.word.read_high.Goals as goal
 
 pub returns-then-varint-ge-TOO_LARGE-clause-err : goal.returns-then-varint-ge-TOO_LARGE-clause-err
@@ -17,7 +17,7 @@ returns-then-marked-present-clause-err c = λ xs bytes f marked. (
 
 pub overflow_shr-varint : goal.overflow_shr-varint
 overflow_shr-varint c =
-    omega (arith, few_marked_high (c.args.word / 2 ^ 64) (omega (arith, c.ranges.word.fits)) c.if-varint-ge-TOO_LARGE.false)
+    omega (arith, few_marked (c.args.word / 2 ^ 64) _ (first_unmarked (c.args.word / 2 ^ 64) (omega (arith, c.ranges.word.fits))) c.if-varint-ge-TOO_LARGE.false)
 
 pub returns-then-varint-marked-eq0-clause-err : goal.returns-then-varint-marked-eq0-clause-err
 returns-then-varint-marked-eq0-clause-err c = λ xs bytes f marked. (
