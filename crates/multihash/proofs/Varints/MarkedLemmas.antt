@@ -1,11 +1,13 @@
 -- Marked bytes, and the digits that they are.
-use Rattle.std.proofs.Common.{◌≡◌, ℕ, ◌+◌, ◌%◌, ◌<◌, ◌≤◌, List, [], ◌∷◌, ◌++◌, length, map, refl, arith, length-append}
+use Rattle.std.proofs.Common.{◌≡◌, ℕ, ◌+◌, ◌*◌, ◌%◌, ◌^◌, ◌<◌, ◌≤◌, List, [], ◌∷◌, ◌++◌, length, map, refl, sym, ap, ◌∙◌, arith, bit_or, length-append}
 use Rattle.std.specs.List.{All}
-use Rattle.std.proofs.lemmas.Nat.{mod_below}
-use Rattle.std.proofs.lemmas.List.{get_or_append_left, get_or-append-add}
+use Rattle.std.proofs.Math.Nat.{mod-eq_of_lt}
+use Rattle.std.proofs.lemmas.Nat.{mod_below, or_comm, or_shifted}
+use Rattle.std.proofs.lemmas.List.{get_or_append_left, get_or-append-add, length-map, map-append}
 use Rattle.std.proofs.lemmas.List.Elements.{All-head, All-tail, All-map}
-use Rattle.multihash.specs.Bytes.{IsBytes}
+use Rattle.multihash.specs.Bytes.{IsBytes, place_value}
 use Rattle.multihash.specs.Varint.{IsMarked, marked}
+use Rattle.multihash.proofs.Varints.DigitLemmas.{place_value_append, place_value_below, pow_power}
 
 -- what holds of each of two joined lists holds of each of the first, and of the second
 pub All-append_left : {X : Type 0} (P : X → Type 0) (xs ys : List X) → All P (xs ++ ys) → All P xs
@@ -44,3 +46,18 @@ low_digits-marked (d ∷ ds) all =
     let small : d < 128 = All-head IsDigit d ds all in
     let head : (d + 128) % 128 ≡ d = omega arith in
     cc (head, low_digits-marked ds (All-tail IsDigit d ds all))
+
+-- the digits of two lists behind one another, by the code's shift and `|`
+pub or_digits : (front back : List ℕ) (i : ℕ) → length front ≡ i → place_value 128 (low_digits (front ++ back)) < 2 ^ 64
+    → bit_or (place_value 128 (low_digits front)) (place_value 128 (low_digits back) * 2 ^ (7 * i) % 2 ^ 64)
+    ≡ place_value 128 (low_digits (front ++ back))
+or_digits front back i long fits =
+    let low = place_value 128 (low_digits front) in
+    let high = place_value 128 (low_digits back) in
+    let place : 128 ^ length (low_digits front) ≡ 2 ^ (7 * i) =
+    ap (λ (k : ℕ). 128 ^ k) (length-map front (λ b. b % 128) ∙ long) ∙ sym (pow_power 7 i) in
+    let whole : place_value 128 (low_digits (front ++ back)) ≡ high * 2 ^ (7 * i) + low =
+    rw (map-append (λ b. b % 128) front back, place_value_append 128 (low_digits front) (low_digits back), place) (omega arith) in
+    let under : low < 2 ^ (7 * i) = omega (arith, place_value_below 128 (low_digits front) (low_digits_below front), place) in
+    let alone : high * 2 ^ (7 * i) < 2 ^ 64 = omega (arith, whole, fits) in
+    rw (mod-eq_of_lt alone, or_comm low (high * 2 ^ (7 * i)), or_shifted high (7 * i) low under) (sym whole)

@@ -1,12 +1,12 @@
 -- The first unmarked byte of half a word.
-use Rattle.std.proofs.Common.{◌≡◌, ℕ, zero, suc, ◌+◌, ◌-◌, ◌*◌, ◌/◌, ◌%◌, ◌^◌, ◌<◌, ◌≤◌, replicate, refl, sym, ap, ◌∙◌, inl, inr, arith, bit_and}
+use Rattle.std.proofs.Common.{◌≡◌, ℕ, zero, suc, ◌+◌, ◌-◌, ◌*◌, ◌/◌, ◌%◌, ◌^◌, ◌<◌, ◌≤◌, replicate, refl, sym, ap, ◌∙◌, add-one, inl, inr, arith, bit_and}
 use Prim.Native.Nat.{min}
 use Rattle.std.specs.Int.{w64, bit_at, bit_not, trailing_zeros}
 use Rattle.std.specs.Int.Bits.{and_self}
 use Rattle.std.specs.Int.Count.{trailing_of_zero}
 use Rattle.std.proofs.Math.Nat.{pow-le-pow_right}
 use Rattle.std.proofs.lemmas.Bool.{cases_lt, cases_eq}
-use Rattle.std.proofs.lemmas.Nat.{and_assoc, and-not, and_comm, and_le_l, and_le_r, and_mask, and_mod, and_shr, field_of, mod_below, mod-pow-add, pow_pos, shr-shr, shr_le, shr_split, trailing_le}
+use Rattle.std.proofs.lemmas.Nat.{and_assoc, and-not, and_comm, and_le_l, and_le_r, and_mask, and_mod, and_shr, field_of, mod_below, mod-pow-add, pow_pos, shr-shr, shr_le, shr_split}
 use Rattle.std.proofs.lemmas.Nat.Bits.{bit_at-suc, bit_at-zero, bit_at_and, bit_at_cat_low, bit_at_not, bit_at-pow_other, bit_at-trailing_zeros}
 use Rattle.std.proofs.lemmas.List.{get_or-replicate}
 use Rattle.std.proofs.lemmas.List.Elements.{All-replicate}
@@ -14,44 +14,24 @@ use Rattle.multihash.specs.Bytes.{place_value}
 use Rattle.multihash.specs.Varint.{most_marked, first_too_large}
 use Rattle.multihash.proofs.Varints.WordLemmas.{byte_at, byte_of}
 
+and_halves : (a b : ℕ) → bit_and a b ≡ bit_and (a / 2) (b / 2) * 2 + bit_and (a % 2) (b % 2)
+and_halves a b = omega (arith, and_shr a b 1, and_mod a b 1)
+
 -- t is the place of the lowest 1 of b: where a has none of b's, `a & (b - 1)` is what a has below it
 and_less : (t a b : ℕ) → bit_at b t ≡ 1 → ((i : ℕ) → i < t → bit_at b i ≡ 0) → bit_and a b ≡ 0 → bit_and a (b - 1) ≡ a % 2 ^ suc t
 and_less zero a b set unset apart =
     let odd : b % 2 ≡ 1 = omega (arith, set) in
     let high : (b - 1) / 2 ≡ b / 2 = omega arith in
     let low : (b - 1) % 2 ≡ 0 = omega arith in
-    omega (
-      arith,
-      and_shr a (b - 1) 1,
-      and_mod a (b - 1) 1,
-      ap (bit_and (a / 2)) high,
-      ap (bit_and (a % 2)) low,
-      and_le_r (a % 2) 0,
-      and_shr a b 1,
-      and_mod a b 1,
-      ap (bit_and (a % 2)) odd,
-      and_mask (a % 2) 1,
-      apart,
-    )
+    omega (arith, rw (high, low) at (and_halves a (b - 1)), and_le_r (a % 2) 0, rw odd at (and_halves a b), and_mask (a % 2) 1, apart)
 and_less (suc t) a b set unset apart =
     let even : b % 2 ≡ 0 = omega (arith, unset 0 (omega arith)) in
     let some : 0 < b = omega (arith, set, shr_le b (suc t)) in
     let high : (b - 1) / 2 ≡ b / 2 - 1 = omega arith in
     let low : (b - 1) % 2 ≡ 1 = omega arith in
     let rest = and_less t (a / 2) (b / 2) (sym (bit_at-suc b t) ∙ set) (λ i below. sym (bit_at-suc b i) ∙ unset (suc i) (omega arith))
-    (sym (and_shr a b 1) ∙ omega (arith, apart)) in
-    let places : suc t + 1 ≡ suc (suc t) = omega arith in
-    omega (
-      arith,
-      and_shr a (b - 1) 1,
-      and_mod a (b - 1) 1,
-      ap (bit_and (a / 2)) high,
-      ap (bit_and (a % 2)) low,
-      and_mask (a % 2) 1,
-      rest,
-      mod-pow-add a (suc t) 1,
-      ap (λ (k : ℕ). a % 2 ^ k) places,
-    )
+    (omega (arith, and_halves a b, apart)) in
+    omega (arith, rw (high, low) at (and_halves a (b - 1)), and_mask (a % 2) 1, rest, rw add-one at (mod-pow-add a (suc t) 1))
 
 -- 128 in each byte
 abbrev pub stop_bits : ℕ
@@ -75,10 +55,11 @@ varint_bits half = bit_and half ((stops half + (2 ^ 64 - 1)) % 2 ^ 64)
 
 -- the first m bytes are marked, and the next is not, which is a zero behind all eight
 pub record StopsAt (half m : ℕ) : Type 0 where
-  pub within : m ≤ 8
   pub before : (i : ℕ) → i < m → 128 ≤ byte_at half i
   pub here : byte_at half m < 128
   pub varint : varint_bits half ≡ half % 2 ^ (8 * (m + 1))
+  pub none : stops half ≡ 0 → m ≡ 8
+  pub some : ¬ (stops half ≡ 0) → m < 8
 
 module _ (half : ℕ) (fits : half < 2 ^ 64) where
   bit_of_stops : (i r : ℕ) → i < 8 → r < 8 → bit_at (stops half) (8 * i + r) ≡ min (1 - bit_at half (8 * i + r)) (bit_at 128 r)
@@ -92,53 +73,41 @@ module _ (half : ℕ) (fits : half < 2 ^ 64) where
   stop_of : (i : ℕ) → i < 8 → bit_at (stops half) (8 * i + 7) ≡ 1 - byte_at half i / 128
   stop_of i few = bit_of_stops i 7 few (omega arith) ∙ omega (arith, shr-shr half (8 * i) 7)
 
-  stops_below : stops half < 2 ^ 64
-  stops_below = omega (arith, and_le_r (bit_not w64 half) stop_bits)
-
   -- no byte is unmarked
   none_stops : stops half ≡ 0 → StopsAt half (stop_at half)
   none_stops none =
       let all : stop_at half ≡ 8 = ap (λ (n : ℕ). trailing_zeros w64 n / 8) none ∙ ap (λ (n : ℕ). n / 8) (trailing_of_zero 64) in
       rw all (record {
-        within = omega arith;
         before = λ i few. omega (arith, stop_of i few, ap (λ (n : ℕ). bit_at n (8 * i + 7)) none, bit_at-zero (8 * i + 7));
         here = omega arith;
         varint = ap (λ (n : ℕ). bit_and half ((n + (2 ^ 64 - 1)) % 2 ^ 64)) none ∙ and_mask half 64 ∙ omega arith;
+        none = λ _. refl;
+        some = λ some. absurd (some none);
       })
 
   some_stops : 0 < stops half → StopsAt half (stop_at half)
   some_stops some =
       let place = trailing_zeros w64 (stops half) in
       let m = place / 8 in
-      let r = place % 8 in
+      let stops_below : stops half < 2 ^ 64 = omega (arith, and_le_r (bit_not w64 half) stop_bits) in
       let (below, set, unset) = bit_at-trailing_zeros w64 (stops half) some stops_below in
-      let split : place ≡ 8 * m + r = omega arith in
-      let highest : r ≡ 7 = elim (cases_eq r 7) [
+      let split : place ≡ 8 * m + place % 8 = omega arith in
+      let here : bit_at (stops half) (8 * m + place % 8) ≡ 1 = ap (bit_at (stops half)) (sym split) ∙ set in
+      let highest : place % 8 ≡ 7 = elim (cases_eq (place % 8) 7) [
         | inl e ↦ e
-        | inr other ↦ absurd (omega (
-          arith,
-          ap (bit_at (stops half)) split,
-          set,
-          bit_of_stops m r (omega arith) (omega arith),
-          bit_at-pow_other 7 r other,
-        ))
+        | inr other ↦ absurd (omega (arith, here, bit_of_stops m (place % 8) (omega arith) (omega arith), bit_at-pow_other 7 (place % 8) other))
       ] in
-      let at : place ≡ 8 * m + 7 = omega arith in
       let apart : bit_and half (stops half) ≡ 0 =
-      sym (and_assoc stop_bits half (bit_not w64 half)) ∙ omega (
-        arith,
-        and_le_l (bit_and half (bit_not w64 half)) stop_bits,
-        and_comm half (bit_not w64 half),
-        and-not 64 half half fits fits,
-        and_self half,
-      ) in
+      rw (← and_assoc stop_bits half (bit_not w64 half), and_comm half (bit_not w64 half))
+      (omega (arith, and_le_l (bit_and (bit_not w64 half) half) stop_bits, and-not 64 half half fits fits, and_self half)) in
       let less : (stops half + (2 ^ 64 - 1)) % 2 ^ 64 ≡ stops half - 1 = omega (arith, stops_below) in
       let places : suc place ≡ 8 * (m + 1) = omega arith in
       record {
-        within = omega arith;
         before = λ i few. omega (arith, unset (8 * i + 7) (omega arith), stop_of i (omega arith));
-        here = omega (arith, ap (bit_at (stops half)) at, set, stop_of m (omega arith));
+        here = omega (arith, rw highest at here, stop_of m (omega arith));
         varint = ap (bit_and half) less ∙ (and_less place half (stops half) set unset apart ∙ ap (λ (k : ℕ). half % 2 ^ k) places);
+        none = λ none. absurd (omega arith);
+        some = λ _. omega arith;
       }
 
   pub first_unmarked : StopsAt half (stop_at half)
@@ -146,13 +115,6 @@ module _ (half : ℕ) (fits : half < 2 ^ 64) where
     | inl some ↦ some_stops some
     | inr none ↦ none_stops (omega arith)
   ]
-
--- a stop bit is within the half
-pub stop_early : (half : ℕ) → ¬ (stops half ≡ 0) → trailing_zeros w64 (stops half) < 64
-stop_early half some = elim (cases_lt 0 (stops half)) [
-  | inl set ↦ (bit_at-trailing_zeros w64 (stops half) set (omega (arith, and_le_r (bit_not w64 half) stop_bits))).0
-  | inr none ↦ absurd (some (omega arith))
-]
 
 -- the place in the high half of the byte that may be too large
 abbrev pub last_place : ℕ
@@ -167,20 +129,13 @@ module _ (half m : ℕ) (stop : StopsAt half m) where
   pub kept_last : varint_bits half / 2 ^ (8 * m) ≡ byte_at half m
   kept_last =
       let places : 8 * (m + 1) ≡ 8 + 8 * m = omega arith in
-      ap (λ (n : ℕ). n / 2 ^ (8 * m)) (stop.varint ∙ ap (λ (k : ℕ). half % 2 ^ k) places) ∙ field_of half 8 (8 * m)
+      ap (λ (n : ℕ). n / 2 ^ (8 * m)) (rw places at stop.varint) ∙ field_of half 8 (8 * m)
 
   -- a byte up to it counts at its place
   kept_above : last_place ≤ m → byte_at half last_place * 256 ^ last_place ≤ varint_bits half
   kept_above run =
-      let up = 8 * (last_place + 1) in
-      let places : 8 * (m + 1) ≡ 8 * (m - last_place) + up = omega arith in
-      omega (
-        arith,
-        stop.varint,
-        ap (λ (k : ℕ). half % 2 ^ k) places,
-        mod-pow-add half (8 * (m - last_place)) up,
-        field_of half 8 (8 * last_place),
-      )
+      let places : 8 * (m + 1) ≡ 8 * (m - last_place) + 8 * (last_place + 1) = omega arith in
+      omega (arith, rw places at stop.varint, mod-pow-add half (8 * (m - last_place)) (8 * (last_place + 1)), field_of half 8 (8 * last_place))
 
   -- no more marked bytes than a varint has
   pub few_marked : varint_bits half < too_large → m ≤ last_place

@@ -1,62 +1,144 @@
--- What the loop over a varint's bytes keeps.
-use Rattle.std.proofs.Common.{◌≡◌, ℕ, ◌+◌, ◌*◌, ◌%◌, ◌^◌, ◌<◌, ◌≤◌, ◌⊎◌, List, [], ◌∷◌, ◌++◌, length, refl, sym, ap, ◌∙◌, inl, inr, arith, bit_and, bit_or}
+-- What the loop over a varint's bytes keeps, and what was taken where it ends.
+use Rattle.std.proofs.Common.{◌≡◌, ℕ, ◌+◌, ◌*◌, ◌%◌, ◌^◌, ◌<◌, ◌≤◌, ◌⊎◌, List, [], ◌∷◌, ◌++◌, length, Option, refl, sym, ap, ◌∙◌, subst, inl, inr, arith, append_assoc, bit_and, bit_or}
 use Rattle.std.specs.List.{All}
-use Rattle.std.proofs.Math.Nat.{mod-eq_of_lt}
+use Rattle.std.specs.Io.KnownBytes.{IsAtEnd}
 use Rattle.std.proofs.lemmas.Bool.{cases_eq}
-use Rattle.std.proofs.lemmas.Nat.{and_mask, or_comm, or_shifted}
-use Rattle.std.proofs.lemmas.List.{length-map, length_push, map_push, nil_from_length}
+use Rattle.std.proofs.lemmas.Nat.{and_mask}
+use Rattle.std.proofs.lemmas.List.{length_push, nil_from_length}
 use Rattle.std.proofs.lemmas.List.Elements.{All-nil, All-push}
-use Rattle.multihash.specs.Bytes.{IsBytes, place_value}
-use Rattle.multihash.specs.Varint.{most_marked, first_too_large, IsMarked, IsVarint}
-use Rattle.multihash.proofs.Varints.DigitLemmas.{place_value-nil, place_value_below, place_value_last, pow_power}
-use Rattle.multihash.proofs.Varints.MarkedLemmas.{low_digits, low_digits_below}
+use Rattle.multihash.specs.Bytes.{IsBytes, IsProperBeginning, place_value}
+use Rattle.multihash.specs.Varint.{most_marked, first_too_large, IsMarked, IsVarint, VarintFault, insufficient, overflow, not_minimal, IsInsufficient, HasFaultyFront}
+use Rattle.multihash.specs.Fault.{Fault}
+use Rattle.multihash.specs.Reading.{Takes}
+use Rattle.multihash.specs.Refusal.{Refusal, of_io, of_varint}
+use Rattle.multihash.specs.Taking.{TakesVarint, TakesAtVarintRefusal}
+use Rattle.multihash.proofs.Varints.DigitLemmas.{place_value-nil, place_value-cons}
+use Rattle.multihash.proofs.Varints.MarkedLemmas.{low_digits, or_digits}
 use Rattle.multihash.proofs.Varints.VarintLemmas.{low_digits_in_range, varint_from_bytes}
+use Rattle.multihash.proofs.Readings.ReadingLemmas.{Takes-none, Takes-kept, Takes-joined, IsAtEnd-kept}
+use Rattle.multihash.proofs.Readings.ShortestLemmas.{before_step}
 
--- the front is marked throughout, and the sum is the value of its digits
-pub record ReadsMarked (front : List ℕ) (sum : ℕ) : Type 0 where
+-- so many bytes were taken, all of them marked, and the sum is the value of their digits
+pub record ReadsMarked (old now : Option (List ℕ)) (sum i : ℕ) : Type 0 where
+  pub front : List ℕ
+  pub takes : Takes old front now
   pub bytes : IsBytes front
-  pub few : length front ≤ most_marked
   pub marked : All IsMarked front
+  pub long : length front ≡ i
+  pub few : i ≤ most_marked
   pub value : sum ≡ place_value 128 (low_digits front)
 
-pub none_read : ReadsMarked [] 0
-none_read = record { bytes = All-nil (λ b. b < 256); few = omega arith; marked = All-nil IsMarked; value = sym (place_value-nil 128) }
+pub none_read : (old : Option (List ℕ)) → ReadsMarked old old 0 0
+none_read old = record {
+  front = [];
+  takes = Takes-none old;
+  bytes = All-nil (λ b. b < 256);
+  marked = All-nil IsMarked;
+  long = refl;
+  few = omega arith;
+  value = sym (place_value-nil 128);
+}
 
 -- the sum with the low digit of one more byte
 abbrev pub with_byte : ℕ → ℕ → ℕ → ℕ
 with_byte sum byte i = bit_or sum (bit_and byte 127 * 2 ^ (7 * i) % 2 ^ 64)
 
-module _ (front : List ℕ) (sum byte i : ℕ) (long : length front ≡ i) (h : ReadsMarked front sum)
-    (most : i ≡ most_marked → byte < first_too_large) where
-  -- the code's sum is the value with one more digit
-  with_byte_is : with_byte sum byte i ≡ place_value 128 (low_digits (front ++ byte ∷ []))
-  with_byte_is =
-      let place : 128 ^ length (low_digits front) ≡ 2 ^ (7 * i) =
-      ap (λ (k : ℕ). 128 ^ k) (length-map front (λ b. b % 128) ∙ long) ∙ sym (pow_power 7 i) in
-      let whole : place_value 128 (low_digits (front ++ byte ∷ [])) ≡ byte % 128 * 2 ^ (7 * i) + sum =
-      rw (map_push (λ b. b % 128) front byte, place_value_last 128 (byte % 128) (low_digits front), place) (omega (arith, h.value)) in
-      let under : sum < 2 ^ (7 * i) = omega (arith, place_value_below 128 (low_digits front) (low_digits_below front), place, h.value) in
-      let fits : byte % 128 * 2 ^ (7 * i) < 2 ^ 64 =
-      omega (arith, whole, low_digits_in_range front byte h.few (λ e. most (sym long ∙ e))) in
-      rw (and_mask byte 7, mod-eq_of_lt fits, or_comm sum (byte % 128 * 2 ^ (7 * i)), or_shifted (byte % 128) (7 * i) sum under) (sym whole)
+module _ (old now : Option (List ℕ)) (sum i : ℕ) (h : ReadsMarked old now sum i) (new : Option (List ℕ)) where
+  -- what begins marked bytes and one more ends inside a varint
+  before_last : (byte : ℕ) (shorter : List ℕ) → IsProperBeginning shorter (h.front ++ byte ∷ []) → IsInsufficient shorter
+  before_last byte shorter begins =
+      before_step (h.front ++ byte ∷ []) shorter
+      (record { front = h.front; last = byte; all_marked = h.marked; few = omega (arith, h.few, h.long); cut = refl }) begins
 
-  -- a last byte
-  pub read_last : byte < 128 → (byte ≡ 0 → i ≡ 0) → IsVarint (with_byte sum byte i) (front ++ byte ∷ [])
-  read_last low minimal =
-      rw with_byte_is
-      (varint_from_bytes front byte h.bytes h.marked low h.few (λ e. most (sym long ∙ e)) (λ z. nil_from_length front (long ∙ minimal z)))
+  before_end : (shorter : List ℕ) → IsProperBeginning shorter h.front → IsInsufficient shorter
+  before_end shorter (rest, some, cut) =
+      before_last 0 shorter
+      (rest ++ 0 ∷ [], (λ none. omega (arith, ap length none, length_push rest 0)), ap (λ z. z ++ 0 ∷ []) cut ∙ append_assoc shorter rest (0 ∷ []))
 
-  -- a marked byte
-  pub read_more : byte < 256 → 128 ≤ byte → ReadsMarked (front ++ byte ∷ []) (with_byte sum byte i)
-  read_more small large = record {
-    bytes = All-push (λ b. b < 256) front byte h.bytes small;
-    few = elim (cases_eq i most_marked) [
-      | inl e ↦ absurd (omega (arith, most e, large))
-      | inr e ↦ grind (arith, h.few, length_push front byte, long)
-    ];
-    marked = All-push IsMarked front byte h.marked large;
-    value = with_byte_is;
+  whole : IsInsufficient h.front
+  whole = record { few = omega (arith, h.few, h.long); all_marked = h.marked }
+
+  -- the bytes that were taken show a fault
+  refused : (fault : VarintFault) (taken : List ℕ) (e : Refusal) → e ≡ of_varint fault → HasFaultyFront fault taken
+      → ((shorter : List ℕ) → IsProperBeginning shorter taken → IsInsufficient shorter) → (fault ≡ insufficient → IsAtEnd new)
+      → Takes old taken new → TakesAtVarintRefusal e old new
+  refused fault taken e given has no_sooner all takes = record {
+    taken = taken;
+    takes = takes;
+    shows = λ f faulty. let same : fault ≡ f = cc (given, faulty) in subst (λ k. HasFaultyFront k taken) same has;
+    no_sooner = no_sooner;
+    all = λ faulty. all (cc (given, faulty));
+    failed = λ own. absurd (cc (given, own.1));
   }
+
+  module _ (kept : new ≡ now) where
+    pub reader_failed : (fault : Fault) (e : Refusal) → e ≡ of_io fault → TakesAtVarintRefusal e old new
+    reader_failed fault e given = record {
+      taken = h.front;
+      takes = Takes-kept old now new h.front kept h.takes;
+      shows = λ f faulty. absurd (cc (given, faulty));
+      no_sooner = before_end;
+      all = λ faulty. absurd (cc (given, faulty));
+      failed = λ _. whole;
+    }
+
+    pub input_ended : IsAtEnd now → (e : Refusal) → e ≡ of_varint insufficient → TakesAtVarintRefusal e old new
+    input_ended end e given =
+        refused insufficient h.front e given whole before_end (λ _. IsAtEnd-kept now new kept end) (Takes-kept old now new h.front kept h.takes)
+
+  module _ (byte : ℕ) (next : Takes now (byte ∷ []) new) where
+    takes : Takes old (h.front ++ byte ∷ []) new
+    takes = Takes-joined old now new h.front (byte ∷ []) (h.front ++ byte ∷ []) refl h.takes next
+
+    pub too_large : i ≡ most_marked → first_too_large ≤ byte → (e : Refusal) → e ≡ of_varint overflow → TakesAtVarintRefusal e old new
+    too_large most large e given =
+        refused overflow (h.front ++ byte ∷ []) e given
+        (record { front = h.front; byte = byte; rest = []; all_marked = h.marked; most = h.long ∙ most; too_large = large; cut = refl })
+        (before_last byte) (λ same. cc) takes
+
+    pub ends_in_zero : byte ≡ 0 → 0 < i → (e : Refusal) → e ≡ of_varint not_minimal → TakesAtVarintRefusal e old new
+    ends_in_zero null some e given =
+        refused not_minimal (h.front ++ byte ∷ []) e given (record {
+          front = h.front;
+          rest = [];
+          all_marked = h.marked;
+          some = omega (arith, h.long);
+          few = omega (arith, h.long, h.few);
+          cut = ap (λ b. h.front ++ b ∷ []) null;
+        })
+        (before_last byte) (λ same. cc) takes
+
+    module _ (most : i ≡ most_marked → byte < first_too_large) where
+      -- the code's sum is the value with one more digit
+      with_byte_is : with_byte sum byte i ≡ place_value 128 (low_digits (h.front ++ byte ∷ []))
+      with_byte_is =
+          let fits = low_digits_in_range h.front byte (omega (arith, h.long, h.few)) (λ e. most (sym h.long ∙ e)) in
+          let digit : bit_and byte 127 ≡ place_value 128 (low_digits (byte ∷ [])) =
+          and_mask byte 7 ∙ omega (arith, place_value-cons 128 (byte % 128) [], place_value-nil 128) in
+          rw (h.value, digit) (or_digits h.front (byte ∷ []) i h.long (omega (arith, fits)))
+
+      pub read_last : byte < 128 → (byte ≡ 0 → i ≡ 0) → TakesVarint (with_byte sum byte i) old new
+      read_last low minimal = (
+        h.front ++ byte ∷ [],
+        rw with_byte_is
+            (varint_from_bytes h.front byte h.bytes h.marked low (omega (arith, h.long, h.few)) (λ e. most (sym h.long ∙ e))
+            (λ z. nil_from_length h.front (h.long ∙ minimal z))),
+        takes,
+      )
+
+      pub read_more : byte < 256 → 128 ≤ byte → ReadsMarked old new (with_byte sum byte i) (i + 1)
+      read_more small large = record {
+        front = h.front ++ byte ∷ [];
+        takes = takes;
+        bytes = All-push (λ b. b < 256) h.front byte h.bytes small;
+        marked = All-push IsMarked h.front byte h.marked large;
+        long = omega (arith, length_push h.front byte, h.long);
+        few = elim (cases_eq i most_marked) [
+          | inl e ↦ absurd (omega (arith, most e))
+          | inr e ↦ omega (arith, h.few)
+        ];
+        value = with_byte_is;
+      }
 
 -- what is known behind `a && b`
 pub first_of_two : (A B : Type 0) → (A × B) ⊎ (A → ⊥) → A → B

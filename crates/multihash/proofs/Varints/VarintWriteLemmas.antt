@@ -32,10 +32,6 @@ marked_byte rest =
     ap (λ (b : ℕ). bit_or b 128) (and_mask rest 7)
     ∙ (or_comm (rest % 128) 128 ∙ (or_shifted 1 7 (rest % 128) (mod_below rest 128 (omega arith)) ∙ omega arith))
 
--- one place up
-step : (a p q r : ℕ) → a + (q * 128 + r) * p ≡ (a + r * p) + q * (p * 128)
-step a p q r = omega arith
-
 pub wrote_more : (now next : List ℕ) (n rest : ℕ) → Wrote now n rest → 128 ≤ rest
     → next ≡ now ++ bit_or (bit_and rest 127) 128 ∷ [] → Wrote next n (rest / 128)
 wrote_more now next n rest h large e = record {
@@ -43,9 +39,8 @@ wrote_more now next n rest h large e = record {
   digits = All-push (λ d. d < 128) h.front (rest % 128) h.digits (mod_below rest 128 (omega arith));
   more = λ _. omega arith;
   value =
-      h.value ∙ (ap (λ (m : ℕ). place_value 128 h.front + m * 128 ^ length h.front) (sym (div-add-mod' rest 128))
-      ∙ (step (place_value 128 h.front) (128 ^ length h.front) (rest / 128) (rest % 128)
-      ∙ rw (place_value_last 128 (rest % 128) h.front, length_push h.front (rest % 128), add-one, pow-suc 128 (length h.front)) refl));
+      rw (place_value_last 128 (rest % 128) h.front, length_push h.front (rest % 128), add-one, pow-suc 128 (length h.front))
+      (omega (arith, h.value, ap (λ (m : ℕ). m * 128 ^ length h.front) (div-add-mod' rest 128)));
   spelled = e ∙ (rw (marked_byte rest, h.spelled) (sym (map_push (λ d. d + 128) h.front (rest % 128))));
 }
 
@@ -72,16 +67,6 @@ wrote_few now n rest range h =
           let high : 128 ^ suc most_marked ≤ 128 ^ length h.front = pow-le-pow_right base long in
           absurd (omega (arith, high, h.value, range, mul-le-mul_right (128 ^ length h.front) (h.more (omega arith))))
       | inr few ↦ omega (arith, few, ap length h.spelled, length-map h.front (λ d. d + 128))
-    ]
-
-pub wrote_fewer : (now : List ℕ) (n rest : ℕ) → n < varint_limit → Wrote now n rest → 128 ≤ rest → length now < most_marked
-wrote_fewer now n rest range h large =
-    elim (cases_lt (length h.front) most_marked) [
-      | inl few ↦ omega (arith, few, ap length h.spelled, length-map h.front (λ d. d + 128))
-      | inr long ↦
-          let base : 0 < 128 = omega arith in
-          let high : 128 ^ most_marked ≤ 128 ^ length h.front = pow-le-pow_right base long in
-          absurd (omega (arith, high, h.value, range, mul-le-mul_right (128 ^ length h.front) large))
     ]
 
 -- a small number is its own varint

@@ -1,115 +1,134 @@
 -- The varint or the fault at the front of an input, from the word of its first bytes.
-use Rattle.std.proofs.Common.{◌≡◌, ℕ, ◌+◌, ◌-◌, ◌*◌, ◌/◌, ◌%◌, ◌^◌, ◌<◌, ◌≤◌, List, [], ◌∷◌, ◌++◌, length, get_or, take, drop, refl, sym, ap, ◌∙◌, subst, inl, inr, arith, bit_and, bit_or}
+use Rattle.std.proofs.Common.{◌≡◌, ℕ, zero, suc, ◌+◌, ◌-◌, ◌*◌, ◌/◌, ◌%◌, ◌^◌, ◌<◌, ◌≤◌, List, [], ◌∷◌, ◌++◌, length, get_or, take, drop, refl, sym, ap, ◌∙◌, inl, inr, arith, bit_and, bit_or}
 use Rattle.std.specs.List.{All}
-use Rattle.std.specs.Int.Count.{trailing_of_zero}
-use Rattle.std.specs.Int.{w64, trailing_zeros}
-use Rattle.std.proofs.Math.Nat.{mod-eq_of_lt}
+use Rattle.std.proofs.Math.Nat.{add-zero, zero-add}
 use Rattle.std.proofs.Math.Seq.{take-add}
 use Rattle.std.proofs.lemmas.Bool.{cases_lt}
-use Rattle.std.proofs.lemmas.Nat.{and_mask, or_comm, or_shifted}
+use Rattle.std.proofs.lemmas.Nat.{and_mask}
 use Rattle.std.proofs.lemmas.Nat.Bits.{and_pow}
-use Rattle.std.proofs.lemmas.List.{get_or_past, get_or-take, get_or-drop, length-map, length-take, length-take-le, map-append, nil_from_length, take_more, take-take, take_all, take-append-drop, drop_more, drop-take}
-use Rattle.std.proofs.lemmas.List.Elements.{All-take, All-drop, All-get_or, All-from_get_or}
+use Rattle.std.proofs.lemmas.List.{get_or_past, get_or-take, get_or-drop, length-take, length-take-le, nil_from_length, take_more, take-take, take_all, take-append-drop, drop_more, drop-take}
+use Rattle.std.proofs.lemmas.List.Elements.{All-nil, All-take, All-drop, All-more}
 use Rattle.multihash.specs.Bytes.{IsBytes, place_value}
 use Rattle.multihash.specs.Varint.{most_marked, first_too_large, IsMarked, IsVarint, IsInsufficient, IsOverflow, IsNotMinimal}
 use Rattle.multihash.specs.Word.{IsFrontWord, BeginsMarked, digits_low}
-use Rattle.multihash.proofs.Varints.DigitLemmas.{place_value_append, place_value_below}
-use Rattle.multihash.proofs.Varints.MarkedLemmas.{low_digits, low_digits_below}
+use Rattle.multihash.proofs.Varints.MarkedLemmas.{low_digits, or_digits}
 use Rattle.multihash.proofs.Varints.VarintLemmas.{varint_from_bytes}
 use Rattle.multihash.proofs.Varints.VarintWriteLemmas.{one_byte}
 use Rattle.multihash.proofs.Varints.WordLemmas.{byte_at, byte_of, halves, low_bytes, high_bytes, digits_low_of}
-use Rattle.multihash.proofs.Varints.StopLemmas.{stops, stop_at, varint_bits, StopsAt, first_unmarked, stop_early, last_place, too_large, kept_last, few_marked, too_large_byte}
+use Rattle.multihash.proofs.Varints.StopLemmas.{stops, stop_at, varint_bits, StopsAt, first_unmarked, last_place, too_large, kept_last, few_marked, too_large_byte}
 
 -- ---- where the marked bytes of an input end
 
-module _ (xs : List ℕ) (k : ℕ) (before : (i : ℕ) → i < k → 128 ≤ get_or xs i 0) where
-  run_within_input : k ≤ length xs
-  run_within_input = elim (cases_lt (length xs) k) [
-    | inl short ↦ absurd (omega (arith, before (length xs) short, get_or_past xs (length xs) 0 (omega arith)))
-    | inr within ↦ within
-  ]
-
-  run_marked : All IsMarked (take k xs)
-  run_marked = All-from_get_or IsMarked (take k xs) 0 (λ i within.
-      let below : i < k = omega (arith, length-take k xs) in
-      rw (get_or-take k xs i 0 below) (before i below))
-
-  cut_at : k < length xs → xs ≡ take k xs ++ get_or xs k 0 ∷ drop (k + 1) xs
-  cut_at below = sym (take-append-drop k xs) ∙ ap (λ (back : List ℕ). take k xs ++ back) (drop_more xs k 0 below)
-
-  overflow_at : k ≡ most_marked → first_too_large ≤ get_or xs k 0 → IsOverflow xs
-  overflow_at most large = record {
-    front = take k xs;
-    byte = get_or xs k 0;
-    rest = drop (k + 1) xs;
-    all_marked = run_marked;
-    most = omega (arith, length-take-le k xs run_within_input);
-    too_large = large;
-    cut = cut_at (elim (cases_lt k (length xs)) [
+-- further marked bytes behind those that begin the input
+begins_more : (xs : List ℕ) (at m : ℕ) → BeginsMarked at xs → ((i : ℕ) → i < m → 128 ≤ get_or xs (at + i) 0) → BeginsMarked (at + m) xs
+begins_more xs at zero begins more = rw (add-zero at) begins
+begins_more xs at (suc m) begins more =
+    let front = begins_more xs at m begins (λ i run. more i (omega arith)) in
+    let large : 128 ≤ get_or xs (at + m) 0 = more m (omega arith) in
+    let within : at + m < length xs = elim (cases_lt (at + m) (length xs)) [
       | inl within ↦ within
-      | inr past ↦ absurd (omega (arith, get_or_past xs k 0 past))
-    ]);
-  }
+      | inr past ↦ absurd (omega (arith, large, get_or_past xs (at + m) 0 past))
+    ] in
+    let next : at + suc m ≡ at + m + 1 = omega arith in
+    rw next (record { enough = omega arith; all_marked = All-more IsMarked xs (at + m) 0 within front.all_marked large })
 
--- so many marked bytes begin the input, and an unmarked one is next, or none
-pub record EndsAt (xs : List ℕ) (k : ℕ) : Type 0 where
+cut_at : (xs : List ℕ) (k : ℕ) → k < length xs → xs ≡ take k xs ++ get_or xs k 0 ∷ drop (k + 1) xs
+cut_at xs k below = sym (take-append-drop k xs) ∙ ap (λ (back : List ℕ). take k xs ++ back) (drop_more xs k 0 below)
+
+overflow_at : (xs : List ℕ) → BeginsMarked most_marked xs → first_too_large ≤ get_or xs most_marked 0 → IsOverflow xs
+overflow_at xs begins large = record {
+  front = take most_marked xs;
+  byte = get_or xs most_marked 0;
+  rest = drop (most_marked + 1) xs;
+  all_marked = begins.all_marked;
+  most = length-take-le most_marked xs begins.enough;
+  too_large = large;
+  cut = cut_at xs most_marked (elim (cases_lt most_marked (length xs)) [
+    | inl within ↦ within
+    | inr past ↦ absurd (omega (arith, get_or_past xs most_marked 0 past))
+  ]);
+}
+
+-- so many marked bytes begin the input, and the last is not marked, which counts as zero where the input ends
+pub record EndsAt (xs : List ℕ) (k last : ℕ) : Type 0 where
   pub bytes : IsBytes xs
-  pub before : (i : ℕ) → i < k → 128 ≤ get_or xs i 0
+  pub begins : BeginsMarked k xs
   pub few : k ≤ most_marked
-  pub here : get_or xs k 0 < 128
-  pub last_small : k ≡ most_marked → get_or xs k 0 < first_too_large
+  pub last_is : last ≡ get_or xs k 0
+  pub unmarked : last < 128
+  pub small : k ≡ most_marked → last < first_too_large
 
-module _ (xs : List ℕ) (k : ℕ) (end : EndsAt xs k) where
-  pub ends_short : length xs ≤ k → IsInsufficient xs
+module _ (xs : List ℕ) (word present k last : ℕ) (f : IsFrontWord xs word present) (end : EndsAt xs k last) where
+  pub ends_short : present ≤ k → IsInsufficient xs
   ends_short past =
-      record { few = omega (arith, end.few); all_marked = subst (All IsMarked) (take_all k xs past) (run_marked xs k end.before) }
+      let all : take k xs ≡ xs = take_all k xs (omega (arith, f.present_is, end.few)) in
+      record { few = omega (arith, f.present_is, end.few); all_marked = rw all at end.begins.all_marked }
 
-  module _ (below : k < length xs) where
+  module _ (within : k < present) where
+    below : k < length xs
+    below = omega (arith, f.present_is)
+
     long : length (take k xs) ≡ k
-    long = length-take-le k xs (omega arith)
+    long = length-take-le k xs end.begins.enough
 
-    pub ends_zero : 0 < k → get_or xs k 0 ≡ 0 → IsNotMinimal xs
-    ends_zero some null = record {
+    pub ends_zero : last ≡ 0 → 0 < k → IsNotMinimal xs
+    ends_zero null some = record {
       front = take k xs;
       rest = drop (k + 1) xs;
-      all_marked = run_marked xs k end.before;
+      all_marked = end.begins.all_marked;
       some = omega (arith, long);
       few = omega (arith, long, end.few);
-      cut = cut_at xs k end.before below ∙ ap (λ (b : ℕ). take k xs ++ b ∷ drop (k + 1) xs) null;
+      cut = rw (sym end.last_is ∙ null) at (cut_at xs k below);
     }
 
-    pub ends_number : (get_or xs k 0 ≡ 0 → k ≡ 0) → IsVarint (place_value 128 (low_digits (take (k + 1) xs))) (take (k + 1) xs)
+    pub ends_number : (last ≡ 0 → k ≡ 0) → IsVarint (place_value 128 (low_digits (take (k + 1) xs))) (take (k + 1) xs)
     ends_number minimal =
-        rw (take_more xs k 0 below)
-        (varint_from_bytes (take k xs) (get_or xs k 0) (All-take (λ b. b < 256) k xs end.bytes) (run_marked xs k end.before) end.here
-        (omega (arith, long, end.few)) (λ e. end.last_small (sym long ∙ e)) (λ z. nil_from_length (take k xs) (long ∙ minimal z)))
+        rw (take_more xs k 0 below, ← end.last_is)
+        (varint_from_bytes (take k xs) last (All-take (λ b. b < 256) k xs end.bytes) end.begins.all_marked end.unmarked (omega (arith, long, end.few))
+        (λ e. end.small (sym long ∙ e)) (λ z. nil_from_length (take k xs) (long ∙ minimal z)))
 
--- ---- what half a word says of the bytes that it holds
+-- ---- what half a word says of the bytes that it holds, which are those from `at` on
 
-module _ (ys : List ℕ) (half : ℕ) (bytes : IsBytes ys) (is : half ≡ place_value 256 (take 8 ys)) where
+module _ (xs : List ℕ) (at half : ℕ) (bytes : IsBytes xs) (is : half ≡ place_value 256 (take 8 (drop at xs))) where
+  back_bytes : IsBytes (drop at xs)
+  back_bytes = All-drop (λ b. b < 256) at xs bytes
+
   half_stop : StopsAt half (stop_at half)
-  half_stop = first_unmarked half (omega (arith, is, (halves ys 8 bytes).0))
+  half_stop = first_unmarked half (omega (arith, is, (halves (drop at xs) 8 back_bytes).0))
 
-  half_byte : (i : ℕ) → i < 8 → byte_at half i ≡ get_or ys i 0
-  half_byte i few = ap (λ (n : ℕ). byte_at n i) is ∙ (byte_of (take 8 ys) i (All-take (λ b. b < 256) 8 ys bytes) ∙ get_or-take 8 ys i 0 few)
+  half_byte : (i : ℕ) → i < 8 → byte_at half i ≡ get_or xs (at + i) 0
+  half_byte i few =
+      ap (λ (n : ℕ). byte_at n i) is ∙ byte_of (take 8 (drop at xs)) i (All-take (λ b. b < 256) 8 (drop at xs) back_bytes)
+      ∙ get_or-take 8 (drop at xs) i 0 few ∙ get_or-drop at xs i 0
 
-  half_before : (i : ℕ) → i < stop_at half → 128 ≤ get_or ys i 0
-  half_before i run = rw (← half_byte i (omega (arith, half_stop.within))) (half_stop.before i run)
+  -- its marked bytes, or fewer of them
+  half_begins : (m : ℕ) → BeginsMarked at xs → m ≤ stop_at half → m ≤ 8 → BeginsMarked (at + m) xs
+  half_begins m begins run few =
+      begins_more xs at m begins (λ i below. rw (← half_byte i (omega arith)) (half_stop.before i (omega arith)))
 
   module _ (early : stop_at half < 8) where
-    half_here : get_or ys (stop_at half) 0 < 128
-    half_here = rw (← half_byte (stop_at half) early) half_stop.here
+    half_end : BeginsMarked at xs → at + stop_at half ≤ most_marked
+        → (at + stop_at half ≡ most_marked → varint_bits half / 2 ^ (8 * stop_at half) < first_too_large)
+        → EndsAt xs (at + stop_at half) (varint_bits half / 2 ^ (8 * stop_at half))
+    half_end begins few small =
+        let last = kept_last half (stop_at half) half_stop in
+        record {
+          bytes = bytes;
+          begins = half_begins (stop_at half) begins (omega arith) (omega arith);
+          few = few;
+          last_is = last ∙ half_byte (stop_at half) early;
+          unmarked = omega (arith, last, half_stop.here);
+          small = small;
+        }
 
-    half_last : varint_bits half / 2 ^ (8 * stop_at half) ≡ get_or ys (stop_at half) 0
-    half_last = kept_last half (stop_at half) half_stop ∙ half_byte (stop_at half) early
-
-    half_digits : (n : ℕ) → stop_at half < n → digits_low n (varint_bits half) ≡ place_value 128 (low_digits (take (stop_at half + 1) ys))
+    half_digits : (n : ℕ) → stop_at half < n → digits_low n (varint_bits half) ≡ place_value 128 (low_digits (take (stop_at half + 1) (drop at xs)))
     half_digits n enough =
         let j = stop_at half + 1 in
-        ap (digits_low n)
-        (half_stop.varint ∙ (ap (λ (m : ℕ). m % 2 ^ (8 * j)) is ∙ (low_bytes (take 8 ys) j (All-take (λ b. b < 256) 8 ys bytes)
-        ∙ ap (place_value 256) (take-take j 8 ys (omega arith)))))
-        ∙ digits_low_of n (take j ys) (All-take (λ b. b < 256) j ys bytes) (omega (arith, length-take j ys))
+        let back = drop at xs in
+        let kept : varint_bits half ≡ place_value 256 (take j back) =
+        half_stop.varint ∙ ap (λ (m : ℕ). m % 2 ^ (8 * j)) is ∙ low_bytes (take 8 back) j (All-take (λ b. b < 256) 8 back back_bytes)
+        ∙ ap (place_value 256) (take-take j 8 back (omega arith)) in
+        ap (digits_low n) kept ∙ digits_low_of n (take j back) (All-take (λ b. b < 256) j back back_bytes) (omega (arith, length-take j back))
 
 -- ---- what a word says of the bytes that it holds the first of
 
@@ -133,136 +152,77 @@ module _ (xs : List ℕ) (word present : ℕ) (bytes : IsBytes xs) (f : IsFrontW
 
   low_is : lower ≡ place_value 256 (take 8 xs)
   low_is =
-      and_mask word 64
-      ∙ (ap (λ (n : ℕ). n % 2 ^ 64) f.word_is ∙ (low_bytes (take 16 xs) 8 front_bytes ∙ ap (place_value 256) (take-take 8 16 xs (omega arith))))
+      and_mask word 64 ∙ ap (λ (n : ℕ). n % 2 ^ 64) f.word_is ∙ low_bytes (take 16 xs) 8 front_bytes
+      ∙ ap (place_value 256) (take-take 8 16 xs (omega arith))
+
+  none_begins : BeginsMarked 0 xs
+  none_begins = record { enough = omega arith; all_marked = All-nil IsMarked }
 
   -- no byte of it is unmarked
   pub low_marked : stops lower ≡ 0 → BeginsMarked 8 xs
-  low_marked none =
-      let end : stop_at lower ≡ 8 = ap (λ (n : ℕ). trailing_zeros w64 n / 8) none ∙ ap (λ (n : ℕ). n / 8) (trailing_of_zero 64) in
-      let all = λ (i : ℕ) (run : i < 8). half_before xs lower bytes low_is i (omega (arith, end)) in
-      record { enough = run_within_input xs 8 all; all_marked = run_marked xs 8 all }
+  low_marked none = half_begins xs 0 lower bytes low_is 8 none_begins (omega (arith, (half_stop xs 0 lower bytes low_is).none none)) (omega arith)
 
-  module _ (some : ¬ (stops lower ≡ 0)) where
-    low_early : stop_at lower < 8
-    low_early = omega (arith, stop_early lower some)
+  pub low_early : ¬ (stops lower ≡ 0) → stop_at lower < 8
+  low_early some = (half_stop xs 0 lower bytes low_is).some some
 
-    low_end : EndsAt xs (stop_at lower)
-    low_end = record {
-      bytes = bytes;
-      before = half_before xs lower bytes low_is;
-      few = omega (arith, low_early);
-      here = half_here xs lower bytes low_is low_early;
-      last_small = λ e. absurd (omega (arith, e, low_early));
-    }
+  pub low_end : ¬ (stops lower ≡ 0) → EndsAt xs (stop_at lower) (varint_bits lower / 2 ^ (8 * stop_at lower))
+  low_end some =
+      let early = low_early some in
+      rw zero-add at (half_end xs 0 lower bytes low_is early none_begins (omega (arith, early)) (λ e. absurd (omega (arith, e, early))))
 
-    low_last : varint_bits lower / 2 ^ (8 * stop_at lower) ≡ get_or xs (stop_at lower) 0
-    low_last = half_last xs lower bytes low_is low_early
-
-    pub low_short : present ≤ stop_at lower → IsInsufficient xs
-    low_short past = ends_short xs (stop_at lower) low_end (omega (arith, low_early, f.present_is))
-
-    module _ (within : stop_at lower < present) where
-      pub low_zero : varint_bits lower / 2 ^ (8 * stop_at lower) ≡ 0 → 0 < stop_at lower → IsNotMinimal xs
-      low_zero null more = ends_zero xs (stop_at lower) low_end (omega (arith, f.present_is)) more (sym low_last ∙ null)
-
-      pub low_number : (varint_bits lower / 2 ^ (8 * stop_at lower) ≡ 0 → stop_at lower ≡ 0)
-          → IsVarint (digits_low 8 (varint_bits lower)) (take (stop_at lower + 1) xs)
-      low_number minimal =
-          rw (half_digits xs lower bytes low_is low_early 8 low_early)
-          (ends_number xs (stop_at lower) low_end (omega (arith, f.present_is)) (λ z. minimal (low_last ∙ z)))
+  pub low_number : (some : ¬ (stops lower ≡ 0)) → stop_at lower < present
+      → (varint_bits lower / 2 ^ (8 * stop_at lower) ≡ 0 → stop_at lower ≡ 0)
+      → IsVarint (digits_low 8 (varint_bits lower)) (take (stop_at lower + 1) xs)
+  low_number some within minimal =
+      rw (half_digits xs 0 lower bytes low_is (low_early some) 8 (low_early some))
+      (ends_number xs word present (stop_at lower) _ f (low_end some) within minimal)
 
   -- ---- the high half
 
-  module _ (marked_low : BeginsMarked 8 xs) where
+  module _ (begins : BeginsMarked 8 xs) where
     abbrev pub upper : ℕ
     upper = word / 2 ^ 64
 
-    above : List ℕ
-    above = drop 8 xs
-
-    above_bytes : IsBytes above
-    unfolding above
-    above_bytes = All-drop (λ b. b < 256) 8 xs bytes
-
-    high_is : upper ≡ place_value 256 (take 8 above)
-    unfolding above
-    high_is = ap (λ (n : ℕ). n / 2 ^ 64) f.word_is ∙ (high_bytes (take 16 xs) 8 front_bytes ∙ ap (place_value 256) (drop-take 8 8 xs))
-
-    above_at : (i : ℕ) → get_or above i 0 ≡ get_or xs (8 + i) 0
-    unfolding above
-    above_at i = get_or-drop 8 xs i 0
-
-    high_before : (i : ℕ) → i < 8 + stop_at upper → 128 ≤ get_or xs i 0
-    high_before i run = elim (cases_lt i 8) [
-      | inl early ↦
-          rw (← get_or-take 8 xs i 0 early) (All-get_or IsMarked (take 8 xs) i 0 (omega (arith, length-take 8 xs, marked_low.enough)) marked_low.all_marked)
-      | inr late ↦
-          let place : 8 + (i - 8) ≡ i = omega arith in
-          rw (← place, ← above_at (i - 8)) (half_before above upper above_bytes high_is (i - 8) (omega arith))
-    ]
-
-    high_byte : byte_at upper last_place ≡ get_or xs most_marked 0
-    high_byte = half_byte above upper above_bytes high_is last_place (omega arith) ∙ above_at last_place
+    high_is : upper ≡ place_value 256 (take 8 (drop 8 xs))
+    high_is = ap (λ (n : ℕ). n / 2 ^ 64) f.word_is ∙ high_bytes (take 16 xs) 8 front_bytes ∙ ap (place_value 256) (drop-take 8 8 xs)
 
     high_stop : StopsAt upper (stop_at upper)
-    high_stop = half_stop above upper above_bytes high_is
+    high_stop = half_stop xs 8 upper bytes high_is
 
     pub high_over : too_large ≤ varint_bits upper → IsOverflow xs
     high_over large =
-        let byte = too_large_byte upper (stop_at upper) high_stop large in
-        overflow_at xs most_marked (λ i below. high_before i (omega (arith, byte.0))) refl (omega (arith, byte.1, high_byte))
+        let (run, byte) = too_large_byte upper (stop_at upper) high_stop large in
+        overflow_at xs (half_begins xs 8 upper bytes high_is last_place begins run (omega arith))
+        (omega (arith, byte, half_byte xs 8 upper bytes high_is last_place (omega arith)))
 
     module _ (small : varint_bits upper < too_large) where
       high_few : stop_at upper ≤ last_place
       high_few = few_marked upper (stop_at upper) high_stop small
 
-      high_last : varint_bits upper / 2 ^ (8 * stop_at upper) ≡ get_or xs (8 + stop_at upper) 0
-      high_last = half_last above upper above_bytes high_is (omega (arith, high_few)) ∙ above_at (stop_at upper)
+      pub high_end : EndsAt xs (8 + stop_at upper) (varint_bits upper / 2 ^ (8 * stop_at upper))
+      high_end = half_end xs 8 upper bytes high_is (omega (arith, high_few)) begins (omega (arith, high_few)) last
+        where
+          last : 8 + stop_at upper ≡ most_marked → varint_bits upper / 2 ^ (8 * stop_at upper) < first_too_large
+          last most = let same : stop_at upper ≡ last_place = omega (arith, most) in rw same (omega (arith, small))
 
-      high_end : EndsAt xs (8 + stop_at upper)
-      high_end = record {
-        bytes = bytes;
-        before = high_before;
-        few = omega (arith, high_few);
-        here = rw (← above_at (stop_at upper)) (half_here above upper above_bytes high_is (omega (arith, high_few)));
-        last_small = λ most.
-            let same : stop_at upper ≡ last_place = omega (arith, most) in
-            rw same (omega (arith, small, rw same at high_last));
-      }
+      -- the code's number
+      abbrev pub high_value : ℕ
+      high_value = bit_or (digits_low 8 lower) (digits_low (most_marked - 7) (varint_bits upper) * 2 ^ 56 % 2 ^ 64)
 
-      pub high_short : present ≤ 8 + stop_at upper → IsInsufficient xs
-      high_short past = ends_short xs (8 + stop_at upper) high_end (omega (arith, high_few, f.present_is))
-
-      module _ (within : 8 + stop_at upper < present) where
-        pub high_zero : varint_bits upper / 2 ^ (8 * stop_at upper) ≡ 0 → IsNotMinimal xs
-        high_zero null = ends_zero xs (8 + stop_at upper) high_end (omega (arith, f.present_is)) (omega arith) (sym high_last ∙ null)
-
-        -- the code's number
-        abbrev pub high_value : ℕ
-        high_value = bit_or (digits_low 8 lower) (digits_low (most_marked - 7) (varint_bits upper) * 2 ^ 56 % 2 ^ 64)
-
-        pub high_number : ¬ (varint_bits upper / 2 ^ (8 * stop_at upper) ≡ 0) → IsVarint high_value (take (8 + stop_at upper + 1) xs)
-        unfolding above
-        high_number minimal =
-            let j = stop_at upper + 1 in
-            let number = ends_number xs (8 + stop_at upper) high_end (omega (arith, f.present_is)) (λ z. absurd (minimal (high_last ∙ z))) in
-            let low = low_digits (take 8 xs) in
-            let digits = low_digits (take j above) in
-            let places : 8 + stop_at upper + 1 ≡ 8 + j = omega arith in
-            let long : length low ≡ 8 = length-map (take 8 xs) (λ b. b % 128) ∙ length-take-le 8 xs marked_low.enough in
-            let low_value : digits_low 8 lower ≡ place_value 128 low =
-            ap (digits_low 8) low_is ∙ digits_low_of 8 (take 8 xs) (All-take (λ b. b < 256) 8 xs bytes) (omega (arith, length-take 8 xs)) in
-            let whole : place_value 128 (low_digits (take (8 + stop_at upper + 1) xs)) ≡ place_value 128 digits * 2 ^ 56 + place_value 128 low =
-            rw (places, take-add 8 j xs, map-append (λ b. b % 128) (take 8 xs) (take j above), place_value_append 128 low digits, long) (omega arith) in
-            let under : place_value 128 low < 2 ^ 56 = rw long at (place_value_below 128 low (low_digits_below (take 8 xs))) in
-            let fits : place_value 128 digits * 2 ^ 56 < 2 ^ 64 = omega (arith, whole, number.in_range) in
-            rw (
-              low_value,
-              half_digits above upper above_bytes high_is (omega (arith, high_few)) (most_marked - 7) (omega (arith, high_few)),
-              mod-eq_of_lt fits,
-              or_comm (place_value 128 low) (place_value 128 digits * 2 ^ 56),
-              or_shifted (place_value 128 digits) 56 (place_value 128 low) under,
-              ← whole,
-            )
-            number
+      pub high_number : 8 + stop_at upper < present → ¬ (varint_bits upper / 2 ^ (8 * stop_at upper) ≡ 0)
+          → IsVarint high_value (take (8 + stop_at upper + 1) xs)
+      high_number within minimal =
+          let number = ends_number xs word present (8 + stop_at upper) _ f high_end within (λ z. absurd (minimal z)) in
+          let front = take 8 xs in
+          let back = take (stop_at upper + 1) (drop 8 xs) in
+          let places : 8 + stop_at upper + 1 ≡ 8 + (stop_at upper + 1) = omega arith in
+          let cut : take (8 + stop_at upper + 1) xs ≡ front ++ back = rw places (take-add 8 (stop_at upper + 1) xs) in
+          let value : digits_low 8 lower ≡ place_value 128 (low_digits front) =
+          ap (digits_low 8) low_is ∙ digits_low_of 8 front (All-take (λ b. b < 256) 8 xs bytes) (omega (arith, length-take 8 xs)) in
+          rw (
+            value,
+            half_digits xs 8 upper bytes high_is (omega (arith, high_few)) (most_marked - 7) (omega (arith, high_few)),
+            or_digits front back 8 (length-take-le 8 xs begins.enough) (omega (arith, rw cut at number.in_range)),
+            ← cut,
+          )
+          number

@@ -1,7 +1,7 @@
 use Rattle.std.proofs.Common.{◌<◌, length, refl, ◌∙◌, arith, bit_and, bit_or}
 use Rattle.std.proofs.lemmas.List.{length-take-le, take_more_set}
 use Rattle.std.proofs.Math.ListN.{length-set}
-use Rattle.multihash.proofs.Varints.VarintWriteLemmas.{none_wrote, wrote_more, wrote_last, wrote_few, wrote_fewer}
+use Rattle.multihash.proofs.Varints.VarintWriteLemmas.{none_wrote, wrote_more, wrote_last, wrote_few}
 use Rattle.multihash.proofs.varint.encode.Goals as goal
 
 pub loop-rest-init : goal.loop-rest-init
@@ -10,7 +10,7 @@ loop-rest-init c = record { wrote = none_wrote c.args.n; in_bytes = omega arith;
 pub bounds-bytes-len : goal.bounds-bytes-len
 bounds-bytes-len c =
     let before = c.loop-rest.invariant in
-    let few = wrote_fewer _ c.args.n c.loop-rest.rest (omega (arith, c.ranges.n.fits)) before.wrote c.loop-rest-test.true in
+    let few = wrote_few _ c.args.n c.loop-rest.rest (omega (arith, c.ranges.n.fits)) before.wrote in
     omega (arith, few, length-take-le c.loop-rest.len c.loop-rest.bytes before.in_bytes)
 
 pub overflow_add-len : goal.overflow_add-len
