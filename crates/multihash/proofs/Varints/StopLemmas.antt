@@ -146,20 +146,17 @@ module _ (half m : ℕ) (stop : StopsAt half m) where
 
   -- a half that is no less has a byte that is too large
   pub too_large_byte : too_large ≤ varint_bits half → (last_place ≤ m) × (first_too_large ≤ byte_at half last_place)
-  too_large_byte large = (run, byte)
-    where
-      run : last_place ≤ m
-      run = elim (cases_lt m last_place) [
-        | inl few ↦
-            let base : 0 < 2 = omega arith in
-            let places : 8 * (m + 1) ≤ 8 * last_place = omega arith in
-            let most : 2 ^ (8 * (m + 1)) ≤ 2 ^ (8 * last_place) = pow-le-pow_right base places in
-            absurd (omega (arith, large, stop.varint, most, mod_below half (2 ^ (8 * (m + 1))) (pow_pos (8 * (m + 1)))))
-        | inr past ↦ past
-      ]
-
-      byte : first_too_large ≤ byte_at half last_place
-      byte = elim (cases_eq m last_place) [
-        | inl exact ↦ omega (arith, large, ap (λ (k : ℕ). varint_bits half / 2 ^ (8 * k)) exact, kept_last, ap (byte_at half) exact)
+  too_large_byte large = elim (cases_lt m last_place) [
+    | inl few ↦
+        let base : 0 < 2 = omega arith in
+        let places : 8 * (m + 1) ≤ 8 * last_place = omega arith in
+        let most : 2 ^ (8 * (m + 1)) ≤ 2 ^ (8 * last_place) = pow-le-pow_right base places in
+        absurd (omega (arith, large, stop.varint, most, mod_below half (2 ^ (8 * (m + 1))) (pow_pos (8 * (m + 1)))))
+    | inr run ↦ (
+      run,
+      elim (cases_eq m last_place) [
+        | inl exact ↦ omega (arith, large, rw exact at kept_last)
         | inr more ↦ omega (arith, run, stop.before last_place (omega (arith, run)))
-      ]
+      ],
+    )
+  ]

@@ -1,7 +1,7 @@
 -- One varint a number, and one front an input.
 use Rattle.std.proofs.Common.{◌≡◌, ℕ, zero, suc, ◌+◌, ◌-◌, ◌%◌, cond, ltb, ◌^◌, ◌<◌, ◌≤◌, List, [], ◌∷◌, ◌++◌, length, refl, sym, ap, ◌∙◌, arith, inl, inr, append_assoc, append-nil}
 use Rattle.std.specs.List.{All}
-use Rattle.std.proofs.Math.Nat.{mod-eq_of_lt, mul-le-mul_left, pow-le-pow_right, pow-suc}
+use Rattle.std.proofs.Math.Nat.{mod-eq_of_lt, mul-le-mul_left, pow-le-pow_right}
 use Rattle.std.proofs.lemmas.Bool.{cases_lt, lt-ltb, le-ltb}
 use Rattle.std.proofs.lemmas.List.{length-map, length_push, map_push, same_from_push}
 use Rattle.std.proofs.lemmas.List.Elements.{All-nil, All-head, All-tail, All-push}
@@ -40,18 +40,17 @@ varint_length n bytes v = (front_within most_marked n bytes v (omega (arith, v.i
           absurd (omega (arith, place, v.value, v.in_range, place_value_last 128 v.last v.front, mul-le-mul_left (128 ^ length v.front) large))
     ]
 
-digits_below : (n : ℕ) (bytes : List ℕ) (v : IsVarint n bytes) → n < 128 ^ suc (length v.front)
-digits_below n bytes v =
-    let long : length (v.front ++ v.last ∷ []) ≡ suc (length v.front) = omega (arith, length_push v.front v.last) in
-    rw (v.value, long) at (place_value_below 128 (v.front ++ v.last ∷ []) v.digits)
+no_longer : (n : ℕ) (a b : List ℕ) (v : IsVarint n a) (w : IsVarint n b) → length v.front ≤ length w.front
+no_longer n a b v w =
+    let long : length (w.front ++ w.last ∷ []) ≡ suc (length w.front) = omega (arith, length_push w.front w.last) in
+    front_within (length w.front) n a v (rw (w.value, long) at (place_value_below 128 (w.front ++ w.last ∷ []) w.digits))
 
 pub varint_unique : (n : ℕ) (a b : List ℕ) → IsVarint n a → IsVarint n b → a ≡ b
 varint_unique n a b v w =
-    let long = length_push v.front v.last in
-    let large = length_push w.front w.last in
-    let same = same_from_push v.front w.front v.last w.last (place_value_unique 128 (v.front ++ v.last ∷ []) (w.front ++ w.last ∷ []) v.digits w.digits
-    (omega (arith, long, large, front_within (length v.front) n b w (digits_below n a v), front_within (length w.front) n a v (digits_below n b w)))
-    (v.value ∙ sym w.value)) in
+    let long : length (v.front ++ v.last ∷ []) ≡ length (w.front ++ w.last ∷ []) =
+    omega (arith, length_push v.front v.last, length_push w.front w.last, no_longer n a b v w, no_longer n b a w v) in
+    let digits = place_value_unique 128 (v.front ++ v.last ∷ []) (w.front ++ w.last ∷ []) v.digits w.digits long (v.value ∙ sym w.value) in
+    let same = same_from_push v.front w.front v.last w.last digits in
     cc (v.spelled, w.spelled, same.0, same.1)
 
 -- ---- what bytes spell
@@ -60,19 +59,18 @@ varint_unique n a b v w =
 pub low_digits_in_range : (ms : List ℕ) (b : ℕ) → length ms ≤ most_marked → (length ms ≡ most_marked → b < first_too_large)
     → place_value 128 (low_digits (ms ++ b ∷ [])) < varint_limit
 low_digits_in_range ms b few most =
-    let long = length-map ms (λ b. b % 128) in
-    let below = rw long at (place_value_below 128 (low_digits ms) (low_digits_below ms)) in
-    let digit : b % 128 < 128 = omega arith in
-    rw (map_push (λ b. b % 128) ms b, place_value_last 128 (b % 128) (low_digits ms), long) (elim (cases_lt (length ms) most_marked) [
+    elim (cases_lt (length ms) most_marked) [
       | inl short ↦
+          let whole = low_digits (ms ++ b ∷ []) in
           let base : 0 < 128 = omega arith in
-          let high : 128 ^ suc (length ms) ≤ 128 ^ most_marked = pow-le-pow_right base short in
-          omega (arith, below, high, pow-suc 128 (length ms), mul-le-mul_left (128 ^ length ms) digit)
+          let long : length whole ≤ most_marked = omega (arith, length-map (ms ++ b ∷ []) (λ b. b % 128), length_push ms b) in
+          let high : 128 ^ length whole ≤ 128 ^ most_marked = pow-le-pow_right base long in
+          omega (arith, place_value_below 128 whole (low_digits_below (ms ++ b ∷ [])), high)
       | inr full ↦
-          let e : length ms ≡ most_marked = omega arith in
-          let last : b % 128 < first_too_large = omega (arith, most e) in
-          rw e (omega (arith, rw e at below, last))
-    ])
+          let long : length (low_digits ms) ≡ most_marked = length-map ms (λ b. b % 128) ∙ omega (arith, few) in
+          rw (map_push (λ b. b % 128) ms b, place_value_last 128 (b % 128) (low_digits ms), long)
+          (omega (arith, rw long at (place_value_below 128 (low_digits ms) (low_digits_below ms)), most (omega (arith, few))))
+    ]
 
 -- marked bytes that are few enough, and a last byte that may end them, are a varint
 pub varint_from_bytes : (ms : List ℕ) (b : ℕ) → IsBytes ms → All IsMarked ms → b < 128 → length ms ≤ most_marked
@@ -126,14 +124,15 @@ front_run (m ∷ ms) (suc n) left before y all room =
     (front_run ms n left (before ++ m ∷ []) y (All-tail IsMarked m ms all) (omega (arith, room))
     ∙ ap (λ z. front_from left z y) (append_assoc before (m ∷ []) ms))
 
-front_behind : (ms y x : List ℕ) → All IsMarked ms → length ms ≤ most_marked → x ≡ ms ++ y
-    → front_of x ≡ front_from (most_marked - length ms) ms y
-front_behind ms y x all few cut = ap front_of cut ∙ front_run ms most_marked (most_marked - length ms) [] y all (omega (arith, few))
-
-front_last : (left : ℕ) (ms : List ℕ) (b : ℕ) (rest : List ℕ) → b < 128 → (left ≡ 0 → b < first_too_large)
-    → front_from left ms (b ∷ rest) ≡ ends_with ms b rest
-front_last zero ms b rest small most = rw (lt-ltb b first_too_large (most refl)) refl
-front_last (suc left) ms b rest small most = rw (lt-ltb b 128 small) refl
+front_ends : (ms : List ℕ) (b : ℕ) (rest x : List ℕ) → All IsMarked ms → length ms ≤ most_marked → b < 128
+    → (length ms ≡ most_marked → b < first_too_large) → x ≡ ms ++ b ∷ rest → front_of x ≡ ends_with ms b rest
+front_ends ms b rest x all few small most cut =
+    ap front_of cut ∙ front_run ms most_marked (most_marked - length ms) [] (b ∷ rest) all (omega (arith, few))
+    ∙ last (most_marked - length ms) (λ none. most (omega (arith, none, few)))
+  where
+    last : (left : ℕ) → (left ≡ 0 → b < first_too_large) → front_from left ms (b ∷ rest) ≡ ends_with ms b rest
+    last zero low = rw (lt-ltb b first_too_large (low refl)) refl
+    last (suc left) low = rw (lt-ltb b 128 small) refl
 
 ends_number : (ms : List ℕ) (b : ℕ) (rest : List ℕ) → (b ≡ 0 → ms ≡ [])
     → ends_with ms b rest ≡ number (place_value 128 (low_digits (ms ++ b ∷ []))) rest
@@ -151,21 +150,20 @@ front_is x (number n rest) (bytes, v, cut) =
     let few = varint_length n bytes v in
     let ms = marked v.front in
     let long : length ms ≡ length v.front = length-map v.front (λ d. d + 128) in
-    let whole : x ≡ ms ++ v.last ∷ rest = cut ∙ (ap (λ b. b ++ rest) v.spelled ∙ append_assoc ms (v.last ∷ []) rest) in
+    let whole : x ≡ ms ++ v.last ∷ rest = cut ∙ ap (λ b. b ++ rest) v.spelled ∙ append_assoc ms (v.last ∷ []) rest in
     let last : v.last < 128 = All-head IsDigit v.last [] (All-append_right IsDigit v.front (v.last ∷ []) v.digits) in
     let front = All-append_left IsDigit v.front (v.last ∷ []) v.digits in
     let value : place_value 128 (low_digits (ms ++ v.last ∷ [])) ≡ n =
     rw (map_push (λ b. b % 128) ms v.last, low_digits-marked v.front front, mod-eq_of_lt last) v.value in
-    sym (front_behind ms (v.last ∷ rest) x (All-marked v.front) (omega (arith, few.0, long)) whole
-    ∙ (front_last (most_marked - length ms) ms v.last rest last (λ none. few.1 (omega (arith, none, few.0, long)))
-    ∙ (ends_number ms v.last rest (λ z. ap marked (v.minimal z)) ∙ ap (λ m. number m rest) value)))
-front_is x (fault insufficient) h = sym (front_behind x [] x h.all_marked h.few (sym (append-nil x)))
+    sym (front_ends ms v.last rest x (All-marked v.front) (omega (arith, few.0, long)) last (λ most. few.1 (sym long ∙ most)) whole
+    ∙ ends_number ms v.last rest (λ z. ap marked (v.minimal z)) ∙ ap (λ m. number m rest) value)
+front_is x (fault insufficient) h =
+    sym (ap front_of (sym (append-nil x)) ∙ front_run x most_marked (most_marked - length x) [] [] h.all_marked (omega (arith, h.few)))
 front_is x (fault overflow) h =
-    sym (ap front_of h.cut ∙ (front_run h.front most_marked 0 [] (h.byte ∷ h.rest) h.all_marked (omega (arith, h.most))
-    ∙ rw (le-ltb h.byte first_too_large h.too_large) refl))
+    sym (ap front_of h.cut ∙ front_run h.front most_marked 0 [] (h.byte ∷ h.rest) h.all_marked (omega (arith, h.most))
+    ∙ rw (le-ltb h.byte first_too_large h.too_large) refl)
 front_is x (fault not_minimal) h =
-    sym (front_behind h.front (0 ∷ h.rest) x h.all_marked h.few h.cut
-    ∙ (front_last (most_marked - length h.front) h.front 0 h.rest (omega arith) (λ _. omega arith) ∙ ends_zero h.front h.rest h.some))
+    sym (front_ends h.front 0 h.rest x h.all_marked h.few (omega arith) (λ _. omega arith) h.cut ∙ ends_zero h.front h.rest h.some)
 
 pub front_unique : (x : List ℕ) (a b : Front) → HasFront x a → HasFront x b → a ≡ b
 front_unique x a b h k = front_is x a h ∙ sym (front_is x b k)
@@ -182,7 +180,8 @@ ends_has (m ∷ ms) zero rest all small few most bytes =
     record { front = m ∷ ms; rest = rest; all_marked = all; some = omega arith; few = few; cut = refl }
 ends_has (m ∷ ms) (suc b) rest all small few most bytes = (
   (m ∷ ms) ++ suc b ∷ [],
-  varint_from_bytes (m ∷ ms) (suc b) (All-append_left (λ n. n < 256) (m ∷ ms) (suc b ∷ rest) bytes) all small few most (λ z. absurd (omega (arith, z))),
+  varint_from_bytes (m ∷ ms) (suc b) (All-append_left (λ n. n < 256) (m ∷ ms) (suc b ∷ rest) bytes) all small few most
+      (λ z. absurd (omega (arith, z))),
   sym (append_assoc (m ∷ ms) (suc b ∷ []) rest),
 )
 

@@ -34,7 +34,8 @@ pub padded_word : (xs ys : List ℕ) → ys ≡ xs → length xs ≤ 16
     → from_le_bytes w128 (ys ++ drop (length xs) (replicate 16 0)) ≡ place_value 256 xs
 padded_word xs ys same few =
     let back = replicate (16 - length xs) 0 in
-    let long : length (ys ++ back) ≡ 16 = omega (arith, length-append ys back, length-replicate {A = ℕ} (16 - length xs) 0, ap length same) in
+    let long : length (ys ++ back) ≡ 16 =
+    omega (arith, length-append ys back, length-replicate {A = ℕ} (16 - length xs) 0, ap length same) in
     rw (drop-replicate {X = ℕ} (length xs) 16 0, le_word (ys ++ back) long, place_value_append 256 ys back, zeros (16 - length xs), same) (omega arith)
 
 -- ---- a slice

@@ -1,9 +1,10 @@
 -- The bytes of a word, and the number of its digits.
 use Rattle.std.proofs.Common.{◌≡◌, ℕ, zero, suc, ◌+◌, ◌-◌, ◌*◌, ◌/◌, ◌%◌, ◌^◌, ◌<◌, ◌≤◌, List, [], ◌∷◌, length, get_or, take, drop, refl, sym, ap, ◌∙◌, arith, bit_and, bit_or, mul-le-mul_right}
-use Rattle.std.proofs.Math.Nat.{mul-suc, mul_assoc}
+use Rattle.std.proofs.Math.Nat.{add-zero, mul-suc, mul_assoc}
 use Rattle.std.proofs.lemmas.Nat.{or_comm, or_shifted, shr-shr, shr_high, shl_whole, mod_low, pow-add, pow_pos}
 use Rattle.std.proofs.lemmas.Nat.Bits.{and_high}
-use Rattle.std.proofs.lemmas.List.Elements.{All-head, All-tail}
+use Rattle.std.proofs.lemmas.List.{get_or-drop}
+use Rattle.std.proofs.lemmas.List.Elements.{All-drop, All-head, All-tail}
 use Rattle.multihash.specs.Bytes.{IsBytes, place_value}
 use Rattle.multihash.specs.Word.{digits_low}
 use Rattle.multihash.proofs.Varints.DigitLemmas.{place_value-nil, place_value-cons}
@@ -16,18 +17,6 @@ byte_at n i = n / 2 ^ (8 * i) % 2 ^ 8
 
 byte_more : (y : ℕ) (ys : List ℕ) → place_value 256 (y ∷ ys) ≡ place_value 256 ys * 2 ^ 8 + y
 byte_more y ys = place_value-cons 256 y ys ∙ omega arith
-
--- byte i of the value
-pub byte_of : (ys : List ℕ) (i : ℕ) → IsBytes ys → byte_at (place_value 256 ys) i ≡ get_or ys i 0
-byte_of [] i all = rw (place_value-nil 256) (omega (arith, pow_pos (8 * i)))
-byte_of (y ∷ ys) zero all =
-    let small : y < 256 = All-head (λ b. b < 256) y ys all in
-    omega (arith, byte_more y ys)
-byte_of (y ∷ ys) (suc i) all =
-    let small : y < 2 ^ 8 = All-head (λ b. b < 256) y ys all in
-    let places : 8 * suc i ≡ 8 + 8 * i = omega arith in
-    rw (byte_more y ys, places, ← shr-shr (place_value 256 ys * 2 ^ 8 + y) 8 (8 * i), shr_high (place_value 256 ys) 8 y small)
-    (byte_of ys i (All-tail (λ b. b < 256) y ys all))
 
 -- the lowest n bytes, and those above them
 pub halves : (ys : List ℕ) (n : ℕ) → IsBytes ys → (place_value 256 (take n ys) < 2 ^ (8 * n))
@@ -44,14 +33,20 @@ halves (y ∷ ys) (suc n) all =
     )
 
 pub low_bytes : (ys : List ℕ) (n : ℕ) → IsBytes ys → place_value 256 ys % 2 ^ (8 * n) ≡ place_value 256 (take n ys)
-low_bytes ys n all =
-    let h = halves ys n all in
-    ap (λ (m : ℕ). m % 2 ^ (8 * n)) h.1 ∙ mod_low (place_value 256 (drop n ys)) (8 * n) (place_value 256 (take n ys)) h.0
+low_bytes ys n all = ap (λ (m : ℕ). m % 2 ^ (8 * n)) (halves ys n all).1 ∙ mod_low _ (8 * n) _ (halves ys n all).0
 
 pub high_bytes : (ys : List ℕ) (n : ℕ) → IsBytes ys → place_value 256 ys / 2 ^ (8 * n) ≡ place_value 256 (drop n ys)
-high_bytes ys n all =
-    let h = halves ys n all in
-    ap (λ (m : ℕ). m / 2 ^ (8 * n)) h.1 ∙ shr_high (place_value 256 (drop n ys)) (8 * n) (place_value 256 (take n ys)) h.0
+high_bytes ys n all = ap (λ (m : ℕ). m / 2 ^ (8 * n)) (halves ys n all).1 ∙ shr_high _ (8 * n) _ (halves ys n all).0
+
+lowest_byte : (ys : List ℕ) → IsBytes ys → place_value 256 ys % 2 ^ 8 ≡ get_or ys 0 0
+lowest_byte [] all = omega (arith, place_value-nil 256)
+lowest_byte (y ∷ ys) all = omega (arith, All-head (λ b. b < 256) y ys all, byte_more y ys)
+
+-- byte i of the value
+pub byte_of : (ys : List ℕ) (i : ℕ) → IsBytes ys → byte_at (place_value 256 ys) i ≡ get_or ys i 0
+byte_of ys i all =
+    rw (high_bytes ys i all)
+    (lowest_byte (drop i ys) (All-drop (λ b. b < 256) i ys all) ∙ get_or-drop i ys 0 0 ∙ ap (λ (k : ℕ). get_or ys k 0) (add-zero i))
 
 -- ---- the number of the digits
 
@@ -87,7 +82,8 @@ unfolding digits_low
 digits_low_of zero [] all few = sym (place_value-nil 128)
 digits_low_of zero (y ∷ ys) all few = absurd (omega arith)
 digits_low_of (suc i) [] all few =
-    rw (place_value-nil 256, digits_low-cons i 0) (omega (arith, rw (place_value-nil 256, place_value-nil 128) at (digits_low_of i [] all (omega arith)), place_value-nil 128))
+    let rest = rw (place_value-nil 256, place_value-nil 128) at (digits_low_of i [] all (omega arith)) in
+    rw (place_value-nil 256, digits_low-cons i 0) (omega (arith, rest, place_value-nil 128))
 digits_low_of (suc i) (y ∷ ys) all few =
     let small : y < 256 = All-head (λ b. b < 256) y ys all in
     let above : place_value 256 (y ∷ ys) / 256 ≡ place_value 256 ys = omega (arith, byte_more y ys) in
