@@ -4,7 +4,7 @@ use Prim.Native.Nat.{min}
 use Rattle.std.specs.Int.{w64, bit_at, bit_not, trailing_zeros}
 use Rattle.std.specs.Int.Bits.{and_self}
 use Rattle.std.specs.Int.Count.{trailing_of_zero}
-use Rattle.std.proofs.Math.Nat.{pow-le-pow_right}
+use Rattle.std.proofs.Math.Nat.{lt_of_not-le, pow-le-pow_right}
 use Rattle.std.proofs.lemmas.Bool.{cases_lt, cases_eq}
 use Rattle.std.proofs.lemmas.Nat.{and_assoc, and-not, and_comm, and_le_l, and_le_r, and_mask, and_mod, and_shr, field_of, mod_below, mod-pow-add, pow_pos, shr-shr, shr_le, shr_split}
 use Rattle.std.proofs.lemmas.Nat.Bits.{bit_at-suc, bit_at-zero, bit_at_and, bit_at_cat_low, bit_at_not, bit_at-pow_other, bit_at-trailing_zeros}
@@ -93,10 +93,9 @@ module _ (half : ℕ) (fits : half < 2 ^ 64) where
       let (below, set, unset) = bit_at-trailing_zeros w64 (stops half) some stops_below in
       let split : place ≡ 8 * m + place % 8 = omega arith in
       let here : bit_at (stops half) (8 * m + place % 8) ≡ 1 = ap (bit_at (stops half)) (sym split) ∙ set in
-      let highest : place % 8 ≡ 7 = elim (cases_eq (place % 8) 7) [
-        | inl e ↦ e
-        | inr other ↦ absurd (omega (arith, here, bit_of_stops m (place % 8) (omega arith) (omega arith), bit_at-pow_other 7 (place % 8) other))
-      ] in
+      let bit = bit_of_stops m (place % 8) (omega arith) (omega arith) in
+      let highest : 6 < place % 8 = lt_of_not-le (λ low. omega (arith, here, bit, bit_at-pow_other 7 (place % 8) (λ e. omega arith))) in
+      let seven : place % 8 ≡ 7 = omega arith in
       let apart : bit_and half (stops half) ≡ 0 =
       rw (← and_assoc stop_bits half (bit_not w64 half), and_comm half (bit_not w64 half))
       (omega (arith, and_le_l (bit_and (bit_not w64 half) half) stop_bits, and-not 64 half half fits fits, and_self half)) in
@@ -104,7 +103,7 @@ module _ (half : ℕ) (fits : half < 2 ^ 64) where
       let places : suc place ≡ 8 * (m + 1) = omega arith in
       record {
         before = λ i few. omega (arith, unset (8 * i + 7) (omega arith), stop_of i (omega arith));
-        here = omega (arith, rw highest at here, stop_of m (omega arith));
+        here = omega (arith, rw seven at here, stop_of m (omega arith));
         varint = ap (bit_and half) less ∙ (and_less place half (stops half) set unset apart ∙ ap (λ (k : ℕ). half % 2 ^ k) places);
         none = λ none. absurd (omega arith);
         some = λ _. omega arith;
@@ -139,10 +138,9 @@ module _ (half m : ℕ) (stop : StopsAt half m) where
 
   -- no more marked bytes than a varint has
   pub few_marked : varint_bits half < too_large → m ≤ last_place
-  few_marked small = elim (cases_lt last_place m) [
-    | inl more ↦ absurd (omega (arith, small, kept_above (omega arith), stop.before last_place more))
-    | inr few ↦ few
-  ]
+  few_marked small =
+      let few : m < suc last_place = lt_of_not-le (λ more. omega (arith, small, kept_above (omega arith), stop.before last_place (omega arith))) in
+      omega arith
 
   -- a half that is no less has a byte that is too large
   pub too_large_byte : too_large ≤ varint_bits half → (last_place ≤ m) × (first_too_large ≤ byte_at half last_place)

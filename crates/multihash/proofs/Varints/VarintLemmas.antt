@@ -1,12 +1,12 @@
 -- One varint a number, and one front an input.
-use Rattle.std.proofs.Common.{◌≡◌, ℕ, zero, suc, ◌+◌, ◌-◌, ◌%◌, cond, ltb, ◌^◌, ◌<◌, ◌≤◌, List, [], ◌∷◌, ◌++◌, length, refl, sym, ap, ◌∙◌, arith, inl, inr, append_assoc, append-nil}
+use Rattle.std.proofs.Common.{◌≡◌, ℕ, zero, suc, ◌+◌, ◌-◌, ◌*◌, ◌%◌, cond, ltb, ◌^◌, ◌<◌, ◌≤◌, List, [], ◌∷◌, ◌++◌, length, refl, sym, ap, ◌∙◌, arith, inl, inr, append_assoc, append-nil}
 use Rattle.std.specs.List.{All}
-use Rattle.std.proofs.Math.Nat.{mod-eq_of_lt, mul-le-mul_left, pow-le-pow_right}
+use Rattle.std.proofs.Math.Nat.{lt_of_not-le, mod-eq_of_lt, mul-le-mul_right, pow-le-pow_right}
 use Rattle.std.proofs.lemmas.Bool.{cases_lt, lt-ltb, le-ltb}
 use Rattle.std.proofs.lemmas.List.{length-map, length_push, map_push, same_from_push}
 use Rattle.std.proofs.lemmas.List.Elements.{All-nil, All-head, All-tail, All-push}
 use Rattle.multihash.specs.Bytes.{IsBytes, place_value}
-use Rattle.multihash.specs.Varint.{varint_limit, most_marked, first_too_large, IsMarked, marked, IsVarint, VarintFault, insufficient, overflow, not_minimal, HasFaultyFront}
+use Rattle.multihash.specs.Varint.{varint_limit, most_marked, first_too_large, IsMarked, marked, IsVarint, IsOverflow, IsNotMinimal, VarintFault, insufficient, overflow, not_minimal, HasFaultyFront}
 use Rattle.multihash.proofs.Varints.DigitLemmas.{place_value_below, place_value_last, place_value_unique}
 use Rattle.multihash.proofs.Varints.MarkedLemmas.{All-append_left, All-append_right, All-marked, IsDigit, low_digits, low_digits_below, marked-low_digits, low_digits-marked}
 
@@ -15,17 +15,12 @@ use Rattle.multihash.proofs.Varints.MarkedLemmas.{All-append_left, All-append_ri
 -- a number of so few digits has no longer varint, since a last digit of zero stands alone
 pub front_within : (k n : ℕ) (bytes : List ℕ) (v : IsVarint n bytes) → n < 128 ^ suc k → length v.front ≤ k
 front_within k n bytes v small =
-    elim (cases_lt k (length v.front)) [
-      | inl long ↦
-          let base : 0 < 128 = omega arith in
-          let high : 128 ^ suc k ≤ 128 ^ length v.front = pow-le-pow_right base long in
-          let last : 0 < v.last = elim (cases_lt 0 v.last) [
-            | inl some ↦ some
-            | inr none ↦ absurd (omega (arith, ap length (v.minimal (omega arith))))
-          ] in
-          absurd (omega (arith, high, v.value, place_value_last 128 v.last v.front, mul-le-mul_left (128 ^ length v.front) last))
-      | inr short ↦ short
-    ]
+    let base : 0 < 128 = omega arith in
+    let few : length v.front < suc k = lt_of_not-le (λ long.
+    let high : 128 ^ suc k ≤ 128 ^ length v.front = pow-le-pow_right base long in
+    let last : 0 < v.last = lt_of_not-le (λ none. omega (arith, ap length (v.minimal (omega arith)))) in
+    omega (arith, high, v.value, place_value_last 128 v.last v.front, mul-le-mul_right (128 ^ length v.front) last)) in
+    omega arith
 
 -- and what ends a longest one
 pub varint_length : (n : ℕ) (bytes : List ℕ) (v : IsVarint n bytes)
@@ -33,12 +28,9 @@ pub varint_length : (n : ℕ) (bytes : List ℕ) (v : IsVarint n bytes)
 varint_length n bytes v = (front_within most_marked n bytes v (omega (arith, v.in_range)), most)
   where
     most : length v.front ≡ most_marked → v.last < first_too_large
-    most e = elim (cases_lt v.last first_too_large) [
-      | inl small ↦ small
-      | inr large ↦
-          let place : 128 ^ length v.front ≡ 128 ^ most_marked = ap (λ (k : ℕ). 128 ^ k) e in
-          absurd (omega (arith, place, v.value, v.in_range, place_value_last 128 v.last v.front, mul-le-mul_left (128 ^ length v.front) large))
-    ]
+    most e =
+        let place : 128 ^ length v.front ≡ 128 ^ most_marked = ap (λ (k : ℕ). 128 ^ k) e in
+        omega (arith, v.value, v.in_range, rw place at (place_value_last 128 v.last v.front))
 
 no_longer : (n : ℕ) (a b : List ℕ) (v : IsVarint n a) (w : IsVarint n b) → length v.front ≤ length w.front
 no_longer n a b v w =
@@ -85,6 +77,15 @@ varint_from_bytes ms b bytes all small few most minimal = record {
   in_range = low_digits_in_range ms b few most;
   spelled = ap (λ front. front ++ b ∷ []) (sym (marked-low_digits ms bytes all));
 }
+
+-- marked bytes and what ends them as none should
+pub overflow_behind : (ms : List ℕ) (b : ℕ) (rest : List ℕ) → All IsMarked ms → length ms ≡ most_marked → first_too_large ≤ b
+    → IsOverflow (ms ++ b ∷ rest)
+overflow_behind ms b rest all most large =
+    record { front = ms; byte = b; rest = rest; all_marked = all; most = most; too_large = large; cut = refl }
+
+pub zero_behind : (ms rest : List ℕ) → All IsMarked ms → 0 < length ms → length ms ≤ most_marked → IsNotMinimal (ms ++ 0 ∷ rest)
+zero_behind ms rest all some few = record { front = ms; rest = rest; all_marked = all; some = some; few = few; cut = refl }
 
 -- ---- the front of an input
 
@@ -176,8 +177,7 @@ ends_has : (ms : List ℕ) (b : ℕ) (rest : List ℕ) → All IsMarked ms → b
     → (length ms ≡ most_marked → b < first_too_large) → IsBytes (ms ++ b ∷ rest) → HasFront (ms ++ b ∷ rest) (ends_with ms b rest)
 ends_has [] b rest all small few most bytes =
     (b ∷ [], varint_from_bytes [] b (All-nil (λ n. n < 256)) all small few most (λ _. refl), refl)
-ends_has (m ∷ ms) zero rest all small few most bytes =
-    record { front = m ∷ ms; rest = rest; all_marked = all; some = omega arith; few = few; cut = refl }
+ends_has (m ∷ ms) zero rest all small few most bytes = zero_behind (m ∷ ms) rest all (omega arith) few
 ends_has (m ∷ ms) (suc b) rest all small few most bytes = (
   (m ∷ ms) ++ suc b ∷ [],
   varint_from_bytes (m ∷ ms) (suc b) (All-append_left (λ n. n < 256) (m ∷ ms) (suc b ∷ rest) bytes) all small few most
@@ -191,8 +191,7 @@ front_has left ms [] all room bytes = rw (append-nil ms) (record { few = omega (
 front_has zero ms (b ∷ rest) all room bytes =
     elim (cases_lt b first_too_large) [
       | inl low ↦ rw (lt-ltb b first_too_large low) (ends_has ms b rest all (omega arith) (omega (arith, room)) (λ _. low) bytes)
-      | inr high ↦ rw (le-ltb b first_too_large high)
-          (record { front = ms; byte = b; rest = rest; all_marked = all; most = omega (arith, room); too_large = high; cut = refl })
+      | inr high ↦ rw (le-ltb b first_too_large high) (overflow_behind ms b rest all (omega (arith, room)) high)
     ]
 front_has (suc left) ms (b ∷ rest) all room bytes =
     elim (cases_lt b 128) [

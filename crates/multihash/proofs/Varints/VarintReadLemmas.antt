@@ -2,7 +2,7 @@
 use Rattle.std.proofs.Common.{◌≡◌, ℕ, ◌+◌, ◌*◌, ◌%◌, ◌^◌, ◌<◌, ◌≤◌, ◌⊎◌, List, [], ◌∷◌, ◌++◌, length, Option, refl, sym, ap, ◌∙◌, subst, inl, inr, arith, append_assoc, bit_and, bit_or}
 use Rattle.std.specs.List.{All}
 use Rattle.std.specs.Io.KnownBytes.{IsAtEnd}
-use Rattle.std.proofs.lemmas.Bool.{cases_eq}
+use Rattle.std.proofs.Math.Nat.{lt_of_not-le}
 use Rattle.std.proofs.lemmas.Nat.{and_mask}
 use Rattle.std.proofs.lemmas.List.{length_push, nil_from_length}
 use Rattle.std.proofs.lemmas.List.Elements.{All-nil, All-push}
@@ -14,7 +14,7 @@ use Rattle.multihash.specs.Refusal.{Refusal, of_io, of_varint}
 use Rattle.multihash.specs.Taking.{TakesVarint, TakesAtVarintRefusal}
 use Rattle.multihash.proofs.Varints.DigitLemmas.{place_value-nil, place_value-cons}
 use Rattle.multihash.proofs.Varints.MarkedLemmas.{low_digits, or_digits}
-use Rattle.multihash.proofs.Varints.VarintLemmas.{low_digits_in_range, varint_from_bytes}
+use Rattle.multihash.proofs.Varints.VarintLemmas.{low_digits_in_range, varint_from_bytes, overflow_behind, zero_behind}
 use Rattle.multihash.proofs.Readings.ReadingLemmas.{Takes-none, Takes-kept, Takes-joined, IsAtEnd-kept}
 use Rattle.multihash.proofs.Readings.ShortestLemmas.{before_step}
 
@@ -93,19 +93,13 @@ module _ (old now : Option (List ℕ)) (sum i : ℕ) (h : ReadsMarked old now su
     pub too_large : i ≡ most_marked → first_too_large ≤ byte → (e : Refusal) → e ≡ of_varint overflow → TakesAtVarintRefusal e old new
     too_large most large e given =
         refused overflow (h.front ++ byte ∷ []) e given
-        (record { front = h.front; byte = byte; rest = []; all_marked = h.marked; most = h.long ∙ most; too_large = large; cut = refl })
+        (overflow_behind h.front byte [] h.marked (h.long ∙ most) large)
         (before_last byte) (λ same. cc) takes
 
     pub ends_in_zero : byte ≡ 0 → 0 < i → (e : Refusal) → e ≡ of_varint not_minimal → TakesAtVarintRefusal e old new
     ends_in_zero null some e given =
-        refused not_minimal (h.front ++ byte ∷ []) e given (record {
-          front = h.front;
-          rest = [];
-          all_marked = h.marked;
-          some = omega (arith, h.long);
-          few = omega (arith, h.long, h.few);
-          cut = ap (λ b. h.front ++ b ∷ []) null;
-        })
+        refused not_minimal (h.front ++ byte ∷ []) e given
+        (rw null (zero_behind h.front [] h.marked (omega (arith, h.long)) (omega (arith, h.long, h.few))))
         (before_last byte) (λ same. cc) takes
 
     module _ (most : i ≡ most_marked → byte < first_too_large) where
@@ -133,10 +127,7 @@ module _ (old now : Option (List ℕ)) (sum i : ℕ) (h : ReadsMarked old now su
         bytes = All-push (λ b. b < 256) h.front byte h.bytes small;
         marked = All-push IsMarked h.front byte h.marked large;
         long = omega (arith, length_push h.front byte, h.long);
-        few = elim (cases_eq i most_marked) [
-          | inl e ↦ absurd (omega (arith, most e))
-          | inr e ↦ omega (arith, h.few)
-        ];
+        few = omega (arith, lt_of_not-le (λ (all : most_marked ≤ i). omega (arith, most (omega (arith, h.few)))));
         value = with_byte_is;
       }
 

@@ -1,7 +1,7 @@
 -- What the loop that writes a varint's bytes keeps, and that each number in range has a varint.
 use Rattle.std.proofs.Common.{◌≡◌, ℕ, zero, suc, ◌+◌, ◌*◌, ◌/◌, ◌%◌, ◌^◌, ◌<◌, ◌≤◌, List, [], ◌∷◌, ◌++◌, length, refl, sym, ap, ◌∙◌, arith, add-one, inl, inr, bit_and, bit_or}
 use Rattle.std.specs.List.{All}
-use Rattle.std.proofs.Math.Nat.{pow-suc, pow-zero, div-add-mod', pow-le-pow_right, mul-le-mul_right}
+use Rattle.std.proofs.Math.Nat.{lt_of_not-le, pow-suc, pow-zero, div-add-mod', pow-le-pow_right, mul-le-mul_right}
 use Rattle.std.proofs.lemmas.Nat.{and_mask, or_comm, or_shifted, mod_below, div_below}
 use Rattle.std.proofs.lemmas.List.{map_push, length_push, nil_from_length}
 use Rattle.std.proofs.lemmas.List.Elements.{All-nil, All-push}
@@ -53,10 +53,7 @@ module _ (now : List ℕ) (len n rest : ℕ) (h : Wrote now len n rest) where
       front = h.front;
       last = rest;
       digits = All-push IsDigit h.front rest h.digits small;
-      minimal = λ z. elim (cases_lt 0 len) [
-        | inl some ↦ absurd (omega (arith, h.more some, z))
-        | inr none ↦ nil_from_length h.front (omega (arith, h.long))
-      ];
+      minimal = λ z. nil_from_length h.front (omega (arith, h.long, lt_of_not-le (λ (some : 1 ≤ len). omega (arith, h.more (omega arith), z))));
       value = rw h.long at (place_value_last 128 rest h.front) ∙ sym h.value;
       in_range = range;
       spelled = ap (λ (z : List ℕ). z ++ rest ∷ []) h.spelled;
@@ -64,13 +61,12 @@ module _ (now : List ℕ) (len n rest : ℕ) (h : Wrote now len n rest) where
 
     -- the digits that were written leave room for the rest
     pub wrote_few : len ≤ most_marked
-    wrote_few = elim (cases_lt most_marked len) [
-      | inl long ↦
-          let base : 0 < 128 = omega arith in
-          let high : 128 ^ suc most_marked ≤ 128 ^ len = pow-le-pow_right base long in
-          absurd (omega (arith, high, h.value, range, mul-le-mul_right (128 ^ len) (h.more (omega arith))))
-      | inr few ↦ few
-    ]
+    wrote_few =
+        let base : 0 < 128 = omega arith in
+        let few : len < suc most_marked = lt_of_not-le (λ long.
+        let high : 128 ^ suc most_marked ≤ 128 ^ len = pow-le-pow_right base long in
+        omega (arith, high, h.value, range, mul-le-mul_right (128 ^ len) (h.more (omega arith)))) in
+        omega arith
 
 -- a small number is its own varint
 pub one_byte : (n : ℕ) → n < 128 → IsVarint n (n ∷ [])

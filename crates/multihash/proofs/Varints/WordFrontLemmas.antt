@@ -1,9 +1,8 @@
 -- The varint or the fault at the front of an input, from the word of its first bytes.
-use Rattle.std.proofs.Common.{◌≡◌, ℕ, zero, suc, ◌+◌, ◌-◌, ◌*◌, ◌/◌, ◌%◌, ◌^◌, ◌<◌, ◌≤◌, List, [], ◌∷◌, ◌++◌, length, get_or, take, drop, refl, sym, ap, ◌∙◌, inl, inr, arith, bit_and, bit_or}
+use Rattle.std.proofs.Common.{◌≡◌, ℕ, zero, suc, ◌+◌, ◌-◌, ◌*◌, ◌/◌, ◌%◌, ◌^◌, ◌<◌, ◌≤◌, List, [], ◌∷◌, ◌++◌, length, get_or, take, drop, refl, sym, ap, ◌∙◌, arith, bit_and, bit_or}
 use Rattle.std.specs.List.{All}
-use Rattle.std.proofs.Math.Nat.{add-zero, zero-add}
+use Rattle.std.proofs.Math.Nat.{add-zero, lt_of_not-le, zero-add}
 use Rattle.std.proofs.Math.Seq.{take-add}
-use Rattle.std.proofs.lemmas.Bool.{cases_lt}
 use Rattle.std.proofs.lemmas.Nat.{and_mask}
 use Rattle.std.proofs.lemmas.Nat.Bits.{and_pow}
 use Rattle.std.proofs.lemmas.List.{get_or_past, get_or-take, get_or-drop, length-take, length-take-le, nil_from_length, take_more, take-take, take_all, take-append-drop, drop_more, drop-take}
@@ -12,7 +11,7 @@ use Rattle.multihash.specs.Bytes.{IsBytes, place_value}
 use Rattle.multihash.specs.Varint.{most_marked, first_too_large, IsMarked, IsVarint, IsInsufficient, IsOverflow, IsNotMinimal}
 use Rattle.multihash.specs.Word.{IsFrontWord, BeginsMarked, digits_low}
 use Rattle.multihash.proofs.Varints.MarkedLemmas.{low_digits, or_digits}
-use Rattle.multihash.proofs.Varints.VarintLemmas.{varint_from_bytes}
+use Rattle.multihash.proofs.Varints.VarintLemmas.{varint_from_bytes, overflow_behind, zero_behind}
 use Rattle.multihash.proofs.Varints.VarintWriteLemmas.{one_byte}
 use Rattle.multihash.proofs.Varints.WordLemmas.{byte_at, byte_of, halves, low_bytes, high_bytes, digits_low_of}
 use Rattle.multihash.proofs.Varints.StopLemmas.{stops, stop_at, varint_bits, StopsAt, first_unmarked, last_place, too_large, kept_last, few_marked, too_large_byte}
@@ -25,10 +24,7 @@ begins_more xs at zero begins more = rw (add-zero at) begins
 begins_more xs at (suc m) begins more =
     let front = begins_more xs at m begins (λ i run. more i (omega arith)) in
     let large : 128 ≤ get_or xs (at + m) 0 = more m (omega arith) in
-    let within : at + m < length xs = elim (cases_lt (at + m) (length xs)) [
-      | inl within ↦ within
-      | inr past ↦ absurd (omega (arith, large, get_or_past xs (at + m) 0 past))
-    ] in
+    let within : at + m < length xs = lt_of_not-le (λ past. omega (arith, large, get_or_past xs (at + m) 0 past)) in
     let next : at + suc m ≡ at + m + 1 = omega arith in
     rw next (record { enough = omega arith; all_marked = All-more IsMarked xs (at + m) 0 within front.all_marked large })
 
@@ -36,18 +32,10 @@ cut_at : (xs : List ℕ) (k : ℕ) → k < length xs → xs ≡ take k xs ++ get
 cut_at xs k below = sym (take-append-drop k xs) ∙ ap (λ (back : List ℕ). take k xs ++ back) (drop_more xs k 0 below)
 
 overflow_at : (xs : List ℕ) → BeginsMarked most_marked xs → first_too_large ≤ get_or xs most_marked 0 → IsOverflow xs
-overflow_at xs begins large = record {
-  front = take most_marked xs;
-  byte = get_or xs most_marked 0;
-  rest = drop (most_marked + 1) xs;
-  all_marked = begins.all_marked;
-  most = length-take-le most_marked xs begins.enough;
-  too_large = large;
-  cut = cut_at xs most_marked (elim (cases_lt most_marked (length xs)) [
-    | inl within ↦ within
-    | inr past ↦ absurd (omega (arith, get_or_past xs most_marked 0 past))
-  ]);
-}
+overflow_at xs begins large =
+    rw (cut_at xs most_marked (lt_of_not-le (λ past. omega (arith, large, get_or_past xs most_marked 0 past))))
+    (overflow_behind (take most_marked xs) (get_or xs most_marked 0) (drop (most_marked + 1) xs) begins.all_marked
+    (length-take-le most_marked xs begins.enough) large)
 
 -- so many marked bytes begin the input, and the last is not marked, which counts as zero where the input ends
 pub record EndsAt (xs : List ℕ) (k last : ℕ) : Type 0 where
@@ -72,14 +60,9 @@ module _ (xs : List ℕ) (word present k last : ℕ) (f : IsFrontWord xs word pr
     long = length-take-le k xs end.begins.enough
 
     pub ends_zero : last ≡ 0 → 0 < k → IsNotMinimal xs
-    ends_zero null some = record {
-      front = take k xs;
-      rest = drop (k + 1) xs;
-      all_marked = end.begins.all_marked;
-      some = omega (arith, long);
-      few = omega (arith, long, end.few);
-      cut = rw (sym end.last_is ∙ null) at (cut_at xs k below);
-    }
+    ends_zero null some =
+        rw (cut_at xs k below, ← end.last_is, null)
+        (zero_behind (take k xs) (drop (k + 1) xs) end.begins.all_marked (omega (arith, long)) (omega (arith, long, end.few)))
 
     pub ends_number : (last ≡ 0 → k ≡ 0) → IsVarint (place_value 128 (low_digits (take (k + 1) xs))) (take (k + 1) xs)
     ends_number minimal =
