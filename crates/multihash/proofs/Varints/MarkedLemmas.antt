@@ -54,8 +54,7 @@ pub or_digits : (front back : List ℕ) (i : ℕ) → length front ≡ i → pla
 or_digits front back i long fits =
     let low = place_value 128 (low_digits front) in
     let high = place_value 128 (low_digits back) in
-    let place : 128 ^ length (low_digits front) ≡ 2 ^ (7 * i) =
-    ap (λ (k : ℕ). 128 ^ k) (length-map front (λ b. b % 128) ∙ long) ∙ sym (pow_power 7 i) in
+    let place : 128 ^ length (low_digits front) ≡ 2 ^ (7 * i) = rw (length-map front (λ b. b % 128), long) (sym (pow_power 7 i)) in
     let whole : place_value 128 (low_digits (front ++ back)) ≡ high * 2 ^ (7 * i) + low =
     rw (map-append (λ b. b % 128) front back, place_value_append 128 (low_digits front) (low_digits back), place) (omega arith) in
     let under : low < 2 ^ (7 * i) = omega (arith, place_value_below 128 (low_digits front) (low_digits_below front), place) in

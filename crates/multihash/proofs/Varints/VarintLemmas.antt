@@ -25,12 +25,10 @@ front_within k n bytes v small =
 -- and what ends a longest one
 pub varint_length : (n : ℕ) (bytes : List ℕ) (v : IsVarint n bytes)
     → (length v.front ≤ most_marked) × (length v.front ≡ most_marked → v.last < first_too_large)
-varint_length n bytes v = (front_within most_marked n bytes v (omega (arith, v.in_range)), most)
-  where
-    most : length v.front ≡ most_marked → v.last < first_too_large
-    most e =
-        let place : 128 ^ length v.front ≡ 128 ^ most_marked = ap (λ (k : ℕ). 128 ^ k) e in
-        omega (arith, v.value, v.in_range, rw place at (place_value_last 128 v.last v.front))
+varint_length n bytes v = (
+  front_within most_marked n bytes v (omega (arith, v.in_range)),
+  λ most. omega (arith, v.value, v.in_range, rw most at (place_value_last 128 v.last v.front)),
+)
 
 no_longer : (n : ℕ) (a b : List ℕ) (v : IsVarint n a) (w : IsVarint n b) → length v.front ≤ length w.front
 no_longer n a b v w =

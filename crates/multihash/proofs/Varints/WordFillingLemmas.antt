@@ -2,7 +2,8 @@
 use Rattle.std.proofs.Common.{◌≡◌, ℕ, zero, suc, ◌+◌, ◌-◌, ◌^◌, ◌<◌, ◌≤◌, List, [], ◌∷◌, ◌++◌, length, get_or, take, drop, replicate, refl, sym, ap, ◌∙◌, arith, length-append}
 use Prim.Native.Nat.{min}
 use Rattle.std.specs.Int.{byte_worth, sum_through, from_le_bytes, w128}
-use Rattle.std.proofs.lemmas.List.{drop-replicate, length-replicate, length-take, length-take-le, take_more, take_min, take_all}
+use Rattle.std.proofs.Math.Seq.{take-suc}
+use Rattle.std.proofs.lemmas.List.{drop-replicate, length-replicate, length-take, length-take-le, take_min, take_all}
 use Rattle.std.proofs.lemmas.List.Elements.{All-from_get_or}
 use Rattle.multihash.specs.Bytes.{IsBytes, place_value}
 use Rattle.multihash.specs.Word.{IsFrontWord}
@@ -10,17 +11,11 @@ use Rattle.multihash.proofs.Varints.DigitLemmas.{place_value-nil, place_value-co
 
 -- ---- filling a word
 
-sum_of_bytes : (bs : List ℕ) (n : ℕ) → n < length bs → sum_through (λ i. byte_worth i (get_or bs i 0)) n ≡ place_value 256 (take (n + 1) bs)
-sum_of_bytes bs zero within =
-    rw (take_more bs 0 0 within, place_value_last 256 (get_or bs 0 0) [], place_value-nil 256) (omega arith)
+sum_of_bytes : (bs : List ℕ) (n : ℕ) → n < length bs → sum_through (λ i. byte_worth i (get_or bs i 0)) n ≡ place_value 256 (take (suc n) bs)
+sum_of_bytes bs zero within = rw (take-suc bs 0 0 within, place_value-cons 256 (get_or bs 0 0) [], place_value-nil 256) (omega arith)
 sum_of_bytes bs (suc n) within =
     let long : length (take (suc n) bs) ≡ suc n = length-take-le (suc n) bs (omega arith) in
-    let place : 256 ^ length (take (suc n) bs) ≡ 256 ^ suc n = ap (λ (k : ℕ). 256 ^ k) long in
-    let next : n + 1 ≡ suc n = omega arith in
-    let step : take (n + 1) bs ≡ take (suc n) bs = ap (λ (k : ℕ). take k bs) next in
-    let front : place_value 256 (take (n + 1) bs) ≡ place_value 256 (take (suc n) bs) = ap (place_value 256) step in
-    rw (take_more bs (suc n) 0 within, place_value_last 256 (get_or bs (suc n) 0) (take (suc n) bs), place)
-    (omega (arith, sum_of_bytes bs n (omega arith), front))
+    rw (sum_of_bytes bs n (omega arith), take-suc bs (suc n) 0 within, place_value_last 256 (get_or bs (suc n) 0) (take (suc n) bs), long) refl
 
 pub le_word : (bs : List ℕ) → length bs ≡ 16 → from_le_bytes w128 bs ≡ place_value 256 bs
 le_word bs long = sum_of_bytes bs 15 (omega arith) ∙ ap (place_value 256) (take_all 16 bs (omega arith))
@@ -36,7 +31,8 @@ padded_word xs ys same few =
     let back = replicate (16 - length xs) 0 in
     let long : length (ys ++ back) ≡ 16 =
     omega (arith, length-append ys back, length-replicate {A = ℕ} (16 - length xs) 0, ap length same) in
-    rw (drop-replicate {X = ℕ} (length xs) 16 0, le_word (ys ++ back) long, place_value_append 256 ys back, zeros (16 - length xs), same) (omega arith)
+    rw (drop-replicate {X = ℕ} (length xs) 16 0, le_word (ys ++ back) long, place_value_append 256 ys back, zeros (16 - length xs), same)
+    (omega arith)
 
 -- ---- a slice
 
