@@ -4,7 +4,6 @@ pub mod MarkedLemmas
 pub mod StopLemmas
 pub mod VarintLemmas
 pub mod VarintReadLemmas
-pub mod VarintTakingLemmas
 pub mod VarintWriteLemmas
 pub mod WordFillingLemmas
 pub mod WordFrontLemmas

@@ -1,28 +1,22 @@
 -- Numbers written in digits: bounds, and one number for one list of digits.
-use Rattle.std.proofs.Common.{◌≡◌, ℕ, suc, ◌+◌, ◌*◌, ◌^◌, ◌<◌, List, [], ◌∷◌, ◌++◌, length, refl, ◌∙◌, arith, add-one}
+use Rattle.std.proofs.Common.{◌≡◌, ℕ, zero, suc, ◌+◌, ◌*◌, ◌^◌, ◌<◌, List, [], ◌∷◌, ◌++◌, length, refl, ◌∙◌, arith, add-one}
 use Rattle.std.specs.List.{sum_by, enumerate_from, All}
-use Rattle.std.proofs.Math.Nat.{pow-suc, pow-zero, mul_assoc, mul-le-mul_left}
+use Rattle.std.proofs.Math.Nat.{pow-suc, pow-zero, mul_assoc, mul-suc, mul-zero, mul-le-mul_left}
 use Rattle.std.proofs.lemmas.List.Sums.{sum_by-cons}
 use Rattle.std.proofs.lemmas.List.Elements.{All-head, All-tail}
-use Rattle.std.proofs.lemmas.Nat.{same_from_place}
+use Rattle.std.proofs.lemmas.Nat.{same_from_place, pow-add}
 use Rattle.multihash.specs.Bytes.{place_value}
 
 -- the value of digits of which the first has the place k
-value_from : ℕ → ℕ → List ℕ → ℕ
+abbrev value_from : ℕ → ℕ → List ℕ → ℕ
 value_from base k digits = sum_by (λ (place : ℕ × ℕ). place.1 * base ^ place.0) (enumerate_from k digits)
 
-value_from-nil : (base k : ℕ) → value_from base k [] ≡ 0
-unfolding value_from
-value_from-nil base k = refl
-
-value_from-cons : (base k d : ℕ) (ds : List ℕ)
-    → value_from base k (d ∷ ds) ≡ d * base ^ k + value_from base (suc k) ds
-unfolding value_from
+value_from-cons : (base k d : ℕ) (ds : List ℕ) → value_from base k (d ∷ ds) ≡ d * base ^ k + value_from base (suc k) ds
 value_from-cons base k d ds =
     rw (← add-one k) (sum_by-cons (λ (place : ℕ × ℕ). place.1 * base ^ place.0) (k, d) (enumerate_from (k + 1) ds))
 
 value_from_next : (base k : ℕ) (ds : List ℕ) → value_from base (suc k) ds ≡ base * value_from base k ds
-value_from_next base k [] = rw (value_from-nil base (suc k), value_from-nil base k) (omega arith)
+value_from_next base k [] = omega arith
 value_from_next base k (d ∷ ds) =
     rw (value_from-cons base (suc k) d ds, value_from-cons base k d ds, value_from_next base (suc k) ds, pow-suc base k)
     (omega (arith, mul_assoc d (base ^ k) base))
@@ -32,9 +26,8 @@ unfolding place_value
 place_value-nil base = refl
 
 pub place_value-cons : (base d : ℕ) (ds : List ℕ) → place_value base (d ∷ ds) ≡ d + base * place_value base ds
-unfolding place_value value_from
-place_value-cons base d ds =
-    value_from-cons base 0 d ds ∙ rw (pow-zero base, value_from_next base 0 ds) (omega arith)
+unfolding place_value
+place_value-cons base d ds = value_from-cons base 0 d ds ∙ rw (pow-zero base, value_from_next base 0 ds) (omega arith)
 
 -- below the power of the base with as many places
 pub place_value_below : (base : ℕ) (ds : List ℕ) → All (λ d. d < base) ds → place_value base ds < base ^ length ds
@@ -45,13 +38,23 @@ place_value_below base (d ∷ ds) h =
     rw (place_value-cons base d ds, pow-suc base (length ds))
     (omega (arith, mul-le-mul_left base ih))
 
--- at least the last digit at its place
+-- of two lists behind one another
+pub place_value_append : (base : ℕ) (xs ys : List ℕ)
+    → place_value base (xs ++ ys) ≡ place_value base xs + place_value base ys * base ^ length xs
+place_value_append base [] ys = rw (place_value-nil base, pow-zero base) (omega arith)
+place_value_append base (x ∷ xs) ys =
+    rw (place_value-cons base x (xs ++ ys), place_value-cons base x xs, place_value_append base xs ys, pow-suc base (length xs))
+    (omega (arith, mul_assoc (place_value base ys) (base ^ length xs) base))
+
 pub place_value_last : (base last : ℕ) (front : List ℕ)
     → place_value base (front ++ last ∷ []) ≡ place_value base front + last * base ^ length front
-place_value_last base last [] = rw (place_value-cons base last [], place_value-nil base, pow-zero base) (omega arith)
-place_value_last base last (d ∷ ds) =
-    rw (place_value-cons base d (ds ++ last ∷ []), place_value-cons base d ds, place_value_last base last ds, pow-suc base (length ds))
-    (omega (arith, mul_assoc last (base ^ length ds) base))
+place_value_last base last front =
+    rw (place_value_append base front (last ∷ []), place_value-cons base last [], place_value-nil base) (omega arith)
+
+-- powers of a power of two
+pub pow_power : (k i : ℕ) → 2 ^ (k * i) ≡ (2 ^ k) ^ i
+pow_power k zero = rw (mul-zero k, pow-zero (2 ^ k)) refl
+pow_power k (suc i) = rw (mul-suc k i, pow-add 2 (k * i) k, pow_power k i, pow-suc (2 ^ k) i) refl
 
 -- a number has one list of so many digits
 pub place_value_unique : (base : ℕ) (ds es : List ℕ) → All (λ d. d < base) ds → All (λ d. d < base) es

@@ -1,12 +1,10 @@
 -- How long varints and encodings are.
-use Rattle.std.proofs.Common.{◌≡◌, ℕ, suc, ◌+◌, ◌^◌, ◌<◌, ◌≤◌, List, [], ◌∷◌, ◌++◌, length, ap, arith, inl, inr, length-append}
-use Rattle.std.proofs.Math.Nat.{pow-le-pow_right}
-use Rattle.std.proofs.lemmas.Bool.{cases_lt}
+use Rattle.std.proofs.Common.{◌≡◌, ℕ, ◌+◌, ◌≤◌, List, [], ◌∷◌, ◌++◌, length, ap, arith, length-append}
 use Rattle.std.proofs.lemmas.List.{length-map}
 use Rattle.multihash.specs.Pair.{Pair}
 use Rattle.multihash.specs.Varint.{most_marked, marked, IsVarint}
 use Rattle.multihash.specs.Encoding.{IsEncoding}
-use Rattle.multihash.proofs.Varints.VarintLemmas.{varint_length, last_counts, last_pos}
+use Rattle.multihash.proofs.Varints.VarintLemmas.{front_within, varint_length}
 
 -- a varint has a byte more than its front
 pub varint_bytes : (n : ℕ) (bytes : List ℕ) (v : IsVarint n bytes) → length bytes ≡ length v.front + 1
@@ -15,18 +13,6 @@ varint_bytes n bytes v =
 
 pub varint_longest : (n : ℕ) (bytes : List ℕ) → IsVarint n bytes → length bytes ≤ most_marked + 1
 varint_longest n bytes v = omega (arith, varint_bytes n bytes v, (varint_length n bytes v).0)
-
--- a number of at most so many digits
-pub varint_below : (k n : ℕ) (bytes : List ℕ) → IsVarint n bytes → n < 128 ^ suc k → length bytes ≤ suc k
-varint_below k n bytes v small =
-    elim (cases_lt k (length v.front)) [
-      | inl long ↦
-          let some : 0 < length v.front = omega arith in
-          let base : 0 < 128 = omega arith in
-          let high : 128 ^ suc k ≤ 128 ^ length v.front = pow-le-pow_right base long in
-          absurd (omega (arith, high, v.value, last_counts v.front v.last (last_pos v.front v.last v.minimal some)))
-      | inr short ↦ omega (arith, varint_bytes n bytes v)
-    ]
 
 pub encoding_bytes_count : (p : Pair) (bytes : List ℕ) (e : IsEncoding p bytes)
     → length bytes ≡ length e.code + length e.size + length p.digest
@@ -41,5 +27,6 @@ encoding_length p bytes e fits =
       arith,
       encoding_bytes_count p bytes e,
       varint_longest p.code e.code e.is_code,
-      varint_below 1 (length p.digest) e.size e.is_size (omega arith),
+      varint_bytes (length p.digest) e.size e.is_size,
+      front_within 1 (length p.digest) e.size e.is_size (omega arith),
     )

@@ -1,120 +1,89 @@
 -- One varint a number, and one front an input.
-use Rattle.std.proofs.Common.{◌≡◌, ℕ, zero, suc, ◌+◌, ◌-◌, cond, ltb, ◌^◌, ◌<◌, ◌≤◌, List, [], ◌∷◌, ◌++◌, length, refl, sym, ap, ◌∙◌, subst, arith, inl, inr, length-append, append_assoc, append-nil}
+use Rattle.std.proofs.Common.{◌≡◌, ℕ, zero, suc, ◌+◌, ◌-◌, ◌*◌, ◌%◌, cond, ltb, ◌^◌, ◌<◌, ◌≤◌, List, [], ◌∷◌, ◌++◌, length, refl, sym, ap, ◌∙◌, arith, inl, inr, append_assoc, append-nil}
 use Rattle.std.specs.List.{All}
-use Rattle.std.proofs.Math.Nat.{pow-suc, mul-le-mul_left, one-le-pow, pow-le-pow_right}
-use Rattle.std.proofs.lemmas.Nat.{same_from_place}
+use Rattle.std.proofs.Math.Nat.{lt_of_not-le, mod-eq_of_lt, mul-le-mul_right, pow-le-pow_right}
 use Rattle.std.proofs.lemmas.Bool.{cases_lt, lt-ltb, le-ltb}
-use Rattle.std.proofs.lemmas.List.{length-map, map-append}
+use Rattle.std.proofs.lemmas.List.{length-map, length_push, map_push, same_from_push}
 use Rattle.std.proofs.lemmas.List.Elements.{All-nil, All-head, All-tail, All-push}
 use Rattle.multihash.specs.Bytes.{IsBytes, place_value}
-use Rattle.multihash.specs.Varint.{varint_limit, most_marked, first_too_large, IsMarked, marked, IsVarint, VarintFault, insufficient, overflow, not_minimal, HasFaultyFront}
-use Rattle.multihash.proofs.Varints.DigitLemmas.{place_value-nil, place_value-cons, place_value_below, place_value_last}
-use Rattle.multihash.proofs.Varints.MarkedLemmas.{All-append_right, All-marked, unmarked, marked-unmarked, unmarked-marked, unmarked_digits, unmarked-nil, unmarked-cons, length-unmarked}
+use Rattle.multihash.specs.Varint.{varint_limit, most_marked, first_too_large, IsMarked, marked, IsVarint, IsOverflow, IsNotMinimal, VarintFault, insufficient, overflow, not_minimal, HasFaultyFront}
+use Rattle.multihash.proofs.Varints.DigitLemmas.{place_value_below, place_value_last, place_value_unique}
+use Rattle.multihash.proofs.Varints.MarkedLemmas.{All-append_left, All-append_right, All-marked, IsDigit, low_digits, low_digits_below, marked-low_digits, low_digits-marked}
 
-abbrev IsDigit : ℕ → Type 0
-IsDigit d = d < 128
+-- ---- how long a varint is
 
--- a last digit that isn't zero has at least its place's value
-pub last_counts : (front : List ℕ) (last : ℕ) → 0 < last → 128 ^ length front ≤ place_value 128 (front ++ last ∷ [])
-last_counts front last pos =
-    rw (place_value_last 128 last front) (omega (arith, mul-le-mul_left (128 ^ length front) pos))
+-- a number of so few digits has no longer varint, since a last digit of zero stands alone
+pub front_within : (k n : ℕ) (bytes : List ℕ) (v : IsVarint n bytes) → n < 128 ^ suc k → length v.front ≤ k
+front_within k n bytes v small =
+    let base : 0 < 128 = omega arith in
+    let few : length v.front < suc k = lt_of_not-le (λ long.
+    let high : 128 ^ suc k ≤ 128 ^ length v.front = pow-le-pow_right base long in
+    let last : 0 < v.last = lt_of_not-le (λ none. omega (arith, ap length (v.minimal (omega arith)))) in
+    omega (arith, high, v.value, place_value_last 128 v.last v.front, mul-le-mul_right (128 ^ length v.front) last)) in
+    omega arith
 
--- a last digit of zero stands alone
-pub last_pos : (front : List ℕ) (last : ℕ) → (last ≡ 0 → front ≡ []) → 0 < length front → 0 < last
-last_pos front last minimal some =
-    elim (cases_lt 0 last) [
-      | inl pos ↦ pos
-      | inr none ↦ absurd (omega (arith, ap length (minimal (omega arith))))
-    ]
-
--- how long a varint is, and what ends a longest one
+-- and what ends a longest one
 pub varint_length : (n : ℕ) (bytes : List ℕ) (v : IsVarint n bytes)
     → (length v.front ≤ most_marked) × (length v.front ≡ most_marked → v.last < first_too_large)
-varint_length n bytes v = (few, most)
-  where
-    few : length v.front ≤ most_marked
-    few = elim (cases_lt most_marked (length v.front)) [
-      | inl long ↦
-          let some : 0 < length v.front = omega arith in
-          let base : 0 < 128 = omega arith in
-          let high : 128 ^ suc most_marked ≤ 128 ^ length v.front = pow-le-pow_right base long in
-          absurd (omega (arith, high, v.value, v.in_range, last_counts v.front v.last (last_pos v.front v.last v.minimal some)))
-      | inr short ↦ short
-    ]
+varint_length n bytes v = (
+  front_within most_marked n bytes v (omega (arith, v.in_range)),
+  λ most. omega (arith, v.value, v.in_range, rw most at (place_value_last 128 v.last v.front)),
+)
 
-    most : length v.front ≡ most_marked → v.last < first_too_large
-    most e = elim (cases_lt v.last first_too_large) [
-      | inl small ↦ small
-      | inr large ↦
-          let place : 128 ^ length v.front ≡ 128 ^ most_marked = ap (λ (k : ℕ). 128 ^ k) e in
-          absurd (omega (arith, place, v.value, v.in_range, place_value_last 128 v.last v.front, mul-le-mul_left (128 ^ length v.front) large))
-    ]
-
--- digits whose number is in range
-pub in_range : (front : List ℕ) (last : ℕ) → All IsDigit front → last < 128 → length front ≤ most_marked
-    → (length front ≡ most_marked → last < first_too_large) → place_value 128 (front ++ last ∷ []) < varint_limit
-in_range front last digits small few most =
-    elim (cases_lt (length front) most_marked) [
-      | inl short ↦
-          let base : 0 < 128 = omega arith in
-          let high : 128 ^ suc (length front) ≤ 128 ^ most_marked = pow-le-pow_right base short in
-          omega (
-            arith,
-            place_value_last 128 last front,
-            place_value_below 128 front digits,
-            high,
-            pow-suc 128 (length front),
-            mul-le-mul_left (128 ^ length front) small,
-          )
-      | inr long ↦
-          let e : length front ≡ most_marked = omega arith in
-          let place : 128 ^ length front ≡ 128 ^ most_marked = ap (λ (k : ℕ). 128 ^ k) e in
-          omega (
-            arith,
-            place_value_last 128 last front,
-            place_value_below 128 front digits,
-            place,
-            mul-le-mul_left (128 ^ length front) (most e),
-          )
-    ]
-
--- one digit is too little for two or more
-longer_differs : (d : ℕ) (g : List ℕ) (l m : ℕ) → l < 128 → (m ≡ 0 → d ∷ g ≡ [])
-    → place_value 128 (l ∷ []) ≡ place_value 128 (d ∷ (g ++ m ∷ [])) → ⊥
-longer_differs d g l m small minimal e =
-    omega (
-      arith,
-      e,
-      place_value-cons 128 l [],
-      place_value-nil 128,
-      place_value-cons 128 d (g ++ m ∷ []),
-      last_counts g m (last_pos (d ∷ g) m minimal (omega arith)),
-      one-le-pow (length g) 128 (omega arith),
-    )
-
--- a number has one list of digits that ends as it should
-digits_unique : (f g : List ℕ) (l m : ℕ) → All IsDigit (f ++ l ∷ []) → All IsDigit (g ++ m ∷ [])
-    → (l ≡ 0 → f ≡ []) → (m ≡ 0 → g ≡ []) → place_value 128 (f ++ l ∷ []) ≡ place_value 128 (g ++ m ∷ [])
-    → (f ≡ g) × (l ≡ m)
-digits_unique [] [] l m df dg mf mg e =
-    (refl, omega (arith, e, place_value-cons 128 l [], place_value-cons 128 m [], place_value-nil 128))
-digits_unique [] (d ∷ g) l m df dg mf mg e = absurd (longer_differs d g l m (All-head IsDigit l [] df) mg e)
-digits_unique (d ∷ f) [] l m df dg mf mg e = absurd (longer_differs d f m l (All-head IsDigit m [] dg) mf (sym e))
-digits_unique (c ∷ f) (d ∷ g) l m df dg mf mg e =
-    let fs = f ++ l ∷ [] in
-    let gs = g ++ m ∷ [] in
-    let heads = same_from_place (place_value 128 fs) c (place_value 128 gs) d 128 (All-head IsDigit c fs df) (All-head IsDigit d gs dg)
-    (omega (arith, e, place_value-cons 128 c fs, place_value-cons 128 d gs)) in
-    let l_pos : 0 < l = last_pos (c ∷ f) l mf (omega arith) in
-    let m_pos : 0 < m = last_pos (d ∷ g) m mg (omega arith) in
-    let tails = digits_unique f g l m (All-tail IsDigit c fs df) (All-tail IsDigit d gs dg)
-    (λ z. absurd (omega arith)) (λ z. absurd (omega arith)) heads.0 in
-    (cc (heads.1, tails.0), tails.1)
+no_longer : (n : ℕ) (a b : List ℕ) (v : IsVarint n a) (w : IsVarint n b) → length v.front ≤ length w.front
+no_longer n a b v w =
+    let long : length (w.front ++ w.last ∷ []) ≡ suc (length w.front) = omega (arith, length_push w.front w.last) in
+    front_within (length w.front) n a v (rw (w.value, long) at (place_value_below 128 (w.front ++ w.last ∷ []) w.digits))
 
 pub varint_unique : (n : ℕ) (a b : List ℕ) → IsVarint n a → IsVarint n b → a ≡ b
 varint_unique n a b v w =
-    let same = digits_unique v.front w.front v.last w.last v.digits w.digits v.minimal w.minimal (v.value ∙ sym w.value) in
+    let long : length (v.front ++ v.last ∷ []) ≡ length (w.front ++ w.last ∷ []) =
+    omega (arith, length_push v.front v.last, length_push w.front w.last, no_longer n a b v w, no_longer n b a w v) in
+    let digits = place_value_unique 128 (v.front ++ v.last ∷ []) (w.front ++ w.last ∷ []) v.digits w.digits long (v.value ∙ sym w.value) in
+    let same = same_from_push v.front w.front v.last w.last digits in
     cc (v.spelled, w.spelled, same.0, same.1)
+
+-- ---- what bytes spell
+
+-- the digits of few enough bytes make a number in range
+pub low_digits_in_range : (ms : List ℕ) (b : ℕ) → length ms ≤ most_marked → (length ms ≡ most_marked → b < first_too_large)
+    → place_value 128 (low_digits (ms ++ b ∷ [])) < varint_limit
+low_digits_in_range ms b few most =
+    elim (cases_lt (length ms) most_marked) [
+      | inl short ↦
+          let whole = low_digits (ms ++ b ∷ []) in
+          let base : 0 < 128 = omega arith in
+          let long : length whole ≤ most_marked = omega (arith, length-map (ms ++ b ∷ []) (λ b. b % 128), length_push ms b) in
+          let high : 128 ^ length whole ≤ 128 ^ most_marked = pow-le-pow_right base long in
+          omega (arith, place_value_below 128 whole (low_digits_below (ms ++ b ∷ [])), high)
+      | inr full ↦
+          let long : length (low_digits ms) ≡ most_marked = length-map ms (λ b. b % 128) ∙ omega (arith, few) in
+          rw (map_push (λ b. b % 128) ms b, place_value_last 128 (b % 128) (low_digits ms), long)
+          (omega (arith, rw long at (place_value_below 128 (low_digits ms) (low_digits_below ms)), most (omega (arith, few))))
+    ]
+
+-- marked bytes that are few enough, and a last byte that may end them, are a varint
+pub varint_from_bytes : (ms : List ℕ) (b : ℕ) → IsBytes ms → All IsMarked ms → b < 128 → length ms ≤ most_marked
+    → (length ms ≡ most_marked → b < first_too_large) → (b ≡ 0 → ms ≡ [])
+    → IsVarint (place_value 128 (low_digits (ms ++ b ∷ []))) (ms ++ b ∷ [])
+varint_from_bytes ms b bytes all small few most minimal = record {
+  front = low_digits ms;
+  last = b;
+  digits = All-push IsDigit (low_digits ms) b (low_digits_below ms) small;
+  minimal = λ z. ap low_digits (minimal z);
+  value = ap (place_value 128) (sym (map_push (λ b. b % 128) ms b ∙ ap (λ d. low_digits ms ++ d ∷ []) (mod-eq_of_lt small)));
+  in_range = low_digits_in_range ms b few most;
+  spelled = ap (λ front. front ++ b ∷ []) (sym (marked-low_digits ms bytes all));
+}
+
+-- marked bytes and what ends them as none should
+pub overflow_behind : (ms : List ℕ) (b : ℕ) (rest : List ℕ) → All IsMarked ms → length ms ≡ most_marked → first_too_large ≤ b
+    → IsOverflow (ms ++ b ∷ rest)
+overflow_behind ms b rest all most large =
+    record { front = ms; byte = b; rest = rest; all_marked = all; most = most; too_large = large; cut = refl }
+
+pub zero_behind : (ms rest : List ℕ) → All IsMarked ms → 0 < length ms → length ms ≤ most_marked → IsNotMinimal (ms ++ 0 ∷ rest)
+zero_behind ms rest all some few = record { front = ms; rest = rest; all_marked = all; some = some; few = few; cut = refl }
 
 -- ---- the front of an input
 
@@ -127,99 +96,73 @@ abbrev pub HasFront : List ℕ → Front → Type 0
 HasFront x (number n rest) = (bytes : List ℕ) × IsVarint n bytes × (x ≡ bytes ++ rest)
 HasFront x (fault f) = HasFaultyFront f x
 
--- the input up to the byte that ends the marked ones
-spelled_front : (n : ℕ) (x rest bytes : List ℕ) (v : IsVarint n bytes) → x ≡ bytes ++ rest
-    → x ≡ marked v.front ++ v.last ∷ rest
-spelled_front n x rest bytes v e = e ∙ (ap (λ (b : List ℕ). b ++ rest) v.spelled ∙ append_assoc (marked v.front) (v.last ∷ []) rest)
+-- ---- computed
 
-last_digit : (n : ℕ) (bytes : List ℕ) (v : IsVarint n bytes) → v.last < 128
-last_digit n bytes v = All-head IsDigit v.last [] (All-append_right IsDigit v.front (v.last ∷ []) v.digits)
-
--- digits that may end where they do are a varint
-pub varint_from_digits : (front : List ℕ) (last : ℕ) → All IsDigit front → last < 128 → length front ≤ most_marked
-    → (length front ≡ most_marked → last < first_too_large) → (last ≡ 0 → front ≡ [])
-    → IsVarint (place_value 128 (front ++ last ∷ [])) (marked front ++ last ∷ [])
-varint_from_digits front last digits small few most minimal = record {
-  front = front;
-  last = last;
-  digits = All-push IsDigit front last digits small;
-  minimal = minimal;
-  value = refl;
-  in_range = in_range front last digits small few most;
-  spelled = refl;
-}
-
--- marked bytes that are few enough, and a last byte that may end them, are a varint
-pub varint_from_bytes : (ms : List ℕ) (b : ℕ) → IsBytes ms → All IsMarked ms → b < 128 → length ms ≤ most_marked
-    → (length ms ≡ most_marked → b < first_too_large) → (b ≡ 0 → ms ≡ [])
-    → IsVarint (place_value 128 (unmarked ms ++ b ∷ [])) (ms ++ b ∷ [])
-varint_from_bytes ms b bytes all small few most minimal =
-    subst (λ (front : List ℕ). IsVarint (place_value 128 (unmarked ms ++ b ∷ [])) (front ++ b ∷ [])) (marked-unmarked ms all)
-    (varint_from_digits (unmarked ms) b (unmarked_digits ms bytes) small (omega (arith, few, length-unmarked ms))
-    (λ long. most (sym (length-unmarked ms) ∙ long)) (λ z. ap unmarked (minimal z) ∙ unmarked-nil))
-
--- ---- the front of an input, computed
-
--- behind these digits, the last byte and what follows it
+-- behind these marked bytes, the last byte and what follows it
 abbrev ends_with : List ℕ → ℕ → List ℕ → Front
-ends_with [] b rest = number (place_value 128 (b ∷ [])) rest
-ends_with (d ∷ ds) zero rest = fault not_minimal
-ends_with (d ∷ ds) (suc b) rest = number (place_value 128 ((d ∷ ds) ++ suc b ∷ [])) rest
+ends_with [] b rest = number (place_value 128 (low_digits (b ∷ []))) rest
+ends_with (m ∷ ms) zero rest = fault not_minimal
+ends_with (m ∷ ms) (suc b) rest = number (place_value 128 (low_digits ((m ∷ ms) ++ suc b ∷ []))) rest
 
--- behind these digits, where so many more marked bytes may come
+-- behind these marked bytes, where so many more may come
 abbrev front_from : ℕ → List ℕ → List ℕ → Front
-front_from left ds [] = fault insufficient
-front_from zero ds (b ∷ rest) = cond (ltb b first_too_large) (ends_with ds b rest) (fault overflow)
-front_from (suc left) ds (b ∷ rest) = cond (ltb b 128) (ends_with ds b rest) (front_from left (ds ++ (b - 128) ∷ []) rest)
+front_from left ms [] = fault insufficient
+front_from zero ms (b ∷ rest) = cond (ltb b first_too_large) (ends_with ms b rest) (fault overflow)
+front_from (suc left) ms (b ∷ rest) = cond (ltb b 128) (ends_with ms b rest) (front_from left (ms ++ b ∷ []) rest)
 
 abbrev pub front_of : List ℕ → Front
 front_of x = front_from most_marked [] x
 
--- marked bytes are digits in front of what follows them
-front_run : (ms : List ℕ) (n left : ℕ) (ds y : List ℕ) → All IsMarked ms → n ≡ length ms + left
-    → front_from n ds (ms ++ y) ≡ front_from left (ds ++ unmarked ms) y
-front_run [] n left ds y all room = let same : n ≡ left = omega (arith, room) in rw (same, unmarked-nil, append-nil ds) refl
-front_run (m ∷ ms) zero left ds y all room = absurd (omega (arith, room))
-front_run (m ∷ ms) (suc n) left ds y all room =
+-- marked bytes stand in front of what follows them
+front_run : (ms : List ℕ) (n left : ℕ) (before y : List ℕ) → All IsMarked ms → n ≡ length ms + left
+    → front_from n before (ms ++ y) ≡ front_from left (before ++ ms) y
+front_run [] n left before y all room = let same : n ≡ left = omega (arith, room) in rw (same, append-nil before) refl
+front_run (m ∷ ms) zero left before y all room = absurd (omega (arith, room))
+front_run (m ∷ ms) (suc n) left before y all room =
     rw (le-ltb m 128 (All-head IsMarked m ms all))
-    (front_run ms n left (ds ++ (m - 128) ∷ []) y (All-tail IsMarked m ms all) (omega (arith, room))
-    ∙ ap (λ z. front_from left z y) (append_assoc ds ((m - 128) ∷ []) (unmarked ms) ∙ ap (λ z. ds ++ z) (sym (unmarked-cons m ms))))
+    (front_run ms n left (before ++ m ∷ []) y (All-tail IsMarked m ms all) (omega (arith, room))
+    ∙ ap (λ z. front_from left z y) (append_assoc before (m ∷ []) ms))
 
-front_behind : (ms y x : List ℕ) → All IsMarked ms → length ms ≤ most_marked → x ≡ ms ++ y
-    → front_of x ≡ front_from (most_marked - length ms) (unmarked ms) y
-front_behind ms y x all few cut = ap front_of cut ∙ front_run ms most_marked (most_marked - length ms) [] y all (omega (arith, few))
+front_ends : (ms : List ℕ) (b : ℕ) (rest x : List ℕ) → All IsMarked ms → length ms ≤ most_marked → b < 128
+    → (length ms ≡ most_marked → b < first_too_large) → x ≡ ms ++ b ∷ rest → front_of x ≡ ends_with ms b rest
+front_ends ms b rest x all few small most cut =
+    ap front_of cut ∙ front_run ms most_marked (most_marked - length ms) [] (b ∷ rest) all (omega (arith, few))
+    ∙ last (most_marked - length ms) (λ none. most (omega (arith, none, few)))
+  where
+    last : (left : ℕ) → (left ≡ 0 → b < first_too_large) → front_from left ms (b ∷ rest) ≡ ends_with ms b rest
+    last zero low = rw (lt-ltb b first_too_large (low refl)) refl
+    last (suc left) low = rw (lt-ltb b 128 small) refl
 
-front_last : (left : ℕ) (ds : List ℕ) (b : ℕ) (rest : List ℕ) → b < 128 → (left ≡ 0 → b < first_too_large)
-    → front_from left ds (b ∷ rest) ≡ ends_with ds b rest
-front_last zero ds b rest small most = rw (lt-ltb b first_too_large (most refl)) refl
-front_last (suc left) ds b rest small most = rw (lt-ltb b 128 small) refl
-
-ends_number : (ds : List ℕ) (b : ℕ) (rest : List ℕ) → (b ≡ 0 → ds ≡ []) → ends_with ds b rest ≡ number (place_value 128 (ds ++ b ∷ [])) rest
+ends_number : (ms : List ℕ) (b : ℕ) (rest : List ℕ) → (b ≡ 0 → ms ≡ [])
+    → ends_with ms b rest ≡ number (place_value 128 (low_digits (ms ++ b ∷ []))) rest
 ends_number [] b rest minimal = refl
-ends_number (d ∷ ds) zero rest minimal = let none = minimal refl in cc
-ends_number (d ∷ ds) (suc b) rest minimal = refl
+ends_number (m ∷ ms) zero rest minimal = let none = minimal refl in cc
+ends_number (m ∷ ms) (suc b) rest minimal = refl
 
-ends_zero : (ds rest : List ℕ) → 0 < length ds → ends_with ds 0 rest ≡ fault not_minimal
+ends_zero : (ms rest : List ℕ) → 0 < length ms → ends_with ms 0 rest ≡ fault not_minimal
 ends_zero [] rest some = absurd (omega arith)
-ends_zero (d ∷ ds) rest some = refl
+ends_zero (m ∷ ms) rest some = refl
 
 -- an input has no front but the one that is computed
 pub front_is : (x : List ℕ) (f : Front) → HasFront x f → f ≡ front_of x
 front_is x (number n rest) (bytes, v, cut) =
     let few = varint_length n bytes v in
-    let long : length (marked v.front) ≡ length v.front = length-map v.front (λ d. d + 128) in
-    sym (rw (unmarked-marked v.front) at
-    (front_behind (marked v.front) (v.last ∷ rest) x (All-marked v.front) (omega (arith, few.0, long)) (spelled_front n x rest bytes v cut))
-    ∙ (front_last (most_marked - length (marked v.front)) v.front v.last rest (last_digit n bytes v) (λ none. few.1 (omega (arith, none, few.0, long)))
-    ∙ (ends_number v.front v.last rest v.minimal ∙ ap (λ m. number m rest) v.value)))
-front_is x (fault insufficient) h = sym (front_behind x [] x h.all_marked h.few (sym (append-nil x)))
+    let ms = marked v.front in
+    let long : length ms ≡ length v.front = length-map v.front (λ d. d + 128) in
+    let whole : x ≡ ms ++ v.last ∷ rest = cut ∙ ap (λ b. b ++ rest) v.spelled ∙ append_assoc ms (v.last ∷ []) rest in
+    let last : v.last < 128 = All-head IsDigit v.last [] (All-append_right IsDigit v.front (v.last ∷ []) v.digits) in
+    let front = All-append_left IsDigit v.front (v.last ∷ []) v.digits in
+    let value : place_value 128 (low_digits (ms ++ v.last ∷ [])) ≡ n =
+    rw (map_push (λ b. b % 128) ms v.last, low_digits-marked v.front front, mod-eq_of_lt last) v.value in
+    sym (front_ends ms v.last rest x (All-marked v.front) (omega (arith, few.0, long)) last (λ most. few.1 (sym long ∙ most)) whole
+    ∙ ends_number ms v.last rest (λ z. ap marked (v.minimal z)) ∙ ap (λ m. number m rest) value)
+front_is x (fault insufficient) h =
+    sym (ap front_of (sym (append-nil x)) ∙ front_run x most_marked (most_marked - length x) [] [] h.all_marked (omega (arith, h.few)))
 front_is x (fault overflow) h =
-    sym (ap front_of h.cut ∙ (front_run h.front most_marked 0 [] (h.byte ∷ h.rest) h.all_marked (omega (arith, h.most))
-    ∙ rw (le-ltb h.byte first_too_large h.too_large) refl))
+    sym (ap front_of h.cut ∙ front_run h.front most_marked 0 [] (h.byte ∷ h.rest) h.all_marked (omega (arith, h.most))
+    ∙ rw (le-ltb h.byte first_too_large h.too_large) refl)
 front_is x (fault not_minimal) h =
-    sym (front_behind h.front (0 ∷ h.rest) x h.all_marked h.few h.cut
-    ∙ (front_last (most_marked - length h.front) (unmarked h.front) 0 h.rest (omega arith) (λ _. omega arith)
-    ∙ ends_zero (unmarked h.front) h.rest (omega (arith, length-unmarked h.front, h.some))))
+    sym (front_ends h.front 0 h.rest x h.all_marked h.few (omega arith) (λ _. omega arith) h.cut ∙ ends_zero h.front h.rest h.some)
 
 pub front_unique : (x : List ℕ) (a b : Front) → HasFront x a → HasFront x b → a ≡ b
 front_unique x a b h k = front_is x a h ∙ sym (front_is x b k)
@@ -228,36 +171,33 @@ pub number_no_fault : (x : List ℕ) (n : ℕ) (r : List ℕ) (f : VarintFault) 
 number_no_fault x n r f h k = let same : number n r ≡ fault f = front_unique x (number n r) (fault f) h k in cc
 
 -- and an input of bytes has that one
-ends_has : (ds : List ℕ) (b : ℕ) (rest x : List ℕ) → All IsDigit ds → b < 128 → length ds ≤ most_marked → (length ds ≡ most_marked → b < first_too_large)
-    → x ≡ marked ds ++ b ∷ rest → HasFront x (ends_with ds b rest)
-ends_has [] b rest x digits small few most cut = (b ∷ [], varint_from_digits [] b digits small few most (λ _. refl), cut)
-ends_has (d ∷ ds) zero rest x digits small few most cut =
-    record { front = marked (d ∷ ds); rest = rest; all_marked = All-marked (d ∷ ds); some = omega arith; few = omega (arith, length-map (d ∷ ds) (λ d. d + 128), few); cut = cut }
-ends_has (d ∷ ds) (suc b) rest x digits small few most cut = (
-  marked (d ∷ ds) ++ suc b ∷ [],
-  varint_from_digits (d ∷ ds) (suc b) digits small few most (λ z. absurd (omega (arith, z))),
-  cut ∙ sym (append_assoc (marked (d ∷ ds)) (suc b ∷ []) rest),
+ends_has : (ms : List ℕ) (b : ℕ) (rest : List ℕ) → All IsMarked ms → b < 128 → length ms ≤ most_marked
+    → (length ms ≡ most_marked → b < first_too_large) → IsBytes (ms ++ b ∷ rest) → HasFront (ms ++ b ∷ rest) (ends_with ms b rest)
+ends_has [] b rest all small few most bytes =
+    (b ∷ [], varint_from_bytes [] b (All-nil (λ n. n < 256)) all small few most (λ _. refl), refl)
+ends_has (m ∷ ms) zero rest all small few most bytes = zero_behind (m ∷ ms) rest all (omega arith) few
+ends_has (m ∷ ms) (suc b) rest all small few most bytes = (
+  (m ∷ ms) ++ suc b ∷ [],
+  varint_from_bytes (m ∷ ms) (suc b) (All-append_left (λ n. n < 256) (m ∷ ms) (suc b ∷ rest) bytes) all small few most
+      (λ z. absurd (omega (arith, z))),
+  sym (append_assoc (m ∷ ms) (suc b ∷ []) rest),
 )
 
-front_has : (left : ℕ) (ds y x : List ℕ) → All IsDigit ds → length ds + left ≡ most_marked → IsBytes y → x ≡ marked ds ++ y → HasFront x (front_from left ds y)
-front_has left ds [] x digits room bytes cut = rw (cut, append-nil (marked ds)) (record { few = omega (arith, length-map ds (λ d. d + 128), room); all_marked = All-marked ds })
-front_has zero ds (b ∷ rest) x digits room bytes cut =
+front_has : (left : ℕ) (ms y : List ℕ) → All IsMarked ms → length ms + left ≡ most_marked → IsBytes (ms ++ y)
+    → HasFront (ms ++ y) (front_from left ms y)
+front_has left ms [] all room bytes = rw (append-nil ms) (record { few = omega (arith, room); all_marked = all })
+front_has zero ms (b ∷ rest) all room bytes =
     elim (cases_lt b first_too_large) [
-      | inl low ↦ rw (lt-ltb b first_too_large low) (ends_has ds b rest x digits (omega arith) (omega (arith, room)) (λ _. low) cut)
-      | inr high ↦ rw (le-ltb b first_too_large high)
-          (record { front = marked ds; byte = b; rest = rest; all_marked = All-marked ds; most = omega (arith, length-map ds (λ d. d + 128), room); too_large = high; cut = cut })
+      | inl low ↦ rw (lt-ltb b first_too_large low) (ends_has ms b rest all (omega arith) (omega (arith, room)) (λ _. low) bytes)
+      | inr high ↦ rw (le-ltb b first_too_large high) (overflow_behind ms b rest all (omega (arith, room)) high)
     ]
-front_has (suc left) ds (b ∷ rest) x digits room bytes cut =
+front_has (suc left) ms (b ∷ rest) all room bytes =
     elim (cases_lt b 128) [
-      | inl small ↦ rw (lt-ltb b 128 small) (ends_has ds b rest x digits small (omega (arith, room)) (λ most. absurd (omega (arith, room, most))) cut)
-      | inr large ↦
-          let byte = All-head (λ n. n < 256) b rest bytes in
-          let back : b - 128 + 128 ≡ b = omega arith in
-          let more : marked (ds ++ (b - 128) ∷ []) ≡ marked ds ++ b ∷ [] = map-append (λ d. d + 128) ds ((b - 128) ∷ []) ∙ ap (λ n. marked ds ++ n ∷ []) back in
-          rw (le-ltb b 128 large)
-          (front_has left (ds ++ (b - 128) ∷ []) rest x (All-push IsDigit ds (b - 128) digits (omega arith)) (omega (arith, room, length-append ds ((b - 128) ∷ [])))
-          (All-tail (λ n. n < 256) b rest bytes) (cut ∙ (sym (append_assoc (marked ds) (b ∷ []) rest) ∙ ap (λ z. z ++ rest) (sym more))))
+      | inl small ↦ rw (lt-ltb b 128 small) (ends_has ms b rest all small (omega (arith, room)) (λ most. absurd (omega (arith, room, most))) bytes)
+      | inr large ↦ rw (le-ltb b 128 large, ← append_assoc ms (b ∷ []) rest)
+          (front_has left (ms ++ b ∷ []) rest (All-push IsMarked ms b all large) (omega (arith, room, length_push ms b))
+          (rw (append_assoc ms (b ∷ []) rest) bytes))
     ]
 
 pub front_of_has : (x : List ℕ) → IsBytes x → HasFront x (front_of x)
-front_of_has x bytes = front_has most_marked [] x x (All-nil IsDigit) refl bytes refl
+front_of_has x bytes = front_has most_marked [] x (All-nil IsMarked) refl bytes

@@ -1,125 +1,135 @@
--- What the loop over a varint's bytes keeps.
-use Rattle.std.proofs.Common.{◌≡◌, ℕ, zero, suc, ◌+◌, ◌-◌, ◌*◌, ◌%◌, ◌^◌, ◌<◌, ◌≤◌, ◌⊎◌, List, [], ◌∷◌, ◌++◌, length, refl, sym, ap, ◌∙◌, subst, inl, inr, arith, bit_and, bit_or, append_assoc}
+-- What the loop over a varint's bytes keeps, and what was taken where it ends.
+use Rattle.std.proofs.Common.{◌≡◌, ℕ, ◌+◌, ◌*◌, ◌%◌, ◌^◌, ◌<◌, ◌≤◌, ◌⊎◌, List, [], ◌∷◌, ◌++◌, length, Option, refl, sym, ap, ◌∙◌, subst, inl, inr, arith, append_assoc, bit_and, bit_or}
 use Rattle.std.specs.List.{All}
-use Rattle.std.proofs.Math.Nat.{pow-suc, mod-eq_of_lt}
-use Rattle.std.proofs.lemmas.Bool.{cases_eq}
-use Rattle.std.proofs.lemmas.Nat.{pow-add, and_mask, or_comm, or_shifted}
+use Rattle.std.specs.Io.KnownBytes.{IsAtEnd}
+use Rattle.std.proofs.Math.Nat.{lt_of_not-le}
+use Rattle.std.proofs.lemmas.Nat.{and_mask}
 use Rattle.std.proofs.lemmas.List.{length_push, nil_from_length}
 use Rattle.std.proofs.lemmas.List.Elements.{All-nil, All-push}
 use Rattle.multihash.specs.Bytes.{IsBytes, IsProperBeginning, place_value}
-use Rattle.multihash.specs.Varint.{most_marked, first_too_large, IsMarked, IsVarint, IsInsufficient, IsOverflow, IsNotMinimal}
-use Rattle.multihash.proofs.Varints.DigitLemmas.{place_value-nil, place_value_below, place_value_last}
-use Rattle.multihash.proofs.Varints.MarkedLemmas.{unmarked, unmarked-nil, unmarked_push, length-unmarked, unmarked_digits}
-use Rattle.multihash.proofs.Varints.VarintLemmas.{in_range, varint_from_bytes}
+use Rattle.multihash.specs.Varint.{most_marked, first_too_large, IsMarked, IsVarint, VarintFault, insufficient, overflow, not_minimal, IsInsufficient, HasFaultyFront}
+use Rattle.multihash.specs.Fault.{Fault}
+use Rattle.multihash.specs.Reading.{Takes}
+use Rattle.multihash.specs.Refusal.{Refusal, of_io, of_varint}
+use Rattle.multihash.specs.Taking.{TakesVarint, TakesAtVarintRefusal}
+use Rattle.multihash.proofs.Varints.DigitLemmas.{place_value-nil, place_value-cons}
+use Rattle.multihash.proofs.Varints.MarkedLemmas.{low_digits, or_digits}
+use Rattle.multihash.proofs.Varints.VarintLemmas.{low_digits_in_range, varint_from_bytes, overflow_behind, zero_behind}
+use Rattle.multihash.proofs.Readings.ReadingLemmas.{Takes-none, Takes-kept, Takes-joined, IsAtEnd-kept}
 use Rattle.multihash.proofs.Readings.ShortestLemmas.{before_step}
 
--- the front is marked throughout, and the sum is the value of its digits
-pub record ReadsMarked (front : List ℕ) (sum : ℕ) : Type 0 where
+-- so many bytes were taken, all of them marked, and the sum is the value of their digits
+pub record ReadsMarked (old now : Option (List ℕ)) (sum i : ℕ) : Type 0 where
+  pub front : List ℕ
+  pub takes : Takes old front now
   pub bytes : IsBytes front
-  pub few : length front ≤ most_marked
   pub marked : All IsMarked front
-  pub value : sum ≡ place_value 128 (unmarked front)
+  pub long : length front ≡ i
+  pub few : i ≤ most_marked
+  pub value : sum ≡ place_value 128 (low_digits front)
 
-pub none_read : ReadsMarked [] 0
-none_read = record {
+pub none_read : (old : Option (List ℕ)) → ReadsMarked old old 0 0
+none_read old = record {
+  front = [];
+  takes = Takes-none old;
   bytes = All-nil (λ b. b < 256);
-  few = omega arith;
   marked = All-nil IsMarked;
-  value = sym (ap (place_value 128) unmarked-nil ∙ place_value-nil 128);
+  long = refl;
+  few = omega arith;
+  value = sym (place_value-nil 128);
 }
-
-pub pow_digits : (i : ℕ) → 2 ^ (7 * i) ≡ 128 ^ i
-pow_digits zero = refl
-pow_digits (suc i) =
-    let places : 7 * suc i ≡ 7 * i + 7 = omega arith in
-    let powers : 2 ^ (7 * suc i) ≡ 2 ^ (7 * i + 7) = ap (λ (k : ℕ). 2 ^ k) places in
-    omega (arith, powers, pow-add 2 (7 * i) 7, pow_digits i, pow-suc 128 i)
-
--- one more digit, by the code's shift and `|`
-or_digit : (value digit i : ℕ) → value < 128 ^ i → digit * 128 ^ i < 2 ^ 64
-    → bit_or value (digit * 2 ^ (7 * i) % 2 ^ 64) ≡ value + digit * 128 ^ i
-or_digit value digit i below fits =
-    let place : 2 ^ (7 * i) ≡ 128 ^ i = pow_digits i in
-    let small : digit * 2 ^ (7 * i) < 2 ^ 64 = subst (λ (p : ℕ). digit * p < 2 ^ 64) (sym place) fits in
-    let under : value < 2 ^ (7 * i) = subst (λ (p : ℕ). value < p) (sym place) below in
-    ap (bit_or value) (mod-eq_of_lt small)
-    ∙ (or_comm value (digit * 2 ^ (7 * i)) ∙ (or_shifted digit (7 * i) value under
-    ∙ (ap (λ (p : ℕ). digit * p + value) place ∙ omega arith)))
-
-low_digit : (b : ℕ) → bit_and b 127 ≡ b % 128
-low_digit b = and_mask b 7
 
 -- the sum with the low digit of one more byte
 abbrev pub with_byte : ℕ → ℕ → ℕ → ℕ
 with_byte sum byte i = bit_or sum (bit_and byte 127 * 2 ^ (7 * i) % 2 ^ 64)
 
-module _ (front : List ℕ) (sum byte i : ℕ) (long : length front ≡ i) (small : byte < 256) (h : ReadsMarked front sum)
-    (most : i ≡ most_marked → byte < first_too_large) where
-  front_digits : All (λ d. d < 128) (unmarked front)
-  front_digits = unmarked_digits front h.bytes
+module _ (old now : Option (List ℕ)) (sum i : ℕ) (h : ReadsMarked old now sum i) (new : Option (List ℕ)) where
+  -- what begins marked bytes and one more ends inside a varint
+  before_last : (byte : ℕ) (shorter : List ℕ) → IsProperBeginning shorter (h.front ++ byte ∷ []) → IsInsufficient shorter
+  before_last byte shorter begins =
+      before_step (h.front ++ byte ∷ []) shorter
+      (record { front = h.front; last = byte; all_marked = h.marked; few = omega (arith, h.few, h.long); cut = refl }) begins
 
-  front_long : length (unmarked front) ≡ i
-  front_long = length-unmarked front ∙ long
+  before_end : (shorter : List ℕ) → IsProperBeginning shorter h.front → IsInsufficient shorter
+  before_end shorter (rest, some, cut) =
+      before_last 0 shorter
+      (rest ++ 0 ∷ [], (λ none. omega (arith, ap length none, length_push rest 0)), ap (λ z. z ++ 0 ∷ []) cut ∙ append_assoc shorter rest (0 ∷ []))
 
-  -- the code's sum is the value with one more digit
-  with_digit : (digit : ℕ) → digit < 128 → (i ≡ most_marked → digit < first_too_large)
-      → bit_or sum (digit * 2 ^ (7 * i) % 2 ^ 64) ≡ place_value 128 (unmarked front ++ digit ∷ [])
-  with_digit digit low last =
-      let place : 128 ^ length (unmarked front) ≡ 128 ^ i = ap (λ (k : ℕ). 128 ^ k) front_long in
-      let product : digit * 128 ^ length (unmarked front) ≡ digit * 128 ^ i = ap (λ (p : ℕ). digit * p) place in
-      let whole = place_value_last 128 digit (unmarked front) in
-      let fits = in_range (unmarked front) digit front_digits low (omega (arith, front_long, h.few, long)) (λ e. last (sym front_long ∙ e)) in
-      or_digit sum digit i (omega (arith, place_value_below 128 (unmarked front) front_digits, place, h.value))
-      (omega (arith, fits, whole, product))
-      ∙ omega (arith, whole, product, h.value)
+  whole : IsInsufficient h.front
+  whole = record { few = omega (arith, h.few, h.long); all_marked = h.marked }
 
-  -- a last byte
-  pub read_last : byte < 128 → (byte ≡ 0 → i ≡ 0) → IsVarint (with_byte sum byte i) (front ++ byte ∷ [])
-  read_last low minimal =
-      let digit : bit_and byte 127 ≡ byte = low_digit byte ∙ mod-eq_of_lt low in
-      rw (digit, with_digit byte low most)
-      (varint_from_bytes front byte h.bytes h.marked low h.few (λ e. most (sym long ∙ e)) (λ z. nil_from_length front (long ∙ minimal z)))
-
-  -- a marked byte
-  pub read_more : 128 ≤ byte → ReadsMarked (front ++ byte ∷ []) (with_byte sum byte i)
-  read_more large = record {
-    bytes = All-push (λ b. b < 256) front byte h.bytes small;
-    few = elim (cases_eq i most_marked) [
-      | inl e ↦ absurd (omega (arith, most e, large))
-      | inr e ↦ grind (arith, h.few, length_push front byte, long)
-    ];
-    marked = All-push IsMarked front byte h.marked large;
-    value =
-        let digit : bit_and byte 127 ≡ byte - 128 = low_digit byte ∙ omega (arith, small, large) in
-        rw digit (with_digit (byte - 128) (omega (arith, small, large)) (λ e. absurd (omega (arith, most e, large)))
-        ∙ ap (place_value 128) (sym (unmarked_push front byte)));
+  -- the bytes that were taken show a fault
+  refused : (fault : VarintFault) (taken : List ℕ) (e : Refusal) → e ≡ of_varint fault → HasFaultyFront fault taken
+      → ((shorter : List ℕ) → IsProperBeginning shorter taken → IsInsufficient shorter) → (fault ≡ insufficient → IsAtEnd new)
+      → Takes old taken new → TakesAtVarintRefusal e old new
+  refused fault taken e given has no_sooner all takes = record {
+    taken = taken;
+    takes = takes;
+    shows = λ f faulty. let same : fault ≡ f = cc (given, faulty) in subst (λ k. HasFaultyFront k taken) same has;
+    no_sooner = no_sooner;
+    all = λ faulty. all (cc (given, faulty));
+    failed = λ own. absurd (cc (given, own.1));
   }
 
--- a zero behind marked bytes
-pub read_zero : (front : List ℕ) (sum : ℕ) → ReadsMarked front sum → 0 < length front → IsNotMinimal (front ++ 0 ∷ [])
-read_zero front sum h some = record { front = front; rest = []; all_marked = h.marked; some = some; few = h.few; cut = refl }
+  module _ (kept : new ≡ now) where
+    pub reader_failed : (fault : Fault) (e : Refusal) → e ≡ of_io fault → TakesAtVarintRefusal e old new
+    reader_failed fault e given = record {
+      taken = h.front;
+      takes = Takes-kept old now new h.front kept h.takes;
+      shows = λ f faulty. absurd (cc (given, faulty));
+      no_sooner = before_end;
+      all = λ faulty. absurd (cc (given, faulty));
+      failed = λ _. whole;
+    }
 
--- a byte that is too large behind the most marked ones
-pub read_overflow : (front : List ℕ) (sum byte : ℕ) → ReadsMarked front sum → length front ≡ most_marked → first_too_large ≤ byte
-    → IsOverflow (front ++ byte ∷ [])
-read_overflow front sum byte h most large =
-    record { front = front; byte = byte; rest = []; all_marked = h.marked; most = most; too_large = large; cut = refl }
+    pub input_ended : IsAtEnd now → (e : Refusal) → e ≡ of_varint insufficient → TakesAtVarintRefusal e old new
+    input_ended end e given =
+        refused insufficient h.front e given whole before_end (λ _. IsAtEnd-kept now new kept end) (Takes-kept old now new h.front kept h.takes)
 
--- no byte behind marked ones
-pub read_whole : (front : List ℕ) (sum : ℕ) → ReadsMarked front sum → IsInsufficient front
-read_whole front sum h = record { few = h.few; all_marked = h.marked }
+  module _ (byte : ℕ) (next : Takes now (byte ∷ []) new) where
+    takes : Takes old (h.front ++ byte ∷ []) new
+    takes = Takes-joined old now new h.front (byte ∷ []) (h.front ++ byte ∷ []) refl h.takes next
 
--- what begins marked bytes and one more ends inside a varint
-pub before_last : (front : List ℕ) (sum byte : ℕ) → ReadsMarked front sum → (shorter : List ℕ)
-    → IsProperBeginning shorter (front ++ byte ∷ []) → IsInsufficient shorter
-before_last front sum byte h shorter begins =
-    before_step (front ++ byte ∷ []) shorter (record { front = front; last = byte; all_marked = h.marked; few = h.few; cut = refl }) begins
+    pub too_large : i ≡ most_marked → first_too_large ≤ byte → (e : Refusal) → e ≡ of_varint overflow → TakesAtVarintRefusal e old new
+    too_large most large e given =
+        refused overflow (h.front ++ byte ∷ []) e given
+        (overflow_behind h.front byte [] h.marked (h.long ∙ most) large)
+        (before_last byte) (λ same. cc) takes
 
--- what begins marked bytes ends inside a varint
-pub before_end : (front : List ℕ) (sum : ℕ) → ReadsMarked front sum → (shorter : List ℕ) → IsProperBeginning shorter front → IsInsufficient shorter
-before_end front sum h shorter (rest, some, cut) =
-    before_last front sum 0 h shorter
-    (rest ++ 0 ∷ [], (λ none. omega (arith, ap length none, length_push rest 0)), ap (λ z. z ++ 0 ∷ []) cut ∙ append_assoc shorter rest (0 ∷ []))
+    pub ends_in_zero : byte ≡ 0 → 0 < i → (e : Refusal) → e ≡ of_varint not_minimal → TakesAtVarintRefusal e old new
+    ends_in_zero null some e given =
+        refused not_minimal (h.front ++ byte ∷ []) e given
+        (rw null (zero_behind h.front [] h.marked (omega (arith, h.long)) (omega (arith, h.long, h.few))))
+        (before_last byte) (λ same. cc) takes
+
+    module _ (most : i ≡ most_marked → byte < first_too_large) where
+      -- the code's sum is the value with one more digit
+      with_byte_is : with_byte sum byte i ≡ place_value 128 (low_digits (h.front ++ byte ∷ []))
+      with_byte_is =
+          let fits = low_digits_in_range h.front byte (omega (arith, h.long, h.few)) (λ e. most (sym h.long ∙ e)) in
+          let digit : bit_and byte 127 ≡ place_value 128 (low_digits (byte ∷ [])) =
+          and_mask byte 7 ∙ omega (arith, place_value-cons 128 (byte % 128) [], place_value-nil 128) in
+          rw (h.value, digit) (or_digits h.front (byte ∷ []) i h.long (omega (arith, fits)))
+
+      pub read_last : byte < 128 → (byte ≡ 0 → i ≡ 0) → TakesVarint (with_byte sum byte i) old new
+      read_last low minimal = (
+        h.front ++ byte ∷ [],
+        rw with_byte_is
+            (varint_from_bytes h.front byte h.bytes h.marked low (omega (arith, h.long, h.few)) (λ e. most (sym h.long ∙ e))
+            (λ z. nil_from_length h.front (h.long ∙ minimal z))),
+        takes,
+      )
+
+      pub read_more : byte < 256 → 128 ≤ byte → ReadsMarked old new (with_byte sum byte i) (i + 1)
+      read_more small large = record {
+        front = h.front ++ byte ∷ [];
+        takes = takes;
+        bytes = All-push (λ b. b < 256) h.front byte h.bytes small;
+        marked = All-push IsMarked h.front byte h.marked large;
+        long = omega (arith, length_push h.front byte, h.long);
+        few = omega (arith, lt_of_not-le (λ (all : most_marked ≤ i). omega (arith, most (omega (arith, h.few)))));
+        value = with_byte_is;
+      }
 
 -- what is known behind `a && b`
 pub first_of_two : (A B : Type 0) → (A × B) ⊎ (A → ⊥) → A → B

@@ -1,111 +1,117 @@
 -- The varint or the fault at the front of an input, from the word of its first bytes.
-use Rattle.std.proofs.Common.{◌≡◌, ℕ, ◌+◌, ◌-◌, ◌*◌, ◌/◌, ◌%◌, ◌^◌, ◌<◌, ◌≤◌, List, [], ◌∷◌, ◌++◌, length, get_or, take, drop, refl, sym, ap, ◌∙◌, subst, inl, inr, arith, bit_and, bit_or, length-drop}
+use Rattle.std.proofs.Common.{◌≡◌, ℕ, zero, suc, ◌+◌, ◌-◌, ◌*◌, ◌/◌, ◌%◌, ◌^◌, ◌<◌, ◌≤◌, List, [], ◌∷◌, ◌++◌, length, get_or, take, drop, refl, sym, ap, ◌∙◌, arith, bit_and, bit_or}
 use Rattle.std.specs.List.{All}
-use Rattle.std.specs.Int.{w64, bit_at, bit_not, trailing_zeros}
-use Rattle.std.specs.Int.Count.{trailing_of_zero}
-use Rattle.std.proofs.Math.Nat.{mod-eq_of_lt}
-use Rattle.std.proofs.lemmas.Bool.{cases_lt}
-use Rattle.std.proofs.lemmas.Nat.{and_mask, or_comm, or_shifted, mod-pow-add}
+use Rattle.std.proofs.Math.Nat.{add-zero, lt_of_not-le, zero-add}
+use Rattle.std.proofs.Math.Seq.{take-add}
+use Rattle.std.proofs.lemmas.Nat.{and_mask}
 use Rattle.std.proofs.lemmas.Nat.Bits.{and_pow}
-use Rattle.std.proofs.lemmas.List.{get_or_past, get_or-take, get_or-drop, nil_from_length, length-take, length-take-le, take_more, take-take, take_all, take-append-drop, drop_more}
-use Rattle.std.proofs.lemmas.List.Elements.{All-take, All-drop, All-get_or, All-from_get_or}
+use Rattle.std.proofs.lemmas.List.{get_or_past, get_or-take, get_or-drop, length-take, length-take-le, nil_from_length, take_more, take-take, take_all, take-append-drop, drop_more, drop-take}
+use Rattle.std.proofs.lemmas.List.Elements.{All-nil, All-take, All-drop, All-more}
 use Rattle.multihash.specs.Bytes.{IsBytes, place_value}
 use Rattle.multihash.specs.Varint.{most_marked, first_too_large, IsMarked, IsVarint, IsInsufficient, IsOverflow, IsNotMinimal}
 use Rattle.multihash.specs.Word.{IsFrontWord, BeginsMarked, digits_low}
-use Rattle.multihash.proofs.Varints.DigitLemmas.{place_value-nil, place_value-cons}
-use Rattle.multihash.proofs.Varints.MarkedLemmas.{unmarked, unmarked-nil, length-unmarked, unmarked_digits}
-use Rattle.multihash.proofs.Varints.VarintLemmas.{in_range, varint_from_bytes}
-use Rattle.multihash.proofs.Varints.WordLemmas.{byte_of, low_bytes, high_bytes, digits_low_below, digits_low_split, digits_low_is}
-use Rattle.multihash.proofs.Varints.StopLemmas.{stop_bits, varint_bits, FirstUnmarked, first_unmarked, last_place, too_large, stop_early, kept_byte, kept_below, kept_last, few_marked}
+use Rattle.multihash.proofs.Varints.MarkedLemmas.{low_digits, or_digits}
+use Rattle.multihash.proofs.Varints.VarintLemmas.{varint_from_bytes, overflow_behind, zero_behind}
+use Rattle.multihash.proofs.Varints.VarintWriteLemmas.{one_byte}
+use Rattle.multihash.proofs.Varints.WordLemmas.{byte_at, byte_of, halves, low_bytes, high_bytes, digits_low_of}
+use Rattle.multihash.proofs.Varints.StopLemmas.{stops, stop_at, varint_bits, StopsAt, first_unmarked, last_place, too_large, kept_last, few_marked, too_large_byte}
 
 -- ---- where the marked bytes of an input end
 
-module _ (xs : List ℕ) (k : ℕ) (bytes : IsBytes xs) (before : (i : ℕ) → i < k → 128 ≤ get_or xs i 0) where
-  pub run_within_input : k ≤ length xs
-  run_within_input = elim (cases_lt (length xs) k) [
-    | inl short ↦ absurd (omega (arith, before (length xs) short, get_or_past xs (length xs) 0 (omega arith)))
-    | inr within ↦ within
-  ]
+-- further marked bytes behind those that begin the input
+begins_more : (xs : List ℕ) (at m : ℕ) → BeginsMarked at xs → ((i : ℕ) → i < m → 128 ≤ get_or xs (at + i) 0) → BeginsMarked (at + m) xs
+begins_more xs at zero begins more = rw (add-zero at) begins
+begins_more xs at (suc m) begins more =
+    let front = begins_more xs at m begins (λ i run. more i (omega arith)) in
+    let large : 128 ≤ get_or xs (at + m) 0 = more m (omega arith) in
+    let within : at + m < length xs = lt_of_not-le (λ past. omega (arith, large, get_or_past xs (at + m) 0 past)) in
+    let next : at + suc m ≡ at + m + 1 = omega arith in
+    rw next (record { enough = omega arith; all_marked = All-more IsMarked xs (at + m) 0 within front.all_marked large })
 
-  pub run_marked : All IsMarked (take k xs)
-  run_marked = All-from_get_or IsMarked (take k xs) 0 (λ i within.
-      let below : i < k = omega (arith, length-take k xs) in
-      rw (get_or-take k xs i 0 below) (before i below))
+cut_at : (xs : List ℕ) (k : ℕ) → k < length xs → xs ≡ take k xs ++ get_or xs k 0 ∷ drop (k + 1) xs
+cut_at xs k below = sym (take-append-drop k xs) ∙ ap (λ (back : List ℕ). take k xs ++ back) (drop_more xs k 0 below)
 
-  cut_at : k < length xs → xs ≡ take k xs ++ get_or xs k 0 ∷ drop (k + 1) xs
-  cut_at below = sym (take-append-drop k xs) ∙ ap (λ (back : List ℕ). take k xs ++ back) (drop_more xs k 0 below)
+overflow_at : (xs : List ℕ) → BeginsMarked most_marked xs → first_too_large ≤ get_or xs most_marked 0 → IsOverflow xs
+overflow_at xs begins large =
+    rw (cut_at xs most_marked (lt_of_not-le (λ past. omega (arith, large, get_or_past xs most_marked 0 past))))
+    (overflow_behind (take most_marked xs) (get_or xs most_marked 0) (drop (most_marked + 1) xs) begins.all_marked
+    (length-take-le most_marked xs begins.enough) large)
 
-  pub overflow_at : k ≡ most_marked → first_too_large ≤ get_or xs k 0 → IsOverflow xs
-  overflow_at most large =
-      let below : k < length xs = elim (cases_lt k (length xs)) [
-        | inl within ↦ within
-        | inr past ↦ absurd (omega (arith, get_or_past xs k 0 past))
-      ] in
-      record {
-        front = take k xs;
-        byte = get_or xs k 0;
-        rest = drop (k + 1) xs;
-        all_marked = run_marked;
-        most = omega (arith, length-take-le k xs (omega arith));
-        too_large = large;
-        cut = cut_at below;
-      }
+-- so many marked bytes begin the input, and the last is not marked, which counts as zero where the input ends
+pub record EndsAt (xs : List ℕ) (k last : ℕ) : Type 0 where
+  pub bytes : IsBytes xs
+  pub begins : BeginsMarked k xs
+  pub few : k ≤ most_marked
+  pub last_is : last ≡ get_or xs k 0
+  pub unmarked : last < 128
+  pub small : k ≡ most_marked → last < first_too_large
 
-  module _ (few : k ≤ most_marked) where
-    pub insufficient_at : length xs ≤ k → IsInsufficient xs
-    insufficient_at past =
-        let whole : take k xs ≡ xs = take_all k xs past in
-        record { few = omega arith; all_marked = subst (All IsMarked) whole run_marked }
+module _ (xs : List ℕ) (word present k last : ℕ) (f : IsFrontWord xs word present) (end : EndsAt xs k last) where
+  pub ends_short : present ≤ k → IsInsufficient xs
+  ends_short past =
+      let all : take k xs ≡ xs = take_all k xs (omega (arith, f.present_is, end.few)) in
+      record { few = omega (arith, f.present_is, end.few); all_marked = rw all at end.begins.all_marked }
 
-    module _ (below : k < length xs) where
-      pub zero_at : 0 < k → get_or xs k 0 ≡ 0 → IsNotMinimal xs
-      zero_at some null = record {
-        front = take k xs;
-        rest = drop (k + 1) xs;
-        all_marked = run_marked;
-        some = omega (arith, length-take-le k xs (omega arith));
-        few = omega (arith, length-take-le k xs (omega arith));
-        cut = cut_at below ∙ ap (λ (b : ℕ). take k xs ++ b ∷ drop (k + 1) xs) null;
-      }
+  module _ (within : k < present) where
+    below : k < length xs
+    below = omega (arith, f.present_is)
 
-      module _ (here : get_or xs k 0 < 128) (last_small : k ≡ most_marked → get_or xs k 0 < first_too_large) where
-        marks : List ℕ
-        marks = take k xs
+    long : length (take k xs) ≡ k
+    long = length-take-le k xs end.begins.enough
 
-        marks_bytes : IsBytes marks
-        unfolding marks
-        marks_bytes = All-take (λ b. b < 256) k xs bytes
+    pub ends_zero : last ≡ 0 → 0 < k → IsNotMinimal xs
+    ends_zero null some =
+        rw (cut_at xs k below, ← end.last_is, null)
+        (zero_behind (take k xs) (drop (k + 1) xs) end.begins.all_marked (omega (arith, long)) (omega (arith, long, end.few)))
 
-        marks_marked : All IsMarked marks
-        unfolding marks
-        marks_marked = run_marked
+    pub ends_number : (last ≡ 0 → k ≡ 0) → IsVarint (place_value 128 (low_digits (take (k + 1) xs))) (take (k + 1) xs)
+    ends_number minimal =
+        rw (take_more xs k 0 below, ← end.last_is)
+        (varint_from_bytes (take k xs) last (All-take (λ b. b < 256) k xs end.bytes) end.begins.all_marked end.unmarked (omega (arith, long, end.few))
+        (λ e. end.small (sym long ∙ e)) (λ z. nil_from_length (take k xs) (long ∙ minimal z)))
 
-        marks_long : length marks ≡ k
-        unfolding marks
-        marks_long = length-take-le k xs (omega arith)
+-- ---- what half a word says of the bytes that it holds, which are those from `at` on
 
-        more : take (k + 1) xs ≡ marks ++ get_or xs k 0 ∷ []
-        unfolding marks
-        more = take_more xs k 0 below
+module _ (xs : List ℕ) (at half : ℕ) (bytes : IsBytes xs) (is : half ≡ place_value 256 (take 8 (drop at xs))) where
+  back_bytes : IsBytes (drop at xs)
+  back_bytes = All-drop (λ b. b < 256) at xs bytes
 
-        -- the number of the digits, where there are enough of them
-        number_is : (n : ℕ) → k < n → digits_low n (place_value 256 (take (k + 1) xs)) ≡ place_value 128 (unmarked marks ++ get_or xs k 0 ∷ [])
-        number_is n enough =
-            ap (digits_low n) (ap (place_value 256) more)
-            ∙ digits_low_is n marks (get_or xs k 0) marks_bytes marks_marked here (omega (arith, marks_long))
+  half_stop : StopsAt half (stop_at half)
+  half_stop = first_unmarked half (omega (arith, is, (halves (drop at xs) 8 back_bytes).0))
 
-        pub number_below : (n : ℕ) → k < n → digits_low n (place_value 256 (take (k + 1) xs)) < 2 ^ 64
-        number_below n enough =
-            let fits = in_range (unmarked marks) (get_or xs k 0) (unmarked_digits marks marks_bytes) here (omega (arith, length-unmarked marks, marks_long))
-            (λ e. last_small (omega (arith, e, length-unmarked marks, marks_long))) in
-            omega (arith, number_is n enough, fits)
+  half_byte : (i : ℕ) → i < 8 → byte_at half i ≡ get_or xs (at + i) 0
+  half_byte i few =
+      ap (λ (n : ℕ). byte_at n i) is ∙ byte_of (take 8 (drop at xs)) i (All-take (λ b. b < 256) 8 (drop at xs) back_bytes)
+      ∙ get_or-take 8 (drop at xs) i 0 few ∙ get_or-drop at xs i 0
 
-        pub number_at : (n : ℕ) → k < n → (get_or xs k 0 ≡ 0 → k ≡ 0)
-            → IsVarint (digits_low n (place_value 256 (take (k + 1) xs))) (take (k + 1) xs)
-        number_at n enough minimal =
-            rw (number_is n enough, more)
-            (varint_from_bytes marks (get_or xs k 0) marks_bytes marks_marked here (omega (arith, marks_long))
-            (λ e. last_small (omega (arith, e, marks_long))) (λ z. nil_from_length marks (omega (arith, marks_long, minimal z))))
+  -- its marked bytes, or fewer of them
+  half_begins : (m : ℕ) → BeginsMarked at xs → m ≤ stop_at half → m ≤ 8 → BeginsMarked (at + m) xs
+  half_begins m begins run few =
+      begins_more xs at m begins (λ i below. rw (← half_byte i (omega arith)) (half_stop.before i (omega arith)))
+
+  module _ (early : stop_at half < 8) where
+    half_end : BeginsMarked at xs → at + stop_at half ≤ most_marked
+        → (at + stop_at half ≡ most_marked → varint_bits half / 2 ^ (8 * stop_at half) < first_too_large)
+        → EndsAt xs (at + stop_at half) (varint_bits half / 2 ^ (8 * stop_at half))
+    half_end begins few small =
+        let last = kept_last half (stop_at half) half_stop in
+        record {
+          bytes = bytes;
+          begins = half_begins (stop_at half) begins (omega arith) (omega arith);
+          few = few;
+          last_is = last ∙ half_byte (stop_at half) early;
+          unmarked = omega (arith, last, half_stop.here);
+          small = small;
+        }
+
+    half_digits : (n : ℕ) → stop_at half < n → digits_low n (varint_bits half) ≡ place_value 128 (low_digits (take (stop_at half + 1) (drop at xs)))
+    half_digits n enough =
+        let j = stop_at half + 1 in
+        let back = drop at xs in
+        let kept : varint_bits half ≡ place_value 256 (take j back) =
+        half_stop.varint ∙ ap (λ (m : ℕ). m % 2 ^ (8 * j)) is ∙ low_bytes (take 8 back) j (All-take (λ b. b < 256) 8 back back_bytes)
+        ∙ ap (place_value 256) (take-take j 8 back (omega arith)) in
+        ap (digits_low n) kept ∙ digits_low_of n (take j back) (All-take (λ b. b < 256) j back back_bytes) (omega (arith, length-take j back))
 
 -- ---- what a word says of the bytes that it holds the first of
 
@@ -113,235 +119,93 @@ module _ (xs : List ℕ) (word present : ℕ) (bytes : IsBytes xs) (f : IsFrontW
   front_bytes : IsBytes (take 16 xs)
   front_bytes = All-take (λ b. b < 256) 16 xs bytes
 
-  -- the first byte alone
-  lowest_byte : word % 256 ≡ get_or xs 0 0
-  lowest_byte =
-      let byte = ap (λ (n : ℕ). n / 2 ^ (8 * 0) % 2 ^ 8) f.word_is ∙ (byte_of (take 16 xs) 0 front_bytes ∙ get_or-take 16 xs 0 0 (omega arith)) in
-      omega (arith, byte)
-
-  lowest_bit : bit_and word 128 ≡ bit_at word 7 * 128
-  lowest_bit = and_pow word 7
-
-  pub one_byte : 0 < present → bit_and word 128 ≡ 0 → IsVarint (bit_and word 127) (take 1 xs)
-  one_byte some unset =
-      let b = get_or xs 0 0 in
+  pub single_byte : 0 < present → bit_and word 128 ≡ 0 → IsVarint (bit_and word 127) (take 1 xs)
+  single_byte some unset =
       let below : 0 < length xs = omega (arith, f.present_is) in
-      let one : take (0 + 1) xs ≡ take 0 xs ++ b ∷ [] = take_more xs 0 0 below in
-      let small : b < 128 = omega (arith, lowest_byte, lowest_bit) in
-      let value : bit_and word 127 ≡ place_value 128 (unmarked [] ++ b ∷ []) =
-      and_mask word 7 ∙ rw (unmarked-nil, place_value-cons 128 b [], place_value-nil 128) (omega (arith, lowest_byte)) in
-      rw (value, one)
-      (varint_from_bytes [] b (λ k d within. absurd (omega arith)) (λ k d within. absurd (omega arith)) small (omega arith)
-      (λ e. absurd (omega arith)) (λ z. refl))
+      let byte : word % 256 ≡ get_or xs 0 0 =
+      omega (arith, ap (λ (n : ℕ). byte_at n 0) f.word_is, byte_of (take 16 xs) 0 front_bytes, get_or-take 16 xs 0 0 (omega arith)) in
+      let small : get_or xs 0 0 < 128 = omega (arith, byte, and_pow word 7) in
+      let value : bit_and word 127 ≡ get_or xs 0 0 = omega (arith, byte, and_mask word 7, small) in
+      rw (value, take_more xs 0 0 below) (one_byte (get_or xs 0 0) small)
 
   -- ---- the low half
 
   abbrev pub lower : ℕ
   lower = bit_and word 18446744073709551615
 
-  lows : List ℕ
-  lows = take 8 (take 16 xs)
+  low_is : lower ≡ place_value 256 (take 8 xs)
+  low_is =
+      and_mask word 64 ∙ ap (λ (n : ℕ). n % 2 ^ 64) f.word_is ∙ low_bytes (take 16 xs) 8 front_bytes
+      ∙ ap (place_value 256) (take-take 8 16 xs (omega arith))
 
-  low_is : lower ≡ place_value 256 lows
-  unfolding lows
-  low_is = and_mask word 64 ∙ (ap (λ (n : ℕ). n % 2 ^ 64) f.word_is ∙ low_bytes (take 16 xs) 8 front_bytes)
-
-  lows_bytes : IsBytes lows
-  unfolding lows
-  lows_bytes = All-take (λ b. b < 256) 8 (take 16 xs) front_bytes
-
-  lows_eight : length lows ≤ 8
-  unfolding lows
-  lows_eight = omega (arith, length-take 8 (take 16 xs))
-
-  low_byte : (i : ℕ) → i < 8 → get_or lows i 0 ≡ get_or xs i 0
-  unfolding lows
-  low_byte i few = get_or-take 8 (take 16 xs) i 0 few ∙ get_or-take 16 xs i 0 (omega arith)
-
-  abbrev pub low_stop : ℕ
-  low_stop = trailing_zeros w64 (bit_and (bit_not w64 lower) stop_bits)
-
-  first_low : FirstUnmarked lows lower low_stop
-  first_low = rw low_is (first_unmarked lows lows_bytes lows_eight)
-
-  low_before : (i : ℕ) → i < low_stop / 8 → 128 ≤ get_or xs i 0
-  low_before i run = rw (← low_byte i (omega (arith, first_low.within))) (first_low.before i run)
+  none_begins : BeginsMarked 0 xs
+  none_begins = record { enough = omega arith; all_marked = All-nil IsMarked }
 
   -- no byte of it is unmarked
-  pub low_marked : bit_and (bit_not w64 lower) stop_bits ≡ 0 → BeginsMarked 8 xs
-  low_marked none =
-      let end : low_stop ≡ 64 = ap (trailing_zeros w64) none ∙ trailing_of_zero 64 in
-      let all = λ (i : ℕ) (run : i < 8). low_before i (omega (arith, end)) in
-      record { enough = run_within_input xs 8 bytes all; all_marked = run_marked xs 8 bytes all }
+  pub low_marked : stops lower ≡ 0 → BeginsMarked 8 xs
+  low_marked none = half_begins xs 0 lower bytes low_is 8 none_begins (omega (arith, (half_stop xs 0 lower bytes low_is).none none)) (omega arith)
 
-  module _ (some : ¬ (bit_and (bit_not w64 lower) stop_bits ≡ 0)) where
-    low_early : low_stop < 64
-    low_early = stop_early lower some
+  pub low_early : ¬ (stops lower ≡ 0) → stop_at lower < 8
+  low_early some = (half_stop xs 0 lower bytes low_is).some some
 
-    low_kept : varint_bits lower ≡ place_value 256 (take (low_stop / 8 + 1) xs)
-    unfolding lows
-    low_kept =
-        first_low.varint low_early
-        ∙ ap (place_value 256) (take-take (low_stop / 8 + 1) 8 (take 16 xs) (omega (arith, low_early)) ∙ take-take (low_stop / 8 + 1) 16 xs (omega (arith, low_early)))
+  pub low_end : ¬ (stops lower ≡ 0) → EndsAt xs (stop_at lower) (varint_bits lower / 2 ^ (8 * stop_at lower))
+  low_end some =
+      let early = low_early some in
+      rw zero-add at (half_end xs 0 lower bytes low_is early none_begins (omega (arith, early)) (λ e. absurd (omega (arith, e, early))))
 
-    low_here : get_or xs (low_stop / 8) 0 < 128
-    low_here = rw (← low_byte (low_stop / 8) (omega (arith, low_early))) (first_low.here low_early)
-
-    low_last : varint_bits lower / 2 ^ (8 * (low_stop / 8)) ≡ get_or xs (low_stop / 8) 0
-    low_last = kept_last lows lower low_stop lows_bytes lows_eight first_low low_early ∙ low_byte (low_stop / 8) (omega (arith, low_early))
-
-    pub low_short : present ≤ low_stop / 8 → IsInsufficient xs
-    low_short past = insufficient_at xs (low_stop / 8) bytes low_before (omega (arith, low_early)) (omega (arith, low_early, f.present_is))
-
-    module _ (within : low_stop / 8 < present) where
-      low_below : low_stop / 8 < length xs
-      low_below = omega (arith, f.present_is)
-
-      pub low_zero : varint_bits lower / 2 ^ (8 * (low_stop / 8)) ≡ 0 → 0 < low_stop / 8 → IsNotMinimal xs
-      low_zero null more = zero_at xs (low_stop / 8) bytes low_before (omega (arith, low_early)) low_below more (sym low_last ∙ null)
-
-      pub low_number : (varint_bits lower / 2 ^ (8 * (low_stop / 8)) ≡ 0 → low_stop / 8 ≡ 0)
-          → IsVarint (digits_low 8 (varint_bits lower)) (take (low_stop / 8 + 1) xs)
-      low_number minimal =
-          rw low_kept
-          (number_at xs (low_stop / 8) bytes low_before (omega (arith, low_early)) low_below low_here (λ e. absurd (omega (arith, e, low_early))) 8
-          (omega (arith, low_early)) (λ z. minimal (low_last ∙ z)))
+  pub low_number : (some : ¬ (stops lower ≡ 0)) → stop_at lower < present
+      → (varint_bits lower / 2 ^ (8 * stop_at lower) ≡ 0 → stop_at lower ≡ 0)
+      → IsVarint (digits_low 8 (varint_bits lower)) (take (stop_at lower + 1) xs)
+  low_number some within minimal =
+      rw (half_digits xs 0 lower bytes low_is (low_early some) 8 (low_early some))
+      (ends_number xs word present (stop_at lower) _ f (low_end some) within minimal)
 
   -- ---- the high half
 
-  module _ (marked_low : BeginsMarked 8 xs) where
+  module _ (begins : BeginsMarked 8 xs) where
     abbrev pub upper : ℕ
     upper = word / 2 ^ 64
 
-    highs : List ℕ
-    highs = drop 8 (take 16 xs)
+    high_is : upper ≡ place_value 256 (take 8 (drop 8 xs))
+    high_is = ap (λ (n : ℕ). n / 2 ^ 64) f.word_is ∙ high_bytes (take 16 xs) 8 front_bytes ∙ ap (place_value 256) (drop-take 8 8 xs)
 
-    high_is : upper ≡ place_value 256 highs
-    unfolding highs
-    high_is = ap (λ (n : ℕ). n / 2 ^ 64) f.word_is ∙ high_bytes (take 16 xs) 8 front_bytes
-
-    highs_bytes : IsBytes highs
-    unfolding highs
-    highs_bytes = All-drop (λ b. b < 256) 8 (take 16 xs) front_bytes
-
-    highs_eight : length highs ≤ 8
-    unfolding highs
-    highs_eight = omega (arith, length-drop 8 (take 16 xs), length-take 16 xs)
-
-    high_byte : (i : ℕ) → i < 8 → get_or highs i 0 ≡ get_or xs (8 + i) 0
-    unfolding highs
-    high_byte i few = get_or-drop 8 (take 16 xs) i 0 ∙ get_or-take 16 xs (8 + i) 0 (omega arith)
-
-    abbrev pub high_stop : ℕ
-    high_stop = trailing_zeros w64 (bit_and (bit_not w64 upper) stop_bits)
-
-    first_high : FirstUnmarked highs upper high_stop
-    first_high = rw high_is (first_unmarked highs highs_bytes highs_eight)
-
-    marked_byte : (i : ℕ) → i < 8 → 128 ≤ get_or xs i 0
-    marked_byte i few =
-        rw (← get_or-take 8 xs i 0 few) (All-get_or IsMarked (take 8 xs) i 0 (omega (arith, length-take 8 xs, marked_low.enough)) marked_low.all_marked)
-
-    high_before : (i : ℕ) → i < 8 + high_stop / 8 → 128 ≤ get_or xs i 0
-    high_before i run = elim (cases_lt i 8) [
-      | inl early ↦ marked_byte i early
-      | inr late ↦
-          let place : 8 + (i - 8) ≡ i = omega arith in
-          let at : get_or xs (8 + (i - 8)) 0 ≡ get_or xs i 0 = ap (λ (k : ℕ). get_or xs k 0) place in
-          omega (arith, at, high_byte (i - 8) (omega (arith, first_high.within)), first_high.before (i - 8) (omega arith))
-    ]
+    high_stop : StopsAt upper (stop_at upper)
+    high_stop = half_stop xs 8 upper bytes high_is
 
     pub high_over : too_large ≤ varint_bits upper → IsOverflow xs
-    high_over large = elim (cases_lt (high_stop / 8) last_place) [
-      | inl few ↦ absurd (omega (arith, kept_below highs upper high_stop highs_bytes highs_eight first_high last_place few (omega arith)))
-      | inr run ↦ overflow_at xs most_marked bytes (λ i below. high_before i (omega arith)) refl (too_large_byte run)
-    ]
-      where
-        too_large_byte : last_place ≤ high_stop / 8 → first_too_large ≤ get_or xs most_marked 0
-        too_large_byte run = elim (cases_lt last_place (high_stop / 8)) [
-          | inl more ↦ omega (arith, high_before most_marked (omega arith))
-          | inr exact ↦ omega (
-            arith,
-            kept_byte highs upper high_stop highs_bytes highs_eight first_high last_place run (omega arith),
-            kept_below highs upper high_stop highs_bytes highs_eight first_high (last_place + 1) (omega arith) (omega arith),
-            high_byte last_place (omega arith),
-          )
-        ]
+    high_over large =
+        let (run, byte) = too_large_byte upper (stop_at upper) high_stop large in
+        overflow_at xs (half_begins xs 8 upper bytes high_is last_place begins run (omega arith))
+        (omega (arith, byte, half_byte xs 8 upper bytes high_is last_place (omega arith)))
 
     module _ (small : varint_bits upper < too_large) where
-      high_few : high_stop / 8 ≤ last_place
-      high_few = few_marked highs upper high_stop highs_bytes highs_eight first_high small
+      high_few : stop_at upper ≤ last_place
+      high_few = few_marked upper (stop_at upper) high_stop small
 
-      high_early : high_stop < 64
-      high_early = omega (arith, high_few)
+      pub high_end : EndsAt xs (8 + stop_at upper) (varint_bits upper / 2 ^ (8 * stop_at upper))
+      high_end = half_end xs 8 upper bytes high_is (omega (arith, high_few)) begins (omega (arith, high_few)) last
+        where
+          last : 8 + stop_at upper ≡ most_marked → varint_bits upper / 2 ^ (8 * stop_at upper) < first_too_large
+          last most = let same : stop_at upper ≡ last_place = omega (arith, most) in rw same (omega (arith, small))
 
-      few : 8 + high_stop / 8 ≤ most_marked
-      few = omega (arith, high_few)
+      -- the code's number
+      abbrev pub high_value : ℕ
+      high_value = bit_or (digits_low 8 lower) (digits_low (most_marked - 7) (varint_bits upper) * 2 ^ 56 % 2 ^ 64)
 
-      high_here : get_or xs (8 + high_stop / 8) 0 < 128
-      high_here = rw (← high_byte (high_stop / 8) (omega (arith, high_few))) (first_high.here high_early)
-
-      high_last : varint_bits upper / 2 ^ (8 * (high_stop / 8)) ≡ get_or xs (8 + high_stop / 8) 0
-      high_last = kept_last highs upper high_stop highs_bytes highs_eight first_high high_early ∙ high_byte (high_stop / 8) (omega (arith, high_few))
-
-      last_small : 8 + high_stop / 8 ≡ most_marked → get_or xs (8 + high_stop / 8) 0 < first_too_large
-      last_small most =
-          let same : high_stop / 8 ≡ last_place = omega arith in
-          omega (
-            arith,
-            small,
-            ap (λ (k : ℕ). get_or xs (8 + k) 0) same,
-            kept_byte highs upper high_stop highs_bytes highs_eight first_high last_place (omega arith) (omega arith),
-            high_byte last_place (omega arith),
+      pub high_number : 8 + stop_at upper < present → ¬ (varint_bits upper / 2 ^ (8 * stop_at upper) ≡ 0)
+          → IsVarint high_value (take (8 + stop_at upper + 1) xs)
+      high_number within minimal =
+          let number = ends_number xs word present (8 + stop_at upper) _ f high_end within (λ z. absurd (minimal z)) in
+          let front = take 8 xs in
+          let back = take (stop_at upper + 1) (drop 8 xs) in
+          let places : 8 + stop_at upper + 1 ≡ 8 + (stop_at upper + 1) = omega arith in
+          let cut : take (8 + stop_at upper + 1) xs ≡ front ++ back = rw places (take-add 8 (stop_at upper + 1) xs) in
+          let value : digits_low 8 lower ≡ place_value 128 (low_digits front) =
+          ap (digits_low 8) low_is ∙ digits_low_of 8 front (All-take (λ b. b < 256) 8 xs bytes) (omega (arith, length-take 8 xs)) in
+          rw (
+            value,
+            half_digits xs 8 upper bytes high_is (omega (arith, high_few)) (most_marked - 7) (omega (arith, high_few)),
+            or_digits front back 8 (length-take-le 8 xs begins.enough) (omega (arith, rw cut at number.in_range)),
+            ← cut,
           )
-
-      pub high_short : present ≤ 8 + high_stop / 8 → IsInsufficient xs
-      high_short past = insufficient_at xs (8 + high_stop / 8) bytes high_before few (omega (arith, few, f.present_is))
-
-      module _ (within : 8 + high_stop / 8 < present) where
-        high_below : 8 + high_stop / 8 < length xs
-        high_below = omega (arith, f.present_is)
-
-        pub high_zero : varint_bits upper / 2 ^ (8 * (high_stop / 8)) ≡ 0 → IsNotMinimal xs
-        high_zero null = zero_at xs (8 + high_stop / 8) bytes high_before few high_below (omega arith) (sym high_last ∙ null)
-
-        -- both halves of the varint
-        high_kept : lower + varint_bits upper * 2 ^ 64 ≡ place_value 256 (take (8 + high_stop / 8 + 1) xs)
-        unfolding highs
-        high_kept =
-            let j = high_stop / 8 + 1 in
-            let places : 8 * (8 + high_stop / 8 + 1) ≡ 8 * j + 64 = omega arith in
-            let above : varint_bits upper ≡ upper % 2 ^ (8 * j) =
-            first_high.varint high_early ∙ (sym (low_bytes highs j highs_bytes) ∙ ap (λ (n : ℕ). n % 2 ^ (8 * j)) (sym high_is)) in
-            let whole : word % 2 ^ (8 * (8 + high_stop / 8 + 1)) ≡ place_value 256 (take (8 + high_stop / 8 + 1) xs) =
-            ap (λ (n : ℕ). n % 2 ^ (8 * (8 + high_stop / 8 + 1))) f.word_is
-            ∙ (low_bytes (take 16 xs) (8 + high_stop / 8 + 1) front_bytes
-            ∙ ap (place_value 256) (take-take (8 + high_stop / 8 + 1) 16 xs (omega (arith, high_few)))) in
-            let cut : word % 2 ^ (8 * (8 + high_stop / 8 + 1)) ≡ word / 2 ^ 64 % 2 ^ (8 * j) * 2 ^ 64 + word % 2 ^ 64 =
-            ap (λ (n : ℕ). word % 2 ^ n) places ∙ mod-pow-add word (8 * j) 64 in
-            omega (arith, above, whole, cut, and_mask word 64)
-
-        digits_split : digits_low (8 + (most_marked - 7)) (place_value 256 (take (8 + high_stop / 8 + 1) xs))
-            ≡ digits_low 8 lower + digits_low (most_marked - 7) (varint_bits upper) * 2 ^ 56
-        digits_split =
-            let low_fits : lower < 2 ^ (8 * 8) = omega (arith, and_mask word 64) in
-            ap (digits_low (8 + (most_marked - 7))) (sym high_kept) ∙ digits_low_split 8 (most_marked - 7) lower (varint_bits upper) low_fits
-
-        -- the code's number
-        abbrev pub high_value : ℕ
-        high_value = bit_or (digits_low 8 lower) (digits_low (most_marked - 7) (varint_bits upper) * 2 ^ 56 % 2 ^ 64)
-
-        high_value_is : high_value ≡ digits_low (8 + (most_marked - 7)) (place_value 256 (take (8 + high_stop / 8 + 1) xs))
-        high_value_is =
-            let below = number_below xs (8 + high_stop / 8) bytes high_before few high_below high_here last_small (8 + (most_marked - 7)) (omega (arith, few)) in
-            let fits : digits_low (most_marked - 7) (varint_bits upper) * 2 ^ 56 < 2 ^ 64 = omega (arith, below, digits_split) in
-            ap (bit_or (digits_low 8 lower)) (mod-eq_of_lt fits)
-            ∙ (or_comm (digits_low 8 lower) (digits_low (most_marked - 7) (varint_bits upper) * 2 ^ 56)
-            ∙ (or_shifted (digits_low (most_marked - 7) (varint_bits upper)) 56 (digits_low 8 lower) (digits_low_below 8 lower)
-            ∙ (omega arith ∙ sym digits_split)))
-
-        pub high_number : ¬ (varint_bits upper / 2 ^ (8 * (high_stop / 8)) ≡ 0) → IsVarint high_value (take (8 + high_stop / 8 + 1) xs)
-        high_number minimal =
-            rw high_value_is
-            (number_at xs (8 + high_stop / 8) bytes high_before few high_below high_here last_small (8 + (most_marked - 7)) (omega (arith, few))
-            (λ z. absurd (minimal (high_last ∙ z))))
+          number

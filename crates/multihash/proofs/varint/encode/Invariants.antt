@@ -1,14 +1,10 @@
 -- The first `len` bytes spell the digits that were written.
-use Rattle.std.proofs.Common.{◌≡◌, ◌≤◌, length, take}
+use Rattle.std.proofs.Common.{◌≡◌, length, take}
 use Rattle.multihash.proofs.Varints.VarintWriteLemmas.{Wrote}
 use Rattle.multihash.proofs.varint.encode.Given as goal
 
 abbrev pub invariant-loop-rest : goal.invariant-loop-rest
-invariant-loop-rest l = record {
-  wrote : Wrote (take l.len l.bytes) l.n l.rest;
-  in_bytes : l.len ≤ length l.bytes;
-  places : length l.bytes ≡ 16;
-}
+invariant-loop-rest l = record { wrote : Wrote (take l.len l.bytes) l.len l.n l.rest; places : length l.bytes ≡ 16 }
 
 abbrev pub decreases-loop-rest : goal.decreases-loop-rest
 decreases-loop-rest l = l.rest

@@ -1,10 +1,11 @@
-use Rattle.std.proofs.Common.{arith, sym, add-one}
-use Rattle.multihash.proofs.Varints.WordLemmas.{digits_low-zero, term_more, digit_mask}
+use Rattle.std.proofs.Common.{arith, refl, add-one}
+use Rattle.multihash.specs.Word.{digits_low}
+use Rattle.multihash.proofs.Varints.WordLemmas.{term_more}
 use Rattle.multihash.proofs.varint.word.join_digits.Goals as goal
 
 pub loop-i-init : goal.loop-i-init
-loop-i-init g c = sym (digits_low-zero c.args.half)
+unfolding digits_low
+loop-i-init g c = refl
 
 pub loop-i-preserved : goal.loop-i-preserved
-loop-i-preserved g c =
-    rw (digit_mask c.loop-i.i (omega arith), c.loop-i.invariant, add-one c.loop-i.i) (term_more c.loop-i.i c.args.half)
+loop-i-preserved g c = rw (c.loop-i.invariant, add-one c.loop-i.i) (term_more c.loop-i.i c.args.half (omega arith))
