@@ -14,18 +14,15 @@ varint_bytes n bytes v =
 pub varint_longest : (n : ℕ) (bytes : List ℕ) → IsVarint n bytes → length bytes ≤ most_marked + 1
 varint_longest n bytes v = omega (arith, varint_bytes n bytes v, (varint_length n bytes v).0)
 
-pub encoding_bytes_count : (p : Pair) (bytes : List ℕ) (e : IsEncoding p bytes)
-    → length bytes ≡ length e.code + length e.size + length p.digest
-encoding_bytes_count p bytes e =
-    omega (arith, ap length e.spelled, length-append e.code (e.size ++ p.digest), length-append e.size p.digest)
-
 -- the longest encoding: the code's bytes, two of the size, and the digest
 pub encoding_length : (p : Pair) (bytes : List ℕ) → IsEncoding p bytes → length p.digest ≤ 255
     → length bytes ≤ (most_marked + 1) + 2 + 255
 encoding_length p bytes e fits =
     omega (
       arith,
-      encoding_bytes_count p bytes e,
+      ap length e.spelled,
+      length-append e.code (e.size ++ p.digest),
+      length-append e.size p.digest,
       varint_longest p.code e.code e.is_code,
       varint_bytes (length p.digest) e.size e.is_size,
       front_within 1 (length p.digest) e.size e.is_size (omega arith),

@@ -66,8 +66,8 @@ module _ (half : ℕ) (fits : half < 2 ^ 64) where
   bit_of_stops i r few low =
       let above = stop_bits / 2 ^ (8 * i) in
       let stop : bit_at stop_bits (8 * i + r) ≡ bit_at 128 r =
-      ap (λ (n : ℕ). n % 2) (sym (shr-shr stop_bits (8 * i) r)) ∙ (ap (λ (n : ℕ). bit_at n r) (sym (shr_split above 8))
-      ∙ (bit_at_cat_low (above / 2 ^ 8) 8 (above % 2 ^ 8) r low ∙ ap (λ (n : ℕ). bit_at n r) (stop_byte i few))) in
+      ap (λ (n : ℕ). n % 2) (sym (shr-shr stop_bits (8 * i) r)) ∙ ap (λ (n : ℕ). bit_at n r) (sym (shr_split above 8))
+      ∙ bit_at_cat_low (above / 2 ^ 8) 8 (above % 2 ^ 8) r low ∙ ap (λ (n : ℕ). bit_at n r) (stop_byte i few) in
       rw (bit_at_and (bit_not w64 half) stop_bits (8 * i + r), bit_at_not w64 half (8 * i + r) fits (omega arith), stop) refl
 
   stop_of : (i : ℕ) → i < 8 → bit_at (stops half) (8 * i + 7) ≡ 1 - byte_at half i / 128
@@ -104,7 +104,7 @@ module _ (half : ℕ) (fits : half < 2 ^ 64) where
       record {
         before = λ i few. omega (arith, unset (8 * i + 7) (omega arith), stop_of i (omega arith));
         here = omega (arith, rw seven at here, stop_of m (omega arith));
-        varint = ap (bit_and half) less ∙ (and_less place half (stops half) set unset apart ∙ ap (λ (k : ℕ). half % 2 ^ k) places);
+        varint = ap (bit_and half) less ∙ rw places at (and_less place half (stops half) set unset apart);
         none = λ none. absurd (omega arith);
         some = λ _. omega arith;
       }

@@ -7,7 +7,7 @@ use Rattle.std.proofs.lemmas.Nat.{and_mask}
 use Rattle.std.proofs.lemmas.List.{length_push, nil_from_length}
 use Rattle.std.proofs.lemmas.List.Elements.{All-nil, All-push}
 use Rattle.multihash.specs.Bytes.{IsBytes, IsProperBeginning, place_value}
-use Rattle.multihash.specs.Varint.{most_marked, first_too_large, IsMarked, IsVarint, VarintFault, insufficient, overflow, not_minimal, IsInsufficient, HasFaultyFront}
+use Rattle.multihash.specs.Varint.{most_marked, first_too_large, IsMarked, VarintFault, insufficient, overflow, not_minimal, IsInsufficient, HasFaultyFront}
 use Rattle.multihash.specs.Fault.{Fault}
 use Rattle.multihash.specs.Reading.{Takes}
 use Rattle.multihash.specs.Refusal.{Refusal, of_io, of_varint}
@@ -15,7 +15,7 @@ use Rattle.multihash.specs.Taking.{TakesVarint, TakesAtVarintRefusal}
 use Rattle.multihash.proofs.Varints.DigitLemmas.{place_value-nil, place_value-cons}
 use Rattle.multihash.proofs.Varints.MarkedLemmas.{low_digits, or_digits}
 use Rattle.multihash.proofs.Varints.VarintLemmas.{low_digits_in_range, varint_from_bytes, overflow_behind, zero_behind}
-use Rattle.multihash.proofs.Readings.ReadingLemmas.{Takes-none, Takes-kept, Takes-joined, IsAtEnd-kept}
+use Rattle.multihash.proofs.Readings.ReadingLemmas.{Takes-none, Takes-joined}
 use Rattle.multihash.proofs.Readings.ShortestLemmas.{before_step}
 
 -- so many bytes were taken, all of them marked, and the sum is the value of their digits
@@ -43,7 +43,7 @@ none_read old = record {
 abbrev pub with_byte : ℕ → ℕ → ℕ → ℕ
 with_byte sum byte i = bit_or sum (bit_and byte 127 * 2 ^ (7 * i) % 2 ^ 64)
 
-module _ (old now : Option (List ℕ)) (sum i : ℕ) (h : ReadsMarked old now sum i) (new : Option (List ℕ)) where
+module _ (old now : Option (List ℕ)) (sum i : ℕ) (h : ReadsMarked old now sum i) where
   -- what begins marked bytes and one more ends inside a varint
   before_last : (byte : ℕ) (shorter : List ℕ) → IsProperBeginning shorter (h.front ++ byte ∷ []) → IsInsufficient shorter
   before_last byte shorter begins =
@@ -59,10 +59,10 @@ module _ (old now : Option (List ℕ)) (sum i : ℕ) (h : ReadsMarked old now su
   whole = record { few = omega (arith, h.few, h.long); all_marked = h.marked }
 
   -- the bytes that were taken show a fault
-  refused : (fault : VarintFault) (taken : List ℕ) (e : Refusal) → e ≡ of_varint fault → HasFaultyFront fault taken
+  refused : (new : Option (List ℕ)) (fault : VarintFault) (taken : List ℕ) (e : Refusal) → e ≡ of_varint fault → HasFaultyFront fault taken
       → ((shorter : List ℕ) → IsProperBeginning shorter taken → IsInsufficient shorter) → (fault ≡ insufficient → IsAtEnd new)
       → Takes old taken new → TakesAtVarintRefusal e old new
-  refused fault taken e given has no_sooner all takes = record {
+  refused new fault taken e given has no_sooner all takes = record {
     taken = taken;
     takes = takes;
     shows = λ f faulty. let same : fault ≡ f = cc (given, faulty) in subst (λ k. HasFaultyFront k taken) same has;
@@ -71,34 +71,32 @@ module _ (old now : Option (List ℕ)) (sum i : ℕ) (h : ReadsMarked old now su
     failed = λ own. absurd (cc (given, own.1));
   }
 
-  module _ (kept : new ≡ now) where
-    pub reader_failed : (fault : Fault) (e : Refusal) → e ≡ of_io fault → TakesAtVarintRefusal e old new
-    reader_failed fault e given = record {
-      taken = h.front;
-      takes = Takes-kept old now new h.front kept h.takes;
-      shows = λ f faulty. absurd (cc (given, faulty));
-      no_sooner = before_end;
-      all = λ faulty. absurd (cc (given, faulty));
-      failed = λ _. whole;
-    }
+  pub reader_failed : (fault : Fault) (e : Refusal) → e ≡ of_io fault → TakesAtVarintRefusal e old now
+  reader_failed fault e given = record {
+    taken = h.front;
+    takes = h.takes;
+    shows = λ f faulty. absurd (cc (given, faulty));
+    no_sooner = before_end;
+    all = λ faulty. absurd (cc (given, faulty));
+    failed = λ _. whole;
+  }
 
-    pub input_ended : IsAtEnd now → (e : Refusal) → e ≡ of_varint insufficient → TakesAtVarintRefusal e old new
-    input_ended end e given =
-        refused insufficient h.front e given whole before_end (λ _. IsAtEnd-kept now new kept end) (Takes-kept old now new h.front kept h.takes)
+  pub input_ended : IsAtEnd now → (e : Refusal) → e ≡ of_varint insufficient → TakesAtVarintRefusal e old now
+  input_ended end e given = refused now insufficient h.front e given whole before_end (λ _. end) h.takes
 
-  module _ (byte : ℕ) (next : Takes now (byte ∷ []) new) where
+  module _ (new : Option (List ℕ)) (byte : ℕ) (next : Takes now (byte ∷ []) new) where
     takes : Takes old (h.front ++ byte ∷ []) new
     takes = Takes-joined old now new h.front (byte ∷ []) (h.front ++ byte ∷ []) refl h.takes next
 
     pub too_large : i ≡ most_marked → first_too_large ≤ byte → (e : Refusal) → e ≡ of_varint overflow → TakesAtVarintRefusal e old new
     too_large most large e given =
-        refused overflow (h.front ++ byte ∷ []) e given
+        refused new overflow (h.front ++ byte ∷ []) e given
         (overflow_behind h.front byte [] h.marked (h.long ∙ most) large)
         (before_last byte) (λ same. cc) takes
 
     pub ends_in_zero : byte ≡ 0 → 0 < i → (e : Refusal) → e ≡ of_varint not_minimal → TakesAtVarintRefusal e old new
     ends_in_zero null some e given =
-        refused not_minimal (h.front ++ byte ∷ []) e given
+        refused new not_minimal (h.front ++ byte ∷ []) e given
         (rw null (zero_behind h.front [] h.marked (omega (arith, h.long)) (omega (arith, h.long, h.few))))
         (before_last byte) (λ same. cc) takes
 

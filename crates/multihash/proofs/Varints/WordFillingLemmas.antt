@@ -1,5 +1,5 @@
 -- The word that the bytes of a slice fill.
-use Rattle.std.proofs.Common.{◌≡◌, ℕ, zero, suc, ◌+◌, ◌-◌, ◌^◌, ◌<◌, ◌≤◌, List, [], ◌∷◌, ◌++◌, length, get_or, take, drop, replicate, refl, sym, ap, ◌∙◌, arith, length-append}
+use Rattle.std.proofs.Common.{◌≡◌, ℕ, zero, suc, ◌-◌, ◌<◌, ◌≤◌, List, [], ◌++◌, length, get_or, take, drop, replicate, refl, sym, ap, ◌∙◌, arith, length-append}
 use Prim.Native.Nat.{min}
 use Rattle.std.specs.Int.{byte_worth, sum_through, from_le_bytes, w128}
 use Rattle.std.proofs.Math.Seq.{take-suc}

@@ -1,5 +1,5 @@
 -- The bytes of a word, and the number of its digits.
-use Rattle.std.proofs.Common.{◌≡◌, ℕ, zero, suc, ◌+◌, ◌-◌, ◌*◌, ◌/◌, ◌%◌, ◌^◌, ◌<◌, ◌≤◌, List, [], ◌∷◌, length, get_or, take, drop, refl, sym, ap, ◌∙◌, arith, bit_and, bit_or, mul-le-mul_right}
+use Rattle.std.proofs.Common.{◌≡◌, ℕ, zero, suc, ◌+◌, ◌-◌, ◌*◌, ◌/◌, ◌%◌, ◌^◌, ◌<◌, ◌≤◌, List, [], ◌∷◌, length, get_or, take, drop, sym, ap, ◌∙◌, arith, bit_and, bit_or, mul-le-mul_right}
 use Rattle.std.proofs.Math.Nat.{add-zero, mul-suc, mul_assoc}
 use Rattle.std.proofs.lemmas.Nat.{or_comm, or_shifted, shr-shr, shr_high, shl_whole, mod_low, pow-add, pow_pos}
 use Rattle.std.proofs.lemmas.Nat.Bits.{and_high}

@@ -9,12 +9,12 @@ loop-i-init g c = record { reads = none_read _; unfailed = refl }
 pub returns-in_err-byte-clause-err : goal.returns-in_err-byte-clause-err
 returns-in_err-byte-clause-err g c =
     passed_on c.from_residual.result _ _ _ c.from_residual.ensures.1
-    (reader_failed _ _ _ _ c.loop-i.invariant.reads _ c.in_err-byte.ensures.err c.in_err-byte.field-0.0 _ refl)
+    (rw c.in_err-byte.ensures.err (reader_failed _ _ _ _ c.loop-i.invariant.reads c.in_err-byte.field-0.0 _ refl))
 
 pub returns-in_default-clause-err : goal.returns-in_default-clause-err
 returns-in_default-clause-err g c =
     let ended = rw c.in_default.is at c.in_ok-byte.ensures.byte in
-    input_ended _ _ _ _ c.loop-i.invariant.reads _ ended.1 ended.0 _ c.insufficient.ensures
+    rw ended.1 (input_ended _ _ _ _ c.loop-i.invariant.reads ended.0 _ c.insufficient.ensures)
 
 pub returns-then-byte-ge-FIRST_TOO_LARGE-clause-err : goal.returns-then-byte-ge-FIRST_TOO_LARGE-clause-err
 returns-then-byte-ge-FIRST_TOO_LARGE-clause-err g c =
