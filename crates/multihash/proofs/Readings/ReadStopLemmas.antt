@@ -11,8 +11,8 @@ use Rattle.multihash.specs.Reading.{Takes, HasFewerThan}
 use Rattle.multihash.specs.Refusal.{Refusal, of_io, IsReaderFault, IsInvalidSize, IsFaulty}
 use Rattle.multihash.specs.Taking.{IsVarintRefusal, TakesAtVarintRefusal}
 use Rattle.multihash.specs.Answer.{Fields, pair_of}
-use Rattle.multihash.proofs.Readings.BeginningLemmas.{split_beginning}
-use Rattle.multihash.proofs.Readings.ShortestLemmas.{EndsEarly, varint_step, before_first, before_second}
+use Rattle.multihash.proofs.Readings.VerdictLemmas.{coded, sized}
+use Rattle.multihash.proofs.Readings.ShortestLemmas.{EndsEarly, before_second, before_both}
 use Rattle.multihash.proofs.Readings.ReadTakingLemmas.{Stops, at_settled, at_early_end, at_failure}
 
 -- how reading a varint counted
@@ -43,31 +43,22 @@ module _ (S : ℕ) (e : Refusal) (old new : Option (List ℕ)) (before after : �
   pub stops_in_code : VarintCounts before after e → Stops S e t.taken new before after
   stops_in_code = stops_in_varint [] (λ f h. inl h) (λ p b. (faulty insufficient, inl (t.no_sooner p b), tt))
 
-  module _ (code : ℕ) (a : List ℕ) (is_code : IsVarint code a) where
-    size_no_sooner : (p : List ℕ) → IsProperBeginning p (a ++ t.taken) → EndsEarly S p
-    size_no_sooner p b =
-        elim (split_beginning a t.taken p b) [
-          | inl soon ↦ before_first S a p (varint_step code a is_code) soon
-          | inr (q, cut, more) ↦
-              (faulty insufficient, inr (q, record { code = code; code_bytes = a; is_code = is_code; cut = cut }, t.no_sooner q more), tt)
-        ]
-
-    pub stops_in_size : VarintCounts before after e → Stops S e (a ++ t.taken) new before after
-    stops_in_size =
-        stops_in_varint a (λ f h. inr (t.taken, record { code = code; code_bytes = a; is_code = is_code; cut = refl }, h)) size_no_sooner
+  pub stops_in_size : (code : ℕ) (a : List ℕ) → IsVarint code a → VarintCounts before after e → Stops S e (a ++ t.taken) new before after
+  stops_in_size code a is_code =
+      stops_in_varint a (λ f h. inr (t.taken, coded code a _ t.taken is_code refl, h)) (λ p b. before_second S code a t.taken p is_code t.no_sooner b)
 
 -- ---- behind both varints
 
 module _ (S code size : ℕ) (a b : List ℕ) (is_code : IsVarint code a) (is_size : IsVarint size b) where
   has_size : (rest : List ℕ) → HasSize size (a ++ (b ++ rest)) rest
-  has_size rest = record { code = code; code_bytes = a; size_bytes = b; is_code = is_code; is_size = is_size; cut = refl }
+  has_size rest = sized code size a b _ rest is_code is_size refl
 
   pub stops_at_size : (e : Refusal) (new : Option (List ℕ)) (before after : ℕ) → after ≡ before → digest_limit S < size → IsInvalidSize size e
       → Stops S e (a ++ b) new before after
   stops_at_size e new before after same over given =
       at_settled (invalid_size size) same (λ h. h) given
       ([], subst (λ z. HasSize size (a ++ z) []) (append-nil b) (has_size []), over)
-      (λ p begins. before_second S code a b p is_code (varint_step size b is_size) begins)
+      (λ p begins. before_both S code size a b p is_code is_size begins)
 
   cut_digest : (rest : List ℕ) → size ≤ digest_limit S → length rest < size → HasVerdict S (a ++ (b ++ rest)) unexpected_eof
   cut_digest rest within short = (size, rest, has_size rest, within, short)
@@ -90,14 +81,3 @@ module _ (S code size : ℕ) (a b : List ℕ) (is_code : IsVarint code a) (is_si
   stops_in_digest fault front mid new before after within short takes few (inr (same, ended)) =
       at_early_end unexpected_eof same tt (fault, refl, ended) (cut_digest front within short) (λ no. cc)
       (cut_whole front mid new within takes (few ended))
-
-  -- the fields that were read mean the pair that was encoded
-  pub encodes_fields : (m : Fields S) (digest : List ℕ) → m.code ≡ code → take m.size m.buffer ≡ digest
-      → length digest ≡ size → IsEncoding (pair_of m) (a ++ (b ++ digest))
-  encodes_fields m digest same_code same long = record {
-    code = a;
-    size = b;
-    is_code = subst (λ n. IsVarint n a) (sym same_code) is_code;
-    is_size = subst (λ n. IsVarint n b) (sym (ap length same ∙ long)) is_size;
-    spelled = ap (λ z. a ++ (b ++ z)) (sym same);
-  }

@@ -1,10 +1,11 @@
-use Rattle.std.proofs.Common.{◌≡◌, ◌≤◌, ℕ, ◌++◌, length, take, drop, replicate, refl, ◌∙◌, arith, rules}
+use Rattle.std.proofs.Common.{◌≡◌, ◌≤◌, ℕ, ◌++◌, length, take, drop, replicate, refl, sym, ap, ◌∙◌, arith, rules}
 use Rattle.std.proofs.lemmas.List.{take_at, length-take-le, length-replicate}
 use Rattle.multihash.specs.Pair.{digest_limit}
 use Rattle.multihash.specs.Varint.{IsVarint}
-use Rattle.multihash.specs.Answer.{Fields}
+use Rattle.multihash.specs.Answer.{Fields, pair_of}
+use Rattle.multihash.proofs.Writings.EncodingLemmas.{encoding_of}
 use Rattle.multihash.proofs.Readings.ReadingLemmas.{Takes-joined}
-use Rattle.multihash.proofs.Readings.ReadStopLemmas.{stops_in_code, stops_in_size, stops_at_size, stops_in_digest, encodes_fields}
+use Rattle.multihash.proofs.Readings.ReadStopLemmas.{stops_in_code, stops_in_size, stops_at_size, stops_in_digest}
 use Rattle.multihash.proofs.Readings.ReadTakingLemmas.{read_refused, read_answered}
 use Rattle.multihash.proofs.multihash.Multihash.read.Goals as goal
 
@@ -69,5 +70,5 @@ returns g c =
     } in
     read_answered S (code.ok.0 ++ (size.ok.0 ++ digest)) _ _ _ _ made
     (c.in_ok-read_exact.ensures.laws.faults ∙ (size.faults ∙ code.faults))
-    (encodes_fields S _ _ code.ok.0 size.ok.0 code.ok.1 is_size made digest refl front long)
+    (encoding_of (pair_of made) _ _ digest code.ok.0 size.ok.0 refl (sym (ap length front ∙ long)) (sym front) code.ok.1 is_size)
     (Takes-joined _ _ _ code.ok.0 (size.ok.0 ++ digest) _ refl code.ok.2 (Takes-joined _ _ _ size.ok.0 digest _ refl size.ok.2 c.in_ok-read_exact.ensures.laws.takes))
