@@ -1,11 +1,10 @@
 -- What `read` promises where it stops: at a verdict that what was taken settles, at an early end, or at a failure.
 use Rattle.std.proofs.Common.{◌∙◌, ◌≡◌, ◌+◌, ◌<◌, ◌⊎◌, ℕ, List, [], ◌++◌, Option, Some, Result, Ok, Err, IfSome, IfOk, IfErr, refl, sym, ap, subst, inl, inr, arith, append-nil}
-use Rattle.std.specs.Result.{IsErrAnd}
 use Rattle.multihash.specs.Bytes.{IsProperBeginning}
 use Rattle.multihash.specs.Pair.{FitsBuffer}
 use Rattle.multihash.specs.Varint.{insufficient}
 use Rattle.multihash.specs.Encoding.{IsEncoding}
-use Rattle.multihash.specs.Verdict.{Verdict, accepted, invalid_size, invalid_code, faulty, unexpected_eof, HasVerdict, HasWholeVerdict, IsEarlyEnd}
+use Rattle.multihash.specs.Verdict.{Verdict, accepted, invalid_size, invalid_code, faulty, unexpected_eof, HasVerdict, IsEarlyEnd}
 use Rattle.std.specs.Io.KnownBytes.{IsAtEnd, prepend_known}
 use Rattle.multihash.specs.Reading.{Takes, CountsReader}
 use Rattle.multihash.specs.Fault.{Fault}
@@ -179,20 +178,3 @@ read_answered S taken old new before after m unrisen encodes takes =
     at_pair S taken old new before after takes (accepted (pair_of m))
     ([], record { encoding = taken; encodes = encodes; cut = sym (append-nil taken) }, fits) unrisen (λ e. e)
     (λ p before. before_digest S (pair_of m) taken p encodes fits before) m refl encodes
-
--- ---- the whole input
-
--- a refusal of the verdict is one of the whole verdict
-whole_refused : (S : ℕ) (x : List ℕ) (e : Refusal) (v : Verdict) → HasVerdict S x v → IsRefusal e v
-    → (w : Verdict) × HasWholeVerdict S x w × IsRefusal e w
-whole_refused S x e (accepted p) has given = absurd given
-whole_refused S x e (invalid_size size) has given = (invalid_size size, inl has, given)
-whole_refused S x e (invalid_code code) has given = absurd has
-whole_refused S x e (faulty fault) has given = (faulty fault, has, given)
-whole_refused S x e unexpected_eof has given = (unexpected_eof, has, given)
-
-pub whole_passed_on : (S : ℕ) (x : List ℕ) (r : Result (Fields S) Refusal) (e : Refusal) (v : Verdict) → IsErrAnd r (λ y. y ≡ e) → HasVerdict S x v
-    → IsRefusal e v → (w : Verdict) × HasWholeVerdict S x w × Answers r w
-whole_passed_on S x (Ok m) e v given has refusal = absurd given
-whole_passed_on S x (Err y) e v given has refusal =
-    whole_refused S x y v has (subst (λ (z : Refusal). IsRefusal z v) (sym given) refusal)

@@ -29,6 +29,10 @@ IfSome-taken None new taken P takes h = tt
 IfSome-taken (Some xs) None taken P takes h = cc
 IfSome-taken (Some xs) (Some left) taken P takes h = let same : xs ≡ taken ++ left = cc in subst P (sym same) (h left refl)
 
+-- where the reader tells, what was taken and what is left were its rest
+pub Takes-cut : (whole taken left : List ℕ) → Takes (Some whole) taken (Some left) → whole ≡ taken ++ left
+Takes-cut whole taken left takes = cc
+
 -- nothing was taken
 pub Takes-none : (a : Option (List ℕ)) → Takes a [] a
 Takes-none None = refl

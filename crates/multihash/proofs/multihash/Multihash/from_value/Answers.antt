@@ -1,13 +1,14 @@
 use Rattle.std.proofs.Common.{◌≡◌, ◌<◌, ◌++◌, [], length, true, refl, sym, ◌∙◌, ap, inr, rules}
 use Rattle.std.specs.List.{list_all}
 use Rattle.multihash.specs.Members.{member_bytes, is_byte}
-use Rattle.multihash.specs.Verdict.{accepted, invalid_size}
+use Rattle.multihash.specs.Verdict.{Verdict, accepted, invalid_size, HasWholeVerdict}
 use Rattle.multihash.specs.Encoding.{IsEncoding}
-use Rattle.multihash.specs.Answer.{pair_of}
+use Rattle.multihash.specs.Answer.{pair_of, Answers}
+use Rattle.multihash.proofs.OutcomeLemmas.{passed_err}
 use Rattle.multihash.proofs.Forms.JsonLemmas.{array_unique}
 use Rattle.multihash.proofs.Forms.MembersLemmas.{length-member_bytes, no_member_bytes}
 use Rattle.multihash.proofs.Readings.VerdictLemmas.{whole_pair}
-use Rattle.multihash.proofs.Readings.ReadTakingLemmas.{whole_passed_on}
+use Rattle.multihash.proofs.Readings.FrontLemmas.{whole_refused}
 use Rattle.multihash.proofs.Values.ValueLemmas.{digest_fits}
 use Rattle.multihash.proofs.multihash.Multihash.from_value.Given as given
 use Rattle.multihash.proofs.multihash.Multihash.from_value.Goals as goal
@@ -15,8 +16,10 @@ use Rattle.multihash.proofs.multihash.Multihash.from_value.Goals as goal
 pub returns-in_err-multihash-clause-verdict : goal.returns-in_err-multihash-clause-verdict
 returns-in_err-multihash-clause-verdict g c bytes h =
     let found = c.in_err-multihash.ensures.verdict refl in
-    rw (array_unique bytes _ (sym h.array ∙ c.in-Some.ensures.1.array))
-    (whole_passed_on g.row.S _ c.from_residual.result _ found.0 c.from_residual.ensures.1 found.1 found.2)
+    let listed = member_bytes c.in-Some.members.now in
+    rw (array_unique bytes listed (sym h.array ∙ c.in-Some.ensures.1.array))
+    (passed_err (λ r. (w : Verdict) × HasWholeVerdict g.row.S listed w × Answers r w) c.from_residual.result _ c.from_residual.ensures.1
+    (whole_refused g.row.S _ _ found.0 found.1 found.2))
 
 pub returns-then-not-is_empty-clause-verdict : goal.returns-then-not-is_empty-clause-verdict
 returns-then-not-is_empty-clause-verdict g c bytes h =
