@@ -26,7 +26,7 @@ use Rattle.multihash.proofs.Values.PairLemmas.{IsSame-refl, IsSame-equal}
 use Rattle.multihash.proofs.Readings.VerdictLemmas.{same_cut, same_number, encoding_same, encoding_unique, verdict_unique, whole_verdict_unique}
 use Rattle.multihash.proofs.Varints.VarintLemmas.{number_no_fault}
 use Rattle.multihash.proofs.Forms.ScaleLemmas.{scale_same, scale_own, scale_verdict_unique}
-use Rattle.multihash.proofs.Forms.JoinedLemmas.{joined_unique}
+use Rattle.multihash.proofs.Forms.JoinedLemmas.{none_left, first_of, same_first, joined_unique}
 
 -- two pairs are the same exactly where their encodings are one list
 pub same_encoding : (p q : Pair) (x y : List ℕ) → IsEncoding p x → IsEncoding q y → IsSame p q ↔ (x ≡ y)
@@ -43,30 +43,18 @@ tests_agree false true p q both = absurd (false≢true (p.1 (both.1 (q.0 refl)))
 tests_agree false false p q both = refl
 
 -- what follows some encodings begins with the next, where those of more pairs begin the input
-next_each : (S : ℕ) (qs ps : List Pair) (fs es : List (List ℕ)) (rest more : List ℕ) → AllZip IsEncoding qs fs → AllZip IsEncoding ps es
-    → All (FitsBuffer S) ps → length qs < length ps → concat fs ++ rest ≡ concat es ++ more → (p : Pair) × HasVerdict S rest (accepted p)
-next_each S qs [] fs es rest more h k fit less e = absurd (omega arith)
-next_each S qs (p ∷ ps) fs [] rest more h k fit less e = absurd k
-next_each S [] (p ∷ ps) (y ∷ fs) (x ∷ es) rest more h k fit less e = absurd h
-next_each S [] (p ∷ ps) [] (x ∷ es) rest more h k fit less e = (
-  p,
-  (
-    concat es ++ more,
-    record { encoding = x; encodes = k.0; cut = e ∙ append_assoc x (concat es) more },
-    All-head (FitsBuffer S) p ps fit,
-  ),
-)
-next_each S (q ∷ qs) (p ∷ ps) [] (x ∷ es) rest more h k fit less e = absurd h
-next_each S (q ∷ qs) (p ∷ ps) (y ∷ fs) (x ∷ es) rest more h k fit less e =
-    let first = encoding_unique q p y x (concat fs ++ rest) (concat es ++ more) h.0 k.0
-    (sym (append_assoc y (concat fs) rest) ∙ (e ∙ append_assoc x (concat es) more)) in
-    next_each S qs ps fs es rest more h.1 k.1 (All-tail (FitsBuffer S) p ps fit) (omega arith) first.2
-
-pub next_joined : (S : ℕ) (qs ps : List Pair) (b a rest more : List ℕ) → AreJoined qs b → AreJoined ps a → All (FitsBuffer S) ps
+next_joined : (S : ℕ) (qs ps : List Pair) (b a rest more : List ℕ) → AreJoined qs b → AreJoined ps a → All (FitsBuffer S) ps
     → length qs < length ps → b ++ rest ≡ a ++ more → (p : Pair) × HasVerdict S rest (accepted p)
-next_joined S qs ps b a rest more h k fit less e =
-    next_each S qs ps h.encodings k.encodings rest more h.each k.each fit less
-    (sym (ap (λ (z : List ℕ). z ++ rest) h.joined) ∙ (e ∙ ap (λ (z : List ℕ). z ++ more) k.joined))
+next_joined S qs [] b a rest more h k fit less e = absurd (omega arith)
+next_joined S [] (p ∷ ps) b a rest more h k fit less e =
+    let (x, y, encodes, _, cut) = first_of p ps a k in
+    let behind : rest ≡ x ++ (y ++ more) = sym (ap (λ z. z ++ rest) (none_left b h)) ∙ (e ∙ ap (λ z. z ++ more) cut ∙ append_assoc x y more) in
+    (p, (y ++ more, record { encoding = x; encodes = encodes; cut = behind }, All-head (FitsBuffer S) p ps fit))
+next_joined S (q ∷ qs) (p ∷ ps) b a rest more h k fit less e =
+    let x = first_of q qs b h in
+    let y = first_of p ps a k in
+    let first = same_first q p qs ps b a rest more x y e in
+    next_joined S qs ps x.1 y.1 rest more x.3 y.3 (All-tail (FitsBuffer S) p ps fit) (omega arith) first.1
 
 -- reading a stream of so many pairs did not stop at a refusal
 pub never_stops : (S count : ℕ) (e : Refusal) (n : ℕ) (new : Option (List ℕ)) (pairs : List Pair) (bytes more : List ℕ)
