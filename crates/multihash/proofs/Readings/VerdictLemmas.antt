@@ -159,7 +159,7 @@ from_front S x bytes (number code r) (a, is_code, e) =
     (front_of_has r (All-append_right (λ byte. byte < 256) a r (All-same (λ byte. byte < 256) (a ++ r) x (sym e) bytes)))
 from_front S x bytes (fault f) h = (faulty f, inl h)
 
-pub verdict_exists : (S : ℕ) (x : List ℕ) → IsBytes x → (v : Verdict) × HasVerdict S x v
+verdict_exists : (S : ℕ) (x : List ℕ) → IsBytes x → (v : Verdict) × HasVerdict S x v
 verdict_exists S x bytes = from_front S x bytes (front_of x) (front_of_has x bytes)
 
 -- and it is the one that is computed
@@ -173,7 +173,10 @@ abbrev left_over : Pair → List ℕ → Verdict
 left_over p [] = accepted p
 left_over p (byte ∷ rest) = invalid_size (length (byte ∷ rest))
 
-whole_is : (S : ℕ) (x : List ℕ) (v : Verdict) → HasWholeVerdict S x v → v ≡ found_by left_over S x
+abbrev pub whole_found : ℕ → List ℕ → Verdict
+whole_found S x = found_by left_over S x
+
+pub whole_is : (S : ℕ) (x : List ℕ) (v : Verdict) → HasWholeVerdict S x v → v ≡ whole_found S x
 whole_is S x (accepted p) (e, fits) =
     judged_pair left_over S x p [] (record { encoding = x; encodes = e; cut = sym (append-nil x) }) fits
 whole_is S x (invalid_size size) (inl h) = found_is left_over S x (invalid_size size) h (λ p rest same. cc)
@@ -191,7 +194,7 @@ whole_verdict_unique S x v w h k = whole_is S x v h ∙ sym (whole_is S x w k)
 pub whole_pair : (p : Pair) (x : List ℕ) → BeginsWith p x [] → IsEncoding p x
 whole_pair p x b = subst (IsEncoding p) (sym (b.cut ∙ append-nil b.encoding)) b.encodes
 
--- what a verdict says of the whole
+-- what the verdict says of the whole
 whole_from : (S : ℕ) (x : List ℕ) (u : Verdict) → HasVerdict S x u → (v : Verdict) × HasWholeVerdict S x v
 whole_from S x (accepted p) ([], b, fits) = (accepted p, (whole_pair p x b, fits))
 whole_from S x (accepted p) (byte ∷ rest, b, fits) = (invalid_size _, inr (p, byte ∷ rest, b, fits, refl, omega arith))
@@ -200,5 +203,5 @@ whole_from S x (invalid_code code) h = (invalid_code code, h)
 whole_from S x (faulty f) h = (faulty f, h)
 whole_from S x unexpected_eof h = (unexpected_eof, h)
 
-pub whole_verdict_exists : (S : ℕ) (x : List ℕ) → IsBytes x → (v : Verdict) × HasWholeVerdict S x v
-whole_verdict_exists S x bytes = let u = verdict_exists S x bytes in whole_from S x u.0 u.1
+pub has_whole_found : (S : ℕ) (x : List ℕ) → IsBytes x → HasWholeVerdict S x (whole_found S x)
+has_whole_found S x bytes = let (v, h) = whole_from S x _ (has_found S x bytes) in subst (HasWholeVerdict S x) (whole_is S x v h) h
