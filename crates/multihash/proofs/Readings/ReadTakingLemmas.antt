@@ -51,7 +51,7 @@ verdict_of_refusal e (faulty fault) given = ap verdict_of (sym given)
 verdict_of_refusal e unexpected_eof given = ap verdict_of (sym given.1)
 
 -- so one verdict alone does
-refusal_unique : (e : Refusal) (v w : Verdict) → IsRefusal e v → IsRefusal e w → v ≡ w
+pub refusal_unique : (e : Refusal) (v w : Verdict) → IsRefusal e v → IsRefusal e w → v ≡ w
 refusal_unique e v w h k = verdict_of_refusal e v h ∙ sym (verdict_of_refusal e w k)
 
 own_not_eof : (e : Refusal) → IsReaderFault e → IsEof e → ⊥
@@ -61,7 +61,7 @@ own_not_eof e (fault, given, kind) h =
     elim kind [ inl other ↦ cc (kinds, other, h.2) | inr memory ↦ cc (kinds, memory, h.2) ]
 
 -- no verdict asks for a fault of the reader's own
-own_no_refusal : (e : Refusal) (v : Verdict) → IsReaderFault e → IsRefusal e v → ⊥
+pub own_no_refusal : (e : Refusal) (v : Verdict) → IsReaderFault e → IsRefusal e v → ⊥
 own_no_refusal e v own given =
     own_not_eof e own (subst (IsRefusal e) (verdict_of_refusal e v given ∙ ap verdict_of own.1) given)
 

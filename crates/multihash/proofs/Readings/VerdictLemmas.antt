@@ -159,12 +159,10 @@ from_front S x bytes (number code r) (a, is_code, e) =
     (front_of_has r (All-append_right (λ byte. byte < 256) a r (All-same (λ byte. byte < 256) (a ++ r) x (sym e) bytes)))
 from_front S x bytes (fault f) h = (faulty f, inl h)
 
-verdict_exists : (S : ℕ) (x : List ℕ) → IsBytes x → (v : Verdict) × HasVerdict S x v
-verdict_exists S x bytes = from_front S x bytes (front_of x) (front_of_has x bytes)
-
--- and it is the one that is computed
+-- the verdict that is computed holds
 pub has_found : (S : ℕ) (x : List ℕ) → IsBytes x → HasVerdict S x (found S x)
-has_found S x bytes = let (v, h) = verdict_exists S x bytes in subst (HasVerdict S x) (verdict_is S x v h) h
+has_found S x bytes =
+    let (v, h) = from_front S x bytes (front_of x) (front_of_has x bytes) in subst (HasVerdict S x) (verdict_is S x v h) h
 
 -- ---- the verdict on the whole
 
