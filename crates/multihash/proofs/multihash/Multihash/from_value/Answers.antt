@@ -1,12 +1,12 @@
 use Rattle.std.proofs.Common.{◌≡◌, ◌<◌, ◌++◌, [], length, true, refl, sym, ◌∙◌, ap, inr, rules}
-use Rattle.std.specs.List.{list_all}
+use Rattle.std.proofs.lemmas.List.{nil_from_length}
 use Rattle.multihash.specs.Members.{member_bytes, is_byte}
 use Rattle.multihash.specs.Verdict.{Verdict, accepted, invalid_size, HasWholeVerdict}
 use Rattle.multihash.specs.Encoding.{IsEncoding}
 use Rattle.multihash.specs.Answer.{pair_of, Answers}
 use Rattle.multihash.proofs.OutcomeLemmas.{passed_err}
 use Rattle.multihash.proofs.Forms.JsonLemmas.{array_unique}
-use Rattle.multihash.proofs.Forms.MembersLemmas.{length-member_bytes, no_member_bytes}
+use Rattle.multihash.proofs.Forms.MembersLemmas.{length-member_bytes}
 use Rattle.multihash.proofs.Readings.VerdictLemmas.{whole_pair}
 use Rattle.multihash.proofs.Readings.FrontLemmas.{whole_refused}
 use Rattle.multihash.proofs.Values.ValueLemmas.{digest_fits}
@@ -40,7 +40,7 @@ listed g c =
     let left = c.read.new.r.left.now in
     let none : length left ≡ 0 = search rules in
     let cut : member_bytes c.in-Some.members.now ≡ met.0 ++ member_bytes left = cc (met.2) in
-    whole_pair _ _ (record { encoding = met.0; encodes = met.1; cut = cut ∙ ap (λ l. met.0 ++ l) (no_member_bytes left (search rules) none) })
+    whole_pair _ _ (record { encoding = met.0; encodes = met.1; cut = cut ∙ ap (λ l. met.0 ++ member_bytes l) (nil_from_length left none) })
 
 pub returns-clause-verdict : goal.returns-clause-verdict
 returns-clause-verdict g c bytes h =
