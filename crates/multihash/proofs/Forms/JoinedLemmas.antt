@@ -1,5 +1,5 @@
 -- Joined encodings can be taken apart in one way only.
-use Rattle.std.proofs.Common.{◌≡◌, ℕ, ◌<◌, List, [], ◌∷◌, ◌++◌, length, refl, sym, ap, ◌∙◌, subst, arith, length-append, append_assoc, append-nil}
+use Rattle.std.proofs.Common.{◌≡◌, ℕ, List, [], ◌∷◌, ◌++◌, length, refl, sym, ap, ◌∙◌, subst, arith, length-append, append_assoc, append-nil}
 use Rattle.std.specs.List.{concat, AllZip}
 use Rattle.multihash.specs.Pair.{Pair}
 use Rattle.multihash.specs.Varint.{marked}
@@ -81,17 +81,6 @@ joined_whole (p ∷ ps) (q ∷ qs) bytes h k =
     let first = same_first p q ps qs bytes bytes [] [] x y refl in
     let same : y.1 ≡ x.1 = sym (sym (append-nil x.1) ∙ first.1 ∙ append-nil y.1) in
     cc (first.0, joined_whole ps qs x.1 x.3 (subst (AreJoined qs) same y.3))
-
--- the first of some pairs are joined at the front
-pub joined_front : (ps qs : List Pair) (all front : List ℕ) → AreJoined (ps ++ qs) all → AreJoined ps front
-    → (rest : List ℕ) × (all ≡ front ++ rest)
-joined_front [] qs all front h k = (all, rw (none_left front k) refl)
-joined_front (p ∷ ps) qs all front h k =
-    let (x, a, is_x, h', cut) = first_of p (ps ++ qs) all h in
-    let (y, b, is_y, k', cut') = first_of p ps front k in
-    let (rest, others) = joined_front ps qs a b h' k' in
-    let first : x ≡ y = encoding_same p x y is_x is_y in
-    (rest, cut ∙ (cc (first, others) ∙ (sym (append_assoc y b rest) ∙ ap (λ z. z ++ rest) (sym cut'))))
 
 -- some pairs have one joined encoding
 pub joined_same : (ps : List Pair) (a b : List ℕ) → AreJoined ps a → AreJoined ps b → a ≡ b

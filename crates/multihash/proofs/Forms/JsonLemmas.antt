@@ -1,6 +1,5 @@
 -- The JSON list of a pair tells the pair.
 use Rattle.std.proofs.Common.{◌≡◌, ℕ, ◌+◌, ◌<◌, List, [], ◌∷◌, ◌++◌, length, map, refl, sym, ap, ◌∙◌, subst, arith}
-use Rattle.std.specs.List.{All}
 use Rattle.std.proofs.lemmas.List.Elements.{All-append, All-push, All-same, All-map, All-head}
 use Rattle.serde_json.specs.Data.{Data, number, unsigned, Items}
 use Rattle.serde_json.specs.View.{items_of}

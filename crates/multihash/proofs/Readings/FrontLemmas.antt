@@ -1,7 +1,7 @@
 -- Two varints that begin an input: the head that they are, and the verdict on the whole behind them.
 use Rattle.std.proofs.Common.{◌≡◌, ◌<◌, ◌≤◌, ◌+◌, ◌-◌, ℕ, List, [], ◌++◌, Some, length, refl, sym, ap, ◌∙◌, subst, inl, inr, arith, take, drop, append-nil}
 use Rattle.std.proofs.lemmas.List.{take-append-drop, take_rest, length-take-le, length-drop, drop-drop}
-use Rattle.multihash.specs.Pair.{Pair, digest_limit}
+use Rattle.multihash.specs.Pair.{digest_limit}
 use Rattle.multihash.specs.Verdict.{Verdict, accepted, invalid_size, invalid_code, faulty, unexpected_eof, HasSize, HasCode, HasVerdict, HasWholeVerdict}
 use Rattle.multihash.specs.Head.{HasHead}
 use Rattle.multihash.specs.Refusal.{Refusal}

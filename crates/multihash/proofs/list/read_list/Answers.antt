@@ -1,8 +1,8 @@
-use Rattle.std.proofs.Common.{◌≡◌, ◌<◌, [], ◌∷◌, ◌++◌, length, map, refl, ap, ◌∙◌, inr, arith, rules}
+use Rattle.std.proofs.Common.{◌≡◌, ◌<◌, [], ◌∷◌, ◌++◌, length, map, inr, arith, rules}
 use Rattle.std.proofs.lemmas.List.{length-map}
 use Rattle.multihash.specs.Answer.{pair_of}
 use Rattle.multihash.proofs.OutcomeLemmas.{passed_on}
-use Rattle.multihash.proofs.Forms.StreamLemmas.{TakesPairs-none, TakesPairs-more}
+use Rattle.multihash.proofs.Forms.StreamLemmas.{TakesPairs-more}
 use Rattle.multihash.proofs.list.read_list.Goals as goal
 
 pub returns-in_err-read-clause-err : goal.returns-in_err-read-clause-err

@@ -1,4 +1,4 @@
-use Rattle.std.proofs.Common.{drop, inl, inr, subst}
+use Rattle.std.proofs.Common.{inl, inr, subst}
 use Rattle.multihash.specs.Varint.{HasFaultyFront}
 use Rattle.std.proofs.lemmas.List.{take_rest}
 use Rattle.multihash.proofs.Readings.FrontLemmas.{has_code, head_of}

@@ -1,6 +1,6 @@
-use Rattle.std.proofs.Common.{◌≡◌, ◌<◌, ◌++◌, [], length, true, refl, sym, ◌∙◌, ap, inr, rules}
+use Rattle.std.proofs.Common.{◌≡◌, ◌<◌, ◌++◌, length, refl, sym, ◌∙◌, ap, inr, rules}
 use Rattle.std.proofs.lemmas.List.{nil_from_length}
-use Rattle.multihash.specs.Members.{member_bytes, is_byte}
+use Rattle.multihash.specs.Members.{member_bytes}
 use Rattle.multihash.specs.Verdict.{Verdict, accepted, invalid_size, HasWholeVerdict}
 use Rattle.multihash.specs.Encoding.{IsEncoding}
 use Rattle.multihash.specs.Answer.{pair_of, Answers}

@@ -1,4 +1,4 @@
-use Rattle.std.proofs.Common.{[], ◌∷◌, ◌++◌, length, sym, ap, arith}
+use Rattle.std.proofs.Common.{[], ◌∷◌, ◌++◌, length, ap, arith}
 use Rattle.multihash.specs.Scale.{IsScale}
 use Rattle.multihash.specs.Answer.{pair_of}
 use Rattle.multihash.proofs.Forms.ScaleCodeLemmas.{code_bytes}
