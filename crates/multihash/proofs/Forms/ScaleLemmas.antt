@@ -107,7 +107,8 @@ scale_sized S size x rest h byte =
             let left : List ℕ = drop size rest in
             let long : length digest ≡ size = length-take-le size rest full in
             let form = scale_of (record { code = h.code; digest = digest }) size h.code_bytes digest h.is_code h.in_range (sym long) byte refl in
-            let cut = h.cut ∙ (ap (λ (z : List ℕ). h.code_bytes ++ size ∷ z) (sym (take-append-drop size rest)) ∙ sym (append_assoc h.code_bytes (size ∷ digest) left)) in
+            let cut = h.cut ∙ (ap (λ (z : List ℕ). h.code_bytes ++ size ∷ z) (sym (take-append-drop size rest))
+            ∙ sym (append_assoc h.code_bytes (size ∷ digest) left)) in
             (accepted _, (_, left, form, omega arith, cut))
       ]
     ]

@@ -30,8 +30,9 @@ ScaleMeets S old new before after r = record {
 
 module _ (S : ℕ) (old new : Option (List ℕ)) (before after : ℕ) where
   -- where what was taken settles that the code or the size is refused
-  refused : (e : Refusal) (taken : List ℕ) (v : Verdict) → Takes old taken new → after ≡ before → ((left : List ℕ) → HasScaleVerdict S (taken ++ left) v)
-      → ¬ (IsEarlyEnd v) → IsRefusal e v → IsScaleRefusal S e → ((code : ℕ) → v ≡ invalid_code code → length taken ≡ 8)
+  refused : (e : Refusal) (taken : List ℕ) (v : Verdict) → Takes old taken new → after ≡ before
+      → ((left : List ℕ) → HasScaleVerdict S (taken ++ left) v) → ¬ (IsEarlyEnd v) → IsRefusal e v → IsScaleRefusal S e
+      → ((code : ℕ) → v ≡ invalid_code code → length taken ≡ 8)
       → ((size : ℕ) → v ≡ invalid_size size → length taken ≡ 9) → ScaleMeets S old new before after (Err e)
   refused e taken v takes same has late given listed eight nine =
       let own = subst (λ x. HasScaleVerdict S x v) (append-nil taken) (has []) in record {
@@ -51,7 +52,8 @@ module _ (S : ℕ) (old new : Option (List ℕ)) (before after : ℕ) where
       }
 
   module _ (code : ℕ) (a : List ℕ) (is : IsScaleCode code a) where
-    pub code_refused : (e : Refusal) → varint_limit ≤ code → after ≡ before → IsInvalidCode code e → Takes old a new → ScaleMeets S old new before after (Err e)
+    pub code_refused : (e : Refusal) → varint_limit ≤ code → after ≡ before → IsInvalidCode code e → Takes old a new
+        → ScaleMeets S old new before after (Err e)
     code_refused e above same given takes =
         refused e a (invalid_code code) takes same (λ left. (a, left, is, above, refl)) (λ h. h) given (inl (code, given, above))
         (λ k named. is.eight) (λ k named. cc)
@@ -60,10 +62,11 @@ module _ (S : ℕ) (old new : Option (List ℕ)) (before after : ℕ) where
       has_size : (rest : List ℕ) → HasScaleSize size ((a ++ size ∷ []) ++ rest) rest
       has_size rest = record { code = code; code_bytes = a; is_code = is; in_range = below; cut = append_assoc a (size ∷ []) rest }
 
-      pub size_refused : (e : Refusal) → S < size → after ≡ before → IsInvalidSize size e → Takes old (a ++ size ∷ []) new → ScaleMeets S old new before after (Err e)
+      pub size_refused : (e : Refusal) → S < size → after ≡ before → IsInvalidSize size e → Takes old (a ++ size ∷ []) new
+          → ScaleMeets S old new before after (Err e)
       size_refused e over same given takes =
-          refused e (a ++ size ∷ []) (invalid_size size) takes same (λ left. (left, has_size left, over)) (λ h. h) given (inr (inl (size, given, over)))
-          (λ k named. cc) (λ k named. omega (arith, is.eight, length-append a (size ∷ [])))
+          refused e (a ++ size ∷ []) (invalid_size size) takes same (λ left. (left, has_size left, over)) (λ h. h) given
+          (inr (inl (size, given, over))) (λ k named. cc) (λ k named. omega (arith, is.eight, length-append a (size ∷ [])))
 
       -- the whole form
       pub answered : (digest : List ℕ) (m : Fields S) → size ≤ S → size < 256 → length digest ≡ size → after ≡ before
@@ -72,7 +75,8 @@ module _ (S : ℕ) (old new : Option (List ℕ)) (before after : ℕ) where
           let p : Pair = record { code = code; digest = digest } in
           let form : IsScale p (a ++ size ∷ digest) = scale_of p size a digest is below (sym long) byte refl in record {
             faults = same;
-            verdict = IfSome-taken old new (a ++ size ∷ digest) _ takes (λ left _ _. (accepted p, (_, left, form, omega (arith, long, fits), refl), ap accepted (sym made)));
+            verdict = IfSome-taken old new (a ++ size ∷ digest) _ takes (λ left _ _.
+                (accepted p, (_, left, form, omega (arith, long, fits), refl), ap accepted (sym made)));
             ok = (a ++ size ∷ digest, subst (λ q. IsScale q (a ++ size ∷ digest)) (sym made) form, takes);
             err = tt;
           }
@@ -103,7 +107,8 @@ module _ (S : ℕ) (old new : Option (List ℕ)) (before after : ℕ) where
       }
 
 -- a code with no size behind it, and a digest that is cut
-pub no_size : (S code : ℕ) (a : List ℕ) → IsScaleCode code a → code < varint_limit → (t : List ℕ) → length t < 1 → HasScaleVerdict S (a ++ t) unexpected_eof
+pub no_size : (S code : ℕ) (a : List ℕ) → IsScaleCode code a → code < varint_limit → (t : List ℕ) → length t < 1
+    → HasScaleVerdict S (a ++ t) unexpected_eof
 no_size S code a is below [] none = inr (inl (code, subst (IsScaleCode code) (sym (append-nil a)) is, below))
 no_size S code a is below (b ∷ t) none = absurd (omega arith)
 

@@ -15,7 +15,8 @@ use Rattle.multihash.proofs.Readings.ShortestLemmas.{EndsEarly, before_second, b
 use Rattle.multihash.proofs.Readings.ReadTakingLemmas.{ReadMeets, at_settled, at_early_end, at_failure}
 
 -- nothing is left behind bytes at an input's end
-at_end : (P : List ℕ → Type 0) (taken : List ℕ) (new : Option (List ℕ)) → IsAtEnd new → P taken → (left : List ℕ) → new ≡ Some left → P (taken ++ left)
+at_end : (P : List ℕ → Type 0) (taken : List ℕ) (new : Option (List ℕ)) → IsAtEnd new → P taken
+    → (left : List ℕ) → new ≡ Some left → P (taken ++ left)
 at_end P taken new ends p left is =
     let none : left ≡ [] = subst IsAtEnd is ends in subst P (sym (ap (λ z. taken ++ z) none ∙ append-nil taken)) p
 
@@ -23,7 +24,8 @@ at_end P taken new ends p left is =
 
 module _ (S : ℕ) (e : Refusal) (old mid new : Option (List ℕ)) (before after : ℕ) (t : TakesAtVarintRefusal e mid new)
     (how : ((after ≡ before + 1) × IsReaderFault e) ⊎ ((after ≡ before) × IsVarintRefusal e)) where
-  module _ (a : List ℕ) (takes : Takes old (a ++ t.taken) new) (shows : (f : VarintFault) → HasFaultyFront f t.taken → HasVerdict S (a ++ t.taken) (faulty f))
+  module _ (a : List ℕ) (takes : Takes old (a ++ t.taken) new)
+      (shows : (f : VarintFault) → HasFaultyFront f t.taken → HasVerdict S (a ++ t.taken) (faulty f))
       (no_sooner : (p : List ℕ) → IsProperBeginning p (a ++ t.taken) → EndsEarly S p) where
     refused : (f : VarintFault) → after ≡ before → IsFaulty f e → HasVerdict S (a ++ t.taken) (faulty f) → ReadMeets S old new before after (Err e)
     refused insufficient same given has =
@@ -53,7 +55,8 @@ module _ (S code size : ℕ) (a b : List ℕ) (is_code : IsVarint code a) (is_si
   has_size : (rest : List ℕ) → HasSize size (a ++ (b ++ rest)) rest
   has_size rest = sized code size a b _ rest is_code is_size refl
 
-  pub stops_at_size : (e : Refusal) → after ≡ before → digest_limit S < size → IsInvalidSize size e → Takes old (a ++ b) new → ReadMeets S old new before after (Err e)
+  pub stops_at_size : (e : Refusal) → after ≡ before → digest_limit S < size → IsInvalidSize size e → Takes old (a ++ b) new
+      → ReadMeets S old new before after (Err e)
   stops_at_size e same over given takes =
       at_settled S (a ++ b) old new before after takes (invalid_size size)
       ([], subst (λ z. HasSize size (a ++ z) []) (append-nil b) (has_size []), over) same (λ h. h)
@@ -64,14 +67,15 @@ module _ (S code size : ℕ) (a b : List ℕ) (is_code : IsVarint code a) (is_si
     cut_digest rest short = (size, rest, has_size rest, within, short)
 
     pub stops_in_digest : (fault : Fault) (front : List ℕ) (mid : Option (List ℕ)) → length front < size → Takes mid front new
-        → (IsUnexpectedEof fault → HasFewerThan size mid) → ((after ≡ before + 1) × IsOwnFault fault) ⊎ ((after ≡ before) × IsUnexpectedEof fault) → Takes old (a ++ (b ++ front)) new
+        → (IsUnexpectedEof fault → HasFewerThan size mid)
+        → ((after ≡ before + 1) × IsOwnFault fault) ⊎ ((after ≡ before) × IsUnexpectedEof fault) → Takes old (a ++ (b ++ front)) new
         → ReadMeets S old new before after (Err (of_io fault))
     stops_in_digest fault front mid short last few how takes =
         elim how [
           | inl (rose, own) ↦
               at_failure S _ old new before after takes unexpected_eof (cut_digest front short) tt (of_io fault) rose (fault, refl, own)
           | inr (same, ended) ↦
-              at_early_end S _ old new before after takes unexpected_eof (cut_digest front short) tt (of_io fault) same (fault, refl, ended) (λ no. cc)
-              (λ left is. rw (append_assoc a (b ++ front) left, append_assoc b front left)
+              at_early_end S _ old new before after takes unexpected_eof (cut_digest front short) tt (of_io fault) same (fault, refl, ended)
+              (λ no. cc) (λ left is. rw (append_assoc a (b ++ front) left, append_assoc b front left)
               (cut_digest (front ++ left) (subst (HasFewerThan size) (last ∙ ap (prepend_known front) is) (few ended))))
         ]

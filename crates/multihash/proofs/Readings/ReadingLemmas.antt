@@ -28,7 +28,8 @@ pub Takes-cut : (whole taken left : List ℕ) → Takes (Some whole) taken (Some
 Takes-cut whole taken left takes = cc
 
 -- and it still tells
-pub Takes-told : (whole taken : List ℕ) (new : Option (List ℕ)) → Takes (Some whole) taken new → (left : List ℕ) × (new ≡ Some left) × (whole ≡ taken ++ left)
+pub Takes-told : (whole taken : List ℕ) (new : Option (List ℕ)) → Takes (Some whole) taken new
+    → (left : List ℕ) × (new ≡ Some left) × (whole ≡ taken ++ left)
 Takes-told whole taken None takes = cc
 Takes-told whole taken (Some left) takes = (left, refl, Takes-cut whole taken left takes)
 

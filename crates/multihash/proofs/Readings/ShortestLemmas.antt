@@ -121,7 +121,8 @@ shortest_pair S p x rest b fits =
 pub shortest_size : (S size : ℕ) (x rest : List ℕ) (h : HasSize size x rest) → digest_limit S < size
     → IsShortestSettling S x (h.code_bytes ++ h.size_bytes)
 shortest_size S size x rest h over =
-    let own = sized h.code size h.code_bytes h.size_bytes _ [] h.is_code h.is_size (ap (λ (z : List ℕ). h.code_bytes ++ z) (sym (append-nil h.size_bytes))) in
+    let cut = ap (λ (z : List ℕ). h.code_bytes ++ z) (sym (append-nil h.size_bytes)) in
+    let own = sized h.code size h.code_bytes h.size_bytes _ [] h.is_code h.is_size cut in
     shortest_from S x (h.code_bytes ++ h.size_bytes) rest (invalid_size size)
     (h.cut ∙ sym (append_assoc h.code_bytes h.size_bytes rest)) ([], own, over) (λ e. e)
     (λ y before. before_both S h.code size h.code_bytes h.size_bytes y h.is_code h.is_size before)

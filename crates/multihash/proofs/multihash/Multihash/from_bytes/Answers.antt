@@ -11,8 +11,11 @@ returns-in_default-read_front g c = no_size _ _ _ (sliced _ _ _ c.in-Some.ensure
 
 pub returns-then-size : goal.returns-then-size
 returns-then-size g c =
-    let both = has_size _ _ _ (sliced _ _ _ c.in-Some.ensures.some) _ _ (sliced _ _ _ c.in-Some-read_front.ensures.some) in
-    (invalid_size _, inl (_, both, elim c.then-size.either [ inl long ↦ omega (arith, long) | inr (_, long) ↦ omega (arith, long) ]), c.from_size.ensures)
+    let both = has_size _ _ _ (sliced _ _ _ c.in-Some.ensures.some) _ _ (sliced _ _ _ c.in-Some-read_front.ensures.some) in (
+      invalid_size _,
+      inl (_, both, elim c.then-size.either [ inl long ↦ omega (arith, long) | inr (_, long) ↦ omega (arith, long) ]),
+      c.from_size.ensures,
+    )
 
 pub returns-then-digest-len : goal.returns-then-digest-len
 returns-then-digest-len g c =

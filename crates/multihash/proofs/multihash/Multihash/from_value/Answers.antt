@@ -23,13 +23,14 @@ returns-in_err-multihash-clause-verdict g c bytes h =
 
 pub returns-then-not-is_empty-clause-verdict : goal.returns-then-not-is_empty-clause-verdict
 returns-then-not-is_empty-clause-verdict g c bytes h =
+    let m = c.in_ok-multihash.multihash in
     let met = c.in_ok-multihash.ensures.ok in
     let left = c.read.new.r.left.now in
     let some : 0 < length left = search rules in
     let count = length-member_bytes left (search rules) in
     rw (array_unique bytes _ (sym h.array ∙ c.in-Some.ensures.1.array)) (
       invalid_size (length left),
-      inr (_, member_bytes left, record { encoding = met.0; encodes = met.1; cut = cc (met.2) }, digest_fits c.in_ok-multihash.multihash, count, some),
+      inr (pair_of m, member_bytes left, record { encoding = met.0; encodes = met.1; cut = cc (met.2) }, digest_fits m, count, some),
       c.from_size.ensures,
     )
 

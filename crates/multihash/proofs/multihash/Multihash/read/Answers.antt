@@ -41,8 +41,9 @@ returns-in_err-read_exact g c =
     length-take-le c.from-len.result (replicate {A = ℕ} S 0) (omega (arith, length-replicate {A = ℕ} S 0, c.in_ok-size.ensures.ok, c.in_ok-size.ensures.fits))
     ∙ (c.from-len.ensures ∙ c.in_ok-size.ensures.ok) in
     passed_err (ReadMeets S _ _ _ _) c.from_residual-in_err-read_exact.result _ c.from_residual-in_err-read_exact.ensures.1
-    (stops_in_digest S _ _ code.ok.0 size.ok.0 code.ok.1 size.ok.1 _ _ _ _ c.in_ok-size.ensures.fits _ t.taken _ (omega (arith, t.fewer, room)) t.takes
-    (rw room at c.in_err-read_exact.ensures.laws.eof) (rw (size.faults ∙ code.faults) at c.in_err-read_exact.ensures.laws.faults)
+    (stops_in_digest S _ _ code.ok.0 size.ok.0 code.ok.1 size.ok.1 _ _ _ _ c.in_ok-size.ensures.fits _ t.taken _
+    (omega (arith, t.fewer, room)) t.takes (rw room at c.in_err-read_exact.ensures.laws.eof)
+    (rw (size.faults ∙ code.faults) at c.in_err-read_exact.ensures.laws.faults)
     (Takes-joined _ _ _ code.ok.0 (size.ok.0 ++ t.taken) _ refl code.ok.2 (Takes-joined _ _ _ size.ok.0 t.taken _ refl size.ok.2 t.takes)))
 
 pub returns : goal.returns

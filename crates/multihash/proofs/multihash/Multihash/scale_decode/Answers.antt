@@ -22,7 +22,8 @@ takes g c =
 
 pub returns-then-code-gt-MAX : goal.returns-then-code-gt-MAX
 returns-then-code-gt-MAX g c =
-    code_refused g.row.S _ _ _ _ _ _ (is_code g (goal.at.returns-then-code-gt-MAX g c).After-from_le_bytes-code) _ (omega (arith, c.if-code-gt-MAX.true))
+    let code = is_code g (goal.at.returns-then-code-gt-MAX g c).After-from_le_bytes-code in
+    code_refused g.row.S _ _ _ _ _ _ code _ (omega (arith, c.if-code-gt-MAX.true))
     c.in_ok-code_bytes.ensures.faults c.from_code.ensures c.in_ok-code_bytes.ensures.takes
 
 pub returns-in_err-size_byte : goal.returns-in_err-size_byte
@@ -32,14 +33,15 @@ returns-in_err-size_byte g c =
     let t = c.in_err-size_byte.ensures.err in
     let unrisen = c.in_ok-code_bytes.ensures.faults in
     passed_err (ScaleMeets S _ _ _ _) c.from_residual-in_err-size_byte.result _ c.from_residual-in_err-size_byte.ensures.1
-    (inside_refused S _ _ _ _ _ 1 (no_size S _ _ code (omega (arith, c.if-code-gt-MAX.false))) _ t.taken _ t.fewer c.in_ok-code_bytes.ensures.takes t.takes
-    c.in_err-size_byte.ensures.eof (rw unrisen at c.in_err-size_byte.ensures.faults))
+    (inside_refused S _ _ _ _ _ 1 (no_size S _ _ code (omega (arith, c.if-code-gt-MAX.false))) _ t.taken _ t.fewer
+    c.in_ok-code_bytes.ensures.takes t.takes c.in_err-size_byte.ensures.eof (rw unrisen at c.in_err-size_byte.ensures.faults))
 
 pub returns-then-size : goal.returns-then-size
 returns-then-size g c =
     let code = is_code g (goal.at.returns-then-size g c).After-from_le_bytes-code in
     size_refused g.row.S _ _ _ _ _ _ code _ (omega (arith, c.if-code-gt-MAX.false)) _ c.if-size.true
-    (c.in_ok-size_byte.ensures.faults ∙ c.in_ok-code_bytes.ensures.faults) c.from_size.ensures (takes g (goal.at.returns-then-size g c).After-from-size)
+    (c.in_ok-size_byte.ensures.faults ∙ c.in_ok-code_bytes.ensures.faults) c.from_size.ensures
+    (takes g (goal.at.returns-then-size g c).After-from-size)
 
 pub returns-in_err-read_exact : goal.returns-in_err-read_exact
 returns-in_err-read_exact g c =
@@ -51,8 +53,9 @@ returns-in_err-read_exact g c =
     let t = c.in_err-read_exact.ensures.laws.err in
     let unrisen = c.in_ok-size_byte.ensures.faults ∙ c.in_ok-code_bytes.ensures.faults in
     passed_err (ScaleMeets S _ _ _ _) c.from_residual-in_err-read_exact.result _ c.from_residual-in_err-read_exact.ensures.1
-    (inside_refused S _ _ _ _ _ size (cut_digest S _ _ code size (omega (arith, c.if-code-gt-MAX.false)) c.if-size.false) _ t.taken _ (omega (arith, t.fewer, room))
-    (takes g (goal.at.returns-in_err-read_exact g c).After-from-size) t.takes (rw room at c.in_err-read_exact.ensures.laws.eof) (rw unrisen at c.in_err-read_exact.ensures.laws.faults))
+    (inside_refused S _ _ _ _ _ size (cut_digest S _ _ code size (omega (arith, c.if-code-gt-MAX.false)) c.if-size.false) _ t.taken _
+    (omega (arith, t.fewer, room)) (takes g (goal.at.returns-in_err-read_exact g c).After-from-size) t.takes
+    (rw room at c.in_err-read_exact.ensures.laws.eof) (rw unrisen at c.in_err-read_exact.ensures.laws.faults))
 
 pub returns : goal.returns
 returns g c =
@@ -64,4 +67,5 @@ returns g c =
     let byte : size < 256 = search rules in
     answered g.row.S _ _ _ _ _ _ code size (omega (arith, c.if-code-gt-MAX.false)) d c.in_buffer.result c.if-size.false byte long
     (c.in_ok-read_exact.ensures.laws.faults ∙ (c.in_ok-size_byte.ensures.faults ∙ c.in_ok-code_bytes.ensures.faults)) (rw front at c.in_buffer.ensures)
-    (Takes-joined _ _ _ _ d _ (sym (append_assoc _ (size ∷ []) d)) (takes g (goal.at.returns g c).After-from-size) c.in_ok-read_exact.ensures.laws.takes)
+    (Takes-joined _ _ _ _ d _ (sym (append_assoc _ (size ∷ []) d)) (takes g (goal.at.returns g c).After-from-size)
+    c.in_ok-read_exact.ensures.laws.takes)

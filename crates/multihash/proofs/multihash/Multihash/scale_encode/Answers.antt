@@ -19,16 +19,19 @@ form g c =
 pub returns-in_err-write_all-clause-err : goal.returns-in_err-write_all-clause-err
 returns-in_err-write_all-clause-err g c =
     let written = form g (goal.at.returns-in_err-write_all-clause-err g c).After-digest-digest in
-    stops_in_first g.W.Write.appended g.met.W.Write.appends_joined _ _ (c.size-size.result ∷ []) c.digest-digest.result.now written _ _ _ c.in_err-write_all.ensures.laws.err
+    stops_in_first g.W.Write.appended g.met.W.Write.appends_joined _ _ (c.size-size.result ∷ []) c.digest-digest.result.now written
+    _ _ _ c.in_err-write_all.ensures.laws.err
 
 pub returns-in_err-write_all-2-clause-err : goal.returns-in_err-write_all-2-clause-err
 returns-in_err-write_all-2-clause-err g c =
-    stops_in_second g.W.Write.appended g.met.W.Write.appends_joined _ _ _ _ (form g (goal.at.returns-in_err-write_all-2-clause-err g c).After-digest-digest)
+    let written = form g (goal.at.returns-in_err-write_all-2-clause-err g c).After-digest-digest in
+    stops_in_second g.W.Write.appended g.met.W.Write.appends_joined _ _ _ _ written
     _ _ _ _ c.in_ok-write_all.ensures.laws.ok c.in_err-write_all-2.ensures.laws.err
 
 pub returns-in_err-write_all-3-clause-err : goal.returns-in_err-write_all-3-clause-err
 returns-in_err-write_all-3-clause-err g c =
-    stops_in_third g.W.Write.appended g.met.W.Write.appends_joined _ _ _ _ (form g (goal.at.returns-in_err-write_all-3-clause-err g c).After-digest-digest)
+    let written = form g (goal.at.returns-in_err-write_all-3-clause-err g c).After-digest-digest in
+    stops_in_third g.W.Write.appended g.met.W.Write.appends_joined _ _ _ _ written
     _ _ _ _ _ c.in_ok-write_all.ensures.laws.ok c.in_ok-write_all-2.ensures.laws.ok c.in_err-write_all-3.ensures.laws.err
 
 pub returns-clause-ok : goal.returns-clause-ok
