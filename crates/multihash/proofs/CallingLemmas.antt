@@ -1,6 +1,6 @@
 -- What callers conclude from the contracts of several calls.
-use Rattle.std.proofs.Common.{Vec, Global, length-append, ◌≡◌, ℕ, ◌<◌, ◌≤◌, ◌-◌, ◌⊎◌, IfOk, IfErr, OnOk, OnErr, inl, inr, length-drop, List, [], ◌∷◌, ◌++◌, length, map, Bool, true, false, IsTrue, ◌↔◌, Option, None, Some, Result, Ok, Err, MatchResult, IfSome, refl, sym, ap, ◌∙◌, subst, arith, append_assoc}
-use Rattle.std.specs.List.{concat, AllZip, All}
+use Rattle.std.proofs.Common.{Vec, Global, length-append, ◌≡◌, ℕ, ◌<◌, ◌≤◌, ◌-◌, ◌⊎◌, IfOk, IfErr, OnOk, OnErr, inl, inr, length-drop, List, [], ◌∷◌, ◌++◌, length, map, Bool, true, false, IsTrue, ◌↔◌, Option, Some, Result, Ok, Err, MatchResult, IfSome, refl, sym, ap, ◌∙◌, subst, arith, append_assoc}
+use Rattle.std.specs.List.{All}
 use Rattle.std.specs.Result.{is_ok}
 use Rattle.std.proofs.lemmas.List.{length-map}
 use Rattle.std.proofs.lemmas.Bool.{false≢true}
@@ -23,11 +23,13 @@ use Rattle.multihash.specs.Refusal.{Refusal, IsIo, IsMemory}
 use Rattle.multihash.specs.Streams.{TakesPairs, StopsAfterPairs}
 use Rattle.multihash.specs.Answer.{Fields, pair_of, IsRefusal, Answers}
 use Rattle.multihash.proofs.Writings.PlacesLemmas.{fewer_places, full_of_faults}
+use Rattle.multihash.proofs.Readings.ReadingLemmas.{Takes-cut, Takes-told}
+use Rattle.multihash.proofs.Writings.WritingLemmas.{length_of_not_nil}
 use Rattle.multihash.proofs.Values.PairLemmas.{IsSame-refl, IsSame-equal}
 use Rattle.multihash.proofs.Readings.VerdictLemmas.{same_cut, same_number, encoding_same, encoding_unique, verdict_unique, whole_verdict_unique}
 use Rattle.multihash.proofs.Varints.VarintLemmas.{number_no_fault}
-use Rattle.multihash.proofs.Forms.ScaleLemmas.{scale_same, scale_own, scale_verdict_unique}
-use Rattle.multihash.proofs.Forms.JoinedLemmas.{joined_unique}
+use Rattle.multihash.proofs.Forms.ScaleLemmas.{scale_split, scale_verdict_unique}
+use Rattle.multihash.proofs.Forms.JoinedLemmas.{none_left, first_of, same_first, joined_unique}
 
 -- two pairs are the same exactly where their encodings are one list
 pub same_encoding : (p q : Pair) (x y : List ℕ) → IsEncoding p x → IsEncoding q y → IsSame p q ↔ (x ≡ y)
@@ -44,45 +46,28 @@ tests_agree false true p q both = absurd (false≢true (p.1 (both.1 (q.0 refl)))
 tests_agree false false p q both = refl
 
 -- what follows some encodings begins with the next, where those of more pairs begin the input
-next_each : (S : ℕ) (qs ps : List Pair) (fs es : List (List ℕ)) (rest more : List ℕ) → AllZip IsEncoding qs fs → AllZip IsEncoding ps es
-    → All (FitsBuffer S) ps → length qs < length ps → concat fs ++ rest ≡ concat es ++ more → (p : Pair) × HasVerdict S rest (accepted p)
-next_each S qs [] fs es rest more h k fit less e = absurd (omega arith)
-next_each S qs (p ∷ ps) fs [] rest more h k fit less e = absurd k
-next_each S [] (p ∷ ps) (y ∷ fs) (x ∷ es) rest more h k fit less e = absurd h
-next_each S [] (p ∷ ps) [] (x ∷ es) rest more h k fit less e = (
-  p,
-  (
-    concat es ++ more,
-    record { encoding = x; encodes = k.0; cut = e ∙ append_assoc x (concat es) more },
-    All-head (FitsBuffer S) p ps fit,
-  ),
-)
-next_each S (q ∷ qs) (p ∷ ps) [] (x ∷ es) rest more h k fit less e = absurd h
-next_each S (q ∷ qs) (p ∷ ps) (y ∷ fs) (x ∷ es) rest more h k fit less e =
-    let first = encoding_unique q p y x (concat fs ++ rest) (concat es ++ more) h.0 k.0
-    (sym (append_assoc y (concat fs) rest) ∙ (e ∙ append_assoc x (concat es) more)) in
-    next_each S qs ps fs es rest more h.1 k.1 (All-tail (FitsBuffer S) p ps fit) (omega arith) first.2
-
-pub next_joined : (S : ℕ) (qs ps : List Pair) (b a rest more : List ℕ) → AreJoined qs b → AreJoined ps a → All (FitsBuffer S) ps
+next_joined : (S : ℕ) (qs ps : List Pair) (b a rest more : List ℕ) → AreJoined qs b → AreJoined ps a → All (FitsBuffer S) ps
     → length qs < length ps → b ++ rest ≡ a ++ more → (p : Pair) × HasVerdict S rest (accepted p)
-next_joined S qs ps b a rest more h k fit less e =
-    next_each S qs ps h.encodings k.encodings rest more h.each k.each fit less
-    (sym (ap (λ (z : List ℕ). z ++ rest) h.joined) ∙ (e ∙ ap (λ (z : List ℕ). z ++ more) k.joined))
+next_joined S qs [] b a rest more h k fit less e = absurd (omega arith)
+next_joined S [] (p ∷ ps) b a rest more h k fit less e =
+    let (x, y, encodes, _, cut) = first_of p ps a k in
+    let behind : rest ≡ x ++ (y ++ more) = sym (ap (λ z. z ++ rest) (none_left b h)) ∙ (e ∙ ap (λ z. z ++ more) cut ∙ append_assoc x y more) in
+    (p, (y ++ more, record { encoding = x; encodes = encodes; cut = behind }, All-head (FitsBuffer S) p ps fit))
+next_joined S (q ∷ qs) (p ∷ ps) b a rest more h k fit less e =
+    let x = first_of q qs b h in
+    let y = first_of p ps a k in
+    let first = same_first q p qs ps b a rest more x y e in
+    next_joined S qs ps x.1 y.1 rest more x.3 y.3 (All-tail (FitsBuffer S) p ps fit) (omega arith) first.1
 
 -- reading a stream of so many pairs did not stop at a refusal
 pub never_stops : (S count : ℕ) (e : Refusal) (n : ℕ) (new : Option (List ℕ)) (pairs : List Pair) (bytes more : List ℕ)
     → AreJoined pairs bytes → All (FitsBuffer S) pairs → length pairs ≡ count
     → StopsAfterPairs S count e n n (Some (bytes ++ more)) new → ⊥
-never_stops S count e n new pairs bytes more joined fit many stop = at stop.middle stop.good.takes stop.verdict
-  where
-    at : (middle : Option (List ℕ)) → Takes (Some (bytes ++ more)) stop.good.bytes middle
-        → IfSome middle (λ left. n ≡ n → (v : Verdict) × HasVerdict S left v × IsRefusal e v) → ⊥
-    at None takes verdict = cc
-    at (Some left) takes verdict =
-        let cut : stop.good.bytes ++ left ≡ bytes ++ more = cc in
-        let next = next_joined S stop.pairs pairs stop.good.bytes bytes left more stop.good.joined joined fit (omega (arith, stop.fewer)) cut in
-        let found = verdict refl in
-        subst (IsRefusal e) (verdict_unique S left found.0 (accepted next.0) found.1 next.1) found.2
+never_stops S count e n new pairs bytes more joined fit many stop =
+    let (left, is, cut) = Takes-told (bytes ++ more) stop.good.bytes stop.middle stop.good.takes in
+    let next = next_joined S stop.pairs pairs stop.good.bytes bytes left more stop.good.joined joined fit (omega (arith, stop.fewer)) (sym cut) in
+    let found = (rw is at stop.verdict) refl in
+    subst (IsRefusal e) (verdict_unique S left found.0 (accepted next.0) found.1 next.1) found.2
 
 -- reading a stream of so many pairs gives them and leaves what follows, or there was no memory
 pub read_list_of_encodings : (S count before after : ℕ) (old new : Option (List ℕ)) (pairs : List Pair) (bytes more : List ℕ)
@@ -91,15 +76,11 @@ pub read_list_of_encodings : (S count before after : ℕ) (old new : Option (Lis
     → IfOk r (λ list. (length list.items ≡ count) × TakesPairs S (map pair_of list.items) old new)
     → IfErr r (λ e. (IsMemory e × (after ≡ before) × (new ≡ old)) ⊎ StopsAfterPairs S count e before after old new)
     → MatchResult r (λ list. (map pair_of list.items ≡ pairs) × (new ≡ Some more)) IsMemory
-read_list_of_encodings S count before after old new pairs bytes more (Ok list) joined fit many rest same ok err = at new ok.1.takes
-  where
-    at : (new : Option (List ℕ)) → Takes old ok.1.bytes new → (map pair_of list.items ≡ pairs) × (new ≡ Some more)
-    at None takes = cc
-    at (Some left) takes =
-        let cut : ok.1.bytes ++ left ≡ bytes ++ more = cc in
-        let told = joined_unique (map pair_of list.items) pairs ok.1.bytes bytes left more
-        (omega (arith, length-map list.items pair_of, ok.0)) ok.1.joined joined cut in
-        (told.0, ap Some told.1)
+read_list_of_encodings S count before after old new pairs bytes more (Ok list) joined fit many rest same ok err =
+    let (left, is, cut) = Takes-told (bytes ++ more) ok.1.bytes new (sym rest ∙ ok.1.takes) in
+    let long : length (map pair_of list.items) ≡ length pairs = omega (arith, length-map list.items pair_of, ok.0) in
+    let told = joined_unique (map pair_of list.items) pairs ok.1.bytes bytes left more long ok.1.joined joined (sym cut) in
+    (told.0, is ∙ ap Some told.1)
 read_list_of_encodings S count before after old new pairs bytes more (Err e) joined fit many rest same ok (inl memory) = memory.0
 read_list_of_encodings S count before after old new pairs bytes more (Err e) joined fit many rest same ok (inr stop) =
     absurd (never_stops S count e before new pairs bytes more joined fit many
@@ -134,19 +115,13 @@ module _ {W : Type 0} (appended : W → List ℕ → W → Type 0) (a b : W) (Is
 pub scale_pair : (S : ℕ) (p q : Pair) (input bytes taken more left : List ℕ) (v : Verdict) → input ≡ bytes ++ more → IsScale p bytes
     → FitsBuffer S p → HasScaleVerdict S input v → v ≡ accepted q → IsScale q taken → input ≡ taken ++ left → (q ≡ p) × (left ≡ more)
 scale_pair S p q input bytes taken more left v whole form fits found answers is_taken cut =
-    let own = scale_own S p bytes more form (omega arith) in
-    let same : accepted q ≡ accepted p =
-    sym answers ∙ scale_verdict_unique S input v (accepted p) found (subst (λ x. HasScaleVerdict S x (accepted p)) (sym whole) own) in
-    let pairs : q ≡ p = cc in
-    let bytes_same : taken ≡ bytes = scale_same p taken bytes (subst (λ r. IsScale r taken) pairs is_taken) form in
-    (pairs, (same_cut taken bytes left more (ap length bytes_same) (sym cut ∙ whole)).1)
+    let same = scale_split q p taken bytes left more is_taken form (sym cut ∙ whole) in (same.0, same.2)
 
 -- and it is not refused
 pub scale_taken : (S : ℕ) (p : Pair) (input bytes more : List ℕ) (v : Verdict) (e : Refusal) → input ≡ bytes ++ more → IsScale p bytes
     → FitsBuffer S p → HasScaleVerdict S input v → IsRefusal e v → ⊥
 scale_taken S p input bytes more v e whole form fits found refused =
-    let own = scale_own S p bytes more form (omega arith) in
-    subst (IsRefusal e) (scale_verdict_unique S input v (accepted p) found (subst (λ x. HasScaleVerdict S x (accepted p)) (sym whole) own)) refused
+    subst (IsRefusal e) (scale_verdict_unique S input v (accepted p) found (bytes, more, form, omega arith, whole)) refused
 
 -- reading where a pair's encoding comes next gives the pair and leaves what follows
 pub read_of_encoding : (S before after : ℕ) (old new : Option (List ℕ)) (p : Pair) (bytes more : List ℕ) (r : Result (Fields S) Refusal)
@@ -154,20 +129,14 @@ pub read_of_encoding : (S before after : ℕ) (old new : Option (List ℕ)) (p :
     → IfSome old (λ rest. after ≡ before → (v : Verdict) × HasVerdict S rest v × Answers r v)
     → IfOk r (λ m. (taken : List ℕ) × IsEncoding (pair_of m) taken × Takes old taken new)
     → MatchResult r (λ m. (pair_of m ≡ p) × (new ≡ Some more)) (λ _. ⊥)
-read_of_encoding S before after None new p bytes more r encodes fits rest same verdict ok = cc
-read_of_encoding S before after (Some input) new p bytes more (Ok m) encodes fits rest same verdict ok = at new ok.2
-  where
-    at : (new : Option (List ℕ)) → Takes (Some input) ok.0 new → (pair_of m ≡ p) × (new ≡ Some more)
-    at None takes = cc
-    at (Some left) takes =
-        let cut : ok.0 ++ left ≡ bytes ++ more = cc in
-        let told = encoding_unique (pair_of m) p ok.0 bytes left more ok.1 encodes cut in
-        (told.0, ap Some told.2)
-read_of_encoding S before after (Some input) new p bytes more (Err e) encodes fits rest same verdict ok =
-    let v = verdict same in
-    let spelled : input ≡ bytes ++ more = cc in
-    let own : HasVerdict S input (accepted p) = (more, record { encoding = bytes; encodes = encodes; cut = spelled }, fits) in
-    subst (IsRefusal e) (verdict_unique S input v.0 (accepted p) v.1 own) v.2
+read_of_encoding S before after old new p bytes more (Ok m) encodes fits rest same verdict ok =
+    let (left, is, cut) = Takes-told (bytes ++ more) ok.0 new (sym rest ∙ ok.2) in
+    let told = encoding_unique (pair_of m) p ok.0 bytes left more ok.1 encodes (sym cut) in
+    (told.0, is ∙ ap Some told.2)
+read_of_encoding S before after old new p bytes more (Err e) encodes fits rest same verdict ok =
+    let found = (rw rest at verdict) same in
+    let own : HasVerdict S (bytes ++ more) (accepted p) = (more, record { encoding = bytes; encodes = encodes; cut = refl }, fits) in
+    subst (IsRefusal e) (verdict_unique S (bytes ++ more) found.0 (accepted p) found.1 own) found.2
 
 -- the verdict on a pair's encoding is the pair
 pub from_bytes_of_encoding : (S : ℕ) (p : Pair) (bytes : List ℕ) (r : Result (Fields S) Refusal) (v : Verdict) → HasWholeVerdict S bytes v → Answers r v
@@ -180,16 +149,10 @@ from_bytes_of_encoding S p bytes (Err e) v h answers encodes fits =
 
 -- reading took something where its verdict is no early end
 pub takes_some : (S : ℕ) (old new : List ℕ) → TakesShortestSettling S old (Some new) → length new < length old
-takes_some S old new taken = by taken.front refl
-  where
-    split : old ≡ taken.front ++ new
-    split = cc (taken.takes)
-
-    by : (front : List ℕ) → taken.front ≡ front → length new < length old
-    by [] e =
-        absurd (early_not_settles S [] (faulty insufficient) tt
-        (inl (record { few = omega arith; all_marked = All-nil IsMarked })) (subst (Settles S) e taken.shortest.settles))
-    by (b ∷ front) e = omega (arith, ap (λ (z : List ℕ). length z) split, length-append taken.front new, ap (λ (z : List ℕ). length z) e)
+takes_some S old new taken =
+    let some = length_of_not_nil taken.front (λ none. early_not_settles S [] (faulty insufficient) tt
+    (inl (record { few = omega arith; all_marked = All-nil IsMarked })) (subst (Settles S) none taken.shortest.settles)) in
+    omega (arith, some, ap length (Takes-cut old taken.front new taken.takes), length-append taken.front new)
 
 -- reading the varint that comes next gives its number and leaves what follows
 pub varint_read : (n before after : ℕ) (old new : Option (List ℕ)) (bytes more : List ℕ) (r : Result ℕ Refusal)
@@ -197,19 +160,13 @@ pub varint_read : (n before after : ℕ) (old new : Option (List ℕ)) (bytes mo
     → IfOk r (λ m. TakesVarint m old new)
     → IfSome old (λ input. after ≡ before → IfErr r (IsFrontRefusal input))
     → MatchResult r (λ m. (m ≡ n) × (new ≡ Some more)) (λ _. ⊥)
-varint_read n before after None new bytes more r is rest same ok front = cc
-varint_read n before after (Some input) new bytes more (Ok m) is rest same ok front = at new ok.2
-  where
-    at : (new : Option (List ℕ)) → Takes (Some input) ok.0 new → (m ≡ n) × (new ≡ Some more)
-    at None takes = cc
-    at (Some left) takes =
-        let cut : ok.0 ++ left ≡ bytes ++ more = cc in
-        let told = same_number (bytes ++ more) m n left more (ok.0, ok.1, sym cut) (bytes, is, refl) in
-        (told.0, ap Some told.1)
-varint_read n before after (Some input) new bytes more (Err e) is rest same ok front =
-    let met = front same in
-    let spelled : input ≡ bytes ++ more = cc in
-    absurd (number_no_fault input n more met.0 (bytes, is, spelled) met.2)
+varint_read n before after old new bytes more (Ok m) is rest same ok front =
+    let (left, told, cut) = Takes-told (bytes ++ more) ok.0 new (sym rest ∙ ok.2) in
+    let both = same_number (bytes ++ more) m n left more (ok.0, ok.1, cut) (bytes, is, refl) in
+    (both.0, told ∙ ap Some both.1)
+varint_read n before after old new bytes more (Err e) is rest same ok front =
+    let met = (rw rest at front) same in
+    number_no_fault (bytes ++ more) n more met.0 (bytes, is, refl) met.2
 
 -- filling a buffer where as many bytes come next gives them and leaves what follows
 pub read_exact_of_bytes : {A : Type 0} (n before after : ℕ) (old new : Option (List ℕ)) (filled bytes more : List ℕ) (r : Result A Fault)

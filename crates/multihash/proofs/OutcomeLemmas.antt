@@ -16,3 +16,8 @@ OnErr-always (Err e) p = p
 pub OnOk-from_IfOk : {T E P : Type 0} {Q : T → Type 0} (r : Result T E) → IfOk r Q → ((t : T) → Q t → P) → OnOk r P
 OnOk-from_IfOk (Ok t) known follows = follows t known
 OnOk-from_IfOk (Err e) known follows = tt
+
+-- what is promised of an error that was met holds of the outcome that passes it on
+pub passed_err : {T E : Type 0} (P : Result T E → Type 0) (r : Result T E) (e : E) → IsErrAnd r (λ x. x ≡ e) → P (Err e) → P r
+passed_err P (Ok t) e given p = absurd given
+passed_err P (Err x) e given p = subst (λ y. P (Err y)) (sym given) p

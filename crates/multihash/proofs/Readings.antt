@@ -1,6 +1,5 @@
 pub mod BeginningLemmas
 pub mod FrontLemmas
-pub mod HeadLemmas
 pub mod ReadStopLemmas
 pub mod ReadTakingLemmas
 pub mod ReadingLemmas

@@ -1,6 +1,5 @@
 -- The JSON list of a pair tells the pair.
 use Rattle.std.proofs.Common.{◌≡◌, ℕ, ◌+◌, ◌<◌, List, [], ◌∷◌, ◌++◌, length, map, refl, sym, ap, ◌∙◌, subst, arith}
-use Rattle.std.specs.List.{All}
 use Rattle.std.proofs.lemmas.List.Elements.{All-append, All-push, All-same, All-map, All-head}
 use Rattle.serde_json.specs.Data.{Data, number, unsigned, Items}
 use Rattle.serde_json.specs.View.{items_of}
@@ -15,20 +14,17 @@ use Rattle.multihash.proofs.Readings.VerdictLemmas.{encoding_unique}
 abbrev IsByte : ℕ → Type 0
 IsByte b = b < 256
 
-abbrev numbers : List ℕ → Items
+abbrev pub numbers : List ℕ → Items
 numbers ns = items_of (map (λ n. number (unsigned n)) ns)
 
 numbers_unique : (a b : List ℕ) → numbers a ≡ numbers b → a ≡ b
 numbers_unique [] [] e = refl
 numbers_unique [] (y ∷ b) e = cc
 numbers_unique (x ∷ a) [] e = cc
-numbers_unique (x ∷ a) (y ∷ b) e =
-    let heads : x ≡ y = cc in
-    let tails : numbers a ≡ numbers b = cc in
-    cc (heads, numbers_unique a b tails)
+numbers_unique (x ∷ a) (y ∷ b) e = let heads : x ≡ y = cc in cc (heads, numbers_unique a b (cc e))
 
 pub array_unique : (a b : List ℕ) → number_array a ≡ number_array b → a ≡ b
-array_unique a b e = let items : numbers a ≡ numbers b = cc in numbers_unique a b items
+array_unique a b e = numbers_unique a b (cc e)
 
 pub json_same : (p q : Pair) (d : Data) → IsJsonList p d → IsJsonList q d → p ≡ q
 json_same p q d h k =
@@ -42,17 +38,10 @@ json_bytes p d bytes h k =
 
 varint_bytes : (n : ℕ) (bytes : List ℕ) → IsVarint n bytes → IsBytes bytes
 varint_bytes n bytes v =
-    All-same IsByte bytes (marked v.front ++ v.last ∷ []) v.spelled
-    (All-push IsByte (marked v.front) v.last front (omega (arith, last)))
-  where
-    digits : All (λ d. d < 128) v.front
-    digits = All-append_left (λ d. d < 128) v.front (v.last ∷ []) v.digits
-
-    last : v.last < 128
-    last = All-head (λ d. d < 128) v.last [] (All-append_right (λ d. d < 128) v.front (v.last ∷ []) v.digits)
-
-    front : IsBytes (marked v.front)
-    front = All-map IsByte (λ d. d + 128) v.front (λ k d below. omega (arith, digits k d below))
+    let digits = All-append_left (λ d. d < 128) v.front (v.last ∷ []) v.digits in
+    let last = All-head (λ d. d < 128) v.last [] (All-append_right (λ d. d < 128) v.front (v.last ∷ []) v.digits) in
+    let front : IsBytes (marked v.front) = All-map IsByte (λ d. d + 128) v.front (λ k d below. omega (arith, digits k d below)) in
+    rw v.spelled (All-push IsByte (marked v.front) v.last front (omega (arith, last)))
 
 pub encoding_bytes : (p : Pair) (bytes : List ℕ) → IsBytes p.digest → IsEncoding p bytes → IsBytes bytes
 encoding_bytes p bytes digest e =

@@ -1,18 +1,17 @@
 -- The members of a byte array, and the bytes that they are.
-use Rattle.std.proofs.Common.{◌≡◌, ℕ, zero, suc, ◌<◌, List, [], ◌∷◌, map, true, false, length, take, drop, set, ◌++◌, slice_index_or, is_some, Option, Some, None, refl, sym, ap, ◌∙◌, arith, inl, inr}
+use Rattle.std.proofs.Common.{◌≡◌, ℕ, zero, suc, ◌<◌, List, [], ◌∷◌, true, false, length, take, drop, set, ◌++◌, slice_index_or, is_some, Option, Some, None, refl, sym, ap, ◌∙◌, arith, inl, inr}
 use Rattle.std.specs.List.{list_all}
 use Rattle.std.proofs.lemmas.Bool.{false≢true, and_parts, cases_lt, lt-ltb, le-ltb}
+use Rattle.std.proofs.lemmas.List.Sums.{AllPass-from_list_all}
 use Rattle.std.proofs.lemmas.List.Elements.{All-nil, All-cons, All-head, All-tail}
 use Rattle.serde_json.specs.Data.{unsigned, negative, float, Data, null, boolean, number, string, array, object, Items}
 use Rattle.serde_json.specs.Find.{as_array}
-use Rattle.serde_json.specs.View.{view, items_of, items_view}
+use Rattle.serde_json.specs.View.{view, items_view}
 use Rattle.serde_json.specs.declared.value.Value.{Value}
 use Rattle.multihash.specs.Bytes.{IsBytes}
 use Rattle.multihash.specs.Json.{IsByteArray}
+use Rattle.multihash.proofs.Forms.JsonLemmas.{numbers}
 use Rattle.multihash.specs.Members.{byte_of_data, member_bytes, is_byte}
-
-abbrev numbers : List ℕ → Items
-numbers ns = items_of (map (λ n. number (unsigned n)) ns)
 
 some_value : (o : Option ℕ) → is_some o ≡ true → (b : ℕ) × (o ≡ Some b)
 some_value None e = absurd (false≢true e)
@@ -50,18 +49,14 @@ all_bytes (v ∷ vs) e =
     let rest = all_bytes vs others in
     rw found.1 (cc (held.0, rest.0), All-cons (λ b. b < 256) found.0 (member_bytes vs) held.1 rest.1)
 
--- the members of a byte array are all bytes, and those
-pub bytes_all : (vs : List Value) (bytes : List ℕ) → items_view vs ≡ numbers bytes → IsBytes bytes
-    → (list_all is_byte vs ≡ true) × (member_bytes vs ≡ bytes)
-bytes_all [] [] e h = (refl, refl)
-bytes_all [] (b ∷ bytes) e h = cc
+-- the members of a byte array are all bytes
+bytes_all : (vs : List Value) (bytes : List ℕ) → items_view vs ≡ numbers bytes → IsBytes bytes → list_all is_byte vs ≡ true
+bytes_all [] bytes e h = refl
 bytes_all (v ∷ vs) [] e h = cc
 bytes_all (v ∷ vs) (b ∷ bytes) e h =
     let heads : view v ≡ number (unsigned b) = cc in
-    let tails : items_view vs ≡ numbers bytes = cc in
     let found : byte_of_data (view v) ≡ Some b = ap byte_of_data heads ∙ byte_found b (All-head (λ x. x < 256) b bytes h) in
-    let others = bytes_all vs bytes tails (All-tail (λ x. x < 256) b bytes h) in
-    rw found (others.0, ap (λ l. b ∷ l) others.1)
+    rw found (bytes_all vs bytes (cc e) (All-tail (λ x. x < 256) b bytes h))
 
 array_data : (d : Data) (items : Items) → as_array d ≡ Some items → d ≡ array items
 array_data null items e = cc
@@ -80,7 +75,7 @@ pub no_byte_array : (d : Data) (vs : List Value) (bytes : List ℕ) → as_array
 no_byte_array d vs bytes e some h =
     let same : Some (items_view vs) ≡ Some (numbers bytes) = sym e ∙ ap as_array h.array in
     let items : items_view vs ≡ numbers bytes = cc in
-    false≢true (sym some ∙ (bytes_all vs bytes items h.are_bytes).0)
+    false≢true (sym some ∙ bytes_all vs bytes items h.are_bytes)
 
 -- the first member's byte, and the others'
 pub first_byte : (v : Value) (vs : List Value) (b : ℕ) → byte_of_data (view v) ≡ Some b → member_bytes (v ∷ vs) ≡ b ∷ member_bytes vs
@@ -97,30 +92,10 @@ length-member_bytes (v ∷ vs) e =
     let (found, others) = byte_first v vs e in
     rw found.1 (ap suc (length-member_bytes vs others))
 
--- no member is left where no byte is
-pub no_member_bytes : (vs : List Value) → list_all is_byte vs ≡ true → length vs ≡ 0 → member_bytes vs ≡ []
-no_member_bytes [] e none = refl
-no_member_bytes (v ∷ vs) e none = absurd (omega arith)
-
 -- the byte that a member is
 pub byte_at : (vs : List Value) (at : ℕ) (v : Value) → list_all is_byte vs ≡ true → at < length vs → v ≡ slice_index_or vs at v
     → (b : ℕ) × (byte_of_data (view v) ≡ Some b)
-byte_at [] at v e inside is = absurd (omega arith)
-byte_at (w ∷ vs) zero v e inside is =
-    let found = (byte_first w vs e).0 in
-    (found.0, ap (λ x. byte_of_data (view x)) is ∙ found.1)
-byte_at (w ∷ vs) (suc at) v e inside is =
-    byte_at vs at v (and_parts (is_byte w) (list_all is_byte vs) e).1 (omega arith) is
-
--- one member more is one byte more
-pub one_more_byte : (vs : List Value) (at : ℕ) (v : Value) (b : ℕ) → list_all is_byte vs ≡ true → at < length vs → v ≡ slice_index_or vs at v
-    → byte_of_data (view v) ≡ Some b → member_bytes (take (suc at) vs) ≡ member_bytes (take at vs) ++ b ∷ []
-one_more_byte [] at v b e inside is held = absurd (omega arith)
-one_more_byte (w ∷ vs) zero v b e inside is held =
-    let found : byte_of_data (view w) ≡ Some b = ap (λ x. byte_of_data (view x)) (sym is) ∙ held in rw found refl
-one_more_byte (w ∷ vs) (suc at) v b e inside is held =
-    let (found, others) = byte_first w vs e in
-    rw found.1 (ap (λ l. found.0 ∷ l) (one_more_byte vs at v b others (omega arith) is held))
+byte_at vs at v e inside is = some_value _ (ap is_byte is ∙ AllPass-from_list_all is_byte vs e at v inside)
 
 -- the bytes of the first members, and of the others
 pub bytes_split : (n : ℕ) (vs : List Value) → list_all is_byte vs ≡ true → member_bytes vs ≡ member_bytes (take n vs) ++ member_bytes (drop n vs)

@@ -1,24 +1,25 @@
 -- One SCALE form a pair, and one verdict an input.
 use Rattle.std.proofs.Common.{◌≡◌, ℕ, ◌+◌, ◌<◌, ◌≤◌, cond, ltb, List, [], ◌∷◌, ◌++◌, length, take, drop, refl, subst, sym, ap, ◌∙◌, arith, inl, inr, length-append, append_assoc, append-nil}
-use Rattle.std.specs.Int.{to_le_bytes, w64}
 use Rattle.std.proofs.lemmas.Bool.{cases_lt, lt-ltb, le-ltb}
 use Rattle.std.proofs.lemmas.List.{take_at, drop_at, take-append-drop, length-take-le, append_cancel_left}
-use Rattle.std.proofs.lemmas.List.Elements.{All-take, All-head, All-same}
-use Rattle.multihash.specs.Bytes.{IsBytes, IsBeginning, place_value}
+use Rattle.std.proofs.lemmas.List.Elements.{All-head, All-same}
+use Rattle.multihash.specs.Bytes.{IsBytes, place_value}
 use Rattle.multihash.specs.Pair.{Pair}
 use Rattle.multihash.specs.Varint.{varint_limit}
 use Rattle.multihash.specs.Verdict.{Verdict, accepted, invalid_size, invalid_code, faulty, unexpected_eof}
 use Rattle.multihash.specs.Scale.{IsScaleCode, IsScale, HasScaleSize, HasScaleVerdict}
 use Rattle.multihash.proofs.Forms.ScaleCodeLemmas.{code_bytes}
 use Rattle.multihash.proofs.Varints.DigitLemmas.{place_value_unique}
-use Rattle.multihash.proofs.Varints.MarkedLemmas.{All-append_right}
+use Rattle.multihash.proofs.Varints.MarkedLemmas.{All-append_left, All-append_right}
+
+-- the bytes of the code, the size, and the digest
+pub scale_of : (p : Pair) (size : ℕ) (a digest : List ℕ) → IsScaleCode p.code a → p.code < varint_limit → size ≡ length p.digest → size < 256
+    → digest ≡ p.digest → IsScale p (a ++ size ∷ digest)
+scale_of p size a digest is_code below long byte same =
+    record { code = a; is_code = is_code; in_range = below; size = omega (arith, long, byte); spelled = cc (long, same) }
 
 pub scale_exists : (p : Pair) → p.code < varint_limit → length p.digest < 256 → (bytes : List ℕ) × IsScale p bytes
-scale_exists p below size =
-    let code = to_le_bytes w64 p.code in (
-      code ++ length p.digest ∷ p.digest,
-      record { code = code; is_code = code_bytes p.code (omega (arith, below)); in_range = below; size = size; spelled = refl },
-    )
+scale_exists p below size = (_, scale_of p _ _ p.digest (code_bytes p.code (omega (arith, below))) below refl size refl)
 
 -- a pair has at most one form
 pub scale_same : (p : Pair) (a b : List ℕ) → IsScale p a → IsScale p b → a ≡ b
@@ -84,11 +85,6 @@ scale_verdict_is S x v h = sym (found_is 8 S x v refl h)
 pub scale_verdict_unique : (S : ℕ) (x : List ℕ) (v w : Verdict) → HasScaleVerdict S x v → HasScaleVerdict S x w → v ≡ w
 scale_verdict_unique S x v w h k = scale_verdict_is S x v h ∙ sym (scale_verdict_is S x w k)
 
--- a form and anything behind it
-pub scale_own : (S : ℕ) (p : Pair) (bytes rest : List ℕ) → IsScale p bytes → length p.digest ≤ S
-    → HasScaleVerdict S (bytes ++ rest) (accepted p)
-scale_own S p bytes rest h fits = (bytes, rest, h, fits, refl)
-
 -- two forms in front of one input are of one pair
 pub scale_split : (p q : Pair) (a b r s : List ℕ) → IsScale p a → IsScale q b → a ++ r ≡ b ++ s → (p ≡ q) × (a ≡ b) × (r ≡ s)
 scale_split p q a b r s h k e =
@@ -98,8 +94,7 @@ scale_split p q a b r s h k e =
     let forms : a ≡ b = scale_same q a b (subst (λ x. IsScale x a) pairs h) k in
     (pairs, forms, append_cancel_left b r s (ap (λ x. x ++ r) (sym forms) ∙ e))
 
-pub scale_begins : (p q : Pair) (a b : List ℕ) → IsScale p a → IsScale q b → IsBeginning a b → p ≡ q
-scale_begins p q a b h k (rest, cut) = (scale_split p q a b rest [] h k (sym (append-nil b ∙ cut))).0
+-- ---- some verdict
 
 scale_sized : (S size : ℕ) (x rest : List ℕ) → HasScaleSize size x rest → size < 256 → (v : Verdict) × HasScaleVerdict S x v
 scale_sized S size x rest h byte =
@@ -107,66 +102,42 @@ scale_sized S size x rest h byte =
       | inl over ↦ (invalid_size size, (rest, h, over))
       | inr within ↦ elim (cases_lt (length rest) size) [
         | inl short ↦ (unexpected_eof, inr (inr (size, rest, h, within, short)))
-        | inr full ↦ whole within full
+        | inr full ↦
+            let digest : List ℕ = take size rest in
+            let left : List ℕ = drop size rest in
+            let long : length digest ≡ size = length-take-le size rest full in
+            let form = scale_of (record { code = h.code; digest = digest }) size h.code_bytes digest h.is_code h.in_range (sym long) byte refl in
+            let cut = h.cut ∙ (ap (λ (z : List ℕ). h.code_bytes ++ size ∷ z) (sym (take-append-drop size rest))
+            ∙ sym (append_assoc h.code_bytes (size ∷ digest) left)) in
+            (accepted _, (_, left, form, omega arith, cut))
       ]
     ]
-  where
-    whole : size ≤ S → size ≤ length rest → (v : Verdict) × HasScaleVerdict S x v
-    whole within full =
-        let digest : List ℕ = take size rest in
-        let len : length digest ≡ size = length-take-le size rest full in
-        let p : Pair = record { code = h.code; digest = digest } in
-        let split : size ∷ rest ≡ (length digest ∷ digest) ++ drop size rest = cc (len, take-append-drop size rest) in (
-          accepted p,
-          (
-            h.code_bytes ++ length digest ∷ digest,
-            drop size rest,
-            record { code = h.code_bytes; is_code = h.is_code; in_range = h.in_range; size = omega arith; spelled = refl },
-            omega arith,
-            h.cut ∙ (ap (λ (z : List ℕ). h.code_bytes ++ z) split ∙ sym (append_assoc h.code_bytes (length digest ∷ digest) (drop size rest))),
-          ),
-        )
 
-scale_coded : (S code : ℕ) (x bytes rest : List ℕ) → IsScaleCode code bytes → x ≡ bytes ++ rest → IsBytes rest
+scale_in_range : (S code : ℕ) (x bytes rest : List ℕ) → IsScaleCode code bytes → x ≡ bytes ++ rest → IsBytes rest
     → code < varint_limit → (v : Verdict) × HasScaleVerdict S x v
-scale_coded S code x bytes [] is_code cut each below =
+scale_in_range S code x bytes [] is_code cut each below =
     (unexpected_eof, inr (inl (code, subst (IsScaleCode code) (sym (cut ∙ append-nil bytes)) is_code, below)))
-scale_coded S code x bytes (size ∷ rest) is_code cut each below =
+scale_in_range S code x bytes (size ∷ rest) is_code cut each below =
     scale_sized S size x rest (record { code = code; code_bytes = bytes; is_code = is_code; in_range = below; cut = cut })
     (All-head (λ b. b < 256) size rest each)
 
--- k is 8, and a variable, so that `take` stays as it is
-scale_from : (k S : ℕ) (x : List ℕ) → k ≡ 8 → IsBytes x → k ≤ length x → (v : Verdict) × HasScaleVerdict S x v
-scale_from k S x eight bytes long =
-    elim (cases_lt code varint_limit) [
-      | inl below ↦ scale_coded S code x front (drop k x) is_code cut (All-append_right (λ b. b < 256) front (drop k x) whole) below
-      | inr above ↦ (invalid_code code, (front, drop k x, is_code, above, cut))
-    ]
-  where
-    front : List ℕ
-    front = take k x
-
-    code : ℕ
-    code = place_value 256 front
-
-    cut : x ≡ front ++ drop k x
-    cut = sym (take-append-drop k x)
-
-    whole : IsBytes (front ++ drop k x)
-    whole = All-same (λ b. b < 256) (front ++ drop k x) x (sym cut) bytes
-
-    is_code : IsScaleCode code front
-    is_code = record {
-      eight = length-take-le k x long ∙ eight;
-      are_bytes = All-take (λ b. b < 256) k x bytes;
-      value = refl;
-    }
+-- so many bytes, and the others
+cut_at : (k : ℕ) (x : List ℕ) → k ≤ length x → (front : List ℕ) × (rest : List ℕ) × (x ≡ front ++ rest) × (length front ≡ k)
+cut_at k x long = (take k x, drop k x, sym (take-append-drop k x), length-take-le k x long)
 
 pub scale_verdict_exists : (S : ℕ) (x : List ℕ) → IsBytes x → (v : Verdict) × HasScaleVerdict S x v
 scale_verdict_exists S x bytes =
     elim (cases_lt (length x) 8) [
       | inl short ↦ (unexpected_eof, inl short)
-      | inr long ↦ scale_from 8 S x refl bytes long
+      | inr long ↦
+          let (front, rest, cut, eight) = cut_at 8 x long in
+          let whole = All-same (λ b. b < 256) (front ++ rest) x (sym cut) bytes in
+          let is_code : IsScaleCode (place_value 256 front) front =
+          record { eight = eight; are_bytes = All-append_left (λ b. b < 256) front rest whole; value = refl } in
+          elim (cases_lt (place_value 256 front) varint_limit) [
+            | inl below ↦ scale_in_range S _ x front rest is_code cut (All-append_right (λ b. b < 256) front rest whole) below
+            | inr above ↦ (invalid_code _, (front, rest, is_code, above, cut))
+          ]
     ]
 
 -- and it is the one that is computed

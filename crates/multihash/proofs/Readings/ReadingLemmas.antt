@@ -23,11 +23,20 @@ take-put_mid_more at k n xs ys within fits =
     ∙ take-append-add (take at xs) (ys ++ after) n
     ∙ ap (λ l. take at xs ++ l) (take-append-le n ys after fits)
 
+-- where the reader tells, what was taken and what is left were its rest
+pub Takes-cut : (whole taken left : List ℕ) → Takes (Some whole) taken (Some left) → whole ≡ taken ++ left
+Takes-cut whole taken left takes = cc
+
+-- and it still tells
+pub Takes-told : (whole taken : List ℕ) (new : Option (List ℕ)) → Takes (Some whole) taken new
+    → (left : List ℕ) × (new ≡ Some left) × (whole ≡ taken ++ left)
+Takes-told whole taken None takes = cc
+Takes-told whole taken (Some left) takes = (left, refl, Takes-cut whole taken left takes)
+
 -- what holds of `taken` and whatever follows holds of the rest at entry, where it is told
 pub IfSome-taken : (old new : Option (List ℕ)) (taken : List ℕ) (P : List ℕ → Type 0) → Takes old taken new → ((left : List ℕ) → new ≡ Some left → P (taken ++ left)) → IfSome old P
 IfSome-taken None new taken P takes h = tt
-IfSome-taken (Some xs) None taken P takes h = cc
-IfSome-taken (Some xs) (Some left) taken P takes h = let same : xs ≡ taken ++ left = cc in subst P (sym same) (h left refl)
+IfSome-taken (Some xs) new taken P takes h = let (left, is, cut) = Takes-told xs taken new takes in subst P (sym cut) (h left is)
 
 -- nothing was taken
 pub Takes-none : (a : Option (List ℕ)) → Takes a [] a

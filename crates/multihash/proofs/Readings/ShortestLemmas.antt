@@ -12,9 +12,10 @@ use Rattle.multihash.proofs.Readings.BeginningLemmas.{split_beginning, compare_b
 use Rattle.multihash.proofs.Varints.MarkedLemmas.{All-marked}
 use Rattle.multihash.proofs.Varints.VarintLemmas.{varint_length}
 use Rattle.multihash.proofs.Writings.WritingLemmas.{length_of_not_nil}
+use Rattle.multihash.proofs.Readings.VerdictLemmas.{coded, sized}
 use Rattle.multihash.proofs.Readings.SettlingLemmas.{early_not_settles, late_settles}
 
--- ---- the shortest that settles
+-- ---- what ends early
 
 -- marked bytes, as many as a varint may have, and one more
 pub record IsStep (t : List ℕ) : Type 0 where
@@ -23,15 +24,6 @@ pub record IsStep (t : List ℕ) : Type 0 where
   pub all_marked : All IsMarked front
   pub few : length front ≤ most_marked
   pub cut : t ≡ front ++ last ∷ []
-
-pub varint_step : (n : ℕ) (bytes : List ℕ) → IsVarint n bytes → IsStep bytes
-varint_step n bytes v = record {
-  front = marked v.front;
-  last = v.last;
-  all_marked = All-marked v.front;
-  few = omega (arith, (varint_length n bytes v).0, length-map v.front (λ d. d + 128));
-  cut = v.spelled;
-}
 
 pub before_step : (t p : List ℕ) → IsStep t → IsProperBeginning p t → IsInsufficient p
 before_step t p s (rest, some, cut) = record { few = omega (arith, s.few, short); all_marked = marks }
@@ -49,49 +41,40 @@ before_step t p s (rest, some, cut) = record { few = omega (arith, s.few, short)
         ∙ (ap (λ (z : List ℕ). get_or z k d) (sym same) ∙ get_or_append_left s.front (s.last ∷ []) d k (omega (arith, short, below))) in
         rw value (s.all_marked k d (omega (arith, short, below)))
 
+-- nothing shorter shows a varint or a fault
+abbrev pub NoSooner : List ℕ → Type 0
+NoSooner t = (p : List ℕ) → IsProperBeginning p t → IsInsufficient p
+
+varint_no_sooner : (n : ℕ) (bytes : List ℕ) → IsVarint n bytes → NoSooner bytes
+varint_no_sooner n bytes v p begins =
+    let few : length (marked v.front) ≤ most_marked = omega (arith, (varint_length n bytes v).0, length-map v.front (λ d. d + 128)) in
+    before_step bytes p (record { front = marked v.front; last = v.last; all_marked = All-marked v.front; few = few; cut = v.spelled }) begins
+
 -- the input ends early
 abbrev pub EndsEarly : ℕ → List ℕ → Type 0
 EndsEarly S x = (v : Verdict) × HasVerdict S x v × IsEarlyEnd v
 
-pub before_first : (S : ℕ) (t p : List ℕ) → IsStep t → IsProperBeginning p t → EndsEarly S p
-before_first S t p s b = (faulty insufficient, inl (before_step t p s b), tt)
-
-pub before_second : (S code : ℕ) (f t p : List ℕ) → IsVarint code f → IsStep t → IsProperBeginning p (f ++ t) → EndsEarly S p
-before_second S code f t p is_code s b =
+pub before_second : (S code : ℕ) (f t p : List ℕ) → IsVarint code f → NoSooner t → IsProperBeginning p (f ++ t) → EndsEarly S p
+before_second S code f t p is_code no_sooner b =
     elim (split_beginning f t p b) [
-      | inl early ↦ before_first S f p (varint_step code f is_code) early
-      | inr (q, cut, more) ↦
-          (faulty insufficient, inr (q, record { code = code; code_bytes = f; is_code = is_code; cut = cut }, before_step t q s more), tt)
+      | inl early ↦ (faulty insufficient, inl (varint_no_sooner code f is_code p early), tt)
+      | inr (q, cut, more) ↦ (faulty insufficient, inr (q, coded code f p q is_code cut, no_sooner q more), tt)
     ]
+
+pub before_both : (S code size : ℕ) (f t p : List ℕ) → IsVarint code f → IsVarint size t → IsProperBeginning p (f ++ t) → EndsEarly S p
+before_both S code size f t p is_code is_size = before_second S code f t p is_code (varint_no_sooner size t is_size)
 
 pub before_digest : (S : ℕ) (p : Pair) (t x : List ℕ) → IsEncoding p t → FitsBuffer S p → IsProperBeginning x t → EndsEarly S x
 before_digest S p t x e fits (rest, some, cut) =
-    elim (split_beginning e.code (e.size ++ p.digest) x (rest, some, sym e.spelled ∙ cut)) [
-      | inl early ↦ before_first S e.code x (varint_step p.code e.code e.is_code) early
-      | inr (y, y_cut, more) ↦ elim (split_beginning e.size p.digest y more) [
-        | inl (left, nonempty, s_cut) ↦
-            before_second S p.code e.code e.size x e.is_code (varint_step (length p.digest) e.size e.is_size)
-            (left, nonempty, ap (λ (z : List ℕ). e.code ++ z) s_cut ∙ (sym (append_assoc e.code y left) ∙ ap (λ (z : List ℕ). z ++ left) (sym y_cut)))
-        | inr (z, z_cut, (left, nonempty, d_cut)) ↦ (
-          unexpected_eof,
-          (
-            length p.digest,
-            z,
-            record {
-              code = p.code;
-              code_bytes = e.code;
-              size_bytes = e.size;
-              is_code = e.is_code;
-              is_size = e.is_size;
-              cut = y_cut ∙ ap (λ (w : List ℕ). e.code ++ w) z_cut;
-            },
-            fits,
-            omega (arith, ap length d_cut, length-append z left, length_of_not_nil left nonempty),
-          ),
-          tt,
-        )
-      ]
+    elim (split_beginning (e.code ++ e.size) p.digest x (rest, some, append_assoc e.code e.size p.digest ∙ (sym e.spelled ∙ cut))) [
+      | inl early ↦ before_both S p.code (length p.digest) e.code e.size x e.is_code e.is_size early
+      | inr (z, z_cut, (left, some, d_cut)) ↦
+          let both = sized p.code (length p.digest) e.code e.size x z e.is_code e.is_size (z_cut ∙ append_assoc e.code e.size z) in
+          let short : length z < length p.digest = omega (arith, ap length d_cut, length-append z left, length_of_not_nil left some) in
+          (unexpected_eof, (length p.digest, z, both, fits, short), tt)
     ]
+
+-- ---- the shortest that settles
 
 -- a beginning with a verdict of its own that is no early end, all of whose own beginnings end early
 pub shortest_from : (S : ℕ) (x t rest : List ℕ) (v : Verdict) → x ≡ t ++ rest → HasVerdict S t v → ¬ (IsEarlyEnd v)
@@ -138,24 +121,17 @@ shortest_pair S p x rest b fits =
 pub shortest_size : (S size : ℕ) (x rest : List ℕ) (h : HasSize size x rest) → digest_limit S < size
     → IsShortestSettling S x (h.code_bytes ++ h.size_bytes)
 shortest_size S size x rest h over =
+    let cut = ap (λ (z : List ℕ). h.code_bytes ++ z) (sym (append-nil h.size_bytes)) in
+    let own = sized h.code size h.code_bytes h.size_bytes _ [] h.is_code h.is_size cut in
     shortest_from S x (h.code_bytes ++ h.size_bytes) rest (invalid_size size)
     (h.cut ∙ sym (append_assoc h.code_bytes h.size_bytes rest)) ([], own, over) (λ e. e)
-    (λ y before. before_second S h.code h.code_bytes h.size_bytes y h.is_code (varint_step size h.size_bytes h.is_size) before)
-  where
-    own : HasSize size (h.code_bytes ++ h.size_bytes) []
-    own = record {
-      code = h.code;
-      code_bytes = h.code_bytes;
-      size_bytes = h.size_bytes;
-      is_code = h.is_code;
-      is_size = h.is_size;
-      cut = ap (λ (z : List ℕ). h.code_bytes ++ z) (sym (append-nil h.size_bytes));
-    }
+    (λ y before. before_both S h.code size h.code_bytes h.size_bytes y h.is_code h.is_size before)
 
 -- that of a fault in the code is what shows it
 pub shortest_code_fault : (S : ℕ) (f : VarintFault) (x : List ℕ) → ¬ (IsEarlyEnd (faulty f)) → (s : ShowsFault f x) → IsShortestSettling S x s.shown
 shortest_code_fault S f x late s =
-    shortest_from S x s.shown s.rest (faulty f) s.cut (inl s.has) late (λ y before. before_first S s.shown y s.step before)
+    shortest_from S x s.shown s.rest (faulty f) s.cut (inl s.has) late
+    (λ y before. (faulty insufficient, inl (before_step s.shown y s.step before), tt))
 
 -- that of a fault in the size is the code and what shows it
 pub shortest_size_fault : (S : ℕ) (f : VarintFault) (x rest : List ℕ) → ¬ (IsEarlyEnd (faulty f)) → (c : HasCode x rest) (s : ShowsFault f rest)
@@ -163,8 +139,8 @@ pub shortest_size_fault : (S : ℕ) (f : VarintFault) (x rest : List ℕ) → ¬
 shortest_size_fault S f x rest late c s =
     shortest_from S x (c.code_bytes ++ s.shown) s.rest (faulty f)
     (c.cut ∙ (ap (λ (z : List ℕ). c.code_bytes ++ z) s.cut ∙ sym (append_assoc c.code_bytes s.shown s.rest)))
-    (inr (s.shown, record { code = c.code; code_bytes = c.code_bytes; is_code = c.is_code; cut = refl }, s.has)) late
-    (λ y before. before_second S c.code c.code_bytes s.shown y c.is_code s.step before)
+    (inr (s.shown, coded c.code c.code_bytes _ s.shown c.is_code refl, s.has)) late
+    (λ y before. before_second S c.code c.code_bytes s.shown y c.is_code (λ p b. before_step s.shown p s.step b) before)
 
 pub shortest_exists : (S : ℕ) (x : List ℕ) (v : Verdict) → HasVerdict S x v → ¬ (IsEarlyEnd v)
     → (t : List ℕ) × IsShortestSettling S x t

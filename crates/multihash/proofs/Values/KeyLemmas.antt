@@ -1,5 +1,5 @@
 -- Different pairs are different keys of an ordered map.
-use Rattle.std.proofs.Common.{◌≡◌, Bool, true, false, refl, sym}
+use Rattle.std.proofs.Common.{◌≡◌, false, refl, sym}
 use Rattle.std.specs.Ordering.{is_eq}
 use Rattle.std.specs.declared.cmp.Ordering.{Ordering}
 use Rattle.std.specs.declared.cmp.Ordering.TheVariants.{Less, Equal, Greater}
@@ -9,14 +9,10 @@ use Rattle.multihash.specs.Comparing.{compare_pairs}
 use Rattle.multihash.proofs.Values.OrderLemmas.{Compares-computed}
 use Rattle.multihash.proofs.Values.PairLemmas.{IsSame-equal}
 
-same_order : (p q : Pair) (o : Ordering) → Compares p q o → is_eq o ≡ true → p ≡ q
-same_order p q Less h e = cc
-same_order p q Equal h e = IsSame-equal p q h
-same_order p q Greater h e = cc
+differs : (p q : Pair) (o : Ordering) → Compares p q o → ¬ (q ≡ p) → is_eq o ≡ false
+differs p q Less h other = refl
+differs p q Equal h other = absurd (other (sym (IsSame-equal p q h)))
+differs p q Greater h other = refl
 
 pub other_key : (p q : Pair) → ¬ (q ≡ p) → is_eq (compare_pairs p q) ≡ false
-other_key p q other = by (is_eq (compare_pairs p q)) refl
-  where
-    by : (b : Bool) → is_eq (compare_pairs p q) ≡ b → b ≡ false
-    by true e = absurd (other (sym (same_order p q (compare_pairs p q) (Compares-computed p q) e)))
-    by false e = refl
+other_key p q = differs p q (compare_pairs p q) (Compares-computed p q)

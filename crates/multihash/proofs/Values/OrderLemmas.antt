@@ -1,14 +1,16 @@
 -- The first place where two lists differ, and the one way in which two pairs compare.
-use Rattle.std.proofs.Common.{◌≡◌, ℕ, ◌<◌, List, [], ◌∷◌, ◌++◌, length, refl, sym, ap, ◌∙◌, arith, inl, inr}
+use Rattle.std.proofs.Common.{◌≡◌, ℕ, ◌<◌, List, [], ◌∷◌, ◌++◌, length, refl, sym, ap, ◌∙◌, subst, arith, inl, inr, rules}
 use Rattle.std.proofs.lemmas.Cmp.{ranked}
-use Rattle.std.specs.Cmp.{nat_cmp_is}
+use Rattle.std.specs.Cmp.{nat_cmp_is, IsTotalOrder}
+use Rattle.std.specs.Cmp.Rules.{comparing}
 use Rattle.std.specs.Cmp.Lexicographic.{slice_cmp}
-use Rattle.std.specs.Ordering.{MatchOrdering, nat_cmp, ordering_then}
+use Rattle.std.specs.Ordering.{MatchOrdering, nat_cmp, ordering_then, ordering_reverse}
 use Rattle.std.specs.declared.cmp.Ordering.{Ordering}
 use Rattle.std.specs.declared.cmp.Ordering.TheVariants.{Less, Equal, Greater}
 use Rattle.multihash.specs.Pair.{Pair, IsSame}
 use Rattle.multihash.specs.Order.{IsLexSmaller, ComesBefore, Compares}
 use Rattle.multihash.specs.Comparing.{compare_pairs}
+use Rattle.multihash.proofs.Values.PairLemmas.{IsSame-equal}
 
 -- ---- lists
 
@@ -50,54 +52,43 @@ slice_cmp-says (a ∷ x) (b ∷ y) l =
     slice_cmp-step a b x y (nat_cmp a b) (slice_cmp nat_cmp x y) (ranked a b (nat_cmp a b) refl) (slice_cmp-says x y (omega arith))
 
 -- and it answers nothing else: equal fronts decide nothing, and the bytes behind them do
-slice_cmp-behind : (front : List ℕ) (a b : ℕ) (x y : List ℕ) (o : Ordering) → o ≡ nat_cmp a b
-    → ordering_then o (slice_cmp nat_cmp x y) ≡ slice_cmp nat_cmp (front ++ a ∷ x) (front ++ b ∷ y)
-slice_cmp-behind [] a b x y o is = ap (λ r. ordering_then r (slice_cmp nat_cmp x y)) is
-slice_cmp-behind (c ∷ front) a b x y o is =
-    slice_cmp-behind front a b x y o is
+slice_cmp-behind : (front : List ℕ) (a b : ℕ) (x y : List ℕ) → a < b → Less ≡ slice_cmp nat_cmp (front ++ a ∷ x) (front ++ b ∷ y)
+slice_cmp-behind [] a b x y below = ap (λ r. ordering_then r (slice_cmp nat_cmp x y)) (nat_cmp_is a b Less below)
+slice_cmp-behind (c ∷ front) a b x y below =
+    slice_cmp-behind front a b x y below
     ∙ ap (λ r. ordering_then r (slice_cmp nat_cmp (front ++ a ∷ x) (front ++ b ∷ y))) (nat_cmp_is c c Equal refl)
 
 slice_cmp-less : (x y : List ℕ) → IsLexSmaller x y → Less ≡ slice_cmp nat_cmp x y
-slice_cmp-less x y h =
-    rw (h.left_cut, h.right_cut)
-    (slice_cmp-behind h.same h.left_byte h.right_byte h.left_rest h.right_rest Less (nat_cmp_is h.left_byte h.right_byte Less h.smaller))
-
-slice_cmp-greater : (x y : List ℕ) → IsLexSmaller y x → Greater ≡ slice_cmp nat_cmp x y
-slice_cmp-greater x y h =
-    rw (h.left_cut, h.right_cut)
-    (slice_cmp-behind h.same h.right_byte h.left_byte h.right_rest h.left_rest Greater (nat_cmp_is h.right_byte h.left_byte Greater h.smaller))
-
-slice_cmp-equal : (x y : List ℕ) → x ≡ y → Equal ≡ slice_cmp nat_cmp x y
-slice_cmp-equal [] [] e = refl
-slice_cmp-equal [] (b ∷ y) e = cc
-slice_cmp-equal (a ∷ x) [] e = cc
-slice_cmp-equal (a ∷ x) (b ∷ y) e =
-    slice_cmp-equal x y (cc e) ∙ ap (λ r. ordering_then r (slice_cmp nat_cmp x y)) (nat_cmp_is a b Equal (cc e))
+slice_cmp-less x y h = rw (h.left_cut, h.right_cut) (slice_cmp-behind h.same h.left_byte h.right_byte h.left_rest h.right_rest h.smaller)
 
 -- ---- pairs
 
-module _ (p q : Pair) where
-  by_parts : (code size bytes : Ordering) → code ≡ nat_cmp p.code q.code → size ≡ nat_cmp (length p.digest) (length q.digest)
-      → bytes ≡ slice_cmp nat_cmp p.digest q.digest → ordering_then code (ordering_then size bytes) ≡ compare_pairs p q
-  by_parts code size bytes c s b = cc (c, s, b)
+pairs_total : IsTotalOrder compare_pairs
+pairs_total = search (comparing, rules) depth 9
 
+own_reverse : (o : Ordering) → o ≡ ordering_reverse o → Equal ≡ o
+own_reverse Less e = cc
+own_reverse Equal e = refl
+own_reverse Greater e = cc
+
+by_parts : (p q : Pair) (code size bytes : Ordering) → code ≡ nat_cmp p.code q.code → size ≡ nat_cmp (length p.digest) (length q.digest)
+    → bytes ≡ slice_cmp nat_cmp p.digest q.digest → ordering_then code (ordering_then size bytes) ≡ compare_pairs p q
+by_parts p q code size bytes c s b = cc (c, s, b)
+
+before_computed : (p q : Pair) → ComesBefore p q → Less ≡ compare_pairs p q
+before_computed p q (inl code) = by_parts p q Less _ _ (nat_cmp_is p.code q.code Less code) refl refl
+before_computed p q (inr (inl (code, size))) =
+    by_parts p q Equal Less _ (nat_cmp_is p.code q.code Equal code) (nat_cmp_is (length p.digest) (length q.digest) Less size) refl
+before_computed p q (inr (inr (code, size, bytes))) =
+    by_parts p q Equal Equal Less (nat_cmp_is p.code q.code Equal code) (nat_cmp_is (length p.digest) (length q.digest) Equal size)
+    (slice_cmp-less p.digest q.digest bytes)
+
+module _ (p q : Pair) where
   -- pairs compare in no way but the one that is computed
   pub Compares-only : (o : Ordering) → Compares p q o → o ≡ compare_pairs p q
-  Compares-only Less (inl code) = by_parts Less _ _ (nat_cmp_is p.code q.code Less code) refl refl
-  Compares-only Less (inr (inl (code, size))) =
-      by_parts Equal Less _ (nat_cmp_is p.code q.code Equal code) (nat_cmp_is (length p.digest) (length q.digest) Less size) refl
-  Compares-only Less (inr (inr (code, size, bytes))) =
-      by_parts Equal Equal Less (nat_cmp_is p.code q.code Equal code) (nat_cmp_is (length p.digest) (length q.digest) Equal size)
-      (slice_cmp-less p.digest q.digest bytes)
-  Compares-only Equal same =
-      by_parts Equal Equal Equal (nat_cmp_is p.code q.code Equal same.code)
-      (nat_cmp_is (length p.digest) (length q.digest) Equal (ap length same.digest)) (slice_cmp-equal p.digest q.digest same.digest)
-  Compares-only Greater (inl code) = by_parts Greater _ _ (nat_cmp_is p.code q.code Greater code) refl refl
-  Compares-only Greater (inr (inl (code, size))) =
-      by_parts Equal Greater _ (nat_cmp_is p.code q.code Equal (sym code)) (nat_cmp_is (length p.digest) (length q.digest) Greater size) refl
-  Compares-only Greater (inr (inr (code, size, bytes))) =
-      by_parts Equal Equal Greater (nat_cmp_is p.code q.code Equal (sym code))
-      (nat_cmp_is (length p.digest) (length q.digest) Equal (sym size)) (slice_cmp-greater p.digest q.digest bytes)
+  Compares-only Less h = before_computed p q h
+  Compares-only Equal same = subst (λ r. Equal ≡ compare_pairs p r) (IsSame-equal p q same) (own_reverse _ (pairs_total.antisymm p p))
+  Compares-only Greater h = ap ordering_reverse (before_computed q p h) ∙ sym (pairs_total.antisymm p q)
 
   -- and they do compare so
   by_bytes : p.code ≡ q.code → length p.digest ≡ length q.digest → (o : Ordering)

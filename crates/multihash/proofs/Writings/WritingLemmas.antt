@@ -19,10 +19,6 @@ joined-take-drop whole done left n e =
 pub joined-take-range : (whole done left : List ℕ) (n : ℕ) → whole ≡ done ++ left → whole ≡ (done ++ take n left) ++ take (length left - n) (drop n left)
 joined-take-range whole done left n e = joined-take-drop whole done left n e ∙ ap (λ l. (done ++ take n left) ++ l) (sym (take_rest left n))
 
-pub IsProperBeginning-take : (whole done left : List ℕ) (n : ℕ) → whole ≡ done ++ left → n < length left → IsProperBeginning (done ++ take n left) whole
-IsProperBeginning-take whole done left n e less =
-    (drop n left, (λ none. omega (arith, ap length none, length-drop n left)), joined-take-drop whole done left n e)
-
 -- a proper beginning of the first of two lists begins both
 pub IsProperBeginning-append : (x y z : List ℕ) → IsProperBeginning x y → IsProperBeginning x (y ++ z)
 IsProperBeginning-append x y z h = (
@@ -36,6 +32,15 @@ pub IsProperBeginning-prepend : (x y z : List ℕ) → IsProperBeginning x y →
 IsProperBeginning-prepend x y z h = (h.0, h.1, ap (λ l. z ++ l) h.2 ∙ sym (append_assoc z x h.0))
 
 module _ {W : Type 0} (appended : W → List ℕ → W → Type 0) where
+  -- what stood appended, and not all of what was left, is a part
+  pub AppendsPart-take : (a b : W) (whole done left : List ℕ) (n : ℕ) → whole ≡ done ++ left → n < length left → appended a (done ++ take n left) b
+      → AppendsPart appended a whole b
+  AppendsPart-take a b whole done left n e less stands = record {
+    part = done ++ take n left;
+    proper = (drop n left, (λ none. omega (arith, ap length none, length-drop n left)), joined-take-drop whole done left n e);
+    stands = stands;
+  }
+
   -- what stops in the first of two lists stops in both
   pub AppendsPart-append : (a b : W) (x y : List ℕ) → AppendsPart appended a x b → AppendsPart appended a (x ++ y) b
   AppendsPart-append a b x y h = record { part = h.part; proper = IsProperBeginning-append _ _ y h.proper; stands = h.stands }
@@ -65,6 +70,3 @@ module _ {W : Type 0} (appended : W → List ℕ → W → Type 0) (join : (a b 
   pub stops_in_third : {T E : Type 0} (r : Result T E) (u w x v : W) → appended u a w → appended w b x → AppendsPart appended x d v → OnErr r (Stopped u v)
   stops_in_third r u w x v first second part =
       OnErr-always r (a ++ (b ++ d), form, AppendsPart-joined appended join u w v a (b ++ d) first (AppendsPart-joined appended join w x v b d second part))
-
-  pub stands_whole : (u w x v : W) → appended u a w → appended w b x → appended x d v → appended u (a ++ (b ++ d)) v
-  stands_whole u w x v first second third = join u w v a (b ++ d) first (join w x v b d second third)

@@ -1,8 +1,8 @@
-use Rattle.std.proofs.Common.{◌≡◌, ◌+◌, ◌∙◌, [], ◌∷◌, ◌++◌, suc, take, ap, sym, arith}
-use Rattle.std.proofs.Math.Seq.{take-suc-set}
-use Rattle.std.proofs.lemmas.List.{take_all}
-use Rattle.multihash.specs.Members.{member_bytes}
-use Rattle.multihash.proofs.Forms.MembersLemmas.{byte_at, one_more_byte}
+use Rattle.std.proofs.Common.{◌≡◌, ◌+◌, ◌∙◌, [], ◌∷◌, ◌++◌, take, drop, ap, sym, arith, append_assoc, append-nil}
+use Rattle.std.proofs.lemmas.List.{take_all, drop_all, take_more_set, drop_more}
+use Rattle.serde_json.specs.View.{view}
+use Rattle.multihash.specs.Members.{byte_of_data, member_bytes}
+use Rattle.multihash.proofs.Forms.MembersLemmas.{byte_at, first_byte}
 use Rattle.multihash.proofs.json.put_bytes.Goals as goal
 use Rattle.multihash.proofs.json.put_bytes.Goals.{in-Some, in_default}
 
@@ -11,17 +11,18 @@ loop-at-preserved c =
     let members = c.args.members.now in
     let at = c.loop-at.at in
     let member = c.index-members-at.result in
-    let next : at + 1 ≡ suc at = omega arith in
+    let left = member_bytes (drop (at + 1) members) in
     elim c.match-byte_of.branch [
       | in-Some w ↦
           let byte = w.in-Some.byte in
-          ap (λ n. take n c.match-byte_of.places) next
-          ∙ ap (take (suc at)) w.places-is
-          ∙ take-suc-set c.loop-at.places at byte (omega (arith, c.loop-at-test.true, c.loop-at.auto.places, c.requires.count))
-          ∙ ap (λ l. l ++ byte ∷ []) c.loop-at.invariant
-          ∙ sym (one_more_byte members at member byte c.requires.bytes c.loop-at-test.true c.index-members-at.is
-          (sym c.byte_of.ensures ∙ w.in-Some.is))
-          ∙ ap (λ n. member_bytes (take n members)) (sym next)
+          let held = ap (λ v. byte_of_data (view v)) (sym c.index-members-at.is) ∙ sym c.byte_of.ensures ∙ w.in-Some.is in
+          let next : member_bytes (drop at members) ≡ byte ∷ left =
+          ap member_bytes (drop_more members at member c.loop-at-test.true) ∙ first_byte _ _ byte held in
+          ap (λ l. take (at + 1) l ++ left) w.places-is
+          ∙ ap (λ l. l ++ left) (take_more_set c.loop-at.places at byte (omega (arith, c.loop-at-test.true, c.loop-at.auto.places, c.requires.count)))
+          ∙ append_assoc (take at c.loop-at.places) (byte ∷ []) left
+          ∙ ap (λ l. take at c.loop-at.places ++ l) (sym next)
+          ∙ c.loop-at.invariant
       | in_default w ↦
           let held = byte_at members at member c.requires.bytes c.loop-at-test.true c.index-members-at.is in
           absurd (w.in_default.not-Some (held.0) (c.byte_of.ensures ∙ held.1))
@@ -29,6 +30,8 @@ loop-at-preserved c =
 
 pub returns : goal.returns
 returns c =
+    let places = take c.loop-at.at c.loop-at.places in
     sym (take_all c.loop-at.at c.loop-at.places (omega (arith, c.loop-at-test.false, c.loop-at.auto.places, c.requires.count)))
+    ∙ sym (append-nil places)
+    ∙ ap (λ l. places ++ member_bytes l) (sym (drop_all c.loop-at.at c.args.members.now c.loop-at-test.false))
     ∙ c.loop-at.invariant
-    ∙ ap member_bytes (take_all c.loop-at.at c.args.members.now c.loop-at-test.false)

@@ -1,7 +1,7 @@
--- The places so far hold the bytes of the members so far.
-use Rattle.std.proofs.Common.{◌≡◌, take}
+-- The places so far and the bytes of the members to come are the bytes of all members.
+use Rattle.std.proofs.Common.{◌≡◌, ◌++◌, take, drop}
 use Rattle.multihash.specs.Members.{member_bytes}
 use Rattle.multihash.proofs.json.put_bytes.Given as goal
 
 abbrev pub invariant-loop-at : goal.invariant-loop-at
-invariant-loop-at l = take l.at l.places ≡ member_bytes (take l.at l.members)
+invariant-loop-at l = take l.at l.places ++ member_bytes (drop l.at l.members) ≡ member_bytes l.members

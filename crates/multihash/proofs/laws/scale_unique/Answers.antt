@@ -1,5 +1,5 @@
-use Rattle.std.proofs.Common.{arith}
-use Rattle.multihash.proofs.Forms.ScaleLemmas.{scale_exists, scale_same, scale_verdict_exists, scale_verdict_unique, scale_begins, scale_own, scale_split}
+use Rattle.std.proofs.Common.{[], refl, sym, ◌∙◌, append-nil, arith}
+use Rattle.multihash.proofs.Forms.ScaleLemmas.{scale_exists, scale_same, scale_found, scale_verdict_is, has_scale_found, scale_verdict_unique, scale_split}
 use Rattle.multihash.proofs.laws.scale_unique.Goals as goal
 
 pub returns-clause-one_form : goal.returns-clause-one_form
@@ -15,14 +15,13 @@ returns-clause-unique c = scale_split
 
 pub returns-clause-one_verdict : goal.returns-clause-one_verdict
 returns-clause-one_verdict c S input bytes =
-    let v = scale_verdict_exists S input bytes in
-    record { value = v.0; holds = v.1; only = λ w h. scale_verdict_unique S input w v.0 h v.1 }
+    record { value = scale_found S input; holds = has_scale_found S input bytes; only = scale_verdict_is S input }
 
 pub returns-clause-verdict_unique : goal.returns-clause-verdict_unique
 returns-clause-verdict_unique c = scale_verdict_unique
 
 pub returns-clause-begins_no_other : goal.returns-clause-begins_no_other
-returns-clause-begins_no_other c = scale_begins
+returns-clause-begins_no_other c p q a b h k begins = (scale_split p q a b begins.0 [] h k (sym begins.1 ∙ sym (append-nil b))).0
 
 pub returns-clause-own_verdict : goal.returns-clause-own_verdict
-returns-clause-own_verdict c S p bytes rest h fits = scale_own S p bytes rest h (omega arith)
+returns-clause-own_verdict c S p bytes rest h fits = (bytes, rest, h, omega arith, refl)

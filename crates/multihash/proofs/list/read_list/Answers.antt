@@ -1,18 +1,9 @@
-use Rattle.std.proofs.Common.{◌≡◌, ◌<◌, [], ◌∷◌, ◌++◌, length, map, refl, ap, ◌∙◌, inr, arith, rules}
+use Rattle.std.proofs.Common.{◌≡◌, ◌<◌, [], ◌∷◌, ◌++◌, length, map, inr, arith, rules}
 use Rattle.std.proofs.lemmas.List.{length-map}
 use Rattle.multihash.specs.Answer.{pair_of}
 use Rattle.multihash.proofs.OutcomeLemmas.{passed_on}
-use Rattle.multihash.proofs.Forms.StreamLemmas.{TakesPairs-none, TakesPairs-more}
+use Rattle.multihash.proofs.Forms.StreamLemmas.{TakesPairs-more}
 use Rattle.multihash.proofs.list.read_list.Goals as goal
-
-pub loop-init : goal.loop-init
-loop-init g c = record {
-  pairs = rw c.in_ok-list.ensures.items (TakesPairs-none g.row.S _);
-  count = ap length c.in_ok-list.ensures.items;
-  room = c.in_ok-list.ensures.capacity;
-  places = c.in_ok-list.ensures.exact;
-  unfailed = refl;
-}
 
 pub returns-in_err-read-clause-err : goal.returns-in_err-read-clause-err
 returns-in_err-read-clause-err g c =
@@ -38,10 +29,5 @@ loop-preserved g c =
     let met = c.in_ok-read.ensures in
     let m = c.in_ok-read.field-0 in
     let items : c.push_reserved.new.self.items ≡ c.loop.list.items ++ m ∷ [] = search rules in
-    record {
-      pairs = rw items (TakesPairs-more g.row.S c.loop.list.items m met.ok.0 _ _ _ before.pairs met.ok.1 met.fits met.ok.2);
-      count = search rules;
-      room = search rules;
-      places = search rules;
-      unfailed = met.faults ∙ before.unfailed;
-    }
+    let pairs = TakesPairs-more g.row.S c.loop.list.items m met.ok.0 _ _ _ before.pairs met.ok.1 met.fits met.ok.2 in
+    search rules

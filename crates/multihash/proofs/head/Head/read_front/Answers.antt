@@ -1,26 +1,17 @@
-use Rattle.std.proofs.Common.{◌≡◌, ◌++◌, drop, inl, inr, subst}
+use Rattle.std.proofs.Common.{inl, inr, subst}
 use Rattle.multihash.specs.Varint.{HasFaultyFront}
 use Rattle.std.proofs.lemmas.List.{take_rest}
-use Rattle.multihash.proofs.Readings.HeadLemmas.{head_of}
+use Rattle.multihash.proofs.Readings.FrontLemmas.{has_code, head_of}
 use Rattle.multihash.proofs.head.Head.read_front.Goals as goal
 
 pub returns-in_default-clause-err : goal.returns-in_default-clause-err
-returns-in_default-clause-err c =
-    let refused = c.front_fault.ensures in
-    (refused.0, refused.1, λ S. inl refused.2)
+returns-in_default-clause-err c = let refused = c.front_fault.ensures in (refused.0, refused.1, λ S. inl refused.2)
 
 pub returns-in_default-read_front-clause-err : goal.returns-in_default-read_front-clause-err
 returns-in_default-read_front-clause-err c =
-    let input = c.args.bytes.now in
-    let k = c.in-Some.code_len in
-    let code = c.in-Some.ensures.some in
-    let cut : input ≡ code.0 ++ drop k input = cc (code.2) in
     let refused = c.front_fault-in_default-read_front.ensures in
-    let shows = subst (HasFaultyFront refused.0) (take_rest input k) refused.2 in (
-      refused.0,
-      refused.1,
-      λ S. inr (drop k input, record { code = c.in-Some.code; code_bytes = code.0; is_code = code.1; cut = cut }, shows),
-    )
+    let shows = subst (HasFaultyFront refused.0) (take_rest c.args.bytes.now c.in-Some.code_len) refused.2 in
+    (refused.0, refused.1, λ S. inr (_, has_code _ _ _ c.in-Some.ensures.some, shows))
 
 pub returns-clause-ok : goal.returns-clause-ok
 returns-clause-ok c =

@@ -1,35 +1,34 @@
 use Rattle.std.proofs.Common.{refl, arith, sym, ap, inl, inr}
 use Rattle.multihash.specs.Verdict.{invalid_size, unexpected_eof, accepted}
-use Rattle.multihash.proofs.Readings.FrontLemmas.{sliced, no_code, no_size, over, cut_digest, left_over, whole}
+use Rattle.multihash.proofs.Readings.FrontLemmas.{sliced, no_code, no_size, has_size, left_over, whole}
 use Rattle.multihash.proofs.multihash.Multihash.from_bytes.Goals as goal
 
 pub returns-in_default : goal.returns-in_default
 returns-in_default g c = no_code g.row.S _ _ c.front_fault.ensures
 
 pub returns-in_default-read_front : goal.returns-in_default-read_front
-returns-in_default-read_front g c =
-    no_size g.row.S _ _ _ (sliced _ _ _ c.in-Some.ensures.some) _ c.front_fault-in_default-read_front.ensures
+returns-in_default-read_front g c = no_size _ _ _ (sliced _ _ _ c.in-Some.ensures.some) g.row.S _ c.front_fault-in_default-read_front.ensures
 
 pub returns-then-size : goal.returns-then-size
-returns-then-size g c = (
-  invalid_size _,
-  over g.row.S _ _ _ (sliced _ _ _ c.in-Some.ensures.some) _ _ (sliced _ _ _ c.in-Some-read_front.ensures.some)
-      (elim c.then-size.either [ inl long ↦ omega (arith, long) | inr (_, long) ↦ omega (arith, long) ]),
-  c.from_size.ensures,
-)
+returns-then-size g c =
+    let both = has_size _ _ _ (sliced _ _ _ c.in-Some.ensures.some) _ _ (sliced _ _ _ c.in-Some-read_front.ensures.some) in (
+      invalid_size _,
+      inl (_, both, elim c.then-size.either [ inl long ↦ omega (arith, long) | inr (_, long) ↦ omega (arith, long) ]),
+      c.from_size.ensures,
+    )
 
 pub returns-then-digest-len : goal.returns-then-digest-len
-returns-then-digest-len g c = (
-  unexpected_eof,
-  cut_digest g.row.S _ _ _ (sliced _ _ _ c.in-Some.ensures.some) _ _ (sliced _ _ _ c.in-Some-read_front.ensures.some)
-      (omega (arith, c.if-size.false, c.if-size-gt255.false)) c.if-digest-len.true,
-  (_, c.from.ensures, c.unexpected_eof.ensures),
-)
+returns-then-digest-len g c =
+    let both = has_size _ _ _ (sliced _ _ _ c.in-Some.ensures.some) _ _ (sliced _ _ _ c.in-Some-read_front.ensures.some) in (
+      unexpected_eof,
+      (_, _, both, omega (arith, c.if-size.false, c.if-size-gt255.false), c.if-digest-len.true),
+      (_, c.from.ensures, c.unexpected_eof.ensures),
+    )
 
 pub returns-then-digest-len-2 : goal.returns-then-digest-len-2
 returns-then-digest-len-2 g c = (
   invalid_size _,
-  left_over g.row.S _ _ _ (sliced _ _ _ c.in-Some.ensures.some) _ _ (sliced _ _ _ c.in-Some-read_front.ensures.some) _
+  left_over _ _ _ (sliced _ _ _ c.in-Some.ensures.some) _ _ (sliced _ _ _ c.in-Some-read_front.ensures.some) g.row.S _
       (omega (arith, c.if-size.false, c.if-size-gt255.false)) c.if-digest-len-2.true refl,
   c.from_size-then-digest-len-2.ensures,
 )
@@ -37,7 +36,7 @@ returns-then-digest-len-2 g c = (
 pub returns : goal.returns
 returns g c = (
   accepted _,
-  whole g.row.S _ _ _ (sliced _ _ _ c.in-Some.ensures.some) _ _ (sliced _ _ _ c.in-Some-read_front.ensures.some)
+  whole _ _ _ (sliced _ _ _ c.in-Some.ensures.some) _ _ (sliced _ _ _ c.in-Some-read_front.ensures.some) g.row.S
       (omega (arith, c.if-size.false, c.if-size-gt255.false)) (omega (arith, c.if-digest-len.false, c.if-digest-len-2.false)),
   ap accepted (sym c.fill.ensures),
 )

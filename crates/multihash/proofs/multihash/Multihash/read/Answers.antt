@@ -1,38 +1,35 @@
-use Rattle.std.proofs.Common.{◌≡◌, ◌≤◌, ℕ, ◌++◌, length, take, drop, replicate, refl, ◌∙◌, arith, rules}
+use Rattle.std.proofs.Common.{◌≡◌, ◌≤◌, ℕ, ◌++◌, length, take, drop, replicate, refl, sym, ap, ◌∙◌, arith, rules}
 use Rattle.std.proofs.lemmas.List.{take_at, length-take-le, length-replicate}
 use Rattle.multihash.specs.Pair.{digest_limit}
 use Rattle.multihash.specs.Varint.{IsVarint}
-use Rattle.multihash.specs.Answer.{Fields}
+use Rattle.multihash.specs.Answer.{Fields, pair_of}
+use Rattle.multihash.proofs.OutcomeLemmas.{passed_err}
+use Rattle.multihash.proofs.Writings.EncodingLemmas.{encoding_of}
 use Rattle.multihash.proofs.Readings.ReadingLemmas.{Takes-joined}
-use Rattle.multihash.proofs.Readings.ReadStopLemmas.{stops_in_code, stops_in_size, stops_at_size, stops_in_digest, encodes_fields}
-use Rattle.multihash.proofs.Readings.ReadTakingLemmas.{read_refused, read_answered}
+use Rattle.multihash.proofs.Readings.ReadStopLemmas.{stops_in_code, stops_in_size, stops_at_size, stops_in_digest}
+use Rattle.multihash.proofs.Readings.ReadTakingLemmas.{ReadMeets, read_answered}
 use Rattle.multihash.proofs.multihash.Multihash.read.Goals as goal
 
 pub returns-in_err-code : goal.returns-in_err-code
 returns-in_err-code g c =
-    let S = g.row.S in
     let t = c.in_err-code.ensures.err in
-    read_refused S t.taken _ _ _ _ c.from_residual.result _ c.from_residual.ensures.1 t.takes
-    (stops_in_code S _ _ _ _ _ t c.in_err-code.ensures.faults)
+    passed_err (ReadMeets g.row.S _ _ _ _) c.from_residual.result _ c.from_residual.ensures.1
+    (stops_in_code g.row.S _ _ _ _ _ _ t c.in_err-code.ensures.faults t.takes)
 
 pub returns-in_err-read : goal.returns-in_err-read
 returns-in_err-read g c =
-    let S = g.row.S in
     let code = c.in_ok-code.ensures in
-    let t = c.in_err-read.ensures.err in
     let same = code.faults in
-    read_refused S (code.ok.0 ++ t.taken) _ _ _ _ c.from_residual-in_err-read.result _ c.from_residual-in_err-read.ensures.1
-    (Takes-joined _ _ _ code.ok.0 t.taken _ refl code.ok.2 t.takes)
-    (stops_in_size S _ _ _ _ _ t _ code.ok.0 code.ok.1 (rw same at c.in_err-read.ensures.faults))
+    passed_err (ReadMeets g.row.S _ _ _ _) c.from_residual-in_err-read.result _ c.from_residual-in_err-read.ensures.1
+    (stops_in_size g.row.S _ _ _ _ _ _ c.in_err-read.ensures.err (rw same at c.in_err-read.ensures.faults) _ code.ok.0 code.ok.1 code.ok.2)
 
 pub returns-in_err-size : goal.returns-in_err-size
 returns-in_err-size g c =
-    let S = g.row.S in
     let code = c.in_ok-code.ensures in
     let size = c.in_ok-read.ensures in
-    read_refused S (code.ok.0 ++ size.ok.0) _ _ _ _ c.from_residual-in_err-size.result _ c.from_residual-in_err-size.ensures.1
-    (Takes-joined _ _ _ code.ok.0 size.ok.0 _ refl code.ok.2 size.ok.2)
-    (stops_at_size S _ _ code.ok.0 size.ok.0 code.ok.1 size.ok.1 _ _ _ _ (size.faults ∙ code.faults) c.in_err-size.ensures.over c.in_err-size.ensures.err)
+    passed_err (ReadMeets g.row.S _ _ _ _) c.from_residual-in_err-size.result _ c.from_residual-in_err-size.ensures.1
+    (stops_at_size g.row.S _ _ code.ok.0 size.ok.0 code.ok.1 size.ok.1 _ _ _ _ _ (size.faults ∙ code.faults) c.in_err-size.ensures.over
+    c.in_err-size.ensures.err (Takes-joined _ _ _ code.ok.0 size.ok.0 _ refl code.ok.2 size.ok.2))
 
 pub returns-in_err-read_exact : goal.returns-in_err-read_exact
 returns-in_err-read_exact g c =
@@ -43,11 +40,11 @@ returns-in_err-read_exact g c =
     let room : length (take c.from-len.result (replicate {A = ℕ} S 0)) ≡ c.in_ok-read.field-0 =
     length-take-le c.from-len.result (replicate {A = ℕ} S 0) (omega (arith, length-replicate {A = ℕ} S 0, c.in_ok-size.ensures.ok, c.in_ok-size.ensures.fits))
     ∙ (c.from-len.ensures ∙ c.in_ok-size.ensures.ok) in
-    read_refused S (code.ok.0 ++ (size.ok.0 ++ t.taken)) _ _ _ _ c.from_residual-in_err-read_exact.result _ c.from_residual-in_err-read_exact.ensures.1
-    (Takes-joined _ _ _ code.ok.0 (size.ok.0 ++ t.taken) _ refl code.ok.2 (Takes-joined _ _ _ size.ok.0 t.taken _ refl size.ok.2 t.takes))
-    (stops_in_digest S _ _ code.ok.0 size.ok.0 code.ok.1 size.ok.1 _ t.taken _ _ _ _ c.in_ok-size.ensures.fits
+    passed_err (ReadMeets S _ _ _ _) c.from_residual-in_err-read_exact.result _ c.from_residual-in_err-read_exact.ensures.1
+    (stops_in_digest S _ _ code.ok.0 size.ok.0 code.ok.1 size.ok.1 _ _ _ _ c.in_ok-size.ensures.fits _ t.taken _
     (omega (arith, t.fewer, room)) t.takes (rw room at c.in_err-read_exact.ensures.laws.eof)
-    (rw (size.faults ∙ code.faults) at c.in_err-read_exact.ensures.laws.faults))
+    (rw (size.faults ∙ code.faults) at c.in_err-read_exact.ensures.laws.faults)
+    (Takes-joined _ _ _ code.ok.0 (size.ok.0 ++ t.taken) _ refl code.ok.2 (Takes-joined _ _ _ size.ok.0 t.taken _ refl size.ok.2 t.takes)))
 
 pub returns : goal.returns
 returns g c =
@@ -69,5 +66,5 @@ returns g c =
     } in
     read_answered S (code.ok.0 ++ (size.ok.0 ++ digest)) _ _ _ _ made
     (c.in_ok-read_exact.ensures.laws.faults ∙ (size.faults ∙ code.faults))
-    (encodes_fields S _ _ code.ok.0 size.ok.0 code.ok.1 is_size made digest refl front long)
+    (encoding_of (pair_of made) _ _ digest code.ok.0 size.ok.0 refl (sym (ap length front ∙ long)) (sym front) code.ok.1 is_size)
     (Takes-joined _ _ _ code.ok.0 (size.ok.0 ++ digest) _ refl code.ok.2 (Takes-joined _ _ _ size.ok.0 digest _ refl size.ok.2 c.in_ok-read_exact.ensures.laws.takes))

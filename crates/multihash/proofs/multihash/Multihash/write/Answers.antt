@@ -3,7 +3,7 @@ use Rattle.multihash.specs.Encoding.{IsEncoding}
 use Rattle.multihash.specs.Answer.{pair_of}
 use Rattle.multihash.proofs.Writings.EncodingLemmas.{encoding_of, length-parts}
 use Rattle.multihash.proofs.Varints.VarintWriteLemmas.{varint_exists}
-use Rattle.multihash.proofs.Writings.WritingLemmas.{stops_in_first, stops_in_second, stops_in_third, stands_whole}
+use Rattle.multihash.proofs.Writings.WritingLemmas.{stops_in_first, stops_in_second, stops_in_third}
 use Rattle.multihash.proofs.multihash.Multihash.write.Goals as goal
 
 pub returns-in_err-code-clause-err : goal.returns-in_err-code-clause-err
@@ -35,5 +35,5 @@ returns-clause-ok g c =
       _,
       form,
       omega (arith, a.2, b.2, length-parts a.0 b.0 c.digest-digest.result.now),
-      stands_whole g.W.Write.appended g.met.W.Write.appends_joined (IsEncoding (pair_of c.args.self.now)) _ _ _ form _ _ _ _ a.3 b.3 c.in_ok-write_all.ensures.laws.ok,
+      g.met.W.Write.appends_joined _ _ _ _ _ a.3 (g.met.W.Write.appends_joined _ _ _ _ _ b.3 c.in_ok-write_all.ensures.laws.ok),
     )

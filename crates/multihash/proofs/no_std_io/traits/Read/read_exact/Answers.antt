@@ -7,9 +7,5 @@ loop-filled-preserved g c =
     let filled = c.loop-filled.filled in
     let buf = c.loop-filled.buf in
     let front = take-put_mid_more filled (length buf - filled) c.in-Ok.n buf c.read.new.buf c.loop-filled.invariant.in_buffer (search rules) in
-    record {
-      in_buffer = search rules;
-      same_length = search rules;
-      takes = Takes-joined _ _ _ _ _ _ front c.loop-filled.invariant.takes c.in-Ok.ensures.laws.takes;
-      unfailed = search rules;
-    }
+    let takes = Takes-joined _ _ _ _ _ _ front c.loop-filled.invariant.takes c.in-Ok.ensures.laws.takes in
+    search rules

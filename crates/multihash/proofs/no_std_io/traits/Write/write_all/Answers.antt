@@ -1,6 +1,6 @@
-use Rattle.std.proofs.Common.{[], ◌++◌, rules, take, arith}
+use Rattle.std.proofs.Common.{◌++◌, rules, take, arith}
 use Rattle.std.proofs.lemmas.Grind.{common_steps}
-use Rattle.multihash.proofs.Writings.WritingLemmas.{joined-take-range, IsProperBeginning-take}
+use Rattle.multihash.proofs.Writings.WritingLemmas.{joined-take-range, AppendsPart-take}
 use Rattle.multihash.proofs.no_std_io.traits.Write.write_all.Goals as goal
 
 pub loop-left-preserved : goal.loop-left-preserved
@@ -12,29 +12,15 @@ loop-left-preserved g c = let before = c.loop-left.invariant in record {
 }
 
 pub returns-in-Ok-eq0 : goal.returns-in-Ok-eq0
-returns-in-Ok-eq0 g c = let before = c.loop-left.invariant in record {
-  laws = record {
-    ok = tt;
-    empty = grind (arith, common_steps);
-    err = record {
-      part = before.done ++ take c.in-Ok-eq0.field-0 c.loop-left.left.now;
-      proper = IsProperBeginning-take _ _ _ c.in-Ok-eq0.field-0 before.joined (search rules);
-      stands = g.met.Self.Write.appends_joined _ _ _ _ _ before.stands c.in-Ok-eq0.ensures.laws.ok;
-    };
-    faults = grind (arith, common_steps);
-  };
-}
+returns-in-Ok-eq0 g c =
+    let before = c.loop-left.invariant in
+    let part = AppendsPart-take g.Self.Write.appended _ _ _ _ _ c.in-Ok-eq0.field-0 before.joined (search rules)
+    (g.met.Self.Write.appends_joined _ _ _ _ _ before.stands c.in-Ok-eq0.ensures.laws.ok) in
+    record { laws = record { ok = tt; empty = grind (arith, common_steps); err = part; faults = grind (arith, common_steps) } }
 
 pub returns-in-Err : goal.returns-in-Err
-returns-in-Err g c = let before = c.loop-left.invariant in record {
-  laws = record {
-    ok = tt;
-    empty = grind (arith, common_steps);
-    err = record {
-      part = before.done ++ [];
-      proper = IsProperBeginning-take _ _ _ 0 before.joined (search rules);
-      stands = g.met.Self.Write.appends_joined _ _ _ _ _ before.stands c.in-Err.ensures.laws.err;
-    };
-    faults = grind (arith, common_steps);
-  };
-}
+returns-in-Err g c =
+    let before = c.loop-left.invariant in
+    let part = AppendsPart-take g.Self.Write.appended _ _ _ _ _ 0 before.joined (search rules)
+    (g.met.Self.Write.appends_joined _ _ _ _ _ before.stands c.in-Err.ensures.laws.err) in
+    record { laws = record { ok = tt; empty = grind (arith, common_steps); err = part; faults = grind (arith, common_steps) } }
