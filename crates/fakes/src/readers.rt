@@ -1,7 +1,19 @@
 //! Readers that cut, fail, keep their bytes to themselves or count what they are asked.
 ghost use Rattle.std.specs.Prelude.{◌≡◌, ◌<◌, Some, None, if◌then◌else◌};
+ghost use Rattle.multihash.specs.Fault.{IsOwnFault};
 
 use multihash::no_std_io::{Error, Read};
+
+// What the readers fail with.
+fn fault(wants_memory: bool) -> Error
+    ensures { IsOwnFault result }
+{
+    if wants_memory {
+        Error::out_of_memory()
+    } else {
+        Error::other("link down")
+    }
+}
 
 /// A telling reader over a slice, which gives at most `most` bytes a call.
 #[derive(Drop)]
@@ -79,10 +91,7 @@ impl Read for FailAt<'_> {
             self.calls -= 1;
         } else if !self.failed {
             self.failed = true;
-            if self.wants_memory {
-                return Err(Error::out_of_memory());
-            }
-            return Err(Error::other("link down"));
+            return Err(fault(self.wants_memory));
         }
         self.cuts.read(buf)
     }
@@ -114,6 +123,7 @@ pub struct Counts<'a> {
     /// The calls of `read_exact`.
     pub whole: usize,
     calls: usize,
+    wants_memory: bool,
     may_fail: bool,
 }
 
@@ -125,6 +135,7 @@ impl<'a> Counts<'a> {
             others: 0,
             whole: 0,
             calls: 0,
+            wants_memory: false,
             may_fail: false,
         }
     }
@@ -137,6 +148,20 @@ impl<'a> Counts<'a> {
             others: 0,
             whole: 0,
             calls,
+            wants_memory: false,
+            may_fail: true,
+        }
+    }
+
+    /// Fails with want of memory.
+    pub fn out_of_memory(left: &'a [u8], calls: usize) -> Self {
+        Counts {
+            left,
+            single: 0,
+            others: 0,
+            whole: 0,
+            calls,
+            wants_memory: true,
             may_fail: true,
         }
     }
@@ -162,7 +187,7 @@ impl Read for Counts<'_> {
             self.calls -= 1;
         } else if self.may_fail {
             self.may_fail = false;
-            return Err(Error::other("link down"));
+            return Err(fault(self.wants_memory));
         }
         self.left.read(buf)
     }
@@ -173,7 +198,7 @@ impl Read for Counts<'_> {
             self.calls -= 1;
         } else if self.may_fail && !buf.is_empty() {
             self.may_fail = false;
-            return Err(Error::other("link down"));
+            return Err(fault(self.wants_memory));
         }
         self.left.read_exact(buf)
     }

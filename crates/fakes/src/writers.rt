@@ -1,9 +1,21 @@
 //! Writers that fill up, fail or count what they are asked.
 ghost use Rattle.std.specs.Prelude.{◌≡◌, ◌<◌, ◌≤◌, ◌+◌, true, false, vec_len, vec_capacity, if◌then◌else◌};
+ghost use Rattle.multihash.specs.Fault.{IsOwnFault};
 ghost use Rattle.multihash.specs.Places.{AppendsAtEnd, AppendsAtEnd-none, AppendsAtEnd-joined};
 
 use multihash::no_std_io::{Error, Write};
 use std::alloc::{AllocError, Global};
+
+// What the writers fail with.
+fn fault(wants_memory: bool) -> Error
+    ensures { IsOwnFault result }
+{
+    if wants_memory {
+        Error::out_of_memory()
+    } else {
+        Error::other("disk gone")
+    }
+}
 
 /// A writer with `room` places left, which were reserved before, and which takes at most `most`
 /// bytes a call.
@@ -114,10 +126,7 @@ impl Write for FailWrite {
             self.calls -= 1;
         } else if !self.failed {
             self.failed = true;
-            if self.wants_memory {
-                return Err(Error::out_of_memory());
-            }
-            return Err(Error::other("disk gone"));
+            return Err(fault(self.wants_memory));
         }
         self.drip.write(buf)
     }
@@ -133,6 +142,7 @@ pub struct CountsWrites {
     /// The calls of `write_all`.
     pub whole: usize,
     calls: usize,
+    wants_memory: bool,
     may_fail: bool,
 }
 
@@ -143,6 +153,7 @@ impl CountsWrites {
             parts: 0,
             whole: 0,
             calls: 0,
+            wants_memory: false,
             may_fail: false,
         }
     }
@@ -154,6 +165,19 @@ impl CountsWrites {
             parts: 0,
             whole: 0,
             calls,
+            wants_memory: false,
+            may_fail: true,
+        }
+    }
+
+    /// Fails with want of memory.
+    pub fn out_of_memory(alloc: Global, calls: usize) -> Self {
+        CountsWrites {
+            held: Vec::new(alloc),
+            parts: 0,
+            whole: 0,
+            calls,
+            wants_memory: true,
             may_fail: true,
         }
     }
@@ -181,7 +205,7 @@ impl Write for CountsWrites {
             self.calls -= 1;
         } else if self.may_fail {
             self.may_fail = false;
-            return Err(Error::other("disk gone"));
+            return Err(fault(self.wants_memory));
         }
         self.held.write(buf)
     }
@@ -192,7 +216,7 @@ impl Write for CountsWrites {
             self.calls -= 1;
         } else if self.may_fail && !buf.is_empty() {
             self.may_fail = false;
-            return Err(Error::other("disk gone"));
+            return Err(fault(self.wants_memory));
         }
         self.held.write_all(buf)
     }

@@ -1,0 +1,154 @@
+//! How often readers and writers are asked, at each length: a lent one as it is by itself.
+ghost use Rattle.std.specs.Prelude.{◌<◌, ◌^◌};
+
+use crate::expect::expect_bytes;
+use crate::given::{CODES, Code, Form, different, twice};
+use fakes::readers::{Counts, Cuts, FailAt};
+use fakes::writers::CountsWrites;
+use multihash::no_std_io::{self, Read, Write};
+use multihash::{Error, Multihash};
+use std::alloc::Global;
+use std::process::Abort;
+use std::test::Fail;
+
+// A reader with a `read_exact` of its own, and one that gives all that it is asked for.
+fn expect_asked<const S: usize>(
+    rt: &impl Abort,
+    alloc: Global,
+    form: Form,
+    items: &[Multihash<S>],
+    input: &[u8],
+    requests: (usize, usize, usize),
+)
+    requires { S < 2 ^ 16 }
+{
+    let mut reader = Counts::new(input);
+    assert!(rt; matches!(form.reads(alloc, items, &mut reader), Ok(true)));
+    assert_eq!(rt; reader.asked(), requests);
+    let mut reader = Counts::new(input);
+    assert!(rt; matches!(form.reads_lent(alloc, items, &mut reader), Ok(true)));
+    assert_eq!(rt; reader.asked(), requests);
+}
+
+// A reader without one gives all that it is asked for, and is not asked for nothing.
+fn expect_asked_in_parts<const S: usize>(
+    rt: &impl Abort,
+    alloc: Global,
+    form: Form,
+    items: &[Multihash<S>],
+    input: &[u8],
+    calls: usize,
+)
+    requires { S < 2 ^ 16 }
+{
+    let mut reader = FailAt::new(Cuts::new(input, 300), 600);
+    assert!(rt; matches!(form.reads(alloc, items, &mut reader), Ok(true)));
+    assert_eq!(rt; reader.asked, calls);
+    let mut reader = FailAt::new(Cuts::new(input, 300), 600);
+    assert!(rt; matches!(form.reads_lent(alloc, items, &mut reader), Ok(true)));
+    assert_eq!(rt; reader.asked, calls);
+}
+
+// A lent writer has the trait's own `write_all`, which makes no call for no bytes.
+fn expect_written_to<const S: usize>(
+    rt: &impl Abort,
+    alloc: Global,
+    form: Form,
+    items: &[Multihash<S>],
+    calls: (usize, usize),
+)
+    requires { S < 2 ^ 16 }
+{
+    let (parts, wholes) = calls;
+    let mut writer = CountsWrites::new(alloc);
+    assert!(rt; form.writes(items, &mut writer).is_ok());
+    assert_eq!(rt; (writer.parts, writer.whole), (0, wholes));
+    let mut writer = CountsWrites::new(alloc);
+    assert!(rt; form.writes_lent(items, &mut writer).is_ok());
+    assert_eq!(rt; (writer.parts, writer.whole), (parts, 0));
+}
+
+fn expect_calls<const S: usize>(
+    rt: &impl Abort,
+    alloc: Global,
+    code: Code,
+    digest: &[u8],
+) -> Result<(), Error>
+    requires { S < 2 ^ 16 }
+{
+    let items = twice::<S>(alloc, code.0, digest)?;
+    for form in Form::ALL {
+        let bytes = form.bytes(alloc, code, digest)?;
+        let (single, others, whole) = form.requests(code, digest.len());
+        expect_asked(rt, alloc, form, &items, &bytes, (single, others, whole));
+        let pairs = if matches!(form, Form::List) {
+            2usize
+        } else {
+            1
+        };
+        let unasked = if digest.is_empty() { pairs } else { 0 };
+        let calls = single.saturating_add(whole).saturating_sub(unasked);
+        expect_asked_in_parts(rt, alloc, form, &items, &bytes, calls);
+        let wholes = pairs.saturating_mul(3);
+        let parts = wholes.saturating_sub(unasked);
+        expect_written_to(rt, alloc, form, &items, (parts, wholes));
+    }
+    Ok(())
+}
+
+#[test]
+fn each_length_makes_as_many_calls(rt: HostRuntime) -> Result<(), Fail> {
+    let bytes = different();
+    for (len, code) in (0..256).zip(CODES.iter().cycle()) {
+        if let Some(digest) = bytes.get(..len) {
+            expect_calls::<255>(&rt, rt.alloc(), *code, digest)?;
+        }
+    }
+    Ok(())
+}
+
+fn lent_read<R: Read>(r: &mut R, buf: &mut [u8]) -> Result<usize, no_std_io::Error> {
+    let mut lent = r;
+    Read::read(&mut lent, buf)
+}
+
+fn lent_read_exact<R: Read>(r: &mut R, buf: &mut [u8]) -> Result<(), no_std_io::Error> {
+    let mut lent = r;
+    Read::read_exact(&mut lent, buf)
+}
+
+fn lent_write<W: Write>(w: &mut W, buf: &[u8]) -> Result<usize, no_std_io::Error> {
+    let mut lent = w;
+    Write::write(&mut lent, buf)
+}
+
+// What is lent is asked once, for all of the bytes.
+fn expect_lent(rt: &impl Abort, alloc: Global, bytes: &[u8]) -> Result<(), Error> {
+    let len = bytes.len();
+    let mut buf = vec![in alloc; 0u8; len]?;
+    let mut reader = Counts::new(bytes);
+    assert_eq!(rt; lent_read(&mut reader, &mut buf).ok(), Some(len));
+    assert_eq!(rt; reader.single.saturating_add(reader.others), 1);
+    expect_bytes(rt, &buf, bytes);
+    let mut buf = vec![in alloc; 0u8; len]?;
+    let mut reader = Counts::new(bytes);
+    assert!(rt; lent_read_exact(&mut reader, &mut buf).is_ok());
+    assert_eq!(rt; reader.asked(), (0, 0, 1));
+    expect_bytes(rt, &buf, bytes);
+    let mut writer = CountsWrites::new(alloc);
+    assert_eq!(rt; lent_write(&mut writer, bytes).ok(), Some(len));
+    assert_eq!(rt; (writer.parts, writer.whole), (1, 0));
+    expect_bytes(rt, &writer.held, bytes);
+    Ok(())
+}
+
+#[test]
+fn each_length_is_lent(rt: HostRuntime) -> Result<(), Fail> {
+    let bytes = [different(), different()].concat(rt.alloc())?;
+    for len in 0..511 {
+        if let Some(these) = bytes.get(..len) {
+            expect_lent(&rt, rt.alloc(), these)?;
+        }
+    }
+    Ok(())
+}

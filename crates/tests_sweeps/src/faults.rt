@@ -1,0 +1,286 @@
+//! That a fault comes out as it went in, behind each byte of each length, and that what was not taken is left.
+ghost use Rattle.std.specs.Prelude.{◌<◌, ◌^◌};
+
+use crate::expect::expect_bytes;
+use crate::given::{CODES, Code, Form, different, twice};
+use fakes::readers::{Counts, Cuts, FailAt};
+use fakes::refusal::{Refusal, is_refused};
+use fakes::writers::{CountsWrites, Drip, FailWrite};
+use multihash::{Error, Multihash};
+use std::alloc::{AllocError, Global};
+use std::process::Abort;
+use std::test::Fail;
+
+// The most bytes of a form: those of a list of two.
+const MOST: usize = 532;
+
+// Whether the call was refused so, behind so many bytes or calls.
+fn expect_refused<T>(
+    rt: &impl Abort,
+    form: Form,
+    answer: &Result<T, Error>,
+    why: Refusal,
+    at: usize,
+) {
+    assert!(rt; is_refused(answer, why), "{form:?}, {why:?} at {at}");
+}
+
+// A reader without a `read_exact` of its own, which fails behind so many bytes.
+fn failing(input: &[u8], at: usize, why: Refusal) -> FailAt {
+    let cuts = Cuts::new(input, 1);
+    if why == Refusal::OutOfMemory {
+        FailAt::out_of_memory(cuts, at)
+    } else {
+        FailAt::new(cuts, at)
+    }
+}
+
+fn expect_reader_fault<const S: usize>(
+    rt: &impl Abort,
+    alloc: Global,
+    form: Form,
+    items: &[Multihash<S>],
+    input: &[u8],
+    at: usize,
+    why: Refusal,
+)
+    requires { S < 2 ^ 16 }
+{
+    let rest = input.get(at..).unwrap_or(&[]);
+    let mut reader = failing(input, at, why);
+    let answer = form.reads(alloc, items, &mut reader);
+    expect_refused(rt, form, &answer, why, at);
+    expect_bytes(rt, reader.cuts.left, rest);
+    let mut reader = failing(input, at, why);
+    let answer = form.reads_lent(alloc, items, &mut reader);
+    expect_refused(rt, form, &answer, why, at);
+    expect_bytes(rt, reader.cuts.left, rest);
+}
+
+// A reader with a `read_exact` of its own, which fails at a request.
+fn refusing(input: &[u8], calls: usize, why: Refusal) -> Counts {
+    if why == Refusal::OutOfMemory {
+        Counts::out_of_memory(input, calls)
+    } else {
+        Counts::failing(input, calls)
+    }
+}
+
+// How many bytes were given before so many requests: those of a varint one by one, SCALE's parts as wholes.
+fn given_before(form: Form, calls: usize) -> usize {
+    match (form, calls) {
+        (Form::Scale, 1) => 8,
+        (Form::Scale, 2) => 9,
+        _ => calls,
+    }
+}
+
+fn expect_request_fault<const S: usize>(
+    rt: &impl Abort,
+    alloc: Global,
+    form: Form,
+    items: &[Multihash<S>],
+    input: &[u8],
+    calls: usize,
+    why: Refusal,
+)
+    requires { S < 2 ^ 16 }
+{
+    let rest = input.get(given_before(form, calls)..).unwrap_or(&[]);
+    let mut reader = refusing(input, calls, why);
+    let answer = form.reads(alloc, items, &mut reader);
+    expect_refused(rt, form, &answer, why, calls);
+    expect_bytes(rt, reader.left, rest);
+    let mut reader = refusing(input, calls, why);
+    let answer = form.reads_lent(alloc, items, &mut reader);
+    expect_refused(rt, form, &answer, why, calls);
+    expect_bytes(rt, reader.left, rest);
+}
+
+// A writer without a `write_all` of its own, which fails or is full behind so many bytes.
+fn failing_writer(alloc: Global, at: usize, why: Refusal) -> Result<FailWrite, AllocError> {
+    let room = if why == Refusal::WriteZero { at } else { MOST };
+    let drip = Drip::new(alloc, room, 1)?;
+    Ok(match why {
+        Refusal::OutOfMemory => FailWrite::out_of_memory(drip, at),
+        Refusal::WriteZero => FailWrite::new(drip, MOST),
+        _ => FailWrite::new(drip, at),
+    })
+}
+
+fn expect_writer_fault<const S: usize>(
+    rt: &impl Abort,
+    alloc: Global,
+    form: Form,
+    items: &[Multihash<S>],
+    front: &[u8],
+    why: Refusal,
+) -> Result<(), AllocError>
+    requires { S < 2 ^ 16 }
+{
+    let at = front.len();
+    let mut writer = failing_writer(alloc, at, why)?;
+    let answer = form.writes(items, &mut writer);
+    expect_refused(rt, form, &answer, why, at);
+    expect_bytes(rt, &writer.drip.held, front);
+    let mut writer = failing_writer(alloc, at, why)?;
+    let answer = form.writes_lent(items, &mut writer);
+    expect_refused(rt, form, &answer, why, at);
+    expect_bytes(rt, &writer.drip.held, front);
+    Ok(())
+}
+
+fn expect_faults_at<const S: usize>(
+    rt: &impl Abort,
+    alloc: Global,
+    form: Form,
+    items: &[Multihash<S>],
+    bytes: &[u8],
+    at: usize,
+) -> Result<(), AllocError>
+    requires { S < 2 ^ 16 }
+{
+    expect_reader_fault(rt, alloc, form, items, bytes, at, Refusal::LINK_DOWN);
+    expect_reader_fault(rt, alloc, form, items, bytes, at, Refusal::OutOfMemory);
+    let front = bytes.get(..at).unwrap_or(&[]);
+    expect_writer_fault(rt, alloc, form, items, front, Refusal::DISK_GONE)?;
+    expect_writer_fault(rt, alloc, form, items, front, Refusal::OutOfMemory)?;
+    expect_writer_fault(rt, alloc, form, items, front, Refusal::WriteZero)
+}
+
+// At each byte of each form of a pair, or at some of them and the last.
+fn expect_faults<const S: usize>(
+    rt: &impl Abort,
+    alloc: Global,
+    code: Code,
+    digest: &[u8],
+    each: bool,
+) -> Result<(), Error>
+    requires { S < 2 ^ 16 }
+{
+    let items = twice::<S>(alloc, code.0, digest)?;
+    for form in Form::ALL {
+        let bytes = form.bytes(alloc, code, digest)?;
+        let last = bytes.len().saturating_sub(1);
+        for at in 0..bytes.len() {
+            if each || at % 41 == 0 || at == last {
+                expect_faults_at(rt, alloc, form, &items, &bytes, at)?;
+            }
+        }
+    }
+    Ok(())
+}
+
+#[test]
+fn each_length_fails(rt: HostRuntime) -> Result<(), Fail> {
+    let bytes = different();
+    for (len, code) in (0..256).zip(CODES.iter().cycle()) {
+        if let Some(digest) = bytes.get(..len) {
+            expect_faults::<255>(&rt, rt.alloc(), *code, digest, false)?;
+        }
+    }
+    Ok(())
+}
+
+#[test]
+fn each_byte_fails(rt: HostRuntime) -> Result<(), Fail> {
+    let bytes = different();
+    for (len, code) in [0, 20, 32, 64, 255].iter().zip(CODES.iter().cycle()) {
+        if let Some(digest) = bytes.get(..*len) {
+            expect_faults::<255>(&rt, rt.alloc(), *code, digest, true)?;
+        }
+    }
+    Ok(())
+}
+
+// Each request of both forms of a pair.
+fn expect_request_faults<const S: usize>(
+    rt: &impl Abort,
+    alloc: Global,
+    code: Code,
+    digest: &[u8],
+) -> Result<(), Error>
+    requires { S < 2 ^ 16 }
+{
+    let items = twice::<S>(alloc, code.0, digest)?;
+    for form in [Form::Binary, Form::Scale] {
+        let bytes = form.bytes(alloc, code, digest)?;
+        let (single, _, whole) = form.requests(code, digest.len());
+        for calls in 0..single.saturating_add(whole) {
+            expect_request_fault(rt, alloc, form, &items, &bytes, calls, Refusal::LINK_DOWN);
+            expect_request_fault(rt, alloc, form, &items, &bytes, calls, Refusal::OutOfMemory);
+        }
+    }
+    Ok(())
+}
+
+// A digest of no bytes is always read.
+#[test]
+fn each_request_of_each_length_fails(rt: HostRuntime) -> Result<(), Fail> {
+    let bytes = different();
+    for (len, code) in (1..256).zip(CODES.iter().cycle()) {
+        if let Some(digest) = bytes.get(..len) {
+            expect_request_faults::<255>(&rt, rt.alloc(), *code, digest)?;
+        }
+    }
+    Ok(())
+}
+
+// A writer with a `write_all` of its own, which fails at a call of it.
+fn refusing_writer(alloc: Global, calls: usize, why: Refusal) -> CountsWrites {
+    if why == Refusal::OutOfMemory {
+        CountsWrites::out_of_memory(alloc, calls)
+    } else {
+        CountsWrites::failing(alloc, calls)
+    }
+}
+
+fn expect_call_fault<const S: usize>(
+    rt: &impl Abort,
+    alloc: Global,
+    form: Form,
+    items: &[Multihash<S>],
+    calls: usize,
+    front: &[u8],
+)
+    requires { S < 2 ^ 16 }
+{
+    for why in [Refusal::DISK_GONE, Refusal::OutOfMemory] {
+        let mut writer = refusing_writer(alloc, calls, why);
+        let answer = form.writes(items, &mut writer);
+        expect_refused(rt, form, &answer, why, calls);
+        expect_bytes(rt, &writer.held, front);
+    }
+}
+
+// Each call of both forms of a pair.
+fn expect_call_faults<const S: usize>(
+    rt: &impl Abort,
+    alloc: Global,
+    code: Code,
+    digest: &[u8],
+) -> Result<(), Error>
+    requires { S < 2 ^ 16 }
+{
+    let items = twice::<S>(alloc, code.0, digest)?;
+    for (form, first) in [(Form::Binary, code.1.len()), (Form::Scale, 8)] {
+        let bytes = form.bytes(alloc, code, digest)?;
+        let second = bytes.len().saturating_sub(digest.len());
+        for (calls, written) in [(0, 0), (1, first), (2, second)] {
+            let front = bytes.get(..written).unwrap_or(&[]);
+            expect_call_fault(rt, alloc, form, &items, calls, front);
+        }
+    }
+    Ok(())
+}
+
+#[test]
+fn each_call_of_each_length_fails(rt: HostRuntime) -> Result<(), Fail> {
+    let bytes = different();
+    for (len, code) in (1..256).zip(CODES.iter().cycle()) {
+        if let Some(digest) = bytes.get(..len) {
+            expect_call_faults::<255>(&rt, rt.alloc(), *code, digest)?;
+        }
+    }
+    Ok(())
+}

@@ -1,0 +1,164 @@
+//! What is swept: codes with their varints, digests whose bytes all differ, and the forms, whose bytes are made here and
+//! not by the library.
+ghost use Rattle.std.specs.Prelude.{◌<◌, ◌^◌};
+
+use fakes::refusal::LARGEST_CODE;
+use multihash::list::{read_list, write_list};
+use multihash::no_std_io::{Read, Write};
+use multihash::{Error, Multihash};
+use std::alloc::{AllocError, Global};
+
+/// A code, and its varint.
+pub type Code = (u64, &'static [u8]);
+
+/// The smallest code of each number of bytes, and the largest of all.
+pub const CODES: [Code; 10] = [
+    (1, &[1]),
+    (128, &[128, 1]),
+    (1 << 14, &[128, 128, 1]),
+    (1 << 21, &[128, 128, 128, 1]),
+    (1 << 28, &[128, 128, 128, 128, 1]),
+    (1 << 35, &[128, 128, 128, 128, 128, 1]),
+    (1 << 42, &[128, 128, 128, 128, 128, 128, 1]),
+    (1 << 49, &[128, 128, 128, 128, 128, 128, 128, 1]),
+    (1 << 56, &[128, 128, 128, 128, 128, 128, 128, 128, 1]),
+    (LARGEST_CODE, &[255, 255, 255, 255, 255, 255, 255, 255, 127]),
+];
+
+/// The bytes 1 to 255: no two are alike, and none is 0.
+pub fn different() -> [u8; 255] {
+    let mut bytes = [0u8; 255];
+    let mut last = 0u8;
+    for place in &mut bytes {
+        last = last.wrapping_add(1);
+        *place = last;
+    }
+    bytes
+}
+
+/// A form, which one call reads and another writes.
+#[derive(Clone, Copy, Debug)]
+pub enum Form {
+    Binary,
+    Scale,
+    /// The pair twice, one after another.
+    List,
+}
+
+impl Form {
+    pub const ALL: [Form; 3] = [Form::Binary, Form::Scale, Form::List];
+
+    /// The bytes of the pair in this form.
+    pub fn bytes(self, alloc: Global, code: Code, digest: &[u8]) -> Result<Vec<u8>, AllocError> {
+        let mut bytes = Vec::with_capacity(alloc, 533)?;
+        self.append(&mut bytes, code, digest)?;
+        if matches!(self, Form::List) {
+            self.append(&mut bytes, code, digest)?;
+        }
+        Ok(bytes)
+    }
+
+    fn append(self, bytes: &mut Vec<u8>, code: Code, digest: &[u8]) -> Result<(), AllocError> {
+        let size = u8::try_from(digest.len()).unwrap_or(255);
+        if matches!(self, Form::Scale) {
+            bytes.extend_from_slice(&code.0.to_le_bytes())?;
+            bytes.push(size)?;
+        } else {
+            bytes.extend_from_slice(code.1)?;
+            bytes.push(size)?;
+            if size > 127 {
+                bytes.push(1)?;
+            }
+        }
+        bytes.extend_from_slice(digest)
+    }
+
+    /// What reading a pair of this form asks for, with a digest of so many bytes: single bytes by `read`, others by it, and
+    /// wholes by `read_exact`.
+    pub fn requests(self, code: Code, len: usize) -> (usize, usize, usize) {
+        let size_len = if len < 128 { 1 } else { 2 };
+        let single = code.1.len().saturating_add(size_len);
+        match self {
+            Form::Binary => (single, 0, 1),
+            Form::Scale => (0, 0, 3),
+            Form::List => (single.saturating_mul(2), 0, 2),
+        }
+    }
+
+    /// Writes the first of the items, or their list, and answers how many bytes they are.
+    pub fn writes<const S: usize, W: Write>(
+        self,
+        items: &[Multihash<S>],
+        w: &mut W,
+    ) -> Result<usize, Error>
+        requires { S < 2 ^ 16 }
+    {
+        let Some(first) = items.first() else {
+            return Ok(0);
+        };
+        match self {
+            Form::Binary => first.write(w),
+            Form::Scale => first.scale_encode(w),
+            Form::List => {
+                write_list(items, w)?;
+                Ok(first.encoded_len().saturating_mul(items.len()))
+            }
+        }
+    }
+
+    /// As `writes`, to a writer that is lent.
+    pub fn writes_lent<const S: usize, W: Write>(
+        self,
+        items: &[Multihash<S>],
+        w: &mut W,
+    ) -> Result<usize, Error>
+        requires { S < 2 ^ 16 }
+    {
+        let mut lent = w;
+        self.writes(items, &mut lent)
+    }
+
+    /// Whether what is read is the first of the items, or their list.
+    pub fn reads<const S: usize, R: Read>(
+        self,
+        alloc: Global,
+        items: &[Multihash<S>],
+        r: &mut R,
+    ) -> Result<bool, Error>
+        requires { S < 2 ^ 16 }
+    {
+        match self {
+            Form::Binary => Ok(items.first() == Some(&Multihash::read(r)?)),
+            Form::Scale => Ok(items.first() == Some(&Multihash::scale_decode(r)?)),
+            Form::List => Ok(read_list::<S, _>(alloc, r, items.len())?.as_slice() == items),
+        }
+    }
+
+    /// As `reads`, of a reader that is lent.
+    pub fn reads_lent<const S: usize, R: Read>(
+        self,
+        alloc: Global,
+        items: &[Multihash<S>],
+        r: &mut R,
+    ) -> Result<bool, Error>
+        requires { S < 2 ^ 16 }
+    {
+        let mut lent = r;
+        self.reads(alloc, items, &mut lent)
+    }
+}
+
+/// The pair twice.
+pub fn twice<const S: usize>(
+    alloc: Global,
+    code: u64,
+    digest: &[u8],
+) -> Result<Vec<Multihash<S>>, Error>
+    requires { S < 2 ^ 16 }
+{
+    let m = Multihash::wrap(code, digest)?;
+    let mut items = Vec::with_capacity(alloc, 2)?;
+    items.push_reserved(m);
+    items.push_reserved(m);
+    Ok(items)
+}

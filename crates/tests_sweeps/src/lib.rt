@@ -1,0 +1,20 @@
+//! Sweeps in place of samples, of what no clause tells: each length of a digest, each number about a power, a fault at
+//! each byte. Each is a loop over one helper.
+#![tactic(auto)]
+
+#[cfg(test)]
+mod alike;
+#[cfg(test)]
+mod asked;
+#[cfg(test)]
+mod expect;
+#[cfg(test)]
+mod faults;
+#[cfg(test)]
+mod given;
+#[cfg(test)]
+mod grown;
+#[cfg(test)]
+mod texts;
+#[cfg(test)]
+mod written;

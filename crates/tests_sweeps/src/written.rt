@@ -1,0 +1,227 @@
+//! Which bytes stand where each length of a digest was written, in each form: in places that suffice and in one too few,
+//! and in vectors.
+ghost use Rattle.std.specs.Prelude.{◌<◌, ◌^◌};
+
+use crate::expect::expect_bytes;
+use crate::given::{CODES, Code, Form, different, twice};
+use fakes::refusal::{Refusal, is_refused};
+use multihash::no_std_io::{SliceWriter, Write};
+use multihash::{Error, Multihash};
+use std::alloc::Global;
+use std::process::Abort;
+use std::test::Fail;
+
+// Those of a list of two, and one more.
+const PLACES: usize = 533;
+
+// Whether so many bytes were written, or where they do not fit into the room, the writer was full.
+fn is_written(answer: &Result<usize, Error>, len: usize, room: usize) -> bool {
+    match answer {
+        Ok(n) => *n == len && len <= room,
+        Err(_) => room < len && is_refused(answer, Refusal::WriteZero),
+    }
+}
+
+// As many of the bytes as there are places for stand in them.
+fn expect_front(rt: &impl Abort, places: &[u8], wanted: &[u8]) {
+    let len = places.len().min(wanted.len());
+    expect_bytes(rt, &places[..len], &wanted[..len]);
+}
+
+fn expect_in_slice<const S: usize>(
+    rt: &impl Abort,
+    form: Form,
+    items: &[Multihash<S>],
+    wanted: &[u8],
+    room: usize,
+)
+    requires { S < 2 ^ 16 }
+{
+    let room = room.min(PLACES);
+    let mut places = [0u8; PLACES];
+    let mut left = &mut places[..room];
+    let answer = form.writes(items, &mut left);
+    assert_eq!(rt; left.len(), room.saturating_sub(wanted.len()));
+    assert!(rt; is_written(&answer, wanted.len(), room));
+    expect_front(rt, &places[..room], wanted);
+}
+
+fn expect_in_lent_slice<const S: usize>(
+    rt: &impl Abort,
+    form: Form,
+    items: &[Multihash<S>],
+    wanted: &[u8],
+    room: usize,
+)
+    requires { S < 2 ^ 16 }
+{
+    let room = room.min(PLACES);
+    let mut places = [0u8; PLACES];
+    let mut left = &mut places[..room];
+    let answer = form.writes_lent(items, &mut left);
+    assert_eq!(rt; left.len(), room.saturating_sub(wanted.len()));
+    assert!(rt; is_written(&answer, wanted.len(), room));
+    expect_front(rt, &places[..room], wanted);
+}
+
+fn expect_in_slice_writer<const S: usize>(
+    rt: &impl Abort,
+    form: Form,
+    items: &[Multihash<S>],
+    wanted: &[u8],
+    room: usize,
+)
+    requires { S < 2 ^ 16 }
+{
+    let room = room.min(PLACES);
+    let mut places = [0u8; PLACES];
+    let mut writer = SliceWriter::new(&mut places[..room]);
+    let answer = form.writes(items, &mut writer);
+    assert_eq!(rt; writer.filled, room.min(wanted.len()));
+    assert!(rt; is_written(&answer, wanted.len(), room));
+    expect_front(rt, &places[..room], wanted);
+}
+
+// A lent vector is written by its `write`, and the vector itself by its `write_all`.
+fn expect_in_vectors<const S: usize>(
+    rt: &impl Abort,
+    alloc: Global,
+    form: Form,
+    items: &[Multihash<S>],
+    wanted: &[u8],
+)
+    requires { S < 2 ^ 16 }
+{
+    let mut held = Vec::new(alloc);
+    let answer = form.writes(items, &mut held);
+    assert!(rt; is_written(&answer, wanted.len(), wanted.len()));
+    expect_bytes(rt, &held, wanted);
+    let mut held = Vec::new(alloc);
+    let answer = form.writes_lent(items, &mut held);
+    assert!(rt; is_written(&answer, wanted.len(), wanted.len()));
+    expect_bytes(rt, &held, wanted);
+}
+
+fn expect_written<const S: usize>(
+    rt: &impl Abort,
+    alloc: Global,
+    code: Code,
+    digest: &[u8],
+) -> Result<(), Error>
+    requires { S < 2 ^ 16 }
+{
+    let items = twice::<S>(alloc, code.0, digest)?;
+    for form in Form::ALL {
+        let wanted = form.bytes(alloc, code, digest)?;
+        let len = wanted.len();
+        for room in [len.saturating_sub(1), len, len.saturating_add(1)] {
+            expect_in_slice(rt, form, &items, &wanted, room);
+            expect_in_lent_slice(rt, form, &items, &wanted, room);
+            expect_in_slice_writer(rt, form, &items, &wanted, room);
+        }
+        expect_in_vectors(rt, alloc, form, &items, &wanted);
+    }
+    Ok(())
+}
+
+// Each length that a buffer of this size holds, with the codes in turn.
+fn expect_each_written<const S: usize>(rt: &impl Abort, alloc: Global) -> Result<(), Error>
+    requires { S < 2 ^ 16 }
+{
+    let bytes = different();
+    for (len, code) in (0..=S.min(255)).zip(CODES.iter().cycle()) {
+        if let Some(digest) = bytes.get(..len) {
+            expect_written::<S>(rt, alloc, *code, digest)?;
+        }
+    }
+    Ok(())
+}
+
+#[test]
+fn each_short_length_is_written(rt: HostRuntime) -> Result<(), Fail> {
+    expect_each_written::<0>(&rt, rt.alloc())?;
+    expect_each_written::<1>(&rt, rt.alloc())?;
+    expect_each_written::<2>(&rt, rt.alloc())?;
+    expect_each_written::<4>(&rt, rt.alloc())?;
+    expect_each_written::<16>(&rt, rt.alloc())?;
+    expect_each_written::<20>(&rt, rt.alloc())?;
+    expect_each_written::<28>(&rt, rt.alloc())?;
+    expect_each_written::<31>(&rt, rt.alloc())?;
+    expect_each_written::<32>(&rt, rt.alloc())?;
+    expect_each_written::<33>(&rt, rt.alloc())?;
+    expect_each_written::<48>(&rt, rt.alloc())?;
+    Ok(())
+}
+
+#[test]
+fn each_length_is_written(rt: HostRuntime) -> Result<(), Fail> {
+    expect_each_written::<63>(&rt, rt.alloc())?;
+    expect_each_written::<64>(&rt, rt.alloc())?;
+    expect_each_written::<65>(&rt, rt.alloc())?;
+    expect_each_written::<127>(&rt, rt.alloc())?;
+    expect_each_written::<128>(&rt, rt.alloc())?;
+    expect_each_written::<129>(&rt, rt.alloc())?;
+    Ok(())
+}
+
+#[test]
+fn each_long_length_is_written(rt: HostRuntime) -> Result<(), Fail> {
+    expect_each_written::<200>(&rt, rt.alloc())?;
+    expect_each_written::<254>(&rt, rt.alloc())?;
+    expect_each_written::<255>(&rt, rt.alloc())?;
+    expect_each_written::<256>(&rt, rt.alloc())?;
+    expect_each_written::<300>(&rt, rt.alloc())?;
+    Ok(())
+}
+
+// Each code with lengths about which the size's varint or a copy changes its way.
+#[test]
+fn each_code_is_written(rt: HostRuntime) -> Result<(), Fail> {
+    let bytes = different();
+    for code in CODES {
+        for len in [0, 1, 31, 32, 33, 64, 127, 128, 255] {
+            if let Some(digest) = bytes.get(..len) {
+                expect_written::<255>(&rt, rt.alloc(), code, digest)?;
+            }
+        }
+    }
+    Ok(())
+}
+
+// A slice as a writer copies bytes of which none is 0, by both of its calls.
+fn expect_copied(rt: &impl Abort, bytes: &[u8], places: &mut [u8]) {
+    let room = places.len();
+    let mut left = &mut places[..];
+    assert_eq!(rt; left.write(bytes).ok(), Some(room.min(bytes.len())));
+    expect_front(rt, places, bytes);
+}
+
+fn expect_all_copied(rt: &impl Abort, bytes: &[u8], places: &mut [u8]) {
+    let room = places.len();
+    let mut left = &mut places[..];
+    assert_eq!(rt; left.write_all(bytes).is_ok(), bytes.len() <= room);
+    expect_front(rt, places, bytes);
+}
+
+// Counts about powers of two.
+const LENGTHS: [usize; 16] = [
+    511, 512, 513, 1023, 1024, 1025, 4095, 4096, 4097, 16383, 16384, 16385, 65535, 65536, 65537,
+    70000,
+];
+
+#[test]
+fn each_length_is_copied(rt: HostRuntime) -> Result<(), Fail> {
+    let mut bytes = Vec::with_capacity(rt.alloc(), 70125)?;
+    for _ in 0..275 {
+        bytes.extend_from_slice(&different())?;
+    }
+    for len in (0..301).chain(LENGTHS) {
+        if let Some(these) = bytes.get(..len) {
+            for room in [len.saturating_sub(1), len, len.saturating_add(1)] {
+                expect_copied(&rt, these, &mut vec![in rt.alloc(); 0u8; room]?);
+                expect_all_copied(&rt, these, &mut vec![in rt.alloc(); 0u8; room]?);
+            }
+        }
+    }
+    Ok(())
+}
