@@ -1,5 +1,5 @@
 -- What callers conclude from the contracts of several calls.
-use Rattle.std.proofs.Common.{Vec, Global, length-append, ◌≡◌, ℕ, ◌<◌, ◌≤◌, ◌-◌, ◌⊎◌, IfOk, IfErr, OnOk, OnErr, inl, inr, length-drop, List, [], ◌∷◌, ◌++◌, length, map, Bool, true, false, IsTrue, ◌↔◌, Option, Some, Result, Ok, Err, MatchResult, IfSome, refl, sym, ap, ◌∙◌, subst, arith, append_assoc}
+use Rattle.std.proofs.Common.{Vec, Global, length-append, ◌≡◌, ℕ, ◌<◌, ◌≤◌, ◌-◌, ◌⊎◌, IfOk, IfErr, OnOk, OnErr, inl, inr, length-drop, List, [], ◌∷◌, ◌++◌, length, map, Bool, true, false, IsTrue, ◌↔◌, Option, None, Some, Result, Ok, Err, MatchResult, IfSome, refl, sym, ap, ◌∙◌, subst, arith, append_assoc}
 use Rattle.std.specs.List.{All}
 use Rattle.std.specs.Result.{is_ok}
 use Rattle.std.proofs.lemmas.List.{length-map}
