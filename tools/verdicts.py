@@ -37,14 +37,14 @@ class Rules:
 
     def __init__(self, bits):
         self.limit = 1 << bits
-        self.most_marked = (bits - 1) // 7
-        self.first_too_large = 1 << (bits - 7 * self.most_marked)
+        self.max_marked = (bits - 1) // 7
+        self.last_byte_limit = 1 << (bits - 7 * self.max_marked)
 
     def front(self, data):
         """The number and the length of the varint that begins the bytes; or a fault, and how many bytes show it."""
         number = 0
         for at, byte in enumerate(data):
-            if at == self.most_marked and byte >= self.first_too_large:
+            if at == self.max_marked and byte >= self.last_byte_limit:
                 return "overflow", at + 1
             if byte == 0 and at > 0:
                 return "not_minimal", at + 1
@@ -165,13 +165,13 @@ class Draw:
 
     def fault(self):
         """Bytes that begin with no varint."""
-        most = self.rules.most_marked
+        most = self.rules.max_marked
         kind = self.below(3)
         if kind == 0:
             return self.marked(self.one_of((most, self.below(most + 1))))
         if kind == 1:
             return self.marked(self.one_of((most, 1 + self.below(most)))) + b"\0" + self.behind()
-        too_large = self.rules.first_too_large
+        too_large = self.rules.last_byte_limit
         byte = self.one_of((too_large, 255, too_large + self.below(256 - too_large)))
         return self.marked(most) + bytes([byte]) + self.behind()
 

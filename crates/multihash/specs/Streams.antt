@@ -6,7 +6,7 @@ use Rattle.multihash.specs.Joined.{AreJoined}
 use Rattle.multihash.specs.Reading.{Takes}
 use Rattle.multihash.specs.Refusal.{Refusal}
 use Rattle.multihash.specs.Answer.{IsRefusal}
-use Rattle.multihash.specs.Taking.{TakesAtRefusal, TakesShortestSettling, TakesUnsettled}
+use Rattle.multihash.specs.Taking.{TakesAtRefusal, TakesShortestSettling, TakesNothingSettling}
 
 -- the call took the encodings of these pairs, all of which fit, one after another
 pub record TakesPairs (S : ℕ) (pairs : List Pair) (old new : Option (List ℕ)) : Type 0 where
@@ -32,4 +32,4 @@ pub record StopsAfterPairs (S count : ℕ) (e : Refusal) (before after : ℕ)
       ¬ (IsEarlyEnd v) → TakesShortestSettling S left new)
   pub unsettled : IfSome middle (λ left.
       (before < after) ⊎ ((v : Verdict) × HasVerdict S left v × IsEarlyEnd v) →
-      TakesUnsettled S left new)
+      TakesNothingSettling S left new)

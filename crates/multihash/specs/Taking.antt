@@ -57,7 +57,7 @@ pub record TakesShortestSettling (S : ℕ) (rest : List ℕ) (new : Option (List
   pub takes : Takes (Some rest) front new
 
 -- no beginning of what a call took settles a verdict
-pub record TakesUnsettled (S : ℕ) (rest : List ℕ) (new : Option (List ℕ)) : Type 0 where
+pub record TakesNothingSettling (S : ℕ) (rest : List ℕ) (new : Option (List ℕ)) : Type 0 where
   pub taken : List ℕ
   pub takes : Takes (Some rest) taken new
   pub unsettled : (front : List ℕ) → IsBeginning front taken → ¬ (Settles S front)

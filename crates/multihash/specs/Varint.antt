@@ -7,12 +7,12 @@ abbrev pub varint_limit : ℕ
 varint_limit = 2 ^ 63
 
 -- the most marked bytes of a varint
-abbrev pub most_marked : ℕ
-most_marked = 8
+abbrev pub max_marked : ℕ
+max_marked = 8
 
--- after that many marked bytes, a byte from this one on is too large
-abbrev pub first_too_large : ℕ
-first_too_large = 128
+-- after that many marked bytes, the last byte lies below this one
+abbrev pub last_byte_limit : ℕ
+last_byte_limit = 128
 
 -- a byte that others follow has 128 added to its digit
 abbrev pub IsMarked : ℕ → Type 0
@@ -38,7 +38,7 @@ pub data VarintFault : Type 0 where
 
 -- the input ends inside or before a varint
 pub record IsInsufficient (input : List ℕ) : Type 0 where
-  pub few : length input ≤ most_marked
+  pub few : length input ≤ max_marked
   pub all_marked : All IsMarked input
 
 -- after the most marked bytes comes one that is too large
@@ -47,8 +47,8 @@ pub record IsOverflow (input : List ℕ) : Type 0 where
   pub byte : ℕ
   pub rest : List ℕ
   pub all_marked : All IsMarked front
-  pub most : length front ≡ most_marked
-  pub too_large : first_too_large ≤ byte
+  pub most : length front ≡ max_marked
+  pub too_large : last_byte_limit ≤ byte
   pub cut : input ≡ front ++ byte ∷ rest
 
 -- a zero ends the marked bytes
@@ -57,7 +57,7 @@ pub record IsNotMinimal (input : List ℕ) : Type 0 where
   pub rest : List ℕ
   pub all_marked : All IsMarked front
   pub some : 0 < length front
-  pub few : length front ≤ most_marked
+  pub few : length front ≤ max_marked
   pub cut : input ≡ front ++ 0 ∷ rest
 
 -- the input begins with that fault

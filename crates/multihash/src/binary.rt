@@ -1,13 +1,13 @@
 //! The binary form: the varint of the code, the varint of the digest's length, and the digest.
 ghost use Rattle.std.specs.Prelude.{◌≡◌, ◌<◌, ◌≤◌, ◌+◌, ◌-◌, ◌⊎◌, ℕ, List, length, Some, IfSome, IfOk, IfErr, OnOk, OnErr};
-ghost use Rattle.multihash.specs.Varint.{most_marked};
+ghost use Rattle.multihash.specs.Varint.{max_marked};
 ghost use Rattle.multihash.specs.Pair.{digest_limit, FitsBuffer};
 ghost use Rattle.multihash.specs.Encoding.{IsEncoding};
 ghost use Rattle.multihash.specs.Verdict.{Verdict, HasVerdict, IsEarlyEnd, HasWholeVerdict};
 ghost use Rattle.multihash.specs.Refusal.{IsInvalidSize, IsMemory, IsIo, IsReaderFault};
 ghost use Rattle.multihash.specs.Reading.{Takes, CountsReader};
 ghost use Rattle.multihash.specs.Writing.{AppendsPart, CountsWriter};
-ghost use Rattle.multihash.specs.Taking.{IsReadRefusal, TakesAtRefusal, TakesShortestSettling, TakesUnsettled};
+ghost use Rattle.multihash.specs.Taking.{IsReadRefusal, TakesAtRefusal, TakesShortestSettling, TakesNothingSettling};
 ghost use Rattle.multihash.specs.Answer.{pair_of, Answers};
 
 use crate::no_std_io::{self, Read, Write};
@@ -50,7 +50,7 @@ impl<const S: usize> Multihash<S> {
         ensures unsettled { IfSome (R.rest r.old) (λ rest.
             (R.failures r.old < R.failures r.new)
             ⊎ ((v : Verdict) × HasVerdict S rest v × IsEarlyEnd v) →
-            TakesUnsettled S rest (R.rest r.new)) }
+            TakesNothingSettling S rest (R.rest r.new)) }
     {
         let code = varint::read(r)?;
         let size = Self::fitting_size(varint::read(r)?)?;
@@ -133,7 +133,7 @@ impl<const S: usize> Multihash<S> {
     pub fn encoded_len(&self) -> usize
         ensures encoding { (bytes : List ℕ) × IsEncoding (pair_of self.now) bytes
             × (result ≡ length bytes) }
-        ensures short { result ≤ (most_marked + 1) + 2 + 255 }
+        ensures short { result ≤ (max_marked + 1) + 2 + 255 }
     {
         let code = varint::len_in_range(self.code());
         let size = varint::len_in_range(u64::from(self.size()));

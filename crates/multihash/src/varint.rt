@@ -5,7 +5,7 @@
 //! the code and the length of a multihash, the version and the codec of a content identifier, the parts of a
 //! multiaddr.
 ghost use Rattle.std.specs.Prelude.{◌≡◌, ◌<◌, ◌≤◌, ◌+◌, ◌⊎◌, ℕ, List, [], ◌∷◌, length, take, Some, IfSome, MatchOption, IfOk, IfErr, OnErr};
-ghost use Rattle.multihash.specs.Varint.{IsVarint, varint_limit, most_marked};
+ghost use Rattle.multihash.specs.Varint.{IsVarint, varint_limit, max_marked};
 ghost use Rattle.std.specs.Io.KnownBytes.{IsAtEnd};
 ghost use Rattle.multihash.specs.Reading.{Takes, CountsReader, NoOtherError};
 ghost use Rattle.multihash.specs.Writing.{AppendsPart, CountsWriter, IsFault, IsWriterFaultOrFull};
@@ -20,16 +20,16 @@ use crate::no_std_io::{self, Read, Write};
 use std::marker::Model;
 
 // The most marked bytes of a varint.
-const MOST_MARKED: usize = 8;
+const MAX_MARKED: usize = 8;
 
-// After that many marked bytes, a byte from this one on is too large.
-const FIRST_TOO_LARGE: u8 = 128;
+// After that many marked bytes, the last byte lies below this one.
+const LAST_BYTE_LIMIT: u8 = 128;
 
 /// The largest number that has a varint: 2^63 - 1.
-pub const MAX: u64 = (((FIRST_TOO_LARGE as u128) << (7 * MOST_MARKED)) - 1) as u64;
+pub const MAX: u64 = (((LAST_BYTE_LIMIT as u128) << (7 * MAX_MARKED)) - 1) as u64;
 
 // The most bytes of a varint.
-const MAX_LEN: usize = MOST_MARKED + 1;
+const MAX_LEN: usize = MAX_MARKED + 1;
 
 // The room for a varint: at least as many bytes as one has, and a whole machine word's copy.
 const ROOM: usize = 16;
@@ -137,7 +137,7 @@ pub fn read_front(bytes: &[u8]) -> Result<(u64, usize), Error>
 pub(crate) fn len_in_range(n: u64) -> usize
     requires { n < varint_limit }
     ensures varint { (bytes : List ℕ) × IsVarint n bytes × (result ≡ length bytes) }
-    ensures short { result ≤ most_marked + 1 }
+    ensures short { result ≤ max_marked + 1 }
 {
     if n < 128 {
         return 1;
@@ -151,7 +151,7 @@ pub(crate) fn write_in_range<W: Write>(n: u64, w: &mut W) -> Result<usize, no_st
     requires { n < varint_limit }
     ensures ok { IfOk result (λ len. (bytes : List ℕ) × IsVarint n bytes × (len ≡ length bytes)
         × W.appended w.old bytes w.new) }
-    ensures short { IfOk result (λ len. len ≤ most_marked + 1) }
+    ensures short { IfOk result (λ len. len ≤ max_marked + 1) }
     ensures err { OnErr result ((bytes : List ℕ) × IsVarint n bytes
         × AppendsPart W.appended w.old bytes w.new) }
     ensures faults { CountsWriter IsFault W.allocates
@@ -183,11 +183,11 @@ pub fn read<R: Read>(r: &mut R) -> Result<u64, Error>
         IfErr result (IsFrontRefusal input)) }
 {
     let mut value: u64 = 0;
-    for i in 0..=MOST_MARKED {
+    for i in 0..=MAX_MARKED {
         let Some(byte) = read_byte(r)? else {
             return Err(Error::insufficient());
         };
-        if i == MOST_MARKED && byte >= FIRST_TOO_LARGE {
+        if i == MAX_MARKED && byte >= LAST_BYTE_LIMIT {
             return Err(Error::overflow());
         }
         value |= u64::from(byte & 0x7f) << (7 * i);

@@ -19,7 +19,7 @@ ghost use Rattle.multihash.specs.Scale.{IsScale, HasScaleVerdict};
 ghost use Rattle.multihash.specs.Json.{IsByteArray, IsJsonList};
 ghost use Rattle.multihash.specs.Refusal.{IsInvalidSize, IsInvalidCode, IsNotBytes, IsIo, IsMemory};
 ghost use Rattle.multihash.specs.Reading.{Takes};
-ghost use Rattle.multihash.specs.Taking.{TakesAtRefusal, TakesShortestSettling, TakesUnsettled};
+ghost use Rattle.multihash.specs.Taking.{TakesAtRefusal, TakesShortestSettling, TakesNothingSettling};
 ghost use Rattle.multihash.specs.ScaleTaking.{TakesAtScaleRefusal};
 ghost use Rattle.multihash.specs.Streams.{TakesPairs, StopsAfterPairs};
 ghost use Rattle.multihash.specs.Answer.{pair_of, Answers};
@@ -69,7 +69,7 @@ pub fn read_slice<const S: usize>(bytes: &mut &[u8]) -> Result<Multihash<S>, Err
     ensures settled { (v : Verdict) → HasVerdict S bytes.old.now v → ¬ (IsEarlyEnd v) →
         TakesShortestSettling S bytes.old.now (Some bytes.new.now) }
     ensures unsettled { (v : Verdict) → HasVerdict S bytes.old.now v → IsEarlyEnd v →
-        TakesUnsettled S bytes.old.now (Some bytes.new.now) }
+        TakesNothingSettling S bytes.old.now (Some bytes.new.now) }
 {
     Multihash::read(bytes)
 }

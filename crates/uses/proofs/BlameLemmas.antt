@@ -7,7 +7,7 @@ use Rattle.multihash.specs.Verdict.{Verdict, accepted, invalid_size, invalid_cod
 use Rattle.multihash.specs.Scale.{IsScaleCode, HasScaleVerdict}
 use Rattle.multihash.specs.ScaleTaking.{TakesAtScaleRefusal}
 use Rattle.multihash.specs.Settling.{Settles}
-use Rattle.multihash.specs.Taking.{TakesShortestSettling, TakesUnsettled}
+use Rattle.multihash.specs.Taking.{TakesShortestSettling, TakesNothingSettling}
 use Rattle.multihash.specs.Reading.{Takes}
 use Rattle.multihash.specs.Refusal.{Refusal, of_size, of_code, IsInvalidSize, IsInvalidCode}
 use Rattle.multihash.specs.Answer.{Fields, pair_of, IsRefusal, Answers}
@@ -96,7 +96,7 @@ no_refused_code S input (Some n) e v test = absurd (no_code S n input e v.0 v.1 
 
 -- of an encoding that was taken in part, more is left than what follows it
 pub end_left : (S : ℕ) (p : Pair) (bytes more : List ℕ) (new : Option (List ℕ)) → IsEncoding p bytes → FitsBuffer S p
-    → TakesUnsettled S (bytes ++ more) new → IfSome new (λ left. length more < length left)
+    → TakesNothingSettling S (bytes ++ more) new → IfSome new (λ left. length more < length left)
 end_left S p bytes more None encodes fits took = tt
 end_left S p bytes more (Some left) encodes fits took =
     let own : HasVerdict S bytes (accepted p) = ([], record { encoding = bytes; encodes = encodes; cut = sym (append-nil bytes) }, fits) in
@@ -118,8 +118,8 @@ end_left S p bytes more (Some left) encodes fits took =
 
 -- what was told of a reader's rest, of the rest that it had
 pub at_failure : {P : List ℕ → Type 0} (S : ℕ) (old new : Option (List ℕ)) (input : List ℕ) → old ≡ Some input
-    → IfSome old (λ rest. P rest → TakesUnsettled S rest new) → ((rest : List ℕ) → P rest) → TakesUnsettled S input new
+    → IfSome old (λ rest. P rest → TakesNothingSettling S rest new) → ((rest : List ℕ) → P rest) → TakesNothingSettling S input new
 at_failure S None new input rest told why = cc
 at_failure S (Some x) new input rest told why =
     let same : x ≡ input = cc in
-    subst (λ l. TakesUnsettled S l new) same (told (why x))
+    subst (λ l. TakesNothingSettling S l new) same (told (why x))

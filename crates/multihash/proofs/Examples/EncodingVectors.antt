@@ -1,7 +1,7 @@
 -- The encodings of known pairs.
 use Rattle.std.proofs.Common.{◌≡◌, ℕ, ◌+◌, List, [], ◌∷◌, ◌++◌, length, replicate, refl}
 use Rattle.std.specs.Prelude.{codes}
-use Rattle.multihash.specs.Varint.{most_marked}
+use Rattle.multihash.specs.Varint.{max_marked}
 use Rattle.multihash.specs.Encoding.{IsEncoding}
 use Rattle.multihash.proofs.Examples.VarintVectors.{varint_0, varint_2, varint_128, varint_255, varint_9223372036854775807}
 use Rattle.multihash.proofs.Examples.PairVectors.{pair}
@@ -42,5 +42,5 @@ longest_is : length longest ≡ 266
 longest_is = refl
 
 -- no encoding is longer
-most_bytes : (most_marked + 1) + 2 + 255 ≡ 266
+most_bytes : (max_marked + 1) + 2 + 255 ≡ 266
 most_bytes = refl

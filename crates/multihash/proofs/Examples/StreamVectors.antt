@@ -11,7 +11,7 @@ use Rattle.multihash.specs.Joined.{AreJoined}
 use Rattle.multihash.specs.Reading.{Takes}
 use Rattle.multihash.specs.Refusal.{Refusal, of_io, of_size, of_varint}
 use Rattle.multihash.specs.Answer.{IsRefusal}
-use Rattle.multihash.specs.Taking.{TakesShortestSettling, TakesUnsettled}
+use Rattle.multihash.specs.Taking.{TakesShortestSettling, TakesNothingSettling}
 use Rattle.multihash.specs.Streams.{TakesPairs, StopsAfterPairs}
 use Rattle.multihash.proofs.Readings.ReadingLemmas.{Takes-none}
 use Rattle.multihash.proofs.Forms.StreamLemmas.{TakesPairs-none}
@@ -144,9 +144,9 @@ module _ (count : ℕ) (e : Refusal) (before after : ℕ) (old new : Option (Lis
   settled_behind : after ≡ before → (v : Verdict) → HasVerdict 4 left v → ¬ (IsEarlyEnd v) → TakesShortestSettling 4 left new
   settled_behind = subst (λ o. IfSome o (λ left. after ≡ before → (v : Verdict) → HasVerdict 4 left v → ¬ (IsEarlyEnd v) → TakesShortestSettling 4 left new)) at h.settled
 
-  unsettled_behind : before < after → TakesUnsettled 4 left new
+  unsettled_behind : before < after → TakesNothingSettling 4 left new
   unsettled_behind rose =
-      subst (λ o. IfSome o (λ left. (before < after) ⊎ ((v : Verdict) × HasVerdict 4 left v × IsEarlyEnd v) → TakesUnsettled 4 left new)) at h.unsettled (inl rose)
+      subst (λ o. IfSome o (λ left. (before < after) ⊎ ((v : Verdict) × HasVerdict 4 left v × IsEarlyEnd v) → TakesNothingSettling 4 left new)) at h.unsettled (inl rose)
 
 size_5_refused : HasVerdict 4 (0 ∷ 5 ∷ 9 ∷ []) (invalid_size 5)
 size_5_refused = (9 ∷ [], size_5 (9 ∷ []), omega arith)

@@ -7,7 +7,7 @@ use Rattle.multihash.specs.Verdict.{Verdict, accepted, invalid_size, faulty, une
 use Rattle.multihash.specs.Reading.{Takes}
 use Rattle.multihash.specs.Fault.{IsUnexpectedEof}
 use Rattle.multihash.specs.Refusal.{Refusal, of_io, of_size, of_code, of_varint, of_not_bytes, IsFaulty}
-use Rattle.multihash.specs.Taking.{IsVarintRefusal, IsFrontRefusal, BeginsNoVarint, TakesVarint, IsReadRefusal, TakesAtVarintRefusal, TakesAtRefusal, TakesShortestSettling, TakesUnsettled}
+use Rattle.multihash.specs.Taking.{IsVarintRefusal, IsFrontRefusal, BeginsNoVarint, TakesVarint, IsReadRefusal, TakesAtVarintRefusal, TakesAtRefusal, TakesShortestSettling, TakesNothingSettling}
 use Rattle.multihash.proofs.Varints.VarintLemmas.{front_unique, number, fault, varint_unique}
 use Rattle.multihash.proofs.Readings.VerdictLemmas.{verdict_unique}
 use Rattle.multihash.proofs.Readings.SettlingLemmas.{none_settles}
@@ -287,7 +287,7 @@ takes_no_fewer h =
 
 -- ---- nothing that was taken settles
 
-takes_code_alone : TakesUnsettled 4 (0 ∷ []) (Some [])
+takes_code_alone : TakesNothingSettling 4 (0 ∷ []) (Some [])
 takes_code_alone = record {
   taken = 0 ∷ [];
   takes = refl;
@@ -295,14 +295,14 @@ takes_code_alone = record {
       (faulty insufficient) code_alone tt front begins;
 }
 
-takes_nothing_unsettled : TakesUnsettled 4 (0x80 ∷ 0x00 ∷ []) (Some (0x80 ∷ 0x00 ∷ []))
+takes_nothing_unsettled : TakesNothingSettling 4 (0x80 ∷ 0x00 ∷ []) (Some (0x80 ∷ 0x00 ∷ []))
 takes_nothing_unsettled = record {
   taken = [];
   takes = refl;
   unsettled = λ front begins. none_settles 4 [] (faulty insufficient) empty_input tt front begins;
 }
 
-pub takes_what_settles : ¬ (TakesUnsettled 4 (0 ∷ 5 ∷ 9 ∷ []) (Some (9 ∷ [])))
+pub takes_what_settles : ¬ (TakesNothingSettling 4 (0 ∷ 5 ∷ 9 ∷ []) (Some (9 ∷ [])))
 takes_what_settles h =
     h.unsettled (0 ∷ 5 ∷ []) (
       [],
@@ -311,9 +311,9 @@ takes_what_settles h =
     ) size_settles
 
 -- also where it is only the beginning
-takes_beyond_what_settles : ¬ (TakesUnsettled 4 (0 ∷ 5 ∷ 9 ∷ []) (Some []))
+takes_beyond_what_settles : ¬ (TakesNothingSettling 4 (0 ∷ 5 ∷ 9 ∷ []) (Some []))
 takes_beyond_what_settles h =
     h.unsettled (0 ∷ 5 ∷ []) (9 ∷ [], taken_is (0 ∷ 5 ∷ 9 ∷ []) [] h.taken h.takes) size_settles
 
-unsettled_takes_its_own : ¬ (TakesUnsettled 4 [] (Some (7 ∷ [])))
+unsettled_takes_its_own : ¬ (TakesNothingSettling 4 [] (Some (7 ∷ [])))
 unsettled_takes_its_own h = gives_none_back h.taken h.takes

@@ -6,7 +6,7 @@ use Rattle.std.specs.List.{All, list_all}
 use Rattle.std.proofs.lemmas.Bool.{ltb-true, and_parts}
 use Rattle.std.proofs.lemmas.List.Elements.{All-nil, All-cons, All-head}
 use Rattle.multihash.specs.Bytes.{place_value}
-use Rattle.multihash.specs.Varint.{IsMarked, marked, varint_limit, most_marked, first_too_large, IsVarint, insufficient, overflow, not_minimal}
+use Rattle.multihash.specs.Varint.{IsMarked, marked, varint_limit, max_marked, last_byte_limit, IsVarint, insufficient, overflow, not_minimal}
 use Rattle.multihash.proofs.Examples.BytesVectors.{all_below}
 use Rattle.multihash.proofs.Varints.VarintLemmas.{Front, number, fault, HasFront, front_of, front_is, front_of_has, front_unique}
 
@@ -112,10 +112,10 @@ holds (row x f bytes same) =
 
 -- as many marked bytes as a varint may have, and the largest of them
 abbrev most : List ℕ
-most = replicate most_marked 0x80
+most = replicate max_marked 0x80
 
 abbrev most_255 : List ℕ
-most_255 = replicate most_marked 0xff
+most_255 = replicate max_marked 0xff
 
 numbers : List Row
 unfolding place_value
@@ -131,13 +131,13 @@ numbers =
     row (0xff ∷ 0xff ∷ 0x7f ∷ []) (number 2097151 []) refl refl ∷
     row (0x80 ∷ 0x80 ∷ 0x80 ∷ 0x01 ∷ []) (number 2097152 []) refl refl ∷
     -- the largest number, whose last byte is the one before the first that is too large
-    row (most_255 ++ (first_too_large - 1) ∷ []) (number 9223372036854775807 []) refl refl ∷
-    row (most ++ (first_too_large - 1) ∷ []) (number 9151314442816847872 []) refl refl ∷
+    row (most_255 ++ (last_byte_limit - 1) ∷ []) (number 9223372036854775807 []) refl refl ∷
+    row (most ++ (last_byte_limit - 1) ∷ []) (number 9151314442816847872 []) refl refl ∷
     -- what follows a whole varint does not belong to it
     row (0x01 ∷ 0x01 ∷ []) (number 1 (0x01 ∷ [])) refl refl ∷
     row (0x01 ∷ 0x00 ∷ []) (number 1 (0x00 ∷ [])) refl refl ∷
     row (0x80 ∷ 0x01 ∷ 0x00 ∷ []) (number 128 (0x00 ∷ [])) refl refl ∷
-    row (replicate most_marked 0 ++ first_too_large ∷ []) (number 0 (replicate (most_marked - 1) 0 ++ first_too_large ∷ [])) refl refl ∷
+    row (replicate max_marked 0 ++ last_byte_limit ∷ []) (number 0 (replicate (max_marked - 1) 0 ++ last_byte_limit ∷ [])) refl refl ∷
     []
 
 faults : List Row
@@ -147,7 +147,7 @@ faults =
     row (0x80 ∷ []) (fault insufficient) refl refl ∷
     row most (fault insufficient) refl refl ∷
     -- a ninth byte that is too large is enough, whatever follows
-    row (most ++ first_too_large ∷ []) (fault overflow) refl refl ∷
+    row (most ++ last_byte_limit ∷ []) (fault overflow) refl refl ∷
     row (most ++ 0x80 ∷ 0x01 ∷ []) (fault overflow) refl refl ∷
     row (most ++ 0x80 ∷ 0x00 ∷ []) (fault overflow) refl refl ∷
     row (most_255 ++ 0xff ∷ 0x01 ∷ []) (fault overflow) refl refl ∷

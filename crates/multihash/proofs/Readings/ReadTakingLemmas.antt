@@ -9,7 +9,7 @@ use Rattle.std.specs.Io.KnownBytes.{IsAtEnd, prepend_known}
 use Rattle.multihash.specs.Reading.{Takes, CountsReader}
 use Rattle.multihash.specs.Fault.{Fault}
 use Rattle.multihash.specs.Refusal.{Refusal, of_io, of_size, of_code, of_varint, of_not_bytes, IsReaderFault, IsEof}
-use Rattle.multihash.specs.Taking.{IsReadRefusal, TakesAtRefusal, TakesShortestSettling, TakesUnsettled}
+use Rattle.multihash.specs.Taking.{IsReadRefusal, TakesAtRefusal, TakesShortestSettling, TakesNothingSettling}
 use Rattle.multihash.specs.Answer.{Fields, pair_of, IsRefusal, Answers}
 use Rattle.multihash.proofs.Values.ValueLemmas.{digest_fits}
 use Rattle.multihash.proofs.Readings.ReadingLemmas.{IfSome-taken}
@@ -30,7 +30,7 @@ ReadMeets S old new before after r = record {
   fits : IfOk r (λ m. FitsBuffer S (pair_of m));
   err : IfErr r (λ e. TakesAtRefusal S e old new);
   settled : IfSome old (λ rest. after ≡ before → (v : Verdict) → HasVerdict S rest v → ¬ (IsEarlyEnd v) → TakesShortestSettling S rest new);
-  unsettled : IfSome old (λ rest. EndsOrFails S rest before after → TakesUnsettled S rest new);
+  unsettled : IfSome old (λ rest. EndsOrFails S rest before after → TakesNothingSettling S rest new);
 }
 
 -- ---- refusals and verdicts
@@ -92,7 +92,7 @@ module _ (S : ℕ) (taken : List ℕ) (old new : Option (List ℕ)) (before afte
       takes = ap (prepend_known taken) (sym is);
     })
 
-    never : IfSome old (λ rest. EndsOrFails S rest before after → TakesUnsettled S rest new)
+    never : IfSome old (λ rest. EndsOrFails S rest before after → TakesNothingSettling S rest new)
     never = IfSome-taken old new taken _ takes (λ left is why.
         elim why [
           | inl rose ↦ absurd (omega (arith, rose, unrisen))
@@ -128,7 +128,7 @@ module _ (S : ℕ) (taken : List ℕ) (old new : Option (List ℕ)) (before afte
     }
 
   module _ (soon : IsEarlyEnd v) where
-    none : IfSome old (λ rest. EndsOrFails S rest before after → TakesUnsettled S rest new)
+    none : IfSome old (λ rest. EndsOrFails S rest before after → TakesNothingSettling S rest new)
     none = IfSome-taken old new taken _ takes (λ left is why.
         record { taken = taken; takes = ap (prepend_known taken) (sym is); unsettled = none_settles S taken v has soon })
 

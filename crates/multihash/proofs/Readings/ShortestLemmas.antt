@@ -4,7 +4,7 @@ use Rattle.std.specs.List.{All}
 use Rattle.std.proofs.lemmas.List.{get_or_append_left, length-map}
 use Rattle.multihash.specs.Bytes.{IsProperBeginning, ExactlyOne}
 use Rattle.multihash.specs.Pair.{Pair, FitsBuffer, digest_limit}
-use Rattle.multihash.specs.Varint.{most_marked, IsMarked, marked, IsVarint, VarintFault, insufficient, overflow, not_minimal, IsInsufficient, HasFaultyFront}
+use Rattle.multihash.specs.Varint.{max_marked, IsMarked, marked, IsVarint, VarintFault, insufficient, overflow, not_minimal, IsInsufficient, HasFaultyFront}
 use Rattle.multihash.specs.Encoding.{IsEncoding}
 use Rattle.multihash.specs.Verdict.{Verdict, accepted, invalid_size, invalid_code, faulty, unexpected_eof, BeginsWith, HasSize, HasCode, HasVerdict, IsEarlyEnd}
 use Rattle.multihash.specs.Settling.{IsShortestSettling}
@@ -22,7 +22,7 @@ pub record IsStep (t : List ℕ) : Type 0 where
   pub front : List ℕ
   pub last : ℕ
   pub all_marked : All IsMarked front
-  pub few : length front ≤ most_marked
+  pub few : length front ≤ max_marked
   pub cut : t ≡ front ++ last ∷ []
 
 pub before_step : (t p : List ℕ) → IsStep t → IsProperBeginning p t → IsInsufficient p
@@ -47,7 +47,7 @@ NoSooner t = (p : List ℕ) → IsProperBeginning p t → IsInsufficient p
 
 varint_no_sooner : (n : ℕ) (bytes : List ℕ) → IsVarint n bytes → NoSooner bytes
 varint_no_sooner n bytes v p begins =
-    let few : length (marked v.front) ≤ most_marked = omega (arith, (varint_length n bytes v).0, length-map v.front (λ d. d + 128)) in
+    let few : length (marked v.front) ≤ max_marked = omega (arith, (varint_length n bytes v).0, length-map v.front (λ d. d + 128)) in
     before_step bytes p (record { front = marked v.front; last = v.last; all_marked = All-marked v.front; few = few; cut = v.spelled }) begins
 
 -- the input ends early

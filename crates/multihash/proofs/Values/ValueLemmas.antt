@@ -4,7 +4,7 @@ use Rattle.std.specs.List.{All}
 use Rattle.std.proofs.lemmas.List.{length-take}
 use Rattle.std.proofs.lemmas.List.Elements.{All-map}
 use Rattle.multihash.specs.Pair.{FitsBuffer}
-use Rattle.multihash.specs.Varint.{most_marked}
+use Rattle.multihash.specs.Varint.{max_marked}
 use Rattle.multihash.specs.Encoding.{IsEncoding}
 use Rattle.multihash.specs.Joined.{AreJoined}
 use Rattle.multihash.specs.Answer.{Fields, pair_of}
@@ -17,7 +17,7 @@ digest_fits m = omega (arith, length-take m.size m.buffer, m.fits)
 
 -- an encoding is the code's bytes, two of the size and 255 of the digest at most
 pub encoding_within : {S : ℕ} (m : Fields S) (bytes : List ℕ) → IsEncoding (pair_of m) bytes
-    → length bytes ≤ (most_marked + 1) + 2 + 255
+    → length bytes ≤ (max_marked + 1) + 2 + 255
 encoding_within m bytes e = omega (arith, encoding_length (pair_of m) bytes e (omega (arith, digest_fits m)))
 
 pub all_fit : {S : ℕ} (items : List (Fields S)) → All (FitsBuffer S) (map pair_of items)

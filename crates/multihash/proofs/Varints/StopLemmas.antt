@@ -11,7 +11,7 @@ use Rattle.std.proofs.lemmas.Nat.Bits.{bit_at-suc, bit_at-zero, bit_at_and, bit_
 use Rattle.std.proofs.lemmas.List.{get_or-replicate}
 use Rattle.std.proofs.lemmas.List.Elements.{All-replicate}
 use Rattle.multihash.specs.Bytes.{place_value}
-use Rattle.multihash.specs.Varint.{most_marked, first_too_large}
+use Rattle.multihash.specs.Varint.{max_marked, last_byte_limit}
 use Rattle.multihash.proofs.Varints.WordLemmas.{byte_at, byte_of}
 
 and_halves : (a b : ℕ) → bit_and a b ≡ bit_and (a / 2) (b / 2) * 2 + bit_and (a % 2) (b % 2)
@@ -117,11 +117,11 @@ module _ (half : ℕ) (fits : half < 2 ^ 64) where
 
 -- the place in the high half of the byte that may be too large
 abbrev pub last_place : ℕ
-last_place = most_marked - 8
+last_place = max_marked - 8
 
 -- what the code compares a high half with
 abbrev pub too_large : ℕ
-too_large = first_too_large * 256 ^ last_place
+too_large = last_byte_limit * 256 ^ last_place
 
 module _ (half m : ℕ) (stop : StopsAt half m) where
   -- the unmarked byte is the highest
@@ -143,7 +143,7 @@ module _ (half m : ℕ) (stop : StopsAt half m) where
       omega arith
 
   -- a half that is no less has a byte that is too large
-  pub too_large_byte : too_large ≤ varint_bits half → (last_place ≤ m) × (first_too_large ≤ byte_at half last_place)
+  pub too_large_byte : too_large ≤ varint_bits half → (last_place ≤ m) × (last_byte_limit ≤ byte_at half last_place)
   too_large_byte large = elim (cases_lt m last_place) [
     | inl few ↦
         let base : 0 < 2 = omega arith in

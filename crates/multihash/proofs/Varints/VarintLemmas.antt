@@ -6,7 +6,7 @@ use Rattle.std.proofs.lemmas.Bool.{cases_lt, lt-ltb, le-ltb}
 use Rattle.std.proofs.lemmas.List.{length-map, length_push, map_push, same_from_push}
 use Rattle.std.proofs.lemmas.List.Elements.{All-nil, All-head, All-tail, All-push}
 use Rattle.multihash.specs.Bytes.{IsBytes, place_value}
-use Rattle.multihash.specs.Varint.{varint_limit, most_marked, first_too_large, IsMarked, marked, IsVarint, IsOverflow, IsNotMinimal, VarintFault, insufficient, overflow, not_minimal, HasFaultyFront}
+use Rattle.multihash.specs.Varint.{varint_limit, max_marked, last_byte_limit, IsMarked, marked, IsVarint, IsOverflow, IsNotMinimal, VarintFault, insufficient, overflow, not_minimal, HasFaultyFront}
 use Rattle.multihash.proofs.Varints.DigitLemmas.{place_value_below, place_value_last, place_value_unique}
 use Rattle.multihash.proofs.Varints.MarkedLemmas.{All-append_left, All-append_right, All-marked, IsDigit, low_digits, low_digits_below, marked-low_digits, low_digits-marked}
 
@@ -24,9 +24,9 @@ front_within k n bytes v small =
 
 -- and what ends a longest one
 pub varint_length : (n : ℕ) (bytes : List ℕ) (v : IsVarint n bytes)
-    → (length v.front ≤ most_marked) × (length v.front ≡ most_marked → v.last < first_too_large)
+    → (length v.front ≤ max_marked) × (length v.front ≡ max_marked → v.last < last_byte_limit)
 varint_length n bytes v = (
-  front_within most_marked n bytes v (omega (arith, v.in_range)),
+  front_within max_marked n bytes v (omega (arith, v.in_range)),
   λ most. omega (arith, v.value, v.in_range, rw most at (place_value_last 128 v.last v.front)),
 )
 
@@ -46,25 +46,25 @@ varint_unique n a b v w =
 -- ---- what bytes spell
 
 -- the digits of few enough bytes make a number in range
-pub low_digits_in_range : (ms : List ℕ) (b : ℕ) → length ms ≤ most_marked → (length ms ≡ most_marked → b < first_too_large)
+pub low_digits_in_range : (ms : List ℕ) (b : ℕ) → length ms ≤ max_marked → (length ms ≡ max_marked → b < last_byte_limit)
     → place_value 128 (low_digits (ms ++ b ∷ [])) < varint_limit
 low_digits_in_range ms b few most =
-    elim (cases_lt (length ms) most_marked) [
+    elim (cases_lt (length ms) max_marked) [
       | inl short ↦
           let whole = low_digits (ms ++ b ∷ []) in
           let base : 0 < 128 = omega arith in
-          let long : length whole ≤ most_marked = omega (arith, length-map (ms ++ b ∷ []) (λ b. b % 128), length_push ms b) in
-          let high : 128 ^ length whole ≤ 128 ^ most_marked = pow-le-pow_right base long in
+          let long : length whole ≤ max_marked = omega (arith, length-map (ms ++ b ∷ []) (λ b. b % 128), length_push ms b) in
+          let high : 128 ^ length whole ≤ 128 ^ max_marked = pow-le-pow_right base long in
           omega (arith, place_value_below 128 whole (low_digits_below (ms ++ b ∷ [])), high)
       | inr full ↦
-          let long : length (low_digits ms) ≡ most_marked = length-map ms (λ b. b % 128) ∙ omega (arith, few) in
+          let long : length (low_digits ms) ≡ max_marked = length-map ms (λ b. b % 128) ∙ omega (arith, few) in
           rw (map_push (λ b. b % 128) ms b, place_value_last 128 (b % 128) (low_digits ms), long)
           (omega (arith, rw long at (place_value_below 128 (low_digits ms) (low_digits_below ms)), most (omega (arith, few))))
     ]
 
 -- marked bytes that are few enough, and a last byte that may end them, are a varint
-pub varint_from_bytes : (ms : List ℕ) (b : ℕ) → IsBytes ms → All IsMarked ms → b < 128 → length ms ≤ most_marked
-    → (length ms ≡ most_marked → b < first_too_large) → (b ≡ 0 → ms ≡ [])
+pub varint_from_bytes : (ms : List ℕ) (b : ℕ) → IsBytes ms → All IsMarked ms → b < 128 → length ms ≤ max_marked
+    → (length ms ≡ max_marked → b < last_byte_limit) → (b ≡ 0 → ms ≡ [])
     → IsVarint (place_value 128 (low_digits (ms ++ b ∷ []))) (ms ++ b ∷ [])
 varint_from_bytes ms b bytes all small few most minimal = record {
   front = low_digits ms;
@@ -77,12 +77,12 @@ varint_from_bytes ms b bytes all small few most minimal = record {
 }
 
 -- marked bytes and what ends them as none should
-pub overflow_behind : (ms : List ℕ) (b : ℕ) (rest : List ℕ) → All IsMarked ms → length ms ≡ most_marked → first_too_large ≤ b
+pub overflow_behind : (ms : List ℕ) (b : ℕ) (rest : List ℕ) → All IsMarked ms → length ms ≡ max_marked → last_byte_limit ≤ b
     → IsOverflow (ms ++ b ∷ rest)
 overflow_behind ms b rest all most large =
     record { front = ms; byte = b; rest = rest; all_marked = all; most = most; too_large = large; cut = refl }
 
-pub zero_behind : (ms rest : List ℕ) → All IsMarked ms → 0 < length ms → length ms ≤ most_marked → IsNotMinimal (ms ++ 0 ∷ rest)
+pub zero_behind : (ms rest : List ℕ) → All IsMarked ms → 0 < length ms → length ms ≤ max_marked → IsNotMinimal (ms ++ 0 ∷ rest)
 zero_behind ms rest all some few = record { front = ms; rest = rest; all_marked = all; some = some; few = few; cut = refl }
 
 -- ---- the front of an input
@@ -107,11 +107,11 @@ ends_with (m ∷ ms) (suc b) rest = number (place_value 128 (low_digits ((m ∷ 
 -- behind these marked bytes, where so many more may come
 abbrev front_from : ℕ → List ℕ → List ℕ → Front
 front_from left ms [] = fault insufficient
-front_from zero ms (b ∷ rest) = cond (ltb b first_too_large) (ends_with ms b rest) (fault overflow)
+front_from zero ms (b ∷ rest) = cond (ltb b last_byte_limit) (ends_with ms b rest) (fault overflow)
 front_from (suc left) ms (b ∷ rest) = cond (ltb b 128) (ends_with ms b rest) (front_from left (ms ++ b ∷ []) rest)
 
 abbrev pub front_of : List ℕ → Front
-front_of x = front_from most_marked [] x
+front_of x = front_from max_marked [] x
 
 -- marked bytes stand in front of what follows them
 front_run : (ms : List ℕ) (n left : ℕ) (before y : List ℕ) → All IsMarked ms → n ≡ length ms + left
@@ -123,14 +123,14 @@ front_run (m ∷ ms) (suc n) left before y all room =
     (front_run ms n left (before ++ m ∷ []) y (All-tail IsMarked m ms all) (omega (arith, room))
     ∙ ap (λ z. front_from left z y) (append_assoc before (m ∷ []) ms))
 
-front_ends : (ms : List ℕ) (b : ℕ) (rest x : List ℕ) → All IsMarked ms → length ms ≤ most_marked → b < 128
-    → (length ms ≡ most_marked → b < first_too_large) → x ≡ ms ++ b ∷ rest → front_of x ≡ ends_with ms b rest
+front_ends : (ms : List ℕ) (b : ℕ) (rest x : List ℕ) → All IsMarked ms → length ms ≤ max_marked → b < 128
+    → (length ms ≡ max_marked → b < last_byte_limit) → x ≡ ms ++ b ∷ rest → front_of x ≡ ends_with ms b rest
 front_ends ms b rest x all few small most cut =
-    ap front_of cut ∙ front_run ms most_marked (most_marked - length ms) [] (b ∷ rest) all (omega (arith, few))
-    ∙ last (most_marked - length ms) (λ none. most (omega (arith, none, few)))
+    ap front_of cut ∙ front_run ms max_marked (max_marked - length ms) [] (b ∷ rest) all (omega (arith, few))
+    ∙ last (max_marked - length ms) (λ none. most (omega (arith, none, few)))
   where
-    last : (left : ℕ) → (left ≡ 0 → b < first_too_large) → front_from left ms (b ∷ rest) ≡ ends_with ms b rest
-    last zero low = rw (lt-ltb b first_too_large (low refl)) refl
+    last : (left : ℕ) → (left ≡ 0 → b < last_byte_limit) → front_from left ms (b ∷ rest) ≡ ends_with ms b rest
+    last zero low = rw (lt-ltb b last_byte_limit (low refl)) refl
     last (suc left) low = rw (lt-ltb b 128 small) refl
 
 ends_number : (ms : List ℕ) (b : ℕ) (rest : List ℕ) → (b ≡ 0 → ms ≡ [])
@@ -157,10 +157,10 @@ front_is x (number n rest) (bytes, v, cut) =
     sym (front_ends ms v.last rest x (All-marked v.front) (omega (arith, few.0, long)) last (λ most. few.1 (sym long ∙ most)) whole
     ∙ ends_number ms v.last rest (λ z. ap marked (v.minimal z)) ∙ ap (λ m. number m rest) value)
 front_is x (fault insufficient) h =
-    sym (ap front_of (sym (append-nil x)) ∙ front_run x most_marked (most_marked - length x) [] [] h.all_marked (omega (arith, h.few)))
+    sym (ap front_of (sym (append-nil x)) ∙ front_run x max_marked (max_marked - length x) [] [] h.all_marked (omega (arith, h.few)))
 front_is x (fault overflow) h =
-    sym (ap front_of h.cut ∙ front_run h.front most_marked 0 [] (h.byte ∷ h.rest) h.all_marked (omega (arith, h.most))
-    ∙ rw (le-ltb h.byte first_too_large h.too_large) refl)
+    sym (ap front_of h.cut ∙ front_run h.front max_marked 0 [] (h.byte ∷ h.rest) h.all_marked (omega (arith, h.most))
+    ∙ rw (le-ltb h.byte last_byte_limit h.too_large) refl)
 front_is x (fault not_minimal) h =
     sym (front_ends h.front 0 h.rest x h.all_marked h.few (omega arith) (λ _. omega arith) h.cut ∙ ends_zero h.front h.rest h.some)
 
@@ -171,8 +171,8 @@ pub number_no_fault : (x : List ℕ) (n : ℕ) (r : List ℕ) (f : VarintFault) 
 number_no_fault x n r f h k = let same : number n r ≡ fault f = front_unique x (number n r) (fault f) h k in cc
 
 -- and an input of bytes has that one
-ends_has : (ms : List ℕ) (b : ℕ) (rest : List ℕ) → All IsMarked ms → b < 128 → length ms ≤ most_marked
-    → (length ms ≡ most_marked → b < first_too_large) → IsBytes (ms ++ b ∷ rest) → HasFront (ms ++ b ∷ rest) (ends_with ms b rest)
+ends_has : (ms : List ℕ) (b : ℕ) (rest : List ℕ) → All IsMarked ms → b < 128 → length ms ≤ max_marked
+    → (length ms ≡ max_marked → b < last_byte_limit) → IsBytes (ms ++ b ∷ rest) → HasFront (ms ++ b ∷ rest) (ends_with ms b rest)
 ends_has [] b rest all small few most bytes =
     (b ∷ [], varint_from_bytes [] b (All-nil (λ n. n < 256)) all small few most (λ _. refl), refl)
 ends_has (m ∷ ms) zero rest all small few most bytes = zero_behind (m ∷ ms) rest all (omega arith) few
@@ -183,13 +183,13 @@ ends_has (m ∷ ms) (suc b) rest all small few most bytes = (
   sym (append_assoc (m ∷ ms) (suc b ∷ []) rest),
 )
 
-front_has : (left : ℕ) (ms y : List ℕ) → All IsMarked ms → length ms + left ≡ most_marked → IsBytes (ms ++ y)
+front_has : (left : ℕ) (ms y : List ℕ) → All IsMarked ms → length ms + left ≡ max_marked → IsBytes (ms ++ y)
     → HasFront (ms ++ y) (front_from left ms y)
 front_has left ms [] all room bytes = rw (append-nil ms) (record { few = omega (arith, room); all_marked = all })
 front_has zero ms (b ∷ rest) all room bytes =
-    elim (cases_lt b first_too_large) [
-      | inl low ↦ rw (lt-ltb b first_too_large low) (ends_has ms b rest all (omega arith) (omega (arith, room)) (λ _. low) bytes)
-      | inr high ↦ rw (le-ltb b first_too_large high) (overflow_behind ms b rest all (omega (arith, room)) high)
+    elim (cases_lt b last_byte_limit) [
+      | inl low ↦ rw (lt-ltb b last_byte_limit low) (ends_has ms b rest all (omega arith) (omega (arith, room)) (λ _. low) bytes)
+      | inr high ↦ rw (le-ltb b last_byte_limit high) (overflow_behind ms b rest all (omega (arith, room)) high)
     ]
 front_has (suc left) ms (b ∷ rest) all room bytes =
     elim (cases_lt b 128) [
@@ -200,4 +200,4 @@ front_has (suc left) ms (b ∷ rest) all room bytes =
     ]
 
 pub front_of_has : (x : List ℕ) → IsBytes x → HasFront x (front_of x)
-front_of_has x bytes = front_has most_marked [] x (All-nil IsMarked) refl bytes
+front_of_has x bytes = front_has max_marked [] x (All-nil IsMarked) refl bytes

@@ -7,7 +7,7 @@ use Rattle.std.proofs.lemmas.Nat.{and_mask}
 use Rattle.std.proofs.lemmas.List.{length_push, nil_from_length}
 use Rattle.std.proofs.lemmas.List.Elements.{All-nil, All-push}
 use Rattle.multihash.specs.Bytes.{IsBytes, IsProperBeginning, place_value}
-use Rattle.multihash.specs.Varint.{most_marked, first_too_large, IsMarked, VarintFault, insufficient, overflow, not_minimal, IsInsufficient, HasFaultyFront}
+use Rattle.multihash.specs.Varint.{max_marked, last_byte_limit, IsMarked, VarintFault, insufficient, overflow, not_minimal, IsInsufficient, HasFaultyFront}
 use Rattle.multihash.specs.Fault.{Fault}
 use Rattle.multihash.specs.Reading.{Takes}
 use Rattle.multihash.specs.Refusal.{Refusal, of_io, of_varint}
@@ -25,7 +25,7 @@ pub record ReadsMarked (old now : Option (List ℕ)) (sum i : ℕ) : Type 0 wher
   pub bytes : IsBytes front
   pub marked : All IsMarked front
   pub long : length front ≡ i
-  pub few : i ≤ most_marked
+  pub few : i ≤ max_marked
   pub value : sum ≡ place_value 128 (low_digits front)
 
 pub none_read : (old : Option (List ℕ)) → ReadsMarked old old 0 0
@@ -88,7 +88,7 @@ module _ (old now : Option (List ℕ)) (sum i : ℕ) (h : ReadsMarked old now su
     takes : Takes old (h.front ++ byte ∷ []) new
     takes = Takes-joined old now new h.front (byte ∷ []) (h.front ++ byte ∷ []) refl h.takes next
 
-    pub too_large : i ≡ most_marked → first_too_large ≤ byte → (e : Refusal) → e ≡ of_varint overflow → TakesAtVarintRefusal e old new
+    pub too_large : i ≡ max_marked → last_byte_limit ≤ byte → (e : Refusal) → e ≡ of_varint overflow → TakesAtVarintRefusal e old new
     too_large most large e given =
         refused new overflow (h.front ++ byte ∷ []) e given
         (overflow_behind h.front byte [] h.marked (h.long ∙ most) large)
@@ -100,7 +100,7 @@ module _ (old now : Option (List ℕ)) (sum i : ℕ) (h : ReadsMarked old now su
         (rw null (zero_behind h.front [] h.marked (omega (arith, h.long)) (omega (arith, h.long, h.few))))
         (before_last byte) (λ same. cc) takes
 
-    module _ (most : i ≡ most_marked → byte < first_too_large) where
+    module _ (most : i ≡ max_marked → byte < last_byte_limit) where
       -- the code's sum is the value with one more digit
       with_byte_is : with_byte sum byte i ≡ place_value 128 (low_digits (h.front ++ byte ∷ []))
       with_byte_is =
@@ -125,7 +125,7 @@ module _ (old now : Option (List ℕ)) (sum i : ℕ) (h : ReadsMarked old now su
         bytes = All-push (λ b. b < 256) h.front byte h.bytes small;
         marked = All-push IsMarked h.front byte h.marked large;
         long = omega (arith, length_push h.front byte, h.long);
-        few = omega (arith, lt_of_not-le (λ (all : most_marked ≤ i). omega (arith, most (omega (arith, h.few)))));
+        few = omega (arith, lt_of_not-le (λ (all : max_marked ≤ i). omega (arith, most (omega (arith, h.few)))));
         value = with_byte_is;
       }
 

@@ -7,7 +7,7 @@ use Rattle.std.proofs.lemmas.List.{map_push, length_push, nil_from_length}
 use Rattle.std.proofs.lemmas.List.Elements.{All-nil, All-push}
 use Rattle.std.proofs.lemmas.Bool.{cases_lt}
 use Rattle.multihash.specs.Bytes.{place_value}
-use Rattle.multihash.specs.Varint.{varint_limit, most_marked, marked, IsVarint}
+use Rattle.multihash.specs.Varint.{varint_limit, max_marked, marked, IsVarint}
 use Rattle.multihash.proofs.Varints.DigitLemmas.{place_value-nil, place_value_last}
 use Rattle.multihash.proofs.Varints.MarkedLemmas.{IsDigit}
 
@@ -60,11 +60,11 @@ module _ (now : List ℕ) (len n rest : ℕ) (h : Wrote now len n rest) where
     }
 
     -- the digits that were written leave room for the rest
-    pub wrote_few : len ≤ most_marked
+    pub wrote_few : len ≤ max_marked
     wrote_few =
         let base : 0 < 128 = omega arith in
-        let few : len < suc most_marked = lt_of_not-le (λ long.
-        let high : 128 ^ suc most_marked ≤ 128 ^ len = pow-le-pow_right base long in
+        let few : len < suc max_marked = lt_of_not-le (λ long.
+        let high : 128 ^ suc max_marked ≤ 128 ^ len = pow-le-pow_right base long in
         omega (arith, high, h.value, range, mul-le-mul_right (128 ^ len) (h.more (omega arith)))) in
         omega arith
 
@@ -87,4 +87,4 @@ exists_from (suc k) now len n rest h range below =
     ]
 
 pub varint_exists : (n : ℕ) → n < varint_limit → (bytes : List ℕ) × IsVarint n bytes
-varint_exists n below = exists_from most_marked [] 0 n n (none_wrote n) below (omega (arith, below))
+varint_exists n below = exists_from max_marked [] 0 n n (none_wrote n) below (omega (arith, below))

@@ -7,7 +7,7 @@ use Rattle.std.proofs.lemmas.Nat.Bits.{and_pow}
 use Rattle.std.proofs.lemmas.List.{get_or_past, get_or-take, get_or-drop, length-take, length-take-le, nil_from_length, take_more, take-take, take_all, take-append-drop, drop_more, drop-take}
 use Rattle.std.proofs.lemmas.List.Elements.{All-nil, All-take, All-drop, All-more}
 use Rattle.multihash.specs.Bytes.{IsBytes, place_value}
-use Rattle.multihash.specs.Varint.{most_marked, first_too_large, IsMarked, IsVarint, IsInsufficient, IsOverflow, IsNotMinimal}
+use Rattle.multihash.specs.Varint.{max_marked, last_byte_limit, IsMarked, IsVarint, IsInsufficient, IsOverflow, IsNotMinimal}
 use Rattle.multihash.specs.Word.{IsFrontWord, BeginsMarked, digits_low}
 use Rattle.multihash.proofs.Varints.MarkedLemmas.{low_digits, or_digits}
 use Rattle.multihash.proofs.Varints.VarintLemmas.{varint_from_bytes, overflow_behind, zero_behind}
@@ -30,20 +30,20 @@ begins_more xs at (suc m) begins more =
 cut_at : (xs : List ℕ) (k : ℕ) → k < length xs → xs ≡ take k xs ++ get_or xs k 0 ∷ drop (k + 1) xs
 cut_at xs k below = sym (take-append-drop k xs) ∙ ap (λ (back : List ℕ). take k xs ++ back) (drop_more xs k 0 below)
 
-overflow_at : (xs : List ℕ) → BeginsMarked most_marked xs → first_too_large ≤ get_or xs most_marked 0 → IsOverflow xs
+overflow_at : (xs : List ℕ) → BeginsMarked max_marked xs → last_byte_limit ≤ get_or xs max_marked 0 → IsOverflow xs
 overflow_at xs begins large =
-    rw (cut_at xs most_marked (lt_of_not-le (λ past. omega (arith, large, get_or_past xs most_marked 0 past))))
-    (overflow_behind (take most_marked xs) (get_or xs most_marked 0) (drop (most_marked + 1) xs) begins.all_marked
-    (length-take-le most_marked xs begins.enough) large)
+    rw (cut_at xs max_marked (lt_of_not-le (λ past. omega (arith, large, get_or_past xs max_marked 0 past))))
+    (overflow_behind (take max_marked xs) (get_or xs max_marked 0) (drop (max_marked + 1) xs) begins.all_marked
+    (length-take-le max_marked xs begins.enough) large)
 
 -- so many marked bytes begin the input, and the last is not marked, which counts as zero where the input ends
 pub record EndsAt (xs : List ℕ) (k last : ℕ) : Type 0 where
   pub bytes : IsBytes xs
   pub begins : BeginsMarked k xs
-  pub few : k ≤ most_marked
+  pub few : k ≤ max_marked
   pub last_is : last ≡ get_or xs k 0
   pub unmarked : last < 128
-  pub small : k ≡ most_marked → last < first_too_large
+  pub small : k ≡ max_marked → last < last_byte_limit
 
 module _ (xs : List ℕ) (word present k last : ℕ) (f : IsFrontWord xs word present) (end : EndsAt xs k last) where
   pub ends_short : present ≤ k → IsInsufficient xs
@@ -89,8 +89,8 @@ module _ (xs : List ℕ) (at half : ℕ) (bytes : IsBytes xs) (is : half ≡ pla
       begins_more xs at m begins (λ i below. rw (← half_byte i (omega arith)) (half_stop.before i (omega arith)))
 
   module _ (early : stop_at half < 8) where
-    half_end : BeginsMarked at xs → at + stop_at half ≤ most_marked
-        → (at + stop_at half ≡ most_marked → varint_bits half / 2 ^ (8 * stop_at half) < first_too_large)
+    half_end : BeginsMarked at xs → at + stop_at half ≤ max_marked
+        → (at + stop_at half ≡ max_marked → varint_bits half / 2 ^ (8 * stop_at half) < last_byte_limit)
         → EndsAt xs (at + stop_at half) (varint_bits half / 2 ^ (8 * stop_at half))
     half_end begins few small =
         let last = kept_last half (stop_at half) half_stop in
@@ -184,12 +184,12 @@ module _ (xs : List ℕ) (word present : ℕ) (bytes : IsBytes xs) (f : IsFrontW
       pub high_end : EndsAt xs (8 + stop_at upper) (varint_bits upper / 2 ^ (8 * stop_at upper))
       high_end = half_end xs 8 upper bytes high_is (omega (arith, high_few)) begins (omega (arith, high_few)) last
         where
-          last : 8 + stop_at upper ≡ most_marked → varint_bits upper / 2 ^ (8 * stop_at upper) < first_too_large
+          last : 8 + stop_at upper ≡ max_marked → varint_bits upper / 2 ^ (8 * stop_at upper) < last_byte_limit
           last most = let same : stop_at upper ≡ last_place = omega (arith, most) in rw same (omega (arith, small))
 
       -- the code's number
       abbrev pub high_value : ℕ
-      high_value = bit_or (digits_low 8 lower) (digits_low (most_marked - 7) (varint_bits upper) * 2 ^ 56 % 2 ^ 64)
+      high_value = bit_or (digits_low 8 lower) (digits_low (max_marked - 7) (varint_bits upper) * 2 ^ 56 % 2 ^ 64)
 
       pub high_number : 8 + stop_at upper < present → ¬ (varint_bits upper / 2 ^ (8 * stop_at upper) ≡ 0)
           → IsVarint high_value (take (8 + stop_at upper + 1) xs)
@@ -203,7 +203,7 @@ module _ (xs : List ℕ) (word present : ℕ) (bytes : IsBytes xs) (f : IsFrontW
           ap (digits_low 8) low_is ∙ digits_low_of 8 front (All-take (λ b. b < 256) 8 xs bytes) (omega (arith, length-take 8 xs)) in
           rw (
             value,
-            half_digits xs 8 upper bytes high_is (omega (arith, high_few)) (most_marked - 7) (omega (arith, high_few)),
+            half_digits xs 8 upper bytes high_is (omega (arith, high_few)) (max_marked - 7) (omega (arith, high_few)),
             or_digits front back 8 (length-take-le 8 xs begins.enough) (omega (arith, rw cut at number.in_range)),
             ← cut,
           )

@@ -5,7 +5,7 @@ ghost use Rattle.multihash.specs.Varint.{IsVarint};
 ghost use Rattle.multihash.specs.Word.{IsFrontWord, BeginsMarked, IsFoundFront, digits_low};
 ghost use Rattle.multihash.specs.Taking.{IsFrontRefusal, BeginsNoVarint, TakesVarint};
 
-use super::{FIRST_TOO_LARGE, MAX_LEN, MOST_MARKED};
+use super::{LAST_BYTE_LIMIT, MAX_LEN, MAX_MARKED};
 use crate::Error;
 
 // The bytes of a word.
@@ -21,7 +21,7 @@ const HIGH_BITS: u64 = 0x8080_8080_8080_8080;
 const HIGH_LEN: usize = MAX_LEN - HALF_LEN;
 
 // A high half in which a varint has a byte that is too large is no less.
-const TOO_LARGE: u64 = (FIRST_TOO_LARGE as u64) << (8 * (MOST_MARKED - HALF_LEN));
+const TOO_LARGE: u64 = (LAST_BYTE_LIMIT as u64) << (8 * (MAX_MARKED - HALF_LEN));
 
 /// Reads the varint that begins the bytes, from one word: its number and how many bytes it has. It
 /// answers none where no varint begins them, and `front_fault` says why.

@@ -16,10 +16,10 @@ returns-in_default-clause-err g c =
     let ended = rw c.in_default.is at c.in_ok-byte.ensures.byte in
     rw ended.1 (input_ended _ _ _ _ c.loop-i.invariant.reads ended.0 _ c.insufficient.ensures)
 
-pub returns-then-byte-ge-FIRST_TOO_LARGE-clause-err : goal.returns-then-byte-ge-FIRST_TOO_LARGE-clause-err
-returns-then-byte-ge-FIRST_TOO_LARGE-clause-err g c =
-    too_large _ _ _ _ c.loop-i.invariant.reads _ c.in-Some.byte (rw c.in-Some.is at c.in_ok-byte.ensures.byte) c.if-i-eq-MOST_MARKED.true
-    c.if-byte-ge-FIRST_TOO_LARGE.true _ c.overflow.ensures
+pub returns-then-byte-ge-LAST_BYTE_LIMIT-clause-err : goal.returns-then-byte-ge-LAST_BYTE_LIMIT-clause-err
+returns-then-byte-ge-LAST_BYTE_LIMIT-clause-err g c =
+    too_large _ _ _ _ c.loop-i.invariant.reads _ c.in-Some.byte (rw c.in-Some.is at c.in_ok-byte.ensures.byte) c.if-i-eq-MAX_MARKED.true
+    c.if-byte-ge-LAST_BYTE_LIMIT.true _ c.overflow.ensures
 
 pub returns-then-i-gt0-clause-err : goal.returns-then-i-gt0-clause-err
 returns-then-i-gt0-clause-err g c =
@@ -30,12 +30,12 @@ pub returns-then-byte-lt128-clause-ok : goal.returns-then-byte-lt128-clause-ok
 returns-then-byte-lt128-clause-ok g c =
     rw c.from.ensures
     (read_last _ _ _ _ c.loop-i.invariant.reads _ c.in-Some.byte (rw c.in-Some.is at c.in_ok-byte.ensures.byte)
-    (first_of_two _ _ c.else-i-eq-MOST_MARKED.either) c.if-byte-lt128.true (λ z. omega (arith, first_of_two _ _ c.else-byte-eq0.either z)))
+    (first_of_two _ _ c.else-i-eq-MAX_MARKED.either) c.if-byte-lt128.true (λ z. omega (arith, first_of_two _ _ c.else-byte-eq0.either z)))
 
 pub loop-i-preserved : goal.loop-i-preserved
 loop-i-preserved g c = record {
   reads = rw c.from.ensures
       (read_more _ _ _ _ c.loop-i.invariant.reads _ c.in-Some.byte (rw c.in-Some.is at c.in_ok-byte.ensures.byte)
-      (first_of_two _ _ c.else-i-eq-MOST_MARKED.either) (omega arith) c.if-byte-lt128.false);
+      (first_of_two _ _ c.else-i-eq-MAX_MARKED.either) (omega arith) c.if-byte-lt128.false);
   unfailed = c.in_ok-byte.ensures.faults ∙ c.loop-i.invariant.unfailed;
 }
