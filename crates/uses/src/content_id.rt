@@ -159,8 +159,8 @@ impl<const S: usize> ContentId<S> {
     }
 }
 
-/// Two identifiers at one place of a stream are the same, and the same follows them: neither version's bytes begin
-/// the other's.
+/// Two identifiers at one place of a stream are the same, and the same follows them: no identifier of one
+/// version begins one of the other.
 pub fn one_identifier()
     ensures { (c d : Content) (a b r s : List ℕ) → IsContentId c a → IsContentId d b →
         a ++ r ≡ b ++ s → (c ≡ d) × (a ≡ b) × (r ≡ s) }

@@ -1,5 +1,5 @@
 //! The checks on one line.
-ghost use Rattle.std.specs.Prelude.{◌≡◌, ◌<◌, ◌≤◌, ◌↔◌, ◌⊎◌, length, count_by, IsTrue, IfOk};
+ghost use Rattle.std.specs.Prelude.{◌≡◌, ◌<◌, ◌≤◌, ◌↔◌, ◌⊎◌, length, count_by, IsTrue};
 ghost use Rattle.multihash.specs.Verdict.{HasWholeVerdict};
 ghost use Rattle.vectors.specs.declared.check.Check.TheVariants.{ReadOneByte, ReadThreeBytes, ScaleOneByte};
 ghost use Rattle.vectors.specs.Listed.{meaning, IsReading, IsScaleReading, ends_varint, TakesAsReadListed, TakesAsScaleListed, IsRight};
@@ -7,15 +7,11 @@ ghost use Rattle.vectors.specs.Listed.{meaning, IsReading, IsScaleReading, ends_
 use crate::cuts::Cuts;
 use crate::line::{Line, Reading};
 use crate::verdict::Verdict;
-use anyhow::{Result, bail};
 use multihash::{Multihash, laws};
 use std::fmt;
 
 // The largest buffer of a list.
 const LARGEST: usize = 300;
-
-// The sizes of buffers that a list may have, as `Check::agrees` tells them apart.
-const SIZES: &str = "0, 1, 2, 4, 16, 32, 64, 128, 200, 255, 256 and 300";
 
 /// A call that is to answer what a line says.
 #[derive(Clone, Copy, Debug, PartialEq, Eq)]
@@ -56,14 +52,10 @@ impl Check {
     ];
 
     /// Whether the call answers what the line says.
-    ///
-    /// # Errors
-    ///
-    /// A size of buffer that no list has, with the line's number.
-    pub fn agrees(self, line: &Line) -> Result<bool>
-        ensures { IfOk result (λ agrees. IsTrue agrees ↔ IsRight self line.now.size line.now) }
+    pub fn agrees(self, line: &Line) -> bool
+        ensures { IsTrue result ↔ IsRight self line.now.size line.now }
     {
-        Ok(match line.size {
+        match line.size {
             0 => self.agrees_at::<0>(line),
             1 => self.agrees_at::<1>(line),
             2 => self.agrees_at::<2>(line),
@@ -76,11 +68,8 @@ impl Check {
             255 => self.agrees_at::<255>(line),
             256 => self.agrees_at::<256>(line),
             300 => self.agrees_at::<300>(line),
-            size => bail!(
-                "line {}: no buffer of size {size}: the sizes are {SIZES}",
-                line.number
-            ),
-        })
+            _ => unreachable!(),
+        }
     }
 
     fn agrees_at<const S: usize>(self, line: &Line) -> bool

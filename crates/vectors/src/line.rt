@@ -1,15 +1,19 @@
 //! A line of the list.
-ghost use Rattle.std.specs.Prelude.{IfOk};
+ghost use Rattle.std.specs.Prelude.{◌≡◌, IfOk, IsTrue};
 ghost use Rattle.serde_json.specs.View.{view};
 ghost use Rattle.multihash.specs.Json.{IsByteArray};
+ghost use Rattle.vectors.specs.Sizes.{is_size};
 
 use crate::verdict::{self, Verdict};
-use anyhow::{Context, Result, bail};
+use anyhow::{Context, Result, bail, ensure};
 use serde_json::Value;
 use std::alloc::Global;
 
 /// The first line of a list, which names the columns.
 pub const COLUMNS: &str = "S\tinput\tread\tread_taken\tfrom_bytes\tscale_decode\tscale_taken";
+
+// The sizes of buffers that a list may have, as `is_known_size` and `Check::agrees` tell them apart.
+const SIZES: &str = "0, 1, 2, 4, 16, 32, 64, 128, 200, 255, 256 and 300";
 
 /// What a reading call is to answer, and how many bytes it is to take: none is said where more input
 /// could change the answer.
@@ -34,9 +38,7 @@ impl Reading {
 /// An input, with what the calls are to answer to it.
 #[derive(Debug, Drop)]
 pub struct Line {
-    /// Its number in the list, whose first line names the columns.
-    pub number: u64,
-    /// The size of the buffer.
+    /// The size of the buffer, one of those that a list may have.
     pub size: usize,
     pub input: Vec<u8>,
     /// The input as an array of numbers.
@@ -44,6 +46,7 @@ pub struct Line {
     pub read: Reading,
     pub from_bytes: Verdict,
     pub scale_decode: Reading,
+    ghost known_size: { IsTrue (is_size size) },
     ghost lists_input: { ∥ IsByteArray (view json) input.items ∥₁ },
 }
 
@@ -52,8 +55,8 @@ impl Line {
     ///
     /// # Errors
     ///
-    /// A line with other columns, and want of memory.
-    pub fn parse(alloc: Global, number: u64, text: &str) -> Result<Self> {
+    /// A line with other columns or a size of buffer that no list has, and want of memory.
+    pub fn parse(alloc: Global, text: &str) -> Result<Self> {
         let columns: Vec<&str> = text.split('\t').collect(alloc)?;
         let [
             size,
@@ -67,10 +70,14 @@ impl Line {
         else {
             bail!("{} columns", columns.len());
         };
+        let size = size.parse::<usize>().context("a size")?;
+        ensure!(
+            is_known_size(size),
+            "no buffer of size {size}: the sizes are {SIZES}"
+        );
         let input = verdict::parse_bytes(alloc, input)?;
         Ok(Line {
-            number,
-            size: size.parse::<usize>().context("a size")?,
+            size,
             json: number_array(alloc, &input)?,
             input,
             read: Reading::parse(alloc, read, read_taken)?,
@@ -78,6 +85,16 @@ impl Line {
             scale_decode: Reading::parse(alloc, scale_decode, scale_taken)?,
         })
     }
+}
+
+// Whether a list may have buffers of this size.
+fn is_known_size(size: usize) -> bool
+    ensures { result ≡ is_size size }
+{
+    matches!(
+        size,
+        0 | 1 | 2 | 4 | 16 | 32 | 64 | 128 | 200 | 255 | 256 | 300
+    )
 }
 
 // The bytes as an array of numbers.

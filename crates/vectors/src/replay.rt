@@ -15,9 +15,14 @@ use std::fmt::Write;
 ///
 /// A first line with other columns, a line that is malformed, and one with a size of buffer that no list
 /// has, each told with its number; a list with no line below the first, which has none; want of memory,
-/// and what the writer answers.
+/// and what the writer answers. Of a line that is refused those above it were checked, and what the checks tell of
+/// them was written; where there are none, nothing was.
 pub fn replay<W: Write>(alloc: Global, list: &str, report: &mut W) -> Result<bool> {
-    replay_lines(&parse(alloc, list)?, report)
+    let mut lines = Vec::new(alloc);
+    let parsed = parse(alloc, list, &mut lines);
+    let all_agree = lines.is_empty() || replay_lines(&lines, report)?;
+    parsed?;
+    Ok(all_agree)
 }
 
 // Makes each check on each line.
@@ -31,20 +36,17 @@ fn replay_lines<W: Write>(lines: &[Line], report: &mut W) -> Result<bool>
     Ok(all_agree)
 }
 
-// The lines of a list, below the first, which names the columns.
-fn parse(alloc: Global, list: &str) -> Result<Vec<Line>> {
+// Adds the lines of a list that stand below the first, which names the columns, up to one that is refused.
+fn parse(alloc: Global, list: &str, lines: &mut Vec<Line>) -> Result<()> {
     let mut texts = list.lines();
     let header = texts.next().unwrap_or("");
     ensure!(header == COLUMNS, "line 1, {header:?}: other columns");
-    let mut lines = Vec::new(alloc);
     for (number, text) in (2u64..).zip(texts) {
-        let line = Line::parse(alloc, number, text).context(format_args!(
-            "line {number}, {text:?}"
-        ))?;
+        let line = Line::parse(alloc, text).context(format_args!("line {number}, {text:?}"))?;
         lines.push(line)?;
     }
     ensure!(!lines.is_empty(), "a list of no lines");
-    Ok(lines)
+    Ok(())
 }
 
 // Makes one check on each line.
@@ -53,7 +55,7 @@ fn replay_check<W: Write>(check: Check, lines: &[Line], report: &mut W) -> Resul
 {
     let mut agree = 0;
     for line in lines {
-        if check.agrees(line)? {
+        if check.agrees(line) {
             agree += 1;
         } else {
             write_disagreement(check, line, report)?;

@@ -300,10 +300,10 @@ fn tells_the_number_of_a_malformed_line(rt: HostRuntime) -> Result<(), Fail> {
     assert_eq!(rt; refusal_of(alloc, list.as_str())?, told);
     let other_size = "3\t390286ce\tpair 57 86ce\t4\tpair 57 86ce\tunexpected_eof\t-";
     let list = format!(in alloc; "{COLUMNS}\n{GOOD}\n{other_size}\n")?;
-    assert_eq!(rt;
-        refusal_of(alloc, list.as_str())?.as_str(),
-        "line 3: no buffer of size 3: the sizes are 0, 1, 2, 4, 16, 32, 64, 128, 200, 255, 256 and 300"
-    );
+    let told = format!(in alloc;
+        "line 3, {other_size:?}: no buffer of size 3: the sizes are 0, 1, 2, 4, 16, 32, 64, 128, 200, 255, 256 and 300"
+    )?;
+    assert_eq!(rt; refusal_of(alloc, list.as_str())?, told);
     // A blank behind a word of the verdict, of a number and of the bytes, and a line that is empty.
     for line in [
         "1\t80\tinsufficient \t-\tinsufficient\tunexpected_eof\t-",
@@ -317,6 +317,36 @@ fn tells_the_number_of_a_malformed_line(rt: HostRuntime) -> Result<(), Fail> {
         let list = format!(in alloc; "{COLUMNS}\n{GOOD}\n{line}\n{GOOD}\n")?;
         let told = refusal_of(alloc, list.as_str())?;
         assert!(rt; told.as_str().starts_with("line 3, "), "{line}: {told}");
+    }
+    Ok(())
+}
+
+// A line of another size, and one that is cut, hide no disagreement above them.
+#[test]
+fn tells_what_stands_above_a_refused_line(rt: HostRuntime) -> Result<(), Fail> {
+    let alloc = rt.alloc();
+    let wrong = "4\t390286ce\tpair 58 86ce\t4\tpair 57 86ce\tunexpected_eof\t-";
+    let other_size = "3\t390286ce\tpair 57 86ce\t4\tpair 57 86ce\tunexpected_eof\t-";
+    for refused in [other_size, "4\t00\tpair"] {
+        let list = format!(in alloc; "{COLUMNS}\n{GOOD}\n{wrong}\n{refused}\n{wrong}\n")?;
+        let mut report = String::new(alloc);
+        let told = replay(alloc, list.as_str(), &mut report)
+            .err()
+            .ok_or("no refusal")?;
+        let told = format!(in alloc; "{told:#}")?;
+        assert!(rt; told.as_str().starts_with("line 4, "), "{told}");
+        assert_eq!(rt;
+            count_of(
+                report.as_str(),
+                "read over the slice: disagrees at size 4, input 390286ce"
+            ),
+            1
+        );
+        assert_eq!(rt;
+            count_of(report.as_str(), "read over the slice: 1 lines agree"),
+            1
+        );
+        assert_eq!(rt; count_of(report.as_str(), "from_bytes: 2 lines agree"), 1);
     }
     Ok(())
 }

@@ -6,7 +6,7 @@ use Rattle.vectors.specs.Listed.{IsRight}
 use Rattle.vectors.specs.declared.line.Line.{Line}
 use Rattle.vectors.proofs.AllLemmas.{All-fewer, All-last}
 use Rattle.vectors.proofs.replay.replay_check.Goals as goal
-use Rattle.vectors.proofs.replay.replay_check.Goals.{then-branch, else-branch+in_ok-write_disagreement}
+use Rattle.vectors.proofs.replay.replay_check.Goals.{then-agrees, else-agrees+in_ok-write_disagreement}
 
 pub loop-line-preserved : goal.loop-line-preserved
 loop-line-preserved g c =
@@ -14,22 +14,22 @@ loop-line-preserved g c =
     let lines = c.args.lines.now in
     let i = c.loop-line.line-index in
     let Holds : Line → Type 0 = λ line. IsRight c.args.check line.size line in
-    elim c.if-branch.branch [
-      | then-branch w ↦
-          let right = c.in_ok-agrees.ensures.0 w.if-branch.true in (
+    elim c.if-agrees.branch [
+      | then-agrees w ↦
+          let right = c.agrees.ensures.0 w.if-agrees.true in (
             omega arith,
             (
               λ same. All-more Holds lines i c.line-item.result (omega arith) (before.1.0 (omega arith)) (subst Holds c.line-item.is right),
               λ all. let same : c.loop-line.agree ≡ i = before.1.1 (All-fewer Holds lines i all) in omega arith,
             ),
           )
-      | else-branch+in_ok-write_disagreement w ↦ (
+      | else-agrees+in_ok-write_disagreement w ↦ (
         omega arith,
         (
           λ same. absurd (omega arith),
           λ all.
               let right = subst Holds (sym c.line-item.is) (All-last Holds lines i c.line-item.result (omega arith) all) in
-              absurd (false≢true (sym w.if-branch.false ∙ c.in_ok-agrees.ensures.1 right)),
+              absurd (false≢true (sym w.if-agrees.false ∙ c.agrees.ensures.1 right)),
         ),
       )
     ]
