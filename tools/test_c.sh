@@ -92,7 +92,7 @@ needs_copies_alone() {
   local needed
   needed=$(nm --undefined-only -f posix "$1" | awk '!/:$/ && NF { print $1 }' | sort -u | tr '\n' ' ')
   echo "needs: $needed"
-  [ "$needed" = "memcpy memset " ]
+  [ "$needed" = "memcpy memmove memset " ]
 }
 
 # None of its sections can be written, so it keeps no state.
@@ -153,7 +153,8 @@ test_compiler() {
   try "$name, $under" build_and_run "$name-san" "" "${from[@]}" -g -O1 "${sanitize[@]}" "${test[@]}"
   if has valgrind; then
     under="valgrind -q --error-exitcode=9 --leak-check=full --errors-for-leak-kinds=all"
-    try "$name, valgrind" build_and_run "$name-valgrind" "$under" "${from[@]}" -g -O1 "${test[@]}"
+    # valgrind does not read all that clang writes by default
+    try "$name, valgrind" build_and_run "$name-valgrind" "$under" "${from[@]}" -gdwarf-4 -O1 "${test[@]}"
   fi
 }
 
