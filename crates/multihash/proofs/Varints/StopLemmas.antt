@@ -6,7 +6,8 @@ use Rattle.std.specs.Int.Bits.{and_self}
 use Rattle.std.specs.Int.Count.{trailing_of_zero}
 use Rattle.std.proofs.Math.Nat.{lt_of_not-le, pow-le-pow_right}
 use Rattle.std.proofs.lemmas.Bool.{cases_lt, cases_eq}
-use Rattle.std.proofs.lemmas.Nat.{and_assoc, and-not, and_comm, and_le_l, and_le_r, and_mask, and_mod, and_shr, field_of, mod_below, mod-pow-add, pow_pos, shr-shr, shr_le, shr_split}
+use Rattle.std.proofs.lemmas.Nat.{and_assoc, and-not, and_comm, and_le_l, and_le_r, and_mask, and_mod, and_shr}
+use Rattle.std.proofs.lemmas.Nat.{field_of, mod_below, mod-pow-add, pow_pos, shr-shr, shr_le, shr_split}
 use Rattle.std.proofs.lemmas.Nat.Bits.{bit_at-suc, bit_at-zero, bit_at_and, bit_at_cat_low, bit_at_not, bit_at-pow_other, bit_at-trailing_zeros}
 use Rattle.std.proofs.lemmas.List.{get_or-replicate}
 use Rattle.std.proofs.lemmas.List.Elements.{All-replicate}

@@ -7,7 +7,8 @@ use Rattle.std.proofs.lemmas.Nat.{and_mask}
 use Rattle.std.proofs.lemmas.List.{length_push, nil_from_length}
 use Rattle.std.proofs.lemmas.List.Elements.{All-nil, All-push}
 use Rattle.multihash.specs.Bytes.{IsBytes, IsProperBeginning, place_value}
-use Rattle.multihash.specs.Varint.{max_marked, last_byte_limit, IsMarked, VarintFault, insufficient, overflow, not_minimal, IsInsufficient, HasFaultyFront}
+use Rattle.multihash.specs.Varint.{max_marked, last_byte_limit, IsMarked, VarintFault, insufficient}
+use Rattle.multihash.specs.Varint.{overflow, not_minimal, IsInsufficient, HasFaultyFront}
 use Rattle.multihash.specs.Fault.{Fault}
 use Rattle.multihash.specs.Reading.{Takes}
 use Rattle.multihash.specs.Refusal.{Refusal, of_io, of_varint}

@@ -4,7 +4,8 @@ use Rattle.std.proofs.Math.Nat.{add-zero, lt_of_not-le, zero-add}
 use Rattle.std.proofs.Math.Seq.{take-add}
 use Rattle.std.proofs.lemmas.Nat.{and_mask}
 use Rattle.std.proofs.lemmas.Nat.Bits.{and_pow}
-use Rattle.std.proofs.lemmas.List.{get_or_past, get_or-take, get_or-drop, length-take, length-take-le, nil_from_length, take_more, take-take, take_all, take-append-drop, drop_more, drop-take}
+use Rattle.std.proofs.lemmas.List.{get_or_past, get_or-take, get_or-drop, length-take, length-take-le, nil_from_length}
+use Rattle.std.proofs.lemmas.List.{take_more, take-take, take_all, take-append-drop, drop_more, drop-take}
 use Rattle.std.proofs.lemmas.List.Elements.{All-nil, All-take, All-drop, All-more}
 use Rattle.multihash.specs.Bytes.{IsBytes, place_value}
 use Rattle.multihash.specs.Varint.{max_marked, last_byte_limit, IsMarked, IsVarint, IsInsufficient, IsOverflow, IsNotMinimal}

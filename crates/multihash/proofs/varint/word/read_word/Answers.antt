@@ -9,11 +9,13 @@ use Rattle.multihash.proofs.varint.word.read_word.Goals.{else-varint-marked-eq0-
 
 pub returns-then-stops-eq0-clause-ok : goal.returns-then-stops-eq0-clause-ok
 returns-then-stops-eq0-clause-ok c =
-    IfOk-weaker c.read_high.result _ _ (λ found each xs bytes f. each xs bytes f (low_marked xs _ _ bytes f c.if-stops-eq0.true)) c.read_high.ensures.ok
+    IfOk-weaker c.read_high.result _ _ (λ found each xs bytes f. each xs bytes f (low_marked xs _ _ bytes f c.if-stops-eq0.true))
+    c.read_high.ensures.ok
 
 pub returns-then-stops-eq0-clause-err : goal.returns-then-stops-eq0-clause-err
 returns-then-stops-eq0-clause-err c =
-    IfErr-weaker c.read_high.result _ _ (λ e each xs bytes f. each xs bytes f (low_marked xs _ _ bytes f c.if-stops-eq0.true)) c.read_high.ensures.err
+    IfErr-weaker c.read_high.result _ _ (λ e each xs bytes f. each xs bytes f (low_marked xs _ _ bytes f c.if-stops-eq0.true))
+    c.read_high.ensures.err
 
 pub returns-then-marked-present-clause-err : goal.returns-then-marked-present-clause-err
 returns-then-marked-present-clause-err c = λ xs bytes f.
