@@ -6,7 +6,8 @@ ghost use Rattle.multihash_c.specs.Front.{TellsHead, ReadsFront};
 use crate::{read, status};
 use multihash::Head;
 
-/// What the two varints that begin an encoding answered. A field that the status leaves without a meaning is 0.
+/// What the two varints that begin an encoding answered. A field that the status leaves without a meaning
+/// is 0.
 #[repr(C)]
 #[derive(Clone, Copy, Debug, PartialEq, Eq)]
 pub struct Front {
