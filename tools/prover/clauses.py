@@ -1,0 +1,129 @@
+"""Finds the clauses of functions, and makes texts in which one says nothing."""
+import os
+import re
+
+from . import edits, source
+
+# A statement that says nothing. The clause's name stays, so that what cites it is a goal, and no missing name.
+NOTHING = " Unit {0} "
+
+
+class Clause:
+    """One `ensures` of a function: the places of its text between the braces."""
+
+    def __init__(self, crate, path, function, name, start, end, of):
+        self.crate, self.path, self.function, self.name = crate, path, function, name
+        self.start, self.end, self.of, self.is_only = start, end, of, False
+        self.label = f"{of}#{name}" if name else of
+
+    def change(self):
+        return (self.path, self.start, self.end, NOTHING)
+
+
+def clauses_in(crate, path, text, known):
+    """Returns the clauses of the functions of a file that say what holds at the return; starred ones speak of memory and are left."""
+    found = []
+    for function in source.functions(text):
+        of = source.name_of(crate, path, function, known)
+        if not of:
+            continue
+        words, here = source.tokens(text[function.head : function.body]), []
+        for at, word in enumerate(words):
+            if word[0] != "ensures":
+                continue
+            opens = at + 1 if words[at + 1][0] == "{" else at + 2
+            if opens >= len(words) or words[opens][0] != "{":
+                continue
+            name = words[at + 1][0] if opens == at + 2 else ""
+            start = function.head + words[opens].end()
+            end = function.head + words[source.closing(words, opens)].start()
+            here.append(Clause(crate, path, function, name, start, end, of))
+        # the goal of a contract's only clause has not the clause's name
+        if sum(it[0] in ("ensures", "ensures*") for it in words) == 1 and here:
+            here[0].is_only = True
+        found += here
+    return found
+
+
+def is_public(text, function):
+    """Returns whether the function is `pub`, or keeps a trait's promise."""
+    head = text[function.head : function.body]
+    return bool(re.search(r"\bpub\s+(?:const\s+)?fn\b", head)) or " for " in function.owner
+
+
+def files_of(folder, part):
+    found = []
+    for at, _, names in os.walk(f"{folder}/{part}"):
+        found += [os.path.relpath(f"{at}/{it}", folder) for it in names]
+    return sorted(found)
+
+
+def all_clauses(crate, folder, known):
+    """Returns the clauses of the crate's functions, and the texts of its sources by path."""
+    texts = {path: edits.read(f"{folder}/{path}") for path in files_of(folder, "src") if path.endswith(".rt")}
+    return [it for path, text in texts.items() for it in clauses_in(crate, path, text, known)], texts
+
+
+def answers_of(name):
+    """Returns the file of the answers to a function's goals."""
+    return f"proofs/{name.partition('::')[2].replace('::', '/')}/Answers.antt"
+
+
+def items(text):
+    """Returns (name, start, end) of each definition of a file of answers."""
+    found, at = [], 0
+    for line in text.splitlines(keepends=True):
+        name = re.match(r"(?:pub )?([^\s:(]+)", line)
+        if line[:1].strip() and not line.startswith("--") and name and not line.startswith("use "):
+            if found and found[-1][0] == name[1]:
+                found[-1] = (name[1], found[-1][1], at + len(line))
+            else:
+                found.append((name[1], at, at + len(line)))
+        elif found and line.startswith(" "):
+            found[-1] = (*found[-1][:2], at + len(line))
+        at += len(line)
+    return found
+
+
+def without_answers(text, clause):
+    """Returns the file of answers without those that show the clause."""
+    ends = re.compile(r"^returns\b.*-clause-" + re.escape(clause.name) + r"$") if not clause.is_only else re.compile(r"^returns(?!.*-clause-)")
+    gone = [(start, end) for name, start, end in items(text) if ends.match(name)]
+    kept, behind = "", 0
+    for start, end in gone:
+        kept += text[behind:start]
+        behind = end
+    return kept + text[behind:]
+
+
+def put(texts, changes):
+    """Returns the changed texts, and a function that tells where a place of an old text went."""
+    made, moves = {}, {}
+    for path in {it[0] for it in changes}:
+        old, new, behind, moved = texts[path], "", 0, []
+        for _, start, end, words in sorted(it for it in changes if it[0] == path):
+            new += old[behind:start] + words
+            moved.append((end, len(new) - end))
+            behind = end
+        made[path], moves[path] = new + old[behind:], moved
+
+    def place(path, at):
+        return at + ([0] + [by for end, by in moves.get(path, []) if end <= at])[-1]
+
+    return made, place
+
+
+def dropped(folder, texts, clauses, bodies=()):
+    """Returns the texts of a crate in which these clauses say nothing and these bodies stand, and the lines of each function."""
+    made, place = put(texts, [it.change() for it in clauses] + [(it.path, it.function.body, it.function.end, it.body) for it in bodies])
+    for it in clauses:
+        path = answers_of(it.of)
+        if os.path.exists(f"{folder}/{path}"):
+            made[path] = without_answers(made.get(path) or edits.read(f"{folder}/{path}"), it)
+
+    def lines_of(path, function):
+        text = made.get(path, texts[path])
+        first, last = place(path, function.head), place(path, function.end)
+        return path, text.count("\n", 0, first) + 1, text.count("\n", 0, last) + 1
+
+    return made, lines_of
