@@ -2,14 +2,13 @@
 ghost use Rattle.std.specs.Prelude.{◌<◌, ◌^◌};
 
 use crate::expect::expect_bytes;
-use crate::given::{CODES, Code, Form, different, twice};
+use crate::given::{Code, Form, case, different, twice};
 use fakes::readers::{Counts, Cuts, FailAt};
 use fakes::writers::CountsWrites;
+use multihash::Multihash;
 use multihash::no_std_io::{self, Read, Write};
-use multihash::{Error, Multihash};
 use std::alloc::Global;
 use std::process::Abort;
-use std::test::Fail;
 
 // A reader with a `read_exact` of its own, and one that gives all that it is asked for.
 fn expect_asked<const S: usize>(
@@ -68,17 +67,12 @@ fn expect_written_to<const S: usize>(
     assert_eq!(rt; (writer.parts, writer.whole), (parts, 0));
 }
 
-fn expect_calls<const S: usize>(
-    rt: &impl Abort,
-    alloc: Global,
-    code: Code,
-    digest: &[u8],
-) -> Result<(), Error>
+fn expect_calls<const S: usize>(rt: &impl Abort, alloc: Global, code: Code, digest: &[u8])
     requires { S < 2 ^ 16 }
 {
-    let items = twice::<S>(alloc, code.0, digest)?;
+    let items = twice::<S>(rt, alloc, code, digest);
     for form in Form::ALL {
-        let bytes = form.bytes(alloc, code, digest)?;
+        let bytes = form.bytes(rt, alloc, code, digest);
         let (single, others, whole) = form.requests(code, digest.len());
         expect_asked(rt, alloc, form, &items, &bytes, (single, others, whole));
         let pairs = if matches!(form, Form::List) {
@@ -93,18 +87,15 @@ fn expect_calls<const S: usize>(
         let parts = wholes.saturating_sub(unasked);
         expect_written_to(rt, alloc, form, &items, (parts, wholes));
     }
-    Ok(())
 }
 
 #[test]
-fn each_length_makes_as_many_calls(rt: HostRuntime) -> Result<(), Fail> {
+fn each_length_makes_as_many_calls(rt: HostRuntime) {
     let bytes = different();
-    for (len, code) in (0..256).zip(CODES.iter().cycle()) {
-        if let Some(digest) = bytes.get(..len) {
-            expect_calls::<255>(&rt, rt.alloc(), *code, digest)?;
-        }
+    for len in 0..256 {
+        let (code, digest) = case(&bytes, len);
+        expect_calls::<255>(&rt, rt.alloc(), code, digest);
     }
-    Ok(())
 }
 
 fn lent_read<R: Read>(r: &mut R, buf: &mut [u8]) -> Result<usize, no_std_io::Error> {
@@ -123,14 +114,14 @@ fn lent_write<W: Write>(w: &mut W, buf: &[u8]) -> Result<usize, no_std_io::Error
 }
 
 // What is lent is asked once, for all of the bytes.
-fn expect_lent(rt: &impl Abort, alloc: Global, bytes: &[u8]) -> Result<(), Error> {
+fn expect_lent(rt: &impl Abort, alloc: Global, bytes: &[u8]) {
     let len = bytes.len();
-    let mut buf = vec![in alloc; 0u8; len]?;
+    let mut buf = vec![in alloc; 0u8; len].expect(rt, "memory");
     let mut reader = Counts::new(bytes);
     assert_eq!(rt; lent_read(&mut reader, &mut buf).ok(), Some(len));
     assert_eq!(rt; reader.single.saturating_add(reader.others), 1);
     expect_bytes(rt, &buf, bytes);
-    let mut buf = vec![in alloc; 0u8; len]?;
+    let mut buf = vec![in alloc; 0u8; len].expect(rt, "memory");
     let mut reader = Counts::new(bytes);
     assert!(rt; lent_read_exact(&mut reader, &mut buf).is_ok());
     assert_eq!(rt; reader.asked(), (0, 0, 1));
@@ -139,16 +130,16 @@ fn expect_lent(rt: &impl Abort, alloc: Global, bytes: &[u8]) -> Result<(), Error
     assert_eq!(rt; lent_write(&mut writer, bytes).ok(), Some(len));
     assert_eq!(rt; (writer.parts, writer.whole), (1, 0));
     expect_bytes(rt, &writer.held, bytes);
-    Ok(())
 }
 
 #[test]
-fn each_length_is_lent(rt: HostRuntime) -> Result<(), Fail> {
-    let bytes = [different(), different()].concat(rt.alloc())?;
+fn each_length_is_lent(rt: HostRuntime) {
+    let bytes = [different(), different()]
+        .concat(rt.alloc())
+        .expect(&rt, "memory");
     for len in 0..511 {
         if let Some(these) = bytes.get(..len) {
-            expect_lent(&rt, rt.alloc(), these)?;
+            expect_lent(&rt, rt.alloc(), these);
         }
     }
-    Ok(())
 }

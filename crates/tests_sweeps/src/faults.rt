@@ -2,14 +2,13 @@
 ghost use Rattle.std.specs.Prelude.{◌<◌, ◌^◌};
 
 use crate::expect::expect_bytes;
-use crate::given::{CODES, Code, Form, different, twice};
+use crate::given::{Code, Form, case, different, twice};
 use fakes::readers::{Counts, Cuts, FailAt};
 use fakes::refusal::{Refusal, is_refused};
 use fakes::writers::{CountsWrites, Drip, FailWrite};
 use multihash::{Error, Multihash};
-use std::alloc::{AllocError, Global};
+use std::alloc::Global;
 use std::process::Abort;
-use std::test::Fail;
 
 // The most bytes of a form: those of a list of two.
 const MOST: usize = 532;
@@ -98,14 +97,14 @@ fn expect_request_fault<const S: usize>(
 }
 
 // A writer without a `write_all` of its own, which fails or is full behind so many bytes.
-fn failing_writer(alloc: Global, at: usize, why: Refusal) -> Result<FailWrite, AllocError> {
+fn failing_writer(rt: &impl Abort, alloc: Global, at: usize, why: Refusal) -> FailWrite {
     let room = if why == Refusal::WriteZero { at } else { MOST };
-    let drip = Drip::new(alloc, room, 1)?;
-    Ok(match why {
+    let drip = Drip::new(alloc, room, 1).expect(rt, "memory");
+    match why {
         Refusal::OutOfMemory => FailWrite::out_of_memory(drip, at),
         Refusal::WriteZero => FailWrite::new(drip, MOST),
         _ => FailWrite::new(drip, at),
-    })
+    }
 }
 
 fn expect_writer_fault<const S: usize>(
@@ -115,19 +114,18 @@ fn expect_writer_fault<const S: usize>(
     items: &[Multihash<S>],
     front: &[u8],
     why: Refusal,
-) -> Result<(), AllocError>
+)
     requires { S < 2 ^ 16 }
 {
     let at = front.len();
-    let mut writer = failing_writer(alloc, at, why)?;
+    let mut writer = failing_writer(rt, alloc, at, why);
     let answer = form.writes(items, &mut writer);
     expect_refused(rt, form, &answer, why, at);
     expect_bytes(rt, &writer.drip.held, front);
-    let mut writer = failing_writer(alloc, at, why)?;
+    let mut writer = failing_writer(rt, alloc, at, why);
     let answer = form.writes_lent(items, &mut writer);
     expect_refused(rt, form, &answer, why, at);
     expect_bytes(rt, &writer.drip.held, front);
-    Ok(())
 }
 
 fn expect_faults_at<const S: usize>(
@@ -137,15 +135,15 @@ fn expect_faults_at<const S: usize>(
     items: &[Multihash<S>],
     bytes: &[u8],
     at: usize,
-) -> Result<(), AllocError>
+)
     requires { S < 2 ^ 16 }
 {
     expect_reader_fault(rt, alloc, form, items, bytes, at, Refusal::LINK_DOWN);
     expect_reader_fault(rt, alloc, form, items, bytes, at, Refusal::OutOfMemory);
     let front = bytes.get(..at).unwrap_or(&[]);
-    expect_writer_fault(rt, alloc, form, items, front, Refusal::DISK_GONE)?;
-    expect_writer_fault(rt, alloc, form, items, front, Refusal::OutOfMemory)?;
-    expect_writer_fault(rt, alloc, form, items, front, Refusal::WriteZero)
+    expect_writer_fault(rt, alloc, form, items, front, Refusal::DISK_GONE);
+    expect_writer_fault(rt, alloc, form, items, front, Refusal::OutOfMemory);
+    expect_writer_fault(rt, alloc, form, items, front, Refusal::WriteZero);
 }
 
 // At each byte of each form of a pair, or at some of them and the last.
@@ -155,75 +153,62 @@ fn expect_faults<const S: usize>(
     code: Code,
     digest: &[u8],
     each: bool,
-) -> Result<(), Error>
+)
     requires { S < 2 ^ 16 }
 {
-    let items = twice::<S>(alloc, code.0, digest)?;
+    let items = twice::<S>(rt, alloc, code, digest);
     for form in Form::ALL {
-        let bytes = form.bytes(alloc, code, digest)?;
+        let bytes = form.bytes(rt, alloc, code, digest);
         let last = bytes.len().saturating_sub(1);
         for at in 0..bytes.len() {
             if each || at % 41 == 0 || at == last {
-                expect_faults_at(rt, alloc, form, &items, &bytes, at)?;
+                expect_faults_at(rt, alloc, form, &items, &bytes, at);
             }
         }
     }
-    Ok(())
 }
 
 #[test]
-fn each_length_fails(rt: HostRuntime) -> Result<(), Fail> {
+fn each_length_fails(rt: HostRuntime) {
     let bytes = different();
-    for (len, code) in (0..256).zip(CODES.iter().cycle()) {
-        if let Some(digest) = bytes.get(..len) {
-            expect_faults::<255>(&rt, rt.alloc(), *code, digest, false)?;
-        }
+    for len in 0..256 {
+        let (code, digest) = case(&bytes, len);
+        expect_faults::<255>(&rt, rt.alloc(), code, digest, false);
     }
-    Ok(())
 }
 
 #[test]
-fn each_byte_fails(rt: HostRuntime) -> Result<(), Fail> {
+fn each_byte_fails(rt: HostRuntime) {
     let bytes = different();
-    for (len, code) in [0, 20, 32, 64, 255].iter().zip(CODES.iter().cycle()) {
-        if let Some(digest) = bytes.get(..*len) {
-            expect_faults::<255>(&rt, rt.alloc(), *code, digest, true)?;
-        }
+    for len in [0, 20, 32, 64, 255] {
+        let (code, digest) = case(&bytes, len);
+        expect_faults::<255>(&rt, rt.alloc(), code, digest, true);
     }
-    Ok(())
 }
 
 // Each request of both forms of a pair.
-fn expect_request_faults<const S: usize>(
-    rt: &impl Abort,
-    alloc: Global,
-    code: Code,
-    digest: &[u8],
-) -> Result<(), Error>
+fn expect_request_faults<const S: usize>(rt: &impl Abort, alloc: Global, code: Code, digest: &[u8])
     requires { S < 2 ^ 16 }
 {
-    let items = twice::<S>(alloc, code.0, digest)?;
+    let items = twice::<S>(rt, alloc, code, digest);
     for form in [Form::Binary, Form::Scale] {
-        let bytes = form.bytes(alloc, code, digest)?;
+        let bytes = form.bytes(rt, alloc, code, digest);
         let (single, _, whole) = form.requests(code, digest.len());
         for calls in 0..single.saturating_add(whole) {
             expect_request_fault(rt, alloc, form, &items, &bytes, calls, Refusal::LINK_DOWN);
             expect_request_fault(rt, alloc, form, &items, &bytes, calls, Refusal::OutOfMemory);
         }
     }
-    Ok(())
 }
 
 // A digest of no bytes is always read.
 #[test]
-fn each_request_of_each_length_fails(rt: HostRuntime) -> Result<(), Fail> {
+fn each_request_of_each_length_fails(rt: HostRuntime) {
     let bytes = different();
-    for (len, code) in (1..256).zip(CODES.iter().cycle()) {
-        if let Some(digest) = bytes.get(..len) {
-            expect_request_faults::<255>(&rt, rt.alloc(), *code, digest)?;
-        }
+    for len in 1..256 {
+        let (code, digest) = case(&bytes, len);
+        expect_request_faults::<255>(&rt, rt.alloc(), code, digest);
     }
-    Ok(())
 }
 
 // A writer with a `write_all` of its own, which fails at a call of it.
@@ -254,33 +239,25 @@ fn expect_call_fault<const S: usize>(
 }
 
 // Each call of both forms of a pair.
-fn expect_call_faults<const S: usize>(
-    rt: &impl Abort,
-    alloc: Global,
-    code: Code,
-    digest: &[u8],
-) -> Result<(), Error>
+fn expect_call_faults<const S: usize>(rt: &impl Abort, alloc: Global, code: Code, digest: &[u8])
     requires { S < 2 ^ 16 }
 {
-    let items = twice::<S>(alloc, code.0, digest)?;
+    let items = twice::<S>(rt, alloc, code, digest);
     for (form, first) in [(Form::Binary, code.1.len()), (Form::Scale, 8)] {
-        let bytes = form.bytes(alloc, code, digest)?;
+        let bytes = form.bytes(rt, alloc, code, digest);
         let second = bytes.len().saturating_sub(digest.len());
         for (calls, written) in [(0, 0), (1, first), (2, second)] {
             let front = bytes.get(..written).unwrap_or(&[]);
             expect_call_fault(rt, alloc, form, &items, calls, front);
         }
     }
-    Ok(())
 }
 
 #[test]
-fn each_call_of_each_length_fails(rt: HostRuntime) -> Result<(), Fail> {
+fn each_call_of_each_length_fails(rt: HostRuntime) {
     let bytes = different();
-    for (len, code) in (1..256).zip(CODES.iter().cycle()) {
-        if let Some(digest) = bytes.get(..len) {
-            expect_call_faults::<255>(&rt, rt.alloc(), *code, digest)?;
-        }
+    for len in 1..256 {
+        let (code, digest) = case(&bytes, len);
+        expect_call_faults::<255>(&rt, rt.alloc(), code, digest);
     }
-    Ok(())
 }

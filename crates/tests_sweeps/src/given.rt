@@ -6,7 +6,8 @@ use fakes::refusal::LARGEST_CODE;
 use multihash::list::{read_list, write_list};
 use multihash::no_std_io::{Read, Write};
 use multihash::{Error, Multihash};
-use std::alloc::{AllocError, Global};
+use std::alloc::Global;
+use std::process::Abort;
 
 /// A code, and its varint.
 pub type Code = (u64, &'static [u8]);
@@ -36,6 +37,11 @@ pub fn different() -> [u8; 255] {
     bytes
 }
 
+/// The codes in turn, each with a digest of so many different bytes.
+pub fn case(bytes: &[u8; 255], len: usize) -> (Code, &[u8]) {
+    (CODES[len % 10], bytes.get(..len).unwrap_or(bytes))
+}
+
 /// A form, which one call reads and another writes.
 #[derive(Clone, Copy, Debug)]
 pub enum Form {
@@ -49,28 +55,27 @@ impl Form {
     pub const ALL: [Form; 3] = [Form::Binary, Form::Scale, Form::List];
 
     /// The bytes of the pair in this form.
-    pub fn bytes(self, alloc: Global, code: Code, digest: &[u8]) -> Result<Vec<u8>, AllocError> {
-        let mut bytes = Vec::with_capacity(alloc, 533)?;
-        self.append(&mut bytes, code, digest)?;
+    pub fn bytes(self, rt: &impl Abort, alloc: Global, code: Code, digest: &[u8]) -> Vec<u8> {
+        let mut bytes = Vec::new(alloc);
+        self.append(rt, &mut bytes, code, digest);
         if matches!(self, Form::List) {
-            self.append(&mut bytes, code, digest)?;
+            self.append(rt, &mut bytes, code, digest);
         }
-        Ok(bytes)
+        bytes
     }
 
-    fn append(self, bytes: &mut Vec<u8>, code: Code, digest: &[u8]) -> Result<(), AllocError> {
+    fn append(self, rt: &impl Abort, bytes: &mut Vec<u8>, code: Code, digest: &[u8]) {
         let size = u8::try_from(digest.len()).unwrap_or(255);
         if matches!(self, Form::Scale) {
-            bytes.extend_from_slice(&code.0.to_le_bytes())?;
-            bytes.push(size)?;
+            put(rt, bytes, &code.0.to_le_bytes());
         } else {
-            bytes.extend_from_slice(code.1)?;
-            bytes.push(size)?;
-            if size > 127 {
-                bytes.push(1)?;
-            }
+            put(rt, bytes, code.1);
         }
-        bytes.extend_from_slice(digest)
+        put(rt, bytes, &[size]);
+        if size > 127 && !matches!(self, Form::Scale) {
+            put(rt, bytes, &[1]);
+        }
+        put(rt, bytes, digest);
     }
 
     /// What reading a pair of this form asks for, with a digest of so many bytes: single bytes by `read`, others by it, and
@@ -148,17 +153,22 @@ impl Form {
     }
 }
 
+fn put(rt: &impl Abort, bytes: &mut Vec<u8>, more: &[u8]) {
+    bytes.extend_from_slice(more).expect(rt, "memory");
+}
+
 /// The pair twice.
 pub fn twice<const S: usize>(
+    rt: &impl Abort,
     alloc: Global,
-    code: u64,
+    code: Code,
     digest: &[u8],
-) -> Result<Vec<Multihash<S>>, Error>
+) -> Vec<Multihash<S>>
     requires { S < 2 ^ 16 }
 {
-    let m = Multihash::wrap(code, digest)?;
-    let mut items = Vec::with_capacity(alloc, 2)?;
+    let m = Multihash::wrap(code.0, digest).expect(rt, "it fits");
+    let mut items = Vec::with_capacity(alloc, 2).expect(rt, "memory");
     items.push_reserved(m);
     items.push_reserved(m);
-    Ok(items)
+    items
 }

@@ -2,13 +2,12 @@
 ghost use Rattle.std.specs.Prelude.{◌<◌, ◌^◌};
 
 use crate::expect::expect_bytes;
-use crate::given::{CODES, Code, Form, different};
+use crate::given::{Code, Form, case, different};
+use multihash::Multihash;
 use multihash::list::{read_list, write_list};
-use multihash::{Error, Multihash};
 use serde_json::Value;
 use std::alloc::Global;
 use std::process::Abort;
-use std::test::Fail;
 
 // How many places an array has.
 fn places_of(value: &Value) -> usize {
@@ -19,69 +18,59 @@ fn places_of(value: &Value) -> usize {
 }
 
 // As many places as bytes, and as members; and a clone, which takes none.
-fn expect_kept<const S: usize>(
-    rt: &impl Abort,
-    alloc: Global,
-    code: Code,
-    digest: &[u8],
-) -> Result<(), Error>
+fn expect_kept<const S: usize>(rt: &impl Abort, alloc: Global, code: Code, digest: &[u8])
     requires { S < 2 ^ 16 }
 {
-    let m = Multihash::<S>::wrap(code.0, digest)?;
-    let wanted = Form::Binary.bytes(alloc, code, digest)?;
-    let bytes = m.to_bytes(alloc)?;
+    let m = Multihash::<S>::wrap(code.0, digest).expect(rt, "it fits");
+    let wanted = Form::Binary.bytes(rt, alloc, code, digest);
+    let bytes = m.to_bytes(alloc).expect(rt, "memory");
     expect_bytes(rt, &bytes, &wanted);
     assert_eq!(rt; bytes.capacity(), wanted.len());
-    let value = m.to_value(alloc)?;
+    let value = m.to_value(alloc).expect(rt, "memory");
     assert_eq!(rt; places_of(&value), wanted.len());
-    assert!(rt; m.clone()? == m);
-    Ok(())
+    assert!(rt; m.clone().expect(rt, "a clone") == m);
 }
 
 // Each length that a buffer of this size holds, with the codes in turn.
-fn expect_each_kept<const S: usize>(rt: &impl Abort, alloc: Global) -> Result<(), Error>
+fn expect_each_kept<const S: usize>(rt: &impl Abort, alloc: Global)
     requires { S < 2 ^ 16 }
 {
     let bytes = different();
-    for (len, code) in (0..=S.min(255)).zip(CODES.iter().cycle()) {
-        if let Some(digest) = bytes.get(..len) {
-            expect_kept::<S>(rt, alloc, *code, digest)?;
-        }
+    for len in 0..=S.min(255) {
+        let (code, digest) = case(&bytes, len);
+        expect_kept::<S>(rt, alloc, code, digest);
     }
-    Ok(())
 }
 
 // The sizes of usual digests, and those about powers of two.
 #[test]
-fn each_length_is_kept(rt: HostRuntime) -> Result<(), Fail> {
-    expect_each_kept::<0>(&rt, rt.alloc())?;
-    expect_each_kept::<1>(&rt, rt.alloc())?;
-    expect_each_kept::<2>(&rt, rt.alloc())?;
-    expect_each_kept::<4>(&rt, rt.alloc())?;
-    expect_each_kept::<16>(&rt, rt.alloc())?;
-    expect_each_kept::<20>(&rt, rt.alloc())?;
-    expect_each_kept::<28>(&rt, rt.alloc())?;
-    expect_each_kept::<31>(&rt, rt.alloc())?;
-    expect_each_kept::<32>(&rt, rt.alloc())?;
-    expect_each_kept::<33>(&rt, rt.alloc())?;
-    expect_each_kept::<48>(&rt, rt.alloc())?;
-    Ok(())
+fn each_length_is_kept(rt: HostRuntime) {
+    expect_each_kept::<0>(&rt, rt.alloc());
+    expect_each_kept::<1>(&rt, rt.alloc());
+    expect_each_kept::<2>(&rt, rt.alloc());
+    expect_each_kept::<4>(&rt, rt.alloc());
+    expect_each_kept::<16>(&rt, rt.alloc());
+    expect_each_kept::<20>(&rt, rt.alloc());
+    expect_each_kept::<28>(&rt, rt.alloc());
+    expect_each_kept::<31>(&rt, rt.alloc());
+    expect_each_kept::<32>(&rt, rt.alloc());
+    expect_each_kept::<33>(&rt, rt.alloc());
+    expect_each_kept::<48>(&rt, rt.alloc());
 }
 
 #[test]
-fn each_long_length_is_kept(rt: HostRuntime) -> Result<(), Fail> {
-    expect_each_kept::<63>(&rt, rt.alloc())?;
-    expect_each_kept::<64>(&rt, rt.alloc())?;
-    expect_each_kept::<65>(&rt, rt.alloc())?;
-    expect_each_kept::<127>(&rt, rt.alloc())?;
-    expect_each_kept::<128>(&rt, rt.alloc())?;
-    expect_each_kept::<129>(&rt, rt.alloc())?;
-    expect_each_kept::<200>(&rt, rt.alloc())?;
-    expect_each_kept::<254>(&rt, rt.alloc())?;
-    expect_each_kept::<255>(&rt, rt.alloc())?;
-    expect_each_kept::<256>(&rt, rt.alloc())?;
-    expect_each_kept::<300>(&rt, rt.alloc())?;
-    Ok(())
+fn each_long_length_is_kept(rt: HostRuntime) {
+    expect_each_kept::<63>(&rt, rt.alloc());
+    expect_each_kept::<64>(&rt, rt.alloc());
+    expect_each_kept::<65>(&rt, rt.alloc());
+    expect_each_kept::<127>(&rt, rt.alloc());
+    expect_each_kept::<128>(&rt, rt.alloc());
+    expect_each_kept::<129>(&rt, rt.alloc());
+    expect_each_kept::<200>(&rt, rt.alloc());
+    expect_each_kept::<254>(&rt, rt.alloc());
+    expect_each_kept::<255>(&rt, rt.alloc());
+    expect_each_kept::<256>(&rt, rt.alloc());
+    expect_each_kept::<300>(&rt, rt.alloc());
 }
 
 // Counts about powers of two and of ten.
@@ -92,60 +81,50 @@ const COUNTS: [usize; 32] = [
 ];
 
 // Reads so many empty pairs, and appends them to a vector.
-fn expect_list<const S: usize>(
-    rt: &impl Abort,
-    alloc: Global,
-    input: &[u8],
-    count: usize,
-) -> Result<(), Error>
+fn expect_list<const S: usize>(rt: &impl Abort, alloc: Global, input: &[u8], count: usize)
     requires { S < 2 ^ 16 }
 {
     let mut left = input;
-    let list = read_list::<S, _>(alloc, &mut left, count)?;
+    let list = read_list::<S, _>(alloc, &mut left, count).expect(rt, "memory");
     assert_eq!(rt; (list.len(), list.capacity()), (count, count));
     let mut held = Vec::new(alloc);
-    write_list(&list, &mut held)?;
+    write_list(&list, &mut held).expect(rt, "memory");
     assert_eq!(rt; held.len(), count.saturating_mul(2));
-    Ok(())
 }
 
 #[test]
-fn each_count_is_read_and_written(rt: HostRuntime) -> Result<(), Fail> {
-    let input = vec![in rt.alloc(); 0u8; 140000]?;
+fn each_count_is_read_and_written(rt: HostRuntime) {
+    let input = vec![in rt.alloc(); 0u8; 140000].expect(&rt, "memory");
     for count in (0..301).chain(COUNTS) {
-        expect_list::<0>(&rt, rt.alloc(), &input, count)?;
-        expect_list::<32>(&rt, rt.alloc(), &input, count)?;
+        expect_list::<0>(&rt, rt.alloc(), &input, count);
+        expect_list::<32>(&rt, rt.alloc(), &input, count);
     }
-    Ok(())
 }
 
 // Appends 500 pairs in each way to one vector, and answers how often its places changed.
-fn count_growths<const S: usize>(m: &Multihash<S>, alloc: Global) -> Result<usize, Error>
-    requires { S < 2 ^ 16 }
-{
+fn count_growths(rt: &impl Abort, alloc: Global, m: &Multihash<255>) -> usize {
     let mut held = Vec::new(alloc);
     let mut growths = 0usize;
     for _ in 0..500 {
         let before = held.capacity();
-        m.write(&mut held)?;
-        m.write(&mut &mut held)?;
-        m.scale_encode(&mut held)?;
+        assert!(rt; m.write(&mut held).is_ok());
+        assert!(rt; m.write(&mut &mut held).is_ok());
+        assert!(rt; m.scale_encode(&mut held).is_ok());
         if held.capacity() != before {
             growths = growths.saturating_add(1);
         }
     }
-    Ok(growths)
+    growths
 }
 
 // A vector that doubles its places has 20 growths up to 400,000 bytes.
 #[test]
-fn a_vector_grows_seldom(rt: HostRuntime) -> Result<(), Fail> {
+fn a_vector_grows_seldom(rt: HostRuntime) {
     let bytes = different();
     for len in 0..256 {
-        if let Some(digest) = bytes.get(..len) {
-            let growths = count_growths(&Multihash::<255>::wrap(300, digest)?, rt.alloc())?;
-            assert!(rt; growths < 25, "{len} bytes: {growths}");
-        }
+        let (code, digest) = case(&bytes, len);
+        let m = Multihash::wrap(code.0, digest).expect(&rt, "it fits");
+        let growths = count_growths(&rt, rt.alloc(), &m);
+        assert!(rt; growths < 25, "{len} bytes: {growths}");
     }
-    Ok(())
 }

@@ -3,13 +3,12 @@
 ghost use Rattle.std.specs.Prelude.{◌<◌, ◌^◌};
 
 use crate::expect::expect_bytes;
-use crate::given::{CODES, Code, Form, different, twice};
+use crate::given::{CODES, Code, Form, case, different, twice};
 use fakes::refusal::{Refusal, is_refused};
 use multihash::no_std_io::{SliceWriter, Write};
 use multihash::{Error, Multihash};
 use std::alloc::Global;
 use std::process::Abort;
-use std::test::Fail;
 
 // Those of a list of two, and one more.
 const PLACES: usize = 533;
@@ -102,17 +101,12 @@ fn expect_in_vectors<const S: usize>(
     expect_bytes(rt, &held, wanted);
 }
 
-fn expect_written<const S: usize>(
-    rt: &impl Abort,
-    alloc: Global,
-    code: Code,
-    digest: &[u8],
-) -> Result<(), Error>
+fn expect_written<const S: usize>(rt: &impl Abort, alloc: Global, code: Code, digest: &[u8])
     requires { S < 2 ^ 16 }
 {
-    let items = twice::<S>(alloc, code.0, digest)?;
+    let items = twice::<S>(rt, alloc, code, digest);
     for form in Form::ALL {
-        let wanted = form.bytes(alloc, code, digest)?;
+        let wanted = form.bytes(rt, alloc, code, digest);
         let len = wanted.len();
         for room in [len.saturating_sub(1), len, len.saturating_add(1)] {
             expect_in_slice(rt, form, &items, &wanted, room);
@@ -121,71 +115,64 @@ fn expect_written<const S: usize>(
         }
         expect_in_vectors(rt, alloc, form, &items, &wanted);
     }
-    Ok(())
 }
 
 // Each length that a buffer of this size holds, with the codes in turn.
-fn expect_each_written<const S: usize>(rt: &impl Abort, alloc: Global) -> Result<(), Error>
+fn expect_each_written<const S: usize>(rt: &impl Abort, alloc: Global)
     requires { S < 2 ^ 16 }
 {
     let bytes = different();
-    for (len, code) in (0..=S.min(255)).zip(CODES.iter().cycle()) {
-        if let Some(digest) = bytes.get(..len) {
-            expect_written::<S>(rt, alloc, *code, digest)?;
-        }
+    for len in 0..=S.min(255) {
+        let (code, digest) = case(&bytes, len);
+        expect_written::<S>(rt, alloc, code, digest);
     }
-    Ok(())
 }
 
 #[test]
-fn each_short_length_is_written(rt: HostRuntime) -> Result<(), Fail> {
-    expect_each_written::<0>(&rt, rt.alloc())?;
-    expect_each_written::<1>(&rt, rt.alloc())?;
-    expect_each_written::<2>(&rt, rt.alloc())?;
-    expect_each_written::<4>(&rt, rt.alloc())?;
-    expect_each_written::<16>(&rt, rt.alloc())?;
-    expect_each_written::<20>(&rt, rt.alloc())?;
-    expect_each_written::<28>(&rt, rt.alloc())?;
-    expect_each_written::<31>(&rt, rt.alloc())?;
-    expect_each_written::<32>(&rt, rt.alloc())?;
-    expect_each_written::<33>(&rt, rt.alloc())?;
-    expect_each_written::<48>(&rt, rt.alloc())?;
-    Ok(())
+fn each_short_length_is_written(rt: HostRuntime) {
+    expect_each_written::<0>(&rt, rt.alloc());
+    expect_each_written::<1>(&rt, rt.alloc());
+    expect_each_written::<2>(&rt, rt.alloc());
+    expect_each_written::<4>(&rt, rt.alloc());
+    expect_each_written::<16>(&rt, rt.alloc());
+    expect_each_written::<20>(&rt, rt.alloc());
+    expect_each_written::<28>(&rt, rt.alloc());
+    expect_each_written::<31>(&rt, rt.alloc());
+    expect_each_written::<32>(&rt, rt.alloc());
+    expect_each_written::<33>(&rt, rt.alloc());
+    expect_each_written::<48>(&rt, rt.alloc());
 }
 
 #[test]
-fn each_length_is_written(rt: HostRuntime) -> Result<(), Fail> {
-    expect_each_written::<63>(&rt, rt.alloc())?;
-    expect_each_written::<64>(&rt, rt.alloc())?;
-    expect_each_written::<65>(&rt, rt.alloc())?;
-    expect_each_written::<127>(&rt, rt.alloc())?;
-    expect_each_written::<128>(&rt, rt.alloc())?;
-    expect_each_written::<129>(&rt, rt.alloc())?;
-    Ok(())
+fn each_length_is_written(rt: HostRuntime) {
+    expect_each_written::<63>(&rt, rt.alloc());
+    expect_each_written::<64>(&rt, rt.alloc());
+    expect_each_written::<65>(&rt, rt.alloc());
+    expect_each_written::<127>(&rt, rt.alloc());
+    expect_each_written::<128>(&rt, rt.alloc());
+    expect_each_written::<129>(&rt, rt.alloc());
 }
 
 #[test]
-fn each_long_length_is_written(rt: HostRuntime) -> Result<(), Fail> {
-    expect_each_written::<200>(&rt, rt.alloc())?;
-    expect_each_written::<254>(&rt, rt.alloc())?;
-    expect_each_written::<255>(&rt, rt.alloc())?;
-    expect_each_written::<256>(&rt, rt.alloc())?;
-    expect_each_written::<300>(&rt, rt.alloc())?;
-    Ok(())
+fn each_long_length_is_written(rt: HostRuntime) {
+    expect_each_written::<200>(&rt, rt.alloc());
+    expect_each_written::<254>(&rt, rt.alloc());
+    expect_each_written::<255>(&rt, rt.alloc());
+    expect_each_written::<256>(&rt, rt.alloc());
+    expect_each_written::<300>(&rt, rt.alloc());
 }
 
 // Each code with lengths about which the size's varint or a copy changes its way.
 #[test]
-fn each_code_is_written(rt: HostRuntime) -> Result<(), Fail> {
+fn each_code_is_written(rt: HostRuntime) {
     let bytes = different();
     for code in CODES {
         for len in [0, 1, 31, 32, 33, 64, 127, 128, 255] {
             if let Some(digest) = bytes.get(..len) {
-                expect_written::<255>(&rt, rt.alloc(), code, digest)?;
+                expect_written::<255>(&rt, rt.alloc(), code, digest);
             }
         }
     }
-    Ok(())
 }
 
 // A slice as a writer copies bytes of which none is 0, by both of its calls.
@@ -210,18 +197,25 @@ const LENGTHS: [usize; 16] = [
 ];
 
 #[test]
-fn each_length_is_copied(rt: HostRuntime) -> Result<(), Fail> {
-    let mut bytes = Vec::with_capacity(rt.alloc(), 70125)?;
+fn each_length_is_copied(rt: HostRuntime) {
+    let mut bytes = Vec::with_capacity(rt.alloc(), 70125).expect(&rt, "memory");
     for _ in 0..275 {
-        bytes.extend_from_slice(&different())?;
+        bytes.extend_from_slice(&different()).expect(&rt, "memory");
     }
     for len in (0..301).chain(LENGTHS) {
         if let Some(these) = bytes.get(..len) {
             for room in [len.saturating_sub(1), len, len.saturating_add(1)] {
-                expect_copied(&rt, these, &mut vec![in rt.alloc(); 0u8; room]?);
-                expect_all_copied(&rt, these, &mut vec![in rt.alloc(); 0u8; room]?);
+                expect_copied(
+                    &rt,
+                    these,
+                    &mut vec![in rt.alloc(); 0u8; room].expect(&rt, "memory"),
+                );
+                expect_all_copied(
+                    &rt,
+                    these,
+                    &mut vec![in rt.alloc(); 0u8; room].expect(&rt, "memory"),
+                );
             }
         }
     }
-    Ok(())
 }
