@@ -3,7 +3,7 @@ use Rattle.std.proofs.Common.{◌≡◌, ℕ, ◌+◌, ◌≤◌, List, [], ◌+
 use Rattle.std.proofs.lemmas.List.{take-append-le}
 use Rattle.std.proofs.Math.Seq.{take-append-add}
 use borrow.Rule.Slice.PartMut.{put_mid, post_of}
-use Rattle.std.specs.Io.KnownBytes.{prepend_known, IsAtEnd}
+use Rattle.std.specs.Io.KnownBytes.{prepend_known}
 use Rattle.multihash.specs.Reading.{Takes}
 
 pub prepend_known-append : (xs ys : List ℕ) (rest : Option (List ℕ)) → prepend_known xs (prepend_known ys rest) ≡ prepend_known (xs ++ ys) rest
@@ -42,11 +42,3 @@ IfSome-taken (Some xs) new taken P takes h = let (left, is, cut) = Takes-told xs
 pub Takes-none : (a : Option (List ℕ)) → Takes a [] a
 Takes-none None = refl
 Takes-none (Some rest) = refl
-
--- a call that took `front`, and one that took nothing
-pub Takes-kept : (a b c : Option (List ℕ)) (front : List ℕ) → c ≡ b → Takes a front b → Takes a front c
-Takes-kept a b c front same takes = subst (λ r. Takes a front r) (sym same) takes
-
--- at an input's end nothing was left, and nothing is
-pub IsAtEnd-kept : (b c : Option (List ℕ)) → c ≡ b → IsAtEnd b → IsAtEnd c
-IsAtEnd-kept b c same ends = subst IsAtEnd (sym same) ends
