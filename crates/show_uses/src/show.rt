@@ -56,13 +56,12 @@ fn show_content_id(alloc: Global, lines: &mut String) -> Result<()> {
     )?;
     let mut bare = Vec::new(alloc);
     ContentId::<4>::V0([7; 32]).write(&mut bare)?;
-    let back = ContentId::<4>::from_bytes(&bare)?;
+    let is_bare = matches!(ContentId::<4>::from_bytes(&bare)?, ContentId::V0(_));
     let refused = ContentId::<4>::from_bytes(&[2, 0x55]).err();
     writeln!(
         lines,
-        "version 0: {} bytes, {}, {refused:?}",
-        bare.len(),
-        matches!(back, ContentId::V0([7, ..]))
+        "version 0: {} bytes, {is_bare}, {refused:?}",
+        bare.len()
     )?;
     Ok(())
 }
