@@ -5,3 +5,5 @@
 mod expect;
 #[cfg(test)]
 mod memory;
+#[cfg(test)]
+mod sizes;

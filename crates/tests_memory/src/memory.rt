@@ -1,7 +1,7 @@
 //! Memory that is refused. A test whose name begins with `refused` passes where nothing is refused.
 //! Where a request is, it looks at what stands then, and fails with `REFUSED`:
 //! `tools/refuse_memory.sh` refuses each request in turn, and counts them so.
-use crate::expect::expect_bytes;
+use crate::expect::{expect_bytes, unless_refused};
 use fakes::refusal::{LARGEST_CODE, Refusal, is_refused};
 use multihash::list::{read_list, write_list};
 use multihash::no_std_io::{self, Read, SliceWriter, Write};
@@ -10,8 +10,6 @@ use serde_json::Value;
 use std::hash::{DefaultHasher, Hash, Hasher};
 use std::process::Abort;
 use std::test::Fail;
-
-const REFUSED: &str = "memory was refused";
 
 // (0, `A`), (18, `B`), and a byte behind them.
 const STREAM: [u8; 7] = [0, 1, 65, 18, 1, 66, 7];
@@ -23,18 +21,6 @@ fn two() -> Result<[Multihash<4>; 2], Error> {
 // The code 300, and 200 bytes `A`.
 fn long() -> Result<Multihash<200>, Error> {
     Multihash::wrap(300, &[65; 200])
-}
-
-// What was answered, where that isn't want of memory.
-fn unless_refused<T>(rt: &impl Abort, answer: Result<T, Error>) -> Result<T, Fail> {
-    match answer {
-        Ok(answer) => Ok(answer),
-        Err(e) => {
-            assert_eq!(rt; Refusal::of(&e), Some(Refusal::OutOfMemory));
-            assert!(rt; matches!(e.io(), Some(fault) if fault.text() == "out of memory"));
-            Err(REFUSED)?
-        }
-    }
 }
 
 #[test]

@@ -101,23 +101,25 @@ fn each_count_is_read_and_written(rt: HostRuntime) {
     }
 }
 
-// Appends 500 pairs in each way to one vector, and answers how often its places changed.
+// Appends 500 pairs in each of three ways, each to one vector, and answers how often their places changed.
 fn count_growths(rt: &impl Abort, alloc: Global, m: &Multihash<255>) -> usize {
     let mut held = Vec::new(alloc);
+    let mut lent = Vec::new(alloc);
+    let mut scale = Vec::new(alloc);
     let mut growths = 0usize;
     for _ in 0..500 {
-        let before = held.capacity();
+        let before = (held.capacity(), lent.capacity(), scale.capacity());
         assert!(rt; m.write(&mut held).is_ok());
-        assert!(rt; m.write(&mut &mut held).is_ok());
-        assert!(rt; m.scale_encode(&mut held).is_ok());
-        if held.capacity() != before {
+        assert!(rt; m.write(&mut &mut lent).is_ok());
+        assert!(rt; m.scale_encode(&mut scale).is_ok());
+        if (held.capacity(), lent.capacity(), scale.capacity()) != before {
             growths = growths.saturating_add(1);
         }
     }
     growths
 }
 
-// A vector that doubles its places has 20 growths up to 400,000 bytes.
+// Three vectors that double their places have some 50 growths up to 130,000 bytes.
 #[test]
 fn a_vector_grows_seldom(rt: HostRuntime) {
     let bytes = different();
@@ -125,6 +127,6 @@ fn a_vector_grows_seldom(rt: HostRuntime) {
         let (code, digest) = case(&bytes, len);
         let m = Multihash::wrap(code.0, digest).expect(&rt, "it fits");
         let growths = count_growths(&rt, rt.alloc(), &m);
-        assert!(rt; growths < 25, "{len} bytes: {growths}");
+        assert!(rt; growths < 60, "{len} bytes: {growths}");
     }
 }
