@@ -159,7 +159,7 @@ def of_crate(top):
     text = "\n".join(files.values())
     structs = crate_structs(text)
     # A varint has this many bytes at most. A size that is not refused has two.
-    varint = int(whole(r".*\nmost_marked = (\d+)\n.*", read(os.path.join(top, VARINT)))[1]) + 1
+    varint = int(whole(r".*\nmax_marked = (\d+)\n.*", read(os.path.join(top, VARINT)))[1]) + 1
     lengths = {"DIGEST_MAX": 255, "HEAD_MAX": 2 * varint, "LENGTH_MAX": varint + 2 + 255, "SCALE_LENGTH_MAX": 9 + 255}
     return {
         "types": {"multihash_status": "uint32_t"},
