@@ -92,7 +92,7 @@ needs_copies_alone() {
   local needed
   needed=$(nm --undefined-only -f posix "$1" | awk '!/:$/ && NF { print $1 }' | sort -u | tr '\n' ' ')
   echo "needs: $needed"
-  [ "$needed" = "memcpy memmove memset " ]
+  [ "$needed" = "memcpy memset " ]
 }
 
 # None of its sections can be written, so it keeps no state.

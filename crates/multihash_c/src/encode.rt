@@ -1,8 +1,9 @@
 //! Encoding, for C.
-ghost use Rattle.std.specs.Prelude.{◌≡◌, ◌<◌, ◌≤◌, ℕ, List, ◌++◌, length, drop};
+ghost use Rattle.std.specs.Prelude.{◌≡◌, ◌+◌, ◌<◌, ◌≤◌, ℕ, List, ◌++◌, length, drop};
 ghost use Rattle.multihash.specs.Varint.{varint_limit};
 ghost use Rattle.multihash.specs.Encoding.{IsEncoding};
 ghost use Rattle.multihash.specs.Scale.{IsScale};
+ghost use Rattle.multihash.specs.Filling.{Fills};
 ghost use Rattle.multihash_c.specs.Encoded.{IsTooLong, IsLargeCode, TellsLength, Puts};
 
 use crate::encoded::{self, Encoded};
@@ -85,7 +86,7 @@ fn put_encoding(code: u64, digest: &[u8], places: &mut [u8])
     let mut writer = SliceWriter::new(places);
     varint::write(code, &mut writer).unwrap();
     varint::write(digest.len() as u64, &mut writer).unwrap();
-    writer.write_all(digest).unwrap();
+    write_digest(digest, &mut writer);
 }
 
 // Puts the SCALE form of a code and a digest at the front of places that have room for it.
@@ -99,5 +100,38 @@ fn put_scale_form(code: u64, digest: &[u8], places: &mut [u8])
     let mut writer = SliceWriter::new(places);
     writer.write_all(&code.to_le_bytes()).unwrap();
     writer.write_all(&[digest.len() as u8]).unwrap();
-    writer.write_all(digest).unwrap();
+    write_digest(digest, &mut writer);
+}
+
+// Appends a digest, for which enough places are left.
+#[inline(always)]
+fn write_digest(digest: &[u8], writer: &mut SliceWriter<'_>)
+    requires { writer.old.filled + length digest.now ≤ length writer.old.places.now }
+    ensures { Fills writer.old digest.now writer.new }
+{
+    put_digest(digest, &mut writer.places[writer.filled..]);
+    writer.filled += digest.len();
+}
+
+// Puts a digest at the front of places that have room for it. The usual length is copied as a whole.
+#[inline(always)]
+fn put_digest(digest: &[u8], places: &mut [u8])
+    requires { length digest.now ≤ length places.old }
+    ensures { places.new ≡ digest.now ++ drop (length digest.now) places.old }
+{
+    match digest.as_array::<32>() {
+        Some(whole) => *places.first_chunk_mut().unwrap() = *whole,
+        None => put_each(digest, places),
+    }
+}
+
+// Puts bytes at the front of places that have room for them, one by one: a copy of a whole slice would be a
+// call of `memmove`, since the compiler can't know that the caller's bytes and places do not overlap.
+fn put_each(bytes: &[u8], places: &mut [u8])
+    requires { length bytes.now ≤ length places.old }
+    ensures { places.new ≡ bytes.now ++ drop (length bytes.now) places.old }
+{
+    for (i, byte) in bytes.iter().enumerate() {
+        places[i] = *byte;
+    }
 }

@@ -24,8 +24,8 @@ unwrap-requires-2 c =
     varint_has_room (length c.args.digest.now) c.write.new.w c.write-2.new.w c.write-2.result c.write-2.ensures.err (omega (arith, c.requires.short))
     (λ b is_size. omega (arith, fit, made.empty, ap length made.kept, first.fills.count, kept, parts_long p bytes a b e is_code is_size))
 
-pub unwrap-requires-3 : goal.unwrap-requires-3
-unwrap-requires-3 c =
+pub write_digest-requires : goal.write_digest-requires
+write_digest-requires c =
     let p : Pair = record { code = c.args.code; digest = c.args.digest.now } in
     let (bytes, e, fit) = c.requires.fits in
     let made = c.new-writer.ensures in
@@ -33,8 +33,7 @@ unwrap-requires-3 c =
     let (b, is_size, _, second, _) = of_ok _ _ _ c.unwrap-2.ensures c.write-2.ensures.ok in
     let kept = filled_length _ a _ _ _ first.fills in
     let kept_too = filled_length _ b _ _ _ second.fills in
-    c.write_all.ensures.fits.1
-    (omega (arith, fit, made.empty, ap length made.kept, first.fills.count, kept, second.fills.count, kept_too, parts_long p bytes a b e is_code is_size))
+    omega (arith, fit, made.empty, ap length made.kept, first.fills.count, kept, second.fills.count, kept_too, parts_long p bytes a b e is_code is_size)
 
 pub returns : goal.returns
 returns c =
@@ -42,11 +41,10 @@ returns c =
     let made = c.new-writer.ensures in
     let (a, is_code, _, first, _) = of_ok _ _ _ c.unwrap.ensures c.write.ensures.ok in
     let (b, is_size, _, second, _) = of_ok _ _ _ c.unwrap-2.ensures c.write-2.ensures.ok in
-    let third = of_ok _ _ _ c.unwrap-3.ensures c.write_all.ensures.laws.ok in
     let digest = c.args.digest.now in
-    let whole = Fills-joined _ _ _ a (b ++ digest) first (Fills-joined _ _ _ b digest second third) in
+    let whole = Fills-joined _ _ _ a (b ++ digest) first (Fills-joined _ _ _ b digest second c.write_digest.ensures) in
     let bytes : List ℕ = a ++ (b ++ digest) in
-    let same : c.write_all.new.self.places.ghost_name ≡ c.new-writer.result.places.ghost_name = whole.same_slice in
-    let stands : c.write_all.new.self.places.now ≡ bytes ++ drop (length bytes) c.args.places.now =
-    stands_at_front c.args.places.now c.new-writer.result c.write_all.new.self bytes made.empty made.kept whole in
+    let same : c.write_digest.new.writer.places.ghost_name ≡ c.new-writer.result.places.ghost_name = whole.same_slice in
+    let stands : c.write_digest.new.writer.places.now ≡ bytes ++ drop (length bytes) c.args.places.now =
+    stands_at_front c.args.places.now c.new-writer.result c.write_digest.new.writer bytes made.empty made.kept whole in
     (bytes, encoding_of p c.args.code (length digest) digest a b refl refl refl is_code is_size, search rules)

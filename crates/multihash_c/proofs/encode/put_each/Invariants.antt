@@ -1,0 +1,8 @@
+-- The bytes so far stand at the front, and behind them the places as they were.
+use Rattle.std.proofs.Common.{◌≡◌, ◌++◌, take, drop}
+use Rattle.multihash_c.proofs.encode.put_each.Given as goal
+
+abbrev pub invariant-loop-i : goal.invariant-loop-i
+invariant-loop-i l = record {
+  front : l.places ≡ take l.i l.bytes ++ drop l.i l.initial.places;
+}
