@@ -1,7 +1,3 @@
-use Rattle.std.proofs.Common.{◌≡◌, Some, List, ℕ}
-use Rattle.serde_json.specs.Data.{Data}
-use Rattle.serde_json.specs.Read.{read}
-use Rattle.multihash.specs.Json.{IsJsonList}
 use Rattle.multihash.specs.Answer.{pair_of}
 use Rattle.multihash.proofs.Forms.JsonTextLemmas.{text_lists_one}
 use Rattle.uses.proofs.json_text.text_back.Goals as goal

@@ -1,7 +1,6 @@
-use Rattle.std.proofs.Common.{◌<◌, ◌+◌, length, map, refl, rules}
-use Rattle.multihash.specs.Answer.{pair_of}
-use Rattle.multihash.proofs.Forms.RecoveryLemmas.{ReadsOn, one_more_pair, one_more_refused, ended_early, read_through}
-use Rattle.uses.specs.Recovery.{Recovers, ended, good, refused, cut}
+use Rattle.std.proofs.Common.{refl, rules}
+use Rattle.multihash.proofs.Forms.RecoveryLemmas.{one_more_pair, one_more_refused, ended_early, read_through}
+use Rattle.uses.specs.Recovery.{ended, good, refused, cut}
 use Rattle.uses.proofs.recovery.recover.Goals as goal
 
 pub loop-left-preserved-in-Continue-1 : goal.loop-left-preserved-in-Continue-1
