@@ -1,5 +1,5 @@
 -- What callers conclude from the contracts of several calls.
-use Rattle.std.proofs.Common.{Vec, Global, length-append, ◌≡◌, ℕ, ◌<◌, ◌≤◌, ◌-◌, ◌⊎◌, IfOk, IfErr, OnOk, OnErr, inl, inr, length-drop, List, [], ◌∷◌, ◌++◌, length, map, Bool, true, false, IsTrue, ◌↔◌, Option, None, Some, Result, Ok, Err, MatchResult, IfSome, refl, sym, ap, ◌∙◌, subst, arith, append_assoc}
+use Rattle.std.proofs.Common.{Vec, Global, length-append, ◌≡◌, ℕ, ◌<◌, ◌≤◌, ◌-◌, ◌⊎◌, IfOk, IfErr, OnOk, OnErr, IsOk, inl, inr, length-drop, List, [], ◌∷◌, ◌++◌, length, map, Bool, true, false, IsTrue, ◌↔◌, Option, None, Some, Result, Ok, Err, MatchResult, IfSome, refl, sym, ap, ◌∙◌, subst, arith, append_assoc}
 use Rattle.std.specs.List.{All}
 use Rattle.std.specs.Result.{is_ok}
 use Rattle.std.proofs.lemmas.List.{length-map}
@@ -18,12 +18,15 @@ use Rattle.multihash.specs.Fault.{Fault, IsOwnFault, IsUnexpectedEof}
 use Rattle.multihash.specs.Reading.{Takes, CountsReader, HasFewerThan}
 use Rattle.multihash.specs.Scale.{IsScale, HasScaleVerdict}
 use Rattle.multihash.specs.Places.{GivesUpFor}
+use Rattle.multihash.specs.Filling.{Fills, IsFilled}
+use Rattle.multihash.specs.declared.no_std_io.slice_writer.SliceWriter.{SliceWriter}
 use Rattle.multihash.specs.Writing.{AppendsPart, CountsWriter}
 use Rattle.multihash.specs.Refusal.{Refusal, IsIo, IsMemory}
 use Rattle.multihash.specs.Streams.{TakesPairs, StopsAfterPairs}
 use Rattle.multihash.specs.Answer.{Fields, pair_of, IsRefusal, Answers}
 use Rattle.multihash.proofs.Writings.PlacesLemmas.{fewer_places, full_of_faults}
 use Rattle.multihash.proofs.Readings.ReadingLemmas.{Takes-cut, Takes-told}
+use Rattle.multihash.proofs.Writings.FillingLemmas.{slice_writer_has_room}
 use Rattle.multihash.proofs.Writings.WritingLemmas.{length_of_not_nil}
 use Rattle.multihash.proofs.Values.PairLemmas.{IsSame-refl, IsSame-equal}
 use Rattle.multihash.proofs.Readings.VerdictLemmas.{same_cut, same_number, encoding_same, encoding_unique, verdict_unique, whole_verdict_unique}
@@ -111,6 +114,17 @@ module _ {W : Type 0} (appended : W → List ℕ → W → Type 0) (a b : W) (Is
         omega (arith, fewer, ap length none),
       )
 
+-- `write` succeeds through a slice's writer that is new, where the slice has as many places as `encoded_len` says: the
+-- facts are the clauses of `encoded_len` and of `SliceWriter::new`, and `err` and `faults` of `write`
+pub write_of_encoded_len : {T : Type 0} {places : List ℕ} (old new : SliceWriter) (p : Pair) (len : ℕ) (r : Result T Refusal)
+    → (bytes : List ℕ) × IsEncoding p bytes × (len ≡ length bytes) → len ≤ length places
+    → old.filled ≡ 0 → old.places.now ≡ places
+    → OnErr r ((bytes : List ℕ) × IsEncoding p bytes × AppendsPart Fills old bytes new)
+    → CountsWriter IsIo false 0 0 (IsFilled new) r → IsOk r
+write_of_encoded_len old new p len r (own, is_own, long) room empty kept stopped faults =
+    slice_writer_has_room old new (IsEncoding p) r stopped faults
+    (λ bytes is_form. omega (arith, room, long, empty, ap length kept, ap length (encoding_same p own bytes is_own is_form)))
+
 -- decoding a pair's SCALE form and more gives the pair and leaves what follows
 pub scale_pair : (S : ℕ) (p q : Pair) (input bytes taken more left : List ℕ) (v : Verdict) → input ≡ bytes ++ more → IsScale p bytes
     → FitsBuffer S p → HasScaleVerdict S input v → v ≡ accepted q → IsScale q taken → input ≡ taken ++ left → (q ≡ p) × (left ≡ more)
@@ -138,14 +152,24 @@ read_of_encoding S before after old new p bytes more (Err e) encodes fits rest s
     let own : HasVerdict S (bytes ++ more) (accepted p) = (more, record { encoding = bytes; encodes = encodes; cut = refl }, fits) in
     subst (IsRefusal e) (verdict_unique S (bytes ++ more) found.0 (accepted p) found.1 own) found.2
 
+-- bytes that `from_bytes` refuses are the encoding of no pair that fits: the first fact is its clause
+pub refused_no_encoding : (S : ℕ) {e : Refusal} {bytes : List ℕ} → (v : Verdict) × HasWholeVerdict S bytes v × IsRefusal e v
+    → (p : Pair) → IsEncoding p bytes → FitsBuffer S p → ⊥
+refused_no_encoding S {e = e} {bytes = bytes} (v, h, names) p encodes fits =
+    subst (IsRefusal e) (whole_verdict_unique S bytes v (accepted p) h (encodes, fits)) names
+
+-- bytes that `from_bytes` accepts are the encoding of the pair that it answers, and of no other
+pub accepted_encoding : (S : ℕ) {q : Pair} {bytes : List ℕ} → (v : Verdict) × HasWholeVerdict S bytes v × (v ≡ accepted q)
+    → IsEncoding q bytes × ((p : Pair) → IsEncoding p bytes → q ≡ p)
+accepted_encoding S {q = q} {bytes = bytes} (v, h, answers) =
+    let own = (subst (HasWholeVerdict S bytes) answers h).0 in
+    (own, λ p encodes. (encoding_unique q p bytes bytes [] [] own encodes refl).0)
+
 -- the verdict on a pair's encoding is the pair
 pub from_bytes_of_encoding : (S : ℕ) (p : Pair) (bytes : List ℕ) (r : Result (Fields S) Refusal) (v : Verdict) → HasWholeVerdict S bytes v → Answers r v
     → IsEncoding p bytes → FitsBuffer S p → MatchResult r (λ m. pair_of m ≡ p) IsMemory
-from_bytes_of_encoding S p bytes (Ok m) v h answers encodes fits =
-    let same : accepted (pair_of m) ≡ accepted p = sym answers ∙ whole_verdict_unique S bytes v (accepted p) h (encodes, fits) in
-    cc
-from_bytes_of_encoding S p bytes (Err e) v h answers encodes fits =
-    absurd (subst (IsRefusal e) (whole_verdict_unique S bytes v (accepted p) h (encodes, fits)) answers)
+from_bytes_of_encoding S p bytes (Ok m) v h answers encodes fits = (accepted_encoding S (v, h, answers)).1 p encodes
+from_bytes_of_encoding S p bytes (Err e) v h answers encodes fits = absurd (refused_no_encoding S (v, h, answers) p encodes fits)
 
 -- reading took something where its verdict is no early end
 pub takes_some : (S : ℕ) (old new : List ℕ) → TakesShortestSettling S old (Some new) → length new < length old

@@ -9,9 +9,9 @@ use Rattle.multihash.specs.Settling.{IsShortestSettling}
 -- shortest beginning that shows a fault; an early end is the last part
 pub data Recovers (S : ℕ) : List ℕ → List Pair → ℕ → Type 0 where
   ended : Recovers S [] [] 0
-  good : (p : Pair) (encoding : List ℕ) {rest : List ℕ} {pairs : List Pair} {count : ℕ} → IsEncoding p encoding
-      → FitsBuffer S p → Recovers S rest pairs count → Recovers S (encoding ++ rest) (p ∷ pairs) count
-  refused : (v : Verdict) (front : List ℕ) {rest : List ℕ} {pairs : List Pair} {count : ℕ}
+  good : (p : Pair) (encoding rest : List ℕ) (pairs : List Pair) (count : ℕ)
+      → IsEncoding p encoding → FitsBuffer S p → Recovers S rest pairs count → Recovers S (encoding ++ rest) (p ∷ pairs) count
+  refused : (v : Verdict) (front rest : List ℕ) (pairs : List Pair) (count : ℕ)
       → HasVerdict S (front ++ rest) v → ¬ (IsEarlyEnd v) → IsShortestSettling S (front ++ rest) front
       → Recovers S rest pairs count → Recovers S (front ++ rest) pairs (count + 1)
-  cut : (v : Verdict) {input : List ℕ} → HasVerdict S input v → IsEarlyEnd v → Recovers S input [] 1
+  cut : (v : Verdict) (input : List ℕ) → HasVerdict S input v → IsEarlyEnd v → Recovers S input [] 1

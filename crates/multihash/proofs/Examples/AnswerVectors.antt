@@ -1,5 +1,5 @@
 -- What answers a verdict, and what is known of every value.
-use Rattle.std.proofs.Common.{◌≡◌, ℕ, List, length, refl, ap, arith}
+use Rattle.std.proofs.Common.{◌≡◌, ℕ, ◌+◌, List, length, refl, ap, arith}
 use Rattle.std.specs.Prelude.{codes, Ok, Err}
 use Rattle.multihash.specs.declared.no_std_io.error.Kind.TheVariants.{UnexpectedEof, Other}
 use Rattle.multihash.specs.Pair.{Pair}
@@ -9,6 +9,7 @@ use Rattle.multihash.specs.Refusal.{Refusal, of_io, of_size, of_code, of_varint}
 use Rattle.multihash.specs.Verdict.{accepted, invalid_size, invalid_code, faulty, unexpected_eof}
 use Rattle.multihash.specs.Answer.{Fields, pair_of, Answers}
 use Rattle.multihash.proofs.Examples.PairVectors.{pair}
+use Rattle.multihash.proofs.Examples.VarintVectors.{largest, too_large}
 use Rattle.multihash.proofs.Examples.FaultVectors.{eof}
 use Rattle.multihash.proofs.Examples.RefusalVectors.{size_in, code_in}
 
@@ -35,7 +36,7 @@ no_refusal_answers_pair : (e : Refusal) (p : Pair) → ¬ (Answers {S = 4} (Err 
 no_refusal_answers_pair e p h = h
 
 answers_no_other_number : ¬ (Answers {S = 4} (Err (of_size 6)) (invalid_size 5))
-    × ¬ (Answers {S = 4} (Err (of_code 9223372036854775808)) (invalid_code 9223372036854775809))
+    × ¬ (Answers {S = 4} (Err (of_code too_large)) (invalid_code (too_large + 1)))
 answers_no_other_number = ((λ h. omega (arith, ap size_in h)), λ h. omega (arith, ap code_in h))
 
 -- a size is no code, one fault is no other, and the end inside a digest is none inside a varint
@@ -56,9 +57,9 @@ alone n f e = ((λ h. h), (λ h. h), (λ h. h), λ h. h)
 -- ---- every value, also one that nothing has read: its code is in range, and its digest fits
 
 largest_code : Fields 4
-largest_code = record { code = 9223372036854775807; size = 2; buffer = codes "abcd"; in_range = omega arith; fits = omega arith }
+largest_code = record { code = largest; size = 2; buffer = codes "abcd"; in_range = omega arith; fits = omega arith }
 
-no_value_of_larger_code : (m : Fields 4) → ¬ (m.code ≡ 9223372036854775808)
+no_value_of_larger_code : (m : Fields 4) → ¬ (m.code ≡ too_large)
 no_value_of_larger_code m e = omega (arith, m.in_range, e)
 
 no_value_past_its_buffer : (m : Fields 4) → ¬ (m.size ≡ 5)

@@ -4,6 +4,7 @@ use Rattle.std.specs.Prelude.{codes}
 use Rattle.std.proofs.lemmas.List.Elements.{All-head}
 use Rattle.multihash.specs.Pair.{Pair, IsPair, IsSame, digest_limit, FitsBuffer, truncated}
 use Rattle.multihash.proofs.Examples.BytesVectors.{all_below}
+use Rattle.multihash.proofs.Examples.VarintVectors.{largest, too_large}
 
 abbrev pub pair : ℕ → List ℕ → Pair
 pair code digest = record { code = code; digest = digest }
@@ -11,10 +12,10 @@ pair code digest = record { code = code; digest = digest }
 limits : (digest_limit 0 ≡ 0) × (digest_limit 64 ≡ 64) × (digest_limit 255 ≡ 255) × (digest_limit 300 ≡ 255)
 limits = (refl, refl, refl, refl)
 
-largest_code : IsPair (pair 9223372036854775807 (0 ∷ 255 ∷ []))
+largest_code : IsPair (pair largest (0 ∷ 255 ∷ []))
 largest_code = record { code = omega arith; digest = all_below 256 (0 ∷ 255 ∷ []) refl }
 
-no_larger_code : (digest : List ℕ) → ¬ (IsPair (pair 9223372036854775808 digest))
+no_larger_code : (digest : List ℕ) → ¬ (IsPair (pair too_large digest))
 no_larger_code digest h = omega (arith, h.code)
 
 no_digest_of_256 : (code : ℕ) → ¬ (IsPair (pair code (256 ∷ [])))

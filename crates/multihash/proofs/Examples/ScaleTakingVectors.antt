@@ -14,6 +14,7 @@ use Rattle.multihash.proofs.Examples.ReadingVectors.{taken_is}
 use Rattle.multihash.proofs.Examples.TakingVectors.{gives_none_back}
 use Rattle.multihash.proofs.Examples.VerdictVectors.{size_named, code_named}
 use Rattle.multihash.proofs.Examples.PairVectors.{pair}
+use Rattle.multihash.proofs.Examples.VarintVectors.{largest, too_large}
 use Rattle.multihash.proofs.Examples.ScaleVectors.{zeros, all_255, scale_code_above, scale_eight_bytes, scale_cut, scale_size_first, scale_empty_digest_of_4}
 
 -- ---- refusals
@@ -22,7 +23,7 @@ use Rattle.multihash.proofs.Examples.ScaleVectors.{zeros, all_255, scale_code_ab
 abbrev DecodingRefuses : Refusal → Type 0
 DecodingRefuses (of_io fault) = IsUnexpectedEof fault
 DecodingRefuses (of_size size) = 4 < size
-DecodingRefuses (of_code code) = 9223372036854775807 < code
+DecodingRefuses (of_code code) = largest < code
 DecodingRefuses (of_varint f) = ⊥
 DecodingRefuses of_not_bytes = ⊥
 
@@ -119,12 +120,12 @@ takes_no_other_size : ¬ (TakesAtScaleRefusal 4 (of_size 6) (Some (zeros ++ 5 �
 takes_no_other_size h =
     omega (arith, ap size_named (claimed (zeros ++ 5 ∷ []) h.taken (invalid_size 6) (invalid_size 5) h.takes (h.size 6 refl).0 scale_size_first))
 
-takes_no_other_code : ¬ (TakesAtScaleRefusal 4 (of_code 9223372036854775808) (Some all_255) (Some []))
+takes_no_other_code : ¬ (TakesAtScaleRefusal 4 (of_code too_large) (Some all_255) (Some []))
 takes_no_other_code h =
     omega (
       arith,
-      ap code_named (claimed all_255 h.taken (invalid_code 9223372036854775808) (invalid_code 18446744073709551615) h.takes
-          (h.code 9223372036854775808 refl).0 (scale_code_above [])),
+      ap code_named (claimed all_255 h.taken (invalid_code too_large) (invalid_code 18446744073709551615) h.takes
+          (h.code too_large refl).0 (scale_code_above [])),
     )
 
 -- no end where a pair is whole, and none behind a code that is refused

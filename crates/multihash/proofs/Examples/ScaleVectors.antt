@@ -1,15 +1,17 @@
 -- The SCALE form of known pairs, and the verdicts on known inputs. An input has no verdict but the one that is
 -- computed (`scale_verdict_is`), so a row says both what holds and what does not.
-use Rattle.std.proofs.Common.{◌≡◌, ℕ, List, [], ◌∷◌, ◌<◌, ◌++◌, ltb, true, length, replicate, refl, sym, subst, ap, ◌∙◌, arith, length-append}
+use Rattle.std.proofs.Common.{◌≡◌, ℕ, List, [], ◌∷◌, ◌<◌, ◌++◌, ltb, true, length, replicate, refl, sym, subst, ap, ◌∙◌, arith, length-append, ◌-◌, ◌/◌, ◌^◌}
 use Rattle.std.specs.Prelude.{codes, ◌↔◌}
 use Rattle.std.specs.List.{list_all}
 use Rattle.std.proofs.lemmas.List.Elements.{All-head}
 use Rattle.multihash.specs.Bytes.{place_value}
+use Rattle.multihash.specs.Varint.{varint_limit}
 use Rattle.multihash.specs.Pair.{Pair}
 use Rattle.multihash.specs.Verdict.{Verdict, accepted, invalid_size, invalid_code, unexpected_eof}
 use Rattle.multihash.specs.Scale.{IsScaleCode, IsScale, HasScaleSize, HasScaleVerdict}
 use Rattle.multihash.proofs.Examples.BytesVectors.{all_below}
 use Rattle.multihash.proofs.Examples.PairVectors.{pair}
+use Rattle.multihash.proofs.Examples.VarintVectors.{largest, too_large}
 use Rattle.multihash.proofs.Readings.VerdictLemmas.{same_cut}
 use Rattle.multihash.proofs.Forms.ScaleLemmas.{scale_found, scale_verdict_is, has_scale_found}
 
@@ -19,12 +21,12 @@ zeros = 0 ∷ 0 ∷ 0 ∷ 0 ∷ 0 ∷ 0 ∷ 0 ∷ 0 ∷ []
 abbrev pub all_255 : List ℕ
 all_255 = 255 ∷ 255 ∷ 255 ∷ 255 ∷ 255 ∷ 255 ∷ 255 ∷ 255 ∷ []
 
--- 2^63 - 1, the largest code, and 2^63, the first that is refused
-abbrev largest : List ℕ
-largest = 255 ∷ 255 ∷ 255 ∷ 255 ∷ 255 ∷ 255 ∷ 255 ∷ 127 ∷ []
+-- the largest code, and the first that is refused
+abbrev largest_code : List ℕ
+largest_code = replicate 7 255 ++ (varint_limit / 2 ^ 56 - 1) ∷ []
 
-abbrev two_63 : List ℕ
-two_63 = 0 ∷ 0 ∷ 0 ∷ 0 ∷ 0 ∷ 0 ∷ 0 ∷ 128 ∷ []
+abbrev refused_code : List ℕ
+refused_code = replicate 7 0 ++ (varint_limit / 2 ^ 56) ∷ []
 
 -- ---- the verdicts
 
@@ -61,10 +63,10 @@ table =
     row 4 (zeros ++ 5 ∷ 0xaa ∷ 0xbb ∷ []) (invalid_size 5) refl refl ∷
     row 4 (zeros ++ 5 ∷ 1 ∷ 2 ∷ 3 ∷ 4 ∷ 5 ∷ []) (invalid_size 5) refl refl ∷
     -- a code that is too large is refused at its eighth byte, and its size is neither waited for nor looked at
-    row 4 (largest ++ 0 ∷ []) (accepted (pair 9223372036854775807 [])) refl refl ∷
-    row 4 largest unexpected_eof refl refl ∷
-    row 4 two_63 (invalid_code 9223372036854775808) refl refl ∷
-    row 4 (two_63 ++ 0 ∷ []) (invalid_code 9223372036854775808) refl refl ∷
+    row 4 (largest_code ++ 0 ∷ []) (accepted (pair largest [])) refl refl ∷
+    row 4 largest_code unexpected_eof refl refl ∷
+    row 4 refused_code (invalid_code too_large) refl refl ∷
+    row 4 (refused_code ++ 0 ∷ []) (invalid_code too_large) refl refl ∷
     row 4 all_255 (invalid_code 18446744073709551615) refl refl ∷
     row 4 (all_255 ++ 5 ∷ []) (invalid_code 18446744073709551615) refl refl ∷
     []
@@ -110,7 +112,7 @@ zero_code = record { eight = refl; are_bytes = all_below 256 zeros refl; value =
 no_scale_of_256 : (p : Pair) (bytes : List ℕ) → length p.digest ≡ 256 → ¬ (IsScale p bytes)
 no_scale_of_256 p bytes size h = omega (arith, h.size)
 
-no_scale_of_larger_code : (digest bytes : List ℕ) → ¬ (IsScale (pair 9223372036854775808 digest) bytes)
+no_scale_of_larger_code : (digest bytes : List ℕ) → ¬ (IsScale (pair too_large digest) bytes)
 no_scale_of_larger_code digest bytes h = omega (arith, h.in_range)
 
 no_scale_size_behind_larger_code : (size : ℕ) (rest : List ℕ) → ¬ (HasScaleSize size (all_255 ++ 0 ∷ []) rest)

@@ -1,6 +1,6 @@
 -- Varints of known numbers, and what begins known inputs. An input begins with nothing but what is computed
 -- (`front_is`), so a row says both what holds and what does not.
-use Rattle.std.proofs.Common.{◌≡◌, ◌<◌, ℕ, ltb, Bool, true, List, [], ◌∷◌, ◌++◌, length, refl, sym, subst, ap, ◌∙◌, arith, append-nil, get_or, replicate, ◌-◌}
+use Rattle.std.proofs.Common.{◌≡◌, ◌<◌, ℕ, ltb, Bool, true, List, [], ◌∷◌, ◌++◌, length, refl, sym, subst, ap, ◌∙◌, arith, append-nil, get_or, replicate, ◌+◌, ◌-◌, ◌*◌, ◌^◌}
 use Rattle.std.specs.Prelude.{◌↔◌}
 use Rattle.std.specs.List.{All, list_all}
 use Rattle.std.proofs.lemmas.Bool.{ltb-true, and_parts}
@@ -87,9 +87,20 @@ pub varint_72057594037927936 : IsVarint 72057594037927936 (0x80 ∷ 0x80 ∷ 0x8
 unfolding place_value ends_well
 varint_72057594037927936 = varint_of (0x00 ∷ 0x00 ∷ 0x00 ∷ 0x00 ∷ 0x00 ∷ 0x00 ∷ 0x00 ∷ 0x00 ∷ []) 0x01 72057594037927936 refl refl refl refl
 
-pub varint_9223372036854775807 : IsVarint 9223372036854775807 (0xff ∷ 0xff ∷ 0xff ∷ 0xff ∷ 0xff ∷ 0xff ∷ 0xff ∷ 0xff ∷ 0x7f ∷ [])
+-- the largest number that has a varint, its bytes, and the first number that has none: a change of the bound changes
+-- the first two, and no other example
+abbrev pub largest : ℕ
+largest = 9223372036854775807
+
+abbrev pub largest_bytes : List ℕ
+largest_bytes = 0xff ∷ 0xff ∷ 0xff ∷ 0xff ∷ 0xff ∷ 0xff ∷ 0xff ∷ 0xff ∷ 0x7f ∷ []
+
+abbrev pub too_large : ℕ
+too_large = largest + 1
+
+pub varint_largest : IsVarint largest largest_bytes
 unfolding place_value ends_well
-varint_9223372036854775807 = varint_of (0x7f ∷ 0x7f ∷ 0x7f ∷ 0x7f ∷ 0x7f ∷ 0x7f ∷ 0x7f ∷ 0x7f ∷ []) 0x7f 9223372036854775807 refl refl refl refl
+varint_largest = varint_of (replicate max_marked 0x7f) (last_byte_limit - 1) largest refl refl refl refl
 
 -- bytes that are a varint of one number are none of another
 pub not_another : (m n : ℕ) (bytes : List ℕ) → IsVarint n bytes → (m ≡ n → ⊥) → ¬ (IsVarint m bytes)
@@ -131,8 +142,9 @@ numbers =
     row (0xff ∷ 0xff ∷ 0x7f ∷ []) (number 2097151 []) refl refl ∷
     row (0x80 ∷ 0x80 ∷ 0x80 ∷ 0x01 ∷ []) (number 2097152 []) refl refl ∷
     -- the largest number, whose last byte is the one before the first that is too large
-    row (most_255 ++ (last_byte_limit - 1) ∷ []) (number 9223372036854775807 []) refl refl ∷
-    row (most ++ (last_byte_limit - 1) ∷ []) (number 9151314442816847872 []) refl refl ∷
+    row (most_255 ++ (last_byte_limit - 1) ∷ []) (number largest []) refl refl ∷
+    row largest_bytes (number largest []) refl refl ∷
+    row (most ++ (last_byte_limit - 1) ∷ []) (number ((last_byte_limit - 1) * 2 ^ (7 * max_marked)) []) refl refl ∷
     -- what follows a whole varint does not belong to it
     row (0x01 ∷ 0x01 ∷ []) (number 1 (0x01 ∷ [])) refl refl ∷
     row (0x01 ∷ 0x00 ∷ []) (number 1 (0x00 ∷ [])) refl refl ∷
@@ -146,7 +158,7 @@ faults =
     row [] (fault insufficient) refl refl ∷
     row (0x80 ∷ []) (fault insufficient) refl refl ∷
     row most (fault insufficient) refl refl ∷
-    -- a ninth byte that is too large is enough, whatever follows
+    -- a byte that is too large, behind the most marked ones, is enough, whatever follows
     row (most ++ last_byte_limit ∷ []) (fault overflow) refl refl ∷
     row (most ++ 0x80 ∷ 0x01 ∷ []) (fault overflow) refl refl ∷
     row (most ++ 0x80 ∷ 0x00 ∷ []) (fault overflow) refl refl ∷
@@ -160,8 +172,8 @@ faults =
 -- ---- what no row says
 
 -- the first number that has no varint
-no_varint_of_9223372036854775808 : (bytes : List ℕ) → ¬ (IsVarint 9223372036854775808 bytes)
-no_varint_of_9223372036854775808 bytes v = omega (arith, v.in_range)
+no_varint_of_too_large : (bytes : List ℕ) → ¬ (IsVarint too_large bytes)
+no_varint_of_too_large bytes v = omega (arith, v.in_range)
 
 marked_from_128 : IsMarked 128
 marked_from_128 = omega arith

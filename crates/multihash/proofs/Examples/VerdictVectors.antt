@@ -8,7 +8,7 @@ use Rattle.multihash.specs.Pair.{Pair}
 use Rattle.multihash.specs.Varint.{insufficient, overflow, not_minimal}
 use Rattle.multihash.specs.Verdict.{Verdict, accepted, invalid_size, invalid_code, faulty, unexpected_eof, BeginsWith, HasSize, HasVerdict, HasLeftOver, HasWholeVerdict, IsEarlyEnd}
 use Rattle.multihash.proofs.Examples.BytesVectors.{all_below}
-use Rattle.multihash.proofs.Examples.VarintVectors.{all_marked, varint_0, varint_1, varint_4, varint_5, varint_72057594037927936}
+use Rattle.multihash.proofs.Examples.VarintVectors.{all_marked, largest, largest_bytes, varint_0, varint_1, varint_4, varint_5, varint_72057594037927936}
 use Rattle.multihash.proofs.Examples.PairVectors.{pair}
 use Rattle.multihash.proofs.Readings.VerdictLemmas.{found, verdict_is, has_found}
 
@@ -86,8 +86,8 @@ table =
     row 4 (eight ++ 0x00 ∷ 0x00 ∷ []) (faulty not_minimal) refl refl ∷
     row 4 (eight ++ 0x01 ∷ []) (faulty insufficient) refl refl ∷
     row 4 (eight ++ 0x01 ∷ 0x00 ∷ []) (accepted (pair 72057594037927936 [])) refl refl ∷
-    row 4 (0xff ∷ 0xff ∷ 0xff ∷ 0xff ∷ 0xff ∷ 0xff ∷ 0xff ∷ 0xff ∷ 0x7f ∷ 0x00 ∷ []) (accepted (pair 9223372036854775807 [])) refl refl ∷
-    row 4 (0x00 ∷ 0xff ∷ 0xff ∷ 0xff ∷ 0xff ∷ 0xff ∷ 0xff ∷ 0xff ∷ 0xff ∷ 0x7f ∷ []) (invalid_size 9223372036854775807) refl refl ∷
+    row 4 (largest_bytes ++ 0x00 ∷ []) (accepted (pair largest [])) refl refl ∷
+    row 4 (0x00 ∷ largest_bytes) (invalid_size largest) refl refl ∷
     row 4 (0x00 ∷ 0xff ∷ 0xff ∷ 0xff ∷ 0xff ∷ 0xff ∷ 0xff ∷ 0xff ∷ 0xff ∷ 0xff ∷ 0x01 ∷ []) (faulty overflow) refl refl ∷
     row 0 (0x00 ∷ 0x80 ∷ []) (faulty insufficient) refl refl ∷
     row 0 (0x00 ∷ 0x01 ∷ []) (invalid_size 1) refl refl ∷
