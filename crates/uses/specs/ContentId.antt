@@ -85,8 +85,8 @@ pub record TakesOtherVersion (n : ℕ) (old new : Option (List ℕ)) : Type 0 wh
   pub shows : BeginsOtherwise n taken
   pub no_sooner : (shorter : List ℕ) → IsProperBeginning shorter taken → ¬ (BeginsOtherwise n shorter)
 
--- the part of an identifier in which reading was refused, and what it took of that: the version, the number behind it, the multihash
--- of version 1, or the digest of version 0
+-- the part of an identifier in which reading was refused, and what it took of that: the version, the number
+-- behind it, the multihash of version 1, or the digest of version 0
 pub data StopsInContentId (S : ℕ) (e : Refusal) (old new : Option (List ℕ)) : Type 0 where
   in_version : IsVarintRefusal e ⊎ IsReaderFault e → TakesAtVarintRefusal e old new → StopsInContentId S e old new
   in_number : (version : ℕ) (middle : Option (List ℕ)) → (version ≡ 1) ⊎ (version ≡ 0x12) → TakesVarint version old middle
@@ -96,7 +96,8 @@ pub data StopsInContentId (S : ℕ) (e : Refusal) (old new : Option (List ℕ)) 
   in_digest : (middle behind : Option (List ℕ)) → TakesVarint 0x12 old middle → TakesVarint 32 middle behind
       → IsEof e ⊎ IsReaderFault e → TakesFewerThan 32 behind new → StopsInContentId S e old new
 
--- what reading an identifier took where it answered this error; it leaves what follows, so it tells of no bytes left over
+-- what reading an identifier took where it answered this error; what follows is left, so no bytes are told to be
+-- left over
 abbrev pub TakesAtContentIdError : ℕ → ContentIdError → Option (List ℕ) → Option (List ℕ) → Type 0
 TakesAtContentIdError S (Refused e) old new = StopsInContentId S e old new
 TakesAtContentIdError S (OtherVersion n) old new = TakesOtherVersion n old new

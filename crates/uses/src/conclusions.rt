@@ -166,8 +166,8 @@ pub fn of_listed_bytes<const S: usize>(bytes: &[u8]) -> Result<Multihash<S>, Err
     Multihash::from_bytes(bytes)
 }
 
-/// Whether two JSON values list the same multihash, each in a buffer of its own: exactly where they are the same
-/// value.
+/// Whether two JSON values list the same multihash, each in a buffer of its own: exactly where they are the
+/// same value.
 ///
 /// # Errors
 ///
@@ -191,7 +191,8 @@ pub fn put_together<const S: usize>(m: Multihash<S>) -> Multihash<S>
     Multihash::wrap(code, &array[..usize::from(size)]).unwrap()
 }
 
-/// A refusal for a reason of the caller's own, which it prints: a fault of its own, and none that the library makes.
+/// A refusal for a reason of the caller's own, which it prints: a fault of its own, and none that the library
+/// makes.
 pub fn own_refusal(reason: &'static str) -> Error
     ensures kind { IsIo IsOther result }
     ensures text { refusal_text result ≡ reason.now }
