@@ -96,8 +96,8 @@ pub data StopsInContentId (S : ℕ) (e : Refusal) (old new : Option (List ℕ)) 
   in_digest : (middle behind : Option (List ℕ)) → TakesVarint 0x12 old middle → TakesVarint 32 middle behind
       → IsEof e ⊎ IsReaderFault e → TakesFewerThan 32 behind new → StopsInContentId S e old new
 
--- what reading an identifier took where it answered this error; what follows is left, so no bytes are told to be
--- left over
+-- what reading an identifier took where it answered this error; it leaves what follows, and so tells of no
+-- bytes left over
 abbrev pub TakesAtContentIdError : ℕ → ContentIdError → Option (List ℕ) → Option (List ℕ) → Type 0
 TakesAtContentIdError S (Refused e) old new = StopsInContentId S e old new
 TakesAtContentIdError S (OtherVersion n) old new = TakesOtherVersion n old new
