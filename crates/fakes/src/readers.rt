@@ -1,19 +1,11 @@
 //! Readers that cut, fail, keep their bytes to themselves or count what they are asked.
-ghost use Rattle.std.specs.Prelude.{◌≡◌, ◌<◌, Some, None, if◌then◌else◌};
-ghost use Rattle.multihash.specs.Fault.{IsOwnFault};
+ghost use Rattle.std.specs.Prelude.{◌≡◌, ◌<◌, IsTrue, Some, None, if◌then◌else◌};
 
+use crate::failing::fault;
 use multihash::no_std_io::{Error, Read};
 
-// What the readers fail with.
-fn fault(wants_memory: bool) -> Error
-    ensures { IsOwnFault result }
-{
-    if wants_memory {
-        Error::out_of_memory()
-    } else {
-        Error::other("link down")
-    }
-}
+// The text of what the readers fail with.
+const LINK_DOWN: &str = "link down";
 
 /// A telling reader over a slice, which gives at most `most` bytes a call.
 #[derive(Drop)]
@@ -91,7 +83,7 @@ impl Read for FailAt<'_> {
             self.calls -= 1;
         } else if !self.failed {
             self.failed = true;
-            return Err(fault(self.wants_memory));
+            return Err(fault(self.wants_memory, LINK_DOWN));
         }
         self.cuts.read(buf)
     }
@@ -141,7 +133,9 @@ impl<'a> Counts<'a> {
     }
 
     /// Fails with an error of its own.
-    pub fn failing(left: &'a [u8], calls: usize) -> Self {
+    pub fn failing(left: &'a [u8], calls: usize) -> Self
+        ensures { (result.left.now ≡ left.now) × (result.calls ≡ calls) × IsTrue result.may_fail }
+    {
         Counts {
             left,
             single: 0,
@@ -154,16 +148,13 @@ impl<'a> Counts<'a> {
     }
 
     /// Fails with want of memory.
-    pub fn out_of_memory(left: &'a [u8], calls: usize) -> Self {
-        Counts {
-            left,
-            single: 0,
-            others: 0,
-            whole: 0,
-            calls,
-            wants_memory: true,
-            may_fail: true,
-        }
+    pub fn out_of_memory(left: &'a [u8], calls: usize) -> Self
+        ensures { (result.left.now ≡ left.now) × (result.calls ≡ calls) × IsTrue result.may_fail
+            × IsTrue result.wants_memory }
+    {
+        let mut counts = Counts::failing(left, calls);
+        counts.wants_memory = true;
+        counts
     }
 
     /// The calls of `read` for one byte, those for more or none, and those of `read_exact`.
@@ -187,7 +178,7 @@ impl Read for Counts<'_> {
             self.calls -= 1;
         } else if self.may_fail {
             self.may_fail = false;
-            return Err(fault(self.wants_memory));
+            return Err(fault(self.wants_memory, LINK_DOWN));
         }
         self.left.read(buf)
     }
@@ -198,7 +189,7 @@ impl Read for Counts<'_> {
             self.calls -= 1;
         } else if self.may_fail && !buf.is_empty() {
             self.may_fail = false;
-            return Err(fault(self.wants_memory));
+            return Err(fault(self.wants_memory, LINK_DOWN));
         }
         self.left.read_exact(buf)
     }

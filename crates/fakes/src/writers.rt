@@ -1,21 +1,13 @@
 //! Writers that fill up, fail or count what they are asked.
-ghost use Rattle.std.specs.Prelude.{◌≡◌, ◌<◌, ◌≤◌, ◌+◌, true, false, vec_len, vec_capacity, if◌then◌else◌};
-ghost use Rattle.multihash.specs.Fault.{IsOwnFault};
+ghost use Rattle.std.specs.Prelude.{◌≡◌, ◌<◌, ◌≤◌, ◌+◌, [], IsTrue, true, false, vec_len, vec_capacity, if◌then◌else◌};
 ghost use Rattle.multihash.specs.Places.{AppendsAtEnd, AppendsAtEnd-none, AppendsAtEnd-joined};
 
+use crate::failing::fault;
 use multihash::no_std_io::{Error, Write};
 use std::alloc::{AllocError, Global};
 
-// What the writers fail with.
-fn fault(wants_memory: bool) -> Error
-    ensures { IsOwnFault result }
-{
-    if wants_memory {
-        Error::out_of_memory()
-    } else {
-        Error::other("disk gone")
-    }
-}
+// The text of what the writers fail with.
+const DISK_GONE: &str = "disk gone";
 
 /// A writer with `room` places left, which were reserved before, and which takes at most `most`
 /// bytes a call.
@@ -126,7 +118,7 @@ impl Write for FailWrite {
             self.calls -= 1;
         } else if !self.failed {
             self.failed = true;
-            return Err(fault(self.wants_memory));
+            return Err(fault(self.wants_memory, DISK_GONE));
         }
         self.drip.write(buf)
     }
@@ -159,7 +151,9 @@ impl CountsWrites {
     }
 
     /// Fails with an error of its own.
-    pub fn failing(alloc: Global, calls: usize) -> Self {
+    pub fn failing(alloc: Global, calls: usize) -> Self
+        ensures { (result.held.items ≡ []) × (result.calls ≡ calls) × IsTrue result.may_fail }
+    {
         CountsWrites {
             held: Vec::new(alloc),
             parts: 0,
@@ -171,15 +165,13 @@ impl CountsWrites {
     }
 
     /// Fails with want of memory.
-    pub fn out_of_memory(alloc: Global, calls: usize) -> Self {
-        CountsWrites {
-            held: Vec::new(alloc),
-            parts: 0,
-            whole: 0,
-            calls,
-            wants_memory: true,
-            may_fail: true,
-        }
+    pub fn out_of_memory(alloc: Global, calls: usize) -> Self
+        ensures { (result.held.items ≡ []) × (result.calls ≡ calls) × IsTrue result.may_fail
+            × IsTrue result.wants_memory }
+    {
+        let mut counts = CountsWrites::failing(alloc, calls);
+        counts.wants_memory = true;
+        counts
     }
 }
 
@@ -205,7 +197,7 @@ impl Write for CountsWrites {
             self.calls -= 1;
         } else if self.may_fail {
             self.may_fail = false;
-            return Err(fault(self.wants_memory));
+            return Err(fault(self.wants_memory, DISK_GONE));
         }
         self.held.write(buf)
     }
@@ -216,7 +208,7 @@ impl Write for CountsWrites {
             self.calls -= 1;
         } else if self.may_fail && !buf.is_empty() {
             self.may_fail = false;
-            return Err(fault(self.wants_memory));
+            return Err(fault(self.wants_memory, DISK_GONE));
         }
         self.held.write_all(buf)
     }

@@ -1,6 +1,7 @@
 //! Shows one line of each kind of user of the library, on fixed bytes. No input and no arguments are looked at.
 #![tactic(auto)]
 
+mod laws;
 mod show;
 
 fn main(rt: HostRuntime) -> anyhow::Result<()> {

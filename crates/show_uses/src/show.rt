@@ -1,4 +1,5 @@
 //! One line for each use, on fixed bytes.
+use crate::laws;
 use anyhow::{Context, Result};
 use multihash::Multihash;
 use std::alloc::Global;
@@ -35,6 +36,7 @@ pub fn lines(alloc: Global) -> Result<String> {
     show_values(&mut lines)?;
     show_bytes(alloc, &mut lines)?;
     show_readme(alloc, &mut lines)?;
+    laws::show(alloc, &mut lines)?;
     Ok(lines)
 }
 

@@ -1,23 +1,24 @@
 -- What the laws say of what a call answered.
 use Rattle.std.proofs.Common.{◌≡◌, ℕ, ◌-◌, List, ◌++◌, length, Option, None, Some, Result, Ok, Err, IfSome, IfOk, MatchResult, sym, ap, ◌∙◌, subst, arith, length-append}
+use Rattle.serde_json.specs.Data.{Data}
 use Rattle.multihash.specs.Bytes.{ExactlyOne}
 use Rattle.multihash.specs.Pair.{Pair}
-use Rattle.multihash.specs.Verdict.{Verdict, accepted}
+use Rattle.multihash.specs.Verdict.{Verdict, accepted, HasWholeVerdict}
 use Rattle.multihash.specs.Settling.{IsShortestSettling}
 use Rattle.multihash.specs.Scale.{IsScale, HasScaleVerdict}
+use Rattle.multihash.specs.Json.{IsByteArray, IsJsonList}
 use Rattle.multihash.specs.Taking.{TakesShortestSettling}
 use Rattle.multihash.specs.Reading.{Takes}
 use Rattle.multihash.specs.Refusal.{Refusal}
 use Rattle.multihash.specs.Answer.{Fields, pair_of, IsRefusal, Answers}
 use Rattle.multihash.proofs.Readings.VerdictLemmas.{same_cut}
 
--- what was taken is as long as each shortest beginning that settles, since there is one
-pub shortest_len : (S : ℕ) (input left : List ℕ) → ExactlyOne (IsShortestSettling S input) → TakesShortestSettling S input (Some left)
-    → (front : List ℕ) → IsShortestSettling S input front → length front ≡ length input - length left
-shortest_len S input left one took front is =
-    let same : front ≡ took.front = one.only front is ∙ sym (one.only took.front took.shortest) in
+-- what was taken is as long as the one shortest beginning that settles
+pub shortest_len : (S : ℕ) (input left : List ℕ) (one : ExactlyOne (IsShortestSettling S input)) → TakesShortestSettling S input (Some left)
+    → length input - length left ≡ length one.value
+shortest_len S input left one took =
     let cut : input ≡ took.front ++ left = cc (took.takes) in
-    omega (arith, ap length cut, length-append took.front left, ap length same)
+    omega (arith, ap length cut, length-append took.front left, ap length (one.only took.front took.shortest))
 
 -- the answer to a verdict that is a pair
 pub answered : (S : ℕ) (p : Pair) (r : Result (Fields S) Refusal) (v : Verdict) → v ≡ accepted p → Answers r v
@@ -26,6 +27,14 @@ answered S p (Ok m) v same answers =
     let told : accepted (pair_of m) ≡ accepted p = sym answers ∙ same in
     cc
 answered S p (Err e) v same answers = subst (IsRefusal e) same answers
+
+-- what the answer's bytes list is its pair
+pub lists_answer : (S : ℕ) (bytes : List ℕ) (r : Result (Fields S) Refusal) (v : Verdict) → HasWholeVerdict S bytes v → Answers r v
+    → IfOk r (λ m. (value : Data) → IsByteArray value bytes → IsJsonList (pair_of m) value)
+lists_answer S bytes (Ok m) v has answers =
+    let told : HasWholeVerdict S bytes (accepted (pair_of m)) = subst (HasWholeVerdict S bytes) answers has in
+    λ value array. record { encoding = bytes; encodes = told.0; lists = array.array }
+lists_answer S bytes (Err e) v has answers = tt
 
 -- decoding where a pair's form comes next gives the pair, and leaves what follows
 pub scale_next : (S before after : ℕ) (old new : Option (List ℕ)) (p : Pair) (bytes more : List ℕ) (r : Result (Fields S) Refusal)

@@ -1,7 +1,8 @@
 -- The two varints in front of a content identifier, and one identifier at one place.
-use Rattle.std.proofs.Common.{◌≡◌, ℕ, ◌+◌, List, ◌++◌, length, Option, Some, IfOk, IfErr, IfSome, MatchResult, ◌⊎◌, inl, inr, Result, Ok, Err, OnErr, refl, sym, ap, ◌∙◌, subst, arith, append_assoc}
+use Rattle.std.proofs.Common.{◌≡◌, ℕ, ◌+◌, List, [], ◌++◌, length, Option, Some, IfOk, IfErr, IfSome, IsErrOf, MatchResult, ◌↔◌, ◌⊎◌, inl, inr, Result, Ok, Err, OnErr, refl, sym, ap, ◌∙◌, subst, arith, append_assoc, append-nil, length-append}
 use Rattle.std.specs.Result.{IsErrAnd}
 use Rattle.std.proofs.lemmas.List.{append_cancel_right}
+use Rattle.multihash.specs.Bytes.{IsProperBeginning}
 use Rattle.multihash.specs.Pair.{Pair, FitsBuffer}
 use Rattle.multihash.specs.Encoding.{IsEncoding}
 use Rattle.multihash.specs.Varint.{IsVarint}
@@ -11,12 +12,16 @@ use Rattle.multihash.specs.Writing.{AppendsPart}
 use Rattle.multihash.specs.Refusal.{Refusal, IsReaderFault}
 use Rattle.multihash.proofs.CallingLemmas.{varint_read}
 use Rattle.multihash.proofs.OutcomeLemmas.{OnErr-always}
-use Rattle.multihash.proofs.Readings.ReadingLemmas.{Takes-joined}
+use Rattle.multihash.proofs.Readings.ReadingLemmas.{Takes-joined, Takes-told}
 use Rattle.multihash.proofs.Readings.VerdictLemmas.{same_number, encoding_same}
+use Rattle.multihash.proofs.Values.ValueLemmas.{digest_fits}
 use Rattle.multihash.proofs.Varints.VarintLemmas.{varint_unique}
-use Rattle.uses.specs.ContentId.{Content, version_0, version_1, IsContentId, FitsContentId, IsRefused, IsContentIdRefusal}
+use Rattle.multihash.proofs.Writings.WritingLemmas.{length_of_not_nil}
+use Rattle.uses.specs.ContentId.{Content, version_0, version_1, content_of, IsContentId, FitsContentId, IsRefused, IsContentIdRefusal, HasOtherSize, BeginsOtherwise, TakesOtherVersion, StopsInContentId, TakesAtContentIdError}
+use Rattle.uses.specs.declared.content_id.ContentId.{ContentId}
+use Rattle.uses.specs.declared.content_id.ContentId.TheVariants.{V0, V1}
 use Rattle.uses.specs.declared.content_id.ContentIdError.{ContentIdError}
-use Rattle.uses.specs.declared.content_id.ContentIdError.TheVariants.{Refused}
+use Rattle.uses.specs.declared.content_id.ContentIdError.TheVariants.{Refused, OtherVersion}
 
 -- the numbers of both varints
 abbrev pub first_number : Content → ℕ
@@ -126,6 +131,102 @@ pub passes : {T : Type 0} (S before mid after : ℕ) (e : Refusal) (r : Result T
 passes S before mid after e (Ok x) same given counted = absurd given
 passes S before mid after e (Err x) same given (inl own) = inl (omega (arith, own.0, same), (e, given, own.1))
 passes S before mid after e (Err x) same given (inr listed) = inr (listed.0 ∙ same, inl (e, given, listed.1))
+
+-- it is one of those or the reader's own
+pub refused_so : {P Q : Type 0} (before after : ℕ) → ((after ≡ before + 1) × Q) ⊎ ((after ≡ before) × P) → P ⊎ Q
+refused_so before after (inl own) = inr own.1
+refused_so before after (inr listed) = inl listed.1
+
+-- and it took what it took
+pub passed_stop : {T : Type 0} (S : ℕ) (old new : Option (List ℕ)) (e : Refusal) (r : Result T ContentIdError) → IsErrAnd r (λ x. x ≡ Refused e)
+    → StopsInContentId S e old new → IfErr r (λ x. TakesAtContentIdError S x old new)
+passed_stop S old new e (Ok x) given stop = tt
+passed_stop S old new e (Err x) given stop = subst (λ y. TakesAtContentIdError S y old new) (sym given) stop
+
+-- no varint begins what is shorter than one
+no_shorter : (m n : ℕ) (whole shorter rest : List ℕ) → IsVarint m whole → IsProperBeginning shorter whole
+    → (bytes : List ℕ) × IsVarint n bytes × (shorter ≡ bytes ++ rest) → ⊥
+no_shorter m n whole shorter rest is (more, some, cut) (bytes, also, begins) =
+    let spelled : whole ≡ bytes ++ (rest ++ more) = cut ∙ (ap (λ (z : List ℕ). z ++ more) begins ∙ append_assoc bytes rest more) in
+    let told = same_number whole m n [] (rest ++ more) (whole, is, sym (append-nil whole)) (bytes, also, spelled) in
+    omega (arith, ap (λ (z : List ℕ). length z) told.1, length-append rest more, length_of_not_nil more some)
+
+-- the varint of another version, or that of another length, is the last that is taken
+pub takes_other_number : (n : ℕ) (old new : Option (List ℕ)) → ¬ (n ≡ 1) → ¬ (n ≡ 0x12) → TakesVarint n old new → TakesOtherVersion n old new
+takes_other_number n old new not_1 not_0 v = record {
+  taken = v.0;
+  takes = v.2;
+  shows = record { version = v.0; rest = []; is_version = v.1; not_1 = not_1; not_0 = λ is. absurd (not_0 is); cut = sym (append-nil v.0) };
+  no_sooner = λ shorter begins h. no_shorter n n v.0 shorter h.rest v.1 begins (h.version, h.is_version, h.cut);
+}
+
+takes_size : (size : ℕ) (old middle new : Option (List ℕ)) → ¬ (size ≡ 32) → TakesVarint 0x12 old middle → TakesVarint size middle new
+    → TakesOtherVersion 0x12 old new
+takes_size size old middle new not_32 v s = record {
+  taken = v.0 ++ s.0;
+  takes = Takes-joined old middle new v.0 s.0 (v.0 ++ s.0) refl v.2 s.2;
+  shows = record {
+    version = v.0;
+    rest = s.0;
+    is_version = v.1;
+    not_1 = λ one. absurd (omega (arith, one));
+    not_0 = λ _. record { size = size; size_bytes = s.0; rest = []; is_size = s.1; not_32 = not_32; cut = sym (append-nil s.0) };
+    cut = refl;
+  };
+  no_sooner = λ shorter begins h.
+      let k = h.not_0 refl in
+      let spelled : v.0 ++ s.0 ≡ h.version ++ (h.rest ++ begins.0) =
+      begins.2 ∙ (ap (λ (z : List ℕ). z ++ begins.0) h.cut ∙ append_assoc h.version h.rest begins.0) in
+      let behind = same_number (v.0 ++ s.0) 0x12 0x12 s.0 (h.rest ++ begins.0) (v.0, v.1, refl) (h.version, h.is_version, spelled) in
+      no_shorter size k.size s.0 h.rest k.rest s.1 (begins.0, begins.1, behind.1) (k.size_bytes, k.is_size, k.cut);
+}
+
+pub takes_other_size : (version size : ℕ) (old middle new : Option (List ℕ)) → version ≡ 0x12 → ¬ (size ≡ 32) → TakesVarint version old middle
+    → TakesVarint size middle new → TakesOtherVersion version old new
+takes_other_size version size old middle new is not_32 v s =
+    subst (λ n. TakesOtherVersion n old new) (sym is) (takes_size size old middle new not_32 (v.0, subst (λ n. IsVarint n v.0) is v.1, v.2) s)
+
+-- what shows another version shows it whatever follows
+size_behind : (input more : List ℕ) → HasOtherSize input → HasOtherSize (input ++ more)
+size_behind input more h = record {
+  size = h.size;
+  size_bytes = h.size_bytes;
+  rest = h.rest ++ more;
+  is_size = h.is_size;
+  not_32 = h.not_32;
+  cut = ap (λ (z : List ℕ). z ++ more) h.cut ∙ append_assoc h.size_bytes h.rest more;
+}
+
+pub begins_still : (n : ℕ) (input more : List ℕ) → BeginsOtherwise n input → BeginsOtherwise n (input ++ more)
+begins_still n input more h = record {
+  version = h.version;
+  rest = h.rest ++ more;
+  is_version = h.is_version;
+  not_1 = h.not_1;
+  not_0 = λ is. size_behind h.rest more (h.not_0 is);
+  cut = ap (λ (z : List ℕ). z ++ more) h.cut ∙ append_assoc h.version h.rest more;
+}
+
+pub told_other : (S n : ℕ) (input : List ℕ) (new : Option (List ℕ)) (e : ContentIdError) → TakesAtContentIdError S e (Some input) new
+    → e ≡ OtherVersion n → BeginsOtherwise n input
+told_other S n input new e took is =
+    let t : TakesOtherVersion n (Some input) new = subst (λ y. TakesAtContentIdError S y (Some input) new) is took in
+    let (left, told, cut) = Takes-told input t.taken new t.takes in
+    subst (BeginsOtherwise n) (sym cut) (begins_still n t.taken left t.shows)
+
+pub other_of_err : {T : Type 0} (S n : ℕ) (input : List ℕ) (new : Option (List ℕ)) (e : ContentIdError) (r : Result T ContentIdError)
+    → IsErrAnd r (λ x. x ≡ e) → TakesAtContentIdError S e (Some input) new
+    → (BeginsOtherwise n input → e ≡ OtherVersion n) → IsErrOf r (OtherVersion n) ↔ BeginsOtherwise n input
+other_of_err S n input new e (Ok t) given took told = absurd given
+other_of_err S n input new e (Err x) given took told = (
+  (λ is. let other : x ≡ OtherVersion n = cc (is) in told_other S n input new e took (sym given ∙ other)),
+  λ h. ap Err (given ∙ told h),
+)
+
+-- an identifier that was read fits
+pub content_fits : (S : ℕ) (id : ContentId S) → FitsContentId S (content_of id)
+content_fits S (V0 digest) = tt
+content_fits S (V1 codec hash) = digest_fits hash
 
 -- an identifier is spelled in one way
 pub content_same : (c : Content) (a b : List ℕ) → IsContentId c a → IsContentId c b → a ≡ b

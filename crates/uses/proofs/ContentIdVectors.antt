@@ -1,21 +1,27 @@
 -- Known content identifiers, and what is none: each content has one spelling, and each spelling one content.
-use Rattle.std.proofs.Common.{◌≡◌, ℕ, List, [], ◌∷◌, ◌++◌, length, get_or, replicate, inr, refl, ap, subst, arith}
+use Rattle.std.proofs.Common.{◌≡◌, ◌<◌, ℕ, List, [], ◌∷◌, ◌++◌, length, get_or, replicate, inl, inr, refl, sym, ap, ◌∙◌, subst, arith}
+use Rattle.std.specs.Prelude.{⊤}
 use Rattle.std.proofs.lemmas.Bool.{ltb-true}
 use Rattle.multihash.specs.Bytes.{place_value}
 use Rattle.multihash.specs.Pair.{Pair}
 use Rattle.multihash.specs.Encoding.{IsEncoding}
-use Rattle.multihash.specs.Varint.{IsVarint, varint_limit, insufficient}
-use Rattle.multihash.specs.Refusal.{of_varint, IsReaderFault, IsFaulty}
+use Rattle.multihash.specs.Varint.{IsVarint, varint_limit, insufficient, overflow}
+use Rattle.multihash.specs.Fault.{IsUnexpectedEof}
+use Rattle.multihash.specs.Refusal.{of_io, of_size, of_code, of_varint, of_not_bytes, IsFaulty}
+use Rattle.multihash.specs.Answer.{Fields}
 use Rattle.multihash.proofs.Examples.BytesVectors.{all_below}
 use Rattle.multihash.proofs.Examples.VarintVectors.{varint_1, varint_2}
 use Rattle.multihash.proofs.Readings.VerdictLemmas.{encoding_unique, same_number}
-use Rattle.uses.specs.ContentId.{Content, version_0, version_1, IsVersion0, IsVersion1, IsContentId, FitsContentId, IsRefused, IsOtherVersion, IsContentIdRefusal, HasOtherSize, BeginsOtherwise}
+use Rattle.uses.specs.ContentId.{Content, version_0, version_1, content_of, IsContentId, FitsContentId, IsRefused, IsOtherVersion, IsContentIdRefusal, HasOtherSize, BeginsOtherwise}
+use Rattle.uses.specs.declared.content_id.codec.Codec.{Codec}
+use Rattle.uses.specs.declared.content_id.ContentId.TheVariants.{V0, V1}
+use Rattle.uses.specs.declared.content_id.ContentIdError.{ContentIdError}
 use Rattle.uses.specs.declared.content_id.ContentIdError.TheVariants.{Refused, OtherVersion, LeftOver}
 use Rattle.uses.proofs.ContentIdLemmas.{one_place, content_same}
 
 -- ---- varints
 
-varint_18 : IsVarint 0x12 (0x12 ∷ [])
+pub varint_18 : IsVarint 0x12 (0x12 ∷ [])
 unfolding place_value
 varint_18 = record {
   front = [];
@@ -27,7 +33,7 @@ varint_18 = record {
   spelled = refl;
 }
 
-varint_32 : IsVarint 32 (0x20 ∷ [])
+pub varint_32 : IsVarint 32 (0x20 ∷ [])
 unfolding place_value
 varint_32 = record {
   front = [];
@@ -61,18 +67,36 @@ says_one c d bytes is other also =
 spelled_once : (c : Content) (a b : List ℕ) → IsContentId c a → (a ≡ b → ⊥) → ¬ (IsContentId c b)
 spelled_once c a b is other also = other (content_same c a b is also)
 
+-- ---- the parts of what is said
+
+abbrev codec_in : Content → ℕ
+codec_in (version_0 digest) = 0
+codec_in (version_1 codec p) = codec
+
+abbrev code_in : Content → ℕ
+code_in (version_0 digest) = 0
+code_in (version_1 codec p) = p.code
+
+abbrev version_in : Content → ℕ
+version_in (version_0 digest) = 0
+version_in (version_1 codec p) = 1
+
+abbrev digest_in : Content → List ℕ
+digest_in (version_0 digest) = digest
+digest_in (version_1 codec p) = p.digest
+
 -- ---- version 1
 
-abbrev two_bytes : Pair
+abbrev pub two_bytes : Pair
 two_bytes = record { code = 0x12; digest = 7 ∷ 8 ∷ [] }
 
 encodes_two : IsEncoding two_bytes (0x12 ∷ 0x02 ∷ 7 ∷ 8 ∷ [])
 encodes_two = record { code = 0x12 ∷ []; size = 0x02 ∷ []; is_code = varint_18; is_size = varint_2; spelled = refl }
 
-abbrev dag_json : List ℕ
+abbrev pub dag_json : List ℕ
 dag_json = 0x01 ∷ 0xa9 ∷ 0x02 ∷ 0x12 ∷ 0x02 ∷ 7 ∷ 8 ∷ []
 
-names_dag_json : IsContentId (version_1 0x0129 two_bytes) dag_json
+pub names_dag_json : IsContentId (version_1 0x0129 two_bytes) dag_json
 names_dag_json = record {
   version = 0x01 ∷ [];
   codec_bytes = 0xa9 ∷ 0x02 ∷ [];
@@ -86,10 +110,6 @@ names_dag_json = record {
 -- not by its first byte
 names_no_byte : ¬ (IsContentId (version_1 0xa9 two_bytes) dag_json)
 names_no_byte = says_one (version_1 0x0129 two_bytes) (version_1 0xa9 two_bytes) dag_json names_dag_json (λ same. omega (arith, ap codec_in same))
-  where
-    codec_in : Content → ℕ
-    codec_in (version_0 digest) = 0
-    codec_in (version_1 codec p) = codec
 
 -- nor another multihash
 abbrev other_two : Pair
@@ -97,10 +117,6 @@ other_two = record { code = 0x13; digest = 7 ∷ 8 ∷ [] }
 
 names_no_other_hash : ¬ (IsContentId (version_1 0x0129 other_two) dag_json)
 names_no_other_hash = says_one (version_1 0x0129 two_bytes) (version_1 0x0129 other_two) dag_json names_dag_json (λ same. omega (arith, ap code_in same))
-  where
-    code_in : Content → ℕ
-    code_in (version_0 digest) = 0
-    code_in (version_1 codec p) = p.code
 
 -- nor the other version
 names_no_version_0 : ¬ (IsContentId (version_0 (7 ∷ 8 ∷ [])) dag_json)
@@ -141,27 +157,62 @@ no_version_in_front = spelled_once (version_0 sevens) (0x12 ∷ 0x20 ∷ sevens)
 
 is_no_version_1 : (codec : ℕ) (p : Pair) → ¬ (IsContentId (version_1 codec p) (0x12 ∷ 0x20 ∷ sevens))
 is_no_version_1 codec p = says_one (version_0 sevens) (version_1 codec p) (0x12 ∷ 0x20 ∷ sevens) names_sevens (λ same. omega (arith, ap version_in same))
-  where
-    version_in : Content → ℕ
-    version_in (version_0 digest) = 0
-    version_in (version_1 codec p) = 1
 
 -- ---- what fits
 
 fits_two : FitsContentId 2 (version_1 0x0129 two_bytes)
 fits_two = omega arith
 
-fits_no_smaller : ¬ (FitsContentId 1 (version_1 0x0129 two_bytes))
+pub fits_no_smaller : ¬ (FitsContentId 1 (version_1 0x0129 two_bytes))
 fits_no_smaller h = omega (arith, h)
 
 -- version 0 has a buffer of its own
 version_0_fits : FitsContentId 0 (version_0 sevens)
 version_0_fits = tt
 
+-- ---- what a value says
+
+abbrev held_codec : Codec
+held_codec = record { number = 0x0129; in_range = omega arith }
+
+-- of the buffer only what stands below the size is the digest
+abbrev held_two : Fields 4
+held_two = record { code = 0x12; size = 2; buffer = 7 ∷ 8 ∷ 9 ∷ 9 ∷ []; in_range = omega arith; fits = omega arith }
+
+says_version_1 : content_of (V1 held_codec held_two) ≡ version_1 0x0129 two_bytes
+says_version_1 = refl
+
+says_no_other_codec : ¬ (content_of (V1 held_codec held_two) ≡ version_1 0xa9 two_bytes)
+says_no_other_codec h = omega (arith, ap codec_in h)
+
+says_no_other_code : ¬ (content_of (V1 held_codec held_two) ≡ version_1 0x0129 other_two)
+says_no_other_code h = omega (arith, ap code_in h)
+
+says_no_whole_buffer : ¬ (content_of (V1 held_codec held_two) ≡ version_1 0x0129 (record { code = 0x12; digest = 7 ∷ 8 ∷ 9 ∷ 9 ∷ [] }))
+says_no_whole_buffer h = omega (arith, ap (λ c. length (digest_in c)) h)
+
+says_version_0 : content_of {S = 4} (V0 sevens) ≡ version_0 sevens
+says_version_0 = refl
+
+says_no_other_digest : ¬ (content_of {S = 4} (V0 sevens) ≡ version_0 (replicate 32 8))
+says_no_other_digest h = omega (arith, ap (λ c. get_or (digest_in c) 0 0) h)
+
+-- nor the other version, whose code would be that of SHA2-256
+says_no_other_version : ¬ (content_of {S = 4} (V0 sevens) ≡ version_1 0 (record { code = 0x12; digest = sevens }))
+    × ¬ (content_of (V1 held_codec held_two) ≡ version_0 (7 ∷ 8 ∷ []))
+says_no_other_version = ((λ h. omega (arith, ap version_in h)), λ h. omega (arith, ap version_in h))
+
 -- ---- refusals
 
 passes_on : IsRefused (IsFaulty insufficient) (Refused (of_varint insufficient))
 passes_on = (of_varint insufficient, refl, refl)
+
+passes_on_no_other : ¬ (IsRefused (IsFaulty insufficient) (Refused (of_varint overflow)))
+passes_on_no_other (e, is, names) = cc
+
+-- another version and bytes left over are no refusals that are passed on
+passes_on_none : ¬ (IsRefused (λ _. ⊤) (OtherVersion 2)) × ¬ (IsRefused (λ _. ⊤) (LeftOver 2))
+passes_on_none = ((λ (e, is, any). cc), λ (e, is, any). cc)
 
 other_version : IsOtherVersion (OtherVersion 2)
 other_version = (2, refl, λ one. omega (arith, one))
@@ -170,8 +221,33 @@ other_version = (2, refl, λ one. omega (arith, one))
 not_version_1 : ¬ (IsOtherVersion (OtherVersion 1))
 not_version_1 h = h.2 (cc (h.1))
 
-is_a_refusal : IsContentIdRefusal 4 (OtherVersion 2)
-is_a_refusal = inr other_version
+names_other_version : ¬ (IsOtherVersion (LeftOver 2)) × ¬ (IsOtherVersion (Refused (of_varint insufficient)))
+names_other_version = ((λ (n, is, other). cc), λ (n, is, other). cc)
+
+-- the errors of reading into four bytes: what refuses a multihash there, and another version
+abbrev Refuses : ContentIdError → Type 0
+Refuses (Refused (of_io own)) = IsUnexpectedEof own
+Refuses (Refused (of_size size)) = 4 < size
+Refuses (Refused (of_code code)) = ⊥
+Refuses (Refused (of_varint fault)) = ⊤
+Refuses (Refused of_not_bytes) = ⊥
+Refuses (OtherVersion n) = ¬ (n ≡ 1)
+Refuses (LeftOver n) = ⊥
+
+refuses : (e : ContentIdError) → Refuses e → IsContentIdRefusal 4 e
+refuses (Refused (of_io own)) h = inl (of_io own, refl, inr (inr (own, refl, h)))
+refuses (Refused (of_size size)) h = inl (of_size size, refl, inl (size, refl, h))
+refuses (Refused (of_code code)) h = absurd h
+refuses (Refused (of_varint fault)) h = inl (of_varint fault, refl, inr (inl (fault, refl)))
+refuses (Refused of_not_bytes) h = absurd h
+refuses (OtherVersion n) h = inr (n, refl, h)
+refuses (LeftOver n) h = absurd h
+
+refuses_only : (e : ContentIdError) → IsContentIdRefusal 4 e → Refuses e
+refuses_only e (inl (x, is, inl (size, names, large))) = subst Refuses (sym (is ∙ ap Refused names)) large
+refuses_only e (inl (x, is, inr (inl (fault, names)))) = subst Refuses (sym (is ∙ ap Refused names)) tt
+refuses_only e (inl (x, is, inr (inr (own, names, kind)))) = subst Refuses (sym (is ∙ ap Refused names)) kind
+refuses_only e (inr (n, is, other)) = subst Refuses (sym is) other
 
 -- ---- another version
 
@@ -207,3 +283,9 @@ version_0_is_known : ¬ (BeginsOtherwise 0x12 (0x12 ∷ 0x20 ∷ 7 ∷ []))
 version_0_is_known h =
     let told = same_number (0x12 ∷ 0x20 ∷ 7 ∷ []) 0x12 0x12 h.rest (0x20 ∷ 7 ∷ []) (h.version, h.is_version, h.cut) (0x12 ∷ [], varint_18, refl) in
     has_no_other_size (subst HasOtherSize told.1 (h.not_0 refl))
+
+-- the number is that of the varint
+begins_with_no_other : ¬ (BeginsOtherwise 3 (0x02 ∷ 0x55 ∷ []))
+begins_with_no_other h =
+    let told = same_number (0x02 ∷ 0x55 ∷ []) 3 2 h.rest (0x55 ∷ []) (h.version, h.is_version, h.cut) (0x02 ∷ [], varint_2, refl) in
+    omega (arith, told.0)

@@ -1,6 +1,7 @@
 pub mod BlameLemmas
 pub mod ConclusionLemmas
 pub mod ContentIdLemmas
+pub mod ContentIdTakingVectors
 pub mod ContentIdVectors
 pub mod DumpLemmas
 pub mod MerkleLemmas

@@ -1,15 +1,17 @@
 -- Content identifiers of version 0 and of version 1.
-use Rattle.std.specs.Prelude.{◌≡◌, ℕ, ⊤, ◌⊎◌, List, ◌++◌, length, Some, Option, IfSome}
+use Rattle.std.specs.Prelude.{◌≡◌, ◌<◌, ℕ, ⊤, ◌⊎◌, List, ◌++◌, length, Option}
+use Rattle.multihash.specs.Bytes.{IsProperBeginning}
 use Rattle.multihash.specs.Varint.{IsVarint}
 use Rattle.multihash.specs.Pair.{Pair, FitsBuffer}
 use Rattle.multihash.specs.Encoding.{IsEncoding}
-use Rattle.multihash.specs.Refusal.{Refusal, IsReaderFault}
-use Rattle.multihash.specs.Taking.{IsReadRefusal}
+use Rattle.multihash.specs.Reading.{Takes, TakesFewerThan}
+use Rattle.multihash.specs.Refusal.{Refusal, IsEof, IsReaderFault}
+use Rattle.multihash.specs.Taking.{IsVarintRefusal, IsReadRefusal, TakesVarint, TakesAtVarintRefusal, TakesAtRefusal}
 use Rattle.multihash.specs.Answer.{pair_of}
 use Rattle.uses.specs.declared.content_id.ContentId.{ContentId}
 use Rattle.uses.specs.declared.content_id.ContentId.TheVariants.{V0, V1}
 use Rattle.uses.specs.declared.content_id.ContentIdError.{ContentIdError}
-use Rattle.uses.specs.declared.content_id.ContentIdError.TheVariants.{Refused, OtherVersion}
+use Rattle.uses.specs.declared.content_id.ContentIdError.TheVariants.{Refused, OtherVersion, LeftOver}
 
 -- what an identifier says: a SHA2-256 digest, or a codec and a multihash
 pub data Content : Type 0 where
@@ -75,3 +77,39 @@ pub record BeginsOtherwise (n : ℕ) (input : List ℕ) : Type 0 where
   pub not_1 : ¬ (n ≡ 1)
   pub not_0 : n ≡ 0x12 → HasOtherSize rest
   pub cut : input ≡ version ++ rest
+
+-- exactly the shortest beginning that shows another version was taken
+pub record TakesOtherVersion (n : ℕ) (old new : Option (List ℕ)) : Type 0 where
+  pub taken : List ℕ
+  pub takes : Takes old taken new
+  pub shows : BeginsOtherwise n taken
+  pub no_sooner : (shorter : List ℕ) → IsProperBeginning shorter taken → ¬ (BeginsOtherwise n shorter)
+
+-- the part of an identifier in which reading was refused, and what it took of that: the version, the number
+-- behind it, the multihash of version 1, or the digest of version 0
+pub data StopsInContentId (S : ℕ) (e : Refusal) (old new : Option (List ℕ)) : Type 0 where
+  in_version : IsVarintRefusal e ⊎ IsReaderFault e → TakesAtVarintRefusal e old new → StopsInContentId S e old new
+  in_number : (version : ℕ) (middle : Option (List ℕ)) → (version ≡ 1) ⊎ (version ≡ 0x12) → TakesVarint version old middle
+      → IsVarintRefusal e ⊎ IsReaderFault e → TakesAtVarintRefusal e middle new → StopsInContentId S e old new
+  in_hash : (codec : ℕ) (middle behind : Option (List ℕ)) → TakesVarint 1 old middle → TakesVarint codec middle behind
+      → IsReadRefusal S e ⊎ IsReaderFault e → TakesAtRefusal S e behind new → StopsInContentId S e old new
+  in_digest : (middle behind : Option (List ℕ)) → TakesVarint 0x12 old middle → TakesVarint 32 middle behind
+      → IsEof e ⊎ IsReaderFault e → TakesFewerThan 32 behind new → StopsInContentId S e old new
+
+-- what reading an identifier took where it answered this error; it leaves what follows, and so tells of no
+-- bytes left over
+abbrev pub TakesAtContentIdError : ℕ → ContentIdError → Option (List ℕ) → Option (List ℕ) → Type 0
+TakesAtContentIdError S (Refused e) old new = StopsInContentId S e old new
+TakesAtContentIdError S (OtherVersion n) old new = TakesOtherVersion n old new
+TakesAtContentIdError S (LeftOver n) old new = ⊥
+
+-- an identifier that fits begins the input, and so many bytes follow it
+pub record LeavesOver (S n : ℕ) (input : List ℕ) : Type 0 where
+  pub content : Content
+  pub bytes : List ℕ
+  pub rest : List ℕ
+  pub is : IsContentId content bytes
+  pub fits : FitsContentId S content
+  pub cut : input ≡ bytes ++ rest
+  pub many : length rest ≡ n
+  pub some : 0 < n

@@ -1,11 +1,12 @@
 //! Callers over any reader, who conclude how often it failed and what it has left.
-ghost use Rattle.std.specs.Prelude.{◌≡◌, ◌⊎◌, ℕ, List, [], ◌++◌, length, map, Some, IfNone, IfOk, MatchResult};
+ghost use Rattle.std.specs.Prelude.{◌≡◌, ◌+◌, ◌⊎◌, ℕ, List, [], ◌∷◌, ◌++◌, length, map, Option, Some, IfSome, IfNone, IfOk, IfErr, MatchResult};
 ghost use Rattle.multihash.specs.Pair.{Pair, FitsBuffer};
 ghost use Rattle.multihash.specs.Scale.{IsScale};
 ghost use Rattle.multihash.specs.ScaleTaking.{IsScaleRefusal};
-ghost use Rattle.multihash.specs.Reading.{CountsReader};
+ghost use Rattle.multihash.specs.Reading.{Takes, CountsReader};
 ghost use Rattle.multihash.specs.Refusal.{IsReaderFault, IsMemory};
 ghost use Rattle.multihash.specs.Taking.{IsReadRefusal};
+ghost use Rattle.multihash.specs.Streams.{TakesPairs, StopsAfterPairs};
 ghost use Rattle.multihash.specs.Answer.{pair_of};
 
 use multihash::no_std_io::Read;
@@ -23,15 +24,19 @@ pub fn read_counted<const S: usize, R: Read>(
 ) -> Result<Vec<Multihash<S>>, Error>
     ensures faults { CountsReader IsReaderFault (λ e. IsReadRefusal S e ⊎ IsMemory e)
         (R.failures r.old) (R.failures r.new) result }
+    ensures ok { IfOk result (λ list. (middle : Option (List ℕ))
+        × Takes (R.rest r.old) (length list.items ∷ []) middle
+        × TakesPairs S (map pair_of list.items) middle (R.rest r.new)) }
 {
     let mut count = [0];
     r.read_exact(&mut count)?;
     list::read_list(alloc, r, usize::from(count[0]))
 }
 
-/// Reads no multihash, which takes nothing and is never refused.
+/// Reads no multihash, which takes nothing and is never refused: all is left.
 pub fn read_none<const S: usize, R: Read>(alloc: Global, r: &mut R) -> Vec<Multihash<S>>
-    ensures { (map pair_of result.items ≡ []) × (R.failures r.new ≡ R.failures r.old) }
+    ensures { (map pair_of result.items ≡ []) × (R.failures r.new ≡ R.failures r.old)
+        × (R.rest r.new ≡ R.rest r.old) }
 {
     list::read_list(alloc, r, 0).unwrap()
 }
@@ -41,7 +46,7 @@ pub fn read_none<const S: usize, R: Read>(alloc: Global, r: &mut R) -> Vec<Multi
 ///
 /// # Errors
 ///
-/// Those of [`list::read_list`], but for want of memory.
+/// Those of [`list::read_list`], but for want of memory: then too what it says was taken.
 pub fn read_if_room<const S: usize, R: Read>(
     alloc: Global,
     r: &mut R,
@@ -49,6 +54,14 @@ pub fn read_if_room<const S: usize, R: Read>(
 ) -> Result<Option<Vec<Multihash<S>>>, Error>
     ensures none { IfOk result (λ list. IfNone list
         (R.failures r.new ≡ R.failures r.old → R.rest r.new ≡ R.rest r.old)) }
+    ensures some { IfOk result (λ list. IfSome list (λ found. (length found.items ≡ count)
+        × TakesPairs S (map pair_of found.items) (R.rest r.old) (R.rest r.new)
+        × (R.failures r.new ≡ R.failures r.old))) }
+    ensures faults { IfErr result (λ e.
+        ((R.failures r.new ≡ R.failures r.old + 1) × IsReaderFault e)
+        ⊎ ((R.failures r.new ≡ R.failures r.old) × IsReadRefusal S e)) }
+    ensures err { IfErr result (λ e. ¬ (IsMemory e) × StopsAfterPairs S count e
+        (R.failures r.old) (R.failures r.new) (R.rest r.old) (R.rest r.new)) }
 {
     match list::read_list(alloc, r, count) {
         Ok(list) => Ok(Some(list)),
@@ -73,6 +86,8 @@ pub fn read_scale<const S: usize, R: Read>(r: &mut R) -> Result<Multihash<S>, Er
     ensures found { (p : Pair) (bytes more : List ℕ) → IsScale p bytes → FitsBuffer S p →
         R.rest r.old ≡ Some (bytes ++ more) → R.failures r.new ≡ R.failures r.old →
         MatchResult result (λ m. (pair_of m ≡ p) × (R.rest r.new ≡ Some more)) (λ _. ⊥) }
+    ensures ok { IfOk result (λ m. (bytes : List ℕ) × IsScale (pair_of m) bytes
+        × Takes (R.rest r.old) bytes (R.rest r.new)) }
 {
     laws::scale_unique();
     Multihash::scale_decode(r)

@@ -1,5 +1,5 @@
 //! What the laws say to callers: which bytes spell which values, and where an answer stands.
-ghost use Rattle.std.specs.Prelude.{◌≡◌, ◌<◌, ◌↔◌, ℕ, List, length, map, IsTrue, IfSome, IfNone, MatchResult};
+ghost use Rattle.std.specs.Prelude.{◌≡◌, ◌<◌, ◌↔◌, ℕ, List, length, map, IsTrue, IfSome, IfNone, IfOk, MatchResult};
 ghost use Rattle.serde_json.specs.Data.{Data};
 ghost use Rattle.serde_json.specs.View.{view};
 ghost use Rattle.multihash.specs.Bytes.{ExactlyOne};
@@ -7,7 +7,8 @@ ghost use Rattle.multihash.specs.Pair.{Pair, IsPair, FitsBuffer};
 ghost use Rattle.multihash.specs.Settling.{Settles, IsShortestSettling};
 ghost use Rattle.multihash.specs.Scale.{IsScale, HasScaleVerdict};
 ghost use Rattle.multihash.specs.Json.{IsByteArray, IsJsonList};
-ghost use Rattle.multihash.specs.Refusal.{IsMemory};
+ghost use Rattle.multihash.specs.Fault.{IsOther};
+ghost use Rattle.multihash.specs.Refusal.{IsMemory, IsIo, refusal_text};
 ghost use Rattle.multihash.specs.Answer.{pair_of, Answers};
 
 use crate::merkle::write_node;
@@ -16,13 +17,13 @@ use multihash::{Error, Multihash, laws, list};
 use serde_json::Value;
 use std::alloc::Global;
 
-/// How many bytes of a stream settle what `read` answers, at the least; none where more bytes could
-/// still change it.
+/// How many bytes of a stream settle what `read` answers, at the least: there is one shortest beginning that
+/// does. None where more bytes could still change it.
 pub fn settling_len<const S: usize>(stream: &[u8]) -> Option<usize>
     requires { S < 65536 }
     ensures none { IfNone result (¬ (Settles S stream.now)) }
-    ensures some { IfSome result (λ n. (front : List ℕ) →
-        IsShortestSettling S stream.now front → length front ≡ n) }
+    ensures some { IfSome result (λ n.
+        (front : ExactlyOne (IsShortestSettling S stream.now)) × (n ≡ length front.value)) }
 {
     laws::settles();
     let mut left = stream;
@@ -56,7 +57,7 @@ pub fn lists_written_alike<const A: usize, const B: usize>(
     Ok(first.as_slice() == second.as_slice())
 }
 
-/// Whether two nodes with as many links are written alike: only where their links and their data are the
+/// Whether two nodes with as many links are written alike: exactly where their links and their data are the
 /// same. Nothing but want of memory refuses it.
 pub fn nodes_written_alike<const A: usize, const B: usize>(
     alloc: Global,
@@ -66,9 +67,9 @@ pub fn nodes_written_alike<const A: usize, const B: usize>(
     other_content: &[u8],
 ) -> Result<bool, Error>
     requires { length links.now ≡ length other_links.now }
-    ensures { MatchResult result (λ alike. IsTrue alike →
-        (map pair_of links.now ≡ map pair_of other_links.now)
-        × (content.now ≡ other_content.now)) IsMemory }
+    ensures { MatchResult result (λ alike. IsTrue alike ↔
+        ((map pair_of links.now ≡ map pair_of other_links.now)
+        × (content.now ≡ other_content.now))) IsMemory }
 {
     laws::split_unique();
     let mut first = Vec::new(alloc);
@@ -78,7 +79,7 @@ pub fn nodes_written_alike<const A: usize, const B: usize>(
     Ok(first.as_slice() == second.as_slice())
 }
 
-/// Whether the SCALE form of one multihash begins that of another: only where they have the same pair.
+/// Whether the SCALE form of one multihash begins that of another: exactly where they have the same pair.
 /// Nothing but want of memory refuses it.
 pub fn begins_scale<const A: usize, const B: usize>(
     alloc: Global,
@@ -86,7 +87,7 @@ pub fn begins_scale<const A: usize, const B: usize>(
     b: &Multihash<B>,
 ) -> Result<bool, Error>
     ensures { MatchResult result
-        (λ begins. IsTrue begins → pair_of a.now ≡ pair_of b.now) IsMemory }
+        (λ begins. IsTrue begins ↔ (pair_of a.now ≡ pair_of b.now)) IsMemory }
 {
     laws::scale_unique();
     let mut first = Vec::new(alloc);
@@ -135,9 +136,14 @@ pub fn decoded<const S: usize>(bytes: &[u8]) -> Result<Multihash<S>, Error>
     Multihash::scale_decode(&mut left)
 }
 
-/// The multihash that a JSON value lists: that pair, where it fits.
+/// The multihash that a JSON value lists: that pair, where it fits, and no other.
+///
+/// # Errors
+///
+/// Those of [`Multihash::from_value`], wherever the value lists no multihash that fits.
 pub fn listed<const S: usize>(value: &Value) -> Result<Multihash<S>, Error>
-    ensures { (p : Pair) → IsPair p → IsJsonList p (view value.now) → FitsBuffer S p →
+    ensures ok { IfOk result (λ m. IsJsonList (pair_of m) (view value.now)) }
+    ensures found { (p : Pair) → IsPair p → IsJsonList p (view value.now) → FitsBuffer S p →
         MatchResult result (λ m. pair_of m ≡ p) (λ _. ⊥) }
 {
     laws::json_unique();
@@ -145,28 +151,36 @@ pub fn listed<const S: usize>(value: &Value) -> Result<Multihash<S>, Error>
     Multihash::from_value(value)
 }
 
-/// The multihash of the bytes that a JSON value lists: its pair, where it fits.
+/// The multihash of the bytes that a JSON value lists: its pair, where it fits, and no other.
+///
+/// # Errors
+///
+/// Those of [`Multihash::from_bytes`], wherever no value that lists the bytes lists a multihash that fits.
 pub fn of_listed_bytes<const S: usize>(bytes: &[u8]) -> Result<Multihash<S>, Error>
-    ensures { (p : Pair) (value : Data) → IsJsonList p value → FitsBuffer S p →
+    ensures ok { IfOk result (λ m. (value : Data) → IsByteArray value bytes.now →
+        IsJsonList (pair_of m) value) }
+    ensures found { (p : Pair) (value : Data) → IsJsonList p value → FitsBuffer S p →
         IsByteArray value bytes.now → MatchResult result (λ m. pair_of m ≡ p) (λ _. ⊥) }
 {
     laws::json_unique();
     Multihash::from_bytes(bytes)
 }
 
-/// Whether a JSON value is the same multihash in two buffers, where both hold it: always.
-pub fn same_in_both<const A: usize, const B: usize>(value: &Value) -> bool
+/// Whether two JSON values list the same multihash, each in a buffer of its own: exactly where they are the
+/// same value.
+///
+/// # Errors
+///
+/// Those of [`Multihash::from_value`], of the first value that is refused.
+pub fn listed_alike<const A: usize, const B: usize>(a: &Value, b: &Value) -> Result<bool, Error>
     requires { (A < 65536) × (B < 65536) }
-    ensures { IsTrue result }
+    ensures { IfOk result (λ alike. IsTrue alike ↔ (view a.now ≡ view b.now)) }
 {
     laws::json_unique();
-    match (
-        Multihash::<A>::from_value(value),
-        Multihash::<B>::from_value(value),
-    ) {
-        (Ok(a), Ok(b)) => a.same_as(&b),
-        _ => true,
-    }
+    laws::prefix_free();
+    let first = Multihash::<A>::from_value(a)?;
+    let second = Multihash::<B>::from_value(b)?;
+    Ok(first.same_as(&second))
 }
 
 /// A multihash that is taken apart and put together again: the same pair.
@@ -177,9 +191,11 @@ pub fn put_together<const S: usize>(m: Multihash<S>) -> Multihash<S>
     Multihash::wrap(code, &array[..usize::from(size)]).unwrap()
 }
 
-/// Whether a fault of a reader's or a writer's own is told as such, whatever its text is: always.
-pub fn is_own_fault(text: &'static str) -> bool
-    ensures { IsTrue result }
+/// A refusal for a reason of the caller's own, which it prints: a fault of its own, and none that the library
+/// makes.
+pub fn own_refusal(reason: &'static str) -> Error
+    ensures kind { IsIo IsOther result }
+    ensures text { refusal_text result ≡ reason.now }
 {
-    no_std_io::Error::other(text).is_other()
+    Error::from(no_std_io::Error::other(reason))
 }

@@ -1,10 +1,10 @@
 //! Content identifiers of version 0 and of version 1, as <https://github.com/multiformats/cid> has them.
-ghost use Rattle.std.specs.Prelude.{◌≡◌, ℕ, List, ◌++◌, Some, IfOk, OnOk, OnErr, IsErrOf, MatchResult};
+ghost use Rattle.std.specs.Prelude.{◌≡◌, ◌↔◌, ℕ, List, ◌++◌, Some, Option, IfOk, IfErr, OnOk, OnErr, IsErrOf, MatchResult};
 ghost use Rattle.multihash.specs.Reading.{Takes, CountsReader};
 ghost use Rattle.multihash.specs.Writing.{AppendsPart, CountsWriter};
-ghost use Rattle.multihash.specs.Refusal.{IsIo, IsReaderFault, of_io};
-ghost use Rattle.uses.specs.ContentId.{Content, content_of, IsContentId, FitsContentId, IsRefused, IsContentIdRefusal, BeginsOtherwise};
-ghost use Rattle.uses.specs.declared.content_id.ContentIdError.TheVariants.{Refused, OtherVersion};
+ghost use Rattle.multihash.specs.Refusal.{Refusal, IsIo, IsReaderFault, of_io};
+ghost use Rattle.uses.specs.ContentId.{Content, content_of, IsContentId, FitsContentId, IsRefused, IsContentIdRefusal, BeginsOtherwise, StopsInContentId, TakesAtContentIdError, LeavesOver};
+ghost use Rattle.uses.specs.declared.content_id.ContentIdError.TheVariants.{Refused, OtherVersion, LeftOver};
 
 mod codec;
 
@@ -75,10 +75,11 @@ impl<const S: usize> ContentId<S> {
     ///
     /// # Errors
     ///
-    /// - [`ContentIdError::OtherVersion`] with the first varint's number, where that is neither 1 nor 0x12, and
-    ///   with 0x12 where a length other than 32 follows that;
+    /// - [`ContentIdError::OtherVersion`] with the first varint's number, where that is neither 1 nor 0x12: that
+    ///   varint was taken; and with 0x12 where a length other than 32 follows that: both varints were taken;
     /// - [`ContentIdError::Refused`] with the errors of [`varint::read`] and of [`Multihash::read`], an unexpected
-    ///   end inside the digest of version 0, and the reader's own error.
+    ///   end inside the digest of version 0, and the reader's own error. The parts in front of the refused one were
+    ///   taken, and of it what those calls say; of the digest fewer than 32 bytes.
     pub fn read<R: Read>(r: &mut R) -> Result<Self, ContentIdError>
         ensures ok { IfOk result (λ id. (bytes : List ℕ) × IsContentId (content_of id) bytes
             × Takes (R.rest r.old) bytes (R.rest r.new)) }
@@ -94,6 +95,10 @@ impl<const S: usize> ContentId<S> {
         ensures other { (n : ℕ) (input : List ℕ) → BeginsOtherwise n input →
             R.rest r.old ≡ Some input →
             R.failures r.new ≡ R.failures r.old → IsErrOf result (OtherVersion n) }
+
+        // What an error took: of another version the bytes that show it.
+        ensures err { IfErr result (λ e.
+            TakesAtContentIdError S e (R.rest r.old) (R.rest r.new)) }
     {
         let version = varint::read(r)?;
         if version != VERSION && version != SHA2_256 {
@@ -117,11 +122,18 @@ impl<const S: usize> ContentId<S> {
     ///
     /// # Errors
     ///
-    /// Those of [`ContentId::read`], and [`ContentIdError::LeftOver`] where bytes follow the identifier.
+    /// Those of [`ContentId::read`], and [`ContentIdError::LeftOver`] with the number of bytes that follow the
+    /// identifier, where some do.
     pub fn from_bytes(bytes: &[u8]) -> Result<Self, ContentIdError>
         ensures ok { IfOk result (λ id. IsContentId (content_of id) bytes.now) }
         ensures found { (content : Content) → IsContentId content bytes.now →
             FitsContentId S content → MatchResult result (λ id. content_of id ≡ content) (λ _. ⊥) }
+        ensures other { (n : ℕ) →
+            (IsErrOf result (OtherVersion n) ↔ BeginsOtherwise n bytes.now) }
+        ensures left_over { (n : ℕ) →
+            (IsErrOf result (LeftOver n) ↔ LeavesOver S n bytes.now) }
+        ensures refused { (e : Refusal) → IsErrOf result (Refused e) →
+            (left : Option (List ℕ)) × StopsInContentId S e (Some bytes.now) left }
     {
         let mut left = bytes;
         let id = Self::read(&mut left)?;

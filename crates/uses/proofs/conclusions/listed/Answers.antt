@@ -2,8 +2,8 @@ use Rattle.multihash.specs.Verdict.{accepted}
 use Rattle.uses.proofs.ConclusionLemmas.{answered}
 use Rattle.uses.proofs.conclusions.listed.Goals as goal
 
-pub returns : goal.returns
-returns g c p is lists fits =
+pub returns-clause-found : goal.returns-clause-found
+returns-clause-found g c p is lists fits =
     let law = c.json_unique.ensures in
     let one = law.byte_array p _ is.digest lists in
     let v = c.from_value.ensures.verdict one.value one.holds in

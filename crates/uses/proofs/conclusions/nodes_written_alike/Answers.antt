@@ -1,14 +1,20 @@
-use Rattle.std.proofs.Common.{◌≡◌, IsTrue, ◌++◌, map, arith, rules}
+use Rattle.std.proofs.Common.{◌≡◌, ◌↔◌, IsTrue, ◌++◌, map, sym, ap, ◌∙◌, subst, arith, rules}
 use Rattle.std.proofs.lemmas.List.{length-map}
+use Rattle.multihash.specs.Joined.{AreJoined}
 use Rattle.multihash.specs.Answer.{pair_of}
 use Rattle.uses.proofs.conclusions.nodes_written_alike.Goals as goal
 
 pub returns : goal.returns
-returns g c same =
-    let links = c.args.links.now in
-    let others = c.args.other_links.now in
+returns g c =
+    let links = map pair_of c.args.links.now in
+    let others = map pair_of c.args.other_links.now in
+    let more = c.args.content.now in
     let first = c.in_ok-write_node.ensures.ok in
     let second = c.in_ok-write_node-2.ensures.ok in
-    let alike : IsTrue c.eq.result → first.0 ++ c.args.content.now ≡ second.0 ++ c.args.other_content.now = search rules in
-    c.split_unique.ensures.as_many (map pair_of links) (map pair_of others) first.0 second.0 _ _
-    (omega (arith, length-map links pair_of, length-map others pair_of, c.requires)) first.1 second.1 (alike same)
+    let alike : IsTrue c.eq.result ↔ (first.0 ++ more ≡ second.0 ++ c.args.other_content.now) = search rules in (
+      (λ is. c.split_unique.ensures.as_many links others first.0 second.0 _ _
+          (omega (arith, length-map c.args.links.now pair_of, length-map c.args.other_links.now pair_of, c.requires)) first.1 second.1 (alike.0 is)),
+      λ same.
+          let joined = c.split_unique.ensures.one_stream links first.0 second.0 first.1 (subst (λ z. AreJoined z second.0) (sym same.0) second.1) in
+          alike.1 (ap (λ z. z ++ more) joined ∙ ap (λ z. second.0 ++ z) same.1),
+    )

@@ -1,9 +1,10 @@
-use Rattle.std.proofs.Common.{◌≡◌, ℕ, List, ◌++◌, length, Some, Ok, Err, inl, inr, refl, sym, ap, ◌∙◌, subst, arith, rules}
+use Rattle.std.proofs.Common.{◌≡◌, ℕ, length, Some, Ok, Err, inl, inr, refl, sym, ap, ◌∙◌, subst, arith, rules}
+use Rattle.multihash.specs.Varint.{IsVarint}
 use Rattle.multihash.specs.Refusal.{of_io}
 use Rattle.multihash.specs.Answer.{pair_of}
 use Rattle.multihash.proofs.CallingLemmas.{varint_read, read_of_encoding, read_exact_of_bytes}
-use Rattle.uses.specs.ContentId.{version_0, version_1}
-use Rattle.uses.proofs.ContentIdLemmas.{parts, first_read, second_read, ends_version_0, ends_version_1, make_version_0, make_version_1, takes_three, passes}
+use Rattle.uses.specs.ContentId.{in_version, in_number, in_hash, in_digest}
+use Rattle.uses.proofs.ContentIdLemmas.{parts, first_read, second_read, ends_version_0, ends_version_1, make_version_0, make_version_1, takes_three, passes, refused_so, passed_stop, takes_other_number, takes_other_size}
 use Rattle.uses.proofs.content_id.ContentId.read.Goals as goal
 use Rattle.uses.proofs.content_id.ContentId.read.Goals.{else-version-ne-VERSION-via-then-version-ne-VERSION+else-version-ne-SHA2_256, else-version-ne-VERSION-via-else-version-ne-VERSION}
 
@@ -204,3 +205,52 @@ returns-clause-other g c n input h rest same =
     let k = h.not_0 (omega (arith, one.0)) in
     let two = varint_read k.size _ _ _ _ k.size_bytes k.rest (Ok c.in_ok-number.number) k.is_size (one.1 ∙ ap Some k.cut) met.faults met.ok met.front in
     absurd (k.not_32 (omega (arith, two.0)))
+
+-- ---- what an error took
+
+pub returns-in_err-version-clause-err : goal.returns-in_err-version-clause-err
+returns-in_err-version-clause-err g c =
+    passed_stop g.row.S _ _ c.in_err-version.field-0.0 _ c.from_residual.ensures.1
+    (in_version (refused_so _ _ c.in_err-version.ensures.faults) c.in_err-version.ensures.err)
+
+pub returns-then-version-ne-SHA2_256-clause-err : goal.returns-then-version-ne-SHA2_256-clause-err
+returns-then-version-ne-SHA2_256-clause-err g c =
+    takes_other_number c.in_ok-version.version _ _ (λ one. omega (arith, one)) (λ hash. omega (arith, hash)) c.in_ok-version.ensures.ok
+
+pub returns-in_err-number-clause-err : goal.returns-in_err-number-clause-err
+returns-in_err-number-clause-err g c =
+    passed_stop g.row.S _ _ c.in_err-number.field-0.0 _ c.from_residual-in_err-number.ensures.1
+    (in_number c.in_ok-version.version _
+    (elim c.else-version-ne-VERSION.branch [
+      | else-version-ne-VERSION-via-then-version-ne-VERSION+else-version-ne-SHA2_256 w ↦ inr (omega arith)
+      | else-version-ne-VERSION-via-else-version-ne-VERSION w ↦ inl (omega arith)
+    ])
+    c.in_ok-version.ensures.ok (refused_so _ _ c.in_err-number.ensures.faults) c.in_err-number.ensures.err)
+
+pub returns-in_err-hash-clause-err : goal.returns-in_err-hash-clause-err
+returns-in_err-hash-clause-err g c =
+    let v = c.in_ok-version.ensures.ok in
+    let one : c.in_ok-version.version ≡ 1 = omega arith in
+    passed_stop g.row.S _ _ c.in_err-hash.field-0.0 _ c.from_residual-in_err-hash.ensures.1
+    (in_hash c.in_ok-number.number _ _ (v.0, subst (λ n. IsVarint n v.0) one v.1, v.2) c.in_ok-number.ensures.ok
+    (refused_so _ _ c.in_err-hash.ensures.faults) c.in_err-hash.ensures.err)
+
+pub returns-then-number-ne-SHA2_256_SIZE-clause-err : goal.returns-then-number-ne-SHA2_256_SIZE-clause-err
+returns-then-number-ne-SHA2_256_SIZE-clause-err g c =
+    takes_other_size c.in_ok-version.version c.in_ok-number.number _ _ _ (omega arith) (λ whole. omega (arith, whole)) c.in_ok-version.ensures.ok c.in_ok-number.ensures.ok
+
+pub returns-in_err-read_exact-clause-err : goal.returns-in_err-read_exact-clause-err
+returns-in_err-read_exact-clause-err g c =
+    let v = c.in_ok-version.ensures.ok in
+    let n = c.in_ok-number.ensures.ok in
+    let zero : c.in_ok-version.version ≡ 0x12 = omega arith in
+    let whole : c.in_ok-number.number ≡ 32 = omega arith in
+    let met = c.in_err-read_exact.ensures.laws in
+    let fault = c.in_err-read_exact.field-0.0 in
+    passed_stop g.row.S _ _ (of_io fault) _ c.from_residual-in_err-read_exact.ensures.1
+    (in_digest _ _ (v.0, subst (λ z. IsVarint z v.0) zero v.1, v.2) (n.0, subst (λ z. IsVarint z n.0) whole n.1, n.2)
+    (elim met.faults [
+      | inl own ↦ inr (fault, refl, own.1)
+      | inr eof ↦ inl (fault, refl, eof.1)
+    ])
+    met.err)
