@@ -10,59 +10,16 @@ import subprocess
 import sys
 import tempfile
 
+sys.dont_write_bytecode = True
 HERE = os.path.dirname(os.path.realpath(__file__))
-SOURCE = """//! Sums, each with its value.
-#![tactic(auto)]
+sys.path.insert(0, HERE)
 
-ghost use Rattle.std.specs.Prelude.{◌≡◌, ◌+◌, ◌≤◌, length, take};
+from prover import small  # noqa: E402
 
-/// The number behind.
-pub fn next(n: u8) -> u16
-    ensures value { result ≡ n + 1 }
-{
-    n as u16 + 1
-}
-
-/// The number twice.
-pub fn twice(n: u8) -> u16
-    ensures value { result ≡ n + n }
-{
-    n as u16 + n as u16
-}
-
-/// The second number behind.
-pub fn after_next(n: u8) -> u16
-    ensures value { result ≡ n + 2 }
-{
-    next(n) + 1
-}
-
-/// Places, of which some hold a byte.
-pub struct Held<const N: usize> {
-    bytes: [u8; N],
-    len: usize,
-}
-
-impl<const N: usize> Held<N> {
-    /// The bytes that are held.
-    pub fn held(&self) -> &[u8]
-        requires { self.now.len ≤ N }
-        ensures held { result.now ≡ take self.now.len self.now.bytes }
-    {
-        &self.bytes[..self.len]
-    }
-}
-"""
-ANSWER = """use Rattle.std.proofs.Common.{arith}
-use Rattle.small.proofs.after_next.Goals as goal
-
-pub returns : goal.returns
-returns c = omega (arith, c.next.ensures)
-"""
 # Each edit: the text that stands in the source, and what is put there.
 EDITS = {
-    "adds_two": ("    n as u16 + 1\n", "    n as u16 + 2\n"),
-    "adds_three": ("    n as u16 + 1\n", "    n as u16 + 3\n"),
+    "adds_two": ("n as u16 + 1", "n as u16 + 2"),
+    "adds_three": ("n as u16 + 1", "n as u16 + 3"),
     "doubles": ("n as u16 + n as u16", "n as u16 * 2"),
     "adds_in_front": ("next(n) + 1", "1 + next(n)"),
     "calls_nothing": ("next(n) + 1", "n as u16 + 2"),
@@ -80,27 +37,8 @@ RUNS = [
 ]
 
 
-def write(path, text):
-    os.makedirs(os.path.dirname(path), exist_ok=True)
-    with open(path, "w", encoding="utf-8") as it:
-        it.write(text)
-
-
-def small_repository(root):
-    write(f"{root}/crates.txt", "small:\n")
-    write(f"{root}/HANDLES", "Handles allowed: none.\n")
-    write(f"{root}/crates/small/src/lib.rt", SOURCE)
-    write(f"{root}/crates/small/proofs/after_next/Answers.antt", ANSWER)
-
-
 def put_edits(root, names):
-    folder = f"{root}/crates/small/wrong"
-    os.makedirs(folder, exist_ok=True)
-    for it in os.listdir(folder):
-        os.remove(f"{folder}/{it}")
-    for name in names:
-        old, new = EDITS[name]
-        write(f"{folder}/{name}.edit", f"file: src/lib.rt\nold: {old.strip()}\nnew: {new.strip()}\n")
+    small.put_edits(root, {it: EDITS[it] for it in names})
 
 
 def run(root, proved):
@@ -134,7 +72,7 @@ def check_nothing(root, proved):
 
 def check_unproved(root):
     put_edits(root, ["adds_two"])
-    write(f"{root}/crates/small/src/lib.rt", SOURCE.replace("n + 2 }", "n + 3 }"))
+    small.write(f"{root}/crates/small/src/lib.rt", small.SOURCE.replace("n + 2 }", "n + 3 }"))
     status, said = run(root, f"{root}/unproved")
     return [] if status == 1 and "0 passed, 1 failed" in said else [f"a crate that is not proved: status {status}: {said[-300:]}"]
 
@@ -149,7 +87,7 @@ def check_right(root, proved):
 def main():
     passed = failed = 0
     with tempfile.TemporaryDirectory(prefix="small-") as root:
-        small_repository(root)
+        small.lay_out(root, is_alone=True)
         proved = f"{root}/proved"
         checks = [lambda wanted=it: check_run(root, proved, wanted) for it in RUNS]
         checks += [lambda: check_right(root, proved), lambda: check_nothing(root, proved), lambda: check_unproved(root)]

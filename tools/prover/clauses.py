@@ -16,6 +16,9 @@ class Clause:
         self.start, self.end, self.of, self.is_only = start, end, of, False
         self.label = f"{of}#{name}" if name else of
 
+    def is_gone(self):
+        return True
+
     def change(self):
         return (self.path, self.start, self.end, NOTHING)
 
@@ -48,7 +51,7 @@ def clauses_in(crate, path, text, known):
 def is_public(text, function):
     """Returns whether the function is `pub`, or keeps a trait's promise."""
     head = text[function.head : function.body]
-    return bool(re.search(r"\bpub\s+(?:const\s+)?fn\b", head)) or " for " in function.owner
+    return bool(re.search(r"\bpub\s+(?:const\s+|extern\s+\"C\"\s+)?fn\b", head)) or " for " in function.owner
 
 
 def files_of(folder, part):

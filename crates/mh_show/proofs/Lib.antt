@@ -1,3 +1,4 @@
+pub mod EmptyLineVectors
 pub mod NamingLemmas
 pub mod RunVectors
 pub mod ShowErrorVectors

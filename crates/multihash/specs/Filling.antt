@@ -19,5 +19,7 @@ Fills-none w = record { same_slice = refl; fills = FillsPlaces-none w.places.now
 pub Fills-joined : (a b c : SliceWriter) (x y : List ℕ) → Fills a x b → Fills b y c → Fills a (x ++ y) c
 Fills-joined a b c x y first second = record {
   same_slice = second.same_slice ∙ first.same_slice;
-  fills = FillsPlaces-joined a.places.now b.places.now c.places.now x y a.filled b.filled c.filled first.fills second.fills;
+  fills =
+      FillsPlaces-joined a.places.now b.places.now c.places.now x y a.filled b.filled c.filled first.fills
+      second.fills;
 }

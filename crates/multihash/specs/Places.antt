@@ -40,7 +40,8 @@ FillsPlaces-none a n within = record {
   count = omega arith;
 }
 
-pub FillsPlaces-joined : (a b c x y : List ℕ) (n m k : ℕ) → FillsPlaces a n x b m → FillsPlaces b m y c k → FillsPlaces a n (x ++ y) c k
+pub FillsPlaces-joined : (a b c x y : List ℕ) (n m k : ℕ)
+    → FillsPlaces a n x b m → FillsPlaces b m y c k → FillsPlaces a n (x ++ y) c k
 FillsPlaces-joined a b c x y n m k first second =
     let sum : length (x ++ y) ≡ length x + length y = length-append x y in
     let front : List ℕ = take n a ++ x in
@@ -55,10 +56,21 @@ FillsPlaces-joined a b c x y n m k first second =
     sym (drop-drop (length y) m b) ∙ ap (drop (length y)) behind ∙ drop-drop (length y) (n + length x) a
     ∙ ap (λ i. drop i a) (omega (arith, sum)) in
     record {
-      room = omega (arith, sum, second.room, long, ap length cut, length-append front rest, length-drop (n + length x) a, first.room, first.count);
+      room = omega (
+        arith,
+        sum,
+        second.room,
+        long,
+        ap length cut,
+        length-append front rest,
+        length-drop (n + length x) a,
+        first.room,
+        first.count,
+      );
       puts =
-          second.puts ∙ ap (λ (z : List ℕ). z ++ (y ++ drop (m + length y) b)) taken ∙ ap (λ (z : List ℕ). front ++ (y ++ z)) ends
-          ∙ append_assoc (take n a) x (y ++ left) ∙ ap (λ (z : List ℕ). take n a ++ z) (sym (append_assoc x y left));
+          second.puts ∙ ap (λ (z : List ℕ). z ++ (y ++ drop (m + length y) b)) taken
+          ∙ ap (λ (z : List ℕ). front ++ (y ++ z)) ends ∙ append_assoc (take n a) x (y ++ left)
+          ∙ ap (λ (z : List ℕ). take n a ++ z) (sym (append_assoc x y left));
       count = omega (arith, sum, first.count, second.count);
     }
 

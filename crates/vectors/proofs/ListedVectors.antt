@@ -144,6 +144,14 @@ decodes_after_no_ten h =
     (invalid_size 5) ends scale_size_first in
     cc
 
+-- nor is the size's own byte left out
+decodes_after_no_eight : ¬ (DecodesAfter 4 (zeros ++ 5 ∷ 7 ∷ []) 8)
+decodes_after_no_eight h =
+    let (rest, cut) = h.begins in
+    let (whole, none) = same_cut h.front zeros rest (5 ∷ 7 ∷ []) h.long (sym cut) in
+    h.late (scale_verdict_unique 4 zeros h.verdict unexpected_eof
+    (subst (λ (z : List ℕ). HasScaleVerdict 4 z h.verdict) whole h.decodes) scale_eight_bytes)
+
 -- what ends early decodes after no byte
 decodes_no_early_end : ¬ (DecodesAfter 4 zeros 8)
 decodes_no_early_end h =

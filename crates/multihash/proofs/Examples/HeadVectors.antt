@@ -1,7 +1,7 @@
 -- The heads of known inputs, and what is no head of them.
 use Rattle.std.proofs.Common.{◌≡◌, ℕ, List, [], ◌∷◌, ◌++◌, ◌∙◌, length, drop, refl, sym, ap, arith}
 use Rattle.multihash.specs.Head.{HasHead}
-use Rattle.multihash.proofs.Examples.VarintVectors.{varint_0, varint_5}
+use Rattle.multihash.proofs.Examples.VarintVectors.{varint_0, varint_1, varint_5}
 use Rattle.multihash.proofs.Examples.VerdictVectors.{size_5}
 use Rattle.multihash.proofs.Readings.VerdictLemmas.{same_number}
 
@@ -30,6 +30,14 @@ head_is code size len h =
 
 no_other_number : ¬ (HasHead 1 5 2 input) × ¬ (HasHead 0 4 2 input)
 no_other_number = ((λ h. omega (arith, (head_is 1 5 2 h).0)), λ h. omega (arith, (head_is 0 4 2 h).1))
+
+no_smaller_code : ¬ (HasHead 0 5 2 (0x01 ∷ 0x05 ∷ []))
+no_smaller_code h =
+    let h_size = h.varints in
+    let first =
+    same_number (0x01 ∷ 0x05 ∷ []) h_size.code 1 (h_size.size_bytes ++ []) (0x05 ∷ [])
+    (h_size.code_bytes, h_size.is_code, h_size.cut) (0x01 ∷ [], varint_1, refl) in
+    omega (arith, h.is_code, first.0)
 
 -- the digest's first byte is no part of a head, and both varints are
 no_other_length : ¬ (HasHead 0 5 3 input) × ¬ (HasHead 0 5 1 input)

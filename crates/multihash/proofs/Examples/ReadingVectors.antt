@@ -157,6 +157,10 @@ writes_not_beyond_count : ¬
     (ReadLaws left failed (1 ∷ 2 ∷ [], 0) (2 ∷ [], 0) (7 ∷ 8 ∷ []) (1 ∷ 9 ∷ []) (Ok 1))
 writes_not_beyond_count h = omega (arith, ap (λ (z : List ℕ). get_or z 0 0) h.beyond)
 
+-- nor where nothing was read
+writes_not_at_end : ¬ (ReadLaws left failed ([], 0) ([], 0) (7 ∷ []) (8 ∷ []) (Ok 0))
+writes_not_at_end h = omega (arith, ap (λ (z : List ℕ). get_or z 0 0) h.beyond)
+
 reads_with_no_hidden_fault : ¬ (ReadLaws left failed (1 ∷ [], 0) ([], 1) (7 ∷ []) (1 ∷ []) (Ok 1))
 reads_with_no_hidden_fault h = omega (arith, h.faults)
 
