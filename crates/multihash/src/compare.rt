@@ -126,10 +126,11 @@ fn same_words(a: &[u8], b: &[u8]) -> bool
     ensures { result ≡ pointwise ◌==◌ a.now b.now }
 {
     let len = a.len();
+    let ends = same_word(a, b, 0) & same_word(a, b, len - 16);
     if len <= 32 {
-        return same_word(a, b, 0) & same_word(a, b, len - 16);
+        return ends;
     }
-    same_word(a, b, 0) & same_word(a, b, len - 16) & same_word(a, b, 16) & same_word(a, b, len - 32)
+    ends & same_word(a, b, 16) & same_word(a, b, len - 32)
 }
 
 // Whether the sixteen bytes from there on are equal.
@@ -154,8 +155,7 @@ fn word_at(bytes: &[u8], at: usize) -> u128
     }
 }
 
-// How the bytes compare. The usual length is compared as a whole, with no loop, and equal bytes of another length, as
-// those of a key that is found, are seen to be equal first, which is cheaper than to order them.
+// How the bytes compare. The usual length is compared as a whole, with no loop.
 #[inline(always)]
 fn order_of_bytes(a: &[u8], b: &[u8]) -> Ordering
     ensures { result ≡ slice_cmp nat_cmp a.now b.now }
@@ -165,6 +165,14 @@ fn order_of_bytes(a: &[u8], b: &[u8]) -> Ordering
             return whole.cmp(other);
         }
     }
+    order_of_unusual(a, b)
+}
+
+// As `order_of_bytes`. Equal bytes, as those of a key that is found, are seen to be equal by words first.
+#[inline(never)]
+fn order_of_unusual(a: &[u8], b: &[u8]) -> Ordering
+    ensures { result ≡ slice_cmp nat_cmp a.now b.now }
+{
     if same_bytes(a, b) {
         return Ordering::Equal;
     }

@@ -1,6 +1,5 @@
-use Rattle.std.proofs.Common.{◌≡◌, ◌∙◌, sym, ap, arith}
-use Rattle.std.specs.Cmp.{Equal-is, unsigned_ties}
-use Rattle.std.specs.Cmp.Lexicographic.{slice_cmp, lists_ties}
+use Rattle.std.proofs.Common.{◌≡◌, ◌∙◌, ap, arith}
+use Rattle.std.specs.Cmp.Lexicographic.{slice_cmp}
 use Rattle.std.specs.Ordering.{nat_cmp}
 use Rattle.std.proofs.lemmas.List.{take_all}
 use Rattle.multihash.proofs.compare.order_of_bytes.Goals as goal
@@ -12,9 +11,3 @@ returns-in-Some-Some c =
     let right : c.in-Some-Some.other.now ≡ c.args.b.now =
     c.in-Some-Some.ensures'.cases.same ∙ take_all 32 c.args.b.now (omega (arith, c.if-b-eq32.true)) in
     c.cmp.ensures ∙ ap (λ l. slice_cmp nat_cmp l c.in-Some-Some.other.now) left ∙ ap (λ l. slice_cmp nat_cmp c.args.a.now l) right
-
-pub returns-then-same_bytes : goal.returns-then-same_bytes
-returns-then-same_bytes c =
-    let a = c.args.a.now in
-    let b = c.args.b.now in
-    sym ((Equal-is (slice_cmp nat_cmp a b)).0 (sym (lists_ties nat_cmp unsigned_ties a b) ∙ sym c.same_bytes.ensures ∙ c.if-same_bytes.true))

@@ -10,10 +10,10 @@ returns-then-len-le32 c =
     let k = length a - 16 in
     is_pointwise _ a b
     (λ all.
-    let parts = and_parts c.same_word.result c.same_word-then-len-le32.result all in
+    let parts = and_parts c.same_word.result c.same_word-2.result all in
     two_cover k a b (omega (arith, c.requires.least)) (omega (arith, c.requires.least, c.requires.same)) (omega (arith, c.if-len-le32.true))
-    (c.same_word.ensures.0 parts.0) (c.same_word-then-len-le32.ensures.0 parts.1))
-    (λ same. rw (c.same_word.ensures.1 (ap (window 0) same), c.same_word-then-len-le32.ensures.1 (ap (window k) same)) refl)
+    (c.same_word.ensures.0 parts.0) (c.same_word-2.ensures.0 parts.1))
+    (λ same. rw (c.same_word.ensures.1 (ap (window 0) same), c.same_word-2.ensures.1 (ap (window k) same)) refl)
 
 pub returns : goal.returns
 returns c =
@@ -24,11 +24,11 @@ returns c =
     let next : n ≡ k + 16 = omega (arith, c.if-len-le32.false) in
     is_pointwise _ a b
     (λ all.
-    let outer = and_parts _ c.same_word-5.result all in
-    let inner = and_parts _ c.same_word-4.result outer.0 in
-    let ends = and_parts c.same_word-2.result c.same_word-3.result inner.0 in
-    let last = c.same_word-3.ensures.0 ends.1 in
+    let outer = and_parts _ c.same_word-4.result all in
+    let inner = and_parts _ c.same_word-3.result outer.0 in
+    let ends = and_parts c.same_word.result c.same_word-2.result inner.0 in
+    let last = c.same_word-2.ensures.0 ends.1 in
     four_cover k a b (omega (arith, c.if-len-le32.false)) (omega (arith, c.if-len-le32.false, c.requires.same)) (omega (arith, c.requires.most))
-    (c.same_word-2.ensures.0 ends.0) (c.same_word-4.ensures.0 inner.1) (c.same_word-5.ensures.0 outer.1)
+    (c.same_word.ensures.0 ends.0) (c.same_word-3.ensures.0 inner.1) (c.same_word-4.ensures.0 outer.1)
     (ap (λ i. window i a) (sym next) ∙ last ∙ ap (λ i. window i b) next))
-    (λ same. rw (c.same_word-2.ensures.1 (ap (window 0) same), c.same_word-3.ensures.1 (ap (window n) same), c.same_word-4.ensures.1 (ap (window 16) same), c.same_word-5.ensures.1 (ap (window k) same)) refl)
+    (λ same. rw (c.same_word.ensures.1 (ap (window 0) same), c.same_word-2.ensures.1 (ap (window n) same), c.same_word-3.ensures.1 (ap (window 16) same), c.same_word-4.ensures.1 (ap (window k) same)) refl)
