@@ -63,12 +63,25 @@ fn find_front(bytes: &[u8]) -> (u64, usize)
 }
 
 // As `find_front`, where fewer bytes are left than a word has.
-#[inline(never)]
+#[inline(always)]
 fn find_short(bytes: &[u8]) -> (u64, usize)
     requires { length bytes.now < 16 }
     ensures { IsFoundFront bytes.now result.0 result.1 }
 {
-    find_in(padded_word(bytes), bytes.len())
+    // A byte that is a whole varint needs no word.
+    if bytes.len() >= 1 && bytes[0] < 128 {
+        (u64::from(bytes[0]), 1)
+    } else {
+        find_padded(bytes)
+    }
+}
+
+#[inline(never)]
+fn find_padded(bytes: &[u8]) -> (u64, usize)
+    requires { length bytes.now < 16 }
+    ensures { IsFoundFront bytes.now result.0 result.1 }
+{
+    find_long(padded_word(bytes), bytes.len())
 }
 
 // The word of at most sixteen bytes, the lowest first, with zeros for those that are missing.
