@@ -173,7 +173,7 @@ fn order_of_bytes(a: &[u8], b: &[u8]) -> Ordering
 fn order_of_unusual(a: &[u8], b: &[u8]) -> Ordering
     ensures { result ≡ slice_cmp nat_cmp a.now b.now }
 {
-    if same_bytes(a, b) {
+    if a.len() == b.len() && same_bytes(a, b) {
         return Ordering::Equal;
     }
     a.cmp(b)
