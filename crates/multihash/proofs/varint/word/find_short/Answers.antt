@@ -1,14 +1,8 @@
-use Rattle.std.proofs.Common.{length, ◌<◌, arith}
-use Rattle.std.proofs.lemmas.List.{take_more}
-use Rattle.multihash.proofs.Varints.VarintWriteLemmas.{one_byte}
+use Rattle.std.proofs.Common.{arith}
+use Rattle.multihash.proofs.Varints.WordFillingLemmas.{bytes_of, all_front}
 use Rattle.multihash.proofs.varint.word.find_short.Goals as goal
 
-pub returns-then-bytes-lt128 : goal.returns-then-bytes-lt128
-returns-then-bytes-lt128 c =
-    let bytes = c.args.bytes.now in
-    let some : 0 < length bytes = omega (arith, c.if-bytes-ge1.true) in
-    record {
-      some = λ _. rw (c.from.ensures, take_more bytes 0 0 some) (one_byte _ c.if-bytes-lt128.true);
-      within = omega (arith, some);
-      none = λ z. absurd (omega (arith, z));
-    }
+pub returns : goal.returns
+returns c =
+    c.find_in.ensures c.args.bytes.now (bytes_of c.args.bytes.now (λ i. omega (arith, c.type_inv.bytes i)))
+    (all_front c.args.bytes.now _ c.requires c.padded_word.ensures)
