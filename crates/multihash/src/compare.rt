@@ -1,5 +1,5 @@
 //! Comparing, and feeding a hasher.
-ghost use Rattle.std.specs.Prelude.{◌≡◌, ◌==◌, ◌<◌, ◌≤◌, ◌+◌, ◌-◌, ◌↔◌, length, take, drop, Some, IsTrue};
+ghost use Rattle.std.specs.Prelude.{◌≡◌, ◌==◌, ◌<◌, ◌≤◌, ◌+◌, ◌-◌, ◌↔◌, length, take, drop, false, Some, IsTrue};
 ghost use Rattle.std.proofs.Common.{rules};
 ghost use Rattle.std.specs.Cmp.{partial_order_from_own_ties};
 ghost use Rattle.std.specs.Cmp.Lexicographic.{pointwise, slice_cmp};
@@ -99,16 +99,22 @@ impl<const S: usize> Hash for Multihash<S> {
 fn same_bytes(a: &[u8], b: &[u8]) -> bool
     ensures { result ≡ pointwise ◌==◌ a.now b.now }
 {
-    if let (Some(front), Some(other)) = (a.first_chunk::<4>(), b.first_chunk::<4>()) {
-        if u32::from_le_bytes(*front) != u32::from_le_bytes(*other) {
-            return false;
-        }
-    }
     let len = a.len();
     if len > 64 || len < 16 || len != b.len() {
-        return a == b;
+        return !differ_early(a, b) && a == b;
     }
-    same_words(a, b)
+    !differ_early(a, b) && same_words(a, b)
+}
+
+// Whether the first four bytes differ.
+#[inline(always)]
+fn differ_early(a: &[u8], b: &[u8]) -> bool
+    ensures { IsTrue result → (pointwise ◌==◌ a.now b.now ≡ false) }
+{
+    match (a.first_chunk::<4>(), b.first_chunk::<4>()) {
+        (Some(front), Some(other)) => u32::from_le_bytes(*front) != u32::from_le_bytes(*other),
+        _ => false,
+    }
 }
 
 // Whether 16 to 64 bytes are equal, by words that may overlap.
@@ -158,6 +164,17 @@ fn order_of_bytes(a: &[u8], b: &[u8]) -> Ordering
         if let (Some(whole), Some(other)) = (a.first_chunk::<32>(), b.first_chunk::<32>()) {
             return whole.cmp(other);
         }
+    }
+    order_of_unusual(a, b)
+}
+
+// As `order_of_bytes`. Equal bytes, as those of a key that is found, are seen to be equal by words first.
+#[inline(never)]
+fn order_of_unusual(a: &[u8], b: &[u8]) -> Ordering
+    ensures { result ≡ slice_cmp nat_cmp a.now b.now }
+{
+    if a.len() == b.len() && same_bytes(a, b) {
+        return Ordering::Equal;
     }
     a.cmp(b)
 }

@@ -4,7 +4,7 @@
 //! (<https://github.com/multiformats/unsigned-varint>). It is the form in which multiformats spells its numbers:
 //! the code and the length of a multihash, the version and the codec of a content identifier, the parts of a
 //! multiaddr.
-ghost use Rattle.std.specs.Prelude.{◌≡◌, ◌<◌, ◌≤◌, ◌+◌, ◌⊎◌, ℕ, List, [], ◌∷◌, length, take, Some, IfSome, MatchOption, IfOk, IfErr, OnErr};
+ghost use Rattle.std.specs.Prelude.{◌≡◌, ◌<◌, ◌≤◌, ◌+◌, ◌^◌, ◌⊎◌, ℕ, List, [], ◌∷◌, length, take, Some, IfSome, MatchOption, IfOk, IfErr, OnErr};
 ghost use Rattle.multihash.specs.Varint.{IsVarint, varint_limit, max_marked};
 ghost use Rattle.std.specs.Io.KnownBytes.{IsAtEnd};
 ghost use Rattle.multihash.specs.Reading.{Takes, CountsReader, NoOtherError};
@@ -142,6 +142,12 @@ pub(crate) fn len_in_range(n: u64) -> usize
     if n < 128 {
         return 1;
     }
+    if n < 1 << 14 {
+        return 2;
+    }
+    if n < 1 << 21 {
+        return 3;
+    }
     encode(n).as_bytes().len()
 }
 
@@ -161,9 +167,43 @@ pub(crate) fn write_in_range<W: Write>(n: u64, w: &mut W) -> Result<usize, no_st
         w.write_all(&[n as u8])?;
         return Ok(1);
     }
+    // The longer codes in use have two bytes or three.
+    if n < 1 << 14 {
+        w.write_all(&two_bytes(n))?;
+        return Ok(2);
+    }
+    if n < 1 << 21 {
+        w.write_all(&three_bytes(n))?;
+        return Ok(3);
+    }
     let varint = encode(n);
     w.write_all(varint.as_bytes())?;
     Ok(varint.as_bytes().len())
+}
+
+// The varint of a number that has two bytes.
+#[inline(always)]
+fn two_bytes(n: u64) -> [u8; 2]
+    requires least { 128 ≤ n }
+    requires most { n < 2 ^ 14 }
+    ensures { IsVarint n result }
+{
+    [(n & 0x7f) as u8 | 0x80, (n >> 7) as u8]
+}
+
+// The varint of a number that has three bytes.
+#[inline(always)]
+fn three_bytes(n: u64) -> [u8; 3]
+    requires least { 2 ^ 14 ≤ n }
+    requires most { n < 2 ^ 21 }
+    ensures { IsVarint n result }
+{
+    let rest = n >> 7;
+    [
+        (n & 0x7f) as u8 | 0x80,
+        (rest & 0x7f) as u8 | 0x80,
+        (rest >> 7) as u8,
+    ]
 }
 
 /// Reads the varint that comes next, one byte at a time, and answers its number: what follows it in `r` stays unread.

@@ -72,6 +72,19 @@ module _ (now : List ℕ) (len n rest : ℕ) (h : Wrote now len n rest) where
 pub one_byte : (n : ℕ) → n < 128 → IsVarint n (n ∷ [])
 one_byte n small = wrote_last [] 0 n n (none_wrote n) (omega (arith, small)) small
 
+-- the varint of a number that has two bytes
+pub two_byte : (n : ℕ) → 128 ≤ n → n < 2 ^ 14 → IsVarint n (bit_or (bit_and n 127) 128 ∷ n / 128 ∷ [])
+two_byte n least most =
+    wrote_last _ 1 n (n / 128) (wrote_more [] 0 n n (none_wrote n) _ least refl) (omega (arith, most)) (omega (arith, most))
+
+-- the varint of a number that has three bytes
+pub three_byte : (n : ℕ) → 2 ^ 14 ≤ n → n < 2 ^ 21
+    → IsVarint n (bit_or (bit_and n 127) 128 ∷ bit_or (bit_and (n / 128) 127) 128 ∷ n / 128 / 128 ∷ [])
+three_byte n least most =
+    let first = wrote_more [] 0 n n (none_wrote n) (bit_or (bit_and n 127) 128 ∷ []) (omega (arith, least)) refl in
+    wrote_last _ 2 n (n / 128 / 128) (wrote_more _ 1 n (n / 128) first _ (omega (arith, least)) refl)
+    (omega (arith, most)) (omega (arith, most))
+
 -- each number in range has a varint
 exists_from : (k : ℕ) (now : List ℕ) (len n rest : ℕ) → Wrote now len n rest → n < varint_limit → rest < 128 ^ suc k
     → (bytes : List ℕ) × IsVarint n bytes

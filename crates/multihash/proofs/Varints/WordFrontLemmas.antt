@@ -3,7 +3,6 @@ use Rattle.std.proofs.Common.{◌≡◌, ℕ, zero, suc, ◌+◌, ◌-◌, ◌*�
 use Rattle.std.proofs.Math.Nat.{add-zero, lt_of_not-le, zero-add}
 use Rattle.std.proofs.Math.Seq.{take-add}
 use Rattle.std.proofs.lemmas.Nat.{and_mask}
-use Rattle.std.proofs.lemmas.Nat.Bits.{and_pow}
 use Rattle.std.proofs.lemmas.List.{get_or_past, get_or-take, get_or-drop, length-take, length-take-le, nil_from_length}
 use Rattle.std.proofs.lemmas.List.{take_more, take-take, take_all, take-append-drop, drop_more, drop-take}
 use Rattle.std.proofs.lemmas.List.Elements.{All-nil, All-take, All-drop, All-more}
@@ -12,7 +11,6 @@ use Rattle.multihash.specs.Varint.{max_marked, last_byte_limit, IsMarked, IsVari
 use Rattle.multihash.specs.Word.{IsFrontWord, BeginsMarked, digits_low}
 use Rattle.multihash.proofs.Varints.MarkedLemmas.{low_digits, or_digits}
 use Rattle.multihash.proofs.Varints.VarintLemmas.{varint_from_bytes, overflow_behind, zero_behind}
-use Rattle.multihash.proofs.Varints.VarintWriteLemmas.{one_byte}
 use Rattle.multihash.proofs.Varints.WordLemmas.{byte_at, byte_of, halves, low_bytes, high_bytes, digits_low_of}
 use Rattle.multihash.proofs.Varints.StopLemmas.{stops, stop_at, varint_bits, StopsAt, first_unmarked, last_place, too_large, kept_last, few_marked, too_large_byte}
 
@@ -118,15 +116,6 @@ module _ (xs : List ℕ) (at half : ℕ) (bytes : IsBytes xs) (is : half ≡ pla
 module _ (xs : List ℕ) (word present : ℕ) (bytes : IsBytes xs) (f : IsFrontWord xs word present) where
   front_bytes : IsBytes (take 16 xs)
   front_bytes = All-take (λ b. b < 256) 16 xs bytes
-
-  pub single_byte : 0 < present → bit_and word 128 ≡ 0 → IsVarint (bit_and word 127) (take 1 xs)
-  single_byte some unset =
-      let below : 0 < length xs = omega (arith, f.present_is) in
-      let byte : word % 256 ≡ get_or xs 0 0 =
-      omega (arith, ap (λ (n : ℕ). byte_at n 0) f.word_is, byte_of (take 16 xs) 0 front_bytes, get_or-take 16 xs 0 0 (omega arith)) in
-      let small : get_or xs 0 0 < 128 = omega (arith, byte, and_pow word 7) in
-      let value : bit_and word 127 ≡ get_or xs 0 0 = omega (arith, byte, and_mask word 7, small) in
-      rw (value, take_more xs 0 0 below) (one_byte (get_or xs 0 0) small)
 
   -- ---- the low half
 

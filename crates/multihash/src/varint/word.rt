@@ -56,6 +56,18 @@ pub(crate) fn front_fault(bytes: &[u8]) -> Error
 fn find_front(bytes: &[u8]) -> (u64, usize)
     ensures { IsFoundFront bytes.now result.0 result.1 }
 {
+    // Most varints have one byte, which needs no word.
+    if bytes.len() >= 1 && bytes[0] < 128 {
+        (u64::from(bytes[0]), 1)
+    } else {
+        find_long(bytes)
+    }
+}
+
+#[inline(never)]
+fn find_long(bytes: &[u8]) -> (u64, usize)
+    ensures { IsFoundFront bytes.now result.0 result.1 }
+{
     match bytes.first_chunk::<WORD_LEN>() {
         Some(front) => find_in(u128::from_le_bytes(*front), WORD_LEN),
         None => find_short(bytes),
@@ -85,19 +97,6 @@ fn padded_word(bytes: &[u8]) -> u128
 // As `find_front` of the bytes that the word holds the first of.
 #[inline(always)]
 fn find_in(word: u128, present: usize) -> (u64, usize)
-    ensures { (bytes : List ℕ) → IsBytes bytes → IsFrontWord bytes word present →
-        IsFoundFront bytes result.0 result.1 }
-{
-    // Most varints have one byte.
-    if word & 0x80 == 0 && present > 0 {
-        ((word & 0x7f) as u64, 1)
-    } else {
-        find_long(word, present)
-    }
-}
-
-#[inline(never)]
-fn find_long(word: u128, present: usize) -> (u64, usize)
     ensures { (bytes : List ℕ) → IsBytes bytes → IsFrontWord bytes word present →
         IsFoundFront bytes result.0 result.1 }
 {

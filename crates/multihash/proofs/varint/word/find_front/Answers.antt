@@ -1,9 +1,14 @@
-use Rattle.std.proofs.Common.{arith}
-use Rattle.multihash.proofs.Varints.WordFillingLemmas.{bytes_of, whole_front}
+use Rattle.std.proofs.Common.{length, ◌<◌, arith}
+use Rattle.std.proofs.lemmas.List.{take_more}
+use Rattle.multihash.proofs.Varints.VarintWriteLemmas.{one_byte}
 use Rattle.multihash.proofs.varint.word.find_front.Goals as goal
 
-pub returns-in-Some : goal.returns-in-Some
-returns-in-Some c =
-    let found = c.in-Some.ensures.cases in
-    c.find_in.ensures c.args.bytes.now (bytes_of c.args.bytes.now (λ i. omega (arith, c.type_inv.bytes i)))
-    (whole_front c.args.bytes.now c.in-Some.front.now _ c.from_le_bytes.ensures found.same found.enough)
+pub returns-then-bytes-lt128 : goal.returns-then-bytes-lt128
+returns-then-bytes-lt128 c =
+    let bytes = c.args.bytes.now in
+    let some : 0 < length bytes = omega (arith, c.if-bytes-ge1.true) in
+    record {
+      some = λ _. rw (c.from.ensures, take_more bytes 0 0 some) (one_byte _ c.if-bytes-lt128.true);
+      within = omega (arith, some);
+      none = λ z. absurd (omega (arith, z));
+    }
