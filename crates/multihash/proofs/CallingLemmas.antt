@@ -29,10 +29,11 @@ use Rattle.multihash.proofs.Readings.ReadingLemmas.{Takes-cut, Takes-told}
 use Rattle.multihash.proofs.Writings.FillingLemmas.{slice_writer_has_room}
 use Rattle.multihash.proofs.Writings.WritingLemmas.{length_of_not_nil}
 use Rattle.multihash.proofs.Values.PairLemmas.{IsSame-refl, IsSame-equal}
-use Rattle.multihash.proofs.Readings.VerdictLemmas.{same_cut, same_number, encoding_same, encoding_unique, verdict_unique, whole_verdict_unique}
-use Rattle.multihash.proofs.Varints.VarintLemmas.{number_no_fault}
+use Rattle.multihash.proofs.Readings.VerdictLemmas.{verdict_unique, whole_verdict_unique}
+use Rattle.multihash.proofs.Varints.VarintLemmas.{number_no_fault, same_number}
 use Rattle.multihash.proofs.Forms.ScaleLemmas.{scale_split, scale_verdict_unique}
 use Rattle.multihash.proofs.Forms.JoinedLemmas.{none_left, first_of, same_first, joined_unique}
+use Rattle.multihash.proofs.Writings.EncodingLemmas.{same_cut, encoding_same, encoding_unique}
 
 -- two pairs are the same exactly where their encodings are one list
 pub same_encoding : (p q : Pair) (x y : List ℕ) → IsEncoding p x → IsEncoding q y → IsSame p q ↔ (x ≡ y)

@@ -3,7 +3,7 @@ use Rattle.std.proofs.Common.{◌≡◌, ℕ, List, [], ◌∷◌, ◌++◌, len
 use Rattle.multihash.specs.Varint.{VarintFault, insufficient, overflow, not_minimal}
 use Rattle.multihash.specs.Verdict.{faulty}
 use Rattle.multihash.specs.Head.{HasHead}
-use Rattle.multihash.proofs.Readings.VerdictLemmas.{verdict_unique, same_number}
+use Rattle.multihash.proofs.Readings.VerdictLemmas.{verdict_unique}
 use Rattle.multihash.proofs.Examples.VarintVectors.{varint_0, varint_5}
 use Rattle.multihash.proofs.Examples.VerdictVectors.{code_alone}
 use Rattle.multihash_c.specs.declared.front.Front.{Front}
@@ -13,6 +13,7 @@ use Rattle.multihash_c.specs.Front.{TellsHead, TellsFault, ReadsFront}
 use Rattle.multihash_c.proofs.DecodedVectors.{answer}
 use Rattle.multihash_c.proofs.ReadLemmas.{fault_read}
 use Rattle.multihash_c.proofs.ReadVectors.{large, large_head, cut, cut_head, padded, padded_front, shortest_of_padded, reads_no_byte_behind_fault, reads_no_part_of_insufficient}
+use Rattle.multihash.proofs.Varints.VarintLemmas.{same_number}
 
 abbrev front : ℕ → ℕ → ℕ → ℕ → Front
 front status code digest_length taken =

@@ -4,7 +4,7 @@ use Rattle.multihash.specs.Varint.{insufficient, not_minimal, HasFaultyFront}
 use Rattle.multihash.specs.Verdict.{BeginsWith, accepted, invalid_size, faulty, unexpected_eof, HasVerdict}
 use Rattle.multihash.specs.Settling.{IsShortestSettling}
 use Rattle.multihash.specs.Head.{HasHead}
-use Rattle.multihash.proofs.Readings.VerdictLemmas.{verdict_unique, same_number}
+use Rattle.multihash.proofs.Readings.VerdictLemmas.{verdict_unique}
 use Rattle.multihash.proofs.Readings.ShortestLemmas.{shortest_pair, shortest_code_fault, shortest_unique}
 use Rattle.multihash.proofs.Examples.SettlingVectors.{shortest_of_size}
 use Rattle.multihash.proofs.Examples.ReadingVectors.{taken_is}
@@ -15,6 +15,7 @@ use Rattle.multihash.proofs.Examples.VerdictVectors.{size_5, digest_cut, empty_i
 use Rattle.multihash_c.specs.Decoded.{Tells, ReadsWithin}
 use Rattle.multihash_c.proofs.DecodedVectors.{answer, input}
 use Rattle.multihash_c.proofs.ReadLemmas.{size_read, end_read, read_of_encoding, fault_read}
+use Rattle.multihash.proofs.Varints.VarintLemmas.{same_number}
 
 -- ---- examples
 

@@ -11,7 +11,7 @@ use Rattle.multihash.specs.Taking.{TakesShortestSettling}
 use Rattle.multihash.specs.Reading.{Takes}
 use Rattle.multihash.specs.Refusal.{Refusal}
 use Rattle.multihash.specs.Answer.{Fields, pair_of, IsRefusal, Answers}
-use Rattle.multihash.proofs.Readings.VerdictLemmas.{same_cut}
+use Rattle.multihash.proofs.Writings.EncodingLemmas.{same_cut}
 
 -- what was taken is as long as the one shortest beginning that settles
 pub shortest_len : (S : ℕ) (input left : List ℕ) (one : ExactlyOne (IsShortestSettling S input)) → TakesShortestSettling S input (Some left)

@@ -13,15 +13,15 @@ use Rattle.multihash.specs.Refusal.{Refusal, IsReaderFault}
 use Rattle.multihash.proofs.CallingLemmas.{varint_read}
 use Rattle.multihash.proofs.OutcomeLemmas.{OnErr-always}
 use Rattle.multihash.proofs.Readings.ReadingLemmas.{Takes-joined, Takes-told}
-use Rattle.multihash.proofs.Readings.VerdictLemmas.{same_number, encoding_same}
 use Rattle.multihash.proofs.Values.ValueLemmas.{digest_fits}
-use Rattle.multihash.proofs.Varints.VarintLemmas.{varint_unique}
+use Rattle.multihash.proofs.Varints.VarintLemmas.{varint_unique, same_number}
 use Rattle.multihash.proofs.Writings.WritingLemmas.{length_of_not_nil}
 use Rattle.uses.specs.ContentId.{Content, version_0, version_1, content_of, IsContentId, FitsContentId, IsRefused, IsContentIdRefusal, HasOtherSize, BeginsOtherwise, TakesOtherVersion, StopsInContentId, TakesAtContentIdError}
 use Rattle.uses.specs.declared.content_id.ContentId.{ContentId}
 use Rattle.uses.specs.declared.content_id.ContentId.TheVariants.{V0, V1}
 use Rattle.uses.specs.declared.content_id.ContentIdError.{ContentIdError}
 use Rattle.uses.specs.declared.content_id.ContentIdError.TheVariants.{Refused, OtherVersion}
+use Rattle.multihash.proofs.Writings.EncodingLemmas.{encoding_same}
 
 -- the numbers of both varints
 abbrev pub first_number : Content → ℕ

@@ -8,12 +8,13 @@ use Rattle.multihash.proofs.Examples.FaultVectors.{eof}
 use Rattle.multihash.proofs.Examples.ReadingVectors.{taken_is}
 use Rattle.multihash.proofs.Examples.VarintVectors.{all_marked, varint_1, varint_2}
 use Rattle.multihash.proofs.Readings.ReadingLemmas.{Takes-told}
-use Rattle.multihash.proofs.Readings.VerdictLemmas.{encoding_unique, same_number}
 use Rattle.multihash.proofs.Writings.WritingLemmas.{length_of_not_nil}
 use Rattle.uses.specs.ContentId.{version_1, FitsContentId, BeginsOtherwise, TakesOtherVersion, StopsInContentId, in_version, in_number, in_hash, in_digest, TakesAtContentIdError, LeavesOver}
 use Rattle.uses.specs.declared.content_id.ContentIdError.TheVariants.{OtherVersion, LeftOver}
 use Rattle.uses.proofs.ContentIdLemmas.{one_place, takes_other_number}
 use Rattle.uses.proofs.ContentIdVectors.{varint_18, varint_32, two_bytes, dag_json, names_dag_json, fits_no_smaller}
+use Rattle.multihash.proofs.Writings.EncodingLemmas.{encoding_unique}
+use Rattle.multihash.proofs.Varints.VarintLemmas.{same_number}
 
 -- ---- what an error took
 

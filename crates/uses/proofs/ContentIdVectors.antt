@@ -11,13 +11,14 @@ use Rattle.multihash.specs.Refusal.{of_io, of_size, of_code, of_varint, of_not_b
 use Rattle.multihash.specs.Answer.{Fields}
 use Rattle.multihash.proofs.Examples.BytesVectors.{all_below}
 use Rattle.multihash.proofs.Examples.VarintVectors.{varint_1, varint_2}
-use Rattle.multihash.proofs.Readings.VerdictLemmas.{encoding_unique, same_number}
 use Rattle.uses.specs.ContentId.{Content, version_0, version_1, content_of, IsContentId, FitsContentId, IsRefused, IsOtherVersion, IsContentIdRefusal, HasOtherSize, BeginsOtherwise}
 use Rattle.uses.specs.declared.content_id.codec.Codec.{Codec}
 use Rattle.uses.specs.declared.content_id.ContentId.TheVariants.{V0, V1}
 use Rattle.uses.specs.declared.content_id.ContentIdError.{ContentIdError}
 use Rattle.uses.specs.declared.content_id.ContentIdError.TheVariants.{Refused, OtherVersion, LeftOver}
 use Rattle.uses.proofs.ContentIdLemmas.{one_place, content_same}
+use Rattle.multihash.proofs.Writings.EncodingLemmas.{encoding_unique}
+use Rattle.multihash.proofs.Varints.VarintLemmas.{same_number}
 
 -- ---- varints
 

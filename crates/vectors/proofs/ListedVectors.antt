@@ -9,7 +9,7 @@ use Rattle.multihash.specs.Verdict.{accepted, invalid_size, invalid_code, faulty
 use Rattle.multihash.specs.Scale.{IsScaleCode, HasScaleVerdict}
 use Rattle.multihash.proofs.Varints.MarkedLemmas.{All-append_right}
 use Rattle.multihash.proofs.Writings.WritingLemmas.{length_of_not_nil}
-use Rattle.multihash.proofs.Readings.VerdictLemmas.{same_cut, verdict_unique, whole_verdict_unique}
+use Rattle.multihash.proofs.Readings.VerdictLemmas.{verdict_unique, whole_verdict_unique}
 use Rattle.multihash.proofs.Forms.ScaleLemmas.{scale_verdict_unique}
 use Rattle.multihash.proofs.Readings.ShortestLemmas.{shortest_unique}
 use Rattle.multihash.proofs.Examples.BytesVectors.{all_below}
@@ -25,6 +25,7 @@ use Rattle.vectors.specs.declared.line.Reading.{Reading}
 use Rattle.vectors.specs.declared.verdict.Verdict.{Verdict}
 use Rattle.vectors.specs.declared.verdict.Verdict.TheVariants.{Pair as Listed, InvalidSize, InvalidCode, Insufficient, Overflow, NotMinimal, UnexpectedEof}
 use Rattle.vectors.specs.Listed.{ListsBytes, meaning, SettlesAfter, IsTaken, IsReading, DecodesAfter, IsScaleTaken, IsScaleReading, ends_varint, TakesEnough, TakesAsReadListed, TakesAsScaleListed, IsRight, AreRightFor, AreRight}
+use Rattle.multihash.proofs.Writings.EncodingLemmas.{same_cut}
 
 -- ---- words of a line
 

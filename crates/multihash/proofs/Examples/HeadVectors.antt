@@ -3,7 +3,7 @@ use Rattle.std.proofs.Common.{◌≡◌, ℕ, List, [], ◌∷◌, ◌++◌, ◌
 use Rattle.multihash.specs.Head.{HasHead}
 use Rattle.multihash.proofs.Examples.VarintVectors.{varint_0, varint_1, varint_5}
 use Rattle.multihash.proofs.Examples.VerdictVectors.{size_5}
-use Rattle.multihash.proofs.Readings.VerdictLemmas.{same_number}
+use Rattle.multihash.proofs.Varints.VarintLemmas.{same_number}
 
 -- the code 0, the size 5, and a byte behind them
 abbrev input : List ℕ

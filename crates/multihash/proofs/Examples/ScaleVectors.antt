@@ -12,8 +12,8 @@ use Rattle.multihash.specs.Scale.{IsScaleCode, IsScale, HasScaleSize, HasScaleVe
 use Rattle.multihash.proofs.Examples.BytesVectors.{all_below}
 use Rattle.multihash.proofs.Examples.PairVectors.{pair}
 use Rattle.multihash.proofs.Examples.VarintVectors.{largest, too_large}
-use Rattle.multihash.proofs.Readings.VerdictLemmas.{same_cut}
 use Rattle.multihash.proofs.Forms.ScaleLemmas.{scale_found, scale_verdict_is, has_scale_found}
+use Rattle.multihash.proofs.Writings.EncodingLemmas.{same_cut}
 
 abbrev pub zeros : List ℕ
 zeros = 0 ∷ 0 ∷ 0 ∷ 0 ∷ 0 ∷ 0 ∷ 0 ∷ 0 ∷ []

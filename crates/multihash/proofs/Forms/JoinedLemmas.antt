@@ -5,7 +5,7 @@ use Rattle.multihash.specs.Pair.{Pair}
 use Rattle.multihash.specs.Varint.{marked}
 use Rattle.multihash.specs.Encoding.{IsEncoding}
 use Rattle.multihash.specs.Joined.{AreJoined}
-use Rattle.multihash.proofs.Readings.VerdictLemmas.{encoding_unique, encoding_same}
+use Rattle.multihash.proofs.Writings.EncodingLemmas.{encoding_unique, encoding_same}
 
 -- ---- the first pair
 

@@ -9,7 +9,7 @@ use Rattle.multihash.specs.Varint.{IsVarint, marked}
 use Rattle.multihash.specs.Encoding.{IsEncoding}
 use Rattle.multihash.specs.Json.{number_array, IsByteArray, IsJsonList}
 use Rattle.multihash.proofs.Varints.MarkedLemmas.{All-append_left, All-append_right}
-use Rattle.multihash.proofs.Readings.VerdictLemmas.{encoding_unique}
+use Rattle.multihash.proofs.Writings.EncodingLemmas.{encoding_unique, encoding_bytes}
 
 abbrev IsByte : ℕ → Type 0
 IsByte b = b < 256
@@ -35,19 +35,6 @@ json_same p q d h k =
 pub json_bytes : (p : Pair) (d : Data) (bytes : List ℕ) → IsJsonList p d → IsByteArray d bytes → IsEncoding p bytes
 json_bytes p d bytes h k =
     subst (IsEncoding p) (array_unique h.encoding bytes (sym h.lists ∙ k.array)) h.encodes
-
-varint_bytes : (n : ℕ) (bytes : List ℕ) → IsVarint n bytes → IsBytes bytes
-varint_bytes n bytes v =
-    let digits = All-append_left (λ d. d < 128) v.front (v.last ∷ []) v.digits in
-    let last = All-head (λ d. d < 128) v.last [] (All-append_right (λ d. d < 128) v.front (v.last ∷ []) v.digits) in
-    let front : IsBytes (marked v.front) = All-map IsByte (λ d. d + 128) v.front (λ k d below. omega (arith, digits k d below)) in
-    rw v.spelled (All-push IsByte (marked v.front) v.last front (omega (arith, last)))
-
-pub encoding_bytes : (p : Pair) (bytes : List ℕ) → IsBytes p.digest → IsEncoding p bytes → IsBytes bytes
-encoding_bytes p bytes digest e =
-    All-same IsByte bytes (e.code ++ (e.size ++ p.digest)) e.spelled
-    (All-append IsByte e.code (e.size ++ p.digest) (varint_bytes p.code e.code e.is_code)
-    (All-append IsByte e.size p.digest (varint_bytes (length p.digest) e.size e.is_size) digest))
 
 pub json_is_array : (p : Pair) (d : Data) → IsBytes p.digest → IsJsonList p d → (bytes : List ℕ) × IsByteArray d bytes
 json_is_array p d digest h =

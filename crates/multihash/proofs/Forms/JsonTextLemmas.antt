@@ -7,7 +7,7 @@ use Rattle.multihash.specs.Encoding.{IsEncoding}
 use Rattle.multihash.specs.Json.{IsJsonList, IsByteArray}
 use Rattle.multihash.specs.Answer.{Fields, pair_of}
 use Rattle.multihash.proofs.Forms.JsonLemmas.{numbers, json_bytes}
-use Rattle.multihash.proofs.Readings.VerdictLemmas.{encoding_unique}
+use Rattle.multihash.proofs.Writings.EncodingLemmas.{encoding_unique}
 
 flat : (ns : List ℕ) → items_depth (numbers ns) ≡ 0
 flat [] = refl

@@ -11,50 +11,7 @@ use Rattle.multihash.specs.Verdict.{Verdict, accepted, invalid_size, invalid_cod
 use Rattle.multihash.proofs.Varints.MarkedLemmas.{All-append_right}
 use Rattle.multihash.proofs.Varints.VarintWriteLemmas.{varint_exists}
 use Rattle.multihash.proofs.Varints.VarintLemmas.{varint_unique, Front, number, fault, HasFront, front_is, front_unique, front_of, front_of_has}
-
--- ---- encodings
-
-pub same_pair : (p q : Pair) → p.code ≡ q.code → p.digest ≡ q.digest → p ≡ q
-same_pair p q c d = λ i. record { code = c i; digest = d i }
-
--- two cuts at one place
-pub same_cut : (a b x y : List ℕ) → length a ≡ length b → a ++ x ≡ b ++ y → (a ≡ b) × (x ≡ y)
-same_cut a b x y l e =
-    let fronts : a ≡ b = sym (take_at a x (length b) l) ∙ (ap (λ (z : List ℕ). take (length b) z) e ∙ take_at b y (length b) refl) in
-    (fronts, append_cancel_left b x y (ap (λ (z : List ℕ). z ++ x) (sym fronts) ∙ e))
-
--- a number and what follows is all that stands in front
-pub same_number : (x : List ℕ) (m n : ℕ) (r q : List ℕ) → HasFront x (number m r) → HasFront x (number n q) → (m ≡ n) × (r ≡ q)
-same_number x m n r q h k = let same = front_unique x (number m r) (number n q) h k in (cc, cc)
-
--- the bytes of an encoding and what follows
-pub encoding_cut : (p : Pair) (a x : List ℕ) (e : IsEncoding p a) → a ++ x ≡ e.code ++ (e.size ++ (p.digest ++ x))
-encoding_cut p a x e =
-    ap (λ (z : List ℕ). z ++ x) e.spelled
-    ∙ (append_assoc e.code (e.size ++ p.digest) x ∙ ap (λ (z : List ℕ). e.code ++ z) (append_assoc e.size p.digest x))
-
--- two encodings in front of one input are one, of one pair
-pub encoding_unique : (p q : Pair) (a b x y : List ℕ) → IsEncoding p a → IsEncoding q b → a ++ x ≡ b ++ y
-    → (p ≡ q) × (a ≡ b) × (x ≡ y)
-encoding_unique p q a b x y e f same =
-    let codes = same_number (a ++ x) p.code q.code (e.size ++ (p.digest ++ x)) (f.size ++ (q.digest ++ y))
-    (e.code, e.is_code, encoding_cut p a x e) (f.code, f.is_code, same ∙ encoding_cut q b y f) in
-    let sizes = same_number (e.size ++ (p.digest ++ x)) (length p.digest) (length q.digest) (p.digest ++ x) (q.digest ++ y)
-    (e.size, e.is_size, refl) (f.size, f.is_size, codes.1) in
-    let digests = same_cut p.digest q.digest x y sizes.0 sizes.1 in
-    let fronts : a ≡ b = append_cancel_right a b x (same ∙ ap (λ (z : List ℕ). b ++ z) (sym digests.1)) in
-    (same_pair p q codes.0 digests.0, fronts, digests.1)
-
--- a pair has at most one encoding
-pub encoding_same : (p : Pair) (a b : List ℕ) → IsEncoding p a → IsEncoding p b → a ≡ b
-encoding_same p a b e f =
-    cc (e.spelled, f.spelled, varint_unique p.code e.code f.code e.is_code f.is_code, varint_unique (length p.digest) e.size f.size e.is_size f.is_size)
-
-pub encoding_exists : (p : Pair) → p.code < varint_limit → length p.digest < varint_limit → (a : List ℕ) × IsEncoding p a
-encoding_exists p code size =
-    let c = varint_exists p.code code in
-    let s = varint_exists (length p.digest) size in
-    (c.0 ++ (s.0 ++ p.digest), record { code = c.0; size = s.0; is_code = c.1; is_size = s.1; spelled = refl })
+use Rattle.multihash.proofs.Writings.EncodingLemmas.{encoding_cut}
 
 -- ---- two varints, one after the other
 

@@ -2,7 +2,7 @@
 use Rattle.std.proofs.Common.{◌≡◌, ℕ, List, ◌++◌, length, take, refl, sym, ap, ◌∙◌}
 use Rattle.std.proofs.lemmas.List.{take_at}
 use Rattle.multihash.specs.Pair.{Pair, IsSame}
-use Rattle.multihash.proofs.Readings.VerdictLemmas.{same_pair}
+use Rattle.multihash.proofs.Writings.EncodingLemmas.{same_pair}
 
 pub IsSame-refl : (p : Pair) → IsSame p p
 IsSame-refl p = record { code = refl; digest = refl }

@@ -1,4 +1,4 @@
--- How long varints and encodings are.
+-- How long varints are.
 use Rattle.std.proofs.Common.{◌≡◌, ℕ, ◌+◌, ◌≤◌, List, [], ◌∷◌, ◌++◌, length, ap, arith, length-append}
 use Rattle.std.proofs.lemmas.List.{length-map}
 use Rattle.multihash.specs.Pair.{Pair}
@@ -13,17 +13,3 @@ varint_bytes n bytes v =
 
 pub varint_longest : (n : ℕ) (bytes : List ℕ) → IsVarint n bytes → length bytes ≤ max_marked + 1
 varint_longest n bytes v = omega (arith, varint_bytes n bytes v, (varint_length n bytes v).0)
-
--- the longest encoding: the code's bytes, two of the size, and the digest
-pub encoding_length : (p : Pair) (bytes : List ℕ) → IsEncoding p bytes → length p.digest ≤ 255
-    → length bytes ≤ (max_marked + 1) + 2 + 255
-encoding_length p bytes e fits =
-    omega (
-      arith,
-      ap length e.spelled,
-      length-append e.code (e.size ++ p.digest),
-      length-append e.size p.digest,
-      varint_longest p.code e.code e.is_code,
-      varint_bytes (length p.digest) e.size e.is_size,
-      front_within 1 (length p.digest) e.size e.is_size (omega arith),
-    )

@@ -202,3 +202,7 @@ front_has (suc left) ms (b ∷ rest) all room bytes =
 
 pub front_of_has : (x : List ℕ) → IsBytes x → HasFront x (front_of x)
 front_of_has x bytes = front_has max_marked [] x (All-nil IsMarked) refl bytes
+
+-- a number and what follows is all that stands in front
+pub same_number : (x : List ℕ) (m n : ℕ) (r q : List ℕ) → HasFront x (number m r) → HasFront x (number n q) → (m ≡ n) × (r ≡ q)
+same_number x m n r q h k = let same = front_unique x (number m r) (number n q) h k in (cc, cc)

@@ -1,8 +1,15 @@
--- The parts of an encoding, one after another.
-use Rattle.std.proofs.Common.{◌≡◌, ℕ, ◌+◌, List, ◌++◌, length, ap, subst, arith, length-append}
+-- Encodings: their parts, one of each pair, how long they are, and that they are bytes.
+use Rattle.std.proofs.Common.{◌≡◌, ℕ, ◌<◌, ◌≤◌, ◌+◌, List, [], ◌∷◌, ◌++◌, length, take, refl, sym, ap, ◌∙◌, subst, arith, length-append, append_assoc}
 use Rattle.multihash.specs.Pair.{Pair}
-use Rattle.multihash.specs.Varint.{IsVarint}
+use Rattle.multihash.specs.Varint.{IsVarint, max_marked, varint_limit, marked}
 use Rattle.multihash.specs.Encoding.{IsEncoding}
+use Rattle.std.proofs.lemmas.List.{take_at, append_cancel_left, append_cancel_right}
+use Rattle.std.proofs.lemmas.List.Elements.{All-append, All-push, All-same, All-map, All-head}
+use Rattle.multihash.specs.Bytes.{IsBytes}
+use Rattle.multihash.proofs.Varints.MarkedLemmas.{All-append_left, All-append_right}
+use Rattle.multihash.proofs.Varints.LengthLemmas.{varint_bytes, varint_longest}
+use Rattle.multihash.proofs.Varints.VarintLemmas.{varint_unique, front_within, same_number}
+use Rattle.multihash.proofs.Varints.VarintWriteLemmas.{varint_exists}
 
 -- the varints of a pair's code and of its digest's length, and the digest
 pub encoding_of : (p : Pair) (code size : ℕ) (digest a b : List ℕ) → code ≡ p.code → size ≡ length p.digest → digest ≡ p.digest
@@ -17,3 +24,69 @@ encoding_of p code size digest a b same_code same_size same_digest is_code is_si
 
 pub length-parts : (a b digest : List ℕ) → length a + length b + length digest ≡ length (a ++ (b ++ digest))
 length-parts a b digest = omega (arith, length-append a (b ++ digest), length-append b digest)
+
+pub same_pair : (p q : Pair) → p.code ≡ q.code → p.digest ≡ q.digest → p ≡ q
+same_pair p q c d = λ i. record { code = c i; digest = d i }
+
+-- two cuts at one place
+pub same_cut : (a b x y : List ℕ) → length a ≡ length b → a ++ x ≡ b ++ y → (a ≡ b) × (x ≡ y)
+same_cut a b x y l e =
+    let fronts : a ≡ b = sym (take_at a x (length b) l) ∙ (ap (λ (z : List ℕ). take (length b) z) e ∙ take_at b y (length b) refl) in
+    (fronts, append_cancel_left b x y (ap (λ (z : List ℕ). z ++ x) (sym fronts) ∙ e))
+
+-- the bytes of an encoding and what follows
+pub encoding_cut : (p : Pair) (a x : List ℕ) (e : IsEncoding p a) → a ++ x ≡ e.code ++ (e.size ++ (p.digest ++ x))
+encoding_cut p a x e =
+    ap (λ (z : List ℕ). z ++ x) e.spelled
+    ∙ (append_assoc e.code (e.size ++ p.digest) x ∙ ap (λ (z : List ℕ). e.code ++ z) (append_assoc e.size p.digest x))
+
+-- two encodings in front of one input are one, of one pair
+pub encoding_unique : (p q : Pair) (a b x y : List ℕ) → IsEncoding p a → IsEncoding q b → a ++ x ≡ b ++ y
+    → (p ≡ q) × (a ≡ b) × (x ≡ y)
+encoding_unique p q a b x y e f same =
+    let codes = same_number (a ++ x) p.code q.code (e.size ++ (p.digest ++ x)) (f.size ++ (q.digest ++ y))
+    (e.code, e.is_code, encoding_cut p a x e) (f.code, f.is_code, same ∙ encoding_cut q b y f) in
+    let sizes = same_number (e.size ++ (p.digest ++ x)) (length p.digest) (length q.digest) (p.digest ++ x) (q.digest ++ y)
+    (e.size, e.is_size, refl) (f.size, f.is_size, codes.1) in
+    let digests = same_cut p.digest q.digest x y sizes.0 sizes.1 in
+    let fronts : a ≡ b = append_cancel_right a b x (same ∙ ap (λ (z : List ℕ). b ++ z) (sym digests.1)) in
+    (same_pair p q codes.0 digests.0, fronts, digests.1)
+
+-- a pair has at most one encoding
+pub encoding_same : (p : Pair) (a b : List ℕ) → IsEncoding p a → IsEncoding p b → a ≡ b
+encoding_same p a b e f =
+    cc (e.spelled, f.spelled, varint_unique p.code e.code f.code e.is_code f.is_code, varint_unique (length p.digest) e.size f.size e.is_size f.is_size)
+
+pub encoding_exists : (p : Pair) → p.code < varint_limit → length p.digest < varint_limit → (a : List ℕ) × IsEncoding p a
+encoding_exists p code size =
+    let c = varint_exists p.code code in
+    let s = varint_exists (length p.digest) size in
+    (c.0 ++ (s.0 ++ p.digest), record { code = c.0; size = s.0; is_code = c.1; is_size = s.1; spelled = refl })
+
+-- the longest encoding: the code's bytes, two of the size, and the digest
+pub encoding_length : (p : Pair) (bytes : List ℕ) → IsEncoding p bytes → length p.digest ≤ 255
+    → length bytes ≤ (max_marked + 1) + 2 + 255
+encoding_length p bytes e fits =
+    omega (
+      arith,
+      ap length e.spelled,
+      length-append e.code (e.size ++ p.digest),
+      length-append e.size p.digest,
+      varint_longest p.code e.code e.is_code,
+      varint_bytes (length p.digest) e.size e.is_size,
+      front_within 1 (length p.digest) e.size e.is_size (omega arith),
+    )
+
+-- its numbers are bytes, where the digest's are
+varint_is_bytes : (n : ℕ) (bytes : List ℕ) → IsVarint n bytes → IsBytes bytes
+varint_is_bytes n bytes v =
+    let digits = All-append_left (λ d. d < 128) v.front (v.last ∷ []) v.digits in
+    let last = All-head (λ d. d < 128) v.last [] (All-append_right (λ d. d < 128) v.front (v.last ∷ []) v.digits) in
+    let front : IsBytes (marked v.front) = All-map (λ b. b < 256) (λ d. d + 128) v.front (λ k d below. omega (arith, digits k d below)) in
+    rw v.spelled (All-push (λ b. b < 256) (marked v.front) v.last front (omega (arith, last)))
+
+pub encoding_bytes : (p : Pair) (bytes : List ℕ) → IsBytes p.digest → IsEncoding p bytes → IsBytes bytes
+encoding_bytes p bytes digest e =
+    All-same (λ b. b < 256) bytes (e.code ++ (e.size ++ p.digest)) e.spelled
+    (All-append (λ b. b < 256) e.code (e.size ++ p.digest) (varint_is_bytes p.code e.code e.is_code)
+    (All-append (λ b. b < 256) e.size p.digest (varint_is_bytes (length p.digest) e.size e.is_size) digest))

@@ -1,7 +1,8 @@
 use Rattle.std.proofs.Common.{[], refl, ◌++◌, sym, ◌∙◌, append-nil, arith}
 use Rattle.multihash.specs.Verdict.{accepted}
-use Rattle.multihash.proofs.Readings.VerdictLemmas.{encoding_exists, encoding_unique, encoding_same, verdict_unique}
+use Rattle.multihash.proofs.Readings.VerdictLemmas.{verdict_unique}
 use Rattle.multihash.proofs.laws.prefix_free.Goals as goal
+use Rattle.multihash.proofs.Writings.EncodingLemmas.{encoding_exists, encoding_unique, encoding_same}
 
 pub returns-clause-one_encoding : goal.returns-clause-one_encoding
 returns-clause-one_encoding c p pair size =

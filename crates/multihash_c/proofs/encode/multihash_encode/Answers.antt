@@ -1,10 +1,10 @@
 use Rattle.std.proofs.Common.{◌≡◌, ℕ, List, length, refl, ap, ◌∙◌, arith}
 use Rattle.multihash.specs.Pair.{Pair}
 use Rattle.multihash.specs.Encoding.{IsEncoding}
-use Rattle.multihash.proofs.Readings.VerdictLemmas.{encoding_same}
 use Rattle.multihash_c.proofs.EncodedLemmas.{puts_all, puts_none}
 use Rattle.multihash_c.proofs.encode.multihash_encode.Goals as goal
 use Rattle.multihash_c.proofs.encode.multihash_encode.Goals.{then-needed-out, else-needed-out}
+use Rattle.multihash.proofs.Writings.EncodingLemmas.{encoding_same}
 
 pub returns-clause-puts : goal.returns-clause-puts
 returns-clause-puts c = λ fits small.

@@ -1,7 +1,7 @@
 use Rattle.multihash.specs.Answer.{pair_of}
 use Rattle.multihash.proofs.CallingLemmas.{accepted_encoding}
-use Rattle.multihash.proofs.Readings.VerdictLemmas.{encoding_same}
 use Rattle.uses.proofs.bytes.accepted_back.Goals as goal
+use Rattle.multihash.proofs.Writings.EncodingLemmas.{encoding_same}
 
 pub returns-clause-ok : goal.returns-clause-ok
 returns-clause-ok g c =

@@ -1,7 +1,6 @@
 use Rattle.std.proofs.Common.{◌++◌, refl, ◌∙◌, arith}
 use Rattle.multihash.specs.Answer.{pair_of}
-use Rattle.multihash.proofs.Writings.EncodingLemmas.{encoding_of, length-parts}
-use Rattle.multihash.proofs.Varints.LengthLemmas.{encoding_length}
+use Rattle.multihash.proofs.Writings.EncodingLemmas.{encoding_of, length-parts, encoding_length}
 use Rattle.multihash.proofs.multihash.Multihash.encoded_len.Goals as goal
 
 pub returns-clause-encoding : goal.returns-clause-encoding

@@ -3,13 +3,13 @@ use Rattle.multihash.specs.Pair.{Pair}
 use Rattle.multihash.specs.Encoding.{IsEncoding}
 use Rattle.multihash.specs.Answer.{pair_of}
 use Rattle.multihash.proofs.Writings.WritingLemmas.{AppendsPart-append, AppendsPart-joined}
-use Rattle.multihash.proofs.Readings.VerdictLemmas.{encoding_exists}
 use Rattle.multihash.proofs.Varints.VarintWriteLemmas.{varint_exists}
 use Rattle.multihash.proofs.Values.ValueLemmas.{digest_fits}
 use Rattle.uses.specs.ContentId.{version_0, version_1, content_of, IsContentId}
 use Rattle.uses.proofs.ContentIdLemmas.{make_version_1, stops_all}
 use Rattle.uses.proofs.content_id.ContentId.write.Goals as goal
 use Rattle.uses.proofs.content_id.ContentId.write.Goals.{in-V0+in_ok-write-in-V0, in-V1+in_ok-write-in-V1+in_ok-write-in-V1-2+in_ok-write-in-V1-3}
+use Rattle.multihash.proofs.Writings.EncodingLemmas.{encoding_exists}
 
 pub returns-in_err-write-in-V0-clause-err : goal.returns-in_err-write-in-V0-clause-err
 returns-in_err-write-in-V0-clause-err g c =
