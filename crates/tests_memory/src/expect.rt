@@ -8,17 +8,17 @@ use std::test::Fail;
 
 const REFUSED: &str = "memory was refused";
 
-/// As `assert!`.
+/// As `assert!`, and prints what it asks too where there is a message.
 macro_rules! check {
     ($rt:expr; $cond:expr $(,)?) => {
         $crate::expect::expect_true(&$rt, $cond, concat!("assertion failed: ", stringify!($cond)))
     };
     ($rt:expr; $cond:expr, $($arg:tt)+) => {
-        $crate::expect::expect_true(&$rt, $cond, format_args!($($arg)+))
+        $crate::expect::expect_noted(&$rt, $cond, stringify!($cond), format_args!($($arg)+))
     };
 }
 
-/// As `assert_eq!`, of values of one type.
+/// As `assert_eq!`, of values of one type, and prints what the left one is where there is no message.
 macro_rules! check_eq {
     ($rt:expr; $left:expr, $right:expr $(,)?) => {
         $crate::expect::expect_equal(&$rt, &$left, &$right, stringify!($left))
@@ -34,6 +34,11 @@ pub(crate) use check_eq;
 /// Fails where it does not hold.
 pub(crate) fn expect_true<D: Display + Drop>(rt: &impl Abort, holds: bool, what: D) {
     assert!(rt; holds, "{what}");
+}
+
+/// As `expect_true`, and prints the note too.
+pub(crate) fn expect_noted<D: Display + Drop>(rt: &impl Abort, holds: bool, what: &str, note: D) {
+    assert!(rt; holds, "assertion failed: {what}: {note}");
 }
 
 /// Fails where the value is not the one that is wanted.

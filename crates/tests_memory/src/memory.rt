@@ -1,12 +1,15 @@
 //! Memory that is refused. A test whose name begins with `refused` passes where nothing is refused.
 //! Where a request is, it looks at what stands then, and fails with `REFUSED`:
 //! `tools/refuse_memory.sh` refuses each request in turn, and counts them so.
+ghost use Rattle.std.specs.Prelude.{◌<◌, ◌^◌};
+
 use crate::expect::{check, check_eq, expect_bytes, unless_refused};
 use fakes::refusal::{LARGEST_CODE, Refusal, is_refused};
 use multihash::list::{read_list, write_list};
 use multihash::no_std_io::{self, Read, SliceWriter, Write};
 use multihash::{Error, Head, Multihash, laws, varint};
 use serde_json::Value;
+use std::alloc::Global;
 use std::hash::{DefaultHasher, Hash, Hasher};
 use std::process::Abort;
 use std::test::Fail;
@@ -143,52 +146,65 @@ fn keep(held: &mut Vec<Multihash<200>>, multihash: Multihash<200>) -> Result<(),
     Ok(())
 }
 
+fn expect_compared(
+    rt: &impl Abort,
+    first: &Multihash<4>,
+    second: &Multihash<4>,
+) -> Result<(), Fail> {
+    check!(rt; first < second && first != second && !first.same_as(second));
+    let empty = first.truncate(0).resize::<0>()?;
+    check!(rt; empty.same_as(&Multihash::<4>::default()));
+    Ok(())
+}
+
+fn expect_read(rt: &impl Abort, alloc: Global, first: &Multihash<4>) -> Result<(), Fail> {
+    check!(rt; Multihash::<4>::from_bytes(&STREAM[..3])? == *first);
+    let mut left = STREAM.as_slice();
+    check!(rt; Multihash::<4>::read(&mut left)? == *first);
+    check!(rt; read_list::<4, _>(alloc, &mut left, 0)?.is_empty());
+    expect_bytes(rt, left, &STREAM[3..]);
+    Ok(())
+}
+
+fn expect_written(rt: &impl Abort, items: &[Multihash<4>; 2]) -> Result<(), Fail> {
+    let mut places = [0u8; 16];
+    let mut free = places.as_mut_slice();
+    write_list(items, &mut free)?;
+    check_eq!(rt; items[1].scale_encode(&mut free)?, 10);
+    check!(rt; free.is_empty());
+    check!(rt; Multihash::<4>::scale_decode(&mut &places[6..])? == items[1]);
+    Ok(())
+}
+
 // Passes also where each request is refused, since none of these calls makes one.
 #[test]
 fn needs_no_memory(rt: HostRuntime) -> Result<(), Fail> {
-    let [first, second] = two()?;
-    check!(rt; first < second && first != second && !first.same_as(&second));
-    check!(rt;
-        first
-            .truncate(0)
-            .resize::<0>()?
-            .same_as(&Multihash::<4>::default())
-    );
-    check!(rt; Multihash::<4>::from_bytes(&STREAM[..3])? == first);
+    let items = two()?;
+    expect_compared(&rt, &items[0], &items[1])?;
+    expect_read(&rt, rt.alloc(), &items[0])?;
+    expect_written(&rt, &items)?;
     check!(rt; is_refused(&Multihash::<4>::from_value(&Value::Null), Refusal::NotBytes));
-    let mut left = STREAM.as_slice();
-    check!(rt; Multihash::<4>::read(&mut left)? == first);
-    check!(rt; read_list::<4, _>(rt.alloc(), &mut left, 0)?.is_empty());
-    expect_bytes(&rt, left, &STREAM[3..]);
-    let mut places = [0u8; 16];
-    let mut free = places.as_mut_slice();
-    write_list(&[first, second], &mut free)?;
-    check_eq!(rt; second.scale_encode(&mut free)?, 10);
-    check!(rt; free.is_empty());
-    check!(rt; Multihash::<4>::scale_decode(&mut &places[6..])? == second);
-    check!(rt;
-        is_refused(
-            &Multihash::<4>::wrap(u64::MAX, &[]),
-            Refusal::InvalidCode(u64::MAX)
-        )
-    );
+    let refused = Multihash::<4>::wrap(u64::MAX, &[]);
+    check!(rt; is_refused(&refused, Refusal::InvalidCode(u64::MAX)));
     let refused = Multihash::<4>::scale_decode(&mut [255; 8].as_slice());
     check!(rt; is_refused(&refused, Refusal::InvalidCode(u64::MAX)));
     Ok(())
 }
 
-// As `needs_no_memory`: the parts of a value, what a slice answers as a reader and a writer, the varints, the laws.
-#[test]
-fn parts_and_slices_need_no_memory(rt: HostRuntime) -> Result<(), Fail> {
-    let m = Multihash::<6>::wrap(300, b"foobar")?;
-    check_eq!(rt; (m.code(), m.size(), m.encoded_len()), (300, 6, 9));
-    check_eq!(rt; m.digest(), b"foobar".as_slice());
-    check_eq!(rt; m.into_inner().2, 6);
+fn hash_of(m: &Multihash<6>) -> u64 {
     let mut state = DefaultHasher::new();
     m.hash(&mut state);
-    let mut again = DefaultHasher::new();
-    m.hash(&mut again);
-    check_eq!(rt; state.finish(), again.finish());
+    state.finish()
+}
+
+fn expect_parts(rt: &impl Abort, m: &Multihash<6>) {
+    check_eq!(rt; (m.code(), m.size(), m.encoded_len()), (300, 6, 9));
+    expect_bytes(rt, m.digest(), b"foobar");
+    check_eq!(rt; m.into_inner().2, 6);
+    check_eq!(rt; hash_of(m), hash_of(m));
+}
+
+fn expect_varints(rt: &impl Abort, m: &Multihash<6>) -> Result<(), Fail> {
     let mut places = [0u8; 9];
     check_eq!(rt; m.write(&mut places.as_mut_slice())?, 9);
     check_eq!(rt; Head::read_front(&places)?.len, 3);
@@ -196,14 +212,30 @@ fn parts_and_slices_need_no_memory(rt: HostRuntime) -> Result<(), Fail> {
     check_eq!(rt; varint::read(&mut places.as_slice())?, 300);
     check_eq!(rt; varint::len(300)?, 2);
     check_eq!(rt; varint::write(300, &mut [0u8; 2].as_mut_slice())?, 2);
-    let mut left = places.as_slice();
+    Ok(())
+}
+
+fn expect_slices(rt: &impl Abort) {
+    let mut left = [0u8; 9].as_slice();
     let mut buf = [0u8; 3];
-    check!(rt; left.read(&mut buf).is_ok() && left.read_exact(&mut buf).is_ok());
+    check!(rt; left.read(&mut buf).is_ok());
+    check!(rt; left.read_exact(&mut buf).is_ok());
     let mut free: &mut [u8] = &mut [0; 3];
-    check!(rt; free.write(&[1]).is_ok() && free.write_all(&[1, 2]).is_ok());
+    check!(rt; free.write(&[1]).is_ok());
+    check!(rt; free.write_all(&[1, 2]).is_ok());
     let mut kept = [0u8; 3];
     let mut writer = SliceWriter::new(&mut kept);
-    check!(rt; writer.write(&[1]).is_ok() && writer.write_all(&[1, 2]).is_ok());
+    check!(rt; writer.write(&[1]).is_ok());
+    check!(rt; writer.write_all(&[1, 2]).is_ok());
+}
+
+// As `needs_no_memory`: the parts of a value, what a slice answers as a reader and a writer, the varints, the laws.
+#[test]
+fn parts_and_slices_need_no_memory(rt: HostRuntime) -> Result<(), Fail> {
+    let m = Multihash::<6>::wrap(300, b"foobar")?;
+    expect_parts(&rt, &m);
+    expect_varints(&rt, &m)?;
+    expect_slices(&rt);
     laws::one_verdict();
     laws::settles();
     laws::prefix_free();
@@ -262,21 +294,20 @@ fn ample_memory_is_enough(rt: HostRuntime) -> Result<(), Fail> {
     Ok(())
 }
 
+fn expect_empty<const S: usize>(rt: &impl Abort, alloc: Global) -> Result<(), Fail>
+    requires { S < 2 ^ 16 }
+{
+    let m = Multihash::<S>::wrap(18, &[])?;
+    expect_bytes(rt, &m.to_bytes(alloc)?, &[18, 0]);
+    let value = m.to_value(alloc)?;
+    check_eq!(rt; value.to_string(alloc)?.as_str(), "[18,0]");
+    Ok(())
+}
+
 #[test]
 fn memory_is_enough_at_each_size(rt: HostRuntime) -> Result<(), Fail> {
-    let m = Multihash::<0>::wrap(18, &[])?;
-    expect_bytes(&rt, &m.to_bytes(rt.alloc())?, &[18, 0]);
-    check_eq!(rt;
-        m.to_value(rt.alloc())?.to_string(rt.alloc())?.as_str(),
-        "[18,0]"
-    );
-    let m = Multihash::<1000>::wrap(18, &[])?;
-    expect_bytes(&rt, &m.to_bytes(rt.alloc())?, &[18, 0]);
-    check_eq!(rt;
-        m.to_value(rt.alloc())?.to_string(rt.alloc())?.as_str(),
-        "[18,0]"
-    );
-    Ok(())
+    expect_empty::<0>(&rt, rt.alloc())?;
+    expect_empty::<1000>(&rt, rt.alloc())
 }
 
 #[test]
