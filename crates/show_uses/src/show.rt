@@ -20,7 +20,7 @@ const LARGEST_CODE: u64 = 9223372036854775807;
 /// # Errors
 ///
 /// Want of memory.
-pub fn lines(alloc: Global) -> Result<String> {
+pub(crate) fn lines(alloc: Global) -> Result<String> {
     let mut lines = String::new(alloc);
     show_content_id(alloc, &mut lines)?;
     show_code_table(&mut lines)?;

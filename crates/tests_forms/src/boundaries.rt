@@ -1,4 +1,5 @@
 //! The longest and the shortest digests, and each beginning of a long form.
+use crate::expect::{check, check_eq};
 use fakes::refusal::{Refusal, is_refused};
 use multihash::Multihash;
 use std::test::Fail;
@@ -18,22 +19,23 @@ const ROWS: [Row; 4] = [
 #[test]
 fn lengths_of_forms(rt: HostRuntime) -> Result<(), Fail> {
     for (n, front, encoded, scale) in ROWS {
+        // not `check!`, which tells the proof nothing
         assert!(rt; n <= 256);
         let m = Multihash::<300>::wrap(0, &ZEROS[..n])?;
         let bytes = m.to_bytes(rt.alloc())?;
-        assert!(rt; bytes.starts_with(front), "{n} zeros");
-        assert_eq!(rt; (m.encoded_len(), bytes.len()), (encoded, encoded));
+        check!(rt; bytes.starts_with(front), "{n} zeros");
+        check_eq!(rt; (m.encoded_len(), bytes.len()), (encoded, encoded));
         let mut written = Vec::new(rt.alloc());
-        assert_eq!(rt; m.scale_encode(&mut written)?, scale);
-        assert_eq!(rt; written.len(), scale);
+        check_eq!(rt; m.scale_encode(&mut written)?, scale);
+        check_eq!(rt; written.len(), scale);
     }
-    assert!(rt;
+    check!(rt;
         is_refused(
             &Multihash::<300>::wrap(0, &ZEROS),
             Refusal::InvalidSize(256)
         )
     );
-    assert!(rt;
+    check!(rt;
         is_refused(
             &Multihash::<128>::wrap(0, &ZEROS[..129]),
             Refusal::InvalidSize(129)
@@ -46,7 +48,7 @@ fn lengths_of_forms(rt: HostRuntime) -> Result<(), Fail> {
 fn beginnings_of_a_long_encoding(rt: HostRuntime) -> Result<(), Fail> {
     let m = Multihash::<200>::wrap(300, &[65; 200])?;
     let bytes = m.to_bytes(rt.alloc())?;
-    assert_eq!(rt; bytes.len(), 204);
+    check_eq!(rt; bytes.len(), 204);
     for len in 0..bytes.len() {
         let early = if len < 4 {
             Refusal::Insufficient
@@ -54,12 +56,12 @@ fn beginnings_of_a_long_encoding(rt: HostRuntime) -> Result<(), Fail> {
             Refusal::UnexpectedEof
         };
         let answer = Multihash::<200>::from_bytes(&bytes[..len]);
-        assert!(rt; is_refused(&answer, early), "{len} bytes");
+        check!(rt; is_refused(&answer, early), "{len} bytes");
         let answer = Multihash::<200>::read(&mut &bytes[..len]);
-        assert!(rt; is_refused(&answer, early), "{len} bytes");
+        check!(rt; is_refused(&answer, early), "{len} bytes");
     }
-    assert_eq!(rt; Multihash::from_bytes(&bytes)?, m);
-    assert_eq!(rt; Multihash::read(&mut bytes.as_slice())?, m);
+    check_eq!(rt; Multihash::from_bytes(&bytes)?, m);
+    check_eq!(rt; Multihash::read(&mut bytes.as_slice())?, m);
     Ok(())
 }
 
@@ -67,12 +69,12 @@ fn beginnings_of_a_long_encoding(rt: HostRuntime) -> Result<(), Fail> {
 fn beginnings_of_a_long_scale_form(rt: HostRuntime) -> Result<(), Fail> {
     let m = Multihash::<200>::wrap(300, &[65; 200])?;
     let mut bytes = Vec::new(rt.alloc());
-    assert_eq!(rt; m.scale_encode(&mut bytes)?, 209);
-    assert_eq!(rt; bytes.len(), 209);
+    check_eq!(rt; m.scale_encode(&mut bytes)?, 209);
+    check_eq!(rt; bytes.len(), 209);
     for len in 0..bytes.len() {
         let answer = Multihash::<200>::scale_decode(&mut &bytes[..len]);
-        assert!(rt; is_refused(&answer, Refusal::UnexpectedEof), "{len} bytes");
+        check!(rt; is_refused(&answer, Refusal::UnexpectedEof), "{len} bytes");
     }
-    assert_eq!(rt; Multihash::scale_decode(&mut bytes.as_slice())?, m);
+    check_eq!(rt; Multihash::scale_decode(&mut bytes.as_slice())?, m);
     Ok(())
 }

@@ -1,4 +1,5 @@
 //! Multihashes that pass from one form to another.
+use crate::expect::{check, check_eq};
 use fakes::refusal::{LARGEST_CODE, Refusal, is_refused};
 use multihash::Multihash;
 use std::test::Fail;
@@ -24,8 +25,8 @@ fn from_form_to_form(rt: HostRuntime) -> Result<(), Fail> {
         for first in FORMS {
             for second in FORMS {
                 let (between, back) = forms_back::<32, 64, 128>(rt.alloc(), first, second, &m)?;
-                assert!(rt; between.same_as(&m), "{first:?} of {digest:?}");
-                assert_eq!(rt; (back.code(), back.digest()), (code, digest), "{second:?}");
+                check!(rt; between.same_as(&m), "{first:?} of {digest:?}");
+                check_eq!(rt; (back.code(), back.digest()), (code, digest), "{second:?}");
             }
         }
     }
@@ -40,7 +41,7 @@ fn full_digests_pass_through_forms(rt: HostRuntime) -> Result<(), Fail> {
         for first in FORMS {
             for second in FORMS {
                 let (between, back) = forms_back::<128, 128, 128>(rt.alloc(), first, second, &m)?;
-                assert!(rt; between == m && back == m, "{first:?}, {second:?}");
+                check!(rt; between == m && back == m, "{first:?}, {second:?}");
             }
         }
     }
@@ -51,9 +52,9 @@ fn full_digests_pass_through_forms(rt: HostRuntime) -> Result<(), Fail> {
 fn a_smaller_buffer_refuses_each_form(rt: HostRuntime) -> Result<(), Fail> {
     let m = Multihash::<6>::wrap(18, b"foobar")?;
     for form in FORMS {
-        assert!(rt; form_back::<6, 6>(rt.alloc(), form, &m)? == m);
+        check!(rt; form_back::<6, 6>(rt.alloc(), form, &m)? == m);
         let refused = form_back::<6, 5>(rt.alloc(), form, &m);
-        assert!(rt; is_refused(&refused, Refusal::InvalidSize(6)), "{form:?}");
+        check!(rt; is_refused(&refused, Refusal::InvalidSize(6)), "{form:?}");
     }
     Ok(())
 }

@@ -1,4 +1,5 @@
 //! What begins an encoding.
+use crate::expect::{check, check_eq};
 use fakes::refusal::{Refusal, is_refused};
 use multihash::Head;
 
@@ -11,11 +12,11 @@ fn head_of_an_encoding(rt: HostRuntime) {
     };
     for input in [b"\xac\x02\x20".as_slice(), b"\xac\x02\x20\x64\x4b"] {
         let head = Head::read_front(input).expect(&rt, "two varints");
-        assert!(rt; head == want, "{input:?}");
+        check!(rt; head == want, "{input:?}");
     }
     let long = Head::read_front(b"\x01\x80\x04").expect(&rt, "two varints");
-    assert_eq!(rt; long.size, 512);
-    assert!(rt; is_refused(&Head::read_front(b"\xac\x02"), Refusal::Insufficient));
-    assert!(rt; is_refused(&Head::read_front(b"\xac\x02\xa0\x00"), Refusal::NotMinimal));
-    assert!(rt; is_refused(&Head::read_front(&[0xff; 9]), Refusal::Overflow));
+    check_eq!(rt; long.size, 512);
+    check!(rt; is_refused(&Head::read_front(b"\xac\x02"), Refusal::Insufficient));
+    check!(rt; is_refused(&Head::read_front(b"\xac\x02\xa0\x00"), Refusal::NotMinimal));
+    check!(rt; is_refused(&Head::read_front(&[0xff; 9]), Refusal::Overflow));
 }

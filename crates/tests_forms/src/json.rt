@@ -1,10 +1,12 @@
 //! Worked values of the JSON form.
-ghost use Rattle.std.specs.Prelude.{◌≤◌};
+ghost use Rattle.std.specs.Prelude.{◌<◌, ◌≤◌, ◌^◌};
 
+use crate::expect::{check, check_eq};
 use fakes::refusal::{LARGEST_CODE, Refusal, is_refused};
 use multihash::{Error, Multihash};
 use serde_json::{Value, json};
 use std::alloc::{AllocError, Global};
+use std::process::Abort;
 use std::test::Fail;
 use uses::forms::json_back;
 use uses::json_text::{self, TextError};
@@ -25,11 +27,11 @@ fn count_of_members(value: &Value) -> usize {
 fn json_text(rt: HostRuntime) -> Result<(), Fail> {
     let m = Multihash::<32>::wrap(18, &DIGEST)?;
     let value = m.to_value(rt.alloc())?;
-    assert_eq!(rt; value.to_string(rt.alloc())?.as_str(), DIGEST_TEXT);
-    assert_eq!(rt; Multihash::from_value(&value)?, m);
-    assert_eq!(rt; json_back::<32, 32>(rt.alloc(), &m)?, m);
+    check_eq!(rt; value.to_string(rt.alloc())?.as_str(), DIGEST_TEXT);
+    check_eq!(rt; Multihash::from_value(&value)?, m);
+    check_eq!(rt; json_back::<32, 32>(rt.alloc(), &m)?, m);
     let read = Value::from_str(rt.alloc(), DIGEST_TEXT)?;
-    assert_eq!(rt; Multihash::from_value(&read)?, m);
+    check_eq!(rt; Multihash::from_value(&read)?, m);
     Ok(())
 }
 
@@ -38,18 +40,18 @@ fn full_buffers_come_back(rt: HostRuntime) -> Result<(), Fail> {
     for code in [72057594037927936, LARGEST_CODE] {
         let m = Multihash::<128>::wrap(code, &[200; 128])?;
         let value = m.to_value(rt.alloc())?;
-        assert_eq!(rt; count_of_members(&value), 139);
-        assert_eq!(rt; Multihash::from_value(&value)?, m);
+        check_eq!(rt; count_of_members(&value), 139);
+        check_eq!(rt; Multihash::from_value(&value)?, m);
     }
     let refused = Multihash::<128>::wrap(9223372036854775808, &[200; 128]);
-    assert!(rt; is_refused(&refused, Refusal::InvalidCode(9223372036854775808)));
+    check!(rt; is_refused(&refused, Refusal::InvalidCode(9223372036854775808)));
     let longest = Multihash::<255>::wrap(LARGEST_CODE, &[7; 255])?;
     let value = longest.to_value(rt.alloc())?;
-    assert_eq!(rt;
+    check_eq!(rt;
         (longest.encoded_len(), count_of_members(&value)),
         (266, 266)
     );
-    assert_eq!(rt; Multihash::from_value(&value)?, longest);
+    check_eq!(rt; Multihash::from_value(&value)?, longest);
     Ok(())
 }
 
@@ -89,9 +91,9 @@ fn other_values_are_no_bytes(rt: HostRuntime) -> Result<(), Fail> {
         "[0,0,18446744073709551616]",
     ] {
         let answer = read_text::<32>(rt.alloc(), text)?;
-        assert!(rt; is_refused(&answer, Refusal::NotBytes), "{text}");
+        check!(rt; is_refused(&answer, Refusal::NotBytes), "{text}");
         let answer = read_text::<2>(rt.alloc(), text)?;
-        assert!(rt; is_refused(&answer, Refusal::NotBytes), "{text}");
+        check!(rt; is_refused(&answer, Refusal::NotBytes), "{text}");
     }
     Ok(())
 }
@@ -114,12 +116,12 @@ const REFUSED: [(&str, Refusal); 7] = [
 fn arrays_of_bytes_are_read(rt: HostRuntime) -> Result<(), Fail> {
     let alloc = rt.alloc();
     for (text, why) in REFUSED {
-        assert!(rt; is_refused(&read_text::<2>(alloc, text)?, why), "{text}");
+        check!(rt; is_refused(&read_text::<2>(alloc, text)?, why), "{text}");
     }
-    assert!(rt; is_refused(&read_text::<32>(alloc, "[]")?, Refusal::Insufficient));
-    assert!(rt; is_refused(&read_text::<32>(alloc, "[0,0,7]")?, Refusal::InvalidSize(1)));
+    check!(rt; is_refused(&read_text::<32>(alloc, "[]")?, Refusal::Insufficient));
+    check!(rt; is_refused(&read_text::<32>(alloc, "[0,0,7]")?, Refusal::InvalidSize(1)));
     let m = read_text::<2>(alloc, "[ 128, 1, 2, 255, 0 ]")??;
-    assert_eq!(rt; m, Multihash::wrap(128, &[255, 0])?);
+    check_eq!(rt; m, Multihash::wrap(128, &[255, 0])?);
     Ok(())
 }
 
@@ -157,30 +159,37 @@ fn is_no_bytes<const S: usize>(value: &Value) -> bool
     is_refused(&Multihash::<S>::from_value(value), Refusal::NotBytes)
 }
 
+fn expect_no_bytes(rt: &impl Abort, value: &Value) {
+    check!(rt; is_no_bytes::<2>(value), "{value:?}");
+    check!(rt; is_no_bytes::<32>(value), "{value:?}");
+    check!(rt; is_no_bytes::<255>(value), "{value:?}");
+}
+
+// A number behind a zero is a size, or the beginning of one: of 0 alone there is a pair.
+fn expect_size(rt: &impl Abort, alloc: Global, n: u16) -> Result<(), Fail> {
+    match Multihash::<255>::from_value(&after_zero(alloc, Value::from(n))?) {
+        Ok(m) => check!(rt; n == 0 && m == Multihash::default(), "{n}"),
+        Err(e) => {
+            let why = if n < 128 {
+                Refusal::UnexpectedEof
+            } else {
+                Refusal::Insufficient
+            };
+            check_eq!(rt; Refusal::of(&e), Some(why), "{n}");
+        }
+    }
+    Ok(())
+}
+
 #[test]
 fn only_small_whole_numbers_are_bytes(rt: HostRuntime) -> Result<(), Fail> {
     for value in kinds(rt.alloc())? {
-        assert!(rt; is_no_bytes::<2>(&value) && is_no_bytes::<32>(&value));
-        assert!(rt; is_no_bytes::<255>(&value), "{value:?}");
-        let second = after_zero(rt.alloc(), value)?;
-        assert!(rt; is_no_bytes::<2>(&second) && is_no_bytes::<32>(&second));
-        assert!(rt; is_no_bytes::<255>(&second), "{second:?}");
+        expect_no_bytes(&rt, &value);
+        expect_no_bytes(&rt, &after_zero(rt.alloc(), value)?);
     }
     for n in 0u16..256 {
-        let alone = Multihash::<255>::from_value(&Value::from(n));
-        assert!(rt; is_refused(&alone, Refusal::NotBytes));
-        let second = after_zero(rt.alloc(), Value::from(n))?;
-        match Multihash::<255>::from_value(&second) {
-            Ok(m) => assert!(rt; n == 0 && m == Multihash::default()),
-            Err(e) => {
-                let why = if n < 128 {
-                    Refusal::UnexpectedEof
-                } else {
-                    Refusal::Insufficient
-                };
-                assert_eq!(rt; Refusal::of(&e), Some(why), "{n}");
-            }
-        }
+        check!(rt; is_no_bytes::<255>(&Value::from(n)), "{n}");
+        expect_size(&rt, rt.alloc(), n)?;
     }
     Ok(())
 }
@@ -194,24 +203,30 @@ fn a_long_array_is_counted(rt: HostRuntime) -> Result<(), Fail> {
         members.push(Value::from(7u8))?;
     }
     let answer = Multihash::<2>::from_value(&Value::Array(members));
-    assert!(rt; is_refused(&answer, Refusal::InvalidSize(100000)));
+    check!(rt; is_refused(&answer, Refusal::InvalidSize(100000)));
     Ok(())
+}
+
+fn is_back<const S: usize>(answer: &Result<Multihash<S>, TextError>, m: &Multihash<32>) -> bool
+    requires { S < 2 ^ 16 }
+{
+    matches!(answer, Ok(back) if back.same_as(m))
+}
+
+fn is_value_refused<T>(answer: &Result<T, TextError>, why: Refusal) -> bool {
+    matches!(answer, Err(TextError::Value(e)) if Refusal::of(e) == Some(why))
 }
 
 #[test]
 fn a_multihash_comes_back_from_its_text(rt: HostRuntime) -> Result<(), Fail> {
     let m = Multihash::<32>::wrap(18, &DIGEST)?;
     let text = json_text::print(rt.alloc(), &m).map_err(|_| "not printed")?;
-    assert_eq!(rt; text.as_str(), DIGEST_TEXT);
-    let parsed = json_text::parse::<64>(rt.alloc(), DIGEST_TEXT);
-    assert!(rt; parsed.is_ok_and(|back| back.same_as(&m)));
-    let back = json_text::text_back::<32, 300>(rt.alloc(), &m);
-    assert!(rt; back.is_ok_and(|back| back.same_as(&m)));
+    check_eq!(rt; text.as_str(), DIGEST_TEXT);
+    check!(rt; is_back(&json_text::parse::<64>(rt.alloc(), DIGEST_TEXT), &m));
+    check!(rt; is_back(&json_text::text_back::<32, 300>(rt.alloc(), &m), &m));
     let refused = json_text::text_back::<32, 31>(rt.alloc(), &m);
-    assert!(rt;
-        matches!(&refused, Err(TextError::Value(e)) if Refusal::of(e) == Some(Refusal::InvalidSize(32)))
-    );
+    check!(rt; is_value_refused(&refused, Refusal::InvalidSize(32)));
     let refused = json_text::parse::<32>(rt.alloc(), "[0,0");
-    assert!(rt; matches!(&refused, Err(TextError::Text(_))));
+    check!(rt; matches!(&refused, Err(TextError::Text(_))));
     Ok(())
 }

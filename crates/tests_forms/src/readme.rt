@@ -1,5 +1,5 @@
 //! The examples of the README.
-use crate::expect::expect_bytes;
+use crate::expect::{check, expect_bytes};
 use multihash::Multihash;
 use std::test::Fail;
 use uses::readme::{head, json, scale, store, there_and_back};
@@ -8,7 +8,7 @@ const SHA2_256: u64 = 0x12;
 
 #[test]
 fn a_digest_comes_back(rt: HostRuntime) -> Result<(), Fail> {
-    assert!(rt; there_and_back(rt.alloc(), &[1, 2, 3])?);
+    check!(rt; there_and_back(rt.alloc(), &[1, 2, 3])?);
     Ok(())
 }
 
@@ -23,8 +23,8 @@ fn what_follows_stays(rt: HostRuntime) -> Result<(), Fail> {
 #[test]
 fn other_forms_come_back(rt: HostRuntime) -> Result<(), Fail> {
     let multihash = Multihash::<32>::wrap(SHA2_256, &[7, 8])?;
-    assert!(rt; scale(rt.alloc(), &multihash)?.same_as(&multihash));
-    assert!(rt; json(rt.alloc(), &multihash)?.same_as(&multihash));
+    check!(rt; scale(rt.alloc(), &multihash)?.same_as(&multihash));
+    check!(rt; json(rt.alloc(), &multihash)?.same_as(&multihash));
     Ok(())
 }
 
@@ -34,6 +34,6 @@ fn a_list_comes_back(rt: HostRuntime) -> Result<(), Fail> {
         Multihash::wrap(SHA2_256, &[7, 8])?,
         Multihash::wrap(0, &[])?,
     ];
-    assert!(rt; store(rt.alloc(), &items)?.as_slice() == items.as_slice());
+    check!(rt; store(rt.alloc(), &items)?.as_slice() == items.as_slice());
     Ok(())
 }

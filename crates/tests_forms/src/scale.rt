@@ -1,7 +1,7 @@
 //! Worked values of the SCALE form.
 ghost use Rattle.std.specs.Prelude.{◌<◌, ◌^◌};
 
-use crate::expect::expect_bytes;
+use crate::expect::{check, check_eq, expect_bytes};
 use fakes::readers::{Cuts, Silent};
 use fakes::refusal::{LARGEST_CODE, Refusal, is_refused};
 use multihash::{Error, Multihash};
@@ -19,20 +19,20 @@ fn a_text_in_two_buffers(rt: HostRuntime) -> Result<(), Fail> {
     let small = Multihash::<32>::wrap(0, b"hello world")?;
     let large = Multihash::<64>::wrap(0, b"hello world")?;
     let mut bytes = Vec::new(rt.alloc());
-    assert_eq!(rt; small.scale_encode(&mut bytes)?, 20);
-    assert_eq!(rt; large.scale_encode(&mut bytes)?, 20);
+    check_eq!(rt; small.scale_encode(&mut bytes)?, 20);
+    check_eq!(rt; large.scale_encode(&mut bytes)?, 20);
     expect_bytes(&rt, &bytes[..20], &HELLO);
     expect_bytes(&rt, &bytes[20..], &HELLO);
     let mut alone = Vec::new(rt.alloc());
-    assert_eq!(rt; large.scale_encode(&mut alone)?, 20);
+    check_eq!(rt; large.scale_encode(&mut alone)?, 20);
     expect_bytes(&rt, &alone, &HELLO);
     let mut left = bytes.as_slice();
-    assert_eq!(rt; Multihash::scale_decode(&mut left)?, small);
-    assert_eq!(rt; Multihash::scale_decode(&mut left)?, large);
-    assert!(rt; left.is_empty());
+    check_eq!(rt; Multihash::scale_decode(&mut left)?, small);
+    check_eq!(rt; Multihash::scale_decode(&mut left)?, large);
+    check!(rt; left.is_empty());
     let mut left = HELLO.as_slice();
     let refused = Multihash::<2>::scale_decode(&mut left);
-    assert!(rt; is_refused(&refused, Refusal::InvalidSize(11)));
+    check!(rt; is_refused(&refused, Refusal::InvalidSize(11)));
     expect_bytes(&rt, left, b"hello world");
     Ok(())
 }
@@ -48,10 +48,10 @@ fn expect_written<const S: usize, R: Abort>(
 {
     let m = Multihash::<S>::wrap(code, digest)?;
     let mut bytes = Vec::new(alloc);
-    assert_eq!(rt; m.scale_encode(&mut bytes)?, wanted.len());
+    check_eq!(rt; m.scale_encode(&mut bytes)?, wanted.len());
     expect_bytes(rt, &bytes, wanted);
     let (back, is_left) = scale_back::<S, 255>(alloc, &m, b"more")?;
-    assert!(rt; is_left && back.same_as(&m));
+    check!(rt; is_left && back.same_as(&m));
     Ok(())
 }
 
@@ -164,15 +164,15 @@ fn expect_rows<const S: usize>(rt: &impl Abort, rows: &[Row])
     for (input, want, wanted) in rows {
         let mut left = *input;
         let answer = Multihash::<S>::scale_decode(&mut left);
-        assert!(rt; is_wanted(*want, &answer), "{answer:?} for {input:?}");
-        assert!(rt; is_left(*wanted, input, left), "{left:?} of {input:?}");
+        check!(rt; is_wanted(*want, &answer), "{answer:?} for {input:?}");
+        check!(rt; is_left(*wanted, input, left), "{left:?} of {input:?}");
         let answer = Multihash::<S>::scale_decode(&mut Silent(input));
-        assert!(rt; is_wanted(*want, &answer), "{answer:?} for {input:?}");
+        check!(rt; is_wanted(*want, &answer), "{answer:?} for {input:?}");
         for most in [1, 2, 3, 4, 7] {
             let mut reader = Cuts::new(input, most);
             let answer = Multihash::<S>::scale_decode(&mut reader);
-            assert!(rt; is_wanted(*want, &answer), "{answer:?} for {input:?}");
-            assert!(rt; is_left(*wanted, input, reader.left), "of {input:?}");
+            check!(rt; is_wanted(*want, &answer), "{answer:?} for {input:?}");
+            check!(rt; is_left(*wanted, input, reader.left), "of {input:?}");
         }
     }
 }
@@ -205,10 +205,10 @@ fn inputs_are_read(rt: HostRuntime) {
 fn slices_that_fit_and_that_do_not(rt: HostRuntime) -> Result<(), Fail> {
     let m = Multihash::<4>::wrap(300, b"AB")?;
     let mut places = [7u8; 12];
-    assert_eq!(rt; fills_scale(&m, &mut places), (true, 1));
+    check_eq!(rt; fills_scale(&m, &mut places), (true, 1));
     expect_bytes(&rt, &places, &[44, 1, 0, 0, 0, 0, 0, 0, 2, 65, 66, 7]);
     let mut places = [7u8; 10];
-    assert_eq!(rt; fills_scale(&m, &mut places), (false, 0));
+    check_eq!(rt; fills_scale(&m, &mut places), (false, 0));
     expect_bytes(&rt, &places, &[44, 1, 0, 0, 0, 0, 0, 0, 2, 65]);
     Ok(())
 }

@@ -1,5 +1,5 @@
 //! Varints, both ways.
-use crate::expect::expect_bytes;
+use crate::expect::{check, check_eq, expect_bytes};
 use fakes::readers::{Counts, Cuts};
 use fakes::refusal::{Refusal, is_refused};
 use multihash::{Multihash, varint};
@@ -50,16 +50,16 @@ fn codes_both_ways(rt: HostRuntime) -> Result<(), Fail> {
         bytes.push(0)?;
         let m = Multihash::<4>::wrap(value, &[])?;
         expect_bytes(&rt, &m.to_bytes(rt.alloc())?, &bytes);
-        assert_eq!(rt; m.encoded_len(), bytes.len());
+        check_eq!(rt; m.encoded_len(), bytes.len());
         let read = Multihash::<4>::from_bytes(&bytes)?;
-        assert_eq!(rt; read.code(), value);
-        assert!(rt; read.digest().is_empty());
+        check_eq!(rt; read.code(), value);
+        check!(rt; read.digest().is_empty());
         let mut reader = Cuts::new(&bytes, 1);
-        assert!(rt; Multihash::<4>::read(&mut reader)? == read, "at {value}");
-        assert!(rt; reader.left.is_empty());
+        check!(rt; Multihash::<4>::read(&mut reader)? == read, "at {value}");
+        check!(rt; reader.left.is_empty());
         let back: Multihash<4> = bytes_back(rt.alloc(), &read)?;
-        assert_eq!(rt; back.code(), value);
-        assert!(rt; back.digest().is_empty());
+        check_eq!(rt; back.code(), value);
+        check!(rt; back.digest().is_empty());
     }
     Ok(())
 }
@@ -68,14 +68,14 @@ fn codes_both_ways(rt: HostRuntime) -> Result<(), Fail> {
 fn varints_both_ways(rt: HostRuntime) -> Result<(), Fail> {
     for (value, bytes) in VARINTS {
         let mut left = bytes;
-        assert_eq!(rt; varint::read(&mut left)?, value);
-        assert!(rt; left.is_empty(), "at {value}");
+        check_eq!(rt; varint::read(&mut left)?, value);
+        check!(rt; left.is_empty(), "at {value}");
         let mut followed = bytes.to_vec(rt.alloc())?;
         followed.push(7)?;
-        assert_eq!(rt; varint::read_front(&followed)?, (value, bytes.len()));
-        assert_eq!(rt; varint::len(value)?, bytes.len());
+        check_eq!(rt; varint::read_front(&followed)?, (value, bytes.len()));
+        check_eq!(rt; varint::len(value)?, bytes.len());
         let mut written = Vec::new(rt.alloc());
-        assert_eq!(rt; varint::write(value, &mut written)?, bytes.len());
+        check_eq!(rt; varint::write(value, &mut written)?, bytes.len());
         expect_bytes(&rt, &written, bytes);
     }
     Ok(())
@@ -94,24 +94,24 @@ fn ninth_marked_byte_overflows(rt: HostRuntime) {
     for bytes in TOO_LONG {
         let mut left: &[u8] = &bytes;
         let read = varint::read(&mut left);
-        assert!(rt; is_refused(&read, Refusal::Overflow), "{bytes:?}");
+        check!(rt; is_refused(&read, Refusal::Overflow), "{bytes:?}");
         expect_bytes(&rt, left, &bytes[9..]);
         let front = varint::read_front(&bytes);
-        assert!(rt; is_refused(&front, Refusal::Overflow), "{bytes:?}");
+        check!(rt; is_refused(&front, Refusal::Overflow), "{bytes:?}");
         let whole = Multihash::<4>::from_bytes(&bytes);
-        assert!(rt; is_refused(&whole, Refusal::Overflow), "{bytes:?}");
+        check!(rt; is_refused(&whole, Refusal::Overflow), "{bytes:?}");
         let nine = Multihash::<4>::from_bytes(&bytes[..9]);
-        assert!(rt; is_refused(&nine, Refusal::Overflow), "{bytes:?}");
+        check!(rt; is_refused(&nine, Refusal::Overflow), "{bytes:?}");
         let eight = Multihash::<4>::from_bytes(&bytes[..8]);
-        assert!(rt; is_refused(&eight, Refusal::Insufficient), "{bytes:?}");
+        check!(rt; is_refused(&eight, Refusal::Insufficient), "{bytes:?}");
     }
 }
 
 #[test]
 fn largest_number_has_nine_bytes(rt: HostRuntime) -> Result<(), Fail> {
-    assert_eq!(rt; varint::MAX, 9223372036854775807);
-    assert_eq!(rt; varint::len(varint::MAX)?, 9);
-    assert_eq!(rt; varint::len(72057594037927935)?, 8);
+    check_eq!(rt; varint::MAX, 9223372036854775807);
+    check_eq!(rt; varint::len(varint::MAX)?, 9);
+    check_eq!(rt; varint::len(72057594037927935)?, 8);
     Ok(())
 }
 
@@ -120,9 +120,9 @@ fn larger_numbers_have_no_varint(rt: HostRuntime) {
     for number in [varint::MAX + 1, u64::MAX] {
         let why = Refusal::InvalidCode(number);
         let mut written = Vec::new(rt.alloc());
-        assert!(rt; is_refused(&varint::write(number, &mut written), why));
-        assert!(rt; written.is_empty());
-        assert!(rt; is_refused(&varint::len(number), why));
+        check!(rt; is_refused(&varint::write(number, &mut written), why));
+        check!(rt; written.is_empty());
+        check!(rt; is_refused(&varint::len(number), why));
     }
 }
 
@@ -130,17 +130,17 @@ fn larger_numbers_have_no_varint(rt: HostRuntime) {
 fn larger_codes_have_no_varint(rt: HostRuntime) -> Result<(), Fail> {
     for (value, code) in TOO_LARGE {
         let refused = Multihash::<4>::wrap(value, &[]);
-        assert!(rt;
+        check!(rt;
             is_refused(&refused, Refusal::InvalidCode(value)),
             "at {value}"
         );
         let mut bytes = code.to_vec(rt.alloc())?;
         bytes.push(0)?;
         let whole = Multihash::<4>::from_bytes(&bytes);
-        assert!(rt; is_refused(&whole, Refusal::Overflow), "at {value}");
+        check!(rt; is_refused(&whole, Refusal::Overflow), "at {value}");
         let mut reader = Cuts::new(&bytes, 1);
         let read = Multihash::<4>::read(&mut reader);
-        assert!(rt; is_refused(&read, Refusal::Overflow), "at {value}");
+        check!(rt; is_refused(&read, Refusal::Overflow), "at {value}");
         expect_bytes(&rt, reader.left, &[1, 0]);
     }
     Ok(())
@@ -155,17 +155,17 @@ fn expect_alike(rt: &impl Abort, alloc: Global, bytes: &[u8]) -> Result<(), Fail
     let read = Multihash::<4>::read(&mut left);
     match (read, Multihash::<4>::from_bytes(bytes)) {
         (Ok(m), Ok(whole)) => {
-            assert!(rt; left.is_empty());
-            assert_eq!(rt; m, whole);
+            check!(rt; left.is_empty());
+            check_eq!(rt; m, whole);
         }
         (Ok(_), Err(e)) => {
-            assert!(rt; !left.is_empty());
-            assert_eq!(rt; e.invalid_size(), Some(left.len() as u64));
+            check!(rt; !left.is_empty());
+            check_eq!(rt; e.invalid_size(), Some(left.len() as u64));
         }
         (Err(e), Err(whole)) => {
-            assert_eq!(rt; e.to_string(alloc)?, whole.to_string(alloc)?);
+            check_eq!(rt; e.to_string(alloc)?, whole.to_string(alloc)?);
         }
-        (Err(_), Ok(_)) => assert!(rt; false, "from_bytes alone answers a pair"),
+        (Err(_), Ok(_)) => check!(rt; false, "from_bytes alone answers a pair"),
     }
     Ok(())
 }
@@ -193,21 +193,33 @@ fn a_slice_is_read_as_its_bytes_are(rt: HostRuntime) -> Result<(), Fail> {
     Ok(())
 }
 
+fn expect_asked(
+    rt: &impl Abort,
+    input: &'static [u8],
+    is_read: bool,
+    requests: (usize, usize, usize),
+    left: &[u8],
+) {
+    let mut reader = Counts::new(input);
+    check_eq!(rt; Multihash::<4>::read(&mut reader).is_ok(), is_read, "{input:?}");
+    check_eq!(rt; (reader.single, reader.others, reader.whole), requests, "{input:?}");
+    expect_bytes(rt, reader.left, left);
+}
+
 #[test]
 fn a_varint_asks_byte_by_byte(rt: HostRuntime) {
     // The code 300, and the digest `AB`.
-    let mut reader = Counts::new(&[172, 2, 2, 65, 66, 9]);
-    assert!(rt; Multihash::<4>::read(&mut reader).is_ok());
-    assert_eq!(rt; (reader.single, reader.others, reader.whole), (3, 0, 1));
-    expect_bytes(&rt, reader.left, &[9]);
+    expect_asked(&rt, &[172, 2, 2, 65, 66, 9], true, (3, 0, 1), &[9]);
     // A size that is refused asks for no digest.
-    let mut reader = Counts::new(&[0, 5, 1, 2, 3, 4, 5]);
-    assert!(rt; Multihash::<4>::read(&mut reader).is_err());
-    assert_eq!(rt; (reader.single, reader.others, reader.whole), (2, 0, 0));
+    expect_asked(
+        &rt,
+        &[0, 5, 1, 2, 3, 4, 5],
+        false,
+        (2, 0, 0),
+        &[1, 2, 3, 4, 5],
+    );
     // Nor does an input that ends in a varint; it is asked once more, and ends there.
-    let mut reader = Counts::new(&[0, 128]);
-    assert!(rt; Multihash::<4>::read(&mut reader).is_err());
-    assert_eq!(rt; (reader.single, reader.others, reader.whole), (3, 0, 0));
+    expect_asked(&rt, &[0, 128], false, (3, 0, 0), &[]);
 }
 
 // The code 421 is of two bytes; behind the part stands a byte of the next.
@@ -215,14 +227,14 @@ fn a_varint_asks_byte_by_byte(rt: HostRuntime) {
 fn an_address_is_taken_apart(rt: HostRuntime) {
     match first_part(&[0xa5, 0x03, 2, 7, 8, 9]) {
         Ok((part, rest)) => {
-            assert_eq!(rt; (part.code, part.bytes, rest), (421, &[7, 8][..], &[9][..]));
+            check_eq!(rt; (part.code, part.bytes, rest), (421, &[7, 8][..], &[9][..]));
         }
-        Err(_) => assert!(rt; false),
+        Err(_) => check!(rt; false),
     }
-    assert!(rt;
+    check!(rt;
         first_part(&[4, 0]).is_ok_and(|(part, rest)| part.bytes.is_empty() && rest.is_empty())
     );
-    assert!(rt; matches!(first_part(&[4, 3, 1, 2]), Err(PartError::Cut)));
-    assert!(rt; matches!(first_part(&[0x80]), Err(PartError::Head(e)) if e.is_insufficient()));
-    assert!(rt; matches!(first_part(&[4, 0x80, 0]), Err(PartError::Head(e)) if e.is_not_minimal()));
+    check!(rt; matches!(first_part(&[4, 3, 1, 2]), Err(PartError::Cut)));
+    check!(rt; matches!(first_part(&[0x80]), Err(PartError::Head(e)) if e.is_insufficient()));
+    check!(rt; matches!(first_part(&[4, 0x80, 0]), Err(PartError::Head(e)) if e.is_not_minimal()));
 }

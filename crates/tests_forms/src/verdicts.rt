@@ -1,7 +1,7 @@
 //! What reading answers to each kind of input, and which bytes it takes.
 ghost use Rattle.std.specs.Prelude.{◌<◌, ◌^◌};
 
-use crate::expect::expect_bytes;
+use crate::expect::{check, check_eq, expect_bytes};
 use fakes::readers::{Cuts, Silent};
 use fakes::refusal::Refusal::{Insufficient, InvalidSize, NotMinimal, Overflow, UnexpectedEof};
 use fakes::refusal::{Refusal, is_refused};
@@ -230,7 +230,7 @@ fn expect_whole<const S: usize>(rt: &impl Abort, rows: &[Row])
 {
     for (input, _, _, want) in rows {
         let answer = Multihash::<S>::from_bytes(input);
-        assert!(rt; is_wanted(*want, &answer), "{answer:?} for {input:?}");
+        check!(rt; is_wanted(*want, &answer), "{answer:?} for {input:?}");
     }
 }
 
@@ -249,13 +249,13 @@ fn expect_over_slices<const S: usize>(rt: &impl Abort, rows: &[Row])
     for (input, want, taken, _) in rows {
         let mut left = *input;
         let answer = Multihash::<S>::read(&mut left);
-        assert!(rt; is_wanted(*want, &answer), "{answer:?} for {input:?}");
-        assert!(rt;
+        check!(rt; is_wanted(*want, &answer), "{answer:?} for {input:?}");
+        check!(rt;
             is_taken(*taken, input, left),
             "{left:?} is left of {input:?}"
         );
         let answer = Multihash::<S>::read(&mut Silent(input));
-        assert!(rt; is_wanted(*want, &answer), "{answer:?} for {input:?}");
+        check!(rt; is_wanted(*want, &answer), "{answer:?} for {input:?}");
     }
 }
 
@@ -275,8 +275,8 @@ fn expect_over_cuts<const S: usize>(rt: &impl Abort, rows: &[Row])
         for most in 1..8 {
             let mut reader = Cuts::new(input, most);
             let answer = Multihash::<S>::read(&mut reader);
-            assert!(rt; is_wanted(*want, &answer), "{answer:?} for {input:?}");
-            assert!(rt; is_taken(*taken, input, reader.left), "of {input:?}");
+            check!(rt; is_wanted(*want, &answer), "{answer:?} for {input:?}");
+            check!(rt; is_taken(*taken, input, reader.left), "of {input:?}");
         }
     }
 }
@@ -304,7 +304,7 @@ fn expect_settled<const S: usize>(
         bytes.extend_from_slice(more)?;
         let mut left = bytes.as_slice();
         let answer = Multihash::<S>::read(&mut left);
-        assert!(rt; is_wanted(want, &answer), "{answer:?} for {bytes:?}");
+        check!(rt; is_wanted(want, &answer), "{answer:?} for {bytes:?}");
         expect_bytes(rt, left, more);
     }
     let shorter = front.split_last().map_or(front, |(_, shorter)| shorter);
@@ -312,7 +312,7 @@ fn expect_settled<const S: usize>(
     let answer = Multihash::<S>::read(&mut left);
     let is_early = is_wanted(Err(Refusal::Insufficient), &answer)
         || is_wanted(Err(Refusal::UnexpectedEof), &answer);
-    assert!(rt; is_early, "{answer:?} for {shorter:?}");
+    check!(rt; is_early, "{answer:?} for {shorter:?}");
     Ok(())
 }
 
@@ -325,6 +325,7 @@ fn expect_all_settled<const S: usize>(
 {
     for (input, want, taken, _) in rows {
         if let Taken::Settled(n) = taken {
+            // not `check!`, which tells the proof nothing
             assert!(rt; *n <= input.len());
             expect_settled::<S>(rt, alloc, &input[..*n], *want)?;
         }
@@ -347,7 +348,7 @@ fn accepted_pairs_come_back(rt: HostRuntime) -> Result<(), Fail> {
         if let Ok((code, digest)) = *want {
             let m = Multihash::<4>::wrap(code, digest)?;
             let back: Multihash<4> = bytes_back(rt.alloc(), &m)?;
-            assert_eq!(rt; back.code(), code);
+            check_eq!(rt; back.code(), code);
             expect_bytes(&rt, back.digest(), digest);
         }
     }

@@ -1,12 +1,15 @@
 //! Memory that is refused. A test whose name begins with `refused` passes where nothing is refused.
 //! Where a request is, it looks at what stands then, and fails with `REFUSED`:
 //! `tools/refuse_memory.sh` refuses each request in turn, and counts them so.
-use crate::expect::{expect_bytes, unless_refused};
+ghost use Rattle.std.specs.Prelude.{◌<◌, ◌^◌};
+
+use crate::expect::{check, check_eq, expect_bytes, unless_refused};
 use fakes::refusal::{LARGEST_CODE, Refusal, is_refused};
 use multihash::list::{read_list, write_list};
 use multihash::no_std_io::{self, Read, SliceWriter, Write};
 use multihash::{Error, Head, Multihash, laws, varint};
 use serde_json::Value;
+use std::alloc::Global;
 use std::hash::{DefaultHasher, Hash, Hasher};
 use std::process::Abort;
 use std::test::Fail;
@@ -28,14 +31,14 @@ fn refused_to_bytes(rt: HostRuntime) -> Result<(), Fail> {
     let [m, _] = two()?;
     let bytes = unless_refused(&rt, m.to_bytes(rt.alloc()))?;
     expect_bytes(&rt, &bytes, &STREAM[..3]);
-    assert_eq!(rt; bytes.capacity(), m.encoded_len());
+    check_eq!(rt; bytes.capacity(), m.encoded_len());
     Ok(())
 }
 
 #[test]
 fn refused_long_to_bytes(rt: HostRuntime) -> Result<(), Fail> {
     let bytes = unless_refused(&rt, long()?.to_bytes(rt.alloc()))?;
-    assert_eq!(rt; (bytes.len(), bytes.capacity()), (204, 204));
+    check_eq!(rt; (bytes.len(), bytes.capacity()), (204, 204));
     Ok(())
 }
 
@@ -43,7 +46,7 @@ fn refused_long_to_bytes(rt: HostRuntime) -> Result<(), Fail> {
 fn refused_to_value(rt: HostRuntime) -> Result<(), Fail> {
     let [m, _] = two()?;
     let value = unless_refused(&rt, m.to_value(rt.alloc()))?;
-    assert!(rt; Multihash::from_value(&value)? == m);
+    check!(rt; Multihash::from_value(&value)? == m);
     Ok(())
 }
 
@@ -55,7 +58,7 @@ fn refused_read_list(rt: HostRuntime) -> Result<(), Fail> {
         expect_bytes(&rt, left, &STREAM);
     }
     let list = unless_refused(&rt, answer)?;
-    assert!(rt; list.as_slice() == two()?.as_slice());
+    check!(rt; list.as_slice() == two()?.as_slice());
     expect_bytes(&rt, left, &[7]);
     Ok(())
 }
@@ -64,10 +67,10 @@ fn refused_read_list(rt: HostRuntime) -> Result<(), Fail> {
 // appended.
 fn expect_appended<R: Abort>(rt: &R, mut held: Vec<u8>, refused: bool, wanted: &[u8]) {
     if refused {
-        assert!(rt; held.len() < wanted.len());
-        assert_eq!(rt; Some(held.as_slice()), wanted.get(..held.len()));
+        check!(rt; held.len() < wanted.len());
+        check_eq!(rt; Some(held.as_slice()), wanted.get(..held.len()));
         let rest = wanted.get(held.len()..).unwrap_or(&[]);
-        assert!(rt; held.write_all(rest).is_ok());
+        check!(rt; held.write_all(rest).is_ok());
     }
     expect_bytes(rt, &held, wanted);
 }
@@ -79,7 +82,7 @@ fn refused_write(rt: HostRuntime) -> Result<(), Fail> {
     let mut wanted = [65u8; 204];
     wanted[..4].copy_from_slice(&[172, 2, 200, 1]);
     expect_appended(&rt, held, answer.is_err(), &wanted);
-    assert_eq!(rt; unless_refused(&rt, answer)?, 204);
+    check_eq!(rt; unless_refused(&rt, answer)?, 204);
     Ok(())
 }
 
@@ -90,7 +93,7 @@ fn refused_scale_encode(rt: HostRuntime) -> Result<(), Fail> {
     let mut wanted = [65u8; 209];
     wanted[..9].copy_from_slice(&[44, 1, 0, 0, 0, 0, 0, 0, 200]);
     expect_appended(&rt, held, answer.is_err(), &wanted);
-    assert_eq!(rt; unless_refused(&rt, answer)?, 209);
+    check_eq!(rt; unless_refused(&rt, answer)?, 209);
     Ok(())
 }
 
@@ -120,12 +123,12 @@ fn refused_write_of_a_vector(rt: HostRuntime) -> Result<(), Fail> {
     let mut held = Vec::new(rt.alloc());
     let answer = held.write(&[1, 2, 3]);
     if answer.is_err() {
-        assert!(rt; held.is_empty() && held.capacity() == 0);
-        assert!(rt; held.write_all(&[1, 2, 3]).is_ok());
-        assert_eq!(rt; held.as_slice(), [1, 2, 3].as_slice());
+        check!(rt; held.is_empty() && held.capacity() == 0);
+        check!(rt; held.write_all(&[1, 2, 3]).is_ok());
+        check_eq!(rt; held.as_slice(), [1, 2, 3].as_slice());
     }
-    assert_eq!(rt; unless_refused(&rt, answer.map_err(Error::from))?, 3);
-    assert_eq!(rt; held.as_slice(), [1, 2, 3].as_slice());
+    check_eq!(rt; unless_refused(&rt, answer.map_err(Error::from))?, 3);
+    check_eq!(rt; held.as_slice(), [1, 2, 3].as_slice());
     Ok(())
 }
 
@@ -134,7 +137,7 @@ fn refused_write_of_a_vector(rt: HostRuntime) -> Result<(), Fail> {
 fn refused_push(rt: HostRuntime) -> Result<(), Fail> {
     let mut held = Vec::new(rt.alloc());
     let answer = keep(&mut held, long()?);
-    assert_eq!(rt; held.len(), usize::from(answer.is_ok()));
+    check_eq!(rt; held.len(), usize::from(answer.is_ok()));
     unless_refused(&rt, answer)
 }
 
@@ -143,67 +146,96 @@ fn keep(held: &mut Vec<Multihash<200>>, multihash: Multihash<200>) -> Result<(),
     Ok(())
 }
 
+fn expect_compared(
+    rt: &impl Abort,
+    first: &Multihash<4>,
+    second: &Multihash<4>,
+) -> Result<(), Fail> {
+    check!(rt; first < second && first != second && !first.same_as(second));
+    let empty = first.truncate(0).resize::<0>()?;
+    check!(rt; empty.same_as(&Multihash::<4>::default()));
+    Ok(())
+}
+
+fn expect_read(rt: &impl Abort, alloc: Global, first: &Multihash<4>) -> Result<(), Fail> {
+    check!(rt; Multihash::<4>::from_bytes(&STREAM[..3])? == *first);
+    let mut left = STREAM.as_slice();
+    check!(rt; Multihash::<4>::read(&mut left)? == *first);
+    check!(rt; read_list::<4, _>(alloc, &mut left, 0)?.is_empty());
+    expect_bytes(rt, left, &STREAM[3..]);
+    Ok(())
+}
+
+fn expect_written(rt: &impl Abort, items: &[Multihash<4>; 2]) -> Result<(), Fail> {
+    let mut places = [0u8; 16];
+    let mut free = places.as_mut_slice();
+    write_list(items, &mut free)?;
+    check_eq!(rt; items[1].scale_encode(&mut free)?, 10);
+    check!(rt; free.is_empty());
+    check!(rt; Multihash::<4>::scale_decode(&mut &places[6..])? == items[1]);
+    Ok(())
+}
+
 // Passes also where each request is refused, since none of these calls makes one.
 #[test]
 fn needs_no_memory(rt: HostRuntime) -> Result<(), Fail> {
-    let [first, second] = two()?;
-    assert!(rt; first < second && first != second && !first.same_as(&second));
-    assert!(rt;
-        first
-            .truncate(0)
-            .resize::<0>()?
-            .same_as(&Multihash::<4>::default())
-    );
-    assert!(rt; Multihash::<4>::from_bytes(&STREAM[..3])? == first);
-    assert!(rt; is_refused(&Multihash::<4>::from_value(&Value::Null), Refusal::NotBytes));
-    let mut left = STREAM.as_slice();
-    assert!(rt; Multihash::<4>::read(&mut left)? == first);
-    assert!(rt; read_list::<4, _>(rt.alloc(), &mut left, 0)?.is_empty());
-    expect_bytes(&rt, left, &STREAM[3..]);
-    let mut places = [0u8; 16];
-    let mut free = places.as_mut_slice();
-    write_list(&[first, second], &mut free)?;
-    assert_eq!(rt; second.scale_encode(&mut free)?, 10);
-    assert!(rt; free.is_empty());
-    assert!(rt; Multihash::<4>::scale_decode(&mut &places[6..])? == second);
-    assert!(rt;
-        is_refused(
-            &Multihash::<4>::wrap(u64::MAX, &[]),
-            Refusal::InvalidCode(u64::MAX)
-        )
-    );
+    let items = two()?;
+    expect_compared(&rt, &items[0], &items[1])?;
+    expect_read(&rt, rt.alloc(), &items[0])?;
+    expect_written(&rt, &items)?;
+    check!(rt; is_refused(&Multihash::<4>::from_value(&Value::Null), Refusal::NotBytes));
+    let refused = Multihash::<4>::wrap(u64::MAX, &[]);
+    check!(rt; is_refused(&refused, Refusal::InvalidCode(u64::MAX)));
     let refused = Multihash::<4>::scale_decode(&mut [255; 8].as_slice());
-    assert!(rt; is_refused(&refused, Refusal::InvalidCode(u64::MAX)));
+    check!(rt; is_refused(&refused, Refusal::InvalidCode(u64::MAX)));
     Ok(())
+}
+
+fn hash_of(m: &Multihash<6>) -> u64 {
+    let mut state = DefaultHasher::new();
+    m.hash(&mut state);
+    state.finish()
+}
+
+fn expect_parts(rt: &impl Abort, m: &Multihash<6>) {
+    check_eq!(rt; (m.code(), m.size(), m.encoded_len()), (300, 6, 9));
+    expect_bytes(rt, m.digest(), b"foobar");
+    check_eq!(rt; m.into_inner().2, 6);
+    check_eq!(rt; hash_of(m), hash_of(m));
+}
+
+fn expect_varints(rt: &impl Abort, m: &Multihash<6>) -> Result<(), Fail> {
+    let mut places = [0u8; 9];
+    check_eq!(rt; m.write(&mut places.as_mut_slice())?, 9);
+    check_eq!(rt; Head::read_front(&places)?.len, 3);
+    check_eq!(rt; varint::read_front(&places)?, (300, 2));
+    check_eq!(rt; varint::read(&mut places.as_slice())?, 300);
+    check_eq!(rt; varint::len(300)?, 2);
+    check_eq!(rt; varint::write(300, &mut [0u8; 2].as_mut_slice())?, 2);
+    Ok(())
+}
+
+fn expect_slices(rt: &impl Abort) {
+    let mut left = [0u8; 9].as_slice();
+    let mut buf = [0u8; 3];
+    check!(rt; left.read(&mut buf).is_ok());
+    check!(rt; left.read_exact(&mut buf).is_ok());
+    let mut free: &mut [u8] = &mut [0; 3];
+    check!(rt; free.write(&[1]).is_ok());
+    check!(rt; free.write_all(&[1, 2]).is_ok());
+    let mut kept = [0u8; 3];
+    let mut writer = SliceWriter::new(&mut kept);
+    check!(rt; writer.write(&[1]).is_ok());
+    check!(rt; writer.write_all(&[1, 2]).is_ok());
 }
 
 // As `needs_no_memory`: the parts of a value, what a slice answers as a reader and a writer, the varints, the laws.
 #[test]
 fn parts_and_slices_need_no_memory(rt: HostRuntime) -> Result<(), Fail> {
     let m = Multihash::<6>::wrap(300, b"foobar")?;
-    assert_eq!(rt; (m.code(), m.size(), m.encoded_len()), (300, 6, 9));
-    assert_eq!(rt; m.digest(), b"foobar".as_slice());
-    assert_eq!(rt; m.into_inner().2, 6);
-    let mut state = DefaultHasher::new();
-    m.hash(&mut state);
-    let mut again = DefaultHasher::new();
-    m.hash(&mut again);
-    assert_eq!(rt; state.finish(), again.finish());
-    let mut places = [0u8; 9];
-    assert_eq!(rt; m.write(&mut places.as_mut_slice())?, 9);
-    assert_eq!(rt; Head::read_front(&places)?.len, 3);
-    assert_eq!(rt; varint::read_front(&places)?, (300, 2));
-    assert_eq!(rt; varint::read(&mut places.as_slice())?, 300);
-    assert_eq!(rt; varint::len(300)?, 2);
-    assert_eq!(rt; varint::write(300, &mut [0u8; 2].as_mut_slice())?, 2);
-    let mut left = places.as_slice();
-    let mut buf = [0u8; 3];
-    assert!(rt; left.read(&mut buf).is_ok() && left.read_exact(&mut buf).is_ok());
-    let mut free: &mut [u8] = &mut [0; 3];
-    assert!(rt; free.write(&[1]).is_ok() && free.write_all(&[1, 2]).is_ok());
-    let mut kept = [0u8; 3];
-    let mut writer = SliceWriter::new(&mut kept);
-    assert!(rt; writer.write(&[1]).is_ok() && writer.write_all(&[1, 2]).is_ok());
+    expect_parts(&rt, &m);
+    expect_varints(&rt, &m)?;
+    expect_slices(&rt);
     laws::one_verdict();
     laws::settles();
     laws::prefix_free();
@@ -216,18 +248,18 @@ fn parts_and_slices_need_no_memory(rt: HostRuntime) -> Result<(), Fail> {
 #[test]
 fn errors_need_no_memory(rt: HostRuntime) {
     let e = Error::from(no_std_io::Error::other("x"));
-    assert!(rt;
+    check!(rt;
         e.io()
             .is_some_and(|e| e.is_other() && e.text() == "x" && !e.is_write_zero())
     );
-    assert!(rt; !e.is_overflow() && !e.is_insufficient() && !e.is_not_minimal());
-    assert!(rt; e.invalid_size().is_none() && e.invalid_code().is_none() && !e.is_early_end());
+    check!(rt; !e.is_overflow() && !e.is_insufficient() && !e.is_not_minimal());
+    check!(rt; e.invalid_size().is_none() && e.invalid_code().is_none() && !e.is_early_end());
     let e = Error::from(no_std_io::Error::out_of_memory());
-    assert!(rt;
+    check!(rt;
         Refusal::of(&e) == Some(Refusal::OutOfMemory) && !e.is_early_end() && !e.is_not_bytes()
     );
     let empty = Value::Array(Vec::new(rt.alloc()));
-    assert!(rt; Multihash::<4>::from_value(&empty).is_err_and(|e| e.is_insufficient()));
+    check!(rt; Multihash::<4>::from_value(&empty).is_err_and(|e| e.is_insufficient()));
 }
 
 #[test]
@@ -235,10 +267,10 @@ fn too_many_places_are_refused(rt: HostRuntime) -> Result<(), Fail> {
     for count in [usize::MAX, usize::MAX / 2] {
         let mut left = STREAM.as_slice();
         let refused = read_list::<4, _>(rt.alloc(), &mut left, count);
-        assert!(rt; is_refused(&refused, Refusal::OutOfMemory));
+        check!(rt; is_refused(&refused, Refusal::OutOfMemory));
         expect_bytes(&rt, left, &STREAM);
         let list = read_list::<4, _>(rt.alloc(), &mut left, 2)?;
-        assert!(rt; list.as_slice() == two()?.as_slice());
+        check!(rt; list.as_slice() == two()?.as_slice());
     }
     Ok(())
 }
@@ -249,34 +281,33 @@ fn ample_memory_is_enough(rt: HostRuntime) -> Result<(), Fail> {
     let mut bytes = Vec::new(rt.alloc());
     write_list(&items, &mut bytes)?;
     for m in &items {
-        assert_eq!(rt; m.to_bytes(rt.alloc())?.len(), 3);
-        assert_eq!(rt; m.write(&mut bytes)?, 3);
-        assert_eq!(rt; m.scale_encode(&mut bytes)?, 10);
-        assert!(rt; m.to_value(rt.alloc())?.is_array());
+        check_eq!(rt; m.to_bytes(rt.alloc())?.len(), 3);
+        check_eq!(rt; m.write(&mut bytes)?, 3);
+        check_eq!(rt; m.scale_encode(&mut bytes)?, 10);
+        check!(rt; m.to_value(rt.alloc())?.is_array());
     }
-    assert_eq!(rt; bytes.len(), 32);
-    assert_eq!(rt;
+    check_eq!(rt; bytes.len(), 32);
+    check_eq!(rt;
         read_list::<4, _>(rt.alloc(), &mut bytes.as_slice(), 2)?.len(),
         2
     );
     Ok(())
 }
 
+fn expect_empty<const S: usize>(rt: &impl Abort, alloc: Global) -> Result<(), Fail>
+    requires { S < 2 ^ 16 }
+{
+    let m = Multihash::<S>::wrap(18, &[])?;
+    expect_bytes(rt, &m.to_bytes(alloc)?, &[18, 0]);
+    let value = m.to_value(alloc)?;
+    check_eq!(rt; value.to_string(alloc)?.as_str(), "[18,0]");
+    Ok(())
+}
+
 #[test]
 fn memory_is_enough_at_each_size(rt: HostRuntime) -> Result<(), Fail> {
-    let m = Multihash::<0>::wrap(18, &[])?;
-    expect_bytes(&rt, &m.to_bytes(rt.alloc())?, &[18, 0]);
-    assert_eq!(rt;
-        m.to_value(rt.alloc())?.to_string(rt.alloc())?.as_str(),
-        "[18,0]"
-    );
-    let m = Multihash::<1000>::wrap(18, &[])?;
-    expect_bytes(&rt, &m.to_bytes(rt.alloc())?, &[18, 0]);
-    assert_eq!(rt;
-        m.to_value(rt.alloc())?.to_string(rt.alloc())?.as_str(),
-        "[18,0]"
-    );
-    Ok(())
+    expect_empty::<0>(&rt, rt.alloc())?;
+    expect_empty::<1000>(&rt, rt.alloc())
 }
 
 #[test]
@@ -284,14 +315,14 @@ fn a_list_of_70000(rt: HostRuntime) -> Result<(), Fail> {
     let bytes = vec![in rt.alloc(); 0u8; 140000]?;
     let mut left = bytes.as_slice();
     let list = read_list::<4, _>(rt.alloc(), &mut left, 70000)?;
-    assert_eq!(rt; (list.len(), left.len()), (70000, 0));
+    check_eq!(rt; (list.len(), left.len()), (70000, 0));
     Ok(())
 }
 
 #[test]
 fn a_list_has_no_more_places_than_items(rt: HostRuntime) -> Result<(), Fail> {
     let list = read_list::<4, _>(rt.alloc(), &mut [0u8; 6].as_slice(), 3)?;
-    assert_eq!(rt; (list.len(), list.capacity()), (3, 3));
+    check_eq!(rt; (list.len(), list.capacity()), (3, 3));
     Ok(())
 }
 
@@ -300,14 +331,14 @@ fn to_bytes_has_no_more_places_than_bytes(rt: HostRuntime) -> Result<(), Fail> {
     for digest in [[].as_slice(), &[7; 127], &[7; 128], &[7; 255]] {
         let m = Multihash::<255>::wrap(LARGEST_CODE, digest)?;
         let bytes = m.to_bytes(rt.alloc())?;
-        assert_eq!(rt;
+        check_eq!(rt;
             (bytes.len(), bytes.capacity()),
             (m.encoded_len(), m.encoded_len())
         );
     }
     for shift in 0..63u32 {
         let m = Multihash::<4>::wrap(1u64 << shift, b"AB")?;
-        assert_eq!(rt;
+        check_eq!(rt;
             m.to_bytes(rt.alloc())?.capacity(),
             m.encoded_len(),
             "shift {shift}"

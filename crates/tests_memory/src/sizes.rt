@@ -2,7 +2,7 @@
 //! refusal and then none.
 ghost use Rattle.std.specs.Prelude.{◌<◌, ◌^◌};
 
-use crate::expect::unless_refused;
+use crate::expect::{check_eq, unless_refused};
 use fakes::refusal::{Refusal, is_refused};
 use multihash::list::{read_list, write_list};
 use multihash::{Error, Multihash};
@@ -119,6 +119,6 @@ fn refused_room_alone(rt: HostRuntime) -> Result<(), Fail> {
         unless_refused(&rt, m.scale_encode(&mut held))?;
         unless_refused(&rt, write_list(&[m, m], &mut held))?;
     }
-    assert_eq!(rt; held.capacity(), 8192);
+    check_eq!(rt; held.capacity(), 8192);
     Ok(())
 }

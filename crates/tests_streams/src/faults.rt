@@ -1,86 +1,30 @@
 //! Readers and writers that cut, end and fail, at each call and in each room: what was taken or
 //! appended then, and that a fault comes out as it went in.
-use crate::expect::expect_bytes;
+use crate::expect::{check, check_eq, expect_bytes};
+use crate::form::{Form, two};
 use fakes::readers::{Cuts, FailAt, Silent};
 use fakes::refusal::{Refusal, is_refused};
 use fakes::writers::{Drip, FailWrite};
-use multihash::list::{read_list, write_list};
-use multihash::no_std_io::{Read, Write};
+use multihash::list::read_list;
+use multihash::no_std_io::Write;
 use multihash::{Error, Multihash};
 use std::alloc::Global;
+use std::process::Abort;
 use std::test::Fail;
 
-/// A form, which one call reads and another writes.
-#[derive(Clone, Copy, Debug)]
-enum Form {
-    Binary,
-    Scale,
-    List,
-}
-
-fn pair() -> Result<Multihash<4>, Error> {
-    Multihash::wrap(300, b"AB")
-}
-
-fn two() -> Result<[Multihash<4>; 2], Error> {
-    Ok([Multihash::wrap(0, b"A")?, Multihash::wrap(18, b"B")?])
-}
-
-impl Form {
-    const ALL: [Form; 3] = [Form::Binary, Form::Scale, Form::List];
-
-    // What the calls read and write: one pair, or two of a list.
-    fn bytes(self) -> &'static [u8] {
-        match self {
-            Form::Binary => [172, 2, 2, 65, 66].as_slice(),
-            Form::Scale => [44, 1, 0, 0, 0, 0, 0, 0, 2, 65, 66].as_slice(),
-            Form::List => [0, 1, 65, 18, 1, 66].as_slice(),
-        }
-    }
-
-    // The same, and a byte behind it.
-    fn and_more(self) -> &'static [u8] {
-        match self {
-            Form::Binary => [172, 2, 2, 65, 66, 9].as_slice(),
-            Form::Scale => [44, 1, 0, 0, 0, 0, 0, 0, 2, 65, 66, 9].as_slice(),
-            Form::List => [0, 1, 65, 18, 1, 66, 9].as_slice(),
-        }
-    }
-
-    // Whether what is read is what was written.
-    fn reads<R: Read>(self, alloc: Global, r: &mut R) -> Result<bool, Error> {
-        match self {
-            Form::Binary => Ok(Multihash::read(r)? == pair()?),
-            Form::Scale => Ok(Multihash::scale_decode(r)? == pair()?),
-            Form::List => Ok(read_list::<4, _>(alloc, r, 2)?.as_slice() == two()?.as_slice()),
-        }
-    }
-
-    // Whether as many bytes are counted as are written.
-    fn writes<W: Write>(self, w: &mut W) -> Result<bool, Error> {
-        match self {
-            Form::Binary => Ok(pair()?.write(w)? == 5),
-            Form::Scale => Ok(pair()?.scale_encode(w)? == 11),
-            Form::List => {
-                write_list(&two()?, w)?;
-                Ok(true)
-            }
-        }
-    }
-
-    // How an input is refused that ends after so many bytes: inside a varint, or not.
-    fn early_end(self, len: usize) -> Refusal {
-        let in_a_varint = match self {
-            Form::Binary => len < 3,
-            Form::Scale => false,
-            Form::List => len != 2 && len != 5,
-        };
-        if in_a_varint {
-            Refusal::Insufficient
-        } else {
-            Refusal::UnexpectedEof
-        }
-    }
+// The call fails so, and what was not given until then is left.
+fn expect_reader_fault(
+    rt: &impl Abort,
+    alloc: Global,
+    form: Form,
+    mut reader: FailAt,
+    calls: usize,
+    why: Refusal,
+) {
+    let refused = form.reads(alloc, &mut reader);
+    check!(rt; is_refused(&refused, why), "{form:?}, call {calls}");
+    check_eq!(rt; Some(reader.cuts.left), form.and_more().get(calls..));
+    check_eq!(rt; reader.asked, calls.saturating_add(1));
 }
 
 #[test]
@@ -88,22 +32,10 @@ fn a_reader_fails_at_every_call(rt: HostRuntime) {
     for form in Form::ALL {
         let input = form.and_more();
         for calls in 0..form.bytes().len() {
-            let mut reader = FailAt::new(Cuts::new(input, 1), calls);
-            let refused = form.reads(rt.alloc(), &mut reader);
-            assert!(rt;
-                is_refused(&refused, Refusal::LINK_DOWN),
-                "{form:?}, call {calls}"
-            );
-            assert_eq!(rt; Some(reader.cuts.left), input.get(calls..));
-            assert_eq!(rt; reader.asked, calls + 1);
-            let mut reader = FailAt::out_of_memory(Cuts::new(input, 1), calls);
-            let refused = form.reads(rt.alloc(), &mut reader);
-            assert!(rt;
-                is_refused(&refused, Refusal::OutOfMemory),
-                "{form:?}, call {calls}"
-            );
-            assert_eq!(rt; Some(reader.cuts.left), input.get(calls..));
-            assert_eq!(rt; reader.asked, calls + 1);
+            let reader = FailAt::new(Cuts::new(input, 1), calls);
+            expect_reader_fault(&rt, rt.alloc(), form, reader, calls, Refusal::LINK_DOWN);
+            let reader = FailAt::out_of_memory(Cuts::new(input, 1), calls);
+            expect_reader_fault(&rt, rt.alloc(), form, reader, calls, Refusal::OutOfMemory);
         }
     }
 }
@@ -113,9 +45,9 @@ fn a_reader_fails_at_every_call(rt: HostRuntime) {
 fn a_reader_fails_at_its_second_call(rt: HostRuntime) -> Result<(), Fail> {
     let mut reader = FailAt::new(Cuts::new(&[0, 1, 65], 1), 1);
     let refused = Multihash::<4>::read(&mut reader).err().ok_or("read")?;
-    assert!(rt; Refusal::of(&refused) == Some(Refusal::LINK_DOWN) && !refused.is_early_end());
-    assert_eq!(rt; format!(in rt.alloc(); "{refused}")?.as_str(), "link down");
-    assert_eq!(rt; reader.cuts.left, [1, 65].as_slice());
+    check!(rt; Refusal::of(&refused) == Some(Refusal::LINK_DOWN) && !refused.is_early_end());
+    check_eq!(rt; format!(in rt.alloc(); "{refused}")?.as_str(), "link down");
+    check_eq!(rt; reader.cuts.left, [1, 65].as_slice());
     Ok(())
 }
 
@@ -124,10 +56,24 @@ fn a_reader_fails_after_the_last_call(rt: HostRuntime) -> Result<(), Fail> {
     for form in Form::ALL {
         let calls = form.bytes().len();
         let mut reader = FailAt::new(Cuts::new(form.and_more(), 1), calls);
-        assert!(rt; form.reads(rt.alloc(), &mut reader)?, "{form:?}");
+        check!(rt; form.reads(rt.alloc(), &mut reader)?, "{form:?}");
         expect_bytes(&rt, reader.cuts.left, &[9]);
-        assert_eq!(rt; reader.asked, calls);
+        check_eq!(rt; reader.asked, calls);
     }
+    Ok(())
+}
+
+fn expect_text(
+    rt: &impl Abort,
+    alloc: Global,
+    answer: &Result<bool, Error>,
+    wanted: &str,
+) -> Result<(), Fail> {
+    let told = match answer {
+        Ok(_) => format!(in alloc; "no fault")?,
+        Err(e) => format!(in alloc; "{e}")?,
+    };
+    check_eq!(rt; told.as_str(), wanted);
     Ok(())
 }
 
@@ -135,40 +81,41 @@ fn a_reader_fails_after_the_last_call(rt: HostRuntime) -> Result<(), Fail> {
 fn a_fault_prints_its_own_text(rt: HostRuntime) -> Result<(), Fail> {
     for form in Form::ALL {
         let mut reader = FailAt::new(Cuts::new(form.bytes(), 1), 1);
-        let told = match form.reads(rt.alloc(), &mut reader) {
-            Ok(_) => format!(in rt.alloc(); "read")?,
-            Err(e) => format!(in rt.alloc(); "{e}")?,
-        };
-        assert_eq!(rt; told.as_str(), "link down");
+        let answer = form.reads(rt.alloc(), &mut reader);
+        expect_text(&rt, rt.alloc(), &answer, "link down")?;
         let mut writer = FailWrite::new(Drip::new(rt.alloc(), 11, 1)?, 1);
-        let told = match form.writes(&mut writer) {
-            Ok(_) => format!(in rt.alloc(); "written")?,
-            Err(e) => format!(in rt.alloc(); "{e}")?,
-        };
-        assert_eq!(rt; told.as_str(), "disk gone");
+        let answer = form.writes(&mut writer);
+        expect_text(&rt, rt.alloc(), &answer, "disk gone")?;
     }
+    Ok(())
+}
+
+fn expect_read_on(
+    rt: &impl Abort,
+    alloc: Global,
+    form: Form,
+    mut reader: FailAt,
+) -> Result<(), Fail> {
+    check!(rt; form.reads(alloc, &mut reader).is_err());
+    check!(rt; form.reads(alloc, &mut reader)?, "{form:?}");
+    expect_bytes(rt, reader.cuts.left, &[9]);
     Ok(())
 }
 
 #[test]
 fn a_reader_is_read_on_after_a_fault(rt: HostRuntime) -> Result<(), Fail> {
     for form in Form::ALL {
-        for reader in [
-            FailAt::new(Cuts::new(form.and_more(), 1), 0),
-            FailAt::out_of_memory(Cuts::new(form.and_more(), 2), 0),
-        ] {
-            let mut reader = reader;
-            assert!(rt; form.reads(rt.alloc(), &mut reader).is_err());
-            assert!(rt; form.reads(rt.alloc(), &mut reader)?, "{form:?}");
-            expect_bytes(&rt, reader.cuts.left, &[9]);
-        }
+        let reader = FailAt::new(Cuts::new(form.and_more(), 1), 0);
+        expect_read_on(&rt, rt.alloc(), form, reader)?;
+        let reader = FailAt::out_of_memory(Cuts::new(form.and_more(), 2), 0);
+        expect_read_on(&rt, rt.alloc(), form, reader)?;
     }
     let mut reader = FailAt::new(Cuts::new(Form::List.and_more(), 1), 3);
     let refused = read_list::<4, _>(rt.alloc(), &mut reader, 2);
-    assert!(rt; is_refused(&refused, Refusal::LINK_DOWN));
+    check!(rt; is_refused(&refused, Refusal::LINK_DOWN));
     let list = read_list::<4, _>(rt.alloc(), &mut reader, 1)?;
     let [_, second] = two()?;
-    assert!(rt; list.as_slice() == [second].as_slice());
+    check!(rt; list.as_slice() == [second].as_slice());
     expect_bytes(&rt, reader.cuts.left, &[9]);
     Ok(())
 }
@@ -188,12 +135,12 @@ const REFUSED: [(Form, &[u8]); 7] = [
 fn a_reader_is_read_on_after_a_refusal(rt: HostRuntime) -> Result<(), Fail> {
     for (form, refused) in REFUSED {
         let mut input = Vec::new(rt.alloc());
-        assert!(rt; input.write_all(refused).is_ok());
-        assert!(rt; input.write_all(form.and_more()).is_ok());
+        check!(rt; input.write_all(refused).is_ok());
+        check!(rt; input.write_all(form.and_more()).is_ok());
         let mut left = input.as_slice();
-        assert!(rt; form.reads(rt.alloc(), &mut left).is_err(), "{refused:?}");
+        check!(rt; form.reads(rt.alloc(), &mut left).is_err(), "{refused:?}");
         expect_bytes(&rt, left, form.and_more());
-        assert!(rt; form.reads(rt.alloc(), &mut left)?, "{refused:?}");
+        check!(rt; form.reads(rt.alloc(), &mut left)?, "{refused:?}");
         expect_bytes(&rt, left, &[9]);
     }
     Ok(())
@@ -205,11 +152,11 @@ fn a_fault_comes_before_another_refusal(rt: HostRuntime) {
         for calls in 0..refused.len() {
             let mut reader = FailAt::new(Cuts::new(refused, 1), calls);
             let answer = form.reads(rt.alloc(), &mut reader);
-            assert!(rt;
+            check!(rt;
                 is_refused(&answer, Refusal::LINK_DOWN),
                 "{refused:?}, call {calls}"
             );
-            assert_eq!(rt; Some(reader.cuts.left), refused.get(calls..));
+            check_eq!(rt; Some(reader.cuts.left), refused.get(calls..));
         }
     }
     for form in Form::ALL {
@@ -217,11 +164,11 @@ fn a_fault_comes_before_another_refusal(rt: HostRuntime) {
         for len in 0..bytes.len() {
             let mut reader = FailAt::new(Cuts::new(&bytes[..len], 1), len);
             let answer = form.reads(rt.alloc(), &mut reader);
-            assert!(rt;
+            check!(rt;
                 is_refused(&answer, Refusal::LINK_DOWN),
                 "{form:?}, {len} bytes"
             );
-            assert!(rt; reader.cuts.left.is_empty());
+            check!(rt; reader.cuts.left.is_empty());
         }
     }
 }
@@ -233,7 +180,7 @@ fn every_beginning_ends_early(rt: HostRuntime) {
         for len in 0..bytes.len() {
             let mut left = &bytes[..len];
             let answer = form.reads(rt.alloc(), &mut left);
-            assert!(rt;
+            check!(rt;
                 is_refused(&answer, form.early_end(len)),
                 "{form:?}, {len} bytes"
             );
@@ -249,11 +196,11 @@ fn every_beginning_in_cuts_ends_early(rt: HostRuntime) {
             for most in 1..8 {
                 let mut reader = Cuts::new(&bytes[..len], most);
                 let answer = form.reads(rt.alloc(), &mut reader);
-                assert!(rt;
+                check!(rt;
                     is_refused(&answer, form.early_end(len)),
                     "{form:?}, {len} bytes, {most} a call"
                 );
-                assert!(rt; reader.left.is_empty());
+                check!(rt; reader.left.is_empty());
             }
         }
     }
@@ -262,13 +209,13 @@ fn every_beginning_in_cuts_ends_early(rt: HostRuntime) {
 #[test]
 fn cuts_change_no_answer(rt: HostRuntime) -> Result<(), Fail> {
     for form in Form::ALL {
-        assert!(rt;
+        check!(rt;
             form.reads(rt.alloc(), &mut Silent(form.bytes()))?,
             "{form:?}"
         );
         for most in 1..8 {
             let mut reader = Cuts::new(form.and_more(), most);
-            assert!(rt;
+            check!(rt;
                 form.reads(rt.alloc(), &mut reader)?,
                 "{form:?}, {most} a call"
             );
@@ -278,30 +225,29 @@ fn cuts_change_no_answer(rt: HostRuntime) -> Result<(), Fail> {
     Ok(())
 }
 
+// The call fails so, and what was written until then stands.
+fn expect_writer_fault(
+    rt: &impl Abort,
+    form: Form,
+    mut writer: FailWrite,
+    calls: usize,
+    why: Refusal,
+) {
+    let refused = form.writes(&mut writer);
+    check!(rt; is_refused(&refused, why), "{form:?}, call {calls}");
+    check_eq!(rt; Some(writer.drip.held.as_slice()), form.bytes().get(..calls));
+    check_eq!(rt; writer.asked, calls.saturating_add(1));
+}
+
 #[test]
 fn a_writer_fails_at_every_call(rt: HostRuntime) -> Result<(), Fail> {
     for form in Form::ALL {
-        let wanted = form.bytes();
-        for calls in 0..wanted.len() {
-            let mut writer = FailWrite::new(Drip::new(rt.alloc(), wanted.len(), 1)?, calls);
-            let refused = form.writes(&mut writer);
-            assert!(rt;
-                is_refused(&refused, Refusal::DISK_GONE),
-                "{form:?}, call {calls}"
-            );
-            assert_eq!(rt; Some(writer.drip.held.as_slice()), wanted.get(..calls));
-            assert_eq!(rt; writer.asked, calls + 1);
-            let mut writer = FailWrite::out_of_memory(
-                Drip::new(rt.alloc(), wanted.len(), 1)?,
-                calls,
-            );
-            let refused = form.writes(&mut writer);
-            assert!(rt;
-                is_refused(&refused, Refusal::OutOfMemory),
-                "{form:?}, call {calls}"
-            );
-            assert_eq!(rt; Some(writer.drip.held.as_slice()), wanted.get(..calls));
-            assert_eq!(rt; writer.asked, calls + 1);
+        let len = form.bytes().len();
+        for calls in 0..len {
+            let writer = FailWrite::new(Drip::new(rt.alloc(), len, 1)?, calls);
+            expect_writer_fault(&rt, form, writer, calls, Refusal::DISK_GONE);
+            let writer = FailWrite::out_of_memory(Drip::new(rt.alloc(), len, 1)?, calls);
+            expect_writer_fault(&rt, form, writer, calls, Refusal::OutOfMemory);
         }
     }
     Ok(())
@@ -312,9 +258,9 @@ fn a_writer_fails_after_the_last_call(rt: HostRuntime) -> Result<(), Fail> {
     for form in Form::ALL {
         let wanted = form.bytes();
         let mut writer = FailWrite::new(Drip::new(rt.alloc(), wanted.len(), 1)?, wanted.len());
-        assert!(rt; form.writes(&mut writer)?, "{form:?}");
+        check!(rt; form.writes(&mut writer)?, "{form:?}");
         expect_bytes(&rt, &writer.drip.held, wanted);
-        assert_eq!(rt; writer.asked, wanted.len());
+        check_eq!(rt; writer.asked, wanted.len());
     }
     Ok(())
 }
@@ -325,16 +271,16 @@ fn a_writer_is_appended_to_after_a_fault(rt: HostRuntime) -> Result<(), Fail> {
         let wanted = form.bytes();
         for calls in 0..wanted.len() {
             let mut writer = FailWrite::new(Drip::new(rt.alloc(), wanted.len(), 1)?, calls);
-            assert!(rt; form.writes(&mut writer).is_err());
-            assert!(rt;
+            check!(rt; form.writes(&mut writer).is_err());
+            check!(rt;
                 writer.write_all(&wanted[calls..]).is_ok(),
                 "{form:?}, call {calls}"
             );
             expect_bytes(&rt, &writer.drip.held, wanted);
         }
         let mut writer = FailWrite::new(Drip::new(rt.alloc(), wanted.len(), 3)?, 0);
-        assert!(rt; form.writes(&mut writer).is_err());
-        assert!(rt; form.writes(&mut writer)?, "{form:?}");
+        check!(rt; form.writes(&mut writer).is_err());
+        check!(rt; form.writes(&mut writer)?, "{form:?}");
         expect_bytes(&rt, &writer.drip.held, wanted);
     }
     Ok(())
@@ -348,40 +294,43 @@ fn every_room(rt: HostRuntime) -> Result<(), Fail> {
             for room in 0..wanted.len() {
                 let mut writer = Drip::new(rt.alloc(), room, most)?;
                 let refused = form.writes(&mut writer);
-                assert!(rt;
+                check!(rt;
                     is_refused(&refused, Refusal::WriteZero),
                     "{form:?}, room {room}"
                 );
-                assert_eq!(rt; Some(writer.held.as_slice()), wanted.get(..room));
+                check_eq!(rt; Some(writer.held.as_slice()), wanted.get(..room));
             }
             let mut writer = Drip::new(rt.alloc(), wanted.len(), most)?;
-            assert!(rt; form.writes(&mut writer)?, "{form:?}");
+            check!(rt; form.writes(&mut writer)?, "{form:?}");
             expect_bytes(&rt, &writer.held, wanted);
         }
     }
     Ok(())
 }
 
+// The bytes are written, or as many of them as there is room for; no other place is changed.
+fn expect_in_slice(rt: &impl Abort, form: Form, room: usize) -> Result<(), Fail> {
+    let wanted = form.bytes();
+    let mut places = [0u8; 13];
+    let mut left = places.get_mut(..room).ok_or("no such room")?;
+    let answer = form.writes(&mut left);
+    check_eq!(rt; left.len(), room.saturating_sub(wanted.len()), "{form:?}");
+    if room < wanted.len() {
+        check!(rt; is_refused(&answer, Refusal::WriteZero), "{form:?}, {room} places");
+    } else {
+        check!(rt; answer?, "{form:?}, {room} places");
+    }
+    let written = room.min(wanted.len());
+    check_eq!(rt; places.get(..written), wanted.get(..written));
+    check!(rt; places.iter().skip(written).all(|place| *place == 0));
+    Ok(())
+}
+
 #[test]
 fn slices_of_every_length(rt: HostRuntime) -> Result<(), Fail> {
     for form in Form::ALL {
-        let wanted = form.bytes();
         for room in 0..13 {
-            let mut places = [0u8; 13];
-            let mut left = &mut places[..room];
-            let answer = form.writes(&mut left);
-            assert_eq!(rt; left.len(), room.saturating_sub(wanted.len()), "{form:?}");
-            if room < wanted.len() {
-                assert!(rt;
-                    is_refused(&answer, Refusal::WriteZero),
-                    "{form:?}, {room} places"
-                );
-            } else {
-                assert!(rt; answer?, "{form:?}, {room} places");
-            }
-            let written = room.min(wanted.len());
-            assert_eq!(rt; places.get(..written), wanted.get(..written));
-            assert!(rt; places.iter().skip(written).all(|place| *place == 0));
+            expect_in_slice(&rt, form, room)?;
         }
     }
     Ok(())

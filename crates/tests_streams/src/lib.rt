@@ -8,6 +8,8 @@ mod expect;
 #[cfg(test)]
 mod faults;
 #[cfg(test)]
+mod form;
+#[cfg(test)]
 mod list;
 #[cfg(test)]
 mod no_std_io;

@@ -1,5 +1,5 @@
 //! Which bytes stand where, and that the calls of readers and writers succeed.
-use crate::expect::expect_bytes;
+use crate::expect::{check, check_eq, expect_bytes};
 use fakes::readers::{Cuts, FailAt, Silent};
 use fakes::refusal::{Refusal, is_failed};
 use fakes::writers::{Drip, FailWrite};
@@ -12,7 +12,7 @@ fn a_short_slice_is_left_as_it_is(rt: HostRuntime) {
     let mut left = [1u8, 2, 3].as_slice();
     let mut buf = [9u8; 4];
     let refused = left.read_exact(&mut buf);
-    assert!(rt; is_failed(&refused, Refusal::UnexpectedEof));
+    check!(rt; is_failed(&refused, Refusal::UnexpectedEof));
     expect_bytes(&rt, left, &[1, 2, 3]);
     expect_bytes(&rt, &buf, &[9, 9, 9, 9]);
 }
@@ -21,19 +21,19 @@ fn a_short_slice_is_left_as_it_is(rt: HostRuntime) {
 fn a_slice_gives_what_it_has(rt: HostRuntime) {
     let mut left = [1u8, 2, 3].as_slice();
     let mut buf = [9u8; 2];
-    assert_eq!(rt; left.read(&mut buf).ok(), Some(2));
+    check_eq!(rt; left.read(&mut buf).ok(), Some(2));
     expect_bytes(&rt, &buf, &[1, 2]);
-    assert_eq!(rt; left.read(&mut buf).ok(), Some(1));
+    check_eq!(rt; left.read(&mut buf).ok(), Some(1));
     expect_bytes(&rt, &buf, &[3, 2]);
-    assert_eq!(rt; left.read(&mut buf).ok(), Some(0));
+    check_eq!(rt; left.read(&mut buf).ok(), Some(0));
 }
 
 #[test]
 fn no_places_are_always_filled(rt: HostRuntime) {
     let mut none = [].as_slice();
-    assert!(rt; none.read_exact(&mut []).is_ok());
+    check!(rt; none.read_exact(&mut []).is_ok());
     let mut no_places: &mut [u8] = &mut [];
-    assert!(rt; no_places.write_all(&[]).is_ok());
+    check!(rt; no_places.write_all(&[]).is_ok());
 }
 
 #[test]
@@ -41,11 +41,11 @@ fn cuts_are_joined(rt: HostRuntime) {
     let mut reader = Cuts::new(&[1, 2, 3], 2);
     let mut buf = [0u8; 4];
     let refused = reader.read_exact(&mut buf);
-    assert!(rt; is_failed(&refused, Refusal::UnexpectedEof));
-    assert!(rt; reader.left.is_empty());
+    check!(rt; is_failed(&refused, Refusal::UnexpectedEof));
+    check!(rt; reader.left.is_empty());
     let mut reader = Cuts::new(&[1, 2, 3], 2);
     let mut buf = [0u8; 3];
-    assert!(rt; reader.read_exact(&mut buf).is_ok());
+    check!(rt; reader.read_exact(&mut buf).is_ok());
     expect_bytes(&rt, &buf, &[1, 2, 3]);
 }
 
@@ -54,18 +54,18 @@ fn a_lent_reader_reads(rt: HostRuntime) {
     let mut slice = [4u8, 5, 6, 7].as_slice();
     let mut lent = &mut slice;
     let mut buf = [0u8; 2];
-    assert!(rt; Read::read_exact(&mut lent, &mut buf).is_ok());
+    check!(rt; Read::read_exact(&mut lent, &mut buf).is_ok());
     expect_bytes(&rt, &buf, &[4, 5]);
-    assert_eq!(rt; Read::read(&mut lent, &mut buf).ok(), Some(2));
+    check_eq!(rt; Read::read(&mut lent, &mut buf).ok(), Some(2));
     expect_bytes(&rt, &buf, &[6, 7]);
-    assert!(rt; slice.is_empty());
+    check!(rt; slice.is_empty());
 }
 
 #[test]
 fn a_lent_reader_leaves_a_short_slice(rt: HostRuntime) {
     let mut slice = [4u8].as_slice();
     let mut lent = &mut slice;
-    assert!(rt; Read::read_exact(&mut lent, &mut [0; 2]).is_err());
+    check!(rt; Read::read_exact(&mut lent, &mut [0; 2]).is_err());
     expect_bytes(&rt, slice, &[4]);
 }
 
@@ -73,17 +73,17 @@ fn a_lent_reader_leaves_a_short_slice(rt: HostRuntime) {
 fn a_failure_takes_nothing(rt: HostRuntime) {
     let mut reader = FailAt::new(Cuts::new(&[7], 1), 0);
     let refused = read_one(&mut reader);
-    assert!(rt; is_failed(&refused, Refusal::LINK_DOWN));
-    assert_eq!(rt; read_one(&mut reader).ok(), Some(Some(7)));
-    assert_eq!(rt; read_one(&mut reader).ok(), Some(None));
+    check!(rt; is_failed(&refused, Refusal::LINK_DOWN));
+    check_eq!(rt; read_one(&mut reader).ok(), Some(Some(7)));
+    check_eq!(rt; read_one(&mut reader).ok(), Some(None));
     let mut reader = FailAt::out_of_memory(Cuts::new(&[7], 1), 0);
-    assert!(rt; is_failed(&read_one(&mut reader), Refusal::OutOfMemory));
+    check!(rt; is_failed(&read_one(&mut reader), Refusal::OutOfMemory));
 }
 
 #[test]
 fn a_silent_reader_reads(rt: HostRuntime) {
-    assert_eq!(rt; read_one(&mut Silent(&[7])).ok(), Some(Some(7)));
-    assert_eq!(rt; read_one(&mut Silent(&[])).ok(), Some(None));
+    check_eq!(rt; read_one(&mut Silent(&[7])).ok(), Some(Some(7)));
+    check_eq!(rt; read_one(&mut Silent(&[])).ok(), Some(None));
 }
 
 #[test]
@@ -92,8 +92,8 @@ fn a_slice_is_filled(rt: HostRuntime) {
     let mut left = places.as_mut_slice();
     let refused = left.write_all(&[7, 8, 9]);
     let is_full = left.is_empty();
-    assert!(rt; is_failed(&refused, Refusal::WriteZero));
-    assert!(rt; is_full);
+    check!(rt; is_failed(&refused, Refusal::WriteZero));
+    check!(rt; is_full);
     expect_bytes(&rt, &places, &[7, 8]);
 }
 
@@ -104,18 +104,18 @@ fn a_slice_is_written_in_parts(rt: HostRuntime) {
     let first = left.write(&[1, 2, 3]);
     let second = left.write(&[4, 5]);
     let third = left.write(&[6]);
-    assert_eq!(rt; first.ok(), Some(3));
-    assert_eq!(rt; second.ok(), Some(1));
-    assert_eq!(rt; third.ok(), Some(0));
+    check_eq!(rt; first.ok(), Some(3));
+    check_eq!(rt; second.ok(), Some(1));
+    check_eq!(rt; third.ok(), Some(0));
     expect_bytes(&rt, &places, &[1, 2, 3, 4]);
 }
 
 #[test]
 fn drops_fill_a_drip(rt: HostRuntime) -> Result<(), Fail> {
     let mut drip = Drip::new(rt.alloc(), 5, 2)?;
-    assert_eq!(rt; drip.write(&[1, 2, 3]).ok(), Some(2));
+    check_eq!(rt; drip.write(&[1, 2, 3]).ok(), Some(2));
     let refused = drip.write_all(&[3, 4, 5, 6]);
-    assert!(rt; is_failed(&refused, Refusal::WriteZero));
+    check!(rt; is_failed(&refused, Refusal::WriteZero));
     expect_bytes(&rt, &drip.held, &[1, 2, 3, 4, 5]);
     Ok(())
 }
@@ -123,8 +123,8 @@ fn drops_fill_a_drip(rt: HostRuntime) -> Result<(), Fail> {
 #[test]
 fn a_vector_grows(rt: HostRuntime) -> Result<(), Fail> {
     let mut held = Vec::new(rt.alloc());
-    assert_eq!(rt; held.write(&[1, 2]).ok(), Some(2));
-    assert!(rt; held.write_all(&[3]).is_ok());
+    check_eq!(rt; held.write(&[1, 2]).ok(), Some(2));
+    check!(rt; held.write_all(&[3]).is_ok());
     expect_bytes(&rt, &held, &[1, 2, 3]);
     Ok(())
 }
@@ -133,36 +133,36 @@ fn a_vector_grows(rt: HostRuntime) -> Result<(), Fail> {
 fn a_lent_writer_writes(rt: HostRuntime) -> Result<(), Fail> {
     let mut held = Vec::new(rt.alloc());
     let mut lent = &mut held;
-    assert_eq!(rt; Write::write(&mut lent, &[1, 2]).ok(), Some(2));
-    assert!(rt; write_two(&mut lent, &[3], &[4, 5]).is_ok());
+    check_eq!(rt; Write::write(&mut lent, &[1, 2]).ok(), Some(2));
+    check!(rt; write_two(&mut lent, &[3], &[4, 5]).is_ok());
     expect_bytes(&rt, &held, &[1, 2, 3, 4, 5]);
     Ok(())
 }
 
 #[test]
 fn who_allocates(rt: HostRuntime) {
-    assert!(rt; <Vec<u8> as Write>::ALLOCATES);
-    assert!(rt; <&mut Vec<u8> as Write>::ALLOCATES);
-    assert!(rt; !<&mut [u8] as Write>::ALLOCATES);
-    assert!(rt; !<&mut &mut [u8] as Write>::ALLOCATES);
+    check!(rt; <Vec<u8> as Write>::ALLOCATES);
+    check!(rt; <&mut Vec<u8> as Write>::ALLOCATES);
+    check!(rt; !<&mut [u8] as Write>::ALLOCATES);
+    check!(rt; !<&mut &mut [u8] as Write>::ALLOCATES);
 }
 
 #[test]
 fn a_failed_write_appends_nothing(rt: HostRuntime) -> Result<(), Fail> {
     let mut writer = FailWrite::new(Drip::new(rt.alloc(), 5, 1)?, 2);
     let refused = writer.write_all(&[1, 2, 3]);
-    assert!(rt; is_failed(&refused, Refusal::DISK_GONE));
+    check!(rt; is_failed(&refused, Refusal::DISK_GONE));
     expect_bytes(&rt, &writer.drip.held, &[1, 2]);
-    assert!(rt; writer.write_all(&[3]).is_ok());
+    check!(rt; writer.write_all(&[3]).is_ok());
     Ok(())
 }
 
 #[test]
 fn the_laws_serve_callers(rt: HostRuntime) -> Result<(), Fail> {
-    assert_eq!(rt; first_byte(&[4, 5]), Some(4));
-    assert_eq!(rt; first_byte(&[]), None);
+    check_eq!(rt; first_byte(&[4, 5]), Some(4));
+    check_eq!(rt; first_byte(&[]), None);
     let mut places = [0u8; 4];
-    assert_eq!(rt; fill_two(&mut places, &[1], &[2, 3]), 1);
+    check_eq!(rt; fill_two(&mut places, &[1], &[2, 3]), 1);
     expect_bytes(&rt, &places, &[1, 2, 3, 0]);
     let all = joined(rt.alloc(), &[1], &[2])?;
     expect_bytes(&rt, &all, &[1, 2]);

@@ -1,5 +1,5 @@
 //! Slices that are filled and kept.
-use crate::expect::expect_bytes;
+use crate::expect::{check, check_eq, expect_bytes};
 use fakes::refusal::{Refusal, is_failed, is_refused};
 use multihash::Multihash;
 use multihash::no_std_io::{SliceWriter, Write};
@@ -10,10 +10,10 @@ use uses::places::{encode_all_into, encode_into, list_back};
 fn a_slice_writer_keeps_its_slice(rt: HostRuntime) {
     let mut places = [9u8; 6];
     let mut writer = SliceWriter::new(&mut places);
-    assert_eq!(rt; writer.write(&[1, 2]).ok(), Some(2));
-    assert!(rt; writer.write_all(&[3]).is_ok());
-    assert!(rt; writer.write_all(&[]).is_ok());
-    assert_eq!(rt; writer.filled, 3);
+    check_eq!(rt; writer.write(&[1, 2]).ok(), Some(2));
+    check!(rt; writer.write_all(&[3]).is_ok());
+    check!(rt; writer.write_all(&[]).is_ok());
+    check_eq!(rt; writer.filled, 3);
     expect_bytes(&rt, &places, &[1, 2, 3, 9, 9, 9]);
 }
 
@@ -21,11 +21,11 @@ fn a_slice_writer_keeps_its_slice(rt: HostRuntime) {
 fn a_slice_writer_fills_what_is_left(rt: HostRuntime) {
     let mut places = [9u8; 3];
     let mut writer = SliceWriter::new(&mut places);
-    assert!(rt; writer.write_all(&[1, 2]).is_ok());
-    assert!(rt; is_failed(&writer.write_all(&[3, 4]), Refusal::WriteZero));
-    assert_eq!(rt; writer.filled, 3);
-    assert_eq!(rt; writer.write(&[5]).ok(), Some(0));
-    assert!(rt; writer.write_all(&[]).is_ok());
+    check!(rt; writer.write_all(&[1, 2]).is_ok());
+    check!(rt; is_failed(&writer.write_all(&[3, 4]), Refusal::WriteZero));
+    check_eq!(rt; writer.filled, 3);
+    check_eq!(rt; writer.write(&[5]).ok(), Some(0));
+    check!(rt; writer.write_all(&[]).is_ok());
     expect_bytes(&rt, &places, &[1, 2, 3]);
 }
 
@@ -33,13 +33,13 @@ fn a_slice_writer_fills_what_is_left(rt: HostRuntime) {
 fn an_encoding_goes_into_a_slice(rt: HostRuntime) {
     let multihash = Multihash::<4>::wrap(300, &[7, 8, 9]).expect(&rt, "it fits");
     let mut places = [1u8; 8];
-    assert_eq!(rt; encode_into(&multihash, &mut places), Some(6));
+    check_eq!(rt; encode_into(&multihash, &mut places), Some(6));
     expect_bytes(&rt, &places, &[0xac, 0x02, 3, 7, 8, 9, 1, 1]);
     let mut places = [1u8; 6];
-    assert_eq!(rt; encode_into(&multihash, &mut places), Some(6));
+    check_eq!(rt; encode_into(&multihash, &mut places), Some(6));
     expect_bytes(&rt, &places, &[0xac, 0x02, 3, 7, 8, 9]);
-    assert_eq!(rt; encode_into(&multihash, &mut places[..5]), None);
-    assert_eq!(rt; encode_into(&multihash, &mut []), None);
+    check_eq!(rt; encode_into(&multihash, &mut places[..5]), None);
+    check_eq!(rt; encode_into(&multihash, &mut []), None);
 }
 
 #[test]
@@ -48,10 +48,10 @@ fn encodings_go_into_a_slice(rt: HostRuntime) {
     let second = Multihash::<4>::wrap(2, &[]).expect(&rt, "it fits");
     let items = [first, second];
     let mut places = [5u8; 7];
-    assert_eq!(rt; encode_all_into(&items, &mut places), Some(6));
+    check_eq!(rt; encode_all_into(&items, &mut places), Some(6));
     expect_bytes(&rt, &places, &[1, 2, 7, 8, 2, 0, 5]);
-    assert_eq!(rt; encode_all_into(&items, &mut places[..5]), None);
-    assert_eq!(rt; encode_all_into::<4>(&[], &mut []), Some(0));
+    check_eq!(rt; encode_all_into(&items, &mut places[..5]), None);
+    check_eq!(rt; encode_all_into::<4>(&[], &mut []), Some(0));
 }
 
 #[test]
@@ -62,13 +62,13 @@ fn a_list_comes_back_from_a_slice(rt: HostRuntime) -> Result<(), Fail> {
     ];
     let mut places = [5u8; 8];
     let back = list_back::<4, 2>(rt.alloc(), &items, &mut places)?.ok_or("no room")?;
-    assert_eq!(rt; back.len(), 2);
+    check_eq!(rt; back.len(), 2);
     for (read, written) in back.iter().zip(&items) {
-        assert!(rt; read.same_as(written));
+        check!(rt; read.same_as(written));
     }
     expect_bytes(&rt, &places, &[1, 2, 7, 8, 0xac, 0x02, 0, 5]);
-    assert!(rt; list_back::<4, 2>(rt.alloc(), &items, &mut [5; 6])?.is_none());
+    check!(rt; list_back::<4, 2>(rt.alloc(), &items, &mut [5; 6])?.is_none());
     let refused = list_back::<4, 1>(rt.alloc(), &items, &mut places);
-    assert!(rt; is_refused(&refused, Refusal::InvalidSize(2)));
+    check!(rt; is_refused(&refused, Refusal::InvalidSize(2)));
     Ok(())
 }

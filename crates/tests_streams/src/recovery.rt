@@ -1,4 +1,5 @@
 //! A stream with spoilt parts.
+use crate::expect::check_eq;
 use multihash::Multihash;
 use std::test::Fail;
 use uses::recovery::recover;
@@ -10,18 +11,18 @@ const SPOILT: [u8; 12] = [1, 1, 7, 0, 0xff, 0x01, 1, 1, 8, 0x80, 0, 0x12];
 fn what_can_be_read_is_read(rt: HostRuntime) -> Result<(), Fail> {
     let good = [Multihash::<64>::wrap(1, &[7])?, Multihash::wrap(1, &[8])?];
     let found = recover(rt.alloc(), &SPOILT)?;
-    assert_eq!(rt;
+    check_eq!(rt;
         (found.good.as_slice(), found.refused),
         (good.as_slice(), 3)
     );
     let found = recover(rt.alloc(), &SPOILT[..11])?;
-    assert_eq!(rt;
+    check_eq!(rt;
         (found.good.as_slice(), found.refused),
         (good.as_slice(), 2)
     );
     let found = recover(rt.alloc(), &SPOILT[..8])?;
-    assert_eq!(rt; (found.good.len(), found.refused), (1, 2));
+    check_eq!(rt; (found.good.len(), found.refused), (1, 2));
     let found = recover(rt.alloc(), &[])?;
-    assert_eq!(rt; (found.good.len(), found.refused), (0, 0));
+    check_eq!(rt; (found.good.len(), found.refused), (0, 0));
     Ok(())
 }

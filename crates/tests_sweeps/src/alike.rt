@@ -1,4 +1,5 @@
 //! When heads are equal, what a clone is, and what the traits' own methods answer.
+use crate::expect::{check, check_eq};
 use multihash::{Head, Multihash};
 use std::process::Abort;
 
@@ -10,11 +11,11 @@ const HEAD: Head = Head {
 
 // Both ways, and the clone of one.
 fn expect_alike(rt: &impl Abort, head: Head, alike: bool) {
-    assert_eq!(rt; HEAD == head, alike);
-    assert_eq!(rt; head == HEAD, alike);
-    assert_eq!(rt; head != HEAD, !alike);
+    check_eq!(rt; HEAD == head, alike);
+    check_eq!(rt; head == HEAD, alike);
+    check_eq!(rt; head != HEAD, !alike);
     let copy = head.clone().expect(rt, "a clone");
-    assert!(rt; copy.code == head.code && copy.size == head.size && copy.len == head.len);
+    check!(rt; copy.code == head.code && copy.size == head.size && copy.len == head.len);
 }
 
 #[test]
@@ -54,7 +55,7 @@ fn the_larger_and_the_smaller(rt: HostRuntime) {
     let low = Multihash::<4>::wrap(0, b"AB").expect(&rt, "it fits");
     let high = Multihash::<4>::wrap(18, b"A").expect(&rt, "it fits");
     for (a, b) in [(low, high), (high, low)] {
-        assert!(rt; a.max(b) == high && a.min(b) == low);
-        assert!(rt; a.clamp(low, high) == a && a.clamp(high, high) == high);
+        check!(rt; a.max(b) == high && a.min(b) == low);
+        check!(rt; a.clamp(low, high) == a && a.clamp(high, high) == high);
     }
 }

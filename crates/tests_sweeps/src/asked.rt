@@ -1,7 +1,7 @@
 //! How often readers and writers are asked, at each length: a lent one as it is by itself.
 ghost use Rattle.std.specs.Prelude.{◌<◌, ◌^◌};
 
-use crate::expect::expect_bytes;
+use crate::expect::{check, check_eq, expect_bytes};
 use crate::given::{Code, Form, case, different, twice};
 use fakes::readers::{Counts, Cuts, FailAt};
 use fakes::writers::CountsWrites;
@@ -22,11 +22,11 @@ fn expect_asked<const S: usize>(
     requires { S < 2 ^ 16 }
 {
     let mut reader = Counts::new(input);
-    assert!(rt; matches!(form.reads(alloc, items, &mut reader), Ok(true)));
-    assert_eq!(rt; reader.asked(), requests);
+    check!(rt; matches!(form.reads(alloc, items, &mut reader), Ok(true)));
+    check_eq!(rt; reader.asked(), requests);
     let mut reader = Counts::new(input);
-    assert!(rt; matches!(form.reads_lent(alloc, items, &mut reader), Ok(true)));
-    assert_eq!(rt; reader.asked(), requests);
+    check!(rt; matches!(form.reads_lent(alloc, items, &mut reader), Ok(true)));
+    check_eq!(rt; reader.asked(), requests);
 }
 
 // A reader without one gives all that it is asked for, and is not asked for nothing.
@@ -41,11 +41,11 @@ fn expect_asked_in_parts<const S: usize>(
     requires { S < 2 ^ 16 }
 {
     let mut reader = FailAt::new(Cuts::new(input, 300), 600);
-    assert!(rt; matches!(form.reads(alloc, items, &mut reader), Ok(true)));
-    assert_eq!(rt; reader.asked, calls);
+    check!(rt; matches!(form.reads(alloc, items, &mut reader), Ok(true)));
+    check_eq!(rt; reader.asked, calls);
     let mut reader = FailAt::new(Cuts::new(input, 300), 600);
-    assert!(rt; matches!(form.reads_lent(alloc, items, &mut reader), Ok(true)));
-    assert_eq!(rt; reader.asked, calls);
+    check!(rt; matches!(form.reads_lent(alloc, items, &mut reader), Ok(true)));
+    check_eq!(rt; reader.asked, calls);
 }
 
 // A lent writer has the trait's own `write_all`, which makes no call for no bytes.
@@ -60,11 +60,11 @@ fn expect_written_to<const S: usize>(
 {
     let (parts, wholes) = calls;
     let mut writer = CountsWrites::new(alloc);
-    assert!(rt; form.writes(items, &mut writer).is_ok());
-    assert_eq!(rt; (writer.parts, writer.whole), (0, wholes));
+    check!(rt; form.writes(items, &mut writer).is_ok());
+    check_eq!(rt; (writer.parts, writer.whole), (0, wholes));
     let mut writer = CountsWrites::new(alloc);
-    assert!(rt; form.writes_lent(items, &mut writer).is_ok());
-    assert_eq!(rt; (writer.parts, writer.whole), (parts, 0));
+    check!(rt; form.writes_lent(items, &mut writer).is_ok());
+    check_eq!(rt; (writer.parts, writer.whole), (parts, 0));
 }
 
 fn expect_calls<const S: usize>(rt: &impl Abort, alloc: Global, code: Code, digest: &[u8])
@@ -118,17 +118,17 @@ fn expect_lent(rt: &impl Abort, alloc: Global, bytes: &[u8]) {
     let len = bytes.len();
     let mut buf = vec![in alloc; 0u8; len].expect(rt, "memory");
     let mut reader = Counts::new(bytes);
-    assert_eq!(rt; lent_read(&mut reader, &mut buf).ok(), Some(len));
-    assert_eq!(rt; reader.single.saturating_add(reader.others), 1);
+    check_eq!(rt; lent_read(&mut reader, &mut buf).ok(), Some(len));
+    check_eq!(rt; reader.single.saturating_add(reader.others), 1);
     expect_bytes(rt, &buf, bytes);
     let mut buf = vec![in alloc; 0u8; len].expect(rt, "memory");
     let mut reader = Counts::new(bytes);
-    assert!(rt; lent_read_exact(&mut reader, &mut buf).is_ok());
-    assert_eq!(rt; reader.asked(), (0, 0, 1));
+    check!(rt; lent_read_exact(&mut reader, &mut buf).is_ok());
+    check_eq!(rt; reader.asked(), (0, 0, 1));
     expect_bytes(rt, &buf, bytes);
     let mut writer = CountsWrites::new(alloc);
-    assert_eq!(rt; lent_write(&mut writer, bytes).ok(), Some(len));
-    assert_eq!(rt; (writer.parts, writer.whole), (1, 0));
+    check_eq!(rt; lent_write(&mut writer, bytes).ok(), Some(len));
+    check_eq!(rt; (writer.parts, writer.whole), (1, 0));
     expect_bytes(rt, &writer.held, bytes);
 }
 

@@ -1,7 +1,7 @@
 //! That a fault comes out as it went in, behind each byte of each length, and that what was not taken is left.
 ghost use Rattle.std.specs.Prelude.{◌<◌, ◌^◌};
 
-use crate::expect::expect_bytes;
+use crate::expect::{check, expect_bytes};
 use crate::given::{Code, Form, case, different, twice};
 use fakes::readers::{Counts, Cuts, FailAt};
 use fakes::refusal::{Refusal, is_refused};
@@ -21,7 +21,7 @@ fn expect_refused<T>(
     why: Refusal,
     at: usize,
 ) {
-    assert!(rt; is_refused(answer, why), "{form:?}, {why:?} at {at}");
+    check!(rt; is_refused(answer, why), "{form:?}, {why:?} at {at}");
 }
 
 // A reader without a `read_exact` of its own, which fails behind so many bytes.

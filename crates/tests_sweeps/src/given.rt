@@ -10,10 +10,10 @@ use std::alloc::Global;
 use std::process::Abort;
 
 /// A code, and its varint.
-pub type Code = (u64, &'static [u8]);
+pub(crate) type Code = (u64, &'static [u8]);
 
 /// The smallest code of each number of bytes, and the largest of all.
-pub const CODES: [Code; 10] = [
+pub(crate) const CODES: [Code; 10] = [
     (1, &[1]),
     (128, &[128, 1]),
     (1 << 14, &[128, 128, 1]),
@@ -27,7 +27,7 @@ pub const CODES: [Code; 10] = [
 ];
 
 /// The bytes 1 to 255: no two are alike, and none is 0.
-pub fn different() -> [u8; 255] {
+pub(crate) fn different() -> [u8; 255] {
     let mut bytes = [0u8; 255];
     let mut last = 0u8;
     for place in &mut bytes {
@@ -38,13 +38,13 @@ pub fn different() -> [u8; 255] {
 }
 
 /// The codes in turn, each with a digest of so many different bytes.
-pub fn case(bytes: &[u8; 255], len: usize) -> (Code, &[u8]) {
+pub(crate) fn case(bytes: &[u8; 255], len: usize) -> (Code, &[u8]) {
     (CODES[len % 10], bytes.get(..len).unwrap_or(bytes))
 }
 
 /// A form, which one call reads and another writes.
 #[derive(Clone, Copy, Debug)]
-pub enum Form {
+pub(crate) enum Form {
     Binary,
     Scale,
     /// The pair twice, one after another.
@@ -52,10 +52,16 @@ pub enum Form {
 }
 
 impl Form {
-    pub const ALL: [Form; 3] = [Form::Binary, Form::Scale, Form::List];
+    pub(crate) const ALL: [Form; 3] = [Form::Binary, Form::Scale, Form::List];
 
     /// The bytes of the pair in this form.
-    pub fn bytes(self, rt: &impl Abort, alloc: Global, code: Code, digest: &[u8]) -> Vec<u8> {
+    pub(crate) fn bytes(
+        self,
+        rt: &impl Abort,
+        alloc: Global,
+        code: Code,
+        digest: &[u8],
+    ) -> Vec<u8> {
         let mut bytes = Vec::new(alloc);
         self.append(rt, &mut bytes, code, digest);
         if matches!(self, Form::List) {
@@ -80,7 +86,7 @@ impl Form {
 
     /// What reading a pair of this form asks for, with a digest of so many bytes: single bytes by `read`, others by it, and
     /// wholes by `read_exact`.
-    pub fn requests(self, code: Code, len: usize) -> (usize, usize, usize) {
+    pub(crate) fn requests(self, code: Code, len: usize) -> (usize, usize, usize) {
         let size_len = if len < 128 { 1 } else { 2 };
         let single = code.1.len().saturating_add(size_len);
         match self {
@@ -91,7 +97,7 @@ impl Form {
     }
 
     /// Writes the first of the items, or their list, and answers how many bytes they are.
-    pub fn writes<const S: usize, W: Write>(
+    pub(crate) fn writes<const S: usize, W: Write>(
         self,
         items: &[Multihash<S>],
         w: &mut W,
@@ -112,7 +118,7 @@ impl Form {
     }
 
     /// As `writes`, to a writer that is lent.
-    pub fn writes_lent<const S: usize, W: Write>(
+    pub(crate) fn writes_lent<const S: usize, W: Write>(
         self,
         items: &[Multihash<S>],
         w: &mut W,
@@ -124,7 +130,7 @@ impl Form {
     }
 
     /// Whether what is read is the first of the items, or their list.
-    pub fn reads<const S: usize, R: Read>(
+    pub(crate) fn reads<const S: usize, R: Read>(
         self,
         alloc: Global,
         items: &[Multihash<S>],
@@ -140,7 +146,7 @@ impl Form {
     }
 
     /// As `reads`, of a reader that is lent.
-    pub fn reads_lent<const S: usize, R: Read>(
+    pub(crate) fn reads_lent<const S: usize, R: Read>(
         self,
         alloc: Global,
         items: &[Multihash<S>],
@@ -158,7 +164,7 @@ fn put(rt: &impl Abort, bytes: &mut Vec<u8>, more: &[u8]) {
 }
 
 /// The pair twice.
-pub fn twice<const S: usize>(
+pub(crate) fn twice<const S: usize>(
     rt: &impl Abort,
     alloc: Global,
     code: Code,

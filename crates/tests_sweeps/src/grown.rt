@@ -1,7 +1,7 @@
 //! That memory is there for each length and each count, and that exactly what is promised is asked for.
 ghost use Rattle.std.specs.Prelude.{◌<◌, ◌^◌};
 
-use crate::expect::expect_bytes;
+use crate::expect::{check, check_eq, expect_bytes};
 use crate::given::{Code, Form, case, different};
 use multihash::Multihash;
 use multihash::list::{read_list, write_list};
@@ -25,10 +25,10 @@ fn expect_kept<const S: usize>(rt: &impl Abort, alloc: Global, code: Code, diges
     let wanted = Form::Binary.bytes(rt, alloc, code, digest);
     let bytes = m.to_bytes(alloc).expect(rt, "memory");
     expect_bytes(rt, &bytes, &wanted);
-    assert_eq!(rt; bytes.capacity(), wanted.len());
+    check_eq!(rt; bytes.capacity(), wanted.len());
     let value = m.to_value(alloc).expect(rt, "memory");
-    assert_eq!(rt; places_of(&value), wanted.len());
-    assert!(rt; m.clone().expect(rt, "a clone") == m);
+    check_eq!(rt; places_of(&value), wanted.len());
+    check!(rt; m.clone().expect(rt, "a clone") == m);
 }
 
 // Each length that a buffer of this size holds, with the codes in turn.
@@ -86,10 +86,10 @@ fn expect_list<const S: usize>(rt: &impl Abort, alloc: Global, input: &[u8], cou
 {
     let mut left = input;
     let list = read_list::<S, _>(alloc, &mut left, count).expect(rt, "memory");
-    assert_eq!(rt; (list.len(), list.capacity()), (count, count));
+    check_eq!(rt; (list.len(), list.capacity()), (count, count));
     let mut held = Vec::new(alloc);
     write_list(&list, &mut held).expect(rt, "memory");
-    assert_eq!(rt; held.len(), count.saturating_mul(2));
+    check_eq!(rt; held.len(), count.saturating_mul(2));
 }
 
 #[test]
@@ -109,9 +109,9 @@ fn count_growths(rt: &impl Abort, alloc: Global, m: &Multihash<255>) -> usize {
     let mut growths = 0usize;
     for _ in 0..500 {
         let before = (held.capacity(), lent.capacity(), scale.capacity());
-        assert!(rt; m.write(&mut held).is_ok());
-        assert!(rt; m.write(&mut &mut lent).is_ok());
-        assert!(rt; m.scale_encode(&mut scale).is_ok());
+        check!(rt; m.write(&mut held).is_ok());
+        check!(rt; m.write(&mut &mut lent).is_ok());
+        check!(rt; m.scale_encode(&mut scale).is_ok());
         if (held.capacity(), lent.capacity(), scale.capacity()) != before {
             growths = growths.saturating_add(1);
         }
@@ -127,6 +127,6 @@ fn a_vector_grows_seldom(rt: HostRuntime) {
         let (code, digest) = case(&bytes, len);
         let m = Multihash::wrap(code.0, digest).expect(&rt, "it fits");
         let growths = count_growths(&rt, rt.alloc(), &m);
-        assert!(rt; growths < 60, "{len} bytes: {growths}");
+        check!(rt; growths < 60, "{len} bytes: {growths}");
     }
 }

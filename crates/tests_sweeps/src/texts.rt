@@ -1,6 +1,7 @@
 //! What is printed: the number in an error's text, a fault's text, and what is shown for debugging.
 ghost use Rattle.std.specs.Prelude.{◌<◌, ◌^◌};
 
+use crate::expect::{check, check_eq};
 use crate::given::{CODES, case, different};
 use fakes::refusal::LARGEST_CODE;
 use multihash::no_std_io::{self, Read, Write};
@@ -26,7 +27,7 @@ fn expect_number<T>(
         Ok(_) => String::new(alloc),
         Err(e) => format!(in alloc; "{e}|{e:?}").expect(rt, "it is told"),
     };
-    assert_eq!(rt; told.as_str(), wanted.as_str());
+    check_eq!(rt; told.as_str(), wanted.as_str());
 }
 
 // A head that names such a size, and a code that many above 2^63. A size of 0 is never refused.
@@ -43,7 +44,7 @@ fn expect_numbers(rt: &impl Abort, alloc: Global, number: u64) {
         return;
     }
     let mut input = vec![in alloc; 0u8].expect(rt, "memory");
-    assert!(rt; varint::write(number, &mut input).is_ok());
+    check!(rt; varint::write(number, &mut input).is_ok());
     let answer = Multihash::<0>::from_bytes(&input);
     expect_number(rt, alloc, &answer, ("size", "InvalidSize"), number);
 }
@@ -80,7 +81,7 @@ const TEXT: &str =
 
 fn expect_told<D: Display>(rt: &impl Abort, alloc: Global, told: &D, wanted: &str) {
     let text = format!(in alloc; "{told}").expect(rt, "it is told");
-    assert_eq!(rt; text.as_str(), wanted);
+    check_eq!(rt; text.as_str(), wanted);
 }
 
 #[test]
@@ -88,7 +89,7 @@ fn texts_of_each_length_are_told(rt: HostRuntime) {
     for len in 0..TEXT.len() {
         let text = TEXT.get(..len).unwrap_or("");
         let fault = no_std_io::Error::other(text);
-        assert_eq!(rt; fault.text(), text);
+        check_eq!(rt; fault.text(), text);
         expect_told(&rt, rt.alloc(), &fault, text);
         expect_told(&rt, rt.alloc(), &Error::from(fault), text);
     }
@@ -96,7 +97,7 @@ fn texts_of_each_length_are_told(rt: HostRuntime) {
 
 fn expect_shown<D: Debug>(rt: &impl Abort, alloc: Global, shown: &D, wanted: &str) {
     let told = format!(in alloc; "{shown:?}").expect(rt, "it is told");
-    assert_eq!(rt; told.as_str(), wanted);
+    check_eq!(rt; told.as_str(), wanted);
 }
 
 #[test]

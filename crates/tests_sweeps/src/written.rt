@@ -2,7 +2,7 @@
 //! and in vectors.
 ghost use Rattle.std.specs.Prelude.{◌<◌, ◌^◌};
 
-use crate::expect::expect_bytes;
+use crate::expect::{check, check_eq, expect_bytes};
 use crate::given::{CODES, Code, Form, case, different, twice};
 use fakes::refusal::{Refusal, is_refused};
 use multihash::no_std_io::{SliceWriter, Write};
@@ -40,8 +40,8 @@ fn expect_in_slice<const S: usize>(
     let mut places = [0u8; PLACES];
     let mut left = &mut places[..room];
     let answer = form.writes(items, &mut left);
-    assert_eq!(rt; left.len(), room.saturating_sub(wanted.len()));
-    assert!(rt; is_written(&answer, wanted.len(), room));
+    check_eq!(rt; left.len(), room.saturating_sub(wanted.len()));
+    check!(rt; is_written(&answer, wanted.len(), room));
     expect_front(rt, &places[..room], wanted);
 }
 
@@ -58,8 +58,8 @@ fn expect_in_lent_slice<const S: usize>(
     let mut places = [0u8; PLACES];
     let mut left = &mut places[..room];
     let answer = form.writes_lent(items, &mut left);
-    assert_eq!(rt; left.len(), room.saturating_sub(wanted.len()));
-    assert!(rt; is_written(&answer, wanted.len(), room));
+    check_eq!(rt; left.len(), room.saturating_sub(wanted.len()));
+    check!(rt; is_written(&answer, wanted.len(), room));
     expect_front(rt, &places[..room], wanted);
 }
 
@@ -76,8 +76,8 @@ fn expect_in_slice_writer<const S: usize>(
     let mut places = [0u8; PLACES];
     let mut writer = SliceWriter::new(&mut places[..room]);
     let answer = form.writes(items, &mut writer);
-    assert_eq!(rt; writer.filled, room.min(wanted.len()));
-    assert!(rt; is_written(&answer, wanted.len(), room));
+    check_eq!(rt; writer.filled, room.min(wanted.len()));
+    check!(rt; is_written(&answer, wanted.len(), room));
     expect_front(rt, &places[..room], wanted);
 }
 
@@ -93,11 +93,11 @@ fn expect_in_vectors<const S: usize>(
 {
     let mut held = Vec::new(alloc);
     let answer = form.writes(items, &mut held);
-    assert!(rt; is_written(&answer, wanted.len(), wanted.len()));
+    check!(rt; is_written(&answer, wanted.len(), wanted.len()));
     expect_bytes(rt, &held, wanted);
     let mut held = Vec::new(alloc);
     let answer = form.writes_lent(items, &mut held);
-    assert!(rt; is_written(&answer, wanted.len(), wanted.len()));
+    check!(rt; is_written(&answer, wanted.len(), wanted.len()));
     expect_bytes(rt, &held, wanted);
 }
 
@@ -179,14 +179,14 @@ fn each_code_is_written(rt: HostRuntime) {
 fn expect_copied(rt: &impl Abort, bytes: &[u8], places: &mut [u8]) {
     let room = places.len();
     let mut left = &mut places[..];
-    assert_eq!(rt; left.write(bytes).ok(), Some(room.min(bytes.len())));
+    check_eq!(rt; left.write(bytes).ok(), Some(room.min(bytes.len())));
     expect_front(rt, places, bytes);
 }
 
 fn expect_all_copied(rt: &impl Abort, bytes: &[u8], places: &mut [u8]) {
     let room = places.len();
     let mut left = &mut places[..];
-    assert_eq!(rt; left.write_all(bytes).is_ok(), bytes.len() <= room);
+    check_eq!(rt; left.write_all(bytes).is_ok(), bytes.len() <= room);
     expect_front(rt, places, bytes);
 }
 

@@ -1,7 +1,7 @@
 //! Worked values of the type and of its binary form.
 ghost use Rattle.std.specs.Prelude.{◌<◌, ◌^◌};
 
-use crate::expect::expect_bytes;
+use crate::expect::{check, check_eq, expect_bytes};
 use fakes::readers::Cuts;
 use fakes::refusal::{LARGEST_CODE, Refusal, is_refused};
 use multihash::no_std_io::Read;
@@ -37,12 +37,12 @@ fn expect_encoding<const S: usize>(rt: &impl Abort, alloc: Global, row: &Row) ->
     let (name, code, digest, encoding) = *row;
     let m = Multihash::<S>::wrap(code, digest)?;
     let bytes = m.to_bytes(alloc)?;
-    assert!(rt; bytes.as_slice() == encoding, "{name}");
-    assert_eq!(rt; m.encoded_len(), encoding.len(), "{name}");
-    assert_eq!(rt; usize::from(m.size()), digest.len(), "{name}");
-    assert!(rt; m.code() == code && m.digest() == digest, "{name}");
+    check!(rt; bytes.as_slice() == encoding, "{name}");
+    check_eq!(rt; m.encoded_len(), encoding.len(), "{name}");
+    check_eq!(rt; usize::from(m.size()), digest.len(), "{name}");
+    check!(rt; m.code() == code && m.digest() == digest, "{name}");
     let back: Multihash<16> = bytes_back(alloc, &m)?;
-    assert!(rt; back.code() == code && back.digest() == digest, "{name}");
+    check!(rt; back.code() == code && back.digest() == digest, "{name}");
     Ok(())
 }
 
@@ -61,25 +61,25 @@ fn pairs_have_their_encodings(rt: HostRuntime) -> Result<(), Fail> {
 #[test]
 fn larger_codes_are_refused(rt: HostRuntime) {
     for code in [9223372036854775808, 9223372036854775809, u64::MAX] {
-        assert!(rt;
+        check!(rt;
             is_refused(
                 &Multihash::<4>::wrap(code, b"AB"),
                 Refusal::InvalidCode(code)
             )
         );
-        assert!(rt; is_refused(&Multihash::<0>::wrap(code, &[]), Refusal::InvalidCode(code)));
+        check!(rt; is_refused(&Multihash::<0>::wrap(code, &[]), Refusal::InvalidCode(code)));
     }
 }
 
 #[test]
 fn a_size_is_refused_before_a_code(rt: HostRuntime) {
-    assert!(rt;
+    check!(rt;
         is_refused(
             &Multihash::<2>::wrap(u64::MAX, b"foobar"),
             Refusal::InvalidSize(6)
         )
     );
-    assert!(rt;
+    check!(rt;
         is_refused(
             &Multihash::<300>::wrap(u64::MAX, &[0; 256]),
             Refusal::InvalidSize(256)
@@ -90,11 +90,11 @@ fn a_size_is_refused_before_a_code(rt: HostRuntime) {
 #[test]
 fn a_cut_digest(rt: HostRuntime) {
     let mut left = [0u8, 2, 9].as_slice();
-    assert!(rt; is_refused(&Multihash::<2>::read(&mut left), Refusal::UnexpectedEof));
+    check!(rt; is_refused(&Multihash::<2>::read(&mut left), Refusal::UnexpectedEof));
     expect_bytes(&rt, left, &[9]);
     let mut cuts = Cuts::new(&[0, 2, 9], 1);
-    assert!(rt; is_refused(&Multihash::<2>::read(&mut cuts), Refusal::UnexpectedEof));
-    assert!(rt; cuts.left.is_empty());
+    check!(rt; is_refused(&Multihash::<2>::read(&mut cuts), Refusal::UnexpectedEof));
+    check!(rt; cuts.left.is_empty());
 }
 
 #[test]
@@ -103,36 +103,36 @@ fn the_longest_digest(rt: HostRuntime) -> Result<(), Fail> {
     let mut wanted = [0u8; 258];
     wanted[1] = 255;
     wanted[2] = 1;
-    assert_eq!(rt; m.encoded_len(), 258);
+    check_eq!(rt; m.encoded_len(), 258);
     expect_bytes(&rt, &m.to_bytes(rt.alloc())?, &wanted);
     let mut places = [7u8; 258];
     let mut left = places.as_mut_slice();
-    assert_eq!(rt; m.write(&mut left)?, 258);
+    check_eq!(rt; m.write(&mut left)?, 258);
     expect_bytes(&rt, &places, &wanted);
     Ok(())
 }
 
 #[test]
 fn longer_digests_are_refused(rt: HostRuntime) {
-    assert!(rt;
+    check!(rt;
         is_refused(
             &Multihash::<300>::wrap(0, &[0; 256]),
             Refusal::InvalidSize(256)
         )
     );
-    assert!(rt;
+    check!(rt;
         is_refused(
             &Multihash::<300>::wrap(0, &[0; 300]),
             Refusal::InvalidSize(300)
         )
     );
-    assert!(rt;
+    check!(rt;
         is_refused(
             &Multihash::<300>::from_bytes(&[0, 128, 2]),
             Refusal::InvalidSize(256)
         )
     );
-    assert!(rt; is_refused(&Multihash::<2>::wrap(0, b"foobar"), Refusal::InvalidSize(6)));
+    check!(rt; is_refused(&Multihash::<2>::wrap(0, b"foobar"), Refusal::InvalidSize(6)));
 }
 
 #[test]
@@ -150,13 +150,13 @@ fn a_digest_is_kept(rt: HostRuntime) -> Result<(), Fail> {
 fn slices_that_fit_and_that_do_not(rt: HostRuntime) -> Result<(), Fail> {
     let m = Multihash::<4>::wrap(0, b"ABC")?;
     let mut places = [0u8; 4];
-    assert_eq!(rt; fills(&m, &mut places), (false, 0));
+    check_eq!(rt; fills(&m, &mut places), (false, 0));
     expect_bytes(&rt, &places, &[0, 3, 65, 66]);
     let mut places = [0u8; 5];
-    assert_eq!(rt; fills(&m, &mut places), (true, 0));
+    check_eq!(rt; fills(&m, &mut places), (true, 0));
     expect_bytes(&rt, &places, &[0, 3, 65, 66, 67]);
     let mut places = [7u8; 7];
-    assert_eq!(rt; fills(&m, &mut places), (true, 2));
+    check_eq!(rt; fills(&m, &mut places), (true, 2));
     expect_bytes(&rt, &places, &[0, 3, 65, 66, 67, 7, 7]);
     Ok(())
 }
@@ -166,10 +166,10 @@ fn write_counts_its_bytes(rt: HostRuntime) -> Result<(), Fail> {
     let m = Multihash::<4>::wrap(0, b"ABC")?;
     let mut left: &mut [u8] = &mut [0; 4];
     let refused = m.write(&mut left);
-    assert!(rt; is_refused(&refused, Refusal::WriteZero));
-    assert_eq!(rt; m.write(&mut [0; 5].as_mut_slice())?, 5);
+    check!(rt; is_refused(&refused, Refusal::WriteZero));
+    check_eq!(rt; m.write(&mut [0; 5].as_mut_slice())?, 5);
     let empty = Multihash::<4>::wrap(0, &[])?;
-    assert_eq!(rt; empty.write(&mut [0; 2].as_mut_slice())?, 2);
+    check_eq!(rt; empty.write(&mut [0; 2].as_mut_slice())?, 2);
     Ok(())
 }
 
@@ -178,8 +178,8 @@ fn to_bytes_fills_its_room(rt: HostRuntime) -> Result<(), Fail> {
     for digest in [[].as_slice(), b"A", b"foobar", &[7; 200]] {
         let m = Multihash::<255>::wrap(300, digest)?;
         let bytes = m.to_bytes(rt.alloc())?;
-        assert_eq!(rt; bytes.len(), m.encoded_len());
-        assert_eq!(rt; bytes.capacity(), m.encoded_len());
+        check_eq!(rt; bytes.len(), m.encoded_len());
+        check_eq!(rt; bytes.capacity(), m.encoded_len());
     }
     Ok(())
 }
@@ -188,8 +188,8 @@ fn to_bytes_fills_its_room(rt: HostRuntime) -> Result<(), Fail> {
 fn a_vector_is_written_to(rt: HostRuntime) -> Result<(), Fail> {
     let mut bytes = Vec::new(rt.alloc());
     bytes.push(5)?;
-    assert_eq!(rt; Multihash::<4>::wrap(0, b"A")?.write(&mut bytes)?, 3);
-    assert_eq!(rt; Multihash::<4>::wrap(18, b"B")?.write(&mut &mut bytes)?, 3);
+    check_eq!(rt; Multihash::<4>::wrap(0, b"A")?.write(&mut bytes)?, 3);
+    check_eq!(rt; Multihash::<4>::wrap(18, b"B")?.write(&mut &mut bytes)?, 3);
     expect_bytes(&rt, &bytes, &[5, 0, 1, 65, 18, 1, 66]);
     Ok(())
 }
@@ -207,7 +207,7 @@ fn accepted_bytes_come_back(rt: HostRuntime) -> Result<(), Fail> {
 fn read_both<R: Read>(rt: &impl Abort, mut r: &mut R) -> Result<(), Error> {
     let first = Multihash::<4>::read(r)?;
     let second = Multihash::<4>::read(&mut r)?;
-    assert_eq!(rt; (first.code(), second.code()), (0, 18));
+    check_eq!(rt; (first.code(), second.code()), (0, 18));
     expect_bytes(rt, first.digest(), b"A");
     expect_bytes(rt, second.digest(), b"B");
     Ok(())

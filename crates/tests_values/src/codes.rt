@@ -1,5 +1,5 @@
 //! Codes at the limit, and who refuses a larger one.
-use crate::expect::expect_bytes;
+use crate::expect::{check, check_eq, expect_bytes};
 use fakes::refusal::{LARGEST_CODE, Refusal, is_refused};
 use multihash::{Error, Multihash};
 use std::test::Fail;
@@ -26,14 +26,14 @@ fn is_code_alone(e: Option<&Error>, code: u64) -> bool {
 fn wrap_refuses_a_larger_code(rt: HostRuntime) {
     for code in LARGER {
         let refused = Multihash::<4>::wrap(code, b"ABCD");
-        assert!(rt; is_code_alone(refused.as_ref().err(), code));
-        assert_eq!(rt; refused_code::<4>(code, b"AB"), Some(code));
-        assert_eq!(rt; refused_code::<0>(code, &[]), Some(code));
-        assert!(rt; refused_code::<2>(code, b"foobar").is_none());
-        assert!(rt; is_refused(&Multihash::<2>::wrap(code, b"ABC"), Refusal::InvalidSize(3)));
+        check!(rt; is_code_alone(refused.as_ref().err(), code));
+        check_eq!(rt; refused_code::<4>(code, b"AB"), Some(code));
+        check_eq!(rt; refused_code::<0>(code, &[]), Some(code));
+        check!(rt; refused_code::<2>(code, b"foobar").is_none());
+        check!(rt; is_refused(&Multihash::<2>::wrap(code, b"ABC"), Refusal::InvalidSize(3)));
     }
-    assert!(rt; refused_code::<4>(LARGEST_CODE, b"AB").is_none());
-    assert!(rt; refused_code::<4>(0, b"foobar").is_none());
+    check!(rt; refused_code::<4>(LARGEST_CODE, b"AB").is_none());
+    check!(rt; refused_code::<4>(0, b"foobar").is_none());
 }
 
 #[test]
@@ -43,11 +43,11 @@ fn scale_decode_refuses_a_larger_code(rt: HostRuntime) {
         input[..8].copy_from_slice(&code.to_le_bytes());
         for len in 8..13 {
             let (refused, left) = decode_slice::<4>(&input[..len]);
-            assert!(rt; is_code_alone(refused.as_ref().err(), code));
+            check!(rt; is_code_alone(refused.as_ref().err(), code));
             expect_bytes(&rt, left, &input[8..len]);
         }
         let (cut, _) = decode_slice::<4>(&input[..7]);
-        assert!(rt; is_refused(&cut, Refusal::UnexpectedEof));
+        check!(rt; is_refused(&cut, Refusal::UnexpectedEof));
     }
 }
 
@@ -62,8 +62,8 @@ fn reading_refuses_no_code(rt: HostRuntime) {
         &[0, 0],
     ] {
         let (answer, refused) = code_refused_by_reading::<4>(bytes);
-        assert_eq!(rt; answer.is_ok(), bytes == [0, 0].as_slice());
-        assert!(rt; refused.is_none());
+        check_eq!(rt; answer.is_ok(), bytes == [0, 0].as_slice());
+        check!(rt; refused.is_none());
     }
 }
 
@@ -77,8 +77,8 @@ fn no_table_allows_a_larger_code(rt: HostRuntime) -> Result<(), Fail> {
                 size: 2,
             },
         ];
-        assert!(rt; code_table::wrap::<4>(&table, code, b"AB").is_none());
-        assert!(rt; code_table::wrap::<4>(&table, LARGEST_CODE, b"AB").is_some());
+        check!(rt; code_table::wrap::<4>(&table, code, b"AB").is_none());
+        check!(rt; code_table::wrap::<4>(&table, LARGEST_CODE, b"AB").is_some());
     }
     Ok(())
 }

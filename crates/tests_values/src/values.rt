@@ -1,10 +1,12 @@
 //! Worked values of comparing, hashing, truncating and resizing.
-use crate::expect::expect_bytes;
+use crate::expect::{check, check_eq, expect_bytes};
 use fakes::refusal::{LARGEST_CODE, Refusal, is_refused};
 use multihash::{Multihash, MultihashGeneric, list, no_std_io};
+use std::alloc::Global;
 use std::cmp::Ordering;
 use std::collections::{BTreeMap, HashMap};
 use std::hash::{DefaultHasher, Hash, Hasher};
+use std::process::Abort;
 use std::test::Fail;
 use uses::block_store::{put_hashed, put_ordered};
 use uses::peer_id::same_iff_encoded_alike;
@@ -22,16 +24,16 @@ fn hash_of<T: Hash>(x: &T) -> u64 {
 fn defaults_are_empty(rt: HostRuntime) -> Result<(), Fail> {
     let m = Multihash::<32>::default();
     expect_bytes(&rt, &m.to_bytes(rt.alloc())?, &[0, 0]);
-    assert!(rt; m.same_as(&Multihash::<64>::default()));
-    assert_eq!(rt; Multihash::<0>::default().into_inner(), (0, [], 0));
+    check!(rt; m.same_as(&Multihash::<64>::default()));
+    check_eq!(rt; Multihash::<0>::default().into_inner(), (0, [], 0));
     Ok(())
 }
 
 #[test]
 fn a_clone_is_the_same(rt: HostRuntime) -> Result<(), Fail> {
     let m = Multihash::<4>::wrap(18, b"AB")?;
-    assert_eq!(rt; m.clone()?, m);
-    assert_eq!(rt; m.clone()?.code(), 18);
+    check_eq!(rt; m.clone()?, m);
+    check_eq!(rt; m.clone()?.code(), 18);
     Ok(())
 }
 
@@ -41,21 +43,21 @@ fn a_digest_is_cut(rt: HostRuntime) -> Result<(), Fail> {
     let cut = m.truncate(3);
     let short = Multihash::<64>::wrap(0, b"foo")?;
     expect_bytes(&rt, cut.digest(), b"foo");
-    assert_eq!(rt; cut, short);
-    assert_eq!(rt; cut.cmp(&short), Ordering::Equal);
-    assert_eq!(rt; hash_of(&cut), hash_of(&short));
+    check_eq!(rt; cut, short);
+    check_eq!(rt; cut.cmp(&short), Ordering::Equal);
+    check_eq!(rt; hash_of(&cut), hash_of(&short));
     let mut array = [0u8; 64];
     array[..3].copy_from_slice(b"foo");
-    assert_eq!(rt; cut.into_inner(), (0, array, 3));
-    assert_eq!(rt; m.truncate(9), m);
-    assert!(rt; is_refused(&m.resize::<2>(), Refusal::InvalidSize(6)));
+    check_eq!(rt; cut.into_inner(), (0, array, 3));
+    check_eq!(rt; m.truncate(9), m);
+    check!(rt; is_refused(&m.resize::<2>(), Refusal::InvalidSize(6)));
     Ok(())
 }
 
 #[test]
 fn values_print(rt: HostRuntime) -> Result<(), Fail> {
     let m = Multihash::<4>::wrap(18, &[1, 2])?;
-    assert!(rt; !format!(in rt.alloc(); "{m:?}")?.is_empty());
+    check!(rt; !format!(in rt.alloc(); "{m:?}")?.is_empty());
     Ok(())
 }
 
@@ -63,7 +65,7 @@ fn values_print(rt: HostRuntime) -> Result<(), Fail> {
 fn a_cut_digest_is_printed_alone(rt: HostRuntime) -> Result<(), Fail> {
     let cut = Multihash::<64>::wrap(18, b"foobar")?.truncate(3);
     let text = format!(in rt.alloc(); "{cut:?}")?;
-    assert_eq!(rt;
+    check_eq!(rt;
         text.as_str(),
         "Multihash { code: 18, size: 3, digest: [102, 111, 111] }"
     );
@@ -87,16 +89,16 @@ fn pairs_are_ordered(rt: HostRuntime) -> Result<(), Fail> {
     for (left_code, left_digest, right_code, right_digest, want) in ROWS {
         let left = Multihash::<4>::wrap(left_code, left_digest)?;
         let right = Multihash::<4>::wrap(right_code, right_digest)?;
-        assert_eq!(rt; left.cmp(&right), want, "{left_digest:?}");
-        assert_eq!(rt; right.cmp(&left), want.reverse());
-        assert_eq!(rt; left.partial_cmp(&right), Some(want));
-        assert_eq!(rt; left == right, want.is_eq());
-        assert_eq!(rt; left < right, want.is_lt());
-        assert_eq!(rt; left.same_as(&right), want.is_eq());
-        assert!(rt; equal_iff_same(&left, &right));
+        check_eq!(rt; left.cmp(&right), want, "{left_digest:?}");
+        check_eq!(rt; right.cmp(&left), want.reverse());
+        check_eq!(rt; left.partial_cmp(&right), Some(want));
+        check_eq!(rt; left == right, want.is_eq());
+        check_eq!(rt; left < right, want.is_lt());
+        check_eq!(rt; left.same_as(&right), want.is_eq());
+        check!(rt; equal_iff_same(&left, &right));
     }
     let cut = Multihash::<4>::wrap(0, b"ab")?.truncate(1);
-    assert_eq!(rt; cut.cmp(&Multihash::wrap(0, b"a")?), Ordering::Equal);
+    check_eq!(rt; cut.cmp(&Multihash::wrap(0, b"a")?), Ordering::Equal);
     Ok(())
 }
 
@@ -104,15 +106,15 @@ fn pairs_are_ordered(rt: HostRuntime) -> Result<(), Fail> {
 fn sizes_of_buffers_do_not_count(rt: HostRuntime) -> Result<(), Fail> {
     let small = Multihash::<4>::wrap(0, b"ab")?;
     let large = Multihash::<300>::wrap(0, b"ab")?;
-    assert!(rt; small.same_as(&large));
+    check!(rt; small.same_as(&large));
     for bytes in [small.to_bytes(rt.alloc())?, large.to_bytes(rt.alloc())?] {
         expect_bytes(&rt, &bytes, &[0, 2, 0x61, 0x62]);
     }
-    assert!(rt; !small.same_as(&Multihash::<300>::wrap(0, b"a")?));
-    assert!(rt; !small.same_as(&Multihash::<300>::wrap(1, b"ab")?));
-    assert!(rt; same_as_is_an_equivalence(&small, &large, &small.resize::<6>()?));
-    assert!(rt; same_iff_encoded_alike(rt.alloc(), &small, &large)?);
-    assert!(rt; same_iff_encoded_alike(rt.alloc(), &small.truncate(1), &large)?);
+    check!(rt; !small.same_as(&Multihash::<300>::wrap(0, b"a")?));
+    check!(rt; !small.same_as(&Multihash::<300>::wrap(1, b"ab")?));
+    check!(rt; same_as_is_an_equivalence(&small, &large, &small.resize::<6>()?));
+    check!(rt; same_iff_encoded_alike(rt.alloc(), &small, &large)?);
+    check!(rt; same_iff_encoded_alike(rt.alloc(), &small.truncate(1), &large)?);
     Ok(())
 }
 
@@ -120,9 +122,9 @@ fn sizes_of_buffers_do_not_count(rt: HostRuntime) -> Result<(), Fail> {
 fn the_smaller_size_counts(rt: HostRuntime) -> Result<(), Fail> {
     let m = Multihash::<6>::wrap(0, b"foobar")?;
     let twice = m.truncate(5).truncate(2);
-    assert_eq!(rt; twice, m.truncate(2).truncate(5));
-    assert_eq!(rt; twice, m.truncate(2));
-    assert!(rt; truncate_twice(&m, 5, 2));
+    check_eq!(rt; twice, m.truncate(2).truncate(5));
+    check_eq!(rt; twice, m.truncate(2));
+    check!(rt; truncate_twice(&m, 5, 2));
     Ok(())
 }
 
@@ -134,43 +136,43 @@ fn a_multihash_hashes_as_its_pair(rt: HostRuntime) -> Result<(), Fail> {
         (18, b"foobar"),
     ] {
         let m = Multihash::<6>::wrap(code, digest)?;
-        assert_eq!(rt; hash_of(&m), hash_of(&(code, digest)));
+        check_eq!(rt; hash_of(&m), hash_of(&(code, digest)));
         let resized = m.resize::<300>()?;
-        assert!(rt; resized.same_as(&m));
-        assert_eq!(rt; hash_of(&resized), hash_of(&m));
+        check!(rt; resized.same_as(&m));
+        check_eq!(rt; hash_of(&resized), hash_of(&m));
         let (large, same) = resized_is_same::<6, 300>(&m)?;
-        assert!(rt; same && large == resized);
+        check!(rt; same && large == resized);
     }
     Ok(())
+}
+
+// The pair 0, `foo` in each form.
+fn expect_foo(rt: &impl Abort, alloc: Global, m: &Multihash<6>) -> Result<(), Fail> {
+    expect_bytes(rt, &m.to_bytes(alloc)?, &[0, 3, 102, 111, 111]);
+    let mut scale = Vec::new(alloc);
+    check_eq!(rt; m.scale_encode(&mut scale)?, 12);
+    expect_bytes(rt, &scale, &[0, 0, 0, 0, 0, 0, 0, 0, 3, 102, 111, 111]);
+    let value = m.to_value(alloc)?;
+    check_eq!(rt; value.to_string(alloc)?.as_str(), "[0,3,102,111,111]");
+    check_eq!(rt; m.into_inner(), (0, [102, 111, 111, 0, 0, 0], 3));
+    Ok(())
+}
+
+fn expect_equal_values(rt: &impl Abort, m: &Multihash<6>, other: &Multihash<6>) {
+    check_eq!(rt; m, other);
+    check_eq!(rt; m.cmp(other), Ordering::Equal);
+    check_eq!(rt; hash_of(m), hash_of(other));
+    check!(rt; m.same_as(other));
 }
 
 #[test]
 fn stale_tails_stay_inside(rt: HostRuntime) -> Result<(), Fail> {
     let m = Multihash::<6>::wrap(0, b"foobar")?.truncate(3);
-    assert_eq!(rt;
-        m.to_bytes(rt.alloc())?.as_slice(),
-        [0, 3, 102, 111, 111].as_slice()
-    );
-    let mut scale = Vec::new(rt.alloc());
-    assert_eq!(rt; m.scale_encode(&mut scale)?, 12);
-    assert_eq!(rt;
-        scale.as_slice(),
-        [0, 0, 0, 0, 0, 0, 0, 0, 3, 102, 111, 111].as_slice()
-    );
-    let json = m.to_value(rt.alloc())?.to_string(rt.alloc())?;
-    assert_eq!(rt; json.as_str(), "[0,3,102,111,111]");
-    assert_eq!(rt; m.into_inner(), (0, [102, 111, 111, 0, 0, 0], 3));
-    for other in [
-        Multihash::wrap(0, b"foo")?,
-        Multihash::wrap(0, b"fooxyz")?.truncate(3),
-    ] {
-        assert_eq!(rt; m, other);
-        assert_eq!(rt; m.cmp(&other), Ordering::Equal);
-        assert_eq!(rt; hash_of(&m), hash_of(&other));
-        assert!(rt; m.same_as(&other));
-    }
+    expect_foo(&rt, rt.alloc(), &m)?;
+    expect_equal_values(&rt, &m, &Multihash::wrap(0, b"foo")?);
+    expect_equal_values(&rt, &m, &Multihash::wrap(0, b"fooxyz")?.truncate(3));
     expect_bytes(&rt, m.truncate(5).digest(), b"foo");
-    assert!(rt; m.resize::<3>()?.same_as(&m));
+    check!(rt; m.resize::<3>()?.same_as(&m));
     Ok(())
 }
 
@@ -183,9 +185,9 @@ fn multihashes_are_keys(rt: HostRuntime) -> Result<(), Fail> {
         put_ordered(&mut ordered, key, value)?;
         put_hashed(&mut hashed, key, value)?;
     }
-    assert_eq!(rt; (ordered.len(), hashed.len()), (2, 2));
-    assert_eq!(rt; ordered.get(&m.truncate(3)), Some(&3));
-    assert_eq!(rt; hashed.get(&m.truncate(3)), Some(&3));
+    check_eq!(rt; (ordered.len(), hashed.len()), (2, 2));
+    check_eq!(rt; ordered.get(&m.truncate(3)), Some(&3));
+    check_eq!(rt; hashed.get(&m.truncate(3)), Some(&3));
     Ok(())
 }
 
@@ -195,7 +197,7 @@ fn multihashes_are_sorted(rt: HostRuntime) -> Result<(), Fail> {
     let first = Multihash::wrap(0, b"zzz")?;
     let mut items = vec![in rt.alloc(); m, m.truncate(1), first]?;
     sort_them(&mut items)?;
-    assert!(rt; items.as_slice() == [first, m.truncate(1), m].as_slice());
+    check!(rt; items.as_slice() == [first, m.truncate(1), m].as_slice());
     Ok(())
 }
 
@@ -207,7 +209,7 @@ fn read_alias(bytes: &[u8]) -> multihash::Result<MultihashGeneric<4>> {
 #[test]
 fn aliases_name_the_types(rt: HostRuntime) -> Result<(), Fail> {
     let m: Multihash<4> = read_alias(&[0, 0])?;
-    assert_eq!(rt; m, MultihashGeneric::default());
+    check_eq!(rt; m, MultihashGeneric::default());
     Ok(())
 }
 
@@ -217,7 +219,7 @@ fn the_root_names(rt: HostRuntime) -> Result<(), Fail> {
     let items: Vec<multihash::Multihash<1>> = list::read_list(rt.alloc(), &mut left, 1)?;
     list::write_list(&items, &mut [0u8; 3].as_mut_slice())?;
     let refused: multihash::Error = multihash::Error::from(no_std_io::Error::other("x"));
-    assert_eq!(rt; Refusal::of(&refused), Some(Refusal::Other("x")));
+    check_eq!(rt; Refusal::of(&refused), Some(Refusal::Other("x")));
     multihash::laws::prefix_free();
     Ok(())
 }
