@@ -179,10 +179,10 @@ fn expect_written(rt: &impl Abort, items: &[Multihash<4>; 2]) -> Result<(), Fail
 // Passes also where each request is refused, since none of these calls makes one.
 #[test]
 fn needs_no_memory(rt: HostRuntime) -> Result<(), Fail> {
-    let items = two()?;
-    expect_compared(&rt, &items[0], &items[1])?;
-    expect_read(&rt, rt.alloc(), &items[0])?;
-    expect_written(&rt, &items)?;
+    let [first, second] = two()?;
+    expect_compared(&rt, &first, &second)?;
+    expect_read(&rt, rt.alloc(), &first)?;
+    expect_written(&rt, &[first, second])?;
     check!(rt; is_refused(&Multihash::<4>::from_value(&Value::Null), Refusal::NotBytes));
     let refused = Multihash::<4>::wrap(u64::MAX, &[]);
     check!(rt; is_refused(&refused, Refusal::InvalidCode(u64::MAX)));
