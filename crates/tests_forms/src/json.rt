@@ -170,6 +170,7 @@ fn expect_size(rt: &impl Abort, alloc: Global, n: u16) -> Result<(), Fail> {
     match Multihash::<255>::from_value(&after_zero(alloc, Value::from(n))?) {
         Ok(m) => check!(rt; n == 0 && m == Multihash::default(), "{n}"),
         Err(e) => {
+            check!(rt; n != 0, "{n}");
             let why = if n < 128 {
                 Refusal::UnexpectedEof
             } else {

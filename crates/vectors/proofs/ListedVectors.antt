@@ -310,14 +310,10 @@ decoding_takes_no_nine_of_code : ¬ (TakesAsScaleListed (all_255 ++ 5 ∷ []) []
     (code_after 18446744073709551615 (Some 8)))
 decoding_takes_no_nine_of_code h = omega (arith, h.1)
 
-decoding_takes_no_other_count : ¬
-    (TakesAsScaleListed (zeros ++ 5 ∷ 7 ∷ []) [] (size_after 5 (Some 9)))
+decoding_takes_no_other_count : ¬ (TakesAsScaleListed (zeros ++ 5 ∷ 7 ∷ []) [] (size_after 5 (Some 9)))
 decoding_takes_no_other_count h = omega (arith, h.1)
 
-decoding_takes_no_count_of_end : ¬ (TakesAsScaleListed zeros [] (record {
-  verdict = UnexpectedEof;
-  taken = Some 8;
-}))
+decoding_takes_no_count_of_end : ¬ (TakesAsScaleListed zeros [] (record { verdict = UnexpectedEof; taken = Some 8 }))
 decoding_takes_no_count_of_end h = h.0 refl
 
 decoding_lists_a_count_of_size : ¬ (TakesAsScaleListed (zeros ++ 5 ∷ []) [] (size_after 5 None))
