@@ -69,13 +69,9 @@ impl<'a> FailAt<'a> {
         ensures { (result.cuts ≡ cuts.entry) × (result.asked ≡ 0) × (result.calls ≡ calls)
             × IsTrue result.wants_memory × IsFalse result.failed }
     {
-        FailAt {
-            cuts,
-            asked: 0,
-            calls,
-            wants_memory: true,
-            failed: false,
-        }
+        let mut fails = FailAt::new(cuts, calls);
+        fails.wants_memory = true;
+        fails
     }
 }
 
@@ -149,15 +145,10 @@ impl<'a> Counts<'a> {
         ensures fault { (result.left.now ≡ left.now) × (result.calls ≡ calls) × IsTrue result.may_fail
             × IsFalse result.wants_memory }
     {
-        Counts {
-            left,
-            single: 0,
-            others: 0,
-            whole: 0,
-            calls,
-            wants_memory: false,
-            may_fail: true,
-        }
+        let mut counts = Counts::new(left);
+        counts.calls = calls;
+        counts.may_fail = true;
+        counts
     }
 
     /// Fails with want of memory.

@@ -93,13 +93,9 @@ impl FailWrite {
         ensures { (result.drip ≡ drip) × (result.asked ≡ 0) × (result.calls ≡ calls)
             × IsTrue result.wants_memory × IsFalse result.failed }
     {
-        FailWrite {
-            drip,
-            asked: 0,
-            calls,
-            wants_memory: true,
-            failed: false,
-        }
+        let mut fails = FailWrite::new(drip, calls);
+        fails.wants_memory = true;
+        fails
     }
 }
 
@@ -168,14 +164,10 @@ impl CountsWrites {
         ensures fault { (result.held.items ≡ []) × (result.calls ≡ calls) × IsTrue result.may_fail
             × IsFalse result.wants_memory }
     {
-        CountsWrites {
-            held: Vec::new(alloc),
-            parts: 0,
-            whole: 0,
-            calls,
-            wants_memory: false,
-            may_fail: true,
-        }
+        let mut counts = CountsWrites::new(alloc);
+        counts.calls = calls;
+        counts.may_fail = true;
+        counts
     }
 
     /// Fails with want of memory.
