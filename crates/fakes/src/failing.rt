@@ -1,13 +1,15 @@
 //! What the readers and the writers fail with.
-ghost use Rattle.std.specs.Bool.{OnTrue};
-ghost use Rattle.multihash.specs.Fault.{IsOutOfMemory, IsOwnFault};
+ghost use Rattle.std.specs.Prelude.{◌≡◌, ◌↔◌, IsTrue};
+ghost use Rattle.std.specs.Bool.{OnFalse};
+ghost use Rattle.multihash.specs.Fault.{IsOutOfMemory, IsOther, IsOwnFault};
 
 use multihash::no_std_io::Error;
 
 // Want of memory, or else a fault of its own with this text.
 pub(crate) fn fault(wants_memory: bool, text: &'static str) -> Error
     ensures own { IsOwnFault result }
-    ensures memory { OnTrue wants_memory (IsOutOfMemory result) }
+    ensures memory { IsTrue wants_memory ↔ IsOutOfMemory result }
+    ensures other { OnFalse wants_memory (IsOther result × (result.text ≡ text.now)) }
 {
     if wants_memory {
         Error::out_of_memory()

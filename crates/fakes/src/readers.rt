@@ -1,5 +1,5 @@
 //! Readers that cut, fail, keep their bytes to themselves or count what they are asked.
-ghost use Rattle.std.specs.Prelude.{◌≡◌, ◌<◌, IsTrue, Some, None, if◌then◌else◌};
+ghost use Rattle.std.specs.Prelude.{◌≡◌, ◌<◌, IsTrue, IsFalse, Some, None, if◌then◌else◌};
 
 use crate::failing::fault;
 use multihash::no_std_io::{Error, Read};
@@ -18,6 +18,7 @@ pub struct Cuts<'a> {
 impl<'a> Cuts<'a> {
     pub fn new(left: &'a [u8], most: usize) -> Self
         requires { 0 < most }
+        ensures { (result.left.now ≡ left.now) × (result.most ≡ most) }
     {
         Cuts { left, most }
     }
@@ -50,7 +51,10 @@ pub struct FailAt<'a> {
 
 impl<'a> FailAt<'a> {
     /// Fails with an error of its own.
-    pub fn new(cuts: Cuts<'a>, calls: usize) -> Self {
+    pub fn new(cuts: Cuts<'a>, calls: usize) -> Self
+        ensures { (result.cuts ≡ cuts.entry) × (result.asked ≡ 0) × (result.calls ≡ calls)
+            × IsFalse result.wants_memory × IsFalse result.failed }
+    {
         FailAt {
             cuts,
             asked: 0,
@@ -61,14 +65,13 @@ impl<'a> FailAt<'a> {
     }
 
     /// Fails with want of memory.
-    pub fn out_of_memory(cuts: Cuts<'a>, calls: usize) -> Self {
-        FailAt {
-            cuts,
-            asked: 0,
-            calls,
-            wants_memory: true,
-            failed: false,
-        }
+    pub fn out_of_memory(cuts: Cuts<'a>, calls: usize) -> Self
+        ensures { (result.cuts ≡ cuts.entry) × (result.asked ≡ 0) × (result.calls ≡ calls)
+            × IsTrue result.wants_memory × IsFalse result.failed }
+    {
+        let mut fails = FailAt::new(cuts, calls);
+        fails.wants_memory = true;
+        fails
     }
 }
 
@@ -120,7 +123,11 @@ pub struct Counts<'a> {
 }
 
 impl<'a> Counts<'a> {
-    pub fn new(left: &'a [u8]) -> Self {
+    pub fn new(left: &'a [u8]) -> Self
+        ensures unasked { (result.single ≡ 0) × (result.others ≡ 0) × (result.whole ≡ 0) }
+        ensures fault { (result.left.now ≡ left.now) × (result.calls ≡ 0) × IsFalse result.may_fail
+            × IsFalse result.wants_memory }
+    {
         Counts {
             left,
             single: 0,
@@ -134,22 +141,20 @@ impl<'a> Counts<'a> {
 
     /// Fails with an error of its own.
     pub fn failing(left: &'a [u8], calls: usize) -> Self
-        ensures { (result.left.now ≡ left.now) × (result.calls ≡ calls) × IsTrue result.may_fail }
+        ensures unasked { (result.single ≡ 0) × (result.others ≡ 0) × (result.whole ≡ 0) }
+        ensures fault { (result.left.now ≡ left.now) × (result.calls ≡ calls) × IsTrue result.may_fail
+            × IsFalse result.wants_memory }
     {
-        Counts {
-            left,
-            single: 0,
-            others: 0,
-            whole: 0,
-            calls,
-            wants_memory: false,
-            may_fail: true,
-        }
+        let mut counts = Counts::new(left);
+        counts.calls = calls;
+        counts.may_fail = true;
+        counts
     }
 
     /// Fails with want of memory.
     pub fn out_of_memory(left: &'a [u8], calls: usize) -> Self
-        ensures { (result.left.now ≡ left.now) × (result.calls ≡ calls) × IsTrue result.may_fail
+        ensures unasked { (result.single ≡ 0) × (result.others ≡ 0) × (result.whole ≡ 0) }
+        ensures fault { (result.left.now ≡ left.now) × (result.calls ≡ calls) × IsTrue result.may_fail
             × IsTrue result.wants_memory }
     {
         let mut counts = Counts::failing(left, calls);
@@ -158,7 +163,10 @@ impl<'a> Counts<'a> {
     }
 
     /// The calls of `read` for one byte, those for more or none, and those of `read_exact`.
-    pub fn asked(&self) -> (usize, usize, usize) {
+    pub fn asked(&self) -> (usize, usize, usize)
+        ensures { (result.0 ≡ self.now.single) × (result.1 ≡ self.now.others)
+            × (result.2 ≡ self.now.whole) }
+    {
         (self.single, self.others, self.whole)
     }
 }

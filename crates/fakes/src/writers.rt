@@ -1,5 +1,5 @@
 //! Writers that fill up, fail or count what they are asked.
-ghost use Rattle.std.specs.Prelude.{◌≡◌, ◌<◌, ◌≤◌, ◌+◌, [], IsTrue, true, false, vec_len, vec_capacity, if◌then◌else◌};
+ghost use Rattle.std.specs.Prelude.{◌≡◌, ◌<◌, ◌≤◌, ◌+◌, [], IsTrue, IsFalse, IfOk, true, false, vec_len, vec_capacity, if◌then◌else◌};
 ghost use Rattle.multihash.specs.Places.{AppendsAtEnd, AppendsAtEnd-none, AppendsAtEnd-joined};
 
 use crate::failing::fault;
@@ -25,6 +25,8 @@ pub struct Drip {
 impl Drip {
     pub fn new(alloc: Global, room: usize, most: usize) -> Result<Self, AllocError>
         requires { 0 < most }
+        ensures { IfOk result (λ drip. (drip.held.items ≡ []) × (drip.asked ≡ 0) × (drip.room ≡ room)
+            × (drip.most ≡ most)) }
     {
         Ok(Drip {
             held: Vec::with_capacity(alloc, room)?,
@@ -73,7 +75,10 @@ pub struct FailWrite {
 
 impl FailWrite {
     /// Fails with an error of its own.
-    pub fn new(drip: Drip, calls: usize) -> Self {
+    pub fn new(drip: Drip, calls: usize) -> Self
+        ensures { (result.drip ≡ drip) × (result.asked ≡ 0) × (result.calls ≡ calls)
+            × IsFalse result.wants_memory × IsFalse result.failed }
+    {
         FailWrite {
             drip,
             asked: 0,
@@ -84,14 +89,13 @@ impl FailWrite {
     }
 
     /// Fails with want of memory.
-    pub fn out_of_memory(drip: Drip, calls: usize) -> Self {
-        FailWrite {
-            drip,
-            asked: 0,
-            calls,
-            wants_memory: true,
-            failed: false,
-        }
+    pub fn out_of_memory(drip: Drip, calls: usize) -> Self
+        ensures { (result.drip ≡ drip) × (result.asked ≡ 0) × (result.calls ≡ calls)
+            × IsTrue result.wants_memory × IsFalse result.failed }
+    {
+        let mut fails = FailWrite::new(drip, calls);
+        fails.wants_memory = true;
+        fails
     }
 }
 
@@ -139,7 +143,11 @@ pub struct CountsWrites {
 }
 
 impl CountsWrites {
-    pub fn new(alloc: Global) -> Self {
+    pub fn new(alloc: Global) -> Self
+        ensures unasked { (result.parts ≡ 0) × (result.whole ≡ 0) }
+        ensures fault { (result.held.items ≡ []) × (result.calls ≡ 0) × IsFalse result.may_fail
+            × IsFalse result.wants_memory }
+    {
         CountsWrites {
             held: Vec::new(alloc),
             parts: 0,
@@ -152,21 +160,20 @@ impl CountsWrites {
 
     /// Fails with an error of its own.
     pub fn failing(alloc: Global, calls: usize) -> Self
-        ensures { (result.held.items ≡ []) × (result.calls ≡ calls) × IsTrue result.may_fail }
+        ensures unasked { (result.parts ≡ 0) × (result.whole ≡ 0) }
+        ensures fault { (result.held.items ≡ []) × (result.calls ≡ calls) × IsTrue result.may_fail
+            × IsFalse result.wants_memory }
     {
-        CountsWrites {
-            held: Vec::new(alloc),
-            parts: 0,
-            whole: 0,
-            calls,
-            wants_memory: false,
-            may_fail: true,
-        }
+        let mut counts = CountsWrites::new(alloc);
+        counts.calls = calls;
+        counts.may_fail = true;
+        counts
     }
 
     /// Fails with want of memory.
     pub fn out_of_memory(alloc: Global, calls: usize) -> Self
-        ensures { (result.held.items ≡ []) × (result.calls ≡ calls) × IsTrue result.may_fail
+        ensures unasked { (result.parts ≡ 0) × (result.whole ≡ 0) }
+        ensures fault { (result.held.items ≡ []) × (result.calls ≡ calls) × IsTrue result.may_fail
             × IsTrue result.wants_memory }
     {
         let mut counts = CountsWrites::failing(alloc, calls);

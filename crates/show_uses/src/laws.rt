@@ -12,7 +12,7 @@ const SHA2_256: u64 = 0x12;
 /// # Errors
 ///
 /// Want of memory.
-pub fn show(alloc: Global, lines: &mut String) -> Result<()> {
+pub(crate) fn show(alloc: Global, lines: &mut String) -> Result<()> {
     show_any_reader(alloc, lines)?;
     show_settled(lines)?;
     show_written_alike(alloc, lines)?;

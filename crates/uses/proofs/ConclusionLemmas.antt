@@ -4,6 +4,7 @@ use Rattle.serde_json.specs.Data.{Data}
 use Rattle.multihash.specs.Bytes.{ExactlyOne}
 use Rattle.multihash.specs.Pair.{Pair}
 use Rattle.multihash.specs.Verdict.{Verdict, accepted, HasWholeVerdict}
+use Rattle.multihash.specs.Encoding.{IsEncoding}
 use Rattle.multihash.specs.Settling.{IsShortestSettling}
 use Rattle.multihash.specs.Scale.{IsScale, HasScaleVerdict}
 use Rattle.multihash.specs.Json.{IsByteArray, IsJsonList}
@@ -11,6 +12,7 @@ use Rattle.multihash.specs.Taking.{TakesShortestSettling}
 use Rattle.multihash.specs.Reading.{Takes}
 use Rattle.multihash.specs.Refusal.{Refusal}
 use Rattle.multihash.specs.Answer.{Fields, pair_of, IsRefusal, Answers}
+use Rattle.uses.specs.Listed.{ListsOne}
 use Rattle.multihash.proofs.Writings.EncodingLemmas.{same_cut}
 
 -- what was taken is as long as the one shortest beginning that settles
@@ -35,6 +37,15 @@ lists_answer S bytes (Ok m) v has answers =
     let told : HasWholeVerdict S bytes (accepted (pair_of m)) = subst (HasWholeVerdict S bytes) answers has in
     λ value array. record { encoding = bytes; encodes = told.0; lists = array.array }
 lists_answer S bytes (Err e) v has answers = tt
+
+-- a value from which a multihash was read lists its pair, which fits
+pub lists_one : (S : ℕ) (value : Data) (m : Fields S) → (bytes : List ℕ) × IsByteArray value bytes × IsEncoding (pair_of m) bytes
+    → ((bytes : List ℕ) → IsByteArray value bytes → (v : Verdict) × HasWholeVerdict S bytes v × Answers (Ok m) v)
+    → ListsOne S value
+lists_one S value m ok verdict =
+    let v = verdict ok.0 ok.1 in
+    let told : HasWholeVerdict S ok.0 (accepted (pair_of m)) = subst (HasWholeVerdict S ok.0) v.2 v.1 in
+    record { pair = pair_of m; lists = record { encoding = ok.0; encodes = told.0; lists = ok.1.array }; fits = told.1 }
 
 -- decoding where a pair's form comes next gives the pair, and leaves what follows
 pub scale_next : (S before after : ℕ) (old new : Option (List ℕ)) (p : Pair) (bytes more : List ℕ) (r : Result (Fields S) Refusal)

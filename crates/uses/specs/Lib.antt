@@ -1,2 +1,3 @@
 pub mod ContentId
+pub mod Listed
 pub mod Recovery

@@ -1,15 +1,17 @@
 //! What the laws say to callers: which bytes spell which values, and where an answer stands.
-ghost use Rattle.std.specs.Prelude.{◌≡◌, ◌<◌, ◌↔◌, ℕ, List, length, map, IsTrue, IfSome, IfNone, IfOk, MatchResult};
+ghost use Rattle.std.specs.Prelude.{◌≡◌, ◌<◌, ◌↔◌, ℕ, List, length, map, IsTrue, IfSome, IfNone, IfOk, IfErr, IsErrAnd, MatchResult, ◌⊎◌};
 ghost use Rattle.serde_json.specs.Data.{Data};
 ghost use Rattle.serde_json.specs.View.{view};
 ghost use Rattle.multihash.specs.Bytes.{ExactlyOne};
 ghost use Rattle.multihash.specs.Pair.{Pair, IsPair, FitsBuffer};
+ghost use Rattle.multihash.specs.Verdict.{Verdict, HasWholeVerdict};
 ghost use Rattle.multihash.specs.Settling.{Settles, IsShortestSettling};
 ghost use Rattle.multihash.specs.Scale.{IsScale, HasScaleVerdict};
 ghost use Rattle.multihash.specs.Json.{IsByteArray, IsJsonList};
 ghost use Rattle.multihash.specs.Fault.{IsOther};
-ghost use Rattle.multihash.specs.Refusal.{IsMemory, IsIo, refusal_text};
+ghost use Rattle.multihash.specs.Refusal.{IsMemory, IsIo, IsNotBytes, refusal_text};
 ghost use Rattle.multihash.specs.Answer.{pair_of, Answers};
+ghost use Rattle.uses.specs.Listed.{ListsOne, IsListRefusal};
 
 use crate::merkle::write_node;
 use multihash::no_std_io::{self, Write};
@@ -142,6 +144,10 @@ pub fn decoded<const S: usize>(bytes: &[u8]) -> Result<Multihash<S>, Error>
 ///
 /// Those of [`Multihash::from_value`], wherever the value lists no multihash that fits.
 pub fn listed<const S: usize>(value: &Value) -> Result<Multihash<S>, Error>
+    ensures verdict { (bytes : List ℕ) → IsByteArray (view value.now) bytes →
+        (v : Verdict) × HasWholeVerdict S bytes v × Answers result v }
+    ensures not_bytes { ((bytes : List ℕ) → ¬ (IsByteArray (view value.now) bytes)) →
+        IsErrAnd result IsNotBytes }
     ensures ok { IfOk result (λ m. IsJsonList (pair_of m) (view value.now)) }
     ensures found { (p : Pair) → IsPair p → IsJsonList p (view value.now) → FitsBuffer S p →
         MatchResult result (λ m. pair_of m ≡ p) (λ _. ⊥) }
@@ -157,6 +163,7 @@ pub fn listed<const S: usize>(value: &Value) -> Result<Multihash<S>, Error>
 ///
 /// Those of [`Multihash::from_bytes`], wherever no value that lists the bytes lists a multihash that fits.
 pub fn of_listed_bytes<const S: usize>(bytes: &[u8]) -> Result<Multihash<S>, Error>
+    ensures verdict { (v : Verdict) × HasWholeVerdict S bytes.now v × Answers result v }
     ensures ok { IfOk result (λ m. (value : Data) → IsByteArray value bytes.now →
         IsJsonList (pair_of m) value) }
     ensures found { (p : Pair) (value : Data) → IsJsonList p value → FitsBuffer S p →
@@ -174,7 +181,9 @@ pub fn of_listed_bytes<const S: usize>(bytes: &[u8]) -> Result<Multihash<S>, Err
 /// Those of [`Multihash::from_value`], of the first value that is refused.
 pub fn listed_alike<const A: usize, const B: usize>(a: &Value, b: &Value) -> Result<bool, Error>
     requires { (A < 65536) × (B < 65536) }
-    ensures { IfOk result (λ alike. IsTrue alike ↔ (view a.now ≡ view b.now)) }
+    ensures ok { IfOk result (λ alike. IsTrue alike ↔ (view a.now ≡ view b.now)) }
+    ensures err { IfErr result (λ e. IsListRefusal A (view a.now) e
+        ⊎ (ListsOne A (view a.now) × IsListRefusal B (view b.now) e)) }
 {
     laws::json_unique();
     laws::prefix_free();
