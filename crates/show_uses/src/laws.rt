@@ -1,6 +1,7 @@
 //! A line for each kind of conclusion, on fixed bytes: over any reader, and from the laws.
 use anyhow::Result;
 use multihash::Multihash;
+use serde_json::Value;
 use std::alloc::Global;
 use std::fmt::Write;
 use uses::{any_reader, conclusions};
@@ -90,15 +91,19 @@ fn show_scale(alloc: Global, lines: &mut String) -> Result<()> {
 fn show_listed(alloc: Global, lines: &mut String) -> Result<()> {
     let value = Multihash::<4>::wrap(SHA2_256, &[7, 8])?.to_value(alloc)?;
     let other = Multihash::<4>::wrap(SHA2_256, &[7])?.to_value(alloc)?;
-    let refused = conclusions::listed::<1>(&value).err();
+    write_listed(&value, &other, lines)
+}
+
+fn write_listed(value: &Value, other: &Value, lines: &mut String) -> Result<()> {
+    let refused = conclusions::listed::<1>(value).err();
     writeln!(
         lines,
         "listed: {:?}, {:?}, {:?}, {}, {}",
-        conclusions::listed::<2>(&value)?.digest(),
+        conclusions::listed::<2>(value)?.digest(),
         refused.and_then(|e| e.invalid_size()),
         conclusions::of_listed_bytes::<2>(&[0x12, 2, 7, 8])?.digest(),
-        conclusions::listed_alike::<2, 4>(&value, &value)?,
-        conclusions::listed_alike::<2, 4>(&value, &other)?
+        conclusions::listed_alike::<2, 4>(value, value)?,
+        conclusions::listed_alike::<2, 4>(value, other)?
     )?;
     Ok(())
 }

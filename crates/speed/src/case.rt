@@ -1,5 +1,6 @@
 //! What is measured: an operation at its sizes.
 use crate::operation::Operation;
+use anyhow::{Context, Result};
 use std::alloc::{AllocError, Global};
 use std::fmt;
 
@@ -40,6 +41,20 @@ impl fmt::Display for Case {
 }
 
 impl Case {
+    /// Reads a case of its words.
+    ///
+    /// # Errors
+    ///
+    /// A word that names no operation, and one that is no number.
+    pub fn parse(operation: &str, size: &str, code_len: &str, buffer: &str) -> Result<Self> {
+        Ok(Case {
+            operation: operation.parse::<Operation>()?,
+            size: size.parse::<usize>().context("a digest's size")?,
+            code_len: code_len.parse::<u32>().context("a code's length")?,
+            buffer: buffer.parse::<usize>().context("a buffer's size")?,
+        })
+    }
+
     /// The cases of an operation: each pair of sizes with a code of one byte, and, where codes
     /// matter, a digest of 32 bytes behind each longer code, and one of 64 behind the longest.
     pub fn list(alloc: Global, operation: Operation) -> Result<Vec<Case>, AllocError> {

@@ -19,7 +19,6 @@ mod report;
 mod run;
 
 use crate::case::Case;
-use crate::operation::Operation;
 use anyhow::{Context, Result, bail};
 use std::alloc::Global;
 use std::env;
@@ -27,29 +26,23 @@ use std::time::Clock;
 
 fn main(rt: HostRuntime) -> Result<()> {
     let words: Vec<String> = env::args(&rt)?.skip(1).collect(rt.alloc())?;
-    let text = answer(&rt, rt.alloc(), words.as_slice())?;
+    let mut text = String::new(rt.alloc());
+    answer(&rt, rt.alloc(), words.as_slice(), &mut text)?;
     print!(rt; "{text}")?;
     Ok(())
 }
 
-// What the program prints, by its arguments.
-fn answer<C: Clock>(clock: &C, alloc: Global, words: &[String]) -> Result<String> {
-    let mut out = String::new(alloc);
+// Writes what the program prints, by its arguments.
+fn answer<C: Clock>(clock: &C, alloc: Global, words: &[String], out: &mut String) -> Result<()> {
     match words {
-        [] => report::write_times(clock, alloc, &mut out)?,
-        [word] if word.as_str() == "cases" => report::write_cases(alloc, &mut out)?,
-        [word] if word.as_str() == "check" => report::write_checks(alloc, &mut out)?,
+        [] => report::write_times(clock, alloc, out),
+        [word] if word.as_str() == "cases" => report::write_cases(alloc, out),
+        [word] if word.as_str() == "check" => report::write_checks(alloc, out),
         [operation, size, code_len, buffer, count] => {
-            let case = Case {
-                operation: operation.parse::<Operation>()?,
-                size: size.parse::<usize>().context("a digest's size")?,
-                code_len: code_len.parse::<u32>().context("a code's length")?,
-                buffer: buffer.parse::<usize>().context("a buffer's size")?,
-            };
+            let case = Case::parse(operation, size, code_len, buffer)?;
             let count = count.parse::<u32>().context("a count")?;
-            report::write_sum(alloc, case, count, &mut out)?;
+            report::write_sum(alloc, case, count, out)
         }
         _ => bail!("wanted: no word, cases, check, or OPERATION SIZE CODE_LEN BUFFER COUNT"),
     }
-    Ok(out)
 }

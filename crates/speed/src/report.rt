@@ -38,29 +38,38 @@ pub fn write_checks<W: Write>(alloc: Global, out: &mut W) -> Result<()> {
 fn check(alloc: Global, operation: Operation) -> Result<u64> {
     let mut sum = 0_u64;
     for case in Case::list(alloc, operation)? {
-        let told = Bench::new(alloc, case)?.run(alloc, operation, CHECK_CALLS);
-        sum = sum.wrapping_add(told);
+        sum = sum.wrapping_add(run_case(alloc, case, CHECK_CALLS)?);
     }
     Ok(sum)
 }
 
 /// Makes so many calls of a case, and writes the sum of what they tell.
 pub fn write_sum<W: Write>(alloc: Global, case: Case, count: u32, out: &mut W) -> Result<()> {
-    let sum = Bench::new(alloc, case)?.run(alloc, case.operation, count);
+    let sum = run_case(alloc, case, count)?;
     writeln!(out, "{sum}")?;
     Ok(())
+}
+
+// The sum of what so many calls of a case tell.
+fn run_case(alloc: Global, case: Case, count: u32) -> Result<u64> {
+    Ok(Bench::new(alloc, case)?.run(alloc, case.operation, count))
 }
 
 /// Writes the nanoseconds that a call takes, one case a line.
 pub fn write_times<C: Clock, W: Write>(clock: &C, alloc: Global, out: &mut W) -> Result<()> {
     for operation in Operation::ALL {
         for case in Case::list(alloc, operation)? {
-            let mut bench = Bench::new(alloc, case)?;
-            let tenths = tenths_of_nanoseconds(clock, alloc, &mut bench, operation)?;
+            let tenths = time_case(clock, alloc, case)?;
             writeln!(out, "{case}\t{}.{}", tenths / 10, tenths % 10)?;
         }
     }
     Ok(())
+}
+
+// The tenths of nanoseconds that a call of a case takes.
+fn time_case<C: Clock>(clock: &C, alloc: Global, case: Case) -> Result<u128> {
+    let mut bench = Bench::new(alloc, case)?;
+    tenths_of_nanoseconds(clock, alloc, &mut bench, case.operation)
 }
 
 fn tenths_of_nanoseconds<C: Clock>(

@@ -58,6 +58,10 @@ impl Line {
     /// A line with other columns or a size of buffer that no list has, and want of memory.
     pub fn parse(alloc: Global, text: &str) -> Result<Self> {
         let columns: Vec<&str> = text.split('\t').collect(alloc)?;
+        Self::parse_columns(alloc, columns.as_slice())
+    }
+
+    fn parse_columns(alloc: Global, columns: &[&str]) -> Result<Self> {
         let [
             size,
             input,
@@ -66,15 +70,11 @@ impl Line {
             from_bytes,
             scale_decode,
             scale_taken,
-        ] = columns.as_slice()
+        ] = columns
         else {
             bail!("{} columns", columns.len());
         };
-        let size = size.parse::<usize>().context("a size")?;
-        ensure!(
-            is_known_size(size),
-            "no buffer of size {size}: the sizes are {SIZES}"
-        );
+        let size = parse_size(size)?;
         let input = verdict::parse_bytes(alloc, input)?;
         Ok(Line {
             size,
@@ -85,6 +85,17 @@ impl Line {
             scale_decode: Reading::parse(alloc, scale_decode, scale_taken)?,
         })
     }
+}
+
+fn parse_size(text: &str) -> Result<usize>
+    ensures { IfOk result (λ size. IsTrue (is_size size)) }
+{
+    let size = text.parse::<usize>().context("a size")?;
+    ensure!(
+        is_known_size(size),
+        "no buffer of size {size}: the sizes are {SIZES}"
+    );
+    Ok(size)
 }
 
 // Whether a list may have buffers of this size.
