@@ -43,6 +43,15 @@ const TOO_LARGE: [(u64, &[u8]); 2] = [
     ),
 ];
 
+// The proof goes through a table wherever it is written out, so one function writes out each.
+fn varints() -> [(u64, &'static [u8]); 13] {
+    VARINTS
+}
+
+fn too_large() -> [(u64, &'static [u8]); 2] {
+    TOO_LARGE
+}
+
 // The code alone, with no digest.
 fn expect_code(rt: &impl Abort, m: &Multihash<4>, code: u64) {
     check_eq!(rt; m.code(), code);
@@ -64,7 +73,7 @@ fn expect_code_both_ways(rt: &impl Abort, alloc: Global, value: u64, bytes: &[u8
 #[test]
 fn codes_both_ways(rt: HostRuntime) {
     let rt = &rt;
-    for (value, code) in &VARINTS {
+    for (value, code) in &varints() {
         let mut bytes = expect_ok(rt, code.to_vec(rt.alloc()));
         expect_ok(rt, bytes.push(0));
         expect_code_both_ways(rt, rt.alloc(), *value, &bytes);
@@ -97,7 +106,7 @@ fn expect_varint_written(rt: &impl Abort, alloc: Global, value: u64, bytes: &[u8
 
 #[test]
 fn varints_both_ways(rt: HostRuntime) {
-    for (value, bytes) in &VARINTS {
+    for (value, bytes) in &varints() {
         expect_varint_read(&rt, rt.alloc(), *value, bytes);
         expect_varint_written(&rt, rt.alloc(), *value, bytes);
     }
@@ -164,7 +173,7 @@ fn expect_code_overflows(rt: &impl Abort, bytes: &[u8]) {
 #[test]
 fn larger_codes_have_no_varint(rt: HostRuntime) {
     let rt = &rt;
-    for (value, code) in &TOO_LARGE {
+    for (value, code) in &too_large() {
         let refused = Multihash::<4>::wrap(*value, &[]);
         expect_refused(rt, &refused, Refusal::InvalidCode(*value), *value);
         let mut bytes = expect_ok(rt, code.to_vec(rt.alloc()));
@@ -208,10 +217,10 @@ fn expect_beginnings_alike(rt: &impl Abort, alloc: Global, code: &[u8]) {
 
 #[test]
 fn a_slice_is_read_as_its_bytes_are(rt: HostRuntime) {
-    for (_, code) in &VARINTS {
+    for (_, code) in &varints() {
         expect_beginnings_alike(&rt, rt.alloc(), code);
     }
-    for (_, code) in &TOO_LARGE {
+    for (_, code) in &too_large() {
         expect_beginnings_alike(&rt, rt.alloc(), code);
     }
 }

@@ -15,6 +15,7 @@ use uses::bytes::bytes_back;
 type Want = Result<(u64, &'static [u8]), Refusal>;
 
 /// The bytes that are to be taken.
+#[derive(Clone, Copy)]
 enum Taken {
     /// The first ones, which settle the answer.
     Settled(usize),
@@ -202,6 +203,27 @@ const UP_TO_255: [Row; 2] = [
     ),
 ];
 
+// The proof goes through a table wherever it is written out, so one function writes out each.
+fn up_to_four() -> [Row; 28] {
+    UP_TO_FOUR
+}
+
+fn empty_only() -> [Row; 3] {
+    EMPTY_ONLY
+}
+
+fn up_to_two() -> [Row; 4] {
+    UP_TO_TWO
+}
+
+fn up_to_32() -> [Row; 1] {
+    UP_TO_32
+}
+
+fn up_to_255() -> [Row; 2] {
+    UP_TO_255
+}
+
 // Whether the answer is the one that is wanted.
 fn is_wanted<const S: usize>(want: &Want, answer: &Result<Multihash<S>, Error>) -> bool {
     match (want, answer) {
@@ -245,11 +267,11 @@ fn expect_whole<const S: usize>(rt: &impl Abort, rows: &[Row])
 
 #[test]
 fn verdicts_of_the_whole(rt: HostRuntime) {
-    expect_whole::<4>(&rt, &UP_TO_FOUR);
-    expect_whole::<0>(&rt, &EMPTY_ONLY);
-    expect_whole::<2>(&rt, &UP_TO_TWO);
-    expect_whole::<32>(&rt, &UP_TO_32);
-    expect_whole::<300>(&rt, &UP_TO_255);
+    expect_whole::<4>(&rt, &up_to_four());
+    expect_whole::<0>(&rt, &empty_only());
+    expect_whole::<2>(&rt, &up_to_two());
+    expect_whole::<32>(&rt, &up_to_32());
+    expect_whole::<300>(&rt, &up_to_255());
 }
 
 fn expect_over_slices<const S: usize>(rt: &impl Abort, rows: &[Row])
@@ -266,11 +288,11 @@ fn expect_over_slices<const S: usize>(rt: &impl Abort, rows: &[Row])
 
 #[test]
 fn verdicts_over_slices(rt: HostRuntime) {
-    expect_over_slices::<4>(&rt, &UP_TO_FOUR);
-    expect_over_slices::<0>(&rt, &EMPTY_ONLY);
-    expect_over_slices::<2>(&rt, &UP_TO_TWO);
-    expect_over_slices::<32>(&rt, &UP_TO_32);
-    expect_over_slices::<300>(&rt, &UP_TO_255);
+    expect_over_slices::<4>(&rt, &up_to_four());
+    expect_over_slices::<0>(&rt, &empty_only());
+    expect_over_slices::<2>(&rt, &up_to_two());
+    expect_over_slices::<32>(&rt, &up_to_32());
+    expect_over_slices::<300>(&rt, &up_to_255());
 }
 
 fn expect_over_cuts<const S: usize>(rt: &impl Abort, rows: &[Row])
@@ -288,11 +310,11 @@ fn expect_over_cuts<const S: usize>(rt: &impl Abort, rows: &[Row])
 
 #[test]
 fn verdicts_over_cuts(rt: HostRuntime) {
-    expect_over_cuts::<4>(&rt, &UP_TO_FOUR);
-    expect_over_cuts::<0>(&rt, &EMPTY_ONLY);
-    expect_over_cuts::<2>(&rt, &UP_TO_TWO);
-    expect_over_cuts::<32>(&rt, &UP_TO_32);
-    expect_over_cuts::<300>(&rt, &UP_TO_255);
+    expect_over_cuts::<4>(&rt, &up_to_four());
+    expect_over_cuts::<0>(&rt, &empty_only());
+    expect_over_cuts::<2>(&rt, &up_to_two());
+    expect_over_cuts::<32>(&rt, &up_to_32());
+    expect_over_cuts::<300>(&rt, &up_to_255());
 }
 
 // The bytes that settle the answer give it whatever follows.
@@ -344,11 +366,11 @@ fn expect_all_settled<const S: usize>(rt: &impl Abort, alloc: Global, rows: &[Ro
 
 #[test]
 fn settled_after(rt: HostRuntime) {
-    expect_all_settled::<4>(&rt, rt.alloc(), &UP_TO_FOUR);
-    expect_all_settled::<0>(&rt, rt.alloc(), &EMPTY_ONLY);
-    expect_all_settled::<2>(&rt, rt.alloc(), &UP_TO_TWO);
-    expect_all_settled::<32>(&rt, rt.alloc(), &UP_TO_32);
-    expect_all_settled::<300>(&rt, rt.alloc(), &UP_TO_255);
+    expect_all_settled::<4>(&rt, rt.alloc(), &up_to_four());
+    expect_all_settled::<0>(&rt, rt.alloc(), &empty_only());
+    expect_all_settled::<2>(&rt, rt.alloc(), &up_to_two());
+    expect_all_settled::<32>(&rt, rt.alloc(), &up_to_32());
+    expect_all_settled::<300>(&rt, rt.alloc(), &up_to_255());
 }
 
 fn expect_pair_back(rt: &impl Abort, alloc: Global, code: u64, digest: &[u8]) {
@@ -360,7 +382,7 @@ fn expect_pair_back(rt: &impl Abort, alloc: Global, code: u64, digest: &[u8]) {
 
 #[test]
 fn accepted_pairs_come_back(rt: HostRuntime) {
-    for (_, _, _, want) in &UP_TO_FOUR {
+    for (_, _, _, want) in &up_to_four() {
         if let Ok((code, digest)) = want {
             expect_pair_back(&rt, rt.alloc(), *code, digest);
         }
