@@ -23,7 +23,9 @@ macro_rules! check_eq {
         $crate::expect::expect_equal($rt, $left, $right, stringify!($left))
     };
     ($rt:expr; $left:expr, $right:expr, $note:expr $(,)?) => {
-        $crate::expect::expect_equal_at($rt, $left, $right, concat!(stringify!($left), ", ", stringify!($note)), $note)
+        $crate::expect::expect_equal_at(
+            $rt, $left, $right, concat!(stringify!($left), ", ", stringify!($note)), $note
+        )
     };
 }
 
