@@ -1,8 +1,10 @@
 //! The longest and the shortest digests, and each beginning of a long form.
-use crate::expect::{check, check_eq};
+use crate::expect::{check, check_eq, expect_ok, expect_refused};
+use crate::reading::{decode_slice, read_slice};
 use fakes::refusal::{Refusal, is_refused};
 use multihash::Multihash;
-use std::test::Fail;
+use std::alloc::Global;
+use std::process::Abort;
 
 const ZEROS: [u8; 256] = [0; 256];
 
@@ -16,38 +18,43 @@ const ROWS: [Row; 4] = [
     (255, &[0, 255, 1], 258, 264),
 ];
 
-#[test]
-fn lengths_of_forms(rt: HostRuntime) -> Result<(), Fail> {
-    for (n, front, encoded, scale) in ROWS {
-        // not `check!`, which tells the proof nothing
-        assert!(rt; n <= 256);
-        let m = Multihash::<300>::wrap(0, &ZEROS[..n])?;
-        let bytes = m.to_bytes(rt.alloc())?;
-        check!(rt; bytes.starts_with(front), "{n} zeros");
-        check_eq!(rt; (m.encoded_len(), bytes.len()), (encoded, encoded));
-        let mut written = Vec::new(rt.alloc());
-        check_eq!(rt; m.scale_encode(&mut written)?, scale);
-        check_eq!(rt; written.len(), scale);
-    }
-    check!(rt;
-        is_refused(
-            &Multihash::<300>::wrap(0, &ZEROS),
-            Refusal::InvalidSize(256)
-        )
-    );
-    check!(rt;
-        is_refused(
-            &Multihash::<128>::wrap(0, &ZEROS[..129]),
-            Refusal::InvalidSize(129)
-        )
-    );
-    Ok(())
+fn expect_lengths(rt: &impl Abort, alloc: Global, zeros: &[u8], row: &Row) {
+    let (n, front, encoded, scale) = *row;
+    let m = expect_ok(rt, Multihash::<300>::wrap(0, zeros));
+    let bytes = expect_ok(rt, m.to_bytes(alloc));
+    check!(rt; bytes.starts_with(front), n);
+    check_eq!(rt; m.encoded_len(), encoded, n);
+    check_eq!(rt; bytes.len(), encoded, n);
+    let mut written = Vec::new(alloc);
+    check_eq!(rt; expect_ok(rt, m.scale_encode(&mut written)), scale, n);
+    check_eq!(rt; written.len(), scale, n);
 }
 
 #[test]
-fn beginnings_of_a_long_encoding(rt: HostRuntime) -> Result<(), Fail> {
-    let m = Multihash::<200>::wrap(300, &[65; 200])?;
-    let bytes = m.to_bytes(rt.alloc())?;
+fn lengths_of_forms(rt: HostRuntime) {
+    let rt = &rt;
+    for row in &ROWS {
+        // not `check!`, which tells the proof nothing
+        assert!(rt; row.0 <= 256);
+        expect_lengths(rt, rt.alloc(), &ZEROS[..row.0], row);
+    }
+    let long = Multihash::<300>::wrap(0, &ZEROS);
+    check!(rt; is_refused(&long, Refusal::InvalidSize(256)));
+    let long = Multihash::<128>::wrap(0, &ZEROS[..129]);
+    check!(rt; is_refused(&long, Refusal::InvalidSize(129)));
+}
+
+fn expect_early(rt: &impl Abort, bytes: &[u8], why: Refusal) {
+    expect_refused(rt, &Multihash::<200>::from_bytes(bytes), why, bytes);
+    expect_refused(rt, &read_slice::<200>(bytes).0, why, bytes);
+}
+
+#[test]
+fn beginnings_of_a_long_encoding(rt: HostRuntime) {
+    let rt = &rt;
+    let m = &expect_ok(rt, Multihash::<200>::wrap(300, &[65; 200]));
+    let bytes = expect_ok(rt, m.to_bytes(rt.alloc()));
+    let bytes = bytes.as_slice();
     check_eq!(rt; bytes.len(), 204);
     for len in 0..bytes.len() {
         let early = if len < 4 {
@@ -55,26 +62,24 @@ fn beginnings_of_a_long_encoding(rt: HostRuntime) -> Result<(), Fail> {
         } else {
             Refusal::UnexpectedEof
         };
-        let answer = Multihash::<200>::from_bytes(&bytes[..len]);
-        check!(rt; is_refused(&answer, early), "{len} bytes");
-        let answer = Multihash::<200>::read(&mut &bytes[..len]);
-        check!(rt; is_refused(&answer, early), "{len} bytes");
+        expect_early(rt, &bytes[..len], early);
     }
-    check_eq!(rt; Multihash::from_bytes(&bytes)?, m);
-    check_eq!(rt; Multihash::read(&mut bytes.as_slice())?, m);
-    Ok(())
+    check_eq!(rt; &expect_ok(rt, Multihash::from_bytes(bytes)), m);
+    check_eq!(rt; &expect_ok(rt, read_slice(bytes).0), m);
 }
 
 #[test]
-fn beginnings_of_a_long_scale_form(rt: HostRuntime) -> Result<(), Fail> {
-    let m = Multihash::<200>::wrap(300, &[65; 200])?;
+fn beginnings_of_a_long_scale_form(rt: HostRuntime) {
+    let rt = &rt;
+    let m = &expect_ok(rt, Multihash::<200>::wrap(300, &[65; 200]));
     let mut bytes = Vec::new(rt.alloc());
-    check_eq!(rt; m.scale_encode(&mut bytes)?, 209);
+    check_eq!(rt; expect_ok(rt, m.scale_encode(&mut bytes)), 209);
+    let bytes = bytes.as_slice();
     check_eq!(rt; bytes.len(), 209);
     for len in 0..bytes.len() {
-        let answer = Multihash::<200>::scale_decode(&mut &bytes[..len]);
-        check!(rt; is_refused(&answer, Refusal::UnexpectedEof), "{len} bytes");
+        let front = &bytes[..len];
+        let answer = decode_slice::<200>(front).0;
+        expect_refused(rt, &answer, Refusal::UnexpectedEof, front);
     }
-    check_eq!(rt; Multihash::scale_decode(&mut bytes.as_slice())?, m);
-    Ok(())
+    check_eq!(rt; &expect_ok(rt, decode_slice(bytes).0), m);
 }

@@ -1,8 +1,9 @@
 //! Multihashes that pass from one form to another.
-use crate::expect::{check, check_eq};
+use crate::expect::{check, check_eq, expect_ok};
 use fakes::refusal::{LARGEST_CODE, Refusal, is_refused};
 use multihash::Multihash;
-use std::test::Fail;
+use std::alloc::Global;
+use std::process::Abort;
 use uses::forms::{Form, form_back, forms_back};
 
 const DIGEST: [u8; 32] = [
@@ -12,8 +13,20 @@ const DIGEST: [u8; 32] = [
 
 const FORMS: [Form; 3] = [Form::Binary, Form::Scale, Form::Json];
 
+fn expect_through(rt: &impl Abort, alloc: Global, code: u64, digest: &[u8]) {
+    let m = expect_ok(rt, Multihash::<32>::wrap(code, digest));
+    for first in FORMS {
+        for second in FORMS {
+            let answer = forms_back::<32, 64, 128>(alloc, first, second, &m);
+            let (between, back) = expect_ok(rt, answer);
+            check!(rt; between.same_as(&m), (first, digest));
+            check_eq!(rt; (back.code(), back.digest()), (code, digest), second);
+        }
+    }
+}
+
 #[test]
-fn from_form_to_form(rt: HostRuntime) -> Result<(), Fail> {
+fn from_form_to_form(rt: HostRuntime) {
     for (code, digest) in [
         (0, b"A".as_slice()),
         (18, b"B"),
@@ -21,40 +34,37 @@ fn from_form_to_form(rt: HostRuntime) -> Result<(), Fail> {
         (18, &DIGEST),
         (LARGEST_CODE, b""),
     ] {
-        let m = Multihash::<32>::wrap(code, digest)?;
-        for first in FORMS {
-            for second in FORMS {
-                let (between, back) = forms_back::<32, 64, 128>(rt.alloc(), first, second, &m)?;
-                check!(rt; between.same_as(&m), "{first:?} of {digest:?}");
-                check_eq!(rt; (back.code(), back.digest()), (code, digest), "{second:?}");
-            }
+        expect_through(&rt, rt.alloc(), code, digest);
+    }
+}
+
+fn expect_full_through(rt: &impl Abort, alloc: Global, m: &Multihash<128>) {
+    for first in FORMS {
+        for second in FORMS {
+            let answer = forms_back::<128, 128, 128>(alloc, first, second, m);
+            let (between, back) = expect_ok(rt, answer);
+            check!(rt; between == *m && back == *m, (first, second));
         }
     }
-    Ok(())
 }
 
 #[test]
-fn full_digests_pass_through_forms(rt: HostRuntime) -> Result<(), Fail> {
+fn full_digests_pass_through_forms(rt: HostRuntime) {
     let digest = [7; 128];
     for code in [0, 72057594037927936, LARGEST_CODE] {
-        let m = Multihash::<128>::wrap(code, &digest)?;
-        for first in FORMS {
-            for second in FORMS {
-                let (between, back) = forms_back::<128, 128, 128>(rt.alloc(), first, second, &m)?;
-                check!(rt; between == m && back == m, "{first:?}, {second:?}");
-            }
-        }
+        let m = expect_ok(&rt, Multihash::<128>::wrap(code, &digest));
+        expect_full_through(&rt, rt.alloc(), &m);
     }
-    Ok(())
 }
 
 #[test]
-fn a_smaller_buffer_refuses_each_form(rt: HostRuntime) -> Result<(), Fail> {
-    let m = Multihash::<6>::wrap(18, b"foobar")?;
+fn a_smaller_buffer_refuses_each_form(rt: HostRuntime) {
+    let rt = &rt;
+    let m = &expect_ok(rt, Multihash::<6>::wrap(18, b"foobar"));
     for form in FORMS {
-        check!(rt; form_back::<6, 6>(rt.alloc(), form, &m)? == m);
-        let refused = form_back::<6, 5>(rt.alloc(), form, &m);
-        check!(rt; is_refused(&refused, Refusal::InvalidSize(6)), "{form:?}");
+        let back = expect_ok(rt, form_back::<6, 6>(rt.alloc(), form, m));
+        check!(rt; back == *m, form);
+        let refused = form_back::<6, 5>(rt.alloc(), form, m);
+        check!(rt; is_refused(&refused, Refusal::InvalidSize(6)), form);
     }
-    Ok(())
 }

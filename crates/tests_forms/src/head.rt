@@ -1,22 +1,30 @@
 //! What begins an encoding.
-use crate::expect::{check, check_eq};
-use fakes::refusal::{Refusal, is_refused};
+use crate::expect::{check_eq, expect_ok, expect_refused};
+use fakes::refusal::Refusal;
 use multihash::Head;
+use std::process::Abort;
+
+fn expect_head(rt: &impl Abort, input: &[u8], want: Head) {
+    check_eq!(rt; expect_ok(rt, Head::read_front(input)), want, input);
+}
+
+fn expect_none(rt: &impl Abort, input: &[u8], why: Refusal) {
+    expect_refused(rt, &Head::read_front(input), why, input);
+}
 
 #[test]
 fn head_of_an_encoding(rt: HostRuntime) {
+    let rt = &rt;
     let want = Head {
         code: 300,
         size: 32,
         len: 3,
     };
-    for input in [b"\xac\x02\x20".as_slice(), b"\xac\x02\x20\x64\x4b"] {
-        let head = Head::read_front(input).expect(&rt, "two varints");
-        check!(rt; head == want, "{input:?}");
-    }
-    let long = Head::read_front(b"\x01\x80\x04").expect(&rt, "two varints");
+    expect_head(rt, b"\xac\x02\x20", want);
+    expect_head(rt, b"\xac\x02\x20\x64\x4b", want);
+    let long = expect_ok(rt, Head::read_front(b"\x01\x80\x04"));
     check_eq!(rt; long.size, 512);
-    check!(rt; is_refused(&Head::read_front(b"\xac\x02"), Refusal::Insufficient));
-    check!(rt; is_refused(&Head::read_front(b"\xac\x02\xa0\x00"), Refusal::NotMinimal));
-    check!(rt; is_refused(&Head::read_front(&[0xff; 9]), Refusal::Overflow));
+    expect_none(rt, b"\xac\x02", Refusal::Insufficient);
+    expect_none(rt, b"\xac\x02\xa0\x00", Refusal::NotMinimal);
+    expect_none(rt, &[0xff; 9], Refusal::Overflow);
 }

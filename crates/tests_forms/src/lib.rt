@@ -12,6 +12,8 @@ mod head;
 #[cfg(test)]
 mod json;
 #[cfg(test)]
+mod reading;
+#[cfg(test)]
 mod readme;
 #[cfg(test)]
 mod scale;

@@ -1,62 +1,73 @@
 //! Worked values of the SCALE form.
 ghost use Rattle.std.specs.Prelude.{◌<◌, ◌^◌};
 
-use crate::expect::{check, check_eq, expect_bytes};
+use crate::expect::{check, check_eq, expect_bytes, expect_ok};
+use crate::reading::decode_slice;
 use fakes::readers::{Cuts, Silent};
 use fakes::refusal::{LARGEST_CODE, Refusal, is_refused};
 use multihash::{Error, Multihash};
 use std::alloc::Global;
 use std::process::Abort;
-use std::test::Fail;
 use uses::forms::{fills_scale, scale_back};
 
 const HELLO: [u8; 20] = [
     0, 0, 0, 0, 0, 0, 0, 0, 11, 104, 101, 108, 108, 111, 32, 119, 111, 114, 108, 100,
 ];
 
-#[test]
-fn a_text_in_two_buffers(rt: HostRuntime) -> Result<(), Fail> {
-    let small = Multihash::<32>::wrap(0, b"hello world")?;
-    let large = Multihash::<64>::wrap(0, b"hello world")?;
-    let mut bytes = Vec::new(rt.alloc());
-    check_eq!(rt; small.scale_encode(&mut bytes)?, 20);
-    check_eq!(rt; large.scale_encode(&mut bytes)?, 20);
-    expect_bytes(&rt, &bytes[..20], &HELLO);
-    expect_bytes(&rt, &bytes[20..], &HELLO);
-    let mut alone = Vec::new(rt.alloc());
-    check_eq!(rt; large.scale_encode(&mut alone)?, 20);
-    expect_bytes(&rt, &alone, &HELLO);
-    let mut left = bytes.as_slice();
-    check_eq!(rt; Multihash::scale_decode(&mut left)?, small);
-    check_eq!(rt; Multihash::scale_decode(&mut left)?, large);
-    check!(rt; left.is_empty());
-    let mut left = HELLO.as_slice();
-    let refused = Multihash::<2>::scale_decode(&mut left);
-    check!(rt; is_refused(&refused, Refusal::InvalidSize(11)));
-    expect_bytes(&rt, left, b"hello world");
-    Ok(())
+fn expect_encoded<const S: usize>(rt: &impl Abort, m: &Multihash<S>, bytes: &mut Vec<u8>)
+    requires { S < 2 ^ 16 }
+{
+    check_eq!(rt; expect_ok(rt, m.scale_encode(bytes)), 20);
 }
 
-fn expect_written<const S: usize, R: Abort>(
-    rt: &R,
+#[test]
+fn a_text_in_two_buffers(rt: HostRuntime) {
+    let rt = &rt;
+    let small = &expect_ok(rt, Multihash::<32>::wrap(0, b"hello world"));
+    let large = &expect_ok(rt, Multihash::<64>::wrap(0, b"hello world"));
+    let mut bytes = Vec::new(rt.alloc());
+    expect_encoded(rt, small, &mut bytes);
+    expect_encoded(rt, large, &mut bytes);
+    expect_halves(rt, &bytes);
+    let mut alone = Vec::new(rt.alloc());
+    expect_encoded(rt, large, &mut alone);
+    expect_bytes(rt, &alone, &HELLO);
+    let (first, left) = decode_slice(&bytes);
+    check_eq!(rt; &expect_ok(rt, first), small);
+    let (second, left) = decode_slice(left);
+    check_eq!(rt; &expect_ok(rt, second), large);
+    check!(rt; left.is_empty());
+    let (refused, left) = decode_slice::<2>(&HELLO);
+    check!(rt; is_refused(&refused, Refusal::InvalidSize(11)));
+    expect_bytes(rt, left, b"hello world");
+}
+
+fn expect_halves(rt: &impl Abort, bytes: &[u8]) {
+    // not `check!`, which tells the proof nothing
+    assert!(rt; bytes.len() >= 20);
+    expect_bytes(rt, &bytes[..20], &HELLO);
+    expect_bytes(rt, &bytes[20..], &HELLO);
+}
+
+fn expect_written<const S: usize>(
+    rt: &impl Abort,
     alloc: Global,
     code: u64,
     digest: &[u8],
     wanted: &[u8],
-) -> Result<(), Fail>
+)
     requires { S < 2 ^ 16 }
 {
-    let m = Multihash::<S>::wrap(code, digest)?;
+    let m = expect_ok(rt, Multihash::<S>::wrap(code, digest));
     let mut bytes = Vec::new(alloc);
-    check_eq!(rt; m.scale_encode(&mut bytes)?, wanted.len());
+    check_eq!(rt; expect_ok(rt, m.scale_encode(&mut bytes)), wanted.len());
     expect_bytes(rt, &bytes, wanted);
-    let (back, is_left) = scale_back::<S, 255>(alloc, &m, b"more")?;
+    let (back, is_left) = expect_ok(rt, scale_back::<S, 255>(alloc, &m, b"more"));
     check!(rt; is_left && back.same_as(&m));
-    Ok(())
 }
 
 #[test]
-fn pairs_are_written(rt: HostRuntime) -> Result<(), Fail> {
+fn pairs_are_written(rt: HostRuntime) {
     for (code, digest, wanted) in [
         (
             72623859790382856,
@@ -70,9 +81,9 @@ fn pairs_are_written(rt: HostRuntime) -> Result<(), Fail> {
         ),
         (18, b"B", &[18, 0, 0, 0, 0, 0, 0, 0, 1, 66]),
     ] {
-        expect_written::<4, _>(&rt, rt.alloc(), code, digest, wanted)?;
+        expect_written::<4>(&rt, rt.alloc(), code, digest, wanted);
     }
-    expect_written::<32, _>(&rt, rt.alloc(), 0, b"hello world", &HELLO)
+    expect_written::<32>(&rt, rt.alloc(), 0, b"hello world", &HELLO);
 }
 
 /// What decoding answers: a pair, or a refusal.
@@ -145,34 +156,55 @@ const UP_TO_FOUR: [Row; 15] = [
 ];
 
 // Whether the answer is the one that is wanted.
-fn is_wanted<const S: usize>(want: Want, answer: &Result<Multihash<S>, Error>) -> bool {
+fn is_wanted<const S: usize>(want: &Want, answer: &Result<Multihash<S>, Error>) -> bool {
     match (want, answer) {
-        (Ok((code, digest)), Ok(m)) => m.code() == code && m.digest() == digest,
-        (Err(why), _) => is_refused(answer, why),
+        (Ok((code, digest)), Ok(m)) => m.code() == *code && m.digest() == *digest,
+        (Err(why), _) => is_refused(answer, *why),
         _ => false,
     }
 }
 
 // Whether so many bytes of the input are left, where that is said.
-fn is_left(wanted: Option<usize>, input: &[u8], left: &[u8]) -> bool {
-    input.ends_with(left) && wanted.map_or(true, |n| n == left.len())
+fn is_left(wanted: &Option<usize>, input: &[u8], left: &[u8]) -> bool {
+    input.ends_with(left)
+        && match wanted {
+            Some(n) => *n == left.len(),
+            None => true,
+        }
+}
+
+fn expect_answer<const S: usize>(
+    rt: &impl Abort,
+    row: &Row,
+    answer: &Result<Multihash<S>, Error>,
+    left: &[u8],
+)
+    requires { S < 2 ^ 16 }
+{
+    let (input, want, wanted) = row;
+    check!(rt; is_wanted(want, answer), (answer, input));
+    check!(rt; is_left(wanted, input, left), (left, input));
+}
+
+fn expect_over_cuts<const S: usize>(rt: &impl Abort, row: &Row, most: usize)
+    requires size { S < 2 ^ 16 }
+    requires most { 0 < most }
+{
+    let mut reader = Cuts::new(row.0, most);
+    let answer = Multihash::<S>::scale_decode(&mut reader);
+    expect_answer(rt, row, &answer, reader.left);
 }
 
 fn expect_rows<const S: usize>(rt: &impl Abort, rows: &[Row])
     requires { S < 2 ^ 16 }
 {
-    for (input, want, wanted) in rows {
-        let mut left = *input;
-        let answer = Multihash::<S>::scale_decode(&mut left);
-        check!(rt; is_wanted(*want, &answer), "{answer:?} for {input:?}");
-        check!(rt; is_left(*wanted, input, left), "{left:?} of {input:?}");
-        let answer = Multihash::<S>::scale_decode(&mut Silent(input));
-        check!(rt; is_wanted(*want, &answer), "{answer:?} for {input:?}");
+    for row in rows {
+        let (answer, left) = decode_slice::<S>(row.0);
+        expect_answer(rt, row, &answer, left);
+        let answer = Multihash::<S>::scale_decode(&mut Silent(row.0));
+        check!(rt; is_wanted(&row.1, &answer), (&answer, row.0));
         for most in [1, 2, 3, 4, 7] {
-            let mut reader = Cuts::new(input, most);
-            let answer = Multihash::<S>::scale_decode(&mut reader);
-            check!(rt; is_wanted(*want, &answer), "{answer:?} for {input:?}");
-            check!(rt; is_left(*wanted, input, reader.left), "of {input:?}");
+            expect_over_cuts::<S>(rt, row, most);
         }
     }
 }
@@ -202,13 +234,13 @@ fn inputs_are_read(rt: HostRuntime) {
 }
 
 #[test]
-fn slices_that_fit_and_that_do_not(rt: HostRuntime) -> Result<(), Fail> {
-    let m = Multihash::<4>::wrap(300, b"AB")?;
+fn slices_that_fit_and_that_do_not(rt: HostRuntime) {
+    let rt = &rt;
+    let m = expect_ok(rt, Multihash::<4>::wrap(300, b"AB"));
     let mut places = [7u8; 12];
     check_eq!(rt; fills_scale(&m, &mut places), (true, 1));
-    expect_bytes(&rt, &places, &[44, 1, 0, 0, 0, 0, 0, 0, 2, 65, 66, 7]);
+    expect_bytes(rt, &places, &[44, 1, 0, 0, 0, 0, 0, 0, 2, 65, 66, 7]);
     let mut places = [7u8; 10];
     check_eq!(rt; fills_scale(&m, &mut places), (false, 0));
-    expect_bytes(&rt, &places, &[44, 1, 0, 0, 0, 0, 0, 0, 2, 65]);
-    Ok(())
+    expect_bytes(rt, &places, &[44, 1, 0, 0, 0, 0, 0, 0, 2, 65]);
 }

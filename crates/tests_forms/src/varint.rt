@@ -1,11 +1,11 @@
 //! Varints, both ways.
-use crate::expect::{check, check_eq, expect_bytes};
+use crate::expect::{check, check_eq, expect_bytes, expect_ok, expect_refused};
+use crate::reading::read_slice;
 use fakes::readers::{Counts, Cuts};
-use fakes::refusal::{Refusal, is_refused};
-use multihash::{Multihash, varint};
+use fakes::refusal::Refusal;
+use multihash::{Error, Multihash, varint};
 use std::alloc::Global;
 use std::process::Abort;
-use std::test::Fail;
 use uses::bytes::bytes_back;
 use uses::parts::{PartError, first_part};
 
@@ -43,42 +43,73 @@ const TOO_LARGE: [(u64, &[u8]); 2] = [
     ),
 ];
 
-#[test]
-fn codes_both_ways(rt: HostRuntime) -> Result<(), Fail> {
-    for (value, code) in VARINTS {
-        let mut bytes = code.to_vec(rt.alloc())?;
-        bytes.push(0)?;
-        let m = Multihash::<4>::wrap(value, &[])?;
-        expect_bytes(&rt, &m.to_bytes(rt.alloc())?, &bytes);
-        check_eq!(rt; m.encoded_len(), bytes.len());
-        let read = Multihash::<4>::from_bytes(&bytes)?;
-        check_eq!(rt; read.code(), value);
-        check!(rt; read.digest().is_empty());
-        let mut reader = Cuts::new(&bytes, 1);
-        check!(rt; Multihash::<4>::read(&mut reader)? == read, "at {value}");
-        check!(rt; reader.left.is_empty());
-        let back: Multihash<4> = bytes_back(rt.alloc(), &read)?;
-        check_eq!(rt; back.code(), value);
-        check!(rt; back.digest().is_empty());
-    }
-    Ok(())
+// The proof goes through a table wherever it is written out, so one function writes out each.
+fn varints() -> [(u64, &'static [u8]); 13] {
+    VARINTS
+}
+
+fn too_large() -> [(u64, &'static [u8]); 2] {
+    TOO_LARGE
+}
+
+// The code alone, with no digest.
+fn expect_code(rt: &impl Abort, m: &Multihash<4>, code: u64) {
+    check_eq!(rt; m.code(), code);
+    check!(rt; m.digest().is_empty(), code);
+}
+
+fn expect_code_both_ways(rt: &impl Abort, alloc: Global, value: u64, bytes: &[u8]) {
+    let m = expect_ok(rt, Multihash::<4>::wrap(value, &[]));
+    expect_bytes(rt, &expect_ok(rt, m.to_bytes(alloc)), bytes);
+    check_eq!(rt; m.encoded_len(), bytes.len(), value);
+    let whole = &expect_ok(rt, Multihash::<4>::from_bytes(bytes));
+    expect_code(rt, whole, value);
+    let mut reader = Cuts::new(bytes, 1);
+    check_eq!(rt; &expect_ok(rt, Multihash::<4>::read(&mut reader)), whole, value);
+    check!(rt; reader.left.is_empty(), value);
+    expect_code(rt, &expect_ok(rt, bytes_back(alloc, whole)), value);
 }
 
 #[test]
-fn varints_both_ways(rt: HostRuntime) -> Result<(), Fail> {
-    for (value, bytes) in VARINTS {
-        let mut left = bytes;
-        check_eq!(rt; varint::read(&mut left)?, value);
-        check!(rt; left.is_empty(), "at {value}");
-        let mut followed = bytes.to_vec(rt.alloc())?;
-        followed.push(7)?;
-        check_eq!(rt; varint::read_front(&followed)?, (value, bytes.len()));
-        check_eq!(rt; varint::len(value)?, bytes.len());
-        let mut written = Vec::new(rt.alloc());
-        check_eq!(rt; varint::write(value, &mut written)?, bytes.len());
-        expect_bytes(&rt, &written, bytes);
+fn codes_both_ways(rt: HostRuntime) {
+    let rt = &rt;
+    for (value, code) in &varints() {
+        let mut bytes = expect_ok(rt, code.to_vec(rt.alloc()));
+        expect_ok(rt, bytes.push(0));
+        expect_code_both_ways(rt, rt.alloc(), *value, &bytes);
     }
-    Ok(())
+}
+
+// What `varint::read` answers over a slice, and what it leaves of it.
+fn read_varint(bytes: &[u8]) -> (Result<u64, Error>, &[u8]) {
+    let mut left = bytes;
+    let answer = varint::read(&mut left);
+    (answer, left)
+}
+
+fn expect_varint_read(rt: &impl Abort, alloc: Global, value: u64, bytes: &[u8]) {
+    let (read, left) = read_varint(bytes);
+    check_eq!(rt; expect_ok(rt, read), value);
+    check!(rt; left.is_empty(), value);
+    let mut followed = expect_ok(rt, bytes.to_vec(alloc));
+    expect_ok(rt, followed.push(7));
+    let front = expect_ok(rt, varint::read_front(&followed));
+    check_eq!(rt; front, (value, bytes.len()));
+}
+
+fn expect_varint_written(rt: &impl Abort, alloc: Global, value: u64, bytes: &[u8]) {
+    check_eq!(rt; expect_ok(rt, varint::len(value)), bytes.len(), value);
+    let mut written = Vec::new(alloc);
+    check_eq!(rt; expect_ok(rt, varint::write(value, &mut written)), bytes.len(), value);
+    expect_bytes(rt, &written, bytes);
+}
+
+#[test]
+fn varints_both_ways(rt: HostRuntime) {
+    for (value, bytes) in &varints() {
+        expect_varint_read(&rt, rt.alloc(), *value, bytes);
+        expect_varint_written(&rt, rt.alloc(), *value, bytes);
+    }
 }
 
 // What 2^63 and 2^64 - 1 would be as ten bytes, and nine marked bytes before a zero or another.
@@ -89,108 +120,109 @@ const TOO_LONG: [[u8; 10]; 4] = [
     [0x80, 0x80, 0x80, 0x80, 0x80, 0x80, 0x80, 0x80, 0x80, 0x80],
 ];
 
+fn expect_whole_refused(rt: &impl Abort, bytes: &[u8], why: Refusal) {
+    expect_refused(rt, &Multihash::<4>::from_bytes(bytes), why, bytes);
+}
+
+fn expect_overflow(rt: &impl Abort, bytes: &[u8; 10]) {
+    let (read, left) = read_varint(bytes);
+    expect_refused(rt, &read, Refusal::Overflow, bytes);
+    expect_bytes(rt, left, &bytes[9..]);
+    expect_refused(rt, &varint::read_front(bytes), Refusal::Overflow, bytes);
+    expect_whole_refused(rt, bytes, Refusal::Overflow);
+    expect_whole_refused(rt, &bytes[..9], Refusal::Overflow);
+    expect_whole_refused(rt, &bytes[..8], Refusal::Insufficient);
+}
+
 #[test]
 fn ninth_marked_byte_overflows(rt: HostRuntime) {
-    for bytes in TOO_LONG {
-        let mut left: &[u8] = &bytes;
-        let read = varint::read(&mut left);
-        check!(rt; is_refused(&read, Refusal::Overflow), "{bytes:?}");
-        expect_bytes(&rt, left, &bytes[9..]);
-        let front = varint::read_front(&bytes);
-        check!(rt; is_refused(&front, Refusal::Overflow), "{bytes:?}");
-        let whole = Multihash::<4>::from_bytes(&bytes);
-        check!(rt; is_refused(&whole, Refusal::Overflow), "{bytes:?}");
-        let nine = Multihash::<4>::from_bytes(&bytes[..9]);
-        check!(rt; is_refused(&nine, Refusal::Overflow), "{bytes:?}");
-        let eight = Multihash::<4>::from_bytes(&bytes[..8]);
-        check!(rt; is_refused(&eight, Refusal::Insufficient), "{bytes:?}");
+    for bytes in &TOO_LONG {
+        expect_overflow(&rt, bytes);
     }
 }
 
 #[test]
-fn largest_number_has_nine_bytes(rt: HostRuntime) -> Result<(), Fail> {
+fn largest_number_has_nine_bytes(rt: HostRuntime) {
+    let rt = &rt;
     check_eq!(rt; varint::MAX, 9223372036854775807);
-    check_eq!(rt; varint::len(varint::MAX)?, 9);
-    check_eq!(rt; varint::len(72057594037927935)?, 8);
-    Ok(())
+    check_eq!(rt; expect_ok(rt, varint::len(varint::MAX)), 9);
+    check_eq!(rt; expect_ok(rt, varint::len(72057594037927935)), 8);
 }
 
 #[test]
 fn larger_numbers_have_no_varint(rt: HostRuntime) {
+    let rt = &rt;
     for number in [varint::MAX + 1, u64::MAX] {
         let why = Refusal::InvalidCode(number);
         let mut written = Vec::new(rt.alloc());
-        check!(rt; is_refused(&varint::write(number, &mut written), why));
-        check!(rt; written.is_empty());
-        check!(rt; is_refused(&varint::len(number), why));
+        expect_refused(rt, &varint::write(number, &mut written), why, number);
+        check!(rt; written.is_empty(), number);
+        expect_refused(rt, &varint::len(number), why, number);
     }
 }
 
+// The ten bytes that a code would have, and behind them the size 0.
+fn expect_code_overflows(rt: &impl Abort, bytes: &[u8]) {
+    expect_whole_refused(rt, bytes, Refusal::Overflow);
+    let mut reader = Cuts::new(bytes, 1);
+    let read = Multihash::<4>::read(&mut reader);
+    expect_refused(rt, &read, Refusal::Overflow, bytes);
+    expect_bytes(rt, reader.left, &[1, 0]);
+}
+
 #[test]
-fn larger_codes_have_no_varint(rt: HostRuntime) -> Result<(), Fail> {
-    for (value, code) in TOO_LARGE {
-        let refused = Multihash::<4>::wrap(value, &[]);
-        check!(rt;
-            is_refused(&refused, Refusal::InvalidCode(value)),
-            "at {value}"
-        );
-        let mut bytes = code.to_vec(rt.alloc())?;
-        bytes.push(0)?;
-        let whole = Multihash::<4>::from_bytes(&bytes);
-        check!(rt; is_refused(&whole, Refusal::Overflow), "at {value}");
-        let mut reader = Cuts::new(&bytes, 1);
-        let read = Multihash::<4>::read(&mut reader);
-        check!(rt; is_refused(&read, Refusal::Overflow), "at {value}");
-        expect_bytes(&rt, reader.left, &[1, 0]);
+fn larger_codes_have_no_varint(rt: HostRuntime) {
+    let rt = &rt;
+    for (value, code) in &too_large() {
+        let refused = Multihash::<4>::wrap(*value, &[]);
+        expect_refused(rt, &refused, Refusal::InvalidCode(*value), *value);
+        let mut bytes = expect_ok(rt, code.to_vec(rt.alloc()));
+        expect_ok(rt, bytes.push(0));
+        expect_code_overflows(rt, &bytes);
     }
-    Ok(())
 }
 
 // What may follow a beginning of a varint.
 const BEHIND: [&[u8]; 6] = [&[], &[0], &[1], &[2], &[0, 7], &[0x80; 17]];
 
+// Whether two errors have one text.
+fn is_told_alike(rt: &impl Abort, alloc: Global, e: &Error, other: &Error) -> bool {
+    expect_ok(rt, e.to_string(alloc)).as_str() == expect_ok(rt, other.to_string(alloc)).as_str()
+}
+
 // `read` and `from_bytes` answer alike, but for bytes that are left over.
-fn expect_alike(rt: &impl Abort, alloc: Global, bytes: &[u8]) -> Result<(), Fail> {
-    let mut left = bytes;
-    let read = Multihash::<4>::read(&mut left);
-    match (read, Multihash::<4>::from_bytes(bytes)) {
-        (Ok(m), Ok(whole)) => {
-            check!(rt; left.is_empty());
-            check_eq!(rt; m, whole);
-        }
-        (Ok(_), Err(e)) => {
-            check!(rt; !left.is_empty());
-            check_eq!(rt; e.invalid_size(), Some(left.len() as u64));
-        }
-        (Err(e), Err(whole)) => {
-            check_eq!(rt; e.to_string(alloc)?, whole.to_string(alloc)?);
-        }
-        (Err(_), Ok(_)) => check!(rt; false, "from_bytes alone answers a pair"),
-    }
-    Ok(())
+fn expect_alike(rt: &impl Abort, alloc: Global, bytes: &[u8]) {
+    let (read, left) = &read_slice::<4>(bytes);
+    let whole = &Multihash::<4>::from_bytes(bytes);
+    let is_alike = match (read, whole) {
+        (Ok(m), Ok(whole)) => left.is_empty() && m == whole,
+        (Ok(_), Err(e)) => !left.is_empty() && e.invalid_size() == Some(left.len() as u64),
+        (Err(e), Err(whole)) => is_told_alike(rt, alloc, e, whole),
+        // `from_bytes` alone answers a pair
+        (Err(_), Ok(_)) => false,
+    };
+    check!(rt; is_alike, (bytes, read, whole));
 }
 
 // The same of each beginning of the bytes, whatever follows it.
-fn expect_beginnings_alike(rt: &impl Abort, alloc: Global, code: &[u8]) -> Result<(), Fail> {
+fn expect_beginnings_alike(rt: &impl Abort, alloc: Global, code: &[u8]) {
     for n in 0..=code.len() {
         for behind in BEHIND {
-            let mut bytes = code[..n].to_vec(alloc)?;
-            bytes.extend_from_slice(behind)?;
-            expect_alike(rt, alloc, &bytes)?;
+            let mut bytes = expect_ok(rt, code[..n].to_vec(alloc));
+            expect_ok(rt, bytes.extend_from_slice(behind));
+            expect_alike(rt, alloc, &bytes);
         }
     }
-    Ok(())
 }
 
 #[test]
-fn a_slice_is_read_as_its_bytes_are(rt: HostRuntime) -> Result<(), Fail> {
-    for (_, code) in VARINTS {
-        expect_beginnings_alike(&rt, rt.alloc(), code)?;
+fn a_slice_is_read_as_its_bytes_are(rt: HostRuntime) {
+    for (_, code) in &varints() {
+        expect_beginnings_alike(&rt, rt.alloc(), code);
     }
-    for (_, code) in TOO_LARGE {
-        expect_beginnings_alike(&rt, rt.alloc(), code)?;
+    for (_, code) in &too_large() {
+        expect_beginnings_alike(&rt, rt.alloc(), code);
     }
-    Ok(())
 }
 
 fn expect_asked(
@@ -201,8 +233,8 @@ fn expect_asked(
     left: &[u8],
 ) {
     let mut reader = Counts::new(input);
-    check_eq!(rt; Multihash::<4>::read(&mut reader).is_ok(), is_read, "{input:?}");
-    check_eq!(rt; (reader.single, reader.others, reader.whole), requests, "{input:?}");
+    check_eq!(rt; Multihash::<4>::read(&mut reader).is_ok(), is_read, input);
+    check_eq!(rt; (reader.single, reader.others, reader.whole), requests, input);
     expect_bytes(rt, reader.left, left);
 }
 
@@ -222,19 +254,27 @@ fn a_varint_asks_byte_by_byte(rt: HostRuntime) {
     expect_asked(&rt, &[0, 128], false, (3, 0, 0), &[]);
 }
 
+// Why no part begins an address: it is cut, or its head is refused.
+fn is_part_refused(address: &[u8], why: Option<Refusal>) -> bool {
+    match first_part(address) {
+        Ok(_) => false,
+        Err(PartError::Cut) => why == None,
+        Err(PartError::Head(e)) => why == Refusal::of(&e) && why != None,
+    }
+}
+
+fn expect_part(rt: &impl Abort, address: &[u8], wanted: (u64, &[u8], &[u8])) {
+    let (part, rest) = expect_ok(rt, first_part(address));
+    check_eq!(rt; (part.code, part.bytes, rest), wanted, address);
+}
+
 // The code 421 is of two bytes; behind the part stands a byte of the next.
 #[test]
 fn an_address_is_taken_apart(rt: HostRuntime) {
-    match first_part(&[0xa5, 0x03, 2, 7, 8, 9]) {
-        Ok((part, rest)) => {
-            check_eq!(rt; (part.code, part.bytes, rest), (421, &[7, 8][..], &[9][..]));
-        }
-        Err(_) => check!(rt; false),
-    }
-    check!(rt;
-        first_part(&[4, 0]).is_ok_and(|(part, rest)| part.bytes.is_empty() && rest.is_empty())
-    );
-    check!(rt; matches!(first_part(&[4, 3, 1, 2]), Err(PartError::Cut)));
-    check!(rt; matches!(first_part(&[0x80]), Err(PartError::Head(e)) if e.is_insufficient()));
-    check!(rt; matches!(first_part(&[4, 0x80, 0]), Err(PartError::Head(e)) if e.is_not_minimal()));
+    let rt = &rt;
+    expect_part(rt, &[0xa5, 0x03, 2, 7, 8, 9], (421, &[7, 8], &[9]));
+    expect_part(rt, &[4, 0], (4, &[], &[]));
+    check!(rt; is_part_refused(&[4, 3, 1, 2], None));
+    check!(rt; is_part_refused(&[0x80], Some(Refusal::Insufficient)));
+    check!(rt; is_part_refused(&[4, 0x80, 0], Some(Refusal::NotMinimal)));
 }

@@ -1,21 +1,21 @@
 //! What reading answers to each kind of input, and which bytes it takes.
 ghost use Rattle.std.specs.Prelude.{◌<◌, ◌^◌};
 
-use crate::expect::{check, check_eq, expect_bytes};
+use crate::expect::{check, check_eq, expect_bytes, expect_ok};
+use crate::reading::read_slice;
 use fakes::readers::{Cuts, Silent};
 use fakes::refusal::Refusal::{Insufficient, InvalidSize, NotMinimal, Overflow, UnexpectedEof};
 use fakes::refusal::{Refusal, is_refused};
 use multihash::{Error, Multihash};
 use std::alloc::Global;
 use std::process::Abort;
-use std::test::Fail;
 use uses::bytes::bytes_back;
 
 /// The answer that is wanted: a pair, or a refusal.
 type Want = Result<(u64, &'static [u8]), Refusal>;
 
 /// The bytes that are to be taken.
-#[derive(Clone, Copy, Debug)]
+#[derive(Clone, Copy)]
 enum Taken {
     /// The first ones, which settle the answer.
     Settled(usize),
@@ -203,69 +203,96 @@ const UP_TO_255: [Row; 2] = [
     ),
 ];
 
+// The proof goes through a table wherever it is written out, so one function writes out each.
+fn up_to_four() -> [Row; 28] {
+    UP_TO_FOUR
+}
+
+fn empty_only() -> [Row; 3] {
+    EMPTY_ONLY
+}
+
+fn up_to_two() -> [Row; 4] {
+    UP_TO_TWO
+}
+
+fn up_to_32() -> [Row; 1] {
+    UP_TO_32
+}
+
+fn up_to_255() -> [Row; 2] {
+    UP_TO_255
+}
+
 // Whether the answer is the one that is wanted.
-fn is_wanted<const S: usize>(want: Want, answer: &Result<Multihash<S>, Error>) -> bool {
+fn is_wanted<const S: usize>(want: &Want, answer: &Result<Multihash<S>, Error>) -> bool {
     match (want, answer) {
-        (Ok((code, digest)), Ok(m)) => m.code() == code && m.digest() == digest,
-        (Err(why), _) => is_refused(answer, why),
+        (Ok((code, digest)), Ok(m)) => m.code() == *code && m.digest() == *digest,
+        (Err(why), _) => is_refused(answer, *why),
         _ => false,
     }
 }
 
 // Whether so many bytes were to be taken of an input, where this is left of it.
-fn is_taken(taken: Taken, input: &[u8], left: &[u8]) -> bool {
+fn is_taken(taken: &Taken, input: &[u8], left: &[u8]) -> bool {
     let Some(n) = input.len().checked_sub(left.len()) else {
         return false;
     };
     input.ends_with(left)
         && match taken {
-            Taken::Settled(wanted) => n == wanted,
+            Taken::Settled(wanted) => n == *wanted,
             Taken::All => left.is_empty(),
-            Taken::Varints(least) => n >= least,
+            Taken::Varints(least) => n >= *least,
         }
+}
+
+fn expect_answer<const S: usize>(
+    rt: &impl Abort,
+    want: &Want,
+    answer: &Result<Multihash<S>, Error>,
+    input: &[u8],
+)
+    requires { S < 2 ^ 16 }
+{
+    check!(rt; is_wanted(want, answer), (answer, input));
 }
 
 fn expect_whole<const S: usize>(rt: &impl Abort, rows: &[Row])
     requires { S < 2 ^ 16 }
 {
     for (input, _, _, want) in rows {
-        let answer = Multihash::<S>::from_bytes(input);
-        check!(rt; is_wanted(*want, &answer), "{answer:?} for {input:?}");
+        expect_answer(rt, want, &Multihash::<S>::from_bytes(input), input);
     }
 }
 
 #[test]
 fn verdicts_of_the_whole(rt: HostRuntime) {
-    expect_whole::<4>(&rt, &UP_TO_FOUR);
-    expect_whole::<0>(&rt, &EMPTY_ONLY);
-    expect_whole::<2>(&rt, &UP_TO_TWO);
-    expect_whole::<32>(&rt, &UP_TO_32);
-    expect_whole::<300>(&rt, &UP_TO_255);
+    expect_whole::<4>(&rt, &up_to_four());
+    expect_whole::<0>(&rt, &empty_only());
+    expect_whole::<2>(&rt, &up_to_two());
+    expect_whole::<32>(&rt, &up_to_32());
+    expect_whole::<300>(&rt, &up_to_255());
 }
 
 fn expect_over_slices<const S: usize>(rt: &impl Abort, rows: &[Row])
     requires { S < 2 ^ 16 }
 {
     for (input, want, taken, _) in rows {
-        let mut left = *input;
-        let answer = Multihash::<S>::read(&mut left);
-        check!(rt; is_wanted(*want, &answer), "{answer:?} for {input:?}");
-        check!(rt;
-            is_taken(*taken, input, left),
-            "{left:?} is left of {input:?}"
-        );
+        let (answer, left) = read_slice::<S>(input);
+        expect_answer(rt, want, &answer, input);
+        check!(rt; is_taken(taken, input, left), (left, input));
         let answer = Multihash::<S>::read(&mut Silent(input));
-        check!(rt; is_wanted(*want, &answer), "{answer:?} for {input:?}");
+        expect_answer(rt, want, &answer, input);
     }
 }
 
 #[test]
 fn verdicts_over_slices(rt: HostRuntime) {
-    expect_over_slices::<4>(&rt, &UP_TO_FOUR);
-    expect_over_slices::<0>(&rt, &EMPTY_ONLY);
-    expect_over_slices::<2>(&rt, &UP_TO_TWO);
-    expect_over_slices::<32>(&rt, &UP_TO_32);
-    expect_over_slices::<300>(&rt, &UP_TO_255);
+    expect_over_slices::<4>(&rt, &up_to_four());
+    expect_over_slices::<0>(&rt, &empty_only());
+    expect_over_slices::<2>(&rt, &up_to_two());
+    expect_over_slices::<32>(&rt, &up_to_32());
+    expect_over_slices::<300>(&rt, &up_to_255());
 }
 
 fn expect_over_cuts<const S: usize>(rt: &impl Abort, rows: &[Row])
@@ -275,82 +302,89 @@ fn expect_over_cuts<const S: usize>(rt: &impl Abort, rows: &[Row])
         for most in 1..8 {
             let mut reader = Cuts::new(input, most);
             let answer = Multihash::<S>::read(&mut reader);
-            check!(rt; is_wanted(*want, &answer), "{answer:?} for {input:?}");
-            check!(rt; is_taken(*taken, input, reader.left), "of {input:?}");
+            expect_answer(rt, want, &answer, input);
+            check!(rt; is_taken(taken, input, reader.left), input);
         }
     }
 }
 
 #[test]
 fn verdicts_over_cuts(rt: HostRuntime) {
-    expect_over_cuts::<4>(&rt, &UP_TO_FOUR);
-    expect_over_cuts::<0>(&rt, &EMPTY_ONLY);
-    expect_over_cuts::<2>(&rt, &UP_TO_TWO);
-    expect_over_cuts::<32>(&rt, &UP_TO_32);
-    expect_over_cuts::<300>(&rt, &UP_TO_255);
+    expect_over_cuts::<4>(&rt, &up_to_four());
+    expect_over_cuts::<0>(&rt, &empty_only());
+    expect_over_cuts::<2>(&rt, &up_to_two());
+    expect_over_cuts::<32>(&rt, &up_to_32());
+    expect_over_cuts::<300>(&rt, &up_to_255());
 }
 
-// The bytes that settle the answer give it whatever follows, and one byte less does not.
+// The bytes that settle the answer give it whatever follows.
 fn expect_settled<const S: usize>(
     rt: &impl Abort,
     alloc: Global,
     front: &[u8],
-    want: Want,
-) -> Result<(), Fail>
+    more: &[u8],
+    want: &Want,
+)
     requires { S < 2 ^ 16 }
 {
-    for more in [[0].as_slice(), &[255], &[128, 128]] {
-        let mut bytes = front.to_vec(alloc)?;
-        bytes.extend_from_slice(more)?;
-        let mut left = bytes.as_slice();
-        let answer = Multihash::<S>::read(&mut left);
-        check!(rt; is_wanted(want, &answer), "{answer:?} for {bytes:?}");
-        expect_bytes(rt, left, more);
-    }
-    let shorter = front.split_last().map_or(front, |(_, shorter)| shorter);
-    let mut left = shorter;
-    let answer = Multihash::<S>::read(&mut left);
-    let is_early = is_wanted(Err(Refusal::Insufficient), &answer)
-        || is_wanted(Err(Refusal::UnexpectedEof), &answer);
-    check!(rt; is_early, "{answer:?} for {shorter:?}");
-    Ok(())
+    let mut bytes = expect_ok(rt, front.to_vec(alloc));
+    expect_ok(rt, bytes.extend_from_slice(more));
+    let (answer, left) = read_slice::<S>(&bytes);
+    expect_answer(rt, want, &answer, &bytes);
+    expect_bytes(rt, left, more);
 }
 
-fn expect_all_settled<const S: usize>(
-    rt: &impl Abort,
-    alloc: Global,
-    rows: &[Row],
-) -> Result<(), Fail>
+// One byte less does not.
+fn expect_early<const S: usize>(rt: &impl Abort, front: &[u8])
+    requires { S < 2 ^ 16 }
+{
+    let shorter = match front.split_last() {
+        Some((_, shorter)) => shorter,
+        None => front,
+    };
+    let answer = &read_slice::<S>(shorter).0;
+    let is_early = is_refused(answer, Refusal::Insufficient)
+        || is_refused(answer, Refusal::UnexpectedEof);
+    check!(rt; is_early, (answer, shorter));
+}
+
+fn expect_all_settled<const S: usize>(rt: &impl Abort, alloc: Global, rows: &[Row])
     requires { S < 2 ^ 16 }
 {
     for (input, want, taken, _) in rows {
         if let Taken::Settled(n) = taken {
             // not `check!`, which tells the proof nothing
             assert!(rt; *n <= input.len());
-            expect_settled::<S>(rt, alloc, &input[..*n], *want)?;
+            let front = &input[..*n];
+            for more in [[0].as_slice(), &[255], &[128, 128]] {
+                expect_settled::<S>(rt, alloc, front, more, want);
+            }
+            expect_early::<S>(rt, front);
         }
     }
-    Ok(())
 }
 
 #[test]
-fn settled_after(rt: HostRuntime) -> Result<(), Fail> {
-    expect_all_settled::<4>(&rt, rt.alloc(), &UP_TO_FOUR)?;
-    expect_all_settled::<0>(&rt, rt.alloc(), &EMPTY_ONLY)?;
-    expect_all_settled::<2>(&rt, rt.alloc(), &UP_TO_TWO)?;
-    expect_all_settled::<32>(&rt, rt.alloc(), &UP_TO_32)?;
-    expect_all_settled::<300>(&rt, rt.alloc(), &UP_TO_255)
+fn settled_after(rt: HostRuntime) {
+    expect_all_settled::<4>(&rt, rt.alloc(), &up_to_four());
+    expect_all_settled::<0>(&rt, rt.alloc(), &empty_only());
+    expect_all_settled::<2>(&rt, rt.alloc(), &up_to_two());
+    expect_all_settled::<32>(&rt, rt.alloc(), &up_to_32());
+    expect_all_settled::<300>(&rt, rt.alloc(), &up_to_255());
+}
+
+fn expect_pair_back(rt: &impl Abort, alloc: Global, code: u64, digest: &[u8]) {
+    let m = expect_ok(rt, Multihash::<4>::wrap(code, digest));
+    let back: Multihash<4> = expect_ok(rt, bytes_back(alloc, &m));
+    check_eq!(rt; back.code(), code);
+    expect_bytes(rt, back.digest(), digest);
 }
 
 #[test]
-fn accepted_pairs_come_back(rt: HostRuntime) -> Result<(), Fail> {
-    for (_, _, _, want) in &UP_TO_FOUR {
-        if let Ok((code, digest)) = *want {
-            let m = Multihash::<4>::wrap(code, digest)?;
-            let back: Multihash<4> = bytes_back(rt.alloc(), &m)?;
-            check_eq!(rt; back.code(), code);
-            expect_bytes(&rt, back.digest(), digest);
+fn accepted_pairs_come_back(rt: HostRuntime) {
+    for (_, _, _, want) in &up_to_four() {
+        if let Ok((code, digest)) = want {
+            expect_pair_back(&rt, rt.alloc(), *code, digest);
         }
     }
-    Ok(())
 }

@@ -1,16 +1,15 @@
 //! Readers and writers that cut, end and fail, at each call and in each room: what was taken or
 //! appended then, and that a fault comes out as it went in.
-use crate::expect::{check, check_eq, expect_bytes};
+use crate::expect::{check, check_eq, expect_bytes, expect_ok, expect_refused};
 use crate::form::{Form, two};
 use fakes::readers::{Cuts, FailAt, Silent};
-use fakes::refusal::{Refusal, is_refused};
+use fakes::refusal::Refusal;
 use fakes::writers::{Drip, FailWrite};
 use multihash::list::read_list;
 use multihash::no_std_io::Write;
 use multihash::{Error, Multihash};
 use std::alloc::Global;
 use std::process::Abort;
-use std::test::Fail;
 
 // The call fails so, and what was not given until then is left.
 fn expect_reader_fault(
@@ -22,102 +21,95 @@ fn expect_reader_fault(
     why: Refusal,
 ) {
     let refused = form.reads(alloc, &mut reader);
-    check!(rt; is_refused(&refused, why), "{form:?}, call {calls}");
+    expect_refused(rt, &refused, why, (form, calls));
     check_eq!(rt; Some(reader.cuts.left), form.and_more().get(calls..));
     check_eq!(rt; reader.asked, calls.saturating_add(1));
 }
 
 #[test]
 fn a_reader_fails_at_every_call(rt: HostRuntime) {
+    let alloc = rt.alloc();
+    let rt = &rt;
     for form in Form::ALL {
         let input = form.and_more();
         for calls in 0..form.bytes().len() {
             let reader = FailAt::new(Cuts::new(input, 1), calls);
-            expect_reader_fault(&rt, rt.alloc(), form, reader, calls, Refusal::LINK_DOWN);
+            expect_reader_fault(rt, alloc, form, reader, calls, Refusal::LINK_DOWN);
             let reader = FailAt::out_of_memory(Cuts::new(input, 1), calls);
-            expect_reader_fault(&rt, rt.alloc(), form, reader, calls, Refusal::OutOfMemory);
+            expect_reader_fault(rt, alloc, form, reader, calls, Refusal::OutOfMemory);
         }
     }
 }
 
 // The second of the calls fails, and what was not read is left.
 #[test]
-fn a_reader_fails_at_its_second_call(rt: HostRuntime) -> Result<(), Fail> {
+fn a_reader_fails_at_its_second_call(rt: HostRuntime) {
+    let alloc = rt.alloc();
+    let rt = &rt;
     let mut reader = FailAt::new(Cuts::new(&[0, 1, 65], 1), 1);
-    let refused = Multihash::<4>::read(&mut reader).err().ok_or("read")?;
-    check!(rt; Refusal::of(&refused) == Some(Refusal::LINK_DOWN) && !refused.is_early_end());
-    check_eq!(rt; format!(in rt.alloc(); "{refused}")?.as_str(), "link down");
-    check_eq!(rt; reader.cuts.left, [1, 65].as_slice());
-    Ok(())
+    let answer = Multihash::<4>::read(&mut reader);
+    expect_refused(rt, &answer, Refusal::LINK_DOWN, 1);
+    check!(rt; matches!(&answer, Err(e) if !e.is_early_end()));
+    expect_text(rt, alloc, &answer, "link down");
+    expect_bytes(rt, reader.cuts.left, &[1, 65]);
 }
 
 #[test]
-fn a_reader_fails_after_the_last_call(rt: HostRuntime) -> Result<(), Fail> {
+fn a_reader_fails_after_the_last_call(rt: HostRuntime) {
+    let alloc = rt.alloc();
+    let rt = &rt;
     for form in Form::ALL {
         let calls = form.bytes().len();
         let mut reader = FailAt::new(Cuts::new(form.and_more(), 1), calls);
-        check!(rt; form.reads(rt.alloc(), &mut reader)?, "{form:?}");
-        expect_bytes(&rt, reader.cuts.left, &[9]);
+        check!(rt; expect_ok(rt, form.reads(alloc, &mut reader)), form);
+        expect_bytes(rt, reader.cuts.left, &[9]);
         check_eq!(rt; reader.asked, calls);
     }
-    Ok(())
 }
 
-fn expect_text(
-    rt: &impl Abort,
-    alloc: Global,
-    answer: &Result<bool, Error>,
-    wanted: &str,
-) -> Result<(), Fail> {
+fn expect_text<T>(rt: &impl Abort, alloc: Global, answer: &Result<T, Error>, wanted: &str) {
     let told = match answer {
-        Ok(_) => format!(in alloc; "no fault")?,
-        Err(e) => format!(in alloc; "{e}")?,
+        Ok(_) => format!(in alloc; "no fault"),
+        Err(e) => format!(in alloc; "{e}"),
     };
-    check_eq!(rt; told.as_str(), wanted);
-    Ok(())
+    check_eq!(rt; expect_ok(rt, told).as_str(), wanted);
 }
 
 #[test]
-fn a_fault_prints_its_own_text(rt: HostRuntime) -> Result<(), Fail> {
+fn a_fault_prints_its_own_text(rt: HostRuntime) {
+    let alloc = rt.alloc();
+    let rt = &rt;
     for form in Form::ALL {
         let mut reader = FailAt::new(Cuts::new(form.bytes(), 1), 1);
-        let answer = form.reads(rt.alloc(), &mut reader);
-        expect_text(&rt, rt.alloc(), &answer, "link down")?;
-        let mut writer = FailWrite::new(Drip::new(rt.alloc(), 11, 1)?, 1);
-        let answer = form.writes(&mut writer);
-        expect_text(&rt, rt.alloc(), &answer, "disk gone")?;
+        expect_text(rt, alloc, &form.reads(alloc, &mut reader), "link down");
+        let mut writer = FailWrite::new(expect_ok(rt, Drip::new(alloc, 11, 1)), 1);
+        expect_text(rt, alloc, &form.writes(&mut writer), "disk gone");
     }
-    Ok(())
 }
 
-fn expect_read_on(
-    rt: &impl Abort,
-    alloc: Global,
-    form: Form,
-    mut reader: FailAt,
-) -> Result<(), Fail> {
-    check!(rt; form.reads(alloc, &mut reader).is_err());
-    check!(rt; form.reads(alloc, &mut reader)?, "{form:?}");
+fn expect_read_on(rt: &impl Abort, alloc: Global, form: Form, mut reader: FailAt) {
+    check!(rt; form.reads(alloc, &mut reader).is_err(), form);
+    check!(rt; expect_ok(rt, form.reads(alloc, &mut reader)), form);
     expect_bytes(rt, reader.cuts.left, &[9]);
-    Ok(())
 }
 
 #[test]
-fn a_reader_is_read_on_after_a_fault(rt: HostRuntime) -> Result<(), Fail> {
+fn a_reader_is_read_on_after_a_fault(rt: HostRuntime) {
+    let alloc = rt.alloc();
+    let rt = &rt;
     for form in Form::ALL {
         let reader = FailAt::new(Cuts::new(form.and_more(), 1), 0);
-        expect_read_on(&rt, rt.alloc(), form, reader)?;
+        expect_read_on(rt, alloc, form, reader);
         let reader = FailAt::out_of_memory(Cuts::new(form.and_more(), 2), 0);
-        expect_read_on(&rt, rt.alloc(), form, reader)?;
+        expect_read_on(rt, alloc, form, reader);
     }
     let mut reader = FailAt::new(Cuts::new(Form::List.and_more(), 1), 3);
-    let refused = read_list::<4, _>(rt.alloc(), &mut reader, 2);
-    check!(rt; is_refused(&refused, Refusal::LINK_DOWN));
-    let list = read_list::<4, _>(rt.alloc(), &mut reader, 1)?;
-    let [_, second] = two()?;
+    let refused = read_list::<4, _>(alloc, &mut reader, 2);
+    expect_refused(rt, &refused, Refusal::LINK_DOWN, 3);
+    let list = expect_ok(rt, read_list::<4, _>(alloc, &mut reader, 1));
+    let [_, second] = expect_ok(rt, two());
     check!(rt; list.as_slice() == [second].as_slice());
-    expect_bytes(&rt, reader.cuts.left, &[9]);
-    Ok(())
+    expect_bytes(rt, reader.cuts.left, &[9]);
 }
 
 // Bytes that the form's reading call refuses once it has taken the last of them.
@@ -131,60 +123,73 @@ const REFUSED: [(Form, &[u8]); 7] = [
     (Form::List, &[0, 1, 65, 128, 0]),
 ];
 
+// The first bytes are refused and taken, and then the form's own are read.
+fn expect_read_on_behind(rt: &impl Abort, alloc: Global, form: Form, input: &[u8]) {
+    let mut left = input;
+    check!(rt; form.reads(alloc, &mut left).is_err(), input);
+    expect_bytes(rt, left, form.and_more());
+    check!(rt; expect_ok(rt, form.reads(alloc, &mut left)), input);
+    expect_bytes(rt, left, &[9]);
+}
+
 #[test]
-fn a_reader_is_read_on_after_a_refusal(rt: HostRuntime) -> Result<(), Fail> {
-    for (form, refused) in REFUSED {
-        let mut input = Vec::new(rt.alloc());
-        check!(rt; input.write_all(refused).is_ok());
-        check!(rt; input.write_all(form.and_more()).is_ok());
-        let mut left = input.as_slice();
-        check!(rt; form.reads(rt.alloc(), &mut left).is_err(), "{refused:?}");
-        expect_bytes(&rt, left, form.and_more());
-        check!(rt; form.reads(rt.alloc(), &mut left)?, "{refused:?}");
-        expect_bytes(&rt, left, &[9]);
+fn a_reader_is_read_on_after_a_refusal(rt: HostRuntime) {
+    let alloc = rt.alloc();
+    let rt = &rt;
+    for (form, refused) in &REFUSED {
+        let mut input = Vec::new(alloc);
+        expect_ok(rt, input.write_all(refused));
+        expect_ok(rt, input.write_all(form.and_more()));
+        expect_read_on_behind(rt, alloc, *form, &input);
     }
-    Ok(())
+}
+
+fn expect_fault_first(rt: &impl Abort, alloc: Global, form: Form, input: &[u8], calls: usize) {
+    let mut reader = FailAt::new(Cuts::new(input, 1), calls);
+    let answer = form.reads(alloc, &mut reader);
+    expect_refused(rt, &answer, Refusal::LINK_DOWN, (input, calls));
+    check_eq!(rt; Some(reader.cuts.left), input.get(calls..));
 }
 
 #[test]
 fn a_fault_comes_before_another_refusal(rt: HostRuntime) {
-    for (form, refused) in REFUSED {
+    let alloc = rt.alloc();
+    let rt = &rt;
+    for (form, refused) in &REFUSED {
         for calls in 0..refused.len() {
-            let mut reader = FailAt::new(Cuts::new(refused, 1), calls);
-            let answer = form.reads(rt.alloc(), &mut reader);
-            check!(rt;
-                is_refused(&answer, Refusal::LINK_DOWN),
-                "{refused:?}, call {calls}"
-            );
-            check_eq!(rt; Some(reader.cuts.left), refused.get(calls..));
+            expect_fault_first(rt, alloc, *form, refused, calls);
         }
     }
     for form in Form::ALL {
         let bytes = form.bytes();
         for len in 0..bytes.len() {
-            let mut reader = FailAt::new(Cuts::new(&bytes[..len], 1), len);
-            let answer = form.reads(rt.alloc(), &mut reader);
-            check!(rt;
-                is_refused(&answer, Refusal::LINK_DOWN),
-                "{form:?}, {len} bytes"
-            );
-            check!(rt; reader.cuts.left.is_empty());
+            expect_fault_first(rt, alloc, form, &bytes[..len], len);
         }
     }
 }
 
 #[test]
 fn every_beginning_ends_early(rt: HostRuntime) {
+    let alloc = rt.alloc();
+    let rt = &rt;
     for form in Form::ALL {
         let bytes = form.bytes();
         for len in 0..bytes.len() {
             let mut left = &bytes[..len];
-            let answer = form.reads(rt.alloc(), &mut left);
-            check!(rt;
-                is_refused(&answer, form.early_end(len)),
-                "{form:?}, {len} bytes"
-            );
+            let answer = form.reads(alloc, &mut left);
+            expect_refused(rt, &answer, form.early_end(len), (form, len));
         }
+    }
+}
+
+// An input that ends after so many bytes, in cuts of every size.
+fn expect_end_in_cuts(rt: &impl Abort, alloc: Global, form: Form, input: &[u8]) {
+    let why = form.early_end(input.len());
+    for most in 1..8 {
+        let mut reader = Cuts::new(input, most);
+        let answer = form.reads(alloc, &mut reader);
+        expect_refused(rt, &answer, why, (form, input.len(), most));
+        check!(rt; reader.left.is_empty());
     }
 }
 
@@ -193,36 +198,24 @@ fn every_beginning_in_cuts_ends_early(rt: HostRuntime) {
     for form in Form::ALL {
         let bytes = form.bytes();
         for len in 0..bytes.len() {
-            for most in 1..8 {
-                let mut reader = Cuts::new(&bytes[..len], most);
-                let answer = form.reads(rt.alloc(), &mut reader);
-                check!(rt;
-                    is_refused(&answer, form.early_end(len)),
-                    "{form:?}, {len} bytes, {most} a call"
-                );
-                check!(rt; reader.left.is_empty());
-            }
+            expect_end_in_cuts(&rt, rt.alloc(), form, &bytes[..len]);
         }
     }
 }
 
 #[test]
-fn cuts_change_no_answer(rt: HostRuntime) -> Result<(), Fail> {
+fn cuts_change_no_answer(rt: HostRuntime) {
+    let alloc = rt.alloc();
+    let rt = &rt;
     for form in Form::ALL {
-        check!(rt;
-            form.reads(rt.alloc(), &mut Silent(form.bytes()))?,
-            "{form:?}"
-        );
+        let answer = form.reads(alloc, &mut Silent(form.bytes()));
+        check!(rt; expect_ok(rt, answer), form);
         for most in 1..8 {
             let mut reader = Cuts::new(form.and_more(), most);
-            check!(rt;
-                form.reads(rt.alloc(), &mut reader)?,
-                "{form:?}, {most} a call"
-            );
-            expect_bytes(&rt, reader.left, &[9]);
+            check!(rt; expect_ok(rt, form.reads(alloc, &mut reader)), (form, most));
+            expect_bytes(rt, reader.left, &[9]);
         }
     }
-    Ok(())
 }
 
 // The call fails so, and what was written until then stands.
@@ -234,104 +227,119 @@ fn expect_writer_fault(
     why: Refusal,
 ) {
     let refused = form.writes(&mut writer);
-    check!(rt; is_refused(&refused, why), "{form:?}, call {calls}");
+    expect_refused(rt, &refused, why, (form, calls));
     check_eq!(rt; Some(writer.drip.held.as_slice()), form.bytes().get(..calls));
     check_eq!(rt; writer.asked, calls.saturating_add(1));
 }
 
 #[test]
-fn a_writer_fails_at_every_call(rt: HostRuntime) -> Result<(), Fail> {
+fn a_writer_fails_at_every_call(rt: HostRuntime) {
+    let alloc = rt.alloc();
+    let rt = &rt;
     for form in Form::ALL {
         let len = form.bytes().len();
         for calls in 0..len {
-            let writer = FailWrite::new(Drip::new(rt.alloc(), len, 1)?, calls);
-            expect_writer_fault(&rt, form, writer, calls, Refusal::DISK_GONE);
-            let writer = FailWrite::out_of_memory(Drip::new(rt.alloc(), len, 1)?, calls);
-            expect_writer_fault(&rt, form, writer, calls, Refusal::OutOfMemory);
+            let drip = expect_ok(rt, Drip::new(alloc, len, 1));
+            let writer = FailWrite::new(drip, calls);
+            expect_writer_fault(rt, form, writer, calls, Refusal::DISK_GONE);
+            let drip = expect_ok(rt, Drip::new(alloc, len, 1));
+            let writer = FailWrite::out_of_memory(drip, calls);
+            expect_writer_fault(rt, form, writer, calls, Refusal::OutOfMemory);
         }
     }
-    Ok(())
 }
 
 #[test]
-fn a_writer_fails_after_the_last_call(rt: HostRuntime) -> Result<(), Fail> {
+fn a_writer_fails_after_the_last_call(rt: HostRuntime) {
+    let rt = &rt;
     for form in Form::ALL {
         let wanted = form.bytes();
-        let mut writer = FailWrite::new(Drip::new(rt.alloc(), wanted.len(), 1)?, wanted.len());
-        check!(rt; form.writes(&mut writer)?, "{form:?}");
-        expect_bytes(&rt, &writer.drip.held, wanted);
+        let drip = expect_ok(rt, Drip::new(rt.alloc(), wanted.len(), 1));
+        let mut writer = FailWrite::new(drip, wanted.len());
+        check!(rt; expect_ok(rt, form.writes(&mut writer)), form);
+        expect_bytes(rt, &writer.drip.held, wanted);
         check_eq!(rt; writer.asked, wanted.len());
     }
-    Ok(())
+}
+
+// What is missing is appended by the caller.
+fn expect_appended(rt: &impl Abort, form: Form, drip: Drip, calls: usize, missing: &[u8]) {
+    let mut writer = FailWrite::new(drip, calls);
+    check!(rt; form.writes(&mut writer).is_err(), (form, calls));
+    check!(rt; writer.write_all(missing).is_ok(), (form, calls));
+    expect_bytes(rt, &writer.drip.held, form.bytes());
+}
+
+fn expect_written_again(rt: &impl Abort, form: Form, drip: Drip) {
+    let mut writer = FailWrite::new(drip, 0);
+    check!(rt; form.writes(&mut writer).is_err(), form);
+    check!(rt; expect_ok(rt, form.writes(&mut writer)), form);
+    expect_bytes(rt, &writer.drip.held, form.bytes());
 }
 
 #[test]
-fn a_writer_is_appended_to_after_a_fault(rt: HostRuntime) -> Result<(), Fail> {
+fn a_writer_is_appended_to_after_a_fault(rt: HostRuntime) {
+    let alloc = rt.alloc();
+    let rt = &rt;
     for form in Form::ALL {
         let wanted = form.bytes();
         for calls in 0..wanted.len() {
-            let mut writer = FailWrite::new(Drip::new(rt.alloc(), wanted.len(), 1)?, calls);
-            check!(rt; form.writes(&mut writer).is_err());
-            check!(rt;
-                writer.write_all(&wanted[calls..]).is_ok(),
-                "{form:?}, call {calls}"
-            );
-            expect_bytes(&rt, &writer.drip.held, wanted);
+            let drip = expect_ok(rt, Drip::new(alloc, wanted.len(), 1));
+            expect_appended(rt, form, drip, calls, &wanted[calls..]);
         }
-        let mut writer = FailWrite::new(Drip::new(rt.alloc(), wanted.len(), 3)?, 0);
-        check!(rt; form.writes(&mut writer).is_err());
-        check!(rt; form.writes(&mut writer)?, "{form:?}");
-        expect_bytes(&rt, &writer.drip.held, wanted);
+        expect_written_again(rt, form, expect_ok(rt, Drip::new(alloc, wanted.len(), 3)));
     }
-    Ok(())
+}
+
+fn expect_no_room(rt: &impl Abort, form: Form, mut writer: Drip, room: usize) {
+    let refused = form.writes(&mut writer);
+    expect_refused(rt, &refused, Refusal::WriteZero, (form, room));
+    check_eq!(rt; Some(writer.held.as_slice()), form.bytes().get(..room));
+}
+
+fn expect_room(rt: &impl Abort, form: Form, mut writer: Drip) {
+    check!(rt; expect_ok(rt, form.writes(&mut writer)), form);
+    expect_bytes(rt, &writer.held, form.bytes());
 }
 
 #[test]
-fn every_room(rt: HostRuntime) -> Result<(), Fail> {
+fn every_room(rt: HostRuntime) {
+    let alloc = rt.alloc();
+    let rt = &rt;
     for form in Form::ALL {
-        let wanted = form.bytes();
+        let len = form.bytes().len();
         for most in 1..8 {
-            for room in 0..wanted.len() {
-                let mut writer = Drip::new(rt.alloc(), room, most)?;
-                let refused = form.writes(&mut writer);
-                check!(rt;
-                    is_refused(&refused, Refusal::WriteZero),
-                    "{form:?}, room {room}"
-                );
-                check_eq!(rt; Some(writer.held.as_slice()), wanted.get(..room));
+            for room in 0..len {
+                let writer = expect_ok(rt, Drip::new(alloc, room, most));
+                expect_no_room(rt, form, writer, room);
             }
-            let mut writer = Drip::new(rt.alloc(), wanted.len(), most)?;
-            check!(rt; form.writes(&mut writer)?, "{form:?}");
-            expect_bytes(&rt, &writer.held, wanted);
+            expect_room(rt, form, expect_ok(rt, Drip::new(alloc, len, most)));
         }
     }
-    Ok(())
 }
 
 // The bytes are written, or as many of them as there is room for; no other place is changed.
-fn expect_in_slice(rt: &impl Abort, form: Form, room: usize) -> Result<(), Fail> {
+fn expect_in_slice(rt: &impl Abort, form: Form, room: usize) {
     let wanted = form.bytes();
     let mut places = [0u8; 13];
-    let mut left = places.get_mut(..room).ok_or("no such room")?;
+    let mut left = places.get_mut(..room).expect(rt, "no such room");
     let answer = form.writes(&mut left);
-    check_eq!(rt; left.len(), room.saturating_sub(wanted.len()), "{form:?}");
+    check_eq!(rt; left.len(), room.saturating_sub(wanted.len()), form);
     if room < wanted.len() {
-        check!(rt; is_refused(&answer, Refusal::WriteZero), "{form:?}, {room} places");
+        expect_refused(rt, &answer, Refusal::WriteZero, (form, room));
     } else {
-        check!(rt; answer?, "{form:?}, {room} places");
+        check!(rt; expect_ok(rt, answer), (form, room));
     }
     let written = room.min(wanted.len());
     check_eq!(rt; places.get(..written), wanted.get(..written));
-    check!(rt; places.iter().skip(written).all(|place| *place == 0));
-    Ok(())
+    check_eq!(rt; places.get(written..), [0u8; 13].get(written..));
 }
 
 #[test]
-fn slices_of_every_length(rt: HostRuntime) -> Result<(), Fail> {
+fn slices_of_every_length(rt: HostRuntime) {
     for form in Form::ALL {
         for room in 0..13 {
-            expect_in_slice(&rt, form, room)?;
+            expect_in_slice(&rt, form, room);
         }
     }
-    Ok(())
 }

@@ -21,6 +21,14 @@ pub(crate) fn two() -> Result<[Multihash<4>; 2], Error> {
     Ok([Multihash::wrap(0, b"A")?, Multihash::wrap(18, b"B")?])
 }
 
+fn is_of(m: &Multihash<4>, code: u64, digest: &[u8]) -> bool {
+    m.code() == code && m.digest() == digest
+}
+
+fn are_two(items: &[Multihash<4>]) -> bool {
+    matches!(items, [first, second] if is_of(first, 0, b"A") && is_of(second, 18, b"B"))
+}
+
 impl Form {
     pub(crate) const ALL: [Form; 3] = [Form::Binary, Form::Scale, Form::List];
 
@@ -45,9 +53,9 @@ impl Form {
     /// Whether what is read is what was written.
     pub(crate) fn reads<R: Read>(self, alloc: Global, r: &mut R) -> Result<bool, Error> {
         match self {
-            Form::Binary => Ok(Multihash::read(r)? == pair()?),
-            Form::Scale => Ok(Multihash::scale_decode(r)? == pair()?),
-            Form::List => Ok(read_list::<4, _>(alloc, r, 2)?.as_slice() == two()?.as_slice()),
+            Form::Binary => Ok(is_of(&Multihash::read(r)?, 300, b"AB")),
+            Form::Scale => Ok(is_of(&Multihash::scale_decode(r)?, 300, b"AB")),
+            Form::List => Ok(are_two(&read_list::<4, _>(alloc, r, 2)?)),
         }
     }
 

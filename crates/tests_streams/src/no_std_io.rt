@@ -1,35 +1,37 @@
 //! Which bytes stand where, and that the calls of readers and writers succeed.
-use crate::expect::{check, check_eq, expect_bytes};
+use crate::expect::{check, check_eq, expect_bytes, expect_ok};
 use fakes::readers::{Cuts, FailAt, Silent};
 use fakes::refusal::{Refusal, is_failed};
 use fakes::writers::{Drip, FailWrite};
 use multihash::no_std_io::{Read, Write};
-use std::test::Fail;
 use uses::bytes::{fill_two, first_byte, joined, read_one, write_two};
 
 #[test]
 fn a_short_slice_is_left_as_it_is(rt: HostRuntime) {
+    let rt = &rt;
     let mut left = [1u8, 2, 3].as_slice();
     let mut buf = [9u8; 4];
     let refused = left.read_exact(&mut buf);
     check!(rt; is_failed(&refused, Refusal::UnexpectedEof));
-    expect_bytes(&rt, left, &[1, 2, 3]);
-    expect_bytes(&rt, &buf, &[9, 9, 9, 9]);
+    expect_bytes(rt, left, &[1, 2, 3]);
+    expect_bytes(rt, &buf, &[9, 9, 9, 9]);
 }
 
 #[test]
 fn a_slice_gives_what_it_has(rt: HostRuntime) {
+    let rt = &rt;
     let mut left = [1u8, 2, 3].as_slice();
     let mut buf = [9u8; 2];
     check_eq!(rt; left.read(&mut buf).ok(), Some(2));
-    expect_bytes(&rt, &buf, &[1, 2]);
+    expect_bytes(rt, &buf, &[1, 2]);
     check_eq!(rt; left.read(&mut buf).ok(), Some(1));
-    expect_bytes(&rt, &buf, &[3, 2]);
+    expect_bytes(rt, &buf, &[3, 2]);
     check_eq!(rt; left.read(&mut buf).ok(), Some(0));
 }
 
 #[test]
 fn no_places_are_always_filled(rt: HostRuntime) {
+    let rt = &rt;
     let mut none = [].as_slice();
     check!(rt; none.read_exact(&mut []).is_ok());
     let mut no_places: &mut [u8] = &mut [];
@@ -38,6 +40,7 @@ fn no_places_are_always_filled(rt: HostRuntime) {
 
 #[test]
 fn cuts_are_joined(rt: HostRuntime) {
+    let rt = &rt;
     let mut reader = Cuts::new(&[1, 2, 3], 2);
     let mut buf = [0u8; 4];
     let refused = reader.read_exact(&mut buf);
@@ -46,31 +49,34 @@ fn cuts_are_joined(rt: HostRuntime) {
     let mut reader = Cuts::new(&[1, 2, 3], 2);
     let mut buf = [0u8; 3];
     check!(rt; reader.read_exact(&mut buf).is_ok());
-    expect_bytes(&rt, &buf, &[1, 2, 3]);
+    expect_bytes(rt, &buf, &[1, 2, 3]);
 }
 
 #[test]
 fn a_lent_reader_reads(rt: HostRuntime) {
+    let rt = &rt;
     let mut slice = [4u8, 5, 6, 7].as_slice();
     let mut lent = &mut slice;
     let mut buf = [0u8; 2];
     check!(rt; Read::read_exact(&mut lent, &mut buf).is_ok());
-    expect_bytes(&rt, &buf, &[4, 5]);
+    expect_bytes(rt, &buf, &[4, 5]);
     check_eq!(rt; Read::read(&mut lent, &mut buf).ok(), Some(2));
-    expect_bytes(&rt, &buf, &[6, 7]);
+    expect_bytes(rt, &buf, &[6, 7]);
     check!(rt; slice.is_empty());
 }
 
 #[test]
 fn a_lent_reader_leaves_a_short_slice(rt: HostRuntime) {
+    let rt = &rt;
     let mut slice = [4u8].as_slice();
     let mut lent = &mut slice;
     check!(rt; Read::read_exact(&mut lent, &mut [0; 2]).is_err());
-    expect_bytes(&rt, slice, &[4]);
+    expect_bytes(rt, slice, &[4]);
 }
 
 #[test]
 fn a_failure_takes_nothing(rt: HostRuntime) {
+    let rt = &rt;
     let mut reader = FailAt::new(Cuts::new(&[7], 1), 0);
     let refused = read_one(&mut reader);
     check!(rt; is_failed(&refused, Refusal::LINK_DOWN));
@@ -82,23 +88,26 @@ fn a_failure_takes_nothing(rt: HostRuntime) {
 
 #[test]
 fn a_silent_reader_reads(rt: HostRuntime) {
+    let rt = &rt;
     check_eq!(rt; read_one(&mut Silent(&[7])).ok(), Some(Some(7)));
     check_eq!(rt; read_one(&mut Silent(&[])).ok(), Some(None));
 }
 
 #[test]
 fn a_slice_is_filled(rt: HostRuntime) {
+    let rt = &rt;
     let mut places = [0u8; 2];
     let mut left = places.as_mut_slice();
     let refused = left.write_all(&[7, 8, 9]);
     let is_full = left.is_empty();
     check!(rt; is_failed(&refused, Refusal::WriteZero));
     check!(rt; is_full);
-    expect_bytes(&rt, &places, &[7, 8]);
+    expect_bytes(rt, &places, &[7, 8]);
 }
 
 #[test]
 fn a_slice_is_written_in_parts(rt: HostRuntime) {
+    let rt = &rt;
     let mut places = [0u8; 4];
     let mut left = places.as_mut_slice();
     let first = left.write(&[1, 2, 3]);
@@ -107,40 +116,41 @@ fn a_slice_is_written_in_parts(rt: HostRuntime) {
     check_eq!(rt; first.ok(), Some(3));
     check_eq!(rt; second.ok(), Some(1));
     check_eq!(rt; third.ok(), Some(0));
-    expect_bytes(&rt, &places, &[1, 2, 3, 4]);
+    expect_bytes(rt, &places, &[1, 2, 3, 4]);
 }
 
 #[test]
-fn drops_fill_a_drip(rt: HostRuntime) -> Result<(), Fail> {
-    let mut drip = Drip::new(rt.alloc(), 5, 2)?;
+fn drops_fill_a_drip(rt: HostRuntime) {
+    let rt = &rt;
+    let mut drip = expect_ok(rt, Drip::new(rt.alloc(), 5, 2));
     check_eq!(rt; drip.write(&[1, 2, 3]).ok(), Some(2));
     let refused = drip.write_all(&[3, 4, 5, 6]);
     check!(rt; is_failed(&refused, Refusal::WriteZero));
-    expect_bytes(&rt, &drip.held, &[1, 2, 3, 4, 5]);
-    Ok(())
+    expect_bytes(rt, &drip.held, &[1, 2, 3, 4, 5]);
 }
 
 #[test]
-fn a_vector_grows(rt: HostRuntime) -> Result<(), Fail> {
+fn a_vector_grows(rt: HostRuntime) {
+    let rt = &rt;
     let mut held = Vec::new(rt.alloc());
     check_eq!(rt; held.write(&[1, 2]).ok(), Some(2));
     check!(rt; held.write_all(&[3]).is_ok());
-    expect_bytes(&rt, &held, &[1, 2, 3]);
-    Ok(())
+    expect_bytes(rt, &held, &[1, 2, 3]);
 }
 
 #[test]
-fn a_lent_writer_writes(rt: HostRuntime) -> Result<(), Fail> {
+fn a_lent_writer_writes(rt: HostRuntime) {
+    let rt = &rt;
     let mut held = Vec::new(rt.alloc());
     let mut lent = &mut held;
     check_eq!(rt; Write::write(&mut lent, &[1, 2]).ok(), Some(2));
     check!(rt; write_two(&mut lent, &[3], &[4, 5]).is_ok());
-    expect_bytes(&rt, &held, &[1, 2, 3, 4, 5]);
-    Ok(())
+    expect_bytes(rt, &held, &[1, 2, 3, 4, 5]);
 }
 
 #[test]
 fn who_allocates(rt: HostRuntime) {
+    let rt = &rt;
     check!(rt; <Vec<u8> as Write>::ALLOCATES);
     check!(rt; <&mut Vec<u8> as Write>::ALLOCATES);
     check!(rt; !<&mut [u8] as Write>::ALLOCATES);
@@ -148,23 +158,23 @@ fn who_allocates(rt: HostRuntime) {
 }
 
 #[test]
-fn a_failed_write_appends_nothing(rt: HostRuntime) -> Result<(), Fail> {
-    let mut writer = FailWrite::new(Drip::new(rt.alloc(), 5, 1)?, 2);
+fn a_failed_write_appends_nothing(rt: HostRuntime) {
+    let rt = &rt;
+    let mut writer = FailWrite::new(expect_ok(rt, Drip::new(rt.alloc(), 5, 1)), 2);
     let refused = writer.write_all(&[1, 2, 3]);
     check!(rt; is_failed(&refused, Refusal::DISK_GONE));
-    expect_bytes(&rt, &writer.drip.held, &[1, 2]);
+    expect_bytes(rt, &writer.drip.held, &[1, 2]);
     check!(rt; writer.write_all(&[3]).is_ok());
-    Ok(())
 }
 
 #[test]
-fn the_laws_serve_callers(rt: HostRuntime) -> Result<(), Fail> {
+fn the_laws_serve_callers(rt: HostRuntime) {
+    let rt = &rt;
     check_eq!(rt; first_byte(&[4, 5]), Some(4));
     check_eq!(rt; first_byte(&[]), None);
     let mut places = [0u8; 4];
     check_eq!(rt; fill_two(&mut places, &[1], &[2, 3]), 1);
-    expect_bytes(&rt, &places, &[1, 2, 3, 0]);
-    let all = joined(rt.alloc(), &[1], &[2])?;
-    expect_bytes(&rt, &all, &[1, 2]);
-    Ok(())
+    expect_bytes(rt, &places, &[1, 2, 3, 0]);
+    let all = expect_ok(rt, joined(rt.alloc(), &[1], &[2]));
+    expect_bytes(rt, &all, &[1, 2]);
 }

@@ -1,42 +1,47 @@
 //! A reader that asks another one again where it failed.
-use crate::expect::{check, check_eq, expect_bytes};
+use crate::expect::{check_eq, expect_bytes, expect_ok, expect_refused};
 use fakes::readers::{Cuts, FailAt};
-use fakes::refusal::{Refusal, is_refused};
-use multihash::{Error, Multihash};
+use fakes::refusal::Refusal;
+use multihash::Multihash;
+use std::process::Abort;
 use uses::retries::Retries;
 
 const STREAM: [u8; 5] = [0, 2, 7, 8, 9];
 
+fn expect_a_try(rt: &impl Abort, calls: usize) {
+    let mut again = Retries::new(FailAt::new(Cuts::new(&STREAM, 1), calls), 2);
+    let multihash = expect_ok(rt, Multihash::<4>::read(&mut again));
+    expect_bytes(rt, multihash.digest(), &[7, 8]);
+    check_eq!(rt; again.tries(), 1, calls);
+    check_eq!(rt; again.reader.asked, 5, calls);
+    expect_bytes(rt, again.reader.cuts.left, &[9]);
+}
+
 #[test]
-fn a_failure_costs_a_try(rt: HostRuntime) -> Result<(), Error> {
+fn a_failure_costs_a_try(rt: HostRuntime) {
     for calls in 0..4 {
-        let mut again = Retries::new(FailAt::new(Cuts::new(&STREAM, 1), calls), 2);
-        let multihash = Multihash::<4>::read(&mut again)?;
-        expect_bytes(&rt, multihash.digest(), &[7, 8]);
-        check_eq!(rt; again.tries(), 1, "call {calls}");
-        check_eq!(rt; again.reader.asked, 5, "call {calls}");
-        expect_bytes(&rt, again.reader.cuts.left, &[9]);
+        expect_a_try(&rt, calls);
     }
-    Ok(())
 }
 
 #[test]
 fn with_no_try_left_the_failure_is_handed_on(rt: HostRuntime) {
+    let rt = &rt;
     for calls in 0..4 {
         let mut again = Retries::new(FailAt::new(Cuts::new(&STREAM, 1), calls), 0);
         let refused = Multihash::<4>::read(&mut again);
-        check!(rt; is_refused(&refused, Refusal::LINK_DOWN), "call {calls}");
+        expect_refused(rt, &refused, Refusal::LINK_DOWN, calls);
         check_eq!(rt; again.reader.asked, calls + 1);
     }
 }
 
 #[test]
-fn a_long_digest_comes_in_parts(rt: HostRuntime) -> Result<(), Error> {
+fn a_long_digest_comes_in_parts(rt: HostRuntime) {
+    let rt = &rt;
     let mut stream = [7u8; 102];
     stream[1] = 100;
     let mut again = Retries::new(FailAt::new(Cuts::new(&stream, 200), 3), 1);
-    let multihash = Multihash::<100>::read(&mut again)?;
-    expect_bytes(&rt, multihash.digest(), &[7; 100]);
+    let multihash = expect_ok(rt, Multihash::<100>::read(&mut again));
+    expect_bytes(rt, multihash.digest(), &[7; 100]);
     check_eq!(rt; again.reader.asked, 5);
-    Ok(())
 }

@@ -1,0 +1,22 @@
+//! Readings that tests ask for, each proved once for all of the crate.
+ghost use Rattle.std.specs.Prelude.{◌<◌, ◌^◌};
+
+use multihash::{Error, Multihash};
+
+/// What `read` answers over a slice, and what it leaves of it.
+pub(crate) fn read_slice<const S: usize>(bytes: &[u8]) -> (Result<Multihash<S>, Error>, &[u8])
+    requires { S < 2 ^ 16 }
+{
+    let mut left = bytes;
+    let answer = Multihash::read(&mut left);
+    (answer, left)
+}
+
+/// The same of `scale_decode`.
+pub(crate) fn decode_slice<const S: usize>(bytes: &[u8]) -> (Result<Multihash<S>, Error>, &[u8])
+    requires { S < 2 ^ 16 }
+{
+    let mut left = bytes;
+    let answer = Multihash::scale_decode(&mut left);
+    (answer, left)
+}
