@@ -337,12 +337,15 @@ fn to_bytes_has_no_more_places_than_bytes(rt: HostRuntime) -> Result<(), Fail> {
         );
     }
     for shift in 0..63u32 {
-        let m = Multihash::<4>::wrap(1u64 << shift, b"AB")?;
-        check_eq!(rt;
-            m.to_bytes(rt.alloc())?.capacity(),
-            m.encoded_len(),
-            "shift {shift}"
-        );
+        let most = LARGEST_CODE >> shift;
+        for code in [most ^ (most >> 1), most] {
+            let m = Multihash::<4>::wrap(code, b"AB")?;
+            check_eq!(rt;
+                m.to_bytes(rt.alloc())?.capacity(),
+                m.encoded_len(),
+                "code {code}"
+            );
+        }
     }
     Ok(())
 }
