@@ -1,13 +1,12 @@
 //! What an error tells: its kind, of which exactly one applies, and its text.
-use crate::expect::{check, check_eq};
+use crate::expect::{check, check_eq, expect_ok};
 use fakes::refusal::Refusal;
 use multihash::no_std_io::{self, Read, Write};
 use multihash::{Error, Multihash};
 use serde_json::Value;
 use std::alloc::Global;
-use std::fmt::Display;
+use std::fmt::{Debug, Display};
 use std::process::Abort;
-use std::test::Fail;
 use uses::bytes::{one_of_four, one_of_seven};
 
 // Whether a call was refused, and one of the seven tests applies to its error.
@@ -16,8 +15,9 @@ fn has_one_kind<T>(answer: &Result<T, Error>) -> bool {
 }
 
 #[test]
-fn one_test_of_seven_is_true(rt: HostRuntime) -> Result<(), Fail> {
-    let m = Multihash::<4>::wrap(0, &[7])?;
+fn one_test_of_seven_is_true(rt: HostRuntime) {
+    let rt = &rt;
+    let m = expect_ok(rt, Multihash::<4>::wrap(0, &[7]));
     check!(rt; has_one_kind(&Multihash::<4>::wrap(0, &[0; 5])));
     check!(rt; has_one_kind(&Multihash::<4>::wrap(1 << 63, &[])));
     check!(rt; has_one_kind(&Multihash::<4>::scale_decode(&mut [0xff; 8].as_slice())));
@@ -32,7 +32,6 @@ fn one_test_of_seven_is_true(rt: HostRuntime) -> Result<(), Fail> {
         one_of_seven(&no_std_io::Error::other("disk gone").into()),
         1
     );
-    Ok(())
 }
 
 // Whether a reader or a writer refused, and one of the four tests is true of its error.
@@ -42,6 +41,7 @@ fn has_one_fault(answer: &Result<(), no_std_io::Error>) -> bool {
 
 #[test]
 fn one_test_of_four_is_true(rt: HostRuntime) {
+    let rt = &rt;
     check!(rt; has_one_fault(&[7u8].as_slice().read_exact(&mut [0; 2])));
     check!(rt; has_one_fault(&[0u8].as_mut_slice().write_all(&[7, 8])));
     check_eq!(rt; one_of_four(&no_std_io::Error::out_of_memory()), 1);
@@ -50,6 +50,7 @@ fn one_test_of_four_is_true(rt: HostRuntime) {
 
 #[test]
 fn other_keeps_its_text(rt: HostRuntime) {
+    let rt = &rt;
     let e = no_std_io::Error::other("x");
     check_eq!(rt; e.text(), "x");
     check!(rt; e.is_other());
@@ -60,27 +61,28 @@ fn other_keeps_its_text(rt: HostRuntime) {
 
 #[test]
 fn want_of_memory_has_its_kind(rt: HostRuntime) {
+    let rt = &rt;
     let e = no_std_io::Error::out_of_memory();
     check_eq!(rt; e.text(), "out of memory");
     check!(rt; e.is_out_of_memory());
     check!(rt; !e.is_other());
 }
 
+fn expect_told<E: Debug + Drop>(rt: &impl Abort, told: Result<String, E>, text: &str) {
+    check_eq!(rt; expect_ok(rt, told).as_str(), text);
+}
+
 // The value prints this text, whatever width and precision are asked.
 fn expect_text<D: Display>(rt: &impl Abort, alloc: Global, shown: &D, text: &str) {
-    let told = format!(in alloc; "{shown}").expect(rt, "it is told");
-    check_eq!(rt; told.as_str(), text);
-    let told = format!(in alloc; "{shown:>40}").expect(rt, "it is told");
-    check_eq!(rt; told.as_str(), text);
-    let told = format!(in alloc; "{shown:.3}").expect(rt, "it is told");
-    check_eq!(rt; told.as_str(), text);
-    let told = format!(in alloc; "{shown:^60.1}").expect(rt, "it is told");
-    check_eq!(rt; told.as_str(), text);
+    expect_told(rt, format!(in alloc; "{shown}"), text);
+    expect_told(rt, format!(in alloc; "{shown:>40}"), text);
+    expect_told(rt, format!(in alloc; "{shown:.3}"), text);
+    expect_told(rt, format!(in alloc; "{shown:^60.1}"), text);
 }
 
 fn expect_fault(rt: &impl Abort, alloc: Global, answer: &Result<(), no_std_io::Error>, text: &str) {
     match answer {
-        Ok(()) => check!(rt; false, "{text}: no fault"),
+        Ok(()) => check!(rt; false, text),
         Err(e) => {
             check_eq!(rt; e.text(), text);
             expect_text(rt, alloc, e, text);
@@ -90,21 +92,22 @@ fn expect_fault(rt: &impl Abort, alloc: Global, answer: &Result<(), no_std_io::E
 
 #[test]
 fn faults_print_their_texts(rt: HostRuntime) {
+    let rt = &rt;
     let alloc = rt.alloc();
     let ended = [7u8].as_slice().read_exact(&mut [0; 2]);
-    expect_fault(&rt, alloc, &ended, "failed to fill whole buffer");
+    expect_fault(rt, alloc, &ended, "failed to fill whole buffer");
     let full = [0u8].as_mut_slice().write_all(&[7, 8]);
-    expect_fault(&rt, alloc, &full, "failed to write whole buffer");
+    expect_fault(rt, alloc, &full, "failed to write whole buffer");
     let refused = Err(no_std_io::Error::out_of_memory());
-    expect_fault(&rt, alloc, &refused, "out of memory");
+    expect_fault(rt, alloc, &refused, "out of memory");
     let failed = Err(no_std_io::Error::other("link down"));
-    expect_fault(&rt, alloc, &failed, "link down");
-    expect_fault(&rt, alloc, &Err(no_std_io::Error::other("")), "");
+    expect_fault(rt, alloc, &failed, "link down");
+    expect_fault(rt, alloc, &Err(no_std_io::Error::other("")), "");
 }
 
 fn expect_refusal<T>(rt: &impl Abort, alloc: Global, answer: &Result<T, Error>, text: &str) {
     match answer {
-        Ok(_) => check!(rt; false, "{text}: no refusal"),
+        Ok(_) => check!(rt; false, text),
         Err(e) => expect_text(rt, alloc, e, text),
     }
 }
@@ -112,44 +115,45 @@ fn expect_refusal<T>(rt: &impl Abort, alloc: Global, answer: &Result<T, Error>, 
 // A size and a code of 0, which no call refuses, and the largest size are examples of the definition.
 #[test]
 fn numbers_print_in_their_texts(rt: HostRuntime) {
+    let rt = &rt;
     let alloc = rt.alloc();
     let one = Multihash::<2>::from_bytes(&[0, 0, 7]);
-    expect_refusal(&rt, alloc, &one, "Invalid multihash size 1.");
+    expect_refusal(rt, alloc, &one, "Invalid multihash size 1.");
     let long = Multihash::<300>::wrap(0, &[0; 300]);
-    expect_refusal(&rt, alloc, &long, "Invalid multihash size 300.");
+    expect_refusal(rt, alloc, &long, "Invalid multihash size 300.");
     let longest = Multihash::<4>::from_bytes(&[0, 255, 255, 255, 255, 255, 255, 255, 255, 127]);
     let text = "Invalid multihash size 9223372036854775807.";
-    expect_refusal(&rt, alloc, &longest, text);
+    expect_refusal(rt, alloc, &longest, text);
     let least = Multihash::<4>::wrap(1 << 63, &[]);
     let text = "Invalid multihash code 9223372036854775808.";
-    expect_refusal(&rt, alloc, &least, text);
+    expect_refusal(rt, alloc, &least, text);
     let text = "Invalid multihash code 18446744073709551615.";
-    expect_refusal(&rt, alloc, &Multihash::<4>::wrap(u64::MAX, &[]), text);
+    expect_refusal(rt, alloc, &Multihash::<4>::wrap(u64::MAX, &[]), text);
     let decoded = Multihash::<4>::scale_decode(&mut [255; 9].as_slice());
-    expect_refusal(&rt, alloc, &decoded, text);
+    expect_refusal(rt, alloc, &decoded, text);
 }
 
 #[test]
-fn refusals_print_their_texts(rt: HostRuntime) -> Result<(), Fail> {
+fn refusals_print_their_texts(rt: HostRuntime) {
+    let rt = &rt;
     let alloc = rt.alloc();
-    let m = Multihash::<4>::wrap(0, &[7])?;
+    let m = expect_ok(rt, Multihash::<4>::wrap(0, &[7]));
     let ended = Multihash::<4>::from_bytes(&[]);
-    expect_refusal(&rt, alloc, &ended, "not enough input bytes");
+    expect_refusal(rt, alloc, &ended, "not enough input bytes");
     let overflow = Multihash::<4>::from_bytes(&[0xff; 9]);
-    expect_refusal(&rt, alloc, &overflow, "input bytes exceed maximum");
+    expect_refusal(rt, alloc, &overflow, "input bytes exceed maximum");
     let padded = Multihash::<4>::from_bytes(&[0x80, 0]);
-    expect_refusal(&rt, alloc, &padded, "encoding is not minimal");
+    expect_refusal(rt, alloc, &padded, "encoding is not minimal");
     let null = Multihash::<4>::from_value(&Value::Null);
-    expect_refusal(&rt, alloc, &null, "Failed to deserialize Multihash");
+    expect_refusal(rt, alloc, &null, "Failed to deserialize Multihash");
     let cut = Multihash::<4>::from_bytes(&[0, 1]);
-    expect_refusal(&rt, alloc, &cut, "failed to fill whole buffer");
+    expect_refusal(rt, alloc, &cut, "failed to fill whole buffer");
     let full = m.write(&mut [].as_mut_slice());
-    expect_refusal(&rt, alloc, &full, "failed to write whole buffer");
+    expect_refusal(rt, alloc, &full, "failed to write whole buffer");
     let memory = Error::from(no_std_io::Error::out_of_memory());
-    expect_text(&rt, alloc, &memory, "out of memory");
+    expect_text(rt, alloc, &memory, "out of memory");
     let failed = Error::from(no_std_io::Error::other("disk gone"));
-    expect_text(&rt, alloc, &failed, "disk gone");
-    Ok(())
+    expect_text(rt, alloc, &failed, "disk gone");
 }
 
 fn expect_numbers(rt: &impl Abort) {
@@ -184,8 +188,9 @@ fn expect_kinds(rt: &impl Abort) {
 
 #[test]
 fn refusals_tell_their_kind(rt: HostRuntime) {
-    expect_numbers(&rt);
-    expect_kinds(&rt);
+    let rt = &rt;
+    expect_numbers(rt);
+    expect_kinds(rt);
 }
 
 fn is_error<E: std::error::Error>(_e: &E) -> bool {
@@ -193,14 +198,14 @@ fn is_error<E: std::error::Error>(_e: &E) -> bool {
 }
 
 #[test]
-fn errors_are_errors(rt: HostRuntime) -> Result<(), Fail> {
-    let refusal = Multihash::<4>::wrap(0, &[0; 7]).expect_err(&rt, "too long");
+fn errors_are_errors(rt: HostRuntime) {
+    let rt = &rt;
+    let refusal = Multihash::<4>::wrap(0, &[0; 7]).expect_err(rt, "too long");
     let fault = no_std_io::Error::other("x");
     check!(rt; is_error(&refusal));
     check!(rt; is_error(&fault));
-    check!(rt; !format!(in rt.alloc(); "{refusal:?}")?.is_empty());
-    check!(rt; !format!(in rt.alloc(); "{fault:?}")?.is_empty());
-    Ok(())
+    check!(rt; !expect_ok(rt, format!(in rt.alloc(); "{refusal:?}")).is_empty());
+    check!(rt; !expect_ok(rt, format!(in rt.alloc(); "{fault:?}")).is_empty());
 }
 
 // Whether a call was refused, and more input might help.
@@ -214,20 +219,20 @@ fn is_late<T>(answer: &Result<T, Error>) -> bool {
 }
 
 #[test]
-fn more_input_helps_early_ends_alone(rt: HostRuntime) -> Result<(), Fail> {
+fn more_input_helps_early_ends_alone(rt: HostRuntime) {
+    let rt = &rt;
     for early in [&[][..], &[0x80], &[0x12], &[0x12, 0x80], &[0, 1]] {
-        check!(rt; is_early(&Multihash::<4>::from_bytes(early)), "{early:?}");
+        check!(rt; is_early(&Multihash::<4>::from_bytes(early)), early);
     }
     check!(rt; is_early(&Multihash::<4>::scale_decode(&mut [7; 7].as_slice())));
     for late in [&[0xff; 12][..], &[0x80, 0], &[0, 5], &[0, 0, 7]] {
-        check!(rt; is_late(&Multihash::<4>::from_bytes(late)), "{late:?}");
+        check!(rt; is_late(&Multihash::<4>::from_bytes(late)), late);
     }
     check!(rt; is_late(&Multihash::<4>::wrap(0, &[0; 5])));
     check!(rt; is_late(&Multihash::<4>::wrap(1 << 63, &[])));
     check!(rt; is_late(&Multihash::<4>::from_value(&Value::Null)));
-    let m = Multihash::<4>::wrap(0, &[7])?;
+    let m = expect_ok(rt, Multihash::<4>::wrap(0, &[7]));
     check!(rt; is_late(&m.write(&mut [].as_mut_slice())));
     check!(rt; !Error::from(no_std_io::Error::out_of_memory()).is_early_end());
     check!(rt; !Error::from(no_std_io::Error::other("disk gone")).is_early_end());
-    Ok(())
 }

@@ -1,5 +1,5 @@
 //! Worked values of comparing, hashing, truncating and resizing.
-use crate::expect::{check, check_eq, expect_bytes};
+use crate::expect::{check, check_eq, expect_bytes, expect_ok};
 use fakes::refusal::{LARGEST_CODE, Refusal, is_refused};
 use multihash::{Multihash, MultihashGeneric, list, no_std_io};
 use std::alloc::Global;
@@ -7,7 +7,6 @@ use std::cmp::Ordering;
 use std::collections::{BTreeMap, HashMap};
 use std::hash::{DefaultHasher, Hash, Hasher};
 use std::process::Abort;
-use std::test::Fail;
 use uses::block_store::{put_hashed, put_ordered};
 use uses::peer_id::same_iff_encoded_alike;
 use uses::values::{
@@ -21,55 +20,56 @@ fn hash_of<T: Hash>(x: &T) -> u64 {
 }
 
 #[test]
-fn defaults_are_empty(rt: HostRuntime) -> Result<(), Fail> {
+fn defaults_are_empty(rt: HostRuntime) {
+    let rt = &rt;
     let m = Multihash::<32>::default();
-    expect_bytes(&rt, &m.to_bytes(rt.alloc())?, &[0, 0]);
+    expect_bytes(rt, &expect_ok(rt, m.to_bytes(rt.alloc())), &[0, 0]);
     check!(rt; m.same_as(&Multihash::<64>::default()));
     check_eq!(rt; Multihash::<0>::default().into_inner(), (0, [], 0));
-    Ok(())
 }
 
 #[test]
-fn a_clone_is_the_same(rt: HostRuntime) -> Result<(), Fail> {
-    let m = Multihash::<4>::wrap(18, b"AB")?;
-    check_eq!(rt; m.clone()?, m);
-    check_eq!(rt; m.clone()?.code(), 18);
-    Ok(())
+fn a_clone_is_the_same(rt: HostRuntime) {
+    let rt = &rt;
+    let m = expect_ok(rt, Multihash::<4>::wrap(18, b"AB"));
+    let cloned = expect_ok(rt, m.clone());
+    check_eq!(rt; &cloned, &m);
+    check_eq!(rt; cloned.code(), 18);
 }
 
 #[test]
-fn a_digest_is_cut(rt: HostRuntime) -> Result<(), Fail> {
-    let m = Multihash::<64>::wrap(0, b"foobar")?;
+fn a_digest_is_cut(rt: HostRuntime) {
+    let rt = &rt;
+    let m = expect_ok(rt, Multihash::<64>::wrap(0, b"foobar"));
     let cut = m.truncate(3);
-    let short = Multihash::<64>::wrap(0, b"foo")?;
-    expect_bytes(&rt, cut.digest(), b"foo");
-    check_eq!(rt; cut, short);
+    let short = expect_ok(rt, Multihash::<64>::wrap(0, b"foo"));
+    expect_bytes(rt, cut.digest(), b"foo");
+    check_eq!(rt; &cut, &short);
     check_eq!(rt; cut.cmp(&short), Ordering::Equal);
     check_eq!(rt; hash_of(&cut), hash_of(&short));
     let mut array = [0u8; 64];
     array[..3].copy_from_slice(b"foo");
     check_eq!(rt; cut.into_inner(), (0, array, 3));
-    check_eq!(rt; m.truncate(9), m);
+    check_eq!(rt; &m.truncate(9), &m);
     check!(rt; is_refused(&m.resize::<2>(), Refusal::InvalidSize(6)));
-    Ok(())
 }
 
 #[test]
-fn values_print(rt: HostRuntime) -> Result<(), Fail> {
-    let m = Multihash::<4>::wrap(18, &[1, 2])?;
-    check!(rt; !format!(in rt.alloc(); "{m:?}")?.is_empty());
-    Ok(())
+fn values_print(rt: HostRuntime) {
+    let rt = &rt;
+    let m = expect_ok(rt, Multihash::<4>::wrap(18, &[1, 2]));
+    check!(rt; !expect_ok(rt, format!(in rt.alloc(); "{m:?}")).is_empty());
 }
 
 #[test]
-fn a_cut_digest_is_printed_alone(rt: HostRuntime) -> Result<(), Fail> {
-    let cut = Multihash::<64>::wrap(18, b"foobar")?.truncate(3);
-    let text = format!(in rt.alloc(); "{cut:?}")?;
+fn a_cut_digest_is_printed_alone(rt: HostRuntime) {
+    let rt = &rt;
+    let cut = expect_ok(rt, Multihash::<64>::wrap(18, b"foobar")).truncate(3);
+    let text = expect_ok(rt, format!(in rt.alloc(); "{cut:?}"));
     check_eq!(rt;
         text.as_str(),
         "Multihash { code: 18, size: 3, digest: [102, 111, 111] }"
     );
-    Ok(())
 }
 
 /// Two pairs, and how the left one compares with the right one.
@@ -84,78 +84,91 @@ const ROWS: [Row; 6] = [
     (0, b"\xff", 0, b"\x01\x01", Ordering::Less),
 ];
 
-#[test]
-fn pairs_are_ordered(rt: HostRuntime) -> Result<(), Fail> {
-    for (left_code, left_digest, right_code, right_digest, want) in ROWS {
-        let left = Multihash::<4>::wrap(left_code, left_digest)?;
-        let right = Multihash::<4>::wrap(right_code, right_digest)?;
-        check_eq!(rt; left.cmp(&right), want, "{left_digest:?}");
-        check_eq!(rt; right.cmp(&left), want.reverse());
-        check_eq!(rt; left.partial_cmp(&right), Some(want));
-        check_eq!(rt; left == right, want.is_eq());
-        check_eq!(rt; left < right, want.is_lt());
-        check_eq!(rt; left.same_as(&right), want.is_eq());
-        check!(rt; equal_iff_same(&left, &right));
-    }
-    let cut = Multihash::<4>::wrap(0, b"ab")?.truncate(1);
-    check_eq!(rt; cut.cmp(&Multihash::wrap(0, b"a")?), Ordering::Equal);
-    Ok(())
+fn expect_ordered(rt: &impl Abort, row: &Row) {
+    let (left_code, left_digest, right_code, right_digest, want) = *row;
+    let left = &expect_ok(rt, Multihash::<4>::wrap(left_code, left_digest));
+    let right = &expect_ok(rt, Multihash::<4>::wrap(right_code, right_digest));
+    check_eq!(rt; left.cmp(right), want, left_digest);
+    check_eq!(rt; right.cmp(left), want.reverse(), left_digest);
+    check_eq!(rt; left.partial_cmp(right), Some(want), left_digest);
+    check_eq!(rt; left == right, want.is_eq(), left_digest);
+    check_eq!(rt; left < right, want.is_lt(), left_digest);
+    check_eq!(rt; left.same_as(right), want.is_eq(), left_digest);
+    check!(rt; equal_iff_same(left, right), left_digest);
 }
 
 #[test]
-fn sizes_of_buffers_do_not_count(rt: HostRuntime) -> Result<(), Fail> {
-    let small = Multihash::<4>::wrap(0, b"ab")?;
-    let large = Multihash::<300>::wrap(0, b"ab")?;
+fn pairs_are_ordered(rt: HostRuntime) {
+    let rt = &rt;
+    for row in &ROWS {
+        expect_ordered(rt, row);
+    }
+    let cut = expect_ok(rt, Multihash::<4>::wrap(0, b"ab")).truncate(1);
+    let short = expect_ok(rt, Multihash::wrap(0, b"a"));
+    check_eq!(rt; cut.cmp(&short), Ordering::Equal);
+}
+
+#[test]
+fn sizes_of_buffers_do_not_count(rt: HostRuntime) {
+    let rt = &rt;
+    let small = expect_ok(rt, Multihash::<4>::wrap(0, b"ab"));
+    let large = expect_ok(rt, Multihash::<300>::wrap(0, b"ab"));
     check!(rt; small.same_as(&large));
-    for bytes in [small.to_bytes(rt.alloc())?, large.to_bytes(rt.alloc())?] {
-        expect_bytes(&rt, &bytes, &[0, 2, 0x61, 0x62]);
-    }
-    check!(rt; !small.same_as(&Multihash::<300>::wrap(0, b"a")?));
-    check!(rt; !small.same_as(&Multihash::<300>::wrap(1, b"ab")?));
-    check!(rt; same_as_is_an_equivalence(&small, &large, &small.resize::<6>()?));
-    check!(rt; same_iff_encoded_alike(rt.alloc(), &small, &large)?);
-    check!(rt; same_iff_encoded_alike(rt.alloc(), &small.truncate(1), &large)?);
-    Ok(())
+    let bytes = expect_ok(rt, small.to_bytes(rt.alloc()));
+    expect_bytes(rt, &bytes, &[0, 2, 0x61, 0x62]);
+    let bytes = expect_ok(rt, large.to_bytes(rt.alloc()));
+    expect_bytes(rt, &bytes, &[0, 2, 0x61, 0x62]);
+    check!(rt; !small.same_as(&expect_ok(rt, Multihash::<300>::wrap(0, b"a"))));
+    check!(rt; !small.same_as(&expect_ok(rt, Multihash::<300>::wrap(1, b"ab"))));
+    let other = expect_ok(rt, small.resize::<6>());
+    check!(rt; same_as_is_an_equivalence(&small, &large, &other));
+    check!(rt; expect_ok(rt, same_iff_encoded_alike(rt.alloc(), &small, &large)));
+    let short = small.truncate(1);
+    check!(rt; expect_ok(rt, same_iff_encoded_alike(rt.alloc(), &short, &large)));
 }
 
 #[test]
-fn the_smaller_size_counts(rt: HostRuntime) -> Result<(), Fail> {
-    let m = Multihash::<6>::wrap(0, b"foobar")?;
+fn the_smaller_size_counts(rt: HostRuntime) {
+    let rt = &rt;
+    let m = expect_ok(rt, Multihash::<6>::wrap(0, b"foobar"));
     let twice = m.truncate(5).truncate(2);
     check_eq!(rt; twice, m.truncate(2).truncate(5));
     check_eq!(rt; twice, m.truncate(2));
     check!(rt; truncate_twice(&m, 5, 2));
-    Ok(())
 }
 
 #[test]
-fn a_multihash_hashes_as_its_pair(rt: HostRuntime) -> Result<(), Fail> {
+fn a_multihash_hashes_as_its_pair(rt: HostRuntime) {
+    let rt = &rt;
     for (code, digest) in [
         (0u64, b"foo".as_slice()),
         (LARGEST_CODE, b""),
         (18, b"foobar"),
     ] {
-        let m = Multihash::<6>::wrap(code, digest)?;
+        let m = expect_ok(rt, Multihash::<6>::wrap(code, digest));
         check_eq!(rt; hash_of(&m), hash_of(&(code, digest)));
-        let resized = m.resize::<300>()?;
+        let resized = expect_ok(rt, m.resize::<300>());
         check!(rt; resized.same_as(&m));
         check_eq!(rt; hash_of(&resized), hash_of(&m));
-        let (large, same) = resized_is_same::<6, 300>(&m)?;
+        let (large, same) = expect_ok(rt, resized_is_same::<6, 300>(&m));
         check!(rt; same && large == resized);
     }
-    Ok(())
 }
 
 // The pair 0, `foo` in each form.
-fn expect_foo(rt: &impl Abort, alloc: Global, m: &Multihash<6>) -> Result<(), Fail> {
-    expect_bytes(rt, &m.to_bytes(alloc)?, &[0, 3, 102, 111, 111]);
+fn expect_foo(rt: &impl Abort, alloc: Global, m: &Multihash<6>) {
+    expect_bytes(
+        rt,
+        &expect_ok(rt, m.to_bytes(alloc)),
+        &[0, 3, 102, 111, 111],
+    );
     let mut scale = Vec::new(alloc);
-    check_eq!(rt; m.scale_encode(&mut scale)?, 12);
+    check_eq!(rt; expect_ok(rt, m.scale_encode(&mut scale)), 12);
     expect_bytes(rt, &scale, &[0, 0, 0, 0, 0, 0, 0, 0, 3, 102, 111, 111]);
-    let value = m.to_value(alloc)?;
-    check_eq!(rt; value.to_string(alloc)?.as_str(), "[0,3,102,111,111]");
+    let value = expect_ok(rt, m.to_value(alloc));
+    let text = expect_ok(rt, value.to_string(alloc));
+    check_eq!(rt; text.as_str(), "[0,3,102,111,111]");
     check_eq!(rt; m.into_inner(), (0, [102, 111, 111, 0, 0, 0], 3));
-    Ok(())
 }
 
 fn expect_equal_values(rt: &impl Abort, m: &Multihash<6>, other: &Multihash<6>) {
@@ -166,39 +179,41 @@ fn expect_equal_values(rt: &impl Abort, m: &Multihash<6>, other: &Multihash<6>) 
 }
 
 #[test]
-fn stale_tails_stay_inside(rt: HostRuntime) -> Result<(), Fail> {
-    let m = Multihash::<6>::wrap(0, b"foobar")?.truncate(3);
-    expect_foo(&rt, rt.alloc(), &m)?;
-    expect_equal_values(&rt, &m, &Multihash::wrap(0, b"foo")?);
-    expect_equal_values(&rt, &m, &Multihash::wrap(0, b"fooxyz")?.truncate(3));
-    expect_bytes(&rt, m.truncate(5).digest(), b"foo");
-    check!(rt; m.resize::<3>()?.same_as(&m));
-    Ok(())
+fn stale_tails_stay_inside(rt: HostRuntime) {
+    let rt = &rt;
+    let m = expect_ok(rt, Multihash::<6>::wrap(0, b"foobar")).truncate(3);
+    expect_foo(rt, rt.alloc(), &m);
+    expect_equal_values(rt, &m, &expect_ok(rt, Multihash::wrap(0, b"foo")));
+    let other = expect_ok(rt, Multihash::wrap(0, b"fooxyz")).truncate(3);
+    expect_equal_values(rt, &m, &other);
+    expect_bytes(rt, m.truncate(5).digest(), b"foo");
+    check!(rt; expect_ok(rt, m.resize::<3>()).same_as(&m));
 }
 
 #[test]
-fn multihashes_are_keys(rt: HostRuntime) -> Result<(), Fail> {
-    let m = Multihash::<64>::wrap(0, b"foobar")?;
+fn multihashes_are_keys(rt: HostRuntime) {
+    let rt = &rt;
+    let m = expect_ok(rt, Multihash::<64>::wrap(0, b"foobar"));
+    let foo = expect_ok(rt, Multihash::wrap(0, b"foo"));
     let mut ordered = BTreeMap::new(rt.alloc());
     let mut hashed = HashMap::new(rt.alloc());
-    for (key, value) in [(m, 1), (m.truncate(3), 2), (Multihash::wrap(0, b"foo")?, 3)] {
-        put_ordered(&mut ordered, key, value)?;
-        put_hashed(&mut hashed, key, value)?;
+    for (key, value) in [(m, 1), (m.truncate(3), 2), (foo, 3)] {
+        expect_ok(rt, put_ordered(&mut ordered, key, value));
+        expect_ok(rt, put_hashed(&mut hashed, key, value));
     }
     check_eq!(rt; (ordered.len(), hashed.len()), (2, 2));
     check_eq!(rt; ordered.get(&m.truncate(3)), Some(&3));
     check_eq!(rt; hashed.get(&m.truncate(3)), Some(&3));
-    Ok(())
 }
 
 #[test]
-fn multihashes_are_sorted(rt: HostRuntime) -> Result<(), Fail> {
-    let m = Multihash::<6>::wrap(1, b"foobar")?;
-    let first = Multihash::wrap(0, b"zzz")?;
-    let mut items = vec![in rt.alloc(); m, m.truncate(1), first]?;
-    sort_them(&mut items)?;
+fn multihashes_are_sorted(rt: HostRuntime) {
+    let rt = &rt;
+    let m = expect_ok(rt, Multihash::<6>::wrap(1, b"foobar"));
+    let first = expect_ok(rt, Multihash::wrap(0, b"zzz"));
+    let mut items = expect_ok(rt, vec![in rt.alloc(); m, m.truncate(1), first]);
+    expect_ok(rt, sort_them(&mut items));
     check!(rt; items.as_slice() == [first, m.truncate(1), m].as_slice());
-    Ok(())
 }
 
 // The older name of the type, and that of what calls answer.
@@ -207,19 +222,22 @@ fn read_alias(bytes: &[u8]) -> multihash::Result<MultihashGeneric<4>> {
 }
 
 #[test]
-fn aliases_name_the_types(rt: HostRuntime) -> Result<(), Fail> {
-    let m: Multihash<4> = read_alias(&[0, 0])?;
+fn aliases_name_the_types(rt: HostRuntime) {
+    let rt = &rt;
+    let m: Multihash<4> = expect_ok(rt, read_alias(&[0, 0]));
     check_eq!(rt; m, MultihashGeneric::default());
-    Ok(())
 }
 
 #[test]
-fn the_root_names(rt: HostRuntime) -> Result<(), Fail> {
+fn the_root_names(rt: HostRuntime) {
+    let rt = &rt;
     let mut left = [18u8, 1, 66].as_slice();
-    let items: Vec<multihash::Multihash<1>> = list::read_list(rt.alloc(), &mut left, 1)?;
-    list::write_list(&items, &mut [0u8; 3].as_mut_slice())?;
+    let items: Vec<multihash::Multihash<1>> = expect_ok(
+        rt,
+        list::read_list(rt.alloc(), &mut left, 1),
+    );
+    expect_ok(rt, list::write_list(&items, &mut [0u8; 3].as_mut_slice()));
     let refused: multihash::Error = multihash::Error::from(no_std_io::Error::other("x"));
     check_eq!(rt; Refusal::of(&refused), Some(Refusal::Other("x")));
     multihash::laws::prefix_free();
-    Ok(())
 }
