@@ -2,7 +2,7 @@
 use Rattle.std.proofs.Common.{◌≡◌, ◌≤◌, ℕ, List, [], ◌∷◌, ◌++◌, length, Option, Some, inl, inr, refl, sym, ap, ◌∙◌, subst, arith, append_assoc, length-append}
 use Rattle.std.proofs.lemmas.List.Elements.{All-head}
 use Rattle.multihash.specs.Varint.{IsVarint, insufficient, IsMarked, IsInsufficient, HasFaultyFront}
-use Rattle.multihash.specs.Refusal.{of_io, of_size, of_varint}
+use Rattle.multihash.specs.Refusal.{of_io, of_size, of_code, of_varint}
 use Rattle.multihash.specs.Taking.{TakesVarint, TakesAtVarintRefusal}
 use Rattle.multihash.proofs.Examples.FaultVectors.{eof}
 use Rattle.multihash.proofs.Examples.ReadingVectors.{taken_is}
@@ -68,6 +68,16 @@ stops_in_version = in_version (inl (insufficient, refl)) ends_at_varint
 stops_in_number : StopsInContentId 4 (of_varint insufficient) (Some (0x01 ∷ [])) (Some [])
 stops_in_number = in_number 1 (Some []) (inl refl) (0x01 ∷ [], varint_1, refl) (inl (insufficient, refl)) ends_at_varint
 
+stops_in_hash : StopsInContentId 4 (of_varint insufficient) (Some (0x01 ∷ 0x02 ∷ 0x80 ∷ [])) (Some [])
+stops_in_hash = in_hash 2 (Some (0x02 ∷ 0x80 ∷ [])) (Some (0x80 ∷ [])) (0x01 ∷ [], varint_1, refl) (0x02 ∷ [], varint_2, refl)
+    (inl (inr (inl (insufficient, refl)))) (record {
+      taken = 0x80 ∷ [];
+      takes = refl;
+      insufficient = λ _. (inl (record { few = omega arith; all_marked = all_marked (0x80 ∷ []) refl }), refl);
+      eof = λ (fault, is, end). absurd (cc);
+      fault = λ (fault, is, own). absurd (cc);
+    })
+
 stops_in_digest : StopsInContentId 4 (of_io eof) (Some (0x12 ∷ 0x20 ∷ 7 ∷ [])) (Some [])
 stops_in_digest =
     in_digest (Some (0x20 ∷ 7 ∷ [])) (Some (7 ∷ [])) (0x12 ∷ [], varint_18, refl) (0x20 ∷ [], varint_32, refl) (inl (eof, refl, refl))
@@ -97,6 +107,19 @@ stops_at_no_size (in_number version middle known v (inl (fault, is)) took) = cc
 stops_at_no_size (in_number version middle known v (inr (fault, is, own)) took) = cc
 stops_at_no_size (in_hash codec middle behind v n refuses took) = omega (arith, version_at 1 2 (0x02 ∷ []) [] middle varint_2 v)
 stops_at_no_size (in_digest middle behind v n refuses took) = omega (arith, version_at 0x12 2 (0x02 ∷ []) [] middle varint_2 v)
+
+-- nor a code anywhere, since none that is too large has a varint
+stops_at_no_code : (n : ℕ) (old new : Option (List ℕ)) → ¬ (StopsInContentId 4 (of_code n) old new)
+stops_at_no_code n old new (in_version (inl (fault, is)) took) = cc
+stops_at_no_code n old new (in_version (inr (fault, is, own)) took) = cc
+stops_at_no_code n old new (in_number version middle known v (inl (fault, is)) took) = cc
+stops_at_no_code n old new (in_number version middle known v (inr (fault, is, own)) took) = cc
+stops_at_no_code n old new (in_hash codec middle behind v m (inl (inl (size, is, large))) took) = cc
+stops_at_no_code n old new (in_hash codec middle behind v m (inl (inr (inl (fault, is)))) took) = cc
+stops_at_no_code n old new (in_hash codec middle behind v m (inl (inr (inr (fault, is, end)))) took) = cc
+stops_at_no_code n old new (in_hash codec middle behind v m (inr (fault, is, own)) took) = cc
+stops_at_no_code n old new (in_digest middle behind v m (inl (fault, is, end)) took) = cc
+stops_at_no_code n old new (in_digest middle behind v m (inr (fault, is, own)) took) = cc
 
 -- ---- what follows an identifier
 

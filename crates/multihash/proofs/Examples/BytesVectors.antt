@@ -17,8 +17,14 @@ all_below bound (x ∷ xs) e =
 bytes_0_255 : IsBytes (0 ∷ 255 ∷ [])
 bytes_0_255 = all_below 256 (0 ∷ 255 ∷ []) refl
 
+no_bytes_are_bytes : IsBytes []
+no_bytes_are_bytes = all_below 256 [] refl
+
 no_byte_256 : ¬ (IsBytes (0 ∷ 256 ∷ []))
 no_byte_256 h = omega (arith, h 1 0 (omega arith))
+
+no_byte_256_before_one : ¬ (IsBytes (256 ∷ 0 ∷ []))
+no_byte_256_before_one h = omega (arith, h 0 0 (omega arith))
 
 -- ---- beginnings
 

@@ -1,9 +1,9 @@
 -- The encodings of known pairs.
-use Rattle.std.proofs.Common.{◌≡◌, ℕ, ◌+◌, List, [], ◌∷◌, ◌++◌, length, replicate, refl}
+use Rattle.std.proofs.Common.{◌≡◌, ◌<◌, ℕ, ◌+◌, List, [], ◌∷◌, ◌++◌, length, get_or, replicate, refl, ap, arith}
 use Rattle.std.specs.Prelude.{codes}
 use Rattle.multihash.specs.Varint.{max_marked}
 use Rattle.multihash.specs.Encoding.{IsEncoding}
-use Rattle.multihash.proofs.Examples.VarintVectors.{varint_0, varint_2, varint_128, varint_255, largest, largest_bytes, varint_largest}
+use Rattle.multihash.proofs.Examples.VarintVectors.{varint_0, varint_2, varint_128, varint_255, largest, largest_bytes, varint_largest, begins_small}
 use Rattle.multihash.proofs.Examples.PairVectors.{pair}
 
 encodes_ab : IsEncoding (pair 0 (codes "ab")) (0x00 ∷ 0x02 ∷ 0x61 ∷ 0x62 ∷ [])
@@ -43,3 +43,28 @@ longest_is = refl
 -- no encoding is longer
 most_bytes : (max_marked + 1) + 2 + 255 ≡ 266
 most_bytes = refl
+
+-- ---- what is no encoding, each part refused by itself
+
+encodes_no_other_code : ¬ (IsEncoding (pair 1 []) (0x00 ∷ 0x00 ∷ []))
+encodes_no_other_code h = omega (arith, (begins_small 1 0x00 (0x00 ∷ []) h.code (h.size ++ []) (omega arith) h.is_code h.spelled).0)
+
+-- the size and the digest follow the varint of a small code
+behind_code : (code b : ℕ) (digest rest : List ℕ) (h : IsEncoding (pair code digest) (b ∷ rest)) → b < 128 → rest ≡ h.size ++ digest
+behind_code code b digest rest h small = (begins_small code b rest h.code (h.size ++ digest) small h.is_code h.spelled).1
+
+encodes_no_other_size : ¬ (IsEncoding (pair 0 (codes "ab")) (0x00 ∷ 0x01 ∷ 0x61 ∷ 0x62 ∷ []))
+encodes_no_other_size h =
+    let sized = behind_code 0 0x00 (codes "ab") (0x01 ∷ 0x61 ∷ 0x62 ∷ []) h (omega arith) in
+    omega (arith, (begins_small 2 0x01 (0x61 ∷ 0x62 ∷ []) h.size (codes "ab") (omega arith) h.is_size sized).0)
+
+digest_of : (digest rest : List ℕ) (h : IsEncoding (pair 0 digest) (0x00 ∷ 0x02 ∷ rest)) → rest ≡ digest
+digest_of digest rest h =
+    (begins_small (length digest) 0x02 rest h.size digest (omega arith) h.is_size (behind_code 0 0x00 digest (0x02 ∷ rest) h (omega arith))).1
+
+encodes_no_other_digest : ¬ (IsEncoding (pair 0 (codes "ab")) (0x00 ∷ 0x02 ∷ 0x61 ∷ 0x63 ∷ []))
+encodes_no_other_digest h = omega (arith, ap (λ (z : List ℕ). get_or z 1 0) (digest_of (codes "ab") (codes "ac") h))
+
+-- no byte follows the digest
+encodes_no_more : ¬ (IsEncoding (pair 0 (codes "ab")) (0x00 ∷ 0x02 ∷ 0x61 ∷ 0x62 ∷ 0x07 ∷ []))
+encodes_no_more h = omega (arith, ap (λ (z : List ℕ). length z) (digest_of (codes "ab") (0x61 ∷ 0x62 ∷ 0x07 ∷ []) h))

@@ -1,12 +1,12 @@
 -- Varints of known numbers, and what begins known inputs. An input begins with nothing but what is computed
 -- (`front_is`), so a row says both what holds and what does not.
-use Rattle.std.proofs.Common.{◌≡◌, ◌<◌, ℕ, ltb, Bool, true, List, [], ◌∷◌, ◌++◌, length, refl, sym, subst, ap, ◌∙◌, arith, append-nil, get_or, replicate, ◌+◌, ◌-◌, ◌*◌, ◌^◌}
-use Rattle.std.specs.Prelude.{◌↔◌}
+use Rattle.std.proofs.Common.{◌≡◌, ◌<◌, ℕ, ltb, Bool, true, List, [], ◌∷◌, ◌++◌, length, refl, sym, subst, ap, ◌∙◌, arith, append-nil, length-append, get_or, drop, replicate, zero, suc, ◌≤◌, ◌+◌, ◌-◌, ◌*◌, ◌^◌, inl, inr}
+use Rattle.std.specs.Prelude.{◌↔◌, ◌⊎◌}
 use Rattle.std.specs.List.{All, list_all}
 use Rattle.std.proofs.lemmas.Bool.{ltb-true, and_parts}
-use Rattle.std.proofs.lemmas.List.Elements.{All-nil, All-cons, All-head}
+use Rattle.std.proofs.lemmas.List.Elements.{All-nil, All-cons, All-head, All-tail}
 use Rattle.multihash.specs.Bytes.{place_value}
-use Rattle.multihash.specs.Varint.{IsMarked, marked, varint_limit, max_marked, last_byte_limit, IsVarint, insufficient, overflow, not_minimal}
+use Rattle.multihash.specs.Varint.{IsMarked, marked, varint_limit, max_marked, last_byte_limit, IsVarint, insufficient, overflow, not_minimal, HasFaultyFront}
 use Rattle.multihash.proofs.Examples.BytesVectors.{all_below}
 use Rattle.multihash.proofs.Varints.VarintLemmas.{Front, number, fault, HasFront, front_of, front_is, front_of_has, front_unique}
 
@@ -197,3 +197,109 @@ no_varint_of_larger_digits n v = none v.front v.last v.digits v.spelled
           All-head (λ digit. digit < 128) d (front ++ last ∷ []) digits,
           ap (λ (z : List ℕ). get_or z 0 0) e,
         )
+
+-- ---- each part of a definition refuses by itself, with no lemma: of a varint
+
+-- a varint whose first byte is unmarked is that byte
+pub begins_small : (n b : ℕ) (rest front behind : List ℕ) → b < 128 → IsVarint n front → b ∷ rest ≡ front ++ behind
+    → (b ≡ n) × (rest ≡ behind)
+unfolding place_value
+begins_small n b rest front behind small v cut = of v.front v.value (cut ∙ ap (λ (z : List ℕ). z ++ behind) v.spelled)
+  where
+    of : (digits : List ℕ) → place_value 128 (digits ++ v.last ∷ []) ≡ n → b ∷ rest ≡ (marked digits ++ v.last ∷ []) ++ behind
+        → (b ≡ n) × (rest ≡ behind)
+    of [] value e = (omega (arith, value, ap (λ (z : List ℕ). get_or z 0 0) e), ap (λ (z : List ℕ). drop 1 z) e)
+    of (d ∷ digits) value e = absurd (omega (arith, small, ap (λ (z : List ℕ). get_or z 0 0) e))
+
+no_varint_of_another : ¬ (IsVarint 6 (0x05 ∷ []))
+no_varint_of_another v = omega (arith, (begins_small 6 0x05 [] (0x05 ∷ []) [] (omega arith) v refl).0)
+
+no_varint_and_more : ¬ (IsVarint 1 (0x01 ∷ 0x01 ∷ []))
+no_varint_and_more v = omega (arith, ap (λ (z : List ℕ). length z) (begins_small 1 0x01 (0x01 ∷ []) (0x01 ∷ 0x01 ∷ []) [] (omega arith) v refl).1)
+
+no_varint_of_nothing : (n : ℕ) → ¬ (IsVarint n [])
+no_varint_of_nothing n v = omega (arith, ap (λ (z : List ℕ). length z) v.spelled, length-append (marked v.front) (v.last ∷ []))
+
+-- the last byte is not marked
+no_varint_ends_marked : (n : ℕ) → ¬ (IsVarint n (0x80 ∷ []))
+no_varint_ends_marked n v = none v.front v.digits v.spelled
+  where
+    none : (front : List ℕ) → All (λ digit. digit < 128) (front ++ v.last ∷ []) → 0x80 ∷ [] ≡ marked front ++ v.last ∷ [] → ⊥
+    none [] digits e = omega (arith, All-head (λ digit. digit < 128) v.last [] digits, ap (λ (z : List ℕ). get_or z 0 0) e)
+    none (d ∷ front) digits e = omega (arith, ap (λ (z : List ℕ). length z) e, length-append (marked front) (v.last ∷ []))
+
+-- nor is it a zero behind others
+no_varint_ends_in_zero : (n : ℕ) → ¬ (IsVarint n (0x80 ∷ 0x00 ∷ []))
+no_varint_ends_in_zero n v = none v.front v.minimal v.spelled
+  where
+    none : (front : List ℕ) → (v.last ≡ 0 → front ≡ []) → 0x80 ∷ 0x00 ∷ [] ≡ marked front ++ v.last ∷ [] → ⊥
+    none [] minimal e = omega (arith, ap (λ (z : List ℕ). length z) e)
+    none (d ∷ []) minimal e = omega (arith, ap (λ (z : List ℕ). length z) (minimal (omega (arith, ap (λ (z : List ℕ). get_or z 1 0) e))))
+    none (d ∷ c ∷ front) minimal e = omega (arith, ap (λ (z : List ℕ). length z) e, length-append (marked front) (v.last ∷ []))
+
+-- ---- of what begins an input in place of one
+
+insufficient_are : HasFaultyFront insufficient [] × HasFaultyFront insufficient most
+insufficient_are = (record { few = omega arith; all_marked = all_marked [] refl }, record { few = omega arith; all_marked = all_marked most refl })
+
+enough_marked : ¬ (HasFaultyFront insufficient (0x80 ∷ most))
+enough_marked h = omega (arith, h.few)
+
+ends_inside_no_varint : ¬ (HasFaultyFront insufficient (0x80 ∷ 0x01 ∷ []))
+ends_inside_no_varint h = omega (arith, All-head IsMarked 0x01 [] (All-tail IsMarked 0x80 (0x01 ∷ []) h.all_marked))
+
+overflows : HasFaultyFront overflow (most ++ last_byte_limit ∷ []) × HasFaultyFront overflow (most ++ 0xff ∷ 0x00 ∷ [])
+overflows = (
+  record { front = most; byte = last_byte_limit; rest = []; all_marked = all_marked most refl; most = refl; too_large = omega arith; cut = refl },
+  record { front = most; byte = 0xff; rest = 0x00 ∷ []; all_marked = all_marked most refl; most = refl; too_large = omega arith; cut = refl },
+)
+
+-- behind as many bytes of one kind stands what follows them
+follows : (k byte : ℕ) (front rest : List ℕ) (b : ℕ) (more : List ℕ) → length front ≡ k
+    → replicate k 0x80 ++ byte ∷ rest ≡ front ++ b ∷ more → byte ≡ b
+follows zero byte [] rest b more many e = ap (λ (z : List ℕ). get_or z 0 0) e
+follows zero byte (c ∷ front) rest b more many e = absurd (omega (arith, many))
+follows (suc k) byte [] rest b more many e = absurd (omega (arith, many))
+follows (suc k) byte (c ∷ front) rest b more many e = follows k byte front rest b more (omega (arith, many)) (ap (λ (z : List ℕ). drop 1 z) e)
+
+overflows_at_no_last_byte : ¬ (HasFaultyFront overflow (most ++ (last_byte_limit - 1) ∷ []))
+overflows_at_no_last_byte h = omega (arith, h.too_large, follows max_marked (last_byte_limit - 1) h.front [] h.byte h.rest h.most h.cut)
+
+overflows_no_sooner : ¬ (HasFaultyFront overflow (replicate (max_marked - 1) 0x80 ++ 0xff ∷ []))
+overflows_no_sooner h = omega (arith, h.most, ap (λ (z : List ℕ). length z) h.cut, length-append h.front (h.byte ∷ h.rest))
+
+overflows_behind_marked_bytes : ¬ (HasFaultyFront overflow (0x05 ∷ most))
+overflows_behind_marked_bytes h = none h.front h.most h.all_marked h.cut
+  where
+    none : (front : List ℕ) → length front ≡ max_marked → All IsMarked front → 0x05 ∷ most ≡ front ++ h.byte ∷ h.rest → ⊥
+    none [] many marks e = omega (arith, many)
+    none (c ∷ front) many marks e = omega (arith, All-head IsMarked c front marks, ap (λ (z : List ℕ). get_or z 0 0) e)
+
+not_minimal_are : HasFaultyFront not_minimal (0x80 ∷ 0x00 ∷ []) × HasFaultyFront not_minimal (most ++ 0x00 ∷ 0x07 ∷ [])
+not_minimal_are = (
+  record { front = 0x80 ∷ []; rest = []; all_marked = all_marked (0x80 ∷ []) refl; some = omega arith; few = omega arith; cut = refl },
+  record { front = most; rest = 0x07 ∷ []; all_marked = all_marked most refl; some = omega arith; few = omega arith; cut = refl },
+)
+
+minimal_zero : ¬ (HasFaultyFront not_minimal (0x00 ∷ []))
+minimal_zero h = omega (arith, h.some, ap (λ (z : List ℕ). length z) h.cut, length-append h.front (0 ∷ h.rest))
+
+minimal_behind_too_many : ¬ (HasFaultyFront not_minimal ((0x80 ∷ most) ++ 0x00 ∷ []))
+minimal_behind_too_many h = none max_marked h.front h.few h.cut
+  where
+    none : (k : ℕ) (front : List ℕ) → length front ≤ k → replicate (suc k) 0x80 ++ 0x00 ∷ [] ≡ front ++ 0 ∷ h.rest → ⊥
+    none k [] few e = omega (arith, ap (λ (z : List ℕ). get_or z 0 0) e)
+    none zero (c ∷ front) few e = omega (arith, few)
+    none (suc k) (c ∷ front) few e = none k front (omega (arith, few)) (ap (λ (z : List ℕ). drop 1 z) e)
+
+-- the bytes before the zero are marked, and it is a zero
+no_zero_behind : (a b : ℕ) → a < 128 ⊎ 0 < b → ¬ (HasFaultyFront not_minimal (a ∷ b ∷ []))
+no_zero_behind a b other h = none h.front h.some h.all_marked h.cut
+  where
+    none : (front : List ℕ) → 0 < length front → All IsMarked front → a ∷ b ∷ [] ≡ front ++ 0 ∷ h.rest → ⊥
+    none [] some marks e = omega (arith, some)
+    none (c ∷ []) some marks e = elim other [
+      | inl small ↦ omega (arith, small, All-head IsMarked c [] marks, ap (λ (z : List ℕ). get_or z 0 0) e)
+      | inr more ↦ omega (arith, more, ap (λ (z : List ℕ). get_or z 1 0) e)
+    ]
+    none (c ∷ d ∷ front) some marks e = omega (arith, ap (λ (z : List ℕ). length z) e, length-append front (0 ∷ h.rest))
