@@ -4,7 +4,7 @@ ghost use Rattle.multihash.specs.Pair.{Pair, FitsBuffer};
 ghost use Rattle.multihash.specs.Scale.{IsScale};
 ghost use Rattle.multihash.specs.ScaleTaking.{IsScaleRefusal};
 ghost use Rattle.multihash.specs.Reading.{Takes, CountsReader};
-ghost use Rattle.multihash.specs.Refusal.{IsReaderFault, IsMemory};
+ghost use Rattle.multihash.specs.Refusal.{IsReaderFault, IsMemory, IsInvalidSize, IsInvalidCode};
 ghost use Rattle.multihash.specs.Taking.{IsReadRefusal};
 ghost use Rattle.multihash.specs.Streams.{TakesPairs, StopsAfterPairs};
 ghost use Rattle.multihash.specs.Answer.{pair_of};
@@ -79,7 +79,8 @@ pub fn read_if_room<const S: usize, R: Read>(
 ///
 /// # Errors
 ///
-/// Those of [`Multihash::scale_decode`].
+/// Those of [`Multihash::scale_decode`]: of a code that is too large exactly its eight bytes were taken, and of a
+/// size that is too large one more.
 pub fn read_scale<const S: usize, R: Read>(r: &mut R) -> Result<Multihash<S>, Error>
     ensures faults { CountsReader IsReaderFault (IsScaleRefusal S)
         (R.failures r.old) (R.failures r.new) result }
@@ -88,6 +89,10 @@ pub fn read_scale<const S: usize, R: Read>(r: &mut R) -> Result<Multihash<S>, Er
         MatchResult result (λ m. (pair_of m ≡ p) × (R.rest r.new ≡ Some more)) (λ _. ⊥) }
     ensures ok { IfOk result (λ m. (bytes : List ℕ) × IsScale (pair_of m) bytes
         × Takes (R.rest r.old) bytes (R.rest r.new)) }
+    ensures code { IfErr result (λ e. (code : ℕ) → IsInvalidCode code e → (taken : List ℕ)
+        × (length taken ≡ 8) × Takes (R.rest r.old) taken (R.rest r.new)) }
+    ensures size { IfErr result (λ e. (size : ℕ) → IsInvalidSize size e → (taken : List ℕ)
+        × (length taken ≡ 9) × Takes (R.rest r.old) taken (R.rest r.new)) }
 {
     laws::scale_unique();
     Multihash::scale_decode(r)
