@@ -150,7 +150,8 @@ pub(crate) fn len_in_range(n: u64) -> usize
     if n < 1 << 21 {
         return 3;
     }
-    encode(n).as_bytes().len()
+    // As many bytes as its bits need, seven in each.
+    (70 - n.leading_zeros() as usize) / 7
 }
 
 // As `write`, of a number that is known to be in range.
