@@ -1,11 +1,12 @@
 //! The binary form: the varint of the code, the varint of the digest's length, and the digest.
-ghost use Rattle.std.specs.Prelude.{◌≡◌, ◌<◌, ◌≤◌, ◌+◌, ◌-◌, ◌⊎◌, ℕ, List, length, Some, IfSome, IfOk, IfErr, OnOk, OnErr};
+ghost use Rattle.std.specs.Prelude.{◌≡◌, ◌<◌, ◌≤◌, ◌+◌, ◌-◌, ◌⊎◌, ℕ, List, length, Some, IfSome, IfOk, IfErr, OnOk, OnErr, take};
 ghost use Rattle.multihash.specs.Varint.{max_marked};
 ghost use Rattle.multihash.specs.Pair.{digest_limit, FitsBuffer};
 ghost use Rattle.multihash.specs.Encoding.{IsEncoding};
 ghost use Rattle.multihash.specs.Verdict.{Verdict, HasVerdict, IsEarlyEnd, HasWholeVerdict};
 ghost use Rattle.multihash.specs.Refusal.{IsInvalidSize, IsMemory, IsIo, IsReaderFault};
-ghost use Rattle.multihash.specs.Reading.{Takes, CountsReader};
+ghost use Rattle.multihash.specs.Reading.{Takes, CountsReader, HasFewerThan, TakesFewerThan};
+ghost use Rattle.multihash.specs.Fault.{IsUnexpectedEof, IsOwnFault};
 ghost use Rattle.multihash.specs.Writing.{AppendsPart, CountsWriter};
 ghost use Rattle.multihash.specs.Taking.{IsReadRefusal, TakesAtRefusal, TakesShortestSettling, TakesNothingSettling};
 ghost use Rattle.multihash.specs.Answer.{pair_of, Answers};
@@ -32,6 +33,7 @@ impl<const S: usize> Multihash<S> {
     ///   taken, and how much of the digest depends on the reader's `read_exact`;
     /// - [`Error::io`] with the reader's own error, where it failed; the bytes taken are by themselves
     ///   an input that ends early.
+    #[inline(always)]
     pub fn read<R: Read>(r: &mut R) -> Result<Self, Error>
         ensures faults { CountsReader IsReaderFault (IsReadRefusal S)
             (R.failures r.old) (R.failures r.new) result }
@@ -54,13 +56,11 @@ impl<const S: usize> Multihash<S> {
     {
         let code = varint::read(r)?;
         let size = Self::fitting_size(varint::read(r)?)?;
-        let mut digest = [0; S];
-        let len = usize::from(size);
-        r.read_exact(&mut digest[..len])?;
+        let digest = Self::read_digest(r, size)?;
         Ok(Multihash {
             code,
             digest,
-            size: len,
+            size: usize::from(size),
         })
     }
 
@@ -152,6 +152,27 @@ impl<const S: usize> Multihash<S> {
         let mut bytes = Vec::with_capacity(alloc, self.encoded_len())?;
         self.write(&mut bytes)?;
         Ok(bytes)
+    }
+
+    // Reads a digest of that size into the front of a buffer of zeros.
+    #[inline(always)]
+    fn read_digest<R: Read>(r: &mut R, size: u8) -> Result<[u8; S], no_std_io::Error>
+        requires { size ≤ digest_limit S }
+        ensures ok { IfOk result (λ buffer. Takes (R.rest r.old) (take size buffer) (R.rest r.new)) }
+        ensures faults { CountsReader IsOwnFault IsUnexpectedEof
+            (R.failures r.old) (R.failures r.new) result }
+        ensures eof { IfErr result (λ e. IsUnexpectedEof e → HasFewerThan size (R.rest r.old)) }
+        ensures err { OnErr result (TakesFewerThan size (R.rest r.old) (R.rest r.new)) }
+    {
+        // The usual size is read and moved as a whole, which is no call.
+        if size == 32 {
+            let mut whole = [0; 32];
+            r.read_exact(&mut whole)?;
+            return Ok(Self::padded_whole(&whole));
+        }
+        let mut digest = [0; S];
+        r.read_exact(&mut digest[..usize::from(size)])?;
+        Ok(digest)
     }
 
     // The size of a digest, where the buffer holds one so long.

@@ -5,8 +5,8 @@
 //! the code and the length of a multihash, the version and the codec of a content identifier, the parts of a
 //! multiaddr.
 ghost use Rattle.std.specs.Prelude.{◌≡◌, ◌<◌, ◌≤◌, ◌+◌, ◌^◌, ◌⊎◌, ℕ, List, [], ◌∷◌, length, take, Some, IfSome, MatchOption, IfOk, IfErr, OnErr};
-ghost use Rattle.multihash.specs.Varint.{IsVarint, varint_limit, max_marked};
-ghost use Rattle.std.specs.Io.KnownBytes.{IsAtEnd};
+ghost use Rattle.multihash.specs.Varint.{IsVarint, IsMarked, varint_limit, max_marked};
+ghost use Rattle.std.specs.Io.KnownBytes.{IsAtEnd, prepend_known};
 ghost use Rattle.multihash.specs.Reading.{Takes, CountsReader, NoOtherError};
 ghost use Rattle.multihash.specs.Writing.{AppendsPart, CountsWriter, IsFault, IsWriterFaultOrFull};
 ghost use Rattle.multihash.specs.Fault.{IsOwnFault};
@@ -150,7 +150,8 @@ pub(crate) fn len_in_range(n: u64) -> usize
     if n < 1 << 21 {
         return 3;
     }
-    encode(n).as_bytes().len()
+    // As many bytes as its bits need, seven in each.
+    (70 - n.leading_zeros() as usize) / 7
 }
 
 // As `write`, of a number that is known to be in range.
@@ -216,6 +217,8 @@ fn three_bytes(n: u64) -> [u8; 3]
 /// - [`Error::is_overflow`] where after eight marked bytes a byte is too large, and [`Error::is_not_minimal`] where
 ///   a varint of more than one byte ends in a zero; the bytes up to the one that shows it were taken;
 /// - [`Error::io`] with the reader's own error, where it failed; the bytes taken are a varint that is cut.
+// Where this is a call, the usual varint of one byte takes some 15 instructions more.
+#[inline(always)]
 pub fn read<R: Read>(r: &mut R) -> Result<u64, Error>
     ensures faults { CountsReader IsReaderFault IsVarintRefusal
         (R.failures r.old) (R.failures r.new) result }
@@ -224,8 +227,28 @@ pub fn read<R: Read>(r: &mut R) -> Result<u64, Error>
     ensures front { IfSome (R.rest r.old) (λ input. R.failures r.new ≡ R.failures r.old →
         IfErr result (IsFrontRefusal input)) }
 {
-    let mut value: u64 = 0;
-    for i in 0..=MAX_MARKED {
+    let Some(first) = read_byte(r)? else {
+        return Err(Error::insufficient());
+    };
+    if first < 128 {
+        return Ok(u64::from(first));
+    }
+    read_behind(r, first)
+}
+
+// As `read`, of a varint whose first byte was taken, and is marked.
+#[inline(never)]
+fn read_behind<R: Read>(r: &mut R, first: u8) -> Result<u64, Error>
+    requires { IsMarked first }
+    ensures faults { CountsReader IsReaderFault IsVarintRefusal
+        (R.failures r.old) (R.failures r.new) result }
+    ensures ok { IfOk result (λ n. TakesVarint n (prepend_known (first ∷ []) (R.rest r.old)) (R.rest r.new)) }
+    ensures err { IfErr result (λ e. TakesAtVarintRefusal e (prepend_known (first ∷ []) (R.rest r.old)) (R.rest r.new)) }
+    ensures front { IfSome (prepend_known (first ∷ []) (R.rest r.old)) (λ input. R.failures r.new ≡ R.failures r.old →
+        IfErr result (IsFrontRefusal input)) }
+{
+    let mut value = u64::from(first & 0x7f);
+    for i in 1..=MAX_MARKED {
         let Some(byte) = read_byte(r)? else {
             return Err(Error::insufficient());
         };
@@ -233,7 +256,7 @@ pub fn read<R: Read>(r: &mut R) -> Result<u64, Error>
             return Err(Error::overflow());
         }
         value |= u64::from(byte & 0x7f) << (7 * i);
-        if byte == 0 && i > 0 {
+        if byte == 0 {
             return Err(Error::not_minimal());
         }
         if byte < 128 {

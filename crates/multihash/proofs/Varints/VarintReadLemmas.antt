@@ -1,7 +1,7 @@
 -- What the loop over a varint's bytes keeps, and what was taken where it ends.
 use Rattle.std.proofs.Common.{◌≡◌, ℕ, ◌+◌, ◌*◌, ◌%◌, ◌^◌, ◌<◌, ◌≤◌, ◌⊎◌, List, [], ◌∷◌, ◌++◌, length, Option, refl, sym, ap, ◌∙◌, subst, inl, inr, arith, append_assoc, bit_and, bit_or}
 use Rattle.std.specs.List.{All}
-use Rattle.std.specs.Io.KnownBytes.{IsAtEnd}
+use Rattle.std.specs.Io.KnownBytes.{IsAtEnd, prepend_known}
 use Rattle.std.proofs.Math.Nat.{lt_of_not-le}
 use Rattle.std.proofs.lemmas.Nat.{and_mask}
 use Rattle.std.proofs.lemmas.List.{length_push, nil_from_length}
@@ -38,6 +38,21 @@ none_read old = record {
   long = refl;
   few = omega arith;
   value = sym (place_value-nil 128);
+}
+
+-- the lowest seven bits of a byte are its digit
+digit_of : (byte : ℕ) → bit_and byte 127 ≡ place_value 128 (low_digits (byte ∷ []))
+digit_of byte = and_mask byte 7 ∙ omega (arith, place_value-cons 128 (byte % 128) [], place_value-nil 128)
+
+pub one_read : (now : Option (List ℕ)) (byte : ℕ) → byte < 256 → 128 ≤ byte → ReadsMarked (prepend_known (byte ∷ []) now) now (bit_and byte 127) 1
+one_read now byte small large = record {
+  front = byte ∷ [];
+  takes = refl;
+  bytes = All-push (λ b. b < 256) [] byte (All-nil (λ b. b < 256)) small;
+  marked = All-push IsMarked [] byte (All-nil IsMarked) large;
+  long = refl;
+  few = omega arith;
+  value = digit_of byte;
 }
 
 -- the sum with the low digit of one more byte
@@ -106,9 +121,7 @@ module _ (old now : Option (List ℕ)) (sum i : ℕ) (h : ReadsMarked old now su
       with_byte_is : with_byte sum byte i ≡ place_value 128 (low_digits (h.front ++ byte ∷ []))
       with_byte_is =
           let fits = low_digits_in_range h.front byte (omega (arith, h.long, h.few)) (λ e. most (sym h.long ∙ e)) in
-          let digit : bit_and byte 127 ≡ place_value 128 (low_digits (byte ∷ [])) =
-          and_mask byte 7 ∙ omega (arith, place_value-cons 128 (byte % 128) [], place_value-nil 128) in
-          rw (h.value, digit) (or_digits h.front (byte ∷ []) i h.long (omega (arith, fits)))
+          rw (h.value, digit_of byte) (or_digits h.front (byte ∷ []) i h.long (omega (arith, fits)))
 
       pub read_last : byte < 128 → (byte ≡ 0 → i ≡ 0) → TakesVarint (with_byte sum byte i) old new
       read_last low minimal = (

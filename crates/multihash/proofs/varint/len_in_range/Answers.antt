@@ -1,19 +1,23 @@
-use Rattle.std.proofs.Common.{[], ◌∷◌, refl, arith, ap, length}
-use Rattle.multihash.proofs.Varints.VarintWriteLemmas.{one_byte, two_byte, three_byte}
-use Rattle.multihash.proofs.Varints.LengthLemmas.{varint_longest}
+use Rattle.std.proofs.Common.{[], ◌∷◌, refl, sym, arith}
+use Rattle.multihash.proofs.Varints.VarintWriteLemmas.{one_byte, two_byte, three_byte, varint_exists}
+use Rattle.multihash.proofs.Varints.LengthLemmas.{varint_longest, varint_bits}
 use Rattle.multihash.proofs.varint.len_in_range.Goals as goal
 
 pub returns-then-n-lt128-clause-varint : goal.returns-then-n-lt128-clause-varint
 returns-then-n-lt128-clause-varint c = (c.args.n ∷ [], one_byte c.args.n c.if-n-lt128.true, refl)
-
-pub returns-clause-varint : goal.returns-clause-varint
-returns-clause-varint c = (c.encode.result, c.encode.ensures, ap length c.as_bytes.ensures)
-
-pub returns-clause-short : goal.returns-clause-short
-returns-clause-short c = omega (arith, ap length c.as_bytes.ensures, varint_longest _ _ c.encode.ensures)
 
 pub returns-then-n-clause-varint : goal.returns-then-n-clause-varint
 returns-then-n-clause-varint c = (_, two_byte c.args.n (omega (arith, c.if-n-lt128.false)) (omega (arith, c.if-n.true)), refl)
 
 pub returns-then-n-2-clause-varint : goal.returns-then-n-2-clause-varint
 returns-then-n-2-clause-varint c = (_, three_byte c.args.n (omega (arith, c.if-n.false)) (omega (arith, c.if-n-2.true)), refl)
+
+pub returns-clause-varint : goal.returns-clause-varint
+returns-clause-varint c =
+    let v = varint_exists c.args.n c.requires in
+    (v.0, v.1, sym (varint_bits c.args.n v.0 v.1 (omega (arith, c.if-n-2.false))))
+
+pub returns-clause-short : goal.returns-clause-short
+returns-clause-short c =
+    let v = varint_exists c.args.n c.requires in
+    omega (arith, varint_bits c.args.n v.0 v.1 (omega (arith, c.if-n-2.false)), varint_longest c.args.n v.0 v.1)

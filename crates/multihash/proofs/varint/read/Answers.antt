@@ -1,41 +1,30 @@
-use Rattle.std.proofs.Common.{refl, ◌∙◌, arith}
-use Rattle.multihash.proofs.Varints.VarintReadLemmas.{none_read, reader_failed, input_ended, too_large, ends_in_zero, read_last, read_more, first_of_two}
+use Rattle.std.proofs.Common.{[], ◌∷◌, refl}
+use Rattle.multihash.proofs.Varints.VarintReadLemmas.{none_read, reader_failed, input_ended}
+use Rattle.multihash.proofs.Varints.VarintWriteLemmas.{one_byte}
 use Rattle.multihash.proofs.OutcomeLemmas.{passed_on}
 use Rattle.multihash.proofs.varint.read.Goals as goal
 
-pub loop-i-init : goal.loop-i-init
-loop-i-init g c = record { reads = none_read _; unfailed = refl }
-
-pub returns-in_err-byte-clause-err : goal.returns-in_err-byte-clause-err
-returns-in_err-byte-clause-err g c =
+pub returns-in_err-first-clause-err : goal.returns-in_err-first-clause-err
+returns-in_err-first-clause-err g c =
     passed_on c.from_residual.result _ _ _ c.from_residual.ensures.1
-    (rw c.in_err-byte.ensures.err (reader_failed _ _ _ _ c.loop-i.invariant.reads c.in_err-byte.field-0.0 _ refl))
+    (rw c.in_err-first.ensures.err (reader_failed _ _ _ _ (none_read _) c.in_err-first.field-0.0 _ refl))
 
 pub returns-in_default-clause-err : goal.returns-in_default-clause-err
 returns-in_default-clause-err g c =
-    let ended = rw c.in_default.is at c.in_ok-byte.ensures.byte in
-    rw ended.1 (input_ended _ _ _ _ c.loop-i.invariant.reads ended.0 _ c.insufficient.ensures)
+    let ended = rw c.in_default.is at c.in_ok-first.ensures.byte in
+    rw ended.1 (input_ended _ _ _ _ (none_read _) ended.0 _ c.insufficient.ensures)
 
-pub returns-then-byte-ge-LAST_BYTE_LIMIT-clause-err : goal.returns-then-byte-ge-LAST_BYTE_LIMIT-clause-err
-returns-then-byte-ge-LAST_BYTE_LIMIT-clause-err g c =
-    too_large _ _ _ _ c.loop-i.invariant.reads _ c.in-Some.byte (rw c.in-Some.is at c.in_ok-byte.ensures.byte) c.if-i-eq-MAX_MARKED.true
-    c.if-byte-ge-LAST_BYTE_LIMIT.true _ c.overflow.ensures
-
-pub returns-then-i-gt0-clause-err : goal.returns-then-i-gt0-clause-err
-returns-then-i-gt0-clause-err g c =
-    ends_in_zero _ _ _ _ c.loop-i.invariant.reads _ c.in-Some.byte (rw c.in-Some.is at c.in_ok-byte.ensures.byte) c.if-byte-eq0.true
-    c.if-i-gt0.true _ c.not_minimal.ensures
-
-pub returns-then-byte-lt128-clause-ok : goal.returns-then-byte-lt128-clause-ok
-returns-then-byte-lt128-clause-ok g c =
+pub returns-then-first-lt128-clause-ok : goal.returns-then-first-lt128-clause-ok
+returns-then-first-lt128-clause-ok g c =
     rw c.from.ensures
-    (read_last _ _ _ _ c.loop-i.invariant.reads _ c.in-Some.byte (rw c.in-Some.is at c.in_ok-byte.ensures.byte)
-    (first_of_two _ _ c.else-i-eq-MAX_MARKED.either) c.if-byte-lt128.true (λ z. omega (arith, first_of_two _ _ c.else-byte-eq0.either z)))
+    (c.in-Some.first ∷ [], one_byte c.in-Some.first c.if-first-lt128.true, rw c.in-Some.is at c.in_ok-first.ensures.byte)
 
-pub loop-i-preserved : goal.loop-i-preserved
-loop-i-preserved g c = record {
-  reads = rw c.from.ensures
-      (read_more _ _ _ _ c.loop-i.invariant.reads _ c.in-Some.byte (rw c.in-Some.is at c.in_ok-byte.ensures.byte)
-      (first_of_two _ _ c.else-i-eq-MAX_MARKED.either) (omega arith) c.if-byte-lt128.false);
-  unfailed = c.in_ok-byte.ensures.faults ∙ c.loop-i.invariant.unfailed;
-}
+pub returns-clause-ok : goal.returns-clause-ok
+returns-clause-ok g c = rw (rw c.in-Some.is at c.in_ok-first.ensures.byte) c.read_behind.ensures.ok
+
+pub returns-clause-err : goal.returns-clause-err
+returns-clause-err g c = rw (rw c.in-Some.is at c.in_ok-first.ensures.byte) c.read_behind.ensures.err
+
+pub returns-clause-front : goal.returns-clause-front
+returns-clause-front g c =
+    rw (rw c.in-Some.is at c.in_ok-first.ensures.byte, ← c.in_ok-first.ensures.faults) c.read_behind.ensures.front

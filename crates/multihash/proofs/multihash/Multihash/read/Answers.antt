@@ -1,5 +1,5 @@
-use Rattle.std.proofs.Common.{◌≡◌, ◌≤◌, ℕ, ◌++◌, length, take, drop, replicate, refl, sym, ap, ◌∙◌, arith, rules}
-use Rattle.std.proofs.lemmas.List.{take_at, length-take-le, length-replicate}
+use Rattle.std.proofs.Common.{◌≡◌, ◌≤◌, ◌++◌, length, take, refl, sym, ◌∙◌, arith, rules}
+use Rattle.std.proofs.lemmas.List.{length-take-le}
 use Rattle.multihash.specs.Pair.{digest_limit}
 use Rattle.multihash.specs.Varint.{IsVarint}
 use Rattle.multihash.specs.Answer.{Fields, pair_of}
@@ -31,19 +31,18 @@ returns-in_err-size g c =
     (stops_at_size g.row.S _ _ code.ok.0 size.ok.0 code.ok.1 size.ok.1 _ _ _ _ _ (size.faults ∙ code.faults) c.in_err-size.ensures.over
     c.in_err-size.ensures.err (Takes-joined _ _ _ code.ok.0 size.ok.0 _ refl code.ok.2 size.ok.2))
 
-pub returns-in_err-read_exact : goal.returns-in_err-read_exact
-returns-in_err-read_exact g c =
+pub returns-in_err-digest : goal.returns-in_err-digest
+returns-in_err-digest g c =
     let S = g.row.S in
     let code = c.in_ok-code.ensures in
     let size = c.in_ok-read.ensures in
-    let t = c.in_err-read_exact.ensures.laws.err in
-    let room : length (take c.from-len.result (replicate {A = ℕ} S 0)) ≡ c.in_ok-read.field-0 =
-    length-take-le c.from-len.result (replicate {A = ℕ} S 0) (omega (arith, length-replicate {A = ℕ} S 0, c.in_ok-size.ensures.ok, c.in_ok-size.ensures.fits))
-    ∙ (c.from-len.ensures ∙ c.in_ok-size.ensures.ok) in
-    passed_err (ReadMeets S _ _ _ _) c.from_residual-in_err-read_exact.result _ c.from_residual-in_err-read_exact.ensures.1
+    let digest = c.in_err-digest.ensures in
+    let t = digest.err in
+    let room = c.in_ok-size.ensures.ok in
+    passed_err (ReadMeets S _ _ _ _) c.from_residual-in_err-digest.result _ c.from_residual-in_err-digest.ensures.1
     (stops_in_digest S _ _ code.ok.0 size.ok.0 code.ok.1 size.ok.1 _ _ _ _ c.in_ok-size.ensures.fits _ t.taken _
-    (omega (arith, t.fewer, room)) t.takes (rw room at c.in_err-read_exact.ensures.laws.eof)
-    (rw (size.faults ∙ code.faults) at c.in_err-read_exact.ensures.laws.faults)
+    (omega (arith, t.fewer, room)) t.takes (rw room at digest.eof)
+    (rw (size.faults ∙ code.faults) at digest.faults)
     (Takes-joined _ _ _ code.ok.0 (size.ok.0 ++ t.taken) _ refl code.ok.2 (Takes-joined _ _ _ size.ok.0 t.taken _ refl size.ok.2 t.takes)))
 
 pub returns : goal.returns
@@ -51,20 +50,23 @@ returns g c =
     let S = g.row.S in
     let code = c.in_ok-code.ensures in
     let size = c.in_ok-read.ensures in
-    let digest = c.read_exact.new.buf in
-    let buffer = digest ++ drop c.from-len.result (replicate {A = ℕ} S 0) in
-    let is_size : IsVarint c.from-len.result size.ok.0 = rw (c.from-len.ensures ∙ c.in_ok-size.ensures.ok) size.ok.1 in
-    let long : length digest ≡ c.from-len.result = search rules in
-    let front : take c.from-len.result buffer ≡ digest = take_at digest _ _ long in
-    let within : c.from-len.result ≤ digest_limit S = omega (arith, c.from-len.ensures, c.in_ok-size.ensures.ok, c.in_ok-size.ensures.fits) in
+    let len = c.from.result in
+    let buffer = c.in_ok-digest.digest in
+    let same : len ≡ c.in_ok-size.size = c.from.ensures in
+    let digest = take len buffer in
+    let is_size : IsVarint len size.ok.0 = rw (same ∙ c.in_ok-size.ensures.ok) size.ok.1 in
+    let within : len ≤ digest_limit S = omega (arith, same, c.in_ok-size.ensures.ok, c.in_ok-size.ensures.fits) in
+    let places : length buffer ≡ S = search rules in
+    let long : length digest ≡ len = length-take-le len buffer (omega (arith, within, places)) in
+    let takes = rw (← same) at c.in_ok-digest.ensures.ok in
     let made : Fields S = record {
       code = c.in_ok-code.code;
-      size = c.from-len.result;
+      size = len;
       buffer = buffer;
       in_range = code.ok.1.in_range;
       fits = within;
     } in
     read_answered S (code.ok.0 ++ (size.ok.0 ++ digest)) _ _ _ _ made
-    (c.in_ok-read_exact.ensures.laws.faults ∙ (size.faults ∙ code.faults))
-    (encoding_of (pair_of made) _ _ digest code.ok.0 size.ok.0 refl (sym (ap length front ∙ long)) (sym front) code.ok.1 is_size)
-    (Takes-joined _ _ _ code.ok.0 (size.ok.0 ++ digest) _ refl code.ok.2 (Takes-joined _ _ _ size.ok.0 digest _ refl size.ok.2 c.in_ok-read_exact.ensures.laws.takes))
+    (c.in_ok-digest.ensures.faults ∙ (size.faults ∙ code.faults))
+    (encoding_of (pair_of made) _ _ digest code.ok.0 size.ok.0 refl (sym long) refl code.ok.1 is_size)
+    (Takes-joined _ _ _ code.ok.0 (size.ok.0 ++ digest) _ refl code.ok.2 (Takes-joined _ _ _ size.ok.0 digest _ refl size.ok.2 takes))
