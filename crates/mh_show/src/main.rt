@@ -2,6 +2,8 @@
 //! digest, each on a line. No arguments are looked at.
 #![tactic(auto)]
 
+#[cfg(test)]
+mod expect;
 mod run;
 mod show;
 

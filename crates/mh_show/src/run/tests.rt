@@ -4,6 +4,7 @@ ghost use Rattle.mh_show.specs.Shown.{ShowsAs};
 mod fakes;
 
 use super::*;
+use crate::expect::{check, check_eq, expect_bytes};
 use fakes::{Drip, Fault, Page, Zeros};
 use std::io::ErrorKind;
 use std::process::Abort;
@@ -16,24 +17,40 @@ const EXAMPLE_LINES: &[u8] =
 
 const OUT_OF_MEMORY: &[u8] = b"mh_show: out of memory\n";
 
-// The text is read in ones, in fives and all at once.
-fn expect_lines<R: Abort + AllocGlobal>(rt: &R, text: &[u8], lines: &[u8]) {
-    for most in [1, 5, 65537] {
-        let mut input = Drip::new(text, most);
-        let (mut out, mut err) = (Page::new(), Page::new());
-        let status = run(rt.alloc(), &mut input, &mut out, &mut err);
-        assert_eq!(rt; status, 0);
-        assert_eq!(rt; out.written(), lines);
-        assert_eq!(rt; err.written(), b"".as_slice());
-    }
+const NOT_READ: &[u8] = b"mh_show: input not read\n";
+
+const NOT_HEX: &[u8] = b"mh_show: not hexadecimal\n";
+
+// A run over fakes ends with this status, and its outputs hold this.
+fn expect_run<I: Read>(
+    rt: &(impl Abort + AllocGlobal),
+    input: &mut I,
+    out: &mut Page,
+    err: &mut Page,
+    wanted: (u8, &[u8], &[u8]),
+) {
+    let (status, shown, told) = wanted;
+    check_eq!(rt; run(rt.alloc(), input, out, err), status);
+    expect_bytes(rt, out.written(), shown);
+    expect_bytes(rt, err.written(), told);
 }
 
-fn expect_refusal<R: Abort + AllocGlobal, I: Read>(rt: &R, input: &mut I, line: &[u8]) {
-    let (mut out, mut err) = (Page::new(), Page::new());
-    let status = run(rt.alloc(), input, &mut out, &mut err);
-    assert_eq!(rt; status, 1);
-    assert_eq!(rt; out.written(), b"".as_slice());
-    assert_eq!(rt; err.written(), line);
+fn expect_lines_at(rt: &(impl Abort + AllocGlobal), text: &[u8], most: usize, lines: &[u8]) {
+    let mut input = Drip::new(text, most);
+    let wanted = (0, lines, b"".as_slice());
+    expect_run(rt, &mut input, &mut Page::new(), &mut Page::new(), wanted);
+}
+
+// The text is read in ones, in fives and all at once.
+fn expect_lines(rt: &(impl Abort + AllocGlobal), text: &[u8], lines: &[u8]) {
+    expect_lines_at(rt, text, 1, lines);
+    expect_lines_at(rt, text, 5, lines);
+    expect_lines_at(rt, text, 65537, lines);
+}
+
+fn expect_refusal<I: Read>(rt: &(impl Abort + AllocGlobal), input: &mut I, line: &[u8]) {
+    let wanted = (1, b"".as_slice(), line);
+    expect_run(rt, input, &mut Page::new(), &mut Page::new(), wanted);
 }
 
 // What a run over memory leaves, from its contract alone.
@@ -46,170 +63,165 @@ fn shows_memory(alloc: Global, mut text: &[u8], out: &mut Vec<u8>, err: &mut Vec
 }
 
 #[test]
-fn shows_the_example(rt: HostRuntime) -> Result<(), Fail> {
-    expect_lines(&rt, EXAMPLE, EXAMPLE_LINES);
-    expect_lines(&rt, b"0000", b"code 0\nsize 0\ndigest -\n");
-    expect_lines(&rt, b"0000\n", b"code 0\nsize 0\ndigest -\n");
-    expect_lines(&rt, b"1603AABBCC\n", b"code 22\nsize 3\ndigest aabbcc\n");
-    expect_lines(&rt, b"1603aAbBCc", b"code 22\nsize 3\ndigest aabbcc\n");
-    expect_lines(
-        &rt,
-        b"ffffffffffffffff7f00\n",
-        b"code 9223372036854775807\nsize 0\ndigest -\n",
-    );
-    Ok(())
+fn shows_the_example(rt: HostRuntime) {
+    let rt = &rt;
+    expect_lines(rt, EXAMPLE, EXAMPLE_LINES);
+    expect_lines(rt, b"0000", b"code 0\nsize 0\ndigest -\n");
+    expect_lines(rt, b"0000\n", b"code 0\nsize 0\ndigest -\n");
+    expect_lines(rt, b"1603AABBCC\n", b"code 22\nsize 3\ndigest aabbcc\n");
+    expect_lines(rt, b"1603aAbBCc", b"code 22\nsize 3\ndigest aabbcc\n");
+    let lines = b"code 9223372036854775807\nsize 0\ndigest -\n";
+    expect_lines(rt, b"ffffffffffffffff7f00\n", lines);
+}
+
+fn expect_text_refused(rt: &(impl Abort + AllocGlobal), text: &[u8], line: &[u8]) {
+    expect_refusal(rt, &mut Drip::new(text, 3), line);
 }
 
 #[test]
-fn tells_why_a_text_is_refused(rt: HostRuntime) -> Result<(), Fail> {
-    let not_hex = b"mh_show: not hexadecimal\n".as_slice();
-    let too_short = b"mh_show: not enough input bytes\n".as_slice();
-    let rows: [(&[u8], &[u8]); 16] = [
-        (b"", too_short),
-        (b"\n", too_short),
-        (b"00", too_short),
-        (b"0", not_hex),
-        (b"zz", not_hex),
-        (b"00\n\n", not_hex),
-        (b"0000\r\n", not_hex),
-        (b"000\r\n", not_hex),
-        (b"0x0000", not_hex),
-        (b" 0000", not_hex),
-        (b"0041", b"mh_show: Invalid multihash size 65.\n"),
-        (b"8000", b"mh_show: encoding is not minimal\n"),
-        (b"0001", b"mh_show: failed to fill whole buffer\n"),
-        (
-            b"ffffffffffffffffff",
-            b"mh_show: input bytes exceed maximum\n",
-        ),
-        (
-            b"ffffffffffffffffff0100",
-            b"mh_show: input bytes exceed maximum\n",
-        ),
-        (
-            b"ffffffffffffffffff0200",
-            b"mh_show: input bytes exceed maximum\n",
-        ),
-    ];
-    for (text, line) in rows {
-        expect_refusal(&rt, &mut Drip::new(text, 3), line);
-    }
-    Ok(())
+fn tells_why_a_text_is_refused(rt: HostRuntime) {
+    let rt = &rt;
+    let too_short = b"mh_show: not enough input bytes\n";
+    expect_text_refused(rt, b"", too_short);
+    expect_text_refused(rt, b"\n", too_short);
+    expect_text_refused(rt, b"00", too_short);
+    expect_text_refused(rt, b"0041", b"mh_show: Invalid multihash size 65.\n");
+    expect_text_refused(rt, b"8000", b"mh_show: encoding is not minimal\n");
+    expect_text_refused(rt, b"0001", b"mh_show: failed to fill whole buffer\n");
+    let exceeds = b"mh_show: input bytes exceed maximum\n";
+    expect_text_refused(rt, b"ffffffffffffffffff", exceeds);
+    expect_text_refused(rt, b"ffffffffffffffffff0100", exceeds);
+    expect_text_refused(rt, b"ffffffffffffffffff0200", exceeds);
 }
 
 #[test]
-fn a_reader_that_fails(rt: HostRuntime) -> Result<(), Fail> {
-    let not_read = b"mh_show: input not read\n".as_slice();
-    expect_refusal(
-        &rt,
-        &mut Drip::failing(b"", ErrorKind::NotConnected),
-        not_read,
-    );
-    let mut broken = Drip::failing(b"0000", ErrorKind::NotConnected);
-    expect_refusal(&rt, &mut broken, not_read);
-    assert_eq!(rt; broken.calls, 2);
-    let mut interrupted = Drip::failing(b"", ErrorKind::Interrupted);
-    expect_refusal(&rt, &mut interrupted, not_read);
-    assert_eq!(rt; interrupted.calls, 1);
-    Ok(())
+fn tells_that_a_text_is_not_hexadecimal(rt: HostRuntime) {
+    let rt = &rt;
+    expect_text_refused(rt, b"0", NOT_HEX);
+    expect_text_refused(rt, b"zz", NOT_HEX);
+    expect_text_refused(rt, b"00\n\n", NOT_HEX);
+    expect_text_refused(rt, b"0000\r\n", NOT_HEX);
+    expect_text_refused(rt, b"000\r\n", NOT_HEX);
+    expect_text_refused(rt, b"0x0000", NOT_HEX);
+    expect_text_refused(rt, b" 0000", NOT_HEX);
+}
+
+// The input fails behind its bytes, and is asked so often.
+fn expect_failing(rt: &(impl Abort + AllocGlobal), text: &[u8], kind: ErrorKind, calls: usize) {
+    let mut input = Drip::failing(text, kind);
+    expect_refusal(rt, &mut input, NOT_READ);
+    check_eq!(rt; input.calls, calls);
 }
 
 #[test]
-fn a_reader_that_never_ends(rt: HostRuntime) -> Result<(), Fail> {
-    let not_read = b"mh_show: input not read\n".as_slice();
+fn a_reader_that_fails(rt: HostRuntime) {
+    let rt = &rt;
+    expect_failing(rt, b"", ErrorKind::NotConnected, 1);
+    expect_failing(rt, b"0000", ErrorKind::NotConnected, 2);
+    expect_failing(rt, b"", ErrorKind::Interrupted, 1);
+}
+
+#[test]
+fn a_reader_that_never_ends(rt: HostRuntime) {
+    let rt = &rt;
     let mut endless = Zeros::endless();
-    expect_refusal(&rt, &mut endless, not_read);
-    assert!(rt; endless.calls <= 65537);
-    Ok(())
+    expect_refusal(rt, &mut endless, NOT_READ);
+    check!(rt; endless.calls <= 65537);
 }
 
-#[test]
-fn input_of_65536_and_one_more(rt: HostRuntime) -> Result<(), Fail> {
+fn expect_zeros_refused(rt: &(impl Abort + AllocGlobal), most: usize) {
     // a code and a size of one byte each, both 0, and 32766 bytes left over
-    let left_over = b"mh_show: Invalid multihash size 32766.\n".as_slice();
-    let not_read = b"mh_show: input not read\n".as_slice();
-    for most in [1, 1000, 65537] {
-        expect_refusal(&rt, &mut Zeros::new(65536, most), left_over);
-        expect_refusal(&rt, &mut Zeros::new(65537, most), not_read);
-    }
-    Ok(())
+    let left_over = b"mh_show: Invalid multihash size 32766.\n";
+    expect_refusal(rt, &mut Zeros::new(65536, most), left_over);
+    expect_refusal(rt, &mut Zeros::new(65537, most), NOT_READ);
 }
 
 #[test]
-fn a_writer_of_one_byte(rt: HostRuntime) -> Result<(), Fail> {
+fn input_of_65536_and_one_more(rt: HostRuntime) {
+    let rt = &rt;
+    expect_zeros_refused(rt, 1);
+    expect_zeros_refused(rt, 1000);
+    expect_zeros_refused(rt, 65537);
+}
+
+#[test]
+fn a_writer_of_one_byte(rt: HostRuntime) {
+    let rt = &rt;
     let (mut out, mut err) = (Page::slow(), Page::slow());
-    let status = run(rt.alloc(), &mut Drip::new(EXAMPLE, 9), &mut out, &mut err);
-    assert_eq!(rt; status, 0);
-    assert_eq!(rt; out.written(), EXAMPLE_LINES);
-    assert_eq!(rt; out.calls, EXAMPLE_LINES.len());
-    assert_eq!(rt; err.calls, 0);
-    let status = run(rt.alloc(), &mut Drip::new(b"zz", 9), &mut out, &mut err);
-    assert_eq!(rt; status, 1);
-    assert_eq!(rt; err.written(), b"mh_show: not hexadecimal\n".as_slice());
-    Ok(())
+    let wanted = (0, EXAMPLE_LINES, b"".as_slice());
+    expect_run(rt, &mut Drip::new(EXAMPLE, 9), &mut out, &mut err, wanted);
+    check_eq!(rt; (out.calls, err.calls), (EXAMPLE_LINES.len(), 0));
+    let wanted = (1, EXAMPLE_LINES, NOT_HEX);
+    expect_run(rt, &mut Drip::new(b"zz", 9), &mut out, &mut err, wanted);
+}
+
+fn expect_not_written(
+    rt: &(impl Abort + AllocGlobal),
+    fault: Fault,
+    room: usize,
+    calls: usize,
+    shown: &[u8],
+) {
+    let mut out = Page::cut(room, fault);
+    let wanted = (1, shown, b"mh_show: output not written\n".as_slice());
+    let mut input = Drip::new(EXAMPLE, 9);
+    expect_run(rt, &mut input, &mut out, &mut Page::new(), wanted);
+    check_eq!(rt; out.calls, calls);
 }
 
 #[test]
-fn writers_that_fail(rt: HostRuntime) -> Result<(), Fail> {
-    let faults = [
+fn writers_that_fail(rt: HostRuntime) {
+    let rt = &rt;
+    for fault in [
         Fault::TakesNothing,
         Fault::Fails(ErrorKind::BrokenPipe),
         Fault::Fails(ErrorKind::Interrupted),
-    ];
-    for fault in faults {
-        for (room, calls) in [(0, 1), (10, 2)] {
-            let (mut out, mut err) = (Page::cut(room, fault), Page::new());
-            let status = run(rt.alloc(), &mut Drip::new(EXAMPLE, 9), &mut out, &mut err);
-            assert_eq!(rt; status, 1);
-            assert_eq!(rt; out.calls, calls);
-            assert_eq!(rt; out.written(), EXAMPLE_LINES.get(..room).unwrap_or(b""));
-            assert_eq!(rt; err.written(), b"mh_show: output not written\n".as_slice());
-        }
+    ] {
+        expect_not_written(rt, fault, 0, 1, b"");
+        expect_not_written(rt, fault, 10, 2, b"code 22\nsi");
     }
-    Ok(())
+}
+
+fn expect_line_cut(rt: &(impl Abort + AllocGlobal), fault: Fault) {
+    let (mut out, mut err) = (Page::new(), Page::cut(4, fault));
+    let wanted = (1, b"".as_slice(), b"mh_s".as_slice());
+    expect_run(rt, &mut Drip::new(b"zz", 9), &mut out, &mut err, wanted);
+    check_eq!(rt; (out.calls, err.calls), (0, 2));
 }
 
 #[test]
-fn a_failed_error_line_changes_nothing(rt: HostRuntime) -> Result<(), Fail> {
-    for fault in [Fault::TakesNothing, Fault::Fails(ErrorKind::Interrupted)] {
-        let (mut out, mut err) = (Page::new(), Page::cut(4, fault));
-        let status = run(rt.alloc(), &mut Drip::new(b"zz", 9), &mut out, &mut err);
-        assert_eq!(rt; status, 1);
-        assert_eq!(rt; out.calls, 0);
-        assert_eq!(rt; err.calls, 2);
-        assert_eq!(rt; err.written(), b"mh_s".as_slice());
-    }
-    Ok(())
+fn a_failed_error_line_changes_nothing(rt: HostRuntime) {
+    let rt = &rt;
+    expect_line_cut(rt, Fault::TakesNothing);
+    expect_line_cut(rt, Fault::Fails(ErrorKind::Interrupted));
+}
+
+// The fault in the input is told, and the output, which would fail, is not asked.
+fn expect_first(rt: &(impl Abort + AllocGlobal), mut input: Drip, line: &[u8]) {
+    let mut out = Page::cut(0, Fault::Fails(ErrorKind::BrokenPipe));
+    let wanted = (1, b"".as_slice(), line);
+    expect_run(rt, &mut input, &mut out, &mut Page::new(), wanted);
+    check_eq!(rt; out.calls, 0);
 }
 
 #[test]
-fn first_fault_first(rt: HostRuntime) -> Result<(), Fail> {
-    let fault = Fault::Fails(ErrorKind::BrokenPipe);
-    let (mut out, mut err) = (Page::cut(0, fault), Page::new());
-    let mut broken = Drip::failing(EXAMPLE, ErrorKind::NotConnected);
-    let status = run(rt.alloc(), &mut broken, &mut out, &mut err);
-    assert_eq!(rt; status, 1);
-    assert_eq!(rt; out.calls, 0);
-    assert_eq!(rt; err.written(), b"mh_show: input not read\n".as_slice());
-    let (mut out, mut err) = (Page::cut(0, fault), Page::new());
-    let status = run(rt.alloc(), &mut Drip::new(b"zz", 9), &mut out, &mut err);
-    assert_eq!(rt; status, 1);
-    assert_eq!(rt; err.written(), b"mh_show: not hexadecimal\n".as_slice());
-    Ok(())
+fn first_fault_first(rt: HostRuntime) {
+    let rt = &rt;
+    let broken = Drip::failing(EXAMPLE, ErrorKind::NotConnected);
+    expect_first(rt, broken, NOT_READ);
+    expect_first(rt, Drip::new(b"zz", 9), NOT_HEX);
 }
 
 #[test]
-fn appends_to_a_vector(rt: HostRuntime) -> Result<(), Fail> {
-    let (mut out, mut err) = (Vec::new(rt.alloc()), Vec::new(rt.alloc()));
-    for _ in 0..2 {
-        assert_eq!(rt; shows_memory(rt.alloc(), b"0000", &mut out, &mut err), 0);
-    }
-    assert_eq!(rt;
-        out.as_slice(),
-        b"code 0\nsize 0\ndigest -\ncode 0\nsize 0\ndigest -\n".as_slice()
-    );
-    assert!(rt; err.is_empty());
-    Ok(())
+fn appends_to_a_vector(rt: HostRuntime) {
+    let alloc = rt.alloc();
+    let rt = &rt;
+    let (mut out, mut err) = (Vec::new(alloc), Vec::new(alloc));
+    check_eq!(rt; shows_memory(alloc, b"0000", &mut out, &mut err), 0);
+    check_eq!(rt; shows_memory(alloc, b"0000", &mut out, &mut err), 0);
+    let twice = b"code 0\nsize 0\ndigest -\ncode 0\nsize 0\ndigest -\n";
+    expect_bytes(rt, &out, twice);
+    check!(rt; err.is_empty());
 }
 
 // A `refused` test passes where nothing is refused. Where a request is, it looks at what stands then,
@@ -217,8 +229,8 @@ fn appends_to_a_vector(rt: HostRuntime) -> Result<(), Fail> {
 const REFUSED: &str = "memory was refused";
 
 // A run over slices. Where memory was refused, nothing is shown, and a line says so.
-fn expect_unless_refused<R: Abort + AllocGlobal>(
-    rt: &R,
+fn expect_unless_refused(
+    rt: &(impl Abort + AllocGlobal),
     text: &[u8],
     wanted: (u8, &[u8], &[u8]),
 ) -> Result<(), Fail> {
@@ -231,7 +243,7 @@ fn expect_unless_refused<R: Abort + AllocGlobal>(
     if answer == (1, b"", OUT_OF_MEMORY) {
         Err(REFUSED)?;
     }
-    assert_eq!(rt; answer, wanted);
+    check_eq!(rt; answer, wanted);
     Ok(())
 }
 
@@ -249,15 +261,16 @@ fn refused_run_of_a_refusal(rt: HostRuntime) -> Result<(), Fail> {
 // The room for the input is asked for before it is read: one request can be refused with no read.
 #[test]
 fn refused_before_a_read(rt: HostRuntime) -> Result<(), Fail> {
+    let alloc = rt.alloc();
+    let rt = &rt;
     let (mut out, mut err) = (Page::new(), Page::new());
     let mut broken = Drip::failing(b"", ErrorKind::NotConnected);
-    let status = run(rt.alloc(), &mut broken, &mut out, &mut err);
-    assert_eq!(rt; status, 1);
-    assert_eq!(rt; out.calls, 0);
+    let status = run(alloc, &mut broken, &mut out, &mut err);
+    check_eq!(rt; (status, out.calls), (1, 0));
     if broken.calls == 0 {
-        assert_eq!(rt; err.written(), OUT_OF_MEMORY);
+        expect_bytes(rt, err.written(), OUT_OF_MEMORY);
         Err(REFUSED)?;
     }
-    assert_eq!(rt; broken.calls, 1);
+    check_eq!(rt; broken.calls, 1);
     Ok(())
 }

@@ -1,31 +1,56 @@
 use super::*;
+use crate::expect::{check, check_eq, expect_ok};
+use std::process::Abort;
 use std::test::Fail;
 
 #[test]
-fn shows_a_full_digest(rt: HostRuntime) -> Result<(), Fail> {
+fn shows_a_full_digest(rt: HostRuntime) {
+    let alloc = rt.alloc();
+    let rt = &rt;
     let mut text = [b'a'; 132];
     text[..4].copy_from_slice(b"0040");
-    let lines = show(rt.alloc(), &text)?;
+    let lines = expect_ok(rt, show(alloc, &text));
     let head = "code 0\nsize 64\ndigest aaaaaaaa";
-    assert!(rt; lines.as_str().starts_with(head));
-    assert_eq!(rt; lines.len(), "code 0\nsize 64\ndigest \n".len() + 128);
-    Ok(())
+    check!(rt; lines.as_str().starts_with(head));
+    check_eq!(rt; lines.len(), "code 0\nsize 64\ndigest \n".len() + 128);
+}
+
+// The text that was put together is this one.
+fn expect_told<E: fmt::Debug + Drop>(rt: &impl Abort, told: Result<String, E>, wanted: &str) {
+    check_eq!(rt; expect_ok(rt, told).as_str(), wanted);
+}
+
+// The error prints this text alone, whatever width and precision are asked, and something for debugging.
+fn expect_printed(rt: &impl Abort, alloc: Global, e: &ShowError, text: &str) {
+    expect_told(rt, format!(in alloc; "{e}"), text);
+    expect_told(rt, format!(in alloc; "{e:>40.3}"), text);
+    let shown = expect_ok(rt, format!(in alloc; "{e:?}"));
+    check!(rt; !shown.is_empty(), text);
+}
+
+// The text is refused, and this is why.
+fn expect_refused(rt: &impl Abort, alloc: Global, text: &[u8], reason: &str) {
+    match show(alloc, text) {
+        Err(e) => expect_printed(rt, alloc, &e, reason),
+        Ok(_lines) => check!(rt; false, reason),
+    }
+}
+
+fn refused_size(answer: &Result<String, ShowError>) -> Option<u64> {
+    match answer {
+        Err(ShowError::Refused(e)) => e.invalid_size(),
+        _ => None,
+    }
 }
 
 #[test]
-fn refuses_a_longer_digest(rt: HostRuntime) -> Result<(), Fail> {
+fn refuses_a_longer_digest(rt: HostRuntime) {
+    let alloc = rt.alloc();
+    let rt = &rt;
     let mut text = [b'0'; 262];
     text[..6].copy_from_slice(b"008001");
-    match show(rt.alloc(), &text) {
-        Err(ShowError::Refused(e)) => {
-            assert_eq!(rt; e.invalid_size(), Some(128));
-            let text = format!(in rt.alloc(); "{e}")?;
-            assert_eq!(rt; text.as_str(), "Invalid multihash size 128.");
-        }
-        Err(_e) => assert!(rt; false),
-        Ok(_lines) => assert!(rt; false),
-    }
-    Ok(())
+    check_eq!(rt; refused_size(&show(alloc, &text)), Some(128));
+    expect_refused(rt, alloc, &text, "Invalid multihash size 128.");
 }
 
 // A `refused` test passes where nothing is refused. Where a request is, it looks at what stands then,
@@ -34,10 +59,12 @@ const REFUSED: &str = "memory was refused";
 
 #[test]
 fn refused_show(rt: HostRuntime) -> Result<(), Fail> {
-    match show(rt.alloc(), b"1603AABBCC\n") {
-        Ok(lines) => assert_eq!(rt; lines.as_str(), "code 22\nsize 3\ndigest aabbcc\n"),
+    let answer = show(rt.alloc(), b"1603AABBCC\n");
+    let rt = &rt;
+    match answer {
+        Ok(lines) => check_eq!(rt; lines.as_str(), "code 22\nsize 3\ndigest aabbcc\n"),
         Err(e) => {
-            assert!(rt; matches!(&e, ShowError::Memory));
+            check!(rt; matches!(&e, ShowError::Memory));
             Err(REFUSED)?;
         }
     }
@@ -46,55 +73,50 @@ fn refused_show(rt: HostRuntime) -> Result<(), Fail> {
 
 // Passes also where each request is refused.
 #[test]
-fn an_odd_line_needs_no_memory(rt: HostRuntime) -> Result<(), Fail> {
-    assert!(rt; matches!(show(rt.alloc(), b"0"), Err(ShowError::NotHex)));
-    assert!(rt; matches!(show(rt.alloc(), b"0\n"), Err(ShowError::NotHex)));
-    Ok(())
+fn an_odd_line_needs_no_memory(rt: HostRuntime) {
+    let alloc = rt.alloc();
+    let rt = &rt;
+    check!(rt; matches!(show(alloc, b"0"), Err(ShowError::NotHex)));
+    check!(rt; matches!(show(alloc, b"0\n"), Err(ShowError::NotHex)));
+}
+
+fn expect_shown(rt: &impl Abort, alloc: Global, text: &[u8], lines: &str) {
+    expect_told(rt, show(alloc, text), lines);
 }
 
 #[test]
-fn shows_what_a_line_names(rt: HostRuntime) -> Result<(), Fail> {
+fn shows_what_a_line_names(rt: HostRuntime) {
+    let alloc = rt.alloc();
+    let rt = &rt;
     let empty = "code 0\nsize 0\ndigest -\n";
     let three = "code 22\nsize 3\ndigest aabbcc\n";
-    for (text, lines) in [
-        ("0000", empty),
-        ("0000\n", empty),
-        ("1603AABBCC\n", three),
-        ("1603aaBBcc", three),
-        (
-            "ffffffffffffffff7f00",
-            "code 9223372036854775807\nsize 0\ndigest -\n",
-        ),
-    ] {
-        assert_eq!(rt; show(rt.alloc(), text.as_bytes())?.as_str(), lines);
-    }
-    Ok(())
+    expect_shown(rt, alloc, b"0000", empty);
+    expect_shown(rt, alloc, b"0000\n", empty);
+    expect_shown(rt, alloc, b"1603AABBCC\n", three);
+    expect_shown(rt, alloc, b"1603aaBBcc", three);
+    let largest = "code 9223372036854775807\nsize 0\ndigest -\n";
+    expect_shown(rt, alloc, b"ffffffffffffffff7f00", largest);
 }
 
 #[test]
-fn tells_why_a_line_is_refused(rt: HostRuntime) -> Result<(), Fail> {
-    for (text, reason) in [
-        ("", "not enough input bytes"),
-        ("\n", "not enough input bytes"),
-        ("0", "not hexadecimal"),
-        ("zz", "not hexadecimal"),
-        ("00\n\n", "not hexadecimal"),
-        ("0041", "Invalid multihash size 65."),
-        ("8000", "encoding is not minimal"),
-        ("0001", "failed to fill whole buffer"),
-        ("808080808080808000", "encoding is not minimal"),
-        ("ffffffffffffffffff0100", "input bytes exceed maximum"),
-    ] {
-        match show(rt.alloc(), text.as_bytes()) {
-            Err(e) => {
-                assert_eq!(rt; format!(in rt.alloc(); "{e}")?.as_str(), reason);
-                assert_eq!(rt; format!(in rt.alloc(); "{e:>40.3}")?.as_str(), reason);
-                assert!(rt; !format!(in rt.alloc(); "{e:?}")?.is_empty());
-            }
-            Ok(_lines) => assert!(rt; false),
-        }
-    }
-    Ok(())
+fn tells_why_a_line_is_refused(rt: HostRuntime) {
+    let alloc = rt.alloc();
+    let rt = &rt;
+    expect_refused(rt, alloc, b"", "not enough input bytes");
+    expect_refused(rt, alloc, b"\n", "not enough input bytes");
+    expect_refused(rt, alloc, b"0", "not hexadecimal");
+    expect_refused(rt, alloc, b"zz", "not hexadecimal");
+    expect_refused(rt, alloc, b"00\n\n", "not hexadecimal");
+    expect_refused(rt, alloc, b"0041", "Invalid multihash size 65.");
+    expect_refused(rt, alloc, b"8000", "encoding is not minimal");
+    expect_refused(rt, alloc, b"0001", "failed to fill whole buffer");
+    expect_refused(rt, alloc, b"808080808080808000", "encoding is not minimal");
+    expect_refused(
+        rt,
+        alloc,
+        b"ffffffffffffffffff0100",
+        "input bytes exceed maximum",
+    );
 }
 
 fn is_error<E: std::error::Error>(_e: &E) -> bool {
@@ -102,14 +124,10 @@ fn is_error<E: std::error::Error>(_e: &E) -> bool {
 }
 
 #[test]
-fn an_error_prints_its_text_alone(rt: HostRuntime) -> Result<(), Fail> {
-    assert!(rt; is_error(&ShowError::NotHex));
-    for (e, text) in [
-        (ShowError::NotHex, "not hexadecimal"),
-        (ShowError::Memory, "out of memory"),
-    ] {
-        assert_eq!(rt; format!(in rt.alloc(); "{e}")?.as_str(), text);
-        assert_eq!(rt; format!(in rt.alloc(); "{e:>40.3}")?.as_str(), text);
-    }
-    Ok(())
+fn an_error_prints_its_text_alone(rt: HostRuntime) {
+    let alloc = rt.alloc();
+    let rt = &rt;
+    check!(rt; is_error(&ShowError::NotHex));
+    expect_printed(rt, alloc, &ShowError::NotHex, "not hexadecimal");
+    expect_printed(rt, alloc, &ShowError::Memory, "out of memory");
 }

@@ -1,25 +1,38 @@
+mod lines;
+
 use super::*;
-use std::test::Fail;
+use crate::expect::{check, check_eq, expect_ok};
+use lines::{FALSE_LINES, Part, TRUE_LINES, part_of};
+use std::process::Abort;
+
+const GOOD: &str = "4\t390286ce\tpair 57 86ce\t4\tpair 57 86ce\tunexpected_eof\t-";
 
 // A list of one line.
-fn list_of(alloc: Global, line: &str) -> Result<String> {
-    Ok(format!(in alloc; "{COLUMNS}\n{line}\n")?)
+fn list_of(rt: &impl Abort, alloc: Global, line: &str) -> String {
+    expect_ok(rt, format!(in alloc; "{COLUMNS}\n{line}\n"))
 }
 
-// How many of the lines are equal to this one.
-fn count_of(report: &str, wanted: &str) -> usize {
-    report.lines().filter(|line| *line == wanted).count()
+// The report of a list of one line, on which all checks agree, or not all.
+fn report_of(rt: &impl Abort, alloc: Global, line: &str, all_agree: bool) -> String {
+    let list = list_of(rt, alloc, line);
+    let mut report = String::new(alloc);
+    let answer = replay(alloc, list.as_str(), &mut report);
+    check_eq!(rt; expect_ok(rt, answer), all_agree, line);
+    report
+}
+
+// So many of the lines are equal to this one.
+fn expect_count(rt: &impl Abort, report: &str, wanted: &str, count: usize) {
+    let found = report.lines().filter(|line| *line == wanted).count();
+    check_eq!(rt; found, count, wanted);
 }
 
 #[test]
-fn reports_agreement(rt: HostRuntime) -> Result<(), Fail> {
-    let list = list_of(
-        rt.alloc(),
-        "4\t390286ce\tpair 57 86ce\t4\tpair 57 86ce\tunexpected_eof\t-",
-    )?;
-    let mut report = String::new(rt.alloc());
-    assert!(rt; replay(rt.alloc(), list.as_str(), &mut report)?);
-    assert_eq!(rt;
+fn reports_agreement(rt: HostRuntime) {
+    let alloc = rt.alloc();
+    let rt = &rt;
+    let report = report_of(rt, alloc, GOOD, true);
+    check_eq!(rt;
         report.as_str(),
         "from_bytes: 1 lines agree
 read over the slice: 1 lines agree
@@ -30,200 +43,73 @@ scale_decode, one byte a call: 1 lines agree
 from_value: 1 lines agree
 "
     );
-    Ok(())
 }
-
-// What a check compares with.
-#[derive(Clone, Copy, PartialEq)]
-enum Part {
-    Whole,
-    Read,
-    Scale,
-}
-
-fn part_of(check: Check) -> Part {
-    match check {
-        Check::FromBytes | Check::FromValue => Part::Whole,
-        Check::ReadSlice | Check::ReadOneByte | Check::ReadThreeBytes => Part::Read,
-        Check::ScaleSlice | Check::ScaleOneByte => Part::Scale,
-    }
-}
-
-// Lines with a false column, and the part that it is in.
-const FALSE_LINES: [(&str, Part); 28] = [
-    // The digest of a pair, its code, and a pair where there is none.
-    (
-        "4\t390286ce\tpair 57 86ce\t4\tpair 57 86cf\tunexpected_eof\t-",
-        Part::Whole,
-    ),
-    (
-        "4\t390286ce\tpair 58 86ce\t4\tpair 57 86ce\tunexpected_eof\t-",
-        Part::Read,
-    ),
-    (
-        "4\t390286ce\tpair 57 86\t4\tpair 57 86ce\tunexpected_eof\t-",
-        Part::Read,
-    ),
-    (
-        "1\t390286ce\tpair 57 86ce\t2\tinvalid_size 2\tunexpected_eof\t-",
-        Part::Read,
-    ),
-    // The size that was refused, and a byte that is left over.
-    (
-        "1\t390286ce\tinvalid_size 3\t2\tinvalid_size 2\tunexpected_eof\t-",
-        Part::Read,
-    ),
-    (
-        "2\t0000ff\tpair 0 -\t2\tpair 0 -\tunexpected_eof\t-",
-        Part::Whole,
-    ),
-    // Another refusal.
-    (
-        "1\t8000\tinsufficient\t-\tnot_minimal\tunexpected_eof\t-",
-        Part::Read,
-    ),
-    (
-        "1\t80\tinsufficient\t-\toverflow\tunexpected_eof\t-",
-        Part::Whole,
-    ),
-    (
-        "4\t0002ff\tunexpected_eof\t-\tinsufficient\tunexpected_eof\t-",
-        Part::Whole,
-    ),
-    // More bytes or fewer, a number where nothing settles, and none where something does.
-    (
-        "4\t390286ce\tpair 57 86ce\t3\tpair 57 86ce\tunexpected_eof\t-",
-        Part::Read,
-    ),
-    (
-        "1\t80\tinsufficient\t1\tinsufficient\tunexpected_eof\t-",
-        Part::Read,
-    ),
-    (
-        "4\t390286ce\tpair 57 86ce\t-\tpair 57 86ce\tunexpected_eof\t-",
-        Part::Read,
-    ),
-    // The SCALE form: its digest, its code, and a pair where there is none.
-    (
-        "4\t39000000000000000286ce\tpair 57 -\t2\tinvalid_size 9\tpair 57 86cf\t11",
-        Part::Scale,
-    ),
-    (
-        "4\t39000000000000000286ce\tpair 57 -\t2\tinvalid_size 9\tpair 58 86ce\t11",
-        Part::Scale,
-    ),
-    (
-        "1\t39000000000000000286ce\tpair 57 -\t2\tinvalid_size 9\tpair 57 86ce\t11",
-        Part::Scale,
-    ),
-    // The size that was refused, and another refusal.
-    (
-        "1\t39000000000000000286ce\tpair 57 -\t2\tinvalid_size 9\tinvalid_size 3\t9",
-        Part::Scale,
-    ),
-    (
-        "1\t39000000000000000286ce\tpair 57 -\t2\tinvalid_size 9\tunexpected_eof\t-",
-        Part::Scale,
-    ),
-    (
-        "4\t39000000000000000286ce\tpair 57 -\t2\tinvalid_size 9\tinvalid_size 2\t9",
-        Part::Scale,
-    ),
-    (
-        "4\t39000000000000000286\tpair 57 -\t2\tinvalid_size 8\tinsufficient\t-",
-        Part::Scale,
-    ),
-    // The code that was refused, a size in its place, and a code where there is none.
-    (
-        "4\t000000000000008000\tpair 0 -\t2\tinvalid_size 7\tinvalid_code 9223372036854775809\t8",
-        Part::Scale,
-    ),
-    (
-        "4\t000000000000008000\tpair 0 -\t2\tinvalid_size 7\tinvalid_size 9223372036854775808\t8",
-        Part::Scale,
-    ),
-    (
-        "4\t000000000000008000\tpair 0 -\t2\tinvalid_size 7\tpair 9223372036854775808 -\t9",
-        Part::Scale,
-    ),
-    (
-        "4\t00000000000000800000\tinvalid_code 0\t2\tinvalid_size 8\tinvalid_code 9223372036854775808\t8",
-        Part::Read,
-    ),
-    (
-        "4\t000000000000008000\tpair 0 -\t2\tinvalid_code 7\tinvalid_code 9223372036854775808\t8",
-        Part::Whole,
-    ),
-    // More bytes or fewer, none where something is decided, and a number where nothing is.
-    (
-        "4\t000000000000008000\tpair 0 -\t2\tinvalid_size 7\tinvalid_code 9223372036854775808\t9",
-        Part::Scale,
-    ),
-    (
-        "4\t39000000000000000286ce\tpair 57 -\t2\tinvalid_size 9\tpair 57 86ce\t10",
-        Part::Scale,
-    ),
-    (
-        "1\t39000000000000000286ce\tpair 57 -\t2\tinvalid_size 9\tinvalid_size 2\t-",
-        Part::Scale,
-    ),
-    (
-        "4\t39000000000000000286\tpair 57 -\t2\tinvalid_size 8\tunexpected_eof\t10",
-        Part::Scale,
-    ),
-];
-
-// Lines on which each check agrees: a SCALE form with a byte behind it, one whose size is too large for
-// the buffer, one that is cut, and one whose code is too large.
-const TRUE_LINES: [&str; 4] = [
-    "4\t39000000000000000286ceff\tpair 57 -\t2\tinvalid_size 10\tpair 57 86ce\t11",
-    "1\t39000000000000000286ce\tpair 57 -\t2\tinvalid_size 9\tinvalid_size 2\t9",
-    "4\t39000000000000000286\tpair 57 -\t2\tinvalid_size 8\tunexpected_eof\t-",
-    "4\t000000000000008000\tpair 0 -\t2\tinvalid_size 7\tinvalid_code 9223372036854775808\t8",
-];
 
 #[test]
-fn agrees_on_scale_forms(rt: HostRuntime) -> Result<(), Fail> {
+fn agrees_on_scale_forms(rt: HostRuntime) {
+    let alloc = rt.alloc();
+    let rt = &rt;
     for line in TRUE_LINES {
-        let list = list_of(rt.alloc(), line)?;
-        let mut report = String::new(rt.alloc());
-        assert!(rt; replay(rt.alloc(), list.as_str(), &mut report)?, "{line}");
+        report_of(rt, alloc, line, true);
     }
-    Ok(())
+}
+
+// A line's size of buffer and its input, as texts.
+fn place_of<'a>(rt: &impl Abort, line: &'a str) -> (&'a str, &'a str) {
+    let (size, columns) = expect_ok(rt, line.split_once('\t').ok_or("one column"));
+    let (input, _) = expect_ok(rt, columns.split_once('\t').ok_or("two columns"));
+    (size, input)
+}
+
+// A check tells of the one line that it disagrees, or nothing of it.
+fn expect_told(
+    rt: &impl Abort,
+    alloc: Global,
+    report: &str,
+    check: Check,
+    place: (&str, &str),
+    count: usize,
+) {
+    let (size, input) = place;
+    let disagrees = format!(in alloc; "{check}: disagrees at size {size}, input {input}");
+    expect_count(rt, report, expect_ok(rt, disagrees).as_str(), count);
+    let none_agrees = format!(in alloc; "{check}: 0 lines agree");
+    expect_count(rt, report, expect_ok(rt, none_agrees).as_str(), count);
+}
+
+// The checks of this part disagree on the line, and no other.
+fn expect_disagreement(rt: &impl Abort, alloc: Global, line: &str, part: Part) {
+    let report = report_of(rt, alloc, line, false);
+    let told = report.as_str();
+    let place = place_of(rt, line);
+    for check in Check::ALL {
+        let count = usize::from(part_of(check) == part);
+        expect_told(rt, alloc, told, check, place, count);
+    }
 }
 
 #[test]
-fn reports_disagreement(rt: HostRuntime) -> Result<(), Fail> {
+fn reports_disagreement(rt: HostRuntime) {
+    let alloc = rt.alloc();
+    let rt = &rt;
     for (line, part) in FALSE_LINES {
-        let list = list_of(rt.alloc(), line)?;
-        let mut report = String::new(rt.alloc());
-        assert!(rt; !replay(rt.alloc(), list.as_str(), &mut report)?, "{line}");
-        let (size, columns) = line.split_once('\t').ok_or("one column")?;
-        let (input, _) = columns.split_once('\t').ok_or("two columns")?;
-        for check in Check::ALL {
-            let is_false = part_of(check) == part;
-            let disagrees = format!(in rt.alloc();
-                "{check}: disagrees at size {size}, input {input}"
-            )?;
-            let none_agrees = format!(in rt.alloc(); "{check}: 0 lines agree")?;
-            assert_eq!(rt;
-                count_of(report.as_str(), disagrees.as_str()),
-                usize::from(is_false),
-                "{line}"
-            );
-            assert_eq!(rt;
-                count_of(report.as_str(), none_agrees.as_str()),
-                usize::from(is_false),
-                "{line}"
-            );
-        }
+        expect_disagreement(rt, alloc, line, part);
     }
-    Ok(())
+}
+
+fn expect_malformed(rt: &impl Abort, alloc: Global, line: &str) {
+    let list = list_of(rt, alloc, line);
+    let mut report = String::new(alloc);
+    let refused = replay(alloc, list.as_str(), &mut report).is_err();
+    check!(rt; refused, line);
+    check!(rt; report.is_empty(), line);
 }
 
 #[test]
-fn refuses_malformed_lines(rt: HostRuntime) -> Result<(), Fail> {
-    let lines = [
+fn refuses_malformed_lines(rt: HostRuntime) {
+    let alloc = rt.alloc();
+    let rt = &rt;
+    for line in [
         "",
         "4\t390286ce\tpair 57 86ce\t4\tpair 57 86ce\tunexpected_eof",
         "four\t390286ce\tpair 57 86ce\t4\tpair 57 86ce\tunexpected_eof\t-",
@@ -237,74 +123,101 @@ fn refuses_malformed_lines(rt: HostRuntime) -> Result<(), Fail> {
         "1\t80\tinsufficient 1\t-\tinsufficient\tunexpected_eof\t-",
         "4\t000000000000008000\tpair 0 -\t2\tinvalid_size 7\tinvalid_code\t8",
         "4\t000000000000008000\tpair 0 -\t2\tinvalid_size 7\tinvalid_code -1\t8",
-    ];
-    for line in lines {
-        let list = list_of(rt.alloc(), line)?;
-        let mut report = String::new(rt.alloc());
-        assert!(rt;
-            replay(rt.alloc(), list.as_str(), &mut report).is_err(),
-            "{line}"
-        );
-        assert!(rt; report.is_empty());
+    ] {
+        expect_malformed(rt, alloc, line);
     }
-    Ok(())
 }
-
-const GOOD: &str = "4\t390286ce\tpair 57 86ce\t4\tpair 57 86ce\tunexpected_eof\t-";
 
 // The refusal of a list, and its causes, or nothing where it is none.
-fn refusal_of(alloc: Global, list: &str) -> Result<String> {
-    let mut report = String::new(alloc);
-    match replay(alloc, list, &mut report) {
-        Ok(_) => Ok(String::new(alloc)),
-        Err(e) => Ok(format!(in alloc; "{e:#}")?),
+fn refusal_of(rt: &impl Abort, alloc: Global, list: &str, report: &mut String) -> String {
+    match replay(alloc, list, report) {
+        Ok(_) => String::new(alloc),
+        Err(e) => expect_ok(rt, format!(in alloc; "{e:#}")),
     }
 }
 
-#[test]
-fn refuses_other_lists(rt: HostRuntime) -> Result<(), Fail> {
-    let alloc = rt.alloc();
-    let more = format!(in alloc; "{COLUMNS}\tmore")?;
-    let blank = format!(in alloc; "{COLUMNS} ")?;
-    for header in ["", "S\tinput", more.as_str(), blank.as_str(), GOOD] {
-        let list = format!(in alloc; "{header}\n{GOOD}\n")?;
-        let told = format!(in alloc; "line 1, {header:?}: other columns")?;
-        assert_eq!(rt; refusal_of(alloc, list.as_str())?, told);
-        assert_eq!(rt; refusal_of(alloc, header)?, told);
-    }
-    assert_eq!(rt;
-        refusal_of(alloc, "S\tinput\n")?.as_str(),
-        "line 1, \"S\\tinput\": other columns"
-    );
-    for list in [
-        format!(in alloc; "{COLUMNS}")?,
-        format!(in alloc; "{COLUMNS}\n")?,
-    ] {
-        assert_eq!(rt;
-            refusal_of(alloc, list.as_str())?.as_str(),
-            "a list of no lines"
-        );
-    }
-    Ok(())
+// The list is refused so.
+fn expect_refusal(rt: &impl Abort, alloc: Global, list: &str, told: &str) {
+    let refusal = refusal_of(rt, alloc, list, &mut String::new(alloc));
+    check_eq!(rt; refusal.as_str(), told, list);
+}
+
+// A list with this first line is refused for it, also where there is no other.
+fn expect_other_columns(rt: &impl Abort, alloc: Global, header: &str) {
+    let list = expect_ok(rt, format!(in alloc; "{header}\n{GOOD}\n"));
+    let told = expect_ok(rt, format!(in alloc; "line 1, {header:?}: other columns"));
+    expect_refusal(rt, alloc, list.as_str(), told.as_str());
+    expect_refusal(rt, alloc, header, told.as_str());
 }
 
 #[test]
-fn tells_the_number_of_a_malformed_line(rt: HostRuntime) -> Result<(), Fail> {
+fn refuses_other_lists(rt: HostRuntime) {
     let alloc = rt.alloc();
-    let eight = format!(in alloc; "{GOOD}\t-")?;
-    let list = format!(in alloc; "{COLUMNS}\n{eight}\n")?;
-    let told = format!(in alloc; "line 2, {eight:?}: 8 columns")?;
-    assert_eq!(rt; refusal_of(alloc, list.as_str())?, told);
-    let list = format!(in alloc; "{COLUMNS}\n{GOOD}\n{GOOD}\n{eight}\n{GOOD}\n")?;
-    let told = format!(in alloc; "line 4, {eight:?}: 8 columns")?;
-    assert_eq!(rt; refusal_of(alloc, list.as_str())?, told);
-    let other_size = "3\t390286ce\tpair 57 86ce\t4\tpair 57 86ce\tunexpected_eof\t-";
-    let list = format!(in alloc; "{COLUMNS}\n{GOOD}\n{other_size}\n")?;
+    let rt = &rt;
+    for header in ["", "S\tinput", GOOD] {
+        expect_other_columns(rt, alloc, header);
+    }
+    let more = expect_ok(rt, format!(in alloc; "{COLUMNS}\tmore"));
+    expect_other_columns(rt, alloc, more.as_str());
+    let blank = expect_ok(rt, format!(in alloc; "{COLUMNS} "));
+    expect_other_columns(rt, alloc, blank.as_str());
+    let told = "line 1, \"S\\tinput\": other columns";
+    expect_refusal(rt, alloc, "S\tinput\n", told);
+}
+
+#[test]
+fn refuses_lists_of_no_lines(rt: HostRuntime) {
+    let alloc = rt.alloc();
+    let rt = &rt;
+    expect_refusal(rt, alloc, COLUMNS, "a list of no lines");
+    let list = expect_ok(rt, format!(in alloc; "{COLUMNS}\n"));
+    expect_refusal(rt, alloc, list.as_str(), "a list of no lines");
+}
+
+#[test]
+fn tells_the_number_of_a_malformed_line(rt: HostRuntime) {
+    let alloc = rt.alloc();
+    let rt = &rt;
+    let eight = expect_ok(rt, format!(in alloc; "{GOOD}\t-"));
+    let line = eight.as_str();
+    let list = expect_ok(rt, format!(in alloc; "{COLUMNS}\n{line}\n"));
+    let told = expect_ok(rt, format!(in alloc; "line 2, {line:?}: 8 columns"));
+    expect_refusal(rt, alloc, list.as_str(), told.as_str());
+    let list = format!(in alloc; "{COLUMNS}\n{GOOD}\n{GOOD}\n{line}\n{GOOD}\n");
+    let list = expect_ok(rt, list);
+    let told = expect_ok(rt, format!(in alloc; "line 4, {line:?}: 8 columns"));
+    expect_refusal(rt, alloc, list.as_str(), told.as_str());
+}
+
+const OTHER_SIZE: &str = "3\t390286ce\tpair 57 86ce\t4\tpair 57 86ce\tunexpected_eof\t-";
+
+#[test]
+fn tells_the_sizes_that_a_list_has(rt: HostRuntime) {
+    let alloc = rt.alloc();
+    let rt = &rt;
+    let list = expect_ok(rt, format!(in alloc; "{COLUMNS}\n{GOOD}\n{OTHER_SIZE}\n"));
     let told = format!(in alloc;
-        "line 3, {other_size:?}: no buffer of size 3: the sizes are 0, 1, 2, 4, 16, 32, 64, 128, 200, 255, 256 and 300"
-    )?;
-    assert_eq!(rt; refusal_of(alloc, list.as_str())?, told);
-    // A blank behind a word of the verdict, of a number and of the bytes, and a line that is empty.
+        "line 3, {OTHER_SIZE:?}: no buffer of size 3: the sizes are 0, 1, 2, 4, 16, 32, 64, 128, 200, 255, 256 and 300"
+    );
+    expect_refusal(rt, alloc, list.as_str(), expect_ok(rt, told).as_str());
+}
+
+// A refusal that begins so.
+fn expect_begin(rt: &impl Abort, refusal: &str, begin: &str, line: &str) {
+    check!(rt; refusal.starts_with(begin), (line, refusal));
+}
+
+fn expect_third(rt: &impl Abort, alloc: Global, line: &str) {
+    let list = expect_ok(rt, format!(in alloc; "{COLUMNS}\n{GOOD}\n{line}\n{GOOD}\n"));
+    let refusal = refusal_of(rt, alloc, list.as_str(), &mut String::new(alloc));
+    expect_begin(rt, refusal.as_str(), "line 3, ", line);
+}
+
+// A blank behind a word of the verdict, of a number and of the bytes, and a line that is empty.
+#[test]
+fn tells_the_number_of_a_line_with_a_blank(rt: HostRuntime) {
+    let alloc = rt.alloc();
+    let rt = &rt;
     for line in [
         "1\t80\tinsufficient \t-\tinsufficient\tunexpected_eof\t-",
         "4\t390286ce\tpair 57 86ce\t4 \tpair 57 86ce\tunexpected_eof\t-",
@@ -314,39 +227,31 @@ fn tells_the_number_of_a_malformed_line(rt: HostRuntime) -> Result<(), Fail> {
         "4\t390286ce\tpair 57 86ce\t4\tpair 57 86ce\tunexpected_eof\t- ",
         "",
     ] {
-        let list = format!(in alloc; "{COLUMNS}\n{GOOD}\n{line}\n{GOOD}\n")?;
-        let told = refusal_of(alloc, list.as_str())?;
-        assert!(rt; told.as_str().starts_with("line 3, "), "{line}: {told}");
+        expect_third(rt, alloc, line);
     }
-    Ok(())
+}
+
+const WRONG: &str = "4\t390286ce\tpair 58 86ce\t4\tpair 57 86ce\tunexpected_eof\t-";
+
+// Above the refused line stand a good one and a wrong one, and below it a wrong one.
+fn expect_told_above(rt: &impl Abort, alloc: Global, refused: &str) {
+    let list = format!(in alloc; "{COLUMNS}\n{GOOD}\n{WRONG}\n{refused}\n{WRONG}\n");
+    let list = expect_ok(rt, list);
+    let mut report = String::new(alloc);
+    let refusal = refusal_of(rt, alloc, list.as_str(), &mut report);
+    expect_begin(rt, refusal.as_str(), "line 4, ", refused);
+    let told = report.as_str();
+    let disagrees = "read over the slice: disagrees at size 4, input 390286ce";
+    expect_count(rt, told, disagrees, 1);
+    expect_count(rt, told, "read over the slice: 1 lines agree", 1);
+    expect_count(rt, told, "from_bytes: 2 lines agree", 1);
 }
 
 // A line of another size, and one that is cut, hide no disagreement above them.
 #[test]
-fn tells_what_stands_above_a_refused_line(rt: HostRuntime) -> Result<(), Fail> {
+fn tells_what_stands_above_a_refused_line(rt: HostRuntime) {
     let alloc = rt.alloc();
-    let wrong = "4\t390286ce\tpair 58 86ce\t4\tpair 57 86ce\tunexpected_eof\t-";
-    let other_size = "3\t390286ce\tpair 57 86ce\t4\tpair 57 86ce\tunexpected_eof\t-";
-    for refused in [other_size, "4\t00\tpair"] {
-        let list = format!(in alloc; "{COLUMNS}\n{GOOD}\n{wrong}\n{refused}\n{wrong}\n")?;
-        let mut report = String::new(alloc);
-        let told = replay(alloc, list.as_str(), &mut report)
-            .err()
-            .ok_or("no refusal")?;
-        let told = format!(in alloc; "{told:#}")?;
-        assert!(rt; told.as_str().starts_with("line 4, "), "{told}");
-        assert_eq!(rt;
-            count_of(
-                report.as_str(),
-                "read over the slice: disagrees at size 4, input 390286ce"
-            ),
-            1
-        );
-        assert_eq!(rt;
-            count_of(report.as_str(), "read over the slice: 1 lines agree"),
-            1
-        );
-        assert_eq!(rt; count_of(report.as_str(), "from_bytes: 2 lines agree"), 1);
-    }
-    Ok(())
+    let rt = &rt;
+    expect_told_above(rt, alloc, OTHER_SIZE);
+    expect_told_above(rt, alloc, "4\t00\tpair");
 }
