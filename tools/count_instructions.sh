@@ -4,7 +4,7 @@
 #
 #   count_instructions.sh                            the tables
 #   count_instructions.sh PATTERN                    one a line, the cases that PATTERN matches, as grep -E does
-#   count_instructions.sh --rust PROGRAM [PATTERN]   tools/rust_crate.tsv anew, by tools/rust_matrix.rs, built as PROGRAM:
+#   count_instructions.sh --rust PROGRAM [PATTERN]   tools/rust_crate.tsv anew; PROGRAM is tools/rust_matrix.rs, built:
 #                                                    rows of cases that it has not, or that PATTERN leaves out, stay
 #
 # JOBS says how many cases are counted side by side: 2, if not set.

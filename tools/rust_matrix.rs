@@ -85,8 +85,7 @@ mod calls {
 
     #[inline(never)]
     pub fn write_slice<const S: usize>(m: &Multihash<S>, room: &mut [u8]) -> Result<usize, Error> {
-        let mut places = room;
-        m.write(&mut places)
+        m.write(room)
     }
 
     #[inline(never)]
