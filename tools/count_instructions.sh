@@ -1,5 +1,12 @@
 #!/bin/sh
-# Counts the instructions of each call that crates/speed makes, and prints the tables of docs/SPEED.md.
+# Counts the instructions of each call that crates/speed makes, and prints the tables of docs/SPEED.md; in brackets
+# stands what tools/rust_crate.tsv has of the Rust crate.
+#
+#   count_instructions.sh                            the tables
+#   count_instructions.sh PATTERN                    one a line, the cases that PATTERN matches, as grep -E does
+#   count_instructions.sh --rust PROGRAM [PATTERN]   tools/rust_crate.tsv anew; PROGRAM is tools/rust_matrix.rs, built:
+#                                                    rows of cases that it has not, or that PATTERN leaves out, stay
+#
 # JOBS says how many cases are counted side by side: 2, if not set.
 set -eu
 
@@ -8,12 +15,16 @@ fewer=1000
 more=3000
 
 top=$(cd "$(dirname "$0")/.." && pwd)
-program=$top/crates/speed/out/speed
+program=${COUNTED_PROGRAM:-$top/crates/speed/out/speed}
 rust=$top/tools/rust_crate.tsv
 
+# Fails where the program refuses the case, or valgrind says no count.
 collected() {
-    valgrind --tool=callgrind --callgrind-out-file=/dev/null "$program" "$@" 2>&1 >/dev/null |
-        sed -n 's/.*Collected : //p'
+    said=$(valgrind --tool=callgrind --callgrind-out-file=/dev/null "$program" "$@" 2>&1 >/dev/null) || {
+        echo "$0: $program refuses: $*" >&2
+        return 1
+    }
+    echo "$said" | sed -n 's/.*Collected : //p' | grep .
 }
 
 # Prints a case and the instructions of one call.
@@ -24,12 +35,18 @@ count_case() {
     echo "$@" $(((high - low + calls / 2) / calls))
 }
 
-# Reads cases as 'OPERATION SIZE CODE_LEN BUFFER INSTRUCTIONS', and prints a table: a row for each
-# operation that has all columns, which are given as 'SIZE CODE_LEN BUFFER', with | between them.
+# Reads cases as 'OPERATION SIZE CODE_LEN BUFFER INSTRUCTIONS', and prints a table: a row for each operation that has
+# more than one of the columns, which are given as 'SIZE CODE_LEN BUFFER', with | between them.
 table() {
-    awk -v heads="$1" -v columns="$2" '
-        NR == FNR && !($1 in seen) { seen[$1] = 1; names[++rows] = $1 }
-        NR > FNR { count[$1 " " $2 " " $3 " " $4] = $5 }
+    awk -F '\t' -v heads="$1" -v columns="$2" -v counts="$counts" '
+        BEGIN {
+            while ((getline line < counts) > 0) {
+                split(line, part, " ")
+                count[part[1] " " part[2] " " part[3] " " part[4]] = part[5]
+            }
+        }
+        FILENAME ~ /rust_crate.tsv$/ { rust[$1] = $3; next }
+        { split($1, part, " "); if (!(part[1] in listed)) { listed[part[1]] = 1; names[++rows] = part[1] } }
         END {
             n = split(columns, column, "|")
             split(heads, head, "|")
@@ -37,17 +54,20 @@ table() {
             for (i = 1; i <= n; i++) { line = line " " head[i] " |"; rule = rule "---:|" }
             print line; print rule
             for (r = 1; r <= rows; r++) {
-                line = "| `" names[r] "` |"; whole = 1
+                line = "| `" names[r] "` |"; there = 0
                 for (i = 1; i <= n; i++) {
                     key = names[r] " " column[i]
-                    if (!(key in count)) { whole = 0 } else { line = line " " count[key] " |" }
+                    cell = "-"
+                    if (key in count) { there++; cell = count[key] }
+                    if (key in count && rust[key] ~ /^[0-9]/) cell = cell " (" rust[key] ")"
+                    line = line " " cell " |"
                 }
-                if (whole) print line
+                if (there > 1) print line
             }
-        }' "$cases" "$counts"
+        }' "$rust" "$cases"
 }
 
-# The cases of which the Rust crate was counted too.
+# The cases that have a name in tools/rust_crate.tsv.
 beside_rust() {
     awk -F '\t' -v counts="$counts" '
         BEGIN {
@@ -57,11 +77,37 @@ beside_rust() {
             }
             print "| Call | this library | Rust | share |"; print "|---|---:|---:|---:|"
         }
-        /^#/ { next }
+        /^#/ || $2 == "" || !($1 in count) { next }
         {
             here = count[$1]
             printf "| %s | %d | %s | %s |\n", $2, here, $3, ($3 == "-" ? "-" : sprintf("%.2f", here / $3))
         }' "$rust"
+}
+
+# tools/rust_crate.tsv with what was counted now.
+rust_column() {
+    awk -F '\t' -v OFS='\t' -v counts="$counts" '
+        BEGIN {
+            while ((getline line < counts) > 0) {
+                split(line, part, " ")
+                count[part[1] " " part[2] " " part[3] " " part[4]] = part[5]
+            }
+        }
+        FILENAME ~ /rust_crate.tsv$/ { if ($1 in count) $3 = count[$1]; listed[$1] = 1; print; next }
+        !($1 in listed) && ($1 in count) { print $1, "", count[$1] }' "$rust" "$cases"
+}
+
+# The cases in order, with the count here, and that of the Rust crate in brackets.
+chosen_counts() {
+    awk -F '\t' -v counts="$counts" '
+        BEGIN {
+            while ((getline line < counts) > 0) {
+                split(line, part, " ")
+                count[part[1] " " part[2] " " part[3] " " part[4]] = part[5]
+            }
+        }
+        FILENAME ~ /rust_crate.tsv$/ { rust[$1] = $3; next }
+        { print $1, count[$1] (rust[$1] ~ /^[0-9]/ ? " (" rust[$1] ")" : "") }' "$rust" "$cases"
 }
 
 if ! command -v valgrind >/dev/null; then
@@ -75,12 +121,36 @@ if [ "${1:-}" = --case ]; then
     exit 0
 fi
 
+of_rust=
+if [ "${1:-}" = --rust ]; then
+    of_rust=${2:?the program is missing}
+    program=$of_rust
+    shift 2
+fi
+pattern=${1:-}
+
 cases=$(mktemp)
 counts=$(mktemp)
-trap 'rm -f "$cases" "$counts"' EXIT
-(cd "$top/crates/speed" && rt run -- cases) >"$cases"
-xargs -P "${JOBS:-2}" -n 4 "$0" --case <"$cases" >"$counts"
+trap 'rm -f "$cases" "$counts" "$cases.all"' EXIT
+if [ -n "$of_rust" ]; then
+    "$program" cases >"$cases.all"
+else
+    (cd "$top/crates/speed" && rt run -- cases) >"$cases.all"
+fi
+grep -E -e "$pattern" "$cases.all" >"$cases" || {
+    echo "$0: no case to count" >&2
+    exit 1
+}
+COUNTED_PROGRAM=$program xargs -P "${JOBS:-2}" -n 4 "$0" --case <"$cases" >"$counts"
 
+if [ -n "$of_rust" ]; then
+    rust_column
+    exit 0
+fi
+if [ -n "$pattern" ]; then
+    chosen_counts
+    exit 0
+fi
 echo "Beside the Rust crate, buffers of 64 bytes:"
 echo
 beside_rust

@@ -56,10 +56,15 @@ impl Case {
     }
 
     /// The cases of an operation: each pair of sizes with a code of one byte, and, where codes
-    /// matter, a digest of 32 bytes behind each longer code, and one of 64 behind the longest.
+    /// matter, a digest of 32 bytes behind each longer code, and one of 64 behind the longest. No
+    /// digest differs from the one without bytes as an operation wants it.
     pub fn list(alloc: Global, operation: Operation) -> Result<Vec<Case>, AllocError> {
         let mut cases = Vec::new(alloc);
+        let least = usize::from(operation.difference().is_some());
         for (buffer, size) in SIZES {
+            if size < least {
+                continue;
+            }
             cases.push(Case {
                 operation,
                 size,

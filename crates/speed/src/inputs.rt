@@ -2,7 +2,8 @@
 ghost use Rattle.std.specs.Prelude.{◌≡◌, ◌<◌, ◌≤◌, ◌^◌, ◌*◌, ◌-◌, length, IfOk};
 
 use crate::case::{Case, LONGEST_CODE};
-use anyhow::{Result, ensure};
+use crate::operation::{Difference, Operation};
+use anyhow::{Context, Result, ensure};
 use multihash::{Multihash, list};
 use serde_json::Value;
 use std::alloc::Global;
@@ -23,7 +24,7 @@ pub struct Inputs<const S: usize> {
     pub digest: Vec<u8>,
     pub encoding: Vec<u8>,
     pub scale: Vec<u8>,
-    /// All of `left` and `right` are equal.
+    /// All of `left` and `right` are equal, but for an operation on digests that differ.
     pub left: Vec<Multihash<S>>,
     pub right: Vec<Multihash<S>>,
     pub values: Vec<Value>,
@@ -70,7 +71,7 @@ impl<const S: usize> Inputs<S> {
             encoding: multihash.to_bytes(alloc)?,
             scale,
             left: vec![in alloc; multihash; ROUND]?,
-            right: vec![in alloc; multihash; ROUND]?,
+            right: others(alloc, case.operation, &multihash)?,
             values: values(alloc, &multihash)?,
             items,
             room: stream.clone()?,
@@ -97,4 +98,39 @@ fn values<const S: usize>(alloc: Global, multihash: &Multihash<S>) -> Result<Vec
         all.push(multihash.to_value(alloc)?)?;
     }
     Ok(all)
+}
+
+// What the values are compared with.
+fn others<const S: usize>(
+    alloc: Global,
+    operation: Operation,
+    multihash: &Multihash<S>,
+) -> Result<Vec<Multihash<S>>> {
+    let other = match operation.difference() {
+        Some(difference) => unlike(alloc, difference, multihash)?,
+        None => *multihash,
+    };
+    Ok(vec![in alloc; other; ROUND]?)
+}
+
+// A multihash of the same code whose digest differs so.
+fn unlike<const S: usize>(
+    alloc: Global,
+    difference: Difference,
+    multihash: &Multihash<S>,
+) -> Result<Multihash<S>> {
+    let last = multihash
+        .digest()
+        .len()
+        .checked_sub(1)
+        .context("a digest with bytes")?;
+    let place = match difference {
+        Difference::FirstByte => 0,
+        Difference::SeventeenthByte => 16,
+        Difference::LastByte => last,
+        Difference::Length => return Ok(multihash.truncate(last as u8)),
+    };
+    let mut digest = multihash.digest().to_vec(alloc)?;
+    *digest.get_mut(place).context("a digest with that byte")? ^= 1;
+    Ok(Multihash::wrap(multihash.code(), &digest)?)
 }

@@ -3,6 +3,17 @@ use std::fmt;
 use std::str::FromStr;
 use thiserror::Error;
 
+/// In what two digests differ.
+#[derive(Clone, Copy, Debug, PartialEq, Eq)]
+pub enum Difference {
+    FirstByte,
+    /// The first byte behind sixteen.
+    SeventeenthByte,
+    LastByte,
+    /// The second has one byte less.
+    Length,
+}
+
 /// A call of the library.
 #[derive(Clone, Copy, Debug, PartialEq, Eq)]
 pub enum Operation {
@@ -16,6 +27,10 @@ pub enum Operation {
     Equal,
     SameAs,
     Compare,
+    /// `==` of digests that differ.
+    EqualUnlike(Difference),
+    /// `cmp` of digests that differ.
+    CompareUnlike(Difference),
     Hash,
     Truncate,
     Resize,
@@ -34,7 +49,7 @@ pub enum Operation {
 pub struct UnknownOperation;
 
 impl Operation {
-    pub const ALL: [Operation; 20] = [
+    pub const ALL: [Operation; 28] = [
         Operation::Wrap,
         Operation::FromBytes,
         Operation::ToBytes,
@@ -45,6 +60,14 @@ impl Operation {
         Operation::Equal,
         Operation::SameAs,
         Operation::Compare,
+        Operation::EqualUnlike(Difference::FirstByte),
+        Operation::EqualUnlike(Difference::SeventeenthByte),
+        Operation::EqualUnlike(Difference::LastByte),
+        Operation::EqualUnlike(Difference::Length),
+        Operation::CompareUnlike(Difference::FirstByte),
+        Operation::CompareUnlike(Difference::SeventeenthByte),
+        Operation::CompareUnlike(Difference::LastByte),
+        Operation::CompareUnlike(Difference::Length),
         Operation::Hash,
         Operation::Truncate,
         Operation::Resize,
@@ -69,6 +92,14 @@ impl Operation {
             Operation::Equal => "eq",
             Operation::SameAs => "same_as",
             Operation::Compare => "cmp",
+            Operation::EqualUnlike(Difference::FirstByte) => "eq_first",
+            Operation::EqualUnlike(Difference::SeventeenthByte) => "eq_17th",
+            Operation::EqualUnlike(Difference::LastByte) => "eq_last",
+            Operation::EqualUnlike(Difference::Length) => "eq_length",
+            Operation::CompareUnlike(Difference::FirstByte) => "cmp_first",
+            Operation::CompareUnlike(Difference::SeventeenthByte) => "cmp_17th",
+            Operation::CompareUnlike(Difference::LastByte) => "cmp_last",
+            Operation::CompareUnlike(Difference::Length) => "cmp_length",
             Operation::Hash => "hash",
             Operation::Truncate => "truncate",
             Operation::Resize => "resize",
@@ -79,6 +110,16 @@ impl Operation {
             Operation::FromValue => "from_value",
             Operation::WriteList => "write_list",
             Operation::ReadList => "read_list",
+        }
+    }
+
+    /// In what the digests of a call differ, if they do.
+    pub fn difference(self) -> Option<Difference> {
+        match self {
+            Operation::EqualUnlike(difference) | Operation::CompareUnlike(difference) => {
+                Some(difference)
+            }
+            _ => None,
         }
     }
 
