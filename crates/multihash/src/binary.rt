@@ -56,7 +56,8 @@ impl<const S: usize> Multihash<S> {
     {
         let code = varint::read(r)?;
         let size = Self::fitting_size(varint::read(r)?)?;
-        let digest = Self::read_digest(r, size)?;
+        let mut digest = [0; S];
+        Self::read_digest(r, size, &mut digest)?;
         Ok(Multihash {
             code,
             digest,
@@ -154,11 +155,16 @@ impl<const S: usize> Multihash<S> {
         Ok(bytes)
     }
 
-    // Reads a digest of that size into the front of a buffer of zeros.
+    // Reads a digest of that size into the front of the buffer.
     #[inline(always)]
-    fn read_digest<R: Read>(r: &mut R, size: u8) -> Result<[u8; S], no_std_io::Error>
+    fn read_digest<R: Read>(
+        r: &mut R,
+        size: u8,
+        buffer: &mut [u8; S],
+    ) -> Result<(), no_std_io::Error>
         requires { size ≤ digest_limit S }
-        ensures ok { IfOk result (λ buffer. Takes (R.rest r.old) (take size buffer) (R.rest r.new)) }
+        ensures ok { OnOk result (Takes (R.rest r.old) (take size buffer.new) (R.rest r.new)) }
+        ensures places { length buffer.new ≡ S }
         ensures faults { CountsReader IsOwnFault IsUnexpectedEof
             (R.failures r.old) (R.failures r.new) result }
         ensures eof { IfErr result (λ e. IsUnexpectedEof e → HasFewerThan size (R.rest r.old)) }
@@ -168,11 +174,10 @@ impl<const S: usize> Multihash<S> {
         if size == 32 {
             let mut whole = [0; 32];
             r.read_exact(&mut whole)?;
-            return Ok(Self::padded_whole(&whole));
+            buffer[..32].copy_from_slice(&whole);
+            return Ok(());
         }
-        let mut digest = [0; S];
-        r.read_exact(&mut digest[..usize::from(size)])?;
-        Ok(digest)
+        r.read_exact(&mut buffer[..usize::from(size)])
     }
 
     // The size of a digest, where the buffer holds one so long.

@@ -202,7 +202,7 @@ impl<const S: usize> Multihash<S> {
     }
 
     #[inline(always)]
-    pub(crate) fn padded_whole(bytes: &[u8; 32]) -> [u8; S]
+    fn padded_whole(bytes: &[u8; 32]) -> [u8; S]
         requires { 32 ≤ S }
         ensures { result ≡ bytes.now ++ replicate (S - 32) 0 }
     {

@@ -31,15 +31,15 @@ returns-in_err-size g c =
     (stops_at_size g.row.S _ _ code.ok.0 size.ok.0 code.ok.1 size.ok.1 _ _ _ _ _ (size.faults ∙ code.faults) c.in_err-size.ensures.over
     c.in_err-size.ensures.err (Takes-joined _ _ _ code.ok.0 size.ok.0 _ refl code.ok.2 size.ok.2))
 
-pub returns-in_err-digest : goal.returns-in_err-digest
-returns-in_err-digest g c =
+pub returns-in_err-read_digest : goal.returns-in_err-read_digest
+returns-in_err-read_digest g c =
     let S = g.row.S in
     let code = c.in_ok-code.ensures in
     let size = c.in_ok-read.ensures in
-    let digest = c.in_err-digest.ensures in
+    let digest = c.in_err-read_digest.ensures in
     let t = digest.err in
     let room = c.in_ok-size.ensures.ok in
-    passed_err (ReadMeets S _ _ _ _) c.from_residual-in_err-digest.result _ c.from_residual-in_err-digest.ensures.1
+    passed_err (ReadMeets S _ _ _ _) c.from_residual-in_err-read_digest.result _ c.from_residual-in_err-read_digest.ensures.1
     (stops_in_digest S _ _ code.ok.0 size.ok.0 code.ok.1 size.ok.1 _ _ _ _ c.in_ok-size.ensures.fits _ t.taken _
     (omega (arith, t.fewer, room)) t.takes (rw room at digest.eof)
     (rw (size.faults ∙ code.faults) at digest.faults)
@@ -51,14 +51,14 @@ returns g c =
     let code = c.in_ok-code.ensures in
     let size = c.in_ok-read.ensures in
     let len = c.from.result in
-    let buffer = c.in_ok-digest.digest in
+    let buffer = c.read_digest.new.buffer in
     let same : len ≡ c.in_ok-size.size = c.from.ensures in
     let digest = take len buffer in
     let is_size : IsVarint len size.ok.0 = rw (same ∙ c.in_ok-size.ensures.ok) size.ok.1 in
     let within : len ≤ digest_limit S = omega (arith, same, c.in_ok-size.ensures.ok, c.in_ok-size.ensures.fits) in
-    let places : length buffer ≡ S = search rules in
+    let places : length buffer ≡ S = c.in_ok-read_digest.ensures.places in
     let long : length digest ≡ len = length-take-le len buffer (omega (arith, within, places)) in
-    let takes = rw (← same) at c.in_ok-digest.ensures.ok in
+    let takes = rw (← same) at c.in_ok-read_digest.ensures.ok in
     let made : Fields S = record {
       code = c.in_ok-code.code;
       size = len;
@@ -67,6 +67,6 @@ returns g c =
       fits = within;
     } in
     read_answered S (code.ok.0 ++ (size.ok.0 ++ digest)) _ _ _ _ made
-    (c.in_ok-digest.ensures.faults ∙ (size.faults ∙ code.faults))
+    (c.in_ok-read_digest.ensures.faults ∙ (size.faults ∙ code.faults))
     (encoding_of (pair_of made) _ _ digest code.ok.0 size.ok.0 refl (sym long) refl code.ok.1 is_size)
     (Takes-joined _ _ _ code.ok.0 (size.ok.0 ++ digest) _ refl code.ok.2 (Takes-joined _ _ _ size.ok.0 digest _ refl size.ok.2 takes))
