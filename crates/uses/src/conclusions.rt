@@ -4,7 +4,8 @@ ghost use Rattle.serde_json.specs.Data.{Data};
 ghost use Rattle.serde_json.specs.View.{view};
 ghost use Rattle.multihash.specs.Bytes.{ExactlyOne};
 ghost use Rattle.multihash.specs.Pair.{Pair, IsPair, FitsBuffer};
-ghost use Rattle.multihash.specs.Verdict.{Verdict, HasWholeVerdict};
+ghost use Rattle.multihash.specs.Encoding.{IsEncoding};
+ghost use Rattle.multihash.specs.Verdict.{Verdict, HasVerdict, HasWholeVerdict};
 ghost use Rattle.multihash.specs.Settling.{Settles, IsShortestSettling};
 ghost use Rattle.multihash.specs.Scale.{IsScale, HasScaleVerdict};
 ghost use Rattle.multihash.specs.Json.{IsByteArray, IsJsonList};
@@ -18,6 +19,23 @@ use multihash::no_std_io::{self, Write};
 use multihash::{Error, Multihash, laws, list};
 use serde_json::Value;
 use std::alloc::Global;
+
+/// What reading answers to a slice: its one verdict.
+pub fn found<const S: usize>(bytes: &[u8]) -> Result<Multihash<S>, Error>
+    ensures { (one : ExactlyOne (HasVerdict S bytes.now)) × Answers result one.value }
+{
+    laws::one_verdict();
+    let mut left = bytes;
+    Multihash::read(&mut left)
+}
+
+/// The length of the one encoding that a multihash has.
+pub fn encoding_len<const S: usize>(m: &Multihash<S>) -> usize
+    ensures { (one : ExactlyOne (IsEncoding (pair_of m.now))) × (result ≡ length one.value) }
+{
+    laws::prefix_free();
+    m.encoded_len()
+}
 
 /// How many bytes of a stream settle what `read` answers, at the least: there is one shortest beginning that
 /// does. None where more bytes could still change it.
@@ -155,6 +173,17 @@ pub fn listed<const S: usize>(value: &Value) -> Result<Multihash<S>, Error>
     laws::json_unique();
     laws::one_verdict();
     Multihash::from_value(value)
+}
+
+/// Whether a JSON value lists the multihash.
+pub fn lists<const S: usize>(value: &Value, m: &Multihash<S>) -> bool
+    ensures { IsTrue result ↔ IsJsonList (pair_of m.now) (view value.now) }
+{
+    let (code, digest) = (m.code(), m.digest());
+    match listed::<S>(value) {
+        Ok(found) => found.code() == code && found.digest() == digest,
+        Err(_) => false,
+    }
 }
 
 /// The multihash of the bytes that a JSON value lists: its pair, where it fits, and no other.
