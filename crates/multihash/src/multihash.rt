@@ -1,5 +1,5 @@
 //! The type, and its parts.
-ghost use Rattle.std.specs.Prelude.{◌≡◌, ◌<◌, ◌≤◌, ◌-◌, ◌⊎◌, ◌↔◌, [], ◌++◌, length, take, replicate, Some, IfOk, IfErr, IsErr};
+ghost use Rattle.std.specs.Prelude.{◌≡◌, ◌<◌, ◌≤◌, ◌-◌, ◌+◌, ◌⊎◌, ◌↔◌, [], ◌++◌, length, take, drop, replicate, Some, IfOk, IfErr, IsErr};
 ghost use Rattle.multihash.specs.Bytes.{IsBytes};
 ghost use Rattle.multihash.specs.Varint.{varint_limit};
 ghost use Rattle.multihash.specs.Pair.{IsPair, digest_limit, truncated, FitsBuffer};
@@ -88,7 +88,7 @@ impl<const S: usize> Multihash<S> {
             }
         }
         let mut digest = [0; S];
-        digest[..len].copy_from_slice(input_digest);
+        copy_to_front(input_digest, &mut digest[..]);
         Ok(Multihash {
             code,
             digest,
@@ -127,11 +127,10 @@ impl<const S: usize> Multihash<S> {
     pub fn truncate(&self, size: u8) -> Self
         ensures { pair_of result ≡ truncated size (pair_of self.now) }
     {
-        Multihash {
-            code: self.code,
-            digest: self.digest,
-            size: self.size.min(usize::from(size)),
-        }
+        // Copied as one value: a literal of its fields would copy the digest by way of the stack.
+        let mut truncated = *self;
+        truncated.size = self.size.min(usize::from(size));
+        truncated
     }
 
     /// The same code and digest in a buffer of `R` bytes.
@@ -244,4 +243,39 @@ fn front(bytes: &[u8], len: usize) -> &[u8]
     ensures bytes { IsBytes result.now }
 {
     &bytes[..len]
+}
+
+// Puts the digest at the front of the places. 16 to 64 bytes are copied as words, of which the last
+// may overlap the one before: this is no call.
+#[inline(always)]
+fn copy_to_front(digest: &[u8], places: &mut [u8])
+    requires { length digest.now ≤ length places.old }
+    ensures { places.new ≡ digest.now ++ drop (length digest.now) places.old }
+{
+    let len = digest.len();
+    if len > 64 || len < 16 {
+        places[..len].copy_from_slice(digest);
+        return;
+    }
+    copy_word(digest, 0, places);
+    if len > 32 {
+        copy_word(digest, 16, places);
+    }
+    if len > 48 {
+        copy_word(digest, 32, places);
+    }
+    copy_word(digest, len - 16, places);
+}
+
+// Copies the sixteen bytes from there on to the same places.
+#[inline(always)]
+fn copy_word(digest: &[u8], at: usize, places: &mut [u8])
+    requires inside { at + 16 ≤ length digest.now }
+    requires room { length digest.now ≤ length places.old }
+    ensures word { places.new ≡ take at places.old
+        ++ (take 16 (drop at digest.now) ++ drop (at + 16) places.old) }
+    ensures len { length places.new ≡ length places.old }
+{
+    let end = at + 16;
+    places[at..end].copy_from_slice(&digest[at..end]);
 }
