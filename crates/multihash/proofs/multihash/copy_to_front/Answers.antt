@@ -34,25 +34,25 @@ returns c =
     let first : c.copy_word.new.places ≡ take 16 d ++ drop 16 z = c.copy_word.ensures.word in
     let last : (n : ℕ) → m - 16 ≤ n → n ≤ m → c.if-len-gt48.places ≡ take n d ++ drop n z → c.copy_word-2.new.places ≡ d ++ drop m z =
     λ n from to before.
-      word_on d z _ _ n (m - 16) m (omega (arith, c.if-len-lt16.false)) (omega arith) from to before c.copy_word-2.ensures.word
-      ∙ ap (λ l. l ++ drop m z) (take_all m d (omega arith)) in
+    word_on d z _ _ n (m - 16) m (omega (arith, c.if-len-lt16.false)) (omega arith) from to before c.copy_word-2.ensures.word
+    ∙ ap (λ l. l ++ drop m z) (take_all m d (omega arith)) in
     elim c.if-len-gt32.branch [
-      then-len-gt32 v ↦
-        let more = v.if-len-gt32 in
-        let second : c.if-len-gt32.places ≡ take 32 d ++ drop 32 z =
-        v.places-is ∙ word_on d z _ _ 16 16 32 refl (omega (arith, more)) (omega arith) (omega arith) first v.copy_word-then-len-gt32.ensures.word in
-        elim c.if-len-gt48.branch [
-          then-len-gt48 w ↦
-            last 48 (omega (arith, c.if-len-gt64.false)) (omega (arith, w.if-len-gt48))
-            (w.places-is ∙ word_on d z _ _ 32 32 48 refl (omega (arith, w.if-len-gt48)) (omega arith) (omega arith) second w.copy_word-then-len-gt48.ensures.word)
-        | else-len-gt48 w ↦
-            last 32 (omega (arith, w.if-len-gt48)) (omega (arith, more)) (w.places-is ∙ second)
-        ]
-    | else-len-gt32 v ↦
-        let few = v.if-len-gt32 in
-        elim c.if-len-gt48.branch [
-          then-len-gt48 w ↦ absurd (omega (arith, few, w.if-len-gt48))
-        | else-len-gt48 w ↦
-            last 16 (omega (arith, few)) (omega (arith, c.if-len-lt16.false)) (w.places-is ∙ (v.places-is ∙ first))
-        ]
+      | then-len-gt32 v ↦
+          let more = v.if-len-gt32 in
+          let second : c.if-len-gt32.places ≡ take 32 d ++ drop 32 z =
+          v.places-is ∙ word_on d z _ _ 16 16 32 refl (omega (arith, more)) (omega arith) (omega arith) first v.copy_word-then-len-gt32.ensures.word in
+          elim c.if-len-gt48.branch [
+            | then-len-gt48 w ↦
+                last 48 (omega (arith, c.if-len-gt64.false)) (omega (arith, w.if-len-gt48))
+                (w.places-is ∙ word_on d z _ _ 32 32 48 refl (omega (arith, w.if-len-gt48)) (omega arith) (omega arith) second w.copy_word-then-len-gt48.ensures.word)
+            | else-len-gt48 w ↦
+                last 32 (omega (arith, w.if-len-gt48)) (omega (arith, more)) (w.places-is ∙ second)
+          ]
+      | else-len-gt32 v ↦
+          let few = v.if-len-gt32 in
+          elim c.if-len-gt48.branch [
+            | then-len-gt48 w ↦ absurd (omega (arith, few, w.if-len-gt48))
+            | else-len-gt48 w ↦
+                last 16 (omega (arith, few)) (omega (arith, c.if-len-lt16.false)) (w.places-is ∙ (v.places-is ∙ first))
+          ]
     ]
