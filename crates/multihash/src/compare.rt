@@ -1,11 +1,10 @@
 //! Comparing, and feeding a hasher.
-ghost use Rattle.std.specs.Prelude.{◌≡◌, ◌==◌, ◌<◌, ◌≤◌, ◌+◌, ◌-◌, ◌↔◌, length, take, drop, false, Some, IsTrue};
+ghost use Rattle.std.specs.Prelude.{◌≡◌, ◌≢◌, ◌==◌, ◌<◌, ◌≤◌, ◌+◌, ◌↔◌, length, take, drop, slice_index, Some, IsTrue};
 ghost use Rattle.std.proofs.Common.{rules};
 ghost use Rattle.std.specs.Cmp.{partial_order_from_own_ties};
 ghost use Rattle.std.specs.Cmp.Lexicographic.{pointwise, slice_cmp};
 ghost use Rattle.std.specs.Cmp.Rules.{comparing, hashing};
 ghost use Rattle.std.specs.Ordering.{nat_cmp, on, as_partial_cmp};
-ghost use Rattle.multihash.specs.Bytes.{place_value};
 ghost use Rattle.multihash.specs.Pair.{IsSame};
 ghost use Rattle.multihash.specs.Order.{Compares};
 ghost use Rattle.multihash.specs.Comparing.{equal_pairs, compare_pairs, hashed_pair};
@@ -14,15 +13,61 @@ ghost use Rattle.multihash.specs.Answer.{pair_of};
 use crate::Multihash;
 use std::cmp::Ordering;
 use std::hash::{Hash, Hasher};
+use std::simd::prelude::*;
 
 impl<const S: usize> Multihash<S> {
     /// Whether both have the same code and the same digest, whatever their buffers' sizes are.
     pub fn same_as<const B: usize>(&self, other: &Multihash<B>) -> bool
         ensures { IsTrue result ↔ IsSame (pair_of self.now) (pair_of other.now) }
     {
-        self.size == other.size
-            && self.code == other.code
-            && same_bytes(self.digest(), other.digest())
+        self.size == other.size && self.code == other.code && self.same_digest(other)
+    }
+
+    // Whether the digests are equal. The usual lengths are compared as words, which is no call.
+    #[inline(always)]
+    fn same_digest<const B: usize>(&self, other: &Multihash<B>) -> bool
+        requires { length (pair_of self.now).digest ≡ length (pair_of other.now).digest }
+        ensures { result ≡ pointwise ◌==◌ (pair_of self.now).digest (pair_of other.now).digest }
+    {
+        if self.size > 32 {
+            return same_many(self.digest(), other.digest());
+        }
+        if self.size >= 16 {
+            return same_ends(self.digest(), other.digest());
+        }
+        self.size == 0 || self.same_few(other)
+    }
+
+    #[inline(never)]
+    fn same_few<const B: usize>(&self, other: &Multihash<B>) -> bool
+        ensures { result ≡ pointwise ◌==◌ (pair_of self.now).digest (pair_of other.now).digest }
+    {
+        self.digest() == other.digest()
+    }
+
+    // How the digests compare. The usual lengths are compared as words, which is no call.
+    #[inline(always)]
+    fn order_of_digest(&self, other: &Self) -> Ordering
+        requires { length (pair_of self.now).digest ≡ length (pair_of other.now).digest }
+        ensures { result ≡ slice_cmp nat_cmp (pair_of self.now).digest (pair_of other.now).digest }
+    {
+        if self.size > 32 {
+            return order_of_many(self.digest(), other.digest());
+        }
+        if self.size >= 16 {
+            return order_of_ends(self.digest(), other.digest());
+        }
+        if self.size == 0 {
+            return Ordering::Equal;
+        }
+        self.order_of_few(other)
+    }
+
+    #[inline(never)]
+    fn order_of_few(&self, other: &Self) -> Ordering
+        ensures { result ≡ slice_cmp nat_cmp (pair_of self.now).digest (pair_of other.now).digest }
+    {
+        self.digest().cmp(other.digest())
     }
 }
 
@@ -36,9 +81,7 @@ impl<const S: usize> PartialEq for Multihash<S> {
         ensures computes { result ≡ equal_pairs (pair_of self.now) (pair_of other.now) }
         ensures same { IsTrue result ↔ IsSame (pair_of self.now) (pair_of other.now) }
     {
-        self.code == other.code
-            && self.size == other.size
-            && same_bytes(self.digest(), other.digest())
+        self.code == other.code && self.size == other.size && self.same_digest(other)
     }
 }
 
@@ -66,7 +109,7 @@ impl<const S: usize> Ord for Multihash<S> {
         if self.size != other.size {
             return self.size.cmp(&other.size);
         }
-        order_of_bytes(self.digest(), other.digest())
+        self.order_of_digest(other)
     }
 }
 
@@ -93,44 +136,46 @@ impl<const S: usize> Hash for Multihash<S> {
     }
 }
 
-// Whether the bytes are equal. A difference at the front is seen first, and 16 to 64 bytes are compared
-// as words, which is no call.
+// Whether 16 to 32 bytes are equal, by their first and their last sixteen, which may overlap.
 #[inline(always)]
-fn same_bytes(a: &[u8], b: &[u8]) -> bool
-    ensures { result ≡ pointwise ◌==◌ a.now b.now }
-{
-    let len = a.len();
-    if len > 64 || len < 16 || len != b.len() {
-        return !differ_early(a, b) && a == b;
-    }
-    !differ_early(a, b) && same_words(a, b)
-}
-
-// Whether the first four bytes differ.
-#[inline(always)]
-fn differ_early(a: &[u8], b: &[u8]) -> bool
-    ensures { IsTrue result → (pointwise ◌==◌ a.now b.now ≡ false) }
-{
-    match (a.first_chunk::<4>(), b.first_chunk::<4>()) {
-        (Some(front), Some(other)) => u32::from_le_bytes(*front) != u32::from_le_bytes(*other),
-        _ => false,
-    }
-}
-
-// Whether 16 to 64 bytes are equal, by words that may overlap.
-#[inline(always)]
-fn same_words(a: &[u8], b: &[u8]) -> bool
+fn same_ends(a: &[u8], b: &[u8]) -> bool
     requires least { 16 ≤ length a.now }
-    requires most { length a.now ≤ 64 }
+    requires most { length a.now ≤ 32 }
     requires same { length a.now ≡ length b.now }
     ensures { result ≡ pointwise ◌==◌ a.now b.now }
 {
-    let len = a.len();
-    let ends = same_word(a, b, 0) & same_word(a, b, len - 16);
-    if len <= 32 {
-        return ends;
+    same_word(a, b, 0) && same_word(a, b, a.len() - 16)
+}
+
+// Whether 32 bytes or more are equal, by pairs of words, of which the last may overlap the one before.
+#[inline(always)]
+fn same_many(a: &[u8], b: &[u8]) -> bool
+    requires least { 32 ≤ length a.now }
+    requires same { length a.now ≡ length b.now }
+    ensures { result ≡ pointwise ◌==◌ a.now b.now }
+{
+    if !same_pair(a, b, 0) {
+        return false;
     }
-    ends & same_word(a, b, 16) & same_word(a, b, len - 32)
+    let last = a.len() - 32;
+    let mut at = 32;
+    while at < last {
+        if !same_pair(a, b, at) {
+            return false;
+        }
+        at += 32;
+    }
+    same_pair(a, b, last)
+}
+
+// Whether the 32 bytes from there on are equal. Both words are looked at, so that one branch decides.
+#[inline(always)]
+fn same_pair(a: &[u8], b: &[u8], at: usize) -> bool
+    requires a { at + 32 ≤ length a.now }
+    requires b { at + 32 ≤ length b.now }
+    ensures { IsTrue result ↔ (take 32 (drop at a.now) ≡ take 32 (drop at b.now)) }
+{
+    same_word(a, b, at) & same_word(a, b, at + 16)
 }
 
 // Whether the sixteen bytes from there on are equal.
@@ -140,41 +185,95 @@ fn same_word(a: &[u8], b: &[u8], at: usize) -> bool
     requires b { at + 16 ≤ length b.now }
     ensures { IsTrue result ↔ (take 16 (drop at a.now) ≡ take 16 (drop at b.now)) }
 {
-    word_at(a, at) == word_at(b, at)
+    same_front(a, b, at) == 16
 }
 
-// The sixteen bytes from there on, as one number.
+// How many of the sixteen bytes from there on are equal, up to the first that differs.
 #[inline(always)]
-fn word_at(bytes: &[u8], at: usize) -> u128
-    requires { at + 16 ≤ length bytes.now }
-    ensures { result ≡ place_value 256 (take 16 (drop at bytes.now)) }
+fn same_front(a: &[u8], b: &[u8], at: usize) -> usize
+    requires a { at + 16 ≤ length a.now }
+    requires b { at + 16 ≤ length b.now }
+    ensures most { result ≤ 16 }
+    ensures same { take result (drop at a.now) ≡ take result (drop at b.now) }
+    ensures apart { result < 16 →
+        slice_index a.now (at + result) ≢ slice_index b.now (at + result) }
 {
-    match bytes[at..].first_chunk::<16>() {
-        Some(word) => u128::from_le_bytes(*word),
-        None => unreachable!(),
+    let (word, other) = (u8x16::from_slice(&a[at..]), u8x16::from_slice(&b[at..]));
+    let unlike = word.simd_ne(other).to_bitmask();
+    if unlike == 0 {
+        16
+    } else {
+        unlike.trailing_zeros() as usize
     }
 }
 
-// How the bytes compare. The usual length is compared as a whole, with no loop.
+// How 16 to 32 bytes compare, by their first and their last sixteen, which may overlap.
 #[inline(always)]
-fn order_of_bytes(a: &[u8], b: &[u8]) -> Ordering
+fn order_of_ends(a: &[u8], b: &[u8]) -> Ordering
+    requires least { 16 ≤ length a.now }
+    requires most { length a.now ≤ 32 }
+    requires same { length a.now ≡ length b.now }
     ensures { result ≡ slice_cmp nat_cmp a.now b.now }
 {
-    if a.len() == 32 && b.len() == 32 {
-        if let (Some(whole), Some(other)) = (a.first_chunk::<32>(), b.first_chunk::<32>()) {
-            return whole.cmp(other);
+    let order = order_of_word(a, b, 0);
+    if order.is_ne() {
+        return order;
+    }
+    order_of_word(a, b, a.len() - 16)
+}
+
+// How 32 bytes or more compare, by pairs of words, of which the last may overlap the one before.
+#[inline(always)]
+fn order_of_many(a: &[u8], b: &[u8]) -> Ordering
+    requires least { 32 ≤ length a.now }
+    requires same { length a.now ≡ length b.now }
+    ensures { result ≡ slice_cmp nat_cmp a.now b.now }
+{
+    let order = order_of_pair(a, b, 0);
+    if order.is_ne() {
+        return order;
+    }
+    let last = a.len() - 32;
+    let mut at = 32;
+    while at < last {
+        let order = order_of_pair(a, b, at);
+        if order.is_ne() {
+            return order;
         }
+        at += 32;
     }
-    order_of_unusual(a, b)
+    order_of_pair(a, b, last)
 }
 
-// As `order_of_bytes`. Equal bytes, as those of a key that is found, are seen to be equal by words first.
-#[inline(never)]
-fn order_of_unusual(a: &[u8], b: &[u8]) -> Ordering
-    ensures { result ≡ slice_cmp nat_cmp a.now b.now }
+// How the 32 bytes from there on compare.
+#[inline(always)]
+fn order_of_pair(a: &[u8], b: &[u8], at: usize) -> Ordering
+    requires a { at + 32 ≤ length a.now }
+    requires b { at + 32 ≤ length b.now }
+    ensures { result ≡ slice_cmp nat_cmp (take 32 (drop at a.now)) (take 32 (drop at b.now)) }
 {
-    if a.len() == b.len() && same_bytes(a, b) {
+    let order = order_of_word(a, b, at);
+    if order.is_ne() {
+        return order;
+    }
+    order_of_word(a, b, at + 16)
+}
+
+// How the sixteen bytes from there on compare: as the first that differs does.
+#[inline(always)]
+fn order_of_word(a: &[u8], b: &[u8], at: usize) -> Ordering
+    requires a { at + 16 ≤ length a.now }
+    requires b { at + 16 ≤ length b.now }
+    ensures { result ≡ slice_cmp nat_cmp (take 16 (drop at a.now)) (take 16 (drop at b.now)) }
+{
+    let front = same_front(a, b, at);
+    if front == 16 {
         return Ordering::Equal;
     }
-    a.cmp(b)
+    let place = at + front;
+    if a[place] < b[place] {
+        Ordering::Less
+    } else {
+        Ordering::Greater
+    }
 }

@@ -1,30 +1,45 @@
--- Lists of bytes that are compared by windows of sixteen, which may overlap.
-use Rattle.std.proofs.Common.{◌≡◌, ◌==◌, ◌+◌, ◌-◌, ◌<◌, ◌≤◌, ℕ, List, ◌++◌, Bool, true, false, length, take, drop, refl, sym, ap, ◌∙◌, arith, length-drop}
+-- Lists that are compared by windows, of which the last may overlap the one before.
+use Rattle.std.proofs.Common.{◌≡◌, ◌≢◌, ◌==◌, ◌+◌, ◌-◌, ◌%◌, ◌^◌, ◌<◌, ◌≤◌, ℕ, suc, List, [], ◌∷◌, ◌++◌, Bool, true, false, not, cond, eqb, inl, inr, ◌⊎◌, length, take, drop, get_or, map, refl, sym, ap, subst, ◌∙◌, arith, length-drop, w8}
 use Rattle.std.specs.Cmp.{unsigned_Decides}
 use Rattle.std.specs.Cmp.Lexicographic.{pointwise}
+use Rattle.std.specs.List.{prefix_len}
+use Rattle.std.specs.Simd.Lanes.{zip2, mask_l, top}
+use Rattle.std.specs.Int.Count.{count_trailing_zeros}
+use Rattle.std.proofs.lemmas.Simd.{tops_compared, mask_l-mod, first_set_mask_l, length-zip2, length-chunk, get_or-chunk}
 use Rattle.std.proofs.Math.Seq.{take-add}
-use Rattle.std.proofs.lemmas.List.{take-append-drop, drop-drop, take_all, length-take-le}
-use Rattle.std.proofs.lemmas.List.Elements.{All-take, All-drop}
+use Rattle.std.proofs.lemmas.Bool.Decides.{eqb_tells}
+use Rattle.std.proofs.lemmas.List.{take-append-drop, take-take, drop-take, drop-drop, take_all, map-id}
 use Rattle.std.proofs.lemmas.Slice.Eq.{slice_eq-Decides}
-use Rattle.multihash.specs.Bytes.{IsBytes, place_value}
-use Rattle.multihash.proofs.Varints.DigitLemmas.{place_value_unique}
 
--- the sixteen bytes from there on
-abbrev pub window : ℕ → List ℕ → List ℕ
-window at bytes = take 16 (drop at bytes)
+-- that many from there on
+abbrev pub window : ℕ → ℕ → List ℕ → List ℕ
+window n at bytes = take n (drop at bytes)
 
--- windows of one number are the same
-pub window_unique : (a b : List ℕ) (at : ℕ) → IsBytes a → IsBytes b → at + 16 ≤ length a → at + 16 ≤ length b
-    → place_value 256 (window at a) ≡ place_value 256 (window at b) → window at a ≡ window at b
-window_unique a b at x y long large same =
-    let left : length (window at a) ≡ 16 = length-take-le 16 (drop at a) (omega (arith, long, length-drop at a)) in
-    let right : length (window at b) ≡ 16 = length-take-le 16 (drop at b) (omega (arith, large, length-drop at b)) in
-    place_value_unique 256 (window at a) (window at b)
-    (All-take (λ d. d < 256) 16 (drop at a) (All-drop (λ d. d < 256) at a x))
-    (All-take (λ d. d < 256) 16 (drop at b) (All-drop (λ d. d < 256) at b y)) (left ∙ sym right) same
+-- ---- two windows of sixteen
+
+pub left_half : (at : ℕ) (a : List ℕ) → take 16 (window 32 at a) ≡ window 16 at a
+left_half at a = take-take 16 32 (drop at a) (omega arith)
+
+pub right_half : (at : ℕ) (a : List ℕ) → drop 16 (window 32 at a) ≡ window 16 (at + 16) a
+right_half at a = drop-take 16 16 (drop at a) ∙ ap (take 16) (drop-drop 16 at a)
+
+pub both_halves : (at : ℕ) (a b : List ℕ) → window 16 at a ≡ window 16 at b → window 16 (at + 16) a ≡ window 16 (at + 16) b
+    → window 32 at a ≡ window 32 at b
+both_halves at a b left right =
+    sym (take-append-drop 16 (window 32 at a))
+    ∙ ap (λ l. l ++ drop 16 (window 32 at a)) (left_half at a ∙ left ∙ sym (left_half at b))
+    ∙ ap (λ l. take 16 (window 32 at b) ++ l) (right_half at a ∙ right ∙ sym (right_half at b))
+    ∙ take-append-drop 16 (window 32 at b)
+
+-- ---- what is behind a front
+
+-- one more window
+pub longer_front : (n at : ℕ) (a b : List ℕ) → take at a ≡ take at b → window n at a ≡ window n at b → take (at + n) a ≡ take (at + n) b
+longer_front n at a b front same =
+    take-add at n a ∙ ap (λ l. l ++ window n at a) front ∙ ap (λ l. take at b ++ l) same ∙ sym (take-add at n b)
 
 -- lists whose fronts are the same, and what begins within the fronts
-pub meets : (i j : ℕ) (a b : List ℕ) → i ≤ j → take j a ≡ take j b → drop i a ≡ drop i b → a ≡ b
+meets : (i j : ℕ) (a b : List ℕ) → i ≤ j → take j a ≡ take j b → drop i a ≡ drop i b → a ≡ b
 meets i j a b within front back =
     let sum : i + (j - i) ≡ j = omega (arith, within) in
     let behind : drop j a ≡ drop j b =
@@ -32,27 +47,105 @@ meets i j a b within front back =
     sym (take-append-drop j a) ∙ ap (λ l. l ++ drop j a) front ∙ ap (λ l. take j b ++ l) behind ∙ take-append-drop j b
 
 -- the last window is all that is left
-pub last_window : (k : ℕ) (a b : List ℕ) → length a ≡ k + 16 → length b ≡ k + 16 → window k a ≡ window k b → drop k a ≡ drop k b
-last_window k a b left right same =
-    sym (take_all 16 (drop k a) (omega (arith, left, length-drop k a))) ∙ same ∙ take_all 16 (drop k b) (omega (arith, right, length-drop k b))
+pub last_window : (n k : ℕ) (a : List ℕ) → length a ≡ k + n → window n k a ≡ drop k a
+last_window n k a long = take_all n (drop k a) (omega (arith, long, length-drop k a))
 
--- 16 to 32 bytes whose first and last windows are the same
-pub two_cover : (k : ℕ) (a b : List ℕ) → length a ≡ k + 16 → length b ≡ k + 16 → k ≤ 16 → window 0 a ≡ window 0 b → window k a ≡ window k b
+-- the fronts and the last windows are the same, and leave nothing out
+pub covered : (n k j : ℕ) (a b : List ℕ) → length a ≡ k + n → length b ≡ k + n → k ≤ j → take j a ≡ take j b → window n k a ≡ window n k b
     → a ≡ b
-two_cover k a b left right few first last = meets k 16 a b few first (last_window k a b left right last)
+covered n k j a b left right within front last =
+    meets k j a b within front (sym (last_window n k a left) ∙ last ∙ last_window n k b right)
 
--- 32 to 64 bytes whose two first and two last windows are the same
-pub four_cover : (k : ℕ) (a b : List ℕ) → length a ≡ k + 32 → length b ≡ k + 32 → k ≤ 32 → window 0 a ≡ window 0 b → window 16 a ≡ window 16 b
-    → window k a ≡ window k b → window (k + 16) a ≡ window (k + 16) b → a ≡ b
-four_cover k a b left right few first second third last =
-    let front : take 32 a ≡ take 32 b =
-    take-add 16 16 a ∙ ap (λ l. l ++ window 16 a) first ∙ ap (λ l. take 16 b ++ l) second ∙ sym (take-add 16 16 b) in
-    let tail : drop (k + 16) a ≡ drop (k + 16) b = last_window (k + 16) a b (omega (arith, left)) (omega (arith, right)) last in
-    let behind : drop 16 (drop k a) ≡ drop 16 (drop k b) = drop-drop 16 k a ∙ tail ∙ sym (drop-drop 16 k b) in
-    let back : drop k a ≡ drop k b =
-    sym (take-append-drop 16 (drop k a)) ∙ ap (λ l. l ++ drop 16 (drop k a)) third ∙ ap (λ l. window k b ++ l) behind
-    ∙ take-append-drop 16 (drop k b) in
-    meets k 32 a b few front back
+-- ---- what comes before the first that differs
+
+-- the first r are the same, and the next differ, where there is a next
+pub record IsCommonFront (a b : List ℕ) (r : ℕ) : Type 0 where
+  pub most : r ≤ length a
+  pub same : take r a ≡ take r b
+  pub apart : r < length a → get_or a r 0 ≢ get_or b r 0
+
+abbrev pub unlike : ℕ → ℕ → Bool
+unlike x y = not (eqb x y)
+
+common_front-same : (x y : ℕ) (a b : List ℕ) (r : ℕ) → x ≡ y → IsCommonFront a b r → IsCommonFront (x ∷ a) (y ∷ b) (suc r)
+common_front-same x y a b r same h =
+    record { most = omega (arith, h.most); same = cc (same, h.same); apart = λ more. h.apart (omega (arith, more)) }
+
+common_front-cons : (x y : ℕ) (a b : List ℕ) (r : ℕ) → ((eqb x y ≡ true) × (x ≡ y)) ⊎ ((eqb x y ≡ false) × (x ≢ y)) → IsCommonFront a b r
+    → IsCommonFront (x ∷ a) (y ∷ b) (cond (not (unlike x y)) (1 + r) 0)
+common_front-cons x y a b r (inl (e, same)) h =
+    let next : suc r ≡ 1 + r = omega arith in
+    rw e (subst (λ (n : ℕ). IsCommonFront (x ∷ a) (y ∷ b) n) next (common_front-same x y a b r same h))
+common_front-cons x y a b r (inr (e, apart)) h = rw e (record { most = omega arith; same = refl; apart = λ more. apart })
+
+pub common_front : (a b : List ℕ) → length a ≡ length b → IsCommonFront a b (prefix_len not (zip2 unlike a b))
+common_front [] [] long = record { most = omega arith; same = refl; apart = λ more. absurd (omega (arith, more)) }
+common_front [] (y ∷ b) long = absurd (omega arith)
+common_front (x ∷ a) [] long = absurd (omega arith)
+common_front (x ∷ a) (y ∷ b) long = common_front-cons x y a b _ (eqb_tells x y) (common_front a b (omega arith))
+
+-- what `same_front` says of the places from there on
+pub record IsFrontFrom (at : ℕ) (a b : List ℕ) (r : ℕ) : Type 0 where
+  pub most : r ≤ 16
+  pub same : take r (drop at a) ≡ take r (drop at b)
+  pub apart : r < 16 → get_or a (at + r) 0 ≢ get_or b (at + r) 0
+
+from_windows : (at : ℕ) (a b : List ℕ) (r : ℕ) → at + 16 ≤ length a → at + 16 ≤ length b → IsCommonFront (window 16 at a) (window 16 at b) r
+    → IsFrontFrom at a b r
+from_windows at a b r left right h =
+    let long : length (window 16 at a) ≡ 16 = length-chunk at 16 a left in
+    let most : r ≤ 16 = omega (arith, h.most, long) in
+    record {
+      most = most;
+      same = sym (take-take r 16 (drop at a) most) ∙ h.same ∙ take-take r 16 (drop at b) most;
+      apart = λ more same. h.apart (omega (arith, more, long)) (get_or-chunk at 16 a r 0 more ∙ same ∙ sym (get_or-chunk at 16 b r 0 more));
+    }
+
+-- the mask of the lanes that differ
+abbrev pub mask_of : List ℕ → List ℕ → ℕ
+mask_of a b = mask_l (map (top 7) (zip2 (λ x y. cond (unlike x y) 255 0) a b)) % 2 ^ 64
+
+-- where no bit is set all are the same, and else the lowest is the first that differs
+lanes_front : (at : ℕ) (a b : List ℕ) → at + 16 ≤ length a → at + 16 ≤ length b
+    → IsFrontFrom at a b (cond (eqb (mask_of (window 16 at a) (window 16 at b)) 0) 16 (count_trailing_zeros 64 (mask_of (window 16 at a) (window 16 at b))))
+lanes_front at a b left right =
+    let x = window 16 at a in
+    let y = window 16 at b in
+    let long : length x ≡ 16 = length-chunk at 16 a left in
+    let wide : length y ≡ 16 = length-chunk at 16 b right in
+    let lanes : length (zip2 unlike x y) ≡ 16 = length-zip2 unlike x y (long ∙ sym wide) ∙ long in
+    let mask : mask_of x y ≡ mask_l (map (λ (m : Bool). m) (zip2 unlike x y)) =
+    ap (λ ms. mask_l ms % 2 ^ 64) (tops_compared w8 unlike x y) ∙ mask_l-mod (zip2 unlike x y) 64 (omega (arith, lanes)) ∙ ap mask_l (sym (map-id (zip2 unlike x y))) in
+    let found = ap (λ (m : ℕ). cond (eqb m 0) 16 (count_trailing_zeros 64 m)) mask ∙ first_set_mask_l (λ (m : Bool). m) (zip2 unlike x y) 16 lanes (omega arith) in
+    from_windows at a b _ left right (subst (λ r. IsCommonFront x y r) (sym found) (common_front x y (long ∙ sym wide)))
+
+pub all_front : (at : ℕ) (a b : List ℕ) → at + 16 ≤ length a → at + 16 ≤ length b → mask_of (window 16 at a) (window 16 at b) ≡ 0 → IsFrontFrom at a b 16
+all_front at a b left right none =
+    subst (λ r. IsFrontFrom at a b r) (ap (λ (m : ℕ). cond (eqb m 0) 16 (count_trailing_zeros 64 m)) none) (lanes_front at a b left right)
+
+pub lowest_front : (at : ℕ) (a b : List ℕ) → at + 16 ≤ length a → at + 16 ≤ length b → mask_of (window 16 at a) (window 16 at b) ≢ 0
+    → IsFrontFrom at a b (count_trailing_zeros 64 (mask_of (window 16 at a) (window 16 at b)))
+lowest_front at a b left right some = go (eqb_tells m 0)
+  where
+    m : ℕ
+    m = mask_of (window 16 at a) (window 16 at b)
+
+    go : ((eqb m 0 ≡ true) × (m ≡ 0)) ⊎ ((eqb m 0 ≡ false) × (m ≢ 0)) → IsFrontFrom at a b (count_trailing_zeros 64 m)
+    go (inl (e, none)) = absurd (some none)
+    go (inr (e, other)) =
+        subst (λ r. IsFrontFrom at a b r) (ap (λ (t : Bool). cond t 16 (count_trailing_zeros 64 m)) e) (lanes_front at a b left right)
+
+-- a front is whole exactly where the windows are the same
+pub whole_front : (at : ℕ) (a b : List ℕ) (r : ℕ) → IsFrontFrom at a b r → window 16 at a ≡ window 16 at b → r ≡ 16
+whole_front at a b r h same = go (eqb_tells r 16)
+  where
+    go : ((eqb r 16 ≡ true) × (r ≡ 16)) ⊎ ((eqb r 16 ≡ false) × (r ≢ 16)) → r ≡ 16
+    go (inl (e, whole)) = whole
+    go (inr (e, other)) =
+        let more : r < 16 = omega (arith, h.most, other) in
+        absurd (h.apart more (sym (get_or-chunk at 16 a r 0 more) ∙ ap (λ l. get_or l r 0) same ∙ get_or-chunk at 16 b r 0 more))
+
+-- ---- `==`
 
 -- what is true exactly where the lists are the same is what `==` says of them
 pub is_pointwise : (r : Bool) (a b : List ℕ) → (r ≡ true → a ≡ b) → (a ≡ b → r ≡ true) → r ≡ pointwise ◌==◌ a b

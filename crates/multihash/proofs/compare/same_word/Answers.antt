@@ -1,8 +1,6 @@
-use Rattle.std.proofs.Common.{◌∙◌, ap, sym, arith}
+use Rattle.std.proofs.Common.{◌≡◌, subst}
 use Rattle.std.specs.Cmp.{unsigned_Decides}
-use Rattle.multihash.specs.Bytes.{place_value}
-use Rattle.multihash.proofs.Values.WindowLemmas.{window_unique}
-use Rattle.multihash.proofs.Varints.WordFillingLemmas.{bytes_of}
+use Rattle.multihash.proofs.Values.WindowLemmas.{window, whole_front}
 use Rattle.multihash.proofs.compare.same_word.Goals as goal
 
 pub returns : goal.returns
@@ -10,10 +8,9 @@ returns c =
     let a = c.args.a.now in
     let b = c.args.b.now in
     let at = c.args.at in
-    let decides = unsigned_Decides c.word_at.result c.word_at-2.result in
-    let left = bytes_of a (λ i. omega (arith, c.type_inv.a i)) in
-    let right = bytes_of b (λ i. omega (arith, c.type_inv.b i)) in (
-      λ same. window_unique a b at left right c.requires.a c.requires.b
-          (sym c.word_at.ensures ∙ decides.0 same ∙ c.word_at-2.ensures),
-      λ same. decides.1 (c.word_at.ensures ∙ ap (place_value 256) same ∙ sym c.word_at-2.ensures),
+    let r = c.same_front.result in
+    let decides = unsigned_Decides r 16 in
+    let says = c.same_front.ensures in (
+      λ whole. subst (λ n. window n at a ≡ window n at b) (decides.0 whole) says.same,
+      λ same. decides.1 (whole_front at a b r (record { most = says.most; same = says.same; apart = says.apart }) same),
     )

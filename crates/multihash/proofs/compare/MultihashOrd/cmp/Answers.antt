@@ -10,5 +10,5 @@ pub returns-clause-order : goal.returns-clause-order
 returns-clause-order g c =
     let p = pair_of c.args.self.now in
     let q = pair_of c.args.other.now in
-    let computes : c.order_of_bytes.result ≡ compare_pairs p q = search rules in
+    let computes : c.order_of_digest.result ≡ compare_pairs p q = search rules in
     subst (λ (o : Ordering). Compares p q o) (sym computes) (Compares-computed p q)

@@ -1,0 +1,38 @@
+use Rattle.std.proofs.Common.{◌-◌, ◌∙◌, length, sym, refl, arith}
+use Rattle.multihash.proofs.Values.WindowLemmas.{window, longer_front}
+use Rattle.multihash.proofs.Values.ByteOrderLemmas.{order_of_window, order_of_last, same_of_order, other_order}
+use Rattle.multihash.proofs.compare.order_of_many.Goals as goal
+
+pub returns-then-is_ne : goal.returns-then-is_ne
+returns-then-is_ne c =
+    let first = c.order_of_pair-order in
+    order_of_window 32 0 c.args.a.now c.args.b.now first.result refl first.ensures (other_order first.result (sym c.is_ne.ensures ∙ c.if-is_ne.true))
+
+pub loop-at-init : goal.loop-at-init
+loop-at-init c =
+    let first = c.order_of_pair-order in
+    same_of_order (window 32 0 c.args.a.now) (window 32 0 c.args.b.now) first.result (sym c.is_ne.ensures ∙ c.if-is_ne.false) first.ensures
+
+pub returns-then-is_ne-2 : goal.returns-then-is_ne-2
+returns-then-is_ne-2 c =
+    let next = c.order_of_pair-order-in-loop-at in
+    order_of_window 32 c.loop-at.at c.args.a.now c.args.b.now next.result c.loop-at.invariant next.ensures
+    (other_order next.result (sym c.is_ne-in-loop-at.ensures ∙ c.if-is_ne-2.true))
+
+pub loop-at-preserved : goal.loop-at-preserved
+loop-at-preserved c =
+    let a = c.args.a.now in
+    let b = c.args.b.now in
+    let at = c.loop-at.at in
+    let next = c.order_of_pair-order-in-loop-at in
+    longer_front 32 at a b c.loop-at.invariant
+    (same_of_order (window 32 at a) (window 32 at b) next.result (sym c.is_ne-in-loop-at.ensures ∙ c.if-is_ne-2.false) next.ensures)
+
+pub returns : goal.returns
+returns c =
+    let a = c.args.a.now in
+    let b = c.args.b.now in
+    let k = length a - 32 in
+    let last = c.order_of_pair in
+    order_of_last 32 k c.loop-at.at a b last.result (omega (arith, c.requires.least)) (omega (arith, c.requires.least, c.requires.same))
+    (omega (arith, c.loop-at-test.false)) c.loop-at.invariant last.ensures
