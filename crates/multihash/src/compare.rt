@@ -23,7 +23,7 @@ impl<const S: usize> Multihash<S> {
         self.size == other.size && self.code == other.code && self.same_digest(other)
     }
 
-    // Whether the digests are equal. The usual lengths are compared as words, which is no call.
+    // Whether the digests are equal. From sixteen bytes on they are compared by words, which is no call.
     #[inline(always)]
     fn same_digest<const B: usize>(&self, other: &Multihash<B>) -> bool
         requires { length (pair_of self.now).digest ≡ length (pair_of other.now).digest }
@@ -38,6 +38,8 @@ impl<const S: usize> Multihash<S> {
         self.size == 0 || self.same_few(other)
     }
 
+    // The same of a few bytes. It takes the values, so that no address is computed for it on the way of
+    // the others.
     #[inline(never)]
     fn same_few<const B: usize>(&self, other: &Multihash<B>) -> bool
         ensures { result ≡ pointwise ◌==◌ (pair_of self.now).digest (pair_of other.now).digest }
@@ -45,7 +47,7 @@ impl<const S: usize> Multihash<S> {
         self.digest() == other.digest()
     }
 
-    // How the digests compare. The usual lengths are compared as words, which is no call.
+    // How the digests compare. From sixteen bytes on they are compared by words, which is no call.
     #[inline(always)]
     fn order_of_digest(&self, other: &Self) -> Ordering
         requires { length (pair_of self.now).digest ≡ length (pair_of other.now).digest }
@@ -63,6 +65,7 @@ impl<const S: usize> Multihash<S> {
         self.order_of_few(other)
     }
 
+    // The same of a few bytes, as `same_few`.
     #[inline(never)]
     fn order_of_few(&self, other: &Self) -> Ordering
         ensures { result ≡ slice_cmp nat_cmp (pair_of self.now).digest (pair_of other.now).digest }
