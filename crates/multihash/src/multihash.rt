@@ -71,21 +71,18 @@ impl<const S: usize> Multihash<S> {
             × (varint_limit ≤ code))) }
     {
         let len = input_digest.len();
-        // One look tells the refusals and a full buffer apart from the rest.
-        if len >= S || len > 255 || code > varint::MAX {
-            if len > S || len > 255 {
-                return Err(Error::from_size(len as u64));
-            }
-            if code > varint::MAX {
-                return Err(Error::from_code(code));
-            }
-            if let Some(whole) = whole::<S>(input_digest) {
-                return Ok(Self::in_buffer(code, S, *whole));
-            }
+        if len > S || len > 255 {
+            return Err(Error::from_size(len as u64));
+        }
+        if code > varint::MAX {
+            return Err(Error::from_code(code));
         }
         // Where the compiler knows the length, no array is filled on the stack and then moved.
         if let Some(whole) = whole::<32>(input_digest) {
             return Ok(Self::in_buffer(code, 32, Self::padded(whole)));
+        }
+        if let Some(whole) = whole::<S>(input_digest) {
+            return Ok(Self::in_buffer(code, S, *whole));
         }
         let mut digest = [0; S];
         copy_to_front(input_digest, &mut digest[..]);
@@ -142,8 +139,11 @@ impl<const S: usize> Multihash<S> {
         // Which buffer is the larger one is known to the compiler, and the digest's size is not: so the
         // smaller one is copied whole.
         if S <= R {
-            let digest = Multihash::<R>::padded(&self.digest);
-            return Ok(Multihash::in_buffer(self.code, self.size, digest));
+            return Ok(Multihash {
+                code: self.code,
+                digest: Multihash::<R>::padded(&self.digest),
+                size: self.size,
+            });
         }
         match self.digest.first_chunk::<R>() {
             Some(front) if self.size <= R => {
