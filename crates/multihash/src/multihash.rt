@@ -1,5 +1,5 @@
 //! The type, and its parts.
-ghost use Rattle.std.specs.Prelude.{◌≡◌, ◌<◌, ◌≤◌, ◌-◌, ◌+◌, ◌⊎◌, ◌↔◌, [], ◌++◌, length, take, drop, replicate, Some, IfOk, IfErr, IsErr};
+ghost use Rattle.std.specs.Prelude.{◌≡◌, ◌<◌, ◌≤◌, ◌-◌, ◌+◌, ◌⊎◌, ◌↔◌, [], ◌++◌, length, take, drop, replicate, Some, IfSome, IfOk, IfErr, IsErr};
 ghost use Rattle.multihash.specs.Bytes.{IsBytes};
 ghost use Rattle.multihash.specs.Varint.{varint_limit};
 ghost use Rattle.multihash.specs.Pair.{IsPair, digest_limit, truncated, FitsBuffer};
@@ -77,23 +77,16 @@ impl<const S: usize> Multihash<S> {
         if code > varint::MAX {
             return Err(Error::from_code(code));
         }
-        // The usual length is copied as a whole, which is no call.
-        if len == 32 {
-            if let Some(whole) = input_digest.first_chunk::<32>() {
-                return Ok(Multihash {
-                    code,
-                    digest: Self::padded_whole(whole),
-                    size: 32,
-                });
-            }
+        // Where the compiler knows the length, no array is filled on the stack and then moved.
+        if let Some(whole) = whole::<32>(input_digest) {
+            return Ok(Self::in_buffer(code, 32, Self::padded(whole)));
+        }
+        if let Some(whole) = whole::<S>(input_digest) {
+            return Ok(Self::in_buffer(code, S, *whole));
         }
         let mut digest = [0; S];
         copy_to_front(input_digest, &mut digest[..]);
-        Ok(Multihash {
-            code,
-            digest,
-            size: len,
-        })
+        Ok(Self::in_buffer(code, len, digest))
     }
 
     /// The code, which names the hash function: less than 2^63.
@@ -143,16 +136,21 @@ impl<const S: usize> Multihash<S> {
         ensures exactly { IsErr result ↔ (R < length (pair_of self.now).digest) }
         ensures err { IfErr result (IsInvalidSize (length (pair_of self.now).digest)) }
     {
-        if self.size > R {
-            return Err(Error::from_size(self.size as u64));
+        // Which buffer is the larger one is known to the compiler, and the digest's size is not: so the
+        // smaller one is copied whole.
+        if S <= R {
+            return Ok(Multihash {
+                code: self.code,
+                digest: Multihash::<R>::padded(&self.digest),
+                size: self.size,
+            });
         }
-        let mut resized = Multihash {
-            code: self.code(),
-            digest: [0; R],
-            size: self.size,
-        };
-        resized.fill(self.digest());
-        Ok(resized)
+        match self.digest.first_chunk::<R>() {
+            Some(front) if self.size <= R => {
+                Ok(Multihash::in_buffer(self.code, self.size, *front))
+            }
+            _ => Err(Error::from_size(self.size as u64)),
+        }
     }
 
     /// The code, an array of `S` bytes that begins with the digest and is zero after it, and the
@@ -200,13 +198,14 @@ impl<const S: usize> Multihash<S> {
         self.digest[..digest.len()].copy_from_slice(digest);
     }
 
+    // The bytes, and zeros behind them.
     #[inline(always)]
-    fn padded_whole(bytes: &[u8; 32]) -> [u8; S]
-        requires { 32 ≤ S }
-        ensures { result ≡ bytes.now ++ replicate (S - 32) 0 }
+    fn padded<const N: usize>(bytes: &[u8; N]) -> [u8; S]
+        requires { N ≤ S }
+        ensures { result ≡ bytes.now ++ replicate (S - N) 0 }
     {
         let mut array = [0; S];
-        array[..32].copy_from_slice(bytes);
+        array[..N].copy_from_slice(bytes);
         array
     }
 }
@@ -245,8 +244,19 @@ fn front(bytes: &[u8], len: usize) -> &[u8]
     &bytes[..len]
 }
 
-// Puts the digest at the front of the places. 16 to 64 bytes are copied as words, of which the last
-// may overlap the one before: this is no call.
+// The bytes, where they are `N`.
+#[inline(always)]
+fn whole<const N: usize>(bytes: &[u8]) -> Option<&[u8; N]>
+    ensures some { IfSome result (λ all. (all.now ≡ bytes.now) × (length bytes.now ≡ N)) }
+{
+    if bytes.len() == N {
+        bytes.first_chunk::<N>()
+    } else {
+        None
+    }
+}
+
+// Puts the digest at the front of the places. 16 to 64 bytes are copied as words, which is no call.
 #[inline(always)]
 fn copy_to_front(digest: &[u8], places: &mut [u8])
     requires { length digest.now ≤ length places.old }
@@ -254,28 +264,37 @@ fn copy_to_front(digest: &[u8], places: &mut [u8])
 {
     let len = digest.len();
     if len > 64 || len < 16 {
-        places[..len].copy_from_slice(digest);
-        return;
+        if len > 0 {
+            places[..len].copy_from_slice(digest);
+        }
+    } else if len > 32 {
+        copy_ends::<32>(digest, places);
+    } else {
+        copy_ends::<16>(digest, places);
     }
-    copy_word(digest, 0, places);
-    if len > 32 {
-        copy_word(digest, 16, places);
-    }
-    if len > 48 {
-        copy_word(digest, 32, places);
-    }
-    copy_word(digest, len - 16, places);
 }
 
-// Copies the sixteen bytes from there on to the same places.
+// Copies the first `N` bytes and the last `N`, which may overlap: together these are all.
 #[inline(always)]
-fn copy_word(digest: &[u8], at: usize, places: &mut [u8])
-    requires inside { at + 16 ≤ length digest.now }
+fn copy_ends<const N: usize>(digest: &[u8], places: &mut [u8])
+    requires least { N ≤ length digest.now }
+    requires most { length digest.now ≤ N + N }
+    requires room { length digest.now ≤ length places.old }
+    ensures { places.new ≡ digest.now ++ drop (length digest.now) places.old }
+{
+    copy_word::<N>(digest, 0, places);
+    copy_word::<N>(digest, digest.len() - N, places);
+}
+
+// Copies the `N` bytes from there on to the same places.
+#[inline(always)]
+fn copy_word<const N: usize>(digest: &[u8], at: usize, places: &mut [u8])
+    requires inside { at + N ≤ length digest.now }
     requires room { length digest.now ≤ length places.old }
     ensures word { places.new ≡ take at places.old
-        ++ (take 16 (drop at digest.now) ++ drop (at + 16) places.old) }
+        ++ (take N (drop at digest.now) ++ drop (at + N) places.old) }
     ensures len { length places.new ≡ length places.old }
 {
-    let end = at + 16;
+    let end = at + N;
     places[at..end].copy_from_slice(&digest[at..end]);
 }

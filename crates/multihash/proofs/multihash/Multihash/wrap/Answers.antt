@@ -1,10 +1,9 @@
-use Rattle.std.proofs.Common.{◌≡◌, ◌-◌, replicate, ℕ, ◌∙◌, sym, arith}
-use Rattle.std.proofs.lemmas.List.{take_all}
+use Rattle.std.proofs.Common.{◌-◌, replicate, ℕ, ◌∙◌, sym}
 use Rattle.multihash.proofs.Values.PairLemmas.{pair_in_front}
 use Rattle.multihash.proofs.multihash.Multihash.wrap.Goals as goal
 
 pub returns-in-Some-clause-ok : goal.returns-in-Some-clause-ok
 returns-in-Some-clause-ok g c =
-    let digest = c.args.input_digest.now in
-    let whole : c.in-Some.whole.now ≡ digest = c.in-Some.ensures.cases.same ∙ take_all 32 digest (omega (arith, c.if-len-eq32.true)) in
-    rw c.padded_whole.ensures (pair_in_front c.args.code 32 digest c.in-Some.whole.now (replicate {A = ℕ} (g.row.S - 32) 0) (sym c.if-len-eq32.true) whole)
+    let known = c.in-Some.ensures.some in
+    c.in_buffer.ensures
+    ∙ rw c.padded.ensures (pair_in_front c.args.code 32 c.args.input_digest.now c.in-Some.whole.now (replicate {A = ℕ} (g.row.S - 32) 0) (sym known.1) known.0)
