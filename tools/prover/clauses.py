@@ -81,12 +81,12 @@ def items(text):
     found, at = [], 0
     for line in text.splitlines(keepends=True):
         name = re.match(r"(?:pub )?([^\s:(]+)", line)
-        if line[:1].strip() and not line.startswith("--") and name and not line.startswith("use "):
+        if line[:1].strip() and not line.startswith(("--", "use ", "unfolding ")) and name:
             if found and found[-1][0] == name[1]:
                 found[-1] = (name[1], found[-1][1], at + len(line))
             else:
                 found.append((name[1], at, at + len(line)))
-        elif found and line.startswith(" "):
+        elif found and line.startswith((" ", "unfolding ")):
             found[-1] = (*found[-1][:2], at + len(line))
         at += len(line)
     return found
@@ -101,7 +101,18 @@ def without_answers(text, clause):
             kept, behind = kept + text[behind:start], end
         elif is_whole and clause.name:
             kept, behind = kept + text[behind:start] + taken_apart(text[start:end], name, clause), end
-    return cited_beside(kept + text[behind:], clause)
+    return needed_goals(cited_beside(kept + text[behind:], clause))
+
+
+def needed_goals(text):
+    """Returns the file of answers without the names of goals and places that it brings and no longer cites: they may be gone."""
+
+    def needed(found):
+        behind = text[found.end() :]
+        names = [it for it in found[2].split(", ") if re.search(rf"(?<![\w-]){re.escape(it)}(?![\w-])", behind)]
+        return f"{found[1]}{{{', '.join(names)}}}\n" if names else ""
+
+    return re.sub(r"(?m)^(use \S+\.Goals\.)\{(.*)\}\n", needed, text)
 
 
 def cited_beside(text, clause):
