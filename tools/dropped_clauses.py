@@ -263,6 +263,7 @@ def by_edit(crate, found, edit, tries):
     texts = {**crate.texts, **edit.texts}
     said = lane.check(edit.texts)
     evidence = [it for it in said.evidence if not BEHIND.search(it.text)]
+    say(f"# {edit.name} leaves open: {', '.join(sorted({f'{function_of(crate, texts, it)}' for it in evidence})) or said.last()}")
     for of in {function_of(crate, texts, it) for it in evidence} - {None}:
         mine = [it for it in evidence if function_of(crate, texts, it) == of]
         labels = labels_of(crate, of, mine) if len(mine) == len(evidence) else set()

@@ -12,7 +12,7 @@ sys.dont_write_bytecode = True
 HERE = os.path.dirname(os.path.realpath(__file__))
 sys.path.insert(0, HERE)
 
-from prover import small  # noqa: E402
+from prover import clauses, small  # noqa: E402
 
 EDITS = {
     # below the bound, so that only the value refuses it
@@ -28,13 +28,37 @@ WANTED = {
     "twice#value": ("-", "-", "halves_the_sum"),
     "twice#bound": ("-", "-", "-"),
     "thrice": ("-", "above::thrice_and_one", "-"),
+    "fourfold#value": ("-", "above::fourfold_and_one", "-"),
+    "fourfold#bound": ("-", "-", "-"),
     "after_next#value": ("-", "-", "gives_the_first"),
     "Held::held#held": ("-", "-", "-"),
 }
 
 
+# a lemma that cites the place of the first clause's goal, where the second's will do
+CITES = """stop : Stops
+stop g c = next (goal.at.returns-clause-one g c).After
+
+pub returns-clause-one : goal.returns-clause-one
+returns-clause-one g c = stop g c
+
+pub returns-clause-two : goal.returns-clause-two
+returns-clause-two g c = stop g c
+"""
+
+
+def cites_the_other():
+    """Returns whether a lemma that cites the goal of a clause that is gone cites that of the other, and its answer is gone."""
+    clause = clauses.Clause("small", "src/lib.rt", None, "one", 0, 0, "small::f")
+    clause.beside = ["one", "two"]
+    text = clauses.without_answers(CITES, clause)
+    return "at.returns-clause-two" in text and "returns-clause-one" not in text
+
+
 def main():
-    passed = failed = 0
+    passed, failed = (1, 0) if cites_the_other() else (0, 1)
+    if failed:
+        print("FAILED: what cites the goal of a clause that is gone")
     with tempfile.TemporaryDirectory(prefix="test-dropped-") as folder:
         small.lay_out(f"{folder}/root")
         small.put_edits(f"{folder}/root", EDITS)

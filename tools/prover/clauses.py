@@ -14,6 +14,8 @@ class Clause:
     def __init__(self, crate, path, function, name, start, end, of):
         self.crate, self.path, self.function, self.name = crate, path, function, name
         self.start, self.end, self.of, self.is_only = start, end, of, False
+        # the names of all clauses of its function
+        self.beside = [name]
         self.label = f"{of}#{name}" if name else of
 
     def is_gone(self):
@@ -44,6 +46,8 @@ def clauses_in(crate, path, text, known):
         # the goal of a contract's only clause has not the clause's name
         if sum(it[0] in ("ensures", "ensures*") for it in words) == 1 and here:
             here[0].is_only = True
+        for it in here:
+            it.beside = [one.name for one in here]
         found += here
     return found
 
@@ -77,26 +81,55 @@ def items(text):
     found, at = [], 0
     for line in text.splitlines(keepends=True):
         name = re.match(r"(?:pub )?([^\s:(]+)", line)
-        if line[:1].strip() and not line.startswith("--") and name and not line.startswith("use "):
+        if line[:1].strip() and not line.startswith(("--", "use ", "unfolding ")) and name:
             if found and found[-1][0] == name[1]:
                 found[-1] = (name[1], found[-1][1], at + len(line))
             else:
                 found.append((name[1], at, at + len(line)))
-        elif found and line.startswith(" "):
+        elif found and line.startswith((" ", "unfolding ")):
             found[-1] = (*found[-1][:2], at + len(line))
         at += len(line)
     return found
 
 
 def without_answers(text, clause):
-    """Returns the file of answers without those that show the clause."""
-    ends = re.compile(r"^returns\b.*-clause-" + re.escape(clause.name) + r"$") if not clause.is_only else re.compile(r"^returns(?!.*-clause-)")
-    gone = [(start, end) for name, start, end in items(text) if ends.match(name)]
+    """Returns the file of answers without those that show the clause: an answer to the whole of several clauses goes on showing the others."""
     kept, behind = "", 0
-    for start, end in gone:
-        kept += text[behind:start]
-        behind = end
-    return kept + text[behind:]
+    for name, start, end in items(text):
+        is_whole = name.startswith("returns") and "-clause-" not in name
+        if is_whole if clause.is_only else re.match(r"returns\b.*-clause-" + re.escape(clause.name) + "$", name):
+            kept, behind = kept + text[behind:start], end
+        elif is_whole and clause.name:
+            kept, behind = kept + text[behind:start] + taken_apart(text[start:end], name, clause), end
+    return needed_goals(cited_beside(kept + text[behind:], clause))
+
+
+def needed_goals(text):
+    """Returns the file of answers without the names of goals and places that it brings and no longer cites: they may be gone."""
+
+    def needed(found):
+        behind = text[found.end() :]
+        names = [it for it in found[2].split(", ") if re.search(rf"(?<![\w-]){re.escape(it)}(?![\w-])", behind)]
+        return f"{found[1]}{{{', '.join(names)}}}\n" if names else ""
+
+    return re.sub(r"(?m)^(use \S+\.Goals\.)\{(.*)\}\n", needed, text)
+
+
+def cited_beside(text, clause):
+    """Returns the file of answers in which what cites the place of a goal of the clause cites that of another clause at the same return."""
+
+    def other(found):
+        beside = [f"{found[1]}-clause-{it}" for it in clause.beside if it != clause.name]
+        return next((f"goal.at.{it}" for it in beside if f"pub {it} :" in text), found[0])
+
+    return re.sub(rf"goal\.at\.(returns\S*)-clause-{re.escape(clause.name)}(?![\w-])", other, text) if clause.name else text
+
+
+def taken_apart(answer, name, clause):
+    """Returns an answer to a whole contract in which nothing is shown of the clause."""
+    head, equals, shown = answer.partition(re.search(rf"(?m)^{re.escape(name)}\b[^=\n:]*=", answer)[0])
+    fields = "; ".join(f"{it} = {'tt' if it == clause.name else f'whole.{it}'}" for it in clause.beside)
+    return f"{head}{equals} let whole = ({shown.rstrip()}\n    ) in record {{ {fields} }}\n"
 
 
 def put(texts, changes):

@@ -29,6 +29,14 @@ pub fn thrice(n: u8) -> u16
     3 * (n as u16)
 }
 
+/// Four times the number.
+pub fn fourfold(n: u8) -> u16
+    ensures value { result ≡ n + n + n + n }
+    ensures bound { result ≤ 1020 }
+{
+    4 * (n as u16)
+}
+
 /// The second number behind.
 pub fn after_next(n: u8) -> u16
     ensures value { result ≡ n + 2 }
@@ -58,7 +66,21 @@ use Rattle.small.proofs.{function}.Goals as goal
 pub {goal} : goal.{goal}
 {goal} c = omega ({facts})
 """
+# an answer to the whole of a contract
+WHOLE = """use Rattle.std.proofs.Common.{◌≡◌, ◌+◌, ◌*◌, ◌<◌, ◌≤◌, ℕ, arith}
+use Rattle.small.proofs.fourfold.Goals as goal
+
+abbrev Meets : ℕ → ℕ → Type 0
+Meets n result = record { value : result ≡ n + n + n + n; bound : result ≤ 1020 }
+
+shown : (n result : ℕ) → n < 256 → result ≡ 4 * n → Meets n result
+shown n result small is = record { value = omega (arith, is); bound = omega (arith, is, small) }
+
+pub returns : goal.returns
+returns c = shown c.args.n _ (omega arith) (omega arith)
+"""
 ANSWERS = {
+    "fourfold": WHOLE,
     "next": ANSWER.format(function="next", goal="returns-clause-value", facts="arith"),
     "after_next": ANSWER.format(function="after_next", goal="returns", facts="arith, c.next.ensures.value"),
 }
@@ -72,6 +94,13 @@ pub fn thrice_and_one(n: u8) -> u16
     ensures { result ≡ n + n + n + 1 }
 {
     small::thrice(n) + 1
+}
+
+/// Four times the number, and one.
+pub fn fourfold_and_one(n: u8) -> u16
+    ensures { result ≡ n + n + n + n + 1 }
+{
+    small::fourfold(n) + 1
 }
 """
 

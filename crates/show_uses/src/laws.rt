@@ -15,10 +15,13 @@ const SHA2_256: u64 = 0x12;
 /// Want of memory.
 pub(crate) fn show(alloc: Global, lines: &mut String) -> Result<()> {
     show_any_reader(alloc, lines)?;
+    show_found(lines)?;
+    show_encoding_len(lines)?;
     show_settled(lines)?;
     show_written_alike(alloc, lines)?;
     show_scale(alloc, lines)?;
     show_listed(alloc, lines)?;
+    show_lists(alloc, lines)?;
     show_own(lines)?;
     Ok(())
 }
@@ -39,6 +42,32 @@ fn show_any_reader(alloc: Global, lines: &mut String) -> Result<()> {
         both.len(),
         none.len(),
         decoded.digest()
+    )?;
+    Ok(())
+}
+
+// A pair and a 9 behind it; a length of 5, which is too large.
+fn show_found(lines: &mut String) -> Result<()> {
+    let found = conclusions::found::<4>(&[0x12, 2, 7, 8, 9])?;
+    let refused = conclusions::found::<4>(&[0x12, 5, 7]).err();
+    writeln!(
+        lines,
+        "found: {} {:?}, {:?}",
+        found.code(),
+        found.digest(),
+        refused.and_then(|e| e.invalid_size())
+    )?;
+    Ok(())
+}
+
+// Both varints have one byte; that of the code has two; that of the size has two.
+fn show_encoding_len(lines: &mut String) -> Result<()> {
+    writeln!(
+        lines,
+        "encodings: {}, {}, {} bytes",
+        conclusions::encoding_len(&Multihash::<4>::wrap(SHA2_256, &[7, 8])?),
+        conclusions::encoding_len(&Multihash::<4>::wrap(128, &[7, 8])?),
+        conclusions::encoding_len(&Multihash::<200>::wrap(SHA2_256, &[7; 128])?)
     )?;
     Ok(())
 }
@@ -104,6 +133,20 @@ fn write_listed(value: &Value, other: &Value, lines: &mut String) -> Result<()> 
         conclusions::of_listed_bytes::<2>(&[0x12, 2, 7, 8])?.digest(),
         conclusions::listed_alike::<2, 4>(value, value)?,
         conclusions::listed_alike::<2, 4>(value, other)?
+    )?;
+    Ok(())
+}
+
+fn show_lists(alloc: Global, lines: &mut String) -> Result<()> {
+    let m = Multihash::<4>::wrap(SHA2_256, &[7, 8])?;
+    let other = Multihash::<4>::wrap(SHA2_256, &[7])?;
+    let value = m.to_value(alloc)?;
+    writeln!(
+        lines,
+        "lists: {}, {}, {}",
+        conclusions::lists(&value, &m),
+        conclusions::lists(&value, &other),
+        conclusions::lists(&Value::Null, &m)
     )?;
     Ok(())
 }

@@ -4,5 +4,6 @@ pub mod ContentIdLemmas
 pub mod ContentIdTakingVectors
 pub mod ContentIdVectors
 pub mod DumpLemmas
+mod FollowingLemmas
 pub mod MerkleLemmas
 pub mod StreamLemmas

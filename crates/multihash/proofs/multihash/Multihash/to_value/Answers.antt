@@ -1,4 +1,4 @@
-use Rattle.std.proofs.Common.{◌≡◌, ◌<◌, ◌+◌, List, map, take, sym, ap, ◌∙◌, arith}
+use Rattle.std.proofs.Common.{◌≡◌, ◌<◌, ◌+◌, List, map, take, sym, ap, ◌∙◌, arith, rules}
 use Rattle.std.proofs.lemmas.Grind.{common_steps}
 use Rattle.std.proofs.lemmas.List.{take_all}
 use Rattle.std.proofs.lemmas.List.Elements.{All-take, All-same}
@@ -28,3 +28,9 @@ returns-clause-array g c =
         are_bytes = All-same (λ b. b < 256) _ _ (sym whole) c.loop-byte.invariant.bytes;
       },
     )
+
+pub returns-clause-ok : goal.returns-clause-ok
+unfolding returns-clause-array
+returns-clause-ok g c =
+    let (all, listed) = returns-clause-array g c in
+    record { encoding = all; encodes = search rules; lists = listed.array }
