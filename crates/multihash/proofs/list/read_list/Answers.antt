@@ -33,6 +33,7 @@ loop-preserved g c =
     let pairs = TakesPairs-more g.row.S c.loop.list.items m met.ok.0 _ _ _ before.pairs met.ok.1 met.fits met.ok.2 in
     search rules
 
+-- Answered, since a body that breaks a goal with an answer is refused sooner than one with none.
 pub returns-in_err-read-clause-faults : goal.returns-in_err-read-clause-faults
 returns-in_err-read-clause-faults g c = grind (arith, common_steps)
 

@@ -10,6 +10,7 @@ returns-in-Some-clause-ok g c =
     let whole : c.in-Some.whole.now ≡ digest = c.in-Some.ensures.cases.same ∙ take_all 32 digest (omega (arith, c.if-len-eq32.true)) in
     rw c.padded_whole.ensures (pair_in_front c.args.code 32 digest c.in-Some.whole.now (replicate {A = ℕ} (g.row.S - 32) 0) (sym c.if-len-eq32.true) whole)
 
+-- Answered, since a body that breaks a goal with an answer is refused sooner than one with none.
 pub invariant_of-result : goal.invariant_of-result
 invariant_of-result g c = search rules
 

@@ -38,6 +38,7 @@ returns-clause-ok g c =
       g.met.W.Write.appends_joined _ _ _ _ _ a.3 (g.met.W.Write.appends_joined _ _ _ _ _ b.3 c.in_ok-write_all.ensures.laws.ok),
     )
 
+-- Answered, since a body that breaks a goal with an answer is refused sooner than one with none.
 pub returns-clause-err : goal.returns-clause-err
 returns-clause-err g c = search rules
 
