@@ -1,14 +1,11 @@
 -- The JSON list of a pair tells the pair.
-use Rattle.std.proofs.Common.{◌≡◌, ℕ, ◌+◌, ◌<◌, List, [], ◌∷◌, ◌++◌, length, map, refl, sym, ap, ◌∙◌, subst, arith}
-use Rattle.std.proofs.lemmas.List.Elements.{All-append, All-push, All-same, All-map, All-head}
+use Rattle.std.proofs.Common.{◌≡◌, ℕ, ◌<◌, List, [], ◌∷◌, ◌++◌, map, refl, sym, ap, ◌∙◌, subst}
 use Rattle.serde_json.specs.Data.{Data, number, unsigned, Items}
 use Rattle.serde_json.specs.View.{items_of}
 use Rattle.multihash.specs.Bytes.{IsBytes}
 use Rattle.multihash.specs.Pair.{Pair}
-use Rattle.multihash.specs.Varint.{IsVarint, marked}
 use Rattle.multihash.specs.Encoding.{IsEncoding}
 use Rattle.multihash.specs.Json.{number_array, IsByteArray, IsJsonList}
-use Rattle.multihash.proofs.Varints.MarkedLemmas.{All-append_left, All-append_right}
 use Rattle.multihash.proofs.Writings.EncodingLemmas.{encoding_unique, encoding_bytes}
 
 abbrev IsByte : ℕ → Type 0

@@ -1,16 +1,15 @@
 -- One encoding a pair, and one verdict an input.
-use Rattle.std.proofs.Common.{◌≡◌, ℕ, ◌<◌, ◌≤◌, cond, ltb, List, [], ◌∷◌, ◌++◌, length, take, drop, refl, sym, ap, ◌∙◌, subst, arith, inl, inr, length-append, append_assoc, append-nil}
+use Rattle.std.proofs.Common.{◌≡◌, ℕ, ◌<◌, ◌≤◌, cond, ltb, List, [], ◌∷◌, ◌++◌, length, take, drop, refl, sym, ap, ◌∙◌, subst, arith, inl, inr, length-append, append-nil}
 use Rattle.std.proofs.lemmas.Bool.{cases_lt, lt-ltb, le-ltb}
-use Rattle.std.proofs.lemmas.List.{take_at, drop_at, take-append-drop, length-take-le, append_cancel_left, append_cancel_right}
+use Rattle.std.proofs.lemmas.List.{take_at, drop_at, take-append-drop, length-take-le}
 use Rattle.std.proofs.lemmas.List.Elements.{All-same}
 use Rattle.multihash.specs.Bytes.{IsBytes}
 use Rattle.multihash.specs.Pair.{Pair, FitsBuffer, digest_limit}
-use Rattle.multihash.specs.Varint.{varint_limit, IsVarint}
+use Rattle.multihash.specs.Varint.{IsVarint}
 use Rattle.multihash.specs.Encoding.{IsEncoding}
 use Rattle.multihash.specs.Verdict.{Verdict, accepted, invalid_size, invalid_code, faulty, unexpected_eof, BeginsWith, HasSize, HasCode, HasVerdict, HasWholeVerdict}
 use Rattle.multihash.proofs.Varints.MarkedLemmas.{All-append_right}
-use Rattle.multihash.proofs.Varints.VarintWriteLemmas.{varint_exists}
-use Rattle.multihash.proofs.Varints.VarintLemmas.{varint_unique, Front, number, fault, HasFront, front_is, front_unique, front_of, front_of_has}
+use Rattle.multihash.proofs.Varints.VarintLemmas.{Front, number, fault, HasFront, front_is, front_of, front_of_has}
 use Rattle.multihash.proofs.Writings.EncodingLemmas.{encoding_cut}
 
 -- ---- two varints, one after the other
