@@ -25,12 +25,14 @@ tests() {
 		sizes::refused_to_bytes_at_each_size 4
 		sizes::refused_to_bytes_at_each_larger_size 3
 		sizes::refused_to_bytes_at_each_large_size 3
+		sizes::refused_to_bytes_at_each_usual_size 4
 		sizes::refused_to_value_at_0_and_1 4
 		sizes::refused_to_value_at_31_and_32 4
 		sizes::refused_to_value_at_33_and_64 4
 		sizes::refused_to_value_at_127_and_128 4
 		sizes::refused_to_value_at_200_and_255 4
 		sizes::refused_read_of_lists 4
+		sizes::refused_read_of_short_lists 4
 		sizes::refused_read_of_long_lists 4
 		sizes::refused_room_alone 1
 		memory::needs_no_memory 0

@@ -41,6 +41,15 @@ fn refused_to_bytes_at_each_large_size(rt: HostRuntime) -> Result<(), Fail> {
     expect_bytes_at::<255>(&rt, rt.alloc())
 }
 
+// Those of usual digests.
+#[test]
+fn refused_to_bytes_at_each_usual_size(rt: HostRuntime) -> Result<(), Fail> {
+    expect_bytes_at::<16>(&rt, rt.alloc())?;
+    expect_bytes_at::<20>(&rt, rt.alloc())?;
+    expect_bytes_at::<28>(&rt, rt.alloc())?;
+    expect_bytes_at::<48>(&rt, rt.alloc())
+}
+
 // Two requests.
 fn expect_value_at<const S: usize>(rt: &impl Abort, alloc: Global) -> Result<(), Fail>
     requires { S < 2 ^ 16 }
@@ -94,6 +103,14 @@ fn expect_list_of<const S: usize>(rt: &impl Abort, alloc: Global, count: usize) 
 #[test]
 fn refused_read_of_lists(rt: HostRuntime) -> Result<(), Fail> {
     for count in [1, 2, 32, 33] {
+        expect_list_of::<32>(&rt, rt.alloc(), count)?;
+    }
+    Ok(())
+}
+
+#[test]
+fn refused_read_of_short_lists(rt: HostRuntime) -> Result<(), Fail> {
+    for count in [3, 4, 5, 6] {
         expect_list_of::<32>(&rt, rt.alloc(), count)?;
     }
     Ok(())

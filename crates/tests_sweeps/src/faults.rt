@@ -6,6 +6,7 @@ use crate::given::{Code, Form, case, different, twice};
 use fakes::readers::{Counts, Cuts, FailAt};
 use fakes::refusal::{Refusal, is_refused};
 use fakes::writers::{CountsWrites, Drip, FailWrite};
+use multihash::list::{read_list, write_list};
 use multihash::{Error, Multihash};
 use std::alloc::Global;
 use std::process::Abort;
@@ -183,6 +184,34 @@ fn each_byte_fails(rt: HostRuntime) {
     for len in [0, 20, 32, 64, 255] {
         let (code, digest) = case(&bytes, len);
         expect_faults::<255>(&rt, rt.alloc(), code, digest, true);
+    }
+}
+
+// A list of forty pairs of no bytes, each read and written by itself.
+fn expect_list_fault(rt: &impl Abort, alloc: Global, at: usize, why: Refusal) {
+    let input = [0u8; 80];
+    let mut reader = failing(&input, at, why);
+    let answer = read_list::<0, _>(alloc, &mut reader, 40);
+    expect_refused(rt, Form::List, &answer, why, at);
+    expect_bytes(rt, reader.cuts.left, input.get(at..).unwrap_or(&[]));
+}
+
+fn expect_written_list_fault(rt: &impl Abort, alloc: Global, at: usize, why: Refusal) {
+    let items = [Multihash::<0>::default(); 40];
+    let mut writer = failing_writer(rt, alloc, at, why);
+    let answer = write_list(items.as_slice(), &mut writer);
+    expect_refused(rt, Form::List, &answer, why, at);
+    expect_bytes(rt, &writer.drip.held, [0u8; 80].get(..at).unwrap_or(&[]));
+}
+
+#[test]
+fn each_item_of_a_list_fails(rt: HostRuntime) {
+    for at in 0..80 {
+        expect_list_fault(&rt, rt.alloc(), at, Refusal::LINK_DOWN);
+        expect_list_fault(&rt, rt.alloc(), at, Refusal::OutOfMemory);
+        expect_written_list_fault(&rt, rt.alloc(), at, Refusal::DISK_GONE);
+        expect_written_list_fault(&rt, rt.alloc(), at, Refusal::OutOfMemory);
+        expect_written_list_fault(&rt, rt.alloc(), at, Refusal::WriteZero);
     }
 }
 

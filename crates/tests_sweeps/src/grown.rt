@@ -3,8 +3,10 @@ ghost use Rattle.std.specs.Prelude.{◌<◌, ◌^◌};
 
 use crate::expect::{check, check_eq, expect_bytes};
 use crate::given::{Code, Form, case, different};
+use fakes::refusal::{Refusal, is_refused};
 use multihash::Multihash;
 use multihash::list::{read_list, write_list};
+use multihash::no_std_io::Write;
 use serde_json::Value;
 use std::alloc::Global;
 use std::process::Abort;
@@ -101,6 +103,22 @@ fn each_count_is_read_and_written(rt: HostRuntime) {
     }
 }
 
+// The input ends before the first pair, for which the places are there already.
+fn expect_places<const S: usize>(rt: &impl Abort, alloc: Global, count: usize)
+    requires { S < 2 ^ 16 }
+{
+    let answer = read_list::<S, _>(alloc, &mut [].as_slice(), count);
+    check!(rt; is_refused(&answer, Refusal::Insufficient), "{count}");
+}
+
+#[test]
+fn each_count_has_places(rt: HostRuntime) {
+    for count in 1..20000 {
+        expect_places::<0>(&rt, rt.alloc(), count);
+        expect_places::<32>(&rt, rt.alloc(), count);
+    }
+}
+
 // Appends 500 pairs in each of three ways, each to one vector, and answers how often their places changed.
 fn count_growths(rt: &impl Abort, alloc: Global, m: &Multihash<255>) -> usize {
     let mut held = Vec::new(alloc);
@@ -128,5 +146,31 @@ fn a_vector_grows_seldom(rt: HostRuntime) {
         let m = Multihash::wrap(code.0, digest).expect(&rt, "it fits");
         let growths = count_growths(&rt, rt.alloc(), &m);
         check!(rt; growths < 60, "{len} bytes: {growths}");
+    }
+}
+
+// Appends the bytes 300 times by each call, and answers how often the vectors' places changed.
+fn count_own_growths(rt: &impl Abort, alloc: Global, bytes: &[u8]) -> usize {
+    let mut held = Vec::new(alloc);
+    let mut parts = Vec::new(alloc);
+    let mut growths = 0usize;
+    for _ in 0..300 {
+        let before = (held.capacity(), parts.capacity());
+        check!(rt; held.write_all(bytes).is_ok());
+        check!(rt; parts.write(bytes).is_ok());
+        if (held.capacity(), parts.capacity()) != before {
+            growths = growths.saturating_add(1);
+        }
+    }
+    growths
+}
+
+// Of a length by itself, where no other piece comes between, which would double the places in its stead.
+#[test]
+fn a_vector_grows_seldom_by_each_length(rt: HostRuntime) {
+    let bytes = different();
+    for len in 1..256 {
+        let growths = count_own_growths(&rt, rt.alloc(), bytes.get(..len).unwrap_or(&[]));
+        check!(rt; growths < 40, "{len} bytes: {growths}");
     }
 }

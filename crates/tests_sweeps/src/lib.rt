@@ -7,6 +7,8 @@ mod alike;
 #[cfg(test)]
 mod asked;
 #[cfg(test)]
+mod codes;
+#[cfg(test)]
 mod expect;
 #[cfg(test)]
 mod faults;

@@ -57,7 +57,7 @@ fn expect_numbers_about(rt: &impl Abort, alloc: Global, number: u64) {
 
 #[test]
 fn numbers_about_powers_are_told(rt: HostRuntime) {
-    for number in 0..1100 {
+    for number in 0..20000 {
         expect_numbers(&rt, rt.alloc(), number);
     }
     let mut power = 1u64;
