@@ -9,6 +9,7 @@ import re
 import subprocess
 import sys
 import tempfile
+from contextlib import contextmanager
 
 sys.dont_write_bytecode = True
 HERE = os.path.dirname(os.path.realpath(__file__))
@@ -128,26 +129,43 @@ def check_kept(root, proved):
     return found + ([] if "NOT REFUSED" in told(second, "doubles") else ["what is not refused was kept"])
 
 
+@contextmanager
+def another(root, path):
+    """Has another text in a file for a while."""
+    old = edits.read(f"{root}/{path}")
+    small.write(f"{root}/{path}", old.replace("small:\n", "small: hex\n") if path == "crates.txt" else f"{old}\n")
+    yield
+    small.write(f"{root}/{path}", old)
+
+
 def check_sums(root):
     """What is kept of an edit serves no other text of the edit, the crate, what is below it, or its line of crates.txt."""
     small.lay_out(root)
     small.write(f"{root}/crates/above/wrong/adds_two.edit", "file: src/lib.rt\nold: small::thrice(n) + 1\nnew: small::thrice(n) + 2\n")
     os.environ["XDG_CACHE_HOME"] = f"{root}/cache"
-    [edit], _ = edits.edits_in("above", f"{root}/crates/above", "wrong")
 
     def store(anew=False):
         return kept.Kept(root, lanes.crates_of(root), anew)
 
-    store().keep(edit, "its reason")
-    found = [] if store().told(edit) == "its reason" else ["what was kept is not found"]
-    found += ["--anew takes what is kept"] if store(True).told(edit) else []
-    for path in ("crates/above/wrong/adds_two.edit", "crates/above/src/lib.rt", "crates/small/proofs/next/Answers.antt", "crates.txt"):
-        old = edits.read(f"{root}/{path}")
-        small.write(f"{root}/{path}", old.replace("small:\n", "small: hex\n") if path == "crates.txt" else f"{old}\n")
-        found += [f"what was kept serves another {path}"] if store().told(edit) else []
-        small.write(f"{root}/{path}", old)
+    def edit():
+        return edits.edits_in("above", f"{root}/crates/above", "wrong")[0][0]
+
+    read = ("crates/above/src/lib.rt", "crates/small/proofs/next/Answers.antt", "crates.txt")
+    found = []
+    for path in read:
+        begun = store()
+        with another(root, path):
+            begun.keep(edit(), "its reason")
+            found += [f"what was found before {path} was edited is kept for behind it"] if store().told(edit()) else []
+        found += [f"what was found while {path} was edited is kept"] if store().told(edit()) else []
+    store().keep(edit(), "its reason")
+    found += [] if store().told(edit()) == "its reason" else ["what was kept is not found"]
+    found += ["--anew takes what is kept"] if store(True).told(edit()) else []
+    for path in ("crates/above/wrong/adds_two.edit", *read):
+        with another(root, path):
+            found += [f"what was kept serves another {path}"] if store().told(edit()) else []
     os.chmod(f"{root}/cache/multihash-wrong-bodies", 0o777)
-    found += ["a folder that others may write into is read"] if store().told(edit) else []
+    found += ["a folder that others may write into is read"] if store().told(edit()) else []
     return found
 
 

@@ -24,8 +24,8 @@ class Edit:
         self.crate, self.file = crate, file
         self.name = os.path.basename(file)[: -len(".edit")]
         self.label = f"{crate}/{self.name}"
-        self.old, self.texts = {}, {}
-        for path, old, new in pairs_of(read(file)):
+        self.text, self.old, self.texts = read(file), {}, {}
+        for path, old, new in pairs_of(self.text):
             if path not in self.texts:
                 self.old[path] = self.texts[path] = read_of(folder, path)
             found = self.texts[path].count(old)

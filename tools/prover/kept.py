@@ -52,9 +52,12 @@ def sum_of_kit():
 
 
 class Kept:
+    """Made before the crates are copied, so that it knows what they were then: files may be edited while a run goes on."""
+
     def __init__(self, root, crates, anew):
         self.root, self.crates, self.anew = root, crates, anew
-        self.folder, self.kit, self.sums = place(), sum_of_kit(), {}
+        self.folder, self.kit = place(), sum_of_kit()
+        self.sums = {it: self.sum_of(it) for it in crates} if self.folder and self.kit else {}
 
     def sum_of(self, crate):
         """Returns a sum of what a check of the crate reads: its files and those of the libraries below it."""
@@ -67,15 +70,12 @@ class Kept:
         return made.digest()
 
     def path(self, edit):
-        if edit.crate not in self.sums:
-            self.sums[edit.crate] = self.sum_of(edit.crate)
-        with open(edit.file, "rb") as it:
-            name = hashlib.sha256(self.sums[edit.crate] + repr((edit.name, it.read())).encode())
+        name = hashlib.sha256(self.sums[edit.crate] + repr((edit.name, edit.text)).encode())
         return f"{self.folder}/{name.hexdigest()}"
 
     def told(self, edit):
         """Returns why an earlier run found the edit refused, or none."""
-        if self.anew or not self.folder or not self.kit:
+        if self.anew or edit.crate not in self.sums:
             return None
         try:
             path = self.path(edit)
@@ -87,7 +87,8 @@ class Kept:
             return None
 
     def keep(self, edit, why):
-        if not self.folder or not self.kit:
+        """Keeps that an edit is refused, where the crate still is what it was."""
+        if edit.crate not in self.sums or self.sum_of(edit.crate) != self.sums[edit.crate]:
             return
         path = self.path(edit)
         with open(f"{path}.{os.getpid()}", "w", encoding="utf-8") as it:

@@ -65,7 +65,7 @@ impl<const S: usize> Multihash<S> {
         self.order_of_few(other)
     }
 
-    // The same of a few bytes, as `same_few`.
+    // How a few bytes compare. As `same_few` it takes the values and stays a call.
     #[inline(never)]
     fn order_of_few(&self, other: &Self) -> Ordering
         ensures { result ≡ slice_cmp nat_cmp (pair_of self.now).digest (pair_of other.now).digest }

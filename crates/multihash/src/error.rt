@@ -139,8 +139,8 @@ impl Error {
         matches!(self.kind, Kind::NotBytes)
     }
 
-    /// Whether more input could have changed the answer: the input ended inside or before a varint, or before a
-    /// digest or a fixed part was whole. It goes across the seven kinds: true of some errors of two of them.
+    /// Whether more input could have changed the answer: the input ended inside or before a varint, or before
+    /// a digest or a fixed part was whole. It goes across the seven kinds: true of some errors of two of them.
     pub fn is_early_end(&self) -> bool
         ensures ends { IsTrue result ↔ (IsFaulty insufficient self.now ⊎ IsEof self.now) }
         ensures early { (v : Verdict) → IsRefusal self.now v → (IsTrue result ↔ IsEarlyEnd v) }

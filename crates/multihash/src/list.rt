@@ -38,7 +38,8 @@ pub fn write_list<const S: usize, W: Write>(items: &[Multihash<S>], w: &mut W) -
 }
 
 /// Reads `count` multihashes, one after another; what follows them in `r` stays unread. Their places
-/// are asked for before anything is read, `count` of them and no more. A `count` of 0 takes nothing, and needs no memory.
+/// are asked for before anything is read, `count` of them and no more. A `count` of 0 takes nothing, and
+/// needs no memory.
 ///
 /// # Errors
 ///

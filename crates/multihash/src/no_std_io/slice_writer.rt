@@ -4,8 +4,9 @@ ghost use Rattle.std.specs.Prelude.{◌≡◌, ◌+◌, ◌-◌, ◌≤◌, ◌�
 use super::impls::copy_front;
 use super::{Error, Write};
 
-/// A writer that fills the places of a slice from the front on, and keeps them. So contracts tell which bytes
-/// stand in them: `&mut [u8]` as a writer gives up the places that it fills, and no contract can speak of those.
+/// A writer that fills the places of a slice from the front on, and keeps them. So contracts tell which
+/// bytes stand in them: `&mut [u8]` as a writer gives up the places that it fills, and no contract can speak
+/// of those.
 #[derive(Drop)]
 pub struct SliceWriter<'a> {
     /// The bytes that were written, and behind them the places as they were.
@@ -26,8 +27,8 @@ impl<'a> SliceWriter<'a> {
     }
 }
 
-/// The bytes go behind those that were written. Where not all fit, `write_all` fills what is left, and answers
-/// that no place is left.
+/// The bytes go behind those that were written. Where not all fit, `write_all` fills what is left, and
+/// answers that no place is left.
 impl Write for SliceWriter<'_> {
     ghost use Rattle.multihash.specs.Writing.{WriteLaws, WriteAllLaws};
     ghost use Rattle.multihash.specs.Filling.{Fills, IsFilled, Fills-none, Fills-joined};
