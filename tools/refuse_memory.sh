@@ -14,7 +14,7 @@ tests() {
     tests_memory) cat <<-'LIST'
 		memory::refused_to_bytes 1
 		memory::refused_long_to_bytes 1
-		memory::refused_to_value some
+		memory::refused_to_value 1
 		memory::refused_read_list 1
 		memory::refused_write some
 		memory::refused_scale_encode some
@@ -26,11 +26,11 @@ tests() {
 		sizes::refused_to_bytes_at_each_larger_size 3
 		sizes::refused_to_bytes_at_each_large_size 3
 		sizes::refused_to_bytes_at_each_usual_size 4
-		sizes::refused_to_value_at_0_and_1 4
-		sizes::refused_to_value_at_31_and_32 4
-		sizes::refused_to_value_at_33_and_64 4
-		sizes::refused_to_value_at_127_and_128 4
-		sizes::refused_to_value_at_200_and_255 4
+		sizes::refused_to_value_at_0_and_1 2
+		sizes::refused_to_value_at_31_and_32 2
+		sizes::refused_to_value_at_33_and_64 2
+		sizes::refused_to_value_at_127_and_128 2
+		sizes::refused_to_value_at_200_and_255 2
 		sizes::refused_read_of_lists 4
 		sizes::refused_read_of_short_lists 4
 		sizes::refused_read_of_long_lists 4

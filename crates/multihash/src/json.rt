@@ -1,6 +1,7 @@
 //! The JSON form: the encoding's bytes as an array of whole numbers.
-ghost use Rattle.std.specs.Prelude.{◌≡◌, ◌<◌, ℕ, List, length, Some, IfOk, IfErr, IsErrAnd, MatchOption, true};
+ghost use Rattle.std.specs.Prelude.{◌≡◌, ◌<◌, ◌≤◌, ◌+◌, ℕ, List, ◌++◌, length, map, vec_len, vec_capacity, Some, IfOk, IfErr, IsErrAnd, MatchOption, true};
 ghost use Rattle.std.specs.List.{list_all};
+ghost use Rattle.serde_json.specs.Data.{number, unsigned};
 ghost use Rattle.serde_json.specs.View.{view};
 ghost use Rattle.multihash.specs.Encoding.{IsEncoding};
 ghost use Rattle.multihash.specs.Json.{IsByteArray, IsJsonList};
@@ -10,12 +11,13 @@ ghost use Rattle.multihash.specs.Refusal.{IsNotBytes, IsMemory};
 ghost use Rattle.multihash.specs.Answer.{pair_of, Answers};
 
 use crate::no_std_io::{self, Read};
-use crate::{Error, Multihash};
+use crate::{Error, Multihash, varint};
 use serde_json::Value;
 use std::alloc::Global;
 
 impl<const S: usize> Multihash<S> {
-    /// Makes the array of the encoding's bytes as whole numbers, in order: at most 266 members.
+    /// Makes the array of the encoding's bytes as whole numbers, in order: at most 266 members. Its room is asked
+    /// for once, and nothing more is asked for then.
     ///
     /// # Errors
     ///
@@ -25,11 +27,13 @@ impl<const S: usize> Multihash<S> {
         ensures array { IfOk result (λ value. (bytes : List ℕ) × IsByteArray (view value) bytes) }
         ensures memory { IfErr result IsMemory }
     {
-        let bytes = self.to_bytes(alloc)?;
-        let mut members = Vec::with_capacity(alloc, bytes.len())?;
-        for byte in &bytes {
-            members.push_reserved(Value::from(*byte));
-        }
+        let digest = self.digest();
+        let code = varint::encode(self.code());
+        let size = varint::encode(u64::from(self.size()));
+        let mut members = Vec::with_capacity(alloc, self.encoded_len())?;
+        push_members(&mut members, code.as_bytes());
+        push_members(&mut members, size.as_bytes());
+        push_members(&mut members, digest);
         Ok(Value::Array(members))
     }
 
@@ -57,6 +61,19 @@ impl<const S: usize> Multihash<S> {
             return Err(Error::from_size(left.left.len() as u64));
         }
         Ok(multihash)
+    }
+}
+
+// Appends bytes as members, in room that is there.
+fn push_members(members: &mut Vec<Value>, bytes: &[u8])
+    requires room { vec_len members.old + length bytes.now ≤ vec_capacity members.old }
+    ensures members { map view members.new.items
+        ≡ map view members.old.items ++ map (λ n. number (unsigned n)) bytes.now }
+    ensures len { vec_len members.new ≡ vec_len members.old + length bytes.now }
+    ensures capacity { vec_capacity members.new ≡ vec_capacity members.old }
+{
+    for byte in bytes {
+        members.push_reserved(Value::from(*byte));
     }
 }
 

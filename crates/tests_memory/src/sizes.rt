@@ -50,7 +50,7 @@ fn refused_to_bytes_at_each_usual_size(rt: HostRuntime) -> Result<(), Fail> {
     expect_bytes_at::<48>(&rt, rt.alloc())
 }
 
-// Two requests.
+// One request.
 fn expect_value_at<const S: usize>(rt: &impl Abort, alloc: Global) -> Result<(), Fail>
     requires { S < 2 ^ 16 }
 {
