@@ -16,8 +16,8 @@ use serde_json::Value;
 use std::alloc::Global;
 
 impl<const S: usize> Multihash<S> {
-    /// Makes the array of the encoding's bytes as whole numbers, in order: at most 266 members. Its room is asked
-    /// for once, and nothing more is asked for then.
+    /// Makes the array of the encoding's bytes as whole numbers, in order: at most 266 members. Its room
+    /// is asked for once, and nothing more is asked for then.
     ///
     /// # Errors
     ///
