@@ -11,6 +11,7 @@ ghost use Rattle.multihash.specs.Writing.{AppendsPart, CountsWriter};
 ghost use Rattle.multihash.specs.Taking.{IsReadRefusal, TakesAtRefusal, TakesShortestSettling, TakesNothingSettling};
 ghost use Rattle.multihash.specs.Answer.{pair_of, Answers};
 
+use crate::multihash::whole;
 use crate::no_std_io::{self, Read, Write};
 use crate::varint::{self, word};
 use crate::{Error, Multihash};
@@ -96,6 +97,13 @@ impl<const S: usize> Multihash<S> {
         }
         if digest.len() > len {
             return Err(Error::from_size((digest.len() - len) as u64));
+        }
+        // Where the compiler knows the length, the digest is moved as a whole, which is no call.
+        if let Some(whole) = whole::<32>(digest) {
+            return Ok(Self::in_buffer(code, 32, Self::padded(whole)));
+        }
+        if let Some(full) = whole::<S>(digest) {
+            return Ok(Self::in_buffer(code, S, *full));
         }
         let mut multihash = Multihash {
             code,

@@ -188,19 +188,12 @@ impl<const S: usize> Multihash<S> {
         requires { self.old.size ≡ length digest.now }
         ensures { pair_of self.new ≡ record { code = self.old.code; digest = digest.now } }
     {
-        // The usual length is copied as a whole, which is no call.
-        if digest.len() == 32 {
-            if let Some(whole) = digest.first_chunk::<32>() {
-                self.digest[..32].copy_from_slice(whole);
-                return;
-            }
-        }
         self.digest[..digest.len()].copy_from_slice(digest);
     }
 
     // The bytes, and zeros behind them.
     #[inline(always)]
-    fn padded<const N: usize>(bytes: &[u8; N]) -> [u8; S]
+    pub(crate) fn padded<const N: usize>(bytes: &[u8; N]) -> [u8; S]
         requires { N ≤ S }
         ensures { result ≡ bytes.now ++ replicate (S - N) 0 }
     {
@@ -246,7 +239,7 @@ fn front(bytes: &[u8], len: usize) -> &[u8]
 
 // The bytes, where they are `N`.
 #[inline(always)]
-fn whole<const N: usize>(bytes: &[u8]) -> Option<&[u8; N]>
+pub(crate) fn whole<const N: usize>(bytes: &[u8]) -> Option<&[u8; N]>
     ensures some { IfSome result (λ all. (all.now ≡ bytes.now) × (length bytes.now ≡ N)) }
 {
     if bytes.len() == N {

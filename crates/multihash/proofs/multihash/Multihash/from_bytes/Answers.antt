@@ -1,5 +1,6 @@
-use Rattle.std.proofs.Common.{refl, arith, sym, ap, inl, inr}
+use Rattle.std.proofs.Common.{◌-◌, ℕ, replicate, refl, ◌∙◌, arith, sym, ap, inl, inr}
 use Rattle.multihash.specs.Verdict.{invalid_size, unexpected_eof, accepted}
+use Rattle.multihash.proofs.Values.PairLemmas.{pair_in_front}
 use Rattle.multihash.proofs.Readings.FrontLemmas.{sliced, no_code, no_size, has_size, left_over, whole}
 use Rattle.multihash.proofs.multihash.Multihash.from_bytes.Goals as goal
 
@@ -32,6 +33,16 @@ returns-then-digest-len-2 g c = (
       (omega (arith, c.if-size.false, c.if-size-gt255.false)) c.if-digest-len-2.true refl,
   c.from_size-then-digest-len-2.ensures,
 )
+
+pub returns-in-Some-whole : goal.returns-in-Some-whole
+returns-in-Some-whole g c =
+    let known = c.in-Some-whole.ensures.some in (
+      accepted _,
+      whole _ _ _ (sliced _ _ _ c.in-Some.ensures.some) _ _ (sliced _ _ _ c.in-Some-read_front.ensures.some) g.row.S
+          (omega (arith, c.if-size.false, c.if-size-gt255.false)) (omega (arith, c.if-digest-len.false, c.if-digest-len-2.false)),
+      ap accepted (sym (c.in_buffer.ensures
+          ∙ rw c.padded.ensures (pair_in_front c.in-Some.code 32 _ c.in-Some-whole.whole.now (replicate {A = ℕ} (g.row.S - 32) 0) (sym known.1) known.0))),
+    )
 
 pub returns : goal.returns
 returns g c = (
