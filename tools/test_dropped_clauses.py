@@ -55,10 +55,33 @@ def cites_the_other():
     return "at.returns-clause-two" in text and "returns-clause-one" not in text
 
 
+# an answer whose last line closes it at the head
+CLOSES = """pub returns : goal.returns
+returns g c = (
+  first,
+  second,
+)
+
+pub other : goal.other
+other g c = last
+"""
+
+
+def leaves_nothing_of_an_answer():
+    """Returns whether of an answer that is gone no line stays, and the next one does."""
+    clause = clauses.Clause("small", "src/lib.rt", None, "", 0, 0, "small::f")
+    clause.is_only = True
+    return clauses.without_answers(CLOSES, clause).strip().split("\n") == ["pub other : goal.other", "other g c = last"]
+
+
 def main():
-    passed, failed = (1, 0) if cites_the_other() else (0, 1)
-    if failed:
-        print("FAILED: what cites the goal of a clause that is gone")
+    passed = failed = 0
+    for name, test in (("what cites the goal of a clause that is gone", cites_the_other), ("an answer that is gone", leaves_nothing_of_an_answer)):
+        if test():
+            passed += 1
+        else:
+            failed += 1
+            print(f"FAILED: {name}")
     with tempfile.TemporaryDirectory(prefix="test-dropped-") as folder:
         small.lay_out(f"{folder}/root")
         small.put_edits(f"{folder}/root", EDITS)

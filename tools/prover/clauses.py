@@ -6,6 +6,8 @@ from . import edits, source
 
 # A statement that says nothing. The clause's name stays, so that what cites it is a goal, and no missing name.
 NOTHING = " Unit {0} "
+# what ends a definition of several lines, at the head of its last line
+CLOSING = (")", "}", "]")
 
 
 class Clause:
@@ -81,12 +83,12 @@ def items(text):
     found, at = [], 0
     for line in text.splitlines(keepends=True):
         name = re.match(r"(?:pub )?([^\s:(]+)", line)
-        if line[:1].strip() and not line.startswith(("--", "use ", "unfolding ")) and name:
+        if line[:1].strip() and not line.startswith(("--", "use ", "unfolding ", *CLOSING)) and name:
             if found and found[-1][0] == name[1]:
                 found[-1] = (name[1], found[-1][1], at + len(line))
             else:
                 found.append((name[1], at, at + len(line)))
-        elif found and line.startswith((" ", "unfolding ")):
+        elif found and line.startswith((" ", "unfolding ", *CLOSING)):
             found[-1] = (*found[-1][:2], at + len(line))
         at += len(line)
     return found
