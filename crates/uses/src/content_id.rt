@@ -1,8 +1,8 @@
 //! Content identifiers of version 0 and of version 1, as <https://github.com/multiformats/cid> has them.
-ghost use Rattle.std.specs.Prelude.{◌≡◌, ◌↔◌, ℕ, List, ◌++◌, Some, Option, IfOk, IfErr, OnOk, OnErr, IsErrOf, MatchResult};
+ghost use Rattle.std.specs.Prelude.{◌≡◌, ◌↔◌, ℕ, List, ◌++◌, Some, Option, IsTrue, IfOk, IfErr, OnOk, OnErr, IsErrOf, MatchResult};
 ghost use Rattle.multihash.specs.Reading.{Takes, CountsReader};
 ghost use Rattle.multihash.specs.Writing.{AppendsPart, CountsWriter};
-ghost use Rattle.multihash.specs.Refusal.{Refusal, IsIo, IsReaderFault, of_io};
+ghost use Rattle.multihash.specs.Refusal.{Refusal, IsIo, IsMemory, IsReaderFault, of_io};
 ghost use Rattle.uses.specs.ContentId.{Content, content_of, IsContentId, FitsContentId, IsRefused, IsContentIdRefusal, BeginsOtherwise, StopsInContentId, TakesAtContentIdError, LeavesOver};
 ghost use Rattle.uses.specs.declared.content_id.ContentIdError.TheVariants.{Refused, OtherVersion, LeftOver};
 
@@ -11,6 +11,7 @@ mod codec;
 pub use codec::Codec;
 use multihash::no_std_io::{self, Read, Write};
 use multihash::{Error, Multihash, laws, varint};
+use std::alloc::Global;
 use std::fmt;
 
 // The version that an identifier names.
@@ -178,4 +179,26 @@ pub fn one_identifier()
         a ++ r ≡ b ++ s → (c ≡ d) × (a ≡ b) × (r ≡ s) }
 {
     laws::prefix_free();
+}
+
+/// Whether two identifiers with bytes behind them are written alike: exactly where the identifiers are the same,
+/// and so are the bytes. Nothing but want of memory refuses it.
+pub fn written_alike<const A: usize, const B: usize>(
+    alloc: Global,
+    a: &ContentId<A>,
+    behind_a: &[u8],
+    b: &ContentId<B>,
+    behind_b: &[u8],
+) -> Result<bool, Error>
+    ensures { MatchResult result (λ alike. IsTrue alike ↔
+        ((content_of a.now ≡ content_of b.now) × (behind_a.now ≡ behind_b.now))) IsMemory }
+{
+    one_identifier();
+    let mut first = Vec::new(alloc);
+    a.write(&mut first)?;
+    first.write_all(behind_a)?;
+    let mut second = Vec::new(alloc);
+    b.write(&mut second)?;
+    second.write_all(behind_b)?;
+    Ok(first.as_slice() == second.as_slice())
 }
