@@ -1,6 +1,6 @@
 #!/usr/bin/env bash
-# Compares the stored list of verdicts with the one that tools/verdicts.py makes, and then plants differences, each of
-# which must be seen. The last line is 'N passed, M failed'.
+# Compares the stored test vectors with those that tools/verdicts.py makes, and then plants differences, each of which must be seen.
+# The last line is 'N passed, M failed'.
 set -u
 cd "$(dirname "$0")/.." || exit 2
 stored=crates/vectors/data/verdicts.tsv
@@ -9,38 +9,38 @@ failed=0
 work=$(mktemp -d) || exit 2
 trap 'rm -rf "$work"' EXIT
 
-check() { tools/verdicts.py --check "$1" > "$work/told" 2>&1; }
+check() { tools/verdicts.py --check "$1" > "$work/log" 2>&1; }
 
-tell() {
+count() {
   if [ "$2" = 0 ]; then
     passed=$((passed + 1))
   else
     failed=$((failed + 1))
     echo "$1"
-    head -n 20 "$work/told"
+    head -n 20 "$work/log"
   fi
 }
 
-# Plants a difference by a command of sed, and wants it to be one and to be refused.
+# Plants a difference by a command of sed: it has to be one, and to be rejected.
 plant() {
   sed "$2" "$stored" > "$work/list"
   ! cmp -s "$stored" "$work/list" && ! check "$work/list"
-  tell "not seen: $1" $?
+  count "not seen: $1" $?
 }
 
-check "$stored" && tail -n 1 "$work/told" | grep -q '^[1-9][0-9]* passed, 0 failed$'
-tell "the stored list is not the one that is made" $?
-plant "another answer of read" '2s/invalid_size 3/invalid_size 4/'
-plant "another number of bytes taken" '2s/\t7\t/\t8\t/'
-plant "another answer in the last line" '$s/[^\t]*$/999/'
+check "$stored" && tail -n 1 "$work/log" | grep -q '^[1-9][0-9]* passed, 0 failed$'
+count "the stored list is not the one that is made" $?
+plant "another result of read" '2s/invalid_size 3/invalid_size 4/'
+plant "another number of bytes consumed" '2s/\t7\t/\t8\t/'
+plant "another result in the last line" "\$s/[^\t]*\$/999/"
 plant "an input from outside that is another" '2s/88f5bac6a53b03/88f5bac6a53b04/'
-plant "a line that is lost at the end" '$d'
+plant "a line that is lost at the end" "\$d"
 plant "a line from outside that is lost" '2d'
 plant "a line that stands twice" '2p'
-plant "no lines below the first" '2,$d'
+plant "no lines below the first" "2,\$d"
 plant "no first line" '1d'
-plant "an empty list" '1,$d'
+plant "an empty list" "1,\$d"
 ! check "$work/no_such_list"
-tell "not seen: no list at all" $?
+count "not seen: no list at all" $?
 echo "$passed passed, $failed failed"
 [ "$failed" = 0 ] && [ "$passed" -gt 0 ]

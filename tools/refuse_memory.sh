@@ -1,117 +1,135 @@
-#!/bin/bash
-# Refuses each request for memory in turn: runs the tests with the Nth request of each refused, N
-# counted upwards until no test meets a refusal. A test that met one, and found all as it should be,
-# fails with REFUSED. It says how many requests each call made, and closes with 'N passed, M failed'.
-# PROVED may name a copy of the repository whose crates are built already: then that one is run.
-cd "${PROVED:-$(dirname "$0")/..}" || exit 2
-
-told='    error: "memory was refused"'
+#!/usr/bin/env bash
+# Makes each allocation fail in turn: runs each test by itself while its Nth allocation fails, N counted upwards until the test makes
+# fewer. A test in which one failed, and that found all as it should be, fails with REFUSED. Each run has to free what it allocated.
+# The programs are those that 'rt ci' built of the crates' tests, if BUILT says so; otherwise 'rt test' builds them.
+# tools/refuse_memory.c, which is loaded before malloc, makes allocations fail and counts them. The last line is 'N passed, M failed'.
+set -uo pipefail
+cd "$(dirname "$0")/.." || exit 2
+refused='error: "memory was refused"'
 most=40
 
-# The tests, by crate, and how many requests each makes: 'some' where that may change.
+# The tests, by crate, with how many allocations each makes, and how many of these make it fail, unless all do.
 tests() {
-    case $1 in
-    tests_memory) cat <<-'LIST'
-		memory::refused_to_bytes 1
-		memory::refused_long_to_bytes 1
-		memory::refused_to_value 1
-		memory::refused_read_list 1
-		memory::refused_write some
-		memory::refused_scale_encode some
-		memory::refused_write_list some
-		memory::refused_write_of_a_long_list some
-		memory::refused_write_of_a_vector 1
-		memory::refused_push 1
-		sizes::refused_to_bytes_at_each_size 4
-		sizes::refused_to_bytes_at_each_larger_size 3
-		sizes::refused_to_bytes_at_each_large_size 3
-		sizes::refused_to_bytes_at_each_usual_size 4
-		sizes::refused_to_value_at_0_and_1 2
-		sizes::refused_to_value_at_31_and_32 2
-		sizes::refused_to_value_at_33_and_64 2
-		sizes::refused_to_value_at_127_and_128 2
-		sizes::refused_to_value_at_200_and_255 2
-		sizes::refused_read_of_lists 4
-		sizes::refused_read_of_short_lists 4
-		sizes::refused_read_of_long_lists 4
-		sizes::refused_room_alone 1
-		memory::needs_no_memory 0
-		memory::parts_and_slices_need_no_memory 0
-		memory::errors_need_no_memory 0
-		LIST
-        ;;
-    mh_show) cat <<-'LIST'
-		show::tests::refused_show some
-		show::tests::an_odd_line_needs_no_memory 0
-		run::tests::refused_run_of_the_example some
-		run::tests::refused_run_of_a_refusal some
-		run::tests::refused_before_a_read 1
-		LIST
-        ;;
-    esac
+  case $1 in
+    tests_memory) cat << 'LIST'
+refused_to_bytes 1
+refused_long_to_bytes 1
+refused_to_value 1
+refused_read_list 1
+refused_write 2
+refused_scale_encode 3
+refused_write_list 1
+refused_write_of_a_long_list 3
+refused_write_of_a_vector 1
+refused_push 1
+refused_to_bytes_at_each_size 4
+refused_to_bytes_at_each_larger_size 3
+refused_to_bytes_at_each_large_size 3
+refused_to_bytes_at_each_usual_size 4
+refused_to_value_at_0_and_1 2
+refused_to_value_at_31_and_32 2
+refused_to_value_at_33_and_64 2
+refused_to_value_at_127_and_128 2
+refused_to_value_at_200_and_255 2
+refused_read_of_lists 4
+refused_read_of_short_lists 4
+refused_read_of_long_lists 4
+refused_room_alone 1
+refused_to_bytes_of_usual_digests 9
+refused_to_value_of_usual_digests 9
+refused_read_of_lists_in_64 4
+needs_no_memory 0
+parts_and_slices_need_no_memory 0
+errors_need_no_memory 0
+usual_digests_need_no_memory 0
+LIST
+      ;;
+    mh_show) cat << 'LIST'
+refused_show 5
+an_odd_line_needs_no_memory 0
+refused_run_of_the_example 8
+refused_run_of_a_refusal 5
+refused_before_a_read 4 1
+LIST
+      ;;
+  esac
 }
 
-# What the test did where its Nth request was refused: 'right', 'refused', or anything else.
+# Prints what a test did whose status, output and number of allocations that were not freed these are.
 outcome() {
-    grep -A 1 -F -- "test $2 ... " "$1" | {
-        IFS= read -r verdict
-        IFS= read -r reason
-        case $verdict in
-        *' ... ok') echo right ;;
-        *' ... FAILED') [ "$reason" = "$told" ] && echo refused || echo wrong ;;
-        *) echo missing ;;
-        esac
-    }
+  local status=$1 output=$2 live=$3
+  if [ "$live" != none ] && [ "$live" != 0 ]; then
+    echo "leaks $live"
+  elif [ "$status" = 0 ] && grep -qx 'test result: ok' "$output"; then
+    echo right
+  elif [ "$status" = 101 ] && grep -qxF -- "$refused" "$output"; then
+    echo refused
+  else
+    echo wrong
+  fi
 }
 
-# Runs the tests of one crate, and writes a line for each: 'passed' or 'failed', and why.
-refuse() {
-    local crate=$1 out=$2/$1 n=0 met=yes test wanted answer
-    while [ $met = yes ] && [ $n -lt $most ]; do
-        n=$((n + 1)) met=no
-        echo "$crate: request $n"
-        (cd "crates/$crate" && rt try --test --fail-alloc $n) >"$out.run" 2>&1
-        if ! grep -q '^test result: ' "$out.run"; then
-            echo "failed: $crate: no tests ran"
-            tail -n 20 "$out.run"
-            return
-        fi
-        while read -r test wanted; do
-            answer=$(outcome "$out.run" "$test")
-            echo "$test $answer" >>"$out.outcomes"
-            [ "$answer" = refused ] && met=yes
-        done < <(tests "$crate")
-    done
-    while read -r test wanted; do
-        judge "$crate" "$test" "$wanted" $n "$out.outcomes"
-    done < <(tests "$crate")
+# Runs one test until it makes fewer allocations than the one that fails. Prints what it did in each run, and at last their number.
+runs_of() {
+  local program=$1 test=$2 out=$3 n asked live status
+  for ((n = 1; n <= most; n++)); do
+    rm -f "$out.counts"
+    timeout 60 env COUNTS="$out.counts" REFUSE=$n LD_PRELOAD="$folder/refuse_memory.so" "$program" "$test" > "$out.run" 2>&1 < /dev/null
+    status=$?
+    asked=0 live=none
+    [ -f "$out.counts" ] && read -r asked live < "$out.counts"
+    outcome $status "$out.run" "$live"
+    [ "$asked" -ge $n ] || break
+  done
+  echo "$asked"
 }
 
-# A test is to meet refusals and then none: 'refused' so often, and else 'right'.
+# Prints whether a test made as many allocations as it should, and told of each that failed; its runs are in a file.
 judge() {
-    local crate=$1 test=$2 wanted=$3 runs=$4 refused right
-    refused=$(grep -c "^$test refused$" "$5")
-    right=$(grep -c "^$test right$" "$5")
-    if [ $((refused + right)) -ne "$runs" ]; then
-        echo "failed: $crate $test: another answer where a request was refused"
-    elif [ "$right" -eq 0 ]; then
-        echo "failed: $crate $test: still refused after $runs requests"
-    elif [ "$wanted" = some ] && [ "$refused" -eq 0 ]; then
-        echo "failed: $crate $test: no request was made"
-    elif [ "$wanted" != some ] && [ "$refused" -ne "$wanted" ]; then
-        echo "failed: $crate $test: $refused requests, and not $wanted"
-    else
-        echo "passed: $crate $test: requests: $refused"
-    fi
+  local test=$1 wanted=$2 fatal=$3 runs=$4 asked refused other
+  asked=$(tail -n 1 "$runs")
+  refused=$(grep -cx refused "$runs")
+  other=$(sed '$d' "$runs" | grep -vxE 'refused|right' | sort -u | tr '\n' ' ')
+  if [ -n "$other" ]; then
+    echo "failed: $test: in a run it is $other"
+  elif [ "$asked $refused" = "$wanted $fatal" ]; then
+    echo "passed: $test: allocations: $asked"
+  else
+    echo "failed: $test: allocations: $asked, of which $refused failed with REFUSED, and not $wanted and $fatal"
+  fi
+}
+
+# Builds a crate's tests, and prints their names.
+names_of() {
+  local crate=$1 program=crates/$1/out/$1_tests
+  if [ "${BUILT-}" != "rt ci" ]; then
+    rm -f "$program"
+    (cd "crates/$crate" && rt test) > "$folder/$crate.build" 2>&1 || tail -n 20 "$folder/$crate.build" >&2
+  fi
+  "$program" --list | sed -n 's/: test$//p'
+}
+
+# Runs the tests of one crate, and prints a line for each.
+try_crate() {
+  local crate=$1 out=$folder/$1 program=crates/$1/out/$1_tests name wanted fatal
+  names_of "$crate" > "$out.names"
+  grep -oE '(refused_\w+|\w+_no_memory)$' "$out.names" | while read -r name; do
+    tests "$crate" | grep -q "^$name " || echo "failed: $crate: $name is in no list"
+  done
+  while read -r name wanted fatal; do
+    runs_of "$program" "$(grep -E "(^|::)$name\$" "$out.names")" "$out" > "$out.runs"
+    judge "$crate $name" "$wanted" "${fatal:-$wanted}" "$out.runs"
+  done < <(tests "$crate")
 }
 
 folder=$(mktemp -d) || exit 2
 trap 'rm -rf "$folder"' EXIT
+cc -std=c11 -O1 -shared -fPIC -o "$folder/refuse_memory.so" tools/refuse_memory.c -ldl || exit 2
 for crate in tests_memory mh_show; do
-    refuse $crate "$folder" | tee "$folder/$crate.lines" &
+  try_crate $crate | tee "$folder/$crate.lines" &
 done
 wait
 passed=$(cat "$folder"/*.lines | grep -c '^passed')
 failed=$(cat "$folder"/*.lines | grep -c '^failed')
 echo "$passed passed, $failed failed"
-[ "$failed" -eq 0 ] && [ "$passed" -gt 0 ]
+[ "$failed" = 0 ] && [ "$passed" -gt 0 ]

@@ -1,28 +1,28 @@
 #!/usr/bin/env python3
-"""Makes the list of verdicts that crates/vectors replays, and compares what it makes with what is stored.
+"""Makes the test vectors that crates/vectors replays, and compares the stored ones with what it makes.
 
-It computes each answer from the rules of docs/FORMAT.md by itself and calls nothing of the library.
+It computes each result from the rules of docs/FORMAT.md by itself and calls nothing of the library.
 
-    tools/verdicts.py > FILE                      the stored list, judged and drawn anew
+    tools/verdicts.py > FILE                      the stored list, computed and drawn anew
     tools/verdicts.py --bits 62 > FILE            the same for codes below 2^62
     tools/verdicts.py --seed 7 --count 5000 > FILE      another draw
     tools/verdicts.py --check [FILE]              compares; the last line is 'N passed, M failed'
 
-The inputs are those of the first lines of the stored list, which came from outside, and behind them as many as
-`--count` says, drawn by the seed. No input stands twice with one size of buffer."""
+The inputs are those of the first lines of the stored list, which came from outside, and after them `--count` inputs that are drawn by
+the seed. No input stands twice with one size of buffer."""
 import argparse
 import hashlib
-import os
 import random
 import re
 import sys
+from pathlib import Path
 
-TOP = os.path.dirname(os.path.dirname(os.path.abspath(__file__)))
-STORED = os.path.join(TOP, "crates", "vectors", "data", "verdicts.tsv")
-BOUND = os.path.join(TOP, "crates", "multihash", "specs", "Varint.antt")
+TOP = Path(__file__).resolve().parent.parent
+STORED = TOP / "crates" / "vectors" / "data" / "verdicts.tsv"
+BOUND = TOP / "crates" / "multihash" / "specs" / "Varint.antt"
 COLUMNS = ("S", "input", "read", "read_taken", "from_bytes", "scale_decode", "scale_taken")
 
-# How many of the stored lines came from outside, and the SHA-256 of their sizes and inputs, which no bound changes.
+# The number of stored lines that came from outside, and the SHA-256 of their sizes and inputs, which no bound changes.
 FROM_OUTSIDE = 3000
 OUTSIDE_SHA256 = "295042049837f3cd1c893ce5238a82627e5b67977d12fb7fa61d41cd0c66e8de"
 
@@ -31,20 +31,24 @@ LONGEST_DIGEST = 255
 SCALE_CODE = 8
 SCALE_HEAD = 9
 
+Input = tuple[int, bytes]
+# A result, and the number of bytes that determine it, if that is not the number of all bytes.
+Result = tuple[str, int | None]
+
 
 class Rules:
     """The rules for numbers below 2^bits."""
 
-    def __init__(self, bits):
+    def __init__(self, bits: int) -> None:
         self.limit = 1 << bits
-        self.max_marked = (bits - 1) // 7
-        self.last_byte_limit = 1 << (bits - 7 * self.max_marked)
+        self.max_continuation = (bits - 1) // 7
+        self.last_byte_limit = 1 << (bits - 7 * self.max_continuation)
 
-    def front(self, data):
-        """The number and the length of the varint that begins the bytes; or a fault, and how many bytes show it."""
+    def varint(self, data: bytes) -> tuple[int | str, int | None]:
+        """Returns the number of the varint at the front of the bytes, and its length; or the error, and how many bytes show it."""
         number = 0
         for at, byte in enumerate(data):
-            if at == self.max_marked and byte >= self.last_byte_limit:
+            if at == self.max_continuation and byte >= self.last_byte_limit:
                 return "overflow", at + 1
             if byte == 0 and at > 0:
                 return "not_minimal", at + 1
@@ -53,12 +57,11 @@ class Rules:
                 return number, at + 1
         return "insufficient", None
 
-    def read(self, size, data):
-        """What `read` answers, and how many bytes settle it."""
-        code, code_end = self.front(data)
+    def read(self, size: int, data: bytes) -> Result:
+        code, code_end = self.varint(data)
         if isinstance(code, str):
             return code, code_end
-        length, length_end = self.front(data[code_end:])
+        length, length_end = self.varint(data[code_end:])
         end = None if length_end is None else code_end + length_end
         if isinstance(length, str):
             return length, end
@@ -69,14 +72,12 @@ class Rules:
             return "unexpected_eof", None
         return pair(code, digest), end + length
 
-    def from_bytes(self, size, data):
-        """What `from_bytes` answers to the whole."""
-        answer, taken = self.read(size, data)
-        left_over = answer.startswith("pair") and len(data) - taken
-        return f"invalid_size {left_over}" if left_over else answer
+    def from_bytes(self, size: int, data: bytes) -> str:
+        result, taken = self.read(size, data)
+        trailing = result.startswith("pair") and len(data) - taken
+        return f"invalid_size {trailing}" if trailing else result
 
-    def scale_decode(self, size, data):
-        """What `scale_decode` answers, and how many bytes it takes."""
+    def scale_decode(self, size: int, data: bytes) -> Result:
         if len(data) < SCALE_CODE:
             return "unexpected_eof", None
         code = int.from_bytes(data[:SCALE_CODE], "little")
@@ -92,136 +93,130 @@ class Rules:
             return "unexpected_eof", None
         return pair(code, digest), SCALE_HEAD + length
 
-    def line(self, size, data):
-        read, read_taken = self.read(size, data)
-        scale, scale_taken = self.scale_decode(size, data)
-        fields = (size, spelled(data), read, read_taken, self.from_bytes(size, data), scale, scale_taken)
-        return "\t".join("-" if field is None else str(field) for field in fields)
+    def line(self, size: int, data: bytes) -> str:
+        fields = (size, hexadecimal(data), *self.read(size, data), self.from_bytes(size, data), *self.scale_decode(size, data))
+        return "\t".join("-" if it is None else str(it) for it in fields)
 
 
-def spelled(data):
+def hexadecimal(data: bytes) -> str:
     return data.hex() or "-"
 
 
-def pair(code, digest):
-    return f"pair {code} {spelled(digest)}"
+def pair(code: int, digest: bytes) -> str:
+    return f"pair {code} {hexadecimal(digest)}"
 
 
-def varint(number):
-    spelling = bytearray()
+def varint(number: int) -> bytes:
+    encoding = bytearray()
     while number >= 128:
-        spelling.append(number % 128 + 128)
+        encoding.append(number % 128 + 128)
         number //= 128
-    return bytes(spelling) + bytes([number])
+    return bytes(encoding) + bytes([number])
 
 
-def scale_head(code, length):
+def scale_head(code: int, length: int) -> bytes:
     return code.to_bytes(SCALE_CODE, "little") + bytes([length])
 
 
 class Draw:
-    """Inputs of each kind, drawn by a seed. All draws go through `random()`, the one method whose sequence Python
-    keeps from version to version."""
+    """Inputs of each kind, drawn by a seed. All draws go through `random()`, the one method whose sequence Python keeps."""
 
-    def __init__(self, seed, bits, rules):
+    def __init__(self, seed: int, bits: int, rules: Rules) -> None:
         self.draws = random.Random(seed)
         self.bits = bits
         self.rules = rules
 
-    def below(self, bound):
+    def below(self, bound: int) -> int:
         return int(self.draws.random() * bound)
 
-    def one_of(self, choices):
+    def one_of(self, choices: tuple[int, ...]) -> int:
         return choices[self.below(len(choices))]
 
-    def data(self, length):
+    def data(self, length: int) -> bytes:
         return bytes(self.below(256) for _ in range(length))
 
-    def number(self):
+    def number(self) -> int:
         """A number around a power of two, where lengths and bounds change, or one of a drawn length."""
         power = 1 << self.below(self.bits + 1)
         near = power + self.below(3) - 1
         number = near if self.below(2) else self.below(power)
         return min(number, self.rules.limit - 1)
 
-    def digest_length(self, size):
+    def digest_length(self, size: int) -> int:
         """A length that fits the buffer, the longest and the shortest more often than others."""
         longest = min(size, LONGEST_DIGEST)
         short = self.below(20)
         return min(longest, self.one_of((0, short, short, 126 + self.below(4), self.below(256), LONGEST_DIGEST)))
 
-    def large_length(self, size):
-        """A length that no buffer of the size holds."""
+    def large_length(self, size: int) -> int:
+        """A length that exceeds the capacity."""
         longest = min(size, LONGEST_DIGEST)
         above = self.one_of((0, 1, self.below(300), self.number(), self.number()))
         return min(longest + 1 + above, self.rules.limit - 1)
 
-    def behind(self):
-        """Nothing more often than some bytes."""
+    def trailing(self) -> bytes:
+        """Trailing bytes, more often none than some."""
         return self.data(self.one_of((0, 0, 0, 1, 2, 3, self.below(20), self.below(40))))
 
-    def marked(self, length):
+    def continuation(self, length: int) -> bytes:
         return bytes(self.one_of((128, 255, 128 + self.below(128))) for _ in range(length))
 
-    def fault(self):
-        """Bytes that begin with no varint."""
-        most = self.rules.max_marked
+    def malformed(self) -> bytes:
+        """Bytes with a malformed varint at the front."""
+        most = self.rules.max_continuation
         kind = self.below(3)
         if kind == 0:
-            return self.marked(self.one_of((most, self.below(most + 1))))
+            return self.continuation(self.one_of((most, self.below(most + 1))))
         if kind == 1:
-            return self.marked(self.one_of((most, 1 + self.below(most)))) + b"\0" + self.behind()
+            return self.continuation(self.one_of((most, 1 + self.below(most)))) + b"\0" + self.trailing()
         too_large = self.rules.last_byte_limit
         byte = self.one_of((too_large, 255, too_large + self.below(256 - too_large)))
-        return self.marked(most) + bytes([byte]) + self.behind()
+        return self.continuation(most) + bytes([byte]) + self.trailing()
 
-    def encoding(self, size):
+    def encoding(self, size: int) -> bytes:
         digest = self.data(self.digest_length(size))
         return varint(self.number()) + varint(len(digest)) + digest
 
-    def whole(self, size):
-        return self.encoding(size)
-
-    def with_rest(self, size):
+    def with_trailing(self, size: int) -> bytes:
         return self.encoding(size) + self.data(self.one_of((1, 1, 2, 1 + self.below(20))))
 
-    def cut(self, size):
+    def truncated(self, size: int) -> bytes:
         whole = self.encoding(size)
         return whole[: self.one_of((len(whole) - 1, self.below(len(whole))))]
 
-    def large_size(self, size):
-        return varint(self.number()) + varint(self.large_length(size)) + self.behind()
+    def large_size(self, size: int) -> bytes:
+        return varint(self.number()) + varint(self.large_length(size)) + self.trailing()
 
-    def bad_code(self, _):
-        return self.fault()
+    def bad_code(self, _: int) -> bytes:
+        return self.malformed()
 
-    def bad_size(self, _):
-        return varint(self.number()) + self.fault()
+    def bad_size(self, _: int) -> bytes:
+        return varint(self.number()) + self.malformed()
 
-    def scale(self, size):
+    def scale(self, size: int) -> bytes:
         digest = self.data(self.digest_length(size))
-        whole = scale_head(self.number(), len(digest)) + digest + self.behind()
+        whole = scale_head(self.number(), len(digest)) + digest + self.trailing()
         return whole[: self.below(len(whole) + 1)] if self.below(3) == 0 else whole
 
-    def scale_large(self, size):
+    def scale_large(self, size: int) -> bytes:
         longer = min(size, LONGEST_DIGEST)
-        return scale_head(self.number(), longer + self.below(LONGEST_DIGEST + 1 - longer)) + self.behind()
+        return scale_head(self.number(), longer + self.below(LONGEST_DIGEST + 1 - longer)) + self.trailing()
 
-    def scale_code(self, _):
+    def scale_code(self, _: int) -> bytes:
         limit = self.rules.limit
         largest = (1 << 64) - 1
         code = limit + self.one_of((0, 1, self.below(largest - limit), largest - limit))
-        return scale_head(min(code, largest), self.below(LONGEST_DIGEST + 1)) + self.behind()
+        return scale_head(min(code, largest), self.below(LONGEST_DIGEST + 1)) + self.trailing()
 
-    def noise(self, _):
+    def noise(self, _: int) -> bytes:
         edges = (0, 1, 2, 127, 128, 255)
         return bytes(self.one_of(edges + (self.below(256),)) for _ in range(self.below(24)))
 
-    KINDS = (whole, with_rest, cut, large_size, bad_code, bad_size, scale, scale_large, scale_code, noise)
+    KINDS = (encoding, with_trailing, truncated, large_size, bad_code, bad_size, scale, scale_large, scale_code, noise)
 
-    def inputs(self, count, seen):
-        """So many inputs that were not seen, each kind at each size of buffer in turn."""
-        drawn = []
+    def inputs(self, count: int, seen: set[Input]) -> list[Input]:
+        """That many new inputs, each kind at each size of buffer in turn."""
+        drawn: list[Input] = []
         turn = 0
         while len(drawn) < count:
             kind = self.KINDS[turn % len(self.KINDS)]
@@ -234,40 +229,33 @@ class Draw:
         return drawn
 
 
-def stated_bits():
-    """The bound on numbers that the definitions state."""
-    with open(BOUND, encoding="utf-8") as file:
-        return int(re.search(r"^varint_limit = 2 \^ (\d+)$", file.read(), re.M)[1])
+def stated_bits() -> int:
+    """Returns the bound on numbers that the definitions state."""
+    return int(re.search(r"^varint_limit = 2 \^ (\d+)$", BOUND.read_text("utf-8"), re.M)[1])
 
 
-def rows(path):
-    """The lines of a list, below the first."""
-    with open(path, encoding="utf-8") as file:
-        lines = file.read().splitlines()
+def rows(path: Path) -> list[str]:
+    """Returns the lines of a list, without its head."""
+    lines = path.read_text("utf-8").splitlines()
     if not lines or lines[0] != "\t".join(COLUMNS):
         sys.exit(f"{path}: other columns")
     return lines[1:]
 
 
-def outside_inputs(lines):
-    """The sizes and inputs that came from outside."""
+def made(lines: list[str], options: argparse.Namespace) -> list[str]:
+    """Returns the list that the options and the inputs from outside make."""
     columns = [line.split("\t")[:2] for line in lines[:FROM_OUTSIDE]]
     text = "".join(f"{size}\t{data}\n" for size, data in columns)
     if hashlib.sha256(text.encode()).hexdigest() != OUTSIDE_SHA256:
         sys.exit(f"the first {FROM_OUTSIDE} inputs are not those that came from outside")
-    return [(int(size), b"" if data == "-" else bytes.fromhex(data)) for size, data in columns]
-
-
-def made(lines, options):
-    """The list that the options and the inputs from outside make."""
+    entries = [(int(size), b"" if data == "-" else bytes.fromhex(data)) for size, data in columns]
     rules = Rules(options.bits)
-    entries = outside_inputs(lines)
     drawn = Draw(options.seed, options.bits, rules).inputs(options.count, set(entries))
     return [rules.line(size, data) for size, data in entries + drawn]
 
 
-def check(lines, options):
-    """Compares each line with the one that is made, and tells whether all are alike."""
+def check(lines: list[str], options: argparse.Namespace) -> bool:
+    """Compares each line with the one that is made, and returns whether all are equal."""
     wanted = made(lines, options)
     failed = abs(len(wanted) - len(lines))
     if failed:
@@ -281,17 +269,16 @@ def check(lines, options):
     return failed == 0 and passed > FROM_OUTSIDE
 
 
-def main():
+def main() -> int:
     parser = argparse.ArgumentParser(description=__doc__, formatter_class=argparse.RawDescriptionHelpFormatter)
-    bits_help = "codes lie below 2 to this power, 16 to 64; if not given, that of specs/Varint"
-    parser.add_argument("--bits", type=int, default=stated_bits(), help=bits_help)
+    parser.add_argument("--bits", type=int, default=stated_bits(), help="codes are below 2 to this power, 16 to 64; by default that of specs/Varint")
     parser.add_argument("--seed", type=int, default=20)
     parser.add_argument("--count", type=int, default=3000, help="how many inputs are drawn")
-    parser.add_argument("--check", nargs="?", const=STORED, metavar="FILE", help="compare the list with what is made")
+    parser.add_argument("--check", nargs="?", type=Path, const=STORED, metavar="FILE", help="compare the list with what is made")
     options = parser.parse_args()
     if not 16 <= options.bits <= 64:
         parser.error("the bound is from 2^16 to 2^64")
-    if options.check is not None:
+    if options.check:
         return 0 if check(rows(options.check), options) else 1
     print("\t".join(COLUMNS), *made(rows(STORED), options), sep="\n")
     return 0

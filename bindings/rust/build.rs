@@ -1,30 +1,99 @@
-//! Finds the library for C: in the folder that MULTIHASH_C_LIB_DIR names, which is linked statically, else by pkg-config.
+//! Finds the C library, and checks its version: `libmultihash_c.a` in the directory `MULTIHASH_C_LIB_DIR`, linked
+//! statically, else what pkg-config finds.
 use std::env;
+use std::ffi::OsString;
+use std::fs;
+use std::os::unix::fs::symlink;
+use std::path::{Path, PathBuf};
 use std::process::Command;
 
+const ARCHIVE: &str = "libmultihash_c.a";
+
+/// Prints the version of the archive that it is linked with.
+const PROBE: &str = r#"unsafe extern "C" { safe fn multihash_version() -> u32; } fn main() { print!("{}", multihash_version()) }"#;
+
 fn main() {
+    println!("cargo:rerun-if-changed=build.rs");
     println!("cargo:rerun-if-env-changed=MULTIHASH_C_LIB_DIR");
     println!("cargo:rerun-if-env-changed=PKG_CONFIG_PATH");
-    match env::var("MULTIHASH_C_LIB_DIR") {
-        Ok(folder) => {
-            println!("cargo:rustc-link-search=native={folder}");
-            println!("cargo:rustc-link-lib=static=multihash_c");
-            println!("cargo:rerun-if-changed={folder}/libmultihash_c.a");
-        }
-        Err(_) => println!("cargo:rustc-link-lib=multihash_c\ncargo:rustc-link-search=native={}", installed()),
+    if env::var_os("DOCS_RS").is_some() {
+        return; // pages need no library
+    }
+    match env::var_os("MULTIHASH_C_LIB_DIR") {
+        Some(directory) => link_archive(Path::new(&directory)),
+        None => println!("cargo:rustc-link-lib=multihash_c\ncargo:rustc-link-search=native={}", installed()),
     }
 }
 
-/// The folder of an installed library that has this crate's first number.
-fn installed() -> String {
-    pkg_config(&["--exists", "--print-errors", "multihash_c >= 1", "multihash_c < 2"]);
-    pkg_config(&["--variable=libdir", "multihash_c"])
+/// Links the archive through a symbolic link in `OUT_DIR`: Cargo ignores a line with a path that is not UTF-8, and the
+/// directory may have any name.
+fn link_archive(directory: &Path) {
+    let archive = directory.join(ARCHIVE);
+    assert!(archive.is_absolute(), "MULTIHASH_C_LIB_DIR is not an absolute path: {}", directory.display());
+    assert!(archive.is_file(), "no file {}", archive.display());
+    let out = PathBuf::from(env::var("OUT_DIR").expect("OUT_DIR in UTF-8"));
+    let link = out.join(ARCHIVE);
+    let _ = fs::remove_file(&link); // of an earlier build
+    symlink(&archive, &link).expect("a symbolic link in OUT_DIR");
+    println!("cargo:rerun-if-changed={}", link.display());
+    println!("cargo:rustc-link-search=native={}", out.display());
+    println!("cargo:rustc-link-lib=static=multihash_c");
+    if architecture("HOST") == architecture("TARGET") {
+        check_version(&archive, probed(&out));
+    } else {
+        println!("cargo:warning=the version of {} is not checked: it is built for another machine", archive.display());
+    }
 }
 
-/// What pkg-config answers.
-fn pkg_config(arguments: &[&str]) -> String {
-    let answer = Command::new("pkg-config").args(arguments).output().expect("pkg-config runs");
-    let faults = String::from_utf8_lossy(&answer.stderr).into_owned();
-    assert!(answer.status.success(), "pkg-config finds no multihash_c: {faults}");
-    String::from_utf8(answer.stdout).expect("a folder in UTF-8").trim().to_owned()
+fn architecture(triple: &str) -> String {
+    let triple = env::var(triple).expect("a target triple");
+    triple.split('-').next().expect("an architecture").to_owned()
+}
+
+/// The number of the archive's version, from a program that is linked with it and run.
+fn probed(out: &Path) -> u32 {
+    let (source, program) = (out.join("probe.rs"), out.join("probe"));
+    fs::write(&source, PROBE).expect("OUT_DIR can be written");
+    let mut rustc = Command::new(env::var_os("RUSTC").expect("RUSTC"));
+    rustc.args(["--edition=2021", "-lstatic=multihash_c", "-L"]).arg(out).arg(&source).arg("-o").arg(&program);
+    if let Some(linker) = env::var_os("RUSTC_LINKER") {
+        let mut option = OsString::from("-Clinker=");
+        option.push(linker);
+        rustc.arg(option);
+    }
+    output(&mut rustc);
+    output(&mut Command::new(&program)).parse().expect("a number")
+}
+
+/// Fails unless the library has this crate's major version, and its minor version or a later one.
+fn check_version(archive: &Path, number: u32) {
+    let (major, minor) = (number / 10000, number / 100 % 100);
+    let (our_major, our_minor) = wanted();
+    assert!(
+        major == our_major && minor >= our_minor,
+        "{} is version {major}.{minor}.{}, not {our_major}.{our_minor} or a later {our_major}",
+        archive.display(),
+        number % 100
+    );
+}
+
+fn wanted() -> (u32, u32) {
+    let number = |name| env::var(name).expect("a version").parse().expect("a number");
+    (number("CARGO_PKG_VERSION_MAJOR"), number("CARGO_PKG_VERSION_MINOR"))
+}
+
+/// The directory of the installed library.
+fn installed() -> String {
+    let (major, minor) = wanted();
+    let versions = [format!("multihash_c >= {major}.{minor}"), format!("multihash_c < {}", major + 1)];
+    output(Command::new("pkg-config").args(["--exists", "--print-errors"]).args(versions));
+    let directory = output(Command::new("pkg-config").args(["--variable=libdir", "multihash_c"]));
+    directory.trim_end_matches('\n').replace('\\', "") // pkg-config escapes blanks
+}
+
+/// The standard output of a command, which has to succeed.
+fn output(command: &mut Command) -> String {
+    let found = command.output().unwrap_or_else(|error| panic!("{command:?}: {error}"));
+    assert!(found.status.success(), "{command:?} failed: {}", String::from_utf8_lossy(&found.stderr));
+    String::from_utf8(found.stdout).expect("output in UTF-8")
 }

@@ -1,4 +1,7 @@
-//! The library's functions, each over slices: they keep what a caller owes.
+//! The functions of the library over slices, and all the unsafe code of the crate.
+#![allow(unsafe_code)]
+
+use core::{ptr, slice};
 
 pub(crate) const OK: u32 = 0;
 pub(crate) const INSUFFICIENT: u32 = 1;
@@ -42,7 +45,6 @@ unsafe extern "C" {
     fn multihash_encoded_len(code: u64, digest_length: usize) -> Encoded;
     fn multihash_encode(code: u64, digest: *const u8, digest_length: usize, out: *mut u8, out_length: usize) -> Encoded;
     fn multihash_scale_encode(code: u64, digest: *const u8, digest_length: usize, out: *mut u8, out_length: usize) -> Encoded;
-    fn multihash_put_status_text(status: u32, out: *mut u8, out_length: usize) -> Encoded;
     fn multihash_compare(
         left_code: u64,
         left_digest: *const u8,
@@ -53,8 +55,8 @@ unsafe extern "C" {
     ) -> i32;
 }
 
-// A slice points at as many initialised bytes as it is long, which are fewer than 2^63. While it is shared nothing writes
-// them, and while it is borrowed mutably nothing else reads or writes them. That is all that the library asks for.
+// A slice points to as many initialised bytes as its length, which is below 2^63. While it is shared nothing writes them, and
+// while it is borrowed mutably nothing else reads or writes them. The library requires nothing else.
 
 pub(crate) fn from_bytes(bytes: &[u8]) -> Decoded {
     unsafe { multihash_from_bytes(bytes.as_ptr(), bytes.len()) }
@@ -88,10 +90,53 @@ pub(crate) fn compare(left_code: u64, left: &[u8], right_code: u64, right: &[u8]
     unsafe { multihash_compare(left_code, left.as_ptr(), left.len(), right_code, right.as_ptr(), right.len()) }
 }
 
-/// The text of a status, which is ASCII.
-pub(crate) fn status_text(status: u32) -> String {
-    let mut text = vec![0; 64];
-    let made = unsafe { multihash_put_status_text(status, text.as_mut_ptr(), text.len()) };
-    text.truncate(made.length);
-    String::from_utf8_lossy(&text).into_owned()
+/// Room for the encoding of a digest of at most `S` bytes: an array of `11 + S` bytes, whose length Rust cannot write.
+#[repr(C)]
+#[derive(Clone, Copy)]
+pub(crate) struct Buffer<const S: usize> {
+    head: [u8; 11],
+    digest: [u8; S],
+}
+
+// Arrays of bytes have no padding between them in the layout of C, so each byte of a buffer is initialised, and all are its own.
+impl<const S: usize> Buffer<S> {
+    pub(crate) const ZEROS: Self = Self { head: [0; 11], digest: [0; S] };
+
+    pub(crate) const fn as_slice(&self) -> &[u8] {
+        unsafe { slice::from_raw_parts(ptr::from_ref(self).cast(), size_of::<Self>()) }
+    }
+
+    pub(crate) fn as_mut_slice(&mut self) -> &mut [u8] {
+        unsafe { slice::from_raw_parts_mut(ptr::from_mut(self).cast(), size_of::<Self>()) }
+    }
+}
+
+/// The texts of the library, with which those of `Error` are compared, and its version.
+#[cfg(test)]
+mod tests {
+    use super::*;
+    use crate::Error;
+
+    unsafe extern "C" {
+        fn multihash_put_status_text(status: u32, out: *mut u8, out_length: usize) -> Encoded;
+        fn multihash_version() -> u32;
+    }
+
+    #[test]
+    fn texts_are_the_library_s() {
+        for status in INSUFFICIENT..=NO_ROOM {
+            let mut text = [0; 64];
+            let made = unsafe { multihash_put_status_text(status, text.as_mut_ptr(), text.len()) };
+            assert_eq!(made.status, OK);
+            assert_eq!(Error::of(status, 0, 0, 0).as_str().as_bytes(), &text[..made.length]);
+        }
+    }
+
+    #[test]
+    fn version_is_the_crate_s() {
+        let number = |text: &str| text.parse::<u32>().expect("a number");
+        let (major, minor) = (number(env!("CARGO_PKG_VERSION_MAJOR")), number(env!("CARGO_PKG_VERSION_MINOR")));
+        let patch = number(env!("CARGO_PKG_VERSION_PATCH"));
+        assert_eq!(unsafe { multihash_version() }, major * 10000 + minor * 100 + patch);
+    }
 }

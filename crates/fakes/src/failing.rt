@@ -1,11 +1,11 @@
-//! What the readers and the writers fail with.
+//! The errors of the readers and the writers.
 ghost use Rattle.std.specs.Prelude.{◌≡◌, ◌↔◌, IsTrue};
 ghost use Rattle.std.specs.Bool.{OnFalse};
 ghost use Rattle.multihash.specs.Fault.{IsOutOfMemory, IsOther, IsOwnFault};
 
 use multihash::no_std_io::Error;
 
-// Want of memory, or else a fault of its own with this text.
+// Out of memory, or an error of its own with this text.
 pub(crate) fn fault(wants_memory: bool, text: &'static str) -> Error
     ensures own { IsOwnFault result }
     ensures memory { IsTrue wants_memory ↔ IsOutOfMemory result }

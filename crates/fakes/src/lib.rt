@@ -1,4 +1,4 @@
-//! Readers and writers for tests, and what tests ask of errors.
+//! Readers and writers for tests, and tests of errors.
 #![tactic(auto)]
 
 mod failing;

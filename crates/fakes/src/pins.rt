@@ -1,4 +1,4 @@
-//! What the readers and writers for tests tell to contracts.
+//! What the readers and writers for tests expose to contracts.
 ghost use Rattle.std.specs.Prelude.{◌≡◌, ◌↔◌, ℕ, List, Some, None, true, false, if◌then◌else◌};
 ghost use Rattle.multihash.specs.Places.{AppendsAtEnd};
 

@@ -1,13 +1,13 @@
-//! Readers that cut, fail, keep their bytes to themselves or count what they are asked.
+//! Readers that return few bytes, fail, have unknown input, or count their calls.
 ghost use Rattle.std.specs.Prelude.{◌≡◌, ◌<◌, IsTrue, IsFalse, Some, None, if◌then◌else◌};
 
 use crate::failing::fault;
 use multihash::no_std_io::{Error, Read};
 
-// The text of what the readers fail with.
+// The text of the readers' error.
 const LINK_DOWN: &str = "link down";
 
-/// A telling reader over a slice, which gives at most `most` bytes a call.
+/// A reader of a slice with known input, which returns at most `most` bytes per call.
 #[derive(Drop)]
 pub struct Cuts<'a> {
     pub left: &'a [u8],
@@ -38,11 +38,11 @@ impl Read for Cuts<'_> {
     }
 }
 
-/// As `Cuts`, and it fails once, after `calls` calls that did not.
+/// Like `Cuts`, but it fails once, after `calls` successful calls.
 #[derive(Drop)]
 pub struct FailAt<'a> {
     pub cuts: Cuts<'a>,
-    /// How often it was asked.
+    /// The number of calls.
     pub asked: usize,
     calls: usize,
     wants_memory: bool,
@@ -64,7 +64,7 @@ impl<'a> FailAt<'a> {
         }
     }
 
-    /// Fails with want of memory.
+    /// Fails when out of memory.
     pub fn out_of_memory(cuts: Cuts<'a>, calls: usize) -> Self
         ensures { (result.cuts ≡ cuts.entry) × (result.asked ≡ 0) × (result.calls ≡ calls)
             × IsTrue result.wants_memory × IsFalse result.failed }
@@ -92,7 +92,7 @@ impl Read for FailAt<'_> {
     }
 }
 
-/// A reader that gives bytes and does not tell them.
+/// A reader whose input is not known.
 #[derive(Drop)]
 pub struct Silent<'a>(pub &'a [u8]);
 
@@ -106,8 +106,8 @@ impl Read for Silent<'_> {
     }
 }
 
-/// A telling reader over a slice, which counts what it is asked. It may fail once, after `calls` calls
-/// of either kind that did not.
+/// A reader of a slice with known input, which counts its calls. It may fail once, after `calls` successful
+/// calls of either kind.
 #[derive(Drop)]
 pub struct Counts<'a> {
     pub left: &'a [u8],
@@ -151,7 +151,7 @@ impl<'a> Counts<'a> {
         counts
     }
 
-    /// Fails with want of memory.
+    /// Fails when out of memory.
     pub fn out_of_memory(left: &'a [u8], calls: usize) -> Self
         ensures unasked { (result.single ≡ 0) × (result.others ≡ 0) × (result.whole ≡ 0) }
         ensures fault { (result.left.now ≡ left.now) × (result.calls ≡ calls) × IsTrue result.may_fail

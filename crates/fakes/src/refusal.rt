@@ -1,10 +1,10 @@
-//! Why a call was refused, for tests that look at an error.
+//! Kinds of errors, for tests.
 use multihash::{Error, no_std_io};
 
 /// The largest code of a multihash: 2^63 - 1.
 pub const LARGEST_CODE: u64 = 9223372036854775807;
 
-/// Why a call was refused: by the library, or by a reader or a writer, whose error may be passed on.
+/// The kind of an error: the library's, or one of a reader or a writer, which may be passed on.
 #[derive(Clone, Copy, Debug, PartialEq, Eq)]
 pub enum Refusal {
     InvalidSize(u64),
@@ -16,18 +16,18 @@ pub enum Refusal {
     UnexpectedEof,
     WriteZero,
     OutOfMemory,
-    /// A fault of the reader's or the writer's own, with its text.
+    /// An error of the reader or the writer itself, with its text.
     Other(&'static str),
 }
 
 impl Refusal {
-    /// What the readers of this crate fail with.
+    /// The error of this crate's readers.
     pub const LINK_DOWN: Refusal = Refusal::Other("link down");
 
-    /// What the writers of this crate fail with.
+    /// The error of this crate's writers.
     pub const DISK_GONE: Refusal = Refusal::Other("disk gone");
 
-    /// Which refusal an error is: the first of its tests that applies.
+    /// The kind of an error: the first test that applies.
     pub fn of(e: &Error) -> Option<Self> {
         if let Some(fault) = e.io() {
             return Refusal::of_fault(fault);
@@ -51,7 +51,7 @@ impl Refusal {
         }
     }
 
-    /// Which refusal an error of a reader or a writer is.
+    /// The kind of a reader's or a writer's error.
     pub fn of_fault(e: &no_std_io::Error) -> Option<Self> {
         if e.is_unexpected_eof() {
             Some(Refusal::UnexpectedEof)
@@ -67,12 +67,12 @@ impl Refusal {
     }
 }
 
-/// Whether a call was refused, and why.
+/// Whether a call failed with this kind of error.
 pub fn is_refused<T>(answer: &Result<T, Error>, why: Refusal) -> bool {
     matches!(answer, Err(e) if Refusal::of(e) == Some(why))
 }
 
-/// Whether a reader or a writer refused, and why.
+/// Whether a reader or a writer failed with this kind of error.
 pub fn is_failed<T>(answer: &Result<T, no_std_io::Error>, why: Refusal) -> bool {
     matches!(answer, Err(e) if Refusal::of_fault(e) == Some(why))
 }

@@ -1,4 +1,4 @@
-//! Writers that fill up, fail or count what they are asked.
+//! Writers that fill up, fail, or count their calls.
 ghost use Rattle.std.specs.Prelude.{◌≡◌, ◌<◌, ◌≤◌, ◌+◌, [], IsTrue, IsFalse, IfOk, true, false, vec_len, vec_capacity, if◌then◌else◌};
 ghost use Rattle.multihash.specs.Places.{AppendsAtEnd, AppendsAtEnd-none, AppendsAtEnd-joined};
 
@@ -6,15 +6,15 @@ use crate::failing::fault;
 use multihash::no_std_io::{Error, Write};
 use std::alloc::{AllocError, Global};
 
-// The text of what the writers fail with.
+// The text of the writers' error.
 const DISK_GONE: &str = "disk gone";
 
-/// A writer with `room` places left, which were reserved before, and which takes at most `most`
-/// bytes a call.
+/// A writer with a remaining capacity of `room` bytes, reserved before, which accepts at most `most` bytes
+/// per call.
 #[derive(Drop)]
 pub struct Drip {
     pub held: Vec<u8>,
-    /// How often it was asked.
+    /// The number of calls.
     pub asked: usize,
     room: usize,
     most: usize,
@@ -62,11 +62,11 @@ impl Write for Drip {
     }
 }
 
-/// As `Drip`, and it fails once, after `calls` calls that did not.
+/// Like `Drip`, but it fails once, after `calls` successful calls.
 #[derive(Drop)]
 pub struct FailWrite {
     pub drip: Drip,
-    /// How often it was asked.
+    /// The number of calls.
     pub asked: usize,
     calls: usize,
     wants_memory: bool,
@@ -88,7 +88,7 @@ impl FailWrite {
         }
     }
 
-    /// Fails with want of memory.
+    /// Fails when out of memory.
     pub fn out_of_memory(drip: Drip, calls: usize) -> Self
         ensures { (result.drip ≡ drip) × (result.asked ≡ 0) × (result.calls ≡ calls)
             × IsTrue result.wants_memory × IsFalse result.failed }
@@ -128,8 +128,8 @@ impl Write for FailWrite {
     }
 }
 
-/// A vector as a writer, which counts what it is asked. It may fail once, after `calls` calls of
-/// either kind that did not.
+/// A vector as a writer that counts its calls. It may fail once, after `calls` successful calls of either
+/// kind.
 #[derive(Drop)]
 pub struct CountsWrites {
     pub held: Vec<u8>,
@@ -170,7 +170,7 @@ impl CountsWrites {
         counts
     }
 
-    /// Fails with want of memory.
+    /// Fails when out of memory.
     pub fn out_of_memory(alloc: Global, calls: usize) -> Self
         ensures unasked { (result.parts ≡ 0) × (result.whole ≡ 0) }
         ensures fault { (result.held.items ≡ []) × (result.calls ≡ calls) × IsTrue result.may_fail

@@ -1,4 +1,4 @@
--- What a run of the program does to an input and to outputs that tell their bytes.
+-- What a run of the program does to an input and to outputs whose bytes are known.
 use Rattle.std.specs.Prelude.{◌≤◌, ℕ, ◌⊎◌, List, ◌++◌, length, codes, Option}
 use Rattle.std.specs.Io.KnownBytes.{Appends, Consumes, IsAtEnd}
 use Rattle.multihash.specs.Writing.{AppendsPart}
@@ -8,32 +8,32 @@ use Rattle.mh_show.specs.declared.show.ShowError.TheVariants.{NotHex, Refused, M
 use Rattle.mh_show.specs.Shown.{newline, ShowsAs, NamesNone, IsRefusedAs}
 use Rattle.mh_show.specs.ShowError.{show_error_text}
 
--- the text that a fault prints
+-- the text of an error
 abbrev pub run_error_text : RunError → List ℕ
 run_error_text Input = codes "input not read"
 run_error_text (NotShown e) = show_error_text e
 run_error_text Output = codes "output not written"
 
--- the line that tells a fault
+-- the line that reports an error
 abbrev pub error_line : List ℕ → List ℕ
 error_line text = codes "mh_show: " ++ text ++ newline
 
--- the program reads at most so many bytes
+-- the greatest number of bytes that the program reads
 abbrev pub most_input : ℕ
 most_input = 65536
 
--- the text is all that the input had
+-- the text is the whole input
 pub record ReadsWhole (old new : Option (List ℕ)) (text : List ℕ) : Type 0 where
   pub takes : Consumes old new text
   pub at_end : IsAtEnd new
   pub short : length text ≤ most_input
 
--- a proper beginning of the bytes was appended
+-- a strict prefix of the bytes was appended
 abbrev pub AppendsPartOf : Option (List ℕ) → Option (List ℕ) → List ℕ → Type 0
 AppendsPartOf old new bytes =
     AppendsPart (λ before part after. Appends before after part) old bytes new
 
--- the bytes were appended, or a part of them
+-- a prefix of the bytes was appended
 abbrev pub TriesToAppend : Option (List ℕ) → Option (List ℕ) → List ℕ → Type 0
 TriesToAppend old new bytes = Appends old new bytes ⊎ AppendsPartOf old new bytes
 
@@ -43,13 +43,13 @@ ShowsInput old_input new_input old_out new_out =
     (text : List ℕ) × (lines : List ℕ) × ReadsWhole old_input new_input text × ShowsAs text lines
     × Appends old_out new_out lines
 
--- the same, but only a part of the lines was written
+-- the same, but only a strict prefix of the lines was written
 abbrev pub ShowsPart : (old_input new_input old_out new_out : Option (List ℕ)) → Type 0
 ShowsPart old_input new_input old_out new_out =
     (text : List ℕ) × (lines : List ℕ) × ReadsWhole old_input new_input text × ShowsAs text lines
     × AppendsPartOf old_out new_out lines
 
--- what was so where that fault ended the run; `kept` says that the output is as it was
+-- what happened if that error ended the run; `kept` says that the output is unchanged
 abbrev pub EndsRun : (kept : Type 0) (old_input new_input old_out new_out : Option (List ℕ))
     → RunError → Type 0
 EndsRun kept old_input new_input old_out new_out Input = kept
@@ -61,7 +61,7 @@ EndsRun kept old_input new_input old_out new_out (NotShown Memory) = kept
 EndsRun kept old_input new_input old_out new_out Output =
     ShowsPart old_input new_input old_out new_out
 
--- the line of that fault was written, or that of want of memory, or a part of one
+-- the line of that error was written, or that of out of memory, or a prefix of one
 abbrev pub TellsFault : Option (List ℕ) → Option (List ℕ) → RunError → Type 0
 TellsFault old new e =
     TriesToAppend old new (error_line (run_error_text e))

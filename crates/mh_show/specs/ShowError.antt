@@ -17,7 +17,7 @@ show_error_text NotHex = codes "not hexadecimal"
 show_error_text (Refused refusal) = refusal_text refusal
 show_error_text Memory = codes "out of memory"
 
--- the error that a refusal of `hex` becomes
+-- the error that an error of `hex` becomes
 abbrev pub decoding_error : FromHexError → ShowError
 decoding_error (InvalidHexCharacter c index) = NotHex
 decoding_error OddLength = NotHex

@@ -1,5 +1,5 @@
-//! Reads one line of hexadecimal, and shows the multihash that it names: its code, its size and its
-//! digest, each on a line. No arguments are looked at.
+//! Reads one line of hexadecimal, and shows the multihash that it encodes: its code, its size and its digest,
+//! each on a line. Arguments are ignored.
 #![tactic(auto)]
 
 #[cfg(test)]

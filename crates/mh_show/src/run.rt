@@ -11,10 +11,10 @@ use std::alloc::{AllocError, Global};
 use std::fmt;
 use std::io::{Read, Write};
 
-// The most bytes that an input may have.
+// The greatest length of an input, in bytes.
 const MOST_INPUT: usize = 65536;
 
-// The fault that ended a run.
+// The error that ended a run.
 #[derive(Debug, Drop)]
 enum RunError {
     Input,
@@ -60,21 +60,21 @@ impl From<AllocError> for RunError {
     }
 }
 
-/// Reads the input to its end, and writes to `out` the three lines that [`show`] makes of it. The
-/// status is 0, or 1 where that failed: then `err` is written a line that says why, and `out` nothing,
-/// unless the fault was in writing to it.
+/// Reads the input to its end, and writes to `out` the three lines that [`show`] returns for it. The status
+/// is 0, or 1 after an error: then a line with the reason is written to `err`, and nothing to `out`, unless
+/// writing to it failed.
 ///
-/// The input is refused past 65536 bytes. Any error of a read or a write is a failure, also an
-/// interruption, and so is a write that takes no byte. The first fault is told. A fault in writing to
-/// `err` changes nothing, and where memory for its line is refused, the line says `out of memory`.
-/// Nothing is flushed, so the outputs are to keep no buffer, as the standard ones keep none.
+/// An input of more than 65536 bytes is rejected. Any error of a read or a write is a failure, also an
+/// interruption, and so is a write of zero bytes. The first error is reported. An error in writing to `err`
+/// changes nothing, and if there is no memory for its line, the line says `out of memory`. Nothing is
+/// flushed, so the outputs must have no buffer, as the standard ones have none.
 pub fn run<I: Read, O: Write, E: Write>(
     alloc: Global,
     input: &mut I,
     out: &mut O,
     err: &mut E,
 ) -> u8
-    // No contract can say when a reader or a writer fails, nor when memory is refused.
+    // No contract can say when a reader or a writer fails, nor when an allocation does.
     ensures status { result ≤ 1 }
     ensures shown { result ≡ 0 → ShowsInput (I.remaining input.old) (I.remaining input.new)
         (O.contents out.old) (O.contents out.new) }
@@ -104,7 +104,7 @@ fn show_input<I: Read, O: Write>(alloc: Global, input: &mut I, out: &mut O) -> R
     write_whole(out, lines.as_str().as_bytes())
 }
 
-// The whole input. Memory for the largest is asked first.
+// The whole input. Memory for the largest input is allocated first.
 fn read_input<I: Read>(alloc: Global, input: &mut I) -> Result<Vec<u8>, RunError>
     ensures ok { IfOk result (λ text.
         ReadsWhole (I.remaining input.old) (I.remaining input.new) text.items) }
@@ -117,8 +117,8 @@ fn read_input<I: Read>(alloc: Global, input: &mut I) -> Result<Vec<u8>, RunError
     Ok(text)
 }
 
-// Reads to the input's end, which has to come before the room is full. Each read but the last takes
-// some room.
+// Reads to the end of the input, which has to come before the buffer is full. Each read but the last fills
+// some of it.
 fn read_to_end<I: Read>(input: &mut I, room: &mut [u8]) -> Result<usize, RunError>
     ensures within { IfOk result (λ n. n < length room.new) }
     ensures read { IfOk result (λ n.
@@ -137,7 +137,7 @@ fn read_to_end<I: Read>(input: &mut I, room: &mut [u8]) -> Result<usize, RunErro
     Err(RunError::Input)
 }
 
-// Not the writer's own `write_all`, which asks again after an interruption.
+// Not the writer's own `write_all`, which retries after an interruption.
 fn write_whole<W: Write>(out: &mut W, bytes: &[u8]) -> Result<(), RunError>
     ensures ok { OnOk result (Appends (W.contents out.old) (W.contents out.new) bytes.now) }
     ensures part { OnErr result
@@ -154,7 +154,7 @@ fn write_whole<W: Write>(out: &mut W, bytes: &[u8]) -> Result<(), RunError>
     Ok(())
 }
 
-// Writes the line that says why, where it can.
+// Writes the line with the reason, if it can.
 fn tell<E: Write>(alloc: Global, err: &mut E, e: &RunError)
     ensures { TellsFault (E.contents err.old) (E.contents err.new) e.now }
 {

@@ -1,4 +1,4 @@
-//! A line of hexadecimal, as the three lines of its multihash.
+//! From a line of hexadecimal to three lines that show its multihash.
 ghost use Rattle.std.specs.Prelude.{◌≡◌, ℕ, ◌%◌, List, length, Some, IfOk, IfErr, string_bytes};
 ghost use Rattle.multihash.specs.Refusal.{Refusal};
 ghost use Rattle.multihash.specs.Answer.{pair_of};
@@ -13,18 +13,18 @@ use multihash::Multihash;
 use std::alloc::{AllocError, Global};
 use std::fmt;
 
-/// Why a text was not shown.
+/// The error of showing a text.
 #[derive(Debug, Drop)]
 pub enum ShowError {
     /// The line is not an even number of hexadecimal digits.
     NotHex,
     /// The line's bytes are not one multihash with a digest of at most 64 bytes.
     Refused(multihash::Error),
-    /// Memory was refused.
+    /// Out of memory.
     Memory,
 }
 
-/// Prints the text alone, whatever width or precision is asked.
+/// Prints the text alone, whatever the width and precision.
 impl fmt::Display for ShowError {
     ghost output = { λ e. Some (show_error_text e) };
 
@@ -74,19 +74,19 @@ impl From<AllocError> for ShowError {
     }
 }
 
-/// The three lines of the multihash that the text names in hexadecimal digits of either case: its
-/// code and its size in decimal, and its digest in lower-case digits, or `-` where that is empty.
-/// One newline at the text's end is not looked at.
+/// Returns the three lines of the multihash that the text encodes in hexadecimal digits of either case: its
+/// code and its size in decimal, and its digest in lowercase hexadecimal, or `-` if it is empty. One newline
+/// at the end of the text is ignored.
 ///
 /// # Errors
 ///
-/// - [`ShowError::NotHex`] where the line is not an even number of hexadecimal digits;
-/// - [`ShowError::Refused`] where its bytes are not one multihash of at most 64 bytes of digest;
-/// - [`ShowError::Memory`] where memory was refused, but never for a line of odd length.
+/// - [`ShowError::NotHex`] if the line is not an even number of hexadecimal digits.
+/// - [`ShowError::Refused`] if its bytes are not one multihash with a digest of at most 64 bytes.
+/// - [`ShowError::Memory`] if out of memory, but never for a line of odd length.
 pub fn show(alloc: Global, text: &[u8]) -> Result<String, ShowError>
     ensures ok { IfOk result (λ s. ShowsAs text.now (string_bytes s)) }
 
-    // Each refusal comes for its own reason only.
+    // Each error comes for its own reason alone.
     ensures not_hex { (line bytes : List ℕ) → result ≡ Err ShowError.NotHex → IsLine line text.now
         → ¬ (NamesBytes line bytes) }
     ensures refused { (e : Refusal) → result ≡ Err (ShowError.Refused e) → IsRefusedAs text.now e }
@@ -99,7 +99,7 @@ pub fn show(alloc: Global, text: &[u8]) -> Result<String, ShowError>
     Ok(lines)
 }
 
-// The text without a newline at its end, where it has one.
+// The text without the newline at its end, if there is one.
 fn line_of(text: &[u8]) -> &[u8]
     ensures { IsLine result.now text.now }
 {

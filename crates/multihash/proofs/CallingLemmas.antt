@@ -6,7 +6,7 @@ use Rattle.std.proofs.lemmas.List.{length-map}
 use Rattle.std.proofs.lemmas.Bool.{false≢true}
 use Rattle.std.proofs.lemmas.List.Elements.{All-nil, All-head, All-tail}
 use mathlib.Core.Bool.{beq}
-use Rattle.multihash.specs.Pair.{Pair, IsSame, FitsBuffer}
+use Rattle.multihash.specs.Pair.{Pair, FitsBuffer}
 use Rattle.multihash.specs.Encoding.{IsEncoding}
 use Rattle.multihash.specs.Joined.{AreJoined}
 use Rattle.multihash.specs.Varint.{insufficient, IsMarked, IsVarint}
@@ -28,7 +28,6 @@ use Rattle.multihash.proofs.Writings.PlacesLemmas.{fewer_places, full_of_faults}
 use Rattle.multihash.proofs.Readings.ReadingLemmas.{Takes-cut, Takes-told}
 use Rattle.multihash.proofs.Writings.FillingLemmas.{slice_writer_has_room}
 use Rattle.multihash.proofs.Writings.WritingLemmas.{length_of_not_nil}
-use Rattle.multihash.proofs.Values.PairLemmas.{IsSame-refl, IsSame-equal}
 use Rattle.multihash.proofs.Readings.VerdictLemmas.{verdict_unique, whole_verdict_unique}
 use Rattle.multihash.proofs.Varints.VarintLemmas.{number_no_fault, same_number}
 use Rattle.multihash.proofs.Forms.ScaleLemmas.{scale_split, scale_verdict_unique}
@@ -36,10 +35,10 @@ use Rattle.multihash.proofs.Forms.JoinedLemmas.{none_left, first_of, same_first,
 use Rattle.multihash.proofs.Writings.EncodingLemmas.{same_cut, encoding_same, encoding_unique}
 
 -- two pairs are the same exactly where their encodings are one list
-pub same_encoding : (p q : Pair) (x y : List ℕ) → IsEncoding p x → IsEncoding q y → IsSame p q ↔ (x ≡ y)
+pub same_encoding : (p q : Pair) (x y : List ℕ) → IsEncoding p x → IsEncoding q y → (p ≡ q) ↔ (x ≡ y)
 same_encoding p q x y e f = (
-  (λ same. encoding_same q x y (subst (λ r. IsEncoding r x) (IsSame-equal p q same) e) f),
-  λ same. subst (IsSame p) (encoding_unique p q x y [] [] e f (ap (λ (z : List ℕ). z ++ []) same)).0 (IsSame-refl p),
+  (λ same. encoding_same q x y (subst (λ r. IsEncoding r x) same e) f),
+  λ same. (encoding_unique p q x y [] [] e f (ap (λ (z : List ℕ). z ++ []) same)).0,
 )
 
 -- tests of equivalent facts answer alike
@@ -68,8 +67,8 @@ pub never_stops : (S count : ℕ) (e : Refusal) (n : ℕ) (new : Option (List �
     → AreJoined pairs bytes → All (FitsBuffer S) pairs → length pairs ≡ count
     → StopsAfterPairs S count e n n (Some (bytes ++ more)) new → ⊥
 never_stops S count e n new pairs bytes more joined fit many stop =
-    let (left, is, cut) = Takes-told (bytes ++ more) stop.good.bytes stop.middle stop.good.takes in
-    let next = next_joined S stop.pairs pairs stop.good.bytes bytes left more stop.good.joined joined fit (omega (arith, stop.fewer)) (sym cut) in
+    let (left, is, cut) = Takes-told (bytes ++ more) stop.taken.bytes stop.behind stop.taken.takes in
+    let next = next_joined S stop.pairs pairs stop.taken.bytes bytes left more stop.taken.joined joined fit (omega (arith, stop.fewer)) (sym cut) in
     let found = (rw is at stop.verdict) refl in
     subst (IsRefusal e) (verdict_unique S left found.0 (accepted next.0) found.1 next.1) found.2
 

@@ -1,5 +1,4 @@
 pub mod ByteOrderLemmas
-pub mod KeyLemmas
 pub mod OrderLemmas
 pub mod PairLemmas
 pub mod ValueLemmas

@@ -1,13 +1,13 @@
--- What a call answers where a verdict holds, and what the fields of a multihash mean.
+-- What a call returns if a verdict holds, and what the fields of a multihash mean.
 use Rattle.std.specs.Prelude.{◌≡◌, ◌<◌, ◌≤◌, ℕ, List, take, Result, MatchResult}
 use Rattle.multihash.specs.Varint.{varint_limit}
 use Rattle.multihash.specs.Pair.{Pair, digest_limit}
 use Rattle.multihash.specs.Verdict.{Verdict, accepted, invalid_size, invalid_code, faulty, unexpected_eof}
 use Rattle.multihash.specs.Refusal.{Refusal, IsEof, IsInvalidSize, IsInvalidCode, IsFaulty}
 
--- what a multihash holds: the code, the digest's size, and the buffer of S bytes that begins with the
--- digest. That the code is in range and the digest fits is part of the value itself, so that it is
--- known also of a value that nothing has read yet
+-- the fields of a multihash: the code, the digest's size, and the buffer of S bytes, which begins with
+-- the digest. That the code is in range and the digest fits is part of the value itself, so that it is
+-- known of a value that nothing has read yet
 pub record Fields (S : ℕ) : Type 0 where
   pub code : ℕ
   pub size : ℕ
@@ -19,7 +19,7 @@ pub record Fields (S : ℕ) : Type 0 where
 abbrev pub pair_of : {S : ℕ} → Fields S → Pair
 pair_of m = record { code = m.code; digest = take m.size m.buffer }
 
--- the refusal that a verdict asks for
+-- the error of a verdict
 abbrev pub IsRefusal : Refusal → Verdict → Type 0
 IsRefusal e (accepted p) = ⊥
 IsRefusal e (invalid_size size) = IsInvalidSize size e
@@ -27,6 +27,6 @@ IsRefusal e (invalid_code code) = IsInvalidCode code e
 IsRefusal e (faulty fault) = IsFaulty fault e
 IsRefusal e unexpected_eof = IsEof e
 
--- the outcome is the verdict's: its pair, or its refusal
+-- the result is the verdict's: its pair, or its error
 abbrev pub Answers : {S : ℕ} → Result (Fields S) Refusal → Verdict → Type 0
 Answers outcome v = MatchResult outcome (λ m. v ≡ accepted (pair_of m)) (λ e. IsRefusal e v)

@@ -1,4 +1,4 @@
--- What the comparisons of pairs compute, and what hashing feeds.
+-- Equality and order of pairs, as they are computed, and what hashing feeds.
 use Rattle.std.specs.Prelude.{◌==◌, ◌++◌, ℕ, Bool, List, length}
 use Rattle.std.specs.Cmp.Lexicographic.{pointwise, slice_cmp}
 use Rattle.std.specs.declared.cmp.Ordering.{Ordering}
@@ -12,7 +12,7 @@ equal_pairs =
     eq_of_both (on (λ p. p.code) ◌==◌)
     (eq_of_both (on (λ p. length p.digest) ◌==◌) (on (λ p. p.digest) (pointwise ◌==◌)))
 
--- by the code, then by the digest's length, then by its bytes
+-- by the code, then by the digest's length, then by the first byte that differs
 abbrev pub compare_pairs : Pair → Pair → Ordering
 compare_pairs =
     then_cmp (on (λ p. p.code) nat_cmp)

@@ -1,4 +1,4 @@
--- What a contract sees of an error.
+-- What a contract sees of an error of readers and writers.
 use Rattle.std.specs.Prelude.{◌≡◌, ℕ, List, ◌⊎◌, codes}
 use Rattle.multihash.specs.declared.no_std_io.error.Kind.{Kind}
 use Rattle.multihash.specs.declared.no_std_io.error.Kind.TheVariants.{
@@ -17,19 +17,19 @@ pub record Fault : Type 0 where
 abbrev pub IsUnexpectedEof : Fault → Type 0
 IsUnexpectedEof e = e.kind ≡ UnexpectedEof
 
--- a writer had no place left
+-- a writer was full
 abbrev pub IsWriteZero : Fault → Type 0
 IsWriteZero e = e.kind ≡ WriteZero
 
--- memory was refused
+-- an allocation failed
 abbrev pub IsOutOfMemory : Fault → Type 0
 IsOutOfMemory e = e.kind ≡ OutOfMemory
 
--- a fault with a text of the reader's or the writer's own
+-- an error of the reader or the writer itself, with its own text
 abbrev pub IsOther : Fault → Type 0
 IsOther e = e.kind ≡ Other
 
--- a fault that a reader or a writer may answer by itself
+-- an error that a reader or a writer may return by itself
 abbrev pub IsOwnFault : Fault → Type 0
 IsOwnFault e = IsOther e ⊎ IsOutOfMemory e
 

@@ -8,7 +8,6 @@ pub mod Head
 pub mod Joined
 pub mod Json
 pub mod Members
-pub mod Order
 pub mod Pair
 pub mod Places
 pub mod Reading

@@ -1,5 +1,9 @@
 -- The bytes that the members of a JSON array are.
-use Rattle.std.specs.Prelude.{ℕ, List, [], ◌∷◌, map, Option, Some, None, Bool, nat_lt, is_some, if◌then◌else◌}
+use Rattle.std.specs.Prelude.{◌≡◌, ◌<◌, ℕ, List, [], ◌∷◌, ◌++◌, map, Option, Some, None, Bool, nat_lt, is_some, if◌then◌else◌}
+use Rattle.std.proofs.Common.{sym, ap, ◌∙◌, append_assoc, append-nil}
+use Rattle.std.proofs.lemmas.List.{map-append}
+use Rattle.std.proofs.lemmas.List.Elements.{All-nil, All-append}
+use Rattle.multihash.specs.Bytes.{IsBytes}
 use Rattle.serde_json.specs.Data.{Num, unsigned, negative, float}
 use Rattle.serde_json.specs.Data.{Data, null, boolean, number, string, array, object}
 use Rattle.serde_json.specs.View.{view}
@@ -11,7 +15,7 @@ byte_of_number (unsigned n) = if nat_lt n 256 then Some n else None
 byte_of_number (negative _) = None
 byte_of_number (float _) = None
 
--- the byte that a value is, where it is one
+-- the byte that a value is, if it is one
 abbrev pub byte_of_data : Data → Option ℕ
 byte_of_data null = None
 byte_of_data (boolean _) = None
@@ -29,10 +33,28 @@ abbrev pub leading_bytes : List Data → List ℕ
 leading_bytes [] = []
 leading_bytes (d ∷ ds) = byte_then (byte_of_data d) (leading_bytes ds)
 
--- the same of members as the program holds them
+-- the same of members as the program has them
 abbrev pub member_bytes : List Value → List ℕ
 member_bytes members = leading_bytes (map view members)
 
 -- whether a member is a byte
 abbrev pub is_byte : Value → Bool
 is_byte member = is_some (byte_of_data (view member))
+
+-- the bytes follow the members, as whole numbers
+pub record AppendsMembers (old : List Value) (bytes : List ℕ) (new : List Value) : Type 0 where
+  pub behind : map view new ≡ map view old ++ map (λ n. number (unsigned n)) bytes
+  pub are_bytes : IsBytes bytes
+
+pub AppendsMembers-none : (a : List Value) → AppendsMembers a [] a
+AppendsMembers-none a =
+    record { behind = sym (append-nil (map view a)); are_bytes = All-nil (λ byte. byte < 256) }
+
+pub AppendsMembers-joined : (a b c : List Value) (x y : List ℕ)
+    → AppendsMembers a x b → AppendsMembers b y c → AppendsMembers a (x ++ y) c
+AppendsMembers-joined a b c x y first second = record {
+  behind = second.behind ∙ ap (λ l. l ++ map (λ n. number (unsigned n)) y) first.behind
+      ∙ append_assoc (map view a) (map (λ n. number (unsigned n)) x) (map (λ n. number (unsigned n)) y)
+      ∙ ap (λ l. map view a ++ l) (sym (map-append (λ n. number (unsigned n)) x y));
+  are_bytes = All-append (λ byte. byte < 256) x y first.are_bytes second.are_bytes;
+}

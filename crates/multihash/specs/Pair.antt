@@ -1,5 +1,5 @@
 -- What a multihash means: a code and a digest.
-use Rattle.std.specs.Prelude.{◌≡◌, ℕ, ◌<◌, ◌≤◌, min, List, length, take}
+use Rattle.std.specs.Prelude.{ℕ, ◌<◌, ◌≤◌, min, List, length, take}
 use Rattle.multihash.specs.Bytes.{IsBytes}
 use Rattle.multihash.specs.Varint.{varint_limit}
 
@@ -20,11 +20,6 @@ digest_limit S = min S 255
 -- the digest fits a buffer of this size
 abbrev pub FitsBuffer : ℕ → Pair → Type 0
 FitsBuffer S p = length p.digest ≤ digest_limit S
-
--- the two have one code and one digest
-pub record IsSame (p q : Pair) : Type 0 where
-  pub code : p.code ≡ q.code
-  pub digest : p.digest ≡ q.digest
 
 -- the same code, and at most this many of the digest's first bytes
 abbrev pub truncated : ℕ → Pair → Pair

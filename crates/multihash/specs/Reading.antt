@@ -1,19 +1,19 @@
--- What a call took from a reader, and how it failed.
+-- What a call consumed from a reader, and how it failed.
 use Rattle.std.specs.Prelude.{◌≡◌, ◌+◌, ◌<◌, ◌≤◌, ℕ, List, ◌⊎◌, length, take, drop, Option, Result, MatchResult, IfSome, IfOk, IfErr}
 use Rattle.std.specs.Prelude.{OnOk, OnErr, IsOk}
 use Rattle.std.specs.Io.KnownBytes.{prepend_known, IsAtEnd}
 use Rattle.multihash.specs.Fault.{Fault, IsUnexpectedEof, IsOwnFault}
 
--- a call took `taken`: the rest was `taken` and then what is the rest now. A reader that doesn't
--- tell its rest still doesn't tell it
+-- a call consumed `taken`: the rest was `taken` followed by the rest now. A reader whose input is not
+-- known stays so
 abbrev pub Takes : Option (List ℕ) → List ℕ → Option (List ℕ) → Type 0
 Takes old taken new = old ≡ prepend_known taken new
 
--- fewer than `n` bytes are left, where the reader tells
+-- fewer than `n` bytes remain, if the input is known
 abbrev pub HasFewerThan : ℕ → Option (List ℕ) → Type 0
 HasFewerThan n rest = IfSome rest (λ bytes. length bytes < n)
 
--- a call took fewer than `n` bytes
+-- a call consumed fewer than `n` bytes
 pub record TakesFewerThan (n : ℕ) (old new : Option (List ℕ)) : Type 0 where
   pub taken : List ℕ
   pub fewer : length taken < n
@@ -23,8 +23,8 @@ pub record TakesFewerThan (n : ℕ) (old new : Option (List ℕ)) : Type 0 where
 abbrev pub NoOtherError : {E : Type 0} → E → Type 0
 NoOtherError e = ⊥
 
--- an Ok left the count of failures alone; an Err is either a fault of the reader's own, counted once, or one
--- of the listed errors, not counted
+-- an Ok leaves the count of failures unchanged; an Err is either an error of the reader itself, counted
+-- once, or one of the listed errors, not counted
 abbrev pub CountsReader : {A E : Type 0} → (E → Type 0) → (E → Type 0) → ℕ → ℕ → Result A E → Type 0
 CountsReader IsOwn IsListed before after outcome = MatchResult outcome (λ _. after ≡ before)
     (λ e. ((after ≡ before + 1) × IsOwn e) ⊎ ((after ≡ before) × IsListed e))

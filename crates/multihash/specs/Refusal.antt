@@ -6,8 +6,8 @@ use Rattle.multihash.specs.declared.error.Kind.TheVariants.{Io, InvalidSize, Inv
 use Rattle.multihash.specs.Varint.{VarintFault, insufficient, overflow, not_minimal}
 use Rattle.multihash.specs.Fault.{Fault, IsUnexpectedEof, IsOutOfMemory, IsOwnFault, printed}
 
--- why a call was refused: a fault of a reader or a writer, a size, a code, a varint, or a JSON value that
--- is no byte array
+-- why a call failed: an error of a reader or a writer, a size, a code, a malformed varint, or a JSON
+-- value that is no byte array
 pub data Refusal : Type 0 where
   of_io : Fault → Refusal
   of_size : ℕ → Refusal
@@ -25,23 +25,23 @@ refusal_of Overflow = of_varint overflow
 refusal_of NotMinimal = of_varint not_minimal
 refusal_of NotBytes = of_not_bytes
 
--- the refusal passes on a fault of which P holds
+-- the refusal passes on an error of which P holds
 abbrev pub IsIo : (Fault → Type 0) → Refusal → Type 0
 IsIo P e = (fault : Fault) × (e ≡ of_io fault) × P fault
 
--- the input ended before a digest or a fixed part was whole
+-- the input ended before the end of a digest or of a fixed-size part
 abbrev pub IsEof : Refusal → Type 0
 IsEof e = IsIo IsUnexpectedEof e
 
--- memory was refused
+-- an allocation failed
 abbrev pub IsMemory : Refusal → Type 0
 IsMemory e = IsIo IsOutOfMemory e
 
--- a fault of the reader's own
+-- an error of the reader itself
 abbrev pub IsReaderFault : Refusal → Type 0
 IsReaderFault e = IsIo IsOwnFault e
 
--- a size that the buffer or the input contradicts
+-- a size that the capacity or the input contradicts
 abbrev pub IsInvalidSize : ℕ → Refusal → Type 0
 IsInvalidSize size e = e ≡ of_size size
 
@@ -49,7 +49,7 @@ IsInvalidSize size e = e ≡ of_size size
 abbrev pub IsInvalidCode : ℕ → Refusal → Type 0
 IsInvalidCode code e = e ≡ of_code code
 
--- no varint stands where one should
+-- a varint is malformed
 abbrev pub IsFaulty : VarintFault → Refusal → Type 0
 IsFaulty fault e = e ≡ of_varint fault
 
@@ -57,13 +57,13 @@ IsFaulty fault e = e ≡ of_varint fault
 abbrev pub IsNotBytes : Refusal → Type 0
 IsNotBytes e = e ≡ of_not_bytes
 
--- the text that a varint's fault prints
+-- the text of each kind of malformed varint
 abbrev pub varint_text : VarintFault → List ℕ
 varint_text insufficient = codes "not enough input bytes"
 varint_text overflow = codes "input bytes exceed maximum"
 varint_text not_minimal = codes "encoding is not minimal"
 
--- the text that a refusal prints
+-- the text of a refusal
 abbrev pub refusal_text : Refusal → List ℕ
 refusal_text (of_io fault) = printed fault
 refusal_text (of_size size) = codes "Invalid multihash size " ++ decimal size ++ codes "."

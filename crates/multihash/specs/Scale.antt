@@ -1,11 +1,11 @@
--- The SCALE form: the code as eight bytes, the digest's length as one, and the digest.
+-- The SCALE form: the code as eight bytes, the digest's length as one byte, and the digest.
 use Rattle.std.specs.Prelude.{◌≡◌, ℕ, ◌<◌, ◌≤◌, ◌⊎◌, List, ◌∷◌, ◌++◌, length}
 use Rattle.multihash.specs.Bytes.{IsBytes, place_value}
 use Rattle.multihash.specs.Pair.{Pair}
 use Rattle.multihash.specs.Varint.{varint_limit}
 use Rattle.multihash.specs.Verdict.{Verdict, accepted, invalid_size, invalid_code, faulty, unexpected_eof}
 
--- the bytes are the eight of the code, the lowest first
+-- the bytes are the eight bytes of the code, lowest first
 pub record IsScaleCode (code : ℕ) (bytes : List ℕ) : Type 0 where
   pub eight : length bytes ≡ 8
   pub are_bytes : IsBytes bytes

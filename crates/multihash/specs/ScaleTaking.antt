@@ -1,4 +1,4 @@
--- What decoding the SCALE form took from a reader, and how it refuses.
+-- What decoding the SCALE form consumed from a reader, and its errors.
 use Rattle.std.specs.Prelude.{◌≡◌, ◌<◌, ◌≤◌, ℕ, List, ◌⊎◌, length, Option}
 use Rattle.multihash.specs.Varint.{varint_limit}
 use Rattle.multihash.specs.Verdict.{invalid_size, invalid_code, unexpected_eof}
@@ -6,13 +6,13 @@ use Rattle.multihash.specs.Scale.{HasScaleVerdict}
 use Rattle.multihash.specs.Reading.{Takes}
 use Rattle.multihash.specs.Refusal.{Refusal, IsEof, IsReaderFault, IsInvalidSize, IsInvalidCode}
 
--- a refusal of decoding: a code or a size that is too large, or an input that ends early
+-- an error of decoding: a code or a size that is too large, or truncated input
 abbrev pub IsScaleRefusal : ℕ → Refusal → Type 0
 IsScaleRefusal S e = ((code : ℕ) × IsInvalidCode code e × (varint_limit ≤ code))
     ⊎ ((size : ℕ) × IsInvalidSize size e × (S < size)) ⊎ IsEof e
 
--- what decoding took where it was refused: eight bytes where the code is too large, nine where the size
--- is; else, after a failure of the reader too, bytes that by themselves end early
+-- what decoding consumed when it failed: eight bytes if the code is too large, nine if the size is;
+-- otherwise, also after a failure of the reader, bytes that by themselves are truncated
 pub record TakesAtScaleRefusal (S : ℕ) (e : Refusal) (old new : Option (List ℕ)) : Type 0 where
   pub taken : List ℕ
   pub takes : Takes old taken new

@@ -1,4 +1,4 @@
--- When an input settles its verdict, whatever follows.
+-- When an input settles its verdict.
 use Rattle.std.specs.Prelude.{ℕ, List, ◌++◌}
 use Rattle.multihash.specs.Bytes.{IsBytes, IsBeginning, IsProperBeginning}
 use Rattle.multihash.specs.Verdict.{Verdict, HasVerdict}

@@ -1,4 +1,4 @@
--- What reading and writing many multihashes took and appended.
+-- What reading and writing many multihashes consumed and appended.
 use Rattle.std.specs.Prelude.{◌≡◌, ◌<◌, ◌⊎◌, ℕ, List, length, Option, IfSome, All}
 use Rattle.multihash.specs.Pair.{Pair, FitsBuffer}
 use Rattle.multihash.specs.Verdict.{Verdict, HasVerdict, IsEarlyEnd}
@@ -8,28 +8,29 @@ use Rattle.multihash.specs.Refusal.{Refusal}
 use Rattle.multihash.specs.Answer.{IsRefusal}
 use Rattle.multihash.specs.Taking.{TakesAtRefusal, TakesShortestSettling, TakesNothingSettling}
 
--- the call took the encodings of these pairs, all of which fit, one after another
+-- the call consumed the encodings of these pairs, all of which fit, one after another
 pub record TakesPairs (S : ℕ) (pairs : List Pair) (old new : Option (List ℕ)) : Type 0 where
   pub bytes : List ℕ
   pub joined : AreJoined pairs bytes
   pub fit : All (FitsBuffer S) pairs
   pub takes : Takes old bytes new
 
--- the call took the encodings of fewer pairs than it was asked for, and then what the refused `read` took
+-- the call consumed the encodings of fewer pairs than requested, and then what the failed `read`
+-- consumed
 pub record StopsAfterPairs (S count : ℕ) (e : Refusal) (before after : ℕ)
     (old new : Option (List ℕ)) : Type 0 where
   pub pairs : List Pair
-  pub middle : Option (List ℕ)
+  pub behind : Option (List ℕ)
   pub fewer : length pairs < count
-  pub good : TakesPairs S pairs old middle
-  pub refused : TakesAtRefusal S e middle new
-  -- the refusal is that of the verdict on what follows the pairs
-  pub verdict : IfSome middle (λ left. after ≡ before →
+  pub taken : TakesPairs S pairs old behind
+  pub refused : TakesAtRefusal S e behind new
+  -- the error is that of the verdict on what follows the pairs
+  pub verdict : IfSome behind (λ left. after ≡ before →
       (v : Verdict) × HasVerdict S left v × IsRefusal e v)
-  -- where that is no early end, exactly the shortest beginning that settles it was taken; otherwise no
-  -- beginning of what was taken settles it
-  pub settled : IfSome middle (λ left. after ≡ before → (v : Verdict) → HasVerdict S left v →
+  -- if that is not incomplete, exactly the shortest prefix that settles it was consumed; otherwise no
+  -- prefix of what was consumed settles it
+  pub settled : IfSome behind (λ left. after ≡ before → (v : Verdict) → HasVerdict S left v →
       ¬ (IsEarlyEnd v) → TakesShortestSettling S left new)
-  pub unsettled : IfSome middle (λ left.
+  pub unsettled : IfSome behind (λ left.
       (before < after) ⊎ ((v : Verdict) × HasVerdict S left v × IsEarlyEnd v) →
       TakesNothingSettling S left new)

@@ -1,4 +1,4 @@
--- What the library's calls took from a reader.
+-- What the library's calls consumed from a reader.
 use Rattle.std.specs.Prelude.{◌<◌, ℕ, List, ◌⊎◌, Option, Some}
 use Rattle.multihash.specs.Bytes.{IsBeginning, IsProperBeginning}
 use Rattle.multihash.specs.Pair.{digest_limit}
@@ -9,29 +9,29 @@ use Rattle.std.specs.Io.KnownBytes.{IsAtEnd}
 use Rattle.multihash.specs.Reading.{Takes}
 use Rattle.multihash.specs.Refusal.{Refusal, IsEof, IsReaderFault, IsInvalidSize, IsFaulty}
 
--- an error that names a varint's fault
+-- an error that names why a varint is malformed
 abbrev pub IsVarintRefusal : Refusal → Type 0
 IsVarintRefusal e = (fault : VarintFault) × IsFaulty fault e
 
--- the error names the fault at the front of the input
+-- the error names why the varint at the front of the input is malformed
 abbrev pub IsFrontRefusal : List ℕ → Refusal → Type 0
 IsFrontRefusal input e = (fault : VarintFault) × IsFaulty fault e × HasFaultyFront fault input
 
--- no varint begins the input
+-- the varint at the front of the input is malformed
 abbrev pub BeginsNoVarint : List ℕ → Type 0
 BeginsNoVarint input = (fault : VarintFault) × HasFaultyFront fault input
 
--- a varint of the number was taken
+-- a varint of the number was consumed
 abbrev pub TakesVarint : ℕ → Option (List ℕ) → Option (List ℕ) → Type 0
 TakesVarint n old new = (bytes : List ℕ) × IsVarint n bytes × Takes old bytes new
 
--- a refusal of reading: a size that is too large, a varint's fault, or a digest that is cut
+-- an error of reading: a size that is too large, a malformed varint, or a truncated digest
 abbrev pub IsReadRefusal : ℕ → Refusal → Type 0
 IsReadRefusal S e =
     ((size : ℕ) × IsInvalidSize size e × (digest_limit S < size)) ⊎ IsVarintRefusal e ⊎ IsEof e
 
--- what reading a varint took where it was refused: bytes that show the fault at the last of them; after
--- a failure of the reader, bytes that are insufficient
+-- what reading a varint consumed when it failed: bytes of which the last shows why it is malformed;
+-- after a failure of the reader, bytes that are insufficient
 pub record TakesAtVarintRefusal (e : Refusal) (old new : Option (List ℕ)) : Type 0 where
   pub taken : List ℕ
   pub takes : Takes old taken new
@@ -40,23 +40,23 @@ pub record TakesAtVarintRefusal (e : Refusal) (old new : Option (List ℕ)) : Ty
   pub all : IsFaulty insufficient e → IsAtEnd new
   pub failed : IsReaderFault e → IsInsufficient taken
 
--- what `read` took where it was refused: all of an input that is insufficient, both varints at least of
--- a cut digest; after a failure of the reader, bytes whose own verdict is an early end
+-- what `read` consumed when it failed: all of an insufficient input, at least both varints of a
+-- truncated digest; after a failure of the reader, bytes whose own verdict is incomplete
 pub record TakesAtRefusal (S : ℕ) (e : Refusal) (old new : Option (List ℕ)) : Type 0 where
   pub taken : List ℕ
   pub takes : Takes old taken new
   pub insufficient : IsFaulty insufficient e →
       HasVerdict S taken (faulty insufficient) × IsAtEnd new
   pub eof : IsEof e → HasVerdict S taken unexpected_eof
-  pub fault : IsReaderFault e → (v : Verdict) × IsEarlyEnd v × HasVerdict S taken v
+  pub failed : IsReaderFault e → (v : Verdict) × IsEarlyEnd v × HasVerdict S taken v
 
--- a call took exactly the shortest beginning that settles the verdict
+-- a call consumed exactly the shortest prefix that settles the verdict
 pub record TakesShortestSettling (S : ℕ) (rest : List ℕ) (new : Option (List ℕ)) : Type 0 where
   pub front : List ℕ
   pub shortest : IsShortestSettling S rest front
   pub takes : Takes (Some rest) front new
 
--- no beginning of what a call took settles a verdict
+-- no prefix of what a call consumed settles a verdict
 pub record TakesNothingSettling (S : ℕ) (rest : List ℕ) (new : Option (List ℕ)) : Type 0 where
   pub taken : List ℕ
   pub takes : Takes (Some rest) taken new

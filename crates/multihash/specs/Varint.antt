@@ -1,20 +1,21 @@
--- Unsigned varints: a number's base-128 digits, the lowest first, one a byte.
+-- Unsigned varints: the base-128 digits of a number, lowest first, one a byte
+-- (https://github.com/multiformats/unsigned-varint).
 use Rattle.std.specs.Prelude.{◌≡◌, ℕ, ◌+◌, ◌<◌, ◌≤◌, ◌^◌, List, [], ◌∷◌, ◌++◌, length, map, All}
 use Rattle.multihash.specs.Bytes.{place_value}
 
--- a varint's number lies below this one
+-- the number of a varint is below this one
 abbrev pub varint_limit : ℕ
 varint_limit = 2 ^ 63
 
--- the most marked bytes of a varint
+-- the most continuation bytes of a varint
 abbrev pub max_marked : ℕ
 max_marked = 8
 
--- after that many marked bytes, the last byte lies below this one
+-- after that many continuation bytes the last byte is below this one
 abbrev pub last_byte_limit : ℕ
 last_byte_limit = 128
 
--- a byte that others follow has 128 added to its digit
+-- a continuation byte has 128 added to its digit
 abbrev pub IsMarked : ℕ → Type 0
 IsMarked byte = 128 ≤ byte
 
@@ -32,16 +33,16 @@ pub record IsVarint (n : ℕ) (bytes : List ℕ) : Type 0 where
   pub in_range : n < varint_limit
   pub spelled : bytes ≡ marked front ++ last ∷ []
 
--- the ways in which no varint begins an input
+-- the ways in which the varint at the front of an input is malformed
 pub data VarintFault : Type 0 where
   insufficient overflow not_minimal : VarintFault
 
--- the input ends inside or before a varint
+-- the input ends within or before a varint
 pub record IsInsufficient (input : List ℕ) : Type 0 where
   pub few : length input ≤ max_marked
   pub all_marked : All IsMarked input
 
--- after the most marked bytes comes one that is too large
+-- after the most continuation bytes comes a byte that is too large
 pub record IsOverflow (input : List ℕ) : Type 0 where
   pub front : List ℕ
   pub byte : ℕ
@@ -51,7 +52,7 @@ pub record IsOverflow (input : List ℕ) : Type 0 where
   pub too_large : last_byte_limit ≤ byte
   pub cut : input ≡ front ++ byte ∷ rest
 
--- a zero ends the marked bytes
+-- a zero byte follows the continuation bytes
 pub record IsNotMinimal (input : List ℕ) : Type 0 where
   pub front : List ℕ
   pub rest : List ℕ
@@ -60,7 +61,7 @@ pub record IsNotMinimal (input : List ℕ) : Type 0 where
   pub few : length front ≤ max_marked
   pub cut : input ≡ front ++ 0 ∷ rest
 
--- the input begins with that fault
+-- the varint at the front of the input is malformed in that way
 abbrev pub HasFaultyFront : VarintFault → List ℕ → Type 0
 HasFaultyFront insufficient input = IsInsufficient input
 HasFaultyFront overflow input = IsOverflow input

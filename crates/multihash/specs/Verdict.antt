@@ -1,10 +1,10 @@
--- What reading answers to an input, for a buffer of size S.
+-- The result of reading an input, for a capacity S.
 use Rattle.std.specs.Prelude.{◌≡◌, ℕ, ◌<◌, ◌≤◌, ◌⊎◌, ⊤, List, ◌++◌, length}
 use Rattle.multihash.specs.Pair.{Pair, FitsBuffer, digest_limit}
 use Rattle.multihash.specs.Varint.{IsVarint, VarintFault, insufficient, overflow, not_minimal, HasFaultyFront}
 use Rattle.multihash.specs.Encoding.{IsEncoding}
 
--- a pair, or a refusal
+-- a pair, or an error
 pub data Verdict : Type 0 where
   accepted : Pair → Verdict
   invalid_size : ℕ → Verdict
@@ -12,14 +12,14 @@ pub data Verdict : Type 0 where
   faulty : VarintFault → Verdict
   unexpected_eof : Verdict
 
--- an encoding of the pair begins the input, and the rest follows
+-- an encoding of the pair is at the front of the input, and the rest follows
 pub record BeginsWith (p : Pair) (input rest : List ℕ) : Type 0 where
   pub encoding : List ℕ
   pub encodes : IsEncoding p encoding
   pub cut : input ≡ encoding ++ rest
 
--- the input is a varint, a varint of the size, and the rest
-pub record HasSize (size : ℕ) (input rest : List ℕ) : Type 0 where
+-- some code's varint and the size's are at the front of the input, and the rest follows
+pub record BeginsWithSize (size : ℕ) (input rest : List ℕ) : Type 0 where
   pub code : ℕ
   pub code_bytes : List ℕ
   pub size_bytes : List ℕ
@@ -27,23 +27,23 @@ pub record HasSize (size : ℕ) (input rest : List ℕ) : Type 0 where
   pub is_size : IsVarint size size_bytes
   pub cut : input ≡ code_bytes ++ (size_bytes ++ rest)
 
--- a varint begins the input, and the rest follows
-pub record HasCode (input rest : List ℕ) : Type 0 where
+-- some code's varint is at the front of the input, and the rest follows
+pub record BeginsWithCode (input rest : List ℕ) : Type 0 where
   pub code : ℕ
   pub code_bytes : List ℕ
   pub is_code : IsVarint code code_bytes
   pub cut : input ≡ code_bytes ++ rest
 
--- the verdict on what begins with the input; no varint's number is out of range
+-- the verdict on the front of the input; the number of a varint is never out of range
 abbrev pub HasVerdict : ℕ → List ℕ → Verdict → Type 0
 HasVerdict S input (accepted p) = (rest : List ℕ) × BeginsWith p input rest × FitsBuffer S p
 HasVerdict S input (invalid_size size) =
-    (rest : List ℕ) × HasSize size input rest × (digest_limit S < size)
+    (rest : List ℕ) × BeginsWithSize size input rest × (digest_limit S < size)
 HasVerdict S input (invalid_code code) = ⊥
 HasVerdict S input (faulty fault) =
-    HasFaultyFront fault input ⊎ ((rest : List ℕ) × HasCode input rest × HasFaultyFront fault rest)
+    HasFaultyFront fault input ⊎ ((rest : List ℕ) × BeginsWithCode input rest × HasFaultyFront fault rest)
 HasVerdict S input unexpected_eof =
-    (size : ℕ) × (rest : List ℕ) × HasSize size input rest × (size ≤ digest_limit S)
+    (size : ℕ) × (rest : List ℕ) × BeginsWithSize size input rest × (size ≤ digest_limit S)
     × (length rest < size)
 
 -- more input can change the verdict
@@ -56,7 +56,7 @@ IsEarlyEnd (faulty overflow) = ⊥
 IsEarlyEnd (faulty not_minimal) = ⊥
 IsEarlyEnd unexpected_eof = ⊤
 
--- an encoding of a pair that fits begins the input, and so many bytes are left over
+-- an encoding of a pair that fits is at the front of the input, and that many bytes trail it
 abbrev pub HasLeftOver : ℕ → List ℕ → ℕ → Type 0
 HasLeftOver S input left =
     (p : Pair) × (rest : List ℕ) × BeginsWith p input rest × FitsBuffer S p

@@ -4,18 +4,18 @@ use Rattle.multihash.specs.Bytes.{place_value}
 use Rattle.multihash.specs.Varint.{IsMarked, IsVarint}
 use Rattle.multihash.specs.Taking.{BeginsNoVarint}
 
--- the word holds the first sixteen bytes, the lowest first, with zeros for those that are missing,
--- and that many are there
+-- the word is made of the first sixteen bytes, lowest first, with zeros for those that are missing, and
+-- that many are there
 pub record IsFrontWord (bytes : List ℕ) (word present : ℕ) : Type 0 where
   pub word_is : word ≡ place_value 256 (take 16 bytes)
   pub present_is : present ≡ min 16 (length bytes)
 
--- at least so many bytes begin the input, all marked
+-- at least that many bytes are at the front of the input, all of them continuation bytes
 pub record BeginsMarked (count : ℕ) (bytes : List ℕ) : Type 0 where
   pub enough : count ≤ length bytes
   pub all_marked : All IsMarked (take count bytes)
 
--- the number and the length of the varint that begins the bytes, or no length where none begins them
+-- the number and the length of the varint at the front of the bytes, or no length if it is malformed
 pub record IsFoundFront (bytes : List ℕ) (number taken : ℕ) : Type 0 where
   pub some : 0 < taken → IsVarint number (take taken bytes)
   pub within : taken ≤ length bytes

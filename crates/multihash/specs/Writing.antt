@@ -1,31 +1,31 @@
--- How a writer failed.
+-- What a writer's call appended, how it failed, and the laws of both calls.
 use Rattle.std.specs.Prelude.{◌≡◌, ◌+◌, ◌<◌, ◌≤◌, ℕ, Bool, IsTrue, List, [], ◌⊎◌, length, take, Result, MatchResult, IfOk, OnOk, OnErr, IsOk}
 use Rattle.multihash.specs.Fault.{Fault, IsWriteZero, IsOutOfMemory, IsOwnFault}
 use Rattle.multihash.specs.Bytes.{IsProperBeginning}
 
--- the writer counted one failure, or it allocates and was refused memory and counted none
+-- the writer counted one failure, or it allocates, is out of memory and counted none
 pub record IsWriterFault (allocates : Bool) (before after : ℕ) (e : Fault) : Type 0 where
   pub kind : IsOwnFault e
   pub cause : (after ≡ before + 1) ⊎ (IsTrue allocates × IsOutOfMemory e × (after ≡ before))
 
--- a proper beginning of `bytes` stands appended between the two states
+-- a strict prefix of `bytes` has been appended between the two states
 pub record AppendsPart {W : Type 0} (appended : W → List ℕ → W → Type 0) (old : W)
     (bytes : List ℕ) (new : W) : Type 0 where
   pub part : List ℕ
   pub proper : IsProperBeginning part bytes
   pub stands : appended old part new
 
--- as `IsWriterFault`, or no place was left and no failure was counted
+-- as `IsWriterFault`, or the writer was full and counted no failure
 abbrev pub IsWriterFaultOrFull : Bool → ℕ → ℕ → Type 0 → Fault → Type 0
 IsWriterFaultOrFull allocates before after is_full e =
     IsWriterFault allocates before after e ⊎ (IsWriteZero e × (after ≡ before) × is_full)
 
--- the error is itself a fault of which P holds
+-- an error of which P holds: so `CountsWriter` speaks of an error as of one that is passed on
 abbrev pub IsFault : (Fault → Type 0) → Fault → Type 0
 IsFault P fault = P fault
 
--- an Ok left the count of failures alone; an Err tells the writer's fault or that it is full, and only the
--- former is counted
+-- an Ok leaves the count of failures unchanged; an Err is the writer's own or says that it is full, and
+-- only the former is counted
 abbrev pub CountsWriter : {A E : Type 0} → ((Fault → Type 0) → E → Type 0) → Bool → ℕ → ℕ → Type 0
     → Result A E → Type 0
 CountsWriter Says allocates before after is_full outcome = MatchResult outcome (λ _. after ≡ before)

@@ -18,22 +18,23 @@ use crate::{Error, Multihash};
 use std::alloc::Global;
 
 impl<const S: usize> Multihash<S> {
-    /// Reads the multihash whose encoding comes next, and takes exactly that encoding: what follows it
-    /// in `r` stays unread. In a varint it asks for one byte at a time, and it judges the size before
-    /// it asks for the digest.
+    /// Reads the multihash whose encoding comes next. It consumes exactly that encoding and leaves what
+    /// follows in `r` unread. Within a varint it reads one byte at a time, and it checks the size
+    /// before it reads the digest.
     ///
     /// # Errors
     ///
-    /// - [`Error::is_insufficient`] where the input ends inside or before a varint; all of it was taken;
-    /// - [`Error::is_overflow`] where in a varint, after eight marked bytes, a byte is too large, and
-    ///   [`Error::is_not_minimal`] where a varint of more than one byte ends in a zero; the bytes up to the
-    ///   one that shows it were taken;
-    /// - [`Error::invalid_size`] with the digest's length, where that is more than `min(S, 255)`; both
-    ///   varints were taken, and nothing of the digest;
-    /// - [`Error::io`] with an unexpected end where the input ends inside the digest; both varints were
-    ///   taken, and how much of the digest depends on the reader's `read_exact`;
-    /// - [`Error::io`] with the reader's own error, where it failed; the bytes taken are by themselves
-    ///   an input that ends early.
+    /// - [`Error::is_insufficient`] if the input ends within or before a varint; all of it was
+    ///   consumed.
+    /// - [`Error::is_overflow`] if a varint has more than nine bytes (2^63 or more), and
+    ///   [`Error::is_not_minimal`] if a varint of more than one byte ends in a zero byte; the bytes up
+    ///   to the one that shows it were consumed.
+    /// - [`Error::invalid_size`] with the digest's length if it exceeds `min(S, 255)`; both varints
+    ///   were consumed, and none of the digest.
+    /// - [`Error::io`] with an unexpected end of file if the input ends within the digest; both varints
+    ///   were consumed. How much of the digest was consumed depends on the reader's `read_exact`.
+    /// - [`Error::io`] with the reader's own error if it failed; what was consumed is by itself a
+    ///   truncated input.
     #[inline(always)]
     pub fn read<R: Read>(r: &mut R) -> Result<Self, Error>
         ensures faults { CountsReader IsReaderFault (IsReadRefusal S)
@@ -45,8 +46,8 @@ impl<const S: usize> Multihash<S> {
         ensures fits { IfOk result (λ m. FitsBuffer S (pair_of m)) }
         ensures err { IfErr result (λ e. TakesAtRefusal S e (R.rest r.old) (R.rest r.new)) }
 
-        // Where the verdict is no early end, exactly the shortest beginning that settles it was taken;
-        // where it is one, or the reader failed, no beginning of what was taken settles.
+        // If the verdict is not incomplete, exactly the shortest prefix that settles it was consumed;
+        // if it is, or the reader failed, no prefix of what was consumed settles a verdict.
         ensures settled { IfSome (R.rest r.old) (λ rest. R.failures r.new ≡ R.failures r.old →
             (v : Verdict) → HasVerdict S rest v → ¬ (IsEarlyEnd v) →
             TakesShortestSettling S rest (R.rest r.new)) }
@@ -71,12 +72,12 @@ impl<const S: usize> Multihash<S> {
     ///
     /// # Errors
     ///
-    /// - [`Error::is_insufficient`] where the bytes end inside or before a varint;
-    /// - [`Error::is_overflow`] where in a varint, after eight marked bytes, a byte is too large;
-    /// - [`Error::is_not_minimal`] where a varint of more than one byte ends in a zero;
-    /// - [`Error::invalid_size`] with the digest's length, where that is more than `min(S, 255)`, and
-    ///   with the number of bytes left over, where some follow the digest;
-    /// - [`Error::io`] with an unexpected end where the bytes end inside the digest.
+    /// - [`Error::is_insufficient`] if the bytes end within or before a varint.
+    /// - [`Error::is_overflow`] if a varint has more than nine bytes (2^63 or more).
+    /// - [`Error::is_not_minimal`] if a varint of more than one byte ends in a zero byte.
+    /// - [`Error::invalid_size`] with the digest's length if it exceeds `min(S, 255)`, and with the
+    ///   number of trailing bytes if some follow the digest.
+    /// - [`Error::io`] with an unexpected end of file if the bytes end within the digest.
     pub fn from_bytes(bytes: &[u8]) -> Result<Self, Error>
         ensures { (v : Verdict) × HasWholeVerdict S bytes.now v × Answers result v }
     {
@@ -98,7 +99,7 @@ impl<const S: usize> Multihash<S> {
         if digest.len() > len {
             return Err(Error::from_size((digest.len() - len) as u64));
         }
-        // Where the compiler knows the length, the digest is moved as a whole, which is no call.
+        // With a length known at compile time the digest is moved as a whole, without a call.
         if let Some(whole) = whole::<32>(digest) {
             return Ok(Self::in_buffer(code, 32, Self::padded(whole)));
         }
@@ -115,12 +116,12 @@ impl<const S: usize> Multihash<S> {
     }
 
     /// Appends the encoding to `w`: the varint of the code, the varint of the digest's length, and the
-    /// digest, each by one call of `write_all`. It answers how many bytes that was.
+    /// digest, each by one call of `write_all`. Returns the number of bytes.
     ///
     /// # Errors
     ///
-    /// [`Error::io`] with what the writer answered: no place left, a fault of its own, or want of memory
-    /// where it allocates. A proper beginning of the encoding was appended then.
+    /// [`Error::io`] with the writer's error: it is full, it failed, or, if it allocates, it is out of
+    /// memory. A strict prefix of the encoding has been appended then.
     #[inline(always)]
     pub fn write<W: Write>(&self, w: &mut W) -> Result<usize, Error>
         ensures fits { FitsBuffer S (pair_of self.now) }
@@ -138,7 +139,7 @@ impl<const S: usize> Multihash<S> {
         Ok(code + size + digest.len())
     }
 
-    /// The length of the encoding in bytes, at most 266.
+    /// Returns the length of the encoding in bytes, at most 266.
     pub fn encoded_len(&self) -> usize
         ensures encoding { (bytes : List ℕ) × IsEncoding (pair_of self.now) bytes
             × (result ≡ length bytes) }
@@ -149,11 +150,11 @@ impl<const S: usize> Multihash<S> {
         code + size + usize::from(self.size())
     }
 
-    /// The encoding. Its room is asked for once, and nothing more is asked for then.
+    /// Returns the encoding, in a vector made by one allocation of exactly its length.
     ///
     /// # Errors
     ///
-    /// [`Error::io`] with want of memory.
+    /// [`Error::io`] if out of memory.
     pub fn to_bytes(&self, alloc: Global) -> Result<Vec<u8>, Error>
         ensures ok { IfOk result (λ v. IsEncoding (pair_of self.now) v.items) }
         ensures memory { IfErr result IsMemory }
@@ -178,17 +179,14 @@ impl<const S: usize> Multihash<S> {
         ensures eof { IfErr result (λ e. IsUnexpectedEof e → HasFewerThan size (R.rest r.old)) }
         ensures err { OnErr result (TakesFewerThan size (R.rest r.old) (R.rest r.new)) }
     {
-        // The usual size is read and moved as a whole, which is no call.
+        // A read whose size is known at compile time is no call.
         if size == 32 {
-            let mut whole = [0; 32];
-            r.read_exact(&mut whole)?;
-            buffer[..32].copy_from_slice(&whole);
-            return Ok(());
+            return r.read_exact(&mut buffer[..32]);
         }
         r.read_exact(&mut buffer[..usize::from(size)])
     }
 
-    // The size of a digest, where the buffer holds one so long.
+    // The size of a digest, if it fits the buffer.
     #[inline(always)]
     fn fitting_size(size: u64) -> Result<u8, Error>
         ensures ok { IfOk result (λ byte. byte ≡ size) }

@@ -1,12 +1,10 @@
-//! Comparing, and feeding a hasher.
+//! Comparison and hashing.
 ghost use Rattle.std.specs.Prelude.{◌≡◌, ◌≢◌, ◌==◌, ◌<◌, ◌≤◌, ◌+◌, ◌↔◌, length, take, drop, slice_index, Some, IsTrue};
 ghost use Rattle.std.proofs.Common.{rules};
 ghost use Rattle.std.specs.Cmp.{partial_order_from_own_ties};
 ghost use Rattle.std.specs.Cmp.Lexicographic.{pointwise, slice_cmp};
 ghost use Rattle.std.specs.Cmp.Rules.{comparing, hashing};
 ghost use Rattle.std.specs.Ordering.{nat_cmp, on, as_partial_cmp};
-ghost use Rattle.multihash.specs.Pair.{IsSame};
-ghost use Rattle.multihash.specs.Order.{Compares};
 ghost use Rattle.multihash.specs.Comparing.{equal_pairs, compare_pairs, hashed_pair};
 ghost use Rattle.multihash.specs.Answer.{pair_of};
 
@@ -16,14 +14,14 @@ use std::hash::{Hash, Hasher};
 use std::simd::prelude::*;
 
 impl<const S: usize> Multihash<S> {
-    /// Whether both have the same code and the same digest, whatever their buffers' sizes are.
+    /// Returns whether both have the same code and the same digest, whatever their capacities.
     pub fn same_as<const B: usize>(&self, other: &Multihash<B>) -> bool
-        ensures { IsTrue result ↔ IsSame (pair_of self.now) (pair_of other.now) }
+        ensures { IsTrue result ↔ (pair_of self.now ≡ pair_of other.now) }
     {
         self.size == other.size && self.code == other.code && self.same_digest(other)
     }
 
-    // Whether the digests are equal. From sixteen bytes on they are compared by words, which is no call.
+    // Whether the digests are equal. From sixteen bytes on they are compared by words, without a call.
     #[inline(always)]
     fn same_digest<const B: usize>(&self, other: &Multihash<B>) -> bool
         requires { length (pair_of self.now).digest ≡ length (pair_of other.now).digest }
@@ -38,8 +36,7 @@ impl<const S: usize> Multihash<S> {
         self.size == 0 || self.same_few(other)
     }
 
-    // The same of a few bytes. It takes the values, so that no address is computed for it on the way of
-    // the others.
+    // The same for fewer bytes. It takes the values, so that the other path computes no address for it.
     #[inline(never)]
     fn same_few<const B: usize>(&self, other: &Multihash<B>) -> bool
         ensures { result ≡ pointwise ◌==◌ (pair_of self.now).digest (pair_of other.now).digest }
@@ -47,7 +44,7 @@ impl<const S: usize> Multihash<S> {
         self.digest() == other.digest()
     }
 
-    // How the digests compare. From sixteen bytes on they are compared by words, which is no call.
+    // How the digests compare. From sixteen bytes on they are compared by words, without a call.
     #[inline(always)]
     fn order_of_digest(&self, other: &Self) -> Ordering
         requires { length (pair_of self.now).digest ≡ length (pair_of other.now).digest }
@@ -65,7 +62,7 @@ impl<const S: usize> Multihash<S> {
         self.order_of_few(other)
     }
 
-    // How a few bytes compare. As `same_few` it takes the values and stays a call.
+    // How fewer bytes compare. Like `same_few` it takes the values and stays a call.
     #[inline(never)]
     fn order_of_few(&self, other: &Self) -> Ordering
         ensures { result ≡ slice_cmp nat_cmp (pair_of self.now).digest (pair_of other.now).digest }
@@ -74,7 +71,7 @@ impl<const S: usize> Multihash<S> {
     }
 }
 
-/// Equal where the codes and the digests are; [`Multihash::same_as`] compares across buffer sizes.
+/// Equal if the codes and the digests are equal; [`Multihash::same_as`] compares across capacities.
 impl<const S: usize> PartialEq for Multihash<S> {
     ghost eq = { on pair_of equal_pairs };
 
@@ -82,7 +79,7 @@ impl<const S: usize> PartialEq for Multihash<S> {
 
     fn eq(&self, other: &Self) -> bool
         ensures computes { result ≡ equal_pairs (pair_of self.now) (pair_of other.now) }
-        ensures same { IsTrue result ↔ IsSame (pair_of self.now) (pair_of other.now) }
+        ensures same { IsTrue result ↔ (pair_of self.now ≡ pair_of other.now) }
     {
         self.code == other.code && self.size == other.size && self.same_digest(other)
     }
@@ -103,8 +100,7 @@ impl<const S: usize> Ord for Multihash<S> {
     ghost matches_eq = { Prim.search (comparing, rules) depth 9 };
 
     fn cmp(&self, other: &Self) -> Ordering
-        ensures computes { result ≡ compare_pairs (pair_of self.now) (pair_of other.now) }
-        ensures order { Compares (pair_of self.now) (pair_of other.now) result }
+        ensures { result ≡ compare_pairs (pair_of self.now) (pair_of other.now) }
     {
         if self.code != other.code {
             return self.code.cmp(&other.code);
@@ -127,7 +123,7 @@ impl<const S: usize> PartialOrd for Multihash<S> {
     }
 }
 
-/// Feeds what the pair of the code and the digest, `(u64, &[u8])`, feeds.
+/// Feeds the hasher what the pair of the code and the digest, `(u64, &[u8])`, feeds it.
 impl<const S: usize> Hash for Multihash<S> {
     ghost hash_input = { λ m. hashed_pair (pair_of m) };
 
@@ -150,7 +146,7 @@ fn same_ends(a: &[u8], b: &[u8]) -> bool
     same_word(a, b, 0) && same_word(a, b, a.len() - 16)
 }
 
-// Whether 32 bytes or more are equal, by pairs of words, of which the last may overlap the one before.
+// Whether 32 bytes or more are equal, by pairs of words; the last pair may overlap the one before.
 #[inline(always)]
 fn same_many(a: &[u8], b: &[u8]) -> bool
     requires least { 32 ≤ length a.now }
@@ -171,7 +167,8 @@ fn same_many(a: &[u8], b: &[u8]) -> bool
     same_pair(a, b, last)
 }
 
-// Whether the 32 bytes from there on are equal. Both words are looked at, so that one branch decides.
+// Whether the 32 bytes from that index on are equal. Both words are compared, so that one branch
+// decides.
 #[inline(always)]
 fn same_pair(a: &[u8], b: &[u8], at: usize) -> bool
     requires a { at + 32 ≤ length a.now }
@@ -181,7 +178,7 @@ fn same_pair(a: &[u8], b: &[u8], at: usize) -> bool
     same_word(a, b, at) & same_word(a, b, at + 16)
 }
 
-// Whether the sixteen bytes from there on are equal.
+// Whether the sixteen bytes from that index on are equal.
 #[inline(always)]
 fn same_word(a: &[u8], b: &[u8], at: usize) -> bool
     requires a { at + 16 ≤ length a.now }
@@ -191,7 +188,7 @@ fn same_word(a: &[u8], b: &[u8], at: usize) -> bool
     same_front(a, b, at) == 16
 }
 
-// How many of the sixteen bytes from there on are equal, up to the first that differs.
+// How many of the sixteen bytes from that index on are equal, up to the first that differs.
 #[inline(always)]
 fn same_front(a: &[u8], b: &[u8], at: usize) -> usize
     requires a { at + 16 ≤ length a.now }
@@ -225,7 +222,7 @@ fn order_of_ends(a: &[u8], b: &[u8]) -> Ordering
     order_of_word(a, b, a.len() - 16)
 }
 
-// How 32 bytes or more compare, by pairs of words, of which the last may overlap the one before.
+// How 32 bytes or more compare, by pairs of words; the last pair may overlap the one before.
 #[inline(always)]
 fn order_of_many(a: &[u8], b: &[u8]) -> Ordering
     requires least { 32 ≤ length a.now }
@@ -248,7 +245,7 @@ fn order_of_many(a: &[u8], b: &[u8]) -> Ordering
     order_of_pair(a, b, last)
 }
 
-// How the 32 bytes from there on compare.
+// How the 32 bytes from that index on compare.
 #[inline(always)]
 fn order_of_pair(a: &[u8], b: &[u8], at: usize) -> Ordering
     requires a { at + 32 ≤ length a.now }
@@ -262,7 +259,7 @@ fn order_of_pair(a: &[u8], b: &[u8], at: usize) -> Ordering
     order_of_word(a, b, at + 16)
 }
 
-// How the sixteen bytes from there on compare: as the first that differs does.
+// How the sixteen bytes from that index on compare: as the first that differs does.
 #[inline(always)]
 fn order_of_word(a: &[u8], b: &[u8], at: usize) -> Ordering
     requires a { at + 16 ≤ length a.now }

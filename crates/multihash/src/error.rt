@@ -23,11 +23,11 @@ enum Kind {
     NotBytes,
 }
 
-/// Why a call was refused.
+/// The error of this library's calls.
 ///
 /// Exactly one of seven kinds applies to an error: [`Error::invalid_size`], [`Error::invalid_code`] or
-/// [`Error::io`] is `Some`, or one of the four tests [`Error::is_insufficient`], [`Error::is_overflow`],
-/// [`Error::is_not_minimal`] and [`Error::is_not_bytes`] is true.
+/// [`Error::io`] is `Some`, or one of the four tests [`Error::is_insufficient`],
+/// [`Error::is_overflow`], [`Error::is_not_minimal`] and [`Error::is_not_bytes`] is true.
 #[derive(Debug, Drop)]
 pub struct Error {
     kind: Kind,
@@ -90,8 +90,8 @@ impl Error {
         }
     }
 
-    /// The size that was refused: that of a digest longer than `min(S, 255)` for a buffer of `S` bytes,
-    /// or the number of bytes, or of members of a JSON array, that were left over.
+    /// Returns the invalid size: the length of a digest longer than `min(S, 255)` for the capacity `S`,
+    /// or the number of trailing bytes, or of trailing members of a JSON array.
     pub fn invalid_size(&self) -> Option<u64>
         ensures { (size : ℕ) → ((result ≡ Some size) ↔ IsInvalidSize size self.now) }
     {
@@ -101,7 +101,7 @@ impl Error {
         }
     }
 
-    /// The code that was refused: one of 2^63 or more.
+    /// Returns the invalid code, which is 2^63 or more.
     pub fn invalid_code(&self) -> Option<u64>
         ensures { (code : ℕ) → ((result ≡ Some code) ↔ IsInvalidCode code self.now) }
     {
@@ -111,36 +111,37 @@ impl Error {
         }
     }
 
-    /// Whether the input ended inside or before a varint.
+    /// Returns whether the input ended within or before a varint.
     pub fn is_insufficient(&self) -> bool
         ensures { IsTrue result ↔ IsFaulty insufficient self.now }
     {
         matches!(self.kind, Kind::Insufficient)
     }
 
-    /// Whether in a varint, after eight marked bytes, a byte is too large: the number would be 2^63 or more.
+    /// Returns whether a varint has more than nine bytes: its number would be 2^63 or more.
     pub fn is_overflow(&self) -> bool
         ensures { IsTrue result ↔ IsFaulty overflow self.now }
     {
         matches!(self.kind, Kind::Overflow)
     }
 
-    /// Whether a varint of more than one byte ends in a zero.
+    /// Returns whether a varint of more than one byte ends in a zero byte.
     pub fn is_not_minimal(&self) -> bool
         ensures { IsTrue result ↔ IsFaulty not_minimal self.now }
     {
         matches!(self.kind, Kind::NotMinimal)
     }
 
-    /// Whether a JSON value is not an array of whole numbers from 0 to 255.
+    /// Returns whether a JSON value is not an array of whole numbers from 0 to 255.
     pub fn is_not_bytes(&self) -> bool
         ensures { IsTrue result ↔ IsNotBytes self.now }
     {
         matches!(self.kind, Kind::NotBytes)
     }
 
-    /// Whether more input could have changed the answer: the input ended inside or before a varint, or before
-    /// a digest or a fixed part was whole. It goes across the seven kinds: true of some errors of two of them.
+    /// Returns whether more input could have changed the result: the input ended within or before a
+    /// varint, or before the end of a digest or of a fixed-size part. It is true of some errors of two
+    /// of the seven kinds.
     pub fn is_early_end(&self) -> bool
         ensures ends { IsTrue result ↔ (IsFaulty insufficient self.now ⊎ IsEof self.now) }
         ensures early { (v : Verdict) → IsRefusal self.now v → (IsTrue result ↔ IsEarlyEnd v) }
@@ -152,8 +153,9 @@ impl Error {
         }
     }
 
-    /// The error of the reader or the writer, where it is one: the input's end before a digest or a
-    /// fixed part was whole, a writer with no place left, want of memory, or a fault of its own.
+    /// Returns the error of the reader or the writer, if it is one: the input ended before the end of a
+    /// digest or of a fixed-size part, a writer is full, out of memory, or a failure of the reader or
+    /// writer itself.
     pub fn io(&self) -> Option<&no_std_io::Error>
         ensures some { IfSome result (λ e. self.now ≡ of_io e.now) }
         ensures none { IfNone result ((fault : Fault) → self.now ≢ of_io fault) }
@@ -181,7 +183,7 @@ impl From<AllocError> for Error {
     }
 }
 
-/// So that `?` works behind `v.push(x)`. The value that was not stored is dropped.
+/// So that `?` works after `v.push(x)`. The value that was not stored is dropped.
 impl<T: Drop> From<AllocFailed<T>> for Error {
     ghost from_gives = { λ _ e. IsMemory e };
 
@@ -190,7 +192,7 @@ impl<T: Drop> From<AllocFailed<T>> for Error {
     }
 }
 
-// Not `write!`, whose contract says nothing where a width or a precision is asked.
+// Not `write!`, whose contract says nothing if a width or a precision is given.
 fn write_number_text<W: fmt::Write>(
     f: &mut fmt::Formatter<W>,
     front: &str,
@@ -207,7 +209,7 @@ fn write_number_text<W: fmt::Write>(
     f.write_str(".")
 }
 
-/// Prints the text alone, whatever width or precision is asked.
+/// Prints the text alone, whatever width or precision is given.
 impl fmt::Display for Error {
     ghost output = { λ e. Some (refusal_text e) };
 

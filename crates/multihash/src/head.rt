@@ -1,4 +1,4 @@
-//! What begins an encoding, for those who keep the digest where it is.
+//! The two varints at the front of an encoding, for callers that keep the digest where it is.
 ghost use Rattle.std.specs.Prelude.{ℕ, IfOk, IfErr};
 ghost use Rattle.multihash.specs.Varint.{VarintFault};
 ghost use Rattle.multihash.specs.Verdict.{faulty, HasVerdict};
@@ -8,25 +8,25 @@ ghost use Rattle.multihash.specs.Refusal.{IsFaulty};
 use crate::Error;
 use crate::varint::word;
 
-/// The code and the digest's length that begin an encoding.
+/// The code and the digest's length at the front of an encoding.
 #[derive(Clone, Copy, Debug, PartialEq, Eq)]
 pub struct Head {
-    /// The code, which names the hash function.
+    /// The code, which names the hash function: less than 2^63.
     pub code: u64,
-    /// The digest's length in bytes, also one that no buffer holds.
+    /// The digest's length in bytes as encoded; it may exceed 255.
     pub size: u64,
-    /// How many bytes both varints have: behind them the digest begins.
+    /// The number of bytes of both varints: the index at which the digest begins.
     pub len: usize,
 }
 
 impl Head {
-    /// Reads both varints that begin `bytes`, and looks at no digest: neither whether it is there, nor
-    /// whether it fits a buffer.
+    /// Reads the two varints at the front of `bytes`. It does not check whether the digest is there,
+    /// nor whether it fits a buffer.
     ///
     /// # Errors
     ///
-    /// [`Error::is_insufficient`], [`Error::is_overflow`] or [`Error::is_not_minimal`], where no two
-    /// varints begin the bytes; `from_bytes` and `read` refuse them so for every size of buffer.
+    /// [`Error::is_insufficient`], [`Error::is_overflow`] or [`Error::is_not_minimal`] if one of the
+    /// varints is malformed. `from_bytes` and `read` return the same error for every capacity.
     #[inline(always)]
     pub fn read_front(bytes: &[u8]) -> Result<Self, Error>
         ensures ok { IfOk result (λ h. HasHead h.code h.size h.len bytes.now) }

@@ -1,49 +1,46 @@
 //! The JSON form: the encoding's bytes as an array of whole numbers.
-ghost use Rattle.std.specs.Prelude.{◌≡◌, ◌<◌, ◌≤◌, ◌+◌, ℕ, List, ◌++◌, length, map, vec_len, vec_capacity, Some, IfOk, IfErr, IsErrAnd, MatchOption, true};
+ghost use Rattle.std.specs.Prelude.{◌≡◌, ◌<◌, ◌≤◌, ◌+◌, ℕ, List, ◌++◌, length, map, vec_len, vec_capacity, Some, IfOk, IfErr, OnOk, OnErr, IsOk, IsErrAnd, MatchOption, true};
 ghost use Rattle.std.specs.List.{list_all};
-ghost use Rattle.serde_json.specs.Data.{number, unsigned};
 ghost use Rattle.serde_json.specs.View.{view};
 ghost use Rattle.multihash.specs.Encoding.{IsEncoding};
 ghost use Rattle.multihash.specs.Json.{IsByteArray, IsJsonList};
-ghost use Rattle.multihash.specs.Members.{byte_of_data, member_bytes, is_byte};
+ghost use Rattle.multihash.specs.Members.{byte_of_data, member_bytes, is_byte, AppendsMembers, AppendsMembers-none, AppendsMembers-joined};
 ghost use Rattle.multihash.specs.Verdict.{Verdict, HasWholeVerdict};
+ghost use Rattle.multihash.specs.Fault.{IsOutOfMemory};
 ghost use Rattle.multihash.specs.Refusal.{IsNotBytes, IsMemory};
 ghost use Rattle.multihash.specs.Answer.{pair_of, Answers};
 
-use crate::no_std_io::{self, Read};
-use crate::{Error, Multihash, varint};
+use crate::no_std_io::{self, Read, Write};
+use crate::{Error, Multihash};
 use serde_json::Value;
 use std::alloc::Global;
 
 impl<const S: usize> Multihash<S> {
-    /// Makes the array of the encoding's bytes as whole numbers, in order: at most 266 members. Its room
-    /// is asked for once, and nothing more is asked for then.
+    /// Returns the array of the encoding's bytes as whole numbers, in order: at most 266 members, made
+    /// by one allocation.
     ///
     /// # Errors
     ///
-    /// [`Error::io`] with want of memory.
+    /// [`Error::io`] if out of memory.
     pub fn to_value(&self, alloc: Global) -> Result<Value, Error>
         ensures ok { IfOk result (λ value. IsJsonList (pair_of self.now) (view value)) }
         ensures array { IfOk result (λ value. (bytes : List ℕ) × IsByteArray (view value) bytes) }
         ensures memory { IfErr result IsMemory }
     {
-        let digest = self.digest();
-        let code = varint::encode(self.code());
-        let size = varint::encode(u64::from(self.size()));
-        let mut members = Vec::with_capacity(alloc, self.encoded_len())?;
-        push_members(&mut members, code.as_bytes());
-        push_members(&mut members, size.as_bytes());
-        push_members(&mut members, digest);
-        Ok(Value::Array(members))
+        let members = Vec::with_capacity(alloc, self.encoded_len())?;
+        let mut writer = MemberWriter { members };
+        self.write(&mut writer)?;
+        Ok(Value::Array(writer.members))
     }
 
-    /// Reads the multihash whose encoding an array of byte numbers lists, as [`Multihash::from_bytes`]
-    /// reads it from the bytes. All members are looked at first, and no memory is asked for.
+    /// Reads the multihash whose encoding is listed by an array of byte numbers, as
+    /// [`Multihash::from_bytes`] reads it from the bytes. It checks all members first, and allocates
+    /// nothing.
     ///
     /// # Errors
     ///
-    /// [`Error::is_not_bytes`] for any value but an array whose members are all held as whole numbers
-    /// from 0 to 255 (`1.0` is not); then those of [`Multihash::from_bytes`].
+    /// [`Error::is_not_bytes`] for any value other than an array whose members are all held as whole
+    /// numbers from 0 to 255 (`1.0` is not); otherwise the errors of [`Multihash::from_bytes`].
     pub fn from_value(value: &Value) -> Result<Self, Error>
         ensures verdict { (bytes : List ℕ) → IsByteArray (view value.now) bytes →
             (v : Verdict) × HasWholeVerdict S bytes v × Answers result v }
@@ -64,20 +61,55 @@ impl<const S: usize> Multihash<S> {
     }
 }
 
-// Appends bytes as members, in room that is there.
-fn push_members(members: &mut Vec<Value>, bytes: &[u8])
-    requires room { vec_len members.old + length bytes.now ≤ vec_capacity members.old }
-    ensures members { map view members.new.items
-        ≡ map view members.old.items ++ map (λ n. number (unsigned n)) bytes.now }
-    ensures len { vec_len members.new ≡ vec_len members.old + length bytes.now }
-    ensures capacity { vec_capacity members.new ≡ vec_capacity members.old }
-{
-    for byte in bytes {
-        members.push_reserved(Value::from(*byte));
+// Appends bytes as members of an array.
+#[derive(Drop)]
+struct MemberWriter {
+    members: Vec<Value>,
+}
+
+impl Write for MemberWriter {
+    const ALLOCATES: bool = true;
+
+    ghost allocates = { true };
+
+    ghost appended = { λ old bytes new. AppendsMembers old.members.items bytes new.members.items };
+
+    ghost full = { λ _. ⊥ };
+
+    ghost failures = { λ _. 0 };
+
+    ghost appends_nothing = { λ w. AppendsMembers-none w.members.items };
+
+    ghost appends_joined = { λ a b c x y first second.
+        AppendsMembers-joined a.members.items b.members.items c.members.items x y first second };
+
+    fn write(&mut self, buf: &[u8]) -> Result<usize, no_std_io::Error> {
+        push_members(&mut self.members, buf)?;
+        Ok(buf.len())
+    }
+
+    fn write_all(&mut self, buf: &[u8]) -> Result<(), no_std_io::Error> {
+        push_members(&mut self.members, buf)
     }
 }
 
-// The members of an array of byte numbers, or none where the value is another.
+// Appends bytes as members, or none of them if out of memory.
+fn push_members(members: &mut Vec<Value>, bytes: &[u8]) -> Result<(), no_std_io::Error>
+    ensures ok { OnOk result (AppendsMembers members.old.items bytes.now members.new.items) }
+    ensures empty { length bytes.now ≡ 0 → IsOk result }
+    ensures err { OnErr result (members.new.items ≡ members.old.items) }
+    ensures memory { IfErr result IsOutOfMemory }
+{
+    if members.reserve(bytes.len()).is_err() {
+        return Err(no_std_io::Error::out_of_memory());
+    }
+    for byte in bytes {
+        members.push_reserved(Value::from(*byte));
+    }
+    Ok(())
+}
+
+// The members of an array of byte numbers, or none for any other value.
 fn byte_members(value: &Value) -> Option<&[Value]>
     ensures { MatchOption result ((bytes : List ℕ) → ¬ (IsByteArray (view value.now) bytes))
         (λ members. (list_all is_byte members.now ≡ true)
@@ -91,20 +123,21 @@ fn byte_members(value: &Value) -> Option<&[Value]>
     }
 }
 
+// Whether each member is a byte.
 fn are_bytes(members: &[Value]) -> bool
     ensures { result ≡ list_all is_byte members.now }
 {
     members.iter().all(|member| byte_of(member).is_some())
 }
 
-// The byte that a member is, where it is a whole number from 0 to 255.
+// The byte that a member is, if it is a whole number from 0 to 255.
 fn byte_of(member: &Value) -> Option<u8>
     ensures { result ≡ byte_of_data (view member.now) }
 {
     u8::try_from(member.as_u64()?).ok()
 }
 
-// Reads the bytes that the members of an array of byte numbers are, one a call.
+// Reads the members of an array of byte numbers as bytes, one byte a call.
 #[derive(Drop)]
 struct ByteMembers<'a> {
     left: &'a [Value],
@@ -117,10 +150,13 @@ impl Read for ByteMembers<'_> {
     ghost failures = { λ _. 0 };
 
     fn read(&mut self, buf: &mut [u8]) -> Result<usize, no_std_io::Error> {
+        if buf.is_empty() {
+            return Ok(0);
+        }
         let Some((first, left)) = self.left.split_first() else {
             return Ok(0);
         };
-        let (Some(byte), false) = (byte_of(first), buf.is_empty()) else {
+        let Some(byte) = byte_of(first) else {
             return Ok(0);
         };
         buf[0] = byte;
@@ -139,7 +175,7 @@ impl Read for ByteMembers<'_> {
     }
 }
 
-// Puts the bytes that the members are into as many places.
+// Copies the members' bytes into the buffer, which has as many bytes.
 fn put_bytes(members: &[Value], places: &mut [u8])
     requires bytes { list_all is_byte members.now ≡ true }
     requires count { length members.now ≡ length places.old }
@@ -152,7 +188,7 @@ fn put_bytes(members: &[Value], places: &mut [u8])
     }
 }
 
-// The reader tells its members' bytes, and never fails.
+// A reader with known input, its members' bytes, which never fails.
 fn array_reader(m: &ByteMembers)
     ensures rest { ⟦<ByteMembers<'static> as Read>⟧.rest m.now
         ≡ Some (member_bytes m.now.left.now) }

@@ -1,8 +1,8 @@
-//! Laws of the definitions alone: each function does nothing, and its contract is a law.
+//! Laws of the definitions: each function does nothing, and its contract is a law.
 ghost use Rattle.std.specs.Prelude.{◌≡◌, ℕ, ◌<◌, ◌≤◌, ◌↔◌, List, ◌++◌, length};
 ghost use Rattle.serde_json.specs.Data.{Data};
 ghost use Rattle.multihash.specs.Bytes.{IsBytes, IsBeginning, ExactlyOne};
-ghost use Rattle.multihash.specs.Pair.{Pair, IsSame, FitsBuffer};
+ghost use Rattle.multihash.specs.Pair.{Pair, FitsBuffer};
 ghost use Rattle.multihash.specs.Varint.{varint_limit};
 ghost use Rattle.multihash.specs.Encoding.{IsEncoding};
 ghost use Rattle.multihash.specs.Verdict.{Verdict, accepted, HasVerdict, HasWholeVerdict, IsEarlyEnd};
@@ -11,20 +11,20 @@ ghost use Rattle.multihash.specs.Joined.{AreJoined};
 ghost use Rattle.multihash.specs.Scale.{IsScale, HasScaleVerdict};
 ghost use Rattle.multihash.specs.Json.{IsJsonList, IsByteArray};
 
-/// Each input has one verdict, for each size of buffer.
+/// Each input has exactly one verdict for each capacity.
 pub fn one_verdict()
     ensures read { (S : ℕ) (input : List ℕ) → IsBytes input → ExactlyOne (HasVerdict S input) }
     ensures whole { (S : ℕ) (input : List ℕ) → IsBytes input →
         ExactlyOne (HasWholeVerdict S input) }
 
-    // No two verdicts hold of one list, of bytes or not.
+    // No two verdicts hold of one list, whether or not its numbers are bytes.
     ensures read_unique { (S : ℕ) (input : List ℕ) (v w : Verdict) →
         HasVerdict S input v → HasVerdict S input w → v ≡ w }
     ensures whole_unique { (S : ℕ) (input : List ℕ) (v w : Verdict) →
         HasWholeVerdict S input v → HasWholeVerdict S input w → v ≡ w }
 {}
 
-/// An input settles its verdict unless that is an early end.
+/// An input settles its verdict unless it is incomplete.
 pub fn settles()
     ensures exactly { (S : ℕ) (input : List ℕ) (v : Verdict) → HasVerdict S input v →
         (Settles S input ↔ ¬ (IsEarlyEnd v)) }
@@ -34,7 +34,7 @@ pub fn settles()
         IsEarlyEnd v → (front : List ℕ) → IsBeginning front input → ¬ (Settles S front) }
 {}
 
-/// A pair has one encoding, which tells the pair, whatever follows.
+/// A pair has one encoding, and an encoding one pair, whatever follows it.
 pub fn prefix_free()
     ensures one_encoding { (p : Pair) → p.code < varint_limit → length p.digest ≤ 255 →
         ExactlyOne (IsEncoding p) }
@@ -50,7 +50,7 @@ pub fn prefix_free()
         v ≡ accepted p }
 {}
 
-/// A stream of encodings is taken apart in one way only.
+/// A stream of encodings can be split in one way only.
 pub fn split_unique()
     ensures as_many { (ps qs : List Pair) (a b r s : List ℕ) → length ps ≡ length qs →
         AreJoined ps a → AreJoined qs b → a ++ r ≡ b ++ s → (ps ≡ qs) × (r ≡ s) }
@@ -59,7 +59,7 @@ pub fn split_unique()
     ensures one_stream { (ps : List Pair) (a b : List ℕ) → AreJoined ps a → AreJoined ps b → a ≡ b }
 {}
 
-/// A pair has one SCALE form, which tells the pair, whatever follows, and each input has one verdict.
+/// A pair has one SCALE form, and a form one pair, whatever follows it; each input has one verdict.
 pub fn scale_unique()
     ensures one_form { (p : Pair) → p.code < varint_limit → length p.digest ≤ 255 →
         ExactlyOne (IsScale p) }
@@ -76,10 +76,10 @@ pub fn scale_unique()
         FitsBuffer S p → HasScaleVerdict S (bytes ++ rest) (accepted p) }
 {}
 
-/// A JSON list tells its pair.
+/// A JSON list has one pair.
 pub fn json_unique()
     ensures same { (p q : Pair) (value : Data) →
-        IsJsonList p value → IsJsonList q value → IsSame p q }
+        IsJsonList p value → IsJsonList q value → p ≡ q }
     ensures byte_array { (p : Pair) (value : Data) → IsBytes p.digest → IsJsonList p value →
         ExactlyOne (IsByteArray value) }
     ensures own_verdict { (S : ℕ) (p : Pair) (value : Data) (bytes : List ℕ) → IsJsonList p value →

@@ -1,8 +1,9 @@
 //! Self-describing hashes: a code and a digest in one value, in three forms.
 //!
-//! A [`Multihash`] is a code, which names the hash function, and a digest, which is what the
-//! function gave. Its bytes are the minimal varint of the code, the minimal varint of the digest's
-//! length, and the digest. The library does no hashing, and knows no table of codes.
+//! A [`Multihash`] is the code of a hash function and a digest, that function's output. Its encoding is
+//! the minimal varint of the code, the minimal varint of the digest's length, and the digest
+//! (<https://github.com/multiformats/multihash>). The library does no hashing and has no table of
+//! codes.
 #![tactic(auto)]
 
 mod binary;
@@ -22,8 +23,8 @@ pub use crate::error::Error;
 pub use crate::head::Head;
 pub use crate::multihash::Multihash;
 
-/// What the library's calls answer.
+/// The result of this library's calls.
 pub type Result<T> = std::result::Result<T, Error>;
 
-/// The same type under its older name.
-pub type MultihashGeneric<const S: usize> = Multihash<S>;
+/// The same type under its former name.
+pub type MultihashGeneric<const N: usize> = Multihash<N>;

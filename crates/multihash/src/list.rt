@@ -13,12 +13,11 @@ use crate::no_std_io::{Read, Write};
 use crate::{Error, Multihash};
 use std::alloc::Global;
 
-/// Appends the encodings of the items to `w`, in order. An empty list asks the
-/// writer nothing.
+/// Appends the encodings of the items to `w`, in order. For an empty list the writer is not called.
 ///
 /// # Errors
 ///
-/// What [`Multihash::write`] answers. A proper beginning of the joined encodings was appended then.
+/// Those of [`Multihash::write`]. A strict prefix of the concatenated encodings has been appended then.
 pub fn write_list<const S: usize, W: Write>(items: &[Multihash<S>], w: &mut W) -> Result<(), Error>
     ensures ok { OnOk result ((bytes : List ℕ) × AreJoined (map pair_of items.now) bytes
         × W.appended w.old bytes w.new) }
@@ -37,15 +36,15 @@ pub fn write_list<const S: usize, W: Write>(items: &[Multihash<S>], w: &mut W) -
     Ok(())
 }
 
-/// Reads `count` multihashes, one after another; what follows them in `r` stays unread. Their places
-/// are asked for before anything is read, `count` of them and no more. A `count` of 0 takes nothing, and
-/// needs no memory.
+/// Reads `count` multihashes, one after another, and leaves what follows them in `r` unread. Capacity
+/// for exactly `count` values is allocated before anything is read. For a `count` of 0 nothing is read
+/// or allocated.
 ///
 /// # Errors
 ///
-/// [`Error::io`] with want of memory, and nothing taken, where the places were refused, which too many
-/// always are; else the first refusal of [`Multihash::read`]. The encodings before it were taken then,
-/// and what the refused call took; the values that were read are dropped.
+/// [`Error::io`] if out of memory, before anything was read (always, for a `count` too large to
+/// allocate); otherwise the first error of [`Multihash::read`]. The encodings before it were consumed
+/// then, and what the failed call consumed; the values that were read are dropped.
 pub fn read_list<const S: usize, R: Read>(
     alloc: Global,
     r: &mut R,

@@ -1,4 +1,4 @@
-//! The type, and its parts.
+//! The type and its parts.
 ghost use Rattle.std.specs.Prelude.{◌≡◌, ◌<◌, ◌≤◌, ◌-◌, ◌+◌, ◌⊎◌, ◌↔◌, [], ◌++◌, length, take, drop, replicate, Some, IfSome, IfOk, IfErr, IsErr};
 ghost use Rattle.multihash.specs.Bytes.{IsBytes};
 ghost use Rattle.multihash.specs.Varint.{varint_limit};
@@ -10,23 +10,24 @@ use crate::{Error, varint};
 use std::fmt;
 use std::marker::Model;
 
-/// A code below 2^63 and a digest of at most `min(S, 255)` bytes, kept in a buffer of `S` bytes.
+/// A code below 2^63 and a digest of at most `min(S, 255)` bytes, in a buffer of the capacity `S`.
 ///
 /// ```
 /// use multihash::Multihash;
 ///
 /// const SHA3_256: u64 = 0x16;
-/// let multihash = Multihash::<32>::wrap(SHA3_256, &digest)?;
-/// assert_eq!(rt; multihash.code(), SHA3_256);
-/// assert_eq!(rt; multihash.size(), 32);
+/// let digest = [7; 32];
+/// let multihash = Multihash::<64>::wrap(SHA3_256, &digest)?;
+/// assert!(multihash.code() == SHA3_256 && multihash.size() == 32);
 /// ```
 #[derive(Clone, Copy)]
 pub struct Multihash<const S: usize> {
-    pub(crate) code: u64,
+    // First, so that in a `Result` no part of it straddles two words.
     pub(crate) digest: [u8; S],
-    // A machine word, so that no padding is copied behind the digest.
+    pub(crate) code: u64,
+    // A machine word, so that no padding after the digest is copied.
     pub(crate) size: usize,
-    // Facts that the fields keep, and that contracts know of every value.
+    // Invariants of the fields, which contracts know of every value.
     ghost in_range: { code < varint_limit },
     ghost fits: { size ≤ digest_limit S },
 }
@@ -54,12 +55,12 @@ impl<const S: usize> Model for Multihash<S> {
 }
 
 impl<const S: usize> Multihash<S> {
-    /// Makes a multihash of a code and a digest.
+    /// Returns the multihash of a code and a digest.
     ///
     /// # Errors
     ///
-    /// - [`Error::invalid_size`] with the digest's length, where that is more than `min(S, 255)`;
-    /// - else [`Error::invalid_code`] with the code, where that is 2^63 or more.
+    /// - [`Error::invalid_size`] with the digest's length if it exceeds `min(S, 255)`.
+    /// - Otherwise [`Error::invalid_code`] with the code if it is 2^63 or more.
     pub fn wrap(code: u64, input_digest: &[u8]) -> Result<Self, Error>
         ensures ok { IfOk result (λ m.
             pair_of m ≡ record { code = code; digest = input_digest.now }) }
@@ -77,7 +78,7 @@ impl<const S: usize> Multihash<S> {
         if code > varint::MAX {
             return Err(Error::from_code(code));
         }
-        // Where the compiler knows the length, no array is filled on the stack and then moved.
+        // With a length known at compile time no array is filled on the stack and then moved.
         if let Some(whole) = whole::<32>(input_digest) {
             return Ok(Self::in_buffer(code, 32, Self::padded(whole)));
         }
@@ -89,7 +90,7 @@ impl<const S: usize> Multihash<S> {
         Ok(Self::in_buffer(code, len, digest))
     }
 
-    /// The code, which names the hash function: less than 2^63.
+    /// Returns the code, which names the hash function: less than 2^63.
     pub fn code(&self) -> u64
         ensures code { result ≡ (pair_of self.now).code }
         ensures in_range { result < varint_limit }
@@ -97,7 +98,7 @@ impl<const S: usize> Multihash<S> {
         self.code
     }
 
-    /// The digest's length in bytes.
+    /// Returns the digest's length in bytes, at most `min(S, 255)`.
     pub fn size(&self) -> u8
         ensures size { result ≡ length (pair_of self.now).digest }
         ensures fits { FitsBuffer S (pair_of self.now) }
@@ -105,7 +106,7 @@ impl<const S: usize> Multihash<S> {
         self.size as u8
     }
 
-    /// The digest.
+    /// Returns the digest.
     pub fn digest(&self) -> &[u8]
         ensures digest { result.now ≡ (pair_of self.now).digest }
         ensures fits { FitsBuffer S (pair_of self.now) }
@@ -114,9 +115,10 @@ impl<const S: usize> Multihash<S> {
         front(&self.digest, self.size)
     }
 
-    /// The same code and the first `size` bytes of the digest, or the whole of it where it is shorter.
+    /// Returns the same code with the first `size` bytes of the digest, or with all of it if it is
+    /// shorter.
     ///
-    /// Whether so short a digest is safe is for the caller to say.
+    /// The caller must decide whether the shorter digest is still secure.
     pub fn truncate(&self, size: u8) -> Self
         ensures { pair_of result ≡ truncated size (pair_of self.now) }
     {
@@ -126,49 +128,62 @@ impl<const S: usize> Multihash<S> {
         truncated
     }
 
-    /// The same code and digest in a buffer of `R` bytes.
+    /// Returns the same code and digest in a buffer of the capacity `R`.
     ///
     /// # Errors
     ///
-    /// [`Error::invalid_size`] with the digest's length, where that is more than `R`.
+    /// [`Error::invalid_size`] with the digest's length if it exceeds `R`.
     pub fn resize<const R: usize>(&self) -> Result<Multihash<R>, Error>
         ensures ok { IfOk result (λ m. pair_of m ≡ pair_of self.now) }
         ensures exactly { IsErr result ↔ (R < length (pair_of self.now).digest) }
         ensures err { IfErr result (IsInvalidSize (length (pair_of self.now).digest)) }
     {
-        // Which buffer is the larger one is known to the compiler, and the digest's size is not: so the
-        // smaller one is copied whole.
-        if S <= R {
-            return Ok(Multihash {
-                code: self.code,
-                digest: Multihash::<R>::padded(&self.digest),
-                size: self.size,
-            });
+        if self.size > R {
+            return Err(Error::from_size(self.size as u64));
         }
-        match self.digest.first_chunk::<R>() {
-            Some(front) if self.size <= R => {
-                Ok(Multihash::in_buffer(self.code, self.size, *front))
-            }
-            _ => Err(Error::from_size(self.size as u64)),
+        // With a length known at compile time no array is filled on the stack and then moved.
+        let digest = self.digest();
+        if let Some(whole) = whole::<32>(digest) {
+            return Ok(Multihash::of_whole(self.code, whole));
         }
+        if let Some(whole) = whole::<S>(digest) {
+            return Ok(Multihash::of_whole(self.code, whole));
+        }
+        let mut resized = Multihash {
+            code: self.code,
+            digest: [0; R],
+            size: self.size,
+        };
+        copy_to_front(digest, &mut resized.digest[..]);
+        Ok(resized)
     }
 
-    /// The code, an array of `S` bytes that begins with the digest and is zero after it, and the
-    /// digest's length.
+    /// Returns the code, an array of `S` bytes that begins with the digest and is zero after it, and
+    /// the digest's length in bytes.
     pub fn into_inner(self) -> (u64, [u8; S], u8)
         ensures code { result.0 ≡ (pair_of self.entry).code }
         ensures array { result.1 ≡ (pair_of self.entry).digest
             ++ replicate (S - length (pair_of self.entry).digest) 0 }
         ensures size { result.2 ≡ length (pair_of self.entry).digest }
     {
-        // Taken apart, so that what is copied is the buffer alone.
-        let (digest, size) = (self.digest, self.size);
-        let mut array = [0; S];
-        array[..size].copy_from_slice(&digest[..size]);
-        (self.code, array, size as u8)
+        (self.code, Self::array_of(self.digest()), self.size())
     }
 
-    // The multihash of a buffer that begins with the digest.
+    // The multihash of a digest whose length is known at compile time.
+    #[inline(always)]
+    fn of_whole<const N: usize>(code: u64, digest: &[u8; N]) -> Self
+        requires in_range { code < varint_limit }
+        requires fits { N ≤ digest_limit S }
+        ensures { pair_of result ≡ record { code = code; digest = digest.now } }
+    {
+        Multihash {
+            code,
+            digest: Self::padded(digest),
+            size: N,
+        }
+    }
+
+    // The multihash of a buffer whose first bytes are the digest.
     #[inline(always)]
     pub(crate) fn in_buffer(code: u64, size: usize, buffer: [u8; S]) -> Self
         requires in_range { code < varint_limit }
@@ -182,7 +197,7 @@ impl<const S: usize> Multihash<S> {
         }
     }
 
-    // Puts a digest of the size that is set already, in place of zeros.
+    // Writes a digest of the size that is already set over zeros.
     #[inline(always)]
     pub(crate) fn fill(&mut self, digest: &[u8])
         requires { self.old.size ≡ length digest.now }
@@ -191,7 +206,24 @@ impl<const S: usize> Multihash<S> {
         self.digest[..digest.len()].copy_from_slice(digest);
     }
 
-    // The bytes, and zeros behind them.
+    // The digest followed by zeros. As in `wrap`, a length known at compile time is moved as a whole.
+    #[inline(always)]
+    fn array_of(digest: &[u8]) -> [u8; S]
+        requires { length digest.now ≤ S }
+        ensures { result ≡ digest.now ++ replicate (S - length digest.now) 0 }
+    {
+        if let Some(whole) = whole::<32>(digest) {
+            return Self::padded(whole);
+        }
+        if let Some(whole) = whole::<S>(digest) {
+            return *whole;
+        }
+        let mut array = [0; S];
+        copy_to_front(digest, &mut array[..]);
+        array
+    }
+
+    // The bytes followed by zeros.
     #[inline(always)]
     pub(crate) fn padded<const N: usize>(bytes: &[u8; N]) -> [u8; S]
         requires { N ≤ S }
@@ -203,7 +235,7 @@ impl<const S: usize> Multihash<S> {
     }
 }
 
-/// Prints the code, the size and the digest, and nothing of the buffer behind it.
+/// Prints the code, the size and the digest, and no byte after the digest.
 impl<const S: usize> fmt::Debug for Multihash<S> {
     fn fmt<W: fmt::Write>(&self, f: &mut fmt::Formatter<W>) -> fmt::Result {
         f.debug_struct("Multihash")
@@ -227,7 +259,7 @@ impl<const S: usize> Default for Multihash<S> {
     }
 }
 
-// The first `len` bytes. Of a slice that is handed in it is known that its numbers are bytes.
+// The first `len` bytes. Of a slice that is passed in, the numbers are known to be bytes.
 #[inline(always)]
 fn front(bytes: &[u8], len: usize) -> &[u8]
     requires { len ≤ length bytes.now }
@@ -237,7 +269,7 @@ fn front(bytes: &[u8], len: usize) -> &[u8]
     &bytes[..len]
 }
 
-// The bytes, where they are `N`.
+// The bytes as an array, if their number is `N`.
 #[inline(always)]
 pub(crate) fn whole<const N: usize>(bytes: &[u8]) -> Option<&[u8; N]>
     ensures some { IfSome result (λ all. (all.now ≡ bytes.now) × (length bytes.now ≡ N)) }
@@ -249,7 +281,7 @@ pub(crate) fn whole<const N: usize>(bytes: &[u8]) -> Option<&[u8; N]>
     }
 }
 
-// Puts the digest at the front of the places. 16 to 64 bytes are copied as words, which is no call.
+// Copies the digest to the front of the buffer. 16 to 64 bytes are copied as words, without a call.
 #[inline(always)]
 fn copy_to_front(digest: &[u8], places: &mut [u8])
     requires { length digest.now ≤ length places.old }
@@ -267,7 +299,7 @@ fn copy_to_front(digest: &[u8], places: &mut [u8])
     }
 }
 
-// Copies the first `N` bytes and the last `N`, which may overlap: together these are all.
+// Copies the first `N` bytes and the last `N`, which may overlap and together are all.
 #[inline(always)]
 fn copy_ends<const N: usize>(digest: &[u8], places: &mut [u8])
     requires least { N ≤ length digest.now }
@@ -279,7 +311,7 @@ fn copy_ends<const N: usize>(digest: &[u8], places: &mut [u8])
     copy_word::<N>(digest, digest.len() - N, places);
 }
 
-// Copies the `N` bytes from there on to the same places.
+// Copies the `N` bytes from that index on to the same index.
 #[inline(always)]
 fn copy_word<const N: usize>(digest: &[u8], at: usize, places: &mut [u8])
     requires inside { at + N ≤ length digest.now }

@@ -1,4 +1,4 @@
-//! The SCALE form: the code as eight bytes, the lowest first; the digest's length as one; the digest.
+//! The SCALE form: the code as eight bytes, lowest first; the digest's length as one byte; the digest.
 ghost use Rattle.std.specs.Prelude.{◌≡◌, ◌+◌, ◌<◌, ℕ, List, length, IfSome, IfOk, IfErr, OnErr};
 ghost use Rattle.multihash.specs.Scale.{IsScale, HasScaleVerdict};
 ghost use Rattle.multihash.specs.Verdict.{Verdict};
@@ -13,12 +13,12 @@ use crate::no_std_io::{self, Read, Write};
 use crate::{Error, Multihash, varint};
 
 impl<const S: usize> Multihash<S> {
-    /// Appends the SCALE form to `w`: nine bytes and the digest. It answers how many bytes that was.
+    /// Appends the SCALE form to `w`: nine bytes and the digest. Returns the number of bytes.
     ///
     /// # Errors
     ///
-    /// [`Error::io`] with what the writer answered: no place left, a fault of its own, or want of memory
-    /// where it allocates. A proper beginning of the form was appended then.
+    /// [`Error::io`] with the writer's error: it is full, it failed, or, if it allocates, it is out of
+    /// memory. A strict prefix of the form has been appended then.
     pub fn scale_encode<W: Write>(&self, w: &mut W) -> Result<usize, Error>
         ensures ok { IfOk result (λ n. (bytes : List ℕ) × IsScale (pair_of self.now) bytes
             × (n ≡ length bytes) × W.appended w.old bytes w.new) }
@@ -37,17 +37,19 @@ impl<const S: usize> Multihash<S> {
         Ok(9 + digest.len())
     }
 
-    /// Reads the multihash whose SCALE form comes next, and takes exactly that form: what follows the
-    /// digest in `r` stays unread.
+    /// Reads the multihash whose SCALE form comes next. It consumes exactly that form and leaves what
+    /// follows in `r` unread.
     ///
     /// # Errors
     ///
-    /// - [`Error::invalid_code`] with the code, where it is 2^63 or more; exactly eight bytes were taken;
-    /// - [`Error::invalid_size`] with the size, where it exceeds `S`; exactly nine bytes were taken;
-    /// - [`Error::io`] with an unexpected end, where the input ends before the size or inside the digest;
-    /// - [`Error::io`] with the reader's own error, where it failed.
+    /// - [`Error::invalid_code`] with the code if it is 2^63 or more; exactly eight bytes were
+    ///   consumed.
+    /// - [`Error::invalid_size`] with the size if it exceeds `S`; exactly nine bytes were consumed.
+    /// - [`Error::io`] with an unexpected end of file if the input ends before the size or within the
+    ///   digest.
+    /// - [`Error::io`] with the reader's own error if it failed.
     ///
-    /// In the last two cases the bytes taken are by themselves an input that ends early.
+    /// In the last two cases what was consumed is by itself a truncated input.
     pub fn scale_decode<R: Read>(r: &mut R) -> Result<Self, Error>
         ensures faults { CountsReader IsReaderFault (IsScaleRefusal S)
             (R.failures r.old) (R.failures r.new) result }

@@ -1,8 +1,8 @@
 //! Minimal unsigned varints of multiformats, for numbers below 2^63: at most nine bytes.
 //!
-//! A number's base-128 digits, the lowest first, one a byte, and 128 added to each byte but the last
-//! (<https://github.com/multiformats/unsigned-varint>). It is the form in which multiformats spells its numbers:
-//! the code and the length of a multihash, the version and the codec of a content identifier, the parts of a
+//! The base-128 digits of a number, lowest first, one a byte, with 128 added to each byte but the last
+//! (<https://github.com/multiformats/unsigned-varint>). Multiformats encodes its numbers so: the code
+//! and the length of a multihash, the version and the codec of a content identifier, the parts of a
 //! multiaddr.
 ghost use Rattle.std.specs.Prelude.{◌≡◌, ◌<◌, ◌≤◌, ◌+◌, ◌^◌, ◌⊎◌, ℕ, List, [], ◌∷◌, length, take, Some, IfSome, MatchOption, IfOk, IfErr, OnErr};
 ghost use Rattle.multihash.specs.Varint.{IsVarint, IsMarked, varint_limit, max_marked};
@@ -17,12 +17,11 @@ pub(crate) mod word;
 
 use crate::Error;
 use crate::no_std_io::{self, Read, Write};
-use std::marker::Model;
 
-// The most marked bytes of a varint.
+// The most continuation bytes of a varint.
 const MAX_MARKED: usize = 8;
 
-// After that many marked bytes, the last byte lies below this one.
+// After that many continuation bytes the last byte is below this one.
 const LAST_BYTE_LIMIT: u8 = 128;
 
 /// The largest number that has a varint: 2^63 - 1.
@@ -31,61 +30,30 @@ pub const MAX: u64 = (((LAST_BYTE_LIMIT as u128) << (7 * MAX_MARKED)) - 1) as u6
 // The most bytes of a varint.
 const MAX_LEN: usize = MAX_MARKED + 1;
 
-// The room for a varint: at least as many bytes as one has, and a whole machine word's copy.
+// The size of a buffer for a varint: at least its length, and as many bytes as are zeroed at once.
 const ROOM: usize = 16;
 
-// The varint of a number.
-#[derive(Drop)]
-pub(crate) struct Encoded {
-    bytes: [u8; ROOM],
-    len: usize,
-}
-
-impl Model for Encoded {
-    ghost use Rattle.std.specs.Prelude.{ℕ, List, ◌≤◌, take, length};
-
-    ghost Value = { List ℕ };
-
-    ghost view = { λ e. take e.len e.bytes };
-
-    ghost invariant = { λ e. e.len ≤ length e.bytes };
-}
-
-impl Encoded {
-    // The bytes, one to nine of them.
-    #[inline(always)]
-    pub(crate) fn as_bytes(&self) -> &[u8]
-        ensures { result.now ≡ self.now }
-    {
-        &self.bytes[..self.len]
-    }
-}
-
-// Makes the varint of a number.
-pub(crate) fn encode(n: u64) -> Encoded
+// Writes the varint of a number to the front of the buffer, and returns its bytes, one to nine.
+fn encode(n: u64, places: &mut [u8; ROOM]) -> &[u8]
     requires { n < varint_limit }
-    ensures { IsVarint n result }
+    ensures { IsVarint n result.now }
 {
-    let mut bytes = [0; ROOM];
     let mut len = 0;
     let mut rest = n;
     while rest >= 128 {
-        bytes[len] = (rest & 0x7f) as u8 | 0x80;
+        places[len] = (rest & 0x7f) as u8 | 0x80;
         len += 1;
         rest >>= 7;
     }
-    bytes[len] = rest as u8;
-    Encoded {
-        bytes,
-        len: len + 1,
-    }
+    places[len] = rest as u8;
+    &places[..len + 1]
 }
 
-/// How many bytes the varint of a number has: one to nine.
+/// Returns the length of a number's varint in bytes: one to nine.
 ///
 /// # Errors
 ///
-/// [`Error::invalid_code`] with the number, where it is 2^63 or more.
+/// [`Error::invalid_code`] with the number if it is 2^63 or more.
 pub fn len(n: u64) -> Result<usize, Error>
     ensures ok { IfOk result (λ len. (bytes : List ℕ) × IsVarint n bytes × (len ≡ length bytes)) }
     ensures err { IfErr result (λ e. IsInvalidCode n e × (varint_limit ≤ n)) }
@@ -96,13 +64,14 @@ pub fn len(n: u64) -> Result<usize, Error>
     Ok(len_in_range(n))
 }
 
-/// Appends the varint of a number to `w` by one call of `write_all`, and answers how many bytes it has: one to nine.
+/// Appends the varint of a number to `w` by one call of `write_all`. Returns its length in bytes: one
+/// to nine.
 ///
 /// # Errors
 ///
-/// - [`Error::invalid_code`] with the number, where it is 2^63 or more; the writer was not called;
-/// - [`Error::io`] with what the writer answered: no place left, a fault of its own, or want of memory where it
-///   allocates. A proper beginning of the varint was appended then.
+/// - [`Error::invalid_code`] with the number if it is 2^63 or more; the writer was not called.
+/// - [`Error::io`] with the writer's error: it is full, it failed, or, if it allocates, it is out of
+///   memory. A strict prefix of the varint has been appended then.
 // Where this is a call, an encoding in C takes some 80 instructions more.
 #[inline(always)]
 pub fn write<W: Write>(n: u64, w: &mut W) -> Result<usize, Error>
@@ -118,11 +87,12 @@ pub fn write<W: Write>(n: u64, w: &mut W) -> Result<usize, Error>
     Ok(write_in_range(n, w)?)
 }
 
-/// Reads the varint that begins the bytes, and answers its number and how many bytes it has: one to nine.
+/// Reads the varint at the front of the bytes. Returns its number and its length in bytes: one to nine.
 ///
 /// # Errors
 ///
-/// [`Error::is_insufficient`], [`Error::is_overflow`] or [`Error::is_not_minimal`], the fault that begins the bytes.
+/// [`Error::is_insufficient`], [`Error::is_overflow`] or [`Error::is_not_minimal`] if the varint is
+/// malformed.
 pub fn read_front(bytes: &[u8]) -> Result<(u64, usize), Error>
     ensures ok { IfOk result (λ found. IsVarint found.0 (take found.1 bytes.now)
         × (found.1 ≤ length bytes.now)) }
@@ -179,9 +149,10 @@ pub(crate) fn write_in_range<W: Write>(n: u64, w: &mut W) -> Result<usize, no_st
         w.write_all(&three_bytes(n))?;
         return Ok(3);
     }
-    let varint = encode(n);
-    w.write_all(varint.as_bytes())?;
-    Ok(varint.as_bytes().len())
+    let mut places = [0; ROOM];
+    let varint = encode(n, &mut places);
+    w.write_all(varint)?;
+    Ok(varint.len())
 }
 
 // The varint of a number that has two bytes.
@@ -209,14 +180,16 @@ fn three_bytes(n: u64) -> [u8; 3]
     ]
 }
 
-/// Reads the varint that comes next, one byte at a time, and answers its number: what follows it in `r` stays unread.
+/// Reads the varint that comes next, one byte at a time. Returns its number and leaves what follows in
+/// `r` unread.
 ///
 /// # Errors
 ///
-/// - [`Error::is_insufficient`] where the input ends inside or before the varint; all of it was taken;
-/// - [`Error::is_overflow`] where after eight marked bytes a byte is too large, and [`Error::is_not_minimal`] where
-///   a varint of more than one byte ends in a zero; the bytes up to the one that shows it were taken;
-/// - [`Error::io`] with the reader's own error, where it failed; the bytes taken are a varint that is cut.
+/// - [`Error::is_insufficient`] if the input ends within or before the varint; all of it was consumed.
+/// - [`Error::is_overflow`] if the varint has more than nine bytes (2^63 or more), and
+///   [`Error::is_not_minimal`] if a varint of more than one byte ends in a zero byte; the bytes up to
+///   the one that shows it were consumed.
+/// - [`Error::io`] with the reader's own error if it failed; what was consumed is a truncated varint.
 // In line, so that the usual varint, of one byte, is no call.
 #[inline(always)]
 pub fn read<R: Read>(r: &mut R) -> Result<u64, Error>
@@ -236,7 +209,7 @@ pub fn read<R: Read>(r: &mut R) -> Result<u64, Error>
     read_behind(r, first)
 }
 
-// As `read`, of a varint whose first byte was taken, and is marked.
+// As `read`, of a varint whose first byte was read and is a continuation byte.
 #[inline(never)]
 fn read_behind<R: Read>(r: &mut R, first: u8) -> Result<u64, Error>
     requires { IsMarked first }
@@ -266,7 +239,7 @@ fn read_behind<R: Read>(r: &mut R, first: u8) -> Result<u64, Error>
     unreachable!()
 }
 
-// The next byte, or none where the input has ended.
+// The next byte, or none at the end of the input.
 #[inline(always)]
 fn read_byte<R: Read>(r: &mut R) -> Result<Option<u8>, no_std_io::Error>
     ensures faults { CountsReader IsOwnFault NoOtherError

@@ -1,4 +1,4 @@
-/* Decoding: each refusal, and each beginning of an encoding. */
+/* Decoding: each error, and each prefix of an encoding. */
 #include "test.h"
 
 typedef multihash_decoded (*decoder)(const uint8_t *, size_t);
@@ -66,8 +66,8 @@ void check_refusals(void)
     CHECK(scale.status == MULTIHASH_INVALID_CODE && scale.code == UINT64_MAX && scale.size == 0 && scale.taken == 8);
 }
 
-/* Each beginning of the encoding of a code and a digest whose varints have so many bytes, and then the whole: what is
- * taken is known from how the encoding was put together. */
+/* Each prefix of the encoding of a code and a digest whose varints have so many bytes, and then the whole: what is
+ * consumed is known from how the encoding was put together. */
 static void check_cuts(size_t code_bytes, size_t size_bytes)
 {
     uint8_t bytes[MULTIHASH_LENGTH_MAX] = {0};

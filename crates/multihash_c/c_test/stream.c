@@ -1,9 +1,9 @@
-/* Calls the reader of a stream that docs/C.md shows, which the script puts into stream_example.h, over pipes that are cut
- * at each byte: by a pause, and by an end behind which another pipe goes on. C11 on POSIX. Says what it did on one line, and
- * ends with status 1 at the first thing that is wrong. */
+/* Calls the reader of a stream that is installed as an example, over pipes that are cut at each byte: by a pause, and by an
+ * end after which another pipe continues. C11 on POSIX. Says what it did on one line, and exits with status 1 at the first
+ * thing that is wrong. */
 int example_main(void);
 #define main example_main
-#include "stream_example.h"
+#include <stream.c>
 #undef main
 
 #include "check.h"
@@ -59,18 +59,18 @@ static size_t items_in(size_t length)
 }
 
 /* Reads as long as multihashes come: each is the next of those that were put together. */
-static stream_answer read_on(stream *from, size_t *at)
+static stream_result read_on(stream *from, size_t *at)
 {
     multihash_decoded found;
-    stream_answer answer;
-    while ((answer = next_multihash(from, &found)) == STREAM_FOUND) {
+    stream_result result;
+    while ((result = next_multihash(from, &found)) == STREAM_FOUND) {
         CHECK(*at < ITEMS && found.status == MULTIHASH_OK && found.code == items[*at].code);
         CHECK(found.digest_length == items[*at].digest_length && from->have == ends[*at + 1] - ends[*at]);
         CHECK(memcmp(from->bytes, whole + ends[*at], from->have) == 0);
         *at += 1;
         reads_counted++;
     }
-    return answer;
+    return result;
 }
 
 /* The stream pauses at a byte, and comes on through the same pipe. */
@@ -96,7 +96,7 @@ static void check_end(size_t cut)
     open_pipe(more, whole + cut, whole_length - cut);
     CHECK(close(ends_of[1]) == 0 && close(more[1]) == 0);
     stream from = {.descriptor = ends_of[0], .limit = LIMIT};
-    stream_answer want = ends[items_in(cut)] == cut ? STREAM_END : STREAM_EARLY_END;
+    stream_result want = ends[items_in(cut)] == cut ? STREAM_END : STREAM_CUT;
     CHECK(read_on(&from, &at) == want && at == items_in(cut));
     CHECK(read_on(&from, &at) == want && at == items_in(cut));
     from.descriptor = more[0];
@@ -118,7 +118,7 @@ static void check_bytes(void)
     CHECK(close(ends_of[0]) == 0 && close(ends_of[1]) == 0);
 }
 
-/* What stands behind a multihash stays in the pipe. */
+/* What follows a multihash stays in the pipe. */
 static void check_rest(void)
 {
     int ends_of[2];
@@ -132,8 +132,8 @@ static void check_rest(void)
     CHECK(close(ends_of[0]) == 0 && close(ends_of[1]) == 0);
 }
 
-/* A stream that is refused, with nothing of a digest read. */
-static void check_refused(const char *bytes, size_t length, multihash_status status, uint64_t size, size_t left)
+/* A stream that is rejected, with nothing of a digest read. */
+static void check_rejected(const char *bytes, size_t length, multihash_status status, uint64_t size, size_t left)
 {
     int ends_of[2];
     uint8_t rest[64];
@@ -141,8 +141,8 @@ static void check_refused(const char *bytes, size_t length, multihash_status sta
     open_pipe(ends_of, (const uint8_t *)bytes, length);
     CHECK(close(ends_of[1]) == 0);
     stream from = {.descriptor = ends_of[0], .limit = LIMIT};
-    CHECK(next_multihash(&from, &found) == STREAM_REFUSED && found.status == status && found.size == size);
-    CHECK(next_multihash(&from, &found) == STREAM_REFUSED && found.status == status);
+    CHECK(next_multihash(&from, &found) == STREAM_REJECTED && found.status == status && found.size == size);
+    CHECK(next_multihash(&from, &found) == STREAM_REJECTED && found.status == status);
     CHECK(read(ends_of[0], rest, sizeof rest) == (ssize_t)left && close(ends_of[0]) == 0);
 }
 
@@ -153,10 +153,10 @@ int main(void)
     for (size_t cut = 0; cut <= whole_length; cut++) check_end(cut);
     check_bytes();
     check_rest();
-    check_refused("\x12\x41\x07\x07", 4, MULTIHASH_INVALID_SIZE, 65, 2);
-    check_refused("\x12\xff\xff\xff\xff\xff\xff\xff\xff\x7f\x07", 11, MULTIHASH_INVALID_SIZE, INT64_MAX, 1);
-    check_refused("\x80\x00\x07", 3, MULTIHASH_NOT_MINIMAL, 0, 1);
-    check_refused("\xff\xff\xff\xff\xff\xff\xff\xff\xff\x01", 10, MULTIHASH_OVERFLOW, 0, 1);
+    check_rejected("\x12\x41\x07\x07", 4, MULTIHASH_INVALID_SIZE, 65, 2);
+    check_rejected("\x12\xff\xff\xff\xff\xff\xff\xff\xff\x7f\x07", 11, MULTIHASH_INVALID_SIZE, INT64_MAX, 1);
+    check_rejected("\x80\x00\x07", 3, MULTIHASH_NOT_MINIMAL, 0, 1);
+    check_rejected("\xff\xff\xff\xff\xff\xff\xff\xff\xff\x01", 10, MULTIHASH_OVERFLOW, 0, 1);
     CHECK(reads_counted >= 2 * (whole_length + 1) * ITEMS);
     printf("%zu cuts, %zu multihashes\n", 2 * (whole_length + 1), reads_counted);
     return 0;

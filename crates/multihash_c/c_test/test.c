@@ -1,5 +1,5 @@
-/* Calls each export: the documented example, each refusal, each beginning of an encoding, null with length 0, every room
- * around the need, and each line of a list of verdicts, whose file is the argument. Valid C11 and C++17. Says what it
+/* Calls each export: the documented example, each error, each prefix of an encoding, null with length 0, every capacity
+ * near what is needed, and each line of the test vectors, whose file is the argument. Valid C11 and C++17. Says what it
  * did on one line, and ends with status 1 at the first thing that is wrong. */
 #include "test.h"
 

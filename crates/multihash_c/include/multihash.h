@@ -1,12 +1,12 @@
-/* Multihashes for C and C++: a code and a digest in one run of bytes.
+/* Multihashes for C and C++: the code of a hash function and a digest, encoded as bytes.
  *
- * The functions are those of the crate multihash_c, and keep its contracts; multihash_status_text alone is
- * written here. No function allocates, keeps state, or writes anywhere but at `out`, so any number of
- * threads may call them at once. docs/C.md tells how to build, link and call them.
+ * The functions are those of the crate multihash_c and are proved to meet its contracts; only
+ * multihash_status_text is written here. No function allocates, keeps state, or writes anywhere but at `out`,
+ * so any number of threads may call them at once. C.md describes how to build, link and call them.
  *
- * What a caller owes, and nothing checks:
- *  - A pointer that comes with a length points at so many bytes that are initialised. Where the length is
- *    0 it may be anything, a null pointer too; else it is not null. The length is below 2^63.
+ * Preconditions, which are not checked:
+ *  - A pointer with a length points to that many initialised bytes. If the length is 0 the pointer may be
+ *    anything, also null; otherwise it is not null. The length is below 2^63.
  *  - `out` overlaps no other argument. Inputs may overlap one another.
  *  - During the call nothing else writes an input, and nothing else reads or writes `out`. */
 #ifndef MULTIHASH_H
@@ -15,12 +15,12 @@
 #include <stddef.h>
 #include <stdint.h>
 
-#if !defined(__x86_64__) || !defined(__ELF__) || SIZE_MAX != UINT64_MAX
-#error "libmultihash_c is built for x86-64 with ELF and a size_t of 64 bits"
+#if !(defined(__x86_64__) || defined(__AARCH64EL__)) || !defined(__ELF__) || SIZE_MAX != UINT64_MAX
+#error "libmultihash_c is built for x86-64 and little-endian aarch64, with ELF and a size_t of 64 bits"
 #endif
 
-/* The version of this header: as text, and as 10000 times the first number, 100 times the second, and the third.
- * multihash_version tells that of the library. Where the first numbers differ, the one does not fit the other. */
+/* The version of this header: as text, and as 10000 times the major number, plus 100 times the minor number, plus the
+ * patch number. multihash_version returns that of the library. The major number changes with the ABI. */
 #define MULTIHASH_VERSION "1.0.0"
 #define MULTIHASH_VERSION_NUMBER 10000
 
@@ -28,161 +28,142 @@
 extern "C" {
 #endif
 
-/* What became of a call. */
+/* The status of a call. */
 typedef uint32_t multihash_status;
 
 enum {
-    /* The call did what it was asked for. */
+    /* Success. */
     MULTIHASH_OK = 0,
-    /* The input ends inside or before a varint. More input can change that. */
+    /* The input ends within or before a varint. More input can change that. */
     MULTIHASH_INSUFFICIENT = 1,
-    /* In a varint, after eight marked bytes, a byte is too large. */
+    /* A varint has more than nine bytes: its number would be 2^63 or more. */
     MULTIHASH_OVERFLOW = 2,
-    /* A varint of more than one byte ends in a zero. */
+    /* A varint of more than one byte ends in a zero byte. */
     MULTIHASH_NOT_MINIMAL = 3,
-    /* A digest is too long, or bytes are left over: `size` is its length, or how many they are. */
+    /* A digest is too long, or bytes follow the multihash: `size` is the digest's length, or their number. */
     MULTIHASH_INVALID_SIZE = 4,
-    /* A code is 2^63 or more: a decoding tells it in `code`. */
+    /* A code is 2^63 or more: a decoding returns it in `code`. */
     MULTIHASH_INVALID_CODE = 5,
-    /* The input ends inside the digest, or before it in the SCALE form. More input can change that. */
+    /* The input ends within the digest, or before it in the SCALE form. More input can change that. */
     MULTIHASH_UNEXPECTED_EOF = 6,
-    /* `out` has fewer places than the bytes need: `length` is how many they need. */
+    /* `out` is too small: `length` is the size required. */
     MULTIHASH_NO_ROOM = 7
 };
 
-/* The most bytes of a digest, of the two varints before it, of an encoding, and of a SCALE form. The two varints have
- * fewer, MULTIHASH_LENGTH_MAX - MULTIHASH_DIGEST_MAX, where the digest is not too long. */
+/* The most bytes of a digest, of the two varints before it, of an encoding, and of a SCALE form. For a digest of up to
+ * 255 bytes the two varints have at most MULTIHASH_LENGTH_MAX - MULTIHASH_DIGEST_MAX = 11. */
 #define MULTIHASH_DIGEST_MAX 255
 #define MULTIHASH_HEAD_MAX 18
 #define MULTIHASH_LENGTH_MAX 266
 #define MULTIHASH_SCALE_LENGTH_MAX 264
 
-/* What a decoding answers. A field that the status leaves without a meaning is 0. Between the fields is
- * padding that is not set: compare field by field. */
+/* The result of a decoding. A field without a meaning for its status is 0. Padding between the fields is not set: compare
+ * field by field. */
 typedef struct multihash_decoded {
     multihash_status status;
-    uint64_t size;        /* at MULTIHASH_INVALID_SIZE: the size that is refused */
-    uint64_t code;        /* at MULTIHASH_OK: the code; at MULTIHASH_INVALID_CODE: the one that is refused */
-    size_t digest_offset; /* at MULTIHASH_OK: where in `bytes` the digest begins */
-    size_t digest_length; /* at MULTIHASH_OK: the digest's length, at most 255 */
-    size_t taken;         /* always: how many bytes were taken, as each function tells */
+    uint64_t size;        /* at MULTIHASH_INVALID_SIZE: the invalid size */
+    uint64_t code;        /* at MULTIHASH_OK: the code; at MULTIHASH_INVALID_CODE: the invalid one */
+    size_t digest_offset; /* at MULTIHASH_OK: the index in `bytes` at which the digest begins */
+    size_t digest_length; /* at MULTIHASH_OK: the digest's length in bytes, at most 255 */
+    size_t taken;         /* always: the number of bytes consumed */
 } multihash_decoded;
 
-/* What an encoding answers. A field that the status leaves without a meaning is 0; padding is not set. */
+/* The result of an encoding. A field without a meaning for its status is 0; padding is not set. */
 typedef struct multihash_encoded {
     multihash_status status;
     uint64_t size; /* at MULTIHASH_INVALID_SIZE: the digest's length */
-    size_t length; /* at MULTIHASH_OK: how many bytes stand at `out`; at MULTIHASH_NO_ROOM: how many are needed */
+    size_t length; /* at MULTIHASH_OK: the number of bytes; at MULTIHASH_NO_ROOM: the size required */
 } multihash_encoded;
 
-/* What the two varints that begin an encoding answer. A field that the status leaves without a meaning is 0; padding is
- * not set. */
+/* The two varints at the front of an encoding. A field without a meaning for its status is 0; padding is not set. */
 typedef struct multihash_front {
     multihash_status status;
     uint64_t code;          /* at MULTIHASH_OK: the code */
-    uint64_t digest_length; /* at MULTIHASH_OK: the digest's length, below 2^63, also one that is too long */
-    size_t taken;           /* always: how many bytes were taken, at MULTIHASH_OK those of both varints */
+    uint64_t digest_length; /* at MULTIHASH_OK: the digest's length as encoded, below 2^63; it may exceed 255 */
+    size_t taken;           /* always: the number of bytes consumed; at MULTIHASH_OK that of both varints */
 } multihash_front;
 
-/* Decodes the multihash whose encoding is the whole of `bytes`.
- * Takes:   the whole input, in each case: `taken` is `bytes_length`.
- * Answers: the code, and where in `bytes` the digest stands. Nothing is copied.
- * Refuses: MULTIHASH_INSUFFICIENT, MULTIHASH_OVERFLOW, MULTIHASH_NOT_MINIMAL, MULTIHASH_INVALID_SIZE with the
- *          digest's length above 255 or the number of bytes left over, MULTIHASH_UNEXPECTED_EOF.
- * Leaves:  `bytes` as they were. */
+/* Decodes the multihash whose encoding is the whole of `bytes`. Nothing is copied.
+ *
+ * Returns: the code, and the digest's offset and length in `bytes`. `taken` is always `bytes_length`.
+ * Errors:  MULTIHASH_INSUFFICIENT, MULTIHASH_OVERFLOW, MULTIHASH_NOT_MINIMAL; MULTIHASH_INVALID_SIZE with a digest's
+ *          length above 255, or with the number of trailing bytes; MULTIHASH_UNEXPECTED_EOF. */
 multihash_decoded multihash_from_bytes(const uint8_t *bytes, size_t bytes_length);
 
-/* Decodes the multihash whose encoding begins `bytes`; more bytes may follow it.
- * Takes:   the encoding. At MULTIHASH_OVERFLOW and MULTIHASH_NOT_MINIMAL the bytes up to the one that shows it; at
- *          MULTIHASH_INVALID_SIZE and MULTIHASH_UNEXPECTED_EOF both varints, and nothing of the digest; at
- *          MULTIHASH_INSUFFICIENT the whole input.
- * Answers: the code, and where in `bytes` the digest stands. The next multihash of a stream stands at `taken`.
- * Refuses: MULTIHASH_INSUFFICIENT, MULTIHASH_OVERFLOW, MULTIHASH_NOT_MINIMAL, MULTIHASH_INVALID_SIZE with the
- *          digest's length above 255, MULTIHASH_UNEXPECTED_EOF. Only at the first and the last can more bytes
- *          change the answer.
- * Leaves:  `bytes` as they were. */
+/* Decodes the multihash at the front of `bytes`; more bytes may follow it. Nothing is copied.
+ *
+ * Returns: the code, and the digest's offset and length in `bytes`. `taken` is the length of the encoding, so the
+ *          next multihash of a stream is at `bytes + taken`.
+ * Errors:  MULTIHASH_OVERFLOW and MULTIHASH_NOT_MINIMAL; `taken` counts up to the byte that shows it.
+ *          MULTIHASH_INVALID_SIZE with a digest's length above 255; `taken` is that of both varints.
+ *          MULTIHASH_INSUFFICIENT; `taken` is `bytes_length`. MULTIHASH_UNEXPECTED_EOF; `taken` is that of both
+ *          varints. Only at these two can more bytes change the result. */
 multihash_decoded multihash_read(const uint8_t *bytes, size_t bytes_length);
 
-/* Decodes as multihash_read does, where the caller holds digests of at most `limit` bytes.
- * Takes:   what multihash_read takes.
- * Answers: what multihash_read answers, where the digest has at most `limit` bytes.
- * Refuses: what multihash_read refuses, but MULTIHASH_INVALID_SIZE with each digest's length above `limit` or 255, and
- *          that before it looks whether the digest is there.
- * Leaves:  `bytes` as they were. */
+/* Decodes as multihash_read does, for a caller that accepts digests of at most `limit` bytes.
+ *
+ * Returns: as multihash_read.
+ * Errors:  as multihash_read, with MULTIHASH_INVALID_SIZE for each digest's length above `limit` or 255, whether or
+ *          not the digest is there. */
 multihash_decoded multihash_read_limit(const uint8_t *bytes, size_t bytes_length, size_t limit);
 
-/* Decodes the two varints that begin an encoding, and looks at no digest: who reads from a stream is told how many bytes
- * the multihash has, before there is a buffer for them.
- * Takes:   both varints; at a refusal what multihash_read takes.
- * Answers: the code and the digest's length, also one that multihash_read refuses. The multihash has `taken` +
- *          `digest_length` bytes.
- * Refuses: MULTIHASH_INSUFFICIENT, which more bytes can change, MULTIHASH_OVERFLOW, MULTIHASH_NOT_MINIMAL.
- * Leaves:  `bytes` as they were. */
+/* Decodes the two varints at the front of `bytes`, and checks nothing of the digest. Use it to learn the total length
+ * before allocating a buffer: the multihash has `taken` + `digest_length` bytes.
+ *
+ * Returns: the code and the digest's length as encoded; it may exceed 255. `taken` is the length of both varints.
+ * Errors:  MULTIHASH_INSUFFICIENT, which more bytes can change, MULTIHASH_OVERFLOW, MULTIHASH_NOT_MINIMAL; `taken` as
+ *          for multihash_read. */
 multihash_front multihash_head(const uint8_t *bytes, size_t bytes_length);
 
-/* Decodes the multihash whose SCALE form begins `bytes`: eight bytes of the code, the lowest first, one of the
+/* Decodes the multihash whose SCALE form is at the front of `bytes`: eight bytes of the code, lowest first, one of the
  * digest's length, the digest. More bytes may follow it.
- * Takes:   the form; at MULTIHASH_INVALID_CODE the code's eight bytes; at MULTIHASH_UNEXPECTED_EOF nothing of a code
- *          that is cut, the eight bytes of a code behind which nothing stands, and nine of a form whose digest is cut.
- * Answers: the code, and where in `bytes` the digest stands.
- * Refuses: MULTIHASH_INVALID_CODE with the code, where it is 2^63 or more; MULTIHASH_UNEXPECTED_EOF, which more bytes
- *          can change.
- * Leaves:  `bytes` as they were. */
+ *
+ * Returns: the code, and the digest's offset and length in `bytes`. `taken` is the length of the form.
+ * Errors:  MULTIHASH_INVALID_CODE with a code of 2^63 or more; `taken` is 8. MULTIHASH_UNEXPECTED_EOF, which more bytes
+ *          can change; `taken` is 0 if the code is incomplete, 8 if the length is missing, 9 if the digest is
+ *          incomplete. */
 multihash_decoded multihash_scale_decode(const uint8_t *bytes, size_t bytes_length);
 
-/* The length of the encoding of a code and a digest of so many bytes, of which no byte is needed.
- * Takes:   a code and a digest's length.
- * Answers: `length`, how many bytes multihash_encode puts: at most MULTIHASH_LENGTH_MAX.
- * Refuses: MULTIHASH_INVALID_SIZE with the digest's length above 255; else MULTIHASH_INVALID_CODE with a code of 2^63
- *          or more.
- * Leaves:  nothing changed. */
+/* Returns the length of the encoding of a code and a digest of that many bytes.
+ *
+ * Returns: `length`, at most MULTIHASH_LENGTH_MAX.
+ * Errors:  MULTIHASH_INVALID_SIZE with a digest's length above 255; otherwise MULTIHASH_INVALID_CODE for a code of 2^63
+ *          or more. */
 multihash_encoded multihash_encoded_len(uint64_t code, size_t digest_length);
 
-/* Puts the encoding of a code and a digest at the front of `out`.
- * Takes:   a code and a digest, and `out_length` places.
- * Answers: `length`, how many bytes stand at `out`: at most MULTIHASH_LENGTH_MAX.
- * Refuses: MULTIHASH_INVALID_SIZE with the digest's length above 255; else MULTIHASH_INVALID_CODE with a code of 2^63
- *          or more; else MULTIHASH_NO_ROOM with the `length` that is needed, so a call with no place at all tells it.
- * Leaves:  at a refusal the whole of `out` as it was, else the places behind the encoding. */
+/* Writes the encoding of a code and a digest to the front of `out`, which has `out_length` bytes.
+ *
+ * Returns: `length`, the number of bytes written, at most MULTIHASH_LENGTH_MAX. The rest of `out` is unchanged.
+ * Errors:  MULTIHASH_INVALID_SIZE with a digest's length above 255; otherwise MULTIHASH_INVALID_CODE for a code of 2^63
+ *          or more; otherwise MULTIHASH_NO_ROOM with the size required in `length`, also for an `out_length` of 0.
+ *          `out` is unchanged then. */
 multihash_encoded multihash_encode(uint64_t code, const uint8_t *digest, size_t digest_length,
                                    uint8_t *out, size_t out_length);
 
-/* Puts the SCALE form of a code and a digest at the front of `out`.
- * Takes:   a code and a digest, and `out_length` places.
- * Answers: `length`, how many bytes stand at `out`: nine and the digest's.
- * Refuses: MULTIHASH_INVALID_SIZE with the digest's length above 255; else MULTIHASH_INVALID_CODE with a code of 2^63
- *          or more; else MULTIHASH_NO_ROOM with the `length` that is needed, so a call with no place at all tells it.
- * Leaves:  at a refusal the whole of `out` as it was, else the places behind the form. */
+/* Writes the SCALE form of a code and a digest to the front of `out`, which has `out_length` bytes.
+ *
+ * Returns: `length`, the number of bytes written: nine and the digest's. The rest of `out` is unchanged.
+ * Errors:  as multihash_encode. `out` is unchanged then. */
 multihash_encoded multihash_scale_encode(uint64_t code, const uint8_t *digest, size_t digest_length,
                                          uint8_t *out, size_t out_length);
 
-/* Compares two multihashes: by the code, then by the digest's length, then by the first byte that differs.
- * Takes:   two codes and digests; the digests may have any length.
- * Answers: -1 where the left one comes first, 0 where they are the same, 1 where the right one comes first.
- * Refuses: nothing.
- * Leaves:  both digests as they were. */
+/* Compares two multihashes by the code, then by the digest's length, then by the first byte that differs. The digests
+ * may have any length.
+ *
+ * Returns: -1 if the left one is less, 0 if they are equal, 1 if it is greater. It cannot fail. */
 int32_t multihash_compare(uint64_t left_code, const uint8_t *left_digest, size_t left_digest_length,
                           uint64_t right_code, const uint8_t *right_digest, size_t right_digest_length);
 
-/* The version of the library, as MULTIHASH_VERSION_NUMBER is that of the header.
- * Takes:   nothing.
- * Answers: 10000 times the first number, 100 times the second, and the third.
- * Refuses: nothing.
- * Leaves:  nothing changed. */
+/* Returns the version of the library, in the form of MULTIHASH_VERSION_NUMBER. */
 uint32_t multihash_version(void);
 
-/* Puts what a status means at the front of `out`, for callers that multihash_status_text does not reach.
- * Takes:   any number, and `out_length` places.
- * Answers: `length`, how many bytes of ASCII stand at `out`: the text of multihash_status_text, with no zero behind it.
- * Refuses: MULTIHASH_NO_ROOM with the `length` that is needed.
- * Leaves:  at a refusal the whole of `out` as it was, else the places behind the text. */
+/* Writes the text of a status to the front of `out`, for callers that cannot use multihash_status_text.
+ *
+ * Returns: `length`, the number of bytes written: ASCII, with no zero byte after it. The rest of `out` is unchanged.
+ * Errors:  MULTIHASH_NO_ROOM with the size required in `length`; `out` is unchanged then. */
 multihash_encoded multihash_put_status_text(multihash_status status, uint8_t *out, size_t out_length);
 
-/* Says what a status means.
- * Takes:   any number.
- * Answers: the library's own text, without the size or the code that is refused. It stays valid.
- * Refuses: nothing: a number that is no status has a text too.
- * Leaves:  nothing changed. */
+/* Returns the text of a status, without the invalid size or code: a static string, for any number. */
 static inline const char *multihash_status_text(multihash_status status)
 {
     switch (status) {

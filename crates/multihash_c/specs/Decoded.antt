@@ -1,4 +1,4 @@
--- What a decoding tells a C caller where a verdict holds.
+-- The result of a decoding for a C caller, if a verdict holds.
 use Rattle.std.specs.Prelude.{◌≡◌, ℕ, ◌+◌, ◌<◌, ◌≤◌, List, Some, length, take, drop}
 use Rattle.multihash.specs.Pair.{Pair}
 use Rattle.multihash.specs.Varint.{insufficient}
@@ -9,7 +9,8 @@ use Rattle.multihash.specs.Scale.{IsScale, HasScaleVerdict}
 use Rattle.multihash_c.specs.Status.{status_ok, status_of_fault, status_invalid_size, status_invalid_code, status_unexpected_eof}
 use Rattle.multihash_c.specs.declared.decoded.Decoded.{Decoded}
 
--- the code, and where in the input the digest is: it ends what was taken, so it is as long as is told
+-- the code, and the digest's offset in the input: it is the last part consumed, so its length gives the
+-- offset
 pub record TellsPair (input : List ℕ) (d : Decoded) (p : Pair) : Type 0 where
   pub is_ok : d.status ≡ status_ok
   pub no_size : d.size ≡ 0
@@ -18,7 +19,7 @@ pub record TellsPair (input : List ℕ) (d : Decoded) (p : Pair) : Type 0 where
   pub inside : d.taken ≤ length input
   pub is_digest : p.digest ≡ take d.digest_length (drop d.digest_offset input)
 
--- a status, the size and the code that were refused, and no digest
+-- a status, the invalid size and code, and no digest
 pub record TellsRefusal (d : Decoded) (status size code : ℕ) : Type 0 where
   pub is_status : d.status ≡ status
   pub is_size : d.size ≡ size
@@ -33,15 +34,15 @@ Tells input d (invalid_code code) = TellsRefusal d status_invalid_code 0 code
 Tells input d (faulty fault) = TellsRefusal d (status_of_fault fault) 0 0
 Tells input d unexpected_eof = TellsRefusal d status_unexpected_eof 0 0
 
--- of an input of so many bytes that ends early the fixed parts were taken that are whole: the eight bytes of
--- the code, and the one of the size
+-- of a truncated input with that many bytes, the complete fixed-size parts were consumed: the eight
+-- bytes of the code, and the one of the size
 pub record TakesWholeParts (present taken : ℕ) : Type 0 where
   pub no_code : present < 8 → taken ≡ 0
   pub code : present ≡ 8 → taken ≡ 8
   pub size : 8 < present → taken ≡ 9
 
--- what decoding the SCALE form took: the form, the eight bytes of a code that is too large, or the fixed
--- parts that an early end leaves whole. No size is refused, since it is one byte
+-- what decoding the SCALE form consumed: the form, the eight bytes of a code that is too large, or the
+-- complete fixed-size parts of truncated input. No size is invalid, since it is one byte
 abbrev pub TakesForm : Verdict → List ℕ → ℕ → Type 0
 TakesForm (accepted p) input taken = IsScale p (take taken input)
 TakesForm (invalid_size size) input taken = ⊥
@@ -50,9 +51,9 @@ TakesForm (invalid_code code) input taken =
 TakesForm (faulty fault) input taken = ⊥
 TakesForm unexpected_eof input taken = TakesWholeParts (length input) taken
 
--- what reading answers for a digest of at most so many bytes, and how many bytes it took: those of the
--- shortest beginning that settles the verdict; all of an input that is insufficient; those of both varints
--- of a digest that is cut
+-- the result of reading a digest of at most that many bytes, and the number of bytes consumed: the
+-- shortest prefix that settles the verdict; all of an insufficient input; both varints of a truncated
+-- digest
 pub record ReadsWithin (limit : ℕ) (input : List ℕ) (d : Decoded) : Type 0 where
   pub verdict : (v : Verdict) × HasVerdict limit input v × Tells input d v
   pub inside : d.taken ≤ length input

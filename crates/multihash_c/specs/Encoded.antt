@@ -1,10 +1,10 @@
--- What an encoding tells a C caller, and what it puts in the caller's buffer.
+-- The result of an encoding for a C caller, and what it writes to the caller's buffer.
 use Rattle.std.specs.Prelude.{◌≡◌, ℕ, ◌<◌, ◌≤◌, List, ◌++◌, length, drop}
 use Rattle.multihash.specs.Encoding.{IsEncoding}
 use Rattle.multihash_c.specs.Status.{status_ok, status_invalid_size, status_invalid_code, status_no_room}
 use Rattle.multihash_c.specs.declared.encoded.Encoded.{Encoded}
 
--- the digest has so many bytes, which is too many
+-- the digest has that many bytes, which is too many
 pub record IsTooLong (size : ℕ) (e : Encoded) : Type 0 where
   pub is_status : e.status ≡ status_invalid_size
   pub is_size : e.size ≡ size
@@ -16,7 +16,7 @@ pub record IsLargeCode (e : Encoded) : Type 0 where
   pub no_size : e.size ≡ 0
   pub no_length : e.length ≡ 0
 
--- the length of the encoding of a code and any digest of so many bytes
+-- the length of the encoding of a code and any digest of that many bytes
 pub record TellsLength (code size : ℕ) (e : Encoded) : Type 0 where
   pub is_ok : e.status ≡ status_ok
   pub no_size : e.size ≡ 0
@@ -24,8 +24,8 @@ pub record TellsLength (code size : ℕ) (e : Encoded) : Type 0 where
       (bytes : List ℕ) × IsEncoding (record { code = code; digest = digest }) bytes
       × (e.length ≡ length bytes)
 
--- the bytes stand at the front of the buffer where they fit; else it is as it was. Their count is told
--- in both cases
+-- the bytes are at the front of the buffer if they fit; otherwise it is unchanged. Their number is
+-- returned in both cases
 pub record IsPut (bytes : List ℕ) (e : Encoded) (old new : List ℕ) : Type 0 where
   pub is_length : e.length ≡ length bytes
   pub no_size : e.size ≡ 0
@@ -33,6 +33,6 @@ pub record IsPut (bytes : List ℕ) (e : Encoded) (old new : List ℕ) : Type 0 
       (e.status ≡ status_ok) × (new ≡ bytes ++ drop (length bytes) old)
   pub no_room : length old < length bytes → (e.status ≡ status_no_room) × (new ≡ old)
 
--- some bytes of which the fact holds were put
+-- some bytes of which the fact holds were written
 abbrev pub Puts : (List ℕ → Type 0) → Encoded → List ℕ → List ℕ → Type 0
 Puts IsForm e old new = (bytes : List ℕ) × IsForm bytes × IsPut bytes e old new

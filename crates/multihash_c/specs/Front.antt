@@ -1,4 +1,4 @@
--- What the front of an encoding tells a C caller.
+-- The front of an encoding for a C caller.
 use Rattle.std.specs.Prelude.{◌≡◌, ℕ, ◌⊎◌, List}
 use Rattle.multihash.specs.Head.{HasHead}
 use Rattle.multihash.specs.Varint.{VarintFault}
@@ -6,12 +6,13 @@ use Rattle.multihash_c.specs.Status.{status_ok, status_of_fault}
 use Rattle.multihash_c.specs.Decoded.{ReadsWithin}
 use Rattle.multihash_c.specs.declared.front.Front.{Front}
 
--- both varints begin the input, in as many bytes as were taken
+-- both varints are at the front of the input, and have as many bytes as were consumed
 pub record TellsHead (input : List ℕ) (f : Front) : Type 0 where
   pub is_ok : f.status ≡ status_ok
   pub has : HasHead f.code f.digest_length f.taken input
 
--- no two varints begin the input: reading refuses it so for each limit, and takes as much
+-- a varint at the front is malformed: reading returns the same error for each limit, and consumes as
+-- much
 pub record TellsFault (input : List ℕ) (f : Front) : Type 0 where
   pub fault : VarintFault
   pub is_status : f.status ≡ status_of_fault fault

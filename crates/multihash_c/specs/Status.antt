@@ -1,21 +1,21 @@
--- The statuses that a C caller is told.
+-- The statuses that a C caller gets.
 use Rattle.std.specs.Prelude.{◌≡◌, ◌<◌, ℕ, List, [], codes}
 use Rattle.multihash.specs.Varint.{VarintFault, insufficient, overflow, not_minimal}
 use Rattle.multihash.specs.Fault.{text_of}
 use Rattle.multihash.specs.Refusal.{varint_text}
 use Rattle.multihash.specs.declared.no_std_io.error.Kind.TheVariants.{UnexpectedEof, WriteZero}
 
--- the call did what it was asked for
+-- success
 abbrev pub status_ok : ℕ
 status_ok = 0
 
--- no varint stands where one should
+-- a varint is malformed
 abbrev pub status_of_fault : VarintFault → ℕ
 status_of_fault insufficient = 1
 status_of_fault overflow = 2
 status_of_fault not_minimal = 3
 
--- a size that is refused
+-- a size is invalid
 abbrev pub status_invalid_size : ℕ
 status_invalid_size = 4
 
@@ -23,15 +23,15 @@ status_invalid_size = 4
 abbrev pub status_invalid_code : ℕ
 status_invalid_code = 5
 
--- the input ends inside the digest, or inside the fixed part of the SCALE form
+-- the input ends within the digest, or within a fixed-size part of the SCALE form
 abbrev pub status_unexpected_eof : ℕ
 status_unexpected_eof = 6
 
--- the buffer has fewer places than the bytes need
+-- the buffer is too small
 abbrev pub status_no_room : ℕ
 status_no_room = 7
 
--- what a status means, in the library's words, without the size or the code that is refused
+-- the text of a status, in the library's words, without the invalid size or code
 pub record IsStatusText (status : ℕ) (text : List ℕ) : Type 0 where
   pub ok : status ≡ status_ok → text ≡ codes "ok"
   pub fault : (fault : VarintFault) → status ≡ status_of_fault fault → text ≡ varint_text fault

@@ -1,15 +1,15 @@
 -- The version of the library for C.
 use Rattle.std.specs.Prelude.{ℕ, ◌+◌, ◌*◌}
 
--- raised where a program that is compiled against the header has to be compiled anew
+-- raised if programs compiled against the header have to be compiled again
 abbrev pub major : ℕ
 major = 1
 
--- raised where something is added
+-- raised if something is added
 abbrev pub minor : ℕ
 minor = 0
 
--- raised else
+-- raised otherwise
 abbrev pub patch : ℕ
 patch = 0
 

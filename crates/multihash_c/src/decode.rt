@@ -22,7 +22,7 @@ pub extern "C" fn multihash_from_bytes(bytes: &[u8]) -> Decoded
     }
 }
 
-/// Decodes the multihash whose encoding begins `bytes`.
+/// Decodes the multihash whose encoding is at the front of `bytes`.
 #[unsafe(no_mangle)]
 pub extern "C" fn multihash_read(bytes: &[u8]) -> Decoded
     ensures { ReadsWithin 255 bytes.now result }
@@ -30,7 +30,8 @@ pub extern "C" fn multihash_read(bytes: &[u8]) -> Decoded
     read::read_within(bytes, 255)
 }
 
-/// Decodes the multihash whose encoding begins `bytes`, and whose digest has at most `limit` bytes.
+/// Decodes the multihash whose encoding is at the front of `bytes`, with a digest of at most `limit`
+/// bytes.
 #[unsafe(no_mangle)]
 pub extern "C" fn multihash_read_limit(bytes: &[u8], limit: usize) -> Decoded
     ensures { ReadsWithin limit bytes.now result }
@@ -38,7 +39,7 @@ pub extern "C" fn multihash_read_limit(bytes: &[u8], limit: usize) -> Decoded
     read::read_within(bytes, limit)
 }
 
-/// Decodes the multihash whose SCALE form begins `bytes`.
+/// Decodes the multihash whose SCALE form is at the front of `bytes`.
 #[unsafe(no_mangle)]
 pub extern "C" fn multihash_scale_decode(bytes: &[u8]) -> Decoded
     ensures verdict { (v : Verdict) × HasScaleVerdict 255 bytes.now v × Tells bytes.now result v
@@ -57,7 +58,8 @@ pub extern "C" fn multihash_scale_decode(bytes: &[u8]) -> Decoded
     }
 }
 
-// How many bytes the fixed parts have that are whole in a SCALE form of which so many bytes are there.
+// The number of bytes of the complete fixed-size parts of a SCALE form of which that many bytes are
+// there.
 fn whole_parts(present: usize) -> usize
     ensures parts { TakesWholeParts present result }
     ensures inside { result ≤ present }

@@ -1,4 +1,4 @@
-//! What a decoding answers.
+//! The result of a decoding.
 ghost use Rattle.std.specs.Prelude.{◌≡◌, ◌+◌, ◌≤◌, ℕ, List, length, take, drop};
 ghost use Rattle.multihash.specs.Pair.{Pair};
 ghost use Rattle.multihash.specs.Verdict.{Verdict, accepted, invalid_size, invalid_code, unexpected_eof};
@@ -8,7 +8,7 @@ ghost use Rattle.multihash_c.specs.Decoded.{Tells, TellsRefusal};
 use crate::status;
 use multihash::Error;
 
-/// What a decoding answered. A field that the status leaves without a meaning is 0.
+/// The result of a decoding. A field without a meaning for its status is 0.
 #[repr(C)]
 #[derive(Clone, Copy, Debug, PartialEq, Eq)]
 pub struct Decoded {
@@ -20,7 +20,7 @@ pub struct Decoded {
     pub taken: usize,
 }
 
-// The answer at a pair whose digest ends what was taken.
+// The result for a pair whose digest is the last part consumed.
 pub(crate) fn accept(code: u64, digest_length: usize, taken: usize) -> Decoded
     requires { digest_length ≤ taken }
     ensures tells { (input : List ℕ) (p : Pair) → p.code ≡ code → taken ≤ length input
@@ -40,7 +40,7 @@ pub(crate) fn accept(code: u64, digest_length: usize, taken: usize) -> Decoded
     }
 }
 
-// The answer at a refusal.
+// The result for an error.
 pub(crate) fn refuse(error: &Error, taken: usize) -> Decoded
     ensures tells { (input : List ℕ) (v : Verdict) → IsRefusal error.now v → Tells input result v }
     ensures taken { result.taken ≡ taken }
@@ -60,7 +60,7 @@ pub(crate) fn refuse(error: &Error, taken: usize) -> Decoded
     }
 }
 
-// The answer at a digest that is too long.
+// The result for a digest that is too long.
 pub(crate) fn refuse_size(size: u64, taken: usize) -> Decoded
     ensures tells { (input : List ℕ) → Tells input result (invalid_size size) }
     ensures taken { result.taken ≡ taken }
@@ -68,7 +68,7 @@ pub(crate) fn refuse_size(size: u64, taken: usize) -> Decoded
     refusal(status::INVALID_SIZE, size, 0, taken)
 }
 
-// The answer at a code that is out of range.
+// The result for a code that is out of range.
 pub(crate) fn refuse_code(code: u64, taken: usize) -> Decoded
     ensures tells { (input : List ℕ) → Tells input result (invalid_code code) }
     ensures taken { result.taken ≡ taken }
@@ -76,7 +76,7 @@ pub(crate) fn refuse_code(code: u64, taken: usize) -> Decoded
     refusal(status::INVALID_CODE, 0, code, taken)
 }
 
-// The answer at a digest that is cut.
+// The result for a truncated digest.
 pub(crate) fn refuse_end(taken: usize) -> Decoded
     ensures tells { (input : List ℕ) → Tells input result unexpected_eof }
     ensures taken { result.taken ≡ taken }
@@ -84,7 +84,7 @@ pub(crate) fn refuse_end(taken: usize) -> Decoded
     refusal(status::UNEXPECTED_EOF, 0, 0, taken)
 }
 
-// The answer with that status, which has no digest.
+// The result with that status, which has no digest.
 fn refusal(status: u32, size: u64, code: u64, taken: usize) -> Decoded
     ensures tells { TellsRefusal result status size code }
     ensures taken { result.taken ≡ taken }

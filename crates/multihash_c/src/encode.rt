@@ -11,7 +11,7 @@ use crate::status;
 use multihash::no_std_io::{SliceWriter, Write};
 use multihash::varint;
 
-/// Puts the encoding of a code and a digest at the front of `out`.
+/// Writes the encoding of a code and a digest to the front of `out`.
 #[unsafe(no_mangle)]
 pub extern "C" fn multihash_encode(code: u64, digest: &[u8], out: &mut [u8]) -> Encoded
     ensures too_long { 255 < length digest.now →
@@ -31,7 +31,7 @@ pub extern "C" fn multihash_encode(code: u64, digest: &[u8], out: &mut [u8]) -> 
     encoded::count(needed.length, out.len())
 }
 
-/// Puts the SCALE form of a code and a digest at the front of `out`.
+/// Writes the SCALE form of a code and a digest to the front of `out`.
 #[unsafe(no_mangle)]
 pub extern "C" fn multihash_scale_encode(code: u64, digest: &[u8], out: &mut [u8]) -> Encoded
     ensures too_long { 255 < length digest.now →
@@ -54,7 +54,7 @@ pub extern "C" fn multihash_scale_encode(code: u64, digest: &[u8], out: &mut [u8
     encoded::count(length, out.len())
 }
 
-/// The length of the encoding of a code and a digest of so many bytes.
+/// Returns the length of the encoding of a code and a digest of that many bytes.
 #[unsafe(no_mangle)]
 pub extern "C" fn multihash_encoded_len(code: u64, digest_length: usize) -> Encoded
     ensures too_long { 255 < digest_length → IsTooLong digest_length result }
@@ -74,7 +74,7 @@ pub extern "C" fn multihash_encoded_len(code: u64, digest_length: usize) -> Enco
     }
 }
 
-// Puts the encoding of a code and a digest at the front of places that have room for it.
+// Writes the encoding of a code and a digest to the front of a buffer that is large enough.
 fn put_encoding(code: u64, digest: &[u8], places: &mut [u8])
     requires in_range { code < varint_limit }
     requires short { length digest.now ≤ 255 }
@@ -89,7 +89,7 @@ fn put_encoding(code: u64, digest: &[u8], places: &mut [u8])
     write_digest(digest, &mut writer);
 }
 
-// Puts the SCALE form of a code and a digest at the front of places that have room for it.
+// Writes the SCALE form of a code and a digest to the front of a buffer that is large enough.
 fn put_scale_form(code: u64, digest: &[u8], places: &mut [u8])
     requires short { length digest.now ≤ 255 }
     requires fits { (bytes : List ℕ) × IsScale (record { code = code; digest = digest.now }) bytes
@@ -103,7 +103,7 @@ fn put_scale_form(code: u64, digest: &[u8], places: &mut [u8])
     write_digest(digest, &mut writer);
 }
 
-// Appends a digest, for which enough places are left.
+// Appends a digest, for which there is enough capacity.
 #[inline(always)]
 fn write_digest(digest: &[u8], writer: &mut SliceWriter<'_>)
     requires { writer.old.filled + length digest.now ≤ length writer.old.places.now }
@@ -113,7 +113,7 @@ fn write_digest(digest: &[u8], writer: &mut SliceWriter<'_>)
     writer.filled += digest.len();
 }
 
-// Puts a digest at the front of places that have room for it. The usual length is copied as a whole.
+// Copies a digest to the front of a buffer that is large enough. The usual length is copied as a whole.
 #[inline(always)]
 fn put_digest(digest: &[u8], places: &mut [u8])
     requires { length digest.now ≤ length places.old }
@@ -125,8 +125,8 @@ fn put_digest(digest: &[u8], places: &mut [u8])
     }
 }
 
-// Puts bytes at the front of places that have room for them, one by one: a copy of a whole slice would be a
-// call of `memmove`, since the compiler can't know that the caller's bytes and places do not overlap.
+// Copies bytes to the front of a buffer that is large enough, one by one: a copy of a whole slice would
+// be a call of `memmove`, since the compiler cannot know that the caller's buffers do not overlap.
 fn put_each(bytes: &[u8], places: &mut [u8])
     requires { length bytes.now ≤ length places.old }
     ensures { places.new ≡ bytes.now ++ drop (length bytes.now) places.old }

@@ -1,11 +1,11 @@
-//! What an encoding answers.
+//! The result of an encoding.
 ghost use Rattle.std.specs.Prelude.{◌≡◌, ◌<◌, ◌≤◌};
 ghost use Rattle.multihash_c.specs.Encoded.{IsTooLong, IsLargeCode};
 ghost use Rattle.multihash_c.specs.Status.{status_ok, status_no_room};
 
 use crate::status;
 
-/// What an encoding answered. A field that the status leaves without a meaning is 0.
+/// The result of an encoding. A field without a meaning for its status is 0.
 #[repr(C)]
 #[derive(Clone, Copy, Debug, PartialEq, Eq)]
 pub struct Encoded {
@@ -14,7 +14,7 @@ pub struct Encoded {
     pub length: usize,
 }
 
-// The answer at a digest that is too long.
+// The result for a digest that is too long.
 pub(crate) fn refuse_size(size: u64) -> Encoded
     ensures { IsTooLong size result }
 {
@@ -25,7 +25,7 @@ pub(crate) fn refuse_size(size: u64) -> Encoded
     }
 }
 
-// The answer at a code that is out of range.
+// The result for a code that is out of range.
 pub(crate) fn refuse_code() -> Encoded
     ensures { IsLargeCode result }
 {
@@ -36,7 +36,7 @@ pub(crate) fn refuse_code() -> Encoded
     }
 }
 
-// The answer for so many bytes and so many places: they were put where they fit.
+// The result for that many bytes and a buffer of that size: they were written if they fit.
 pub(crate) fn count(length: usize, places: usize) -> Encoded
     ensures length { result.length ≡ length }
     ensures no_size { result.size ≡ 0 }

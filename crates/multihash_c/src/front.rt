@@ -6,8 +6,7 @@ ghost use Rattle.multihash_c.specs.Front.{TellsHead, ReadsFront};
 use crate::{read, status};
 use multihash::Head;
 
-/// What the two varints that begin an encoding answered. A field that the status leaves without a meaning
-/// is 0.
+/// The two varints at the front of an encoding. A field without a meaning for its status is 0.
 #[repr(C)]
 #[derive(Clone, Copy, Debug, PartialEq, Eq)]
 pub struct Front {
@@ -17,7 +16,8 @@ pub struct Front {
     pub taken: usize,
 }
 
-/// Decodes the two varints that begin `bytes`: the code and the digest's length. It looks at no digest.
+/// Decodes the two varints at the front of `bytes`, the code and the digest's length. It does not check
+/// the digest.
 #[unsafe(no_mangle)]
 pub extern "C" fn multihash_head(bytes: &[u8]) -> Front
     ensures { ReadsFront bytes.now result }
@@ -29,7 +29,7 @@ pub extern "C" fn multihash_head(bytes: &[u8]) -> Front
     read_long(bytes)
 }
 
-// As `multihash_head`, where a varint has more bytes than one.
+// As `multihash_head`, if a varint has more than one byte.
 #[inline(never)]
 fn read_long(bytes: &[u8]) -> Front
     ensures { ReadsFront bytes.now result }
@@ -46,7 +46,7 @@ fn read_long(bytes: &[u8]) -> Front
     found(head.code, head.size, head.len)
 }
 
-// The answer at a code and a size, of which so many bytes are the varints.
+// The result for a code and a size, whose varints have that many bytes.
 #[inline(always)]
 fn found(code: u64, digest_length: u64, taken: usize) -> Front
     ensures { (input : List ℕ) → HasHead code digest_length taken input → TellsHead input result }

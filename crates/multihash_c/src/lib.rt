@@ -1,6 +1,6 @@
 //! The library for C: what `include/multihash.h` declares.
 //!
-//! Each export answers what the library answers, and its contract says so in the library's definitions.
+//! Each export returns what the library returns, and its contract says so in the library's definitions.
 #![tactic(auto)]
 
 mod compare;

@@ -1,4 +1,4 @@
-//! Reading an encoding in place, for a digest of at most so many bytes.
+//! Reading an encoding in place, with a limit on the digest's length.
 ghost use Rattle.std.specs.Prelude.{ℕ};
 ghost use Rattle.multihash.specs.Varint.{VarintFault};
 ghost use Rattle.multihash.specs.Verdict.{faulty, HasVerdict};
@@ -7,7 +7,8 @@ ghost use Rattle.multihash_c.specs.Decoded.{Tells, ReadsWithin};
 use crate::decoded::{self, Decoded};
 use multihash::{Head, Multihash};
 
-/// Decodes the multihash whose encoding begins `bytes`, as `read` does for a buffer of `limit` bytes.
+/// Decodes the multihash whose encoding is at the front of `bytes`, as `read` does for the capacity
+/// `limit`.
 pub(crate) fn read_within(bytes: &[u8], limit: usize) -> Decoded
     ensures { ReadsWithin limit bytes.now result }
 {
@@ -24,7 +25,7 @@ pub(crate) fn read_within(bytes: &[u8], limit: usize) -> Decoded
     decoded::accept(head.code, size, head.len + size)
 }
 
-// Decodes where no two varints begin the bytes: the answer is the same for each limit.
+// Decodes if a varint is malformed: the result is the same for each limit.
 #[cold]
 #[inline(never)]
 pub(crate) fn read_fault(bytes: &[u8]) -> Decoded

@@ -48,7 +48,7 @@ fn scale(rt: HostRuntime) {
     assert_eq!(rt; multihash_scale_decode(&bytes).digest_offset, 9);
 }
 
-// What stands behind the bytes that decoding the SCALE form took, which are there whatever it answers.
+// The bytes after those that decoding the SCALE form consumed, which it may not exceed.
 fn behind_scale(bytes: &[u8]) -> &[u8] {
     &bytes[multihash_scale_decode(bytes).taken..]
 }

@@ -1,11 +1,11 @@
-//! What a status means, in words.
+//! The text of a status.
 ghost use Rattle.multihash_c.specs.Encoded.{IsPut, Puts};
 ghost use Rattle.multihash_c.specs.Status.{IsStatusText};
 
 use crate::encoded::{self, Encoded};
 use crate::status;
 
-/// Puts the text of a status at the front of `out`: ASCII, with no zero at its end.
+/// Writes the text of a status to the front of `out`: ASCII, with no zero byte at its end.
 #[unsafe(no_mangle)]
 pub extern "C" fn multihash_put_status_text(status: u32, out: &mut [u8]) -> Encoded
     ensures { Puts (IsStatusText status) result out.old out.new }
@@ -23,7 +23,7 @@ pub extern "C" fn multihash_put_status_text(status: u32, out: &mut [u8]) -> Enco
     }
 }
 
-// Puts the bytes at the front of `out`, where they fit.
+// Copies the bytes to the front of `out`, if they fit.
 #[inline(always)]
 fn put(bytes: &[u8], out: &mut [u8]) -> Encoded
     ensures { IsPut bytes.now result out.old out.new }

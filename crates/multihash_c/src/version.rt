@@ -8,7 +8,8 @@ const MINOR: u32 = 0;
 
 const PATCH: u32 = 0;
 
-/// The version: 10000 times the first number, 100 times the second, and the third.
+/// Returns the version: 10000 times the major number, plus 100 times the minor number, plus the patch
+/// number.
 #[unsafe(no_mangle)]
 pub extern "C" fn multihash_version() -> u32
     ensures { result ≡ version_number }

@@ -1,5 +1,5 @@
 //! A line for each kind of conclusion, on fixed bytes: over any reader, and from the laws.
-use anyhow::Result;
+use anyhow::{Context, Result};
 use multihash::Multihash;
 use serde_json::Value;
 use std::alloc::Global;
@@ -12,7 +12,7 @@ const SHA2_256: u64 = 0x12;
 ///
 /// # Errors
 ///
-/// Want of memory.
+/// Out of memory.
 pub(crate) fn show(alloc: Global, lines: &mut String) -> Result<()> {
     show_any_reader(alloc, lines)?;
     show_found(lines)?;
@@ -26,11 +26,14 @@ pub(crate) fn show(alloc: Global, lines: &mut String) -> Result<()> {
     Ok(())
 }
 
-// Two that are counted, and then none; too many for any memory, and then one; the SCALE form, and a 9 behind it.
+// Two that are counted, and then none; too many for any memory, and then one; the SCALE form, followed by a
+// 9.
 fn show_any_reader(alloc: Global, lines: &mut String) -> Result<()> {
     let mut counted = [2u8, 0, 1, 65, 0x12, 1, 66].as_slice();
     let both = any_reader::read_counted::<4, _>(alloc, &mut counted)?;
-    let none = any_reader::read_none::<4, _>(alloc, &mut counted);
+    let none = any_reader::read_if_room::<4, _>(alloc, &mut counted, 0)?.context(
+        "no room for none",
+    )?;
     let mut one = [0u8, 1, 65].as_slice();
     let has_room = any_reader::read_if_room::<4, _>(alloc, &mut one, usize::MAX)?.is_some();
     let found = any_reader::read_if_room::<4, _>(alloc, &mut one, 1)?.is_some();
@@ -46,7 +49,7 @@ fn show_any_reader(alloc: Global, lines: &mut String) -> Result<()> {
     Ok(())
 }
 
-// A pair and a 9 behind it; a length of 5, which is too large.
+// A pair followed by a 9; a length of 5, which is too large.
 fn show_found(lines: &mut String) -> Result<()> {
     let found = conclusions::found::<4>(&[0x12, 2, 7, 8, 9])?;
     let refused = conclusions::found::<4>(&[0x12, 5, 7]).err();
@@ -72,7 +75,7 @@ fn show_encoding_len(lines: &mut String) -> Result<()> {
     Ok(())
 }
 
-// A digest of one byte and a 9 behind it; a length of 5, which is too large; a digest that is cut.
+// A digest of one byte followed by a 9; a length of 5, which is too large; a truncated digest.
 fn show_settled(lines: &mut String) -> Result<()> {
     writeln!(
         lines,

@@ -1,4 +1,4 @@
-//! Shows one line of each kind of user of the library, on fixed bytes. No input and no arguments are looked at.
+//! Shows a line for each kind of caller of the library, on fixed bytes. Input and arguments are ignored.
 #![tactic(auto)]
 
 mod laws;

@@ -1,4 +1,4 @@
-//! One line for each use, on fixed bytes.
+//! A line for each use, on fixed bytes.
 use crate::laws;
 use anyhow::{Context, Result};
 use multihash::Multihash;
@@ -9,7 +9,9 @@ use uses::code_table::Entry;
 use uses::content_id::ContentId;
 use uses::retries::Retries;
 use uses::streams::{Held, Room};
-use uses::{blame, block_store, bytes, code_table, dump, forms, merkle, peer_id, readme, values};
+use uses::{
+    blame, block_store, bytes, code_table, dump, forms, headline, merkle, peer_id, readme, values,
+};
 
 const SHA2_256: u64 = 0x12;
 
@@ -19,7 +21,7 @@ const LARGEST_CODE: u64 = 9223372036854775807;
 ///
 /// # Errors
 ///
-/// Want of memory.
+/// Out of memory.
 pub(crate) fn lines(alloc: Global) -> Result<String> {
     let mut lines = String::new(alloc);
     show_content_id(alloc, &mut lines)?;
@@ -112,10 +114,14 @@ fn show_merkle(alloc: Global, lines: &mut String) -> Result<()> {
 fn show_peer_id(alloc: Global, lines: &mut String) -> Result<()> {
     let small = Multihash::<2>::wrap(0, &[7, 8])?;
     let large = Multihash::<300>::wrap(0, &[7, 8])?;
-    let alike = peer_id::same_iff_encoded_alike(alloc, &small, &large)?;
+    let compared = headline::same(alloc, &small, &large)?;
     let spelled = peer_id::is_peer(&large, &[0, 2, 7, 8]);
     let padded = peer_id::is_peer(&large, &[0x80, 0, 2, 7, 8]);
-    writeln!(lines, "peer identifier: {alike}, {spelled}, {padded}")?;
+    writeln!(
+        lines,
+        "peer identifier: {}, {spelled}, {padded}",
+        compared.same
+    )?;
     Ok(())
 }
 
@@ -123,7 +129,7 @@ fn show_streams(alloc: Global, lines: &mut String) -> Result<()> {
     let items = [Multihash::<4>::wrap(0, &[65])?];
     let mut room = Room::<4>::new();
     let mut held = Held::new([0u8, 1, 65, 9].to_vec(alloc)?);
-    let back = merkle::list_through(alloc, &items, &mut room, &mut held)?;
+    let back: Vec<Multihash<2>> = headline::list_through(alloc, &items, &mut room, &mut held)?;
     writeln!(
         lines,
         "own reader and writer: {:?}, {} back, {:?} left",
@@ -219,8 +225,9 @@ fn show_values(lines: &mut String) -> Result<()> {
     let long = Multihash::wrap(SHA2_256, &[7; 24])?;
     writeln!(
         lines,
-        "values: {}, {same}, {twice}, {} and {}",
+        "values: {}, {same}, {}, {} and {}",
         wide.size(),
+        twice.size(),
         values::widened(&long).size(),
         values::cut_to_fit(&long).size()
     )?;
@@ -242,7 +249,13 @@ fn show_bytes(alloc: Global, lines: &mut String) -> Result<()> {
 
 fn show_readme(alloc: Global, lines: &mut String) -> Result<()> {
     let (multihash, rest) = readme::head(&[0x12, 2, 7, 8, 9])?;
-    let back = readme::there_and_back(alloc, multihash.digest())?;
-    writeln!(lines, "README: {back}, {} left", rest.len())?;
+    let (bytes, back) = readme::there_and_back(alloc, multihash.digest())?;
+    writeln!(
+        lines,
+        "README: {} bytes, {}, {} left",
+        bytes.len(),
+        back.size(),
+        rest.len()
+    )?;
     Ok(())
 }

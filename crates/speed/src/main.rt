@@ -1,13 +1,13 @@
-//! How fast the library's calls are.
+//! Measures the library's calls.
 //!
-//! - `speed` prints, for each case, the nanoseconds of a call: the best of some runs.
-//! - `speed cases` prints the cases, one a line: the operation, the digest's size, the number of bytes
-//!   of the code, and the buffer's size.
+//! - `speed` prints, for each case, the nanoseconds of a call: the best of several runs.
+//! - `speed cases` prints the cases, one a line: the operation, the digest's size, the code's length in
+//!   bytes, and the capacity.
 //! - `speed check` makes some calls of each case, and prints a sum for each operation.
 //! - `speed OPERATION SIZE CODE_LEN BUFFER COUNT` makes `COUNT` calls of one case, and prints their
-//!   sum: so a tool that counts instructions sees what the calls cost.
+//!   sum, for a tool that counts instructions.
 //!
-//! For a list a call is one item of a thousand.
+//! For a list, a call is one item of a thousand.
 #![tactic(auto)]
 
 mod bench;
@@ -27,13 +27,18 @@ use std::time::Clock;
 fn main(rt: HostRuntime) -> Result<()> {
     let words: Vec<String> = env::args(&rt)?.skip(1).collect(rt.alloc())?;
     let mut text = String::new(rt.alloc());
-    answer(&rt, rt.alloc(), words.as_slice(), &mut text)?;
+    write_output(&rt, rt.alloc(), words.as_slice(), &mut text)?;
     print!(rt; "{text}")?;
     Ok(())
 }
 
-// Writes what the program prints, by its arguments.
-fn answer<C: Clock>(clock: &C, alloc: Global, words: &[String], out: &mut String) -> Result<()> {
+// Writes the program's output, by its arguments.
+fn write_output<C: Clock>(
+    clock: &C,
+    alloc: Global,
+    words: &[String],
+    out: &mut String,
+) -> Result<()> {
     match words {
         [] => report::write_times(clock, alloc, out),
         [word] if word.as_str() == "cases" => report::write_cases(alloc, out),
@@ -43,6 +48,6 @@ fn answer<C: Clock>(clock: &C, alloc: Global, words: &[String], out: &mut String
             let count = count.parse::<u32>().context("a count")?;
             report::write_sum(alloc, case, count, out)
         }
-        _ => bail!("wanted: no word, cases, check, or OPERATION SIZE CODE_LEN BUFFER COUNT"),
+        _ => bail!("expected no argument, cases, check, or OPERATION SIZE CODE_LEN BUFFER COUNT"),
     }
 }

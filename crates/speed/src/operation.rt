@@ -3,14 +3,13 @@ use std::fmt;
 use std::str::FromStr;
 use thiserror::Error;
 
-/// In what two digests differ.
+/// How two digests differ.
 #[derive(Clone, Copy, Debug, PartialEq, Eq)]
 pub enum Difference {
     FirstByte,
-    /// The first byte behind sixteen.
     SeventeenthByte,
     LastByte,
-    /// The second has one byte less.
+    /// The second has one byte fewer.
     Length,
 }
 
@@ -43,9 +42,9 @@ pub enum Operation {
     ReadList,
 }
 
-/// A word that names no operation.
+/// The error for an unknown operation.
 #[derive(Debug, Drop, Error)]
-#[error("no such operation")]
+#[error("unknown operation")]
 pub struct UnknownOperation;
 
 impl Operation {
@@ -113,7 +112,7 @@ impl Operation {
         }
     }
 
-    /// In what the digests of a call differ, if they do.
+    /// How the digests of a call differ, if they do.
     pub fn difference(self) -> Option<Difference> {
         match self {
             Operation::EqualUnlike(difference) | Operation::CompareUnlike(difference) => {
@@ -123,7 +122,7 @@ impl Operation {
         }
     }
 
-    /// Whether what a call costs depends on the code's length.
+    /// Whether the cost of a call depends on the code's length.
     pub fn has_varints(self) -> bool {
         matches!(
             self,

@@ -8,13 +8,13 @@ use std::fmt::Write;
 use std::io;
 use std::time::{Clock, Duration, Instant};
 
-// How many calls of each case a check makes.
+// The number of calls of each case in a check.
 const CHECK_CALLS: u32 = 1000;
 
-// The best of so many runs is taken.
+// The number of runs, of which the best is taken.
 const RUNS: u32 = 7;
 
-// How long a run takes at least, so that the clock tells it well.
+// A run takes at least this long, so that the clock is precise enough.
 const SHORTEST_MILLISECONDS: u128 = 4;
 
 /// Writes the cases, one a line.
@@ -27,7 +27,7 @@ pub fn write_cases<W: Write>(alloc: Global, out: &mut W) -> Result<()> {
     Ok(())
 }
 
-/// Makes some calls of each case, and writes the sum of what they tell, one operation a line.
+/// Makes some calls of each case, and writes the sum of their results, one operation a line.
 pub fn write_checks<W: Write>(alloc: Global, out: &mut W) -> Result<()> {
     for operation in Operation::ALL {
         writeln!(out, "{operation} {}", check(alloc, operation)?)?;
@@ -43,14 +43,14 @@ fn check(alloc: Global, operation: Operation) -> Result<u64> {
     Ok(sum)
 }
 
-/// Makes so many calls of a case, and writes the sum of what they tell.
+/// Makes `count` calls of a case, and writes the sum of their results.
 pub fn write_sum<W: Write>(alloc: Global, case: Case, count: u32, out: &mut W) -> Result<()> {
     let sum = run_case(alloc, case, count)?;
     writeln!(out, "{sum}")?;
     Ok(())
 }
 
-// The sum of what so many calls of a case tell.
+// The sum of the results of `count` calls of a case.
 fn run_case(alloc: Global, case: Case, count: u32) -> Result<u64> {
     Ok(Bench::new(alloc, case)?.run(alloc, case.operation, count))
 }
@@ -66,7 +66,7 @@ pub fn write_times<C: Clock, W: Write>(clock: &C, alloc: Global, out: &mut W) ->
     Ok(())
 }
 
-// The tenths of nanoseconds that a call of a case takes.
+// The time of a call of a case, in tenths of nanoseconds.
 fn time_case<C: Clock>(clock: &C, alloc: Global, case: Case) -> Result<u128> {
     let mut bench = Bench::new(alloc, case)?;
     tenths_of_nanoseconds(clock, alloc, &mut bench, case.operation)
@@ -87,7 +87,7 @@ fn tenths_of_nanoseconds<C: Clock>(
     Ok(best.saturating_mul(10) / u128::from(count.max(1)))
 }
 
-// A number of calls that take long enough.
+// A number of calls that takes long enough.
 fn count_for_clock<C: Clock>(
     clock: &C,
     alloc: Global,

@@ -1,5 +1,5 @@
-//! Many calls of one operation. What a call is made on changes each time, so that no compiler makes
-//! one call for all of them, and something of each answer goes into a sum.
+//! Many calls of one operation. The input changes from call to call, so that the compiler cannot merge
+//! calls, and a part of each result is added to a sum.
 use crate::calls;
 use crate::inputs::{Inputs, LIST};
 use crate::operation::Operation;
@@ -7,39 +7,38 @@ use multihash::{Error, Multihash};
 use std::alloc::Global;
 use std::cmp::Ordering;
 
-// The sum of what calls tell, each on the next of the values, round and round.
+// The sum over calls, each on the next of the values, cyclically.
 macro_rules! sum_of_values {
-    ($values:expr, $count:expr, |$value:ident| $told:expr) => {{
+    ($values:expr, $count:expr, |$value:ident| $term:expr) => {{
         let values = $values.as_slice();
         let mut sum = 0_u64;
         for turn in 0..$count {
             if let Some($value) = values.get((turn & 7) as usize) {
-                sum = sum.wrapping_add($told);
+                sum = sum.wrapping_add($term);
             }
         }
         sum
     }};
 }
 
-// The sum of what calls tell, each on the next value of either.
+// The sum over calls, each on the next value of both vectors.
 macro_rules! sum_of_pairs {
-    ($left:expr, $right:expr, $count:expr, |$a:ident, $b:ident| $told:expr) => {{
+    ($left:expr, $right:expr, $count:expr, |$a:ident, $b:ident| $term:expr) => {{
         let (left, right) = ($left.as_slice(), $right.as_slice());
         let mut sum = 0_u64;
         for turn in 0..$count {
             let place = (turn & 7) as usize;
             if let (Some($a), Some($b)) = (left.get(place), right.get(place)) {
-                sum = sum.wrapping_add($told);
+                sum = sum.wrapping_add($term);
             }
         }
         sum
     }};
 }
 
-// The sum of what calls tell, each on the same bytes with another last one, of which some bits may
-// change.
+// The sum over calls, each on the same bytes with another last byte.
 macro_rules! sum_of_bytes {
-    ($bytes:expr, $varied:expr, $count:expr, |$now:ident| $told:expr) => {{
+    ($bytes:expr, $varied:expr, $count:expr, |$now:ident| $term:expr) => {{
         let (bytes, varied) = ($bytes.as_mut_slice(), $varied);
         let mut sum = 0_u64;
         for _ in 0..$count {
@@ -47,15 +46,15 @@ macro_rules! sum_of_bytes {
                 *last = (sum & 0xff) as u8 & varied;
             }
             let $now: &[u8] = bytes;
-            sum = sum.wrapping_add($told);
+            sum = sum.wrapping_add($term);
         }
         sum
     }};
 }
 
 impl<const S: usize> Inputs<S> {
-    /// Makes so many calls of an operation, and answers the sum of what they tell. Of a list, so many
-    /// items are written or read, by the thousand.
+    /// Makes `count` calls of an operation, and returns the sum of their results. For a list, `count` items
+    /// are written or read, a thousand a call.
     pub fn run(&mut self, alloc: Global, operation: Operation, count: u32) -> u64 {
         match operation {
             Operation::Wrap => self.wrap(count),
@@ -84,13 +83,13 @@ impl<const S: usize> Inputs<S> {
     fn wrap(&mut self, count: u32) -> u64 {
         let code = self.code;
         sum_of_bytes!(self.digest, self.varied, count, |digest| {
-            told(&calls::wrap::<S>(code, digest))
+            code_plus_size(&calls::wrap::<S>(code, digest))
         })
     }
 
     fn from_bytes(&mut self, count: u32) -> u64 {
         sum_of_bytes!(self.encoding, self.varied, count, |bytes| {
-            told(&calls::from_bytes::<S>(bytes))
+            code_plus_size(&calls::from_bytes::<S>(bytes))
         })
     }
 
@@ -104,20 +103,20 @@ impl<const S: usize> Inputs<S> {
     fn read_slice(&mut self, count: u32) -> u64 {
         sum_of_bytes!(self.encoding, self.varied, count, |bytes| {
             let mut rest = bytes;
-            let read = told(&calls::read_slice::<S>(&mut rest));
+            let read = code_plus_size(&calls::read_slice::<S>(&mut rest));
             read.wrapping_add(rest.len() as u64)
         })
     }
 
     fn write_slice(&mut self, count: u32) -> u64 {
         sum_of_values!(self.left, count, |m| {
-            told_count(&calls::write_slice(m, &mut self.room))
+            count_or_zero(&calls::write_slice(m, &mut self.output))
         })
     }
 
     fn write_vec(&mut self, count: u32) -> u64 {
         sum_of_values!(self.left, count, |m| {
-            told_count(&calls::write_vec(m, &mut self.vector))
+            count_or_zero(&calls::write_vec(m, &mut self.vector))
         })
     }
 
@@ -155,7 +154,7 @@ impl<const S: usize> Inputs<S> {
     }
 
     fn resize(&self, count: u32) -> u64 {
-        sum_of_values!(self.left, count, |m| told(&calls::resize(m)))
+        sum_of_values!(self.left, count, |m| code_plus_size(&calls::resize(m)))
     }
 
     fn into_inner(&self, count: u32) -> u64 {
@@ -167,14 +166,14 @@ impl<const S: usize> Inputs<S> {
 
     fn scale_encode(&mut self, count: u32) -> u64 {
         sum_of_values!(self.left, count, |m| {
-            told_count(&calls::scale_encode(m, &mut self.room))
+            count_or_zero(&calls::scale_encode(m, &mut self.output))
         })
     }
 
     fn scale_decode(&mut self, count: u32) -> u64 {
         sum_of_bytes!(self.scale, self.varied, count, |bytes| {
             let mut rest = bytes;
-            let read = told(&calls::scale_decode::<S>(&mut rest));
+            let read = code_plus_size(&calls::scale_decode::<S>(&mut rest));
             read.wrapping_add(rest.len() as u64)
         })
     }
@@ -188,14 +187,14 @@ impl<const S: usize> Inputs<S> {
 
     fn from_value(&self, count: u32) -> u64 {
         sum_of_values!(self.values, count, |value| {
-            told(&calls::from_value::<S>(value))
+            code_plus_size(&calls::from_value::<S>(value))
         })
     }
 
     fn write_list(&mut self, count: u32) -> u64 {
         let mut sum = 0_u64;
         for _ in 0..count / LIST as u32 {
-            let written = calls::write_list(&self.items, &mut self.room);
+            let written = calls::write_list(&self.items, &mut self.output);
             sum = sum.wrapping_add(u64::from(written.is_ok()));
         }
         sum
@@ -213,16 +212,15 @@ impl<const S: usize> Inputs<S> {
     }
 }
 
-// What of an answer goes into the sum.
-fn told<const S: usize>(answer: &Result<Multihash<S>, Error>) -> u64 {
-    match answer {
+fn code_plus_size<const S: usize>(made: &Result<Multihash<S>, Error>) -> u64 {
+    match made {
         Ok(m) => m.code().wrapping_add(u64::from(m.size())),
         Err(_) => 0,
     }
 }
 
-fn told_count(answer: &Result<usize, Error>) -> u64 {
-    match answer {
+fn count_or_zero(written: &Result<usize, Error>) -> u64 {
+    match written {
         Ok(count) => *count as u64,
         Err(_) => 0,
     }

@@ -1,4 +1,4 @@
-//! The longest and the shortest digests, and each beginning of a long form.
+//! The longest and the shortest digests, and each prefix of a long form.
 use crate::expect::{check, check_eq, expect_ok, expect_refused};
 use crate::reading::{decode_slice, read_slice};
 use fakes::refusal::{Refusal, is_refused};
@@ -8,7 +8,7 @@ use std::process::Abort;
 
 const ZEROS: [u8; 256] = [0; 256];
 
-/// How many zeros, the first bytes of the encoding, and how long it and the SCALE form are.
+/// The number of zeros, the first bytes of the encoding, and the lengths of the encoding and the SCALE form.
 type Row = (usize, &'static [u8], usize, usize);
 
 const ROWS: [Row; 4] = [
@@ -34,7 +34,7 @@ fn expect_lengths(rt: &impl Abort, alloc: Global, zeros: &[u8], row: &Row) {
 fn lengths_of_forms(rt: HostRuntime) {
     let rt = &rt;
     for row in &ROWS {
-        // not `check!`, which tells the proof nothing
+        // not `check!`, which gives the proof no fact
         assert!(rt; row.0 <= 256);
         expect_lengths(rt, rt.alloc(), &ZEROS[..row.0], row);
     }

@@ -1,4 +1,4 @@
-//! What begins an encoding.
+//! The head of an encoding.
 use crate::expect::{check_eq, expect_ok, expect_refused};
 use fakes::refusal::Refusal;
 use multihash::Head;

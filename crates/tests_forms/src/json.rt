@@ -110,7 +110,7 @@ fn other_values_are_no_bytes(rt: HostRuntime) {
     }
 }
 
-// Arrays of bytes, and how a buffer of two bytes refuses them.
+// Arrays of bytes, and the errors for a capacity of two.
 const REFUSED: [(&str, Refusal); 7] = [
     ("[0]", Refusal::Insufficient),
     ("[0,3]", Refusal::InvalidSize(3)),
@@ -137,7 +137,7 @@ fn arrays_of_bytes_are_read(rt: HostRuntime) {
     check_eq!(rt; m, expect_ok(rt, Multihash::wrap(128, &[255, 0])));
 }
 
-// Every kind of value, made as the program makes one: first those that take no memory.
+// Every kind of value, made as a program makes one: first those without an allocation.
 fn plain(alloc: Global) -> Result<Vec<Value>, AllocError> {
     Ok(vec![in alloc;
         Value::Null,
@@ -152,7 +152,7 @@ fn plain(alloc: Global) -> Result<Vec<Value>, AllocError> {
     ]?)
 }
 
-// The others, each made by itself, so that there is nothing to drop where memory is wanted.
+// The others, each made alone, so that there is nothing to drop when out of memory.
 enum Kind {
     EmptyText,
     Zero,
@@ -198,13 +198,13 @@ fn expect_no_bytes(rt: &impl Abort, value: &Value) {
     check!(rt; is_no_bytes::<255>(value), value);
 }
 
-// Alone, and behind a zero.
+// Alone, and after a zero.
 fn expect_kind(rt: &impl Abort, alloc: Global, value: Value) {
     expect_no_bytes(rt, &value);
     expect_no_bytes(rt, &expect_ok(rt, after_zero(alloc, value)));
 }
 
-// A number behind a zero is a size, or the beginning of one: of 0 alone there is a pair.
+// A number after a zero is a size, or a prefix of one: 0 alone makes a pair.
 fn is_size_read(answer: &Result<Multihash<255>, Error>, n: u16) -> bool {
     match answer {
         Ok(m) => n == 0 && *m == Multihash::default(),

@@ -1,4 +1,4 @@
-//! Tests of the forms: the binary one, SCALE and JSON, and what reading answers to each kind of input.
+//! Tests of the binary form, SCALE and JSON, and of the result for each kind of input.
 #![tactic(auto)]
 
 #[cfg(test)]

@@ -1,9 +1,9 @@
-//! Readings that tests ask for, each proved once for all of the crate.
+//! Calls of the tests, each proved once for the crate.
 ghost use Rattle.std.specs.Prelude.{◌<◌, ◌^◌};
 
 use multihash::{Error, Multihash};
 
-/// What `read` answers over a slice, and what it leaves of it.
+/// The result of `read` from a slice, and what it leaves.
 pub(crate) fn read_slice<const S: usize>(bytes: &[u8]) -> (Result<Multihash<S>, Error>, &[u8])
     requires { S < 2 ^ 16 }
 {
@@ -12,7 +12,7 @@ pub(crate) fn read_slice<const S: usize>(bytes: &[u8]) -> (Result<Multihash<S>, 
     (answer, left)
 }
 
-/// The same of `scale_decode`.
+/// The same for `scale_decode`.
 pub(crate) fn decode_slice<const S: usize>(bytes: &[u8]) -> (Result<Multihash<S>, Error>, &[u8])
     requires { S < 2 ^ 16 }
 {

@@ -7,7 +7,10 @@ const SHA2_256: u64 = 0x12;
 
 #[test]
 fn a_digest_comes_back(rt: HostRuntime) {
-    check!(&rt; expect_ok(&rt, there_and_back(rt.alloc(), &[1, 2, 3])));
+    let rt = &rt;
+    let (bytes, back) = expect_ok(rt, there_and_back(rt.alloc(), &[1, 2, 3]));
+    expect_bytes(rt, &bytes, &[0x12, 3, 1, 2, 3]);
+    expect_bytes(rt, back.digest(), &[1, 2, 3]);
 }
 
 #[test]

@@ -43,7 +43,7 @@ fn a_text_in_two_buffers(rt: HostRuntime) {
 }
 
 fn expect_halves(rt: &impl Abort, bytes: &[u8]) {
-    // not `check!`, which tells the proof nothing
+    // not `check!`, which gives the proof no fact
     assert!(rt; bytes.len() >= 20);
     expect_bytes(rt, &bytes[..20], &HELLO);
     expect_bytes(rt, &bytes[20..], &HELLO);
@@ -86,10 +86,10 @@ fn pairs_are_written(rt: HostRuntime) {
     expect_written::<32>(&rt, rt.alloc(), 0, b"hello world", &HELLO);
 }
 
-/// What decoding answers: a pair, or a refusal.
+/// The result of decoding: a pair or an error.
 type Want = Result<(u64, &'static [u8]), Refusal>;
 
-/// An input, what decoding answers to it, and how many bytes of it are left, where that is said.
+/// An input, the result of decoding it, and the number of bytes left, if that is specified.
 type Row = (&'static [u8], Want, Option<usize>);
 
 const UP_TO_FOUR: [Row; 15] = [
@@ -120,7 +120,7 @@ const UP_TO_FOUR: [Row; 15] = [
         Ok((72623859790382856, &[0xaa])),
         Some(0),
     ),
-    // The largest code, and larger ones: these are refused before the size is taken.
+    // The largest code, and larger ones: these are rejected before the size is consumed.
     (
         &[255, 255, 255, 255, 255, 255, 255, 127],
         Err(Refusal::UnexpectedEof),
@@ -155,7 +155,7 @@ const UP_TO_FOUR: [Row; 15] = [
     ),
 ];
 
-// Whether the answer is the one that is wanted.
+// Whether the result is the expected one.
 fn is_wanted<const S: usize>(want: &Want, answer: &Result<Multihash<S>, Error>) -> bool {
     match (want, answer) {
         (Ok((code, digest)), Ok(m)) => m.code() == *code && m.digest() == *digest,
@@ -164,7 +164,7 @@ fn is_wanted<const S: usize>(want: &Want, answer: &Result<Multihash<S>, Error>) 
     }
 }
 
-// Whether so many bytes of the input are left, where that is said.
+// Whether that many bytes of the input are left, if that is specified.
 fn is_left(wanted: &Option<usize>, input: &[u8], left: &[u8]) -> bool {
     input.ends_with(left)
         && match wanted {

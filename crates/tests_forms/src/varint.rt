@@ -31,7 +31,7 @@ const VARINTS: [(u64, &[u8]); 13] = [
     ),
 ];
 
-// Numbers of 64 bits, and the digits that they would have: these have nine marked bytes.
+// Numbers of 64 bits, and the digits that they would have: these have nine continuation bytes.
 const TOO_LARGE: [(u64, &[u8]); 2] = [
     (
         9223372036854775808,
@@ -43,7 +43,7 @@ const TOO_LARGE: [(u64, &[u8]); 2] = [
     ),
 ];
 
-// The proof goes through a table wherever it is written out, so one function writes out each.
+// The proof expands a table wherever it is written, so one function has each.
 fn varints() -> [(u64, &'static [u8]); 13] {
     VARINTS
 }
@@ -80,7 +80,7 @@ fn codes_both_ways(rt: HostRuntime) {
     }
 }
 
-// What `varint::read` answers over a slice, and what it leaves of it.
+// The result of `varint::read` from a slice, and what it leaves.
 fn read_varint(bytes: &[u8]) -> (Result<u64, Error>, &[u8]) {
     let mut left = bytes;
     let answer = varint::read(&mut left);
@@ -112,7 +112,7 @@ fn varints_both_ways(rt: HostRuntime) {
     }
 }
 
-// What 2^63 and 2^64 - 1 would be as ten bytes, and nine marked bytes before a zero or another.
+// What 2^63 and 2^64 - 1 would be as ten bytes, and nine continuation bytes before a zero or another byte.
 const TOO_LONG: [[u8; 10]; 4] = [
     [0x80, 0x80, 0x80, 0x80, 0x80, 0x80, 0x80, 0x80, 0x80, 0x01],
     [0xff, 0xff, 0xff, 0xff, 0xff, 0xff, 0xff, 0xff, 0xff, 0x01],
@@ -161,7 +161,7 @@ fn larger_numbers_have_no_varint(rt: HostRuntime) {
     }
 }
 
-// The ten bytes that a code would have, and behind them the size 0.
+// The ten bytes that a code would have, followed by the size 0.
 fn expect_code_overflows(rt: &impl Abort, bytes: &[u8]) {
     expect_whole_refused(rt, bytes, Refusal::Overflow);
     let mut reader = Cuts::new(bytes, 1);
@@ -182,15 +182,15 @@ fn larger_codes_have_no_varint(rt: HostRuntime) {
     }
 }
 
-// What may follow a beginning of a varint.
+// What may follow a prefix of a varint.
 const BEHIND: [&[u8]; 6] = [&[], &[0], &[1], &[2], &[0, 7], &[0x80; 17]];
 
-// Whether two errors have one text.
+// Whether two errors have the same text.
 fn is_told_alike(rt: &impl Abort, alloc: Global, e: &Error, other: &Error) -> bool {
     expect_ok(rt, e.to_string(alloc)).as_str() == expect_ok(rt, other.to_string(alloc)).as_str()
 }
 
-// `read` and `from_bytes` answer alike, but for bytes that are left over.
+// `read` and `from_bytes` return the same, but for trailing bytes.
 fn expect_alike(rt: &impl Abort, alloc: Global, bytes: &[u8]) {
     let (read, left) = &read_slice::<4>(bytes);
     let whole = &Multihash::<4>::from_bytes(bytes);
@@ -198,13 +198,13 @@ fn expect_alike(rt: &impl Abort, alloc: Global, bytes: &[u8]) {
         (Ok(m), Ok(whole)) => left.is_empty() && m == whole,
         (Ok(_), Err(e)) => !left.is_empty() && e.invalid_size() == Some(left.len() as u64),
         (Err(e), Err(whole)) => is_told_alike(rt, alloc, e, whole),
-        // `from_bytes` alone answers a pair
+        // `from_bytes` alone returns a pair
         (Err(_), Ok(_)) => false,
     };
     check!(rt; is_alike, (bytes, read, whole));
 }
 
-// The same of each beginning of the bytes, whatever follows it.
+// The same for each prefix of the bytes, whatever follows it.
 fn expect_beginnings_alike(rt: &impl Abort, alloc: Global, code: &[u8]) {
     for n in 0..=code.len() {
         for behind in BEHIND {
@@ -242,7 +242,7 @@ fn expect_asked(
 fn a_varint_asks_byte_by_byte(rt: HostRuntime) {
     // The code 300, and the digest `AB`.
     expect_asked(&rt, &[172, 2, 2, 65, 66, 9], true, (3, 0, 1), &[9]);
-    // A size that is refused asks for no digest.
+    // After an invalid size no digest is read.
     expect_asked(
         &rt,
         &[0, 5, 1, 2, 3, 4, 5],
@@ -250,11 +250,11 @@ fn a_varint_asks_byte_by_byte(rt: HostRuntime) {
         (2, 0, 0),
         &[1, 2, 3, 4, 5],
     );
-    // Nor does an input that ends in a varint; it is asked once more, and ends there.
+    // Nor after an input that ends within a varint: the reader is called once more, and ends there.
     expect_asked(&rt, &[0, 128], false, (3, 0, 0), &[]);
 }
 
-// Why no part begins an address: it is cut, or its head is refused.
+// An address does not begin with a part: it is truncated, or its head is malformed.
 fn is_part_refused(address: &[u8], why: Option<Refusal>) -> bool {
     match first_part(address) {
         Ok(_) => false,
@@ -268,7 +268,7 @@ fn expect_part(rt: &impl Abort, address: &[u8], wanted: (u64, &[u8], &[u8])) {
     check_eq!(rt; (part.code, part.bytes, rest), wanted, address);
 }
 
-// The code 421 is of two bytes; behind the part stands a byte of the next.
+// The varint of the code 421 has two bytes; a byte of the next part follows.
 #[test]
 fn an_address_is_taken_apart(rt: HostRuntime) {
     let rt = &rt;

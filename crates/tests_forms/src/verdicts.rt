@@ -1,4 +1,4 @@
-//! What reading answers to each kind of input, and which bytes it takes.
+//! The result of reading each kind of input, and the bytes consumed.
 ghost use Rattle.std.specs.Prelude.{◌<◌, ◌^◌};
 
 use crate::expect::{check, check_eq, expect_bytes, expect_ok};
@@ -11,23 +11,23 @@ use std::alloc::Global;
 use std::process::Abort;
 use uses::bytes::bytes_back;
 
-/// The answer that is wanted: a pair, or a refusal.
+/// The expected result: a pair or an error.
 type Want = Result<(u64, &'static [u8]), Refusal>;
 
-/// The bytes that are to be taken.
+/// The bytes that have to be consumed.
 #[derive(Clone, Copy)]
 enum Taken {
-    /// The first ones, which settle the answer.
+    /// The prefix that settles the result.
     Settled(usize),
     /// The whole input, which settles nothing.
     All,
-    /// Both varints at least, of an input that ends in the digest.
+    /// At least both varints, of an input that ends within the digest.
     Varints(usize),
 }
 
 use Taken::{All, Settled, Varints};
 
-/// An input, what `read` answers to it and takes of it, and what `from_bytes` answers.
+/// An input, the result of `read` and the bytes it consumes, and the result of `from_bytes`.
 type Row = (&'static [u8], Want, Taken, Want);
 
 const UP_TO_FOUR: [Row; 28] = [
@@ -154,7 +154,7 @@ const UP_TO_FOUR: [Row; 28] = [
 ];
 
 const EMPTY_ONLY: [Row; 3] = [
-    // a buffer of no places
+    // a capacity of 0
     (&[0, 0], Ok((0, &[])), Settled(2), Ok((0, &[]))),
     (&[0, 0x80], Err(Insufficient), All, Err(Insufficient)),
     (
@@ -169,9 +169,9 @@ const UP_TO_TWO: [Row; 4] = [
     // too few bytes
     (&[], Err(Insufficient), All, Err(Insufficient)),
     (&[0], Err(Insufficient), All, Err(Insufficient)),
-    // bytes left over are counted
+    // trailing bytes are counted
     (&[0, 0, 7], Ok((0, &[])), Settled(2), Err(InvalidSize(1))),
-    // a size is refused before the digest
+    // a size is rejected before the digest
     (
         &[0, 3, 9, 9, 9],
         Err(InvalidSize(3)),
@@ -180,7 +180,7 @@ const UP_TO_TWO: [Row; 4] = [
     ),
 ];
 
-// A padded code is refused.
+// A padded code is rejected.
 const UP_TO_32: [Row; 1] = [(
     &[241, 0, 0, 0, 0, 0, 128, 132, 132, 132, 58],
     Err(NotMinimal),
@@ -203,7 +203,7 @@ const UP_TO_255: [Row; 2] = [
     ),
 ];
 
-// The proof goes through a table wherever it is written out, so one function writes out each.
+// The proof expands a table wherever it is written, so one function has each.
 fn up_to_four() -> [Row; 28] {
     UP_TO_FOUR
 }
@@ -224,7 +224,7 @@ fn up_to_255() -> [Row; 2] {
     UP_TO_255
 }
 
-// Whether the answer is the one that is wanted.
+// Whether the result is the expected one.
 fn is_wanted<const S: usize>(want: &Want, answer: &Result<Multihash<S>, Error>) -> bool {
     match (want, answer) {
         (Ok((code, digest)), Ok(m)) => m.code() == *code && m.digest() == *digest,
@@ -233,7 +233,7 @@ fn is_wanted<const S: usize>(want: &Want, answer: &Result<Multihash<S>, Error>) 
     }
 }
 
-// Whether so many bytes were to be taken of an input, where this is left of it.
+// Whether the bytes consumed are the expected ones, if this is left of the input.
 fn is_taken(taken: &Taken, input: &[u8], left: &[u8]) -> bool {
     let Some(n) = input.len().checked_sub(left.len()) else {
         return false;
@@ -317,7 +317,7 @@ fn verdicts_over_cuts(rt: HostRuntime) {
     expect_over_cuts::<300>(&rt, &up_to_255());
 }
 
-// The bytes that settle the answer give it whatever follows.
+// A prefix that settles the result has it whatever follows.
 fn expect_settled<const S: usize>(
     rt: &impl Abort,
     alloc: Global,
@@ -353,7 +353,7 @@ fn expect_all_settled<const S: usize>(rt: &impl Abort, alloc: Global, rows: &[Ro
 {
     for (input, want, taken, _) in rows {
         if let Taken::Settled(n) = taken {
-            // not `check!`, which tells the proof nothing
+            // not `check!`, which gives the proof no fact
             assert!(rt; *n <= input.len());
             let front = &input[..*n];
             for more in [[0].as_slice(), &[255], &[128, 128]] {

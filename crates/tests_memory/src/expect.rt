@@ -1,5 +1,5 @@
-//! What a test expects, proved once for all of the crate, where `assert!` is proved at each call. Only
-//! tests may end the process, so no library has it.
+//! Assertions for tests, proved once for the crate, while `assert!` is proved at each call. Only tests may end
+//! the process, so no library has them.
 use fakes::refusal::Refusal;
 use multihash::Error;
 use std::fmt::{Debug, Display};
@@ -8,7 +8,7 @@ use std::test::Fail;
 
 const REFUSED: &str = "memory was refused";
 
-/// As `assert!`, and prints what it asks too where there is a message.
+/// Like `assert!`; prints the condition too, if there is a message.
 macro_rules! check {
     ($rt:expr; $cond:expr $(,)?) => {
         $crate::expect::expect_true(&$rt, $cond, concat!("assertion failed: ", stringify!($cond)))
@@ -18,7 +18,7 @@ macro_rules! check {
     };
 }
 
-/// As `assert_eq!`, of values of one type, and prints what the left one is where there is no message.
+/// Like `assert_eq!`, for values of one type; prints the left expression if there is no message.
 macro_rules! check_eq {
     ($rt:expr; $left:expr, $right:expr $(,)?) => {
         $crate::expect::expect_equal(&$rt, &$left, &$right, stringify!($left))
@@ -31,17 +31,17 @@ macro_rules! check_eq {
 pub(crate) use check;
 pub(crate) use check_eq;
 
-/// Fails where it does not hold.
+/// Fails if the condition is false.
 pub(crate) fn expect_true<D: Display + Drop>(rt: &impl Abort, holds: bool, what: D) {
     assert!(rt; holds, "{what}");
 }
 
-/// As `expect_true`, and prints the note too.
+/// Like `expect_true`; prints the note too.
 pub(crate) fn expect_noted<D: Display + Drop>(rt: &impl Abort, holds: bool, what: &str, note: D) {
     assert!(rt; holds, "assertion failed: {what}: {note}");
 }
 
-/// Fails where the value is not the one that is wanted.
+/// Fails if the value is not the expected one.
 pub(crate) fn expect_equal<T: PartialEq + Debug, D: Display + Drop>(
     rt: &impl Abort,
     value: &T,
@@ -51,12 +51,12 @@ pub(crate) fn expect_equal<T: PartialEq + Debug, D: Display + Drop>(
     assert_eq!(rt; value, wanted, "{what}");
 }
 
-/// Fails where the bytes are not those that are wanted.
+/// Fails if the bytes are not the expected ones.
 pub(crate) fn expect_bytes(rt: &impl Abort, bytes: &[u8], wanted: &[u8]) {
     assert_eq!(rt; bytes, wanted);
 }
 
-/// What was answered, where that isn't want of memory.
+/// The value of a result that is not out of memory.
 pub(crate) fn unless_refused<T>(rt: &impl Abort, answer: Result<T, Error>) -> Result<T, Fail> {
     match answer {
         Ok(answer) => Ok(answer),

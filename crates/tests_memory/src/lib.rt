@@ -1,4 +1,4 @@
-//! Tests of memory: how much is asked for, and what stands where it is refused.
+//! Tests of memory: the number of allocations, and what is left when one fails.
 #![tactic(auto)]
 
 #[cfg(test)]

@@ -1,6 +1,6 @@
-//! Memory that is refused. A test whose name begins with `refused` passes where nothing is refused.
-//! Where a request is, it looks at what stands then, and fails with `REFUSED`:
-//! `tools/refuse_memory.sh` refuses each request in turn, and counts them so.
+//! Failing allocations. A test whose name begins with `refused` passes if no allocation fails. If one does,
+//! it checks what is left then, and fails with `REFUSED`: `tools/refuse_memory.sh` makes each allocation fail
+//! in turn, and counts them.
 ghost use Rattle.std.specs.Prelude.{◌<◌, ◌^◌};
 
 use crate::expect::{check, check_eq, expect_bytes, unless_refused};
@@ -14,7 +14,7 @@ use std::hash::{DefaultHasher, Hash, Hasher};
 use std::process::Abort;
 use std::test::Fail;
 
-// (0, `A`), (18, `B`), and a byte behind them.
+// (0, `A`), (18, `B`), and a trailing byte.
 const STREAM: [u8; 7] = [0, 1, 65, 18, 1, 66, 7];
 
 fn two() -> Result<[Multihash<4>; 2], Error> {
@@ -63,8 +63,7 @@ fn refused_read_list(rt: HostRuntime) -> Result<(), Fail> {
     Ok(())
 }
 
-// Where memory was refused, a proper beginning stands in the vector, and what is missing can be
-// appended.
+// If an allocation failed, the vector has a strict prefix, and the rest can be appended.
 fn expect_appended<R: Abort>(rt: &R, mut held: Vec<u8>, refused: bool, wanted: &[u8]) {
     if refused {
         check!(rt; held.len() < wanted.len());
@@ -117,7 +116,7 @@ fn refused_write_of_a_long_list(rt: HostRuntime) -> Result<(), Fail> {
     unless_refused(&rt, answer)
 }
 
-// A vector that is refused its room stays as it was, under both calls of a writer.
+// A vector whose allocation fails is unchanged, by both calls of a writer.
 #[test]
 fn refused_write_of_a_vector(rt: HostRuntime) -> Result<(), Fail> {
     let mut held = Vec::new(rt.alloc());
@@ -132,7 +131,7 @@ fn refused_write_of_a_vector(rt: HostRuntime) -> Result<(), Fail> {
     Ok(())
 }
 
-// So does one under `?` behind a push: the error is the library's.
+// So is one under `?` after a push: the error is the library's.
 #[test]
 fn refused_push(rt: HostRuntime) -> Result<(), Fail> {
     let mut held = Vec::new(rt.alloc());
@@ -176,7 +175,7 @@ fn expect_written(rt: &impl Abort, items: &[Multihash<4>; 2]) -> Result<(), Fail
     Ok(())
 }
 
-// Passes also where each request is refused, since none of these calls makes one.
+// Passes also if each allocation fails, since none of these calls makes one.
 #[test]
 fn needs_no_memory(rt: HostRuntime) -> Result<(), Fail> {
     let [first, second] = two()?;
@@ -229,7 +228,7 @@ fn expect_slices(rt: &impl Abort) {
     check!(rt; writer.write_all(&[1, 2]).is_ok());
 }
 
-// As `needs_no_memory`: the parts of a value, what a slice answers as a reader and a writer, the varints, the laws.
+// Like `needs_no_memory`: the parts of a value, a slice as a reader and a writer, varints, laws.
 #[test]
 fn parts_and_slices_need_no_memory(rt: HostRuntime) -> Result<(), Fail> {
     let m = Multihash::<6>::wrap(300, b"foobar")?;

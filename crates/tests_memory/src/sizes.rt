@@ -1,16 +1,16 @@
-//! How often memory is asked for at sizes about which a call might change its way: as `memory`, a test here meets each
-//! refusal and then none.
+//! The number of allocations at sizes where a call might behave differently. As in `memory`, each allocation
+//! fails once, and then none.
 ghost use Rattle.std.specs.Prelude.{◌<◌, ◌^◌};
 
-use crate::expect::{check_eq, unless_refused};
-use fakes::refusal::{Refusal, is_refused};
+use crate::expect::{check, check_eq, unless_refused};
+use fakes::refusal::{LARGEST_CODE, Refusal, is_refused};
 use multihash::list::{read_list, write_list};
 use multihash::{Error, Multihash};
 use std::alloc::Global;
 use std::process::Abort;
 use std::test::Fail;
 
-// One request.
+// One allocation.
 fn expect_bytes_at<const S: usize>(rt: &impl Abort, alloc: Global) -> Result<(), Fail>
     requires { S < 2 ^ 16 }
 {
@@ -50,7 +50,7 @@ fn refused_to_bytes_at_each_usual_size(rt: HostRuntime) -> Result<(), Fail> {
     expect_bytes_at::<48>(&rt, rt.alloc())
 }
 
-// One request.
+// One allocation.
 fn expect_value_at<const S: usize>(rt: &impl Abort, alloc: Global) -> Result<(), Fail>
     requires { S < 2 ^ 16 }
 {
@@ -89,7 +89,7 @@ fn refused_to_value_at_200_and_255(rt: HostRuntime) -> Result<(), Fail> {
     expect_value_at::<255>(&rt, rt.alloc())
 }
 
-// One request, for the places: the input ends behind one pair.
+// One allocation, of the capacity: the input ends after one pair.
 fn expect_list_of<const S: usize>(rt: &impl Abort, alloc: Global, count: usize) -> Result<(), Fail>
     requires { S < 2 ^ 16 }
 {
@@ -124,7 +124,7 @@ fn refused_read_of_long_lists(rt: HostRuntime) -> Result<(), Fail> {
     Ok(())
 }
 
-// Where the room is there, nothing is asked for: the one request is the room's.
+// With enough capacity nothing is allocated: the one allocation is that of the capacity.
 #[test]
 fn refused_room_alone(rt: HostRuntime) -> Result<(), Fail> {
     let room = Vec::with_capacity(rt.alloc(), 8192).map_err(Error::from);
@@ -138,4 +138,72 @@ fn refused_room_alone(rt: HostRuntime) -> Result<(), Fail> {
     }
     check_eq!(rt; held.capacity(), 8192);
     Ok(())
+}
+
+// Codes of usual hash functions (sha2-256, blake3), and one of nine bytes.
+const USUAL: [u64; 3] = [18, 30, LARGEST_CODE];
+
+fn expect_usual_bytes<const S: usize>(rt: &impl Abort, alloc: Global) -> Result<(), Fail>
+    requires { S < 2 ^ 16 }
+{
+    for code in USUAL {
+        let m = Multihash::<S>::wrap(code, &[65; 32])?;
+        unless_refused(rt, m.to_bytes(alloc))?;
+    }
+    Ok(())
+}
+
+// One allocation for each code.
+#[test]
+fn refused_to_bytes_of_usual_digests(rt: HostRuntime) -> Result<(), Fail> {
+    expect_usual_bytes::<32>(&rt, rt.alloc())?;
+    expect_usual_bytes::<64>(&rt, rt.alloc())?;
+    expect_usual_bytes::<300>(&rt, rt.alloc())
+}
+
+fn expect_usual_values<const S: usize>(rt: &impl Abort, alloc: Global) -> Result<(), Fail>
+    requires { S < 2 ^ 16 }
+{
+    for code in USUAL {
+        let m = Multihash::<S>::wrap(code, &[65; 32])?;
+        unless_refused(rt, m.to_value(alloc))?;
+    }
+    Ok(())
+}
+
+#[test]
+fn refused_to_value_of_usual_digests(rt: HostRuntime) -> Result<(), Fail> {
+    expect_usual_values::<32>(&rt, rt.alloc())?;
+    expect_usual_values::<64>(&rt, rt.alloc())?;
+    expect_usual_values::<300>(&rt, rt.alloc())
+}
+
+#[test]
+fn refused_read_of_lists_in_64(rt: HostRuntime) -> Result<(), Fail> {
+    for count in [3, 5, 300, 301] {
+        expect_list_of::<64>(&rt, rt.alloc(), count)?;
+    }
+    Ok(())
+}
+
+fn expect_no_request<const S: usize>(rt: &impl Abort) -> Result<(), Fail>
+    requires { S < 2 ^ 16 }
+{
+    for code in USUAL {
+        let m = Multihash::<S>::wrap(code, &[65; 32])?;
+        let mut places = [0u8; 64];
+        let len = m.write(&mut places.as_mut_slice())?;
+        check!(rt; Multihash::<S>::from_bytes(places.get(..len).unwrap_or(&[]))? == m);
+        m.scale_encode(&mut places.as_mut_slice())?;
+        check!(rt; Multihash::<S>::scale_decode(&mut places.as_slice())? == m);
+        check!(rt; m.clone().is_ok());
+    }
+    Ok(())
+}
+
+#[test]
+fn usual_digests_need_no_memory(rt: HostRuntime) -> Result<(), Fail> {
+    expect_no_request::<32>(&rt)?;
+    expect_no_request::<64>(&rt)?;
+    expect_no_request::<300>(&rt)
 }

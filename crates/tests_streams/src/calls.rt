@@ -1,4 +1,4 @@
-//! How often readers and writers are asked, and that one that failed is not asked again.
+//! The number of calls of readers and writers, and that there is none after a failure.
 use crate::expect::{check, check_eq, expect_bytes, expect_ok, expect_refused};
 use fakes::readers::{Counts, Cuts, FailAt};
 use fakes::refusal::{LARGEST_CODE, Refusal, is_failed};
@@ -8,15 +8,15 @@ use multihash::no_std_io::Write;
 use multihash::{Error, Multihash};
 use std::process::Abort;
 
-// The code 300, and the digest `AB`; in the SCALE form too, each with a byte behind it.
+// The code 300, and the digest `AB`; in the SCALE form too, each with a trailing byte.
 const ENCODING: [u8; 6] = [172, 2, 2, 65, 66, 9];
 
 const SCALE: [u8; 12] = [44, 1, 0, 0, 0, 0, 0, 0, 2, 65, 66, 9];
 
-// (0, `A`), (18, `B`), and a byte behind them.
+// (0, `A`), (18, `B`), and a trailing byte.
 const STREAM: [u8; 7] = [0, 1, 65, 18, 1, 66, 7];
 
-// How often a writer is asked for parts, and for the whole.
+// The numbers of calls of `write` and of `write_all`.
 fn expect_writes(rt: &impl Abort, writer: &CountsWrites, wanted: (usize, usize)) {
     check_eq!(rt; (writer.parts, writer.whole), wanted);
 }
@@ -49,13 +49,13 @@ fn no_items_make_no_call(rt: HostRuntime) {
     check_eq!(rt; reader.asked(), (0, 0, 0));
 }
 
-// The call fails so, and none is made after it.
+// The call fails with this error, and none is made after it.
 fn expect_last<T>(rt: &impl Abort, answer: &Result<T, Error>, writer: &CountsWrites, calls: usize) {
     expect_refused(rt, answer, Refusal::DISK_GONE, calls);
     expect_writes(rt, writer, (0, calls.saturating_add(1)));
 }
 
-// A writer that allocates has faults of its own, too.
+// A writer that allocates has errors of its own, too.
 #[test]
 fn a_failed_vector_is_not_asked_again(rt: HostRuntime) {
     let alloc = rt.alloc();
@@ -86,7 +86,7 @@ fn a_full_writer_is_not_asked_again(rt: HostRuntime) {
     check_eq!(rt; writer.asked, 2);
 }
 
-// The input ends so, and so often was the reader asked.
+// The input ends with this error, after that many calls of the reader.
 fn expect_end<T>(
     rt: &impl Abort,
     answer: &Result<T, Error>,
@@ -114,7 +114,7 @@ fn a_cut_digest_asks_once(rt: HostRuntime) {
     expect_end(rt, &answer, why, &reader, (4, 0, 2));
 }
 
-// For none, too: an empty digest is asked for once.
+// Also for no bytes: an empty digest is read once.
 #[test]
 fn an_empty_digest_is_asked_for_once(rt: HostRuntime) {
     let rt = &rt;
@@ -139,7 +139,7 @@ fn an_ended_reader_is_not_asked_again(rt: HostRuntime) {
     expect_end(rt, &answer, Refusal::UnexpectedEof, &reader, (0, 0, 1));
 }
 
-// By the trait's own `read_exact`: the digest is asked for twice, and the second answer ends it.
+// By the trait's own `read_exact`: the digest takes two calls.
 #[test]
 fn an_end_is_met_once(rt: HostRuntime) {
     let rt = &rt;
@@ -163,7 +163,7 @@ fn scale_decode_asks_for_its_three_parts(rt: HostRuntime) {
     let mut reader = Counts::new(&SCALE);
     check!(rt; Multihash::<1>::scale_decode(&mut reader).is_err());
     check_eq!(rt; reader.asked(), (0, 0, 2));
-    // A code that is refused asks for no size.
+    // After an invalid code no size is read.
     let mut reader = Counts::new(&[255, 255, 255, 255, 255, 255, 255, 255, 0]);
     let answer = Multihash::<4>::scale_decode(&mut reader);
     expect_end(
@@ -176,7 +176,7 @@ fn scale_decode_asks_for_its_three_parts(rt: HostRuntime) {
     expect_bytes(rt, reader.left, &[0]);
 }
 
-// The call fails so, and the reader was not asked after it, by any of its calls.
+// The call fails with this error, and no method of the reader was called after it.
 fn expect_last_read<T>(rt: &impl Abort, answer: &Result<T, Error>, reader: &Counts, calls: usize) {
     expect_refused(rt, answer, Refusal::LINK_DOWN, calls);
     let (single, others, whole) = reader.asked();

@@ -1,5 +1,5 @@
-//! Readers and writers that cut, end and fail, at each call and in each room: what was taken or
-//! appended then, and that a fault comes out as it went in.
+//! Readers and writers that return few bytes, end and fail, at each call and with each capacity: what was
+//! consumed or appended by then, and that an error is passed on unchanged.
 use crate::expect::{check, check_eq, expect_bytes, expect_ok, expect_refused};
 use crate::form::{Form, two};
 use fakes::readers::{Cuts, FailAt, Silent};
@@ -11,7 +11,7 @@ use multihash::{Error, Multihash};
 use std::alloc::Global;
 use std::process::Abort;
 
-// The call fails so, and what was not given until then is left.
+// The call fails with this error, and what was not returned by then is left.
 fn expect_reader_fault(
     rt: &impl Abort,
     alloc: Global,
@@ -112,7 +112,7 @@ fn a_reader_is_read_on_after_a_fault(rt: HostRuntime) {
     expect_bytes(rt, reader.cuts.left, &[9]);
 }
 
-// Bytes that the form's reading call refuses once it has taken the last of them.
+// Bytes that the form's reading call rejects after it consumed the last of them.
 const REFUSED: [(Form, &[u8]); 7] = [
     (Form::Binary, &[0, 5]),
     (Form::Binary, &[128, 0]),
@@ -123,7 +123,7 @@ const REFUSED: [(Form, &[u8]); 7] = [
     (Form::List, &[0, 1, 65, 128, 0]),
 ];
 
-// The first bytes are refused and taken, and then the form's own are read.
+// The first bytes are consumed and rejected, and then the form's own are read.
 fn expect_read_on_behind(rt: &impl Abort, alloc: Global, form: Form, input: &[u8]) {
     let mut left = input;
     check!(rt; form.reads(alloc, &mut left).is_err(), input);
@@ -182,7 +182,7 @@ fn every_beginning_ends_early(rt: HostRuntime) {
     }
 }
 
-// An input that ends after so many bytes, in cuts of every size.
+// An input that ends after that many bytes, in pieces of every size.
 fn expect_end_in_cuts(rt: &impl Abort, alloc: Global, form: Form, input: &[u8]) {
     let why = form.early_end(input.len());
     for most in 1..8 {
@@ -218,7 +218,7 @@ fn cuts_change_no_answer(rt: HostRuntime) {
     }
 }
 
-// The call fails so, and what was written until then stands.
+// The call fails with this error, and what was written by then is there.
 fn expect_writer_fault(
     rt: &impl Abort,
     form: Form,
@@ -262,7 +262,7 @@ fn a_writer_fails_after_the_last_call(rt: HostRuntime) {
     }
 }
 
-// What is missing is appended by the caller.
+// The caller appends the rest.
 fn expect_appended(rt: &impl Abort, form: Form, drip: Drip, calls: usize, missing: &[u8]) {
     let mut writer = FailWrite::new(drip, calls);
     check!(rt; form.writes(&mut writer).is_err(), (form, calls));
@@ -318,7 +318,7 @@ fn every_room(rt: HostRuntime) {
     }
 }
 
-// The bytes are written, or as many of them as there is room for; no other place is changed.
+// The bytes are written, or as many as the capacity allows; no other byte is changed.
 fn expect_in_slice(rt: &impl Abort, form: Form, room: usize) {
     let wanted = form.bytes();
     let mut places = [0u8; 13];

@@ -41,7 +41,7 @@ impl Form {
         }
     }
 
-    /// The same, and a byte behind it.
+    /// The same, and a trailing byte.
     pub(crate) fn and_more(self) -> &'static [u8] {
         match self {
             Form::Binary => [172, 2, 2, 65, 66, 9].as_slice(),
@@ -59,7 +59,7 @@ impl Form {
         }
     }
 
-    /// Whether as many bytes are counted as are written.
+    /// Whether the number of bytes returned is that of the bytes written.
     pub(crate) fn writes<W: Write>(self, w: &mut W) -> Result<bool, Error> {
         match self {
             Form::Binary => Ok(pair()?.write(w)? == 5),
@@ -71,7 +71,7 @@ impl Form {
         }
     }
 
-    /// How an input is refused that ends after so many bytes: inside a varint, or not.
+    /// The error for an input that ends after that many bytes: within a varint, or not.
     pub(crate) fn early_end(self, len: usize) -> Refusal {
         let in_a_varint = match self {
             Form::Binary => len < 3,

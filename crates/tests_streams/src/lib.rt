@@ -1,14 +1,18 @@
-//! Tests of readers and writers: where they cut, fail and fill up, and how often they are asked.
+//! Tests of readers and writers that return few bytes, fail and fill up, and of the number of calls.
 #![tactic(auto)]
 
 #[cfg(test)]
 mod calls;
+#[cfg(test)]
+mod doubles;
 #[cfg(test)]
 mod expect;
 #[cfg(test)]
 mod faults;
 #[cfg(test)]
 mod form;
+#[cfg(test)]
+mod headline;
 #[cfg(test)]
 mod list;
 #[cfg(test)]

@@ -12,10 +12,10 @@ use std::alloc::Global;
 use std::process::Abort;
 use uses::forms::{fills_list, read_pairs, stream_back};
 
-// (0, `A`), (18, `B`), and a byte behind them.
+// (0, `A`), (18, `B`), and a trailing byte.
 const STREAM: [u8; 7] = [0, 1, 65, 18, 1, 66, 7];
 
-// So many are read, and they are those.
+// That many are read, and they are the expected ones.
 fn expect_read(rt: &impl Abort, alloc: Global, reader: &mut impl Read, wanted: &[Multihash<4>]) {
     let list = expect_ok(rt, read_list::<4, _>(alloc, reader, wanted.len()));
     check!(rt; list.as_slice() == wanted);
@@ -54,7 +54,7 @@ fn no_items_take_nothing(rt: HostRuntime) {
     check_eq!(rt; fills_list(&none, &mut []), (true, 0));
 }
 
-// Reading so many is refused so, and this is left.
+// Reading that many fails with this error, and this is left.
 fn expect_first<const S: usize>(
     rt: &impl Abort,
     alloc: Global,

@@ -1,4 +1,4 @@
-//! Which bytes stand where, and that the calls of readers and writers succeed.
+//! The bytes read and written, and that the calls of readers and writers succeed.
 use crate::expect::{check, check_eq, expect_bytes, expect_ok};
 use fakes::readers::{Cuts, FailAt, Silent};
 use fakes::refusal::{Refusal, is_failed};

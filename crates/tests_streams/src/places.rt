@@ -1,4 +1,4 @@
-//! Slices that are filled and kept.
+//! Slices that are filled.
 use crate::expect::{check, check_eq, expect_bytes, expect_ok};
 use fakes::refusal::{Refusal, is_failed, is_refused};
 use multihash::Multihash;

@@ -1,11 +1,11 @@
-//! A stream with spoilt parts.
+//! A stream with corrupt entries.
 use crate::expect::{check_eq, expect_ok};
 use multihash::Multihash;
 use std::alloc::Global;
 use std::process::Abort;
 use uses::recovery::recover;
 
-// (1, `7`), a size that is too large, (1, `8`), a varint that is longer than it need be, and one that is cut.
+// (1, `7`), an invalid size, (1, `8`), a varint that is not minimal, and a truncated one.
 const SPOILT: [u8; 12] = [1, 1, 7, 0, 0xff, 0x01, 1, 1, 8, 0x80, 0, 0x12];
 
 fn expect_found(

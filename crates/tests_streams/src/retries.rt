@@ -1,4 +1,4 @@
-//! A reader that asks another one again where it failed.
+//! A reader that retries another one.
 use crate::expect::{check_eq, expect_bytes, expect_ok, expect_refused};
 use fakes::readers::{Cuts, FailAt};
 use fakes::refusal::Refusal;

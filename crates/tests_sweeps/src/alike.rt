@@ -1,4 +1,4 @@
-//! When heads are equal, what a clone is, and what the traits' own methods answer.
+//! When heads are equal, what a clone is, and the results of the traits' own methods.
 use crate::expect::{check, check_eq};
 use multihash::{Head, Multihash};
 use std::process::Abort;

@@ -1,8 +1,8 @@
-//! How often readers and writers are asked, at each length: a lent one as it is by itself.
+//! The number of calls of readers and writers, at each length; a borrowed one is called like the original.
 ghost use Rattle.std.specs.Prelude.{◌<◌, ◌^◌};
 
 use crate::expect::{check, check_eq, expect_bytes};
-use crate::given::{Code, Form, case, different, twice};
+use crate::given::{Code, Form, case, different, many};
 use fakes::readers::{Counts, Cuts, FailAt};
 use fakes::writers::CountsWrites;
 use multihash::Multihash;
@@ -10,7 +10,7 @@ use multihash::no_std_io::{self, Read, Write};
 use std::alloc::Global;
 use std::process::Abort;
 
-// A reader with a `read_exact` of its own, and one that gives all that it is asked for.
+// A reader with a `read_exact` of its own, and one that fills each buffer.
 fn expect_asked<const S: usize>(
     rt: &impl Abort,
     alloc: Global,
@@ -29,7 +29,7 @@ fn expect_asked<const S: usize>(
     check_eq!(rt; reader.asked(), requests);
 }
 
-// A reader without one gives all that it is asked for, and is not asked for nothing.
+// A reader without one fills each buffer, and is never called with an empty one.
 fn expect_asked_in_parts<const S: usize>(
     rt: &impl Abort,
     alloc: Global,
@@ -48,7 +48,7 @@ fn expect_asked_in_parts<const S: usize>(
     check_eq!(rt; reader.asked, calls);
 }
 
-// A lent writer has the trait's own `write_all`, which makes no call for no bytes.
+// A borrowed writer has the trait's own `write_all`, which makes no call for no bytes.
 fn expect_written_to<const S: usize>(
     rt: &impl Abort,
     alloc: Global,
@@ -67,19 +67,20 @@ fn expect_written_to<const S: usize>(
     check_eq!(rt; (writer.parts, writer.whole), (parts, 0));
 }
 
-fn expect_calls<const S: usize>(rt: &impl Abort, alloc: Global, code: Code, digest: &[u8])
+pub(crate) fn expect_calls<const S: usize>(
+    rt: &impl Abort,
+    alloc: Global,
+    code: Code,
+    digest: &[u8],
+)
     requires { S < 2 ^ 16 }
 {
-    let items = twice::<S>(rt, alloc, code, digest);
-    for form in Form::ALL {
+    for form in Form::MORE {
+        let items = form.items::<S>(rt, alloc, code, digest);
         let bytes = form.bytes(rt, alloc, code, digest);
         let (single, others, whole) = form.requests(code, digest.len());
         expect_asked(rt, alloc, form, &items, &bytes, (single, others, whole));
-        let pairs = if matches!(form, Form::List) {
-            2usize
-        } else {
-            1
-        };
+        let pairs = form.count();
         let unasked = if digest.is_empty() { pairs } else { 0 };
         let calls = single.saturating_add(whole).saturating_sub(unasked);
         expect_asked_in_parts(rt, alloc, form, &items, &bytes, calls);
@@ -113,8 +114,8 @@ fn lent_write<W: Write>(w: &mut W, buf: &[u8]) -> Result<usize, no_std_io::Error
     Write::write(&mut lent, buf)
 }
 
-// What is lent is asked once, for all of the bytes.
-fn expect_lent(rt: &impl Abort, alloc: Global, bytes: &[u8]) {
+// What is borrowed is called once, for all of the bytes.
+pub(crate) fn expect_lent(rt: &impl Abort, alloc: Global, bytes: &[u8]) {
     let len = bytes.len();
     let mut buf = vec![in alloc; 0u8; len].expect(rt, "memory");
     let mut reader = Counts::new(bytes);
@@ -134,9 +135,7 @@ fn expect_lent(rt: &impl Abort, alloc: Global, bytes: &[u8]) {
 
 #[test]
 fn each_length_is_lent(rt: HostRuntime) {
-    let bytes = [different(), different()]
-        .concat(rt.alloc())
-        .expect(&rt, "memory");
+    let bytes = many(&rt, rt.alloc());
     for len in 0..511 {
         if let Some(these) = bytes.get(..len) {
             expect_lent(&rt, rt.alloc(), these);

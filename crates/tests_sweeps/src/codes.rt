@@ -1,10 +1,11 @@
-//! That each code of one byte or two is written and has its memory: those of nearly all hash functions.
+//! That each code with a varint of one or two bytes, as nearly all hash functions have, can be written and
+//! memory is available.
 use crate::expect::{check, expect_bytes};
 use multihash::Multihash;
 use std::alloc::Global;
 use std::process::Abort;
 
-// A code with 32 bytes, by what begins its encoding.
+// A code with 32 bytes, by the first bytes of its encoding.
 fn expect_code(rt: &impl Abort, alloc: Global, code: u64, front: &[u8]) {
     let m = Multihash::<32>::wrap(code, &[65; 32]).expect(rt, "it fits");
     check!(rt; m.to_bytes(alloc).is_ok());

@@ -1,8 +1,9 @@
-//! That a fault comes out as it went in, behind each byte of each length, and that what was not taken is left.
+//! That an error is passed on unchanged, after each byte of each length, and that what was not consumed is
+//! left.
 ghost use Rattle.std.specs.Prelude.{◌<◌, ◌^◌};
 
 use crate::expect::{check, expect_bytes};
-use crate::given::{Code, Form, case, different, twice};
+use crate::given::{Code, Form, case, different};
 use fakes::readers::{Counts, Cuts, FailAt};
 use fakes::refusal::{Refusal, is_refused};
 use fakes::writers::{CountsWrites, Drip, FailWrite};
@@ -11,10 +12,10 @@ use multihash::{Error, Multihash};
 use std::alloc::Global;
 use std::process::Abort;
 
-// The most bytes of a form: those of a list of two.
-const MOST: usize = 532;
+// The most bytes of a form, those of a list of two, and more than those of a long buffer.
+const MOST: usize = 700;
 
-// Whether the call was refused so, behind so many bytes or calls.
+// Whether the call failed with this error, after that many bytes or calls.
 fn expect_refused<T>(
     rt: &impl Abort,
     form: Form,
@@ -25,8 +26,8 @@ fn expect_refused<T>(
     check!(rt; is_refused(answer, why), "{form:?}, {why:?} at {at}");
 }
 
-// A reader without a `read_exact` of its own, which fails behind so many bytes.
-fn failing(input: &[u8], at: usize, why: Refusal) -> FailAt {
+// A reader without a `read_exact` of its own, which fails after that many bytes.
+pub(crate) fn failing(input: &[u8], at: usize, why: Refusal) -> FailAt {
     let cuts = Cuts::new(input, 1);
     if why == Refusal::OutOfMemory {
         FailAt::out_of_memory(cuts, at)
@@ -57,7 +58,7 @@ fn expect_reader_fault<const S: usize>(
     expect_bytes(rt, reader.cuts.left, rest);
 }
 
-// A reader with a `read_exact` of its own, which fails at a request.
+// A reader with a `read_exact` of its own, which fails at a call.
 fn refusing(input: &[u8], calls: usize, why: Refusal) -> Counts {
     if why == Refusal::OutOfMemory {
         Counts::out_of_memory(input, calls)
@@ -66,7 +67,7 @@ fn refusing(input: &[u8], calls: usize, why: Refusal) -> Counts {
     }
 }
 
-// How many bytes were given before so many requests: those of a varint one by one, SCALE's parts as wholes.
+// The number of bytes returned before that many calls: those of a varint one by one, SCALE's parts as wholes.
 fn given_before(form: Form, calls: usize) -> usize {
     match (form, calls) {
         (Form::Scale, 1) => 8,
@@ -97,8 +98,8 @@ fn expect_request_fault<const S: usize>(
     expect_bytes(rt, reader.left, rest);
 }
 
-// A writer without a `write_all` of its own, which fails or is full behind so many bytes.
-fn failing_writer(rt: &impl Abort, alloc: Global, at: usize, why: Refusal) -> FailWrite {
+// A writer without a `write_all` of its own, which fails or is full after that many bytes.
+pub(crate) fn failing_writer(rt: &impl Abort, alloc: Global, at: usize, why: Refusal) -> FailWrite {
     let room = if why == Refusal::WriteZero { at } else { MOST };
     let drip = Drip::new(alloc, room, 1).expect(rt, "memory");
     match why {
@@ -148,7 +149,7 @@ fn expect_faults_at<const S: usize>(
 }
 
 // At each byte of each form of a pair, or at some of them and the last.
-fn expect_faults<const S: usize>(
+pub(crate) fn expect_faults<const S: usize>(
     rt: &impl Abort,
     alloc: Global,
     code: Code,
@@ -157,12 +158,12 @@ fn expect_faults<const S: usize>(
 )
     requires { S < 2 ^ 16 }
 {
-    let items = twice::<S>(rt, alloc, code, digest);
     for form in Form::ALL {
+        let items = form.items::<S>(rt, alloc, code, digest);
         let bytes = form.bytes(rt, alloc, code, digest);
         let last = bytes.len().saturating_sub(1);
         for at in 0..bytes.len() {
-            if each || at % 41 == 0 || at == last {
+            if each || at % 127 == 0 || at == last {
                 expect_faults_at(rt, alloc, form, &items, &bytes, at);
             }
         }
@@ -192,7 +193,7 @@ fn expect_list_fault(rt: &impl Abort, alloc: Global, at: usize, why: Refusal) {
     let input = [0u8; 80];
     let mut reader = failing(&input, at, why);
     let answer = read_list::<0, _>(alloc, &mut reader, 40);
-    expect_refused(rt, Form::List, &answer, why, at);
+    expect_refused(rt, Form::List(40), &answer, why, at);
     expect_bytes(rt, reader.cuts.left, input.get(at..).unwrap_or(&[]));
 }
 
@@ -200,7 +201,7 @@ fn expect_written_list_fault(rt: &impl Abort, alloc: Global, at: usize, why: Ref
     let items = [Multihash::<0>::default(); 40];
     let mut writer = failing_writer(rt, alloc, at, why);
     let answer = write_list(items.as_slice(), &mut writer);
-    expect_refused(rt, Form::List, &answer, why, at);
+    expect_refused(rt, Form::List(40), &answer, why, at);
     expect_bytes(rt, &writer.drip.held, [0u8; 80].get(..at).unwrap_or(&[]));
 }
 
@@ -215,12 +216,17 @@ fn each_item_of_a_list_fails(rt: HostRuntime) {
     }
 }
 
-// Each request of both forms of a pair.
-fn expect_request_faults<const S: usize>(rt: &impl Abort, alloc: Global, code: Code, digest: &[u8])
+// Each call for both forms of a pair.
+pub(crate) fn expect_request_faults<const S: usize>(
+    rt: &impl Abort,
+    alloc: Global,
+    code: Code,
+    digest: &[u8],
+)
     requires { S < 2 ^ 16 }
 {
-    let items = twice::<S>(rt, alloc, code, digest);
     for form in [Form::Binary, Form::Scale] {
+        let items = form.items::<S>(rt, alloc, code, digest);
         let bytes = form.bytes(rt, alloc, code, digest);
         let (single, _, whole) = form.requests(code, digest.len());
         for calls in 0..single.saturating_add(whole) {
@@ -268,11 +274,16 @@ fn expect_call_fault<const S: usize>(
 }
 
 // Each call of both forms of a pair.
-fn expect_call_faults<const S: usize>(rt: &impl Abort, alloc: Global, code: Code, digest: &[u8])
+pub(crate) fn expect_call_faults<const S: usize>(
+    rt: &impl Abort,
+    alloc: Global,
+    code: Code,
+    digest: &[u8],
+)
     requires { S < 2 ^ 16 }
 {
-    let items = twice::<S>(rt, alloc, code, digest);
     for (form, first) in [(Form::Binary, code.1.len()), (Form::Scale, 8)] {
+        let items = form.items::<S>(rt, alloc, code, digest);
         let bytes = form.bytes(rt, alloc, code, digest);
         let second = bytes.len().saturating_sub(digest.len());
         for (calls, written) in [(0, 0), (1, first), (2, second)] {

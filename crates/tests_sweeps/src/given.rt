@@ -37,7 +37,7 @@ pub(crate) fn different() -> [u8; 255] {
     bytes
 }
 
-/// The codes in turn, each with a digest of so many different bytes.
+/// The codes in turn, each with a digest of that many different bytes.
 pub(crate) fn case(bytes: &[u8; 255], len: usize) -> (Code, &[u8]) {
     (CODES[len % 10], bytes.get(..len).unwrap_or(bytes))
 }
@@ -47,12 +47,43 @@ pub(crate) fn case(bytes: &[u8; 255], len: usize) -> (Code, &[u8]) {
 pub(crate) enum Form {
     Binary,
     Scale,
-    /// The pair twice, one after another.
-    List,
+    /// The pair that many times.
+    List(usize),
 }
 
 impl Form {
-    pub(crate) const ALL: [Form; 3] = [Form::Binary, Form::Scale, Form::List];
+    pub(crate) const ALL: [Form; 3] = [Form::Binary, Form::Scale, Form::List(2)];
+
+    /// Those, and longer lists.
+    pub(crate) const MORE: [Form; 5] = [
+        Form::Binary,
+        Form::Scale,
+        Form::List(2),
+        Form::List(3),
+        Form::List(5),
+    ];
+
+    /// The number of times that it contains the pair.
+    pub(crate) fn count(self) -> usize {
+        match self {
+            Form::List(count) => count,
+            _ => 1,
+        }
+    }
+
+    /// The pair, as many times as this form contains it.
+    pub(crate) fn items<const S: usize>(
+        self,
+        rt: &impl Abort,
+        alloc: Global,
+        code: Code,
+        digest: &[u8],
+    ) -> Vec<Multihash<S>>
+        requires { S < 2 ^ 16 }
+    {
+        let m = Multihash::wrap(code.0, digest).expect(rt, "it fits");
+        vec![in alloc; m; self.count()].expect(rt, "memory")
+    }
 
     /// The bytes of the pair in this form.
     pub(crate) fn bytes(
@@ -63,8 +94,7 @@ impl Form {
         digest: &[u8],
     ) -> Vec<u8> {
         let mut bytes = Vec::new(alloc);
-        self.append(rt, &mut bytes, code, digest);
-        if matches!(self, Form::List) {
+        for _ in 0..self.count() {
             self.append(rt, &mut bytes, code, digest);
         }
         bytes
@@ -84,19 +114,19 @@ impl Form {
         put(rt, bytes, digest);
     }
 
-    /// What reading a pair of this form asks for, with a digest of so many bytes: single bytes by `read`, others by it, and
-    /// wholes by `read_exact`.
+    /// The numbers of calls for reading a pair of this form with a digest of that many bytes: of `read` for
+    /// one byte, of `read` for others, and of `read_exact`.
     pub(crate) fn requests(self, code: Code, len: usize) -> (usize, usize, usize) {
         let size_len = if len < 128 { 1 } else { 2 };
         let single = code.1.len().saturating_add(size_len);
         match self {
             Form::Binary => (single, 0, 1),
             Form::Scale => (0, 0, 3),
-            Form::List => (single.saturating_mul(2), 0, 2),
+            Form::List(count) => (single.saturating_mul(count), 0, count),
         }
     }
 
-    /// Writes the first of the items, or their list, and answers how many bytes they are.
+    /// Writes the first of the items, or their list, and returns the number of bytes.
     pub(crate) fn writes<const S: usize, W: Write>(
         self,
         items: &[Multihash<S>],
@@ -110,14 +140,14 @@ impl Form {
         match self {
             Form::Binary => first.write(w),
             Form::Scale => first.scale_encode(w),
-            Form::List => {
+            Form::List(_) => {
                 write_list(items, w)?;
                 Ok(first.encoded_len().saturating_mul(items.len()))
             }
         }
     }
 
-    /// As `writes`, to a writer that is lent.
+    /// Like `writes`, to a borrowed writer.
     pub(crate) fn writes_lent<const S: usize, W: Write>(
         self,
         items: &[Multihash<S>],
@@ -141,11 +171,11 @@ impl Form {
         match self {
             Form::Binary => Ok(items.first() == Some(&Multihash::read(r)?)),
             Form::Scale => Ok(items.first() == Some(&Multihash::scale_decode(r)?)),
-            Form::List => Ok(read_list::<S, _>(alloc, r, items.len())?.as_slice() == items),
+            Form::List(_) => Ok(read_list::<S, _>(alloc, r, items.len())?.as_slice() == items),
         }
     }
 
-    /// As `reads`, of a reader that is lent.
+    /// Like `reads`, from a borrowed reader.
     pub(crate) fn reads_lent<const S: usize, R: Read>(
         self,
         alloc: Global,
@@ -163,18 +193,11 @@ fn put(rt: &impl Abort, bytes: &mut Vec<u8>, more: &[u8]) {
     bytes.extend_from_slice(more).expect(rt, "memory");
 }
 
-/// The pair twice.
-pub(crate) fn twice<const S: usize>(
-    rt: &impl Abort,
-    alloc: Global,
-    code: Code,
-    digest: &[u8],
-) -> Vec<Multihash<S>>
-    requires { S < 2 ^ 16 }
-{
-    let m = Multihash::wrap(code.0, digest).expect(rt, "it fits");
-    let mut items = Vec::with_capacity(alloc, 2).expect(rt, "memory");
-    items.push_reserved(m);
-    items.push_reserved(m);
-    items
+/// 70,125 bytes, of which none is 0.
+pub(crate) fn many(rt: &impl Abort, alloc: Global) -> Vec<u8> {
+    let mut bytes = Vec::with_capacity(alloc, 70125).expect(rt, "memory");
+    for _ in 0..275 {
+        put(rt, &mut bytes, &different());
+    }
+    bytes
 }

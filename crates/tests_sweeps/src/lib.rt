@@ -1,4 +1,4 @@
-//! Sweeps in place of samples, of what no clause tells: each length of a digest, each number about a power, a fault at
+//! Sweeps of what no clause states: each length of a digest, each number near a power of two, an error at
 //! each byte. Each is a loop over one helper.
 #![tactic(auto)]
 
@@ -12,6 +12,8 @@ mod codes;
 mod expect;
 #[cfg(test)]
 mod faults;
+#[cfg(test)]
+mod gaps;
 #[cfg(test)]
 mod given;
 #[cfg(test)]

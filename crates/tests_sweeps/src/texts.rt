@@ -1,4 +1,4 @@
-//! What is printed: the number in an error's text, a fault's text, and what is shown for debugging.
+//! Printed texts: the number in an error, an I/O error's text, and `Debug`.
 ghost use Rattle.std.specs.Prelude.{◌<◌, ◌^◌};
 
 use crate::expect::{check, check_eq};
@@ -11,7 +11,7 @@ use std::alloc::Global;
 use std::fmt::{Debug, Display};
 use std::process::Abort;
 
-// The error names what it refused by this word and this number.
+// The error contains this word and this number.
 fn expect_number<T>(
     rt: &impl Abort,
     alloc: Global,
@@ -30,7 +30,7 @@ fn expect_number<T>(
     check_eq!(rt; told.as_str(), wanted.as_str());
 }
 
-// A head that names such a size, and a code that many above 2^63. A size of 0 is never refused.
+// A head with such a size, and a code that many above 2^63. A size of 0 is never rejected.
 fn expect_numbers(rt: &impl Abort, alloc: Global, number: u64) {
     if number > LARGEST_CODE {
         let answer = Multihash::<0>::wrap(number, &[]);
@@ -74,12 +74,12 @@ fn numbers_about_powers_are_told(rt: HostRuntime) {
     }
 }
 
-// A text with a different beginning of each length.
+// A text, and a different prefix of each length.
 const TEXT: &str =
     "a text of a reader's own, which is longer than any that this library prints, for each of its \
      beginnings is passed on, and printed in full, whatever its length is";
 
-fn expect_told<D: Display>(rt: &impl Abort, alloc: Global, told: &D, wanted: &str) {
+pub(crate) fn expect_told<D: Display>(rt: &impl Abort, alloc: Global, told: &D, wanted: &str) {
     let text = format!(in alloc; "{told}").expect(rt, "it is told");
     check_eq!(rt; text.as_str(), wanted);
 }
@@ -139,7 +139,12 @@ fn faults_are_shown(rt: HostRuntime) {
     );
 }
 
-fn expect_value_shown<const S: usize>(rt: &impl Abort, alloc: Global, code: u64, digest: &[u8])
+pub(crate) fn expect_value_shown<const S: usize>(
+    rt: &impl Abort,
+    alloc: Global,
+    code: u64,
+    digest: &[u8],
+)
     requires { S < 2 ^ 16 }
 {
     let m = Multihash::<S>::wrap(code, digest).expect(rt, "it fits");

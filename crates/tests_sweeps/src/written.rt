@@ -1,9 +1,9 @@
-//! Which bytes stand where each length of a digest was written, in each form: in places that suffice and in one too few,
-//! and in vectors.
+//! The bytes written for each length of a digest, in each form: into slices of the exact length, into ones a
+//! byte shorter, and into vectors.
 ghost use Rattle.std.specs.Prelude.{◌<◌, ◌^◌};
 
 use crate::expect::{check, check_eq, expect_bytes};
-use crate::given::{CODES, Code, Form, case, different, twice};
+use crate::given::{CODES, Code, Form, case, different, many};
 use fakes::refusal::{Refusal, is_refused};
 use multihash::no_std_io::{SliceWriter, Write};
 use multihash::{Error, Multihash};
@@ -13,7 +13,7 @@ use std::process::Abort;
 // Those of a list of two, and one more.
 const PLACES: usize = 533;
 
-// Whether so many bytes were written, or where they do not fit into the room, the writer was full.
+// Whether that many bytes were written, or the writer was full if they do not fit.
 fn is_written(answer: &Result<usize, Error>, len: usize, room: usize) -> bool {
     match answer {
         Ok(n) => *n == len && len <= room,
@@ -21,7 +21,7 @@ fn is_written(answer: &Result<usize, Error>, len: usize, room: usize) -> bool {
     }
 }
 
-// As many of the bytes as there are places for stand in them.
+// The slice has as many of the bytes as fit.
 fn expect_front(rt: &impl Abort, places: &[u8], wanted: &[u8]) {
     let len = places.len().min(wanted.len());
     expect_bytes(rt, &places[..len], &wanted[..len]);
@@ -81,7 +81,7 @@ fn expect_in_slice_writer<const S: usize>(
     expect_front(rt, &places[..room], wanted);
 }
 
-// A lent vector is written by its `write`, and the vector itself by its `write_all`.
+// A borrowed vector is written by its `write`, and the vector itself by its `write_all`.
 fn expect_in_vectors<const S: usize>(
     rt: &impl Abort,
     alloc: Global,
@@ -104,8 +104,8 @@ fn expect_in_vectors<const S: usize>(
 fn expect_written<const S: usize>(rt: &impl Abort, alloc: Global, code: Code, digest: &[u8])
     requires { S < 2 ^ 16 }
 {
-    let items = twice::<S>(rt, alloc, code, digest);
     for form in Form::ALL {
+        let items = form.items::<S>(rt, alloc, code, digest);
         let wanted = form.bytes(rt, alloc, code, digest);
         let len = wanted.len();
         for room in [len.saturating_sub(1), len, len.saturating_add(1)] {
@@ -117,7 +117,7 @@ fn expect_written<const S: usize>(rt: &impl Abort, alloc: Global, code: Code, di
     }
 }
 
-// Each length that a buffer of this size holds, with the codes in turn.
+// Each length that fits this capacity, with the codes in turn.
 fn expect_each_written<const S: usize>(rt: &impl Abort, alloc: Global)
     requires { S < 2 ^ 16 }
 {
@@ -162,7 +162,7 @@ fn each_long_length_is_written(rt: HostRuntime) {
     expect_each_written::<300>(&rt, rt.alloc());
 }
 
-// Each code with lengths about which the size's varint or a copy changes its way.
+// Each code with lengths at which the size's varint or a copy behaves differently.
 #[test]
 fn each_code_is_written(rt: HostRuntime) {
     let bytes = different();
@@ -196,26 +196,23 @@ const LENGTHS: [usize; 16] = [
     70000,
 ];
 
+// Into a slice that is as long, and into one a byte shorter and one longer.
+pub(crate) fn expect_each_copied(rt: &impl Abort, alloc: Global, bytes: &[u8]) {
+    let len = bytes.len();
+    for room in [len.saturating_sub(1), len, len.saturating_add(1)] {
+        let mut places = vec![in alloc; 0u8; room].expect(rt, "memory");
+        expect_copied(rt, bytes, &mut places);
+        let mut places = vec![in alloc; 0u8; room].expect(rt, "memory");
+        expect_all_copied(rt, bytes, &mut places);
+    }
+}
+
 #[test]
 fn each_length_is_copied(rt: HostRuntime) {
-    let mut bytes = Vec::with_capacity(rt.alloc(), 70125).expect(&rt, "memory");
-    for _ in 0..275 {
-        bytes.extend_from_slice(&different()).expect(&rt, "memory");
-    }
+    let bytes = many(&rt, rt.alloc());
     for len in (0..301).chain(LENGTHS) {
         if let Some(these) = bytes.get(..len) {
-            for room in [len.saturating_sub(1), len, len.saturating_add(1)] {
-                expect_copied(
-                    &rt,
-                    these,
-                    &mut vec![in rt.alloc(); 0u8; room].expect(&rt, "memory"),
-                );
-                expect_all_copied(
-                    &rt,
-                    these,
-                    &mut vec![in rt.alloc(); 0u8; room].expect(&rt, "memory"),
-                );
-            }
+            expect_each_copied(&rt, rt.alloc(), these);
         }
     }
 }

@@ -57,7 +57,7 @@ fn pairs_have_their_encodings(rt: HostRuntime) {
     }
 }
 
-// Whether a buffer refuses the pair, and why.
+// Whether a capacity rejects the pair, and with which error.
 fn expect_unwrapped<const S: usize>(rt: &impl Abort, code: u64, digest: &[u8], why: Refusal)
     requires { S < 2 ^ 16 }
 {
@@ -188,7 +188,7 @@ fn accepted_bytes_come_back(rt: HostRuntime) {
     }
 }
 
-// The second is read through a reader that is lent.
+// The second is read through a borrowed reader.
 fn read_both<R: Read>(rt: &impl Abort, mut r: &mut R) {
     let first = expect_ok(rt, Multihash::<4>::read(r));
     let second = expect_ok(rt, Multihash::<4>::read(&mut r));

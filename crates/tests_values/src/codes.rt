@@ -1,4 +1,4 @@
-//! Codes at the limit, and who refuses a larger one.
+//! Codes at the limit, and the calls that reject a larger one.
 use crate::expect::{check, check_eq, expect_bytes};
 use fakes::refusal::{LARGEST_CODE, Refusal, is_refused};
 use multihash::{Error, Multihash};
@@ -7,7 +7,7 @@ use uses::code_table::{self, Entry};
 
 const LARGER: [u64; 3] = [9223372036854775808, 9223372036854775809, u64::MAX];
 
-// Whether the error is a refusal of that code, and of nothing else.
+// Whether the error is that of an invalid code, with this code.
 fn is_code_alone(e: Option<&Error>, code: u64) -> bool {
     let Some(e) = e else {
         return false;

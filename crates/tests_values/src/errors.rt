@@ -1,4 +1,4 @@
-//! What an error tells: its kind, of which exactly one applies, and its text.
+//! Errors: their kinds, of which exactly one applies, and their texts.
 use crate::expect::{check, check_eq, expect_ok};
 use fakes::refusal::Refusal;
 use multihash::no_std_io::{self, Read, Write};
@@ -7,9 +7,22 @@ use serde_json::Value;
 use std::alloc::Global;
 use std::fmt::{Debug, Display};
 use std::process::Abort;
-use uses::bytes::{one_of_four, one_of_seven};
 
-// Whether a call was refused, and one of the seven tests applies to its error.
+// The number of the seven tests that apply to an error.
+fn one_of_seven(e: &Error) -> usize {
+    let tests = [
+        e.invalid_size().is_some(),
+        e.invalid_code().is_some(),
+        e.is_insufficient(),
+        e.is_overflow(),
+        e.is_not_minimal(),
+        e.is_not_bytes(),
+        e.io().is_some(),
+    ];
+    tests.iter().filter(|is_true| **is_true).count()
+}
+
+// Whether a call failed, and exactly one of the seven tests applies to its error.
 fn has_one_kind<T>(answer: &Result<T, Error>) -> bool {
     matches!(answer, Err(e) if one_of_seven(e) == 1)
 }
@@ -34,7 +47,18 @@ fn one_test_of_seven_is_true(rt: HostRuntime) {
     );
 }
 
-// Whether a reader or a writer refused, and one of the four tests is true of its error.
+// The number of the four tests that are true of an error.
+fn one_of_four(e: &no_std_io::Error) -> usize {
+    let tests = [
+        e.is_unexpected_eof(),
+        e.is_write_zero(),
+        e.is_out_of_memory(),
+        e.is_other(),
+    ];
+    tests.iter().filter(|is_true| **is_true).count()
+}
+
+// Whether a reader or a writer failed, and exactly one of the four tests is true of its error.
 fn has_one_fault(answer: &Result<(), no_std_io::Error>) -> bool {
     matches!(answer, Err(e) if one_of_four(e) == 1)
 }
@@ -72,7 +96,7 @@ fn expect_told<E: Debug + Drop>(rt: &impl Abort, told: Result<String, E>, text: 
     check_eq!(rt; expect_ok(rt, told).as_str(), text);
 }
 
-// The value prints this text, whatever width and precision are asked.
+// The value prints this text, whatever the width and precision.
 fn expect_text<D: Display>(rt: &impl Abort, alloc: Global, shown: &D, text: &str) {
     expect_told(rt, format!(in alloc; "{shown}"), text);
     expect_told(rt, format!(in alloc; "{shown:>40}"), text);
@@ -112,7 +136,7 @@ fn expect_refusal<T>(rt: &impl Abort, alloc: Global, answer: &Result<T, Error>, 
     }
 }
 
-// A size and a code of 0, which no call refuses, and the largest size are examples of the definition.
+// A size and a code of 0, which no call rejects, and the largest size are examples of the definition.
 #[test]
 fn numbers_print_in_their_texts(rt: HostRuntime) {
     let rt = &rt;
@@ -208,12 +232,12 @@ fn errors_are_errors(rt: HostRuntime) {
     check!(rt; !expect_ok(rt, format!(in rt.alloc(); "{fault:?}")).is_empty());
 }
 
-// Whether a call was refused, and more input might help.
+// Whether a call failed, and more input might help.
 fn is_early<T>(answer: &Result<T, Error>) -> bool {
     matches!(answer, Err(e) if e.is_early_end())
 }
 
-// Whether a call was refused, and no more input helps.
+// Whether a call failed, and more input does not help.
 fn is_late<T>(answer: &Result<T, Error>) -> bool {
     matches!(answer, Err(e) if !e.is_early_end())
 }

@@ -1,4 +1,4 @@
-//! Tests of values: how they are made, compared, cut and encoded, and of the errors.
+//! Tests of values: how they are made, compared, truncated and encoded; and of errors.
 #![tactic(auto)]
 
 #[cfg(test)]

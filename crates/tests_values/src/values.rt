@@ -8,10 +8,8 @@ use std::collections::{BTreeMap, HashMap};
 use std::hash::{DefaultHasher, Hash, Hasher};
 use std::process::Abort;
 use uses::block_store::{put_hashed, put_ordered};
-use uses::peer_id::same_iff_encoded_alike;
-use uses::values::{
-    equal_iff_same, resized_is_same, same_as_is_an_equivalence, sort_them, truncate_twice,
-};
+use uses::headline::same;
+use uses::values::{all_same, equal_iff_same, resized_is_same, sort_them, truncate_twice};
 
 fn hash_of<T: Hash>(x: &T) -> u64 {
     let mut state = DefaultHasher::new();
@@ -94,7 +92,8 @@ fn expect_ordered(rt: &impl Abort, row: &Row) {
     check_eq!(rt; left == right, want.is_eq(), left_digest);
     check_eq!(rt; left < right, want.is_lt(), left_digest);
     check_eq!(rt; left.same_as(right), want.is_eq(), left_digest);
-    check!(rt; equal_iff_same(left, right), left_digest);
+    let same = want.is_eq();
+    check_eq!(rt; equal_iff_same(left, right), (same, same, same), left_digest);
 }
 
 #[test]
@@ -106,6 +105,19 @@ fn pairs_are_ordered(rt: HostRuntime) {
     let cut = expect_ok(rt, Multihash::<4>::wrap(0, b"ab")).truncate(1);
     let short = expect_ok(rt, Multihash::wrap(0, b"a"));
     check_eq!(rt; cut.cmp(&short), Ordering::Equal);
+}
+
+// Whether two multihashes are the same, and so are their encodings.
+fn expect_compared<const A: usize, const B: usize>(
+    rt: &impl Abort,
+    alloc: Global,
+    a: &Multihash<A>,
+    b: &Multihash<B>,
+    want: bool,
+) {
+    let compared = expect_ok(rt, same(alloc, a, b));
+    check_eq!(rt; compared.same, want);
+    check_eq!(rt; compared.first.as_slice() == compared.second.as_slice(), want);
 }
 
 #[test]
@@ -121,10 +133,11 @@ fn sizes_of_buffers_do_not_count(rt: HostRuntime) {
     check!(rt; !small.same_as(&expect_ok(rt, Multihash::<300>::wrap(0, b"a"))));
     check!(rt; !small.same_as(&expect_ok(rt, Multihash::<300>::wrap(1, b"ab"))));
     let other = expect_ok(rt, small.resize::<6>());
-    check!(rt; same_as_is_an_equivalence(&small, &large, &other));
-    check!(rt; expect_ok(rt, same_iff_encoded_alike(rt.alloc(), &small, &large)));
     let short = small.truncate(1);
-    check!(rt; expect_ok(rt, same_iff_encoded_alike(rt.alloc(), &short, &large)));
+    check!(rt; all_same(&small, &large, &other));
+    check!(rt; !all_same(&small, &large, &short));
+    expect_compared(rt, rt.alloc(), &small, &large, true);
+    expect_compared(rt, rt.alloc(), &short, &large, false);
 }
 
 #[test]
@@ -134,7 +147,7 @@ fn the_smaller_size_counts(rt: HostRuntime) {
     let twice = m.truncate(5).truncate(2);
     check_eq!(rt; twice, m.truncate(2).truncate(5));
     check_eq!(rt; twice, m.truncate(2));
-    check!(rt; truncate_twice(&m, 5, 2));
+    check_eq!(rt; truncate_twice(&m, 5, 2), twice);
 }
 
 #[test]
@@ -216,7 +229,7 @@ fn multihashes_are_sorted(rt: HostRuntime) {
     check!(rt; items.as_slice() == [first, m.truncate(1), m].as_slice());
 }
 
-// The older name of the type, and that of what calls answer.
+// The type's former name, and that of the result.
 fn read_alias(bytes: &[u8]) -> multihash::Result<MultihashGeneric<4>> {
     Multihash::<4>::from_bytes(bytes)
 }

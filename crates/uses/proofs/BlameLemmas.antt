@@ -3,7 +3,7 @@ use Rattle.std.proofs.Common.{◌≡◌, ℕ, ◌<◌, ◌≤◌, ◌↔◌, ref
 use Rattle.multihash.specs.Varint.{varint_limit}
 use Rattle.multihash.specs.Pair.{Pair, FitsBuffer, digest_limit}
 use Rattle.multihash.specs.Encoding.{IsEncoding}
-use Rattle.multihash.specs.Verdict.{Verdict, accepted, invalid_size, invalid_code, faulty, unexpected_eof, HasSize, HasVerdict, HasWholeVerdict}
+use Rattle.multihash.specs.Verdict.{Verdict, accepted, invalid_size, invalid_code, faulty, unexpected_eof, BeginsWithSize, HasVerdict, HasWholeVerdict}
 use Rattle.multihash.specs.Scale.{IsScaleCode, HasScaleVerdict}
 use Rattle.multihash.specs.ScaleTaking.{TakesAtScaleRefusal}
 use Rattle.multihash.specs.Settling.{Settles}
@@ -29,7 +29,7 @@ in_front Form S input left (Ok m) ok =
 in_front Form S input left (Err e) ok = tt
 
 -- a size that is too large is refused
-pub refused_size : (S size : ℕ) (input rest : List ℕ) (r : Result (Fields S) Refusal) → HasSize size input rest → digest_limit S < size
+pub refused_size : (S size : ℕ) (input rest : List ℕ) (r : Result (Fields S) Refusal) → BeginsWithSize size input rest → digest_limit S < size
     → (v : Verdict) × HasVerdict S input v × Answers r v → IsErrAnd r (IsInvalidSize size)
 refused_size S size input rest (Ok m) h over v =
     let same : v.0 ≡ invalid_size size = verdict_unique S input v.0 (invalid_size size) v.1 (rest, h, over) in
@@ -39,7 +39,7 @@ refused_size S size input rest (Err e) h over v =
     subst (λ w. Answers {S = S} (Err e) w) same v.2
 
 -- and what follows the two varints is left
-pub left_behind : (S size : ℕ) (input rest left : List ℕ) → HasSize size input rest → digest_limit S < size
+pub left_behind : (S size : ℕ) (input rest left : List ℕ) → BeginsWithSize size input rest → digest_limit S < size
     → TakesShortestSettling S input (Some left) → left ≡ rest
 left_behind S size input rest left h over took =
     let front = h.code_bytes ++ h.size_bytes in

@@ -75,7 +75,7 @@ stops_in_hash = in_hash 2 (Some (0x02 ∷ 0x80 ∷ [])) (Some (0x80 ∷ [])) (0x
       takes = refl;
       insufficient = λ _. (inl (record { few = omega arith; all_marked = all_marked (0x80 ∷ []) refl }), refl);
       eof = λ (fault, is, end). absurd (cc);
-      fault = λ (fault, is, own). absurd (cc);
+      failed = λ (fault, is, own). absurd (cc);
     })
 
 stops_in_digest : StopsInContentId 4 (of_io eof) (Some (0x12 ∷ 0x20 ∷ 7 ∷ [])) (Some [])

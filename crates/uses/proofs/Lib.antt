@@ -4,6 +4,6 @@ pub mod ContentIdLemmas
 pub mod ContentIdTakingVectors
 pub mod ContentIdVectors
 pub mod DumpLemmas
-mod FollowingLemmas
+pub mod HeadlineLemmas
 pub mod MerkleLemmas
 pub mod StreamLemmas

@@ -1,5 +1,5 @@
-//! Callers over any reader, who conclude how often it failed and what it has left.
-ghost use Rattle.std.specs.Prelude.{◌≡◌, ◌+◌, ◌⊎◌, ℕ, List, [], ◌∷◌, ◌++◌, length, map, Option, Some, IfSome, IfNone, IfOk, IfErr, MatchResult};
+//! Callers over any reader, which conclude how often it failed and what it has left.
+ghost use Rattle.std.specs.Prelude.{◌≡◌, ◌+◌, ◌⊎◌, ℕ, List, [], ◌∷◌, ◌++◌, length, map, vec_capacity, Option, Some, IfSome, IfNone, IfOk, IfErr, MatchResult};
 ghost use Rattle.multihash.specs.Pair.{Pair, FitsBuffer};
 ghost use Rattle.multihash.specs.Scale.{IsScale};
 ghost use Rattle.multihash.specs.ScaleTaking.{IsScaleRefusal};
@@ -13,11 +13,11 @@ use multihash::no_std_io::Read;
 use multihash::{Error, Multihash, laws, list};
 use std::alloc::Global;
 
-/// Reads so many multihashes as the next byte says.
+/// Reads the number of multihashes that the next byte states.
 ///
 /// # Errors
 ///
-/// An unexpected end where no byte is left, the reader's own error, and those of [`list::read_list`].
+/// An unexpected end of file if no byte is left, the reader's own error, and those of [`list::read_list`].
 pub fn read_counted<const S: usize, R: Read>(
     alloc: Global,
     r: &mut R,
@@ -33,28 +33,22 @@ pub fn read_counted<const S: usize, R: Read>(
     list::read_list(alloc, r, usize::from(count[0]))
 }
 
-/// Reads no multihash, which takes nothing and is never refused: all is left.
-pub fn read_none<const S: usize, R: Read>(alloc: Global, r: &mut R) -> Vec<Multihash<S>>
-    ensures { (map pair_of result.items ≡ []) × (R.failures r.new ≡ R.failures r.old)
-        × (R.rest r.new ≡ R.rest r.old) }
-{
-    list::read_list(alloc, r, 0).unwrap()
-}
-
-/// Reads so many multihashes, or answers none where memory for them is refused: a reader that did not fail
-/// has all left then, so that fewer can be asked for.
+/// Reads `count` multihashes into a vector of that capacity, or returns `None` if the allocation fails: a
+/// reader that did not fail then has all of its bytes left, so fewer can be read. A `count` of 0 needs no
+/// allocation.
 ///
 /// # Errors
 ///
-/// Those of [`list::read_list`], but for want of memory: then too what it says was taken.
+/// Those of [`list::read_list`] other than out of memory, with what it consumed by then.
 pub fn read_if_room<const S: usize, R: Read>(
     alloc: Global,
     r: &mut R,
     count: usize,
 ) -> Result<Option<Vec<Multihash<S>>>, Error>
-    ensures none { IfOk result (λ list. IfNone list
-        (R.failures r.new ≡ R.failures r.old → R.rest r.new ≡ R.rest r.old)) }
-    ensures some { IfOk result (λ list. IfSome list (λ found. (length found.items ≡ count)
+    ensures none { IfOk result (λ list. IfNone list (¬ (count ≡ 0)
+        × (R.failures r.new ≡ R.failures r.old → R.rest r.new ≡ R.rest r.old))) }
+    ensures some { IfOk result (λ list. IfSome list (λ found. (vec_capacity found ≡ count)
+        × (length found.items ≡ count)
         × TakesPairs S (map pair_of found.items) (R.rest r.old) (R.rest r.new)
         × (R.failures r.new ≡ R.failures r.old))) }
     ensures faults { IfErr result (λ e.
@@ -75,12 +69,12 @@ pub fn read_if_room<const S: usize, R: Read>(
     }
 }
 
-/// Reads the SCALE form that comes next: that pair, where it fits, and what follows it is left.
+/// Reads the SCALE form that comes next: that pair, if it fits, and what follows it is left.
 ///
 /// # Errors
 ///
-/// Those of [`Multihash::scale_decode`]: of a code that is too large exactly its eight bytes were taken, and of a
-/// size that is too large one more.
+/// Those of [`Multihash::scale_decode`]: if the code is invalid exactly its eight bytes were consumed, and if
+/// the size is, one more.
 pub fn read_scale<const S: usize, R: Read>(r: &mut R) -> Result<Multihash<S>, Error>
     ensures faults { CountsReader IsReaderFault (IsScaleRefusal S)
         (R.failures r.old) (R.failures r.new) result }

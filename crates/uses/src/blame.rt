@@ -1,9 +1,9 @@
-//! What a refusal tells: who is to blame for it, what was taken, and whether more input could help.
+//! What an error means: who failed, what was consumed, and whether more input could help.
 ghost use Rattle.std.specs.Prelude.{◌≡◌, ◌<◌, ◌≤◌, ◌↔◌, ◌⊎◌, ℕ, List, ◌++◌, length, codes, string_bytes, Some, None, IsTrue, IfSome, IfNone, IfOk, IfErr, IsErrAnd, MatchOption};
 ghost use Rattle.multihash.specs.Varint.{varint_limit};
 ghost use Rattle.multihash.specs.Pair.{Pair, FitsBuffer, digest_limit};
 ghost use Rattle.multihash.specs.Encoding.{IsEncoding};
-ghost use Rattle.multihash.specs.Verdict.{Verdict, accepted, HasSize, HasVerdict, IsEarlyEnd, HasWholeVerdict};
+ghost use Rattle.multihash.specs.Verdict.{Verdict, accepted, BeginsWithSize, HasVerdict, IsEarlyEnd, HasWholeVerdict};
 ghost use Rattle.multihash.specs.Reading.{Takes};
 ghost use Rattle.multihash.specs.Scale.{IsScale, IsScaleCode, HasScaleVerdict};
 ghost use Rattle.multihash.specs.ScaleTaking.{TakesAtScaleRefusal};
@@ -16,8 +16,8 @@ use multihash::no_std_io::{Read, Write};
 use multihash::{Error, Multihash, laws};
 use std::alloc::{AllocError, Global};
 
-/// What was read, and whether the call failed by the reader's own fault: exactly where its failures rose.
-/// Where nothing was read and the reader did not fail, no multihash that fits stands there.
+/// What was read, and whether the reader itself failed: exactly if its failures rose. If nothing was read and
+/// the reader did not fail, no multihash that fits comes next.
 pub fn reader_failed<const S: usize, R: Read>(r: &mut R) -> (Option<Multihash<S>>, bool)
     ensures failed { IsTrue result.1 ↔ (R.failures r.old < R.failures r.new) }
     ensures read { IfSome result.0 (λ m. (bytes : List ℕ) × IsEncoding (pair_of m) bytes
@@ -37,9 +37,9 @@ pub fn reader_failed<const S: usize, R: Read>(r: &mut R) -> (Option<Multihash<S>
     }
 }
 
-/// What `read` answers to a slice, and what it leaves. Of a digest that is too long for the buffer the
-/// size is answered, and the digest is left, so that a caller can skip it. Of a digest that is cut both
-/// varints are taken, and how much of the digest is not told.
+/// The result of `read` for a slice, and what it leaves. If the digest is too long for the capacity, the
+/// result is its size, and the digest is left, so a caller can skip it. If the digest is truncated, both
+/// varints are consumed, and an unspecified part of the digest.
 pub fn read_slice<const S: usize>(stream: &[u8]) -> (Result<Multihash<S>, Error>, &[u8])
     ensures verdict { (v : Verdict) × HasVerdict S stream.now v × Answers result.0 v }
     ensures ok { IfOk result.0 (λ m. (bytes : List ℕ) × IsEncoding (pair_of m) bytes
@@ -47,7 +47,7 @@ pub fn read_slice<const S: usize>(stream: &[u8]) -> (Result<Multihash<S>, Error>
     ensures err { IfErr result.0 (λ e. TakesAtRefusal S e (Some stream.now) (Some result.1.now)) }
     ensures settled { (v : Verdict) → HasVerdict S stream.now v → ¬ (IsEarlyEnd v) →
         TakesShortestSettling S stream.now (Some result.1.now) }
-    ensures long { (size : ℕ) (rest : List ℕ) → HasSize size stream.now rest →
+    ensures long { (size : ℕ) (rest : List ℕ) → BeginsWithSize size stream.now rest →
         digest_limit S < size →
         IsErrAnd result.0 (IsInvalidSize size) × (result.1.now ≡ rest) }
 {
@@ -56,8 +56,8 @@ pub fn read_slice<const S: usize>(stream: &[u8]) -> (Result<Multihash<S>, Error>
     (answer, left)
 }
 
-/// The same of the SCALE form. Of a code that is out of range only its eight bytes are taken, and the
-/// size is left with all that follows it.
+/// The same for the SCALE form. If the code is out of range only its eight bytes are consumed, and the size
+/// is left with all that follows it.
 pub fn decode_slice<const S: usize>(stream: &[u8]) -> (Result<Multihash<S>, Error>, &[u8])
     ensures verdict { (v : Verdict) × HasScaleVerdict S stream.now v × Answers result.0 v }
     ensures ok { IfOk result.0 (λ m. (bytes : List ℕ) × IsScale (pair_of m) bytes
@@ -73,8 +73,8 @@ pub fn decode_slice<const S: usize>(stream: &[u8]) -> (Result<Multihash<S>, Erro
     (decoded, left)
 }
 
-/// The code that `wrap` refuses: none where it is in range, nor where the digest does not fit, which is
-/// refused first.
+/// The code that `wrap` rejects: none if it is in range, nor if the digest does not fit, which is checked
+/// first.
 pub fn refused_code<const S: usize>(code: u64, digest: &[u8]) -> Option<u64>
     requires { S < 65536 }
     ensures { MatchOption result
@@ -88,7 +88,7 @@ pub fn refused_code<const S: usize>(code: u64, digest: &[u8]) -> Option<u64>
     }
 }
 
-/// What `from_bytes` answers, and the code that it refuses: none, whatever the bytes are.
+/// The result of `from_bytes`, and the code that it rejects: none, whatever the bytes are.
 pub fn code_refused_by_reading<const S: usize>(
     bytes: &[u8],
 ) -> (Result<Multihash<S>, Error>, Option<u64>)
@@ -103,7 +103,7 @@ pub fn code_refused_by_reading<const S: usize>(
     (answer, refused)
 }
 
-/// Whether more input could change the answer of `read`.
+/// Whether more input could change the result of `read`.
 pub fn wants_more<const S: usize>(input: &[u8]) -> bool
     requires { S < 65536 }
     ensures { IsTrue result ↔ ¬ (Settles S input.now) }
@@ -116,8 +116,8 @@ pub fn wants_more<const S: usize>(input: &[u8]) -> bool
     }
 }
 
-/// Reads a multihash, and takes exactly its encoding. Where the reader fails inside it, the end of the
-/// multihash was not taken.
+/// Reads a multihash, and consumes exactly its encoding. If the reader fails within it, the end of the
+/// multihash was not consumed.
 pub fn read_part<const S: usize, R: Read>(r: &mut R) -> Result<Multihash<S>, Error>
     ensures ok { IfOk result (λ m. (bytes : List ℕ) × IsEncoding (pair_of m) bytes
         × Takes (R.rest r.old) bytes (R.rest r.new)) }
@@ -128,7 +128,7 @@ pub fn read_part<const S: usize, R: Read>(r: &mut R) -> Result<Multihash<S>, Err
     Multihash::read(r)
 }
 
-/// What the error prints of a slice that has too few bytes for four places.
+/// What is printed for a slice that has too few bytes for a buffer of four.
 pub fn early_end_text(alloc: Global, bytes: &[u8]) -> Result<Option<String>, AllocError>
     ensures { IfOk result (λ told. MatchOption told (4 ≤ length bytes.now)
         (λ text. (length bytes.now < 4)
@@ -141,7 +141,7 @@ pub fn early_end_text(alloc: Global, bytes: &[u8]) -> Result<Option<String>, All
     }
 }
 
-/// What the error prints of a slice that has too few places for the bytes.
+/// What is printed for a slice that is too short for the bytes.
 pub fn full_text(
     alloc: Global,
     bytes: &[u8],

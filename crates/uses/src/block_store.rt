@@ -1,9 +1,9 @@
-//! Stores of blocks: what is kept under a multihash, in order or by its hash.
+//! Block stores: maps from multihashes, ordered or hashed.
 ghost use Rattle.std.specs.Prelude.{◌≡◌, ◌<◌, length, None, Some, IfOk, OnOk, OnErr};
 ghost use Rattle.std.specs.BTreeMap as ordered;
 ghost use Rattle.std.specs.HashMap as hashed;
 ghost use Rattle.std.specs.Ordering.{on};
-ghost use Rattle.multihash.specs.Pair.{IsSame, FitsBuffer};
+ghost use Rattle.multihash.specs.Pair.{FitsBuffer};
 ghost use Rattle.multihash.specs.Comparing.{compare_pairs, equal_pairs};
 ghost use Rattle.multihash.specs.Answer.{Fields, pair_of};
 
@@ -11,13 +11,13 @@ use multihash::Multihash;
 use std::alloc::AllocFailed;
 use std::collections::{BTreeMap, HashMap};
 
-/// A block's place, under the multihash of the block, in the order of multihashes.
+/// The positions of blocks by their multihash, in the order of multihashes.
 pub type Ordered = BTreeMap<Multihash<64>, u32>;
 
-/// The same, by the hash of the multihash.
+/// The same, in a hash map.
 pub type Hashed = HashMap<Multihash<64>, u32>;
 
-/// Keeps a block's place. What is kept under other multihashes stays.
+/// Stores a block's position. Other keys are unchanged.
 pub fn put_ordered(
     store: &mut Ordered,
     key: Multihash<64>,
@@ -33,7 +33,7 @@ pub fn put_ordered(
     Ok(())
 }
 
-/// The same, by the hash.
+/// The same, in a hash map.
 pub fn put_hashed(
     table: &mut Hashed,
     key: Multihash<64>,
@@ -49,8 +49,8 @@ pub fn put_hashed(
     Ok(())
 }
 
-/// The place that is kept under a multihash, whatever the size of its buffer: none where its digest is
-/// longer than any that is kept.
+/// The position stored for a multihash, whatever its capacity: none if its digest is longer than the keys'
+/// capacity.
 pub fn find_ordered<const S: usize>(store: &Ordered, key: &Multihash<S>) -> Option<u32>
     ensures kept { (same : Fields 64) → pair_of same ≡ pair_of key.now →
         result ≡ ordered.get (on pair_of compare_pairs) store.now same }
@@ -59,7 +59,7 @@ pub fn find_ordered<const S: usize>(store: &Ordered, key: &Multihash<S>) -> Opti
     store.get(&key.resize::<64>().ok()?).copied()
 }
 
-/// The same, by the hash.
+/// The same, in a hash map.
 pub fn find_hashed<const S: usize>(table: &Hashed, key: &Multihash<S>) -> Option<u32>
     ensures kept { (same : Fields 64) → pair_of same ≡ pair_of key.now →
         result ≡ hashed.get (on pair_of equal_pairs) table.now same }
@@ -68,27 +68,31 @@ pub fn find_hashed<const S: usize>(table: &Hashed, key: &Multihash<S>) -> Option
     table.get(&key.resize::<64>().ok()?).copied()
 }
 
-/// Keeps a place, and finds it under another multihash: it is there where the two are the same.
+/// Stores a position, and looks it up by another multihash: it is found if the two are the same.
 pub fn kept_is_found<const S: usize>(
     store: &mut Ordered,
     key: Multihash<64>,
     place: u32,
     other: &Multihash<S>,
 ) -> Result<Option<u32>, AllocFailed<(Multihash<64>, u32)>>
-    ensures { IfOk result (λ found. IsSame (pair_of key) (pair_of other.now) → found ≡ Some place) }
+    ensures kept { OnOk result
+        (ordered.Updates (on pair_of compare_pairs) store.old store.new key (Some place)) }
+    ensures found { IfOk result (λ found. pair_of key ≡ pair_of other.now → found ≡ Some place) }
 {
     put_ordered(store, key, place)?;
     Ok(find_ordered(store, other))
 }
 
-/// The same, by the hash.
+/// The same, in a hash map.
 pub fn kept_is_found_hashed<const S: usize>(
     table: &mut Hashed,
     key: Multihash<64>,
     place: u32,
     other: &Multihash<S>,
 ) -> Result<Option<u32>, AllocFailed<(Multihash<64>, u32)>>
-    ensures { IfOk result (λ found. IsSame (pair_of key) (pair_of other.now) → found ≡ Some place) }
+    ensures kept { OnOk result
+        (hashed.Updates (on pair_of equal_pairs) table.old table.new key (Some place)) }
+    ensures found { IfOk result (λ found. pair_of key ≡ pair_of other.now → found ≡ Some place) }
 {
     put_hashed(table, key, place)?;
     Ok(find_hashed(table, other))

@@ -1,4 +1,4 @@
-//! Callers that read and write bytes, and ask what an error is.
+//! Callers that read and write bytes.
 ghost use Rattle.std.specs.Prelude.{◌≡◌, ℕ, ◌+◌, ◌-◌, ◌≤◌, ◌↔◌, ◌⊎◌, List, [], ◌∷◌, ◌++◌, Some, length, slice_get, IsTrue, IfSome, IfOk, IfErr, OnOk, OnErr, MatchOption, MatchResult};
 ghost use Rattle.multihash.specs.Fault.{IsOutOfMemory, IsOwnFault};
 ghost use Rattle.std.specs.Io.KnownBytes.{IsAtEnd};
@@ -14,30 +14,7 @@ use multihash::no_std_io::{self, Read, Write};
 use multihash::{Error, Multihash};
 use std::alloc::Global;
 
-/// How many of the four tests are true of an error: always one.
-pub fn one_of_four(e: &no_std_io::Error) -> u8
-    ensures { result ≡ 1 }
-{
-    u8::from(e.is_unexpected_eof())
-        + u8::from(e.is_write_zero())
-        + u8::from(e.is_out_of_memory())
-        + u8::from(e.is_other())
-}
-
-/// How many of the seven tests apply to an error: always one.
-pub fn one_of_seven(e: &Error) -> u8
-    ensures { result ≡ 1 }
-{
-    u8::from(e.invalid_size().is_some())
-        + u8::from(e.invalid_code().is_some())
-        + u8::from(e.is_insufficient())
-        + u8::from(e.is_overflow())
-        + u8::from(e.is_not_minimal())
-        + u8::from(e.is_not_bytes())
-        + u8::from(e.io().is_some())
-}
-
-/// The next byte, or none where the input has ended.
+/// The next byte, or none at the end of the input.
 pub fn read_one<R: Read>(r: &mut R) -> Result<Option<u8>, no_std_io::Error>
     ensures faults { CountsReader IsOwnFault NoOtherError
         (R.failures r.old) (R.failures r.new) result }
@@ -76,7 +53,8 @@ pub fn write_two<W: Write>(w: &mut W, a: &[u8], b: &[u8]) -> Result<(), no_std_i
     w.write_all(b)
 }
 
-/// Writes `a` and then `b` to the front of `places`, which have room, and says how many are left.
+/// Writes `a` and then `b` to the front of `places`, which is long enough, and returns the number of bytes
+/// left.
 pub fn fill_two(places: &mut [u8], a: &[u8], b: &[u8]) -> usize
     requires { length a.now + length b.now ≤ length places.old }
     ensures { result + length a.now + length b.now ≡ length places.old }
@@ -98,8 +76,8 @@ pub fn joined(alloc: Global, a: &[u8], b: &[u8]) -> Result<Vec<u8>, no_std_io::E
     Ok(all)
 }
 
-/// Whether the encoding was written to the front of `places`, and how many are left then: it is
-/// where there is room, which gives up that many, and else none is left.
+/// Whether the encoding was written to the front of `places`, and the number of bytes left after it. If the
+/// slice is too short, none are left.
 pub fn fills<const S: usize>(m: &Multihash<S>, places: &mut [u8]) -> (bool, usize)
     ensures { (bytes : List ℕ) × IsEncoding (pair_of m.now) bytes
         × (IsTrue result.0 ↔ (length bytes ≤ length places.old))
@@ -110,7 +88,7 @@ pub fn fills<const S: usize>(m: &Multihash<S>, places: &mut [u8]) -> (bool, usiz
     (is_whole, left.len())
 }
 
-/// Writes the encoding to the front of as many places as the longest has, and says its length.
+/// Writes the encoding to a buffer of the greatest length, and returns its length.
 pub fn fills_longest<const S: usize>(m: &Multihash<S>, places: &mut [u8; 266]) -> usize
     ensures { (bytes : List ℕ) × IsEncoding (pair_of m.now) bytes × (result ≡ length bytes) }
 {
@@ -118,8 +96,8 @@ pub fn fills_longest<const S: usize>(m: &Multihash<S>, places: &mut [u8; 266]) -
     m.write(&mut left).unwrap()
 }
 
-/// A multihash written to bytes and read from them, into a buffer of its own size or another: the
-/// same pair, where it fits. Nothing but want of memory refuses it.
+/// A multihash encoded and decoded, with the same capacity or another: the same pair, if it fits. It fails
+/// only when out of memory.
 pub fn bytes_back<const S: usize, const R: usize>(
     alloc: Global,
     m: &Multihash<S>,
@@ -131,8 +109,8 @@ pub fn bytes_back<const S: usize, const R: usize>(
     Multihash::from_bytes(&bytes)
 }
 
-/// The multihash of bytes that are accepted, and the bytes that it is written as: the same ones. It is
-/// refused as the bytes' verdict says, or for want of memory.
+/// The multihash that bytes encode, and its encoding: the same bytes. The error is that of the bytes'
+/// verdict, or out of memory.
 pub fn accepted_back<const S: usize>(
     alloc: Global,
     bytes: &[u8],

@@ -1,4 +1,4 @@
-//! A table of allowed codes, each with its digest's length.
+//! A table of allowed codes and digest lengths.
 ghost use Rattle.std.specs.Prelude.{◌≡◌, ◌<◌, ◌≤◌, ◌↔◌, ℕ, List, length, IsSome, IfSome, IfOk, MatchOption, Contains};
 ghost use Rattle.multihash.specs.Varint.{varint_limit};
 ghost use Rattle.multihash.specs.Pair.{Pair, digest_limit};
@@ -11,15 +11,15 @@ ghost use Rattle.multihash.specs.Answer.{pair_of};
 use multihash::no_std_io::Read;
 use multihash::{Error, Multihash};
 
-/// A code, and the length of the digests that it is allowed with.
+/// An allowed code, and its digest's length.
 #[derive(Clone, Copy, Debug, PartialEq, Eq)]
 pub struct Entry {
     pub code: u64,
     pub size: usize,
 }
 
-/// Wraps a digest, where the table allows its code with its length, the buffer holds it, and the code is
-/// in range.
+/// Wraps a digest if the table allows its code with its length, it fits the capacity, and the code is in
+/// range.
 pub fn wrap<const S: usize>(table: &[Entry], code: u64, digest: &[u8]) -> Option<Multihash<S>>
     ensures some { IfSome result (λ m. pair_of m ≡ record { code = code; digest = digest.now }) }
     ensures exactly { IsSome result ↔
@@ -33,8 +33,8 @@ pub fn wrap<const S: usize>(table: &[Entry], code: u64, digest: &[u8]) -> Option
     Multihash::wrap(code, digest).ok()
 }
 
-/// Reads the multihash that comes next, and answers none where the table does not allow it. It is taken
-/// in either case.
+/// Reads the multihash that comes next, and returns none if the table does not allow it. It is consumed in
+/// either case.
 ///
 /// # Errors
 ///

@@ -1,4 +1,4 @@
-//! What the laws say to callers: which bytes spell which values, and where an answer stands.
+//! What the laws mean for callers: which bytes encode which values, and what determines a result.
 ghost use Rattle.std.specs.Prelude.{◌≡◌, ◌<◌, ◌↔◌, ℕ, List, length, map, IsTrue, IfSome, IfNone, IfOk, IfErr, IsErrAnd, MatchResult, ◌⊎◌};
 ghost use Rattle.serde_json.specs.Data.{Data};
 ghost use Rattle.serde_json.specs.View.{view};
@@ -20,7 +20,7 @@ use multihash::{Error, Multihash, laws, list};
 use serde_json::Value;
 use std::alloc::Global;
 
-/// What reading answers to a slice: its one verdict.
+/// The result of reading a slice: its one verdict.
 pub fn found<const S: usize>(bytes: &[u8]) -> Result<Multihash<S>, Error>
     ensures { (one : ExactlyOne (HasVerdict S bytes.now)) × Answers result one.value }
 {
@@ -29,7 +29,7 @@ pub fn found<const S: usize>(bytes: &[u8]) -> Result<Multihash<S>, Error>
     Multihash::read(&mut left)
 }
 
-/// The length of the one encoding that a multihash has.
+/// The length of a multihash's one encoding.
 pub fn encoding_len<const S: usize>(m: &Multihash<S>) -> usize
     ensures { (one : ExactlyOne (IsEncoding (pair_of m.now))) × (result ≡ length one.value) }
 {
@@ -37,8 +37,8 @@ pub fn encoding_len<const S: usize>(m: &Multihash<S>) -> usize
     m.encoded_len()
 }
 
-/// How many bytes of a stream settle what `read` answers, at the least: there is one shortest beginning that
-/// does. None where more bytes could still change it.
+/// The length of the shortest prefix of a stream that settles the result of `read`; there is only one. None
+/// if more bytes could still change it.
 pub fn settling_len<const S: usize>(stream: &[u8]) -> Option<usize>
     requires { S < 65536 }
     ensures none { IfNone result (¬ (Settles S stream.now)) }
@@ -59,8 +59,8 @@ pub fn settling_len<const S: usize>(stream: &[u8]) -> Option<usize>
     }
 }
 
-/// Whether two lists are written alike: exactly where they have the same pairs, whatever their buffers.
-/// Nothing but want of memory refuses it.
+/// Whether two lists have the same encoding: exactly if they have the same pairs, whatever their capacities.
+/// It fails only when out of memory.
 pub fn lists_written_alike<const A: usize, const B: usize>(
     alloc: Global,
     a: &[Multihash<A>],
@@ -77,8 +77,8 @@ pub fn lists_written_alike<const A: usize, const B: usize>(
     Ok(first.as_slice() == second.as_slice())
 }
 
-/// Whether two nodes with as many links are written alike: exactly where their links and their data are the
-/// same. Nothing but want of memory refuses it.
+/// Whether two nodes with the same number of links have the same encoding: exactly if their links and their
+/// data are the same. It fails only when out of memory.
 pub fn nodes_written_alike<const A: usize, const B: usize>(
     alloc: Global,
     links: &[Multihash<A>],
@@ -99,8 +99,8 @@ pub fn nodes_written_alike<const A: usize, const B: usize>(
     Ok(first.as_slice() == second.as_slice())
 }
 
-/// Whether the SCALE form of one multihash begins that of another: exactly where they have the same pair.
-/// Nothing but want of memory refuses it.
+/// Whether the SCALE form of one multihash is a prefix of another's: exactly if they have the same pair. It
+/// fails only when out of memory.
 pub fn begins_scale<const A: usize, const B: usize>(
     alloc: Global,
     a: &Multihash<A>,
@@ -117,8 +117,8 @@ pub fn begins_scale<const A: usize, const B: usize>(
     Ok(second.as_slice().starts_with(first.as_slice()))
 }
 
-/// Whether two SCALE forms with bytes behind them are written alike: exactly where the pairs are the same,
-/// and so are the bytes. Nothing but want of memory refuses it.
+/// Whether two SCALE forms with trailing bytes are equal: exactly if the pairs are the same and so are the
+/// bytes. It fails only when out of memory.
 pub fn scale_streams_alike<const A: usize, const B: usize>(
     alloc: Global,
     a: &Multihash<A>,
@@ -139,7 +139,7 @@ pub fn scale_streams_alike<const A: usize, const B: usize>(
     Ok(first.as_slice() == second.as_slice())
 }
 
-/// The length of the one SCALE form that a multihash has.
+/// The length of a multihash's one SCALE form.
 pub fn scale_len<const S: usize>(m: &Multihash<S>) -> usize
     ensures { (form : ExactlyOne (IsScale (pair_of m.now))) × (result ≡ length form.value) }
 {
@@ -147,7 +147,7 @@ pub fn scale_len<const S: usize>(m: &Multihash<S>) -> usize
     9 + m.digest().len()
 }
 
-/// What decoding the SCALE form answers to a slice: its one verdict.
+/// The result of decoding the SCALE form from a slice: its one verdict.
 pub fn decoded<const S: usize>(bytes: &[u8]) -> Result<Multihash<S>, Error>
     ensures { (one : ExactlyOne (HasScaleVerdict S bytes.now)) × Answers result one.value }
 {
@@ -156,11 +156,11 @@ pub fn decoded<const S: usize>(bytes: &[u8]) -> Result<Multihash<S>, Error>
     Multihash::scale_decode(&mut left)
 }
 
-/// The multihash that a JSON value lists: that pair, where it fits, and no other.
+/// The multihash that a JSON value lists: that pair, if it fits, and no other.
 ///
 /// # Errors
 ///
-/// Those of [`Multihash::from_value`], wherever the value lists no multihash that fits.
+/// Those of [`Multihash::from_value`], if the value lists no multihash that fits.
 pub fn listed<const S: usize>(value: &Value) -> Result<Multihash<S>, Error>
     ensures verdict { (bytes : List ℕ) → IsByteArray (view value.now) bytes →
         (v : Verdict) × HasWholeVerdict S bytes v × Answers result v }
@@ -186,11 +186,11 @@ pub fn lists<const S: usize>(value: &Value, m: &Multihash<S>) -> bool
     }
 }
 
-/// The multihash of the bytes that a JSON value lists: its pair, where it fits, and no other.
+/// The multihash of the bytes that a JSON value lists: its pair, if it fits, and no other.
 ///
 /// # Errors
 ///
-/// Those of [`Multihash::from_bytes`], wherever no value that lists the bytes lists a multihash that fits.
+/// Those of [`Multihash::from_bytes`], if no value that lists the bytes lists a multihash that fits.
 pub fn of_listed_bytes<const S: usize>(bytes: &[u8]) -> Result<Multihash<S>, Error>
     ensures verdict { (v : Verdict) × HasWholeVerdict S bytes.now v × Answers result v }
     ensures ok { IfOk result (λ m. (value : Data) → IsByteArray value bytes.now →
@@ -202,12 +202,12 @@ pub fn of_listed_bytes<const S: usize>(bytes: &[u8]) -> Result<Multihash<S>, Err
     Multihash::from_bytes(bytes)
 }
 
-/// Whether two JSON values list the same multihash, each in a buffer of its own: exactly where they are the
-/// same value.
+/// Whether two JSON values list the same multihash, each with its own capacity: exactly if they are the same
+/// value.
 ///
 /// # Errors
 ///
-/// Those of [`Multihash::from_value`], of the first value that is refused.
+/// Those of [`Multihash::from_value`], for the first value that is rejected.
 pub fn listed_alike<const A: usize, const B: usize>(a: &Value, b: &Value) -> Result<bool, Error>
     requires { (A < 65536) × (B < 65536) }
     ensures ok { IfOk result (λ alike. IsTrue alike ↔ (view a.now ≡ view b.now)) }
@@ -221,7 +221,7 @@ pub fn listed_alike<const A: usize, const B: usize>(a: &Value, b: &Value) -> Res
     Ok(first.same_as(&second))
 }
 
-/// A multihash that is taken apart and put together again: the same pair.
+/// A multihash split into its parts and wrapped again: the same pair.
 pub fn put_together<const S: usize>(m: Multihash<S>) -> Multihash<S>
     ensures { pair_of result ≡ pair_of m.entry }
 {
@@ -229,8 +229,7 @@ pub fn put_together<const S: usize>(m: Multihash<S>) -> Multihash<S>
     Multihash::wrap(code, &array[..usize::from(size)]).unwrap()
 }
 
-/// A refusal for a reason of the caller's own, which it prints: a fault of its own, and none that the library
-/// makes.
+/// An error with the caller's own text, which it prints: it is none that the library makes.
 pub fn own_refusal(reason: &'static str) -> Error
     ensures kind { IsIo IsOther result }
     ensures text { refusal_text result ≡ reason.now }

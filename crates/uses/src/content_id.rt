@@ -1,4 +1,4 @@
-//! Content identifiers of version 0 and of version 1, as <https://github.com/multiformats/cid> has them.
+//! Content identifiers of versions 0 and 1 (<https://github.com/multiformats/cid>).
 ghost use Rattle.std.specs.Prelude.{◌≡◌, ◌↔◌, ℕ, List, ◌++◌, Some, Option, IsTrue, IfOk, IfErr, OnOk, OnErr, IsErrOf, MatchResult};
 ghost use Rattle.multihash.specs.Reading.{Takes, CountsReader};
 ghost use Rattle.multihash.specs.Writing.{AppendsPart, CountsWriter};
@@ -14,31 +14,31 @@ use multihash::{Error, Multihash, laws, varint};
 use std::alloc::Global;
 use std::fmt;
 
-// The version that an identifier names.
+// The version number in an identifier.
 const VERSION: u64 = 1;
 
-// The hash function of version 0, and the length of its digests in bytes.
+// The hash function of version 0, and its digest's length in bytes.
 const SHA2_256: u64 = 0x12;
 
 const SHA2_256_SIZE: u64 = 32;
 
-/// What content is, and the hash that names it.
+/// The kind of content, and its multihash.
 #[derive(Clone, Copy, Debug)]
 pub enum ContentId<const S: usize> {
-    /// Version 0: the SHA2-256 digest of content in dag-pb. It is written as a bare multihash.
+    /// Version 0: the SHA2-256 digest of content in dag-pb, encoded as a bare multihash.
     V0([u8; 32]),
     /// Version 1: the codec and the multihash of the content.
     V1 { codec: Codec, hash: Multihash<S> },
 }
 
-/// Why no content identifier was read.
+/// The error of reading a content identifier.
 #[derive(Debug, Drop)]
 pub enum ContentIdError {
-    /// A varint or the multihash was refused, or the reader failed.
+    /// A varint or the multihash is malformed, or the reader failed.
     Refused(Error),
-    /// This number stands where the version should: it is not 1, and begins no multihash of version 0.
+    /// The first varint has this number, which is neither 1 nor the start of a multihash of version 0.
     OtherVersion(u64),
-    /// So many bytes follow the identifier.
+    /// This number of bytes follows the identifier.
     LeftOver(usize),
 }
 
@@ -71,23 +71,24 @@ impl From<no_std_io::Error> for ContentIdError {
 }
 
 impl<const S: usize> ContentId<S> {
-    /// Reads the identifier that comes next, and takes exactly that: what follows it stays unread. The first
-    /// varint tells the version: it is 1, or else it begins the multihash of a SHA2-256 digest of 32 bytes.
+    /// Reads the identifier that comes next. It consumes exactly that identifier and leaves what follows
+    /// unread. The first varint is the version, 1, or else the code of the multihash of a SHA2-256 digest of
+    /// 32 bytes.
     ///
     /// # Errors
     ///
-    /// - [`ContentIdError::OtherVersion`] with the first varint's number, where that is neither 1 nor 0x12: that
-    ///   varint was taken; and with 0x12 where a length other than 32 follows that: both varints were taken;
-    /// - [`ContentIdError::Refused`] with the errors of [`varint::read`] and of [`Multihash::read`], an unexpected
-    ///   end inside the digest of version 0, and the reader's own error. The parts in front of the refused one were
-    ///   taken, and of it what those calls say; of the digest fewer than 32 bytes.
+    /// - [`ContentIdError::OtherVersion`] with the first varint's number if that is neither 1 nor 0x12; that
+    ///   varint was consumed. With 0x12 if a length other than 32 follows it; both varints were consumed.
+    /// - [`ContentIdError::Refused`] with the errors of [`varint::read`] and of [`Multihash::read`], an
+    ///   unexpected end within the digest of version 0, or the reader's own error. The parts before the
+    ///   malformed one were consumed, and of it what those calls say; of the digest fewer than 32 bytes.
     pub fn read<R: Read>(r: &mut R) -> Result<Self, ContentIdError>
         ensures ok { IfOk result (λ id. (bytes : List ℕ) × IsContentId (content_of id) bytes
             × Takes (R.rest r.old) bytes (R.rest r.new)) }
         ensures faults { CountsReader (IsRefused IsReaderFault) (IsContentIdRefusal S)
             (R.failures r.old) (R.failures r.new) result }
 
-        // What stands there is found, and what follows it is left.
+        // An identifier that comes next is found, and what follows it is left.
         ensures found { (content : Content) (bytes more : List ℕ) →
             IsContentId content bytes → FitsContentId S content →
             R.rest r.old ≡ Some (bytes ++ more) →
@@ -97,7 +98,7 @@ impl<const S: usize> ContentId<S> {
             R.rest r.old ≡ Some input →
             R.failures r.new ≡ R.failures r.old → IsErrOf result (OtherVersion n) }
 
-        // What an error took: of another version the bytes that show it.
+        // What was consumed at an error: of another version the bytes that show it.
         ensures err { IfErr result (λ e.
             TakesAtContentIdError S e (R.rest r.old) (R.rest r.new)) }
     {
@@ -123,8 +124,8 @@ impl<const S: usize> ContentId<S> {
     ///
     /// # Errors
     ///
-    /// Those of [`ContentId::read`], and [`ContentIdError::LeftOver`] with the number of bytes that follow the
-    /// identifier, where some do.
+    /// Those of [`ContentId::read`], and [`ContentIdError::LeftOver`] with the number of bytes that follow
+    /// the identifier, if some do.
     pub fn from_bytes(bytes: &[u8]) -> Result<Self, ContentIdError>
         ensures ok { IfOk result (λ id. IsContentId (content_of id) bytes.now) }
         ensures found { (content : Content) → IsContentId content bytes.now →
@@ -148,7 +149,7 @@ impl<const S: usize> ContentId<S> {
     ///
     /// # Errors
     ///
-    /// What the writer answers. A proper beginning of the identifier was appended then.
+    /// The writer's error. A strict prefix of the identifier has been appended then.
     pub fn write<W: Write>(&self, w: &mut W) -> Result<(), Error>
         ensures ok { OnOk result ((bytes : List ℕ) × IsContentId (content_of self.now) bytes
             × W.appended w.old bytes w.new) }
@@ -172,8 +173,8 @@ impl<const S: usize> ContentId<S> {
     }
 }
 
-/// Two identifiers at one place of a stream are the same, and the same follows them: no identifier of one
-/// version begins one of the other.
+/// Two identifiers at the same position of a stream are equal, and so is what follows them: no identifier of
+/// one version is a prefix of one of the other.
 pub fn one_identifier()
     ensures { (c d : Content) (a b r s : List ℕ) → IsContentId c a → IsContentId d b →
         a ++ r ≡ b ++ s → (c ≡ d) × (a ≡ b) × (r ≡ s) }
@@ -181,8 +182,8 @@ pub fn one_identifier()
     laws::prefix_free();
 }
 
-/// Whether two identifiers with bytes behind them are written alike: exactly where the identifiers are the same,
-/// and so are the bytes. Nothing but want of memory refuses it.
+/// Whether two identifiers with trailing bytes have the same encoding: exactly if the identifiers are equal
+/// and the bytes are. It fails only when out of memory.
 pub fn written_alike<const A: usize, const B: usize>(
     alloc: Global,
     a: &ContentId<A>,

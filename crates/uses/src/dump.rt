@@ -1,4 +1,4 @@
-//! A dump of a stream: every multihash of an input until its end, or the first refusal.
+//! A dump of a stream: every multihash of an input until its end or the first error.
 ghost use Rattle.std.specs.Prelude.{◌<◌, [], Some, map, drop, IfOk, IfSome, IfNone};
 ghost use Rattle.multihash.specs.Verdict.{Verdict, HasVerdict};
 ghost use Rattle.multihash.specs.Streams.{TakesPairs};
@@ -7,25 +7,25 @@ ghost use Rattle.multihash.specs.Answer.{pair_of, IsRefusal};
 use multihash::{Error, Multihash};
 use std::alloc::{AllocError, Global};
 
-/// The multihashes of an input, in order, and where they stop before its end.
+/// The multihashes of an input, in order, and where reading stopped before its end.
 #[derive(Drop)]
 pub struct Dump<const S: usize> {
     pub items: Vec<Multihash<S>>,
     pub stop: Option<Stop>,
 }
 
-/// The place of the first bytes that are no multihash, and the reason.
+/// The position of the first bytes that are no multihash, and the error.
 #[derive(Debug, Drop)]
 pub struct Stop {
     pub at: usize,
     pub reason: Error,
 }
 
-/// Reads multihashes until the input ends, or one is refused.
+/// Reads multihashes until the input ends or one is malformed.
 ///
 /// # Errors
 ///
-/// Want of memory.
+/// Out of memory.
 pub fn read_all<const S: usize>(alloc: Global, input: &[u8]) -> Result<Dump<S>, AllocError>
     requires { S < 65536 }
     ensures end { IfOk result (λ dump. IfNone dump.stop

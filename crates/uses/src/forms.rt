@@ -20,8 +20,8 @@ pub enum Form {
     Json,
 }
 
-/// Whether the SCALE form was written to the front of `places`, and how many are left then: it is
-/// where there is room, which gives up that many, and else none is left.
+/// Whether the SCALE form was written to the front of `places`, and the number of bytes left after it. If the
+/// slice is too short, none are left.
 pub fn fills_scale<const S: usize>(m: &Multihash<S>, places: &mut [u8]) -> (bool, usize)
     ensures { (bytes : List ℕ) × IsScale (pair_of m.now) bytes
         × (IsTrue result.0 ↔ (length bytes ≤ length places.old))
@@ -32,7 +32,7 @@ pub fn fills_scale<const S: usize>(m: &Multihash<S>, places: &mut [u8]) -> (bool
     (is_whole, left.len())
 }
 
-/// Writes the SCALE form to the front of as many places as the longest has, and says its length.
+/// Writes the SCALE form to a buffer of the greatest length, and returns its length.
 pub fn fills_longest_scale<const S: usize>(m: &Multihash<S>, places: &mut [u8; 264]) -> usize
     ensures { result ≡ 9 + length (pair_of m.now).digest }
 {
@@ -40,8 +40,8 @@ pub fn fills_longest_scale<const S: usize>(m: &Multihash<S>, places: &mut [u8; 2
     m.scale_encode(&mut left).unwrap()
 }
 
-/// Whether the encodings of some multihashes were written to the front of `places`, and how many are
-/// left then: they are where there is room, which gives up that many, and else none is left.
+/// Whether the encodings of some multihashes were written to the front of `places`, and the number of bytes
+/// left after them. If the slice is too short, none are left.
 pub fn fills_list<const S: usize>(items: &[Multihash<S>], places: &mut [u8]) -> (bool, usize)
     ensures { (bytes : List ℕ) × AreJoined (map pair_of items.now) bytes
         × (IsTrue result.0 ↔ (length bytes ≤ length places.old))
@@ -52,9 +52,9 @@ pub fn fills_list<const S: usize>(items: &[Multihash<S>], places: &mut [u8]) -> 
     (is_whole, left.len())
 }
 
-/// A multihash written in the SCALE form, with `more` behind it, and read from there into a buffer of
-/// its own size or another: the same pair, where it fits, and whether `more` was left, which it is.
-/// Nothing but want of memory refuses it.
+/// A multihash written in the SCALE form, followed by `more`, and read back with the same capacity or
+/// another: the same pair, if it fits, and whether `more` was left, which it is. It fails only when out of
+/// memory.
 pub fn scale_back<const S: usize, const R: usize>(
     alloc: Global,
     m: &Multihash<S>,
@@ -71,8 +71,8 @@ pub fn scale_back<const S: usize, const R: usize>(
     Ok((back, left == more))
 }
 
-/// A multihash written in the JSON form, and read from it into a buffer of its own size or another: the
-/// same pair, where it fits. Nothing but want of memory refuses it.
+/// A multihash written in the JSON form, and read back with the same capacity or another: the same pair, if
+/// it fits. It fails only when out of memory.
 pub fn json_back<const S: usize, const R: usize>(
     alloc: Global,
     m: &Multihash<S>,
@@ -84,8 +84,8 @@ pub fn json_back<const S: usize, const R: usize>(
     Multihash::from_value(&value)
 }
 
-/// A multihash written in any form, and read from it into a buffer of its own size or another: the same
-/// pair, where it fits. Nothing but want of memory refuses it.
+/// A multihash written in any form, and read back with the same capacity or another: the same pair, if it
+/// fits. It fails only when out of memory.
 pub fn form_back<const S: usize, const R: usize>(
     alloc: Global,
     form: Form,
@@ -101,8 +101,8 @@ pub fn form_back<const S: usize, const R: usize>(
     }
 }
 
-/// A multihash that passes through one form into another buffer, and through a second form into a third
-/// buffer: the same pair, where it fits. Nothing but want of memory refuses it.
+/// A multihash that passes through one form into another capacity, and through a second form into a third:
+/// the same pair, if it fits. It fails only when out of memory.
 pub fn forms_back<const S: usize, const M: usize, const R: usize>(
     alloc: Global,
     first: Form,
@@ -118,9 +118,9 @@ pub fn forms_back<const S: usize, const M: usize, const R: usize>(
     Ok((between, back))
 }
 
-/// Reads so many multihashes. Where the encodings of as many pairs that fit begin what the reader has
-/// left, and nothing fails, these pairs are read in order, and what follows them is left. Nothing but
-/// want of memory refuses it then.
+/// Reads that many multihashes. If the input begins with the encodings of that many pairs that fit, and the
+/// reader does not fail, these pairs are read in order, and what follows is left. It fails then only when out
+/// of memory.
 pub fn read_pairs<const S: usize, R: Read>(
     alloc: Global,
     r: &mut R,
@@ -135,9 +135,9 @@ pub fn read_pairs<const S: usize, R: Read>(
     read_list(alloc, r, count)
 }
 
-/// Multihashes written to a stream, with `more` behind them, and read from there into buffers of their
-/// own size or another: the same pairs in order, where they fit, and whether `more` was left, which it
-/// is. Nothing but want of memory refuses it.
+/// Multihashes written to a stream, followed by `more`, and read back with the same capacity or another: the
+/// same pairs in order, if they fit, and whether `more` was left, which it is. It fails only when out of
+/// memory.
 pub fn stream_back<const S: usize, const R: usize>(
     alloc: Global,
     items: &[Multihash<S>],

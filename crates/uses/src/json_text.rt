@@ -10,22 +10,22 @@ use multihash::Multihash;
 use serde_json::Value;
 use std::alloc::Global;
 
-/// Why a text is no multihash, or none was printed.
+/// The error of printing or parsing JSON text.
 #[derive(Debug, Drop)]
 pub enum TextError {
     /// The text is no JSON.
     Text(serde_json::Error),
     /// The value is no multihash.
     Value(multihash::Error),
-    /// Memory was refused.
+    /// Out of memory.
     Memory,
 }
 
-/// The text, which reads back as the list of the encoding's bytes.
+/// The text, which parses as the list of the encoding's bytes.
 ///
 /// # Errors
 ///
-/// Want of memory.
+/// Out of memory.
 pub fn print<const S: usize>(alloc: Global, m: &Multihash<S>) -> Result<String, TextError>
     ensures { IfOk result (λ text. (d : Data) × (read (string_bytes text) ≡ Some d)
         × IsJsonList (pair_of m.now) d) }
@@ -43,7 +43,7 @@ pub fn print<const S: usize>(alloc: Global, m: &Multihash<S>) -> Result<String, 
 ///
 /// # Errors
 ///
-/// A text that is no JSON, a value that is no multihash, and want of memory.
+/// The text is no JSON, the value is no multihash, or out of memory.
 pub fn parse<const S: usize>(alloc: Global, text: &str) -> Result<Multihash<S>, TextError>
     ensures { IfOk result (λ m. (d : Data) × (read text.now ≡ Some d)
         × ((bytes : List ℕ) × IsByteArray d bytes × IsEncoding (pair_of m) bytes)) }
@@ -57,11 +57,11 @@ pub fn parse<const S: usize>(alloc: Global, text: &str) -> Result<Multihash<S>, 
     }
 }
 
-/// A multihash printed, and read from the text into a buffer of its own size or another: the same pair.
+/// A multihash printed, and parsed with the same capacity or another: the same pair.
 ///
 /// # Errors
 ///
-/// Want of memory, and a digest that does not fit.
+/// Out of memory, or the digest does not fit.
 pub fn text_back<const S: usize, const R: usize>(
     alloc: Global,
     m: &Multihash<S>,

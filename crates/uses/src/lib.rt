@@ -1,4 +1,4 @@
-//! Users of the library, each of another kind, over its public paths alone.
+//! Callers of each kind, over the public paths of the library alone.
 #![tactic(auto)]
 
 pub mod any_reader;
@@ -10,6 +10,7 @@ pub mod conclusions;
 pub mod content_id;
 pub mod dump;
 pub mod forms;
+pub mod headline;
 pub mod json_text;
 pub mod merkle;
 pub mod parts;

@@ -1,4 +1,4 @@
-//! Merkle nodes: links, and data behind them.
+//! Merkle nodes: links, followed by data.
 ghost use Rattle.std.specs.Prelude.{◌≡◌, ◌⊎◌, ℕ, List, ◌++◌, length, map, All, Some, OnOk, OnErr, IsTrue, MatchResult};
 ghost use Rattle.multihash.specs.Pair.{FitsBuffer};
 ghost use Rattle.multihash.specs.Joined.{AreJoined};
@@ -14,7 +14,7 @@ use std::alloc::Global;
 ///
 /// # Errors
 ///
-/// What the writer answers. A proper beginning of the node was appended then.
+/// The writer's error. A strict prefix of the node has been appended then.
 pub fn write_node<const S: usize, W: Write>(
     links: &[Multihash<S>],
     content: &[u8],
@@ -33,9 +33,9 @@ pub fn write_node<const S: usize, W: Write>(
     Ok(())
 }
 
-/// Writes a node by any writer, and reads its links by any reader that tells what was appended: the same
-/// links, where their digests fit, and the data is what is left. Where the reader does not fail, nothing refuses it
-/// but want of memory and what the writer lacked.
+/// Writes a node to any writer, and reads its links from any reader whose known input is what was appended:
+/// the same links, if their digests fit, and the data is what is left. If the reader does not fail, the only
+/// errors are out of memory and those of the writer.
 pub fn through<const S: usize, const T: usize, W: Write, R: Read>(
     alloc: Global,
     links: &[Multihash<S>],
@@ -54,32 +54,8 @@ pub fn through<const S: usize, const T: usize, W: Write, R: Read>(
     list::read_list(alloc, r, links.len())
 }
 
-/// A list that any writer took is read back by any reader that tells what was appended, with `more`
-/// behind it: the same values in order, and `more` is left. Where the reader does not fail, nothing refuses it but
-/// want of memory and what the writer lacked.
-///
-/// From a `&mut [u8]` to what is left of it, any bytes stand appended, so no reader can tell just these: a list
-/// goes through a slice in `places::list_back`.
-pub fn list_through<const S: usize, W: Write, R: Read>(
-    alloc: Global,
-    items: &[Multihash<S>],
-    w: &mut W,
-    r: &mut R,
-) -> Result<Vec<Multihash<S>>, Error>
-    ensures { (more : List ℕ) →
-        ((bytes : List ℕ) → W.appended w.old bytes w.new → R.rest r.old ≡ Some (bytes ++ more)) →
-        R.failures r.new ≡ R.failures r.old →
-        MatchResult result (λ list. (map pair_of list.items ≡ map pair_of items.now)
-        × (R.rest r.new ≡ Some more))
-        (λ e. IsMemory e ⊎ IsIo (IsWriterFaultOrFull W.allocates
-        (W.failures w.old) (W.failures w.new) (W.full w.new)) e) }
-{
-    list::write_list(items, w)?;
-    list::read_list(alloc, r, items.len())
-}
-
-/// A node written to memory and read from there: the same links, and whether the data was left, which it
-/// is. Nothing but want of memory refuses it.
+/// A node written to memory and read from there: the same links, and whether the data was left, which it is.
+/// It fails only when out of memory.
 pub fn node_back<const S: usize>(
     alloc: Global,
     links: &[Multihash<S>],

@@ -11,10 +11,10 @@ pub struct Part<'a> {
     pub bytes: &'a [u8],
 }
 
-/// Why no part begins an address.
+/// The error of splitting an address.
 #[derive(Debug, Drop)]
 pub enum PartError {
-    /// No two varints begin it.
+    /// It does not begin with two varints.
     Head(Error),
     /// Fewer bytes follow than the length says.
     Cut,
@@ -26,12 +26,12 @@ impl From<Error> for PartError {
     }
 }
 
-/// Takes the part that begins the address apart: the varint of its code, the varint of its length, and its
-/// bytes. What follows it is the rest of the address.
+/// Splits the first part from an address: the varint of its code, the varint of its length, and its bytes.
+/// The rest of the address follows.
 ///
 /// # Errors
 ///
-/// An address that no part begins.
+/// The address does not begin with a part.
 pub fn first_part(address: &[u8]) -> Result<(Part<'_>, &[u8]), PartError>
     ensures { IfOk result (λ taken. (code size : List ℕ) × IsVarint taken.0.code code
         × IsVarint (length taken.0.bytes.now) size

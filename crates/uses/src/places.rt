@@ -1,4 +1,4 @@
-//! Callers that fill a slice, and whose contracts tell the bytes in it.
+//! Callers that fill a slice, and whose contracts state its bytes.
 ghost use Rattle.std.specs.Prelude.{◌≡◌, ◌<◌, ℕ, List, ◌++◌, length, map, drop, All, MatchOption, MatchResult};
 ghost use Rattle.multihash.specs.Encoding.{IsEncoding};
 ghost use Rattle.multihash.specs.Joined.{AreJoined};
@@ -12,8 +12,8 @@ use multihash::no_std_io::SliceWriter;
 use multihash::{Error, Multihash};
 use std::alloc::Global;
 
-/// Writes the encoding to the front of `places`, and says how many it fills; none where it does not fit, and
-/// then the places are as they were.
+/// Writes the encoding to the front of `places` and returns its length; none if it does not fit, and then the
+/// bytes are unchanged.
 pub fn encode_into<const S: usize>(m: &Multihash<S>, places: &mut [u8]) -> Option<usize>
     ensures { (bytes : List ℕ) × IsEncoding (pair_of m.now) bytes
         × MatchOption result ((length places.old < length bytes) × (places.new ≡ places.old))
@@ -26,8 +26,8 @@ pub fn encode_into<const S: usize>(m: &Multihash<S>, places: &mut [u8]) -> Optio
     Some(m.write(&mut writer).unwrap())
 }
 
-/// Writes the encodings of some multihashes to the front of `places`, and says how many they fill; none
-/// where they do not fit, and what the places hold then is not told.
+/// Writes the encodings of some multihashes to the front of `places` and returns their length; none if they
+/// do not fit, and then the bytes are unspecified.
 pub fn encode_all_into<const S: usize>(items: &[Multihash<S>], places: &mut [u8]) -> Option<usize>
     ensures { (bytes : List ℕ) × AreJoined (map pair_of items.now) bytes
         × MatchOption result (length places.old < length bytes)
@@ -40,9 +40,8 @@ pub fn encode_all_into<const S: usize>(items: &[Multihash<S>], places: &mut [u8]
     }
 }
 
-/// Writes multihashes to the front of `places`, and reads them from there into buffers of their own size or
-/// another: the same pairs in order, where they fit; none where the places do not suffice. Nothing but want of
-/// memory refuses it.
+/// Writes multihashes to the front of `places`, and reads them back with the same capacity or another: the
+/// same pairs in order, if they fit; none if the slice is too short. It fails only when out of memory.
 pub fn list_back<const S: usize, const R: usize>(
     alloc: Global,
     items: &[Multihash<S>],

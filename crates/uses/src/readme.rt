@@ -10,17 +10,19 @@ use std::alloc::Global;
 
 const SHA2_256: u64 = 0x12;
 
-/// The bytes of a digest's multihash, and the digest back from them.
-pub fn there_and_back(alloc: Global, digest: &[u8]) -> Result<bool, Error>
-    ensures { MatchResult result IsTrue (λ e. IsMemory e
-        ⊎ (IsInvalidSize (length digest.now) e × (64 < length digest.now))) }
+/// The encoding of a digest's multihash, and the multihash decoded from it.
+pub fn there_and_back(alloc: Global, digest: &[u8]) -> Result<(Vec<u8>, Multihash<64>), Error>
+    ensures { MatchResult result (λ x. IsEncoding (pair_of x.1) x.0.items
+        × (pair_of x.1 ≡ record { code = 18; digest = digest.now }))
+        (λ e. IsMemory e ⊎ (IsInvalidSize (length digest.now) e × (64 < length digest.now))) }
 {
     let multihash = Multihash::<64>::wrap(SHA2_256, digest)?;
     let bytes = multihash.to_bytes(alloc)?;
-    Ok(Multihash::<64>::from_bytes(&bytes)? == multihash)
+    let back = Multihash::from_bytes(&bytes)?;
+    Ok((bytes, back))
 }
 
-/// A multihash, and the bytes that a stream carries behind it.
+/// The multihash at the front of a stream, and the remaining bytes.
 pub fn head(stream: &[u8]) -> Result<(Multihash<64>, &[u8]), Error>
     ensures ok { IfOk result (λ read. (bytes : List ℕ) × IsEncoding (pair_of read.0) bytes
         × (stream.now ≡ bytes ++ read.1.now)) }

@@ -1,4 +1,4 @@
-//! Streams with parts that are spoilt: what can be read is read, and the rest is counted.
+//! Streams with corrupt entries: reads what can be read, and counts the rest.
 ghost use Rattle.std.specs.Prelude.{IfOk, IfErr, map};
 ghost use Rattle.multihash.specs.Refusal.{IsMemory};
 ghost use Rattle.multihash.specs.Answer.{pair_of};
@@ -7,19 +7,19 @@ ghost use Rattle.uses.specs.Recovery.{Recovers};
 use multihash::{Error, Multihash};
 use std::alloc::Global;
 
-/// What a stream has: the multihashes that could be read, in order, and how many parts were refused.
+/// The multihashes that could be read, in order, and the number of corrupt entries.
 #[derive(Drop)]
 pub struct Recovered {
     pub good: Vec<Multihash<64>>,
     pub refused: usize,
 }
 
-/// Reads all that can be read. Behind the bytes that show a fault it goes on; where the input ends early, that is
-/// the last part that is refused.
+/// Reads all multihashes that can be read. It continues after the bytes that show an error; a truncated end
+/// of the input counts as the last corrupt entry.
 ///
 /// # Errors
 ///
-/// Want of memory.
+/// Out of memory.
 pub fn recover(alloc: Global, bytes: &[u8]) -> Result<Recovered, Error>
     ensures ok { IfOk result
         (λ found. Recovers 64 bytes.now (map pair_of found.good.items) found.refused) }

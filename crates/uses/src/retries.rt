@@ -1,26 +1,26 @@
-//! A reader that asks another one again where it failed.
+//! A reader that retries another one.
 ghost use Rattle.std.specs.Prelude.{◌≡◌, ◌+◌, OnErr};
 ghost use Rattle.multihash.specs.Reading.{ReadLaws};
 
 use multihash::no_std_io::{Error, Read};
 
-// The most bytes that are asked for at once.
+// The most bytes requested in one call.
 const CHUNK: usize = 64;
 
-/// Asks its reader again where it failed, as long as it has tries left. It lends a buffer of its own, since
-/// what a failed call leaves in a buffer is not known.
+/// Calls its reader again after a failure, as long as it has tries left. It passes a buffer of its own, since
+/// the contents of a buffer after a failed call are unknown.
 ///
-/// Each of its failing calls counts one failure, as the law of `Read` asks: the reader's failures and the
-/// tries that are left are counted together, so that a failure for which a try is spent counts none.
+/// Each of its failing calls counts one failure, as the law of `Read` demands: its count is the reader's
+/// failures and the remaining tries together, so a failure that costs a try leaves the count unchanged.
 #[derive(Drop)]
 pub struct Retries<R> {
-    /// The reader that is asked.
+    /// The inner reader.
     pub reader: R,
     tries: u64,
 }
 
 impl<R: Read> Retries<R> {
-    /// Asks at most `tries` times again, over all calls.
+    /// Retries at most `tries` times, over all calls.
     pub fn new(reader: R, tries: u64) -> Self
         ensures rest { ⟦<Retries<R> as Read>⟧.rest result ≡ R.rest reader }
         ensures failures { ⟦<Retries<R> as Read>⟧.failures result ≡ R.failures reader + tries }
@@ -28,7 +28,7 @@ impl<R: Read> Retries<R> {
         Retries { reader, tries }
     }
 
-    /// How many tries are left.
+    /// The number of tries left.
     pub fn tries(&self) -> u64
         ensures { result ≡ self.now.tries }
     {

@@ -1,4 +1,4 @@
-//! A reader and a writer of one's own: the pattern to copy.
+//! A custom reader and a custom writer: the pattern to copy.
 ghost use Rattle.std.specs.Prelude.{◌≡◌, ◌≤◌, [], false, Some, drop, length, vec_len};
 ghost use Rattle.multihash.specs.Places.{AppendsAtEnd, AppendsAtEnd-none, AppendsAtEnd-joined};
 
@@ -42,7 +42,7 @@ impl Read for Held {
     }
 }
 
-/// A writer with room for `N` bytes. Contracts see it as the bytes that were written.
+/// A writer of capacity `N`. Contracts see it as the bytes written.
 #[derive(Drop)]
 pub struct Room<const N: usize> {
     bytes: [u8; N],
@@ -60,7 +60,7 @@ impl<const N: usize> Model for Room<N> {
 }
 
 impl<const N: usize> Room<N> {
-    /// Nothing is written yet.
+    /// An empty writer.
     pub fn new() -> Self
         ensures { result ≡ [] }
     {
@@ -70,7 +70,7 @@ impl<const N: usize> Room<N> {
         }
     }
 
-    /// The bytes that were written.
+    /// The bytes written.
     pub fn written(&self) -> &[u8]
         ensures { result.now ≡ self.now }
     {

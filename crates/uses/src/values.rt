@@ -1,5 +1,5 @@
-//! Callers that compare, order, cut and resize multihashes.
-ghost use Rattle.std.specs.Prelude.{◌≡◌, ◌<◌, ◌≤◌, length, IsTrue, OnOk, MatchResult};
+//! Callers that compare, order, truncate and resize multihashes.
+ghost use Rattle.std.specs.Prelude.{◌≡◌, ◌<◌, ◌≤◌, ◌↔◌, min, length, IsTrue, OnOk, MatchResult};
 ghost use Rattle.std.specs.List.Sorted.{IsSorted, IsPermutation};
 ghost use Rattle.std.specs.Ordering.{on};
 ghost use Rattle.multihash.specs.Comparing.{compare_pairs};
@@ -10,39 +10,38 @@ ghost use Rattle.multihash.specs.Answer.{pair_of};
 use multihash::{Error, Multihash};
 use std::alloc::AllocError;
 
-/// Whether `==` and `cmp` say of two multihashes what `same_as` says: always.
-pub fn equal_iff_same<const S: usize>(a: &Multihash<S>, b: &Multihash<S>) -> bool
-    ensures { IsTrue result }
+/// Whether two multihashes are the same by `==`, `same_as` and `cmp`: each is exactly equality of code and
+/// digest.
+pub fn equal_iff_same<const S: usize>(a: &Multihash<S>, b: &Multihash<S>) -> (bool, bool, bool)
+    ensures equal { IsTrue result.0 ↔ (pair_of a.now ≡ pair_of b.now) }
+    ensures same { IsTrue result.1 ↔ (pair_of a.now ≡ pair_of b.now) }
+    ensures order { IsTrue result.2 ↔ (pair_of a.now ≡ pair_of b.now) }
 {
-    let same = a.same_as(b);
-    (a == b) == same && a.cmp(b).is_eq() == same
+    (a == b, a.same_as(b), a.cmp(b).is_eq())
 }
 
-/// Whether `same_as` is reflexive, symmetric and transitive for three multihashes of any sizes:
-/// always.
-pub fn same_as_is_an_equivalence<const A: usize, const B: usize, const C: usize>(
+/// Whether three multihashes of any capacities are all the same. Two comparisons suffice, since sameness is
+/// an equivalence.
+pub fn all_same<const A: usize, const B: usize, const C: usize>(
     a: &Multihash<A>,
     b: &Multihash<B>,
     c: &Multihash<C>,
 ) -> bool
-    ensures { IsTrue result }
+    ensures { IsTrue result ↔ ((pair_of a.now ≡ pair_of b.now)
+        × (pair_of b.now ≡ pair_of c.now) × (pair_of a.now ≡ pair_of c.now)) }
 {
-    let reflexive = a.same_as(a);
-    let symmetric = a.same_as(b) == b.same_as(a);
-    let transitive = !a.same_as(b) || !b.same_as(c) || a.same_as(c);
-    reflexive && symmetric && transitive
+    b.same_as(a) && b.same_as(c)
 }
 
-/// Whether a multihash that is truncated twice is the one that is truncated to the smaller size once:
-/// always.
-pub fn truncate_twice<const S: usize>(m: &Multihash<S>, first: u8, second: u8) -> bool
-    ensures { IsTrue result }
+/// A multihash truncated twice: the same as truncated once to the smaller size.
+pub fn truncate_twice<const S: usize>(m: &Multihash<S>, first: u8, second: u8) -> Multihash<S>
+    ensures { pair_of result ≡ truncated (min first second) (pair_of m.now) }
 {
-    m.truncate(first).truncate(second) == m.truncate(first.min(second))
+    m.truncate(first).truncate(second)
 }
 
-/// A multihash in another buffer, and whether that is the same: always. A digest that is too long for
-/// the buffer is refused with its length.
+/// A multihash in another capacity, and whether it is the same: always. The error is the length of a digest
+/// that does not fit.
 pub fn resized_is_same<const S: usize, const R: usize>(
     m: &Multihash<S>,
 ) -> Result<(Multihash<R>, bool), Error>
@@ -55,21 +54,21 @@ pub fn resized_is_same<const S: usize, const R: usize>(
     Ok((resized, resized.same_as(m)))
 }
 
-/// A multihash in a larger buffer, which has room for every digest of the smaller one.
+/// A multihash in a larger capacity, which every digest of the smaller one fits.
 pub fn widened(m: &Multihash<32>) -> Multihash<64>
     ensures { pair_of result ≡ pair_of m.now }
 {
     m.resize::<64>().unwrap()
 }
 
-/// A multihash cut to 20 bytes, in a buffer of as many.
+/// A multihash truncated to 20 bytes, in that capacity.
 pub fn cut_to_fit<const S: usize>(m: &Multihash<S>) -> Multihash<20>
     ensures { pair_of result ≡ truncated 20 (pair_of m.now) }
 {
     m.truncate(20).resize::<20>().unwrap()
 }
 
-/// A multihash cut to `size` bytes, in a buffer that has room for as many.
+/// A multihash truncated to `size` bytes, in a capacity of at least that many.
 pub fn cut_to<const S: usize, const R: usize>(m: &Multihash<S>, size: u8) -> Multihash<R>
     requires { size ≤ R }
     ensures { pair_of result ≡ truncated size (pair_of m.now) }
@@ -77,7 +76,7 @@ pub fn cut_to<const S: usize, const R: usize>(m: &Multihash<S>, size: u8) -> Mul
     m.truncate(size).resize::<R>().unwrap()
 }
 
-/// Puts multihashes in order.
+/// Sorts multihashes.
 pub fn sort_them<const S: usize>(items: &mut Vec<Multihash<S>>) -> Result<(), AllocError>
     ensures sorted { OnOk result (IsSorted (on pair_of compare_pairs) items.new.items) }
     ensures same { IsPermutation items.old.items items.new.items }

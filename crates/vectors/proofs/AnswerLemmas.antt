@@ -10,7 +10,7 @@ use Rattle.multihash.specs.Refusal.{Refusal}
 use Rattle.multihash.specs.Settling.{Settles, IsShortestSettling}
 use Rattle.multihash.specs.Taking.{TakesAtRefusal, TakesShortestSettling}
 use Rattle.multihash.specs.Varint.{insufficient, overflow, not_minimal, marked, IsVarint}
-use Rattle.multihash.specs.Verdict.{Verdict, accepted, invalid_size, invalid_code, faulty, unexpected_eof, HasSize, HasVerdict, IsEarlyEnd}
+use Rattle.multihash.specs.Verdict.{Verdict, accepted, invalid_size, invalid_code, faulty, unexpected_eof, BeginsWithSize, HasVerdict, IsEarlyEnd}
 use Rattle.multihash.proofs.Readings.BeginningLemmas.{compare_beginnings}
 use Rattle.multihash.proofs.Varints.MarkedLemmas.{All-append_right}
 use Rattle.vectors.specs.declared.line.Reading.{Reading}
@@ -58,7 +58,7 @@ varint_ends n bytes v =
     let whole = ap (λ (xs : List ℕ). count_by ends_varint xs) v.spelled in
     omega (arith, one, whole, count_append (marked v.front) (v.last ∷ []))
 
-two_varints : (size : ℕ) (bytes rest : List ℕ) → HasSize size bytes rest → 2 ≤ count_by ends_varint bytes
+two_varints : (size : ℕ) (bytes rest : List ℕ) → BeginsWithSize size bytes rest → 2 ≤ count_by ends_varint bytes
 two_varints size bytes rest h =
     let whole = ap (λ (xs : List ℕ). count_by ends_varint xs) h.cut in
     omega (

@@ -1,4 +1,4 @@
--- What a line of the list says, in the grammar's words.
+-- What a line of test vectors states, by the grammar.
 use Rattle.std.specs.Prelude.{◌≡◌, ◌≢◌, ℕ, ◌+◌, List, [], Option, Ok, ◌⊎◌, length, take, count_by, nat_lt, ◌-◌, ◌≤◌, Bool, codes, All, MatchOption}
 use Rattle.hex.specs.Hex.{decode_of}
 use Rattle.multihash.specs.Bytes.{IsBeginning, IsProperBeginning}
@@ -27,22 +27,22 @@ meaning Overflow = faulty overflow
 meaning NotMinimal = faulty not_minimal
 meaning UnexpectedEof = unexpected_eof
 
--- the shortest beginning that settles the verdict has so many bytes
+-- the shortest prefix that settles the verdict has this number of bytes
 pub record SettlesAfter (S : ℕ) (input : List ℕ) (count : ℕ) : Type 0 where
   pub front : List ℕ
   pub shortest : IsShortestSettling S input front
   pub long : length front ≡ count
 
--- the verdict settles after so many bytes, or where none are listed it is an early end
+-- the verdict settles after this number of bytes, or if none is listed the input is incomplete
 abbrev pub IsTaken : ℕ → List ℕ → Meaning → Option ℕ → Type 0
 IsTaken S input v taken = MatchOption taken (IsEarlyEnd v) (SettlesAfter S input)
 
--- the listed verdict is that of what begins with the input, and so is the number of bytes
+-- the listed verdict and number of bytes are those of reading the input
 pub record IsReading (S : ℕ) (input : List ℕ) (listed : Reading) : Type 0 where
   pub verdict : HasVerdict S input (meaning listed.verdict)
   pub taken : IsTaken S input (meaning listed.verdict) listed.taken
 
--- the shortest beginning on which decoding does not end early has so many bytes
+-- the shortest prefix that is complete for decoding has this number of bytes
 pub record DecodesAfter (S : ℕ) (input : List ℕ) (count : ℕ) : Type 0 where
   pub front : List ℕ
   pub begins : IsBeginning front input
@@ -53,11 +53,11 @@ pub record DecodesAfter (S : ℕ) (input : List ℕ) (count : ℕ) : Type 0 wher
       HasScaleVerdict S shorter unexpected_eof
   pub long : length front ≡ count
 
--- decoding needs so many bytes, or where none are listed it ends early
+-- decoding needs this number of bytes, or if none is listed the input is incomplete
 abbrev pub IsScaleTaken : ℕ → List ℕ → Meaning → Option ℕ → Type 0
 IsScaleTaken S input v taken = MatchOption taken (v ≡ unexpected_eof) (DecodesAfter S input)
 
--- the listed verdict is that of decoding what begins with the input, and so is the number of bytes
+-- the listed verdict and number of bytes are those of decoding the input
 abbrev pub IsScaleReading : ℕ → List ℕ → Reading → Type 0
 IsScaleReading S input listed =
     HasScaleVerdict S input (meaning listed.verdict)
@@ -67,8 +67,8 @@ IsScaleReading S input listed =
 abbrev pub ends_varint : ℕ → Bool
 ends_varint byte = nat_lt byte 128
 
--- where more input could change the verdict, as many bytes were taken as reading takes at least: all of an
--- input that ends in a varint, and both varints of one that ends in the digest
+-- if more input could change the verdict, at least what reading consumes was consumed: all of an input that
+-- ends within a varint, and both varints of one that ends within the digest
 abbrev pub TakesEnough : Meaning → List ℕ → List ℕ → Type 0
 TakesEnough (accepted p) input left = ⊥
 TakesEnough (invalid_size size) input left = ⊥
@@ -79,19 +79,19 @@ TakesEnough (faulty not_minimal) input left = ⊥
 TakesEnough unexpected_eof input left =
     2 ≤ count_by ends_varint (take (length input - length left) input)
 
--- reading took as many bytes as are listed; none are listed exactly where more input could change the verdict
+-- reading consumed the listed number of bytes; none is listed exactly if more input could change the verdict
 abbrev pub TakesAsReadListed : List ℕ → List ℕ → Reading → Type 0
 TakesAsReadListed input left listed =
     MatchOption listed.taken (TakesEnough (meaning listed.verdict) input left)
     (λ taken. ¬ (IsEarlyEnd (meaning listed.verdict)) × (length input ≡ taken + length left))
 
--- decoding took as many bytes as are listed; none are listed exactly where it ends early
+-- decoding consumed the listed number of bytes; none is listed exactly if the input is incomplete
 abbrev pub TakesAsScaleListed : List ℕ → List ℕ → Reading → Type 0
 TakesAsScaleListed input left listed =
     MatchOption listed.taken (meaning listed.verdict ≡ unexpected_eof)
     (λ taken. (meaning listed.verdict ≢ unexpected_eof) × (length input ≡ taken + length left))
 
--- what the line says for this check is what the grammar says
+-- what the line states for this check is what the grammar says
 abbrev pub IsRight : Check → ℕ → Line → Type 0
 IsRight FromBytes S line = HasWholeVerdict S line.input.items (meaning line.from_bytes)
 IsRight ReadSlice S line = IsReading S line.input.items line.read

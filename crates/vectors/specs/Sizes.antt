@@ -1,4 +1,4 @@
--- The sizes of buffers that a list may have.
+-- The capacities that test vectors may have.
 use Rattle.std.specs.Prelude.{ℕ, List, [], ◌∷◌, Bool, nat_eq}
 use Rattle.std.specs.List.{list_any}
 

@@ -10,10 +10,10 @@ use crate::verdict::Verdict;
 use multihash::{Multihash, laws};
 use std::fmt;
 
-// The largest buffer of a list.
+// The largest capacity of test vectors.
 const LARGEST: usize = 300;
 
-/// A call that is to answer what a line says.
+/// A call whose result a line states.
 #[derive(Clone, Copy, Debug, PartialEq, Eq)]
 pub enum Check {
     FromBytes,
@@ -40,7 +40,7 @@ impl fmt::Display for Check {
 }
 
 impl Check {
-    /// Each check, in the order in which they are made.
+    /// All checks, in the order in which they are made.
     pub const ALL: [Check; 7] = [
         Check::FromBytes,
         Check::ReadSlice,
@@ -51,7 +51,7 @@ impl Check {
         Check::FromValue,
     ];
 
-    /// Whether the call answers what the line says.
+    /// Whether the call returns what the line says.
     pub fn agrees(self, line: &Line) -> bool
         ensures { IsTrue result ↔ IsRight self line.now.size line.now }
     {
@@ -90,7 +90,7 @@ impl Check {
         }
     }
 
-    // The most bytes that the reader of a check over cut input gives a call.
+    // The most bytes per call that the reader of a check over split input returns.
     fn bytes_a_call(self) -> usize
         ensures some { 0 < result }
         ensures one { (self ≡ ReadOneByte) ⊎ (self ≡ ScaleOneByte) → result ≡ 1 }
@@ -103,17 +103,17 @@ impl Check {
     }
 }
 
-// Whether `from_bytes` answers as is listed.
+// Whether `from_bytes` returns what is listed.
 fn whole_agrees<const S: usize>(input: &[u8], listed: &Verdict) -> bool
     requires { S ≤ LARGEST }
     ensures { IsTrue result ↔ HasWholeVerdict S input.now (meaning listed.now) }
 {
-    // That an input has one verdict: what isn't answered isn't the grammar's either.
+    // An input has one verdict: what is not returned is not the grammar's verdict either.
     laws::one_verdict();
     listed.is_answer(&Multihash::<S>::from_bytes(input))
 }
 
-// Whether `from_value` of the input as an array of numbers answers as is listed for `from_bytes`.
+// Whether `from_value` of the input as an array of numbers returns what is listed for `from_bytes`.
 fn value_agrees<const S: usize>(line: &Line) -> bool
     requires { S ≤ LARGEST }
     ensures { IsTrue result ↔ HasWholeVerdict S line.now.input.items (meaning line.now.from_bytes) }
@@ -123,7 +123,7 @@ fn value_agrees<const S: usize>(line: &Line) -> bool
     line.from_bytes.is_answer(&answer)
 }
 
-// Whether `read` over the slice does as is listed.
+// Whether `read` from the slice does what is listed.
 fn slice_agrees<const S: usize>(input: &[u8], listed: &Reading) -> bool
     requires { S ≤ LARGEST }
     ensures { IsTrue result ↔ IsReading S input.now listed.now }
@@ -135,7 +135,7 @@ fn slice_agrees<const S: usize>(input: &[u8], listed: &Reading) -> bool
     listed.verdict.is_answer(&answer) && takes_as_listed(input, left, listed)
 }
 
-// Whether `read` does as is listed, over a reader that gives at most so many bytes a call.
+// Whether `read` does what is listed, from a reader that returns at most that many bytes per call.
 fn cuts_agree<const S: usize>(input: &[u8], listed: &Reading, most: usize) -> bool
     requires size { S ≤ LARGEST }
     requires some { 0 < most }
@@ -148,9 +148,9 @@ fn cuts_agree<const S: usize>(input: &[u8], listed: &Reading, most: usize) -> bo
     listed.verdict.is_answer(&answer) && takes_as_listed(input, cuts.left, listed)
 }
 
-// Whether as many bytes were taken as is listed: a number of them, exactly where the verdict is no
-// early end. Of an input that ends in a varint all were taken, and of one that ends in the digest at
-// least both varints.
+// Whether the listed number of bytes was consumed: there is one exactly if the input is complete. Of an input
+// that ends within a varint all bytes were consumed, and of one that ends within the digest at least both
+// varints.
 fn takes_as_listed(input: &[u8], left: &[u8], listed: &Reading) -> bool
     requires { length left.now ≤ length input.now }
     ensures { IsTrue result ↔ TakesAsReadListed input.now left.now listed.now }
@@ -164,7 +164,7 @@ fn takes_as_listed(input: &[u8], left: &[u8], listed: &Reading) -> bool
     }
 }
 
-// Whether `scale_decode` over the slice does as is listed.
+// Whether `scale_decode` from the slice does what is listed.
 fn scale_slice_agrees<const S: usize>(input: &[u8], listed: &Reading) -> bool
     requires { S ≤ LARGEST }
     ensures { IsTrue result ↔ IsScaleReading S input.now listed.now }
@@ -175,7 +175,7 @@ fn scale_slice_agrees<const S: usize>(input: &[u8], listed: &Reading) -> bool
     listed.verdict.is_answer(&answer) && takes_as_scale_listed(input, left, listed)
 }
 
-// Whether `scale_decode` does as is listed, over a reader that gives at most so many bytes a call.
+// Whether `scale_decode` does what is listed, from a reader that returns at most that many bytes per call.
 fn scale_cuts_agree<const S: usize>(input: &[u8], listed: &Reading, most: usize) -> bool
     requires size { S ≤ LARGEST }
     requires some { 0 < most }
@@ -187,8 +187,7 @@ fn scale_cuts_agree<const S: usize>(input: &[u8], listed: &Reading, most: usize)
     listed.verdict.is_answer(&answer) && takes_as_scale_listed(input, cuts.left, listed)
 }
 
-// Whether as many bytes were taken as is listed: a number of them, or any where the verdict is an
-// early end.
+// Whether the listed number of bytes was consumed; any number if the input is incomplete.
 fn takes_as_scale_listed(input: &[u8], left: &[u8], listed: &Reading) -> bool
     requires { length left.now ≤ length input.now }
     ensures { IsTrue result ↔ TakesAsScaleListed input.now left.now listed.now }

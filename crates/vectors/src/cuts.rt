@@ -1,10 +1,10 @@
-//! A reader over a slice that gives few bytes a call.
+//! A reader over a slice that returns few bytes per call.
 ghost use Rattle.std.specs.Prelude.{◌≡◌, ◌<◌, Some, Ok, min, length};
 ghost use Rattle.multihash.specs.Reading.{ReadLaws};
 
 use multihash::no_std_io::{Error, Read};
 
-/// A reader of the bytes that are left, which gives at most so many a call and never fails.
+/// A reader of the remaining bytes, which returns at most `most` of them per call and never fails.
 #[derive(Drop)]
 pub struct Cuts<'a> {
     pub left: &'a [u8],

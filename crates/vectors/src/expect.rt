@@ -1,11 +1,10 @@
-//! What a test expects, proved once for all of the crate, where `assert!` is proved at each call. Only
-//! tests may end the process, so no library has it. Proofs of tests are short where these take values, and
-//! references that are there, since each borrow of a local costs, and each branch: so a note is a value and
-//! no text that is put together, and `expect_ok` stands where `?` would.
+//! Assertions for tests, proved once for the crate, while `assert!` is proved at each call. Only tests may
+//! end the process, so no library has them. Each borrow of a local and each branch makes the proof of a test
+//! longer: so a note is a value and no formatted text, and `expect_ok` replaces `?`.
 use std::fmt::Debug;
 use std::process::Abort;
 
-/// As `assert!`, and prints the note's value too where there is one.
+/// Like `assert!`; prints the note's value too, if there is one.
 macro_rules! check {
     ($rt:expr; $cond:expr $(,)?) => {
         $crate::expect::expect_true($rt, $cond, stringify!($cond))
@@ -15,7 +14,7 @@ macro_rules! check {
     };
 }
 
-/// As `assert_eq!`, of two values of one type, and prints the note's value too where there is one.
+/// Like `assert_eq!`, for two values of one type; prints the note's value too, if there is one.
 macro_rules! check_eq {
     ($rt:expr; $left:expr, $right:expr $(,)?) => {
         $crate::expect::expect_equal($rt, $left, $right, stringify!($left))
@@ -30,17 +29,17 @@ macro_rules! check_eq {
 pub(crate) use check;
 pub(crate) use check_eq;
 
-/// Fails where it does not hold.
+/// Fails if the condition is false.
 pub(crate) fn expect_true(rt: &impl Abort, holds: bool, what: &str) {
     assert!(rt; holds, "assertion failed: {what}");
 }
 
-/// As `expect_true`, and prints the note too.
+/// Like `expect_true`; prints the note too.
 pub(crate) fn expect_noted<N: Debug + Drop>(rt: &impl Abort, holds: bool, what: &str, note: N) {
     assert!(rt; holds, "assertion failed: {what}: {note:?}");
 }
 
-/// Fails where the value is not the one that is wanted.
+/// Fails if the value is not the expected one.
 pub(crate) fn expect_equal<T: PartialEq + Debug + Drop>(
     rt: &impl Abort,
     value: T,
@@ -50,7 +49,7 @@ pub(crate) fn expect_equal<T: PartialEq + Debug + Drop>(
     assert_eq!(rt; value, wanted, "{what}");
 }
 
-/// As `expect_equal`, and prints the note too.
+/// Like `expect_equal`; prints the note too.
 pub(crate) fn expect_equal_at<T: PartialEq + Debug + Drop, N: Debug + Drop>(
     rt: &impl Abort,
     value: T,
@@ -61,7 +60,7 @@ pub(crate) fn expect_equal_at<T: PartialEq + Debug + Drop, N: Debug + Drop>(
     assert_eq!(rt; value, wanted, "{what}: {note:?}");
 }
 
-/// What a call answered; fails where it refused.
+/// The value of a result; fails if it is an error.
 pub(crate) fn expect_ok<T, E: Debug + Drop>(rt: &impl Abort, answer: Result<T, E>) -> T {
     answer.expect(rt, "error")
 }

@@ -1,4 +1,4 @@
-//! A line of the list.
+//! A line of test vectors.
 ghost use Rattle.std.specs.Prelude.{◌≡◌, IfOk, IsTrue};
 ghost use Rattle.serde_json.specs.View.{view};
 ghost use Rattle.multihash.specs.Json.{IsByteArray};
@@ -9,14 +9,14 @@ use anyhow::{Context, Result, bail, ensure};
 use serde_json::Value;
 use std::alloc::Global;
 
-/// The first line of a list, which names the columns.
+/// The first line of a file, which names the columns.
 pub const COLUMNS: &str = "S\tinput\tread\tread_taken\tfrom_bytes\tscale_decode\tscale_taken";
 
-// The sizes of buffers that a list may have, as `is_known_size` and `Check::agrees` tell them apart.
+// The capacities that test vectors may have, as `is_known_size` and `Check::agrees` know them.
 const SIZES: &str = "0, 1, 2, 4, 16, 32, 64, 128, 200, 255, 256 and 300";
 
-/// What a reading call is to answer, and how many bytes it is to take: none is said where more input
-/// could change the answer.
+/// The expected result of a reading call, and the number of bytes that it has to consume: none if more input
+/// could change the result.
 #[derive(Debug, Drop)]
 pub struct Reading {
     pub verdict: Verdict,
@@ -35,10 +35,10 @@ impl Reading {
     }
 }
 
-/// An input, with what the calls are to answer to it.
+/// An input, with the expected results of the calls.
 #[derive(Debug, Drop)]
 pub struct Line {
-    /// The size of the buffer, one of those that a list may have.
+    /// The capacity, one of those that test vectors may have.
     pub size: usize,
     pub input: Vec<u8>,
     /// The input as an array of numbers.
@@ -51,11 +51,11 @@ pub struct Line {
 }
 
 impl Line {
-    /// Reads a line: its columns, with tabs between them.
+    /// Parses a line: columns separated by tabs.
     ///
     /// # Errors
     ///
-    /// A line with other columns or a size of buffer that no list has, and want of memory.
+    /// A line with other columns or an unknown capacity; out of memory.
     pub fn parse(alloc: Global, text: &str) -> Result<Self> {
         let columns: Vec<&str> = text.split('\t').collect(alloc)?;
         Self::parse_columns(alloc, columns.as_slice())
@@ -98,7 +98,7 @@ fn parse_size(text: &str) -> Result<usize>
     Ok(size)
 }
 
-// Whether a list may have buffers of this size.
+// Whether test vectors may have this capacity.
 fn is_known_size(size: usize) -> bool
     ensures { result ≡ is_size size }
 {

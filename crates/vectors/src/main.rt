@@ -1,10 +1,10 @@
-//! Replays a list of verdicts against the library: for each line, the call is to answer what the
-//! line says, and to take as many bytes.
+//! Replays test vectors against the library: each call has to return what the line says, and to consume that
+//! number of bytes.
 //!
-//! The list is the file `verdicts.tsv` in the folder where the program runs. One line is printed for
-//! each check, with the number of lines that agree, and one for each disagreement, with its input.
-//! A line that is refused ends the list: what is above it is replayed and printed, and then the line is named.
-//! The exit status is 1 where there is a disagreement, or where the list cannot be read.
+//! The vectors are the file `verdicts.tsv` in the current folder. The program prints a line for each check,
+//! with the number of lines that agree, and one for each disagreement, with its input. A malformed line ends
+//! the run: what is above it is replayed and printed, and then the line is named. The exit status is 1 after
+//! a disagreement, or if the file cannot be read.
 #![tactic(auto)]
 
 use anyhow::Context;

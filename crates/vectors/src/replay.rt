@@ -1,4 +1,4 @@
-//! A list, replayed.
+//! Replays test vectors.
 ghost use Rattle.std.specs.Prelude.{◌↔◌, IsTrue, IfOk};
 ghost use Rattle.vectors.specs.Listed.{AreRightFor, AreRight};
 
@@ -8,15 +8,14 @@ use anyhow::{Context, Result, ensure};
 use std::alloc::Global;
 use std::fmt::Write;
 
-/// Makes each check on each line of a list, and tells whether all of them agree. It writes one line
-/// for each check, and before it one for each disagreement.
+/// Makes each check on each line, and returns whether all of them agree. It writes a line for each check, and
+/// before it one for each disagreement.
 ///
 /// # Errors
 ///
-/// A first line with other columns, a line that is malformed, and one with a size of buffer that no list
-/// has, each told with its number; a list with no line below the first, which has none; want of memory,
-/// and what the writer answers. Of a line that is refused those above it were checked, and what the checks tell of
-/// them was written; where there are none, nothing was.
+/// A first line with other columns, a malformed line, and one with an unknown capacity, each with its number;
+/// no line after the first; out of memory; the writer's error. At a malformed line those above it were
+/// checked, and the results were written; if there are none, nothing was.
 pub fn replay<W: Write>(alloc: Global, list: &str, report: &mut W) -> Result<bool> {
     let mut lines = Vec::new(alloc);
     let parsed = parse(alloc, list, &mut lines);
@@ -36,7 +35,7 @@ fn replay_lines<W: Write>(lines: &[Line], report: &mut W) -> Result<bool>
     Ok(all_agree)
 }
 
-// Adds the lines of a list that stand below the first, which names the columns, up to one that is refused.
+// Adds the lines after the first, which names the columns, up to a malformed one.
 fn parse(alloc: Global, list: &str, lines: &mut Vec<Line>) -> Result<()> {
     let mut texts = list.lines();
     let header = texts.next().unwrap_or("");

@@ -1,4 +1,4 @@
-//! What a call is to answer.
+//! The expected result of a call.
 ghost use Rattle.std.specs.Prelude.{◌↔◌, IsTrue, IfOk};
 ghost use Rattle.multihash.specs.Answer.{Answers};
 ghost use Rattle.multihash.specs.Refusal.{IsEof};
@@ -8,7 +8,7 @@ use anyhow::{Context, Result, bail, ensure};
 use multihash::{Error, Multihash};
 use std::alloc::Global;
 
-/// The verdict on an input, as a line of the list says it.
+/// The verdict on an input, as a line states it.
 #[derive(Debug, Drop)]
 pub enum Verdict {
     Pair { code: u64, digest: Vec<u8> },
@@ -21,11 +21,11 @@ pub enum Verdict {
 }
 
 impl Verdict {
-    /// Reads a verdict: its name, and then the numbers or bytes that it has.
+    /// Parses a verdict: its name, then its numbers or bytes.
     ///
     /// # Errors
     ///
-    /// A text that is no verdict, and want of memory.
+    /// The text is no verdict; out of memory.
     pub fn parse(alloc: Global, text: &str) -> Result<Self> {
         match text.split_once(' ') {
             Some(("pair", pair)) => {
@@ -45,7 +45,7 @@ impl Verdict {
         }
     }
 
-    // A verdict that is its name alone.
+    // A verdict that consists of its name alone.
     fn parse_bare(text: &str) -> Result<Self> {
         Ok(match text {
             "insufficient" => Verdict::Insufficient,
@@ -56,7 +56,7 @@ impl Verdict {
         })
     }
 
-    /// Whether this is what the call answered.
+    /// Whether the result is this verdict.
     pub fn is_answer<const S: usize>(&self, answer: &Result<Multihash<S>, Error>) -> bool
         ensures { IsTrue result ↔ Answers answer.now (meaning self.now) }
     {
@@ -75,7 +75,7 @@ impl Verdict {
     }
 }
 
-// Whether the input ended inside the digest.
+// Whether the input ended within the digest.
 fn is_unexpected_eof(error: &Error) -> bool
     ensures { IsTrue result ↔ IsEof error.now }
 {
@@ -85,11 +85,11 @@ fn is_unexpected_eof(error: &Error) -> bool
     }
 }
 
-/// Reads bytes in hexadecimal, or `-` for none.
+/// Parses bytes in hexadecimal, or `-` for none.
 ///
 /// # Errors
 ///
-/// A text that is neither, and want of memory.
+/// The text is neither; out of memory.
 pub fn parse_bytes(alloc: Global, text: &str) -> Result<Vec<u8>>
     ensures { IfOk result (λ bytes. ListsBytes text.now bytes.items) }
 {

@@ -4,7 +4,7 @@ ghost use Rattle.mh_show.specs.Shown.{ShowsAs};
 mod fakes;
 
 use super::*;
-use crate::expect::{check, check_eq, expect_bytes};
+use crate::expect::{check, check_eq, expect_bytes, expect_ok};
 use fakes::{Drip, Fault, Page, Zeros};
 use std::io::ErrorKind;
 use std::process::Abort;
@@ -74,6 +74,44 @@ fn shows_the_example(rt: HostRuntime) {
     expect_lines(rt, b"ffffffffffffffff7f00\n", lines);
 }
 
+// The SHA-512 digest of the text `multihash`.
+const DIGEST: &str =
+    "fa d5 8a 76 f9 27 d3 b5 bb db 60 6c cf 19 70 02 25 f1 57 26 3f b5 15 e3 c4 19 4f a1 22 0a d3 4d 1d 60 bf 35 a0 7d e0 e1 5c 82 29 c7 eb c7 24 57 54 25 cd 58 1a 4e e9 95 ff 3a 54 75 ab fd e0 d7";
+
+// Shows a multihash of this code, given in hexadecimal and in decimal, and this size and digest.
+fn expect_multihash(rt: &(impl Abort + AllocGlobal), code: (&str, &str), size: u64, digits: &str) {
+    let alloc = rt.alloc();
+    let (encoded, decimal) = code;
+    let digest = if digits.is_empty() { "-" } else { digits };
+    let shown = format!(in alloc; "code {decimal}\nsize {size}\ndigest {digest}\n");
+    let line = format!(in alloc; "{encoded}{size:02x}{digits}\n");
+    let (line, shown) = (expect_ok(rt, line), expect_ok(rt, shown));
+    let (line, shown) = (line.as_str(), shown.as_str().as_bytes());
+    expect_lines_at(rt, line.as_bytes(), 65537, shown);
+    expect_lines_at(rt, line.trim_end().as_bytes(), 65537, shown);
+}
+
+// Shows multihashes of this code, of each size.
+fn expect_sizes(rt: &(impl Abort + AllocGlobal), code: (&str, &str)) {
+    let mut digits = String::new(rt.alloc());
+    expect_multihash(rt, code, 0, "");
+    for (size, byte) in (1u64..).zip(DIGEST.split(' ')) {
+        expect_ok(rt, digits.push_str(byte));
+        expect_multihash(rt, code, size, digits.as_str());
+    }
+    check_eq!(rt; digits.len(), 128);
+}
+
+#[test]
+fn shows_each_size(rt: HostRuntime) {
+    let rt = &rt;
+    expect_sizes(rt, ("01", "1"));
+    expect_sizes(rt, ("12", "18"));
+    expect_sizes(rt, ("16", "22"));
+    expect_sizes(rt, ("8001", "128"));
+    expect_sizes(rt, ("ffffffffffffffff7f", "9223372036854775807"));
+}
+
 fn expect_text_refused(rt: &(impl Abort + AllocGlobal), text: &[u8], line: &[u8]) {
     expect_refusal(rt, &mut Drip::new(text, 3), line);
 }
@@ -86,6 +124,8 @@ fn tells_why_a_text_is_refused(rt: HostRuntime) {
     expect_text_refused(rt, b"\n", too_short);
     expect_text_refused(rt, b"00", too_short);
     expect_text_refused(rt, b"0041", b"mh_show: Invalid multihash size 65.\n");
+    let longest = b"mh_show: Invalid multihash size 9223372036854775807.\n";
+    expect_text_refused(rt, b"00ffffffffffffffff7f", longest);
     expect_text_refused(rt, b"8000", b"mh_show: encoding is not minimal\n");
     expect_text_refused(rt, b"0001", b"mh_show: failed to fill whole buffer\n");
     let exceeds = b"mh_show: input bytes exceed maximum\n";

@@ -1,7 +1,6 @@
 -- What known places hold when they were filled.
 use Rattle.std.proofs.Common.{◌≡◌, ℕ, List, [], ◌∷◌, length, get_or, refl, sym, ap, arith}
-use Rattle.multihash.specs.Places.{FillsPlaces}
-use Rattle.multihash.specs.Filling.{Fills, IsFilled}
+use Rattle.multihash.specs.Filling.{FillsPlaces, Fills, IsFilled}
 use Rattle.multihash.specs.declared.no_std_io.slice_writer.SliceWriter.{SliceWriter}
 
 fills_two : FillsPlaces (7 ∷ 8 ∷ 9 ∷ 9 ∷ []) 1 (1 ∷ 2 ∷ []) (7 ∷ 1 ∷ 2 ∷ 9 ∷ []) 3

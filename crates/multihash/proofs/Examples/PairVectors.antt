@@ -1,8 +1,8 @@
--- Known pairs: their limits, sameness and truncation.
-use Rattle.std.proofs.Common.{◌≡◌, ℕ, List, [], ◌∷◌, ◌<◌, replicate, length, get_or, refl, ap, arith}
+-- Known pairs: their limits and truncation.
+use Rattle.std.proofs.Common.{◌≡◌, ℕ, List, [], ◌∷◌, ◌<◌, replicate, refl, arith}
 use Rattle.std.specs.Prelude.{codes}
 use Rattle.std.proofs.lemmas.List.Elements.{All-head}
-use Rattle.multihash.specs.Pair.{Pair, IsPair, IsSame, digest_limit, FitsBuffer, truncated}
+use Rattle.multihash.specs.Pair.{Pair, IsPair, digest_limit, FitsBuffer, truncated}
 use Rattle.multihash.proofs.Examples.BytesVectors.{all_below}
 use Rattle.multihash.proofs.Examples.VarintVectors.{largest, too_large}
 
@@ -33,18 +33,6 @@ fits_no_buffer = omega arith
 -- however large the buffer, a digest has a length of one byte
 fits_never : ¬ (FitsBuffer 300 (pair 0 (replicate 256 0)))
 fits_never h = omega (arith, h)
-
-same_ab : IsSame (pair 0 (97 ∷ 98 ∷ [])) (pair 0 (codes "ab"))
-same_ab = record { code = refl; digest = refl }
-
-other_digest : ¬ (IsSame (pair 0 (codes "ab")) (pair 0 (codes "a")))
-other_digest h = omega (arith, ap (λ (z : List ℕ). length z) h.digest)
-
-other_byte : ¬ (IsSame (pair 0 (codes "ab")) (pair 0 (codes "ac")))
-other_byte h = omega (arith, ap (λ (z : List ℕ). get_or z 1 0) h.digest)
-
-other_code : ¬ (IsSame (pair 0 (codes "ab")) (pair 1 (codes "ab")))
-other_code h = omega (arith, h.code)
 
 truncates : (truncated 3 (pair 7 (codes "foobar")) ≡ pair 7 (codes "foo")) × (truncated 0 (pair 7 (codes "foobar")) ≡ pair 7 [])
     × (truncated 9 (pair 7 (codes "foobar")) ≡ pair 7 (codes "foobar"))

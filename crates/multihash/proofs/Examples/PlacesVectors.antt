@@ -1,6 +1,6 @@
 -- What known slices gave up and what known vectors gained.
 use Rattle.std.proofs.Common.{ℕ, List, [], ◌∷◌, length, get_or, refl, ap, arith}
-use Rattle.multihash.specs.Places.{GivesUpPlaces, GivesUpFor, AppendsAtEnd}
+use Rattle.multihash.specs.Places.{GivesUpFor, AppendsAtEnd}
 
 -- all places may be given up
 gives_up : GivesUpFor (7 ∷ 8 ∷ 9 ∷ []) (1 ∷ 2 ∷ []) (9 ∷ []) × GivesUpFor (7 ∷ 8 ∷ []) (1 ∷ 2 ∷ []) []
@@ -9,7 +9,7 @@ gives_up = (record { room = omega arith; left = refl }, record { room = omega ar
 gives_up_no_more : (new : List ℕ) → ¬ (GivesUpFor (7 ∷ []) (1 ∷ 2 ∷ []) new)
 gives_up_no_more new h = omega (arith, h.room)
 
-gives_up_the_first : ¬ (GivesUpPlaces (7 ∷ 8 ∷ []) 1 (7 ∷ []))
+gives_up_the_first : ¬ (GivesUpFor (7 ∷ 8 ∷ []) (1 ∷ []) (7 ∷ []))
 gives_up_the_first h = omega (arith, ap (λ (z : List ℕ). get_or z 0 0) h.left)
 
 -- as many as were asked for

@@ -90,15 +90,15 @@ none_before S (p ∷ pairs) old middle fewer h = absurd (omega arith)
 refuses_an_open_code : StopsAfterPairs 4 1 (of_varint insufficient) 3 3 (Some (0x80 ∷ [])) (Some [])
 refuses_an_open_code = record {
   pairs = [];
-  middle = Some (0x80 ∷ []);
+  behind = Some (0x80 ∷ []);
   fewer = omega arith;
-  good = TakesPairs-none 4 (Some (0x80 ∷ []));
+  taken = TakesPairs-none 4 (Some (0x80 ∷ []));
   refused = record {
     taken = 0x80 ∷ [];
     takes = refl;
     insufficient = λ e. (code_open, refl);
     eof = λ end. absurd (cc (end.1));
-    fault = λ own. absurd (cc (own.1));
+    failed = λ own. absurd (cc (own.1));
   };
   verdict = λ same. (faulty insufficient, code_open, refl);
   settled = λ same v has late. absurd
@@ -119,7 +119,7 @@ stops_before_the_last h = omega (arith, h.fewer)
 -- what was taken before the refused one are pairs
 skips_no_pair : ¬ (StopsAfterPairs 4 1 (of_varint insufficient) 3 3 (Some (0 ∷ 0 ∷ [])) (Some []))
 skips_no_pair h =
-    let at = none_before 4 h.pairs (Some (0 ∷ 0 ∷ [])) h.middle h.fewer h.good in
+    let at = none_before 4 h.pairs (Some (0 ∷ 0 ∷ [])) h.behind h.fewer h.taken in
     let takes =
     subst (λ (o : Option (List ℕ)). Takes o h.refused.taken (Some [])) at h.refused.takes in
     let taken = taken_is (0 ∷ 0 ∷ []) [] h.refused.taken takes in
@@ -137,7 +137,7 @@ refuses_with_all_taken h = omega (arith, ap (λ (z : List ℕ). length z) (h.ref
 
 -- what a refusal says of what was left behind the pairs
 module _ (count : ℕ) (e : Refusal) (before after : ℕ) (old new : Option (List ℕ)) (left : List ℕ) (h : StopsAfterPairs 4 count e before after old new)
-    (at : h.middle ≡ Some left) where
+    (at : h.behind ≡ Some left) where
   verdict_behind : after ≡ before → (v : Verdict) × HasVerdict 4 left v × IsRefusal e v
   verdict_behind = subst (λ o. IfSome o (λ left. after ≡ before → (v : Verdict) × HasVerdict 4 left v × IsRefusal e v)) at h.verdict
 
@@ -159,12 +159,12 @@ no_size_6 (v, has, names) =
 -- the refusal is that of what follows the pairs
 refuses_by_the_verdict : ¬ (StopsAfterPairs 4 1 (of_size 6) 3 3 (Some (0 ∷ 5 ∷ 9 ∷ [])) (Some (9 ∷ [])))
 refuses_by_the_verdict h =
-    no_size_6 (verdict_behind 1 (of_size 6) 3 3 _ _ (0 ∷ 5 ∷ 9 ∷ []) h (none_before 4 h.pairs _ h.middle h.fewer h.good) refl)
+    no_size_6 (verdict_behind 1 (of_size 6) 3 3 _ _ (0 ∷ 5 ∷ 9 ∷ []) h (none_before 4 h.pairs _ h.behind h.fewer h.taken) refl)
 
 -- no byte behind what settles was taken
 refuses_with_nothing_behind : ¬ (StopsAfterPairs 4 1 (of_size 5) 3 3 (Some (0 ∷ 5 ∷ 9 ∷ [])) (Some []))
 refuses_with_nothing_behind h =
-    takes_no_byte_behind_size (settled_behind 1 (of_size 5) 3 3 _ _ (0 ∷ 5 ∷ 9 ∷ []) h (none_before 4 h.pairs _ h.middle h.fewer h.good) refl
+    takes_no_byte_behind_size (settled_behind 1 (of_size 5) 3 3 _ _ (0 ∷ 5 ∷ 9 ∷ []) h (none_before 4 h.pairs _ h.behind h.fewer h.taken) refl
     (invalid_size 5) size_5_refused (λ early. early))
 
 empty_digest_settles : Settles 4 (0 ∷ 0 ∷ [])
@@ -173,7 +173,7 @@ empty_digest_settles = late_settles 4 (0 ∷ 0 ∷ []) (accepted (pair 0 [])) (�
 -- after a failure nothing that settles was taken
 fails_with_nothing_settled : ¬ (StopsAfterPairs 4 1 (of_io other) 3 4 (Some (0 ∷ 0 ∷ 7 ∷ [])) (Some (7 ∷ [])))
 fails_with_nothing_settled h =
-    let u = unsettled_behind 1 (of_io other) 3 4 _ _ (0 ∷ 0 ∷ 7 ∷ []) h (none_before 4 h.pairs _ h.middle h.fewer h.good) (omega arith) in
+    let u = unsettled_behind 1 (of_io other) 3 4 _ _ (0 ∷ 0 ∷ 7 ∷ []) h (none_before 4 h.pairs _ h.behind h.fewer h.taken) (omega arith) in
     u.unsettled (0 ∷ 0 ∷ []) ([], taken_is (0 ∷ 0 ∷ []) (7 ∷ []) u.taken u.takes ∙ sym (append-nil (0 ∷ 0 ∷ []))) empty_digest_settles
 
 -- ---- where a list was refused behind its first pair
@@ -221,7 +221,7 @@ no_size_at_first size (v, has, names) =
 -- the refusal is that of what follows the first pair
 refuses_second_by_the_verdict : ¬ (StopsAfterPairs 4 2 (of_size 6) 3 3 (Some stream) (Some (9 ∷ [])))
 refuses_second_by_the_verdict h =
-    elim (one_before h.pairs h.middle h.fewer h.good) [
+    elim (one_before h.pairs h.behind h.fewer h.taken) [
       | inl at ↦ no_size_at_first 6 (verdict_behind 2 (of_size 6) 3 3 _ _ stream h at refl)
       | inr at ↦ no_size_6 (verdict_behind 2 (of_size 6) 3 3 _ _ (0 ∷ 5 ∷ 9 ∷ []) h at refl)
     ]
@@ -229,7 +229,7 @@ refuses_second_by_the_verdict h =
 -- no byte behind what settles was taken
 refuses_second_with_nothing_behind : ¬ (StopsAfterPairs 4 2 (of_size 5) 3 3 (Some stream) (Some []))
 refuses_second_with_nothing_behind h =
-    elim (one_before h.pairs h.middle h.fewer h.good) [
+    elim (one_before h.pairs h.behind h.fewer h.taken) [
       | inl at ↦ no_size_at_first 5 (verdict_behind 2 (of_size 5) 3 3 _ _ stream h at refl)
       | inr at ↦
           takes_no_byte_behind_size
@@ -239,7 +239,7 @@ refuses_second_with_nothing_behind h =
 -- after a failure nothing that settles was taken, neither of the first nor behind it
 fails_at_second_with_nothing_settled : ¬ (StopsAfterPairs 4 2 (of_io other) 3 4 (Some stream) (Some (9 ∷ [])))
 fails_at_second_with_nothing_settled h =
-    elim (one_before h.pairs h.middle h.fewer h.good) [
+    elim (one_before h.pairs h.behind h.fewer h.taken) [
       | inl at ↦
           let u = unsettled_behind 2 (of_io other) 3 4 _ _ stream h at (omega arith) in
           u.unsettled (0 ∷ 1 ∷ 65 ∷ []) (0 ∷ 5 ∷ [], taken_is (0 ∷ 1 ∷ 65 ∷ 0 ∷ 5 ∷ []) (9 ∷ []) u.taken u.takes) pair_settles

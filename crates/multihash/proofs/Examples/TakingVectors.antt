@@ -213,7 +213,7 @@ ends_inside_digest = record {
   takes = refl;
   insufficient = λ e. absurd cc;
   eof = λ end. digest_cut;
-  fault = λ own. (unexpected_eof, tt, digest_cut);
+  failed = λ own. (unexpected_eof, tt, digest_cut);
 }
 
 -- the digest's bytes may be left
@@ -224,7 +224,7 @@ leaves_a_cut_digest = record {
   takes = refl;
   insufficient = λ e. absurd cc;
   eof = λ end. digest_missing;
-  fault = λ own. (unexpected_eof, tt, digest_missing);
+  failed = λ own. (unexpected_eof, tt, digest_missing);
 }
 
 read_takes_its_own : ¬ (TakesAtRefusal 4 (of_varint insufficient) (Some []) (Some (7 ∷ [])))
@@ -253,13 +253,13 @@ ends_not_inside_varint h =
 -- a reader that fails behind what settles isn't asked
 fails_not_behind_size : ¬ (TakesAtRefusal 4 (of_io other) (Some (0 ∷ 5 ∷ [])) (Some []))
 fails_not_behind_size h =
-    let (v, early, has) = h.fault (other, refl, inl refl) in
+    let (v, early, has) = h.failed (other, refl, inl refl) in
     not_early (0 ∷ 5 ∷ []) h.taken v (invalid_size 5) h.takes size_above_limit (λ e. e) has early
 
 fails_not_behind_pair : ¬
     (TakesAtRefusal 4 (of_io memory) (Some (0 ∷ 4 ∷ 1 ∷ 2 ∷ 3 ∷ 4 ∷ [])) (Some []))
 fails_not_behind_pair h =
-    let (v, early, has) = h.fault (memory, refl, inr refl) in
+    let (v, early, has) = h.failed (memory, refl, inr refl) in
     not_early (0 ∷ 4 ∷ 1 ∷ 2 ∷ 3 ∷ 4 ∷ []) h.taken v (accepted (pair 0 (1 ∷ 2 ∷ 3 ∷ 4 ∷ []))) h.takes digest_full (λ e. e) has early
 
 -- ---- the shortest that settles

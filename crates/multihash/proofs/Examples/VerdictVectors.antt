@@ -6,7 +6,7 @@ use Rattle.std.specs.List.{list_all}
 use Rattle.multihash.specs.Bytes.{place_value}
 use Rattle.multihash.specs.Pair.{Pair}
 use Rattle.multihash.specs.Varint.{insufficient, overflow, not_minimal}
-use Rattle.multihash.specs.Verdict.{Verdict, accepted, invalid_size, invalid_code, faulty, unexpected_eof, BeginsWith, HasSize, HasVerdict, HasLeftOver, HasWholeVerdict, IsEarlyEnd}
+use Rattle.multihash.specs.Verdict.{Verdict, accepted, invalid_size, invalid_code, faulty, unexpected_eof, BeginsWith, BeginsWithSize, HasVerdict, HasLeftOver, HasWholeVerdict, IsEarlyEnd}
 use Rattle.multihash.proofs.Examples.BytesVectors.{all_below}
 use Rattle.multihash.proofs.Examples.VarintVectors.{all_marked, largest, largest_bytes, varint_0, varint_1, varint_4, varint_5, varint_72057594037927936}
 use Rattle.multihash.proofs.Examples.PairVectors.{pair}
@@ -181,7 +181,7 @@ begins_empty rest = record {
 }
 
 -- the code 0, the size 5, and what follows
-abbrev pub size_5 : (more : List ℕ) → HasSize 5 (0x00 ∷ 0x05 ∷ more) more
+abbrev pub size_5 : (more : List ℕ) → BeginsWithSize 5 (0x00 ∷ 0x05 ∷ more) more
 size_5 more = record { code = 0; code_bytes = 0x00 ∷ []; size_bytes = 0x05 ∷ []; is_code = varint_0; is_size = varint_5; cut = refl }
 
 -- ---- what does not hold

@@ -1,6 +1,5 @@
 -- The JSON list of a pair tells the pair.
-use Rattle.std.proofs.Common.{◌≡◌, ℕ, ◌<◌, List, [], ◌∷◌, ◌++◌, map, refl, sym, ap, ◌∙◌, subst, append_assoc, rules}
-use Rattle.std.proofs.lemmas.List.{map-append}
+use Rattle.std.proofs.Common.{◌≡◌, ℕ, ◌<◌, List, [], ◌∷◌, ◌++◌, map, refl, sym, ap, ◌∙◌, subst}
 use Rattle.serde_json.specs.Data.{Data, number, unsigned, Items}
 use Rattle.serde_json.specs.View.{items_of}
 use Rattle.multihash.specs.Bytes.{IsBytes}
@@ -33,11 +32,6 @@ json_same p q d h k =
 pub json_bytes : (p : Pair) (d : Data) (bytes : List ℕ) → IsJsonList p d → IsByteArray d bytes → IsEncoding p bytes
 json_bytes p d bytes h k =
     subst (IsEncoding p) (array_unique h.encoding bytes (sym h.lists ∙ k.array)) h.encodes
-
--- the members of three lists of numbers, each pushed behind those before it
-pub members_of_parts : (a b c : List ℕ) → ((([] ++ map (λ n. number (unsigned n)) a) ++ map (λ n. number (unsigned n)) b) ++ map (λ n. number (unsigned n)) c)
-    ≡ map (λ n. number (unsigned n)) (a ++ (b ++ c))
-members_of_parts a b c = search (rules, map-append, append_assoc)
 
 pub json_is_array : (p : Pair) (d : Data) → IsBytes p.digest → IsJsonList p d → (bytes : List ℕ) × IsByteArray d bytes
 json_is_array p d digest h =

@@ -2,7 +2,7 @@
 use Rattle.std.proofs.Common.{◌≡◌, ◌<◌, ◌≤◌, ◌+◌, ◌-◌, ℕ, List, [], ◌++◌, Some, length, refl, sym, ap, ◌∙◌, subst, inl, inr, arith, take, drop, append-nil}
 use Rattle.std.proofs.lemmas.List.{take-append-drop, take_rest, length-take-le, length-drop, drop-drop}
 use Rattle.multihash.specs.Pair.{digest_limit}
-use Rattle.multihash.specs.Verdict.{Verdict, accepted, invalid_size, invalid_code, faulty, unexpected_eof, HasSize, HasCode, HasVerdict, HasWholeVerdict}
+use Rattle.multihash.specs.Verdict.{Verdict, accepted, invalid_size, invalid_code, faulty, unexpected_eof, BeginsWithSize, BeginsWithCode, HasVerdict, HasWholeVerdict}
 use Rattle.multihash.specs.Head.{HasHead}
 use Rattle.multihash.specs.Refusal.{Refusal}
 use Rattle.multihash.specs.Taking.{IsFrontRefusal, TakesVarint}
@@ -30,7 +30,7 @@ pub no_code : (S : ℕ) (input : List ℕ) (e : Refusal) → IsFrontRefusal inpu
 no_code S input e (fault, named, shows) = (faulty fault, inl shows, named)
 
 module _ (code : ℕ) (input left : List ℕ) (is_code : TakesVarint code (Some input) (Some left)) where
-  pub has_code : HasCode input left
+  pub has_code : BeginsWithCode input left
   has_code = coded code is_code.0 input left is_code.1 (Takes-cut input _ left is_code.2)
 
   -- no varint of a size
@@ -38,7 +38,7 @@ module _ (code : ℕ) (input left : List ℕ) (is_code : TakesVarint code (Some 
   no_size S e (fault, named, shows) = (faulty fault, inr (left, has_code, shows), named)
 
   module _ (size : ℕ) (rest : List ℕ) (is_size : TakesVarint size (Some left) (Some rest)) where
-    abbrev pub has_size : HasSize size input rest
+    abbrev pub has_size : BeginsWithSize size input rest
     has_size =
         sized code size is_code.0 is_size.0 input rest is_code.1 is_size.1
         (Takes-cut input _ left is_code.2 ∙ ap (λ z. is_code.0 ++ z) (Takes-cut left _ rest is_size.2))

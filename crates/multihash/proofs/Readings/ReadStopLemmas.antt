@@ -3,7 +3,7 @@ use Rattle.std.proofs.Common.{◌≡◌, ◌+◌, ◌<◌, ◌≤◌, ◌⊎◌,
 use Rattle.multihash.specs.Bytes.{IsProperBeginning}
 use Rattle.multihash.specs.Pair.{digest_limit}
 use Rattle.multihash.specs.Varint.{VarintFault, insufficient, overflow, not_minimal, IsVarint, HasFaultyFront}
-use Rattle.multihash.specs.Verdict.{invalid_size, faulty, unexpected_eof, HasSize, HasVerdict}
+use Rattle.multihash.specs.Verdict.{invalid_size, faulty, unexpected_eof, BeginsWithSize, HasVerdict}
 use Rattle.multihash.specs.Fault.{Fault, IsUnexpectedEof, IsOwnFault}
 use Rattle.std.specs.Io.KnownBytes.{IsAtEnd, prepend_known}
 use Rattle.multihash.specs.Reading.{Takes, HasFewerThan}
@@ -52,14 +52,14 @@ module _ (S : ℕ) (e : Refusal) (old mid new : Option (List ℕ)) (before after
 -- ---- behind both varints
 
 module _ (S code size : ℕ) (a b : List ℕ) (is_code : IsVarint code a) (is_size : IsVarint size b) (old new : Option (List ℕ)) (before after : ℕ) where
-  has_size : (rest : List ℕ) → HasSize size (a ++ (b ++ rest)) rest
+  has_size : (rest : List ℕ) → BeginsWithSize size (a ++ (b ++ rest)) rest
   has_size rest = sized code size a b _ rest is_code is_size refl
 
   pub stops_at_size : (e : Refusal) → after ≡ before → digest_limit S < size → IsInvalidSize size e → Takes old (a ++ b) new
       → ReadMeets S old new before after (Err e)
   stops_at_size e same over given takes =
       at_settled S (a ++ b) old new before after takes (invalid_size size)
-      ([], subst (λ z. HasSize size (a ++ z) []) (append-nil b) (has_size []), over) same (λ h. h)
+      ([], subst (λ z. BeginsWithSize size (a ++ z) []) (append-nil b) (has_size []), over) same (λ h. h)
       (λ p begins. before_both S code size a b p is_code is_size begins) e given
 
   module _ (within : size ≤ digest_limit S) where

@@ -110,7 +110,7 @@ module _ (S : ℕ) (taken : List ℕ) (old new : Option (List ℕ)) (before afte
         takes = takes;
         insufficient = λ h. absurd (late (rw (refusal_unique e v (faulty insufficient) given h) tt));
         eof = λ h. absurd (late (rw (refusal_unique e v unexpected_eof given h) tt));
-        fault = λ h. absurd (own_no_refusal e v h given);
+        failed = λ h. absurd (own_no_refusal e v h given);
       };
       settled = shortest;
       unsettled = never;
@@ -146,7 +146,7 @@ module _ (S : ℕ) (taken : List ℕ) (old new : Option (List ℕ)) (before afte
         insufficient = λ h.
             let same = refusal_unique e v (faulty insufficient) given h in (subst (HasVerdict S taken) same has, all same);
         eof = λ h. subst (HasVerdict S taken) (refusal_unique e v unexpected_eof given h) has;
-        fault = λ _. (v, soon, has);
+        failed = λ _. (v, soon, has);
       };
       settled = IfSome-taken old new taken _ takes (λ left is _ w holds later.
           absurd (later (subst IsEarlyEnd (verdict_unique S (taken ++ left) v w (whole left is) holds) soon)));
@@ -165,7 +165,7 @@ module _ (S : ℕ) (taken : List ℕ) (old new : Option (List ℕ)) (before afte
         takes = takes;
         insufficient = λ h. absurd (own_no_refusal e (faulty insufficient) own h);
         eof = λ h. absurd (own_not_eof e own h);
-        fault = λ _. (v, soon, has);
+        failed = λ _. (v, soon, has);
       };
       settled = IfSome-taken old new taken _ takes (λ left is unrisen. absurd (omega arith));
       unsettled = none;

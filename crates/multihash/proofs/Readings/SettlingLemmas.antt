@@ -4,7 +4,7 @@ use Rattle.std.proofs.lemmas.List.{length-replicate}
 use Rattle.std.proofs.lemmas.List.Elements.{All-nil, All-cons, All-replicate}
 use Rattle.multihash.specs.Bytes.{IsBytes, IsBeginning}
 use Rattle.multihash.specs.Varint.{IsMarked, VarintFault, insufficient, overflow, not_minimal, IsInsufficient, IsNotMinimal, HasFaultyFront}
-use Rattle.multihash.specs.Verdict.{Verdict, accepted, invalid_size, invalid_code, faulty, unexpected_eof, HasSize, HasCode, HasVerdict, IsEarlyEnd}
+use Rattle.multihash.specs.Verdict.{Verdict, accepted, invalid_size, invalid_code, faulty, unexpected_eof, BeginsWithSize, BeginsWithCode, HasVerdict, IsEarlyEnd}
 use Rattle.multihash.specs.Settling.{Settles}
 use Rattle.multihash.proofs.Readings.VerdictLemmas.{coded, sized, pair_begins, verdict_unique}
 
@@ -13,12 +13,12 @@ use Rattle.multihash.proofs.Readings.VerdictLemmas.{coded, sized, pair_begins, v
 append_more : (x a r more : List ℕ) → x ≡ a ++ r → x ++ more ≡ a ++ (r ++ more)
 append_more x a r more e = ap (λ (z : List ℕ). z ++ more) e ∙ append_assoc a r more
 
-size_kept : (size : ℕ) (x rest more : List ℕ) → HasSize size x rest → HasSize size (x ++ more) (rest ++ more)
+size_kept : (size : ℕ) (x rest more : List ℕ) → BeginsWithSize size x rest → BeginsWithSize size (x ++ more) (rest ++ more)
 size_kept size x rest more h =
     sized h.code size h.code_bytes h.size_bytes (x ++ more) (rest ++ more) h.is_code h.is_size
     (append_more x h.code_bytes (h.size_bytes ++ rest) more h.cut ∙ ap (λ (z : List ℕ). h.code_bytes ++ z) (append_assoc h.size_bytes rest more))
 
-code_kept : (x rest more : List ℕ) → HasCode x rest → HasCode (x ++ more) (rest ++ more)
+code_kept : (x rest more : List ℕ) → BeginsWithCode x rest → BeginsWithCode (x ++ more) (rest ++ more)
 code_kept x rest more c = coded c.code c.code_bytes (x ++ more) (rest ++ more) c.is_code (append_more x c.code_bytes rest more c.cut)
 
 fault_kept : (f : VarintFault) (x more : List ℕ) → ¬ (IsEarlyEnd (faulty f)) → HasFaultyFront f x → HasFaultyFront f (x ++ more)

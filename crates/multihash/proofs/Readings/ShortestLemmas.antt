@@ -6,7 +6,7 @@ use Rattle.multihash.specs.Bytes.{IsProperBeginning, ExactlyOne}
 use Rattle.multihash.specs.Pair.{Pair, FitsBuffer, digest_limit}
 use Rattle.multihash.specs.Varint.{max_marked, IsMarked, marked, IsVarint, VarintFault, insufficient, overflow, not_minimal, IsInsufficient, HasFaultyFront}
 use Rattle.multihash.specs.Encoding.{IsEncoding}
-use Rattle.multihash.specs.Verdict.{Verdict, accepted, invalid_size, invalid_code, faulty, unexpected_eof, BeginsWith, HasSize, HasCode, HasVerdict, IsEarlyEnd}
+use Rattle.multihash.specs.Verdict.{Verdict, accepted, invalid_size, invalid_code, faulty, unexpected_eof, BeginsWith, BeginsWithSize, BeginsWithCode, HasVerdict, IsEarlyEnd}
 use Rattle.multihash.specs.Settling.{IsShortestSettling}
 use Rattle.multihash.proofs.Readings.BeginningLemmas.{split_beginning, compare_beginnings}
 use Rattle.multihash.proofs.Varints.MarkedLemmas.{All-marked}
@@ -118,7 +118,7 @@ shortest_pair S p x rest b fits =
     (λ y before. before_digest S p b.encoding y b.encodes fits before)
 
 -- that of a size that is too large is both varints
-pub shortest_size : (S size : ℕ) (x rest : List ℕ) (h : HasSize size x rest) → digest_limit S < size
+pub shortest_size : (S size : ℕ) (x rest : List ℕ) (h : BeginsWithSize size x rest) → digest_limit S < size
     → IsShortestSettling S x (h.code_bytes ++ h.size_bytes)
 shortest_size S size x rest h over =
     let cut = ap (λ (z : List ℕ). h.code_bytes ++ z) (sym (append-nil h.size_bytes)) in
@@ -134,7 +134,7 @@ shortest_code_fault S f x late s =
     (λ y before. (faulty insufficient, inl (before_step s.shown y s.step before), tt))
 
 -- that of a fault in the size is the code and what shows it
-pub shortest_size_fault : (S : ℕ) (f : VarintFault) (x rest : List ℕ) → ¬ (IsEarlyEnd (faulty f)) → (c : HasCode x rest) (s : ShowsFault f rest)
+pub shortest_size_fault : (S : ℕ) (f : VarintFault) (x rest : List ℕ) → ¬ (IsEarlyEnd (faulty f)) → (c : BeginsWithCode x rest) (s : ShowsFault f rest)
     → IsShortestSettling S x (c.code_bytes ++ s.shown)
 shortest_size_fault S f x rest late c s =
     shortest_from S x (c.code_bytes ++ s.shown) s.rest (faulty f)

@@ -7,17 +7,17 @@ use Rattle.multihash.specs.Bytes.{IsBytes}
 use Rattle.multihash.specs.Pair.{Pair, FitsBuffer, digest_limit}
 use Rattle.multihash.specs.Varint.{IsVarint}
 use Rattle.multihash.specs.Encoding.{IsEncoding}
-use Rattle.multihash.specs.Verdict.{Verdict, accepted, invalid_size, invalid_code, faulty, unexpected_eof, BeginsWith, HasSize, HasCode, HasVerdict, HasWholeVerdict}
+use Rattle.multihash.specs.Verdict.{Verdict, accepted, invalid_size, invalid_code, faulty, unexpected_eof, BeginsWith, BeginsWithSize, BeginsWithCode, HasVerdict, HasWholeVerdict}
 use Rattle.multihash.proofs.Varints.MarkedLemmas.{All-append_right}
 use Rattle.multihash.proofs.Varints.VarintLemmas.{Front, number, fault, HasFront, front_is, front_of, front_of_has}
 use Rattle.multihash.proofs.Writings.EncodingLemmas.{encoding_cut}
 
 -- ---- two varints, one after the other
 
-abbrev pub coded : (code : ℕ) (a x rest : List ℕ) → IsVarint code a → x ≡ a ++ rest → HasCode x rest
+abbrev pub coded : (code : ℕ) (a x rest : List ℕ) → IsVarint code a → x ≡ a ++ rest → BeginsWithCode x rest
 coded code a x rest is_code cut = record { code = code; code_bytes = a; is_code = is_code; cut = cut }
 
-abbrev pub sized : (code size : ℕ) (a b x rest : List ℕ) → IsVarint code a → IsVarint size b → x ≡ a ++ (b ++ rest) → HasSize size x rest
+abbrev pub sized : (code size : ℕ) (a b x rest : List ℕ) → IsVarint code a → IsVarint size b → x ≡ a ++ (b ++ rest) → BeginsWithSize size x rest
 sized code size a b x rest is_code is_size cut =
     record { code = code; code_bytes = a; size_bytes = b; is_code = is_code; is_size = is_size; cut = cut }
 
@@ -45,11 +45,11 @@ abbrev pub found : ℕ → List ℕ → Verdict
 found S x = found_by pair_alone S x
 
 module _ (ends : Pair → List ℕ → Verdict) (S : ℕ) (x : List ℕ) where
-  pub judged_at : (rest : List ℕ) (c : HasCode x rest) (g : Front) → HasFront rest g → judged ends S c.code g ≡ found_by ends S x
+  pub judged_at : (rest : List ℕ) (c : BeginsWithCode x rest) (g : Front) → HasFront rest g → judged ends S c.code g ≡ found_by ends S x
   judged_at rest c g has =
       ap (judged ends S c.code) (front_is rest g has) ∙ ap (follows ends S) (front_is x (number c.code rest) (c.code_bytes, c.is_code, c.cut))
 
-  pub judged_size : (size : ℕ) (rest : List ℕ) (h : HasSize size x rest) → judged ends S h.code (number size rest) ≡ found_by ends S x
+  pub judged_size : (size : ℕ) (rest : List ℕ) (h : BeginsWithSize size x rest) → judged ends S h.code (number size rest) ≡ found_by ends S x
   judged_size size rest h =
       judged_at (h.size_bytes ++ rest) (coded h.code h.code_bytes x _ h.is_code h.cut) (number size rest) (h.size_bytes, h.is_size, refl)
 
@@ -80,7 +80,7 @@ verdict_unique S x v w h k = verdict_is S x v h ∙ sym (verdict_is S x w k)
 -- ---- some verdict
 
 -- a digest of the size behind both varints ends an encoding
-pub pair_begins : (size : ℕ) (x rest : List ℕ) (h : HasSize size x rest) (digest after : List ℕ) → length digest ≡ size
+pub pair_begins : (size : ℕ) (x rest : List ℕ) (h : BeginsWithSize size x rest) (digest after : List ℕ) → length digest ≡ size
     → rest ≡ digest ++ after → BeginsWith (record { code = h.code; digest = digest }) x after
 pair_begins size x rest h digest after long split =
     let p : Pair = record { code = h.code; digest = digest } in
@@ -92,7 +92,7 @@ pair_begins size x rest h digest after long split =
       cut = h.cut ∙ (ap (λ (z : List ℕ). h.code_bytes ++ (h.size_bytes ++ z)) split ∙ sym (encoding_cut p _ after encodes));
     }
 
-has_judged : (S size : ℕ) (x rest : List ℕ) → HasSize size x rest → (v : Verdict) × HasVerdict S x v
+has_judged : (S size : ℕ) (x rest : List ℕ) → BeginsWithSize size x rest → (v : Verdict) × HasVerdict S x v
 has_judged S size x rest h =
     elim (cases_lt (digest_limit S) size) [
       | inl over ↦ (invalid_size size, (rest, h, over))
@@ -104,7 +104,7 @@ has_judged S size x rest h =
       ]
     ]
 
-behind_code : (S : ℕ) (x r : List ℕ) → HasCode x r → (g : Front) → HasFront r g → (v : Verdict) × HasVerdict S x v
+behind_code : (S : ℕ) (x r : List ℕ) → BeginsWithCode x r → (g : Front) → HasFront r g → (v : Verdict) × HasVerdict S x v
 behind_code S x r c (number size rest) (b, is_size, e) =
     has_judged S size x rest (sized c.code size c.code_bytes b x rest c.is_code is_size (c.cut ∙ ap (λ (z : List ℕ). c.code_bytes ++ z) e))
 behind_code S x r c (fault f) h = (faulty f, inr (r, c, h))

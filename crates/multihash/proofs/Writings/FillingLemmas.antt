@@ -1,8 +1,7 @@
 -- A writer that keeps its slice, and stopped early, had too few places: so one with enough takes all.
 use Rattle.std.proofs.Common.{◌≡◌, ◌+◌, ◌<◌, ◌≤◌, ℕ, List, ◌++◌, length, take, drop, false, ap, refl, arith, length-append, length-drop, Result, Ok, Err, OnErr, IsOk}
 use Rattle.std.proofs.lemmas.List.{length-take-le}
-use Rattle.multihash.specs.Places.{FillsPlaces}
-use Rattle.multihash.specs.Filling.{Fills, IsFilled}
+use Rattle.multihash.specs.Filling.{FillsPlaces, Fills, IsFilled}
 use Rattle.multihash.specs.Writing.{AppendsPart, CountsWriter}
 use Rattle.multihash.specs.Refusal.{Refusal, IsIo}
 use Rattle.multihash.specs.declared.no_std_io.slice_writer.SliceWriter.{SliceWriter}

@@ -13,10 +13,10 @@ enum Kind {
     Other,
 }
 
-/// Why a reader or a writer refused: one of four kinds, and the text that it prints.
+/// The error of readers and writers: one of four kinds, and the text that it prints.
 ///
-/// Exactly one of `is_unexpected_eof`, `is_write_zero`, `is_out_of_memory` and `is_other` is true of
-/// an error.
+/// Exactly one of `is_unexpected_eof`, `is_write_zero`, `is_out_of_memory` and `is_other` is true of an
+/// error.
 #[derive(Debug, Drop)]
 pub struct Error {
     kind: Kind,
@@ -44,7 +44,7 @@ impl Error {
         }
     }
 
-    // A writer had no place left.
+    // A writer is full.
     pub(crate) fn write_zero() -> Self
         ensures { IsWriteZero result }
     {
@@ -54,7 +54,7 @@ impl Error {
         }
     }
 
-    /// An error that says that memory was refused. It prints `out of memory`.
+    /// Returns the error for a failed allocation. It prints `out of memory`.
     pub fn out_of_memory() -> Self
         ensures { IsOutOfMemory result }
     {
@@ -64,7 +64,7 @@ impl Error {
         }
     }
 
-    /// A fault of a reader's or a writer's own, which prints `text`.
+    /// Returns an error of the reader or the writer itself, which prints `text`.
     pub fn other(text: &'static str) -> Self
         ensures kind { IsOther result }
         ensures text { result.text ≡ text.now }
@@ -75,7 +75,7 @@ impl Error {
         }
     }
 
-    /// The text that `Display` prints.
+    /// Returns the text that `Display` prints.
     pub fn text(&self) -> &'static str
         ensures text { result.now ≡ self.now.text }
         ensures standard { HasStandardText self.now }
@@ -83,28 +83,28 @@ impl Error {
         self.text
     }
 
-    /// Whether the input ended before a buffer was full.
+    /// Returns whether the input ended before a buffer was full.
     pub fn is_unexpected_eof(&self) -> bool
         ensures { IsTrue result ↔ IsUnexpectedEof self.now }
     {
         matches!(self.kind, Kind::UnexpectedEof)
     }
 
-    /// Whether a writer had no place left.
+    /// Returns whether a writer was full.
     pub fn is_write_zero(&self) -> bool
         ensures { IsTrue result ↔ IsWriteZero self.now }
     {
         matches!(self.kind, Kind::WriteZero)
     }
 
-    /// Whether memory was refused.
+    /// Returns whether an allocation failed.
     pub fn is_out_of_memory(&self) -> bool
         ensures { IsTrue result ↔ IsOutOfMemory self.now }
     {
         matches!(self.kind, Kind::OutOfMemory)
     }
 
-    /// Whether it is a fault of the reader's or the writer's own, made by [`Error::other`].
+    /// Returns whether it is an error of the reader or the writer itself, made by [`Error::other`].
     pub fn is_other(&self) -> bool
         ensures { IsTrue result ↔ IsOther self.now }
     {
@@ -112,7 +112,7 @@ impl Error {
     }
 }
 
-/// Prints the text alone, whatever width or precision is asked.
+/// Prints the text alone, whatever width or precision is given.
 impl fmt::Display for Error {
     ghost output = { λ e. Some (printed e) };
 

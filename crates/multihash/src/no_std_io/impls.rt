@@ -3,17 +3,17 @@ ghost use Rattle.std.specs.Prelude.{◌≡◌, ◌<◌, ◌≤◌, ◌+◌, vec_
 ghost use Rattle.multihash.specs.Fault.{IsOutOfMemory};
 ghost use Rattle.multihash.specs.Reading.{ReadLaws, ReadExactLaws};
 ghost use Rattle.multihash.specs.Writing.{WriteLaws, WriteAllLaws};
-ghost use Rattle.multihash.specs.Places.{GivesUpFor, GivesUpPlaces-none, GivesUpPlaces-joined, AppendsAtEnd, AppendsAtEnd-none, AppendsAtEnd-joined};
+ghost use Rattle.multihash.specs.Places.{GivesUpFor, GivesUpFor-none, GivesUpFor-joined, AppendsAtEnd, AppendsAtEnd-none, AppendsAtEnd-joined};
 
 use super::{Error, Read, Write};
 
-// Copies as many bytes as both have, and returns how many.
+// Copies as many bytes as both slices have, and returns their number.
 #[inline(always)]
 pub(super) fn copy_front(from: &[u8], to: &mut [u8]) -> usize
     ensures count { result ≡ min (length from.now) (length to.old) }
     ensures copied { to.new ≡ take result from.now ++ drop result to.old }
 {
-    // A copy whose length the compiler knows is no call: here it may know either.
+    // A copy whose length is known at compile time is no call: here the compiler may know either.
     if from.len() < to.len() {
         if from.len() == 1 {
             to[0] = from[0];
@@ -27,8 +27,8 @@ pub(super) fn copy_front(from: &[u8], to: &mut [u8]) -> usize
     }
 }
 
-/// The rest is the slice, and it never fails. Where fewer bytes are left than `read_exact` wants, the
-/// slice and the buffer stay as they are.
+/// Its remaining bytes are the slice, and it never fails. If `read_exact` wants more bytes than there
+/// are, slice and buffer are unchanged.
 impl Read for &[u8] {
     ghost rest = { λ s. Some s.now };
 
@@ -64,7 +64,7 @@ impl Read for &[u8] {
     }
 }
 
-/// A lent reader reads as the reader does.
+/// A borrowed reader reads as the reader does.
 impl<R: Read> Read for &mut R {
     ghost rest = { λ r. R.rest r.now };
 
@@ -79,8 +79,8 @@ impl<R: Read> Read for &mut R {
     }
 }
 
-/// The bytes go to the front of the slice, which then begins after them. Where not all fit, `write_all`
-/// fills what is left, and answers that no place is left.
+/// Writes to the front of the slice and advances past what was written. If not all bytes fit,
+/// `write_all` fills the slice and returns that it is full.
 impl Write for &mut [u8] {
     const ALLOCATES: bool = false;
 
@@ -92,10 +92,10 @@ impl Write for &mut [u8] {
 
     ghost failures = { λ _. 0 };
 
-    ghost appends_nothing = { λ w. GivesUpPlaces-none w.now };
+    ghost appends_nothing = { λ w. GivesUpFor-none w.now };
 
     ghost appends_joined = { λ a b c x y first second.
-        GivesUpPlaces-joined a.now b.now c.now x y first second };
+        GivesUpFor-joined a.now b.now c.now x y first second };
 
     fn write(&mut self, buf: &[u8]) -> Result<usize, Error>
         ensures laws { WriteLaws (λ old bytes new. GivesUpFor old.now bytes new.now)
@@ -124,7 +124,7 @@ impl Write for &mut [u8] {
     }
 }
 
-/// The bytes go to the vector's end. Where memory is refused, it is unchanged.
+/// Appends to the vector. If out of memory, the vector is unchanged.
 impl Write for Vec<u8> {
     const ALLOCATES: bool = true;
 
@@ -176,7 +176,7 @@ impl Write for Vec<u8> {
     }
 }
 
-/// A lent writer writes as the writer does.
+/// A borrowed writer writes as the writer does.
 impl<W: Write> Write for &mut W {
     const ALLOCATES: bool = W::ALLOCATES;
 

@@ -1,5 +1,5 @@
-//! Fixes what each implementation says to contracts. These functions do nothing: their clauses pin the
-//! ghost members, which no law ties to anything but the implementation itself.
+//! Fixes what each implementation exposes to contracts. These functions do nothing: their clauses pin
+//! the ghost members, which no law ties to anything but the implementation itself.
 ghost use Rattle.std.specs.Prelude.{◌≡◌, ◌↔◌, ℕ, List, [], Some, true, false};
 ghost use Rattle.multihash.specs.Places.{GivesUpFor, AppendsAtEnd};
 ghost use Rattle.multihash.specs.Filling.{Fills, IsFilled};
@@ -50,7 +50,7 @@ fn lent_writer<W: Write>(v: &mut W, w: &mut W)
     ensures failures { ⟦<&'static mut W as Write>⟧.failures v.entry ≡ W.failures v.old }
 {}
 
-// What `ALLOCATES` says where the program runs is what contracts are told.
+// The value of `ALLOCATES` at run time is the one that contracts see.
 fn vector_allocates() -> bool
     ensures { result ≡ ⟦<Vec<u8> as Write>⟧.allocates }
 {

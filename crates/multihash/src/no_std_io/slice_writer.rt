@@ -4,20 +4,20 @@ ghost use Rattle.std.specs.Prelude.{◌≡◌, ◌+◌, ◌-◌, ◌≤◌, ◌�
 use super::impls::copy_front;
 use super::{Error, Write};
 
-/// A writer that fills the places of a slice from the front on, and keeps them. So contracts tell which
-/// bytes stand in them: `&mut [u8]` as a writer gives up the places that it fills, and no contract can speak
-/// of those.
+/// A writer that fills a slice from the front and keeps it, so that contracts state which bytes it
+/// holds. A plain `&mut [u8]` as a writer advances past the bytes that it has filled, and no contract
+/// can speak of those.
 #[derive(Drop)]
 pub struct SliceWriter<'a> {
-    /// The bytes that were written, and behind them the places as they were.
+    /// The slice: the bytes written so far, then its unchanged remainder.
     pub places: &'a mut [u8],
-    /// How many bytes were written.
+    /// The number of bytes written.
     pub filled: usize,
     pub ghost inside: { filled ≤ length places.now },
 }
 
 impl<'a> SliceWriter<'a> {
-    /// A writer that has written nothing, and has room for as many bytes as there are places.
+    /// Returns a writer that has written nothing, with the slice's length as its capacity.
     pub fn new(places: &'a mut [u8]) -> Self
         ensures same_reference { result.places.ghost_name ≡ places.entry.ghost_name }
         ensures kept { result.places.now ≡ places.old }
@@ -27,8 +27,8 @@ impl<'a> SliceWriter<'a> {
     }
 }
 
-/// The bytes go behind those that were written. Where not all fit, `write_all` fills what is left, and
-/// answers that no place is left.
+/// Writes after the bytes written so far. If not all bytes fit, `write_all` fills the slice and returns
+/// that it is full.
 impl Write for SliceWriter<'_> {
     ghost use Rattle.multihash.specs.Writing.{WriteLaws, WriteAllLaws};
     ghost use Rattle.multihash.specs.Filling.{Fills, IsFilled, Fills-none, Fills-joined};

@@ -1,4 +1,4 @@
-//! What can be read from and written to, and the laws that every implementation keeps.
+//! Traits of readers and writers, and the laws that every implementation keeps.
 ghost use Rattle.std.specs.Prelude.{ℕ, Bool, List, Option, ◌++◌, []};
 ghost use Rattle.multihash.specs.Reading.{ReadLaws, ReadExactLaws};
 ghost use Rattle.multihash.specs.Writing.{WriteLaws, WriteAllLaws};
@@ -7,38 +7,36 @@ use super::Error;
 
 /// A source of bytes.
 ///
-/// An implementation says two things to contracts: its `rest`, which is the list of bytes still to
-/// come or `None` where it does not tell them, and its `failures`, a count of the times that it
-/// failed. Its methods are proved to keep the laws that stand as their clauses. Whether the rest is
-/// told never changes. A call that fails by a fault of the reader's own raises the count by exactly one,
-/// and no other call changes it; so a reader that asks another one again has a count of its own.
+/// An implementation exposes two ghost members to contracts: `rest`, the list of bytes still to come,
+/// or `None` for a reader whose input is not known, and `failures`, the number of times that it has
+/// failed. Its methods are proved to keep the laws in their clauses. Whether the input is known never
+/// changes. A call that fails with an error of the reader itself raises the count by exactly one, and
+/// no other call changes it; so a reader that retries another one has a count of its own.
 pub trait Read {
-    // The bytes still to come, where the reader tells them.
+    // The bytes still to come, if the input is known.
     ghost rest: { Self → Option (List ℕ) };
 
-    // How many times the reader has failed.
+    // The number of times that the reader has failed.
     ghost failures: { Self → ℕ };
 
-    /// Takes some of the next bytes, puts them into the front of `buf`, and answers how many they are.
-    /// The places of `buf` behind them are unchanged. It answers 0 for a buffer that has places only
-    /// where the input has ended.
+    /// Reads some of the next bytes into the front of `buf`, and returns their number. The rest of
+    /// `buf` is unchanged. It returns 0 for a non-empty buffer only at the end of the input.
     ///
     /// # Errors
     ///
-    /// A fault of the reader's own, of the kind [`Error::is_other`] or [`Error::is_out_of_memory`],
-    /// exactly where the reader's count of failures rises, and by one. Nothing was taken then, and what
-    /// the places of `buf` hold is not said.
+    /// An error of the reader itself, of the kind [`Error::is_other`] or [`Error::is_out_of_memory`],
+    /// exactly if the reader's count of failures rises, by one. Nothing was consumed then, and the
+    /// contents of `buf` are unspecified.
     fn read(&mut self, buf: &mut [u8]) -> Result<usize, Error>
         ensures laws { ReadLaws rest failures self.old self.new buf.old buf.new result };
 
-    /// Takes as many of the next bytes as `buf` has places, and fills it with them. An empty buffer is
-    /// always filled.
+    /// Reads as many of the next bytes as `buf` holds. It always succeeds for an empty buffer.
     ///
     /// # Errors
     ///
-    /// [`Error::is_unexpected_eof`] where fewer bytes are left, or a fault of the reader's own,
-    /// exactly where the reader's count of failures rises, and by one. Fewer bytes than `buf` has places
-    /// were taken then, and what the places of `buf` hold is not said.
+    /// [`Error::is_unexpected_eof`] if fewer bytes remain, or an error of the reader itself, exactly if
+    /// the reader's count of failures rises, by one. Fewer bytes than `buf` holds were consumed then,
+    /// and the contents of `buf` are unspecified.
     fn read_exact(&mut self, buf: &mut [u8]) -> Result<(), Error>
         ensures laws { ReadExactLaws rest failures self.old self.new buf.old buf.new result }
     {
@@ -56,45 +54,45 @@ pub trait Read {
 
 /// A sink of bytes.
 ///
-/// An implementation says three things to contracts: which list of bytes stands `appended` between
-/// two of its states, whether it is `full`, and its `failures`, a count of the times that it failed.
-/// Its methods are proved to keep the laws that stand as their clauses. A call that fails by a fault of
-/// the writer's own raises the count by exactly one, and no other call changes it; so a writer that asks
-/// another one again has a count of its own.
+/// An implementation exposes three ghost members to contracts: `appended`, the relation of two states
+/// and the list of bytes appended between them, whether it is `full`, and `failures`, the number of
+/// times that it has failed. Its methods are proved to keep the laws in their clauses. A call that
+/// fails with an error of the writer itself raises the count by exactly one, and no other call changes
+/// it; so a writer that retries another one has a count of its own.
 pub trait Write {
-    /// Whether a call may ask for memory, and so answer [`Error::out_of_memory`] without a failure.
+    /// Whether a call may allocate, and so return [`Error::out_of_memory`] without a failure.
     const ALLOCATES: bool;
 
-    // What `ALLOCATES` says, to contracts.
+    // The value of `ALLOCATES`, for contracts.
     ghost allocates: { Bool };
 
-    // These bytes stand appended between the first state and the second.
+    // These bytes have been appended between the first state and the second.
     ghost appended: { Self → List ℕ → Self → Type 0 };
 
-    // No place is left.
+    // It takes no more bytes.
     ghost full: { Self → Type 0 };
 
-    // How many times the writer has failed.
+    // The number of times that the writer has failed.
     ghost failures: { Self → ℕ };
 
-    /// Appends some of the first bytes of `buf`, and answers how many they are. It answers 0 for some
-    /// bytes only where it has no place left.
+    /// Appends some of the first bytes of `buf`, and returns their number. It returns 0 for a non-empty
+    /// buffer only if it is full.
     ///
     /// # Errors
     ///
-    /// A fault of the writer's own, of the kind [`Error::is_other`] or [`Error::is_out_of_memory`],
-    /// where the writer's count of failures rises by one; or want of memory, where it allocates. Nothing
-    /// was appended then.
+    /// An error of the writer itself, of the kind [`Error::is_other`] or [`Error::is_out_of_memory`],
+    /// if the writer's count of failures rises, by one; or out of memory, if it allocates. Nothing was
+    /// appended then.
     fn write(&mut self, buf: &[u8]) -> Result<usize, Error>
         ensures laws { WriteLaws appended full failures allocates
             self.old buf.now self.new result };
 
-    /// Appends the whole of `buf`. No bytes are always appended.
+    /// Appends the whole of `buf`. It always succeeds for an empty buffer.
     ///
     /// # Errors
     ///
-    /// [`Error::is_write_zero`] where no place is left, or what [`Write::write`] answers. A proper
-    /// beginning of `buf` was appended then.
+    /// [`Error::is_write_zero`] if the writer is full, or the errors of [`Write::write`]. A strict
+    /// prefix of `buf` has been appended then.
     fn write_all(&mut self, buf: &[u8]) -> Result<(), Error>
         ensures laws { WriteAllLaws appended full failures allocates
             self.old buf.now self.new result }

@@ -1,4 +1,4 @@
-//! The varint that begins a slice, from one word of its first bytes.
+//! The varint at the front of a slice, from one word of its first bytes.
 ghost use Rattle.std.specs.Prelude.{◌≡◌, ◌<◌, ◌≤◌, ◌+◌, ℕ, List, length, take, drop, Some, IfSome, IfNone, IfOk, IfErr};
 ghost use Rattle.multihash.specs.Bytes.{IsBytes, place_value};
 ghost use Rattle.multihash.specs.Varint.{IsVarint};
@@ -20,11 +20,11 @@ const HIGH_BITS: u64 = 0x8080_8080_8080_8080;
 // The most bytes of a varint in the high half.
 const HIGH_LEN: usize = MAX_LEN - HALF_LEN;
 
-// A high half in which a varint has a byte that is too large is no less.
+// A high half of this value or more has a byte that makes the varint overflow.
 const TOO_LARGE: u64 = (LAST_BYTE_LIMIT as u64) << (8 * (MAX_MARKED - HALF_LEN));
 
-/// Reads the varint that begins the bytes, from one word: its number and how many bytes it has. It
-/// answers none where no varint begins them, and `front_fault` says why.
+/// Reads the varint at the front of the bytes from one word: its number and its length. Returns none if
+/// it is malformed; `front_fault` then says why.
 #[inline(always)]
 pub(crate) fn read_front(bytes: &[u8]) -> Option<(u64, usize)>
     ensures some { IfSome result (λ found.
@@ -32,11 +32,11 @@ pub(crate) fn read_front(bytes: &[u8]) -> Option<(u64, usize)>
     ensures within { IfSome result (λ found. found.1 ≤ length bytes.now) }
     ensures none { IfNone result (BeginsNoVarint bytes.now) }
 {
-    let (number, len) = find_front(bytes);
+    let (number, len) = front_by_byte(bytes);
     if len == 0 { None } else { Some((number, len)) }
 }
 
-/// Why no varint begins the bytes.
+/// Returns why the varint at the front of the bytes is malformed.
 #[cold]
 #[inline(never)]
 pub(crate) fn front_fault(bytes: &[u8]) -> Error
@@ -50,40 +50,40 @@ pub(crate) fn front_fault(bytes: &[u8]) -> Error
     }
 }
 
-// The number and the length of the varint that begins the bytes, and no length where none begins them:
+// The number and the length of the varint at the front of the bytes, and no length if it is malformed:
 // plain numbers, which stay in registers.
 #[inline(always)]
-fn find_front(bytes: &[u8]) -> (u64, usize)
+fn front_by_byte(bytes: &[u8]) -> (u64, usize)
     ensures { IsFoundFront bytes.now result.0 result.1 }
 {
     // Most varints have one byte, which needs no word.
     if bytes.len() >= 1 && bytes[0] < 128 {
         (u64::from(bytes[0]), 1)
     } else {
-        find_long(bytes)
+        front_by_word(bytes)
     }
 }
 
 #[inline(never)]
-fn find_long(bytes: &[u8]) -> (u64, usize)
+fn front_by_word(bytes: &[u8]) -> (u64, usize)
     ensures { IsFoundFront bytes.now result.0 result.1 }
 {
     match bytes.first_chunk::<WORD_LEN>() {
-        Some(front) => find_in(u128::from_le_bytes(*front), WORD_LEN),
-        None => find_short(bytes),
+        Some(front) => front_in_word(u128::from_le_bytes(*front), WORD_LEN),
+        None => front_by_short_word(bytes),
     }
 }
 
-// As `find_front`, where fewer bytes are left than a word has.
+// As `front_by_byte`, if fewer bytes remain than a word has.
 #[inline(never)]
-fn find_short(bytes: &[u8]) -> (u64, usize)
+fn front_by_short_word(bytes: &[u8]) -> (u64, usize)
     requires { length bytes.now < 16 }
     ensures { IsFoundFront bytes.now result.0 result.1 }
 {
-    find_in(padded_word(bytes), bytes.len())
+    front_in_word(padded_word(bytes), bytes.len())
 }
 
-// The word of at most sixteen bytes, the lowest first, with zeros for those that are missing.
+// The word of at most sixteen bytes, lowest first, with zeros for those that are missing.
 #[inline(always)]
 fn padded_word(bytes: &[u8]) -> u128
     requires { length bytes.now ≤ 16 }
@@ -94,9 +94,9 @@ fn padded_word(bytes: &[u8]) -> u128
     u128::from_le_bytes(front)
 }
 
-// As `find_front` of the bytes that the word holds the first of.
+// As `front_by_byte`, of bytes whose first are in the word.
 #[inline(always)]
-fn find_in(word: u128, present: usize) -> (u64, usize)
+fn front_in_word(word: u128, present: usize) -> (u64, usize)
     ensures { (bytes : List ℕ) → IsBytes bytes → IsFrontWord bytes word present →
         IsFoundFront bytes result.0 result.1 }
 {
@@ -106,7 +106,7 @@ fn find_in(word: u128, present: usize) -> (u64, usize)
     }
 }
 
-// The number whose varint begins the bytes that the word holds the first of, and the varint's length.
+// The number of the varint at the front of bytes whose first are in the word, and its length.
 #[inline(always)]
 fn read_word(word: u128, present: usize) -> Result<(u64, usize), Error>
     ensures ok { IfOk result (λ found. (bytes : List ℕ) → IsBytes bytes →
@@ -118,12 +118,12 @@ fn read_word(word: u128, present: usize) -> Result<(u64, usize), Error>
         IsFrontRefusal bytes e) }
 {
     let low = (word & 0xffff_ffff_ffff_ffff) as u64;
-    // Set where a byte is unmarked: its highest bit.
+    // Set where a byte is not a continuation byte: its highest bit.
     let stops = !low & HIGH_BITS;
     if stops == 0 {
         return read_high(word, present);
     }
-    // Nothing behind the first of them is set in both.
+    // No bit after the first of them is set in both.
     let varint = low & stops.wrapping_sub(1);
     let marked = (stops.trailing_zeros() / 8) as usize;
     if marked >= present {
@@ -135,7 +135,7 @@ fn read_word(word: u128, present: usize) -> Result<(u64, usize), Error>
     Ok((join_low(varint), marked + 1))
 }
 
-// As `read_word`, where the bytes of the low half are marked.
+// As `read_word`, if all bytes of the low half are continuation bytes.
 #[inline(always)]
 fn read_high(word: u128, present: usize) -> Result<(u64, usize), Error>
     ensures ok { IfOk result (λ found. (bytes : List ℕ) → IsBytes bytes →
@@ -184,7 +184,7 @@ fn join_digits<const N: usize>(half: u64) -> u64
 {
     let mut number = 0;
     for i in 0..N {
-        number |= half >> i & 0x7f << (7 * i);
+        number |= (half >> i) & (0x7f << (7 * i));
     }
     number
 }

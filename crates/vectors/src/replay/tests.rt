@@ -117,6 +117,9 @@ fn refuses_malformed_lines(rt: HostRuntime) {
         "4\t390286c\tpair 57 86ce\t4\tpair 57 86ce\tunexpected_eof\t-",
         "4\t\tinsufficient\t-\tinsufficient\tunexpected_eof\t-",
         "4\t390286ce\tpair 57\t4\tpair 57 86ce\tunexpected_eof\t-",
+        "4\t390286ce\tpair 57 \t4\tpair 57 86ce\tunexpected_eof\t-",
+        "4\t390286ce\tpair 57 86ce\t\tpair 57 86ce\tunexpected_eof\t-",
+        "4\t390286ce\tpair 57 86ce\t4\tpair 57 86ce\tunexpected_eof\t",
         "4\t390286ce\tpair 57 86ce\tfour\tpair 57 86ce\tunexpected_eof\t-",
         "4\t390286ce\tpair 57 86ce\t4\tpairs 57 86ce\tunexpected_eof\t-",
         "1\t390286ce\tinvalid_size two\t2\tinvalid_size 2\tunexpected_eof\t-",
@@ -213,7 +216,7 @@ fn expect_third(rt: &impl Abort, alloc: Global, line: &str) {
     expect_begin(rt, refusal.as_str(), "line 3, ", line);
 }
 
-// A blank behind a word of the verdict, of a number and of the bytes, and a line that is empty.
+// A blank after a word of the verdict, a number and the bytes, a line that is empty, and one that looks like a comment.
 #[test]
 fn tells_the_number_of_a_line_with_a_blank(rt: HostRuntime) {
     let alloc = rt.alloc();
@@ -226,6 +229,7 @@ fn tells_the_number_of_a_line_with_a_blank(rt: HostRuntime) {
         "4 \t390286ce\tpair 57 86ce\t4\tpair 57 86ce\tunexpected_eof\t-",
         "4\t390286ce\tpair 57 86ce\t4\tpair 57 86ce\tunexpected_eof\t- ",
         "",
+        "# 4\t390286ce\tpair 57 86ce\t4\tpair 57 86ce\tunexpected_eof\t-",
     ] {
         expect_third(rt, alloc, line);
     }

@@ -1,14 +1,11 @@
-use Rattle.std.proofs.Common.{ap, sym, ◌∙◌}
-use Rattle.multihash.specs.Pair.{Pair}
+use Rattle.std.proofs.Common.{sym, ◌∙◌}
 use Rattle.multihash.specs.Verdict.{accepted}
 use Rattle.multihash.proofs.Readings.VerdictLemmas.{whole_verdict_unique}
 use Rattle.multihash.proofs.Forms.JsonLemmas.{array_unique, json_same, json_bytes, json_is_array}
 use Rattle.multihash.proofs.laws.json_unique.Goals as goal
 
 pub returns-clause-same : goal.returns-clause-same
-returns-clause-same c p q value h k =
-    let same = json_same p q value h k in
-    record { code = ap (λ (r : Pair). r.code) same; digest = ap (λ (r : Pair). r.digest) same }
+returns-clause-same c p q value h k = json_same p q value h k
 
 pub returns-clause-byte_array : goal.returns-clause-byte_array
 returns-clause-byte_array c p value bytes h =

@@ -15,9 +15,9 @@ returns-in_err-read-clause-err g c =
     passed_on c.from_residual-in_err-read.result _ _ _ c.from_residual-in_err-read.ensures.1
     (inr (record {
       pairs = map pair_of c.loop.list.items;
-      middle = _;
+      behind = _;
       fewer = fewer;
-      good = before.pairs;
+      taken = before.pairs;
       refused = met.err;
       verdict = rw same at met.verdict;
       settled = rw same at met.settled;

@@ -1,4 +1,4 @@
-use Rattle.std.proofs.Common.{ℕ, List, [], ◌∷◌, refl, arith, ap, length}
+use Rattle.std.proofs.Common.{ℕ, List, [], ◌∷◌, refl}
 use Rattle.multihash.specs.Varint.{IsVarint}
 use Rattle.multihash.specs.Writing.{AppendsPart}
 use Rattle.multihash.proofs.Varints.VarintWriteLemmas.{one_byte}
@@ -16,4 +16,4 @@ pub returns-then-n-lt128-clause-ok : goal.returns-then-n-lt128-clause-ok
 returns-then-n-lt128-clause-ok g c = (c.args.n ∷ [], one_byte c.args.n c.if-n-lt128.true, refl, c.in_ok-write_all.ensures.laws.ok)
 
 pub returns-clause-short : goal.returns-clause-short
-returns-clause-short g c = omega (arith, ap length c.as_bytes-2.ensures, varint_longest _ _ c.encode-varint.ensures)
+returns-clause-short g c = varint_longest _ _ c.encode-varint.ensures

@@ -1,5 +1,5 @@
 use Rattle.multihash.specs.Answer.{pair_of}
-use Rattle.multihash.proofs.Values.KeyLemmas.{other_key}
+use Rattle.multihash.proofs.Values.OrderLemmas.{other_key}
 use Rattle.uses.proofs.block_store.put_ordered.Goals as goal
 
 pub returns-clause-others : goal.returns-clause-others

@@ -2,7 +2,6 @@ use Rattle.std.proofs.Common.{◌≡◌, inr, sym, ap, ◌∙◌, subst}
 use Rattle.multihash.specs.Encoding.{IsEncoding}
 use Rattle.multihash.specs.Json.{number_array}
 use Rattle.multihash.specs.Answer.{pair_of}
-use Rattle.multihash.proofs.Values.PairLemmas.{IsSame-equal}
 use Rattle.multihash.proofs.OutcomeLemmas.{passed_on}
 use Rattle.uses.proofs.ConclusionLemmas.{lists_one}
 use Rattle.uses.proofs.conclusions.listed_alike.Goals as goal
@@ -14,7 +13,7 @@ returns-clause-ok g c =
     let a = c.in_ok-first.ensures.ok in
     let b = c.in_ok-second.ensures.ok in (
       (λ is.
-          let pairs = IsSame-equal p q (c.same_as.ensures.0 is) in
+          let pairs = c.same_as.ensures.0 is in
           let bytes : a.0 ≡ b.0 = c.prefix_free.ensures.same q a.0 b.0 (subst (λ z. IsEncoding z a.0) pairs a.2) b.2 in
           a.1.array ∙ (ap number_array bytes ∙ sym b.1.array)),
       λ alike. c.same_as.ensures.1 (c.json_unique.ensures.same p q _

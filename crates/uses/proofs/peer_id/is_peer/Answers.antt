@@ -1,9 +1,7 @@
 use Rattle.std.proofs.Common.{subst}
 use Rattle.multihash.specs.Encoding.{IsEncoding}
-use Rattle.multihash.specs.Pair.{IsSame}
 use Rattle.multihash.specs.Answer.{pair_of}
 use Rattle.multihash.proofs.CallingLemmas.{accepted_encoding, refused_no_encoding}
-use Rattle.multihash.proofs.Values.PairLemmas.{IsSame-equal, IsSame-refl}
 use Rattle.multihash.proofs.Values.ValueLemmas.{digest_fits}
 use Rattle.uses.proofs.peer_id.is_peer.Goals as goal
 
@@ -12,8 +10,8 @@ returns-in-Ok g c =
     let p = pair_of c.args.peer.now in
     let q = pair_of c.in-Ok.other in
     let (own, only) = accepted_encoding g.row.S {q = q} c.in-Ok.ensures in (
-      (λ is_true. subst (λ r. IsEncoding r c.args.bytes.now) (IsSame-equal q p (c.same_as.ensures.0 is_true)) own),
-      λ encodes. c.same_as.ensures.1 (subst (IsSame q) (only p encodes) (IsSame-refl q)),
+      (λ is_true. subst (λ r. IsEncoding r c.args.bytes.now) (c.same_as.ensures.0 is_true) own),
+      λ encodes. c.same_as.ensures.1 (only p encodes),
     )
 
 pub returns-in-Err : goal.returns-in-Err

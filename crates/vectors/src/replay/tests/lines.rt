@@ -18,7 +18,7 @@ pub fn part_of(check: Check) -> Part {
 }
 
 // Lines with a false column, and the part that it is in.
-pub const FALSE_LINES: [(&str, Part); 28] = [
+pub const FALSE_LINES: [(&str, Part); 29] = [
     // The digest of a pair, its code, and a pair where there is none.
     (
         "4\t390286ce\tpair 57 86ce\t4\tpair 57 86cf\tunexpected_eof\t-",
@@ -138,6 +138,11 @@ pub const FALSE_LINES: [(&str, Part); 28] = [
     (
         "4\t39000000000000000286\tpair 57 -\t2\tinvalid_size 8\tunexpected_eof\t10",
         Part::Scale,
+    ),
+    // An input of 265 bytes, all of which the report has.
+    (
+        "200\tffffffffffffff7fffa29b6bff53d2bf944f02a1626fa45f70c9ec1c1c23f8f8c891f0d0225d532e1e47570048d875b4d93a50f42901b95769f8ee95eef9ca262d1ec150d46a55eb6c050714fe219e97e529c626d6c7bd2441e5da39da27a02809ea6b51e551f13e40a0f7e38fba56a0350814e0b68012ed9d2685b91c7613cd29d6bf47706a50f759dbfaa86e094c40adb5fafb1ef214c1c5cff495974d098b41187bccdbb1f273fcf49071733a7cf1bea7b88ef40b94cdc7de6015b09fe08f61d1f7df0859b6e28404c43e224c11742c55895005961d9d4a352dfa7826f1d75b767dff0cb6b7624927d0d8750c0f70905d418e031f8c1c48507ec77158f0dc8208cca64dccdcedf8\tinvalid_size 224842111\t12\tinvalid_size 224842110\tinvalid_size 255\t9",
+        Part::Whole,
     ),
 ];
 

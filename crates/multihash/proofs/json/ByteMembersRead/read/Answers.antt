@@ -6,6 +6,6 @@ pub returns : goal.returns
 returns c =
     let room : 0 < length c.args.buf.now = search rules in
     let whole : c.args.self.now.left.now ≡ c.in-Some.first.now ∷ c.in-Some.left.now = search rules in
-    let taken = first_byte c.in-Some.first.now c.in-Some.left.now c.in-Some-false.byte (sym c.in-Some-false.ensures) in
-    let put = take_first c.args.buf.now c.in-Some-false.byte room in
+    let taken = first_byte c.in-Some.first.now c.in-Some.left.now c.in-Some-byte_of.byte (sym c.in-Some-byte_of.ensures) in
+    let put = take_first c.args.buf.now c.in-Some-byte_of.byte room in
     search rules

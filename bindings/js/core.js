@@ -1,0 +1,280 @@
+// Multihashes over the proved library, compiled to WebAssembly. A program imports index.js or inline.js, which connect the
+// functions here to an instance of the module.
+
+/** The most bytes of a digest. */
+export const DIGEST_MAX = 255;
+/** The most bytes of the two varints before a digest. */
+export const HEAD_MAX = 18;
+/** The most bytes of an encoding. */
+export const LENGTH_MAX = 266;
+/** The most bytes of a SCALE form. */
+export const SCALE_LENGTH_MAX = 264;
+
+const STATUSES = ['ok', 'insufficient', 'overflow', 'not_minimal', 'invalid_size', 'invalid_code', 'unexpected_eof', 'no_room'];
+
+// The longest prefix of an input that a result depends on, except for the number of trailing bytes.
+const PREFIX_MAX = HEAD_MAX + DIGEST_MAX;
+
+// Numbers as BigInts, which lengths, most codes and addresses are passed as: making them anew takes longer than a call.
+const NUMBERS = Array.from({ length: PREFIX_MAX + 1 }, (_, number) => BigInt(number));
+
+// The module's functions; its memory as bytes and as words, which stay valid since no function grows it; and, in the memory
+// after what the module uses, the places of a result, two inputs and an output.
+let library, memory, words, result, first, second, output;
+let resultAt, firstAt, secondAt, outputAt;
+
+// Views of the memory by place and length: to make one takes as long as to copy from it.
+const views = [];
+
+// The library's text of each status.
+let texts;
+
+/** The version of the library, as `"1.0.0"`. */
+export let version;
+
+/** Connects the functions to the module's bytes, once. Throws if the engine has no WebAssembly with 64-bit memory. */
+export function connect(bytes) {
+  const probe = Uint8Array.of(0, 97, 115, 109, 1, 0, 0, 0, 5, 3, 1, 4, 1);
+  if (typeof WebAssembly !== 'object' || !WebAssembly.validate(probe)) {
+    throw new Error(
+      'verified-multihash needs WebAssembly with 64-bit memory (memory64), which this engine lacks. ' +
+        'Node.js 24, Chrome 133, Edge 133 and Firefox 134 have it; Node.js 20 and 22 with --experimental-wasm-memory64.',
+    );
+  }
+  // index.js and inline.js have the same module, so the first of them serves both
+  if (library) return;
+  library = new WebAssembly.Instance(new WebAssembly.Module(bytes)).exports;
+  memory = new Uint8Array(library.memory.buffer);
+  words = new Uint32Array(library.memory.buffer);
+  const free = (Number(library.__heap_base.value) + 7) & ~7;
+  [result, first, second, output] = [0, 64, 64 + 512, 64 + 1024].map((offset) => free + offset);
+  if (output + LENGTH_MAX > memory.length) throw new Error('the WebAssembly module is of another version');
+  [resultAt, firstAt, secondAt, outputAt] = [result, first, second, output].map(BigInt);
+  const number = library.multihash_version();
+  texts = STATUSES.map((_, status) => textOf(status));
+  version = [number / 10000, (number / 100) % 100, number % 100].map(Math.floor).join('.');
+}
+
+function textOf(status) {
+  library.multihash_put_status_text(resultAt, status, outputAt, NUMBERS[LENGTH_MAX]);
+  return String.fromCharCode(...memory.subarray(output, output + narrow(16)));
+}
+
+// ---- arguments
+
+const getter = (prototype, name) => Object.getOwnPropertyDescriptor(prototype, name).get;
+const typedArray = Object.getPrototypeOf(Uint8Array.prototype);
+// The getters themselves, since a subclass may define others.
+const tagOf = getter(typedArray, Symbol.toStringTag);
+const lengthOf = getter(typedArray, 'length');
+const offsetOf = getter(typedArray, 'byteOffset');
+const bufferOf = getter(typedArray, 'buffer');
+const bufferLengthOf = getter(ArrayBuffer.prototype, 'byteLength');
+
+/** The length of a Uint8Array. Throws a TypeError where the value is none, or its buffer is shared. */
+export function checkedLength(data) {
+  if (tagOf.call(data) !== 'Uint8Array') throw new TypeError('bytes have to be a Uint8Array');
+  // this getter throws a TypeError for a shared buffer
+  bufferLengthOf.call(bufferOf.call(data));
+  return lengthOf.call(data);
+}
+
+/** Copies at most PREFIX_MAX bytes into the module's memory, and returns the length of the whole input. */
+function put(data, at) {
+  const length = checkedLength(data);
+  // `set` throws a TypeError if the buffer is detached
+  memory.set(length <= PREFIX_MAX ? data : new Uint8Array(bufferOf.call(data), offsetOf.call(data), PREFIX_MAX), at);
+  return length;
+}
+
+/** A whole number of 64 bits as a BigInt. */
+function bits64(number, what) {
+  if (typeof number === 'number') {
+    if (!Number.isSafeInteger(number) || number < 0) throw new RangeError(`${what} has to be a whole number, from 2^53 a bigint`);
+    return number <= PREFIX_MAX ? NUMBERS[number] : BigInt(number);
+  }
+  if (typeof number !== 'bigint') throw new TypeError(`${what} has to be a number or a bigint`);
+  if (BigInt.asUintN(64, number) !== number) throw new RangeError(`${what} has to be from 0 to 2^64 - 1`);
+  return number;
+}
+
+// ---- results
+
+/** A number of 64 bits in the result: a bigint only where a number would not be exact. */
+function wide(offset) {
+  const low = words[(result + offset) >> 2];
+  const high = words[(result + offset + 4) >> 2];
+  return high < 0x200000 ? high * 0x100000000 + low : (BigInt(high) << 32n) | BigInt(low);
+}
+
+/** A length or a place in the result. */
+function narrow(offset) {
+  return words[(result + offset) >> 2];
+}
+
+/** Copies bytes of the module's memory. */
+function copied(at, length) {
+  const row = (views[at - result] ??= []);
+  return new Uint8Array((row[length] ??= memory.subarray(at, at + length)));
+}
+
+/** Why a call failed. `cause` has the same fields, and `structuredClone` keeps it: see `MultihashError.from`. */
+export class MultihashError extends Error {
+  constructor(status, { size, code, taken } = {}) {
+    const number = STATUSES.indexOf(status);
+    if (number < 1) throw new TypeError('no status of an error');
+    const refused = size ?? code;
+    super(texts[number] + (refused === undefined ? '' : ` ${refused}.`), { cause: { status, size, code, taken } });
+    Object.assign(this, { status, size, code, taken });
+  }
+
+  /** The error of which the value is a clone, the value itself if it is an error of this class, else undefined. */
+  static from(value) {
+    if (value instanceof MultihashError) return value;
+    const cause = value?.cause;
+    return STATUSES.indexOf(cause?.status) > 0 ? new MultihashError(cause.status, cause) : undefined;
+  }
+
+  /** Whether more input can change the result. */
+  get isIncomplete() {
+    return this.status === 'insufficient' || this.status === 'unexpected_eof';
+  }
+}
+Object.defineProperty(MultihashError.prototype, 'name', { value: 'MultihashError', writable: true, configurable: true });
+
+/** The error in the result of a decoding, after `taken` bytes. */
+function failure(taken) {
+  const status = STATUSES[narrow(0)];
+  const size = status === 'invalid_size' ? wide(8) : undefined;
+  const code = status === 'invalid_code' ? wide(16) : undefined;
+  return new MultihashError(status, { size, code, taken });
+}
+
+const MAKING = Symbol('making');
+
+/** A code, which names a hash function, and a digest. */
+export class Multihash {
+  #bytes;
+
+  constructor(making, code, digest, bytes) {
+    if (making !== MAKING) throw new TypeError('Multihash.of(code, digest) makes a multihash');
+    this.code = code;
+    this.size = digest.length;
+    this.digest = digest;
+    this.#bytes = bytes;
+  }
+
+  /** Makes the multihash of a code and a digest, which is copied. */
+  static of(code, digest) {
+    const bytes = encode(code, digest);
+    const exact = typeof code === 'bigint' && code <= Number.MAX_SAFE_INTEGER ? Number(code) : code;
+    return new Multihash(MAKING, exact, bytes.slice(bytes.length - lengthOf.call(digest)), bytes);
+  }
+
+  /** The encoding. */
+  get bytes() {
+    return (this.#bytes ??= encode(this.code, this.digest));
+  }
+
+  /** Whether the other value has the same code and the same digest. */
+  equals(other) {
+    const [left, right] = [this.digest, other?.digest];
+    // a number and a bigint of the same value are the same code
+    if (tagOf.call(right) !== 'Uint8Array' || other.code != this.code || left.length !== right.length) return false;
+    return left.every((byte, index) => byte === right[index]);
+  }
+}
+
+/** What a decoding of the first input found. */
+function found() {
+  return new Multihash(MAKING, wide(16), copied(first + narrow(24), narrow(32)));
+}
+
+// ---- decoding
+
+/** Decodes the multihash whose encoding is the whole of the bytes. */
+export function decode(bytes) {
+  const length = put(bytes, first);
+  if (length > LENGTH_MAX) throw ofLong(length);
+  library.multihash_from_bytes(resultAt, firstAt, NUMBERS[length]);
+  if (narrow(0) !== 0) throw failure(length);
+  return found();
+}
+
+/** The error of an input that is longer than any encoding: where an encoding is its prefix, bytes follow. */
+function ofLong(length) {
+  library.multihash_read(resultAt, firstAt, NUMBERS[Math.min(length, PREFIX_MAX)]);
+  if (narrow(0) !== 0) return failure(length);
+  return new MultihashError('invalid_size', { size: length - narrow(40), taken: length });
+}
+
+/** Decodes the multihash whose encoding is a prefix of the bytes, and whose digest has at most `limit` bytes. */
+export function read(bytes, limit = DIGEST_MAX) {
+  const most = bits64(limit, 'a limit');
+  const length = put(bytes, first);
+  library.multihash_read_limit(resultAt, firstAt, NUMBERS[Math.min(length, PREFIX_MAX)], most);
+  if (narrow(0) !== 0) throw failure(narrow(40));
+  return { multihash: found(), taken: narrow(40) };
+}
+
+/** Decodes the two varints before a digest. */
+export function head(bytes) {
+  const length = put(bytes, first);
+  library.multihash_head(resultAt, firstAt, NUMBERS[Math.min(length, PREFIX_MAX)]);
+  const taken = narrow(24);
+  if (narrow(0) !== 0) throw new MultihashError(STATUSES[narrow(0)], { taken });
+  return { code: wide(8), digestLength: wide(16), taken };
+}
+
+/** Decodes the multihash whose SCALE form is a prefix of the bytes. */
+export function scaleDecode(bytes) {
+  const length = put(bytes, first);
+  library.multihash_scale_decode(resultAt, firstAt, NUMBERS[Math.min(length, PREFIX_MAX)]);
+  if (narrow(0) !== 0) throw failure(narrow(40));
+  return { multihash: found(), taken: narrow(40) };
+}
+
+// ---- encoding
+
+/** The length in the result of an encoding. */
+function made(code) {
+  const status = STATUSES[narrow(0)];
+  if (status === 'ok') return narrow(16);
+  const size = status === 'invalid_size' ? wide(8) : undefined;
+  throw new MultihashError(status, { size, code: status === 'invalid_code' ? code : undefined });
+}
+
+/** Copies a digest to the first input and returns its length as a BigInt. Throws where it is too long. */
+function putDigest(code, digest) {
+  const length = put(digest, first);
+  if (length > DIGEST_MAX) encodedLength(code, length);
+  return NUMBERS[length];
+}
+
+/** Returns the encoding of a code and a digest. */
+export function encode(code, digest) {
+  const number = bits64(code, 'a code');
+  library.multihash_encode(resultAt, number, firstAt, putDigest(number, digest), outputAt, NUMBERS[LENGTH_MAX]);
+  return copied(output, made(code));
+}
+
+/** Returns the SCALE form of a code and a digest. */
+export function scaleEncode(code, digest) {
+  const number = bits64(code, 'a code');
+  library.multihash_scale_encode(resultAt, number, firstAt, putDigest(number, digest), outputAt, NUMBERS[LENGTH_MAX]);
+  return copied(output, made(code));
+}
+
+/** Returns the length of the encoding of a code and a digest of that length. */
+export function encodedLength(code, digestLength) {
+  library.multihash_encoded_len(resultAt, bits64(code, 'a code'), bits64(digestLength, 'a length'));
+  return made(code);
+}
+
+/** Compares by the code, then by the digest's length, then by the first byte that differs: -1, 0 or 1. */
+export function compare(left, right) {
+  if (!(left instanceof Multihash && right instanceof Multihash)) throw new TypeError('multihashes have to be a Multihash');
+  const [leftCode, rightCode] = [bits64(left.code, 'a code'), bits64(right.code, 'a code')];
+  const [leftLength, rightLength] = [put(left.digest, first), put(right.digest, second)];
+  return library.multihash_compare(leftCode, firstAt, NUMBERS[leftLength], rightCode, secondAt, NUMBERS[rightLength]);
+}

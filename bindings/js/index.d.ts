@@ -1,0 +1,110 @@
+/** The most bytes of a digest. */
+export const DIGEST_MAX: 255;
+/** The most bytes of the two varints before a digest. */
+export const HEAD_MAX: 18;
+/** The most bytes of an encoding. */
+export const LENGTH_MAX: 266;
+/** The most bytes of a SCALE form. */
+export const SCALE_LENGTH_MAX: 264;
+/** The version of the library, as `"1.0.0"`. */
+export const version: string;
+
+/**
+ * A whole number of 64 bits. What is returned is a `number` up to `Number.MAX_SAFE_INTEGER`, else a `bigint`. What is passed
+ * may be a `bigint` of any size in range, or a safe integer.
+ */
+export type Wide = number | bigint;
+
+/** Why a call failed. */
+export type Status =
+  | 'insufficient' // the input ends inside or before a varint
+  | 'overflow' // a varint has more than nine bytes, or its number is 2^63 or above
+  | 'not_minimal' // a varint of more than one byte ends in a zero
+  | 'invalid_size' // a digest is too long, or bytes follow the encoding: `size` is their number
+  | 'invalid_code' // `code` is 2^63 or above
+  | 'unexpected_eof' // the input ends inside the digest, or before it in the SCALE form
+  | 'no_room'; // an output is too short: no function here returns it
+
+/** The fields of an error. */
+export interface Details {
+  /** At `invalid_size`: the size that is rejected, or the number of trailing bytes. */
+  readonly size?: Wide;
+  /** At `invalid_code`: the code that is rejected. */
+  readonly code?: Wide;
+  /** Of a decoding: how many bytes were consumed. */
+  readonly taken?: number;
+}
+
+/** The error of each function. A call with an argument of a wrong type throws a `TypeError`, of a wrong range a `RangeError`. */
+export class MultihashError extends Error implements Details {
+  constructor(status: Status, details?: Details);
+  readonly status: Status;
+  readonly size?: Wide;
+  readonly code?: Wide;
+  readonly taken?: number;
+  /** Whether more input can change the result. */
+  readonly isIncomplete: boolean;
+  /** The same fields as a plain object, which `structuredClone` keeps. */
+  readonly cause: Details & { readonly status: Status };
+  /** The error of which `value` is a clone, `value` itself if it is a `MultihashError`, else undefined. */
+  static from(value: unknown): MultihashError | undefined;
+}
+
+/** A code, which names a hash function, and a digest. */
+export class Multihash {
+  private constructor();
+  /** Makes the multihash of a code and a digest, which is copied. Throws what `encode` throws. */
+  static of(code: Wide, digest: Uint8Array): Multihash;
+  /** Below 2^63. A `number` up to `Number.MAX_SAFE_INTEGER`, else a `bigint`. */
+  readonly code: Wide;
+  /** The digest's length. */
+  readonly size: number;
+  readonly digest: Uint8Array;
+  /** The encoding. */
+  readonly bytes: Uint8Array;
+  /** Whether `other` has the same code and the same digest. */
+  equals(other: unknown): boolean;
+}
+
+/** A decoding of a prefix, and how many bytes it has. */
+export interface Read {
+  readonly multihash: Multihash;
+  readonly taken: number;
+}
+
+/** The two varints before a digest. */
+export interface Head {
+  readonly code: Wide;
+  /** Below 2^63, also above 255. */
+  readonly digestLength: Wide;
+  /** How many bytes both varints have. */
+  readonly taken: number;
+}
+
+/** Decodes the multihash whose encoding is the whole of the bytes. */
+export function decode(bytes: Uint8Array): Multihash;
+/** Decodes the multihash whose encoding is a prefix of the bytes, and whose digest has at most `limit` bytes, by default 255. */
+export function read(bytes: Uint8Array, limit?: Wide): Read;
+/** Decodes the two varints before a digest. */
+export function head(bytes: Uint8Array): Head;
+/** Returns the encoding of a code and a digest. */
+export function encode(code: Wide, digest: Uint8Array): Uint8Array;
+/** Returns the length of the encoding of a code and a digest of that length. */
+export function encodedLength(code: Wide, digestLength: Wide): number;
+/** Compares by the code, then by the digest's length, then by the first byte that differs. */
+export function compare(left: Multihash, right: Multihash): -1 | 0 | 1;
+/** Decodes the multihash whose SCALE form is a prefix of the bytes. */
+export function scaleDecode(bytes: Uint8Array): Read;
+/** Returns the SCALE form of a code and a digest: eight bytes of the code, one of the length, the digest. */
+export function scaleEncode(code: Wide, digest: Uint8Array): Uint8Array;
+
+/** Reads concatenated encodings from a `ReadableStream` or an async iterable. */
+export class MultihashReader implements AsyncIterable<Multihash> {
+  /** `limit`: the most bytes of a digest. `rest`: bytes that precede those of the source, as another reader left them. */
+  constructor(source: ReadableStream<Uint8Array> | AsyncIterable<Uint8Array>, options?: { limit?: Wide; rest?: Uint8Array });
+  /** A copy of the bytes that were received and belong to no multihash that was returned. */
+  readonly rest: Uint8Array;
+  /** Returns the next multihash, or null where the source ends after the last one. */
+  read(): Promise<Multihash | null>;
+  [Symbol.asyncIterator](): AsyncGenerator<Multihash, void, void>;
+}

@@ -1,0 +1,19 @@
+// The functions of core.js over multihash.wasm, which lies beside this file.
+import { connect } from './core.js';
+
+/** Returns the module's bytes, from the disk in Node.js and what is like it, else by a request. */
+async function load(place) {
+  const disk = globalThis.process?.getBuiltinModule?.('node:fs');
+  if (disk && place.protocol === 'file:') return disk.readFileSync(place);
+  const response = await fetch(place);
+  if (!response.ok) throw new Error(`${place}: status ${response.status}`);
+  return response.arrayBuffer();
+}
+
+connect(await load(new URL('./multihash.wasm', import.meta.url)));
+
+export {
+  DIGEST_MAX, HEAD_MAX, LENGTH_MAX, SCALE_LENGTH_MAX, Multihash, MultihashError, compare, decode, encode, encodedLength, head, read,
+  scaleDecode, scaleEncode, version,
+} from './core.js';
+export { MultihashReader } from './reader.js';

@@ -1,0 +1,11 @@
+// The functions of core.js over the module's bytes in bytes.js, for bundlers: nothing is requested or awaited.
+import bytes from './bytes.js';
+import { connect } from './core.js';
+
+connect(Uint8Array.from(atob(bytes), (letter) => letter.charCodeAt(0)));
+
+export {
+  DIGEST_MAX, HEAD_MAX, LENGTH_MAX, SCALE_LENGTH_MAX, Multihash, MultihashError, compare, decode, encode, encodedLength, head, read,
+  scaleDecode, scaleEncode, version,
+} from './core.js';
+export { MultihashReader } from './reader.js';

@@ -1,0 +1,63 @@
+import { DIGEST_MAX, MultihashError, checkedLength, read } from './core.js';
+
+/** Reads concatenated encodings from a `ReadableStream` or an async iterable of `Uint8Array`. */
+export class MultihashReader {
+  #source;
+  #limit;
+  #rest;
+  #last = Promise.resolve();
+
+  /** `limit` is the most bytes of a digest; `rest` holds bytes that precede those of the source. */
+  constructor(source, { limit = DIGEST_MAX, rest = new Uint8Array() } = {}) {
+    const iterate = source?.[Symbol.asyncIterator];
+    if (typeof iterate !== 'function') throw new TypeError('the source has to be a ReadableStream or an async iterable');
+    this.#limit = limit;
+    this.#rest = joined(new Uint8Array(), rest);
+    this.#source = iterate.call(source);
+  }
+
+  /** A copy of the bytes that were received and belong to no multihash that was returned. */
+  get rest() {
+    return this.#rest.slice();
+  }
+
+  /** Returns the next multihash, or null where the source ends after the last one. Calls that overlap run in turn. */
+  read() {
+    const next = this.#last.then(() => this.#next());
+    this.#last = next.catch(() => {});
+    return next;
+  }
+
+  async #next() {
+    for (;;) {
+      try {
+        const { multihash, taken } = read(this.#rest, this.#limit);
+        this.#rest = this.#rest.subarray(taken);
+        return multihash;
+      } catch (error) {
+        if (!(error instanceof MultihashError && error.isIncomplete)) throw error;
+        const { done, value } = await this.#source.next();
+        if (done && this.#rest.length === 0) return null;
+        if (done) throw error;
+        this.#rest = joined(this.#rest, value);
+      }
+    }
+  }
+
+  /** Yields each multihash; where the loop is left, the source is closed. */
+  async *[Symbol.asyncIterator]() {
+    try {
+      for (let multihash; (multihash = await this.read()) !== null; ) yield multihash;
+    } finally {
+      await this.#source.return?.();
+    }
+  }
+}
+
+/** A copy of the bytes of both. Throws a TypeError where the second is no Uint8Array, or is shared or detached. */
+function joined(left, right) {
+  const both = new Uint8Array(left.length + checkedLength(right));
+  both.set(left);
+  both.set(right, left.length);
+  return both;
+}

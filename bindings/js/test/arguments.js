@@ -1,0 +1,167 @@
+// Arguments of wrong types and ranges, and what results and errors are.
+import { fails, hex, same, unhex } from './check.js';
+
+const EXAMPLE = unhex('1620644bcc7e564373040999aac89e7622f3ca71fba1d972fd94a31c3bfbf24e3938');
+
+function detached() {
+  const bytes = new Uint8Array(8);
+  structuredClone(bytes.buffer, { transfer: [bytes.buffer] });
+  return bytes;
+}
+
+function outOfBounds() {
+  const buffer = new ArrayBuffer(8, { maxByteLength: 16 });
+  const bytes = new Uint8Array(buffer, 4, 4);
+  buffer.resize(2);
+  return bytes;
+}
+
+/** A page may lack the constructor SharedArrayBuffer, so this is the buffer of a memory. */
+const shared = () => new Uint8Array(new WebAssembly.Memory({ initial: 1, maximum: 1, shared: true }).buffer, 0, 8);
+
+function noBytes() {
+  const others = [34, 34n, '1620', [22, 0], null, undefined, true, {}, { length: 1, 0: 0 }, Symbol('bytes'), () => 0];
+  const buffers = [new ArrayBuffer(4), new DataView(new ArrayBuffer(4)), new Uint16Array(2), new Int8Array(2), new Uint8ClampedArray(2)];
+  const feigned = [new Proxy(new Uint8Array(2), {}), Object.create(Uint8Array.prototype), { __proto__: new Uint8Array(2) }];
+  return [...others, ...buffers, ...feigned, shared(), detached(), outOfBounds()];
+}
+
+function bytesAlone(module) {
+  for (const wrong of noBytes()) {
+    const what = Object.prototype.toString.call(wrong);
+    for (const name of ['decode', 'read', 'head', 'scaleDecode']) fails(TypeError, () => module[name](wrong), `${name} ${what}`);
+    for (const name of ['encode', 'scaleEncode']) fails(TypeError, () => module[name](18, wrong), `${name} ${what}`);
+    fails(TypeError, () => module.Multihash.of(18, wrong), `of ${what}`);
+    fails(TypeError, () => module.compare(wrong, wrong), `compare ${what}`);
+  }
+}
+
+function numbers(module) {
+  const digest = new Uint8Array(2);
+  const calls = {
+    encode: (number) => module.encode(number, digest),
+    scaleEncode: (number) => module.scaleEncode(number, digest),
+    of: (number) => module.Multihash.of(number, digest),
+    encodedLength: (number) => module.encodedLength(number, 2),
+    length: (number) => module.encodedLength(18, number),
+    limit: (number) => module.read(EXAMPLE, number),
+  };
+  for (const [name, call] of Object.entries(calls)) {
+    for (const wrong of ['18', null, {}, [18], true, Symbol('code')]) fails(TypeError, () => call(wrong), `${name} ${typeof wrong}`);
+    for (const wrong of [-1, 1.5, NaN, Infinity, 2 ** 53, -1n, 1n << 64n]) fails(RangeError, () => call(wrong), `${name} ${wrong}`);
+  }
+  for (const name of ['encode', 'scaleEncode', 'of', 'encodedLength']) {
+    const error = fails(module.MultihashError, () => calls[name](1n << 63n), name);
+    same(`${error?.status} ${error?.code} ${error?.message}`, `invalid_code ${1n << 63n} Invalid multihash code 9223372036854775808.`, name);
+  }
+  same(module.read(EXAMPLE, (1n << 64n) - 1n).taken, 34, 'the largest limit');
+  same(fails(module.MultihashError, () => module.read(EXAMPLE, 0), 'limit 0')?.size, 32, 'size at limit 0');
+}
+
+function wideNumbers(module) {
+  const codes = [0, 127, 128, 2 ** 32, 2 ** 53 - 1, 2n ** 53n, 2n ** 63n - 1n];
+  for (const code of codes) {
+    const bytes = module.encode(code, new Uint8Array(3));
+    const made = module.Multihash.of(BigInt(code), new Uint8Array(3));
+    const { multihash: scale } = module.scaleDecode(module.scaleEncode(code, new Uint8Array(3)));
+    for (const multihash of [module.decode(bytes), made, scale]) {
+      same(multihash.code, code, 'code');
+      same(hex(multihash.bytes), hex(bytes), 'bytes of a code');
+    }
+    same(module.head(bytes).code, code, 'code of head');
+  }
+  same(module.head(unhex('00808080808080808001')).digestLength, 2n ** 56n, 'length of head');
+  same(fails(module.MultihashError, () => module.encode(1n << 63n, new Uint8Array(256)), 'size first')?.size, 256, 'size');
+  same(module.encode(18, new Uint8Array(255)).length, 258, 'the longest digest');
+}
+
+/** Results keep nothing of the module's memory or of the input, also where a subclass lies. */
+function ownBytes(module) {
+  class Lying extends Uint8Array {
+    get length() {
+      return 5e9;
+    }
+    get buffer() {
+      return new ArrayBuffer(1);
+    }
+    get [Symbol.toStringTag]() {
+      return 'Uint8Array';
+    }
+    static get [Symbol.species]() {
+      return Array;
+    }
+  }
+  const input = new Lying(EXAMPLE);
+  const multihash = module.decode(input);
+  const encoding = module.encode(22, new Lying(EXAMPLE.subarray(2)));
+  input.fill(0);
+  module.decode(module.encode(1, new Uint8Array(200).fill(1)));
+  same(hex(multihash.digest), hex(EXAMPLE.subarray(2)), 'the digest later');
+  same(hex(encoding), hex(EXAMPLE), 'the encoding later');
+  for (const bytes of [multihash.digest, multihash.bytes, encoding]) {
+    same(bytes.constructor, Uint8Array, 'class of a result');
+    same(bytes.buffer.byteLength, bytes.length, 'buffer of a result');
+  }
+  const long = new Uint8Array(3e6);
+  long.set(EXAMPLE);
+  same(fails(module.MultihashError, () => module.decode(long), 'a long input')?.size, 3e6 - 34, 'trailing bytes');
+  same(module.read(long).taken, 34, 'a long input');
+}
+
+function multihashes(module) {
+  const multihash = module.decode(EXAMPLE);
+  const other = module.Multihash.of(22n, EXAMPLE.subarray(2));
+  same(`${multihash.code} ${multihash.size} ${hex(multihash.bytes)}`, `22 32 ${hex(EXAMPLE)}`, 'fields');
+  same(multihash.equals(other) && multihash.equals({ code: 22n, digest: EXAMPLE.slice(2) }), true, 'equals');
+  const unequal = [[21, other.digest], [22, other.digest.subarray(1)], [22, new Uint8Array(32)]].map((pair) => module.Multihash.of(...pair));
+  for (const value of [...unequal, null, undefined, 22, 'text', {}, EXAMPLE]) same(multihash.equals(value), false, 'equals');
+  fails(TypeError, () => new module.Multihash(22, EXAMPLE), 'constructor');
+  const tampered = module.decode(EXAMPLE);
+  for (const digest of [3, [1], new Uint8Array(300)]) {
+    tampered.digest = digest;
+    fails(TypeError, () => module.compare(tampered, other), 'a digest that was replaced');
+  }
+  const pairs = [[0, 'zz'], [1, 'b'], [1, 'ab'], [1, 'bb'], [2, 'b'], [2n ** 60n, '']];
+  const ordered = pairs.map(([code, text]) => module.Multihash.of(code, new TextEncoder().encode(text)));
+  ordered.forEach((left, i) => ordered.forEach((right, k) => same(module.compare(left, right), Math.sign(i - k), 'compare')));
+}
+
+function errors(module) {
+  const texts = {
+    80: 'not enough input bytes',
+    ffffffffffffffffff: 'input bytes exceed maximum',
+    8000: 'encoding is not minimal',
+    '010200': 'failed to fill whole buffer',
+    '010000': 'Invalid multihash size 1.',
+  };
+  for (const [input, text] of Object.entries(texts)) {
+    const error = fails(module.MultihashError, () => module.decode(unhex(input)), input);
+    same(error.message, text, 'message');
+    same(error.isIncomplete, input === '80' || input === '010200', 'isIncomplete');
+    const clone = structuredClone(error);
+    const again = module.MultihashError.from(clone);
+    const fields = ['name', 'message', 'status', 'size', 'code', 'taken', 'isIncomplete'];
+    for (const field of fields) same(again?.[field], error[field], `${field} of a clone`);
+    same(`${module.MultihashError.from(error) === error} ${again instanceof module.MultihashError}`, 'true true', 'from');
+  }
+  const others = [null, undefined, 3, {}, new Error('text'), new Error('text', { cause: { status: 'ok' } })];
+  for (const value of others) same(module.MultihashError.from(value), undefined, 'from');
+}
+
+/** The constants and the version are those of the header for C. */
+function header(module, text) {
+  const found = [...text.matchAll(/#define MULTIHASH_(\w+_MAX) (\d+)/g)];
+  same(found.length, 4, 'constants of the header');
+  for (const [, name, number] of found) same(module[name], Number(number), name);
+  same(module.version, /#define MULTIHASH_VERSION "(.*)"/.exec(text)?.[1], 'version');
+}
+
+export function hostile(module, headerText) {
+  bytesAlone(module);
+  numbers(module);
+  wideNumbers(module);
+  ownBytes(module);
+  multihashes(module);
+  errors(module);
+  header(module, headerText);
+}

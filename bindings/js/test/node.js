@@ -1,0 +1,12 @@
+// Runs the tests over a folder of data: node node.js FOLDER [inline]
+import { readFileSync } from 'node:fs';
+import { speed, suite, summary } from './suite.js';
+
+const [, , folder, which = 'index'] = process.argv;
+const text = (name) => readFileSync(`${folder}/${name}`, 'utf8');
+const module = await import(`../${which}.js`);
+const inputs = new Uint8Array(readFileSync(`${folder}/inputs`));
+const data = { header: text('header'), vectors: text('vectors'), answers: text('answers'), inputs };
+const tally = await suite(module, data);
+console.log(`${summary(tally)}; ${speed(module)}`);
+process.exitCode = tally.faults.length === 0 && tally.checks > 0 ? 0 : 1;

@@ -1,0 +1,103 @@
+// The reader over streams that are cut at each byte.
+import { hex, same } from './check.js';
+
+async function* chunks(...parts) {
+  for (const part of parts) yield part;
+}
+
+/** What a reader returns up to an error or the end, and what it kept. */
+async function drained(reader) {
+  const found = [];
+  try {
+    for (let multihash; (multihash = await reader.read()) !== null; ) found.push(multihash);
+  } catch (error) {
+    return { found, error, rest: reader.rest };
+  }
+  return { found, rest: reader.rest };
+}
+
+const listed = (found) => found.map((multihash) => hex(multihash.bytes)).join(' ');
+
+async function cutAt(module, stream, cut, wanted) {
+  const [left, right] = [stream.subarray(0, cut), stream.subarray(cut)];
+  same(listed((await drained(new module.MultihashReader(chunks(left, right)))).found), wanted, `cut at ${cut}`);
+  const first = await drained(new module.MultihashReader(chunks(left)));
+  same(first.rest.length > 0, first.error !== undefined, `end at ${cut}`);
+  if (first.error) same(`${first.error.name} ${first.error.isIncomplete}`, 'MultihashError true', `error at ${cut}`);
+  same(hex(stream.subarray(cut - first.rest.length, cut)), hex(first.rest), `rest at ${cut}`);
+  const second = await drained(new module.MultihashReader(chunks(right), { rest: first.rest }));
+  same(listed([...first.found, ...second.found]), wanted, `both parts at ${cut}`);
+  same(second.error, undefined, `end of both parts at ${cut}`);
+}
+
+async function readableStream(module, stream, wanted) {
+  const source = new ReadableStream({
+    start(controller) {
+      for (const byte of stream) controller.enqueue(Uint8Array.of(byte));
+      controller.close();
+    },
+  });
+  const found = [];
+  for await (const multihash of new module.MultihashReader(source)) found.push(multihash);
+  same(listed(found), wanted, 'a byte at a time');
+}
+
+async function badSources(module, stream) {
+  const limited = await drained(new module.MultihashReader(chunks(stream), { limit: 31 }));
+  same(`${limited.error?.status} ${limited.error?.size} ${limited.error?.taken}`, 'invalid_size 32 2', 'a limit');
+  same(hex(limited.rest), hex(stream), 'rest at a limit');
+  const text = await drained(new module.MultihashReader(chunks(stream.subarray(0, 9), 'text')));
+  same(`${text.error?.name} ${text.rest.length}`, 'TypeError 9', 'a chunk that is text');
+  const shared = new Uint8Array(new WebAssembly.Memory({ initial: 1, maximum: 1, shared: true }).buffer, 0, 4);
+  same((await drained(new module.MultihashReader(chunks(shared)))).error?.name, 'TypeError', 'a chunk that is shared');
+  for (const source of [null, 3, 'ab', [stream]]) {
+    let name = 'no error';
+    try {
+      new module.MultihashReader(source);
+    } catch (error) {
+      name = error.name;
+    }
+    same(name, 'TypeError', 'a source');
+  }
+}
+
+/** A source that fails once is read again, and one whose loop is left is closed. */
+async function failing(module, stream) {
+  let [turn, closed] = [0, false];
+  const parts = [stream.subarray(0, 20), new Error('broken'), stream.subarray(20)];
+  const source = {
+    [Symbol.asyncIterator]: () => source,
+    async next() {
+      const value = parts[turn++];
+      if (value instanceof Error) throw value;
+      return { done: value === undefined, value };
+    },
+    async return() {
+      closed = true;
+      return { done: true };
+    },
+  };
+  const reader = new module.MultihashReader(source);
+  const broken = await drained(reader);
+  same(`${broken.error?.message} ${broken.rest.length}`, 'broken 20', 'a source that fails');
+  broken.rest.fill(0);
+  for await (const multihash of reader) {
+    same(hex(multihash.bytes), hex(stream.subarray(0, 34)), 'after a failure');
+    break;
+  }
+  same(closed, true, 'closed');
+}
+
+export async function streams(module) {
+  const digests = [new Uint8Array(32).fill(7), new Uint8Array(), new Uint8Array(200).fill(9)];
+  const encodings = digests.map((digest, index) => module.encode([0x12, 0, 2n ** 62n][index], digest));
+  const stream = Uint8Array.from(encodings.flatMap((bytes) => [...bytes]));
+  const wanted = encodings.map(hex).join(' ');
+  for (let cut = 0; cut <= stream.length; cut++) await cutAt(module, stream, cut, wanted);
+  await readableStream(module, stream, wanted);
+  await badSources(module, stream);
+  await failing(module, stream);
+  const reader = new module.MultihashReader(chunks(stream));
+  const together = await Promise.all([reader.read(), reader.read(), reader.read(), reader.read()]);
+  same(listed(together.slice(0, 3)) + together[3], `${wanted}null`, 'calls that overlap');
+}

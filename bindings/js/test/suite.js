@@ -1,0 +1,34 @@
+// All tests, in Node.js and in a page: `data` has the texts of the vectors, of the C library's answers and of the header, and the
+// inputs of those answers.
+import { mutated, vectors } from './answers.js';
+import { hostile } from './arguments.js';
+import { tally } from './check.js';
+import { streams } from './stream.js';
+
+export async function suite(module, data) {
+  hostile(module, data.header);
+  vectors(module, data.vectors);
+  const limit = Error.stackTraceLimit;
+  Error.stackTraceLimit = 0; // half a million errors are made, and a stack trace takes most of their time
+  mutated(module, data.inputs, data.answers);
+  Error.stackTraceLimit = limit;
+  await streams(module);
+  return tally;
+}
+
+/** Nanoseconds of decoding 34 bytes and of encoding 32: the best of some rounds. */
+export function speed(module) {
+  const digest = new Uint8Array(32).fill(7);
+  const encoding = module.encode(18, digest);
+  const best = (call) => {
+    const times = Array.from({ length: 10 }, () => {
+      const start = performance.now();
+      for (let left = 1e5; left > 0; left--) call();
+      return (performance.now() - start) * 10;
+    });
+    return Math.round(Math.min(...times));
+  };
+  return `decode ${best(() => module.decode(encoding))} ns, encode ${best(() => module.encode(18, digest))} ns`;
+}
+
+export const summary = ({ checks, faults }) => [...faults.slice(0, 5), `${checks - faults.length} checks right, ${faults.length} wrong`].join('\n');

@@ -1,0 +1,105 @@
+"""The test vectors: decoded, read from files, encoded. MULTIHASH_VERDICTS is the path of the list."""
+import io
+import os
+import unittest
+from pathlib import Path
+
+import verified_multihash as vm
+from verified_multihash import MultihashError, Status
+
+BESIDE = Path(__file__).resolve().parents[3] / "crates/vectors/data/verdicts.tsv"
+COLUMNS = "S\tinput\tread\tread_taken\tfrom_bytes\tscale_decode\tscale_taken"
+MORE = bytes(400)
+
+
+class Drip:
+    """A file whose reads return one byte at most."""
+
+    def __init__(self, data):
+        self.file = io.BytesIO(data)
+
+    def read(self, size):
+        return self.file.read(min(size, 1))
+
+
+def shown(call, *arguments):
+    """The result as the list has it, the number of bytes that were consumed, and the multihash or None."""
+    try:
+        found = call(*arguments)
+    except MultihashError as error:
+        number = {Status.INVALID_SIZE: " %d" % error.size, Status.INVALID_CODE: " %d" % error.code}.get(error.status, "")
+        return error.status.name.lower() + number, error.taken, None
+    multihash, taken = found if isinstance(found, tuple) else (found, len(arguments[0]))
+    return "pair %d %s" % (multihash.code, multihash.digest.hex() or "-"), taken, multihash
+
+
+def is_for_all(result, size):
+    """Whether the result for that capacity is the result for 255 too."""
+    word, _, rejected = result.partition(" ")
+    return size >= 255 or word != "invalid_size" or int(rejected) > 255
+
+
+class Vectors(unittest.TestCase):
+    def check_head(self, data, result, taken):
+        word, _, rest = result.partition(" ")
+        if word in ("pair", "invalid_size", "unexpected_eof"):
+            head = vm.head(data)
+            self.assertEqual(vm.head(data[: head.length]), head)
+        if word == "pair":
+            code, digest = rest.split(" ")
+            size = len(digest.replace("-", "")) // 2
+            self.assertEqual(head, (int(code), size, taken - size))
+        elif word == "invalid_size":
+            self.assertEqual(head[1:], (int(rest), taken))
+        elif word != "unexpected_eof":
+            self.assertRaises(MultihashError, vm.head, data)
+            self.assertEqual(shown(vm.head, data), (word, taken, None))
+
+    def check_file(self, data, size, result, consumed):
+        file = Drip(data)
+        found = shown(lambda _: (vm.read_from(file, size), 0), data)[0] if data else vm.read_from(file, size)
+        self.assertEqual(found, result if data else None)
+        self.assertEqual(file.file.tell(), consumed)
+
+    def check_long(self, data, size, result, taken):
+        """The whole input with more bytes than any encoding has, where the list has its result."""
+        if result.startswith("pair"):
+            result = "invalid_size %d" % (len(data + MORE) - taken)
+        elif result in ("insufficient", "unexpected_eof") or not is_for_all(result, size):
+            return
+        self.assertEqual(shown(vm.decode, data + MORE), (result, len(data + MORE), None))
+
+    def check_back(self, multihash, data, taken):
+        encoding, form = vm.encode(multihash.code, multihash.digest), vm.scale_encode(multihash.code, multihash.digest)
+        self.assertEqual((encoding, bytes(multihash)), (data[:taken], data[:taken]))
+        self.assertEqual(vm.encoded_len(multihash.code, len(multihash.digest)), taken)
+        code, size = multihash.code.to_bytes(8, "little"), bytes([len(multihash.digest)])
+        self.assertEqual(form, code + size + multihash.digest)
+        self.assertEqual(vm.scale_decode(form + MORE), (multihash, len(form)))
+
+    def check_line(self, line):
+        size, data, read, read_taken, whole, scale, scale_taken = line.split("\t")
+        size, data = int(size), bytes.fromhex(data.replace("-", ""))
+        result, taken, multihash = shown(vm.read, data, size)
+        self.assertEqual(result, read)
+        self.assertIn(read_taken, ("-", str(taken)))
+        self.check_head(data, read, len(data) if read_taken == "-" else int(read_taken))
+        self.check_file(data, size, read, len(data) if read_taken == "-" else int(read_taken))
+        self.check_long(data, size, read, taken)
+        if is_for_all(read, size):
+            self.assertEqual(shown(vm.decode, data)[:2], (whole, len(data)))
+        if is_for_all(scale, size):
+            result, scale_count, _ = shown(vm.scale_decode, data)
+            self.assertEqual(result, scale)
+            self.assertIn(scale_taken, ("-", str(scale_count)))
+        if multihash is not None:
+            self.check_back(multihash, data, taken)
+
+    def test_list(self):
+        with open(os.environ.get("MULTIHASH_VERDICTS", BESIDE), encoding="ascii") as file:
+            columns, *lines = file.read().splitlines()
+        self.assertEqual(columns, COLUMNS)
+        self.assertGreaterEqual(len(lines), 1000)
+        for line in lines:
+            with self.subTest(line=line):
+                self.check_line(line)

@@ -1,0 +1,135 @@
+//! The project's headline, as the contracts of four calls. Each returns what it made, so that a body that does not do
+//! the work fails its contract. One thing no contract can state: that an allocation succeeds. So `same` and
+//! `list_through` may run out of memory, and nothing else stops `same`.
+ghost use Rattle.std.specs.Prelude.{◌≡◌, ◌<◌, ◌⊎◌, ◌↔◌, ℕ, List, ◌+◌, ◌++◌, map, All, Some, IfSome, IfOk, IfErr, IsOkAnd, IsErr, IsErrAnd, IsTrue, MatchResult};
+ghost use Rattle.multihash.specs.Bytes.{ExactlyOne, IsBeginning};
+ghost use Rattle.multihash.specs.Pair.{Pair, FitsBuffer};
+ghost use Rattle.multihash.specs.Encoding.{IsEncoding};
+ghost use Rattle.multihash.specs.Verdict.{Verdict, HasVerdict, HasWholeVerdict, IsEarlyEnd};
+ghost use Rattle.multihash.specs.Settling.{IsShortestSettling};
+ghost use Rattle.multihash.specs.Joined.{AreJoined};
+ghost use Rattle.multihash.specs.Reading.{Takes};
+ghost use Rattle.multihash.specs.Writing.{AppendsPart, IsWriterFaultOrFull};
+ghost use Rattle.multihash.specs.Taking.{TakesNothingSettling};
+ghost use Rattle.multihash.specs.Refusal.{IsIo, IsMemory, IsReaderFault};
+ghost use Rattle.multihash.specs.Answer.{pair_of, Answers};
+
+use multihash::no_std_io::{Read, Write};
+use multihash::{Error, Multihash, laws, list};
+use std::alloc::Global;
+
+/// Reads the multihash that the whole of `bytes` encodes.
+pub fn verdict<const S: usize>(bytes: &[u8]) -> Result<Multihash<S>, Error>
+    // The grammar assigns exactly one verdict to the bytes, and it is the result.
+    ensures one { (one : ExactlyOne (HasWholeVerdict S bytes.now)) × Answers result one.value }
+
+    // The result is a pair exactly if the bytes are its encoding and its digest fits the capacity.
+    ensures canonical { (p : Pair) →
+        (IsEncoding p bytes.now × FitsBuffer S p) ↔ IsOkAnd result (λ m. pair_of m ≡ p) }
+{
+    laws::one_verdict();
+    Multihash::from_bytes(bytes)
+}
+
+/// Reads the multihash that comes next in a reader. The clauses say what was read and what is left if the
+/// reader's input is known (`rest`), as it is for a slice.
+pub fn read_verdict<const S: usize, R: Read>(r: &mut R) -> Result<Multihash<S>, Error>
+    // Either the reader failed, once, and its error is the result; or it did not fail, the grammar assigns exactly one
+    // verdict to the rest, and that is the result.
+    ensures one { ((R.failures r.new ≡ R.failures r.old + 1) × IsErrAnd result IsReaderFault)
+        ⊎ ((R.failures r.new ≡ R.failures r.old) × IfSome (R.rest r.old)
+        (λ rest. (one : ExactlyOne (HasVerdict S rest)) × Answers result one.value)) }
+
+    // If more input could not change the verdict, the rest has exactly one shortest prefix that settles it,
+    // and exactly that was consumed.
+    ensures settled { IfSome (R.rest r.old) (λ rest. R.failures r.new ≡ R.failures r.old →
+        (v : Verdict) → HasVerdict S rest v → ¬ (IsEarlyEnd v) →
+        (front : ExactlyOne (IsShortestSettling S rest))
+        × Takes (Some rest) front.value (R.rest r.new)) }
+
+    // If more input could change it, or the reader failed, no prefix of what was consumed settles a verdict.
+    ensures unsettled { IfSome (R.rest r.old) (λ rest.
+        (R.failures r.old < R.failures r.new) ⊎ ((v : Verdict) × HasVerdict S rest v × IsEarlyEnd v) →
+        TakesNothingSettling S rest (R.rest r.new)) }
+{
+    laws::one_verdict();
+    laws::settles();
+    Multihash::read(r)
+}
+
+/// The encodings of two multihashes, and whether they are the same.
+#[derive(Drop)]
+pub struct Compared {
+    /// The encoding of the first.
+    pub first: Vec<u8>,
+    /// The encoding of the second.
+    pub second: Vec<u8>,
+    /// The result of [`Multihash::same_as`].
+    pub same: bool,
+}
+
+/// Compares two multihashes, whatever the capacities of their buffers.
+pub fn same<const A: usize, const B: usize>(
+    alloc: Global,
+    a: &Multihash<A>,
+    b: &Multihash<B>,
+) -> Result<Compared, Error>
+    // The vectors contain their encodings.
+    ensures first { IfOk result (λ x. IsEncoding (pair_of a.now) x.first.items) }
+    ensures second { IfOk result (λ x. IsEncoding (pair_of b.now) x.second.items) }
+
+    // They are the same exactly if their codes and digests are equal.
+    ensures same { IfOk result (λ x. IsTrue x.same ↔ (pair_of a.now ≡ pair_of b.now)) }
+
+    // They are the same exactly if their encodings are equal.
+    ensures alike { IfOk result (λ x. IsTrue x.same ↔ (x.first.items ≡ x.second.items)) }
+
+    // No encoding is a prefix of another: if one is, they are the same.
+    ensures begins { IfOk result (λ x. IsBeginning x.first.items x.second.items
+        ⊎ IsBeginning x.second.items x.first.items → IsTrue x.same) }
+
+    // The only error is out of memory.
+    ensures memory { IfErr result IsMemory }
+{
+    laws::prefix_free();
+    let first = a.to_bytes(alloc)?;
+    let second = b.to_bytes(alloc)?;
+    let same = a.same_as(b);
+    Ok(Compared {
+        first,
+        second,
+        same,
+    })
+}
+
+/// Writes a list to any writer, and reads it back from any reader, into values of the same capacity or of
+/// another.
+///
+/// `W.appended` is all that contracts know of what a writer did. Between a `&mut [u8]` and what is left of it any bytes
+/// of that length have been appended, so no reader meets the premise of `back`: `places::list_back` has a list that goes
+/// through a slice.
+pub fn list_through<const S: usize, const T: usize, W: Write, R: Read>(
+    alloc: Global,
+    items: &[Multihash<S>],
+    w: &mut W,
+    r: &mut R,
+) -> Result<Vec<Multihash<T>>, Error>
+    // The encodings of the items were appended, in order, or, at an error, a strict prefix of them.
+    ensures written { (bytes : List ℕ) × AreJoined (map pair_of items.now) bytes
+        × (W.appended w.old bytes w.new ⊎ (IsErr result × AppendsPart W.appended w.old bytes w.new)) }
+
+    // If the reader's input is what was appended and then `more`, and the digests fit the new capacity, the
+    // same pairs are read in order, and `more` is left. Otherwise memory ran out, the writer failed or was
+    // full, or the reader failed, once.
+    ensures back { (more : List ℕ) →
+        ((bytes : List ℕ) → W.appended w.old bytes w.new → R.rest r.old ≡ Some (bytes ++ more)) →
+        All (FitsBuffer T) (map pair_of items.now) →
+        MatchResult result (λ list. (map pair_of list.items ≡ map pair_of items.now)
+        × (R.rest r.new ≡ Some more))
+        (λ e. (IsMemory e ⊎ IsIo (IsWriterFaultOrFull W.allocates
+        (W.failures w.old) (W.failures w.new) (W.full w.new)) e)
+        ⊎ ((R.failures r.new ≡ R.failures r.old + 1) × IsReaderFault e)) }
+{
+    list::write_list(items, w)?;
+    list::read_list(alloc, r, items.len())
+}

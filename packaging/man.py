@@ -1,0 +1,94 @@
+#!/usr/bin/env python3
+"""Writes the man page multihash(3) to standard output: the comments and declarations of multihash.h.
+
+    packaging/man.py HEADER CHANGES    CHANGES has the date of the page
+"""
+import datetime
+import re
+import sys
+import textwrap
+
+FUNCTION = r"/\*((?:(?!\*/).)*)\*/\n(?:static inline )?(const char \*|\w+ )(multihash_\w+)\(([^()]*)\)"
+STRUCT = r"/\*((?:(?!\*/).)*)\*/\n(typedef struct .*?\} \w+;)"
+STATUS = r"/\*((?:(?!\*/).)*)\*/\s*(MULTIHASH_\w+) = \d+"
+CONSTANTS = r"/\*((?:(?!\*/).)*)\*/\n((?:#define MULTIHASH_\w+ [^\n]*\n)+)"
+
+
+def plain(comment):
+    """The text of a comment, without the marks at the front of its lines."""
+    return "\n".join(re.sub(r"^ \* ?", "", line) for line in comment.split("\n")).strip()
+
+
+def text(words):
+    """A paragraph: each sentence starts a line, and names are in italics."""
+    words = re.sub(r"`([^`]*)`", r"\\fI\1\\fP", re.sub(r"\s+", " ", words.replace("\\", "\\e")).strip())
+    how = {"width": 79, "break_long_words": False, "break_on_hyphens": False}
+    return "\n".join(textwrap.fill(sentence, **how) for sentence in re.split(r"(?<=\.) ", words))
+
+
+def literal(lines):
+    return [".Bd -literal", lines.rstrip("\n"), ".Ed"]
+
+
+def paragraphs(comment):
+    """The paragraphs of a comment; lines that begin with ' - ' are a list."""
+    made = []
+    for part in plain(comment).split("\n\n"):
+        first, *items = re.split(r"\n - ", part)
+        made += [".Pp", text(first)]
+        if items:
+            made += [".Bl -bullet", *(".It\n" + text(item) for item in items), ".El"]
+    return made
+
+
+def described(comment, name):
+    """The section of a function: what it does, what it returns, its errors."""
+    first, *parts = re.split(r"\n(Returns|Errors): +", plain(comment))
+    made = [".Ss " + name, text(first)]
+    if parts:
+        tagged = zip(parts[::2], parts[1::2])
+        made += [".Bl -tag -width Returns", *(".It %s\n%s" % (tag, text(words)) for tag, words in tagged), ".El"]
+    return made
+
+
+def prototype(kind, name, parameters):
+    quoted = "" if parameters == "void" else " ".join('"%s"' % " ".join(it.split()) for it in parameters.split(","))
+    return [".Ft " + kind.strip(), (".Fn %s %s" % (name, quoted or "void"))]
+
+
+def page(header, changes):
+    version = re.search(r'#define MULTIHASH_VERSION "([\d.]+)"', header)[1]
+    date = datetime.date.fromisoformat(re.search(r"^%s \(([\d-]+)\)$" % re.escape(version), changes, re.M)[1])
+    functions = re.findall(FUNCTION, header, re.S)
+    names = ["multihash", *(name for _, _, name, _ in functions)]
+    made = [".Dd %s %d, %d" % (date.strftime("%B"), date.day, date.year), ".Dt MULTIHASH 3", ".Os"]
+    made += [".Sh NAME", *(".Nm %s ," % name for name in names[:-1]), ".Nm " + names[-1]]
+    made += [".Nd decode and encode multihashes", ".Sh LIBRARY", "multihash_c, version %s:" % version]
+    made += [".Ql pkg-config --cflags --libs multihash_c", "prints the options for the compiler."]
+    made += [".Sh SYNOPSIS", ".In multihash.h"]
+    for _, kind, name, parameters in functions:
+        made += prototype(kind, name, parameters)
+    made += [".Sh DESCRIPTION", *paragraphs(re.match(r"/\*(.*?)\*/", header, re.S)[1])[1:], ".Ss Types and constants"]
+    for comment, declaration in [*re.findall(STRUCT, header, re.S), *re.findall(CONSTANTS, header, re.S)]:
+        made += [text(plain(comment)), *literal(declaration), ".Pp"]
+    del made[-1]
+    for comment, _, name, _ in functions:
+        made += described(comment, name)
+    made += [".Sh ERRORS", "The statuses are", ".Bl -tag -width Ds"]
+    made += [".It Dv %s\n%s" % (name, text(plain(comment))) for comment, name in re.findall(STATUS, header, re.S)]
+    made += [".El", ".Sh SEE ALSO", '.Lk https://multiformats.io/multihash/ "The multihash format"']
+    return "\n".join(made) + "\n"
+
+
+def main():
+    if len(sys.argv) != 3:
+        sys.exit(__doc__)
+    texts = []
+    for name in sys.argv[1:]:
+        with open(name, encoding="utf-8") as file:
+            texts.append(file.read())
+    sys.stdout.write(page(*texts))
+
+
+if __name__ == "__main__":
+    main()

@@ -1,0 +1,113 @@
+#!/usr/bin/env python3
+"""Compares the contracts, examples and commands in CALLING.md and README.md with the sources. The last line is 'N passed, M failed'.
+
+  check_pages.py            fails where a page says something else than the sources
+  check_pages.py --write    writes the contracts of the library's public functions into CALLING.md
+"""
+import re
+import subprocess
+import sys
+import textwrap
+from collections.abc import Iterator
+from pathlib import Path
+
+TOP = Path(__file__).resolve().parent.parent
+SOURCES = TOP / "crates" / "multihash" / "src"
+CALLING = TOP / "crates" / "multihash" / "CALLING.md"
+README = TOP / "README.md"
+# the files of the contracts in the order of the page, with the path of their functions
+MODULES = {"multihash": "", "binary": "", "compare": "", "scale": "", "json": "", "head": "", "error": "", "varint": "varint::", "list": "list::",
+           "no_std_io/error": "no_std_io::", "no_std_io/slice_writer": "no_std_io::", "laws": "laws::"}
+FIRST, LAST = "<!-- written by tools/check_pages.py -->\n", "<!-- to here -->\n"
+ITEM = re.compile(r"^impl(?:<[^>]*>)? (?P<owner>\w+)[^\n]*\{$|^ *pub (?:const )?fn (?P<name>\w+)", re.MULTILINE)
+SIGNATURE_END = re.compile(r"\n +(?=requires|ensures|//)|\s*\{\n|\s+\{")
+CLAUSE = re.compile(r"(?:\s|//[^\n]*\n)*(?P<kind>requires|ensures)(?: (?P<name>\w+))?\s*\{")
+WIDTH = 145
+
+
+def block_end(text: str, start: int) -> int:
+    """The index after the brace that closes the one before `start`."""
+    depth = 1
+    while depth:
+        depth += {"{": 1, "}": -1}.get(text[start], 0)
+        start += 1
+    return start
+
+
+def contracts(text: str, module: str) -> Iterator[str]:
+    """Each public function that has a contract: its signature, and a line for each clause."""
+    owner = ""
+    for item in ITEM.finditer(text):
+        if item["owner"]:
+            owner = item["owner"] + "::"
+            continue
+        owner = owner if item[0].startswith(" ") else ""
+        at = SIGNATURE_END.search(text, item.end()).start()
+        signature = " ".join(text[item.start("name"):at].split()).replace("( ", "(").replace(", )", ")")
+        lines = [f"{module}{owner}{signature}"]
+        while clause := CLAUSE.match(text, at):
+            at = block_end(text, clause.end())
+            body = " ".join(re.sub(r"//[^\n]*", "", text[clause.end():at - 1]).split())
+            label = "requires" if clause["kind"] == "requires" else clause["name"] or "ensures"
+            lines += textwrap.wrap(f"{label}: {body}", WIDTH, initial_indent="  ", subsequent_indent="      ", break_on_hyphens=False)
+        if len(lines) > 1:
+            short = " ".join(line.strip() for line in lines)
+            yield short if len(lines) == 2 and len(short) <= WIDTH else "\n".join(lines)
+
+
+def blocks(page: str, language: str) -> list[str]:
+    return [body for word, body in re.findall(r"^```(\w*)\n(.*?)^```$", page, re.MULTILINE | re.DOTALL) if word == language]
+
+
+def bare(line: str) -> str:
+    return line.strip().removeprefix("pub ").removesuffix(" {")
+
+
+def example_faults(page: str, sources: set[str]) -> Iterator[str]:
+    """Lines of the examples that are in no source of the crate `uses`."""
+    for line in "".join(blocks(page, "rust")).splitlines():
+        if not re.match(r"(ghost )?use |const SHA2_256|///", line.strip()) and bare(line) not in sources:
+            yield f"an example has a line that no source has: {line}"
+
+
+def command_faults(page: str) -> Iterator[str]:
+    """Runs the first command of the page: it prints what the page says, which is what the program's test demands."""
+    command = next(line for block in blocks(page, "sh") for line in block.splitlines() if "rt try" in line)
+    run = subprocess.run(["bash", "-c", command], cwd=TOP, capture_output=True, text=True)
+    wanted = (TOP / "crates" / "mh_show" / "stdout").read_text()
+    if run.returncode != 0 or run.stdout != wanted:
+        yield f"{command.split('#')[0].strip()}: status {run.returncode}, printed {run.stdout!r}, {run.stderr[-300:]!r}"
+    if wanted not in blocks(page, ""):
+        yield "README.md shows another output than the program's test demands"
+
+
+def contract_faults(made: list[str], found: str, wanted: str) -> Iterator[str]:
+    yield from (f"CALLING.md lacks, or has otherwise:\n{entry}" for entry in made if entry not in found)
+    if found != wanted:
+        yield "CALLING.md has other contracts than the sources: tools/check_pages.py --write writes them"
+
+
+def main() -> int:
+    made = [entry for name, module in MODULES.items() for entry in contracts((SOURCES / f"{name}.rt").read_text(), module)]
+    calling, readme = CALLING.read_text(), README.read_text()
+    before, rest = calling.split(FIRST)
+    found, after = rest.split(LAST)
+    wanted = "```text\n" + "\n".join(made) + "\n```\n"
+    if "--write" in sys.argv[1:]:
+        CALLING.write_text(before + FIRST + wanted + LAST + after)
+        return 0
+    sources = {bare(line) for path in (TOP / "crates" / "uses" / "src").glob("*.rt") for line in path.read_text().splitlines()} | {""}
+    checks = {
+        "the contracts in CALLING.md": list(contract_faults(made, found, wanted)),
+        "the examples in CALLING.md": list(example_faults(before, sources)),
+        "the examples in README.md": list(example_faults(readme, sources)),
+        "the command in README.md": list(command_faults(readme)),
+    }
+    for name, faults in checks.items():
+        print("\n".join([f"failed: {name}", *faults] if faults else [f"passed: {name}"]))
+    failed = sum(map(bool, checks.values()))
+    print(f"{len(checks) - failed} passed, {failed} failed")
+    return int(failed > 0)
+
+
+sys.exit(main())

@@ -1,0 +1,340 @@
+#!/usr/bin/env python3
+"""Tests mutants.py on a small repository: what counts as rejected, what a run tries, what it keeps, and what is unprotected.
+
+The prover judges in one run alone; the others have a stub in its place. The last line is 'N passed, M failed'.
+"""
+import os
+import re
+import subprocess
+import sys
+import tempfile
+import time
+from contextlib import contextmanager
+
+sys.dont_write_bytecode = True
+HERE = os.path.dirname(os.path.realpath(__file__))
+sys.path.insert(0, HERE)
+
+from prover import choice, edits, judge, sums, trial  # noqa: E402
+from prover.repository import read, write, write_all  # noqa: E402
+from prover.output import LIMIT, Finding  # noqa: E402
+
+SOURCE = """//! Sums, each with its value.
+#![tactic(auto)]
+
+ghost use Rattle.std.specs.Prelude.{◌≡◌, ◌+◌, ◌≤◌, length, take};
+ghost use Rattle.small.specs.Sum.{IsTwice, most};
+
+pub fn next(n: u8) -> u16 ensures value { result ≡ n + 1 } ensures bound { result ≤ 256 } {
+    n as u16 + 1
+}
+
+pub fn twice(n: u8) -> u16 ensures value { result ≡ n + n } ensures bound { result ≤ 510 } {
+    n as u16 + n as u16
+}
+
+/// Three times the number.
+pub fn thrice(n: u8) -> u16 ensures { result ≡ n + n + n } {
+    3 * (n as u16)
+}
+
+pub fn after_next(n: u8) -> u16 ensures value { result ≡ n + 2 } {
+    next(n) + 1
+}
+
+/// A buffer and the number of its bytes that are in use.
+pub struct Part<const N: usize> {
+    bytes: [u8; N],
+    len: usize,
+}
+
+impl<const N: usize> Part<N> {
+    pub fn used(&self) -> &[u8] requires { self.now.len ≤ N } ensures used { result.now ≡ take self.now.len self.now.bytes } {
+        &self.bytes[..self.len]
+    }
+}
+
+pub fn doubled(n: u8) -> u16 ensures value { IsTwice n result } ensures bound { result ≤ most } {
+    2 * (n as u16)
+}
+"""
+ANSWER = """use Rattle.std.proofs.Common.{{arith}}
+use Rattle.small.proofs.{function}.Goals as goal
+pub {goal} : goal.{goal}
+{goal} c = omega ({facts})
+"""
+SPECS = """use Rattle.std.specs.Prelude.{◌≡◌, ◌+◌, ℕ}
+-- the number twice
+abbrev pub IsTwice : ℕ → ℕ → Type 0
+IsTwice n sum = sum ≡ n + n
+-- the largest such number
+abbrev pub most : ℕ
+most = 510
+"""
+VECTORS = """use Rattle.std.proofs.Common.{refl}
+use Rattle.small.specs.Sum.{IsTwice}
+twice_seven : IsTwice 7 14
+twice_seven = refl
+"""
+ABOVE = """//! Sums of sums.
+#![tactic(auto)]
+
+ghost use Rattle.std.specs.Prelude.{◌≡◌, ◌+◌};
+
+pub fn thrice_and_one(n: u8) -> u16 ensures { result ≡ n + n + n + 1 } {
+    small::thrice(n) + 1
+}
+"""
+FILES = {
+    "HANDLES": "Handles allowed: none.\n",
+    "crates.txt": "small:\nabove: small\nunproved:\n",
+    "crates/small/src/lib.rt": SOURCE,
+    "crates/small/specs/Lib.antt": "pub mod Sum\n",
+    "crates/small/specs/Sum.antt": SPECS,
+    "crates/small/proofs/Lib.antt": "mod SumVectors\n",
+    "crates/small/proofs/SumVectors.antt": VECTORS,
+    "crates/small/proofs/next/Answers.antt": ANSWER.format(function="next", goal="returns-clause-value", facts="arith"),
+    "crates/small/proofs/after_next/Answers.antt": ANSWER.format(function="after_next", goal="returns", facts="arith, c.next.ensures.value"),
+    "crates/above/src/lib.rt": ABOVE,
+    "crates/above/mutants/lib.edits": "file: src/lib.rt\n\n# adds_two\nold: small::thrice(n) + 1\nnew: small::thrice(n) + 2\n",
+    "crates/unproved/src/lib.rt": ABOVE.replace("n + n + n + 1", "missing").replace("small::thrice(n) + 1", "n as u16"),
+    "crates/unproved/mutants/lib.edits": "file: src/lib.rt\n# adds_one\nold: n as u16\nnew: n as u16 + 1\n",
+}
+# Each mutant with the clauses that it breaks: the text of the source, what replaces it, and what is reported, if the prover judges it. The
+# first of a function are in one batch, in which `adds_in_front` is right and calls a function with a mutant; one of the second has no meaning.
+MUTANTS = {
+    "adds_two: breaks value, bound": ("n as u16 + 1", "n as u16 + 2", "passed: by a goal: small::next"),
+    "adds_two_more: breaks value": ("n as u16 + 1", "n as u16 + 3", "it is to break value alone, and these are open: bound; value"),
+    "halves": ("n as u16 + n as u16", "(n as u16 + n as u16) / 2", "passed: by a goal: small::twice"),
+    "names_nothing": ("n as u16 + n as u16", "n as u16 + missing", "no contract was tried"),
+    "turns": ("3 * (n as u16)", "(n as u16) * 3", ""),
+    "adds_in_front": ("next(n) + 1", "1 + next(n)", "NOT REJECTED"),
+    "calls_nothing": ("next(n) + 1", "n as u16 + 2", "rejected by names alone"),
+    "promises_more: breaks twice#value": ("result ≡ n + n }", "result ≡ n + n + 1 }", "passed: by a goal: alone"),
+    "is_not_there": ("n as u16 + n as u64", "n as u16", "cannot be applied"),
+    "shows_the_others": ("&self.bytes[..self.len]", "&self.bytes[self.len..]", "borrow checker"),
+    "half_of_it: breaks used": ("&self.bytes[..self.len]", "&self.bytes[..self.len / 2]", "passed: by a goal: small::Part::used"),
+    "adds_nothing: breaks value": ("next(n) + 1", "next(n)", ""),
+}
+# Mutants of definitions: rejected by the example, by the function alone, by nothing.
+DEFINITIONS = {
+    "one_more": ("sum ≡ n + n", "sum ≡ n + n + 1", "passed: by a goal: alone: proofs/SumVectors.antt"),
+    "one_less_at_most": ("most = 510", "most = 509", "no example and no lemma rejects it"),
+    "one_more_at_most": ("most = 510", "most = 511", "NOT REJECTED"),
+}
+# What is in a crate below and above, and the mutants whose sum changes where another text is there. `above` calls
+# `thrice` alone, so it reads no other contract of `small`, no body and no proof of one, but its definitions.
+READ = [
+    ("crates/small/src/lib.rt", "n as u16 + 1", "1 + n as u16", {"small/adds_two"}),
+    ("crates/small/src/lib.rt", "3 * (n as u16)", "(n as u16) * 3", set()),
+    ("crates/small/src/lib.rt", "/// Three times", "/// Thrice", set()),
+    ("crates/small/src/lib.rt", "result ≡ n + n + n }", "result ≡ 3 * n }", {"above/adds_two"}),
+    ("crates/small/src/lib.rt", "result ≤ 256", "result ≤ 257", {"small/adds_two", "small/adds_nothing"}),
+    ("crates/small/src/lib.rt", "    len: usize,", "    len: u64,", {"small/adds_two", "small/adds_nothing", "small/one_more", "above/adds_two"}),
+    ("crates/small/src/lib.rt", "◌≤◌, length", "◌<◌ as ◌≤◌, length", {"small/adds_two", "small/adds_nothing", "above/adds_two"}),
+    ("crates/small/specs/Sum.antt", "most = 510", "most = 500 + 10", {"small/adds_two", "small/adds_nothing", "small/one_more", "above/adds_two"}),
+    ("crates/small/specs/Sum.antt", "-- the largest", "-- a large", set()),
+    ("crates/small/proofs/next/Answers.antt", "omega (arith)", "omega (arith, arith)", {"small/adds_two"}),
+    ("crates/small/mutants/lib.edits", "# adds_nothing: breaks value", "# adds_nothing", {"small/adds_nothing"}),
+    ("crates/above/mutants/lib.edits", "+ 2", "+ 3", {"above/adds_two"}),
+    ("crates.txt", "above: small", "above: small hex", {"above/adds_two"}),
+]
+# Files of mutants that cannot be read, and what is reported of each.
+UNREAD = {
+    "half.edits": ("# half\nold: 3 * (n as u16)\n", "small/half: .* it has no 'old:' and 'new:' pair.*"),
+    "one.text": ("# one\n", "small/one.text: .* or its name does not end in .edits"),
+    "none.edits": ("file: src/lib.rt\nold: 3 * (n as u16)\nnew: 4\n", "small/none.edits: .* it names no mutant, .*"),
+    "twice.edits": ("file: src/lib.rt\n# halves\nold: 3 * (n as u16)\nnew: 4\n", "small/halves: .* another mutant of the crate has its name"),
+    "words.edits": ("file: src/lib.rt\n# words\nold: 3 * (n as u16)\nnew: 4\nmore\n", "small/words: .* a line is no .*"),
+}
+# Rows of covered.md, and what is wrong with each.
+ROWS = {
+    "twice#value, bound: needed by above::thrice_and_one": "",
+    "twice#value: follows from bound": "another row has twice#value",
+    "next#bound: needed by above::nothing": "there is no function above::nothing",
+    "thrice#thrice: needed by the callers": "a reason names no function",
+    "doubled#value: rejected by must-fail/none.edit": "there is no file must-fail/none.edit",
+    "doubled#size: follows from value": "there is no clause doubled#size",
+    "Part::used#used: follows from value": "the mutant half_of_it breaks Part::used#used",
+    "doubled#bound follows from value": "a row is not",
+}
+# A prover that proves everything but a line that differs from the repository's, which it finds beside the copy's.
+STUB = """#!/usr/bin/env python3
+import os, sys
+here = os.getcwd()
+old = [open(f"%s/crates/{os.path.basename(here)}/src/lib.rt").read().split("\\n"), open("src/lib.rt").read().split("\\n")] if sys.argv[1] == "check" else []
+lines = [at for at, its in enumerate(zip(*old), 1) if its[0] != its[1] and "* 3" not in its[1]]
+print("\\n".join(["kit"] + [f"fn small::{it}: proved" for it in ("next", "twice", "thrice", "after_next", "Part::used")] +
+    [f"note: src/lib.rt:{at}:1: it is not proved that `returns-clause-value`" for at in lines]))
+print("logic=not-proved" if lines else "logic=proved")
+sys.exit(1 if lines else 0)
+"""
+
+
+def lay_out(root, names):
+    """Writes the repository with the small crate's mutants of these names, and the number of all."""
+    write_all(root, FILES)
+    for path, its in (("src/lib.rt", MUTANTS), ("specs/Sum.antt", DEFINITIONS)):
+        texts = "".join(f"\n# {it}\nold: {its[it][0]}\nnew: {its[it][1]}\n" for it in its if it.partition(":")[0] in names)
+        if texts:
+            write(f"{root}/crates/small/mutants/{os.path.basename(path).partition('.')[0]}.edits", f"file: {path}\n{texts}")
+    write(f"{root}/tools/mutants.count", f"{len(names) + 2}\n")
+
+
+@contextmanager
+def another(root, path, old, new):
+    text = read(f"{root}/{path}")
+    assert old in text, f"{path} has no text {old}"
+    write(f"{root}/{path}", text.replace(old, new, 1))
+    yield
+    write(f"{root}/{path}", text)
+
+
+def git(root, day, *words):
+    """Runs git as if it were that day."""
+    when = {f"GIT_{who}_DATE": f"2020-01-{day:02} 12:00:00 +0000" for who in ("AUTHOR", "COMMITTER")}
+    who = ["-c", "user.name=nobody", "-c", "user.email=nobody@localhost"]
+    return subprocess.run(["git", *who, *words], cwd=root, env={**os.environ, **when}, check=True, capture_output=True, text=True).stdout.strip()
+
+
+def commit(root, day):
+    git(root, day, "init", "-q")
+    git(root, day, "add", "-A")
+    git(root, day, "commit", "-q", "--allow-empty", "-m", "one more")
+    return git(root, day, "rev-parse", "HEAD")
+
+
+def run(root, *words, stub=True, allow=True):
+    """Runs the tool, and returns its status and what it printed. Clauses that nothing protects are allowed, unless they are to fail."""
+    write(f"{root}/bin/rt", STUB % root)
+    os.chmod(f"{root}/bin/rt", 0o755)
+    command = [sys.executable, f"{HERE}/mutants.py", "--root", root, "--proved", f"{root}/proved", *["--allow-unprotected"] * allow, *words]
+    ran = subprocess.run(command, capture_output=True, text=True, env={**os.environ, "XDG_CACHE_HOME": f"{root}/cache", "PATH": f"{root}/bin:" * stub + os.environ["PATH"]})
+    return ran.returncode, ran.stdout + ran.stderr
+
+
+def lacks(output, *lines):
+    """Returns what a run should have printed and did not."""
+    return [f"not printed: {it}, but {output[-900:]}" for it in lines if not re.search(rf"(?m)^{it}$", output)]
+
+
+def mutants_of(root):
+    tree = sums.Tree(root, "one")
+    return tree, {it.label: it for crate in tree.crates for it in edits.edits_in(crate, f"{root}/crates/{crate}")[0]}
+
+
+def check_prover(root):
+    """Each mutant, of bodies and of definitions, is reported for what it is, and a crate that is not proved fails."""
+    wanted = {name.partition(":")[0]: why for name, (_, _, why) in {**MUTANTS, **DEFINITIONS}.items() if why}
+    lay_out(root, wanted)
+    status, output = run(root, "--all", "small", "unproved", stub=False)
+    passes, wrong = sum(why.startswith("passed") for why in wanted.values()), [] if status == 1 else [f"status {status}"]
+    for name, why in wanted.items():
+        lines = "; ".join(f"{how}: {what}" for how, what in re.findall(rf"(?m)^(passed|FAILED): small/{name}: (.*)$", output))
+        wrong += [] if why in lines else [f"{name}: {lines or 'nothing'}, and not {why}"]
+    wrong += lacks(output, f"# rejected by a goal {passes}, by a limit 0", f"{passes} passed, {len(wanted) - passes + 1} failed")
+    return wrong + lacks(output, "FAILED: unproved: it is not proved without a mutant: .*")
+
+
+def check_since(root):
+    """A run tries what changed since a commit and is not kept, and what it draws; it begins at the newest commit that is a day older."""
+    lay_out(root, ["adds_two", "halves", "turns", "adds_nothing"])
+    found = ["there is a base without a commit"] if choice.base_of(root, "") else []
+    commits = [commit(root, day) for day in (1, 3, 4, 4)]
+    bases = [choice.base_of(root, ""), choice.base_of(root, "HEAD~1")]
+    found += [] if bases == [commits[0], commits[2]] else [f"the bases of {commits} are {bases}"]
+    with another(root, "crates/small/src/lib.rt", "result ≡ n + n + n }", "result ≡ 3 * n }"):
+        output = run(root, "--since", "HEAD", "--draw", "1", "--seed", "a")[1]
+        found += lacks(output, "# 6 stored; 2 changed since .*; 0 of these kept from earlier runs", "# 2 drawn by the seed a; 4 to be tried", "3 passed, 1 failed")
+        output = run(root, "--since", "HEAD", "--draw", "0")[1]
+        found += lacks(output, "# 6 stored; 2 changed since .*; 1 of these kept from earlier runs", "FAILED: small/turns: NOT REJECTED.*", "1 passed, 1 failed")
+        status, output = run(root, "above/adds_two", "--proved", f"{root}/none")
+        found += lacks(output, "passed: above/adds_two: kept: by a goal: .*", "1 passed, 0 failed") + ([] if status == 0 else [f"status {status}"])
+    return found + (["a run in which all is kept proves a copy"] if os.path.exists(f"{root}/none") else [])
+
+
+def check_faults(root):
+    """What is wrong with the files of mutants and of covered clauses is red in a plain run, as is what changed; other clauses are unprotected."""
+    lay_out(root, ["adds_two", "adds_two_more", "is_not_there", "halves", "half_of_it"])
+    commit(root, 1)
+    os.remove(f"{root}/crates/above/mutants/lib.edits")
+    write_all(f"{root}/crates/small/mutants", {name: text for name, (text, _) in UNREAD.items()})
+    write(f"{root}/crates/small/mutants/covered.md", "# a comment\n\n" + "\n".join(ROWS) + "\n")
+    with another(root, "crates/small/mutants/lib.edits", "breaks value\n", "breaks values\n"):
+        status, output = run(root, "--draw", "0")
+    wanted = ["tools/mutants.count: it says 7, and there are 11: .*", "small/is_not_there: it cannot be applied: .* 0 times, and not once",
+              "small/adds_two_more: it is to break values, and there is no such clause", *[why for _, why in UNREAD.values()]]
+    wanted += [f"crates/small/mutants/covered.md: {why}.*" for why in ROWS.values() if why]
+    found = lacks(output, *[f"FAILED: {it}" for it in wanted], f"0 passed, {len(wanted) + 1} failed") + ([] if status == 1 else [f"status {status}"])
+    found += lacks(run(root, "--draw", "0", allow=False)[1], "FAILED: small::after_next#value: no mutant breaks it by itself, .*")
+    lines = [it for it in run(root, "--unprotected", "small")[1].split("\n") if it.startswith("small::")]
+    return found + ([] if lines == ["small::after_next#value", "small::doubled#bound"] else [f"unprotected are {lines}"])
+
+
+def check_sums(root):
+    """The sum of a mutant is another exactly where its check reads another text."""
+
+    def sums_now():
+        tree, its = mutants_of(root)
+        return {label: tree.sum_of(it) for label, it in its.items() if it.crate != "unproved"}
+
+    lay_out(root, ["adds_two", "adds_nothing", "one_more"])
+    was, found = sums_now(), []
+    for path, old, new, wanted in READ:
+        with another(root, path, old, new):
+            now = sums_now()
+        changed = {it for it in was if now.get(it) != was[it]}
+        found += [] if changed == wanted else [f"{path}: {new}: other sums for {sorted(changed)}, and not for {sorted(wanted)}"]
+    return found
+
+
+def check_store(root):
+    """What is kept serves the same sum alone, and is not kept where a file was edited meanwhile, nor where others may write."""
+    lay_out(root, ["adds_two"])
+    os.environ["XDG_CACHE_HOME"] = f"{root}/cache"
+
+    def store_and_mutant():
+        tree, its = mutants_of(root)
+        return choice.Store(tree), its["above/adds_two"]
+
+    store, mutant = store_and_mutant()
+    with another(root, "crates/small/src/lib.rt", "3 * (n", "4 * (n"):
+        store.keep(mutant, "its reason")
+    found = ["what was found while a file was edited is kept"] if store.find(mutant) else []
+    store.keep(mutant, "its reason")
+    found += [] if store.find(mutant) == "its reason" else ["what was kept is not found"]
+    with another(root, "crates/small/src/lib.rt", "result ≡ n + n + n }", "result ≡ 3 * n }"):
+        other, its = store_and_mutant()
+        found += ["what was kept serves another contract below"] if other.find(its) else []
+    os.chmod(f"{root}/cache/multihash-mutants", 0o777)
+    return found + (["a folder that others may write into is read"] if store_and_mutant()[0].find(mutant) else [])
+
+
+def check_report(root):
+    """A limit of the prover breaks no clause, and is counted apart; a long run says how far it is."""
+    lay_out(root, ["adds_nothing", "halves"])
+    (tree, its), report, lines = mutants_of(root), trial.Report(), []
+    report.say = lambda text, label="": (report.waiting.discard(label), lines.append(text))
+    limit, one = Finding("src/lib.rt", 1, f"not proved: (`returns-clause-value`); `search` {LIMIT}", False), judge.Judge(root, choice.Store(tree), report)
+    with report.each_interval(its, 1, 0.05):
+        one.judge(its["small/adds_nothing"], [limit], "here")
+        time.sleep(0.5)
+        one.judge(its["small/halves"], [limit], "here")
+    found = [] if report.failed == ["small/adds_nothing"] and report.passed[0].startswith(judge.BY_LIMIT) else ["a limit breaks a clause"]
+    return found + lacks("\n".join(lines), "# 1 tried, 3 left, about 0.8 minutes left after the proofs of the crates")
+
+
+def main():
+    passed = failed = 0
+    with tempfile.TemporaryDirectory(prefix="small-") as root:
+        for check in (check_sums, check_store, check_report, check_faults, check_since, check_prover):
+            found = check(f"{root}/{check.__name__}")
+            passed, failed = passed + (not found), failed + bool(found)
+            for it in found:
+                print(f"failed: {check.__name__}: {it}", flush=True)
+    print(f"{passed} passed, {failed} failed")
+    return 1 if failed else 0
+
+
+if __name__ == "__main__":
+    sys.exit(main())
