@@ -92,7 +92,7 @@ includes_header() {
 test_targets() {
   local option
   try "the header for x86-64" includes_header cc
-  for option in -m32 -mx32; do
+  for option in -m32 -mx32 -U__ELF__; do
     try "the header with $option" rejects "is built for" includes_header cc "$option"
   done
   has "the header for aarch64" aarch64-linux-gnu-gcc || return
