@@ -65,7 +65,10 @@ def bare(line: str) -> str:
 
 def example_faults(page: str, sources: set[str]) -> Iterator[str]:
     """Lines of the examples that are in no source of the crate `uses`."""
-    for line in "".join(blocks(page, "rust")).splitlines():
+    examples = blocks(page, "rust")
+    if not examples:
+        yield "it has no example"
+    for line in "".join(examples).splitlines():
         if not re.match(r"(ghost )?use |const SHA2_256|///", line.strip()) and bare(line) not in sources:
             yield f"an example has a line that no source has: {line}"
 

@@ -1,7 +1,7 @@
-#!/bin/sh
+#!/usr/bin/env bash
 # Counts the instructions of each call that crates/multihash_c/c_test/count.c makes, and prints the counts of the table
 # "From C" of docs/SPEED.md. The calls are made from C, of the library as `rt lib` builds it.
-set -eu
+set -euo pipefail
 
 # An operation is run with two counts of calls: the difference leaves out what comes before and after them.
 fewer=1000
@@ -19,7 +19,7 @@ fi
 
 collected() {
     valgrind --tool=callgrind --callgrind-out-file=/dev/null "$work/count" "$@" 2>&1 >/dev/null |
-        sed -n 's/.*Collected : //p'
+        sed -n 's/.*Collected : //p' | grep .
 }
 
 (cd "$crate" && rt lib) >"$work/log" 2>&1 || { cat "$work/log" >&2; exit 1; }

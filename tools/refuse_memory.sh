@@ -111,13 +111,14 @@ names_of() {
 
 # Runs the tests of one crate, and prints a line for each.
 try_crate() {
-  local crate=$1 out=$folder/$1 program=crates/$1/out/$1_tests name wanted fatal
+  local crate=$1 out=$folder/$1 program=crates/$1/out/$1_tests name test wanted fatal
   names_of "$crate" > "$out.names"
   grep -oE '(refused_\w+|\w+_no_memory)$' "$out.names" | while read -r name; do
     tests "$crate" | grep -q "^$name " || echo "failed: $crate: $name is in no list"
   done
   while read -r name wanted fatal; do
-    runs_of "$program" "$(grep -E "(^|::)$name\$" "$out.names")" "$out" > "$out.runs"
+    test=$(grep -E "(^|::)$name\$" "$out.names") || { echo "failed: $crate: there is no test $name"; continue; }
+    runs_of "$program" "$test" "$out" > "$out.runs"
     judge "$crate $name" "$wanted" "${fatal:-$wanted}" "$out.runs"
   done < <(tests "$crate")
 }

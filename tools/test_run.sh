@@ -1,5 +1,6 @@
 #!/usr/bin/env bash
-# Tests .ci/run over stubs: in a copy 'rt' and each part are scripts of one line. The last line is 'N passed, M failed'.
+# Tests .ci/run over stubs: in a copy 'rt' and each part are scripts of one line; and that tools/check lists each part.
+# The last line is 'N passed, M failed'.
 set -u
 cd "$(dirname "$0")/.." || exit 2
 top=$PWD
@@ -70,7 +71,11 @@ try not_executable 1 "$red" "" "chmod -x tools/mutants.py"
 try fails 1 "$red" "" "stub tools/mutants.py 'echo 3 passed, 1 failed'"
 try has_status_1 1 "$red" "" "stub tools/mutants.py '$sound; exit 1'"
 try missing 1 "$red" "" "rm tools/mutants.py"
-for part in $parts; do try "emptied_$part" 1 "$part +FAILED .*" "" ": > tools/$part"; done
+for part in $parts; do
+  try "emptied_$part" 1 "$part +FAILED .*" "" ": > tools/$part"
+  started=$((started + 1)) && mkdir "$work/listed_$part"
+  grep -q " tools/$part " tools/check && echo passed > "$work/listed_$part/result" || echo "failed: tools/check does not list $part"
+done
 wait
 passed=$(cat "$work"/*/result | wc -l)
 echo "$passed passed, $((started - passed)) failed"
