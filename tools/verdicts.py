@@ -1,16 +1,12 @@
 #!/usr/bin/env python3
-"""Makes the test vectors that crates/vectors replays, and compares the stored ones with what it makes.
+"""Makes the test vectors that crates/vectors replays, and prints them. tools/check_verdicts.sh compares the stored ones with them.
 
 It computes each result from the rules of docs/FORMAT.md by itself and calls nothing of the library.
 
-    tools/verdicts.py > FILE                      the stored list, computed and drawn anew
-    tools/verdicts.py --bits 62 > FILE            the same for codes below 2^62
-    tools/verdicts.py --seed 7 --count 5000 > FILE      another draw
-    tools/verdicts.py --check [FILE]              compares; the last line is 'N passed, M failed'
+    tools/verdicts.py [LIST]    LIST is the list that has the inputs from outside, by default the stored one
 
-The inputs are those of the first lines of the stored list, which came from outside, and after them `--count` inputs that are drawn by
-the seed. No input stands twice with one size of buffer."""
-import argparse
+The inputs are those of the first lines of the list, which came from outside, and after them some that are drawn by a seed. No input
+is there twice with one size of buffer."""
 import hashlib
 import random
 import re
@@ -22,6 +18,8 @@ STORED = TOP / "crates" / "vectors" / "data" / "verdicts.tsv"
 BOUND = TOP / "crates" / "multihash" / "specs" / "Varint.antt"
 COLUMNS = ("S", "input", "read", "read_taken", "from_bytes", "scale_decode", "scale_taken")
 
+SEED = 20
+DRAWN = 3000
 # The number of stored lines that came from outside, and the SHA-256 of their sizes and inputs, which no bound changes.
 FROM_OUTSIDE = 3000
 OUTSIDE_SHA256 = "295042049837f3cd1c893ce5238a82627e5b67977d12fb7fa61d41cd0c66e8de"
@@ -32,8 +30,8 @@ SCALE_CODE = 8
 SCALE_HEAD = 9
 
 Input = tuple[int, bytes]
-# A result, and the number of bytes that determine it, if that is not the number of all bytes.
-Result = tuple[str, int | None]
+# A result, and the number of bytes that determine it, 0 if more bytes can change it.
+Result = tuple[str, int]
 
 
 class Rules:
@@ -44,8 +42,8 @@ class Rules:
         self.max_continuation = (bits - 1) // 7
         self.last_byte_limit = 1 << (bits - 7 * self.max_continuation)
 
-    def varint(self, data: bytes) -> tuple[int | str, int | None]:
-        """Returns the number of the varint at the front of the bytes, and its length; or the error, and how many bytes show it."""
+    def varint(self, data: bytes) -> tuple[int | str, int]:
+        """Returns the number of the varint at the front of the bytes, and its length; or the error, and how many bytes determine it."""
         number = 0
         for at, byte in enumerate(data):
             if at == self.max_continuation and byte >= self.last_byte_limit:
@@ -55,21 +53,21 @@ class Rules:
             number += (byte & 127) << (7 * at)
             if byte < 128:
                 return number, at + 1
-        return "insufficient", None
+        return "insufficient", 0
 
     def read(self, size: int, data: bytes) -> Result:
         code, code_end = self.varint(data)
         if isinstance(code, str):
             return code, code_end
         length, length_end = self.varint(data[code_end:])
-        end = None if length_end is None else code_end + length_end
+        end = length_end and code_end + length_end
         if isinstance(length, str):
             return length, end
         if length > min(size, LONGEST_DIGEST):
             return f"invalid_size {length}", end
         digest = data[end : end + length]
         if len(digest) < length:
-            return "unexpected_eof", None
+            return "unexpected_eof", 0
         return pair(code, digest), end + length
 
     def from_bytes(self, size: int, data: bytes) -> str:
@@ -79,23 +77,24 @@ class Rules:
 
     def scale_decode(self, size: int, data: bytes) -> Result:
         if len(data) < SCALE_CODE:
-            return "unexpected_eof", None
+            return "unexpected_eof", 0
         code = int.from_bytes(data[:SCALE_CODE], "little")
         if code >= self.limit:
             return f"invalid_code {code}", SCALE_CODE
         if len(data) < SCALE_HEAD:
-            return "unexpected_eof", None
+            return "unexpected_eof", 0
         length = data[SCALE_CODE]
         if length > size:
             return f"invalid_size {length}", SCALE_HEAD
         digest = data[SCALE_HEAD : SCALE_HEAD + length]
         if len(digest) < length:
-            return "unexpected_eof", None
+            return "unexpected_eof", 0
         return pair(code, digest), SCALE_HEAD + length
 
     def line(self, size: int, data: bytes) -> str:
-        fields = (size, hexadecimal(data), *self.read(size, data), self.from_bytes(size, data), *self.scale_decode(size, data))
-        return "\t".join("-" if it is None else str(it) for it in fields)
+        (read, read_taken), (scale, scale_taken) = self.read(size, data), self.scale_decode(size, data)
+        fields = (size, hexadecimal(data), read, read_taken or "-", self.from_bytes(size, data), scale, scale_taken or "-")
+        return "\t".join(map(str, fields))
 
 
 def hexadecimal(data: bytes) -> str:
@@ -231,58 +230,24 @@ class Draw:
 
 def stated_bits() -> int:
     """Returns the bound on numbers that the definitions state."""
-    return int(re.search(r"^varint_limit = 2 \^ (\d+)$", BOUND.read_text("utf-8"), re.M)[1])
+    [bits] = re.findall(r"(?m)^varint_limit = 2 \^ (\d+)$", BOUND.read_text("utf-8"))
+    return int(bits)
 
 
-def rows(path: Path) -> list[str]:
-    """Returns the lines of a list, without its head."""
-    lines = path.read_text("utf-8").splitlines()
-    if not lines or lines[0] != "\t".join(COLUMNS):
-        sys.exit(f"{path}: other columns")
-    return lines[1:]
-
-
-def made(lines: list[str], options: argparse.Namespace) -> list[str]:
-    """Returns the list that the options and the inputs from outside make."""
-    columns = [line.split("\t")[:2] for line in lines[:FROM_OUTSIDE]]
+def inputs_from_outside(path: Path) -> list[Input]:
+    columns = [line.split("\t")[:2] for line in path.read_text("utf-8").splitlines()[1 : FROM_OUTSIDE + 1]]
     text = "".join(f"{size}\t{data}\n" for size, data in columns)
     if hashlib.sha256(text.encode()).hexdigest() != OUTSIDE_SHA256:
-        sys.exit(f"the first {FROM_OUTSIDE} inputs are not those that came from outside")
-    entries = [(int(size), b"" if data == "-" else bytes.fromhex(data)) for size, data in columns]
-    rules = Rules(options.bits)
-    drawn = Draw(options.seed, options.bits, rules).inputs(options.count, set(entries))
-    return [rules.line(size, data) for size, data in entries + drawn]
+        sys.exit(f"{path}: the first {FROM_OUTSIDE} inputs are not those that came from outside")
+    return [(int(size), b"" if data == "-" else bytes.fromhex(data)) for size, data in columns]
 
 
-def check(lines: list[str], options: argparse.Namespace) -> bool:
-    """Compares each line with the one that is made, and returns whether all are equal."""
-    wanted = made(lines, options)
-    failed = abs(len(wanted) - len(lines))
-    if failed:
-        print(f"{len(lines)} lines are stored, {len(wanted)} are made")
-    for number, (line, want) in enumerate(zip(lines, wanted), 2):
-        if line != want:
-            failed += 1
-            print(f"line {number}\n  stored {line}\n  made   {want}")
-    passed = max(len(wanted), len(lines)) - failed
-    print(f"{passed} passed, {failed} failed")
-    return failed == 0 and passed > FROM_OUTSIDE
-
-
-def main() -> int:
-    parser = argparse.ArgumentParser(description=__doc__, formatter_class=argparse.RawDescriptionHelpFormatter)
-    parser.add_argument("--bits", type=int, default=stated_bits(), help="codes are below 2 to this power, 16 to 64; by default that of specs/Varint")
-    parser.add_argument("--seed", type=int, default=20)
-    parser.add_argument("--count", type=int, default=3000, help="how many inputs are drawn")
-    parser.add_argument("--check", nargs="?", type=Path, const=STORED, metavar="FILE", help="compare the list with what is made")
-    options = parser.parse_args()
-    if not 16 <= options.bits <= 64:
-        parser.error("the bound is from 2^16 to 2^64")
-    if options.check:
-        return 0 if check(rows(options.check), options) else 1
-    print("\t".join(COLUMNS), *made(rows(STORED), options), sep="\n")
-    return 0
+def main() -> None:
+    bits = stated_bits()
+    rules, entries = Rules(bits), inputs_from_outside(Path(*sys.argv[1:]) if sys.argv[1:] else STORED)
+    entries += Draw(SEED, bits, rules).inputs(DRAWN, {*entries})
+    print("\t".join(COLUMNS), *(rules.line(size, data) for size, data in entries), sep="\n")
 
 
 if __name__ == "__main__":
-    sys.exit(main())
+    main()
