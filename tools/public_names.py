@@ -25,17 +25,16 @@ HEAD = re.compile(
 # A text that is added to a crate's first file, and the names that it adds; none where it has to fail.
 PLANTED = {
     "pub fn more() -> u8\n    ensures { result ≡ 0 }\n{\n    0\n}\nfn less() {}\n": {"fn more"},
-    "mod inner {\n    pub struct One {\n        pub part: u8,\n        other: u8,\n    }\n}\npub use self::inner::{One as Two};\n":
-        {"struct Two", "Two.part"},
+    "pub struct One {\n    pub part: u8,\n    other: u8,\n}\npub use self::One as Two;\n":
+        {"struct One", "One.part", "struct Two", "Two.part"},
     "#[derive(Copy)]\npub enum Two {\n    One(u8),\n}\nimpl Two {\n    pub fn max(&self) {}\n}\n":
         {"enum Two", "Two::One", "Two: Copy", "Two::max"},
     "pub trait Three: Copy {\n    fn three(&self) -> u8;\n}\nimpl Three for u8 {}\n": {"trait Three", "Three::three", "u8: Three"},
     "pub use crate::missing::More;\n": None,
     "pub fn more() {\n": None,
-    "}\n": None,
-    "more! { }\n": None,
-    "pub mod more { pub fn more() {} }\n": None,
+    "pub mod more {\n    pub fn more() {}\n}\n": None,
 }
+Names = tuple[str, ...]
 
 
 class Unread(Exception):
@@ -51,50 +50,17 @@ class Item:
 
 @dataclass
 class Module:
-    above: "Module | None" = None
+    """What a file has: items; names that it uses, each with its path and whether for others too; impls as trait, type, public members."""
+
     items: dict[str, Item] = field(default_factory=dict)
-    inner: dict[str, "Module"] = field(default_factory=dict)
-    uses: dict[str, tuple[list[str], bool]] = field(default_factory=dict)
-    # the trait, the type and the public members
+    uses: dict[str, tuple[Names, bool]] = field(default_factory=dict)
     impls: list[tuple[str, str, list[str]]] = field(default_factory=list)
-
-    def module(self, name: str) -> "Module":
-        return self.inner.setdefault(name, Module(self))
-
-    def find(self, path: list[str]) -> "tuple[Module, str] | None":
-        """Returns where the item stands that a path names from here, and its name; none where it is another crate's."""
-        first, *rest = path
-        if first in ("crate", "self", "super"):
-            at = self
-            while at.above and first != "self":
-                at, first = at.above, "self" if first == "super" else first
-            return at.find(rest) if rest else None
-        if first in self.items:
-            return self.inner[first].find(rest) if rest else (self, first)
-        used = self.uses.get(first, (path, False))[0]
-        return self.find(used + rest) if used[0] != first else None
-
-    def public(self, to: str = "") -> "Iterator[tuple[str, Module, str]]":
-        """Returns the path of each public item, and where it stands."""
-        its = [(name, (self, name)) for name, it in self.items.items() if it.is_public]
-        its += [(name, self.find(path)) for name, (path, is_public) in self.uses.items() if is_public]
-        for name, found in its:
-            if not found:
-                raise Unread(f"{to}{name} is another crate's, or there is none")
-            yield to + name, *found
-            if found[0].items[found[1]].kind == "mod":
-                yield from found[0].inner[found[1]].public(f"{to}{name}::")
-
-    def all(self) -> "Iterator[Module]":
-        yield self
-        for it in self.inner.values():
-            yield from it.all()
 
 
 def chunks(text: str) -> Iterator[str]:
     """Returns the items of a text: each begins at a line that is not indented, and its brackets are closed."""
     for it in re.findall(r"[^\n]+\n(?:[ (){}\]][^\n]*\n)*", text):
-        if any(it.count(one) != it.count(other) for one, other in ("()", "{}", "[]")):
+        if any(it.count(pair[0]) != it.count(pair[1]) for pair in ("()", "{}", "[]")):
             raise Unread(f"its brackets are not closed: {it[:90]}")
         yield it
 
@@ -105,32 +71,30 @@ def body_of(chunk: str) -> str:
     return textwrap.dedent("\n".join(chunk[: chunk.rindex("}")].splitlines()[1:]) + "\n").lstrip("\n") if "{\n" in chunk else ""
 
 
-def read_use(module: Module, before: list[str], text: str, is_public: bool) -> None:
-    head, brace, inside = text.partition("{")
-    path = [*before, *re.findall(r"\w+|\*", head)]
-    if brace:
-        for part in filter(str.strip, inside.rpartition("}")[0].split(",")):
-            read_use(module, path, part, is_public)
-        return
-    if is_public and path[-1] == "*":
-        raise Unread(f"all of a module is public: {text}")
-    path = path[:-1] if path[-1] == "self" else path
-    module.uses[path[-1]] = path[:-2] if "as" in path else path, is_public
+def read_use(module: Module, text: str, is_public: bool) -> None:
+    """Reads what a `use` names: one path, or several below one."""
+    found = re.fullmatch(r"([\w:]+?)(?:::\{([\w\s,]*)\}| as (\w+))?;\n", text)
+    if not found and is_public:
+        raise Unread(f"not read: {text[:90]}")
+    if found:
+        path, names = tuple(found[1].split("::")), re.findall(r"\w+", found[2] or "")
+        named = {it: path if it == "self" else (*path, it) for it in names} if names else {found[3] or path[-1]: path}
+        module.uses.update({path[-1] if name == "self" else name: (it, is_public) for name, it in named.items()})
 
 
-def read_parts(kind: str, text: str) -> Iterator[str]:
+def parts_of(kind: str, text: str) -> Iterator[str]:
     """Returns the public fields of a struct, or the cases of an enum."""
-    for chunk in chunks(text):
-        found = re.match(r"(pub )?(pub\(\w+\) )?((?:ghost )?\w+)(?:[,(:]|\n| \{)", chunk)
-        if not found and not chunk.startswith("#"):
+    for chunk in (it for it in chunks(text) if not it.startswith("#")):
+        found = re.match(r"(pub )?(?:pub\(\w+\) )?((?:ghost )?\w+)(?:[,(:]|\n| \{)", chunk)
+        if not found:
             raise Unread(f"no field and no case: {chunk[:90]}")
-        if found and (found[1] or kind == "enum"):
-            yield f"::{found[3]}" if kind == "enum" else f".{found[3]}"
+        if found[1] or kind == "enum":
+            yield f"{'::' if kind == 'enum' else '.'}{found[2]}"
 
 
-def read(module: Module, text: str) -> Module:
-    """Reads a text, without its comments and strings, into a module."""
-    attributes = ""
+def read(text: str) -> Module:
+    """Reads a text without comments and strings."""
+    module, attributes = Module(), ""
     for chunk in chunks(text):
         if chunk.startswith("#"):
             attributes += chunk
@@ -139,55 +103,81 @@ def read(module: Module, text: str) -> Module:
         if not found:
             raise Unread(f"not read: {chunk[:90]}")
         is_public, kind, rest = bool(found[1]), found[2] or found[4], found[3] or found[5]
-        name = re.match(r"\W*(\w+)", rest)[1]
-        derived = [f": {it}" for its in re.findall(r"derive\((.*?)\)", attributes) for it in re.findall(r"\w+", its)]
+        name = re.findall(r"\w+", rest)[0]
+        parts = [f": {it}" for its in re.findall(r"derive\((.*?)\)", attributes) for it in re.findall(r"\w+", its)]
         if kind == "use":
-            read_use(module, [], rest, is_public)
+            read_use(module, rest.lstrip(), is_public)
         elif kind == "impl":
             head = re.sub(r"^<(?:[^<>]|<[^<>]*>)*>", "", rest.partition("{")[0]).strip()
             trait, _, of = head.rpartition(" for ")
-            module.impls.append((trait, of, [it for it, member in read(Module(), body_of(chunk)).items.items() if member.is_public]))
-        elif kind == "trait":
-            module.items[name] = Item(kind, is_public, [f"::{it}" for it in read(Module(), body_of(chunk)).items])
-        elif kind == "mod":
-            module.items[name] = Item(kind, is_public, [])
-            read(module.module(name), body_of(chunk))
+            module.impls.append((trait, of, [it for it, member in read(body_of(chunk)).items.items() if member.is_public]))
+        elif kind == "mod" and "{" in rest:
+            raise Unread(f"a module in a file: {chunk[:90]}")
         elif kind != "ghost":
-            is_exported = "no_mangle" in attributes
-            parts = list(read_parts(kind, body_of(chunk))) if kind in ("struct", "enum") else []
-            module.items[rest.strip(" ;\n") if kind == "type" else name] = Item("extern" if is_exported else kind, is_public, derived + parts)
+            parts += parts_of(kind, body_of(chunk)) if kind in ("struct", "enum") else []
+            parts += [f"::{it}" for it in read(body_of(chunk)).items] if kind == "trait" else []
+            kind = "extern" if "no_mangle" in attributes else kind
+            module.items[rest.strip(" ;\n") if kind == "type" else name] = Item(kind, is_public, parts)
         attributes = ""
     return module
 
 
-def names_of(texts: dict[str, str]) -> list[str]:
-    """Returns the public names of a crate whose files below src/ have these texts."""
-    root, lines, paths = Module(), [], {}
-    for path, text in texts.items():
-        module = root
-        for name in path.removesuffix(".rt").split("/"):
-            module = module if name == "lib" else module.module(name)
-        text = re.sub(r'"(?:\\.|[^"\\])*"', '""', re.sub(r"[ \t]*//[^\n]*", "", text), flags=re.S)
-        try:
-            read(module, re.sub(r"'(?:\\[^']*|[^\\'])'|\n(?=\s*\n)", "", text).lstrip("\n"))
-        except Unread as error:
-            raise Unread(f"{path}: {error}") from None
-    for path, module, name in root.public():
-        paths.setdefault((id(module), name), []).append(path)
-        lines += [f"{module.items[name].kind} {path}", *(path + it for it in module.items[name].parts)]
-    for module in root.all():
-        lines += [f"extern {name}" for name, it in module.items.items() if it.kind == "extern"]
-        for trait, of, members in module.impls:
-            found = module.find(of.partition("<")[0].split("::"))
-            for path in paths.get((id(found[0]), found[1]), []) if found else [of]:
-                lines += [f"{path}: {trait}"] if trait else [f"{path}::{it}" for it in members]
-    return sorted(lines)
+class Crate:
+    """The modules of a crate by their paths."""
+
+    def __init__(self, texts: dict[str, str]) -> None:
+        self.modules: dict[Names, Module] = {}
+        for path, text in texts.items():
+            text = re.sub(r'"(?:\\.|[^"\\])*"', '""', re.sub(r"[ \t]*//[^\n]*", "", text), flags=re.S)
+            text = re.sub(r"'(?:\\[^']*|[^\\'])'|\n(?=\s*\n)", "", text).lstrip("\n")
+            try:
+                self.modules[() if path == "lib.rt" else tuple(path.removesuffix(".rt").split("/"))] = read(text)
+            except Unread as error:
+                raise Unread(f"{path}: {error}") from None
+
+    def find(self, at: Names, path: Names) -> Names | None:
+        """Returns the path from the crate of the item that a module names so; none where it is another crate's."""
+        first, *rest = path
+        if first in ("crate", "self", "super"):
+            return self.find({"crate": (), "self": at, "super": at[:-1]}[first], tuple(rest)) if rest else None
+        if first in self.modules[at].items:
+            return self.find((*at, first), tuple(rest)) if rest else (*at, first)
+        used = self.modules[at].uses.get(first, (path, False))[0]
+        return self.find(at, (*used, *rest)) if used[0] != first else None
+
+    def public(self, at: Names = (), to: str = "") -> Iterator[tuple[str, Names]]:
+        """Returns the public path of each public item, and where it is."""
+        its = [(name, (*at, name)) for name, it in self.modules[at].items.items() if it.is_public]
+        for name, (path, is_public) in self.modules[at].uses.items():
+            found = self.find(at, path) if is_public else None
+            if is_public and not found:
+                raise Unread(f"{to}{name} is another crate's, or there is none")
+            its += [(name, found)] if found else []
+        for name, where in its:
+            yield to + name, where
+            if self.item(where).kind == "mod":
+                yield from self.public(where, f"{to}{name}::")
+
+    def item(self, where: Names) -> Item:
+        return self.modules[where[:-1]].items[where[-1]]
+
+    def names(self) -> list[str]:
+        public, lines = [*self.public()], []
+        for path, where in public:
+            lines += [f"{self.item(where).kind} {path}", *(path + it for it in self.item(where).parts)]
+        for at, module in self.modules.items():
+            lines += [f"extern {name}" for name, it in module.items.items() if it.kind == "extern"]
+            for trait, of, members in module.impls:
+                found = self.find(at, tuple(of.partition("<")[0].split("::")))
+                for to in [path for path, where in public if where == found] if found else [of]:
+                    lines += [f"{to}: {trait}"] if trait else [f"{to}::{it}" for it in members]
+        return sorted(lines)
 
 
 def differences(crate: str, writes: bool) -> Iterator[str]:
     source, stored = ROOT / "crates" / crate / "src", ROOT / "tools" / "public_names" / f"{crate}.txt"
     texts = {str(it.relative_to(source)): it.read_text("utf-8") for it in source.rglob("*.rt") if it.name != "tests.rt"}
-    now = names_of(texts)
+    now = Crate(texts).names()
     if writes:
         stored.write_text("".join(f"{it}\n" for it in now), "utf-8")
     before = stored.read_text("utf-8").splitlines()
@@ -195,7 +185,7 @@ def differences(crate: str, writes: bool) -> Iterator[str]:
     yield from (f"a name that is only in the list: {it}" for it in before if before.count(it) > now.count(it))
     for text, wanted in PLANTED.items():
         try:
-            found = set(names_of({**texts, "lib.rt": texts["lib.rt"] + text})) - set(now)
+            found = {*Crate({**texts, "lib.rt": texts["lib.rt"] + text}).names()} - {*now}
         except Unread:
             found = None
         if found != wanted:
