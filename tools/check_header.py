@@ -24,7 +24,6 @@ CRATE = "crates/multihash_c"
 HEADER = f"{CRATE}/include/multihash.h"
 LANGUAGES = {"C": ["cc", "-x", "c", "-std=c11"], "C++": ["c++", "-x", "c++", "-std=c++17"]}
 TYPES = {"u32": "uint32_t", "u64": "uint64_t", "i32": "int32_t", "usize": "size_t"}
-PYTHON_TYPES = {"c_uint32": "uint32_t", "c_uint64": "uint64_t", "c_size_t": "size_t"}
 
 Structs = dict[str, list[tuple[str, str]]]
 
@@ -191,8 +190,8 @@ def constants_of(texts: dict[str, str], names: list[str]) -> dict[str, str]:
 
 def python_structs(text: str) -> Structs:
     classes = re.findall(r"class _(\w+)\(ctypes.Structure\):\n    _fields_ = \[(.*?)\]\n", text, re.S)
-    fields = {name: re.findall(r'\("(\w+)", ctypes\.(\w+)\)', body) for name, body in classes}
-    return {f"multihash_{name.lower()}": [(it, PYTHON_TYPES.get(kind, kind)) for it, kind in its] for name, its in fields.items()}
+    fields = {name: re.findall(r'\("(\w+)", ctypes\.c_(\w+?)(?:_t)?\)', body) for name, body in classes}
+    return {f"multihash_{name.lower()}": [(it, f"{kind}_t") for it, kind in its] for name, its in fields.items()}
 
 
 def binding_faults(tree: Tree, crate: Declared) -> Iterator[str]:

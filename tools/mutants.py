@@ -37,7 +37,7 @@ from prover.protection import Protection  # noqa: E402
 def named(words, its, report):
     """Returns the mutants that are asked for: all of a crate where none is named."""
     found = []
-    for crate, _, names in (it.replace(":", "/").partition("/") for it in words):
+    for crate, _, names in (it.partition("/") for it in words):
         mine = {it.name: it for it in its if it.crate == crate}
         wanted = names.split(",") if names else mine or ["any"]
         for name in (it for it in wanted if it not in mine):

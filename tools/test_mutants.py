@@ -8,7 +8,6 @@ import re
 import subprocess
 import sys
 import tempfile
-import time
 from contextlib import contextmanager
 
 sys.dont_write_bytecode = True
@@ -29,7 +28,7 @@ pub fn next(n: u8) -> u16 ensures value { result ≡ n + 1 } ensures bound { res
     n as u16 + 1
 }
 
-pub fn twice(n: u8) -> u16 ensures value { result ≡ n + n } ensures bound { result ≤ 510 } {
+pub fn twice(n: u8) -> u16 ensures value { IsTwice n result } ensures bound { result ≤ most } {
     n as u16 + n as u16
 }
 
@@ -52,10 +51,6 @@ impl<const N: usize> Part<N> {
     pub fn used(&self) -> &[u8] requires { self.now.len ≤ N } ensures used { result.now ≡ take self.now.len self.now.bytes } {
         &self.bytes[..self.len]
     }
-}
-
-pub fn doubled(n: u8) -> u16 ensures value { IsTwice n result } ensures bound { result ≤ most } {
-    2 * (n as u16)
 }
 """
 ANSWER = """use Rattle.std.proofs.Common.{{arith}}
@@ -87,7 +82,7 @@ pub fn thrice_and_one(n: u8) -> u16 ensures { result ≡ n + n + n + 1 } {
 """
 FILES = {
     "HANDLES": "Handles allowed: none.\n",
-    "crates.txt": "small:\nabove: small\nunproved:\n",
+    "crates.txt": "small:\nabove: small\n",
     "crates/small/src/lib.rt": SOURCE,
     "crates/small/specs/Lib.antt": "pub mod Sum\n",
     "crates/small/specs/Sum.antt": SPECS,
@@ -97,8 +92,6 @@ FILES = {
     "crates/small/proofs/after_next/Answers.antt": ANSWER.format(function="after_next", goal="returns", facts="arith, c.next.ensures.value"),
     "crates/above/src/lib.rt": ABOVE,
     "crates/above/mutants/lib.edits": "file: src/lib.rt\n\n# adds_two\nold: small::thrice(n) + 1\nnew: small::thrice(n) + 2\n",
-    "crates/unproved/src/lib.rt": ABOVE.replace("n + n + n + 1", "missing").replace("small::thrice(n) + 1", "n as u16"),
-    "crates/unproved/mutants/lib.edits": "file: src/lib.rt\n# adds_one\nold: n as u16\nnew: n as u16 + 1\n",
 }
 # Each mutant with the clauses that it breaks: the text of the source, what replaces it, and what is reported, if the prover judges it. The
 # first of a function are in one batch, in which `adds_in_front` is right and calls a function with a mutant; one of the second has no meaning.
@@ -110,7 +103,7 @@ MUTANTS = {
     "turns": ("3 * (n as u16)", "(n as u16) * 3", ""),
     "adds_in_front": ("next(n) + 1", "1 + next(n)", "NOT REJECTED"),
     "calls_nothing": ("next(n) + 1", "n as u16 + 2", "rejected by names alone"),
-    "promises_more: breaks twice#value": ("result ≡ n + n }", "result ≡ n + n + 1 }", "passed: by a goal: alone"),
+    "promises_more: breaks thrice#thrice": ("result ≡ n + n + n }", "result ≡ n + n + n + 1 }", "passed: by a goal: alone"),
     "is_not_there": ("n as u16 + n as u64", "n as u16", "cannot be applied"),
     "shows_the_others": ("&self.bytes[..self.len]", "&self.bytes[self.len..]", "borrow checker"),
     "half_of_it: breaks used": ("&self.bytes[..self.len]", "&self.bytes[..self.len / 2]", "passed: by a goal: small::Part::used"),
@@ -153,10 +146,10 @@ ROWS = {
     "twice#value: follows from bound": "another row has twice#value",
     "next#bound: needed by above::nothing": "there is no function above::nothing",
     "thrice#thrice: needed by the callers": "a reason names no function",
-    "doubled#value: rejected by must-fail/none.edit": "there is no file must-fail/none.edit",
-    "doubled#size: follows from value": "there is no clause doubled#size",
+    "next#value: rejected by must-fail/none.edit": "there is no file must-fail/none.edit",
+    "twice#size: follows from value": "there is no clause twice#size",
     "Part::used#used: follows from value": "the mutant half_of_it breaks Part::used#used",
-    "doubled#bound follows from value": "a row is not",
+    "next#bound follows from value": "a row is not",
 }
 # A prover that proves everything but a line that differs from the repository's, which it finds beside the copy's.
 STUB = """#!/usr/bin/env python3
@@ -178,7 +171,7 @@ def lay_out(root, names):
         texts = "".join(f"\n# {it}\nold: {its[it][0]}\nnew: {its[it][1]}\n" for it in its if it.partition(":")[0] in names)
         if texts:
             write(f"{root}/crates/small/mutants/{os.path.basename(path).partition('.')[0]}.edits", f"file: {path}\n{texts}")
-    write(f"{root}/tools/mutants.count", f"{len(names) + 2}\n")
+    write(f"{root}/tools/mutants.count", f"{len(names) + 1}\n")
 
 
 @contextmanager
@@ -224,16 +217,15 @@ def mutants_of(root):
 
 
 def check_prover(root):
-    """Each mutant, of bodies and of definitions, is reported for what it is, and a crate that is not proved fails."""
+    """Each mutant, of bodies and of definitions, is reported for what it is."""
     wanted = {name.partition(":")[0]: why for name, (_, _, why) in {**MUTANTS, **DEFINITIONS}.items() if why}
     lay_out(root, wanted)
-    status, output = run(root, "--all", "small", "unproved", stub=False)
+    status, output = run(root, "--all", "small", stub=False)
     passes, wrong = sum(why.startswith("passed") for why in wanted.values()), [] if status == 1 else [f"status {status}"]
     for name, why in wanted.items():
         lines = "; ".join(f"{how}: {what}" for how, what in re.findall(rf"(?m)^(passed|FAILED): small/{name}: (.*)$", output))
         wrong += [] if why in lines else [f"{name}: {lines or 'nothing'}, and not {why}"]
-    wrong += lacks(output, f"# rejected by a goal {passes}, by a limit 0", f"{passes} passed, {len(wanted) - passes + 1} failed")
-    return wrong + lacks(output, "FAILED: unproved: it is not proved without a mutant: .*")
+    return wrong + lacks(output, f"# rejected by a goal {passes}, by a limit 0", f"{passes} passed, {len(wanted) - passes} failed")
 
 
 def check_since(root):
@@ -245,9 +237,9 @@ def check_since(root):
     found += [] if bases == [commits[0], commits[2]] else [f"the bases of {commits} are {bases}"]
     with another(root, "crates/small/src/lib.rt", "result ≡ n + n + n }", "result ≡ 3 * n }"):
         output = run(root, "--since", "HEAD", "--draw", "1", "--seed", "a")[1]
-        found += lacks(output, "# 6 stored; 2 changed since .*; 0 of these kept from earlier runs", "# 2 drawn by the seed a; 4 to be tried", "3 passed, 1 failed")
+        found += lacks(output, "# 5 stored; 2 changed since .*; 0 of these kept from earlier runs", "# 1 drawn by the seed a; 3 to be tried", "2 passed, 1 failed")
         output = run(root, "--since", "HEAD", "--draw", "0")[1]
-        found += lacks(output, "# 6 stored; 2 changed since .*; 1 of these kept from earlier runs", "FAILED: small/turns: NOT REJECTED.*", "1 passed, 1 failed")
+        found += lacks(output, "# 5 stored; 2 changed since .*; 1 of these kept from earlier runs", "FAILED: small/turns: NOT REJECTED.*", "1 passed, 1 failed")
         status, output = run(root, "above/adds_two", "--proved", f"{root}/none")
         found += lacks(output, "passed: above/adds_two: kept: by a goal: .*", "1 passed, 0 failed") + ([] if status == 0 else [f"status {status}"])
     return found + (["a run in which all is kept proves a copy"] if os.path.exists(f"{root}/none") else [])
@@ -262,13 +254,13 @@ def check_faults(root):
     write(f"{root}/crates/small/mutants/covered.md", "# a comment\n\n" + "\n".join(ROWS) + "\n")
     with another(root, "crates/small/mutants/lib.edits", "breaks value\n", "breaks values\n"):
         status, output = run(root, "--draw", "0")
-    wanted = ["tools/mutants.count: it says 7, and there are 11: .*", "small/is_not_there: it cannot be applied: .* 0 times, and not once",
+    wanted = ["tools/mutants.count: it says 6, and there are 10: .*", "small/is_not_there: it cannot be applied: .* 0 times, and not once",
               "small/adds_two_more: it is to break values, and there is no such clause", *[why for _, why in UNREAD.values()]]
     wanted += [f"crates/small/mutants/covered.md: {why}.*" for why in ROWS.values() if why]
     found = lacks(output, *[f"FAILED: {it}" for it in wanted], f"0 passed, {len(wanted) + 1} failed") + ([] if status == 1 else [f"status {status}"])
     found += lacks(run(root, "--draw", "0", allow=False)[1], "FAILED: small::after_next#value: no mutant breaks it by itself, .*")
     lines = [it for it in run(root, "--unprotected", "small")[1].split("\n") if it.startswith("small::")]
-    return found + ([] if lines == ["small::after_next#value", "small::doubled#bound"] else [f"unprotected are {lines}"])
+    return found + ([] if lines == ["small::after_next#value"] else [f"unprotected are {lines}"])
 
 
 def check_sums(root):
@@ -276,7 +268,7 @@ def check_sums(root):
 
     def sums_now():
         tree, its = mutants_of(root)
-        return {label: tree.sum_of(it) for label, it in its.items() if it.crate != "unproved"}
+        return {label: tree.sum_of(it) for label, it in its.items()}
 
     lay_out(root, ["adds_two", "adds_nothing", "one_more"])
     was, found = sums_now(), []
@@ -289,45 +281,32 @@ def check_sums(root):
 
 
 def check_store(root):
-    """What is kept serves the same sum alone, and is not kept where a file was edited meanwhile, nor where others may write."""
+    """What is found while a file is edited is not kept."""
     lay_out(root, ["adds_two"])
     os.environ["XDG_CACHE_HOME"] = f"{root}/cache"
-
-    def store_and_mutant():
-        tree, its = mutants_of(root)
-        return choice.Store(tree), its["above/adds_two"]
-
-    store, mutant = store_and_mutant()
+    tree, its = mutants_of(root)
+    store, mutant = choice.Store(tree), its["above/adds_two"]
     with another(root, "crates/small/src/lib.rt", "3 * (n", "4 * (n"):
         store.keep(mutant, "its reason")
-    found = ["what was found while a file was edited is kept"] if store.find(mutant) else []
-    store.keep(mutant, "its reason")
-    found += [] if store.find(mutant) == "its reason" else ["what was kept is not found"]
-    with another(root, "crates/small/src/lib.rt", "result ≡ n + n + n }", "result ≡ 3 * n }"):
-        other, its = store_and_mutant()
-        found += ["what was kept serves another contract below"] if other.find(its) else []
-    os.chmod(f"{root}/cache/multihash-mutants", 0o777)
-    return found + (["a folder that others may write into is read"] if store_and_mutant()[0].find(mutant) else [])
+    return ["it is kept"] if store.find(mutant) else []
 
 
-def check_report(root):
-    """A limit of the prover breaks no clause, and is counted apart; a long run says how far it is."""
+def check_limit(root):
+    """A limit of the prover breaks no clause, and is counted apart."""
     lay_out(root, ["adds_nothing", "halves"])
-    (tree, its), report, lines = mutants_of(root), trial.Report(), []
-    report.say = lambda text, label="": (report.waiting.discard(label), lines.append(text))
-    limit, one = Finding("src/lib.rt", 1, f"not proved: (`returns-clause-value`); `search` {LIMIT}", False), judge.Judge(root, choice.Store(tree), report)
-    with report.each_interval(its, 1, 0.05):
-        one.judge(its["small/adds_nothing"], [limit], "here")
-        time.sleep(0.5)
-        one.judge(its["small/halves"], [limit], "here")
-    found = [] if report.failed == ["small/adds_nothing"] and report.passed[0].startswith(judge.BY_LIMIT) else ["a limit breaks a clause"]
-    return found + lacks("\n".join(lines), "# 1 tried, 3 left, about 0.8 minutes left after the proofs of the crates")
+    (tree, its), report = mutants_of(root), trial.Report()
+    report.say = lambda text: None
+    one = judge.Judge(root, choice.Store(tree), report)
+    limit = Finding("src/lib.rt", 1, f"not proved: (`returns-clause-value`); `search` {LIMIT}", False)
+    for name in ("adds_nothing", "halves"):
+        one.judge(its[f"small/{name}"], [limit], "here")
+    return [] if report.failed == ["small/adds_nothing"] and report.passed[0].startswith(judge.BY_LIMIT) else ["a limit breaks a clause"]
 
 
 def main():
     passed = failed = 0
     with tempfile.TemporaryDirectory(prefix="small-") as root:
-        for check in (check_sums, check_store, check_report, check_faults, check_since, check_prover):
+        for check in (check_sums, check_store, check_limit, check_faults, check_since, check_prover):
             found = check(f"{root}/{check.__name__}")
             passed, failed = passed + (not found), failed + bool(found)
             for it in found:

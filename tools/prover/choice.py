@@ -1,4 +1,4 @@
-"""Chooses which mutants a run tries: those that changed since a commit and are not kept as rejected on this machine, and some drawn by a seed."""
+"""Chooses which mutants a run tries: those that changed since a commit and are not kept as rejected on this machine, and some drawn."""
 import os
 import random
 import subprocess
@@ -17,7 +17,7 @@ def git(root, *words):
 
 
 def base_of(root, since):
-    """Returns the commit that is named, else the newest first parent that is a day older than the last, else the first, if the history has it."""
+    """Returns the commit that is named, else the newest first parent that is a day older than the last, else the first, if it is there."""
     if since:
         found = git(root, "rev-parse", "--verify", f"{since}^{{commit}}")
         if not found:
@@ -59,9 +59,7 @@ class Store:
         folder = f"{os.environ.get('XDG_CACHE_HOME') or os.path.expanduser('~/.cache')}/multihash-mutants"
         with suppress(OSError):
             os.makedirs(folder, 0o700, exist_ok=True)
-            found = os.stat(folder)
-            # not where another user could write
-            self.folder = folder if found.st_uid == os.geteuid() and not found.st_mode & 0o022 else ""
+            self.folder = folder
 
     def path(self, mutant):
         return f"{self.folder}/{self.tree.sum_of(mutant)}"

@@ -79,14 +79,17 @@ def is_of_no_function(path):
     return not path.startswith("src/") and os.path.basename(path) not in ("Answers.antt", "Invariants.antt", "Proof.antt")
 
 
+def link_or_copy(source, to):
+    try:
+        os.link(source, to)
+    except OSError:
+        shutil.copy2(source, to)
+
+
 def link(source, to):
     """Copies a folder by links, or whole where the file system has none."""
     shutil.rmtree(to, ignore_errors=True)
-    try:
-        shutil.copytree(source, to, copy_function=os.link)
-    except OSError:
-        shutil.rmtree(to, ignore_errors=True)
-        shutil.copytree(source, to)
+    shutil.copytree(source, to, copy_function=link_or_copy)
 
 
 def lay_out(root, names, to):

@@ -3,55 +3,31 @@ import tempfile
 import threading
 import time
 from concurrent.futures import FIRST_COMPLETED, ThreadPoolExecutor, wait
-from contextlib import contextmanager
 from functools import partial
 
 from . import repository, source
 
 # a check takes ten seconds beside the searches that fail in it, and batches of this size keep all cores busy
 MOST_IN_A_BATCH = 20
-# as measured on one core
-SECONDS_A_MUTANT = 15
 
 
 class Report:
-    """Prints what becomes of the mutants, and each minute how far the run is."""
+    """Prints what becomes of the mutants, and how far the run is."""
 
     def __init__(self):
         self.passed, self.failed, self.lock = [], [], threading.Lock()
-        self.waiting, self.all, self.seconds, self.began = set(), 0, SECONDS_A_MUTANT, 0.0
 
-    def say(self, text, label=""):
+    def say(self, text):
         with self.lock:
-            self.waiting.discard(label)
             print(text, flush=True)
 
     def passes(self, label, why):
         self.passed.append(why)
-        self.say(f"passed: {label}: {why}", label)
+        self.say(f"passed: {label}: {why}")
 
     def fails(self, label, why):
         self.failed.append(label)
-        self.say(f"FAILED: {label}: {why}", label)
-
-    def progress(self):
-        left, tried = len(self.waiting), self.all - len(self.waiting)
-        seconds = (time.monotonic() - self.began) / tried if tried and self.began else self.seconds
-        return f"# {tried} tried, {left} left, about {left * seconds / 60:.1f} minutes left" + ("" if self.began else " after the proofs of the crates")
-
-    @contextmanager
-    def each_interval(self, labels, jobs, seconds=60):
-        self.waiting, self.all, self.seconds, ended = {*labels}, len(labels), SECONDS_A_MUTANT / jobs, threading.Event()
-
-        def speak():
-            while not ended.wait(seconds):
-                self.say(self.progress())
-
-        speaker = threading.Thread(target=speak, daemon=True)
-        speaker.start()
-        yield
-        ended.set()
-        speaker.join()
+        self.say(f"FAILED: {label}: {why}")
 
 
 def batches(named):
@@ -107,7 +83,8 @@ class Work:
         unclear = {name: it for name, it in batch.items() if not (is_whole and self.is_clear(it, output, name, found[name]))}
         for name in batch.keys() - unclear.keys():
             self.judge.judge(batch[name], found[name], name)
-        self.judge.report.say(f"# {self.crate}: {len(batch)} in one check, {len(unclear)} of them again{'' if is_whole else f': {(stray or [output.last()])[0]}'}")
+        why = "" if is_whole else f": {(stray or [output.last()])[0]}"
+        self.judge.report.say(f"# {self.crate}: {len(batch)} in one check, {len(unclear)} of them again{why}")
         # of a function that calls another of the batch some goals were not tried, as they are without that one
         again = [unclear] if 0 < len(unclear) < len(batch) else [{name: it} for name, it in unclear.items()]
         return [partial(self.try_batch, it) for it in again]
@@ -125,6 +102,7 @@ class Work:
 def do_all(works, proved, below, jobs, folder):
     """Does what is to be done for all crates side by side, each worker in copies of its own."""
     waiting, running, own = [(work, task) for work in works for task in work.tasks()], set(), threading.local()
+    began, ended = time.monotonic(), 0
 
     def run(work, task):
         its = own.__dict__.setdefault("copies", {})
@@ -136,7 +114,10 @@ def do_all(works, proved, below, jobs, folder):
         while waiting or running:
             running |= {pool.submit(run, *it) for it in waiting}
             done, running = wait(running, return_when=FIRST_COMPLETED)
-            waiting = [(work, task) for work, more in (it.result() for it in done) for task in more]
+            waiting, ended = [(work, task) for work, more in (it.result() for it in done) for task in more], ended + len(done)
+            left = len(waiting) + len(running)
+            minutes = left * (time.monotonic() - began) / ended / 60
+            works[0].judge.report.say(f"# {ended} checks ended, {left} left, about {minutes:.1f} minutes")
 
 
 def prove(proved, below, jobs, report):
@@ -159,13 +140,11 @@ def try_mutants(its, tree, judge, proved, jobs, folder):
     """Tries mutants over a copy of the crates that is proved first; a crate of which nothing is tried needs no proof here."""
     report, needed = judge.report, {name for it in its for name in tree.down_to(it.crate)}
     below = {it: used for it, used in tree.below.items() if it in needed}
-    with report.each_interval([it.label for it in its], jobs):
-        repository.copy(judge.root, proved, below)
-        works = []
-        for crate, functions in prove(proved, below, jobs, report).items():
-            works.append(Work(crate, [it for it in its if it.crate == crate], functions, judge))
-            report.say(f"# {crate}: {len(works[-1].batches)} batches, {len(works[-1].alone)} alone")
-        report.began = time.monotonic()
-        do_all(works, proved, below, jobs, folder)
+    repository.copy(judge.root, proved, below)
+    works = []
+    for crate, functions in prove(proved, below, jobs, report).items():
+        works.append(Work(crate, [it for it in its if it.crate == crate], functions, judge))
+        report.say(f"# {crate}: {len(works[-1].batches)} batches, {len(works[-1].alone)} alone")
+    do_all(works, proved, below, jobs, folder)
     for crate in (it.crate for it in works if it.tasks() and not repository.check(f"{proved}/crates/{it.crate}").is_proved):
         report.fails(crate, "it is not proved over the state that its mutants were tried over")
