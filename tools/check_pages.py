@@ -17,7 +17,8 @@ CALLING = TOP / "crates" / "multihash" / "CALLING.md"
 README = TOP / "README.md"
 # the files of the contracts in the order of the page, with the path of their functions
 MODULES = {"multihash": "", "binary": "", "compare": "", "scale": "", "json": "", "head": "", "error": "",
-           "varint": "varint::", "list": "list::", "no_std_io/error": "no_std_io::", "no_std_io/slice_writer": "no_std_io::", "laws": "laws::"}
+           "varint": "varint::", "list": "list::", "no_std_io/error": "no_std_io::",
+           "no_std_io/slice_writer": "no_std_io::", "laws": "laws::"}
 FIRST, LAST = "<!-- written by tools/check_pages.py -->\n", "<!-- to here -->\n"
 ITEM = re.compile(r"^impl(?:<[^>]*>)? (?P<owner>\w+)[^\n]*\{$|^ *pub (?:const )?fn (?P<name>\w+)", re.MULTILINE)
 SIGNATURE_END = re.compile(r"\n +(?=requires|ensures|//)|\s*\{\n|\s+\{")
@@ -95,7 +96,7 @@ def main() -> int:
         return 0
     sources = {bare(line) for path in (TOP / "crates" / "uses" / "src").glob("*.rt") for line in path.read_text().splitlines()} | {""}
     checks = {
-        "the contracts in CALLING.md": [] if found == wanted else ["they are not those of the sources: tools/check_pages.py --write writes them"],
+        "the contracts in CALLING.md": [] if found == wanted else ["tools/check_pages.py --write writes those of the sources"],
         "the examples in CALLING.md": list(example_faults(before, sources)),
         "the examples in README.md": list(example_faults(readme, sources)),
         "the command in README.md": list(command_faults(readme)),

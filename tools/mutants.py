@@ -15,8 +15,10 @@ reject. Where the prover says only that its search gave up, the rejection is cou
 
 A mutant changed where its sum (prover/sums.py) is another at COMMIT, by default the newest of the first parents that is more than a
 day older than the last, else the first; in a shallow clone without such a commit all have changed. To check a clone in which you changed
-nothing, give --since HEAD: only those that are drawn are tried. Rejections are kept on this machine, outside the checkout, by the same sum, and a later run takes them from
-there; but it tries what it drew, and with --all everything. tools/mutants.count has the number of all mutants.
+nothing, give --since HEAD: only those that are drawn are tried.
+
+Rejections are kept on this machine, outside the checkout, by the same sum, and a later run takes them from there; but it tries what it
+drew, and with --all everything. tools/mutants.count has the number of all mutants.
 
 It proves a copy of the crates first, or in the folder --proved. It needs about 2 GB a job. The last line is 'N passed, M failed'.
 """

@@ -54,9 +54,9 @@ impl<const N: usize> Part<N> {
 }
 """
 ANSWER = """use Rattle.std.proofs.Common.{{arith}}
-use Rattle.small.proofs.{function}.Goals as goal
-pub {goal} : goal.{goal}
-{goal} c = omega ({facts})
+use Rattle.small.proofs.{0}.Goals as goal
+pub {1} : goal.{1}
+{1} c = omega ({2})
 """
 SPECS = """use Rattle.std.specs.Prelude.{◌≡◌, ◌+◌, ℕ}
 -- the number twice
@@ -88,13 +88,13 @@ FILES = {
     "crates/small/specs/Sum.antt": SPECS,
     "crates/small/proofs/Lib.antt": "mod SumVectors\n",
     "crates/small/proofs/SumVectors.antt": VECTORS,
-    "crates/small/proofs/next/Answers.antt": ANSWER.format(function="next", goal="returns-clause-value", facts="arith"),
-    "crates/small/proofs/after_next/Answers.antt": ANSWER.format(function="after_next", goal="returns", facts="arith, c.next.ensures.value"),
+    "crates/small/proofs/next/Answers.antt": ANSWER.format("next", "returns-clause-value", "arith"),
+    "crates/small/proofs/after_next/Answers.antt": ANSWER.format("after_next", "returns", "arith, c.next.ensures.value"),
     "crates/above/src/lib.rt": ABOVE,
     "crates/above/mutants/lib.edits": "file: src/lib.rt\n\n# adds_two\nold: small::thrice(n) + 1\nnew: small::thrice(n) + 2\n",
 }
 # Each mutant with the clauses that it breaks: the text of the source, what replaces it, and what is reported, if the prover judges it. The
-# first of a function are in one batch, in which `adds_in_front` is right and calls a function with a mutant; one of the second has no meaning.
+# first of a function are in one batch, in which `adds_in_front` is right and calls a function with a mutant.
 MUTANTS = {
     "adds_two: breaks value, bound": ("n as u16 + 1", "n as u16 + 2", "passed: by a goal: small::next"),
     "adds_two_more: breaks value": ("n as u16 + 1", "n as u16 + 3", "it is to break value alone, and these are open: bound; value"),
@@ -117,15 +117,16 @@ DEFINITIONS = {
 }
 # What is in a crate below and above, and the mutants whose sum changes where another text is there. `above` calls
 # `thrice` alone, so it reads no other contract of `small`, no body and no proof of one, but its definitions.
+EACH = {"small/adds_two", "small/adds_nothing", "small/one_more", "above/adds_two"}
 READ = [
     ("crates/small/src/lib.rt", "n as u16 + 1", "1 + n as u16", {"small/adds_two"}),
     ("crates/small/src/lib.rt", "3 * (n as u16)", "(n as u16) * 3", set()),
     ("crates/small/src/lib.rt", "/// Three times", "/// Thrice", set()),
     ("crates/small/src/lib.rt", "result ≡ n + n + n }", "result ≡ 3 * n }", {"above/adds_two"}),
     ("crates/small/src/lib.rt", "result ≤ 256", "result ≤ 257", {"small/adds_two", "small/adds_nothing"}),
-    ("crates/small/src/lib.rt", "    len: usize,", "    len: u64,", {"small/adds_two", "small/adds_nothing", "small/one_more", "above/adds_two"}),
+    ("crates/small/src/lib.rt", "    len: usize,", "    len: u64,", EACH),
     ("crates/small/src/lib.rt", "◌≤◌, length", "◌<◌ as ◌≤◌, length", {"small/adds_two", "small/adds_nothing", "above/adds_two"}),
-    ("crates/small/specs/Sum.antt", "most = 510", "most = 500 + 10", {"small/adds_two", "small/adds_nothing", "small/one_more", "above/adds_two"}),
+    ("crates/small/specs/Sum.antt", "most = 510", "most = 500 + 10", EACH),
     ("crates/small/specs/Sum.antt", "-- the largest", "-- a large", set()),
     ("crates/small/proofs/next/Answers.antt", "omega (arith)", "omega (arith, arith)", {"small/adds_two"}),
     ("crates/small/mutants/lib.edits", "# adds_nothing: breaks value", "# adds_nothing", {"small/adds_nothing"}),
@@ -137,7 +138,7 @@ UNREAD = {
     "half.edits": ("# half\nold: 3 * (n as u16)\n", "small/half: .* it has no 'old:' and 'new:' pair.*"),
     "one.text": ("# one\n", "small/one.text: .* or its name does not end in .edits"),
     "none.edits": ("file: src/lib.rt\nold: 3 * (n as u16)\nnew: 4\n", "small/none.edits: .* it names no mutant, .*"),
-    "twice.edits": ("file: src/lib.rt\n# halves\nold: 3 * (n as u16)\nnew: 4\n", "small/halves: .* another mutant of the crate has its name"),
+    "twice.edits": ("file: src/lib.rt\n# halves\nold: 3 * (n as u16)\nnew: 4\n", "small/halves: .* another mutant .* has its name"),
     "words.edits": ("file: src/lib.rt\n# words\nold: 3 * (n as u16)\nnew: 4\nmore\n", "small/words: .* a line is no .*"),
 }
 # Rows of covered.md, and what is wrong with each.
@@ -154,9 +155,8 @@ ROWS = {
 # A prover that proves everything but a line that differs from the repository's, which it finds beside the copy's.
 STUB = """#!/usr/bin/env python3
 import os, sys
-here = os.getcwd()
-old = [open(f"%s/crates/{os.path.basename(here)}/src/lib.rt").read().split("\\n"), open("src/lib.rt").read().split("\\n")] if sys.argv[1] == "check" else []
-lines = [at for at, its in enumerate(zip(*old), 1) if its[0] != its[1] and "* 3" not in its[1]]
+paths = [f"%s/crates/{os.path.basename(os.getcwd())}/src/lib.rt", "src/lib.rt"] if sys.argv[1] == "check" else []
+lines = [at for at, its in enumerate(zip(*map(open, paths)), 1) if its[0] != its[1] and "* 3" not in its[1]]
 print("\\n".join(["kit"] + [f"fn small::{it}: proved" for it in ("next", "twice", "thrice", "after_next", "Part::used")] +
     [f"note: src/lib.rt:{at}:1: it is not proved that `returns-clause-value`" for at in lines]))
 print("logic=not-proved" if lines else "logic=proved")
@@ -186,8 +186,8 @@ def another(root, path, old, new):
 def git(root, day, *words):
     """Runs git as if it were that day."""
     when = {f"GIT_{who}_DATE": f"2020-01-{day:02} 12:00:00 +0000" for who in ("AUTHOR", "COMMITTER")}
-    who = ["-c", "user.name=nobody", "-c", "user.email=nobody@localhost"]
-    return subprocess.run(["git", *who, *words], cwd=root, env={**os.environ, **when}, check=True, capture_output=True, text=True).stdout.strip()
+    command = ["git", "-c", "user.name=nobody", "-c", "user.email=nobody@localhost", *words]
+    return subprocess.run(command, cwd=root, env={**os.environ, **when}, check=True, capture_output=True, text=True).stdout.strip()
 
 
 def commit(root, day):
@@ -198,12 +198,13 @@ def commit(root, day):
 
 
 def run(root, *words, stub=True, allow=True):
-    """Runs the tool, and returns its status and what it printed. Clauses that nothing protects are allowed, unless they are to fail."""
+    """Runs the tool, and returns what it printed and its status. Clauses that nothing protects are allowed, unless they are to fail."""
     write(f"{root}/bin/rt", STUB % root)
     os.chmod(f"{root}/bin/rt", 0o755)
     command = [sys.executable, f"{HERE}/mutants.py", "--root", root, "--proved", f"{root}/proved", *["--allow-unprotected"] * allow, *words]
-    ran = subprocess.run(command, capture_output=True, text=True, env={**os.environ, "XDG_CACHE_HOME": f"{root}/cache", "PATH": f"{root}/bin:" * stub + os.environ["PATH"]})
-    return ran.returncode, ran.stdout + ran.stderr
+    changed = {"XDG_CACHE_HOME": f"{root}/cache", "PATH": f"{root}/bin:" * stub + os.environ["PATH"]}
+    ran = subprocess.run(command, capture_output=True, text=True, env={**os.environ, **changed})
+    return f"{ran.stdout}{ran.stderr}\nstatus {ran.returncode}"
 
 
 def lacks(output, *lines):
@@ -220,12 +221,12 @@ def check_prover(root):
     """Each mutant, of bodies and of definitions, is reported for what it is."""
     wanted = {name.partition(":")[0]: why for name, (_, _, why) in {**MUTANTS, **DEFINITIONS}.items() if why}
     lay_out(root, wanted)
-    status, output = run(root, "--all", "small", stub=False)
-    passes, wrong = sum(why.startswith("passed") for why in wanted.values()), [] if status == 1 else [f"status {status}"]
+    output = run(root, "--all", "small", stub=False)
+    passes, wrong = sum(why.startswith("passed") for why in wanted.values()), []
     for name, why in wanted.items():
         lines = "; ".join(f"{how}: {what}" for how, what in re.findall(rf"(?m)^(passed|FAILED): small/{name}: (.*)$", output))
         wrong += [] if why in lines else [f"{name}: {lines or 'nothing'}, and not {why}"]
-    return wrong + lacks(output, f"# rejected by a goal {passes}, by a limit 0", f"{passes} passed, {len(wanted) - passes} failed")
+    return wrong + lacks(output, f"# rejected by a goal {passes}, by a limit 0", f"{passes} passed, {len(wanted) - passes} failed", "status 1")
 
 
 def check_since(root):
@@ -236,30 +237,30 @@ def check_since(root):
     bases = [choice.base_of(root, ""), choice.base_of(root, "HEAD~1")]
     found += [] if bases == [commits[0], commits[2]] else [f"the bases of {commits} are {bases}"]
     with another(root, "crates/small/src/lib.rt", "result ≡ n + n + n }", "result ≡ 3 * n }"):
-        output = run(root, "--since", "HEAD", "--draw", "1", "--seed", "a")[1]
-        found += lacks(output, "# 5 stored; 2 changed since .*; 0 of these kept from earlier runs", "# 1 drawn by the seed a; 3 to be tried", "2 passed, 1 failed")
-        output = run(root, "--since", "HEAD", "--draw", "0")[1]
-        found += lacks(output, "# 5 stored; 2 changed since .*; 1 of these kept from earlier runs", "FAILED: small/turns: NOT REJECTED.*", "1 passed, 1 failed")
-        status, output = run(root, "above/adds_two", "--proved", f"{root}/none")
-        found += lacks(output, "passed: above/adds_two: kept: by a goal: .*", "1 passed, 0 failed") + ([] if status == 0 else [f"status {status}"])
+        output, is_asked = run(root, "--since", "HEAD", "--draw", "1", "--seed", "a"), "# 5 stored; 2 changed since .*"
+        found += lacks(output, f"{is_asked}; 0 of these kept.*", "# 1 drawn by the seed a; 3 to be tried", "2 passed, 1 failed")
+        output = run(root, "--since", "HEAD", "--draw", "0")
+        found += lacks(output, f"{is_asked}; 1 of these kept.*", "FAILED: small/turns: NOT REJECTED.*", "1 passed, 1 failed")
+        output = run(root, "above/adds_two", "--proved", f"{root}/none")
+        found += lacks(output, "passed: above/adds_two: kept: by a goal: .*", "1 passed, 0 failed", "status 0")
     return found + (["a run in which all is kept proves a copy"] if os.path.exists(f"{root}/none") else [])
 
 
 def check_faults(root):
-    """What is wrong with the files of mutants and of covered clauses is red in a plain run, as is what changed; other clauses are unprotected."""
+    """What is wrong with the files of mutants and of covered clauses is red in a plain run; other clauses are unprotected."""
     lay_out(root, ["adds_two", "adds_two_more", "is_not_there", "halves", "half_of_it"])
     commit(root, 1)
     os.remove(f"{root}/crates/above/mutants/lib.edits")
     write_all(f"{root}/crates/small/mutants", {name: text for name, (text, _) in UNREAD.items()})
     write(f"{root}/crates/small/mutants/covered.md", "# a comment\n\n" + "\n".join(ROWS) + "\n")
     with another(root, "crates/small/mutants/lib.edits", "breaks value\n", "breaks values\n"):
-        status, output = run(root, "--draw", "0")
+        output = run(root, "--draw", "0")
     wanted = ["tools/mutants.count: it says 6, and there are 10: .*", "small/is_not_there: it cannot be applied: .* 0 times, and not once",
               "small/adds_two_more: it is to break values, and there is no such clause", *[why for _, why in UNREAD.values()]]
     wanted += [f"crates/small/mutants/covered.md: {why}.*" for why in ROWS.values() if why]
-    found = lacks(output, *[f"FAILED: {it}" for it in wanted], f"0 passed, {len(wanted) + 1} failed") + ([] if status == 1 else [f"status {status}"])
-    found += lacks(run(root, "--draw", "0", allow=False)[1], "FAILED: small::after_next#value: no mutant breaks it by itself, .*")
-    lines = [it for it in run(root, "--unprotected", "small")[1].split("\n") if it.startswith("small::")]
+    found = lacks(output, *[f"FAILED: {it}" for it in wanted], f"0 passed, {len(wanted) + 1} failed", "status 1")
+    found += lacks(run(root, "--draw", "0", allow=False), "FAILED: small::after_next#value: no mutant breaks it by itself, .*")
+    lines = [it for it in run(root, "--unprotected", "small").split("\n") if it.startswith("small::")]
     return found + ([] if lines == ["small::after_next#value"] else [f"unprotected are {lines}"])
 
 

@@ -43,7 +43,7 @@ class Protection:
             broken = self.broken(clauses, [it for it in mutants if it.crate == crate])
             known = {*broken, *self.covered(crate, clauses, broken)}
             left = [it for function in functions[crate] if function.is_public for it in function.clauses if it not in known]
-            self.unprotected += [(f"{crate}::{it}", "no mutant breaks it by itself, and no row of mutants/covered.md has it") for it in left]
+            self.unprotected += [(f"{crate}::{it}", "no mutant breaks it by itself, and mutants/covered.md has no row of it") for it in left]
 
     def broken(self, clauses, mutants):
         """Returns the clauses that a mutant breaks by itself, with its name."""
