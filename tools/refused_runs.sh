@@ -1,6 +1,7 @@
 #!/usr/bin/env bash
-# Runs each program on what it is to refuse: the folders tools/runs/PROGRAM/CASE hold what it is given (stdin, or the
-# list verdicts.tsv that it reads) and what it must write to standard output and standard error. The status must be 1.
+# Runs each program on what it has to reject. A file tools/runs/PROGRAM.txt has the cases of a program: after a line
+# '== CASE FILE' stands the text of its input (stdin, or the list verdicts.tsv that it reads), or what it must write to
+# stdout or stderr. A file that is not there is empty. The status must be 1.
 # Each program is built once; or taken as 'rt ci' built it, if BUILT says that it did.
 # The last line is 'N passed, M failed'.
 set -u
@@ -19,26 +20,27 @@ build() {
   [ -x "$crates/$1/out/$1" ] || tail -n 5 "$work/build"
 }
 
-for program in tools/runs/*/; do
-  program=$(basename "$program")
+for cases in tools/runs/*.txt; do
+  program=$(basename "$cases" .txt)
   build "$program"
-  for run in tools/runs/"$program"/*/; do
-    run=$PWD/${run%/}
-    input=/dev/null
+  rm -rf "$work/cases" && mkdir "$work/cases"
+  awk -v to="$work/cases" '/^== / { file = to "/" $2 "." $3; next } { print > file }' "$cases"
+  while read -r name; do
+    run=$work/cases/$name
+    touch "$run".{stdin,stdout,stderr}
     rm -rf "$work/room" && mkdir "$work/room"
-    [ -f "$run/stdin" ] && input=$run/stdin
-    [ -f "$run/verdicts.tsv" ] && cp "$run/verdicts.tsv" "$work/room/"
-    (cd "$work/room" && timeout 120 "$crates/$program/out/$program" < "$input" > "$work/stdout" 2> "$work/stderr")
+    [ -f "$run.verdicts.tsv" ] && cp "$run.verdicts.tsv" "$work/room/verdicts.tsv"
+    (cd "$work/room" && timeout 120 "$crates/$program/out/$program" < "$run.stdin" > "$work/stdout" 2> "$work/stderr")
     status=$?
-    if [ "$status" = 1 ] && cmp -s "$work/stdout" "$run/stdout" && cmp -s "$work/stderr" "$run/stderr"; then
+    if [ "$status" = 1 ] && cmp -s "$work/stdout" "$run.stdout" && cmp -s "$work/stderr" "$run.stderr"; then
       passed=$((passed + 1))
     else
       failed=$((failed + 1))
-      echo "$program $(basename "$run"): status $status"
-      diff "$run/stdout" "$work/stdout"
-      diff "$run/stderr" "$work/stderr"
+      echo "$program $name: status $status"
+      diff "$run.stdout" "$work/stdout"
+      diff "$run.stderr" "$work/stderr"
     fi
-  done
+  done < <(awk '/^== / { print $2 }' "$cases" | sort -u)
 done
 echo "$passed passed, $failed failed"
 [ "$failed" = 0 ] && [ "$passed" -gt 0 ]

@@ -12,7 +12,7 @@ use Rattle.multihash.specs.ScaleTaking.{TakesAtScaleRefusal}
 use Rattle.multihash.specs.Verdict.{Verdict, accepted, invalid_size, invalid_code, faulty, unexpected_eof}
 use Rattle.multihash.specs.Refusal.{Refusal, IsInvalidSize, IsInvalidCode, IsFaulty}
 use Rattle.multihash.specs.Answer.{IsRefusal}
-use Rattle.multihash_c.specs.declared.decoded.Decoded.{Decoded}
+use Rattle.multihash_c.specs.declared.decode.Decoded.{Decoded}
 use Rattle.multihash_c.specs.Decoded.{TellsPair, TellsRefusal, Tells, TakesForm}
 
 -- what is left after the front

@@ -3,7 +3,7 @@ use Rattle.std.proofs.Common.{◌≡◌, ℕ, List, [], ◌∷◌, length, get_o
 use Rattle.multihash.specs.Varint.{IsVarint}
 use Rattle.multihash.specs.Encoding.{IsEncoding}
 use Rattle.multihash.proofs.Examples.VarintVectors.{varint_0, varint_1, varint_128}
-use Rattle.multihash_c.specs.declared.encoded.Encoded.{Encoded}
+use Rattle.multihash_c.specs.declared.encode.Encoded.{Encoded}
 use Rattle.multihash_c.specs.Encoded.{IsTooLong, IsLargeCode, IsPut, TellsLength, Puts}
 use Rattle.multihash.proofs.Writings.EncodingLemmas.{encoding_same}
 

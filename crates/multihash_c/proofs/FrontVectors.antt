@@ -6,7 +6,7 @@ use Rattle.multihash.specs.Head.{HasHead}
 use Rattle.multihash.proofs.Readings.VerdictLemmas.{verdict_unique}
 use Rattle.multihash.proofs.Examples.VarintVectors.{varint_0, varint_5}
 use Rattle.multihash.proofs.Examples.VerdictVectors.{code_alone}
-use Rattle.multihash_c.specs.declared.front.Front.{Front}
+use Rattle.multihash_c.specs.declared.decode.Front.{Front}
 use Rattle.multihash_c.specs.Decoded.{Tells}
 use Rattle.multihash_c.specs.Status.{status_of_fault}
 use Rattle.multihash_c.specs.Front.{TellsHead, TellsFault, ReadsFront}

@@ -12,7 +12,7 @@ use Rattle.multihash.specs.Taking.{TakesShortestSettling}
 use Rattle.multihash.proofs.Readings.VerdictLemmas.{verdict_unique, pair_begins}
 use Rattle.multihash.proofs.Readings.SettlingLemmas.{verdict_kept, late_settles, settles_exactly}
 use Rattle.multihash.proofs.Readings.ShortestLemmas.{shortest_pair, shortest_size}
-use Rattle.multihash_c.specs.declared.decoded.Decoded.{Decoded}
+use Rattle.multihash_c.specs.declared.decode.Decoded.{Decoded}
 use Rattle.multihash_c.specs.Decoded.{Tells, ReadsWithin}
 
 -- what begins a beginning begins the whole

@@ -7,7 +7,7 @@ use Rattle.multihash.specs.Head.{HasHead}
 use Rattle.multihash.specs.Taking.{TakesShortestSettling}
 use Rattle.multihash.specs.Scale.{IsScale, HasScaleVerdict}
 use Rattle.multihash_c.specs.Status.{status_ok, status_of_fault, status_invalid_size, status_invalid_code, status_unexpected_eof}
-use Rattle.multihash_c.specs.declared.decoded.Decoded.{Decoded}
+use Rattle.multihash_c.specs.declared.decode.Decoded.{Decoded}
 
 -- the code, and the digest's offset in the input: it is the last part consumed, so its length gives the
 -- offset

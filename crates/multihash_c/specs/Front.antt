@@ -4,7 +4,7 @@ use Rattle.multihash.specs.Head.{HasHead}
 use Rattle.multihash.specs.Varint.{VarintFault}
 use Rattle.multihash_c.specs.Status.{status_ok, status_of_fault}
 use Rattle.multihash_c.specs.Decoded.{ReadsWithin}
-use Rattle.multihash_c.specs.declared.front.Front.{Front}
+use Rattle.multihash_c.specs.declared.decode.Front.{Front}
 
 -- both varints are at the front of the input, and have as many bytes as were consumed
 pub record TellsHead (input : List ℕ) (f : Front) : Type 0 where

@@ -1,57 +1,57 @@
 //! Encoding, for C.
-ghost use Rattle.std.specs.Prelude.{◌≡◌, ◌+◌, ◌<◌, ◌≤◌, ℕ, List, ◌++◌, length, drop};
+ghost use Rattle.std.specs.Prelude.{◌≡◌, ◌+◌, ◌<◌, ◌≤◌, ◌⊎◌, ℕ, List, ◌++◌, length, drop, IfOk, IfErr};
 ghost use Rattle.multihash.specs.Varint.{varint_limit};
 ghost use Rattle.multihash.specs.Encoding.{IsEncoding};
 ghost use Rattle.multihash.specs.Scale.{IsScale};
 ghost use Rattle.multihash.specs.Filling.{Fills};
-ghost use Rattle.multihash_c.specs.Encoded.{IsTooLong, IsLargeCode, TellsLength, Puts};
+ghost use Rattle.multihash_c.specs.Encoded.{IsTooLong, IsLargeCode, IsEncodedLength, TellsLength, WritesForm};
+ghost use Rattle.multihash_c.specs.Status.{status_ok, status_no_room};
 
-use crate::encoded::{self, Encoded};
-use crate::status;
+use crate::{DIGEST_MAX, SCALE_HEAD, status};
 use multihash::no_std_io::{SliceWriter, Write};
 use multihash::varint;
+
+/// The result of an encoding. A field without a meaning for its status is 0.
+#[repr(C)]
+#[derive(Clone, Copy, Debug, PartialEq, Eq)]
+pub struct Encoded {
+    pub status: u32,
+    pub size: u64,
+    pub length: usize,
+}
 
 /// Writes the encoding of a code and a digest to the front of `out`.
 #[unsafe(no_mangle)]
 pub extern "C" fn multihash_encode(code: u64, digest: &[u8], out: &mut [u8]) -> Encoded
-    ensures too_long { 255 < length digest.now →
-        IsTooLong (length digest.now) result × (out.new ≡ out.old) }
-    ensures large_code { length digest.now ≤ 255 → varint_limit ≤ code →
-        IsLargeCode result × (out.new ≡ out.old) }
-    ensures puts { length digest.now ≤ 255 → code < varint_limit →
-        Puts (IsEncoding (record { code = code; digest = digest.now })) result out.old out.new }
+    ensures { WritesForm IsEncoding (record { code = code; digest = digest.now }) result out.old out.new }
 {
-    let needed = multihash_encoded_len(code, digest.len());
-    if needed.status != status::OK {
-        return needed;
-    }
-    if needed.length <= out.len() {
+    let encoding_length = match needed(code, digest.len()) {
+        Ok(length) => length,
+        Err(rejected) => return rejected,
+    };
+    if encoding_length <= out.len() {
         put_encoding(code, digest, out);
     }
-    encoded::count(needed.length, out.len())
+    count(encoding_length, out.len())
 }
 
 /// Writes the SCALE form of a code and a digest to the front of `out`.
 #[unsafe(no_mangle)]
 pub extern "C" fn multihash_scale_encode(code: u64, digest: &[u8], out: &mut [u8]) -> Encoded
-    ensures too_long { 255 < length digest.now →
-        IsTooLong (length digest.now) result × (out.new ≡ out.old) }
-    ensures large_code { length digest.now ≤ 255 → varint_limit ≤ code →
-        IsLargeCode result × (out.new ≡ out.old) }
-    ensures puts { length digest.now ≤ 255 → code < varint_limit →
-        Puts (IsScale (record { code = code; digest = digest.now })) result out.old out.new }
+    ensures { WritesForm IsScale (record { code = code; digest = digest.now }) result out.old out.new }
 {
-    if digest.len() > 255 {
-        return encoded::refuse_size(digest.len() as u64);
+    // With one helper for these tests and those of `needed` it takes seven more instructions.
+    if digest.len() > DIGEST_MAX {
+        return refuse_size(digest.len() as u64);
     }
     if code > varint::MAX {
-        return encoded::refuse_code();
+        return refuse_code();
     }
-    let length = 9 + digest.len();
-    if length <= out.len() {
+    let form_length = SCALE_HEAD + digest.len();
+    if form_length <= out.len() {
         put_scale_form(code, digest, out);
     }
-    encoded::count(length, out.len())
+    count(form_length, out.len())
 }
 
 /// Returns the length of the encoding of a code and a digest of that many bytes.
@@ -62,15 +62,67 @@ pub extern "C" fn multihash_encoded_len(code: u64, digest_length: usize) -> Enco
     ensures length { digest_length ≤ 255 → code < varint_limit →
         TellsLength code digest_length result }
 {
-    if digest_length > 255 {
-        return encoded::refuse_size(digest_length as u64);
+    match needed(code, digest_length) {
+        Ok(length) => count(length, length),
+        Err(rejected) => rejected,
+    }
+}
+
+// The length of the encoding of a code and a digest of that many bytes, or the result if there is none.
+#[inline(always)]
+fn needed(code: u64, digest_length: usize) -> Result<usize, Encoded>
+    ensures ok { IfOk result (λ len. IsEncodedLength code digest_length len
+        × (digest_length ≤ 255) × (code < varint_limit)) }
+    ensures err { IfErr result (λ e. ((255 < digest_length) × IsTooLong digest_length e)
+        ⊎ ((digest_length ≤ 255) × (varint_limit ≤ code) × IsLargeCode e)) }
+{
+    if digest_length > DIGEST_MAX {
+        return Err(refuse_size(digest_length as u64));
     }
     match (varint::len(code), varint::len(digest_length as u64)) {
-        (Ok(code_length), Ok(size_length)) => {
-            let length = code_length + size_length + digest_length;
-            encoded::count(length, length)
-        }
-        _ => encoded::refuse_code(),
+        (Ok(code_length), Ok(size_length)) => Ok(code_length + size_length + digest_length),
+        _ => Err(refuse_code()),
+    }
+}
+
+// The result for a digest that is too long.
+fn refuse_size(size: u64) -> Encoded
+    ensures { IsTooLong size result }
+{
+    Encoded {
+        status: status::INVALID_SIZE,
+        size,
+        length: 0,
+    }
+}
+
+// The result for a code that is out of range.
+fn refuse_code() -> Encoded
+    ensures { IsLargeCode result }
+{
+    Encoded {
+        status: status::INVALID_CODE,
+        size: 0,
+        length: 0,
+    }
+}
+
+// The result for that many bytes and a buffer of that size: they were written if they fit.
+pub(crate) fn count(length: usize, places: usize) -> Encoded
+    ensures length { result.length ≡ length }
+    ensures no_size { result.size ≡ 0 }
+    ensures fits { length ≤ places → result.status ≡ status_ok }
+    ensures no_room { places < length → result.status ≡ status_no_room }
+{
+    let status = if length <= places {
+        status::OK
+    } else {
+        status::NO_ROOM
+    };
+    Encoded {
+        status,
+        size: 0,
+        length,
     }
 }
 

@@ -5,13 +5,15 @@
 
 mod compare;
 mod decode;
-mod decoded;
 mod encode;
-mod encoded;
-mod front;
-mod read;
 mod status;
 #[cfg(test)]
 mod tests;
 mod text;
 mod version;
+
+// The most bytes of a digest: `MULTIHASH_DIGEST_MAX` in the header.
+const DIGEST_MAX: usize = 255;
+
+// The bytes of a SCALE form that come before its digest: eight of the code, and one of the size.
+const SCALE_HEAD: usize = 9;

@@ -1,11 +1,10 @@
 //! Each export on its happy path, with values from outside.
 use crate::compare::multihash_compare;
 use crate::decode::{
-    multihash_from_bytes, multihash_read, multihash_read_limit, multihash_scale_decode,
+    Decoded, multihash_from_bytes, multihash_head, multihash_read, multihash_read_limit,
+    multihash_scale_decode,
 };
-use crate::decoded::Decoded;
 use crate::encode::{multihash_encode, multihash_encoded_len, multihash_scale_encode};
-use crate::front::multihash_head;
 use crate::status::{
     INSUFFICIENT, INVALID_CODE, INVALID_SIZE, NO_ROOM, NOT_MINIMAL, OK, OVERFLOW, UNEXPECTED_EOF,
 };

@@ -2,7 +2,7 @@
 ghost use Rattle.multihash_c.specs.Encoded.{IsPut, Puts};
 ghost use Rattle.multihash_c.specs.Status.{IsStatusText};
 
-use crate::encoded::{self, Encoded};
+use crate::encode::{self, Encoded};
 use crate::status;
 
 /// Writes the text of a status to the front of `out`: ASCII, with no zero byte at its end.
@@ -31,5 +31,5 @@ fn put(bytes: &[u8], out: &mut [u8]) -> Encoded
     if bytes.len() <= out.len() {
         out[..bytes.len()].copy_from_slice(bytes);
     }
-    encoded::count(bytes.len(), out.len())
+    encode::count(bytes.len(), out.len())
 }

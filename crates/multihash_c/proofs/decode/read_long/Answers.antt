@@ -1,9 +1,9 @@
 use Rattle.std.proofs.Common.{refl, inr, subst}
-use Rattle.multihash_c.specs.declared.decoded.Decoded.{Decoded}
+use Rattle.multihash_c.specs.declared.decode.Decoded.{Decoded}
 use Rattle.multihash_c.specs.Decoded.{ReadsWithin}
 use Rattle.multihash_c.specs.Status.{status_of_fault}
 use Rattle.multihash_c.proofs.DecodedLemmas.{refused_so}
-use Rattle.multihash_c.proofs.front.read_long.Goals as goal
+use Rattle.multihash_c.proofs.decode.read_long.Goals as goal
 
 pub returns-in_default : goal.returns-in_default
 returns-in_default c =

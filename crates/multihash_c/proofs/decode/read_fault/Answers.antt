@@ -8,7 +8,7 @@ use Rattle.multihash.proofs.Readings.VerdictLemmas.{verdict_unique}
 use Rattle.multihash_c.specs.Decoded.{Tells}
 use Rattle.multihash_c.proofs.DecodedLemmas.{left_over}
 use Rattle.multihash_c.proofs.ReadLemmas.{fault_read}
-use Rattle.multihash_c.proofs.read.read_fault.Goals as goal
+use Rattle.multihash_c.proofs.decode.read_fault.Goals as goal
 
 pub unreachable-requires : goal.unreachable-requires
 unreachable-requires c =

@@ -1,6 +1,6 @@
 use Rattle.std.proofs.Common.{◌≡◌, ◌≤◌, ◌+◌, length, inl, inr, arith}
 use Rattle.multihash_c.proofs.ReadLemmas.{size_read, end_read, read_of_encoding}
-use Rattle.multihash_c.proofs.read.read_within.Goals as goal
+use Rattle.multihash_c.proofs.decode.read_within.Goals as goal
 
 pub returns-in_default : goal.returns-in_default
 returns-in_default c = c.read_fault.ensures.reads c.args.limit
@@ -16,7 +16,7 @@ pub returns-then-bytes-head : goal.returns-then-bytes-head
 returns-then-bytes-head c =
     let input = c.args.bytes.now in
     end_read c.args.limit c.in-Ok.head.code c.in-Ok.head.size c.in-Ok.head.len input c.in-Ok.ensures.ok c.refuse_end.result
-    (omega (arith, c.if-head-limit.false, c.if-head-gt255.false)) c.if-bytes-head.true c.refuse_end.ensures.taken (c.refuse_end.ensures.tells input)
+    (omega (arith, c.if-head-limit.false, c.if-head.false)) c.if-bytes-head.true c.refuse_end.ensures.taken (c.refuse_end.ensures.tells input)
 
 pub returns : goal.returns
 returns c =
@@ -26,5 +26,5 @@ returns c =
     let at : answer.digest_offset ≡ c.in-Ok.head.len = omega (arith, c.accept.ensures.offset) in
     let there : c.in-Ok.head.len + c.in-Ok.head.size ≤ length input = omega (arith, head.within, c.if-bytes-head.false) in
     read_of_encoding c.args.limit c.in-Ok.head.code c.in-Ok.head.size c.in-Ok.head.len input head answer
-    (omega (arith, c.if-head-limit.false, c.if-head-gt255.false)) there c.accept.ensures.taken
+    (omega (arith, c.if-head-limit.false, c.if-head.false)) there c.accept.ensures.taken
     (λ p code is. c.accept.ensures.tells input p code there (rw (c.accept.ensures.length, at) is))

@@ -1,7 +1,7 @@
 use Rattle.std.proofs.Common.{◌≡◌, ◌↔◌, Bool, false, IsTrue, sym, ◌∙◌}
 use Rattle.std.proofs.lemmas.Bool.{false≢true}
 use Rattle.multihash_c.proofs.DecodedLemmas.{size_told, code_told, end_told}
-use Rattle.multihash_c.proofs.decoded.refuse.Goals as goal
+use Rattle.multihash_c.proofs.decode.refuse.Goals as goal
 
 -- what a test denies is not so
 denied : {P : Type 0} (b : Bool) → (IsTrue b ↔ P) → b ≡ false → ¬ P

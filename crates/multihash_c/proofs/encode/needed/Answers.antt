@@ -1,0 +1,29 @@
+use Rattle.std.proofs.Common.{◌++◌, refl, sym, arith}
+use Rattle.multihash.proofs.Writings.EncodingLemmas.{encoding_of, length-parts}
+use Rattle.multihash.proofs.Varints.LengthLemmas.{varint_longest}
+use Rattle.multihash_c.proofs.encode.needed.Goals as goal
+
+pub overflow_add-result : goal.overflow_add-result
+overflow_add-result c =
+    let a = c.in-Ok-Ok.ensures.ok in
+    let b = c.in-Ok-Ok.ensures'.ok in
+    record { fits = omega (arith, a.2, varint_longest _ a.0 a.1, b.2, varint_longest _ b.0 b.1) }
+
+pub overflow_add-result-in-Ok-Ok : goal.overflow_add-result-in-Ok-Ok
+overflow_add-result-in-Ok-Ok c =
+    let a = c.in-Ok-Ok.ensures.ok in
+    let b = c.in-Ok-Ok.ensures'.ok in
+    record { fits = omega (arith, a.2, varint_longest _ a.0 a.1, b.2, varint_longest _ b.0 b.1, c.if-digest_length-gt-DIGEST_MAX.false) }
+
+pub returns-in-Ok-Ok-clause-ok : goal.returns-in-Ok-Ok-clause-ok
+returns-in-Ok-Ok-clause-ok c =
+    let a = c.in-Ok-Ok.ensures.ok in
+    let b = c.in-Ok-Ok.ensures'.ok in (
+      λ digest same. (
+        a.0 ++ (b.0 ++ digest),
+        encoding_of (record { code = c.args.code; digest = digest }) _ _ digest a.0 b.0 refl (sym same) refl a.1 b.1,
+        omega (arith, a.2, b.2, same, length-parts a.0 b.0 digest),
+      ),
+      c.if-digest_length-gt-DIGEST_MAX.false,
+      a.1.in_range,
+    )
