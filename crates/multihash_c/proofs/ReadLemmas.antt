@@ -10,8 +10,7 @@ use Rattle.multihash.specs.Settling.{Settles, IsShortestSettling}
 use Rattle.multihash.specs.Head.{HasHead}
 use Rattle.multihash.specs.Taking.{TakesShortestSettling}
 use Rattle.multihash.proofs.Readings.VerdictLemmas.{verdict_unique, pair_begins}
-use Rattle.multihash.proofs.Readings.SettlingLemmas.{verdict_kept, late_settles, settles_exactly}
-use Rattle.multihash.proofs.Readings.ShortestLemmas.{shortest_pair, shortest_size}
+use Rattle.multihash.proofs.Readings.SettlingLemmas.{verdict_kept, late_settles, settles_exactly, shortest_pair, shortest_size}
 use Rattle.multihash_c.specs.declared.decoded.Decoded.{Decoded}
 use Rattle.multihash_c.specs.Decoded.{Tells, ReadsWithin}
 

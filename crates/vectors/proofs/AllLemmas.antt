@@ -2,7 +2,7 @@
 use Rattle.std.proofs.Common.{ℕ, ◌+◌, ◌<◌, List, [], ◌∷◌, All, length, get_or, take, arith, subst}
 use Rattle.std.proofs.lemmas.List.{take-take, take_more}
 use Rattle.std.proofs.lemmas.List.Elements.{All-take, All-head}
-use Rattle.multihash.proofs.Varints.MarkedLemmas.{All-append_right}
+use Rattle.multihash.proofs.Varints.DigitLemmas.{All-append_right}
 
 pub All-fewer : {X : Type 0} (P : X → Type 0) (xs : List X) (i : ℕ) → All P (take (i + 1) xs) → All P (take i xs)
 All-fewer P xs i all = subst (All P) (take-take i (i + 1) xs (omega arith)) (All-take P i (take (i + 1) xs) all)

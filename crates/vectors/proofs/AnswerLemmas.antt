@@ -11,8 +11,8 @@ use Rattle.multihash.specs.Settling.{Settles, IsShortestSettling}
 use Rattle.multihash.specs.Taking.{TakesAtRefusal, TakesShortestSettling}
 use Rattle.multihash.specs.Varint.{insufficient, overflow, not_minimal, marked, IsVarint}
 use Rattle.multihash.specs.Verdict.{Verdict, accepted, invalid_size, invalid_code, faulty, unexpected_eof, BeginsWithSize, HasVerdict, IsEarlyEnd}
-use Rattle.multihash.proofs.Readings.BeginningLemmas.{compare_beginnings}
-use Rattle.multihash.proofs.Varints.MarkedLemmas.{All-append_right}
+use Rattle.multihash.proofs.Readings.SettlingLemmas.{compare_beginnings}
+use Rattle.multihash.proofs.Varints.DigitLemmas.{All-append_right}
 use Rattle.vectors.specs.declared.line.Reading.{Reading}
 use Rattle.vectors.specs.Listed.{meaning, ends_varint, IsTaken, SettlesAfter, IsReading, TakesEnough, TakesAsReadListed}
 

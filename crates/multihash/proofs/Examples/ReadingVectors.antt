@@ -6,7 +6,7 @@ use Rattle.std.proofs.lemmas.List.{append_cancel_right}
 use Rattle.multihash.specs.Fault.{Fault, IsUnexpectedEof, IsOwnFault}
 use Rattle.std.specs.Io.KnownBytes.{prepend_known, IsAtEnd}
 use Rattle.multihash.specs.Reading.{Takes, HasFewerThan, TakesFewerThan, CountsReader, ReadLaws, ReadExactLaws, NoOtherError}
-use Rattle.multihash.proofs.Examples.FaultVectors.{other, eof, memory}
+use Rattle.multihash.proofs.Examples.RefusalVectors.{other, eof, memory}
 
 -- ---- what was taken
 

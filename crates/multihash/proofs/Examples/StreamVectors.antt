@@ -1,31 +1,83 @@
--- What reading and writing of many multihashes took and appended, at known pairs.
-use Rattle.std.proofs.Common.{◌≡◌, ◌<◌, ◌⊎◌, ℕ, List, [], ◌∷◌, length, refl, sym, ap, ◌∙◌, subst, arith, inl, inr, append-nil}
-use Rattle.std.specs.Prelude.{Option, Some, None, IfSome, codes}
-use Rattle.std.specs.List.{All}
+-- Concatenated encodings of known pairs, and what reading and writing of many multihashes consumed and appended.
+use Rattle.std.proofs.Common.{◌≡◌, ℕ, List, [], ◌∷◌, length, refl, ap, ◌∙◌, arith, ◌<◌, ◌⊎◌, sym, subst, inl, inr, append-nil}
+use Rattle.std.specs.Prelude.{codes, Option, Some, None, IfSome}
+use Rattle.std.specs.List.{concat, AllZip, All}
+use Rattle.multihash.specs.Pair.{Pair, FitsBuffer}
+use Rattle.multihash.specs.Encoding.{IsEncoding}
+use Rattle.multihash.specs.Joined.{AreJoined}
+use Rattle.multihash.proofs.Forms.StreamLemmas.{joined_whole, joined_same, TakesPairs-none, joined_unique}
+use Rattle.multihash.proofs.Examples.VarintVectors.{varint_0, varint_1}
+use Rattle.multihash.proofs.Examples.PairVectors.{pair}
 use Rattle.std.proofs.lemmas.List.Elements.{All-nil, All-cons, All-head, All-tail}
 use Rattle.multihash.specs.Varint.{insufficient}
-use Rattle.multihash.specs.Pair.{Pair, FitsBuffer}
 use Rattle.multihash.specs.Verdict.{Verdict, accepted, invalid_size, faulty, HasVerdict, IsEarlyEnd}
 use Rattle.multihash.specs.Settling.{Settles}
-use Rattle.multihash.specs.Joined.{AreJoined}
 use Rattle.multihash.specs.Reading.{Takes}
 use Rattle.multihash.specs.Refusal.{Refusal, of_io, of_size, of_varint}
 use Rattle.multihash.specs.Answer.{IsRefusal}
 use Rattle.multihash.specs.Taking.{TakesShortestSettling, TakesNothingSettling}
 use Rattle.multihash.specs.Streams.{TakesPairs, StopsAfterPairs}
 use Rattle.multihash.proofs.Readings.ReadingLemmas.{Takes-none}
-use Rattle.multihash.proofs.Forms.StreamLemmas.{TakesPairs-none}
 use Rattle.multihash.proofs.Readings.VerdictLemmas.{verdict_unique}
 use Rattle.multihash.proofs.Readings.SettlingLemmas.{late_settles, none_settles}
-use Rattle.multihash.proofs.Forms.JoinedLemmas.{joined_whole, joined_same, joined_unique}
-use Rattle.multihash.proofs.Examples.FaultVectors.{other}
-use Rattle.multihash.proofs.Examples.RefusalVectors.{size_in}
+use Rattle.multihash.proofs.Examples.RefusalVectors.{other, size_in}
 use Rattle.multihash.proofs.Examples.ReadingVectors.{told, taken_is}
-use Rattle.multihash.proofs.Examples.VarintVectors.{varint_0, varint_1}
-use Rattle.multihash.proofs.Examples.PairVectors.{pair}
 use Rattle.multihash.proofs.Examples.VerdictVectors.{size_5, code_open, empty_digest}
 use Rattle.multihash.proofs.Examples.TakingVectors.{takes_no_byte_behind_size, takes_what_settles}
-use Rattle.multihash.proofs.Examples.JoinedVectors.{first_code, joined_none_only, joined_one, joined_two}
+
+joined_none : AreJoined [] []
+joined_none = record { encodings = []; each = tt; joined = refl }
+
+-- and nothing else is
+pub joined_none_only : (bytes : List ℕ) → AreJoined [] bytes → bytes ≡ []
+joined_none_only bytes h = h.joined ∙ none h.encodings h.each
+  where
+    none : (es : List (List ℕ)) → AllZip IsEncoding [] es → concat es ≡ []
+    none [] each = refl
+    none (e ∷ es) each = absurd each
+
+pub joined_one : AreJoined (pair 0 (codes "A") ∷ []) (0 ∷ 1 ∷ 65 ∷ [])
+joined_one = record {
+  encodings = (0 ∷ 1 ∷ 65 ∷ []) ∷ [];
+  each = (record { code = 0 ∷ []; size = 1 ∷ []; is_code = varint_0; is_size = varint_1; spelled = refl }, tt);
+  joined = refl;
+}
+
+pub joined_two : AreJoined (pair 0 (codes "A") ∷ pair 1 (codes "B") ∷ [])
+    (0 ∷ 1 ∷ 65 ∷ 1 ∷ 1 ∷ 66 ∷ [])
+joined_two = record {
+  encodings = (0 ∷ 1 ∷ 65 ∷ []) ∷ (1 ∷ 1 ∷ 66 ∷ []) ∷ [];
+  each = (
+    record { code = 0 ∷ []; size = 1 ∷ []; is_code = varint_0; is_size = varint_1; spelled = refl },
+    (record { code = 1 ∷ []; size = 1 ∷ []; is_code = varint_1; is_size = varint_1; spelled = refl }, tt),
+  );
+  joined = refl;
+}
+
+abbrev pub first_code : List Pair → ℕ
+first_code [] = 0
+first_code (p ∷ ps) = p.code
+
+-- the order counts
+not_joined_backwards : ¬ (AreJoined (pair 1 (codes "B") ∷ pair 0 (codes "A") ∷ []) (0 ∷ 1 ∷ 65 ∷ 1 ∷ 1 ∷ 66 ∷ []))
+not_joined_backwards h =
+    let same = joined_whole (pair 1 (codes "B") ∷ pair 0 (codes "A") ∷ []) (pair 0 (codes "A") ∷ pair 1 (codes "B") ∷ [])
+    (0 ∷ 1 ∷ 65 ∷ 1 ∷ 1 ∷ 66 ∷ []) h joined_two in
+    omega (arith, ap first_code same)
+
+-- and each pair has its encoding
+no_pair_without_bytes : (p : Pair) → ¬ (AreJoined (p ∷ []) [])
+no_pair_without_bytes p h =
+    omega (arith, ap (λ (ps : List Pair). length ps) (joined_whole (p ∷ []) [] [] h joined_none))
+
+no_pair_is_left_out : ¬ (AreJoined (pair 0 (codes "A") ∷ pair 1 (codes "B") ∷ []) (0 ∷ 1 ∷ 65 ∷ []))
+no_pair_is_left_out h =
+    omega (
+      arith,
+      ap (λ (z : List ℕ). length z)
+          (joined_same (pair 0 (codes "A") ∷ pair 1 (codes "B") ∷ []) (0 ∷ 1 ∷ 65 ∷ [])
+          (0 ∷ 1 ∷ 65 ∷ 1 ∷ 1 ∷ 66 ∷ []) h joined_two),
+    )
 
 abbrev a : Pair
 a = pair 0 (codes "A")

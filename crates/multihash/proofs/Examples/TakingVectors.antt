@@ -10,14 +10,12 @@ use Rattle.multihash.specs.Refusal.{Refusal, of_io, of_size, of_code, of_varint,
 use Rattle.multihash.specs.Taking.{IsVarintRefusal, IsFrontRefusal, BeginsNoVarint, TakesVarint, IsReadRefusal, TakesAtVarintRefusal, TakesAtRefusal, TakesShortestSettling, TakesNothingSettling}
 use Rattle.multihash.proofs.Varints.VarintLemmas.{front_unique, number, fault, varint_unique}
 use Rattle.multihash.proofs.Readings.VerdictLemmas.{verdict_unique}
-use Rattle.multihash.proofs.Readings.SettlingLemmas.{none_settles}
-use Rattle.multihash.proofs.Readings.ShortestLemmas.{shortest_unique}
-use Rattle.multihash.proofs.Examples.FaultVectors.{other, eof, memory}
+use Rattle.multihash.proofs.Readings.SettlingLemmas.{none_settles, shortest_unique}
+use Rattle.multihash.proofs.Examples.RefusalVectors.{other, eof, memory}
 use Rattle.multihash.proofs.Examples.ReadingVectors.{told, taken_is}
 use Rattle.multihash.proofs.Examples.VarintVectors.{all_marked, varint_0, varint_4, varint_5, not_another}
 use Rattle.multihash.proofs.Examples.PairVectors.{pair}
-use Rattle.multihash.proofs.Examples.VerdictVectors.{empty_input, code_alone, digest_cut, digest_full, size_above_limit}
-use Rattle.multihash.proofs.Examples.SettlingVectors.{size_settles, shortest_of_size}
+use Rattle.multihash.proofs.Examples.VerdictVectors.{empty_input, code_alone, digest_cut, digest_full, size_above_limit, size_settles, shortest_of_size}
 
 -- ---- refusals
 

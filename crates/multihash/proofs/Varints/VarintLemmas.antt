@@ -1,15 +1,15 @@
--- One varint a number, and one front an input.
-use Rattle.std.proofs.Common.{◌≡◌, ℕ, zero, suc, ◌+◌, ◌-◌, ◌%◌, cond, ltb, ◌^◌, ◌<◌, ◌≤◌, List, [], ◌∷◌, ◌++◌, length, refl, sym, ap, ◌∙◌, arith, inl, inr, append_assoc, append-nil}
+-- One varint a number, how long it is, and one front an input.
+use Rattle.std.proofs.Common.{◌≡◌, ℕ, zero, suc, ◌+◌, ◌-◌, ◌%◌, cond, ltb, ◌^◌, ◌<◌, ◌≤◌, List, [], ◌∷◌, ◌++◌, length, refl, sym, ap, ◌∙◌, arith, inl, inr, append_assoc, append-nil, ◌*◌, ◌/◌, length-append}
 use Rattle.std.specs.List.{All}
 use Rattle.std.proofs.Math.Nat.{lt_of_not-le, mod-eq_of_lt, mul-le-mul_right, pow-le-pow_right}
 use Rattle.std.proofs.lemmas.Bool.{cases_lt, lt-ltb, le-ltb}
 use Rattle.std.proofs.lemmas.List.{length-map, length_push, map_push, same_from_push}
 use Rattle.std.proofs.lemmas.List.Elements.{All-nil, All-head, All-tail, All-push}
 use Rattle.multihash.specs.Bytes.{IsBytes, place_value}
-use Rattle.multihash.specs.Varint.{varint_limit, max_marked, last_byte_limit, IsMarked, marked, IsVarint, IsOverflow}
-use Rattle.multihash.specs.Varint.{IsNotMinimal, VarintFault, insufficient, overflow, not_minimal, HasFaultyFront}
-use Rattle.multihash.proofs.Varints.DigitLemmas.{place_value_below, place_value_last, place_value_unique}
-use Rattle.multihash.proofs.Varints.MarkedLemmas.{All-append_left, All-append_right, All-marked, IsDigit, low_digits, low_digits_below, marked-low_digits, low_digits-marked}
+use Rattle.multihash.specs.Varint.{varint_limit, max_marked, last_byte_limit, IsMarked, marked, IsVarint, IsOverflow, IsNotMinimal, VarintFault, insufficient, overflow, not_minimal, HasFaultyFront}
+use Rattle.multihash.proofs.Varints.DigitLemmas.{place_value_below, place_value_last, place_value_unique, pow_power, All-append_left, All-append_right, All-marked, IsDigit, low_digits, low_digits_below, marked-low_digits, low_digits-marked}
+use Rattle.std.specs.Int.{w64, leading_zeros}
+use Rattle.std.proofs.lemmas.Nat.{leading_top}
 
 -- ---- how long a varint is
 
@@ -206,3 +206,28 @@ front_of_has x bytes = front_has max_marked [] x (All-nil IsMarked) refl bytes
 -- a number and what follows is all that stands in front
 pub same_number : (x : List ℕ) (m n : ℕ) (r q : List ℕ) → HasFront x (number m r) → HasFront x (number n q) → (m ≡ n) × (r ≡ q)
 same_number x m n r q h k = let same = front_unique x (number m r) (number n q) h k in (cc, cc)
+
+-- a varint has a byte more than its front
+pub varint_bytes : (n : ℕ) (bytes : List ℕ) (v : IsVarint n bytes) → length bytes ≡ length v.front + 1
+varint_bytes n bytes v =
+    omega (arith, ap length v.spelled, length-append (marked v.front) (v.last ∷ []), length-map v.front (λ digit. digit + 128))
+
+pub varint_longest : (n : ℕ) (bytes : List ℕ) → IsVarint n bytes → length bytes ≤ max_marked + 1
+varint_longest n bytes v = omega (arith, varint_bytes n bytes v, (varint_length n bytes v).0)
+
+-- a number above zero has as many bytes as its bits need, seven in each
+pub varint_bits : (n : ℕ) (bytes : List ℕ) → IsVarint n bytes → 0 < n → length bytes ≡ (70 - leading_zeros w64 n) / 7
+varint_bits n bytes v some =
+    let two : 0 < 2 = omega arith in
+    let top = leading_top 64 n some (omega (arith, v.in_range)) in
+    let above : 2 ^ suc top.0 ≤ 2 ^ (7 * suc (top.0 / 7)) = pow-le-pow_right two (omega arith) in
+    let places : 2 ^ (7 * suc (top.0 / 7)) ≡ 128 ^ suc (top.0 / 7) = pow_power 7 (suc (top.0 / 7)) in
+    let most : length v.front ≤ top.0 / 7 = front_within (top.0 / 7) n bytes v (omega (arith, top.3, above, places)) in
+    let long : length (v.front ++ v.last ∷ []) ≡ suc (length v.front) = omega (arith, length_push v.front v.last) in
+    let under : n < 128 ^ suc (length v.front) = rw (v.value, long) at (place_value_below 128 (v.front ++ v.last ∷ []) v.digits) in
+    let same : 2 ^ (7 * suc (length v.front)) ≡ 128 ^ suc (length v.front) = pow_power 7 (suc (length v.front)) in
+    let least : top.0 < 7 * suc (length v.front) = lt_of_not-le (λ high.
+    let large : 2 ^ (7 * suc (length v.front)) ≤ 2 ^ top.0 = pow-le-pow_right two high in
+    omega (arith, large, top.2, under, same)) in
+    let bits : leading_zeros w64 n + suc top.0 ≡ 64 = top.1 in
+    omega (arith, varint_bytes n bytes v, bits, most, least)

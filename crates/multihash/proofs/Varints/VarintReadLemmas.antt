@@ -7,17 +7,15 @@ use Rattle.std.proofs.lemmas.Nat.{and_mask}
 use Rattle.std.proofs.lemmas.List.{length_push, nil_from_length}
 use Rattle.std.proofs.lemmas.List.Elements.{All-nil, All-push}
 use Rattle.multihash.specs.Bytes.{IsBytes, IsProperBeginning, place_value}
-use Rattle.multihash.specs.Varint.{max_marked, last_byte_limit, IsMarked, VarintFault, insufficient}
-use Rattle.multihash.specs.Varint.{overflow, not_minimal, IsInsufficient, HasFaultyFront}
+use Rattle.multihash.specs.Varint.{max_marked, last_byte_limit, IsMarked, VarintFault, insufficient, overflow, not_minimal, IsInsufficient, HasFaultyFront}
 use Rattle.multihash.specs.Fault.{Fault}
 use Rattle.multihash.specs.Reading.{Takes}
 use Rattle.multihash.specs.Refusal.{Refusal, of_io, of_varint}
 use Rattle.multihash.specs.Taking.{TakesVarint, TakesAtVarintRefusal}
-use Rattle.multihash.proofs.Varints.DigitLemmas.{place_value-nil, place_value-cons}
-use Rattle.multihash.proofs.Varints.MarkedLemmas.{low_digits, or_digits}
+use Rattle.multihash.proofs.Varints.DigitLemmas.{place_value-nil, place_value-cons, low_digits, or_digits}
 use Rattle.multihash.proofs.Varints.VarintLemmas.{low_digits_in_range, varint_from_bytes, overflow_behind, zero_behind}
 use Rattle.multihash.proofs.Readings.ReadingLemmas.{Takes-none, Takes-joined}
-use Rattle.multihash.proofs.Readings.ShortestLemmas.{before_step}
+use Rattle.multihash.proofs.Readings.SettlingLemmas.{before_step}
 
 -- so many bytes were taken, all of them marked, and the sum is the value of their digits
 pub record ReadsMarked (old now : Option (List ℕ)) (sum i : ℕ) : Type 0 where

@@ -1,5 +1,4 @@
-use Rattle.multihash.proofs.Readings.SettlingLemmas.{settles_exactly, none_settles}
-use Rattle.multihash.proofs.Readings.ShortestLemmas.{one_shortest}
+use Rattle.multihash.proofs.Readings.SettlingLemmas.{settles_exactly, none_settles, one_shortest}
 use Rattle.multihash.proofs.laws.settles.Goals as goal
 
 pub returns-clause-exactly : goal.returns-clause-exactly

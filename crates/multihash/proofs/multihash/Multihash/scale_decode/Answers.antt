@@ -4,8 +4,7 @@ use Rattle.multihash.specs.Scale.{IsScaleCode}
 use Rattle.multihash.specs.Reading.{Takes}
 use Rattle.multihash.proofs.OutcomeLemmas.{passed_err}
 use Rattle.multihash.proofs.Readings.ReadingLemmas.{Takes-joined}
-use Rattle.multihash.proofs.Forms.ScaleCodeLemmas.{code_read}
-use Rattle.multihash.proofs.Forms.ScaleTakingLemmas.{ScaleMeets, one_item, code_refused, no_size, size_refused, cut_digest, inside_refused, answered}
+use Rattle.multihash.proofs.Forms.ScaleLemmas.{code_read, ScaleMeets, one_item, code_refused, no_size, size_refused, cut_digest, inside_refused, answered}
 use Rattle.multihash.proofs.multihash.Multihash.scale_decode.Given as given
 use Rattle.multihash.proofs.multihash.Multihash.scale_decode.Goals as goal
 use Rattle.multihash.proofs.multihash.Multihash.scale_decode.Goals.{After-from_le_bytes-code, After-from-size}
