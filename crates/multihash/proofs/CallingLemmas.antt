@@ -5,7 +5,6 @@ use Rattle.std.specs.Result.{is_ok}
 use Rattle.std.proofs.lemmas.List.{length-map, map_push, nil_from_length}
 use Rattle.std.proofs.lemmas.Bool.{false≢true}
 use Rattle.std.proofs.lemmas.List.Elements.{All-nil, All-head, All-tail}
-use mathlib.Core.Bool.{beq}
 use Rattle.multihash.specs.Pair.{Pair, FitsBuffer}
 use Rattle.multihash.specs.Encoding.{IsEncoding}
 use Rattle.multihash.specs.Joined.{AreJoined}
@@ -31,20 +30,6 @@ use Rattle.multihash.proofs.Varints.VarintLemmas.{number_no_fault, same_number}
 use Rattle.multihash.proofs.Forms.ScaleLemmas.{scale_split, scale_verdict_unique}
 use Rattle.multihash.proofs.Forms.StreamLemmas.{none_left, first_of, same_first, joined_unique}
 use Rattle.multihash.proofs.Writings.EncodingLemmas.{same_cut, encoding_same, encoding_unique}
-
--- two pairs are the same exactly where their encodings are one list
-pub same_encoding : (p q : Pair) (x y : List ℕ) → IsEncoding p x → IsEncoding q y → (p ≡ q) ↔ (x ≡ y)
-same_encoding p q x y e f = (
-  (λ same. encoding_same q x y (subst (λ r. IsEncoding r x) same e) f),
-  λ same. (encoding_unique p q x y [] [] e f (ap (λ (z : List ℕ). z ++ []) same)).0,
-)
-
--- tests of equivalent facts answer alike
-pub tests_agree : {P Q : Type 0} (a b : Bool) → (IsTrue a ↔ P) → (IsTrue b ↔ Q) → (P ↔ Q) → IsTrue (beq a b)
-tests_agree true true p q both = refl
-tests_agree true false p q both = absurd (false≢true (q.1 (both.0 (p.0 refl))))
-tests_agree false true p q both = absurd (false≢true (p.1 (both.1 (q.0 refl))))
-tests_agree false false p q both = refl
 
 -- what follows some encodings begins with the next, where those of more pairs begin the input
 next_joined : (S : ℕ) (qs ps : List Pair) (b a rest more : List ℕ) → AreJoined qs b → AreJoined ps a → All (FitsBuffer S) ps

@@ -25,6 +25,7 @@ pub fn one_verdict()
 {}
 
 /// An input settles its verdict unless it is incomplete.
+#[tactic(auto, using(crate::proofs::Readings::SettlingLemmas::settles_exactly, crate::proofs::Readings::SettlingLemmas::one_shortest, crate::proofs::Readings::SettlingLemmas::none_settles))]
 pub fn settles()
     ensures exactly { (S : ℕ) (input : List ℕ) (v : Verdict) → HasVerdict S input v →
         (Settles S input ↔ ¬ (IsEarlyEnd v)) }

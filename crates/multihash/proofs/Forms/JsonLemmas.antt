@@ -17,9 +17,6 @@ use Rattle.serde_json.specs.Find.{as_array}
 use Rattle.serde_json.specs.declared.value.Value.{Value}
 use Rattle.multihash.specs.Members.{byte_of_data, member_bytes, is_byte}
 
-abbrev IsByte : ℕ → Type 0
-IsByte b = b < 256
-
 abbrev pub numbers : List ℕ → Items
 numbers ns = items_of (map (λ n. number (unsigned n)) ns)
 

@@ -166,6 +166,7 @@ fn read_high(word: u128, present: usize) -> Result<(u64, usize), Error>
 
 // The number of the low seven bits of each byte of a low half, which mostly has few bytes of a varint.
 #[inline(always)]
+#[tactic(auto, unfolding(crate::specs::Word::digits_low))]
 fn join_low(half: u64) -> u64
     ensures { result ≡ digits_low 8 half }
 {

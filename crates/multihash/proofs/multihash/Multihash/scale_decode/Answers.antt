@@ -68,7 +68,3 @@ returns g c =
     (c.in_ok-read_exact.ensures.laws.faults ∙ (c.in_ok-size_byte.ensures.faults ∙ c.in_ok-code_bytes.ensures.faults)) (rw front at c.in_buffer.ensures)
     (Takes-joined _ _ _ _ d _ (sym (append_assoc _ (size ∷ []) d)) (takes g (goal.at.returns g c).After-from-size)
     c.in_ok-read_exact.ensures.laws.takes)
-
--- Answered, since a body that breaks a goal with an answer is refused sooner than one with none.
-pub in_buffer-requires : goal.in_buffer-requires
-in_buffer-requires g c = search rules
