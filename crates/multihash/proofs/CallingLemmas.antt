@@ -7,7 +7,7 @@ use Rattle.std.proofs.lemmas.Bool.{false≢true}
 use Rattle.std.proofs.lemmas.List.Elements.{All-nil, All-head, All-tail}
 use Rattle.multihash.specs.Pair.{Pair, FitsBuffer}
 use Rattle.multihash.specs.Encoding.{IsEncoding}
-use Rattle.multihash.specs.Joined.{AreJoined}
+use Rattle.multihash.specs.Streams.{AreJoined, TakesPairs, StopsAfterPairs}
 use Rattle.multihash.specs.Varint.{insufficient, IsMarked, IsVarint}
 use Rattle.multihash.specs.Verdict.{Verdict, accepted, faulty, HasVerdict, HasWholeVerdict, IsEarlyEnd}
 use Rattle.multihash.specs.Settling.{Settles, IsShortestSettling}
@@ -16,12 +16,10 @@ use Rattle.multihash.proofs.Readings.SettlingLemmas.{early_not_settles}
 use Rattle.multihash.specs.Fault.{Fault, IsOwnFault, IsUnexpectedEof}
 use Rattle.multihash.specs.Reading.{Takes, CountsReader, HasFewerThan}
 use Rattle.multihash.specs.Scale.{IsScale, HasScaleVerdict}
-use Rattle.multihash.specs.Places.{GivesUpFor}
+use Rattle.multihash.specs.Writing.{GivesUpFor, AppendsPart, CountsWriter}
 use Rattle.multihash.specs.Filling.{Fills, IsFilled}
 use Rattle.multihash.specs.declared.no_std_io.slice_writer.SliceWriter.{SliceWriter}
-use Rattle.multihash.specs.Writing.{AppendsPart, CountsWriter}
 use Rattle.multihash.specs.Refusal.{Refusal, IsIo, IsMemory}
-use Rattle.multihash.specs.Streams.{TakesPairs, StopsAfterPairs}
 use Rattle.multihash.specs.Answer.{Fields, pair_of, IsRefusal, Answers}
 use Rattle.multihash.proofs.Writings.WritingLemmas.{fewer_places, full_of_faults, slice_writer_has_room, length_of_not_nil}
 use Rattle.multihash.proofs.Readings.ReadingLemmas.{Takes-cut, Takes-told}

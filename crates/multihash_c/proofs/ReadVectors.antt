@@ -1,9 +1,8 @@
 -- What reading known inputs answers for digests of at most four bytes, and what it took.
 use Rattle.std.proofs.Common.{◌≡◌, ℕ, List, [], ◌∷◌, ◌++◌, length, drop, refl, sym, ap, subst, arith, inl, length-drop}
 use Rattle.multihash.specs.Varint.{insufficient, not_minimal, HasFaultyFront}
-use Rattle.multihash.specs.Verdict.{BeginsWith, accepted, invalid_size, faulty, unexpected_eof, HasVerdict}
+use Rattle.multihash.specs.Verdict.{BeginsWith, accepted, invalid_size, faulty, unexpected_eof, HasVerdict, HasHead}
 use Rattle.multihash.specs.Settling.{IsShortestSettling}
-use Rattle.multihash.specs.Head.{HasHead}
 use Rattle.multihash.proofs.Readings.VerdictLemmas.{verdict_unique}
 use Rattle.multihash.proofs.Readings.SettlingLemmas.{shortest_pair, shortest_code_fault, shortest_unique}
 use Rattle.multihash.proofs.Examples.VerdictVectors.{shortest_of_size, size_5, digest_cut, empty_input, code_alone, size_open}

@@ -1,6 +1,6 @@
 //! The front of an encoding, for C.
 ghost use Rattle.std.specs.Prelude.{ℕ, List};
-ghost use Rattle.multihash.specs.Head.{HasHead};
+ghost use Rattle.multihash.specs.Verdict.{HasHead};
 ghost use Rattle.multihash_c.specs.Front.{TellsHead, ReadsFront};
 
 use crate::{read, status};

@@ -4,8 +4,7 @@ use Rattle.multihash.specs.Varint.{varint_limit}
 use Rattle.multihash.specs.Pair.{Pair, FitsBuffer, digest_limit}
 use Rattle.multihash.specs.Encoding.{IsEncoding}
 use Rattle.multihash.specs.Verdict.{Verdict, accepted, invalid_size, invalid_code, faulty, unexpected_eof, BeginsWithSize, HasVerdict, HasWholeVerdict}
-use Rattle.multihash.specs.Scale.{IsScaleCode, HasScaleVerdict}
-use Rattle.multihash.specs.ScaleTaking.{TakesAtScaleRefusal}
+use Rattle.multihash.specs.Scale.{IsScaleCode, HasScaleVerdict, TakesAtScaleRefusal}
 use Rattle.multihash.specs.Settling.{Settles}
 use Rattle.multihash.specs.Taking.{TakesShortestSettling, TakesNothingSettling}
 use Rattle.multihash.specs.Reading.{Takes}

@@ -5,7 +5,7 @@ use Rattle.multihash.specs.Varint.{max_marked}
 use Rattle.multihash.specs.Encoding.{IsEncoding}
 use Rattle.multihash.proofs.Examples.VarintVectors.{varint_0, varint_2, varint_128, varint_255, largest, largest_bytes, varint_largest, begins_small, varint_1, varint_5}
 use Rattle.multihash.proofs.Examples.PairVectors.{pair}
-use Rattle.multihash.specs.Head.{HasHead}
+use Rattle.multihash.specs.Verdict.{HasHead}
 use Rattle.multihash.proofs.Examples.VerdictVectors.{size_5}
 use Rattle.multihash.proofs.Varints.VarintLemmas.{same_number}
 

@@ -4,7 +4,7 @@ use Rattle.std.specs.Prelude.{codes, Option, Some, None, IfSome}
 use Rattle.std.specs.List.{concat, AllZip, All}
 use Rattle.multihash.specs.Pair.{Pair, FitsBuffer}
 use Rattle.multihash.specs.Encoding.{IsEncoding}
-use Rattle.multihash.specs.Joined.{AreJoined}
+use Rattle.multihash.specs.Streams.{AreJoined, TakesPairs, StopsAfterPairs}
 use Rattle.multihash.proofs.Forms.StreamLemmas.{joined_whole, joined_same, TakesPairs-none, joined_unique}
 use Rattle.multihash.proofs.Examples.VarintVectors.{varint_0, varint_1}
 use Rattle.multihash.proofs.Examples.PairVectors.{pair}
@@ -16,7 +16,6 @@ use Rattle.multihash.specs.Reading.{Takes}
 use Rattle.multihash.specs.Refusal.{Refusal, of_io, of_size, of_varint}
 use Rattle.multihash.specs.Answer.{IsRefusal}
 use Rattle.multihash.specs.Taking.{TakesShortestSettling, TakesNothingSettling}
-use Rattle.multihash.specs.Streams.{TakesPairs, StopsAfterPairs}
 use Rattle.multihash.proofs.Readings.ReadingLemmas.{Takes-none}
 use Rattle.multihash.proofs.Readings.VerdictLemmas.{verdict_unique}
 use Rattle.multihash.proofs.Readings.SettlingLemmas.{late_settles, none_settles}

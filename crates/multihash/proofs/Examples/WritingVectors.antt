@@ -3,8 +3,7 @@ use Rattle.std.proofs.Common.{◌≡◌, ◌≢◌, ◌≤◌, ℕ, Bool, true, 
 use Rattle.std.specs.Prelude.{⊤, Result, Ok, Err}
 use Rattle.std.proofs.lemmas.Bool.{false≢true}
 use Rattle.multihash.specs.Fault.{Fault}
-use Rattle.multihash.specs.Writing.{IsWriterFault, AppendsPart, IsWriterFaultOrFull, CountsWriter, WriteLaws, WriteAllLaws, IsFault}
-use Rattle.multihash.specs.Places.{AppendsAtEnd, GivesUpFor}
+use Rattle.multihash.specs.Writing.{IsWriterFault, AppendsPart, IsWriterFaultOrFull, CountsWriter, WriteLaws, WriteAllLaws, IsFault, AppendsAtEnd, GivesUpFor}
 use Rattle.multihash.proofs.Examples.RefusalVectors.{other, eof, full, memory}
 use Rattle.multihash.specs.Filling.{FillsPlaces, Fills, IsFilled}
 use Rattle.multihash.specs.declared.no_std_io.slice_writer.SliceWriter.{SliceWriter}

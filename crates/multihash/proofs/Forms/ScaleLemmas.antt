@@ -5,7 +5,7 @@ use Rattle.std.proofs.Math.Nat.{pow-suc, pow-zero, div-add-mod, div-div-eq-div-m
 use Rattle.std.proofs.lemmas.Nat.{mod_below, div_below, le_bytes_8}
 use Rattle.std.proofs.lemmas.List.Elements.{All-nil, All-cons, All-head, All-same}
 use Rattle.multihash.specs.Bytes.{IsBytes, place_value}
-use Rattle.multihash.specs.Scale.{IsScaleCode, IsScale, HasScaleSize, HasScaleVerdict}
+use Rattle.multihash.specs.Scale.{IsScaleCode, IsScale, HasScaleSize, HasScaleVerdict, IsScaleRefusal, TakesAtScaleRefusal}
 use Rattle.multihash.proofs.Varints.DigitLemmas.{place_value-nil, place_value-cons, place_value_unique, All-append_left, All-append_right}
 use Rattle.std.proofs.lemmas.Bool.{cases_lt, lt-ltb, le-ltb}
 use Rattle.std.proofs.lemmas.List.{take_at, drop_at, take-append-drop, length-take-le, append_cancel_left}
@@ -17,7 +17,6 @@ use Rattle.multihash.specs.Reading.{Takes, HasFewerThan, CountsReader}
 use Rattle.std.specs.Io.KnownBytes.{prepend_known}
 use Rattle.multihash.specs.Refusal.{Refusal, of_io, IsReaderFault, IsInvalidSize, IsInvalidCode}
 use Rattle.multihash.specs.Answer.{Fields, pair_of, IsRefusal, Answers}
-use Rattle.multihash.specs.ScaleTaking.{IsScaleRefusal, TakesAtScaleRefusal}
 use Rattle.multihash.proofs.Readings.ReadingLemmas.{IfSome-taken, Takes-joined}
 use Rattle.multihash.proofs.Readings.ReadTakingLemmas.{refusal_unique, own_no_refusal}
 

@@ -4,12 +4,11 @@ use Rattle.std.specs.List.{concat, AllZip}
 use Rattle.multihash.specs.Pair.{Pair, FitsBuffer}
 use Rattle.multihash.specs.Varint.{marked}
 use Rattle.multihash.specs.Encoding.{IsEncoding}
-use Rattle.multihash.specs.Joined.{AreJoined}
+use Rattle.multihash.specs.Streams.{AreJoined, TakesPairs}
 use Rattle.multihash.proofs.Writings.EncodingLemmas.{encoding_unique, encoding_same}
 use Rattle.std.proofs.lemmas.List.{map_push}
 use Rattle.std.proofs.lemmas.List.Elements.{All-nil, All-push}
 use Rattle.multihash.specs.Reading.{Takes}
-use Rattle.multihash.specs.Streams.{TakesPairs}
 use Rattle.multihash.specs.Answer.{Fields, pair_of}
 use Rattle.multihash.proofs.Readings.ReadingLemmas.{Takes-none, Takes-joined}
 

@@ -2,11 +2,10 @@
 use Rattle.std.proofs.Common.{◌≡◌, ◌≢◌, ◌<◌, [], ◌∷◌, refl, ℕ, ◌-◌, List, ◌++◌, length, take, drop, Result, OnErr, sym, ap, ◌∙◌, arith, append_assoc, take-append-drop, length-append, length-drop, ◌≤◌, false, inl, inr, Ok, Err, IsOk, ◌+◌}
 use Rattle.std.proofs.lemmas.List.{take_rest, length-take-le}
 use Rattle.multihash.specs.Bytes.{IsProperBeginning}
-use Rattle.multihash.specs.Writing.{AppendsPart, IsWriterFaultOrFull, CountsWriter}
+use Rattle.multihash.specs.Writing.{AppendsPart, IsWriterFaultOrFull, CountsWriter, GivesUpFor}
 use Rattle.multihash.proofs.OutcomeLemmas.{OnErr-always}
 use Rattle.std.proofs.lemmas.Bool.{false≢true}
 use Rattle.multihash.specs.Fault.{Fault}
-use Rattle.multihash.specs.Places.{GivesUpFor}
 use Rattle.multihash.specs.Refusal.{Refusal, IsIo}
 use Rattle.multihash.specs.Filling.{FillsPlaces, Fills, IsFilled}
 use Rattle.multihash.specs.declared.no_std_io.slice_writer.SliceWriter.{SliceWriter}

@@ -2,7 +2,7 @@ use Rattle.std.proofs.Common.{◌+◌, ℕ, List, [], ◌∷◌, ◌++◌, map, 
 use Rattle.std.proofs.lemmas.List.{drop_more, drop_all}
 use Rattle.multihash.specs.Answer.{Fields, pair_of}
 use Rattle.multihash.specs.Encoding.{IsEncoding}
-use Rattle.multihash.specs.Joined.{AreJoined}
+use Rattle.multihash.specs.Streams.{AreJoined}
 use Rattle.multihash.specs.Writing.{AppendsPart}
 use Rattle.multihash.proofs.OutcomeLemmas.{OnErr-always}
 use Rattle.multihash.proofs.Forms.StreamLemmas.{AreJoined-none, AreJoined-first, joined_same}
