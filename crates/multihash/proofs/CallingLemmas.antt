@@ -43,7 +43,7 @@ next_joined S (q ∷ qs) (p ∷ ps) b a rest more h k fit less e =
     let first = same_first q p qs ps b a rest more x y e in
     next_joined S qs ps x.1 y.1 rest more x.3 y.3 (All-tail (FitsBuffer S) p ps fit) (omega arith) first.1
 
--- reading a stream of so many pairs did not stop at a refusal
+-- reading a stream of that many pairs did not stop at an error
 pub never_stops : (S count : ℕ) (e : Refusal) (n : ℕ) (new : Option (List ℕ)) (pairs : List Pair) (bytes more : List ℕ)
     → AreJoined pairs bytes → All (FitsBuffer S) pairs → length pairs ≡ count
     → StopsAfterPairs S count e n n (Some (bytes ++ more)) new → ⊥
@@ -53,7 +53,7 @@ never_stops S count e n new pairs bytes more joined fit many stop =
     let found = (rw is at stop.verdict) refl in
     subst (IsRefusal e) (verdict_unique S left found.0 (accepted next.0) found.1 next.1) found.2
 
--- reading a stream of so many pairs gives them and leaves what follows, or there was no memory
+-- reading a stream of that many pairs gives them and leaves what follows, or there was no memory
 pub read_list_of_encodings : (S count before after : ℕ) (old new : Option (List ℕ)) (pairs : List Pair) (bytes more : List ℕ)
     (r : Result (Vec (Fields S) Global) Refusal) → AreJoined pairs bytes → All (FitsBuffer S) pairs → length pairs ≡ count
     → old ≡ Some (bytes ++ more) → after ≡ before
@@ -70,7 +70,7 @@ read_list_of_encodings S count before after old new pairs bytes more (Err e) joi
     absurd (never_stops S count e before new pairs bytes more joined fit many
     (subst (λ o. StopsAfterPairs S count e before before o new) rest (subst (λ n. StopsAfterPairs S count e before n old new) same stop)))
 
--- a slice is written to where it has room for all bytes, and else no place is left
+-- a form is written to a slice if its capacity suffices; otherwise the slice is full then
 module _ {W : Type 0} (appended : W → List ℕ → W → Type 0) (a b : W) (IsForm : List ℕ → Type 0) (old new : List ℕ)
     (gives : (part : List ℕ) → appended a part b → GivesUpFor old part new) where
   pub filled : {T : Type 0} (r : Result T Refusal) (is_whole : Bool) → is_whole ≡ is_ok r
@@ -95,7 +95,7 @@ module _ {W : Type 0} (appended : W → List ℕ → W → Type 0) (a b : W) (Is
         omega (arith, fewer, ap length none),
       )
 
--- `write` succeeds through a slice's writer that is new, where the slice has as many places as `encoded_len` says: the
+-- `write` succeeds through a slice's writer that is new, if the slice has the capacity that `encoded_len` returns: the
 -- facts are the clauses of `encoded_len` and of `SliceWriter::new`, and `err` and `faults` of `write`
 pub write_of_encoded_len : {T : Type 0} {places : List ℕ} (old new : SliceWriter) (p : Pair) (len : ℕ) (r : Result T Refusal)
     → (bytes : List ℕ) × IsEncoding p bytes × (len ≡ length bytes) → len ≤ length places
@@ -112,7 +112,7 @@ pub scale_pair : (S : ℕ) (p q : Pair) (input bytes taken more left : List ℕ)
 scale_pair S p q input bytes taken more left v whole form fits found answers is_taken cut =
     let same = scale_split q p taken bytes left more is_taken form (sym cut ∙ whole) in (same.0, same.2)
 
--- and it is not refused
+-- and it is not rejected
 pub scale_taken : (S : ℕ) (p : Pair) (input bytes more : List ℕ) (v : Verdict) (e : Refusal) → input ≡ bytes ++ more → IsScale p bytes
     → FitsBuffer S p → HasScaleVerdict S input v → IsRefusal e v → ⊥
 scale_taken S p input bytes more v e whole form fits found refused =
@@ -133,13 +133,13 @@ read_of_encoding S before after old new p bytes more (Err e) encodes fits rest s
     let own : HasVerdict S (bytes ++ more) (accepted p) = (more, record { encoding = bytes; encodes = encodes; cut = refl }, fits) in
     subst (IsRefusal e) (verdict_unique S (bytes ++ more) found.0 (accepted p) found.1 own) found.2
 
--- bytes that `from_bytes` refuses are the encoding of no pair that fits: the first fact is its clause
+-- bytes that `from_bytes` rejects are the encoding of no pair that fits: the first fact is its clause
 pub refused_no_encoding : (S : ℕ) {e : Refusal} {bytes : List ℕ} → (v : Verdict) × HasWholeVerdict S bytes v × IsRefusal e v
     → (p : Pair) → IsEncoding p bytes → FitsBuffer S p → ⊥
 refused_no_encoding S {e = e} {bytes = bytes} (v, h, names) p encodes fits =
     subst (IsRefusal e) (whole_verdict_unique S bytes v (accepted p) h (encodes, fits)) names
 
--- bytes that `from_bytes` accepts are the encoding of the pair that it answers, and of no other
+-- bytes that `from_bytes` accepts are the encoding of the pair that it returns, and of no other
 pub accepted_encoding : (S : ℕ) {q : Pair} {bytes : List ℕ} → (v : Verdict) × HasWholeVerdict S bytes v × (v ≡ accepted q)
     → IsEncoding q bytes × ((p : Pair) → IsEncoding p bytes → q ≡ p)
 accepted_encoding S {q = q} {bytes = bytes} (v, h, answers) =
@@ -152,7 +152,7 @@ pub from_bytes_of_encoding : (S : ℕ) (p : Pair) (bytes : List ℕ) (r : Result
 from_bytes_of_encoding S p bytes (Ok m) v h answers encodes fits = (accepted_encoding S (v, h, answers)).1 p encodes
 from_bytes_of_encoding S p bytes (Err e) v h answers encodes fits = absurd (refused_no_encoding S (v, h, answers) p encodes fits)
 
--- reading took something where its verdict is no early end
+-- reading consumed something if its verdict is not incomplete
 pub takes_some : (S : ℕ) (old new : List ℕ) → TakesShortestSettling S old (Some new) → length new < length old
 takes_some S old new taken =
     let some = length_of_not_nil taken.front (λ none. early_not_settles S [] (faulty insufficient) tt
@@ -190,13 +190,13 @@ read_exact_of_bytes n before after (Some input) new filled bytes more (Err e) re
     omega (arith, eof ended.1, ap (λ (z : List ℕ). length z) spelled, length-append bytes more, long)
 
 -- the loop's invariant: if what is left is some parts, the whole is these and those that were found; and no more parts
--- were refused than bytes were taken
+-- were rejected than bytes were consumed
 pub record ReadsOn (Parts : List ℕ → List Pair → ℕ → Type 0) (whole : List ℕ) (pairs : List Pair) (count : ℕ) (left : List ℕ) : Type 0 where
   pub few : count + length left ≤ length whole
   pub on : (more : List Pair) (n : ℕ) → Parts left more n → Parts whole (pairs ++ more) (count + n)
 
 module _ {Parts : List ℕ → List Pair → ℕ → Type 0} {whole : List ℕ} {count : ℕ} {left : List ℕ} where
-  -- `read` answered a pair, which was pushed: the facts are its clauses `ok` and `fits`
+  -- `read` returned a pair, which was pushed: the facts are its clauses `ok` and `fits`
   pub one_more_pair : {S : ℕ} {after : List (Fields S)} {new : List ℕ} (items : List (Fields S)) (m : Fields S)
       → ((p : Pair) (encoding rest : List ℕ) (pairs : List Pair) (n : ℕ) → IsEncoding p encoding → FitsBuffer S p
       → Parts rest pairs n → Parts (encoding ++ rest) (p ∷ pairs) n)
@@ -214,7 +214,7 @@ module _ {Parts : List ℕ → List Pair → ℕ → Type 0} {whole : List ℕ} 
             (sym (ap (λ z. z ++ more) pairs ∙ append_assoc (map pair_of items) (pair_of m ∷ []) more)) found;
       }
 
-  -- `read` refused a part, and more input could not help: the facts are its clauses `verdict` and `settled`, and
+  -- `read` rejected a part, and more input could not help: the facts are its clauses `verdict` and `settled`, and
   -- `early` of `is_early_end`. The stream became shorter
   pub one_more_refused : {S : ℕ} {pairs : List Pair} {new : List ℕ} {e : Refusal} {early : Bool}
       → ((v : Verdict) (front rest : List ℕ) (pairs : List Pair) (n : ℕ) → HasVerdict S (front ++ rest) v → ¬ (IsEarlyEnd v)

@@ -1,5 +1,5 @@
--- The SCALE form: the code as eight bytes, the digest's length as one byte, and the digest. What decoding it consumed
--- from a reader, and its errors.
+-- The SCALE form: the code as eight bytes, the digest's length as one byte, and the digest. What
+-- decoding it consumed from a reader, and its errors.
 use Rattle.std.specs.Prelude.{◌≡◌, ℕ, ◌<◌, ◌≤◌, ◌⊎◌, List, ◌∷◌, ◌++◌, length, Option}
 use Rattle.multihash.specs.Bytes.{IsBytes, place_value}
 use Rattle.multihash.specs.Pair.{Pair}

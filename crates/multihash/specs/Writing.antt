@@ -1,5 +1,5 @@
--- What a writer's call appended, how it failed, and the laws of both calls. The effect of appending: a shorter slice, or
--- more items of a vector.
+-- What a writer's call appended, how it failed, and the laws of both calls. The effect of appending: a
+-- shorter slice, or more items of a vector.
 use Rattle.std.specs.Prelude.{◌≡◌, ◌+◌, ◌<◌, ◌≤◌, ℕ, Bool, IsTrue, List, [], ◌⊎◌, length, take, Result, MatchResult, IfOk, OnOk, OnErr, IsOk, ◌++◌, drop, refl}
 use Rattle.multihash.specs.Fault.{Fault, IsWriteZero, IsOutOfMemory, IsOwnFault}
 use Rattle.multihash.specs.Bytes.{IsProperBeginning}

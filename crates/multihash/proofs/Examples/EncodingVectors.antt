@@ -47,7 +47,7 @@ longest_is = refl
 most_bytes : (max_marked + 1) + 2 + 255 ≡ 266
 most_bytes = refl
 
--- ---- what is no encoding, each part refused by itself
+-- ---- what is no encoding, each part rejected by itself
 
 encodes_no_other_code : ¬ (IsEncoding (pair 1 []) (0x00 ∷ 0x00 ∷ []))
 encodes_no_other_code h = omega (arith, (begins_small 1 0x00 (0x00 ∷ []) h.code (h.size ++ []) (omega arith) h.is_code h.spelled).0)
@@ -72,7 +72,7 @@ encodes_no_other_digest h = omega (arith, ap (λ (z : List ℕ). get_or z 1 0) (
 encodes_no_more : ¬ (IsEncoding (pair 0 (codes "ab")) (0x00 ∷ 0x02 ∷ 0x61 ∷ 0x62 ∷ 0x07 ∷ []))
 encodes_no_more h = omega (arith, ap (λ (z : List ℕ). length z) (digest_of (codes "ab") (0x61 ∷ 0x62 ∷ 0x07 ∷ []) h))
 
--- the code 0, the size 5, and a byte behind them
+-- the code 0, the size 5, and a byte after them
 abbrev input : List ℕ
 input = 0x00 ∷ 0x05 ∷ 0x07 ∷ []
 

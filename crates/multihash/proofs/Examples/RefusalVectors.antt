@@ -42,7 +42,7 @@ no_other_is_memory = ((λ h. cc), (λ h. cc), λ h. cc)
 none_is_other : ¬ (IsOther eof) × ¬ (IsOther full) × ¬ (IsOther memory)
 none_is_other = ((λ h. cc), (λ h. cc), λ h. cc)
 
--- what a reader or a writer may answer by itself, whatever its text is
+-- what a reader or a writer may return by itself, whatever its text is
 own : (text : List ℕ) → IsOwnFault (record { kind = Other; text = text }) × IsOwnFault (record { kind = OutOfMemory; text = text })
 own text = (inl refl, inr refl)
 
@@ -54,7 +54,7 @@ no_own_full : (text : List ℕ) → ¬ (IsOwnFault (record { kind = WriteZero; t
 no_own_full text (inl h) = cc
 no_own_full text (inr h) = cc
 
--- ---- fault_texts: of each kind its own, whatever the error was made with
+-- ---- texts: of each kind its own, whatever the error was made with
 
 fault_texts : (made : List ℕ) → (text_of UnexpectedEof made ≡ codes "failed to fill whole buffer")
     × (text_of WriteZero made ≡ codes "failed to write whole buffer") × (text_of OutOfMemory made ≡ codes "out of memory") × (text_of Other made ≡ made)
@@ -71,7 +71,7 @@ any_text_of_other text = refl
 no_other_text : ¬ (HasStandardText eof) × ¬ (HasStandardText full) × ¬ (HasStandardText memory)
 no_other_text = ((λ h. omega (arith, ap length h)), (λ h. omega (arith, ap length h)), λ h. omega (arith, ap length h))
 
--- the size that a refusal names
+-- the size that an error names
 abbrev pub size_in : Refusal → ℕ
 size_in (of_io fault) = 0
 size_in (of_size size) = size
@@ -190,11 +190,11 @@ answers_no_other_kind : ((n : ℕ) → ¬ (Answers {S = 4} (Err (of_size n)) (in
     × ¬ (Answers {S = 4} (Err (of_varint insufficient)) (faulty overflow)) × ((fault : Fault) → ¬ (Answers {S = 4} (Err (of_io fault)) (faulty insufficient)))
 answers_no_other_kind = ((λ n h. cc), (λ n h. cc), (λ h. cc), λ fault h. cc)
 
--- a reader's own fault answers no verdict
+-- a reader's own error is that of no verdict
 no_own_fault_answers : (text : List ℕ) → ¬ (Answers {S = 4} (Err (of_io (record { kind = Other; text = text }))) unexpected_eof)
 no_own_fault_answers text (fault, e, kind) = cc
 
--- each verdict has its own refusal, and no other
+-- each verdict has its own error, and no other
 alone : (n : ℕ) (f : VarintFault) (e : Refusal) → (Answers {S = 4} (Err e) (invalid_size n) → e ≡ of_size n)
     × (Answers {S = 4} (Err e) (invalid_code n) → e ≡ of_code n) × (Answers {S = 4} (Err e) (faulty f) → e ≡ of_varint f)
     × (Answers {S = 4} (Err e) unexpected_eof → (fault : Fault) × (e ≡ of_io fault) × (fault.kind ≡ UnexpectedEof))

@@ -188,7 +188,7 @@ size_5 more = record { code = 0; code_bytes = 0x00 ∷ []; size_bytes = 0x05 ∷
 
 -- ---- what does not hold
 
--- no code that a varint spells is out of range
+-- no code that a varint encodes is out of range
 no_code_refused : (S code : ℕ) (input : List ℕ) → ¬ (HasVerdict S input (invalid_code code))
 no_code_refused S code input h = h
 
@@ -216,7 +216,7 @@ stays = ((λ p h. h), (λ n h. h), (λ n h. h), (λ h. h), λ h. h)
 pub size_settles : Settles 4 (0 ∷ 5 ∷ [])
 size_settles = record { verdict = invalid_size 5; always = λ more _. (more, size_5 more, omega arith) }
 
--- a larger buffer waits for the digest, however many bytes it takes; a marked byte of a size leaves the size open,
+-- a larger buffer waits for the digest, however many bytes it takes; a continuation byte of a size leaves the size open,
 -- though its digit is above the buffer's
 waits : ¬ (Settles 5 (0 ∷ 5 ∷ [])) × ¬ (Settles 4 (0 ∷ 133 ∷ [])) × ¬ (Settles 4 []) × ¬ (Settles 4 (0 ∷ [])) × ¬ (Settles 4 (0 ∷ 4 ∷ 1 ∷ 2 ∷ 3 ∷ []))
     × ¬ (Settles 300 (0x00 ∷ 0xff ∷ 0x01 ∷ [])) × ¬ (Settles 4 eight)
@@ -236,7 +236,7 @@ padded_settles = late_settles 4 (0x80 ∷ 0x00 ∷ []) (faulty not_minimal) (λ 
 pub pair_settles : Settles 4 (0 ∷ 4 ∷ 1 ∷ 2 ∷ 3 ∷ 4 ∷ [])
 pair_settles = late_settles 4 (0 ∷ 4 ∷ 1 ∷ 2 ∷ 3 ∷ 4 ∷ []) (accepted (pair 0 (1 ∷ 2 ∷ 3 ∷ 4 ∷ []))) (λ early. early) digest_full
 
--- the two bytes of the size, and no byte behind them
+-- the two bytes of the size, and no byte after them
 pub shortest_of_size : IsShortestSettling 4 (0 ∷ 5 ∷ 9 ∷ []) (0 ∷ 5 ∷ [])
 shortest_of_size = record {
   begins = (9 ∷ [], refl);
@@ -257,7 +257,7 @@ not_shortest h =
 not_begun : ¬ (IsShortestSettling 4 (0 ∷ 5 ∷ 9 ∷ []) (0 ∷ 6 ∷ []))
 not_begun h = omega (arith, ap (λ (z : List ℕ). get_or z 1 0) h.begins.1)
 
--- an input that is longer than what settles it, and what does: the bytes that a call takes
+-- an input that is longer than what settles it, and what does: the bytes that a call consumes
 shortest_of_padded_code : IsShortestSettling 4 (0x80 ∷ 0x00 ∷ 0x07 ∷ []) (0x80 ∷ 0x00 ∷ [])
 shortest_of_padded_code =
     shortest_code_fault 4 not_minimal (0x80 ∷ 0x00 ∷ 0x07 ∷ []) (λ early. early) (record {
@@ -279,7 +279,7 @@ shortest_of_padded_size =
       has = record { front = 0x85 ∷ []; rest = []; all_marked = all_marked (0x85 ∷ []) refl; some = omega arith; few = omega arith; cut = refl };
     })
 
--- a ninth marked byte is enough, whatever follows
+-- a ninth continuation byte is enough, whatever follows
 shortest_of_overflow : (rest : List ℕ) → IsShortestSettling 4 (eight ++ 0x80 ∷ rest) (eight ++ 0x80 ∷ [])
 shortest_of_overflow rest =
     shortest_code_fault 4 overflow (eight ++ 0x80 ∷ rest) (λ early. early) (record {

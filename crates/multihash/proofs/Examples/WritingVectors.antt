@@ -13,21 +13,21 @@ use Rattle.multihash.specs.declared.no_std_io.slice_writer.SliceWriter.{SliceWri
 failed_writer : IsWriterFault false 3 4 other × IsWriterFault true 3 3 memory
 failed_writer = (record { kind = inl refl; cause = inl refl }, record { kind = inr refl; cause = inr (refl, refl, refl) })
 
--- a failing call counts one failure, and want of memory none; no call lowers the count, whatever it answers
+-- a failing call counts one failure, and running out of memory none; no call lowers the count, whatever it returns
 counts_not_so : ¬ (IsWriterFault true 3 5 memory) × ¬ (IsWriterFault true 4 3 memory)
 counts_not_so = (
   (λ h. elim h.cause [ inl one ↦ omega (arith, one) | inr (allocates, e, same) ↦ omega (arith, same) ]),
   λ h. elim h.cause [ inl one ↦ omega (arith, one) | inr (allocates, e, same) ↦ omega (arith, same) ],
 )
 
--- a fault that isn't counted is want of memory
+-- an error that isn't counted is out of memory
 invents_no_fault : ¬ (IsWriterFault true 3 5 other) × ¬ (IsWriterFault true 3 3 other)
 invents_no_fault = (
   (λ h. elim h.cause [ inl one ↦ omega (arith, one) | inr (allocates, e, same) ↦ cc ]),
   λ h. elim h.cause [ inl one ↦ omega (arith, one) | inr (allocates, e, same) ↦ cc ],
 )
 
--- one that doesn't allocate has no want of memory but as a counted fault
+-- one that doesn't allocate is out of memory only as a counted error
 wants_no_memory : ¬ (IsWriterFault false 3 3 memory)
 wants_no_memory h = elim h.cause [ inl one ↦ omega (arith, one) | inr (allocates, e, same) ↦ false≢true allocates ]
 
@@ -99,7 +99,7 @@ appends_no_other_part h =
 
 -- ---- the laws of `write`, each refuted where the others hold
 
--- a writer of three places that tells its bytes and its count of failures
+-- a writer of three places whose bytes and count of failures are known
 abbrev State : Type 0
 State = List ℕ × ℕ
 
@@ -155,7 +155,7 @@ fails_and_appends_nothing h = omega (arith, ap (λ (z : List ℕ). length z) h.e
 writes_with_no_hidden_fault : ¬ (Writes ([], 0) (1 ∷ []) (1 ∷ [], 1) (Ok 1))
 writes_with_no_hidden_fault h = omega (arith, h.faults)
 
--- a full writer answers a count of 0
+-- a full writer returns a count of 0
 full_is_no_fault : ¬ (Writes (7 ∷ 8 ∷ 9 ∷ [], 0) (1 ∷ []) (7 ∷ 8 ∷ 9 ∷ [], 0) (Err full))
 full_is_no_fault h = (full_alone 0 0 ⊥ h.faults).1
 
@@ -234,7 +234,7 @@ fills_no_front h = omega (arith, ap (λ (z : List ℕ). get_or z 0 0) h.puts)
 fills_with_no_other : ¬ (FillsPlaces (7 ∷ 8 ∷ []) 1 (1 ∷ []) (7 ∷ 2 ∷ []) 2)
 fills_with_no_other h = omega (arith, ap (λ (z : List ℕ). get_or z 1 0) h.puts)
 
--- the places behind them stay
+-- the places after them stay
 fills_no_further : ¬ (FillsPlaces (7 ∷ 8 ∷ 9 ∷ []) 0 (1 ∷ []) (1 ∷ 8 ∷ 0 ∷ []) 1)
 fills_no_further h = omega (arith, ap (λ (z : List ℕ). get_or z 2 0) h.puts)
 
@@ -288,14 +288,14 @@ gives_up_no_more new h = omega (arith, h.room)
 gives_up_the_first : ¬ (GivesUpFor (7 ∷ 8 ∷ []) (1 ∷ []) (7 ∷ []))
 gives_up_the_first h = omega (arith, ap (λ (z : List ℕ). get_or z 0 0) h.left)
 
--- as many as were asked for
+-- as many as were requested
 gives_up_as_many : ¬ (GivesUpFor (7 ∷ 8 ∷ 9 ∷ []) (1 ∷ 2 ∷ []) (8 ∷ 9 ∷ [])) × ¬ (GivesUpFor (7 ∷ 8 ∷ 9 ∷ []) (1 ∷ []) [])
 gives_up_as_many = ((λ h. omega (arith, ap (λ (z : List ℕ). length z) h.left)), λ h. omega (arith, ap (λ (z : List ℕ). length z) h.left))
 
 appends_two : AppendsAtEnd (7 ∷ []) (1 ∷ 2 ∷ []) (7 ∷ 1 ∷ 2 ∷ [])
 appends_two = refl
 
--- what was there stays, and no other bytes stand behind it
+-- what was there stays, and no other bytes follow it
 appends_no_other : ¬ (AppendsAtEnd (7 ∷ []) (1 ∷ []) (1 ∷ 7 ∷ [])) × ¬ (AppendsAtEnd (7 ∷ []) (1 ∷ []) (8 ∷ 1 ∷ [])) × ¬ (AppendsAtEnd (7 ∷ []) (1 ∷ []) (7 ∷ 2 ∷ []))
 appends_no_other = (
   (λ h. omega (arith, ap (λ (z : List ℕ). get_or z 0 0) h)),

@@ -166,7 +166,7 @@ scale_in_range S code x bytes (size ∷ rest) is_code cut each below =
     scale_sized S size x rest (record { code = code; code_bytes = bytes; is_code = is_code; in_range = below; cut = cut })
     (All-head (λ b. b < 256) size rest each)
 
--- so many bytes, and the others
+-- that many bytes, and the others
 cut_at : (k : ℕ) (x : List ℕ) → k ≤ length x → (front : List ℕ) × (rest : List ℕ) × (x ≡ front ++ rest) × (length front ≡ k)
 cut_at k x long = (take k x, drop k x, sym (take-append-drop k x), length-take-le k x long)
 
@@ -204,7 +204,7 @@ ScaleMeets S old new before after r = record {
 }
 
 module _ (S : ℕ) (old new : Option (List ℕ)) (before after : ℕ) where
-  -- where what was taken settles that the code or the size is refused
+  -- where what was consumed settles that the code or the size is rejected
   refused : (e : Refusal) (taken : List ℕ) (v : Verdict) → Takes old taken new → after ≡ before
       → ((left : List ℕ) → HasScaleVerdict S (taken ++ left) v) → ¬ (IsEarlyEnd v) → IsRefusal e v → IsScaleRefusal S e
       → ((code : ℕ) → v ≡ invalid_code code → length taken ≡ 8)
@@ -256,7 +256,7 @@ module _ (S : ℕ) (old new : Option (List ℕ)) (before after : ℕ) where
             err = tt;
           }
 
-  -- where the reader ended or failed inside so many bytes, behind others
+  -- where the reader ended or failed inside that many bytes, after others
   pub inside_refused : (a : List ℕ) (n : ℕ) → ((t : List ℕ) → length t < n → HasScaleVerdict S (a ++ t) unexpected_eof)
       → (fault : Fault) (front : List ℕ) (mid : Option (List ℕ)) → length front < n → Takes old a mid → Takes mid front new
       → (IsUnexpectedEof fault → HasFewerThan n mid) → ((after ≡ before + 1) × IsOwnFault fault) ⊎ ((after ≡ before) × IsUnexpectedEof fault)
@@ -281,7 +281,7 @@ module _ (S : ℕ) (old new : Option (List ℕ)) (before after : ℕ) where
         };
       }
 
--- a code with no size behind it, and a digest that is cut
+-- a code with no size after it, and a truncated digest
 pub no_size : (S code : ℕ) (a : List ℕ) → IsScaleCode code a → code < varint_limit → (t : List ℕ) → length t < 1
     → HasScaleVerdict S (a ++ t) unexpected_eof
 no_size S code a is below [] none = inr (inl (code, subst (IsScaleCode code) (sym (append-nil a)) is, below))

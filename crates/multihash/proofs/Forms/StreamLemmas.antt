@@ -61,7 +61,7 @@ same_first p q ps qs a b r s (x, y, h, _, cut) (z, w, k, _, cut') e =
     let same = encoding_unique p q x z (y ++ r) (w ++ s) h k
     (sym (ap (λ l. l ++ r) cut ∙ append_assoc x y r) ∙ (e ∙ (ap (λ l. l ++ s) cut' ∙ append_assoc z w s))) in (same.0, same.2)
 
--- ---- one way to take a stream apart
+-- ---- one way to split a stream
 
 pub joined_unique : (ps qs : List Pair) (a b r s : List ℕ) → length ps ≡ length qs → AreJoined ps a → AreJoined qs b
     → a ++ r ≡ b ++ s → (ps ≡ qs) × (r ≡ s)
@@ -75,7 +75,7 @@ joined_unique (p ∷ ps) (q ∷ qs) a b r s l h k e =
     let others = joined_unique ps qs x.1 y.1 r s (omega arith) x.3 y.3 first.1 in
     (cc (first.0, others.0), others.1)
 
--- the encodings alone tell the pairs, and how many they are
+-- the encodings alone determine the pairs and their number
 pub joined_whole : (ps qs : List Pair) (bytes : List ℕ) → AreJoined ps bytes → AreJoined qs bytes → ps ≡ qs
 joined_whole [] [] bytes h k = refl
 joined_whole [] (q ∷ qs) bytes h k = absurd (none_joined q qs (subst (AreJoined (q ∷ qs)) (none_left bytes h) k))

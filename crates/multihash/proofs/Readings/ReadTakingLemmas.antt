@@ -32,9 +32,9 @@ ReadMeets S old new before after r = record {
   unsettled : IfSome old (λ rest. EndsOrFails S rest before after → TakesNothingSettling S rest new);
 }
 
--- ---- refusals and verdicts
+-- ---- errors and verdicts
 
--- the verdict that asks for a refusal
+-- the verdict of an error
 abbrev verdict_of : Refusal → Verdict
 verdict_of (of_io fault) = unexpected_eof
 verdict_of (of_size size) = invalid_size size
@@ -59,12 +59,12 @@ own_not_eof e (fault, given, kind) h =
     let kinds = ap (λ (f : Fault). f.kind) same in
     elim kind [ inl other ↦ cc (kinds, other, h.2) | inr memory ↦ cc (kinds, memory, h.2) ]
 
--- no verdict asks for a fault of the reader's own
+-- no verdict has an error of the reader's own
 pub own_no_refusal : (e : Refusal) (v : Verdict) → IsReaderFault e → IsRefusal e v → ⊥
 own_no_refusal e v own given =
     own_not_eof e own (subst (IsRefusal e) (verdict_of_refusal e v given ∙ ap verdict_of own.1) given)
 
--- a refusal of a verdict is one that `read` lists
+-- an error of a verdict is one that `read` lists
 listed : (S : ℕ) (e : Refusal) (taken : List ℕ) (v : Verdict) → IsRefusal e v → HasVerdict S taken v → IsReadRefusal S e
 listed S e taken (accepted p) given has = absurd given
 listed S e taken (invalid_size size) given has = inl (size, given, has.2)
@@ -76,7 +76,7 @@ listed S e taken unexpected_eof given has = inr (inr given)
 
 module _ (S : ℕ) (taken : List ℕ) (old new : Option (List ℕ)) (before after : ℕ) (takes : Takes old taken new) (v : Verdict)
     (has : HasVerdict S taken v) where
-  -- at a verdict that is no early end, where everything shorter ends early
+  -- at a verdict that is not incomplete, where everything shorter ends early
   module _ (unrisen : after ≡ before) (late : ¬ (IsEarlyEnd v)) (no_sooner : (p : List ℕ) → IsProperBeginning p taken → EndsEarly S p) where
     kept : (left : List ℕ) → HasVerdict S (taken ++ left) v
     kept left = verdict_kept S taken left v late has
@@ -131,7 +131,7 @@ module _ (S : ℕ) (taken : List ℕ) (old new : Option (List ℕ)) (before afte
     none = IfSome-taken old new taken _ takes (λ left is why.
         record { taken = taken; takes = ap (prepend_known taken) (sym is); unsettled = none_settles S taken v has soon })
 
-    -- at an early end, which the whole input has too
+    -- at an incomplete input, which the whole input has too
     pub at_early_end : (e : Refusal) → after ≡ before → IsRefusal e v → (v ≡ faulty insufficient → IsAtEnd new)
         → ((left : List ℕ) → new ≡ Some left → HasVerdict S (taken ++ left) v) → ReadMeets S old new before after (Err e)
     at_early_end e unrisen given all whole = record {
@@ -178,13 +178,13 @@ read_answered S taken old new before after m unrisen encodes takes =
     ([], record { encoding = taken; encodes = encodes; cut = sym (append-nil taken) }, fits) unrisen (λ e. e)
     (λ p before. before_digest S (pair_of m) taken p encodes fits before) m refl encodes
 
--- nothing is left behind bytes at an input's end
+-- nothing is left after bytes at an input's end
 at_end : (P : List ℕ → Type 0) (taken : List ℕ) (new : Option (List ℕ)) → IsAtEnd new → P taken
     → (left : List ℕ) → new ≡ Some left → P (taken ++ left)
 at_end P taken new ends p left is =
     let none : left ≡ [] = subst IsAtEnd is ends in subst P (sym (ap (λ z. taken ++ z) none ∙ append-nil taken)) p
 
--- ---- in the code or the size, behind what stands in front of it
+-- ---- in the code or the size, after what precedes it
 
 module _ (S : ℕ) (e : Refusal) (old mid new : Option (List ℕ)) (before after : ℕ) (t : TakesAtVarintRefusal e mid new)
     (how : ((after ≡ before + 1) × IsReaderFault e) ⊎ ((after ≡ before) × IsVarintRefusal e)) where
@@ -213,7 +213,7 @@ module _ (S : ℕ) (e : Refusal) (old mid new : Option (List ℕ)) (before after
       stops_in_varint a (Takes-joined old mid new a t.taken _ refl first t.takes) (λ f h. inr (t.taken, coded code a _ t.taken is_code refl, h))
       (λ p b. before_second S code a t.taken p is_code t.no_sooner b)
 
--- ---- behind both varints
+-- ---- after both varints
 
 module _ (S code size : ℕ) (a b : List ℕ) (is_code : IsVarint code a) (is_size : IsVarint size b) (old new : Option (List ℕ)) (before after : ℕ) where
   has_size : (rest : List ℕ) → BeginsWithSize size (a ++ (b ++ rest)) rest

@@ -39,7 +39,7 @@ compare_beginnings (c ∷ a) (d ∷ b) r q e =
       | inr (inr (more, some, cut)) ↦ inr (inr (more, some, cc (heads, cut)))
     ]
 
--- ---- a verdict that is no early end stays
+-- ---- a verdict that is not incomplete stays
 
 append_more : (x a r more : List ℕ) → x ≡ a ++ r → x ++ more ≡ a ++ (r ++ more)
 append_more x a r more e = ap (λ (z : List ℕ). z ++ more) e ∙ append_assoc a r more
@@ -77,12 +77,12 @@ own_verdict : (S : ℕ) (x : List ℕ) (s : Settles S x) → HasVerdict S x s.ve
 own_verdict S x s =
     subst (λ (z : List ℕ). HasVerdict S z s.verdict) (append-nil x) (s.always [] (All-nil (λ b. b < 256)))
 
--- where an input settles, bytes behind it leave the verdict as it is
+-- where an input settles, bytes after it leave the verdict as it is
 same_behind : (S : ℕ) (x more : List ℕ) (v w : Verdict) → Settles S x → HasVerdict S x v → IsBytes more → HasVerdict S (x ++ more) w → v ≡ w
 same_behind S x more v w s h bytes k =
     verdict_unique S x v s.verdict h (own_verdict S x s) ∙ verdict_unique S (x ++ more) s.verdict w (s.always more bytes) k
 
--- a zero ends marked bytes, and a marked byte and a zero are as bad where there are none
+-- a zero ends continuation bytes, and a continuation byte and a zero are as bad where there are none
 open_varint : (x : List ℕ) → IsInsufficient x → (more : List ℕ) × IsBytes more × IsNotMinimal (x ++ more)
 open_varint [] h = (
   128 ∷ 0 ∷ [],
@@ -95,7 +95,7 @@ open_varint (m ∷ ms) h = (
   record { front = m ∷ ms; rest = []; all_marked = h.all_marked; some = omega arith; few = h.few; cut = refl },
 )
 
--- some bytes behind an early end change it
+-- some bytes after an incomplete input change its verdict
 pub early_not_settles : (S : ℕ) (x : List ℕ) (v : Verdict) → IsEarlyEnd v → HasVerdict S x v → ¬ (Settles S x)
 early_not_settles S x (accepted p) early h s = early
 early_not_settles S x (invalid_size size) early h s = early
@@ -123,7 +123,7 @@ late_settles S x v late h = record { verdict = v; always = λ more _. verdict_ke
 pub settles_exactly : (S : ℕ) (x : List ℕ) (v : Verdict) → HasVerdict S x v → Settles S x ↔ ¬ (IsEarlyEnd v)
 settles_exactly S x v h = (λ s early. early_not_settles S x v early h s, λ late. late_settles S x v late h)
 
--- no beginning of an input settles whose verdict is an early end
+-- no prefix of an input settles whose verdict is incomplete
 pub none_settles : (S : ℕ) (x : List ℕ) (v : Verdict) → HasVerdict S x v → IsEarlyEnd v
     → (front : List ℕ) → IsBeginning front x → ¬ (Settles S front)
 none_settles S x v h early front (rest, cut) s =
@@ -134,7 +134,7 @@ none_settles S x v h early front (rest, cut) s =
 
 -- ---- what ends early
 
--- marked bytes, as many as a varint may have, and one more
+-- continuation bytes, as many as a varint may have, and one more
 pub record IsStep (t : List ℕ) : Type 0 where
   pub front : List ℕ
   pub last : ℕ
@@ -193,7 +193,7 @@ before_digest S p t x e fits (rest, some, cut) =
 
 -- ---- the shortest that settles
 
--- a beginning with a verdict of its own that is no early end, all of whose own beginnings end early
+-- a prefix with a verdict of its own that is not incomplete, all of whose own prefixes are incomplete
 pub shortest_from : (S : ℕ) (x t rest : List ℕ) (v : Verdict) → x ≡ t ++ rest → HasVerdict S t v → ¬ (IsEarlyEnd v)
     → ((p : List ℕ) → IsProperBeginning p t → EndsEarly S p) → IsShortestSettling S x t
 shortest_from S x t rest v cut h late before = record {
@@ -202,7 +202,7 @@ shortest_from S x t rest v cut h late before = record {
   shortest = λ p b. let e = before p b in early_not_settles S p e.0 e.2 e.1;
 }
 
--- the beginning that shows a fault
+-- the prefix that shows a fault
 pub record ShowsFault (f : VarintFault) (x : List ℕ) : Type 0 where
   pub shown : List ℕ
   pub rest : List ℕ
@@ -227,7 +227,7 @@ shows_fault not_minimal x late h = record {
   has = record { front = h.front; rest = []; all_marked = h.all_marked; some = h.some; few = h.few; cut = refl };
 }
 
--- the shortest beginning that settles a pair is its encoding
+-- the shortest prefix that settles a pair is its encoding
 pub shortest_pair : (S : ℕ) (p : Pair) (x rest : List ℕ) (b : BeginsWith p x rest) → FitsBuffer S p → IsShortestSettling S x b.encoding
 shortest_pair S p x rest b fits =
     shortest_from S x b.encoding rest (accepted p) b.cut

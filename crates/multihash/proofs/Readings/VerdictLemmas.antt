@@ -83,7 +83,7 @@ verdict_unique S x v w h k = verdict_is S x v h ∙ sym (verdict_is S x w k)
 
 -- ---- some verdict
 
--- a digest of the size behind both varints ends an encoding
+-- a digest of the size after both varints ends an encoding
 pub pair_begins : (size : ℕ) (x rest : List ℕ) (h : BeginsWithSize size x rest) (digest after : List ℕ) → length digest ≡ size
     → rest ≡ digest ++ after → BeginsWith (record { code = h.code; digest = digest }) x after
 pair_begins size x rest h digest after long split =
@@ -148,7 +148,7 @@ whole_is S x unexpected_eof h = found_is trailing S x unexpected_eof h (λ p res
 pub whole_verdict_unique : (S : ℕ) (x : List ℕ) (v w : Verdict) → HasWholeVerdict S x v → HasWholeVerdict S x w → v ≡ w
 whole_verdict_unique S x v w h k = whole_is S x v h ∙ sym (whole_is S x w k)
 
--- a pair with nothing behind it
+-- a pair with nothing after it
 pub whole_pair : (p : Pair) (x : List ℕ) → BeginsWith p x [] → IsEncoding p x
 whole_pair p x b = subst (IsEncoding p) (sym (b.cut ∙ append-nil b.encoding)) b.encodes
 
@@ -169,7 +169,7 @@ pub sliced : (n : ℕ) (xs : List ℕ) (k : ℕ) → TakesVarint n (Some xs) (So
     → TakesVarint n (Some xs) (Some (take (length xs - k) (drop k xs)))
 sliced n xs k met = subst (λ (back : List ℕ). TakesVarint n (Some xs) (Some back)) (sym (take_rest xs k)) met
 
--- a refusal of the verdict is one of the whole verdict
+-- an error of the verdict is one of the whole verdict
 pub whole_refused : (S : ℕ) (x : List ℕ) (e : Refusal) (v : Verdict) → HasVerdict S x v → IsRefusal e v
     → (w : Verdict) × HasWholeVerdict S x w × IsRefusal e w
 whole_refused S x e (accepted p) has given = absurd given
@@ -197,14 +197,14 @@ module _ (code : ℕ) (input left : List ℕ) (is_code : TakesVarint code (Some 
         sized code size is_code.0 is_size.0 input rest is_code.1 is_size.1
         (Takes-cut input _ left is_code.2 ∙ ap (λ z. is_code.0 ++ z) (Takes-cut left _ rest is_size.2))
 
-    -- bytes behind the digest
+    -- bytes after the digest
     pub left_over : (S n : ℕ) → size ≤ digest_limit S → size < length rest → n ≡ length rest - size → HasWholeVerdict S input (invalid_size n)
     left_over S n within more count =
         let long : length (take size rest) ≡ size = length-take-le size rest (omega arith) in
         let begins = pair_begins size input rest has_size (take size rest) (drop size rest) long (sym (take-append-drop size rest)) in
         inr (_, drop size rest, begins, omega arith, omega (arith, length-drop size rest, count), omega arith)
 
-    -- the digest, and nothing behind it
+    -- the digest, and nothing after it
     pub whole : (S : ℕ) → size ≤ digest_limit S → length rest ≡ size → HasWholeVerdict S input (accepted (record { code = code; digest = rest }))
     whole S within exact = (whole_pair _ input (pair_begins size input rest has_size rest [] exact (sym (append-nil rest))), omega arith)
 

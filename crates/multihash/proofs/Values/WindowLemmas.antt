@@ -1,5 +1,6 @@
--- Lists that are compared by windows, of which the last may overlap the one before: equality and order.
-use Rattle.std.proofs.Common.{◌≡◌, ◌≢◌, ◌==◌, ◌+◌, ◌-◌, ◌%◌, ◌^◌, ◌<◌, ◌≤◌, ℕ, suc, List, [], ◌∷◌, ◌++◌, Bool, true, false, not, cond, eqb, inl, inr, ◌⊎◌, length, take, drop, get_or, map, refl, sym, ap, subst, ◌∙◌, arith, length-drop, w8, zero}
+-- Lists that are compared by windows, of which the last may overlap the one before: equality and order. All for speed:
+-- `cmp` of 20 bytes or more needs less than half of the instructions of a comparison by bytes.
+use Rattle.std.proofs.Common.{◌≡◌, ◌≢◌, ◌==◌, ◌+◌, ◌-◌, ◌%◌, ◌^◌, ◌<◌, ◌≤◌, ℕ, suc, List, [], ◌∷◌, ◌++◌, Bool, true, false, not, cond, eqb, inl, inr, ◌⊎◌, ◌↔◌, IsTrue, length, take, drop, get_or, map, refl, sym, ap, subst, ◌∙◌, arith, length-drop, w8, zero}
 use Rattle.std.specs.Cmp.{unsigned_Decides, nat_cmp_is}
 use Rattle.std.specs.Cmp.Lexicographic.{pointwise, slice_cmp}
 use Rattle.std.specs.List.{prefix_len}
@@ -35,7 +36,7 @@ both_halves at a b left right =
     ∙ ap (λ l. take 16 (window 32 at b) ++ l) (right_half at a ∙ right ∙ sym (right_half at b))
     ∙ take-append-drop 16 (window 32 at b)
 
--- ---- what is behind a front
+-- ---- what follows a front
 
 -- one more window
 pub longer_front : (n at : ℕ) (a b : List ℕ) → take at a ≡ take at b → window n at a ≡ window n at b → take (at + n) a ≡ take (at + n) b
@@ -51,11 +52,11 @@ meets i j a b within front back =
     sym (take-append-drop j a) ∙ ap (λ l. l ++ drop j a) front ∙ ap (λ l. take j b ++ l) behind ∙ take-append-drop j b
 
 -- the last window is all that is left
-pub last_window : (n k : ℕ) (a : List ℕ) → length a ≡ k + n → window n k a ≡ drop k a
+last_window : (n k : ℕ) (a : List ℕ) → length a ≡ k + n → window n k a ≡ drop k a
 last_window n k a long = take_all n (drop k a) (omega (arith, long, length-drop k a))
 
 -- the fronts and the last windows are the same, and leave nothing out
-pub covered : (n k j : ℕ) (a b : List ℕ) → length a ≡ k + n → length b ≡ k + n → k ≤ j → take j a ≡ take j b → window n k a ≡ window n k b
+covered : (n k j : ℕ) (a b : List ℕ) → length a ≡ k + n → length b ≡ k + n → k ≤ j → take j a ≡ take j b → window n k a ≡ window n k b
     → a ≡ b
 covered n k j a b left right within front last =
     meets k j a b within front (sym (last_window n k a left) ∙ last ∙ last_window n k b right)
@@ -152,13 +153,19 @@ whole_front at a b r h same = go (eqb_tells r 16)
 -- ---- `==`
 
 -- what is true exactly where the lists are the same is what `==` says of them
-pub is_pointwise : (r : Bool) (a b : List ℕ) → (r ≡ true → a ≡ b) → (a ≡ b → r ≡ true) → r ≡ pointwise ◌==◌ a b
+is_pointwise : (r : Bool) (a b : List ℕ) → (r ≡ true → a ≡ b) → (a ≡ b → r ≡ true) → r ≡ pointwise ◌==◌ a b
 is_pointwise true a b same true_of = sym ((slice_eq-Decides unsigned_Decides a b (pointwise ◌==◌ a b) refl).1 (same refl))
 is_pointwise false a b same true_of = go (pointwise ◌==◌ a b) refl
   where
     go : (r : Bool) → r ≡ pointwise ◌==◌ a b → false ≡ r
     go false e = refl
     go true e = true_of ((slice_eq-Decides unsigned_Decides a b true e).0 refl)
+
+-- so is what says whether the last windows are the same, if the fronts are and nothing lies between
+pub last_pointwise : (n k j : ℕ) (a b : List ℕ) (r : Bool) → length a ≡ k + n → length b ≡ k + n → k ≤ j → take j a ≡ take j b
+    → (IsTrue r ↔ (window n k a ≡ window n k b)) → r ≡ pointwise ◌==◌ a b
+last_pointwise n k j a b r left right within front tells =
+    is_pointwise r a b (λ all. covered n k j a b left right within front (tells.0 all)) (λ same. tells.1 (ap (window n k) same))
 
 abbrev pub order_of : List ℕ → List ℕ → Ordering
 order_of x y = slice_cmp nat_cmp x y
@@ -178,7 +185,7 @@ then_then Less p q = refl
 then_then Equal p q = refl
 then_then Greater p q = refl
 
--- by the first n, and then by what is behind them
+-- by the first n, and then by what follows them
 pub order_of_parts : (n : ℕ) (x y : List ℕ) → order_of x y ≡ ordering_then (order_of (take n x) (take n y)) (order_of (drop n x) (drop n y))
 order_of_parts zero x y = refl
 order_of_parts (suc n) [] [] = refl

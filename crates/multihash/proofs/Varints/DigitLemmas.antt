@@ -40,7 +40,7 @@ place_value_below base (d ∷ ds) h =
     rw (place_value-cons base d ds, pow-suc base (length ds))
     (omega (arith, mul-le-mul_left base ih))
 
--- of two lists behind one another
+-- of two concatenated lists
 pub place_value_append : (base : ℕ) (xs ys : List ℕ)
     → place_value base (xs ++ ys) ≡ place_value base xs + place_value base ys * base ^ length xs
 place_value_append base [] ys = rw (place_value-nil base, pow-zero base) (omega arith)
@@ -58,7 +58,7 @@ pub pow_power : (k i : ℕ) → 2 ^ (k * i) ≡ (2 ^ k) ^ i
 pow_power k zero = rw (mul-zero k, pow-zero (2 ^ k)) refl
 pow_power k (suc i) = rw (mul-suc k i, pow-add 2 (k * i) k, pow_power k i, pow-suc (2 ^ k) i) refl
 
--- a number has one list of so many digits
+-- a number has one list of that many digits
 pub place_value_unique : (base : ℕ) (ds es : List ℕ) → All (λ d. d < base) ds → All (λ d. d < base) es
     → length ds ≡ length es → place_value base ds ≡ place_value base es → ds ≡ es
 place_value_unique base [] [] p q l v = refl
@@ -84,7 +84,7 @@ All-append_right P xs ys all k d below =
 abbrev pub IsDigit : ℕ → Type 0
 IsDigit d = d < 128
 
--- digits and their marked bytes
+-- digits and their continuation bytes
 pub All-marked : (ds : List ℕ) → All IsMarked (marked ds)
 All-marked ds = All-map IsMarked (λ digit. digit + 128) ds (λ k d below. omega arith)
 
@@ -110,7 +110,7 @@ low_digits-marked (d ∷ ds) all =
     let head : (d + 128) % 128 ≡ d = omega arith in
     cc (head, low_digits-marked ds (All-tail IsDigit d ds all))
 
--- the digits of two lists behind one another, by the code's shift and `|`
+-- the digits of two concatenated lists, by the code's shift and `|`
 pub or_digits : (front back : List ℕ) (i : ℕ) → length front ≡ i → place_value 128 (low_digits (front ++ back)) < 2 ^ 64
     → bit_or (place_value 128 (low_digits front)) (place_value 128 (low_digits back) * 2 ^ (7 * i) % 2 ^ 64)
     ≡ place_value 128 (low_digits (front ++ back))

@@ -10,7 +10,7 @@ use Rattle.multihash.specs.Bytes.{place_value}
 use Rattle.multihash.specs.Varint.{varint_limit, max_marked, marked, IsVarint}
 use Rattle.multihash.proofs.Varints.DigitLemmas.{place_value-nil, place_value_last, IsDigit}
 
--- so many digits were written, and the rest stands for those still to come
+-- that many digits were written, and the rest stands for those still to come
 pub record Wrote (now : List ℕ) (len n rest : ℕ) : Type 0 where
   pub front : List ℕ
   pub long : length front ≡ len

@@ -29,7 +29,7 @@ zeros : (n : ℕ) → place_value 256 (replicate n 0) ≡ 0
 zeros zero = place_value-nil 256
 zeros (suc n) = place_value-cons 256 0 (replicate n 0) ∙ omega (arith, zeros n)
 
--- zeros behind the bytes change nothing
+-- zeros after the bytes change nothing
 pub padded_word : (xs ys : List ℕ) → ys ≡ xs → length xs ≤ 16
     → from_le_bytes w128 (ys ++ drop (length xs) (replicate 16 0)) ≡ place_value 256 xs
 padded_word xs ys same few =
@@ -67,9 +67,9 @@ cut_front xs n word few is = record {
   present_is = omega (arith, length-take n xs);
 }
 
--- ---- where the marked bytes of an input end
+-- ---- where the continuation bytes of an input end
 
--- further marked bytes behind those that begin the input
+-- further continuation bytes after those that begin the input
 begins_more : (xs : List ℕ) (at m : ℕ) → BeginsMarked at xs → ((i : ℕ) → i < m → 128 ≤ get_or xs (at + i) 0) → BeginsMarked (at + m) xs
 begins_more xs at zero begins more = rw (add-zero at) begins
 begins_more xs at (suc m) begins more =
@@ -88,7 +88,7 @@ overflow_at xs begins large =
     (overflow_behind (take max_marked xs) (get_or xs max_marked 0) (drop (max_marked + 1) xs) begins.all_marked
     (length-take-le max_marked xs begins.enough) large)
 
--- so many marked bytes begin the input, and the last is not marked, which counts as zero where the input ends
+-- that many continuation bytes begin the input, and the last is not marked, which counts as zero where the input ends
 pub record EndsAt (xs : List ℕ) (k last : ℕ) : Type 0 where
   pub bytes : IsBytes xs
   pub begins : BeginsMarked k xs
@@ -135,7 +135,7 @@ module _ (xs : List ℕ) (at half : ℕ) (bytes : IsBytes xs) (is : half ≡ pla
       ap (λ (n : ℕ). byte_at n i) is ∙ byte_of (take 8 (drop at xs)) i (All-take (λ b. b < 256) 8 (drop at xs) back_bytes)
       ∙ get_or-take 8 (drop at xs) i 0 few ∙ get_or-drop at xs i 0
 
-  -- its marked bytes, or fewer of them
+  -- its continuation bytes, or fewer of them
   half_begins : (m : ℕ) → BeginsMarked at xs → m ≤ stop_at half → m ≤ 8 → BeginsMarked (at + m) xs
   half_begins m begins run few =
       begins_more xs at m begins (λ i below. rw (← half_byte i (omega arith)) (half_stop.before i (omega arith)))

@@ -126,7 +126,7 @@ stop_byte i few = byte_of (replicate 8 128) i (All-replicate (λ b. b < 256) 8 1
 abbrev pub stops : ℕ → ℕ
 stops half = bit_and (bit_not w64 half) stop_bits
 
--- how many marked bytes begin the half
+-- how many continuation bytes begin the half
 abbrev pub stop_at : ℕ → ℕ
 stop_at half = trailing_zeros w64 (stops half) / 8
 
@@ -134,7 +134,7 @@ stop_at half = trailing_zeros w64 (stops half) / 8
 abbrev pub varint_bits : ℕ → ℕ
 varint_bits half = bit_and half ((stops half + (2 ^ 64 - 1)) % 2 ^ 64)
 
--- the first m bytes are marked, and the next is not, which is a zero behind all eight
+-- the first m bytes are marked, and the next is not, which is a zero after all eight
 pub record StopsAt (half m : ℕ) : Type 0 where
   pub before : (i : ℕ) → i < m → 128 ≤ byte_at half i
   pub here : byte_at half m < 128
@@ -217,7 +217,7 @@ module _ (half m : ℕ) (stop : StopsAt half m) where
       let places : 8 * (m + 1) ≡ 8 * (m - last_place) + 8 * (last_place + 1) = omega arith in
       omega (arith, rw places at stop.varint, mod-pow-add half (8 * (m - last_place)) (8 * (last_place + 1)), field_of half 8 (8 * last_place))
 
-  -- no more marked bytes than a varint has
+  -- no more continuation bytes than a varint has
   pub few_marked : varint_bits half < too_large → m ≤ last_place
   few_marked small =
       let few : m < suc last_place = lt_of_not-le (λ more. omega (arith, small, kept_above (omega arith), stop.before last_place (omega arith))) in

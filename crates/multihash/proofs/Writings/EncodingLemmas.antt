@@ -3,7 +3,7 @@ use Rattle.std.proofs.Common.{◌≡◌, ℕ, ◌<◌, ◌≤◌, ◌+◌, List,
 use Rattle.multihash.specs.Pair.{Pair}
 use Rattle.multihash.specs.Varint.{IsVarint, max_marked, varint_limit, marked}
 use Rattle.multihash.specs.Encoding.{IsEncoding}
-use Rattle.std.proofs.lemmas.List.{take_at, append_cancel_left, append_cancel_right}
+use Rattle.std.proofs.lemmas.List.{take_at, append_cancel_left, append_cancel_right, drop-replicate}
 use Rattle.std.proofs.lemmas.List.Elements.{All-append, All-push, All-same, All-map, All-head}
 use Rattle.multihash.specs.Bytes.{IsBytes}
 use Rattle.multihash.proofs.Varints.DigitLemmas.{All-append_left, All-append_right}
@@ -96,3 +96,6 @@ pub pair_in_front : (code size : ℕ) (digest front rest : List ℕ) → size �
 pair_in_front code size digest front rest long same =
     same_pair (record { code = code; digest = take size (front ++ rest) }) (record { code = code; digest = digest }) refl
     (take_at front rest size (ap length same ∙ sym long) ∙ same)
+
+-- what follows bytes that are copied over zeros
+pub ruleset zeros_after = (drop-replicate)

@@ -20,11 +20,11 @@ pub joined-take-drop : (whole done left : List ℕ) (n : ℕ) → whole ≡ done
 joined-take-drop whole done left n e =
     e ∙ ap (λ l. done ++ l) (sym (take-append-drop n left)) ∙ sym (append_assoc done (take n left) (drop n left))
 
--- the same, where what is left then is spelled as the range `left[n..]`
+-- the same, where what is left then is written as the range `left[n..]`
 pub joined-take-range : (whole done left : List ℕ) (n : ℕ) → whole ≡ done ++ left → whole ≡ (done ++ take n left) ++ take (length left - n) (drop n left)
 joined-take-range whole done left n e = joined-take-drop whole done left n e ∙ ap (λ l. (done ++ take n left) ++ l) (sym (take_rest left n))
 
--- a proper beginning of the first of two lists begins both
+-- a strict prefix of the first of two lists is a prefix of both
 pub IsProperBeginning-append : (x y z : List ℕ) → IsProperBeginning x y → IsProperBeginning x (y ++ z)
 IsProperBeginning-append x y z h = (
   h.0 ++ z,
@@ -32,12 +32,12 @@ IsProperBeginning-append x y z h = (
   ap (λ l. l ++ z) h.2 ∙ append_assoc x h.0 z,
 )
 
--- the first of two lists and a proper beginning of the second begin both
+-- the first of two lists and a strict prefix of the second begin both
 pub IsProperBeginning-prepend : (x y z : List ℕ) → IsProperBeginning x y → IsProperBeginning (z ++ x) (z ++ y)
 IsProperBeginning-prepend x y z h = (h.0, h.1, ap (λ l. z ++ l) h.2 ∙ sym (append_assoc z x h.0))
 
 module _ {W : Type 0} (appended : W → List ℕ → W → Type 0) where
-  -- what stood appended, and not all of what was left, is a part
+  -- what has been appended, and is not all of what was left, is a part
   pub AppendsPart-take : (a b : W) (whole done left : List ℕ) (n : ℕ) → whole ≡ done ++ left → n < length left → appended a (done ++ take n left) b
       → AppendsPart appended a whole b
   AppendsPart-take a b whole done left n e less stands = record {
@@ -76,7 +76,7 @@ module _ {W : Type 0} (appended : W → List ℕ → W → Type 0) (join : (a b 
   stops_in_third r u w x v first second part =
       OnErr-always r (a ++ (b ++ d), form, AppendsPart-joined appended join u w v a (b ++ d) first (AppendsPart-joined appended join w x v b d second part))
 
--- no place is left after a part of `bytes`, so there were fewer places than bytes
+-- the slice is full after a part of `bytes`, so it was shorter than these
 pub fewer_places : (old new bytes part : List ℕ) → GivesUpFor old part new → IsProperBeginning part bytes → new ≡ [] → length old < length bytes
 fewer_places old new bytes part given proper none =
     omega (
@@ -94,7 +94,7 @@ pub full_of_faults : (n : ℕ) (is_full : Type 0) (e : Fault) → IsWriterFaultO
 full_of_faults n is_full e (inl fault) = elim fault.cause [ inl rose ↦ absurd (omega arith) | inr memory ↦ absurd (false≢true memory.0) ]
 full_of_faults n is_full e (inr full) = full.2
 
--- `write`, `scale_encode` and `write_list` succeed over a slice that has a place for each byte: the two
+-- `write`, `scale_encode` and `write_list` succeed if the slice is as long as the form: the two
 -- facts are their clauses `err` and `faults`, and the first says what the slice's `appended` means
 pub mut_slice_has_room : {T W : Type 0} (appended : W → List ℕ → W → Type 0) (a b : W) (IsForm : List ℕ → Type 0)
     (old new : List ℕ) (r : Result T Refusal) → ((part : List ℕ) → appended a part b → GivesUpFor old part new)
@@ -108,7 +108,7 @@ mut_slice_has_room appended a b IsForm old new (Err e) gives stopped faults enou
     let fewer = fewer_places old new stopped.0 h.part (gives h.part h.stands) h.proper none in
     absurd (omega (arith, fewer, enough stopped.0 stopped.1))
 
--- filling keeps the number of places
+-- filling keeps the length of the slice
 pub filled_length : (old bytes new : List ℕ) (n m : ℕ) → FillsPlaces old n bytes new m → length new ≡ length old
 filled_length old bytes new n m h =
     let rest : List ℕ = drop (n + length bytes) old in
@@ -122,7 +122,7 @@ filled_length old bytes new n m h =
       h.room,
     )
 
--- no place is left after a part of `bytes`, so fewer places were left than there are bytes
+-- the slice is full after a part of `bytes`, so less capacity was left than they need
 pub fewer_left : (old new : SliceWriter) (bytes : List ℕ) → AppendsPart Fills old bytes new → IsFilled new
     → length old.places.now < old.filled + length bytes
 fewer_left old new bytes h full =
@@ -136,7 +136,7 @@ fewer_left old new bytes h full =
       length_of_not_nil h.proper.0 h.proper.1,
     )
 
--- `write`, `scale_encode` and `write_list` succeed where a place is left for each byte: the two facts are their
+-- `write`, `scale_encode` and `write_list` succeed if the capacity that is left suffices: the two facts are their
 -- clauses `err` and `faults`
 pub slice_writer_has_room : {T : Type 0} (old new : SliceWriter) (IsForm : List ℕ → Type 0) (r : Result T Refusal)
     → OnErr r ((bytes : List ℕ) × IsForm bytes × AppendsPart Fills old bytes new) → CountsWriter IsIo false 0 0 (IsFilled new) r

@@ -37,7 +37,7 @@ loop-item-preserved g c =
       unfailed = met.faults ∙ before.unfailed;
     }
 
--- of all encodings a part stands appended
+-- a part of all encodings has been appended
 stop : (g : given.Over) (c : goal.After-from_residual g)
     → (all : List ℕ) × AreJoined (map pair_of c.args.items.now) all × AppendsPart g.W.Write.appended c.args.w.now all c.write.new.w
 stop g c =
