@@ -1,6 +1,6 @@
 //! What the readers and writers for tests expose to contracts.
 ghost use Rattle.std.specs.Prelude.{◌≡◌, ◌↔◌, ℕ, List, Some, None, true, false, if◌then◌else◌};
-ghost use Rattle.multihash.specs.Places.{AppendsAtEnd};
+ghost use Rattle.multihash.specs.Writing.{AppendsAtEnd};
 
 use crate::readers::{Counts, Cuts, FailAt, Silent};
 use crate::writers::{CountsWrites, Drip, FailWrite};

@@ -1,6 +1,6 @@
 //! Writers that fill up, fail, or count their calls.
 ghost use Rattle.std.specs.Prelude.{◌≡◌, ◌<◌, ◌≤◌, ◌+◌, [], IsTrue, IsFalse, IfOk, true, false, vec_len, vec_capacity, if◌then◌else◌};
-ghost use Rattle.multihash.specs.Places.{AppendsAtEnd, AppendsAtEnd-none, AppendsAtEnd-joined};
+ghost use Rattle.multihash.specs.Writing.{AppendsAtEnd, AppendsAtEnd-none, AppendsAtEnd-joined};
 
 use crate::failing::fault;
 use multihash::no_std_io::{Error, Write};

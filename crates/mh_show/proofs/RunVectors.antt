@@ -1,15 +1,19 @@
--- What runs over known inputs and outputs did, and how they ended.
-use Rattle.std.proofs.Common.{◌≡◌, ◌<◌, ℕ, List, ◌∷◌, [], ◌++◌, length, get_or, codes, refl, sym, ap, ◌∙◌, subst, arith, inl, inr, append-nil, length-append}
+-- What runs over known inputs and outputs did, how they ended, and the texts of errors.
+use Rattle.std.proofs.Common.{◌≡◌, ◌<◌, ℕ, List, ◌∷◌, [], ◌++◌, length, get_or, codes, refl, sym, ap, ◌∙◌, subst, arith, inl, inr, append-nil, length-append, ◌≢◌}
 use Rattle.std.specs.Prelude.{⊤, Option, Some, None}
 use Rattle.std.proofs.lemmas.List.{append_cancel_right}
-use Rattle.multihash.specs.Refusal.{Refusal, of_varint}
-use Rattle.multihash.specs.Varint.{not_minimal}
+use Rattle.multihash.specs.Refusal.{Refusal, of_varint, refusal_text}
+use Rattle.multihash.specs.Varint.{not_minimal, insufficient}
 use Rattle.multihash.proofs.Writings.WritingLemmas.{length_of_not_nil}
 use Rattle.mh_show.specs.declared.run.RunError.TheVariants.{Input, NotShown, Output}
 use Rattle.mh_show.specs.declared.show.ShowError.TheVariants.{NotHex, Refused, Memory}
-use Rattle.mh_show.specs.Shown.{ShowsAs, NamesNone, IsRefusedAs}
+use Rattle.mh_show.specs.Shown.{ShowsAs, NamesNone, IsRefusedAs, newline, IsLine, NamesBytes}
 use Rattle.mh_show.specs.Run.{run_error_text, error_line, ReadsWhole, AppendsPartOf, TriesToAppend, ShowsInput, ShowsPart, EndsRun, TellsFault}
 use Rattle.mh_show.proofs.ShownVectors.{shows_0000, second_newline_names_none, digits_name_some, no_pair_refused, refused_padded, shows_only}
+use Rattle.multihash.specs.Verdict.{faulty, HasWholeVerdict}
+use Rattle.multihash.proofs.Examples.VarintVectors.{all_marked}
+use Rattle.hex.specs.declared.error.FromHexError.TheVariants.{InvalidHexCharacter, OddLength, InvalidStringLength, OutOfMemory}
+use Rattle.mh_show.specs.ShowError.{show_error_text, decoding_error}
 
 -- ---- texts
 
@@ -281,3 +285,51 @@ tells_no_other_fault (inl tries) =
 tells_no_other_fault (inr tries) =
     longer_than (codes "mh_show: output not written\n") (error_line (codes "out of memory"))
     (omega arith) tries
+
+-- it names no byte, and that is a list of bytes too
+nothing_named : NamesBytes [] []
+nothing_named = record { digits = []; spelled = refl; each = tt }
+
+nothing_is_a_line : IsLine [] []
+nothing_is_a_line = inr (refl, ends_otherwise)
+  where
+    ends_otherwise : (front : List ℕ) → [] ≢ front ++ newline
+    ends_otherwise [] e = omega (arith, ap (λ (z : List ℕ). length z) e)
+    ends_otherwise (x ∷ front) e = omega (arith, ap (λ (z : List ℕ). length z) e)
+
+nothing_is_hexadecimal : ¬ (NamesNone []) × ¬ (NamesNone newline)
+nothing_is_hexadecimal = ((λ none. none [] [] nothing_is_a_line nothing_named), λ none. none [] [] (inl refl) nothing_named)
+
+whole_nothing : HasWholeVerdict 64 [] (faulty insufficient)
+whole_nothing = inl (record { few = omega arith; all_marked = all_marked [] refl })
+
+-- so what is missing is the code
+refused_nothing : IsRefusedAs [] (of_varint insufficient) × IsRefusedAs newline (of_varint insufficient)
+refused_nothing = (
+  ([], [], faulty insufficient, nothing_is_a_line, nothing_named, whole_nothing, refl),
+  ([], [], faulty insufficient, inl refl, nothing_named, whole_nothing, refl),
+)
+
+not_hex_text : show_error_text NotHex ≡ codes "not hexadecimal"
+not_hex_text = refl
+
+refused_text : show_error_text (Refused (of_varint not_minimal)) ≡ codes "encoding is not minimal"
+refused_text = refl
+
+refused_text_is_its_own : (e : Refusal) → show_error_text (Refused e) ≡ refusal_text e
+refused_text_is_its_own e = refl
+
+memory_text : show_error_text Memory ≡ codes "out of memory"
+memory_text = refl
+
+no_digit_is_not_hex : (c index : ℕ) → decoding_error (InvalidHexCharacter c index) ≡ NotHex
+no_digit_is_not_hex c index = refl
+
+odd_is_not_hex : decoding_error OddLength ≡ NotHex
+odd_is_not_hex = refl
+
+other_length_is_not_hex : decoding_error InvalidStringLength ≡ NotHex
+other_length_is_not_hex = refl
+
+memory_stays : decoding_error OutOfMemory ≡ Memory
+memory_stays = refl

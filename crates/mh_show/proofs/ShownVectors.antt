@@ -8,8 +8,7 @@ use Rattle.multihash.specs.Verdict.{Verdict, accepted, invalid_size, invalid_cod
 use Rattle.multihash.specs.Refusal.{Refusal, of_io, of_size, of_code, of_varint}
 use Rattle.multihash.specs.Answer.{IsRefusal}
 use Rattle.multihash.proofs.Readings.VerdictLemmas.{whole_verdict_unique}
-use Rattle.multihash.proofs.Examples.FaultVectors.{eof}
-use Rattle.multihash.proofs.Examples.RefusalVectors.{size_in}
+use Rattle.multihash.proofs.Examples.RefusalVectors.{eof, size_in}
 use Rattle.multihash.proofs.Examples.VarintVectors.{all_marked, varint_0, varint_1, varint_64, varint_65}
 use Rattle.mh_show.specs.Shown.{newline, shown, shown_digest, IsLine, NamesByte, NamesBytes, ShowsAs, NamesNone, IsRefusedAs}
 use Rattle.mh_show.proofs.NamingLemmas.{line_unique, named_decodes, decoded_names, bytes_unique}

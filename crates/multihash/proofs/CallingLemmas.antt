@@ -1,52 +1,33 @@
 -- What callers conclude from the contracts of several calls.
-use Rattle.std.proofs.Common.{Vec, Global, length-append, ◌≡◌, ℕ, ◌<◌, ◌≤◌, ◌-◌, ◌⊎◌, IfOk, IfErr, OnOk, OnErr, IsOk, inl, inr, length-drop, List, [], ◌∷◌, ◌++◌, length, map, Bool, true, false, IsTrue, ◌↔◌, Option, None, Some, Result, Ok, Err, MatchResult, IfSome, refl, sym, ap, ◌∙◌, subst, arith, append_assoc}
+use Rattle.std.proofs.Common.{Vec, Global, length-append, ◌≡◌, ℕ, ◌<◌, ◌≤◌, ◌-◌, ◌⊎◌, IfOk, IfErr, OnOk, OnErr, IsOk, inl, inr, length-drop, List, [], ◌∷◌, ◌++◌, length, map, Bool, true, false, IsTrue, ◌↔◌, Option, None, Some, Result, Ok, Err, MatchResult, IfSome, refl, sym, ap, ◌∙◌, subst, arith, append_assoc, ◌+◌, append-nil}
 use Rattle.std.specs.List.{All}
 use Rattle.std.specs.Result.{is_ok}
-use Rattle.std.proofs.lemmas.List.{length-map}
+use Rattle.std.proofs.lemmas.List.{length-map, map_push, nil_from_length}
 use Rattle.std.proofs.lemmas.Bool.{false≢true}
 use Rattle.std.proofs.lemmas.List.Elements.{All-nil, All-head, All-tail}
-use mathlib.Core.Bool.{beq}
 use Rattle.multihash.specs.Pair.{Pair, FitsBuffer}
 use Rattle.multihash.specs.Encoding.{IsEncoding}
-use Rattle.multihash.specs.Joined.{AreJoined}
+use Rattle.multihash.specs.Streams.{AreJoined, TakesPairs, StopsAfterPairs}
 use Rattle.multihash.specs.Varint.{insufficient, IsMarked, IsVarint}
-use Rattle.multihash.specs.Verdict.{Verdict, accepted, faulty, HasVerdict, HasWholeVerdict}
-use Rattle.multihash.specs.Settling.{Settles}
+use Rattle.multihash.specs.Verdict.{Verdict, accepted, faulty, HasVerdict, HasWholeVerdict, IsEarlyEnd}
+use Rattle.multihash.specs.Settling.{Settles, IsShortestSettling}
 use Rattle.multihash.specs.Taking.{TakesShortestSettling, TakesVarint, IsFrontRefusal}
 use Rattle.multihash.proofs.Readings.SettlingLemmas.{early_not_settles}
 use Rattle.multihash.specs.Fault.{Fault, IsOwnFault, IsUnexpectedEof}
 use Rattle.multihash.specs.Reading.{Takes, CountsReader, HasFewerThan}
 use Rattle.multihash.specs.Scale.{IsScale, HasScaleVerdict}
-use Rattle.multihash.specs.Places.{GivesUpFor}
+use Rattle.multihash.specs.Writing.{GivesUpFor, AppendsPart, CountsWriter}
 use Rattle.multihash.specs.Filling.{Fills, IsFilled}
 use Rattle.multihash.specs.declared.no_std_io.slice_writer.SliceWriter.{SliceWriter}
-use Rattle.multihash.specs.Writing.{AppendsPart, CountsWriter}
 use Rattle.multihash.specs.Refusal.{Refusal, IsIo, IsMemory}
-use Rattle.multihash.specs.Streams.{TakesPairs, StopsAfterPairs}
 use Rattle.multihash.specs.Answer.{Fields, pair_of, IsRefusal, Answers}
-use Rattle.multihash.proofs.Writings.PlacesLemmas.{fewer_places, full_of_faults}
+use Rattle.multihash.proofs.Writings.WritingLemmas.{fewer_places, full_of_faults, slice_writer_has_room, length_of_not_nil}
 use Rattle.multihash.proofs.Readings.ReadingLemmas.{Takes-cut, Takes-told}
-use Rattle.multihash.proofs.Writings.FillingLemmas.{slice_writer_has_room}
-use Rattle.multihash.proofs.Writings.WritingLemmas.{length_of_not_nil}
 use Rattle.multihash.proofs.Readings.VerdictLemmas.{verdict_unique, whole_verdict_unique}
 use Rattle.multihash.proofs.Varints.VarintLemmas.{number_no_fault, same_number}
 use Rattle.multihash.proofs.Forms.ScaleLemmas.{scale_split, scale_verdict_unique}
-use Rattle.multihash.proofs.Forms.JoinedLemmas.{none_left, first_of, same_first, joined_unique}
+use Rattle.multihash.proofs.Forms.StreamLemmas.{none_left, first_of, same_first, joined_unique}
 use Rattle.multihash.proofs.Writings.EncodingLemmas.{same_cut, encoding_same, encoding_unique}
-
--- two pairs are the same exactly where their encodings are one list
-pub same_encoding : (p q : Pair) (x y : List ℕ) → IsEncoding p x → IsEncoding q y → (p ≡ q) ↔ (x ≡ y)
-same_encoding p q x y e f = (
-  (λ same. encoding_same q x y (subst (λ r. IsEncoding r x) same e) f),
-  λ same. (encoding_unique p q x y [] [] e f (ap (λ (z : List ℕ). z ++ []) same)).0,
-)
-
--- tests of equivalent facts answer alike
-pub tests_agree : {P Q : Type 0} (a b : Bool) → (IsTrue a ↔ P) → (IsTrue b ↔ Q) → (P ↔ Q) → IsTrue (beq a b)
-tests_agree true true p q both = refl
-tests_agree true false p q both = absurd (false≢true (q.1 (both.0 (p.0 refl))))
-tests_agree false true p q both = absurd (false≢true (p.1 (both.1 (q.0 refl))))
-tests_agree false false p q both = refl
 
 -- what follows some encodings begins with the next, where those of more pairs begin the input
 next_joined : (S : ℕ) (qs ps : List Pair) (b a rest more : List ℕ) → AreJoined qs b → AreJoined ps a → All (FitsBuffer S) ps
@@ -62,7 +43,7 @@ next_joined S (q ∷ qs) (p ∷ ps) b a rest more h k fit less e =
     let first = same_first q p qs ps b a rest more x y e in
     next_joined S qs ps x.1 y.1 rest more x.3 y.3 (All-tail (FitsBuffer S) p ps fit) (omega arith) first.1
 
--- reading a stream of so many pairs did not stop at a refusal
+-- reading a stream of that many pairs did not stop at an error
 pub never_stops : (S count : ℕ) (e : Refusal) (n : ℕ) (new : Option (List ℕ)) (pairs : List Pair) (bytes more : List ℕ)
     → AreJoined pairs bytes → All (FitsBuffer S) pairs → length pairs ≡ count
     → StopsAfterPairs S count e n n (Some (bytes ++ more)) new → ⊥
@@ -72,7 +53,7 @@ never_stops S count e n new pairs bytes more joined fit many stop =
     let found = (rw is at stop.verdict) refl in
     subst (IsRefusal e) (verdict_unique S left found.0 (accepted next.0) found.1 next.1) found.2
 
--- reading a stream of so many pairs gives them and leaves what follows, or there was no memory
+-- reading a stream of that many pairs gives them and leaves what follows, or there was no memory
 pub read_list_of_encodings : (S count before after : ℕ) (old new : Option (List ℕ)) (pairs : List Pair) (bytes more : List ℕ)
     (r : Result (Vec (Fields S) Global) Refusal) → AreJoined pairs bytes → All (FitsBuffer S) pairs → length pairs ≡ count
     → old ≡ Some (bytes ++ more) → after ≡ before
@@ -89,7 +70,7 @@ read_list_of_encodings S count before after old new pairs bytes more (Err e) joi
     absurd (never_stops S count e before new pairs bytes more joined fit many
     (subst (λ o. StopsAfterPairs S count e before before o new) rest (subst (λ n. StopsAfterPairs S count e before n old new) same stop)))
 
--- a slice is written to where it has room for all bytes, and else no place is left
+-- a form is written to a slice if its capacity suffices; otherwise the slice is full then
 module _ {W : Type 0} (appended : W → List ℕ → W → Type 0) (a b : W) (IsForm : List ℕ → Type 0) (old new : List ℕ)
     (gives : (part : List ℕ) → appended a part b → GivesUpFor old part new) where
   pub filled : {T : Type 0} (r : Result T Refusal) (is_whole : Bool) → is_whole ≡ is_ok r
@@ -114,7 +95,7 @@ module _ {W : Type 0} (appended : W → List ℕ → W → Type 0) (a b : W) (Is
         omega (arith, fewer, ap length none),
       )
 
--- `write` succeeds through a slice's writer that is new, where the slice has as many places as `encoded_len` says: the
+-- `write` succeeds through a slice's writer that is new, if the slice has the capacity that `encoded_len` returns: the
 -- facts are the clauses of `encoded_len` and of `SliceWriter::new`, and `err` and `faults` of `write`
 pub write_of_encoded_len : {T : Type 0} {places : List ℕ} (old new : SliceWriter) (p : Pair) (len : ℕ) (r : Result T Refusal)
     → (bytes : List ℕ) × IsEncoding p bytes × (len ≡ length bytes) → len ≤ length places
@@ -131,7 +112,7 @@ pub scale_pair : (S : ℕ) (p q : Pair) (input bytes taken more left : List ℕ)
 scale_pair S p q input bytes taken more left v whole form fits found answers is_taken cut =
     let same = scale_split q p taken bytes left more is_taken form (sym cut ∙ whole) in (same.0, same.2)
 
--- and it is not refused
+-- and it is not rejected
 pub scale_taken : (S : ℕ) (p : Pair) (input bytes more : List ℕ) (v : Verdict) (e : Refusal) → input ≡ bytes ++ more → IsScale p bytes
     → FitsBuffer S p → HasScaleVerdict S input v → IsRefusal e v → ⊥
 scale_taken S p input bytes more v e whole form fits found refused =
@@ -152,13 +133,13 @@ read_of_encoding S before after old new p bytes more (Err e) encodes fits rest s
     let own : HasVerdict S (bytes ++ more) (accepted p) = (more, record { encoding = bytes; encodes = encodes; cut = refl }, fits) in
     subst (IsRefusal e) (verdict_unique S (bytes ++ more) found.0 (accepted p) found.1 own) found.2
 
--- bytes that `from_bytes` refuses are the encoding of no pair that fits: the first fact is its clause
+-- bytes that `from_bytes` rejects are the encoding of no pair that fits: the first fact is its clause
 pub refused_no_encoding : (S : ℕ) {e : Refusal} {bytes : List ℕ} → (v : Verdict) × HasWholeVerdict S bytes v × IsRefusal e v
     → (p : Pair) → IsEncoding p bytes → FitsBuffer S p → ⊥
 refused_no_encoding S {e = e} {bytes = bytes} (v, h, names) p encodes fits =
     subst (IsRefusal e) (whole_verdict_unique S bytes v (accepted p) h (encodes, fits)) names
 
--- bytes that `from_bytes` accepts are the encoding of the pair that it answers, and of no other
+-- bytes that `from_bytes` accepts are the encoding of the pair that it returns, and of no other
 pub accepted_encoding : (S : ℕ) {q : Pair} {bytes : List ℕ} → (v : Verdict) × HasWholeVerdict S bytes v × (v ≡ accepted q)
     → IsEncoding q bytes × ((p : Pair) → IsEncoding p bytes → q ≡ p)
 accepted_encoding S {q = q} {bytes = bytes} (v, h, answers) =
@@ -171,7 +152,7 @@ pub from_bytes_of_encoding : (S : ℕ) (p : Pair) (bytes : List ℕ) (r : Result
 from_bytes_of_encoding S p bytes (Ok m) v h answers encodes fits = (accepted_encoding S (v, h, answers)).1 p encodes
 from_bytes_of_encoding S p bytes (Err e) v h answers encodes fits = absurd (refused_no_encoding S (v, h, answers) p encodes fits)
 
--- reading took something where its verdict is no early end
+-- reading consumed something if its verdict is not incomplete
 pub takes_some : (S : ℕ) (old new : List ℕ) → TakesShortestSettling S old (Some new) → length new < length old
 takes_some S old new taken =
     let some = length_of_not_nil taken.front (λ none. early_not_settles S [] (faulty insufficient) tt
@@ -207,3 +188,70 @@ read_exact_of_bytes n before after (Some input) new filled bytes more (Err e) re
 read_exact_of_bytes n before after (Some input) new filled bytes more (Err e) rest long whole same (inr ended) takes eof =
     let spelled : input ≡ bytes ++ more = cc in
     omega (arith, eof ended.1, ap (λ (z : List ℕ). length z) spelled, length-append bytes more, long)
+
+-- the loop's invariant: if what is left is some parts, the whole is these and those that were found; and no more parts
+-- were rejected than bytes were consumed
+pub record ReadsOn (Parts : List ℕ → List Pair → ℕ → Type 0) (whole : List ℕ) (pairs : List Pair) (count : ℕ) (left : List ℕ) : Type 0 where
+  pub few : count + length left ≤ length whole
+  pub on : (more : List Pair) (n : ℕ) → Parts left more n → Parts whole (pairs ++ more) (count + n)
+
+module _ {Parts : List ℕ → List Pair → ℕ → Type 0} {whole : List ℕ} {count : ℕ} {left : List ℕ} where
+  -- `read` returned a pair, which was pushed: the facts are its clauses `ok` and `fits`
+  pub one_more_pair : {S : ℕ} {after : List (Fields S)} {new : List ℕ} (items : List (Fields S)) (m : Fields S)
+      → ((p : Pair) (encoding rest : List ℕ) (pairs : List Pair) (n : ℕ) → IsEncoding p encoding → FitsBuffer S p
+      → Parts rest pairs n → Parts (encoding ++ rest) (p ∷ pairs) n)
+      → ReadsOn Parts whole (map pair_of items) count left
+      → (bytes : List ℕ) × IsEncoding (pair_of m) bytes × Takes (Some left) bytes (Some new) → FitsBuffer S (pair_of m)
+      → after ≡ items ++ m ∷ [] → ReadsOn Parts whole (map pair_of after) count new
+  one_more_pair {after = after} {new = new} items m good so_far (bytes, encodes, takes) fits pushed =
+      let split : left ≡ bytes ++ new = Takes-cut left bytes new takes in
+      let pairs : map pair_of after ≡ map pair_of items ++ pair_of m ∷ [] = ap (λ z. map pair_of z) pushed ∙ map_push pair_of items m in
+      record {
+        few = omega (arith, so_far.few, ap length split, length-append bytes new);
+        on = λ more n parts.
+            let found = so_far.on (pair_of m ∷ more) n (subst (λ z. Parts z (pair_of m ∷ more) n) (sym split) (good (pair_of m) bytes new more n encodes fits parts)) in
+            subst (λ z. Parts whole z (count + n))
+            (sym (ap (λ z. z ++ more) pairs ∙ append_assoc (map pair_of items) (pair_of m ∷ []) more)) found;
+      }
+
+  -- `read` rejected a part, and more input could not help: the facts are its clauses `verdict` and `settled`, and
+  -- `early` of `is_early_end`. The stream became shorter
+  pub one_more_refused : {S : ℕ} {pairs : List Pair} {new : List ℕ} {e : Refusal} {early : Bool}
+      → ((v : Verdict) (front rest : List ℕ) (pairs : List Pair) (n : ℕ) → HasVerdict S (front ++ rest) v → ¬ (IsEarlyEnd v)
+      → IsShortestSettling S (front ++ rest) front → Parts rest pairs n → Parts (front ++ rest) pairs (n + 1))
+      → ReadsOn Parts whole pairs count left
+      → (v : Verdict) × HasVerdict S left v × IsRefusal e v
+      → ((v : Verdict) → HasVerdict S left v → ¬ (IsEarlyEnd v) → TakesShortestSettling S left (Some new))
+      → ((v : Verdict) → IsRefusal e v → (IsTrue early ↔ IsEarlyEnd v)) → early ≡ false
+      → (length new < length left) × ReadsOn Parts whole pairs (count + 1) new
+  one_more_refused {S = S} {pairs = pairs} {new = new} refused so_far (v, has, names) settled told late =
+      let other : ¬ (IsEarlyEnd v) = λ ends. false≢true (sym late ∙ (told v names).1 ends) in
+      let taken = settled v has other in
+      let fewer = takes_some S left new taken in
+      let split : left ≡ taken.front ++ new = Takes-cut left taken.front new taken.takes in
+      let part = λ (more : List Pair) (n : ℕ) (parts : Parts new more n). subst (λ z. Parts z more (n + 1)) (sym split)
+      (refused v taken.front new more n (subst (λ z. HasVerdict S z v) split has) other
+      (subst (λ z. IsShortestSettling S z taken.front) split taken.shortest) parts) in (
+        fewer,
+        record {
+          few = omega (arith, so_far.few, fewer);
+          on = λ more n parts. subst (λ z. Parts whole (pairs ++ more) z) (omega arith) (so_far.on more (n + 1) (part more n parts));
+        },
+      )
+
+  -- the input ended early: that is the last part
+  pub ended_early : {pairs : List Pair} {e : Refusal} {early : Bool} (S : ℕ)
+      → ((v : Verdict) (input : List ℕ) → HasVerdict S input v → IsEarlyEnd v → Parts input [] 1)
+      → ReadsOn Parts whole pairs count left
+      → (v : Verdict) × HasVerdict S left v × IsRefusal e v
+      → ((v : Verdict) → IsRefusal e v → (IsTrue early ↔ IsEarlyEnd v)) → early ≡ true
+      → Parts whole pairs (count + 1)
+  ended_early {pairs = pairs} S cut so_far (v, has, names) told is_true =
+      subst (λ z. Parts whole z (count + 1)) (append-nil pairs) (so_far.on [] 1 (cut v left has ((told v names).0 is_true)))
+
+  -- nothing is left
+  pub read_through : {pairs : List Pair} → Parts [] [] 0 → ReadsOn Parts whole pairs count left → length left ≡ 0 → Parts whole pairs count
+  read_through {pairs = pairs} ended so_far none =
+      let empty = subst (λ z. Parts z [] 0) (sym (nil_from_length left none)) ended in
+      let no_more : count + 0 ≡ count = omega arith in
+      rw no_more at (subst (λ z. Parts whole z (count + 0)) (append-nil pairs) (so_far.on [] 0 empty))

@@ -1,9 +1,3 @@
-pub mod JoinedLemmas
 pub mod JsonLemmas
-pub mod JsonTextLemmas
-pub mod MembersLemmas
-pub mod RecoveryLemmas
-pub mod ScaleCodeLemmas
 pub mod ScaleLemmas
-pub mod ScaleTakingLemmas
 pub mod StreamLemmas

@@ -2,7 +2,7 @@
 use Rattle.std.proofs.Common.{◌≡◌, Result, Ok, Err, IfOk, MatchResult, OnOk, OnErr, sym, subst}
 use Rattle.std.specs.Result.{IsErrAnd}
 
--- the error that is answered is the one that was met, and what holds of that one holds of it
+-- the error that is returned is the one that was met, and what holds of that one holds of it
 pub passed_on : {T E : Type 0} (r : Result T E) (e : E) (Q : T → Type 0) (P : E → Type 0) → IsErrAnd r (λ x. x ≡ e) → P e → MatchResult r Q P
 passed_on (Ok t) e Q P given p = absurd given
 passed_on (Err x) e Q P given p = subst P (sym given) p

@@ -1,10 +1,6 @@
 pub mod DigitLemmas
-pub mod LengthLemmas
-pub mod MarkedLemmas
-pub mod StopLemmas
 pub mod VarintLemmas
 pub mod VarintReadLemmas
 pub mod VarintWriteLemmas
-pub mod WordFillingLemmas
 pub mod WordFrontLemmas
 pub mod WordLemmas

@@ -1,4 +1,2 @@
 pub mod EncodingLemmas
-pub mod FillingLemmas
-pub mod PlacesLemmas
 pub mod WritingLemmas

@@ -3,8 +3,8 @@ use Rattle.std.specs.Prelude.{◌≡◌, ℕ, List, ◌++◌, length}
 use Rattle.multihash.specs.Pair.{Pair}
 use Rattle.multihash.specs.Varint.{IsVarint}
 
--- the bytes are the code's varint, the varint of the digest's length, and the digest, whose numbers are bytes only
--- where `IsPair` says so
+-- the bytes are the code's varint, the varint of the digest's length, and the digest, whose numbers are
+-- bytes only if `IsPair` says so
 pub record IsEncoding (p : Pair) (bytes : List ℕ) : Type 0 where
   pub code : List ℕ
   pub size : List ℕ

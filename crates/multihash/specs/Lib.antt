@@ -4,16 +4,12 @@ pub mod Comparing
 pub mod Encoding
 pub mod Fault
 pub mod Filling
-pub mod Head
-pub mod Joined
 pub mod Json
 pub mod Members
 pub mod Pair
-pub mod Places
 pub mod Reading
 pub mod Refusal
 pub mod Scale
-pub mod ScaleTaking
 pub mod Settling
 pub mod Streams
 pub mod Taking

@@ -1,12 +1,19 @@
--- What reading and writing many multihashes consumed and appended.
-use Rattle.std.specs.Prelude.{◌≡◌, ◌<◌, ◌⊎◌, ℕ, List, length, Option, IfSome, All}
+-- Many pairs in one stream, and what reading and writing them consumed and appended.
+use Rattle.std.specs.Prelude.{◌≡◌, ℕ, List, ◌<◌, ◌⊎◌, length, Option, IfSome, All}
+use Rattle.std.specs.List.{concat, AllZip}
 use Rattle.multihash.specs.Pair.{Pair, FitsBuffer}
+use Rattle.multihash.specs.Encoding.{IsEncoding}
 use Rattle.multihash.specs.Verdict.{Verdict, HasVerdict, IsEarlyEnd}
-use Rattle.multihash.specs.Joined.{AreJoined}
 use Rattle.multihash.specs.Reading.{Takes}
 use Rattle.multihash.specs.Refusal.{Refusal}
 use Rattle.multihash.specs.Answer.{IsRefusal}
 use Rattle.multihash.specs.Taking.{TakesAtRefusal, TakesShortestSettling, TakesNothingSettling}
+
+-- the bytes are the encodings of the pairs, one after another
+pub record AreJoined (pairs : List Pair) (bytes : List ℕ) : Type 0 where
+  pub encodings : List (List ℕ)
+  pub each : AllZip IsEncoding pairs encodings
+  pub joined : bytes ≡ concat encodings
 
 -- the call consumed the encodings of these pairs, all of which fit, one after another
 pub record TakesPairs (S : ℕ) (pairs : List Pair) (old new : Option (List ℕ)) : Type 0 where

@@ -1,5 +1,5 @@
--- The result of reading an input, for a capacity S.
-use Rattle.std.specs.Prelude.{◌≡◌, ℕ, ◌<◌, ◌≤◌, ◌⊎◌, ⊤, List, ◌++◌, length}
+-- The result of reading an input, for a capacity S, and the two varints at its front.
+use Rattle.std.specs.Prelude.{◌≡◌, ℕ, ◌<◌, ◌≤◌, ◌⊎◌, ⊤, List, ◌++◌, length, drop}
 use Rattle.multihash.specs.Pair.{Pair, FitsBuffer, digest_limit}
 use Rattle.multihash.specs.Varint.{IsVarint, VarintFault, insufficient, overflow, not_minimal, HasFaultyFront}
 use Rattle.multihash.specs.Encoding.{IsEncoding}
@@ -33,6 +33,12 @@ pub record BeginsWithCode (input rest : List ℕ) : Type 0 where
   pub code_bytes : List ℕ
   pub is_code : IsVarint code code_bytes
   pub cut : input ≡ code_bytes ++ rest
+
+-- the varint of a code and the varint of a size are at the front of the input, and have that many bytes
+pub record HasHead (code size len : ℕ) (input : List ℕ) : Type 0 where
+  pub within : len ≤ length input
+  pub varints : BeginsWithSize size input (drop len input)
+  pub is_code : varints.code ≡ code
 
 -- the verdict on the front of the input; the number of a varint is never out of range
 abbrev pub HasVerdict : ℕ → List ℕ → Verdict → Type 0

@@ -99,7 +99,8 @@ impl<const S: usize> Multihash<S> {
         if digest.len() > len {
             return Err(Error::from_size((digest.len() - len) as u64));
         }
-        // With a length known at compile time the digest is moved as a whole, without a call.
+        // As in `wrap`; a helper for both would copy the value once more, into its `Ok`. With a length
+        // known at compile time the digest is moved as a whole, without a call.
         if let Some(whole) = whole::<32>(digest) {
             return Ok(Self::in_buffer(code, 32, Self::padded(whole)));
         }

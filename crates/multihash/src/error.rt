@@ -140,8 +140,8 @@ impl Error {
     }
 
     /// Returns whether more input could have changed the result: the input ended within or before a
-    /// varint, or before the end of a digest or of a fixed-size part. It is true of some errors of two
-    /// of the seven kinds.
+    /// varint, or before the end of a digest or of a fixed-size part. It is true if
+    /// [`Error::is_insufficient`] is, and if [`Error::io`] is an unexpected end of file.
     pub fn is_early_end(&self) -> bool
         ensures ends { IsTrue result ↔ (IsFaulty insufficient self.now ⊎ IsEof self.now) }
         ensures early { (v : Verdict) → IsRefusal self.now v → (IsTrue result ↔ IsEarlyEnd v) }

@@ -1,8 +1,7 @@
 //! The two varints at the front of an encoding, for callers that keep the digest where it is.
 ghost use Rattle.std.specs.Prelude.{ℕ, IfOk, IfErr};
 ghost use Rattle.multihash.specs.Varint.{VarintFault};
-ghost use Rattle.multihash.specs.Verdict.{faulty, HasVerdict};
-ghost use Rattle.multihash.specs.Head.{HasHead};
+ghost use Rattle.multihash.specs.Verdict.{faulty, HasVerdict, HasHead};
 ghost use Rattle.multihash.specs.Refusal.{IsFaulty};
 
 use crate::Error;

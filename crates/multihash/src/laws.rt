@@ -7,7 +7,7 @@ ghost use Rattle.multihash.specs.Varint.{varint_limit};
 ghost use Rattle.multihash.specs.Encoding.{IsEncoding};
 ghost use Rattle.multihash.specs.Verdict.{Verdict, accepted, HasVerdict, HasWholeVerdict, IsEarlyEnd};
 ghost use Rattle.multihash.specs.Settling.{Settles, IsShortestSettling};
-ghost use Rattle.multihash.specs.Joined.{AreJoined};
+ghost use Rattle.multihash.specs.Streams.{AreJoined};
 ghost use Rattle.multihash.specs.Scale.{IsScale, HasScaleVerdict};
 ghost use Rattle.multihash.specs.Json.{IsJsonList, IsByteArray};
 
@@ -25,6 +25,7 @@ pub fn one_verdict()
 {}
 
 /// An input settles its verdict unless it is incomplete.
+#[tactic(auto, using(crate::proofs::Readings::SettlingLemmas::settling))]
 pub fn settles()
     ensures exactly { (S : ℕ) (input : List ℕ) (v : Verdict) → HasVerdict S input v →
         (Settles S input ↔ ¬ (IsEarlyEnd v)) }

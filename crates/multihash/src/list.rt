@@ -1,12 +1,11 @@
 //! Many multihashes in one stream, one after another.
 ghost use Rattle.std.specs.Prelude.{◌≡◌, ◌⊎◌, ℕ, List, length, map, vec_capacity, All, IfOk, IfErr, OnOk, OnErr, IsOk};
 ghost use Rattle.multihash.specs.Pair.{FitsBuffer};
-ghost use Rattle.multihash.specs.Joined.{AreJoined};
+ghost use Rattle.multihash.specs.Streams.{AreJoined, TakesPairs, StopsAfterPairs};
 ghost use Rattle.multihash.specs.Writing.{AppendsPart, CountsWriter};
 ghost use Rattle.multihash.specs.Refusal.{IsMemory, IsIo, IsReaderFault};
 ghost use Rattle.multihash.specs.Reading.{CountsReader};
 ghost use Rattle.multihash.specs.Taking.{IsReadRefusal};
-ghost use Rattle.multihash.specs.Streams.{TakesPairs, StopsAfterPairs};
 ghost use Rattle.multihash.specs.Answer.{pair_of};
 
 use crate::no_std_io::{Read, Write};

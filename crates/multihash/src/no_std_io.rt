@@ -2,7 +2,6 @@
 
 mod error;
 mod impls;
-mod pins;
 mod slice_writer;
 mod traits;
 

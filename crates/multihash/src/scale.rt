@@ -1,12 +1,11 @@
 //! The SCALE form: the code as eight bytes, lowest first; the digest's length as one byte; the digest.
 ghost use Rattle.std.specs.Prelude.{◌≡◌, ◌+◌, ◌<◌, ℕ, List, length, IfSome, IfOk, IfErr, OnErr};
-ghost use Rattle.multihash.specs.Scale.{IsScale, HasScaleVerdict};
+ghost use Rattle.multihash.specs.Scale.{IsScale, HasScaleVerdict, IsScaleRefusal, TakesAtScaleRefusal};
 ghost use Rattle.multihash.specs.Verdict.{Verdict};
 ghost use Rattle.multihash.specs.Fault.{IsUnexpectedEof, IsOwnFault};
 ghost use Rattle.multihash.specs.Reading.{Takes, HasFewerThan, TakesFewerThan, CountsReader};
 ghost use Rattle.multihash.specs.Writing.{AppendsPart, CountsWriter};
 ghost use Rattle.multihash.specs.Refusal.{IsIo, IsReaderFault};
-ghost use Rattle.multihash.specs.ScaleTaking.{IsScaleRefusal, TakesAtScaleRefusal};
 ghost use Rattle.multihash.specs.Answer.{pair_of, Answers};
 
 use crate::no_std_io::{self, Read, Write};

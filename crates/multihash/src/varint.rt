@@ -72,7 +72,7 @@ pub fn len(n: u64) -> Result<usize, Error>
 /// - [`Error::invalid_code`] with the number if it is 2^63 or more; the writer was not called.
 /// - [`Error::io`] with the writer's error: it is full, it failed, or, if it allocates, it is out of
 ///   memory. A strict prefix of the varint has been appended then.
-// Where this is a call, an encoding in C takes some 80 instructions more.
+// In line: a call would return its result in memory.
 #[inline(always)]
 pub fn write<W: Write>(n: u64, w: &mut W) -> Result<usize, Error>
     ensures ok { IfOk result (λ len. (bytes : List ℕ) × IsVarint n bytes × (len ≡ length bytes)
@@ -157,6 +157,7 @@ pub(crate) fn write_in_range<W: Write>(n: u64, w: &mut W) -> Result<usize, no_st
 
 // The varint of a number that has two bytes.
 #[inline(always)]
+#[tactic(auto, using(crate::proofs::Varints::VarintWriteLemmas::two_byte))]
 fn two_bytes(n: u64) -> [u8; 2]
     requires least { 128 ≤ n }
     requires most { n < 2 ^ 14 }
@@ -167,6 +168,7 @@ fn two_bytes(n: u64) -> [u8; 2]
 
 // The varint of a number that has three bytes.
 #[inline(always)]
+#[tactic(auto, using(crate::proofs::Varints::VarintWriteLemmas::three_byte))]
 fn three_bytes(n: u64) -> [u8; 3]
     requires least { 2 ^ 14 ≤ n }
     requires most { n < 2 ^ 21 }
@@ -215,10 +217,12 @@ fn read_behind<R: Read>(r: &mut R, first: u8) -> Result<u64, Error>
     requires { IsMarked first }
     ensures faults { CountsReader IsReaderFault IsVarintRefusal
         (R.failures r.old) (R.failures r.new) result }
-    ensures ok { IfOk result (λ n. TakesVarint n (prepend_known (first ∷ []) (R.rest r.old)) (R.rest r.new)) }
-    ensures err { IfErr result (λ e. TakesAtVarintRefusal e (prepend_known (first ∷ []) (R.rest r.old)) (R.rest r.new)) }
-    ensures front { IfSome (prepend_known (first ∷ []) (R.rest r.old)) (λ input. R.failures r.new ≡ R.failures r.old →
-        IfErr result (IsFrontRefusal input)) }
+    ensures ok { IfOk result (λ n.
+        TakesVarint n (prepend_known (first ∷ []) (R.rest r.old)) (R.rest r.new)) }
+    ensures err { IfErr result (λ e.
+        TakesAtVarintRefusal e (prepend_known (first ∷ []) (R.rest r.old)) (R.rest r.new)) }
+    ensures front { IfSome (prepend_known (first ∷ []) (R.rest r.old)) (λ input.
+        R.failures r.new ≡ R.failures r.old → IfErr result (IsFrontRefusal input)) }
 {
     let mut value = u64::from(first & 0x7f);
     for i in 1..=MAX_MARKED {

@@ -7,8 +7,7 @@ use Rattle.multihash.specs.Bytes.{IsBytes}
 use Rattle.multihash.specs.Pair.{Pair}
 use Rattle.multihash.specs.Varint.{insufficient, overflow, not_minimal}
 use Rattle.multihash.specs.Encoding.{IsEncoding}
-use Rattle.multihash.specs.Scale.{IsScale, HasScaleVerdict}
-use Rattle.multihash.specs.ScaleTaking.{TakesAtScaleRefusal}
+use Rattle.multihash.specs.Scale.{IsScale, HasScaleVerdict, TakesAtScaleRefusal}
 use Rattle.multihash.specs.Verdict.{Verdict, accepted, invalid_size, invalid_code, faulty, unexpected_eof}
 use Rattle.multihash.specs.Refusal.{Refusal, IsInvalidSize, IsInvalidCode, IsFaulty}
 use Rattle.multihash.specs.Answer.{IsRefusal}

@@ -1,6 +1,6 @@
 -- The two varints that begin an input, where each has one byte.
 use Rattle.std.proofs.Common.{ℕ, ◌<◌, ◌≤◌, List, [], ◌∷◌, length, get_or, refl, arith}
-use Rattle.multihash.specs.Head.{HasHead}
+use Rattle.multihash.specs.Verdict.{HasHead}
 use Rattle.multihash.proofs.Varints.VarintWriteLemmas.{one_byte}
 
 pub short_head : (input : List ℕ) → 2 ≤ length input → get_or input 0 0 < 128 → get_or input 1 0 < 128

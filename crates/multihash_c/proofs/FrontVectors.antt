@@ -1,8 +1,7 @@
 -- What the fronts of known inputs tell a C caller, and what no front tells.
 use Rattle.std.proofs.Common.{◌≡◌, ℕ, List, [], ◌∷◌, ◌++◌, length, drop, refl, sym, ap, ◌∙◌, subst, arith, inl, inr, length-drop}
 use Rattle.multihash.specs.Varint.{VarintFault, insufficient, overflow, not_minimal}
-use Rattle.multihash.specs.Verdict.{faulty}
-use Rattle.multihash.specs.Head.{HasHead}
+use Rattle.multihash.specs.Verdict.{faulty, HasHead}
 use Rattle.multihash.proofs.Readings.VerdictLemmas.{verdict_unique}
 use Rattle.multihash.proofs.Examples.VarintVectors.{varint_0, varint_5}
 use Rattle.multihash.proofs.Examples.VerdictVectors.{code_alone}

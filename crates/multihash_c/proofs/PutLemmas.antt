@@ -8,7 +8,7 @@ use Rattle.multihash.specs.Writing.{AppendsPart, IsWriterFaultOrFull}
 use Rattle.multihash.specs.Refusal.{Refusal, IsIo, IsInvalidCode}
 use Rattle.multihash.specs.declared.no_std_io.slice_writer.SliceWriter.{SliceWriter}
 use Rattle.multihash.proofs.Writings.EncodingLemmas.{encoding_of, length-parts, encoding_same}
-use Rattle.multihash.proofs.Writings.FillingLemmas.{slice_writer_has_room}
+use Rattle.multihash.proofs.Writings.WritingLemmas.{slice_writer_has_room}
 
 -- what holds of each Ok holds of what was unwrapped
 pub of_ok : {T E : Type 0} (P : T → Type 0) (r : Result T E) (t : T) → r ≡ Ok t → IfOk r P → P t

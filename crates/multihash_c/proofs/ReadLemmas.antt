@@ -5,13 +5,11 @@ use Rattle.std.proofs.lemmas.List.Elements.{All-nil}
 use Rattle.multihash.specs.Bytes.{IsBeginning}
 use Rattle.multihash.specs.Pair.{Pair, digest_limit}
 use Rattle.multihash.specs.Varint.{VarintFault, insufficient}
-use Rattle.multihash.specs.Verdict.{Verdict, accepted, invalid_size, faulty, unexpected_eof, BeginsWith, HasVerdict, IsEarlyEnd}
+use Rattle.multihash.specs.Verdict.{Verdict, accepted, invalid_size, faulty, unexpected_eof, BeginsWith, HasVerdict, IsEarlyEnd, HasHead}
 use Rattle.multihash.specs.Settling.{Settles, IsShortestSettling}
-use Rattle.multihash.specs.Head.{HasHead}
 use Rattle.multihash.specs.Taking.{TakesShortestSettling}
 use Rattle.multihash.proofs.Readings.VerdictLemmas.{verdict_unique, pair_begins}
-use Rattle.multihash.proofs.Readings.SettlingLemmas.{verdict_kept, late_settles, settles_exactly}
-use Rattle.multihash.proofs.Readings.ShortestLemmas.{shortest_pair, shortest_size}
+use Rattle.multihash.proofs.Readings.SettlingLemmas.{verdict_kept, late_settles, settles_exactly, shortest_pair, shortest_size}
 use Rattle.multihash_c.specs.declared.decode.Decoded.{Decoded}
 use Rattle.multihash_c.specs.Decoded.{Tells, ReadsWithin}
 

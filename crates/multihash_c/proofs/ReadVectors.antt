@@ -1,17 +1,15 @@
 -- What reading known inputs answers for digests of at most four bytes, and what it took.
 use Rattle.std.proofs.Common.{◌≡◌, ℕ, List, [], ◌∷◌, ◌++◌, length, drop, refl, sym, ap, subst, arith, inl, length-drop}
 use Rattle.multihash.specs.Varint.{insufficient, not_minimal, HasFaultyFront}
-use Rattle.multihash.specs.Verdict.{BeginsWith, accepted, invalid_size, faulty, unexpected_eof, HasVerdict}
+use Rattle.multihash.specs.Verdict.{BeginsWith, accepted, invalid_size, faulty, unexpected_eof, HasVerdict, HasHead}
 use Rattle.multihash.specs.Settling.{IsShortestSettling}
-use Rattle.multihash.specs.Head.{HasHead}
 use Rattle.multihash.proofs.Readings.VerdictLemmas.{verdict_unique}
-use Rattle.multihash.proofs.Readings.ShortestLemmas.{shortest_pair, shortest_code_fault, shortest_unique}
-use Rattle.multihash.proofs.Examples.SettlingVectors.{shortest_of_size}
+use Rattle.multihash.proofs.Readings.SettlingLemmas.{shortest_pair, shortest_code_fault, shortest_unique}
+use Rattle.multihash.proofs.Examples.VerdictVectors.{shortest_of_size, size_5, digest_cut, empty_input, code_alone, size_open}
 use Rattle.multihash.proofs.Examples.ReadingVectors.{taken_is}
 use Rattle.multihash.proofs.Examples.TakingVectors.{takes_no_byte_behind_size}
 use Rattle.multihash.proofs.Examples.PairVectors.{pair}
 use Rattle.multihash.proofs.Examples.VarintVectors.{all_marked, varint_0, varint_1, varint_4}
-use Rattle.multihash.proofs.Examples.VerdictVectors.{size_5, digest_cut, empty_input, code_alone, size_open}
 use Rattle.multihash_c.specs.Decoded.{Tells, ReadsWithin}
 use Rattle.multihash_c.proofs.DecodedVectors.{answer, input}
 use Rattle.multihash_c.proofs.ReadLemmas.{size_read, end_read, read_of_encoding, fault_read}

@@ -1,6 +1,6 @@
 -- The front of an encoding for a C caller.
 use Rattle.std.specs.Prelude.{◌≡◌, ℕ, ◌⊎◌, List}
-use Rattle.multihash.specs.Head.{HasHead}
+use Rattle.multihash.specs.Verdict.{HasHead}
 use Rattle.multihash.specs.Varint.{VarintFault}
 use Rattle.multihash_c.specs.Status.{status_ok, status_of_fault}
 use Rattle.multihash_c.specs.Decoded.{ReadsWithin}

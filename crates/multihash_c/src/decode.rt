@@ -4,7 +4,7 @@ ghost use Rattle.multihash.specs.Pair.{Pair};
 ghost use Rattle.multihash.specs.Varint.{VarintFault};
 ghost use Rattle.multihash.specs.Verdict.{Verdict, accepted, invalid_size, invalid_code, faulty, unexpected_eof, HasVerdict, HasWholeVerdict};
 ghost use Rattle.multihash.specs.Scale.{HasScaleVerdict};
-ghost use Rattle.multihash.specs.Head.{HasHead};
+ghost use Rattle.multihash.specs.Verdict.{HasHead};
 ghost use Rattle.multihash.specs.Answer.{IsRefusal};
 ghost use Rattle.multihash_c.specs.Decoded.{Tells, TellsRefusal, TakesForm, TakesWholeParts, ReadsWithin};
 ghost use Rattle.multihash_c.specs.Front.{TellsHead, ReadsFront};

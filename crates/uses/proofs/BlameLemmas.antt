@@ -4,18 +4,15 @@ use Rattle.multihash.specs.Varint.{varint_limit}
 use Rattle.multihash.specs.Pair.{Pair, FitsBuffer, digest_limit}
 use Rattle.multihash.specs.Encoding.{IsEncoding}
 use Rattle.multihash.specs.Verdict.{Verdict, accepted, invalid_size, invalid_code, faulty, unexpected_eof, BeginsWithSize, HasVerdict, HasWholeVerdict}
-use Rattle.multihash.specs.Scale.{IsScaleCode, HasScaleVerdict}
-use Rattle.multihash.specs.ScaleTaking.{TakesAtScaleRefusal}
+use Rattle.multihash.specs.Scale.{IsScaleCode, HasScaleVerdict, TakesAtScaleRefusal}
 use Rattle.multihash.specs.Settling.{Settles}
 use Rattle.multihash.specs.Taking.{TakesShortestSettling, TakesNothingSettling}
 use Rattle.multihash.specs.Reading.{Takes}
 use Rattle.multihash.specs.Refusal.{Refusal, of_size, of_code, IsInvalidSize, IsInvalidCode}
 use Rattle.multihash.specs.Answer.{Fields, pair_of, IsRefusal, Answers}
-use Rattle.multihash.proofs.Readings.BeginningLemmas.{compare_beginnings}
+use Rattle.multihash.proofs.Readings.SettlingLemmas.{compare_beginnings, shortest_size, shortest_unique, settles_exactly}
 use Rattle.multihash.proofs.Readings.VerdictLemmas.{verdict_unique}
 use Rattle.multihash.proofs.Forms.ScaleLemmas.{scale_verdict_unique}
-use Rattle.multihash.proofs.Readings.ShortestLemmas.{shortest_size, shortest_unique}
-use Rattle.multihash.proofs.Readings.SettlingLemmas.{settles_exactly}
 use Rattle.multihash.proofs.Writings.WritingLemmas.{length_of_not_nil}
 use Rattle.multihash.proofs.Writings.EncodingLemmas.{same_cut}
 

@@ -4,7 +4,7 @@ use Rattle.std.proofs.lemmas.List.Elements.{All-head}
 use Rattle.multihash.specs.Varint.{IsVarint, insufficient, IsMarked, IsInsufficient, HasFaultyFront}
 use Rattle.multihash.specs.Refusal.{of_io, of_size, of_code, of_varint}
 use Rattle.multihash.specs.Taking.{TakesVarint, TakesAtVarintRefusal}
-use Rattle.multihash.proofs.Examples.FaultVectors.{eof}
+use Rattle.multihash.proofs.Examples.RefusalVectors.{eof}
 use Rattle.multihash.proofs.Examples.ReadingVectors.{taken_is}
 use Rattle.multihash.proofs.Examples.VarintVectors.{all_marked, varint_1, varint_2}
 use Rattle.multihash.proofs.Readings.ReadingLemmas.{Takes-told}

@@ -1,8 +1,7 @@
 //! Callers over any reader, which conclude how often it failed and what it has left.
 ghost use Rattle.std.specs.Prelude.{◌≡◌, ◌+◌, ◌⊎◌, ℕ, List, [], ◌∷◌, ◌++◌, length, map, vec_capacity, Option, Some, IfSome, IfNone, IfOk, IfErr, MatchResult};
 ghost use Rattle.multihash.specs.Pair.{Pair, FitsBuffer};
-ghost use Rattle.multihash.specs.Scale.{IsScale};
-ghost use Rattle.multihash.specs.ScaleTaking.{IsScaleRefusal};
+ghost use Rattle.multihash.specs.Scale.{IsScale, IsScaleRefusal};
 ghost use Rattle.multihash.specs.Reading.{Takes, CountsReader};
 ghost use Rattle.multihash.specs.Refusal.{IsReaderFault, IsMemory, IsInvalidSize, IsInvalidCode};
 ghost use Rattle.multihash.specs.Taking.{IsReadRefusal};

@@ -1,7 +1,7 @@
 //! Callers that write multihashes in one form and read them back, alone and many in a stream.
 ghost use Rattle.std.specs.Prelude.{◌≡◌, ◌≤◌, ◌-◌, ◌+◌, ℕ, List, ◌++◌, length, map, min, All, Some, IsTrue, ◌↔◌, IfSome, MatchResult};
 ghost use Rattle.multihash.specs.Pair.{Pair, FitsBuffer};
-ghost use Rattle.multihash.specs.Joined.{AreJoined};
+ghost use Rattle.multihash.specs.Streams.{AreJoined};
 ghost use Rattle.multihash.specs.Scale.{IsScale};
 ghost use Rattle.multihash.specs.Refusal.{IsMemory};
 ghost use Rattle.multihash.specs.Answer.{pair_of};

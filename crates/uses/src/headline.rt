@@ -7,7 +7,7 @@ ghost use Rattle.multihash.specs.Pair.{Pair, FitsBuffer};
 ghost use Rattle.multihash.specs.Encoding.{IsEncoding};
 ghost use Rattle.multihash.specs.Verdict.{Verdict, HasVerdict, HasWholeVerdict, IsEarlyEnd};
 ghost use Rattle.multihash.specs.Settling.{IsShortestSettling};
-ghost use Rattle.multihash.specs.Joined.{AreJoined};
+ghost use Rattle.multihash.specs.Streams.{AreJoined};
 ghost use Rattle.multihash.specs.Reading.{Takes};
 ghost use Rattle.multihash.specs.Writing.{AppendsPart, IsWriterFaultOrFull};
 ghost use Rattle.multihash.specs.Taking.{TakesNothingSettling};

@@ -1,7 +1,7 @@
 //! Merkle nodes: links, followed by data.
 ghost use Rattle.std.specs.Prelude.{◌≡◌, ◌⊎◌, ℕ, List, ◌++◌, length, map, All, Some, OnOk, OnErr, IsTrue, MatchResult};
 ghost use Rattle.multihash.specs.Pair.{FitsBuffer};
-ghost use Rattle.multihash.specs.Joined.{AreJoined};
+ghost use Rattle.multihash.specs.Streams.{AreJoined};
 ghost use Rattle.multihash.specs.Writing.{AppendsPart, CountsWriter, IsWriterFaultOrFull};
 ghost use Rattle.multihash.specs.Refusal.{IsIo, IsMemory};
 ghost use Rattle.multihash.specs.Answer.{pair_of};

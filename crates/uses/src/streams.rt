@@ -1,6 +1,6 @@
 //! A custom reader and a custom writer: the pattern to copy.
 ghost use Rattle.std.specs.Prelude.{◌≡◌, ◌≤◌, [], false, Some, drop, length, vec_len};
-ghost use Rattle.multihash.specs.Places.{AppendsAtEnd, AppendsAtEnd-none, AppendsAtEnd-joined};
+ghost use Rattle.multihash.specs.Writing.{AppendsAtEnd, AppendsAtEnd-none, AppendsAtEnd-joined};
 
 use multihash::no_std_io::{Error, Read, Write};
 use std::marker::Model;

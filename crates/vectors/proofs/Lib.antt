@@ -1,5 +1,3 @@
-pub mod AllLemmas
 pub mod AnswerLemmas
 pub mod ListedVectors
 pub mod ScaleAnswerLemmas
-pub mod ValueLemmas

@@ -7,15 +7,14 @@ use Rattle.multihash.specs.Bytes.{IsProperBeginning, place_value}
 use Rattle.multihash.specs.Varint.{insufficient, overflow, not_minimal}
 use Rattle.multihash.specs.Verdict.{accepted, invalid_size, invalid_code, faulty, unexpected_eof, HasWholeVerdict}
 use Rattle.multihash.specs.Scale.{IsScaleCode, HasScaleVerdict}
-use Rattle.multihash.proofs.Varints.MarkedLemmas.{All-append_right}
+use Rattle.multihash.proofs.Varints.DigitLemmas.{All-append_right}
 use Rattle.multihash.proofs.Writings.WritingLemmas.{length_of_not_nil}
 use Rattle.multihash.proofs.Readings.VerdictLemmas.{verdict_unique, whole_verdict_unique}
 use Rattle.multihash.proofs.Forms.ScaleLemmas.{scale_verdict_unique}
-use Rattle.multihash.proofs.Readings.ShortestLemmas.{shortest_unique}
+use Rattle.multihash.proofs.Readings.SettlingLemmas.{shortest_unique}
 use Rattle.multihash.proofs.Examples.BytesVectors.{all_below}
 use Rattle.multihash.proofs.Examples.PairVectors.{pair}
-use Rattle.multihash.proofs.Examples.VerdictVectors.{size_5, size_named, code_named}
-use Rattle.multihash.proofs.Examples.SettlingVectors.{shortest_of_size}
+use Rattle.multihash.proofs.Examples.VerdictVectors.{size_5, size_named, code_named, shortest_of_size}
 use Rattle.multihash.proofs.Examples.ScaleVectors.{zeros, all_255, scale_eight_bytes, scale_size_first, scale_size_behind}
 use Rattle.vectors.proofs.ScaleAnswerLemmas.{size_shortest}
 use Rattle.vectors.specs.declared.check.Check.{Check}

@@ -7,9 +7,8 @@ use Rattle.multihash.specs.Reading.{Takes}
 use Rattle.multihash.specs.Refusal.{Refusal}
 use Rattle.multihash.specs.Varint.{varint_limit}
 use Rattle.multihash.specs.Verdict.{Verdict, accepted, invalid_size, invalid_code, faulty, unexpected_eof}
-use Rattle.multihash.specs.Scale.{IsScaleCode, IsScale, HasScaleSize, HasScaleVerdict}
-use Rattle.multihash.specs.ScaleTaking.{TakesAtScaleRefusal}
-use Rattle.multihash.proofs.Readings.BeginningLemmas.{split_beginning, compare_beginnings}
+use Rattle.multihash.specs.Scale.{IsScaleCode, IsScale, HasScaleSize, HasScaleVerdict, TakesAtScaleRefusal}
+use Rattle.multihash.proofs.Readings.SettlingLemmas.{split_beginning, compare_beginnings}
 use Rattle.vectors.proofs.AnswerLemmas.{answers_unique}
 use Rattle.vectors.specs.Listed.{DecodesAfter, IsScaleTaken}
 

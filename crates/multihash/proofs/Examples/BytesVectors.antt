@@ -1,4 +1,4 @@
--- Known lists of bytes, beginnings of lists, place values, and facts that hold of one value.
+-- Known lists of bytes, prefixes of lists, place values, and facts that hold of one value.
 use Rattle.std.proofs.Common.{◌≡◌, ℕ, ◌<◌, ltb, true, List, [], ◌∷◌, length, get_or, refl, ap, arith}
 use Rattle.std.specs.List.{All, list_all}
 use Rattle.std.proofs.lemmas.Bool.{ltb-true, and_parts}
@@ -26,7 +26,7 @@ no_byte_256 h = omega (arith, h 1 0 (omega arith))
 no_byte_256_before_one : ¬ (IsBytes (256 ∷ 0 ∷ []))
 no_byte_256_before_one h = omega (arith, h 0 0 (omega arith))
 
--- ---- beginnings
+-- ---- prefixes
 
 begins : IsBeginning (1 ∷ 2 ∷ []) (1 ∷ 2 ∷ []) × IsBeginning [] (1 ∷ 2 ∷ [])
 begins = (([], refl), (1 ∷ 2 ∷ [], refl))
@@ -53,7 +53,7 @@ begins_no_shorter_properly (rest, some, cut) = omega (arith, ap (λ (z : List �
 nothing_begins_properly : IsProperBeginning [] (1 ∷ [])
 nothing_begins_properly = (1 ∷ [], (λ e. omega (arith, ap (λ (z : List ℕ). length z) e)), refl)
 
--- ---- the lowest digit stands first, in both bases
+-- ---- the lowest digit comes first, in both bases
 
 values : (place_value 128 (44 ∷ 2 ∷ []) ≡ 300) × (place_value 256 (1 ∷ 2 ∷ 3 ∷ []) ≡ 197121) × (place_value 128 (0 ∷ 0 ∷ 1 ∷ []) ≡ 16384)
     × (place_value 128 [] ≡ 0)

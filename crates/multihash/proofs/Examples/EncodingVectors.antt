@@ -1,10 +1,13 @@
--- The encodings of known pairs.
-use Rattle.std.proofs.Common.{◌≡◌, ◌<◌, ℕ, ◌+◌, List, [], ◌∷◌, ◌++◌, length, get_or, replicate, refl, ap, arith}
+-- The encodings of known pairs, and the heads of known inputs.
+use Rattle.std.proofs.Common.{◌≡◌, ◌<◌, ℕ, ◌+◌, List, [], ◌∷◌, ◌++◌, length, get_or, replicate, refl, ap, arith, ◌∙◌, drop, sym}
 use Rattle.std.specs.Prelude.{codes}
 use Rattle.multihash.specs.Varint.{max_marked}
 use Rattle.multihash.specs.Encoding.{IsEncoding}
-use Rattle.multihash.proofs.Examples.VarintVectors.{varint_0, varint_2, varint_128, varint_255, largest, largest_bytes, varint_largest, begins_small}
+use Rattle.multihash.proofs.Examples.VarintVectors.{varint_0, varint_2, varint_128, varint_255, largest, largest_bytes, varint_largest, begins_small, varint_1, varint_5}
 use Rattle.multihash.proofs.Examples.PairVectors.{pair}
+use Rattle.multihash.specs.Verdict.{HasHead}
+use Rattle.multihash.proofs.Examples.VerdictVectors.{size_5}
+use Rattle.multihash.proofs.Varints.VarintLemmas.{same_number}
 
 encodes_ab : IsEncoding (pair 0 (codes "ab")) (0x00 ∷ 0x02 ∷ 0x61 ∷ 0x62 ∷ [])
 encodes_ab = record { code = 0x00 ∷ []; size = 0x02 ∷ []; is_code = varint_0; is_size = varint_2; spelled = refl }
@@ -44,7 +47,7 @@ longest_is = refl
 most_bytes : (max_marked + 1) + 2 + 255 ≡ 266
 most_bytes = refl
 
--- ---- what is no encoding, each part refused by itself
+-- ---- what is no encoding, each part rejected by itself
 
 encodes_no_other_code : ¬ (IsEncoding (pair 1 []) (0x00 ∷ 0x00 ∷ []))
 encodes_no_other_code h = omega (arith, (begins_small 1 0x00 (0x00 ∷ []) h.code (h.size ++ []) (omega arith) h.is_code h.spelled).0)
@@ -68,3 +71,45 @@ encodes_no_other_digest h = omega (arith, ap (λ (z : List ℕ). get_or z 1 0) (
 -- no byte follows the digest
 encodes_no_more : ¬ (IsEncoding (pair 0 (codes "ab")) (0x00 ∷ 0x02 ∷ 0x61 ∷ 0x62 ∷ 0x07 ∷ []))
 encodes_no_more h = omega (arith, ap (λ (z : List ℕ). length z) (digest_of (codes "ab") (0x61 ∷ 0x62 ∷ 0x07 ∷ []) h))
+
+-- the code 0, the size 5, and a byte after them
+abbrev input : List ℕ
+input = 0x00 ∷ 0x05 ∷ 0x07 ∷ []
+
+head_of_two : HasHead 0 5 2 input
+head_of_two = record { within = omega arith; varints = size_5 (0x07 ∷ []); is_code = refl }
+
+-- the digest need not be there
+head_alone : HasHead 0 5 2 (0x00 ∷ 0x05 ∷ [])
+head_alone = record { within = omega arith; varints = size_5 []; is_code = refl }
+
+-- the code and the size of a head are those of the input, and so is what follows them
+head_is : (code size len : ℕ) → HasHead code size len input → (code ≡ 0) × (size ≡ 5) × (drop len input ≡ 0x07 ∷ [])
+head_is code size len h =
+    let h_size = h.varints in
+    let first =
+    same_number input h_size.code 0 (h_size.size_bytes ++ drop len input) (0x05 ∷ 0x07 ∷ [])
+    (h_size.code_bytes, h_size.is_code, h_size.cut) (0x00 ∷ [], varint_0, refl) in
+    let second =
+    same_number (0x05 ∷ 0x07 ∷ []) size 5 (drop len input) (0x07 ∷ [])
+    (h_size.size_bytes, h_size.is_size, sym first.1) (0x05 ∷ [], varint_5, refl) in
+    (sym h.is_code ∙ first.0, second.0, second.1)
+
+no_other_number : ¬ (HasHead 1 5 2 input) × ¬ (HasHead 0 4 2 input)
+no_other_number = ((λ h. omega (arith, (head_is 1 5 2 h).0)), λ h. omega (arith, (head_is 0 4 2 h).1))
+
+no_smaller_code : ¬ (HasHead 0 5 2 (0x01 ∷ 0x05 ∷ []))
+no_smaller_code h =
+    let h_size = h.varints in
+    let first =
+    same_number (0x01 ∷ 0x05 ∷ []) h_size.code 1 (h_size.size_bytes ++ []) (0x05 ∷ [])
+    (h_size.code_bytes, h_size.is_code, h_size.cut) (0x01 ∷ [], varint_1, refl) in
+    omega (arith, h.is_code, first.0)
+
+-- the digest's first byte is no part of a head, and both varints are
+no_other_length : ¬ (HasHead 0 5 3 input) × ¬ (HasHead 0 5 1 input)
+no_other_length = ((λ h. omega (arith, ap length (head_is 0 5 3 h).2)), λ h. omega (arith, ap length (head_is 0 5 1 h).2))
+
+-- nor is a byte that is not there
+no_head_past_the_end : ¬ (HasHead 0 5 3 (0x00 ∷ 0x05 ∷ []))
+no_head_past_the_end h = omega (arith, h.within)

@@ -1,15 +1,18 @@
--- The JSON lists of known pairs, and values that are or aren't byte arrays.
-use Rattle.std.proofs.Common.{◌≡◌, ℕ, ◌<◌, List, [], ◌∷◌, get_or, replicate, refl, sym, subst, ap, arith}
-use Rattle.std.specs.Prelude.{codes, ℤ, Float}
+-- The JSON lists of known pairs, values that are or aren't byte arrays, and the bytes that known JSON values are.
+use Rattle.std.proofs.Common.{◌≡◌, ℕ, ◌<◌, List, [], ◌∷◌, get_or, replicate, refl, sym, subst, ap, arith, true, false}
+use Rattle.std.specs.Prelude.{codes, ℤ, Float, Some, None, Bool, is_some}
 use Rattle.std.proofs.lemmas.List.Elements.{All-replicate}
 use Rattle.std.specs.List.{All}
-use Rattle.serde_json.specs.Data.{Data, number, unsigned, negative, float, null, string, array, no_items, item}
+use Rattle.serde_json.specs.Data.{Data, number, unsigned, negative, float, null, string, array, no_items, item, boolean, object, Items, Members}
 use Rattle.multihash.specs.Encoding.{IsEncoding}
 use Rattle.multihash.specs.Json.{IsByteArray, IsJsonList, number_array}
 use Rattle.multihash.proofs.Examples.BytesVectors.{all_below}
 use Rattle.multihash.proofs.Examples.VarintVectors.{varint_0, varint_1, varint_128}
 use Rattle.multihash.proofs.Examples.PairVectors.{pair}
 use Rattle.multihash.proofs.Forms.JsonLemmas.{array_unique}
+use Rattle.serde_json.specs.View.{view}
+use Rattle.serde_json.specs.declared.value.Value.{Value}
+use Rattle.multihash.specs.Members.{byte_of_number, byte_of_data, byte_then, leading_bytes, member_bytes, is_byte}
 
 json_list_encodes : IsEncoding (pair 0 (codes "A")) (0 ∷ 1 ∷ 65 ∷ [])
 json_list_encodes = record { code = 0 ∷ []; size = 1 ∷ []; is_code = varint_0; is_size = varint_1; spelled = refl }
@@ -64,3 +67,42 @@ negative_is_no_member z bytes h = no_member (number (negative z)) bytes (λ n e.
 
 float_is_no_member : (x : Float) (bytes : List ℕ) → ¬ (IsByteArray (array (item (number (unsigned 0)) (item (number (float x)) no_items))) bytes)
 float_is_no_member x bytes h = no_member (number (float x)) bytes (λ n e. cc) h.array
+
+bytes_of_numbers : (byte_of_number (unsigned 0) ≡ Some 0) × (byte_of_number (unsigned 255) ≡ Some 255) × (byte_of_data (number (unsigned 7)) ≡ Some 7)
+bytes_of_numbers = (refl, refl, refl)
+
+-- a float is none, however whole it is
+no_byte : (byte_of_number (unsigned 256) ≡ None) × ((z : ℤ) → byte_of_number (negative z) ≡ None) × ((x : Float) → byte_of_number (float x) ≡ None)
+no_byte = (refl, (λ z. refl), λ x. refl)
+
+nor_other_data : (byte_of_data null ≡ None) × ((b : Bool) → byte_of_data (boolean b) ≡ None) × ((text : List ℕ) → byte_of_data (string text) ≡ None)
+    × ((items : Items) → byte_of_data (array items) ≡ None) × ((ms : Members) → byte_of_data (object ms) ≡ None)
+nor_other_data = (refl, (λ b. refl), (λ text. refl), (λ items. refl), λ ms. refl)
+
+byte_and_more : (byte_then (Some 7) (8 ∷ []) ≡ 7 ∷ 8 ∷ []) × (byte_then None (8 ∷ []) ≡ [])
+byte_and_more = (refl, refl)
+
+-- up to the first that is none
+leading : (leading_bytes (number (unsigned 1) ∷ number (unsigned 2) ∷ null ∷ number (unsigned 3) ∷ []) ≡ 1 ∷ 2 ∷ [])
+    × (leading_bytes (null ∷ number (unsigned 3) ∷ []) ≡ []) × (leading_bytes (number (unsigned 0) ∷ number (unsigned 255) ∷ []) ≡ 0 ∷ 255 ∷ [])
+    × (member_bytes [] ≡ [])
+leading = (refl, refl, refl, refl)
+
+-- ---- members as the program holds them, by what they are
+
+leads_with_a_byte : (m : Value) (ms : List Value) → view m ≡ number (unsigned 7)
+    → member_bytes (m ∷ ms) ≡ 7 ∷ member_bytes ms
+leads_with_a_byte m ms is = ap (λ (d : Data). byte_then (byte_of_data d) (member_bytes ms)) is
+
+stops_at_no_byte : (m : Value) (ms : List Value) → view m ≡ number (unsigned 256)
+    → member_bytes (m ∷ ms) ≡ []
+stops_at_no_byte m ms is = ap (λ (d : Data). byte_then (byte_of_data d) (member_bytes ms)) is
+
+largest_is_byte : (m : Value) → view m ≡ number (unsigned 255) → is_byte m ≡ true
+largest_is_byte m is = ap (λ (d : Data). is_some (byte_of_data d)) is
+
+larger_is_no_byte : (m : Value) → view m ≡ number (unsigned 256) → is_byte m ≡ false
+larger_is_no_byte m is = ap (λ (d : Data). is_some (byte_of_data d)) is
+
+null_member_is_no_byte : (m : Value) → view m ≡ null → is_byte m ≡ false
+null_member_is_no_byte m is = ap (λ (d : Data). is_some (byte_of_data d)) is

@@ -1,4 +1,4 @@
--- What was taken from known readers, how they failed, and what their laws rule out.
+-- What was consumed from known readers, how they failed, and what their laws rule out.
 use Rattle.std.proofs.Common.{◌≡◌, ◌<◌, ℕ, List, [], ◌∷◌, ◌++◌, length, get_or, refl, sym, ap, arith, inl, inr}
 use Rattle.std.specs.Prelude.{Option, Some, None, Result, Ok, Err}
 use Rattle.std.proofs.lemmas.Bool.{false≢true}
@@ -6,26 +6,26 @@ use Rattle.std.proofs.lemmas.List.{append_cancel_right}
 use Rattle.multihash.specs.Fault.{Fault, IsUnexpectedEof, IsOwnFault}
 use Rattle.std.specs.Io.KnownBytes.{prepend_known, IsAtEnd}
 use Rattle.multihash.specs.Reading.{Takes, HasFewerThan, TakesFewerThan, CountsReader, ReadLaws, ReadExactLaws, NoOtherError}
-use Rattle.multihash.proofs.Examples.FaultVectors.{other, eof, memory}
+use Rattle.multihash.proofs.Examples.RefusalVectors.{other, eof, memory}
 
--- ---- what was taken
+-- ---- what was consumed
 
 abbrev pub told : Option (List ℕ) → List ℕ
 told None = []
 told (Some bytes) = bytes
 
--- where a reader tells its rest before and after, the bytes taken are known
+-- if the rest is known before and after a call, so are the bytes consumed
 pub taken_is : (a b taken : List ℕ) → Takes (Some (a ++ b)) taken (Some b) → taken ≡ a
 taken_is a b taken h = append_cancel_right taken a b (sym (ap told h))
 
 precedes : (prepend_known (1 ∷ []) (Some (2 ∷ [])) ≡ Some (1 ∷ 2 ∷ [])) × (prepend_known (1 ∷ []) None ≡ None)
 precedes = (refl, refl)
 
--- a reader that doesn't tell says nothing of what was taken
+-- without known input nothing is said of what was consumed
 takes : Takes (Some (1 ∷ 2 ∷ 3 ∷ [])) (1 ∷ 2 ∷ []) (Some (3 ∷ [])) × Takes (Some (1 ∷ [])) [] (Some (1 ∷ [])) × ((taken : List ℕ) → Takes None taken None)
 takes = (refl, refl, λ taken. refl)
 
--- the bytes taken are the first ones
+-- the bytes consumed are the first ones
 takes_no_last : ¬ (Takes (Some (1 ∷ 2 ∷ 3 ∷ [])) (3 ∷ []) (Some (1 ∷ 2 ∷ [])))
 takes_no_last h = omega (arith, ap (λ (o : Option (List ℕ)). get_or (told o) 0 0) h)
 
@@ -36,7 +36,7 @@ takes_no_more h = omega (arith, ap (λ (o : Option (List ℕ)). length (told o))
 takes_and_keeps_none : ¬ (Takes (Some (1 ∷ [])) (1 ∷ []) (Some (1 ∷ [])))
 takes_and_keeps_none h = omega (arith, ap (λ (o : Option (List ℕ)). length (told o)) h)
 
--- and it tells no sooner and no later
+-- and it is known no sooner and no later
 tells_no_more : (taken rest : List ℕ) → ¬ (Takes (Some rest) taken None) × ¬ (Takes None taken (Some rest))
 tells_no_more taken rest = ((λ h. cc), λ h. cc)
 
@@ -56,7 +56,7 @@ takes_not_fewer h = none h.taken h.fewer h.takes
     none [] fewer e = omega (arith, ap (λ (o : Option (List ℕ)). length (told o)) e)
     none (b ∷ taken) fewer e = omega arith
 
--- what was taken is of the reader's bytes
+-- what was consumed is of the reader's bytes
 takes_fewer_of_its_own : ¬ (TakesFewerThan 9 (Some (1 ∷ [])) (Some (1 ∷ 2 ∷ [])))
 takes_fewer_of_its_own h = none h.taken h.takes
   where
@@ -77,7 +77,7 @@ reads = (refl, inl (refl, inl refl), (λ h. omega (arith, h)), λ h. omega (arit
 fails_once : ¬ (Reads 3 3 (Err other)) × ¬ (Reads 3 5 (Err other))
 fails_once = ((λ h. elim h [ inl one ↦ omega (arith, one.0) | inr none ↦ none.1 ]), λ h. elim h [ inl one ↦ omega (arith, one.0) | inr none ↦ none.1 ])
 
--- `read` tells the end by a count of 0, and by no refusal
+-- `read` reports the end by a count of 0, and by no error
 read_no_eof : ¬ (Reads 3 4 (Err eof))
 read_no_eof (inl (more, inl h)) = cc
 read_no_eof (inl (more, inr h)) = cc
@@ -89,7 +89,7 @@ Fills before after outcome = CountsReader IsOwnFault IsUnexpectedEof before afte
 fills : Fills 3 3 (Ok 0) × Fills 3 3 (Err eof) × Fills 3 4 (Err memory) × ¬ (Fills 3 4 (Ok 0))
 fills = (refl, inr (refl, refl), inl (refl, inr refl), λ h. omega (arith, h))
 
--- a fault that was counted is told, and none is invented
+-- a fault that was counted is reported, and none is invented
 fill_hides_no_fault : ¬ (Fills 3 4 (Err eof))
 fill_hides_no_fault (inl (more, inl h)) = cc
 fill_hides_no_fault (inl (more, inr h)) = cc
@@ -103,7 +103,7 @@ fill_invents_no_fault = (
 
 -- ---- the laws of `read`, each refuted where the others hold
 
--- a reader that tells its rest and its count of failures
+-- a reader with a known rest and a known count of failures
 abbrev State : Type 0
 State = List ℕ × ℕ
 
@@ -128,7 +128,7 @@ reads_end : ReadLaws left failed ([], 0) ([], 0) (7 ∷ []) (7 ∷ []) (Ok 0)
 reads_end =
     record { count = omega arith; beyond = refl; faults = refl; takes = refl; at_end = λ none some. refl; err = tt }
 
--- an empty buffer tells of no end
+-- an empty buffer reports no end
 reads_into_nothing : ReadLaws left failed (1 ∷ [], 0) (1 ∷ [], 0) [] [] (Ok 0)
 reads_into_nothing = record {
   count = omega arith;
@@ -174,7 +174,7 @@ reads_nothing_at_end_alone h = omega (arith, ap (λ (z : List ℕ). length z) (h
 fails_and_takes_nothing : ¬ (ReadLaws left failed (1 ∷ [], 0) ([], 1) (7 ∷ []) (7 ∷ []) (Err other))
 fails_and_takes_nothing h = omega (arith, ap (λ (o : Option (List ℕ)). length (told o)) h.err)
 
--- `read` tells the end by no refusal, counted or not
+-- `read` reports the end by no error, counted or not
 reads_no_end_by_refusal : ¬ (ReadLaws left failed ([], 0) ([], 0) (7 ∷ []) (7 ∷ []) (Err eof))
 reads_no_end_by_refusal h =
     elim h.faults [ inl counted ↦ omega (arith, counted.0) | inr listed ↦ listed.1 ]

@@ -1,14 +1,77 @@
--- The refusals, each told from the others, and their texts.
-use Rattle.std.proofs.Common.{◌≡◌, ℕ, refl, ap, arith, inl, inr}
-use Rattle.std.specs.Prelude.{codes}
+-- The errors of readers and writers and of the library: each is distinct and has its text; which verdict each is of.
+use Rattle.std.proofs.Common.{◌≡◌, ℕ, List, [], length, refl, ap, arith, inl, inr, ◌+◌}
+use Rattle.std.specs.Prelude.{codes, Ok, Err}
+use Rattle.multihash.specs.declared.no_std_io.error.Kind.TheVariants.{UnexpectedEof, WriteZero, OutOfMemory, Other}
+use Rattle.multihash.specs.Fault.{Fault, IsUnexpectedEof, IsWriteZero, IsOutOfMemory, IsOther, IsOwnFault, text_of, printed, HasStandardText}
 use Rattle.std.specs.Fmt.{digits}
 use Rattle.multihash.specs.declared.error.Kind.TheVariants.{Io, InvalidSize, InvalidCode, Insufficient, Overflow, NotMinimal, NotBytes}
 use Rattle.multihash.specs.Varint.{VarintFault, insufficient, overflow, not_minimal}
-use Rattle.multihash.specs.Fault.{Fault, IsOther, printed}
 use Rattle.multihash.specs.Refusal.{Refusal, of_io, of_size, of_code, of_varint, of_not_bytes, refusal_of, IsIo, IsEof, IsMemory, IsReaderFault, IsInvalidSize, IsInvalidCode, IsFaulty, IsNotBytes, refusal_text}
-use Rattle.multihash.proofs.Examples.FaultVectors.{other, eof, full, memory}
+use Rattle.multihash.specs.Pair.{Pair}
+use Rattle.multihash.specs.Verdict.{accepted, invalid_size, invalid_code, faulty, unexpected_eof}
+use Rattle.multihash.specs.Answer.{Fields, pair_of, Answers}
+use Rattle.multihash.proofs.Examples.PairVectors.{pair}
+use Rattle.multihash.proofs.Examples.VarintVectors.{largest, too_large}
 
--- the size that a refusal names
+abbrev pub other : Fault
+other = record { kind = Other; text = [] }
+
+abbrev pub eof : Fault
+eof = record { kind = UnexpectedEof; text = [] }
+
+abbrev pub full : Fault
+full = record { kind = WriteZero; text = [] }
+
+abbrev pub memory : Fault
+memory = record { kind = OutOfMemory; text = [] }
+
+-- ---- kinds
+
+kinds : IsUnexpectedEof eof × IsWriteZero full × IsOutOfMemory memory × IsOther other
+kinds = (refl, refl, refl, refl)
+
+no_other_is_eof : ¬ (IsUnexpectedEof full) × ¬ (IsUnexpectedEof memory) × ¬ (IsUnexpectedEof other)
+no_other_is_eof = ((λ h. cc), (λ h. cc), λ h. cc)
+
+no_other_is_full : ¬ (IsWriteZero eof) × ¬ (IsWriteZero memory) × ¬ (IsWriteZero other)
+no_other_is_full = ((λ h. cc), (λ h. cc), λ h. cc)
+
+no_other_is_memory : ¬ (IsOutOfMemory eof) × ¬ (IsOutOfMemory full) × ¬ (IsOutOfMemory other)
+no_other_is_memory = ((λ h. cc), (λ h. cc), λ h. cc)
+
+none_is_other : ¬ (IsOther eof) × ¬ (IsOther full) × ¬ (IsOther memory)
+none_is_other = ((λ h. cc), (λ h. cc), λ h. cc)
+
+-- what a reader or a writer may return by itself, whatever its text is
+own : (text : List ℕ) → IsOwnFault (record { kind = Other; text = text }) × IsOwnFault (record { kind = OutOfMemory; text = text })
+own text = (inl refl, inr refl)
+
+no_own_eof : (text : List ℕ) → ¬ (IsOwnFault (record { kind = UnexpectedEof; text = text }))
+no_own_eof text (inl h) = cc
+no_own_eof text (inr h) = cc
+
+no_own_full : (text : List ℕ) → ¬ (IsOwnFault (record { kind = WriteZero; text = text }))
+no_own_full text (inl h) = cc
+no_own_full text (inr h) = cc
+
+-- ---- texts: of each kind its own, whatever the error was made with
+
+fault_texts : (made : List ℕ) → (text_of UnexpectedEof made ≡ codes "failed to fill whole buffer")
+    × (text_of WriteZero made ≡ codes "failed to write whole buffer") × (text_of OutOfMemory made ≡ codes "out of memory") × (text_of Other made ≡ made)
+fault_texts made = (refl, refl, refl, refl)
+
+prints_by_its_kind : (made : List ℕ) → (printed (record { kind = UnexpectedEof; text = made }) ≡ codes "failed to fill whole buffer")
+    × (printed (record { kind = Other; text = made }) ≡ made)
+prints_by_its_kind made = (refl, refl)
+
+-- only the text of a reader's or a writer's own fault is free
+any_text_of_other : (text : List ℕ) → HasStandardText (record { kind = Other; text = text })
+any_text_of_other text = refl
+
+no_other_text : ¬ (HasStandardText eof) × ¬ (HasStandardText full) × ¬ (HasStandardText memory)
+no_other_text = ((λ h. omega (arith, ap length h)), (λ h. omega (arith, ap length h)), λ h. omega (arith, ap length h))
+
+-- the size that an error names
 abbrev pub size_in : Refusal → ℕ
 size_in (of_io fault) = 0
 size_in (of_size size) = size
@@ -95,3 +158,59 @@ texts = (refl, refl, refl, refl, refl, refl)
 
 passed_on_text : (fault : Fault) → refusal_text (of_io fault) ≡ printed fault
 passed_on_text fault = refl
+
+abbrev stale : Fields 4
+stale = record { code = 7; size = 2; buffer = codes "abcd"; in_range = omega arith; fits = omega arith }
+
+-- the buffer past the size means nothing
+means_ab : pair_of stale ≡ pair 7 (codes "ab")
+means_ab = refl
+
+answers : Answers (Ok stale) (accepted (pair 7 (codes "ab"))) × Answers {S = 4} (Err (of_size 5)) (invalid_size 5)
+    × Answers {S = 4} (Err (of_code 18446744073709551615)) (invalid_code 18446744073709551615)
+    × Answers {S = 4} (Err (of_varint overflow)) (faulty overflow) × Answers {S = 4} (Err (of_io eof)) unexpected_eof
+answers = (refl, refl, refl, refl, (eof, refl, refl))
+
+answers_no_longer_pair : ¬ (Answers (Ok stale) (accepted (pair 7 (codes "abcd"))))
+answers_no_longer_pair h =
+    let same : pair 7 (codes "ab") ≡ pair 7 (codes "abcd") = cc in omega (arith, ap (λ (p : Pair). length p.digest) same)
+
+no_pair_answers_refusal : ¬ (Answers (Ok stale) unexpected_eof) × ((n : ℕ) → ¬ (Answers (Ok stale) (invalid_code n)))
+no_pair_answers_refusal = ((λ h. cc), λ n h. cc)
+
+no_refusal_answers_pair : (e : Refusal) (p : Pair) → ¬ (Answers {S = 4} (Err e) (accepted p))
+no_refusal_answers_pair e p h = h
+
+answers_no_other_number : ¬ (Answers {S = 4} (Err (of_size 6)) (invalid_size 5))
+    × ¬ (Answers {S = 4} (Err (of_code too_large)) (invalid_code (too_large + 1)))
+answers_no_other_number = ((λ h. omega (arith, ap size_in h)), λ h. omega (arith, ap code_in h))
+
+-- a size is no code, one fault is no other, and the end inside a digest is none inside a varint
+answers_no_other_kind : ((n : ℕ) → ¬ (Answers {S = 4} (Err (of_size n)) (invalid_code n))) × ((n : ℕ) → ¬ (Answers {S = 4} (Err (of_code n)) (invalid_size n)))
+    × ¬ (Answers {S = 4} (Err (of_varint insufficient)) (faulty overflow)) × ((fault : Fault) → ¬ (Answers {S = 4} (Err (of_io fault)) (faulty insufficient)))
+answers_no_other_kind = ((λ n h. cc), (λ n h. cc), (λ h. cc), λ fault h. cc)
+
+-- a reader's own error is that of no verdict
+no_own_fault_answers : (text : List ℕ) → ¬ (Answers {S = 4} (Err (of_io (record { kind = Other; text = text }))) unexpected_eof)
+no_own_fault_answers text (fault, e, kind) = cc
+
+-- each verdict has its own error, and no other
+alone : (n : ℕ) (f : VarintFault) (e : Refusal) → (Answers {S = 4} (Err e) (invalid_size n) → e ≡ of_size n)
+    × (Answers {S = 4} (Err e) (invalid_code n) → e ≡ of_code n) × (Answers {S = 4} (Err e) (faulty f) → e ≡ of_varint f)
+    × (Answers {S = 4} (Err e) unexpected_eof → (fault : Fault) × (e ≡ of_io fault) × (fault.kind ≡ UnexpectedEof))
+alone n f e = ((λ h. h), (λ h. h), (λ h. h), λ h. h)
+
+-- ---- every value, also one that nothing has read: its code is in range, and its digest fits
+
+largest_code : Fields 4
+largest_code = record { code = largest; size = 2; buffer = codes "abcd"; in_range = omega arith; fits = omega arith }
+
+no_value_of_larger_code : (m : Fields 4) → ¬ (m.code ≡ too_large)
+no_value_of_larger_code m e = omega (arith, m.in_range, e)
+
+no_value_past_its_buffer : (m : Fields 4) → ¬ (m.size ≡ 5)
+no_value_past_its_buffer m e = omega (arith, m.fits, e)
+
+-- however large the buffer
+no_value_past_a_byte : (m : Fields 300) → ¬ (m.size ≡ 256)
+no_value_past_a_byte m e = omega (arith, m.fits, e)

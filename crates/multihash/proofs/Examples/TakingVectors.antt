@@ -1,4 +1,4 @@
--- What refused calls took from known readers.
+-- What failed calls consumed from known readers.
 use Rattle.std.proofs.Common.{◌≡◌, ◌<◌, ℕ, List, [], ◌∷◌, ◌++◌, length, refl, sym, ap, ◌∙◌, arith, subst, inl, inr, length-append, append-nil}
 use Rattle.std.specs.Prelude.{⊤, Option, Some}
 use Rattle.multihash.specs.Bytes.{IsProperBeginning}
@@ -10,16 +10,14 @@ use Rattle.multihash.specs.Refusal.{Refusal, of_io, of_size, of_code, of_varint,
 use Rattle.multihash.specs.Taking.{IsVarintRefusal, IsFrontRefusal, BeginsNoVarint, TakesVarint, IsReadRefusal, TakesAtVarintRefusal, TakesAtRefusal, TakesShortestSettling, TakesNothingSettling}
 use Rattle.multihash.proofs.Varints.VarintLemmas.{front_unique, number, fault, varint_unique}
 use Rattle.multihash.proofs.Readings.VerdictLemmas.{verdict_unique}
-use Rattle.multihash.proofs.Readings.SettlingLemmas.{none_settles}
-use Rattle.multihash.proofs.Readings.ShortestLemmas.{shortest_unique}
-use Rattle.multihash.proofs.Examples.FaultVectors.{other, eof, memory}
+use Rattle.multihash.proofs.Readings.SettlingLemmas.{none_settles, shortest_unique}
+use Rattle.multihash.proofs.Examples.RefusalVectors.{other, eof, memory}
 use Rattle.multihash.proofs.Examples.ReadingVectors.{told, taken_is}
 use Rattle.multihash.proofs.Examples.VarintVectors.{all_marked, varint_0, varint_4, varint_5, not_another}
 use Rattle.multihash.proofs.Examples.PairVectors.{pair}
-use Rattle.multihash.proofs.Examples.VerdictVectors.{empty_input, code_alone, digest_cut, digest_full, size_above_limit}
-use Rattle.multihash.proofs.Examples.SettlingVectors.{size_settles, shortest_of_size}
+use Rattle.multihash.proofs.Examples.VerdictVectors.{empty_input, code_alone, digest_cut, digest_full, size_above_limit, size_settles, shortest_of_size}
 
--- ---- refusals
+-- ---- errors
 
 varint_refusal : IsVarintRefusal (of_varint overflow)
 varint_refusal = (overflow, refl)
@@ -44,8 +42,8 @@ no_other_front_refusal (f, e, has) =
 no_size_is_front_refusal : ¬ (IsFrontRefusal (0x80 ∷ 0x00 ∷ []) (of_size 0))
 no_size_is_front_refusal (f, e, has) = cc
 
--- the refusals of `read` into four bytes: a code has no number that is too large, an own fault is passed on and
--- refuses nothing, and no writer and no value is there
+-- the errors of `read` into four bytes: a code has no number that is too large, an own fault is passed on and
+-- rejects nothing, and no writer and no value is there
 abbrev ReadRefuses : Refusal → Type 0
 ReadRefuses (of_io own) = IsUnexpectedEof own
 ReadRefuses (of_size size) = 4 < size
@@ -69,7 +67,7 @@ read_refuses_only e (inr (inr (own, is, kind))) = subst ReadRefuses (sym is) kin
 read_refuses_256 : IsReadRefusal 300 (of_size 256)
 read_refuses_256 = inl (256, refl, omega arith)
 
--- ---- a varint that was taken
+-- ---- a varint that was consumed
 
 takes_varint : TakesVarint 5 (Some (5 ∷ 9 ∷ [])) (Some (9 ∷ []))
 takes_varint = (5 ∷ [], varint_5, refl)
@@ -79,7 +77,7 @@ takes_no_other_varint (bytes, is, takes) =
     not_another 6 5 (5 ∷ []) varint_5 (λ e. omega (arith, e))
     (subst (IsVarint 6) (taken_is (5 ∷ []) (9 ∷ []) bytes takes) is)
 
--- nothing more is taken
+-- nothing more is consumed
 takes_varint_alone : ¬ (TakesVarint 5 (Some (5 ∷ 9 ∷ [])) (Some []))
 takes_varint_alone (bytes, is, takes) =
     omega (
@@ -88,7 +86,7 @@ takes_varint_alone (bytes, is, takes) =
       ap (λ (z : List ℕ). length z) (taken_is (5 ∷ 9 ∷ []) [] bytes takes),
     )
 
--- ---- a refused varint
+-- ---- a rejected varint
 
 not_insufficient : ¬ (IsInsufficient (0x80 ∷ 0x00 ∷ []))
 not_insufficient h =
@@ -126,7 +124,7 @@ begins_a_varint (f, has) =
     front_unique (5 ∷ []) (number 5 []) (fault f) (5 ∷ [], varint_5, refl) has in
     cc
 
--- a reader that failed behind a marked byte
+-- a reader that failed after a continuation byte
 fails_inside_varint : TakesAtVarintRefusal (of_io other) (Some (0x80 ∷ 0x01 ∷ []))
     (Some (0x01 ∷ []))
 fails_inside_varint = record {
@@ -157,7 +155,7 @@ ends_inside_varint = record {
 varint_takes_its_own : ¬ (TakesAtVarintRefusal (of_varint insufficient) (Some []) (Some (7 ∷ [])))
 varint_takes_its_own h = gives_none_back h.taken h.takes
 
--- the bytes that were taken show the fault
+-- the bytes that were consumed show the fault
 shows_no_other_fault : ¬
     (TakesAtVarintRefusal (of_varint overflow) (Some (0x80 ∷ 0x00 ∷ [])) (Some []))
 shows_no_other_fault h =
@@ -181,7 +179,7 @@ insufficient_takes_all : ¬
     (TakesAtVarintRefusal (of_varint insufficient) (Some (0x80 ∷ 0x80 ∷ [])) (Some (0x80 ∷ [])))
 insufficient_takes_all h = omega (arith, ap (λ (z : List ℕ). length z) (h.all refl))
 
--- a reader that fails after the varint's last byte isn't asked
+-- a reader that fails after the varint's last byte is not called
 fails_not_behind_varint : ¬ (TakesAtVarintRefusal (of_io other) (Some (0x80 ∷ 0x00 ∷ [])) (Some []))
 fails_not_behind_varint h =
     not_insufficient
@@ -195,7 +193,7 @@ memory_fails_not_behind_varint h =
     (subst IsInsufficient (taken_is (0x80 ∷ 0x00 ∷ []) [] h.taken h.takes)
     (h.failed (memory, refl, inr refl)))
 
--- ---- a refused `read`
+-- ---- a failed `read`
 
 digest_missing : HasVerdict 4 (0 ∷ 4 ∷ []) unexpected_eof
 digest_missing =
@@ -230,7 +228,7 @@ leaves_a_cut_digest = record {
 read_takes_its_own : ¬ (TakesAtRefusal 4 (of_varint insufficient) (Some []) (Some (7 ∷ [])))
 read_takes_its_own h = gives_none_back h.taken h.takes
 
--- what was taken is insufficient itself
+-- what was consumed is insufficient itself
 insufficient_behind_no_size : ¬
     (TakesAtRefusal 4 (of_varint insufficient) (Some (0 ∷ 5 ∷ [])) (Some []))
 insufficient_behind_no_size h =
@@ -241,7 +239,7 @@ insufficient_leaves_none : ¬
     (TakesAtRefusal 4 (of_varint insufficient) (Some (0x80 ∷ [])) (Some (0x80 ∷ [])))
 insufficient_leaves_none h = omega (arith, ap (λ (z : List ℕ). length z) (h.insufficient refl).1)
 
--- both varints of a cut digest were taken
+-- both varints of a truncated digest were consumed
 ends_not_inside_varint : ¬ (TakesAtRefusal 4 (of_io eof) (Some (0 ∷ [])) (Some []))
 ends_not_inside_varint h =
     let same : unexpected_eof ≡ faulty insufficient =
@@ -250,7 +248,7 @@ ends_not_inside_varint h =
     (h.eof (eof, refl, refl))) code_alone in
     cc
 
--- a reader that fails behind what settles isn't asked
+-- a reader that fails after what settles is not called
 fails_not_behind_size : ¬ (TakesAtRefusal 4 (of_io other) (Some (0 ∷ 5 ∷ [])) (Some []))
 fails_not_behind_size h =
     let (v, early, has) = h.failed (other, refl, inl refl) in
@@ -285,7 +283,7 @@ takes_no_fewer h =
       ap (λ (z : List ℕ). length z) (taken_is (0 ∷ []) (5 ∷ 9 ∷ []) h.front h.takes),
     )
 
--- ---- nothing that was taken settles
+-- ---- nothing that was consumed settles
 
 takes_code_alone : TakesNothingSettling 4 (0 ∷ []) (Some [])
 takes_code_alone = record {
@@ -310,7 +308,7 @@ takes_what_settles h =
           (append-nil (0 ∷ 5 ∷ [])),
     ) size_settles
 
--- also where it is only the beginning
+-- also where it is only a prefix
 takes_beyond_what_settles : ¬ (TakesNothingSettling 4 (0 ∷ 5 ∷ 9 ∷ []) (Some []))
 takes_beyond_what_settles h =
     h.unsettled (0 ∷ 5 ∷ []) (9 ∷ [], taken_is (0 ∷ 5 ∷ 9 ∷ []) [] h.taken h.takes) size_settles

@@ -121,7 +121,7 @@ holds : (r : Row) → Holds r
 holds (row x f bytes same) =
     λ g. ((λ h. front_is x g h ∙ same), λ is. subst (HasFront x) (same ∙ sym is) (front_of_has x (all_below 256 x bytes)))
 
--- as many marked bytes as a varint may have, and the largest of them
+-- as many continuation bytes as a varint may have, and the largest of them
 abbrev most : List ℕ
 most = replicate max_marked 0x80
 
@@ -134,7 +134,7 @@ numbers =
     row (0x00 ∷ []) (number 0 []) refl refl ∷
     row (0x7f ∷ []) (number 127 []) refl refl ∷
     row (0x80 ∷ 0x02 ∷ []) (number 256 []) refl refl ∷
-    -- the lowest digit stands first
+    -- the lowest digit comes first
     row (0x02 ∷ 0xac ∷ []) (number 2 (0xac ∷ [])) refl refl ∷
     row (0xff ∷ 0x01 ∷ []) (number 255 []) refl refl ∷
     row (0xff ∷ 0x7f ∷ []) (number 16383 []) refl refl ∷
@@ -158,12 +158,12 @@ faults =
     row [] (fault insufficient) refl refl ∷
     row (0x80 ∷ []) (fault insufficient) refl refl ∷
     row most (fault insufficient) refl refl ∷
-    -- a byte that is too large, behind the most marked ones, is enough, whatever follows
+    -- a byte that is too large, after the most marked ones, is enough, whatever follows
     row (most ++ last_byte_limit ∷ []) (fault overflow) refl refl ∷
     row (most ++ 0x80 ∷ 0x01 ∷ []) (fault overflow) refl refl ∷
     row (most ++ 0x80 ∷ 0x00 ∷ []) (fault overflow) refl refl ∷
     row (most_255 ++ 0xff ∷ 0x01 ∷ []) (fault overflow) refl refl ∷
-    -- a zero ends marked bytes, as many as there may be
+    -- a zero ends continuation bytes, as many as there may be
     row (0x80 ∷ 0x00 ∷ []) (fault not_minimal) refl refl ∷
     row (0xac ∷ 0x82 ∷ 0x00 ∷ []) (fault not_minimal) refl refl ∷
     row (most ++ 0x00 ∷ 0x07 ∷ []) (fault not_minimal) refl refl ∷
@@ -198,7 +198,7 @@ no_varint_of_larger_digits n v = none v.front v.last v.digits v.spelled
           ap (λ (z : List ℕ). get_or z 0 0) e,
         )
 
--- ---- each part of a definition refuses by itself, with no lemma: of a varint
+-- ---- each part of a definition rejects by itself, with no lemma: of a varint
 
 -- a varint whose first byte is unmarked is that byte
 pub begins_small : (n b : ℕ) (rest front behind : List ℕ) → b < 128 → IsVarint n front → b ∷ rest ≡ front ++ behind
@@ -228,7 +228,7 @@ no_varint_ends_marked n v = none v.front v.digits v.spelled
     none [] digits e = omega (arith, All-head (λ digit. digit < 128) v.last [] digits, ap (λ (z : List ℕ). get_or z 0 0) e)
     none (d ∷ front) digits e = omega (arith, ap (λ (z : List ℕ). length z) e, length-append (marked front) (v.last ∷ []))
 
--- nor is it a zero behind others
+-- nor is it a zero after others
 no_varint_ends_in_zero : (n : ℕ) → ¬ (IsVarint n (0x80 ∷ 0x00 ∷ []))
 no_varint_ends_in_zero n v = none v.front v.minimal v.spelled
   where
@@ -254,7 +254,7 @@ overflows = (
   record { front = most; byte = 0xff; rest = 0x00 ∷ []; all_marked = all_marked most refl; most = refl; too_large = omega arith; cut = refl },
 )
 
--- behind as many bytes of one kind stands what follows them
+-- after as many bytes of one kind comes what follows them
 follows : (k byte : ℕ) (front rest : List ℕ) (b : ℕ) (more : List ℕ) → length front ≡ k
     → replicate k 0x80 ++ byte ∷ rest ≡ front ++ b ∷ more → byte ≡ b
 follows zero byte [] rest b more many e = ap (λ (z : List ℕ). get_or z 0 0) e

@@ -25,7 +25,7 @@ no_word_of_other_bytes : ¬ (IsFrontWord (1 ∷ 2 ∷ []) 258 2)
 unfolding place_value
 no_word_of_other_bytes h = omega (arith, h.word_is)
 
--- the sixteenth byte stands in it, and the seventeenth doesn't
+-- the sixteenth byte is in it, and the seventeenth isn't
 word_reaches_sixteen : ¬ (IsFrontWord (replicate 15 0 ++ 1 ∷ []) 0 16)
 unfolding place_value
 word_reaches_sixteen h = omega (arith, h.word_is)
@@ -43,12 +43,12 @@ no_more_present_than_sixteen h = omega (arith, h.present_is)
 
 -- ---- the digits of its bytes
 
--- the marks are left out, and the digits stand seven bits apart
+-- the marks are left out, and the digits are seven bits apart
 digits_are : (digits_low 2 0x02ac ≡ 300) × (digits_low 1 0x02ac ≡ 44) × (digits_low 0 0x02ac ≡ 0) × (digits_low 3 0x018080 ≡ 16384)
 unfolding digits_low
 digits_are = (refl, refl, refl, refl)
 
--- ---- marked bytes at the front
+-- ---- continuation bytes at the front
 
 begins_marked : BeginsMarked 2 (0x80 ∷ 0xff ∷ 0x05 ∷ [])
 begins_marked = record { enough = omega arith; all_marked = all_marked (0x80 ∷ 0xff ∷ []) refl }

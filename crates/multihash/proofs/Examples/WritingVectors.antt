@@ -1,32 +1,33 @@
--- How known writers failed, what they appended, and what their laws rule out.
+-- How known writers failed, what they appended, what their laws rule out, and what known slices and vectors then contain.
 use Rattle.std.proofs.Common.{◌≡◌, ◌≢◌, ◌≤◌, ℕ, Bool, true, false, List, [], ◌∷◌, ◌++◌, length, get_or, refl, sym, ap, ◌∙◌, arith, inl, inr, length-append}
 use Rattle.std.specs.Prelude.{⊤, Result, Ok, Err}
 use Rattle.std.proofs.lemmas.Bool.{false≢true}
 use Rattle.multihash.specs.Fault.{Fault}
-use Rattle.multihash.specs.Writing.{IsWriterFault, AppendsPart, IsWriterFaultOrFull, CountsWriter, WriteLaws, WriteAllLaws, IsFault}
-use Rattle.multihash.specs.Places.{AppendsAtEnd}
-use Rattle.multihash.proofs.Examples.FaultVectors.{other, eof, full, memory}
+use Rattle.multihash.specs.Writing.{IsWriterFault, AppendsPart, IsWriterFaultOrFull, CountsWriter, WriteLaws, WriteAllLaws, IsFault, AppendsAtEnd, GivesUpFor}
+use Rattle.multihash.proofs.Examples.RefusalVectors.{other, eof, full, memory}
+use Rattle.multihash.specs.Filling.{FillsPlaces, Fills, IsFilled}
+use Rattle.multihash.specs.declared.no_std_io.slice_writer.SliceWriter.{SliceWriter}
 
 -- ---- how a writer failed
 
 failed_writer : IsWriterFault false 3 4 other × IsWriterFault true 3 3 memory
 failed_writer = (record { kind = inl refl; cause = inl refl }, record { kind = inr refl; cause = inr (refl, refl, refl) })
 
--- a failing call counts one failure, and want of memory none; no call lowers the count, whatever it answers
+-- a failing call counts one failure, and running out of memory none; no call lowers the count, whatever it returns
 counts_not_so : ¬ (IsWriterFault true 3 5 memory) × ¬ (IsWriterFault true 4 3 memory)
 counts_not_so = (
   (λ h. elim h.cause [ inl one ↦ omega (arith, one) | inr (allocates, e, same) ↦ omega (arith, same) ]),
   λ h. elim h.cause [ inl one ↦ omega (arith, one) | inr (allocates, e, same) ↦ omega (arith, same) ],
 )
 
--- a fault that isn't counted is want of memory
+-- an error that isn't counted is out of memory
 invents_no_fault : ¬ (IsWriterFault true 3 5 other) × ¬ (IsWriterFault true 3 3 other)
 invents_no_fault = (
   (λ h. elim h.cause [ inl one ↦ omega (arith, one) | inr (allocates, e, same) ↦ cc ]),
   λ h. elim h.cause [ inl one ↦ omega (arith, one) | inr (allocates, e, same) ↦ cc ],
 )
 
--- one that doesn't allocate has no want of memory but as a counted fault
+-- one that doesn't allocate is out of memory only as a counted error
 wants_no_memory : ¬ (IsWriterFault false 3 3 memory)
 wants_no_memory h = elim h.cause [ inl one ↦ omega (arith, one) | inr (allocates, e, same) ↦ false≢true allocates ]
 
@@ -98,7 +99,7 @@ appends_no_other_part h =
 
 -- ---- the laws of `write`, each refuted where the others hold
 
--- a writer of three places that tells its bytes and its count of failures
+-- a writer of three places whose bytes and count of failures are known
 abbrev State : Type 0
 State = List ℕ × ℕ
 
@@ -154,7 +155,7 @@ fails_and_appends_nothing h = omega (arith, ap (λ (z : List ℕ). length z) h.e
 writes_with_no_hidden_fault : ¬ (Writes ([], 0) (1 ∷ []) (1 ∷ [], 1) (Ok 1))
 writes_with_no_hidden_fault h = omega (arith, h.faults)
 
--- a full writer answers a count of 0
+-- a full writer returns a count of 0
 full_is_no_fault : ¬ (Writes (7 ∷ 8 ∷ 9 ∷ [], 0) (1 ∷ []) (7 ∷ 8 ∷ 9 ∷ [], 0) (Err full))
 full_is_no_fault h = (full_alone 0 0 ⊥ h.faults).1
 
@@ -213,3 +214,94 @@ write_all_wants_no_memory h =
 
 full_with_no_place_alone : ¬ (WritesAll ([], 0) (1 ∷ 2 ∷ []) (1 ∷ [], 0) (Err full))
 full_with_no_place_alone h = omega (arith, (full_alone 0 0 (has_no_place (1 ∷ [], 0)) h.faults).1)
+
+fills_two : FillsPlaces (7 ∷ 8 ∷ 9 ∷ 9 ∷ []) 1 (1 ∷ 2 ∷ []) (7 ∷ 1 ∷ 2 ∷ 9 ∷ []) 3
+fills_two = record { room = omega arith; puts = refl; count = refl }
+
+-- all places may be filled
+fills_all : FillsPlaces (7 ∷ 8 ∷ []) 0 (1 ∷ 2 ∷ []) (1 ∷ 2 ∷ []) 2
+fills_all = record { room = omega arith; puts = refl; count = refl }
+
+-- there are no more places than the slice has
+fills_no_more : ¬ (FillsPlaces (7 ∷ []) 0 (1 ∷ 2 ∷ []) (1 ∷ 2 ∷ []) 2)
+fills_no_more h = omega (arith, h.room)
+
+-- what was written before stays
+fills_no_front : ¬ (FillsPlaces (7 ∷ 8 ∷ []) 1 (1 ∷ []) (1 ∷ 8 ∷ []) 2)
+fills_no_front h = omega (arith, ap (λ (z : List ℕ). get_or z 0 0) h.puts)
+
+-- the places hold the bytes
+fills_with_no_other : ¬ (FillsPlaces (7 ∷ 8 ∷ []) 1 (1 ∷ []) (7 ∷ 2 ∷ []) 2)
+fills_with_no_other h = omega (arith, ap (λ (z : List ℕ). get_or z 1 0) h.puts)
+
+-- the places after them stay
+fills_no_further : ¬ (FillsPlaces (7 ∷ 8 ∷ 9 ∷ []) 0 (1 ∷ []) (1 ∷ 8 ∷ 0 ∷ []) 1)
+fills_no_further h = omega (arith, ap (λ (z : List ℕ). get_or z 2 0) h.puts)
+
+-- the slice keeps its places
+fills_cuts_none : ¬ (FillsPlaces (7 ∷ 8 ∷ []) 0 (1 ∷ []) (1 ∷ []) 1)
+fills_cuts_none h = omega (arith, ap (λ (z : List ℕ). length z) h.puts)
+
+-- each byte is counted, once
+counts_no_fewer : ¬ (FillsPlaces (7 ∷ 8 ∷ 9 ∷ []) 1 (1 ∷ 2 ∷ []) (7 ∷ 1 ∷ 2 ∷ []) 2)
+counts_no_fewer h = omega (arith, h.count)
+
+counts_no_more : ¬ (FillsPlaces (7 ∷ 8 ∷ 9 ∷ []) 0 (1 ∷ []) (1 ∷ 8 ∷ 9 ∷ []) 2)
+counts_no_more h = omega (arith, h.count)
+
+-- what became of the places is what makes a writer's state the next one
+fills_slice : (old new : SliceWriter) → new.places.ghost_name ≡ old.places.ghost_name → old.places.now ≡ 7 ∷ 8 ∷ []
+    → old.filled ≡ 1 → new.places.now ≡ 7 ∷ 1 ∷ [] → new.filled ≡ 2 → Fills old (1 ∷ []) new
+fills_slice old new same before from after to = record {
+  same_slice = same;
+  fills = rw (before, from, after, to) (record { room = omega arith; puts = refl; count = refl });
+}
+
+fills_slice_with_no_other : (old new : SliceWriter) → new.places.ghost_name ≡ old.places.ghost_name → old.places.now ≡ 7 ∷ 8 ∷ []
+    → old.filled ≡ 1 → new.places.now ≡ 7 ∷ 6 ∷ [] → new.filled ≡ 2 → ¬ (Fills old (5 ∷ []) new)
+fills_slice_with_no_other old new same before from after to h =
+    let filled : FillsPlaces (7 ∷ 8 ∷ []) 1 (5 ∷ []) (7 ∷ 6 ∷ []) 2 = rw (sym before, sym from, sym after, sym to) h.fills in
+    omega (arith, ap (λ (z : List ℕ). get_or z 1 0) filled.puts)
+
+fills_slice_uncounted : (old new : SliceWriter) → new.places.ghost_name ≡ old.places.ghost_name → old.filled ≡ 1 → new.filled ≡ 1
+    → ¬ (Fills old (1 ∷ []) new)
+fills_slice_uncounted old new same from to h = omega (arith, from, to, h.fills.count)
+
+-- another slice is not the one that was filled
+fills_no_other_slice : (old new : SliceWriter) (bytes : List ℕ) → ¬ (new.places.ghost_name ≡ old.places.ghost_name) → ¬ (Fills old bytes new)
+fills_no_other_slice old new bytes other h = other h.same_slice
+
+-- a writer with a place left is not full, and one with none is
+is_not_filled : (w : SliceWriter) → length w.places.now ≡ 2 → w.filled ≡ 1 → ¬ (IsFilled w)
+is_not_filled w long filled h = omega (arith, long, filled, h)
+
+is_filled : (w : SliceWriter) → length w.places.now ≡ 2 → w.filled ≡ 2 → IsFilled w
+is_filled w long filled = omega (arith, long, filled)
+
+-- all places may be given up
+gives_up : GivesUpFor (7 ∷ 8 ∷ 9 ∷ []) (1 ∷ 2 ∷ []) (9 ∷ []) × GivesUpFor (7 ∷ 8 ∷ []) (1 ∷ 2 ∷ []) []
+gives_up = (record { room = omega arith; left = refl }, record { room = omega arith; left = refl })
+
+gives_up_no_more : (new : List ℕ) → ¬ (GivesUpFor (7 ∷ []) (1 ∷ 2 ∷ []) new)
+gives_up_no_more new h = omega (arith, h.room)
+
+gives_up_the_first : ¬ (GivesUpFor (7 ∷ 8 ∷ []) (1 ∷ []) (7 ∷ []))
+gives_up_the_first h = omega (arith, ap (λ (z : List ℕ). get_or z 0 0) h.left)
+
+-- as many as were requested
+gives_up_as_many : ¬ (GivesUpFor (7 ∷ 8 ∷ 9 ∷ []) (1 ∷ 2 ∷ []) (8 ∷ 9 ∷ [])) × ¬ (GivesUpFor (7 ∷ 8 ∷ 9 ∷ []) (1 ∷ []) [])
+gives_up_as_many = ((λ h. omega (arith, ap (λ (z : List ℕ). length z) h.left)), λ h. omega (arith, ap (λ (z : List ℕ). length z) h.left))
+
+appends_two : AppendsAtEnd (7 ∷ []) (1 ∷ 2 ∷ []) (7 ∷ 1 ∷ 2 ∷ [])
+appends_two = refl
+
+-- what was there stays, and no other bytes follow it
+appends_no_other : ¬ (AppendsAtEnd (7 ∷ []) (1 ∷ []) (1 ∷ 7 ∷ [])) × ¬ (AppendsAtEnd (7 ∷ []) (1 ∷ []) (8 ∷ 1 ∷ [])) × ¬ (AppendsAtEnd (7 ∷ []) (1 ∷ []) (7 ∷ 2 ∷ []))
+appends_no_other = (
+  (λ h. omega (arith, ap (λ (z : List ℕ). get_or z 0 0) h)),
+  (λ h. omega (arith, ap (λ (z : List ℕ). get_or z 0 0) h)),
+  λ h. omega (arith, ap (λ (z : List ℕ). get_or z 1 0) h),
+)
+
+appends_as_many : ¬ (AppendsAtEnd (7 ∷ []) (1 ∷ 2 ∷ []) (7 ∷ 1 ∷ [])) × ¬ (AppendsAtEnd (7 ∷ []) (1 ∷ []) (7 ∷ 1 ∷ 2 ∷ []))
+appends_as_many = ((λ h. omega (arith, ap (λ (z : List ℕ). length z) h)), λ h. omega (arith, ap (λ (z : List ℕ). length z) h))

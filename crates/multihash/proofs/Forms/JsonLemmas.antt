@@ -1,15 +1,21 @@
--- The JSON list of a pair tells the pair.
-use Rattle.std.proofs.Common.{◌≡◌, ℕ, ◌<◌, List, [], ◌∷◌, ◌++◌, map, refl, sym, ap, ◌∙◌, subst}
-use Rattle.serde_json.specs.Data.{Data, number, unsigned, Items}
-use Rattle.serde_json.specs.View.{items_of}
+-- The JSON form: one pair a list, its text, and the bytes that an array's members are.
+use Rattle.std.proofs.Common.{◌≡◌, ℕ, ◌<◌, List, [], ◌∷◌, ◌++◌, map, refl, sym, ap, ◌∙◌, subst, ◌≤◌, Some, Result, Ok, Err, IfOk, arith, zero, suc, true, false, length, take, drop, set, slice_index_or, is_some, Option, None, inl, inr}
+use Rattle.serde_json.specs.Data.{Data, number, unsigned, Items, items_depth, depth, negative, float, null, boolean, string, array, object}
+use Rattle.serde_json.specs.View.{items_of, view, items_view}
 use Rattle.multihash.specs.Bytes.{IsBytes}
 use Rattle.multihash.specs.Pair.{Pair}
 use Rattle.multihash.specs.Encoding.{IsEncoding}
 use Rattle.multihash.specs.Json.{number_array, IsByteArray, IsJsonList}
 use Rattle.multihash.proofs.Writings.EncodingLemmas.{encoding_unique, encoding_bytes}
-
-abbrev IsByte : ℕ → Type 0
-IsByte b = b < 256
+use Rattle.serde_json.specs.Read.{max_depth, read}
+use Rattle.multihash.specs.Answer.{Fields, pair_of}
+use Rattle.std.specs.List.{list_all}
+use Rattle.std.proofs.lemmas.Bool.{false≢true, and_parts, cases_lt, lt-ltb, le-ltb}
+use Rattle.std.proofs.lemmas.List.Sums.{AllPass-from_list_all}
+use Rattle.std.proofs.lemmas.List.Elements.{All-nil, All-cons, All-head, All-tail}
+use Rattle.serde_json.specs.Find.{as_array}
+use Rattle.serde_json.specs.declared.value.Value.{Value}
+use Rattle.multihash.specs.Members.{byte_of_data, member_bytes, is_byte}
 
 abbrev pub numbers : List ℕ → Items
 numbers ns = items_of (map (λ n. number (unsigned n)) ns)
@@ -36,3 +42,117 @@ json_bytes p d bytes h k =
 pub json_is_array : (p : Pair) (d : Data) → IsBytes p.digest → IsJsonList p d → (bytes : List ℕ) × IsByteArray d bytes
 json_is_array p d digest h =
     (h.encoding, record { array = h.lists; are_bytes = encoding_bytes p h.encoding digest h.encodes })
+
+flat : (ns : List ℕ) → items_depth (numbers ns) ≡ 0
+flat [] = refl
+flat (n ∷ ns) = rw (flat ns) refl
+
+-- the printed text of a pair's list reads back as a list of the pair: the second fact is what `serde_json` says of the text
+pub list_reads_back : {p : Pair} {d : Data} (text : List ℕ) → IsJsonList p d → (depth d ≤ max_depth → read text ≡ Some d)
+    → (e : Data) × (read text ≡ Some e) × IsJsonList p e
+list_reads_back {d = d} text listed back =
+    let within : depth d ≤ max_depth = rw listed.lists (rw (flat listed.encoding) (omega arith)) in
+    (d, back within, listed)
+
+-- a text that reads as a pair's list lists no other pair's bytes
+pub text_lists_one : {S : ℕ} {E : Type 0} (p : Pair) (text : List ℕ) (r : Result (Fields S) E)
+    → (d : Data) × (read text ≡ Some d) × IsJsonList p d
+    → IfOk r (λ m. (d : Data) × (read text ≡ Some d) × ((bytes : List ℕ) × IsByteArray d bytes × IsEncoding (pair_of m) bytes))
+    → IfOk r (λ m. pair_of m ≡ p)
+text_lists_one p text (Ok m) (d, reads, listed) (e, again, (bytes, is_array, encodes)) =
+    let same : e ≡ d = cc in
+    let own = json_bytes p d bytes listed (subst (λ z. IsByteArray z bytes) same is_array) in
+    (encoding_unique (pair_of m) p bytes bytes [] [] encodes own refl).0
+text_lists_one p text (Err x) printed parsed = tt
+
+some_value : (o : Option ℕ) → is_some o ≡ true → (b : ℕ) × (o ≡ Some b)
+some_value None e = absurd (false≢true e)
+some_value (Some b) e = (b, refl)
+
+byte_first : (v : Value) (vs : List Value) → list_all is_byte (v ∷ vs) ≡ true → ((b : ℕ) × (byte_of_data (view v) ≡ Some b)) × (list_all is_byte vs ≡ true)
+byte_first v vs e = let parts = and_parts (is_byte v) (list_all is_byte vs) e in (some_value (byte_of_data (view v)) parts.0, parts.1)
+
+-- a byte is held as its number
+byte_data : (d : Data) (b : ℕ) → byte_of_data d ≡ Some b → (d ≡ number (unsigned b)) × (b < 256)
+byte_data null b e = cc
+byte_data (boolean _) b e = cc
+byte_data (number (unsigned n)) b e =
+    elim (cases_lt n 256) [
+      | inl small ↦
+          let found : Some n ≡ Some b = sym (rw (lt-ltb n 256 small) refl) ∙ e in
+          let same : n ≡ b = cc in (ap (λ m. number (unsigned m)) same, omega arith)
+      | inr large ↦ let none : None ≡ Some b = sym (rw (le-ltb n 256 large) refl) ∙ e in cc
+    ]
+byte_data (number (negative _)) b e = cc
+byte_data (number (float _)) b e = cc
+byte_data (string _) b e = cc
+byte_data (array _) b e = cc
+byte_data (object _) b e = cc
+
+byte_found : (b : ℕ) → b < 256 → byte_of_data (number (unsigned b)) ≡ Some b
+byte_found b small = rw (lt-ltb b 256 small) refl
+
+-- members that are all bytes are those of their array
+pub all_bytes : (vs : List Value) → list_all is_byte vs ≡ true → (items_view vs ≡ numbers (member_bytes vs)) × IsBytes (member_bytes vs)
+all_bytes [] e = (refl, All-nil (λ b. b < 256))
+all_bytes (v ∷ vs) e =
+    let (found, others) = byte_first v vs e in
+    let held = byte_data (view v) found.0 found.1 in
+    let rest = all_bytes vs others in
+    rw found.1 (cc (held.0, rest.0), All-cons (λ b. b < 256) found.0 (member_bytes vs) held.1 rest.1)
+
+-- the members of a byte array are all bytes
+bytes_all : (vs : List Value) (bytes : List ℕ) → items_view vs ≡ numbers bytes → IsBytes bytes → list_all is_byte vs ≡ true
+bytes_all [] bytes e h = refl
+bytes_all (v ∷ vs) [] e h = cc
+bytes_all (v ∷ vs) (b ∷ bytes) e h =
+    let heads : view v ≡ number (unsigned b) = cc in
+    let found : byte_of_data (view v) ≡ Some b = ap byte_of_data heads ∙ byte_found b (All-head (λ x. x < 256) b bytes h) in
+    rw found (bytes_all vs bytes (cc e) (All-tail (λ x. x < 256) b bytes h))
+
+array_data : (d : Data) (items : Items) → as_array d ≡ Some items → d ≡ array items
+array_data null items e = cc
+array_data (boolean _) items e = cc
+array_data (number _) items e = cc
+array_data (string _) items e = cc
+array_data (array found) items e = let same : found ≡ items = cc in ap array same
+array_data (object _) items e = cc
+
+pub byte_array : (d : Data) (vs : List Value) → as_array d ≡ Some (items_view vs) → list_all is_byte vs ≡ true → IsByteArray d (member_bytes vs)
+byte_array d vs e all =
+    let found = all_bytes vs all in record { array = array_data d (items_view vs) e ∙ ap array found.0; are_bytes = found.1 }
+
+pub no_byte_array : (d : Data) (vs : List Value) (bytes : List ℕ) → as_array d ≡ Some (items_view vs) → list_all is_byte vs ≡ false
+    → ¬ (IsByteArray d bytes)
+no_byte_array d vs bytes e some h =
+    let same : Some (items_view vs) ≡ Some (numbers bytes) = sym e ∙ ap as_array h.array in
+    let items : items_view vs ≡ numbers bytes = cc in
+    false≢true (sym some ∙ bytes_all vs bytes items h.are_bytes)
+
+-- the first member's byte, and the others'
+pub first_byte : (v : Value) (vs : List Value) (b : ℕ) → byte_of_data (view v) ≡ Some b → member_bytes (v ∷ vs) ≡ b ∷ member_bytes vs
+first_byte v vs b found = rw found refl
+
+pub take_first : (buf : List ℕ) (b : ℕ) → 0 < length buf → take 1 (set buf 0 b) ≡ b ∷ []
+take_first [] b some = absurd (omega arith)
+take_first (x ∷ buf) b some = refl
+
+-- as many bytes as members
+pub length-member_bytes : (vs : List Value) → list_all is_byte vs ≡ true → length (member_bytes vs) ≡ length vs
+length-member_bytes [] e = refl
+length-member_bytes (v ∷ vs) e =
+    let (found, others) = byte_first v vs e in
+    rw found.1 (ap suc (length-member_bytes vs others))
+
+-- the byte that a member is
+pub byte_at : (vs : List Value) (at : ℕ) (v : Value) → list_all is_byte vs ≡ true → at < length vs → v ≡ slice_index_or vs at v
+    → (b : ℕ) × (byte_of_data (view v) ≡ Some b)
+byte_at vs at v e inside is = some_value _ (ap is_byte is ∙ AllPass-from_list_all is_byte vs e at v inside)
+
+-- the bytes of the first members, and of the others
+pub bytes_split : (n : ℕ) (vs : List Value) → list_all is_byte vs ≡ true → member_bytes vs ≡ member_bytes (take n vs) ++ member_bytes (drop n vs)
+bytes_split zero vs e = refl
+bytes_split (suc n) [] e = refl
+bytes_split (suc n) (v ∷ vs) e =
+    let (found, others) = byte_first v vs e in
+    rw found.1 (ap (λ l. found.0 ∷ l) (bytes_split n vs others))

@@ -1,16 +1,61 @@
--- One SCALE form a pair, and one verdict an input.
-use Rattle.std.proofs.Common.{◌≡◌, ℕ, ◌+◌, ◌<◌, ◌≤◌, cond, ltb, List, [], ◌∷◌, ◌++◌, length, take, drop, refl, subst, sym, ap, ◌∙◌, arith, inl, inr, length-append, append_assoc, append-nil}
+-- One SCALE form a pair, one verdict an input, and what decoding promises of a result.
+use Rattle.std.proofs.Common.{◌≡◌, ℕ, zero, suc, ◌/◌, ◌%◌, ◌^◌, ◌<◌, List, length, get_or, refl, sym, ap, ◌∙◌, arith, ◌+◌, ◌≤◌, cond, ltb, [], ◌∷◌, ◌++◌, take, drop, subst, inl, inr, length-append, append_assoc, append-nil, ◌⊎◌, Option, Result, Ok, Err, IfSome, IfOk, IfErr}
+use Rattle.std.specs.Int.{byte_at, bytes_low_first, to_le_bytes, from_le_bytes, w64}
+use Rattle.std.proofs.Math.Nat.{pow-suc, pow-zero, div-add-mod, div-div-eq-div-mul, div-one}
+use Rattle.std.proofs.lemmas.Nat.{mod_below, div_below, le_bytes_8}
+use Rattle.std.proofs.lemmas.List.Elements.{All-nil, All-cons, All-head, All-same}
+use Rattle.multihash.specs.Bytes.{IsBytes, place_value}
+use Rattle.multihash.specs.Scale.{IsScaleCode, IsScale, HasScaleSize, HasScaleVerdict, IsScaleRefusal, TakesAtScaleRefusal}
+use Rattle.multihash.proofs.Varints.DigitLemmas.{place_value-nil, place_value-cons, place_value_unique, All-append_left, All-append_right}
 use Rattle.std.proofs.lemmas.Bool.{cases_lt, lt-ltb, le-ltb}
 use Rattle.std.proofs.lemmas.List.{take_at, drop_at, take-append-drop, length-take-le, append_cancel_left}
-use Rattle.std.proofs.lemmas.List.Elements.{All-head, All-same}
-use Rattle.multihash.specs.Bytes.{IsBytes, place_value}
 use Rattle.multihash.specs.Pair.{Pair}
 use Rattle.multihash.specs.Varint.{varint_limit}
-use Rattle.multihash.specs.Verdict.{Verdict, accepted, invalid_size, invalid_code, faulty, unexpected_eof}
-use Rattle.multihash.specs.Scale.{IsScaleCode, IsScale, HasScaleSize, HasScaleVerdict}
-use Rattle.multihash.proofs.Forms.ScaleCodeLemmas.{code_bytes}
-use Rattle.multihash.proofs.Varints.DigitLemmas.{place_value_unique}
-use Rattle.multihash.proofs.Varints.MarkedLemmas.{All-append_left, All-append_right}
+use Rattle.multihash.specs.Verdict.{Verdict, accepted, invalid_size, invalid_code, faulty, unexpected_eof, IsEarlyEnd}
+use Rattle.multihash.specs.Fault.{Fault, IsUnexpectedEof, IsOwnFault}
+use Rattle.multihash.specs.Reading.{Takes, HasFewerThan, CountsReader}
+use Rattle.std.specs.Io.KnownBytes.{prepend_known}
+use Rattle.multihash.specs.Refusal.{Refusal, of_io, IsReaderFault, IsInvalidSize, IsInvalidCode}
+use Rattle.multihash.specs.Answer.{Fields, pair_of, IsRefusal, Answers}
+use Rattle.multihash.proofs.Readings.ReadingLemmas.{IfSome-taken, Takes-joined}
+use Rattle.multihash.proofs.Readings.ReadTakingLemmas.{refusal_unique, own_no_refusal}
+
+byte_at-is : (i n : ℕ) → byte_at i n ≡ n / 256 ^ i % 256
+byte_at-is zero n = ap (λ (m : ℕ). m % 256) (sym (ap (λ (p : ℕ). n / p) (pow-zero 256) ∙ div-one n))
+byte_at-is (suc i) n = refl
+
+are_bytes : (k i n : ℕ) → IsBytes (bytes_low_first i k n)
+are_bytes zero i n = All-nil (λ b. b < 256)
+are_bytes (suc k) i n =
+    All-cons (λ b. b < 256) (byte_at i n) (bytes_low_first (suc i) k n)
+    (rw (byte_at-is i n) (mod_below (n / 256 ^ i) 256 (omega arith))) (are_bytes k (suc i) n)
+
+next_byte : (i n : ℕ) → n / 256 ^ suc i ≡ n / 256 ^ i / 256
+next_byte i n = ap (λ (p : ℕ). n / p) (pow-suc 256 i) ∙ sym (div-div-eq-div-mul n (256 ^ i) 256)
+
+value_of_bytes : (k i n : ℕ) → n / 256 ^ i < 256 ^ k → place_value 256 (bytes_low_first i k n) ≡ n / 256 ^ i
+value_of_bytes zero i n below = place_value-nil 256 ∙ omega (arith, below, pow-zero 256)
+value_of_bytes (suc k) i n below =
+    let m : ℕ = n / 256 ^ i in
+    let smaller : m / 256 < 256 ^ k = div_below m 256 (256 ^ k) (omega arith) (omega (arith, below, pow-suc 256 k)) in
+    let rest : place_value 256 (bytes_low_first (suc i) k n) ≡ n / 256 ^ suc i =
+    value_of_bytes k (suc i) n (rw (next_byte i n) smaller) in
+    place_value-cons 256 (byte_at i n) (bytes_low_first (suc i) k n)
+    ∙ omega (arith, rest, next_byte i n, byte_at-is i n, div-add-mod m 256)
+
+-- the eight bytes that are written for a code
+pub code_bytes : (code : ℕ) → code < 256 ^ 8 → IsScaleCode code (to_le_bytes w64 code)
+code_bytes code range = record {
+  eight = refl;
+  are_bytes = are_bytes 8 0 code;
+  value = value_of_bytes 8 0 code (rw (pow-zero 256, div-one code) (omega (arith, range))) ∙ (ap (λ (p : ℕ). code / p) (pow-zero 256) ∙ div-one code);
+}
+
+-- and of the code that is read from them
+pub code_read : (bytes : List ℕ) (code : ℕ) → length bytes ≡ 8 → ((i : ℕ) → get_or bytes i 0 < 256) → code < 256 ^ 8
+    → code ≡ from_le_bytes w64 bytes → IsScaleCode code bytes
+code_read bytes code eight each range read =
+    rw (← le_bytes_8 bytes code eight each read) (code_bytes code range)
 
 -- the bytes of the code, the size, and the digest
 pub scale_of : (p : Pair) (size : ℕ) (a digest : List ℕ) → IsScaleCode p.code a → p.code < varint_limit → size ≡ length p.digest → size < 256
@@ -121,7 +166,7 @@ scale_in_range S code x bytes (size ∷ rest) is_code cut each below =
     scale_sized S size x rest (record { code = code; code_bytes = bytes; is_code = is_code; in_range = below; cut = cut })
     (All-head (λ b. b < 256) size rest each)
 
--- so many bytes, and the others
+-- that many bytes, and the others
 cut_at : (k : ℕ) (x : List ℕ) → k ≤ length x → (front : List ℕ) × (rest : List ℕ) × (x ≡ front ++ rest) × (length front ≡ k)
 cut_at k x long = (take k x, drop k x, sym (take-append-drop k x), length-take-le k x long)
 
@@ -143,3 +188,106 @@ scale_verdict_exists S x bytes =
 -- and it is the one that is computed
 pub has_scale_found : (S : ℕ) (x : List ℕ) → IsBytes x → HasScaleVerdict S x (scale_found S x)
 has_scale_found S x bytes = let (v, h) = scale_verdict_exists S x bytes in subst (HasScaleVerdict S x) (scale_verdict_is S x v h) h
+
+-- one byte
+pub one_item : (xs : List ℕ) → length xs ≡ 1 → xs ≡ get_or xs 0 0 ∷ []
+one_item [] one = absurd (omega arith)
+one_item (x ∷ []) one = refl
+one_item (x ∷ y ∷ xs) one = absurd (omega arith)
+
+abbrev pub ScaleMeets : (S : ℕ) → Option (List ℕ) → Option (List ℕ) → ℕ → ℕ → Result (Fields S) Refusal → Type 0
+ScaleMeets S old new before after r = record {
+  faults : CountsReader IsReaderFault (IsScaleRefusal S) before after r;
+  verdict : IfSome old (λ rest. after ≡ before → (v : Verdict) × HasScaleVerdict S rest v × Answers r v);
+  ok : IfOk r (λ m. (bytes : List ℕ) × IsScale (pair_of m) bytes × Takes old bytes new);
+  err : IfErr r (λ e. TakesAtScaleRefusal S e old new);
+}
+
+module _ (S : ℕ) (old new : Option (List ℕ)) (before after : ℕ) where
+  -- where what was consumed settles that the code or the size is rejected
+  refused : (e : Refusal) (taken : List ℕ) (v : Verdict) → Takes old taken new → after ≡ before
+      → ((left : List ℕ) → HasScaleVerdict S (taken ++ left) v) → ¬ (IsEarlyEnd v) → IsRefusal e v → IsScaleRefusal S e
+      → ((code : ℕ) → v ≡ invalid_code code → length taken ≡ 8)
+      → ((size : ℕ) → v ≡ invalid_size size → length taken ≡ 9) → ScaleMeets S old new before after (Err e)
+  refused e taken v takes same has late given listed eight nine =
+      let own = subst (λ x. HasScaleVerdict S x v) (append-nil taken) (has []) in record {
+        faults = inr (same, listed);
+        verdict = IfSome-taken old new taken _ takes (λ left _ _. (v, has left, given));
+        ok = tt;
+        err = record {
+          taken = taken;
+          takes = takes;
+          code = λ k named. let is = refusal_unique e v (invalid_code k) given named in (subst (HasScaleVerdict S taken) is own, eight k is);
+          size = λ k named. let is = refusal_unique e v (invalid_size k) given named in (subst (HasScaleVerdict S taken) is own, nine k is);
+          early = λ io. absurd (elim io [
+            | inl eof ↦ late (rw (refusal_unique e v unexpected_eof given eof) tt)
+            | inr fault ↦ own_no_refusal e v fault given
+          ]);
+        };
+      }
+
+  module _ (code : ℕ) (a : List ℕ) (is : IsScaleCode code a) where
+    pub code_refused : (e : Refusal) → varint_limit ≤ code → after ≡ before → IsInvalidCode code e → Takes old a new
+        → ScaleMeets S old new before after (Err e)
+    code_refused e above same given takes =
+        refused e a (invalid_code code) takes same (λ left. (a, left, is, above, refl)) (λ h. h) given (inl (code, given, above))
+        (λ k named. is.eight) (λ k named. cc)
+
+    module _ (size : ℕ) (below : code < varint_limit) where
+      has_size : (rest : List ℕ) → HasScaleSize size ((a ++ size ∷ []) ++ rest) rest
+      has_size rest = record { code = code; code_bytes = a; is_code = is; in_range = below; cut = append_assoc a (size ∷ []) rest }
+
+      pub size_refused : (e : Refusal) → S < size → after ≡ before → IsInvalidSize size e → Takes old (a ++ size ∷ []) new
+          → ScaleMeets S old new before after (Err e)
+      size_refused e over same given takes =
+          refused e (a ++ size ∷ []) (invalid_size size) takes same (λ left. (left, has_size left, over)) (λ h. h) given
+          (inr (inl (size, given, over))) (λ k named. cc) (λ k named. omega (arith, is.eight, length-append a (size ∷ [])))
+
+      -- the whole form
+      pub answered : (digest : List ℕ) (m : Fields S) → size ≤ S → size < 256 → length digest ≡ size → after ≡ before
+          → pair_of m ≡ record { code = code; digest = digest } → Takes old (a ++ size ∷ digest) new → ScaleMeets S old new before after (Ok m)
+      answered digest m fits byte long same made takes =
+          let p : Pair = record { code = code; digest = digest } in
+          let form : IsScale p (a ++ size ∷ digest) = scale_of p size a digest is below (sym long) byte refl in record {
+            faults = same;
+            verdict = IfSome-taken old new (a ++ size ∷ digest) _ takes (λ left _ _.
+                (accepted p, (_, left, form, omega (arith, long, fits), refl), ap accepted (sym made)));
+            ok = (a ++ size ∷ digest, subst (λ q. IsScale q (a ++ size ∷ digest)) (sym made) form, takes);
+            err = tt;
+          }
+
+  -- where the reader ended or failed inside that many bytes, after others
+  pub inside_refused : (a : List ℕ) (n : ℕ) → ((t : List ℕ) → length t < n → HasScaleVerdict S (a ++ t) unexpected_eof)
+      → (fault : Fault) (front : List ℕ) (mid : Option (List ℕ)) → length front < n → Takes old a mid → Takes mid front new
+      → (IsUnexpectedEof fault → HasFewerThan n mid) → ((after ≡ before + 1) × IsOwnFault fault) ⊎ ((after ≡ before) × IsUnexpectedEof fault)
+      → ScaleMeets S old new before after (Err (of_io fault))
+  inside_refused a n inside fault front mid short first took few how =
+      let takes = Takes-joined old mid new a front _ refl first took in record {
+        faults = elim how [ inl (rose, own) ↦ inl (rose, (fault, refl, own)) | inr (same, eof) ↦ inr (same, inr (inr (fault, refl, eof))) ];
+        verdict = IfSome-taken old new (a ++ front) _ takes (λ left told same.
+            elim how [
+              | inl (rose, own) ↦ absurd (omega (arith, rose, same))
+              | inr (_, eof) ↦
+                  let fewer = subst (HasFewerThan n) (took ∙ ap (prepend_known front) told) (few eof) in
+                  (unexpected_eof, rw (append_assoc a front left) (inside (front ++ left) fewer), (fault, refl, eof))
+            ]);
+        ok = tt;
+        err = record {
+          taken = a ++ front;
+          takes = takes;
+          code = λ k named. absurd (cc named);
+          size = λ k named. absurd (cc named);
+          early = λ _. inside front short;
+        };
+      }
+
+-- a code with no size after it, and a truncated digest
+pub no_size : (S code : ℕ) (a : List ℕ) → IsScaleCode code a → code < varint_limit → (t : List ℕ) → length t < 1
+    → HasScaleVerdict S (a ++ t) unexpected_eof
+no_size S code a is below [] none = inr (inl (code, subst (IsScaleCode code) (sym (append-nil a)) is, below))
+no_size S code a is below (b ∷ t) none = absurd (omega arith)
+
+pub cut_digest : (S code : ℕ) (a : List ℕ) → IsScaleCode code a → (size : ℕ) → code < varint_limit → size ≤ S → (t : List ℕ) → length t < size
+    → HasScaleVerdict S ((a ++ size ∷ []) ++ t) unexpected_eof
+cut_digest S code a is size below fits t short =
+    inr (inr (size, t, record { code = code; code_bytes = a; is_code = is; in_range = below; cut = append_assoc a (size ∷ []) t }, fits, short))

@@ -1,21 +1,20 @@
--- What `read` promises where it stops: at a verdict that what was taken settles, at an early end, or at a failure.
-use Rattle.std.proofs.Common.{◌∙◌, ◌≡◌, ◌+◌, ◌<◌, ◌⊎◌, ℕ, List, [], ◌++◌, Option, Some, Result, Ok, Err, IfSome, IfOk, IfErr, refl, sym, ap, subst, inl, inr, arith, append-nil}
+-- What `read` promises where it stops, and where it stops in the code, the size or the digest.
+use Rattle.std.proofs.Common.{◌∙◌, ◌≡◌, ◌+◌, ◌<◌, ◌⊎◌, ℕ, List, [], ◌++◌, Option, Some, Result, Ok, Err, IfSome, IfOk, IfErr, refl, sym, ap, subst, inl, inr, arith, append-nil, ◌≤◌, length, append_assoc}
 use Rattle.multihash.specs.Bytes.{IsProperBeginning}
-use Rattle.multihash.specs.Pair.{FitsBuffer}
-use Rattle.multihash.specs.Varint.{insufficient}
+use Rattle.multihash.specs.Pair.{FitsBuffer, digest_limit}
+use Rattle.multihash.specs.Varint.{insufficient, VarintFault, overflow, not_minimal, IsVarint, HasFaultyFront}
 use Rattle.multihash.specs.Encoding.{IsEncoding}
-use Rattle.multihash.specs.Verdict.{Verdict, accepted, invalid_size, invalid_code, faulty, unexpected_eof, HasVerdict, IsEarlyEnd}
+use Rattle.multihash.specs.Verdict.{Verdict, accepted, invalid_size, invalid_code, faulty, unexpected_eof, HasVerdict, IsEarlyEnd, BeginsWithSize}
 use Rattle.std.specs.Io.KnownBytes.{IsAtEnd, prepend_known}
-use Rattle.multihash.specs.Reading.{Takes, CountsReader}
-use Rattle.multihash.specs.Fault.{Fault}
-use Rattle.multihash.specs.Refusal.{Refusal, of_io, of_size, of_code, of_varint, of_not_bytes, IsReaderFault, IsEof}
-use Rattle.multihash.specs.Taking.{IsReadRefusal, TakesAtRefusal, TakesShortestSettling, TakesNothingSettling}
+use Rattle.multihash.specs.Reading.{Takes, CountsReader, HasFewerThan}
+use Rattle.multihash.specs.Fault.{Fault, IsUnexpectedEof, IsOwnFault}
+use Rattle.multihash.specs.Refusal.{Refusal, of_io, of_size, of_code, of_varint, of_not_bytes, IsReaderFault, IsEof, IsInvalidSize, IsFaulty}
+use Rattle.multihash.specs.Taking.{IsReadRefusal, TakesAtRefusal, TakesShortestSettling, TakesNothingSettling, IsVarintRefusal, TakesAtVarintRefusal}
 use Rattle.multihash.specs.Answer.{Fields, pair_of, IsRefusal, Answers}
 use Rattle.multihash.proofs.Values.ValueLemmas.{digest_fits}
-use Rattle.multihash.proofs.Readings.ReadingLemmas.{IfSome-taken}
-use Rattle.multihash.proofs.Readings.VerdictLemmas.{verdict_unique}
-use Rattle.multihash.proofs.Readings.SettlingLemmas.{verdict_kept, none_settles}
-use Rattle.multihash.proofs.Readings.ShortestLemmas.{EndsEarly, before_digest, shortest_from}
+use Rattle.multihash.proofs.Readings.ReadingLemmas.{IfSome-taken, Takes-joined}
+use Rattle.multihash.proofs.Readings.VerdictLemmas.{verdict_unique, coded, sized}
+use Rattle.multihash.proofs.Readings.SettlingLemmas.{verdict_kept, none_settles, EndsEarly, before_digest, shortest_from, before_second, before_both}
 
 -- an input that ends early, or a reader that failed
 abbrev pub EndsOrFails : ℕ → List ℕ → ℕ → ℕ → Type 0
@@ -33,9 +32,9 @@ ReadMeets S old new before after r = record {
   unsettled : IfSome old (λ rest. EndsOrFails S rest before after → TakesNothingSettling S rest new);
 }
 
--- ---- refusals and verdicts
+-- ---- errors and verdicts
 
--- the verdict that asks for a refusal
+-- the verdict of an error
 abbrev verdict_of : Refusal → Verdict
 verdict_of (of_io fault) = unexpected_eof
 verdict_of (of_size size) = invalid_size size
@@ -60,12 +59,12 @@ own_not_eof e (fault, given, kind) h =
     let kinds = ap (λ (f : Fault). f.kind) same in
     elim kind [ inl other ↦ cc (kinds, other, h.2) | inr memory ↦ cc (kinds, memory, h.2) ]
 
--- no verdict asks for a fault of the reader's own
+-- no verdict has an error of the reader's own
 pub own_no_refusal : (e : Refusal) (v : Verdict) → IsReaderFault e → IsRefusal e v → ⊥
 own_no_refusal e v own given =
     own_not_eof e own (subst (IsRefusal e) (verdict_of_refusal e v given ∙ ap verdict_of own.1) given)
 
--- a refusal of a verdict is one that `read` lists
+-- an error of a verdict is one that `read` lists
 listed : (S : ℕ) (e : Refusal) (taken : List ℕ) (v : Verdict) → IsRefusal e v → HasVerdict S taken v → IsReadRefusal S e
 listed S e taken (accepted p) given has = absurd given
 listed S e taken (invalid_size size) given has = inl (size, given, has.2)
@@ -77,7 +76,7 @@ listed S e taken unexpected_eof given has = inr (inr given)
 
 module _ (S : ℕ) (taken : List ℕ) (old new : Option (List ℕ)) (before after : ℕ) (takes : Takes old taken new) (v : Verdict)
     (has : HasVerdict S taken v) where
-  -- at a verdict that is no early end, where everything shorter ends early
+  -- at a verdict that is not incomplete, where everything shorter ends early
   module _ (unrisen : after ≡ before) (late : ¬ (IsEarlyEnd v)) (no_sooner : (p : List ℕ) → IsProperBeginning p taken → EndsEarly S p) where
     kept : (left : List ℕ) → HasVerdict S (taken ++ left) v
     kept left = verdict_kept S taken left v late has
@@ -132,7 +131,7 @@ module _ (S : ℕ) (taken : List ℕ) (old new : Option (List ℕ)) (before afte
     none = IfSome-taken old new taken _ takes (λ left is why.
         record { taken = taken; takes = ap (prepend_known taken) (sym is); unsettled = none_settles S taken v has soon })
 
-    -- at an early end, which the whole input has too
+    -- at an incomplete input, which the whole input has too
     pub at_early_end : (e : Refusal) → after ≡ before → IsRefusal e v → (v ≡ faulty insufficient → IsAtEnd new)
         → ((left : List ℕ) → new ≡ Some left → HasVerdict S (taken ++ left) v) → ReadMeets S old new before after (Err e)
     at_early_end e unrisen given all whole = record {
@@ -178,3 +177,69 @@ read_answered S taken old new before after m unrisen encodes takes =
     at_pair S taken old new before after takes (accepted (pair_of m))
     ([], record { encoding = taken; encodes = encodes; cut = sym (append-nil taken) }, fits) unrisen (λ e. e)
     (λ p before. before_digest S (pair_of m) taken p encodes fits before) m refl encodes
+
+-- nothing is left after bytes at an input's end
+at_end : (P : List ℕ → Type 0) (taken : List ℕ) (new : Option (List ℕ)) → IsAtEnd new → P taken
+    → (left : List ℕ) → new ≡ Some left → P (taken ++ left)
+at_end P taken new ends p left is =
+    let none : left ≡ [] = subst IsAtEnd is ends in subst P (sym (ap (λ z. taken ++ z) none ∙ append-nil taken)) p
+
+-- ---- in the code or the size, after what precedes it
+
+module _ (S : ℕ) (e : Refusal) (old mid new : Option (List ℕ)) (before after : ℕ) (t : TakesAtVarintRefusal e mid new)
+    (how : ((after ≡ before + 1) × IsReaderFault e) ⊎ ((after ≡ before) × IsVarintRefusal e)) where
+  module _ (a : List ℕ) (takes : Takes old (a ++ t.taken) new)
+      (shows : (f : VarintFault) → HasFaultyFront f t.taken → HasVerdict S (a ++ t.taken) (faulty f))
+      (no_sooner : (p : List ℕ) → IsProperBeginning p (a ++ t.taken) → EndsEarly S p) where
+    refused : (f : VarintFault) → after ≡ before → IsFaulty f e → HasVerdict S (a ++ t.taken) (faulty f) → ReadMeets S old new before after (Err e)
+    refused insufficient same given has =
+        at_early_end S _ _ _ _ _ takes (faulty insufficient) has tt e same given (λ _. t.all given)
+        (at_end (λ x. HasVerdict S x (faulty insufficient)) (a ++ t.taken) new (t.all given) has)
+    refused overflow same given has = at_settled S _ _ _ _ _ takes (faulty overflow) has same (λ h. h) no_sooner e given
+    refused not_minimal same given has = at_settled S _ _ _ _ _ takes (faulty not_minimal) has same (λ h. h) no_sooner e given
+
+    stops_in_varint : ReadMeets S old new before after (Err e)
+    stops_in_varint =
+        elim how [
+          | inl (rose, own) ↦ at_failure S _ _ _ _ _ takes (faulty insufficient) (shows insufficient (t.failed own)) tt e rose own
+          | inr (same, (f, given)) ↦ refused f same given (shows f (t.shows f given))
+        ]
+
+  pub stops_in_code : Takes old t.taken new → ReadMeets S old new before after (Err e)
+  stops_in_code takes = stops_in_varint [] takes (λ f h. inl h) (λ p b. (faulty insufficient, inl (t.no_sooner p b), tt))
+
+  pub stops_in_size : (code : ℕ) (a : List ℕ) → IsVarint code a → Takes old a mid → ReadMeets S old new before after (Err e)
+  stops_in_size code a is_code first =
+      stops_in_varint a (Takes-joined old mid new a t.taken _ refl first t.takes) (λ f h. inr (t.taken, coded code a _ t.taken is_code refl, h))
+      (λ p b. before_second S code a t.taken p is_code t.no_sooner b)
+
+-- ---- after both varints
+
+module _ (S code size : ℕ) (a b : List ℕ) (is_code : IsVarint code a) (is_size : IsVarint size b) (old new : Option (List ℕ)) (before after : ℕ) where
+  has_size : (rest : List ℕ) → BeginsWithSize size (a ++ (b ++ rest)) rest
+  has_size rest = sized code size a b _ rest is_code is_size refl
+
+  pub stops_at_size : (e : Refusal) → after ≡ before → digest_limit S < size → IsInvalidSize size e → Takes old (a ++ b) new
+      → ReadMeets S old new before after (Err e)
+  stops_at_size e same over given takes =
+      at_settled S (a ++ b) old new before after takes (invalid_size size)
+      ([], subst (λ z. BeginsWithSize size (a ++ z) []) (append-nil b) (has_size []), over) same (λ h. h)
+      (λ p begins. before_both S code size a b p is_code is_size begins) e given
+
+  module _ (within : size ≤ digest_limit S) where
+    cut_digest : (rest : List ℕ) → length rest < size → HasVerdict S (a ++ (b ++ rest)) unexpected_eof
+    cut_digest rest short = (size, rest, has_size rest, within, short)
+
+    pub stops_in_digest : (fault : Fault) (front : List ℕ) (mid : Option (List ℕ)) → length front < size → Takes mid front new
+        → (IsUnexpectedEof fault → HasFewerThan size mid)
+        → ((after ≡ before + 1) × IsOwnFault fault) ⊎ ((after ≡ before) × IsUnexpectedEof fault) → Takes old (a ++ (b ++ front)) new
+        → ReadMeets S old new before after (Err (of_io fault))
+    stops_in_digest fault front mid short last few how takes =
+        elim how [
+          | inl (rose, own) ↦
+              at_failure S _ old new before after takes unexpected_eof (cut_digest front short) tt (of_io fault) rose (fault, refl, own)
+          | inr (same, ended) ↦
+              at_early_end S _ old new before after takes unexpected_eof (cut_digest front short) tt (of_io fault) same (fault, refl, ended)
+              (λ no. cc) (λ left is. rw (append_assoc a (b ++ front) left, append_assoc b front left)
+              (cut_digest (front ++ left) (subst (HasFewerThan size) (last ∙ ap (prepend_known front) is) (few ended))))
+        ]

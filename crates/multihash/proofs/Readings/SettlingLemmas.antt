@@ -1,14 +1,45 @@
--- An input settles its verdict exactly where that is no early end.
-use Rattle.std.proofs.Common.{◌≡◌, ℕ, ◌-◌, ◌<◌, ◌↔◌, List, [], ◌∷◌, ◌++◌, length, replicate, refl, sym, ap, ◌∙◌, subst, arith, inl, inr, length-append, append_assoc, append-nil}
-use Rattle.std.proofs.lemmas.List.{length-replicate}
+-- An input settles its verdict exactly if that is not incomplete; the shortest prefix that does.
+use Rattle.std.proofs.Common.{◌≡◌, ℕ, ◌⊎◌, List, [], ◌∷◌, ◌++◌, refl, inl, inr, ◌-◌, ◌<◌, ◌↔◌, length, replicate, sym, ap, ◌∙◌, subst, arith, length-append, append_assoc, append-nil, ◌+◌, ◌≤◌, get_or}
+use Rattle.multihash.specs.Bytes.{IsProperBeginning, IsBytes, IsBeginning, ExactlyOne}
+use Rattle.std.proofs.lemmas.List.{length-replicate, get_or_append_left, length-map}
 use Rattle.std.proofs.lemmas.List.Elements.{All-nil, All-cons, All-replicate}
-use Rattle.multihash.specs.Bytes.{IsBytes, IsBeginning}
-use Rattle.multihash.specs.Varint.{IsMarked, VarintFault, insufficient, overflow, not_minimal, IsInsufficient, IsNotMinimal, HasFaultyFront}
-use Rattle.multihash.specs.Verdict.{Verdict, accepted, invalid_size, invalid_code, faulty, unexpected_eof, BeginsWithSize, BeginsWithCode, HasVerdict, IsEarlyEnd}
-use Rattle.multihash.specs.Settling.{Settles}
+use Rattle.multihash.specs.Varint.{IsMarked, VarintFault, insufficient, overflow, not_minimal, IsInsufficient, IsNotMinimal, HasFaultyFront, max_marked, marked, IsVarint}
+use Rattle.multihash.specs.Verdict.{Verdict, accepted, invalid_size, invalid_code, faulty, unexpected_eof, BeginsWithSize, BeginsWithCode, HasVerdict, IsEarlyEnd, BeginsWith}
+use Rattle.multihash.specs.Settling.{Settles, IsShortestSettling}
 use Rattle.multihash.proofs.Readings.VerdictLemmas.{coded, sized, pair_begins, verdict_unique}
+use Rattle.std.specs.List.{All}
+use Rattle.multihash.specs.Pair.{Pair, FitsBuffer, digest_limit}
+use Rattle.multihash.specs.Encoding.{IsEncoding}
+use Rattle.multihash.proofs.Varints.DigitLemmas.{All-marked}
+use Rattle.multihash.proofs.Varints.VarintLemmas.{varint_length}
+use Rattle.multihash.proofs.Writings.WritingLemmas.{length_of_not_nil}
 
--- ---- a verdict that is no early end stays
+pub split_beginning : (f g p : List ℕ) → IsProperBeginning p (f ++ g)
+    → IsProperBeginning p f ⊎ ((q : List ℕ) × (p ≡ f ++ q) × IsProperBeginning q g)
+split_beginning [] g p h = inr (p, refl, h)
+split_beginning (c ∷ f) g [] h = inl (c ∷ f, (λ e. cc), refl)
+split_beginning (c ∷ f) g (d ∷ p) (rest, some, e) =
+    let heads : c ≡ d = cc in
+    let tails : f ++ g ≡ p ++ rest = cc in
+    elim (split_beginning f g p (rest, some, tails)) [
+      | inl (q, more, cut) ↦ inl (q, more, cc (heads, cut))
+      | inr (q, cut, more) ↦ inr (q, cc (heads, cut), more)
+    ]
+
+pub compare_beginnings : (a b r q : List ℕ) → a ++ r ≡ b ++ q → (a ≡ b) ⊎ IsProperBeginning a b ⊎ IsProperBeginning b a
+compare_beginnings [] [] r q e = inl refl
+compare_beginnings [] (c ∷ b) r q e = inr (inl (c ∷ b, (λ n. cc), refl))
+compare_beginnings (c ∷ a) [] r q e = inr (inr (c ∷ a, (λ n. cc), refl))
+compare_beginnings (c ∷ a) (d ∷ b) r q e =
+    let heads : c ≡ d = cc in
+    let tails : a ++ r ≡ b ++ q = cc in
+    elim (compare_beginnings a b r q tails) [
+      | inl same ↦ inl (cc (heads, same))
+      | inr (inl (more, some, cut)) ↦ inr (inl (more, some, cc (heads, cut)))
+      | inr (inr (more, some, cut)) ↦ inr (inr (more, some, cc (heads, cut)))
+    ]
+
+-- ---- a verdict that is not incomplete stays
 
 append_more : (x a r more : List ℕ) → x ≡ a ++ r → x ++ more ≡ a ++ (r ++ more)
 append_more x a r more e = ap (λ (z : List ℕ). z ++ more) e ∙ append_assoc a r more
@@ -46,12 +77,12 @@ own_verdict : (S : ℕ) (x : List ℕ) (s : Settles S x) → HasVerdict S x s.ve
 own_verdict S x s =
     subst (λ (z : List ℕ). HasVerdict S z s.verdict) (append-nil x) (s.always [] (All-nil (λ b. b < 256)))
 
--- where an input settles, bytes behind it leave the verdict as it is
+-- where an input settles, bytes after it leave the verdict as it is
 same_behind : (S : ℕ) (x more : List ℕ) (v w : Verdict) → Settles S x → HasVerdict S x v → IsBytes more → HasVerdict S (x ++ more) w → v ≡ w
 same_behind S x more v w s h bytes k =
     verdict_unique S x v s.verdict h (own_verdict S x s) ∙ verdict_unique S (x ++ more) s.verdict w (s.always more bytes) k
 
--- a zero ends marked bytes, and a marked byte and a zero are as bad where there are none
+-- a zero ends continuation bytes, and a continuation byte and a zero are as bad where there are none
 open_varint : (x : List ℕ) → IsInsufficient x → (more : List ℕ) × IsBytes more × IsNotMinimal (x ++ more)
 open_varint [] h = (
   128 ∷ 0 ∷ [],
@@ -64,7 +95,7 @@ open_varint (m ∷ ms) h = (
   record { front = m ∷ ms; rest = []; all_marked = h.all_marked; some = omega arith; few = h.few; cut = refl },
 )
 
--- some bytes behind an early end change it
+-- some bytes after an incomplete input change its verdict
 pub early_not_settles : (S : ℕ) (x : List ℕ) (v : Verdict) → IsEarlyEnd v → HasVerdict S x v → ¬ (Settles S x)
 early_not_settles S x (accepted p) early h s = early
 early_not_settles S x (invalid_size size) early h s = early
@@ -92,7 +123,7 @@ late_settles S x v late h = record { verdict = v; always = λ more _. verdict_ke
 pub settles_exactly : (S : ℕ) (x : List ℕ) (v : Verdict) → HasVerdict S x v → Settles S x ↔ ¬ (IsEarlyEnd v)
 settles_exactly S x v h = (λ s early. early_not_settles S x v early h s, λ late. late_settles S x v late h)
 
--- no beginning of an input settles whose verdict is an early end
+-- no prefix of an input settles whose verdict is incomplete
 pub none_settles : (S : ℕ) (x : List ℕ) (v : Verdict) → HasVerdict S x v → IsEarlyEnd v
     → (front : List ℕ) → IsBeginning front x → ¬ (Settles S front)
 none_settles S x v h early front (rest, cut) s =
@@ -100,3 +131,157 @@ none_settles S x v h early front (rest, cut) s =
     let late : ¬ (IsEarlyEnd s.verdict) = λ soon. early_not_settles S front s.verdict soon own s in
     let kept = subst (λ (z : List ℕ). HasVerdict S z s.verdict) (sym cut) (verdict_kept S front rest s.verdict late own) in
     late (subst IsEarlyEnd (verdict_unique S x v s.verdict h kept) early)
+
+-- ---- what ends early
+
+-- continuation bytes, as many as a varint may have, and one more
+pub record IsStep (t : List ℕ) : Type 0 where
+  pub front : List ℕ
+  pub last : ℕ
+  pub all_marked : All IsMarked front
+  pub few : length front ≤ max_marked
+  pub cut : t ≡ front ++ last ∷ []
+
+pub before_step : (t p : List ℕ) → IsStep t → IsProperBeginning p t → IsInsufficient p
+before_step t p s (rest, some, cut) = record { few = omega (arith, s.few, short); all_marked = marks }
+  where
+    same : s.front ++ s.last ∷ [] ≡ p ++ rest
+    same = sym s.cut ∙ cut
+
+    short : length p ≤ length s.front
+    short = omega (arith, ap length same, length-append s.front (s.last ∷ []), length-append p rest, length_of_not_nil rest some)
+
+    marks : All IsMarked p
+    marks k d below =
+        let value : get_or p k d ≡ get_or s.front k d =
+        sym (get_or_append_left p rest d k below)
+        ∙ (ap (λ (z : List ℕ). get_or z k d) (sym same) ∙ get_or_append_left s.front (s.last ∷ []) d k (omega (arith, short, below))) in
+        rw value (s.all_marked k d (omega (arith, short, below)))
+
+-- nothing shorter shows a varint or a fault
+abbrev pub NoSooner : List ℕ → Type 0
+NoSooner t = (p : List ℕ) → IsProperBeginning p t → IsInsufficient p
+
+varint_no_sooner : (n : ℕ) (bytes : List ℕ) → IsVarint n bytes → NoSooner bytes
+varint_no_sooner n bytes v p begins =
+    let few : length (marked v.front) ≤ max_marked = omega (arith, (varint_length n bytes v).0, length-map v.front (λ d. d + 128)) in
+    before_step bytes p (record { front = marked v.front; last = v.last; all_marked = All-marked v.front; few = few; cut = v.spelled }) begins
+
+-- the input ends early
+abbrev pub EndsEarly : ℕ → List ℕ → Type 0
+EndsEarly S x = (v : Verdict) × HasVerdict S x v × IsEarlyEnd v
+
+pub before_second : (S code : ℕ) (f t p : List ℕ) → IsVarint code f → NoSooner t → IsProperBeginning p (f ++ t) → EndsEarly S p
+before_second S code f t p is_code no_sooner b =
+    elim (split_beginning f t p b) [
+      | inl early ↦ (faulty insufficient, inl (varint_no_sooner code f is_code p early), tt)
+      | inr (q, cut, more) ↦ (faulty insufficient, inr (q, coded code f p q is_code cut, no_sooner q more), tt)
+    ]
+
+pub before_both : (S code size : ℕ) (f t p : List ℕ) → IsVarint code f → IsVarint size t → IsProperBeginning p (f ++ t) → EndsEarly S p
+before_both S code size f t p is_code is_size = before_second S code f t p is_code (varint_no_sooner size t is_size)
+
+pub before_digest : (S : ℕ) (p : Pair) (t x : List ℕ) → IsEncoding p t → FitsBuffer S p → IsProperBeginning x t → EndsEarly S x
+before_digest S p t x e fits (rest, some, cut) =
+    elim (split_beginning (e.code ++ e.size) p.digest x (rest, some, append_assoc e.code e.size p.digest ∙ (sym e.spelled ∙ cut))) [
+      | inl early ↦ before_both S p.code (length p.digest) e.code e.size x e.is_code e.is_size early
+      | inr (z, z_cut, (left, some, d_cut)) ↦
+          let both = sized p.code (length p.digest) e.code e.size x z e.is_code e.is_size (z_cut ∙ append_assoc e.code e.size z) in
+          let short : length z < length p.digest = omega (arith, ap length d_cut, length-append z left, length_of_not_nil left some) in
+          (unexpected_eof, (length p.digest, z, both, fits, short), tt)
+    ]
+
+-- ---- the shortest that settles
+
+-- a prefix with a verdict of its own that is not incomplete, all of whose own prefixes are incomplete
+pub shortest_from : (S : ℕ) (x t rest : List ℕ) (v : Verdict) → x ≡ t ++ rest → HasVerdict S t v → ¬ (IsEarlyEnd v)
+    → ((p : List ℕ) → IsProperBeginning p t → EndsEarly S p) → IsShortestSettling S x t
+shortest_from S x t rest v cut h late before = record {
+  begins = (rest, cut);
+  settles = late_settles S t v late h;
+  shortest = λ p b. let e = before p b in early_not_settles S p e.0 e.2 e.1;
+}
+
+-- the prefix that shows a fault
+pub record ShowsFault (f : VarintFault) (x : List ℕ) : Type 0 where
+  pub shown : List ℕ
+  pub rest : List ℕ
+  pub cut : x ≡ shown ++ rest
+  pub step : IsStep shown
+  pub has : HasFaultyFront f shown
+
+pub shows_fault : (f : VarintFault) (x : List ℕ) → ¬ (IsEarlyEnd (faulty f)) → HasFaultyFront f x → ShowsFault f x
+shows_fault insufficient x late h = absurd (late tt)
+shows_fault overflow x late h = record {
+  shown = h.front ++ h.byte ∷ [];
+  rest = h.rest;
+  cut = h.cut ∙ sym (append_assoc h.front (h.byte ∷ []) h.rest);
+  step = record { front = h.front; last = h.byte; all_marked = h.all_marked; few = omega (arith, h.most); cut = refl };
+  has = record { front = h.front; byte = h.byte; rest = []; all_marked = h.all_marked; most = h.most; too_large = h.too_large; cut = refl };
+}
+shows_fault not_minimal x late h = record {
+  shown = h.front ++ 0 ∷ [];
+  rest = h.rest;
+  cut = h.cut ∙ sym (append_assoc h.front (0 ∷ []) h.rest);
+  step = record { front = h.front; last = 0; all_marked = h.all_marked; few = h.few; cut = refl };
+  has = record { front = h.front; rest = []; all_marked = h.all_marked; some = h.some; few = h.few; cut = refl };
+}
+
+-- the shortest prefix that settles a pair is its encoding
+pub shortest_pair : (S : ℕ) (p : Pair) (x rest : List ℕ) (b : BeginsWith p x rest) → FitsBuffer S p → IsShortestSettling S x b.encoding
+shortest_pair S p x rest b fits =
+    shortest_from S x b.encoding rest (accepted p) b.cut
+    ([], record { encoding = b.encoding; encodes = b.encodes; cut = sym (append-nil b.encoding) }, fits) (λ e. e)
+    (λ y before. before_digest S p b.encoding y b.encodes fits before)
+
+-- that of a size that is too large is both varints
+pub shortest_size : (S size : ℕ) (x rest : List ℕ) (h : BeginsWithSize size x rest) → digest_limit S < size
+    → IsShortestSettling S x (h.code_bytes ++ h.size_bytes)
+shortest_size S size x rest h over =
+    let cut = ap (λ (z : List ℕ). h.code_bytes ++ z) (sym (append-nil h.size_bytes)) in
+    let own = sized h.code size h.code_bytes h.size_bytes _ [] h.is_code h.is_size cut in
+    shortest_from S x (h.code_bytes ++ h.size_bytes) rest (invalid_size size)
+    (h.cut ∙ sym (append_assoc h.code_bytes h.size_bytes rest)) ([], own, over) (λ e. e)
+    (λ y before. before_both S h.code size h.code_bytes h.size_bytes y h.is_code h.is_size before)
+
+-- that of a fault in the code is what shows it
+pub shortest_code_fault : (S : ℕ) (f : VarintFault) (x : List ℕ) → ¬ (IsEarlyEnd (faulty f)) → (s : ShowsFault f x) → IsShortestSettling S x s.shown
+shortest_code_fault S f x late s =
+    shortest_from S x s.shown s.rest (faulty f) s.cut (inl s.has) late
+    (λ y before. (faulty insufficient, inl (before_step s.shown y s.step before), tt))
+
+-- that of a fault in the size is the code and what shows it
+pub shortest_size_fault : (S : ℕ) (f : VarintFault) (x rest : List ℕ) → ¬ (IsEarlyEnd (faulty f)) → (c : BeginsWithCode x rest) (s : ShowsFault f rest)
+    → IsShortestSettling S x (c.code_bytes ++ s.shown)
+shortest_size_fault S f x rest late c s =
+    shortest_from S x (c.code_bytes ++ s.shown) s.rest (faulty f)
+    (c.cut ∙ (ap (λ (z : List ℕ). c.code_bytes ++ z) s.cut ∙ sym (append_assoc c.code_bytes s.shown s.rest)))
+    (inr (s.shown, coded c.code c.code_bytes _ s.shown c.is_code refl, s.has)) late
+    (λ y before. before_second S c.code c.code_bytes s.shown y c.is_code (λ p b. before_step s.shown p s.step b) before)
+
+pub shortest_exists : (S : ℕ) (x : List ℕ) (v : Verdict) → HasVerdict S x v → ¬ (IsEarlyEnd v)
+    → (t : List ℕ) × IsShortestSettling S x t
+shortest_exists S x (accepted p) (rest, b, fits) late = (b.encoding, shortest_pair S p x rest b fits)
+shortest_exists S x (invalid_size size) (rest, h, over) late = (h.code_bytes ++ h.size_bytes, shortest_size S size x rest h over)
+shortest_exists S x (invalid_code code) h late = absurd h
+shortest_exists S x (faulty f) (inl h) late =
+    let s = shows_fault f x late h in (s.shown, shortest_code_fault S f x late s)
+shortest_exists S x (faulty f) (inr (rest, c, h)) late =
+    let s = shows_fault f rest late h in (c.code_bytes ++ s.shown, shortest_size_fault S f x rest late c s)
+shortest_exists S x unexpected_eof h late = absurd (late tt)
+
+pub shortest_unique : (S : ℕ) (x a b : List ℕ) → IsShortestSettling S x a → IsShortestSettling S x b → a ≡ b
+shortest_unique S x a b s t =
+    elim (compare_beginnings a b s.begins.0 t.begins.0 (sym s.begins.1 ∙ t.begins.1)) [
+      | inl same ↦ same
+      | inr (inl shorter) ↦ absurd (t.shortest a shorter s.settles)
+      | inr (inr shorter) ↦ absurd (s.shortest b shorter t.settles)
+    ]
+
+pub one_shortest : (S : ℕ) (x : List ℕ) (v : Verdict) → HasVerdict S x v → ¬ (IsEarlyEnd v) → ExactlyOne (IsShortestSettling S x)
+one_shortest S x v h late =
+    let t = shortest_exists S x v h late in
+    record { value = t.0; holds = t.1; only = λ other s. shortest_unique S x other t.0 s t.1 }
+
+-- the laws of settling, for the tactics
+pub ruleset settling = (settles_exactly, one_shortest, none_settles)

@@ -1,16 +1,20 @@
--- One encoding a pair, and one verdict an input.
-use Rattle.std.proofs.Common.{◌≡◌, ℕ, ◌<◌, ◌≤◌, cond, ltb, List, [], ◌∷◌, ◌++◌, length, take, drop, refl, sym, ap, ◌∙◌, subst, arith, inl, inr, length-append, append-nil}
+-- One verdict an input, and the two varints at its front.
+use Rattle.std.proofs.Common.{◌≡◌, ℕ, ◌<◌, ◌≤◌, cond, ltb, List, [], ◌∷◌, ◌++◌, length, take, drop, refl, sym, ap, ◌∙◌, subst, arith, inl, inr, length-append, append-nil, ◌+◌, ◌-◌, Some}
 use Rattle.std.proofs.lemmas.Bool.{cases_lt, lt-ltb, le-ltb}
-use Rattle.std.proofs.lemmas.List.{take_at, drop_at, take-append-drop, length-take-le}
+use Rattle.std.proofs.lemmas.List.{take_at, drop_at, take-append-drop, length-take-le, take_rest, length-drop, drop-drop}
 use Rattle.std.proofs.lemmas.List.Elements.{All-same}
 use Rattle.multihash.specs.Bytes.{IsBytes}
 use Rattle.multihash.specs.Pair.{Pair, FitsBuffer, digest_limit}
 use Rattle.multihash.specs.Varint.{IsVarint}
 use Rattle.multihash.specs.Encoding.{IsEncoding}
-use Rattle.multihash.specs.Verdict.{Verdict, accepted, invalid_size, invalid_code, faulty, unexpected_eof, BeginsWith, BeginsWithSize, BeginsWithCode, HasVerdict, HasWholeVerdict}
-use Rattle.multihash.proofs.Varints.MarkedLemmas.{All-append_right}
+use Rattle.multihash.specs.Verdict.{Verdict, accepted, invalid_size, invalid_code, faulty, unexpected_eof, BeginsWith, BeginsWithSize, BeginsWithCode, HasVerdict, HasWholeVerdict, HasHead}
+use Rattle.multihash.proofs.Varints.DigitLemmas.{All-append_right}
 use Rattle.multihash.proofs.Varints.VarintLemmas.{Front, number, fault, HasFront, front_is, front_of, front_of_has}
 use Rattle.multihash.proofs.Writings.EncodingLemmas.{encoding_cut}
+use Rattle.multihash.specs.Refusal.{Refusal}
+use Rattle.multihash.specs.Taking.{IsFrontRefusal, TakesVarint}
+use Rattle.multihash.specs.Answer.{IsRefusal}
+use Rattle.multihash.proofs.Readings.ReadingLemmas.{Takes-cut}
 
 -- ---- two varints, one after the other
 
@@ -79,7 +83,7 @@ verdict_unique S x v w h k = verdict_is S x v h ∙ sym (verdict_is S x w k)
 
 -- ---- some verdict
 
--- a digest of the size behind both varints ends an encoding
+-- a digest of the size after both varints ends an encoding
 pub pair_begins : (size : ℕ) (x rest : List ℕ) (h : BeginsWithSize size x rest) (digest after : List ℕ) → length digest ≡ size
     → rest ≡ digest ++ after → BeginsWith (record { code = h.code; digest = digest }) x after
 pair_begins size x rest h digest after long split =
@@ -123,28 +127,28 @@ has_found S x bytes =
 -- ---- the verdict on the whole
 
 -- what follows a pair is left over
-abbrev left_over : Pair → List ℕ → Verdict
-left_over p [] = accepted p
-left_over p (byte ∷ rest) = invalid_size (length (byte ∷ rest))
+abbrev trailing : Pair → List ℕ → Verdict
+trailing p [] = accepted p
+trailing p (byte ∷ rest) = invalid_size (length (byte ∷ rest))
 
 abbrev pub whole_found : ℕ → List ℕ → Verdict
-whole_found S x = found_by left_over S x
+whole_found S x = found_by trailing S x
 
 pub whole_is : (S : ℕ) (x : List ℕ) (v : Verdict) → HasWholeVerdict S x v → v ≡ whole_found S x
 whole_is S x (accepted p) (e, fits) =
-    judged_pair left_over S x p [] (record { encoding = x; encodes = e; cut = sym (append-nil x) }) fits
-whole_is S x (invalid_size size) (inl h) = found_is left_over S x (invalid_size size) h (λ p rest same. cc)
+    judged_pair trailing S x p [] (record { encoding = x; encodes = e; cut = sym (append-nil x) }) fits
+whole_is S x (invalid_size size) (inl h) = found_is trailing S x (invalid_size size) h (λ p rest same. cc)
 whole_is S x (invalid_size size) (inr (p, [], b, fits, len, some)) = absurd (omega arith)
 whole_is S x (invalid_size size) (inr (p, byte ∷ rest, b, fits, len, some)) =
-    ap invalid_size (sym len) ∙ judged_pair left_over S x p (byte ∷ rest) b fits
+    ap invalid_size (sym len) ∙ judged_pair trailing S x p (byte ∷ rest) b fits
 whole_is S x (invalid_code code) h = absurd h
-whole_is S x (faulty f) h = found_is left_over S x (faulty f) h (λ p rest same. cc)
-whole_is S x unexpected_eof h = found_is left_over S x unexpected_eof h (λ p rest same. cc)
+whole_is S x (faulty f) h = found_is trailing S x (faulty f) h (λ p rest same. cc)
+whole_is S x unexpected_eof h = found_is trailing S x unexpected_eof h (λ p rest same. cc)
 
 pub whole_verdict_unique : (S : ℕ) (x : List ℕ) (v w : Verdict) → HasWholeVerdict S x v → HasWholeVerdict S x w → v ≡ w
 whole_verdict_unique S x v w h k = whole_is S x v h ∙ sym (whole_is S x w k)
 
--- a pair with nothing behind it
+-- a pair with nothing after it
 pub whole_pair : (p : Pair) (x : List ℕ) → BeginsWith p x [] → IsEncoding p x
 whole_pair p x b = subst (IsEncoding p) (sym (b.cut ∙ append-nil b.encoding)) b.encodes
 
@@ -159,3 +163,56 @@ whole_from S x unexpected_eof h = (unexpected_eof, h)
 
 pub has_whole_found : (S : ℕ) (x : List ℕ) → IsBytes x → HasWholeVerdict S x (whole_found S x)
 has_whole_found S x bytes = let (v, h) = whole_from S x _ (has_found S x bytes) in subst (HasWholeVerdict S x) (whole_is S x v h) h
+
+-- a slice from there on is the rest
+pub sliced : (n : ℕ) (xs : List ℕ) (k : ℕ) → TakesVarint n (Some xs) (Some (drop k xs))
+    → TakesVarint n (Some xs) (Some (take (length xs - k) (drop k xs)))
+sliced n xs k met = subst (λ (back : List ℕ). TakesVarint n (Some xs) (Some back)) (sym (take_rest xs k)) met
+
+-- an error of the verdict is one of the whole verdict
+pub whole_refused : (S : ℕ) (x : List ℕ) (e : Refusal) (v : Verdict) → HasVerdict S x v → IsRefusal e v
+    → (w : Verdict) × HasWholeVerdict S x w × IsRefusal e w
+whole_refused S x e (accepted p) has given = absurd given
+whole_refused S x e (invalid_size size) has given = (invalid_size size, inl has, given)
+whole_refused S x e (invalid_code code) has given = absurd has
+whole_refused S x e (faulty f) has given = (faulty f, has, given)
+whole_refused S x e unexpected_eof has given = (unexpected_eof, has, given)
+
+-- no varint of a code
+pub no_code : (S : ℕ) (input : List ℕ) (e : Refusal) → IsFrontRefusal input e
+    → (v : Verdict) × HasWholeVerdict S input v × IsRefusal e v
+no_code S input e (f, named, shows) = (faulty f, inl shows, named)
+
+module _ (code : ℕ) (input left : List ℕ) (is_code : TakesVarint code (Some input) (Some left)) where
+  pub has_code : BeginsWithCode input left
+  has_code = coded code is_code.0 input left is_code.1 (Takes-cut input _ left is_code.2)
+
+  -- no varint of a size
+  pub no_size : (S : ℕ) (e : Refusal) → IsFrontRefusal left e → (v : Verdict) × HasWholeVerdict S input v × IsRefusal e v
+  no_size S e (f, named, shows) = (faulty f, inr (left, has_code, shows), named)
+
+  module _ (size : ℕ) (rest : List ℕ) (is_size : TakesVarint size (Some left) (Some rest)) where
+    abbrev pub has_size : BeginsWithSize size input rest
+    has_size =
+        sized code size is_code.0 is_size.0 input rest is_code.1 is_size.1
+        (Takes-cut input _ left is_code.2 ∙ ap (λ z. is_code.0 ++ z) (Takes-cut left _ rest is_size.2))
+
+    -- bytes after the digest
+    pub left_over : (S n : ℕ) → size ≤ digest_limit S → size < length rest → n ≡ length rest - size → HasWholeVerdict S input (invalid_size n)
+    left_over S n within more count =
+        let long : length (take size rest) ≡ size = length-take-le size rest (omega arith) in
+        let begins = pair_begins size input rest has_size (take size rest) (drop size rest) long (sym (take-append-drop size rest)) in
+        inr (_, drop size rest, begins, omega arith, omega (arith, length-drop size rest, count), omega arith)
+
+    -- the digest, and nothing after it
+    pub whole : (S : ℕ) → size ≤ digest_limit S → length rest ≡ size → HasWholeVerdict S input (accepted (record { code = code; digest = rest }))
+    whole S within exact = (whole_pair _ input (pair_begins size input rest has_size rest [] exact (sym (append-nil rest))), omega arith)
+
+-- the two are a head
+pub head_of : (code size k m : ℕ) (input left : List ℕ) → left ≡ drop k input → k ≤ length input → m ≤ length left
+    → TakesVarint code (Some input) (Some (drop k input)) → TakesVarint size (Some left) (Some (drop m left)) → HasHead code size (k + m) input
+head_of code size k m input left is within more a b =
+    let second = sym is ∙ Takes-cut left _ (drop m left) b.2 ∙ ap (λ z. b.0 ++ z) (ap (drop m) is ∙ drop-drop m k input) in
+    let cut = Takes-cut input _ (drop k input) a.2 ∙ ap (λ z. a.0 ++ z) second in
+    let inside : k + m ≤ length input = omega (arith, ap length is, length-drop k input, within, more) in
+    record { within = inside; varints = sized code size a.0 b.0 input _ a.1 b.1 cut; is_code = refl }

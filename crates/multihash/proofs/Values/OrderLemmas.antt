@@ -13,8 +13,7 @@ use Rattle.std.specs.declared.cmp.Ordering.{Ordering}
 use Rattle.std.specs.declared.cmp.Ordering.TheVariants.{Less, Equal, Greater}
 use Rattle.multihash.specs.Pair.{Pair}
 use Rattle.multihash.specs.Comparing.{equal_pairs, compare_pairs}
-use Rattle.multihash.proofs.Values.ByteOrderLemmas.{order_of_first}
-use Rattle.multihash.proofs.Values.WindowLemmas.{IsCommonFront, common_front, unlike}
+use Rattle.multihash.proofs.Values.WindowLemmas.{order_of_first, IsCommonFront, common_front, unlike}
 
 -- ---- sameness
 

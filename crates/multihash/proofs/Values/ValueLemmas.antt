@@ -6,9 +6,9 @@ use Rattle.std.proofs.lemmas.List.Elements.{All-map}
 use Rattle.multihash.specs.Pair.{FitsBuffer}
 use Rattle.multihash.specs.Varint.{max_marked}
 use Rattle.multihash.specs.Encoding.{IsEncoding}
-use Rattle.multihash.specs.Joined.{AreJoined}
+use Rattle.multihash.specs.Streams.{AreJoined}
 use Rattle.multihash.specs.Answer.{Fields, pair_of}
-use Rattle.multihash.proofs.Forms.JoinedLemmas.{AreJoined-none, AreJoined-first}
+use Rattle.multihash.proofs.Forms.StreamLemmas.{AreJoined-none, AreJoined-first}
 use Rattle.multihash.proofs.Writings.EncodingLemmas.{encoding_exists, encoding_length}
 
 pub digest_fits : {S : ℕ} (m : Fields S) → FitsBuffer S (pair_of m)

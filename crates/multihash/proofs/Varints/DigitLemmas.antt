@@ -1,11 +1,13 @@
--- Numbers written in digits: bounds, and one number for one list of digits.
-use Rattle.std.proofs.Common.{◌≡◌, ℕ, zero, suc, ◌+◌, ◌*◌, ◌^◌, ◌<◌, List, [], ◌∷◌, ◌++◌, length, refl, ◌∙◌, arith, add-one}
+-- Numbers written in digits: bounds, one number for one list of digits, and digits as continuation bytes.
+use Rattle.std.proofs.Common.{◌≡◌, ℕ, zero, suc, ◌+◌, ◌*◌, ◌^◌, ◌<◌, List, [], ◌∷◌, ◌++◌, length, refl, ◌∙◌, arith, add-one, ◌%◌, ◌≤◌, map, sym, bit_or, length-append}
 use Rattle.std.specs.List.{sum_by, enumerate_from, All}
-use Rattle.std.proofs.Math.Nat.{pow-suc, pow-zero, mul_assoc, mul-suc, mul-zero, mul-le-mul_left}
+use Rattle.std.proofs.Math.Nat.{pow-suc, pow-zero, mul_assoc, mul-suc, mul-zero, mul-le-mul_left, mod-eq_of_lt}
 use Rattle.std.proofs.lemmas.List.Sums.{sum_by-cons}
-use Rattle.std.proofs.lemmas.List.Elements.{All-head, All-tail}
-use Rattle.std.proofs.lemmas.Nat.{same_from_place, pow-add}
-use Rattle.multihash.specs.Bytes.{place_value}
+use Rattle.std.proofs.lemmas.List.Elements.{All-head, All-tail, All-map}
+use Rattle.std.proofs.lemmas.Nat.{same_from_place, pow-add, mod_below, or_comm, or_shifted}
+use Rattle.multihash.specs.Bytes.{place_value, IsBytes}
+use Rattle.std.proofs.lemmas.List.{get_or_append_left, get_or-append-add, length-map, map-append}
+use Rattle.multihash.specs.Varint.{IsMarked, marked}
 
 -- the value of digits of which the first has the place k
 abbrev value_from : ℕ → ℕ → List ℕ → ℕ
@@ -38,7 +40,7 @@ place_value_below base (d ∷ ds) h =
     rw (place_value-cons base d ds, pow-suc base (length ds))
     (omega (arith, mul-le-mul_left base ih))
 
--- of two lists behind one another
+-- of two concatenated lists
 pub place_value_append : (base : ℕ) (xs ys : List ℕ)
     → place_value base (xs ++ ys) ≡ place_value base xs + place_value base ys * base ^ length xs
 place_value_append base [] ys = rw (place_value-nil base, pow-zero base) (omega arith)
@@ -56,7 +58,7 @@ pub pow_power : (k i : ℕ) → 2 ^ (k * i) ≡ (2 ^ k) ^ i
 pow_power k zero = rw (mul-zero k, pow-zero (2 ^ k)) refl
 pow_power k (suc i) = rw (mul-suc k i, pow-add 2 (k * i) k, pow_power k i, pow-suc (2 ^ k) i) refl
 
--- a number has one list of so many digits
+-- a number has one list of that many digits
 pub place_value_unique : (base : ℕ) (ds es : List ℕ) → All (λ d. d < base) ds → All (λ d. d < base) es
     → length ds ≡ length es → place_value base ds ≡ place_value base es → ds ≡ es
 place_value_unique base [] [] p q l v = refl
@@ -69,3 +71,55 @@ place_value_unique base (d ∷ ds) (e ∷ es) p q l v =
     let rest : ds ≡ es = place_value_unique base ds es (All-tail (λ x. x < base) d ds p) (All-tail (λ x. x < base) e es q)
     (omega arith) same.0 in
     cc (same.1, rest)
+
+-- what holds of each of two joined lists holds of each of the first, and of the second
+pub All-append_left : {X : Type 0} (P : X → Type 0) (xs ys : List X) → All P (xs ++ ys) → All P xs
+All-append_left P xs ys all k d below =
+    rw (← get_or_append_left xs ys d k below) (all k d (omega (arith, length-append xs ys)))
+
+pub All-append_right : {X : Type 0} (P : X → Type 0) (xs ys : List X) → All P (xs ++ ys) → All P ys
+All-append_right P xs ys all k d below =
+    rw (← get_or-append-add xs ys k d) (all (length xs + k) d (omega (arith, length-append xs ys)))
+
+abbrev pub IsDigit : ℕ → Type 0
+IsDigit d = d < 128
+
+-- digits and their continuation bytes
+pub All-marked : (ds : List ℕ) → All IsMarked (marked ds)
+All-marked ds = All-map IsMarked (λ digit. digit + 128) ds (λ k d below. omega arith)
+
+-- the low seven bits of each byte
+abbrev pub low_digits : List ℕ → List ℕ
+low_digits bytes = map (λ b. b % 128) bytes
+
+pub low_digits_below : (bytes : List ℕ) → All IsDigit (low_digits bytes)
+low_digits_below bytes = All-map IsDigit (λ b. b % 128) bytes (λ k d below. mod_below _ 128 (omega arith))
+
+pub marked-low_digits : (bytes : List ℕ) → IsBytes bytes → All IsMarked bytes → marked (low_digits bytes) ≡ bytes
+marked-low_digits [] bytes all = refl
+marked-low_digits (b ∷ bs) bytes all =
+    let small : b < 256 = All-head (λ b. b < 256) b bs bytes in
+    let large : 128 ≤ b = All-head IsMarked b bs all in
+    let head : b % 128 + 128 ≡ b = omega arith in
+    cc (head, marked-low_digits bs (All-tail (λ b. b < 256) b bs bytes) (All-tail IsMarked b bs all))
+
+pub low_digits-marked : (ds : List ℕ) → All IsDigit ds → low_digits (marked ds) ≡ ds
+low_digits-marked [] all = refl
+low_digits-marked (d ∷ ds) all =
+    let small : d < 128 = All-head IsDigit d ds all in
+    let head : (d + 128) % 128 ≡ d = omega arith in
+    cc (head, low_digits-marked ds (All-tail IsDigit d ds all))
+
+-- the digits of two concatenated lists, by the code's shift and `|`
+pub or_digits : (front back : List ℕ) (i : ℕ) → length front ≡ i → place_value 128 (low_digits (front ++ back)) < 2 ^ 64
+    → bit_or (place_value 128 (low_digits front)) (place_value 128 (low_digits back) * 2 ^ (7 * i) % 2 ^ 64)
+    ≡ place_value 128 (low_digits (front ++ back))
+or_digits front back i long fits =
+    let low = place_value 128 (low_digits front) in
+    let high = place_value 128 (low_digits back) in
+    let place : 128 ^ length (low_digits front) ≡ 2 ^ (7 * i) = rw (length-map front (λ b. b % 128), long) (sym (pow_power 7 i)) in
+    let whole : place_value 128 (low_digits (front ++ back)) ≡ high * 2 ^ (7 * i) + low =
+    rw (map-append (λ b. b % 128) front back, place_value_append 128 (low_digits front) (low_digits back), place) (omega arith) in
+    let under : low < 2 ^ (7 * i) = omega (arith, place_value_below 128 (low_digits front) (low_digits_below front), place) in
+    let alone : high * 2 ^ (7 * i) < 2 ^ 64 = omega (arith, whole, fits) in
+    rw (mod-eq_of_lt alone, or_comm low (high * 2 ^ (7 * i)), or_shifted high (7 * i) low under) (sym whole)

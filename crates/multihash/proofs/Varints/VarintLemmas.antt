@@ -1,19 +1,19 @@
--- One varint a number, and one front an input.
-use Rattle.std.proofs.Common.{◌≡◌, ℕ, zero, suc, ◌+◌, ◌-◌, ◌%◌, cond, ltb, ◌^◌, ◌<◌, ◌≤◌, List, [], ◌∷◌, ◌++◌, length, refl, sym, ap, ◌∙◌, arith, inl, inr, append_assoc, append-nil}
+-- One varint a number, how long it is, and one front an input.
+use Rattle.std.proofs.Common.{◌≡◌, ℕ, zero, suc, ◌+◌, ◌-◌, ◌%◌, cond, ltb, ◌^◌, ◌<◌, ◌≤◌, List, [], ◌∷◌, ◌++◌, length, refl, sym, ap, ◌∙◌, arith, inl, inr, append_assoc, append-nil, ◌*◌, ◌/◌, length-append}
 use Rattle.std.specs.List.{All}
 use Rattle.std.proofs.Math.Nat.{lt_of_not-le, mod-eq_of_lt, mul-le-mul_right, pow-le-pow_right}
 use Rattle.std.proofs.lemmas.Bool.{cases_lt, lt-ltb, le-ltb}
 use Rattle.std.proofs.lemmas.List.{length-map, length_push, map_push, same_from_push}
 use Rattle.std.proofs.lemmas.List.Elements.{All-nil, All-head, All-tail, All-push}
 use Rattle.multihash.specs.Bytes.{IsBytes, place_value}
-use Rattle.multihash.specs.Varint.{varint_limit, max_marked, last_byte_limit, IsMarked, marked, IsVarint, IsOverflow}
-use Rattle.multihash.specs.Varint.{IsNotMinimal, VarintFault, insufficient, overflow, not_minimal, HasFaultyFront}
-use Rattle.multihash.proofs.Varints.DigitLemmas.{place_value_below, place_value_last, place_value_unique}
-use Rattle.multihash.proofs.Varints.MarkedLemmas.{All-append_left, All-append_right, All-marked, IsDigit, low_digits, low_digits_below, marked-low_digits, low_digits-marked}
+use Rattle.multihash.specs.Varint.{varint_limit, max_marked, last_byte_limit, IsMarked, marked, IsVarint, IsOverflow, IsNotMinimal, VarintFault, insufficient, overflow, not_minimal, HasFaultyFront}
+use Rattle.multihash.proofs.Varints.DigitLemmas.{place_value_below, place_value_last, place_value_unique, pow_power, All-append_left, All-append_right, All-marked, IsDigit, low_digits, low_digits_below, marked-low_digits, low_digits-marked}
+use Rattle.std.specs.Int.{w64, leading_zeros}
+use Rattle.std.proofs.lemmas.Nat.{leading_top}
 
 -- ---- how long a varint is
 
--- a number of so few digits has no longer varint, since a last digit of zero stands alone
+-- a number of so few digits has no longer varint, since a last digit of zero is alone
 pub front_within : (k n : ℕ) (bytes : List ℕ) (v : IsVarint n bytes) → n < 128 ^ suc k → length v.front ≤ k
 front_within k n bytes v small =
     let base : 0 < 128 = omega arith in
@@ -44,7 +44,7 @@ varint_unique n a b v w =
     let same = same_from_push v.front w.front v.last w.last digits in
     cc (v.spelled, w.spelled, same.0, same.1)
 
--- ---- what bytes spell
+-- ---- what bytes encode
 
 -- the digits of few enough bytes make a number in range
 pub low_digits_in_range : (ms : List ℕ) (b : ℕ) → length ms ≤ max_marked → (length ms ≡ max_marked → b < last_byte_limit)
@@ -63,7 +63,7 @@ low_digits_in_range ms b few most =
           (omega (arith, rw long at (place_value_below 128 (low_digits ms) (low_digits_below ms)), most (omega (arith, few))))
     ]
 
--- marked bytes that are few enough, and a last byte that may end them, are a varint
+-- continuation bytes that are few enough, and a last byte that may end them, are a varint
 pub varint_from_bytes : (ms : List ℕ) (b : ℕ) → IsBytes ms → All IsMarked ms → b < 128 → length ms ≤ max_marked
     → (length ms ≡ max_marked → b < last_byte_limit) → (b ≡ 0 → ms ≡ [])
     → IsVarint (place_value 128 (low_digits (ms ++ b ∷ []))) (ms ++ b ∷ [])
@@ -77,7 +77,7 @@ varint_from_bytes ms b bytes all small few most minimal = record {
   spelled = ap (λ front. front ++ b ∷ []) (sym (marked-low_digits ms bytes all));
 }
 
--- marked bytes and what ends them as none should
+-- continuation bytes and what ends them as none should
 pub overflow_behind : (ms : List ℕ) (b : ℕ) (rest : List ℕ) → All IsMarked ms → length ms ≡ max_marked → last_byte_limit ≤ b
     → IsOverflow (ms ++ b ∷ rest)
 overflow_behind ms b rest all most large =
@@ -88,7 +88,7 @@ zero_behind ms rest all some few = record { front = ms; rest = rest; all_marked 
 
 -- ---- the front of an input
 
--- what stands at the front of an input: a varint's number and what follows, or a fault
+-- what is at the front of an input: a varint's number and what follows, or a fault
 pub data Front : Type 0 where
   number : ℕ → List ℕ → Front
   fault : VarintFault → Front
@@ -99,13 +99,13 @@ HasFront x (fault f) = HasFaultyFront f x
 
 -- ---- computed
 
--- behind these marked bytes, the last byte and what follows it
+-- after these continuation bytes, the last byte and what follows it
 abbrev ends_with : List ℕ → ℕ → List ℕ → Front
 ends_with [] b rest = number (place_value 128 (low_digits (b ∷ []))) rest
 ends_with (m ∷ ms) zero rest = fault not_minimal
 ends_with (m ∷ ms) (suc b) rest = number (place_value 128 (low_digits ((m ∷ ms) ++ suc b ∷ []))) rest
 
--- behind these marked bytes, where so many more may come
+-- after these continuation bytes, where that many more may come
 abbrev front_from : ℕ → List ℕ → List ℕ → Front
 front_from left ms [] = fault insufficient
 front_from zero ms (b ∷ rest) = cond (ltb b last_byte_limit) (ends_with ms b rest) (fault overflow)
@@ -114,7 +114,7 @@ front_from (suc left) ms (b ∷ rest) = cond (ltb b 128) (ends_with ms b rest) (
 abbrev pub front_of : List ℕ → Front
 front_of x = front_from max_marked [] x
 
--- marked bytes stand in front of what follows them
+-- continuation bytes precede what follows them
 front_run : (ms : List ℕ) (n left : ℕ) (before y : List ℕ) → All IsMarked ms → n ≡ length ms + left
     → front_from n before (ms ++ y) ≡ front_from left (before ++ ms) y
 front_run [] n left before y all room = let same : n ≡ left = omega (arith, room) in rw (same, append-nil before) refl
@@ -203,6 +203,31 @@ front_has (suc left) ms (b ∷ rest) all room bytes =
 pub front_of_has : (x : List ℕ) → IsBytes x → HasFront x (front_of x)
 front_of_has x bytes = front_has max_marked [] x (All-nil IsMarked) refl bytes
 
--- a number and what follows is all that stands in front
+-- a number and what follows is all that is at the front
 pub same_number : (x : List ℕ) (m n : ℕ) (r q : List ℕ) → HasFront x (number m r) → HasFront x (number n q) → (m ≡ n) × (r ≡ q)
 same_number x m n r q h k = let same = front_unique x (number m r) (number n q) h k in (cc, cc)
+
+-- a varint has a byte more than its front
+pub varint_bytes : (n : ℕ) (bytes : List ℕ) (v : IsVarint n bytes) → length bytes ≡ length v.front + 1
+varint_bytes n bytes v =
+    omega (arith, ap length v.spelled, length-append (marked v.front) (v.last ∷ []), length-map v.front (λ digit. digit + 128))
+
+pub varint_longest : (n : ℕ) (bytes : List ℕ) → IsVarint n bytes → length bytes ≤ max_marked + 1
+varint_longest n bytes v = omega (arith, varint_bytes n bytes v, (varint_length n bytes v).0)
+
+-- a number above zero has as many bytes as its bits need, seven in each
+pub varint_bits : (n : ℕ) (bytes : List ℕ) → IsVarint n bytes → 0 < n → length bytes ≡ (70 - leading_zeros w64 n) / 7
+varint_bits n bytes v some =
+    let two : 0 < 2 = omega arith in
+    let top = leading_top 64 n some (omega (arith, v.in_range)) in
+    let above : 2 ^ suc top.0 ≤ 2 ^ (7 * suc (top.0 / 7)) = pow-le-pow_right two (omega arith) in
+    let places : 2 ^ (7 * suc (top.0 / 7)) ≡ 128 ^ suc (top.0 / 7) = pow_power 7 (suc (top.0 / 7)) in
+    let most : length v.front ≤ top.0 / 7 = front_within (top.0 / 7) n bytes v (omega (arith, top.3, above, places)) in
+    let long : length (v.front ++ v.last ∷ []) ≡ suc (length v.front) = omega (arith, length_push v.front v.last) in
+    let under : n < 128 ^ suc (length v.front) = rw (v.value, long) at (place_value_below 128 (v.front ++ v.last ∷ []) v.digits) in
+    let same : 2 ^ (7 * suc (length v.front)) ≡ 128 ^ suc (length v.front) = pow_power 7 (suc (length v.front)) in
+    let least : top.0 < 7 * suc (length v.front) = lt_of_not-le (λ high.
+    let large : 2 ^ (7 * suc (length v.front)) ≤ 2 ^ top.0 = pow-le-pow_right two high in
+    omega (arith, large, top.2, under, same)) in
+    let bits : leading_zeros w64 n + suc top.0 ≡ 64 = top.1 in
+    omega (arith, varint_bytes n bytes v, bits, most, least)

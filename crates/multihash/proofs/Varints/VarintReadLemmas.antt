@@ -1,4 +1,4 @@
--- What the loop over a varint's bytes keeps, and what was taken where it ends.
+-- What the loop over a varint's bytes keeps, and what was consumed where it ends.
 use Rattle.std.proofs.Common.{◌≡◌, ℕ, ◌+◌, ◌*◌, ◌%◌, ◌^◌, ◌<◌, ◌≤◌, ◌⊎◌, List, [], ◌∷◌, ◌++◌, length, Option, refl, sym, ap, ◌∙◌, subst, inl, inr, arith, append_assoc, bit_and, bit_or}
 use Rattle.std.specs.List.{All}
 use Rattle.std.specs.Io.KnownBytes.{IsAtEnd, prepend_known}
@@ -7,19 +7,17 @@ use Rattle.std.proofs.lemmas.Nat.{and_mask}
 use Rattle.std.proofs.lemmas.List.{length_push, nil_from_length}
 use Rattle.std.proofs.lemmas.List.Elements.{All-nil, All-push}
 use Rattle.multihash.specs.Bytes.{IsBytes, IsProperBeginning, place_value}
-use Rattle.multihash.specs.Varint.{max_marked, last_byte_limit, IsMarked, VarintFault, insufficient}
-use Rattle.multihash.specs.Varint.{overflow, not_minimal, IsInsufficient, HasFaultyFront}
+use Rattle.multihash.specs.Varint.{max_marked, last_byte_limit, IsMarked, VarintFault, insufficient, overflow, not_minimal, IsInsufficient, HasFaultyFront}
 use Rattle.multihash.specs.Fault.{Fault}
 use Rattle.multihash.specs.Reading.{Takes}
 use Rattle.multihash.specs.Refusal.{Refusal, of_io, of_varint}
 use Rattle.multihash.specs.Taking.{TakesVarint, TakesAtVarintRefusal}
-use Rattle.multihash.proofs.Varints.DigitLemmas.{place_value-nil, place_value-cons}
-use Rattle.multihash.proofs.Varints.MarkedLemmas.{low_digits, or_digits}
+use Rattle.multihash.proofs.Varints.DigitLemmas.{place_value-nil, place_value-cons, low_digits, or_digits}
 use Rattle.multihash.proofs.Varints.VarintLemmas.{low_digits_in_range, varint_from_bytes, overflow_behind, zero_behind}
 use Rattle.multihash.proofs.Readings.ReadingLemmas.{Takes-none, Takes-joined}
-use Rattle.multihash.proofs.Readings.ShortestLemmas.{before_step}
+use Rattle.multihash.proofs.Readings.SettlingLemmas.{before_step}
 
--- so many bytes were taken, all of them marked, and the sum is the value of their digits
+-- that many bytes were consumed, all of them marked, and the sum is the value of their digits
 pub record ReadsMarked (old now : Option (List ℕ)) (sum i : ℕ) : Type 0 where
   pub front : List ℕ
   pub takes : Takes old front now
@@ -60,7 +58,7 @@ abbrev pub with_byte : ℕ → ℕ → ℕ → ℕ
 with_byte sum byte i = bit_or sum (bit_and byte 127 * 2 ^ (7 * i) % 2 ^ 64)
 
 module _ (old now : Option (List ℕ)) (sum i : ℕ) (h : ReadsMarked old now sum i) where
-  -- what begins marked bytes and one more ends inside a varint
+  -- what begins continuation bytes and one more ends inside a varint
   before_last : (byte : ℕ) (shorter : List ℕ) → IsProperBeginning shorter (h.front ++ byte ∷ []) → IsInsufficient shorter
   before_last byte shorter begins =
       before_step (h.front ++ byte ∷ []) shorter
@@ -74,7 +72,7 @@ module _ (old now : Option (List ℕ)) (sum i : ℕ) (h : ReadsMarked old now su
   whole : IsInsufficient h.front
   whole = record { few = omega (arith, h.few, h.long); all_marked = h.marked }
 
-  -- the bytes that were taken show a fault
+  -- the bytes that were consumed show a fault
   refused : (new : Option (List ℕ)) (fault : VarintFault) (taken : List ℕ) (e : Refusal) → e ≡ of_varint fault → HasFaultyFront fault taken
       → ((shorter : List ℕ) → IsProperBeginning shorter taken → IsInsufficient shorter) → (fault ≡ insufficient → IsAtEnd new)
       → Takes old taken new → TakesAtVarintRefusal e old new
@@ -143,7 +141,7 @@ module _ (old now : Option (List ℕ)) (sum i : ℕ) (h : ReadsMarked old now su
         value = with_byte_is;
       }
 
--- what is known behind `a && b`
+-- what is known after `a && b`
 pub first_of_two : (A B : Type 0) → (A × B) ⊎ (A → ⊥) → A → B
 first_of_two A B (inl both) a = both.1
 first_of_two A B (inr none) a = absurd (none a)

@@ -8,10 +8,9 @@ use Rattle.std.proofs.lemmas.List.Elements.{All-nil, All-push}
 use Rattle.std.proofs.lemmas.Bool.{cases_lt}
 use Rattle.multihash.specs.Bytes.{place_value}
 use Rattle.multihash.specs.Varint.{varint_limit, max_marked, marked, IsVarint}
-use Rattle.multihash.proofs.Varints.DigitLemmas.{place_value-nil, place_value_last}
-use Rattle.multihash.proofs.Varints.MarkedLemmas.{IsDigit}
+use Rattle.multihash.proofs.Varints.DigitLemmas.{place_value-nil, place_value_last, IsDigit}
 
--- so many digits were written, and the rest stands for those still to come
+-- that many digits were written, and the rest stands for those still to come
 pub record Wrote (now : List ℕ) (len n rest : ℕ) : Type 0 where
   pub front : List ℕ
   pub long : length front ≡ len

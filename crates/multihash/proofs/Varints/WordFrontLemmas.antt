@@ -1,22 +1,75 @@
--- The varint or the fault at the front of an input, from the word of its first bytes.
-use Rattle.std.proofs.Common.{◌≡◌, ℕ, zero, suc, ◌+◌, ◌-◌, ◌*◌, ◌/◌, ◌%◌, ◌^◌, ◌<◌, ◌≤◌, List, ◌∷◌, ◌++◌, length, get_or, take, drop, sym, ap, ◌∙◌, arith, bit_and, bit_or}
-use Rattle.std.proofs.Math.Nat.{add-zero, lt_of_not-le, zero-add}
-use Rattle.std.proofs.Math.Seq.{take-add}
-use Rattle.std.proofs.lemmas.Nat.{and_mask}
-use Rattle.std.proofs.lemmas.List.{get_or_past, get_or-take, get_or-drop, length-take, length-take-le, nil_from_length}
-use Rattle.std.proofs.lemmas.List.{take_more, take-take, take_all, take-append-drop, drop_more, drop-take}
-use Rattle.std.proofs.lemmas.List.Elements.{All-nil, All-take, All-drop, All-more}
+-- The word that the bytes of a slice fill, and what it shows of the varint at their front.
+use Rattle.std.proofs.Common.{◌≡◌, ℕ, zero, suc, ◌-◌, ◌<◌, ◌≤◌, List, [], ◌++◌, length, get_or, take, drop, replicate, refl, sym, ap, ◌∙◌, arith, length-append, ◌+◌, ◌*◌, ◌/◌, ◌%◌, ◌^◌, ◌∷◌, bit_and, bit_or}
+use Prim.Native.Nat.{min}
+use Rattle.std.specs.Int.{byte_worth, sum_through, from_le_bytes, w128}
+use Rattle.std.proofs.Math.Seq.{take-suc, take-add}
+use Rattle.std.proofs.lemmas.List.{drop-replicate, length-replicate, length-take, length-take-le, take_min, take_all, get_or_past, get_or-take, get_or-drop, nil_from_length, take_more, take-take, take-append-drop, drop_more, drop-take}
+use Rattle.std.proofs.lemmas.List.Elements.{All-from_get_or, All-nil, All-take, All-drop, All-more}
 use Rattle.multihash.specs.Bytes.{IsBytes, place_value}
-use Rattle.multihash.specs.Varint.{max_marked, last_byte_limit, IsMarked, IsVarint, IsInsufficient, IsOverflow, IsNotMinimal}
 use Rattle.multihash.specs.Word.{IsFrontWord, BeginsMarked, digits_low}
-use Rattle.multihash.proofs.Varints.MarkedLemmas.{low_digits, or_digits}
+use Rattle.multihash.proofs.Varints.DigitLemmas.{place_value-nil, place_value-cons, place_value_append, place_value_last, low_digits, or_digits}
+use Rattle.std.proofs.Math.Nat.{add-zero, lt_of_not-le, zero-add}
+use Rattle.std.proofs.lemmas.Nat.{and_mask}
+use Rattle.multihash.specs.Varint.{max_marked, last_byte_limit, IsMarked, IsVarint, IsInsufficient, IsOverflow, IsNotMinimal}
 use Rattle.multihash.proofs.Varints.VarintLemmas.{varint_from_bytes, overflow_behind, zero_behind}
-use Rattle.multihash.proofs.Varints.WordLemmas.{byte_at, byte_of, halves, low_bytes, high_bytes, digits_low_of}
-use Rattle.multihash.proofs.Varints.StopLemmas.{stops, stop_at, varint_bits, StopsAt, first_unmarked, last_place, too_large, kept_last, few_marked, too_large_byte}
+use Rattle.multihash.proofs.Varints.WordLemmas.{byte_at, byte_of, halves, low_bytes, high_bytes, digits_low_of, stops, stop_at, varint_bits, StopsAt, first_unmarked, last_place, too_large, kept_last, few_marked, too_large_byte}
 
--- ---- where the marked bytes of an input end
+-- ---- filling a word
 
--- further marked bytes behind those that begin the input
+sum_of_bytes : (bs : List ℕ) (n : ℕ) → n < length bs → sum_through (λ i. byte_worth i (get_or bs i 0)) n ≡ place_value 256 (take (suc n) bs)
+sum_of_bytes bs zero within = rw (take-suc bs 0 0 within, place_value-cons 256 (get_or bs 0 0) [], place_value-nil 256) (omega arith)
+sum_of_bytes bs (suc n) within =
+    let long : length (take (suc n) bs) ≡ suc n = length-take-le (suc n) bs (omega arith) in
+    rw (sum_of_bytes bs n (omega arith), take-suc bs (suc n) 0 within, place_value_last 256 (get_or bs (suc n) 0) (take (suc n) bs), long) refl
+
+pub le_word : (bs : List ℕ) → length bs ≡ 16 → from_le_bytes w128 bs ≡ place_value 256 bs
+le_word bs long = sum_of_bytes bs 15 (omega arith) ∙ ap (place_value 256) (take_all 16 bs (omega arith))
+
+zeros : (n : ℕ) → place_value 256 (replicate n 0) ≡ 0
+zeros zero = place_value-nil 256
+zeros (suc n) = place_value-cons 256 0 (replicate n 0) ∙ omega (arith, zeros n)
+
+-- zeros after the bytes change nothing
+pub padded_word : (xs ys : List ℕ) → ys ≡ xs → length xs ≤ 16
+    → from_le_bytes w128 (ys ++ drop (length xs) (replicate 16 0)) ≡ place_value 256 xs
+padded_word xs ys same few =
+    let back = replicate (16 - length xs) 0 in
+    let long : length (ys ++ back) ≡ 16 =
+    omega (arith, length-append ys back, length-replicate {A = ℕ} (16 - length xs) 0, ap length same) in
+    rw (drop-replicate {X = ℕ} (length xs) 16 0, le_word (ys ++ back) long, place_value_append 256 ys back, zeros (16 - length xs), same)
+    (omega arith)
+
+-- ---- a slice
+
+pub bytes_of : (xs : List ℕ) → ((i : ℕ) → get_or xs i 0 < 256) → IsBytes xs
+bytes_of xs each = All-from_get_or (λ b. b < 256) xs 0 (λ i _. each i)
+
+-- the word of a slice's first sixteen bytes
+pub whole_front : (xs front : List ℕ) (word : ℕ) → word ≡ from_le_bytes w128 front → front ≡ take 16 xs → 16 ≤ length xs
+    → IsFrontWord xs word 16
+whole_front xs front word is same enough = record {
+  word_is = is ∙ (le_word front (ap length same ∙ length-take-le 16 xs enough) ∙ ap (place_value 256) same);
+  present_is = omega arith;
+}
+
+-- the word of all bytes of a slice, where they are fewer
+pub all_front : (xs : List ℕ) (word : ℕ) → length xs < 16 → word ≡ place_value 256 xs → IsFrontWord xs word (length xs)
+all_front xs word few is = record {
+  word_is = is ∙ ap (place_value 256) (sym (take_all 16 xs (omega arith)));
+  present_is = omega arith;
+}
+
+-- the word of as many as there are
+pub cut_front : (xs : List ℕ) (n word : ℕ) → n ≡ min 16 (length xs) → word ≡ place_value 256 (take n xs)
+    → IsFrontWord xs word (length (take n xs))
+cut_front xs n word few is = record {
+  word_is = is ∙ ap (place_value 256) (ap (λ (k : ℕ). take k xs) few ∙ take_min 16 xs);
+  present_is = omega (arith, length-take n xs);
+}
+
+-- ---- where the continuation bytes of an input end
+
+-- further continuation bytes after those that begin the input
 begins_more : (xs : List ℕ) (at m : ℕ) → BeginsMarked at xs → ((i : ℕ) → i < m → 128 ≤ get_or xs (at + i) 0) → BeginsMarked (at + m) xs
 begins_more xs at zero begins more = rw (add-zero at) begins
 begins_more xs at (suc m) begins more =
@@ -35,7 +88,7 @@ overflow_at xs begins large =
     (overflow_behind (take max_marked xs) (get_or xs max_marked 0) (drop (max_marked + 1) xs) begins.all_marked
     (length-take-le max_marked xs begins.enough) large)
 
--- so many marked bytes begin the input, and the last is not marked, which counts as zero where the input ends
+-- that many continuation bytes begin the input, and the last is not marked, which counts as zero where the input ends
 pub record EndsAt (xs : List ℕ) (k last : ℕ) : Type 0 where
   pub bytes : IsBytes xs
   pub begins : BeginsMarked k xs
@@ -82,7 +135,7 @@ module _ (xs : List ℕ) (at half : ℕ) (bytes : IsBytes xs) (is : half ≡ pla
       ap (λ (n : ℕ). byte_at n i) is ∙ byte_of (take 8 (drop at xs)) i (All-take (λ b. b < 256) 8 (drop at xs) back_bytes)
       ∙ get_or-take 8 (drop at xs) i 0 few ∙ get_or-drop at xs i 0
 
-  -- its marked bytes, or fewer of them
+  -- its continuation bytes, or fewer of them
   half_begins : (m : ℕ) → BeginsMarked at xs → m ≤ stop_at half → m ≤ 8 → BeginsMarked (at + m) xs
   half_begins m begins run few =
       begins_more xs at m begins (λ i below. rw (← half_byte i (omega arith)) (half_stop.before i (omega arith)))

@@ -1,14 +1,19 @@
--- The bytes of a word, and the number of its digits.
-use Rattle.std.proofs.Common.{◌≡◌, ℕ, zero, suc, ◌+◌, ◌-◌, ◌*◌, ◌/◌, ◌%◌, ◌^◌, ◌<◌, ◌≤◌, List, [], ◌∷◌, length, get_or, take, drop, sym, ap, ◌∙◌, arith, bit_and, bit_or, mul-le-mul_right}
-use Rattle.std.proofs.Math.Nat.{add-zero, mul-suc, mul_assoc}
-use Rattle.std.proofs.lemmas.Nat.{or_comm, or_shifted, shr-shr, shr_high, shl_whole, mod_low, pow-add, pow_pos}
-use Rattle.std.proofs.lemmas.Nat.Bits.{and_high}
-use Rattle.std.proofs.lemmas.List.{get_or-drop}
-use Rattle.std.proofs.lemmas.List.Elements.{All-drop, All-head, All-tail}
+-- The bytes of a word, the number of its digits, and the first byte of half a word that is no continuation byte.
+use Rattle.std.proofs.Common.{◌≡◌, ℕ, zero, suc, ◌+◌, ◌-◌, ◌*◌, ◌/◌, ◌%◌, ◌^◌, ◌<◌, ◌≤◌, List, [], ◌∷◌, length, get_or, take, drop, sym, ap, ◌∙◌, arith, bit_and, bit_or, mul-le-mul_right, replicate, refl, add-one, inl, inr}
+use Rattle.std.proofs.Math.Nat.{add-zero, mul-suc, mul_assoc, lt_of_not-le, pow-le-pow_right}
+use Rattle.std.proofs.lemmas.Nat.{or_comm, or_shifted, shr-shr, shr_high, shl_whole, mod_low, pow-add, pow_pos, and_assoc, and-not, and_comm, and_le_l, and_le_r, and_mask, and_mod, and_shr, field_of, mod_below, mod-pow-add, shr_le, shr_split}
+use Rattle.std.proofs.lemmas.Nat.Bits.{and_high, bit_at-suc, bit_at-zero, bit_at_and, bit_at_cat_low, bit_at_not, bit_at-pow_other, bit_at-trailing_zeros}
+use Rattle.std.proofs.lemmas.List.{get_or-drop, get_or-replicate}
+use Rattle.std.proofs.lemmas.List.Elements.{All-drop, All-head, All-tail, All-replicate}
 use Rattle.multihash.specs.Bytes.{IsBytes, place_value}
 use Rattle.multihash.specs.Word.{digits_low}
-use Rattle.multihash.proofs.Varints.DigitLemmas.{place_value-nil, place_value-cons}
-use Rattle.multihash.proofs.Varints.MarkedLemmas.{low_digits}
+use Rattle.multihash.proofs.Varints.DigitLemmas.{place_value-nil, place_value-cons, low_digits}
+use Prim.Native.Nat.{min}
+use Rattle.std.specs.Int.{w64, bit_at, bit_not, trailing_zeros}
+use Rattle.std.specs.Int.Bits.{and_self}
+use Rattle.std.specs.Int.Count.{trailing_of_zero}
+use Rattle.std.proofs.lemmas.Bool.{cases_lt, cases_eq}
+use Rattle.multihash.specs.Varint.{max_marked, last_byte_limit}
 
 -- ---- bytes
 
@@ -89,3 +94,148 @@ digits_low_of (suc i) (y ∷ ys) all few =
     let above : place_value 256 (y ∷ ys) / 256 ≡ place_value 256 ys = omega (arith, byte_more y ys) in
     rw (digits_low-cons i (place_value 256 (y ∷ ys)), above, place_value-cons 128 (y % 128) (low_digits ys))
     (omega (arith, byte_more y ys, digits_low_of i ys (All-tail (λ b. b < 256) y ys all) (omega arith)))
+
+and_halves : (a b : ℕ) → bit_and a b ≡ bit_and (a / 2) (b / 2) * 2 + bit_and (a % 2) (b % 2)
+and_halves a b = omega (arith, and_shr a b 1, and_mod a b 1)
+
+-- t is the place of the lowest 1 of b: where a has none of b's, `a & (b - 1)` is what a has below it
+and_less : (t a b : ℕ) → bit_at b t ≡ 1 → ((i : ℕ) → i < t → bit_at b i ≡ 0) → bit_and a b ≡ 0 → bit_and a (b - 1) ≡ a % 2 ^ suc t
+and_less zero a b set unset apart =
+    let odd : b % 2 ≡ 1 = omega (arith, set) in
+    let high : (b - 1) / 2 ≡ b / 2 = omega arith in
+    let low : (b - 1) % 2 ≡ 0 = omega arith in
+    omega (arith, rw (high, low) at (and_halves a (b - 1)), and_le_r (a % 2) 0, rw odd at (and_halves a b), and_mask (a % 2) 1, apart)
+and_less (suc t) a b set unset apart =
+    let even : b % 2 ≡ 0 = omega (arith, unset 0 (omega arith)) in
+    let some : 0 < b = omega (arith, set, shr_le b (suc t)) in
+    let high : (b - 1) / 2 ≡ b / 2 - 1 = omega arith in
+    let low : (b - 1) % 2 ≡ 1 = omega arith in
+    let rest = and_less t (a / 2) (b / 2) (sym (bit_at-suc b t) ∙ set) (λ i below. sym (bit_at-suc b i) ∙ unset (suc i) (omega arith))
+    (omega (arith, and_halves a b, apart)) in
+    omega (arith, rw (high, low) at (and_halves a (b - 1)), and_mask (a % 2) 1, rest, rw add-one at (mod-pow-add a (suc t) 1))
+
+-- 128 in each byte
+abbrev pub stop_bits : ℕ
+stop_bits = 9259542123273814144
+
+stop_byte : (i : ℕ) → i < 8 → byte_at stop_bits i ≡ 128
+unfolding place_value
+stop_byte i few = byte_of (replicate 8 128) i (All-replicate (λ b. b < 256) 8 128 (omega arith)) ∙ get_or-replicate 8 i 128 0 few
+
+-- where a byte of the half is unmarked: its highest bit
+abbrev pub stops : ℕ → ℕ
+stops half = bit_and (bit_not w64 half) stop_bits
+
+-- how many continuation bytes begin the half
+abbrev pub stop_at : ℕ → ℕ
+stop_at half = trailing_zeros w64 (stops half) / 8
+
+-- the bits of the half before its first stop bit
+abbrev pub varint_bits : ℕ → ℕ
+varint_bits half = bit_and half ((stops half + (2 ^ 64 - 1)) % 2 ^ 64)
+
+-- the first m bytes are marked, and the next is not, which is a zero after all eight
+pub record StopsAt (half m : ℕ) : Type 0 where
+  pub before : (i : ℕ) → i < m → 128 ≤ byte_at half i
+  pub here : byte_at half m < 128
+  pub varint : varint_bits half ≡ half % 2 ^ (8 * (m + 1))
+  pub none : stops half ≡ 0 → m ≡ 8
+  pub some : ¬ (stops half ≡ 0) → m < 8
+
+module _ (half : ℕ) (fits : half < 2 ^ 64) where
+  bit_of_stops : (i r : ℕ) → i < 8 → r < 8 → bit_at (stops half) (8 * i + r) ≡ min (1 - bit_at half (8 * i + r)) (bit_at 128 r)
+  bit_of_stops i r few low =
+      let above = stop_bits / 2 ^ (8 * i) in
+      let stop : bit_at stop_bits (8 * i + r) ≡ bit_at 128 r =
+      ap (λ (n : ℕ). n % 2) (sym (shr-shr stop_bits (8 * i) r)) ∙ ap (λ (n : ℕ). bit_at n r) (sym (shr_split above 8))
+      ∙ bit_at_cat_low (above / 2 ^ 8) 8 (above % 2 ^ 8) r low ∙ ap (λ (n : ℕ). bit_at n r) (stop_byte i few) in
+      rw (bit_at_and (bit_not w64 half) stop_bits (8 * i + r), bit_at_not w64 half (8 * i + r) fits (omega arith), stop) refl
+
+  stop_of : (i : ℕ) → i < 8 → bit_at (stops half) (8 * i + 7) ≡ 1 - byte_at half i / 128
+  stop_of i few = bit_of_stops i 7 few (omega arith) ∙ omega (arith, shr-shr half (8 * i) 7)
+
+  -- no byte is unmarked
+  none_stops : stops half ≡ 0 → StopsAt half (stop_at half)
+  none_stops none =
+      let all : stop_at half ≡ 8 = ap (λ (n : ℕ). trailing_zeros w64 n / 8) none ∙ ap (λ (n : ℕ). n / 8) (trailing_of_zero 64) in
+      rw all (record {
+        before = λ i few. omega (arith, stop_of i few, ap (λ (n : ℕ). bit_at n (8 * i + 7)) none, bit_at-zero (8 * i + 7));
+        here = omega arith;
+        varint = ap (λ (n : ℕ). bit_and half ((n + (2 ^ 64 - 1)) % 2 ^ 64)) none ∙ and_mask half 64 ∙ omega arith;
+        none = λ _. refl;
+        some = λ some. absurd (some none);
+      })
+
+  some_stops : 0 < stops half → StopsAt half (stop_at half)
+  some_stops some =
+      let place = trailing_zeros w64 (stops half) in
+      let m = place / 8 in
+      let stops_below : stops half < 2 ^ 64 = omega (arith, and_le_r (bit_not w64 half) stop_bits) in
+      let (below, set, unset) = bit_at-trailing_zeros w64 (stops half) some stops_below in
+      let split : place ≡ 8 * m + place % 8 = omega arith in
+      let here : bit_at (stops half) (8 * m + place % 8) ≡ 1 = ap (bit_at (stops half)) (sym split) ∙ set in
+      let bit = bit_of_stops m (place % 8) (omega arith) (omega arith) in
+      let highest : 6 < place % 8 = lt_of_not-le (λ low. omega (arith, here, bit, bit_at-pow_other 7 (place % 8) (λ e. omega arith))) in
+      let seven : place % 8 ≡ 7 = omega arith in
+      let apart : bit_and half (stops half) ≡ 0 =
+      rw (← and_assoc stop_bits half (bit_not w64 half), and_comm half (bit_not w64 half))
+      (omega (arith, and_le_l (bit_and (bit_not w64 half) half) stop_bits, and-not 64 half half fits fits, and_self half)) in
+      let less : (stops half + (2 ^ 64 - 1)) % 2 ^ 64 ≡ stops half - 1 = omega (arith, stops_below) in
+      let places : suc place ≡ 8 * (m + 1) = omega arith in
+      record {
+        before = λ i few. omega (arith, unset (8 * i + 7) (omega arith), stop_of i (omega arith));
+        here = omega (arith, rw seven at here, stop_of m (omega arith));
+        varint = ap (bit_and half) less ∙ rw places at (and_less place half (stops half) set unset apart);
+        none = λ none. absurd (omega arith);
+        some = λ _. omega arith;
+      }
+
+  pub first_unmarked : StopsAt half (stop_at half)
+  first_unmarked = elim (cases_lt 0 (stops half)) [
+    | inl some ↦ some_stops some
+    | inr none ↦ none_stops (omega arith)
+  ]
+
+-- the place in the high half of the byte that may be too large
+abbrev pub last_place : ℕ
+last_place = max_marked - 8
+
+-- what the code compares a high half with
+abbrev pub too_large : ℕ
+too_large = last_byte_limit * 256 ^ last_place
+
+module _ (half m : ℕ) (stop : StopsAt half m) where
+  -- the unmarked byte is the highest
+  pub kept_last : varint_bits half / 2 ^ (8 * m) ≡ byte_at half m
+  kept_last =
+      let places : 8 * (m + 1) ≡ 8 + 8 * m = omega arith in
+      ap (λ (n : ℕ). n / 2 ^ (8 * m)) (rw places at stop.varint) ∙ field_of half 8 (8 * m)
+
+  -- a byte up to it counts at its place
+  kept_above : last_place ≤ m → byte_at half last_place * 256 ^ last_place ≤ varint_bits half
+  kept_above run =
+      let places : 8 * (m + 1) ≡ 8 * (m - last_place) + 8 * (last_place + 1) = omega arith in
+      omega (arith, rw places at stop.varint, mod-pow-add half (8 * (m - last_place)) (8 * (last_place + 1)), field_of half 8 (8 * last_place))
+
+  -- no more continuation bytes than a varint has
+  pub few_marked : varint_bits half < too_large → m ≤ last_place
+  few_marked small =
+      let few : m < suc last_place = lt_of_not-le (λ more. omega (arith, small, kept_above (omega arith), stop.before last_place (omega arith))) in
+      omega arith
+
+  -- a half that is no less has a byte that is too large
+  pub too_large_byte : too_large ≤ varint_bits half → (last_place ≤ m) × (last_byte_limit ≤ byte_at half last_place)
+  too_large_byte large = elim (cases_lt m last_place) [
+    | inl few ↦
+        let base : 0 < 2 = omega arith in
+        let places : 8 * (m + 1) ≤ 8 * last_place = omega arith in
+        let most : 2 ^ (8 * (m + 1)) ≤ 2 ^ (8 * last_place) = pow-le-pow_right base places in
+        absurd (omega (arith, large, stop.varint, most, mod_below half (2 ^ (8 * (m + 1))) (pow_pos (8 * (m + 1)))))
+    | inr run ↦ (
+      run,
+      elim (cases_eq m last_place) [
+        | inl exact ↦ omega (arith, large, rw exact at kept_last)
+        | inr more ↦ omega (arith, run, stop.before last_place (omega (arith, run)))
+      ],
+    )
+  ]

@@ -3,12 +3,11 @@ use Rattle.std.proofs.Common.{◌≡◌, ℕ, ◌<◌, ◌≤◌, ◌+◌, List,
 use Rattle.multihash.specs.Pair.{Pair}
 use Rattle.multihash.specs.Varint.{IsVarint, max_marked, varint_limit, marked}
 use Rattle.multihash.specs.Encoding.{IsEncoding}
-use Rattle.std.proofs.lemmas.List.{take_at, append_cancel_left, append_cancel_right}
+use Rattle.std.proofs.lemmas.List.{take_at, append_cancel_left, append_cancel_right, drop-replicate}
 use Rattle.std.proofs.lemmas.List.Elements.{All-append, All-push, All-same, All-map, All-head}
 use Rattle.multihash.specs.Bytes.{IsBytes}
-use Rattle.multihash.proofs.Varints.MarkedLemmas.{All-append_left, All-append_right}
-use Rattle.multihash.proofs.Varints.LengthLemmas.{varint_bytes, varint_longest}
-use Rattle.multihash.proofs.Varints.VarintLemmas.{varint_unique, front_within, same_number}
+use Rattle.multihash.proofs.Varints.DigitLemmas.{All-append_left, All-append_right}
+use Rattle.multihash.proofs.Varints.VarintLemmas.{varint_bytes, varint_longest, varint_unique, front_within, same_number}
 use Rattle.multihash.proofs.Varints.VarintWriteLemmas.{varint_exists}
 
 -- the varints of a pair's code and of its digest's length, and the digest
@@ -90,3 +89,13 @@ encoding_bytes p bytes digest e =
     All-same (λ b. b < 256) bytes (e.code ++ (e.size ++ p.digest)) e.spelled
     (All-append (λ b. b < 256) e.code (e.size ++ p.digest) (varint_is_bytes p.code e.code e.is_code)
     (All-append (λ b. b < 256) e.size p.digest (varint_is_bytes (length p.digest) e.size e.is_size) digest))
+
+-- a digest in front of a buffer is the pair's
+pub pair_in_front : (code size : ℕ) (digest front rest : List ℕ) → size ≡ length digest → front ≡ digest
+    → ◌≡◌ {A = Pair} (record { code = code; digest = take size (front ++ rest) }) (record { code = code; digest = digest })
+pair_in_front code size digest front rest long same =
+    same_pair (record { code = code; digest = take size (front ++ rest) }) (record { code = code; digest = digest }) refl
+    (take_at front rest size (ap length same ∙ sym long) ∙ same)
+
+-- what follows bytes that are copied over zeros
+pub ruleset zeros_after = (drop-replicate)

@@ -2,8 +2,7 @@
 ghost use Rattle.std.specs.Prelude.{◌≡◌, ◌<◌, ◌≤◌, ◌+◌, vec_len, vec_capacity, Some, Ok, [], ◌++◌, min, length, take, drop, true, false, IfOk, IfErr, OnOk, OnErr, IsOk, IsErr, ◌↔◌};
 ghost use Rattle.multihash.specs.Fault.{IsOutOfMemory};
 ghost use Rattle.multihash.specs.Reading.{ReadLaws, ReadExactLaws};
-ghost use Rattle.multihash.specs.Writing.{WriteLaws, WriteAllLaws};
-ghost use Rattle.multihash.specs.Places.{GivesUpFor, GivesUpFor-none, GivesUpFor-joined, AppendsAtEnd, AppendsAtEnd-none, AppendsAtEnd-joined};
+ghost use Rattle.multihash.specs.Writing.{WriteLaws, WriteAllLaws, GivesUpFor, GivesUpFor-none, GivesUpFor-joined, AppendsAtEnd, AppendsAtEnd-none, AppendsAtEnd-joined};
 
 use super::{Error, Read, Write};
 

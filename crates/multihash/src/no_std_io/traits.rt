@@ -69,7 +69,7 @@ pub trait Write {
     // These bytes have been appended between the first state and the second.
     ghost appended: { Self → List ℕ → Self → Type 0 };
 
-    // It takes no more bytes.
+    // It accepts no more bytes.
     ghost full: { Self → Type 0 };
 
     // The number of times that the writer has failed.
@@ -108,8 +108,10 @@ pub trait Write {
         Ok(())
     }
 
+    // Between a state and itself no bytes are appended.
     ghost appends_nothing: { (w : Self) → appended w [] w };
 
+    // What two calls append, one after the other, is concatenated.
     ghost appends_joined: { (a b c : Self) (x y : List ℕ) →
         appended a x b → appended b y c → appended a (x ++ y) c };
 }

@@ -23,8 +23,8 @@ const HIGH_LEN: usize = MAX_LEN - HALF_LEN;
 // A high half of this value or more has a byte that makes the varint overflow.
 const TOO_LARGE: u64 = (LAST_BYTE_LIMIT as u64) << (8 * (MAX_MARKED - HALF_LEN));
 
-/// Reads the varint at the front of the bytes from one word: its number and its length. Returns none if
-/// it is malformed; `front_fault` then says why.
+// The number and the length of the varint at the front of the bytes, from one word. None if it is
+// malformed; `front_fault` then says why.
 #[inline(always)]
 pub(crate) fn read_front(bytes: &[u8]) -> Option<(u64, usize)>
     ensures some { IfSome result (λ found.
@@ -36,7 +36,7 @@ pub(crate) fn read_front(bytes: &[u8]) -> Option<(u64, usize)>
     if len == 0 { None } else { Some((number, len)) }
 }
 
-/// Returns why the varint at the front of the bytes is malformed.
+// Why the varint at the front of the bytes is malformed.
 #[cold]
 #[inline(never)]
 pub(crate) fn front_fault(bytes: &[u8]) -> Error
@@ -166,6 +166,7 @@ fn read_high(word: u128, present: usize) -> Result<(u64, usize), Error>
 
 // The number of the low seven bits of each byte of a low half, which mostly has few bytes of a varint.
 #[inline(always)]
+#[tactic(auto, unfolding(crate::specs::Word::digits_low))]
 fn join_low(half: u64) -> u64
     ensures { result ≡ digits_low 8 half }
 {

@@ -2,7 +2,7 @@ use Rattle.std.proofs.Common.{◌≡◌, ◌+◌, ◌∙◌, [], ◌∷◌, ◌+
 use Rattle.std.proofs.lemmas.List.{take_all, drop_all, take_more_set, drop_more}
 use Rattle.serde_json.specs.View.{view}
 use Rattle.multihash.specs.Members.{byte_of_data, member_bytes}
-use Rattle.multihash.proofs.Forms.MembersLemmas.{byte_at, first_byte}
+use Rattle.multihash.proofs.Forms.JsonLemmas.{byte_at, first_byte}
 use Rattle.multihash.proofs.json.put_bytes.Goals as goal
 use Rattle.multihash.proofs.json.put_bytes.Goals.{in-Some, in_default}
 

@@ -1,4 +1,4 @@
-use Rattle.multihash.proofs.Forms.JoinedLemmas.{joined_unique, joined_whole, joined_same}
+use Rattle.multihash.proofs.Forms.StreamLemmas.{joined_unique, joined_whole, joined_same}
 use Rattle.multihash.proofs.laws.split_unique.Goals as goal
 
 pub returns-clause-as_many : goal.returns-clause-as_many

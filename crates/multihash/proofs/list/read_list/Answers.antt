@@ -1,5 +1,4 @@
 use Rattle.std.proofs.Common.{◌≡◌, ◌<◌, [], ◌∷◌, ◌++◌, length, map, inr, arith, rules}
-use Rattle.std.proofs.lemmas.Grind.{common_steps}
 use Rattle.std.proofs.lemmas.List.{length-map}
 use Rattle.multihash.specs.Answer.{pair_of}
 use Rattle.multihash.proofs.OutcomeLemmas.{passed_on}
@@ -32,13 +31,3 @@ loop-preserved g c =
     let items : c.push_reserved.new.self.items ≡ c.loop.list.items ++ m ∷ [] = search rules in
     let pairs = TakesPairs-more g.row.S c.loop.list.items m met.ok.0 _ _ _ before.pairs met.ok.1 met.fits met.ok.2 in
     search rules
-
--- Answered, since a body that breaks a goal with an answer is refused sooner than one with none.
-pub returns-in_err-read-clause-faults : goal.returns-in_err-read-clause-faults
-returns-in_err-read-clause-faults g c = grind (arith, common_steps)
-
-pub returns-clause-ok : goal.returns-clause-ok
-returns-clause-ok g c = search rules
-
-pub returns-clause-faults : goal.returns-clause-faults
-returns-clause-faults g c = search rules

@@ -1,4 +1,4 @@
--- The pairs so far were taken, there is room for the others, and no read failed.
+-- The pairs so far were consumed, there is room for the others, and no read failed.
 use Rattle.std.proofs.Common.{◌≡◌, ◌≤◌, length, map, vec_capacity}
 use Rattle.multihash.specs.Streams.{TakesPairs}
 use Rattle.multihash.specs.Answer.{pair_of}

@@ -2,10 +2,10 @@ use Rattle.std.proofs.Common.{◌+◌, ℕ, List, [], ◌∷◌, ◌++◌, map, 
 use Rattle.std.proofs.lemmas.List.{drop_more, drop_all}
 use Rattle.multihash.specs.Answer.{Fields, pair_of}
 use Rattle.multihash.specs.Encoding.{IsEncoding}
-use Rattle.multihash.specs.Joined.{AreJoined}
+use Rattle.multihash.specs.Streams.{AreJoined}
 use Rattle.multihash.specs.Writing.{AppendsPart}
 use Rattle.multihash.proofs.OutcomeLemmas.{OnErr-always}
-use Rattle.multihash.proofs.Forms.JoinedLemmas.{AreJoined-none, AreJoined-first, joined_same}
+use Rattle.multihash.proofs.Forms.StreamLemmas.{AreJoined-none, AreJoined-first, joined_same}
 use Rattle.multihash.proofs.Writings.WritingLemmas.{AppendsPart-append, AppendsPart-joined}
 use Rattle.multihash.proofs.Values.ValueLemmas.{all_fit, have_stream}
 use Rattle.multihash.proofs.list.write_list.Given as given
@@ -37,7 +37,7 @@ loop-item-preserved g c =
       unfailed = met.faults ∙ before.unfailed;
     }
 
--- of all encodings a part stands appended
+-- a part of all encodings has been appended
 stop : (g : given.Over) (c : goal.After-from_residual g)
     → (all : List ℕ) × AreJoined (map pair_of c.args.items.now) all × AppendsPart g.W.Write.appended c.args.w.now all c.write.new.w
 stop g c =

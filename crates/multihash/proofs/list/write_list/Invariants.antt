@@ -1,6 +1,6 @@
 -- The items so far were appended: with the others' encodings those are all. No write failed.
 use Rattle.std.proofs.Common.{◌≡◌, ◌++◌, ℕ, List, map, drop}
-use Rattle.multihash.specs.Joined.{AreJoined}
+use Rattle.multihash.specs.Streams.{AreJoined}
 use Rattle.multihash.specs.Answer.{pair_of}
 use Rattle.multihash.proofs.list.write_list.Given as goal
 

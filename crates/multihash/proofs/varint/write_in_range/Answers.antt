@@ -2,7 +2,7 @@ use Rattle.std.proofs.Common.{ℕ, List, [], ◌∷◌, refl}
 use Rattle.multihash.specs.Varint.{IsVarint}
 use Rattle.multihash.specs.Writing.{AppendsPart}
 use Rattle.multihash.proofs.Varints.VarintWriteLemmas.{one_byte}
-use Rattle.multihash.proofs.Varints.LengthLemmas.{varint_longest}
+use Rattle.multihash.proofs.Varints.VarintLemmas.{varint_longest}
 use Rattle.multihash.proofs.OutcomeLemmas.{OnErr-always}
 use Rattle.multihash.proofs.varint.write_in_range.Goals as goal
 

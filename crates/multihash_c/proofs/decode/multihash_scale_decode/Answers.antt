@@ -4,7 +4,7 @@ use Rattle.multihash.specs.Scale.{IsScale, HasScaleVerdict}
 use Rattle.multihash.specs.Refusal.{IsInvalidCode}
 use Rattle.multihash.specs.Verdict.{Verdict, accepted, unexpected_eof}
 use Rattle.multihash.specs.Answer.{pair_of}
-use Rattle.multihash.proofs.Varints.WordFillingLemmas.{bytes_of}
+use Rattle.multihash.proofs.Varints.WordFrontLemmas.{bytes_of}
 use Rattle.multihash_c.specs.Decoded.{Tells, TakesWholeParts}
 use Rattle.multihash_c.proofs.DecodedLemmas.{form_stands, taken_front, code_taken, ends_early}
 use Rattle.multihash_c.proofs.decode.multihash_scale_decode.Goals as goal

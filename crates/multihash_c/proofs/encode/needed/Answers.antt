@@ -1,6 +1,6 @@
 use Rattle.std.proofs.Common.{◌++◌, refl, sym, arith}
 use Rattle.multihash.proofs.Writings.EncodingLemmas.{encoding_of, length-parts}
-use Rattle.multihash.proofs.Varints.LengthLemmas.{varint_longest}
+use Rattle.multihash.proofs.Varints.VarintLemmas.{varint_longest}
 use Rattle.multihash_c.proofs.encode.needed.Goals as goal
 
 pub overflow_add-result : goal.overflow_add-result

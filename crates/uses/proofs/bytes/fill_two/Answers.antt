@@ -1,5 +1,5 @@
 use Rattle.std.proofs.Common.{◌++◌, arith, length-append}
-use Rattle.multihash.proofs.Writings.PlacesLemmas.{fewer_places, full_of_faults}
+use Rattle.multihash.proofs.Writings.WritingLemmas.{fewer_places, full_of_faults}
 use Rattle.uses.proofs.bytes.fill_two.Goals as goal
 
 pub unreachable-requires : goal.unreachable-requires

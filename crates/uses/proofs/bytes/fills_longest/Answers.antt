@@ -1,7 +1,7 @@
 use Rattle.std.proofs.Common.{length, ap, arith}
 use Rattle.multihash.specs.Answer.{pair_of}
 use Rattle.multihash.specs.Encoding.{IsEncoding}
-use Rattle.multihash.proofs.Writings.PlacesLemmas.{mut_slice_has_room}
+use Rattle.multihash.proofs.Writings.WritingLemmas.{mut_slice_has_room}
 use Rattle.multihash.proofs.Values.ValueLemmas.{encoding_within}
 use Rattle.uses.proofs.bytes.fills_longest.Goals as goal
 

@@ -1,6 +1,6 @@
 use Rattle.std.proofs.Common.{refl, subst, arith}
 use Rattle.multihash.specs.Answer.{Answers}
-use Rattle.multihash.proofs.Varints.WordFillingLemmas.{bytes_of}
+use Rattle.multihash.proofs.Varints.WordFrontLemmas.{bytes_of}
 use Rattle.uses.proofs.conclusions.found.Goals as goal
 
 pub returns : goal.returns

@@ -1,5 +1,5 @@
 use Rattle.std.proofs.Common.{◌≡◌, ◌↔◌, IsTrue, map, sym, subst, rules}
-use Rattle.multihash.specs.Joined.{AreJoined}
+use Rattle.multihash.specs.Streams.{AreJoined}
 use Rattle.multihash.specs.Answer.{pair_of}
 use Rattle.uses.proofs.conclusions.lists_written_alike.Goals as goal
 

@@ -1,5 +1,5 @@
 use Rattle.std.proofs.Common.{map}
-use Rattle.multihash.specs.Joined.{AreJoined}
+use Rattle.multihash.specs.Streams.{AreJoined}
 use Rattle.multihash.specs.Answer.{pair_of}
 use Rattle.multihash.proofs.CallingLemmas.{filled}
 use Rattle.uses.proofs.forms.fills_list.Goals as goal

@@ -1,7 +1,7 @@
 use Rattle.std.proofs.Common.{length, ap, arith}
 use Rattle.multihash.specs.Answer.{pair_of}
 use Rattle.multihash.specs.Scale.{IsScale}
-use Rattle.multihash.proofs.Writings.PlacesLemmas.{mut_slice_has_room}
+use Rattle.multihash.proofs.Writings.WritingLemmas.{mut_slice_has_room}
 use Rattle.multihash.proofs.Forms.ScaleLemmas.{scale_length}
 use Rattle.uses.proofs.forms.fills_longest_scale.Goals as goal
 

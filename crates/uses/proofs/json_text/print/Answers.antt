@@ -1,4 +1,4 @@
-use Rattle.multihash.proofs.Forms.JsonTextLemmas.{list_reads_back}
+use Rattle.multihash.proofs.Forms.JsonLemmas.{list_reads_back}
 use Rattle.uses.proofs.json_text.print.Goals as goal
 
 pub returns-in-Ok-to_string : goal.returns-in-Ok-to_string

@@ -1,5 +1,5 @@
 use Rattle.multihash.specs.Answer.{pair_of}
-use Rattle.multihash.proofs.Forms.JsonTextLemmas.{text_lists_one}
+use Rattle.multihash.proofs.Forms.JsonLemmas.{text_lists_one}
 use Rattle.uses.proofs.json_text.text_back.Goals as goal
 
 pub returns : goal.returns

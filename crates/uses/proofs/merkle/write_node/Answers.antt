@@ -1,5 +1,5 @@
 use Rattle.std.proofs.Common.{List, ℕ, ◌++◌, map}
-use Rattle.multihash.specs.Joined.{AreJoined}
+use Rattle.multihash.specs.Streams.{AreJoined}
 use Rattle.multihash.specs.Writing.{AppendsPart}
 use Rattle.multihash.specs.Answer.{pair_of}
 use Rattle.multihash.proofs.OutcomeLemmas.{OnErr-always}

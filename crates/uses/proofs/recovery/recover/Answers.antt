@@ -1,5 +1,5 @@
 use Rattle.std.proofs.Common.{refl, rules}
-use Rattle.multihash.proofs.Forms.RecoveryLemmas.{one_more_pair, one_more_refused, ended_early, read_through}
+use Rattle.multihash.proofs.CallingLemmas.{one_more_pair, one_more_refused, ended_early, read_through}
 use Rattle.uses.specs.Recovery.{ended, good, refused, cut}
 use Rattle.uses.proofs.recovery.recover.Goals as goal
 

@@ -1,6 +1,6 @@
 use Rattle.std.proofs.Common.{length, map}
 use Rattle.multihash.specs.Answer.{pair_of}
-use Rattle.multihash.proofs.Forms.RecoveryLemmas.{ReadsOn}
+use Rattle.multihash.proofs.CallingLemmas.{ReadsOn}
 use Rattle.uses.specs.Recovery.{Recovers}
 use Rattle.uses.proofs.recovery.recover.Given as goal
 

@@ -1,7 +1,7 @@
 use Rattle.std.proofs.Common.{inl, inr, subst}
 use Rattle.multihash.specs.Varint.{HasFaultyFront}
 use Rattle.std.proofs.lemmas.List.{take_rest}
-use Rattle.multihash.proofs.Readings.FrontLemmas.{has_code, head_of}
+use Rattle.multihash.proofs.Readings.VerdictLemmas.{has_code, head_of}
 use Rattle.multihash.proofs.head.Head.read_front.Goals as goal
 
 pub returns-in_default-clause-err : goal.returns-in_default-clause-err

@@ -1,5 +1,5 @@
 use Rattle.std.proofs.Common.{◌≡◌, ◌<◌, ◌∷◌, length, sym, rules}
-use Rattle.multihash.proofs.Forms.MembersLemmas.{first_byte, take_first}
+use Rattle.multihash.proofs.Forms.JsonLemmas.{first_byte, take_first}
 use Rattle.multihash.proofs.json.ByteMembersRead.read.Goals as goal
 
 pub returns : goal.returns

@@ -5,10 +5,8 @@ use Rattle.multihash.specs.Verdict.{Verdict, accepted, invalid_size, HasWholeVer
 use Rattle.multihash.specs.Encoding.{IsEncoding}
 use Rattle.multihash.specs.Answer.{pair_of, Answers}
 use Rattle.multihash.proofs.OutcomeLemmas.{passed_err}
-use Rattle.multihash.proofs.Forms.JsonLemmas.{array_unique}
-use Rattle.multihash.proofs.Forms.MembersLemmas.{length-member_bytes}
-use Rattle.multihash.proofs.Readings.VerdictLemmas.{whole_pair}
-use Rattle.multihash.proofs.Readings.FrontLemmas.{whole_refused}
+use Rattle.multihash.proofs.Forms.JsonLemmas.{array_unique, length-member_bytes}
+use Rattle.multihash.proofs.Readings.VerdictLemmas.{whole_pair, whole_refused}
 use Rattle.multihash.proofs.Values.ValueLemmas.{digest_fits}
 use Rattle.multihash.proofs.multihash.Multihash.from_value.Given as given
 use Rattle.multihash.proofs.multihash.Multihash.from_value.Goals as goal

@@ -6,8 +6,7 @@ use Rattle.multihash.specs.Answer.{Fields, pair_of}
 use Rattle.multihash.proofs.OutcomeLemmas.{passed_err}
 use Rattle.multihash.proofs.Writings.EncodingLemmas.{encoding_of}
 use Rattle.multihash.proofs.Readings.ReadingLemmas.{Takes-joined}
-use Rattle.multihash.proofs.Readings.ReadStopLemmas.{stops_in_code, stops_in_size, stops_at_size, stops_in_digest}
-use Rattle.multihash.proofs.Readings.ReadTakingLemmas.{ReadMeets, read_answered}
+use Rattle.multihash.proofs.Readings.ReadTakingLemmas.{stops_in_code, stops_in_size, stops_at_size, stops_in_digest, ReadMeets, read_answered}
 use Rattle.multihash.proofs.multihash.Multihash.read.Goals as goal
 
 pub returns-in_err-code : goal.returns-in_err-code

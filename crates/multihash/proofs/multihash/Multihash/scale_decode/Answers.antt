@@ -4,8 +4,7 @@ use Rattle.multihash.specs.Scale.{IsScaleCode}
 use Rattle.multihash.specs.Reading.{Takes}
 use Rattle.multihash.proofs.OutcomeLemmas.{passed_err}
 use Rattle.multihash.proofs.Readings.ReadingLemmas.{Takes-joined}
-use Rattle.multihash.proofs.Forms.ScaleCodeLemmas.{code_read}
-use Rattle.multihash.proofs.Forms.ScaleTakingLemmas.{ScaleMeets, one_item, code_refused, no_size, size_refused, cut_digest, inside_refused, answered}
+use Rattle.multihash.proofs.Forms.ScaleLemmas.{code_read, ScaleMeets, one_item, code_refused, no_size, size_refused, cut_digest, inside_refused, answered}
 use Rattle.multihash.proofs.multihash.Multihash.scale_decode.Given as given
 use Rattle.multihash.proofs.multihash.Multihash.scale_decode.Goals as goal
 use Rattle.multihash.proofs.multihash.Multihash.scale_decode.Goals.{After-from_le_bytes-code, After-from-size}
@@ -13,7 +12,7 @@ use Rattle.multihash.proofs.multihash.Multihash.scale_decode.Goals.{After-from_l
 is_code : (g : given.Over) (c : After-from_le_bytes-code g) → IsScaleCode c.from_le_bytes-code.result c.in_ok-code_bytes.code_bytes
 is_code g c = code_read _ _ (search rules) (search rules) (omega (arith, c.from_le_bytes-code.type_inv)) c.from_le_bytes-code.ensures
 
--- the code's bytes and the one of the size were taken
+-- the code's bytes and the one of the size were consumed
 takes : (g : given.Over) (c : After-from-size g)
     → Takes (g.R.Read.rest c.args.r.now) (c.in_ok-code_bytes.code_bytes ++ c.from-size.result ∷ []) (g.R.Read.rest c.read_array-2.new.r)
 takes g c =
@@ -69,7 +68,3 @@ returns g c =
     (c.in_ok-read_exact.ensures.laws.faults ∙ (c.in_ok-size_byte.ensures.faults ∙ c.in_ok-code_bytes.ensures.faults)) (rw front at c.in_buffer.ensures)
     (Takes-joined _ _ _ _ d _ (sym (append_assoc _ (size ∷ []) d)) (takes g (goal.at.returns g c).After-from-size)
     c.in_ok-read_exact.ensures.laws.takes)
-
--- Answered, since a body that breaks a goal with an answer is refused sooner than one with none.
-pub in_buffer-requires : goal.in_buffer-requires
-in_buffer-requires g c = search rules

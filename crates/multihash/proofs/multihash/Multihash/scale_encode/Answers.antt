@@ -1,8 +1,7 @@
 use Rattle.std.proofs.Common.{[], ◌∷◌, ◌++◌, length, ap, arith}
 use Rattle.multihash.specs.Scale.{IsScale}
 use Rattle.multihash.specs.Answer.{pair_of}
-use Rattle.multihash.proofs.Forms.ScaleCodeLemmas.{code_bytes}
-use Rattle.multihash.proofs.Forms.ScaleLemmas.{scale_of, scale_length}
+use Rattle.multihash.proofs.Forms.ScaleLemmas.{code_bytes, scale_of, scale_length}
 use Rattle.multihash.proofs.Writings.WritingLemmas.{stops_in_first, stops_in_second, stops_in_third}
 use Rattle.multihash.proofs.multihash.Multihash.scale_encode.Given as given
 use Rattle.multihash.proofs.multihash.Multihash.scale_encode.Goals as goal

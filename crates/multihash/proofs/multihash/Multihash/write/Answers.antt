@@ -1,4 +1,4 @@
-use Rattle.std.proofs.Common.{length, refl, ◌∙◌, arith, rules}
+use Rattle.std.proofs.Common.{length, refl, ◌∙◌, arith}
 use Rattle.multihash.specs.Encoding.{IsEncoding}
 use Rattle.multihash.specs.Answer.{pair_of}
 use Rattle.multihash.proofs.Writings.EncodingLemmas.{encoding_of, length-parts}
@@ -37,10 +37,3 @@ returns-clause-ok g c =
       omega (arith, a.2, b.2, length-parts a.0 b.0 c.digest-digest.result.now),
       g.met.W.Write.appends_joined _ _ _ _ _ a.3 (g.met.W.Write.appends_joined _ _ _ _ _ b.3 c.in_ok-write_all.ensures.laws.ok),
     )
-
--- Answered, since a body that breaks a goal with an answer is refused sooner than one with none.
-pub returns-clause-err : goal.returns-clause-err
-returns-clause-err g c = search rules
-
-pub returns-clause-faults : goal.returns-clause-faults
-returns-clause-faults g c = search rules

@@ -1,5 +1,5 @@
 use Rattle.std.proofs.Common.{arith}
-use Rattle.multihash.proofs.Varints.WordFillingLemmas.{bytes_of, all_front}
+use Rattle.multihash.proofs.Varints.WordFrontLemmas.{bytes_of, all_front}
 use Rattle.multihash.proofs.varint.word.front_by_short_word.Goals as goal
 
 pub returns : goal.returns

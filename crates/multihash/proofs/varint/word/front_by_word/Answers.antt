@@ -1,5 +1,5 @@
 use Rattle.std.proofs.Common.{arith}
-use Rattle.multihash.proofs.Varints.WordFillingLemmas.{bytes_of, whole_front}
+use Rattle.multihash.proofs.Varints.WordFrontLemmas.{bytes_of, whole_front}
 use Rattle.multihash.proofs.varint.word.front_by_word.Goals as goal
 
 pub returns-in-Some : goal.returns-in-Some

@@ -1,7 +1,7 @@
 use Rattle.std.proofs.Common.{arith, sym, drop}
 use Rattle.std.proofs.lemmas.List.{take-append-drop}
 use Rattle.multihash.proofs.Varints.VarintLemmas.{number_no_fault}
-use Rattle.multihash.proofs.Varints.WordFillingLemmas.{bytes_of, cut_front}
+use Rattle.multihash.proofs.Varints.WordFrontLemmas.{bytes_of, cut_front}
 use Rattle.multihash.proofs.varint.word.front_fault.Goals as goal
 
 pub unreachable-requires : goal.unreachable-requires
