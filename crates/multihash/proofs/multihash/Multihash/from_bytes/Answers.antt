@@ -1,8 +1,7 @@
 use Rattle.std.proofs.Common.{◌-◌, ℕ, replicate, refl, ◌∙◌, arith, sym, ap, inl, inr}
 use Rattle.multihash.specs.Verdict.{invalid_size, unexpected_eof, accepted}
 use Rattle.multihash.proofs.Writings.EncodingLemmas.{pair_in_front}
-use Rattle.multihash.proofs.Readings.VerdictLemmas.{sliced, no_code, has_size, left_over, whole}
-use Rattle.multihash.proofs.Forms.ScaleLemmas.{no_size}
+use Rattle.multihash.proofs.Readings.VerdictLemmas.{sliced, no_code, no_size, has_size, left_over, whole}
 use Rattle.multihash.proofs.multihash.Multihash.from_bytes.Goals as goal
 
 pub returns-in_default : goal.returns-in_default

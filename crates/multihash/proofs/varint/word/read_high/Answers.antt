@@ -1,7 +1,6 @@
 use Rattle.std.proofs.Common.{arith, ◌/◌, ◌^◌}
 use Rattle.multihash.specs.Varint.{insufficient, overflow, not_minimal}
-use Rattle.multihash.proofs.Varints.WordFrontLemmas.{high_over, high_end, high_number, ends_short}
-use Rattle.multihash.proofs.Varints.VarintLemmas.{ends_zero}
+use Rattle.multihash.proofs.Varints.WordFrontLemmas.{high_over, high_end, high_number, ends_short, ends_zero}
 use Rattle.multihash.proofs.Varints.WordLemmas.{few_marked, first_unmarked}
 use Rattle.multihash.proofs.varint.word.read_high.Goals as goal
 

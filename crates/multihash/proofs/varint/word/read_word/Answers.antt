@@ -2,8 +2,7 @@ use Rattle.std.proofs.Common.{◌-◌, ◌^◌, arith, bit_and}
 use Rattle.std.proofs.lemmas.Nat.{and_le_r}
 use Rattle.std.proofs.lemmas.Result.{IfOk-weaker, IfErr-weaker}
 use Rattle.multihash.specs.Varint.{insufficient, not_minimal}
-use Rattle.multihash.proofs.Varints.WordFrontLemmas.{low_marked, low_end, low_number, ends_short}
-use Rattle.multihash.proofs.Varints.VarintLemmas.{ends_zero}
+use Rattle.multihash.proofs.Varints.WordFrontLemmas.{low_marked, low_end, low_number, ends_short, ends_zero}
 use Rattle.multihash.proofs.Varints.WordLemmas.{first_unmarked}
 use Rattle.multihash.proofs.varint.word.read_word.Goals as goal
 use Rattle.multihash.proofs.varint.word.read_word.Goals.{else-varint-marked-eq0-via-then-varint-marked-eq0+else-marked-gt0, else-varint-marked-eq0-via-else-varint-marked-eq0}
