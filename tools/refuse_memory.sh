@@ -13,7 +13,6 @@ tests() {
   case $1 in
     tests_memory) cat << 'LIST'
 refused_to_bytes 1
-refused_long_to_bytes 1
 refused_to_value 1
 refused_read_list 1
 refused_write 2
@@ -22,22 +21,12 @@ refused_write_list 1
 refused_write_of_a_long_list 3
 refused_write_of_a_vector 1
 refused_push 1
-refused_to_bytes_at_each_size 4
-refused_to_bytes_at_each_larger_size 3
-refused_to_bytes_at_each_large_size 3
-refused_to_bytes_at_each_usual_size 4
-refused_to_value_at_0_and_1 2
-refused_to_value_at_31_and_32 2
-refused_to_value_at_33_and_64 2
-refused_to_value_at_127_and_128 2
-refused_to_value_at_200_and_255 2
-refused_read_of_lists 4
-refused_read_of_short_lists 4
-refused_read_of_long_lists 4
+refused_forms_at_each_size 14
+refused_forms_at_each_other_size 14
+refused_read_of_lists 8
+refused_read_of_long_lists 8
 refused_room_alone 1
-refused_to_bytes_of_usual_digests 9
-refused_to_value_of_usual_digests 9
-refused_read_of_lists_in_64 4
+refused_forms_of_usual_digests 18
 needs_no_memory 0
 parts_and_slices_need_no_memory 0
 errors_need_no_memory 0

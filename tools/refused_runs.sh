@@ -20,27 +20,41 @@ build() {
   [ -x "$crates/$1/out/$1" ] || tail -n 5 "$work/build"
 }
 
+# Runs a program on a case, whose files have a name in common, and compares what it writes, and its status with 1.
+# Of standard error a number of lines is compared, if it is given.
+judge() {
+  local program=$1 run=$2 lines=${3:-999}
+  touch "$run".{stdin,stdout,stderr}
+  rm -rf "$work/room" && mkdir "$work/room"
+  [ -f "$run.verdicts.tsv" ] && cp "$run.verdicts.tsv" "$work/room/verdicts.tsv"
+  (cd "$work/room" && timeout 120 "$crates/$program/out/$program" < "$run.stdin" > "$work/stdout" 2> "$work/all")
+  status=$?
+  head -n "$lines" "$work/all" > "$work/stderr"
+  if [ "$status" = 1 ] && cmp -s "$work/stdout" "$run.stdout" && cmp -s "$work/stderr" "$run.stderr"; then
+    passed=$((passed + 1))
+  else
+    failed=$((failed + 1))
+    echo "$program $(basename "$run"): status $status"
+    diff "$run.stdout" "$work/stdout"
+    diff "$run.stderr" "$work/stderr"
+  fi
+}
+
 for cases in tools/runs/*.txt; do
   program=$(basename "$cases" .txt)
   build "$program"
-  rm -rf "$work/cases" && mkdir "$work/cases"
-  awk -v to="$work/cases" '/^== / { file = to "/" $2 "." $3; next } { print > file }' "$cases"
-  while read -r name; do
-    run=$work/cases/$name
-    touch "$run".{stdin,stdout,stderr}
-    rm -rf "$work/room" && mkdir "$work/room"
-    [ -f "$run.verdicts.tsv" ] && cp "$run.verdicts.tsv" "$work/room/verdicts.tsv"
-    (cd "$work/room" && timeout 120 "$crates/$program/out/$program" < "$run.stdin" > "$work/stdout" 2> "$work/stderr")
-    status=$?
-    if [ "$status" = 1 ] && cmp -s "$work/stdout" "$run.stdout" && cmp -s "$work/stderr" "$run.stderr"; then
-      passed=$((passed + 1))
-    else
-      failed=$((failed + 1))
-      echo "$program $name: status $status"
-      diff "$run.stdout" "$work/stdout"
-      diff "$run.stderr" "$work/stderr"
-    fi
-  done < <(awk '/^== / { print $2 }' "$cases" | sort -u)
+  mkdir "$work/$program"
+  awk -v to="$work/$program" '/^== / { file = to "/" $2 "." $3; next } { print > file }' "$cases"
+  while read -r name; do judge "$program" "$work/$program/$name"; done < <(awk '/^== / { print $2 }' "$cases" | sort -u)
 done
+
+# Each malformed line is between two good lines of a list, whose replay must name it.
+good=$work/vectors/broken_list
+while IFS= read -r line; do
+  { head -n 2 "$good.verdicts.tsv" && printf '%s\n' "$line" && sed -n 2p "$good.verdicts.tsv"; } > "$work/malformed.verdicts.tsv"
+  cp "$good.stdout" "$work/malformed.stdout"
+  printf 'Error: line 3, "%s"\n' "${line//$'\t'/\\t}" > "$work/malformed.stderr"
+  judge vectors "$work/malformed" 1
+done < tools/runs/malformed.tsv
 echo "$passed passed, $failed failed"
 [ "$failed" = 0 ] && [ "$passed" -gt 0 ]

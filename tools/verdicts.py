@@ -5,8 +5,8 @@ It computes each result from the rules of docs/FORMAT.md by itself and calls not
 
     tools/verdicts.py [LIST]    LIST is the list that has the inputs from outside, by default the stored one
 
-The inputs are those of the first lines of the list, which came from outside, and after them some that are drawn by a seed. No input
-is there twice with one size of buffer."""
+The inputs are those of the first lines of the list, which came from outside, and after them others: those chosen here, as at the bounds,
+and then inputs that are drawn by a seed. No input is there twice with one capacity."""
 import hashlib
 import random
 import re
@@ -19,7 +19,7 @@ BOUND = TOP / "crates" / "multihash" / "specs" / "Varint.antt"
 COLUMNS = ("S", "input", "read", "read_taken", "from_bytes", "scale_decode", "scale_taken")
 
 SEED = 20
-DRAWN = 3000
+OTHERS = 3000  # lines after those from outside
 # The number of stored lines that came from outside, and the SHA-256 of their sizes and inputs, which no bound changes.
 FROM_OUTSIDE = 3000
 OUTSIDE_SHA256 = "295042049837f3cd1c893ce5238a82627e5b67977d12fb7fa61d41cd0c66e8de"
@@ -115,6 +115,50 @@ def varint(number: int) -> bytes:
 
 def scale_head(code: int, length: int) -> bytes:
     return code.to_bytes(SCALE_CODE, "little") + bytes([length])
+
+
+# Inputs of `read`, by capacity. Each is also there cut by its last byte, and with more bytes after those that settle it.
+CHOSEN = {
+    0: "- 0000 0080 0001",
+    2: "- 00 000007 0002 000209 0003 0003090909 8000 0002ff00 80808080808080808002 ffffffffffffffffff0100",
+    4: """- 80 8000 00 0000 0085 0005 008501 008500 0004010203 000401020304 00040102030409 8080808080808080 808080808080808000
+        808080808080808001 808080808080808080 80808080808080808000 80808080808080808002 80808080808080808081 80808080808080808001
+        00ffffffffffffffffff01 00ffffffffffffffff7f 80808080808080800000 80808080808080800100 ffffffffffffffffff0200
+        8080808080808080800000 80808080808080808080 8080808080808080800100 ffffffffffffffffff02 ffffffffffffffff7f05""",
+    32: "- f10000000000808484843a 000007 00 0000",
+    300: "00ff01 008002",
+}
+# Numbers at the bounds of their lengths as varints. Each prefix of a varint is there with each of these after it.
+NUMBERS = (0, 1, 127, 128, 255, 256, 300, 16383, 16384, 2097151, 2097152, 1 << 56, (1 << 63) - 1, 1 << 63, (1 << 64) - 1)
+FOLLOWING = (b"", b"\0", b"\1", b"\2", b"\0\7", b"\x80" * 17)
+# Inputs of `scale_decode`, by capacity: codes, lengths, and the bytes after them.
+SCALE_CHOSEN = {
+    0: ((0, b"\0"), (0, b"\1\7")),
+    2: ((0, b"\x0bhello world"),),
+    4: (
+        *((code, after) for code in (0, (1 << 63) - 1, 1 << 63, (1 << 63) + 1, (1 << 64) - 1) for after in (b"", b"\0", b"\0\x09", b"\5\xaa\xbb")),
+        *((0, b"\3\xaa\xbb"), (0, b"\xff"), (18, b"\1\xaa\xbb"), (0x0102030405060708, b"\1\xaa"), (300, b"\2AB\7")),
+    ),
+    300: ((0, b"\xff\7"),),
+}
+
+
+def chosen(rules: Rules) -> list[Input]:
+    """Inputs at the bounds, each prefix of a long encoding and of its SCALE form, and each number as a size."""
+    entries = []
+    for size, texts in CHOSEN.items():
+        for data in (bytes.fromhex(text.strip("-")) for text in texts.split()):
+            settled = rules.read(size, data)[1] or 0
+            more = [data[:settled] + after for after in (b"\0", b"\xff", b"\x80\x80")] if settled else []
+            entries += [(size, it) for it in (data, data[:-1], *more)]
+    for code in map(varint, NUMBERS):
+        entries += [(4, code[:end] + after) for end in range(len(code) + 1) for after in FOLLOWING]
+    entries += [(size, code.to_bytes(SCALE_CODE, "little") + after) for size, its in SCALE_CHOSEN.items() for code, after in its]
+    entries += [(4, b"\xff" * length) for length in range(SCALE_CODE)]
+    for long in (varint(300) + varint(200) + b"A" * 200, scale_head(300, 200) + b"A" * 200):
+        entries += [(200, long[:end]) for end in range(len(long) + 1)]
+    entries += [(255, b"\0" + bytes([number])) for number in range(256)]
+    return list(dict.fromkeys(entries))
 
 
 class Draw:
@@ -245,7 +289,9 @@ def inputs_from_outside(path: Path) -> list[Input]:
 def main() -> None:
     bits = stated_bits()
     rules, entries = Rules(bits), inputs_from_outside(Path(*sys.argv[1:]) if sys.argv[1:] else STORED)
-    entries += Draw(SEED, bits, rules).inputs(DRAWN, {*entries})
+    seen = set(entries)
+    entries += [it for it in chosen(rules) if it not in seen]
+    entries += Draw(SEED, bits, rules).inputs(FROM_OUTSIDE + OTHERS - len(entries), {*entries})
     print("\t".join(COLUMNS), *(rules.line(size, data) for size, data in entries), sep="\n")
 
 

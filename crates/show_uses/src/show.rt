@@ -42,31 +42,36 @@ pub(crate) fn lines(alloc: Global) -> Result<String> {
     Ok(lines)
 }
 
-// Version 1, dag-json, and the digest 7, 8; then a 9. Then a digest of version 0, and a version that is not known.
-fn show_content_id(alloc: Global, lines: &mut String) -> Result<()> {
+// The codec, the length, and what is left of a stream.
+fn first_id(alloc: Global) -> Result<(Option<u64>, usize, usize)> {
     let mut stream = [1u8, 0xa9, 2, 0x12, 2, 7, 8, 9].as_slice();
     let id = ContentId::<4>::read(&mut stream)?;
-    let mut bytes = Vec::new(alloc);
-    id.write(&mut bytes)?;
     let codec = match id {
         ContentId::V1 { codec, .. } => Some(codec.number),
         ContentId::V0(_) => None,
     };
-    writeln!(
-        lines,
-        "content identifier: codec {codec:?}, {} bytes, {} left",
-        bytes.len(),
-        stream.len()
-    )?;
+    let mut bytes = Vec::new(alloc);
+    id.write(&mut bytes)?;
+    Ok((codec, bytes.len(), stream.len()))
+}
+
+fn bare_id(alloc: Global) -> Result<(usize, bool)> {
     let mut bare = Vec::new(alloc);
     ContentId::<4>::V0([7; 32]).write(&mut bare)?;
-    let is_bare = matches!(ContentId::<4>::from_bytes(&bare)?, ContentId::V0(_));
-    let refused = ContentId::<4>::from_bytes(&[2, 0x55]).err();
+    let id = ContentId::<4>::from_bytes(&bare)?;
+    Ok((bare.len(), matches!(id, ContentId::V0(_))))
+}
+
+// Version 1, dag-json, and the digest 7, 8; then a 9. Then a digest of version 0, and a version that is not known.
+fn show_content_id(alloc: Global, lines: &mut String) -> Result<()> {
+    let (codec, len, left) = first_id(alloc)?;
     writeln!(
         lines,
-        "version 0: {} bytes, {is_bare}, {refused:?}",
-        bare.len()
+        "content identifier: codec {codec:?}, {len} bytes, {left} left"
     )?;
+    let (len, is_bare) = bare_id(alloc)?;
+    let refused = ContentId::<4>::from_bytes(&[2, 0x55]).err();
+    writeln!(lines, "version 0: {len} bytes, {is_bare}, {refused:?}")?;
     Ok(())
 }
 
@@ -83,30 +88,43 @@ fn show_code_table(lines: &mut String) -> Result<()> {
     Ok(())
 }
 
-fn show_block_store(alloc: Global, lines: &mut String) -> Result<()> {
+fn found_ordered(alloc: Global) -> Result<Option<u32>> {
     let key = Multihash::<64>::wrap(SHA2_256, &[7, 8])?;
     let small = Multihash::<2>::wrap(SHA2_256, &[7, 8])?;
-    let mut ordered = BTreeMap::new(alloc);
-    let found = block_store::kept_is_found(&mut ordered, key, 5, &small)?;
-    let mut hashed = HashMap::new(alloc);
-    let also = block_store::kept_is_found_hashed(&mut hashed, key, 6, &small)?;
+    Ok(block_store::kept_is_found(&mut BTreeMap::new(alloc), key, 5, &small)?)
+}
+
+fn found_hashed(alloc: Global) -> Result<Option<u32>> {
+    let key = Multihash::<64>::wrap(SHA2_256, &[7, 8])?;
+    let small = Multihash::<2>::wrap(SHA2_256, &[7, 8])?;
+    Ok(block_store::kept_is_found_hashed(&mut HashMap::new(alloc), key, 6, &small)?)
+}
+
+fn show_block_store(alloc: Global, lines: &mut String) -> Result<()> {
+    let found = found_ordered(alloc)?;
+    let also = found_hashed(alloc)?;
     writeln!(lines, "block store: {found:?}, {also:?}")?;
     Ok(())
 }
 
-fn show_merkle(alloc: Global, lines: &mut String) -> Result<()> {
+// The length of a node, its links, and whether its content is left.
+fn merkle_node(alloc: Global) -> Result<(usize, usize, bool)> {
     let links = [
         Multihash::<4>::wrap(0, &[65])?,
         Multihash::wrap(SHA2_256, &[66])?,
     ];
     let mut bytes = Vec::new(alloc);
     merkle::write_node(&links, b"data", &mut bytes)?;
+    let len = bytes.len();
     let (back, is_left) = merkle::node_back(alloc, &links, b"data")?;
+    Ok((len, back.len(), is_left))
+}
+
+fn show_merkle(alloc: Global, lines: &mut String) -> Result<()> {
+    let (len, links, is_left) = merkle_node(alloc)?;
     writeln!(
         lines,
-        "merkle node: {} bytes, {} links, data {is_left}",
-        bytes.len(),
-        back.len()
+        "merkle node: {len} bytes, {links} links, data {is_left}"
     )?;
     Ok(())
 }
@@ -114,14 +132,10 @@ fn show_merkle(alloc: Global, lines: &mut String) -> Result<()> {
 fn show_peer_id(alloc: Global, lines: &mut String) -> Result<()> {
     let small = Multihash::<2>::wrap(0, &[7, 8])?;
     let large = Multihash::<300>::wrap(0, &[7, 8])?;
-    let compared = headline::same(alloc, &small, &large)?;
+    let same = headline::same(alloc, &small, &large)?.same;
     let spelled = peer_id::is_peer(&large, &[0, 2, 7, 8]);
     let padded = peer_id::is_peer(&large, &[0x80, 0, 2, 7, 8]);
-    writeln!(
-        lines,
-        "peer identifier: {}, {spelled}, {padded}",
-        compared.same
-    )?;
+    writeln!(lines, "peer identifier: {same}, {spelled}, {padded}")?;
     Ok(())
 }
 

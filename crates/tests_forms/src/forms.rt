@@ -1,10 +1,10 @@
 //! Multihashes that pass from one form to another.
 use crate::expect::{check, check_eq, expect_ok};
-use fakes::refusal::{LARGEST_CODE, Refusal, is_refused};
+use fakes::refusal::LARGEST_CODE;
 use multihash::Multihash;
 use std::alloc::Global;
 use std::process::Abort;
-use uses::forms::{Form, form_back, forms_back};
+use uses::forms::{Form, forms_back};
 
 const DIGEST: [u8; 32] = [
     159, 228, 204, 198, 222, 22, 114, 79, 58, 48, 199, 232, 242, 84, 243, 198, 71, 25, 134, 172,
@@ -35,36 +35,5 @@ fn from_form_to_form(rt: HostRuntime) {
         (LARGEST_CODE, b""),
     ] {
         expect_through(&rt, rt.alloc(), code, digest);
-    }
-}
-
-fn expect_full_through(rt: &impl Abort, alloc: Global, m: &Multihash<128>) {
-    for first in FORMS {
-        for second in FORMS {
-            let answer = forms_back::<128, 128, 128>(alloc, first, second, m);
-            let (between, back) = expect_ok(rt, answer);
-            check!(rt; between == *m && back == *m, (first, second));
-        }
-    }
-}
-
-#[test]
-fn full_digests_pass_through_forms(rt: HostRuntime) {
-    let digest = [7; 128];
-    for code in [0, 72057594037927936, LARGEST_CODE] {
-        let m = expect_ok(&rt, Multihash::<128>::wrap(code, &digest));
-        expect_full_through(&rt, rt.alloc(), &m);
-    }
-}
-
-#[test]
-fn a_smaller_buffer_refuses_each_form(rt: HostRuntime) {
-    let rt = &rt;
-    let m = &expect_ok(rt, Multihash::<6>::wrap(18, b"foobar"));
-    for form in FORMS {
-        let back = expect_ok(rt, form_back::<6, 6>(rt.alloc(), form, m));
-        check!(rt; back == *m, form);
-        let refused = form_back::<6, 5>(rt.alloc(), form, m);
-        check!(rt; is_refused(&refused, Refusal::InvalidSize(6)), form);
     }
 }

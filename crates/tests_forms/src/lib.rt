@@ -1,8 +1,14 @@
-//! Tests of the binary form, SCALE and JSON, and of the result for each kind of input.
+//! Tests of values, errors, the binary form, SCALE and JSON.
 #![tactic(auto)]
 
 #[cfg(test)]
+mod binary;
+#[cfg(test)]
 mod boundaries;
+#[cfg(test)]
+mod encodings;
+#[cfg(test)]
+mod errors;
 #[cfg(test)]
 mod expect;
 #[cfg(test)]
@@ -12,12 +18,4 @@ mod head;
 #[cfg(test)]
 mod json;
 #[cfg(test)]
-mod reading;
-#[cfg(test)]
-mod readme;
-#[cfg(test)]
-mod scale;
-#[cfg(test)]
-mod varint;
-#[cfg(test)]
-mod verdicts;
+mod values;

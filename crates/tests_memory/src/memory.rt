@@ -36,13 +36,6 @@ fn refused_to_bytes(rt: HostRuntime) -> Result<(), Fail> {
 }
 
 #[test]
-fn refused_long_to_bytes(rt: HostRuntime) -> Result<(), Fail> {
-    let bytes = unless_refused(&rt, long()?.to_bytes(rt.alloc()))?;
-    check_eq!(rt; (bytes.len(), bytes.capacity()), (204, 204));
-    Ok(())
-}
-
-#[test]
 fn refused_to_value(rt: HostRuntime) -> Result<(), Fail> {
     let [m, _] = two()?;
     let value = unless_refused(&rt, m.to_value(rt.alloc()))?;
@@ -270,81 +263,6 @@ fn too_many_places_are_refused(rt: HostRuntime) -> Result<(), Fail> {
         expect_bytes(&rt, left, &STREAM);
         let list = read_list::<4, _>(rt.alloc(), &mut left, 2)?;
         check!(rt; list.as_slice() == two()?.as_slice());
-    }
-    Ok(())
-}
-
-#[test]
-fn ample_memory_is_enough(rt: HostRuntime) -> Result<(), Fail> {
-    let items = two()?;
-    let mut bytes = Vec::new(rt.alloc());
-    write_list(&items, &mut bytes)?;
-    for m in &items {
-        check_eq!(rt; m.to_bytes(rt.alloc())?.len(), 3);
-        check_eq!(rt; m.write(&mut bytes)?, 3);
-        check_eq!(rt; m.scale_encode(&mut bytes)?, 10);
-        check!(rt; m.to_value(rt.alloc())?.is_array());
-    }
-    check_eq!(rt; bytes.len(), 32);
-    check_eq!(rt;
-        read_list::<4, _>(rt.alloc(), &mut bytes.as_slice(), 2)?.len(),
-        2
-    );
-    Ok(())
-}
-
-fn expect_empty<const S: usize>(rt: &impl Abort, alloc: Global) -> Result<(), Fail>
-    requires { S < 2 ^ 16 }
-{
-    let m = Multihash::<S>::wrap(18, &[])?;
-    expect_bytes(rt, &m.to_bytes(alloc)?, &[18, 0]);
-    let value = m.to_value(alloc)?;
-    check_eq!(rt; value.to_string(alloc)?.as_str(), "[18,0]");
-    Ok(())
-}
-
-#[test]
-fn memory_is_enough_at_each_size(rt: HostRuntime) -> Result<(), Fail> {
-    expect_empty::<0>(&rt, rt.alloc())?;
-    expect_empty::<1000>(&rt, rt.alloc())
-}
-
-#[test]
-fn a_list_of_70000(rt: HostRuntime) -> Result<(), Fail> {
-    let bytes = vec![in rt.alloc(); 0u8; 140000]?;
-    let mut left = bytes.as_slice();
-    let list = read_list::<4, _>(rt.alloc(), &mut left, 70000)?;
-    check_eq!(rt; (list.len(), left.len()), (70000, 0));
-    Ok(())
-}
-
-#[test]
-fn a_list_has_no_more_places_than_items(rt: HostRuntime) -> Result<(), Fail> {
-    let list = read_list::<4, _>(rt.alloc(), &mut [0u8; 6].as_slice(), 3)?;
-    check_eq!(rt; (list.len(), list.capacity()), (3, 3));
-    Ok(())
-}
-
-#[test]
-fn to_bytes_has_no_more_places_than_bytes(rt: HostRuntime) -> Result<(), Fail> {
-    for digest in [[].as_slice(), &[7; 127], &[7; 128], &[7; 255]] {
-        let m = Multihash::<255>::wrap(LARGEST_CODE, digest)?;
-        let bytes = m.to_bytes(rt.alloc())?;
-        check_eq!(rt;
-            (bytes.len(), bytes.capacity()),
-            (m.encoded_len(), m.encoded_len())
-        );
-    }
-    for shift in 0..63u32 {
-        let most = LARGEST_CODE >> shift;
-        for code in [most ^ (most >> 1), most] {
-            let m = Multihash::<4>::wrap(code, b"AB")?;
-            check_eq!(rt;
-                m.to_bytes(rt.alloc())?.capacity(),
-                m.encoded_len(),
-                "code {code}"
-            );
-        }
     }
     Ok(())
 }

@@ -10,83 +10,37 @@ use std::alloc::Global;
 use std::process::Abort;
 use std::test::Fail;
 
-// One allocation.
-fn expect_bytes_at<const S: usize>(rt: &impl Abort, alloc: Global) -> Result<(), Fail>
+// One allocation for each form.
+fn expect_forms_at<const S: usize>(rt: &impl Abort, alloc: Global) -> Result<(), Fail>
     requires { S < 2 ^ 16 }
 {
     let m = Multihash::<S>::wrap(300, &[65; S])?;
     unless_refused(rt, m.to_bytes(alloc))?;
-    Ok(())
-}
-
-#[test]
-fn refused_to_bytes_at_each_size(rt: HostRuntime) -> Result<(), Fail> {
-    expect_bytes_at::<0>(&rt, rt.alloc())?;
-    expect_bytes_at::<1>(&rt, rt.alloc())?;
-    expect_bytes_at::<31>(&rt, rt.alloc())?;
-    expect_bytes_at::<32>(&rt, rt.alloc())
-}
-
-#[test]
-fn refused_to_bytes_at_each_larger_size(rt: HostRuntime) -> Result<(), Fail> {
-    expect_bytes_at::<33>(&rt, rt.alloc())?;
-    expect_bytes_at::<64>(&rt, rt.alloc())?;
-    expect_bytes_at::<127>(&rt, rt.alloc())
-}
-
-#[test]
-fn refused_to_bytes_at_each_large_size(rt: HostRuntime) -> Result<(), Fail> {
-    expect_bytes_at::<128>(&rt, rt.alloc())?;
-    expect_bytes_at::<200>(&rt, rt.alloc())?;
-    expect_bytes_at::<255>(&rt, rt.alloc())
-}
-
-// Those of usual digests.
-#[test]
-fn refused_to_bytes_at_each_usual_size(rt: HostRuntime) -> Result<(), Fail> {
-    expect_bytes_at::<16>(&rt, rt.alloc())?;
-    expect_bytes_at::<20>(&rt, rt.alloc())?;
-    expect_bytes_at::<28>(&rt, rt.alloc())?;
-    expect_bytes_at::<48>(&rt, rt.alloc())
-}
-
-// One allocation.
-fn expect_value_at<const S: usize>(rt: &impl Abort, alloc: Global) -> Result<(), Fail>
-    requires { S < 2 ^ 16 }
-{
-    let m = Multihash::<S>::wrap(300, &[65; S])?;
     unless_refused(rt, m.to_value(alloc))?;
     Ok(())
 }
 
 #[test]
-fn refused_to_value_at_0_and_1(rt: HostRuntime) -> Result<(), Fail> {
-    expect_value_at::<0>(&rt, rt.alloc())?;
-    expect_value_at::<1>(&rt, rt.alloc())
+fn refused_forms_at_each_size(rt: HostRuntime) -> Result<(), Fail> {
+    expect_forms_at::<0>(&rt, rt.alloc())?;
+    expect_forms_at::<1>(&rt, rt.alloc())?;
+    expect_forms_at::<31>(&rt, rt.alloc())?;
+    expect_forms_at::<32>(&rt, rt.alloc())?;
+    expect_forms_at::<33>(&rt, rt.alloc())?;
+    expect_forms_at::<64>(&rt, rt.alloc())?;
+    expect_forms_at::<127>(&rt, rt.alloc())
 }
 
+// The longest, and those of usual digests.
 #[test]
-fn refused_to_value_at_31_and_32(rt: HostRuntime) -> Result<(), Fail> {
-    expect_value_at::<31>(&rt, rt.alloc())?;
-    expect_value_at::<32>(&rt, rt.alloc())
-}
-
-#[test]
-fn refused_to_value_at_33_and_64(rt: HostRuntime) -> Result<(), Fail> {
-    expect_value_at::<33>(&rt, rt.alloc())?;
-    expect_value_at::<64>(&rt, rt.alloc())
-}
-
-#[test]
-fn refused_to_value_at_127_and_128(rt: HostRuntime) -> Result<(), Fail> {
-    expect_value_at::<127>(&rt, rt.alloc())?;
-    expect_value_at::<128>(&rt, rt.alloc())
-}
-
-#[test]
-fn refused_to_value_at_200_and_255(rt: HostRuntime) -> Result<(), Fail> {
-    expect_value_at::<200>(&rt, rt.alloc())?;
-    expect_value_at::<255>(&rt, rt.alloc())
+fn refused_forms_at_each_other_size(rt: HostRuntime) -> Result<(), Fail> {
+    expect_forms_at::<128>(&rt, rt.alloc())?;
+    expect_forms_at::<200>(&rt, rt.alloc())?;
+    expect_forms_at::<255>(&rt, rt.alloc())?;
+    expect_forms_at::<16>(&rt, rt.alloc())?;
+    expect_forms_at::<20>(&rt, rt.alloc())?;
+    expect_forms_at::<28>(&rt, rt.alloc())?;
+    expect_forms_at::<48>(&rt, rt.alloc())
 }
 
 // One allocation, of the capacity: the input ends after one pair.
@@ -102,15 +56,7 @@ fn expect_list_of<const S: usize>(rt: &impl Abort, alloc: Global, count: usize) 
 
 #[test]
 fn refused_read_of_lists(rt: HostRuntime) -> Result<(), Fail> {
-    for count in [1, 2, 32, 33] {
-        expect_list_of::<32>(&rt, rt.alloc(), count)?;
-    }
-    Ok(())
-}
-
-#[test]
-fn refused_read_of_short_lists(rt: HostRuntime) -> Result<(), Fail> {
-    for count in [3, 4, 5, 6] {
+    for count in [1, 2, 3, 4, 5, 6, 32, 33] {
         expect_list_of::<32>(&rt, rt.alloc(), count)?;
     }
     Ok(())
@@ -118,6 +64,9 @@ fn refused_read_of_short_lists(rt: HostRuntime) -> Result<(), Fail> {
 
 #[test]
 fn refused_read_of_long_lists(rt: HostRuntime) -> Result<(), Fail> {
+    for count in [3, 5, 300, 301] {
+        expect_list_of::<64>(&rt, rt.alloc(), count)?;
+    }
     for count in [255, 4096, 65536, 70001] {
         expect_list_of::<0>(&rt, rt.alloc(), count)?;
     }
@@ -143,47 +92,23 @@ fn refused_room_alone(rt: HostRuntime) -> Result<(), Fail> {
 // Codes of usual hash functions (sha2-256, blake3), and one of nine bytes.
 const USUAL: [u64; 3] = [18, 30, LARGEST_CODE];
 
-fn expect_usual_bytes<const S: usize>(rt: &impl Abort, alloc: Global) -> Result<(), Fail>
+// One allocation for each code and form.
+fn expect_usual_forms<const S: usize>(rt: &impl Abort, alloc: Global) -> Result<(), Fail>
     requires { S < 2 ^ 16 }
 {
     for code in USUAL {
         let m = Multihash::<S>::wrap(code, &[65; 32])?;
         unless_refused(rt, m.to_bytes(alloc))?;
-    }
-    Ok(())
-}
-
-// One allocation for each code.
-#[test]
-fn refused_to_bytes_of_usual_digests(rt: HostRuntime) -> Result<(), Fail> {
-    expect_usual_bytes::<32>(&rt, rt.alloc())?;
-    expect_usual_bytes::<64>(&rt, rt.alloc())?;
-    expect_usual_bytes::<300>(&rt, rt.alloc())
-}
-
-fn expect_usual_values<const S: usize>(rt: &impl Abort, alloc: Global) -> Result<(), Fail>
-    requires { S < 2 ^ 16 }
-{
-    for code in USUAL {
-        let m = Multihash::<S>::wrap(code, &[65; 32])?;
         unless_refused(rt, m.to_value(alloc))?;
     }
     Ok(())
 }
 
 #[test]
-fn refused_to_value_of_usual_digests(rt: HostRuntime) -> Result<(), Fail> {
-    expect_usual_values::<32>(&rt, rt.alloc())?;
-    expect_usual_values::<64>(&rt, rt.alloc())?;
-    expect_usual_values::<300>(&rt, rt.alloc())
-}
-
-#[test]
-fn refused_read_of_lists_in_64(rt: HostRuntime) -> Result<(), Fail> {
-    for count in [3, 5, 300, 301] {
-        expect_list_of::<64>(&rt, rt.alloc(), count)?;
-    }
-    Ok(())
+fn refused_forms_of_usual_digests(rt: HostRuntime) -> Result<(), Fail> {
+    expect_usual_forms::<32>(&rt, rt.alloc())?;
+    expect_usual_forms::<64>(&rt, rt.alloc())?;
+    expect_usual_forms::<300>(&rt, rt.alloc())
 }
 
 fn expect_no_request<const S: usize>(rt: &impl Abort) -> Result<(), Fail>

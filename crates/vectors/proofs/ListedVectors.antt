@@ -18,7 +18,7 @@ use Rattle.multihash.proofs.Examples.VerdictVectors.{size_5, size_named, code_na
 use Rattle.multihash.proofs.Examples.ScaleVectors.{zeros, all_255, scale_eight_bytes, scale_size_first, scale_size_behind}
 use Rattle.vectors.proofs.ScaleAnswerLemmas.{size_shortest}
 use Rattle.vectors.specs.declared.check.Check.{Check}
-use Rattle.vectors.specs.declared.check.Check.TheVariants.{FromBytes, ReadSlice, ReadOneByte, ReadThreeBytes, ScaleSlice, ScaleOneByte, FromValue}
+use Rattle.vectors.specs.declared.check.Check.TheVariants.{FromBytes, ReadSlice, ReadOneByte, ReadTwoBytes, ReadThreeBytes, ScaleSlice, ScaleOneByte, ScaleFourBytes, FromValue}
 use Rattle.vectors.specs.declared.line.Line.{Line}
 use Rattle.vectors.specs.declared.line.Reading.{Reading}
 use Rattle.vectors.specs.declared.verdict.Verdict.{Verdict}
@@ -363,6 +363,10 @@ read_by_one_takes_no_other_count : (line : Line) → line.input.items ≡ three
     → line.read ≡ size_after 5 (Some 3) → ¬ (IsRight ReadOneByte 4 line)
 read_by_one_takes_no_other_count line input says h = no_other_count line input says h
 
+read_by_two_takes_no_other_count : (line : Line) → line.input.items ≡ three
+    → line.read ≡ size_after 5 (Some 3) → ¬ (IsRight ReadTwoBytes 4 line)
+read_by_two_takes_no_other_count line input says h = no_other_count line input says h
+
 read_by_three_takes_no_other_count : (line : Line) → line.input.items ≡ three
     → line.read ≡ size_after 5 (Some 3) → ¬ (IsRight ReadThreeBytes 4 line)
 read_by_three_takes_no_other_count line input says h = no_other_count line input says h
@@ -382,6 +386,10 @@ decoding_answers_no_other line input says h = no_other_decoded_size line input s
 decoding_by_one_answers_no_other : (line : Line) → line.input.items ≡ zeros ++ 5 ∷ 7 ∷ []
     → line.scale_decode ≡ size_after 6 (Some 9) → ¬ (IsRight ScaleOneByte 4 line)
 decoding_by_one_answers_no_other line input says h = no_other_decoded_size line input says h
+
+decoding_by_four_answers_no_other : (line : Line) → line.input.items ≡ zeros ++ 5 ∷ 7 ∷ []
+    → line.scale_decode ≡ size_after 6 (Some 9) → ¬ (IsRight ScaleFourBytes 4 line)
+decoding_by_four_answers_no_other line input says h = no_other_decoded_size line input says h
 
 -- one wrong line makes a list wrong, wherever it stands
 no_list_with_a_wrong_line : (before after : List Line) (wrong : Line) → wrong.size ≡ 4

@@ -7,7 +7,7 @@ use Rattle.multihash.specs.Settling.{IsShortestSettling}
 use Rattle.multihash.specs.Varint.{insufficient, overflow, not_minimal}
 use Rattle.multihash.specs.Verdict.{Verdict as Meaning, accepted, invalid_size, invalid_code, faulty, unexpected_eof, HasVerdict, HasWholeVerdict, IsEarlyEnd}
 use Rattle.vectors.specs.declared.check.Check.{Check}
-use Rattle.vectors.specs.declared.check.Check.TheVariants.{FromBytes, ReadSlice, ReadOneByte, ReadThreeBytes, ScaleSlice, ScaleOneByte, FromValue}
+use Rattle.vectors.specs.declared.check.Check.TheVariants.{FromBytes, ReadSlice, ReadOneByte, ReadTwoBytes, ReadThreeBytes, ScaleSlice, ScaleOneByte, ScaleFourBytes, FromValue}
 use Rattle.vectors.specs.declared.line.Line.{Line}
 use Rattle.vectors.specs.declared.line.Reading.{Reading}
 use Rattle.vectors.specs.declared.verdict.Verdict.{Verdict}
@@ -96,9 +96,11 @@ abbrev pub IsRight : Check → ℕ → Line → Type 0
 IsRight FromBytes S line = HasWholeVerdict S line.input.items (meaning line.from_bytes)
 IsRight ReadSlice S line = IsReading S line.input.items line.read
 IsRight ReadOneByte S line = IsReading S line.input.items line.read
+IsRight ReadTwoBytes S line = IsReading S line.input.items line.read
 IsRight ReadThreeBytes S line = IsReading S line.input.items line.read
 IsRight ScaleSlice S line = IsScaleReading S line.input.items line.scale_decode
 IsRight ScaleOneByte S line = IsScaleReading S line.input.items line.scale_decode
+IsRight ScaleFourBytes S line = IsScaleReading S line.input.items line.scale_decode
 IsRight FromValue S line = HasWholeVerdict S line.input.items (meaning line.from_bytes)
 
 -- each line is right for this check

@@ -1,7 +1,7 @@
 //! The checks on one line.
 ghost use Rattle.std.specs.Prelude.{◌≡◌, ◌<◌, ◌≤◌, ◌↔◌, ◌⊎◌, length, count_by, IsTrue};
 ghost use Rattle.multihash.specs.Verdict.{HasWholeVerdict};
-ghost use Rattle.vectors.specs.declared.check.Check.TheVariants.{ReadOneByte, ReadThreeBytes, ScaleOneByte};
+ghost use Rattle.vectors.specs.declared.check.Check.TheVariants.{ReadOneByte, ReadTwoBytes, ReadThreeBytes, ScaleOneByte, ScaleFourBytes};
 ghost use Rattle.vectors.specs.Listed.{meaning, IsReading, IsScaleReading, ends_varint, TakesAsReadListed, TakesAsScaleListed, IsRight};
 
 use crate::cuts::Cuts;
@@ -14,14 +14,16 @@ use std::fmt;
 const LARGEST: usize = 300;
 
 /// A call whose result a line states.
-#[derive(Clone, Copy, Debug, PartialEq, Eq)]
+#[derive(Clone, Copy)]
 pub enum Check {
     FromBytes,
     ReadSlice,
     ReadOneByte,
+    ReadTwoBytes,
     ReadThreeBytes,
     ScaleSlice,
     ScaleOneByte,
+    ScaleFourBytes,
     FromValue,
 }
 
@@ -31,9 +33,11 @@ impl fmt::Display for Check {
             Check::FromBytes => "from_bytes",
             Check::ReadSlice => "read over the slice",
             Check::ReadOneByte => "read, one byte a call",
+            Check::ReadTwoBytes => "read, two bytes a call",
             Check::ReadThreeBytes => "read, three bytes a call",
             Check::ScaleSlice => "scale_decode over the slice",
             Check::ScaleOneByte => "scale_decode, one byte a call",
+            Check::ScaleFourBytes => "scale_decode, four bytes a call",
             Check::FromValue => "from_value",
         })
     }
@@ -41,13 +45,15 @@ impl fmt::Display for Check {
 
 impl Check {
     /// All checks, in the order in which they are made.
-    pub const ALL: [Check; 7] = [
+    pub const ALL: [Check; 9] = [
         Check::FromBytes,
         Check::ReadSlice,
         Check::ReadOneByte,
+        Check::ReadTwoBytes,
         Check::ReadThreeBytes,
         Check::ScaleSlice,
         Check::ScaleOneByte,
+        Check::ScaleFourBytes,
         Check::FromValue,
     ];
 
@@ -79,11 +85,11 @@ impl Check {
         match self {
             Check::FromBytes => whole_agrees::<S>(&line.input, &line.from_bytes),
             Check::ReadSlice => slice_agrees::<S>(&line.input, &line.read),
-            Check::ReadOneByte | Check::ReadThreeBytes => {
+            Check::ReadOneByte | Check::ReadTwoBytes | Check::ReadThreeBytes => {
                 cuts_agree::<S>(&line.input, &line.read, self.bytes_a_call())
             }
             Check::ScaleSlice => scale_slice_agrees::<S>(&line.input, &line.scale_decode),
-            Check::ScaleOneByte => {
+            Check::ScaleOneByte | Check::ScaleFourBytes => {
                 scale_cuts_agree::<S>(&line.input, &line.scale_decode, self.bytes_a_call())
             }
             Check::FromValue => value_agrees::<S>(line),
@@ -94,10 +100,14 @@ impl Check {
     fn bytes_a_call(self) -> usize
         ensures some { 0 < result }
         ensures one { (self ≡ ReadOneByte) ⊎ (self ≡ ScaleOneByte) → result ≡ 1 }
+        ensures two { self ≡ ReadTwoBytes → result ≡ 2 }
         ensures three { self ≡ ReadThreeBytes → result ≡ 3 }
+        ensures four { self ≡ ScaleFourBytes → result ≡ 4 }
     {
         match self {
+            Check::ReadTwoBytes => 2,
             Check::ReadThreeBytes => 3,
+            Check::ScaleFourBytes => 4,
             _ => 1,
         }
     }

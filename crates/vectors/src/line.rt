@@ -17,7 +17,7 @@ const SIZES: &str = "0, 1, 2, 4, 16, 32, 64, 128, 200, 255, 256 and 300";
 
 /// The expected result of a reading call, and the number of bytes that it has to consume: none if more input
 /// could change the result.
-#[derive(Debug, Drop)]
+#[derive(Drop)]
 pub struct Reading {
     pub verdict: Verdict,
     pub taken: Option<usize>,
@@ -36,7 +36,7 @@ impl Reading {
 }
 
 /// An input, with the expected results of the calls.
-#[derive(Debug, Drop)]
+#[derive(Drop)]
 pub struct Line {
     /// The capacity, one of those that test vectors may have.
     pub size: usize,

@@ -13,8 +13,6 @@ use std::process::ExitCode;
 
 mod check;
 mod cuts;
-#[cfg(test)]
-mod expect;
 mod line;
 mod replay;
 mod verdict;

@@ -75,6 +75,3 @@ fn write_disagreement<W: Write>(check: Check, line: &Line, report: &mut W) -> Re
     writeln!(report)?;
     Ok(())
 }
-
-#[cfg(test)]
-mod tests;

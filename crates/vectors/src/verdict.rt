@@ -9,7 +9,7 @@ use multihash::{Error, Multihash};
 use std::alloc::Global;
 
 /// The verdict on an input, as a line states it.
-#[derive(Debug, Drop)]
+#[derive(Drop)]
 pub enum Verdict {
     Pair { code: u64, digest: Vec<u8> },
     InvalidSize(u64),

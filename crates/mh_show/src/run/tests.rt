@@ -1,6 +1,3 @@
-ghost use Rattle.std.specs.Prelude.{◌≡◌, ℕ, List, ◌++◌};
-ghost use Rattle.mh_show.specs.Shown.{ShowsAs};
-
 mod fakes;
 
 use super::*;
@@ -51,15 +48,6 @@ fn expect_lines(rt: &(impl Abort + AllocGlobal), text: &[u8], lines: &[u8]) {
 fn expect_refusal<I: Read>(rt: &(impl Abort + AllocGlobal), input: &mut I, line: &[u8]) {
     let wanted = (1, b"".as_slice(), line);
     expect_run(rt, input, &mut Page::new(), &mut Page::new(), wanted);
-}
-
-// What a run over memory leaves, from its contract alone.
-fn shows_memory(alloc: Global, mut text: &[u8], out: &mut Vec<u8>, err: &mut Vec<u8>) -> u8
-    ensures shown { result ≡ 0 → (lines : List ℕ) × ShowsAs text.entry.now lines
-        × (out.new.items ≡ out.old.items ++ lines) }
-    ensures kept { result ≡ 0 → err.new ≡ err.old }
-{
-    run(alloc, &mut text, out, err)
 }
 
 #[test]
@@ -127,6 +115,11 @@ fn tells_why_a_text_is_refused(rt: HostRuntime) {
     let longest = b"mh_show: Invalid multihash size 9223372036854775807.\n";
     expect_text_refused(rt, b"00ffffffffffffffff7f", longest);
     expect_text_refused(rt, b"8000", b"mh_show: encoding is not minimal\n");
+    expect_text_refused(
+        rt,
+        b"808080808080808000",
+        b"mh_show: encoding is not minimal\n",
+    );
     expect_text_refused(rt, b"0001", b"mh_show: failed to fill whole buffer\n");
     let exceeds = b"mh_show: input bytes exceed maximum\n";
     expect_text_refused(rt, b"ffffffffffffffffff", exceeds);
@@ -250,18 +243,6 @@ fn first_fault_first(rt: HostRuntime) {
     let broken = Drip::failing(EXAMPLE, ErrorKind::NotConnected);
     expect_first(rt, broken, NOT_READ);
     expect_first(rt, Drip::new(b"zz", 9), NOT_HEX);
-}
-
-#[test]
-fn appends_to_a_vector(rt: HostRuntime) {
-    let alloc = rt.alloc();
-    let rt = &rt;
-    let (mut out, mut err) = (Vec::new(alloc), Vec::new(alloc));
-    check_eq!(rt; shows_memory(alloc, b"0000", &mut out, &mut err), 0);
-    check_eq!(rt; shows_memory(alloc, b"0000", &mut out, &mut err), 0);
-    let twice = b"code 0\nsize 0\ndigest -\ncode 0\nsize 0\ndigest -\n";
-    expect_bytes(rt, &out, twice);
-    check!(rt; err.is_empty());
 }
 
 // A `refused` test passes where nothing is refused. Where a request is, it looks at what stands then,

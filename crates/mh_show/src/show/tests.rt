@@ -80,45 +80,6 @@ fn an_odd_line_needs_no_memory(rt: HostRuntime) {
     check!(rt; matches!(show(alloc, b"0\n"), Err(ShowError::NotHex)));
 }
 
-fn expect_shown(rt: &impl Abort, alloc: Global, text: &[u8], lines: &str) {
-    expect_told(rt, show(alloc, text), lines);
-}
-
-#[test]
-fn shows_what_a_line_names(rt: HostRuntime) {
-    let alloc = rt.alloc();
-    let rt = &rt;
-    let empty = "code 0\nsize 0\ndigest -\n";
-    let three = "code 22\nsize 3\ndigest aabbcc\n";
-    expect_shown(rt, alloc, b"0000", empty);
-    expect_shown(rt, alloc, b"0000\n", empty);
-    expect_shown(rt, alloc, b"1603AABBCC\n", three);
-    expect_shown(rt, alloc, b"1603aaBBcc", three);
-    let largest = "code 9223372036854775807\nsize 0\ndigest -\n";
-    expect_shown(rt, alloc, b"ffffffffffffffff7f00", largest);
-}
-
-#[test]
-fn tells_why_a_line_is_refused(rt: HostRuntime) {
-    let alloc = rt.alloc();
-    let rt = &rt;
-    expect_refused(rt, alloc, b"", "not enough input bytes");
-    expect_refused(rt, alloc, b"\n", "not enough input bytes");
-    expect_refused(rt, alloc, b"0", "not hexadecimal");
-    expect_refused(rt, alloc, b"zz", "not hexadecimal");
-    expect_refused(rt, alloc, b"00\n\n", "not hexadecimal");
-    expect_refused(rt, alloc, b"0041", "Invalid multihash size 65.");
-    expect_refused(rt, alloc, b"8000", "encoding is not minimal");
-    expect_refused(rt, alloc, b"0001", "failed to fill whole buffer");
-    expect_refused(rt, alloc, b"808080808080808000", "encoding is not minimal");
-    expect_refused(
-        rt,
-        alloc,
-        b"ffffffffffffffffff0100",
-        "input bytes exceed maximum",
-    );
-}
-
 fn is_error<E: std::error::Error>(_e: &E) -> bool {
     true
 }

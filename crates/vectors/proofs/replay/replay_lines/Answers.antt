@@ -4,23 +4,26 @@ use Rattle.std.proofs.lemmas.List.{take_all}
 use Rattle.std.proofs.lemmas.List.Elements.{All-more}
 use Rattle.vectors.specs.Listed.{AreRightFor}
 use Rattle.vectors.specs.declared.check.Check.{Check}
-use Rattle.vectors.specs.declared.check.Check.TheVariants.{FromBytes, ReadSlice, ReadOneByte, ReadThreeBytes, ScaleSlice, ScaleOneByte, FromValue}
+use Rattle.vectors.specs.declared.check.Check.TheVariants.{FromBytes, ReadSlice, ReadOneByte, ReadTwoBytes, ReadThreeBytes, ScaleSlice, ScaleOneByte, ScaleFourBytes, FromValue}
 use Rattle.vectors.proofs.AnswerLemmas.{All-fewer, All-last}
 use Rattle.vectors.proofs.replay.replay_lines.Goals as goal
 use Rattle.vectors.proofs.replay.replay_lines.Goals.{then-branch, else-branch}
 
 abbrev checks : List Check
-checks = FromBytes ∷ ReadSlice ∷ ReadOneByte ∷ ReadThreeBytes ∷ ScaleSlice ∷ ScaleOneByte ∷ FromValue ∷ []
+checks =
+    FromBytes ∷ ReadSlice ∷ ReadOneByte ∷ ReadTwoBytes ∷ ReadThreeBytes ∷ ScaleSlice ∷ ScaleOneByte ∷ ScaleFourBytes ∷ FromValue ∷ []
 
 -- what holds of each check in the list holds of each check
 of_each : (P : Check → Type 0) → All P checks → (check : Check) → P check
 of_each P all FromBytes = all 0 FromBytes (omega arith)
 of_each P all ReadSlice = all 1 FromBytes (omega arith)
 of_each P all ReadOneByte = all 2 FromBytes (omega arith)
-of_each P all ReadThreeBytes = all 3 FromBytes (omega arith)
-of_each P all ScaleSlice = all 4 FromBytes (omega arith)
-of_each P all ScaleOneByte = all 5 FromBytes (omega arith)
-of_each P all FromValue = all 6 FromBytes (omega arith)
+of_each P all ReadTwoBytes = all 3 FromBytes (omega arith)
+of_each P all ReadThreeBytes = all 4 FromBytes (omega arith)
+of_each P all ScaleSlice = all 5 FromBytes (omega arith)
+of_each P all ScaleOneByte = all 6 FromBytes (omega arith)
+of_each P all ScaleFourBytes = all 7 FromBytes (omega arith)
+of_each P all FromValue = all 8 FromBytes (omega arith)
 
 pub loop-check-preserved : goal.loop-check-preserved
 loop-check-preserved g c =
