@@ -1,0 +1,5 @@
+//! Storage of blocks by their multihashes, with SHA-256.
+#![tactic(auto)]
+
+pub mod chunks;
+pub mod hashing;
