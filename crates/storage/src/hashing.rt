@@ -180,10 +180,13 @@ impl<R: Read> Read for HashingReader<R> {
     {
         let mut filled = 0;
         while filled < buf.len() {
-            match self.read(&mut buf[filled..])? {
-                0 => return Err(Error::unexpected_eof()),
-                n => filled += n,
+            let n = self.read(&mut buf[filled..])?;
+            if n == 0 {
+                // Only the library makes the error of an input that ends.
+                let mut none: &[u8] = &[];
+                return none.read_exact(&mut buf[filled..]);
             }
+            filled += n;
         }
         Ok(())
     }
