@@ -1,5 +1,6 @@
 pub mod BeginningLemmas
 pub mod FrontLemmas
+pub mod InTurnLemmas
 pub mod ReadStopLemmas
 pub mod ReadTakingLemmas
 pub mod ReadingLemmas

@@ -5,6 +5,7 @@ pub mod Encoding
 pub mod Fault
 pub mod Filling
 pub mod Head
+pub mod InTurn
 pub mod Joined
 pub mod Json
 pub mod Members

@@ -3,3 +3,4 @@
 
 pub mod chunks;
 pub mod hashing;
+pub mod log;
