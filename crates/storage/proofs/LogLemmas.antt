@@ -1,5 +1,5 @@
 -- An entry that comes next, and how reading one fails.
-use Rattle.std.proofs.Common.{◌≡◌, ◌+◌, ◌≤◌, ℕ, ◌⊎◌, List, ◌++◌, Option, Some, Result, Ok, Err, MatchResult, IfSome, IfOk, IfErr, length, take, drop, inl, inr, refl, ap, ◌∙◌, append_assoc}
+use Rattle.std.proofs.Common.{◌≡◌, ◌+◌, ◌<◌, ◌≤◌, ℕ, ◌⊎◌, List, [], ◌∷◌, ◌++◌, Option, Some, Result, Ok, Err, MatchResult, IfSome, IfOk, IfErr, length, take, drop, inl, inr, refl, ap, ◌∙◌, append_assoc, length-append, arith}
 use Rattle.std.proofs.Math.Seq.{take-append_seam}
 use Rattle.std.specs.Result.{IsErrAnd}
 use Rattle.multihash.specs.Pair.{Pair, FitsBuffer}
@@ -11,6 +11,9 @@ use Rattle.multihash.specs.Refusal.{Refusal, IsMemory, IsReaderFault}
 use Rattle.multihash.specs.Taking.{IsReadRefusal, TakesVarint, IsFrontRefusal}
 use Rattle.multihash.proofs.OutcomeLemmas.{passed_err}
 use Rattle.multihash.proofs.CallingLemmas.{varint_read, read_of_encoding}
+use Rattle.sha2.proofs.Facts256.{length-sha256}
+use Rattle.multihash.specs.Varint.{marked}
+use Rattle.storage.specs.Content.{content_pair}
 use Rattle.storage.specs.Log.{IsEntry, IsRefused, IsEntryRefusal, EntryFails}
 use Rattle.storage.specs.declared.log.EntryError.{EntryError}
 use Rattle.storage.specs.declared.log.EntryError.TheVariants.{Refused}
@@ -63,3 +66,14 @@ module _ (S before after : ℕ) (old new : Option (List ℕ)) (p : Pair) (block 
       → IfOk r (λ n. TakesVarint n old new) → IfSome old (λ input. after ≡ before → IfErr r (IsFrontRefusal input))
       → MatchResult r (λ n. (n ≡ length block) × (new ≡ Some (block ++ more))) (λ _. ⊥)
   length_found r rest ok front = varint_read (length block) before after old new h.len (block ++ more) r h.is_len rest same ok front
+
+-- the pair of a content has a digest of 32 bytes
+pub content_fits : (content : List ℕ) → FitsBuffer 32 (content_pair content)
+content_fits content = omega (arith, length-sha256 content)
+
+-- an entry has bytes
+pub entry_some : (p : Pair) (block bytes : List ℕ) → IsEntry p block bytes → 0 < length bytes
+entry_some p block bytes h =
+    let code = h.encodes.is_code in
+    omega (arith, ap length h.parts, length-append h.encoding (h.len ++ block), ap length h.encodes.spelled,
+        length-append h.encodes.code (h.encodes.size ++ p.digest), ap length code.spelled, length-append (marked code.front) (code.last ∷ []))

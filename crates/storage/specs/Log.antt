@@ -43,3 +43,24 @@ abbrev pub EntryFails : ℕ → ℕ → EntryError → Option (List ℕ) → Opt
 EntryFails S limit e = FailsInTurn (λ old new. IsRefused (λ r. ReadFails S r old new) e)
     (λ p. Consumes (IsEncoding p))
     (λ _. FailsInTurn (λ old new. IsRefused (λ r. VarintFails r old new) e) TakesVarint (BlockFails limit e))
+
+-- the input starts with an entry whose block has the multihash that it says
+pub record HasEntry (input : List ℕ) : Type 0 where
+  pub block : List ℕ
+  pub entry : List ℕ
+  pub rest : List ℕ
+  pub is_entry : IsEntry (content_pair block) block entry
+  pub cut : input ≡ entry ++ rest
+
+-- the bytes are such entries, one after another
+pub data AreEntries : List ℕ → Type 0 where
+  none : AreEntries []
+  one_more : (bytes block entry : List ℕ) → AreEntries bytes → IsEntry (content_pair block) block entry
+      → AreEntries (bytes ++ entry)
+
+-- the front of the input is such entries, and the rest does not start with one
+pub record IsValidPrefix (front input : List ℕ) : Type 0 where
+  pub entries : AreEntries front
+  pub rest : List ℕ
+  pub cut : input ≡ front ++ rest
+  pub ends : ¬ (HasEntry rest)

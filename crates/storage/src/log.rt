@@ -1,13 +1,15 @@
 //! A log of blocks: each entry is a multihash, the varint of the block's length, and the block.
-ghost use Rattle.std.specs.Prelude.{◌≡◌, ◌≤◌, ℕ, List, ◌++◌, Some, length, IfOk, IfErr, OnOk, OnErr, MatchResult};
+ghost use Rattle.std.specs.Prelude.{◌≡◌, ◌≤◌, ℕ, List, ◌++◌, Some, length, IfOk, IfErr, OnOk, OnErr, MatchResult, IfSome, IfNone};
 ghost use Rattle.multihash.specs.Pair.{Pair, FitsBuffer};
 ghost use Rattle.multihash.specs.Answer.{pair_of};
 ghost use Rattle.multihash.specs.Reading.{Takes, CountsReader};
 ghost use Rattle.multihash.specs.Writing.{AppendsPart, CountsWriter};
 ghost use Rattle.multihash.specs.Refusal.{Refusal, IsIo, IsMemory, IsReaderFault, of_io};
-ghost use Rattle.storage.specs.Log.{IsEntry, IsRefused, IsEntryRefusal, EntryFails};
+ghost use Rattle.storage.specs.Log.{IsEntry, IsRefused, IsEntryRefusal, EntryFails, HasEntry, IsValidPrefix};
+ghost use Rattle.storage.specs.Content.{content_pair};
 ghost use Rattle.storage.specs.declared.log.EntryError.TheVariants.{Refused};
 
+use crate::hashing::Tally;
 use multihash::no_std_io::{self, Read, Write};
 use multihash::{Error, Multihash, varint};
 use std::alloc::{AllocError, Global};
@@ -117,4 +119,48 @@ pub fn read_entry<const S: usize, R: Read>(alloc: Global, r: &mut R, limit: usiz
     let mut block = vec![in alloc; 0; len as usize]?;
     r.read_exact(&mut block)?;
     Ok(Entry { hash, block })
+}
+
+// The multihash of the block.
+fn hash_of(block: &[u8]) -> Multihash<32>
+    ensures { pair_of result ≡ content_pair block.now }
+{
+    let mut tally = Tally::new();
+    tally.add(block);
+    tally.finish()
+}
+
+// The bytes after the entry at the front, if there is one whose block has the multihash that it says.
+fn after_entry(bytes: &[u8]) -> Option<&[u8]>
+    ensures some { IfSome result (λ rest. (block entry : List ℕ) × IsEntry (content_pair block) block entry
+        × (bytes.now ≡ entry ++ rest.now)) }
+    ensures none { IfNone result (¬ (HasEntry bytes.now)) }
+{
+    let mut rest = bytes;
+    let Ok(hash) = Multihash::<32>::read(&mut rest) else {
+        return None;
+    };
+    let Ok(len) = varint::read(&mut rest) else {
+        return None;
+    };
+    if len > rest.len() as u64 {
+        return None;
+    }
+    let (block, rest) = rest.split_at(len as usize);
+    if !hash_of(block).same_as(&hash) {
+        return None;
+    }
+    Some(rest)
+}
+
+/// Returns the longest prefix of a log that is whole entries whose blocks have the multihashes that they
+/// say. A log that was cut or spoilt can be continued after that prefix.
+pub fn valid_prefix(bytes: &[u8]) -> &[u8]
+    ensures { IsValidPrefix result.now bytes.now }
+{
+    let mut rest = bytes;
+    while let Some(next) = after_entry(rest) {
+        rest = next;
+    }
+    &bytes[..bytes.len() - rest.len()]
 }
