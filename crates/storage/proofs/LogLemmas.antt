@@ -1,5 +1,6 @@
 -- An entry that comes next, and how reading one fails.
-use Rattle.std.proofs.Common.{◌≡◌, ◌+◌, ◌<◌, ◌≤◌, ℕ, ◌⊎◌, List, [], ◌∷◌, ◌++◌, Option, Some, Result, Ok, Err, MatchResult, IfSome, IfOk, IfErr, length, take, drop, inl, inr, refl, ap, ◌∙◌, append_assoc, length-append, arith}
+use Rattle.std.proofs.Common.{◌≡◌, ◌+◌, ◌≤◌, ℕ, ◌⊎◌, List, [], ◌++◌, Option, Some, Result, Ok, Err, MatchResult, IfSome, IfOk, IfErr, length, take, drop, inl, inr, refl, ap, ◌∙◌, append_assoc, append-nil, length-append, sym, subst, arith}
+use Rattle.std.proofs.lemmas.List.{append_cancel_right}
 use Rattle.std.proofs.Math.Seq.{take-append_seam}
 use Rattle.std.specs.Result.{IsErrAnd}
 use Rattle.multihash.specs.Pair.{Pair, FitsBuffer}
@@ -9,12 +10,13 @@ use Rattle.multihash.specs.Answer.{Fields, pair_of, Answers}
 use Rattle.multihash.specs.Reading.{Takes, CountsReader}
 use Rattle.multihash.specs.Refusal.{Refusal, IsMemory, IsReaderFault}
 use Rattle.multihash.specs.Taking.{IsReadRefusal, TakesVarint, IsFrontRefusal}
+use Rattle.multihash.proofs.Writings.EncodingLemmas.{encoding_unique, same_cut}
+use Rattle.multihash.proofs.Varints.VarintLemmas.{same_number}
 use Rattle.multihash.proofs.OutcomeLemmas.{passed_err}
 use Rattle.multihash.proofs.CallingLemmas.{varint_read, read_of_encoding}
 use Rattle.sha2.proofs.Facts256.{length-sha256}
-use Rattle.multihash.specs.Varint.{marked}
 use Rattle.storage.specs.Content.{content_pair}
-use Rattle.storage.specs.Log.{IsEntry, IsRefused, IsEntryRefusal, EntryFails}
+use Rattle.storage.specs.Log.{IsEntry, IsRefused, IsEntryRefusal, EntryFails, HasEntry, AreEntries, none, one_more}
 use Rattle.storage.specs.declared.log.EntryError.{EntryError}
 use Rattle.storage.specs.declared.log.EntryError.TheVariants.{Refused}
 
@@ -71,9 +73,29 @@ module _ (S before after : ℕ) (old new : Option (List ℕ)) (p : Pair) (block 
 pub content_fits : (content : List ℕ) → FitsBuffer 32 (content_pair content)
 content_fits content = omega (arith, length-sha256 content)
 
--- an entry has bytes
-pub entry_some : (p : Pair) (block bytes : List ℕ) → IsEntry p block bytes → 0 < length bytes
-entry_some p block bytes h =
-    let code = h.encodes.is_code in
-    omega (arith, ap length h.parts, length-append h.encoding (h.len ++ block), ap length h.encodes.spelled,
-        length-append h.encodes.code (h.encodes.size ++ p.digest), ap length code.spelled, length-append (marked code.front) (code.last ∷ []))
+-- one more entry follows
+pub entries_more : (front block entry : List ℕ) → AreEntries front → IsEntry (content_pair block) block entry → AreEntries (front ++ entry)
+entries_more front block entry none is = subst AreEntries (append-nil entry) (one_more block entry [] is none)
+entries_more front block entry (one_more b e bytes first more) is =
+    subst AreEntries (sym (append_assoc e bytes entry)) (one_more b e (bytes ++ entry) first (entries_more bytes block entry more is))
+
+-- two entries in front of one list are equal, and so is what follows them
+pub entry_unique : (p q : Pair) (a b x y r s : List ℕ) → IsEntry p a x → IsEntry q b y → x ++ r ≡ y ++ s → (x ≡ y) × (r ≡ s)
+entry_unique p q a b x y r s h k same =
+    let hashes = encoding_unique p q h.encoding k.encoding (h.len ++ (a ++ r)) (k.len ++ (b ++ s)) h.encodes k.encodes
+        (sym (entry_cut p a x r h) ∙ (same ∙ entry_cut q b y s k)) in
+    let lens = same_number (h.len ++ (a ++ r)) (length a) (length b) (a ++ r) (b ++ s) (h.len, h.is_len, refl) (k.len, k.is_len, hashes.2) in
+    let blocks = same_cut a b r s lens.0 lens.1 in
+    let whole : x ≡ y = append_cancel_right x y r (same ∙ ap (λ (z : List ℕ). y ++ z) (sym blocks.1)) in
+    (whole, blocks.1)
+
+-- no prefix that is entries is longer than one after which none comes
+pub longest_entries : (front rest other more : List ℕ) → AreEntries front → AreEntries other → ¬ (HasEntry rest)
+    → front ++ rest ≡ other ++ more → length other ≤ length front
+longest_entries front rest other more are none ends same = omega arith
+longest_entries front rest other more none (one_more b e bytes is after) ends same =
+    absurd (ends (record { block = b; entry = e; rest = bytes ++ more; is_entry = is; cut = same ∙ append_assoc e bytes more }))
+longest_entries front rest other more (one_more a d first is_a then_a) (one_more b e bytes is_b then_b) ends same =
+    let told = entry_unique (content_pair a) (content_pair b) a b d e (first ++ rest) (bytes ++ more) is_a is_b
+        (sym (append_assoc d first rest) ∙ (same ∙ append_assoc e bytes more)) in
+    omega (arith, longest_entries first rest bytes more then_a then_b ends told.1, ap length told.0, length-append d first, length-append e bytes)

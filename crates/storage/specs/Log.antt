@@ -55,8 +55,8 @@ pub record HasEntry (input : List ℕ) : Type 0 where
 -- the bytes are such entries, one after another
 pub data AreEntries : List ℕ → Type 0 where
   none : AreEntries []
-  one_more : (bytes block entry : List ℕ) → AreEntries bytes → IsEntry (content_pair block) block entry
-      → AreEntries (bytes ++ entry)
+  one_more : (block entry bytes : List ℕ) → IsEntry (content_pair block) block entry → AreEntries bytes
+      → AreEntries (entry ++ bytes)
 
 -- the front of the input is such entries, and the rest does not start with one
 pub record IsValidPrefix (front input : List ℕ) : Type 0 where

@@ -5,7 +5,7 @@ ghost use Rattle.multihash.specs.Answer.{pair_of};
 ghost use Rattle.multihash.specs.Reading.{Takes, CountsReader};
 ghost use Rattle.multihash.specs.Writing.{AppendsPart, CountsWriter};
 ghost use Rattle.multihash.specs.Refusal.{Refusal, IsIo, IsMemory, IsReaderFault, of_io};
-ghost use Rattle.storage.specs.Log.{IsEntry, IsRefused, IsEntryRefusal, EntryFails, HasEntry, IsValidPrefix};
+ghost use Rattle.storage.specs.Log.{IsEntry, IsRefused, IsEntryRefusal, EntryFails, HasEntry, AreEntries, IsValidPrefix};
 ghost use Rattle.storage.specs.Content.{content_pair};
 ghost use Rattle.storage.specs.declared.log.EntryError.TheVariants.{Refused};
 
@@ -156,7 +156,9 @@ fn after_entry(bytes: &[u8]) -> Option<&[u8]>
 /// Returns the longest prefix of a log that is whole entries whose blocks have the multihashes that they
 /// say. A log that was cut or spoilt can be continued after that prefix.
 pub fn valid_prefix(bytes: &[u8]) -> &[u8]
-    ensures { IsValidPrefix result.now bytes.now }
+    ensures valid { IsValidPrefix result.now bytes.now }
+    ensures longest { (other more : List ℕ) → AreEntries other → bytes.now ≡ other ++ more →
+        length other ≤ length result.now }
 {
     let mut rest = bytes;
     while let Some(next) = after_entry(rest) {

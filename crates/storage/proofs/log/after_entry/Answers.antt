@@ -1,4 +1,4 @@
-use Rattle.std.proofs.Common.{◌≡◌, ℕ, List, ◌++◌, Some, Ok, Err, length, take, length-append, take-append-drop, append_assoc, refl, sym, ap, ◌∙◌, subst, arith, rules}
+use Rattle.std.proofs.Common.{◌≡◌, ℕ, List, ◌++◌, Some, Ok, Err, length, take, length-append, append_assoc, refl, sym, ap, ◌∙◌, subst, arith, rules}
 use Rattle.std.proofs.Math.Seq.{take-append_seam}
 use Rattle.std.proofs.lemmas.Bool.{false≢true}
 use Rattle.multihash.specs.Varint.{IsVarint}
@@ -52,7 +52,7 @@ returns-clause-some c =
     let rest = c.read-2.new.r.now in
     let own : pair_of c.in-Ok.hash ≡ content_pair block = sym (c.same_as.ensures.0 c.if-not-same_as.false) ∙ c.hash_of.ensures in
     let long : length block ≡ c.in-Ok-read.len = search rules in
-    let whole : rest ≡ block ++ c.split_at.result.1.now = cc (take-append-drop c.in-Ok-read.len rest, c.split_at.ensures.front, c.split_at.ensures.back) in
+    let whole : rest ≡ block ++ c.split_at.result.1.now = search rules in
     let first = Takes-cut c.args.bytes.now h.0 c.read.new.r.now h.2 in
     let second = Takes-cut c.read.new.r.now n.0 rest n.2 in (
       block,
