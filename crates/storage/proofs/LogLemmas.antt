@@ -83,7 +83,7 @@ entries_more front block entry (one_more b e bytes first more) is =
 pub entry_unique : (p q : Pair) (a b x y r s : List ℕ) → IsEntry p a x → IsEntry q b y → x ++ r ≡ y ++ s → (x ≡ y) × (r ≡ s)
 entry_unique p q a b x y r s h k same =
     let hashes = encoding_unique p q h.encoding k.encoding (h.len ++ (a ++ r)) (k.len ++ (b ++ s)) h.encodes k.encodes
-        (sym (entry_cut p a x r h) ∙ (same ∙ entry_cut q b y s k)) in
+    (sym (entry_cut p a x r h) ∙ (same ∙ entry_cut q b y s k)) in
     let lens = same_number (h.len ++ (a ++ r)) (length a) (length b) (a ++ r) (b ++ s) (h.len, h.is_len, refl) (k.len, k.is_len, hashes.2) in
     let blocks = same_cut a b r s lens.0 lens.1 in
     let whole : x ≡ y = append_cancel_right x y r (same ∙ ap (λ (z : List ℕ). y ++ z) (sym blocks.1)) in
@@ -97,5 +97,5 @@ longest_entries front rest other more none (one_more b e bytes is after) ends sa
     absurd (ends (record { block = b; entry = e; rest = bytes ++ more; is_entry = is; cut = same ∙ append_assoc e bytes more }))
 longest_entries front rest other more (one_more a d first is_a then_a) (one_more b e bytes is_b then_b) ends same =
     let told = entry_unique (content_pair a) (content_pair b) a b d e (first ++ rest) (bytes ++ more) is_a is_b
-        (sym (append_assoc d first rest) ∙ (same ∙ append_assoc e bytes more)) in
+    (sym (append_assoc d first rest) ∙ (same ∙ append_assoc e bytes more)) in
     omega (arith, longest_entries first rest bytes more then_a then_b ends told.1, ap length told.0, length-append d first, length-append e bytes)

@@ -106,8 +106,9 @@ impl<W: Write> Write for HashingWriter<W> {
     ghost appends_nothing = { λ w. (W.appends_nothing w.inner, AddsBytes-none w.tally) };
 
     ghost appends_joined = { λ a b c x y first second. (
-        W.appends_joined a.inner b.inner c.inner x y first.0 second.0,
-        AddsBytes-joined a.tally b.tally c.tally x y first.1 second.1) };
+      W.appends_joined a.inner b.inner c.inner x y first.0 second.0,
+      AddsBytes-joined a.tally b.tally c.tally x y first.1 second.1,
+    ) };
 
     fn write(&mut self, buf: &[u8]) -> Result<usize, Error> {
         let n = self.inner.write(buf)?;

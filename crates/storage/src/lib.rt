@@ -4,3 +4,4 @@
 pub mod chunks;
 pub mod hashing;
 pub mod log;
+mod pins;

@@ -72,7 +72,11 @@ impl From<AllocError> for EntryError {
 /// # Errors
 ///
 /// The writer's error. A strict prefix of the entry has been appended then.
-pub fn write_entry<const S: usize, W: Write>(hash: &Multihash<S>, block: &[u8], w: &mut W) -> Result<(), Error>
+pub fn write_entry<const S: usize, W: Write>(
+    hash: &Multihash<S>,
+    block: &[u8],
+    w: &mut W,
+) -> Result<(), Error>
     ensures ok { OnOk result ((bytes : List ℕ) × IsEntry (pair_of hash.now) block.now bytes
         × W.appended w.old bytes w.new) }
     ensures err { OnErr result ((bytes : List ℕ) × IsEntry (pair_of hash.now) block.now bytes
@@ -96,7 +100,11 @@ pub fn write_entry<const S: usize, W: Write>(hash: &Multihash<S>, block: &[u8], 
 ///   were consumed. Out of memory for the block likewise.
 /// - An unexpected end within the block, or the reader's own error; fewer bytes than the block has were
 ///   consumed of it.
-pub fn read_entry<const S: usize, R: Read>(alloc: Global, r: &mut R, limit: usize) -> Result<Entry<S>, EntryError>
+pub fn read_entry<const S: usize, R: Read>(
+    alloc: Global,
+    r: &mut R,
+    limit: usize,
+) -> Result<Entry<S>, EntryError>
     ensures ok { IfOk result (λ e. (bytes : List ℕ) × IsEntry (pair_of e.hash) e.block.items bytes
         × Takes (R.rest r.old) bytes (R.rest r.new)) }
     ensures within { IfOk result (λ e. length e.block.items ≤ limit) }

@@ -39,8 +39,8 @@ returns-then-not-same_as-clause-none c h =
     let left : c.read-2.new.r.now ≡ h.block ++ h.rest = cc in
     let len = c.in-Ok-read.len in
     let is : c.split_at.result.0.now ≡ h.block =
-        c.split_at.ensures.front ∙ (ap (λ (z : List ℕ). take len z) left
-        ∙ (ap (λ (n : ℕ). take n (h.block ++ h.rest)) two.0 ∙ take-append_seam h.block h.rest)) in
+    c.split_at.ensures.front ∙ (ap (λ (z : List ℕ). take len z) left
+    ∙ (ap (λ (n : ℕ). take n (h.block ++ h.rest)) two.0 ∙ take-append_seam h.block h.rest)) in
     let same : pair_of c.hash_of.result ≡ pair_of c.in-Ok.hash = c.hash_of.ensures ∙ (ap content_pair is ∙ sym one.0) in
     false≢true (sym c.if-not-same_as.true ∙ c.same_as.ensures.1 same)
 

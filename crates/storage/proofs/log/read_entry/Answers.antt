@@ -1,4 +1,4 @@
-use Rattle.std.proofs.Common.{◌≡◌, ℕ, List, ◌++◌, Some, Ok, Err, length, inl, inr, refl, sym, subst, ◌∙◌, arith, rules}
+use Rattle.std.proofs.Common.{◌≡◌, ℕ, ◌++◌, Ok, Err, length, inl, inr, refl, sym, subst, ◌∙◌, arith, rules}
 use Rattle.multihash.specs.Refusal.{of_io}
 use Rattle.multihash.specs.Varint.{IsVarint}
 use Rattle.multihash.proofs.Readings.ReadingLemmas.{Takes-joined}
@@ -58,11 +58,30 @@ returns-in_err-read_exact-clause-err g c =
     let long : length c.deref_mut.result.now ≡ c.in_ok-len.len = search rules in
     let part = rw long at met.err in
     fails_with g.row.S _ _ _ (Refused (of_io fault)) _ c.from_residual-in_err-read_exact.ensures.1
-    (inr (_, _, c.in_ok-hash.ensures.ok, inr (_, _, c.in_ok-len.ensures.ok,
-    inr (inr ((of_io fault, refl, ((elim met.faults [
-      | inl own ↦ inr (fault, refl, own.1)
-      | inr eof ↦ inl (fault, refl, eof.1)
-    ]), part)), omega arith)))))
+    (inr (
+      _,
+      _,
+      c.in_ok-hash.ensures.ok,
+      inr (
+        _,
+        _,
+        c.in_ok-len.ensures.ok,
+        inr (inr (
+          (
+            of_io fault,
+            refl,
+            (
+              (elim met.faults [
+                | inl own ↦ inr (fault, refl, own.1)
+                | inr eof ↦ inl (fault, refl, eof.1)
+              ]),
+              part,
+            ),
+          ),
+          omega arith,
+        )),
+      ),
+    ))
 
 -- ---- an entry that was read
 
@@ -126,5 +145,5 @@ returns-clause-found g c p block bytes more h fits within rest same =
     let one = hash_found g.row.S _ _ _ _ p block bytes more h m.faults (Ok c.in_ok-hash.hash) fits rest m.verdict m.ok in
     let two = length_found g.row.S _ _ _ _ p block bytes more h n.faults (Ok c.in_ok-len.len) one.1 n.ok n.front in
     let three = read_exact_of_bytes (length c.deref_mut.result.now) _ _ _ _ buf block more (Ok c.in_ok-read_exact.field-0) two.1
-        (sym two.0 ∙ sym long) filled (same ∙ sym (n.faults ∙ m.faults)) met.faults met.takes met.eof in
+    (sym two.0 ∙ sym long) filled (same ∙ sym (n.faults ∙ m.faults)) met.faults met.takes met.eof in
     (one.0, filled_items c.in_ok-block.block.len buf c.in_ok-block.block.items holds ∙ three.0, three.1)

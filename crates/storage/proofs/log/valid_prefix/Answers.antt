@@ -9,9 +9,11 @@ loop-next-init c = ([], none, refl)
 pub loop-next-preserved : goal.loop-next-preserved
 loop-next-preserved c =
     let (front, entries, cut) = c.loop-next.invariant in
-    let (block, entry, is_entry, split) = c.in-Some.ensures.some in
-    (front ++ entry, entries_more front block entry entries is_entry,
-      cut ∙ (ap (λ z. front ++ z) split ∙ sym (append_assoc front entry c.in-Some.next.now)))
+    let (block, entry, is_entry, split) = c.in-Some.ensures.some in (
+      front ++ entry,
+      entries_more front block entry entries is_entry,
+      cut ∙ (ap (λ z. front ++ z) split ∙ sym (append_assoc front entry c.in-Some.next.now)),
+    )
 
 pub returns-clause-longest : goal.returns-clause-longest
 returns-clause-longest c other more are same =

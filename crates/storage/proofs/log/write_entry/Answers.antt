@@ -38,7 +38,8 @@ returns-clause-ok g c =
     let block = c.args.block.now in
     let h = c.in_ok-write.ensures.ok in
     let n = c.in_ok-write-2.ensures.ok in
-    let join = g.met.W.Write.appends_joined in
-    (h.0 ++ (n.0 ++ block),
+    let join = g.met.W.Write.appends_joined in (
+      h.0 ++ (n.0 ++ block),
       record { encoding = h.0; len = n.0; encodes = h.1; is_len = n.1; parts = refl },
-      join _ _ _ h.0 (n.0 ++ block) h.3 (join _ _ _ n.0 block n.3 c.in_ok-write_all.ensures.laws.ok))
+      join _ _ _ h.0 (n.0 ++ block) h.3 (join _ _ _ n.0 block n.3 c.in_ok-write_all.ensures.laws.ok),
+    )
