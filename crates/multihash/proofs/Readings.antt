@@ -1,3 +1,4 @@
+pub mod InTurnLemmas
 pub mod ReadTakingLemmas
 pub mod ReadingLemmas
 pub mod SettlingLemmas

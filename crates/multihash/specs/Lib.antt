@@ -4,6 +4,7 @@ pub mod Comparing
 pub mod Encoding
 pub mod Fault
 pub mod Filling
+pub mod InTurn
 pub mod Json
 pub mod Members
 pub mod Pair

@@ -23,3 +23,5 @@ mod places;
 mod recovery;
 #[cfg(test)]
 mod retries;
+#[cfg(test)]
+mod storage;

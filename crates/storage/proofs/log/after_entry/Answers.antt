@@ -1,0 +1,68 @@
+use Rattle.std.proofs.Common.{◌≡◌, ℕ, List, ◌++◌, Some, Ok, Err, length, take, length-append, append_assoc, refl, sym, ap, ◌∙◌, subst, arith, rules}
+use Rattle.std.proofs.Math.Seq.{take-append_seam}
+use Rattle.std.proofs.lemmas.Bool.{false≢true}
+use Rattle.multihash.specs.Varint.{IsVarint}
+use Rattle.multihash.specs.Encoding.{IsEncoding}
+use Rattle.multihash.specs.Answer.{pair_of}
+use Rattle.multihash.proofs.Readings.ReadingLemmas.{Takes-cut}
+use Rattle.storage.specs.Content.{content_pair}
+use Rattle.storage.proofs.LogLemmas.{hash_found, length_found, content_fits}
+use Rattle.storage.proofs.log.after_entry.Goals as goal
+
+pub returns-in_default-clause-none : goal.returns-in_default-clause-none
+returns-in_default-clause-none c h =
+    let met = c.in_default.ensures in
+    hash_found 32 0 0 _ (Some c.read.new.r.now) _ h.block h.entry h.rest h.is_entry refl (Err c.in_default.field-0) (content_fits h.block) (ap Some h.cut) met.verdict met.ok
+
+pub returns-in_default-read-clause-none : goal.returns-in_default-read-clause-none
+returns-in_default-read-clause-none c h =
+    let m = c.in-Ok.ensures in
+    let met = c.in_default-read.ensures in
+    let one = hash_found 32 0 0 _ (Some c.read.new.r.now) _ h.block h.entry h.rest h.is_entry refl (Ok c.in-Ok.hash) (content_fits h.block) (ap Some h.cut) m.verdict m.ok in
+    length_found 32 0 0 _ (Some c.read-2.new.r.now) _ h.block h.entry h.rest h.is_entry refl (Err c.in_default-read.field-0) one.1 met.ok met.front
+
+pub returns-then-len-rest-clause-none : goal.returns-then-len-rest-clause-none
+returns-then-len-rest-clause-none c h =
+    let m = c.in-Ok.ensures in
+    let n = c.in-Ok-read.ensures in
+    let one = hash_found 32 0 0 _ (Some c.read.new.r.now) _ h.block h.entry h.rest h.is_entry refl (Ok c.in-Ok.hash) (content_fits h.block) (ap Some h.cut) m.verdict m.ok in
+    let two = length_found 32 0 0 _ (Some c.read-2.new.r.now) _ h.block h.entry h.rest h.is_entry refl (Ok c.in-Ok-read.len) one.1 n.ok n.front in
+    let left : c.read-2.new.r.now ≡ h.block ++ h.rest = cc in
+    omega (arith, two.0, ap length left, length-append h.block h.rest)
+
+pub returns-then-not-same_as-clause-none : goal.returns-then-not-same_as-clause-none
+returns-then-not-same_as-clause-none c h =
+    let m = c.in-Ok.ensures in
+    let n = c.in-Ok-read.ensures in
+    let one = hash_found 32 0 0 _ (Some c.read.new.r.now) _ h.block h.entry h.rest h.is_entry refl (Ok c.in-Ok.hash) (content_fits h.block) (ap Some h.cut) m.verdict m.ok in
+    let two = length_found 32 0 0 _ (Some c.read-2.new.r.now) _ h.block h.entry h.rest h.is_entry refl (Ok c.in-Ok-read.len) one.1 n.ok n.front in
+    let left : c.read-2.new.r.now ≡ h.block ++ h.rest = cc in
+    let len = c.in-Ok-read.len in
+    let is : c.split_at.result.0.now ≡ h.block =
+    c.split_at.ensures.front ∙ (ap (λ (z : List ℕ). take len z) left
+    ∙ (ap (λ (n : ℕ). take n (h.block ++ h.rest)) two.0 ∙ take-append_seam h.block h.rest)) in
+    let same : pair_of c.hash_of.result ≡ pair_of c.in-Ok.hash = c.hash_of.ensures ∙ (ap content_pair is ∙ sym one.0) in
+    false≢true (sym c.if-not-same_as.true ∙ c.same_as.ensures.1 same)
+
+pub returns-clause-some : goal.returns-clause-some
+returns-clause-some c =
+    let h = c.in-Ok.ensures.ok in
+    let n = c.in-Ok-read.ensures.ok in
+    let block = c.split_at.result.0.now in
+    let rest = c.read-2.new.r.now in
+    let own : pair_of c.in-Ok.hash ≡ content_pair block = sym (c.same_as.ensures.0 c.if-not-same_as.false) ∙ c.hash_of.ensures in
+    let long : length block ≡ c.in-Ok-read.len = search rules in
+    let whole : rest ≡ block ++ c.split_at.result.1.now = search rules in
+    let first = Takes-cut c.args.bytes.now h.0 c.read.new.r.now h.2 in
+    let second = Takes-cut c.read.new.r.now n.0 rest n.2 in (
+      block,
+      h.0 ++ (n.0 ++ block),
+      record {
+        encoding = h.0;
+        len = n.0;
+        encodes = subst (λ p. IsEncoding p h.0) own h.1;
+        is_len = subst (λ k. IsVarint k n.0) (sym long) n.1;
+        parts = refl;
+      },
+      simp append_assoc (first ∙ ap (λ (z : List ℕ). h.0 ++ z) (second ∙ ap (λ (z : List ℕ). n.0 ++ z) whole)),
+    )

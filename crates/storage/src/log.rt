@@ -1,0 +1,176 @@
+//! A log of blocks: each entry is a multihash, the varint of the block's length, and the block.
+ghost use Rattle.std.specs.Prelude.{◌≡◌, ◌≤◌, ℕ, List, ◌++◌, Some, length, IfOk, IfErr, OnOk, OnErr, MatchResult, IfSome, IfNone};
+ghost use Rattle.multihash.specs.Pair.{Pair, FitsBuffer};
+ghost use Rattle.multihash.specs.Answer.{pair_of};
+ghost use Rattle.multihash.specs.Reading.{Takes, CountsReader};
+ghost use Rattle.multihash.specs.Writing.{AppendsPart, CountsWriter};
+ghost use Rattle.multihash.specs.Refusal.{Refusal, IsIo, IsMemory, IsReaderFault, of_io};
+ghost use Rattle.storage.specs.Log.{IsEntry, IsRefused, IsEntryRefusal, EntryFails, HasEntry, AreEntries, IsValidPrefix};
+ghost use Rattle.storage.specs.Content.{content_pair};
+ghost use Rattle.storage.specs.declared.log.EntryError.TheVariants.{Refused};
+
+use crate::hashing::Tally;
+use multihash::no_std_io::{self, Read, Write};
+use multihash::{Error, Multihash, varint};
+use std::alloc::{AllocError, Global};
+use std::fmt;
+
+/// A block and its multihash.
+#[derive(Debug, Drop)]
+pub struct Entry<const S: usize> {
+    pub hash: Multihash<S>,
+    pub block: Vec<u8>,
+}
+
+/// The error of reading an entry.
+#[derive(Debug, Drop)]
+pub enum EntryError {
+    /// The multihash or the length is malformed, the input ends within the entry, the reader failed, or an
+    /// allocation did.
+    Refused(Error),
+    /// The block has this many bytes, more than the limit.
+    TooLong(u64),
+}
+
+impl fmt::Display for EntryError {
+    fn fmt<W: fmt::Write>(&self, f: &mut fmt::Formatter<W>) -> fmt::Result {
+        match self {
+            EntryError::Refused(e) => write!(f, "{e}"),
+            EntryError::TooLong(n) => write!(f, "a block of {n} bytes is too long"),
+        }
+    }
+}
+
+impl std::error::Error for EntryError {}
+
+impl From<Error> for EntryError {
+    ghost from_gives = { λ refusal e. e ≡ Refused refusal };
+
+    fn from(e: Error) -> Self {
+        EntryError::Refused(e)
+    }
+}
+
+impl From<no_std_io::Error> for EntryError {
+    ghost from_gives = { λ fault e. e ≡ Refused (of_io fault) };
+
+    fn from(e: no_std_io::Error) -> Self {
+        EntryError::Refused(Error::from(e))
+    }
+}
+
+impl From<AllocError> for EntryError {
+    ghost from_gives = { λ _ e. IsRefused IsMemory e };
+
+    fn from(e: AllocError) -> Self {
+        EntryError::Refused(Error::from(e))
+    }
+}
+
+/// Appends an entry to `w`.
+///
+/// # Errors
+///
+/// The writer's error. A strict prefix of the entry has been appended then.
+pub fn write_entry<const S: usize, W: Write>(
+    hash: &Multihash<S>,
+    block: &[u8],
+    w: &mut W,
+) -> Result<(), Error>
+    ensures ok { OnOk result ((bytes : List ℕ) × IsEntry (pair_of hash.now) block.now bytes
+        × W.appended w.old bytes w.new) }
+    ensures err { OnErr result ((bytes : List ℕ) × IsEntry (pair_of hash.now) block.now bytes
+        × AppendsPart W.appended w.old bytes w.new) }
+    ensures faults { CountsWriter IsIo W.allocates
+        (W.failures w.old) (W.failures w.new) (W.full w.new) result }
+{
+    hash.write(w)?;
+    varint::write(block.len() as u64, w)?;
+    w.write_all(block)?;
+    Ok(())
+}
+
+/// Reads the entry that comes next. It consumes exactly that entry.
+///
+/// # Errors
+///
+/// - [`EntryError::Refused`] with the errors of [`Multihash::read`] and of [`varint::read`]; the parts before
+///   the malformed one were consumed, and of it what those calls say.
+/// - [`EntryError::TooLong`] with the block's length if that is above `limit`; the multihash and the length
+///   were consumed. Out of memory for the block likewise.
+/// - An unexpected end within the block, or the reader's own error; fewer bytes than the block has were
+///   consumed of it.
+pub fn read_entry<const S: usize, R: Read>(
+    alloc: Global,
+    r: &mut R,
+    limit: usize,
+) -> Result<Entry<S>, EntryError>
+    ensures ok { IfOk result (λ e. (bytes : List ℕ) × IsEntry (pair_of e.hash) e.block.items bytes
+        × Takes (R.rest r.old) bytes (R.rest r.new)) }
+    ensures within { IfOk result (λ e. length e.block.items ≤ limit) }
+    ensures faults { CountsReader (IsRefused IsReaderFault) (IsEntryRefusal S limit)
+        (R.failures r.old) (R.failures r.new) result }
+    ensures err { IfErr result (λ e. EntryFails S limit e (R.rest r.old) (R.rest r.new)) }
+
+    // An entry that comes next is found, and what follows it is left.
+    ensures found { (p : Pair) (block bytes more : List ℕ) → IsEntry p block bytes →
+        FitsBuffer S p → length block ≤ limit → R.rest r.old ≡ Some (bytes ++ more) →
+        R.failures r.new ≡ R.failures r.old → MatchResult result
+        (λ e. (pair_of e.hash ≡ p) × (e.block.items ≡ block) × (R.rest r.new ≡ Some more))
+        (IsRefused IsMemory) }
+{
+    let hash = Multihash::read(r)?;
+    let len = varint::read(r)?;
+    if len > limit as u64 {
+        return Err(EntryError::TooLong(len));
+    }
+    let mut block = vec![in alloc; 0; len as usize]?;
+    r.read_exact(&mut block)?;
+    Ok(Entry { hash, block })
+}
+
+// The multihash of the block.
+fn hash_of(block: &[u8]) -> Multihash<32>
+    ensures { pair_of result ≡ content_pair block.now }
+{
+    let mut tally = Tally::new();
+    tally.add(block);
+    tally.finish()
+}
+
+// The bytes after the entry at the front, if there is one whose block has the multihash that it says.
+fn after_entry(bytes: &[u8]) -> Option<&[u8]>
+    ensures some { IfSome result (λ rest. (block entry : List ℕ) × IsEntry (content_pair block) block entry
+        × (bytes.now ≡ entry ++ rest.now)) }
+    ensures none { IfNone result (¬ (HasEntry bytes.now)) }
+{
+    let mut rest = bytes;
+    let Ok(hash) = Multihash::<32>::read(&mut rest) else {
+        return None;
+    };
+    let Ok(len) = varint::read(&mut rest) else {
+        return None;
+    };
+    if len > rest.len() as u64 {
+        return None;
+    }
+    let (block, rest) = rest.split_at(len as usize);
+    if !hash_of(block).same_as(&hash) {
+        return None;
+    }
+    Some(rest)
+}
+
+/// Returns the longest prefix of a log that is whole entries whose blocks have the multihashes that they
+/// say. A log that was cut or spoilt can be continued after that prefix.
+pub fn valid_prefix(bytes: &[u8]) -> &[u8]
+    ensures valid { IsValidPrefix result.now bytes.now }
+    ensures longest { (other more : List ℕ) → AreEntries other → bytes.now ≡ other ++ more →
+        length other ≤ length result.now }
+{
+    let mut rest = bytes;
+    while let Some(next) = after_entry(rest) {
+        rest = next;
+    }
+    &bytes[..bytes.len() - rest.len()]
+}

@@ -1,0 +1,187 @@
+//! The readers, writers and the log of `storage`.
+use crate::expect::{check, check_eq, expect_bytes, expect_ok, expect_refused};
+use fakes::readers::{Cuts, FailAt};
+use fakes::refusal::{Refusal, is_failed};
+use fakes::writers::{Drip, FailWrite};
+use multihash::no_std_io::{Read, Write};
+use multihash::Multihash;
+use std::alloc::Global;
+use std::process::Abort;
+use storage::chunks::Chunks;
+use storage::hashing::{HashingReader, HashingWriter, Tally};
+use storage::log::{Entry, EntryError, read_entry, valid_prefix, write_entry};
+
+// The digest of `abc` (FIPS 180-4).
+const ABC: [u8; 32] = [
+    0xba, 0x78, 0x16, 0xbf, 0x8f, 0x01, 0xcf, 0xea, 0x41, 0x41, 0x40, 0xde, 0x5d, 0xae, 0x22, 0x23, 0xb0, 0x03, 0x61,
+    0xa3, 0x96, 0x17, 0x7a, 0x9c, 0xb4, 0x10, 0xff, 0x61, 0xf2, 0x00, 0x15, 0xad,
+];
+
+// The digest of no bytes.
+const NONE: [u8; 32] = [
+    0xe3, 0xb0, 0xc4, 0x42, 0x98, 0xfc, 0x1c, 0x14, 0x9a, 0xfb, 0xf4, 0xc8, 0x99, 0x6f, 0xb9, 0x24, 0x27, 0xae, 0x41,
+    0xe4, 0x64, 0x9b, 0x93, 0x4c, 0xa4, 0x95, 0x99, 0x1b, 0x78, 0x52, 0xb8, 0x55,
+];
+
+fn hash_of(bytes: &[u8]) -> Multihash<32> {
+    let mut tally = Tally::new();
+    tally.add(bytes);
+    tally.finish()
+}
+
+#[test]
+fn hashes_are_those_of_the_standard(rt: HostRuntime) {
+    let rt = &rt;
+    for (bytes, digest) in [(b"abc".as_slice(), ABC), (b"", NONE)] {
+        let hash = hash_of(bytes);
+        check_eq!(rt; (hash.code(), hash.digest()), (0x12, digest.as_slice()));
+    }
+}
+
+#[test]
+fn chunks_are_read_in_a_row(rt: HostRuntime) {
+    let rt = &rt;
+    let slices: [&[u8]; 6] = [b"", &[18, 2], b"", &[65], &[66, 1, 2], b""];
+    let mut chunks = Chunks::new(&slices);
+    let hash = expect_ok(rt, Multihash::<4>::read(&mut chunks));
+    check_eq!(rt; (hash.code(), hash.digest()), (18, b"AB".as_slice()));
+    let mut places = [0; 4];
+    check_eq!(rt; expect_ok(rt, chunks.read(&mut places)), 2);
+    expect_bytes(rt, &places, &[1, 2, 0, 0]);
+    check_eq!(rt; expect_ok(rt, chunks.read(&mut places)), 0);
+    check!(rt; is_failed(&chunks.read_exact(&mut [0]), Refusal::UnexpectedEof));
+}
+
+// The writer fills up or fails after some bytes: those were hashed, and no others.
+#[test]
+fn what_was_written_is_hashed(rt: HostRuntime) {
+    let alloc = rt.alloc();
+    let rt = &rt;
+    for room in 0..4 {
+        let mut writer = HashingWriter::new(expect_ok(rt, Drip::new(alloc, room, 1)));
+        check_eq!(rt; writer.write_all(b"abc").is_ok(), room == 3);
+        check_eq!(rt; writer.tally.count(), room as u64);
+        let (hash, inner) = writer.finish();
+        expect_bytes(rt, &inner.held, &b"abc"[..room]);
+        check!(rt; hash == hash_of(&b"abc"[..room]));
+        let fails = FailWrite::new(expect_ok(rt, Drip::new(alloc, 3, 1)), room);
+        let mut writer = HashingWriter::new(fails);
+        check_eq!(rt; is_failed(&writer.write_all(b"abc"), Refusal::DISK_GONE), room < 3);
+        check!(rt; writer.finish().0 == hash_of(&b"abc"[..room]));
+    }
+    check!(rt; HashingWriter::<Vec<u8>>::ALLOCATES && !HashingWriter::<Drip>::ALLOCATES);
+}
+
+// As many bytes as there are, and one more.
+#[test]
+fn what_was_read_is_hashed(rt: HostRuntime) {
+    let rt = &rt;
+    for n in 0..5 {
+        let mut places = [0; 4];
+        let mut reader = HashingReader::new(Cuts::new(b"abc", 1));
+        let answer = reader.read_exact(&mut places[..n]);
+        check_eq!(rt; is_failed(&answer, Refusal::UnexpectedEof), n == 4);
+        let read = n.min(3);
+        expect_bytes(rt, &places[..read], &b"abc"[..read]);
+        check_eq!(rt; reader.tally.count(), read as u64);
+        let (hash, inner) = reader.finish();
+        expect_bytes(rt, inner.left, &b"abc"[read..]);
+        check!(rt; hash == hash_of(&b"abc"[..read]));
+        let mut reader = HashingReader::new(FailAt::new(Cuts::new(b"abc", 1), n));
+        check_eq!(rt; is_failed(&reader.read_exact(&mut places[..3]), Refusal::LINK_DOWN), n < 3);
+        check!(rt; reader.finish().0 == hash_of(&b"abc"[..read]));
+    }
+}
+
+// The entries of `one` and of no bytes.
+fn two_entries(rt: &impl Abort, alloc: Global) -> Vec<u8> {
+    let mut log = Vec::new(alloc);
+    for block in [b"one".as_slice(), b""] {
+        expect_ok(rt, write_entry(&hash_of(block), block, &mut log));
+    }
+    check_eq!(rt; (log.len(), log[..3] == [0x12, 32, 0x76]), (38 + 35, true));
+    log
+}
+
+#[test]
+fn entries_are_read_back(rt: HostRuntime) {
+    let alloc = rt.alloc();
+    let rt = &rt;
+    let log = two_entries(rt, alloc);
+    let mut reader = Cuts::new(&log, 1);
+    for block in [b"one".as_slice(), b""] {
+        let entry: Entry<32> = expect_ok(rt, read_entry(alloc, &mut reader, 3));
+        check!(rt; entry.hash == hash_of(block));
+        expect_bytes(rt, &entry.block, block);
+    }
+    check!(rt; reader.left.is_empty());
+    let mut reader = Cuts::new(&log, 1);
+    let answer: Result<Entry<32>, EntryError> = read_entry(alloc, &mut reader, 2);
+    check!(rt; matches!(answer, Err(EntryError::TooLong(3))));
+    check_eq!(rt; reader.left.len(), log.len() - 35);
+}
+
+// An entry is cut, or the reader fails: the error, and how many bytes were consumed.
+#[test]
+fn cut_entries_are_rejected(rt: HostRuntime) {
+    let alloc = rt.alloc();
+    let rt = &rt;
+    let log = two_entries(rt, alloc);
+    for n in 0..38 {
+        let mut reader = Cuts::new(&log[..n], 1);
+        let answer: Result<Entry<32>, EntryError> = read_entry(alloc, &mut reader, 3);
+        let wanted = if n < 2 || n == 34 { Refusal::Insufficient } else { Refusal::UnexpectedEof };
+        check!(rt; is_entry_refused(&answer, wanted), n);
+        check!(rt; reader.left.is_empty(), n);
+        let mut reader = FailAt::new(Cuts::new(&log, 1), n);
+        let answer: Result<Entry<32>, EntryError> = read_entry(alloc, &mut reader, 3);
+        check!(rt; is_entry_refused(&answer, Refusal::LINK_DOWN), n);
+        check_eq!(rt; reader.cuts.left.len(), log.len() - n, n);
+    }
+}
+
+fn is_entry_refused(answer: &Result<Entry<32>, EntryError>, why: Refusal) -> bool {
+    matches!(answer, Err(EntryError::Refused(e)) if Refusal::of(e) == Some(why))
+}
+
+#[test]
+fn failed_writes_append_a_prefix(rt: HostRuntime) {
+    let alloc = rt.alloc();
+    let rt = &rt;
+    let log = two_entries(rt, alloc);
+    let hash = hash_of(b"one");
+    for room in 0..38 {
+        let mut full = expect_ok(rt, Drip::new(alloc, room, 1));
+        let answer = write_entry(&hash, b"one", &mut full);
+        expect_refused(rt, &answer, Refusal::WriteZero, room);
+        expect_bytes(rt, &full.held, &log[..room]);
+        let mut fails = FailWrite::out_of_memory(expect_ok(rt, Drip::new(alloc, 38, 1)), room);
+        let answer = write_entry(&hash, b"one", &mut fails);
+        expect_refused(rt, &answer, Refusal::OutOfMemory, room);
+        expect_bytes(rt, &fails.drip.held, &log[..room]);
+    }
+}
+
+// A log that is cut at each position, and one with each byte changed.
+#[test]
+fn the_valid_prefix_is_found(rt: HostRuntime) {
+    let alloc = rt.alloc();
+    let rt = &rt;
+    let mut log = two_entries(rt, alloc);
+    for n in 0..log.len() + 1 {
+        let wanted = if n < 38 {
+            0
+        } else if n < 73 {
+            38
+        } else {
+            73
+        };
+        expect_bytes(rt, valid_prefix(&log[..n]), &log[..wanted]);
+    }
+    for n in 0..log.len() {
+        log[n] ^= 1;
+        let wanted = if n < 38 { 0 } else { 38 };
+        expect_bytes(rt, valid_prefix(&log), &log[..wanted]);
+        log[n] ^= 1;
+    }
+}
