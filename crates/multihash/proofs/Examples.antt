@@ -1,5 +1,6 @@
 pub mod AnswerVectors
 pub mod BytesVectors
+pub mod EncodedVectors
 pub mod EncodingVectors
 pub mod FaultVectors
 pub mod FillingVectors

@@ -1,3 +1,4 @@
+pub mod EncodedLemmas
 pub mod EncodingLemmas
 pub mod FillingLemmas
 pub mod PlacesLemmas
