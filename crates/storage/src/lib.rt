@@ -1,0 +1,5 @@
+//! Callers that hash and keep content.
+#![tactic(auto)]
+
+pub mod content;
+pub mod merkle;
