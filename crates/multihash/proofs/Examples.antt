@@ -1,4 +1,5 @@
 pub mod BytesVectors
+pub mod EncodedVectors
 pub mod EncodingVectors
 pub mod JsonVectors
 pub mod PairVectors

@@ -1,2 +1,3 @@
+pub mod EncodedLemmas
 pub mod EncodingLemmas
 pub mod WritingLemmas

@@ -1,6 +1,7 @@
 pub mod Answer
 pub mod Bytes
 pub mod Comparing
+pub mod Encoded
 pub mod Encoding
 pub mod Fault
 pub mod Filling

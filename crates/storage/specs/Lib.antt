@@ -1,3 +1,7 @@
 pub mod Content
 pub mod Hashing
+pub mod Levels
 pub mod Log
+pub mod Merkle
+pub mod NodeHasher
+pub mod Step

@@ -1,7 +1,9 @@
-//! Storage of blocks by their multihashes, with SHA-256.
+//! Callers that hash and keep content.
 #![tactic(auto)]
 
 pub mod chunks;
+pub mod content;
 pub mod hashing;
 pub mod log;
+pub mod merkle;
 mod pins;

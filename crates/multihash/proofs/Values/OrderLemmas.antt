@@ -31,7 +31,11 @@ tie_exactly p q =
     let ties : equal_pairs p q ≡ is_eq (compare_pairs p q) = search (comparing, rules) depth 9 in
     subst (λ (b : Bool). IsTrue b ↔ (p ≡ q)) ties (equal_exactly p q)
 
--- so pairs that differ are other keys of an ordered map
+-- so keys of an ordered map that tie are one pair
+pub same_key : (p q : Pair) → is_eq (compare_pairs p q) ≡ true → p ≡ q
+same_key p q tie = (tie_exactly p q).0 tie
+
+-- and pairs that differ are other keys
 pub other_key : (p q : Pair) → ¬ (q ≡ p) → is_eq (compare_pairs p q) ≡ false
 other_key p q differs = go (is_eq (compare_pairs p q)) (λ tie. differs (sym ((tie_exactly p q).0 tie)))
   where

@@ -1,14 +1,15 @@
 -- What the loop that writes a varint's bytes keeps, and that each number in range has a varint.
-use Rattle.std.proofs.Common.{◌≡◌, ℕ, zero, suc, ◌+◌, ◌*◌, ◌/◌, ◌%◌, ◌^◌, ◌<◌, ◌≤◌, List, [], ◌∷◌, ◌++◌, length, refl, sym, ap, ◌∙◌, arith, add-one, inl, inr, bit_and, bit_or}
+use Rattle.std.proofs.Common.{◌≡◌, ℕ, zero, suc, ◌+◌, ◌*◌, ◌/◌, ◌%◌, ◌^◌, ◌<◌, ◌≤◌, List, [], ◌∷◌, ◌++◌, length, refl, sym, ap, ◌∙◌, arith, add-one, append_assoc, inl, inr, bit_and, bit_or}
 use Rattle.std.specs.List.{All}
 use Rattle.std.proofs.Math.Nat.{lt_of_not-le, pow-suc, pow-zero, div-add-mod', pow-le-pow_right, mul-le-mul_right}
 use Rattle.std.proofs.lemmas.Nat.{and_mask, or_comm, or_shifted, mod_below, div_below}
 use Rattle.std.proofs.lemmas.List.{map_push, length_push, nil_from_length}
 use Rattle.std.proofs.lemmas.List.Elements.{All-nil, All-push}
-use Rattle.std.proofs.lemmas.Bool.{cases_lt}
+use Rattle.std.proofs.lemmas.Bool.{cases_lt, lt-ltb, le-ltb}
 use Rattle.multihash.specs.Bytes.{place_value}
 use Rattle.multihash.specs.Varint.{varint_limit, max_marked, marked, IsVarint}
 use Rattle.multihash.proofs.Varints.DigitLemmas.{place_value-nil, place_value_last, IsDigit}
+use Rattle.multihash.specs.Encoded.{varint_within, varint_of}
 
 -- that many digits were written, and the rest stands for those still to come
 pub record Wrote (now : List ℕ) (len n rest : ℕ) : Type 0 where
@@ -84,19 +85,25 @@ three_byte n least most =
     wrote_last _ 2 n (n / 128 / 128) (wrote_more _ 1 n (n / 128) first _ (omega (arith, least)) refl)
     (omega (arith, most)) (omega (arith, most))
 
--- each number in range has a varint
-exists_from : (k : ℕ) (now : List ℕ) (len n rest : ℕ) → Wrote now len n rest → n < varint_limit → rest < 128 ^ suc k
-    → (bytes : List ℕ) × IsVarint n bytes
-exists_from zero now len n rest h range below =
-    (now ++ rest ∷ [], wrote_last now len n rest h range (omega (arith, below, pow-suc 128 0, pow-zero 128)))
-exists_from (suc k) now len n rest h range below =
+-- what `varint_within` adds to the bytes written makes the varint
+written_within : (most : ℕ) (now : List ℕ) (len n rest : ℕ) → Wrote now len n rest → n < varint_limit → rest < 128 ^ suc most
+    → IsVarint n (now ++ varint_within most rest)
+written_within zero now len n rest h range below = wrote_last now len n rest h range (omega (arith, below, pow-suc 128 0, pow-zero 128))
+written_within (suc most) now len n rest h range below =
     elim (cases_lt rest 128) [
-      | inl small ↦ (now ++ rest ∷ [], wrote_last now len n rest h range small)
+      | inl small ↦ rw (lt-ltb rest 128 small) (wrote_last now len n rest h range small)
       | inr large ↦
-          let next = now ++ bit_or (bit_and rest 127) 128 ∷ [] in
-          exists_from k next (len + 1) n (rest / 128) (wrote_more now len n rest h next large refl) range
-          (div_below rest 128 (128 ^ suc k) (omega arith) (omega (arith, below, pow-suc 128 (suc k))))
+          let next = now ++ (rest % 128 + 128) ∷ [] in
+          let more = wrote_more now len n rest h next large (rw (marked_byte rest) refl) in
+          rw (le-ltb rest 128 large, ← append_assoc now ((rest % 128 + 128) ∷ []) (varint_within most (rest / 128)))
+          (written_within most next (len + 1) n (rest / 128) more range
+          (div_below rest 128 (128 ^ suc most) (omega arith) (omega (arith, below, pow-suc 128 (suc most)))))
     ]
 
+-- each number in range has its varint
+pub is_varint_of : (n : ℕ) → n < varint_limit → IsVarint n (varint_of n)
+unfolding varint_of
+is_varint_of n below = written_within max_marked [] 0 n n (none_wrote n) below (omega (arith, below))
+
 pub varint_exists : (n : ℕ) → n < varint_limit → (bytes : List ℕ) × IsVarint n bytes
-varint_exists n below = exists_from max_marked [] 0 n n (none_wrote n) below (omega (arith, below))
+varint_exists n below = (varint_of n, is_varint_of n below)

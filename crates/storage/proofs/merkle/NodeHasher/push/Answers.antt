@@ -1,0 +1,7 @@
+use Rattle.multihash.proofs.Writings.EncodedLemmas.{encoding_is}
+use Rattle.storage.proofs.merkle.NodeHasher.push.Goals as goal
+
+pub returns : goal.returns
+returns c message holds =
+    let wrote = rw c.unwrap.ensures at c.write.ensures.ok in
+    rw (← encoding_is _ wrote.0 wrote.1) (wrote.3 message holds)
