@@ -1,5 +1,5 @@
--- What reading in place answers where two varints begin the input, and where none do.
-use Rattle.std.proofs.Common.{◌≡◌, ◌<◌, ◌≤◌, ◌+◌, ◌-◌, ℕ, List, [], ◌++◌, Some, length, take, drop, refl, sym, ap, ◌∙◌, subst, arith, append_assoc, append-nil, take-append-drop, length-drop}
+-- What reading in place returns if two varints are at the front of the input, and if none are.
+use Rattle.std.proofs.Common.{◌≡◌, ◌<◌, ◌≤◌, ◌+◌, ◌-◌, ℕ, List, [], ◌++◌, Some, length, take, drop, refl, sym, ap, ◌∙◌, subst, arith, append_assoc, append-nil, take-append-drop, length-drop, ◌∷◌, get_or}
 use Rattle.std.proofs.lemmas.List.{drop-drop, length-take-le}
 use Rattle.std.proofs.lemmas.List.Elements.{All-nil}
 use Rattle.multihash.specs.Bytes.{IsBeginning}
@@ -12,6 +12,7 @@ use Rattle.multihash.proofs.Readings.VerdictLemmas.{verdict_unique, pair_begins}
 use Rattle.multihash.proofs.Readings.SettlingLemmas.{verdict_kept, late_settles, settles_exactly, shortest_pair, shortest_size}
 use Rattle.multihash_c.specs.declared.decode.Decoded.{Decoded}
 use Rattle.multihash_c.specs.Decoded.{Tells, ReadsWithin}
+use Rattle.multihash.proofs.Varints.VarintWriteLemmas.{one_byte}
 
 -- what begins a beginning begins the whole
 pub begins_whole : (front middle whole : List ℕ) → IsBeginning front middle → IsBeginning middle whole → IsBeginning front whole
@@ -127,3 +128,22 @@ module _ (f : VarintFault) (input : List ℕ) (has : (S : ℕ) → HasVerdict S 
         let same : faulty f ≡ unexpected_eof = verdict_unique limit input (faulty f) unexpected_eof (has limit) also in
         absurd (cc);
   }
+
+-- ---- two varints of one byte each
+
+pub short_head : (input : List ℕ) → 2 ≤ length input → get_or input 0 0 < 128 → get_or input 1 0 < 128
+    → HasHead (get_or input 0 0) (get_or input 1 0) 2 input
+short_head [] long code size = absurd (omega (arith, long))
+short_head (code ∷ []) long is_code is_size = absurd (omega (arith, long))
+short_head (code ∷ size ∷ rest) long is_code is_size = record {
+  within = long;
+  varints = record {
+    code = code;
+    code_bytes = code ∷ [];
+    size_bytes = size ∷ [];
+    is_code = one_byte code is_code;
+    is_size = one_byte size is_size;
+    cut = refl;
+  };
+  is_code = refl;
+}

@@ -1,12 +1,14 @@
--- The result of a decoding for a C caller, if a verdict holds.
-use Rattle.std.specs.Prelude.{◌≡◌, ℕ, ◌+◌, ◌<◌, ◌≤◌, List, Some, length, take, drop}
+-- The results of a decoding, and of the two varints at the front, for a C caller.
+use Rattle.std.specs.Prelude.{◌≡◌, ℕ, ◌+◌, ◌<◌, ◌≤◌, List, Some, length, take, drop, ◌⊎◌}
 use Rattle.multihash.specs.Pair.{Pair}
-use Rattle.multihash.specs.Varint.{insufficient}
-use Rattle.multihash.specs.Verdict.{Verdict, accepted, invalid_size, invalid_code, faulty, unexpected_eof, HasVerdict, IsEarlyEnd, HasHead}
+use Rattle.multihash.specs.Varint.{insufficient, VarintFault}
+use Rattle.multihash.specs.Verdict.{Verdict, accepted, invalid_size, invalid_code, faulty, unexpected_eof, HasVerdict, IsEarlyEnd}
+use Rattle.multihash.specs.Verdict.{HasHead}
 use Rattle.multihash.specs.Taking.{TakesShortestSettling}
 use Rattle.multihash.specs.Scale.{IsScale, HasScaleVerdict}
 use Rattle.multihash_c.specs.Status.{status_ok, status_of_fault, status_invalid_size, status_invalid_code, status_unexpected_eof}
 use Rattle.multihash_c.specs.declared.decode.Decoded.{Decoded}
+use Rattle.multihash_c.specs.declared.decode.Front.{Front}
 
 -- the code, and the digest's offset in the input: it is the last part consumed, so its length gives the
 -- offset
@@ -61,3 +63,27 @@ pub record ReadsWithin (limit : ℕ) (input : List ℕ) (d : Decoded) : Type 0 w
   pub insufficient : HasVerdict limit input (faulty insufficient) → d.taken ≡ length input
   pub cut : HasVerdict limit input unexpected_eof →
       (code : ℕ) × (size : ℕ) × HasHead code size d.taken input
+
+-- both varints are at the front of the input, and have as many bytes as were consumed
+pub record TellsHead (input : List ℕ) (f : Front) : Type 0 where
+  pub is_ok : f.status ≡ status_ok
+  pub has : HasHead f.code f.digest_length f.taken input
+
+-- a varint at the front is malformed: reading returns the same error for each limit, and consumes as
+-- much
+pub record TellsFault (input : List ℕ) (f : Front) : Type 0 where
+  pub fault : VarintFault
+  pub is_status : f.status ≡ status_of_fault fault
+  pub no_code : f.code ≡ 0
+  pub no_length : f.digest_length ≡ 0
+  pub reads : (limit : ℕ) → ReadsWithin limit input (record {
+    status = f.status;
+    size = 0;
+    code = 0;
+    digest_offset = 0;
+    digest_length = 0;
+    taken = f.taken;
+  })
+
+abbrev pub ReadsFront : List ℕ → Front → Type 0
+ReadsFront input f = TellsHead input f ⊎ TellsFault input f

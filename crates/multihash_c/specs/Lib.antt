@@ -1,6 +1,5 @@
 pub mod Compared
 pub mod Decoded
 pub mod Encoded
-pub mod Front
 pub mod Status
 pub mod Version

@@ -6,8 +6,7 @@ ghost use Rattle.multihash.specs.Verdict.{Verdict, accepted, invalid_size, inval
 ghost use Rattle.multihash.specs.Scale.{HasScaleVerdict};
 ghost use Rattle.multihash.specs.Verdict.{HasHead};
 ghost use Rattle.multihash.specs.Answer.{IsRefusal};
-ghost use Rattle.multihash_c.specs.Decoded.{Tells, TellsRefusal, TakesForm, TakesWholeParts, ReadsWithin};
-ghost use Rattle.multihash_c.specs.Front.{TellsHead, ReadsFront};
+ghost use Rattle.multihash_c.specs.Decoded.{Tells, TellsRefusal, TakesForm, TakesWholeParts, ReadsWithin, TellsHead, ReadsFront};
 
 use crate::{DIGEST_MAX, SCALE_HEAD, status};
 use multihash::{Error, Head, Multihash};

@@ -62,3 +62,8 @@ pub unless_failed : {A : Type 0} (P : A → Type 0) (Q IsListed : Refusal → Ty
 unless_failed P Q IsListed before after (Ok x) same met = met same
 unless_failed P Q IsListed before after (Err e) (inl own) met = inr own
 unless_failed P Q IsListed before after (Err e) (inr (same, listed)) met = inl (met same)
+
+-- a refusal of one kind is one of two
+pub or_other : {T E : Type 0} (P : T → Type 0) (Q R : E → Type 0) (r : Result T E) → MatchResult r P Q → MatchResult r P (λ e. Q e ⊎ R e)
+or_other P Q R (Ok t) h = h
+or_other P Q R (Err e) h = inl h

@@ -1,5 +1,5 @@
 use Rattle.std.proofs.Common.{inl}
-use Rattle.multihash_c.proofs.FrontLemmas.{short_head}
+use Rattle.multihash_c.proofs.ReadLemmas.{short_head}
 use Rattle.multihash_c.proofs.decode.multihash_head.Goals as goal
 
 pub returns-then-bytes-lt128-2 : goal.returns-then-bytes-lt128-2

@@ -3,7 +3,7 @@ use Rattle.multihash.specs.Pair.{Pair}
 use Rattle.multihash.specs.Filling.{Fills-joined}
 use Rattle.multihash.proofs.Writings.EncodingLemmas.{encoding_of}
 use Rattle.multihash.proofs.Writings.WritingLemmas.{filled_length}
-use Rattle.multihash_c.proofs.PutLemmas.{of_ok, varint_has_room, parts_long, stands_at_front}
+use Rattle.multihash_c.proofs.EncodedLemmas.{of_ok, varint_has_room, parts_long, stands_at_front}
 use Rattle.multihash_c.proofs.encode.put_encoding.Goals as goal
 
 pub unwrap-requires : goal.unwrap-requires

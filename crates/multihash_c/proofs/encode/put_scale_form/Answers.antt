@@ -4,7 +4,7 @@ use Rattle.multihash.specs.Pair.{Pair}
 use Rattle.multihash.specs.Scale.{IsScale}
 use Rattle.multihash.specs.Filling.{Fills, Fills-joined}
 use Rattle.multihash.proofs.Forms.ScaleLemmas.{code_bytes}
-use Rattle.multihash_c.proofs.PutLemmas.{of_ok, stands_at_front}
+use Rattle.multihash_c.proofs.EncodedLemmas.{of_ok, stands_at_front}
 use Rattle.multihash_c.proofs.encode.put_scale_form.Goals as goal
 
 pub returns : goal.returns

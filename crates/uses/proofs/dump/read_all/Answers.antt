@@ -1,7 +1,27 @@
-use Rattle.std.proofs.Common.{◌≡◌, [], ◌∷◌, ◌++◌, refl, rules}
+use Rattle.std.proofs.Common.{◌≡◌, ◌-◌, ℕ, List, [], ◌∷◌, ◌++◌, length, drop, Some, refl, sym, ap, ◌∙◌, subst, rules, arith, length-append}
+use Rattle.std.proofs.lemmas.List.{drop_at}
+use Rattle.multihash.specs.Pair.{Pair}
+use Rattle.multihash.specs.Verdict.{Verdict, HasVerdict}
+use Rattle.multihash.specs.Refusal.{Refusal}
+use Rattle.multihash.specs.Streams.{TakesPairs}
+use Rattle.multihash.specs.Answer.{IsRefusal}
 use Rattle.multihash.proofs.Forms.StreamLemmas.{TakesPairs-more}
-use Rattle.uses.proofs.DumpLemmas.{at_rest}
 use Rattle.uses.proofs.dump.read_all.Goals as goal
+
+-- what is left is what stands at the place
+rest_at : (S : ℕ) (pairs : List Pair) (input left : List ℕ) → TakesPairs S pairs (Some input) (Some left) → left ≡ drop (length input - length left) input
+rest_at S pairs input left took =
+    let cut : input ≡ took.bytes ++ left = cc (took.takes) in
+    sym (ap (drop (length input - length left)) cut
+    ∙ drop_at took.bytes left (length input - length left) (omega (arith, ap length cut, length-append took.bytes left)))
+
+at_rest : (S : ℕ) (pairs : List Pair) (input left : List ℕ) (e : Refusal) → TakesPairs S pairs (Some input) (Some left)
+    → (v : Verdict) × HasVerdict S left v × IsRefusal e v
+    → TakesPairs S pairs (Some input) (Some (drop (length input - length left) input))
+    × ((v : Verdict) × HasVerdict S (drop (length input - length left) input) v × IsRefusal e v)
+at_rest S pairs input left e took refused =
+    subst (λ l. TakesPairs S pairs (Some input) (Some l) × ((v : Verdict) × HasVerdict S l v × IsRefusal e v))
+    (rest_at S pairs input left took) (took, refused)
 
 pub loop-left-preserved : goal.loop-left-preserved
 loop-left-preserved g c =

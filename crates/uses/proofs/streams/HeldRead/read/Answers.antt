@@ -1,7 +1,11 @@
-use Rattle.std.proofs.Common.{◌≡◌, ◌+◌, ◌-◌, Some, ◌++◌, length, take, drop, refl, sym, ap, ◌∙◌, rules}
-use Rattle.std.proofs.lemmas.List.{take_rest}
-use Rattle.uses.proofs.StreamLemmas.{behind_front}
+use Rattle.std.proofs.Common.{◌≡◌, ◌+◌, ◌-◌, ℕ, List, Some, ◌++◌, length, take, drop, refl, sym, ap, ◌∙◌, rules}
+use Rattle.std.proofs.lemmas.List.{drop-drop, drop_at, take_rest}
 use Rattle.uses.proofs.streams.HeldRead.read.Goals as goal
+
+-- after a front that begins at a position, the list goes on that much further
+behind_front : (items front left : List ℕ) (at : ℕ) → drop at items ≡ front ++ left → left ≡ drop (at + length front) items
+behind_front items front left at cut =
+    sym (drop_at front left (length front) refl) ∙ (ap (drop (length front)) (sym cut) ∙ drop-drop (length front) at items)
 
 pub returns : goal.returns
 returns c =
