@@ -3,7 +3,5 @@ pub mod ConclusionLemmas
 pub mod ContentIdLemmas
 pub mod ContentIdTakingVectors
 pub mod ContentIdVectors
-pub mod DumpLemmas
 pub mod HeadlineLemmas
-pub mod MerkleLemmas
 pub mod StreamLemmas

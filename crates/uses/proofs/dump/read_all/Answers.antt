@@ -1,6 +1,6 @@
 use Rattle.std.proofs.Common.{◌≡◌, [], ◌∷◌, ◌++◌, refl, rules}
 use Rattle.multihash.proofs.Forms.StreamLemmas.{TakesPairs-more}
-use Rattle.uses.proofs.DumpLemmas.{at_rest}
+use Rattle.uses.proofs.StreamLemmas.{at_rest}
 use Rattle.uses.proofs.dump.read_all.Goals as goal
 
 pub loop-left-preserved : goal.loop-left-preserved

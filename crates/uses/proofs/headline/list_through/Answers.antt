@@ -4,7 +4,7 @@ use Rattle.multihash.specs.Answer.{pair_of}
 use Rattle.multihash.proofs.CallingLemmas.{read_list_of_encodings}
 use Rattle.multihash.proofs.OutcomeLemmas.{passed_on}
 use Rattle.uses.proofs.HeadlineLemmas.{unless_failed}
-use Rattle.uses.proofs.MerkleLemmas.{or_other}
+use Rattle.uses.proofs.StreamLemmas.{or_other}
 use Rattle.uses.proofs.headline.list_through.Goals as goal
 
 pub returns-in_err-write_list-clause-back : goal.returns-in_err-write_list-clause-back

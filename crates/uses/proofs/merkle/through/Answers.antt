@@ -3,7 +3,7 @@ use Rattle.std.proofs.lemmas.List.{length-map}
 use Rattle.multihash.specs.Answer.{pair_of}
 use Rattle.multihash.proofs.CallingLemmas.{read_list_of_encodings}
 use Rattle.multihash.proofs.OutcomeLemmas.{passed_on}
-use Rattle.uses.proofs.MerkleLemmas.{or_other}
+use Rattle.uses.proofs.StreamLemmas.{or_other}
 use Rattle.uses.proofs.merkle.through.Goals as goal
 
 pub returns-in_err-write_node : goal.returns-in_err-write_node
