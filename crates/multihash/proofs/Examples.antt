@@ -10,5 +10,4 @@ pub mod StreamVectors
 pub mod TakingVectors
 pub mod VarintVectors
 pub mod VerdictVectors
-pub mod WordVectors
 pub mod WritingVectors

@@ -149,6 +149,7 @@ impl Read for ByteMembers<'_> {
 
     ghost failures = { λ _. 0 };
 
+    #[tactic(auto, using(crate::proofs::Forms::JsonLemmas::first_member))]
     fn read(&mut self, buf: &mut [u8]) -> Result<usize, no_std_io::Error> {
         if buf.is_empty() {
             return Ok(0);

@@ -156,3 +156,6 @@ bytes_split (suc n) [] e = refl
 bytes_split (suc n) (v ∷ vs) e =
     let (found, others) = byte_first v vs e in
     rw found.1 (ap (λ l. found.0 ∷ l) (bytes_split n vs others))
+
+-- a read of the first member, for the tactics
+pub ruleset first_member = (first_byte, take_first)

@@ -1,4 +1,5 @@
--- The word that the bytes of a slice fill, and what it shows of the varint at their front.
+-- The word that the bytes of a slice fill, and what it shows of the varint at their front. All for speed: no loop over the
+-- bytes of a varint.
 use Rattle.std.proofs.Common.{◌≡◌, ℕ, zero, suc, ◌-◌, ◌<◌, ◌≤◌, List, [], ◌++◌, length, get_or, take, drop, replicate, refl, sym, ap, ◌∙◌, arith, length-append, ◌+◌, ◌*◌, ◌/◌, ◌%◌, ◌^◌, ◌∷◌, bit_and, bit_or}
 use Prim.Native.Nat.{min}
 use Rattle.std.specs.Int.{byte_worth, sum_through, from_le_bytes, w128}
@@ -251,3 +252,6 @@ module _ (xs : List ℕ) (word present : ℕ) (bytes : IsBytes xs) (f : IsFrontW
             ← cut,
           )
           number
+
+-- bytes that are fewer than a word has, for the tactics
+pub ruleset short_front = (bytes_of, all_front)

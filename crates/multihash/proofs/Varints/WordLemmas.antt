@@ -63,9 +63,9 @@ digits_low_below (suc i) word =
     rw (mul-suc 7 i, pow-add 2 (7 * i) 7) (grind (arith, digits_low_below i word, mul-le-mul_right (2 ^ (7 * i)) digit))
 
 -- one more digit, by a shift, a mask and `|`
-pub term_more : (i word : ℕ) → i < 8 → bit_or (digits_low i word) (bit_and (word / 2 ^ i) (127 * 2 ^ (7 * i) % 2 ^ 64)) ≡ digits_low (suc i) word
+pub add_low : (i word : ℕ) → i < 8 → bit_or (digits_low i word) (bit_and (word / 2 ^ i) (127 * 2 ^ (7 * i) % 2 ^ 64)) ≡ digits_low (suc i) word
 unfolding digits_low
-term_more i word few =
+add_low i word few =
     let mask : 127 * 2 ^ (7 * i) % 2 ^ 64 ≡ 2 ^ (7 + 7 * i) - 2 ^ (7 * i) =
     shl_whole 127 7 (7 * i) 64 (omega arith) (omega arith) ∙ omega (arith, pow-add 2 7 (7 * i)) in
     let places : i + 7 * i ≡ 8 * i = omega arith in

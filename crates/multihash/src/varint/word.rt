@@ -76,6 +76,7 @@ fn front_by_word(bytes: &[u8]) -> (u64, usize)
 
 // As `front_by_byte`, if fewer bytes remain than a word has.
 #[inline(never)]
+#[tactic(auto, using(crate::proofs::Varints::WordFrontLemmas::short_front))]
 fn front_by_short_word(bytes: &[u8]) -> (u64, usize)
     requires { length bytes.now < 16 }
     ensures { IsFoundFront bytes.now result.0 result.1 }
@@ -179,6 +180,7 @@ fn join_low(half: u64) -> u64
 
 // The number of the low seven bits of each of the lowest `N` bytes.
 #[inline(always)]
+#[tactic(auto, using(crate::proofs::Varints::WordLemmas::add_low), unfolding(crate::specs::Word::digits_low))]
 fn join_digits<const N: usize>(half: u64) -> u64
     requires { N ≤ 8 }
     ensures { result ≡ digits_low N half }
