@@ -4,6 +4,8 @@
 #[cfg(test)]
 mod boundaries;
 #[cfg(test)]
+mod content;
+#[cfg(test)]
 mod expect;
 #[cfg(test)]
 mod forms;
