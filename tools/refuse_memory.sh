@@ -15,6 +15,7 @@ tests() {
 refused_to_bytes 1
 refused_to_value 1
 refused_read_list 1
+refused_root_and_path 4
 refused_write 2
 refused_scale_encode 3
 refused_write_list 1

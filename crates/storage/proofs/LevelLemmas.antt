@@ -112,11 +112,12 @@ module _ (leaves : List Pair) (index : ℕ) (nodes : List (Fields 32)) (at : ℕ
   pub climbs_within : at < length nodes
   climbs_within = omega (arith, slice_get_within (map pair_of nodes) at h.node h.is_node, length-map nodes pair_of)
 
-  -- a level of one node is the root
-  pub climbs_root : (root : Fields 32) → length nodes ≤ 1 → root ≡ get_or nodes at root
-      → IsRoot leaves (pair_of root) × LeadsFrom leaves index path (pair_of root)
-  climbs_root root few is =
-      let one = alone (map pair_of nodes) at h.node (omega (arith, length-map nodes pair_of)) h.is_node in
-      let at_root = pair_at nodes at root climbs_within is in
-      let same : h.node ≡ pair_of root = cc (h.is_node, at_root) in
-      (record { height = h.height; alone = h.is_level ∙ one ∙ ap (λ node. node ∷ []) same }, rw same at h.leads)
+  module _ (node : Fields 32) (is : node ≡ get_or nodes at node) where
+    pub climbs_to : h.node ≡ pair_of node
+    climbs_to = let found = pair_at nodes at node climbs_within is in cc (h.is_node, found)
+
+    -- a level of one node is the root
+    pub climbs_root : length nodes ≤ 1 → IsRoot leaves (pair_of node)
+    climbs_root few =
+        let one = alone (map pair_of nodes) at h.node (omega (arith, length-map nodes pair_of)) h.is_node in
+        record { height = h.height; alone = h.is_level ∙ one ∙ ap (λ root. root ∷ []) climbs_to }

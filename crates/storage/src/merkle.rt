@@ -87,7 +87,8 @@ impl Step {
     }
 }
 
-/// Whether the path leads from the leaf to the root.
+/// Whether the path leads from the leaf to the root. Nothing marks a leaf apart from an inner node: a caller
+/// that has to tell them apart compares the path's length with the tree's height.
 pub fn verify_path(leaf: &Multihash<32>, path: &[Step], root: &Multihash<32>) -> bool
     ensures { IsTrue result ↔
         (pair_of root.now ≡ root_from (pair_of leaf.now) (map step_of path.now)) }

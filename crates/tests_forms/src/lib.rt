@@ -6,6 +6,8 @@ mod binary;
 #[cfg(test)]
 mod boundaries;
 #[cfg(test)]
+mod content;
+#[cfg(test)]
 mod encodings;
 #[cfg(test)]
 mod errors;

@@ -6,4 +6,6 @@ mod expect;
 #[cfg(test)]
 mod memory;
 #[cfg(test)]
+mod merkle;
+#[cfg(test)]
 mod sizes;

@@ -1,7 +1,7 @@
 use Rattle.std.proofs.Common.{map, arith}
 use Rattle.std.proofs.lemmas.List.{length-map}
 use Rattle.multihash.specs.Answer.{pair_of}
-use Rattle.storage.proofs.LevelLemmas.{shorter_above, climbs_none, climbs_alone, climbs_step, climbs_within, climbs_root}
+use Rattle.storage.proofs.LevelLemmas.{shorter_above, climbs_none, climbs_alone, climbs_step, climbs_within, climbs_to, climbs_root}
 use Rattle.storage.proofs.merkle.root_and_path.Goals as goal
 use Rattle.storage.proofs.merkle.root_and_path.Goals.{in-Some+in_ok-push, in_default}
 
@@ -34,7 +34,9 @@ pub index-requires : goal.index-requires
 index-requires c = omega (arith, climbs_within _ _ _ _ _ c.loop-alloc.invariant, c.loop-alloc.nodes.ok)
 
 pub returns-clause-root : goal.returns-clause-root
-returns-clause-root c = (climbs_root _ _ _ _ _ c.loop-alloc.invariant c.index.result.now (omega arith) c.index.ensures).0
+returns-clause-root c = climbs_root _ _ _ _ _ c.loop-alloc.invariant c.index.result.now c.index.ensures (omega arith)
 
 pub returns-clause-path : goal.returns-clause-path
-returns-clause-path c = (climbs_root _ _ _ _ _ c.loop-alloc.invariant c.index.result.now (omega arith) c.index.ensures).1
+returns-clause-path c =
+    let h = c.loop-alloc.invariant in
+    rw (climbs_to _ _ _ _ _ h c.index.result.now c.index.ensures) at h.leads
