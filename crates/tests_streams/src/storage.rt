@@ -3,25 +3,37 @@ use crate::expect::{check, check_eq, expect_bytes, expect_ok, expect_refused};
 use fakes::readers::{Cuts, FailAt};
 use fakes::refusal::{Refusal, is_failed};
 use fakes::writers::{Drip, FailWrite};
-use multihash::no_std_io::{Read, Write};
 use multihash::Multihash;
-use std::alloc::Global;
-use std::process::Abort;
+use multihash::no_std_io::{Read, Write};
 use storage::chunks::Chunks;
 use storage::hashing::{HashingReader, HashingWriter, Tally};
 use storage::log::{Entry, EntryError, read_entry, valid_prefix, write_entry};
 
 // The digest of `abc` (FIPS 180-4).
 const ABC: [u8; 32] = [
-    0xba, 0x78, 0x16, 0xbf, 0x8f, 0x01, 0xcf, 0xea, 0x41, 0x41, 0x40, 0xde, 0x5d, 0xae, 0x22, 0x23, 0xb0, 0x03, 0x61,
-    0xa3, 0x96, 0x17, 0x7a, 0x9c, 0xb4, 0x10, 0xff, 0x61, 0xf2, 0x00, 0x15, 0xad,
+    0xba, 0x78, 0x16, 0xbf, 0x8f, 0x01, 0xcf, 0xea, 0x41, 0x41, 0x40, 0xde, 0x5d, 0xae, 0x22, 0x23,
+    0xb0, 0x03, 0x61, 0xa3, 0x96, 0x17, 0x7a, 0x9c, 0xb4, 0x10, 0xff, 0x61, 0xf2, 0x00, 0x15, 0xad,
 ];
 
 // The digest of no bytes.
 const NONE: [u8; 32] = [
-    0xe3, 0xb0, 0xc4, 0x42, 0x98, 0xfc, 0x1c, 0x14, 0x9a, 0xfb, 0xf4, 0xc8, 0x99, 0x6f, 0xb9, 0x24, 0x27, 0xae, 0x41,
-    0xe4, 0x64, 0x9b, 0x93, 0x4c, 0xa4, 0x95, 0x99, 0x1b, 0x78, 0x52, 0xb8, 0x55,
+    0xe3, 0xb0, 0xc4, 0x42, 0x98, 0xfc, 0x1c, 0x14, 0x9a, 0xfb, 0xf4, 0xc8, 0x99, 0x6f, 0xb9, 0x24,
+    0x27, 0xae, 0x41, 0xe4, 0x64, 0x9b, 0x93, 0x4c, 0xa4, 0x95, 0x99, 0x1b, 0x78, 0x52, 0xb8, 0x55,
 ];
+
+// The entries of `one` and of no bytes.
+const LOG: [u8; 73] = [
+    0x12, 0x20, 0x76, 0x92, 0xc3, 0xad, 0x35, 0x40, 0xbb, 0x80, 0x3c, 0x02, 0x0b, 0x3a, 0xee, 0x66,
+    0xcd, 0x88, 0x87, 0x12, 0x32, 0x34, 0xea, 0x0c, 0x6e, 0x71, 0x43, 0xc0, 0xad, 0xd7, 0x3f, 0xf4,
+    0x31, 0xed, 0x03, 0x6f, 0x6e, 0x65, 0x12, 0x20, 0xe3, 0xb0, 0xc4, 0x42, 0x98, 0xfc, 0x1c, 0x14,
+    0x9a, 0xfb, 0xf4, 0xc8, 0x99, 0x6f, 0xb9, 0x24, 0x27, 0xae, 0x41, 0xe4, 0x64, 0x9b, 0x93, 0x4c,
+    0xa4, 0x95, 0x99, 0x1b, 0x78, 0x52, 0xb8, 0x55, 0x00,
+];
+
+// The length of the first entry, and of its multihash and its block's length.
+const FIRST: usize = 38;
+
+const HEAD: usize = 35;
 
 fn hash_of(bytes: &[u8]) -> Multihash<32> {
     let mut tally = Tally::new();
@@ -93,51 +105,20 @@ fn what_was_read_is_hashed(rt: HostRuntime) {
     }
 }
 
-// The entries of `one` and of no bytes.
-fn two_entries(rt: &impl Abort, alloc: Global) -> Vec<u8> {
-    let mut log = Vec::new(alloc);
-    for block in [b"one".as_slice(), b""] {
-        expect_ok(rt, write_entry(&hash_of(block), block, &mut log));
-    }
-    check_eq!(rt; (log.len(), log[..3] == [0x12, 32, 0x76]), (38 + 35, true));
-    log
-}
-
 #[test]
 fn entries_are_read_back(rt: HostRuntime) {
     let alloc = rt.alloc();
     let rt = &rt;
-    let log = two_entries(rt, alloc);
-    let mut reader = Cuts::new(&log, 1);
+    let mut log = Vec::new(alloc);
+    let mut reader = Cuts::new(&LOG, 1);
     for block in [b"one".as_slice(), b""] {
+        expect_ok(rt, write_entry(&hash_of(block), block, &mut log));
         let entry: Entry<32> = expect_ok(rt, read_entry(alloc, &mut reader, 3));
         check!(rt; entry.hash == hash_of(block));
         expect_bytes(rt, &entry.block, block);
     }
+    expect_bytes(rt, &log, &LOG);
     check!(rt; reader.left.is_empty());
-    let mut reader = Cuts::new(&log, 1);
-    let answer: Result<Entry<32>, EntryError> = read_entry(alloc, &mut reader, 2);
-    check!(rt; matches!(answer, Err(EntryError::TooLong(3))));
-    check_eq!(rt; reader.left.len(), log.len() - 35);
-}
-
-// An entry is cut, or the reader fails: the error, and how many bytes were consumed.
-#[test]
-fn cut_entries_are_rejected(rt: HostRuntime) {
-    let alloc = rt.alloc();
-    let rt = &rt;
-    let log = two_entries(rt, alloc);
-    for n in 0..38 {
-        let mut reader = Cuts::new(&log[..n], 1);
-        let answer: Result<Entry<32>, EntryError> = read_entry(alloc, &mut reader, 3);
-        let wanted = if n < 2 || n == 34 { Refusal::Insufficient } else { Refusal::UnexpectedEof };
-        check!(rt; is_entry_refused(&answer, wanted), n);
-        check!(rt; reader.left.is_empty(), n);
-        let mut reader = FailAt::new(Cuts::new(&log, 1), n);
-        let answer: Result<Entry<32>, EntryError> = read_entry(alloc, &mut reader, 3);
-        check!(rt; is_entry_refused(&answer, Refusal::LINK_DOWN), n);
-        check_eq!(rt; reader.cuts.left.len(), log.len() - n, n);
-    }
 }
 
 fn is_entry_refused(answer: &Result<Entry<32>, EntryError>, why: Refusal) -> bool {
@@ -145,43 +126,81 @@ fn is_entry_refused(answer: &Result<Entry<32>, EntryError>, why: Refusal) -> boo
 }
 
 #[test]
+fn long_blocks_are_rejected(rt: HostRuntime) {
+    let alloc = rt.alloc();
+    let rt = &rt;
+    let mut reader = Cuts::new(&LOG, 1);
+    let answer: Result<Entry<32>, EntryError> = read_entry(alloc, &mut reader, 2);
+    check!(rt; matches!(answer, Err(EntryError::TooLong(3))));
+    expect_bytes(rt, reader.left, &LOG[HEAD..]);
+}
+
+// The input ends within an entry: all of it was consumed.
+#[test]
+fn cut_entries_are_rejected(rt: HostRuntime) {
+    let alloc = rt.alloc();
+    let rt = &rt;
+    for n in 0..FIRST {
+        let mut reader = Cuts::new(&LOG[..n], 1);
+        let answer: Result<Entry<32>, EntryError> = read_entry(alloc, &mut reader, 3);
+        let wanted = if n < 2 || n == HEAD - 1 {
+            Refusal::Insufficient
+        } else {
+            Refusal::UnexpectedEof
+        };
+        check!(rt; is_entry_refused(&answer, wanted), n);
+        check!(rt; reader.left.is_empty(), n);
+    }
+}
+
+// The reader fails: what it gave before was consumed.
+#[test]
+fn failures_of_the_reader_are_passed_on(rt: HostRuntime) {
+    let alloc = rt.alloc();
+    let rt = &rt;
+    for n in 0..FIRST {
+        let mut reader = FailAt::new(Cuts::new(&LOG, 1), n);
+        let answer: Result<Entry<32>, EntryError> = read_entry(alloc, &mut reader, 3);
+        check!(rt; is_entry_refused(&answer, Refusal::LINK_DOWN), n);
+        expect_bytes(rt, reader.cuts.left, &LOG[n..]);
+    }
+}
+
+#[test]
 fn failed_writes_append_a_prefix(rt: HostRuntime) {
     let alloc = rt.alloc();
     let rt = &rt;
-    let log = two_entries(rt, alloc);
     let hash = hash_of(b"one");
-    for room in 0..38 {
+    for room in 0..FIRST {
         let mut full = expect_ok(rt, Drip::new(alloc, room, 1));
         let answer = write_entry(&hash, b"one", &mut full);
         expect_refused(rt, &answer, Refusal::WriteZero, room);
-        expect_bytes(rt, &full.held, &log[..room]);
-        let mut fails = FailWrite::out_of_memory(expect_ok(rt, Drip::new(alloc, 38, 1)), room);
+        expect_bytes(rt, &full.held, &LOG[..room]);
+        let mut fails = FailWrite::out_of_memory(expect_ok(rt, Drip::new(alloc, FIRST, 1)), room);
         let answer = write_entry(&hash, b"one", &mut fails);
         expect_refused(rt, &answer, Refusal::OutOfMemory, room);
-        expect_bytes(rt, &fails.drip.held, &log[..room]);
+        expect_bytes(rt, &fails.drip.held, &LOG[..room]);
     }
 }
 
 // A log that is cut at each position, and one with each byte changed.
 #[test]
 fn the_valid_prefix_is_found(rt: HostRuntime) {
-    let alloc = rt.alloc();
     let rt = &rt;
-    let mut log = two_entries(rt, alloc);
-    for n in 0..log.len() + 1 {
-        let wanted = if n < 38 {
+    for n in 0..LOG.len() + 1 {
+        let wanted = if n == LOG.len() {
+            n
+        } else if n < FIRST {
             0
-        } else if n < 73 {
-            38
         } else {
-            73
+            FIRST
         };
-        expect_bytes(rt, valid_prefix(&log[..n]), &log[..wanted]);
+        expect_bytes(rt, valid_prefix(&LOG[..n]), &LOG[..wanted]);
     }
-    for n in 0..log.len() {
+    for n in 0..LOG.len() {
+        let mut log = LOG;
         log[n] ^= 1;
-        let wanted = if n < 38 { 0 } else { 38 };
-        expect_bytes(rt, valid_prefix(&log), &log[..wanted]);
-        log[n] ^= 1;
+        let wanted = if n < FIRST { 0 } else { FIRST };
+        expect_bytes(rt, valid_prefix(&log), &LOG[..wanted]);
     }
 }

@@ -2,7 +2,7 @@
 use Rattle.std.proofs.Common.{length, ◌-◌, ◌≡◌, ◌≤◌, take}
 use Rattle.multihash.specs.Reading.{Takes}
 use Rattle.storage.specs.Hashing.{AddsBytes}
-use Rattle.storage.proofs.hashing.HashingReaderRead.read_exact.Given as goal
+use Rattle.storage.proofs.hashing.reader.HashingReaderRead.read_exact.Given as goal
 
 abbrev pub invariant-loop-filled : goal.invariant-loop-filled
 invariant-loop-filled g l = record {

@@ -1,7 +1,7 @@
 use Rattle.std.proofs.Common.{◌-◌, List, ℕ, rules, length, sym, subst}
 use Rattle.multihash.proofs.Readings.ReadingLemmas.{Takes-joined, take-put_mid_more}
 use Rattle.storage.specs.Hashing.{AddsBytes, AddsBytes-joined}
-use Rattle.storage.proofs.hashing.HashingReaderRead.read_exact.Goals as goal
+use Rattle.storage.proofs.hashing.reader.HashingReaderRead.read_exact.Goals as goal
 
 pub loop-filled-preserved : goal.loop-filled-preserved
 loop-filled-preserved g c =

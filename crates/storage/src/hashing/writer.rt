@@ -1,0 +1,69 @@
+//! A writer that hashes and counts the bytes that pass.
+ghost use Rattle.std.specs.Prelude.{◌≡◌, List, ℕ, []};
+ghost use Rattle.multihash.specs.Answer.{pair_of};
+ghost use Rattle.storage.specs.Content.{content_pair};
+
+use super::Tally;
+use multihash::Multihash;
+use multihash::no_std_io::{Error, Write};
+
+/// A writer that hashes and counts the bytes that its inner writer has accepted.
+#[derive(Drop)]
+pub struct HashingWriter<W> {
+    /// The inner writer.
+    pub inner: W,
+    /// The hash of what was written.
+    pub tally: Tally,
+}
+
+impl<W: Write> HashingWriter<W> {
+    ghost use Rattle.storage.specs.Hashing.{HoldsMessage};
+
+    /// Returns a writer that has written nothing.
+    pub fn new(inner: W) -> Self
+        ensures inner { result.inner ≡ inner }
+        ensures nothing { HoldsMessage result.tally [] }
+    {
+        HashingWriter {
+            inner,
+            tally: Tally::new(),
+        }
+    }
+
+    /// Returns the multihash of all that was written, and the inner writer.
+    pub fn finish(self) -> (Multihash<32>, W)
+        ensures hash { (message : List ℕ) → HoldsMessage self.tally message →
+            pair_of result.0 ≡ content_pair message }
+        ensures inner { result.1 ≡ self.inner }
+    {
+        (self.tally.finish(), self.inner)
+    }
+}
+
+impl<W: Write> Write for HashingWriter<W> {
+    ghost use Rattle.storage.specs.Hashing.{AddsBytes, AddsBytes-none, AddsBytes-joined};
+
+    const ALLOCATES: bool = W::ALLOCATES;
+
+    ghost allocates = { W.allocates };
+
+    ghost appended = { λ old bytes new. W.appended old.inner bytes new.inner
+        × AddsBytes old.tally bytes new.tally };
+
+    ghost full = { λ w. W.full w.inner };
+
+    ghost failures = { λ w. W.failures w.inner };
+
+    ghost appends_nothing = { λ w. (W.appends_nothing w.inner, AddsBytes-none w.tally) };
+
+    ghost appends_joined = { λ a b c x y first second. (
+      W.appends_joined a.inner b.inner c.inner x y first.0 second.0,
+      AddsBytes-joined a.tally b.tally c.tally x y first.1 second.1,
+    ) };
+
+    fn write(&mut self, buf: &[u8]) -> Result<usize, Error> {
+        let n = self.inner.write(buf)?;
+        self.tally.add(&buf[..n]);
+        Ok(n)
+    }
+}
