@@ -26,13 +26,11 @@ pub(crate) fn show(alloc: Global, lines: &mut String) -> Result<()> {
 }
 
 // Two that are counted, and then none.
-fn counted(alloc: Global) -> Result<(usize, usize)> {
+fn counted(alloc: Global) -> Result<(usize, Option<usize>), Error> {
     let mut stream = [2u8, 0, 1, 65, 0x12, 1, 66].as_slice();
     let both = any_reader::read_counted::<4, _>(alloc, &mut stream)?.len();
-    let none = any_reader::read_if_room::<4, _>(alloc, &mut stream, 0)?.context(
-        "no room for none",
-    )?;
-    Ok((both, none.len()))
+    let none = any_reader::read_if_room::<4, _>(alloc, &mut stream, 0)?.map(|items| items.len());
+    Ok((both, none))
 }
 
 // Too many for any memory, and then one.
@@ -46,6 +44,7 @@ fn have_room(alloc: Global) -> Result<(bool, bool), Error> {
 // After them the SCALE form, followed by a 9.
 fn show_any_reader(alloc: Global, lines: &mut String) -> Result<()> {
     let (both, none) = counted(alloc)?;
+    let none = none.context("no room for none")?;
     let (has_room, found) = have_room(alloc)?;
     let mut scale = [0x12u8, 0, 0, 0, 0, 0, 0, 0, 2, 7, 8, 9].as_slice();
     let decoded = any_reader::read_scale::<4, _>(&mut scale)?;
