@@ -34,7 +34,7 @@ pub fn fills_scale<const S: usize>(m: &Multihash<S>, places: &mut [u8]) -> (bool
 
 /// Writes the SCALE form to a buffer of the greatest length, and returns its length.
 pub fn fills_longest_scale<const S: usize>(m: &Multihash<S>, places: &mut [u8; 264]) -> usize
-    ensures { result ≡ 9 + length (pair_of m.now).digest }
+    ensures { (bytes : List ℕ) × IsScale (pair_of m.now) bytes × (result ≡ length bytes) }
 {
     let mut left = places.as_mut_slice();
     m.scale_encode(&mut left).unwrap()
