@@ -9,7 +9,7 @@ ghost use Rattle.storage.specs.Log.{IsEntry, IsRefused, IsEntryRefusal, EntryFai
 ghost use Rattle.storage.specs.Content.{content_pair};
 ghost use Rattle.storage.specs.declared.log.EntryError.TheVariants.{Refused};
 
-use crate::hashing::Tally;
+use crate::content::hash_of;
 use multihash::no_std_io::{self, Read, Write};
 use multihash::{Error, Multihash, varint};
 use std::alloc::{AllocError, Global};
@@ -129,15 +129,6 @@ pub fn read_entry<const S: usize, R: Read>(
     Ok(Entry { hash, block })
 }
 
-// The multihash of the block.
-fn hash_of(block: &[u8]) -> Multihash<32>
-    ensures { pair_of result ≡ content_pair block.now }
-{
-    let mut tally = Tally::new();
-    tally.add(block);
-    tally.finish()
-}
-
 // The bytes after the entry at the front, if there is one whose block has the multihash that it says.
 fn after_entry(bytes: &[u8]) -> Option<&[u8]>
     ensures some { IfSome result (λ rest. (block entry : List ℕ) × IsEntry (content_pair block) block entry
@@ -155,7 +146,7 @@ fn after_entry(bytes: &[u8]) -> Option<&[u8]>
         return None;
     }
     let (block, rest) = rest.split_at(len as usize);
-    if !hash_of(block).same_as(&hash) {
+    if !hash_of::<32>(block).same_as(&hash) {
         return None;
     }
     Some(rest)

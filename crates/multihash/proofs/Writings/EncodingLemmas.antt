@@ -11,9 +11,9 @@ use Rattle.multihash.proofs.Varints.VarintLemmas.{varint_bytes, varint_longest, 
 use Rattle.multihash.proofs.Varints.VarintWriteLemmas.{varint_exists}
 
 -- the varints of a pair's code and of its digest's length, and the digest
-pub encoding_of : (p : Pair) (code size : ℕ) (digest a b : List ℕ) → code ≡ p.code → size ≡ length p.digest → digest ≡ p.digest
+pub encoding_of_parts : (p : Pair) (code size : ℕ) (digest a b : List ℕ) → code ≡ p.code → size ≡ length p.digest → digest ≡ p.digest
     → IsVarint code a → IsVarint size b → IsEncoding p (a ++ (b ++ digest))
-encoding_of p code size digest a b same_code same_size same_digest is_code is_size = record {
+encoding_of_parts p code size digest a b same_code same_size same_digest is_code is_size = record {
   code = a;
   size = b;
   is_code = subst (λ n. IsVarint n a) same_code is_code;

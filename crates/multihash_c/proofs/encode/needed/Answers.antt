@@ -1,5 +1,5 @@
 use Rattle.std.proofs.Common.{◌++◌, refl, sym, arith}
-use Rattle.multihash.proofs.Writings.EncodingLemmas.{encoding_of, length-parts}
+use Rattle.multihash.proofs.Writings.EncodingLemmas.{encoding_of_parts, length-parts}
 use Rattle.multihash.proofs.Varints.VarintLemmas.{varint_longest}
 use Rattle.multihash_c.proofs.encode.needed.Goals as goal
 
@@ -21,7 +21,7 @@ returns-in-Ok-Ok-clause-ok c =
     let b = c.in-Ok-Ok.ensures'.ok in (
       λ digest same. (
         a.0 ++ (b.0 ++ digest),
-        encoding_of (record { code = c.args.code; digest = digest }) _ _ digest a.0 b.0 refl (sym same) refl a.1 b.1,
+        encoding_of_parts (record { code = c.args.code; digest = digest }) _ _ digest a.0 b.0 refl (sym same) refl a.1 b.1,
         omega (arith, a.2, b.2, same, length-parts a.0 b.0 digest),
       ),
       c.if-digest_length-gt-DIGEST_MAX.false,

@@ -1,7 +1,7 @@
 use Rattle.std.proofs.Common.{rules, ◌≡◌, ℕ, List, ◌++◌, length, drop, ap, refl, arith}
 use Rattle.multihash.specs.Pair.{Pair}
 use Rattle.multihash.specs.Filling.{Fills-joined}
-use Rattle.multihash.proofs.Writings.EncodingLemmas.{encoding_of}
+use Rattle.multihash.proofs.Writings.EncodingLemmas.{encoding_of_parts}
 use Rattle.multihash.proofs.Writings.WritingLemmas.{filled_length}
 use Rattle.multihash_c.proofs.EncodedLemmas.{of_ok, varint_has_room, parts_long, stands_at_front}
 use Rattle.multihash_c.proofs.encode.put_encoding.Goals as goal
@@ -47,4 +47,4 @@ returns c =
     let same : c.write_digest.new.writer.places.ghost_name ≡ c.new-writer.result.places.ghost_name = whole.same_slice in
     let stands : c.write_digest.new.writer.places.now ≡ bytes ++ drop (length bytes) c.args.places.now =
     stands_at_front c.args.places.now c.new-writer.result c.write_digest.new.writer bytes made.empty made.kept whole in
-    (bytes, encoding_of p c.args.code (length digest) digest a b refl refl refl is_code is_size, search rules)
+    (bytes, encoding_of_parts p c.args.code (length digest) digest a b refl refl refl is_code is_size, search rules)

@@ -4,7 +4,7 @@ use Rattle.multihash.specs.Pair.{digest_limit}
 use Rattle.multihash.specs.Varint.{IsVarint}
 use Rattle.multihash.specs.Answer.{Fields, pair_of}
 use Rattle.multihash.proofs.OutcomeLemmas.{passed_err}
-use Rattle.multihash.proofs.Writings.EncodingLemmas.{encoding_of}
+use Rattle.multihash.proofs.Writings.EncodingLemmas.{encoding_of_parts}
 use Rattle.multihash.proofs.Readings.ReadingLemmas.{Takes-joined}
 use Rattle.multihash.proofs.Readings.ReadTakingLemmas.{stops_in_code, stops_in_size, stops_at_size, stops_in_digest, ReadMeets, read_answered}
 use Rattle.multihash.proofs.multihash.Multihash.read.Goals as goal
@@ -67,5 +67,5 @@ returns g c =
     } in
     read_answered S (code.ok.0 ++ (size.ok.0 ++ digest)) _ _ _ _ made
     (c.in_ok-read_digest.ensures.faults ∙ (size.faults ∙ code.faults))
-    (encoding_of (pair_of made) _ _ digest code.ok.0 size.ok.0 refl (sym long) refl code.ok.1 is_size)
+    (encoding_of_parts (pair_of made) _ _ digest code.ok.0 size.ok.0 refl (sym long) refl code.ok.1 is_size)
     (Takes-joined _ _ _ code.ok.0 (size.ok.0 ++ digest) _ refl code.ok.2 (Takes-joined _ _ _ size.ok.0 digest _ refl size.ok.2 takes))
