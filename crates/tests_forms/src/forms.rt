@@ -25,6 +25,16 @@ fn expect_through(rt: &impl Abort, alloc: Global, code: u64, digest: &[u8]) {
     }
 }
 
+fn expect_full_through(rt: &impl Abort, alloc: Global, m: &Multihash<128>) {
+    for first in FORMS {
+        for second in FORMS {
+            let answer = forms_back::<128, 128, 128>(alloc, first, second, m);
+            let (between, back) = expect_ok(rt, answer);
+            check!(rt; between == *m && back == *m, (first, second));
+        }
+    }
+}
+
 #[test]
 fn from_form_to_form(rt: HostRuntime) {
     for (code, digest) in [
@@ -35,5 +45,14 @@ fn from_form_to_form(rt: HostRuntime) {
         (LARGEST_CODE, b""),
     ] {
         expect_through(&rt, rt.alloc(), code, digest);
+    }
+}
+
+#[test]
+fn full_digests_pass_through_forms(rt: HostRuntime) {
+    let digest = [7; 128];
+    for code in [0, 72057594037927936, LARGEST_CODE] {
+        let m = expect_ok(&rt, Multihash::<128>::wrap(code, &digest));
+        expect_full_through(&rt, rt.alloc(), &m);
     }
 }
