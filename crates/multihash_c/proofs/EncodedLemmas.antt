@@ -10,7 +10,7 @@ use Rattle.multihash.specs.Filling.{Fills, IsFilled}
 use Rattle.multihash.specs.Writing.{AppendsPart, IsWriterFaultOrFull}
 use Rattle.multihash.specs.Refusal.{Refusal, IsIo, IsInvalidCode}
 use Rattle.multihash.specs.declared.no_std_io.slice_writer.SliceWriter.{SliceWriter}
-use Rattle.multihash.proofs.Writings.EncodingLemmas.{encoding_of, length-parts, encoding_same}
+use Rattle.multihash.proofs.Writings.EncodingLemmas.{encoding_of_parts, length-parts, encoding_same}
 use Rattle.multihash.proofs.Writings.WritingLemmas.{slice_writer_has_room}
 
 module _ (IsForm : Pair → List ℕ → Type 0) (p : Pair) (short : length p.digest ≤ 255) (small : p.code < varint_limit)
@@ -64,7 +64,7 @@ varint_has_room n old new (Err e) (inr (faults, part)) below enough = slice_writ
 pub parts_long : (p : Pair) (bytes a b : List ℕ) → IsEncoding p bytes → IsVarint p.code a → IsVarint (length p.digest) b
     → length bytes ≡ length a + length b + length p.digest
 parts_long p bytes a b e is_code is_size =
-    ap length (encoding_same p bytes (a ++ (b ++ p.digest)) e (encoding_of p p.code (length p.digest) p.digest a b refl refl refl is_code is_size))
+    ap length (encoding_same p bytes (a ++ (b ++ p.digest)) e (encoding_of_parts p p.code (length p.digest) p.digest a b refl refl refl is_code is_size))
     ∙ sym (length-parts a b p.digest)
 
 -- what a writer was given that had written nothing before stands at the front of its places
