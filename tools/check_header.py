@@ -124,7 +124,7 @@ def of_crate(tree: Tree) -> Declared:
     if len(texts) != files[f"{source}/text.rt"].count("=>"):
         raise Unread("a text of a status")
     # the most bytes of a varint; a length that is accepted has two
-    varint = int(group(r"\nmax_marked = (\d+)\n", tree.read("crates/multihash/specs/Varint.antt"))) + 1
+    varint = int(group(r"\nmax_continuation = (\d+)\n", tree.read("crates/multihash/specs/Varint.antt"))) + 1
     lengths = {"DIGEST_MAX": 255, "HEAD_MAX": 2 * varint, "LENGTH_MAX": varint + 2 + 255, "SCALE_LENGTH_MAX": 9 + 255}
     return Declared(
         structs_of("\n".join(files.values())),

@@ -1,6 +1,6 @@
 #!/bin/sh
 # Counts the instructions of each call that crates/speed makes, and prints the tables of docs/SPEED.md; in brackets
-# stands what tools/rust_crate.tsv has of the Rust crate.
+# appends what tools/rust_crate.tsv has of the Rust crate.
 #
 #   count_instructions.sh                            the tables
 #   count_instructions.sh PATTERN                    one a line, the cases that PATTERN matches, as grep -E does

@@ -17,7 +17,7 @@ A mutant changed where its sum (prover/sums.py) is another at COMMIT, by default
 day older than the last, else the first; in a shallow clone without such a commit all have changed. To check a clone in which you changed
 nothing, give --since HEAD: only those that are drawn are tried.
 
-Rejections are kept on this machine, outside the checkout, by the same sum, and a later run takes them from there; but it tries what it
+Rejections are kept on this machine, outside the checkout, by the same sum, and a later run consumes them from there; but it tries what it
 drew, and with --all everything. tools/mutants.count has the number of all mutants.
 
 It proves a copy of the crates first, or in the folder --proved. It needs about 2 GB a job. The last line is 'N passed, M failed'.
@@ -49,7 +49,7 @@ def named(words, its, report):
 
 
 def choose(given, its, tree, judge, folder):
-    """Returns the mutants that are to be tried, and takes from earlier runs the rejections of others that are asked for."""
+    """Returns the mutants that are to be tried, and consumes from earlier runs the rejections of others that are asked for."""
     is_plain, since, report = not given.names and not given.all, "asked for", judge.report
     if is_plain:
         commit = choice.base_of(given.root, given.since)

@@ -1,8 +1,8 @@
 #!/usr/bin/env bash
 # Runs each program on what it has to reject. A file tools/runs/PROGRAM.txt has the cases of a program: after a line
-# '== CASE FILE' stands the text of its input (stdin, or the list verdicts.tsv that it reads), or what it must write to
+# '== CASE FILE' appends the text of its input (stdin, or the list verdicts.tsv that it reads), or what it must write to
 # stdout or stderr. A file that is not there is empty. The status must be 1.
-# Each program is built once; or taken as 'rt ci' built it, if BUILT says that it did.
+# Each program is built once; or consumed as 'rt ci' built it, if BUILT says that it did.
 # The last line is 'N passed, M failed'.
 set -u
 cd "$(dirname "$0")/.." || exit 2

@@ -78,7 +78,7 @@ look_at_library() {
 
 # ---- the header
 
-# The header stands alone, also if it is included twice.
+# The header appends alone, also if it is included twice.
 stands_alone() {
   printf '#include "multihash.h"\n#include "multihash.h"\nint main(void) { return 0; }\n' > "$work/alone.c"
   "$@" -I "$crate/include" -fsyntax-only "$work/alone.c"

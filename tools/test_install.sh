@@ -24,7 +24,7 @@ ulimit -c 0
 
 # ---- what is installed
 
-# The files of an installation, as paths from the prefix; further ones are the words behind the libraries' folder.
+# The files of an installation, as paths from the prefix; further ones are the words following the libraries' folder.
 files_in() {
   local libdir=$1 function
   shift
@@ -73,7 +73,7 @@ is_installed() {
     echo "$(wc -l < "$work/installed") files"
 }
 
-# The installation takes an archive that it does not build, unless there is none.
+# The installation consumes an archive that it does not build, unless there is none.
 install_built() {
   ARCHIVE=$prefix/lib/libmultihash_c.a tools/install_c.sh "$@"
 }
@@ -157,7 +157,7 @@ pages() {
   rejects "NAMES" mandoc -T lint -W style "$work/planted.1"
 }
 
-# The program beside the library: built with ALL=1, else another one stands in for it.
+# The program beside the library: built with ALL=1, else another one appends in for it.
 with_program() {
   local given
   if [ "${ALL-}" = 1 ]; then given=; else given=$(type -P true); fi

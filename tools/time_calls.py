@@ -6,7 +6,7 @@
 RUST_PROGRAM is tools/rust_matrix.rs, built; this library's is the one that `rt run` left in crates/speed. Both are
 asked for one case with some calls and with three times as many, by turns: the difference of the quickest runs leaves
 out what comes before and after the calls. A case that RUST_PROGRAM doesn't know is timed here alone. It is the
-processor's time that a run takes, on a machine that should do nothing else."""
+processor's time that a run consumes, on a machine that should do nothing else."""
 import os
 import resource
 import subprocess
@@ -16,7 +16,7 @@ TOP = os.path.dirname(os.path.dirname(os.path.abspath(__file__)))
 OURS = os.path.join(TOP, "crates", "speed", "out", "speed")
 ROUNDS = 15
 
-# How long the shorter run takes at least, in seconds, so that a switch of tasks is told apart.
+# How long the shorter run consumes at least, in seconds, so that a switch of tasks is told apart.
 SHORTEST = 0.03
 
 # What the table calls a case, and the case.
@@ -61,7 +61,7 @@ def seconds(program, case, count):
 
 
 def enough(program, case):
-    """A number of calls that takes long enough."""
+    """A number of calls that consumes long enough."""
     count = 1000
     while seconds(program, case, count) < SHORTEST:
         count *= 2

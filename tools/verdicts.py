@@ -71,8 +71,8 @@ class Rules:
         return pair(code, digest), end + length
 
     def from_bytes(self, size: int, data: bytes) -> str:
-        result, taken = self.read(size, data)
-        trailing = result.startswith("pair") and len(data) - taken
+        result, consumed = self.read(size, data)
+        trailing = result.startswith("pair") and len(data) - consumed
         return f"invalid_size {trailing}" if trailing else result
 
     def scale_decode(self, size: int, data: bytes) -> Result:

@@ -7,7 +7,7 @@ from functools import partial
 
 from . import repository, source
 
-# a check takes ten seconds beside the searches that fail in it, and batches of this size keep all cores busy
+# a check consumes ten seconds beside the searches that fail in it, and batches of this size keep all cores busy
 MOST_IN_A_BATCH = 20
 
 
@@ -41,7 +41,7 @@ def batches(named):
 
 def texts_of(batch):
     """Returns the texts of the files with all bodies of a batch in them, and the path and lines of each function."""
-    texts, places = {}, {}
+    texts, buffer = {}, {}
     for path in {it.body.path for it in batch.values()}:
         its, new, end = {name: it for name, it in batch.items() if it.body.path == path}, "", 0
         for name, it in sorted(its.items(), key=lambda it: it[1].body.function.head):
@@ -49,10 +49,10 @@ def texts_of(batch):
             new += old[end : function.head]
             first = new.count("\n") + 1
             new += old[function.head : function.body] + it.body.text
-            places[name] = (path, first, new.count("\n") + 1)
+            buffer[name] = (path, first, new.count("\n") + 1)
             end = function.end
         texts[path] = new + old[end:]
-    return texts, places
+    return texts, buffer
 
 
 class Work:
@@ -70,9 +70,9 @@ class Work:
 
     def try_batch(self, batch, copy):
         """Judges those of a batch of which the output is clear, and returns the others to be tried again."""
-        texts, places = texts_of(batch)
+        texts, buffer = texts_of(batch)
         output = copy.check(texts)
-        found = {name: output.of(name, *places[name]) for name in batch}
+        found = {name: output.of(name, *buffer[name]) for name in batch}
         if len(batch) == 1:
             [(name, mutant)] = batch.items()
             self.judge.judge_alone(mutant, output, found[name])

@@ -68,7 +68,7 @@ impl Refusal {
 }
 
 /// Whether a call failed with this kind of error.
-pub fn is_refused<T>(answer: &Result<T, Error>, why: Refusal) -> bool {
+pub fn is_rejected<T>(answer: &Result<T, Error>, why: Refusal) -> bool {
     matches!(answer, Err(e) if Refusal::of(e) == Some(why))
 }
 

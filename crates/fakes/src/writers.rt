@@ -1,6 +1,6 @@
 //! Writers that fill up, fail, or count their calls.
 ghost use Rattle.std.specs.Prelude.{◌≡◌, ◌<◌, ◌≤◌, ◌+◌, [], IsTrue, IsFalse, IfOk, true, false, vec_len, vec_capacity, if◌then◌else◌};
-ghost use Rattle.multihash.specs.Writing.{AppendsAtEnd, AppendsAtEnd-none, AppendsAtEnd-joined};
+ghost use Rattle.multihash.specs.Writing.{AppendsAtEnd, AppendsAtEnd-none, AppendsAtEnd-concatenated};
 
 use crate::failing::fault;
 use multihash::no_std_io::{Error, Write};
@@ -50,8 +50,8 @@ impl Write for Drip {
 
     ghost appends_nothing = { λ w. AppendsAtEnd-none w.held.items };
 
-    ghost appends_joined = { λ a b c x y first second.
-        AppendsAtEnd-joined a.held.items b.held.items c.held.items x y first second };
+    ghost appends_concatenated = { λ a b c x y first second.
+        AppendsAtEnd-concatenated a.held.items b.held.items c.held.items x y first second };
 
     fn write(&mut self, buf: &[u8]) -> Result<usize, Error> {
         self.asked = self.asked.saturating_add(1);
@@ -113,7 +113,7 @@ impl Write for FailWrite {
 
     ghost appends_nothing = { λ w. AppendsAtEnd-none w.drip.held.items };
 
-    ghost appends_joined = { λ a b c x y first second. AppendsAtEnd-joined
+    ghost appends_concatenated = { λ a b c x y first second. AppendsAtEnd-concatenated
         a.drip.held.items b.drip.held.items c.drip.held.items x y first second };
 
     fn write(&mut self, buf: &[u8]) -> Result<usize, Error> {
@@ -195,8 +195,8 @@ impl Write for CountsWrites {
 
     ghost appends_nothing = { λ w. AppendsAtEnd-none w.held.items };
 
-    ghost appends_joined = { λ a b c x y first second.
-        AppendsAtEnd-joined a.held.items b.held.items c.held.items x y first second };
+    ghost appends_concatenated = { λ a b c x y first second.
+        AppendsAtEnd-concatenated a.held.items b.held.items c.held.items x y first second };
 
     fn write(&mut self, buf: &[u8]) -> Result<usize, Error> {
         self.parts = self.parts.saturating_add(1);

@@ -7,11 +7,11 @@ use Rattle.multihash.specs.Varint.{not_minimal, insufficient}
 use Rattle.multihash.proofs.Writings.WritingLemmas.{length_of_not_nil}
 use Rattle.mh_show.specs.declared.run.RunError.TheVariants.{Input, NotShown, Output}
 use Rattle.mh_show.specs.declared.show.ShowError.TheVariants.{NotHex, Refused, Memory}
-use Rattle.mh_show.specs.Shown.{ShowsAs, NamesNone, IsRefusedAs, newline, IsLine, NamesBytes}
-use Rattle.mh_show.specs.Run.{run_error_text, error_line, ReadsWhole, AppendsPartOf, TriesToAppend, ShowsInput, ShowsPart, EndsRun, TellsFault}
-use Rattle.mh_show.proofs.ShownVectors.{shows_0000, second_newline_names_none, digits_name_some, no_pair_refused, refused_padded, shows_only}
-use Rattle.multihash.specs.Verdict.{faulty, HasWholeVerdict}
-use Rattle.multihash.proofs.Examples.VarintVectors.{all_marked}
+use Rattle.mh_show.specs.Shown.{ShowsAs, NamesNone, IsRejectedAs, newline, IsLine, NamesBytes}
+use Rattle.mh_show.specs.Run.{run_error_text, error_line, ReadsWhole, AppendsPrefixOf, TriesToAppend, ShowsInput, ShowsPart, EndsRun, ReportsError}
+use Rattle.mh_show.proofs.ShownVectors.{shows_0000, second_newline_names_none, digits_name_some, no_pair_rejected, rejected_padded, shows_only}
+use Rattle.multihash.specs.Verdict.{malformed, HasWholeVerdict}
+use Rattle.multihash.proofs.Examples.VarintVectors.{all_continuation}
 use Rattle.hex.specs.declared.error.FromHexError.TheVariants.{InvalidHexCharacter, OddLength, InvalidStringLength, OutOfMemory}
 use Rattle.mh_show.specs.ShowError.{show_error_text, decoding_error}
 
@@ -33,11 +33,11 @@ line_of_input = refl
 -- ---- a whole input
 
 reads_whole : ReadsWhole (Some (codes "0000\n")) (Some []) (codes "0000\n")
-reads_whole = record { takes = refl; at_end = refl; short = omega arith }
+reads_whole = record { consumes = refl; at_end = refl; short = omega arith }
 
 -- the text is what was taken
 reads_no_other_text : ¬ (ReadsWhole (Some (codes "00")) (Some []) (codes "01"))
-reads_no_other_text h = omega (arith, ap (λ (z : List ℕ). get_or z 1 0) h.takes)
+reads_no_other_text h = omega (arith, ap (λ (z : List ℕ). get_or z 1 0) h.consumes)
 
 -- all of it
 leaves_no_text : ¬ (ReadsWhole (Some (codes "0000")) (Some (codes "00")) (codes "00"))
@@ -45,30 +45,30 @@ leaves_no_text h = omega (arith, ap (λ (z : List ℕ). length z) h.at_end)
 
 reads_the_longest : (text : List ℕ) → length text ≡ 65536 → ReadsWhole (Some text) (Some []) text
 reads_the_longest text long =
-    record { takes = sym (append-nil text); at_end = refl; short = omega (arith, long) }
+    record { consumes = sym (append-nil text); at_end = refl; short = omega (arith, long) }
 
 reads_no_longer : (text : List ℕ) → length text ≡ 65537 → ¬ (ReadsWhole (Some text) (Some []) text)
 reads_no_longer text long h = omega (arith, long, h.short)
 
 reads_silently : ReadsWhole None None (codes "0000")
-reads_silently = record { takes = tt; at_end = tt; short = omega arith }
+reads_silently = record { consumes = tt; at_end = tt; short = omega arith }
 
 -- ---- a part
 
-appends_one_of_two : AppendsPartOf (Some (codes "x")) (Some (codes "xa")) (codes "ab")
+appends_one_of_two : AppendsPrefixOf (Some (codes "x")) (Some (codes "xa")) (codes "ab")
 appends_one_of_two = record {
   part = codes "a";
-  proper = (codes "b", (λ e. omega (arith, ap (λ (z : List ℕ). length z) e)), refl);
-  stands = refl;
+  strict = (codes "b", (λ e. omega (arith, ap (λ (z : List ℕ). length z) e)), refl);
+  appends = refl;
 }
 
-appends_no_whole : ¬ (AppendsPartOf (Some []) (Some (codes "ab")) (codes "ab"))
+appends_no_whole : ¬ (AppendsPrefixOf (Some []) (Some (codes "ab")) (codes "ab"))
 appends_no_whole h =
-    let (rest, some, cut) = h.proper in
+    let (rest, some, cut) = h.strict in
     omega (
       arith,
       length_of_not_nil rest some,
-      ap (λ (z : List ℕ). length z) h.stands,
+      ap (λ (z : List ℕ). length z) h.appends,
       ap (λ (z : List ℕ). length z) cut,
       length-append h.part rest,
     )
@@ -80,11 +80,11 @@ first_of [] rest bytes new cut is some = absurd (omega (arith, ap (λ (z : List 
 first_of (c ∷ part) rest bytes new cut is some =
     ap (λ (z : List ℕ). get_or z 0 0) cut ∙ sym (ap (λ (z : List ℕ). get_or z 0 0) is)
 
-appends_no_other_part : ¬ (AppendsPartOf (Some []) (Some (codes "b")) (codes "ab"))
+appends_no_other_part : ¬ (AppendsPrefixOf (Some []) (Some (codes "b")) (codes "ab"))
 appends_no_other_part h =
     omega (
       arith,
-      first_of h.part h.proper.0 (codes "ab") (codes "b") h.proper.2 h.stands
+      first_of h.part h.strict.0 (codes "ab") (codes "b") h.strict.2 h.appends
           (omega arith),
     )
 
@@ -102,7 +102,7 @@ tries_with_no_other (inr part) = appends_no_other_part part
 
 -- the text of an input that was read whole
 text_is : (whole text : List ℕ) → ReadsWhole (Some whole) (Some []) text → text ≡ whole
-text_is whole text h = append_cancel_right text whole [] (sym h.takes ∙ sym (append-nil whole))
+text_is whole text h = append_cancel_right text whole [] (sym h.consumes ∙ sym (append-nil whole))
 
 abbrev shown_empty : List ℕ
 shown_empty = codes "code 0\nsize 0\ndigest -\n"
@@ -133,12 +133,12 @@ shows_part = (
   shows_0000,
   record {
     part = codes "code";
-    proper = (
+    strict = (
       codes " 0\nsize 0\ndigest -\n",
       (λ e. omega (arith, ap (λ (z : List ℕ). length z) e)),
       refl,
     );
-    stands = refl;
+    appends = refl;
   },
 )
 
@@ -147,12 +147,12 @@ no_part_is_all (text, lines, reads, shows, part) =
     let is =
     shows_only lines
     (subst (λ (z : List ℕ). ShowsAs z lines) (text_is (codes "0000\n") text reads) shows) in
-    let (rest, some, cut) = part.proper in
+    let (rest, some, cut) = part.strict in
     omega (
       arith,
       length_of_not_nil rest some,
       ap (λ (z : List ℕ). length z) is,
-      ap (λ (z : List ℕ). length z) part.stands,
+      ap (λ (z : List ℕ). length z) part.appends,
       ap (λ (z : List ℕ). length z) cut,
       length-append part.part rest,
     )
@@ -189,7 +189,7 @@ ends_at_no_digits : EndsRun ⊤ (Some (codes "00\n\n")) (Some []) (Some []) (Som
 ends_at_no_digits = (
   tt,
   codes "00\n\n",
-  record { takes = refl; at_end = refl; short = omega arith },
+  record { consumes = refl; at_end = refl; short = omega arith },
   second_newline_names_none,
 )
 
@@ -208,21 +208,21 @@ ends_at_refusal : EndsRun ⊤ (Some (codes "8000\n")) (Some []) (Some []) (Some 
 ends_at_refusal = (
   tt,
   codes "8000\n",
-  record { takes = refl; at_end = refl; short = omega arith },
-  refused_padded,
+  record { consumes = refl; at_end = refl; short = omega arith },
+  rejected_padded,
 )
 
 -- a pair is refused for nothing
-pair_is_not_refused : (e : Refusal)
+pair_is_not_rejected : (e : Refusal)
     → ¬ (EndsRun ⊤ (Some (codes "0000\n")) (Some []) (Some []) (Some []) (NotShown (Refused e)))
-pair_is_not_refused e (kept, text, reads, refused) =
-    no_pair_refused e
-    (subst (λ (z : List ℕ). IsRefusedAs z e) (text_is (codes "0000\n") text reads) refused)
+pair_is_not_rejected e (kept, text, reads, refused) =
+    no_pair_rejected e
+    (subst (λ (z : List ℕ). IsRejectedAs z e) (text_is (codes "0000\n") text reads) refused)
 
-refused_when_read_whole : (e : Refusal)
+rejected_when_read_whole : (e : Refusal)
     → ¬ (EndsRun ⊤ (Some (codes "8000\n")) (Some (codes "8000\n")) (Some []) (Some [])
     (NotShown (Refused e)))
-refused_when_read_whole e (kept, text, reads, refused) =
+rejected_when_read_whole e (kept, text, reads, refused) =
     omega (arith, ap (λ (z : List ℕ). length z) reads.at_end)
 
 ends_at_output : EndsRun ⊥ (Some (codes "0000\n")) (Some []) (Some []) (Some (codes "code")) Output
@@ -235,34 +235,34 @@ output_was_not_written h = no_part_is_all h
 
 -- ---- the line that tells a fault
 
-tells_input : TellsFault (Some []) (Some (codes "mh_show: input not read\n")) Input
-tells_input = inl (inl refl)
+reports_input : ReportsError (Some []) (Some (codes "mh_show: input not read\n")) Input
+reports_input = inl (inl refl)
 
-tells_memory : TellsFault (Some []) (Some (codes "mh_show: out of memory\n")) Input
-tells_memory = inr (inl refl)
+reports_memory : ReportsError (Some []) (Some (codes "mh_show: out of memory\n")) Input
+reports_memory = inr (inl refl)
 
-tells_nothing : TellsFault (Some (codes "x")) (Some (codes "x")) Input
-tells_nothing = inl (inr (record {
+reports_nothing : ReportsError (Some (codes "x")) (Some (codes "x")) Input
+reports_nothing = inl (inr (record {
   part = [];
-  proper = (
+  strict = (
     error_line (codes "input not read"),
     (λ e. omega (arith, ap (λ (z : List ℕ). length z) e)),
     refl,
   );
-  stands = refl;
+  appends = refl;
 }))
 
 first_tried : (new line : List ℕ) → 0 < length new → TriesToAppend (Some []) (Some new) line
     → get_or line 0 0 ≡ get_or new 0 0
 first_tried new line some (inl e) = ap (λ (z : List ℕ). get_or z 0 0) (sym e)
 first_tried new line some (inr part) =
-    first_of part.part part.proper.0 line new part.proper.2 part.stands some
+    first_of part.part part.strict.0 line new part.strict.2 part.appends some
 
 -- no other bytes are written
-tells_no_other_bytes : ¬ (TellsFault (Some []) (Some (codes "x")) Input)
-tells_no_other_bytes (inl tries) =
+reports_no_other_bytes : ¬ (ReportsError (Some []) (Some (codes "x")) Input)
+reports_no_other_bytes (inl tries) =
     omega (arith, first_tried (codes "x") (error_line (codes "input not read")) (omega arith) tries)
-tells_no_other_bytes (inr tries) =
+reports_no_other_bytes (inr tries) =
     omega (arith, first_tried (codes "x") (error_line (codes "out of memory")) (omega arith) tries)
 
 -- nor the line of another fault
@@ -273,16 +273,16 @@ longer_than new line more (inr part) =
     omega (
       arith,
       more,
-      ap (λ (z : List ℕ). length z) part.stands,
-      ap (λ (z : List ℕ). length z) part.proper.2,
-      length-append part.part part.proper.0,
+      ap (λ (z : List ℕ). length z) part.appends,
+      ap (λ (z : List ℕ). length z) part.strict.2,
+      length-append part.part part.strict.0,
     )
 
-tells_no_other_fault : ¬ (TellsFault (Some []) (Some (codes "mh_show: output not written\n")) Input)
-tells_no_other_fault (inl tries) =
+reports_no_other_fault : ¬ (ReportsError (Some []) (Some (codes "mh_show: output not written\n")) Input)
+reports_no_other_fault (inl tries) =
     longer_than (codes "mh_show: output not written\n") (error_line (codes "input not read"))
     (omega arith) tries
-tells_no_other_fault (inr tries) =
+reports_no_other_fault (inr tries) =
     longer_than (codes "mh_show: output not written\n") (error_line (codes "out of memory"))
     (omega arith) tries
 
@@ -300,24 +300,24 @@ nothing_is_a_line = inr (refl, ends_otherwise)
 nothing_is_hexadecimal : ¬ (NamesNone []) × ¬ (NamesNone newline)
 nothing_is_hexadecimal = ((λ none. none [] [] nothing_is_a_line nothing_named), λ none. none [] [] (inl refl) nothing_named)
 
-whole_nothing : HasWholeVerdict 64 [] (faulty insufficient)
-whole_nothing = inl (record { few = omega arith; all_marked = all_marked [] refl })
+whole_nothing : HasWholeVerdict 64 [] (malformed insufficient)
+whole_nothing = inl (record { few = omega arith; all_continuation = all_continuation [] refl })
 
 -- so what is missing is the code
-refused_nothing : IsRefusedAs [] (of_varint insufficient) × IsRefusedAs newline (of_varint insufficient)
-refused_nothing = (
-  ([], [], faulty insufficient, nothing_is_a_line, nothing_named, whole_nothing, refl),
-  ([], [], faulty insufficient, inl refl, nothing_named, whole_nothing, refl),
+rejected_nothing : IsRejectedAs [] (of_varint insufficient) × IsRejectedAs newline (of_varint insufficient)
+rejected_nothing = (
+  ([], [], malformed insufficient, nothing_is_a_line, nothing_named, whole_nothing, refl),
+  ([], [], malformed insufficient, inl refl, nothing_named, whole_nothing, refl),
 )
 
 not_hex_text : show_error_text NotHex ≡ codes "not hexadecimal"
 not_hex_text = refl
 
-refused_text : show_error_text (Refused (of_varint not_minimal)) ≡ codes "encoding is not minimal"
-refused_text = refl
+rejected_text : show_error_text (Refused (of_varint not_minimal)) ≡ codes "encoding is not minimal"
+rejected_text = refl
 
-refused_text_is_its_own : (e : Refusal) → show_error_text (Refused e) ≡ refusal_text e
-refused_text_is_its_own e = refl
+rejected_text_is_its_own : (e : Refusal) → show_error_text (Refused e) ≡ refusal_text e
+rejected_text_is_its_own e = refl
 
 memory_text : show_error_text Memory ≡ codes "out of memory"
 memory_text = refl

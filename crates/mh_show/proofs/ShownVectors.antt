@@ -4,13 +4,13 @@ use Rattle.std.specs.Fmt.{digits}
 use Rattle.hex.specs.Hex.{encode_with, decode_pairs}
 use Rattle.multihash.specs.Varint.{insufficient, overflow, not_minimal}
 use Rattle.multihash.specs.Pair.{Pair}
-use Rattle.multihash.specs.Verdict.{Verdict, accepted, invalid_size, invalid_code, faulty, unexpected_eof, HasWholeVerdict}
+use Rattle.multihash.specs.Verdict.{Verdict, accepted, invalid_size, invalid_code, malformed, unexpected_eof, HasWholeVerdict}
 use Rattle.multihash.specs.Refusal.{Refusal, of_io, of_size, of_code, of_varint}
-use Rattle.multihash.specs.Answer.{IsRefusal}
+use Rattle.multihash.specs.Outcome.{IsErrorOf}
 use Rattle.multihash.proofs.Readings.VerdictLemmas.{whole_verdict_unique}
 use Rattle.multihash.proofs.Examples.RefusalVectors.{eof, size_in}
-use Rattle.multihash.proofs.Examples.VarintVectors.{all_marked, varint_0, varint_1, varint_64, varint_65}
-use Rattle.mh_show.specs.Shown.{newline, shown, shown_digest, IsLine, NamesByte, NamesBytes, ShowsAs, NamesNone, IsRefusedAs}
+use Rattle.multihash.proofs.Examples.VarintVectors.{all_continuation, varint_0, varint_1, varint_64, varint_65}
+use Rattle.mh_show.specs.Shown.{newline, shown, shown_digest, IsLine, NamesByte, NamesBytes, ShowsAs, NamesNone, IsRejectedAs}
 use Rattle.mh_show.proofs.NamingLemmas.{line_unique, named_decodes, decoded_names, bytes_unique}
 
 abbrev pair : ℕ → List ℕ → Pair
@@ -169,12 +169,12 @@ whole_0000 : HasWholeVerdict 64 (0 ∷ 0 ∷ []) (accepted (pair 0 []))
 whole_0000 =
     (record { code = 0 ∷ []; size = 0 ∷ []; is_code = varint_0; is_size = varint_0; spelled = refl }, omega arith)
 
-whole_00 : HasWholeVerdict 64 (0 ∷ []) (faulty insufficient)
+whole_00 : HasWholeVerdict 64 (0 ∷ []) (malformed insufficient)
 whole_00 =
     inr (
       [],
       record { code = 0; code_bytes = 0 ∷ []; is_code = varint_0; cut = refl },
-      record { few = omega arith; all_marked = all_marked [] refl },
+      record { few = omega arith; all_continuation = all_continuation [] refl },
     )
 
 whole_0001 : HasWholeVerdict 64 (0 ∷ 1 ∷ []) unexpected_eof
@@ -215,12 +215,12 @@ whole_65 =
       omega arith,
     )
 
-whole_8000 : HasWholeVerdict 64 (0x80 ∷ 0 ∷ []) (faulty not_minimal)
+whole_8000 : HasWholeVerdict 64 (0x80 ∷ 0 ∷ []) (malformed not_minimal)
 whole_8000 =
     inl (record {
       front = 0x80 ∷ [];
       rest = [];
-      all_marked = all_marked (0x80 ∷ []) refl;
+      all_continuation = all_continuation (0x80 ∷ []) refl;
       some = omega arith;
       few = omega arith;
       cut = refl;
@@ -260,8 +260,8 @@ no_digits_show lines (line, bytes, p, is, names, whole, e) =
     (line_unique (codes "zz\n") line (codes "zz") is (inl refl)) names))
 
 -- nor bytes that are refused
-no_refused_bytes_show : (lines : List ℕ) → ¬ (ShowsAs (codes "0001\n") lines)
-no_refused_bytes_show lines (line, bytes, p, is, names, whole, e) =
+no_rejected_bytes_show : (lines : List ℕ) → ¬ (ShowsAs (codes "0001\n") lines)
+no_rejected_bytes_show lines (line, bytes, p, is, names, whole, e) =
     let same : accepted p ≡ unexpected_eof =
     whole_verdict_unique 64 (0 ∷ 1 ∷ []) (accepted p) unexpected_eof
     (subst (λ (z : List ℕ). HasWholeVerdict 64 z (accepted p))
@@ -270,8 +270,8 @@ no_refused_bytes_show lines (line, bytes, p, is, names, whole, e) =
     cc
 
 -- nor a pair with more bytes behind it
-no_left_over_shows : (lines : List ℕ) → ¬ (ShowsAs (codes "000007\n") lines)
-no_left_over_shows lines (line, bytes, p, is, names, whole, e) =
+no_trailing_shows : (lines : List ℕ) → ¬ (ShowsAs (codes "000007\n") lines)
+no_trailing_shows lines (line, bytes, p, is, names, whole, e) =
     let same : accepted p ≡ invalid_size 1 =
     whole_verdict_unique 64 (0 ∷ 0 ∷ 7 ∷ []) (accepted p) (invalid_size 1)
     (subst (λ (z : List ℕ). HasWholeVerdict 64 z (accepted p))
@@ -309,89 +309,89 @@ second_newline_names_none line bytes is names =
 pub digits_name_some : ¬ (NamesNone (codes "00\n"))
 digits_name_some none = none (codes "00") (0 ∷ []) (inl refl) named_00
 
-refused_code_alone : IsRefusedAs (codes "00\n") (of_varint insufficient)
-refused_code_alone = (codes "00", 0 ∷ [], faulty insufficient, inl refl, named_00, whole_00, refl)
+rejected_code_alone : IsRejectedAs (codes "00\n") (of_varint insufficient)
+rejected_code_alone = (codes "00", 0 ∷ [], malformed insufficient, inl refl, named_00, whole_00, refl)
 
-pub refused_padded : IsRefusedAs (codes "8000\n") (of_varint not_minimal)
-refused_padded =
-    (codes "8000", 0x80 ∷ 0 ∷ [], faulty not_minimal, inl refl, named_8000, whole_8000, refl)
+pub rejected_padded : IsRejectedAs (codes "8000\n") (of_varint not_minimal)
+rejected_padded =
+    (codes "8000", 0x80 ∷ 0 ∷ [], malformed not_minimal, inl refl, named_8000, whole_8000, refl)
 
-abbrev nine_marked : List ℕ
-nine_marked = 0xff ∷ 0xff ∷ 0xff ∷ 0xff ∷ 0xff ∷ 0xff ∷ 0xff ∷ 0xff ∷ 0xff ∷ 1 ∷ 0 ∷ []
+abbrev nine_continuation : List ℕ
+nine_continuation = 0xff ∷ 0xff ∷ 0xff ∷ 0xff ∷ 0xff ∷ 0xff ∷ 0xff ∷ 0xff ∷ 0xff ∷ 1 ∷ 0 ∷ []
 
-named_nine_marked : NamesBytes (codes "ffffffffffffffffff0100") nine_marked
+named_nine_continuation : NamesBytes (codes "ffffffffffffffffff0100") nine_continuation
 unfolding decode_pairs
-named_nine_marked = decoded_names (codes "ffffffffffffffffff0100") nine_marked refl
+named_nine_continuation = decoded_names (codes "ffffffffffffffffff0100") nine_continuation refl
 
-whole_nine_marked : HasWholeVerdict 64 nine_marked (faulty overflow)
-whole_nine_marked =
+whole_nine_continuation : HasWholeVerdict 64 nine_continuation (malformed overflow)
+whole_nine_continuation =
     inl (record {
       front = 0xff ∷ 0xff ∷ 0xff ∷ 0xff ∷ 0xff ∷ 0xff ∷ 0xff ∷ 0xff ∷ [];
       byte = 0xff;
       rest = 1 ∷ 0 ∷ [];
-      all_marked = all_marked (0xff ∷ 0xff ∷ 0xff ∷ 0xff ∷ 0xff ∷ 0xff ∷ 0xff ∷ 0xff ∷ []) refl;
+      all_continuation = all_continuation (0xff ∷ 0xff ∷ 0xff ∷ 0xff ∷ 0xff ∷ 0xff ∷ 0xff ∷ 0xff ∷ []) refl;
       most = refl;
       too_large = omega arith;
       cut = refl;
     })
 
 -- a code of 64 bits has no varint
-refused_nine_marked : IsRefusedAs (codes "ffffffffffffffffff0100\n") (of_varint overflow)
-refused_nine_marked =
-    (codes "ffffffffffffffffff0100", nine_marked, faulty overflow, inl refl, named_nine_marked, whole_nine_marked, refl)
+rejected_nine_continuation : IsRejectedAs (codes "ffffffffffffffffff0100\n") (of_varint overflow)
+rejected_nine_continuation =
+    (codes "ffffffffffffffffff0100", nine_continuation, malformed overflow, inl refl, named_nine_continuation, whole_nine_continuation, refl)
 
 -- and no text is refused for its code
-no_code_refused : (text : List ℕ) (code : ℕ) → ¬ (IsRefusedAs text (of_code code))
-no_code_refused text code (line, bytes, accepted p, is, names, whole, refuses) = refuses
-no_code_refused text code (line, bytes, invalid_size size, is, names, whole, refuses) = cc
-no_code_refused text code (line, bytes, invalid_code other, is, names, whole, refuses) = whole
-no_code_refused text code (line, bytes, faulty fault, is, names, whole, refuses) = cc
-no_code_refused text code (line, bytes, unexpected_eof, is, names, whole, refuses) = let e = refuses.1 in cc
+no_code_rejected : (text : List ℕ) (code : ℕ) → ¬ (IsRejectedAs text (of_code code))
+no_code_rejected text code (line, bytes, accepted p, is, names, whole, refuses) = refuses
+no_code_rejected text code (line, bytes, invalid_size size, is, names, whole, refuses) = cc
+no_code_rejected text code (line, bytes, invalid_code other, is, names, whole, refuses) = whole
+no_code_rejected text code (line, bytes, malformed fault, is, names, whole, refuses) = cc
+no_code_rejected text code (line, bytes, unexpected_eof, is, names, whole, refuses) = let e = refuses.1 in cc
 
 -- the buffer has 64 places
-refused_65 : IsRefusedAs (codes "0041\n") (of_size 65)
-refused_65 = (codes "0041", 0 ∷ 65 ∷ [], invalid_size 65, inl refl, named_0041, whole_0041, refl)
+rejected_65 : IsRejectedAs (codes "0041\n") (of_size 65)
+rejected_65 = (codes "0041", 0 ∷ 65 ∷ [], invalid_size 65, inl refl, named_0041, whole_0041, refl)
 
 -- and counts what is left over
-refused_left_over : IsRefusedAs (codes "000007\n") (of_size 1)
-refused_left_over =
+rejected_trailing : IsRejectedAs (codes "000007\n") (of_size 1)
+rejected_trailing =
     (codes "000007", 0 ∷ 0 ∷ 7 ∷ [], invalid_size 1, inl refl, named_000007, whole_000007, refl)
 
-refused_without_64 : IsRefusedAs (codes "0040\n") (of_io eof)
-refused_without_64 =
+rejected_without_64 : IsRejectedAs (codes "0040\n") (of_io eof)
+rejected_without_64 =
     (codes "0040", 0 ∷ 64 ∷ [], unexpected_eof, inl refl, named_0040, whole_0040, (eof, refl, refl))
 
-refused_for_no_other_fault : ¬ (IsRefusedAs (codes "8000\n") (of_varint overflow))
-refused_for_no_other_fault (line, bytes, v, is, names, whole, refuses) =
-    let same : v ≡ faulty not_minimal =
-    whole_verdict_unique 64 (0x80 ∷ 0 ∷ []) v (faulty not_minimal)
+rejected_for_no_other_fault : ¬ (IsRejectedAs (codes "8000\n") (of_varint overflow))
+rejected_for_no_other_fault (line, bytes, v, is, names, whole, refuses) =
+    let same : v ≡ malformed not_minimal =
+    whole_verdict_unique 64 (0x80 ∷ 0 ∷ []) v (malformed not_minimal)
     (subst (λ (z : List ℕ). HasWholeVerdict 64 z v)
     (bytes_of (codes "8000")
     (0x80 ∷ 0 ∷ []) named_8000 line bytes is names) whole) whole_8000 in
-    let e = subst (λ (w : Verdict). IsRefusal (of_varint overflow) w) same refuses in
+    let e = subst (λ (w : Verdict). IsErrorOf (of_varint overflow) w) same refuses in
     cc
 
-refused_for_no_other_size : ¬ (IsRefusedAs (codes "0041\n") (of_size 64))
-refused_for_no_other_size (line, bytes, v, is, names, whole, refuses) =
+rejected_for_no_other_size : ¬ (IsRejectedAs (codes "0041\n") (of_size 64))
+rejected_for_no_other_size (line, bytes, v, is, names, whole, refuses) =
     let same : v ≡ invalid_size 65 =
     whole_verdict_unique 64 (0 ∷ 65 ∷ []) v (invalid_size 65)
     (subst (λ (z : List ℕ). HasWholeVerdict 64 z v)
     (bytes_of (codes "0041") (0 ∷ 65 ∷ []) named_0041 line bytes is names) whole) whole_0041 in
-    omega (arith, ap size_in (subst (λ (w : Verdict). IsRefusal (of_size 64) w) same refuses))
+    omega (arith, ap size_in (subst (λ (w : Verdict). IsErrorOf (of_size 64) w) same refuses))
 
 -- a pair is refused for nothing
-pub no_pair_refused : (e : Refusal) → ¬ (IsRefusedAs (codes "0000\n") e)
-no_pair_refused e (line, bytes, v, is, names, whole, refuses) =
+pub no_pair_rejected : (e : Refusal) → ¬ (IsRejectedAs (codes "0000\n") e)
+no_pair_rejected e (line, bytes, v, is, names, whole, refuses) =
     let same : v ≡ accepted (pair 0 []) =
     whole_verdict_unique 64 (0 ∷ 0 ∷ []) v (accepted (pair 0 []))
     (subst (λ (z : List ℕ). HasWholeVerdict 64 z v)
     (bytes_of (codes "0000") (0 ∷ 0 ∷ []) named_0000 line bytes is names) whole) whole_0000 in
-    subst (λ (w : Verdict). IsRefusal e w) same refuses
+    subst (λ (w : Verdict). IsErrorOf e w) same refuses
 
 -- a text that names no bytes is refused in another way
-no_digits_refused : (e : Refusal) → ¬ (IsRefusedAs (codes "zz\n") e)
+no_digits_rejected : (e : Refusal) → ¬ (IsRejectedAs (codes "zz\n") e)
 unfolding decode_pairs
-no_digits_refused e (line, bytes, v, is, names, whole, refuses) =
+no_digits_rejected e (line, bytes, v, is, names, whole, refuses) =
     cc (named_decodes (codes "zz") bytes
     (subst (λ (z : List ℕ). NamesBytes z bytes)
     (line_unique (codes "zz\n") line (codes "zz") is (inl refl)) names))

@@ -1,11 +1,11 @@
 -- What a run of the program does to an input and to outputs whose bytes are known.
 use Rattle.std.specs.Prelude.{◌≤◌, ℕ, ◌⊎◌, List, ◌++◌, length, codes, Option}
 use Rattle.std.specs.Io.KnownBytes.{Appends, Consumes, IsAtEnd}
-use Rattle.multihash.specs.Writing.{AppendsPart}
+use Rattle.multihash.specs.Writing.{AppendsPrefix}
 use Rattle.mh_show.specs.declared.run.RunError.{RunError}
 use Rattle.mh_show.specs.declared.run.RunError.TheVariants.{Input, NotShown, Output}
 use Rattle.mh_show.specs.declared.show.ShowError.TheVariants.{NotHex, Refused, Memory}
-use Rattle.mh_show.specs.Shown.{newline, ShowsAs, NamesNone, IsRefusedAs}
+use Rattle.mh_show.specs.Shown.{newline, ShowsAs, NamesNone, IsRejectedAs}
 use Rattle.mh_show.specs.ShowError.{show_error_text}
 
 -- the text of an error
@@ -24,18 +24,18 @@ most_input = 65536
 
 -- the text is the whole input
 pub record ReadsWhole (old new : Option (List ℕ)) (text : List ℕ) : Type 0 where
-  pub takes : Consumes old new text
+  pub consumes : Consumes old new text
   pub at_end : IsAtEnd new
   pub short : length text ≤ most_input
 
 -- a strict prefix of the bytes was appended
-abbrev pub AppendsPartOf : Option (List ℕ) → Option (List ℕ) → List ℕ → Type 0
-AppendsPartOf old new bytes =
-    AppendsPart (λ before part after. Appends before after part) old bytes new
+abbrev pub AppendsPrefixOf : Option (List ℕ) → Option (List ℕ) → List ℕ → Type 0
+AppendsPrefixOf old new bytes =
+    AppendsPrefix (λ before part after. Appends before after part) old bytes new
 
 -- a prefix of the bytes was appended
 abbrev pub TriesToAppend : Option (List ℕ) → Option (List ℕ) → List ℕ → Type 0
-TriesToAppend old new bytes = Appends old new bytes ⊎ AppendsPartOf old new bytes
+TriesToAppend old new bytes = Appends old new bytes ⊎ AppendsPrefixOf old new bytes
 
 -- the whole input was read, and the lines that show it were written
 abbrev pub ShowsInput : (old_input new_input old_out new_out : Option (List ℕ)) → Type 0
@@ -47,7 +47,7 @@ ShowsInput old_input new_input old_out new_out =
 abbrev pub ShowsPart : (old_input new_input old_out new_out : Option (List ℕ)) → Type 0
 ShowsPart old_input new_input old_out new_out =
     (text : List ℕ) × (lines : List ℕ) × ReadsWhole old_input new_input text × ShowsAs text lines
-    × AppendsPartOf old_out new_out lines
+    × AppendsPrefixOf old_out new_out lines
 
 -- what happened if that error ended the run; `kept` says that the output is unchanged
 abbrev pub EndsRun : (kept : Type 0) (old_input new_input old_out new_out : Option (List ℕ))
@@ -56,13 +56,13 @@ EndsRun kept old_input new_input old_out new_out Input = kept
 EndsRun kept old_input new_input old_out new_out (NotShown NotHex) =
     kept × (text : List ℕ) × ReadsWhole old_input new_input text × NamesNone text
 EndsRun kept old_input new_input old_out new_out (NotShown (Refused e)) =
-    kept × (text : List ℕ) × ReadsWhole old_input new_input text × IsRefusedAs text e
+    kept × (text : List ℕ) × ReadsWhole old_input new_input text × IsRejectedAs text e
 EndsRun kept old_input new_input old_out new_out (NotShown Memory) = kept
 EndsRun kept old_input new_input old_out new_out Output =
     ShowsPart old_input new_input old_out new_out
 
 -- the line of that error was written, or that of out of memory, or a prefix of one
-abbrev pub TellsFault : Option (List ℕ) → Option (List ℕ) → RunError → Type 0
-TellsFault old new e =
+abbrev pub ReportsError : Option (List ℕ) → Option (List ℕ) → RunError → Type 0
+ReportsError old new e =
     TriesToAppend old new (error_line (run_error_text e))
     ⊎ TriesToAppend old new (error_line (codes "out of memory"))

@@ -6,7 +6,7 @@ use Rattle.hex.specs.Hex.{encode_lower, hex_digit_value}
 use Rattle.multihash.specs.Pair.{Pair}
 use Rattle.multihash.specs.Verdict.{Verdict, accepted, HasWholeVerdict}
 use Rattle.multihash.specs.Refusal.{Refusal}
-use Rattle.multihash.specs.Answer.{IsRefusal}
+use Rattle.multihash.specs.Outcome.{IsErrorOf}
 
 -- the greatest length of a digest, in bytes: the program's capacity
 abbrev pub most_bytes : ℕ
@@ -58,7 +58,7 @@ abbrev pub NamesNone : List ℕ → Type 0
 NamesNone text = (line bytes : List ℕ) → IsLine line text → ¬ (NamesBytes line bytes)
 
 -- the text encodes bytes that are rejected with that error
-abbrev pub IsRefusedAs : List ℕ → Refusal → Type 0
-IsRefusedAs text e =
+abbrev pub IsRejectedAs : List ℕ → Refusal → Type 0
+IsRejectedAs text e =
     (line : List ℕ) × (bytes : List ℕ) × (v : Verdict) × IsLine line text × NamesBytes line bytes
-    × HasWholeVerdict most_bytes bytes v × IsRefusal e v
+    × HasWholeVerdict most_bytes bytes v × IsErrorOf e v

@@ -1,7 +1,7 @@
 //! The whole program, over any input and outputs.
 ghost use Rattle.std.specs.Prelude.{◌≡◌, ℕ, ◌≤◌, ◌<◌, ◌⊎◌, length, take, IfOk, IfErr, OnOk, OnErr};
 ghost use Rattle.std.specs.Io.KnownBytes.{Appends, Consumes, IsAtEnd};
-ghost use Rattle.mh_show.specs.Run.{ReadsWhole, AppendsPartOf, ShowsInput, EndsRun, TellsFault};
+ghost use Rattle.mh_show.specs.Run.{ReadsWhole, AppendsPrefixOf, ShowsInput, EndsRun, ReportsError};
 
 #[cfg(test)]
 mod tests;
@@ -81,7 +81,7 @@ pub fn run<I: Read, O: Write, E: Write>(
     ensures quiet { result ≡ 0 → err.new ≡ err.old }
     ensures told { result ≡ 1 → (e : RunError) × EndsRun (out.new ≡ out.old) (I.remaining input.old)
         (I.remaining input.new) (O.contents out.old) (O.contents out.new) e
-        × TellsFault (E.contents err.old) (E.contents err.new) e }
+        × ReportsError (E.contents err.old) (E.contents err.new) e }
 {
     match show_input(alloc, input, out) {
         Ok(()) => 0,
@@ -141,7 +141,7 @@ fn read_to_end<I: Read>(input: &mut I, room: &mut [u8]) -> Result<usize, RunErro
 fn write_whole<W: Write>(out: &mut W, bytes: &[u8]) -> Result<(), RunError>
     ensures ok { OnOk result (Appends (W.contents out.old) (W.contents out.new) bytes.now) }
     ensures part { OnErr result
-        (AppendsPartOf (W.contents out.old) (W.contents out.new) bytes.now) }
+        (AppendsPrefixOf (W.contents out.old) (W.contents out.new) bytes.now) }
     ensures err { IfErr result (λ e. e ≡ RunError.Output) }
 {
     let mut rest = bytes;
@@ -156,7 +156,7 @@ fn write_whole<W: Write>(out: &mut W, bytes: &[u8]) -> Result<(), RunError>
 
 // Writes the line with the reason, if it can.
 fn tell<E: Write>(alloc: Global, err: &mut E, e: &RunError)
-    ensures { TellsFault (E.contents err.old) (E.contents err.new) e.now }
+    ensures { ReportsError (E.contents err.old) (E.contents err.new) e.now }
 {
     let _ = match format!(in alloc; "mh_show: {e}\n") {
         Ok(line) => write_whole(err, line.as_str().as_bytes()),

@@ -1,8 +1,8 @@
 //! From a line of hexadecimal to three lines that show its multihash.
 ghost use Rattle.std.specs.Prelude.{◌≡◌, ℕ, ◌%◌, List, length, Some, IfOk, IfErr, string_bytes};
 ghost use Rattle.multihash.specs.Refusal.{Refusal};
-ghost use Rattle.multihash.specs.Answer.{pair_of};
-ghost use Rattle.mh_show.specs.Shown.{shown, IsLine, NamesBytes, ShowsAs, IsRefusedAs};
+ghost use Rattle.multihash.specs.Outcome.{pair_of};
+ghost use Rattle.mh_show.specs.Shown.{shown, IsLine, NamesBytes, ShowsAs, IsRejectedAs};
 ghost use Rattle.mh_show.specs.ShowError.{show_error_text};
 
 #[cfg(test)]
@@ -89,7 +89,7 @@ pub fn show(alloc: Global, text: &[u8]) -> Result<String, ShowError>
     // Each error comes for its own reason alone.
     ensures not_hex { (line bytes : List ℕ) → result ≡ Err ShowError.NotHex → IsLine line text.now
         → ¬ (NamesBytes line bytes) }
-    ensures refused { (e : Refusal) → result ≡ Err (ShowError.Refused e) → IsRefusedAs text.now e }
+    ensures refused { (e : Refusal) → result ≡ Err (ShowError.Refused e) → IsRejectedAs text.now e }
     ensures odd { (line : List ℕ) → IsLine line text.now → length line % 2 ≡ 1
         → result ≡ Err ShowError.NotHex }
 {

@@ -7,76 +7,76 @@ use Rattle.std.proofs.lemmas.Bool.{false≢true}
 use Rattle.std.proofs.lemmas.List.Elements.{All-nil, All-head, All-tail}
 use Rattle.multihash.specs.Pair.{Pair, FitsBuffer}
 use Rattle.multihash.specs.Encoding.{IsEncoding}
-use Rattle.multihash.specs.Streams.{AreJoined, TakesPairs, StopsAfterPairs}
-use Rattle.multihash.specs.Varint.{insufficient, IsMarked, IsVarint}
-use Rattle.multihash.specs.Verdict.{Verdict, accepted, faulty, HasVerdict, HasWholeVerdict, IsEarlyEnd}
+use Rattle.multihash.specs.Streams.{AreConcatenated, ConsumesPairs, StopsAfterPairs}
+use Rattle.multihash.specs.Varint.{insufficient, IsContinuation, IsVarint}
+use Rattle.multihash.specs.Verdict.{Verdict, accepted, malformed, HasVerdict, HasWholeVerdict, IsIncomplete}
 use Rattle.multihash.specs.Settling.{Settles, IsShortestSettling}
-use Rattle.multihash.specs.Taking.{TakesShortestSettling, TakesVarint, IsFrontRefusal}
+use Rattle.multihash.specs.Consuming.{ConsumesShortestSettling, ConsumesVarint, IsFrontError}
 use Rattle.multihash.proofs.Readings.SettlingLemmas.{early_not_settles}
 use Rattle.multihash.specs.Fault.{Fault, IsOwnFault, IsUnexpectedEof}
-use Rattle.multihash.specs.Reading.{Takes, CountsReader, HasFewerThan}
+use Rattle.multihash.specs.Reading.{Consumes, CountsReaderFailures, HasFewerThan}
 use Rattle.multihash.specs.Scale.{IsScale, HasScaleVerdict}
-use Rattle.multihash.specs.Writing.{GivesUpFor, AppendsPart, CountsWriter}
+use Rattle.multihash.specs.Writing.{AdvancesPast, AppendsPrefix, CountsWriterFailures}
 use Rattle.multihash.specs.Filling.{Fills, IsFilled}
 use Rattle.multihash.specs.declared.no_std_io.slice_writer.SliceWriter.{SliceWriter}
-use Rattle.multihash.specs.Refusal.{Refusal, IsIo, IsMemory}
-use Rattle.multihash.specs.Answer.{Fields, pair_of, IsRefusal, Answers}
+use Rattle.multihash.specs.Refusal.{Refusal, IsIo, IsOutOfMemory}
+use Rattle.multihash.specs.Outcome.{Fields, pair_of, IsErrorOf, IsResultOf}
 use Rattle.multihash.proofs.Writings.WritingLemmas.{fewer_places, full_of_faults, slice_writer_has_room, length_of_not_nil}
-use Rattle.multihash.proofs.Readings.ReadingLemmas.{Takes-cut, Takes-told}
+use Rattle.multihash.proofs.Readings.ReadingLemmas.{Consumes-cut, Consumes-told}
 use Rattle.multihash.proofs.Readings.VerdictLemmas.{verdict_unique, whole_verdict_unique}
 use Rattle.multihash.proofs.Varints.VarintLemmas.{number_no_fault, same_number}
 use Rattle.multihash.proofs.Forms.ScaleLemmas.{scale_split, scale_verdict_unique}
-use Rattle.multihash.proofs.Forms.StreamLemmas.{none_left, first_of, same_first, joined_unique}
+use Rattle.multihash.proofs.Forms.StreamLemmas.{none_left, first_of, same_first, concatenated_unique}
 use Rattle.multihash.proofs.Writings.EncodingLemmas.{same_cut, encoding_same, encoding_unique}
 
 -- what follows some encodings begins with the next, where those of more pairs begin the input
-next_joined : (S : ℕ) (qs ps : List Pair) (b a rest more : List ℕ) → AreJoined qs b → AreJoined ps a → All (FitsBuffer S) ps
+next_concatenated : (S : ℕ) (qs ps : List Pair) (b a rest more : List ℕ) → AreConcatenated qs b → AreConcatenated ps a → All (FitsBuffer S) ps
     → length qs < length ps → b ++ rest ≡ a ++ more → (p : Pair) × HasVerdict S rest (accepted p)
-next_joined S qs [] b a rest more h k fit less e = absurd (omega arith)
-next_joined S [] (p ∷ ps) b a rest more h k fit less e =
+next_concatenated S qs [] b a rest more h k fit less e = absurd (omega arith)
+next_concatenated S [] (p ∷ ps) b a rest more h k fit less e =
     let (x, y, encodes, _, cut) = first_of p ps a k in
-    let behind : rest ≡ x ++ (y ++ more) = sym (ap (λ z. z ++ rest) (none_left b h)) ∙ (e ∙ ap (λ z. z ++ more) cut ∙ append_assoc x y more) in
-    (p, (y ++ more, record { encoding = x; encodes = encodes; cut = behind }, All-head (FitsBuffer S) p ps fit))
-next_joined S (q ∷ qs) (p ∷ ps) b a rest more h k fit less e =
+    let following : rest ≡ x ++ (y ++ more) = sym (ap (λ z. z ++ rest) (none_left b h)) ∙ (e ∙ ap (λ z. z ++ more) cut ∙ append_assoc x y more) in
+    (p, (y ++ more, record { encoding = x; encodes = encodes; cut = following }, All-head (FitsBuffer S) p ps fit))
+next_concatenated S (q ∷ qs) (p ∷ ps) b a rest more h k fit less e =
     let x = first_of q qs b h in
     let y = first_of p ps a k in
     let first = same_first q p qs ps b a rest more x y e in
-    next_joined S qs ps x.1 y.1 rest more x.3 y.3 (All-tail (FitsBuffer S) p ps fit) (omega arith) first.1
+    next_concatenated S qs ps x.1 y.1 rest more x.3 y.3 (All-tail (FitsBuffer S) p ps fit) (omega arith) first.1
 
 -- reading a stream of that many pairs did not stop at an error
 pub never_stops : (S count : ℕ) (e : Refusal) (n : ℕ) (new : Option (List ℕ)) (pairs : List Pair) (bytes more : List ℕ)
-    → AreJoined pairs bytes → All (FitsBuffer S) pairs → length pairs ≡ count
+    → AreConcatenated pairs bytes → All (FitsBuffer S) pairs → length pairs ≡ count
     → StopsAfterPairs S count e n n (Some (bytes ++ more)) new → ⊥
-never_stops S count e n new pairs bytes more joined fit many stop =
-    let (left, is, cut) = Takes-told (bytes ++ more) stop.taken.bytes stop.behind stop.taken.takes in
-    let next = next_joined S stop.pairs pairs stop.taken.bytes bytes left more stop.taken.joined joined fit (omega (arith, stop.fewer)) (sym cut) in
+never_stops S count e n new pairs bytes more concatenated fit many stop =
+    let (left, is, cut) = Consumes-told (bytes ++ more) stop.consumed.bytes stop.following stop.consumed.consumes in
+    let next = next_concatenated S stop.pairs pairs stop.consumed.bytes bytes left more stop.consumed.concatenated concatenated fit (omega (arith, stop.fewer)) (sym cut) in
     let found = (rw is at stop.verdict) refl in
-    subst (IsRefusal e) (verdict_unique S left found.0 (accepted next.0) found.1 next.1) found.2
+    subst (IsErrorOf e) (verdict_unique S left found.0 (accepted next.0) found.1 next.1) found.2
 
 -- reading a stream of that many pairs gives them and leaves what follows, or there was no memory
 pub read_list_of_encodings : (S count before after : ℕ) (old new : Option (List ℕ)) (pairs : List Pair) (bytes more : List ℕ)
-    (r : Result (Vec (Fields S) Global) Refusal) → AreJoined pairs bytes → All (FitsBuffer S) pairs → length pairs ≡ count
+    (r : Result (Vec (Fields S) Global) Refusal) → AreConcatenated pairs bytes → All (FitsBuffer S) pairs → length pairs ≡ count
     → old ≡ Some (bytes ++ more) → after ≡ before
-    → IfOk r (λ list. (length list.items ≡ count) × TakesPairs S (map pair_of list.items) old new)
-    → IfErr r (λ e. (IsMemory e × (after ≡ before) × (new ≡ old)) ⊎ StopsAfterPairs S count e before after old new)
-    → MatchResult r (λ list. (map pair_of list.items ≡ pairs) × (new ≡ Some more)) IsMemory
-read_list_of_encodings S count before after old new pairs bytes more (Ok list) joined fit many rest same ok err =
-    let (left, is, cut) = Takes-told (bytes ++ more) ok.1.bytes new (sym rest ∙ ok.1.takes) in
+    → IfOk r (λ list. (length list.items ≡ count) × ConsumesPairs S (map pair_of list.items) old new)
+    → IfErr r (λ e. (IsOutOfMemory e × (after ≡ before) × (new ≡ old)) ⊎ StopsAfterPairs S count e before after old new)
+    → MatchResult r (λ list. (map pair_of list.items ≡ pairs) × (new ≡ Some more)) IsOutOfMemory
+read_list_of_encodings S count before after old new pairs bytes more (Ok list) concatenated fit many rest same ok err =
+    let (left, is, cut) = Consumes-told (bytes ++ more) ok.1.bytes new (sym rest ∙ ok.1.consumes) in
     let long : length (map pair_of list.items) ≡ length pairs = omega (arith, length-map list.items pair_of, ok.0) in
-    let told = joined_unique (map pair_of list.items) pairs ok.1.bytes bytes left more long ok.1.joined joined (sym cut) in
+    let told = concatenated_unique (map pair_of list.items) pairs ok.1.bytes bytes left more long ok.1.concatenated concatenated (sym cut) in
     (told.0, is ∙ ap Some told.1)
-read_list_of_encodings S count before after old new pairs bytes more (Err e) joined fit many rest same ok (inl memory) = memory.0
-read_list_of_encodings S count before after old new pairs bytes more (Err e) joined fit many rest same ok (inr stop) =
-    absurd (never_stops S count e before new pairs bytes more joined fit many
+read_list_of_encodings S count before after old new pairs bytes more (Err e) concatenated fit many rest same ok (inl memory) = memory.0
+read_list_of_encodings S count before after old new pairs bytes more (Err e) concatenated fit many rest same ok (inr stop) =
+    absurd (never_stops S count e before new pairs bytes more concatenated fit many
     (subst (λ o. StopsAfterPairs S count e before before o new) rest (subst (λ n. StopsAfterPairs S count e before n old new) same stop)))
 
 -- a form is written to a slice if its capacity suffices; otherwise the slice is full then
 module _ {W : Type 0} (appended : W → List ℕ → W → Type 0) (a b : W) (IsForm : List ℕ → Type 0) (old new : List ℕ)
-    (gives : (part : List ℕ) → appended a part b → GivesUpFor old part new) where
+    (gives : (part : List ℕ) → appended a part b → AdvancesPast old part new) where
   pub filled : {T : Type 0} (r : Result T Refusal) (is_whole : Bool) → is_whole ≡ is_ok r
       → OnOk r ((bytes : List ℕ) × IsForm bytes × appended a bytes b)
-      → OnErr r ((bytes : List ℕ) × IsForm bytes × AppendsPart appended a bytes b)
-      → CountsWriter IsIo false 0 0 (new ≡ []) r
+      → OnErr r ((bytes : List ℕ) × IsForm bytes × AppendsPrefix appended a bytes b)
+      → CountsWriterFailures IsIo false 0 0 (new ≡ []) r
       → (bytes : List ℕ) × IsForm bytes × (IsTrue is_whole ↔ (length bytes ≤ length old)) × (length new ≡ length old - length bytes)
   filled (Ok n) is_whole told wrote stopped faults =
       let given = gives wrote.0 wrote.2 in (
@@ -88,7 +88,7 @@ module _ {W : Type 0} (appended : W → List ℕ → W → Type 0) (a b : W) (Is
   filled (Err e) is_whole told wrote stopped faults =
       let part = stopped.2 in
       let none = full_of_faults 0 (new ≡ []) faults.0 faults.2 in
-      let fewer = fewer_places old new stopped.0 part.part (gives part.part part.stands) part.proper none in (
+      let fewer = fewer_places old new stopped.0 part.part (gives part.part part.appends) part.strict none in (
         stopped.0,
         stopped.1,
         ((λ is_true. absurd (false≢true (sym told ∙ is_true))), λ fits. absurd (omega (arith, fewer, fits))),
@@ -97,47 +97,47 @@ module _ {W : Type 0} (appended : W → List ℕ → W → Type 0) (a b : W) (Is
 
 -- `write` succeeds through a slice's writer that is new, if the slice has the capacity that `encoded_len` returns: the
 -- facts are the clauses of `encoded_len` and of `SliceWriter::new`, and `err` and `faults` of `write`
-pub write_of_encoded_len : {T : Type 0} {places : List ℕ} (old new : SliceWriter) (p : Pair) (len : ℕ) (r : Result T Refusal)
-    → (bytes : List ℕ) × IsEncoding p bytes × (len ≡ length bytes) → len ≤ length places
-    → old.filled ≡ 0 → old.places.now ≡ places
-    → OnErr r ((bytes : List ℕ) × IsEncoding p bytes × AppendsPart Fills old bytes new)
-    → CountsWriter IsIo false 0 0 (IsFilled new) r → IsOk r
+pub write_of_encoded_len : {T : Type 0} {buffer : List ℕ} (old new : SliceWriter) (p : Pair) (len : ℕ) (r : Result T Refusal)
+    → (bytes : List ℕ) × IsEncoding p bytes × (len ≡ length bytes) → len ≤ length buffer
+    → old.filled ≡ 0 → old.buffer.now ≡ buffer
+    → OnErr r ((bytes : List ℕ) × IsEncoding p bytes × AppendsPrefix Fills old bytes new)
+    → CountsWriterFailures IsIo false 0 0 (IsFilled new) r → IsOk r
 write_of_encoded_len old new p len r (own, is_own, long) room empty kept stopped faults =
     slice_writer_has_room old new (IsEncoding p) r stopped faults
     (λ bytes is_form. omega (arith, room, long, empty, ap length kept, ap length (encoding_same p own bytes is_own is_form)))
 
 -- decoding a pair's SCALE form and more gives the pair and leaves what follows
-pub scale_pair : (S : ℕ) (p q : Pair) (input bytes taken more left : List ℕ) (v : Verdict) → input ≡ bytes ++ more → IsScale p bytes
-    → FitsBuffer S p → HasScaleVerdict S input v → v ≡ accepted q → IsScale q taken → input ≡ taken ++ left → (q ≡ p) × (left ≡ more)
-scale_pair S p q input bytes taken more left v whole form fits found answers is_taken cut =
-    let same = scale_split q p taken bytes left more is_taken form (sym cut ∙ whole) in (same.0, same.2)
+pub scale_pair : (S : ℕ) (p q : Pair) (input bytes consumed more left : List ℕ) (v : Verdict) → input ≡ bytes ++ more → IsScale p bytes
+    → FitsBuffer S p → HasScaleVerdict S input v → v ≡ accepted q → IsScale q consumed → input ≡ consumed ++ left → (q ≡ p) × (left ≡ more)
+scale_pair S p q input bytes consumed more left v whole form fits found answers is_taken cut =
+    let same = scale_split q p consumed bytes left more is_taken form (sym cut ∙ whole) in (same.0, same.2)
 
 -- and it is not rejected
 pub scale_taken : (S : ℕ) (p : Pair) (input bytes more : List ℕ) (v : Verdict) (e : Refusal) → input ≡ bytes ++ more → IsScale p bytes
-    → FitsBuffer S p → HasScaleVerdict S input v → IsRefusal e v → ⊥
+    → FitsBuffer S p → HasScaleVerdict S input v → IsErrorOf e v → ⊥
 scale_taken S p input bytes more v e whole form fits found refused =
-    subst (IsRefusal e) (scale_verdict_unique S input v (accepted p) found (bytes, more, form, omega arith, whole)) refused
+    subst (IsErrorOf e) (scale_verdict_unique S input v (accepted p) found (bytes, more, form, omega arith, whole)) refused
 
 -- reading where a pair's encoding comes next gives the pair and leaves what follows
 pub read_of_encoding : (S before after : ℕ) (old new : Option (List ℕ)) (p : Pair) (bytes more : List ℕ) (r : Result (Fields S) Refusal)
     → IsEncoding p bytes → FitsBuffer S p → old ≡ Some (bytes ++ more) → after ≡ before
-    → IfSome old (λ rest. after ≡ before → (v : Verdict) × HasVerdict S rest v × Answers r v)
-    → IfOk r (λ m. (taken : List ℕ) × IsEncoding (pair_of m) taken × Takes old taken new)
+    → IfSome old (λ rest. after ≡ before → (v : Verdict) × HasVerdict S rest v × IsResultOf r v)
+    → IfOk r (λ m. (consumed : List ℕ) × IsEncoding (pair_of m) consumed × Consumes old consumed new)
     → MatchResult r (λ m. (pair_of m ≡ p) × (new ≡ Some more)) (λ _. ⊥)
 read_of_encoding S before after old new p bytes more (Ok m) encodes fits rest same verdict ok =
-    let (left, is, cut) = Takes-told (bytes ++ more) ok.0 new (sym rest ∙ ok.2) in
+    let (left, is, cut) = Consumes-told (bytes ++ more) ok.0 new (sym rest ∙ ok.2) in
     let told = encoding_unique (pair_of m) p ok.0 bytes left more ok.1 encodes (sym cut) in
     (told.0, is ∙ ap Some told.2)
 read_of_encoding S before after old new p bytes more (Err e) encodes fits rest same verdict ok =
     let found = (rw rest at verdict) same in
     let own : HasVerdict S (bytes ++ more) (accepted p) = (more, record { encoding = bytes; encodes = encodes; cut = refl }, fits) in
-    subst (IsRefusal e) (verdict_unique S (bytes ++ more) found.0 (accepted p) found.1 own) found.2
+    subst (IsErrorOf e) (verdict_unique S (bytes ++ more) found.0 (accepted p) found.1 own) found.2
 
 -- bytes that `from_bytes` rejects are the encoding of no pair that fits: the first fact is its clause
-pub refused_no_encoding : (S : ℕ) {e : Refusal} {bytes : List ℕ} → (v : Verdict) × HasWholeVerdict S bytes v × IsRefusal e v
+pub rejected_no_encoding : (S : ℕ) {e : Refusal} {bytes : List ℕ} → (v : Verdict) × HasWholeVerdict S bytes v × IsErrorOf e v
     → (p : Pair) → IsEncoding p bytes → FitsBuffer S p → ⊥
-refused_no_encoding S {e = e} {bytes = bytes} (v, h, names) p encodes fits =
-    subst (IsRefusal e) (whole_verdict_unique S bytes v (accepted p) h (encodes, fits)) names
+rejected_no_encoding S {e = e} {bytes = bytes} (v, h, names) p encodes fits =
+    subst (IsErrorOf e) (whole_verdict_unique S bytes v (accepted p) h (encodes, fits)) names
 
 -- bytes that `from_bytes` accepts are the encoding of the pair that it returns, and of no other
 pub accepted_encoding : (S : ℕ) {q : Pair} {bytes : List ℕ} → (v : Verdict) × HasWholeVerdict S bytes v × (v ≡ accepted q)
@@ -147,26 +147,26 @@ accepted_encoding S {q = q} {bytes = bytes} (v, h, answers) =
     (own, λ p encodes. (encoding_unique q p bytes bytes [] [] own encodes refl).0)
 
 -- the verdict on a pair's encoding is the pair
-pub from_bytes_of_encoding : (S : ℕ) (p : Pair) (bytes : List ℕ) (r : Result (Fields S) Refusal) (v : Verdict) → HasWholeVerdict S bytes v → Answers r v
-    → IsEncoding p bytes → FitsBuffer S p → MatchResult r (λ m. pair_of m ≡ p) IsMemory
+pub from_bytes_of_encoding : (S : ℕ) (p : Pair) (bytes : List ℕ) (r : Result (Fields S) Refusal) (v : Verdict) → HasWholeVerdict S bytes v → IsResultOf r v
+    → IsEncoding p bytes → FitsBuffer S p → MatchResult r (λ m. pair_of m ≡ p) IsOutOfMemory
 from_bytes_of_encoding S p bytes (Ok m) v h answers encodes fits = (accepted_encoding S (v, h, answers)).1 p encodes
-from_bytes_of_encoding S p bytes (Err e) v h answers encodes fits = absurd (refused_no_encoding S (v, h, answers) p encodes fits)
+from_bytes_of_encoding S p bytes (Err e) v h answers encodes fits = absurd (rejected_no_encoding S (v, h, answers) p encodes fits)
 
 -- reading consumed something if its verdict is not incomplete
-pub takes_some : (S : ℕ) (old new : List ℕ) → TakesShortestSettling S old (Some new) → length new < length old
-takes_some S old new taken =
-    let some = length_of_not_nil taken.front (λ none. early_not_settles S [] (faulty insufficient) tt
-    (inl (record { few = omega arith; all_marked = All-nil IsMarked })) (subst (Settles S) none taken.shortest.settles)) in
-    omega (arith, some, ap length (Takes-cut old taken.front new taken.takes), length-append taken.front new)
+pub takes_some : (S : ℕ) (old new : List ℕ) → ConsumesShortestSettling S old (Some new) → length new < length old
+takes_some S old new consumed =
+    let some = length_of_not_nil consumed.front (λ none. early_not_settles S [] (malformed insufficient) tt
+    (inl (record { few = omega arith; all_continuation = All-nil IsContinuation })) (subst (Settles S) none consumed.shortest.settles)) in
+    omega (arith, some, ap length (Consumes-cut old consumed.front new consumed.consumes), length-append consumed.front new)
 
 -- reading the varint that comes next gives its number and leaves what follows
 pub varint_read : (n before after : ℕ) (old new : Option (List ℕ)) (bytes more : List ℕ) (r : Result ℕ Refusal)
     → IsVarint n bytes → old ≡ Some (bytes ++ more) → after ≡ before
-    → IfOk r (λ m. TakesVarint m old new)
-    → IfSome old (λ input. after ≡ before → IfErr r (IsFrontRefusal input))
+    → IfOk r (λ m. ConsumesVarint m old new)
+    → IfSome old (λ input. after ≡ before → IfErr r (IsFrontError input))
     → MatchResult r (λ m. (m ≡ n) × (new ≡ Some more)) (λ _. ⊥)
 varint_read n before after old new bytes more (Ok m) is rest same ok front =
-    let (left, told, cut) = Takes-told (bytes ++ more) ok.0 new (sym rest ∙ ok.2) in
+    let (left, told, cut) = Consumes-told (bytes ++ more) ok.0 new (sym rest ∙ ok.2) in
     let both = same_number (bytes ++ more) m n left more (ok.0, ok.1, cut) (bytes, is, refl) in
     (both.0, told ∙ ap Some both.1)
 varint_read n before after old new bytes more (Err e) is rest same ok front =
@@ -175,17 +175,17 @@ varint_read n before after old new bytes more (Err e) is rest same ok front =
 
 -- filling a buffer where as many bytes come next gives them and leaves what follows
 pub read_exact_of_bytes : {A : Type 0} (n before after : ℕ) (old new : Option (List ℕ)) (filled bytes more : List ℕ) (r : Result A Fault)
-    → old ≡ Some (bytes ++ more) → length bytes ≡ n → length filled ≡ n → after ≡ before → CountsReader IsOwnFault IsUnexpectedEof before after r
-    → OnOk r (Takes old filled new) → IfErr r (λ e. IsUnexpectedEof e → HasFewerThan n old)
+    → old ≡ Some (bytes ++ more) → length bytes ≡ n → length filled ≡ n → after ≡ before → CountsReaderFailures IsOwnFault IsUnexpectedEof before after r
+    → OnOk r (Consumes old filled new) → IfErr r (λ e. IsUnexpectedEof e → HasFewerThan n old)
     → MatchResult r (λ _. (filled ≡ bytes) × (new ≡ Some more)) (λ _. ⊥)
-read_exact_of_bytes n before after None new filled bytes more r rest long whole same faults takes eof = cc
-read_exact_of_bytes n before after (Some input) None filled bytes more (Ok x) rest long whole same faults takes eof = cc
-read_exact_of_bytes n before after (Some input) (Some left) filled bytes more (Ok x) rest long whole same faults takes eof =
+read_exact_of_bytes n before after None new filled bytes more r rest long whole same faults consumes eof = cc
+read_exact_of_bytes n before after (Some input) None filled bytes more (Ok x) rest long whole same faults consumes eof = cc
+read_exact_of_bytes n before after (Some input) (Some left) filled bytes more (Ok x) rest long whole same faults consumes eof =
     let cut : filled ++ left ≡ bytes ++ more = cc in
     let told = same_cut filled bytes left more (whole ∙ sym long) cut in
     (told.0, ap Some told.1)
-read_exact_of_bytes n before after (Some input) new filled bytes more (Err e) rest long whole same (inl own) takes eof = absurd (omega (arith, own.0, same))
-read_exact_of_bytes n before after (Some input) new filled bytes more (Err e) rest long whole same (inr ended) takes eof =
+read_exact_of_bytes n before after (Some input) new filled bytes more (Err e) rest long whole same (inl own) consumes eof = absurd (omega (arith, own.0, same))
+read_exact_of_bytes n before after (Some input) new filled bytes more (Err e) rest long whole same (inr ended) consumes eof =
     let spelled : input ≡ bytes ++ more = cc in
     omega (arith, eof ended.1, ap (λ (z : List ℕ). length z) spelled, length-append bytes more, long)
 
@@ -201,10 +201,10 @@ module _ {Parts : List ℕ → List Pair → ℕ → Type 0} {whole : List ℕ} 
       → ((p : Pair) (encoding rest : List ℕ) (pairs : List Pair) (n : ℕ) → IsEncoding p encoding → FitsBuffer S p
       → Parts rest pairs n → Parts (encoding ++ rest) (p ∷ pairs) n)
       → ReadsOn Parts whole (map pair_of items) count left
-      → (bytes : List ℕ) × IsEncoding (pair_of m) bytes × Takes (Some left) bytes (Some new) → FitsBuffer S (pair_of m)
+      → (bytes : List ℕ) × IsEncoding (pair_of m) bytes × Consumes (Some left) bytes (Some new) → FitsBuffer S (pair_of m)
       → after ≡ items ++ m ∷ [] → ReadsOn Parts whole (map pair_of after) count new
-  one_more_pair {after = after} {new = new} items m good so_far (bytes, encodes, takes) fits pushed =
-      let split : left ≡ bytes ++ new = Takes-cut left bytes new takes in
+  one_more_pair {after = after} {new = new} items m good so_far (bytes, encodes, consumes) fits pushed =
+      let split : left ≡ bytes ++ new = Consumes-cut left bytes new consumes in
       let pairs : map pair_of after ≡ map pair_of items ++ pair_of m ∷ [] = ap (λ z. map pair_of z) pushed ∙ map_push pair_of items m in
       record {
         few = omega (arith, so_far.few, ap length split, length-append bytes new);
@@ -215,23 +215,23 @@ module _ {Parts : List ℕ → List Pair → ℕ → Type 0} {whole : List ℕ} 
       }
 
   -- `read` rejected a part, and more input could not help: the facts are its clauses `verdict` and `settled`, and
-  -- `early` of `is_early_end`. The stream became shorter
-  pub one_more_refused : {S : ℕ} {pairs : List Pair} {new : List ℕ} {e : Refusal} {early : Bool}
-      → ((v : Verdict) (front rest : List ℕ) (pairs : List Pair) (n : ℕ) → HasVerdict S (front ++ rest) v → ¬ (IsEarlyEnd v)
+  -- `early` of `is_incomplete`. The stream became shorter
+  pub one_more_rejected : {S : ℕ} {pairs : List Pair} {new : List ℕ} {e : Refusal} {early : Bool}
+      → ((v : Verdict) (front rest : List ℕ) (pairs : List Pair) (n : ℕ) → HasVerdict S (front ++ rest) v → ¬ (IsIncomplete v)
       → IsShortestSettling S (front ++ rest) front → Parts rest pairs n → Parts (front ++ rest) pairs (n + 1))
       → ReadsOn Parts whole pairs count left
-      → (v : Verdict) × HasVerdict S left v × IsRefusal e v
-      → ((v : Verdict) → HasVerdict S left v → ¬ (IsEarlyEnd v) → TakesShortestSettling S left (Some new))
-      → ((v : Verdict) → IsRefusal e v → (IsTrue early ↔ IsEarlyEnd v)) → early ≡ false
+      → (v : Verdict) × HasVerdict S left v × IsErrorOf e v
+      → ((v : Verdict) → HasVerdict S left v → ¬ (IsIncomplete v) → ConsumesShortestSettling S left (Some new))
+      → ((v : Verdict) → IsErrorOf e v → (IsTrue early ↔ IsIncomplete v)) → early ≡ false
       → (length new < length left) × ReadsOn Parts whole pairs (count + 1) new
-  one_more_refused {S = S} {pairs = pairs} {new = new} refused so_far (v, has, names) settled told late =
-      let other : ¬ (IsEarlyEnd v) = λ ends. false≢true (sym late ∙ (told v names).1 ends) in
-      let taken = settled v has other in
-      let fewer = takes_some S left new taken in
-      let split : left ≡ taken.front ++ new = Takes-cut left taken.front new taken.takes in
+  one_more_rejected {S = S} {pairs = pairs} {new = new} refused so_far (v, has, names) settled told late =
+      let other : ¬ (IsIncomplete v) = λ ends. false≢true (sym late ∙ (told v names).1 ends) in
+      let consumed = settled v has other in
+      let fewer = takes_some S left new consumed in
+      let split : left ≡ consumed.front ++ new = Consumes-cut left consumed.front new consumed.consumes in
       let part = λ (more : List Pair) (n : ℕ) (parts : Parts new more n). subst (λ z. Parts z more (n + 1)) (sym split)
-      (refused v taken.front new more n (subst (λ z. HasVerdict S z v) split has) other
-      (subst (λ z. IsShortestSettling S z taken.front) split taken.shortest) parts) in (
+      (refused v consumed.front new more n (subst (λ z. HasVerdict S z v) split has) other
+      (subst (λ z. IsShortestSettling S z consumed.front) split consumed.shortest) parts) in (
         fewer,
         record {
           few = omega (arith, so_far.few, fewer);
@@ -241,10 +241,10 @@ module _ {Parts : List ℕ → List Pair → ℕ → Type 0} {whole : List ℕ} 
 
   -- the input ended early: that is the last part
   pub ended_early : {pairs : List Pair} {e : Refusal} {early : Bool} (S : ℕ)
-      → ((v : Verdict) (input : List ℕ) → HasVerdict S input v → IsEarlyEnd v → Parts input [] 1)
+      → ((v : Verdict) (input : List ℕ) → HasVerdict S input v → IsIncomplete v → Parts input [] 1)
       → ReadsOn Parts whole pairs count left
-      → (v : Verdict) × HasVerdict S left v × IsRefusal e v
-      → ((v : Verdict) → IsRefusal e v → (IsTrue early ↔ IsEarlyEnd v)) → early ≡ true
+      → (v : Verdict) × HasVerdict S left v × IsErrorOf e v
+      → ((v : Verdict) → IsErrorOf e v → (IsTrue early ↔ IsIncomplete v)) → early ≡ true
       → Parts whole pairs (count + 1)
   ended_early {pairs = pairs} S cut so_far (v, has, names) told is_true =
       subst (λ z. Parts whole z (count + 1)) (append-nil pairs) (so_far.on [] 1 (cut v left has ((told v names).0 is_true)))

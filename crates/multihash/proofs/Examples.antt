@@ -7,7 +7,7 @@ pub mod ReadingVectors
 pub mod RefusalVectors
 pub mod ScaleVectors
 pub mod StreamVectors
-pub mod TakingVectors
+pub mod ConsumingVectors
 pub mod VarintVectors
 pub mod VerdictVectors
 pub mod WritingVectors

@@ -1,5 +1,5 @@
 pub mod InTurnLemmas
-pub mod ReadTakingLemmas
+pub mod ReadConsumingLemmas
 pub mod ReadingLemmas
 pub mod SettlingLemmas
 pub mod VerdictLemmas

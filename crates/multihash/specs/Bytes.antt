@@ -7,12 +7,12 @@ abbrev pub IsBytes : List ℕ → Type 0
 IsBytes bytes = All (λ byte. byte < 256) bytes
 
 -- the front is a prefix of the whole
-abbrev pub IsBeginning : List ℕ → List ℕ → Type 0
-IsBeginning front whole = (rest : List ℕ) × (whole ≡ front ++ rest)
+abbrev pub IsPrefix : List ℕ → List ℕ → Type 0
+IsPrefix front whole = (rest : List ℕ) × (whole ≡ front ++ rest)
 
 -- the front is a strict prefix of the whole
-abbrev pub IsProperBeginning : List ℕ → List ℕ → Type 0
-IsProperBeginning front whole = (rest : List ℕ) × (rest ≢ []) × (whole ≡ front ++ rest)
+abbrev pub IsStrictPrefix : List ℕ → List ℕ → Type 0
+IsStrictPrefix front whole = (rest : List ℕ) × (rest ≢ []) × (whole ≡ front ++ rest)
 
 -- the sum of the digits, lowest first, each times its power of the base
 unfoldable pub place_value : ℕ → List ℕ → ℕ

@@ -1,16 +1,17 @@
 -- Encodings as a function of the number and of the pair.
 use Rattle.std.specs.Prelude.{ℕ, zero, suc, ◌+◌, ◌/◌, ◌%◌, List, [], ◌∷◌, ◌++◌, length, nat_lt, if◌then◌else◌}
 use Rattle.multihash.specs.Pair.{Pair}
-use Rattle.multihash.specs.Varint.{max_marked}
+use Rattle.multihash.specs.Varint.{max_continuation}
 
--- the base-128 digits of a number, lowest first, each but the last with 128 added, in at most `most` bytes and one
+-- the base-128 digits of a number, lowest first, each but the last with 128 added; `most` bytes before the
+-- last at most
 abbrev pub varint_within : ℕ → ℕ → List ℕ
 varint_within zero n = n ∷ []
 varint_within (suc most) n = if nat_lt n 128 then n ∷ [] else (n % 128 + 128) ∷ varint_within most (n / 128)
 
 -- the varint of a number in range
 unfoldable pub varint_of : ℕ → List ℕ
-varint_of n = varint_within max_marked n
+varint_of n = varint_within max_continuation n
 
 -- the code's varint, the varint of the digest's length, and the digest
 unfoldable pub encoding_of : Pair → List ℕ

@@ -22,8 +22,8 @@ abbrev pub IsWriteZero : Fault → Type 0
 IsWriteZero e = e.kind ≡ WriteZero
 
 -- an allocation failed
-abbrev pub IsOutOfMemory : Fault → Type 0
-IsOutOfMemory e = e.kind ≡ OutOfMemory
+abbrev pub IsOutOfMemoryFault : Fault → Type 0
+IsOutOfMemoryFault e = e.kind ≡ OutOfMemory
 
 -- an error of the reader or the writer itself, with its own text
 abbrev pub IsOther : Fault → Type 0
@@ -31,7 +31,7 @@ IsOther e = e.kind ≡ Other
 
 -- an error that a reader or a writer may return by itself
 abbrev pub IsOwnFault : Fault → Type 0
-IsOwnFault e = IsOther e ⊎ IsOutOfMemory e
+IsOwnFault e = IsOther e ⊎ IsOutOfMemoryFault e
 
 -- the text that an error of this kind prints; `own`, which it was made with, matters only for `Other`
 abbrev pub text_of : Kind → List ℕ → List ℕ

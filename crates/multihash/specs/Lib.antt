@@ -1,4 +1,4 @@
-pub mod Answer
+pub mod Outcome
 pub mod Bytes
 pub mod Comparing
 pub mod Encoded
@@ -14,7 +14,7 @@ pub mod Refusal
 pub mod Scale
 pub mod Settling
 pub mod Streams
-pub mod Taking
+pub mod Consuming
 pub mod Varint
 pub mod Verdict
 pub mod Word

@@ -43,17 +43,17 @@ is_byte member = is_some (byte_of_data (view member))
 
 -- the bytes follow the members, as whole numbers
 pub record AppendsMembers (old : List Value) (bytes : List ℕ) (new : List Value) : Type 0 where
-  pub behind : map view new ≡ map view old ++ map (λ n. number (unsigned n)) bytes
+  pub following : map view new ≡ map view old ++ map (λ n. number (unsigned n)) bytes
   pub are_bytes : IsBytes bytes
 
 pub AppendsMembers-none : (a : List Value) → AppendsMembers a [] a
 AppendsMembers-none a =
-    record { behind = sym (append-nil (map view a)); are_bytes = All-nil (λ byte. byte < 256) }
+    record { following = sym (append-nil (map view a)); are_bytes = All-nil (λ byte. byte < 256) }
 
-pub AppendsMembers-joined : (a b c : List Value) (x y : List ℕ)
+pub AppendsMembers-concatenated : (a b c : List Value) (x y : List ℕ)
     → AppendsMembers a x b → AppendsMembers b y c → AppendsMembers a (x ++ y) c
-AppendsMembers-joined a b c x y first second = record {
-  behind = second.behind ∙ ap (λ l. l ++ map (λ n. number (unsigned n)) y) first.behind
+AppendsMembers-concatenated a b c x y first second = record {
+  following = second.following ∙ ap (λ l. l ++ map (λ n. number (unsigned n)) y) first.following
       ∙ append_assoc (map view a) (map (λ n. number (unsigned n)) x) (map (λ n. number (unsigned n)) y)
       ∙ ap (λ l. map view a ++ l) (sym (map-append (λ n. number (unsigned n)) x y));
   are_bytes = All-append (λ byte. byte < 256) x y first.are_bytes second.are_bytes;

@@ -6,18 +6,18 @@ use Rattle.multihash.specs.Fault.{Fault, IsUnexpectedEof, IsOwnFault}
 
 -- a call consumed `taken`: the rest was `taken` followed by the rest now. A reader whose input is not
 -- known stays so
-abbrev pub Takes : Option (List ℕ) → List ℕ → Option (List ℕ) → Type 0
-Takes old taken new = old ≡ prepend_known taken new
+abbrev pub Consumes : Option (List ℕ) → List ℕ → Option (List ℕ) → Type 0
+Consumes old consumed new = old ≡ prepend_known consumed new
 
 -- fewer than `n` bytes remain, if the input is known
 abbrev pub HasFewerThan : ℕ → Option (List ℕ) → Type 0
 HasFewerThan n rest = IfSome rest (λ bytes. length bytes < n)
 
 -- a call consumed fewer than `n` bytes
-pub record TakesFewerThan (n : ℕ) (old new : Option (List ℕ)) : Type 0 where
-  pub taken : List ℕ
-  pub fewer : length taken < n
-  pub takes : Takes old taken new
+pub record ConsumesFewerThan (n : ℕ) (old new : Option (List ℕ)) : Type 0 where
+  pub consumed : List ℕ
+  pub fewer : length consumed < n
+  pub consumes : Consumes old consumed new
 
 -- no error besides the reader's own
 abbrev pub NoOtherError : {E : Type 0} → E → Type 0
@@ -25,29 +25,29 @@ NoOtherError e = ⊥
 
 -- an Ok leaves the count of failures unchanged; an Err is either an error of the reader itself, counted
 -- once, or one of the listed errors, not counted
-abbrev pub CountsReader : {A E : Type 0} → (E → Type 0) → (E → Type 0) → ℕ → ℕ → Result A E → Type 0
-CountsReader IsOwn IsListed before after outcome = MatchResult outcome (λ _. after ≡ before)
+abbrev pub CountsReaderFailures : {A E : Type 0} → (E → Type 0) → (E → Type 0) → ℕ → ℕ → Result A E → Type 0
+CountsReaderFailures IsOwn IsListed before after outcome = MatchResult outcome (λ _. after ≡ before)
     (λ e. ((after ≡ before + 1) × IsOwn e) ⊎ ((after ≡ before) × IsListed e))
 
 -- the laws of `read`
 abbrev pub ReadLaws : {S : Type 0} → (S → Option (List ℕ)) → (S → ℕ) → S → S → List ℕ → List ℕ
     → Result ℕ Fault → Type 0
-ReadLaws rest failures old new places filled outcome = record {
-  count : IfOk outcome (λ n. n ≤ length places);
-  beyond : IfOk outcome (λ n. drop n filled ≡ drop n places);
-  faults : CountsReader IsOwnFault NoOtherError (failures old) (failures new) outcome;
-  takes : IfOk outcome (λ n. Takes (rest old) (take n filled) (rest new));
-  at_end : IfOk outcome (λ n. n ≡ 0 → 0 < length places → IsAtEnd (rest old));
+ReadLaws rest failures old new buffer filled outcome = record {
+  count : IfOk outcome (λ n. n ≤ length buffer);
+  beyond : IfOk outcome (λ n. drop n filled ≡ drop n buffer);
+  faults : CountsReaderFailures IsOwnFault NoOtherError (failures old) (failures new) outcome;
+  consumes : IfOk outcome (λ n. Consumes (rest old) (take n filled) (rest new));
+  at_end : IfOk outcome (λ n. n ≡ 0 → 0 < length buffer → IsAtEnd (rest old));
   err : OnErr outcome (rest new ≡ rest old);
 }
 
 -- the laws of `read_exact`
 abbrev pub ReadExactLaws : {S A : Type 0} → (S → Option (List ℕ)) → (S → ℕ) → S → S
     → List ℕ → List ℕ → Result A Fault → Type 0
-ReadExactLaws rest failures old new places filled outcome = record {
-  faults : CountsReader IsOwnFault IsUnexpectedEof (failures old) (failures new) outcome;
-  takes : OnOk outcome (Takes (rest old) filled (rest new));
-  empty : length places ≡ 0 → IsOk outcome;
-  eof : IfErr outcome (λ e. IsUnexpectedEof e → HasFewerThan (length places) (rest old));
-  err : OnErr outcome (TakesFewerThan (length places) (rest old) (rest new));
+ReadExactLaws rest failures old new buffer filled outcome = record {
+  faults : CountsReaderFailures IsOwnFault IsUnexpectedEof (failures old) (failures new) outcome;
+  consumes : OnOk outcome (Consumes (rest old) filled (rest new));
+  empty : length buffer ≡ 0 → IsOk outcome;
+  eof : IfErr outcome (λ e. IsUnexpectedEof e → HasFewerThan (length buffer) (rest old));
+  err : OnErr outcome (ConsumesFewerThan (length buffer) (rest old) (rest new));
 }

@@ -3,8 +3,8 @@ use Rattle.std.specs.Prelude.{◌≡◌, ℕ, ◌++◌, List, codes}
 use Rattle.std.specs.Fmt.{decimal}
 use Rattle.multihash.specs.declared.error.Kind.{Kind}
 use Rattle.multihash.specs.declared.error.Kind.TheVariants.{Io, InvalidSize, InvalidCode, Insufficient, Overflow, NotMinimal, NotBytes}
-use Rattle.multihash.specs.Varint.{VarintFault, insufficient, overflow, not_minimal}
-use Rattle.multihash.specs.Fault.{Fault, IsUnexpectedEof, IsOutOfMemory, IsOwnFault, printed}
+use Rattle.multihash.specs.Varint.{VarintError, insufficient, overflow, not_minimal}
+use Rattle.multihash.specs.Fault.{Fault, IsUnexpectedEof, IsOutOfMemoryFault, IsOwnFault, printed}
 
 -- why a call failed: an error of a reader or a writer, a size, a code, a malformed varint, or a JSON
 -- value that is no byte array
@@ -12,7 +12,7 @@ pub data Refusal : Type 0 where
   of_io : Fault → Refusal
   of_size : ℕ → Refusal
   of_code : ℕ → Refusal
-  of_varint : VarintFault → Refusal
+  of_varint : VarintError → Refusal
   of_not_bytes : Refusal
 
 -- the refusal of each kind of error
@@ -34,12 +34,12 @@ abbrev pub IsEof : Refusal → Type 0
 IsEof e = IsIo IsUnexpectedEof e
 
 -- an allocation failed
-abbrev pub IsMemory : Refusal → Type 0
-IsMemory e = IsIo IsOutOfMemory e
+abbrev pub IsOutOfMemory : Refusal → Type 0
+IsOutOfMemory e = IsIo IsOutOfMemoryFault e
 
 -- an error of the reader itself
-abbrev pub IsReaderFault : Refusal → Type 0
-IsReaderFault e = IsIo IsOwnFault e
+abbrev pub IsReaderError : Refusal → Type 0
+IsReaderError e = IsIo IsOwnFault e
 
 -- a size that the capacity or the input contradicts
 abbrev pub IsInvalidSize : ℕ → Refusal → Type 0
@@ -50,15 +50,15 @@ abbrev pub IsInvalidCode : ℕ → Refusal → Type 0
 IsInvalidCode code e = e ≡ of_code code
 
 -- a varint is malformed
-abbrev pub IsFaulty : VarintFault → Refusal → Type 0
-IsFaulty fault e = e ≡ of_varint fault
+abbrev pub IsVarintError : VarintError → Refusal → Type 0
+IsVarintError fault e = e ≡ of_varint fault
 
 -- a JSON value that is no byte array
 abbrev pub IsNotBytes : Refusal → Type 0
 IsNotBytes e = e ≡ of_not_bytes
 
 -- the text of each kind of malformed varint
-abbrev pub varint_text : VarintFault → List ℕ
+abbrev pub varint_text : VarintError → List ℕ
 varint_text insufficient = codes "not enough input bytes"
 varint_text overflow = codes "input bytes exceed maximum"
 varint_text not_minimal = codes "encoding is not minimal"

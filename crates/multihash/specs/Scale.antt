@@ -4,9 +4,9 @@ use Rattle.std.specs.Prelude.{◌≡◌, ℕ, ◌<◌, ◌≤◌, ◌⊎◌, Lis
 use Rattle.multihash.specs.Bytes.{IsBytes, place_value}
 use Rattle.multihash.specs.Pair.{Pair}
 use Rattle.multihash.specs.Varint.{varint_limit}
-use Rattle.multihash.specs.Verdict.{Verdict, accepted, invalid_size, invalid_code, faulty, unexpected_eof}
-use Rattle.multihash.specs.Reading.{Takes}
-use Rattle.multihash.specs.Refusal.{Refusal, IsEof, IsReaderFault, IsInvalidSize, IsInvalidCode}
+use Rattle.multihash.specs.Verdict.{Verdict, accepted, invalid_size, invalid_code, malformed, unexpected_eof}
+use Rattle.multihash.specs.Reading.{Consumes}
+use Rattle.multihash.specs.Refusal.{Refusal, IsEof, IsReaderError, IsInvalidSize, IsInvalidCode}
 
 -- the bytes are the eight bytes of the code, lowest first
 pub record IsScaleCode (code : ℕ) (bytes : List ℕ) : Type 0 where
@@ -40,7 +40,7 @@ HasScaleVerdict S input (invalid_code code) =
     × (input ≡ bytes ++ rest)
 HasScaleVerdict S input (invalid_size size) =
     (rest : List ℕ) × HasScaleSize size input rest × (S < size)
-HasScaleVerdict S input (faulty fault) = ⊥
+HasScaleVerdict S input (malformed fault) = ⊥
 HasScaleVerdict S input unexpected_eof =
     (length input < 8)
     ⊎ ((code : ℕ) × IsScaleCode code input × (code < varint_limit))
@@ -48,17 +48,17 @@ HasScaleVerdict S input unexpected_eof =
     × (length rest < size))
 
 -- an error of decoding: a code or a size that is too large, or truncated input
-abbrev pub IsScaleRefusal : ℕ → Refusal → Type 0
-IsScaleRefusal S e = ((code : ℕ) × IsInvalidCode code e × (varint_limit ≤ code))
+abbrev pub ScaleMayFailWith : ℕ → Refusal → Type 0
+ScaleMayFailWith S e = ((code : ℕ) × IsInvalidCode code e × (varint_limit ≤ code))
     ⊎ ((size : ℕ) × IsInvalidSize size e × (S < size)) ⊎ IsEof e
 
 -- what decoding consumed when it failed: eight bytes if the code is too large, nine if the size is;
 -- otherwise, also after a failure of the reader, bytes that by themselves are truncated
-pub record TakesAtScaleRefusal (S : ℕ) (e : Refusal) (old new : Option (List ℕ)) : Type 0 where
-  pub taken : List ℕ
-  pub takes : Takes old taken new
+pub record ConsumesAtScaleError (S : ℕ) (e : Refusal) (old new : Option (List ℕ)) : Type 0 where
+  pub consumed : List ℕ
+  pub consumes : Consumes old consumed new
   pub code : (code : ℕ) → IsInvalidCode code e →
-      HasScaleVerdict S taken (invalid_code code) × (length taken ≡ 8)
+      HasScaleVerdict S consumed (invalid_code code) × (length consumed ≡ 8)
   pub size : (size : ℕ) → IsInvalidSize size e →
-      HasScaleVerdict S taken (invalid_size size) × (length taken ≡ 9)
-  pub early : (IsEof e ⊎ IsReaderFault e) → HasScaleVerdict S taken unexpected_eof
+      HasScaleVerdict S consumed (invalid_size size) × (length consumed ≡ 9)
+  pub early : (IsEof e ⊎ IsReaderError e) → HasScaleVerdict S consumed unexpected_eof

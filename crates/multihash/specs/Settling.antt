@@ -1,6 +1,6 @@
 -- When an input settles its verdict.
 use Rattle.std.specs.Prelude.{ℕ, List, ◌++◌}
-use Rattle.multihash.specs.Bytes.{IsBytes, IsBeginning, IsProperBeginning}
+use Rattle.multihash.specs.Bytes.{IsBytes, IsPrefix, IsStrictPrefix}
 use Rattle.multihash.specs.Verdict.{Verdict, HasVerdict}
 
 -- the verdict is the same whatever bytes follow, also none
@@ -10,6 +10,6 @@ pub record Settles (S : ℕ) (input : List ℕ) : Type 0 where
 
 -- the front settles the input's verdict, and no shorter one does
 pub record IsShortestSettling (S : ℕ) (input front : List ℕ) : Type 0 where
-  pub begins : IsBeginning front input
+  pub begins : IsPrefix front input
   pub settles : Settles S front
-  pub shortest : (shorter : List ℕ) → IsProperBeginning shorter front → ¬ (Settles S shorter)
+  pub shortest : (shorter : List ℕ) → IsStrictPrefix shorter front → ¬ (Settles S shorter)

@@ -8,20 +8,20 @@ abbrev pub varint_limit : ℕ
 varint_limit = 2 ^ 63
 
 -- the most continuation bytes of a varint
-abbrev pub max_marked : ℕ
-max_marked = 8
+abbrev pub max_continuation : ℕ
+max_continuation = 8
 
 -- after that many continuation bytes the last byte is below this one
 abbrev pub last_byte_limit : ℕ
 last_byte_limit = 128
 
 -- a continuation byte has 128 added to its digit
-abbrev pub IsMarked : ℕ → Type 0
-IsMarked byte = 128 ≤ byte
+abbrev pub IsContinuation : ℕ → Type 0
+IsContinuation byte = 128 ≤ byte
 
 -- the digits with 128 added to each
-abbrev pub marked : List ℕ → List ℕ
-marked digits = map (λ digit. digit + 128) digits
+abbrev pub continuation_bytes : List ℕ → List ℕ
+continuation_bytes digits = map (λ digit. digit + 128) digits
 
 -- the bytes are the varint of n, whose digits are those of the front and the last
 pub record IsVarint (n : ℕ) (bytes : List ℕ) : Type 0 where
@@ -31,24 +31,24 @@ pub record IsVarint (n : ℕ) (bytes : List ℕ) : Type 0 where
   pub minimal : last ≡ 0 → front ≡ []
   pub value : place_value 128 (front ++ last ∷ []) ≡ n
   pub in_range : n < varint_limit
-  pub spelled : bytes ≡ marked front ++ last ∷ []
+  pub spelled : bytes ≡ continuation_bytes front ++ last ∷ []
 
 -- the ways in which the varint at the front of an input is malformed
-pub data VarintFault : Type 0 where
-  insufficient overflow not_minimal : VarintFault
+pub data VarintError : Type 0 where
+  insufficient overflow not_minimal : VarintError
 
 -- the input ends within or before a varint
 pub record IsInsufficient (input : List ℕ) : Type 0 where
-  pub few : length input ≤ max_marked
-  pub all_marked : All IsMarked input
+  pub few : length input ≤ max_continuation
+  pub all_continuation : All IsContinuation input
 
 -- after the most continuation bytes comes a byte that is too large
 pub record IsOverflow (input : List ℕ) : Type 0 where
   pub front : List ℕ
   pub byte : ℕ
   pub rest : List ℕ
-  pub all_marked : All IsMarked front
-  pub most : length front ≡ max_marked
+  pub all_continuation : All IsContinuation front
+  pub most : length front ≡ max_continuation
   pub too_large : last_byte_limit ≤ byte
   pub cut : input ≡ front ++ byte ∷ rest
 
@@ -56,13 +56,13 @@ pub record IsOverflow (input : List ℕ) : Type 0 where
 pub record IsNotMinimal (input : List ℕ) : Type 0 where
   pub front : List ℕ
   pub rest : List ℕ
-  pub all_marked : All IsMarked front
+  pub all_continuation : All IsContinuation front
   pub some : 0 < length front
-  pub few : length front ≤ max_marked
+  pub few : length front ≤ max_continuation
   pub cut : input ≡ front ++ 0 ∷ rest
 
 -- the varint at the front of the input is malformed in that way
-abbrev pub HasFaultyFront : VarintFault → List ℕ → Type 0
-HasFaultyFront insufficient input = IsInsufficient input
-HasFaultyFront overflow input = IsOverflow input
-HasFaultyFront not_minimal input = IsNotMinimal input
+abbrev pub BeginsMalformed : VarintError → List ℕ → Type 0
+BeginsMalformed insufficient input = IsInsufficient input
+BeginsMalformed overflow input = IsOverflow input
+BeginsMalformed not_minimal input = IsNotMinimal input

@@ -1,7 +1,7 @@
 -- The result of reading an input, for a capacity S, and the two varints at its front.
 use Rattle.std.specs.Prelude.{◌≡◌, ℕ, ◌<◌, ◌≤◌, ◌⊎◌, ⊤, List, ◌++◌, length, drop}
 use Rattle.multihash.specs.Pair.{Pair, FitsBuffer, digest_limit}
-use Rattle.multihash.specs.Varint.{IsVarint, VarintFault, insufficient, overflow, not_minimal, HasFaultyFront}
+use Rattle.multihash.specs.Varint.{IsVarint, VarintError, insufficient, overflow, not_minimal, BeginsMalformed}
 use Rattle.multihash.specs.Encoding.{IsEncoding}
 
 -- a pair, or an error
@@ -9,7 +9,7 @@ pub data Verdict : Type 0 where
   accepted : Pair → Verdict
   invalid_size : ℕ → Verdict
   invalid_code : ℕ → Verdict
-  faulty : VarintFault → Verdict
+  malformed : VarintError → Verdict
   unexpected_eof : Verdict
 
 -- an encoding of the pair is at the front of the input, and the rest follows
@@ -46,25 +46,25 @@ HasVerdict S input (accepted p) = (rest : List ℕ) × BeginsWith p input rest �
 HasVerdict S input (invalid_size size) =
     (rest : List ℕ) × BeginsWithSize size input rest × (digest_limit S < size)
 HasVerdict S input (invalid_code code) = ⊥
-HasVerdict S input (faulty fault) =
-    HasFaultyFront fault input ⊎ ((rest : List ℕ) × BeginsWithCode input rest × HasFaultyFront fault rest)
+HasVerdict S input (malformed fault) =
+    BeginsMalformed fault input ⊎ ((rest : List ℕ) × BeginsWithCode input rest × BeginsMalformed fault rest)
 HasVerdict S input unexpected_eof =
     (size : ℕ) × (rest : List ℕ) × BeginsWithSize size input rest × (size ≤ digest_limit S)
     × (length rest < size)
 
 -- more input can change the verdict
-abbrev pub IsEarlyEnd : Verdict → Type 0
-IsEarlyEnd (accepted p) = ⊥
-IsEarlyEnd (invalid_size size) = ⊥
-IsEarlyEnd (invalid_code code) = ⊥
-IsEarlyEnd (faulty insufficient) = ⊤
-IsEarlyEnd (faulty overflow) = ⊥
-IsEarlyEnd (faulty not_minimal) = ⊥
-IsEarlyEnd unexpected_eof = ⊤
+abbrev pub IsIncomplete : Verdict → Type 0
+IsIncomplete (accepted p) = ⊥
+IsIncomplete (invalid_size size) = ⊥
+IsIncomplete (invalid_code code) = ⊥
+IsIncomplete (malformed insufficient) = ⊤
+IsIncomplete (malformed overflow) = ⊥
+IsIncomplete (malformed not_minimal) = ⊥
+IsIncomplete unexpected_eof = ⊤
 
 -- an encoding of a pair that fits is at the front of the input, and that many bytes trail it
-abbrev pub HasLeftOver : ℕ → List ℕ → ℕ → Type 0
-HasLeftOver S input left =
+abbrev pub HasTrailing : ℕ → List ℕ → ℕ → Type 0
+HasTrailing S input left =
     (p : Pair) × (rest : List ℕ) × BeginsWith p input rest × FitsBuffer S p
     × (length rest ≡ left) × (0 < left)
 
@@ -72,7 +72,7 @@ HasLeftOver S input left =
 abbrev pub HasWholeVerdict : ℕ → List ℕ → Verdict → Type 0
 HasWholeVerdict S input (accepted p) = IsEncoding p input × FitsBuffer S p
 HasWholeVerdict S input (invalid_size size) =
-    HasVerdict S input (invalid_size size) ⊎ HasLeftOver S input size
+    HasVerdict S input (invalid_size size) ⊎ HasTrailing S input size
 HasWholeVerdict S input (invalid_code code) = HasVerdict S input (invalid_code code)
-HasWholeVerdict S input (faulty fault) = HasVerdict S input (faulty fault)
+HasWholeVerdict S input (malformed fault) = HasVerdict S input (malformed fault)
 HasWholeVerdict S input unexpected_eof = HasVerdict S input unexpected_eof

@@ -1,37 +1,37 @@
 -- What a writer's call appended, how it failed, and the laws of both calls. The effect of appending: a
 -- shorter slice, or more items of a vector.
 use Rattle.std.specs.Prelude.{◌≡◌, ◌+◌, ◌<◌, ◌≤◌, ℕ, Bool, IsTrue, List, [], ◌⊎◌, length, take, Result, MatchResult, IfOk, OnOk, OnErr, IsOk, ◌++◌, drop, refl}
-use Rattle.multihash.specs.Fault.{Fault, IsWriteZero, IsOutOfMemory, IsOwnFault}
-use Rattle.multihash.specs.Bytes.{IsProperBeginning}
+use Rattle.multihash.specs.Fault.{Fault, IsWriteZero, IsOutOfMemoryFault, IsOwnFault}
+use Rattle.multihash.specs.Bytes.{IsStrictPrefix}
 use Rattle.std.proofs.Common.{sym, ap, ◌∙◌, arith, append_assoc, append-nil, length-append, length-drop}
 use Rattle.std.proofs.lemmas.List.{drop-drop}
 
 -- the writer counted one failure, or it allocates, is out of memory and counted none
 pub record IsWriterFault (allocates : Bool) (before after : ℕ) (e : Fault) : Type 0 where
   pub kind : IsOwnFault e
-  pub cause : (after ≡ before + 1) ⊎ (IsTrue allocates × IsOutOfMemory e × (after ≡ before))
+  pub cause : (after ≡ before + 1) ⊎ (IsTrue allocates × IsOutOfMemoryFault e × (after ≡ before))
 
 -- a strict prefix of `bytes` has been appended between the two states
-pub record AppendsPart {W : Type 0} (appended : W → List ℕ → W → Type 0) (old : W)
+pub record AppendsPrefix {W : Type 0} (appended : W → List ℕ → W → Type 0) (old : W)
     (bytes : List ℕ) (new : W) : Type 0 where
   pub part : List ℕ
-  pub proper : IsProperBeginning part bytes
-  pub stands : appended old part new
+  pub strict : IsStrictPrefix part bytes
+  pub appends : appended old part new
 
 -- as `IsWriterFault`, or the writer was full and counted no failure
 abbrev pub IsWriterFaultOrFull : Bool → ℕ → ℕ → Type 0 → Fault → Type 0
 IsWriterFaultOrFull allocates before after is_full e =
     IsWriterFault allocates before after e ⊎ (IsWriteZero e × (after ≡ before) × is_full)
 
--- an error of which P holds: so `CountsWriter` speaks of an error as of one that is passed on
+-- an error of which P holds: so `CountsWriterFailures` speaks of an error as of one that is passed on
 abbrev pub IsFault : (Fault → Type 0) → Fault → Type 0
 IsFault P fault = P fault
 
 -- an Ok leaves the count of failures unchanged; an Err is the writer's own or says that it is full, and
 -- only the former is counted
-abbrev pub CountsWriter : {A E : Type 0} → ((Fault → Type 0) → E → Type 0) → Bool → ℕ → ℕ → Type 0
+abbrev pub CountsWriterFailures : {A E : Type 0} → ((Fault → Type 0) → E → Type 0) → Bool → ℕ → ℕ → Type 0
     → Result A E → Type 0
-CountsWriter Says allocates before after is_full outcome = MatchResult outcome (λ _. after ≡ before)
+CountsWriterFailures Says allocates before after is_full outcome = MatchResult outcome (λ _. after ≡ before)
     (λ e. Says (IsWriterFaultOrFull allocates before after is_full) e)
 
 -- the laws of `write`
@@ -42,7 +42,7 @@ WriteLaws appended full failures allocates old bytes new outcome = record {
   ok : IfOk outcome (λ n. appended old (take n bytes) new);
   stuck : IfOk outcome (λ n. n ≡ 0 → 0 < length bytes → full new);
   err : OnErr outcome (appended old [] new);
-  faults : CountsWriter IsFault allocates (failures old) (failures new) ⊥ outcome;
+  faults : CountsWriterFailures IsFault allocates (failures old) (failures new) ⊥ outcome;
 }
 
 -- the laws of `write_all`
@@ -51,21 +51,21 @@ abbrev pub WriteAllLaws : {S A : Type 0} → (S → List ℕ → S → Type 0) �
 WriteAllLaws appended full failures allocates old bytes new outcome = record {
   ok : OnOk outcome (appended old bytes new);
   empty : length bytes ≡ 0 → IsOk outcome;
-  err : OnErr outcome (AppendsPart appended old bytes new);
-  faults : CountsWriter IsFault allocates (failures old) (failures new) (full new) outcome;
+  err : OnErr outcome (AppendsPrefix appended old bytes new);
+  faults : CountsWriterFailures IsFault allocates (failures old) (failures new) (full new) outcome;
 }
 
 -- the slice has advanced past as many bytes as `bytes` has; `new` is the rest
-pub record GivesUpFor (old bytes new : List ℕ) : Type 0 where
+pub record AdvancesPast (old bytes new : List ℕ) : Type 0 where
   pub room : length bytes ≤ length old
   pub left : new ≡ drop (length bytes) old
 
-pub GivesUpFor-none : (a : List ℕ) → GivesUpFor a [] a
-GivesUpFor-none a = record { room = omega arith; left = refl }
+pub AdvancesPast-none : (a : List ℕ) → AdvancesPast a [] a
+AdvancesPast-none a = record { room = omega arith; left = refl }
 
-pub GivesUpFor-joined : (a b c x y : List ℕ)
-    → GivesUpFor a x b → GivesUpFor b y c → GivesUpFor a (x ++ y) c
-GivesUpFor-joined a b c x y first second =
+pub AdvancesPast-concatenated : (a b c x y : List ℕ)
+    → AdvancesPast a x b → AdvancesPast b y c → AdvancesPast a (x ++ y) c
+AdvancesPast-concatenated a b c x y first second =
     let sum : length (x ++ y) ≡ length x + length y = length-append x y in
     record {
       room = omega (arith, sum, length-drop (length x) a, ap length first.left);
@@ -80,6 +80,6 @@ AppendsAtEnd old bytes new = new ≡ old ++ bytes
 pub AppendsAtEnd-none : (a : List ℕ) → AppendsAtEnd a [] a
 AppendsAtEnd-none a = sym (append-nil a)
 
-pub AppendsAtEnd-joined : (a b c x y : List ℕ)
+pub AppendsAtEnd-concatenated : (a b c x y : List ℕ)
     → AppendsAtEnd a x b → AppendsAtEnd b y c → AppendsAtEnd a (x ++ y) c
-AppendsAtEnd-joined a b c x y first second = second ∙ ap (λ l. l ++ y) first ∙ append_assoc a x y
+AppendsAtEnd-concatenated a b c x y first second = second ∙ ap (λ l. l ++ y) first ∙ append_assoc a x y

@@ -1,15 +1,15 @@
 //! The binary form: the varint of the code, the varint of the digest's length, and the digest.
 ghost use Rattle.std.specs.Prelude.{◌≡◌, ◌<◌, ◌≤◌, ◌+◌, ◌-◌, ◌⊎◌, ℕ, List, length, Some, IfSome, IfOk, IfErr, OnOk, OnErr, take};
-ghost use Rattle.multihash.specs.Varint.{max_marked};
+ghost use Rattle.multihash.specs.Varint.{max_continuation};
 ghost use Rattle.multihash.specs.Pair.{digest_limit, FitsBuffer};
 ghost use Rattle.multihash.specs.Encoding.{IsEncoding};
-ghost use Rattle.multihash.specs.Verdict.{Verdict, HasVerdict, IsEarlyEnd, HasWholeVerdict};
-ghost use Rattle.multihash.specs.Refusal.{IsInvalidSize, IsMemory, IsIo, IsReaderFault};
-ghost use Rattle.multihash.specs.Reading.{Takes, CountsReader, HasFewerThan, TakesFewerThan};
+ghost use Rattle.multihash.specs.Verdict.{Verdict, HasVerdict, IsIncomplete, HasWholeVerdict};
+ghost use Rattle.multihash.specs.Refusal.{IsInvalidSize, IsOutOfMemory, IsIo, IsReaderError};
+ghost use Rattle.multihash.specs.Reading.{Consumes, CountsReaderFailures, HasFewerThan, ConsumesFewerThan};
 ghost use Rattle.multihash.specs.Fault.{IsUnexpectedEof, IsOwnFault};
-ghost use Rattle.multihash.specs.Writing.{AppendsPart, CountsWriter};
-ghost use Rattle.multihash.specs.Taking.{IsReadRefusal, TakesAtRefusal, TakesShortestSettling, TakesNothingSettling};
-ghost use Rattle.multihash.specs.Answer.{pair_of, Answers};
+ghost use Rattle.multihash.specs.Writing.{AppendsPrefix, CountsWriterFailures};
+ghost use Rattle.multihash.specs.Consuming.{ReadMayFailWith, ConsumesAtError, ConsumesShortestSettling, ConsumesNothingSettling};
+ghost use Rattle.multihash.specs.Outcome.{pair_of, IsResultOf};
 
 use crate::multihash::whole;
 use crate::no_std_io::{self, Read, Write};
@@ -37,24 +37,24 @@ impl<const S: usize> Multihash<S> {
     ///   truncated input.
     #[inline(always)]
     pub fn read<R: Read>(r: &mut R) -> Result<Self, Error>
-        ensures faults { CountsReader IsReaderFault (IsReadRefusal S)
+        ensures faults { CountsReaderFailures IsReaderError (ReadMayFailWith S)
             (R.failures r.old) (R.failures r.new) result }
         ensures verdict { IfSome (R.rest r.old) (λ rest. R.failures r.new ≡ R.failures r.old →
-            (v : Verdict) × HasVerdict S rest v × Answers result v) }
+            (v : Verdict) × HasVerdict S rest v × IsResultOf result v) }
         ensures ok { IfOk result (λ m. (bytes : List ℕ) × IsEncoding (pair_of m) bytes
-            × Takes (R.rest r.old) bytes (R.rest r.new)) }
+            × Consumes (R.rest r.old) bytes (R.rest r.new)) }
         ensures fits { IfOk result (λ m. FitsBuffer S (pair_of m)) }
-        ensures err { IfErr result (λ e. TakesAtRefusal S e (R.rest r.old) (R.rest r.new)) }
+        ensures err { IfErr result (λ e. ConsumesAtError S e (R.rest r.old) (R.rest r.new)) }
 
         // If the verdict is not incomplete, exactly the shortest prefix that settles it was consumed;
         // if it is, or the reader failed, no prefix of what was consumed settles a verdict.
         ensures settled { IfSome (R.rest r.old) (λ rest. R.failures r.new ≡ R.failures r.old →
-            (v : Verdict) → HasVerdict S rest v → ¬ (IsEarlyEnd v) →
-            TakesShortestSettling S rest (R.rest r.new)) }
+            (v : Verdict) → HasVerdict S rest v → ¬ (IsIncomplete v) →
+            ConsumesShortestSettling S rest (R.rest r.new)) }
         ensures unsettled { IfSome (R.rest r.old) (λ rest.
             (R.failures r.old < R.failures r.new)
-            ⊎ ((v : Verdict) × HasVerdict S rest v × IsEarlyEnd v) →
-            TakesNothingSettling S rest (R.rest r.new)) }
+            ⊎ ((v : Verdict) × HasVerdict S rest v × IsIncomplete v) →
+            ConsumesNothingSettling S rest (R.rest r.new)) }
     {
         let code = varint::read(r)?;
         let size = Self::fitting_size(varint::read(r)?)?;
@@ -79,7 +79,7 @@ impl<const S: usize> Multihash<S> {
     ///   number of trailing bytes if some follow the digest.
     /// - [`Error::io`] with an unexpected end of file if the bytes end within the digest.
     pub fn from_bytes(bytes: &[u8]) -> Result<Self, Error>
-        ensures { (v : Verdict) × HasWholeVerdict S bytes.now v × Answers result v }
+        ensures { (v : Verdict) × HasWholeVerdict S bytes.now v × IsResultOf result v }
     {
         let Some((code, code_len)) = word::read_front(bytes) else {
             return Err(word::front_fault(bytes));
@@ -129,8 +129,8 @@ impl<const S: usize> Multihash<S> {
         ensures ok { IfOk result (λ n. (bytes : List ℕ) × IsEncoding (pair_of self.now) bytes
             × (n ≡ length bytes) × W.appended w.old bytes w.new) }
         ensures err { OnErr result ((bytes : List ℕ) × IsEncoding (pair_of self.now) bytes
-            × AppendsPart W.appended w.old bytes w.new) }
-        ensures faults { CountsWriter IsIo W.allocates
+            × AppendsPrefix W.appended w.old bytes w.new) }
+        ensures faults { CountsWriterFailures IsIo W.allocates
             (W.failures w.old) (W.failures w.new) (W.full w.new) result }
     {
         let digest = self.digest();
@@ -144,7 +144,7 @@ impl<const S: usize> Multihash<S> {
     pub fn encoded_len(&self) -> usize
         ensures encoding { (bytes : List ℕ) × IsEncoding (pair_of self.now) bytes
             × (result ≡ length bytes) }
-        ensures short { result ≤ (max_marked + 1) + 2 + 255 }
+        ensures short { result ≤ (max_continuation + 1) + 2 + 255 }
     {
         let code = varint::len_in_range(self.code());
         let size = varint::len_in_range(u64::from(self.size()));
@@ -158,7 +158,7 @@ impl<const S: usize> Multihash<S> {
     /// [`Error::io`] if out of memory.
     pub fn to_bytes(&self, alloc: Global) -> Result<Vec<u8>, Error>
         ensures ok { IfOk result (λ v. IsEncoding (pair_of self.now) v.items) }
-        ensures memory { IfErr result IsMemory }
+        ensures memory { IfErr result IsOutOfMemory }
     {
         let mut bytes = Vec::with_capacity(alloc, self.encoded_len())?;
         self.write(&mut bytes)?;
@@ -173,12 +173,12 @@ impl<const S: usize> Multihash<S> {
         buffer: &mut [u8; S],
     ) -> Result<(), no_std_io::Error>
         requires { size ≤ digest_limit S }
-        ensures ok { OnOk result (Takes (R.rest r.old) (take size buffer.new) (R.rest r.new)) }
-        ensures places { length buffer.new ≡ S }
-        ensures faults { CountsReader IsOwnFault IsUnexpectedEof
+        ensures ok { OnOk result (Consumes (R.rest r.old) (take size buffer.new) (R.rest r.new)) }
+        ensures full { length buffer.new ≡ S }
+        ensures faults { CountsReaderFailures IsOwnFault IsUnexpectedEof
             (R.failures r.old) (R.failures r.new) result }
         ensures eof { IfErr result (λ e. IsUnexpectedEof e → HasFewerThan size (R.rest r.old)) }
-        ensures err { OnErr result (TakesFewerThan size (R.rest r.old) (R.rest r.new)) }
+        ensures err { OnErr result (ConsumesFewerThan size (R.rest r.old) (R.rest r.new)) }
     {
         // A read whose size is known at compile time is no call.
         if size == 32 {

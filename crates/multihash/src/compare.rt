@@ -6,7 +6,7 @@ ghost use Rattle.std.specs.Cmp.Lexicographic.{pointwise, slice_cmp};
 ghost use Rattle.std.specs.Cmp.Rules.{comparing, hashing};
 ghost use Rattle.std.specs.Ordering.{nat_cmp, on, as_partial_cmp};
 ghost use Rattle.multihash.specs.Comparing.{equal_pairs, compare_pairs, hashed_pair};
-ghost use Rattle.multihash.specs.Answer.{pair_of};
+ghost use Rattle.multihash.specs.Outcome.{pair_of};
 
 use crate::Multihash;
 use std::cmp::Ordering;

@@ -3,9 +3,9 @@ ghost use Rattle.std.specs.Prelude.{◌≡◌, ◌≢◌, ◌++◌, ◌⊎◌, �
 ghost use Rattle.std.specs.Fmt.{WritesOnOk, WritesStyledOnOk, decimal};
 ghost use Rattle.multihash.specs.Varint.{insufficient, overflow, not_minimal};
 ghost use Rattle.multihash.specs.Fault.{Fault};
-ghost use Rattle.multihash.specs.Refusal.{of_io, refusal_text, IsInvalidSize, IsInvalidCode, IsFaulty, IsNotBytes, IsEof, IsMemory};
-ghost use Rattle.multihash.specs.Verdict.{Verdict, IsEarlyEnd};
-ghost use Rattle.multihash.specs.Answer.{IsRefusal};
+ghost use Rattle.multihash.specs.Refusal.{of_io, refusal_text, IsInvalidSize, IsInvalidCode, IsVarintError, IsNotBytes, IsEof, IsOutOfMemory};
+ghost use Rattle.multihash.specs.Verdict.{Verdict, IsIncomplete};
+ghost use Rattle.multihash.specs.Outcome.{IsErrorOf};
 
 use crate::no_std_io;
 use std::alloc::{AllocError, AllocFailed};
@@ -59,7 +59,7 @@ impl Error {
     }
 
     pub(crate) fn insufficient() -> Self
-        ensures { IsFaulty insufficient result }
+        ensures { IsVarintError insufficient result }
     {
         Error {
             kind: Kind::Insufficient,
@@ -67,7 +67,7 @@ impl Error {
     }
 
     pub(crate) fn overflow() -> Self
-        ensures { IsFaulty overflow result }
+        ensures { IsVarintError overflow result }
     {
         Error {
             kind: Kind::Overflow,
@@ -75,7 +75,7 @@ impl Error {
     }
 
     pub(crate) fn not_minimal() -> Self
-        ensures { IsFaulty not_minimal result }
+        ensures { IsVarintError not_minimal result }
     {
         Error {
             kind: Kind::NotMinimal,
@@ -113,21 +113,21 @@ impl Error {
 
     /// Returns whether the input ended within or before a varint.
     pub fn is_insufficient(&self) -> bool
-        ensures { IsTrue result ↔ IsFaulty insufficient self.now }
+        ensures { IsTrue result ↔ IsVarintError insufficient self.now }
     {
         matches!(self.kind, Kind::Insufficient)
     }
 
     /// Returns whether a varint has more than nine bytes: its number would be 2^63 or more.
     pub fn is_overflow(&self) -> bool
-        ensures { IsTrue result ↔ IsFaulty overflow self.now }
+        ensures { IsTrue result ↔ IsVarintError overflow self.now }
     {
         matches!(self.kind, Kind::Overflow)
     }
 
     /// Returns whether a varint of more than one byte ends in a zero byte.
     pub fn is_not_minimal(&self) -> bool
-        ensures { IsTrue result ↔ IsFaulty not_minimal self.now }
+        ensures { IsTrue result ↔ IsVarintError not_minimal self.now }
     {
         matches!(self.kind, Kind::NotMinimal)
     }
@@ -142,9 +142,9 @@ impl Error {
     /// Returns whether more input could have changed the result: the input ended within or before a
     /// varint, or before the end of a digest or of a fixed-size part. It is true if
     /// [`Error::is_insufficient`] is, and if [`Error::io`] is an unexpected end of file.
-    pub fn is_early_end(&self) -> bool
-        ensures ends { IsTrue result ↔ (IsFaulty insufficient self.now ⊎ IsEof self.now) }
-        ensures early { (v : Verdict) → IsRefusal self.now v → (IsTrue result ↔ IsEarlyEnd v) }
+    pub fn is_incomplete(&self) -> bool
+        ensures ends { IsTrue result ↔ (IsVarintError insufficient self.now ⊎ IsEof self.now) }
+        ensures early { (v : Verdict) → IsErrorOf self.now v → (IsTrue result ↔ IsIncomplete v) }
     {
         match &self.kind {
             Kind::Io(e) => e.is_unexpected_eof(),
@@ -176,7 +176,7 @@ impl From<no_std_io::Error> for Error {
 }
 
 impl From<AllocError> for Error {
-    ghost from_gives = { λ _ e. IsMemory e };
+    ghost from_gives = { λ _ e. IsOutOfMemory e };
 
     fn from(_e: AllocError) -> Self {
         Error::from(no_std_io::Error::out_of_memory())
@@ -185,9 +185,9 @@ impl From<AllocError> for Error {
 
 /// So that `?` works after `v.push(x)`. The value that was not stored is dropped.
 impl<T: Drop> From<AllocFailed<T>> for Error {
-    ghost from_gives = { λ _ e. IsMemory e };
+    ghost from_gives = { λ _ e. IsOutOfMemory e };
 
-    fn from(_refused: AllocFailed<T>) -> Self {
+    fn from(_rejected: AllocFailed<T>) -> Self {
         Error::from(AllocError)
     }
 }

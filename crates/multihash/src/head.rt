@@ -1,8 +1,8 @@
 //! The two varints at the front of an encoding, for callers that keep the digest where it is.
 ghost use Rattle.std.specs.Prelude.{ℕ, IfOk, IfErr};
-ghost use Rattle.multihash.specs.Varint.{VarintFault};
-ghost use Rattle.multihash.specs.Verdict.{faulty, HasVerdict, HasHead};
-ghost use Rattle.multihash.specs.Refusal.{IsFaulty};
+ghost use Rattle.multihash.specs.Varint.{VarintError};
+ghost use Rattle.multihash.specs.Verdict.{malformed, HasVerdict, HasHead};
+ghost use Rattle.multihash.specs.Refusal.{IsVarintError};
 
 use crate::Error;
 use crate::varint::word;
@@ -13,9 +13,9 @@ pub struct Head {
     /// The code, which names the hash function: less than 2^63.
     pub code: u64,
     /// The digest's length in bytes as encoded; it may exceed 255.
-    pub size: u64,
+    pub digest_len: u64,
     /// The number of bytes of both varints: the index at which the digest begins.
-    pub len: usize,
+    pub digest_offset: usize,
 }
 
 impl Head {
@@ -28,9 +28,9 @@ impl Head {
     /// varints is malformed. `from_bytes` and `read` return the same error for every capacity.
     #[inline(always)]
     pub fn read_front(bytes: &[u8]) -> Result<Self, Error>
-        ensures ok { IfOk result (λ h. HasHead h.code h.size h.len bytes.now) }
-        ensures err { IfErr result (λ e. (fault : VarintFault) × IsFaulty fault e
-            × ((S : ℕ) → HasVerdict S bytes.now (faulty fault))) }
+        ensures ok { IfOk result (λ h. HasHead h.code h.digest_len h.digest_offset bytes.now) }
+        ensures err { IfErr result (λ e. (fault : VarintError) × IsVarintError fault e
+            × ((S : ℕ) → HasVerdict S bytes.now (malformed fault))) }
     {
         let Some((code, code_len)) = word::read_front(bytes) else {
             return Err(word::front_fault(bytes));
@@ -41,8 +41,8 @@ impl Head {
         };
         Ok(Head {
             code,
-            size,
-            len: code_len + size_len,
+            digest_len: size,
+            digest_offset: code_len + size_len,
         })
     }
 }

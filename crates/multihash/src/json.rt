@@ -4,11 +4,11 @@ ghost use Rattle.std.specs.List.{list_all};
 ghost use Rattle.serde_json.specs.View.{view};
 ghost use Rattle.multihash.specs.Encoding.{IsEncoding};
 ghost use Rattle.multihash.specs.Json.{IsByteArray, IsJsonList};
-ghost use Rattle.multihash.specs.Members.{byte_of_data, member_bytes, is_byte, AppendsMembers, AppendsMembers-none, AppendsMembers-joined};
+ghost use Rattle.multihash.specs.Members.{byte_of_data, member_bytes, is_byte, AppendsMembers, AppendsMembers-none, AppendsMembers-concatenated};
 ghost use Rattle.multihash.specs.Verdict.{Verdict, HasWholeVerdict};
-ghost use Rattle.multihash.specs.Fault.{IsOutOfMemory};
-ghost use Rattle.multihash.specs.Refusal.{IsNotBytes, IsMemory};
-ghost use Rattle.multihash.specs.Answer.{pair_of, Answers};
+ghost use Rattle.multihash.specs.Fault.{IsOutOfMemoryFault};
+ghost use Rattle.multihash.specs.Refusal.{IsNotBytes, IsOutOfMemory};
+ghost use Rattle.multihash.specs.Outcome.{pair_of, IsResultOf};
 
 use crate::no_std_io::{self, Read, Write};
 use crate::{Error, Multihash};
@@ -25,7 +25,7 @@ impl<const S: usize> Multihash<S> {
     pub fn to_value(&self, alloc: Global) -> Result<Value, Error>
         ensures ok { IfOk result (λ value. IsJsonList (pair_of self.now) (view value)) }
         ensures array { IfOk result (λ value. (bytes : List ℕ) × IsByteArray (view value) bytes) }
-        ensures memory { IfErr result IsMemory }
+        ensures memory { IfErr result IsOutOfMemory }
     {
         let members = Vec::with_capacity(alloc, self.encoded_len())?;
         let mut writer = MemberWriter { members };
@@ -43,7 +43,7 @@ impl<const S: usize> Multihash<S> {
     /// numbers from 0 to 255 (`1.0` is not); otherwise the errors of [`Multihash::from_bytes`].
     pub fn from_value(value: &Value) -> Result<Self, Error>
         ensures verdict { (bytes : List ℕ) → IsByteArray (view value.now) bytes →
-            (v : Verdict) × HasWholeVerdict S bytes v × Answers result v }
+            (v : Verdict) × HasWholeVerdict S bytes v × IsResultOf result v }
         ensures ok { IfOk result (λ m. (bytes : List ℕ) × IsByteArray (view value.now) bytes
             × IsEncoding (pair_of m) bytes) }
         ensures not_bytes { ((bytes : List ℕ) → ¬ (IsByteArray (view value.now) bytes)) →
@@ -80,8 +80,8 @@ impl Write for MemberWriter {
 
     ghost appends_nothing = { λ w. AppendsMembers-none w.members.items };
 
-    ghost appends_joined = { λ a b c x y first second.
-        AppendsMembers-joined a.members.items b.members.items c.members.items x y first second };
+    ghost appends_concatenated = { λ a b c x y first second.
+        AppendsMembers-concatenated a.members.items b.members.items c.members.items x y first second };
 
     fn write(&mut self, buf: &[u8]) -> Result<usize, no_std_io::Error> {
         push_members(&mut self.members, buf)?;
@@ -98,7 +98,7 @@ fn push_members(members: &mut Vec<Value>, bytes: &[u8]) -> Result<(), no_std_io:
     ensures ok { OnOk result (AppendsMembers members.old.items bytes.now members.new.items) }
     ensures empty { length bytes.now ≡ 0 → IsOk result }
     ensures err { OnErr result (members.new.items ≡ members.old.items) }
-    ensures memory { IfErr result IsOutOfMemory }
+    ensures memory { IfErr result IsOutOfMemoryFault }
 {
     if members.reserve(bytes.len()).is_err() {
         return Err(no_std_io::Error::out_of_memory());
@@ -177,14 +177,14 @@ impl Read for ByteMembers<'_> {
 }
 
 // Copies the members' bytes into the buffer, which has as many bytes.
-fn put_bytes(members: &[Value], places: &mut [u8])
+fn put_bytes(members: &[Value], buffer: &mut [u8])
     requires bytes { list_all is_byte members.now ≡ true }
-    requires count { length members.now ≡ length places.old }
-    ensures { places.new ≡ member_bytes members.now }
+    requires count { length members.now ≡ length buffer.old }
+    ensures { buffer.new ≡ member_bytes members.now }
 {
     for (at, member) in members.iter().enumerate() {
         if let Some(byte) = byte_of(member) {
-            places[at] = byte;
+            buffer[at] = byte;
         }
     }
 }

@@ -1,13 +1,13 @@
 //! Laws of the definitions: each function does nothing, and its contract is a law.
 ghost use Rattle.std.specs.Prelude.{◌≡◌, ℕ, ◌<◌, ◌≤◌, ◌↔◌, List, ◌++◌, length};
 ghost use Rattle.serde_json.specs.Data.{Data};
-ghost use Rattle.multihash.specs.Bytes.{IsBytes, IsBeginning, ExactlyOne};
+ghost use Rattle.multihash.specs.Bytes.{IsBytes, IsPrefix, ExactlyOne};
 ghost use Rattle.multihash.specs.Pair.{Pair, FitsBuffer};
 ghost use Rattle.multihash.specs.Varint.{varint_limit};
 ghost use Rattle.multihash.specs.Encoding.{IsEncoding};
-ghost use Rattle.multihash.specs.Verdict.{Verdict, accepted, HasVerdict, HasWholeVerdict, IsEarlyEnd};
+ghost use Rattle.multihash.specs.Verdict.{Verdict, accepted, HasVerdict, HasWholeVerdict, IsIncomplete};
 ghost use Rattle.multihash.specs.Settling.{Settles, IsShortestSettling};
-ghost use Rattle.multihash.specs.Streams.{AreJoined};
+ghost use Rattle.multihash.specs.Streams.{AreConcatenated};
 ghost use Rattle.multihash.specs.Scale.{IsScale, HasScaleVerdict};
 ghost use Rattle.multihash.specs.Json.{IsJsonList, IsByteArray};
 
@@ -28,11 +28,11 @@ pub fn one_verdict()
 #[tactic(auto, using(crate::proofs::Readings::SettlingLemmas::settling))]
 pub fn settles()
     ensures exactly { (S : ℕ) (input : List ℕ) (v : Verdict) → HasVerdict S input v →
-        (Settles S input ↔ ¬ (IsEarlyEnd v)) }
+        (Settles S input ↔ ¬ (IsIncomplete v)) }
     ensures one_shortest { (S : ℕ) (input : List ℕ) (v : Verdict) → HasVerdict S input v →
-        ¬ (IsEarlyEnd v) → ExactlyOne (IsShortestSettling S input) }
+        ¬ (IsIncomplete v) → ExactlyOne (IsShortestSettling S input) }
     ensures none { (S : ℕ) (input : List ℕ) (v : Verdict) → HasVerdict S input v →
-        IsEarlyEnd v → (front : List ℕ) → IsBeginning front input → ¬ (Settles S front) }
+        IsIncomplete v → (front : List ℕ) → IsPrefix front input → ¬ (Settles S front) }
 {}
 
 /// A pair has one encoding, and an encoding one pair, whatever follows it.
@@ -43,7 +43,7 @@ pub fn prefix_free()
     ensures unique { (p q : Pair) (a b r s : List ℕ) → IsEncoding p a → IsEncoding q b →
         a ++ r ≡ b ++ s → (p ≡ q) × (a ≡ b) × (r ≡ s) }
     ensures begins_no_other { (p q : Pair) (a b : List ℕ) →
-        IsEncoding p a → IsEncoding q b → IsBeginning a b → p ≡ q }
+        IsEncoding p a → IsEncoding q b → IsPrefix a b → p ≡ q }
     ensures own_verdict { (S : ℕ) (p : Pair) (encoding rest : List ℕ) → IsEncoding p encoding →
         FitsBuffer S p → HasVerdict S (encoding ++ rest) (accepted p) }
     ensures no_other_verdict { (S : ℕ) (p : Pair) (encoding rest : List ℕ) (v : Verdict) →
@@ -54,10 +54,11 @@ pub fn prefix_free()
 /// A stream of encodings can be split in one way only.
 pub fn split_unique()
     ensures as_many { (ps qs : List Pair) (a b r s : List ℕ) → length ps ≡ length qs →
-        AreJoined ps a → AreJoined qs b → a ++ r ≡ b ++ s → (ps ≡ qs) × (r ≡ s) }
+        AreConcatenated ps a → AreConcatenated qs b → a ++ r ≡ b ++ s → (ps ≡ qs) × (r ≡ s) }
     ensures whole { (ps qs : List Pair) (bytes : List ℕ) →
-        AreJoined ps bytes → AreJoined qs bytes → ps ≡ qs }
-    ensures one_stream { (ps : List Pair) (a b : List ℕ) → AreJoined ps a → AreJoined ps b → a ≡ b }
+        AreConcatenated ps bytes → AreConcatenated qs bytes → ps ≡ qs }
+    ensures one_stream { (ps : List Pair) (a b : List ℕ) →
+        AreConcatenated ps a → AreConcatenated ps b → a ≡ b }
 {}
 
 /// A pair has one SCALE form, and a form one pair, whatever follows it; each input has one verdict.
@@ -72,7 +73,7 @@ pub fn scale_unique()
     ensures verdict_unique { (S : ℕ) (input : List ℕ) (v w : Verdict) →
         HasScaleVerdict S input v → HasScaleVerdict S input w → v ≡ w }
     ensures begins_no_other { (p q : Pair) (a b : List ℕ) →
-        IsScale p a → IsScale q b → IsBeginning a b → p ≡ q }
+        IsScale p a → IsScale q b → IsPrefix a b → p ≡ q }
     ensures own_verdict { (S : ℕ) (p : Pair) (bytes rest : List ℕ) → IsScale p bytes →
         FitsBuffer S p → HasScaleVerdict S (bytes ++ rest) (accepted p) }
 {}

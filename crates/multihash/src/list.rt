@@ -1,12 +1,12 @@
 //! Many multihashes in one stream, one after another.
 ghost use Rattle.std.specs.Prelude.{◌≡◌, ◌⊎◌, ℕ, List, length, map, vec_capacity, All, IfOk, IfErr, OnOk, OnErr, IsOk};
 ghost use Rattle.multihash.specs.Pair.{FitsBuffer};
-ghost use Rattle.multihash.specs.Streams.{AreJoined, TakesPairs, StopsAfterPairs};
-ghost use Rattle.multihash.specs.Writing.{AppendsPart, CountsWriter};
-ghost use Rattle.multihash.specs.Refusal.{IsMemory, IsIo, IsReaderFault};
-ghost use Rattle.multihash.specs.Reading.{CountsReader};
-ghost use Rattle.multihash.specs.Taking.{IsReadRefusal};
-ghost use Rattle.multihash.specs.Answer.{pair_of};
+ghost use Rattle.multihash.specs.Streams.{AreConcatenated, ConsumesPairs, StopsAfterPairs};
+ghost use Rattle.multihash.specs.Writing.{AppendsPrefix, CountsWriterFailures};
+ghost use Rattle.multihash.specs.Refusal.{IsOutOfMemory, IsIo, IsReaderError};
+ghost use Rattle.multihash.specs.Reading.{CountsReaderFailures};
+ghost use Rattle.multihash.specs.Consuming.{ReadMayFailWith};
+ghost use Rattle.multihash.specs.Outcome.{pair_of};
 
 use crate::no_std_io::{Read, Write};
 use crate::{Error, Multihash};
@@ -18,15 +18,15 @@ use std::alloc::Global;
 ///
 /// Those of [`Multihash::write`]. A strict prefix of the concatenated encodings has been appended then.
 pub fn write_list<const S: usize, W: Write>(items: &[Multihash<S>], w: &mut W) -> Result<(), Error>
-    ensures ok { OnOk result ((bytes : List ℕ) × AreJoined (map pair_of items.now) bytes
+    ensures ok { OnOk result ((bytes : List ℕ) × AreConcatenated (map pair_of items.now) bytes
         × W.appended w.old bytes w.new) }
     ensures empty { length items.now ≡ 0 → IsOk result }
     ensures fit { All (FitsBuffer S) (map pair_of items.now) }
-    ensures err { OnErr result ((bytes : List ℕ) × AreJoined (map pair_of items.now) bytes
-        × AppendsPart W.appended w.old bytes w.new) }
-    ensures any { OnErr result ((bytes : List ℕ) → AreJoined (map pair_of items.now) bytes →
-        AppendsPart W.appended w.old bytes w.new) }
-    ensures faults { CountsWriter IsIo W.allocates
+    ensures err { OnErr result ((bytes : List ℕ) × AreConcatenated (map pair_of items.now) bytes
+        × AppendsPrefix W.appended w.old bytes w.new) }
+    ensures any { OnErr result ((bytes : List ℕ) → AreConcatenated (map pair_of items.now) bytes →
+        AppendsPrefix W.appended w.old bytes w.new) }
+    ensures faults { CountsWriterFailures IsIo W.allocates
         (W.failures w.old) (W.failures w.new) (W.full w.new) result }
 {
     for item in items {
@@ -49,14 +49,14 @@ pub fn read_list<const S: usize, R: Read>(
     r: &mut R,
     count: usize,
 ) -> Result<Vec<Multihash<S>>, Error>
-    ensures faults { CountsReader IsReaderFault (λ e. IsReadRefusal S e ⊎ IsMemory e)
+    ensures faults { CountsReaderFailures IsReaderError (λ e. ReadMayFailWith S e ⊎ IsOutOfMemory e)
         (R.failures r.old) (R.failures r.new) result }
     ensures none { count ≡ 0 → IsOk result }
-    ensures places { IfOk result (λ list. vec_capacity list ≡ count) }
+    ensures capacity { IfOk result (λ list. vec_capacity list ≡ count) }
     ensures ok { IfOk result (λ list. (length list.items ≡ count)
-        × TakesPairs S (map pair_of list.items) (R.rest r.old) (R.rest r.new)) }
+        × ConsumesPairs S (map pair_of list.items) (R.rest r.old) (R.rest r.new)) }
     ensures err { IfErr result (λ e.
-        (IsMemory e × (R.failures r.new ≡ R.failures r.old) × (R.rest r.new ≡ R.rest r.old))
+        (IsOutOfMemory e × (R.failures r.new ≡ R.failures r.old) × (R.rest r.new ≡ R.rest r.old))
         ⊎ StopsAfterPairs S count e (R.failures r.old) (R.failures r.new)
         (R.rest r.old) (R.rest r.new)) }
 {

@@ -4,7 +4,7 @@ ghost use Rattle.multihash.specs.Bytes.{IsBytes};
 ghost use Rattle.multihash.specs.Varint.{varint_limit};
 ghost use Rattle.multihash.specs.Pair.{IsPair, digest_limit, truncated, FitsBuffer};
 ghost use Rattle.multihash.specs.Refusal.{IsInvalidSize, IsInvalidCode};
-ghost use Rattle.multihash.specs.Answer.{pair_of};
+ghost use Rattle.multihash.specs.Outcome.{pair_of};
 
 use crate::{Error, varint};
 use std::fmt;
@@ -33,7 +33,7 @@ pub struct Multihash<const S: usize> {
 }
 
 impl<const S: usize> Model for Multihash<S> {
-    ghost use Rattle.multihash.specs.Answer.{Fields};
+    ghost use Rattle.multihash.specs.Outcome.{Fields};
 
     ghost Value = { Fields S };
 
@@ -285,43 +285,43 @@ pub(crate) fn whole<const N: usize>(bytes: &[u8]) -> Option<&[u8; N]>
 
 // Copies the digest to the front of the buffer. 16 to 64 bytes are copied as words, without a call.
 #[inline(always)]
-fn copy_to_front(digest: &[u8], places: &mut [u8])
-    requires { length digest.now ≤ length places.old }
-    ensures { places.new ≡ digest.now ++ drop (length digest.now) places.old }
+fn copy_to_front(digest: &[u8], buffer: &mut [u8])
+    requires { length digest.now ≤ length buffer.old }
+    ensures { buffer.new ≡ digest.now ++ drop (length digest.now) buffer.old }
 {
     let len = digest.len();
     if len > 64 || len < 16 {
         if len > 0 {
-            places[..len].copy_from_slice(digest);
+            buffer[..len].copy_from_slice(digest);
         }
     } else if len > 32 {
-        copy_ends::<32>(digest, places);
+        copy_ends::<32>(digest, buffer);
     } else {
-        copy_ends::<16>(digest, places);
+        copy_ends::<16>(digest, buffer);
     }
 }
 
 // Copies the first `N` bytes and the last `N`, which may overlap and together are all.
 #[inline(always)]
-fn copy_ends<const N: usize>(digest: &[u8], places: &mut [u8])
+fn copy_ends<const N: usize>(digest: &[u8], buffer: &mut [u8])
     requires least { N ≤ length digest.now }
     requires most { length digest.now ≤ N + N }
-    requires room { length digest.now ≤ length places.old }
-    ensures { places.new ≡ digest.now ++ drop (length digest.now) places.old }
+    requires room { length digest.now ≤ length buffer.old }
+    ensures { buffer.new ≡ digest.now ++ drop (length digest.now) buffer.old }
 {
-    copy_word::<N>(digest, 0, places);
-    copy_word::<N>(digest, digest.len() - N, places);
+    copy_word::<N>(digest, 0, buffer);
+    copy_word::<N>(digest, digest.len() - N, buffer);
 }
 
 // Copies the `N` bytes from that index on to the same index.
 #[inline(always)]
-fn copy_word<const N: usize>(digest: &[u8], at: usize, places: &mut [u8])
+fn copy_word<const N: usize>(digest: &[u8], at: usize, buffer: &mut [u8])
     requires inside { at + N ≤ length digest.now }
-    requires room { length digest.now ≤ length places.old }
-    ensures word { places.new ≡ take at places.old
-        ++ (take N (drop at digest.now) ++ drop (at + N) places.old) }
-    ensures len { length places.new ≡ length places.old }
+    requires room { length digest.now ≤ length buffer.old }
+    ensures word { buffer.new ≡ take at buffer.old
+        ++ (take N (drop at digest.now) ++ drop (at + N) buffer.old) }
+    ensures len { length buffer.new ≡ length buffer.old }
 {
     let end = at + N;
-    places[at..end].copy_from_slice(&digest[at..end]);
+    buffer[at..end].copy_from_slice(&digest[at..end]);
 }

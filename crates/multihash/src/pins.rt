@@ -1,8 +1,8 @@
 //! Fixes what implementations expose to contracts. These functions do nothing: their clauses pin the
 //! ghost members, which no law ties to anything but the implementation itself.
 ghost use Rattle.std.specs.Prelude.{◌≡◌, ◌↔◌, ℕ, List, [], Some, true, false};
-ghost use Rattle.multihash.specs.Answer.{pair_of};
-ghost use Rattle.multihash.specs.Writing.{GivesUpFor, AppendsAtEnd};
+ghost use Rattle.multihash.specs.Outcome.{pair_of};
+ghost use Rattle.multihash.specs.Writing.{AdvancesPast, AppendsAtEnd};
 ghost use Rattle.multihash.specs.Filling.{Fills, IsFilled};
 
 use crate::Multihash;
@@ -26,7 +26,7 @@ fn slice_reader(s: &[u8])
     ensures failures { ⟦<&'static [u8] as Read>⟧.failures s.entry ≡ 0 }
 {}
 
-fn lent_reader<R: Read>(r: &mut R)
+fn borrowed_reader<R: Read>(r: &mut R)
     ensures rest { ⟦<&'static mut R as Read>⟧.rest r.entry ≡ R.rest r.old }
     ensures failures { ⟦<&'static mut R as Read>⟧.failures r.entry ≡ R.failures r.old }
 {}
@@ -35,7 +35,7 @@ fn mut_slice(s: &mut [u8], t: &mut [u8])
     ensures allocates { ⟦<&'static mut [u8] as Write>⟧.allocates ≡ false }
     ensures appended { (bytes : List ℕ) →
         ⟦<&'static mut [u8] as Write>⟧.appended s.entry bytes t.entry
-        ↔ GivesUpFor s.old bytes t.old }
+        ↔ AdvancesPast s.old bytes t.old }
     ensures full { ⟦<&'static mut [u8] as Write>⟧.full s.entry ↔ (s.old ≡ []) }
     ensures failures { ⟦<&'static mut [u8] as Write>⟧.failures s.entry ≡ 0 }
 {}
@@ -57,7 +57,7 @@ fn vector_writer(v: &Vec<u8>, w: &Vec<u8>)
     ensures failures { ⟦<Vec<u8> as Write>⟧.failures v.now ≡ 0 }
 {}
 
-fn lent_writer<W: Write>(v: &mut W, w: &mut W)
+fn borrowed_writer<W: Write>(v: &mut W, w: &mut W)
     ensures allocates { ⟦<&'static mut W as Write>⟧.allocates ≡ W.allocates }
     ensures appended { (bytes : List ℕ) →
         ⟦<&'static mut W as Write>⟧.appended v.entry bytes w.entry ↔ W.appended v.old bytes w.old }

@@ -1,12 +1,12 @@
 //! The SCALE form: the code as eight bytes, lowest first; the digest's length as one byte; the digest.
 ghost use Rattle.std.specs.Prelude.{◌≡◌, ◌+◌, ◌<◌, ℕ, List, length, IfSome, IfOk, IfErr, OnErr};
-ghost use Rattle.multihash.specs.Scale.{IsScale, HasScaleVerdict, IsScaleRefusal, TakesAtScaleRefusal};
+ghost use Rattle.multihash.specs.Scale.{IsScale, HasScaleVerdict, ScaleMayFailWith, ConsumesAtScaleError};
 ghost use Rattle.multihash.specs.Verdict.{Verdict};
 ghost use Rattle.multihash.specs.Fault.{IsUnexpectedEof, IsOwnFault};
-ghost use Rattle.multihash.specs.Reading.{Takes, HasFewerThan, TakesFewerThan, CountsReader};
-ghost use Rattle.multihash.specs.Writing.{AppendsPart, CountsWriter};
-ghost use Rattle.multihash.specs.Refusal.{IsIo, IsReaderFault};
-ghost use Rattle.multihash.specs.Answer.{pair_of, Answers};
+ghost use Rattle.multihash.specs.Reading.{Consumes, HasFewerThan, ConsumesFewerThan, CountsReaderFailures};
+ghost use Rattle.multihash.specs.Writing.{AppendsPrefix, CountsWriterFailures};
+ghost use Rattle.multihash.specs.Refusal.{IsIo, IsReaderError};
+ghost use Rattle.multihash.specs.Outcome.{pair_of, IsResultOf};
 
 use crate::no_std_io::{self, Read, Write};
 use crate::{Error, Multihash, varint};
@@ -21,10 +21,10 @@ impl<const S: usize> Multihash<S> {
     pub fn scale_encode<W: Write>(&self, w: &mut W) -> Result<usize, Error>
         ensures ok { IfOk result (λ n. (bytes : List ℕ) × IsScale (pair_of self.now) bytes
             × (n ≡ length bytes) × W.appended w.old bytes w.new) }
-        ensures answer { IfOk result (λ n. n ≡ 9 + length (pair_of self.now).digest) }
+        ensures count { IfOk result (λ n. n ≡ 9 + length (pair_of self.now).digest) }
         ensures err { OnErr result ((bytes : List ℕ) × IsScale (pair_of self.now) bytes
-            × AppendsPart W.appended w.old bytes w.new) }
-        ensures faults { CountsWriter IsIo W.allocates
+            × AppendsPrefix W.appended w.old bytes w.new) }
+        ensures faults { CountsWriterFailures IsIo W.allocates
             (W.failures w.old) (W.failures w.new) (W.full w.new) result }
     {
         let code = self.code().to_le_bytes();
@@ -50,13 +50,13 @@ impl<const S: usize> Multihash<S> {
     ///
     /// In the last two cases what was consumed is by itself a truncated input.
     pub fn scale_decode<R: Read>(r: &mut R) -> Result<Self, Error>
-        ensures faults { CountsReader IsReaderFault (IsScaleRefusal S)
+        ensures faults { CountsReaderFailures IsReaderError (ScaleMayFailWith S)
             (R.failures r.old) (R.failures r.new) result }
         ensures verdict { IfSome (R.rest r.old) (λ rest. R.failures r.new ≡ R.failures r.old →
-            (v : Verdict) × HasScaleVerdict S rest v × Answers result v) }
+            (v : Verdict) × HasScaleVerdict S rest v × IsResultOf result v) }
         ensures ok { IfOk result (λ m. (bytes : List ℕ) × IsScale (pair_of m) bytes
-            × Takes (R.rest r.old) bytes (R.rest r.new)) }
-        ensures err { IfErr result (λ e. TakesAtScaleRefusal S e (R.rest r.old) (R.rest r.new)) }
+            × Consumes (R.rest r.old) bytes (R.rest r.new)) }
+        ensures err { IfErr result (λ e. ConsumesAtScaleError S e (R.rest r.old) (R.rest r.new)) }
     {
         let code_bytes = read_array::<8, R>(r)?;
         let code = u64::from_le_bytes(code_bytes);
@@ -76,11 +76,11 @@ impl<const S: usize> Multihash<S> {
 
 // The next `N` bytes.
 fn read_array<const N: usize, R: Read>(r: &mut R) -> Result<[u8; N], no_std_io::Error>
-    ensures faults { CountsReader IsOwnFault IsUnexpectedEof
+    ensures faults { CountsReaderFailures IsOwnFault IsUnexpectedEof
         (R.failures r.old) (R.failures r.new) result }
-    ensures takes { IfOk result (λ bytes. Takes (R.rest r.old) bytes (R.rest r.new)) }
+    ensures consumes { IfOk result (λ bytes. Consumes (R.rest r.old) bytes (R.rest r.new)) }
     ensures eof { IfErr result (λ e. IsUnexpectedEof e → HasFewerThan N (R.rest r.old)) }
-    ensures err { OnErr result (TakesFewerThan N (R.rest r.old) (R.rest r.new)) }
+    ensures err { OnErr result (ConsumesFewerThan N (R.rest r.old) (R.rest r.new)) }
 {
     let mut bytes = [0; N];
     r.read_exact(&mut bytes)?;

@@ -5,13 +5,13 @@
 //! and the length of a multihash, the version and the codec of a content identifier, the parts of a
 //! multiaddr.
 ghost use Rattle.std.specs.Prelude.{◌≡◌, ◌<◌, ◌≤◌, ◌+◌, ◌^◌, ◌⊎◌, ℕ, List, [], ◌∷◌, length, take, Some, IfSome, MatchOption, IfOk, IfErr, OnErr};
-ghost use Rattle.multihash.specs.Varint.{IsVarint, IsMarked, varint_limit, max_marked};
+ghost use Rattle.multihash.specs.Varint.{IsVarint, IsContinuation, varint_limit, max_continuation};
 ghost use Rattle.std.specs.Io.KnownBytes.{IsAtEnd, prepend_known};
-ghost use Rattle.multihash.specs.Reading.{Takes, CountsReader, NoOtherError};
-ghost use Rattle.multihash.specs.Writing.{AppendsPart, CountsWriter, IsFault, IsWriterFaultOrFull};
+ghost use Rattle.multihash.specs.Reading.{Consumes, CountsReaderFailures, NoOtherError};
+ghost use Rattle.multihash.specs.Writing.{AppendsPrefix, CountsWriterFailures, IsFault, IsWriterFaultOrFull};
 ghost use Rattle.multihash.specs.Fault.{IsOwnFault};
-ghost use Rattle.multihash.specs.Refusal.{IsIo, IsInvalidCode, IsReaderFault};
-ghost use Rattle.multihash.specs.Taking.{IsVarintRefusal, IsFrontRefusal, TakesVarint, TakesAtVarintRefusal};
+ghost use Rattle.multihash.specs.Refusal.{IsIo, IsInvalidCode, IsReaderError};
+ghost use Rattle.multihash.specs.Consuming.{IsAnyVarintError, IsFrontError, ConsumesVarint, ConsumesAtVarintError};
 
 pub(crate) mod word;
 
@@ -19,34 +19,34 @@ use crate::Error;
 use crate::no_std_io::{self, Read, Write};
 
 // The most continuation bytes of a varint.
-const MAX_MARKED: usize = 8;
+const MAX_CONTINUATION: usize = 8;
 
 // After that many continuation bytes the last byte is below this one.
 const LAST_BYTE_LIMIT: u8 = 128;
 
 /// The largest number that has a varint: 2^63 - 1.
-pub const MAX: u64 = (((LAST_BYTE_LIMIT as u128) << (7 * MAX_MARKED)) - 1) as u64;
+pub const MAX: u64 = (((LAST_BYTE_LIMIT as u128) << (7 * MAX_CONTINUATION)) - 1) as u64;
 
 // The most bytes of a varint.
-const MAX_LEN: usize = MAX_MARKED + 1;
+const MAX_LEN: usize = MAX_CONTINUATION + 1;
 
 // The size of a buffer for a varint: at least its length, and as many bytes as are zeroed at once.
 const ROOM: usize = 16;
 
 // Writes the varint of a number to the front of the buffer, and returns its bytes, one to nine.
-fn encode(n: u64, places: &mut [u8; ROOM]) -> &[u8]
+fn encode(n: u64, buffer: &mut [u8; ROOM]) -> &[u8]
     requires { n < varint_limit }
     ensures { IsVarint n result.now }
 {
     let mut len = 0;
     let mut rest = n;
     while rest >= 128 {
-        places[len] = (rest & 0x7f) as u8 | 0x80;
+        buffer[len] = (rest & 0x7f) as u8 | 0x80;
         len += 1;
         rest >>= 7;
     }
-    places[len] = rest as u8;
-    &places[..len + 1]
+    buffer[len] = rest as u8;
+    &buffer[..len + 1]
 }
 
 /// Returns the length of a number's varint in bytes: one to nine.
@@ -79,7 +79,7 @@ pub fn write<W: Write>(n: u64, w: &mut W) -> Result<usize, Error>
         × W.appended w.old bytes w.new × (W.failures w.new ≡ W.failures w.old)) }
     ensures err { IfErr result (λ e. (IsInvalidCode n e × (varint_limit ≤ n) × (w.new ≡ w.old))
         ⊎ (IsIo (IsWriterFaultOrFull W.allocates (W.failures w.old) (W.failures w.new) (W.full w.new)) e
-        × ((bytes : List ℕ) × IsVarint n bytes × AppendsPart W.appended w.old bytes w.new))) }
+        × ((bytes : List ℕ) × IsVarint n bytes × AppendsPrefix W.appended w.old bytes w.new))) }
 {
     if n > MAX {
         return Err(Error::from_code(n));
@@ -96,7 +96,7 @@ pub fn write<W: Write>(n: u64, w: &mut W) -> Result<usize, Error>
 pub fn read_front(bytes: &[u8]) -> Result<(u64, usize), Error>
     ensures ok { IfOk result (λ found. IsVarint found.0 (take found.1 bytes.now)
         × (found.1 ≤ length bytes.now)) }
-    ensures err { IfErr result (IsFrontRefusal bytes.now) }
+    ensures err { IfErr result (IsFrontError bytes.now) }
 {
     match word::read_front(bytes) {
         Some(found) => Ok(found),
@@ -109,7 +109,7 @@ pub fn read_front(bytes: &[u8]) -> Result<(u64, usize), Error>
 pub(crate) fn len_in_range(n: u64) -> usize
     requires { n < varint_limit }
     ensures varint { (bytes : List ℕ) × IsVarint n bytes × (result ≡ length bytes) }
-    ensures short { result ≤ max_marked + 1 }
+    ensures short { result ≤ max_continuation + 1 }
 {
     if n < 128 {
         return 1;
@@ -130,10 +130,10 @@ pub(crate) fn write_in_range<W: Write>(n: u64, w: &mut W) -> Result<usize, no_st
     requires { n < varint_limit }
     ensures ok { IfOk result (λ len. (bytes : List ℕ) × IsVarint n bytes × (len ≡ length bytes)
         × W.appended w.old bytes w.new) }
-    ensures short { IfOk result (λ len. len ≤ max_marked + 1) }
+    ensures short { IfOk result (λ len. len ≤ max_continuation + 1) }
     ensures err { OnErr result ((bytes : List ℕ) × IsVarint n bytes
-        × AppendsPart W.appended w.old bytes w.new) }
-    ensures faults { CountsWriter IsFault W.allocates
+        × AppendsPrefix W.appended w.old bytes w.new) }
+    ensures faults { CountsWriterFailures IsFault W.allocates
         (W.failures w.old) (W.failures w.new) (W.full w.new) result }
 {
     if n < 128 {
@@ -149,8 +149,8 @@ pub(crate) fn write_in_range<W: Write>(n: u64, w: &mut W) -> Result<usize, no_st
         w.write_all(&three_bytes(n))?;
         return Ok(3);
     }
-    let mut places = [0; ROOM];
-    let varint = encode(n, &mut places);
+    let mut buffer = [0; ROOM];
+    let varint = encode(n, &mut buffer);
     w.write_all(varint)?;
     Ok(varint.len())
 }
@@ -195,12 +195,12 @@ fn three_bytes(n: u64) -> [u8; 3]
 // In line, so that the usual varint, of one byte, is no call.
 #[inline(always)]
 pub fn read<R: Read>(r: &mut R) -> Result<u64, Error>
-    ensures faults { CountsReader IsReaderFault IsVarintRefusal
+    ensures faults { CountsReaderFailures IsReaderError IsAnyVarintError
         (R.failures r.old) (R.failures r.new) result }
-    ensures ok { IfOk result (λ n. TakesVarint n (R.rest r.old) (R.rest r.new)) }
-    ensures err { IfErr result (λ e. TakesAtVarintRefusal e (R.rest r.old) (R.rest r.new)) }
+    ensures ok { IfOk result (λ n. ConsumesVarint n (R.rest r.old) (R.rest r.new)) }
+    ensures err { IfErr result (λ e. ConsumesAtVarintError e (R.rest r.old) (R.rest r.new)) }
     ensures front { IfSome (R.rest r.old) (λ input. R.failures r.new ≡ R.failures r.old →
-        IfErr result (IsFrontRefusal input)) }
+        IfErr result (IsFrontError input)) }
 {
     let Some(first) = read_byte(r)? else {
         return Err(Error::insufficient());
@@ -208,28 +208,28 @@ pub fn read<R: Read>(r: &mut R) -> Result<u64, Error>
     if first < 128 {
         return Ok(u64::from(first));
     }
-    read_behind(r, first)
+    read_after(r, first)
 }
 
 // As `read`, of a varint whose first byte was read and is a continuation byte.
 #[inline(never)]
-fn read_behind<R: Read>(r: &mut R, first: u8) -> Result<u64, Error>
-    requires { IsMarked first }
-    ensures faults { CountsReader IsReaderFault IsVarintRefusal
+fn read_after<R: Read>(r: &mut R, first: u8) -> Result<u64, Error>
+    requires { IsContinuation first }
+    ensures faults { CountsReaderFailures IsReaderError IsAnyVarintError
         (R.failures r.old) (R.failures r.new) result }
     ensures ok { IfOk result (λ n.
-        TakesVarint n (prepend_known (first ∷ []) (R.rest r.old)) (R.rest r.new)) }
+        ConsumesVarint n (prepend_known (first ∷ []) (R.rest r.old)) (R.rest r.new)) }
     ensures err { IfErr result (λ e.
-        TakesAtVarintRefusal e (prepend_known (first ∷ []) (R.rest r.old)) (R.rest r.new)) }
+        ConsumesAtVarintError e (prepend_known (first ∷ []) (R.rest r.old)) (R.rest r.new)) }
     ensures front { IfSome (prepend_known (first ∷ []) (R.rest r.old)) (λ input.
-        R.failures r.new ≡ R.failures r.old → IfErr result (IsFrontRefusal input)) }
+        R.failures r.new ≡ R.failures r.old → IfErr result (IsFrontError input)) }
 {
     let mut value = u64::from(first & 0x7f);
-    for i in 1..=MAX_MARKED {
+    for i in 1..=MAX_CONTINUATION {
         let Some(byte) = read_byte(r)? else {
             return Err(Error::insufficient());
         };
-        if i == MAX_MARKED && byte >= LAST_BYTE_LIMIT {
+        if i == MAX_CONTINUATION && byte >= LAST_BYTE_LIMIT {
             return Err(Error::overflow());
         }
         value |= u64::from(byte & 0x7f) << (7 * i);
@@ -246,11 +246,11 @@ fn read_behind<R: Read>(r: &mut R, first: u8) -> Result<u64, Error>
 // The next byte, or none at the end of the input.
 #[inline(always)]
 fn read_byte<R: Read>(r: &mut R) -> Result<Option<u8>, no_std_io::Error>
-    ensures faults { CountsReader IsOwnFault NoOtherError
+    ensures faults { CountsReaderFailures IsOwnFault NoOtherError
         (R.failures r.old) (R.failures r.new) result }
     ensures byte { IfOk result (λ next. MatchOption next
         (IsAtEnd (R.rest r.old) × (R.rest r.new ≡ R.rest r.old))
-        (λ byte. Takes (R.rest r.old) (byte ∷ []) (R.rest r.new))) }
+        (λ byte. Consumes (R.rest r.old) (byte ∷ []) (R.rest r.new))) }
     ensures err { OnErr result (R.rest r.new ≡ R.rest r.old) }
 {
     let mut byte = [0u8; 1];

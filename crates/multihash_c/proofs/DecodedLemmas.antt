@@ -7,16 +7,16 @@ use Rattle.multihash.specs.Bytes.{IsBytes}
 use Rattle.multihash.specs.Pair.{Pair}
 use Rattle.multihash.specs.Varint.{insufficient, overflow, not_minimal}
 use Rattle.multihash.specs.Encoding.{IsEncoding}
-use Rattle.multihash.specs.Scale.{IsScale, HasScaleVerdict, TakesAtScaleRefusal}
-use Rattle.multihash.specs.Verdict.{Verdict, accepted, invalid_size, invalid_code, faulty, unexpected_eof}
-use Rattle.multihash.specs.Refusal.{Refusal, IsInvalidSize, IsInvalidCode, IsFaulty}
-use Rattle.multihash.specs.Answer.{IsRefusal}
+use Rattle.multihash.specs.Scale.{IsScale, HasScaleVerdict, ConsumesAtScaleError}
+use Rattle.multihash.specs.Verdict.{Verdict, accepted, invalid_size, invalid_code, malformed, unexpected_eof}
+use Rattle.multihash.specs.Refusal.{Refusal, IsInvalidSize, IsInvalidCode, IsVarintError}
+use Rattle.multihash.specs.Outcome.{IsErrorOf}
 use Rattle.multihash_c.specs.declared.decode.Decoded.{Decoded}
-use Rattle.multihash_c.specs.Decoded.{TellsPair, TellsRefusal, Tells, TakesForm}
+use Rattle.multihash_c.specs.Decoded.{ReportsPair, ReportsRefusal, Reports, ConsumesForm}
 
 -- what is left after the front
-pub left_over : (input front left : List ℕ) → input ≡ front ++ left → left ≡ drop (length input - length left) input
-left_over input front left cut =
+pub has_trailing : (input front left : List ℕ) → input ≡ front ++ left → left ≡ drop (length input - length left) input
+has_trailing input front left cut =
     let long : length input - length left ≡ length front = omega (arith, ap length cut, length-append front left) in
     rw (long, cut) (sym (drop-append_seam front left))
 
@@ -27,16 +27,16 @@ taken_front input front left cut =
     rw (long, cut) (take-append_seam front left)
 
 -- behind a front of so many bytes stands the digest
-behind_front : (input front digest rest : List ℕ) (offset n : ℕ) → input ≡ front ++ (digest ++ rest) → offset ≡ length front
+after_front : (input front digest rest : List ℕ) (offset n : ℕ) → input ≡ front ++ (digest ++ rest) → offset ≡ length front
     → n ≡ length digest → digest ≡ take n (drop offset input)
-behind_front input front digest rest offset n cut at long =
+after_front input front digest rest offset n cut at long =
     rw (at, long, cut, drop-append_seam front (digest ++ rest)) (sym (take-append_seam digest rest))
 
 -- the digest ends the bytes that were taken
 pub stands_at_end : (input front digest rest : List ℕ) (offset n taken : ℕ) → input ≡ (front ++ digest) ++ rest
     → n ≡ length digest → taken ≡ length (front ++ digest) → offset + n ≡ taken → digest ≡ take n (drop offset input)
 stands_at_end input front digest rest offset n taken cut long all ends =
-    behind_front input front digest rest offset n (cut ∙ append_assoc front digest rest) (omega (arith, long, all, ends, length-append front digest)) long
+    after_front input front digest rest offset n (cut ∙ append_assoc front digest rest) (omega (arith, long, all, ends, length-append front digest)) long
 
 -- the digest ends the encoding
 pub encoding_stands : (p : Pair) (input bytes rest : List ℕ) (offset n taken : ℕ) → IsEncoding p bytes → input ≡ bytes ++ rest
@@ -56,8 +56,8 @@ form_stands p input bytes rest offset n taken e cut long all ends =
     long (all ∙ ap length spelled) ends
 
 -- a digest that ends what was taken is as long as it is told
-pub told_length : (input : List ℕ) (d : Decoded) (p : Pair) → TellsPair input d p → d.digest_length ≡ length p.digest
-told_length input d p h =
+pub reported_length : (input : List ℕ) (d : Decoded) (p : Pair) → ReportsPair input d p → d.digest_length ≡ length p.digest
+reported_length input d p h =
     omega (
       arith,
       h.is_end,
@@ -72,61 +72,61 @@ made_of : (d : Decoded) (size code offset n : ℕ) → d.size ≡ size → d.cod
 made_of d size code offset n a b c e = rw (sym a, sym b, sym c, sym e) refl
 
 -- a refusal is what it tells, and what was taken
-pub refused_so : (d : Decoded) (status size code : ℕ) → TellsRefusal d status size code
+pub rejected_so : (d : Decoded) (status size code : ℕ) → ReportsRefusal d status size code
     → d ≡ record { status = d.status; size = size; code = code; digest_offset = 0; digest_length = 0; taken = d.taken }
-refused_so d status size code h = made_of d size code 0 0 h.is_size h.is_code h.no_offset h.no_length
+rejected_so d status size code h = made_of d size code 0 0 h.is_size h.is_code h.no_offset h.no_length
 
 module _ (input : List ℕ) (d : Decoded) (e : Refusal) where
-  pub size_told : (size : ℕ) → IsInvalidSize size e → TellsRefusal d 4 size 0 → (v : Verdict) → IsRefusal e v → Tells input d v
-  size_told size is told (accepted p) r = absurd r
-  size_told size is told (invalid_size n) r = let same : size ≡ n = cc in subst (λ k. TellsRefusal d 4 k 0) same told
-  size_told size is told (invalid_code n) r = absurd (cc)
-  size_told size is told (faulty fault) r = absurd (cc)
-  size_told size is told unexpected_eof r = let other = r.1 in absurd (cc)
+  pub size_reported : (size : ℕ) → IsInvalidSize size e → ReportsRefusal d 4 size 0 → (v : Verdict) → IsErrorOf e v → Reports input d v
+  size_reported size is told (accepted p) r = absurd r
+  size_reported size is told (invalid_size n) r = let same : size ≡ n = cc in subst (λ k. ReportsRefusal d 4 k 0) same told
+  size_reported size is told (invalid_code n) r = absurd (cc)
+  size_reported size is told (malformed fault) r = absurd (cc)
+  size_reported size is told unexpected_eof r = let other = r.1 in absurd (cc)
 
-  pub code_told : (code : ℕ) → IsInvalidCode code e → TellsRefusal d 5 0 code → (v : Verdict) → IsRefusal e v → Tells input d v
-  code_told code is told (accepted p) r = absurd r
-  code_told code is told (invalid_size n) r = absurd (cc)
-  code_told code is told (invalid_code n) r = let same : code ≡ n = cc in subst (TellsRefusal d 5 0) same told
-  code_told code is told (faulty fault) r = absurd (cc)
-  code_told code is told unexpected_eof r = let other = r.1 in absurd (cc)
+  pub code_reported : (code : ℕ) → IsInvalidCode code e → ReportsRefusal d 5 0 code → (v : Verdict) → IsErrorOf e v → Reports input d v
+  code_reported code is told (accepted p) r = absurd r
+  code_reported code is told (invalid_size n) r = absurd (cc)
+  code_reported code is told (invalid_code n) r = let same : code ≡ n = cc in subst (ReportsRefusal d 5 0) same told
+  code_reported code is told (malformed fault) r = absurd (cc)
+  code_reported code is told unexpected_eof r = let other = r.1 in absurd (cc)
 
-  pub end_told : ((n : ℕ) → ¬ (IsInvalidSize n e)) → ((n : ℕ) → ¬ (IsInvalidCode n e)) → ¬ (IsFaulty insufficient e) → ¬ (IsFaulty overflow e)
-      → ¬ (IsFaulty not_minimal e) → TellsRefusal d 6 0 0 → (v : Verdict) → IsRefusal e v → Tells input d v
-  end_told no_size no_code a b c told (accepted p) r = absurd r
-  end_told no_size no_code a b c told (invalid_size n) r = absurd (no_size n r)
-  end_told no_size no_code a b c told (invalid_code n) r = absurd (no_code n r)
-  end_told no_size no_code a b c told (faulty insufficient) r = absurd (a r)
-  end_told no_size no_code a b c told (faulty overflow) r = absurd (b r)
-  end_told no_size no_code a b c told (faulty not_minimal) r = absurd (c r)
-  end_told no_size no_code a b c told unexpected_eof r = told
+  pub end_reported : ((n : ℕ) → ¬ (IsInvalidSize n e)) → ((n : ℕ) → ¬ (IsInvalidCode n e)) → ¬ (IsVarintError insufficient e) → ¬ (IsVarintError overflow e)
+      → ¬ (IsVarintError not_minimal e) → ReportsRefusal d 6 0 0 → (v : Verdict) → IsErrorOf e v → Reports input d v
+  end_reported no_size no_code a b c told (accepted p) r = absurd r
+  end_reported no_size no_code a b c told (invalid_size n) r = absurd (no_size n r)
+  end_reported no_size no_code a b c told (invalid_code n) r = absurd (no_code n r)
+  end_reported no_size no_code a b c told (malformed insufficient) r = absurd (a r)
+  end_reported no_size no_code a b c told (malformed overflow) r = absurd (b r)
+  end_reported no_size no_code a b c told (malformed not_minimal) r = absurd (c r)
+  end_reported no_size no_code a b c told unexpected_eof r = told
 
 -- a size that is one byte is not above 255
 pub byte_fits : (input : List ℕ) (size : ℕ) → IsBytes input → ¬ (HasScaleVerdict 255 input (invalid_size size))
 byte_fits input size bytes (rest, has, over) =
     let left : drop (length has.code_bytes) input ≡ size ∷ rest =
     ap (λ (z : List ℕ). drop (length has.code_bytes) z) has.cut ∙ drop-append_seam has.code_bytes (size ∷ rest) in
-    let behind : IsBytes (size ∷ rest) =
+    let following : IsBytes (size ∷ rest) =
     subst IsBytes left (All-drop (λ byte. byte < 256) (length has.code_bytes) input bytes) in
-    omega (arith, over, All-head (λ byte. byte < 256) size rest behind)
+    omega (arith, over, All-head (λ byte. byte < 256) size rest following)
 
 -- a code that is refused is the verdict, and eight bytes were taken
-pub code_taken : (input : List ℕ) (new : Option (List ℕ)) (e : Refusal) (code taken : ℕ) (t : TakesAtScaleRefusal 255 e (Some input) new)
-    → take taken input ≡ t.taken → IsInvalidCode code e → (v : Verdict) → HasScaleVerdict 255 input v → IsRefusal e v
-    → (v ≡ invalid_code code) × TakesForm v input taken
+pub code_taken : (input : List ℕ) (new : Option (List ℕ)) (e : Refusal) (code taken : ℕ) (t : ConsumesAtScaleError 255 e (Some input) new)
+    → take taken input ≡ t.consumed → IsInvalidCode code e → (v : Verdict) → HasScaleVerdict 255 input v → IsErrorOf e v
+    → (v ≡ invalid_code code) × ConsumesForm v input taken
 code_taken input new e code taken t front is (accepted p) has r = absurd r
 code_taken input new e code taken t front is (invalid_size size) has r = absurd (cc)
 code_taken input new e code taken t front is (invalid_code n) has r =
     let same : code ≡ n = cc in
     (ap (λ k. invalid_code k) (sym same), subst (λ (z : List ℕ). HasScaleVerdict 255 z (invalid_code n) × (length z ≡ 8)) (sym front) (t.code n r))
-code_taken input new e code taken t front is (faulty fault) has r = absurd has
+code_taken input new e code taken t front is (malformed fault) has r = absurd has
 code_taken input new e code taken t front is unexpected_eof has r = let other = r.1 in absurd (cc)
 
 -- where no code is refused the input ends early
 pub ends_early : (input : List ℕ) (e : Refusal) → IsBytes input → ((n : ℕ) → ¬ (IsInvalidCode n e)) → (v : Verdict)
-    → HasScaleVerdict 255 input v → IsRefusal e v → v ≡ unexpected_eof
+    → HasScaleVerdict 255 input v → IsErrorOf e v → v ≡ unexpected_eof
 ends_early input e bytes no_code (accepted p) has r = absurd r
 ends_early input e bytes no_code (invalid_size size) has r = absurd (byte_fits input size bytes has)
 ends_early input e bytes no_code (invalid_code n) has r = absurd (no_code n r)
-ends_early input e bytes no_code (faulty fault) has r = absurd has
+ends_early input e bytes no_code (malformed fault) has r = absurd has
 ends_early input e bytes no_code unexpected_eof has r = refl

@@ -1,11 +1,11 @@
 -- What decoding known inputs returns to a C caller, and what no decoding returns.
 use Rattle.std.proofs.Common.{◌≡◌, ℕ, List, [], ◌∷◌, length, get_or, refl, ap, arith, ◌++◌, length-append}
-use Rattle.multihash.specs.Varint.{VarintFault, insufficient, overflow, not_minimal}
-use Rattle.multihash.specs.Verdict.{accepted, invalid_size, invalid_code, faulty, unexpected_eof}
+use Rattle.multihash.specs.Varint.{VarintError, insufficient, overflow, not_minimal}
+use Rattle.multihash.specs.Verdict.{accepted, invalid_size, invalid_code, malformed, unexpected_eof}
 use Rattle.multihash.proofs.Examples.PairVectors.{pair}
 use Rattle.multihash_c.specs.declared.decode.Decoded.{Decoded}
-use Rattle.multihash_c.specs.Decoded.{TellsPair, TellsRefusal, Tells, TakesForm}
-use Rattle.multihash_c.proofs.DecodedLemmas.{told_length, byte_fits}
+use Rattle.multihash_c.specs.Decoded.{ReportsPair, ReportsRefusal, Reports, ConsumesForm}
+use Rattle.multihash_c.proofs.DecodedLemmas.{reported_length, byte_fits}
 use Rattle.multihash.specs.Bytes.{place_value}
 use Rattle.multihash.specs.Scale.{IsScaleCode, IsScale, HasScaleVerdict}
 use Rattle.multihash.proofs.Examples.BytesVectors.{all_below}
@@ -29,8 +29,8 @@ answer status size code offset length taken = record {
 abbrev pub input : List ℕ
 input = 0 ∷ 1 ∷ 9 ∷ 8 ∷ []
 
-pub tells_pair : TellsPair input (answer 0 0 0 2 1 3) (pair 0 (9 ∷ []))
-tells_pair = record {
+pub reports_pair : ReportsPair input (answer 0 0 0 2 1 3) (pair 0 (9 ∷ []))
+reports_pair = record {
   is_ok = refl;
   no_size = refl;
   is_code = refl;
@@ -39,140 +39,140 @@ tells_pair = record {
   is_digest = refl;
 }
 
-pair_is_no_refusal : ¬ (TellsPair input (answer 4 0 0 2 1 3) (pair 0 (9 ∷ [])))
+pair_is_no_refusal : ¬ (ReportsPair input (answer 4 0 0 2 1 3) (pair 0 (9 ∷ [])))
 pair_is_no_refusal h = omega (arith, h.is_ok)
 
-pair_has_no_size : ¬ (TellsPair input (answer 0 7 0 2 1 3) (pair 0 (9 ∷ [])))
+pair_has_no_size : ¬ (ReportsPair input (answer 0 7 0 2 1 3) (pair 0 (9 ∷ [])))
 pair_has_no_size h = omega (arith, h.no_size)
 
-pair_has_its_code : ¬ (TellsPair input (answer 0 0 1 2 1 3) (pair 0 (9 ∷ [])))
+pair_has_its_code : ¬ (ReportsPair input (answer 0 0 1 2 1 3) (pair 0 (9 ∷ [])))
 pair_has_its_code h = omega (arith, h.is_code)
 
 -- the length is the digest's, also where the input ends with the digest
-pair_has_its_length : ¬ (TellsPair (0 ∷ 1 ∷ 9 ∷ []) (answer 0 0 0 2 2 4) (pair 0 (9 ∷ [])))
-pair_has_its_length h = omega (arith, told_length (0 ∷ 1 ∷ 9 ∷ []) (answer 0 0 0 2 2 4) (pair 0 (9 ∷ [])) h)
+pair_has_its_length : ¬ (ReportsPair (0 ∷ 1 ∷ 9 ∷ []) (answer 0 0 0 2 2 4) (pair 0 (9 ∷ [])))
+pair_has_its_length h = omega (arith, reported_length (0 ∷ 1 ∷ 9 ∷ []) (answer 0 0 0 2 2 4) (pair 0 (9 ∷ [])) h)
 
 -- the digest is the last that was taken
-pair_ends_what_was_taken : ¬ (TellsPair input (answer 0 0 0 2 1 4) (pair 0 (9 ∷ [])))
+pair_ends_what_was_taken : ¬ (ReportsPair input (answer 0 0 0 2 1 4) (pair 0 (9 ∷ [])))
 pair_ends_what_was_taken h = omega (arith, h.is_end)
 
 -- no empty digest stands behind the input
-pair_is_inside : ¬ (TellsPair (0 ∷ 0 ∷ []) (answer 0 0 0 3 0 3) (pair 0 []))
+pair_is_inside : ¬ (ReportsPair (0 ∷ 0 ∷ []) (answer 0 0 0 3 0 3) (pair 0 []))
 pair_is_inside h = omega (arith, h.inside)
 
-pair_has_its_digest : ¬ (TellsPair input (answer 0 0 0 1 1 2) (pair 0 (9 ∷ [])))
+pair_has_its_digest : ¬ (ReportsPair input (answer 0 0 0 1 1 2) (pair 0 (9 ∷ [])))
 pair_has_its_digest h = omega (arith, ap (λ (z : List ℕ). get_or z 0 0) h.is_digest)
 
 -- a digest that is there is not told as none, nor as more
-pair_has_no_empty_digest : ¬ (TellsPair input (answer 0 0 0 3 0 3) (pair 0 (9 ∷ [])))
+pair_has_no_empty_digest : ¬ (ReportsPair input (answer 0 0 0 3 0 3) (pair 0 (9 ∷ [])))
 pair_has_no_empty_digest h = omega (arith, ap (λ (z : List ℕ). length z) h.is_digest)
 
-pair_has_no_longer_digest : ¬ (TellsPair input (answer 0 0 0 2 2 4) (pair 0 (9 ∷ [])))
+pair_has_no_longer_digest : ¬ (ReportsPair input (answer 0 0 0 2 2 4) (pair 0 (9 ∷ [])))
 pair_has_no_longer_digest h = omega (arith, ap (λ (z : List ℕ). length z) h.is_digest)
 
 -- no less was taken than where the digest ends
-pair_was_taken_whole : ¬ (TellsPair input (answer 0 0 0 2 1 2) (pair 0 (9 ∷ [])))
+pair_was_taken_whole : ¬ (ReportsPair input (answer 0 0 0 2 1 2) (pair 0 (9 ∷ [])))
 pair_was_taken_whole h = omega (arith, h.is_end)
 
-pair_has_no_smaller_code : ¬ (TellsPair input (answer 0 0 0 2 1 3) (pair 1 (9 ∷ [])))
+pair_has_no_smaller_code : ¬ (ReportsPair input (answer 0 0 0 2 1 3) (pair 1 (9 ∷ [])))
 pair_has_no_smaller_code h = omega (arith, h.is_code)
 
 -- ---- a refusal
 
-tells_size : TellsRefusal (answer 4 5 0 0 0 2) 4 5 0
-tells_size = record { is_status = refl; is_size = refl; is_code = refl; no_offset = refl; no_length = refl }
+reports_size : ReportsRefusal (answer 4 5 0 0 0 2) 4 5 0
+reports_size = record { is_status = refl; is_size = refl; is_code = refl; no_offset = refl; no_length = refl }
 
-tells_code : TellsRefusal (answer 5 0 9223372036854775808 0 0 8) 5 0 9223372036854775808
-tells_code = record { is_status = refl; is_size = refl; is_code = refl; no_offset = refl; no_length = refl }
+reports_code : ReportsRefusal (answer 5 0 9223372036854775808 0 0 8) 5 0 9223372036854775808
+reports_code = record { is_status = refl; is_size = refl; is_code = refl; no_offset = refl; no_length = refl }
 
-refusal_is_not_ok : ¬ (TellsRefusal (answer 0 5 0 0 0 2) 4 5 0)
+refusal_is_not_ok : ¬ (ReportsRefusal (answer 0 5 0 0 0 2) 4 5 0)
 refusal_is_not_ok h = omega (arith, h.is_status)
 
-refusal_has_its_size : ¬ (TellsRefusal (answer 4 6 0 0 0 2) 4 5 0)
+refusal_has_its_size : ¬ (ReportsRefusal (answer 4 6 0 0 0 2) 4 5 0)
 refusal_has_its_size h = omega (arith, h.is_size)
 
-refusal_has_its_code : ¬ (TellsRefusal (answer 4 5 1 0 0 2) 4 5 0)
+refusal_has_its_code : ¬ (ReportsRefusal (answer 4 5 1 0 0 2) 4 5 0)
 refusal_has_its_code h = omega (arith, h.is_code)
 
-refusal_has_no_offset : ¬ (TellsRefusal (answer 4 5 0 2 0 2) 4 5 0)
+refusal_has_no_offset : ¬ (ReportsRefusal (answer 4 5 0 2 0 2) 4 5 0)
 refusal_has_no_offset h = omega (arith, h.no_offset)
 
-refusal_has_no_digest : ¬ (TellsRefusal (answer 4 5 0 0 1 2) 4 5 0)
+refusal_has_no_digest : ¬ (ReportsRefusal (answer 4 5 0 0 1 2) 4 5 0)
 refusal_has_no_digest h = omega (arith, h.no_length)
 
 -- ---- each verdict has its own status
 
-refused : (status size code : ℕ) → TellsRefusal (answer status size code 0 0 0) status size code
+refused : (status size code : ℕ) → ReportsRefusal (answer status size code 0 0 0) status size code
 refused status size code =
     record { is_status = refl; is_size = refl; is_code = refl; no_offset = refl; no_length = refl }
 
-tells_accepted : Tells input (answer 0 0 0 2 1 3) (accepted (pair 0 (9 ∷ [])))
-tells_accepted = tells_pair
+reports_accepted : Reports input (answer 0 0 0 2 1 3) (accepted (pair 0 (9 ∷ [])))
+reports_accepted = reports_pair
 
-tells_insufficient : Tells [] (answer 1 0 0 0 0 0) (faulty insufficient)
-tells_insufficient = refused 1 0 0
+reports_insufficient : Reports [] (answer 1 0 0 0 0 0) (malformed insufficient)
+reports_insufficient = refused 1 0 0
 
-tells_overflow : Tells [] (answer 2 0 0 0 0 0) (faulty overflow)
-tells_overflow = refused 2 0 0
+reports_overflow : Reports [] (answer 2 0 0 0 0 0) (malformed overflow)
+reports_overflow = refused 2 0 0
 
-tells_not_minimal : Tells [] (answer 3 0 0 0 0 0) (faulty not_minimal)
-tells_not_minimal = refused 3 0 0
+reports_not_minimal : Reports [] (answer 3 0 0 0 0 0) (malformed not_minimal)
+reports_not_minimal = refused 3 0 0
 
-tells_invalid_size : Tells [] (answer 4 5 0 0 0 0) (invalid_size 5)
-tells_invalid_size = refused 4 5 0
+reports_invalid_size : Reports [] (answer 4 5 0 0 0 0) (invalid_size 5)
+reports_invalid_size = refused 4 5 0
 
-tells_invalid_code : Tells [] (answer 5 0 5 0 0 0) (invalid_code 5)
-tells_invalid_code = refused 5 0 5
+reports_invalid_code : Reports [] (answer 5 0 5 0 0 0) (invalid_code 5)
+reports_invalid_code = refused 5 0 5
 
-tells_unexpected_eof : Tells [] (answer 6 0 0 0 0 0) unexpected_eof
-tells_unexpected_eof = refused 6 0 0
+reports_unexpected_eof : Reports [] (answer 6 0 0 0 0 0) unexpected_eof
+reports_unexpected_eof = refused 6 0 0
 
 -- none is told with another's
-accepted_is_0 : (status : ℕ) → Tells input (answer status 0 0 2 1 3) (accepted (pair 0 (9 ∷ []))) → status ≡ 0
+accepted_is_0 : (status : ℕ) → Reports input (answer status 0 0 2 1 3) (accepted (pair 0 (9 ∷ []))) → status ≡ 0
 accepted_is_0 status h = h.is_ok
 
-insufficient_is_1 : (status : ℕ) → Tells [] (answer status 0 0 0 0 0) (faulty insufficient) → status ≡ 1
+insufficient_is_1 : (status : ℕ) → Reports [] (answer status 0 0 0 0 0) (malformed insufficient) → status ≡ 1
 insufficient_is_1 status h = h.is_status
 
-overflow_is_2 : (status : ℕ) → Tells [] (answer status 0 0 0 0 0) (faulty overflow) → status ≡ 2
+overflow_is_2 : (status : ℕ) → Reports [] (answer status 0 0 0 0 0) (malformed overflow) → status ≡ 2
 overflow_is_2 status h = h.is_status
 
-not_minimal_is_3 : (status : ℕ) → Tells [] (answer status 0 0 0 0 0) (faulty not_minimal) → status ≡ 3
+not_minimal_is_3 : (status : ℕ) → Reports [] (answer status 0 0 0 0 0) (malformed not_minimal) → status ≡ 3
 not_minimal_is_3 status h = h.is_status
 
-invalid_size_is_4 : (status : ℕ) → Tells [] (answer status 5 0 0 0 0) (invalid_size 5) → status ≡ 4
+invalid_size_is_4 : (status : ℕ) → Reports [] (answer status 5 0 0 0 0) (invalid_size 5) → status ≡ 4
 invalid_size_is_4 status h = h.is_status
 
-invalid_code_is_5 : (status : ℕ) → Tells [] (answer status 0 5 0 0 0) (invalid_code 5) → status ≡ 5
+invalid_code_is_5 : (status : ℕ) → Reports [] (answer status 0 5 0 0 0) (invalid_code 5) → status ≡ 5
 invalid_code_is_5 status h = h.is_status
 
-unexpected_eof_is_6 : (status : ℕ) → Tells [] (answer status 0 0 0 0 0) unexpected_eof → status ≡ 6
+unexpected_eof_is_6 : (status : ℕ) → Reports [] (answer status 0 0 0 0 0) unexpected_eof → status ≡ 6
 unexpected_eof_is_6 status h = h.is_status
 
 -- the number that was refused is told in its own place
-size_is_no_code : ¬ (Tells [] (answer 4 0 5 0 0 0) (invalid_size 5))
+size_is_no_code : ¬ (Reports [] (answer 4 0 5 0 0 0) (invalid_size 5))
 size_is_no_code h = omega (arith, h.is_size)
 
-size_tells_no_code : ¬ (Tells [] (answer 4 5 5 0 0 0) (invalid_size 5))
-size_tells_no_code h = omega (arith, h.is_code)
+size_reports_no_code : ¬ (Reports [] (answer 4 5 5 0 0 0) (invalid_size 5))
+size_reports_no_code h = omega (arith, h.is_code)
 
-code_is_no_size : ¬ (Tells [] (answer 5 5 0 0 0 0) (invalid_code 5))
+code_is_no_size : ¬ (Reports [] (answer 5 5 0 0 0 0) (invalid_code 5))
 code_is_no_size h = omega (arith, h.is_code)
 
-code_tells_no_size : ¬ (Tells [] (answer 5 5 5 0 0 0) (invalid_code 5))
-code_tells_no_size h = omega (arith, h.is_size)
+code_reports_no_size : ¬ (Reports [] (answer 5 5 5 0 0 0) (invalid_code 5))
+code_reports_no_size h = omega (arith, h.is_size)
 
-fault_tells_no_size : (f : VarintFault) (status : ℕ) → ¬ (Tells [] (answer status 1 0 0 0 0) (faulty f))
-fault_tells_no_size f status h = omega (arith, h.is_size)
+fault_reports_no_size : (f : VarintError) (status : ℕ) → ¬ (Reports [] (answer status 1 0 0 0 0) (malformed f))
+fault_reports_no_size f status h = omega (arith, h.is_size)
 
-fault_tells_no_code : (f : VarintFault) (status : ℕ) → ¬ (Tells [] (answer status 0 1 0 0 0) (faulty f))
-fault_tells_no_code f status h = omega (arith, h.is_code)
+fault_reports_no_code : (f : VarintError) (status : ℕ) → ¬ (Reports [] (answer status 0 1 0 0 0) (malformed f))
+fault_reports_no_code f status h = omega (arith, h.is_code)
 
-end_tells_no_size : ¬ (Tells [] (answer 6 1 0 0 0 0) unexpected_eof)
-end_tells_no_size h = omega (arith, h.is_size)
+end_reports_no_size : ¬ (Reports [] (answer 6 1 0 0 0 0) unexpected_eof)
+end_reports_no_size h = omega (arith, h.is_size)
 
-end_tells_no_code : ¬ (Tells [] (answer 6 0 1 0 0 0) unexpected_eof)
-end_tells_no_code h = omega (arith, h.is_code)
+end_reports_no_code : ¬ (Reports [] (answer 6 0 1 0 0 0) unexpected_eof)
+end_reports_no_code h = omega (arith, h.is_code)
 
 -- ---- what decoding the SCALE form consumed
 
@@ -190,20 +190,20 @@ empty_verdict = (zeros ++ 0 ∷ [], [], empty_form, omega arith, refl)
 -- ---- a pair
 
 -- what stands behind the form is not taken
-takes_form : TakesForm (accepted (pair 0 [])) (zeros ++ 0 ∷ 7 ∷ []) 9
+takes_form : ConsumesForm (accepted (pair 0 [])) (zeros ++ 0 ∷ 7 ∷ []) 9
 takes_form = empty_form
 
-takes_no_byte_behind_form : ¬ (TakesForm (accepted (pair 0 [])) (zeros ++ 0 ∷ 7 ∷ []) 10)
-takes_no_byte_behind_form h =
+takes_no_byte_after_form : ¬ (ConsumesForm (accepted (pair 0 [])) (zeros ++ 0 ∷ 7 ∷ []) 10)
+takes_no_byte_after_form h =
     omega (arith, ap (λ (z : List ℕ). length z) h.spelled, h.is_code.eight, length-append h.code (0 ∷ []))
 
-takes_no_part_of_form : ¬ (TakesForm (accepted (pair 0 [])) (zeros ++ 0 ∷ []) 8)
+takes_no_part_of_form : ¬ (ConsumesForm (accepted (pair 0 [])) (zeros ++ 0 ∷ []) 8)
 takes_no_part_of_form h =
     omega (arith, ap (λ (z : List ℕ). length z) h.spelled, h.is_code.eight, length-append h.code (0 ∷ []))
 
 -- ---- no size is refused
 
-takes_no_size : (size taken : ℕ) (bytes : List ℕ) → ¬ (TakesForm (invalid_size size) bytes taken)
+takes_no_size : (size taken : ℕ) (bytes : List ℕ) → ¬ (ConsumesForm (invalid_size size) bytes taken)
 takes_no_size size taken bytes h = h
 
 -- a size that is a byte is not too large, and a larger number is no byte
@@ -216,16 +216,16 @@ larger_number_is_too_large =
 
 -- ---- a code that is too large
 
-takes_eight : TakesForm (invalid_code 18446744073709551615) (all_255 ++ 0 ∷ []) 8
+takes_eight : ConsumesForm (invalid_code 18446744073709551615) (all_255 ++ 0 ∷ []) 8
 takes_eight = (scale_code_above [], refl)
 
-takes_no_size_behind_code : ¬ (TakesForm (invalid_code 18446744073709551615) (all_255 ++ 0 ∷ []) 9)
-takes_no_size_behind_code h = omega (arith, h.1)
+takes_no_size_after_code : ¬ (ConsumesForm (invalid_code 18446744073709551615) (all_255 ++ 0 ∷ []) 9)
+takes_no_size_after_code h = omega (arith, h.1)
 
-takes_no_code_in_range : ¬ (TakesForm (invalid_code 0) zeros 8)
+takes_no_code_in_range : ¬ (ConsumesForm (invalid_code 0) zeros 8)
 takes_no_code_in_range ((bytes, rest, is, above, cut), eight) = omega (arith, above)
 
-takes_no_other_code : ¬ (TakesForm (invalid_code 9223372036854775808) all_255 8)
+takes_no_other_code : ¬ (ConsumesForm (invalid_code 9223372036854775808) all_255 8)
 takes_no_other_code h =
     omega (
       arith,
@@ -236,30 +236,30 @@ takes_no_other_code h =
 
 -- ---- no varint is read
 
-takes_no_varint : (f : VarintFault) (taken : ℕ) (bytes : List ℕ) → ¬ (TakesForm (faulty f) bytes taken)
+takes_no_varint : (f : VarintError) (taken : ℕ) (bytes : List ℕ) → ¬ (ConsumesForm (malformed f) bytes taken)
 takes_no_varint f taken bytes h = h
 
 -- ---- an early end
 
 -- nothing of a code that is cut
-takes_nothing : TakesForm unexpected_eof (0 ∷ 0 ∷ 0 ∷ 0 ∷ 0 ∷ 0 ∷ 0 ∷ []) 0
+takes_nothing : ConsumesForm unexpected_eof (0 ∷ 0 ∷ 0 ∷ 0 ∷ 0 ∷ 0 ∷ 0 ∷ []) 0
 takes_nothing = record { no_code = λ cut. refl; code = λ whole. absurd (omega (arith, whole)); size = λ more. absurd (omega (arith, more)) }
 
 -- the code alone
-takes_code_alone : TakesForm unexpected_eof zeros 8
+takes_code_alone : ConsumesForm unexpected_eof zeros 8
 takes_code_alone =
     record { no_code = λ cut. absurd (omega (arith, cut)); code = λ whole. refl; size = λ more. absurd (omega (arith, more)) }
 
 -- the code and the size, and nothing of a digest that is cut
-takes_cut_digest : TakesForm unexpected_eof (zeros ++ 2 ∷ 7 ∷ []) 9
+takes_cut_digest : ConsumesForm unexpected_eof (zeros ++ 2 ∷ 7 ∷ []) 9
 takes_cut_digest =
     record { no_code = λ cut. absurd (omega (arith, cut)); code = λ whole. absurd (omega (arith, whole)); size = λ more. refl }
 
-takes_no_part_of_cut_code : (taken : ℕ) → TakesForm unexpected_eof (0 ∷ 0 ∷ 0 ∷ 0 ∷ 0 ∷ 0 ∷ 0 ∷ []) taken → taken ≡ 0
+takes_no_part_of_cut_code : (taken : ℕ) → ConsumesForm unexpected_eof (0 ∷ 0 ∷ 0 ∷ 0 ∷ 0 ∷ 0 ∷ 0 ∷ []) taken → taken ≡ 0
 takes_no_part_of_cut_code taken h = h.no_code (omega arith)
 
-takes_whole_code : (taken : ℕ) → TakesForm unexpected_eof zeros taken → taken ≡ 8
+takes_whole_code : (taken : ℕ) → ConsumesForm unexpected_eof zeros taken → taken ≡ 8
 takes_whole_code taken h = h.code refl
 
-takes_whole_size : (taken : ℕ) → TakesForm unexpected_eof (zeros ++ 2 ∷ 7 ∷ []) taken → taken ≡ 9
+takes_whole_size : (taken : ℕ) → ConsumesForm unexpected_eof (zeros ++ 2 ∷ 7 ∷ []) taken → taken ≡ 9
 takes_whole_size taken h = h.size (omega arith)

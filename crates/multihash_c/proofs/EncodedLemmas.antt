@@ -7,7 +7,7 @@ use Rattle.multihash_c.specs.Encoded.{IsPut, WritesForm}
 use Rattle.multihash_c.specs.declared.encode.Encoded.{Encoded}
 use Rattle.multihash.specs.Encoding.{IsEncoding}
 use Rattle.multihash.specs.Filling.{Fills, IsFilled}
-use Rattle.multihash.specs.Writing.{AppendsPart, IsWriterFaultOrFull}
+use Rattle.multihash.specs.Writing.{AppendsPrefix, IsWriterFaultOrFull}
 use Rattle.multihash.specs.Refusal.{Refusal, IsIo, IsInvalidCode}
 use Rattle.multihash.specs.declared.no_std_io.slice_writer.SliceWriter.{SliceWriter}
 use Rattle.multihash.proofs.Writings.EncodingLemmas.{encoding_of_parts, length-parts, encoding_same}
@@ -25,12 +25,12 @@ module _ (IsForm : Pair → List ℕ → Type 0) (p : Pair) (short : length p.di
 
   pub writes_all : (bytes : List ℕ) → IsForm p bytes → new ≡ bytes ++ drop (length bytes) old → e.length ≤ length old
       → e.status ≡ status_ok → WritesForm IsForm p e old new
-  writes_all bytes is_form stands there ok =
+  writes_all bytes is_form appends there ok =
       let long = told bytes is_form in
       writes bytes is_form (record {
         is_length = long;
         no_size = no_size;
-        fits = λ fit. (ok, stands);
+        fits = λ fit. (ok, appends);
         no_room = λ less. absurd (omega (arith, long, there, less));
       })
 
@@ -54,8 +54,8 @@ of_ok P r t same known = subst (λ x. IfOk x P) same known
 -- a varint is written where a place is left for each of its bytes: the first fact is the clause `err` of `varint::write`
 pub varint_has_room : (n : ℕ) (old new : SliceWriter) (r : Result ℕ Refusal)
     → IfErr r (λ e. (IsInvalidCode n e × (varint_limit ≤ n) × (new ≡ old))
-    ⊎ (IsIo (IsWriterFaultOrFull false 0 0 (IsFilled new)) e × ((bytes : List ℕ) × IsVarint n bytes × AppendsPart Fills old bytes new)))
-    → n < varint_limit → ((bytes : List ℕ) → IsVarint n bytes → old.filled + length bytes ≤ length old.places.now) → IsOk r
+    ⊎ (IsIo (IsWriterFaultOrFull false 0 0 (IsFilled new)) e × ((bytes : List ℕ) × IsVarint n bytes × AppendsPrefix Fills old bytes new)))
+    → n < varint_limit → ((bytes : List ℕ) → IsVarint n bytes → old.filled + length bytes ≤ length old.buffer.now) → IsOk r
 varint_has_room n old new (Ok x) stopped below enough = refl
 varint_has_room n old new (Err e) (inl large) below enough = absurd (omega (arith, below, large.1))
 varint_has_room n old new (Err e) (inr (faults, part)) below enough = slice_writer_has_room {T = ℕ} old new (IsVarint n) (Err e) part faults enough
@@ -68,8 +68,8 @@ parts_long p bytes a b e is_code is_size =
     ∙ sym (length-parts a b p.digest)
 
 -- what a writer was given that had written nothing before stands at the front of its places
-pub stands_at_front : (places : List ℕ) (old new : SliceWriter) (bytes : List ℕ) → old.filled ≡ 0 → old.places.now ≡ places
-    → Fills old bytes new → new.places.now ≡ bytes ++ drop (length bytes) places
-stands_at_front places old new bytes none kept h =
+pub stands_at_front : (buffer : List ℕ) (old new : SliceWriter) (bytes : List ℕ) → old.filled ≡ 0 → old.buffer.now ≡ buffer
+    → Fills old bytes new → new.buffer.now ≡ bytes ++ drop (length bytes) buffer
+stands_at_front buffer old new bytes none kept h =
     let from_front : length bytes ≡ old.filled + length bytes = omega (arith, none) in
-    rw (← kept, from_front) (h.fills.puts ∙ ap (λ n. take n old.places.now ++ (bytes ++ drop (old.filled + length bytes) old.places.now)) none)
+    rw (← kept, from_front) (h.fills.puts ∙ ap (λ n. take n old.buffer.now ++ (bytes ++ drop (old.filled + length bytes) old.buffer.now)) none)

@@ -4,7 +4,7 @@ use Rattle.multihash.specs.Varint.{IsVarint}
 use Rattle.multihash.specs.Encoding.{IsEncoding}
 use Rattle.multihash.proofs.Examples.VarintVectors.{varint_0, varint_1, varint_128}
 use Rattle.multihash_c.specs.declared.encode.Encoded.{Encoded}
-use Rattle.multihash_c.specs.Encoded.{IsTooLong, IsLargeCode, IsPut, TellsLength, Puts}
+use Rattle.multihash_c.specs.Encoded.{IsTooLong, IsLargeCode, IsPut, ReportsLength, Puts}
 use Rattle.multihash.proofs.Writings.EncodingLemmas.{encoding_same}
 
 abbrev answer : ℕ → ℕ → ℕ → Encoded
@@ -81,8 +81,8 @@ names_no_size_without_room : ¬ (IsPut (1 ∷ 2 ∷ []) (answer 7 2 2) (7 ∷ []
 names_no_size_without_room h = omega (arith, h.no_size)
 
 -- bytes that fit are not refused, whether or not they are written
-refuses_none_that_fit : ¬ (IsPut (1 ∷ 2 ∷ []) (answer 7 0 2) (7 ∷ 8 ∷ []) (1 ∷ 2 ∷ []))
-refuses_none_that_fit h = omega (arith, (h.fits (omega arith)).0)
+rejects_none_that_fit : ¬ (IsPut (1 ∷ 2 ∷ []) (answer 7 0 2) (7 ∷ 8 ∷ []) (1 ∷ 2 ∷ []))
+rejects_none_that_fit h = omega (arith, (h.fits (omega arith)).0)
 
 leaves_none_that_fit : ¬ (IsPut (1 ∷ 2 ∷ []) (answer 7 0 2) (7 ∷ 8 ∷ []) (7 ∷ 8 ∷ []))
 leaves_none_that_fit h = omega (arith, (h.fits (omega arith)).0)
@@ -94,12 +94,12 @@ writes_all_of_it : ¬ (IsPut (1 ∷ 2 ∷ []) (answer 0 0 2) (7 ∷ 8 ∷ []) (1
 writes_all_of_it h = omega (arith, ap (λ (z : List ℕ). get_or z 1 0) (h.fits (omega arith)).1)
 
 -- at the front
-writes_not_behind : ¬ (IsPut (1 ∷ 2 ∷ []) (answer 0 0 2) (7 ∷ 8 ∷ 9 ∷ []) (7 ∷ 1 ∷ 2 ∷ []))
-writes_not_behind h = omega (arith, ap (λ (z : List ℕ). get_or z 0 0) (h.fits (omega arith)).1)
+writes_not_after : ¬ (IsPut (1 ∷ 2 ∷ []) (answer 0 0 2) (7 ∷ 8 ∷ 9 ∷ []) (7 ∷ 1 ∷ 2 ∷ []))
+writes_not_after h = omega (arith, ap (λ (z : List ℕ). get_or z 0 0) (h.fits (omega arith)).1)
 
 -- and nothing else
-keeps_the_places_behind : ¬ (IsPut (1 ∷ 2 ∷ []) (answer 0 0 2) (7 ∷ 8 ∷ 9 ∷ []) (1 ∷ 2 ∷ 0 ∷ []))
-keeps_the_places_behind h = omega (arith, ap (λ (z : List ℕ). get_or z 2 0) (h.fits (omega arith)).1)
+keeps_the_places_after : ¬ (IsPut (1 ∷ 2 ∷ []) (answer 0 0 2) (7 ∷ 8 ∷ 9 ∷ []) (1 ∷ 2 ∷ 0 ∷ []))
+keeps_the_places_after h = omega (arith, ap (λ (z : List ℕ). get_or z 2 0) (h.fits (omega arith)).1)
 
 keeps_every_place : ¬ (IsPut (1 ∷ 2 ∷ []) (answer 0 0 2) (7 ∷ 8 ∷ 9 ∷ []) (1 ∷ 2 ∷ []))
 keeps_every_place h = omega (arith, ap (λ (z : List ℕ). length z) (h.fits (omega arith)).1)
@@ -109,8 +109,8 @@ is_not_ok_without_room : ¬ (IsPut (1 ∷ 2 ∷ []) (answer 0 0 2) (7 ∷ []) (7
 is_not_ok_without_room h = omega (arith, (h.no_room (omega arith)).0)
 
 -- it is the room that is missing
-refuses_no_size_without_room : ¬ (IsPut (1 ∷ 2 ∷ []) (answer 4 0 2) (7 ∷ []) (7 ∷ []))
-refuses_no_size_without_room h = omega (arith, (h.no_room (omega arith)).0)
+rejects_no_size_without_room : ¬ (IsPut (1 ∷ 2 ∷ []) (answer 4 0 2) (7 ∷ []) (7 ∷ []))
+rejects_no_size_without_room h = omega (arith, (h.no_room (omega arith)).0)
 
 -- and nothing is written, not even what fits
 writes_none_without_room : ¬ (IsPut (1 ∷ 2 ∷ []) (answer 7 0 2) (7 ∷ []) (1 ∷ []))
@@ -137,15 +137,15 @@ puts_no_three_bytes : ¬ (Puts (λ bytes. length bytes ≡ 3) (answer 0 0 2) (7 
 puts_no_three_bytes (bytes, three, put) = omega (arith, three, put.is_length)
 
 -- which were put
-puts_what_it_tells : ¬ (Puts (λ bytes. bytes ≡ 1 ∷ 2 ∷ []) (answer 7 0 2) (7 ∷ []) (1 ∷ []))
-puts_what_it_tells (bytes, is, put) =
+puts_what_it_reports : ¬ (Puts (λ bytes. bytes ≡ 1 ∷ 2 ∷ []) (answer 7 0 2) (7 ∷ []) (1 ∷ []))
+puts_what_it_reports (bytes, is, put) =
     omega (arith, ap (λ (z : List ℕ). get_or z 0 0) (put.no_room (omega (arith, ap (λ (z : List ℕ). length z) is))).1)
 
 -- ---- a length from the numbers alone
 
 -- a byte of each varint, and the digest's
-tells_length : TellsLength 0 1 (answer 0 0 3)
-tells_length = record {
+reports_length : ReportsLength 0 1 (answer 0 0 3)
+reports_length = record {
   is_ok = refl;
   no_size = refl;
   is_length = λ digest one. (
@@ -161,23 +161,23 @@ tells_length = record {
   );
 }
 
-length_is_ok : ¬ (TellsLength 0 1 (answer 7 0 3))
+length_is_ok : ¬ (ReportsLength 0 1 (answer 7 0 3))
 length_is_ok h = omega (arith, h.is_ok)
 
-length_names_no_size : ¬ (TellsLength 0 1 (answer 0 1 3))
+length_names_no_size : ¬ (ReportsLength 0 1 (answer 0 1 3))
 length_names_no_size h = omega (arith, h.no_size)
 
 -- the length is that of the encoding
-length_told : (code size : ℕ) (e : Encoded) → TellsLength code size e → (digest bytes : List ℕ) → length digest ≡ size
+length_reported : (code size : ℕ) (e : Encoded) → ReportsLength code size e → (digest bytes : List ℕ) → length digest ≡ size
     → IsEncoding (record { code = code; digest = digest }) bytes → e.length ≡ length bytes
-length_told code size e h digest bytes long is =
+length_reported code size e h digest bytes long is =
     let (own, is_own, counted) = h.is_length digest long in
     counted ∙ ap (λ (z : List ℕ). length z) (encoding_same (record { code = code; digest = digest }) own bytes is_own is)
 
 -- a size of 128 needs a byte more
-length_of_128 : (n : ℕ) → TellsLength 0 128 (answer 0 0 n) → n ≡ 131
+length_of_128 : (n : ℕ) → ReportsLength 0 128 (answer 0 0 n) → n ≡ 131
 length_of_128 n h =
-    length_told 0 128 (answer 0 0 n) h (replicate 128 0) (0 ∷ 128 ∷ 1 ∷ replicate 128 0) refl (record {
+    length_reported 0 128 (answer 0 0 n) h (replicate 128 0) (0 ∷ 128 ∷ 1 ∷ replicate 128 0) refl (record {
       code = 0 ∷ [];
       size = 128 ∷ 1 ∷ [];
       is_code = varint_0;
@@ -186,9 +186,9 @@ length_of_128 n h =
     })
 
 -- and so does a code of 128
-length_of_code_128 : (n : ℕ) → TellsLength 128 0 (answer 0 0 n) → n ≡ 3
+length_of_code_128 : (n : ℕ) → ReportsLength 128 0 (answer 0 0 n) → n ≡ 3
 length_of_code_128 n h =
-    length_told 128 0 (answer 0 0 n) h [] (128 ∷ 1 ∷ 0 ∷ []) refl (record {
+    length_reported 128 0 (answer 0 0 n) h [] (128 ∷ 1 ∷ 0 ∷ []) refl (record {
       code = 128 ∷ 1 ∷ [];
       size = 0 ∷ [];
       is_code = varint_128;

@@ -2,26 +2,26 @@
 use Rattle.std.proofs.Common.{◌≡◌, ◌<◌, ◌≤◌, ◌+◌, ◌-◌, ℕ, List, [], ◌++◌, Some, length, take, drop, refl, sym, ap, ◌∙◌, subst, arith, append_assoc, append-nil, take-append-drop, length-drop, ◌∷◌, get_or}
 use Rattle.std.proofs.lemmas.List.{drop-drop, length-take-le}
 use Rattle.std.proofs.lemmas.List.Elements.{All-nil}
-use Rattle.multihash.specs.Bytes.{IsBeginning}
+use Rattle.multihash.specs.Bytes.{IsPrefix}
 use Rattle.multihash.specs.Pair.{Pair, digest_limit}
-use Rattle.multihash.specs.Varint.{VarintFault, insufficient}
-use Rattle.multihash.specs.Verdict.{Verdict, accepted, invalid_size, faulty, unexpected_eof, BeginsWith, HasVerdict, IsEarlyEnd, HasHead}
+use Rattle.multihash.specs.Varint.{VarintError, insufficient}
+use Rattle.multihash.specs.Verdict.{Verdict, accepted, invalid_size, malformed, unexpected_eof, BeginsWith, HasVerdict, IsIncomplete, HasHead}
 use Rattle.multihash.specs.Settling.{Settles, IsShortestSettling}
-use Rattle.multihash.specs.Taking.{TakesShortestSettling}
+use Rattle.multihash.specs.Consuming.{ConsumesShortestSettling}
 use Rattle.multihash.proofs.Readings.VerdictLemmas.{verdict_unique, pair_begins}
 use Rattle.multihash.proofs.Readings.SettlingLemmas.{verdict_kept, late_settles, settles_exactly, shortest_pair, shortest_size}
 use Rattle.multihash_c.specs.declared.decode.Decoded.{Decoded}
-use Rattle.multihash_c.specs.Decoded.{Tells, ReadsWithin}
+use Rattle.multihash_c.specs.Decoded.{Reports, ReadsWithin}
 use Rattle.multihash.proofs.Varints.VarintWriteLemmas.{one_byte}
 
 -- what begins a beginning begins the whole
-pub begins_whole : (front middle whole : List ℕ) → IsBeginning front middle → IsBeginning middle whole → IsBeginning front whole
+pub begins_whole : (front middle whole : List ℕ) → IsPrefix front middle → IsPrefix middle whole → IsPrefix front whole
 begins_whole front middle whole (rest, cut) (more, whole_cut) =
     (rest ++ more, whole_cut ∙ ap (λ (z : List ℕ). z ++ more) cut ∙ append_assoc front rest more)
 
 -- an input has one verdict, so it is not both an early end and none
-other_kind : (S : ℕ) (x : List ℕ) (v w : Verdict) → HasVerdict S x v → HasVerdict S x w → IsEarlyEnd w → ¬ (IsEarlyEnd v) → ⊥
-other_kind S x v w has also early late = late (subst IsEarlyEnd (verdict_unique S x w v also has) early)
+other_kind : (S : ℕ) (x : List ℕ) (v w : Verdict) → HasVerdict S x v → HasVerdict S x w → IsIncomplete w → ¬ (IsIncomplete v) → ⊥
+other_kind S x v w has also early late = late (subst IsIncomplete (verdict_unique S x w v also has) early)
 
 module _ (limit code size len : ℕ) (input : List ℕ) (h : HasHead code size len input) (d : Decoded) where
   varints : List ℕ
@@ -34,7 +34,7 @@ module _ (limit code size len : ℕ) (input : List ℕ) (h : HasHead code size l
       ∙ ap (λ n. (h.varints.code_bytes ++ h.varints.size_bytes) ++ drop n input) (sym at)
 
   -- a size that is too large
-  pub size_read : digest_limit limit < size → d.taken ≡ len → Tells input d (invalid_size size) → ReadsWithin limit input d
+  pub size_read : digest_limit limit < size → d.taken ≡ len → Reports input d (invalid_size size) → ReadsWithin limit input d
   unfolding varints
   size_read over at tells =
       let has : HasVerdict limit input (invalid_size size) = (drop len input, h.varints, over) in
@@ -42,13 +42,13 @@ module _ (limit code size len : ℕ) (input : List ℕ) (h : HasHead code size l
         verdict = (invalid_size size, has, tells);
         inside = omega (arith, h.within, at);
         settled = λ v also late.
-            record { front = varints; shortest = shortest_size limit size input (drop len input) h.varints over; takes = ap Some (cut_at at) };
-        insufficient = λ also. absurd (other_kind limit input (invalid_size size) (faulty insufficient) has also tt (λ e. e));
+            record { front = varints; shortest = shortest_size limit size input (drop len input) h.varints over; consumes = ap Some (cut_at at) };
+        insufficient = λ also. absurd (other_kind limit input (invalid_size size) (malformed insufficient) has also tt (λ e. e));
         cut = λ also. absurd (other_kind limit input (invalid_size size) unexpected_eof has also tt (λ e. e));
       }
 
   -- a digest that is cut
-  pub end_read : size ≤ digest_limit limit → length input - len < size → d.taken ≡ len → Tells input d unexpected_eof → ReadsWithin limit input d
+  pub end_read : size ≤ digest_limit limit → length input - len < size → d.taken ≡ len → Reports input d unexpected_eof → ReadsWithin limit input d
   end_read within short at tells =
       let has : HasVerdict limit input unexpected_eof =
       (size, drop len input, h.varints, within, omega (arith, short, length-drop len input)) in
@@ -57,15 +57,15 @@ module _ (limit code size len : ℕ) (input : List ℕ) (h : HasHead code size l
         inside = omega (arith, h.within, at);
         settled = λ v also late. absurd (other_kind limit input v unexpected_eof also has tt late);
         insufficient = λ also.
-            let same : unexpected_eof ≡ faulty insufficient =
-            verdict_unique limit input unexpected_eof (faulty insufficient) has also in
+            let same : unexpected_eof ≡ malformed insufficient =
+            verdict_unique limit input unexpected_eof (malformed insufficient) has also in
             absurd (cc);
         cut = λ also. (code, size, subst (λ n. HasHead code size n input) (sym at) h);
       }
 
   -- the digest is there
   pub read_of_encoding : size ≤ digest_limit limit → len + size ≤ length input → d.taken ≡ len + size
-      → ((p : Pair) → p.code ≡ code → p.digest ≡ take size (drop len input) → Tells input d (accepted p))
+      → ((p : Pair) → p.code ≡ code → p.digest ≡ take size (drop len input) → Reports input d (accepted p))
       → ReadsWithin limit input d
   read_of_encoding within there at tells =
       let rest = drop size (drop len input) in
@@ -82,50 +82,50 @@ module _ (limit code size len : ℕ) (input : List ℕ) (h : HasHead code size l
         settled = λ v also late. record {
           front = begins.encoding;
           shortest = shortest_pair limit p input rest begins fits;
-          takes = ap Some (begins.cut ∙ ap (λ (z : List ℕ). begins.encoding ++ z) left);
+          consumes = ap Some (begins.cut ∙ ap (λ (z : List ℕ). begins.encoding ++ z) left);
         };
-        insufficient = λ also. absurd (other_kind limit input (accepted p) (faulty insufficient) has also tt (λ e. e));
+        insufficient = λ also. absurd (other_kind limit input (accepted p) (malformed insufficient) has also tt (λ e. e));
         cut = λ also. absurd (other_kind limit input (accepted p) unexpected_eof has also tt (λ e. e));
       }
 
 -- where no two varints begin the input, a beginning settles for each limit or for none
-pub settles_alike : (A B : ℕ) (f : VarintFault) (x front : List ℕ) → ((S : ℕ) → HasVerdict S x (faulty f)) → IsBeginning front x → Settles A front
+pub settles_alike : (A B : ℕ) (f : VarintError) (x front : List ℕ) → ((S : ℕ) → HasVerdict S x (malformed f)) → IsPrefix front x → Settles A front
     → Settles B front
 settles_alike A B f x front has (rest, cut) s =
     let own : HasVerdict A front s.verdict =
     subst (λ (z : List ℕ). HasVerdict A z s.verdict) (append-nil front) (s.always [] (All-nil (λ b. b < 256))) in
-    let late : ¬ (IsEarlyEnd s.verdict) = (settles_exactly A front s.verdict own).0 s in
+    let late : ¬ (IsIncomplete s.verdict) = (settles_exactly A front s.verdict own).0 s in
     let whole : HasVerdict A x s.verdict =
     subst (λ (z : List ℕ). HasVerdict A z s.verdict) (sym cut) (verdict_kept A front rest s.verdict late own) in
-    let same : s.verdict ≡ faulty f = verdict_unique A x s.verdict (faulty f) whole (has A) in
-    let shows : HasVerdict A front (faulty f) = subst (HasVerdict A front) same own in
-    late_settles B front (faulty f) (subst (λ (v : Verdict). ¬ (IsEarlyEnd v)) same late) shows
+    let same : s.verdict ≡ malformed f = verdict_unique A x s.verdict (malformed f) whole (has A) in
+    let shows : HasVerdict A front (malformed f) = subst (HasVerdict A front) same own in
+    late_settles B front (malformed f) (subst (λ (v : Verdict). ¬ (IsIncomplete v)) same late) shows
 
-module _ (f : VarintFault) (input : List ℕ) (has : (S : ℕ) → HasVerdict S input (faulty f)) (limit : ℕ) where
+module _ (f : VarintError) (input : List ℕ) (has : (S : ℕ) → HasVerdict S input (malformed f)) (limit : ℕ) where
   shortest_alike : (front : List ℕ) → IsShortestSettling 0 input front → IsShortestSettling limit input front
   shortest_alike front s = record {
     begins = s.begins;
     settles = settles_alike 0 limit f input front has s.begins s.settles;
-    shortest = λ shorter proper settles.
-        s.shortest shorter proper
-        (settles_alike limit 0 f input shorter has (begins_whole shorter front input (proper.0, proper.2) s.begins) settles);
+    shortest = λ shorter strict settles.
+        s.shortest shorter strict
+        (settles_alike limit 0 f input shorter has (begins_whole shorter front input (strict.0, strict.2) s.begins) settles);
   }
 
   -- what reading for an empty buffer took is what reading for any takes
-  pub fault_read : (d : Decoded) → Tells input d (faulty f) → d.taken ≤ length input
-      → (¬ (IsEarlyEnd (faulty f)) → TakesShortestSettling 0 input (Some (drop d.taken input)))
+  pub fault_read : (d : Decoded) → Reports input d (malformed f) → d.taken ≤ length input
+      → (¬ (IsIncomplete (malformed f)) → ConsumesShortestSettling 0 input (Some (drop d.taken input)))
       → (f ≡ insufficient → d.taken ≡ length input) → ReadsWithin limit input d
   fault_read d tells inside settled all = record {
-    verdict = (faulty f, has limit, tells);
+    verdict = (malformed f, has limit, tells);
     inside = inside;
     settled = λ v also late.
-        let t = settled (λ early. other_kind limit input v (faulty f) also (has limit) early late) in
-        record { front = t.front; shortest = shortest_alike t.front t.shortest; takes = t.takes };
+        let t = settled (λ early. other_kind limit input v (malformed f) also (has limit) early late) in
+        record { front = t.front; shortest = shortest_alike t.front t.shortest; consumes = t.consumes };
     insufficient = λ also.
-        let same : faulty f ≡ faulty insufficient = verdict_unique limit input (faulty f) (faulty insufficient) (has limit) also in
+        let same : malformed f ≡ malformed insufficient = verdict_unique limit input (malformed f) (malformed insufficient) (has limit) also in
         all (cc);
     cut = λ also.
-        let same : faulty f ≡ unexpected_eof = verdict_unique limit input (faulty f) unexpected_eof (has limit) also in
+        let same : malformed f ≡ unexpected_eof = verdict_unique limit input (malformed f) unexpected_eof (has limit) also in
         absurd (cc);
   }
 

@@ -1,18 +1,18 @@
 -- What reading known inputs returns and consumes, for digests of at most four bytes, and of their fronts.
 use Rattle.std.proofs.Common.{◌≡◌, ℕ, List, [], ◌∷◌, ◌++◌, length, drop, refl, sym, ap, subst, arith, inl, length-drop, ◌∙◌, inr}
-use Rattle.multihash.specs.Varint.{insufficient, not_minimal, HasFaultyFront, VarintFault, overflow}
-use Rattle.multihash.specs.Verdict.{BeginsWith, accepted, invalid_size, faulty, unexpected_eof, HasVerdict}
+use Rattle.multihash.specs.Varint.{insufficient, not_minimal, BeginsMalformed, VarintError, overflow}
+use Rattle.multihash.specs.Verdict.{BeginsWith, accepted, invalid_size, malformed, unexpected_eof, HasVerdict}
 use Rattle.multihash.specs.Settling.{IsShortestSettling}
 use Rattle.multihash.specs.Verdict.{HasHead}
 use Rattle.multihash.proofs.Readings.VerdictLemmas.{verdict_unique}
 use Rattle.multihash.proofs.Readings.SettlingLemmas.{shortest_pair, shortest_code_fault, shortest_unique}
 use Rattle.multihash.proofs.Examples.VerdictVectors.{shortest_of_size}
 use Rattle.multihash.proofs.Examples.ReadingVectors.{taken_is}
-use Rattle.multihash.proofs.Examples.TakingVectors.{takes_no_byte_behind_size}
+use Rattle.multihash.proofs.Examples.ConsumingVectors.{takes_no_byte_after_size}
 use Rattle.multihash.proofs.Examples.PairVectors.{pair}
-use Rattle.multihash.proofs.Examples.VarintVectors.{all_marked, varint_0, varint_1, varint_4, varint_5}
+use Rattle.multihash.proofs.Examples.VarintVectors.{all_continuation, varint_0, varint_1, varint_4, varint_5}
 use Rattle.multihash.proofs.Examples.VerdictVectors.{size_5, digest_cut, empty_input, code_alone, size_open}
-use Rattle.multihash_c.specs.Decoded.{Tells, ReadsWithin, TellsHead, TellsFault, ReadsFront}
+use Rattle.multihash_c.specs.Decoded.{Reports, ReadsWithin, ReportsHead, ReportsError, ReadsFront}
 use Rattle.multihash_c.proofs.DecodedVectors.{answer, input}
 use Rattle.multihash_c.proofs.ReadLemmas.{size_read, end_read, read_of_encoding, fault_read}
 use Rattle.multihash.proofs.Varints.VarintLemmas.{same_number}
@@ -28,7 +28,7 @@ large = 0 ∷ 5 ∷ 9 ∷ []
 pub large_head : HasHead 0 5 2 large
 large_head = record { within = omega arith; varints = size_5 (9 ∷ []); is_code = refl }
 
-size_named : Tells large (answer 4 5 0 0 0 2) (invalid_size 5)
+size_named : Reports large (answer 4 5 0 0 0 2) (invalid_size 5)
 size_named = record { is_status = refl; is_size = refl; is_code = refl; no_offset = refl; no_length = refl }
 
 -- both varints, and nothing behind them
@@ -56,13 +56,13 @@ pair_head = record {
 reads_pair : ReadsWithin 4 input (answer 0 0 0 2 1 3)
 reads_pair =
     read_of_encoding 4 0 1 2 input pair_head (answer 0 0 0 2 1 3) (omega arith) (omega arith) refl
-    (λ p code stands. record {
+    (λ p code appends. record {
       is_ok = refl;
       no_size = refl;
       is_code = sym code;
       is_end = refl;
       inside = omega arith;
-      is_digest = stands;
+      is_digest = appends;
     })
 
 -- the code 0, the size 4, and three bytes of the digest
@@ -90,7 +90,7 @@ reads_end =
     (record { is_status = refl; is_size = refl; is_code = refl; no_offset = refl; no_length = refl })
 
 -- all of an input that is insufficient
-reads_insufficient : (input : List ℕ) → ((S : ℕ) → HasVerdict S input (faulty insufficient))
+reads_insufficient : (input : List ℕ) → ((S : ℕ) → HasVerdict S input (malformed insufficient))
     → ReadsWithin 4 input (answer 1 0 0 0 0 (length input))
 reads_insufficient input has =
     fault_read insufficient input has 4 (answer 1 0 0 0 0 (length input))
@@ -104,8 +104,8 @@ reads_nothing = reads_insufficient [] (λ S. empty_input)
 reads_nothing_as_no_end : ¬ (ReadsWithin 4 [] (answer 6 0 0 0 0 0))
 reads_nothing_as_no_end h =
     let (v, has, tells) = h.verdict in
-    let told : Tells [] (answer 6 0 0 0 0 0) (faulty insufficient) =
-    subst (Tells [] (answer 6 0 0 0 0 0)) (verdict_unique 4 [] v (faulty insufficient) has empty_input) tells in
+    let told : Reports [] (answer 6 0 0 0 0 0) (malformed insufficient) =
+    subst (Reports [] (answer 6 0 0 0 0 0)) (verdict_unique 4 [] v (malformed insufficient) has empty_input) tells in
     omega (arith, told.is_status)
 
 reads_code_alone : ReadsWithin 4 (0 ∷ []) (answer 1 0 0 0 0 1)
@@ -118,11 +118,11 @@ reads_open_size = reads_insufficient (0 ∷ 0x85 ∷ []) (λ S. size_open)
 abbrev pub padded : List ℕ
 padded = 0x80 ∷ 0x00 ∷ 0x07 ∷ []
 
-abbrev pub padded_front : (rest : List ℕ) → HasFaultyFront not_minimal (0x80 ∷ 0x00 ∷ rest)
+abbrev pub padded_front : (rest : List ℕ) → BeginsMalformed not_minimal (0x80 ∷ 0x00 ∷ rest)
 padded_front rest = record {
   front = 0x80 ∷ [];
   rest = rest;
-  all_marked = all_marked (0x80 ∷ []) refl;
+  all_continuation = all_continuation (0x80 ∷ []) refl;
   some = omega arith;
   few = omega arith;
   cut = refl;
@@ -134,7 +134,7 @@ shortest_of_padded S =
       shown = 0x80 ∷ 0x00 ∷ [];
       rest = 0x07 ∷ [];
       cut = refl;
-      step = record { front = 0x80 ∷ []; last = 0x00; all_marked = all_marked (0x80 ∷ []) refl; few = omega arith; cut = refl };
+      step = record { front = 0x80 ∷ []; last = 0x00; all_continuation = all_continuation (0x80 ∷ []) refl; few = omega arith; cut = refl };
       has = padded_front [];
     })
 
@@ -143,7 +143,7 @@ reads_fault : ReadsWithin 4 padded (answer 3 0 0 0 0 2)
 reads_fault =
     fault_read not_minimal padded (λ S. inl (padded_front (0x07 ∷ []))) 4 (answer 3 0 0 0 0 2)
     (record { is_status = refl; is_size = refl; is_code = refl; no_offset = refl; no_length = refl })
-    (omega arith) (λ late. record { front = 0x80 ∷ 0x00 ∷ []; shortest = shortest_of_padded 0; takes = refl }) (λ same. absurd cc)
+    (omega arith) (λ late. record { front = 0x80 ∷ 0x00 ∷ []; shortest = shortest_of_padded 0; consumes = refl }) (λ same. absurd cc)
 
 -- ---- what does not hold
 
@@ -151,8 +151,8 @@ reads_fault =
 reads_no_other_verdict : ¬ (ReadsWithin 4 large (answer 6 0 0 0 0 2))
 reads_no_other_verdict h =
     let (v, has, tells) = h.verdict in
-    let told : Tells large (answer 6 0 0 0 0 2) (invalid_size 5) =
-    subst (Tells large (answer 6 0 0 0 0 2)) (verdict_unique 4 large v (invalid_size 5) has large_verdict) tells in
+    let told : Reports large (answer 6 0 0 0 0 2) (invalid_size 5) =
+    subst (Reports large (answer 6 0 0 0 0 2)) (verdict_unique 4 large v (invalid_size 5) has large_verdict) tells in
     omega (arith, told.is_status)
 
 -- for a limit of five the size is not too large
@@ -160,8 +160,8 @@ reads_no_size_that_fits : ¬ (ReadsWithin 5 large (answer 4 5 0 0 0 2))
 reads_no_size_that_fits h =
     let (v, has, tells) = h.verdict in
     let waits : HasVerdict 5 large unexpected_eof = (5, 9 ∷ [], size_5 (9 ∷ []), omega arith, omega arith) in
-    let told : Tells large (answer 4 5 0 0 0 2) unexpected_eof =
-    subst (Tells large (answer 4 5 0 0 0 2)) (verdict_unique 5 large v unexpected_eof has waits) tells in
+    let told : Reports large (answer 4 5 0 0 0 2) unexpected_eof =
+    subst (Reports large (answer 4 5 0 0 0 2)) (verdict_unique 5 large v unexpected_eof has waits) tells in
     omega (arith, told.is_status)
 
 -- no more is taken than there is, though none is left behind it
@@ -170,7 +170,7 @@ reads_inside h = omega (arith, h.inside)
 
 -- nothing behind what settles
 reads_no_byte_more : ¬ (ReadsWithin 4 large (answer 4 5 0 0 0 3))
-reads_no_byte_more h = takes_no_byte_behind_size (h.settled (invalid_size 5) large_verdict (λ early. early))
+reads_no_byte_more h = takes_no_byte_after_size (h.settled (invalid_size 5) large_verdict (λ early. early))
 
 -- and no less
 reads_no_byte_less : ¬ (ReadsWithin 4 large (answer 4 5 0 0 0 1))
@@ -179,7 +179,7 @@ reads_no_byte_less h =
     omega (
       arith,
       ap (λ (z : List ℕ). length z) (shortest_unique 4 large t.front (0 ∷ 5 ∷ []) t.shortest shortest_of_size),
-      ap (λ (z : List ℕ). length z) (taken_is (0 ∷ []) (5 ∷ 9 ∷ []) t.front t.takes),
+      ap (λ (z : List ℕ). length z) (taken_is (0 ∷ []) (5 ∷ 9 ∷ []) t.front t.consumes),
     )
 
 -- the same byte again is no part of the pair
@@ -193,8 +193,8 @@ begins_twice = record {
   cut = refl;
 }
 
-tells_second : Tells twice (answer 0 0 0 3 1 4) (accepted (pair 0 (9 ∷ [])))
-tells_second = record {
+reports_second : Reports twice (answer 0 0 0 3 1 4) (accepted (pair 0 (9 ∷ [])))
+reports_second = record {
   is_ok = refl;
   no_size = refl;
   is_code = refl;
@@ -210,16 +210,16 @@ reads_no_second h =
     omega (
       arith,
       ap (λ (z : List ℕ). length z) (shortest_unique 4 twice t.front (0 ∷ 1 ∷ 9 ∷ []) t.shortest shortest),
-      ap (λ (z : List ℕ). length z) (taken_is twice [] t.front t.takes),
+      ap (λ (z : List ℕ). length z) (taken_is twice [] t.front t.consumes),
     )
 
-pub reads_no_byte_behind_fault : ¬ (ReadsWithin 4 padded (answer 3 0 0 0 0 3))
-reads_no_byte_behind_fault h =
-    let t = h.settled (faulty not_minimal) (inl (padded_front (0x07 ∷ []))) (λ early. early) in
+pub reads_no_byte_after_fault : ¬ (ReadsWithin 4 padded (answer 3 0 0 0 0 3))
+reads_no_byte_after_fault h =
+    let t = h.settled (malformed not_minimal) (inl (padded_front (0x07 ∷ []))) (λ early. early) in
     omega (
       arith,
       ap (λ (z : List ℕ). length z) (shortest_unique 4 padded t.front (0x80 ∷ 0x00 ∷ []) t.shortest (shortest_of_padded 4)),
-      ap (λ (z : List ℕ). length z) (taken_is padded [] t.front t.takes),
+      ap (λ (z : List ℕ). length z) (taken_is padded [] t.front t.consumes),
     )
 
 -- nothing of an insufficient input is left
@@ -266,11 +266,11 @@ front status code digest_length taken =
 -- ---- both varints
 
 -- of any digest the length is told, also of one that is not there
-tells_head : TellsHead large (front 0 0 5 2)
-tells_head = record { is_ok = refl; has = large_head }
+reports_head : ReportsHead large (front 0 0 5 2)
+reports_head = record { is_ok = refl; has = large_head }
 
 reads_head : ReadsFront large (front 0 0 5 2)
-reads_head = inl tells_head
+reads_head = inl reports_head
 
 reads_head_of_cut_digest : ReadsFront cut (front 0 0 4 2)
 reads_head_of_cut_digest = inl (record { is_ok = refl; has = cut_head })
@@ -287,25 +287,25 @@ head_is code size len h =
     (has.size_bytes, has.is_size, sym first.1) (5 ∷ [], varint_5, refl) in
     (sym h.is_code ∙ first.0, second.0, omega (arith, h.within, length-drop len large, ap (λ (z : List ℕ). length z) second.1))
 
-head_is_ok : ¬ (TellsHead large (front 4 0 5 2))
+head_is_ok : ¬ (ReportsHead large (front 4 0 5 2))
 head_is_ok h = omega (arith, h.is_ok)
 
-head_has_its_code : ¬ (TellsHead large (front 0 1 5 2))
+head_has_its_code : ¬ (ReportsHead large (front 0 1 5 2))
 head_has_its_code h = omega (arith, (head_is 1 5 2 h.has).0)
 
-head_has_its_length : ¬ (TellsHead large (front 0 0 4 2))
+head_has_its_length : ¬ (ReportsHead large (front 0 0 4 2))
 head_has_its_length h = omega (arith, (head_is 0 4 2 h.has).1)
 
-head_takes_no_digest : ¬ (TellsHead large (front 0 0 5 3))
+head_takes_no_digest : ¬ (ReportsHead large (front 0 0 5 3))
 head_takes_no_digest h = omega (arith, (head_is 0 5 3 h.has).2)
 
-head_takes_its_size : ¬ (TellsHead large (front 0 0 5 1))
+head_takes_its_size : ¬ (ReportsHead large (front 0 0 5 1))
 head_takes_its_size h = omega (arith, (head_is 0 5 1 h.has).2)
 
 -- ---- a fault
 
-tells_fault : TellsFault padded (front 3 0 0 2)
-tells_fault = record {
+reports_fault : ReportsError padded (front 3 0 0 2)
+reports_fault = record {
   fault = not_minimal;
   is_status = refl;
   no_code = refl;
@@ -313,15 +313,15 @@ tells_fault = record {
   reads = λ limit.
       fault_read not_minimal padded (λ S. inl (padded_front (0x07 ∷ []))) limit (answer 3 0 0 0 0 2)
       (record { is_status = refl; is_size = refl; is_code = refl; no_offset = refl; no_length = refl })
-      (omega arith) (λ late. record { front = 0x80 ∷ 0x00 ∷ []; shortest = shortest_of_padded 0; takes = refl }) (λ same. absurd cc);
+      (omega arith) (λ late. record { front = 0x80 ∷ 0x00 ∷ []; shortest = shortest_of_padded 0; consumes = refl }) (λ same. absurd cc);
 }
 
 head_reads_fault : ReadsFront padded (front 3 0 0 2)
-head_reads_fault = inr tells_fault
+head_reads_fault = inr reports_fault
 
 -- a code with no size is all taken
-head_tells_insufficient : TellsFault (0 ∷ []) (front 1 0 0 1)
-head_tells_insufficient = record {
+head_reports_insufficient : ReportsError (0 ∷ []) (front 1 0 0 1)
+head_reports_insufficient = record {
   fault = insufficient;
   is_status = refl;
   no_code = refl;
@@ -332,31 +332,31 @@ head_tells_insufficient = record {
       (omega arith) (λ late. absurd (late tt)) (λ same. refl);
 }
 
-fault_has_no_code : ¬ (TellsFault padded (front 3 1 0 2))
+fault_has_no_code : ¬ (ReportsError padded (front 3 1 0 2))
 fault_has_no_code h = omega (arith, h.no_code)
 
-fault_has_no_length : ¬ (TellsFault padded (front 3 0 1 2))
+fault_has_no_length : ¬ (ReportsError padded (front 3 0 1 2))
 fault_has_no_length h = omega (arith, h.no_length)
 
-fault_takes_no_byte_behind_it : ¬ (TellsFault padded (front 3 0 0 3))
-fault_takes_no_byte_behind_it h = reads_no_byte_behind_fault (h.reads 4)
+fault_takes_no_byte_after_it : ¬ (ReportsError padded (front 3 0 0 3))
+fault_takes_no_byte_after_it h = reads_no_byte_after_fault (h.reads 4)
 
-insufficient_takes_all : ¬ (TellsFault (0 ∷ []) (front 1 0 0 0))
+insufficient_takes_all : ¬ (ReportsError (0 ∷ []) (front 1 0 0 0))
 insufficient_takes_all h = reads_no_part_of_insufficient (h.reads 4)
 
 -- the fault is the one that begins the input
-fault_has_its_status : ¬ (TellsFault padded (front 2 0 0 2))
+fault_has_its_status : ¬ (ReportsError padded (front 2 0 0 2))
 fault_has_its_status h =
     let (v, has, tells) = (h.reads 4).verdict in
-    let told : Tells padded (answer 2 0 0 0 0 2) (faulty not_minimal) =
-    subst (Tells padded (answer 2 0 0 0 0 2)) (verdict_unique 4 padded v (faulty not_minimal) has (inl (padded_front (0x07 ∷ [])))) tells in
+    let told : Reports padded (answer 2 0 0 0 0 2) (malformed not_minimal) =
+    subst (Reports padded (answer 2 0 0 0 0 2)) (verdict_unique 4 padded v (malformed not_minimal) has (inl (padded_front (0x07 ∷ [])))) tells in
     omega (arith, told.is_status)
 
 -- a size that is too long for a limit is no fault of a varint
-size_is_no_fault : ¬ (TellsFault large (front 4 0 0 2))
+size_is_no_fault : ¬ (ReportsError large (front 4 0 0 2))
 size_is_no_fault h = no_status h.fault h.is_status
   where
-    no_status : (f : VarintFault) → ¬ (4 ≡ status_of_fault f)
+    no_status : (f : VarintError) → ¬ (4 ≡ status_of_fault f)
     no_status insufficient e = omega (arith, e)
     no_status overflow e = omega (arith, e)
     no_status not_minimal e = omega (arith, e)

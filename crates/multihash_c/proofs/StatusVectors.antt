@@ -1,7 +1,7 @@
 -- The texts of statuses, and what is no status's text.
 use Rattle.std.proofs.Common.{◌≡◌, ℕ, List, refl, arith}
 use Rattle.std.specs.Prelude.{codes}
-use Rattle.multihash.specs.Varint.{VarintFault, insufficient, overflow, not_minimal}
+use Rattle.multihash.specs.Varint.{VarintError, insufficient, overflow, not_minimal}
 use Rattle.multihash_c.specs.Status.{status_of_fault, IsStatusText}
 
 -- each status has one text
@@ -33,13 +33,13 @@ text_of_none : (text : List ℕ) → IsStatusText 8 text → text ≡ codes "unk
 text_of_none text h = h.unknown (omega arith)
 
 -- a text that is one
-no_fault_is_8 : (f : VarintFault) → ¬ (8 ≡ status_of_fault f)
+no_fault_is_8 : (f : VarintError) → ¬ (8 ≡ status_of_fault f)
 no_fault_is_8 insufficient e = omega (arith, e)
 no_fault_is_8 overflow e = omega (arith, e)
 no_fault_is_8 not_minimal e = omega (arith, e)
 
-tells_none : IsStatusText 8 (codes "unknown status")
-tells_none = record {
+reports_none : IsStatusText 8 (codes "unknown status")
+reports_none = record {
   ok = λ e. absurd (omega (arith, e));
   fault = λ f e. absurd (no_fault_is_8 f e);
   size = λ e. absurd (omega (arith, e));

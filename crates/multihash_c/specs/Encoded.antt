@@ -24,7 +24,7 @@ IsEncodedLength code size len = (digest : List ℕ) → length digest ≡ size �
     (bytes : List ℕ) × IsEncoding (record { code = code; digest = digest }) bytes × (len ≡ length bytes)
 
 -- that length is returned
-pub record TellsLength (code size : ℕ) (e : Encoded) : Type 0 where
+pub record ReportsLength (code size : ℕ) (e : Encoded) : Type 0 where
   pub is_ok : e.status ≡ status_ok
   pub no_size : e.size ≡ 0
   pub is_length : IsEncodedLength code size e.length

@@ -1,6 +1,6 @@
 -- The statuses that a C caller gets.
 use Rattle.std.specs.Prelude.{◌≡◌, ◌<◌, ℕ, List, [], codes}
-use Rattle.multihash.specs.Varint.{VarintFault, insufficient, overflow, not_minimal}
+use Rattle.multihash.specs.Varint.{VarintError, insufficient, overflow, not_minimal}
 use Rattle.multihash.specs.Fault.{text_of}
 use Rattle.multihash.specs.Refusal.{varint_text}
 use Rattle.multihash.specs.declared.no_std_io.error.Kind.TheVariants.{UnexpectedEof, WriteZero}
@@ -10,7 +10,7 @@ abbrev pub status_ok : ℕ
 status_ok = 0
 
 -- a varint is malformed
-abbrev pub status_of_fault : VarintFault → ℕ
+abbrev pub status_of_fault : VarintError → ℕ
 status_of_fault insufficient = 1
 status_of_fault overflow = 2
 status_of_fault not_minimal = 3
@@ -34,7 +34,7 @@ status_no_room = 7
 -- the text of a status, in the library's words, without the invalid size or code
 pub record IsStatusText (status : ℕ) (text : List ℕ) : Type 0 where
   pub ok : status ≡ status_ok → text ≡ codes "ok"
-  pub fault : (fault : VarintFault) → status ≡ status_of_fault fault → text ≡ varint_text fault
+  pub fault : (fault : VarintError) → status ≡ status_of_fault fault → text ≡ varint_text fault
   pub size : status ≡ status_invalid_size → text ≡ codes "Invalid multihash size"
   pub code : status ≡ status_invalid_code → text ≡ codes "Invalid multihash code"
   pub eof : status ≡ status_unexpected_eof → text ≡ text_of UnexpectedEof []

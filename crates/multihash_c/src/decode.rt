@@ -1,12 +1,12 @@
 //! Decoding, for C.
 ghost use Rattle.std.specs.Prelude.{◌≡◌, ◌+◌, ◌≤◌, ℕ, List, length, take, drop};
 ghost use Rattle.multihash.specs.Pair.{Pair};
-ghost use Rattle.multihash.specs.Varint.{VarintFault};
-ghost use Rattle.multihash.specs.Verdict.{Verdict, accepted, invalid_size, invalid_code, faulty, unexpected_eof, HasVerdict, HasWholeVerdict};
+ghost use Rattle.multihash.specs.Varint.{VarintError};
+ghost use Rattle.multihash.specs.Verdict.{Verdict, accepted, invalid_size, invalid_code, malformed, unexpected_eof, HasVerdict, HasWholeVerdict};
 ghost use Rattle.multihash.specs.Scale.{HasScaleVerdict};
 ghost use Rattle.multihash.specs.Verdict.{HasHead};
-ghost use Rattle.multihash.specs.Answer.{IsRefusal};
-ghost use Rattle.multihash_c.specs.Decoded.{Tells, TellsRefusal, TakesForm, TakesWholeParts, ReadsWithin, TellsHead, ReadsFront};
+ghost use Rattle.multihash.specs.Outcome.{IsErrorOf};
+ghost use Rattle.multihash_c.specs.Decoded.{Reports, ReportsRefusal, ConsumesForm, ConsumesWholeParts, ReadsWithin, ReportsHead, ReadsFront};
 
 use crate::{DIGEST_MAX, SCALE_HEAD, status};
 use multihash::{Error, Head, Multihash};
@@ -39,7 +39,7 @@ pub struct Front {
 /// Decodes the multihash whose encoding is the whole of `bytes`.
 #[unsafe(no_mangle)]
 pub extern "C" fn multihash_from_bytes(bytes: &[u8]) -> Decoded
-    ensures verdict { (v : Verdict) × HasWholeVerdict 255 bytes.now v × Tells bytes.now result v }
+    ensures verdict { (v : Verdict) × HasWholeVerdict 255 bytes.now v × Reports bytes.now result v }
     ensures taken { result.taken ≡ length bytes.now }
 {
     match Multihash::<DIGEST_MAX>::from_bytes(bytes) {
@@ -81,8 +81,8 @@ pub extern "C" fn multihash_head(bytes: &[u8]) -> Front
 /// Decodes the multihash whose SCALE form is at the front of `bytes`.
 #[unsafe(no_mangle)]
 pub extern "C" fn multihash_scale_decode(bytes: &[u8]) -> Decoded
-    ensures verdict { (v : Verdict) × HasScaleVerdict 255 bytes.now v × Tells bytes.now result v
-        × TakesForm v bytes.now result.taken }
+    ensures verdict { (v : Verdict) × HasScaleVerdict 255 bytes.now v × Reports bytes.now result v
+        × ConsumesForm v bytes.now result.taken }
     ensures inside { result.taken ≤ length bytes.now }
 {
     let mut rest = bytes;
@@ -105,23 +105,23 @@ fn read_within(bytes: &[u8], limit: usize) -> Decoded
     let Ok(head) = Head::read_front(bytes) else {
         return read_fault(bytes);
     };
-    if head.size > limit as u64 || head.size > DIGEST_MAX as u64 {
-        return refuse_size(head.size, head.len);
+    if head.digest_len > limit as u64 || head.digest_len > DIGEST_MAX as u64 {
+        return refuse_size(head.digest_len, head.digest_offset);
     }
-    let size = head.size as usize;
-    if bytes.len() - head.len < size {
-        return refuse_end(head.len);
+    let size = head.digest_len as usize;
+    if bytes.len() - head.digest_offset < size {
+        return refuse_end(head.digest_offset);
     }
-    accept(head.code, size, head.len + size)
+    accept(head.code, size, head.digest_offset + size)
 }
 
 // Decodes if a varint is malformed: the result is the same for each limit.
 #[cold]
 #[inline(never)]
 fn read_fault(bytes: &[u8]) -> Decoded
-    requires { (fault : VarintFault) × ((S : ℕ) → HasVerdict S bytes.now (faulty fault)) }
+    requires { (fault : VarintError) × ((S : ℕ) → HasVerdict S bytes.now (malformed fault)) }
     ensures reads { (limit : ℕ) → ReadsWithin limit bytes.now result }
-    ensures tells { (fault : VarintFault) × Tells bytes.now result (faulty fault) }
+    ensures tells { (fault : VarintError) × Reports bytes.now result (malformed fault) }
 {
     let mut rest = bytes;
     // No digest is reached, so the capacity 0 is as good as any, and no buffer is filled.
@@ -147,13 +147,13 @@ fn read_long(bytes: &[u8]) -> Front
             taken: refused.taken,
         };
     };
-    found(head.code, head.size, head.len)
+    found(head.code, head.digest_len, head.digest_offset)
 }
 
 // The result for a code and a size, whose varints have that many bytes.
 #[inline(always)]
 fn found(code: u64, digest_length: u64, taken: usize) -> Front
-    ensures { (input : List ℕ) → HasHead code digest_length taken input → TellsHead input result }
+    ensures { (input : List ℕ) → HasHead code digest_length taken input → ReportsHead input result }
 {
     Front {
         status: status::OK,
@@ -166,7 +166,7 @@ fn found(code: u64, digest_length: u64, taken: usize) -> Front
 // The number of bytes of the complete fixed-size parts of a SCALE form of which that many bytes are
 // there.
 fn whole_parts(present: usize) -> usize
-    ensures parts { TakesWholeParts present result }
+    ensures parts { ConsumesWholeParts present result }
     ensures inside { result ≤ present }
 {
     match present {
@@ -181,7 +181,7 @@ fn accept(code: u64, digest_length: usize, taken: usize) -> Decoded
     requires { digest_length ≤ taken }
     ensures tells { (input : List ℕ) (p : Pair) → p.code ≡ code → taken ≤ length input
         → p.digest ≡ take result.digest_length (drop result.digest_offset input)
-        → Tells input result (accepted p) }
+        → Reports input result (accepted p) }
     ensures offset { result.digest_offset + digest_length ≡ taken }
     ensures length { result.digest_length ≡ digest_length }
     ensures taken { result.taken ≡ taken }
@@ -198,7 +198,7 @@ fn accept(code: u64, digest_length: usize, taken: usize) -> Decoded
 
 // The result for an error.
 fn refuse(error: &Error, taken: usize) -> Decoded
-    ensures tells { (input : List ℕ) (v : Verdict) → IsRefusal error.now v → Tells input result v }
+    ensures tells { (input : List ℕ) (v : Verdict) → IsErrorOf error.now v → Reports input result v }
     ensures taken { result.taken ≡ taken }
 {
     if let Some(size) = error.invalid_size() {
@@ -218,7 +218,7 @@ fn refuse(error: &Error, taken: usize) -> Decoded
 
 // The result for a digest that is too long.
 fn refuse_size(size: u64, taken: usize) -> Decoded
-    ensures tells { (input : List ℕ) → Tells input result (invalid_size size) }
+    ensures tells { (input : List ℕ) → Reports input result (invalid_size size) }
     ensures taken { result.taken ≡ taken }
 {
     refusal(status::INVALID_SIZE, size, 0, taken)
@@ -226,7 +226,7 @@ fn refuse_size(size: u64, taken: usize) -> Decoded
 
 // The result for a code that is out of range.
 fn refuse_code(code: u64, taken: usize) -> Decoded
-    ensures tells { (input : List ℕ) → Tells input result (invalid_code code) }
+    ensures tells { (input : List ℕ) → Reports input result (invalid_code code) }
     ensures taken { result.taken ≡ taken }
 {
     refusal(status::INVALID_CODE, 0, code, taken)
@@ -234,7 +234,7 @@ fn refuse_code(code: u64, taken: usize) -> Decoded
 
 // The result for a truncated digest.
 fn refuse_end(taken: usize) -> Decoded
-    ensures tells { (input : List ℕ) → Tells input result unexpected_eof }
+    ensures tells { (input : List ℕ) → Reports input result unexpected_eof }
     ensures taken { result.taken ≡ taken }
 {
     refusal(status::UNEXPECTED_EOF, 0, 0, taken)
@@ -242,7 +242,7 @@ fn refuse_end(taken: usize) -> Decoded
 
 // The result with that status, which has no digest.
 fn refusal(status: u32, size: u64, code: u64, taken: usize) -> Decoded
-    ensures tells { TellsRefusal result status size code }
+    ensures tells { ReportsRefusal result status size code }
     ensures taken { result.taken ≡ taken }
 {
     Decoded {

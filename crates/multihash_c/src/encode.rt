@@ -4,7 +4,7 @@ ghost use Rattle.multihash.specs.Varint.{varint_limit};
 ghost use Rattle.multihash.specs.Encoding.{IsEncoding};
 ghost use Rattle.multihash.specs.Scale.{IsScale};
 ghost use Rattle.multihash.specs.Filling.{Fills};
-ghost use Rattle.multihash_c.specs.Encoded.{IsTooLong, IsLargeCode, IsEncodedLength, TellsLength, WritesForm};
+ghost use Rattle.multihash_c.specs.Encoded.{IsTooLong, IsLargeCode, IsEncodedLength, ReportsLength, WritesForm};
 ghost use Rattle.multihash_c.specs.Status.{status_ok, status_no_room};
 
 use crate::{DIGEST_MAX, SCALE_HEAD, status};
@@ -60,7 +60,7 @@ pub extern "C" fn multihash_encoded_len(code: u64, digest_length: usize) -> Enco
     ensures too_long { 255 < digest_length → IsTooLong digest_length result }
     ensures large_code { digest_length ≤ 255 → varint_limit ≤ code → IsLargeCode result }
     ensures length { digest_length ≤ 255 → code < varint_limit →
-        TellsLength code digest_length result }
+        ReportsLength code digest_length result }
 {
     match needed(code, digest_length) {
         Ok(length) => count(length, length),
@@ -108,13 +108,13 @@ fn refuse_code() -> Encoded
 }
 
 // The result for that many bytes and a buffer of that size: they were written if they fit.
-pub(crate) fn count(length: usize, places: usize) -> Encoded
+pub(crate) fn count(length: usize, buffer: usize) -> Encoded
     ensures length { result.length ≡ length }
     ensures no_size { result.size ≡ 0 }
-    ensures fits { length ≤ places → result.status ≡ status_ok }
-    ensures no_room { places < length → result.status ≡ status_no_room }
+    ensures fits { length ≤ buffer → result.status ≡ status_ok }
+    ensures no_room { buffer < length → result.status ≡ status_no_room }
 {
-    let status = if length <= places {
+    let status = if length <= buffer {
         status::OK
     } else {
         status::NO_ROOM
@@ -127,29 +127,29 @@ pub(crate) fn count(length: usize, places: usize) -> Encoded
 }
 
 // Writes the encoding of a code and a digest to the front of a buffer that is large enough.
-fn put_encoding(code: u64, digest: &[u8], places: &mut [u8])
+fn put_encoding(code: u64, digest: &[u8], buffer: &mut [u8])
     requires in_range { code < varint_limit }
     requires short { length digest.now ≤ 255 }
     requires fits { (bytes : List ℕ) × IsEncoding (record { code = code; digest = digest.now }) bytes
-        × (length bytes ≤ length places.old) }
+        × (length bytes ≤ length buffer.old) }
     ensures { (bytes : List ℕ) × IsEncoding (record { code = code; digest = digest.now }) bytes
-        × (places.new ≡ bytes ++ drop (length bytes) places.old) }
+        × (buffer.new ≡ bytes ++ drop (length bytes) buffer.old) }
 {
-    let mut writer = SliceWriter::new(places);
+    let mut writer = SliceWriter::new(buffer);
     varint::write(code, &mut writer).unwrap();
     varint::write(digest.len() as u64, &mut writer).unwrap();
     write_digest(digest, &mut writer);
 }
 
 // Writes the SCALE form of a code and a digest to the front of a buffer that is large enough.
-fn put_scale_form(code: u64, digest: &[u8], places: &mut [u8])
+fn put_scale_form(code: u64, digest: &[u8], buffer: &mut [u8])
     requires short { length digest.now ≤ 255 }
     requires fits { (bytes : List ℕ) × IsScale (record { code = code; digest = digest.now }) bytes
-        × (length bytes ≤ length places.old) }
+        × (length bytes ≤ length buffer.old) }
     ensures { (bytes : List ℕ) × IsScale (record { code = code; digest = digest.now }) bytes
-        × (places.new ≡ bytes ++ drop (length bytes) places.old) }
+        × (buffer.new ≡ bytes ++ drop (length bytes) buffer.old) }
 {
-    let mut writer = SliceWriter::new(places);
+    let mut writer = SliceWriter::new(buffer);
     writer.write_all(&code.to_le_bytes()).unwrap();
     writer.write_all(&[digest.len() as u8]).unwrap();
     write_digest(digest, &mut writer);
@@ -158,32 +158,32 @@ fn put_scale_form(code: u64, digest: &[u8], places: &mut [u8])
 // Appends a digest, for which there is enough capacity.
 #[inline(always)]
 fn write_digest(digest: &[u8], writer: &mut SliceWriter<'_>)
-    requires { writer.old.filled + length digest.now ≤ length writer.old.places.now }
+    requires { writer.old.filled + length digest.now ≤ length writer.old.buffer.now }
     ensures { Fills writer.old digest.now writer.new }
 {
-    put_digest(digest, &mut writer.places[writer.filled..]);
+    put_digest(digest, &mut writer.buffer[writer.filled..]);
     writer.filled += digest.len();
 }
 
 // Copies a digest to the front of a buffer that is large enough. The usual length is copied as a whole.
 #[inline(always)]
-fn put_digest(digest: &[u8], places: &mut [u8])
-    requires { length digest.now ≤ length places.old }
-    ensures { places.new ≡ digest.now ++ drop (length digest.now) places.old }
+fn put_digest(digest: &[u8], buffer: &mut [u8])
+    requires { length digest.now ≤ length buffer.old }
+    ensures { buffer.new ≡ digest.now ++ drop (length digest.now) buffer.old }
 {
     match digest.as_array::<32>() {
-        Some(whole) => *places.first_chunk_mut().unwrap() = *whole,
-        None => put_each(digest, places),
+        Some(whole) => *buffer.first_chunk_mut().unwrap() = *whole,
+        None => put_each(digest, buffer),
     }
 }
 
 // Copies bytes to the front of a buffer that is large enough, one by one: a copy of a whole slice would
 // be a call of `memmove`, since the compiler cannot know that the caller's buffers do not overlap.
-fn put_each(bytes: &[u8], places: &mut [u8])
-    requires { length bytes.now ≤ length places.old }
-    ensures { places.new ≡ bytes.now ++ drop (length bytes.now) places.old }
+fn put_each(bytes: &[u8], buffer: &mut [u8])
+    requires { length bytes.now ≤ length buffer.old }
+    ensures { buffer.new ≡ bytes.now ++ drop (length bytes.now) buffer.old }
 {
     for (i, byte) in bytes.iter().enumerate() {
-        places[i] = *byte;
+        buffer[i] = *byte;
     }
 }

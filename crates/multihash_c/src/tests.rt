@@ -48,17 +48,17 @@ fn scale(rt: HostRuntime) {
 }
 
 // The bytes after those that decoding the SCALE form consumed, which it may not exceed.
-fn behind_scale(bytes: &[u8]) -> &[u8] {
+fn after_scale(bytes: &[u8]) -> &[u8] {
     &bytes[multihash_scale_decode(bytes).taken..]
 }
 
 #[test]
 fn scale_rest(rt: HostRuntime) {
     assert_eq!(rt;
-        behind_scale(b"\x16\0\0\0\0\0\0\0\x01\x64\xff"),
+        after_scale(b"\x16\0\0\0\0\0\0\0\x01\x64\xff"),
         b"\xff".as_slice()
     );
-    assert_eq!(rt; behind_scale(&[0xff; 8]), b"".as_slice());
+    assert_eq!(rt; after_scale(&[0xff; 8]), b"".as_slice());
 }
 
 #[test]

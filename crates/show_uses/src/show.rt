@@ -194,7 +194,7 @@ fn show_blame(alloc: Global, lines: &mut String) -> Result<()> {
         answer.err().and_then(|e| e.invalid_size()),
         read.digest()
     )?;
-    let ended = blame::early_end_text(alloc, &[7, 8, 9])?.context("no end")?;
+    let ended = blame::incomplete_text(alloc, &[7, 8, 9])?.context("no end")?;
     let full = blame::full_text(alloc, &[7, 8], &mut [0])?.context("not full")?;
     writeln!(lines, "texts: {ended}, {full}")?;
     Ok(())
@@ -202,13 +202,13 @@ fn show_blame(alloc: Global, lines: &mut String) -> Result<()> {
 
 fn show_codes(lines: &mut String) -> Result<()> {
     let (refused, left) = blame::decode_slice::<4>(&[255; 10]);
-    let (_, by_reading) = blame::code_refused_by_reading::<4>(&[255; 10]);
+    let (_, by_reading) = blame::code_rejected_by_reading::<4>(&[255; 10]);
     writeln!(
         lines,
         "codes: {} left of {:?}, {:?}, {:?}",
         left.len(),
         refused.err().and_then(|e| e.invalid_code()),
-        blame::refused_code::<4>(LARGEST_CODE, &[7]),
+        blame::rejected_code::<4>(LARGEST_CODE, &[7]),
         by_reading
     )?;
     Ok(())
@@ -250,13 +250,13 @@ fn show_values(lines: &mut String) -> Result<()> {
 
 fn show_bytes(alloc: Global, lines: &mut String) -> Result<()> {
     let first = bytes::first_byte(&[7, 8]);
-    let joined = bytes::joined(alloc, &[7], &[8])?;
+    let concatenated = bytes::concatenated(alloc, &[7], &[8])?;
     let longest = Multihash::<300>::wrap(LARGEST_CODE, &[7; 255])?;
     let filled = bytes::fills_longest(&longest, &mut [0; 266]);
     writeln!(
         lines,
         "bytes: {first:?}, {:?}, {filled} places",
-        joined.as_slice()
+        concatenated.as_slice()
     )?;
     Ok(())
 }

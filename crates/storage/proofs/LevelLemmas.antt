@@ -5,7 +5,7 @@ use Rattle.std.proofs.lemmas.List.{length-map, map_push}
 use Rattle.std.proofs.lemmas.List.Sums.{fold_push}
 use Rattle.std.proofs.lemmas.Option.{slice_get-map, slice_get_read, slice_get-get_or, slice_get_within}
 use Rattle.multihash.specs.Pair.{Pair}
-use Rattle.multihash.specs.Answer.{Fields, pair_of}
+use Rattle.multihash.specs.Outcome.{Fields, pair_of}
 use Rattle.storage.specs.declared.merkle.Step.{Step}
 use Rattle.storage.specs.Content.{content_pair}
 use Rattle.storage.specs.Merkle.{above, parent_pair, PathStep}
@@ -18,12 +18,12 @@ pub pair_at : (nodes : List (Fields 32)) (i : ℕ) (m : Fields 32) → i < lengt
 pair_at nodes i m within is = rw (slice_get-map pair_of nodes i, slice_get_read nodes (length nodes) i m refl within is) refl
 
 -- a node and its partner on the right, if it has one
-abbrev pub joined : Pair → Option Pair → Pair
-joined left None = left
-joined left (Some right) = parent_pair left right
+abbrev pub concatenated : Pair → Option Pair → Pair
+concatenated left None = left
+concatenated left (Some right) = parent_pair left right
 
 above_two : (nodes : List Pair) (i k : ℕ) (left : Pair) → i ≡ 2 * k → slice_get nodes i ≡ Some left
-    → slice_get (level_above nodes) k ≡ Some (joined left (slice_get nodes (suc i)))
+    → slice_get (level_above nodes) k ≡ Some (concatenated left (slice_get nodes (suc i)))
 above_two [] i k left even at = cc
 above_two (last ∷ []) zero zero left even at = cc
 above_two (last ∷ []) zero (suc k) left even at = absurd (omega arith)
@@ -42,7 +42,7 @@ above_odd nodes index left node odd at_left at =
     rw (same, at) at (above_two nodes (index - 1) (index / 2) left (omega arith) at_left)
 
 pub above_even : (nodes : List Pair) (index : ℕ) (node : Pair) → ¬ (index % 2 ≡ 1) → slice_get nodes index ≡ Some node
-    → IsNodeAbove nodes index (joined node (slice_get nodes (index + 1)))
+    → IsNodeAbove nodes index (concatenated node (slice_get nodes (index + 1)))
 above_even nodes index node even at = rw add-one (above_two nodes index (index / 2) node (omega arith) at)
 
 no_longer : (nodes : List Pair) → length (level_above nodes) ≤ length nodes

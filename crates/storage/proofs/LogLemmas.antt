@@ -6,19 +6,19 @@ use Rattle.std.specs.Result.{IsErrAnd}
 use Rattle.multihash.specs.Pair.{Pair, FitsBuffer}
 use Rattle.multihash.specs.Encoding.{IsEncoding}
 use Rattle.multihash.specs.Verdict.{Verdict, HasVerdict}
-use Rattle.multihash.specs.Answer.{Fields, pair_of, Answers}
-use Rattle.multihash.specs.Reading.{Takes, CountsReader}
-use Rattle.multihash.specs.Refusal.{Refusal, IsMemory, IsReaderFault}
-use Rattle.multihash.specs.Taking.{IsReadRefusal, TakesVarint, IsFrontRefusal}
+use Rattle.multihash.specs.Outcome.{Fields, pair_of, IsResultOf}
+use Rattle.multihash.specs.Reading.{Consumes, CountsReaderFailures}
+use Rattle.multihash.specs.Refusal.{Refusal, IsOutOfMemory, IsReaderError}
+use Rattle.multihash.specs.Consuming.{ReadMayFailWith, ConsumesVarint, IsFrontError}
 use Rattle.multihash.proofs.Writings.EncodingLemmas.{encoding_unique, same_cut}
 use Rattle.multihash.proofs.Varints.VarintLemmas.{same_number}
 use Rattle.multihash.proofs.OutcomeLemmas.{passed_err}
 use Rattle.multihash.proofs.CallingLemmas.{varint_read, read_of_encoding}
 use Rattle.sha2.proofs.Facts256.{length-sha256}
 use Rattle.storage.specs.Content.{content_pair}
-use Rattle.storage.specs.Log.{IsEntry, IsRefused, IsEntryRefusal, EntryFails, HasEntry, AreEntries, none, one_more}
+use Rattle.storage.specs.Log.{IsEntry, IsRejected, EntryMayFailWith, EntryFails, HasEntry, AreEntries, none, one_more}
 use Rattle.storage.specs.declared.log.EntryError.{EntryError}
-use Rattle.storage.specs.declared.log.EntryError.TheVariants.{Refused}
+use Rattle.storage.specs.declared.log.EntryError.TheVariants.{Failed}
 
 -- the parts of an entry and of what follows it
 pub entry_cut : (p : Pair) (block bytes more : List ℕ) (h : IsEntry p block bytes)
@@ -29,11 +29,11 @@ entry_cut p block bytes more h =
 
 -- a refusal that is passed on is counted as it was, where nothing was counted before it
 pub passes : {T Listed : Type 0} (S limit before middle after : ℕ) (e : Refusal) (r : Result T EntryError) → middle ≡ before
-    → IsErrAnd r (λ x. x ≡ Refused e) → (Listed → IsReadRefusal S e ⊎ IsMemory e)
-    → ((after ≡ middle + 1) × IsReaderFault e) ⊎ ((after ≡ middle) × Listed)
-    → CountsReader (IsRefused IsReaderFault) (IsEntryRefusal S limit) before after r
+    → IsErrAnd r (λ x. x ≡ Failed e) → (Listed → ReadMayFailWith S e ⊎ IsOutOfMemory e)
+    → ((after ≡ middle + 1) × IsReaderError e) ⊎ ((after ≡ middle) × Listed)
+    → CountsReaderFailures (IsRejected IsReaderError) (EntryMayFailWith S limit) before after r
 passes S limit before middle after e r same given listed counted =
-    passed_err (λ x. CountsReader (IsRefused IsReaderFault) (IsEntryRefusal S limit) before after x) r (Refused e) given
+    passed_err (λ x. CountsReaderFailures (IsRejected IsReaderError) (EntryMayFailWith S limit) before after x) r (Failed e) given
     (elim counted [
       | inl own ↦ inl (own.0 ∙ ap (λ (n : ℕ). n + 1) same, (e, refl, own.1))
       | inr is ↦ inr (is.0 ∙ same, inr (e, refl, listed is.1))
@@ -57,15 +57,15 @@ filled_items n buf items long = rw (← long) (take-append_seam buf (drop (lengt
 -- where an entry comes next, its multihash is found, and then its length
 module _ (S before after : ℕ) (old new : Option (List ℕ)) (p : Pair) (block bytes more : List ℕ) (h : IsEntry p block bytes) (same : after ≡ before) where
   pub hash_found : (r : Result (Fields S) Refusal) → FitsBuffer S p → old ≡ Some (bytes ++ more)
-      → IfSome old (λ rest. after ≡ before → (v : Verdict) × HasVerdict S rest v × Answers r v)
-      → IfOk r (λ m. (taken : List ℕ) × IsEncoding (pair_of m) taken × Takes old taken new)
+      → IfSome old (λ rest. after ≡ before → (v : Verdict) × HasVerdict S rest v × IsResultOf r v)
+      → IfOk r (λ m. (consumed : List ℕ) × IsEncoding (pair_of m) consumed × Consumes old consumed new)
       → MatchResult r (λ m. (pair_of m ≡ p) × (new ≡ Some (h.len ++ (block ++ more)))) (λ _. ⊥)
   hash_found r fits rest verdict ok =
       read_of_encoding S before after old new p h.encoding (h.len ++ (block ++ more)) r h.encodes fits
       (rest ∙ ap Some (entry_cut p block bytes more h)) same verdict ok
 
   pub length_found : (r : Result ℕ Refusal) → old ≡ Some (h.len ++ (block ++ more))
-      → IfOk r (λ n. TakesVarint n old new) → IfSome old (λ input. after ≡ before → IfErr r (IsFrontRefusal input))
+      → IfOk r (λ n. ConsumesVarint n old new) → IfSome old (λ input. after ≡ before → IfErr r (IsFrontError input))
       → MatchResult r (λ n. (n ≡ length block) × (new ≡ Some (block ++ more))) (λ _. ⊥)
   length_found r rest ok front = varint_read (length block) before after old new h.len (block ++ more) r h.is_len rest same ok front
 

@@ -16,7 +16,7 @@ AddsBytes old bytes new = (message : List ℕ) → HoldsMessage old message → 
 pub AddsBytes-none : (t : Tally) → AddsBytes t [] t
 AddsBytes-none t message holds = rw append-nil holds
 
-pub AddsBytes-joined : (a b c : Tally) (x y : List ℕ)
+pub AddsBytes-concatenated : (a b c : Tally) (x y : List ℕ)
     → AddsBytes a x b → AddsBytes b y c → AddsBytes a (x ++ y) c
-AddsBytes-joined a b c x y first second message holds =
+AddsBytes-concatenated a b c x y first second message holds =
     subst (HoldsMessage c) (append_assoc message x y) (second (message ++ x) (first message holds))

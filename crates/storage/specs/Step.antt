@@ -1,5 +1,5 @@
 -- What contracts see of a step.
-use Rattle.multihash.specs.Answer.{pair_of}
+use Rattle.multihash.specs.Outcome.{pair_of}
 use Rattle.storage.specs.declared.merkle.Step.{Step}
 use Rattle.storage.specs.Merkle.{PathStep}
 

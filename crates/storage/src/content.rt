@@ -1,6 +1,6 @@
 //! Hashing a content with SHA-256, and checking one.
 ghost use Rattle.std.specs.Prelude.{◌≡◌, ◌↔◌, ◌≤◌, IsTrue};
-ghost use Rattle.multihash.specs.Answer.{pair_of};
+ghost use Rattle.multihash.specs.Outcome.{pair_of};
 ghost use Rattle.storage.specs.Content.{content_pair};
 
 use multihash::Multihash;

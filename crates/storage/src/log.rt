@@ -1,13 +1,13 @@
 //! A log of blocks: each entry is a multihash, the varint of the block's length, and the block.
 ghost use Rattle.std.specs.Prelude.{◌≡◌, ◌≤◌, ℕ, List, ◌++◌, Some, length, IfOk, IfErr, OnOk, OnErr, MatchResult, IfSome, IfNone};
 ghost use Rattle.multihash.specs.Pair.{Pair, FitsBuffer};
-ghost use Rattle.multihash.specs.Answer.{pair_of};
-ghost use Rattle.multihash.specs.Reading.{Takes, CountsReader};
-ghost use Rattle.multihash.specs.Writing.{AppendsPart, CountsWriter};
-ghost use Rattle.multihash.specs.Refusal.{Refusal, IsIo, IsMemory, IsReaderFault, of_io};
-ghost use Rattle.storage.specs.Log.{IsEntry, IsRefused, IsEntryRefusal, EntryFails, HasEntry, AreEntries, IsValidPrefix};
+ghost use Rattle.multihash.specs.Outcome.{pair_of};
+ghost use Rattle.multihash.specs.Reading.{Consumes, CountsReaderFailures};
+ghost use Rattle.multihash.specs.Writing.{AppendsPrefix, CountsWriterFailures};
+ghost use Rattle.multihash.specs.Refusal.{Refusal, IsIo, IsOutOfMemory, IsReaderError, of_io};
+ghost use Rattle.storage.specs.Log.{IsEntry, IsRejected, EntryMayFailWith, EntryFails, HasEntry, AreEntries, IsValidPrefix};
 ghost use Rattle.storage.specs.Content.{content_pair};
-ghost use Rattle.storage.specs.declared.log.EntryError.TheVariants.{Refused};
+ghost use Rattle.storage.specs.declared.log.EntryError.TheVariants.{Failed};
 
 use crate::content::hash_of;
 use multihash::no_std_io::{self, Read, Write};
@@ -27,7 +27,7 @@ pub struct Entry<const S: usize> {
 pub enum EntryError {
     /// The multihash or the length is malformed, the input ends within the entry, the reader failed, or an
     /// allocation did.
-    Refused(Error),
+    Failed(Error),
     /// The block has this many bytes, more than the limit.
     TooLong(u64),
 }
@@ -35,7 +35,7 @@ pub enum EntryError {
 impl fmt::Display for EntryError {
     fn fmt<W: fmt::Write>(&self, f: &mut fmt::Formatter<W>) -> fmt::Result {
         match self {
-            EntryError::Refused(e) => write!(f, "{e}"),
+            EntryError::Failed(e) => write!(f, "{e}"),
             EntryError::TooLong(n) => write!(f, "a block of {n} bytes is too long"),
         }
     }
@@ -44,26 +44,26 @@ impl fmt::Display for EntryError {
 impl std::error::Error for EntryError {}
 
 impl From<Error> for EntryError {
-    ghost from_gives = { λ refusal e. e ≡ Refused refusal };
+    ghost from_gives = { λ refusal e. e ≡ Failed refusal };
 
     fn from(e: Error) -> Self {
-        EntryError::Refused(e)
+        EntryError::Failed(e)
     }
 }
 
 impl From<no_std_io::Error> for EntryError {
-    ghost from_gives = { λ fault e. e ≡ Refused (of_io fault) };
+    ghost from_gives = { λ fault e. e ≡ Failed (of_io fault) };
 
     fn from(e: no_std_io::Error) -> Self {
-        EntryError::Refused(Error::from(e))
+        EntryError::Failed(Error::from(e))
     }
 }
 
 impl From<AllocError> for EntryError {
-    ghost from_gives = { λ _ e. IsRefused IsMemory e };
+    ghost from_gives = { λ _ e. IsRejected IsOutOfMemory e };
 
     fn from(e: AllocError) -> Self {
-        EntryError::Refused(Error::from(e))
+        EntryError::Failed(Error::from(e))
     }
 }
 
@@ -80,8 +80,8 @@ pub fn write_entry<const S: usize, W: Write>(
     ensures ok { OnOk result ((bytes : List ℕ) × IsEntry (pair_of hash.now) block.now bytes
         × W.appended w.old bytes w.new) }
     ensures err { OnErr result ((bytes : List ℕ) × IsEntry (pair_of hash.now) block.now bytes
-        × AppendsPart W.appended w.old bytes w.new) }
-    ensures faults { CountsWriter IsIo W.allocates
+        × AppendsPrefix W.appended w.old bytes w.new) }
+    ensures faults { CountsWriterFailures IsIo W.allocates
         (W.failures w.old) (W.failures w.new) (W.full w.new) result }
 {
     hash.write(w)?;
@@ -94,7 +94,7 @@ pub fn write_entry<const S: usize, W: Write>(
 ///
 /// # Errors
 ///
-/// - [`EntryError::Refused`] with the errors of [`Multihash::read`] and of [`varint::read`]; the parts before
+/// - [`EntryError::Failed`] with the errors of [`Multihash::read`] and of [`varint::read`]; the parts before
 ///   the malformed one were consumed, and of it what those calls say.
 /// - [`EntryError::TooLong`] with the block's length if that is above `limit`; the multihash and the length
 ///   were consumed. Out of memory for the block likewise.
@@ -106,9 +106,9 @@ pub fn read_entry<const S: usize, R: Read>(
     limit: usize,
 ) -> Result<Entry<S>, EntryError>
     ensures ok { IfOk result (λ e. (bytes : List ℕ) × IsEntry (pair_of e.hash) e.block.items bytes
-        × Takes (R.rest r.old) bytes (R.rest r.new)) }
+        × Consumes (R.rest r.old) bytes (R.rest r.new)) }
     ensures within { IfOk result (λ e. length e.block.items ≤ limit) }
-    ensures faults { CountsReader (IsRefused IsReaderFault) (IsEntryRefusal S limit)
+    ensures faults { CountsReaderFailures (IsRejected IsReaderError) (EntryMayFailWith S limit)
         (R.failures r.old) (R.failures r.new) result }
     ensures err { IfErr result (λ e. EntryFails S limit e (R.rest r.old) (R.rest r.new)) }
 
@@ -117,7 +117,7 @@ pub fn read_entry<const S: usize, R: Read>(
         FitsBuffer S p → length block ≤ limit → R.rest r.old ≡ Some (bytes ++ more) →
         R.failures r.new ≡ R.failures r.old → MatchResult result
         (λ e. (pair_of e.hash ≡ p) × (e.block.items ≡ block) × (R.rest r.new ≡ Some more))
-        (IsRefused IsMemory) }
+        (IsRejected IsOutOfMemory) }
 {
     let hash = Multihash::read(r)?;
     let len = varint::read(r)?;

@@ -1,7 +1,7 @@
 //! A binary Merkle tree: each inner node is the multihash of its children's encodings.
 ghost use Rattle.std.specs.Prelude.{◌≡◌, ◌↔◌, ◌<◌, ◌/◌, Some, false, IfOk, IsTrue, MatchOption, length, map, slice_get};
 ghost use Rattle.multihash.specs.Pair.{Pair};
-ghost use Rattle.multihash.specs.Answer.{pair_of};
+ghost use Rattle.multihash.specs.Outcome.{pair_of};
 ghost use Rattle.multihash.specs.Encoded.{encoding_of};
 ghost use Rattle.storage.specs.Merkle.{above, parent_pair, root_from};
 ghost use Rattle.storage.specs.Levels.{level_above, IsNodeAbove, IsRoot, LeadsFrom};
@@ -20,7 +20,7 @@ struct NodeHasher {
 }
 
 impl Write for NodeHasher {
-    ghost use Rattle.storage.specs.NodeHasher.{Hashes, Hashes-none, Hashes-joined};
+    ghost use Rattle.storage.specs.NodeHasher.{Hashes, Hashes-none, Hashes-concatenated};
 
     const ALLOCATES: bool = false;
 
@@ -34,7 +34,7 @@ impl Write for NodeHasher {
 
     ghost appends_nothing = { Hashes-none };
 
-    ghost appends_joined = { Hashes-joined };
+    ghost appends_concatenated = { Hashes-concatenated };
 
     fn write(&mut self, buf: &[u8]) -> Result<usize, Error> {
         self.hasher.update(buf);

@@ -1,7 +1,7 @@
 //! The binary form: what is rejected, and the longest digest.
 ghost use Rattle.std.specs.Prelude.{◌<◌, ◌^◌};
 
-use crate::expect::{check, check_eq, expect_bytes, expect_ok, expect_refused};
+use crate::expect::{check, check_eq, expect_bytes, expect_ok, expect_rejected};
 use fakes::readers::Cuts;
 use fakes::refusal::Refusal;
 use multihash::Multihash;
@@ -12,7 +12,7 @@ use uses::bytes::fills;
 fn expect_unwrapped<const S: usize>(rt: &impl Abort, code: u64, digest: &[u8], why: Refusal)
     requires { S < 2 ^ 16 }
 {
-    expect_refused(rt, &Multihash::<S>::wrap(code, digest), why, (code, digest));
+    expect_rejected(rt, &Multihash::<S>::wrap(code, digest), why, (code, digest));
 }
 
 #[test]
@@ -34,11 +34,11 @@ fn a_cut_digest(rt: HostRuntime) {
     let rt = &rt;
     let mut left = [0u8, 2, 9].as_slice();
     let refused = Multihash::<2>::read(&mut left);
-    expect_refused(rt, &refused, Refusal::UnexpectedEof, 2);
+    expect_rejected(rt, &refused, Refusal::UnexpectedEof, 2);
     expect_bytes(rt, left, &[9]);
     let mut cuts = Cuts::new(&[0, 2, 9], 1);
     let refused = Multihash::<2>::read(&mut cuts);
-    expect_refused(rt, &refused, Refusal::UnexpectedEof, 3);
+    expect_rejected(rt, &refused, Refusal::UnexpectedEof, 3);
     check!(rt; cuts.left.is_empty());
 }
 
@@ -51,25 +51,25 @@ fn the_longest_digest(rt: HostRuntime) {
     wanted[2] = 1;
     check_eq!(rt; m.encoded_len(), 258);
     expect_bytes(rt, &expect_ok(rt, m.to_bytes(rt.alloc())), &wanted);
-    let mut places = [7u8; 258];
-    let mut left = places.as_mut_slice();
+    let mut buffer = [7u8; 258];
+    let mut left = buffer.as_mut_slice();
     check_eq!(rt; expect_ok(rt, m.write(&mut left)), 258);
-    expect_bytes(rt, &places, &wanted);
+    expect_bytes(rt, &buffer, &wanted);
 }
 
 #[test]
 fn slices_that_fit_and_that_do_not(rt: HostRuntime) {
     let rt = &rt;
     let m = expect_ok(rt, Multihash::<4>::wrap(0, b"ABC"));
-    let mut places = [0u8; 4];
-    check_eq!(rt; fills(&m, &mut places), (false, 0));
-    expect_bytes(rt, &places, &[0, 3, 65, 66]);
-    let mut places = [0u8; 5];
-    check_eq!(rt; fills(&m, &mut places), (true, 0));
-    expect_bytes(rt, &places, &[0, 3, 65, 66, 67]);
-    let mut places = [7u8; 7];
-    check_eq!(rt; fills(&m, &mut places), (true, 2));
-    expect_bytes(rt, &places, &[0, 3, 65, 66, 67, 7, 7]);
+    let mut buffer = [0u8; 4];
+    check_eq!(rt; fills(&m, &mut buffer), (false, 0));
+    expect_bytes(rt, &buffer, &[0, 3, 65, 66]);
+    let mut buffer = [0u8; 5];
+    check_eq!(rt; fills(&m, &mut buffer), (true, 0));
+    expect_bytes(rt, &buffer, &[0, 3, 65, 66, 67]);
+    let mut buffer = [7u8; 7];
+    check_eq!(rt; fills(&m, &mut buffer), (true, 2));
+    expect_bytes(rt, &buffer, &[0, 3, 65, 66, 67, 7, 7]);
 }
 
 #[test]
@@ -78,7 +78,7 @@ fn write_counts_its_bytes(rt: HostRuntime) {
     let m = expect_ok(rt, Multihash::<4>::wrap(0, b"ABC"));
     let mut left: &mut [u8] = &mut [0; 4];
     let refused = m.write(&mut left);
-    expect_refused(rt, &refused, Refusal::WriteZero, 4);
+    expect_rejected(rt, &refused, Refusal::WriteZero, 4);
     check_eq!(rt; expect_ok(rt, m.write(&mut [0; 5].as_mut_slice())), 5);
     let empty = expect_ok(rt, Multihash::<4>::wrap(0, &[]));
     check_eq!(rt; expect_ok(rt, empty.write(&mut [0; 2].as_mut_slice())), 2);

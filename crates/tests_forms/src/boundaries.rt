@@ -1,6 +1,6 @@
 //! The longest and the shortest digests.
 use crate::expect::{check, check_eq, expect_ok};
-use fakes::refusal::{Refusal, is_refused};
+use fakes::refusal::{Refusal, is_rejected};
 use multihash::Multihash;
 use std::alloc::Global;
 use std::process::Abort;
@@ -32,7 +32,7 @@ fn lengths_of_forms(rt: HostRuntime) {
     expect_lengths(rt, alloc, &ZEROS[..128], &[0, 128, 1], (131, 137));
     expect_lengths(rt, alloc, &ZEROS[..255], &[0, 255, 1], (258, 264));
     let long = Multihash::<300>::wrap(0, &ZEROS);
-    check!(rt; is_refused(&long, Refusal::InvalidSize(256)));
+    check!(rt; is_rejected(&long, Refusal::InvalidSize(256)));
     let long = Multihash::<128>::wrap(0, &ZEROS[..129]);
-    check!(rt; is_refused(&long, Refusal::InvalidSize(129)));
+    check!(rt; is_rejected(&long, Refusal::InvalidSize(129)));
 }

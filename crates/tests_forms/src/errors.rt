@@ -18,16 +18,16 @@ fn other_keeps_its_text(rt: HostRuntime) {
     check!(rt; !e.is_out_of_memory());
 }
 
-fn expect_told<E: Debug + Drop>(rt: &impl Abort, told: Result<String, E>, text: &str) {
+fn expect_reported<E: Debug + Drop>(rt: &impl Abort, told: Result<String, E>, text: &str) {
     check_eq!(rt; expect_ok(rt, told).as_str(), text);
 }
 
 // The value prints this text, whatever the width and precision.
 fn expect_text<E: std::error::Error>(rt: &impl Abort, alloc: Global, shown: &E, text: &str) {
-    expect_told(rt, format!(in alloc; "{shown}"), text);
-    expect_told(rt, format!(in alloc; "{shown:>40}"), text);
-    expect_told(rt, format!(in alloc; "{shown:.3}"), text);
-    expect_told(rt, format!(in alloc; "{shown:^60.1}"), text);
+    expect_reported(rt, format!(in alloc; "{shown}"), text);
+    expect_reported(rt, format!(in alloc; "{shown:>40}"), text);
+    expect_reported(rt, format!(in alloc; "{shown:.3}"), text);
+    expect_reported(rt, format!(in alloc; "{shown:^60.1}"), text);
 }
 
 fn expect_fault(rt: &impl Abort, alloc: Global, answer: &Result<(), no_std_io::Error>, text: &str) {

@@ -1,7 +1,7 @@
 //! Assertions for tests, proved once for the crate, while `assert!` is proved at each call. Only tests may
 //! end the process, so no library has them. Each borrow of a local and each branch makes the proof of a test
 //! longer: so a note is a value and no formatted text, and `expect_ok` replaces `?`.
-use fakes::refusal::{Refusal, is_refused};
+use fakes::refusal::{Refusal, is_rejected};
 use multihash::Error;
 use std::fmt::Debug;
 use std::process::Abort;
@@ -73,14 +73,14 @@ pub(crate) fn expect_ok<T, E: Debug + Drop>(rt: &impl Abort, answer: Result<T, E
 }
 
 /// Fails where a call was not refused for this reason, and prints the input.
-pub(crate) fn expect_refused<T, N: Debug + Drop>(
+pub(crate) fn expect_rejected<T, N: Debug + Drop>(
     rt: &impl Abort,
     answer: &Result<T, Error>,
     why: Refusal,
     input: N,
 ) {
     assert!(rt;
-        is_refused(answer, why),
+        is_rejected(answer, why),
         "not refused as {why:?}: {input:?}"
     );
 }

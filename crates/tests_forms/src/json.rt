@@ -1,8 +1,8 @@
 //! The JSON form.
 ghost use Rattle.std.specs.Prelude.{◌<◌, ◌^◌};
 
-use crate::expect::{check, check_eq, expect_ok, expect_refused};
-use fakes::refusal::{LARGEST_CODE, Refusal, is_refused};
+use crate::expect::{check, check_eq, expect_ok, expect_rejected};
+use fakes::refusal::{LARGEST_CODE, Refusal, is_rejected};
 use multihash::Multihash;
 use serde_json::Value;
 use std::alloc::Global;
@@ -43,7 +43,7 @@ fn full_buffers_come_back(rt: HostRuntime) {
         expect_members(rt, rt.alloc(), &m, 139);
     }
     let refused = Multihash::<128>::wrap(9223372036854775808, &[200; 128]);
-    check!(rt; is_refused(&refused, Refusal::InvalidCode(9223372036854775808)));
+    check!(rt; is_rejected(&refused, Refusal::InvalidCode(9223372036854775808)));
     let longest = expect_ok(rt, Multihash::<255>::wrap(LARGEST_CODE, &[7; 255]));
     check_eq!(rt; longest.encoded_len(), 266);
     expect_members(rt, rt.alloc(), &longest, 266);
@@ -96,7 +96,7 @@ false
 fn expect_no_bytes<const S: usize>(rt: &impl Abort, value: &Value, text: &str)
     requires { S < 2 ^ 16 }
 {
-    expect_refused(
+    expect_rejected(
         rt,
         &Multihash::<S>::from_value(value),
         Refusal::NotBytes,
@@ -128,5 +128,5 @@ fn a_long_array_is_counted(rt: HostRuntime) {
         expect_ok(rt, members.push(Value::from(7u8)));
     }
     let answer = Multihash::<2>::from_value(&Value::Array(members));
-    check!(rt; is_refused(&answer, Refusal::InvalidSize(100000)));
+    check!(rt; is_rejected(&answer, Refusal::InvalidSize(100000)));
 }

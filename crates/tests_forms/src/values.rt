@@ -1,6 +1,6 @@
 //! Comparing, hashing, truncating and resizing.
 use crate::expect::{check, check_eq, expect_bytes, expect_ok};
-use fakes::refusal::{Refusal, is_refused};
+use fakes::refusal::{Refusal, is_rejected};
 use multihash::{Multihash, MultihashGeneric};
 use std::alloc::Global;
 use std::cmp::Ordering;
@@ -48,7 +48,7 @@ fn a_digest_is_cut(rt: HostRuntime) {
     array[..3].copy_from_slice(b"foo");
     check_eq!(rt; cut.into_inner(), (0, array, 3));
     check_eq!(rt; &m.truncate(9), &m);
-    check!(rt; is_refused(&m.resize::<2>(), Refusal::InvalidSize(6)));
+    check!(rt; is_rejected(&m.resize::<2>(), Refusal::InvalidSize(6)));
 }
 
 #[test]

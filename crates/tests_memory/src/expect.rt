@@ -57,7 +57,7 @@ pub(crate) fn expect_bytes(rt: &impl Abort, bytes: &[u8], wanted: &[u8]) {
 }
 
 /// The value of a result that is not out of memory.
-pub(crate) fn unless_refused<T>(rt: &impl Abort, answer: Result<T, Error>) -> Result<T, Fail> {
+pub(crate) fn unless_rejected<T>(rt: &impl Abort, answer: Result<T, Error>) -> Result<T, Fail> {
     match answer {
         Ok(answer) => Ok(answer),
         Err(e) => {

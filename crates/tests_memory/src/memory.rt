@@ -3,8 +3,8 @@
 //! in turn, and counts them.
 ghost use Rattle.std.specs.Prelude.{◌<◌, ◌^◌};
 
-use crate::expect::{check, check_eq, expect_bytes, unless_refused};
-use fakes::refusal::{LARGEST_CODE, Refusal, is_refused};
+use crate::expect::{check, check_eq, expect_bytes, unless_rejected};
+use fakes::refusal::{LARGEST_CODE, Refusal, is_rejected};
 use multihash::list::{read_list, write_list};
 use multihash::no_std_io::{self, Read, SliceWriter, Write};
 use multihash::{Error, Head, Multihash, laws, varint};
@@ -29,7 +29,7 @@ fn long() -> Result<Multihash<200>, Error> {
 #[test]
 fn refused_to_bytes(rt: HostRuntime) -> Result<(), Fail> {
     let [m, _] = two()?;
-    let bytes = unless_refused(&rt, m.to_bytes(rt.alloc()))?;
+    let bytes = unless_rejected(&rt, m.to_bytes(rt.alloc()))?;
     expect_bytes(&rt, &bytes, &STREAM[..3]);
     check_eq!(rt; bytes.capacity(), m.encoded_len());
     Ok(())
@@ -38,7 +38,7 @@ fn refused_to_bytes(rt: HostRuntime) -> Result<(), Fail> {
 #[test]
 fn refused_to_value(rt: HostRuntime) -> Result<(), Fail> {
     let [m, _] = two()?;
-    let value = unless_refused(&rt, m.to_value(rt.alloc()))?;
+    let value = unless_rejected(&rt, m.to_value(rt.alloc()))?;
     check!(rt; Multihash::from_value(&value)? == m);
     Ok(())
 }
@@ -50,7 +50,7 @@ fn refused_read_list(rt: HostRuntime) -> Result<(), Fail> {
     if answer.is_err() {
         expect_bytes(&rt, left, &STREAM);
     }
-    let list = unless_refused(&rt, answer)?;
+    let list = unless_rejected(&rt, answer)?;
     check!(rt; list.as_slice() == two()?.as_slice());
     expect_bytes(&rt, left, &[7]);
     Ok(())
@@ -74,7 +74,7 @@ fn refused_write(rt: HostRuntime) -> Result<(), Fail> {
     let mut wanted = [65u8; 204];
     wanted[..4].copy_from_slice(&[172, 2, 200, 1]);
     expect_appended(&rt, held, answer.is_err(), &wanted);
-    check_eq!(rt; unless_refused(&rt, answer)?, 204);
+    check_eq!(rt; unless_rejected(&rt, answer)?, 204);
     Ok(())
 }
 
@@ -85,7 +85,7 @@ fn refused_scale_encode(rt: HostRuntime) -> Result<(), Fail> {
     let mut wanted = [65u8; 209];
     wanted[..9].copy_from_slice(&[44, 1, 0, 0, 0, 0, 0, 0, 200]);
     expect_appended(&rt, held, answer.is_err(), &wanted);
-    check_eq!(rt; unless_refused(&rt, answer)?, 209);
+    check_eq!(rt; unless_rejected(&rt, answer)?, 209);
     Ok(())
 }
 
@@ -94,7 +94,7 @@ fn refused_write_list(rt: HostRuntime) -> Result<(), Fail> {
     let mut held = Vec::new(rt.alloc());
     let answer = write_list(&two()?, &mut held);
     expect_appended(&rt, held, answer.is_err(), &STREAM[..6]);
-    unless_refused(&rt, answer)
+    unless_rejected(&rt, answer)
 }
 
 #[test]
@@ -106,7 +106,7 @@ fn refused_write_of_a_long_list(rt: HostRuntime) -> Result<(), Fail> {
     let mut held = Vec::new(rt.alloc());
     let answer = write_list(&[item, item], &mut held);
     expect_appended(&rt, held, answer.is_err(), &wanted);
-    unless_refused(&rt, answer)
+    unless_rejected(&rt, answer)
 }
 
 // A vector whose allocation fails is unchanged, by both calls of a writer.
@@ -119,7 +119,7 @@ fn refused_write_of_a_vector(rt: HostRuntime) -> Result<(), Fail> {
         check!(rt; held.write_all(&[1, 2, 3]).is_ok());
         check_eq!(rt; held.as_slice(), [1, 2, 3].as_slice());
     }
-    check_eq!(rt; unless_refused(&rt, answer.map_err(Error::from))?, 3);
+    check_eq!(rt; unless_rejected(&rt, answer.map_err(Error::from))?, 3);
     check_eq!(rt; held.as_slice(), [1, 2, 3].as_slice());
     Ok(())
 }
@@ -130,7 +130,7 @@ fn refused_push(rt: HostRuntime) -> Result<(), Fail> {
     let mut held = Vec::new(rt.alloc());
     let answer = keep(&mut held, long()?);
     check_eq!(rt; held.len(), usize::from(answer.is_ok()));
-    unless_refused(&rt, answer)
+    unless_rejected(&rt, answer)
 }
 
 fn keep(held: &mut Vec<Multihash<200>>, multihash: Multihash<200>) -> Result<(), Error> {
@@ -159,12 +159,12 @@ fn expect_read(rt: &impl Abort, alloc: Global, first: &Multihash<4>) -> Result<(
 }
 
 fn expect_written(rt: &impl Abort, items: &[Multihash<4>; 2]) -> Result<(), Fail> {
-    let mut places = [0u8; 16];
-    let mut free = places.as_mut_slice();
+    let mut buffer = [0u8; 16];
+    let mut free = buffer.as_mut_slice();
     write_list(items, &mut free)?;
     check_eq!(rt; items[1].scale_encode(&mut free)?, 10);
     check!(rt; free.is_empty());
-    check!(rt; Multihash::<4>::scale_decode(&mut &places[6..])? == items[1]);
+    check!(rt; Multihash::<4>::scale_decode(&mut &buffer[6..])? == items[1]);
     Ok(())
 }
 
@@ -175,11 +175,11 @@ fn needs_no_memory(rt: HostRuntime) -> Result<(), Fail> {
     expect_compared(&rt, &first, &second)?;
     expect_read(&rt, rt.alloc(), &first)?;
     expect_written(&rt, &[first, second])?;
-    check!(rt; is_refused(&Multihash::<4>::from_value(&Value::Null), Refusal::NotBytes));
+    check!(rt; is_rejected(&Multihash::<4>::from_value(&Value::Null), Refusal::NotBytes));
     let refused = Multihash::<4>::wrap(u64::MAX, &[]);
-    check!(rt; is_refused(&refused, Refusal::InvalidCode(u64::MAX)));
+    check!(rt; is_rejected(&refused, Refusal::InvalidCode(u64::MAX)));
     let refused = Multihash::<4>::scale_decode(&mut [255; 8].as_slice());
-    check!(rt; is_refused(&refused, Refusal::InvalidCode(u64::MAX)));
+    check!(rt; is_rejected(&refused, Refusal::InvalidCode(u64::MAX)));
     Ok(())
 }
 
@@ -197,11 +197,11 @@ fn expect_parts(rt: &impl Abort, m: &Multihash<6>) {
 }
 
 fn expect_varints(rt: &impl Abort, m: &Multihash<6>) -> Result<(), Fail> {
-    let mut places = [0u8; 9];
-    check_eq!(rt; m.write(&mut places.as_mut_slice())?, 9);
-    check_eq!(rt; Head::read_front(&places)?.len, 3);
-    check_eq!(rt; varint::read_front(&places)?, (300, 2));
-    check_eq!(rt; varint::read(&mut places.as_slice())?, 300);
+    let mut buffer = [0u8; 9];
+    check_eq!(rt; m.write(&mut buffer.as_mut_slice())?, 9);
+    check_eq!(rt; Head::read_front(&buffer)?.digest_offset, 3);
+    check_eq!(rt; varint::read_front(&buffer)?, (300, 2));
+    check_eq!(rt; varint::read(&mut buffer.as_slice())?, 300);
     check_eq!(rt; varint::len(300)?, 2);
     check_eq!(rt; varint::write(300, &mut [0u8; 2].as_mut_slice())?, 2);
     Ok(())
@@ -245,21 +245,21 @@ fn errors_need_no_memory(rt: HostRuntime) {
             .is_some_and(|e| e.is_other() && e.text() == "x" && !e.is_write_zero())
     );
     check!(rt; !e.is_overflow() && !e.is_insufficient() && !e.is_not_minimal());
-    check!(rt; e.invalid_size().is_none() && e.invalid_code().is_none() && !e.is_early_end());
+    check!(rt; e.invalid_size().is_none() && e.invalid_code().is_none() && !e.is_incomplete());
     let e = Error::from(no_std_io::Error::out_of_memory());
     check!(rt;
-        Refusal::of(&e) == Some(Refusal::OutOfMemory) && !e.is_early_end() && !e.is_not_bytes()
+        Refusal::of(&e) == Some(Refusal::OutOfMemory) && !e.is_incomplete() && !e.is_not_bytes()
     );
     let empty = Value::Array(Vec::new(rt.alloc()));
     check!(rt; Multihash::<4>::from_value(&empty).is_err_and(|e| e.is_insufficient()));
 }
 
 #[test]
-fn too_many_places_are_refused(rt: HostRuntime) -> Result<(), Fail> {
+fn too_many_places_are_rejected(rt: HostRuntime) -> Result<(), Fail> {
     for count in [usize::MAX, usize::MAX / 2] {
         let mut left = STREAM.as_slice();
         let refused = read_list::<4, _>(rt.alloc(), &mut left, count);
-        check!(rt; is_refused(&refused, Refusal::OutOfMemory));
+        check!(rt; is_rejected(&refused, Refusal::OutOfMemory));
         expect_bytes(&rt, left, &STREAM);
         let list = read_list::<4, _>(rt.alloc(), &mut left, 2)?;
         check!(rt; list.as_slice() == two()?.as_slice());

@@ -1,5 +1,5 @@
 //! Failing allocations of a Merkle tree, as in `memory`.
-use crate::expect::{check, check_eq, unless_refused};
+use crate::expect::{check, check_eq, unless_rejected};
 use multihash::Error;
 use std::test::Fail;
 use storage::content::hash_of;
@@ -9,7 +9,7 @@ use storage::merkle::{root_and_path, verify_path};
 fn refused_root_and_path(rt: HostRuntime) -> Result<(), Fail> {
     let leaves = [hash_of(b"a"), hash_of(b"b"), hash_of(b"c")];
     let answer = root_and_path(rt.alloc(), &leaves, 0).map_err(Error::from);
-    let (root, path) = unless_refused(&rt, answer)?;
+    let (root, path) = unless_rejected(&rt, answer)?;
     check_eq!(rt; path.len(), 2);
     check!(rt; verify_path(&leaves[0], &path, &root));
     Ok(())

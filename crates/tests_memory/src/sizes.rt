@@ -2,8 +2,8 @@
 //! fails once, and then none.
 ghost use Rattle.std.specs.Prelude.{◌<◌, ◌^◌};
 
-use crate::expect::{check, check_eq, unless_refused};
-use fakes::refusal::{LARGEST_CODE, Refusal, is_refused};
+use crate::expect::{check, check_eq, unless_rejected};
+use fakes::refusal::{LARGEST_CODE, Refusal, is_rejected};
 use multihash::list::{read_list, write_list};
 use multihash::{Error, Multihash};
 use std::alloc::Global;
@@ -15,8 +15,8 @@ fn expect_forms_at<const S: usize>(rt: &impl Abort, alloc: Global) -> Result<(),
     requires { S < 2 ^ 16 }
 {
     let m = Multihash::<S>::wrap(300, &[65; S])?;
-    unless_refused(rt, m.to_bytes(alloc))?;
-    unless_refused(rt, m.to_value(alloc))?;
+    unless_rejected(rt, m.to_bytes(alloc))?;
+    unless_rejected(rt, m.to_value(alloc))?;
     Ok(())
 }
 
@@ -48,8 +48,8 @@ fn expect_list_of<const S: usize>(rt: &impl Abort, alloc: Global, count: usize) 
     requires { S < 2 ^ 16 }
 {
     let answer = read_list::<S, _>(alloc, &mut [0u8, 0].as_slice(), count);
-    if !is_refused(&answer, Refusal::Insufficient) {
-        unless_refused(rt, answer)?;
+    if !is_rejected(&answer, Refusal::Insufficient) {
+        unless_rejected(rt, answer)?;
     }
     Ok(())
 }
@@ -77,13 +77,13 @@ fn refused_read_of_long_lists(rt: HostRuntime) -> Result<(), Fail> {
 #[test]
 fn refused_room_alone(rt: HostRuntime) -> Result<(), Fail> {
     let room = Vec::with_capacity(rt.alloc(), 8192).map_err(Error::from);
-    let mut held = unless_refused(&rt, room)?;
+    let mut held = unless_rejected(&rt, room)?;
     for len in [0usize, 1, 31, 32, 33, 64, 127, 128, 200, 255] {
         let m = Multihash::<255>::wrap(300, [65; 255].get(..len).unwrap_or(&[]))?;
-        unless_refused(&rt, m.write(&mut held))?;
-        unless_refused(&rt, m.write(&mut &mut held))?;
-        unless_refused(&rt, m.scale_encode(&mut held))?;
-        unless_refused(&rt, write_list(&[m, m], &mut held))?;
+        unless_rejected(&rt, m.write(&mut held))?;
+        unless_rejected(&rt, m.write(&mut &mut held))?;
+        unless_rejected(&rt, m.scale_encode(&mut held))?;
+        unless_rejected(&rt, write_list(&[m, m], &mut held))?;
     }
     check_eq!(rt; held.capacity(), 8192);
     Ok(())
@@ -98,8 +98,8 @@ fn expect_usual_forms<const S: usize>(rt: &impl Abort, alloc: Global) -> Result<
 {
     for code in USUAL {
         let m = Multihash::<S>::wrap(code, &[65; 32])?;
-        unless_refused(rt, m.to_bytes(alloc))?;
-        unless_refused(rt, m.to_value(alloc))?;
+        unless_rejected(rt, m.to_bytes(alloc))?;
+        unless_rejected(rt, m.to_value(alloc))?;
     }
     Ok(())
 }
@@ -116,11 +116,11 @@ fn expect_no_request<const S: usize>(rt: &impl Abort) -> Result<(), Fail>
 {
     for code in USUAL {
         let m = Multihash::<S>::wrap(code, &[65; 32])?;
-        let mut places = [0u8; 64];
-        let len = m.write(&mut places.as_mut_slice())?;
-        check!(rt; Multihash::<S>::from_bytes(places.get(..len).unwrap_or(&[]))? == m);
-        m.scale_encode(&mut places.as_mut_slice())?;
-        check!(rt; Multihash::<S>::scale_decode(&mut places.as_slice())? == m);
+        let mut buffer = [0u8; 64];
+        let len = m.write(&mut buffer.as_mut_slice())?;
+        check!(rt; Multihash::<S>::from_bytes(buffer.get(..len).unwrap_or(&[]))? == m);
+        m.scale_encode(&mut buffer.as_mut_slice())?;
+        check!(rt; Multihash::<S>::scale_decode(&mut buffer.as_slice())? == m);
         check!(rt; m.clone().is_ok());
     }
     Ok(())

@@ -1,5 +1,5 @@
 //! The number of calls of readers and writers, and that there is none after a failure.
-use crate::expect::{check, check_eq, expect_bytes, expect_ok, expect_refused};
+use crate::expect::{check, check_eq, expect_bytes, expect_ok, expect_rejected};
 use fakes::readers::{Counts, Cuts, FailAt};
 use fakes::refusal::{LARGEST_CODE, Refusal, is_failed};
 use fakes::writers::{CountsWrites, Drip};
@@ -51,7 +51,7 @@ fn no_items_make_no_call(rt: HostRuntime) {
 
 // The call fails with this error, and none is made after it.
 fn expect_last<T>(rt: &impl Abort, answer: &Result<T, Error>, writer: &CountsWrites, calls: usize) {
-    expect_refused(rt, answer, Refusal::DISK_GONE, calls);
+    expect_rejected(rt, answer, Refusal::DISK_GONE, calls);
     expect_writes(rt, writer, (0, calls.saturating_add(1)));
 }
 
@@ -82,7 +82,7 @@ fn a_full_writer_is_not_asked_again(rt: HostRuntime) {
     check_eq!(rt; writer.asked, 3);
     let m = expect_ok(rt, Multihash::<4>::wrap(300, b"AB"));
     let mut writer = expect_ok(rt, Drip::new(alloc, 2, 7));
-    expect_refused(rt, &m.write(&mut writer), Refusal::WriteZero, 2);
+    expect_rejected(rt, &m.write(&mut writer), Refusal::WriteZero, 2);
     check_eq!(rt; writer.asked, 2);
 }
 
@@ -94,7 +94,7 @@ fn expect_end<T>(
     reader: &Counts,
     asked: (usize, usize, usize),
 ) {
-    expect_refused(rt, answer, why, asked);
+    expect_rejected(rt, answer, why, asked);
     check_eq!(rt; reader.asked(), asked);
 }
 
@@ -145,11 +145,11 @@ fn an_end_is_met_once(rt: HostRuntime) {
     let rt = &rt;
     let mut reader = FailAt::new(Cuts::new(&[0, 2, 9], 8), 9);
     let answer = Multihash::<4>::read(&mut reader);
-    expect_refused(rt, &answer, Refusal::UnexpectedEof, 4);
+    expect_rejected(rt, &answer, Refusal::UnexpectedEof, 4);
     check_eq!(rt; reader.asked, 4);
     let mut reader = FailAt::new(Cuts::new(&SCALE[..4], 8), 9);
     let answer = Multihash::<4>::scale_decode(&mut reader);
-    expect_refused(rt, &answer, Refusal::UnexpectedEof, 2);
+    expect_rejected(rt, &answer, Refusal::UnexpectedEof, 2);
     check_eq!(rt; reader.asked, 2);
 }
 
@@ -178,7 +178,7 @@ fn scale_decode_asks_for_its_three_parts(rt: HostRuntime) {
 
 // The call fails with this error, and no method of the reader was called after it.
 fn expect_last_read<T>(rt: &impl Abort, answer: &Result<T, Error>, reader: &Counts, calls: usize) {
-    expect_refused(rt, answer, Refusal::LINK_DOWN, calls);
+    expect_rejected(rt, answer, Refusal::LINK_DOWN, calls);
     let (single, others, whole) = reader.asked();
     let all = single.saturating_add(others).saturating_add(whole);
     check_eq!(rt; all, calls.saturating_add(1));

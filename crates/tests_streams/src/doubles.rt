@@ -1,8 +1,8 @@
-//! The helpers of the tests: what `is_refused` and `is_failed` return false for, and that each fake reads, writes and
+//! The helpers of the tests: what `is_rejected` and `is_failed` return false for, and that each fake reads, writes and
 //! fails as its docstring says.
 use crate::expect::{check, check_eq, expect_bytes, expect_ok};
 use fakes::readers::{Counts, Cuts, FailAt, Silent};
-use fakes::refusal::{Refusal, is_failed, is_refused};
+use fakes::refusal::{Refusal, is_failed, is_rejected};
 use fakes::writers::{CountsWrites, Drip, FailWrite};
 use multihash::no_std_io::{self, Read, Write};
 use multihash::{Error, Multihash};
@@ -45,7 +45,7 @@ fn a_refusal_is_no_other(rt: HostRuntime) {
     let rt = &rt;
     for (row, answer) in answers().iter().enumerate() {
         for (column, why) in REFUSALS.iter().enumerate() {
-            check_eq!(rt; is_refused(answer, *why), row == column, (row, column));
+            check_eq!(rt; is_rejected(answer, *why), row == column, (row, column));
         }
     }
 }

@@ -1,6 +1,6 @@
 //! Readers and writers that return few bytes, end and fail, at each call and with each capacity: what was
 //! consumed or appended by then, and that an error is passed on unchanged.
-use crate::expect::{check, check_eq, expect_bytes, expect_ok, expect_refused};
+use crate::expect::{check, check_eq, expect_bytes, expect_ok, expect_rejected};
 use crate::form::{Form, two};
 use fakes::readers::{Cuts, FailAt, Silent};
 use fakes::refusal::Refusal;
@@ -21,7 +21,7 @@ fn expect_reader_fault(
     why: Refusal,
 ) {
     let refused = form.reads(alloc, &mut reader);
-    expect_refused(rt, &refused, why, (form, calls));
+    expect_rejected(rt, &refused, why, (form, calls));
     check_eq!(rt; Some(reader.cuts.left), form.and_more().get(calls..));
     check_eq!(rt; reader.asked, calls.saturating_add(1));
 }
@@ -48,8 +48,8 @@ fn a_reader_fails_at_its_second_call(rt: HostRuntime) {
     let rt = &rt;
     let mut reader = FailAt::new(Cuts::new(&[0, 1, 65], 1), 1);
     let answer = Multihash::<4>::read(&mut reader);
-    expect_refused(rt, &answer, Refusal::LINK_DOWN, 1);
-    check!(rt; matches!(&answer, Err(e) if !e.is_early_end()));
+    expect_rejected(rt, &answer, Refusal::LINK_DOWN, 1);
+    check!(rt; matches!(&answer, Err(e) if !e.is_incomplete()));
     expect_text(rt, alloc, &answer, "link down");
     expect_bytes(rt, reader.cuts.left, &[1, 65]);
 }
@@ -105,7 +105,7 @@ fn a_reader_is_read_on_after_a_fault(rt: HostRuntime) {
     }
     let mut reader = FailAt::new(Cuts::new(Form::List.and_more(), 1), 3);
     let refused = read_list::<4, _>(alloc, &mut reader, 2);
-    expect_refused(rt, &refused, Refusal::LINK_DOWN, 3);
+    expect_rejected(rt, &refused, Refusal::LINK_DOWN, 3);
     let list = expect_ok(rt, read_list::<4, _>(alloc, &mut reader, 1));
     let [_, second] = expect_ok(rt, two());
     check!(rt; list.as_slice() == [second].as_slice());
@@ -124,7 +124,7 @@ const REFUSED: [(Form, &[u8]); 7] = [
 ];
 
 // The first bytes are consumed and rejected, and then the form's own are read.
-fn expect_read_on_behind(rt: &impl Abort, alloc: Global, form: Form, input: &[u8]) {
+fn expect_read_on_after(rt: &impl Abort, alloc: Global, form: Form, input: &[u8]) {
     let mut left = input;
     check!(rt; form.reads(alloc, &mut left).is_err(), input);
     expect_bytes(rt, left, form.and_more());
@@ -140,14 +140,14 @@ fn a_reader_is_read_on_after_a_refusal(rt: HostRuntime) {
         let mut input = Vec::new(alloc);
         expect_ok(rt, input.write_all(refused));
         expect_ok(rt, input.write_all(form.and_more()));
-        expect_read_on_behind(rt, alloc, *form, &input);
+        expect_read_on_after(rt, alloc, *form, &input);
     }
 }
 
 fn expect_fault_first(rt: &impl Abort, alloc: Global, form: Form, input: &[u8], calls: usize) {
     let mut reader = FailAt::new(Cuts::new(input, 1), calls);
     let answer = form.reads(alloc, &mut reader);
-    expect_refused(rt, &answer, Refusal::LINK_DOWN, (input, calls));
+    expect_rejected(rt, &answer, Refusal::LINK_DOWN, (input, calls));
     check_eq!(rt; Some(reader.cuts.left), input.get(calls..));
 }
 
@@ -169,7 +169,7 @@ fn a_fault_comes_before_another_refusal(rt: HostRuntime) {
 }
 
 #[test]
-fn every_beginning_ends_early(rt: HostRuntime) {
+fn every_prefix_ends_early(rt: HostRuntime) {
     let alloc = rt.alloc();
     let rt = &rt;
     for form in Form::ALL {
@@ -177,24 +177,24 @@ fn every_beginning_ends_early(rt: HostRuntime) {
         for len in 0..bytes.len() {
             let mut left = &bytes[..len];
             let answer = form.reads(alloc, &mut left);
-            expect_refused(rt, &answer, form.early_end(len), (form, len));
+            expect_rejected(rt, &answer, form.incomplete(len), (form, len));
         }
     }
 }
 
 // An input that ends after that many bytes, in pieces of every size.
 fn expect_end_in_cuts(rt: &impl Abort, alloc: Global, form: Form, input: &[u8]) {
-    let why = form.early_end(input.len());
+    let why = form.incomplete(input.len());
     for most in 1..8 {
         let mut reader = Cuts::new(input, most);
         let answer = form.reads(alloc, &mut reader);
-        expect_refused(rt, &answer, why, (form, input.len(), most));
+        expect_rejected(rt, &answer, why, (form, input.len(), most));
         check!(rt; reader.left.is_empty());
     }
 }
 
 #[test]
-fn every_beginning_in_cuts_ends_early(rt: HostRuntime) {
+fn every_prefix_in_cuts_ends_early(rt: HostRuntime) {
     for form in Form::ALL {
         let bytes = form.bytes();
         for len in 0..bytes.len() {
@@ -227,7 +227,7 @@ fn expect_writer_fault(
     why: Refusal,
 ) {
     let refused = form.writes(&mut writer);
-    expect_refused(rt, &refused, why, (form, calls));
+    expect_rejected(rt, &refused, why, (form, calls));
     check_eq!(rt; Some(writer.drip.held.as_slice()), form.bytes().get(..calls));
     check_eq!(rt; writer.asked, calls.saturating_add(1));
 }
@@ -293,7 +293,7 @@ fn a_writer_is_appended_to_after_a_fault(rt: HostRuntime) {
 
 fn expect_no_room(rt: &impl Abort, form: Form, mut writer: Drip, room: usize) {
     let refused = form.writes(&mut writer);
-    expect_refused(rt, &refused, Refusal::WriteZero, (form, room));
+    expect_rejected(rt, &refused, Refusal::WriteZero, (form, room));
     check_eq!(rt; Some(writer.held.as_slice()), form.bytes().get(..room));
 }
 
@@ -321,18 +321,18 @@ fn every_room(rt: HostRuntime) {
 // The bytes are written, or as many as the capacity allows; no other byte is changed.
 fn expect_in_slice(rt: &impl Abort, form: Form, room: usize) {
     let wanted = form.bytes();
-    let mut places = [0u8; 13];
-    let mut left = places.get_mut(..room).expect(rt, "no such room");
+    let mut buffer = [0u8; 13];
+    let mut left = buffer.get_mut(..room).expect(rt, "no such room");
     let answer = form.writes(&mut left);
     check_eq!(rt; left.len(), room.saturating_sub(wanted.len()), form);
     if room < wanted.len() {
-        expect_refused(rt, &answer, Refusal::WriteZero, (form, room));
+        expect_rejected(rt, &answer, Refusal::WriteZero, (form, room));
     } else {
         check!(rt; expect_ok(rt, answer), (form, room));
     }
     let written = room.min(wanted.len());
-    check_eq!(rt; places.get(..written), wanted.get(..written));
-    check_eq!(rt; places.get(written..), [0u8; 13].get(written..));
+    check_eq!(rt; buffer.get(..written), wanted.get(..written));
+    check_eq!(rt; buffer.get(written..), [0u8; 13].get(written..));
 }
 
 #[test]

@@ -72,7 +72,7 @@ impl Form {
     }
 
     /// The error for an input that ends after that many bytes: within a varint, or not.
-    pub(crate) fn early_end(self, len: usize) -> Refusal {
+    pub(crate) fn incomplete(self, len: usize) -> Refusal {
         let in_a_varint = match self {
             Form::Binary => len < 3,
             Form::Scale => false,

@@ -18,10 +18,10 @@ mod list;
 #[cfg(test)]
 mod no_std_io;
 #[cfg(test)]
-mod places;
-#[cfg(test)]
 mod recovery;
 #[cfg(test)]
 mod retries;
+#[cfg(test)]
+mod slices;
 #[cfg(test)]
 mod storage;

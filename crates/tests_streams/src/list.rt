@@ -1,7 +1,7 @@
 //! Worked values of streams.
 ghost use Rattle.std.specs.Prelude.{◌<◌, ◌^◌};
 
-use crate::expect::{check, check_eq, expect_bytes, expect_ok, expect_refused};
+use crate::expect::{check, check_eq, expect_bytes, expect_ok, expect_rejected};
 use crate::form::two;
 use fakes::readers::{Cuts, Silent};
 use fakes::refusal::Refusal;
@@ -36,7 +36,7 @@ fn two_of_a_stream(rt: HostRuntime) {
         expect_bytes(rt, reader.left, &[7]);
         let mut reader = Cuts::new(&STREAM, most);
         let refused = read_list::<4, _>(alloc, &mut reader, 3);
-        expect_refused(rt, &refused, Refusal::Insufficient, most);
+        expect_rejected(rt, &refused, Refusal::Insufficient, most);
         check!(rt; reader.left.is_empty());
     }
 }
@@ -49,8 +49,8 @@ fn no_items_take_nothing(rt: HostRuntime) {
     check!(rt; expect_ok(rt, read_list::<4, _>(alloc, &mut left, 0)).is_empty());
     expect_bytes(rt, left, &[5]);
     let none: [Multihash<4>; 0] = [];
-    let mut places = [0u8; 0];
-    expect_ok(rt, write_list(&none, &mut places.as_mut_slice()));
+    let mut buffer = [0u8; 0];
+    expect_ok(rt, write_list(&none, &mut buffer.as_mut_slice()));
     check_eq!(rt; fills_list(&none, &mut []), (true, 0));
 }
 
@@ -67,7 +67,7 @@ fn expect_first<const S: usize>(
 {
     let mut left = input;
     let refused = read_list::<S, _>(alloc, &mut left, count);
-    expect_refused(rt, &refused, why, input);
+    expect_rejected(rt, &refused, why, input);
     expect_bytes(rt, left, wanted);
 }
 
@@ -88,11 +88,11 @@ fn two_are_written(rt: HostRuntime) {
     let alloc = rt.alloc();
     let rt = &rt;
     let items = expect_ok(rt, two());
-    let mut places = [0u8; 4];
-    let mut left = places.as_mut_slice();
-    expect_refused(rt, &write_list(&items, &mut left), Refusal::WriteZero, 4);
+    let mut buffer = [0u8; 4];
+    let mut left = buffer.as_mut_slice();
+    expect_rejected(rt, &write_list(&items, &mut left), Refusal::WriteZero, 4);
     check!(rt; left.is_empty());
-    expect_bytes(rt, &places, &[0, 1, 65, 18]);
+    expect_bytes(rt, &buffer, &[0, 1, 65, 18]);
     let mut bytes = Vec::new(alloc);
     expect_ok(rt, write_list(&items, &mut bytes));
     expect_bytes(rt, &bytes, &STREAM[..6]);
@@ -103,11 +103,11 @@ fn slices_that_fit_and_that_do_not(rt: HostRuntime) {
     let rt = &rt;
     let items = expect_ok(rt, two());
     for room in 0..9 {
-        let mut places = [9u8; 8];
-        let filled = fills_list(&items, &mut places[..room]);
+        let mut buffer = [9u8; 8];
+        let filled = fills_list(&items, &mut buffer[..room]);
         check_eq!(rt; filled, (room >= 6, room.saturating_sub(6)));
         let written = room.min(6);
-        expect_bytes(rt, &places[..written], &STREAM[..written]);
+        expect_bytes(rt, &buffer[..written], &STREAM[..written]);
     }
 }
 

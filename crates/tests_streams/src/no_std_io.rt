@@ -4,7 +4,7 @@ use fakes::readers::{Cuts, FailAt, Silent};
 use fakes::refusal::{Refusal, is_failed};
 use fakes::writers::{Drip, FailWrite};
 use multihash::no_std_io::{Read, Write};
-use uses::bytes::{fill_two, first_byte, joined, read_one, write_two};
+use uses::bytes::{concatenated, fill_two, first_byte, read_one, write_two};
 
 #[test]
 fn a_short_slice_is_left_as_it_is(rt: HostRuntime) {
@@ -39,7 +39,7 @@ fn no_places_are_always_filled(rt: HostRuntime) {
 }
 
 #[test]
-fn cuts_are_joined(rt: HostRuntime) {
+fn cuts_are_concatenated(rt: HostRuntime) {
     let rt = &rt;
     let mut reader = Cuts::new(&[1, 2, 3], 2);
     let mut buf = [0u8; 4];
@@ -53,7 +53,7 @@ fn cuts_are_joined(rt: HostRuntime) {
 }
 
 #[test]
-fn a_lent_reader_reads(rt: HostRuntime) {
+fn a_borrowed_reader_reads(rt: HostRuntime) {
     let rt = &rt;
     let mut slice = [4u8, 5, 6, 7].as_slice();
     let mut lent = &mut slice;
@@ -66,7 +66,7 @@ fn a_lent_reader_reads(rt: HostRuntime) {
 }
 
 #[test]
-fn a_lent_reader_leaves_a_short_slice(rt: HostRuntime) {
+fn a_borrowed_reader_leaves_a_short_slice(rt: HostRuntime) {
     let rt = &rt;
     let mut slice = [4u8].as_slice();
     let mut lent = &mut slice;
@@ -96,27 +96,27 @@ fn a_silent_reader_reads(rt: HostRuntime) {
 #[test]
 fn a_slice_is_filled(rt: HostRuntime) {
     let rt = &rt;
-    let mut places = [0u8; 2];
-    let mut left = places.as_mut_slice();
+    let mut buffer = [0u8; 2];
+    let mut left = buffer.as_mut_slice();
     let refused = left.write_all(&[7, 8, 9]);
     let is_full = left.is_empty();
     check!(rt; is_failed(&refused, Refusal::WriteZero));
     check!(rt; is_full);
-    expect_bytes(rt, &places, &[7, 8]);
+    expect_bytes(rt, &buffer, &[7, 8]);
 }
 
 #[test]
 fn a_slice_is_written_in_parts(rt: HostRuntime) {
     let rt = &rt;
-    let mut places = [0u8; 4];
-    let mut left = places.as_mut_slice();
+    let mut buffer = [0u8; 4];
+    let mut left = buffer.as_mut_slice();
     let first = left.write(&[1, 2, 3]);
     let second = left.write(&[4, 5]);
     let third = left.write(&[6]);
     check_eq!(rt; first.ok(), Some(3));
     check_eq!(rt; second.ok(), Some(1));
     check_eq!(rt; third.ok(), Some(0));
-    expect_bytes(rt, &places, &[1, 2, 3, 4]);
+    expect_bytes(rt, &buffer, &[1, 2, 3, 4]);
 }
 
 #[test]
@@ -139,7 +139,7 @@ fn a_vector_grows(rt: HostRuntime) {
 }
 
 #[test]
-fn a_lent_writer_writes(rt: HostRuntime) {
+fn a_borrowed_writer_writes(rt: HostRuntime) {
     let rt = &rt;
     let mut held = Vec::new(rt.alloc());
     let mut lent = &mut held;
@@ -172,9 +172,9 @@ fn the_laws_serve_callers(rt: HostRuntime) {
     let rt = &rt;
     check_eq!(rt; first_byte(&[4, 5]), Some(4));
     check_eq!(rt; first_byte(&[]), None);
-    let mut places = [0u8; 4];
-    check_eq!(rt; fill_two(&mut places, &[1], &[2, 3]), 1);
-    expect_bytes(rt, &places, &[1, 2, 3, 0]);
-    let all = expect_ok(rt, joined(rt.alloc(), &[1], &[2]));
+    let mut buffer = [0u8; 4];
+    check_eq!(rt; fill_two(&mut buffer, &[1], &[2, 3]), 1);
+    expect_bytes(rt, &buffer, &[1, 2, 3, 0]);
+    let all = expect_ok(rt, concatenated(rt.alloc(), &[1], &[2]));
     expect_bytes(rt, &all, &[1, 2]);
 }

@@ -1,5 +1,5 @@
 //! A reader that retries another one.
-use crate::expect::{check_eq, expect_bytes, expect_ok, expect_refused};
+use crate::expect::{check_eq, expect_bytes, expect_ok, expect_rejected};
 use fakes::readers::{Cuts, FailAt};
 use fakes::refusal::Refusal;
 use multihash::Multihash;
@@ -30,7 +30,7 @@ fn with_no_try_left_the_failure_is_handed_on(rt: HostRuntime) {
     for calls in 0..4 {
         let mut again = Retries::new(FailAt::new(Cuts::new(&STREAM, 1), calls), 0);
         let refused = Multihash::<4>::read(&mut again);
-        expect_refused(rt, &refused, Refusal::LINK_DOWN, calls);
+        expect_rejected(rt, &refused, Refusal::LINK_DOWN, calls);
         check_eq!(rt; again.reader.asked, calls + 1);
     }
 }

@@ -1,5 +1,5 @@
 //! The readers, writers and the log of `storage`.
-use crate::expect::{check, check_eq, expect_bytes, expect_ok, expect_refused};
+use crate::expect::{check, check_eq, expect_bytes, expect_ok, expect_rejected};
 use fakes::readers::{Cuts, FailAt};
 use fakes::refusal::{Refusal, is_failed};
 use fakes::writers::{Drip, FailWrite};
@@ -57,10 +57,10 @@ fn chunks_are_read_in_a_row(rt: HostRuntime) {
     let mut chunks = Chunks::new(&slices);
     let hash = expect_ok(rt, Multihash::<4>::read(&mut chunks));
     check_eq!(rt; (hash.code(), hash.digest()), (18, b"AB".as_slice()));
-    let mut places = [0; 4];
-    check_eq!(rt; expect_ok(rt, chunks.read(&mut places)), 2);
-    expect_bytes(rt, &places, &[1, 2, 0, 0]);
-    check_eq!(rt; expect_ok(rt, chunks.read(&mut places)), 0);
+    let mut buffer = [0; 4];
+    check_eq!(rt; expect_ok(rt, chunks.read(&mut buffer)), 2);
+    expect_bytes(rt, &buffer, &[1, 2, 0, 0]);
+    check_eq!(rt; expect_ok(rt, chunks.read(&mut buffer)), 0);
     check!(rt; is_failed(&chunks.read_exact(&mut [0]), Refusal::UnexpectedEof));
 }
 
@@ -89,18 +89,18 @@ fn what_was_written_is_hashed(rt: HostRuntime) {
 fn what_was_read_is_hashed(rt: HostRuntime) {
     let rt = &rt;
     for n in 0..5 {
-        let mut places = [0; 4];
+        let mut buffer = [0; 4];
         let mut reader = HashingReader::new(Cuts::new(b"abc", 1));
-        let answer = reader.read_exact(&mut places[..n]);
+        let answer = reader.read_exact(&mut buffer[..n]);
         check_eq!(rt; is_failed(&answer, Refusal::UnexpectedEof), n == 4);
         let read = n.min(3);
-        expect_bytes(rt, &places[..read], &b"abc"[..read]);
+        expect_bytes(rt, &buffer[..read], &b"abc"[..read]);
         check_eq!(rt; reader.tally.count(), read as u64);
         let (hash, inner) = reader.finish();
         expect_bytes(rt, inner.left, &b"abc"[read..]);
         check!(rt; hash == hash_of(&b"abc"[..read]));
         let mut reader = HashingReader::new(FailAt::new(Cuts::new(b"abc", 1), n));
-        check_eq!(rt; is_failed(&reader.read_exact(&mut places[..3]), Refusal::LINK_DOWN), n < 3);
+        check_eq!(rt; is_failed(&reader.read_exact(&mut buffer[..3]), Refusal::LINK_DOWN), n < 3);
         check!(rt; reader.finish().0 == hash_of(&b"abc"[..read]));
     }
 }
@@ -121,8 +121,8 @@ fn entries_are_read_back(rt: HostRuntime) {
     check!(rt; reader.left.is_empty());
 }
 
-fn is_entry_refused(answer: &Result<Entry<32>, EntryError>, why: Refusal) -> bool {
-    matches!(answer, Err(EntryError::Refused(e)) if Refusal::of(e) == Some(why))
+fn is_entry_rejected(answer: &Result<Entry<32>, EntryError>, why: Refusal) -> bool {
+    matches!(answer, Err(EntryError::Failed(e)) if Refusal::of(e) == Some(why))
 }
 
 #[test]
@@ -148,7 +148,7 @@ fn cut_entries_are_rejected(rt: HostRuntime) {
         } else {
             Refusal::UnexpectedEof
         };
-        check!(rt; is_entry_refused(&answer, wanted), n);
+        check!(rt; is_entry_rejected(&answer, wanted), n);
         check!(rt; reader.left.is_empty(), n);
     }
 }
@@ -161,7 +161,7 @@ fn failures_of_the_reader_are_passed_on(rt: HostRuntime) {
     for n in 0..FIRST {
         let mut reader = FailAt::new(Cuts::new(&LOG, 1), n);
         let answer: Result<Entry<32>, EntryError> = read_entry(alloc, &mut reader, 3);
-        check!(rt; is_entry_refused(&answer, Refusal::LINK_DOWN), n);
+        check!(rt; is_entry_rejected(&answer, Refusal::LINK_DOWN), n);
         expect_bytes(rt, reader.cuts.left, &LOG[n..]);
     }
 }
@@ -174,11 +174,11 @@ fn failed_writes_append_a_prefix(rt: HostRuntime) {
     for room in 0..FIRST {
         let mut full = expect_ok(rt, Drip::new(alloc, room, 1));
         let answer = write_entry(&hash, b"one", &mut full);
-        expect_refused(rt, &answer, Refusal::WriteZero, room);
+        expect_rejected(rt, &answer, Refusal::WriteZero, room);
         expect_bytes(rt, &full.held, &LOG[..room]);
         let mut fails = FailWrite::out_of_memory(expect_ok(rt, Drip::new(alloc, FIRST, 1)), room);
         let answer = write_entry(&hash, b"one", &mut fails);
-        expect_refused(rt, &answer, Refusal::OutOfMemory, room);
+        expect_rejected(rt, &answer, Refusal::OutOfMemory, room);
         expect_bytes(rt, &fails.drip.held, &LOG[..room]);
     }
 }

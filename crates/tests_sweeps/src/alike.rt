@@ -5,8 +5,8 @@ use std::process::Abort;
 
 const HEAD: Head = Head {
     code: 1,
-    size: 2,
-    len: 3,
+    digest_len: 2,
+    digest_offset: 3,
 };
 
 // Both ways, and the clone of one.
@@ -15,7 +15,8 @@ fn expect_alike(rt: &impl Abort, head: Head, alike: bool) {
     check_eq!(rt; head == HEAD, alike);
     check_eq!(rt; head != HEAD, !alike);
     let copy = head.clone().expect(rt, "a clone");
-    check!(rt; copy.code == head.code && copy.size == head.size && copy.len == head.len);
+    check!(rt; copy.code == head.code && copy.digest_len == head.digest_len);
+    check_eq!(rt; copy.digest_offset, head.digest_offset);
 }
 
 #[test]
@@ -34,7 +35,7 @@ fn heads_differ_in_each_field(rt: HostRuntime) {
         expect_alike(
             &rt,
             Head {
-                size: 2 ^ bit,
+                digest_len: 2 ^ bit,
                 ..HEAD
             },
             false,
@@ -42,7 +43,7 @@ fn heads_differ_in_each_field(rt: HostRuntime) {
         expect_alike(
             &rt,
             Head {
-                len: 3 ^ (1usize << shift),
+                digest_offset: 3 ^ (1usize << shift),
                 ..HEAD
             },
             false,

@@ -25,7 +25,7 @@ fn expect_asked<const S: usize>(
     check!(rt; matches!(form.reads(alloc, items, &mut reader), Ok(true)));
     check_eq!(rt; reader.asked(), requests);
     let mut reader = Counts::new(input);
-    check!(rt; matches!(form.reads_lent(alloc, items, &mut reader), Ok(true)));
+    check!(rt; matches!(form.reads_borrowed(alloc, items, &mut reader), Ok(true)));
     check_eq!(rt; reader.asked(), requests);
 }
 
@@ -44,7 +44,7 @@ fn expect_asked_in_parts<const S: usize>(
     check!(rt; matches!(form.reads(alloc, items, &mut reader), Ok(true)));
     check_eq!(rt; reader.asked, calls);
     let mut reader = FailAt::new(Cuts::new(input, 300), 600);
-    check!(rt; matches!(form.reads_lent(alloc, items, &mut reader), Ok(true)));
+    check!(rt; matches!(form.reads_borrowed(alloc, items, &mut reader), Ok(true)));
     check_eq!(rt; reader.asked, calls);
 }
 
@@ -63,7 +63,7 @@ fn expect_written_to<const S: usize>(
     check!(rt; form.writes(items, &mut writer).is_ok());
     check_eq!(rt; (writer.parts, writer.whole), (0, wholes));
     let mut writer = CountsWrites::new(alloc);
-    check!(rt; form.writes_lent(items, &mut writer).is_ok());
+    check!(rt; form.writes_borrowed(items, &mut writer).is_ok());
     check_eq!(rt; (writer.parts, writer.whole), (parts, 0));
 }
 
@@ -99,46 +99,46 @@ fn each_length_makes_as_many_calls(rt: HostRuntime) {
     }
 }
 
-fn lent_read<R: Read>(r: &mut R, buf: &mut [u8]) -> Result<usize, no_std_io::Error> {
+fn borrowed_read<R: Read>(r: &mut R, buf: &mut [u8]) -> Result<usize, no_std_io::Error> {
     let mut lent = r;
     Read::read(&mut lent, buf)
 }
 
-fn lent_read_exact<R: Read>(r: &mut R, buf: &mut [u8]) -> Result<(), no_std_io::Error> {
+fn borrowed_read_exact<R: Read>(r: &mut R, buf: &mut [u8]) -> Result<(), no_std_io::Error> {
     let mut lent = r;
     Read::read_exact(&mut lent, buf)
 }
 
-fn lent_write<W: Write>(w: &mut W, buf: &[u8]) -> Result<usize, no_std_io::Error> {
+fn borrowed_write<W: Write>(w: &mut W, buf: &[u8]) -> Result<usize, no_std_io::Error> {
     let mut lent = w;
     Write::write(&mut lent, buf)
 }
 
 // What is borrowed is called once, for all of the bytes.
-pub(crate) fn expect_lent(rt: &impl Abort, alloc: Global, bytes: &[u8]) {
+pub(crate) fn expect_borrowed(rt: &impl Abort, alloc: Global, bytes: &[u8]) {
     let len = bytes.len();
     let mut buf = vec![in alloc; 0u8; len].expect(rt, "memory");
     let mut reader = Counts::new(bytes);
-    check_eq!(rt; lent_read(&mut reader, &mut buf).ok(), Some(len));
+    check_eq!(rt; borrowed_read(&mut reader, &mut buf).ok(), Some(len));
     check_eq!(rt; reader.single.saturating_add(reader.others), 1);
     expect_bytes(rt, &buf, bytes);
     let mut buf = vec![in alloc; 0u8; len].expect(rt, "memory");
     let mut reader = Counts::new(bytes);
-    check!(rt; lent_read_exact(&mut reader, &mut buf).is_ok());
+    check!(rt; borrowed_read_exact(&mut reader, &mut buf).is_ok());
     check_eq!(rt; reader.asked(), (0, 0, 1));
     expect_bytes(rt, &buf, bytes);
     let mut writer = CountsWrites::new(alloc);
-    check_eq!(rt; lent_write(&mut writer, bytes).ok(), Some(len));
+    check_eq!(rt; borrowed_write(&mut writer, bytes).ok(), Some(len));
     check_eq!(rt; (writer.parts, writer.whole), (1, 0));
     expect_bytes(rt, &writer.held, bytes);
 }
 
 #[test]
-fn each_length_is_lent(rt: HostRuntime) {
+fn each_length_is_borrowed(rt: HostRuntime) {
     let bytes = many(&rt, rt.alloc());
     for len in 0..511 {
         if let Some(these) = bytes.get(..len) {
-            expect_lent(&rt, rt.alloc(), these);
+            expect_borrowed(&rt, rt.alloc(), these);
         }
     }
 }

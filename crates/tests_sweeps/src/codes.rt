@@ -10,12 +10,12 @@ fn expect_code(rt: &impl Abort, alloc: Global, code: u64, front: &[u8]) {
     let m = Multihash::<32>::wrap(code, &[65; 32]).expect(rt, "it fits");
     check!(rt; m.to_bytes(alloc).is_ok());
     check!(rt; m.to_value(alloc).is_ok());
-    let mut places = [0u8; 40];
-    check!(rt; m.write(&mut places.as_mut_slice()).is_ok());
-    expect_bytes(rt, places.get(..front.len()).unwrap_or(&[]), front);
-    let mut places = [0u8; 41];
-    check!(rt; m.scale_encode(&mut places.as_mut_slice()).is_ok());
-    expect_bytes(rt, &places[..8], &code.to_le_bytes());
+    let mut buffer = [0u8; 40];
+    check!(rt; m.write(&mut buffer.as_mut_slice()).is_ok());
+    expect_bytes(rt, buffer.get(..front.len()).unwrap_or(&[]), front);
+    let mut buffer = [0u8; 41];
+    check!(rt; m.scale_encode(&mut buffer.as_mut_slice()).is_ok());
+    expect_bytes(rt, &buffer[..8], &code.to_le_bytes());
 }
 
 // The codes whose varints have two bytes, of which this is the second.

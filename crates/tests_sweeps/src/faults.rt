@@ -5,7 +5,7 @@ ghost use Rattle.std.specs.Prelude.{◌<◌, ◌^◌};
 use crate::expect::{check, expect_bytes};
 use crate::given::{Code, Form, case, different};
 use fakes::readers::{Counts, Cuts, FailAt};
-use fakes::refusal::{Refusal, is_refused};
+use fakes::refusal::{Refusal, is_rejected};
 use fakes::writers::{CountsWrites, Drip, FailWrite};
 use multihash::list::{read_list, write_list};
 use multihash::{Error, Multihash};
@@ -16,14 +16,14 @@ use std::process::Abort;
 const MOST: usize = 700;
 
 // Whether the call failed with this error, after that many bytes or calls.
-fn expect_refused<T>(
+fn expect_rejected<T>(
     rt: &impl Abort,
     form: Form,
     answer: &Result<T, Error>,
     why: Refusal,
     at: usize,
 ) {
-    check!(rt; is_refused(answer, why), "{form:?}, {why:?} at {at}");
+    check!(rt; is_rejected(answer, why), "{form:?}, {why:?} at {at}");
 }
 
 // A reader without a `read_exact` of its own, which fails after that many bytes.
@@ -50,11 +50,11 @@ fn expect_reader_fault<const S: usize>(
     let rest = input.get(at..).unwrap_or(&[]);
     let mut reader = failing(input, at, why);
     let answer = form.reads(alloc, items, &mut reader);
-    expect_refused(rt, form, &answer, why, at);
+    expect_rejected(rt, form, &answer, why, at);
     expect_bytes(rt, reader.cuts.left, rest);
     let mut reader = failing(input, at, why);
-    let answer = form.reads_lent(alloc, items, &mut reader);
-    expect_refused(rt, form, &answer, why, at);
+    let answer = form.reads_borrowed(alloc, items, &mut reader);
+    expect_rejected(rt, form, &answer, why, at);
     expect_bytes(rt, reader.cuts.left, rest);
 }
 
@@ -90,11 +90,11 @@ fn expect_request_fault<const S: usize>(
     let rest = input.get(given_before(form, calls)..).unwrap_or(&[]);
     let mut reader = refusing(input, calls, why);
     let answer = form.reads(alloc, items, &mut reader);
-    expect_refused(rt, form, &answer, why, calls);
+    expect_rejected(rt, form, &answer, why, calls);
     expect_bytes(rt, reader.left, rest);
     let mut reader = refusing(input, calls, why);
-    let answer = form.reads_lent(alloc, items, &mut reader);
-    expect_refused(rt, form, &answer, why, calls);
+    let answer = form.reads_borrowed(alloc, items, &mut reader);
+    expect_rejected(rt, form, &answer, why, calls);
     expect_bytes(rt, reader.left, rest);
 }
 
@@ -122,11 +122,11 @@ fn expect_writer_fault<const S: usize>(
     let at = front.len();
     let mut writer = failing_writer(rt, alloc, at, why);
     let answer = form.writes(items, &mut writer);
-    expect_refused(rt, form, &answer, why, at);
+    expect_rejected(rt, form, &answer, why, at);
     expect_bytes(rt, &writer.drip.held, front);
     let mut writer = failing_writer(rt, alloc, at, why);
-    let answer = form.writes_lent(items, &mut writer);
-    expect_refused(rt, form, &answer, why, at);
+    let answer = form.writes_borrowed(items, &mut writer);
+    expect_rejected(rt, form, &answer, why, at);
     expect_bytes(rt, &writer.drip.held, front);
 }
 
@@ -193,7 +193,7 @@ fn expect_list_fault(rt: &impl Abort, alloc: Global, at: usize, why: Refusal) {
     let input = [0u8; 80];
     let mut reader = failing(&input, at, why);
     let answer = read_list::<0, _>(alloc, &mut reader, 40);
-    expect_refused(rt, Form::List(40), &answer, why, at);
+    expect_rejected(rt, Form::List(40), &answer, why, at);
     expect_bytes(rt, reader.cuts.left, input.get(at..).unwrap_or(&[]));
 }
 
@@ -201,7 +201,7 @@ fn expect_written_list_fault(rt: &impl Abort, alloc: Global, at: usize, why: Ref
     let items = [Multihash::<0>::default(); 40];
     let mut writer = failing_writer(rt, alloc, at, why);
     let answer = write_list(items.as_slice(), &mut writer);
-    expect_refused(rt, Form::List(40), &answer, why, at);
+    expect_rejected(rt, Form::List(40), &answer, why, at);
     expect_bytes(rt, &writer.drip.held, [0u8; 80].get(..at).unwrap_or(&[]));
 }
 
@@ -247,7 +247,7 @@ fn each_request_of_each_length_fails(rt: HostRuntime) {
 }
 
 // A writer with a `write_all` of its own, which fails at a call of it.
-fn refusing_writer(alloc: Global, calls: usize, why: Refusal) -> CountsWrites {
+fn rejecting_writer(alloc: Global, calls: usize, why: Refusal) -> CountsWrites {
     if why == Refusal::OutOfMemory {
         CountsWrites::out_of_memory(alloc, calls)
     } else {
@@ -266,9 +266,9 @@ fn expect_call_fault<const S: usize>(
     requires { S < 2 ^ 16 }
 {
     for why in [Refusal::DISK_GONE, Refusal::OutOfMemory] {
-        let mut writer = refusing_writer(alloc, calls, why);
+        let mut writer = rejecting_writer(alloc, calls, why);
         let answer = form.writes(items, &mut writer);
-        expect_refused(rt, form, &answer, why, calls);
+        expect_rejected(rt, form, &answer, why, calls);
         expect_bytes(rt, &writer.held, front);
     }
 }

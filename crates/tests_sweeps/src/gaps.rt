@@ -2,14 +2,14 @@
 //! are not ASCII, and buffers and lists that are longer than one digest or two.
 ghost use Rattle.std.specs.Prelude.{◌<◌, ◌^◌};
 
-use crate::asked::{expect_calls, expect_lent};
+use crate::asked::{expect_borrowed, expect_calls};
 use crate::expect::{check, check_eq, expect_bytes};
 use crate::faults::{
     expect_call_faults, expect_faults, expect_request_faults, failing, failing_writer,
 };
 use crate::given::{Code, different, many};
 use crate::grown::{count_own_growths, expect_kept, expect_list};
-use crate::texts::{expect_told, expect_value_shown};
+use crate::texts::{expect_reported, expect_value_shown};
 use crate::written::expect_each_copied;
 use fakes::refusal::{LARGEST_CODE, Refusal, is_failed};
 use multihash::Error;
@@ -139,14 +139,14 @@ fn usual_values_are_shown(rt: HostRuntime) {
 
 // A text with letters of more than one byte, cut after each letter.
 #[test]
-fn texts_of_other_letters_are_told(rt: HostRuntime) {
+fn texts_of_other_letters_are_reported(rt: HostRuntime) {
     let whole = "größer als „eins“";
     for len in 0..25 {
         let text = whole.get(..len).unwrap_or(whole);
         let fault = no_std_io::Error::other(text);
         check_eq!(rt; fault.text(), text);
-        expect_told(&rt, rt.alloc(), &fault, text);
-        expect_told(&rt, rt.alloc(), &Error::from(fault), text);
+        expect_reported(&rt, rt.alloc(), &fault, text);
+        expect_reported(&rt, rt.alloc(), &Error::from(fault), text);
     }
 }
 
@@ -161,10 +161,10 @@ fn lists_of_usual_buffers_are_read_and_written(rt: HostRuntime) {
 }
 
 #[test]
-fn long_buffers_are_lent_and_copied(rt: HostRuntime) {
+fn long_buffers_are_borrowed_and_copied(rt: HostRuntime) {
     let bytes = many(&rt, rt.alloc());
     for len in [4097, 5000, 70000] {
-        expect_lent(&rt, rt.alloc(), bytes.get(..len).unwrap_or(&[]));
+        expect_borrowed(&rt, rt.alloc(), bytes.get(..len).unwrap_or(&[]));
     }
     for len in 301..511 {
         expect_each_copied(&rt, rt.alloc(), bytes.get(..len).unwrap_or(&[]));

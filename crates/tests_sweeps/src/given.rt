@@ -148,7 +148,7 @@ impl Form {
     }
 
     /// Like `writes`, to a borrowed writer.
-    pub(crate) fn writes_lent<const S: usize, W: Write>(
+    pub(crate) fn writes_borrowed<const S: usize, W: Write>(
         self,
         items: &[Multihash<S>],
         w: &mut W,
@@ -176,7 +176,7 @@ impl Form {
     }
 
     /// Like `reads`, from a borrowed reader.
-    pub(crate) fn reads_lent<const S: usize, R: Read>(
+    pub(crate) fn reads_borrowed<const S: usize, R: Read>(
         self,
         alloc: Global,
         items: &[Multihash<S>],

@@ -4,7 +4,7 @@ ghost use Rattle.std.specs.Prelude.{◌<◌, ◌^◌};
 
 use crate::expect::{check, check_eq, expect_bytes};
 use crate::given::{Code, Form, case, different};
-use fakes::refusal::{Refusal, is_refused};
+use fakes::refusal::{Refusal, is_rejected};
 use multihash::Multihash;
 use multihash::list::{read_list, write_list};
 use multihash::no_std_io::Write;
@@ -111,7 +111,7 @@ pub(crate) fn expect_places<const S: usize>(rt: &impl Abort, alloc: Global, coun
     requires { S < 2 ^ 16 }
 {
     let answer = read_list::<S, _>(alloc, &mut [].as_slice(), count);
-    check!(rt; is_refused(&answer, Refusal::Insufficient), "{count}");
+    check!(rt; is_rejected(&answer, Refusal::Insufficient), "{count}");
 }
 
 #[test]

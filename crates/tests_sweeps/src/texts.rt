@@ -56,7 +56,7 @@ fn expect_numbers_about(rt: &impl Abort, alloc: Global, number: u64) {
 }
 
 #[test]
-fn numbers_about_powers_are_told(rt: HostRuntime) {
+fn numbers_about_powers_are_reported(rt: HostRuntime) {
     for number in 0..20000 {
         expect_numbers(&rt, rt.alloc(), number);
     }
@@ -79,19 +79,19 @@ const TEXT: &str =
     "a text of a reader's own, which is longer than any that this library prints, for each of its \
      beginnings is passed on, and printed in full, whatever its length is";
 
-pub(crate) fn expect_told<D: Display>(rt: &impl Abort, alloc: Global, told: &D, wanted: &str) {
+pub(crate) fn expect_reported<D: Display>(rt: &impl Abort, alloc: Global, told: &D, wanted: &str) {
     let text = format!(in alloc; "{told}").expect(rt, "it is told");
     check_eq!(rt; text.as_str(), wanted);
 }
 
 #[test]
-fn texts_of_each_length_are_told(rt: HostRuntime) {
+fn texts_of_each_length_are_reported(rt: HostRuntime) {
     for len in 0..TEXT.len() {
         let text = TEXT.get(..len).unwrap_or("");
         let fault = no_std_io::Error::other(text);
         check_eq!(rt; fault.text(), text);
-        expect_told(&rt, rt.alloc(), &fault, text);
-        expect_told(&rt, rt.alloc(), &Error::from(fault), text);
+        expect_reported(&rt, rt.alloc(), &fault, text);
+        expect_reported(&rt, rt.alloc(), &Error::from(fault), text);
     }
 }
 
@@ -177,12 +177,21 @@ fn values_of_each_length_are_shown(rt: HostRuntime) {
 #[test]
 fn heads_are_shown(rt: HostRuntime) {
     for (code, _) in CODES {
-        for len in [0, 1, 18] {
-            let size = u64::MAX.wrapping_sub(code);
+        for digest_offset in [0, 1, 18] {
+            let digest_len = u64::MAX.wrapping_sub(code);
             let wanted = format!(in rt.alloc();
-                "Head {{ code: {code}, size: {size}, len: {len} }}"
+                "Head {{ code: {code}, digest_len: {digest_len}, digest_offset: {digest_offset} }}"
             ).expect(&rt, "it is told");
-            expect_shown(&rt, rt.alloc(), &Head { code, size, len }, wanted.as_str());
+            expect_shown(
+                &rt,
+                rt.alloc(),
+                &Head {
+                    code,
+                    digest_len,
+                    digest_offset,
+                },
+                wanted.as_str(),
+            );
         }
     }
 }

@@ -4,7 +4,7 @@ ghost use Rattle.std.specs.Prelude.{◌<◌, ◌^◌};
 
 use crate::expect::{check, check_eq, expect_bytes};
 use crate::given::{CODES, Code, Form, case, different, many};
-use fakes::refusal::{Refusal, is_refused};
+use fakes::refusal::{Refusal, is_rejected};
 use multihash::no_std_io::{SliceWriter, Write};
 use multihash::{Error, Multihash};
 use std::alloc::Global;
@@ -17,14 +17,14 @@ const PLACES: usize = 533;
 fn is_written(answer: &Result<usize, Error>, len: usize, room: usize) -> bool {
     match answer {
         Ok(n) => *n == len && len <= room,
-        Err(_) => room < len && is_refused(answer, Refusal::WriteZero),
+        Err(_) => room < len && is_rejected(answer, Refusal::WriteZero),
     }
 }
 
 // The slice has as many of the bytes as fit.
-fn expect_front(rt: &impl Abort, places: &[u8], wanted: &[u8]) {
-    let len = places.len().min(wanted.len());
-    expect_bytes(rt, &places[..len], &wanted[..len]);
+fn expect_front(rt: &impl Abort, buffer: &[u8], wanted: &[u8]) {
+    let len = buffer.len().min(wanted.len());
+    expect_bytes(rt, &buffer[..len], &wanted[..len]);
 }
 
 fn expect_in_slice<const S: usize>(
@@ -37,15 +37,15 @@ fn expect_in_slice<const S: usize>(
     requires { S < 2 ^ 16 }
 {
     let room = room.min(PLACES);
-    let mut places = [0u8; PLACES];
-    let mut left = &mut places[..room];
+    let mut buffer = [0u8; PLACES];
+    let mut left = &mut buffer[..room];
     let answer = form.writes(items, &mut left);
     check_eq!(rt; left.len(), room.saturating_sub(wanted.len()));
     check!(rt; is_written(&answer, wanted.len(), room));
-    expect_front(rt, &places[..room], wanted);
+    expect_front(rt, &buffer[..room], wanted);
 }
 
-fn expect_in_lent_slice<const S: usize>(
+fn expect_in_borrowed_slice<const S: usize>(
     rt: &impl Abort,
     form: Form,
     items: &[Multihash<S>],
@@ -55,12 +55,12 @@ fn expect_in_lent_slice<const S: usize>(
     requires { S < 2 ^ 16 }
 {
     let room = room.min(PLACES);
-    let mut places = [0u8; PLACES];
-    let mut left = &mut places[..room];
-    let answer = form.writes_lent(items, &mut left);
+    let mut buffer = [0u8; PLACES];
+    let mut left = &mut buffer[..room];
+    let answer = form.writes_borrowed(items, &mut left);
     check_eq!(rt; left.len(), room.saturating_sub(wanted.len()));
     check!(rt; is_written(&answer, wanted.len(), room));
-    expect_front(rt, &places[..room], wanted);
+    expect_front(rt, &buffer[..room], wanted);
 }
 
 fn expect_in_slice_writer<const S: usize>(
@@ -73,12 +73,12 @@ fn expect_in_slice_writer<const S: usize>(
     requires { S < 2 ^ 16 }
 {
     let room = room.min(PLACES);
-    let mut places = [0u8; PLACES];
-    let mut writer = SliceWriter::new(&mut places[..room]);
+    let mut buffer = [0u8; PLACES];
+    let mut writer = SliceWriter::new(&mut buffer[..room]);
     let answer = form.writes(items, &mut writer);
     check_eq!(rt; writer.filled, room.min(wanted.len()));
     check!(rt; is_written(&answer, wanted.len(), room));
-    expect_front(rt, &places[..room], wanted);
+    expect_front(rt, &buffer[..room], wanted);
 }
 
 // A borrowed vector is written by its `write`, and the vector itself by its `write_all`.
@@ -96,7 +96,7 @@ fn expect_in_vectors<const S: usize>(
     check!(rt; is_written(&answer, wanted.len(), wanted.len()));
     expect_bytes(rt, &held, wanted);
     let mut held = Vec::new(alloc);
-    let answer = form.writes_lent(items, &mut held);
+    let answer = form.writes_borrowed(items, &mut held);
     check!(rt; is_written(&answer, wanted.len(), wanted.len()));
     expect_bytes(rt, &held, wanted);
 }
@@ -110,7 +110,7 @@ fn expect_written<const S: usize>(rt: &impl Abort, alloc: Global, code: Code, di
         let len = wanted.len();
         for room in [len.saturating_sub(1), len, len.saturating_add(1)] {
             expect_in_slice(rt, form, &items, &wanted, room);
-            expect_in_lent_slice(rt, form, &items, &wanted, room);
+            expect_in_borrowed_slice(rt, form, &items, &wanted, room);
             expect_in_slice_writer(rt, form, &items, &wanted, room);
         }
         expect_in_vectors(rt, alloc, form, &items, &wanted);
@@ -176,18 +176,18 @@ fn each_code_is_written(rt: HostRuntime) {
 }
 
 // A slice as a writer copies bytes of which none is 0, by both of its calls.
-fn expect_copied(rt: &impl Abort, bytes: &[u8], places: &mut [u8]) {
-    let room = places.len();
-    let mut left = &mut places[..];
+fn expect_copied(rt: &impl Abort, bytes: &[u8], buffer: &mut [u8]) {
+    let room = buffer.len();
+    let mut left = &mut buffer[..];
     check_eq!(rt; left.write(bytes).ok(), Some(room.min(bytes.len())));
-    expect_front(rt, places, bytes);
+    expect_front(rt, buffer, bytes);
 }
 
-fn expect_all_copied(rt: &impl Abort, bytes: &[u8], places: &mut [u8]) {
-    let room = places.len();
-    let mut left = &mut places[..];
+fn expect_all_copied(rt: &impl Abort, bytes: &[u8], buffer: &mut [u8]) {
+    let room = buffer.len();
+    let mut left = &mut buffer[..];
     check_eq!(rt; left.write_all(bytes).is_ok(), bytes.len() <= room);
-    expect_front(rt, places, bytes);
+    expect_front(rt, buffer, bytes);
 }
 
 // Counts about powers of two.
@@ -200,10 +200,10 @@ const LENGTHS: [usize; 16] = [
 pub(crate) fn expect_each_copied(rt: &impl Abort, alloc: Global, bytes: &[u8]) {
     let len = bytes.len();
     for room in [len.saturating_sub(1), len, len.saturating_add(1)] {
-        let mut places = vec![in alloc; 0u8; room].expect(rt, "memory");
-        expect_copied(rt, bytes, &mut places);
-        let mut places = vec![in alloc; 0u8; room].expect(rt, "memory");
-        expect_all_copied(rt, bytes, &mut places);
+        let mut buffer = vec![in alloc; 0u8; room].expect(rt, "memory");
+        expect_copied(rt, bytes, &mut buffer);
+        let mut buffer = vec![in alloc; 0u8; room].expect(rt, "memory");
+        expect_all_copied(rt, bytes, &mut buffer);
     }
 }
 

@@ -8,30 +8,30 @@ use Rattle.multihash.specs.Encoding.{IsEncoding}
 use Rattle.multihash.specs.Settling.{IsShortestSettling}
 use Rattle.multihash.specs.Scale.{IsScale, HasScaleVerdict}
 use Rattle.multihash.specs.Json.{IsByteArray, IsJsonList}
-use Rattle.multihash.specs.Taking.{TakesShortestSettling}
-use Rattle.multihash.specs.Reading.{Takes}
+use Rattle.multihash.specs.Consuming.{ConsumesShortestSettling}
+use Rattle.multihash.specs.Reading.{Consumes}
 use Rattle.multihash.specs.Refusal.{Refusal}
-use Rattle.multihash.specs.Answer.{Fields, pair_of, IsRefusal, Answers}
+use Rattle.multihash.specs.Outcome.{Fields, pair_of, IsErrorOf, IsResultOf}
 use Rattle.uses.specs.Listed.{ListsOne}
 use Rattle.multihash.proofs.Writings.EncodingLemmas.{same_cut}
 
 -- what was taken is as long as the one shortest beginning that settles
-pub shortest_len : (S : ℕ) (input left : List ℕ) (one : ExactlyOne (IsShortestSettling S input)) → TakesShortestSettling S input (Some left)
+pub shortest_len : (S : ℕ) (input left : List ℕ) (one : ExactlyOne (IsShortestSettling S input)) → ConsumesShortestSettling S input (Some left)
     → length input - length left ≡ length one.value
 shortest_len S input left one took =
-    let cut : input ≡ took.front ++ left = cc (took.takes) in
+    let cut : input ≡ took.front ++ left = cc (took.consumes) in
     omega (arith, ap length cut, length-append took.front left, ap length (one.only took.front took.shortest))
 
 -- the answer to a verdict that is a pair
-pub answered : (S : ℕ) (p : Pair) (r : Result (Fields S) Refusal) (v : Verdict) → v ≡ accepted p → Answers r v
+pub answered : (S : ℕ) (p : Pair) (r : Result (Fields S) Refusal) (v : Verdict) → v ≡ accepted p → IsResultOf r v
     → MatchResult r (λ m. pair_of m ≡ p) (λ _. ⊥)
 answered S p (Ok m) v same answers =
     let told : accepted (pair_of m) ≡ accepted p = sym answers ∙ same in
     cc
-answered S p (Err e) v same answers = subst (IsRefusal e) same answers
+answered S p (Err e) v same answers = subst (IsErrorOf e) same answers
 
 -- what the answer's bytes list is its pair
-pub lists_answer : (S : ℕ) (bytes : List ℕ) (r : Result (Fields S) Refusal) (v : Verdict) → HasWholeVerdict S bytes v → Answers r v
+pub lists_answer : (S : ℕ) (bytes : List ℕ) (r : Result (Fields S) Refusal) (v : Verdict) → HasWholeVerdict S bytes v → IsResultOf r v
     → IfOk r (λ m. (value : Data) → IsByteArray value bytes → IsJsonList (pair_of m) value)
 lists_answer S bytes (Ok m) v has answers =
     let told : HasWholeVerdict S bytes (accepted (pair_of m)) = subst (HasWholeVerdict S bytes) answers has in
@@ -40,7 +40,7 @@ lists_answer S bytes (Err e) v has answers = tt
 
 -- a value from which a multihash was read lists its pair, which fits
 pub lists_one : (S : ℕ) (value : Data) (m : Fields S) → (bytes : List ℕ) × IsByteArray value bytes × IsEncoding (pair_of m) bytes
-    → ((bytes : List ℕ) → IsByteArray value bytes → (v : Verdict) × HasWholeVerdict S bytes v × Answers (Ok m) v)
+    → ((bytes : List ℕ) → IsByteArray value bytes → (v : Verdict) × HasWholeVerdict S bytes v × IsResultOf (Ok m) v)
     → ListsOne S value
 lists_one S value m ok verdict =
     let v = verdict ok.0 ok.1 in
@@ -53,8 +53,8 @@ pub scale_next : (S before after : ℕ) (old new : Option (List ℕ)) (p : Pair)
     → ((v w : Verdict) → HasScaleVerdict S (bytes ++ more) v → HasScaleVerdict S (bytes ++ more) w → v ≡ w)
     → ((other : List ℕ) → IsScale p other → other ≡ bytes)
     → old ≡ Some (bytes ++ more) → after ≡ before
-    → IfSome old (λ rest. after ≡ before → (v : Verdict) × HasScaleVerdict S rest v × Answers r v)
-    → IfOk r (λ m. (taken : List ℕ) × IsScale (pair_of m) taken × Takes old taken new)
+    → IfSome old (λ rest. after ≡ before → (v : Verdict) × HasScaleVerdict S rest v × IsResultOf r v)
+    → IfOk r (λ m. (consumed : List ℕ) × IsScale (pair_of m) consumed × Consumes old consumed new)
     → MatchResult r (λ m. (pair_of m ≡ p) × (new ≡ Some more)) (λ _. ⊥)
 scale_next S before after None new p bytes more r own unique only rest same verdict ok = cc
 scale_next S before after (Some input) new p bytes more (Ok m) own unique only rest same verdict ok =
@@ -65,13 +65,13 @@ scale_next S before after (Some input) new p bytes more (Ok m) own unique only r
     let pairs : pair_of m ≡ p = cc in
     (pairs, left new spelled (only ok.0 (subst (λ q. IsScale q ok.0) pairs ok.1)) ok.2)
   where
-    left : (new : Option (List ℕ)) → input ≡ bytes ++ more → ok.0 ≡ bytes → Takes (Some input) ok.0 new → new ≡ Some more
-    left None spelled taken takes = cc
-    left (Some behind) spelled taken takes =
-        let cut : ok.0 ++ behind ≡ bytes ++ more = cc in
-        ap Some (same_cut ok.0 bytes behind more (ap length taken) cut).1
+    left : (new : Option (List ℕ)) → input ≡ bytes ++ more → ok.0 ≡ bytes → Consumes (Some input) ok.0 new → new ≡ Some more
+    left None spelled consumed consumes = cc
+    left (Some following) spelled consumed consumes =
+        let cut : ok.0 ++ following ≡ bytes ++ more = cc in
+        ap Some (same_cut ok.0 bytes following more (ap length consumed) cut).1
 scale_next S before after (Some input) new p bytes more (Err e) own unique only rest same verdict ok =
     let v = verdict same in
     let spelled : input ≡ bytes ++ more = cc in
     let has : HasScaleVerdict S (bytes ++ more) v.0 = subst (λ x. HasScaleVerdict S x v.0) spelled v.1 in
-    subst (IsRefusal e) (unique v.0 (accepted p) has own) v.2
+    subst (IsErrorOf e) (unique v.0 (accepted p) has own) v.2

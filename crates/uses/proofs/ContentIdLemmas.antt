@@ -2,21 +2,21 @@
 use Rattle.std.proofs.Common.{◌≡◌, ℕ, ◌+◌, List, [], ◌++◌, length, Option, Some, IfOk, IfErr, IfSome, IsErrOf, MatchResult, ◌↔◌, ◌⊎◌, inl, inr, Result, Ok, Err, OnErr, refl, sym, ap, ◌∙◌, subst, arith, append_assoc, append-nil, length-append}
 use Rattle.std.specs.Result.{IsErrAnd}
 use Rattle.std.proofs.lemmas.List.{append_cancel_right}
-use Rattle.multihash.specs.Bytes.{IsProperBeginning}
+use Rattle.multihash.specs.Bytes.{IsStrictPrefix}
 use Rattle.multihash.specs.Pair.{Pair, FitsBuffer}
 use Rattle.multihash.specs.Encoding.{IsEncoding}
 use Rattle.multihash.specs.Varint.{IsVarint}
-use Rattle.multihash.specs.Reading.{Takes, CountsReader}
-use Rattle.multihash.specs.Taking.{IsReadRefusal, TakesVarint, IsFrontRefusal}
-use Rattle.multihash.specs.Writing.{AppendsPart}
-use Rattle.multihash.specs.Refusal.{Refusal, IsReaderFault}
+use Rattle.multihash.specs.Reading.{Consumes, CountsReaderFailures}
+use Rattle.multihash.specs.Consuming.{ReadMayFailWith, ConsumesVarint, IsFrontError}
+use Rattle.multihash.specs.Writing.{AppendsPrefix}
+use Rattle.multihash.specs.Refusal.{Refusal, IsReaderError}
 use Rattle.multihash.proofs.CallingLemmas.{varint_read}
 use Rattle.multihash.proofs.OutcomeLemmas.{OnErr-always}
-use Rattle.multihash.proofs.Readings.ReadingLemmas.{Takes-joined, Takes-told}
+use Rattle.multihash.proofs.Readings.ReadingLemmas.{Consumes-concatenated, Consumes-told}
 use Rattle.multihash.proofs.Values.ValueLemmas.{digest_fits}
 use Rattle.multihash.proofs.Varints.VarintLemmas.{varint_unique, same_number}
 use Rattle.multihash.proofs.Writings.WritingLemmas.{length_of_not_nil}
-use Rattle.uses.specs.ContentId.{Content, version_0, version_1, content_of, IsContentId, FitsContentId, IsRefused, IsContentIdRefusal, HasOtherSize, BeginsOtherwise, TakesOtherVersion, StopsInContentId, TakesAtContentIdError}
+use Rattle.uses.specs.ContentId.{Content, version_0, version_1, content_of, IsContentId, FitsContentId, IsRejected, ContentIdMayFailWith, HasOtherSize, BeginsOtherwise, ConsumesOtherVersion, StopsInContentId, ConsumesAtContentIdError}
 use Rattle.uses.specs.declared.content_id.ContentId.{ContentId}
 use Rattle.uses.specs.declared.content_id.ContentId.TheVariants.{V0, V1}
 use Rattle.uses.specs.declared.content_id.ContentIdError.{ContentIdError}
@@ -73,7 +73,7 @@ parts_cut c bytes more h =
 
 -- where an identifier comes next, reading a varint gives its first number, and then its second
 module _ (c : Content) (bytes more : List ℕ) (h : Parts c bytes) (before after : ℕ) (old new : Option (List ℕ)) (r : Result ℕ Refusal) (same : after ≡ before)
-    (ok : IfOk r (λ n. TakesVarint n old new)) (front : IfSome old (λ input. after ≡ before → IfErr r (IsFrontRefusal input))) where
+    (ok : IfOk r (λ n. ConsumesVarint n old new)) (front : IfSome old (λ input. after ≡ before → IfErr r (IsFrontError input))) where
   pub first_read : old ≡ Some (bytes ++ more) → MatchResult r (λ n. (n ≡ first_number c) × (new ≡ Some (h.second ++ (h.rest ++ more)))) (λ _. ⊥)
   first_read rest =
       varint_read (first_number c) before after old new h.first (h.second ++ (h.rest ++ more)) r h.is_first (rest ∙ ap Some (parts_cut c bytes more h)) same ok front
@@ -120,31 +120,31 @@ make_version_1 version codec p a b encoding is_version first second encodes = re
 }
 
 -- three parts were taken one after another
-pub takes_three : (a b c d : Option (List ℕ)) (x y z : List ℕ) → Takes a x b → Takes b y c → Takes c z d → Takes a (x ++ (y ++ z)) d
+pub takes_three : (a b c d : Option (List ℕ)) (x y z : List ℕ) → Consumes a x b → Consumes b y c → Consumes c z d → Consumes a (x ++ (y ++ z)) d
 takes_three a b c d x y z first second third =
-    Takes-joined a b d x (y ++ z) (x ++ (y ++ z)) refl first (Takes-joined b c d y z (y ++ z) refl second third)
+    Consumes-concatenated a b d x (y ++ z) (x ++ (y ++ z)) refl first (Consumes-concatenated b c d y z (y ++ z) refl second third)
 
 -- a refusal that is passed on is counted as it was, where nothing was counted before it
 pub passes : {T : Type 0} (S before mid after : ℕ) (e : Refusal) (r : Result T ContentIdError) → mid ≡ before → IsErrAnd r (λ x. x ≡ Refused e)
-    → ((after ≡ mid + 1) × IsReaderFault e) ⊎ ((after ≡ mid) × IsReadRefusal S e)
-    → CountsReader (IsRefused IsReaderFault) (IsContentIdRefusal S) before after r
+    → ((after ≡ mid + 1) × IsReaderError e) ⊎ ((after ≡ mid) × ReadMayFailWith S e)
+    → CountsReaderFailures (IsRejected IsReaderError) (ContentIdMayFailWith S) before after r
 passes S before mid after e (Ok x) same given counted = absurd given
 passes S before mid after e (Err x) same given (inl own) = inl (omega (arith, own.0, same), (e, given, own.1))
 passes S before mid after e (Err x) same given (inr listed) = inr (listed.0 ∙ same, inl (e, given, listed.1))
 
 -- it is one of those or the reader's own
-pub refused_so : {P Q : Type 0} (before after : ℕ) → ((after ≡ before + 1) × Q) ⊎ ((after ≡ before) × P) → P ⊎ Q
-refused_so before after (inl own) = inr own.1
-refused_so before after (inr listed) = inl listed.1
+pub rejected_so : {P Q : Type 0} (before after : ℕ) → ((after ≡ before + 1) × Q) ⊎ ((after ≡ before) × P) → P ⊎ Q
+rejected_so before after (inl own) = inr own.1
+rejected_so before after (inr listed) = inl listed.1
 
 -- and it took what it took
 pub passed_stop : {T : Type 0} (S : ℕ) (old new : Option (List ℕ)) (e : Refusal) (r : Result T ContentIdError) → IsErrAnd r (λ x. x ≡ Refused e)
-    → StopsInContentId S e old new → IfErr r (λ x. TakesAtContentIdError S x old new)
+    → StopsInContentId S e old new → IfErr r (λ x. ConsumesAtContentIdError S x old new)
 passed_stop S old new e (Ok x) given stop = tt
-passed_stop S old new e (Err x) given stop = subst (λ y. TakesAtContentIdError S y old new) (sym given) stop
+passed_stop S old new e (Err x) given stop = subst (λ y. ConsumesAtContentIdError S y old new) (sym given) stop
 
 -- no varint begins what is shorter than one
-no_shorter : (m n : ℕ) (whole shorter rest : List ℕ) → IsVarint m whole → IsProperBeginning shorter whole
+no_shorter : (m n : ℕ) (whole shorter rest : List ℕ) → IsVarint m whole → IsStrictPrefix shorter whole
     → (bytes : List ℕ) × IsVarint n bytes × (shorter ≡ bytes ++ rest) → ⊥
 no_shorter m n whole shorter rest is (more, some, cut) (bytes, also, begins) =
     let spelled : whole ≡ bytes ++ (rest ++ more) = cut ∙ (ap (λ (z : List ℕ). z ++ more) begins ∙ append_assoc bytes rest more) in
@@ -152,19 +152,19 @@ no_shorter m n whole shorter rest is (more, some, cut) (bytes, also, begins) =
     omega (arith, ap (λ (z : List ℕ). length z) told.1, length-append rest more, length_of_not_nil more some)
 
 -- the varint of another version, or that of another length, is the last that is taken
-pub takes_other_number : (n : ℕ) (old new : Option (List ℕ)) → ¬ (n ≡ 1) → ¬ (n ≡ 0x12) → TakesVarint n old new → TakesOtherVersion n old new
+pub takes_other_number : (n : ℕ) (old new : Option (List ℕ)) → ¬ (n ≡ 1) → ¬ (n ≡ 0x12) → ConsumesVarint n old new → ConsumesOtherVersion n old new
 takes_other_number n old new not_1 not_0 v = record {
-  taken = v.0;
-  takes = v.2;
+  consumed = v.0;
+  consumes = v.2;
   shows = record { version = v.0; rest = []; is_version = v.1; not_1 = not_1; not_0 = λ is. absurd (not_0 is); cut = sym (append-nil v.0) };
   no_sooner = λ shorter begins h. no_shorter n n v.0 shorter h.rest v.1 begins (h.version, h.is_version, h.cut);
 }
 
-takes_size : (size : ℕ) (old middle new : Option (List ℕ)) → ¬ (size ≡ 32) → TakesVarint 0x12 old middle → TakesVarint size middle new
-    → TakesOtherVersion 0x12 old new
+takes_size : (size : ℕ) (old middle new : Option (List ℕ)) → ¬ (size ≡ 32) → ConsumesVarint 0x12 old middle → ConsumesVarint size middle new
+    → ConsumesOtherVersion 0x12 old new
 takes_size size old middle new not_32 v s = record {
-  taken = v.0 ++ s.0;
-  takes = Takes-joined old middle new v.0 s.0 (v.0 ++ s.0) refl v.2 s.2;
+  consumed = v.0 ++ s.0;
+  consumes = Consumes-concatenated old middle new v.0 s.0 (v.0 ++ s.0) refl v.2 s.2;
   shows = record {
     version = v.0;
     rest = s.0;
@@ -177,18 +177,18 @@ takes_size size old middle new not_32 v s = record {
       let k = h.not_0 refl in
       let spelled : v.0 ++ s.0 ≡ h.version ++ (h.rest ++ begins.0) =
       begins.2 ∙ (ap (λ (z : List ℕ). z ++ begins.0) h.cut ∙ append_assoc h.version h.rest begins.0) in
-      let behind = same_number (v.0 ++ s.0) 0x12 0x12 s.0 (h.rest ++ begins.0) (v.0, v.1, refl) (h.version, h.is_version, spelled) in
-      no_shorter size k.size s.0 h.rest k.rest s.1 (begins.0, begins.1, behind.1) (k.size_bytes, k.is_size, k.cut);
+      let following = same_number (v.0 ++ s.0) 0x12 0x12 s.0 (h.rest ++ begins.0) (v.0, v.1, refl) (h.version, h.is_version, spelled) in
+      no_shorter size k.size s.0 h.rest k.rest s.1 (begins.0, begins.1, following.1) (k.size_bytes, k.is_size, k.cut);
 }
 
-pub takes_other_size : (version size : ℕ) (old middle new : Option (List ℕ)) → version ≡ 0x12 → ¬ (size ≡ 32) → TakesVarint version old middle
-    → TakesVarint size middle new → TakesOtherVersion version old new
+pub takes_other_size : (version size : ℕ) (old middle new : Option (List ℕ)) → version ≡ 0x12 → ¬ (size ≡ 32) → ConsumesVarint version old middle
+    → ConsumesVarint size middle new → ConsumesOtherVersion version old new
 takes_other_size version size old middle new is not_32 v s =
-    subst (λ n. TakesOtherVersion n old new) (sym is) (takes_size size old middle new not_32 (v.0, subst (λ n. IsVarint n v.0) is v.1, v.2) s)
+    subst (λ n. ConsumesOtherVersion n old new) (sym is) (takes_size size old middle new not_32 (v.0, subst (λ n. IsVarint n v.0) is v.1, v.2) s)
 
 -- what shows another version shows it whatever follows
-size_behind : (input more : List ℕ) → HasOtherSize input → HasOtherSize (input ++ more)
-size_behind input more h = record {
+size_after : (input more : List ℕ) → HasOtherSize input → HasOtherSize (input ++ more)
+size_after input more h = record {
   size = h.size;
   size_bytes = h.size_bytes;
   rest = h.rest ++ more;
@@ -203,23 +203,23 @@ begins_still n input more h = record {
   rest = h.rest ++ more;
   is_version = h.is_version;
   not_1 = h.not_1;
-  not_0 = λ is. size_behind h.rest more (h.not_0 is);
+  not_0 = λ is. size_after h.rest more (h.not_0 is);
   cut = ap (λ (z : List ℕ). z ++ more) h.cut ∙ append_assoc h.version h.rest more;
 }
 
-pub told_other : (S n : ℕ) (input : List ℕ) (new : Option (List ℕ)) (e : ContentIdError) → TakesAtContentIdError S e (Some input) new
+pub reported_other : (S n : ℕ) (input : List ℕ) (new : Option (List ℕ)) (e : ContentIdError) → ConsumesAtContentIdError S e (Some input) new
     → e ≡ OtherVersion n → BeginsOtherwise n input
-told_other S n input new e took is =
-    let t : TakesOtherVersion n (Some input) new = subst (λ y. TakesAtContentIdError S y (Some input) new) is took in
-    let (left, told, cut) = Takes-told input t.taken new t.takes in
-    subst (BeginsOtherwise n) (sym cut) (begins_still n t.taken left t.shows)
+reported_other S n input new e took is =
+    let t : ConsumesOtherVersion n (Some input) new = subst (λ y. ConsumesAtContentIdError S y (Some input) new) is took in
+    let (left, told, cut) = Consumes-told input t.consumed new t.consumes in
+    subst (BeginsOtherwise n) (sym cut) (begins_still n t.consumed left t.shows)
 
 pub other_of_err : {T : Type 0} (S n : ℕ) (input : List ℕ) (new : Option (List ℕ)) (e : ContentIdError) (r : Result T ContentIdError)
-    → IsErrAnd r (λ x. x ≡ e) → TakesAtContentIdError S e (Some input) new
+    → IsErrAnd r (λ x. x ≡ e) → ConsumesAtContentIdError S e (Some input) new
     → (BeginsOtherwise n input → e ≡ OtherVersion n) → IsErrOf r (OtherVersion n) ↔ BeginsOtherwise n input
 other_of_err S n input new e (Ok t) given took told = absurd given
 other_of_err S n input new e (Err x) given took told = (
-  (λ is. let other : x ≡ OtherVersion n = cc (is) in told_other S n input new e took (sym given ∙ other)),
+  (λ is. let other : x ≡ OtherVersion n = cc (is) in reported_other S n input new e took (sym given ∙ other)),
   λ h. ap Err (given ∙ told h),
 )
 
@@ -242,9 +242,9 @@ content_same (version_1 codec p) a b h k =
 
 -- what stopped inside one spelling of an identifier stopped inside each
 pub stops_all : {T E W : Type 0} (appended : W → List ℕ → W → Type 0) (old new : W) (r : Result T E) (c : Content) (x : List ℕ) → IsContentId c x
-    → AppendsPart appended old x new → OnErr r ((bytes : List ℕ) → IsContentId c bytes → AppendsPart appended old bytes new)
+    → AppendsPrefix appended old x new → OnErr r ((bytes : List ℕ) → IsContentId c bytes → AppendsPrefix appended old bytes new)
 stops_all appended old new r c x is_x part =
-    OnErr-always r (λ bytes is_bytes. subst (λ l. AppendsPart appended old l new) (content_same c x bytes is_x is_bytes) part)
+    OnErr-always r (λ bytes is_bytes. subst (λ l. AppendsPrefix appended old l new) (content_same c x bytes is_x is_bytes) part)
 
 -- what two identifiers in front of one list have in common
 module _ (unique : (p q : Pair) (x y r s : List ℕ) → IsEncoding p x → IsEncoding q y → x ++ r ≡ y ++ s → (p ≡ q) × (x ≡ y) × (r ≡ s)) where

@@ -7,11 +7,11 @@ use Rattle.multihash.specs.Pair.{Pair}
 use Rattle.multihash.specs.Encoding.{IsEncoding}
 use Rattle.multihash.specs.Varint.{IsVarint, varint_limit, insufficient, overflow}
 use Rattle.multihash.specs.Fault.{IsUnexpectedEof}
-use Rattle.multihash.specs.Refusal.{of_io, of_size, of_code, of_varint, of_not_bytes, IsFaulty}
-use Rattle.multihash.specs.Answer.{Fields}
+use Rattle.multihash.specs.Refusal.{of_io, of_size, of_code, of_varint, of_not_bytes, IsVarintError}
+use Rattle.multihash.specs.Outcome.{Fields}
 use Rattle.multihash.proofs.Examples.BytesVectors.{all_below}
 use Rattle.multihash.proofs.Examples.VarintVectors.{varint_1, varint_2}
-use Rattle.uses.specs.ContentId.{Content, version_0, version_1, content_of, IsContentId, FitsContentId, IsRefused, IsOtherVersion, IsContentIdRefusal, HasOtherSize, BeginsOtherwise}
+use Rattle.uses.specs.ContentId.{Content, version_0, version_1, content_of, IsContentId, FitsContentId, IsRejected, IsOtherVersion, ContentIdMayFailWith, HasOtherSize, BeginsOtherwise}
 use Rattle.uses.specs.declared.content_id.codec.Codec.{Codec}
 use Rattle.uses.specs.declared.content_id.ContentId.TheVariants.{V0, V1}
 use Rattle.uses.specs.declared.content_id.ContentIdError.{ContentIdError}
@@ -127,8 +127,8 @@ has_version_1 : ¬ (IsContentId (version_1 0x0129 two_bytes) (0x02 ∷ 0xa9 ∷ 
 has_version_1 = spelled_once (version_1 0x0129 two_bytes) dag_json _ names_dag_json (λ same. omega (arith, ap (λ (z : List ℕ). get_or z 0 0) same))
 
 -- the codec stands in front of the multihash
-codec_not_behind : ¬ (IsContentId (version_1 0x0129 two_bytes) (0x01 ∷ 0x12 ∷ 0x02 ∷ 7 ∷ 8 ∷ 0xa9 ∷ 0x02 ∷ []))
-codec_not_behind = spelled_once (version_1 0x0129 two_bytes) dag_json _ names_dag_json (λ same. omega (arith, ap (λ (z : List ℕ). get_or z 1 0) same))
+codec_not_after : ¬ (IsContentId (version_1 0x0129 two_bytes) (0x01 ∷ 0x12 ∷ 0x02 ∷ 7 ∷ 8 ∷ 0xa9 ∷ 0x02 ∷ []))
+codec_not_after = spelled_once (version_1 0x0129 two_bytes) dag_json _ names_dag_json (λ same. omega (arith, ap (λ (z : List ℕ). get_or z 1 0) same))
 
 ends_with_hash : ¬ (IsContentId (version_1 0x0129 two_bytes) (dag_json ++ 9 ∷ []))
 ends_with_hash = spelled_once (version_1 0x0129 two_bytes) dag_json _ names_dag_json (λ same. omega (arith, ap (λ (z : List ℕ). length z) same))
@@ -205,14 +205,14 @@ says_no_other_version = ((λ h. omega (arith, ap version_in h)), λ h. omega (ar
 
 -- ---- refusals
 
-passes_on : IsRefused (IsFaulty insufficient) (Refused (of_varint insufficient))
+passes_on : IsRejected (IsVarintError insufficient) (Refused (of_varint insufficient))
 passes_on = (of_varint insufficient, refl, refl)
 
-passes_on_no_other : ¬ (IsRefused (IsFaulty insufficient) (Refused (of_varint overflow)))
+passes_on_no_other : ¬ (IsRejected (IsVarintError insufficient) (Refused (of_varint overflow)))
 passes_on_no_other (e, is, names) = cc
 
 -- another version and bytes left over are no refusals that are passed on
-passes_on_none : ¬ (IsRefused (λ _. ⊤) (OtherVersion 2)) × ¬ (IsRefused (λ _. ⊤) (LeftOver 2))
+passes_on_none : ¬ (IsRejected (λ _. ⊤) (OtherVersion 2)) × ¬ (IsRejected (λ _. ⊤) (LeftOver 2))
 passes_on_none = ((λ (e, is, any). cc), λ (e, is, any). cc)
 
 other_version : IsOtherVersion (OtherVersion 2)
@@ -226,16 +226,16 @@ names_other_version : ¬ (IsOtherVersion (LeftOver 2)) × ¬ (IsOtherVersion (Re
 names_other_version = ((λ (n, is, other). cc), λ (n, is, other). cc)
 
 -- the errors of reading into four bytes: what refuses a multihash there, and another version
-abbrev Refuses : ContentIdError → Type 0
-Refuses (Refused (of_io own)) = IsUnexpectedEof own
-Refuses (Refused (of_size size)) = 4 < size
-Refuses (Refused (of_code code)) = ⊥
-Refuses (Refused (of_varint fault)) = ⊤
-Refuses (Refused of_not_bytes) = ⊥
-Refuses (OtherVersion n) = ¬ (n ≡ 1)
-Refuses (LeftOver n) = ⊥
+abbrev Rejects : ContentIdError → Type 0
+Rejects (Refused (of_io own)) = IsUnexpectedEof own
+Rejects (Refused (of_size size)) = 4 < size
+Rejects (Refused (of_code code)) = ⊥
+Rejects (Refused (of_varint fault)) = ⊤
+Rejects (Refused of_not_bytes) = ⊥
+Rejects (OtherVersion n) = ¬ (n ≡ 1)
+Rejects (LeftOver n) = ⊥
 
-refuses : (e : ContentIdError) → Refuses e → IsContentIdRefusal 4 e
+refuses : (e : ContentIdError) → Rejects e → ContentIdMayFailWith 4 e
 refuses (Refused (of_io own)) h = inl (of_io own, refl, inr (inr (own, refl, h)))
 refuses (Refused (of_size size)) h = inl (of_size size, refl, inl (size, refl, h))
 refuses (Refused (of_code code)) h = absurd h
@@ -244,11 +244,11 @@ refuses (Refused of_not_bytes) h = absurd h
 refuses (OtherVersion n) h = inr (n, refl, h)
 refuses (LeftOver n) h = absurd h
 
-refuses_only : (e : ContentIdError) → IsContentIdRefusal 4 e → Refuses e
-refuses_only e (inl (x, is, inl (size, names, large))) = subst Refuses (sym (is ∙ ap Refused names)) large
-refuses_only e (inl (x, is, inr (inl (fault, names)))) = subst Refuses (sym (is ∙ ap Refused names)) tt
-refuses_only e (inl (x, is, inr (inr (own, names, kind)))) = subst Refuses (sym (is ∙ ap Refused names)) kind
-refuses_only e (inr (n, is, other)) = subst Refuses (sym is) other
+rejects_only : (e : ContentIdError) → ContentIdMayFailWith 4 e → Rejects e
+rejects_only e (inl (x, is, inl (size, names, large))) = subst Rejects (sym (is ∙ ap Refused names)) large
+rejects_only e (inl (x, is, inr (inl (fault, names)))) = subst Rejects (sym (is ∙ ap Refused names)) tt
+rejects_only e (inl (x, is, inr (inr (own, names, kind)))) = subst Rejects (sym (is ∙ ap Refused names)) kind
+rejects_only e (inr (n, is, other)) = subst Rejects (sym is) other
 
 -- ---- another version
 

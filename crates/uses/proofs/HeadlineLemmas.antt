@@ -4,15 +4,15 @@ use Rattle.std.proofs.lemmas.Option.{IfSome_then}
 use Rattle.multihash.specs.Bytes.{ExactlyOne}
 use Rattle.multihash.specs.Pair.{Pair, FitsBuffer}
 use Rattle.multihash.specs.Encoding.{IsEncoding}
-use Rattle.multihash.specs.Verdict.{Verdict, accepted, HasVerdict, HasWholeVerdict, IsEarlyEnd}
+use Rattle.multihash.specs.Verdict.{Verdict, accepted, HasVerdict, HasWholeVerdict, IsIncomplete}
 use Rattle.multihash.specs.Settling.{IsShortestSettling}
-use Rattle.multihash.specs.Taking.{IsReadRefusal, TakesShortestSettling}
-use Rattle.multihash.specs.Reading.{Takes, CountsReader}
-use Rattle.multihash.specs.Refusal.{Refusal, IsReaderFault}
-use Rattle.multihash.specs.Answer.{Fields, pair_of, IsRefusal, Answers}
+use Rattle.multihash.specs.Consuming.{ReadMayFailWith, ConsumesShortestSettling}
+use Rattle.multihash.specs.Reading.{Consumes, CountsReaderFailures}
+use Rattle.multihash.specs.Refusal.{Refusal, IsReaderError}
+use Rattle.multihash.specs.Outcome.{Fields, pair_of, IsErrorOf, IsResultOf}
 
 -- a pair is the answer exactly where the bytes are its encoding and it fits
-pub answers_pair : (S : ℕ) (bytes : List ℕ) (r : Result (Fields S) Refusal) (v : Verdict) → HasWholeVerdict S bytes v → Answers r v
+pub answers_pair : (S : ℕ) (bytes : List ℕ) (r : Result (Fields S) Refusal) (v : Verdict) → HasWholeVerdict S bytes v → IsResultOf r v
     → ((w : Verdict) → HasWholeVerdict S bytes w → w ≡ v) → (p : Pair)
     → (IsEncoding p bytes × FitsBuffer S p) ↔ IsOkAnd r (λ m. pair_of m ≡ p)
 answers_pair S bytes (Ok m) v has answers only p = (
@@ -20,45 +20,45 @@ answers_pair S bytes (Ok m) v has answers only p = (
   λ same. subst (λ q. HasWholeVerdict S bytes (accepted q)) same (subst (HasWholeVerdict S bytes) answers has),
 )
 answers_pair S bytes (Err e) v has answers only p = (
-  (λ own. subst (IsRefusal e) (sym (only (accepted p) own)) answers),
+  (λ own. subst (IsErrorOf e) (sym (only (accepted p) own)) answers),
   λ is_ok. absurd is_ok,
 )
 
 -- the reader failed, once, or the verdict that was returned is the only one
 pub one_answered : (S before after : ℕ) (old : Option (List ℕ)) (r : Result (Fields S) Refusal)
     → ((S : ℕ) (input : List ℕ) (v w : Verdict) → HasVerdict S input v → HasVerdict S input w → v ≡ w)
-    → CountsReader IsReaderFault (IsReadRefusal S) before after r
-    → IfSome old (λ rest. after ≡ before → (v : Verdict) × HasVerdict S rest v × Answers r v)
-    → ((after ≡ before + 1) × IsErrAnd r IsReaderFault)
-    ⊎ ((after ≡ before) × IfSome old (λ rest. (one : ExactlyOne (HasVerdict S rest)) × Answers r one.value))
+    → CountsReaderFailures IsReaderError (ReadMayFailWith S) before after r
+    → IfSome old (λ rest. after ≡ before → (v : Verdict) × HasVerdict S rest v × IsResultOf r v)
+    → ((after ≡ before + 1) × IsErrAnd r IsReaderError)
+    ⊎ ((after ≡ before) × IfSome old (λ rest. (one : ExactlyOne (HasVerdict S rest)) × IsResultOf r one.value))
 one_answered S before after old r unique counts verdict = either r counts where
-  found : after ≡ before → IfSome old (λ rest. (one : ExactlyOne (HasVerdict S rest)) × Answers r one.value)
+  found : after ≡ before → IfSome old (λ rest. (one : ExactlyOne (HasVerdict S rest)) × IsResultOf r one.value)
   found same = IfSome_then old verdict
       (λ rest found. let v = found same in (record { value = v.0; holds = v.1; only = λ w has. unique S rest w v.0 has v.1 }, v.2))
 
-  either : (o : Result (Fields S) Refusal) → CountsReader IsReaderFault (IsReadRefusal S) before after o
-      → ((after ≡ before + 1) × IsErrAnd o IsReaderFault)
-      ⊎ ((after ≡ before) × IfSome old (λ rest. (one : ExactlyOne (HasVerdict S rest)) × Answers r one.value))
+  either : (o : Result (Fields S) Refusal) → CountsReaderFailures IsReaderError (ReadMayFailWith S) before after o
+      → ((after ≡ before + 1) × IsErrAnd o IsReaderError)
+      ⊎ ((after ≡ before) × IfSome old (λ rest. (one : ExactlyOne (HasVerdict S rest)) × IsResultOf r one.value))
   either (Ok m) same = inr (same, found same)
   either (Err e) (inl own) = inl own
   either (Err e) (inr (same, listed)) = inr (same, found same)
 
 -- what was taken is the one shortest beginning that settles
 pub one_taken : (S before after : ℕ) (old new : Option (List ℕ))
-    → ((S : ℕ) (input : List ℕ) (v : Verdict) → HasVerdict S input v → ¬ (IsEarlyEnd v) → ExactlyOne (IsShortestSettling S input))
-    → IfSome old (λ rest. after ≡ before → (v : Verdict) → HasVerdict S rest v → ¬ (IsEarlyEnd v) → TakesShortestSettling S rest new)
-    → IfSome old (λ rest. after ≡ before → (v : Verdict) → HasVerdict S rest v → ¬ (IsEarlyEnd v) →
-    (front : ExactlyOne (IsShortestSettling S rest)) × Takes (Some rest) front.value new)
+    → ((S : ℕ) (input : List ℕ) (v : Verdict) → HasVerdict S input v → ¬ (IsIncomplete v) → ExactlyOne (IsShortestSettling S input))
+    → IfSome old (λ rest. after ≡ before → (v : Verdict) → HasVerdict S rest v → ¬ (IsIncomplete v) → ConsumesShortestSettling S rest new)
+    → IfSome old (λ rest. after ≡ before → (v : Verdict) → HasVerdict S rest v → ¬ (IsIncomplete v) →
+    (front : ExactlyOne (IsShortestSettling S rest)) × Consumes (Some rest) front.value new)
 one_taken S before after old new shortest settled = IfSome_then old settled
     (λ rest settles same v has late.
     let took = settles same v has late in
     let one = shortest S rest v has late in
-    (one, subst (λ front. Takes (Some rest) front new) (one.only took.front took.shortest) took.takes))
+    (one, subst (λ front. Consumes (Some rest) front new) (one.only took.front took.shortest) took.consumes))
 
 -- what holds where the reader does not fail holds, or it failed, once
 pub unless_failed : {A : Type 0} (P : A → Type 0) (Q IsListed : Refusal → Type 0) (before after : ℕ) (r : Result A Refusal)
-    → CountsReader IsReaderFault IsListed before after r → (after ≡ before → MatchResult r P Q)
-    → MatchResult r P (λ e. Q e ⊎ ((after ≡ before + 1) × IsReaderFault e))
+    → CountsReaderFailures IsReaderError IsListed before after r → (after ≡ before → MatchResult r P Q)
+    → MatchResult r P (λ e. Q e ⊎ ((after ≡ before + 1) × IsReaderError e))
 unless_failed P Q IsListed before after (Ok x) same met = met same
 unless_failed P Q IsListed before after (Err e) (inl own) met = inr own
 unless_failed P Q IsListed before after (Err e) (inr (same, listed)) met = inl (met same)

@@ -1,6 +1,6 @@
 pub mod BlameLemmas
 pub mod ConclusionLemmas
 pub mod ContentIdLemmas
-pub mod ContentIdTakingVectors
+pub mod ContentIdConsumingVectors
 pub mod ContentIdVectors
 pub mod HeadlineLemmas

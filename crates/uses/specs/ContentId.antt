@@ -1,13 +1,13 @@
 -- Content identifiers of version 0 and of version 1.
 use Rattle.std.specs.Prelude.{◌≡◌, ◌<◌, ℕ, ⊤, ◌⊎◌, List, ◌++◌, length, Option}
-use Rattle.multihash.specs.Bytes.{IsProperBeginning}
+use Rattle.multihash.specs.Bytes.{IsStrictPrefix}
 use Rattle.multihash.specs.Varint.{IsVarint}
 use Rattle.multihash.specs.Pair.{Pair, FitsBuffer}
 use Rattle.multihash.specs.Encoding.{IsEncoding}
-use Rattle.multihash.specs.Reading.{Takes, TakesFewerThan}
-use Rattle.multihash.specs.Refusal.{Refusal, IsEof, IsReaderFault}
-use Rattle.multihash.specs.Taking.{IsVarintRefusal, IsReadRefusal, TakesVarint, TakesAtVarintRefusal, TakesAtRefusal}
-use Rattle.multihash.specs.Answer.{pair_of}
+use Rattle.multihash.specs.Reading.{Consumes, ConsumesFewerThan}
+use Rattle.multihash.specs.Refusal.{Refusal, IsEof, IsReaderError}
+use Rattle.multihash.specs.Consuming.{IsAnyVarintError, ReadMayFailWith, ConsumesVarint, ConsumesAtVarintError, ConsumesAtError}
+use Rattle.multihash.specs.Outcome.{pair_of}
 use Rattle.uses.specs.declared.content_id.ContentId.{ContentId}
 use Rattle.uses.specs.declared.content_id.ContentId.TheVariants.{V0, V1}
 use Rattle.uses.specs.declared.content_id.ContentIdError.{ContentIdError}
@@ -49,16 +49,16 @@ FitsContentId S (version_0 digest) = ⊤
 FitsContentId S (version_1 codec p) = FitsBuffer S p
 
 -- the error passes on a refusal of which P holds
-abbrev pub IsRefused : (Refusal → Type 0) → ContentIdError → Type 0
-IsRefused P e = (refusal : Refusal) × (e ≡ Refused refusal) × P refusal
+abbrev pub IsRejected : (Refusal → Type 0) → ContentIdError → Type 0
+IsRejected P e = (refusal : Refusal) × (e ≡ Refused refusal) × P refusal
 
 -- the error names a number that stands where the version should, and is not 1
 abbrev pub IsOtherVersion : ContentIdError → Type 0
 IsOtherVersion e = (n : ℕ) × (e ≡ OtherVersion n) × ¬ (n ≡ 1)
 
 -- the refusals of reading an identifier, besides the reader's own faults
-abbrev pub IsContentIdRefusal : ℕ → ContentIdError → Type 0
-IsContentIdRefusal S e = IsRefused (IsReadRefusal S) e ⊎ IsOtherVersion e
+abbrev pub ContentIdMayFailWith : ℕ → ContentIdError → Type 0
+ContentIdMayFailWith S e = IsRejected (ReadMayFailWith S) e ⊎ IsOtherVersion e
 
 -- a varint comes next, and it is not that of 32
 pub record HasOtherSize (input : List ℕ) : Type 0 where
@@ -79,29 +79,35 @@ pub record BeginsOtherwise (n : ℕ) (input : List ℕ) : Type 0 where
   pub cut : input ≡ version ++ rest
 
 -- exactly the shortest beginning that shows another version was taken
-pub record TakesOtherVersion (n : ℕ) (old new : Option (List ℕ)) : Type 0 where
-  pub taken : List ℕ
-  pub takes : Takes old taken new
-  pub shows : BeginsOtherwise n taken
-  pub no_sooner : (shorter : List ℕ) → IsProperBeginning shorter taken → ¬ (BeginsOtherwise n shorter)
+pub record ConsumesOtherVersion (n : ℕ) (old new : Option (List ℕ)) : Type 0 where
+  pub consumed : List ℕ
+  pub consumes : Consumes old consumed new
+  pub shows : BeginsOtherwise n consumed
+  pub no_sooner : (shorter : List ℕ) → IsStrictPrefix shorter consumed → ¬ (BeginsOtherwise n shorter)
 
 -- the part of an identifier in which reading was refused, and what it took of that: the version, the number
 -- behind it, the multihash of version 1, or the digest of version 0
 pub data StopsInContentId (S : ℕ) (e : Refusal) (old new : Option (List ℕ)) : Type 0 where
-  in_version : IsVarintRefusal e ⊎ IsReaderFault e → TakesAtVarintRefusal e old new → StopsInContentId S e old new
-  in_number : (version : ℕ) (middle : Option (List ℕ)) → (version ≡ 1) ⊎ (version ≡ 0x12) → TakesVarint version old middle
-      → IsVarintRefusal e ⊎ IsReaderFault e → TakesAtVarintRefusal e middle new → StopsInContentId S e old new
-  in_hash : (codec : ℕ) (middle behind : Option (List ℕ)) → TakesVarint 1 old middle → TakesVarint codec middle behind
-      → IsReadRefusal S e ⊎ IsReaderFault e → TakesAtRefusal S e behind new → StopsInContentId S e old new
-  in_digest : (middle behind : Option (List ℕ)) → TakesVarint 0x12 old middle → TakesVarint 32 middle behind
-      → IsEof e ⊎ IsReaderFault e → TakesFewerThan 32 behind new → StopsInContentId S e old new
+  in_version : IsAnyVarintError e ⊎ IsReaderError e → ConsumesAtVarintError e old new
+      → StopsInContentId S e old new
+  in_number : (version : ℕ) (middle : Option (List ℕ)) → (version ≡ 1) ⊎ (version ≡ 0x12)
+      → ConsumesVarint version old middle
+      → IsAnyVarintError e ⊎ IsReaderError e → ConsumesAtVarintError e middle new
+      → StopsInContentId S e old new
+  in_hash : (codec : ℕ) (middle following : Option (List ℕ)) → ConsumesVarint 1 old middle
+      → ConsumesVarint codec middle following
+      → ReadMayFailWith S e ⊎ IsReaderError e → ConsumesAtError S e following new
+      → StopsInContentId S e old new
+  in_digest : (middle following : Option (List ℕ)) → ConsumesVarint 0x12 old middle
+      → ConsumesVarint 32 middle following
+      → IsEof e ⊎ IsReaderError e → ConsumesFewerThan 32 following new → StopsInContentId S e old new
 
 -- what reading an identifier took where it answered this error; it leaves what follows, and so tells of no
 -- bytes left over
-abbrev pub TakesAtContentIdError : ℕ → ContentIdError → Option (List ℕ) → Option (List ℕ) → Type 0
-TakesAtContentIdError S (Refused e) old new = StopsInContentId S e old new
-TakesAtContentIdError S (OtherVersion n) old new = TakesOtherVersion n old new
-TakesAtContentIdError S (LeftOver n) old new = ⊥
+abbrev pub ConsumesAtContentIdError : ℕ → ContentIdError → Option (List ℕ) → Option (List ℕ) → Type 0
+ConsumesAtContentIdError S (Refused e) old new = StopsInContentId S e old new
+ConsumesAtContentIdError S (OtherVersion n) old new = ConsumesOtherVersion n old new
+ConsumesAtContentIdError S (LeftOver n) old new = ⊥
 
 -- an identifier that fits begins the input, and so many bytes follow it
 pub record LeavesOver (S n : ℕ) (input : List ℕ) : Type 0 where

@@ -5,7 +5,7 @@ use Rattle.multihash.specs.Pair.{Pair, FitsBuffer}
 use Rattle.multihash.specs.Verdict.{Verdict, HasWholeVerdict}
 use Rattle.multihash.specs.Json.{IsByteArray, IsJsonList}
 use Rattle.multihash.specs.Refusal.{Refusal, IsNotBytes}
-use Rattle.multihash.specs.Answer.{IsRefusal}
+use Rattle.multihash.specs.Outcome.{IsErrorOf}
 
 -- the value lists a pair that fits
 pub record ListsOne (S : ℕ) (value : Data) : Type 0 where
@@ -14,6 +14,7 @@ pub record ListsOne (S : ℕ) (value : Data) : Type 0 where
   pub fits : FitsBuffer S pair
 
 -- this refusal is the value's: its bytes' verdict asks for it, or else the value is no array of bytes
-pub record IsListRefusal (S : ℕ) (value : Data) (e : Refusal) : Type 0 where
-  pub verdict : (bytes : List ℕ) → IsByteArray value bytes → (v : Verdict) × HasWholeVerdict S bytes v × IsRefusal e v
+pub record ListMayFailWith (S : ℕ) (value : Data) (e : Refusal) : Type 0 where
+  pub verdict : (bytes : List ℕ) → IsByteArray value bytes →
+      (v : Verdict) × HasWholeVerdict S bytes v × IsErrorOf e v
   pub not_bytes : ((bytes : List ℕ) → ¬ (IsByteArray value bytes)) → IsNotBytes e

@@ -2,7 +2,7 @@
 use Rattle.std.specs.Prelude.{ℕ, ◌+◌, List, [], ◌∷◌, ◌++◌}
 use Rattle.multihash.specs.Pair.{Pair, FitsBuffer}
 use Rattle.multihash.specs.Encoding.{IsEncoding}
-use Rattle.multihash.specs.Verdict.{Verdict, HasVerdict, IsEarlyEnd}
+use Rattle.multihash.specs.Verdict.{Verdict, HasVerdict, IsIncomplete}
 use Rattle.multihash.specs.Settling.{IsShortestSettling}
 
 -- the pairs in order, and how many parts were refused: behind each pair's encoding it goes on, and behind the
@@ -10,8 +10,9 @@ use Rattle.multihash.specs.Settling.{IsShortestSettling}
 pub data Recovers (S : ℕ) : List ℕ → List Pair → ℕ → Type 0 where
   ended : Recovers S [] [] 0
   good : (p : Pair) (encoding rest : List ℕ) (pairs : List Pair) (count : ℕ)
-      → IsEncoding p encoding → FitsBuffer S p → Recovers S rest pairs count → Recovers S (encoding ++ rest) (p ∷ pairs) count
+      → IsEncoding p encoding → FitsBuffer S p → Recovers S rest pairs count
+      → Recovers S (encoding ++ rest) (p ∷ pairs) count
   refused : (v : Verdict) (front rest : List ℕ) (pairs : List Pair) (count : ℕ)
-      → HasVerdict S (front ++ rest) v → ¬ (IsEarlyEnd v) → IsShortestSettling S (front ++ rest) front
+      → HasVerdict S (front ++ rest) v → ¬ (IsIncomplete v) → IsShortestSettling S (front ++ rest) front
       → Recovers S rest pairs count → Recovers S (front ++ rest) pairs (count + 1)
-  cut : (v : Verdict) (input : List ℕ) → HasVerdict S input v → IsEarlyEnd v → Recovers S input [] 1
+  cut : (v : Verdict) (input : List ℕ) → HasVerdict S input v → IsIncomplete v → Recovers S input [] 1

@@ -1,12 +1,12 @@
 //! Callers over any reader, which conclude how often it failed and what it has left.
 ghost use Rattle.std.specs.Prelude.{◌≡◌, ◌+◌, ◌⊎◌, ℕ, List, [], ◌∷◌, ◌++◌, length, map, vec_capacity, Option, Some, IfSome, IfNone, IfOk, IfErr, MatchResult};
 ghost use Rattle.multihash.specs.Pair.{Pair, FitsBuffer};
-ghost use Rattle.multihash.specs.Scale.{IsScale, IsScaleRefusal};
-ghost use Rattle.multihash.specs.Reading.{Takes, CountsReader};
-ghost use Rattle.multihash.specs.Refusal.{IsReaderFault, IsMemory, IsInvalidSize, IsInvalidCode};
-ghost use Rattle.multihash.specs.Taking.{IsReadRefusal};
-ghost use Rattle.multihash.specs.Streams.{TakesPairs, StopsAfterPairs};
-ghost use Rattle.multihash.specs.Answer.{pair_of};
+ghost use Rattle.multihash.specs.Scale.{IsScale, ScaleMayFailWith};
+ghost use Rattle.multihash.specs.Reading.{Consumes, CountsReaderFailures};
+ghost use Rattle.multihash.specs.Refusal.{IsReaderError, IsOutOfMemory, IsInvalidSize, IsInvalidCode};
+ghost use Rattle.multihash.specs.Consuming.{ReadMayFailWith};
+ghost use Rattle.multihash.specs.Streams.{ConsumesPairs, StopsAfterPairs};
+ghost use Rattle.multihash.specs.Outcome.{pair_of};
 
 use multihash::no_std_io::Read;
 use multihash::{Error, Multihash, laws, list};
@@ -21,11 +21,11 @@ pub fn read_counted<const S: usize, R: Read>(
     alloc: Global,
     r: &mut R,
 ) -> Result<Vec<Multihash<S>>, Error>
-    ensures faults { CountsReader IsReaderFault (λ e. IsReadRefusal S e ⊎ IsMemory e)
+    ensures faults { CountsReaderFailures IsReaderError (λ e. ReadMayFailWith S e ⊎ IsOutOfMemory e)
         (R.failures r.old) (R.failures r.new) result }
     ensures ok { IfOk result (λ list. (middle : Option (List ℕ))
-        × Takes (R.rest r.old) (length list.items ∷ []) middle
-        × TakesPairs S (map pair_of list.items) middle (R.rest r.new)) }
+        × Consumes (R.rest r.old) (length list.items ∷ []) middle
+        × ConsumesPairs S (map pair_of list.items) middle (R.rest r.new)) }
 {
     let mut count = [0];
     r.read_exact(&mut count)?;
@@ -48,12 +48,12 @@ pub fn read_if_room<const S: usize, R: Read>(
         × (R.failures r.new ≡ R.failures r.old → R.rest r.new ≡ R.rest r.old))) }
     ensures some { IfOk result (λ list. IfSome list (λ found. (vec_capacity found ≡ count)
         × (length found.items ≡ count)
-        × TakesPairs S (map pair_of found.items) (R.rest r.old) (R.rest r.new)
+        × ConsumesPairs S (map pair_of found.items) (R.rest r.old) (R.rest r.new)
         × (R.failures r.new ≡ R.failures r.old))) }
     ensures faults { IfErr result (λ e.
-        ((R.failures r.new ≡ R.failures r.old + 1) × IsReaderFault e)
-        ⊎ ((R.failures r.new ≡ R.failures r.old) × IsReadRefusal S e)) }
-    ensures err { IfErr result (λ e. ¬ (IsMemory e) × StopsAfterPairs S count e
+        ((R.failures r.new ≡ R.failures r.old + 1) × IsReaderError e)
+        ⊎ ((R.failures r.new ≡ R.failures r.old) × ReadMayFailWith S e)) }
+    ensures err { IfErr result (λ e. ¬ (IsOutOfMemory e) × StopsAfterPairs S count e
         (R.failures r.old) (R.failures r.new) (R.rest r.old) (R.rest r.new)) }
 {
     match list::read_list(alloc, r, count) {
@@ -75,17 +75,17 @@ pub fn read_if_room<const S: usize, R: Read>(
 /// Those of [`Multihash::scale_decode`]: if the code is invalid exactly its eight bytes were consumed, and if
 /// the size is, one more.
 pub fn read_scale<const S: usize, R: Read>(r: &mut R) -> Result<Multihash<S>, Error>
-    ensures faults { CountsReader IsReaderFault (IsScaleRefusal S)
+    ensures faults { CountsReaderFailures IsReaderError (ScaleMayFailWith S)
         (R.failures r.old) (R.failures r.new) result }
     ensures found { (p : Pair) (bytes more : List ℕ) → IsScale p bytes → FitsBuffer S p →
         R.rest r.old ≡ Some (bytes ++ more) → R.failures r.new ≡ R.failures r.old →
         MatchResult result (λ m. (pair_of m ≡ p) × (R.rest r.new ≡ Some more)) (λ _. ⊥) }
     ensures ok { IfOk result (λ m. (bytes : List ℕ) × IsScale (pair_of m) bytes
-        × Takes (R.rest r.old) bytes (R.rest r.new)) }
-    ensures code { IfErr result (λ e. (code : ℕ) → IsInvalidCode code e → (taken : List ℕ)
-        × (length taken ≡ 8) × Takes (R.rest r.old) taken (R.rest r.new)) }
-    ensures size { IfErr result (λ e. (size : ℕ) → IsInvalidSize size e → (taken : List ℕ)
-        × (length taken ≡ 9) × Takes (R.rest r.old) taken (R.rest r.new)) }
+        × Consumes (R.rest r.old) bytes (R.rest r.new)) }
+    ensures code { IfErr result (λ e. (code : ℕ) → IsInvalidCode code e → (consumed : List ℕ)
+        × (length consumed ≡ 8) × Consumes (R.rest r.old) consumed (R.rest r.new)) }
+    ensures size { IfErr result (λ e. (size : ℕ) → IsInvalidSize size e → (consumed : List ℕ)
+        × (length consumed ≡ 9) × Consumes (R.rest r.old) consumed (R.rest r.new)) }
 {
     laws::scale_unique();
     Multihash::scale_decode(r)

@@ -3,13 +3,13 @@ ghost use Rattle.std.specs.Prelude.{◌≡◌, ◌<◌, ◌≤◌, ◌↔◌, �
 ghost use Rattle.multihash.specs.Varint.{varint_limit};
 ghost use Rattle.multihash.specs.Pair.{Pair, FitsBuffer, digest_limit};
 ghost use Rattle.multihash.specs.Encoding.{IsEncoding};
-ghost use Rattle.multihash.specs.Verdict.{Verdict, accepted, BeginsWithSize, HasVerdict, IsEarlyEnd, HasWholeVerdict};
-ghost use Rattle.multihash.specs.Reading.{Takes};
-ghost use Rattle.multihash.specs.Scale.{IsScale, IsScaleCode, HasScaleVerdict, TakesAtScaleRefusal};
+ghost use Rattle.multihash.specs.Verdict.{Verdict, accepted, BeginsWithSize, HasVerdict, IsIncomplete, HasWholeVerdict};
+ghost use Rattle.multihash.specs.Reading.{Consumes};
+ghost use Rattle.multihash.specs.Scale.{IsScale, IsScaleCode, HasScaleVerdict, ConsumesAtScaleError};
 ghost use Rattle.multihash.specs.Refusal.{IsInvalidSize, IsInvalidCode};
 ghost use Rattle.multihash.specs.Settling.{Settles};
-ghost use Rattle.multihash.specs.Taking.{TakesAtRefusal, TakesShortestSettling};
-ghost use Rattle.multihash.specs.Answer.{pair_of, Answers};
+ghost use Rattle.multihash.specs.Consuming.{ConsumesAtError, ConsumesShortestSettling};
+ghost use Rattle.multihash.specs.Outcome.{pair_of, IsResultOf};
 
 use multihash::no_std_io::{Read, Write};
 use multihash::{Error, Multihash, laws};
@@ -20,7 +20,7 @@ use std::alloc::{AllocError, Global};
 pub fn reader_failed<const S: usize, R: Read>(r: &mut R) -> (Option<Multihash<S>>, bool)
     ensures failed { IsTrue result.1 ↔ (R.failures r.old < R.failures r.new) }
     ensures read { IfSome result.0 (λ m. (bytes : List ℕ) × IsEncoding (pair_of m) bytes
-        × Takes (R.rest r.old) bytes (R.rest r.new)) }
+        × Consumes (R.rest r.old) bytes (R.rest r.new)) }
     ensures none { IfNone result.0 (IfSome (R.rest r.old) (λ rest.
         R.failures r.new ≡ R.failures r.old → (p : Pair) → ¬ (HasVerdict S rest (accepted p)))) }
 {
@@ -40,12 +40,12 @@ pub fn reader_failed<const S: usize, R: Read>(r: &mut R) -> (Option<Multihash<S>
 /// result is its size, and the digest is left, so a caller can skip it. If the digest is truncated, both
 /// varints are consumed, and an unspecified part of the digest.
 pub fn read_slice<const S: usize>(stream: &[u8]) -> (Result<Multihash<S>, Error>, &[u8])
-    ensures verdict { (v : Verdict) × HasVerdict S stream.now v × Answers result.0 v }
+    ensures verdict { (v : Verdict) × HasVerdict S stream.now v × IsResultOf result.0 v }
     ensures ok { IfOk result.0 (λ m. (bytes : List ℕ) × IsEncoding (pair_of m) bytes
         × (stream.now ≡ bytes ++ result.1.now)) }
-    ensures err { IfErr result.0 (λ e. TakesAtRefusal S e (Some stream.now) (Some result.1.now)) }
-    ensures settled { (v : Verdict) → HasVerdict S stream.now v → ¬ (IsEarlyEnd v) →
-        TakesShortestSettling S stream.now (Some result.1.now) }
+    ensures err { IfErr result.0 (λ e. ConsumesAtError S e (Some stream.now) (Some result.1.now)) }
+    ensures settled { (v : Verdict) → HasVerdict S stream.now v → ¬ (IsIncomplete v) →
+        ConsumesShortestSettling S stream.now (Some result.1.now) }
     ensures long { (size : ℕ) (rest : List ℕ) → BeginsWithSize size stream.now rest →
         digest_limit S < size →
         IsErrAnd result.0 (IsInvalidSize size) × (result.1.now ≡ rest) }
@@ -58,11 +58,11 @@ pub fn read_slice<const S: usize>(stream: &[u8]) -> (Result<Multihash<S>, Error>
 /// The same for the SCALE form. If the code is out of range only its eight bytes are consumed, and the size
 /// is left with all that follows it.
 pub fn decode_slice<const S: usize>(stream: &[u8]) -> (Result<Multihash<S>, Error>, &[u8])
-    ensures verdict { (v : Verdict) × HasScaleVerdict S stream.now v × Answers result.0 v }
+    ensures verdict { (v : Verdict) × HasScaleVerdict S stream.now v × IsResultOf result.0 v }
     ensures ok { IfOk result.0 (λ m. (bytes : List ℕ) × IsScale (pair_of m) bytes
         × (stream.now ≡ bytes ++ result.1.now)) }
     ensures err { IfErr result.0 (λ e.
-        TakesAtScaleRefusal S e (Some stream.now) (Some result.1.now)) }
+        ConsumesAtScaleError S e (Some stream.now) (Some result.1.now)) }
     ensures large { (code : ℕ) (bytes rest : List ℕ) → IsScaleCode code bytes →
         varint_limit ≤ code → stream.now ≡ bytes ++ rest →
         IsErrAnd result.0 (IsInvalidCode code) × (result.1.now ≡ rest) }
@@ -74,7 +74,7 @@ pub fn decode_slice<const S: usize>(stream: &[u8]) -> (Result<Multihash<S>, Erro
 
 /// The code that `wrap` rejects: none if it is in range, nor if the digest does not fit, which is checked
 /// first.
-pub fn refused_code<const S: usize>(code: u64, digest: &[u8]) -> Option<u64>
+pub fn rejected_code<const S: usize>(code: u64, digest: &[u8]) -> Option<u64>
     requires { S < 65536 }
     ensures { MatchOption result
         ((code < varint_limit) ⊎ (digest_limit S < length digest.now))
@@ -88,10 +88,10 @@ pub fn refused_code<const S: usize>(code: u64, digest: &[u8]) -> Option<u64>
 }
 
 /// The result of `from_bytes`, and the code that it rejects: none, whatever the bytes are.
-pub fn code_refused_by_reading<const S: usize>(
+pub fn code_rejected_by_reading<const S: usize>(
     bytes: &[u8],
 ) -> (Result<Multihash<S>, Error>, Option<u64>)
-    ensures verdict { (v : Verdict) × HasWholeVerdict S bytes.now v × Answers result.0 v }
+    ensures verdict { (v : Verdict) × HasWholeVerdict S bytes.now v × IsResultOf result.0 v }
     ensures none { result.1 ≡ None }
 {
     let answer = Multihash::from_bytes(bytes);
@@ -119,7 +119,7 @@ pub fn wants_more<const S: usize>(input: &[u8]) -> bool
 /// multihash was not consumed.
 pub fn read_part<const S: usize, R: Read>(r: &mut R) -> Result<Multihash<S>, Error>
     ensures ok { IfOk result (λ m. (bytes : List ℕ) × IsEncoding (pair_of m) bytes
-        × Takes (R.rest r.old) bytes (R.rest r.new)) }
+        × Consumes (R.rest r.old) bytes (R.rest r.new)) }
     ensures part { (p : Pair) (bytes more : List ℕ) → IsEncoding p bytes → FitsBuffer S p →
         R.rest r.old ≡ Some (bytes ++ more) → R.failures r.old < R.failures r.new →
         IfSome (R.rest r.new) (λ left. length more < length left) }
@@ -128,7 +128,7 @@ pub fn read_part<const S: usize, R: Read>(r: &mut R) -> Result<Multihash<S>, Err
 }
 
 /// What is printed for a slice that has too few bytes for a buffer of four.
-pub fn early_end_text(alloc: Global, bytes: &[u8]) -> Result<Option<String>, AllocError>
+pub fn incomplete_text(alloc: Global, bytes: &[u8]) -> Result<Option<String>, AllocError>
     ensures { IfOk result (λ told. MatchOption told (4 ≤ length bytes.now)
         (λ text. (length bytes.now < 4)
         × (string_bytes text ≡ codes "failed to fill whole buffer"))) }
@@ -144,13 +144,13 @@ pub fn early_end_text(alloc: Global, bytes: &[u8]) -> Result<Option<String>, All
 pub fn full_text(
     alloc: Global,
     bytes: &[u8],
-    places: &mut [u8],
+    buffer: &mut [u8],
 ) -> Result<Option<String>, AllocError>
-    ensures { IfOk result (λ told. MatchOption told (length bytes.now ≤ length places.old)
-        (λ text. (length places.old < length bytes.now)
+    ensures { IfOk result (λ told. MatchOption told (length bytes.now ≤ length buffer.old)
+        (λ text. (length buffer.old < length bytes.now)
         × (string_bytes text ≡ codes "failed to write whole buffer"))) }
 {
-    let mut left = places;
+    let mut left = buffer;
     match left.write_all(bytes) {
         Ok(()) => Ok(None),
         Err(e) => Ok(Some(format!(in alloc; "{e}")?)),

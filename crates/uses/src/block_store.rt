@@ -5,7 +5,7 @@ ghost use Rattle.std.specs.HashMap as hashed;
 ghost use Rattle.std.specs.Ordering.{on};
 ghost use Rattle.multihash.specs.Pair.{FitsBuffer};
 ghost use Rattle.multihash.specs.Comparing.{compare_pairs, equal_pairs};
-ghost use Rattle.multihash.specs.Answer.{Fields, pair_of};
+ghost use Rattle.multihash.specs.Outcome.{Fields, pair_of};
 
 use multihash::Multihash;
 use std::alloc::AllocFailed;
@@ -26,7 +26,8 @@ pub fn put_ordered(
     ensures kept { OnOk result
         (ordered.Updates (on pair_of compare_pairs) store.old store.new key (Some place)) }
     ensures others { OnOk result ((other : Fields 64) → ¬ (pair_of other ≡ pair_of key) →
-        ordered.get (on pair_of compare_pairs) store.new other ≡ ordered.get (on pair_of compare_pairs) store.old other) }
+        ordered.get (on pair_of compare_pairs) store.new other
+        ≡ ordered.get (on pair_of compare_pairs) store.old other) }
     ensures unchanged { OnErr result (ordered.IsUnchanged store.old store.new) }
 {
     store.insert(key, place)?;
@@ -42,7 +43,8 @@ pub fn put_hashed(
     ensures kept { OnOk result
         (hashed.Updates (on pair_of equal_pairs) table.old table.new key (Some place)) }
     ensures others { OnOk result ((other : Fields 64) → ¬ (pair_of other ≡ pair_of key) →
-        hashed.get (on pair_of equal_pairs) table.new other ≡ hashed.get (on pair_of equal_pairs) table.old other) }
+        hashed.get (on pair_of equal_pairs) table.new other
+        ≡ hashed.get (on pair_of equal_pairs) table.old other) }
     ensures unchanged { OnErr result (hashed.IsUnchanged table.old table.new) }
 {
     table.insert(key, place)?;

@@ -1,14 +1,14 @@
 //! Callers that read and write bytes.
 ghost use Rattle.std.specs.Prelude.{◌≡◌, ℕ, ◌+◌, ◌-◌, ◌≤◌, ◌↔◌, ◌⊎◌, List, [], ◌∷◌, ◌++◌, Some, length, slice_get, IsTrue, IfSome, IfOk, IfErr, OnOk, OnErr, MatchOption, MatchResult};
-ghost use Rattle.multihash.specs.Fault.{IsOutOfMemory, IsOwnFault};
+ghost use Rattle.multihash.specs.Fault.{IsOutOfMemoryFault, IsOwnFault};
 ghost use Rattle.std.specs.Io.KnownBytes.{IsAtEnd};
-ghost use Rattle.multihash.specs.Reading.{Takes, CountsReader, NoOtherError};
-ghost use Rattle.multihash.specs.Writing.{CountsWriter, AppendsPart, IsFault};
+ghost use Rattle.multihash.specs.Reading.{Consumes, CountsReaderFailures, NoOtherError};
+ghost use Rattle.multihash.specs.Writing.{CountsWriterFailures, AppendsPrefix, IsFault};
 ghost use Rattle.multihash.specs.Pair.{FitsBuffer};
 ghost use Rattle.multihash.specs.Encoding.{IsEncoding};
-ghost use Rattle.multihash.specs.Refusal.{IsMemory};
+ghost use Rattle.multihash.specs.Refusal.{IsOutOfMemory};
 ghost use Rattle.multihash.specs.Verdict.{Verdict, HasWholeVerdict};
-ghost use Rattle.multihash.specs.Answer.{pair_of, IsRefusal};
+ghost use Rattle.multihash.specs.Outcome.{pair_of, IsErrorOf};
 
 use multihash::no_std_io::{self, Read, Write};
 use multihash::{Error, Multihash};
@@ -16,11 +16,11 @@ use std::alloc::Global;
 
 /// The next byte, or none at the end of the input.
 pub fn read_one<R: Read>(r: &mut R) -> Result<Option<u8>, no_std_io::Error>
-    ensures faults { CountsReader IsOwnFault NoOtherError
+    ensures faults { CountsReaderFailures IsOwnFault NoOtherError
         (R.failures r.old) (R.failures r.new) result }
     ensures byte { IfOk result (λ next. MatchOption next
         (IsAtEnd (R.rest r.old) × (R.rest r.new ≡ R.rest r.old))
-        (λ byte. Takes (R.rest r.old) (byte ∷ []) (R.rest r.new))) }
+        (λ byte. Consumes (R.rest r.old) (byte ∷ []) (R.rest r.new))) }
     ensures first { IfSome (R.rest r.old) (λ rest. IfOk result (λ next. next ≡ slice_get rest 0)) }
     ensures err { OnErr result (R.rest r.new ≡ R.rest r.old) }
 {
@@ -45,8 +45,8 @@ pub fn first_byte(bytes: &[u8]) -> Option<u8>
 /// Writes `a` and then `b`.
 pub fn write_two<W: Write>(w: &mut W, a: &[u8], b: &[u8]) -> Result<(), no_std_io::Error>
     ensures ok { OnOk result (W.appended w.old (a.now ++ b.now) w.new) }
-    ensures err { OnErr result (AppendsPart W.appended w.old (a.now ++ b.now) w.new) }
-    ensures faults { CountsWriter IsFault W.allocates
+    ensures err { OnErr result (AppendsPrefix W.appended w.old (a.now ++ b.now) w.new) }
+    ensures faults { CountsWriterFailures IsFault W.allocates
         (W.failures w.old) (W.failures w.new) (W.full w.new) result }
 {
     w.write_all(a)?;
@@ -55,11 +55,11 @@ pub fn write_two<W: Write>(w: &mut W, a: &[u8], b: &[u8]) -> Result<(), no_std_i
 
 /// Writes `a` and then `b` to the front of `places`, which is long enough, and returns the number of bytes
 /// left.
-pub fn fill_two(places: &mut [u8], a: &[u8], b: &[u8]) -> usize
-    requires { length a.now + length b.now ≤ length places.old }
-    ensures { result + length a.now + length b.now ≡ length places.old }
+pub fn fill_two(buffer: &mut [u8], a: &[u8], b: &[u8]) -> usize
+    requires { length a.now + length b.now ≤ length buffer.old }
+    ensures { result + length a.now + length b.now ≡ length buffer.old }
 {
-    let mut left = places;
+    let mut left = buffer;
     match write_two(&mut left, a, b) {
         Ok(()) => left.len(),
         Err(_) => unreachable!(),
@@ -67,9 +67,9 @@ pub fn fill_two(places: &mut [u8], a: &[u8], b: &[u8]) -> usize
 }
 
 /// `a` and then `b`.
-pub fn joined(alloc: Global, a: &[u8], b: &[u8]) -> Result<Vec<u8>, no_std_io::Error>
+pub fn concatenated(alloc: Global, a: &[u8], b: &[u8]) -> Result<Vec<u8>, no_std_io::Error>
     ensures value { IfOk result (λ all. all.items ≡ a.now ++ b.now) }
-    ensures memory { IfErr result IsOutOfMemory }
+    ensures memory { IfErr result IsOutOfMemoryFault }
 {
     let mut all = Vec::new(alloc);
     write_two(&mut all, a, b)?;
@@ -78,21 +78,21 @@ pub fn joined(alloc: Global, a: &[u8], b: &[u8]) -> Result<Vec<u8>, no_std_io::E
 
 /// Whether the encoding was written to the front of `places`, and the number of bytes left after it. If the
 /// slice is too short, none are left.
-pub fn fills<const S: usize>(m: &Multihash<S>, places: &mut [u8]) -> (bool, usize)
+pub fn fills<const S: usize>(m: &Multihash<S>, buffer: &mut [u8]) -> (bool, usize)
     ensures { (bytes : List ℕ) × IsEncoding (pair_of m.now) bytes
-        × (IsTrue result.0 ↔ (length bytes ≤ length places.old))
-        × (result.1 ≡ length places.old - length bytes) }
+        × (IsTrue result.0 ↔ (length bytes ≤ length buffer.old))
+        × (result.1 ≡ length buffer.old - length bytes) }
 {
-    let mut left = places;
+    let mut left = buffer;
     let is_whole = m.write(&mut left).is_ok();
     (is_whole, left.len())
 }
 
 /// Writes the encoding to a buffer of the greatest length, and returns its length.
-pub fn fills_longest<const S: usize>(m: &Multihash<S>, places: &mut [u8; 266]) -> usize
+pub fn fills_longest<const S: usize>(m: &Multihash<S>, buffer: &mut [u8; 266]) -> usize
     ensures { (bytes : List ℕ) × IsEncoding (pair_of m.now) bytes × (result ≡ length bytes) }
 {
-    let mut left = places.as_mut_slice();
+    let mut left = buffer.as_mut_slice();
     m.write(&mut left).unwrap()
 }
 
@@ -103,7 +103,7 @@ pub fn bytes_back<const S: usize, const R: usize>(
     m: &Multihash<S>,
 ) -> Result<Multihash<R>, Error>
     ensures { FitsBuffer R (pair_of m.now) →
-        MatchResult result (λ back. pair_of back ≡ pair_of m.now) IsMemory }
+        MatchResult result (λ back. pair_of back ≡ pair_of m.now) IsOutOfMemory }
 {
     let bytes = m.to_bytes(alloc)?;
     Multihash::from_bytes(&bytes)
@@ -118,7 +118,7 @@ pub fn accepted_back<const S: usize>(
     ensures ok { IfOk result (λ back.
         IsEncoding (pair_of back.0) bytes.now × (back.1.items ≡ bytes.now)) }
     ensures err { IfErr result (λ e.
-        IsMemory e ⊎ ((v : Verdict) × HasWholeVerdict S bytes.now v × IsRefusal e v)) }
+        IsOutOfMemory e ⊎ ((v : Verdict) × HasWholeVerdict S bytes.now v × IsErrorOf e v)) }
 {
     let accepted = Multihash::from_bytes(bytes)?;
     let back = accepted.to_bytes(alloc)?;

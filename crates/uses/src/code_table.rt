@@ -3,10 +3,10 @@ ghost use Rattle.std.specs.Prelude.{◌≡◌, ◌<◌, ◌≤◌, ◌↔◌, �
 ghost use Rattle.multihash.specs.Varint.{varint_limit};
 ghost use Rattle.multihash.specs.Pair.{Pair, digest_limit};
 ghost use Rattle.multihash.specs.Encoding.{IsEncoding};
-ghost use Rattle.multihash.specs.Reading.{Takes, CountsReader};
-ghost use Rattle.multihash.specs.Refusal.{IsReaderFault};
-ghost use Rattle.multihash.specs.Taking.{IsReadRefusal};
-ghost use Rattle.multihash.specs.Answer.{pair_of};
+ghost use Rattle.multihash.specs.Reading.{Consumes, CountsReaderFailures};
+ghost use Rattle.multihash.specs.Refusal.{IsReaderError};
+ghost use Rattle.multihash.specs.Consuming.{ReadMayFailWith};
+ghost use Rattle.multihash.specs.Outcome.{pair_of};
 
 use multihash::no_std_io::Read;
 use multihash::{Error, Multihash};
@@ -44,12 +44,12 @@ pub fn read<const S: usize, R: Read>(
     r: &mut R,
 ) -> Result<Option<Multihash<S>>, Error>
     ensures ok { IfOk result (λ read. (p : Pair) × (bytes : List ℕ) × IsEncoding p bytes
-        × Takes (R.rest r.old) bytes (R.rest r.new)
+        × Consumes (R.rest r.old) bytes (R.rest r.new)
         × MatchOption read
         (¬ (Contains table.now (record { code = p.code; size = length p.digest })))
         (λ m. (pair_of m ≡ p)
         × Contains table.now (record { code = p.code; size = length p.digest }))) }
-    ensures faults { CountsReader IsReaderFault (IsReadRefusal S)
+    ensures faults { CountsReaderFailures IsReaderError (ReadMayFailWith S)
         (R.failures r.old) (R.failures r.new) result }
 {
     let multihash = Multihash::read(r)?;

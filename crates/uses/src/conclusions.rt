@@ -10,9 +10,9 @@ ghost use Rattle.multihash.specs.Settling.{Settles, IsShortestSettling};
 ghost use Rattle.multihash.specs.Scale.{IsScale, HasScaleVerdict};
 ghost use Rattle.multihash.specs.Json.{IsByteArray, IsJsonList};
 ghost use Rattle.multihash.specs.Fault.{IsOther};
-ghost use Rattle.multihash.specs.Refusal.{IsMemory, IsIo, IsNotBytes, refusal_text};
-ghost use Rattle.multihash.specs.Answer.{pair_of, Answers};
-ghost use Rattle.uses.specs.Listed.{ListsOne, IsListRefusal};
+ghost use Rattle.multihash.specs.Refusal.{IsOutOfMemory, IsIo, IsNotBytes, refusal_text};
+ghost use Rattle.multihash.specs.Outcome.{pair_of, IsResultOf};
+ghost use Rattle.uses.specs.Listed.{ListsOne, ListMayFailWith};
 
 use crate::merkle::write_node;
 use multihash::no_std_io::{self, Write};
@@ -22,7 +22,7 @@ use std::alloc::Global;
 
 /// The result of reading a slice: its one verdict.
 pub fn found<const S: usize>(bytes: &[u8]) -> Result<Multihash<S>, Error>
-    ensures { (one : ExactlyOne (HasVerdict S bytes.now)) × Answers result one.value }
+    ensures { (one : ExactlyOne (HasVerdict S bytes.now)) × IsResultOf result one.value }
 {
     laws::one_verdict();
     let mut left = bytes;
@@ -50,7 +50,7 @@ pub fn settling_len<const S: usize>(stream: &[u8]) -> Option<usize>
     match Multihash::<S>::read(&mut left) {
         Ok(_) => Some(stream.len() - left.len()),
         Err(e) => {
-            if e.is_early_end() {
+            if e.is_incomplete() {
                 None
             } else {
                 Some(stream.len() - left.len())
@@ -67,7 +67,7 @@ pub fn lists_written_alike<const A: usize, const B: usize>(
     b: &[Multihash<B>],
 ) -> Result<bool, Error>
     ensures { MatchResult result
-        (λ alike. IsTrue alike ↔ (map pair_of a.now ≡ map pair_of b.now)) IsMemory }
+        (λ alike. IsTrue alike ↔ (map pair_of a.now ≡ map pair_of b.now)) IsOutOfMemory }
 {
     laws::split_unique();
     let mut first = Vec::new(alloc);
@@ -89,7 +89,7 @@ pub fn nodes_written_alike<const A: usize, const B: usize>(
     requires { length links.now ≡ length other_links.now }
     ensures { MatchResult result (λ alike. IsTrue alike ↔
         ((map pair_of links.now ≡ map pair_of other_links.now)
-        × (content.now ≡ other_content.now))) IsMemory }
+        × (content.now ≡ other_content.now))) IsOutOfMemory }
 {
     laws::split_unique();
     let mut first = Vec::new(alloc);
@@ -107,7 +107,7 @@ pub fn begins_scale<const A: usize, const B: usize>(
     b: &Multihash<B>,
 ) -> Result<bool, Error>
     ensures { MatchResult result
-        (λ begins. IsTrue begins ↔ (pair_of a.now ≡ pair_of b.now)) IsMemory }
+        (λ begins. IsTrue begins ↔ (pair_of a.now ≡ pair_of b.now)) IsOutOfMemory }
 {
     laws::scale_unique();
     let mut first = Vec::new(alloc);
@@ -122,20 +122,20 @@ pub fn begins_scale<const A: usize, const B: usize>(
 pub fn scale_streams_alike<const A: usize, const B: usize>(
     alloc: Global,
     a: &Multihash<A>,
-    behind_a: &[u8],
+    after_a: &[u8],
     b: &Multihash<B>,
-    behind_b: &[u8],
+    after_b: &[u8],
 ) -> Result<bool, Error>
     ensures { MatchResult result (λ alike. IsTrue alike ↔
-        ((pair_of a.now ≡ pair_of b.now) × (behind_a.now ≡ behind_b.now))) IsMemory }
+        ((pair_of a.now ≡ pair_of b.now) × (after_a.now ≡ after_b.now))) IsOutOfMemory }
 {
     laws::scale_unique();
     let mut first = Vec::new(alloc);
     a.scale_encode(&mut first)?;
-    first.write_all(behind_a)?;
+    first.write_all(after_a)?;
     let mut second = Vec::new(alloc);
     b.scale_encode(&mut second)?;
-    second.write_all(behind_b)?;
+    second.write_all(after_b)?;
     Ok(first.as_slice() == second.as_slice())
 }
 
@@ -149,7 +149,7 @@ pub fn scale_len<const S: usize>(m: &Multihash<S>) -> usize
 
 /// The result of decoding the SCALE form from a slice: its one verdict.
 pub fn decoded<const S: usize>(bytes: &[u8]) -> Result<Multihash<S>, Error>
-    ensures { (one : ExactlyOne (HasScaleVerdict S bytes.now)) × Answers result one.value }
+    ensures { (one : ExactlyOne (HasScaleVerdict S bytes.now)) × IsResultOf result one.value }
 {
     laws::scale_unique();
     let mut left = bytes;
@@ -163,7 +163,7 @@ pub fn decoded<const S: usize>(bytes: &[u8]) -> Result<Multihash<S>, Error>
 /// Those of [`Multihash::from_value`], if the value lists no multihash that fits.
 pub fn listed<const S: usize>(value: &Value) -> Result<Multihash<S>, Error>
     ensures verdict { (bytes : List ℕ) → IsByteArray (view value.now) bytes →
-        (v : Verdict) × HasWholeVerdict S bytes v × Answers result v }
+        (v : Verdict) × HasWholeVerdict S bytes v × IsResultOf result v }
     ensures not_bytes { ((bytes : List ℕ) → ¬ (IsByteArray (view value.now) bytes)) →
         IsErrAnd result IsNotBytes }
     ensures ok { IfOk result (λ m. IsJsonList (pair_of m) (view value.now)) }
@@ -192,7 +192,7 @@ pub fn lists<const S: usize>(value: &Value, m: &Multihash<S>) -> bool
 ///
 /// Those of [`Multihash::from_bytes`], if no value that lists the bytes lists a multihash that fits.
 pub fn of_listed_bytes<const S: usize>(bytes: &[u8]) -> Result<Multihash<S>, Error>
-    ensures verdict { (v : Verdict) × HasWholeVerdict S bytes.now v × Answers result v }
+    ensures verdict { (v : Verdict) × HasWholeVerdict S bytes.now v × IsResultOf result v }
     ensures ok { IfOk result (λ m. (value : Data) → IsByteArray value bytes.now →
         IsJsonList (pair_of m) value) }
     ensures found { (p : Pair) (value : Data) → IsJsonList p value → FitsBuffer S p →
@@ -211,8 +211,8 @@ pub fn of_listed_bytes<const S: usize>(bytes: &[u8]) -> Result<Multihash<S>, Err
 pub fn listed_alike<const A: usize, const B: usize>(a: &Value, b: &Value) -> Result<bool, Error>
     requires { (A < 65536) × (B < 65536) }
     ensures ok { IfOk result (λ alike. IsTrue alike ↔ (view a.now ≡ view b.now)) }
-    ensures err { IfErr result (λ e. IsListRefusal A (view a.now) e
-        ⊎ (ListsOne A (view a.now) × IsListRefusal B (view b.now) e)) }
+    ensures err { IfErr result (λ e. ListMayFailWith A (view a.now) e
+        ⊎ (ListsOne A (view a.now) × ListMayFailWith B (view b.now) e)) }
 {
     laws::json_unique();
     laws::prefix_free();

@@ -1,9 +1,9 @@
 //! Content identifiers of versions 0 and 1 (<https://github.com/multiformats/cid>).
 ghost use Rattle.std.specs.Prelude.{◌≡◌, ◌↔◌, ℕ, List, ◌++◌, Some, Option, IsTrue, IfOk, IfErr, OnOk, OnErr, IsErrOf, MatchResult};
-ghost use Rattle.multihash.specs.Reading.{Takes, CountsReader};
-ghost use Rattle.multihash.specs.Writing.{AppendsPart, CountsWriter};
-ghost use Rattle.multihash.specs.Refusal.{Refusal, IsIo, IsMemory, IsReaderFault, of_io};
-ghost use Rattle.uses.specs.ContentId.{Content, content_of, IsContentId, FitsContentId, IsRefused, IsContentIdRefusal, BeginsOtherwise, StopsInContentId, TakesAtContentIdError, LeavesOver};
+ghost use Rattle.multihash.specs.Reading.{Consumes, CountsReaderFailures};
+ghost use Rattle.multihash.specs.Writing.{AppendsPrefix, CountsWriterFailures};
+ghost use Rattle.multihash.specs.Refusal.{Refusal, IsIo, IsOutOfMemory, IsReaderError, of_io};
+ghost use Rattle.uses.specs.ContentId.{Content, content_of, IsContentId, FitsContentId, IsRejected, ContentIdMayFailWith, BeginsOtherwise, StopsInContentId, ConsumesAtContentIdError, LeavesOver};
 ghost use Rattle.uses.specs.declared.content_id.ContentIdError.TheVariants.{Refused, OtherVersion, LeftOver};
 
 mod codec;
@@ -84,8 +84,8 @@ impl<const S: usize> ContentId<S> {
     ///   malformed one were consumed, and of it what those calls say; of the digest fewer than 32 bytes.
     pub fn read<R: Read>(r: &mut R) -> Result<Self, ContentIdError>
         ensures ok { IfOk result (λ id. (bytes : List ℕ) × IsContentId (content_of id) bytes
-            × Takes (R.rest r.old) bytes (R.rest r.new)) }
-        ensures faults { CountsReader (IsRefused IsReaderFault) (IsContentIdRefusal S)
+            × Consumes (R.rest r.old) bytes (R.rest r.new)) }
+        ensures faults { CountsReaderFailures (IsRejected IsReaderError) (ContentIdMayFailWith S)
             (R.failures r.old) (R.failures r.new) result }
 
         // An identifier that comes next is found, and what follows it is left.
@@ -100,7 +100,7 @@ impl<const S: usize> ContentId<S> {
 
         // What was consumed at an error: of another version the bytes that show it.
         ensures err { IfErr result (λ e.
-            TakesAtContentIdError S e (R.rest r.old) (R.rest r.new)) }
+            ConsumesAtContentIdError S e (R.rest r.old) (R.rest r.new)) }
     {
         let version = varint::read(r)?;
         if version != VERSION && version != SHA2_256 {
@@ -132,7 +132,7 @@ impl<const S: usize> ContentId<S> {
             FitsContentId S content → MatchResult result (λ id. content_of id ≡ content) (λ _. ⊥) }
         ensures other { (n : ℕ) →
             (IsErrOf result (OtherVersion n) ↔ BeginsOtherwise n bytes.now) }
-        ensures left_over { (n : ℕ) →
+        ensures has_trailing { (n : ℕ) →
             (IsErrOf result (LeftOver n) ↔ LeavesOver S n bytes.now) }
         ensures refused { (e : Refusal) → IsErrOf result (Refused e) →
             (left : Option (List ℕ)) × StopsInContentId S e (Some bytes.now) left }
@@ -154,8 +154,8 @@ impl<const S: usize> ContentId<S> {
         ensures ok { OnOk result ((bytes : List ℕ) × IsContentId (content_of self.now) bytes
             × W.appended w.old bytes w.new) }
         ensures err { OnErr result ((bytes : List ℕ) → IsContentId (content_of self.now) bytes →
-            AppendsPart W.appended w.old bytes w.new) }
-        ensures faults { CountsWriter IsIo W.allocates
+            AppendsPrefix W.appended w.old bytes w.new) }
+        ensures faults { CountsWriterFailures IsIo W.allocates
             (W.failures w.old) (W.failures w.new) (W.full w.new) result }
     {
         match self {
@@ -187,19 +187,19 @@ pub fn one_identifier()
 pub fn written_alike<const A: usize, const B: usize>(
     alloc: Global,
     a: &ContentId<A>,
-    behind_a: &[u8],
+    after_a: &[u8],
     b: &ContentId<B>,
-    behind_b: &[u8],
+    after_b: &[u8],
 ) -> Result<bool, Error>
     ensures { MatchResult result (λ alike. IsTrue alike ↔
-        ((content_of a.now ≡ content_of b.now) × (behind_a.now ≡ behind_b.now))) IsMemory }
+        ((content_of a.now ≡ content_of b.now) × (after_a.now ≡ after_b.now))) IsOutOfMemory }
 {
     one_identifier();
     let mut first = Vec::new(alloc);
     a.write(&mut first)?;
-    first.write_all(behind_a)?;
+    first.write_all(after_a)?;
     let mut second = Vec::new(alloc);
     b.write(&mut second)?;
-    second.write_all(behind_b)?;
+    second.write_all(after_b)?;
     Ok(first.as_slice() == second.as_slice())
 }

@@ -1,8 +1,8 @@
 //! A dump of a stream: every multihash of an input until its end or the first error.
 ghost use Rattle.std.specs.Prelude.{◌<◌, [], Some, map, drop, IfOk, IfSome, IfNone};
 ghost use Rattle.multihash.specs.Verdict.{Verdict, HasVerdict};
-ghost use Rattle.multihash.specs.Streams.{TakesPairs};
-ghost use Rattle.multihash.specs.Answer.{pair_of, IsRefusal};
+ghost use Rattle.multihash.specs.Streams.{ConsumesPairs};
+ghost use Rattle.multihash.specs.Outcome.{pair_of, IsErrorOf};
 
 use multihash::{Error, Multihash};
 use std::alloc::{AllocError, Global};
@@ -29,10 +29,10 @@ pub struct Stop {
 pub fn read_all<const S: usize>(alloc: Global, input: &[u8]) -> Result<Dump<S>, AllocError>
     requires { S < 65536 }
     ensures end { IfOk result (λ dump. IfNone dump.stop
-        (TakesPairs S (map pair_of dump.items.items) (Some input.now) (Some []))) }
+        (ConsumesPairs S (map pair_of dump.items.items) (Some input.now) (Some []))) }
     ensures stop { IfOk result (λ dump. IfSome dump.stop (λ stop.
-        TakesPairs S (map pair_of dump.items.items) (Some input.now) (Some (drop stop.at input.now))
-        × ((v : Verdict) × HasVerdict S (drop stop.at input.now) v × IsRefusal stop.reason v))) }
+        ConsumesPairs S (map pair_of dump.items.items) (Some input.now) (Some (drop stop.at input.now))
+        × ((v : Verdict) × HasVerdict S (drop stop.at input.now) v × IsErrorOf stop.reason v))) }
 {
     let mut items = Vec::new(alloc);
     let mut left = input;

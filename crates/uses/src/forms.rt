@@ -1,10 +1,10 @@
 //! Callers that write multihashes in one form and read them back, alone and many in a stream.
 ghost use Rattle.std.specs.Prelude.{◌≡◌, ◌≤◌, ◌-◌, ◌+◌, ℕ, List, ◌++◌, length, map, min, All, Some, IsTrue, ◌↔◌, IfSome, MatchResult};
 ghost use Rattle.multihash.specs.Pair.{Pair, FitsBuffer};
-ghost use Rattle.multihash.specs.Streams.{AreJoined};
+ghost use Rattle.multihash.specs.Streams.{AreConcatenated};
 ghost use Rattle.multihash.specs.Scale.{IsScale};
-ghost use Rattle.multihash.specs.Refusal.{IsMemory};
-ghost use Rattle.multihash.specs.Answer.{pair_of};
+ghost use Rattle.multihash.specs.Refusal.{IsOutOfMemory};
+ghost use Rattle.multihash.specs.Outcome.{pair_of};
 
 use crate::bytes::bytes_back;
 use multihash::list::{read_list, write_list};
@@ -22,32 +22,32 @@ pub enum Form {
 
 /// Whether the SCALE form was written to the front of `places`, and the number of bytes left after it. If the
 /// slice is too short, none are left.
-pub fn fills_scale<const S: usize>(m: &Multihash<S>, places: &mut [u8]) -> (bool, usize)
+pub fn fills_scale<const S: usize>(m: &Multihash<S>, buffer: &mut [u8]) -> (bool, usize)
     ensures { (bytes : List ℕ) × IsScale (pair_of m.now) bytes
-        × (IsTrue result.0 ↔ (length bytes ≤ length places.old))
-        × (result.1 ≡ length places.old - length bytes) }
+        × (IsTrue result.0 ↔ (length bytes ≤ length buffer.old))
+        × (result.1 ≡ length buffer.old - length bytes) }
 {
-    let mut left = places;
+    let mut left = buffer;
     let is_whole = m.scale_encode(&mut left).is_ok();
     (is_whole, left.len())
 }
 
 /// Writes the SCALE form to a buffer of the greatest length, and returns its length.
-pub fn fills_longest_scale<const S: usize>(m: &Multihash<S>, places: &mut [u8; 264]) -> usize
+pub fn fills_longest_scale<const S: usize>(m: &Multihash<S>, buffer: &mut [u8; 264]) -> usize
     ensures { (bytes : List ℕ) × IsScale (pair_of m.now) bytes × (result ≡ length bytes) }
 {
-    let mut left = places.as_mut_slice();
+    let mut left = buffer.as_mut_slice();
     m.scale_encode(&mut left).unwrap()
 }
 
 /// Whether the encodings of some multihashes were written to the front of `places`, and the number of bytes
 /// left after them. If the slice is too short, none are left.
-pub fn fills_list<const S: usize>(items: &[Multihash<S>], places: &mut [u8]) -> (bool, usize)
-    ensures { (bytes : List ℕ) × AreJoined (map pair_of items.now) bytes
-        × (IsTrue result.0 ↔ (length bytes ≤ length places.old))
-        × (result.1 ≡ length places.old - length bytes) }
+pub fn fills_list<const S: usize>(items: &[Multihash<S>], buffer: &mut [u8]) -> (bool, usize)
+    ensures { (bytes : List ℕ) × AreConcatenated (map pair_of items.now) bytes
+        × (IsTrue result.0 ↔ (length bytes ≤ length buffer.old))
+        × (result.1 ≡ length buffer.old - length bytes) }
 {
-    let mut left = places;
+    let mut left = buffer;
     let is_whole = write_list(items, &mut left).is_ok();
     (is_whole, left.len())
 }
@@ -61,7 +61,7 @@ pub fn scale_back<const S: usize, const R: usize>(
     more: &[u8],
 ) -> Result<(Multihash<R>, bool), Error>
     ensures { FitsBuffer R (pair_of m.now) →
-        MatchResult result (λ back. (pair_of back.0 ≡ pair_of m.now) × IsTrue back.1) IsMemory }
+        MatchResult result (λ back. (pair_of back.0 ≡ pair_of m.now) × IsTrue back.1) IsOutOfMemory }
 {
     let mut bytes = Vec::new(alloc);
     m.scale_encode(&mut bytes)?;
@@ -78,7 +78,7 @@ pub fn json_back<const S: usize, const R: usize>(
     m: &Multihash<S>,
 ) -> Result<Multihash<R>, Error>
     ensures { FitsBuffer R (pair_of m.now) →
-        MatchResult result (λ back. pair_of back ≡ pair_of m.now) IsMemory }
+        MatchResult result (λ back. pair_of back ≡ pair_of m.now) IsOutOfMemory }
 {
     let value = m.to_value(alloc)?;
     Multihash::from_value(&value)
@@ -92,7 +92,7 @@ pub fn form_back<const S: usize, const R: usize>(
     m: &Multihash<S>,
 ) -> Result<Multihash<R>, Error>
     ensures { FitsBuffer R (pair_of m.now) →
-        MatchResult result (λ back. pair_of back ≡ pair_of m.now) IsMemory }
+        MatchResult result (λ back. pair_of back ≡ pair_of m.now) IsOutOfMemory }
 {
     match form {
         Form::Binary => bytes_back(alloc, m),
@@ -111,7 +111,7 @@ pub fn forms_back<const S: usize, const M: usize, const R: usize>(
 ) -> Result<(Multihash<M>, Multihash<R>), Error>
     ensures { FitsBuffer M (pair_of m.now) → FitsBuffer R (pair_of m.now) →
         MatchResult result
-        (λ back. (pair_of back.0 ≡ pair_of m.now) × (pair_of back.1 ≡ pair_of m.now)) IsMemory }
+        (λ back. (pair_of back.0 ≡ pair_of m.now) × (pair_of back.1 ≡ pair_of m.now)) IsOutOfMemory }
 {
     let between = form_back::<S, M>(alloc, first, m)?;
     let back = form_back::<M, R>(alloc, second, &between)?;
@@ -126,11 +126,11 @@ pub fn read_pairs<const S: usize, R: Read>(
     r: &mut R,
     count: usize,
 ) -> Result<Vec<Multihash<S>>, Error>
-    ensures { (pairs : List Pair) (bytes more : List ℕ) → AreJoined pairs bytes →
+    ensures { (pairs : List Pair) (bytes more : List ℕ) → AreConcatenated pairs bytes →
         All (FitsBuffer S) pairs → length pairs ≡ count → R.rest r.old ≡ Some (bytes ++ more) →
         R.failures r.new ≡ R.failures r.old →
         MatchResult result
-        (λ list. (map pair_of list.items ≡ pairs) × (R.rest r.new ≡ Some more)) IsMemory }
+        (λ list. (map pair_of list.items ≡ pairs) × (R.rest r.new ≡ Some more)) IsOutOfMemory }
 {
     read_list(alloc, r, count)
 }
@@ -145,7 +145,7 @@ pub fn stream_back<const S: usize, const R: usize>(
 ) -> Result<(Vec<Multihash<R>>, bool), Error>
     ensures { All (FitsBuffer R) (map pair_of items.now) →
         MatchResult result
-        (λ back. (map pair_of back.0.items ≡ map pair_of items.now) × IsTrue back.1) IsMemory }
+        (λ back. (map pair_of back.0.items ≡ map pair_of items.now) × IsTrue back.1) IsOutOfMemory }
 {
     let mut bytes = Vec::new(alloc);
     write_list(items, &mut bytes)?;

@@ -2,17 +2,17 @@
 //! the work fails its contract. One thing no contract can state: that an allocation succeeds. So `same` and
 //! `list_through` may run out of memory, and nothing else stops `same`.
 ghost use Rattle.std.specs.Prelude.{◌≡◌, ◌<◌, ◌⊎◌, ◌↔◌, ℕ, List, ◌+◌, ◌++◌, map, All, Some, IfSome, IfOk, IfErr, IsOkAnd, IsErr, IsErrAnd, IsTrue, MatchResult};
-ghost use Rattle.multihash.specs.Bytes.{ExactlyOne, IsBeginning};
+ghost use Rattle.multihash.specs.Bytes.{ExactlyOne, IsPrefix};
 ghost use Rattle.multihash.specs.Pair.{Pair, FitsBuffer};
 ghost use Rattle.multihash.specs.Encoding.{IsEncoding};
-ghost use Rattle.multihash.specs.Verdict.{Verdict, HasVerdict, HasWholeVerdict, IsEarlyEnd};
+ghost use Rattle.multihash.specs.Verdict.{Verdict, HasVerdict, HasWholeVerdict, IsIncomplete};
 ghost use Rattle.multihash.specs.Settling.{IsShortestSettling};
-ghost use Rattle.multihash.specs.Streams.{AreJoined};
-ghost use Rattle.multihash.specs.Reading.{Takes};
-ghost use Rattle.multihash.specs.Writing.{AppendsPart, IsWriterFaultOrFull};
-ghost use Rattle.multihash.specs.Taking.{TakesNothingSettling};
-ghost use Rattle.multihash.specs.Refusal.{IsIo, IsMemory, IsReaderFault};
-ghost use Rattle.multihash.specs.Answer.{pair_of, Answers};
+ghost use Rattle.multihash.specs.Streams.{AreConcatenated};
+ghost use Rattle.multihash.specs.Reading.{Consumes};
+ghost use Rattle.multihash.specs.Writing.{AppendsPrefix, IsWriterFaultOrFull};
+ghost use Rattle.multihash.specs.Consuming.{ConsumesNothingSettling};
+ghost use Rattle.multihash.specs.Refusal.{IsIo, IsOutOfMemory, IsReaderError};
+ghost use Rattle.multihash.specs.Outcome.{pair_of, IsResultOf};
 
 use multihash::no_std_io::{Read, Write};
 use multihash::{Error, Multihash, laws, list};
@@ -21,7 +21,7 @@ use std::alloc::Global;
 /// Reads the multihash that the whole of `bytes` encodes.
 pub fn verdict<const S: usize>(bytes: &[u8]) -> Result<Multihash<S>, Error>
     // The grammar assigns exactly one verdict to the bytes, and it is the result.
-    ensures one { (one : ExactlyOne (HasWholeVerdict S bytes.now)) × Answers result one.value }
+    ensures one { (one : ExactlyOne (HasWholeVerdict S bytes.now)) × IsResultOf result one.value }
 
     // The result is a pair exactly if the bytes are its encoding and its digest fits the capacity.
     ensures canonical { (p : Pair) →
@@ -36,21 +36,21 @@ pub fn verdict<const S: usize>(bytes: &[u8]) -> Result<Multihash<S>, Error>
 pub fn read_verdict<const S: usize, R: Read>(r: &mut R) -> Result<Multihash<S>, Error>
     // Either the reader failed, once, and its error is the result; or it did not fail, the grammar assigns exactly one
     // verdict to the rest, and that is the result.
-    ensures one { ((R.failures r.new ≡ R.failures r.old + 1) × IsErrAnd result IsReaderFault)
+    ensures one { ((R.failures r.new ≡ R.failures r.old + 1) × IsErrAnd result IsReaderError)
         ⊎ ((R.failures r.new ≡ R.failures r.old) × IfSome (R.rest r.old)
-        (λ rest. (one : ExactlyOne (HasVerdict S rest)) × Answers result one.value)) }
+        (λ rest. (one : ExactlyOne (HasVerdict S rest)) × IsResultOf result one.value)) }
 
     // If more input could not change the verdict, the rest has exactly one shortest prefix that settles it,
     // and exactly that was consumed.
     ensures settled { IfSome (R.rest r.old) (λ rest. R.failures r.new ≡ R.failures r.old →
-        (v : Verdict) → HasVerdict S rest v → ¬ (IsEarlyEnd v) →
+        (v : Verdict) → HasVerdict S rest v → ¬ (IsIncomplete v) →
         (front : ExactlyOne (IsShortestSettling S rest))
-        × Takes (Some rest) front.value (R.rest r.new)) }
+        × Consumes (Some rest) front.value (R.rest r.new)) }
 
     // If more input could change it, or the reader failed, no prefix of what was consumed settles a verdict.
     ensures unsettled { IfSome (R.rest r.old) (λ rest.
-        (R.failures r.old < R.failures r.new) ⊎ ((v : Verdict) × HasVerdict S rest v × IsEarlyEnd v) →
-        TakesNothingSettling S rest (R.rest r.new)) }
+        (R.failures r.old < R.failures r.new) ⊎ ((v : Verdict) × HasVerdict S rest v × IsIncomplete v) →
+        ConsumesNothingSettling S rest (R.rest r.new)) }
 {
     laws::one_verdict();
     laws::settles();
@@ -85,11 +85,11 @@ pub fn same<const A: usize, const B: usize>(
     ensures alike { IfOk result (λ x. IsTrue x.same ↔ (x.first.items ≡ x.second.items)) }
 
     // No encoding is a prefix of another: if one is, they are the same.
-    ensures begins { IfOk result (λ x. IsBeginning x.first.items x.second.items
-        ⊎ IsBeginning x.second.items x.first.items → IsTrue x.same) }
+    ensures begins { IfOk result (λ x. IsPrefix x.first.items x.second.items
+        ⊎ IsPrefix x.second.items x.first.items → IsTrue x.same) }
 
     // The only error is out of memory.
-    ensures memory { IfErr result IsMemory }
+    ensures memory { IfErr result IsOutOfMemory }
 {
     laws::prefix_free();
     let first = a.to_bytes(alloc)?;
@@ -106,7 +106,7 @@ pub fn same<const A: usize, const B: usize>(
 /// another.
 ///
 /// `W.appended` is all that contracts know of what a writer did. Between a `&mut [u8]` and what is left of it any bytes
-/// of that length have been appended, so no reader meets the premise of `back`: `places::list_back` has a list that goes
+/// of that length have been appended, so no reader meets the premise of `back`: `slices::list_back` has a list that goes
 /// through a slice.
 pub fn list_through<const S: usize, const T: usize, W: Write, R: Read>(
     alloc: Global,
@@ -115,8 +115,8 @@ pub fn list_through<const S: usize, const T: usize, W: Write, R: Read>(
     r: &mut R,
 ) -> Result<Vec<Multihash<T>>, Error>
     // The encodings of the items were appended, in order, or, at an error, a strict prefix of them.
-    ensures written { (bytes : List ℕ) × AreJoined (map pair_of items.now) bytes
-        × (W.appended w.old bytes w.new ⊎ (IsErr result × AppendsPart W.appended w.old bytes w.new)) }
+    ensures written { (bytes : List ℕ) × AreConcatenated (map pair_of items.now) bytes
+        × (W.appended w.old bytes w.new ⊎ (IsErr result × AppendsPrefix W.appended w.old bytes w.new)) }
 
     // If the reader's input is what was appended and then `more`, and the digests fit the new capacity, the
     // same pairs are read in order, and `more` is left. Otherwise memory ran out, the writer failed or was
@@ -126,9 +126,9 @@ pub fn list_through<const S: usize, const T: usize, W: Write, R: Read>(
         All (FitsBuffer T) (map pair_of items.now) →
         MatchResult result (λ list. (map pair_of list.items ≡ map pair_of items.now)
         × (R.rest r.new ≡ Some more))
-        (λ e. (IsMemory e ⊎ IsIo (IsWriterFaultOrFull W.allocates
+        (λ e. (IsOutOfMemory e ⊎ IsIo (IsWriterFaultOrFull W.allocates
         (W.failures w.old) (W.failures w.new) (W.full w.new)) e)
-        ⊎ ((R.failures r.new ≡ R.failures r.old + 1) × IsReaderFault e)) }
+        ⊎ ((R.failures r.new ≡ R.failures r.old + 1) × IsReaderError e)) }
 {
     list::write_list(items, w)?;
     list::read_list(alloc, r, items.len())

@@ -1,10 +1,10 @@
 //! Merkle nodes: links, followed by data.
 ghost use Rattle.std.specs.Prelude.{◌≡◌, ◌⊎◌, ℕ, List, ◌++◌, length, map, All, Some, OnOk, OnErr, IsTrue, MatchResult};
 ghost use Rattle.multihash.specs.Pair.{FitsBuffer};
-ghost use Rattle.multihash.specs.Streams.{AreJoined};
-ghost use Rattle.multihash.specs.Writing.{AppendsPart, CountsWriter, IsWriterFaultOrFull};
-ghost use Rattle.multihash.specs.Refusal.{IsIo, IsMemory};
-ghost use Rattle.multihash.specs.Answer.{pair_of};
+ghost use Rattle.multihash.specs.Streams.{AreConcatenated};
+ghost use Rattle.multihash.specs.Writing.{AppendsPrefix, CountsWriterFailures, IsWriterFaultOrFull};
+ghost use Rattle.multihash.specs.Refusal.{IsIo, IsOutOfMemory};
+ghost use Rattle.multihash.specs.Outcome.{pair_of};
 
 use multihash::no_std_io::{Read, Write};
 use multihash::{Error, Multihash, list};
@@ -20,12 +20,12 @@ pub fn write_node<const S: usize, W: Write>(
     content: &[u8],
     w: &mut W,
 ) -> Result<(), Error>
-    ensures ok { OnOk result ((bytes : List ℕ) × AreJoined (map pair_of links.now) bytes
+    ensures ok { OnOk result ((bytes : List ℕ) × AreConcatenated (map pair_of links.now) bytes
         × W.appended w.old (bytes ++ content.now) w.new) }
     ensures fit { OnOk result (All (FitsBuffer S) (map pair_of links.now)) }
-    ensures err { OnErr result ((bytes : List ℕ) × AreJoined (map pair_of links.now) bytes
-        × AppendsPart W.appended w.old (bytes ++ content.now) w.new) }
-    ensures faults { CountsWriter IsIo W.allocates
+    ensures err { OnErr result ((bytes : List ℕ) × AreConcatenated (map pair_of links.now) bytes
+        × AppendsPrefix W.appended w.old (bytes ++ content.now) w.new) }
+    ensures faults { CountsWriterFailures IsIo W.allocates
         (W.failures w.old) (W.failures w.new) (W.full w.new) result }
 {
     list::write_list(links, w)?;
@@ -47,7 +47,7 @@ pub fn through<const S: usize, const T: usize, W: Write, R: Read>(
         All (FitsBuffer T) (map pair_of links.now) → R.failures r.new ≡ R.failures r.old →
         MatchResult result (λ read. (map pair_of read.items ≡ map pair_of links.now)
         × (R.rest r.new ≡ Some content.now))
-        (λ e. IsMemory e ⊎ IsIo (IsWriterFaultOrFull W.allocates
+        (λ e. IsOutOfMemory e ⊎ IsIo (IsWriterFaultOrFull W.allocates
         (W.failures w.old) (W.failures w.new) (W.full w.new)) e) }
 {
     write_node(links, content, w)?;
@@ -62,7 +62,7 @@ pub fn node_back<const S: usize>(
     content: &[u8],
 ) -> Result<(Vec<Multihash<S>>, bool), Error>
     ensures { MatchResult result
-        (λ back. (map pair_of back.0.items ≡ map pair_of links.now) × IsTrue back.1) IsMemory }
+        (λ back. (map pair_of back.0.items ≡ map pair_of links.now) × IsTrue back.1) IsOutOfMemory }
 {
     let mut bytes = Vec::new(alloc);
     write_node(links, content, &mut bytes)?;

@@ -33,17 +33,17 @@ impl From<Error> for PartError {
 ///
 /// The address does not begin with a part.
 pub fn first_part(address: &[u8]) -> Result<(Part<'_>, &[u8]), PartError>
-    ensures { IfOk result (λ taken. (code size : List ℕ) × IsVarint taken.0.code code
-        × IsVarint (length taken.0.bytes.now) size
-        × (address.now ≡ code ++ (size ++ (taken.0.bytes.now ++ taken.1.now)))) }
+    ensures { IfOk result (λ consumed. (code size : List ℕ) × IsVarint consumed.0.code code
+        × IsVarint (length consumed.0.bytes.now) size
+        × (address.now ≡ code ++ (size ++ (consumed.0.bytes.now ++ consumed.1.now)))) }
 {
     let (code, code_len) = varint::read_front(address)?;
-    let behind_code = &address[code_len..];
-    let (size, size_len) = varint::read_front(behind_code)?;
-    let behind_size = &behind_code[size_len..];
-    if size > behind_size.len() as u64 {
+    let after_code = &address[code_len..];
+    let (size, size_len) = varint::read_front(after_code)?;
+    let after_size = &after_code[size_len..];
+    if size > after_size.len() as u64 {
         return Err(PartError::Cut);
     }
-    let (bytes, rest) = behind_size.split_at(size as usize);
+    let (bytes, rest) = after_size.split_at(size as usize);
     Ok((Part { code, bytes }, rest))
 }

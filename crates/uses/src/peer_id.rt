@@ -1,8 +1,8 @@
 //! Peer identifiers: a multihash and its bytes, whatever the capacity.
 ghost use Rattle.std.specs.Prelude.{◌≡◌, ◌↔◌, IsTrue, IfOk, IfErr, MatchResult};
 ghost use Rattle.multihash.specs.Encoding.{IsEncoding};
-ghost use Rattle.multihash.specs.Refusal.{IsMemory};
-ghost use Rattle.multihash.specs.Answer.{pair_of};
+ghost use Rattle.multihash.specs.Refusal.{IsOutOfMemory};
+ghost use Rattle.multihash.specs.Outcome.{pair_of};
 
 use multihash::{Error, Multihash};
 use std::alloc::Global;
@@ -19,7 +19,7 @@ pub fn is_peer<const S: usize>(peer: &Multihash<S>, bytes: &[u8]) -> bool
 
 /// The peer's bytes. Two peers are the same exactly if these are equal. It fails only when out of memory.
 pub fn peer_bytes<const S: usize>(alloc: Global, peer: &Multihash<S>) -> Result<Vec<u8>, Error>
-    ensures { MatchResult result (λ bytes. IsEncoding (pair_of peer.now) bytes.items) IsMemory }
+    ensures { MatchResult result (λ bytes. IsEncoding (pair_of peer.now) bytes.items) IsOutOfMemory }
 {
     peer.to_bytes(alloc)
 }

@@ -1,7 +1,7 @@
 //! Streams with corrupt entries: reads what can be read, and counts the rest.
 ghost use Rattle.std.specs.Prelude.{IfOk, IfErr, map};
-ghost use Rattle.multihash.specs.Refusal.{IsMemory};
-ghost use Rattle.multihash.specs.Answer.{pair_of};
+ghost use Rattle.multihash.specs.Refusal.{IsOutOfMemory};
+ghost use Rattle.multihash.specs.Outcome.{pair_of};
 ghost use Rattle.uses.specs.Recovery.{Recovers};
 
 use multihash::{Error, Multihash};
@@ -23,7 +23,7 @@ pub struct Recovered {
 pub fn recover(alloc: Global, bytes: &[u8]) -> Result<Recovered, Error>
     ensures ok { IfOk result
         (λ found. Recovers 64 bytes.now (map pair_of found.good.items) found.refused) }
-    ensures memory { IfErr result IsMemory }
+    ensures memory { IfErr result IsOutOfMemory }
 {
     let mut good = Vec::new(alloc);
     let mut refused = 0;
@@ -33,7 +33,7 @@ pub fn recover(alloc: Global, bytes: &[u8]) -> Result<Recovered, Error>
             Ok(multihash) => good.push(multihash)?,
             Err(error) => {
                 refused += 1;
-                if error.is_early_end() {
+                if error.is_incomplete() {
                     return Ok(Recovered { good, refused });
                 }
             }

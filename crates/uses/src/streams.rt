@@ -1,6 +1,6 @@
 //! A custom reader and a custom writer: the pattern to copy.
 ghost use Rattle.std.specs.Prelude.{◌≡◌, ◌≤◌, [], false, Some, drop, length, vec_len};
-ghost use Rattle.multihash.specs.Writing.{AppendsAtEnd, AppendsAtEnd-none, AppendsAtEnd-joined};
+ghost use Rattle.multihash.specs.Writing.{AppendsAtEnd, AppendsAtEnd-none, AppendsAtEnd-concatenated};
 
 use multihash::no_std_io::{Error, Read, Write};
 use std::marker::Model;
@@ -91,12 +91,12 @@ impl<const N: usize> Write for Room<N> {
 
     ghost appends_nothing = { AppendsAtEnd-none };
 
-    ghost appends_joined = { AppendsAtEnd-joined };
+    ghost appends_concatenated = { AppendsAtEnd-concatenated };
 
     fn write(&mut self, buf: &[u8]) -> Result<usize, Error> {
         let n = buf.len().min(N - self.len);
-        let places: &mut [u8] = &mut self.bytes;
-        places[self.len..self.len + n].copy_from_slice(&buf[..n]);
+        let buffer: &mut [u8] = &mut self.bytes;
+        buffer[self.len..self.len + n].copy_from_slice(&buf[..n]);
         self.len += n;
         Ok(n)
     }

@@ -5,7 +5,7 @@ ghost use Rattle.std.specs.Ordering.{on};
 ghost use Rattle.multihash.specs.Comparing.{compare_pairs};
 ghost use Rattle.multihash.specs.Pair.{truncated};
 ghost use Rattle.multihash.specs.Refusal.{IsInvalidSize};
-ghost use Rattle.multihash.specs.Answer.{pair_of};
+ghost use Rattle.multihash.specs.Outcome.{pair_of};
 
 use multihash::{Error, Multihash};
 use std::alloc::AllocError;

@@ -1,3 +1,3 @@
-pub mod AnswerLemmas
+pub mod OutcomeOfLemmas
 pub mod ListedVectors
-pub mod ScaleAnswerLemmas
+pub mod ScaleOutcomeLemmas

@@ -3,9 +3,9 @@ use Rattle.std.proofs.Common.{◌≡◌, ℕ, List, [], ◌∷◌, ◌++◌, Opt
 use Rattle.std.specs.Prelude.{codes}
 use Rattle.std.proofs.lemmas.List.Elements.{All-head}
 use Rattle.hex.specs.Hex.{decode_pairs}
-use Rattle.multihash.specs.Bytes.{IsProperBeginning, place_value}
+use Rattle.multihash.specs.Bytes.{IsStrictPrefix, place_value}
 use Rattle.multihash.specs.Varint.{insufficient, overflow, not_minimal}
-use Rattle.multihash.specs.Verdict.{accepted, invalid_size, invalid_code, faulty, unexpected_eof, HasWholeVerdict}
+use Rattle.multihash.specs.Verdict.{accepted, invalid_size, invalid_code, malformed, unexpected_eof, HasWholeVerdict}
 use Rattle.multihash.specs.Scale.{IsScaleCode, HasScaleVerdict}
 use Rattle.multihash.proofs.Varints.DigitLemmas.{All-append_right}
 use Rattle.multihash.proofs.Writings.WritingLemmas.{length_of_not_nil}
@@ -15,15 +15,15 @@ use Rattle.multihash.proofs.Readings.SettlingLemmas.{shortest_unique}
 use Rattle.multihash.proofs.Examples.BytesVectors.{all_below}
 use Rattle.multihash.proofs.Examples.PairVectors.{pair}
 use Rattle.multihash.proofs.Examples.VerdictVectors.{size_5, size_named, code_named, shortest_of_size}
-use Rattle.multihash.proofs.Examples.ScaleVectors.{zeros, all_255, scale_eight_bytes, scale_size_first, scale_size_behind}
-use Rattle.vectors.proofs.ScaleAnswerLemmas.{size_shortest}
+use Rattle.multihash.proofs.Examples.ScaleVectors.{zeros, all_255, scale_eight_bytes, scale_size_first, scale_size_after}
+use Rattle.vectors.proofs.ScaleOutcomeLemmas.{size_shortest}
 use Rattle.vectors.specs.declared.check.Check.{Check}
 use Rattle.vectors.specs.declared.check.Check.TheVariants.{FromBytes, ReadSlice, ReadOneByte, ReadTwoBytes, ReadThreeBytes, ScaleSlice, ScaleOneByte, ScaleFourBytes, FromValue}
 use Rattle.vectors.specs.declared.line.Line.{Line}
 use Rattle.vectors.specs.declared.line.Reading.{Reading}
 use Rattle.vectors.specs.declared.verdict.Verdict.{Verdict}
 use Rattle.vectors.specs.declared.verdict.Verdict.TheVariants.{Pair as Listed, InvalidSize, InvalidCode, Insufficient, Overflow, NotMinimal, UnexpectedEof}
-use Rattle.vectors.specs.Listed.{ListsBytes, meaning, SettlesAfter, IsTaken, IsReading, DecodesAfter, IsScaleTaken, IsScaleReading, ends_varint, TakesEnough, TakesAsReadListed, TakesAsScaleListed, IsRight, AreRightFor, AreRight}
+use Rattle.vectors.specs.Listed.{ListsBytes, meaning, SettlesAfter, IsConsumed, IsReading, DecodesAfter, IsScaleConsumed, IsScaleReading, ends_varint, ConsumesEnough, ConsumesAsReadListed, ConsumesAsScaleListed, IsRight, AreRightFor, AreRight}
 use Rattle.multihash.proofs.Writings.EncodingLemmas.{same_cut}
 
 -- ---- words of a line
@@ -50,13 +50,13 @@ means_size size = refl
 means_code : (code : ℕ) → meaning (InvalidCode code) ≡ invalid_code code
 means_code code = refl
 
-means_insufficient : meaning Insufficient ≡ faulty insufficient
+means_insufficient : meaning Insufficient ≡ malformed insufficient
 means_insufficient = refl
 
-means_overflow : meaning Overflow ≡ faulty overflow
+means_overflow : meaning Overflow ≡ malformed overflow
 means_overflow = refl
 
-means_not_minimal : meaning NotMinimal ≡ faulty not_minimal
+means_not_minimal : meaning NotMinimal ≡ malformed not_minimal
 means_not_minimal = refl
 
 means_eof : meaning UnexpectedEof ≡ unexpected_eof
@@ -77,18 +77,18 @@ settles_after_no_other count other h =
     (shortest_unique 4 (0 ∷ 5 ∷ 9 ∷ []) h.front (0 ∷ 5 ∷ []) h.shortest shortest_of_size))
 
 -- no count is listed of an early end, and of nothing else
-taken_of_early_end : IsTaken 4 [] (faulty insufficient) None
-taken_of_early_end = tt
+taken_of_incomplete : IsConsumed 4 [] (malformed insufficient) None
+taken_of_incomplete = tt
 
-no_count_of_size : ¬ (IsTaken 4 (0 ∷ 5 ∷ 9 ∷ []) (invalid_size 5) None)
+no_count_of_size : ¬ (IsConsumed 4 (0 ∷ 5 ∷ 9 ∷ []) (invalid_size 5) None)
 no_count_of_size h = h
 
 abbrev size_after : ℕ → Option ℕ → Reading
-size_after size taken = record { verdict = InvalidSize size; taken = taken }
+size_after size consumed = record { verdict = InvalidSize size; consumed = consumed }
 
 reading_of_size : IsReading 4 (0 ∷ 5 ∷ 9 ∷ []) (size_after 5 (Some 2))
 reading_of_size =
-    record { verdict = (9 ∷ [], size_5 (9 ∷ []), omega arith); taken = settles_after_two }
+    record { verdict = (9 ∷ [], size_5 (9 ∷ []), omega arith); consumed = settles_after_two }
 
 no_reading_of_other_size : ¬ (IsReading 4 (0 ∷ 5 ∷ 9 ∷ []) (size_after 6 (Some 2)))
 no_reading_of_other_size h =
@@ -100,25 +100,25 @@ no_reading_of_other_size h =
     )
 
 no_reading_after_three : ¬ (IsReading 4 (0 ∷ 5 ∷ 9 ∷ []) (size_after 5 (Some 3)))
-no_reading_after_three h = settles_after_no_other 3 (λ e. omega (arith, e)) h.taken
+no_reading_after_three h = settles_after_no_other 3 (λ e. omega (arith, e)) h.consumed
 
 no_reading_without_count : ¬ (IsReading 4 (0 ∷ 5 ∷ 9 ∷ []) (size_after 5 None))
-no_reading_without_count h = h.taken
+no_reading_without_count h = h.consumed
 
 abbrev code_after : ℕ → Option ℕ → Reading
-code_after code taken = record { verdict = InvalidCode code; taken = taken }
+code_after code consumed = record { verdict = InvalidCode code; consumed = consumed }
 
 -- reading refuses no code
-no_reading_of_code : (S : ℕ) (input : List ℕ) (code : ℕ) (taken : Option ℕ)
-    → ¬ (IsReading S input (code_after code taken))
-no_reading_of_code S input code taken h = h.verdict
+no_reading_of_code : (S : ℕ) (input : List ℕ) (code : ℕ) (consumed : Option ℕ)
+    → ¬ (IsReading S input (code_after code consumed))
+no_reading_of_code S input code consumed h = h.verdict
 
 -- ---- readings of the SCALE form
 
-before_nine : (shorter : List ℕ) → IsProperBeginning shorter (zeros ++ 5 ∷ [])
+before_nine : (shorter : List ℕ) → IsStrictPrefix shorter (zeros ++ 5 ∷ [])
     → HasScaleVerdict 4 shorter unexpected_eof
-before_nine shorter proper =
-    size_shortest 4 5 (zeros ++ 5 ∷ []) scale_size_first.0 shorter scale_size_first.1 refl proper
+before_nine shorter strict =
+    size_shortest 4 5 (zeros ++ 5 ∷ []) scale_size_first.0 shorter scale_size_first.1 refl strict
 
 decodes_after_nine : DecodesAfter 4 (zeros ++ 5 ∷ 7 ∷ []) 9
 decodes_after_nine = record {
@@ -153,15 +153,15 @@ decodes_after_no_eight h =
     (subst (λ (z : List ℕ). HasScaleVerdict 4 z h.verdict) whole h.decodes) scale_eight_bytes)
 
 -- what ends early decodes after no byte
-decodes_no_early_end : ¬ (DecodesAfter 4 zeros 8)
-decodes_no_early_end h =
+decodes_no_incomplete : ¬ (DecodesAfter 4 zeros 8)
+decodes_no_incomplete h =
     let (rest, cut) = h.begins in
     let (whole, none) = same_cut h.front zeros rest [] h.long (sym cut) in
     h.late (scale_verdict_unique 4 zeros h.verdict unexpected_eof
     (subst (λ (z : List ℕ). HasScaleVerdict 4 z h.verdict) whole h.decodes) scale_eight_bytes)
 
 scale_reading_of_size : IsScaleReading 4 (zeros ++ 5 ∷ 7 ∷ []) (size_after 5 (Some 9))
-scale_reading_of_size = (scale_size_behind, decodes_after_nine)
+scale_reading_of_size = (scale_size_after, decodes_after_nine)
 
 no_scale_reading_without_count : ¬ (IsScaleReading 4 (zeros ++ 5 ∷ 7 ∷ []) (size_after 5 None))
 no_scale_reading_without_count h = let e = h.1 in cc
@@ -175,10 +175,10 @@ no_scale_reading_of_other_size h =
       arith,
       ap size_named
           (scale_verdict_unique 4 (zeros ++ 5 ∷ 7 ∷ []) (invalid_size 6)
-          (invalid_size 5) h.0 scale_size_behind),
+          (invalid_size 5) h.0 scale_size_after),
     )
 
-before_eight : (shorter : List ℕ) → IsProperBeginning shorter all_255
+before_eight : (shorter : List ℕ) → IsStrictPrefix shorter all_255
     → HasScaleVerdict 4 shorter unexpected_eof
 before_eight shorter (rest, some, cut) =
     inl (omega (
@@ -240,7 +240,7 @@ no_scale_reading_of_other_code h =
 no_scale_reading_of_size_first : ¬ (IsScaleReading 4 (all_255 ++ 5 ∷ []) (size_after 5 (Some 9)))
 no_scale_reading_of_size_first h = decodes_after_no_nine h.1
 
-scale_cut_has_no_count : IsScaleTaken 4 (zeros ++ 3 ∷ 0xaa ∷ 0xbb ∷ []) unexpected_eof None
+scale_cut_has_no_count : IsScaleConsumed 4 (zeros ++ 3 ∷ 0xaa ∷ 0xbb ∷ []) unexpected_eof None
 scale_cut_has_no_count = refl
 
 -- ---- what was taken
@@ -251,71 +251,71 @@ digit_ends_varint = refl
 mark_ends_no_varint : ends_varint 128 ≡ false
 mark_ends_no_varint = refl
 
-takes_all_of_an_open_varint : TakesEnough (faulty insufficient) (0x80 ∷ []) []
+takes_all_of_an_open_varint : ConsumesEnough (malformed insufficient) (0x80 ∷ []) []
 takes_all_of_an_open_varint = refl
 
-leaves_none_of_an_open_varint : ¬ (TakesEnough (faulty insufficient) (0x80 ∷ []) (0x80 ∷ []))
+leaves_none_of_an_open_varint : ¬ (ConsumesEnough (malformed insufficient) (0x80 ∷ []) (0x80 ∷ []))
 leaves_none_of_an_open_varint h = omega (arith, ap (λ (z : List ℕ). length z) h)
 
-takes_both_varints : TakesEnough unexpected_eof (0 ∷ 4 ∷ 1 ∷ []) (1 ∷ [])
+takes_both_varints : ConsumesEnough unexpected_eof (0 ∷ 4 ∷ 1 ∷ []) (1 ∷ [])
 takes_both_varints = omega arith
 
-leaves_no_size : ¬ (TakesEnough unexpected_eof (0 ∷ 4 ∷ 1 ∷ []) (4 ∷ 1 ∷ []))
+leaves_no_size : ¬ (ConsumesEnough unexpected_eof (0 ∷ 4 ∷ 1 ∷ []) (4 ∷ 1 ∷ []))
 leaves_no_size h = omega (arith, h)
 
 -- two bytes of one varint aren't both varints
-leaves_no_size_behind_two_bytes : ¬
-    (TakesEnough unexpected_eof (0x80 ∷ 1 ∷ 4 ∷ 1 ∷ []) (4 ∷ 1 ∷ []))
-leaves_no_size_behind_two_bytes h = omega (arith, h)
+leaves_no_size_after_two_bytes : ¬
+    (ConsumesEnough unexpected_eof (0x80 ∷ 1 ∷ 4 ∷ 1 ∷ []) (4 ∷ 1 ∷ []))
+leaves_no_size_after_two_bytes h = omega (arith, h)
 
-enough_of_no_size : ¬ (TakesEnough (invalid_size 5) [] [])
+enough_of_no_size : ¬ (ConsumesEnough (invalid_size 5) [] [])
 enough_of_no_size h = h
 
-enough_of_no_code : ¬ (TakesEnough (invalid_code 5) [] [])
+enough_of_no_code : ¬ (ConsumesEnough (invalid_code 5) [] [])
 enough_of_no_code h = h
 
-enough_of_no_overflow : ¬ (TakesEnough (faulty overflow) [] [])
+enough_of_no_overflow : ¬ (ConsumesEnough (malformed overflow) [] [])
 enough_of_no_overflow h = h
 
-enough_of_no_padding : ¬ (TakesEnough (faulty not_minimal) [] [])
+enough_of_no_padding : ¬ (ConsumesEnough (malformed not_minimal) [] [])
 enough_of_no_padding h = h
 
-enough_of_no_pair : ¬ (TakesEnough (accepted (pair 0 [])) [] [])
+enough_of_no_pair : ¬ (ConsumesEnough (accepted (pair 0 [])) [] [])
 enough_of_no_pair h = h
 
-takes_as_listed : TakesAsReadListed (0 ∷ 5 ∷ 9 ∷ []) (9 ∷ []) (size_after 5 (Some 2))
+takes_as_listed : ConsumesAsReadListed (0 ∷ 5 ∷ 9 ∷ []) (9 ∷ []) (size_after 5 (Some 2))
 takes_as_listed = ((λ early. early), refl)
 
-takes_no_other_count : ¬ (TakesAsReadListed (0 ∷ 5 ∷ 9 ∷ []) [] (size_after 5 (Some 2)))
+takes_no_other_count : ¬ (ConsumesAsReadListed (0 ∷ 5 ∷ 9 ∷ []) [] (size_after 5 (Some 2)))
 takes_no_other_count h = omega (arith, h.1)
 
-takes_no_count_of_early_end : ¬ (TakesAsReadListed (0x80 ∷ []) [] (record {
+takes_no_count_of_incomplete : ¬ (ConsumesAsReadListed (0x80 ∷ []) [] (record {
   verdict = Insufficient;
-  taken = Some 1;
+  consumed = Some 1;
 }))
-takes_no_count_of_early_end h = h.0 tt
+takes_no_count_of_incomplete h = h.0 tt
 
-lists_a_count_of_size : ¬ (TakesAsReadListed (0 ∷ 5 ∷ 9 ∷ []) (9 ∷ []) (size_after 5 None))
+lists_a_count_of_size : ¬ (ConsumesAsReadListed (0 ∷ 5 ∷ 9 ∷ []) (9 ∷ []) (size_after 5 None))
 lists_a_count_of_size h = h
 
-decoding_takes_as_listed : TakesAsScaleListed (zeros ++ 5 ∷ 7 ∷ []) (7 ∷ []) (size_after 5 (Some 9))
+decoding_takes_as_listed : ConsumesAsScaleListed (zeros ++ 5 ∷ 7 ∷ []) (7 ∷ []) (size_after 5 (Some 9))
 decoding_takes_as_listed = ((λ e. cc), refl)
 
-decoding_takes_eight_of_code : TakesAsScaleListed (all_255 ++ 5 ∷ []) (5 ∷ [])
+decoding_takes_eight_of_code : ConsumesAsScaleListed (all_255 ++ 5 ∷ []) (5 ∷ [])
     (code_after 18446744073709551615 (Some 8))
 decoding_takes_eight_of_code = ((λ e. cc), refl)
 
-decoding_takes_no_nine_of_code : ¬ (TakesAsScaleListed (all_255 ++ 5 ∷ []) []
+decoding_takes_no_nine_of_code : ¬ (ConsumesAsScaleListed (all_255 ++ 5 ∷ []) []
     (code_after 18446744073709551615 (Some 8)))
 decoding_takes_no_nine_of_code h = omega (arith, h.1)
 
-decoding_takes_no_other_count : ¬ (TakesAsScaleListed (zeros ++ 5 ∷ 7 ∷ []) [] (size_after 5 (Some 9)))
+decoding_takes_no_other_count : ¬ (ConsumesAsScaleListed (zeros ++ 5 ∷ 7 ∷ []) [] (size_after 5 (Some 9)))
 decoding_takes_no_other_count h = omega (arith, h.1)
 
-decoding_takes_no_count_of_end : ¬ (TakesAsScaleListed zeros [] (record { verdict = UnexpectedEof; taken = Some 8 }))
+decoding_takes_no_count_of_end : ¬ (ConsumesAsScaleListed zeros [] (record { verdict = UnexpectedEof; consumed = Some 8 }))
 decoding_takes_no_count_of_end h = h.0 refl
 
-decoding_lists_a_count_of_size : ¬ (TakesAsScaleListed (zeros ++ 5 ∷ []) [] (size_after 5 None))
+decoding_lists_a_count_of_size : ¬ (ConsumesAsScaleListed (zeros ++ 5 ∷ []) [] (size_after 5 None))
 decoding_lists_a_count_of_size h = let e : invalid_size 5 ≡ unexpected_eof = h in cc
 
 -- ---- checks: over these bytes each is right of what the grammar says, and of nothing else
@@ -339,9 +339,9 @@ from_bytes_answers_no_other : (line : Line) → line.input.items ≡ three
     → line.from_bytes ≡ InvalidSize 6 → ¬ (IsRight FromBytes 4 line)
 from_bytes_answers_no_other line input says h = no_other_whole_size line input says h
 
-from_bytes_refuses_no_code : (line : Line) (code : ℕ) → line.from_bytes ≡ InvalidCode code
+from_bytes_rejects_no_code : (line : Line) (code : ℕ) → line.from_bytes ≡ InvalidCode code
     → ¬ (IsRight FromBytes 4 line)
-from_bytes_refuses_no_code line code says h =
+from_bytes_rejects_no_code line code says h =
     subst (λ (v : Verdict). HasWholeVerdict 4 line.input.items (meaning v)) says h
 
 from_value_answers_no_other : (line : Line) → line.input.items ≡ three

@@ -1,11 +1,11 @@
 -- What a line of test vectors states, by the grammar.
 use Rattle.std.specs.Prelude.{◌≡◌, ◌≢◌, ℕ, ◌+◌, List, [], Option, Ok, ◌⊎◌, length, take, count_by, nat_lt, ◌-◌, ◌≤◌, Bool, codes, All, MatchOption}
 use Rattle.hex.specs.Hex.{decode_of}
-use Rattle.multihash.specs.Bytes.{IsBeginning, IsProperBeginning}
+use Rattle.multihash.specs.Bytes.{IsPrefix, IsStrictPrefix}
 use Rattle.multihash.specs.Scale.{HasScaleVerdict}
 use Rattle.multihash.specs.Settling.{IsShortestSettling}
 use Rattle.multihash.specs.Varint.{insufficient, overflow, not_minimal}
-use Rattle.multihash.specs.Verdict.{Verdict as Meaning, accepted, invalid_size, invalid_code, faulty, unexpected_eof, HasVerdict, HasWholeVerdict, IsEarlyEnd}
+use Rattle.multihash.specs.Verdict.{Verdict as Meaning, accepted, invalid_size, invalid_code, malformed, unexpected_eof, HasVerdict, HasWholeVerdict, IsIncomplete}
 use Rattle.vectors.specs.declared.check.Check.{Check}
 use Rattle.vectors.specs.declared.check.Check.TheVariants.{FromBytes, ReadSlice, ReadOneByte, ReadTwoBytes, ReadThreeBytes, ScaleSlice, ScaleOneByte, ScaleFourBytes, FromValue}
 use Rattle.vectors.specs.declared.line.Line.{Line}
@@ -22,9 +22,9 @@ abbrev pub meaning : Verdict → Meaning
 meaning (Listed code digest) = accepted (record { code = code; digest = digest.items })
 meaning (InvalidSize size) = invalid_size size
 meaning (InvalidCode code) = invalid_code code
-meaning Insufficient = faulty insufficient
-meaning Overflow = faulty overflow
-meaning NotMinimal = faulty not_minimal
+meaning Insufficient = malformed insufficient
+meaning Overflow = malformed overflow
+meaning NotMinimal = malformed not_minimal
 meaning UnexpectedEof = unexpected_eof
 
 -- the shortest prefix that settles the verdict has this number of bytes
@@ -34,34 +34,34 @@ pub record SettlesAfter (S : ℕ) (input : List ℕ) (count : ℕ) : Type 0 wher
   pub long : length front ≡ count
 
 -- the verdict settles after this number of bytes, or if none is listed the input is incomplete
-abbrev pub IsTaken : ℕ → List ℕ → Meaning → Option ℕ → Type 0
-IsTaken S input v taken = MatchOption taken (IsEarlyEnd v) (SettlesAfter S input)
+abbrev pub IsConsumed : ℕ → List ℕ → Meaning → Option ℕ → Type 0
+IsConsumed S input v consumed = MatchOption consumed (IsIncomplete v) (SettlesAfter S input)
 
 -- the listed verdict and number of bytes are those of reading the input
 pub record IsReading (S : ℕ) (input : List ℕ) (listed : Reading) : Type 0 where
   pub verdict : HasVerdict S input (meaning listed.verdict)
-  pub taken : IsTaken S input (meaning listed.verdict) listed.taken
+  pub consumed : IsConsumed S input (meaning listed.verdict) listed.consumed
 
 -- the shortest prefix that is complete for decoding has this number of bytes
 pub record DecodesAfter (S : ℕ) (input : List ℕ) (count : ℕ) : Type 0 where
   pub front : List ℕ
-  pub begins : IsBeginning front input
+  pub begins : IsPrefix front input
   pub verdict : Meaning
   pub decodes : HasScaleVerdict S front verdict
   pub late : verdict ≢ unexpected_eof
-  pub shortest : (shorter : List ℕ) → IsProperBeginning shorter front →
+  pub shortest : (shorter : List ℕ) → IsStrictPrefix shorter front →
       HasScaleVerdict S shorter unexpected_eof
   pub long : length front ≡ count
 
 -- decoding needs this number of bytes, or if none is listed the input is incomplete
-abbrev pub IsScaleTaken : ℕ → List ℕ → Meaning → Option ℕ → Type 0
-IsScaleTaken S input v taken = MatchOption taken (v ≡ unexpected_eof) (DecodesAfter S input)
+abbrev pub IsScaleConsumed : ℕ → List ℕ → Meaning → Option ℕ → Type 0
+IsScaleConsumed S input v consumed = MatchOption consumed (v ≡ unexpected_eof) (DecodesAfter S input)
 
 -- the listed verdict and number of bytes are those of decoding the input
 abbrev pub IsScaleReading : ℕ → List ℕ → Reading → Type 0
 IsScaleReading S input listed =
     HasScaleVerdict S input (meaning listed.verdict)
-    × IsScaleTaken S input (meaning listed.verdict) listed.taken
+    × IsScaleConsumed S input (meaning listed.verdict) listed.consumed
 
 -- the byte ends a varint
 abbrev pub ends_varint : ℕ → Bool
@@ -69,27 +69,27 @@ ends_varint byte = nat_lt byte 128
 
 -- if more input could change the verdict, at least what reading consumes was consumed: all of an input that
 -- ends within a varint, and both varints of one that ends within the digest
-abbrev pub TakesEnough : Meaning → List ℕ → List ℕ → Type 0
-TakesEnough (accepted p) input left = ⊥
-TakesEnough (invalid_size size) input left = ⊥
-TakesEnough (invalid_code code) input left = ⊥
-TakesEnough (faulty insufficient) input left = left ≡ []
-TakesEnough (faulty overflow) input left = ⊥
-TakesEnough (faulty not_minimal) input left = ⊥
-TakesEnough unexpected_eof input left =
+abbrev pub ConsumesEnough : Meaning → List ℕ → List ℕ → Type 0
+ConsumesEnough (accepted p) input left = ⊥
+ConsumesEnough (invalid_size size) input left = ⊥
+ConsumesEnough (invalid_code code) input left = ⊥
+ConsumesEnough (malformed insufficient) input left = left ≡ []
+ConsumesEnough (malformed overflow) input left = ⊥
+ConsumesEnough (malformed not_minimal) input left = ⊥
+ConsumesEnough unexpected_eof input left =
     2 ≤ count_by ends_varint (take (length input - length left) input)
 
 -- reading consumed the listed number of bytes; none is listed exactly if more input could change the verdict
-abbrev pub TakesAsReadListed : List ℕ → List ℕ → Reading → Type 0
-TakesAsReadListed input left listed =
-    MatchOption listed.taken (TakesEnough (meaning listed.verdict) input left)
-    (λ taken. ¬ (IsEarlyEnd (meaning listed.verdict)) × (length input ≡ taken + length left))
+abbrev pub ConsumesAsReadListed : List ℕ → List ℕ → Reading → Type 0
+ConsumesAsReadListed input left listed =
+    MatchOption listed.consumed (ConsumesEnough (meaning listed.verdict) input left)
+    (λ consumed. ¬ (IsIncomplete (meaning listed.verdict)) × (length input ≡ consumed + length left))
 
 -- decoding consumed the listed number of bytes; none is listed exactly if the input is incomplete
-abbrev pub TakesAsScaleListed : List ℕ → List ℕ → Reading → Type 0
-TakesAsScaleListed input left listed =
-    MatchOption listed.taken (meaning listed.verdict ≡ unexpected_eof)
-    (λ taken. (meaning listed.verdict ≢ unexpected_eof) × (length input ≡ taken + length left))
+abbrev pub ConsumesAsScaleListed : List ℕ → List ℕ → Reading → Type 0
+ConsumesAsScaleListed input left listed =
+    MatchOption listed.consumed (meaning listed.verdict ≡ unexpected_eof)
+    (λ consumed. (meaning listed.verdict ≢ unexpected_eof) × (length input ≡ consumed + length left))
 
 -- what the line states for this check is what the grammar says
 abbrev pub IsRight : Check → ℕ → Line → Type 0

@@ -2,7 +2,7 @@
 ghost use Rattle.std.specs.Prelude.{◌≡◌, ◌<◌, ◌≤◌, ◌↔◌, ◌⊎◌, length, count_by, IsTrue};
 ghost use Rattle.multihash.specs.Verdict.{HasWholeVerdict};
 ghost use Rattle.vectors.specs.declared.check.Check.TheVariants.{ReadOneByte, ReadTwoBytes, ReadThreeBytes, ScaleOneByte, ScaleFourBytes};
-ghost use Rattle.vectors.specs.Listed.{meaning, IsReading, IsScaleReading, ends_varint, TakesAsReadListed, TakesAsScaleListed, IsRight};
+ghost use Rattle.vectors.specs.Listed.{meaning, IsReading, IsScaleReading, ends_varint, ConsumesAsReadListed, ConsumesAsScaleListed, IsRight};
 
 use crate::cuts::Cuts;
 use crate::line::{Line, Reading};
@@ -163,14 +163,14 @@ fn cuts_agree<const S: usize>(input: &[u8], listed: &Reading, most: usize) -> bo
 // varints.
 fn takes_as_listed(input: &[u8], left: &[u8], listed: &Reading) -> bool
     requires { length left.now ≤ length input.now }
-    ensures { IsTrue result ↔ TakesAsReadListed input.now left.now listed.now }
+    ensures { IsTrue result ↔ ConsumesAsReadListed input.now left.now listed.now }
 {
-    let taken = input.len() - left.len();
-    match (&listed.verdict, listed.taken) {
+    let consumed = input.len() - left.len();
+    match (&listed.verdict, listed.consumed) {
         (Verdict::Insufficient, None) => left.is_empty(),
-        (Verdict::UnexpectedEof, None) => holds_two_varints(&input[..taken]),
+        (Verdict::UnexpectedEof, None) => holds_two_varints(&input[..consumed]),
         (Verdict::Insufficient | Verdict::UnexpectedEof, Some(_)) | (_, None) => false,
-        (_, Some(count)) => taken == count,
+        (_, Some(count)) => consumed == count,
     }
 }
 
@@ -200,9 +200,9 @@ fn scale_cuts_agree<const S: usize>(input: &[u8], listed: &Reading, most: usize)
 // Whether the listed number of bytes was consumed; any number if the input is incomplete.
 fn takes_as_scale_listed(input: &[u8], left: &[u8], listed: &Reading) -> bool
     requires { length left.now ≤ length input.now }
-    ensures { IsTrue result ↔ TakesAsScaleListed input.now left.now listed.now }
+    ensures { IsTrue result ↔ ConsumesAsScaleListed input.now left.now listed.now }
 {
-    match (&listed.verdict, listed.taken) {
+    match (&listed.verdict, listed.consumed) {
         (Verdict::UnexpectedEof, None) => true,
         (Verdict::UnexpectedEof, Some(_)) | (_, None) => false,
         (_, Some(count)) => input.len() - left.len() == count,

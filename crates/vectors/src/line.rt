@@ -20,16 +20,16 @@ const SIZES: &str = "0, 1, 2, 4, 16, 32, 64, 128, 200, 255, 256 and 300";
 #[derive(Drop)]
 pub struct Reading {
     pub verdict: Verdict,
-    pub taken: Option<usize>,
+    pub consumed: Option<usize>,
 }
 
 impl Reading {
-    fn parse(alloc: Global, verdict: &str, taken: &str) -> Result<Self> {
+    fn parse(alloc: Global, verdict: &str, consumed: &str) -> Result<Self> {
         Ok(Reading {
             verdict: Verdict::parse(alloc, verdict)?,
-            taken: match taken {
+            consumed: match consumed {
                 "-" => None,
-                _ => Some(taken.parse::<usize>().context("bytes taken")?),
+                _ => Some(consumed.parse::<usize>().context("bytes taken")?),
             },
         })
     }

@@ -1,6 +1,6 @@
 //! The expected result of a call.
 ghost use Rattle.std.specs.Prelude.{◌↔◌, IsTrue, IfOk};
-ghost use Rattle.multihash.specs.Answer.{Answers};
+ghost use Rattle.multihash.specs.Outcome.{IsResultOf};
 ghost use Rattle.multihash.specs.Refusal.{IsEof};
 ghost use Rattle.vectors.specs.Listed.{meaning, ListsBytes};
 
@@ -58,7 +58,7 @@ impl Verdict {
 
     /// Whether the result is this verdict.
     pub fn is_answer<const S: usize>(&self, answer: &Result<Multihash<S>, Error>) -> bool
-        ensures { IsTrue result ↔ Answers answer.now (meaning self.now) }
+        ensures { IsTrue result ↔ IsResultOf answer.now (meaning self.now) }
     {
         match (self, answer) {
             (Verdict::Pair { code, digest }, Ok(multihash)) => {

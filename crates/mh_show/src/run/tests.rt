@@ -100,43 +100,43 @@ fn shows_each_size(rt: HostRuntime) {
     expect_sizes(rt, ("ffffffffffffffff7f", "9223372036854775807"));
 }
 
-fn expect_text_refused(rt: &(impl Abort + AllocGlobal), text: &[u8], line: &[u8]) {
+fn expect_text_rejected(rt: &(impl Abort + AllocGlobal), text: &[u8], line: &[u8]) {
     expect_refusal(rt, &mut Drip::new(text, 3), line);
 }
 
 #[test]
-fn tells_why_a_text_is_refused(rt: HostRuntime) {
+fn reports_why_a_text_is_rejected(rt: HostRuntime) {
     let rt = &rt;
     let too_short = b"mh_show: not enough input bytes\n";
-    expect_text_refused(rt, b"", too_short);
-    expect_text_refused(rt, b"\n", too_short);
-    expect_text_refused(rt, b"00", too_short);
-    expect_text_refused(rt, b"0041", b"mh_show: Invalid multihash size 65.\n");
+    expect_text_rejected(rt, b"", too_short);
+    expect_text_rejected(rt, b"\n", too_short);
+    expect_text_rejected(rt, b"00", too_short);
+    expect_text_rejected(rt, b"0041", b"mh_show: Invalid multihash size 65.\n");
     let longest = b"mh_show: Invalid multihash size 9223372036854775807.\n";
-    expect_text_refused(rt, b"00ffffffffffffffff7f", longest);
-    expect_text_refused(rt, b"8000", b"mh_show: encoding is not minimal\n");
-    expect_text_refused(
+    expect_text_rejected(rt, b"00ffffffffffffffff7f", longest);
+    expect_text_rejected(rt, b"8000", b"mh_show: encoding is not minimal\n");
+    expect_text_rejected(
         rt,
         b"808080808080808000",
         b"mh_show: encoding is not minimal\n",
     );
-    expect_text_refused(rt, b"0001", b"mh_show: failed to fill whole buffer\n");
+    expect_text_rejected(rt, b"0001", b"mh_show: failed to fill whole buffer\n");
     let exceeds = b"mh_show: input bytes exceed maximum\n";
-    expect_text_refused(rt, b"ffffffffffffffffff", exceeds);
-    expect_text_refused(rt, b"ffffffffffffffffff0100", exceeds);
-    expect_text_refused(rt, b"ffffffffffffffffff0200", exceeds);
+    expect_text_rejected(rt, b"ffffffffffffffffff", exceeds);
+    expect_text_rejected(rt, b"ffffffffffffffffff0100", exceeds);
+    expect_text_rejected(rt, b"ffffffffffffffffff0200", exceeds);
 }
 
 #[test]
-fn tells_that_a_text_is_not_hexadecimal(rt: HostRuntime) {
+fn reports_that_a_text_is_not_hexadecimal(rt: HostRuntime) {
     let rt = &rt;
-    expect_text_refused(rt, b"0", NOT_HEX);
-    expect_text_refused(rt, b"zz", NOT_HEX);
-    expect_text_refused(rt, b"00\n\n", NOT_HEX);
-    expect_text_refused(rt, b"0000\r\n", NOT_HEX);
-    expect_text_refused(rt, b"000\r\n", NOT_HEX);
-    expect_text_refused(rt, b"0x0000", NOT_HEX);
-    expect_text_refused(rt, b" 0000", NOT_HEX);
+    expect_text_rejected(rt, b"0", NOT_HEX);
+    expect_text_rejected(rt, b"zz", NOT_HEX);
+    expect_text_rejected(rt, b"00\n\n", NOT_HEX);
+    expect_text_rejected(rt, b"0000\r\n", NOT_HEX);
+    expect_text_rejected(rt, b"000\r\n", NOT_HEX);
+    expect_text_rejected(rt, b"0x0000", NOT_HEX);
+    expect_text_rejected(rt, b" 0000", NOT_HEX);
 }
 
 // The input fails behind its bytes, and is asked so often.
@@ -162,19 +162,19 @@ fn a_reader_that_never_ends(rt: HostRuntime) {
     check!(rt; endless.calls <= 65537);
 }
 
-fn expect_zeros_refused(rt: &(impl Abort + AllocGlobal), most: usize) {
+fn expect_zeros_rejected(rt: &(impl Abort + AllocGlobal), most: usize) {
     // a code and a size of one byte each, both 0, and 32766 bytes left over
-    let left_over = b"mh_show: Invalid multihash size 32766.\n";
-    expect_refusal(rt, &mut Zeros::new(65536, most), left_over);
+    let has_trailing = b"mh_show: Invalid multihash size 32766.\n";
+    expect_refusal(rt, &mut Zeros::new(65536, most), has_trailing);
     expect_refusal(rt, &mut Zeros::new(65537, most), NOT_READ);
 }
 
 #[test]
 fn input_of_65536_and_one_more(rt: HostRuntime) {
     let rt = &rt;
-    expect_zeros_refused(rt, 1);
-    expect_zeros_refused(rt, 1000);
-    expect_zeros_refused(rt, 65537);
+    expect_zeros_rejected(rt, 1);
+    expect_zeros_rejected(rt, 1000);
+    expect_zeros_rejected(rt, 65537);
 }
 
 #[test]
@@ -206,7 +206,7 @@ fn expect_not_written(
 fn writers_that_fail(rt: HostRuntime) {
     let rt = &rt;
     for fault in [
-        Fault::TakesNothing,
+        Fault::ConsumesNothing,
         Fault::Fails(ErrorKind::BrokenPipe),
         Fault::Fails(ErrorKind::Interrupted),
     ] {
@@ -225,7 +225,7 @@ fn expect_line_cut(rt: &(impl Abort + AllocGlobal), fault: Fault) {
 #[test]
 fn a_failed_error_line_changes_nothing(rt: HostRuntime) {
     let rt = &rt;
-    expect_line_cut(rt, Fault::TakesNothing);
+    expect_line_cut(rt, Fault::ConsumesNothing);
     expect_line_cut(rt, Fault::Fails(ErrorKind::Interrupted));
 }
 
@@ -250,7 +250,7 @@ fn first_fault_first(rt: HostRuntime) {
 const REFUSED: &str = "memory was refused";
 
 // A run over slices. Where memory was refused, nothing is shown, and a line says so.
-fn expect_unless_refused(
+fn expect_unless_rejected(
     rt: &(impl Abort + AllocGlobal),
     text: &[u8],
     wanted: (u8, &[u8], &[u8]),
@@ -269,19 +269,19 @@ fn expect_unless_refused(
 }
 
 #[test]
-fn refused_run_of_the_example(rt: HostRuntime) -> Result<(), Fail> {
-    expect_unless_refused(&rt, EXAMPLE, (0, EXAMPLE_LINES, b""))
+fn rejected_run_of_the_example(rt: HostRuntime) -> Result<(), Fail> {
+    expect_unless_rejected(&rt, EXAMPLE, (0, EXAMPLE_LINES, b""))
 }
 
 #[test]
-fn refused_run_of_a_refusal(rt: HostRuntime) -> Result<(), Fail> {
+fn rejected_run_of_a_refusal(rt: HostRuntime) -> Result<(), Fail> {
     let line = b"mh_show: Invalid multihash size 65.\n";
-    expect_unless_refused(&rt, b"0041", (1, b"", line))
+    expect_unless_rejected(&rt, b"0041", (1, b"", line))
 }
 
 // The room for the input is asked for before it is read: one request can be refused with no read.
 #[test]
-fn refused_before_a_read(rt: HostRuntime) -> Result<(), Fail> {
+fn rejected_before_a_read(rt: HostRuntime) -> Result<(), Fail> {
     let alloc = rt.alloc();
     let rt = &rt;
     let (mut out, mut err) = (Page::new(), Page::new());

@@ -16,27 +16,27 @@ fn shows_a_full_digest(rt: HostRuntime) {
 }
 
 // The text that was put together is this one.
-fn expect_told<E: fmt::Debug + Drop>(rt: &impl Abort, told: Result<String, E>, wanted: &str) {
+fn expect_reported<E: fmt::Debug + Drop>(rt: &impl Abort, told: Result<String, E>, wanted: &str) {
     check_eq!(rt; expect_ok(rt, told).as_str(), wanted);
 }
 
 // The error prints this text alone, whatever width and precision are asked, and something for debugging.
 fn expect_printed(rt: &impl Abort, alloc: Global, e: &ShowError, text: &str) {
-    expect_told(rt, format!(in alloc; "{e}"), text);
-    expect_told(rt, format!(in alloc; "{e:>40.3}"), text);
+    expect_reported(rt, format!(in alloc; "{e}"), text);
+    expect_reported(rt, format!(in alloc; "{e:>40.3}"), text);
     let shown = expect_ok(rt, format!(in alloc; "{e:?}"));
     check!(rt; !shown.is_empty(), text);
 }
 
 // The text is refused, and this is why.
-fn expect_refused(rt: &impl Abort, alloc: Global, text: &[u8], reason: &str) {
+fn expect_rejected(rt: &impl Abort, alloc: Global, text: &[u8], reason: &str) {
     match show(alloc, text) {
         Err(e) => expect_printed(rt, alloc, &e, reason),
         Ok(_lines) => check!(rt; false, reason),
     }
 }
 
-fn refused_size(answer: &Result<String, ShowError>) -> Option<u64> {
+fn rejected_size(answer: &Result<String, ShowError>) -> Option<u64> {
     match answer {
         Err(ShowError::Refused(e)) => e.invalid_size(),
         _ => None,
@@ -44,13 +44,13 @@ fn refused_size(answer: &Result<String, ShowError>) -> Option<u64> {
 }
 
 #[test]
-fn refuses_a_longer_digest(rt: HostRuntime) {
+fn rejects_a_longer_digest(rt: HostRuntime) {
     let alloc = rt.alloc();
     let rt = &rt;
     let mut text = [b'0'; 262];
     text[..6].copy_from_slice(b"008001");
-    check_eq!(rt; refused_size(&show(alloc, &text)), Some(128));
-    expect_refused(rt, alloc, &text, "Invalid multihash size 128.");
+    check_eq!(rt; rejected_size(&show(alloc, &text)), Some(128));
+    expect_rejected(rt, alloc, &text, "Invalid multihash size 128.");
 }
 
 // A `refused` test passes where nothing is refused. Where a request is, it looks at what stands then,
@@ -58,7 +58,7 @@ fn refuses_a_longer_digest(rt: HostRuntime) {
 const REFUSED: &str = "memory was refused";
 
 #[test]
-fn refused_show(rt: HostRuntime) -> Result<(), Fail> {
+fn rejected_show(rt: HostRuntime) -> Result<(), Fail> {
     let answer = show(rt.alloc(), b"1603AABBCC\n");
     let rt = &rt;
     match answer {

@@ -3,7 +3,7 @@ use Rattle.std.proofs.Common.{◌≡◌, ℕ, ◌<◌, ltb, true, List, [], ◌�
 use Rattle.std.specs.List.{All, list_all}
 use Rattle.std.proofs.lemmas.Bool.{ltb-true, and_parts}
 use Rattle.std.proofs.lemmas.List.Elements.{All-nil, All-cons}
-use Rattle.multihash.specs.Bytes.{IsBytes, IsBeginning, IsProperBeginning, place_value, ExactlyOne}
+use Rattle.multihash.specs.Bytes.{IsBytes, IsPrefix, IsStrictPrefix, place_value, ExactlyOne}
 
 -- each fact by computing
 pub all_below : (bound : ℕ) (xs : List ℕ) → list_all (λ x. ltb x bound) xs ≡ true → All (λ x. x < bound) xs
@@ -28,29 +28,29 @@ no_byte_256_before_one h = omega (arith, h 0 0 (omega arith))
 
 -- ---- prefixes
 
-begins : IsBeginning (1 ∷ 2 ∷ []) (1 ∷ 2 ∷ []) × IsBeginning [] (1 ∷ 2 ∷ [])
+begins : IsPrefix (1 ∷ 2 ∷ []) (1 ∷ 2 ∷ []) × IsPrefix [] (1 ∷ 2 ∷ [])
 begins = (([], refl), (1 ∷ 2 ∷ [], refl))
 
-begins_no_shorter : ¬ (IsBeginning (1 ∷ 2 ∷ []) (1 ∷ []))
+begins_no_shorter : ¬ (IsPrefix (1 ∷ 2 ∷ []) (1 ∷ []))
 begins_no_shorter h = omega (arith, ap (λ (z : List ℕ). length z) h.1)
 
-begins_no_other : ¬ (IsBeginning (2 ∷ []) (1 ∷ 2 ∷ []))
+begins_no_other : ¬ (IsPrefix (2 ∷ []) (1 ∷ 2 ∷ []))
 begins_no_other h = omega (arith, ap (λ (z : List ℕ). get_or z 0 0) h.1)
 
-begins_properly : IsProperBeginning (1 ∷ []) (1 ∷ 2 ∷ [])
+begins_properly : IsStrictPrefix (1 ∷ []) (1 ∷ 2 ∷ [])
 begins_properly = (2 ∷ [], (λ e. omega (arith, ap (λ (z : List ℕ). length z) e)), refl)
 
-not_properly_itself : ¬ (IsProperBeginning (1 ∷ 2 ∷ []) (1 ∷ 2 ∷ []))
+not_properly_itself : ¬ (IsStrictPrefix (1 ∷ 2 ∷ []) (1 ∷ 2 ∷ []))
 not_properly_itself ([], some, cut) = some refl
 not_properly_itself (r ∷ rest, some, cut) = omega (arith, ap (λ (z : List ℕ). length z) cut)
 
-begins_no_other_properly : ¬ (IsProperBeginning (2 ∷ []) (1 ∷ 2 ∷ []))
+begins_no_other_properly : ¬ (IsStrictPrefix (2 ∷ []) (1 ∷ 2 ∷ []))
 begins_no_other_properly (rest, some, cut) = omega (arith, ap (λ (z : List ℕ). get_or z 0 0) cut)
 
-begins_no_shorter_properly : ¬ (IsProperBeginning (1 ∷ 2 ∷ []) (1 ∷ []))
+begins_no_shorter_properly : ¬ (IsStrictPrefix (1 ∷ 2 ∷ []) (1 ∷ []))
 begins_no_shorter_properly (rest, some, cut) = omega (arith, ap (λ (z : List ℕ). length z) cut)
 
-nothing_begins_properly : IsProperBeginning [] (1 ∷ [])
+nothing_begins_properly : IsStrictPrefix [] (1 ∷ [])
 nothing_begins_properly = (1 ∷ [], (λ e. omega (arith, ap (λ (z : List ℕ). length z) e)), refl)
 
 -- ---- the lowest digit comes first, in both bases

@@ -1,17 +1,17 @@
 -- The encodings of known pairs, the heads of known inputs, and the first bytes of inputs as one number.
 use Rattle.std.proofs.Common.{◌≡◌, ◌<◌, ℕ, ◌+◌, List, [], ◌∷◌, ◌++◌, length, get_or, replicate, refl, ap, arith, ◌∙◌, drop, sym}
 use Rattle.std.specs.Prelude.{codes}
-use Rattle.multihash.specs.Varint.{max_marked, IsMarked}
+use Rattle.multihash.specs.Varint.{max_continuation, IsContinuation}
 use Rattle.multihash.specs.Encoding.{IsEncoding}
-use Rattle.multihash.proofs.Examples.VarintVectors.{varint_0, varint_2, varint_128, varint_255, largest, largest_bytes, varint_largest, begins_small, varint_1, varint_5, all_marked, varint_300, not_another}
+use Rattle.multihash.proofs.Examples.VarintVectors.{varint_0, varint_2, varint_128, varint_255, largest, largest_bytes, varint_largest, begins_small, varint_1, varint_5, all_continuation, varint_300, not_another}
 use Rattle.multihash.proofs.Examples.PairVectors.{pair}
 use Rattle.multihash.specs.Verdict.{HasHead}
 use Rattle.multihash.proofs.Examples.VerdictVectors.{size_5}
 use Rattle.multihash.proofs.Varints.VarintLemmas.{same_number}
 use Rattle.std.proofs.lemmas.List.Elements.{All-head, All-tail}
 use Rattle.multihash.specs.Bytes.{place_value}
-use Rattle.multihash.specs.Word.{IsFrontWord, BeginsMarked, IsFoundFront, digits_low}
-use Rattle.multihash.proofs.Examples.TakingVectors.{begins_no_varint, begins_a_varint}
+use Rattle.multihash.specs.Word.{IsFrontWord, BeginsWithContinuation, IsFoundFront, digits_low}
+use Rattle.multihash.proofs.Examples.ConsumingVectors.{begins_no_varint, begins_a_varint}
 
 encodes_ab : IsEncoding (pair 0 (codes "ab")) (0x00 ∷ 0x02 ∷ 0x61 ∷ 0x62 ∷ [])
 encodes_ab = record { code = 0x00 ∷ []; size = 0x02 ∷ []; is_code = varint_0; is_size = varint_2; spelled = refl }
@@ -48,7 +48,7 @@ longest_is : length longest ≡ 266
 longest_is = refl
 
 -- no encoding is longer
-most_bytes : (max_marked + 1) + 2 + 255 ≡ 266
+most_bytes : (max_continuation + 1) + 2 + 255 ≡ 266
 most_bytes = refl
 
 -- ---- what is no encoding, each part rejected by itself
@@ -57,17 +57,17 @@ encodes_no_other_code : ¬ (IsEncoding (pair 1 []) (0x00 ∷ 0x00 ∷ []))
 encodes_no_other_code h = omega (arith, (begins_small 1 0x00 (0x00 ∷ []) h.code (h.size ++ []) (omega arith) h.is_code h.spelled).0)
 
 -- the size and the digest follow the varint of a small code
-behind_code : (code b : ℕ) (digest rest : List ℕ) (h : IsEncoding (pair code digest) (b ∷ rest)) → b < 128 → rest ≡ h.size ++ digest
-behind_code code b digest rest h small = (begins_small code b rest h.code (h.size ++ digest) small h.is_code h.spelled).1
+after_code : (code b : ℕ) (digest rest : List ℕ) (h : IsEncoding (pair code digest) (b ∷ rest)) → b < 128 → rest ≡ h.size ++ digest
+after_code code b digest rest h small = (begins_small code b rest h.code (h.size ++ digest) small h.is_code h.spelled).1
 
 encodes_no_other_size : ¬ (IsEncoding (pair 0 (codes "ab")) (0x00 ∷ 0x01 ∷ 0x61 ∷ 0x62 ∷ []))
 encodes_no_other_size h =
-    let sized = behind_code 0 0x00 (codes "ab") (0x01 ∷ 0x61 ∷ 0x62 ∷ []) h (omega arith) in
+    let sized = after_code 0 0x00 (codes "ab") (0x01 ∷ 0x61 ∷ 0x62 ∷ []) h (omega arith) in
     omega (arith, (begins_small 2 0x01 (0x61 ∷ 0x62 ∷ []) h.size (codes "ab") (omega arith) h.is_size sized).0)
 
 digest_of : (digest rest : List ℕ) (h : IsEncoding (pair 0 digest) (0x00 ∷ 0x02 ∷ rest)) → rest ≡ digest
 digest_of digest rest h =
-    (begins_small (length digest) 0x02 rest h.size digest (omega arith) h.is_size (behind_code 0 0x00 digest (0x02 ∷ rest) h (omega arith))).1
+    (begins_small (length digest) 0x02 rest h.size digest (omega arith) h.is_size (after_code 0 0x00 digest (0x02 ∷ rest) h (omega arith))).1
 
 encodes_no_other_digest : ¬ (IsEncoding (pair 0 (codes "ab")) (0x00 ∷ 0x02 ∷ 0x61 ∷ 0x63 ∷ []))
 encodes_no_other_digest h = omega (arith, ap (λ (z : List ℕ). get_or z 1 0) (digest_of (codes "ab") (codes "ac") h))
@@ -161,19 +161,19 @@ digits_are = (refl, refl, refl, refl)
 
 -- ---- continuation bytes at the front
 
-begins_marked : BeginsMarked 2 (0x80 ∷ 0xff ∷ 0x05 ∷ [])
-begins_marked = record { enough = omega arith; all_marked = all_marked (0x80 ∷ 0xff ∷ []) refl }
+begins_continuation : BeginsWithContinuation 2 (0x80 ∷ 0xff ∷ 0x05 ∷ [])
+begins_continuation = record { enough = omega arith; all_continuation = all_continuation (0x80 ∷ 0xff ∷ []) refl }
 
-begins_with_no_third_mark : ¬ (BeginsMarked 3 (0x80 ∷ 0xff ∷ 0x05 ∷ []))
+begins_with_no_third_mark : ¬ (BeginsWithContinuation 3 (0x80 ∷ 0xff ∷ 0x05 ∷ []))
 begins_with_no_third_mark h =
     omega (
       arith,
-      All-head IsMarked 0x05 []
-          (All-tail IsMarked 0xff (0x05 ∷ [])
-          (All-tail IsMarked 0x80 (0xff ∷ 0x05 ∷ []) h.all_marked)),
+      All-head IsContinuation 0x05 []
+          (All-tail IsContinuation 0xff (0x05 ∷ [])
+          (All-tail IsContinuation 0x80 (0xff ∷ 0x05 ∷ []) h.all_continuation)),
     )
 
-begins_with_no_missing_mark : ¬ (BeginsMarked 2 (0x80 ∷ []))
+begins_with_no_missing_mark : ¬ (BeginsWithContinuation 2 (0x80 ∷ []))
 begins_with_no_missing_mark h = omega (arith, h.enough)
 
 -- ---- what was found at the front

@@ -5,7 +5,7 @@ use Rattle.std.proofs.lemmas.Bool.{false≢true}
 use Rattle.std.proofs.lemmas.List.{append_cancel_right}
 use Rattle.multihash.specs.Fault.{Fault, IsUnexpectedEof, IsOwnFault}
 use Rattle.std.specs.Io.KnownBytes.{prepend_known, IsAtEnd}
-use Rattle.multihash.specs.Reading.{Takes, HasFewerThan, TakesFewerThan, CountsReader, ReadLaws, ReadExactLaws, NoOtherError}
+use Rattle.multihash.specs.Reading.{Consumes, HasFewerThan, ConsumesFewerThan, CountsReaderFailures, ReadLaws, ReadExactLaws, NoOtherError}
 use Rattle.multihash.proofs.Examples.RefusalVectors.{other, eof, memory}
 
 -- ---- what was consumed
@@ -15,30 +15,30 @@ told None = []
 told (Some bytes) = bytes
 
 -- if the rest is known before and after a call, so are the bytes consumed
-pub taken_is : (a b taken : List ℕ) → Takes (Some (a ++ b)) taken (Some b) → taken ≡ a
-taken_is a b taken h = append_cancel_right taken a b (sym (ap told h))
+pub taken_is : (a b consumed : List ℕ) → Consumes (Some (a ++ b)) consumed (Some b) → consumed ≡ a
+taken_is a b consumed h = append_cancel_right consumed a b (sym (ap told h))
 
 precedes : (prepend_known (1 ∷ []) (Some (2 ∷ [])) ≡ Some (1 ∷ 2 ∷ [])) × (prepend_known (1 ∷ []) None ≡ None)
 precedes = (refl, refl)
 
 -- without known input nothing is said of what was consumed
-takes : Takes (Some (1 ∷ 2 ∷ 3 ∷ [])) (1 ∷ 2 ∷ []) (Some (3 ∷ [])) × Takes (Some (1 ∷ [])) [] (Some (1 ∷ [])) × ((taken : List ℕ) → Takes None taken None)
-takes = (refl, refl, λ taken. refl)
+consumes : Consumes (Some (1 ∷ 2 ∷ 3 ∷ [])) (1 ∷ 2 ∷ []) (Some (3 ∷ [])) × Consumes (Some (1 ∷ [])) [] (Some (1 ∷ [])) × ((consumed : List ℕ) → Consumes None consumed None)
+consumes = (refl, refl, λ consumed. refl)
 
 -- the bytes consumed are the first ones
-takes_no_last : ¬ (Takes (Some (1 ∷ 2 ∷ 3 ∷ [])) (3 ∷ []) (Some (1 ∷ 2 ∷ [])))
+takes_no_last : ¬ (Consumes (Some (1 ∷ 2 ∷ 3 ∷ [])) (3 ∷ []) (Some (1 ∷ 2 ∷ [])))
 takes_no_last h = omega (arith, ap (λ (o : Option (List ℕ)). get_or (told o) 0 0) h)
 
-takes_no_more : ¬ (Takes (Some (1 ∷ 2 ∷ [])) (1 ∷ []) (Some []))
+takes_no_more : ¬ (Consumes (Some (1 ∷ 2 ∷ [])) (1 ∷ []) (Some []))
 takes_no_more h = omega (arith, ap (λ (o : Option (List ℕ)). length (told o)) h)
 
 -- and are left no longer
-takes_and_keeps_none : ¬ (Takes (Some (1 ∷ [])) (1 ∷ []) (Some (1 ∷ [])))
+takes_and_keeps_none : ¬ (Consumes (Some (1 ∷ [])) (1 ∷ []) (Some (1 ∷ [])))
 takes_and_keeps_none h = omega (arith, ap (λ (o : Option (List ℕ)). length (told o)) h)
 
 -- and it is known no sooner and no later
-tells_no_more : (taken rest : List ℕ) → ¬ (Takes (Some rest) taken None) × ¬ (Takes None taken (Some rest))
-tells_no_more taken rest = ((λ h. cc), λ h. cc)
+reports_no_more : (consumed rest : List ℕ) → ¬ (Consumes (Some rest) consumed None) × ¬ (Consumes None consumed (Some rest))
+reports_no_more consumed rest = ((λ h. cc), λ h. cc)
 
 at_end : IsAtEnd (Some []) × IsAtEnd None × ¬ (IsAtEnd (Some (1 ∷ [])))
 at_end = (refl, tt, λ h. omega (arith, ap (λ (z : List ℕ). length z) h))
@@ -46,29 +46,29 @@ at_end = (refl, tt, λ h. omega (arith, ap (λ (z : List ℕ). length z) h))
 fewer_than : HasFewerThan 2 (Some (1 ∷ [])) × HasFewerThan 0 None × ¬ (HasFewerThan 1 (Some (1 ∷ [])))
 fewer_than = (omega arith, tt, λ h. omega (arith, h))
 
-takes_fewer : TakesFewerThan 2 (Some (1 ∷ 2 ∷ [])) (Some (2 ∷ []))
-takes_fewer = record { taken = 1 ∷ []; fewer = omega arith; takes = refl }
+takes_fewer : ConsumesFewerThan 2 (Some (1 ∷ 2 ∷ [])) (Some (2 ∷ []))
+takes_fewer = record { consumed = 1 ∷ []; fewer = omega arith; consumes = refl }
 
-takes_not_fewer : ¬ (TakesFewerThan 1 (Some (1 ∷ 2 ∷ [])) (Some (2 ∷ [])))
-takes_not_fewer h = none h.taken h.fewer h.takes
+takes_not_fewer : ¬ (ConsumesFewerThan 1 (Some (1 ∷ 2 ∷ [])) (Some (2 ∷ [])))
+takes_not_fewer h = none h.consumed h.fewer h.consumes
   where
-    none : (taken : List ℕ) → length taken < 1 → Takes (Some (1 ∷ 2 ∷ [])) taken (Some (2 ∷ [])) → ⊥
+    none : (consumed : List ℕ) → length consumed < 1 → Consumes (Some (1 ∷ 2 ∷ [])) consumed (Some (2 ∷ [])) → ⊥
     none [] fewer e = omega (arith, ap (λ (o : Option (List ℕ)). length (told o)) e)
-    none (b ∷ taken) fewer e = omega arith
+    none (b ∷ consumed) fewer e = omega arith
 
 -- what was consumed is of the reader's bytes
-takes_fewer_of_its_own : ¬ (TakesFewerThan 9 (Some (1 ∷ [])) (Some (1 ∷ 2 ∷ [])))
-takes_fewer_of_its_own h = none h.taken h.takes
+takes_fewer_of_its_own : ¬ (ConsumesFewerThan 9 (Some (1 ∷ [])) (Some (1 ∷ 2 ∷ [])))
+takes_fewer_of_its_own h = none h.consumed h.consumes
   where
-    none : (taken : List ℕ) → Takes (Some (1 ∷ [])) taken (Some (1 ∷ 2 ∷ [])) → ⊥
+    none : (consumed : List ℕ) → Consumes (Some (1 ∷ [])) consumed (Some (1 ∷ 2 ∷ [])) → ⊥
     none [] e = omega (arith, ap (λ (o : Option (List ℕ)). length (told o)) e)
     none (b ∷ []) e = omega (arith, ap (λ (o : Option (List ℕ)). length (told o)) e)
-    none (b ∷ c ∷ taken) e = omega (arith, ap (λ (o : Option (List ℕ)). length (told o)) e)
+    none (b ∷ c ∷ consumed) e = omega (arith, ap (λ (o : Option (List ℕ)). length (told o)) e)
 
 -- ---- how a reader failed
 
 abbrev Reads : ℕ → ℕ → Result ℕ Fault → Type 0
-Reads before after outcome = CountsReader IsOwnFault NoOtherError before after outcome
+Reads before after outcome = CountsReaderFailures IsOwnFault NoOtherError before after outcome
 
 -- an Ok leaves the count, and a fault of the reader's own raises it by one
 reads : Reads 3 3 (Ok 1) × Reads 3 4 (Err other) × ¬ (Reads 3 4 (Ok 1)) × ¬ (Reads 4 3 (Ok 1))
@@ -84,7 +84,7 @@ read_no_eof (inl (more, inr h)) = cc
 read_no_eof (inr h) = h.1
 
 abbrev Fills : ℕ → ℕ → Result ℕ Fault → Type 0
-Fills before after outcome = CountsReader IsOwnFault IsUnexpectedEof before after outcome
+Fills before after outcome = CountsReaderFailures IsOwnFault IsUnexpectedEof before after outcome
 
 fills : Fills 3 3 (Ok 0) × Fills 3 3 (Err eof) × Fills 3 4 (Err memory) × ¬ (Fills 3 4 (Ok 0))
 fills = (refl, inr (refl, refl), inl (refl, inr refl), λ h. omega (arith, h))
@@ -119,14 +119,14 @@ reads_two = record {
   count = omega arith;
   beyond = refl;
   faults = refl;
-  takes = refl;
+  consumes = refl;
   at_end = λ none some. absurd (omega (arith, none));
   err = tt;
 }
 
 reads_end : ReadLaws left failed ([], 0) ([], 0) (7 ∷ []) (7 ∷ []) (Ok 0)
 reads_end =
-    record { count = omega arith; beyond = refl; faults = refl; takes = refl; at_end = λ none some. refl; err = tt }
+    record { count = omega arith; beyond = refl; faults = refl; consumes = refl; at_end = λ none some. refl; err = tt }
 
 -- an empty buffer reports no end
 reads_into_nothing : ReadLaws left failed (1 ∷ [], 0) (1 ∷ [], 0) [] [] (Ok 0)
@@ -134,7 +134,7 @@ reads_into_nothing = record {
   count = omega arith;
   beyond = refl;
   faults = refl;
-  takes = refl;
+  consumes = refl;
   at_end = λ none some. absurd (omega (arith, some));
   err = tt;
 }
@@ -144,7 +144,7 @@ reads_with_fault = record {
   count = tt;
   beyond = tt;
   faults = inl (omega arith, inl refl);
-  takes = tt;
+  consumes = tt;
   at_end = tt;
   err = refl;
 }
@@ -165,7 +165,7 @@ reads_with_no_hidden_fault : ¬ (ReadLaws left failed (1 ∷ [], 0) ([], 1) (7 �
 reads_with_no_hidden_fault h = omega (arith, h.faults)
 
 reads_no_other_bytes : ¬ (ReadLaws left failed (1 ∷ 2 ∷ [], 0) (2 ∷ [], 0) (7 ∷ []) (5 ∷ []) (Ok 1))
-reads_no_other_bytes h = omega (arith, ap (λ (o : Option (List ℕ)). get_or (told o) 0 0) h.takes)
+reads_no_other_bytes h = omega (arith, ap (λ (o : Option (List ℕ)). get_or (told o) 0 0) h.consumes)
 
 reads_nothing_at_end_alone : ¬
     (ReadLaws left failed (1 ∷ [], 0) (1 ∷ [], 0) (7 ∷ []) (7 ∷ []) (Ok 0))
@@ -189,18 +189,18 @@ reads_no_end_by_fault h =
 -- ---- the laws of `read_exact`
 
 abbrev Filling : State → State → List ℕ → List ℕ → Result ℕ Fault → Type 0
-Filling old new places filled outcome = ReadExactLaws left failed old new places filled outcome
+Filling old new buffer filled outcome = ReadExactLaws left failed old new buffer filled outcome
 
 fills_two : Filling (1 ∷ 2 ∷ 3 ∷ [], 0) (3 ∷ [], 0) (7 ∷ 8 ∷ []) (1 ∷ 2 ∷ []) (Ok 0)
-fills_two = record { faults = refl; takes = refl; empty = λ none. refl; eof = tt; err = tt }
+fills_two = record { faults = refl; consumes = refl; empty = λ none. refl; eof = tt; err = tt }
 
 fills_a_part : Filling (1 ∷ [], 0) ([], 0) (7 ∷ 8 ∷ []) (1 ∷ 8 ∷ []) (Err eof)
 fills_a_part = record {
   faults = inr (refl, refl);
-  takes = tt;
+  consumes = tt;
   empty = λ none. absurd (omega (arith, none));
   eof = λ end. omega arith;
-  err = record { taken = 1 ∷ []; fewer = omega arith; takes = refl };
+  err = record { consumed = 1 ∷ []; fewer = omega arith; consumes = refl };
 }
 
 fills_with_no_hidden_fault : ¬ (Filling (1 ∷ [], 0) ([], 1) (7 ∷ []) (1 ∷ []) (Ok 0))
@@ -215,7 +215,7 @@ ends_by_no_counted_fault : ¬ (Filling ([], 0) ([], 1) (7 ∷ []) (7 ∷ []) (Er
 ends_by_no_counted_fault h = elim h.faults [ inl (counted, own) ↦ elim own [ inl is ↦ cc | inr is ↦ cc ] | inr (same, is) ↦ omega (arith, same) ]
 
 fills_with_no_other_bytes : ¬ (Filling (1 ∷ 2 ∷ [], 0) (2 ∷ [], 0) (7 ∷ []) (5 ∷ []) (Ok 0))
-fills_with_no_other_bytes h = omega (arith, ap (λ (o : Option (List ℕ)). get_or (told o) 0 0) h.takes)
+fills_with_no_other_bytes h = omega (arith, ap (λ (o : Option (List ℕ)). get_or (told o) 0 0) h.consumes)
 
 fills_no_places_always : ¬ (Filling (1 ∷ [], 0) (1 ∷ [], 1) [] [] (Err other))
 fills_no_places_always h = false≢true (h.empty refl)
@@ -224,8 +224,8 @@ ends_at_the_end_alone : ¬ (Filling (1 ∷ [], 0) (1 ∷ [], 0) (7 ∷ []) (7 �
 ends_at_the_end_alone h = omega (arith, h.eof refl)
 
 fails_before_it_is_full : ¬ (Filling (1 ∷ [], 0) ([], 1) (7 ∷ []) (1 ∷ []) (Err other))
-fails_before_it_is_full h = none h.err.taken h.err.fewer h.err.takes
+fails_before_it_is_full h = none h.err.consumed h.err.fewer h.err.consumes
   where
-    none : (taken : List ℕ) → length taken < 1 → Takes (Some (1 ∷ [])) taken (Some []) → ⊥
+    none : (consumed : List ℕ) → length consumed < 1 → Consumes (Some (1 ∷ [])) consumed (Some []) → ⊥
     none [] fewer e = omega (arith, ap (λ (o : Option (List ℕ)). length (told o)) e)
-    none (b ∷ taken) fewer e = omega arith
+    none (b ∷ consumed) fewer e = omega arith

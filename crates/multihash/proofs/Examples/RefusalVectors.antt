@@ -2,14 +2,14 @@
 use Rattle.std.proofs.Common.{◌≡◌, ℕ, List, [], length, refl, ap, arith, inl, inr, ◌+◌}
 use Rattle.std.specs.Prelude.{codes, Ok, Err}
 use Rattle.multihash.specs.declared.no_std_io.error.Kind.TheVariants.{UnexpectedEof, WriteZero, OutOfMemory, Other}
-use Rattle.multihash.specs.Fault.{Fault, IsUnexpectedEof, IsWriteZero, IsOutOfMemory, IsOther, IsOwnFault, text_of, printed, HasStandardText}
+use Rattle.multihash.specs.Fault.{Fault, IsUnexpectedEof, IsWriteZero, IsOutOfMemoryFault, IsOther, IsOwnFault, text_of, printed, HasStandardText}
 use Rattle.std.specs.Fmt.{digits}
 use Rattle.multihash.specs.declared.error.Kind.TheVariants.{Io, InvalidSize, InvalidCode, Insufficient, Overflow, NotMinimal, NotBytes}
-use Rattle.multihash.specs.Varint.{VarintFault, insufficient, overflow, not_minimal}
-use Rattle.multihash.specs.Refusal.{Refusal, of_io, of_size, of_code, of_varint, of_not_bytes, refusal_of, IsIo, IsEof, IsMemory, IsReaderFault, IsInvalidSize, IsInvalidCode, IsFaulty, IsNotBytes, refusal_text}
+use Rattle.multihash.specs.Varint.{VarintError, insufficient, overflow, not_minimal}
+use Rattle.multihash.specs.Refusal.{Refusal, of_io, of_size, of_code, of_varint, of_not_bytes, refusal_of, IsIo, IsEof, IsOutOfMemory, IsReaderError, IsInvalidSize, IsInvalidCode, IsVarintError, IsNotBytes, refusal_text}
 use Rattle.multihash.specs.Pair.{Pair}
-use Rattle.multihash.specs.Verdict.{accepted, invalid_size, invalid_code, faulty, unexpected_eof}
-use Rattle.multihash.specs.Answer.{Fields, pair_of, Answers}
+use Rattle.multihash.specs.Verdict.{accepted, invalid_size, invalid_code, malformed, unexpected_eof}
+use Rattle.multihash.specs.Outcome.{Fields, pair_of, IsResultOf}
 use Rattle.multihash.proofs.Examples.PairVectors.{pair}
 use Rattle.multihash.proofs.Examples.VarintVectors.{largest, too_large}
 
@@ -27,7 +27,7 @@ memory = record { kind = OutOfMemory; text = [] }
 
 -- ---- kinds
 
-kinds : IsUnexpectedEof eof × IsWriteZero full × IsOutOfMemory memory × IsOther other
+kinds : IsUnexpectedEof eof × IsWriteZero full × IsOutOfMemoryFault memory × IsOther other
 kinds = (refl, refl, refl, refl)
 
 no_other_is_eof : ¬ (IsUnexpectedEof full) × ¬ (IsUnexpectedEof memory) × ¬ (IsUnexpectedEof other)
@@ -36,7 +36,7 @@ no_other_is_eof = ((λ h. cc), (λ h. cc), λ h. cc)
 no_other_is_full : ¬ (IsWriteZero eof) × ¬ (IsWriteZero memory) × ¬ (IsWriteZero other)
 no_other_is_full = ((λ h. cc), (λ h. cc), λ h. cc)
 
-no_other_is_memory : ¬ (IsOutOfMemory eof) × ¬ (IsOutOfMemory full) × ¬ (IsOutOfMemory other)
+no_other_is_memory : ¬ (IsOutOfMemoryFault eof) × ¬ (IsOutOfMemoryFault full) × ¬ (IsOutOfMemoryFault other)
 no_other_is_memory = ((λ h. cc), (λ h. cc), λ h. cc)
 
 none_is_other : ¬ (IsOther eof) × ¬ (IsOther full) × ¬ (IsOther memory)
@@ -99,7 +99,7 @@ of_plain_kinds = (refl, refl, refl, refl)
 
 -- ---- passed on
 
-passed_on : IsIo IsOther (of_io other) × IsEof (of_io eof) × IsMemory (of_io memory) × IsReaderFault (of_io other) × IsReaderFault (of_io memory)
+passed_on : IsIo IsOther (of_io other) × IsEof (of_io eof) × IsOutOfMemory (of_io memory) × IsReaderError (of_io other) × IsReaderError (of_io memory)
 passed_on = ((other, refl, refl), (eof, refl, refl), (memory, refl, refl), (other, refl, inl refl), (memory, refl, inr refl))
 
 no_other_passed_on : ¬ (IsIo IsOther (of_io memory)) × ((n : ℕ) → ¬ (IsIo IsOther (of_size n))) × ((n : ℕ) → ¬ (IsIo IsOther (of_code n)))
@@ -109,24 +109,24 @@ no_other_ends : ¬ (IsEof (of_io other)) × ¬ (IsEof (of_io full)) × ¬ (IsEof
     × ((code : ℕ) → ¬ (IsEof (of_code code)))
 no_other_ends = ((λ (fault, e, kind). cc), (λ (fault, e, kind). cc), (λ (fault, e, kind). cc), (λ (fault, e, kind). cc), λ code (fault, e, kind). cc)
 
-no_other_wants_memory : ¬ (IsMemory (of_io eof)) × ¬ (IsMemory (of_io full)) × ¬ (IsMemory (of_io other))
+no_other_wants_memory : ¬ (IsOutOfMemory (of_io eof)) × ¬ (IsOutOfMemory (of_io full)) × ¬ (IsOutOfMemory (of_io other))
 no_other_wants_memory = ((λ (fault, e, kind). cc), (λ (fault, e, kind). cc), λ (fault, e, kind). cc)
 
-end_is_no_reader_fault : ¬ (IsReaderFault (of_io eof))
+end_is_no_reader_fault : ¬ (IsReaderError (of_io eof))
 end_is_no_reader_fault (fault, e, inl kind) = cc
 end_is_no_reader_fault (fault, e, inr kind) = cc
 
-full_is_no_reader_fault : ¬ (IsReaderFault (of_io full))
+full_is_no_reader_fault : ¬ (IsReaderError (of_io full))
 full_is_no_reader_fault (fault, e, inl kind) = cc
 full_is_no_reader_fault (fault, e, inr kind) = cc
 
-refused_is_no_reader_fault : ((f : VarintFault) → ¬ (IsReaderFault (of_varint f))) × ((n : ℕ) → ¬ (IsReaderFault (of_size n)))
-    × ((n : ℕ) → ¬ (IsReaderFault (of_code n)))
-refused_is_no_reader_fault = ((λ f (fault, e, kind). cc), (λ n (fault, e, kind). cc), λ n (fault, e, kind). cc)
+rejected_is_no_reader_fault : ((f : VarintError) → ¬ (IsReaderError (of_varint f))) × ((n : ℕ) → ¬ (IsReaderError (of_size n)))
+    × ((n : ℕ) → ¬ (IsReaderError (of_code n)))
+rejected_is_no_reader_fault = ((λ f (fault, e, kind). cc), (λ n (fault, e, kind). cc), λ n (fault, e, kind). cc)
 
 -- ---- the library's own
 
-named : IsInvalidSize 5 (of_size 5) × IsInvalidCode 9223372036854775808 (of_code 9223372036854775808) × IsFaulty overflow (of_varint overflow)
+named : IsInvalidSize 5 (of_size 5) × IsInvalidCode 9223372036854775808 (of_code 9223372036854775808) × IsVarintError overflow (of_varint overflow)
     × IsNotBytes of_not_bytes
 named = (refl, refl, refl, refl)
 
@@ -139,11 +139,11 @@ no_other_is_size = ((λ n h. cc), λ h. cc)
 no_other_is_code : ((n : ℕ) → ¬ (IsInvalidCode n (of_size n))) × ¬ (IsInvalidCode 0 (of_varint overflow))
 no_other_is_code = ((λ n h. cc), λ h. cc)
 
-no_other_fault : ¬ (IsFaulty not_minimal (of_varint overflow)) × ¬ (IsFaulty overflow (of_varint insufficient))
-    × ¬ (IsFaulty insufficient (of_varint not_minimal)) × ((f : VarintFault) → ¬ (IsFaulty f (of_io eof))) × ((n : ℕ) → ¬ (IsFaulty overflow (of_code n)))
+no_other_fault : ¬ (IsVarintError not_minimal (of_varint overflow)) × ¬ (IsVarintError overflow (of_varint insufficient))
+    × ¬ (IsVarintError insufficient (of_varint not_minimal)) × ((f : VarintError) → ¬ (IsVarintError f (of_io eof))) × ((n : ℕ) → ¬ (IsVarintError overflow (of_code n)))
 no_other_fault = ((λ h. cc), (λ h. cc), (λ h. cc), (λ f h. cc), λ n h. cc)
 
-no_other_is_not_bytes : ((f : VarintFault) → ¬ (IsNotBytes (of_varint f))) × ((fault : Fault) → ¬ (IsNotBytes (of_io fault)))
+no_other_is_not_bytes : ((f : VarintError) → ¬ (IsNotBytes (of_varint f))) × ((fault : Fault) → ¬ (IsNotBytes (of_io fault)))
     × ((n : ℕ) → ¬ (IsNotBytes (of_size n))) × ((n : ℕ) → ¬ (IsNotBytes (of_code n)))
 no_other_is_not_bytes = ((λ f h. cc), (λ fault h. cc), (λ n h. cc), λ n h. cc)
 
@@ -166,38 +166,38 @@ stale = record { code = 7; size = 2; buffer = codes "abcd"; in_range = omega ari
 means_ab : pair_of stale ≡ pair 7 (codes "ab")
 means_ab = refl
 
-answers : Answers (Ok stale) (accepted (pair 7 (codes "ab"))) × Answers {S = 4} (Err (of_size 5)) (invalid_size 5)
-    × Answers {S = 4} (Err (of_code 18446744073709551615)) (invalid_code 18446744073709551615)
-    × Answers {S = 4} (Err (of_varint overflow)) (faulty overflow) × Answers {S = 4} (Err (of_io eof)) unexpected_eof
+answers : IsResultOf (Ok stale) (accepted (pair 7 (codes "ab"))) × IsResultOf {S = 4} (Err (of_size 5)) (invalid_size 5)
+    × IsResultOf {S = 4} (Err (of_code 18446744073709551615)) (invalid_code 18446744073709551615)
+    × IsResultOf {S = 4} (Err (of_varint overflow)) (malformed overflow) × IsResultOf {S = 4} (Err (of_io eof)) unexpected_eof
 answers = (refl, refl, refl, refl, (eof, refl, refl))
 
-answers_no_longer_pair : ¬ (Answers (Ok stale) (accepted (pair 7 (codes "abcd"))))
+answers_no_longer_pair : ¬ (IsResultOf (Ok stale) (accepted (pair 7 (codes "abcd"))))
 answers_no_longer_pair h =
     let same : pair 7 (codes "ab") ≡ pair 7 (codes "abcd") = cc in omega (arith, ap (λ (p : Pair). length p.digest) same)
 
-no_pair_answers_refusal : ¬ (Answers (Ok stale) unexpected_eof) × ((n : ℕ) → ¬ (Answers (Ok stale) (invalid_code n)))
+no_pair_answers_refusal : ¬ (IsResultOf (Ok stale) unexpected_eof) × ((n : ℕ) → ¬ (IsResultOf (Ok stale) (invalid_code n)))
 no_pair_answers_refusal = ((λ h. cc), λ n h. cc)
 
-no_refusal_answers_pair : (e : Refusal) (p : Pair) → ¬ (Answers {S = 4} (Err e) (accepted p))
+no_refusal_answers_pair : (e : Refusal) (p : Pair) → ¬ (IsResultOf {S = 4} (Err e) (accepted p))
 no_refusal_answers_pair e p h = h
 
-answers_no_other_number : ¬ (Answers {S = 4} (Err (of_size 6)) (invalid_size 5))
-    × ¬ (Answers {S = 4} (Err (of_code too_large)) (invalid_code (too_large + 1)))
+answers_no_other_number : ¬ (IsResultOf {S = 4} (Err (of_size 6)) (invalid_size 5))
+    × ¬ (IsResultOf {S = 4} (Err (of_code too_large)) (invalid_code (too_large + 1)))
 answers_no_other_number = ((λ h. omega (arith, ap size_in h)), λ h. omega (arith, ap code_in h))
 
 -- a size is no code, one fault is no other, and the end inside a digest is none inside a varint
-answers_no_other_kind : ((n : ℕ) → ¬ (Answers {S = 4} (Err (of_size n)) (invalid_code n))) × ((n : ℕ) → ¬ (Answers {S = 4} (Err (of_code n)) (invalid_size n)))
-    × ¬ (Answers {S = 4} (Err (of_varint insufficient)) (faulty overflow)) × ((fault : Fault) → ¬ (Answers {S = 4} (Err (of_io fault)) (faulty insufficient)))
+answers_no_other_kind : ((n : ℕ) → ¬ (IsResultOf {S = 4} (Err (of_size n)) (invalid_code n))) × ((n : ℕ) → ¬ (IsResultOf {S = 4} (Err (of_code n)) (invalid_size n)))
+    × ¬ (IsResultOf {S = 4} (Err (of_varint insufficient)) (malformed overflow)) × ((fault : Fault) → ¬ (IsResultOf {S = 4} (Err (of_io fault)) (malformed insufficient)))
 answers_no_other_kind = ((λ n h. cc), (λ n h. cc), (λ h. cc), λ fault h. cc)
 
 -- a reader's own error is that of no verdict
-no_own_fault_answers : (text : List ℕ) → ¬ (Answers {S = 4} (Err (of_io (record { kind = Other; text = text }))) unexpected_eof)
+no_own_fault_answers : (text : List ℕ) → ¬ (IsResultOf {S = 4} (Err (of_io (record { kind = Other; text = text }))) unexpected_eof)
 no_own_fault_answers text (fault, e, kind) = cc
 
 -- each verdict has its own error, and no other
-alone : (n : ℕ) (f : VarintFault) (e : Refusal) → (Answers {S = 4} (Err e) (invalid_size n) → e ≡ of_size n)
-    × (Answers {S = 4} (Err e) (invalid_code n) → e ≡ of_code n) × (Answers {S = 4} (Err e) (faulty f) → e ≡ of_varint f)
-    × (Answers {S = 4} (Err e) unexpected_eof → (fault : Fault) × (e ≡ of_io fault) × (fault.kind ≡ UnexpectedEof))
+alone : (n : ℕ) (f : VarintError) (e : Refusal) → (IsResultOf {S = 4} (Err e) (invalid_size n) → e ≡ of_size n)
+    × (IsResultOf {S = 4} (Err e) (invalid_code n) → e ≡ of_code n) × (IsResultOf {S = 4} (Err e) (malformed f) → e ≡ of_varint f)
+    × (IsResultOf {S = 4} (Err e) unexpected_eof → (fault : Fault) × (e ≡ of_io fault) × (fault.kind ≡ UnexpectedEof))
 alone n f e = ((λ h. h), (λ h. h), (λ h. h), λ h. h)
 
 -- ---- every value, also one that nothing has read: its code is in range, and its digest fits

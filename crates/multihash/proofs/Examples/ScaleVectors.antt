@@ -8,7 +8,7 @@ use Rattle.multihash.specs.Bytes.{place_value}
 use Rattle.multihash.specs.Varint.{varint_limit}
 use Rattle.multihash.specs.Pair.{Pair}
 use Rattle.multihash.specs.Verdict.{Verdict, accepted, invalid_size, invalid_code, unexpected_eof}
-use Rattle.multihash.specs.Scale.{IsScaleCode, IsScale, HasScaleSize, HasScaleVerdict, IsScaleRefusal, TakesAtScaleRefusal}
+use Rattle.multihash.specs.Scale.{IsScaleCode, IsScale, HasScaleSize, HasScaleVerdict, ScaleMayFailWith, ConsumesAtScaleError}
 use Rattle.multihash.proofs.Examples.BytesVectors.{all_below}
 use Rattle.multihash.proofs.Examples.PairVectors.{pair}
 use Rattle.multihash.proofs.Examples.VarintVectors.{largest, too_large}
@@ -16,10 +16,10 @@ use Rattle.multihash.proofs.Forms.ScaleLemmas.{scale_found, scale_verdict_is, ha
 use Rattle.multihash.proofs.Writings.EncodingLemmas.{same_cut}
 use Rattle.multihash.specs.Fault.{IsUnexpectedEof}
 use Rattle.multihash.specs.Refusal.{Refusal, of_io, of_size, of_code, of_varint, of_not_bytes}
-use Rattle.multihash.specs.Reading.{Takes}
+use Rattle.multihash.specs.Reading.{Consumes}
 use Rattle.multihash.proofs.Examples.RefusalVectors.{other, eof, memory, size_in, code_in}
 use Rattle.multihash.proofs.Examples.ReadingVectors.{taken_is}
-use Rattle.multihash.proofs.Examples.TakingVectors.{gives_none_back}
+use Rattle.multihash.proofs.Examples.ConsumingVectors.{gives_none_back}
 use Rattle.multihash.proofs.Examples.VerdictVectors.{size_named, code_named}
 
 abbrev pub zeros : List ℕ
@@ -32,8 +32,8 @@ all_255 = 255 ∷ 255 ∷ 255 ∷ 255 ∷ 255 ∷ 255 ∷ 255 ∷ 255 ∷ []
 abbrev largest_code : List ℕ
 largest_code = replicate 7 255 ++ (varint_limit / 2 ^ 56 - 1) ∷ []
 
-abbrev refused_code : List ℕ
-refused_code = replicate 7 0 ++ (varint_limit / 2 ^ 56) ∷ []
+abbrev rejected_code : List ℕ
+rejected_code = replicate 7 0 ++ (varint_limit / 2 ^ 56) ∷ []
 
 -- ---- the verdicts
 
@@ -72,8 +72,8 @@ table =
     -- a code that is too large is rejected at its eighth byte, and its size is neither waited for nor looked at
     row 4 (largest_code ++ 0 ∷ []) (accepted (pair largest [])) refl refl ∷
     row 4 largest_code unexpected_eof refl refl ∷
-    row 4 refused_code (invalid_code too_large) refl refl ∷
-    row 4 (refused_code ++ 0 ∷ []) (invalid_code too_large) refl refl ∷
+    row 4 rejected_code (invalid_code too_large) refl refl ∷
+    row 4 (rejected_code ++ 0 ∷ []) (invalid_code too_large) refl refl ∷
     row 4 all_255 (invalid_code 18446744073709551615) refl refl ∷
     row 4 (all_255 ++ 5 ∷ []) (invalid_code 18446744073709551615) refl refl ∷
     []
@@ -98,9 +98,9 @@ pub scale_size_first : HasScaleVerdict 4 (zeros ++ 5 ∷ []) (invalid_size 5)
 unfolding place_value
 scale_size_first = known 4 (zeros ++ 5 ∷ []) refl
 
-pub scale_size_behind : HasScaleVerdict 4 (zeros ++ 5 ∷ 7 ∷ []) (invalid_size 5)
+pub scale_size_after : HasScaleVerdict 4 (zeros ++ 5 ∷ 7 ∷ []) (invalid_size 5)
 unfolding place_value
-scale_size_behind = known 4 (zeros ++ 5 ∷ 7 ∷ []) refl
+scale_size_after = known 4 (zeros ++ 5 ∷ 7 ∷ []) refl
 
 code_of_255 : IsScaleCode 18446744073709551615 all_255
 unfolding place_value
@@ -122,8 +122,8 @@ no_scale_of_256 p bytes size h = omega (arith, h.size)
 no_scale_of_larger_code : (digest bytes : List ℕ) → ¬ (IsScale (pair too_large digest) bytes)
 no_scale_of_larger_code digest bytes h = omega (arith, h.in_range)
 
-no_scale_size_behind_larger_code : (size : ℕ) (rest : List ℕ) → ¬ (HasScaleSize size (all_255 ++ 0 ∷ []) rest)
-no_scale_size_behind_larger_code size rest h =
+no_scale_size_after_larger_code : (size : ℕ) (rest : List ℕ) → ¬ (HasScaleSize size (all_255 ++ 0 ∷ []) rest)
+no_scale_size_after_larger_code size rest h =
     let cut = same_cut h.code_bytes all_255 (size ∷ rest) (0 ∷ []) h.is_code.eight (sym h.cut) in
     let code : h.code ≡ 18446744073709551615 = sym h.is_code.value ∙ (ap (place_value 256) cut.0 ∙ code_of_255.value) in
     omega (arith, h.in_range, code)
@@ -142,16 +142,16 @@ no_nine_bytes : (code : ℕ) → ¬ (IsScaleCode code (zeros ++ 0 ∷ []))
 no_nine_bytes code h = omega (arith, h.eight)
 
 -- and the digest, with nothing after it
-no_byte_behind : ¬ (IsScale (pair 0 []) (zeros ++ 0 ∷ 7 ∷ []))
-no_byte_behind h =
+no_byte_after : ¬ (IsScale (pair 0 []) (zeros ++ 0 ∷ 7 ∷ []))
+no_byte_after h =
     omega (arith, ap (λ (z : List ℕ). length z) h.spelled, h.is_code.eight, length-append h.code (0 ∷ []))
 
 no_digest_without_size : ¬ (IsScale (pair 0 (7 ∷ [])) (zeros ++ 7 ∷ []))
 no_digest_without_size h =
     omega (arith, ap (λ (z : List ℕ). length z) h.spelled, h.is_code.eight, length-append h.code (1 ∷ 7 ∷ []))
 
-size_behind_code : HasScaleSize 5 (zeros ++ 5 ∷ 7 ∷ []) (7 ∷ [])
-size_behind_code = record { code = 0; code_bytes = zeros; is_code = zero_code; in_range = omega arith; cut = refl }
+size_after_code : HasScaleSize 5 (zeros ++ 5 ∷ 7 ∷ []) (7 ∷ [])
+size_after_code = record { code = 0; code_bytes = zeros; is_code = zero_code; in_range = omega arith; cut = refl }
 
 -- the size is the byte after the eight
 no_size_in_code : ¬ (HasScaleSize 0 (zeros ++ 5 ∷ []) (5 ∷ []))
@@ -165,37 +165,37 @@ no_other_rest h =
 -- ---- errors
 
 -- into four bytes: no varint is read, and no value
-abbrev DecodingRefuses : Refusal → Type 0
-DecodingRefuses (of_io fault) = IsUnexpectedEof fault
-DecodingRefuses (of_size size) = 4 < size
-DecodingRefuses (of_code code) = largest < code
-DecodingRefuses (of_varint f) = ⊥
-DecodingRefuses of_not_bytes = ⊥
+abbrev DecodingRejects : Refusal → Type 0
+DecodingRejects (of_io fault) = IsUnexpectedEof fault
+DecodingRejects (of_size size) = 4 < size
+DecodingRejects (of_code code) = largest < code
+DecodingRejects (of_varint f) = ⊥
+DecodingRejects of_not_bytes = ⊥
 
-decoding_refuses : (e : Refusal) → DecodingRefuses e → IsScaleRefusal 4 e
-decoding_refuses (of_io fault) h = inr (inr (fault, refl, h))
-decoding_refuses (of_size size) h = inr (inl (size, refl, h))
-decoding_refuses (of_code code) h = inl (code, refl, omega (arith, h))
-decoding_refuses (of_varint f) h = absurd h
-decoding_refuses of_not_bytes h = absurd h
+decoding_rejects : (e : Refusal) → DecodingRejects e → ScaleMayFailWith 4 e
+decoding_rejects (of_io fault) h = inr (inr (fault, refl, h))
+decoding_rejects (of_size size) h = inr (inl (size, refl, h))
+decoding_rejects (of_code code) h = inl (code, refl, omega (arith, h))
+decoding_rejects (of_varint f) h = absurd h
+decoding_rejects of_not_bytes h = absurd h
 
-decoding_refuses_only : (e : Refusal) → IsScaleRefusal 4 e → DecodingRefuses e
-decoding_refuses_only e (inl (code, is, large)) = subst DecodingRefuses (sym is) (omega (arith, large))
-decoding_refuses_only e (inr (inl (size, is, large))) = subst DecodingRefuses (sym is) large
-decoding_refuses_only e (inr (inr (fault, is, kind))) = subst DecodingRefuses (sym is) kind
+decoding_rejects_only : (e : Refusal) → ScaleMayFailWith 4 e → DecodingRejects e
+decoding_rejects_only e (inl (code, is, large)) = subst DecodingRejects (sym is) (omega (arith, large))
+decoding_rejects_only e (inr (inl (size, is, large))) = subst DecodingRejects (sym is) large
+decoding_rejects_only e (inr (inr (fault, is, kind))) = subst DecodingRejects (sym is) kind
 
 -- a digest's length is one byte in this form, so a larger buffer has no limit of its own
-decoding_refuses_above_a_byte : (size : ℕ) → 300 < size → IsScaleRefusal 300 (of_size size)
-decoding_refuses_above_a_byte size large = inr (inl (size, refl, large))
+decoding_rejects_above_a_byte : (size : ℕ) → 300 < size → ScaleMayFailWith 300 (of_size size)
+decoding_rejects_above_a_byte size large = inr (inl (size, refl, large))
 
 -- ---- what was consumed
 
 -- eight bytes, and the size after them is left
-takes_eight : TakesAtScaleRefusal 4 (of_code 18446744073709551615) (Some (all_255 ++ 0 ∷ []))
+takes_eight : ConsumesAtScaleError 4 (of_code 18446744073709551615) (Some (all_255 ++ 0 ∷ []))
     (Some (0 ∷ []))
 takes_eight = record {
-  taken = all_255;
-  takes = refl;
+  consumed = all_255;
+  consumes = refl;
   code = λ code given. (
     subst (λ (n : ℕ). HasScaleVerdict 4 all_255 (invalid_code n))
         (ap code_in given) (scale_code_above []),
@@ -206,11 +206,11 @@ takes_eight = record {
 }
 
 -- nine bytes, and those after them are left
-takes_nine : TakesAtScaleRefusal 4 (of_size 5) (Some (zeros ++ 5 ∷ 0xaa ∷ 0xbb ∷ []))
+takes_nine : ConsumesAtScaleError 4 (of_size 5) (Some (zeros ++ 5 ∷ 0xaa ∷ 0xbb ∷ []))
     (Some (0xaa ∷ 0xbb ∷ []))
 takes_nine = record {
-  taken = zeros ++ 5 ∷ [];
-  takes = refl;
+  consumed = zeros ++ 5 ∷ [];
+  consumes = refl;
   code = λ code given. absurd cc;
   size = λ size given. (
     subst (λ (n : ℕ). HasScaleVerdict 4 (zeros ++ 5 ∷ []) (invalid_size n))
@@ -220,73 +220,73 @@ takes_nine = record {
   early = λ ends. elim ends [ inl end ↦ absurd (cc (end.1)) | inr own ↦ absurd (cc (own.1)) ];
 }
 
-takes_a_cut_digest : TakesAtScaleRefusal 4 (of_io eof) (Some (zeros ++ 3 ∷ 0xaa ∷ 0xbb ∷ []))
+takes_a_cut_digest : ConsumesAtScaleError 4 (of_io eof) (Some (zeros ++ 3 ∷ 0xaa ∷ 0xbb ∷ []))
     (Some [])
 takes_a_cut_digest = record {
-  taken = zeros ++ 3 ∷ 0xaa ∷ 0xbb ∷ [];
-  takes = refl;
+  consumed = zeros ++ 3 ∷ 0xaa ∷ 0xbb ∷ [];
+  consumes = refl;
   code = λ code given. absurd cc;
   size = λ size given. absurd cc;
   early = λ ends. scale_cut;
 }
 
-fails_inside_code : TakesAtScaleRefusal 4 (of_io other) (Some (zeros ++ 3 ∷ [])) (Some (3 ∷ []))
+fails_inside_code : ConsumesAtScaleError 4 (of_io other) (Some (zeros ++ 3 ∷ [])) (Some (3 ∷ []))
 fails_inside_code = record {
-  taken = zeros;
-  takes = refl;
+  consumed = zeros;
+  consumes = refl;
   code = λ code given. absurd cc;
   size = λ size given. absurd cc;
   early = λ ends. scale_eight_bytes;
 }
 
-decoding_takes_its_own : ¬ (TakesAtScaleRefusal 4 of_not_bytes (Some []) (Some (7 ∷ [])))
-decoding_takes_its_own h = gives_none_back h.taken h.takes
+decoding_takes_its_own : ¬ (ConsumesAtScaleError 4 of_not_bytes (Some []) (Some (7 ∷ [])))
+decoding_takes_its_own h = gives_none_back h.consumed h.consumes
 
 -- a size that fits isn't rejected, nor a code in range
-takes_no_size_that_fits : ¬ (TakesAtScaleRefusal 4 (of_size 3) (Some (zeros ++ 3 ∷ [])) (Some []))
+takes_no_size_that_fits : ¬ (ConsumesAtScaleError 4 (of_size 3) (Some (zeros ++ 3 ∷ [])) (Some []))
 takes_no_size_that_fits h = omega (arith, (h.size 3 refl).0.2)
 
-takes_no_code_in_range : ¬ (TakesAtScaleRefusal 4 (of_code 0) (Some zeros) (Some []))
+takes_no_code_in_range : ¬ (ConsumesAtScaleError 4 (of_code 0) (Some zeros) (Some []))
 takes_no_code_in_range h = let (bytes, rest, is_code, above, cut) = (h.code 0 refl).0 in omega (arith, above)
 
 -- no byte after the size, nor the size after a code that is too large
-takes_no_more_than_nine : ¬ (TakesAtScaleRefusal 4 (of_size 5) (Some (zeros ++ 5 ∷ 7 ∷ [])) (Some []))
-takes_no_more_than_nine h = omega (arith, (h.size 5 refl).1, ap (λ (z : List ℕ). length z) (taken_is (zeros ++ 5 ∷ 7 ∷ []) [] h.taken h.takes))
+takes_no_more_than_nine : ¬ (ConsumesAtScaleError 4 (of_size 5) (Some (zeros ++ 5 ∷ 7 ∷ [])) (Some []))
+takes_no_more_than_nine h = omega (arith, (h.size 5 refl).1, ap (λ (z : List ℕ). length z) (taken_is (zeros ++ 5 ∷ 7 ∷ []) [] h.consumed h.consumes))
 
-takes_no_size_behind_code : ¬ (TakesAtScaleRefusal 4 (of_code 18446744073709551615) (Some (all_255 ++ 0 ∷ [])) (Some []))
-takes_no_size_behind_code h =
-    omega (arith, (h.code 18446744073709551615 refl).1, ap (λ (z : List ℕ). length z) (taken_is (all_255 ++ 0 ∷ []) [] h.taken h.takes))
+takes_no_size_after_code : ¬ (ConsumesAtScaleError 4 (of_code 18446744073709551615) (Some (all_255 ++ 0 ∷ [])) (Some []))
+takes_no_size_after_code h =
+    omega (arith, (h.code 18446744073709551615 refl).1, ap (λ (z : List ℕ). length z) (taken_is (all_255 ++ 0 ∷ []) [] h.consumed h.consumes))
 
 -- where all of an input was consumed, its verdict is the one that the error claims
-claimed : (a taken : List ℕ) (v w : Verdict) → Takes (Some (a ++ [])) taken (Some []) → HasScaleVerdict 4 taken v → HasScaleVerdict 4 a w → v ≡ w
-claimed a taken v w takes has own = scale_verdict_unique 4 a v w (subst (λ (z : List ℕ). HasScaleVerdict 4 z v) (taken_is a [] taken takes) has) own
+claimed : (a consumed : List ℕ) (v w : Verdict) → Consumes (Some (a ++ [])) consumed (Some []) → HasScaleVerdict 4 consumed v → HasScaleVerdict 4 a w → v ≡ w
+claimed a consumed v w consumes has own = scale_verdict_unique 4 a v w (subst (λ (z : List ℕ). HasScaleVerdict 4 z v) (taken_is a [] consumed consumes) has) own
 
-takes_no_other_size : ¬ (TakesAtScaleRefusal 4 (of_size 6) (Some (zeros ++ 5 ∷ [])) (Some []))
+takes_no_other_size : ¬ (ConsumesAtScaleError 4 (of_size 6) (Some (zeros ++ 5 ∷ [])) (Some []))
 takes_no_other_size h =
-    omega (arith, ap size_named (claimed (zeros ++ 5 ∷ []) h.taken (invalid_size 6) (invalid_size 5) h.takes (h.size 6 refl).0 scale_size_first))
+    omega (arith, ap size_named (claimed (zeros ++ 5 ∷ []) h.consumed (invalid_size 6) (invalid_size 5) h.consumes (h.size 6 refl).0 scale_size_first))
 
-takes_no_other_code : ¬ (TakesAtScaleRefusal 4 (of_code too_large) (Some all_255) (Some []))
+takes_no_other_code : ¬ (ConsumesAtScaleError 4 (of_code too_large) (Some all_255) (Some []))
 takes_no_other_code h =
     omega (
       arith,
-      ap code_named (claimed all_255 h.taken (invalid_code too_large) (invalid_code 18446744073709551615) h.takes
+      ap code_named (claimed all_255 h.consumed (invalid_code too_large) (invalid_code 18446744073709551615) h.consumes
           (h.code too_large refl).0 (scale_code_above [])),
     )
 
 -- no end where a pair is whole, and none after a code that is rejected
-ends_not_behind_pair : ¬ (TakesAtScaleRefusal 4 (of_io eof) (Some (zeros ++ 0 ∷ [])) (Some []))
-ends_not_behind_pair h =
-    let same = claimed (zeros ++ 0 ∷ []) h.taken unexpected_eof (accepted (pair 0 [])) h.takes (h.early (inl (eof, refl, refl))) scale_empty_digest_of_4 in cc
+ends_not_after_pair : ¬ (ConsumesAtScaleError 4 (of_io eof) (Some (zeros ++ 0 ∷ [])) (Some []))
+ends_not_after_pair h =
+    let same = claimed (zeros ++ 0 ∷ []) h.consumed unexpected_eof (accepted (pair 0 [])) h.consumes (h.early (inl (eof, refl, refl))) scale_empty_digest_of_4 in cc
 
-ends_not_behind_code : ¬ (TakesAtScaleRefusal 4 (of_io eof) (Some all_255) (Some []))
-ends_not_behind_code h =
-    let same = claimed all_255 h.taken unexpected_eof (invalid_code 18446744073709551615) h.takes (h.early (inl (eof, refl, refl))) (scale_code_above []) in cc
+ends_not_after_code : ¬ (ConsumesAtScaleError 4 (of_io eof) (Some all_255) (Some []))
+ends_not_after_code h =
+    let same = claimed all_255 h.consumed unexpected_eof (invalid_code 18446744073709551615) h.consumes (h.early (inl (eof, refl, refl))) (scale_code_above []) in cc
 
 -- a reader that fails after a size that is rejected is not called
-fails_not_behind_size : ¬ (TakesAtScaleRefusal 4 (of_io other) (Some (zeros ++ 5 ∷ [])) (Some []))
-fails_not_behind_size h =
-    let same = claimed (zeros ++ 5 ∷ []) h.taken unexpected_eof (invalid_size 5) h.takes (h.early (inr (other, refl, inl refl))) scale_size_first in cc
+fails_not_after_size : ¬ (ConsumesAtScaleError 4 (of_io other) (Some (zeros ++ 5 ∷ [])) (Some []))
+fails_not_after_size h =
+    let same = claimed (zeros ++ 5 ∷ []) h.consumed unexpected_eof (invalid_size 5) h.consumes (h.early (inr (other, refl, inl refl))) scale_size_first in cc
 
-memory_fails_not_behind_size : ¬ (TakesAtScaleRefusal 4 (of_io memory) (Some (zeros ++ 5 ∷ [])) (Some []))
-memory_fails_not_behind_size h =
-    let same = claimed (zeros ++ 5 ∷ []) h.taken unexpected_eof (invalid_size 5) h.takes (h.early (inr (memory, refl, inr refl))) scale_size_first in cc
+memory_fails_not_after_size : ¬ (ConsumesAtScaleError 4 (of_io memory) (Some (zeros ++ 5 ∷ [])) (Some []))
+memory_fails_not_after_size h =
+    let same = claimed (zeros ++ 5 ∷ []) h.consumed unexpected_eof (invalid_size 5) h.consumes (h.early (inr (memory, refl, inr refl))) scale_size_first in cc

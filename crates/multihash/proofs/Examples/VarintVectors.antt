@@ -6,16 +6,16 @@ use Rattle.std.specs.List.{All, list_all}
 use Rattle.std.proofs.lemmas.Bool.{ltb-true, and_parts}
 use Rattle.std.proofs.lemmas.List.Elements.{All-nil, All-cons, All-head, All-tail}
 use Rattle.multihash.specs.Bytes.{place_value}
-use Rattle.multihash.specs.Varint.{IsMarked, marked, varint_limit, max_marked, last_byte_limit, IsVarint, insufficient, overflow, not_minimal, HasFaultyFront}
+use Rattle.multihash.specs.Varint.{IsContinuation, continuation_bytes, varint_limit, max_continuation, last_byte_limit, IsVarint, insufficient, overflow, not_minimal, BeginsMalformed}
 use Rattle.multihash.proofs.Examples.BytesVectors.{all_below}
 use Rattle.multihash.proofs.Varints.VarintLemmas.{Front, number, fault, HasFront, front_of, front_is, front_of_has, front_unique}
 
 -- every number in a literal list has 128 added
-pub all_marked : (xs : List ℕ) → list_all (λ x. ltb 127 x) xs ≡ true → All IsMarked xs
-all_marked [] e = All-nil IsMarked
-all_marked (x ∷ xs) e =
+pub all_continuation : (xs : List ℕ) → list_all (λ x. ltb 127 x) xs ≡ true → All IsContinuation xs
+all_continuation [] e = All-nil IsContinuation
+all_continuation (x ∷ xs) e =
     let parts = and_parts (ltb 127 x) (list_all (λ y. ltb 127 y) xs) e in
-    All-cons IsMarked x xs (ltb-true 127 x parts.0) (all_marked xs parts.1)
+    All-cons IsContinuation x xs (ltb-true 127 x parts.0) (all_continuation xs parts.1)
 
 ends_well : List ℕ → ℕ → Bool
 ends_well [] last = true
@@ -28,7 +28,7 @@ ends_well-minimal (d ∷ front) last e z = absurd (omega (arith, ltb-true 0 last
 
 -- a varint in literal digits, each fact by computing
 varint_of : (front : List ℕ) (last n : ℕ) → list_all (λ d. ltb d 128) (front ++ last ∷ []) ≡ true → ends_well front last ≡ true
-    → place_value 128 (front ++ last ∷ []) ≡ n → ltb n varint_limit ≡ true → IsVarint n (marked front ++ last ∷ [])
+    → place_value 128 (front ++ last ∷ []) ≡ n → ltb n varint_limit ≡ true → IsVarint n (continuation_bytes front ++ last ∷ [])
 varint_of front last n digits minimal value range = record {
   front = front;
   last = last;
@@ -100,7 +100,7 @@ too_large = largest + 1
 
 pub varint_largest : IsVarint largest largest_bytes
 unfolding place_value ends_well
-varint_largest = varint_of (replicate max_marked 0x7f) (last_byte_limit - 1) largest refl refl refl refl
+varint_largest = varint_of (replicate max_continuation 0x7f) (last_byte_limit - 1) largest refl refl refl refl
 
 -- bytes that are a varint of one number are none of another
 pub not_another : (m n : ℕ) (bytes : List ℕ) → IsVarint n bytes → (m ≡ n → ⊥) → ¬ (IsVarint m bytes)
@@ -123,10 +123,10 @@ holds (row x f bytes same) =
 
 -- as many continuation bytes as a varint may have, and the largest of them
 abbrev most : List ℕ
-most = replicate max_marked 0x80
+most = replicate max_continuation 0x80
 
 abbrev most_255 : List ℕ
-most_255 = replicate max_marked 0xff
+most_255 = replicate max_continuation 0xff
 
 numbers : List Row
 unfolding place_value
@@ -144,12 +144,12 @@ numbers =
     -- the largest number, whose last byte is the one before the first that is too large
     row (most_255 ++ (last_byte_limit - 1) ∷ []) (number largest []) refl refl ∷
     row largest_bytes (number largest []) refl refl ∷
-    row (most ++ (last_byte_limit - 1) ∷ []) (number ((last_byte_limit - 1) * 2 ^ (7 * max_marked)) []) refl refl ∷
+    row (most ++ (last_byte_limit - 1) ∷ []) (number ((last_byte_limit - 1) * 2 ^ (7 * max_continuation)) []) refl refl ∷
     -- what follows a whole varint does not belong to it
     row (0x01 ∷ 0x01 ∷ []) (number 1 (0x01 ∷ [])) refl refl ∷
     row (0x01 ∷ 0x00 ∷ []) (number 1 (0x00 ∷ [])) refl refl ∷
     row (0x80 ∷ 0x01 ∷ 0x00 ∷ []) (number 128 (0x00 ∷ [])) refl refl ∷
-    row (replicate max_marked 0 ++ last_byte_limit ∷ []) (number 0 (replicate (max_marked - 1) 0 ++ last_byte_limit ∷ [])) refl refl ∷
+    row (replicate max_continuation 0 ++ last_byte_limit ∷ []) (number 0 (replicate (max_continuation - 1) 0 ++ last_byte_limit ∷ [])) refl refl ∷
     []
 
 faults : List Row
@@ -175,13 +175,13 @@ faults =
 no_varint_of_too_large : (bytes : List ℕ) → ¬ (IsVarint too_large bytes)
 no_varint_of_too_large bytes v = omega (arith, v.in_range)
 
-marked_from_128 : IsMarked 128
-marked_from_128 = omega arith
+continuation_from_128 : IsContinuation 128
+continuation_from_128 = omega arith
 
-not_marked_below : ¬ (IsMarked 127)
-not_marked_below h = omega (arith, h)
+not_continuation_below : ¬ (IsContinuation 127)
+not_continuation_below h = omega (arith, h)
 
-marks_each : marked (0 ∷ 127 ∷ []) ≡ 128 ∷ 255 ∷ []
+marks_each : continuation_bytes (0 ∷ 127 ∷ []) ≡ 128 ∷ 255 ∷ []
 marks_each = refl
 
 -- a digit is one of seven bits, whatever follows it
@@ -189,7 +189,7 @@ no_varint_of_larger_digits : (n : ℕ) → ¬ (IsVarint n (256 ∷ 1 ∷ []))
 no_varint_of_larger_digits n v = none v.front v.last v.digits v.spelled
   where
     none : (front : List ℕ) (last : ℕ) → All (λ digit. digit < 128) (front ++ last ∷ [])
-        → 256 ∷ 1 ∷ [] ≡ marked front ++ last ∷ [] → ⊥
+        → 256 ∷ 1 ∷ [] ≡ continuation_bytes front ++ last ∷ [] → ⊥
     none [] last digits e = omega (arith, ap (λ (z : List ℕ). length z) e)
     none (d ∷ front) last digits e =
         omega (
@@ -201,13 +201,13 @@ no_varint_of_larger_digits n v = none v.front v.last v.digits v.spelled
 -- ---- each part of a definition rejects by itself, with no lemma: of a varint
 
 -- a varint whose first byte is unmarked is that byte
-pub begins_small : (n b : ℕ) (rest front behind : List ℕ) → b < 128 → IsVarint n front → b ∷ rest ≡ front ++ behind
-    → (b ≡ n) × (rest ≡ behind)
+pub begins_small : (n b : ℕ) (rest front following : List ℕ) → b < 128 → IsVarint n front → b ∷ rest ≡ front ++ following
+    → (b ≡ n) × (rest ≡ following)
 unfolding place_value
-begins_small n b rest front behind small v cut = of v.front v.value (cut ∙ ap (λ (z : List ℕ). z ++ behind) v.spelled)
+begins_small n b rest front following small v cut = of v.front v.value (cut ∙ ap (λ (z : List ℕ). z ++ following) v.spelled)
   where
-    of : (digits : List ℕ) → place_value 128 (digits ++ v.last ∷ []) ≡ n → b ∷ rest ≡ (marked digits ++ v.last ∷ []) ++ behind
-        → (b ≡ n) × (rest ≡ behind)
+    of : (digits : List ℕ) → place_value 128 (digits ++ v.last ∷ []) ≡ n → b ∷ rest ≡ (continuation_bytes digits ++ v.last ∷ []) ++ following
+        → (b ≡ n) × (rest ≡ following)
     of [] value e = (omega (arith, value, ap (λ (z : List ℕ). get_or z 0 0) e), ap (λ (z : List ℕ). drop 1 z) e)
     of (d ∷ digits) value e = absurd (omega (arith, small, ap (λ (z : List ℕ). get_or z 0 0) e))
 
@@ -218,40 +218,40 @@ no_varint_and_more : ¬ (IsVarint 1 (0x01 ∷ 0x01 ∷ []))
 no_varint_and_more v = omega (arith, ap (λ (z : List ℕ). length z) (begins_small 1 0x01 (0x01 ∷ []) (0x01 ∷ 0x01 ∷ []) [] (omega arith) v refl).1)
 
 no_varint_of_nothing : (n : ℕ) → ¬ (IsVarint n [])
-no_varint_of_nothing n v = omega (arith, ap (λ (z : List ℕ). length z) v.spelled, length-append (marked v.front) (v.last ∷ []))
+no_varint_of_nothing n v = omega (arith, ap (λ (z : List ℕ). length z) v.spelled, length-append (continuation_bytes v.front) (v.last ∷ []))
 
 -- the last byte is not marked
-no_varint_ends_marked : (n : ℕ) → ¬ (IsVarint n (0x80 ∷ []))
-no_varint_ends_marked n v = none v.front v.digits v.spelled
+no_varint_ends_continuation : (n : ℕ) → ¬ (IsVarint n (0x80 ∷ []))
+no_varint_ends_continuation n v = none v.front v.digits v.spelled
   where
-    none : (front : List ℕ) → All (λ digit. digit < 128) (front ++ v.last ∷ []) → 0x80 ∷ [] ≡ marked front ++ v.last ∷ [] → ⊥
+    none : (front : List ℕ) → All (λ digit. digit < 128) (front ++ v.last ∷ []) → 0x80 ∷ [] ≡ continuation_bytes front ++ v.last ∷ [] → ⊥
     none [] digits e = omega (arith, All-head (λ digit. digit < 128) v.last [] digits, ap (λ (z : List ℕ). get_or z 0 0) e)
-    none (d ∷ front) digits e = omega (arith, ap (λ (z : List ℕ). length z) e, length-append (marked front) (v.last ∷ []))
+    none (d ∷ front) digits e = omega (arith, ap (λ (z : List ℕ). length z) e, length-append (continuation_bytes front) (v.last ∷ []))
 
 -- nor is it a zero after others
 no_varint_ends_in_zero : (n : ℕ) → ¬ (IsVarint n (0x80 ∷ 0x00 ∷ []))
 no_varint_ends_in_zero n v = none v.front v.minimal v.spelled
   where
-    none : (front : List ℕ) → (v.last ≡ 0 → front ≡ []) → 0x80 ∷ 0x00 ∷ [] ≡ marked front ++ v.last ∷ [] → ⊥
+    none : (front : List ℕ) → (v.last ≡ 0 → front ≡ []) → 0x80 ∷ 0x00 ∷ [] ≡ continuation_bytes front ++ v.last ∷ [] → ⊥
     none [] minimal e = omega (arith, ap (λ (z : List ℕ). length z) e)
     none (d ∷ []) minimal e = omega (arith, ap (λ (z : List ℕ). length z) (minimal (omega (arith, ap (λ (z : List ℕ). get_or z 1 0) e))))
-    none (d ∷ c ∷ front) minimal e = omega (arith, ap (λ (z : List ℕ). length z) e, length-append (marked front) (v.last ∷ []))
+    none (d ∷ c ∷ front) minimal e = omega (arith, ap (λ (z : List ℕ). length z) e, length-append (continuation_bytes front) (v.last ∷ []))
 
 -- ---- of what begins an input in place of one
 
-insufficient_are : HasFaultyFront insufficient [] × HasFaultyFront insufficient most
-insufficient_are = (record { few = omega arith; all_marked = all_marked [] refl }, record { few = omega arith; all_marked = all_marked most refl })
+insufficient_are : BeginsMalformed insufficient [] × BeginsMalformed insufficient most
+insufficient_are = (record { few = omega arith; all_continuation = all_continuation [] refl }, record { few = omega arith; all_continuation = all_continuation most refl })
 
-enough_marked : ¬ (HasFaultyFront insufficient (0x80 ∷ most))
-enough_marked h = omega (arith, h.few)
+enough_continuation : ¬ (BeginsMalformed insufficient (0x80 ∷ most))
+enough_continuation h = omega (arith, h.few)
 
-ends_inside_no_varint : ¬ (HasFaultyFront insufficient (0x80 ∷ 0x01 ∷ []))
-ends_inside_no_varint h = omega (arith, All-head IsMarked 0x01 [] (All-tail IsMarked 0x80 (0x01 ∷ []) h.all_marked))
+ends_inside_no_varint : ¬ (BeginsMalformed insufficient (0x80 ∷ 0x01 ∷ []))
+ends_inside_no_varint h = omega (arith, All-head IsContinuation 0x01 [] (All-tail IsContinuation 0x80 (0x01 ∷ []) h.all_continuation))
 
-overflows : HasFaultyFront overflow (most ++ last_byte_limit ∷ []) × HasFaultyFront overflow (most ++ 0xff ∷ 0x00 ∷ [])
+overflows : BeginsMalformed overflow (most ++ last_byte_limit ∷ []) × BeginsMalformed overflow (most ++ 0xff ∷ 0x00 ∷ [])
 overflows = (
-  record { front = most; byte = last_byte_limit; rest = []; all_marked = all_marked most refl; most = refl; too_large = omega arith; cut = refl },
-  record { front = most; byte = 0xff; rest = 0x00 ∷ []; all_marked = all_marked most refl; most = refl; too_large = omega arith; cut = refl },
+  record { front = most; byte = last_byte_limit; rest = []; all_continuation = all_continuation most refl; most = refl; too_large = omega arith; cut = refl },
+  record { front = most; byte = 0xff; rest = 0x00 ∷ []; all_continuation = all_continuation most refl; most = refl; too_large = omega arith; cut = refl },
 )
 
 -- after as many bytes of one kind comes what follows them
@@ -262,30 +262,30 @@ follows zero byte (c ∷ front) rest b more many e = absurd (omega (arith, many)
 follows (suc k) byte [] rest b more many e = absurd (omega (arith, many))
 follows (suc k) byte (c ∷ front) rest b more many e = follows k byte front rest b more (omega (arith, many)) (ap (λ (z : List ℕ). drop 1 z) e)
 
-overflows_at_no_last_byte : ¬ (HasFaultyFront overflow (most ++ (last_byte_limit - 1) ∷ []))
-overflows_at_no_last_byte h = omega (arith, h.too_large, follows max_marked (last_byte_limit - 1) h.front [] h.byte h.rest h.most h.cut)
+overflows_at_no_last_byte : ¬ (BeginsMalformed overflow (most ++ (last_byte_limit - 1) ∷ []))
+overflows_at_no_last_byte h = omega (arith, h.too_large, follows max_continuation (last_byte_limit - 1) h.front [] h.byte h.rest h.most h.cut)
 
-overflows_no_sooner : ¬ (HasFaultyFront overflow (replicate (max_marked - 1) 0x80 ++ 0xff ∷ []))
+overflows_no_sooner : ¬ (BeginsMalformed overflow (replicate (max_continuation - 1) 0x80 ++ 0xff ∷ []))
 overflows_no_sooner h = omega (arith, h.most, ap (λ (z : List ℕ). length z) h.cut, length-append h.front (h.byte ∷ h.rest))
 
-overflows_behind_marked_bytes : ¬ (HasFaultyFront overflow (0x05 ∷ most))
-overflows_behind_marked_bytes h = none h.front h.most h.all_marked h.cut
+overflows_after_continuation_bytes : ¬ (BeginsMalformed overflow (0x05 ∷ most))
+overflows_after_continuation_bytes h = none h.front h.most h.all_continuation h.cut
   where
-    none : (front : List ℕ) → length front ≡ max_marked → All IsMarked front → 0x05 ∷ most ≡ front ++ h.byte ∷ h.rest → ⊥
+    none : (front : List ℕ) → length front ≡ max_continuation → All IsContinuation front → 0x05 ∷ most ≡ front ++ h.byte ∷ h.rest → ⊥
     none [] many marks e = omega (arith, many)
-    none (c ∷ front) many marks e = omega (arith, All-head IsMarked c front marks, ap (λ (z : List ℕ). get_or z 0 0) e)
+    none (c ∷ front) many marks e = omega (arith, All-head IsContinuation c front marks, ap (λ (z : List ℕ). get_or z 0 0) e)
 
-not_minimal_are : HasFaultyFront not_minimal (0x80 ∷ 0x00 ∷ []) × HasFaultyFront not_minimal (most ++ 0x00 ∷ 0x07 ∷ [])
+not_minimal_are : BeginsMalformed not_minimal (0x80 ∷ 0x00 ∷ []) × BeginsMalformed not_minimal (most ++ 0x00 ∷ 0x07 ∷ [])
 not_minimal_are = (
-  record { front = 0x80 ∷ []; rest = []; all_marked = all_marked (0x80 ∷ []) refl; some = omega arith; few = omega arith; cut = refl },
-  record { front = most; rest = 0x07 ∷ []; all_marked = all_marked most refl; some = omega arith; few = omega arith; cut = refl },
+  record { front = 0x80 ∷ []; rest = []; all_continuation = all_continuation (0x80 ∷ []) refl; some = omega arith; few = omega arith; cut = refl },
+  record { front = most; rest = 0x07 ∷ []; all_continuation = all_continuation most refl; some = omega arith; few = omega arith; cut = refl },
 )
 
-minimal_zero : ¬ (HasFaultyFront not_minimal (0x00 ∷ []))
+minimal_zero : ¬ (BeginsMalformed not_minimal (0x00 ∷ []))
 minimal_zero h = omega (arith, h.some, ap (λ (z : List ℕ). length z) h.cut, length-append h.front (0 ∷ h.rest))
 
-minimal_behind_too_many : ¬ (HasFaultyFront not_minimal ((0x80 ∷ most) ++ 0x00 ∷ []))
-minimal_behind_too_many h = none max_marked h.front h.few h.cut
+minimal_after_too_many : ¬ (BeginsMalformed not_minimal ((0x80 ∷ most) ++ 0x00 ∷ []))
+minimal_after_too_many h = none max_continuation h.front h.few h.cut
   where
     none : (k : ℕ) (front : List ℕ) → length front ≤ k → replicate (suc k) 0x80 ++ 0x00 ∷ [] ≡ front ++ 0 ∷ h.rest → ⊥
     none k [] few e = omega (arith, ap (λ (z : List ℕ). get_or z 0 0) e)
@@ -293,13 +293,13 @@ minimal_behind_too_many h = none max_marked h.front h.few h.cut
     none (suc k) (c ∷ front) few e = none k front (omega (arith, few)) (ap (λ (z : List ℕ). drop 1 z) e)
 
 -- the bytes before the zero are marked, and it is a zero
-no_zero_behind : (a b : ℕ) → a < 128 ⊎ 0 < b → ¬ (HasFaultyFront not_minimal (a ∷ b ∷ []))
-no_zero_behind a b other h = none h.front h.some h.all_marked h.cut
+no_zero_after : (a b : ℕ) → a < 128 ⊎ 0 < b → ¬ (BeginsMalformed not_minimal (a ∷ b ∷ []))
+no_zero_after a b other h = none h.front h.some h.all_continuation h.cut
   where
-    none : (front : List ℕ) → 0 < length front → All IsMarked front → a ∷ b ∷ [] ≡ front ++ 0 ∷ h.rest → ⊥
+    none : (front : List ℕ) → 0 < length front → All IsContinuation front → a ∷ b ∷ [] ≡ front ++ 0 ∷ h.rest → ⊥
     none [] some marks e = omega (arith, some)
     none (c ∷ []) some marks e = elim other [
-      | inl small ↦ omega (arith, small, All-head IsMarked c [] marks, ap (λ (z : List ℕ). get_or z 0 0) e)
+      | inl small ↦ omega (arith, small, All-head IsContinuation c [] marks, ap (λ (z : List ℕ). get_or z 0 0) e)
       | inr more ↦ omega (arith, more, ap (λ (z : List ℕ). get_or z 1 0) e)
     ]
     none (c ∷ d ∷ front) some marks e = omega (arith, ap (λ (z : List ℕ). length z) e, length-append front (0 ∷ h.rest))

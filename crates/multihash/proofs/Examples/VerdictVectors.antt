@@ -6,9 +6,9 @@ use Rattle.std.specs.List.{list_all}
 use Rattle.multihash.specs.Bytes.{place_value}
 use Rattle.multihash.specs.Pair.{Pair}
 use Rattle.multihash.specs.Varint.{insufficient, overflow, not_minimal}
-use Rattle.multihash.specs.Verdict.{Verdict, accepted, invalid_size, invalid_code, faulty, unexpected_eof, BeginsWith, BeginsWithSize, HasVerdict, HasLeftOver, HasWholeVerdict, IsEarlyEnd}
+use Rattle.multihash.specs.Verdict.{Verdict, accepted, invalid_size, invalid_code, malformed, unexpected_eof, BeginsWith, BeginsWithSize, HasVerdict, HasTrailing, HasWholeVerdict, IsIncomplete}
 use Rattle.multihash.proofs.Examples.BytesVectors.{all_below}
-use Rattle.multihash.proofs.Examples.VarintVectors.{all_marked, largest, largest_bytes, varint_0, varint_1, varint_4, varint_5, varint_72057594037927936, varint_133}
+use Rattle.multihash.proofs.Examples.VarintVectors.{all_continuation, largest, largest_bytes, varint_0, varint_1, varint_4, varint_5, varint_72057594037927936, varint_133}
 use Rattle.multihash.proofs.Examples.PairVectors.{pair}
 use Rattle.multihash.proofs.Readings.VerdictLemmas.{found, verdict_is, has_found}
 use Rattle.multihash.specs.Settling.{Settles, IsShortestSettling}
@@ -28,14 +28,14 @@ abbrev pub code_named : Verdict → ℕ
 code_named (accepted p) = p.code
 code_named (invalid_size size) = 0
 code_named (invalid_code code) = code
-code_named (faulty f) = 0
+code_named (malformed f) = 0
 code_named unexpected_eof = 0
 
 abbrev pub size_named : Verdict → ℕ
 size_named (accepted p) = 0
 size_named (invalid_size size) = size
 size_named (invalid_code code) = 0
-size_named (faulty f) = 0
+size_named (malformed f) = 0
 size_named unexpected_eof = 0
 
 -- an input whose verdict is the computed one
@@ -47,14 +47,14 @@ abbrev WholeToo : ℕ → List ℕ → Verdict → Type 0
 WholeToo S x (accepted p) = Unit {0}
 WholeToo S x (invalid_size size) = HasWholeVerdict S x (invalid_size size)
 WholeToo S x (invalid_code code) = HasWholeVerdict S x (invalid_code code)
-WholeToo S x (faulty f) = HasWholeVerdict S x (faulty f)
+WholeToo S x (malformed f) = HasWholeVerdict S x (malformed f)
 WholeToo S x unexpected_eof = HasWholeVerdict S x unexpected_eof
 
 whole_too : (S : ℕ) (x : List ℕ) (v : Verdict) → HasVerdict S x v → WholeToo S x v
 whole_too S x (accepted p) h = tt
 whole_too S x (invalid_size size) h = inl h
 whole_too S x (invalid_code code) h = h
-whole_too S x (faulty f) h = h
+whole_too S x (malformed f) h = h
 whole_too S x unexpected_eof h = h
 
 data Row : Type 0 where
@@ -72,26 +72,26 @@ holds (row S x v bytes same) = (
 table : List Row
 unfolding place_value
 table =
-    row 4 [] (faulty insufficient) refl refl ∷
-    row 4 (0x80 ∷ []) (faulty insufficient) refl refl ∷
-    row 4 (0x80 ∷ 0x00 ∷ []) (faulty not_minimal) refl refl ∷
-    row 4 (0x00 ∷ []) (faulty insufficient) refl refl ∷
+    row 4 [] (malformed insufficient) refl refl ∷
+    row 4 (0x80 ∷ []) (malformed insufficient) refl refl ∷
+    row 4 (0x80 ∷ 0x00 ∷ []) (malformed not_minimal) refl refl ∷
+    row 4 (0x00 ∷ []) (malformed insufficient) refl refl ∷
     row 4 (0x00 ∷ 0x00 ∷ []) (accepted (pair 0 [])) refl refl ∷
-    row 4 (0x00 ∷ 0x85 ∷ []) (faulty insufficient) refl refl ∷
+    row 4 (0x00 ∷ 0x85 ∷ []) (malformed insufficient) refl refl ∷
     row 4 (0x00 ∷ 0x05 ∷ []) (invalid_size 5) refl refl ∷
     row 4 (0x00 ∷ 0x85 ∷ 0x01 ∷ []) (invalid_size 133) refl refl ∷
-    row 4 (0x00 ∷ 0x85 ∷ 0x00 ∷ []) (faulty not_minimal) refl refl ∷
+    row 4 (0x00 ∷ 0x85 ∷ 0x00 ∷ []) (malformed not_minimal) refl refl ∷
     row 4 (0x00 ∷ 0x04 ∷ 0x01 ∷ 0x02 ∷ 0x03 ∷ []) unexpected_eof refl refl ∷
     row 4 (0x00 ∷ 0x04 ∷ 0x01 ∷ 0x02 ∷ 0x03 ∷ 0x04 ∷ []) (accepted (pair 0 (0x01 ∷ 0x02 ∷ 0x03 ∷ 0x04 ∷ []))) refl refl ∷
     row 4 (0x00 ∷ 0x04 ∷ 0x01 ∷ 0x02 ∷ 0x03 ∷ 0x04 ∷ 0x09 ∷ []) (accepted (pair 0 (0x01 ∷ 0x02 ∷ 0x03 ∷ 0x04 ∷ []))) refl refl ∷
-    row 4 eight (faulty insufficient) refl refl ∷
-    row 4 (eight ++ 0x00 ∷ 0x00 ∷ []) (faulty not_minimal) refl refl ∷
-    row 4 (eight ++ 0x01 ∷ []) (faulty insufficient) refl refl ∷
+    row 4 eight (malformed insufficient) refl refl ∷
+    row 4 (eight ++ 0x00 ∷ 0x00 ∷ []) (malformed not_minimal) refl refl ∷
+    row 4 (eight ++ 0x01 ∷ []) (malformed insufficient) refl refl ∷
     row 4 (eight ++ 0x01 ∷ 0x00 ∷ []) (accepted (pair 72057594037927936 [])) refl refl ∷
     row 4 (largest_bytes ++ 0x00 ∷ []) (accepted (pair largest [])) refl refl ∷
     row 4 (0x00 ∷ largest_bytes) (invalid_size largest) refl refl ∷
-    row 4 (0x00 ∷ 0xff ∷ 0xff ∷ 0xff ∷ 0xff ∷ 0xff ∷ 0xff ∷ 0xff ∷ 0xff ∷ 0xff ∷ 0x01 ∷ []) (faulty overflow) refl refl ∷
-    row 0 (0x00 ∷ 0x80 ∷ []) (faulty insufficient) refl refl ∷
+    row 4 (0x00 ∷ 0xff ∷ 0xff ∷ 0xff ∷ 0xff ∷ 0xff ∷ 0xff ∷ 0xff ∷ 0xff ∷ 0xff ∷ 0x01 ∷ []) (malformed overflow) refl refl ∷
+    row 0 (0x00 ∷ 0x80 ∷ []) (malformed insufficient) refl refl ∷
     row 0 (0x00 ∷ 0x01 ∷ []) (invalid_size 1) refl refl ∷
     row 0 (0x00 ∷ 0x00 ∷ []) (accepted (pair 0 [])) refl refl ∷
     row 300 (0x00 ∷ 0xff ∷ 0x01 ∷ []) unexpected_eof refl refl ∷
@@ -100,19 +100,19 @@ table =
     row 4 (0x00 ∷ 0x05 ∷ five) (invalid_size 5) refl refl ∷
     []
 
-pub empty_input : HasVerdict 4 [] (faulty insufficient)
+pub empty_input : HasVerdict 4 [] (malformed insufficient)
 unfolding place_value
 empty_input = known 4 [] refl
 
-pub code_open : HasVerdict 4 (0x80 ∷ []) (faulty insufficient)
+pub code_open : HasVerdict 4 (0x80 ∷ []) (malformed insufficient)
 unfolding place_value
 code_open = known 4 (0x80 ∷ []) refl
 
-pub code_padded : HasVerdict 4 (0x80 ∷ 0x00 ∷ []) (faulty not_minimal)
+pub code_padded : HasVerdict 4 (0x80 ∷ 0x00 ∷ []) (malformed not_minimal)
 unfolding place_value
 code_padded = known 4 (0x80 ∷ 0x00 ∷ []) refl
 
-pub code_alone : HasVerdict 4 (0x00 ∷ []) (faulty insufficient)
+pub code_alone : HasVerdict 4 (0x00 ∷ []) (malformed insufficient)
 unfolding place_value
 code_alone = known 4 (0x00 ∷ []) refl
 
@@ -120,7 +120,7 @@ pub empty_digest : HasVerdict 4 (0x00 ∷ 0x00 ∷ []) (accepted (pair 0 []))
 unfolding place_value
 empty_digest = known 4 (0x00 ∷ 0x00 ∷ []) refl
 
-pub size_open : HasVerdict 4 (0x00 ∷ 0x85 ∷ []) (faulty insufficient)
+pub size_open : HasVerdict 4 (0x00 ∷ 0x85 ∷ []) (malformed insufficient)
 unfolding place_value
 size_open = known 4 (0x00 ∷ 0x85 ∷ []) refl
 
@@ -136,9 +136,9 @@ pub digest_full : HasVerdict 4 (0x00 ∷ 0x04 ∷ 0x01 ∷ 0x02 ∷ 0x03 ∷ 0x0
 unfolding place_value
 digest_full = known 4 (0x00 ∷ 0x04 ∷ 0x01 ∷ 0x02 ∷ 0x03 ∷ 0x04 ∷ []) refl
 
-pub eight_marked : HasVerdict 4 eight (faulty insufficient)
+pub eight_continuation : HasVerdict 4 eight (malformed insufficient)
 unfolding place_value
-eight_marked = known 4 eight refl
+eight_continuation = known 4 eight refl
 
 pub digest_of_255_missing : HasVerdict 300 (0x00 ∷ 0xff ∷ 0x01 ∷ []) unexpected_eof
 unfolding place_value
@@ -165,11 +165,11 @@ nine_byte_code_whole : HasWholeVerdict 4 (eight ++ 0x01 ∷ 0x00 ∷ []) (accept
 nine_byte_code_whole = (record { code = eight ++ 0x01 ∷ []; size = 0x00 ∷ []; is_code = varint_72057594037927936; is_size = varint_0; spelled = refl }, omega arith)
 
 -- nine are too many, whatever follows: nothing, a zero, or what a tenth byte would have to be
-nine_marked : (rest : List ℕ) → HasVerdict 4 (nine ++ rest) (faulty overflow)
-nine_marked rest = inl (record { front = eight; byte = 0x80; rest = rest; all_marked = all_marked eight refl; most = refl; too_large = omega arith; cut = refl })
+nine_continuation : (rest : List ℕ) → HasVerdict 4 (nine ++ rest) (malformed overflow)
+nine_continuation rest = inl (record { front = eight; byte = 0x80; rest = rest; all_continuation = all_continuation eight refl; most = refl; too_large = omega arith; cut = refl })
 
-nine_marked_whole : (rest : List ℕ) → HasWholeVerdict 4 (nine ++ rest) (faulty overflow)
-nine_marked_whole = nine_marked
+nine_continuation_whole : (rest : List ℕ) → HasWholeVerdict 4 (nine ++ rest) (malformed overflow)
+nine_continuation_whole = nine_continuation
 
 no_room_empty_whole : HasWholeVerdict 0 (0x00 ∷ 0x00 ∷ []) (accepted (pair 0 []))
 no_room_empty_whole = (record { code = 0x00 ∷ []; size = 0x00 ∷ []; is_code = varint_0; is_size = varint_0; spelled = refl }, omega arith)
@@ -189,27 +189,27 @@ size_5 more = record { code = 0; code_bytes = 0x00 ∷ []; size_bytes = 0x05 ∷
 -- ---- what does not hold
 
 -- no code that a varint encodes is out of range
-no_code_refused : (S code : ℕ) (input : List ℕ) → ¬ (HasVerdict S input (invalid_code code))
-no_code_refused S code input h = h
+no_code_rejected : (S code : ℕ) (input : List ℕ) → ¬ (HasVerdict S input (invalid_code code))
+no_code_rejected S code input h = h
 
-no_code_refused_whole : (S code : ℕ) (input : List ℕ) → ¬ (HasWholeVerdict S input (invalid_code code))
-no_code_refused_whole S code input h = h
+no_code_rejected_whole : (S code : ℕ) (input : List ℕ) → ¬ (HasWholeVerdict S input (invalid_code code))
+no_code_rejected_whole S code input h = h
 
 -- ---- what is left over
 
-one_left_over : HasLeftOver 4 (0x00 ∷ 0x00 ∷ 0x07 ∷ []) 1
-one_left_over = (pair 0 [], 0x07 ∷ [], begins_empty (0x07 ∷ []), omega arith, refl, omega arith)
+one_trailing : HasTrailing 4 (0x00 ∷ 0x00 ∷ 0x07 ∷ []) 1
+one_trailing = (pair 0 [], 0x07 ∷ [], begins_empty (0x07 ∷ []), omega arith, refl, omega arith)
 
-nothing_left_over : ¬ (HasLeftOver 4 (0x00 ∷ 0x00 ∷ []) 0)
-nothing_left_over (p, rest, begins, fits, count, some) = omega (arith, some)
+nothing_trailing : ¬ (HasTrailing 4 (0x00 ∷ 0x00 ∷ []) 0)
+nothing_trailing (p, rest, begins, fits, count, some) = omega (arith, some)
 
 -- ---- the verdicts that more input may change
 
-early : IsEarlyEnd (faulty insufficient) × IsEarlyEnd unexpected_eof
+early : IsIncomplete (malformed insufficient) × IsIncomplete unexpected_eof
 early = (tt, tt)
 
-stays : ((p : Pair) → ¬ (IsEarlyEnd (accepted p))) × ((n : ℕ) → ¬ (IsEarlyEnd (invalid_size n))) × ((n : ℕ) → ¬ (IsEarlyEnd (invalid_code n)))
-    × ¬ (IsEarlyEnd (faulty overflow)) × ¬ (IsEarlyEnd (faulty not_minimal))
+stays : ((p : Pair) → ¬ (IsIncomplete (accepted p))) × ((n : ℕ) → ¬ (IsIncomplete (invalid_size n))) × ((n : ℕ) → ¬ (IsIncomplete (invalid_code n)))
+    × ¬ (IsIncomplete (malformed overflow)) × ¬ (IsIncomplete (malformed not_minimal))
 stays = ((λ p h. h), (λ n h. h), (λ n h. h), (λ h. h), λ h. h)
 
 -- a size that the buffer can't hold, whatever follows
@@ -222,16 +222,16 @@ waits : ¬ (Settles 5 (0 ∷ 5 ∷ [])) × ¬ (Settles 4 (0 ∷ 133 ∷ [])) × 
     × ¬ (Settles 300 (0x00 ∷ 0xff ∷ 0x01 ∷ [])) × ¬ (Settles 4 eight)
 waits = (
   early_not_settles 5 (0 ∷ 5 ∷ []) unexpected_eof tt (5, [], size_5 [], omega arith, omega arith),
-  early_not_settles 4 (0 ∷ 133 ∷ []) (faulty insufficient) tt size_open,
-  early_not_settles 4 [] (faulty insufficient) tt empty_input,
-  early_not_settles 4 (0 ∷ []) (faulty insufficient) tt code_alone,
+  early_not_settles 4 (0 ∷ 133 ∷ []) (malformed insufficient) tt size_open,
+  early_not_settles 4 [] (malformed insufficient) tt empty_input,
+  early_not_settles 4 (0 ∷ []) (malformed insufficient) tt code_alone,
   early_not_settles 4 (0 ∷ 4 ∷ 1 ∷ 2 ∷ 3 ∷ []) unexpected_eof tt digest_cut,
   early_not_settles 300 (0x00 ∷ 0xff ∷ 0x01 ∷ []) unexpected_eof tt digest_of_255_missing,
-  early_not_settles 4 eight (faulty insufficient) tt eight_marked,
+  early_not_settles 4 eight (malformed insufficient) tt eight_continuation,
 )
 
 pub padded_settles : Settles 4 (0x80 ∷ 0x00 ∷ [])
-padded_settles = late_settles 4 (0x80 ∷ 0x00 ∷ []) (faulty not_minimal) (λ early. early) code_padded
+padded_settles = late_settles 4 (0x80 ∷ 0x00 ∷ []) (malformed not_minimal) (λ early. early) code_padded
 
 pub pair_settles : Settles 4 (0 ∷ 4 ∷ 1 ∷ 2 ∷ 3 ∷ 4 ∷ [])
 pair_settles = late_settles 4 (0 ∷ 4 ∷ 1 ∷ 2 ∷ 3 ∷ 4 ∷ []) (accepted (pair 0 (1 ∷ 2 ∷ 3 ∷ 4 ∷ []))) (λ early. early) digest_full
@@ -264,8 +264,8 @@ shortest_of_padded_code =
       shown = 0x80 ∷ 0x00 ∷ [];
       rest = 0x07 ∷ [];
       cut = refl;
-      step = record { front = 0x80 ∷ []; last = 0x00; all_marked = all_marked (0x80 ∷ []) refl; few = omega arith; cut = refl };
-      has = record { front = 0x80 ∷ []; rest = []; all_marked = all_marked (0x80 ∷ []) refl; some = omega arith; few = omega arith; cut = refl };
+      step = record { front = 0x80 ∷ []; last = 0x00; all_continuation = all_continuation (0x80 ∷ []) refl; few = omega arith; cut = refl };
+      has = record { front = 0x80 ∷ []; rest = []; all_continuation = all_continuation (0x80 ∷ []) refl; some = omega arith; few = omega arith; cut = refl };
     })
 
 shortest_of_padded_size : IsShortestSettling 4 (0x00 ∷ 0x85 ∷ 0x00 ∷ 0x07 ∷ []) (0x00 ∷ 0x85 ∷ 0x00 ∷ [])
@@ -275,8 +275,8 @@ shortest_of_padded_size =
       shown = 0x85 ∷ 0x00 ∷ [];
       rest = 0x07 ∷ [];
       cut = refl;
-      step = record { front = 0x85 ∷ []; last = 0x00; all_marked = all_marked (0x85 ∷ []) refl; few = omega arith; cut = refl };
-      has = record { front = 0x85 ∷ []; rest = []; all_marked = all_marked (0x85 ∷ []) refl; some = omega arith; few = omega arith; cut = refl };
+      step = record { front = 0x85 ∷ []; last = 0x00; all_continuation = all_continuation (0x85 ∷ []) refl; few = omega arith; cut = refl };
+      has = record { front = 0x85 ∷ []; rest = []; all_continuation = all_continuation (0x85 ∷ []) refl; some = omega arith; few = omega arith; cut = refl };
     })
 
 -- a ninth continuation byte is enough, whatever follows
@@ -286,8 +286,8 @@ shortest_of_overflow rest =
       shown = eight ++ 0x80 ∷ [];
       rest = rest;
       cut = refl;
-      step = record { front = eight; last = 0x80; all_marked = all_marked eight refl; few = omega arith; cut = refl };
-      has = record { front = eight; byte = 0x80; rest = []; all_marked = all_marked eight refl; most = refl; too_large = omega arith; cut = refl };
+      step = record { front = eight; last = 0x80; all_continuation = all_continuation eight refl; few = omega arith; cut = refl };
+      has = record { front = eight; byte = 0x80; rest = []; all_continuation = all_continuation eight refl; most = refl; too_large = omega arith; cut = refl };
     })
 
 -- in a size too: one byte of the code, and nine
@@ -298,8 +298,8 @@ shortest_of_size_overflow =
       shown = eight ++ 0xff ∷ [];
       rest = 0x01 ∷ [];
       cut = refl;
-      step = record { front = eight; last = 0xff; all_marked = all_marked eight refl; few = omega arith; cut = refl };
-      has = record { front = eight; byte = 0xff; rest = []; all_marked = all_marked eight refl; most = refl; too_large = omega arith; cut = refl };
+      step = record { front = eight; last = 0xff; all_continuation = all_continuation eight refl; few = omega arith; cut = refl };
+      has = record { front = eight; byte = 0xff; rest = []; all_continuation = all_continuation eight refl; most = refl; too_large = omega arith; cut = refl };
     })
 
 shortest_of_empty_digest : IsShortestSettling 4 (0x00 ∷ 0x00 ∷ 0x07 ∷ []) (0x00 ∷ 0x00 ∷ [])

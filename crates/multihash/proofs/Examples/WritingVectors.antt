@@ -3,9 +3,9 @@ use Rattle.std.proofs.Common.{◌≡◌, ◌≢◌, ◌≤◌, ℕ, Bool, true, 
 use Rattle.std.specs.Prelude.{⊤, Result, Ok, Err}
 use Rattle.std.proofs.lemmas.Bool.{false≢true}
 use Rattle.multihash.specs.Fault.{Fault}
-use Rattle.multihash.specs.Writing.{IsWriterFault, AppendsPart, IsWriterFaultOrFull, CountsWriter, WriteLaws, WriteAllLaws, IsFault, AppendsAtEnd, GivesUpFor}
+use Rattle.multihash.specs.Writing.{IsWriterFault, AppendsPrefix, IsWriterFaultOrFull, CountsWriterFailures, WriteLaws, WriteAllLaws, IsFault, AppendsAtEnd, AdvancesPast}
 use Rattle.multihash.proofs.Examples.RefusalVectors.{other, eof, full, memory}
-use Rattle.multihash.specs.Filling.{FillsPlaces, Fills, IsFilled}
+use Rattle.multihash.specs.Filling.{FillsSlice, Fills, IsFilled}
 use Rattle.multihash.specs.declared.no_std_io.slice_writer.SliceWriter.{SliceWriter}
 
 -- ---- how a writer failed
@@ -51,7 +51,7 @@ meets_no_end (inl h) = (no_own_kind false 3 3).0 h
 meets_no_end (inr h) = cc
 
 abbrev Writer : ℕ → ℕ → Type 0 → Result ℕ Fault → Type 0
-Writer before after is_full outcome = CountsWriter IsFault true before after is_full outcome
+Writer before after is_full outcome = CountsWriterFailures IsFault true before after is_full outcome
 
 writer : Writer 3 3 ⊥ (Ok 1) × Writer 3 3 ⊤ (Err full) × Writer 3 3 ⊥ (Err memory)
 writer = (refl, inr (refl, refl, tt), inl (record { kind = inr refl; cause = inr (refl, refl, refl) }))
@@ -76,26 +76,26 @@ hides_no_fault (inr h) = cc
 
 -- ---- what was appended
 
-appends_part : AppendsPart AppendsAtEnd (7 ∷ []) (1 ∷ 2 ∷ []) (7 ∷ 1 ∷ [])
+appends_part : AppendsPrefix AppendsAtEnd (7 ∷ []) (1 ∷ 2 ∷ []) (7 ∷ 1 ∷ [])
 appends_part =
     record {
       part = 1 ∷ [];
-      proper = (2 ∷ [], (λ e. omega (arith, ap (λ (z : List ℕ). length z) e)), refl);
-      stands = refl;
+      strict = (2 ∷ [], (λ e. omega (arith, ap (λ (z : List ℕ). length z) e)), refl);
+      appends = refl;
     }
 
 -- a part is never the whole
-appends_no_whole : ¬ (AppendsPart AppendsAtEnd [] (1 ∷ 2 ∷ []) (1 ∷ 2 ∷ []))
+appends_no_whole : ¬ (AppendsPrefix AppendsAtEnd [] (1 ∷ 2 ∷ []) (1 ∷ 2 ∷ []))
 appends_no_whole h =
-    none h.proper.0 h.proper.1 (h.proper.2 ∙ ap (λ (z : List ℕ). z ++ h.proper.0) (sym h.stands))
+    none h.strict.0 h.strict.1 (h.strict.2 ∙ ap (λ (z : List ℕ). z ++ h.strict.0) (sym h.appends))
   where
     none : (rest : List ℕ) → rest ≢ [] → ¬ (1 ∷ 2 ∷ [] ≡ (1 ∷ 2 ∷ []) ++ rest)
     none [] some e = some refl
     none (r ∷ rest) some e = omega (arith, ap (λ (z : List ℕ). length z) e)
 
-appends_no_other_part : ¬ (AppendsPart AppendsAtEnd [] (1 ∷ 2 ∷ []) (2 ∷ []))
+appends_no_other_part : ¬ (AppendsPrefix AppendsAtEnd [] (1 ∷ 2 ∷ []) (2 ∷ []))
 appends_no_other_part h =
-    omega (arith, ap (λ (z : List ℕ). get_or z 0 0) (h.proper.2 ∙ ap (λ (z : List ℕ). z ++ h.proper.0) (sym h.stands)))
+    omega (arith, ap (λ (z : List ℕ). get_or z 0 0) (h.strict.2 ∙ ap (λ (z : List ℕ). z ++ h.strict.0) (sym h.appends)))
 
 -- ---- the laws of `write`, each refuted where the others hold
 
@@ -103,8 +103,8 @@ appends_no_other_part h =
 abbrev State : Type 0
 State = List ℕ × ℕ
 
-abbrev stands : State → List ℕ → State → Type 0
-stands old bytes new = AppendsAtEnd old.0 bytes new.0
+abbrev appends : State → List ℕ → State → Type 0
+appends old bytes new = AppendsAtEnd old.0 bytes new.0
 
 abbrev has_no_place : State → Type 0
 has_no_place s = 3 ≤ length s.0
@@ -113,7 +113,7 @@ abbrev failed : State → ℕ
 failed s = s.1
 
 abbrev Writes : State → List ℕ → State → Result ℕ Fault → Type 0
-Writes old bytes new outcome = WriteLaws stands has_no_place failed false old bytes new outcome
+Writes old bytes new outcome = WriteLaws appends has_no_place failed false old bytes new outcome
 
 writes_one_of_two : Writes (7 ∷ [], 0) (1 ∷ 2 ∷ []) (7 ∷ 1 ∷ [], 0) (Ok 1)
 writes_one_of_two = record {
@@ -170,7 +170,7 @@ write_wants_no_memory h =
 -- ---- the laws of `write_all`
 
 abbrev WritesAll : State → List ℕ → State → Result ℕ Fault → Type 0
-WritesAll old bytes new outcome = WriteAllLaws stands has_no_place failed false old bytes new outcome
+WritesAll old bytes new outcome = WriteAllLaws appends has_no_place failed false old bytes new outcome
 
 writes_both : WritesAll (7 ∷ [], 0) (1 ∷ 2 ∷ []) (7 ∷ 1 ∷ 2 ∷ [], 0) (Ok 0)
 writes_both = record { ok = refl; empty = λ none. refl; err = tt; faults = refl }
@@ -181,8 +181,8 @@ writes_until_full = record {
   empty = λ none. absurd (omega (arith, none));
   err = record {
     part = 1 ∷ [];
-    proper = (2 ∷ [], (λ e. omega (arith, ap (λ (z : List ℕ). length z) e)), refl);
-    stands = refl;
+    strict = (2 ∷ [], (λ e. omega (arith, ap (λ (z : List ℕ). length z) e)), refl);
+    appends = refl;
   };
   faults = inr (refl, refl, omega arith);
 }
@@ -194,7 +194,7 @@ writes_nothing_always : ¬ (WritesAll ([], 0) [] ([], 1) (Err other))
 writes_nothing_always h = false≢true (h.empty refl)
 
 fails_before_the_end : ¬ (WritesAll ([], 0) (1 ∷ []) (1 ∷ [], 1) (Err other))
-fails_before_the_end h = none h.err.part h.err.proper.0 h.err.proper.1 (h.err.stands) h.err.proper.2
+fails_before_the_end h = none h.err.part h.err.strict.0 h.err.strict.1 (h.err.appends) h.err.strict.2
   where
     none : (part rest : List ℕ) → rest ≢ [] → 1 ∷ [] ≡ part → ¬ (1 ∷ [] ≡ part ++ rest)
     none part [] some is e = some refl
@@ -215,81 +215,81 @@ write_all_wants_no_memory h =
 full_with_no_place_alone : ¬ (WritesAll ([], 0) (1 ∷ 2 ∷ []) (1 ∷ [], 0) (Err full))
 full_with_no_place_alone h = omega (arith, (full_alone 0 0 (has_no_place (1 ∷ [], 0)) h.faults).1)
 
-fills_two : FillsPlaces (7 ∷ 8 ∷ 9 ∷ 9 ∷ []) 1 (1 ∷ 2 ∷ []) (7 ∷ 1 ∷ 2 ∷ 9 ∷ []) 3
+fills_two : FillsSlice (7 ∷ 8 ∷ 9 ∷ 9 ∷ []) 1 (1 ∷ 2 ∷ []) (7 ∷ 1 ∷ 2 ∷ 9 ∷ []) 3
 fills_two = record { room = omega arith; puts = refl; count = refl }
 
 -- all places may be filled
-fills_all : FillsPlaces (7 ∷ 8 ∷ []) 0 (1 ∷ 2 ∷ []) (1 ∷ 2 ∷ []) 2
+fills_all : FillsSlice (7 ∷ 8 ∷ []) 0 (1 ∷ 2 ∷ []) (1 ∷ 2 ∷ []) 2
 fills_all = record { room = omega arith; puts = refl; count = refl }
 
 -- there are no more places than the slice has
-fills_no_more : ¬ (FillsPlaces (7 ∷ []) 0 (1 ∷ 2 ∷ []) (1 ∷ 2 ∷ []) 2)
+fills_no_more : ¬ (FillsSlice (7 ∷ []) 0 (1 ∷ 2 ∷ []) (1 ∷ 2 ∷ []) 2)
 fills_no_more h = omega (arith, h.room)
 
 -- what was written before stays
-fills_no_front : ¬ (FillsPlaces (7 ∷ 8 ∷ []) 1 (1 ∷ []) (1 ∷ 8 ∷ []) 2)
+fills_no_front : ¬ (FillsSlice (7 ∷ 8 ∷ []) 1 (1 ∷ []) (1 ∷ 8 ∷ []) 2)
 fills_no_front h = omega (arith, ap (λ (z : List ℕ). get_or z 0 0) h.puts)
 
 -- the places hold the bytes
-fills_with_no_other : ¬ (FillsPlaces (7 ∷ 8 ∷ []) 1 (1 ∷ []) (7 ∷ 2 ∷ []) 2)
+fills_with_no_other : ¬ (FillsSlice (7 ∷ 8 ∷ []) 1 (1 ∷ []) (7 ∷ 2 ∷ []) 2)
 fills_with_no_other h = omega (arith, ap (λ (z : List ℕ). get_or z 1 0) h.puts)
 
 -- the places after them stay
-fills_no_further : ¬ (FillsPlaces (7 ∷ 8 ∷ 9 ∷ []) 0 (1 ∷ []) (1 ∷ 8 ∷ 0 ∷ []) 1)
+fills_no_further : ¬ (FillsSlice (7 ∷ 8 ∷ 9 ∷ []) 0 (1 ∷ []) (1 ∷ 8 ∷ 0 ∷ []) 1)
 fills_no_further h = omega (arith, ap (λ (z : List ℕ). get_or z 2 0) h.puts)
 
 -- the slice keeps its places
-fills_cuts_none : ¬ (FillsPlaces (7 ∷ 8 ∷ []) 0 (1 ∷ []) (1 ∷ []) 1)
+fills_cuts_none : ¬ (FillsSlice (7 ∷ 8 ∷ []) 0 (1 ∷ []) (1 ∷ []) 1)
 fills_cuts_none h = omega (arith, ap (λ (z : List ℕ). length z) h.puts)
 
 -- each byte is counted, once
-counts_no_fewer : ¬ (FillsPlaces (7 ∷ 8 ∷ 9 ∷ []) 1 (1 ∷ 2 ∷ []) (7 ∷ 1 ∷ 2 ∷ []) 2)
+counts_no_fewer : ¬ (FillsSlice (7 ∷ 8 ∷ 9 ∷ []) 1 (1 ∷ 2 ∷ []) (7 ∷ 1 ∷ 2 ∷ []) 2)
 counts_no_fewer h = omega (arith, h.count)
 
-counts_no_more : ¬ (FillsPlaces (7 ∷ 8 ∷ 9 ∷ []) 0 (1 ∷ []) (1 ∷ 8 ∷ 9 ∷ []) 2)
+counts_no_more : ¬ (FillsSlice (7 ∷ 8 ∷ 9 ∷ []) 0 (1 ∷ []) (1 ∷ 8 ∷ 9 ∷ []) 2)
 counts_no_more h = omega (arith, h.count)
 
 -- what became of the places is what makes a writer's state the next one
-fills_slice : (old new : SliceWriter) → new.places.ghost_name ≡ old.places.ghost_name → old.places.now ≡ 7 ∷ 8 ∷ []
-    → old.filled ≡ 1 → new.places.now ≡ 7 ∷ 1 ∷ [] → new.filled ≡ 2 → Fills old (1 ∷ []) new
+fills_slice : (old new : SliceWriter) → new.buffer.ghost_name ≡ old.buffer.ghost_name → old.buffer.now ≡ 7 ∷ 8 ∷ []
+    → old.filled ≡ 1 → new.buffer.now ≡ 7 ∷ 1 ∷ [] → new.filled ≡ 2 → Fills old (1 ∷ []) new
 fills_slice old new same before from after to = record {
   same_slice = same;
   fills = rw (before, from, after, to) (record { room = omega arith; puts = refl; count = refl });
 }
 
-fills_slice_with_no_other : (old new : SliceWriter) → new.places.ghost_name ≡ old.places.ghost_name → old.places.now ≡ 7 ∷ 8 ∷ []
-    → old.filled ≡ 1 → new.places.now ≡ 7 ∷ 6 ∷ [] → new.filled ≡ 2 → ¬ (Fills old (5 ∷ []) new)
+fills_slice_with_no_other : (old new : SliceWriter) → new.buffer.ghost_name ≡ old.buffer.ghost_name → old.buffer.now ≡ 7 ∷ 8 ∷ []
+    → old.filled ≡ 1 → new.buffer.now ≡ 7 ∷ 6 ∷ [] → new.filled ≡ 2 → ¬ (Fills old (5 ∷ []) new)
 fills_slice_with_no_other old new same before from after to h =
-    let filled : FillsPlaces (7 ∷ 8 ∷ []) 1 (5 ∷ []) (7 ∷ 6 ∷ []) 2 = rw (sym before, sym from, sym after, sym to) h.fills in
+    let filled : FillsSlice (7 ∷ 8 ∷ []) 1 (5 ∷ []) (7 ∷ 6 ∷ []) 2 = rw (sym before, sym from, sym after, sym to) h.fills in
     omega (arith, ap (λ (z : List ℕ). get_or z 1 0) filled.puts)
 
-fills_slice_uncounted : (old new : SliceWriter) → new.places.ghost_name ≡ old.places.ghost_name → old.filled ≡ 1 → new.filled ≡ 1
+fills_slice_uncounted : (old new : SliceWriter) → new.buffer.ghost_name ≡ old.buffer.ghost_name → old.filled ≡ 1 → new.filled ≡ 1
     → ¬ (Fills old (1 ∷ []) new)
 fills_slice_uncounted old new same from to h = omega (arith, from, to, h.fills.count)
 
 -- another slice is not the one that was filled
-fills_no_other_slice : (old new : SliceWriter) (bytes : List ℕ) → ¬ (new.places.ghost_name ≡ old.places.ghost_name) → ¬ (Fills old bytes new)
+fills_no_other_slice : (old new : SliceWriter) (bytes : List ℕ) → ¬ (new.buffer.ghost_name ≡ old.buffer.ghost_name) → ¬ (Fills old bytes new)
 fills_no_other_slice old new bytes other h = other h.same_slice
 
 -- a writer with a place left is not full, and one with none is
-is_not_filled : (w : SliceWriter) → length w.places.now ≡ 2 → w.filled ≡ 1 → ¬ (IsFilled w)
+is_not_filled : (w : SliceWriter) → length w.buffer.now ≡ 2 → w.filled ≡ 1 → ¬ (IsFilled w)
 is_not_filled w long filled h = omega (arith, long, filled, h)
 
-is_filled : (w : SliceWriter) → length w.places.now ≡ 2 → w.filled ≡ 2 → IsFilled w
+is_filled : (w : SliceWriter) → length w.buffer.now ≡ 2 → w.filled ≡ 2 → IsFilled w
 is_filled w long filled = omega (arith, long, filled)
 
 -- all places may be given up
-gives_up : GivesUpFor (7 ∷ 8 ∷ 9 ∷ []) (1 ∷ 2 ∷ []) (9 ∷ []) × GivesUpFor (7 ∷ 8 ∷ []) (1 ∷ 2 ∷ []) []
+gives_up : AdvancesPast (7 ∷ 8 ∷ 9 ∷ []) (1 ∷ 2 ∷ []) (9 ∷ []) × AdvancesPast (7 ∷ 8 ∷ []) (1 ∷ 2 ∷ []) []
 gives_up = (record { room = omega arith; left = refl }, record { room = omega arith; left = refl })
 
-gives_up_no_more : (new : List ℕ) → ¬ (GivesUpFor (7 ∷ []) (1 ∷ 2 ∷ []) new)
+gives_up_no_more : (new : List ℕ) → ¬ (AdvancesPast (7 ∷ []) (1 ∷ 2 ∷ []) new)
 gives_up_no_more new h = omega (arith, h.room)
 
-gives_up_the_first : ¬ (GivesUpFor (7 ∷ 8 ∷ []) (1 ∷ []) (7 ∷ []))
+gives_up_the_first : ¬ (AdvancesPast (7 ∷ 8 ∷ []) (1 ∷ []) (7 ∷ []))
 gives_up_the_first h = omega (arith, ap (λ (z : List ℕ). get_or z 0 0) h.left)
 
 -- as many as were requested
-gives_up_as_many : ¬ (GivesUpFor (7 ∷ 8 ∷ 9 ∷ []) (1 ∷ 2 ∷ []) (8 ∷ 9 ∷ [])) × ¬ (GivesUpFor (7 ∷ 8 ∷ 9 ∷ []) (1 ∷ []) [])
+gives_up_as_many : ¬ (AdvancesPast (7 ∷ 8 ∷ 9 ∷ []) (1 ∷ 2 ∷ []) (8 ∷ 9 ∷ [])) × ¬ (AdvancesPast (7 ∷ 8 ∷ 9 ∷ []) (1 ∷ []) [])
 gives_up_as_many = ((λ h. omega (arith, ap (λ (z : List ℕ). length z) h.left)), λ h. omega (arith, ap (λ (z : List ℕ). length z) h.left))
 
 appends_two : AppendsAtEnd (7 ∷ []) (1 ∷ 2 ∷ []) (7 ∷ 1 ∷ 2 ∷ [])

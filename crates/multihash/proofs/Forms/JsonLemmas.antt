@@ -8,7 +8,7 @@ use Rattle.multihash.specs.Encoding.{IsEncoding}
 use Rattle.multihash.specs.Json.{number_array, IsByteArray, IsJsonList}
 use Rattle.multihash.proofs.Writings.EncodingLemmas.{encoding_unique, encoding_bytes}
 use Rattle.serde_json.specs.Read.{max_depth, read}
-use Rattle.multihash.specs.Answer.{Fields, pair_of}
+use Rattle.multihash.specs.Outcome.{Fields, pair_of}
 use Rattle.std.specs.List.{list_all}
 use Rattle.std.proofs.lemmas.Bool.{false≢true, and_parts, cases_lt, lt-ltb, le-ltb}
 use Rattle.std.proofs.lemmas.List.Sums.{AllPass-from_list_all}

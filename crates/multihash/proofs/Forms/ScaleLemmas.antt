@@ -5,20 +5,20 @@ use Rattle.std.proofs.Math.Nat.{pow-suc, pow-zero, div-add-mod, div-div-eq-div-m
 use Rattle.std.proofs.lemmas.Nat.{mod_below, div_below, le_bytes_8}
 use Rattle.std.proofs.lemmas.List.Elements.{All-nil, All-cons, All-head, All-same}
 use Rattle.multihash.specs.Bytes.{IsBytes, place_value}
-use Rattle.multihash.specs.Scale.{IsScaleCode, IsScale, HasScaleSize, HasScaleVerdict, IsScaleRefusal, TakesAtScaleRefusal}
+use Rattle.multihash.specs.Scale.{IsScaleCode, IsScale, HasScaleSize, HasScaleVerdict, ScaleMayFailWith, ConsumesAtScaleError}
 use Rattle.multihash.proofs.Varints.DigitLemmas.{place_value-nil, place_value-cons, place_value_unique, All-append_left, All-append_right}
 use Rattle.std.proofs.lemmas.Bool.{cases_lt, lt-ltb, le-ltb}
 use Rattle.std.proofs.lemmas.List.{take_at, drop_at, take-append-drop, length-take-le, append_cancel_left}
 use Rattle.multihash.specs.Pair.{Pair}
 use Rattle.multihash.specs.Varint.{varint_limit}
-use Rattle.multihash.specs.Verdict.{Verdict, accepted, invalid_size, invalid_code, faulty, unexpected_eof, IsEarlyEnd}
+use Rattle.multihash.specs.Verdict.{Verdict, accepted, invalid_size, invalid_code, malformed, unexpected_eof, IsIncomplete}
 use Rattle.multihash.specs.Fault.{Fault, IsUnexpectedEof, IsOwnFault}
-use Rattle.multihash.specs.Reading.{Takes, HasFewerThan, CountsReader}
+use Rattle.multihash.specs.Reading.{Consumes, HasFewerThan, CountsReaderFailures}
 use Rattle.std.specs.Io.KnownBytes.{prepend_known}
-use Rattle.multihash.specs.Refusal.{Refusal, of_io, IsReaderFault, IsInvalidSize, IsInvalidCode}
-use Rattle.multihash.specs.Answer.{Fields, pair_of, IsRefusal, Answers}
-use Rattle.multihash.proofs.Readings.ReadingLemmas.{IfSome-taken, Takes-joined}
-use Rattle.multihash.proofs.Readings.ReadTakingLemmas.{refusal_unique, own_no_refusal}
+use Rattle.multihash.specs.Refusal.{Refusal, of_io, IsReaderError, IsInvalidSize, IsInvalidCode}
+use Rattle.multihash.specs.Outcome.{Fields, pair_of, IsErrorOf, IsResultOf}
+use Rattle.multihash.proofs.Readings.ReadingLemmas.{IfSome-consumed, Consumes-concatenated}
+use Rattle.multihash.proofs.Readings.ReadConsumingLemmas.{refusal_unique, own_no_refusal}
 
 byte_at-is : (i n : ℕ) → byte_at i n ≡ n / 256 ^ i % 256
 byte_at-is zero n = ap (λ (m : ℕ). m % 256) (sym (ap (λ (p : ℕ). n / p) (pow-zero 256) ∙ div-one n))
@@ -80,27 +80,27 @@ scale_length p bytes h = omega (arith, ap length h.spelled, length-append h.code
 -- ---- the verdict, computed
 
 -- the verdict on what follows a code in range
-abbrev scale_behind : ℕ → ℕ → List ℕ → Verdict
-scale_behind S code [] = unexpected_eof
-scale_behind S code (size ∷ rest) =
+abbrev scale_after : ℕ → ℕ → List ℕ → Verdict
+scale_after S code [] = unexpected_eof
+scale_after S code (size ∷ rest) =
     cond (ltb S size) (invalid_size size)
     (cond (ltb (length rest) size) unexpected_eof (accepted (record { code = code; digest = take size rest })))
 
 abbrev scale_judged : ℕ → ℕ → List ℕ → Verdict
-scale_judged S code rest = cond (ltb code varint_limit) (scale_behind S code rest) (invalid_code code)
+scale_judged S code rest = cond (ltb code varint_limit) (scale_after S code rest) (invalid_code code)
 
 -- k is 8, and a variable, so that `take` stays as it is
 abbrev found_at : ℕ → ℕ → List ℕ → Verdict
 found_at k S x = cond (ltb (length x) k) unexpected_eof (scale_judged S (place_value 256 (take k x)) (drop k x))
 
-found_behind : (k S code : ℕ) (x bytes rest : List ℕ) → k ≡ 8 → IsScaleCode code bytes → x ≡ bytes ++ rest → found_at k S x ≡ scale_judged S code rest
-found_behind k S code x bytes rest eight is cut =
+found_after : (k S code : ℕ) (x bytes rest : List ℕ) → k ≡ 8 → IsScaleCode code bytes → x ≡ bytes ++ rest → found_at k S x ≡ scale_judged S code rest
+found_after k S code x bytes rest eight is cut =
     let long : length bytes ≡ k = is.eight ∙ sym eight in
     rw (cut, le-ltb (length (bytes ++ rest)) k (omega (arith, length-append bytes rest, long)), take_at bytes rest k long, drop_at bytes rest k long, is.value) refl
 
 found_is : (k S : ℕ) (x : List ℕ) (v : Verdict) → k ≡ 8 → HasScaleVerdict S x v → found_at k S x ≡ v
 found_is k S x (accepted p) eight (bytes, rest, h, fits, cut) =
-    found_behind k S p.code x h.code (length p.digest ∷ (p.digest ++ rest)) eight h.is_code
+    found_after k S p.code x h.code (length p.digest ∷ (p.digest ++ rest)) eight h.is_code
     (cut ∙ (ap (λ (z : List ℕ). z ++ rest) h.spelled ∙ append_assoc h.code (length p.digest ∷ p.digest) rest))
     ∙ rw (
       lt-ltb p.code varint_limit h.in_range,
@@ -109,15 +109,15 @@ found_is k S x (accepted p) eight (bytes, rest, h, fits, cut) =
       take_at p.digest rest (length p.digest) refl,
     ) refl
 found_is k S x (invalid_code code) eight (bytes, rest, is_code, above, cut) =
-    found_behind k S code x bytes rest eight is_code cut ∙ rw (le-ltb code varint_limit above) refl
+    found_after k S code x bytes rest eight is_code cut ∙ rw (le-ltb code varint_limit above) refl
 found_is k S x (invalid_size size) eight (rest, h, over) =
-    found_behind k S h.code x h.code_bytes (size ∷ rest) eight h.is_code h.cut ∙ rw (lt-ltb h.code varint_limit h.in_range, lt-ltb S size over) refl
-found_is k S x (faulty fault) eight h = absurd h
+    found_after k S h.code x h.code_bytes (size ∷ rest) eight h.is_code h.cut ∙ rw (lt-ltb h.code varint_limit h.in_range, lt-ltb S size over) refl
+found_is k S x (malformed fault) eight h = absurd h
 found_is k S x unexpected_eof eight (inl short) = rw (lt-ltb (length x) k (omega (arith, short, eight))) refl
 found_is k S x unexpected_eof eight (inr (inl (code, is_code, below))) =
-    found_behind k S code x x [] eight is_code (sym (append-nil x)) ∙ rw (lt-ltb code varint_limit below) refl
+    found_after k S code x x [] eight is_code (sym (append-nil x)) ∙ rw (lt-ltb code varint_limit below) refl
 found_is k S x unexpected_eof eight (inr (inr (size, rest, h, within, short))) =
-    found_behind k S h.code x h.code_bytes (size ∷ rest) eight h.is_code h.cut
+    found_after k S h.code x h.code_bytes (size ∷ rest) eight h.is_code h.cut
     ∙ rw (lt-ltb h.code varint_limit h.in_range, le-ltb S size within, lt-ltb (length rest) size short) refl
 
 abbrev pub scale_found : ℕ → List ℕ → Verdict
@@ -197,28 +197,28 @@ one_item (x ∷ y ∷ xs) one = absurd (omega arith)
 
 abbrev pub ScaleMeets : (S : ℕ) → Option (List ℕ) → Option (List ℕ) → ℕ → ℕ → Result (Fields S) Refusal → Type 0
 ScaleMeets S old new before after r = record {
-  faults : CountsReader IsReaderFault (IsScaleRefusal S) before after r;
-  verdict : IfSome old (λ rest. after ≡ before → (v : Verdict) × HasScaleVerdict S rest v × Answers r v);
-  ok : IfOk r (λ m. (bytes : List ℕ) × IsScale (pair_of m) bytes × Takes old bytes new);
-  err : IfErr r (λ e. TakesAtScaleRefusal S e old new);
+  faults : CountsReaderFailures IsReaderError (ScaleMayFailWith S) before after r;
+  verdict : IfSome old (λ rest. after ≡ before → (v : Verdict) × HasScaleVerdict S rest v × IsResultOf r v);
+  ok : IfOk r (λ m. (bytes : List ℕ) × IsScale (pair_of m) bytes × Consumes old bytes new);
+  err : IfErr r (λ e. ConsumesAtScaleError S e old new);
 }
 
 module _ (S : ℕ) (old new : Option (List ℕ)) (before after : ℕ) where
   -- where what was consumed settles that the code or the size is rejected
-  refused : (e : Refusal) (taken : List ℕ) (v : Verdict) → Takes old taken new → after ≡ before
-      → ((left : List ℕ) → HasScaleVerdict S (taken ++ left) v) → ¬ (IsEarlyEnd v) → IsRefusal e v → IsScaleRefusal S e
-      → ((code : ℕ) → v ≡ invalid_code code → length taken ≡ 8)
-      → ((size : ℕ) → v ≡ invalid_size size → length taken ≡ 9) → ScaleMeets S old new before after (Err e)
-  refused e taken v takes same has late given listed eight nine =
-      let own = subst (λ x. HasScaleVerdict S x v) (append-nil taken) (has []) in record {
+  refused : (e : Refusal) (consumed : List ℕ) (v : Verdict) → Consumes old consumed new → after ≡ before
+      → ((left : List ℕ) → HasScaleVerdict S (consumed ++ left) v) → ¬ (IsIncomplete v) → IsErrorOf e v → ScaleMayFailWith S e
+      → ((code : ℕ) → v ≡ invalid_code code → length consumed ≡ 8)
+      → ((size : ℕ) → v ≡ invalid_size size → length consumed ≡ 9) → ScaleMeets S old new before after (Err e)
+  refused e consumed v consumes same has late given listed eight nine =
+      let own = subst (λ x. HasScaleVerdict S x v) (append-nil consumed) (has []) in record {
         faults = inr (same, listed);
-        verdict = IfSome-taken old new taken _ takes (λ left _ _. (v, has left, given));
+        verdict = IfSome-consumed old new consumed _ consumes (λ left _ _. (v, has left, given));
         ok = tt;
         err = record {
-          taken = taken;
-          takes = takes;
-          code = λ k named. let is = refusal_unique e v (invalid_code k) given named in (subst (HasScaleVerdict S taken) is own, eight k is);
-          size = λ k named. let is = refusal_unique e v (invalid_size k) given named in (subst (HasScaleVerdict S taken) is own, nine k is);
+          consumed = consumed;
+          consumes = consumes;
+          code = λ k named. let is = refusal_unique e v (invalid_code k) given named in (subst (HasScaleVerdict S consumed) is own, eight k is);
+          size = λ k named. let is = refusal_unique e v (invalid_size k) given named in (subst (HasScaleVerdict S consumed) is own, nine k is);
           early = λ io. absurd (elim io [
             | inl eof ↦ late (rw (refusal_unique e v unexpected_eof given eof) tt)
             | inr fault ↦ own_no_refusal e v fault given
@@ -227,44 +227,44 @@ module _ (S : ℕ) (old new : Option (List ℕ)) (before after : ℕ) where
       }
 
   module _ (code : ℕ) (a : List ℕ) (is : IsScaleCode code a) where
-    pub code_refused : (e : Refusal) → varint_limit ≤ code → after ≡ before → IsInvalidCode code e → Takes old a new
+    pub code_rejected : (e : Refusal) → varint_limit ≤ code → after ≡ before → IsInvalidCode code e → Consumes old a new
         → ScaleMeets S old new before after (Err e)
-    code_refused e above same given takes =
-        refused e a (invalid_code code) takes same (λ left. (a, left, is, above, refl)) (λ h. h) given (inl (code, given, above))
+    code_rejected e above same given consumes =
+        refused e a (invalid_code code) consumes same (λ left. (a, left, is, above, refl)) (λ h. h) given (inl (code, given, above))
         (λ k named. is.eight) (λ k named. cc)
 
     module _ (size : ℕ) (below : code < varint_limit) where
       has_size : (rest : List ℕ) → HasScaleSize size ((a ++ size ∷ []) ++ rest) rest
       has_size rest = record { code = code; code_bytes = a; is_code = is; in_range = below; cut = append_assoc a (size ∷ []) rest }
 
-      pub size_refused : (e : Refusal) → S < size → after ≡ before → IsInvalidSize size e → Takes old (a ++ size ∷ []) new
+      pub size_rejected : (e : Refusal) → S < size → after ≡ before → IsInvalidSize size e → Consumes old (a ++ size ∷ []) new
           → ScaleMeets S old new before after (Err e)
-      size_refused e over same given takes =
-          refused e (a ++ size ∷ []) (invalid_size size) takes same (λ left. (left, has_size left, over)) (λ h. h) given
+      size_rejected e over same given consumes =
+          refused e (a ++ size ∷ []) (invalid_size size) consumes same (λ left. (left, has_size left, over)) (λ h. h) given
           (inr (inl (size, given, over))) (λ k named. cc) (λ k named. omega (arith, is.eight, length-append a (size ∷ [])))
 
       -- the whole form
       pub answered : (digest : List ℕ) (m : Fields S) → size ≤ S → size < 256 → length digest ≡ size → after ≡ before
-          → pair_of m ≡ record { code = code; digest = digest } → Takes old (a ++ size ∷ digest) new → ScaleMeets S old new before after (Ok m)
-      answered digest m fits byte long same made takes =
+          → pair_of m ≡ record { code = code; digest = digest } → Consumes old (a ++ size ∷ digest) new → ScaleMeets S old new before after (Ok m)
+      answered digest m fits byte long same made consumes =
           let p : Pair = record { code = code; digest = digest } in
           let form : IsScale p (a ++ size ∷ digest) = scale_of p size a digest is below (sym long) byte refl in record {
             faults = same;
-            verdict = IfSome-taken old new (a ++ size ∷ digest) _ takes (λ left _ _.
+            verdict = IfSome-consumed old new (a ++ size ∷ digest) _ consumes (λ left _ _.
                 (accepted p, (_, left, form, omega (arith, long, fits), refl), ap accepted (sym made)));
-            ok = (a ++ size ∷ digest, subst (λ q. IsScale q (a ++ size ∷ digest)) (sym made) form, takes);
+            ok = (a ++ size ∷ digest, subst (λ q. IsScale q (a ++ size ∷ digest)) (sym made) form, consumes);
             err = tt;
           }
 
   -- where the reader ended or failed inside that many bytes, after others
-  pub inside_refused : (a : List ℕ) (n : ℕ) → ((t : List ℕ) → length t < n → HasScaleVerdict S (a ++ t) unexpected_eof)
-      → (fault : Fault) (front : List ℕ) (mid : Option (List ℕ)) → length front < n → Takes old a mid → Takes mid front new
+  pub inside_rejected : (a : List ℕ) (n : ℕ) → ((t : List ℕ) → length t < n → HasScaleVerdict S (a ++ t) unexpected_eof)
+      → (fault : Fault) (front : List ℕ) (mid : Option (List ℕ)) → length front < n → Consumes old a mid → Consumes mid front new
       → (IsUnexpectedEof fault → HasFewerThan n mid) → ((after ≡ before + 1) × IsOwnFault fault) ⊎ ((after ≡ before) × IsUnexpectedEof fault)
       → ScaleMeets S old new before after (Err (of_io fault))
-  inside_refused a n inside fault front mid short first took few how =
-      let takes = Takes-joined old mid new a front _ refl first took in record {
+  inside_rejected a n inside fault front mid short first took few how =
+      let consumes = Consumes-concatenated old mid new a front _ refl first took in record {
         faults = elim how [ inl (rose, own) ↦ inl (rose, (fault, refl, own)) | inr (same, eof) ↦ inr (same, inr (inr (fault, refl, eof))) ];
-        verdict = IfSome-taken old new (a ++ front) _ takes (λ left told same.
+        verdict = IfSome-consumed old new (a ++ front) _ consumes (λ left told same.
             elim how [
               | inl (rose, own) ↦ absurd (omega (arith, rose, same))
               | inr (_, eof) ↦
@@ -273,8 +273,8 @@ module _ (S : ℕ) (old new : Option (List ℕ)) (before after : ℕ) where
             ]);
         ok = tt;
         err = record {
-          taken = a ++ front;
-          takes = takes;
+          consumed = a ++ front;
+          consumes = consumes;
           code = λ k named. absurd (cc named);
           size = λ k named. absurd (cc named);
           early = λ _. inside front short;

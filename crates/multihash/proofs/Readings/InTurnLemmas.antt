@@ -1,17 +1,17 @@
 -- Two readings, one after the other: who failed, and what both consumed.
 use Rattle.std.proofs.Common.{◌≡◌, ◌+◌, ℕ, ◌⊎◌, List, ◌++◌, Option, inl, inr, refl}
-use Rattle.multihash.specs.Reading.{Takes}
-use Rattle.multihash.specs.InTurn.{Consumes, InTurn}
-use Rattle.multihash.proofs.Readings.ReadingLemmas.{Takes-joined}
+use Rattle.multihash.specs.Reading.{Consumes}
+use Rattle.multihash.specs.InTurn.{ConsumesSome, InTurn}
+use Rattle.multihash.proofs.Readings.ReadingLemmas.{Consumes-concatenated}
 
--- an error that `CountsReader` counts is one of those listed or the reader's own
+-- an error that `CountsReaderFailures` counts is one of those listed or the reader's own
 pub listed_or_own : {Own Listed : Type 0} {before after : ℕ} → ((after ≡ before + 1) × Own) ⊎ ((after ≡ before) × Listed) → Listed ⊎ Own
 listed_or_own (inl own) = inr own.1
 listed_or_own (inr listed) = inl listed.1
 
 -- both succeeded: what they consumed, joined, was consumed
 pub in_turn_consumed : {A : Type 0} {P Q : A → List ℕ → Type 0} (old new : Option (List ℕ))
-    → InTurn (λ a. Consumes (P a)) (λ a. Consumes (Q a)) old new
-    → (a : A) × (x y : List ℕ) × P a x × Q a y × Takes old (x ++ y) new
+    → InTurn (λ a. ConsumesSome (P a)) (λ a. ConsumesSome (Q a)) old new
+    → (a : A) × (x y : List ℕ) × P a x × Q a y × Consumes old (x ++ y) new
 in_turn_consumed old new (a, between, (x, is_x, first), (y, is_y, second)) =
-    (a, x, y, is_x, is_y, Takes-joined old between new x y (x ++ y) refl first second)
+    (a, x, y, is_x, is_y, Consumes-concatenated old between new x y (x ++ y) refl first second)

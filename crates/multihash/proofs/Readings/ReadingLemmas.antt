@@ -4,15 +4,15 @@ use Rattle.std.proofs.lemmas.List.{take-append-le}
 use Rattle.std.proofs.Math.Seq.{take-append-add}
 use borrow.Rule.Slice.PartMut.{put_mid, post_of}
 use Rattle.std.specs.Io.KnownBytes.{prepend_known}
-use Rattle.multihash.specs.Reading.{Takes}
+use Rattle.multihash.specs.Reading.{Consumes}
 
 pub prepend_known-append : (xs ys : List ℕ) (rest : Option (List ℕ)) → prepend_known xs (prepend_known ys rest) ≡ prepend_known (xs ++ ys) rest
 prepend_known-append xs ys None = refl
 prepend_known-append xs ys (Some rest) = ap Some (sym (append_assoc xs ys rest))
 
-pub Takes-joined : (a b c : Option (List ℕ)) (xs ys whole : List ℕ) → whole ≡ xs ++ ys → Takes a xs b → Takes b ys c → Takes a whole c
-Takes-joined a b c xs ys whole joined first second =
-    first ∙ ap (prepend_known xs) second ∙ prepend_known-append xs ys c ∙ ap (λ l. prepend_known l c) (sym joined)
+pub Consumes-concatenated : (a b c : Option (List ℕ)) (xs ys whole : List ℕ) → whole ≡ xs ++ ys → Consumes a xs b → Consumes b ys c → Consumes a whole c
+Consumes-concatenated a b c xs ys whole concatenated first second =
+    first ∙ ap (prepend_known xs) second ∙ prepend_known-append xs ys c ∙ ap (λ l. prepend_known l c) (sym concatenated)
 
 -- a buffer whose bytes from `at` on were borrowed starts with what it started with, and then with
 -- what was put at the front of those bytes
@@ -24,21 +24,21 @@ take-put_mid_more at k n xs ys within fits =
     ∙ ap (λ l. take at xs ++ l) (take-append-le n ys after fits)
 
 -- if the input is known, what was consumed and what is left were its rest
-pub Takes-cut : (whole taken left : List ℕ) → Takes (Some whole) taken (Some left) → whole ≡ taken ++ left
-Takes-cut whole taken left takes = cc
+pub Consumes-cut : (whole consumed left : List ℕ) → Consumes (Some whole) consumed (Some left) → whole ≡ consumed ++ left
+Consumes-cut whole consumed left consumes = cc
 
 -- and the input stays known
-pub Takes-told : (whole taken : List ℕ) (new : Option (List ℕ)) → Takes (Some whole) taken new
-    → (left : List ℕ) × (new ≡ Some left) × (whole ≡ taken ++ left)
-Takes-told whole taken None takes = cc
-Takes-told whole taken (Some left) takes = (left, refl, Takes-cut whole taken left takes)
+pub Consumes-told : (whole consumed : List ℕ) (new : Option (List ℕ)) → Consumes (Some whole) consumed new
+    → (left : List ℕ) × (new ≡ Some left) × (whole ≡ consumed ++ left)
+Consumes-told whole consumed None consumes = cc
+Consumes-told whole consumed (Some left) consumes = (left, refl, Consumes-cut whole consumed left consumes)
 
 -- what holds of `taken` and whatever follows holds of the rest at entry, if it is known
-pub IfSome-taken : (old new : Option (List ℕ)) (taken : List ℕ) (P : List ℕ → Type 0) → Takes old taken new → ((left : List ℕ) → new ≡ Some left → P (taken ++ left)) → IfSome old P
-IfSome-taken None new taken P takes h = tt
-IfSome-taken (Some xs) new taken P takes h = let (left, is, cut) = Takes-told xs taken new takes in subst P (sym cut) (h left is)
+pub IfSome-consumed : (old new : Option (List ℕ)) (consumed : List ℕ) (P : List ℕ → Type 0) → Consumes old consumed new → ((left : List ℕ) → new ≡ Some left → P (consumed ++ left)) → IfSome old P
+IfSome-consumed None new consumed P consumes h = tt
+IfSome-consumed (Some xs) new consumed P consumes h = let (left, is, cut) = Consumes-told xs consumed new consumes in subst P (sym cut) (h left is)
 
 -- nothing was consumed
-pub Takes-none : (a : Option (List ℕ)) → Takes a [] a
-Takes-none None = refl
-Takes-none (Some rest) = refl
+pub Consumes-none : (a : Option (List ℕ)) → Consumes a [] a
+Consumes-none None = refl
+Consumes-none (Some rest) = refl

@@ -1,39 +1,39 @@
 -- An input settles its verdict exactly if that is not incomplete; the shortest prefix that does.
 use Rattle.std.proofs.Common.{◌≡◌, ℕ, ◌⊎◌, List, [], ◌∷◌, ◌++◌, refl, inl, inr, ◌-◌, ◌<◌, ◌↔◌, length, replicate, sym, ap, ◌∙◌, subst, arith, length-append, append_assoc, append-nil, ◌+◌, ◌≤◌, get_or}
-use Rattle.multihash.specs.Bytes.{IsProperBeginning, IsBytes, IsBeginning, ExactlyOne}
+use Rattle.multihash.specs.Bytes.{IsStrictPrefix, IsBytes, IsPrefix, ExactlyOne}
 use Rattle.std.proofs.lemmas.List.{length-replicate, get_or_append_left, length-map}
 use Rattle.std.proofs.lemmas.List.Elements.{All-nil, All-cons, All-replicate}
-use Rattle.multihash.specs.Varint.{IsMarked, VarintFault, insufficient, overflow, not_minimal, IsInsufficient, IsNotMinimal, HasFaultyFront, max_marked, marked, IsVarint}
-use Rattle.multihash.specs.Verdict.{Verdict, accepted, invalid_size, invalid_code, faulty, unexpected_eof, BeginsWithSize, BeginsWithCode, HasVerdict, IsEarlyEnd, BeginsWith}
+use Rattle.multihash.specs.Varint.{IsContinuation, VarintError, insufficient, overflow, not_minimal, IsInsufficient, IsNotMinimal, BeginsMalformed, max_continuation, continuation_bytes, IsVarint}
+use Rattle.multihash.specs.Verdict.{Verdict, accepted, invalid_size, invalid_code, malformed, unexpected_eof, BeginsWithSize, BeginsWithCode, HasVerdict, IsIncomplete, BeginsWith}
 use Rattle.multihash.specs.Settling.{Settles, IsShortestSettling}
 use Rattle.multihash.proofs.Readings.VerdictLemmas.{coded, sized, pair_begins, verdict_unique}
 use Rattle.std.specs.List.{All}
 use Rattle.multihash.specs.Pair.{Pair, FitsBuffer, digest_limit}
 use Rattle.multihash.specs.Encoding.{IsEncoding}
-use Rattle.multihash.proofs.Varints.DigitLemmas.{All-marked}
+use Rattle.multihash.proofs.Varints.DigitLemmas.{All-continuation_bytes}
 use Rattle.multihash.proofs.Varints.VarintLemmas.{varint_length}
 use Rattle.multihash.proofs.Writings.WritingLemmas.{length_of_not_nil}
 
-pub split_beginning : (f g p : List ℕ) → IsProperBeginning p (f ++ g)
-    → IsProperBeginning p f ⊎ ((q : List ℕ) × (p ≡ f ++ q) × IsProperBeginning q g)
-split_beginning [] g p h = inr (p, refl, h)
-split_beginning (c ∷ f) g [] h = inl (c ∷ f, (λ e. cc), refl)
-split_beginning (c ∷ f) g (d ∷ p) (rest, some, e) =
+pub split_prefix : (f g p : List ℕ) → IsStrictPrefix p (f ++ g)
+    → IsStrictPrefix p f ⊎ ((q : List ℕ) × (p ≡ f ++ q) × IsStrictPrefix q g)
+split_prefix [] g p h = inr (p, refl, h)
+split_prefix (c ∷ f) g [] h = inl (c ∷ f, (λ e. cc), refl)
+split_prefix (c ∷ f) g (d ∷ p) (rest, some, e) =
     let heads : c ≡ d = cc in
     let tails : f ++ g ≡ p ++ rest = cc in
-    elim (split_beginning f g p (rest, some, tails)) [
+    elim (split_prefix f g p (rest, some, tails)) [
       | inl (q, more, cut) ↦ inl (q, more, cc (heads, cut))
       | inr (q, cut, more) ↦ inr (q, cc (heads, cut), more)
     ]
 
-pub compare_beginnings : (a b r q : List ℕ) → a ++ r ≡ b ++ q → (a ≡ b) ⊎ IsProperBeginning a b ⊎ IsProperBeginning b a
-compare_beginnings [] [] r q e = inl refl
-compare_beginnings [] (c ∷ b) r q e = inr (inl (c ∷ b, (λ n. cc), refl))
-compare_beginnings (c ∷ a) [] r q e = inr (inr (c ∷ a, (λ n. cc), refl))
-compare_beginnings (c ∷ a) (d ∷ b) r q e =
+pub compare_prefixes : (a b r q : List ℕ) → a ++ r ≡ b ++ q → (a ≡ b) ⊎ IsStrictPrefix a b ⊎ IsStrictPrefix b a
+compare_prefixes [] [] r q e = inl refl
+compare_prefixes [] (c ∷ b) r q e = inr (inl (c ∷ b, (λ n. cc), refl))
+compare_prefixes (c ∷ a) [] r q e = inr (inr (c ∷ a, (λ n. cc), refl))
+compare_prefixes (c ∷ a) (d ∷ b) r q e =
     let heads : c ≡ d = cc in
     let tails : a ++ r ≡ b ++ q = cc in
-    elim (compare_beginnings a b r q tails) [
+    elim (compare_prefixes a b r q tails) [
       | inl same ↦ inl (cc (heads, same))
       | inr (inl (more, some, cut)) ↦ inr (inl (more, some, cc (heads, cut)))
       | inr (inr (more, some, cut)) ↦ inr (inr (more, some, cc (heads, cut)))
@@ -52,22 +52,22 @@ size_kept size x rest more h =
 code_kept : (x rest more : List ℕ) → BeginsWithCode x rest → BeginsWithCode (x ++ more) (rest ++ more)
 code_kept x rest more c = coded c.code c.code_bytes (x ++ more) (rest ++ more) c.is_code (append_more x c.code_bytes rest more c.cut)
 
-fault_kept : (f : VarintFault) (x more : List ℕ) → ¬ (IsEarlyEnd (faulty f)) → HasFaultyFront f x → HasFaultyFront f (x ++ more)
+fault_kept : (f : VarintError) (x more : List ℕ) → ¬ (IsIncomplete (malformed f)) → BeginsMalformed f x → BeginsMalformed f (x ++ more)
 fault_kept insufficient x more late h = absurd (late tt)
 fault_kept overflow x more late h =
     let cut = append_more x h.front (h.byte ∷ h.rest) more h.cut in
-    record { front = h.front; byte = h.byte; rest = _; all_marked = h.all_marked; most = h.most; too_large = h.too_large; cut = cut }
+    record { front = h.front; byte = h.byte; rest = _; all_continuation = h.all_continuation; most = h.most; too_large = h.too_large; cut = cut }
 fault_kept not_minimal x more late h =
     let cut = append_more x h.front (0 ∷ h.rest) more h.cut in
-    record { front = h.front; rest = _; all_marked = h.all_marked; some = h.some; few = h.few; cut = cut }
+    record { front = h.front; rest = _; all_continuation = h.all_continuation; some = h.some; few = h.few; cut = cut }
 
-pub verdict_kept : (S : ℕ) (x more : List ℕ) (v : Verdict) → ¬ (IsEarlyEnd v) → HasVerdict S x v → HasVerdict S (x ++ more) v
+pub verdict_kept : (S : ℕ) (x more : List ℕ) (v : Verdict) → ¬ (IsIncomplete v) → HasVerdict S x v → HasVerdict S (x ++ more) v
 verdict_kept S x more (accepted p) late (rest, b, fits) =
     (rest ++ more, record { encoding = b.encoding; encodes = b.encodes; cut = append_more x b.encoding rest more b.cut }, fits)
 verdict_kept S x more (invalid_size size) late (rest, h, over) = (rest ++ more, size_kept size x rest more h, over)
 verdict_kept S x more (invalid_code code) late h = h
-verdict_kept S x more (faulty f) late (inl h) = inl (fault_kept f x more late h)
-verdict_kept S x more (faulty f) late (inr (rest, c, h)) =
+verdict_kept S x more (malformed f) late (inl h) = inl (fault_kept f x more late h)
+verdict_kept S x more (malformed f) late (inr (rest, c, h)) =
     inr (rest ++ more, code_kept x rest more c, fault_kept f rest more late h)
 verdict_kept S x more unexpected_eof late h = absurd (late tt)
 
@@ -78,8 +78,8 @@ own_verdict S x s =
     subst (λ (z : List ℕ). HasVerdict S z s.verdict) (append-nil x) (s.always [] (All-nil (λ b. b < 256)))
 
 -- where an input settles, bytes after it leave the verdict as it is
-same_behind : (S : ℕ) (x more : List ℕ) (v w : Verdict) → Settles S x → HasVerdict S x v → IsBytes more → HasVerdict S (x ++ more) w → v ≡ w
-same_behind S x more v w s h bytes k =
+same_after : (S : ℕ) (x more : List ℕ) (v w : Verdict) → Settles S x → HasVerdict S x v → IsBytes more → HasVerdict S (x ++ more) w → v ≡ w
+same_after S x more v w s h bytes k =
     verdict_unique S x v s.verdict h (own_verdict S x s) ∙ verdict_unique S (x ++ more) s.verdict w (s.always more bytes) k
 
 -- a zero ends continuation bytes, and a continuation byte and a zero are as bad where there are none
@@ -87,50 +87,50 @@ open_varint : (x : List ℕ) → IsInsufficient x → (more : List ℕ) × IsByt
 open_varint [] h = (
   128 ∷ 0 ∷ [],
   All-cons (λ b. b < 256) 128 (0 ∷ []) (omega arith) (All-cons (λ b. b < 256) 0 [] (omega arith) (All-nil (λ b. b < 256))),
-  record { front = 128 ∷ []; rest = []; all_marked = All-cons IsMarked 128 [] (omega arith) (All-nil IsMarked); some = omega arith; few = omega arith; cut = refl },
+  record { front = 128 ∷ []; rest = []; all_continuation = All-cons IsContinuation 128 [] (omega arith) (All-nil IsContinuation); some = omega arith; few = omega arith; cut = refl },
 )
 open_varint (m ∷ ms) h = (
   0 ∷ [],
   All-cons (λ b. b < 256) 0 [] (omega arith) (All-nil (λ b. b < 256)),
-  record { front = m ∷ ms; rest = []; all_marked = h.all_marked; some = omega arith; few = h.few; cut = refl },
+  record { front = m ∷ ms; rest = []; all_continuation = h.all_continuation; some = omega arith; few = h.few; cut = refl },
 )
 
 -- some bytes after an incomplete input change its verdict
-pub early_not_settles : (S : ℕ) (x : List ℕ) (v : Verdict) → IsEarlyEnd v → HasVerdict S x v → ¬ (Settles S x)
+pub early_not_settles : (S : ℕ) (x : List ℕ) (v : Verdict) → IsIncomplete v → HasVerdict S x v → ¬ (Settles S x)
 early_not_settles S x (accepted p) early h s = early
 early_not_settles S x (invalid_size size) early h s = early
 early_not_settles S x (invalid_code code) early h s = early
-early_not_settles S x (faulty insufficient) early (inl h) s =
+early_not_settles S x (malformed insufficient) early (inl h) s =
     let (more, bytes, ends) = open_varint x h in
-    let same = same_behind S x more (faulty insufficient) (faulty not_minimal) s (inl h) bytes (inl ends) in cc
-early_not_settles S x (faulty insufficient) early (inr (rest, c, h)) s =
+    let same = same_after S x more (malformed insufficient) (malformed not_minimal) s (inl h) bytes (inl ends) in cc
+early_not_settles S x (malformed insufficient) early (inr (rest, c, h)) s =
     let (more, bytes, ends) = open_varint rest h in
-    let same = same_behind S x more (faulty insufficient) (faulty not_minimal) s (inr (rest, c, h)) bytes
+    let same = same_after S x more (malformed insufficient) (malformed not_minimal) s (inr (rest, c, h)) bytes
     (inr (rest ++ more, code_kept x rest more c, ends)) in cc
-early_not_settles S x (faulty overflow) early h s = early
-early_not_settles S x (faulty not_minimal) early h s = early
+early_not_settles S x (malformed overflow) early h s = early
+early_not_settles S x (malformed not_minimal) early h s = early
 early_not_settles S x unexpected_eof early (size, rest, h, within, short) s =
     let more : List ℕ = replicate (size - length rest) 0 in
     let digest : List ℕ = rest ++ more in
     let len : length digest ≡ size = omega (arith, length-append rest more, length-replicate {A = ℕ} (size - length rest) 0) in
     let whole = pair_begins size (x ++ more) digest (size_kept size x rest more h) digest [] len (sym (append-nil digest)) in
-    let same = same_behind S x more unexpected_eof (accepted (record { code = _; digest = digest })) s (size, rest, h, within, short)
+    let same = same_after S x more unexpected_eof (accepted (record { code = _; digest = digest })) s (size, rest, h, within, short)
     (All-replicate (λ b. b < 256) (size - length rest) 0 (omega arith)) ([], whole, omega (arith, len, within)) in cc
 
-pub late_settles : (S : ℕ) (x : List ℕ) (v : Verdict) → ¬ (IsEarlyEnd v) → HasVerdict S x v → Settles S x
+pub late_settles : (S : ℕ) (x : List ℕ) (v : Verdict) → ¬ (IsIncomplete v) → HasVerdict S x v → Settles S x
 late_settles S x v late h = record { verdict = v; always = λ more _. verdict_kept S x more v late h }
 
-pub settles_exactly : (S : ℕ) (x : List ℕ) (v : Verdict) → HasVerdict S x v → Settles S x ↔ ¬ (IsEarlyEnd v)
+pub settles_exactly : (S : ℕ) (x : List ℕ) (v : Verdict) → HasVerdict S x v → Settles S x ↔ ¬ (IsIncomplete v)
 settles_exactly S x v h = (λ s early. early_not_settles S x v early h s, λ late. late_settles S x v late h)
 
 -- no prefix of an input settles whose verdict is incomplete
-pub none_settles : (S : ℕ) (x : List ℕ) (v : Verdict) → HasVerdict S x v → IsEarlyEnd v
-    → (front : List ℕ) → IsBeginning front x → ¬ (Settles S front)
+pub none_settles : (S : ℕ) (x : List ℕ) (v : Verdict) → HasVerdict S x v → IsIncomplete v
+    → (front : List ℕ) → IsPrefix front x → ¬ (Settles S front)
 none_settles S x v h early front (rest, cut) s =
     let own = own_verdict S front s in
-    let late : ¬ (IsEarlyEnd s.verdict) = λ soon. early_not_settles S front s.verdict soon own s in
+    let late : ¬ (IsIncomplete s.verdict) = λ soon. early_not_settles S front s.verdict soon own s in
     let kept = subst (λ (z : List ℕ). HasVerdict S z s.verdict) (sym cut) (verdict_kept S front rest s.verdict late own) in
-    late (subst IsEarlyEnd (verdict_unique S x v s.verdict h kept) early)
+    late (subst IsIncomplete (verdict_unique S x v s.verdict h kept) early)
 
 -- ---- what ends early
 
@@ -138,12 +138,12 @@ none_settles S x v h early front (rest, cut) s =
 pub record IsStep (t : List ℕ) : Type 0 where
   pub front : List ℕ
   pub last : ℕ
-  pub all_marked : All IsMarked front
-  pub few : length front ≤ max_marked
+  pub all_continuation : All IsContinuation front
+  pub few : length front ≤ max_continuation
   pub cut : t ≡ front ++ last ∷ []
 
-pub before_step : (t p : List ℕ) → IsStep t → IsProperBeginning p t → IsInsufficient p
-before_step t p s (rest, some, cut) = record { few = omega (arith, s.few, short); all_marked = marks }
+pub before_step : (t p : List ℕ) → IsStep t → IsStrictPrefix p t → IsInsufficient p
+before_step t p s (rest, some, cut) = record { few = omega (arith, s.few, short); all_continuation = marks }
   where
     same : s.front ++ s.last ∷ [] ≡ p ++ rest
     same = sym s.cut ∙ cut
@@ -151,39 +151,39 @@ before_step t p s (rest, some, cut) = record { few = omega (arith, s.few, short)
     short : length p ≤ length s.front
     short = omega (arith, ap length same, length-append s.front (s.last ∷ []), length-append p rest, length_of_not_nil rest some)
 
-    marks : All IsMarked p
+    marks : All IsContinuation p
     marks k d below =
         let value : get_or p k d ≡ get_or s.front k d =
         sym (get_or_append_left p rest d k below)
         ∙ (ap (λ (z : List ℕ). get_or z k d) (sym same) ∙ get_or_append_left s.front (s.last ∷ []) d k (omega (arith, short, below))) in
-        rw value (s.all_marked k d (omega (arith, short, below)))
+        rw value (s.all_continuation k d (omega (arith, short, below)))
 
 -- nothing shorter shows a varint or a fault
 abbrev pub NoSooner : List ℕ → Type 0
-NoSooner t = (p : List ℕ) → IsProperBeginning p t → IsInsufficient p
+NoSooner t = (p : List ℕ) → IsStrictPrefix p t → IsInsufficient p
 
 varint_no_sooner : (n : ℕ) (bytes : List ℕ) → IsVarint n bytes → NoSooner bytes
 varint_no_sooner n bytes v p begins =
-    let few : length (marked v.front) ≤ max_marked = omega (arith, (varint_length n bytes v).0, length-map v.front (λ d. d + 128)) in
-    before_step bytes p (record { front = marked v.front; last = v.last; all_marked = All-marked v.front; few = few; cut = v.spelled }) begins
+    let few : length (continuation_bytes v.front) ≤ max_continuation = omega (arith, (varint_length n bytes v).0, length-map v.front (λ d. d + 128)) in
+    before_step bytes p (record { front = continuation_bytes v.front; last = v.last; all_continuation = All-continuation_bytes v.front; few = few; cut = v.spelled }) begins
 
 -- the input ends early
 abbrev pub EndsEarly : ℕ → List ℕ → Type 0
-EndsEarly S x = (v : Verdict) × HasVerdict S x v × IsEarlyEnd v
+EndsEarly S x = (v : Verdict) × HasVerdict S x v × IsIncomplete v
 
-pub before_second : (S code : ℕ) (f t p : List ℕ) → IsVarint code f → NoSooner t → IsProperBeginning p (f ++ t) → EndsEarly S p
+pub before_second : (S code : ℕ) (f t p : List ℕ) → IsVarint code f → NoSooner t → IsStrictPrefix p (f ++ t) → EndsEarly S p
 before_second S code f t p is_code no_sooner b =
-    elim (split_beginning f t p b) [
-      | inl early ↦ (faulty insufficient, inl (varint_no_sooner code f is_code p early), tt)
-      | inr (q, cut, more) ↦ (faulty insufficient, inr (q, coded code f p q is_code cut, no_sooner q more), tt)
+    elim (split_prefix f t p b) [
+      | inl early ↦ (malformed insufficient, inl (varint_no_sooner code f is_code p early), tt)
+      | inr (q, cut, more) ↦ (malformed insufficient, inr (q, coded code f p q is_code cut, no_sooner q more), tt)
     ]
 
-pub before_both : (S code size : ℕ) (f t p : List ℕ) → IsVarint code f → IsVarint size t → IsProperBeginning p (f ++ t) → EndsEarly S p
+pub before_both : (S code size : ℕ) (f t p : List ℕ) → IsVarint code f → IsVarint size t → IsStrictPrefix p (f ++ t) → EndsEarly S p
 before_both S code size f t p is_code is_size = before_second S code f t p is_code (varint_no_sooner size t is_size)
 
-pub before_digest : (S : ℕ) (p : Pair) (t x : List ℕ) → IsEncoding p t → FitsBuffer S p → IsProperBeginning x t → EndsEarly S x
+pub before_digest : (S : ℕ) (p : Pair) (t x : List ℕ) → IsEncoding p t → FitsBuffer S p → IsStrictPrefix x t → EndsEarly S x
 before_digest S p t x e fits (rest, some, cut) =
-    elim (split_beginning (e.code ++ e.size) p.digest x (rest, some, append_assoc e.code e.size p.digest ∙ (sym e.spelled ∙ cut))) [
+    elim (split_prefix (e.code ++ e.size) p.digest x (rest, some, append_assoc e.code e.size p.digest ∙ (sym e.spelled ∙ cut))) [
       | inl early ↦ before_both S p.code (length p.digest) e.code e.size x e.is_code e.is_size early
       | inr (z, z_cut, (left, some, d_cut)) ↦
           let both = sized p.code (length p.digest) e.code e.size x z e.is_code e.is_size (z_cut ∙ append_assoc e.code e.size z) in
@@ -194,8 +194,8 @@ before_digest S p t x e fits (rest, some, cut) =
 -- ---- the shortest that settles
 
 -- a prefix with a verdict of its own that is not incomplete, all of whose own prefixes are incomplete
-pub shortest_from : (S : ℕ) (x t rest : List ℕ) (v : Verdict) → x ≡ t ++ rest → HasVerdict S t v → ¬ (IsEarlyEnd v)
-    → ((p : List ℕ) → IsProperBeginning p t → EndsEarly S p) → IsShortestSettling S x t
+pub shortest_from : (S : ℕ) (x t rest : List ℕ) (v : Verdict) → x ≡ t ++ rest → HasVerdict S t v → ¬ (IsIncomplete v)
+    → ((p : List ℕ) → IsStrictPrefix p t → EndsEarly S p) → IsShortestSettling S x t
 shortest_from S x t rest v cut h late before = record {
   begins = (rest, cut);
   settles = late_settles S t v late h;
@@ -203,28 +203,28 @@ shortest_from S x t rest v cut h late before = record {
 }
 
 -- the prefix that shows a fault
-pub record ShowsFault (f : VarintFault) (x : List ℕ) : Type 0 where
+pub record ShowsFault (f : VarintError) (x : List ℕ) : Type 0 where
   pub shown : List ℕ
   pub rest : List ℕ
   pub cut : x ≡ shown ++ rest
   pub step : IsStep shown
-  pub has : HasFaultyFront f shown
+  pub has : BeginsMalformed f shown
 
-pub shows_fault : (f : VarintFault) (x : List ℕ) → ¬ (IsEarlyEnd (faulty f)) → HasFaultyFront f x → ShowsFault f x
+pub shows_fault : (f : VarintError) (x : List ℕ) → ¬ (IsIncomplete (malformed f)) → BeginsMalformed f x → ShowsFault f x
 shows_fault insufficient x late h = absurd (late tt)
 shows_fault overflow x late h = record {
   shown = h.front ++ h.byte ∷ [];
   rest = h.rest;
   cut = h.cut ∙ sym (append_assoc h.front (h.byte ∷ []) h.rest);
-  step = record { front = h.front; last = h.byte; all_marked = h.all_marked; few = omega (arith, h.most); cut = refl };
-  has = record { front = h.front; byte = h.byte; rest = []; all_marked = h.all_marked; most = h.most; too_large = h.too_large; cut = refl };
+  step = record { front = h.front; last = h.byte; all_continuation = h.all_continuation; few = omega (arith, h.most); cut = refl };
+  has = record { front = h.front; byte = h.byte; rest = []; all_continuation = h.all_continuation; most = h.most; too_large = h.too_large; cut = refl };
 }
 shows_fault not_minimal x late h = record {
   shown = h.front ++ 0 ∷ [];
   rest = h.rest;
   cut = h.cut ∙ sym (append_assoc h.front (0 ∷ []) h.rest);
-  step = record { front = h.front; last = 0; all_marked = h.all_marked; few = h.few; cut = refl };
-  has = record { front = h.front; rest = []; all_marked = h.all_marked; some = h.some; few = h.few; cut = refl };
+  step = record { front = h.front; last = 0; all_continuation = h.all_continuation; few = h.few; cut = refl };
+  has = record { front = h.front; rest = []; all_continuation = h.all_continuation; some = h.some; few = h.few; cut = refl };
 }
 
 -- the shortest prefix that settles a pair is its encoding
@@ -245,40 +245,40 @@ shortest_size S size x rest h over =
     (λ y before. before_both S h.code size h.code_bytes h.size_bytes y h.is_code h.is_size before)
 
 -- that of a fault in the code is what shows it
-pub shortest_code_fault : (S : ℕ) (f : VarintFault) (x : List ℕ) → ¬ (IsEarlyEnd (faulty f)) → (s : ShowsFault f x) → IsShortestSettling S x s.shown
+pub shortest_code_fault : (S : ℕ) (f : VarintError) (x : List ℕ) → ¬ (IsIncomplete (malformed f)) → (s : ShowsFault f x) → IsShortestSettling S x s.shown
 shortest_code_fault S f x late s =
-    shortest_from S x s.shown s.rest (faulty f) s.cut (inl s.has) late
-    (λ y before. (faulty insufficient, inl (before_step s.shown y s.step before), tt))
+    shortest_from S x s.shown s.rest (malformed f) s.cut (inl s.has) late
+    (λ y before. (malformed insufficient, inl (before_step s.shown y s.step before), tt))
 
 -- that of a fault in the size is the code and what shows it
-pub shortest_size_fault : (S : ℕ) (f : VarintFault) (x rest : List ℕ) → ¬ (IsEarlyEnd (faulty f)) → (c : BeginsWithCode x rest) (s : ShowsFault f rest)
+pub shortest_size_fault : (S : ℕ) (f : VarintError) (x rest : List ℕ) → ¬ (IsIncomplete (malformed f)) → (c : BeginsWithCode x rest) (s : ShowsFault f rest)
     → IsShortestSettling S x (c.code_bytes ++ s.shown)
 shortest_size_fault S f x rest late c s =
-    shortest_from S x (c.code_bytes ++ s.shown) s.rest (faulty f)
+    shortest_from S x (c.code_bytes ++ s.shown) s.rest (malformed f)
     (c.cut ∙ (ap (λ (z : List ℕ). c.code_bytes ++ z) s.cut ∙ sym (append_assoc c.code_bytes s.shown s.rest)))
     (inr (s.shown, coded c.code c.code_bytes _ s.shown c.is_code refl, s.has)) late
     (λ y before. before_second S c.code c.code_bytes s.shown y c.is_code (λ p b. before_step s.shown p s.step b) before)
 
-pub shortest_exists : (S : ℕ) (x : List ℕ) (v : Verdict) → HasVerdict S x v → ¬ (IsEarlyEnd v)
+pub shortest_exists : (S : ℕ) (x : List ℕ) (v : Verdict) → HasVerdict S x v → ¬ (IsIncomplete v)
     → (t : List ℕ) × IsShortestSettling S x t
 shortest_exists S x (accepted p) (rest, b, fits) late = (b.encoding, shortest_pair S p x rest b fits)
 shortest_exists S x (invalid_size size) (rest, h, over) late = (h.code_bytes ++ h.size_bytes, shortest_size S size x rest h over)
 shortest_exists S x (invalid_code code) h late = absurd h
-shortest_exists S x (faulty f) (inl h) late =
+shortest_exists S x (malformed f) (inl h) late =
     let s = shows_fault f x late h in (s.shown, shortest_code_fault S f x late s)
-shortest_exists S x (faulty f) (inr (rest, c, h)) late =
+shortest_exists S x (malformed f) (inr (rest, c, h)) late =
     let s = shows_fault f rest late h in (c.code_bytes ++ s.shown, shortest_size_fault S f x rest late c s)
 shortest_exists S x unexpected_eof h late = absurd (late tt)
 
 pub shortest_unique : (S : ℕ) (x a b : List ℕ) → IsShortestSettling S x a → IsShortestSettling S x b → a ≡ b
 shortest_unique S x a b s t =
-    elim (compare_beginnings a b s.begins.0 t.begins.0 (sym s.begins.1 ∙ t.begins.1)) [
+    elim (compare_prefixes a b s.begins.0 t.begins.0 (sym s.begins.1 ∙ t.begins.1)) [
       | inl same ↦ same
       | inr (inl shorter) ↦ absurd (t.shortest a shorter s.settles)
       | inr (inr shorter) ↦ absurd (s.shortest b shorter t.settles)
     ]
 
-pub one_shortest : (S : ℕ) (x : List ℕ) (v : Verdict) → HasVerdict S x v → ¬ (IsEarlyEnd v) → ExactlyOne (IsShortestSettling S x)
+pub one_shortest : (S : ℕ) (x : List ℕ) (v : Verdict) → HasVerdict S x v → ¬ (IsIncomplete v) → ExactlyOne (IsShortestSettling S x)
 one_shortest S x v h late =
     let t = shortest_exists S x v h late in
     record { value = t.0; holds = t.1; only = λ other s. shortest_unique S x other t.0 s t.1 }

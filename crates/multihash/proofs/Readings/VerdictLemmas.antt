@@ -7,14 +7,14 @@ use Rattle.multihash.specs.Bytes.{IsBytes}
 use Rattle.multihash.specs.Pair.{Pair, FitsBuffer, digest_limit}
 use Rattle.multihash.specs.Varint.{IsVarint}
 use Rattle.multihash.specs.Encoding.{IsEncoding}
-use Rattle.multihash.specs.Verdict.{Verdict, accepted, invalid_size, invalid_code, faulty, unexpected_eof, BeginsWith, BeginsWithSize, BeginsWithCode, HasVerdict, HasWholeVerdict, HasHead}
+use Rattle.multihash.specs.Verdict.{Verdict, accepted, invalid_size, invalid_code, malformed, unexpected_eof, BeginsWith, BeginsWithSize, BeginsWithCode, HasVerdict, HasWholeVerdict, HasHead}
 use Rattle.multihash.proofs.Varints.DigitLemmas.{All-append_right}
 use Rattle.multihash.proofs.Varints.VarintLemmas.{Front, number, fault, HasFront, front_is, front_of, front_of_has}
 use Rattle.multihash.proofs.Writings.EncodingLemmas.{encoding_cut}
 use Rattle.multihash.specs.Refusal.{Refusal}
-use Rattle.multihash.specs.Taking.{IsFrontRefusal, TakesVarint}
-use Rattle.multihash.specs.Answer.{IsRefusal}
-use Rattle.multihash.proofs.Readings.ReadingLemmas.{Takes-cut}
+use Rattle.multihash.specs.Consuming.{IsFrontError, ConsumesVarint}
+use Rattle.multihash.specs.Outcome.{IsErrorOf}
+use Rattle.multihash.proofs.Readings.ReadingLemmas.{Consumes-cut}
 
 -- ---- two varints, one after the other
 
@@ -32,11 +32,11 @@ abbrev pub judged : (Pair → List ℕ → Verdict) → ℕ → ℕ → Front �
 judged ends S code (number size rest) =
     cond (ltb (digest_limit S) size) (invalid_size size)
     (cond (ltb (length rest) size) unexpected_eof (ends (record { code = code; digest = take size rest }) (drop size rest)))
-judged ends S code (fault f) = faulty f
+judged ends S code (fault f) = malformed f
 
 abbrev follows : (Pair → List ℕ → Verdict) → ℕ → Front → Verdict
 follows ends S (number code rest) = judged ends S code (front_of rest)
-follows ends S (fault f) = faulty f
+follows ends S (fault f) = malformed f
 
 abbrev pub found_by : (Pair → List ℕ → Verdict) → ℕ → List ℕ → Verdict
 found_by ends S x = follows ends S (front_of x)
@@ -70,8 +70,8 @@ module _ (ends : Pair → List ℕ → Verdict) (S : ℕ) (x : List ℕ) where
   found_is (accepted p) (rest, b, fits) own = own p rest refl ∙ judged_pair p rest b fits
   found_is (invalid_size size) (rest, h, over) own = rw (lt-ltb (digest_limit S) size over) refl ∙ judged_size size rest h
   found_is (invalid_code code) h own = absurd h
-  found_is (faulty f) (inl h) own = ap (follows ends S) (front_is x (fault f) h)
-  found_is (faulty f) (inr (rest, c, h)) own = judged_at rest c (fault f) h
+  found_is (malformed f) (inl h) own = ap (follows ends S) (front_is x (fault f) h)
+  found_is (malformed f) (inr (rest, c, h)) own = judged_at rest c (fault f) h
   found_is unexpected_eof (size, rest, h, within, short) own =
       rw (le-ltb (digest_limit S) size within, lt-ltb (length rest) size short) refl ∙ judged_size size rest h
 
@@ -108,16 +108,16 @@ has_judged S size x rest h =
       ]
     ]
 
-behind_code : (S : ℕ) (x r : List ℕ) → BeginsWithCode x r → (g : Front) → HasFront r g → (v : Verdict) × HasVerdict S x v
-behind_code S x r c (number size rest) (b, is_size, e) =
+after_code : (S : ℕ) (x r : List ℕ) → BeginsWithCode x r → (g : Front) → HasFront r g → (v : Verdict) × HasVerdict S x v
+after_code S x r c (number size rest) (b, is_size, e) =
     has_judged S size x rest (sized c.code size c.code_bytes b x rest c.is_code is_size (c.cut ∙ ap (λ (z : List ℕ). c.code_bytes ++ z) e))
-behind_code S x r c (fault f) h = (faulty f, inr (r, c, h))
+after_code S x r c (fault f) h = (malformed f, inr (r, c, h))
 
 from_front : (S : ℕ) (x : List ℕ) → IsBytes x → (f : Front) → HasFront x f → (v : Verdict) × HasVerdict S x v
 from_front S x bytes (number code r) (a, is_code, e) =
-    behind_code S x r (coded code a x r is_code e) (front_of r)
+    after_code S x r (coded code a x r is_code e) (front_of r)
     (front_of_has r (All-append_right (λ byte. byte < 256) a r (All-same (λ byte. byte < 256) (a ++ r) x (sym e) bytes)))
-from_front S x bytes (fault f) h = (faulty f, inl h)
+from_front S x bytes (fault f) h = (malformed f, inl h)
 
 -- the verdict that is computed holds
 pub has_found : (S : ℕ) (x : List ℕ) → IsBytes x → HasVerdict S x (found S x)
@@ -142,7 +142,7 @@ whole_is S x (invalid_size size) (inr (p, [], b, fits, len, some)) = absurd (ome
 whole_is S x (invalid_size size) (inr (p, byte ∷ rest, b, fits, len, some)) =
     ap invalid_size (sym len) ∙ judged_pair trailing S x p (byte ∷ rest) b fits
 whole_is S x (invalid_code code) h = absurd h
-whole_is S x (faulty f) h = found_is trailing S x (faulty f) h (λ p rest same. cc)
+whole_is S x (malformed f) h = found_is trailing S x (malformed f) h (λ p rest same. cc)
 whole_is S x unexpected_eof h = found_is trailing S x unexpected_eof h (λ p rest same. cc)
 
 pub whole_verdict_unique : (S : ℕ) (x : List ℕ) (v w : Verdict) → HasWholeVerdict S x v → HasWholeVerdict S x w → v ≡ w
@@ -158,48 +158,48 @@ whole_from S x (accepted p) ([], b, fits) = (accepted p, (whole_pair p x b, fits
 whole_from S x (accepted p) (byte ∷ rest, b, fits) = (invalid_size _, inr (p, byte ∷ rest, b, fits, refl, omega arith))
 whole_from S x (invalid_size size) h = (invalid_size size, inl h)
 whole_from S x (invalid_code code) h = (invalid_code code, h)
-whole_from S x (faulty f) h = (faulty f, h)
+whole_from S x (malformed f) h = (malformed f, h)
 whole_from S x unexpected_eof h = (unexpected_eof, h)
 
 pub has_whole_found : (S : ℕ) (x : List ℕ) → IsBytes x → HasWholeVerdict S x (whole_found S x)
 has_whole_found S x bytes = let (v, h) = whole_from S x _ (has_found S x bytes) in subst (HasWholeVerdict S x) (whole_is S x v h) h
 
 -- a slice from there on is the rest
-pub sliced : (n : ℕ) (xs : List ℕ) (k : ℕ) → TakesVarint n (Some xs) (Some (drop k xs))
-    → TakesVarint n (Some xs) (Some (take (length xs - k) (drop k xs)))
-sliced n xs k met = subst (λ (back : List ℕ). TakesVarint n (Some xs) (Some back)) (sym (take_rest xs k)) met
+pub sliced : (n : ℕ) (xs : List ℕ) (k : ℕ) → ConsumesVarint n (Some xs) (Some (drop k xs))
+    → ConsumesVarint n (Some xs) (Some (take (length xs - k) (drop k xs)))
+sliced n xs k met = subst (λ (back : List ℕ). ConsumesVarint n (Some xs) (Some back)) (sym (take_rest xs k)) met
 
 -- an error of the verdict is one of the whole verdict
-pub whole_refused : (S : ℕ) (x : List ℕ) (e : Refusal) (v : Verdict) → HasVerdict S x v → IsRefusal e v
-    → (w : Verdict) × HasWholeVerdict S x w × IsRefusal e w
-whole_refused S x e (accepted p) has given = absurd given
-whole_refused S x e (invalid_size size) has given = (invalid_size size, inl has, given)
-whole_refused S x e (invalid_code code) has given = absurd has
-whole_refused S x e (faulty f) has given = (faulty f, has, given)
-whole_refused S x e unexpected_eof has given = (unexpected_eof, has, given)
+pub whole_rejected : (S : ℕ) (x : List ℕ) (e : Refusal) (v : Verdict) → HasVerdict S x v → IsErrorOf e v
+    → (w : Verdict) × HasWholeVerdict S x w × IsErrorOf e w
+whole_rejected S x e (accepted p) has given = absurd given
+whole_rejected S x e (invalid_size size) has given = (invalid_size size, inl has, given)
+whole_rejected S x e (invalid_code code) has given = absurd has
+whole_rejected S x e (malformed f) has given = (malformed f, has, given)
+whole_rejected S x e unexpected_eof has given = (unexpected_eof, has, given)
 
 -- no varint of a code
-pub no_code : (S : ℕ) (input : List ℕ) (e : Refusal) → IsFrontRefusal input e
-    → (v : Verdict) × HasWholeVerdict S input v × IsRefusal e v
-no_code S input e (f, named, shows) = (faulty f, inl shows, named)
+pub no_code : (S : ℕ) (input : List ℕ) (e : Refusal) → IsFrontError input e
+    → (v : Verdict) × HasWholeVerdict S input v × IsErrorOf e v
+no_code S input e (f, named, shows) = (malformed f, inl shows, named)
 
-module _ (code : ℕ) (input left : List ℕ) (is_code : TakesVarint code (Some input) (Some left)) where
+module _ (code : ℕ) (input left : List ℕ) (is_code : ConsumesVarint code (Some input) (Some left)) where
   pub has_code : BeginsWithCode input left
-  has_code = coded code is_code.0 input left is_code.1 (Takes-cut input _ left is_code.2)
+  has_code = coded code is_code.0 input left is_code.1 (Consumes-cut input _ left is_code.2)
 
   -- no varint of a size
-  pub no_size : (S : ℕ) (e : Refusal) → IsFrontRefusal left e → (v : Verdict) × HasWholeVerdict S input v × IsRefusal e v
-  no_size S e (f, named, shows) = (faulty f, inr (left, has_code, shows), named)
+  pub no_size : (S : ℕ) (e : Refusal) → IsFrontError left e → (v : Verdict) × HasWholeVerdict S input v × IsErrorOf e v
+  no_size S e (f, named, shows) = (malformed f, inr (left, has_code, shows), named)
 
-  module _ (size : ℕ) (rest : List ℕ) (is_size : TakesVarint size (Some left) (Some rest)) where
+  module _ (size : ℕ) (rest : List ℕ) (is_size : ConsumesVarint size (Some left) (Some rest)) where
     abbrev pub has_size : BeginsWithSize size input rest
     has_size =
         sized code size is_code.0 is_size.0 input rest is_code.1 is_size.1
-        (Takes-cut input _ left is_code.2 ∙ ap (λ z. is_code.0 ++ z) (Takes-cut left _ rest is_size.2))
+        (Consumes-cut input _ left is_code.2 ∙ ap (λ z. is_code.0 ++ z) (Consumes-cut left _ rest is_size.2))
 
     -- bytes after the digest
-    pub left_over : (S n : ℕ) → size ≤ digest_limit S → size < length rest → n ≡ length rest - size → HasWholeVerdict S input (invalid_size n)
-    left_over S n within more count =
+    pub has_trailing : (S n : ℕ) → size ≤ digest_limit S → size < length rest → n ≡ length rest - size → HasWholeVerdict S input (invalid_size n)
+    has_trailing S n within more count =
         let long : length (take size rest) ≡ size = length-take-le size rest (omega arith) in
         let begins = pair_begins size input rest has_size (take size rest) (drop size rest) long (sym (take-append-drop size rest)) in
         inr (_, drop size rest, begins, omega arith, omega (arith, length-drop size rest, count), omega arith)
@@ -210,9 +210,9 @@ module _ (code : ℕ) (input left : List ℕ) (is_code : TakesVarint code (Some 
 
 -- the two are a head
 pub head_of : (code size k m : ℕ) (input left : List ℕ) → left ≡ drop k input → k ≤ length input → m ≤ length left
-    → TakesVarint code (Some input) (Some (drop k input)) → TakesVarint size (Some left) (Some (drop m left)) → HasHead code size (k + m) input
+    → ConsumesVarint code (Some input) (Some (drop k input)) → ConsumesVarint size (Some left) (Some (drop m left)) → HasHead code size (k + m) input
 head_of code size k m input left is within more a b =
-    let second = sym is ∙ Takes-cut left _ (drop m left) b.2 ∙ ap (λ z. b.0 ++ z) (ap (drop m) is ∙ drop-drop m k input) in
-    let cut = Takes-cut input _ (drop k input) a.2 ∙ ap (λ z. a.0 ++ z) second in
+    let second = sym is ∙ Consumes-cut left _ (drop m left) b.2 ∙ ap (λ z. b.0 ++ z) (ap (drop m) is ∙ drop-drop m k input) in
+    let cut = Consumes-cut input _ (drop k input) a.2 ∙ ap (λ z. a.0 ++ z) second in
     let inside : k + m ≤ length input = omega (arith, ap length is, length-drop k input, within, more) in
     record { within = inside; varints = sized code size a.0 b.0 input _ a.1 b.1 cut; is_code = refl }

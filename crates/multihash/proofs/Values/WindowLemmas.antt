@@ -47,9 +47,9 @@ longer_front n at a b front same =
 meets : (i j : ℕ) (a b : List ℕ) → i ≤ j → take j a ≡ take j b → drop i a ≡ drop i b → a ≡ b
 meets i j a b within front back =
     let sum : i + (j - i) ≡ j = omega (arith, within) in
-    let behind : drop j a ≡ drop j b =
+    let following : drop j a ≡ drop j b =
     ap (λ n. drop n a) (sym sum) ∙ sym (drop-drop (j - i) i a) ∙ ap (drop (j - i)) back ∙ drop-drop (j - i) i b ∙ ap (λ n. drop n b) sum in
-    sym (take-append-drop j a) ∙ ap (λ l. l ++ drop j a) front ∙ ap (λ l. take j b ++ l) behind ∙ take-append-drop j b
+    sym (take-append-drop j a) ∙ ap (λ l. l ++ drop j a) front ∙ ap (λ l. take j b ++ l) following ∙ take-append-drop j b
 
 -- the last window is all that is left
 last_window : (n k : ℕ) (a : List ℕ) → length a ≡ k + n → window n k a ≡ drop k a

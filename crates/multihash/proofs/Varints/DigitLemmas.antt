@@ -7,7 +7,7 @@ use Rattle.std.proofs.lemmas.List.Elements.{All-head, All-tail, All-map}
 use Rattle.std.proofs.lemmas.Nat.{same_from_place, pow-add, mod_below, or_comm, or_shifted}
 use Rattle.multihash.specs.Bytes.{place_value, IsBytes}
 use Rattle.std.proofs.lemmas.List.{get_or_append_left, get_or-append-add, length-map, map-append}
-use Rattle.multihash.specs.Varint.{IsMarked, marked}
+use Rattle.multihash.specs.Varint.{IsContinuation, continuation_bytes}
 
 -- the value of digits of which the first has the place k
 abbrev value_from : ℕ → ℕ → List ℕ → ℕ
@@ -85,8 +85,8 @@ abbrev pub IsDigit : ℕ → Type 0
 IsDigit d = d < 128
 
 -- digits and their continuation bytes
-pub All-marked : (ds : List ℕ) → All IsMarked (marked ds)
-All-marked ds = All-map IsMarked (λ digit. digit + 128) ds (λ k d below. omega arith)
+pub All-continuation_bytes : (ds : List ℕ) → All IsContinuation (continuation_bytes ds)
+All-continuation_bytes ds = All-map IsContinuation (λ digit. digit + 128) ds (λ k d below. omega arith)
 
 -- the low seven bits of each byte
 abbrev pub low_digits : List ℕ → List ℕ
@@ -95,20 +95,20 @@ low_digits bytes = map (λ b. b % 128) bytes
 pub low_digits_below : (bytes : List ℕ) → All IsDigit (low_digits bytes)
 low_digits_below bytes = All-map IsDigit (λ b. b % 128) bytes (λ k d below. mod_below _ 128 (omega arith))
 
-pub marked-low_digits : (bytes : List ℕ) → IsBytes bytes → All IsMarked bytes → marked (low_digits bytes) ≡ bytes
-marked-low_digits [] bytes all = refl
-marked-low_digits (b ∷ bs) bytes all =
+pub continuation_bytes-low_digits : (bytes : List ℕ) → IsBytes bytes → All IsContinuation bytes → continuation_bytes (low_digits bytes) ≡ bytes
+continuation_bytes-low_digits [] bytes all = refl
+continuation_bytes-low_digits (b ∷ bs) bytes all =
     let small : b < 256 = All-head (λ b. b < 256) b bs bytes in
-    let large : 128 ≤ b = All-head IsMarked b bs all in
+    let large : 128 ≤ b = All-head IsContinuation b bs all in
     let head : b % 128 + 128 ≡ b = omega arith in
-    cc (head, marked-low_digits bs (All-tail (λ b. b < 256) b bs bytes) (All-tail IsMarked b bs all))
+    cc (head, continuation_bytes-low_digits bs (All-tail (λ b. b < 256) b bs bytes) (All-tail IsContinuation b bs all))
 
-pub low_digits-marked : (ds : List ℕ) → All IsDigit ds → low_digits (marked ds) ≡ ds
-low_digits-marked [] all = refl
-low_digits-marked (d ∷ ds) all =
+pub low_digits-continuation_bytes : (ds : List ℕ) → All IsDigit ds → low_digits (continuation_bytes ds) ≡ ds
+low_digits-continuation_bytes [] all = refl
+low_digits-continuation_bytes (d ∷ ds) all =
     let small : d < 128 = All-head IsDigit d ds all in
     let head : (d + 128) % 128 ≡ d = omega arith in
-    cc (head, low_digits-marked ds (All-tail IsDigit d ds all))
+    cc (head, low_digits-continuation_bytes ds (All-tail IsDigit d ds all))
 
 -- the digits of two concatenated lists, by the code's shift and `|`
 pub or_digits : (front back : List ℕ) (i : ℕ) → length front ≡ i → place_value 128 (low_digits (front ++ back)) < 2 ^ 64

@@ -6,8 +6,8 @@ use Rattle.std.proofs.lemmas.Bool.{cases_lt, lt-ltb, le-ltb}
 use Rattle.std.proofs.lemmas.List.{length-map, length_push, map_push, same_from_push}
 use Rattle.std.proofs.lemmas.List.Elements.{All-nil, All-head, All-tail, All-push}
 use Rattle.multihash.specs.Bytes.{IsBytes, place_value}
-use Rattle.multihash.specs.Varint.{varint_limit, max_marked, last_byte_limit, IsMarked, marked, IsVarint, IsOverflow, IsNotMinimal, VarintFault, insufficient, overflow, not_minimal, HasFaultyFront}
-use Rattle.multihash.proofs.Varints.DigitLemmas.{place_value_below, place_value_last, place_value_unique, pow_power, All-append_left, All-append_right, All-marked, IsDigit, low_digits, low_digits_below, marked-low_digits, low_digits-marked}
+use Rattle.multihash.specs.Varint.{varint_limit, max_continuation, last_byte_limit, IsContinuation, continuation_bytes, IsVarint, IsOverflow, IsNotMinimal, VarintError, insufficient, overflow, not_minimal, BeginsMalformed}
+use Rattle.multihash.proofs.Varints.DigitLemmas.{place_value_below, place_value_last, place_value_unique, pow_power, All-append_left, All-append_right, All-continuation_bytes, IsDigit, low_digits, low_digits_below, continuation_bytes-low_digits, low_digits-continuation_bytes}
 use Rattle.std.specs.Int.{w64, leading_zeros}
 use Rattle.std.proofs.lemmas.Nat.{leading_top}
 
@@ -25,9 +25,9 @@ front_within k n bytes v small =
 
 -- and what ends a longest one
 pub varint_length : (n : ℕ) (bytes : List ℕ) (v : IsVarint n bytes)
-    → (length v.front ≤ max_marked) × (length v.front ≡ max_marked → v.last < last_byte_limit)
+    → (length v.front ≤ max_continuation) × (length v.front ≡ max_continuation → v.last < last_byte_limit)
 varint_length n bytes v = (
-  front_within max_marked n bytes v (omega (arith, v.in_range)),
+  front_within max_continuation n bytes v (omega (arith, v.in_range)),
   λ most. omega (arith, v.value, v.in_range, rw most at (place_value_last 128 v.last v.front)),
 )
 
@@ -47,25 +47,25 @@ varint_unique n a b v w =
 -- ---- what bytes encode
 
 -- the digits of few enough bytes make a number in range
-pub low_digits_in_range : (ms : List ℕ) (b : ℕ) → length ms ≤ max_marked → (length ms ≡ max_marked → b < last_byte_limit)
+pub low_digits_in_range : (ms : List ℕ) (b : ℕ) → length ms ≤ max_continuation → (length ms ≡ max_continuation → b < last_byte_limit)
     → place_value 128 (low_digits (ms ++ b ∷ [])) < varint_limit
 low_digits_in_range ms b few most =
-    elim (cases_lt (length ms) max_marked) [
+    elim (cases_lt (length ms) max_continuation) [
       | inl short ↦
           let whole = low_digits (ms ++ b ∷ []) in
           let base : 0 < 128 = omega arith in
-          let long : length whole ≤ max_marked = omega (arith, length-map (ms ++ b ∷ []) (λ b. b % 128), length_push ms b) in
-          let high : 128 ^ length whole ≤ 128 ^ max_marked = pow-le-pow_right base long in
+          let long : length whole ≤ max_continuation = omega (arith, length-map (ms ++ b ∷ []) (λ b. b % 128), length_push ms b) in
+          let high : 128 ^ length whole ≤ 128 ^ max_continuation = pow-le-pow_right base long in
           omega (arith, place_value_below 128 whole (low_digits_below (ms ++ b ∷ [])), high)
       | inr full ↦
-          let long : length (low_digits ms) ≡ max_marked = length-map ms (λ b. b % 128) ∙ omega (arith, few) in
+          let long : length (low_digits ms) ≡ max_continuation = length-map ms (λ b. b % 128) ∙ omega (arith, few) in
           rw (map_push (λ b. b % 128) ms b, place_value_last 128 (b % 128) (low_digits ms), long)
           (omega (arith, rw long at (place_value_below 128 (low_digits ms) (low_digits_below ms)), most (omega (arith, few))))
     ]
 
 -- continuation bytes that are few enough, and a last byte that may end them, are a varint
-pub varint_from_bytes : (ms : List ℕ) (b : ℕ) → IsBytes ms → All IsMarked ms → b < 128 → length ms ≤ max_marked
-    → (length ms ≡ max_marked → b < last_byte_limit) → (b ≡ 0 → ms ≡ [])
+pub varint_from_bytes : (ms : List ℕ) (b : ℕ) → IsBytes ms → All IsContinuation ms → b < 128 → length ms ≤ max_continuation
+    → (length ms ≡ max_continuation → b < last_byte_limit) → (b ≡ 0 → ms ≡ [])
     → IsVarint (place_value 128 (low_digits (ms ++ b ∷ []))) (ms ++ b ∷ [])
 varint_from_bytes ms b bytes all small few most minimal = record {
   front = low_digits ms;
@@ -74,28 +74,28 @@ varint_from_bytes ms b bytes all small few most minimal = record {
   minimal = λ z. ap low_digits (minimal z);
   value = ap (place_value 128) (sym (map_push (λ b. b % 128) ms b ∙ ap (λ d. low_digits ms ++ d ∷ []) (mod-eq_of_lt small)));
   in_range = low_digits_in_range ms b few most;
-  spelled = ap (λ front. front ++ b ∷ []) (sym (marked-low_digits ms bytes all));
+  spelled = ap (λ front. front ++ b ∷ []) (sym (continuation_bytes-low_digits ms bytes all));
 }
 
 -- continuation bytes and what ends them as none should
-pub overflow_behind : (ms : List ℕ) (b : ℕ) (rest : List ℕ) → All IsMarked ms → length ms ≡ max_marked → last_byte_limit ≤ b
+pub overflow_after : (ms : List ℕ) (b : ℕ) (rest : List ℕ) → All IsContinuation ms → length ms ≡ max_continuation → last_byte_limit ≤ b
     → IsOverflow (ms ++ b ∷ rest)
-overflow_behind ms b rest all most large =
-    record { front = ms; byte = b; rest = rest; all_marked = all; most = most; too_large = large; cut = refl }
+overflow_after ms b rest all most large =
+    record { front = ms; byte = b; rest = rest; all_continuation = all; most = most; too_large = large; cut = refl }
 
-pub zero_behind : (ms rest : List ℕ) → All IsMarked ms → 0 < length ms → length ms ≤ max_marked → IsNotMinimal (ms ++ 0 ∷ rest)
-zero_behind ms rest all some few = record { front = ms; rest = rest; all_marked = all; some = some; few = few; cut = refl }
+pub zero_after : (ms rest : List ℕ) → All IsContinuation ms → 0 < length ms → length ms ≤ max_continuation → IsNotMinimal (ms ++ 0 ∷ rest)
+zero_after ms rest all some few = record { front = ms; rest = rest; all_continuation = all; some = some; few = few; cut = refl }
 
 -- ---- the front of an input
 
 -- what is at the front of an input: a varint's number and what follows, or a fault
 pub data Front : Type 0 where
   number : ℕ → List ℕ → Front
-  fault : VarintFault → Front
+  fault : VarintError → Front
 
 abbrev pub HasFront : List ℕ → Front → Type 0
 HasFront x (number n rest) = (bytes : List ℕ) × IsVarint n bytes × (x ≡ bytes ++ rest)
-HasFront x (fault f) = HasFaultyFront f x
+HasFront x (fault f) = BeginsMalformed f x
 
 -- ---- computed
 
@@ -112,23 +112,23 @@ front_from zero ms (b ∷ rest) = cond (ltb b last_byte_limit) (ends_with ms b r
 front_from (suc left) ms (b ∷ rest) = cond (ltb b 128) (ends_with ms b rest) (front_from left (ms ++ b ∷ []) rest)
 
 abbrev pub front_of : List ℕ → Front
-front_of x = front_from max_marked [] x
+front_of x = front_from max_continuation [] x
 
 -- continuation bytes precede what follows them
-front_run : (ms : List ℕ) (n left : ℕ) (before y : List ℕ) → All IsMarked ms → n ≡ length ms + left
+front_run : (ms : List ℕ) (n left : ℕ) (before y : List ℕ) → All IsContinuation ms → n ≡ length ms + left
     → front_from n before (ms ++ y) ≡ front_from left (before ++ ms) y
 front_run [] n left before y all room = let same : n ≡ left = omega (arith, room) in rw (same, append-nil before) refl
 front_run (m ∷ ms) zero left before y all room = absurd (omega (arith, room))
 front_run (m ∷ ms) (suc n) left before y all room =
-    rw (le-ltb m 128 (All-head IsMarked m ms all))
-    (front_run ms n left (before ++ m ∷ []) y (All-tail IsMarked m ms all) (omega (arith, room))
+    rw (le-ltb m 128 (All-head IsContinuation m ms all))
+    (front_run ms n left (before ++ m ∷ []) y (All-tail IsContinuation m ms all) (omega (arith, room))
     ∙ ap (λ z. front_from left z y) (append_assoc before (m ∷ []) ms))
 
-front_ends : (ms : List ℕ) (b : ℕ) (rest x : List ℕ) → All IsMarked ms → length ms ≤ max_marked → b < 128
-    → (length ms ≡ max_marked → b < last_byte_limit) → x ≡ ms ++ b ∷ rest → front_of x ≡ ends_with ms b rest
+front_ends : (ms : List ℕ) (b : ℕ) (rest x : List ℕ) → All IsContinuation ms → length ms ≤ max_continuation → b < 128
+    → (length ms ≡ max_continuation → b < last_byte_limit) → x ≡ ms ++ b ∷ rest → front_of x ≡ ends_with ms b rest
 front_ends ms b rest x all few small most cut =
-    ap front_of cut ∙ front_run ms max_marked (max_marked - length ms) [] (b ∷ rest) all (omega (arith, few))
-    ∙ last (max_marked - length ms) (λ none. most (omega (arith, none, few)))
+    ap front_of cut ∙ front_run ms max_continuation (max_continuation - length ms) [] (b ∷ rest) all (omega (arith, few))
+    ∙ last (max_continuation - length ms) (λ none. most (omega (arith, none, few)))
   where
     last : (left : ℕ) → (left ≡ 0 → b < last_byte_limit) → front_from left ms (b ∷ rest) ≡ ends_with ms b rest
     last zero low = rw (lt-ltb b last_byte_limit (low refl)) refl
@@ -148,35 +148,35 @@ ends_zero (m ∷ ms) rest some = refl
 pub front_is : (x : List ℕ) (f : Front) → HasFront x f → f ≡ front_of x
 front_is x (number n rest) (bytes, v, cut) =
     let few = varint_length n bytes v in
-    let ms = marked v.front in
+    let ms = continuation_bytes v.front in
     let long : length ms ≡ length v.front = length-map v.front (λ d. d + 128) in
     let whole : x ≡ ms ++ v.last ∷ rest = cut ∙ ap (λ b. b ++ rest) v.spelled ∙ append_assoc ms (v.last ∷ []) rest in
     let last : v.last < 128 = All-head IsDigit v.last [] (All-append_right IsDigit v.front (v.last ∷ []) v.digits) in
     let front = All-append_left IsDigit v.front (v.last ∷ []) v.digits in
     let value : place_value 128 (low_digits (ms ++ v.last ∷ [])) ≡ n =
-    rw (map_push (λ b. b % 128) ms v.last, low_digits-marked v.front front, mod-eq_of_lt last) v.value in
-    sym (front_ends ms v.last rest x (All-marked v.front) (omega (arith, few.0, long)) last (λ most. few.1 (sym long ∙ most)) whole
-    ∙ ends_number ms v.last rest (λ z. ap marked (v.minimal z)) ∙ ap (λ m. number m rest) value)
+    rw (map_push (λ b. b % 128) ms v.last, low_digits-continuation_bytes v.front front, mod-eq_of_lt last) v.value in
+    sym (front_ends ms v.last rest x (All-continuation_bytes v.front) (omega (arith, few.0, long)) last (λ most. few.1 (sym long ∙ most)) whole
+    ∙ ends_number ms v.last rest (λ z. ap continuation_bytes (v.minimal z)) ∙ ap (λ m. number m rest) value)
 front_is x (fault insufficient) h =
-    sym (ap front_of (sym (append-nil x)) ∙ front_run x max_marked (max_marked - length x) [] [] h.all_marked (omega (arith, h.few)))
+    sym (ap front_of (sym (append-nil x)) ∙ front_run x max_continuation (max_continuation - length x) [] [] h.all_continuation (omega (arith, h.few)))
 front_is x (fault overflow) h =
-    sym (ap front_of h.cut ∙ front_run h.front max_marked 0 [] (h.byte ∷ h.rest) h.all_marked (omega (arith, h.most))
+    sym (ap front_of h.cut ∙ front_run h.front max_continuation 0 [] (h.byte ∷ h.rest) h.all_continuation (omega (arith, h.most))
     ∙ rw (le-ltb h.byte last_byte_limit h.too_large) refl)
 front_is x (fault not_minimal) h =
-    sym (front_ends h.front 0 h.rest x h.all_marked h.few (omega arith) (λ _. omega arith) h.cut ∙ ends_zero h.front h.rest h.some)
+    sym (front_ends h.front 0 h.rest x h.all_continuation h.few (omega arith) (λ _. omega arith) h.cut ∙ ends_zero h.front h.rest h.some)
 
 pub front_unique : (x : List ℕ) (a b : Front) → HasFront x a → HasFront x b → a ≡ b
 front_unique x a b h k = front_is x a h ∙ sym (front_is x b k)
 
-pub number_no_fault : (x : List ℕ) (n : ℕ) (r : List ℕ) (f : VarintFault) → HasFront x (number n r) → HasFaultyFront f x → ⊥
+pub number_no_fault : (x : List ℕ) (n : ℕ) (r : List ℕ) (f : VarintError) → HasFront x (number n r) → BeginsMalformed f x → ⊥
 number_no_fault x n r f h k = let same : number n r ≡ fault f = front_unique x (number n r) (fault f) h k in cc
 
 -- and an input of bytes has that one
-ends_has : (ms : List ℕ) (b : ℕ) (rest : List ℕ) → All IsMarked ms → b < 128 → length ms ≤ max_marked
-    → (length ms ≡ max_marked → b < last_byte_limit) → IsBytes (ms ++ b ∷ rest) → HasFront (ms ++ b ∷ rest) (ends_with ms b rest)
+ends_has : (ms : List ℕ) (b : ℕ) (rest : List ℕ) → All IsContinuation ms → b < 128 → length ms ≤ max_continuation
+    → (length ms ≡ max_continuation → b < last_byte_limit) → IsBytes (ms ++ b ∷ rest) → HasFront (ms ++ b ∷ rest) (ends_with ms b rest)
 ends_has [] b rest all small few most bytes =
     (b ∷ [], varint_from_bytes [] b (All-nil (λ n. n < 256)) all small few most (λ _. refl), refl)
-ends_has (m ∷ ms) zero rest all small few most bytes = zero_behind (m ∷ ms) rest all (omega arith) few
+ends_has (m ∷ ms) zero rest all small few most bytes = zero_after (m ∷ ms) rest all (omega arith) few
 ends_has (m ∷ ms) (suc b) rest all small few most bytes = (
   (m ∷ ms) ++ suc b ∷ [],
   varint_from_bytes (m ∷ ms) (suc b) (All-append_left (λ n. n < 256) (m ∷ ms) (suc b ∷ rest) bytes) all small few most
@@ -184,24 +184,24 @@ ends_has (m ∷ ms) (suc b) rest all small few most bytes = (
   sym (append_assoc (m ∷ ms) (suc b ∷ []) rest),
 )
 
-front_has : (left : ℕ) (ms y : List ℕ) → All IsMarked ms → length ms + left ≡ max_marked → IsBytes (ms ++ y)
+front_has : (left : ℕ) (ms y : List ℕ) → All IsContinuation ms → length ms + left ≡ max_continuation → IsBytes (ms ++ y)
     → HasFront (ms ++ y) (front_from left ms y)
-front_has left ms [] all room bytes = rw (append-nil ms) (record { few = omega (arith, room); all_marked = all })
+front_has left ms [] all room bytes = rw (append-nil ms) (record { few = omega (arith, room); all_continuation = all })
 front_has zero ms (b ∷ rest) all room bytes =
     elim (cases_lt b last_byte_limit) [
       | inl low ↦ rw (lt-ltb b last_byte_limit low) (ends_has ms b rest all (omega arith) (omega (arith, room)) (λ _. low) bytes)
-      | inr high ↦ rw (le-ltb b last_byte_limit high) (overflow_behind ms b rest all (omega (arith, room)) high)
+      | inr high ↦ rw (le-ltb b last_byte_limit high) (overflow_after ms b rest all (omega (arith, room)) high)
     ]
 front_has (suc left) ms (b ∷ rest) all room bytes =
     elim (cases_lt b 128) [
       | inl small ↦ rw (lt-ltb b 128 small) (ends_has ms b rest all small (omega (arith, room)) (λ most. absurd (omega (arith, room, most))) bytes)
       | inr large ↦ rw (le-ltb b 128 large, ← append_assoc ms (b ∷ []) rest)
-          (front_has left (ms ++ b ∷ []) rest (All-push IsMarked ms b all large) (omega (arith, room, length_push ms b))
+          (front_has left (ms ++ b ∷ []) rest (All-push IsContinuation ms b all large) (omega (arith, room, length_push ms b))
           (rw (append_assoc ms (b ∷ []) rest) bytes))
     ]
 
 pub front_of_has : (x : List ℕ) → IsBytes x → HasFront x (front_of x)
-front_of_has x bytes = front_has max_marked [] x (All-nil IsMarked) refl bytes
+front_of_has x bytes = front_has max_continuation [] x (All-nil IsContinuation) refl bytes
 
 -- a number and what follows is all that is at the front
 pub same_number : (x : List ℕ) (m n : ℕ) (r q : List ℕ) → HasFront x (number m r) → HasFront x (number n q) → (m ≡ n) × (r ≡ q)
@@ -210,9 +210,9 @@ same_number x m n r q h k = let same = front_unique x (number m r) (number n q) 
 -- a varint has a byte more than its front
 pub varint_bytes : (n : ℕ) (bytes : List ℕ) (v : IsVarint n bytes) → length bytes ≡ length v.front + 1
 varint_bytes n bytes v =
-    omega (arith, ap length v.spelled, length-append (marked v.front) (v.last ∷ []), length-map v.front (λ digit. digit + 128))
+    omega (arith, ap length v.spelled, length-append (continuation_bytes v.front) (v.last ∷ []), length-map v.front (λ digit. digit + 128))
 
-pub varint_longest : (n : ℕ) (bytes : List ℕ) → IsVarint n bytes → length bytes ≤ max_marked + 1
+pub varint_longest : (n : ℕ) (bytes : List ℕ) → IsVarint n bytes → length bytes ≤ max_continuation + 1
 varint_longest n bytes v = omega (arith, varint_bytes n bytes v, (varint_length n bytes v).0)
 
 -- a number above zero has as many bytes as its bits need, seven in each
@@ -221,8 +221,8 @@ varint_bits n bytes v some =
     let two : 0 < 2 = omega arith in
     let top = leading_top 64 n some (omega (arith, v.in_range)) in
     let above : 2 ^ suc top.0 ≤ 2 ^ (7 * suc (top.0 / 7)) = pow-le-pow_right two (omega arith) in
-    let places : 2 ^ (7 * suc (top.0 / 7)) ≡ 128 ^ suc (top.0 / 7) = pow_power 7 (suc (top.0 / 7)) in
-    let most : length v.front ≤ top.0 / 7 = front_within (top.0 / 7) n bytes v (omega (arith, top.3, above, places)) in
+    let buffer : 2 ^ (7 * suc (top.0 / 7)) ≡ 128 ^ suc (top.0 / 7) = pow_power 7 (suc (top.0 / 7)) in
+    let most : length v.front ≤ top.0 / 7 = front_within (top.0 / 7) n bytes v (omega (arith, top.3, above, buffer)) in
     let long : length (v.front ++ v.last ∷ []) ≡ suc (length v.front) = omega (arith, length_push v.front v.last) in
     let under : n < 128 ^ suc (length v.front) = rw (v.value, long) at (place_value_below 128 (v.front ++ v.last ∷ []) v.digits) in
     let same : 2 ^ (7 * suc (length v.front)) ≡ 128 ^ suc (length v.front) = pow_power 7 (suc (length v.front)) in

@@ -6,33 +6,33 @@ use Rattle.std.proofs.Math.Nat.{lt_of_not-le}
 use Rattle.std.proofs.lemmas.Nat.{and_mask}
 use Rattle.std.proofs.lemmas.List.{length_push, nil_from_length}
 use Rattle.std.proofs.lemmas.List.Elements.{All-nil, All-push}
-use Rattle.multihash.specs.Bytes.{IsBytes, IsProperBeginning, place_value}
-use Rattle.multihash.specs.Varint.{max_marked, last_byte_limit, IsMarked, VarintFault, insufficient, overflow, not_minimal, IsInsufficient, HasFaultyFront}
+use Rattle.multihash.specs.Bytes.{IsBytes, IsStrictPrefix, place_value}
+use Rattle.multihash.specs.Varint.{max_continuation, last_byte_limit, IsContinuation, VarintError, insufficient, overflow, not_minimal, IsInsufficient, BeginsMalformed}
 use Rattle.multihash.specs.Fault.{Fault}
-use Rattle.multihash.specs.Reading.{Takes}
+use Rattle.multihash.specs.Reading.{Consumes}
 use Rattle.multihash.specs.Refusal.{Refusal, of_io, of_varint}
-use Rattle.multihash.specs.Taking.{TakesVarint, TakesAtVarintRefusal}
+use Rattle.multihash.specs.Consuming.{ConsumesVarint, ConsumesAtVarintError}
 use Rattle.multihash.proofs.Varints.DigitLemmas.{place_value-nil, place_value-cons, low_digits, or_digits}
-use Rattle.multihash.proofs.Varints.VarintLemmas.{low_digits_in_range, varint_from_bytes, overflow_behind, zero_behind}
-use Rattle.multihash.proofs.Readings.ReadingLemmas.{Takes-none, Takes-joined}
+use Rattle.multihash.proofs.Varints.VarintLemmas.{low_digits_in_range, varint_from_bytes, overflow_after, zero_after}
+use Rattle.multihash.proofs.Readings.ReadingLemmas.{Consumes-none, Consumes-concatenated}
 use Rattle.multihash.proofs.Readings.SettlingLemmas.{before_step}
 
 -- that many bytes were consumed, all of them marked, and the sum is the value of their digits
-pub record ReadsMarked (old now : Option (List ℕ)) (sum i : ℕ) : Type 0 where
+pub record ReadsContinuation (old now : Option (List ℕ)) (sum i : ℕ) : Type 0 where
   pub front : List ℕ
-  pub takes : Takes old front now
+  pub consumes : Consumes old front now
   pub bytes : IsBytes front
-  pub marked : All IsMarked front
+  pub continuation_bytes : All IsContinuation front
   pub long : length front ≡ i
-  pub few : i ≤ max_marked
+  pub few : i ≤ max_continuation
   pub value : sum ≡ place_value 128 (low_digits front)
 
-pub none_read : (old : Option (List ℕ)) → ReadsMarked old old 0 0
+pub none_read : (old : Option (List ℕ)) → ReadsContinuation old old 0 0
 none_read old = record {
   front = [];
-  takes = Takes-none old;
+  consumes = Consumes-none old;
   bytes = All-nil (λ b. b < 256);
-  marked = All-nil IsMarked;
+  continuation_bytes = All-nil IsContinuation;
   long = refl;
   few = omega arith;
   value = sym (place_value-nil 128);
@@ -42,12 +42,12 @@ none_read old = record {
 digit_of : (byte : ℕ) → bit_and byte 127 ≡ place_value 128 (low_digits (byte ∷ []))
 digit_of byte = and_mask byte 7 ∙ omega (arith, place_value-cons 128 (byte % 128) [], place_value-nil 128)
 
-pub one_read : (now : Option (List ℕ)) (byte : ℕ) → byte < 256 → 128 ≤ byte → ReadsMarked (prepend_known (byte ∷ []) now) now (bit_and byte 127) 1
+pub one_read : (now : Option (List ℕ)) (byte : ℕ) → byte < 256 → 128 ≤ byte → ReadsContinuation (prepend_known (byte ∷ []) now) now (bit_and byte 127) 1
 one_read now byte small large = record {
   front = byte ∷ [];
-  takes = refl;
+  consumes = refl;
   bytes = All-push (λ b. b < 256) [] byte (All-nil (λ b. b < 256)) small;
-  marked = All-push IsMarked [] byte (All-nil IsMarked) large;
+  continuation_bytes = All-push IsContinuation [] byte (All-nil IsContinuation) large;
   long = refl;
   few = omega arith;
   value = digit_of byte;
@@ -57,87 +57,87 @@ one_read now byte small large = record {
 abbrev pub with_byte : ℕ → ℕ → ℕ → ℕ
 with_byte sum byte i = bit_or sum (bit_and byte 127 * 2 ^ (7 * i) % 2 ^ 64)
 
-module _ (old now : Option (List ℕ)) (sum i : ℕ) (h : ReadsMarked old now sum i) where
+module _ (old now : Option (List ℕ)) (sum i : ℕ) (h : ReadsContinuation old now sum i) where
   -- what begins continuation bytes and one more ends inside a varint
-  before_last : (byte : ℕ) (shorter : List ℕ) → IsProperBeginning shorter (h.front ++ byte ∷ []) → IsInsufficient shorter
+  before_last : (byte : ℕ) (shorter : List ℕ) → IsStrictPrefix shorter (h.front ++ byte ∷ []) → IsInsufficient shorter
   before_last byte shorter begins =
       before_step (h.front ++ byte ∷ []) shorter
-      (record { front = h.front; last = byte; all_marked = h.marked; few = omega (arith, h.few, h.long); cut = refl }) begins
+      (record { front = h.front; last = byte; all_continuation = h.continuation_bytes; few = omega (arith, h.few, h.long); cut = refl }) begins
 
-  before_end : (shorter : List ℕ) → IsProperBeginning shorter h.front → IsInsufficient shorter
+  before_end : (shorter : List ℕ) → IsStrictPrefix shorter h.front → IsInsufficient shorter
   before_end shorter (rest, some, cut) =
       before_last 0 shorter
       (rest ++ 0 ∷ [], (λ none. omega (arith, ap length none, length_push rest 0)), ap (λ z. z ++ 0 ∷ []) cut ∙ append_assoc shorter rest (0 ∷ []))
 
   whole : IsInsufficient h.front
-  whole = record { few = omega (arith, h.few, h.long); all_marked = h.marked }
+  whole = record { few = omega (arith, h.few, h.long); all_continuation = h.continuation_bytes }
 
   -- the bytes that were consumed show a fault
-  refused : (new : Option (List ℕ)) (fault : VarintFault) (taken : List ℕ) (e : Refusal) → e ≡ of_varint fault → HasFaultyFront fault taken
-      → ((shorter : List ℕ) → IsProperBeginning shorter taken → IsInsufficient shorter) → (fault ≡ insufficient → IsAtEnd new)
-      → Takes old taken new → TakesAtVarintRefusal e old new
-  refused new fault taken e given has no_sooner all takes = record {
-    taken = taken;
-    takes = takes;
-    shows = λ f faulty. let same : fault ≡ f = cc (given, faulty) in subst (λ k. HasFaultyFront k taken) same has;
+  refused : (new : Option (List ℕ)) (fault : VarintError) (consumed : List ℕ) (e : Refusal) → e ≡ of_varint fault → BeginsMalformed fault consumed
+      → ((shorter : List ℕ) → IsStrictPrefix shorter consumed → IsInsufficient shorter) → (fault ≡ insufficient → IsAtEnd new)
+      → Consumes old consumed new → ConsumesAtVarintError e old new
+  refused new fault consumed e given has no_sooner all consumes = record {
+    consumed = consumed;
+    consumes = consumes;
+    shows = λ f malformed. let same : fault ≡ f = cc (given, malformed) in subst (λ k. BeginsMalformed k consumed) same has;
     no_sooner = no_sooner;
-    all = λ faulty. all (cc (given, faulty));
+    all = λ malformed. all (cc (given, malformed));
     failed = λ own. absurd (cc (given, own.1));
   }
 
-  pub reader_failed : (fault : Fault) (e : Refusal) → e ≡ of_io fault → TakesAtVarintRefusal e old now
+  pub reader_failed : (fault : Fault) (e : Refusal) → e ≡ of_io fault → ConsumesAtVarintError e old now
   reader_failed fault e given = record {
-    taken = h.front;
-    takes = h.takes;
-    shows = λ f faulty. absurd (cc (given, faulty));
+    consumed = h.front;
+    consumes = h.consumes;
+    shows = λ f malformed. absurd (cc (given, malformed));
     no_sooner = before_end;
-    all = λ faulty. absurd (cc (given, faulty));
+    all = λ malformed. absurd (cc (given, malformed));
     failed = λ _. whole;
   }
 
-  pub input_ended : IsAtEnd now → (e : Refusal) → e ≡ of_varint insufficient → TakesAtVarintRefusal e old now
-  input_ended end e given = refused now insufficient h.front e given whole before_end (λ _. end) h.takes
+  pub input_ended : IsAtEnd now → (e : Refusal) → e ≡ of_varint insufficient → ConsumesAtVarintError e old now
+  input_ended end e given = refused now insufficient h.front e given whole before_end (λ _. end) h.consumes
 
-  module _ (new : Option (List ℕ)) (byte : ℕ) (next : Takes now (byte ∷ []) new) where
-    takes : Takes old (h.front ++ byte ∷ []) new
-    takes = Takes-joined old now new h.front (byte ∷ []) (h.front ++ byte ∷ []) refl h.takes next
+  module _ (new : Option (List ℕ)) (byte : ℕ) (next : Consumes now (byte ∷ []) new) where
+    consumes : Consumes old (h.front ++ byte ∷ []) new
+    consumes = Consumes-concatenated old now new h.front (byte ∷ []) (h.front ++ byte ∷ []) refl h.consumes next
 
-    pub too_large : i ≡ max_marked → last_byte_limit ≤ byte → (e : Refusal) → e ≡ of_varint overflow → TakesAtVarintRefusal e old new
+    pub too_large : i ≡ max_continuation → last_byte_limit ≤ byte → (e : Refusal) → e ≡ of_varint overflow → ConsumesAtVarintError e old new
     too_large most large e given =
         refused new overflow (h.front ++ byte ∷ []) e given
-        (overflow_behind h.front byte [] h.marked (h.long ∙ most) large)
-        (before_last byte) (λ same. cc) takes
+        (overflow_after h.front byte [] h.continuation_bytes (h.long ∙ most) large)
+        (before_last byte) (λ same. cc) consumes
 
-    pub ends_in_zero : byte ≡ 0 → 0 < i → (e : Refusal) → e ≡ of_varint not_minimal → TakesAtVarintRefusal e old new
+    pub ends_in_zero : byte ≡ 0 → 0 < i → (e : Refusal) → e ≡ of_varint not_minimal → ConsumesAtVarintError e old new
     ends_in_zero null some e given =
         refused new not_minimal (h.front ++ byte ∷ []) e given
-        (rw null (zero_behind h.front [] h.marked (omega (arith, h.long)) (omega (arith, h.long, h.few))))
-        (before_last byte) (λ same. cc) takes
+        (rw null (zero_after h.front [] h.continuation_bytes (omega (arith, h.long)) (omega (arith, h.long, h.few))))
+        (before_last byte) (λ same. cc) consumes
 
-    module _ (most : i ≡ max_marked → byte < last_byte_limit) where
+    module _ (most : i ≡ max_continuation → byte < last_byte_limit) where
       -- the code's sum is the value with one more digit
       with_byte_is : with_byte sum byte i ≡ place_value 128 (low_digits (h.front ++ byte ∷ []))
       with_byte_is =
           let fits = low_digits_in_range h.front byte (omega (arith, h.long, h.few)) (λ e. most (sym h.long ∙ e)) in
           rw (h.value, digit_of byte) (or_digits h.front (byte ∷ []) i h.long (omega (arith, fits)))
 
-      pub read_last : byte < 128 → (byte ≡ 0 → i ≡ 0) → TakesVarint (with_byte sum byte i) old new
+      pub read_last : byte < 128 → (byte ≡ 0 → i ≡ 0) → ConsumesVarint (with_byte sum byte i) old new
       read_last low minimal = (
         h.front ++ byte ∷ [],
         rw with_byte_is
-            (varint_from_bytes h.front byte h.bytes h.marked low (omega (arith, h.long, h.few)) (λ e. most (sym h.long ∙ e))
+            (varint_from_bytes h.front byte h.bytes h.continuation_bytes low (omega (arith, h.long, h.few)) (λ e. most (sym h.long ∙ e))
             (λ z. nil_from_length h.front (h.long ∙ minimal z))),
-        takes,
+        consumes,
       )
 
-      pub read_more : byte < 256 → 128 ≤ byte → ReadsMarked old new (with_byte sum byte i) (i + 1)
+      pub read_more : byte < 256 → 128 ≤ byte → ReadsContinuation old new (with_byte sum byte i) (i + 1)
       read_more small large = record {
         front = h.front ++ byte ∷ [];
-        takes = takes;
+        consumes = consumes;
         bytes = All-push (λ b. b < 256) h.front byte h.bytes small;
-        marked = All-push IsMarked h.front byte h.marked large;
+        continuation_bytes = All-push IsContinuation h.front byte h.continuation_bytes large;
         long = omega (arith, length_push h.front byte, h.long);
-        few = omega (arith, lt_of_not-le (λ (all : max_marked ≤ i). omega (arith, most (omega (arith, h.few)))));
+        few = omega (arith, lt_of_not-le (λ (all : max_continuation ≤ i). omega (arith, most (omega (arith, h.few)))));
         value = with_byte_is;
       }
 

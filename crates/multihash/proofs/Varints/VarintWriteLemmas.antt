@@ -7,7 +7,7 @@ use Rattle.std.proofs.lemmas.List.{map_push, length_push, nil_from_length}
 use Rattle.std.proofs.lemmas.List.Elements.{All-nil, All-push}
 use Rattle.std.proofs.lemmas.Bool.{cases_lt, lt-ltb, le-ltb}
 use Rattle.multihash.specs.Bytes.{place_value}
-use Rattle.multihash.specs.Varint.{varint_limit, max_marked, marked, IsVarint}
+use Rattle.multihash.specs.Varint.{varint_limit, max_continuation, continuation_bytes, IsVarint}
 use Rattle.multihash.proofs.Varints.DigitLemmas.{place_value-nil, place_value_last, IsDigit}
 use Rattle.multihash.specs.Encoded.{varint_within, varint_of}
 
@@ -18,7 +18,7 @@ pub record Wrote (now : List ℕ) (len n rest : ℕ) : Type 0 where
   pub digits : All IsDigit front
   pub more : 0 < len → 0 < rest
   pub value : n ≡ place_value 128 front + rest * 128 ^ len
-  pub spelled : now ≡ marked front
+  pub spelled : now ≡ continuation_bytes front
 
 pub none_wrote : (n : ℕ) → Wrote [] 0 n n
 none_wrote n = record {
@@ -30,8 +30,8 @@ none_wrote n = record {
   spelled = refl;
 }
 
-marked_byte : (rest : ℕ) → bit_or (bit_and rest 127) 128 ≡ rest % 128 + 128
-marked_byte rest =
+continuation_byte : (rest : ℕ) → bit_or (bit_and rest 127) 128 ≡ rest % 128 + 128
+continuation_byte rest =
     rw (and_mask rest 7) (or_comm (rest % 128) 128 ∙ or_shifted 1 7 (rest % 128) (mod_below rest 128 (omega arith)) ∙ omega arith)
 
 module _ (now : List ℕ) (len n rest : ℕ) (h : Wrote now len n rest) where
@@ -44,7 +44,7 @@ module _ (now : List ℕ) (len n rest : ℕ) (h : Wrote now len n rest) where
     value =
         rw (place_value_last 128 (rest % 128) h.front, h.long, add-one, pow-suc 128 len)
         (omega (arith, h.value, ap (λ (m : ℕ). m * 128 ^ len) (div-add-mod' rest 128)));
-    spelled = e ∙ rw (marked_byte rest, h.spelled) (sym (map_push (λ d. d + 128) h.front (rest % 128)));
+    spelled = e ∙ rw (continuation_byte rest, h.spelled) (sym (map_push (λ d. d + 128) h.front (rest % 128)));
   }
 
   module _ (range : n < varint_limit) where
@@ -60,11 +60,11 @@ module _ (now : List ℕ) (len n rest : ℕ) (h : Wrote now len n rest) where
     }
 
     -- the digits that were written leave room for the rest
-    pub wrote_few : len ≤ max_marked
+    pub wrote_few : len ≤ max_continuation
     wrote_few =
         let base : 0 < 128 = omega arith in
-        let few : len < suc max_marked = lt_of_not-le (λ long.
-        let high : 128 ^ suc max_marked ≤ 128 ^ len = pow-le-pow_right base long in
+        let few : len < suc max_continuation = lt_of_not-le (λ long.
+        let high : 128 ^ suc max_continuation ≤ 128 ^ len = pow-le-pow_right base long in
         omega (arith, high, h.value, range, mul-le-mul_right (128 ^ len) (h.more (omega arith)))) in
         omega arith
 
@@ -94,7 +94,7 @@ written_within (suc most) now len n rest h range below =
       | inl small ↦ rw (lt-ltb rest 128 small) (wrote_last now len n rest h range small)
       | inr large ↦
           let next = now ++ (rest % 128 + 128) ∷ [] in
-          let more = wrote_more now len n rest h next large (rw (marked_byte rest) refl) in
+          let more = wrote_more now len n rest h next large (rw (continuation_byte rest) refl) in
           rw (le-ltb rest 128 large, ← append_assoc now ((rest % 128 + 128) ∷ []) (varint_within most (rest / 128)))
           (written_within most next (len + 1) n (rest / 128) more range
           (div_below rest 128 (128 ^ suc most) (omega arith) (omega (arith, below, pow-suc 128 (suc most)))))
@@ -103,7 +103,7 @@ written_within (suc most) now len n rest h range below =
 -- each number in range has its varint
 pub is_varint_of : (n : ℕ) → n < varint_limit → IsVarint n (varint_of n)
 unfolding varint_of
-is_varint_of n below = written_within max_marked [] 0 n n (none_wrote n) below (omega (arith, below))
+is_varint_of n below = written_within max_continuation [] 0 n n (none_wrote n) below (omega (arith, below))
 
 pub varint_exists : (n : ℕ) → n < varint_limit → (bytes : List ℕ) × IsVarint n bytes
 varint_exists n below = (varint_of n, is_varint_of n below)

@@ -7,13 +7,13 @@ use Rattle.std.proofs.Math.Seq.{take-suc, take-add}
 use Rattle.std.proofs.lemmas.List.{drop-replicate, length-replicate, length-take, length-take-le, take_min, take_all, get_or_past, get_or-take, get_or-drop, nil_from_length, take_more, take-take, take-append-drop, drop_more, drop-take}
 use Rattle.std.proofs.lemmas.List.Elements.{All-from_get_or, All-nil, All-take, All-drop, All-more}
 use Rattle.multihash.specs.Bytes.{IsBytes, place_value}
-use Rattle.multihash.specs.Word.{IsFrontWord, BeginsMarked, digits_low}
+use Rattle.multihash.specs.Word.{IsFrontWord, BeginsWithContinuation, digits_low}
 use Rattle.multihash.proofs.Varints.DigitLemmas.{place_value-nil, place_value-cons, place_value_append, place_value_last, low_digits, or_digits}
 use Rattle.std.proofs.Math.Nat.{add-zero, lt_of_not-le, zero-add}
 use Rattle.std.proofs.lemmas.Nat.{and_mask}
-use Rattle.multihash.specs.Varint.{max_marked, last_byte_limit, IsMarked, IsVarint, IsInsufficient, IsOverflow, IsNotMinimal}
-use Rattle.multihash.proofs.Varints.VarintLemmas.{varint_from_bytes, overflow_behind, zero_behind}
-use Rattle.multihash.proofs.Varints.WordLemmas.{byte_at, byte_of, halves, low_bytes, high_bytes, digits_low_of, stops, stop_at, varint_bits, StopsAt, first_unmarked, last_place, too_large, kept_last, few_marked, too_large_byte}
+use Rattle.multihash.specs.Varint.{max_continuation, last_byte_limit, IsContinuation, IsVarint, IsInsufficient, IsOverflow, IsNotMinimal}
+use Rattle.multihash.proofs.Varints.VarintLemmas.{varint_from_bytes, overflow_after, zero_after}
+use Rattle.multihash.proofs.Varints.WordLemmas.{byte_at, byte_of, halves, low_bytes, high_bytes, digits_low_of, stops, stop_at, varint_bits, StopsAt, first_unmarked, last_place, too_large, kept_last, few_continuation, too_large_byte}
 
 -- ---- filling a word
 
@@ -71,38 +71,38 @@ cut_front xs n word few is = record {
 -- ---- where the continuation bytes of an input end
 
 -- further continuation bytes after those that begin the input
-begins_more : (xs : List ℕ) (at m : ℕ) → BeginsMarked at xs → ((i : ℕ) → i < m → 128 ≤ get_or xs (at + i) 0) → BeginsMarked (at + m) xs
+begins_more : (xs : List ℕ) (at m : ℕ) → BeginsWithContinuation at xs → ((i : ℕ) → i < m → 128 ≤ get_or xs (at + i) 0) → BeginsWithContinuation (at + m) xs
 begins_more xs at zero begins more = rw (add-zero at) begins
 begins_more xs at (suc m) begins more =
     let front = begins_more xs at m begins (λ i run. more i (omega arith)) in
     let large : 128 ≤ get_or xs (at + m) 0 = more m (omega arith) in
     let within : at + m < length xs = lt_of_not-le (λ past. omega (arith, large, get_or_past xs (at + m) 0 past)) in
     let next : at + suc m ≡ at + m + 1 = omega arith in
-    rw next (record { enough = omega arith; all_marked = All-more IsMarked xs (at + m) 0 within front.all_marked large })
+    rw next (record { enough = omega arith; all_continuation = All-more IsContinuation xs (at + m) 0 within front.all_continuation large })
 
 cut_at : (xs : List ℕ) (k : ℕ) → k < length xs → xs ≡ take k xs ++ get_or xs k 0 ∷ drop (k + 1) xs
 cut_at xs k below = sym (take-append-drop k xs) ∙ ap (λ (back : List ℕ). take k xs ++ back) (drop_more xs k 0 below)
 
-overflow_at : (xs : List ℕ) → BeginsMarked max_marked xs → last_byte_limit ≤ get_or xs max_marked 0 → IsOverflow xs
+overflow_at : (xs : List ℕ) → BeginsWithContinuation max_continuation xs → last_byte_limit ≤ get_or xs max_continuation 0 → IsOverflow xs
 overflow_at xs begins large =
-    rw (cut_at xs max_marked (lt_of_not-le (λ past. omega (arith, large, get_or_past xs max_marked 0 past))))
-    (overflow_behind (take max_marked xs) (get_or xs max_marked 0) (drop (max_marked + 1) xs) begins.all_marked
-    (length-take-le max_marked xs begins.enough) large)
+    rw (cut_at xs max_continuation (lt_of_not-le (λ past. omega (arith, large, get_or_past xs max_continuation 0 past))))
+    (overflow_after (take max_continuation xs) (get_or xs max_continuation 0) (drop (max_continuation + 1) xs) begins.all_continuation
+    (length-take-le max_continuation xs begins.enough) large)
 
 -- that many continuation bytes begin the input, and the last is not marked, which counts as zero where the input ends
 pub record EndsAt (xs : List ℕ) (k last : ℕ) : Type 0 where
   pub bytes : IsBytes xs
-  pub begins : BeginsMarked k xs
-  pub few : k ≤ max_marked
+  pub begins : BeginsWithContinuation k xs
+  pub few : k ≤ max_continuation
   pub last_is : last ≡ get_or xs k 0
-  pub unmarked : last < 128
-  pub small : k ≡ max_marked → last < last_byte_limit
+  pub below_128 : last < 128
+  pub small : k ≡ max_continuation → last < last_byte_limit
 
 module _ (xs : List ℕ) (word present k last : ℕ) (f : IsFrontWord xs word present) (end : EndsAt xs k last) where
   pub ends_short : present ≤ k → IsInsufficient xs
   ends_short past =
       let all : take k xs ≡ xs = take_all k xs (omega (arith, f.present_is, end.few)) in
-      record { few = omega (arith, f.present_is, end.few); all_marked = rw all at end.begins.all_marked }
+      record { few = omega (arith, f.present_is, end.few); all_continuation = rw all at end.begins.all_continuation }
 
   module _ (within : k < present) where
     below : k < length xs
@@ -114,12 +114,12 @@ module _ (xs : List ℕ) (word present k last : ℕ) (f : IsFrontWord xs word pr
     pub ends_zero : last ≡ 0 → 0 < k → IsNotMinimal xs
     ends_zero null some =
         rw (cut_at xs k below, ← end.last_is, null)
-        (zero_behind (take k xs) (drop (k + 1) xs) end.begins.all_marked (omega (arith, long)) (omega (arith, long, end.few)))
+        (zero_after (take k xs) (drop (k + 1) xs) end.begins.all_continuation (omega (arith, long)) (omega (arith, long, end.few)))
 
     pub ends_number : (last ≡ 0 → k ≡ 0) → IsVarint (place_value 128 (low_digits (take (k + 1) xs))) (take (k + 1) xs)
     ends_number minimal =
         rw (take_more xs k 0 below, ← end.last_is)
-        (varint_from_bytes (take k xs) last (All-take (λ b. b < 256) k xs end.bytes) end.begins.all_marked end.unmarked (omega (arith, long, end.few))
+        (varint_from_bytes (take k xs) last (All-take (λ b. b < 256) k xs end.bytes) end.begins.all_continuation end.below_128 (omega (arith, long, end.few))
         (λ e. end.small (sym long ∙ e)) (λ z. nil_from_length (take k xs) (long ∙ minimal z)))
 
 -- ---- what half a word says of the bytes that it holds, which are those from `at` on
@@ -137,13 +137,13 @@ module _ (xs : List ℕ) (at half : ℕ) (bytes : IsBytes xs) (is : half ≡ pla
       ∙ get_or-take 8 (drop at xs) i 0 few ∙ get_or-drop at xs i 0
 
   -- its continuation bytes, or fewer of them
-  half_begins : (m : ℕ) → BeginsMarked at xs → m ≤ stop_at half → m ≤ 8 → BeginsMarked (at + m) xs
+  half_begins : (m : ℕ) → BeginsWithContinuation at xs → m ≤ stop_at half → m ≤ 8 → BeginsWithContinuation (at + m) xs
   half_begins m begins run few =
       begins_more xs at m begins (λ i below. rw (← half_byte i (omega arith)) (half_stop.before i (omega arith)))
 
   module _ (early : stop_at half < 8) where
-    half_end : BeginsMarked at xs → at + stop_at half ≤ max_marked
-        → (at + stop_at half ≡ max_marked → varint_bits half / 2 ^ (8 * stop_at half) < last_byte_limit)
+    half_end : BeginsWithContinuation at xs → at + stop_at half ≤ max_continuation
+        → (at + stop_at half ≡ max_continuation → varint_bits half / 2 ^ (8 * stop_at half) < last_byte_limit)
         → EndsAt xs (at + stop_at half) (varint_bits half / 2 ^ (8 * stop_at half))
     half_end begins few small =
         let last = kept_last half (stop_at half) half_stop in
@@ -152,7 +152,7 @@ module _ (xs : List ℕ) (at half : ℕ) (bytes : IsBytes xs) (is : half ≡ pla
           begins = half_begins (stop_at half) begins (omega arith) (omega arith);
           few = few;
           last_is = last ∙ half_byte (stop_at half) early;
-          unmarked = omega (arith, last, half_stop.here);
+          below_128 = omega (arith, last, half_stop.here);
           small = small;
         }
 
@@ -181,12 +181,12 @@ module _ (xs : List ℕ) (word present : ℕ) (bytes : IsBytes xs) (f : IsFrontW
       and_mask word 64 ∙ ap (λ (n : ℕ). n % 2 ^ 64) f.word_is ∙ low_bytes (take 16 xs) 8 front_bytes
       ∙ ap (place_value 256) (take-take 8 16 xs (omega arith))
 
-  none_begins : BeginsMarked 0 xs
-  none_begins = record { enough = omega arith; all_marked = All-nil IsMarked }
+  none_begins : BeginsWithContinuation 0 xs
+  none_begins = record { enough = omega arith; all_continuation = All-nil IsContinuation }
 
   -- no byte of it is unmarked
-  pub low_marked : stops lower ≡ 0 → BeginsMarked 8 xs
-  low_marked none = half_begins xs 0 lower bytes low_is 8 none_begins (omega (arith, (half_stop xs 0 lower bytes low_is).none none)) (omega arith)
+  pub low_continuation : stops lower ≡ 0 → BeginsWithContinuation 8 xs
+  low_continuation none = half_begins xs 0 lower bytes low_is 8 none_begins (omega (arith, (half_stop xs 0 lower bytes low_is).none none)) (omega arith)
 
   pub low_early : ¬ (stops lower ≡ 0) → stop_at lower < 8
   low_early some = (half_stop xs 0 lower bytes low_is).some some
@@ -205,7 +205,7 @@ module _ (xs : List ℕ) (word present : ℕ) (bytes : IsBytes xs) (f : IsFrontW
 
   -- ---- the high half
 
-  module _ (begins : BeginsMarked 8 xs) where
+  module _ (begins : BeginsWithContinuation 8 xs) where
     abbrev pub upper : ℕ
     upper = word / 2 ^ 64
 
@@ -223,17 +223,17 @@ module _ (xs : List ℕ) (word present : ℕ) (bytes : IsBytes xs) (f : IsFrontW
 
     module _ (small : varint_bits upper < too_large) where
       high_few : stop_at upper ≤ last_place
-      high_few = few_marked upper (stop_at upper) high_stop small
+      high_few = few_continuation upper (stop_at upper) high_stop small
 
       pub high_end : EndsAt xs (8 + stop_at upper) (varint_bits upper / 2 ^ (8 * stop_at upper))
       high_end = half_end xs 8 upper bytes high_is (omega (arith, high_few)) begins (omega (arith, high_few)) last
         where
-          last : 8 + stop_at upper ≡ max_marked → varint_bits upper / 2 ^ (8 * stop_at upper) < last_byte_limit
+          last : 8 + stop_at upper ≡ max_continuation → varint_bits upper / 2 ^ (8 * stop_at upper) < last_byte_limit
           last most = let same : stop_at upper ≡ last_place = omega (arith, most) in rw same (omega (arith, small))
 
       -- the code's number
       abbrev pub high_value : ℕ
-      high_value = bit_or (digits_low 8 lower) (digits_low (max_marked - 7) (varint_bits upper) * 2 ^ 56 % 2 ^ 64)
+      high_value = bit_or (digits_low 8 lower) (digits_low (max_continuation - 7) (varint_bits upper) * 2 ^ 56 % 2 ^ 64)
 
       pub high_number : 8 + stop_at upper < present → ¬ (varint_bits upper / 2 ^ (8 * stop_at upper) ≡ 0)
           → IsVarint high_value (take (8 + stop_at upper + 1) xs)
@@ -241,13 +241,13 @@ module _ (xs : List ℕ) (word present : ℕ) (bytes : IsBytes xs) (f : IsFrontW
           let number = ends_number xs word present (8 + stop_at upper) _ f high_end within (λ z. absurd (minimal z)) in
           let front = take 8 xs in
           let back = take (stop_at upper + 1) (drop 8 xs) in
-          let places : 8 + stop_at upper + 1 ≡ 8 + (stop_at upper + 1) = omega arith in
-          let cut : take (8 + stop_at upper + 1) xs ≡ front ++ back = rw places (take-add 8 (stop_at upper + 1) xs) in
+          let buffer : 8 + stop_at upper + 1 ≡ 8 + (stop_at upper + 1) = omega arith in
+          let cut : take (8 + stop_at upper + 1) xs ≡ front ++ back = rw buffer (take-add 8 (stop_at upper + 1) xs) in
           let value : digits_low 8 lower ≡ place_value 128 (low_digits front) =
           ap (digits_low 8) low_is ∙ digits_low_of 8 front (All-take (λ b. b < 256) 8 xs bytes) (omega (arith, length-take 8 xs)) in
           rw (
             value,
-            half_digits xs 8 upper bytes high_is (omega (arith, high_few)) (max_marked - 7) (omega (arith, high_few)),
+            half_digits xs 8 upper bytes high_is (omega (arith, high_few)) (max_continuation - 7) (omega (arith, high_few)),
             or_digits front back 8 (length-take-le 8 xs begins.enough) (omega (arith, rw cut at number.in_range)),
             ← cut,
           )

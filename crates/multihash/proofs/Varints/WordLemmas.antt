@@ -13,7 +13,7 @@ use Rattle.std.specs.Int.{w64, bit_at, bit_not, trailing_zeros}
 use Rattle.std.specs.Int.Bits.{and_self}
 use Rattle.std.specs.Int.Count.{trailing_of_zero}
 use Rattle.std.proofs.lemmas.Bool.{cases_lt, cases_eq}
-use Rattle.multihash.specs.Varint.{max_marked, last_byte_limit}
+use Rattle.multihash.specs.Varint.{max_continuation, last_byte_limit}
 
 -- ---- bytes
 
@@ -68,8 +68,8 @@ unfolding digits_low
 add_low i word few =
     let mask : 127 * 2 ^ (7 * i) % 2 ^ 64 ≡ 2 ^ (7 + 7 * i) - 2 ^ (7 * i) =
     shl_whole 127 7 (7 * i) 64 (omega arith) (omega arith) ∙ omega (arith, pow-add 2 7 (7 * i)) in
-    let places : i + 7 * i ≡ 8 * i = omega arith in
-    rw (mask, and_high (word / 2 ^ i) 7 (7 * i), shr-shr word i (7 * i), places)
+    let buffer : i + 7 * i ≡ 8 * i = omega arith in
+    rw (mask, and_high (word / 2 ^ i) 7 (7 * i), shr-shr word i (7 * i), buffer)
     (or_comm (digits_low i word) (word / 2 ^ (8 * i) % 128 * 2 ^ (7 * i))
     ∙ (or_shifted (word / 2 ^ (8 * i) % 128) (7 * i) (digits_low i word) (digits_low_below i word) ∙ omega arith))
 
@@ -78,8 +78,8 @@ digits_low-cons : (i word : ℕ) → digits_low (suc i) word ≡ word % 128 + 12
 unfolding digits_low
 digits_low-cons zero word = omega arith
 digits_low-cons (suc i) word =
-    let places : 8 * suc i ≡ 8 + 8 * i = omega arith in
-    rw (digits_low-cons i word, places, ← shr-shr word 8 (8 * i), mul-suc 7 i, pow-add 2 (7 * i) 7) (omega arith)
+    let buffer : 8 * suc i ≡ 8 + 8 * i = omega arith in
+    rw (digits_low-cons i word, buffer, ← shr-shr word 8 (8 * i), mul-suc 7 i, pow-add 2 (7 * i) 7) (omega arith)
 
 -- the low seven bits of each byte, as digits
 pub digits_low_of : (i : ℕ) (ys : List ℕ) → IsBytes ys → length ys ≤ i → digits_low i (place_value 256 ys) ≡ place_value 128 (low_digits ys)
@@ -181,11 +181,11 @@ module _ (half : ℕ) (fits : half < 2 ^ 64) where
       rw (← and_assoc stop_bits half (bit_not w64 half), and_comm half (bit_not w64 half))
       (omega (arith, and_le_l (bit_and (bit_not w64 half) half) stop_bits, and-not 64 half half fits fits, and_self half)) in
       let less : (stops half + (2 ^ 64 - 1)) % 2 ^ 64 ≡ stops half - 1 = omega (arith, stops_below) in
-      let places : suc place ≡ 8 * (m + 1) = omega arith in
+      let buffer : suc place ≡ 8 * (m + 1) = omega arith in
       record {
         before = λ i few. omega (arith, unset (8 * i + 7) (omega arith), stop_of i (omega arith));
         here = omega (arith, rw seven at here, stop_of m (omega arith));
-        varint = ap (bit_and half) less ∙ rw places at (and_less place half (stops half) set unset apart);
+        varint = ap (bit_and half) less ∙ rw buffer at (and_less place half (stops half) set unset apart);
         none = λ none. absurd (omega arith);
         some = λ _. omega arith;
       }
@@ -198,7 +198,7 @@ module _ (half : ℕ) (fits : half < 2 ^ 64) where
 
 -- the place in the high half of the byte that may be too large
 abbrev pub last_place : ℕ
-last_place = max_marked - 8
+last_place = max_continuation - 8
 
 -- what the code compares a high half with
 abbrev pub too_large : ℕ
@@ -208,18 +208,18 @@ module _ (half m : ℕ) (stop : StopsAt half m) where
   -- the unmarked byte is the highest
   pub kept_last : varint_bits half / 2 ^ (8 * m) ≡ byte_at half m
   kept_last =
-      let places : 8 * (m + 1) ≡ 8 + 8 * m = omega arith in
-      ap (λ (n : ℕ). n / 2 ^ (8 * m)) (rw places at stop.varint) ∙ field_of half 8 (8 * m)
+      let buffer : 8 * (m + 1) ≡ 8 + 8 * m = omega arith in
+      ap (λ (n : ℕ). n / 2 ^ (8 * m)) (rw buffer at stop.varint) ∙ field_of half 8 (8 * m)
 
   -- a byte up to it counts at its place
   kept_above : last_place ≤ m → byte_at half last_place * 256 ^ last_place ≤ varint_bits half
   kept_above run =
-      let places : 8 * (m + 1) ≡ 8 * (m - last_place) + 8 * (last_place + 1) = omega arith in
-      omega (arith, rw places at stop.varint, mod-pow-add half (8 * (m - last_place)) (8 * (last_place + 1)), field_of half 8 (8 * last_place))
+      let buffer : 8 * (m + 1) ≡ 8 * (m - last_place) + 8 * (last_place + 1) = omega arith in
+      omega (arith, rw buffer at stop.varint, mod-pow-add half (8 * (m - last_place)) (8 * (last_place + 1)), field_of half 8 (8 * last_place))
 
   -- no more continuation bytes than a varint has
-  pub few_marked : varint_bits half < too_large → m ≤ last_place
-  few_marked small =
+  pub few_continuation : varint_bits half < too_large → m ≤ last_place
+  few_continuation small =
       let few : m < suc last_place = lt_of_not-le (λ more. omega (arith, small, kept_above (omega arith), stop.before last_place (omega arith))) in
       omega arith
 
@@ -228,8 +228,8 @@ module _ (half m : ℕ) (stop : StopsAt half m) where
   too_large_byte large = elim (cases_lt m last_place) [
     | inl few ↦
         let base : 0 < 2 = omega arith in
-        let places : 8 * (m + 1) ≤ 8 * last_place = omega arith in
-        let most : 2 ^ (8 * (m + 1)) ≤ 2 ^ (8 * last_place) = pow-le-pow_right base places in
+        let buffer : 8 * (m + 1) ≤ 8 * last_place = omega arith in
+        let most : 2 ^ (8 * (m + 1)) ≤ 2 ^ (8 * last_place) = pow-le-pow_right base buffer in
         absurd (omega (arith, large, stop.varint, most, mod_below half (2 ^ (8 * (m + 1))) (pow_pos (8 * (m + 1)))))
     | inr run ↦ (
       run,

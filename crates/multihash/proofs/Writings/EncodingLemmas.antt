@@ -1,7 +1,7 @@
 -- Encodings: their parts, one of each pair, how long they are, and that they are bytes.
 use Rattle.std.proofs.Common.{◌≡◌, ℕ, ◌<◌, ◌≤◌, ◌+◌, List, [], ◌∷◌, ◌++◌, length, take, refl, sym, ap, ◌∙◌, subst, arith, length-append, append_assoc}
 use Rattle.multihash.specs.Pair.{Pair}
-use Rattle.multihash.specs.Varint.{IsVarint, max_marked, varint_limit, marked}
+use Rattle.multihash.specs.Varint.{IsVarint, max_continuation, varint_limit, continuation_bytes}
 use Rattle.multihash.specs.Encoding.{IsEncoding}
 use Rattle.std.proofs.lemmas.List.{take_at, append_cancel_left, append_cancel_right, drop-replicate}
 use Rattle.std.proofs.lemmas.List.Elements.{All-append, All-push, All-same, All-map, All-head}
@@ -64,7 +64,7 @@ encoding_exists p code size =
 
 -- the longest encoding: the code's bytes, two of the size, and the digest
 pub encoding_length : (p : Pair) (bytes : List ℕ) → IsEncoding p bytes → length p.digest ≤ 255
-    → length bytes ≤ (max_marked + 1) + 2 + 255
+    → length bytes ≤ (max_continuation + 1) + 2 + 255
 encoding_length p bytes e fits =
     omega (
       arith,
@@ -81,8 +81,8 @@ varint_is_bytes : (n : ℕ) (bytes : List ℕ) → IsVarint n bytes → IsBytes 
 varint_is_bytes n bytes v =
     let digits = All-append_left (λ d. d < 128) v.front (v.last ∷ []) v.digits in
     let last = All-head (λ d. d < 128) v.last [] (All-append_right (λ d. d < 128) v.front (v.last ∷ []) v.digits) in
-    let front : IsBytes (marked v.front) = All-map (λ b. b < 256) (λ d. d + 128) v.front (λ k d below. omega (arith, digits k d below)) in
-    rw v.spelled (All-push (λ b. b < 256) (marked v.front) v.last front (omega (arith, last)))
+    let front : IsBytes (continuation_bytes v.front) = All-map (λ b. b < 256) (λ d. d + 128) v.front (λ k d below. omega (arith, digits k d below)) in
+    rw v.spelled (All-push (λ b. b < 256) (continuation_bytes v.front) v.last front (omega (arith, last)))
 
 pub encoding_bytes : (p : Pair) (bytes : List ℕ) → IsBytes p.digest → IsEncoding p bytes → IsBytes bytes
 encoding_bytes p bytes digest e =

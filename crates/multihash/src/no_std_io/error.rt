@@ -1,6 +1,6 @@
 //! The error of readers and writers.
 ghost use Rattle.std.specs.Prelude.{◌≡◌, ◌↔◌, IsTrue, Some};
-ghost use Rattle.multihash.specs.Fault.{IsUnexpectedEof, IsWriteZero, IsOutOfMemory, IsOther, HasStandardText, printed};
+ghost use Rattle.multihash.specs.Fault.{IsUnexpectedEof, IsWriteZero, IsOutOfMemoryFault, IsOther, HasStandardText, printed};
 
 use std::fmt;
 use std::marker::Model;
@@ -56,7 +56,7 @@ impl Error {
 
     /// Returns the error for a failed allocation. It prints `out of memory`.
     pub fn out_of_memory() -> Self
-        ensures { IsOutOfMemory result }
+        ensures { IsOutOfMemoryFault result }
     {
         Error {
             kind: Kind::OutOfMemory,
@@ -99,7 +99,7 @@ impl Error {
 
     /// Returns whether an allocation failed.
     pub fn is_out_of_memory(&self) -> bool
-        ensures { IsTrue result ↔ IsOutOfMemory self.now }
+        ensures { IsTrue result ↔ IsOutOfMemoryFault self.now }
     {
         matches!(self.kind, Kind::OutOfMemory)
     }

@@ -1,8 +1,8 @@
 //! Slices, vectors and references as readers and writers.
 ghost use Rattle.std.specs.Prelude.{◌≡◌, ◌<◌, ◌≤◌, ◌+◌, vec_len, vec_capacity, Some, Ok, [], ◌++◌, min, length, take, drop, true, false, IfOk, IfErr, OnOk, OnErr, IsOk, IsErr, ◌↔◌};
-ghost use Rattle.multihash.specs.Fault.{IsOutOfMemory};
+ghost use Rattle.multihash.specs.Fault.{IsOutOfMemoryFault};
 ghost use Rattle.multihash.specs.Reading.{ReadLaws, ReadExactLaws};
-ghost use Rattle.multihash.specs.Writing.{WriteLaws, WriteAllLaws, GivesUpFor, GivesUpFor-none, GivesUpFor-joined, AppendsAtEnd, AppendsAtEnd-none, AppendsAtEnd-joined};
+ghost use Rattle.multihash.specs.Writing.{WriteLaws, WriteAllLaws, AdvancesPast, AdvancesPast-none, AdvancesPast-concatenated, AppendsAtEnd, AppendsAtEnd-none, AppendsAtEnd-concatenated};
 
 use super::{Error, Read, Write};
 
@@ -85,19 +85,19 @@ impl Write for &mut [u8] {
 
     ghost allocates = { false };
 
-    ghost appended = { λ old bytes new. GivesUpFor old.now bytes new.now };
+    ghost appended = { λ old bytes new. AdvancesPast old.now bytes new.now };
 
     ghost full = { λ s. s.now ≡ [] };
 
     ghost failures = { λ _. 0 };
 
-    ghost appends_nothing = { λ w. GivesUpFor-none w.now };
+    ghost appends_nothing = { λ w. AdvancesPast-none w.now };
 
-    ghost appends_joined = { λ a b c x y first second.
-        GivesUpFor-joined a.now b.now c.now x y first second };
+    ghost appends_concatenated = { λ a b c x y first second.
+        AdvancesPast-concatenated a.now b.now c.now x y first second };
 
     fn write(&mut self, buf: &[u8]) -> Result<usize, Error>
-        ensures laws { WriteLaws (λ old bytes new. GivesUpFor old.now bytes new.now)
+        ensures laws { WriteLaws (λ old bytes new. AdvancesPast old.now bytes new.now)
             (λ s. s.now ≡ []) (λ _. 0) false self.old buf.now self.new result }
 
         ensures smaller { result ≡ Ok (min (length buf.now) (length self.old.now)) }
@@ -109,7 +109,7 @@ impl Write for &mut [u8] {
     }
 
     fn write_all(&mut self, buf: &[u8]) -> Result<(), Error>
-        ensures laws { WriteAllLaws (λ old bytes new. GivesUpFor old.now bytes new.now)
+        ensures laws { WriteAllLaws (λ old bytes new. AdvancesPast old.now bytes new.now)
             (λ s. s.now ≡ []) (λ _. 0) false self.old buf.now self.new result }
 
         ensures fits { IsOk result ↔ (length buf.now ≤ length self.old.now) }
@@ -137,8 +137,8 @@ impl Write for Vec<u8> {
 
     ghost appends_nothing = { λ w. AppendsAtEnd-none w.items };
 
-    ghost appends_joined = { λ a b c x y first second.
-        AppendsAtEnd-joined a.items b.items c.items x y first second };
+    ghost appends_concatenated = { λ a b c x y first second.
+        AppendsAtEnd-concatenated a.items b.items c.items x y first second };
 
     fn write(&mut self, buf: &[u8]) -> Result<usize, Error>
         ensures laws { WriteLaws (λ old bytes new. AppendsAtEnd old.items bytes new.items)
@@ -147,7 +147,7 @@ impl Write for Vec<u8> {
         ensures whole { IfOk result (λ n. n ≡ length buf.now) }
         ensures room { vec_len self.old + length buf.now ≤ vec_capacity self.old → IsOk result }
         ensures unchanged { OnErr result (self.new.items ≡ self.old.items) }
-        ensures kind { IfErr result IsOutOfMemory }
+        ensures kind { IfErr result IsOutOfMemoryFault }
     {
         match self.extend_from_slice(buf) {
             Ok(()) => Ok(buf.len()),
@@ -161,7 +161,7 @@ impl Write for Vec<u8> {
 
         ensures room { vec_len self.old + length buf.now ≤ vec_capacity self.old → IsOk result }
         ensures unchanged { OnErr result (self.new.items ≡ self.old.items) }
-        ensures kind { IfErr result IsOutOfMemory }
+        ensures kind { IfErr result IsOutOfMemoryFault }
     {
         let extended = match buf {
             [byte] => self.push(*byte).is_ok(),
@@ -189,8 +189,8 @@ impl<W: Write> Write for &mut W {
 
     ghost appends_nothing = { λ w. W.appends_nothing w.now };
 
-    ghost appends_joined = { λ a b c x y first second.
-        W.appends_joined a.now b.now c.now x y first second };
+    ghost appends_concatenated = { λ a b c x y first second.
+        W.appends_concatenated a.now b.now c.now x y first second };
 
     fn write(&mut self, buf: &[u8]) -> Result<usize, Error> {
         Write::write(&mut **self, buf)

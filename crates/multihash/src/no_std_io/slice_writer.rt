@@ -10,20 +10,20 @@ use super::{Error, Write};
 #[derive(Drop)]
 pub struct SliceWriter<'a> {
     /// The slice: the bytes written so far, then its unchanged remainder.
-    pub places: &'a mut [u8],
+    pub buffer: &'a mut [u8],
     /// The number of bytes written.
     pub filled: usize,
-    pub ghost inside: { filled ≤ length places.now },
+    pub ghost inside: { filled ≤ length buffer.now },
 }
 
 impl<'a> SliceWriter<'a> {
     /// Returns a writer that has written nothing, with the slice's length as its capacity.
-    pub fn new(places: &'a mut [u8]) -> Self
-        ensures same_reference { result.places.ghost_name ≡ places.entry.ghost_name }
-        ensures kept { result.places.now ≡ places.old }
+    pub fn new(buffer: &'a mut [u8]) -> Self
+        ensures same_reference { result.buffer.ghost_name ≡ buffer.entry.ghost_name }
+        ensures kept { result.buffer.now ≡ buffer.old }
         ensures empty { result.filled ≡ 0 }
     {
-        SliceWriter { places, filled: 0 }
+        SliceWriter { buffer, filled: 0 }
     }
 }
 
@@ -31,7 +31,7 @@ impl<'a> SliceWriter<'a> {
 /// that it is full.
 impl Write for SliceWriter<'_> {
     ghost use Rattle.multihash.specs.Writing.{WriteLaws, WriteAllLaws};
-    ghost use Rattle.multihash.specs.Filling.{Fills, IsFilled, Fills-none, Fills-joined};
+    ghost use Rattle.multihash.specs.Filling.{Fills, IsFilled, Fills-none, Fills-concatenated};
 
     const ALLOCATES: bool = false;
 
@@ -45,15 +45,15 @@ impl Write for SliceWriter<'_> {
 
     ghost appends_nothing = { Fills-none };
 
-    ghost appends_joined = { Fills-joined };
+    ghost appends_concatenated = { Fills-concatenated };
 
     fn write(&mut self, buf: &[u8]) -> Result<usize, Error>
         ensures laws { WriteLaws Fills IsFilled (λ _. 0) false self.old buf.now self.new result }
 
         ensures smaller { result ≡ Ok (min (length buf.now)
-            (length self.old.places.now - self.old.filled)) }
+            (length self.old.buffer.now - self.old.filled)) }
     {
-        let n = copy_front(buf, &mut self.places[self.filled..]);
+        let n = copy_front(buf, &mut self.buffer[self.filled..]);
         self.filled += n;
         Ok(n)
     }
@@ -62,7 +62,7 @@ impl Write for SliceWriter<'_> {
         ensures laws { WriteAllLaws Fills IsFilled (λ _. 0) false self.old buf.now self.new result }
 
         ensures fits { IsOk result ↔
-            (self.old.filled + length buf.now ≤ length self.old.places.now) }
+            (self.old.filled + length buf.now ≤ length self.old.buffer.now) }
         ensures filled { OnErr result (IsFilled self.new) }
     {
         if self.write(buf)? == buf.len() {

@@ -112,6 +112,6 @@ pub trait Write {
     ghost appends_nothing: { (w : Self) → appended w [] w };
 
     // What two calls append, one after the other, is concatenated.
-    ghost appends_joined: { (a b c : Self) (x y : List ℕ) →
+    ghost appends_concatenated: { (a b c : Self) (x y : List ℕ) →
         appended a x b → appended b y c → appended a (x ++ y) c };
 }

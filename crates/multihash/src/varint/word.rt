@@ -2,10 +2,10 @@
 ghost use Rattle.std.specs.Prelude.{◌≡◌, ◌<◌, ◌≤◌, ◌+◌, ℕ, List, length, take, drop, Some, IfSome, IfNone, IfOk, IfErr};
 ghost use Rattle.multihash.specs.Bytes.{IsBytes, place_value};
 ghost use Rattle.multihash.specs.Varint.{IsVarint};
-ghost use Rattle.multihash.specs.Word.{IsFrontWord, BeginsMarked, IsFoundFront, digits_low};
-ghost use Rattle.multihash.specs.Taking.{IsFrontRefusal, BeginsNoVarint, TakesVarint};
+ghost use Rattle.multihash.specs.Word.{IsFrontWord, BeginsWithContinuation, IsFoundFront, digits_low};
+ghost use Rattle.multihash.specs.Consuming.{IsFrontError, IsMalformed, ConsumesVarint};
 
-use super::{LAST_BYTE_LIMIT, MAX_LEN, MAX_MARKED};
+use super::{LAST_BYTE_LIMIT, MAX_CONTINUATION, MAX_LEN};
 use crate::Error;
 
 // The bytes of a word.
@@ -21,16 +21,16 @@ const HIGH_BITS: u64 = 0x8080_8080_8080_8080;
 const HIGH_LEN: usize = MAX_LEN - HALF_LEN;
 
 // A high half of this value or more has a byte that makes the varint overflow.
-const TOO_LARGE: u64 = (LAST_BYTE_LIMIT as u64) << (8 * (MAX_MARKED - HALF_LEN));
+const TOO_LARGE: u64 = (LAST_BYTE_LIMIT as u64) << (8 * (MAX_CONTINUATION - HALF_LEN));
 
 // The number and the length of the varint at the front of the bytes, from one word. None if it is
 // malformed; `front_fault` then says why.
 #[inline(always)]
 pub(crate) fn read_front(bytes: &[u8]) -> Option<(u64, usize)>
     ensures some { IfSome result (λ found.
-        TakesVarint found.0 (Some bytes.now) (Some (drop found.1 bytes.now))) }
+        ConsumesVarint found.0 (Some bytes.now) (Some (drop found.1 bytes.now))) }
     ensures within { IfSome result (λ found. found.1 ≤ length bytes.now) }
-    ensures none { IfNone result (BeginsNoVarint bytes.now) }
+    ensures none { IfNone result (IsMalformed bytes.now) }
 {
     let (number, len) = front_by_byte(bytes);
     if len == 0 { None } else { Some((number, len)) }
@@ -40,8 +40,8 @@ pub(crate) fn read_front(bytes: &[u8]) -> Option<(u64, usize)>
 #[cold]
 #[inline(never)]
 pub(crate) fn front_fault(bytes: &[u8]) -> Error
-    requires { BeginsNoVarint bytes.now }
-    ensures { IsFrontRefusal bytes.now result }
+    requires { IsMalformed bytes.now }
+    ensures { IsFrontError bytes.now result }
 {
     let front = &bytes[..bytes.len().min(WORD_LEN)];
     match read_word(padded_word(front), front.len()) {
@@ -116,7 +116,7 @@ fn read_word(word: u128, present: usize) -> Result<(u64, usize), Error>
     ensures within { IfOk result (λ found. (0 < found.1) × (found.1 ≤ present)) }
     ensures err { IfErr result (λ e. (bytes : List ℕ) → IsBytes bytes →
         IsFrontWord bytes word present →
-        IsFrontRefusal bytes e) }
+        IsFrontError bytes e) }
 {
     let low = (word & 0xffff_ffff_ffff_ffff) as u64;
     // Set where a byte is not a continuation byte: its highest bit.
@@ -126,26 +126,26 @@ fn read_word(word: u128, present: usize) -> Result<(u64, usize), Error>
     }
     // No bit after the first of them is set in both.
     let varint = low & stops.wrapping_sub(1);
-    let marked = (stops.trailing_zeros() / 8) as usize;
-    if marked >= present {
+    let continuation_bytes = (stops.trailing_zeros() / 8) as usize;
+    if continuation_bytes >= present {
         return Err(Error::insufficient());
     }
-    if varint >> (8 * marked) == 0 && marked > 0 {
+    if varint >> (8 * continuation_bytes) == 0 && continuation_bytes > 0 {
         return Err(Error::not_minimal());
     }
-    Ok((join_low(varint), marked + 1))
+    Ok((join_low(varint), continuation_bytes + 1))
 }
 
 // As `read_word`, if all bytes of the low half are continuation bytes.
 #[inline(always)]
 fn read_high(word: u128, present: usize) -> Result<(u64, usize), Error>
     ensures ok { IfOk result (λ found. (bytes : List ℕ) → IsBytes bytes →
-        IsFrontWord bytes word present → BeginsMarked 8 bytes →
+        IsFrontWord bytes word present → BeginsWithContinuation 8 bytes →
         IsVarint found.0 (take found.1 bytes)) }
     ensures within { IfOk result (λ found. (0 < found.1) × (found.1 ≤ present)) }
     ensures err { IfErr result (λ e. (bytes : List ℕ) → IsBytes bytes →
-        IsFrontWord bytes word present → BeginsMarked 8 bytes →
-        IsFrontRefusal bytes e) }
+        IsFrontWord bytes word present → BeginsWithContinuation 8 bytes →
+        IsFrontError bytes e) }
 {
     let low = (word & 0xffff_ffff_ffff_ffff) as u64;
     let high = (word >> 64) as u64;
@@ -154,15 +154,15 @@ fn read_high(word: u128, present: usize) -> Result<(u64, usize), Error>
     if varint >= TOO_LARGE {
         return Err(Error::overflow());
     }
-    let marked = (stops.trailing_zeros() / 8) as usize;
-    if HALF_LEN + marked >= present {
+    let continuation_bytes = (stops.trailing_zeros() / 8) as usize;
+    if HALF_LEN + continuation_bytes >= present {
         return Err(Error::insufficient());
     }
-    if varint >> (8 * marked) == 0 {
+    if varint >> (8 * continuation_bytes) == 0 {
         return Err(Error::not_minimal());
     }
     let number = join_digits::<HALF_LEN>(low) | join_digits::<HIGH_LEN>(varint) << (7 * HALF_LEN);
-    Ok((number, HALF_LEN + marked + 1))
+    Ok((number, HALF_LEN + continuation_bytes + 1))
 }
 
 // The number of the low seven bits of each byte of a low half, which mostly has few bytes of a varint.

@@ -1,6 +1,6 @@
 //! A reader that hashes and counts the bytes that pass.
 ghost use Rattle.std.specs.Prelude.{◌≡◌, ◌<◌, List, ℕ, [], length, take, IfOk, OnOk, OnErr};
-ghost use Rattle.multihash.specs.Answer.{pair_of};
+ghost use Rattle.multihash.specs.Outcome.{pair_of};
 ghost use Rattle.storage.specs.Content.{content_pair};
 
 use super::Tally;
@@ -41,7 +41,7 @@ impl<R: Read> HashingReader<R> {
 }
 
 impl<R: Read> Read for HashingReader<R> {
-    ghost use Rattle.multihash.specs.Reading.{ReadLaws, ReadExactLaws, Takes};
+    ghost use Rattle.multihash.specs.Reading.{ReadLaws, ReadExactLaws, Consumes};
     ghost use Rattle.storage.specs.Hashing.{AddsBytes};
 
     ghost rest = { λ r. R.rest r.inner };
@@ -66,7 +66,7 @@ impl<R: Read> Read for HashingReader<R> {
 
         ensures hashed { OnOk result (AddsBytes self.old.tally buf.new self.new.tally) }
         ensures stopped { OnErr result ((part : List ℕ) × (length part < length buf.old)
-            × Takes (R.rest self.old.inner) part (R.rest self.new.inner)
+            × Consumes (R.rest self.old.inner) part (R.rest self.new.inner)
             × AddsBytes self.old.tally part self.new.tally) }
     {
         let mut filled = 0;

@@ -1,6 +1,6 @@
 //! A writer that hashes and counts the bytes that pass.
 ghost use Rattle.std.specs.Prelude.{◌≡◌, List, ℕ, []};
-ghost use Rattle.multihash.specs.Answer.{pair_of};
+ghost use Rattle.multihash.specs.Outcome.{pair_of};
 ghost use Rattle.storage.specs.Content.{content_pair};
 
 use super::Tally;
@@ -41,7 +41,7 @@ impl<W: Write> HashingWriter<W> {
 }
 
 impl<W: Write> Write for HashingWriter<W> {
-    ghost use Rattle.storage.specs.Hashing.{AddsBytes, AddsBytes-none, AddsBytes-joined};
+    ghost use Rattle.storage.specs.Hashing.{AddsBytes, AddsBytes-none, AddsBytes-concatenated};
 
     const ALLOCATES: bool = W::ALLOCATES;
 
@@ -56,9 +56,9 @@ impl<W: Write> Write for HashingWriter<W> {
 
     ghost appends_nothing = { λ w. (W.appends_nothing w.inner, AddsBytes-none w.tally) };
 
-    ghost appends_joined = { λ a b c x y first second. (
-      W.appends_joined a.inner b.inner c.inner x y first.0 second.0,
-      AddsBytes-joined a.tally b.tally c.tally x y first.1 second.1,
+    ghost appends_concatenated = { λ a b c x y first second. (
+      W.appends_concatenated a.inner b.inner c.inner x y first.0 second.0,
+      AddsBytes-concatenated a.tally b.tally c.tally x y first.1 second.1,
     ) };
 
     fn write(&mut self, buf: &[u8]) -> Result<usize, Error> {

@@ -20,4 +20,4 @@ returns-clause-ok g c =
     c.truncate.ensures.items ∙ front_of_room n c.in_ok-text.text.len room _ full in
     let short : length (take n room) ≤ 65536 =
     short_of n c.in_ok-text.text.len 65536 room c.in_ok-length.ensures.within full c.in_ok-text.ensures.len in
-    rw text (record { takes = c.in_ok-length.ensures.read; at_end = c.in_ok-length.ensures.end; short = short })
+    rw text (record { consumes = c.in_ok-length.ensures.read; at_end = c.in_ok-length.ensures.end; short = short })

@@ -25,5 +25,5 @@ loop-length-preserved g c =
     let room = length c.loop-length.room - from in
     let within = c.loop-length.invariant.1 in
     let part = slice_range-put_mid from room c.in-Ok.count c.loop-length.room c.read.new.buf within c.in-Ok.ensures.bound.0 in
-    let joined = take_split from (from + c.in-Ok.count) c.loop-length.room (put_mid from room c.loop-length.room c.read.new.buf) (omega arith) (take-put_mid_below _ _ _ _ _ (le_refl _) within) in
-    (search rules, search rules, subst (Consumes _ _) (ap (λ l. take from c.loop-length.room ++ l) (sym part) ∙ joined) (Consumes-trans _ _ _ _ _ c.loop-length.invariant.2 c.in-Ok.ensures.bytes.0))
+    let concatenated = take_split from (from + c.in-Ok.count) c.loop-length.room (put_mid from room c.loop-length.room c.read.new.buf) (omega arith) (take-put_mid_below _ _ _ _ _ (le_refl _) within) in
+    (search rules, search rules, subst (Consumes _ _) (ap (λ l. take from c.loop-length.room ++ l) (sym part) ∙ concatenated) (Consumes-trans _ _ _ _ _ c.loop-length.invariant.2 c.in-Ok.ensures.bytes.0))

@@ -5,22 +5,22 @@ use Rattle.mh_show.specs.declared.run.RunError.{RunError}
 use Rattle.mh_show.specs.declared.run.RunError.TheVariants.{NotShown, Output}
 use Rattle.mh_show.specs.declared.show.ShowError.{ShowError}
 use Rattle.mh_show.specs.declared.show.ShowError.TheVariants.{NotHex, Refused, Memory}
-use Rattle.mh_show.specs.Shown.{IsLine, NamesBytes, IsRefusedAs, ShowsAs}
-use Rattle.mh_show.specs.Run.{ReadsWhole, AppendsPartOf, EndsRun}
+use Rattle.mh_show.specs.Shown.{IsLine, NamesBytes, IsRejectedAs, ShowsAs}
+use Rattle.mh_show.specs.Run.{ReadsWhole, AppendsPrefixOf, EndsRun}
 use Rattle.mh_show.proofs.run.show_input.Goals as goal
 
 -- the end that each error of `show` makes
 show_ends : (kept : Type 0) (old new out after : Option (List ℕ)) (text : List ℕ) (e : ShowError) → kept
     → ReadsWhole old new text
     → ((line bytes : List ℕ) → e ≡ NotHex → IsLine line text → ¬ (NamesBytes line bytes))
-    → ((r : Refusal) → e ≡ Refused r → IsRefusedAs text r) → EndsRun kept old new out after (NotShown e)
+    → ((r : Refusal) → e ≡ Refused r → IsRejectedAs text r) → EndsRun kept old new out after (NotShown e)
 show_ends kept old new out after text NotHex same reads none refused = (same, text, reads, λ line bytes. none line bytes refl)
 show_ends kept old new out after text (Refused r) same reads none refused = (same, text, reads, refused r refl)
 show_ends kept old new out after text Memory same reads none refused = same
 
 -- the end that a failed write of the lines makes
 output_ends : {T : Type 0} (r : Result T RunError) (kept : Type 0) (old new out after : Option (List ℕ)) (text lines : List ℕ)
-    → IfErr r (λ e. e ≡ Output) → ReadsWhole old new text → ShowsAs text lines → OnErr r (AppendsPartOf out after lines)
+    → IfErr r (λ e. e ≡ Output) → ReadsWhole old new text → ShowsAs text lines → OnErr r (AppendsPrefixOf out after lines)
     → IfErr r (EndsRun kept old new out after)
 output_ends (Ok t) kept old new out after text lines met reads shows part = tt
 output_ends (Err e) kept old new out after text lines met reads shows part =

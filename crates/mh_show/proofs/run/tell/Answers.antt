@@ -1,11 +1,11 @@
 use Rattle.std.proofs.Common.{ℕ, List, Option, Result, Ok, Err, OnOk, OnErr, inl, inr}
 use Rattle.std.specs.Io.KnownBytes.{Appends}
-use Rattle.mh_show.specs.Run.{AppendsPartOf, TriesToAppend}
+use Rattle.mh_show.specs.Run.{AppendsPrefixOf, TriesToAppend}
 use Rattle.mh_show.proofs.run.tell.Goals as goal
 
 -- a write tried to append its bytes, whatever it answered
 tried : {T E : Type 0} (r : Result T E) (old new : Option (List ℕ)) (bytes : List ℕ)
-    → OnOk r (Appends old new bytes) → OnErr r (AppendsPartOf old new bytes) → TriesToAppend old new bytes
+    → OnOk r (Appends old new bytes) → OnErr r (AppendsPrefixOf old new bytes) → TriesToAppend old new bytes
 tried (Ok t) old new bytes whole part = inl whole
 tried (Err e) old new bytes whole part = inr part
 

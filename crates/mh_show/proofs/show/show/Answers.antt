@@ -4,7 +4,7 @@ use Rattle.hex.specs.declared.error.FromHexError.{FromHexError}
 use Rattle.hex.specs.declared.error.FromHexError.TheVariants.{OutOfMemory}
 use Rattle.hex.specs.Hex.{decode_of}
 use Rattle.multihash.specs.Refusal.{Refusal}
-use Rattle.multihash.specs.Answer.{pair_of, IsRefusal}
+use Rattle.multihash.specs.Outcome.{pair_of, IsErrorOf}
 use Rattle.multihash.specs.Verdict.{HasWholeVerdict}
 use Rattle.mh_show.specs.declared.show.ShowError.{ShowError}
 use Rattle.mh_show.specs.declared.show.ShowError.TheVariants.{NotHex}
@@ -18,10 +18,10 @@ odd_line : (text a b : List ℕ) → IsLine a text → IsLine b text → length 
 odd_line text a b e f odd = ap (λ (l : List ℕ). length l % 2) (sym (line_unique text a b e f)) ∙ odd
 
 -- a line that names bytes is not refused as no hexadecimal
-not_refused : (line bytes : List ℕ) (e : FromHexError) → (e ≡ OutOfMemory) ⊎ (decode_of line ≡ Err e)
+not_rejected : (line bytes : List ℕ) (e : FromHexError) → (e ≡ OutOfMemory) ⊎ (decode_of line ≡ Err e)
     → NamesBytes line bytes → ¬ (NotHex ≡ decoding_error e)
-not_refused line bytes e (inl full) named gives = cc (gives ∙ ap decoding_error full)
-not_refused line bytes e (inr refused) named gives = cc (sym refused ∙ named_decodes line bytes named)
+not_rejected line bytes e (inl full) named gives = cc (gives ∙ ap decoding_error full)
+not_rejected line bytes e (inr refused) named gives = cc (sym refused ∙ named_decodes line bytes named)
 
 -- the error that is answered is the one that was made
 same_error : {T : Type 0} (r : Result T ShowError) (e made : ShowError) → r ≡ Err e → IsErrAnd r (λ x. x ≡ made) → e ≡ made
@@ -31,7 +31,7 @@ same_error (Err x) e made same given = cc (same, given)
 pub returns-in_err-bytes-clause-not_hex : goal.returns-in_err-bytes-clause-not_hex
 returns-in_err-bytes-clause-not_hex c line bytes same is_line named =
     let found = line_unique _ line _ is_line c.line_of.ensures in
-    not_refused _ bytes _ c.in_err-bytes.ensures.err (subst (λ (l : List ℕ). NamesBytes l bytes) found named)
+    not_rejected _ bytes _ c.in_err-bytes.ensures.err (subst (λ (l : List ℕ). NamesBytes l bytes) found named)
     (same_error c.from_residual.result _ _ same c.from_residual.ensures.1)
 
 pub returns-in_err-multihash-clause-refused : goal.returns-in_err-multihash-clause-refused
@@ -45,7 +45,7 @@ returns-in_err-multihash-clause-refused c e same =
       c.line_of.ensures,
       rw c.as_slice.ensures.value (decoded_names _ _ c.in_ok-bytes.ensures.ok),
       met.1,
-      subst (λ (r : Refusal). IsRefusal r met.0) refusal met.2,
+      subst (λ (r : Refusal). IsErrorOf r met.0) refusal met.2,
     )
 
 pub returns-clause-ok : goal.returns-clause-ok

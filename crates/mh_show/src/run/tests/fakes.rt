@@ -87,7 +87,7 @@ impl Read for Zeros {
 // How a writer answers once its room is full.
 #[derive(Clone, Copy)]
 pub enum Fault {
-    TakesNothing,
+    ConsumesNothing,
     Fails(ErrorKind),
 }
 
@@ -107,22 +107,22 @@ pub struct Page {
 
 impl Page {
     pub fn new() -> Self {
-        Page::cut(CAPACITY, Fault::TakesNothing)
+        Page::cut(CAPACITY, Fault::ConsumesNothing)
     }
 
-    // Takes one byte a call.
+    // Consumes one byte a call.
     pub fn slow() -> Self {
         Page {
             bytes: [0; CAPACITY],
             length: 0,
             room: CAPACITY,
             most: 1,
-            fault: Fault::TakesNothing,
+            fault: Fault::ConsumesNothing,
             calls: 0,
         }
     }
 
-    // Answers the fault once it holds so many bytes.
+    // IsResultOf the fault once it holds so many bytes.
     pub fn cut(room: usize, fault: Fault) -> Self {
         Page {
             bytes: [0; CAPACITY],
@@ -145,7 +145,7 @@ impl Write for Page {
         let room = self.room.min(CAPACITY).saturating_sub(self.length);
         if room == 0 {
             return match self.fault {
-                Fault::TakesNothing => Ok(0),
+                Fault::ConsumesNothing => Ok(0),
                 Fault::Fails(kind) => Err(io::Error::from(kind)),
             };
         }

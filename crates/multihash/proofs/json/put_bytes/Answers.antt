@@ -18,10 +18,10 @@ loop-at-preserved c =
           let held = ap (λ v. byte_of_data (view v)) (sym c.index-members-at.is) ∙ sym c.byte_of.ensures ∙ w.in-Some.is in
           let next : member_bytes (drop at members) ≡ byte ∷ left =
           ap member_bytes (drop_more members at member c.loop-at-test.true) ∙ first_byte _ _ byte held in
-          ap (λ l. take (at + 1) l ++ left) w.places-is
-          ∙ ap (λ l. l ++ left) (take_more_set c.loop-at.places at byte (omega (arith, c.loop-at-test.true, c.loop-at.auto.places, c.requires.count)))
-          ∙ append_assoc (take at c.loop-at.places) (byte ∷ []) left
-          ∙ ap (λ l. take at c.loop-at.places ++ l) (sym next)
+          ap (λ l. take (at + 1) l ++ left) w.buffer-is
+          ∙ ap (λ l. l ++ left) (take_more_set c.loop-at.buffer at byte (omega (arith, c.loop-at-test.true, c.loop-at.auto.buffer, c.requires.count)))
+          ∙ append_assoc (take at c.loop-at.buffer) (byte ∷ []) left
+          ∙ ap (λ l. take at c.loop-at.buffer ++ l) (sym next)
           ∙ c.loop-at.invariant
       | in_default w ↦
           let held = byte_at members at member c.requires.bytes c.loop-at-test.true c.index-members-at.is in
@@ -30,8 +30,8 @@ loop-at-preserved c =
 
 pub returns : goal.returns
 returns c =
-    let places = take c.loop-at.at c.loop-at.places in
-    sym (take_all c.loop-at.at c.loop-at.places (omega (arith, c.loop-at-test.false, c.loop-at.auto.places, c.requires.count)))
-    ∙ sym (append-nil places)
-    ∙ ap (λ l. places ++ member_bytes l) (sym (drop_all c.loop-at.at c.args.members.now c.loop-at-test.false))
+    let buffer = take c.loop-at.at c.loop-at.buffer in
+    sym (take_all c.loop-at.at c.loop-at.buffer (omega (arith, c.loop-at-test.false, c.loop-at.auto.buffer, c.requires.count)))
+    ∙ sym (append-nil buffer)
+    ∙ ap (λ l. buffer ++ member_bytes l) (sym (drop_all c.loop-at.at c.args.members.now c.loop-at-test.false))
     ∙ c.loop-at.invariant

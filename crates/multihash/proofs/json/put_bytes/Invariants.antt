@@ -4,4 +4,4 @@ use Rattle.multihash.specs.Members.{member_bytes}
 use Rattle.multihash.proofs.json.put_bytes.Given as goal
 
 abbrev pub invariant-loop-at : goal.invariant-loop-at
-invariant-loop-at l = take l.at l.places ++ member_bytes (drop l.at l.members) ≡ member_bytes l.members
+invariant-loop-at l = take l.at l.buffer ++ member_bytes (drop l.at l.members) ≡ member_bytes l.members

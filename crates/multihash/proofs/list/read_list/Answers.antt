@@ -1,8 +1,8 @@
 use Rattle.std.proofs.Common.{◌≡◌, ◌<◌, [], ◌∷◌, ◌++◌, length, map, inr, arith, rules}
 use Rattle.std.proofs.lemmas.List.{length-map}
-use Rattle.multihash.specs.Answer.{pair_of}
+use Rattle.multihash.specs.Outcome.{pair_of}
 use Rattle.multihash.proofs.OutcomeLemmas.{passed_on}
-use Rattle.multihash.proofs.Forms.StreamLemmas.{TakesPairs-more}
+use Rattle.multihash.proofs.Forms.StreamLemmas.{ConsumesPairs-more}
 use Rattle.multihash.proofs.list.read_list.Goals as goal
 
 pub returns-in_err-read-clause-err : goal.returns-in_err-read-clause-err
@@ -14,9 +14,9 @@ returns-in_err-read-clause-err g c =
     passed_on c.from_residual-in_err-read.result _ _ _ c.from_residual-in_err-read.ensures.1
     (inr (record {
       pairs = map pair_of c.loop.list.items;
-      behind = _;
+      following = _;
       fewer = fewer;
-      taken = before.pairs;
+      consumed = before.pairs;
       refused = met.err;
       verdict = rw same at met.verdict;
       settled = rw same at met.settled;
@@ -29,5 +29,5 @@ loop-preserved g c =
     let met = c.in_ok-read.ensures in
     let m = c.in_ok-read.field-0 in
     let items : c.push_reserved.new.self.items ≡ c.loop.list.items ++ m ∷ [] = search rules in
-    let pairs = TakesPairs-more g.row.S c.loop.list.items m met.ok.0 _ _ _ before.pairs met.ok.1 met.fits met.ok.2 in
+    let pairs = ConsumesPairs-more g.row.S c.loop.list.items m met.ok.0 _ _ _ before.pairs met.ok.1 met.fits met.ok.2 in
     search rules

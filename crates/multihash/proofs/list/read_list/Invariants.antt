@@ -1,14 +1,14 @@
 -- The pairs so far were consumed, there is room for the others, and no read failed.
 use Rattle.std.proofs.Common.{◌≡◌, ◌≤◌, length, map, vec_capacity}
-use Rattle.multihash.specs.Streams.{TakesPairs}
-use Rattle.multihash.specs.Answer.{pair_of}
+use Rattle.multihash.specs.Streams.{ConsumesPairs}
+use Rattle.multihash.specs.Outcome.{pair_of}
 use Rattle.multihash.proofs.list.read_list.Given as goal
 
 abbrev pub invariant-loop : goal.invariant-loop
 invariant-loop g l = record {
-  pairs : TakesPairs g.row.S (map pair_of l.list.items) (g.R.Read.rest l.initial.r) (g.R.Read.rest l.r);
+  pairs : ConsumesPairs g.row.S (map pair_of l.list.items) (g.R.Read.rest l.initial.r) (g.R.Read.rest l.r);
   count : length l.list.items ≡ l.counter;
   room : l.count ≤ vec_capacity l.list;
-  places : vec_capacity l.list ≡ l.count;
+  buffer : vec_capacity l.list ≡ l.count;
   unfailed : g.R.Read.failures l.r ≡ g.R.Read.failures l.initial.r;
 }

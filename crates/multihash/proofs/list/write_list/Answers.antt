@@ -1,29 +1,29 @@
 use Rattle.std.proofs.Common.{◌+◌, ℕ, List, [], ◌∷◌, ◌++◌, map, drop, refl, sym, ap, ◌∙◌, append_assoc, append-nil}
 use Rattle.std.proofs.lemmas.List.{drop_more, drop_all}
-use Rattle.multihash.specs.Answer.{Fields, pair_of}
+use Rattle.multihash.specs.Outcome.{Fields, pair_of}
 use Rattle.multihash.specs.Encoding.{IsEncoding}
-use Rattle.multihash.specs.Streams.{AreJoined}
-use Rattle.multihash.specs.Writing.{AppendsPart}
+use Rattle.multihash.specs.Streams.{AreConcatenated}
+use Rattle.multihash.specs.Writing.{AppendsPrefix}
 use Rattle.multihash.proofs.OutcomeLemmas.{OnErr-always}
-use Rattle.multihash.proofs.Forms.StreamLemmas.{AreJoined-none, AreJoined-first, joined_same}
-use Rattle.multihash.proofs.Writings.WritingLemmas.{AppendsPart-append, AppendsPart-joined}
+use Rattle.multihash.proofs.Forms.StreamLemmas.{AreConcatenated-none, AreConcatenated-first, concatenated_same}
+use Rattle.multihash.proofs.Writings.WritingLemmas.{AppendsPrefix-append, AppendsPrefix-concatenated}
 use Rattle.multihash.proofs.Values.ValueLemmas.{all_fit, have_stream}
 use Rattle.multihash.proofs.list.write_list.Given as given
 use Rattle.multihash.proofs.list.write_list.Goals as goal
 use Rattle.multihash.proofs.list.write_list.Goals.{After-item-item}
 
 pub loop-item-init : goal.loop-item-init
-loop-item-init g c = record { bytes = []; whole = λ others h. h; stands = g.met.W.Write.appends_nothing _; unfailed = refl }
+loop-item-init g c = record { bytes = []; whole = λ others h. h; appends = g.met.W.Write.appends_nothing _; unfailed = refl }
 
 -- this item's encoding comes next
 next : (g : given.Over) (c : After-item-item g) (e others : List ℕ) → IsEncoding (pair_of c.item-item.result) e
-    → AreJoined (map pair_of (drop (c.loop-item.item-index + 1) c.args.items.now)) others
-    → AreJoined (map pair_of c.args.items.now) (c.loop-item.invariant.bytes ++ (e ++ others))
+    → AreConcatenated (map pair_of (drop (c.loop-item.item-index + 1) c.args.items.now)) others
+    → AreConcatenated (map pair_of c.args.items.now) (c.loop-item.invariant.bytes ++ (e ++ others))
 next g c e others encodes h =
     let items = c.args.items.now in
     let i = c.loop-item.item-index in
     let cut = drop_more items i c.item-item.result c.loop-item-test.true ∙ ap (λ (m : Fields g.row.S). m ∷ drop (i + 1) items) (sym c.item-item.is) in
-    c.loop-item.invariant.whole (e ++ others) (rw cut (AreJoined-first _ _ e others encodes h))
+    c.loop-item.invariant.whole (e ++ others) (rw cut (AreConcatenated-first _ _ e others encodes h))
 
 pub loop-item-preserved : goal.loop-item-preserved
 loop-item-preserved g c =
@@ -33,21 +33,21 @@ loop-item-preserved g c =
       bytes = before.bytes ++ met.ok.0;
       whole = λ others h.
           rw (append_assoc before.bytes met.ok.0 others) (next g (goal.at.loop-item-preserved g c).After-item-item met.ok.0 others met.ok.1 h);
-      stands = g.met.W.Write.appends_joined _ _ _ before.bytes met.ok.0 before.stands met.ok.3;
+      appends = g.met.W.Write.appends_concatenated _ _ _ before.bytes met.ok.0 before.appends met.ok.3;
       unfailed = met.faults ∙ before.unfailed;
     }
 
 -- a part of all encodings has been appended
 stop : (g : given.Over) (c : goal.After-from_residual g)
-    → (all : List ℕ) × AreJoined (map pair_of c.args.items.now) all × AppendsPart g.W.Write.appended c.args.w.now all c.write.new.w
+    → (all : List ℕ) × AreConcatenated (map pair_of c.args.items.now) all × AppendsPrefix g.W.Write.appended c.args.w.now all c.write.new.w
 stop g c =
     let before = c.loop-item.invariant in
     let met = c.in_err-write.ensures.err in
     let others = have_stream (drop (c.loop-item.item-index + 1) c.args.items.now) in (
       _,
       next g (goal.at.returns-in_err-write-clause-err g c).After-item-item met.0 others.0 met.1 others.1,
-      AppendsPart-joined g.W.Write.appended g.met.W.Write.appends_joined _ _ _ before.bytes _ before.stands
-          (AppendsPart-append g.W.Write.appended _ _ met.0 others.0 met.2),
+      AppendsPrefix-concatenated g.W.Write.appended g.met.W.Write.appends_concatenated _ _ _ before.bytes _ before.appends
+          (AppendsPrefix-append g.W.Write.appended _ _ met.0 others.0 met.2),
     )
 
 pub returns-in_err-write-clause-err : goal.returns-in_err-write-clause-err
@@ -55,9 +55,9 @@ returns-in_err-write-clause-err g c = OnErr-always _ (stop g c)
 
 pub returns-in_err-write-clause-any : goal.returns-in_err-write-clause-any
 returns-in_err-write-clause-any g c =
-    let (some, joined, part) = stop g c in
-    let any : (all : List ℕ) → AreJoined (map pair_of c.args.items.now) all → AppendsPart g.W.Write.appended c.args.w.now all c.write.new.w =
-    λ all h. rw (joined_same _ all some h joined) part in
+    let (some, concatenated, part) = stop g c in
+    let any : (all : List ℕ) → AreConcatenated (map pair_of c.args.items.now) all → AppendsPrefix g.W.Write.appended c.args.w.now all c.write.new.w =
+    λ all h. rw (concatenated_same _ all some h concatenated) part in
     OnErr-always _ any
 
 pub returns-in_err-write-clause-fit : goal.returns-in_err-write-clause-fit
@@ -70,5 +70,5 @@ pub returns-clause-ok : goal.returns-clause-ok
 returns-clause-ok g c =
     let before = c.loop-item.invariant in
     let none = drop_all c.loop-item.item-index c.args.items.now c.loop-item-test.false in
-    let all = before.whole [] (rw none AreJoined-none) in
-    (before.bytes, rw append-nil at all, before.stands)
+    let all = before.whole [] (rw none AreConcatenated-none) in
+    (before.bytes, rw append-nil at all, before.appends)

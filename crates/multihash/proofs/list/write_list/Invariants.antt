@@ -1,13 +1,13 @@
 -- The items so far were appended: with the others' encodings those are all. No write failed.
 use Rattle.std.proofs.Common.{◌≡◌, ◌++◌, ℕ, List, map, drop}
-use Rattle.multihash.specs.Streams.{AreJoined}
-use Rattle.multihash.specs.Answer.{pair_of}
+use Rattle.multihash.specs.Streams.{AreConcatenated}
+use Rattle.multihash.specs.Outcome.{pair_of}
 use Rattle.multihash.proofs.list.write_list.Given as goal
 
 abbrev pub invariant-loop-item : goal.invariant-loop-item
 invariant-loop-item g l = record {
   bytes : List ℕ;
-  whole : (others : List ℕ) → AreJoined (map pair_of (drop l.item-index l.items)) others → AreJoined (map pair_of l.items) (bytes ++ others);
-  stands : g.W.Write.appended l.initial.w bytes l.w;
+  whole : (others : List ℕ) → AreConcatenated (map pair_of (drop l.item-index l.items)) others → AreConcatenated (map pair_of l.items) (bytes ++ others);
+  appends : g.W.Write.appended l.initial.w bytes l.w;
   unfailed : g.W.Write.failures l.w ≡ g.W.Write.failures l.initial.w;
 }

@@ -23,5 +23,5 @@ both_ends d z p q n at is over before after =
 pub returns : goal.returns
 returns g c =
     let d = c.args.digest.now in
-    both_ends d c.args.places.now _ _ g.row.N (length d - g.row.N) (omega (arith, c.requires.least)) (omega (arith, c.requires.most))
+    both_ends d c.args.buffer.now _ _ g.row.N (length d - g.row.N) (omega (arith, c.requires.least)) (omega (arith, c.requires.most))
     c.copy_word.ensures.word c.copy_word-2.ensures.word

@@ -20,11 +20,11 @@ returns-then-first-lt128-clause-ok g c =
     (c.in-Some.first ∷ [], one_byte c.in-Some.first c.if-first-lt128.true, rw c.in-Some.is at c.in_ok-first.ensures.byte)
 
 pub returns-clause-ok : goal.returns-clause-ok
-returns-clause-ok g c = rw (rw c.in-Some.is at c.in_ok-first.ensures.byte) c.read_behind.ensures.ok
+returns-clause-ok g c = rw (rw c.in-Some.is at c.in_ok-first.ensures.byte) c.read_after.ensures.ok
 
 pub returns-clause-err : goal.returns-clause-err
-returns-clause-err g c = rw (rw c.in-Some.is at c.in_ok-first.ensures.byte) c.read_behind.ensures.err
+returns-clause-err g c = rw (rw c.in-Some.is at c.in_ok-first.ensures.byte) c.read_after.ensures.err
 
 pub returns-clause-front : goal.returns-clause-front
 returns-clause-front g c =
-    rw (rw c.in-Some.is at c.in_ok-first.ensures.byte, ← c.in_ok-first.ensures.faults) c.read_behind.ensures.front
+    rw (rw c.in-Some.is at c.in_ok-first.ensures.byte, ← c.in_ok-first.ensures.faults) c.read_after.ensures.front

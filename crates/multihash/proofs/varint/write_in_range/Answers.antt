@@ -1,6 +1,6 @@
 use Rattle.std.proofs.Common.{ℕ, List, [], ◌∷◌, refl}
 use Rattle.multihash.specs.Varint.{IsVarint}
-use Rattle.multihash.specs.Writing.{AppendsPart}
+use Rattle.multihash.specs.Writing.{AppendsPrefix}
 use Rattle.multihash.proofs.Varints.VarintWriteLemmas.{one_byte}
 use Rattle.multihash.proofs.Varints.VarintLemmas.{varint_longest}
 use Rattle.multihash.proofs.OutcomeLemmas.{OnErr-always}
@@ -8,7 +8,7 @@ use Rattle.multihash.proofs.varint.write_in_range.Goals as goal
 
 pub returns-in_err-write_all-clause-err : goal.returns-in_err-write_all-clause-err
 returns-in_err-write_all-clause-err g c =
-    let part : (bytes : List ℕ) × IsVarint c.args.n bytes × AppendsPart g.W.Write.appended _ bytes _ =
+    let part : (bytes : List ℕ) × IsVarint c.args.n bytes × AppendsPrefix g.W.Write.appended _ bytes _ =
     (c.args.n ∷ [], one_byte c.args.n c.if-n-lt128.true, c.in_err-write_all.ensures.laws.err) in
     OnErr-always _ part
 

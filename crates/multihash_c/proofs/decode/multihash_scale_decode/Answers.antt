@@ -3,9 +3,9 @@ use Rattle.multihash.specs.Bytes.{IsBytes}
 use Rattle.multihash.specs.Scale.{IsScale, HasScaleVerdict}
 use Rattle.multihash.specs.Refusal.{IsInvalidCode}
 use Rattle.multihash.specs.Verdict.{Verdict, accepted, unexpected_eof}
-use Rattle.multihash.specs.Answer.{pair_of}
+use Rattle.multihash.specs.Outcome.{pair_of}
 use Rattle.multihash.proofs.Varints.WordFrontLemmas.{bytes_of}
-use Rattle.multihash_c.specs.Decoded.{Tells, TakesWholeParts}
+use Rattle.multihash_c.specs.Decoded.{Reports, ConsumesWholeParts}
 use Rattle.multihash_c.proofs.DecodedLemmas.{form_stands, taken_front, code_taken, ends_early}
 use Rattle.multihash_c.proofs.decode.multihash_scale_decode.Goals as goal
 
@@ -21,12 +21,12 @@ returns-in-Ok-clause-verdict c =
     let long : c.from.result ≡ length p.digest = c.from.ensures ∙ c.size.ensures.size in
     let answer = c.accept.result in
     let all : answer.taken ≡ length met.ok.0 = omega (arith, c.accept.ensures.taken, ap length cut, length-append met.ok.0 left) in
-    let stands = form_stands p input met.ok.0 left answer.digest_offset answer.digest_length answer.taken met.ok.1 cut
+    let appends = form_stands p input met.ok.0 left answer.digest_offset answer.digest_length answer.taken met.ok.1 cut
     (c.accept.ensures.length ∙ long) all (omega (arith, c.accept.ensures.offset, c.accept.ensures.length, c.accept.ensures.taken)) in
     let front : take answer.taken input ≡ met.ok.0 = ap (λ n. take n input) c.accept.ensures.taken ∙ taken_front input met.ok.0 left cut in (
       accepted p,
       has,
-      c.accept.ensures.tells input p (sym c.code.ensures.code) (omega arith) stands,
+      c.accept.ensures.tells input p (sym c.code.ensures.code) (omega arith) appends,
       subst (λ (z : List ℕ). IsScale p z) (sym front) met.ok.1,
     )
 
@@ -36,14 +36,14 @@ returns-in-Some-clause-verdict c =
     let left = c.scale_decode-answer.new.r.now in
     let met = c.in-Err.ensures in
     let found = met.verdict refl in
-    let cut : input ≡ met.err.taken ++ left = cc (met.err.takes) in
-    let front : take c.refuse_code.result.taken input ≡ met.err.taken =
-    ap (λ n. take n input) c.refuse_code.ensures.taken ∙ taken_front input met.err.taken left cut in
+    let cut : input ≡ met.err.consumed ++ left = cc (met.err.consumes) in
+    let front : take c.refuse_code.result.taken input ≡ met.err.consumed =
+    ap (λ n. take n input) c.refuse_code.ensures.taken ∙ taken_front input met.err.consumed left cut in
     let is = (c.invalid_code.ensures c.in-Some.code).0 c.in-Some.is in
     let told = code_taken input _ _ c.in-Some.code c.refuse_code.result.taken met.err front is found.0 found.1 found.2 in (
       found.0,
       found.1,
-      subst (λ (v : Verdict). Tells input c.refuse_code.result v) (sym told.0) (c.refuse_code.ensures.tells input),
+      subst (λ (v : Verdict). Reports input c.refuse_code.result v) (sym told.0) (c.refuse_code.ensures.tells input),
       told.1,
     )
 
@@ -61,5 +61,5 @@ returns-in-None-clause-verdict c =
       unexpected_eof,
       subst (λ (v : Verdict). HasScaleVerdict 255 input v) early found.1,
       c.refuse_end.ensures.tells input,
-      subst (λ n. TakesWholeParts (length input) n) (sym c.refuse_end.ensures.taken) c.whole_parts.ensures.parts,
+      subst (λ n. ConsumesWholeParts (length input) n) (sym c.refuse_end.ensures.taken) c.whole_parts.ensures.parts,
     )

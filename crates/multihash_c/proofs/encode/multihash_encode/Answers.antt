@@ -18,9 +18,9 @@ returns c =
     λ z e. counted.length ∙ long ∙ ap (λ (y : List ℕ). length y) (encoding_same p bytes z encodes e) in
     elim c.if-encoding_length-out.branch [
       | then-encoding_length-out w ↦
-          let (put, is_own, stands) = w.put_encoding.ensures in
+          let (put, is_own, appends) = w.put_encoding.ensures in
           let there = w.if-encoding_length-out.true in
-          writes_all IsEncoding p fits small old new c.count.result counted.no_size told put is_own (w.out-is ∙ stands)
+          writes_all IsEncoding p fits small old new c.count.result counted.no_size told put is_own (w.out-is ∙ appends)
           (omega (arith, counted.length, there)) (counted.fits (omega (arith, c.if-encoding_length-out.auto.out, there)))
       | else-encoding_length-out w ↦
           let short = w.if-encoding_length-out.false in

@@ -27,9 +27,9 @@ returns c =
     let told : (z : List ℕ) → IsScale p z → c.count.result.length ≡ length z = λ z e. counted.length ∙ sym (scale_length p z e) in
     elim c.if-form_length-out.branch [
       | then-form_length-out w ↦
-          let (put, is_own, stands) = w.put_scale_form.ensures in
+          let (put, is_own, appends) = w.put_scale_form.ensures in
           let there = w.if-form_length-out.true in
-          writes_all IsScale p fits small old new c.count.result counted.no_size told put is_own (w.out-is ∙ stands)
+          writes_all IsScale p fits small old new c.count.result counted.no_size told put is_own (w.out-is ∙ appends)
           (omega (arith, counted.length, there)) (counted.fits (omega (arith, c.if-form_length-out.auto.out, there)))
       | else-form_length-out w ↦
           let short = w.if-form_length-out.false in

@@ -4,5 +4,5 @@ use Rattle.multihash_c.proofs.encode.put_each.Given as goal
 
 abbrev pub invariant-loop-i : goal.invariant-loop-i
 invariant-loop-i l = record {
-  front : l.places ≡ take l.i l.bytes ++ drop l.i l.initial.places;
+  front : l.buffer ≡ take l.i l.bytes ++ drop l.i l.initial.buffer;
 }

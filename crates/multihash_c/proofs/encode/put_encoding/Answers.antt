@@ -1,6 +1,6 @@
 use Rattle.std.proofs.Common.{rules, ◌≡◌, ℕ, List, ◌++◌, length, drop, ap, refl, arith}
 use Rattle.multihash.specs.Pair.{Pair}
-use Rattle.multihash.specs.Filling.{Fills-joined}
+use Rattle.multihash.specs.Filling.{Fills-concatenated}
 use Rattle.multihash.proofs.Writings.EncodingLemmas.{encoding_of_parts}
 use Rattle.multihash.proofs.Writings.WritingLemmas.{filled_length}
 use Rattle.multihash_c.proofs.EncodedLemmas.{of_ok, varint_has_room, parts_long, stands_at_front}
@@ -42,9 +42,9 @@ returns c =
     let (a, is_code, _, first, _) = of_ok _ _ _ c.unwrap.ensures c.write.ensures.ok in
     let (b, is_size, _, second, _) = of_ok _ _ _ c.unwrap-2.ensures c.write-2.ensures.ok in
     let digest = c.args.digest.now in
-    let whole = Fills-joined _ _ _ a (b ++ digest) first (Fills-joined _ _ _ b digest second c.write_digest.ensures) in
+    let whole = Fills-concatenated _ _ _ a (b ++ digest) first (Fills-concatenated _ _ _ b digest second c.write_digest.ensures) in
     let bytes : List ℕ = a ++ (b ++ digest) in
-    let same : c.write_digest.new.writer.places.ghost_name ≡ c.new-writer.result.places.ghost_name = whole.same_slice in
-    let stands : c.write_digest.new.writer.places.now ≡ bytes ++ drop (length bytes) c.args.places.now =
-    stands_at_front c.args.places.now c.new-writer.result c.write_digest.new.writer bytes made.empty made.kept whole in
+    let same : c.write_digest.new.writer.buffer.ghost_name ≡ c.new-writer.result.buffer.ghost_name = whole.same_slice in
+    let appends : c.write_digest.new.writer.buffer.now ≡ bytes ++ drop (length bytes) c.args.buffer.now =
+    stands_at_front c.args.buffer.now c.new-writer.result c.write_digest.new.writer bytes made.empty made.kept whole in
     (bytes, encoding_of_parts p c.args.code (length digest) digest a b refl refl refl is_code is_size, search rules)

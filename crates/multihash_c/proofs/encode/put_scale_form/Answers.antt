@@ -2,7 +2,7 @@ use Rattle.std.proofs.Common.{rules, ◌≡◌, ℕ, List, [], ◌∷◌, ◌++�
 use Rattle.std.specs.Int.{to_le_bytes, w64}
 use Rattle.multihash.specs.Pair.{Pair}
 use Rattle.multihash.specs.Scale.{IsScale}
-use Rattle.multihash.specs.Filling.{Fills, Fills-joined}
+use Rattle.multihash.specs.Filling.{Fills, Fills-concatenated}
 use Rattle.multihash.proofs.Forms.ScaleLemmas.{code_bytes}
 use Rattle.multihash_c.proofs.EncodedLemmas.{of_ok, stands_at_front}
 use Rattle.multihash_c.proofs.encode.put_scale_form.Goals as goal
@@ -18,9 +18,9 @@ returns c =
     let first : Fills c.new-writer.result a c.write_all.new.self =
     subst (λ (z : List ℕ). Fills c.new-writer.result z c.write_all.new.self) c.to_le_bytes.ensures (of_ok _ _ _ c.unwrap.ensures c.write_all.ensures.laws.ok) in
     let second = of_ok _ _ _ c.unwrap-2.ensures c.write_all-2.ensures.laws.ok in
-    let whole = Fills-joined _ _ _ a ((length digest ∷ []) ++ digest) first (Fills-joined _ _ _ (length digest ∷ []) digest second c.write_digest.ensures) in
+    let whole = Fills-concatenated _ _ _ a ((length digest ∷ []) ++ digest) first (Fills-concatenated _ _ _ (length digest ∷ []) digest second c.write_digest.ensures) in
     let form : IsScale p bytes = record { code = a; is_code = code_bytes c.args.code (omega (arith, e.in_range)); in_range = e.in_range; size = e.size; spelled = refl } in
-    let same : c.write_digest.new.writer.places.ghost_name ≡ c.new-writer.result.places.ghost_name = whole.same_slice in
-    let stands : c.write_digest.new.writer.places.now ≡ bytes ++ drop (length bytes) c.args.places.now =
-    stands_at_front c.args.places.now c.new-writer.result c.write_digest.new.writer bytes made.empty made.kept whole in
+    let same : c.write_digest.new.writer.buffer.ghost_name ≡ c.new-writer.result.buffer.ghost_name = whole.same_slice in
+    let appends : c.write_digest.new.writer.buffer.now ≡ bytes ++ drop (length bytes) c.args.buffer.now =
+    stands_at_front c.args.buffer.now c.new-writer.result c.write_digest.new.writer bytes made.empty made.kept whole in
     (bytes, form, search rules)

@@ -3,8 +3,8 @@ use Rattle.std.proofs.Math.Seq.{take-append_seam}
 use Rattle.std.proofs.lemmas.Bool.{false≢true}
 use Rattle.multihash.specs.Varint.{IsVarint}
 use Rattle.multihash.specs.Encoding.{IsEncoding}
-use Rattle.multihash.specs.Answer.{pair_of}
-use Rattle.multihash.proofs.Readings.ReadingLemmas.{Takes-cut}
+use Rattle.multihash.specs.Outcome.{pair_of}
+use Rattle.multihash.proofs.Readings.ReadingLemmas.{Consumes-cut}
 use Rattle.storage.specs.Content.{content_pair}
 use Rattle.storage.proofs.LogLemmas.{hash_found, length_found, content_fits}
 use Rattle.storage.proofs.log.after_entry.Goals as goal
@@ -53,8 +53,8 @@ returns-clause-some c =
     let own : pair_of c.in-Ok.hash ≡ content_pair block = sym (c.same_as.ensures.0 c.if-not-same_as.false) ∙ c.hash_of.ensures in
     let long : length block ≡ c.in-Ok-read.len = search rules in
     let whole : rest ≡ block ++ c.split_at.result.1.now = search rules in
-    let first = Takes-cut c.args.bytes.now h.0 c.read.new.r.now h.2 in
-    let second = Takes-cut c.read.new.r.now n.0 rest n.2 in (
+    let first = Consumes-cut c.args.bytes.now h.0 c.read.new.r.now h.2 in
+    let second = Consumes-cut c.read.new.r.now n.0 rest n.2 in (
       block,
       h.0 ++ (n.0 ++ block),
       record {

@@ -1,10 +1,10 @@
 use Rattle.std.proofs.Common.{◌≡◌, ℕ, ◌++◌, Ok, Err, length, inl, inr, refl, sym, subst, ◌∙◌, arith, rules}
 use Rattle.multihash.specs.Refusal.{of_io}
 use Rattle.multihash.specs.Varint.{IsVarint}
-use Rattle.multihash.proofs.Readings.ReadingLemmas.{Takes-joined}
+use Rattle.multihash.proofs.Readings.ReadingLemmas.{Consumes-concatenated}
 use Rattle.multihash.proofs.Readings.InTurnLemmas.{listed_or_own}
 use Rattle.multihash.proofs.CallingLemmas.{read_exact_of_bytes}
-use Rattle.storage.specs.declared.log.EntryError.TheVariants.{Refused}
+use Rattle.storage.specs.declared.log.EntryError.TheVariants.{Failed}
 use Rattle.storage.proofs.LogLemmas.{passes, fails_with, fails_by, filled_items, hash_found, length_found}
 use Rattle.storage.proofs.log.read_entry.Goals as goal
 
@@ -34,12 +34,12 @@ returns-in_err-read_exact-clause-faults g c =
 pub returns-in_err-hash-clause-err : goal.returns-in_err-hash-clause-err
 returns-in_err-hash-clause-err g c =
     let met = c.in_err-hash.ensures in
-    fails_with g.row.S _ _ _ (Refused c.in_err-hash.field-0.0) _ c.from_residual.ensures.1 (inl (_, refl, (listed_or_own met.faults, met.err)))
+    fails_with g.row.S _ _ _ (Failed c.in_err-hash.field-0.0) _ c.from_residual.ensures.1 (inl (_, refl, (listed_or_own met.faults, met.err)))
 
 pub returns-in_err-len-clause-err : goal.returns-in_err-len-clause-err
 returns-in_err-len-clause-err g c =
     let met = c.in_err-len.ensures in
-    fails_with g.row.S _ _ _ (Refused c.in_err-len.field-0.0) _ c.from_residual-in_err-len.ensures.1
+    fails_with g.row.S _ _ _ (Failed c.in_err-len.field-0.0) _ c.from_residual-in_err-len.ensures.1
     (inr (_, _, c.in_ok-hash.ensures.ok, inl (_, refl, (listed_or_own met.faults, met.err))))
 
 pub returns-then-len-limit-clause-err : goal.returns-then-len-limit-clause-err
@@ -57,7 +57,7 @@ returns-in_err-read_exact-clause-err g c =
     let fault = c.in_err-read_exact.field-0.0 in
     let long : length c.deref_mut.result.now ≡ c.in_ok-len.len = search rules in
     let part = rw long at met.err in
-    fails_with g.row.S _ _ _ (Refused (of_io fault)) _ c.from_residual-in_err-read_exact.ensures.1
+    fails_with g.row.S _ _ _ (Failed (of_io fault)) _ c.from_residual-in_err-read_exact.ensures.1
     (inr (
       _,
       _,
@@ -95,7 +95,7 @@ returns-clause-ok g c =
     let block = filled_items c.in_ok-block.block.len buf c.in_ok-block.block.items holds in (
       h.0 ++ (n.0 ++ buf),
       rw block (record { encoding = h.0; len = n.0; encodes = h.1; is_len = subst (λ k. IsVarint k n.0) (sym long) n.1; parts = refl }),
-      Takes-joined _ _ _ h.0 (n.0 ++ buf) _ refl h.2 (Takes-joined _ _ _ n.0 buf _ refl n.2 c.in_ok-read_exact.ensures.laws.takes),
+      Consumes-concatenated _ _ _ h.0 (n.0 ++ buf) _ refl h.2 (Consumes-concatenated _ _ _ n.0 buf _ refl n.2 c.in_ok-read_exact.ensures.laws.consumes),
     )
 
 -- ---- an entry that comes next
@@ -131,7 +131,7 @@ returns-in_err-read_exact-clause-found g c p block bytes more h fits within rest
     let long : length c.deref_mut.result.now ≡ c.in_ok-len.len = search rules in
     let filled : length buf ≡ length c.deref_mut.result.now = search rules in
     absurd (read_exact_of_bytes {A = ℕ} (length c.deref_mut.result.now) _ _ _ (g.R.Read.rest c.read_exact.new.self) buf block more
-    (Err c.in_err-read_exact.field-0.0) two.1 (sym two.0 ∙ sym long) filled (same ∙ sym (n.faults ∙ m.faults)) met.faults met.takes met.eof)
+    (Err c.in_err-read_exact.field-0.0) two.1 (sym two.0 ∙ sym long) filled (same ∙ sym (n.faults ∙ m.faults)) met.faults met.consumes met.eof)
 
 pub returns-clause-found : goal.returns-clause-found
 returns-clause-found g c p block bytes more h fits within rest same =
@@ -145,5 +145,5 @@ returns-clause-found g c p block bytes more h fits within rest same =
     let one = hash_found g.row.S _ _ _ _ p block bytes more h m.faults (Ok c.in_ok-hash.hash) fits rest m.verdict m.ok in
     let two = length_found g.row.S _ _ _ _ p block bytes more h n.faults (Ok c.in_ok-len.len) one.1 n.ok n.front in
     let three = read_exact_of_bytes (length c.deref_mut.result.now) _ _ _ _ buf block more (Ok c.in_ok-read_exact.field-0) two.1
-    (sym two.0 ∙ sym long) filled (same ∙ sym (n.faults ∙ m.faults)) met.faults met.takes met.eof in
+    (sym two.0 ∙ sym long) filled (same ∙ sym (n.faults ∙ m.faults)) met.faults met.consumes met.eof in
     (one.0, filled_items c.in_ok-block.block.len buf c.in_ok-block.block.items holds ∙ three.0, three.1)

@@ -1,6 +1,6 @@
 use Rattle.std.proofs.Common.{map, arith}
 use Rattle.std.proofs.lemmas.List.{length-map}
-use Rattle.multihash.specs.Answer.{pair_of}
+use Rattle.multihash.specs.Outcome.{pair_of}
 use Rattle.storage.proofs.LevelLemmas.{shorter_above, climbs_none, climbs_alone, climbs_step, climbs_within, climbs_to, climbs_root}
 use Rattle.storage.proofs.merkle.root_and_path.Goals as goal
 use Rattle.storage.proofs.merkle.root_and_path.Goals.{in-Some+in_ok-push, in_default}

@@ -1,7 +1,7 @@
 use Rattle.std.proofs.Common.{◌+◌, map, arith}
 use Rattle.std.proofs.lemmas.List.{length-map}
 use Rattle.std.proofs.lemmas.Option.{slice_get_past}
-use Rattle.multihash.specs.Answer.{pair_of}
+use Rattle.multihash.specs.Outcome.{pair_of}
 use Rattle.storage.proofs.LevelLemmas.{pair_at, above_odd, above_even}
 use Rattle.storage.proofs.merkle.step_at.Goals as goal
 

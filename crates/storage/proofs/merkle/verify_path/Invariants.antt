@@ -1,5 +1,5 @@
 use Rattle.std.proofs.Common.{◌≡◌, map, take}
-use Rattle.multihash.specs.Answer.{pair_of}
+use Rattle.multihash.specs.Outcome.{pair_of}
 use Rattle.storage.specs.Merkle.{root_from}
 use Rattle.storage.specs.Step.{step_of}
 use Rattle.storage.proofs.merkle.verify_path.Given as goal

@@ -13,8 +13,8 @@ returns-clause-found g c p bytes more form fits rest same =
 
 pub returns-clause-code : goal.returns-clause-code
 returns-clause-code g c =
-    IfErr-weaker c.scale_decode.result _ _ (λ e stopped code is. (stopped.taken, (stopped.code code is).1, stopped.takes)) c.scale_decode.ensures.err
+    IfErr-weaker c.scale_decode.result _ _ (λ e stopped code is. (stopped.consumed, (stopped.code code is).1, stopped.consumes)) c.scale_decode.ensures.err
 
 pub returns-clause-size : goal.returns-clause-size
 returns-clause-size g c =
-    IfErr-weaker c.scale_decode.result _ _ (λ e stopped size is. (stopped.taken, (stopped.size size is).1, stopped.takes)) c.scale_decode.ensures.err
+    IfErr-weaker c.scale_decode.result _ _ (λ e stopped size is. (stopped.consumed, (stopped.size size is).1, stopped.consumes)) c.scale_decode.ensures.err

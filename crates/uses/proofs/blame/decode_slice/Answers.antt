@@ -1,6 +1,6 @@
 use Rattle.std.proofs.Common.{refl}
 use Rattle.multihash.specs.Scale.{IsScale}
-use Rattle.uses.proofs.BlameLemmas.{in_front, refused_large, left_behind_code}
+use Rattle.uses.proofs.BlameLemmas.{in_front, rejected_large, left_after_code}
 use Rattle.uses.proofs.blame.decode_slice.Goals as goal
 
 pub returns-clause-verdict : goal.returns-clause-verdict
@@ -14,5 +14,5 @@ returns-clause-ok g c =
 pub returns-clause-large : goal.returns-clause-large
 returns-clause-large g c code bytes rest is over cut =
     let call = c.scale_decode-decoded in
-    let refused = refused_large g.row.S code _ bytes rest call.result is over cut (call.ensures.verdict refl) in
-    (refused, left_behind_code g.row.S code _ bytes rest _ call.result is cut refused call.ensures.err)
+    let refused = rejected_large g.row.S code _ bytes rest call.result is over cut (call.ensures.verdict refl) in
+    (refused, left_after_code g.row.S code _ bytes rest _ call.result is cut refused call.ensures.err)

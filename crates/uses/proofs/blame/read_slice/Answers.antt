@@ -1,7 +1,7 @@
 use Rattle.std.proofs.Common.{refl}
 use Rattle.multihash.specs.Encoding.{IsEncoding}
 use Rattle.multihash.specs.Verdict.{invalid_size}
-use Rattle.uses.proofs.BlameLemmas.{in_front, refused_size, left_behind}
+use Rattle.uses.proofs.BlameLemmas.{in_front, rejected_size, left_after}
 use Rattle.uses.proofs.blame.read_slice.Goals as goal
 
 pub returns-clause-verdict : goal.returns-clause-verdict
@@ -12,6 +12,6 @@ returns-clause-ok g c = in_front IsEncoding g.row.S c.args.stream.now c.read-ans
 
 pub returns-clause-long : goal.returns-clause-long
 returns-clause-long g c size rest h over = (
-  refused_size g.row.S size _ rest c.read-answer.result h over (c.read-answer.ensures.verdict refl),
-  left_behind g.row.S size _ rest _ h over (c.read-answer.ensures.settled refl (invalid_size size) (rest, h, over) (λ early. early)),
+  rejected_size g.row.S size _ rest c.read-answer.result h over (c.read-answer.ensures.verdict refl),
+  left_after g.row.S size _ rest _ h over (c.read-answer.ensures.settled refl (invalid_size size) (rest, h, over) (λ early. early)),
 )

@@ -1,4 +1,4 @@
-use Rattle.multihash.specs.Answer.{pair_of}
+use Rattle.multihash.specs.Outcome.{pair_of}
 use Rattle.multihash.proofs.Values.OrderLemmas.{other_key}
 use Rattle.uses.proofs.block_store.put_ordered.Goals as goal
 

@@ -1,4 +1,4 @@
-use Rattle.multihash.specs.Answer.{pair_of}
+use Rattle.multihash.specs.Outcome.{pair_of}
 use Rattle.multihash.proofs.CallingLemmas.{accepted_encoding}
 use Rattle.uses.proofs.bytes.accepted_back.Goals as goal
 use Rattle.multihash.proofs.Writings.EncodingLemmas.{encoding_same}

@@ -1,6 +1,6 @@
 use Rattle.std.proofs.Common.{sym, subst}
 use Rattle.multihash.specs.Encoding.{IsEncoding}
-use Rattle.multihash.specs.Answer.{pair_of}
+use Rattle.multihash.specs.Outcome.{pair_of}
 use Rattle.multihash.proofs.CallingLemmas.{from_bytes_of_encoding}
 use Rattle.uses.proofs.bytes.bytes_back.Goals as goal
 

@@ -1,7 +1,7 @@
 use Rattle.std.proofs.Common.{◌≡◌, ◌↔◌, IsTrue, ◌++◌, length, take, drop, sym, ap, ◌∙◌, subst, take-append-drop, arith, rules}
 use Rattle.std.proofs.lemmas.List.{take_all}
 use Rattle.multihash.specs.Scale.{IsScale}
-use Rattle.multihash.specs.Answer.{pair_of}
+use Rattle.multihash.specs.Outcome.{pair_of}
 use Rattle.uses.proofs.conclusions.begins_scale.Goals as goal
 
 pub returns : goal.returns

@@ -1,7 +1,7 @@
 use Rattle.std.proofs.Common.{◌≡◌, ◌↔◌, IsTrue, ◌++◌, map, sym, ap, ◌∙◌, subst, arith, rules}
 use Rattle.std.proofs.lemmas.List.{length-map}
-use Rattle.multihash.specs.Streams.{AreJoined}
-use Rattle.multihash.specs.Answer.{pair_of}
+use Rattle.multihash.specs.Streams.{AreConcatenated}
+use Rattle.multihash.specs.Outcome.{pair_of}
 use Rattle.uses.proofs.conclusions.nodes_written_alike.Goals as goal
 
 pub returns : goal.returns
@@ -15,6 +15,6 @@ returns g c =
       (λ is. c.split_unique.ensures.as_many links others first.0 second.0 _ _
           (omega (arith, length-map c.args.links.now pair_of, length-map c.args.other_links.now pair_of, c.requires)) first.1 second.1 (alike.0 is)),
       λ same.
-          let joined = c.split_unique.ensures.one_stream links first.0 second.0 first.1 (subst (λ z. AreJoined z second.0) (sym same.0) second.1) in
-          alike.1 (ap (λ z. z ++ more) joined ∙ ap (λ z. second.0 ++ z) same.1),
+          let concatenated = c.split_unique.ensures.one_stream links first.0 second.0 first.1 (subst (λ z. AreConcatenated z second.0) (sym same.0) second.1) in
+          alike.1 (ap (λ z. z ++ more) concatenated ∙ ap (λ z. second.0 ++ z) same.1),
     )

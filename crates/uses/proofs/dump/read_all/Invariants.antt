@@ -1,12 +1,12 @@
 -- The multihashes so far were taken, and this much is left.
 use Rattle.std.proofs.Common.{Some, length, map}
-use Rattle.multihash.specs.Streams.{TakesPairs}
-use Rattle.multihash.specs.Answer.{pair_of}
+use Rattle.multihash.specs.Streams.{ConsumesPairs}
+use Rattle.multihash.specs.Outcome.{pair_of}
 use Rattle.uses.proofs.dump.read_all.Given as goal
 
 abbrev pub invariant-loop-left : goal.invariant-loop-left
 invariant-loop-left g l = record {
-  taken : TakesPairs g.row.S (map pair_of l.items.items) (Some l.initial.input) (Some l.left);
+  consumed : ConsumesPairs g.row.S (map pair_of l.items.items) (Some l.initial.input) (Some l.left);
 }
 
 abbrev pub decreases-loop-left : goal.decreases-loop-left

@@ -1,4 +1,4 @@
-use Rattle.multihash.specs.Answer.{pair_of}
+use Rattle.multihash.specs.Outcome.{pair_of}
 use Rattle.multihash.proofs.CallingLemmas.{from_bytes_of_encoding}
 use Rattle.multihash.proofs.Forms.JsonLemmas.{json_bytes}
 use Rattle.uses.proofs.forms.json_back.Goals as goal

@@ -1,5 +1,5 @@
 use Rattle.std.proofs.Common.{◌≡◌, ◌++◌, refl, rules}
-use Rattle.multihash.specs.Answer.{pair_of}
+use Rattle.multihash.specs.Outcome.{pair_of}
 use Rattle.multihash.proofs.CallingLemmas.{scale_pair, scale_taken}
 use Rattle.uses.proofs.forms.scale_back.Goals as goal
 

@@ -1,4 +1,4 @@
-use Rattle.multihash.specs.Answer.{pair_of}
+use Rattle.multihash.specs.Outcome.{pair_of}
 use Rattle.multihash.proofs.Forms.JsonLemmas.{text_lists_one}
 use Rattle.uses.proofs.json_text.text_back.Goals as goal
 

@@ -4,8 +4,8 @@ use Rattle.multihash.specs.Varint.{IsVarint}
 use Rattle.uses.proofs.parts.first_part.Goals as goal
 
 -- two fronts, and what stands behind them
-joined : (a : List ℕ) (k m : ℕ) (behind : List ℕ) → behind ≡ drop m (drop k a) → a ≡ take k a ++ (take m (drop k a) ++ behind)
-joined a k m behind same =
+concatenated : (a : List ℕ) (k m : ℕ) (following : List ℕ) → following ≡ drop m (drop k a) → a ≡ take k a ++ (take m (drop k a) ++ following)
+concatenated a k m following same =
     sym (take-append-drop k a)
     ∙ ap (λ z. take k a ++ z) (sym (take-append-drop m (drop k a)) ∙ ap (λ z. take m (drop k a) ++ z) (sym same))
 
@@ -23,5 +23,5 @@ returns c =
       take m (drop k a),
       c.in_ok-code.ensures.ok.0,
       subst (λ z. IsVarint z (take m (drop k a))) (sym long) second,
-      joined a k m _ both,
+      concatenated a k m _ both,
     )

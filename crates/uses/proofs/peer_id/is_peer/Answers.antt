@@ -1,7 +1,7 @@
 use Rattle.std.proofs.Common.{subst}
 use Rattle.multihash.specs.Encoding.{IsEncoding}
-use Rattle.multihash.specs.Answer.{pair_of}
-use Rattle.multihash.proofs.CallingLemmas.{accepted_encoding, refused_no_encoding}
+use Rattle.multihash.specs.Outcome.{pair_of}
+use Rattle.multihash.proofs.CallingLemmas.{accepted_encoding, rejected_no_encoding}
 use Rattle.multihash.proofs.Values.ValueLemmas.{digest_fits}
 use Rattle.uses.proofs.peer_id.is_peer.Goals as goal
 
@@ -17,5 +17,5 @@ returns-in-Ok g c =
 pub returns-in-Err : goal.returns-in-Err
 returns-in-Err g c = (
   (λ is_false. cc),
-  λ encodes. absurd (refused_no_encoding g.row.S c.in-Err.ensures (pair_of c.args.peer.now) encodes (digest_fits c.args.peer.now)),
+  λ encodes. absurd (rejected_no_encoding g.row.S c.in-Err.ensures (pair_of c.args.peer.now) encodes (digest_fits c.args.peer.now)),
 )

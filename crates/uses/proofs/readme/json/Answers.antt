@@ -1,5 +1,5 @@
 use Rattle.std.proofs.Common.{arith}
-use Rattle.multihash.specs.Answer.{pair_of}
+use Rattle.multihash.specs.Outcome.{pair_of}
 use Rattle.multihash.proofs.CallingLemmas.{from_bytes_of_encoding}
 use Rattle.multihash.proofs.Forms.JsonLemmas.{json_bytes}
 use Rattle.multihash.proofs.Values.ValueLemmas.{digest_fits}

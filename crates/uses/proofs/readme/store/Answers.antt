@@ -1,6 +1,6 @@
 use Rattle.std.proofs.Common.{◌≡◌, [], map, Some, Result, Ok, Err, MatchResult, refl, sym, ◌∙◌, ap, append-nil, rules}
 use Rattle.std.proofs.lemmas.List.{length-map}
-use Rattle.multihash.specs.Answer.{pair_of}
+use Rattle.multihash.specs.Outcome.{pair_of}
 use Rattle.multihash.proofs.CallingLemmas.{read_list_of_encodings}
 use Rattle.uses.proofs.readme.store.Goals as goal
 

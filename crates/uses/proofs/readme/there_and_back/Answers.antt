@@ -1,6 +1,6 @@
 use Rattle.std.proofs.Common.{◌≡◌, inl, Ok, Err, sym, ◌∙◌, subst}
 use Rattle.multihash.specs.Encoding.{IsEncoding}
-use Rattle.multihash.specs.Answer.{pair_of}
+use Rattle.multihash.specs.Outcome.{pair_of}
 use Rattle.multihash.proofs.Values.ValueLemmas.{digest_fits}
 use Rattle.multihash.proofs.CallingLemmas.{from_bytes_of_encoding}
 use Rattle.multihash.proofs.OutcomeLemmas.{passed_on}

@@ -1,6 +1,6 @@
 use Rattle.std.proofs.Common.{refl, sym, ◌∙◌}
 use Rattle.std.proofs.lemmas.Bool.{false≢true}
-use Rattle.vectors.proofs.AnswerLemmas.{ReadCall, reading, no_reading}
+use Rattle.vectors.proofs.OutcomeOfLemmas.{ReadCall, reading, no_reading}
 use Rattle.vectors.proofs.check.cuts_agree.Goals as goal
 
 pub returns-then-is_answer : goal.returns-then-is_answer

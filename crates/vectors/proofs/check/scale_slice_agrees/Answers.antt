@@ -1,6 +1,6 @@
 use Rattle.std.proofs.Common.{refl, sym, ◌∙◌}
 use Rattle.std.proofs.lemmas.Bool.{false≢true}
-use Rattle.vectors.proofs.ScaleAnswerLemmas.{Decoding, reading, no_reading}
+use Rattle.vectors.proofs.ScaleOutcomeLemmas.{Decoding, reading, no_reading}
 use Rattle.vectors.proofs.check.scale_slice_agrees.Goals as goal
 
 pub returns-then-is_answer : goal.returns-then-is_answer
@@ -9,7 +9,7 @@ returns-then-is_answer g c =
     let d : Decoding g.row.S c.args.input.now call.new.r.now call.result =
     record { unique = c.scale_unique.ensures.verdict_unique g.row.S; verdict = call.ensures.verdict refl; ok = call.ensures.ok; err = call.ensures.err } in
     let test = c.takes_as_scale_listed.ensures in
-    let both = reading g.row.S _ _ _ d _ c.args.listed.now.taken (c.is_answer.ensures.0 c.if-is_answer.true) in
+    let both = reading g.row.S _ _ _ d _ c.args.listed.now.consumed (c.is_answer.ensures.0 c.if-is_answer.true) in
     (λ holds. both.0 (test.0 holds), λ right. test.1 (both.1 right))
 
 pub returns-else-is_answer : goal.returns-else-is_answer
@@ -18,6 +18,6 @@ returns-else-is_answer g c =
     let d : Decoding g.row.S c.args.input.now call.new.r.now call.result =
     record { unique = c.scale_unique.ensures.verdict_unique g.row.S; verdict = call.ensures.verdict refl; ok = call.ensures.ok; err = call.ensures.err } in (
       λ holds. absurd (false≢true (sym c.if-is_answer.false ∙ holds)),
-      λ right. absurd (no_reading g.row.S _ _ _ d _ c.args.listed.now.taken
+      λ right. absurd (no_reading g.row.S _ _ _ d _ c.args.listed.now.consumed
           (λ answers. false≢true (sym c.if-is_answer.false ∙ c.is_answer.ensures.1 answers)) right),
     )

@@ -1,4 +1,4 @@
-use Rattle.vectors.proofs.AnswerLemmas.{value_right}
+use Rattle.vectors.proofs.OutcomeOfLemmas.{value_right}
 use Rattle.vectors.proofs.check.value_agrees.Goals as goal
 
 pub returns : goal.returns

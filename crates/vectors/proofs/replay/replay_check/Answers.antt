@@ -4,7 +4,7 @@ use Rattle.std.proofs.lemmas.List.{take_all}
 use Rattle.std.proofs.lemmas.List.Elements.{All-more}
 use Rattle.vectors.specs.Listed.{IsRight}
 use Rattle.vectors.specs.declared.line.Line.{Line}
-use Rattle.vectors.proofs.AnswerLemmas.{All-fewer, All-last}
+use Rattle.vectors.proofs.OutcomeOfLemmas.{All-fewer, All-last}
 use Rattle.vectors.proofs.replay.replay_check.Goals as goal
 use Rattle.vectors.proofs.replay.replay_check.Goals.{then-agrees, else-agrees+in_ok-write_disagreement}
 

@@ -5,7 +5,7 @@ use Rattle.std.proofs.lemmas.List.Elements.{All-more}
 use Rattle.vectors.specs.Listed.{AreRightFor}
 use Rattle.vectors.specs.declared.check.Check.{Check}
 use Rattle.vectors.specs.declared.check.Check.TheVariants.{FromBytes, ReadSlice, ReadOneByte, ReadTwoBytes, ReadThreeBytes, ScaleSlice, ScaleOneByte, ScaleFourBytes, FromValue}
-use Rattle.vectors.proofs.AnswerLemmas.{All-fewer, All-last}
+use Rattle.vectors.proofs.OutcomeOfLemmas.{All-fewer, All-last}
 use Rattle.vectors.proofs.replay.replay_lines.Goals as goal
 use Rattle.vectors.proofs.replay.replay_lines.Goals.{then-branch, else-branch}
 

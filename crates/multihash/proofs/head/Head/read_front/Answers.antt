@@ -1,5 +1,5 @@
 use Rattle.std.proofs.Common.{inl, inr, subst}
-use Rattle.multihash.specs.Varint.{HasFaultyFront}
+use Rattle.multihash.specs.Varint.{BeginsMalformed}
 use Rattle.std.proofs.lemmas.List.{take_rest}
 use Rattle.multihash.proofs.Readings.VerdictLemmas.{has_code, head_of}
 use Rattle.multihash.proofs.head.Head.read_front.Goals as goal
@@ -10,7 +10,7 @@ returns-in_default-clause-err c = let refused = c.front_fault.ensures in (refuse
 pub returns-in_default-read_front-clause-err : goal.returns-in_default-read_front-clause-err
 returns-in_default-read_front-clause-err c =
     let refused = c.front_fault-in_default-read_front.ensures in
-    let shows = subst (HasFaultyFront refused.0) (take_rest c.args.bytes.now c.in-Some.code_len) refused.2 in
+    let shows = subst (BeginsMalformed refused.0) (take_rest c.args.bytes.now c.in-Some.code_len) refused.2 in
     (refused.0, refused.1, λ S. inr (_, has_code _ _ _ c.in-Some.ensures.some, shows))
 
 pub returns-clause-ok : goal.returns-clause-ok

@@ -1,6 +1,6 @@
 use Rattle.std.proofs.Common.{◌<◌, ◌∙◌, [], ◌++◌, length, drop, Some, ap, sym, refl, arith, rules}
 use Rattle.multihash.specs.Members.{member_bytes}
-use Rattle.multihash.specs.Reading.{TakesFewerThan}
+use Rattle.multihash.specs.Reading.{ConsumesFewerThan}
 use Rattle.multihash.proofs.Forms.JsonLemmas.{bytes_split, length-member_bytes}
 use Rattle.multihash.proofs.json.ByteMembersRead.read_exact.Goals as goal
 
@@ -9,14 +9,14 @@ returns-then-self-buf c =
     let bytes = member_bytes c.args.self.now.left.now in
     let short : length bytes < length c.args.buf.now =
     omega (arith, length-member_bytes c.args.self.now.left.now c.args.self.now.are_bytes, c.if-self-buf.true) in
-    let err : TakesFewerThan (length c.args.buf.now) (Some bytes) (Some bytes) = record { taken = []; fewer = omega (arith, short); takes = refl } in
+    let err : ConsumesFewerThan (length c.args.buf.now) (Some bytes) (Some bytes) = record { consumed = []; fewer = omega (arith, short); consumes = refl } in
     search rules
 
 pub returns : goal.returns
 returns c =
     let members = c.args.self.now.left.now in
     let n = length c.args.buf.now in
-    let takes = ap Some (bytes_split n members c.args.self.now.are_bytes
+    let consumes = ap Some (bytes_split n members c.args.self.now.are_bytes
     ∙ ap (λ l. member_bytes l ++ member_bytes (drop n members)) (sym c.split_at.ensures.front)
     ∙ ap (λ l. member_bytes c.split_at.result.0.now ++ member_bytes l) (sym c.split_at.ensures.back)
     ∙ ap (λ l. l ++ member_bytes c.split_at.result.1.now) (sym c.put_bytes.ensures)) in

@@ -1,7 +1,7 @@
 use Rattle.std.proofs.Common.{◌-◌, ℕ, replicate, refl, ◌∙◌, arith, sym, ap, inl, inr}
 use Rattle.multihash.specs.Verdict.{invalid_size, unexpected_eof, accepted}
 use Rattle.multihash.proofs.Writings.EncodingLemmas.{pair_in_front}
-use Rattle.multihash.proofs.Readings.VerdictLemmas.{sliced, no_code, no_size, has_size, left_over, whole}
+use Rattle.multihash.proofs.Readings.VerdictLemmas.{sliced, no_code, no_size, has_size, has_trailing, whole}
 use Rattle.multihash.proofs.multihash.Multihash.from_bytes.Goals as goal
 
 pub returns-in_default : goal.returns-in_default
@@ -29,7 +29,7 @@ returns-then-digest-len g c =
 pub returns-then-digest-len-2 : goal.returns-then-digest-len-2
 returns-then-digest-len-2 g c = (
   invalid_size _,
-  left_over _ _ _ (sliced _ _ _ c.in-Some.ensures.some) _ _ (sliced _ _ _ c.in-Some-read_front.ensures.some) g.row.S _
+  has_trailing _ _ _ (sliced _ _ _ c.in-Some.ensures.some) _ _ (sliced _ _ _ c.in-Some-read_front.ensures.some) g.row.S _
       (omega (arith, c.if-size.false, c.if-size-gt255.false)) c.if-digest-len-2.true refl,
   c.from_size-then-digest-len-2.ensures,
 )

@@ -3,10 +3,10 @@ use Rattle.std.proofs.lemmas.List.{nil_from_length}
 use Rattle.multihash.specs.Members.{member_bytes}
 use Rattle.multihash.specs.Verdict.{Verdict, accepted, invalid_size, HasWholeVerdict}
 use Rattle.multihash.specs.Encoding.{IsEncoding}
-use Rattle.multihash.specs.Answer.{pair_of, Answers}
+use Rattle.multihash.specs.Outcome.{pair_of, IsResultOf}
 use Rattle.multihash.proofs.OutcomeLemmas.{passed_err}
 use Rattle.multihash.proofs.Forms.JsonLemmas.{array_unique, length-member_bytes}
-use Rattle.multihash.proofs.Readings.VerdictLemmas.{whole_pair, whole_refused}
+use Rattle.multihash.proofs.Readings.VerdictLemmas.{whole_pair, whole_rejected}
 use Rattle.multihash.proofs.Values.ValueLemmas.{digest_fits}
 use Rattle.multihash.proofs.multihash.Multihash.from_value.Given as given
 use Rattle.multihash.proofs.multihash.Multihash.from_value.Goals as goal
@@ -16,8 +16,8 @@ returns-in_err-multihash-clause-verdict g c bytes h =
     let found = c.in_err-multihash.ensures.verdict refl in
     let listed = member_bytes c.in-Some.members.now in
     rw (array_unique bytes listed (sym h.array ∙ c.in-Some.ensures.1.array))
-    (passed_err (λ r. (w : Verdict) × HasWholeVerdict g.row.S listed w × Answers r w) c.from_residual.result _ c.from_residual.ensures.1
-    (whole_refused g.row.S _ _ found.0 found.1 found.2))
+    (passed_err (λ r. (w : Verdict) × HasWholeVerdict g.row.S listed w × IsResultOf r w) c.from_residual.result _ c.from_residual.ensures.1
+    (whole_rejected g.row.S _ _ found.0 found.1 found.2))
 
 pub returns-then-not-is_empty-clause-verdict : goal.returns-then-not-is_empty-clause-verdict
 returns-then-not-is_empty-clause-verdict g c bytes h =

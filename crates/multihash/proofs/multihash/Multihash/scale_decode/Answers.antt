@@ -1,10 +1,10 @@
 use Rattle.std.proofs.Common.{◌≡◌, ◌<◌, ℕ, [], ◌∷◌, ◌++◌, length, take, drop, replicate, refl, sym, ap, ◌∙◌, arith, rules, append_assoc}
 use Rattle.std.proofs.lemmas.List.{take_at, length-take-le, length-replicate}
 use Rattle.multihash.specs.Scale.{IsScaleCode}
-use Rattle.multihash.specs.Reading.{Takes}
+use Rattle.multihash.specs.Reading.{Consumes}
 use Rattle.multihash.proofs.OutcomeLemmas.{passed_err}
-use Rattle.multihash.proofs.Readings.ReadingLemmas.{Takes-joined}
-use Rattle.multihash.proofs.Forms.ScaleLemmas.{code_read, ScaleMeets, one_item, code_refused, no_size, size_refused, cut_digest, inside_refused, answered}
+use Rattle.multihash.proofs.Readings.ReadingLemmas.{Consumes-concatenated}
+use Rattle.multihash.proofs.Forms.ScaleLemmas.{code_read, ScaleMeets, one_item, code_rejected, no_size, size_rejected, cut_digest, inside_rejected, answered}
 use Rattle.multihash.proofs.multihash.Multihash.scale_decode.Given as given
 use Rattle.multihash.proofs.multihash.Multihash.scale_decode.Goals as goal
 use Rattle.multihash.proofs.multihash.Multihash.scale_decode.Goals.{After-from_le_bytes-code, After-from-size}
@@ -13,17 +13,17 @@ is_code : (g : given.Over) (c : After-from_le_bytes-code g) → IsScaleCode c.fr
 is_code g c = code_read _ _ (search rules) (search rules) (omega (arith, c.from_le_bytes-code.type_inv)) c.from_le_bytes-code.ensures
 
 -- the code's bytes and the one of the size were consumed
-takes : (g : given.Over) (c : After-from-size g)
-    → Takes (g.R.Read.rest c.args.r.now) (c.in_ok-code_bytes.code_bytes ++ c.from-size.result ∷ []) (g.R.Read.rest c.read_array-2.new.r)
-takes g c =
+consumes : (g : given.Over) (c : After-from-size g)
+    → Consumes (g.R.Read.rest c.args.r.now) (c.in_ok-code_bytes.code_bytes ++ c.from-size.result ∷ []) (g.R.Read.rest c.read_array-2.new.r)
+consumes g c =
     let byte = one_item c.in_ok-size_byte.size_byte (search rules) ∙ ap (λ n. n ∷ []) (sym c.from-size.ensures) in
-    Takes-joined _ _ _ _ _ _ refl c.in_ok-code_bytes.ensures.takes (rw byte at c.in_ok-size_byte.ensures.takes)
+    Consumes-concatenated _ _ _ _ _ _ refl c.in_ok-code_bytes.ensures.consumes (rw byte at c.in_ok-size_byte.ensures.consumes)
 
 pub returns-then-code-gt-MAX : goal.returns-then-code-gt-MAX
 returns-then-code-gt-MAX g c =
     let code = is_code g (goal.at.returns-then-code-gt-MAX g c).After-from_le_bytes-code in
-    code_refused g.row.S _ _ _ _ _ _ code _ (omega (arith, c.if-code-gt-MAX.true))
-    c.in_ok-code_bytes.ensures.faults c.from_code.ensures c.in_ok-code_bytes.ensures.takes
+    code_rejected g.row.S _ _ _ _ _ _ code _ (omega (arith, c.if-code-gt-MAX.true))
+    c.in_ok-code_bytes.ensures.faults c.from_code.ensures c.in_ok-code_bytes.ensures.consumes
 
 pub returns-in_err-size_byte : goal.returns-in_err-size_byte
 returns-in_err-size_byte g c =
@@ -32,15 +32,15 @@ returns-in_err-size_byte g c =
     let t = c.in_err-size_byte.ensures.err in
     let unrisen = c.in_ok-code_bytes.ensures.faults in
     passed_err (ScaleMeets S _ _ _ _) c.from_residual-in_err-size_byte.result _ c.from_residual-in_err-size_byte.ensures.1
-    (inside_refused S _ _ _ _ _ 1 (no_size S _ _ code (omega (arith, c.if-code-gt-MAX.false))) _ t.taken _ t.fewer
-    c.in_ok-code_bytes.ensures.takes t.takes c.in_err-size_byte.ensures.eof (rw unrisen at c.in_err-size_byte.ensures.faults))
+    (inside_rejected S _ _ _ _ _ 1 (no_size S _ _ code (omega (arith, c.if-code-gt-MAX.false))) _ t.consumed _ t.fewer
+    c.in_ok-code_bytes.ensures.consumes t.consumes c.in_err-size_byte.ensures.eof (rw unrisen at c.in_err-size_byte.ensures.faults))
 
 pub returns-then-size : goal.returns-then-size
 returns-then-size g c =
     let code = is_code g (goal.at.returns-then-size g c).After-from_le_bytes-code in
-    size_refused g.row.S _ _ _ _ _ _ code _ (omega (arith, c.if-code-gt-MAX.false)) _ c.if-size.true
+    size_rejected g.row.S _ _ _ _ _ _ code _ (omega (arith, c.if-code-gt-MAX.false)) _ c.if-size.true
     (c.in_ok-size_byte.ensures.faults ∙ c.in_ok-code_bytes.ensures.faults) c.from_size.ensures
-    (takes g (goal.at.returns-then-size g c).After-from-size)
+    (consumes g (goal.at.returns-then-size g c).After-from-size)
 
 pub returns-in_err-read_exact : goal.returns-in_err-read_exact
 returns-in_err-read_exact g c =
@@ -52,8 +52,8 @@ returns-in_err-read_exact g c =
     let t = c.in_err-read_exact.ensures.laws.err in
     let unrisen = c.in_ok-size_byte.ensures.faults ∙ c.in_ok-code_bytes.ensures.faults in
     passed_err (ScaleMeets S _ _ _ _) c.from_residual-in_err-read_exact.result _ c.from_residual-in_err-read_exact.ensures.1
-    (inside_refused S _ _ _ _ _ size (cut_digest S _ _ code size (omega (arith, c.if-code-gt-MAX.false)) c.if-size.false) _ t.taken _
-    (omega (arith, t.fewer, room)) (takes g (goal.at.returns-in_err-read_exact g c).After-from-size) t.takes
+    (inside_rejected S _ _ _ _ _ size (cut_digest S _ _ code size (omega (arith, c.if-code-gt-MAX.false)) c.if-size.false) _ t.consumed _
+    (omega (arith, t.fewer, room)) (consumes g (goal.at.returns-in_err-read_exact g c).After-from-size) t.consumes
     (rw room at c.in_err-read_exact.ensures.laws.eof) (rw unrisen at c.in_err-read_exact.ensures.laws.faults))
 
 pub returns : goal.returns
@@ -66,5 +66,5 @@ returns g c =
     let byte : size < 256 = search rules in
     answered g.row.S _ _ _ _ _ _ code size (omega (arith, c.if-code-gt-MAX.false)) d c.in_buffer.result c.if-size.false byte long
     (c.in_ok-read_exact.ensures.laws.faults ∙ (c.in_ok-size_byte.ensures.faults ∙ c.in_ok-code_bytes.ensures.faults)) (rw front at c.in_buffer.ensures)
-    (Takes-joined _ _ _ _ d _ (sym (append_assoc _ (size ∷ []) d)) (takes g (goal.at.returns g c).After-from-size)
-    c.in_ok-read_exact.ensures.laws.takes)
+    (Consumes-concatenated _ _ _ _ d _ (sym (append_assoc _ (size ∷ []) d)) (consumes g (goal.at.returns g c).After-from-size)
+    c.in_ok-read_exact.ensures.laws.consumes)

@@ -1,6 +1,6 @@
 use Rattle.std.proofs.Common.{[], ◌∷◌, ◌++◌, length, ap, arith}
 use Rattle.multihash.specs.Scale.{IsScale}
-use Rattle.multihash.specs.Answer.{pair_of}
+use Rattle.multihash.specs.Outcome.{pair_of}
 use Rattle.multihash.proofs.Forms.ScaleLemmas.{code_bytes, scale_of, scale_length}
 use Rattle.multihash.proofs.Writings.WritingLemmas.{stops_in_first, stops_in_second, stops_in_third}
 use Rattle.multihash.proofs.multihash.Multihash.scale_encode.Given as given
@@ -18,19 +18,19 @@ form g c =
 pub returns-in_err-write_all-clause-err : goal.returns-in_err-write_all-clause-err
 returns-in_err-write_all-clause-err g c =
     let written = form g (goal.at.returns-in_err-write_all-clause-err g c).After-digest-digest in
-    stops_in_first g.W.Write.appended g.met.W.Write.appends_joined _ _ (c.size-size.result ∷ []) c.digest-digest.result.now written
+    stops_in_first g.W.Write.appended g.met.W.Write.appends_concatenated _ _ (c.size-size.result ∷ []) c.digest-digest.result.now written
     _ _ _ c.in_err-write_all.ensures.laws.err
 
 pub returns-in_err-write_all-2-clause-err : goal.returns-in_err-write_all-2-clause-err
 returns-in_err-write_all-2-clause-err g c =
     let written = form g (goal.at.returns-in_err-write_all-2-clause-err g c).After-digest-digest in
-    stops_in_second g.W.Write.appended g.met.W.Write.appends_joined _ _ _ _ written
+    stops_in_second g.W.Write.appended g.met.W.Write.appends_concatenated _ _ _ _ written
     _ _ _ _ c.in_ok-write_all.ensures.laws.ok c.in_err-write_all-2.ensures.laws.err
 
 pub returns-in_err-write_all-3-clause-err : goal.returns-in_err-write_all-3-clause-err
 returns-in_err-write_all-3-clause-err g c =
     let written = form g (goal.at.returns-in_err-write_all-3-clause-err g c).After-digest-digest in
-    stops_in_third g.W.Write.appended g.met.W.Write.appends_joined _ _ _ _ written
+    stops_in_third g.W.Write.appended g.met.W.Write.appends_concatenated _ _ _ _ written
     _ _ _ _ _ c.in_ok-write_all.ensures.laws.ok c.in_ok-write_all-2.ensures.laws.ok c.in_err-write_all-3.ensures.laws.err
 
 pub returns-clause-ok : goal.returns-clause-ok
@@ -39,6 +39,6 @@ returns-clause-ok g c =
       _,
       written,
       omega (arith, scale_length (pair_of c.args.self.now) _ written, ap length c.digest-digest.ensures.digest),
-      g.met.W.Write.appends_joined _ _ _ _ _ c.in_ok-write_all.ensures.laws.ok
-          (g.met.W.Write.appends_joined _ _ _ _ _ c.in_ok-write_all-2.ensures.laws.ok c.in_ok-write_all-3.ensures.laws.ok),
+      g.met.W.Write.appends_concatenated _ _ _ _ _ c.in_ok-write_all.ensures.laws.ok
+          (g.met.W.Write.appends_concatenated _ _ _ _ _ c.in_ok-write_all-2.ensures.laws.ok c.in_ok-write_all-3.ensures.laws.ok),
     )

@@ -1,34 +1,34 @@
 use Rattle.std.proofs.Common.{arith, ◌/◌, ◌^◌}
 use Rattle.multihash.specs.Varint.{insufficient, overflow, not_minimal}
 use Rattle.multihash.proofs.Varints.WordFrontLemmas.{high_over, high_end, high_number, ends_short, ends_zero}
-use Rattle.multihash.proofs.Varints.WordLemmas.{few_marked, first_unmarked}
+use Rattle.multihash.proofs.Varints.WordLemmas.{few_continuation, first_unmarked}
 use Rattle.multihash.proofs.varint.word.read_high.Goals as goal
 
 pub returns-then-varint-ge-TOO_LARGE-clause-err : goal.returns-then-varint-ge-TOO_LARGE-clause-err
 returns-then-varint-ge-TOO_LARGE-clause-err c = λ xs bytes f begins.
     (overflow, c.overflow.ensures, high_over xs _ _ bytes f begins c.if-varint-ge-TOO_LARGE.true)
 
-pub returns-then-marked-present-clause-err : goal.returns-then-marked-present-clause-err
-returns-then-marked-present-clause-err c = λ xs bytes f begins. (
+pub returns-then-continuation_bytes-present-clause-err : goal.returns-then-continuation_bytes-present-clause-err
+returns-then-continuation_bytes-present-clause-err c = λ xs bytes f begins. (
   insufficient,
   c.insufficient.ensures,
-  ends_short xs _ _ _ _ f (high_end xs _ _ bytes f begins c.if-varint-ge-TOO_LARGE.false) c.if-marked-present.true,
+  ends_short xs _ _ _ _ f (high_end xs _ _ bytes f begins c.if-varint-ge-TOO_LARGE.false) c.if-continuation_bytes-present.true,
 )
 
 pub overflow_shr-varint : goal.overflow_shr-varint
 overflow_shr-varint c =
     let high = c.args.word / 2 ^ 64 in
-    omega (arith, few_marked high _ (first_unmarked high (omega (arith, c.ranges.word.fits))) c.if-varint-ge-TOO_LARGE.false)
+    omega (arith, few_continuation high _ (first_unmarked high (omega (arith, c.ranges.word.fits))) c.if-varint-ge-TOO_LARGE.false)
 
-pub returns-then-varint-marked-eq0-clause-err : goal.returns-then-varint-marked-eq0-clause-err
-returns-then-varint-marked-eq0-clause-err c = λ xs bytes f begins. (
+pub returns-then-varint-continuation_bytes-eq0-clause-err : goal.returns-then-varint-continuation_bytes-eq0-clause-err
+returns-then-varint-continuation_bytes-eq0-clause-err c = λ xs bytes f begins. (
   not_minimal,
   c.not_minimal.ensures,
-  ends_zero xs _ _ _ _ f (high_end xs _ _ bytes f begins c.if-varint-ge-TOO_LARGE.false) c.if-marked-present.false c.if-varint-marked-eq0.true
+  ends_zero xs _ _ _ _ f (high_end xs _ _ bytes f begins c.if-varint-ge-TOO_LARGE.false) c.if-continuation_bytes-present.false c.if-varint-continuation_bytes-eq0.true
       (omega arith),
 )
 
 pub returns-clause-ok : goal.returns-clause-ok
 returns-clause-ok c = λ xs bytes f begins.
     rw (c.join_digits.ensures, c.join_digits-2.ensures)
-    (high_number xs _ _ bytes f begins c.if-varint-ge-TOO_LARGE.false c.if-marked-present.false c.if-varint-marked-eq0.false)
+    (high_number xs _ _ bytes f begins c.if-varint-ge-TOO_LARGE.false c.if-continuation_bytes-present.false c.if-varint-continuation_bytes-eq0.false)

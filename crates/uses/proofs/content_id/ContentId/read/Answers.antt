@@ -1,10 +1,10 @@
 use Rattle.std.proofs.Common.{◌≡◌, ℕ, length, Some, Ok, Err, inl, inr, refl, sym, ap, ◌∙◌, subst, arith, rules}
 use Rattle.multihash.specs.Varint.{IsVarint}
 use Rattle.multihash.specs.Refusal.{of_io}
-use Rattle.multihash.specs.Answer.{pair_of}
+use Rattle.multihash.specs.Outcome.{pair_of}
 use Rattle.multihash.proofs.CallingLemmas.{varint_read, read_of_encoding, read_exact_of_bytes}
 use Rattle.uses.specs.ContentId.{in_version, in_number, in_hash, in_digest}
-use Rattle.uses.proofs.ContentIdLemmas.{parts, first_read, second_read, ends_version_0, ends_version_1, make_version_0, make_version_1, takes_three, passes, refused_so, passed_stop, takes_other_number, takes_other_size}
+use Rattle.uses.proofs.ContentIdLemmas.{parts, first_read, second_read, ends_version_0, ends_version_1, make_version_0, make_version_1, takes_three, passes, rejected_so, passed_stop, takes_other_number, takes_other_size}
 use Rattle.uses.proofs.content_id.ContentId.read.Goals as goal
 use Rattle.uses.proofs.content_id.ContentId.read.Goals.{else-version-ne-VERSION-via-then-version-ne-VERSION+else-version-ne-SHA2_256, else-version-ne-VERSION-via-else-version-ne-VERSION}
 
@@ -28,7 +28,7 @@ returns-clause-ok g c =
     let whole : length digest ≡ 32 = search rules in (
       _,
       make_version_0 c.in_ok-version.version c.in_ok-number.number digest v.0 n.0 (omega arith) (omega arith) whole v.1 n.1,
-      takes_three _ _ _ _ v.0 n.0 digest v.2 n.2 c.in_ok-read_exact.ensures.laws.takes,
+      takes_three _ _ _ _ v.0 n.0 digest v.2 n.2 c.in_ok-read_exact.ensures.laws.consumes,
     )
 
 -- ---- who failed
@@ -126,7 +126,7 @@ returns-in_err-read_exact-clause-found g c content bytes more id fits rest same 
     let zero = ends_version_0 content h.rest h.ends (λ is. omega (arith, one.0, is)) in
     let whole : length c.read_exact.new.buf ≡ 32 = search rules in
     absurd (read_exact_of_bytes {A = ℕ} 32 _ _ _ (g.R.Read.rest c.read_exact.new.self) c.read_exact.new.buf h.rest more (Err c.in_err-read_exact.field-0.0) two.1 zero.2 whole
-    (same ∙ sym (n.faults ∙ v.faults)) met.faults met.takes met.eof)
+    (same ∙ sym (n.faults ∙ v.faults)) met.faults met.consumes met.eof)
 
 pub returns-clause-found : goal.returns-clause-found
 returns-clause-found g c content bytes more id fits rest same =
@@ -139,7 +139,7 @@ returns-clause-found g c content bytes more id fits rest same =
     let zero = ends_version_0 content h.rest h.ends (λ is. omega (arith, one.0, is)) in
     let whole : length c.read_exact.new.buf ≡ 32 = search rules in
     let told = read_exact_of_bytes 32 _ _ _ _ c.read_exact.new.buf h.rest more (Ok c.in_ok-read_exact.field-0) two.1 zero.2 whole
-    (same ∙ sym (n.faults ∙ v.faults)) met.faults met.takes met.eof in
+    (same ∙ sym (n.faults ∙ v.faults)) met.faults met.consumes met.eof in
     (cc (zero.3, told.0), told.1)
 
 -- ---- another version
@@ -211,7 +211,7 @@ returns-clause-other g c n input h rest same =
 pub returns-in_err-version-clause-err : goal.returns-in_err-version-clause-err
 returns-in_err-version-clause-err g c =
     passed_stop g.row.S _ _ c.in_err-version.field-0.0 _ c.from_residual.ensures.1
-    (in_version (refused_so _ _ c.in_err-version.ensures.faults) c.in_err-version.ensures.err)
+    (in_version (rejected_so _ _ c.in_err-version.ensures.faults) c.in_err-version.ensures.err)
 
 pub returns-then-version-ne-SHA2_256-clause-err : goal.returns-then-version-ne-SHA2_256-clause-err
 returns-then-version-ne-SHA2_256-clause-err g c =
@@ -225,7 +225,7 @@ returns-in_err-number-clause-err g c =
       | else-version-ne-VERSION-via-then-version-ne-VERSION+else-version-ne-SHA2_256 w ↦ inr (omega arith)
       | else-version-ne-VERSION-via-else-version-ne-VERSION w ↦ inl (omega arith)
     ])
-    c.in_ok-version.ensures.ok (refused_so _ _ c.in_err-number.ensures.faults) c.in_err-number.ensures.err)
+    c.in_ok-version.ensures.ok (rejected_so _ _ c.in_err-number.ensures.faults) c.in_err-number.ensures.err)
 
 pub returns-in_err-hash-clause-err : goal.returns-in_err-hash-clause-err
 returns-in_err-hash-clause-err g c =
@@ -233,7 +233,7 @@ returns-in_err-hash-clause-err g c =
     let one : c.in_ok-version.version ≡ 1 = omega arith in
     passed_stop g.row.S _ _ c.in_err-hash.field-0.0 _ c.from_residual-in_err-hash.ensures.1
     (in_hash c.in_ok-number.number _ _ (v.0, subst (λ n. IsVarint n v.0) one v.1, v.2) c.in_ok-number.ensures.ok
-    (refused_so _ _ c.in_err-hash.ensures.faults) c.in_err-hash.ensures.err)
+    (rejected_so _ _ c.in_err-hash.ensures.faults) c.in_err-hash.ensures.err)
 
 pub returns-then-number-ne-SHA2_256_SIZE-clause-err : goal.returns-then-number-ne-SHA2_256_SIZE-clause-err
 returns-then-number-ne-SHA2_256_SIZE-clause-err g c =

@@ -1,8 +1,8 @@
 use Rattle.std.proofs.Common.{◌≡◌, ◌++◌, length, inl, inr, refl, sym, subst, arith, rules}
 use Rattle.multihash.specs.Pair.{Pair}
 use Rattle.multihash.specs.Encoding.{IsEncoding}
-use Rattle.multihash.specs.Answer.{pair_of}
-use Rattle.multihash.proofs.Writings.WritingLemmas.{AppendsPart-append, AppendsPart-joined}
+use Rattle.multihash.specs.Outcome.{pair_of}
+use Rattle.multihash.proofs.Writings.WritingLemmas.{AppendsPrefix-append, AppendsPrefix-concatenated}
 use Rattle.multihash.proofs.Varints.VarintWriteLemmas.{varint_exists}
 use Rattle.multihash.proofs.Values.ValueLemmas.{digest_fits}
 use Rattle.uses.specs.ContentId.{version_0, version_1, content_of, IsContentId}
@@ -32,7 +32,7 @@ returns-in_err-write-in-V1-clause-err g c =
       | inr io ↦
           let part = io.1 in
           let is = make_version_1 1 c.in-V1.codec.number (pair_of c.in-V1.hash) part.0 n.0 h.0 refl part.1 n.1 h.1 in
-          let stops = AppendsPart-append g.W.Write.appended _ _ part.0 (n.0 ++ h.0) part.2 in
+          let stops = AppendsPrefix-append g.W.Write.appended _ _ part.0 (n.0 ++ h.0) part.2 in
           stops_all g.W.Write.appended _ _ _ _ (part.0 ++ (n.0 ++ h.0)) (subst (λ x. IsContentId x (part.0 ++ (n.0 ++ h.0))) (sym says) is) stops
     ]
 
@@ -46,7 +46,7 @@ returns-in_err-write-in-V1-2-clause-err g c =
       | inr io ↦
           let part = io.1 in
           let is = make_version_1 1 c.in-V1.codec.number (pair_of c.in-V1.hash) v.0 part.0 h.0 refl v.1 part.1 h.1 in
-          let stops = AppendsPart-joined g.W.Write.appended g.met.W.Write.appends_joined _ _ _ v.0 _ v.3 (AppendsPart-append g.W.Write.appended _ _ part.0 h.0 part.2) in
+          let stops = AppendsPrefix-concatenated g.W.Write.appended g.met.W.Write.appends_concatenated _ _ _ v.0 _ v.3 (AppendsPrefix-append g.W.Write.appended _ _ part.0 h.0 part.2) in
           stops_all g.W.Write.appended _ _ _ _ (v.0 ++ (part.0 ++ h.0)) (subst (λ x. IsContentId x (v.0 ++ (part.0 ++ h.0))) (sym says) is) stops
     ]
 
@@ -57,8 +57,8 @@ returns-in_err-write-in-V1-3-clause-err g c =
     let n = c.in_ok-write-in-V1-2.ensures.ok in
     let part = c.in_err-write-in-V1-3.ensures.err in
     let is = make_version_1 1 c.in-V1.codec.number (pair_of c.in-V1.hash) v.0 n.0 part.0 refl v.1 n.1 part.1 in
-    let stops = AppendsPart-joined g.W.Write.appended g.met.W.Write.appends_joined _ _ _ v.0 _ v.3
-    (AppendsPart-joined g.W.Write.appended g.met.W.Write.appends_joined _ _ _ n.0 _ n.3 part.2) in
+    let stops = AppendsPrefix-concatenated g.W.Write.appended g.met.W.Write.appends_concatenated _ _ _ v.0 _ v.3
+    (AppendsPrefix-concatenated g.W.Write.appended g.met.W.Write.appends_concatenated _ _ _ n.0 _ n.3 part.2) in
     stops_all g.W.Write.appended _ _ _ _ (v.0 ++ (n.0 ++ part.0)) (subst (λ x. IsContentId x (v.0 ++ (n.0 ++ part.0))) (sym says) is) stops
 
 pub returns-clause-ok : goal.returns-clause-ok
@@ -79,10 +79,10 @@ returns-clause-ok g c =
           let n = w.in_ok-write-in-V1-2.ensures.ok in
           let h = w.in_ok-write-in-V1-3.ensures.ok in
           let is = make_version_1 1 w.in-V1.codec.number (pair_of w.in-V1.hash) v.0 n.0 h.0 refl v.1 n.1 h.1 in
-          let join = g.met.W.Write.appends_joined in
-          let stands = join _ _ _ v.0 (n.0 ++ h.0) v.3 (join _ _ _ n.0 h.0 n.3 h.3) in (
+          let join = g.met.W.Write.appends_concatenated in
+          let appends = join _ _ _ v.0 (n.0 ++ h.0) v.3 (join _ _ _ n.0 h.0 n.3 h.3) in (
             v.0 ++ (n.0 ++ h.0),
             subst (λ x. IsContentId x (v.0 ++ (n.0 ++ h.0))) (sym says) is,
-            subst (λ x. g.W.Write.appended c.args.w.now (v.0 ++ (n.0 ++ h.0)) x) (sym w.w-is) stands,
+            subst (λ x. g.W.Write.appended c.args.w.now (v.0 ++ (n.0 ++ h.0)) x) (sym w.w-is) appends,
           )
     ]

@@ -3,8 +3,8 @@ use Rattle.std.proofs.lemmas.List.{drop-drop, drop_at, take_rest}
 use Rattle.uses.proofs.streams.HeldRead.read.Goals as goal
 
 -- after a front that begins at a position, the list goes on that much further
-behind_front : (items front left : List ℕ) (at : ℕ) → drop at items ≡ front ++ left → left ≡ drop (at + length front) items
-behind_front items front left at cut =
+after_front : (items front left : List ℕ) (at : ℕ) → drop at items ≡ front ++ left → left ≡ drop (at + length front) items
+after_front items front left at cut =
     sym (drop_at front left (length front) refl) ∙ (ap (drop (length front)) (sym cut) ∙ drop-drop (length front) at items)
 
 pub returns : goal.returns
@@ -15,15 +15,15 @@ returns c =
     let read = c.in_ok-n.ensures.laws in
     let front = take c.in_ok-n.n c.read.new.buf in
     let given : take (length all - at) (drop at all) ≡ drop at items = take_rest all at ∙ ap (drop at) c.deref.ensures.value in
-    let cut : drop at items ≡ front ++ c.read.new.self.now = cc (given, read.takes) in
+    let cut : drop at items ≡ front ++ c.read.new.self.now = cc (given, read.consumes) in
     let long : length front ≡ c.in_ok-n.n = search rules in
-    let left = behind_front items front c.read.new.self.now at cut ∙ ap (λ n. drop (at + n) items) long in
+    let left = after_front items front c.read.new.self.now at cut ∙ ap (λ n. drop (at + n) items) long in
     record {
       laws = record {
         count = read.count;
         beyond = read.beyond;
         faults = refl;
-        takes = ap Some (cut ∙ ap (λ l. front ++ l) left);
+        consumes = ap Some (cut ∙ ap (λ l. front ++ l) left);
         at_end = λ none some. sym given ∙ read.at_end none some;
         err = tt;
       };

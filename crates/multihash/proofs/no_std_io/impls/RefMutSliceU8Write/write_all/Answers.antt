@@ -1,9 +1,9 @@
 use Rattle.std.proofs.Common.{[], rules, refl, arith}
 use Rattle.std.proofs.lemmas.Grind.{common_steps}
-use Rattle.multihash.proofs.Writings.WritingLemmas.{AppendsPart-take}
+use Rattle.multihash.proofs.Writings.WritingLemmas.{AppendsPrefix-take}
 use Rattle.multihash.proofs.no_std_io.impls.RefMutSliceU8Write.write_all.Goals as goal
 
 pub returns-else-branch-buf-clause-laws : goal.returns-else-branch-buf-clause-laws
 returns-else-branch-buf-clause-laws c =
-    let part = AppendsPart-take _ _ _ c.args.buf.now [] _ c.in_ok-write.field-0 refl (search rules) c.in_ok-write.ensures.laws.ok in
+    let part = AppendsPrefix-take _ _ _ c.args.buf.now [] _ c.in_ok-write.field-0 refl (search rules) c.in_ok-write.ensures.laws.ok in
     record { ok = tt; empty = search rules; err = part; faults = grind (arith, common_steps) }

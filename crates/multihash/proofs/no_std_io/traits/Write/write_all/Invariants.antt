@@ -5,8 +5,8 @@ use Rattle.multihash.proofs.no_std_io.traits.Write.write_all.Given as goal
 abbrev pub invariant-loop-left : goal.invariant-loop-left
 invariant-loop-left g l = record {
   done : List ℕ;
-  joined : l.initial.left ≡ done ++ l.left;
-  stands : g.Self.Write.appended l.initial.self done l.self;
+  concatenated : l.initial.left ≡ done ++ l.left;
+  appends : g.Self.Write.appended l.initial.self done l.self;
   unfailed : g.Self.Write.failures l.self ≡ g.Self.Write.failures l.initial.self;
 }
 

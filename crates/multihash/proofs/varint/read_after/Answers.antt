@@ -1,7 +1,7 @@
 use Rattle.std.proofs.Common.{refl, ◌∙◌, arith}
 use Rattle.multihash.proofs.Varints.VarintReadLemmas.{one_read, reader_failed, input_ended, too_large, ends_in_zero, read_last, read_more, first_of_two}
 use Rattle.multihash.proofs.OutcomeLemmas.{passed_on}
-use Rattle.multihash.proofs.varint.read_behind.Goals as goal
+use Rattle.multihash.proofs.varint.read_after.Goals as goal
 
 pub loop-i-init : goal.loop-i-init
 loop-i-init g c = record { reads = rw c.from-value.ensures (one_read _ c.args.first (omega arith) c.requires); some = omega arith; unfailed = refl }
@@ -18,7 +18,7 @@ returns-in_default-clause-err g c =
 
 pub returns-then-byte-ge-LAST_BYTE_LIMIT-clause-err : goal.returns-then-byte-ge-LAST_BYTE_LIMIT-clause-err
 returns-then-byte-ge-LAST_BYTE_LIMIT-clause-err g c =
-    too_large _ _ _ _ c.loop-i.invariant.reads _ c.in-Some.byte (rw c.in-Some.is at c.in_ok-byte.ensures.byte) c.if-i-eq-MAX_MARKED.true
+    too_large _ _ _ _ c.loop-i.invariant.reads _ c.in-Some.byte (rw c.in-Some.is at c.in_ok-byte.ensures.byte) c.if-i-eq-MAX_CONTINUATION.true
     c.if-byte-ge-LAST_BYTE_LIMIT.true _ c.overflow.ensures
 
 pub returns-then-byte-eq0-clause-err : goal.returns-then-byte-eq0-clause-err
@@ -30,13 +30,13 @@ pub returns-then-byte-lt128-clause-ok : goal.returns-then-byte-lt128-clause-ok
 returns-then-byte-lt128-clause-ok g c =
     rw c.from.ensures
     (read_last _ _ _ _ c.loop-i.invariant.reads _ c.in-Some.byte (rw c.in-Some.is at c.in_ok-byte.ensures.byte)
-    (first_of_two _ _ c.else-i-eq-MAX_MARKED.either) c.if-byte-lt128.true (λ z. absurd (c.if-byte-eq0.false z)))
+    (first_of_two _ _ c.else-i-eq-MAX_CONTINUATION.either) c.if-byte-lt128.true (λ z. absurd (c.if-byte-eq0.false z)))
 
 pub loop-i-preserved : goal.loop-i-preserved
 loop-i-preserved g c = record {
   reads = rw c.from.ensures
       (read_more _ _ _ _ c.loop-i.invariant.reads _ c.in-Some.byte (rw c.in-Some.is at c.in_ok-byte.ensures.byte)
-      (first_of_two _ _ c.else-i-eq-MAX_MARKED.either) (omega arith) c.if-byte-lt128.false);
+      (first_of_two _ _ c.else-i-eq-MAX_CONTINUATION.either) (omega arith) c.if-byte-lt128.false);
   some = omega arith;
   unfailed = c.in_ok-byte.ensures.faults ∙ c.loop-i.invariant.unfailed;
 }

@@ -1,16 +1,16 @@
 -- An answer of decoding has one verdict, and a reading is as listed where its answer and the bytes
 -- taken are.
 use Rattle.std.proofs.Common.{◌≡◌, ◌≢◌, ◌↔◌, ℕ, ◌+◌, ◌<◌, ◌≤◌, List, [], ◌∷◌, ◌++◌, Option, None, Some, Ok, Err, IfOk, IfErr, MatchOption, Result, length, length-append, append-nil, append_assoc, arith, subst, ap, sym, ◌∙◌, refl, inl, inr}
-use Rattle.multihash.specs.Answer.{Fields, pair_of, IsRefusal, Answers}
-use Rattle.multihash.specs.Bytes.{IsProperBeginning}
-use Rattle.multihash.specs.Reading.{Takes}
+use Rattle.multihash.specs.Outcome.{Fields, pair_of, IsErrorOf, IsResultOf}
+use Rattle.multihash.specs.Bytes.{IsStrictPrefix}
+use Rattle.multihash.specs.Reading.{Consumes}
 use Rattle.multihash.specs.Refusal.{Refusal}
 use Rattle.multihash.specs.Varint.{varint_limit}
-use Rattle.multihash.specs.Verdict.{Verdict, accepted, invalid_size, invalid_code, faulty, unexpected_eof}
-use Rattle.multihash.specs.Scale.{IsScaleCode, IsScale, HasScaleSize, HasScaleVerdict, TakesAtScaleRefusal}
-use Rattle.multihash.proofs.Readings.SettlingLemmas.{split_beginning, compare_beginnings}
-use Rattle.vectors.proofs.AnswerLemmas.{answers_unique}
-use Rattle.vectors.specs.Listed.{DecodesAfter, IsScaleTaken}
+use Rattle.multihash.specs.Verdict.{Verdict, accepted, invalid_size, invalid_code, malformed, unexpected_eof}
+use Rattle.multihash.specs.Scale.{IsScaleCode, IsScale, HasScaleSize, HasScaleVerdict, ConsumesAtScaleError}
+use Rattle.multihash.proofs.Readings.SettlingLemmas.{split_prefix, compare_prefixes}
+use Rattle.vectors.proofs.OutcomeOfLemmas.{answers_unique}
+use Rattle.vectors.specs.Listed.{DecodesAfter, IsScaleConsumed}
 
 -- ---- beginnings
 
@@ -18,15 +18,15 @@ some_left : (rest : List ℕ) → rest ≢ [] → 0 < length rest
 some_left [] some = absurd (some refl)
 some_left (x ∷ rest) some = omega arith
 
-proper_shorter : (front whole : List ℕ) → IsProperBeginning front whole → length front < length whole
+proper_shorter : (front whole : List ℕ) → IsStrictPrefix front whole → length front < length whole
 proper_shorter front whole (rest, some, cut) =
     omega (arith, some_left rest some, ap length cut, length-append front rest)
 
 -- where the input ends after the code
 after_code : (S code size : ℕ) (a digest q : List ℕ) → IsScaleCode code a → code < varint_limit
     → (0 < length q → (size ≤ S) × (length digest ≡ size))
-    → IsProperBeginning q (size ∷ digest) → HasScaleVerdict S (a ++ q) unexpected_eof
-after_code S code size a digest [] is_code in_range sized proper =
+    → IsStrictPrefix q (size ∷ digest) → HasScaleVerdict S (a ++ q) unexpected_eof
+after_code S code size a digest [] is_code in_range sized strict =
     inr (inl (code, subst (IsScaleCode code) (sym (append-nil a)) is_code, in_range))
 after_code S code size a digest (d ∷ q) is_code in_range sized (rest, some, cut) =
     let heads : size ≡ d = cc in
@@ -43,9 +43,9 @@ after_code S code size a digest (d ∷ q) is_code in_range sized (rest, some, cu
 -- each proper beginning of a form ends early, and so does each of a code and a size
 form_shortest : (S code size : ℕ) (a digest shorter : List ℕ) → IsScaleCode code a → code < varint_limit
     → (0 < length digest → (size ≤ S) × (length digest ≡ size))
-    → IsProperBeginning shorter (a ++ size ∷ digest) → HasScaleVerdict S shorter unexpected_eof
-form_shortest S code size a digest shorter is_code in_range sized proper =
-    elim (split_beginning a (size ∷ digest) shorter proper) [
+    → IsStrictPrefix shorter (a ++ size ∷ digest) → HasScaleVerdict S shorter unexpected_eof
+form_shortest S code size a digest shorter is_code in_range sized strict =
+    elim (split_prefix a (size ∷ digest) shorter strict) [
       | inl within ↦ inl (omega (arith, is_code.eight, proper_shorter shorter a within))
       | inr (q, cut, more) ↦
           subst (λ (z : List ℕ). HasScaleVerdict S z unexpected_eof) (sym cut)
@@ -56,22 +56,22 @@ form_shortest S code size a digest shorter is_code in_range sized proper =
 -- more input leaves the verdict, where that is no early end
 with_more : (S : ℕ) (front rest : List ℕ) (v : Verdict) → v ≢ unexpected_eof → HasScaleVerdict S front v
     → HasScaleVerdict S (front ++ rest) v
-with_more S front rest (accepted p) late (bytes, behind, form, fits, cut) =
-    (bytes, behind ++ rest, form, fits, ap (λ (z : List ℕ). z ++ rest) cut ∙ append_assoc bytes behind rest)
-with_more S front rest (invalid_code code) late (bytes, behind, is_code, over, cut) =
-    (bytes, behind ++ rest, is_code, over, ap (λ (z : List ℕ). z ++ rest) cut ∙ append_assoc bytes behind rest)
-with_more S front rest (invalid_size size) late (behind, h, over) = (
-  behind ++ rest,
+with_more S front rest (accepted p) late (bytes, following, form, fits, cut) =
+    (bytes, following ++ rest, form, fits, ap (λ (z : List ℕ). z ++ rest) cut ∙ append_assoc bytes following rest)
+with_more S front rest (invalid_code code) late (bytes, following, is_code, over, cut) =
+    (bytes, following ++ rest, is_code, over, ap (λ (z : List ℕ). z ++ rest) cut ∙ append_assoc bytes following rest)
+with_more S front rest (invalid_size size) late (following, h, over) = (
+  following ++ rest,
   record {
     code = h.code;
     code_bytes = h.code_bytes;
     is_code = h.is_code;
     in_range = h.in_range;
-    cut = ap (λ (z : List ℕ). z ++ rest) h.cut ∙ append_assoc h.code_bytes (size ∷ behind) rest;
+    cut = ap (λ (z : List ℕ). z ++ rest) h.cut ∙ append_assoc h.code_bytes (size ∷ following) rest;
   },
   over,
 )
-with_more S front rest (faulty f) late h = absurd h
+with_more S front rest (malformed f) late h = absurd h
 with_more S front rest unexpected_eof late h = absurd (late refl)
 
 -- ---- what decoding takes
@@ -82,36 +82,36 @@ IsOneVerdict S = (input : List ℕ) (v w : Verdict) → HasScaleVerdict S input 
 
 count_unique : (S : ℕ) → IsOneVerdict S → (input : List ℕ) (m n : ℕ) → DecodesAfter S input m → DecodesAfter S input n → m ≡ n
 count_unique S unique input m n f g =
-    elim (compare_beginnings f.front g.front f.begins.0 g.begins.0 (sym f.begins.1 ∙ g.begins.1)) [
+    elim (compare_prefixes f.front g.front f.begins.0 g.begins.0 (sym f.begins.1 ∙ g.begins.1)) [
       | inl same ↦ sym f.long ∙ ap length same ∙ g.long
       | inr (inl sooner) ↦ absurd (f.late (unique f.front f.verdict unexpected_eof f.decodes (g.shortest f.front sooner)))
       | inr (inr sooner) ↦ absurd (g.late (unique g.front g.verdict unexpected_eof g.decodes (f.shortest g.front sooner)))
     ]
 
 -- what decodes after some bytes doesn't end early
-no_early_end : (S : ℕ) → IsOneVerdict S → (input : List ℕ) (n : ℕ) → DecodesAfter S input n → ¬ (HasScaleVerdict S input unexpected_eof)
-no_early_end S unique input n f early =
+no_incomplete : (S : ℕ) → IsOneVerdict S → (input : List ℕ) (n : ℕ) → DecodesAfter S input n → ¬ (HasScaleVerdict S input unexpected_eof)
+no_incomplete S unique input n f early =
     let whole : HasScaleVerdict S input f.verdict =
     subst (λ (z : List ℕ). HasScaleVerdict S z f.verdict) (sym f.begins.1) (with_more S f.front f.begins.0 f.verdict f.late f.decodes) in
     f.late (unique input f.verdict unexpected_eof whole early)
 
 -- a call took the shortest beginning that doesn't end early
-record TakesDecoded (S : ℕ) (input left : List ℕ) : Type 0 where
+record ConsumesDecoded (S : ℕ) (input left : List ℕ) : Type 0 where
   pub count : ℕ
   pub decodes : DecodesAfter S input count
-  pub taken : length input ≡ count + length left
+  pub consumed : length input ≡ count + length left
 
 -- what a call of decoding has to say
 pub record Decoding (S : ℕ) (input left : List ℕ) (r : Result (Fields S) Refusal) : Type 0 where
   pub unique : IsOneVerdict S
-  pub verdict : (v : Verdict) × HasScaleVerdict S input v × Answers r v
-  pub ok : IfOk r (λ m. (bytes : List ℕ) × IsScale (pair_of m) bytes × Takes (Some input) bytes (Some left))
-  pub err : IfErr r (λ e. TakesAtScaleRefusal S e (Some input) (Some left))
+  pub verdict : (v : Verdict) × HasScaleVerdict S input v × IsResultOf r v
+  pub ok : IfOk r (λ m. (bytes : List ℕ) × IsScale (pair_of m) bytes × Consumes (Some input) bytes (Some left))
+  pub err : IfErr r (λ e. ConsumesAtScaleError S e (Some input) (Some left))
 
-takes_form : (S : ℕ) (input left : List ℕ) (m : Fields S) (bytes : List ℕ) → IsScale (pair_of m) bytes → Takes (Some input) bytes (Some left)
-    → length (pair_of m).digest ≤ S → TakesDecoded S input left
-takes_form S input left m bytes form takes fits =
-    let cut : input ≡ bytes ++ left = cc (takes) in record {
+takes_form : (S : ℕ) (input left : List ℕ) (m : Fields S) (bytes : List ℕ) → IsScale (pair_of m) bytes → Consumes (Some input) bytes (Some left)
+    → length (pair_of m).digest ≤ S → ConsumesDecoded S input left
+takes_form S input left m bytes form consumes fits =
+    let cut : input ≡ bytes ++ left = cc (consumes) in record {
       count = length bytes;
       decodes = record {
         front = bytes;
@@ -119,82 +119,82 @@ takes_form S input left m bytes form takes fits =
         verdict = accepted (pair_of m);
         decodes = (bytes, [], form, fits, sym (append-nil bytes));
         late = λ e. cc;
-        shortest = λ shorter proper.
+        shortest = λ shorter strict.
             form_shortest S (pair_of m).code (length (pair_of m).digest) form.code (pair_of m).digest shorter form.is_code
-            form.in_range (λ some. (fits, refl)) (subst (λ (z : List ℕ). IsProperBeginning shorter z) form.spelled proper);
+            form.in_range (λ some. (fits, refl)) (subst (λ (z : List ℕ). IsStrictPrefix shorter z) form.spelled strict);
         long = refl;
       };
-      taken = ap length cut ∙ length-append bytes left;
+      consumed = ap length cut ∙ length-append bytes left;
     }
 
-takes_code : (S : ℕ) (input left : List ℕ) (e : Refusal) (code : ℕ) → IsRefusal e (invalid_code code)
-    → TakesAtScaleRefusal S e (Some input) (Some left) → TakesDecoded S input left
+takes_code : (S : ℕ) (input left : List ℕ) (e : Refusal) (code : ℕ) → IsErrorOf e (invalid_code code)
+    → ConsumesAtScaleError S e (Some input) (Some left) → ConsumesDecoded S input left
 takes_code S input left e code is h =
     let found = h.code code is in
-    let cut : input ≡ h.taken ++ left = cc (h.takes) in record {
+    let cut : input ≡ h.consumed ++ left = cc (h.consumes) in record {
       count = 8;
       decodes = record {
-        front = h.taken;
+        front = h.consumed;
         begins = (left, cut);
         verdict = invalid_code code;
         decodes = found.0;
         late = λ e. cc;
-        shortest = λ shorter proper. inl (omega (arith, proper_shorter shorter h.taken proper, found.1));
+        shortest = λ shorter strict. inl (omega (arith, proper_shorter shorter h.consumed strict, found.1));
         long = found.1;
       };
-      taken = omega (arith, ap length cut, length-append h.taken left, found.1);
+      consumed = omega (arith, ap length cut, length-append h.consumed left, found.1);
     }
 
 -- each proper beginning of nine bytes that show a size ends early
-pub size_shortest : (S size : ℕ) (taken rest shorter : List ℕ) → HasScaleSize size taken rest → length taken ≡ 9
-    → IsProperBeginning shorter taken → HasScaleVerdict S shorter unexpected_eof
-size_shortest S size taken rest shorter h nine proper =
+pub size_shortest : (S size : ℕ) (consumed rest shorter : List ℕ) → HasScaleSize size consumed rest → length consumed ≡ 9
+    → IsStrictPrefix shorter consumed → HasScaleVerdict S shorter unexpected_eof
+size_shortest S size consumed rest shorter h nine strict =
     let none : length rest ≡ 0 = omega (arith, nine, ap length h.cut, length-append h.code_bytes (size ∷ rest), h.is_code.eight) in
     form_shortest S h.code size h.code_bytes rest shorter h.is_code h.in_range (λ some. absurd (omega (arith, none, some)))
-    (subst (λ (z : List ℕ). IsProperBeginning shorter z) h.cut proper)
+    (subst (λ (z : List ℕ). IsStrictPrefix shorter z) h.cut strict)
 
-takes_size : (S : ℕ) (input left : List ℕ) (e : Refusal) (size : ℕ) → IsRefusal e (invalid_size size)
-    → TakesAtScaleRefusal S e (Some input) (Some left) → TakesDecoded S input left
+takes_size : (S : ℕ) (input left : List ℕ) (e : Refusal) (size : ℕ) → IsErrorOf e (invalid_size size)
+    → ConsumesAtScaleError S e (Some input) (Some left) → ConsumesDecoded S input left
 takes_size S input left e size is h =
     let found = h.size size is in
-    let cut : input ≡ h.taken ++ left = cc (h.takes) in record {
+    let cut : input ≡ h.consumed ++ left = cc (h.consumes) in record {
       count = 9;
       decodes = record {
-        front = h.taken;
+        front = h.consumed;
         begins = (left, cut);
         verdict = invalid_size size;
         decodes = found.0;
         late = λ e. cc;
-        shortest = λ shorter proper. size_shortest S size h.taken found.0.0 shorter found.0.1 found.1 proper;
+        shortest = λ shorter strict. size_shortest S size h.consumed found.0.0 shorter found.0.1 found.1 strict;
         long = found.1;
       };
-      taken = omega (arith, ap length cut, length-append h.taken left, found.1);
+      consumed = omega (arith, ap length cut, length-append h.consumed left, found.1);
     }
 
 takes_decoded : (S : ℕ) (input left : List ℕ) (r : Result (Fields S) Refusal) → Decoding S input left r → (v : Verdict)
-    → HasScaleVerdict S input v → Answers r v → v ≢ unexpected_eof → TakesDecoded S input left
+    → HasScaleVerdict S input v → IsResultOf r v → v ≢ unexpected_eof → ConsumesDecoded S input left
 takes_decoded S input left (Ok m) d v has answers late =
     let own : HasScaleVerdict S input (accepted (pair_of m)) = subst (λ (w : Verdict). HasScaleVerdict S input w) answers has in
     takes_form S input left m d.ok.0 d.ok.1 d.ok.2 own.3
 takes_decoded S input left (Err e) d (accepted p) has answers late = absurd answers
 takes_decoded S input left (Err e) d (invalid_size size) has answers late = takes_size S input left e size answers d.err
 takes_decoded S input left (Err e) d (invalid_code code) has answers late = takes_code S input left e code answers d.err
-takes_decoded S input left (Err e) d (faulty f) has answers late = absurd has
+takes_decoded S input left (Err e) d (malformed f) has answers late = absurd has
 takes_decoded S input left (Err e) d unexpected_eof has answers late = absurd (late refl)
 
 -- ---- what is listed
 
 -- a listed verdict is the input's where it is the answer's
 answered : (S : ℕ) (input left : List ℕ) (r : Result (Fields S) Refusal) → Decoding S input left r → (w : Verdict)
-    → Answers r w → HasScaleVerdict S input w
+    → IsResultOf r w → HasScaleVerdict S input w
 answered S input left r d w answers =
     subst (λ (v : Verdict). HasScaleVerdict S input v) (answers_unique r d.verdict.0 w d.verdict.2 answers) d.verdict.1
 
 -- where the answer is the listed one, the bytes taken tell whether the reading is
 pub reading : (S : ℕ) (input left : List ℕ) (r : Result (Fields S) Refusal) → Decoding S input left r
-    → (w : Verdict) (taken : Option ℕ) → Answers r w
-    → MatchOption taken (w ≡ unexpected_eof) (λ n. (w ≢ unexpected_eof) × (length input ≡ n + length left))
-    ↔ HasScaleVerdict S input w × IsScaleTaken S input w taken
+    → (w : Verdict) (consumed : Option ℕ) → IsResultOf r w
+    → MatchOption consumed (w ≡ unexpected_eof) (λ n. (w ≢ unexpected_eof) × (length input ≡ n + length left))
+    ↔ HasScaleVerdict S input w × IsScaleConsumed S input w consumed
 reading S input left r d w None answers = (λ same. (answered S input left r d w answers, same), λ right. right.1)
 reading S input left r d w (Some n) answers = (there, back)
   where
@@ -204,20 +204,20 @@ reading S input left r d w (Some n) answers = (there, back)
     there : (w ≢ unexpected_eof) × (length input ≡ n + length left) → HasScaleVerdict S input w × DecodesAfter S input n
     there (late, count) =
         let t = takes_decoded S input left r d w has answers late in
-        let same : t.count ≡ n = omega (arith, t.taken, count) in
+        let same : t.count ≡ n = omega (arith, t.consumed, count) in
         (has, subst (λ k. DecodesAfter S input k) same t.decodes)
 
     back : HasScaleVerdict S input w × DecodesAfter S input n → (w ≢ unexpected_eof) × (length input ≡ n + length left)
     back (_, f) =
-        let late : w ≢ unexpected_eof = λ e. no_early_end S d.unique input n f (subst (λ (v : Verdict). HasScaleVerdict S input v) e has) in
+        let late : w ≢ unexpected_eof = λ e. no_incomplete S d.unique input n f (subst (λ (v : Verdict). HasScaleVerdict S input v) e has) in
         let t = takes_decoded S input left r d w has answers late in
         let same : t.count ≡ n = count_unique S d.unique input t.count n t.decodes f in
-        (late, omega (arith, t.taken, same))
+        (late, omega (arith, t.consumed, same))
 
 -- where the answer is another, the reading isn't as listed
 pub no_reading : (S : ℕ) (input left : List ℕ) (r : Result (Fields S) Refusal) → Decoding S input left r
-    → (w : Verdict) (taken : Option ℕ) → ¬ (Answers r w)
-    → ¬ (HasScaleVerdict S input w × IsScaleTaken S input w taken)
-no_reading S input left r d w taken other right =
+    → (w : Verdict) (consumed : Option ℕ) → ¬ (IsResultOf r w)
+    → ¬ (HasScaleVerdict S input w × IsScaleConsumed S input w consumed)
+no_reading S input left r d w consumed other right =
     let same : d.verdict.0 ≡ w = d.unique input d.verdict.0 w d.verdict.1 right.0 in
-    other (subst (λ (v : Verdict). Answers r v) same d.verdict.2)
+    other (subst (λ (v : Verdict). IsResultOf r v) same d.verdict.2)

@@ -5,16 +5,16 @@ use Rattle.std.proofs.lemmas.List.Elements.{All-take, All-head}
 use Rattle.multihash.proofs.Varints.DigitLemmas.{All-append_right}
 use Rattle.std.proofs.lemmas.Bool.{lt-ltb}
 use Rattle.std.proofs.lemmas.List.Sums.{sum_by-append}
-use Rattle.multihash.specs.Answer.{Fields, IsRefusal, Answers}
-use Rattle.multihash.specs.Bytes.{IsBeginning, IsBytes, ExactlyOne}
+use Rattle.multihash.specs.Outcome.{Fields, IsErrorOf, IsResultOf}
+use Rattle.multihash.specs.Bytes.{IsPrefix, IsBytes, ExactlyOne}
 use Rattle.multihash.specs.Refusal.{Refusal}
 use Rattle.multihash.specs.Settling.{Settles, IsShortestSettling}
-use Rattle.multihash.specs.Taking.{TakesAtRefusal, TakesShortestSettling}
-use Rattle.multihash.specs.Varint.{insufficient, overflow, not_minimal, marked, IsVarint}
-use Rattle.multihash.specs.Verdict.{Verdict, accepted, invalid_size, invalid_code, faulty, unexpected_eof, BeginsWithSize, HasVerdict, IsEarlyEnd, HasWholeVerdict}
-use Rattle.multihash.proofs.Readings.SettlingLemmas.{compare_beginnings}
+use Rattle.multihash.specs.Consuming.{ConsumesAtError, ConsumesShortestSettling}
+use Rattle.multihash.specs.Varint.{insufficient, overflow, not_minimal, continuation_bytes, IsVarint}
+use Rattle.multihash.specs.Verdict.{Verdict, accepted, invalid_size, invalid_code, malformed, unexpected_eof, BeginsWithSize, HasVerdict, IsIncomplete, HasWholeVerdict}
+use Rattle.multihash.proofs.Readings.SettlingLemmas.{compare_prefixes}
 use Rattle.vectors.specs.declared.line.Reading.{Reading}
-use Rattle.vectors.specs.Listed.{meaning, ends_varint, IsTaken, SettlesAfter, IsReading, TakesEnough, TakesAsReadListed}
+use Rattle.vectors.specs.Listed.{meaning, ends_varint, IsConsumed, SettlesAfter, IsReading, ConsumesEnough, ConsumesAsReadListed}
 use Rattle.std.proofs.Props.{props}
 use Rattle.std.proofs.Math.Logic.{∥∥₁_elim}
 use Rattle.std.specs.Coded.{Coded, Coded-set, coded_ℕ}
@@ -30,31 +30,31 @@ All-last P xs i d below all =
     All-head P (get_or xs i d) [] (All-append_right P (take i xs) (get_or xs i d ∷ []) (subst (All P) (take_more xs i d below) all))
 
 -- a refusal has one verdict
-refusal_unique : (e : Refusal) (v w : Verdict) → IsRefusal e v → IsRefusal e w → v ≡ w
+refusal_unique : (e : Refusal) (v w : Verdict) → IsErrorOf e v → IsErrorOf e w → v ≡ w
 refusal_unique e (accepted p) w left right = absurd left
 refusal_unique e (invalid_size a) (accepted q) left right = absurd right
 refusal_unique e (invalid_size a) (invalid_size b) left right = cc
 refusal_unique e (invalid_size a) (invalid_code b) left right = cc
-refusal_unique e (invalid_size a) (faulty g) left right = cc
+refusal_unique e (invalid_size a) (malformed g) left right = cc
 refusal_unique e (invalid_size a) unexpected_eof left right = let is = right.1 in cc
 refusal_unique e (invalid_code a) (accepted q) left right = absurd right
 refusal_unique e (invalid_code a) (invalid_size b) left right = cc
 refusal_unique e (invalid_code a) (invalid_code b) left right = cc
-refusal_unique e (invalid_code a) (faulty g) left right = cc
+refusal_unique e (invalid_code a) (malformed g) left right = cc
 refusal_unique e (invalid_code a) unexpected_eof left right = let is = right.1 in cc
-refusal_unique e (faulty f) (accepted q) left right = absurd right
-refusal_unique e (faulty f) (invalid_size b) left right = cc
-refusal_unique e (faulty f) (invalid_code b) left right = cc
-refusal_unique e (faulty f) (faulty g) left right = cc
-refusal_unique e (faulty f) unexpected_eof left right = let is = right.1 in cc
+refusal_unique e (malformed f) (accepted q) left right = absurd right
+refusal_unique e (malformed f) (invalid_size b) left right = cc
+refusal_unique e (malformed f) (invalid_code b) left right = cc
+refusal_unique e (malformed f) (malformed g) left right = cc
+refusal_unique e (malformed f) unexpected_eof left right = let is = right.1 in cc
 refusal_unique e unexpected_eof (accepted q) left right = absurd right
 refusal_unique e unexpected_eof (invalid_size b) left right = let is = left.1 in cc
 refusal_unique e unexpected_eof (invalid_code b) left right = let is = left.1 in cc
-refusal_unique e unexpected_eof (faulty g) left right = let is = left.1 in cc
+refusal_unique e unexpected_eof (malformed g) left right = let is = left.1 in cc
 refusal_unique e unexpected_eof unexpected_eof left right = refl
 
 -- an answer has one verdict
-pub answers_unique : {S : ℕ} (r : Result (Fields S) Refusal) (v w : Verdict) → Answers r v → Answers r w → v ≡ w
+pub answers_unique : {S : ℕ} (r : Result (Fields S) Refusal) (v w : Verdict) → IsResultOf r v → IsResultOf r w → v ≡ w
 answers_unique (Ok m) v w left right = cc
 answers_unique (Err e) v w left right = refusal_unique e v w left right
 
@@ -69,7 +69,7 @@ varint_ends n bytes v =
     let last : v.last < 128 = All-head (λ d. d < 128) v.last [] (All-append_right (λ d. d < 128) v.front (v.last ∷ []) v.digits) in
     let one : count_by ends_varint (v.last ∷ []) ≡ 1 = rw (lt-ltb v.last 128 last) refl in
     let whole = ap (λ (xs : List ℕ). count_by ends_varint xs) v.spelled in
-    omega (arith, one, whole, count_append (marked v.front) (v.last ∷ []))
+    omega (arith, one, whole, count_append (continuation_bytes v.front) (v.last ∷ []))
 
 two_varints : (size : ℕ) (bytes rest : List ℕ) → BeginsWithSize size bytes rest → 2 ≤ count_by ends_varint bytes
 two_varints size bytes rest h =
@@ -91,89 +91,89 @@ front_taken input front left cut =
 -- what a call of `read` has to say
 pub record ReadCall (S : ℕ) (input left : List ℕ) (r : Result (Fields S) Refusal) : Type 0 where
   pub unique : (v w : Verdict) → HasVerdict S input v → HasVerdict S input w → v ≡ w
-  pub unsettled : (v : Verdict) → HasVerdict S input v → IsEarlyEnd v → (front : List ℕ) → IsBeginning front input → ¬ (Settles S front)
-  pub verdict : (v : Verdict) × HasVerdict S input v × Answers r v
-  pub settled : (v : Verdict) → HasVerdict S input v → ¬ (IsEarlyEnd v) → TakesShortestSettling S input (Some left)
-  pub err : IfErr r (λ e. TakesAtRefusal S e (Some input) (Some left))
+  pub unsettled : (v : Verdict) → HasVerdict S input v → IsIncomplete v → (front : List ℕ) → IsPrefix front input → ¬ (Settles S front)
+  pub verdict : (v : Verdict) × HasVerdict S input v × IsResultOf r v
+  pub settled : (v : Verdict) → HasVerdict S input v → ¬ (IsIncomplete v) → ConsumesShortestSettling S input (Some left)
+  pub err : IfErr r (λ e. ConsumesAtError S e (Some input) (Some left))
 
-refused_enough : (S : ℕ) (input left : List ℕ) (e : Refusal) → TakesAtRefusal S e (Some input) (Some left) → (v : Verdict)
-    → IsRefusal e v → IsEarlyEnd v → TakesEnough v input left
-refused_enough S input left e h (accepted p) is early = early
-refused_enough S input left e h (invalid_size size) is early = early
-refused_enough S input left e h (invalid_code code) is early = early
-refused_enough S input left e h (faulty insufficient) is early = (h.insufficient is).1
-refused_enough S input left e h (faulty overflow) is early = early
-refused_enough S input left e h (faulty not_minimal) is early = early
-refused_enough S input left e h unexpected_eof is early =
+rejected_enough : (S : ℕ) (input left : List ℕ) (e : Refusal) → ConsumesAtError S e (Some input) (Some left) → (v : Verdict)
+    → IsErrorOf e v → IsIncomplete v → ConsumesEnough v input left
+rejected_enough S input left e h (accepted p) is early = early
+rejected_enough S input left e h (invalid_size size) is early = early
+rejected_enough S input left e h (invalid_code code) is early = early
+rejected_enough S input left e h (malformed insufficient) is early = (h.insufficient is).1
+rejected_enough S input left e h (malformed overflow) is early = early
+rejected_enough S input left e h (malformed not_minimal) is early = early
+rejected_enough S input left e h unexpected_eof is early =
     let found = h.eof is in
-    let cut : input ≡ h.taken ++ left = cc (h.takes) in
-    rw (front_taken input h.taken left cut) (two_varints found.0 h.taken found.1 found.2)
+    let cut : input ≡ h.consumed ++ left = cc (h.consumes) in
+    rw (front_taken input h.consumed left cut) (two_varints found.0 h.consumed found.1 found.2)
 
 -- an early end took as many bytes as it takes at least
 enough : (S : ℕ) (input left : List ℕ) (r : Result (Fields S) Refusal) → ReadCall S input left r → (v : Verdict)
-    → Answers r v → IsEarlyEnd v → TakesEnough v input left
+    → IsResultOf r v → IsIncomplete v → ConsumesEnough v input left
 enough S input left (Ok m) d v answers early =
-    absurd (subst IsEarlyEnd answers early)
-enough S input left (Err e) d v answers early = refused_enough S input left e d.err v answers early
+    absurd (subst IsIncomplete answers early)
+enough S input left (Err e) d v answers early = rejected_enough S input left e d.err v answers early
 
-enough_early : (v : Verdict) (input left : List ℕ) → TakesEnough v input left → IsEarlyEnd v
+enough_early : (v : Verdict) (input left : List ℕ) → ConsumesEnough v input left → IsIncomplete v
 enough_early (accepted p) input left h = h
 enough_early (invalid_size size) input left h = h
 enough_early (invalid_code code) input left h = h
-enough_early (faulty insufficient) input left h = tt
-enough_early (faulty overflow) input left h = h
-enough_early (faulty not_minimal) input left h = h
+enough_early (malformed insufficient) input left h = tt
+enough_early (malformed overflow) input left h = h
+enough_early (malformed not_minimal) input left h = h
 enough_early unexpected_eof input left h = tt
 
 shortest_same : (S : ℕ) (input a b : List ℕ) → IsShortestSettling S input a → IsShortestSettling S input b → a ≡ b
 shortest_same S input a b f g =
-    elim (compare_beginnings a b f.begins.0 g.begins.0 (sym f.begins.1 ∙ g.begins.1)) [
+    elim (compare_prefixes a b f.begins.0 g.begins.0 (sym f.begins.1 ∙ g.begins.1)) [
       | inl same ↦ same
       | inr (inl sooner) ↦ absurd (g.shortest a sooner f.settles)
       | inr (inr sooner) ↦ absurd (f.shortest b sooner g.settles)
     ]
 
-taken_long : (S : ℕ) (input left : List ℕ) (t : TakesShortestSettling S input (Some left)) → length input ≡ length t.front + length left
+taken_long : (S : ℕ) (input left : List ℕ) (t : ConsumesShortestSettling S input (Some left)) → length input ≡ length t.front + length left
 taken_long S input left t =
-    let cut : input ≡ t.front ++ left = cc (t.takes) in ap length cut ∙ length-append t.front left
+    let cut : input ≡ t.front ++ left = cc (t.consumes) in ap length cut ∙ length-append t.front left
 
 -- ---- what is listed
 
 -- where the answer is the listed one, the bytes taken tell whether the reading is
 read_as_listed : (S : ℕ) (input left : List ℕ) (r : Result (Fields S) Refusal) → ReadCall S input left r → (w : Verdict)
-    → Answers r w → HasVerdict S input w → (taken : Option ℕ)
-    → MatchOption taken (TakesEnough w input left) (λ n. ¬ (IsEarlyEnd w) × (length input ≡ n + length left)) ↔ IsTaken S input w taken
+    → IsResultOf r w → HasVerdict S input w → (consumed : Option ℕ)
+    → MatchOption consumed (ConsumesEnough w input left) (λ n. ¬ (IsIncomplete w) × (length input ≡ n + length left)) ↔ IsConsumed S input w consumed
 read_as_listed S input left r d w answers has None =
     (enough_early w input left, enough S input left r d w answers)
 read_as_listed S input left r d w answers has (Some n) = (there, back)
   where
-    there : ¬ (IsEarlyEnd w) × (length input ≡ n + length left) → SettlesAfter S input n
+    there : ¬ (IsIncomplete w) × (length input ≡ n + length left) → SettlesAfter S input n
     there (late, count) =
         let t = d.settled w has late in
         record { front = t.front; shortest = t.shortest; long = omega (arith, taken_long S input left t, count) }
 
-    back : SettlesAfter S input n → ¬ (IsEarlyEnd w) × (length input ≡ n + length left)
+    back : SettlesAfter S input n → ¬ (IsIncomplete w) × (length input ≡ n + length left)
     back f =
-        let late : ¬ (IsEarlyEnd w) = λ early. d.unsettled w has early f.front f.shortest.begins f.shortest.settles in
+        let late : ¬ (IsIncomplete w) = λ early. d.unsettled w has early f.front f.shortest.begins f.shortest.settles in
         let t = d.settled w has late in
         let same = ap length (shortest_same S input t.front f.front t.shortest f.shortest) in
         (late, omega (arith, taken_long S input left t, same, f.long))
 
 pub reading : (S : ℕ) (input left : List ℕ) (r : Result (Fields S) Refusal) → ReadCall S input left r → (listed : Reading)
-    → Answers r (meaning listed.verdict) → TakesAsReadListed input left listed ↔ IsReading S input listed
+    → IsResultOf r (meaning listed.verdict) → ConsumesAsReadListed input left listed ↔ IsReading S input listed
 reading S input left r d listed answers =
     let w = meaning listed.verdict in
     let has : HasVerdict S input w =
     subst (λ (v : Verdict). HasVerdict S input v) (answers_unique r d.verdict.0 w d.verdict.2 answers) d.verdict.1 in
-    let both = read_as_listed S input left r d w answers has listed.taken in
-    (λ t. record { verdict = has; taken = both.0 t }, λ right. both.1 right.taken)
+    let both = read_as_listed S input left r d w answers has listed.consumed in
+    (λ t. record { verdict = has; consumed = both.0 t }, λ right. both.1 right.consumed)
 
 -- where the answer is another, the reading isn't as listed
 pub no_reading : (S : ℕ) (input left : List ℕ) (r : Result (Fields S) Refusal) → ReadCall S input left r → (listed : Reading)
-    → ¬ (Answers r (meaning listed.verdict)) → ¬ (IsReading S input listed)
+    → ¬ (IsResultOf r (meaning listed.verdict)) → ¬ (IsReading S input listed)
 no_reading S input left r d listed other right =
     let same = d.unique d.verdict.0 (meaning listed.verdict) d.verdict.1 right.verdict in
-    other (subst (λ (v : Verdict). Answers r v) same d.verdict.2)
+    other (subst (λ (v : Verdict). IsResultOf r v) same d.verdict.2)
 
 abbrev Parts : Type 0
 Parts = (ℕ × List ℕ) ⊎ (ℕ ⊎ (ℕ ⊎ (Bool × Bool)))
@@ -182,27 +182,27 @@ abbrev parts_of : Verdict → Parts
 parts_of (accepted p) = inl (p.code, p.digest)
 parts_of (invalid_size size) = inr (inl size)
 parts_of (invalid_code code) = inr (inr (inl code))
-parts_of (faulty insufficient) = inr (inr (inr (true, true)))
-parts_of (faulty overflow) = inr (inr (inr (true, false)))
-parts_of (faulty not_minimal) = inr (inr (inr (false, true)))
+parts_of (malformed insufficient) = inr (inr (inr (true, true)))
+parts_of (malformed overflow) = inr (inr (inr (true, false)))
+parts_of (malformed not_minimal) = inr (inr (inr (false, true)))
 parts_of unexpected_eof = inr (inr (inr (false, false)))
 
 abbrev verdict_of : Parts → Verdict
 verdict_of (inl (code, digest)) = accepted (record { code = code; digest = digest })
 verdict_of (inr (inl size)) = invalid_size size
 verdict_of (inr (inr (inl code))) = invalid_code code
-verdict_of (inr (inr (inr (true, true)))) = faulty insufficient
-verdict_of (inr (inr (inr (true, false)))) = faulty overflow
-verdict_of (inr (inr (inr (false, true)))) = faulty not_minimal
+verdict_of (inr (inr (inr (true, true)))) = malformed insufficient
+verdict_of (inr (inr (inr (true, false)))) = malformed overflow
+verdict_of (inr (inr (inr (false, true)))) = malformed not_minimal
 verdict_of (inr (inr (inr (false, false)))) = unexpected_eof
 
 back : (v : Verdict) → verdict_of (parts_of v) ≡ v
 back (accepted p) = refl
 back (invalid_size size) = refl
 back (invalid_code code) = refl
-back (faulty insufficient) = refl
-back (faulty overflow) = refl
-back (faulty not_minimal) = refl
+back (malformed insufficient) = refl
+back (malformed overflow) = refl
+back (malformed not_minimal) = refl
 back unexpected_eof = refl
 
 -- verdicts can be told apart
@@ -213,8 +213,8 @@ coded_verdict =
 
 -- the test of an answer to an array of the bytes tells the verdict on the bytes
 pub value_right : (S : ℕ) (input : List ℕ) (listed : Verdict) (r : Result (Fields S) Refusal) (d : Data) → ∥ IsByteArray d input ∥₁
-    → ((bytes : List ℕ) → IsByteArray d bytes → (v : Verdict) × HasWholeVerdict S bytes v × Answers r v)
-    → (IsBytes input → ExactlyOne (HasWholeVerdict S input)) → (b : Bool) → (IsTrue b ↔ Answers r listed)
+    → ((bytes : List ℕ) → IsByteArray d bytes → (v : Verdict) × HasWholeVerdict S bytes v × IsResultOf r v)
+    → (IsBytes input → ExactlyOne (HasWholeVerdict S input)) → (b : Bool) → (IsTrue b ↔ IsResultOf r listed)
     → IsTrue b ↔ HasWholeVerdict S input listed
 value_right S input listed r d lists answered exactly_one b test = (there, back_again)
   where
@@ -233,4 +233,4 @@ value_right S input listed r d lists answered exactly_one b test = (there, back_
         ∥∥₁_elim lists (Coded-set coded_bool b true) (λ h.
         let found = answered input h in
         let same : found.0 ≡ listed = one.only found.0 found.1 ∙ sym (one.only listed right) in
-        test.1 (subst (λ (v : Verdict). Answers r v) same found.2))
+        test.1 (subst (λ (v : Verdict). IsResultOf r v) same found.2))

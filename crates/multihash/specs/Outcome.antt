@@ -2,8 +2,8 @@
 use Rattle.std.specs.Prelude.{◌≡◌, ◌<◌, ◌≤◌, ℕ, List, take, Result, MatchResult}
 use Rattle.multihash.specs.Varint.{varint_limit}
 use Rattle.multihash.specs.Pair.{Pair, digest_limit}
-use Rattle.multihash.specs.Verdict.{Verdict, accepted, invalid_size, invalid_code, faulty, unexpected_eof}
-use Rattle.multihash.specs.Refusal.{Refusal, IsEof, IsInvalidSize, IsInvalidCode, IsFaulty}
+use Rattle.multihash.specs.Verdict.{Verdict, accepted, invalid_size, invalid_code, malformed, unexpected_eof}
+use Rattle.multihash.specs.Refusal.{Refusal, IsEof, IsInvalidSize, IsInvalidCode, IsVarintError}
 
 -- the fields of a multihash: the code, the digest's size, and the buffer of S bytes, which begins with
 -- the digest. That the code is in range and the digest fits is part of the value itself, so that it is
@@ -20,13 +20,13 @@ abbrev pub pair_of : {S : ℕ} → Fields S → Pair
 pair_of m = record { code = m.code; digest = take m.size m.buffer }
 
 -- the error of a verdict
-abbrev pub IsRefusal : Refusal → Verdict → Type 0
-IsRefusal e (accepted p) = ⊥
-IsRefusal e (invalid_size size) = IsInvalidSize size e
-IsRefusal e (invalid_code code) = IsInvalidCode code e
-IsRefusal e (faulty fault) = IsFaulty fault e
-IsRefusal e unexpected_eof = IsEof e
+abbrev pub IsErrorOf : Refusal → Verdict → Type 0
+IsErrorOf e (accepted p) = ⊥
+IsErrorOf e (invalid_size size) = IsInvalidSize size e
+IsErrorOf e (invalid_code code) = IsInvalidCode code e
+IsErrorOf e (malformed fault) = IsVarintError fault e
+IsErrorOf e unexpected_eof = IsEof e
 
 -- the result is the verdict's: its pair, or its error
-abbrev pub Answers : {S : ℕ} → Result (Fields S) Refusal → Verdict → Type 0
-Answers outcome v = MatchResult outcome (λ m. v ≡ accepted (pair_of m)) (λ e. IsRefusal e v)
+abbrev pub IsResultOf : {S : ℕ} → Result (Fields S) Refusal → Verdict → Type 0
+IsResultOf outcome v = MatchResult outcome (λ m. v ≡ accepted (pair_of m)) (λ e. IsErrorOf e v)

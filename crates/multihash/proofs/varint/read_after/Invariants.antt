@@ -1,12 +1,12 @@
 -- Only continuation bytes were consumed, their digits are in the sum, and no read failed.
 use Rattle.std.proofs.Common.{◌≡◌, ◌<◌, [], ◌∷◌}
 use Rattle.std.specs.Io.KnownBytes.{prepend_known}
-use Rattle.multihash.proofs.Varints.VarintReadLemmas.{ReadsMarked}
-use Rattle.multihash.proofs.varint.read_behind.Given as goal
+use Rattle.multihash.proofs.Varints.VarintReadLemmas.{ReadsContinuation}
+use Rattle.multihash.proofs.varint.read_after.Given as goal
 
 abbrev pub invariant-loop-i : goal.invariant-loop-i
 invariant-loop-i g l = record {
-  reads : ReadsMarked (prepend_known (l.first ∷ []) (g.R.Read.rest l.initial.r)) (g.R.Read.rest l.r) l.value l.i;
+  reads : ReadsContinuation (prepend_known (l.first ∷ []) (g.R.Read.rest l.initial.r)) (g.R.Read.rest l.r) l.value l.i;
   some : 0 < l.i;
   unfailed : g.R.Read.failures l.r ≡ g.R.Read.failures l.initial.r;
 }

@@ -1,0 +1,317 @@
+-- What failed calls consumed from known readers.
+use Rattle.std.proofs.Common.{◌≡◌, ◌<◌, ℕ, List, [], ◌∷◌, ◌++◌, length, refl, sym, ap, ◌∙◌, arith, subst, inl, inr, length-append, append-nil}
+use Rattle.std.specs.Prelude.{⊤, Option, Some}
+use Rattle.multihash.specs.Bytes.{IsStrictPrefix}
+use Rattle.multihash.specs.Varint.{VarintError, insufficient, overflow, not_minimal, IsVarint, IsInsufficient, BeginsMalformed}
+use Rattle.multihash.specs.Verdict.{Verdict, accepted, invalid_size, malformed, unexpected_eof, HasVerdict, IsIncomplete}
+use Rattle.multihash.specs.Reading.{Consumes}
+use Rattle.multihash.specs.Fault.{IsUnexpectedEof}
+use Rattle.multihash.specs.Refusal.{Refusal, of_io, of_size, of_code, of_varint, of_not_bytes, IsVarintError}
+use Rattle.multihash.specs.Consuming.{IsAnyVarintError, IsFrontError, IsMalformed, ConsumesVarint, ReadMayFailWith, ConsumesAtVarintError, ConsumesAtError, ConsumesShortestSettling, ConsumesNothingSettling}
+use Rattle.multihash.proofs.Varints.VarintLemmas.{front_unique, number, fault, varint_unique}
+use Rattle.multihash.proofs.Readings.VerdictLemmas.{verdict_unique}
+use Rattle.multihash.proofs.Readings.SettlingLemmas.{none_settles, shortest_unique}
+use Rattle.multihash.proofs.Examples.RefusalVectors.{other, eof, memory}
+use Rattle.multihash.proofs.Examples.ReadingVectors.{told, taken_is}
+use Rattle.multihash.proofs.Examples.VarintVectors.{all_continuation, varint_0, varint_4, varint_5, not_another}
+use Rattle.multihash.proofs.Examples.PairVectors.{pair}
+use Rattle.multihash.proofs.Examples.VerdictVectors.{empty_input, code_alone, digest_cut, digest_full, size_above_limit, size_settles, shortest_of_size}
+
+-- ---- errors
+
+varint_refusal : IsAnyVarintError (of_varint overflow)
+varint_refusal = (overflow, refl)
+
+no_other_varint_refusal : ((n : ℕ) → ¬ (IsAnyVarintError (of_size n))) × ((n : ℕ) → ¬ (IsAnyVarintError (of_code n))) × ¬ (IsAnyVarintError (of_io eof))
+no_other_varint_refusal = ((λ n (f, e). cc), (λ n (f, e). cc), λ (f, e). cc)
+
+padded_front : BeginsMalformed not_minimal (0x80 ∷ 0x00 ∷ [])
+padded_front = record { front = 0x80 ∷ []; rest = []; all_continuation = all_continuation (0x80 ∷ []) refl; some = omega arith; few = omega arith; cut = refl }
+
+front_refusal : IsFrontError (0x80 ∷ 0x00 ∷ []) (of_varint not_minimal)
+front_refusal = (not_minimal, refl, padded_front)
+
+-- the fault that is named is the input's
+no_other_front_refusal : ¬ (IsFrontError (0x80 ∷ 0x00 ∷ []) (of_varint overflow))
+no_other_front_refusal (f, e, has) =
+    let same : fault f ≡ fault not_minimal =
+    front_unique (0x80 ∷ 0x00 ∷ []) (fault f) (fault not_minimal) has padded_front in
+    cc
+
+-- and is named
+no_size_is_front_refusal : ¬ (IsFrontError (0x80 ∷ 0x00 ∷ []) (of_size 0))
+no_size_is_front_refusal (f, e, has) = cc
+
+-- the errors of `read` into four bytes: a code has no number that is too large, an own fault is passed on and
+-- rejects nothing, and no writer and no value is there
+abbrev ReadRejects : Refusal → Type 0
+ReadRejects (of_io own) = IsUnexpectedEof own
+ReadRejects (of_size size) = 4 < size
+ReadRejects (of_code code) = ⊥
+ReadRejects (of_varint f) = ⊤
+ReadRejects of_not_bytes = ⊥
+
+read_rejects : (e : Refusal) → ReadRejects e → ReadMayFailWith 4 e
+read_rejects (of_io own) h = inr (inr (own, refl, h))
+read_rejects (of_size size) h = inl (size, refl, h)
+read_rejects (of_code code) h = absurd h
+read_rejects (of_varint f) h = inr (inl (f, refl))
+read_rejects of_not_bytes h = absurd h
+
+read_rejects_only : (e : Refusal) → ReadMayFailWith 4 e → ReadRejects e
+read_rejects_only e (inl (size, is, large)) = subst ReadRejects (sym is) large
+read_rejects_only e (inr (inl (f, is))) = subst ReadRejects (sym is) tt
+read_rejects_only e (inr (inr (own, is, kind))) = subst ReadRejects (sym is) kind
+
+-- however large the buffer
+read_rejects_256 : ReadMayFailWith 300 (of_size 256)
+read_rejects_256 = inl (256, refl, omega arith)
+
+-- ---- a varint that was consumed
+
+takes_varint : ConsumesVarint 5 (Some (5 ∷ 9 ∷ [])) (Some (9 ∷ []))
+takes_varint = (5 ∷ [], varint_5, refl)
+
+takes_no_other_varint : ¬ (ConsumesVarint 6 (Some (5 ∷ 9 ∷ [])) (Some (9 ∷ [])))
+takes_no_other_varint (bytes, is, consumes) =
+    not_another 6 5 (5 ∷ []) varint_5 (λ e. omega (arith, e))
+    (subst (IsVarint 6) (taken_is (5 ∷ []) (9 ∷ []) bytes consumes) is)
+
+-- nothing more is consumed
+takes_varint_alone : ¬ (ConsumesVarint 5 (Some (5 ∷ 9 ∷ [])) (Some []))
+takes_varint_alone (bytes, is, consumes) =
+    omega (
+      arith,
+      ap (λ (z : List ℕ). length z) (varint_unique 5 bytes (5 ∷ []) is varint_5),
+      ap (λ (z : List ℕ). length z) (taken_is (5 ∷ 9 ∷ []) [] bytes consumes),
+    )
+
+-- ---- a rejected varint
+
+not_insufficient : ¬ (IsInsufficient (0x80 ∷ 0x00 ∷ []))
+not_insufficient h =
+    let same : fault insufficient ≡ fault not_minimal =
+    front_unique (0x80 ∷ 0x00 ∷ []) (fault insufficient) (fault not_minimal) h padded_front in
+    cc
+
+-- nothing gives back more than there was
+pub gives_none_back : (consumed : List ℕ) → ¬ (Consumes (Some []) consumed (Some (7 ∷ [])))
+gives_none_back [] h = omega (arith, ap (λ (o : Option (List ℕ)). length (told o)) h)
+gives_none_back (b ∷ consumed) h = omega (arith, ap (λ (o : Option (List ℕ)). length (told o)) h)
+
+before_one : (a : ℕ) (shorter : List ℕ) → IsStrictPrefix shorter (a ∷ []) → shorter ≡ []
+before_one a [] h = refl
+before_one a (b ∷ shorter) ([], some, cut) = absurd (some refl)
+before_one a (b ∷ shorter) (r ∷ rest, some, cut) =
+    absurd (omega (arith, ap (λ (z : List ℕ). length z) cut, length-append shorter (r ∷ rest)))
+
+none_is_insufficient : IsInsufficient []
+none_is_insufficient = record { few = omega arith; all_continuation = all_continuation [] refl }
+
+one_continuation_is_insufficient : IsInsufficient (0x80 ∷ [])
+one_continuation_is_insufficient = record { few = omega arith; all_continuation = all_continuation (0x80 ∷ []) refl }
+
+-- an input begins with a varint or with one fault
+pub begins_no_varint : IsMalformed (0x80 ∷ [])
+begins_no_varint = (insufficient, one_continuation_is_insufficient)
+
+begins_padded : IsMalformed (0x80 ∷ 0x00 ∷ [])
+begins_padded = (not_minimal, padded_front)
+
+pub begins_a_varint : ¬ (IsMalformed (5 ∷ []))
+begins_a_varint (f, has) =
+    let same : number 5 [] ≡ fault f =
+    front_unique (5 ∷ []) (number 5 []) (fault f) (5 ∷ [], varint_5, refl) has in
+    cc
+
+-- a reader that failed after a continuation byte
+fails_inside_varint : ConsumesAtVarintError (of_io other) (Some (0x80 ∷ 0x01 ∷ []))
+    (Some (0x01 ∷ []))
+fails_inside_varint = record {
+  consumed = 0x80 ∷ [];
+  consumes = refl;
+  shows = λ f e. absurd cc;
+  no_sooner = λ shorter before. subst IsInsufficient
+      (sym (before_one 0x80 shorter before)) none_is_insufficient;
+  all = λ e. absurd cc;
+  failed = λ own. one_continuation_is_insufficient;
+}
+
+ends_inside_varint : ConsumesAtVarintError (of_varint insufficient) (Some (0x80 ∷ [])) (Some [])
+ends_inside_varint = record {
+  consumed = 0x80 ∷ [];
+  consumes = refl;
+  shows = λ f e. subst (λ (g : VarintError). BeginsMalformed g (0x80 ∷ []))
+      (insufficient_is f e) one_continuation_is_insufficient;
+  no_sooner = λ shorter before. subst IsInsufficient
+      (sym (before_one 0x80 shorter before)) none_is_insufficient;
+  all = λ e. refl;
+  failed = λ own. one_continuation_is_insufficient;
+}
+  where
+    insufficient_is : (f : VarintError) → IsVarintError f (of_varint insufficient) → insufficient ≡ f
+    insufficient_is f e = cc
+
+varint_takes_its_own : ¬ (ConsumesAtVarintError (of_varint insufficient) (Some []) (Some (7 ∷ [])))
+varint_takes_its_own h = gives_none_back h.consumed h.consumes
+
+-- the bytes that were consumed show the fault
+shows_no_other_fault : ¬
+    (ConsumesAtVarintError (of_varint overflow) (Some (0x80 ∷ 0x00 ∷ [])) (Some []))
+shows_no_other_fault h =
+    let has =
+    subst (BeginsMalformed overflow) (taken_is (0x80 ∷ 0x00 ∷ []) [] h.consumed h.consumes)
+    (h.shows overflow refl) in
+    let same : fault overflow ≡ fault not_minimal =
+    front_unique (0x80 ∷ 0x00 ∷ []) (fault overflow) (fault not_minimal) has padded_front in
+    cc
+
+no_byte_after_the_zero : ¬
+    (ConsumesAtVarintError (of_varint not_minimal) (Some (0x80 ∷ 0x00 ∷ 0x07 ∷ [])) (Some []))
+no_byte_after_the_zero h =
+    let is = taken_is (0x80 ∷ 0x00 ∷ 0x07 ∷ []) [] h.consumed h.consumes in
+    let early =
+    h.no_sooner (0x80 ∷ 0x00 ∷ [])
+    (0x07 ∷ [], (λ e. omega (arith, ap (λ (z : List ℕ). length z) e)), is) in
+    not_insufficient early
+
+insufficient_takes_all : ¬
+    (ConsumesAtVarintError (of_varint insufficient) (Some (0x80 ∷ 0x80 ∷ [])) (Some (0x80 ∷ [])))
+insufficient_takes_all h = omega (arith, ap (λ (z : List ℕ). length z) (h.all refl))
+
+-- a reader that fails after the varint's last byte is not called
+fails_not_after_varint : ¬ (ConsumesAtVarintError (of_io other) (Some (0x80 ∷ 0x00 ∷ [])) (Some []))
+fails_not_after_varint h =
+    not_insufficient
+    (subst IsInsufficient (taken_is (0x80 ∷ 0x00 ∷ []) [] h.consumed h.consumes)
+    (h.failed (other, refl, inl refl)))
+
+memory_fails_not_after_varint : ¬
+    (ConsumesAtVarintError (of_io memory) (Some (0x80 ∷ 0x00 ∷ [])) (Some []))
+memory_fails_not_after_varint h =
+    not_insufficient
+    (subst IsInsufficient (taken_is (0x80 ∷ 0x00 ∷ []) [] h.consumed h.consumes)
+    (h.failed (memory, refl, inr refl)))
+
+-- ---- a failed `read`
+
+digest_missing : HasVerdict 4 (0 ∷ 4 ∷ []) unexpected_eof
+digest_missing =
+    (4, [], record { code = 0; code_bytes = 0 ∷ []; size_bytes = 4 ∷ []; is_code = varint_0; is_size = varint_4; cut = refl }, omega arith, omega arith)
+
+-- what has a verdict that stays has no early end
+not_early : (a consumed : List ℕ) (v w : Verdict) → Consumes (Some (a ++ [])) consumed (Some []) → HasVerdict 4 a w → ¬ (IsIncomplete w)
+    → HasVerdict 4 consumed v → ¬ (IsIncomplete v)
+not_early a consumed v w consumes late stays h early =
+    stays (subst IsIncomplete (verdict_unique 4 a v w (subst (λ (z : List ℕ). HasVerdict 4 z v) (taken_is a [] consumed consumes) h) late) early)
+
+ends_inside_digest : ConsumesAtError 4 (of_io eof) (Some (0 ∷ 4 ∷ 1 ∷ 2 ∷ 3 ∷ [])) (Some [])
+ends_inside_digest = record {
+  consumed = 0 ∷ 4 ∷ 1 ∷ 2 ∷ 3 ∷ [];
+  consumes = refl;
+  insufficient = λ e. absurd cc;
+  eof = λ end. digest_cut;
+  failed = λ own. (unexpected_eof, tt, digest_cut);
+}
+
+-- the digest's bytes may be left
+leaves_a_cut_digest : ConsumesAtError 4 (of_io eof) (Some (0 ∷ 4 ∷ 1 ∷ 2 ∷ 3 ∷ []))
+    (Some (1 ∷ 2 ∷ 3 ∷ []))
+leaves_a_cut_digest = record {
+  consumed = 0 ∷ 4 ∷ [];
+  consumes = refl;
+  insufficient = λ e. absurd cc;
+  eof = λ end. digest_missing;
+  failed = λ own. (unexpected_eof, tt, digest_missing);
+}
+
+read_takes_its_own : ¬ (ConsumesAtError 4 (of_varint insufficient) (Some []) (Some (7 ∷ [])))
+read_takes_its_own h = gives_none_back h.consumed h.consumes
+
+-- what was consumed is insufficient itself
+insufficient_after_no_size : ¬
+    (ConsumesAtError 4 (of_varint insufficient) (Some (0 ∷ 5 ∷ [])) (Some []))
+insufficient_after_no_size h =
+    not_early (0 ∷ 5 ∷ []) h.consumed (malformed insufficient) (invalid_size 5) h.consumes size_above_limit (λ e. e) (h.insufficient refl).0 tt
+
+-- and all of the input
+insufficient_leaves_none : ¬
+    (ConsumesAtError 4 (of_varint insufficient) (Some (0x80 ∷ [])) (Some (0x80 ∷ [])))
+insufficient_leaves_none h = omega (arith, ap (λ (z : List ℕ). length z) (h.insufficient refl).1)
+
+-- both varints of a truncated digest were consumed
+ends_not_inside_varint : ¬ (ConsumesAtError 4 (of_io eof) (Some (0 ∷ [])) (Some []))
+ends_not_inside_varint h =
+    let same : unexpected_eof ≡ malformed insufficient =
+    verdict_unique 4 (0 ∷ []) unexpected_eof (malformed insufficient)
+    (subst (λ (z : List ℕ). HasVerdict 4 z unexpected_eof) (taken_is (0 ∷ []) [] h.consumed h.consumes)
+    (h.eof (eof, refl, refl))) code_alone in
+    cc
+
+-- a reader that fails after what settles is not called
+fails_not_after_size : ¬ (ConsumesAtError 4 (of_io other) (Some (0 ∷ 5 ∷ [])) (Some []))
+fails_not_after_size h =
+    let (v, early, has) = h.failed (other, refl, inl refl) in
+    not_early (0 ∷ 5 ∷ []) h.consumed v (invalid_size 5) h.consumes size_above_limit (λ e. e) has early
+
+fails_not_after_pair : ¬
+    (ConsumesAtError 4 (of_io memory) (Some (0 ∷ 4 ∷ 1 ∷ 2 ∷ 3 ∷ 4 ∷ [])) (Some []))
+fails_not_after_pair h =
+    let (v, early, has) = h.failed (memory, refl, inr refl) in
+    not_early (0 ∷ 4 ∷ 1 ∷ 2 ∷ 3 ∷ 4 ∷ []) h.consumed v (accepted (pair 0 (1 ∷ 2 ∷ 3 ∷ 4 ∷ []))) h.consumes digest_full (λ e. e) has early
+
+-- ---- the shortest that settles
+
+takes_both_bytes : ConsumesShortestSettling 4 (0 ∷ 5 ∷ 9 ∷ []) (Some (9 ∷ []))
+takes_both_bytes = record { front = 0 ∷ 5 ∷ []; shortest = shortest_of_size; consumes = refl }
+
+pub takes_no_byte_after_size : ¬ (ConsumesShortestSettling 4 (0 ∷ 5 ∷ 9 ∷ []) (Some []))
+takes_no_byte_after_size h =
+    omega (
+      arith,
+      ap (λ (z : List ℕ). length z)
+          (shortest_unique 4 (0 ∷ 5 ∷ 9 ∷ []) h.front (0 ∷ 5 ∷ []) h.shortest shortest_of_size),
+      ap (λ (z : List ℕ). length z) (taken_is (0 ∷ 5 ∷ 9 ∷ []) [] h.front h.consumes),
+    )
+
+takes_no_fewer : ¬ (ConsumesShortestSettling 4 (0 ∷ 5 ∷ 9 ∷ []) (Some (5 ∷ 9 ∷ [])))
+takes_no_fewer h =
+    omega (
+      arith,
+      ap (λ (z : List ℕ). length z)
+          (shortest_unique 4 (0 ∷ 5 ∷ 9 ∷ []) h.front (0 ∷ 5 ∷ []) h.shortest shortest_of_size),
+      ap (λ (z : List ℕ). length z) (taken_is (0 ∷ []) (5 ∷ 9 ∷ []) h.front h.consumes),
+    )
+
+-- ---- nothing that was consumed settles
+
+takes_code_alone : ConsumesNothingSettling 4 (0 ∷ []) (Some [])
+takes_code_alone = record {
+  consumed = 0 ∷ [];
+  consumes = refl;
+  unsettled = λ front begins. none_settles 4 (0 ∷ [])
+      (malformed insufficient) code_alone tt front begins;
+}
+
+takes_nothing_unsettled : ConsumesNothingSettling 4 (0x80 ∷ 0x00 ∷ []) (Some (0x80 ∷ 0x00 ∷ []))
+takes_nothing_unsettled = record {
+  consumed = [];
+  consumes = refl;
+  unsettled = λ front begins. none_settles 4 [] (malformed insufficient) empty_input tt front begins;
+}
+
+pub takes_what_settles : ¬ (ConsumesNothingSettling 4 (0 ∷ 5 ∷ 9 ∷ []) (Some (9 ∷ [])))
+takes_what_settles h =
+    h.unsettled (0 ∷ 5 ∷ []) (
+      [],
+      taken_is (0 ∷ 5 ∷ []) (9 ∷ []) h.consumed h.consumes ∙ sym
+          (append-nil (0 ∷ 5 ∷ [])),
+    ) size_settles
+
+-- also where it is only a prefix
+takes_beyond_what_settles : ¬ (ConsumesNothingSettling 4 (0 ∷ 5 ∷ 9 ∷ []) (Some []))
+takes_beyond_what_settles h =
+    h.unsettled (0 ∷ 5 ∷ []) (9 ∷ [], taken_is (0 ∷ 5 ∷ 9 ∷ []) [] h.consumed h.consumes) size_settles
+
+unsettled_takes_its_own : ¬ (ConsumesNothingSettling 4 [] (Some (7 ∷ [])))
+unsettled_takes_its_own h = gives_none_back h.consumed h.consumes

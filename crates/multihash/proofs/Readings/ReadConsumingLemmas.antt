@@ -1,0 +1,245 @@
+-- What `read` promises where it stops, and where it stops in the code, the size or the digest.
+use Rattle.std.proofs.Common.{◌∙◌, ◌≡◌, ◌+◌, ◌<◌, ◌⊎◌, ℕ, List, [], ◌++◌, Option, Some, Result, Ok, Err, IfSome, IfOk, IfErr, refl, sym, ap, subst, inl, inr, arith, append-nil, ◌≤◌, length, append_assoc}
+use Rattle.multihash.specs.Bytes.{IsStrictPrefix}
+use Rattle.multihash.specs.Pair.{FitsBuffer, digest_limit}
+use Rattle.multihash.specs.Varint.{insufficient, VarintError, overflow, not_minimal, IsVarint, BeginsMalformed}
+use Rattle.multihash.specs.Encoding.{IsEncoding}
+use Rattle.multihash.specs.Verdict.{Verdict, accepted, invalid_size, invalid_code, malformed, unexpected_eof, HasVerdict, IsIncomplete, BeginsWithSize}
+use Rattle.std.specs.Io.KnownBytes.{IsAtEnd, prepend_known}
+use Rattle.multihash.specs.Reading.{Consumes, CountsReaderFailures, HasFewerThan}
+use Rattle.multihash.specs.Fault.{Fault, IsUnexpectedEof, IsOwnFault}
+use Rattle.multihash.specs.Refusal.{Refusal, of_io, of_size, of_code, of_varint, of_not_bytes, IsReaderError, IsEof, IsInvalidSize, IsVarintError}
+use Rattle.multihash.specs.Consuming.{ReadMayFailWith, ConsumesAtError, ConsumesShortestSettling, ConsumesNothingSettling, IsAnyVarintError, ConsumesAtVarintError}
+use Rattle.multihash.specs.Outcome.{Fields, pair_of, IsErrorOf, IsResultOf}
+use Rattle.multihash.proofs.Values.ValueLemmas.{digest_fits}
+use Rattle.multihash.proofs.Readings.ReadingLemmas.{IfSome-consumed, Consumes-concatenated}
+use Rattle.multihash.proofs.Readings.VerdictLemmas.{verdict_unique, coded, sized}
+use Rattle.multihash.proofs.Readings.SettlingLemmas.{verdict_kept, none_settles, EndsEarly, before_digest, shortest_from, before_second, before_both}
+
+-- an input that ends early, or a reader that failed
+abbrev pub EndsOrFails : ℕ → List ℕ → ℕ → ℕ → Type 0
+EndsOrFails S rest before after = (before < after) ⊎ ((v : Verdict) × HasVerdict S rest v × IsIncomplete v)
+
+-- what `read` promises of an outcome
+abbrev pub ReadMeets : (S : ℕ) → Option (List ℕ) → Option (List ℕ) → ℕ → ℕ → Result (Fields S) Refusal → Type 0
+ReadMeets S old new before after r = record {
+  faults : CountsReaderFailures IsReaderError (ReadMayFailWith S) before after r;
+  verdict : IfSome old (λ rest. after ≡ before → (v : Verdict) × HasVerdict S rest v × IsResultOf r v);
+  ok : IfOk r (λ m. (bytes : List ℕ) × IsEncoding (pair_of m) bytes × Consumes old bytes new);
+  fits : IfOk r (λ m. FitsBuffer S (pair_of m));
+  err : IfErr r (λ e. ConsumesAtError S e old new);
+  settled : IfSome old (λ rest. after ≡ before → (v : Verdict) → HasVerdict S rest v → ¬ (IsIncomplete v) → ConsumesShortestSettling S rest new);
+  unsettled : IfSome old (λ rest. EndsOrFails S rest before after → ConsumesNothingSettling S rest new);
+}
+
+-- ---- errors and verdicts
+
+-- the verdict of an error
+abbrev verdict_of : Refusal → Verdict
+verdict_of (of_io fault) = unexpected_eof
+verdict_of (of_size size) = invalid_size size
+verdict_of (of_code code) = invalid_code code
+verdict_of (of_varint fault) = malformed fault
+verdict_of of_not_bytes = unexpected_eof
+
+verdict_of_refusal : (e : Refusal) (v : Verdict) → IsErrorOf e v → v ≡ verdict_of e
+verdict_of_refusal e (accepted p) given = absurd given
+verdict_of_refusal e (invalid_size size) given = ap verdict_of (sym given)
+verdict_of_refusal e (invalid_code code) given = ap verdict_of (sym given)
+verdict_of_refusal e (malformed fault) given = ap verdict_of (sym given)
+verdict_of_refusal e unexpected_eof given = ap verdict_of (sym given.1)
+
+-- so one verdict alone does
+pub refusal_unique : (e : Refusal) (v w : Verdict) → IsErrorOf e v → IsErrorOf e w → v ≡ w
+refusal_unique e v w h k = verdict_of_refusal e v h ∙ sym (verdict_of_refusal e w k)
+
+own_not_eof : (e : Refusal) → IsReaderError e → IsEof e → ⊥
+own_not_eof e (fault, given, kind) h =
+    let same : fault ≡ h.0 = cc (given, h.1) in
+    let kinds = ap (λ (f : Fault). f.kind) same in
+    elim kind [ inl other ↦ cc (kinds, other, h.2) | inr memory ↦ cc (kinds, memory, h.2) ]
+
+-- no verdict has an error of the reader's own
+pub own_no_refusal : (e : Refusal) (v : Verdict) → IsReaderError e → IsErrorOf e v → ⊥
+own_no_refusal e v own given =
+    own_not_eof e own (subst (IsErrorOf e) (verdict_of_refusal e v given ∙ ap verdict_of own.1) given)
+
+-- an error of a verdict is one that `read` lists
+listed : (S : ℕ) (e : Refusal) (consumed : List ℕ) (v : Verdict) → IsErrorOf e v → HasVerdict S consumed v → ReadMayFailWith S e
+listed S e consumed (accepted p) given has = absurd given
+listed S e consumed (invalid_size size) given has = inl (size, given, has.2)
+listed S e consumed (invalid_code code) given has = absurd has
+listed S e consumed (malformed fault) given has = inr (inl (fault, given))
+listed S e consumed unexpected_eof given has = inr (inr given)
+
+-- ---- where it stops
+
+module _ (S : ℕ) (consumed : List ℕ) (old new : Option (List ℕ)) (before after : ℕ) (consumes : Consumes old consumed new) (v : Verdict)
+    (has : HasVerdict S consumed v) where
+  -- at a verdict that is not incomplete, where everything shorter ends early
+  module _ (unrisen : after ≡ before) (late : ¬ (IsIncomplete v)) (no_sooner : (p : List ℕ) → IsStrictPrefix p consumed → EndsEarly S p) where
+    kept : (left : List ℕ) → HasVerdict S (consumed ++ left) v
+    kept left = verdict_kept S consumed left v late has
+
+    told : (r : Result (Fields S) Refusal) → IsResultOf r v → IfSome old (λ rest. after ≡ before → (w : Verdict) × HasVerdict S rest w × IsResultOf r w)
+    told r answers = IfSome-consumed old new consumed _ consumes (λ left is _. (v, kept left, answers))
+
+    shortest : IfSome old (λ rest. after ≡ before → (w : Verdict) → HasVerdict S rest w → ¬ (IsIncomplete w) → ConsumesShortestSettling S rest new)
+    shortest = IfSome-consumed old new consumed _ consumes (λ left is _ w holds stays. record {
+      front = consumed;
+      shortest = shortest_from S (consumed ++ left) consumed left v refl has late no_sooner;
+      consumes = ap (prepend_known consumed) (sym is);
+    })
+
+    never : IfSome old (λ rest. EndsOrFails S rest before after → ConsumesNothingSettling S rest new)
+    never = IfSome-consumed old new consumed _ consumes (λ left is why.
+        elim why [
+          | inl rose ↦ absurd (omega (arith, rose, unrisen))
+          | inr (w, holds, soon) ↦ absurd (late (subst IsIncomplete (verdict_unique S (consumed ++ left) w v holds (kept left)) soon))
+        ])
+
+    pub at_settled : (e : Refusal) → IsErrorOf e v → ReadMeets S old new before after (Err e)
+    at_settled e given = record {
+      faults = inr (unrisen, listed S e consumed v given has);
+      verdict = told (Err e) given;
+      ok = tt;
+      fits = tt;
+      err = record {
+        consumed = consumed;
+        consumes = consumes;
+        insufficient = λ h. absurd (late (rw (refusal_unique e v (malformed insufficient) given h) tt));
+        eof = λ h. absurd (late (rw (refusal_unique e v unexpected_eof given h) tt));
+        failed = λ h. absurd (own_no_refusal e v h given);
+      };
+      settled = shortest;
+      unsettled = never;
+    }
+
+    pub at_pair : (m : Fields S) → v ≡ accepted (pair_of m) → IsEncoding (pair_of m) consumed → ReadMeets S old new before after (Ok m)
+    at_pair m is encodes = record {
+      faults = unrisen;
+      verdict = told (Ok m) is;
+      ok = (consumed, encodes, consumes);
+      fits = digest_fits m;
+      err = tt;
+      settled = shortest;
+      unsettled = never;
+    }
+
+  module _ (soon : IsIncomplete v) where
+    none : IfSome old (λ rest. EndsOrFails S rest before after → ConsumesNothingSettling S rest new)
+    none = IfSome-consumed old new consumed _ consumes (λ left is why.
+        record { consumed = consumed; consumes = ap (prepend_known consumed) (sym is); unsettled = none_settles S consumed v has soon })
+
+    -- at an incomplete input, which the whole input has too
+    pub at_incomplete : (e : Refusal) → after ≡ before → IsErrorOf e v → (v ≡ malformed insufficient → IsAtEnd new)
+        → ((left : List ℕ) → new ≡ Some left → HasVerdict S (consumed ++ left) v) → ReadMeets S old new before after (Err e)
+    at_incomplete e unrisen given all whole = record {
+      faults = inr (unrisen, listed S e consumed v given has);
+      verdict = IfSome-consumed old new consumed _ consumes (λ left is _. (v, whole left is, given));
+      ok = tt;
+      fits = tt;
+      err = record {
+        consumed = consumed;
+        consumes = consumes;
+        insufficient = λ h.
+            let same = refusal_unique e v (malformed insufficient) given h in (subst (HasVerdict S consumed) same has, all same);
+        eof = λ h. subst (HasVerdict S consumed) (refusal_unique e v unexpected_eof given h) has;
+        failed = λ _. (v, soon, has);
+      };
+      settled = IfSome-consumed old new consumed _ consumes (λ left is _ w holds later.
+          absurd (later (subst IsIncomplete (verdict_unique S (consumed ++ left) v w (whole left is) holds) soon)));
+      unsettled = none;
+    }
+
+    -- where the reader failed
+    pub at_failure : (e : Refusal) → after ≡ before + 1 → IsReaderError e → ReadMeets S old new before after (Err e)
+    at_failure e rose own = record {
+      faults = inl (rose, own);
+      verdict = IfSome-consumed old new consumed _ consumes (λ left is unrisen. absurd (omega arith));
+      ok = tt;
+      fits = tt;
+      err = record {
+        consumed = consumed;
+        consumes = consumes;
+        insufficient = λ h. absurd (own_no_refusal e (malformed insufficient) own h);
+        eof = λ h. absurd (own_not_eof e own h);
+        failed = λ _. (v, soon, has);
+      };
+      settled = IfSome-consumed old new consumed _ consumes (λ left is unrisen. absurd (omega arith));
+      unsettled = none;
+    }
+
+pub read_answered : (S : ℕ) (consumed : List ℕ) (old new : Option (List ℕ)) (before after : ℕ) (m : Fields S) → after ≡ before
+    → IsEncoding (pair_of m) consumed → Consumes old consumed new → ReadMeets S old new before after (Ok m)
+read_answered S consumed old new before after m unrisen encodes consumes =
+    let fits = digest_fits m in
+    at_pair S consumed old new before after consumes (accepted (pair_of m))
+    ([], record { encoding = consumed; encodes = encodes; cut = sym (append-nil consumed) }, fits) unrisen (λ e. e)
+    (λ p before. before_digest S (pair_of m) consumed p encodes fits before) m refl encodes
+
+-- nothing is left after bytes at an input's end
+at_end : (P : List ℕ → Type 0) (consumed : List ℕ) (new : Option (List ℕ)) → IsAtEnd new → P consumed
+    → (left : List ℕ) → new ≡ Some left → P (consumed ++ left)
+at_end P consumed new ends p left is =
+    let none : left ≡ [] = subst IsAtEnd is ends in subst P (sym (ap (λ z. consumed ++ z) none ∙ append-nil consumed)) p
+
+-- ---- in the code or the size, after what precedes it
+
+module _ (S : ℕ) (e : Refusal) (old mid new : Option (List ℕ)) (before after : ℕ) (t : ConsumesAtVarintError e mid new)
+    (how : ((after ≡ before + 1) × IsReaderError e) ⊎ ((after ≡ before) × IsAnyVarintError e)) where
+  module _ (a : List ℕ) (consumes : Consumes old (a ++ t.consumed) new)
+      (shows : (f : VarintError) → BeginsMalformed f t.consumed → HasVerdict S (a ++ t.consumed) (malformed f))
+      (no_sooner : (p : List ℕ) → IsStrictPrefix p (a ++ t.consumed) → EndsEarly S p) where
+    refused : (f : VarintError) → after ≡ before → IsVarintError f e → HasVerdict S (a ++ t.consumed) (malformed f) → ReadMeets S old new before after (Err e)
+    refused insufficient same given has =
+        at_incomplete S _ _ _ _ _ consumes (malformed insufficient) has tt e same given (λ _. t.all given)
+        (at_end (λ x. HasVerdict S x (malformed insufficient)) (a ++ t.consumed) new (t.all given) has)
+    refused overflow same given has = at_settled S _ _ _ _ _ consumes (malformed overflow) has same (λ h. h) no_sooner e given
+    refused not_minimal same given has = at_settled S _ _ _ _ _ consumes (malformed not_minimal) has same (λ h. h) no_sooner e given
+
+    stops_in_varint : ReadMeets S old new before after (Err e)
+    stops_in_varint =
+        elim how [
+          | inl (rose, own) ↦ at_failure S _ _ _ _ _ consumes (malformed insufficient) (shows insufficient (t.failed own)) tt e rose own
+          | inr (same, (f, given)) ↦ refused f same given (shows f (t.shows f given))
+        ]
+
+  pub stops_in_code : Consumes old t.consumed new → ReadMeets S old new before after (Err e)
+  stops_in_code consumes = stops_in_varint [] consumes (λ f h. inl h) (λ p b. (malformed insufficient, inl (t.no_sooner p b), tt))
+
+  pub stops_in_size : (code : ℕ) (a : List ℕ) → IsVarint code a → Consumes old a mid → ReadMeets S old new before after (Err e)
+  stops_in_size code a is_code first =
+      stops_in_varint a (Consumes-concatenated old mid new a t.consumed _ refl first t.consumes) (λ f h. inr (t.consumed, coded code a _ t.consumed is_code refl, h))
+      (λ p b. before_second S code a t.consumed p is_code t.no_sooner b)
+
+-- ---- after both varints
+
+module _ (S code size : ℕ) (a b : List ℕ) (is_code : IsVarint code a) (is_size : IsVarint size b) (old new : Option (List ℕ)) (before after : ℕ) where
+  has_size : (rest : List ℕ) → BeginsWithSize size (a ++ (b ++ rest)) rest
+  has_size rest = sized code size a b _ rest is_code is_size refl
+
+  pub stops_at_size : (e : Refusal) → after ≡ before → digest_limit S < size → IsInvalidSize size e → Consumes old (a ++ b) new
+      → ReadMeets S old new before after (Err e)
+  stops_at_size e same over given consumes =
+      at_settled S (a ++ b) old new before after consumes (invalid_size size)
+      ([], subst (λ z. BeginsWithSize size (a ++ z) []) (append-nil b) (has_size []), over) same (λ h. h)
+      (λ p begins. before_both S code size a b p is_code is_size begins) e given
+
+  module _ (within : size ≤ digest_limit S) where
+    cut_digest : (rest : List ℕ) → length rest < size → HasVerdict S (a ++ (b ++ rest)) unexpected_eof
+    cut_digest rest short = (size, rest, has_size rest, within, short)
+
+    pub stops_in_digest : (fault : Fault) (front : List ℕ) (mid : Option (List ℕ)) → length front < size → Consumes mid front new
+        → (IsUnexpectedEof fault → HasFewerThan size mid)
+        → ((after ≡ before + 1) × IsOwnFault fault) ⊎ ((after ≡ before) × IsUnexpectedEof fault) → Consumes old (a ++ (b ++ front)) new
+        → ReadMeets S old new before after (Err (of_io fault))
+    stops_in_digest fault front mid short last few how consumes =
+        elim how [
+          | inl (rose, own) ↦
+              at_failure S _ old new before after consumes unexpected_eof (cut_digest front short) tt (of_io fault) rose (fault, refl, own)
+          | inr (same, ended) ↦
+              at_incomplete S _ old new before after consumes unexpected_eof (cut_digest front short) tt (of_io fault) same (fault, refl, ended)
+              (λ no. cc) (λ left is. rw (append_assoc a (b ++ front) left, append_assoc b front left)
+              (cut_digest (front ++ left) (subst (HasFewerThan size) (last ∙ ap (prepend_known front) is) (few ended))))
+        ]

@@ -1,0 +1,63 @@
+-- What the library's calls consumed from a reader.
+use Rattle.std.specs.Prelude.{◌<◌, ℕ, List, ◌⊎◌, Option, Some}
+use Rattle.multihash.specs.Bytes.{IsPrefix, IsStrictPrefix}
+use Rattle.multihash.specs.Pair.{digest_limit}
+use Rattle.multihash.specs.Varint.{VarintError, insufficient, IsVarint, IsInsufficient, BeginsMalformed}
+use Rattle.multihash.specs.Verdict.{Verdict, malformed, unexpected_eof, HasVerdict, IsIncomplete}
+use Rattle.multihash.specs.Settling.{Settles, IsShortestSettling}
+use Rattle.std.specs.Io.KnownBytes.{IsAtEnd}
+use Rattle.multihash.specs.Reading.{Consumes}
+use Rattle.multihash.specs.Refusal.{Refusal, IsEof, IsReaderError, IsInvalidSize, IsVarintError}
+
+-- an error that names why a varint is malformed
+abbrev pub IsAnyVarintError : Refusal → Type 0
+IsAnyVarintError e = (fault : VarintError) × IsVarintError fault e
+
+-- the error names why the varint at the front of the input is malformed
+abbrev pub IsFrontError : List ℕ → Refusal → Type 0
+IsFrontError input e = (fault : VarintError) × IsVarintError fault e × BeginsMalformed fault input
+
+-- the varint at the front of the input is malformed
+abbrev pub IsMalformed : List ℕ → Type 0
+IsMalformed input = (fault : VarintError) × BeginsMalformed fault input
+
+-- a varint of the number was consumed
+abbrev pub ConsumesVarint : ℕ → Option (List ℕ) → Option (List ℕ) → Type 0
+ConsumesVarint n old new = (bytes : List ℕ) × IsVarint n bytes × Consumes old bytes new
+
+-- an error of reading: a size that is too large, a malformed varint, or a truncated digest
+abbrev pub ReadMayFailWith : ℕ → Refusal → Type 0
+ReadMayFailWith S e =
+    ((size : ℕ) × IsInvalidSize size e × (digest_limit S < size)) ⊎ IsAnyVarintError e ⊎ IsEof e
+
+-- what reading a varint consumed when it failed: bytes of which the last shows why it is malformed;
+-- after a failure of the reader, bytes that are insufficient
+pub record ConsumesAtVarintError (e : Refusal) (old new : Option (List ℕ)) : Type 0 where
+  pub consumed : List ℕ
+  pub consumes : Consumes old consumed new
+  pub shows : (fault : VarintError) → IsVarintError fault e → BeginsMalformed fault consumed
+  pub no_sooner : (shorter : List ℕ) → IsStrictPrefix shorter consumed → IsInsufficient shorter
+  pub all : IsVarintError insufficient e → IsAtEnd new
+  pub failed : IsReaderError e → IsInsufficient consumed
+
+-- what `read` consumed when it failed: all of an insufficient input, at least both varints of a
+-- truncated digest; after a failure of the reader, bytes whose own verdict is incomplete
+pub record ConsumesAtError (S : ℕ) (e : Refusal) (old new : Option (List ℕ)) : Type 0 where
+  pub consumed : List ℕ
+  pub consumes : Consumes old consumed new
+  pub insufficient : IsVarintError insufficient e →
+      HasVerdict S consumed (malformed insufficient) × IsAtEnd new
+  pub eof : IsEof e → HasVerdict S consumed unexpected_eof
+  pub failed : IsReaderError e → (v : Verdict) × IsIncomplete v × HasVerdict S consumed v
+
+-- a call consumed exactly the shortest prefix that settles the verdict
+pub record ConsumesShortestSettling (S : ℕ) (rest : List ℕ) (new : Option (List ℕ)) : Type 0 where
+  pub front : List ℕ
+  pub shortest : IsShortestSettling S rest front
+  pub consumes : Consumes (Some rest) front new
+
+-- no prefix of what a call consumed settles a verdict
+pub record ConsumesNothingSettling (S : ℕ) (rest : List ℕ) (new : Option (List ℕ)) : Type 0 where
+  pub consumed : List ℕ
+  pub consumes : Consumes (Some rest) consumed new
+  pub unsettled : (front : List ℕ) → IsPrefix front consumed → ¬ (Settles S front)
