@@ -1,5 +1,5 @@
 #!/usr/bin/env bash
-# Counts the instructions of each call that crates/multihash_c/c_test/count.c makes, and prints the counts of the table
+# Counts the instructions of each call that crates/multihash_c/c_test/count.c makes, and prints the counts of the section
 # "From C" of docs/SPEED.md. The calls are made from C, of the library as `rt lib` builds it.
 set -euo pipefail
 

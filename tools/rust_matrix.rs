@@ -1,9 +1,9 @@
 //! Makes the calls that `crates/speed` makes, of the Rust crate `multihash`: the same cases, inputs, loops and sums,
-//! so that `tools/count_instructions.sh --rust PROGRAM` counts both by the same means.
+//! so that `tools/speed PROGRAM` counts and times both by the same means.
 //!
 //! - `rust_matrix cases` prints the cases, one a line: the operation, the digest's size, the number of bytes of the
 //!   code, and the buffer's size.
-//! - `rust_matrix check` prints a sum for each operation, as crates/speed/stdout has it.
+//! - `rust_matrix check` prints a sum for each operation; the lines of crates/speed/stdout are the same.
 //! - `rust_matrix OPERATION SIZE CODE_LEN BUFFER COUNT` makes `COUNT` calls of one case, and prints their sum.
 //!
 //! To build it, write into an empty folder a Cargo.toml of

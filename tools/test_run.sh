@@ -23,6 +23,7 @@ lay_out() {
   for part in $parts; do stub "tools/$part" "$sound"; done
   stub bin/rt '[ "$*" = ci ] && sleep 0.3 && touch rt_ended && echo "2 passed, 0 failed"'
   for part in refuse_memory.sh refused_runs.sh; do stub "tools/$part" "[ \"\$BUILT\" = 'rt ci' ] && $after_rt"; done
+  stub tools/speed "[ \"\$BUILT \$*\" = 'rt ci --sample 10' ] && $after_rt"
   stub tools/mutants.py "[ \"\${ALL-none} \$*\" = \"none --jobs \$(((\$(nproc) + 1) / 2))\" ] && $sound"
   for part in test_c.sh test_install.sh; do
     stub "tools/$part" "mkdir \$PROVED/runs_once && grep -c . \$PROVED/crates.txt | grep -qx 2 && [ -d \$PROVED/crates/multihash_c ] &&
