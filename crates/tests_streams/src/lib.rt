@@ -24,4 +24,4 @@ mod retries;
 #[cfg(test)]
 mod slices;
 #[cfg(test)]
-mod storage;
+mod stored;
