@@ -18,81 +18,9 @@ from prover import choice, edits, judge, sums, trial  # noqa: E402
 from prover.repository import read, write, write_all  # noqa: E402
 from prover.output import LIMIT, Finding  # noqa: E402
 
-SOURCE = """//! Sums, each with its value.
-#![tactic(auto)]
-
-ghost use Rattle.std.specs.Prelude.{◌≡◌, ◌+◌, ◌≤◌, length, take};
-ghost use Rattle.small.specs.Sum.{IsTwice, most};
-
-pub fn next(n: u8) -> u16 ensures value { result ≡ n + 1 } ensures bound { result ≤ 256 } {
-    n as u16 + 1
-}
-
-pub fn twice(n: u8) -> u16 ensures value { IsTwice n result } ensures bound { result ≤ most } {
-    n as u16 + n as u16
-}
-
-/// Three times the number.
-pub fn thrice(n: u8) -> u16 ensures { result ≡ n + n + n } {
-    3 * (n as u16)
-}
-
-pub fn after_next(n: u8) -> u16 ensures value { result ≡ n + 2 } {
-    next(n) + 1
-}
-
-/// A buffer and the number of its bytes that are in use.
-pub struct Part<const N: usize> {
-    bytes: [u8; N],
-    len: usize,
-}
-
-impl<const N: usize> Part<N> {
-    pub fn used(&self) -> &[u8] requires { self.now.len ≤ N } ensures used { result.now ≡ take self.now.len self.now.bytes } {
-        &self.bytes[..self.len]
-    }
-}
-"""
-ANSWER = """use Rattle.std.proofs.Common.{{arith}}
-use Rattle.small.proofs.{0}.Goals as goal
-pub {1} : goal.{1}
-{1} c = omega ({2})
-"""
-SPECS = """use Rattle.std.specs.Prelude.{◌≡◌, ◌+◌, ℕ}
--- the number twice
-abbrev pub IsTwice : ℕ → ℕ → Type 0
-IsTwice n sum = sum ≡ n + n
--- the largest such number
-abbrev pub most : ℕ
-most = 510
-"""
-VECTORS = """use Rattle.std.proofs.Common.{refl}
-use Rattle.small.specs.Sum.{IsTwice}
-twice_seven : IsTwice 7 14
-twice_seven = refl
-"""
-ABOVE = """//! Sums of sums.
-#![tactic(auto)]
-
-ghost use Rattle.std.specs.Prelude.{◌≡◌, ◌+◌};
-
-pub fn thrice_and_one(n: u8) -> u16 ensures { result ≡ n + n + n + 1 } {
-    small::thrice(n) + 1
-}
-"""
-FILES = {
-    "HANDLES": "Handles allowed: none.\n",
-    "crates.txt": "small:\nabove: small\n",
-    "crates/small/src/lib.rt": SOURCE,
-    "crates/small/specs/Lib.antt": "pub mod Sum\n",
-    "crates/small/specs/Sum.antt": SPECS,
-    "crates/small/proofs/Lib.antt": "mod SumVectors\n",
-    "crates/small/proofs/SumVectors.antt": VECTORS,
-    "crates/small/proofs/next/Answers.antt": ANSWER.format("next", "returns-clause-value", "arith"),
-    "crates/small/proofs/after_next/Answers.antt": ANSWER.format("after_next", "returns", "arith, c.next.ensures.value"),
-    "crates/above/src/lib.rt": ABOVE,
-    "crates/above/mutants/lib.edits": "file: src/lib.rt\n\n# adds_two\nold: small::thrice(n) + 1\nnew: small::thrice(n) + 2\n",
-}
+# The small repository: after a line '== PATH' stands the text of a file.
+TEXTS = re.split(r"(?m)^== (.*)\n", read(f"{HERE}/small_repository.txt"))
+FILES = dict(zip(TEXTS[1::2], TEXTS[2::2]))
 # Each mutant with the clauses that it breaks: the text of the source, what replaces it, and what is reported, if the prover judges it. The
 # first of a function are in one batch, in which `adds_in_front` is right and calls a function with a mutant.
 MUTANTS = {
