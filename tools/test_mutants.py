@@ -18,7 +18,7 @@ from prover import choice, edits, judge, sums, trial  # noqa: E402
 from prover.repository import read, write, write_all  # noqa: E402
 from prover.output import LIMIT, Finding  # noqa: E402
 
-# The small repository: after a line '== PATH' stands the text of a file.
+# The small repository: a line '== PATH' and the text of the file.
 TEXTS = re.split(r"(?m)^== (.*)\n", read(f"{HERE}/small_repository.txt"))
 FILES = dict(zip(TEXTS[1::2], TEXTS[2::2]))
 # Each mutant with the clauses that it breaks: the text of the source, what replaces it, and what is reported, if the prover judges it. The
