@@ -18,7 +18,7 @@ README = TOP / "README.md"
 # the files of the contracts in the order of the page, with the path of their functions
 MODULES = {"multihash": "", "binary": "", "compare": "", "scale": "", "json": "", "head": "", "error": "",
            "varint": "varint::", "list": "list::", "no_std_io/error": "no_std_io::",
-           "no_std_io/slice_writer": "no_std_io::", "laws": "laws::"}
+           "no_std_io/slice_writer": "no_std_io::"}
 FIRST, LAST = "<!-- written by tools/check_pages.py -->\n", "<!-- to here -->\n"
 ITEM = re.compile(r"^impl(?:<[^>]*>)? (?P<owner>\w+)[^\n]*\{$|^ *pub (?:const )?fn (?P<name>\w+)", re.MULTILINE)
 SIGNATURE_END = re.compile(r"\n +(?=requires|ensures|//)|\s*\{\n|\s+\{")
@@ -65,7 +65,7 @@ def bare(line: str) -> str:
 
 
 def example_faults(page: str, sources: set[str]) -> Iterator[str]:
-    """Lines of the examples that are in no source of the crate `uses`."""
+    """Lines of the examples that are in no source of the crates of callers."""
     examples = blocks(page, "rust")
     if not examples:
         yield "it has no example"
@@ -94,7 +94,8 @@ def main() -> int:
     if "--write" in sys.argv[1:]:
         CALLING.write_text(before + FIRST + wanted + LAST + after)
         return 0
-    sources = {bare(line) for path in (TOP / "crates" / "uses" / "src").glob("*.rt") for line in path.read_text().splitlines()} | {""}
+    callers = [path for crate in ("uses", "storage") for path in (TOP / "crates" / crate / "src").rglob("*.rt")]
+    sources = {bare(line) for path in callers for line in path.read_text().splitlines()} | {""}
     checks = {
         "the contracts in CALLING.md": [] if found == wanted else ["tools/check_pages.py --write writes those of the sources"],
         "the examples in CALLING.md": list(example_faults(before, sources)),
