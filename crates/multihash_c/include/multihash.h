@@ -1,7 +1,7 @@
 /* Multihashes for C and C++: the code of a hash function and a digest, encoded as bytes.
  *
  * The functions are those of the crate multihash_c and are proved to meet its contracts; only
- * multihash_status_text is written here. No function allocates, keeps state, or writes anywhere but at `out`,
+ * multihash_status_text is defined in this header. No function allocates, keeps state, or writes anywhere but at `out`,
  * so any number of threads may call them at once. C.md describes how to build, link and call them.
  *
  * Preconditions, which are not checked:
