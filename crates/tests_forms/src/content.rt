@@ -41,13 +41,18 @@ fn verify_abc(rt: HostRuntime) {
     check!(&rt; !verify(&expect_ok(&rt, Multihash::<32>::wrap(0x13, &ABC)), b"abc"));
 }
 
+fn expect_root(rt: &impl Abort, alloc: Global, leaves: &[Multihash<32>]) {
+    assert!(rt; leaves.len() == 3);
+    let (root, path) = expect_ok(rt, root_and_path(alloc, leaves, 2));
+    expect_bytes(rt, root.digest(), &ROOT);
+    check_eq!(rt; path.len(), 1);
+}
+
 #[test]
 fn known_tree(rt: HostRuntime) {
-    let leaves = [hash_of(b"a"), hash_of(b"b"), hash_of(b"c")];
-    expect_bytes(&rt, parent(&leaves[0], &leaves[1]).digest(), &PARENT);
-    let (root, path) = expect_ok(&rt, root_and_path(rt.alloc(), &leaves, 2));
-    expect_bytes(&rt, root.digest(), &ROOT);
-    check_eq!(&rt; path.len(), 1);
+    let (a, b) = (hash_of(b"a"), hash_of(b"b"));
+    expect_bytes(&rt, parent(&a, &b).digest(), &PARENT);
+    expect_root(&rt, rt.alloc(), &[a, b, hash_of(b"c")]);
 }
 
 // The path leads from this leaf to the root, and from no other; and no step can be another.
