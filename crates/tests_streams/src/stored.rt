@@ -84,25 +84,26 @@ fn what_was_written_is_hashed(rt: HostRuntime) {
     check!(rt; HashingWriter::<Vec<u8>>::ALLOCATES && !HashingWriter::<Drip>::ALLOCATES);
 }
 
+const TEXT: [u8; 3] = *b"abc";
+
 // As many bytes as there are, and one more.
 #[test]
 fn what_was_read_is_hashed(rt: HostRuntime) {
     let rt = &rt;
-    let text: &[u8] = b"abc";
     for n in 0..5 {
         let mut buffer = [0; 4];
         let mut reader = HashingReader::new(Cuts::new(b"abc", 1));
         let answer = reader.read_exact(&mut buffer[..n]);
         check_eq!(rt; is_failed(&answer, Refusal::UnexpectedEof), n == 4);
         let read = n.min(3);
-        expect_bytes(rt, &buffer[..read], &text[..read]);
+        expect_bytes(rt, &buffer[..read], &TEXT[..read]);
         check_eq!(rt; reader.tally.count(), read as u64);
         let (hash, inner) = reader.finish();
-        expect_bytes(rt, inner.left, &text[read..]);
-        check!(rt; hash == hash_of(&text[..read]));
+        expect_bytes(rt, inner.left, &TEXT[read..]);
+        check!(rt; hash == hash_of(&TEXT[..read]));
         let mut reader = HashingReader::new(FailAt::new(Cuts::new(b"abc", 1), n));
-        check_eq!(rt; is_failed(&reader.read_exact(&mut buffer[..3]), Refusal::LINK_DOWN), n < 3);
-        check!(rt; reader.finish().0 == hash_of(&text[..read]));
+        check_eq!(rt; is_failed(&reader.read_exact(&mut [0; 3]), Refusal::LINK_DOWN), n < 3);
+        check!(rt; reader.finish().0 == hash_of(&TEXT[..read]));
     }
 }
 
