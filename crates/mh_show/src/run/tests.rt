@@ -269,19 +269,19 @@ fn expect_unless_rejected(
 }
 
 #[test]
-fn rejected_run_of_the_example(rt: HostRuntime) -> Result<(), Fail> {
+fn refused_run_of_the_example(rt: HostRuntime) -> Result<(), Fail> {
     expect_unless_rejected(&rt, EXAMPLE, (0, EXAMPLE_LINES, b""))
 }
 
 #[test]
-fn rejected_run_of_a_refusal(rt: HostRuntime) -> Result<(), Fail> {
+fn refused_run_of_a_refusal(rt: HostRuntime) -> Result<(), Fail> {
     let line = b"mh_show: Invalid multihash size 65.\n";
     expect_unless_rejected(&rt, b"0041", (1, b"", line))
 }
 
 // The room for the input is asked for before it is read: one request can be refused with no read.
 #[test]
-fn rejected_before_a_read(rt: HostRuntime) -> Result<(), Fail> {
+fn refused_before_a_read(rt: HostRuntime) -> Result<(), Fail> {
     let alloc = rt.alloc();
     let rt = &rt;
     let (mut out, mut err) = (Page::new(), Page::new());

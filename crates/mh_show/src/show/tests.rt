@@ -58,7 +58,7 @@ fn rejects_a_longer_digest(rt: HostRuntime) {
 const REFUSED: &str = "memory was refused";
 
 #[test]
-fn rejected_show(rt: HostRuntime) -> Result<(), Fail> {
+fn refused_show(rt: HostRuntime) -> Result<(), Fail> {
     let answer = show(rt.alloc(), b"1603AABBCC\n");
     let rt = &rt;
     match answer {
