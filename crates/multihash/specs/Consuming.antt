@@ -21,9 +21,25 @@ IsFrontError input e = (fault : VarintError) × IsVarintError fault e × BeginsM
 abbrev pub IsMalformed : List ℕ → Type 0
 IsMalformed input = (fault : VarintError) × BeginsMalformed fault input
 
+-- bytes of which P holds were consumed
+abbrev pub ConsumesSome : (List ℕ → Type 0) → Option (List ℕ) → Option (List ℕ) → Type 0
+ConsumesSome P old new = (bytes : List ℕ) × P bytes × Consumes old bytes new
+
 -- a varint of the number was consumed
 abbrev pub ConsumesVarint : ℕ → Option (List ℕ) → Option (List ℕ) → Type 0
-ConsumesVarint n old new = (bytes : List ℕ) × IsVarint n bytes × Consumes old bytes new
+ConsumesVarint n = ConsumesSome (IsVarint n)
+
+-- the first reading found a value, and the second went on from where it ended
+abbrev pub InTurn : {A : Type 0} → (First Second : A → Option (List ℕ) → Option (List ℕ) → Type 0)
+    → Option (List ℕ) → Option (List ℕ) → Type 0
+InTurn {A = A} First Second old new =
+    (value : A) × (between : Option (List ℕ)) × First value old between × Second value between new
+
+-- one of the two failed: the first, or the second after the first had found its value
+abbrev pub FailsInTurn : {A : Type 0} → (Option (List ℕ) → Option (List ℕ) → Type 0)
+    → (First SecondFails : A → Option (List ℕ) → Option (List ℕ) → Type 0)
+    → Option (List ℕ) → Option (List ℕ) → Type 0
+FailsInTurn FirstFails First SecondFails old new = FirstFails old new ⊎ InTurn First SecondFails old new
 
 -- an error of reading: a size that is too large, a malformed varint, or a truncated digest
 abbrev pub ReadMayFailWith : ℕ → Refusal → Type 0

@@ -1,11 +1,9 @@
 pub mod Outcome
 pub mod Bytes
 pub mod Comparing
-pub mod Encoded
 pub mod Encoding
 pub mod Fault
 pub mod Filling
-pub mod InTurn
 pub mod Json
 pub mod Members
 pub mod Pair

@@ -10,8 +10,8 @@ pub record Pair : Type 0 where
 
 -- the code is in range, and the digest is a list of bytes
 pub record IsPair (p : Pair) : Type 0 where
-  pub code : p.code < varint_limit
-  pub digest : IsBytes p.digest
+  pub in_range : p.code < varint_limit
+  pub are_bytes : IsBytes p.digest
 
 -- the most bytes of a digest in a buffer of this size
 abbrev pub digest_limit : ℕ → ℕ

@@ -1,6 +1,5 @@
 -- What a call consumed from a reader, and how it failed.
-use Rattle.std.specs.Prelude.{◌≡◌, ◌+◌, ◌<◌, ◌≤◌, ℕ, List, ◌⊎◌, length, take, drop, Option, Result, MatchResult, IfSome, IfOk, IfErr}
-use Rattle.std.specs.Prelude.{OnOk, OnErr, IsOk}
+use Rattle.std.specs.Prelude.{◌≡◌, ◌+◌, ◌<◌, ◌≤◌, ℕ, List, ◌⊎◌, length, take, drop, Option, Result, MatchResult, IfSome, IfOk, IfErr, OnOk, OnErr, IsOk}
 use Rattle.std.specs.Io.KnownBytes.{prepend_known, IsAtEnd}
 use Rattle.multihash.specs.Fault.{Fault, IsUnexpectedEof, IsOwnFault}
 

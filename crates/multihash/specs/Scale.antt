@@ -30,7 +30,8 @@ pub record HasScaleSize (size : ℕ) (input rest : List ℕ) : Type 0 where
   pub in_range : code < varint_limit
   pub cut : input ≡ code_bytes ++ size ∷ rest
 
--- the verdict of decoding on what begins with the input, for a buffer of size S; no varint is read
+-- the verdict of decoding on an input that starts with this one; no varint is read. The capacity is `S`, not
+-- `digest_limit S`, since the size is one byte, so at most 255
 abbrev pub HasScaleVerdict : ℕ → List ℕ → Verdict → Type 0
 HasScaleVerdict S input (accepted p) =
     (bytes : List ℕ) × (rest : List ℕ) × IsScale p bytes × (length p.digest ≤ S)

@@ -1,7 +1,7 @@
 -- `encoding_of` known pairs, which a definition with another order, digit or length fails.
 use Rattle.std.proofs.Common.{◌≡◌, [], ◌∷◌, replicate, refl}
 use Rattle.std.specs.Prelude.{codes}
-use Rattle.multihash.specs.Encoded.{varint_of, encoding_of}
+use Rattle.multihash.specs.Encoding.{varint_of, encoding_of}
 use Rattle.multihash.proofs.Examples.VarintVectors.{largest, largest_bytes}
 use Rattle.multihash.proofs.Examples.PairVectors.{pair}
 

@@ -17,13 +17,13 @@ limits : (digest_limit 0 ≡ 0) × (digest_limit 64 ≡ 64) × (digest_limit 255
 limits = (refl, refl, refl, refl)
 
 largest_code : IsPair (pair largest (0 ∷ 255 ∷ []))
-largest_code = record { code = omega arith; digest = all_below 256 (0 ∷ 255 ∷ []) refl }
+largest_code = record { in_range = omega arith; are_bytes = all_below 256 (0 ∷ 255 ∷ []) refl }
 
 no_larger_code : (digest : List ℕ) → ¬ (IsPair (pair too_large digest))
-no_larger_code digest h = omega (arith, h.code)
+no_larger_code digest h = omega (arith, h.in_range)
 
 no_digest_of_256 : (code : ℕ) → ¬ (IsPair (pair code (256 ∷ [])))
-no_digest_of_256 code h = let small = All-head (λ byte. byte < 256) 256 [] h.digest in omega (arith, small)
+no_digest_of_256 code h = let small = All-head (λ byte. byte < 256) 256 [] h.are_bytes in omega (arith, small)
 
 fits_exactly : FitsBuffer 4 (pair 0 (codes "abcd"))
 fits_exactly = omega arith

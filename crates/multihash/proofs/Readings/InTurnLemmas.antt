@@ -1,7 +1,7 @@
 -- Two readings, one after the other: who failed, and what both consumed.
 use Rattle.std.proofs.Common.{◌≡◌, ◌+◌, ℕ, ◌⊎◌, List, ◌++◌, Option, inl, inr, refl}
 use Rattle.multihash.specs.Reading.{Consumes}
-use Rattle.multihash.specs.InTurn.{ConsumesSome, InTurn}
+use Rattle.multihash.specs.Consuming.{ConsumesSome, InTurn}
 use Rattle.multihash.proofs.Readings.ReadingLemmas.{Consumes-concatenated}
 
 -- an error that `CountsReaderFailures` counts is one of those listed or the reader's own

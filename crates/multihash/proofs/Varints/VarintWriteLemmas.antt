@@ -9,7 +9,7 @@ use Rattle.std.proofs.lemmas.Bool.{cases_lt, lt-ltb, le-ltb}
 use Rattle.multihash.specs.Bytes.{place_value}
 use Rattle.multihash.specs.Varint.{varint_limit, max_continuation, continuation_bytes, IsVarint}
 use Rattle.multihash.proofs.Varints.DigitLemmas.{place_value-nil, place_value_last, IsDigit}
-use Rattle.multihash.specs.Encoded.{varint_within, varint_of}
+use Rattle.multihash.specs.Encoding.{varint_within, varint_of}
 
 -- that many digits were written, and the rest stands for those still to come
 pub record Wrote (now : List ℕ) (len n rest : ℕ) : Type 0 where
