@@ -11,7 +11,7 @@ use Rattle.multihash.specs.Writing.{AppendsPrefix, IsWriterFaultOrFull}
 use Rattle.multihash.specs.Refusal.{Refusal, IsIo, IsInvalidCode}
 use Rattle.multihash.specs.declared.no_std_io.slice_writer.SliceWriter.{SliceWriter}
 use Rattle.multihash.proofs.Writings.EncodingLemmas.{encoding_of_parts, length-parts, encoding_same}
-use Rattle.multihash.proofs.Writings.WritingLemmas.{slice_writer_has_room}
+use Rattle.multihash.proofs.Writings.WritingLemmas.{slice_writer_has_room, filled_slice}
 
 module _ (IsForm : Pair → List ℕ → Type 0) (p : Pair) (short : length p.digest ≤ 255) (small : p.code < varint_limit)
     (old new : List ℕ) (e : Encoded) (no_size : e.size ≡ 0)
@@ -72,4 +72,4 @@ pub stands_at_front : (buffer : List ℕ) (old new : SliceWriter) (bytes : List 
     → Fills old bytes new → new.buffer.now ≡ bytes ++ drop (length bytes) buffer
 stands_at_front buffer old new bytes none kept h =
     let from_front : length bytes ≡ old.filled + length bytes = omega (arith, none) in
-    rw (← kept, from_front) (h.fills.puts ∙ ap (λ n. take n old.buffer.now ++ (bytes ++ drop (old.filled + length bytes) old.buffer.now)) none)
+    rw (← kept, from_front) (filled_slice _ _ _ _ _ h.fills ∙ ap (λ n. take n old.buffer.now ++ (bytes ++ drop (old.filled + length bytes) old.buffer.now)) none)

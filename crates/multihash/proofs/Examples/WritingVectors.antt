@@ -216,31 +216,31 @@ full_with_no_place_alone : ¬ (WritesAll ([], 0) (1 ∷ 2 ∷ []) (1 ∷ [], 0) 
 full_with_no_place_alone h = omega (arith, (full_alone 0 0 (has_no_place (1 ∷ [], 0)) h.faults).1)
 
 fills_two : FillsSlice (7 ∷ 8 ∷ 9 ∷ 9 ∷ []) 1 (1 ∷ 2 ∷ []) (7 ∷ 1 ∷ 2 ∷ 9 ∷ []) 3
-fills_two = record { room = omega arith; puts = refl; count = refl }
+fills_two = record { appends = refl; advances = record { room = omega arith; left = refl }; count = refl }
 
 -- all places may be filled
 fills_all : FillsSlice (7 ∷ 8 ∷ []) 0 (1 ∷ 2 ∷ []) (1 ∷ 2 ∷ []) 2
-fills_all = record { room = omega arith; puts = refl; count = refl }
+fills_all = record { appends = refl; advances = record { room = omega arith; left = refl }; count = refl }
 
 -- there are no more places than the slice has
 fills_no_more : ¬ (FillsSlice (7 ∷ []) 0 (1 ∷ 2 ∷ []) (1 ∷ 2 ∷ []) 2)
-fills_no_more h = omega (arith, h.room)
+fills_no_more h = omega (arith, h.advances.room)
 
 -- what was written before stays
 fills_no_front : ¬ (FillsSlice (7 ∷ 8 ∷ []) 1 (1 ∷ []) (1 ∷ 8 ∷ []) 2)
-fills_no_front h = omega (arith, ap (λ (z : List ℕ). get_or z 0 0) h.puts)
+fills_no_front h = omega (arith, ap (λ (z : List ℕ). get_or z 0 0) h.appends)
 
 -- the places hold the bytes
 fills_with_no_other : ¬ (FillsSlice (7 ∷ 8 ∷ []) 1 (1 ∷ []) (7 ∷ 2 ∷ []) 2)
-fills_with_no_other h = omega (arith, ap (λ (z : List ℕ). get_or z 1 0) h.puts)
+fills_with_no_other h = omega (arith, ap (λ (z : List ℕ). get_or z 1 0) h.appends)
 
 -- the places after them stay
 fills_no_further : ¬ (FillsSlice (7 ∷ 8 ∷ 9 ∷ []) 0 (1 ∷ []) (1 ∷ 8 ∷ 0 ∷ []) 1)
-fills_no_further h = omega (arith, ap (λ (z : List ℕ). get_or z 2 0) h.puts)
+fills_no_further h = omega (arith, ap (λ (z : List ℕ). get_or z 1 0) h.advances.left)
 
 -- the slice keeps its places
 fills_cuts_none : ¬ (FillsSlice (7 ∷ 8 ∷ []) 0 (1 ∷ []) (1 ∷ []) 1)
-fills_cuts_none h = omega (arith, ap (λ (z : List ℕ). length z) h.puts)
+fills_cuts_none h = omega (arith, ap (λ (z : List ℕ). length z) h.advances.left)
 
 -- each byte is counted, once
 counts_no_fewer : ¬ (FillsSlice (7 ∷ 8 ∷ 9 ∷ []) 1 (1 ∷ 2 ∷ []) (7 ∷ 1 ∷ 2 ∷ []) 2)
@@ -254,14 +254,14 @@ fills_slice : (old new : SliceWriter) → new.buffer.ghost_name ≡ old.buffer.g
     → old.filled ≡ 1 → new.buffer.now ≡ 7 ∷ 1 ∷ [] → new.filled ≡ 2 → Fills old (1 ∷ []) new
 fills_slice old new same before from after to = record {
   same_slice = same;
-  fills = rw (before, from, after, to) (record { room = omega arith; puts = refl; count = refl });
+  fills = rw (before, from, after, to) (record { appends = refl; advances = record { room = omega arith; left = refl }; count = refl });
 }
 
 fills_slice_with_no_other : (old new : SliceWriter) → new.buffer.ghost_name ≡ old.buffer.ghost_name → old.buffer.now ≡ 7 ∷ 8 ∷ []
     → old.filled ≡ 1 → new.buffer.now ≡ 7 ∷ 6 ∷ [] → new.filled ≡ 2 → ¬ (Fills old (5 ∷ []) new)
 fills_slice_with_no_other old new same before from after to h =
     let filled : FillsSlice (7 ∷ 8 ∷ []) 1 (5 ∷ []) (7 ∷ 6 ∷ []) 2 = rw (sym before, sym from, sym after, sym to) h.fills in
-    omega (arith, ap (λ (z : List ℕ). get_or z 1 0) filled.puts)
+    omega (arith, ap (λ (z : List ℕ). get_or z 1 0) filled.appends)
 
 fills_slice_uncounted : (old new : SliceWriter) → new.buffer.ghost_name ≡ old.buffer.ghost_name → old.filled ≡ 1 → new.filled ≡ 1
     → ¬ (Fills old (1 ∷ []) new)

@@ -1,6 +1,7 @@
 -- What has been appended after several writes; a writer to a slice fails only if its capacity is too small.
 use Rattle.std.proofs.Common.{◌≡◌, ◌≢◌, ◌<◌, [], ◌∷◌, refl, ℕ, ◌-◌, List, ◌++◌, length, take, drop, Result, OnErr, sym, ap, ◌∙◌, arith, append_assoc, take-append-drop, length-append, length-drop, ◌≤◌, false, inl, inr, Ok, Err, IsOk, ◌+◌}
-use Rattle.std.proofs.lemmas.List.{take_rest, length-take-le}
+use Rattle.std.proofs.lemmas.List.{take_rest, length-take-le, drop-drop}
+use Rattle.std.proofs.Math.Seq.{drop-append_seam, take-append_seam}
 use Rattle.multihash.specs.Bytes.{IsStrictPrefix}
 use Rattle.multihash.specs.Writing.{AppendsPrefix, IsWriterFaultOrFull, CountsWriterFailures, AdvancesPast}
 use Rattle.multihash.proofs.OutcomeLemmas.{OnErr-always}
@@ -108,18 +109,45 @@ mut_slice_has_room appended a b IsForm old new (Err e) gives stopped faults enou
     let fewer = fewer_places old new stopped.0 h.part (gives h.part h.appends) h.strict none in
     absurd (omega (arith, fewer, enough stopped.0 stopped.1))
 
+-- the slice after filling it, as one list
+pub filled_slice : (old bytes new : List ℕ) (n m : ℕ) → FillsSlice old n bytes new m → new ≡ take n old ++ (bytes ++ drop (n + length bytes) old)
+filled_slice old bytes new n m h =
+    let rest : List ℕ = drop (n + length bytes) old in
+    let unchanged : drop m new ≡ rest = h.advances.left ∙ drop-drop (length bytes) n old in
+    sym (take-append-drop m new) ∙ ap (λ (z : List ℕ). z ++ drop m new) h.appends ∙ ap (λ (z : List ℕ). (take n old ++ bytes) ++ z) unchanged
+    ∙ append_assoc (take n old) bytes rest
+
+-- and a slice that is this list has been filled
+pub fills_slice : (old bytes new : List ℕ) (n m : ℕ) → n + length bytes ≤ length old → m ≡ n + length bytes
+    → new ≡ take n old ++ (bytes ++ drop (n + length bytes) old) → FillsSlice old n bytes new m
+fills_slice old bytes new n m room count puts =
+    let front : List ℕ = take n old ++ bytes in
+    let rest : List ℕ = drop (n + length bytes) old in
+    let parts : new ≡ front ++ rest = puts ∙ sym (append_assoc (take n old) bytes rest) in
+    let long : m ≡ length front = omega (arith, count, length-append (take n old) bytes, length-take-le n old (omega (arith, room))) in
+    record {
+      appends = rw (long, parts) (take-append_seam front rest);
+      advances = record {
+        room = omega (arith, room, length-drop n old);
+        left = rw (long, parts) (drop-append_seam front rest) ∙ sym (drop-drop (length bytes) n old);
+      };
+      count = count;
+    }
+
 -- filling keeps the length of the slice
 pub filled_length : (old bytes new : List ℕ) (n m : ℕ) → FillsSlice old n bytes new m → length new ≡ length old
 filled_length old bytes new n m h =
-    let rest : List ℕ = drop (n + length bytes) old in
     omega (
       arith,
-      ap length h.puts,
-      length-append (take n old) (bytes ++ rest),
-      length-append bytes rest,
-      length-take-le n old (omega (arith, h.room)),
-      length-drop (n + length bytes) old,
-      h.room,
+      ap length (take-append-drop m new),
+      length-append (take m new) (drop m new),
+      ap length h.appends,
+      length-append (take n old) bytes,
+      ap length h.advances.left,
+      length-drop (length bytes) (drop n old),
+      h.advances.room,
+      ap length (take-append-drop n old),
+      length-append (take n old) (drop n old),
     )
 
 -- the slice is full after a part of `bytes`, so less capacity was left than they need

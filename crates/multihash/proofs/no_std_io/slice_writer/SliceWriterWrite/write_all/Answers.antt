@@ -1,9 +1,17 @@
 use Rattle.std.proofs.Common.{[], rules, refl, arith}
 use Rattle.std.proofs.lemmas.Grind.{common_steps}
-use Rattle.multihash.proofs.Writings.WritingLemmas.{AppendsPrefix-take}
+use Rattle.multihash.proofs.Writings.WritingLemmas.{AppendsPrefix-take, filled_length}
 use Rattle.multihash.proofs.no_std_io.slice_writer.SliceWriterWrite.write_all.Goals as goal
 
 pub returns-else-branch-buf-clause-laws : goal.returns-else-branch-buf-clause-laws
 returns-else-branch-buf-clause-laws c =
+    let fills = c.in_ok-write.ensures.laws.ok.fills in
+    let kept = filled_length _ _ _ _ _ fills in
     let part = AppendsPrefix-take _ _ _ c.args.buf.now [] _ c.in_ok-write.field-0 refl (search rules) c.in_ok-write.ensures.laws.ok in
     record { ok = tt; empty = search rules; err = part; faults = grind (arith, common_steps) }
+
+pub returns-else-branch-buf-clause-filled : goal.returns-else-branch-buf-clause-filled
+returns-else-branch-buf-clause-filled c =
+    let fills = c.in_ok-write.ensures.laws.ok.fills in
+    let kept = filled_length _ _ _ _ _ fills in
+    grind (arith, common_steps)

@@ -1,0 +1,13 @@
+use Rattle.std.proofs.Common.{rules, refl, arith}
+use Rattle.std.proofs.lemmas.Grind.{common_steps}
+use Rattle.multihash.proofs.Writings.WritingLemmas.{fills_slice}
+use Rattle.multihash.proofs.no_std_io.slice_writer.SliceWriterWrite.write.Goals as goal
+
+pub returns-clause-laws : goal.returns-clause-laws
+returns-clause-laws c = record {
+  count = search rules;
+  ok = record { same_slice = search rules; fills = fills_slice _ _ _ _ _ (search rules) (search rules) (grind (arith, common_steps)) };
+  stuck = search rules;
+  err = tt;
+  faults = refl;
+}
