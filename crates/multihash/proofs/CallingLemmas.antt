@@ -29,7 +29,7 @@ use Rattle.multihash.proofs.Forms.ScaleLemmas.{scale_split, scale_verdict_unique
 use Rattle.multihash.proofs.Forms.StreamLemmas.{none_left, first_of, same_first, concatenated_unique}
 use Rattle.multihash.proofs.Writings.EncodingLemmas.{same_cut, encoding_same, encoding_unique}
 
--- what follows some encodings begins with the next, where those of more pairs begin the input
+-- what follows some encodings starts with the next, if those of more pairs are at the front of the input
 next_concatenated : (S : ℕ) (qs ps : List Pair) (b a rest more : List ℕ) → AreConcatenated qs b → AreConcatenated ps a → All (FitsBuffer S) ps
     → length qs < length ps → b ++ rest ≡ a ++ more → (p : Pair) × HasVerdict S rest (accepted p)
 next_concatenated S qs [] b a rest more h k fit less e = absurd (omega arith)
@@ -43,7 +43,7 @@ next_concatenated S (q ∷ qs) (p ∷ ps) b a rest more h k fit less e =
     let first = same_first q p qs ps b a rest more x y e in
     next_concatenated S qs ps x.1 y.1 rest more x.3 y.3 (All-tail (FitsBuffer S) p ps fit) (omega arith) first.1
 
--- reading a stream of that many pairs did not stop at an error
+-- reading that many pairs of a stream did not stop at an error
 pub never_stops : (S count : ℕ) (e : Refusal) (n : ℕ) (new : Option (List ℕ)) (pairs : List Pair) (bytes more : List ℕ)
     → AreConcatenated pairs bytes → All (FitsBuffer S) pairs → length pairs ≡ count
     → StopsAfterPairs S count e n n (Some (bytes ++ more)) new → ⊥
@@ -53,7 +53,7 @@ never_stops S count e n new pairs bytes more concatenated fit many stop =
     let found = (rw is at stop.verdict) refl in
     subst (IsErrorOf e) (verdict_unique S left found.0 (accepted next.0) found.1 next.1) found.2
 
--- reading a stream of that many pairs gives them and leaves what follows, or there was no memory
+-- reading that many pairs of a stream returns them and leaves what follows, or it is out of memory
 pub read_list_of_encodings : (S count before after : ℕ) (old new : Option (List ℕ)) (pairs : List Pair) (bytes more : List ℕ)
     (r : Result (Vec (Fields S) Global) Refusal) → AreConcatenated pairs bytes → All (FitsBuffer S) pairs → length pairs ≡ count
     → old ≡ Some (bytes ++ more) → after ≡ before
@@ -70,7 +70,7 @@ read_list_of_encodings S count before after old new pairs bytes more (Err e) con
     absurd (never_stops S count e before new pairs bytes more concatenated fit many
     (subst (λ o. StopsAfterPairs S count e before before o new) rest (subst (λ n. StopsAfterPairs S count e before n old new) same stop)))
 
--- a form is written to a slice if its capacity suffices; otherwise the slice is full then
+-- a form is written to a slice if its capacity suffices; otherwise the slice is full afterwards
 module _ {W : Type 0} (appended : W → List ℕ → W → Type 0) (a b : W) (IsForm : List ℕ → Type 0) (old new : List ℕ)
     (gives : (part : List ℕ) → appended a part b → AdvancesPast old part new) where
   pub filled : {T : Type 0} (r : Result T Refusal) (is_whole : Bool) → is_whole ≡ is_ok r
@@ -95,7 +95,7 @@ module _ {W : Type 0} (appended : W → List ℕ → W → Type 0) (a b : W) (Is
         omega (arith, fewer, ap length none),
       )
 
--- `write` succeeds through a slice's writer that is new, if the slice has the capacity that `encoded_len` returns: the
+-- `write` succeeds through a new `SliceWriter` if the slice has the capacity that `encoded_len` returns: the
 -- facts are the clauses of `encoded_len` and of `SliceWriter::new`, and `err` and `faults` of `write`
 pub write_of_encoded_len : {T : Type 0} {buffer : List ℕ} (old new : SliceWriter) (p : Pair) (len : ℕ) (r : Result T Refusal)
     → (bytes : List ℕ) × IsEncoding p bytes × (len ≡ length bytes) → len ≤ length buffer
@@ -106,7 +106,7 @@ write_of_encoded_len old new p len r (own, is_own, long) room empty kept stopped
     slice_writer_has_room old new (IsEncoding p) r stopped faults
     (λ bytes is_form. omega (arith, room, long, empty, ap length kept, ap length (encoding_same p own bytes is_own is_form)))
 
--- decoding a pair's SCALE form and more gives the pair and leaves what follows
+-- decoding a pair's SCALE form and more returns the pair and leaves what follows
 pub scale_pair : (S : ℕ) (p q : Pair) (input bytes consumed more left : List ℕ) (v : Verdict) → input ≡ bytes ++ more → IsScale p bytes
     → FitsBuffer S p → HasScaleVerdict S input v → v ≡ accepted q → IsScale q consumed → input ≡ consumed ++ left → (q ≡ p) × (left ≡ more)
 scale_pair S p q input bytes consumed more left v whole form fits found answers is_taken cut =
@@ -118,7 +118,7 @@ pub scale_taken : (S : ℕ) (p : Pair) (input bytes more : List ℕ) (v : Verdic
 scale_taken S p input bytes more v e whole form fits found refused =
     subst (IsErrorOf e) (scale_verdict_unique S input v (accepted p) found (bytes, more, form, omega arith, whole)) refused
 
--- reading where a pair's encoding comes next gives the pair and leaves what follows
+-- if a pair's encoding comes next, reading returns the pair and leaves what follows
 pub read_of_encoding : (S before after : ℕ) (old new : Option (List ℕ)) (p : Pair) (bytes more : List ℕ) (r : Result (Fields S) Refusal)
     → IsEncoding p bytes → FitsBuffer S p → old ≡ Some (bytes ++ more) → after ≡ before
     → IfSome old (λ rest. after ≡ before → (v : Verdict) × HasVerdict S rest v × IsResultOf r v)
@@ -159,7 +159,7 @@ takes_some S old new consumed =
     (inl (record { few = omega arith; all_continuation = All-nil IsContinuation })) (subst (Settles S) none consumed.shortest.settles)) in
     omega (arith, some, ap length (Consumes-cut old consumed.front new consumed.consumes), length-append consumed.front new)
 
--- reading the varint that comes next gives its number and leaves what follows
+-- if a varint comes next, reading it returns its number and leaves what follows
 pub varint_read : (n before after : ℕ) (old new : Option (List ℕ)) (bytes more : List ℕ) (r : Result ℕ Refusal)
     → IsVarint n bytes → old ≡ Some (bytes ++ more) → after ≡ before
     → IfOk r (λ m. ConsumesVarint m old new)
@@ -173,7 +173,7 @@ varint_read n before after old new bytes more (Err e) is rest same ok front =
     let met = (rw rest at front) same in
     number_no_fault (bytes ++ more) n more met.0 (bytes, is, refl) met.2
 
--- filling a buffer where as many bytes come next gives them and leaves what follows
+-- if as many bytes as the buffer holds come next, `read_exact` fills it with them and leaves what follows
 pub read_exact_of_bytes : {A : Type 0} (n before after : ℕ) (old new : Option (List ℕ)) (filled bytes more : List ℕ) (r : Result A Fault)
     → old ≡ Some (bytes ++ more) → length bytes ≡ n → length filled ≡ n → after ≡ before → CountsReaderFailures IsOwnFault IsUnexpectedEof before after r
     → OnOk r (Consumes old filled new) → IfErr r (λ e. IsUnexpectedEof e → HasFewerThan n old)
@@ -189,8 +189,8 @@ read_exact_of_bytes n before after (Some input) new filled bytes more (Err e) re
     let spelled : input ≡ bytes ++ more = cc in
     omega (arith, eof ended.1, ap (λ (z : List ℕ). length z) spelled, length-append bytes more, long)
 
--- the loop's invariant: if what is left is some parts, the whole is these and those that were found; and no more parts
--- were rejected than bytes were consumed
+-- the loop's invariant: if the remaining input is some parts, the whole is these after those found so far;
+-- and at most as many parts were rejected as bytes were consumed
 pub record ReadsOn (Parts : List ℕ → List Pair → ℕ → Type 0) (whole : List ℕ) (pairs : List Pair) (count : ℕ) (left : List ℕ) : Type 0 where
   pub few : count + length left ≤ length whole
   pub on : (more : List Pair) (n : ℕ) → Parts left more n → Parts whole (pairs ++ more) (count + n)
@@ -214,8 +214,8 @@ module _ {Parts : List ℕ → List Pair → ℕ → Type 0} {whole : List ℕ} 
             (sym (ap (λ z. z ++ more) pairs ∙ append_assoc (map pair_of items) (pair_of m ∷ []) more)) found;
       }
 
-  -- `read` rejected a part, and more input could not help: the facts are its clauses `verdict` and `settled`, and
-  -- `early` of `is_incomplete`. The stream became shorter
+  -- `read` rejected a part, and the verdict is not incomplete: the facts are its clauses `verdict` and
+  -- `settled`, and `early` of `is_incomplete`. The remaining input became shorter
   pub one_more_rejected : {S : ℕ} {pairs : List Pair} {new : List ℕ} {e : Refusal} {early : Bool}
       → ((v : Verdict) (front rest : List ℕ) (pairs : List Pair) (n : ℕ) → HasVerdict S (front ++ rest) v → ¬ (IsIncomplete v)
       → IsShortestSettling S (front ++ rest) front → Parts rest pairs n → Parts (front ++ rest) pairs (n + 1))
@@ -239,7 +239,7 @@ module _ {Parts : List ℕ → List Pair → ℕ → Type 0} {whole : List ℕ} 
         },
       )
 
-  -- the input ended early: that is the last part
+  -- the remaining input is incomplete: it is the last part
   pub ended_early : {pairs : List Pair} {e : Refusal} {early : Bool} (S : ℕ)
       → ((v : Verdict) (input : List ℕ) → HasVerdict S input v → IsIncomplete v → Parts input [] 1)
       → ReadsOn Parts whole pairs count left
@@ -249,7 +249,7 @@ module _ {Parts : List ℕ → List Pair → ℕ → Type 0} {whole : List ℕ} 
   ended_early {pairs = pairs} S cut so_far (v, has, names) told is_true =
       subst (λ z. Parts whole z (count + 1)) (append-nil pairs) (so_far.on [] 1 (cut v left has ((told v names).0 is_true)))
 
-  -- nothing is left
+  -- no input remains
   pub read_through : {pairs : List Pair} → Parts [] [] 0 → ReadsOn Parts whole pairs count left → length left ≡ 0 → Parts whole pairs count
   read_through {pairs = pairs} ended so_far none =
       let empty = subst (λ z. Parts z [] 0) (sym (nil_from_length left none)) ended in

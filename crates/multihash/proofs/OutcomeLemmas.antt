@@ -1,23 +1,23 @@
--- What holds of the outcome where a `?` passes an error on.
+-- What holds of the result if a `?` passes an error on.
 use Rattle.std.proofs.Common.{◌≡◌, Result, Ok, Err, IfOk, MatchResult, OnOk, OnErr, sym, subst}
 use Rattle.std.specs.Result.{IsErrAnd}
 
--- the error that is returned is the one that was met, and what holds of that one holds of it
+-- the returned error is the one that was passed on, so what holds of that one holds of it
 pub passed_on : {T E : Type 0} (r : Result T E) (e : E) (Q : T → Type 0) (P : E → Type 0) → IsErrAnd r (λ x. x ≡ e) → P e → MatchResult r Q P
 passed_on (Ok t) e Q P given p = absurd given
 passed_on (Err x) e Q P given p = subst P (sym given) p
 
--- a fact that holds anyway holds at an Err
+-- a fact that always holds is a fact for the case Err
 pub OnErr-always : {T E P : Type 0} (r : Result T E) → P → OnErr r P
 OnErr-always (Ok x) p = tt
 OnErr-always (Err e) p = p
 
--- IfOk, read as OnOk
+-- a fact about the value of an Ok gives one for the case Ok
 pub OnOk-from_IfOk : {T E P : Type 0} {Q : T → Type 0} (r : Result T E) → IfOk r Q → ((t : T) → Q t → P) → OnOk r P
 OnOk-from_IfOk (Ok t) known follows = follows t known
 OnOk-from_IfOk (Err e) known follows = tt
 
--- what is promised of an error that was met holds of the outcome that passes it on
+-- what is known of an error holds of the result that passes it on
 pub passed_err : {T E : Type 0} (P : Result T E → Type 0) (r : Result T E) (e : E) → IsErrAnd r (λ x. x ≡ e) → P (Err e) → P r
 passed_err P (Ok t) e given p = absurd given
 passed_err P (Err x) e given p = subst (λ y. P (Err y)) (sym given) p

@@ -41,7 +41,6 @@ Fills-none w = record { same_slice = refl; fills = FillsSlice-none w.buffer.now 
 pub Fills-concatenated : (a b c : SliceWriter) (x y : List ℕ) → Fills a x b → Fills b y c → Fills a (x ++ y) c
 Fills-concatenated a b c x y first second = record {
   same_slice = second.same_slice ∙ first.same_slice;
-  fills =
-      FillsSlice-concatenated a.buffer.now b.buffer.now c.buffer.now x y a.filled b.filled c.filled first.fills
-      second.fills;
+  fills = FillsSlice-concatenated a.buffer.now b.buffer.now c.buffer.now x y
+      a.filled b.filled c.filled first.fills second.fills;
 }

@@ -24,11 +24,12 @@ byte_of_data (string _) = None
 byte_of_data (array _) = None
 byte_of_data (object _) = None
 
+-- the byte and then the others, or nothing if there is no byte
 abbrev pub byte_then : Option ℕ → List ℕ → List ℕ
 byte_then None bytes = []
 byte_then (Some byte) bytes = byte ∷ bytes
 
--- the bytes of the values up to the first that is none
+-- the bytes of the values up to the first that is no byte
 abbrev pub leading_bytes : List Data → List ℕ
 leading_bytes [] = []
 leading_bytes (d ∷ ds) = byte_then (byte_of_data d) (leading_bytes ds)

@@ -5,7 +5,7 @@ use Rattle.multihash.specs.Pair.{Pair, digest_limit}
 use Rattle.multihash.specs.Verdict.{Verdict, accepted, invalid_size, invalid_code, malformed, unexpected_eof}
 use Rattle.multihash.specs.Refusal.{Refusal, IsEof, IsInvalidSize, IsInvalidCode, IsVarintError}
 
--- the fields of a multihash: the code, the digest's size, and the buffer of S bytes, which begins with
+-- the fields of a multihash: the code, the digest's size, and the buffer of S bytes, which starts with
 -- the digest. That the code is in range and the digest fits is part of the value itself, so that it is
 -- known of a value that nothing has read yet
 pub record Fields (S : ℕ) : Type 0 where

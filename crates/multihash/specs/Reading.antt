@@ -3,8 +3,8 @@ use Rattle.std.specs.Prelude.{◌≡◌, ◌+◌, ◌<◌, ◌≤◌, ℕ, List,
 use Rattle.std.specs.Io.KnownBytes.{prepend_known, IsAtEnd}
 use Rattle.multihash.specs.Fault.{Fault, IsUnexpectedEof, IsOwnFault}
 
--- a call consumed `taken`: the rest was `taken` followed by the rest now. A reader whose input is not
--- known stays so
+-- a call consumed these bytes: the rest was these, followed by the rest now. An input that is not known
+-- stays so
 abbrev pub Consumes : Option (List ℕ) → List ℕ → Option (List ℕ) → Type 0
 Consumes old consumed new = old ≡ prepend_known consumed new
 

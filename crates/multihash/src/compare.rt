@@ -36,7 +36,8 @@ impl<const S: usize> Multihash<S> {
         self.size == 0 || self.same_few(other)
     }
 
-    // The same for fewer bytes. It takes the values, so that the other path computes no address for it.
+    // The same for fewer bytes. Its parameters are the values, so that the other paths compute no address
+    // for it.
     #[inline(never)]
     fn same_few<const B: usize>(&self, other: &Multihash<B>) -> bool
         ensures { result ≡ pointwise ◌==◌ (pair_of self.now).digest (pair_of other.now).digest }
@@ -62,7 +63,7 @@ impl<const S: usize> Multihash<S> {
         self.order_of_few(other)
     }
 
-    // How fewer bytes compare. Like `same_few` it takes the values and stays a call.
+    // How fewer bytes compare. As of `same_few`, the parameters are the values.
     #[inline(never)]
     fn order_of_few(&self, other: &Self) -> Ordering
         ensures { result ≡ slice_cmp nat_cmp (pair_of self.now).digest (pair_of other.now).digest }
@@ -123,7 +124,7 @@ impl<const S: usize> PartialOrd for Multihash<S> {
     }
 }
 
-/// Feeds the hasher what the pair of the code and the digest, `(u64, &[u8])`, feeds it.
+/// Hashes as the pair of the code and the digest, `(u64, &[u8])`, does.
 impl<const S: usize> Hash for Multihash<S> {
     ghost hash_input = { λ m. hashed_pair (pair_of m) };
 

@@ -183,7 +183,7 @@ impl From<AllocError> for Error {
     }
 }
 
-/// So that `?` works after `v.push(x)`. The value that was not stored is dropped.
+/// Makes `?` work after `v.push(x)`. The value that was not stored is dropped.
 impl<T: Drop> From<AllocFailed<T>> for Error {
     ghost from_gives = { λ _ e. IsOutOfMemory e };
 
@@ -192,7 +192,7 @@ impl<T: Drop> From<AllocFailed<T>> for Error {
     }
 }
 
-// Not `write!`, whose contract says nothing if a width or a precision is given.
+// Not by `write!`, whose contract states nothing if a width or a precision is given.
 fn write_number_text<W: fmt::Write>(
     f: &mut fmt::Formatter<W>,
     front: &str,

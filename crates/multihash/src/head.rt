@@ -24,8 +24,11 @@ impl Head {
     ///
     /// # Errors
     ///
-    /// [`Error::is_insufficient`], [`Error::is_overflow`] or [`Error::is_not_minimal`] if one of the
-    /// varints is malformed. `from_bytes` and `read` return the same error for every capacity.
+    /// - [`Error::is_insufficient`] if the bytes end within or before a varint.
+    /// - [`Error::is_overflow`] if a varint has more than nine bytes (2^63 or more).
+    /// - [`Error::is_not_minimal`] if a varint of more than one byte ends in a zero byte.
+    ///
+    /// `from_bytes` and `read` return the same error for every capacity.
     #[inline(always)]
     pub fn read_front(bytes: &[u8]) -> Result<Self, Error>
         ensures ok { IfOk result (λ h. HasHead h.code h.digest_len h.digest_offset bytes.now) }

@@ -39,8 +39,9 @@ impl<const S: usize> Multihash<S> {
     ///
     /// # Errors
     ///
-    /// [`Error::is_not_bytes`] for any value other than an array whose members are all held as whole
-    /// numbers from 0 to 255 (`1.0` is not); otherwise the errors of [`Multihash::from_bytes`].
+    /// - [`Error::is_not_bytes`] unless the value is an array whose members are all held as whole
+    ///   numbers from 0 to 255 (`1.0` is not).
+    /// - Otherwise the errors of [`Multihash::from_bytes`].
     pub fn from_value(value: &Value) -> Result<Self, Error>
         ensures verdict { (bytes : List ℕ) → IsByteArray (view value.now) bytes →
             (v : Verdict) × HasWholeVerdict S bytes v × IsResultOf result v }
@@ -189,7 +190,7 @@ fn put_bytes(members: &[Value], buffer: &mut [u8])
     }
 }
 
-// A reader with known input, its members' bytes, which never fails.
+// The input is known, the bytes of the members, and the reader never fails.
 fn array_reader(m: &ByteMembers)
     ensures rest { ⟦<ByteMembers<'static> as Read>⟧.rest m.now
         ≡ Some (member_bytes m.now.left.now) }

@@ -41,9 +41,9 @@ pub fn write_list<const S: usize, W: Write>(items: &[Multihash<S>], w: &mut W) -
 ///
 /// # Errors
 ///
-/// [`Error::io`] if out of memory, before anything was read (always, for a `count` too large to
-/// allocate); otherwise the first error of [`Multihash::read`]. The encodings before it were consumed
-/// then, and what the failed call consumed; the values that were read are dropped.
+/// - [`Error::io`] if out of memory, always for a `count` too large to allocate; nothing was read.
+/// - Otherwise the first error of [`Multihash::read`]; the encodings before it were consumed, and what
+///   the failed call consumed. The values that were read are dropped.
 pub fn read_list<const S: usize, R: Read>(
     alloc: Global,
     r: &mut R,

@@ -158,8 +158,8 @@ impl<const S: usize> Multihash<S> {
         Ok(resized)
     }
 
-    /// Returns the code, an array of `S` bytes that begins with the digest and is zero after it, and
-    /// the digest's length in bytes.
+    /// Returns the code, an array of `S` bytes that has the digest and then zeros, and the digest's
+    /// length in bytes.
     pub fn into_inner(self) -> (u64, [u8; S], u8)
         ensures code { result.0 ≡ (pair_of self.entry).code }
         ensures array { result.1 ≡ (pair_of self.entry).digest
@@ -261,7 +261,7 @@ impl<const S: usize> Default for Multihash<S> {
     }
 }
 
-// The first `len` bytes. Of a slice that is passed in, the numbers are known to be bytes.
+// The first `len` bytes. A slice that is passed in is known to hold bytes.
 #[inline(always)]
 fn front(bytes: &[u8], len: usize) -> &[u8]
     requires { len ≤ length bytes.now }

@@ -91,8 +91,9 @@ pub fn write<W: Write>(n: u64, w: &mut W) -> Result<usize, Error>
 ///
 /// # Errors
 ///
-/// [`Error::is_insufficient`], [`Error::is_overflow`] or [`Error::is_not_minimal`] if the varint is
-/// malformed.
+/// - [`Error::is_insufficient`] if the bytes end within or before the varint.
+/// - [`Error::is_overflow`] if the varint has more than nine bytes (2^63 or more).
+/// - [`Error::is_not_minimal`] if a varint of more than one byte ends in a zero byte.
 pub fn read_front(bytes: &[u8]) -> Result<(u64, usize), Error>
     ensures ok { IfOk result (λ found. IsVarint found.0 (take found.1 bytes.now)
         × (found.1 ≤ length bytes.now)) }

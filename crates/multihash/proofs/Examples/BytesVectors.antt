@@ -5,7 +5,7 @@ use Rattle.std.proofs.lemmas.Bool.{ltb-true, and_parts}
 use Rattle.std.proofs.lemmas.List.Elements.{All-nil, All-cons}
 use Rattle.multihash.specs.Bytes.{IsBytes, IsPrefix, IsStrictPrefix, place_value, ExactlyOne}
 
--- each fact by computing
+-- each fact is computed
 pub all_below : (bound : ℕ) (xs : List ℕ) → list_all (λ x. ltb x bound) xs ≡ true → All (λ x. x < bound) xs
 all_below bound [] e = All-nil (λ x. x < bound)
 all_below bound (x ∷ xs) e =
@@ -53,9 +53,10 @@ begins_no_shorter_properly (rest, some, cut) = omega (arith, ap (λ (z : List �
 nothing_begins_properly : IsStrictPrefix [] (1 ∷ [])
 nothing_begins_properly = (1 ∷ [], (λ e. omega (arith, ap (λ (z : List ℕ). length z) e)), refl)
 
--- ---- the lowest digit comes first, in both bases
+-- ---- place values: the lowest digit first, in both bases
 
-values : (place_value 128 (44 ∷ 2 ∷ []) ≡ 300) × (place_value 256 (1 ∷ 2 ∷ 3 ∷ []) ≡ 197121) × (place_value 128 (0 ∷ 0 ∷ 1 ∷ []) ≡ 16384)
+values : (place_value 128 (44 ∷ 2 ∷ []) ≡ 300) × (place_value 256 (1 ∷ 2 ∷ 3 ∷ []) ≡ 197121)
+    × (place_value 128 (0 ∷ 0 ∷ 1 ∷ []) ≡ 16384)
     × (place_value 128 [] ≡ 0)
 unfolding place_value
 values = (refl, refl, refl, refl)
@@ -65,7 +66,7 @@ values = (refl, refl, refl, refl)
 one_three : ExactlyOne (λ (n : ℕ). n ≡ 3)
 one_three = record { value = 3; holds = refl; only = λ other same. same }
 
--- two values are not one
+-- two different values are not exactly one
 two_are_not_one : ¬ (ExactlyOne (λ (n : ℕ). n < 2))
 two_are_not_one h = omega (arith, h.only 0 (omega arith), h.only 1 (omega arith))
 

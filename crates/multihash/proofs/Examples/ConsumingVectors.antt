@@ -22,7 +22,8 @@ use Rattle.multihash.proofs.Examples.VerdictVectors.{empty_input, code_alone, di
 varint_refusal : IsAnyVarintError (of_varint overflow)
 varint_refusal = (overflow, refl)
 
-no_other_varint_refusal : ((n : ℕ) → ¬ (IsAnyVarintError (of_size n))) × ((n : ℕ) → ¬ (IsAnyVarintError (of_code n))) × ¬ (IsAnyVarintError (of_io eof))
+no_other_varint_refusal : ((n : ℕ) → ¬ (IsAnyVarintError (of_size n)))
+    × ((n : ℕ) → ¬ (IsAnyVarintError (of_code n))) × ¬ (IsAnyVarintError (of_io eof))
 no_other_varint_refusal = ((λ n (f, e). cc), (λ n (f, e). cc), λ (f, e). cc)
 
 padded_front : BeginsMalformed not_minimal (0x80 ∷ 0x00 ∷ [])
@@ -31,19 +32,19 @@ padded_front = record { front = 0x80 ∷ []; rest = []; all_continuation = all_c
 front_refusal : IsFrontError (0x80 ∷ 0x00 ∷ []) (of_varint not_minimal)
 front_refusal = (not_minimal, refl, padded_front)
 
--- the fault that is named is the input's
+-- the error is that of the input
 no_other_front_refusal : ¬ (IsFrontError (0x80 ∷ 0x00 ∷ []) (of_varint overflow))
 no_other_front_refusal (f, e, has) =
     let same : fault f ≡ fault not_minimal =
     front_unique (0x80 ∷ 0x00 ∷ []) (fault f) (fault not_minimal) has padded_front in
     cc
 
--- and is named
+-- and states it
 no_size_is_front_refusal : ¬ (IsFrontError (0x80 ∷ 0x00 ∷ []) (of_size 0))
 no_size_is_front_refusal (f, e, has) = cc
 
--- the errors of `read` into four bytes: a code has no number that is too large, an own fault is passed on and
--- rejects nothing, and no writer and no value is there
+-- the errors of `read` for capacity 4: no code is too large, an error of the reader itself is not listed, and
+-- there is no writer and no JSON value
 abbrev ReadRejects : Refusal → Type 0
 ReadRejects (of_io own) = IsUnexpectedEof own
 ReadRejects (of_size size) = 4 < size
@@ -63,7 +64,7 @@ read_rejects_only e (inl (size, is, large)) = subst ReadRejects (sym is) large
 read_rejects_only e (inr (inl (f, is))) = subst ReadRejects (sym is) tt
 read_rejects_only e (inr (inr (own, is, kind))) = subst ReadRejects (sym is) kind
 
--- however large the buffer
+-- however large the capacity
 read_rejects_256 : ReadMayFailWith 300 (of_size 256)
 read_rejects_256 = inl (256, refl, omega arith)
 
@@ -77,7 +78,7 @@ takes_no_other_varint (bytes, is, consumes) =
     not_another 6 5 (5 ∷ []) varint_5 (λ e. omega (arith, e))
     (subst (IsVarint 6) (taken_is (5 ∷ []) (9 ∷ []) bytes consumes) is)
 
--- nothing more is consumed
+-- no more is consumed
 takes_varint_alone : ¬ (ConsumesVarint 5 (Some (5 ∷ 9 ∷ [])) (Some []))
 takes_varint_alone (bytes, is, consumes) =
     omega (
@@ -94,7 +95,7 @@ not_insufficient h =
     front_unique (0x80 ∷ 0x00 ∷ []) (fault insufficient) (fault not_minimal) h padded_front in
     cc
 
--- nothing gives back more than there was
+-- no more is left than there was
 pub gives_none_back : (consumed : List ℕ) → ¬ (Consumes (Some []) consumed (Some (7 ∷ [])))
 gives_none_back [] h = omega (arith, ap (λ (o : Option (List ℕ)). length (told o)) h)
 gives_none_back (b ∷ consumed) h = omega (arith, ap (λ (o : Option (List ℕ)). length (told o)) h)
@@ -111,7 +112,7 @@ none_is_insufficient = record { few = omega arith; all_continuation = all_contin
 one_continuation_is_insufficient : IsInsufficient (0x80 ∷ [])
 one_continuation_is_insufficient = record { few = omega arith; all_continuation = all_continuation (0x80 ∷ []) refl }
 
--- an input begins with a varint or with one fault
+-- an input has at its front a varint or one that is malformed in one way
 pub begins_no_varint : IsMalformed (0x80 ∷ [])
 begins_no_varint = (insufficient, one_continuation_is_insufficient)
 
@@ -155,7 +156,7 @@ ends_inside_varint = record {
 varint_takes_its_own : ¬ (ConsumesAtVarintError (of_varint insufficient) (Some []) (Some (7 ∷ [])))
 varint_takes_its_own h = gives_none_back h.consumed h.consumes
 
--- the bytes that were consumed show the fault
+-- the consumed bytes show that the varint is malformed
 shows_no_other_fault : ¬
     (ConsumesAtVarintError (of_varint overflow) (Some (0x80 ∷ 0x00 ∷ [])) (Some []))
 shows_no_other_fault h =
@@ -179,7 +180,7 @@ insufficient_takes_all : ¬
     (ConsumesAtVarintError (of_varint insufficient) (Some (0x80 ∷ 0x80 ∷ [])) (Some (0x80 ∷ [])))
 insufficient_takes_all h = omega (arith, ap (λ (z : List ℕ). length z) (h.all refl))
 
--- a reader that fails after the varint's last byte is not called
+-- a reader is not called after the varint's last byte
 fails_not_after_varint : ¬ (ConsumesAtVarintError (of_io other) (Some (0x80 ∷ 0x00 ∷ [])) (Some []))
 fails_not_after_varint h =
     not_insufficient
@@ -199,8 +200,9 @@ digest_missing : HasVerdict 4 (0 ∷ 4 ∷ []) unexpected_eof
 digest_missing =
     (4, [], record { code = 0; code_bytes = 0 ∷ []; size_bytes = 4 ∷ []; is_code = varint_0; is_size = varint_4; cut = refl }, omega arith, omega arith)
 
--- what has a verdict that stays has no early end
-not_early : (a consumed : List ℕ) (v w : Verdict) → Consumes (Some (a ++ [])) consumed (Some []) → HasVerdict 4 a w → ¬ (IsIncomplete w)
+-- an input whose verdict is not incomplete has no incomplete one
+not_early : (a consumed : List ℕ) (v w : Verdict) → Consumes (Some (a ++ [])) consumed (Some [])
+    → HasVerdict 4 a w → ¬ (IsIncomplete w)
     → HasVerdict 4 consumed v → ¬ (IsIncomplete v)
 not_early a consumed v w consumes late stays h early =
     stays (subst IsIncomplete (verdict_unique 4 a v w (subst (λ (z : List ℕ). HasVerdict 4 z v) (taken_is a [] consumed consumes) h) late) early)
@@ -214,7 +216,7 @@ ends_inside_digest = record {
   failed = λ own. (unexpected_eof, tt, digest_cut);
 }
 
--- the digest's bytes may be left
+-- bytes of the digest may remain
 leaves_a_cut_digest : ConsumesAtError 4 (of_io eof) (Some (0 ∷ 4 ∷ 1 ∷ 2 ∷ 3 ∷ []))
     (Some (1 ∷ 2 ∷ 3 ∷ []))
 leaves_a_cut_digest = record {
@@ -228,18 +230,18 @@ leaves_a_cut_digest = record {
 read_takes_its_own : ¬ (ConsumesAtError 4 (of_varint insufficient) (Some []) (Some (7 ∷ [])))
 read_takes_its_own h = gives_none_back h.consumed h.consumes
 
--- what was consumed is insufficient itself
+-- the consumed bytes are insufficient by themselves
 insufficient_after_no_size : ¬
     (ConsumesAtError 4 (of_varint insufficient) (Some (0 ∷ 5 ∷ [])) (Some []))
 insufficient_after_no_size h =
     not_early (0 ∷ 5 ∷ []) h.consumed (malformed insufficient) (invalid_size 5) h.consumes size_above_limit (λ e. e) (h.insufficient refl).0 tt
 
--- and all of the input
+-- and they are all of the input
 insufficient_leaves_none : ¬
     (ConsumesAtError 4 (of_varint insufficient) (Some (0x80 ∷ [])) (Some (0x80 ∷ [])))
 insufficient_leaves_none h = omega (arith, ap (λ (z : List ℕ). length z) (h.insufficient refl).1)
 
--- both varints of a truncated digest were consumed
+-- both varints before a truncated digest were consumed
 ends_not_inside_varint : ¬ (ConsumesAtError 4 (of_io eof) (Some (0 ∷ [])) (Some []))
 ends_not_inside_varint h =
     let same : unexpected_eof ≡ malformed insufficient =
@@ -248,7 +250,7 @@ ends_not_inside_varint h =
     (h.eof (eof, refl, refl))) code_alone in
     cc
 
--- a reader that fails after what settles is not called
+-- a reader is not called after the bytes that settle
 fails_not_after_size : ¬ (ConsumesAtError 4 (of_io other) (Some (0 ∷ 5 ∷ [])) (Some []))
 fails_not_after_size h =
     let (v, early, has) = h.failed (other, refl, inl refl) in
@@ -260,7 +262,7 @@ fails_not_after_pair h =
     let (v, early, has) = h.failed (memory, refl, inr refl) in
     not_early (0 ∷ 4 ∷ 1 ∷ 2 ∷ 3 ∷ 4 ∷ []) h.consumed v (accepted (pair 0 (1 ∷ 2 ∷ 3 ∷ 4 ∷ []))) h.consumes digest_full (λ e. e) has early
 
--- ---- the shortest that settles
+-- ---- the shortest prefix that settles
 
 takes_both_bytes : ConsumesShortestSettling 4 (0 ∷ 5 ∷ 9 ∷ []) (Some (9 ∷ []))
 takes_both_bytes = record { front = 0 ∷ 5 ∷ []; shortest = shortest_of_size; consumes = refl }
@@ -308,7 +310,7 @@ takes_what_settles h =
           (append-nil (0 ∷ 5 ∷ [])),
     ) size_settles
 
--- also where it is only a prefix
+-- also if it is only a strict prefix
 takes_beyond_what_settles : ¬ (ConsumesNothingSettling 4 (0 ∷ 5 ∷ 9 ∷ []) (Some []))
 takes_beyond_what_settles h =
     h.unsettled (0 ∷ 5 ∷ []) (9 ∷ [], taken_is (0 ∷ 5 ∷ 9 ∷ []) [] h.consumed h.consumes) size_settles

@@ -51,13 +51,14 @@ longest_is = refl
 most_bytes : (max_continuation + 1) + 2 + 255 ≡ 266
 most_bytes = refl
 
--- ---- what is no encoding, each part rejected by itself
+-- ---- what is no encoding: each part rejects by itself
 
 encodes_no_other_code : ¬ (IsEncoding (pair 1 []) (0x00 ∷ 0x00 ∷ []))
 encodes_no_other_code h = omega (arith, (begins_small 1 0x00 (0x00 ∷ []) h.code (h.size ++ []) (omega arith) h.is_code h.spelled).0)
 
 -- the size and the digest follow the varint of a small code
-after_code : (code b : ℕ) (digest rest : List ℕ) (h : IsEncoding (pair code digest) (b ∷ rest)) → b < 128 → rest ≡ h.size ++ digest
+after_code : (code b : ℕ) (digest rest : List ℕ) (h : IsEncoding (pair code digest) (b ∷ rest)) → b < 128
+    → rest ≡ h.size ++ digest
 after_code code b digest rest h small = (begins_small code b rest h.code (h.size ++ digest) small h.is_code h.spelled).1
 
 encodes_no_other_size : ¬ (IsEncoding (pair 0 (codes "ab")) (0x00 ∷ 0x01 ∷ 0x61 ∷ 0x62 ∷ []))
@@ -83,12 +84,13 @@ input = 0x00 ∷ 0x05 ∷ 0x07 ∷ []
 head_of_two : HasHead 0 5 2 input
 head_of_two = record { within = omega arith; varints = size_5 (0x07 ∷ []); is_code = refl }
 
--- the digest need not be there
+-- the digest may be missing
 head_alone : HasHead 0 5 2 (0x00 ∷ 0x05 ∷ [])
 head_alone = record { within = omega arith; varints = size_5 []; is_code = refl }
 
--- the code and the size of a head are those of the input, and so is what follows them
-head_is : (code size len : ℕ) → HasHead code size len input → (code ≡ 0) × (size ≡ 5) × (drop len input ≡ 0x07 ∷ [])
+-- the code, the size and what follows a head are those of the input
+head_is : (code size len : ℕ) → HasHead code size len input
+    → (code ≡ 0) × (size ≡ 5) × (drop len input ≡ 0x07 ∷ [])
 head_is code size len h =
     let h_size = h.varints in
     let first =
@@ -110,11 +112,11 @@ no_smaller_code h =
     (h_size.code_bytes, h_size.is_code, h_size.cut) (0x01 ∷ [], varint_1, refl) in
     omega (arith, h.is_code, first.0)
 
--- the digest's first byte is no part of a head, and both varints are
+-- a head is both varints, without the digest's first byte
 no_other_length : ¬ (HasHead 0 5 3 input) × ¬ (HasHead 0 5 1 input)
 no_other_length = ((λ h. omega (arith, ap length (head_is 0 5 3 h).2)), λ h. omega (arith, ap length (head_is 0 5 1 h).2))
 
--- nor is a byte that is not there
+-- nor is a byte that is missing
 no_head_past_the_end : ¬ (HasHead 0 5 3 (0x00 ∷ 0x05 ∷ []))
 no_head_past_the_end h = omega (arith, h.within)
 
@@ -136,7 +138,7 @@ no_word_of_other_bytes : ¬ (IsFrontWord (1 ∷ 2 ∷ []) 258 2)
 unfolding place_value
 no_word_of_other_bytes h = omega (arith, h.word_is)
 
--- the sixteenth byte is in it, and the seventeenth isn't
+-- the sixteenth byte is part of the word, and the seventeenth is not
 word_reaches_sixteen : ¬ (IsFrontWord (replicate 15 0 ++ 1 ∷ []) 0 16)
 unfolding place_value
 word_reaches_sixteen h = omega (arith, h.word_is)
@@ -145,7 +147,7 @@ word_ends_at_sixteen : IsFrontWord (replicate 16 0 ++ 1 ∷ []) 0 16
 unfolding place_value
 word_ends_at_sixteen = record { word_is = refl; present_is = refl }
 
--- a missing byte isn't there, though it is a zero of the word
+-- a missing byte does not count, though it is a zero of the word
 no_missing_byte_is_present : ¬ (IsFrontWord (1 ∷ []) 1 16)
 no_missing_byte_is_present h = omega (arith, h.present_is)
 
@@ -154,8 +156,9 @@ no_more_present_than_sixteen h = omega (arith, h.present_is)
 
 -- ---- the digits of its bytes
 
--- the marks are left out, and the digits are seven bits apart
-digits_are : (digits_low 2 0x02ac ≡ 300) × (digits_low 1 0x02ac ≡ 44) × (digits_low 0 0x02ac ≡ 0) × (digits_low 3 0x018080 ≡ 16384)
+-- the highest bits are left out, and the digits are seven bits apart
+digits_are : (digits_low 2 0x02ac ≡ 300) × (digits_low 1 0x02ac ≡ 44) × (digits_low 0 0x02ac ≡ 0)
+    × (digits_low 3 0x018080 ≡ 16384)
 unfolding digits_low
 digits_are = (refl, refl, refl, refl)
 
@@ -190,6 +193,6 @@ finds_no_other_number h = not_another 6 5 (5 ∷ []) varint_5 (λ e. omega (arit
 finds_within_the_input : ¬ (IsFoundFront (5 ∷ []) 5 2)
 finds_within_the_input h = omega (arith, h.within)
 
--- where a varint begins the input, it is found
+-- a varint at the front of the input is found
 misses_no_varint : (n : ℕ) → ¬ (IsFoundFront (5 ∷ []) n 0)
 misses_no_varint n h = begins_a_varint (h.none refl)

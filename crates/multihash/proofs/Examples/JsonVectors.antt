@@ -1,4 +1,4 @@
--- The JSON lists of known pairs, values that are or aren't byte arrays, and the bytes that known JSON values are.
+-- The JSON lists of known pairs, values that are or are not byte arrays, and the bytes of known JSON values.
 use Rattle.std.proofs.Common.{◌≡◌, ℕ, ◌<◌, List, [], ◌∷◌, get_or, replicate, refl, sym, subst, ap, arith, true, false}
 use Rattle.std.specs.Prelude.{codes, ℤ, Float, Some, None, Bool, is_some}
 use Rattle.std.proofs.lemmas.List.Elements.{All-replicate}
@@ -48,47 +48,54 @@ array_0_256 bytes h =
 not_another_order : ¬ (IsByteArray (number_array (1 ∷ 2 ∷ [])) (2 ∷ 1 ∷ []))
 not_another_order h = omega (arith, ap (λ (z : List ℕ). get_or z 0 0) (array_unique (1 ∷ 2 ∷ []) (2 ∷ 1 ∷ []) h.array))
 
--- and no text is a list, nor nothing
+-- a string is no byte array, nor is null
 no_array : (text bytes : List ℕ) → ¬ (IsByteArray (string text) bytes) × ¬ (IsByteArray null bytes)
 no_array text bytes = ((λ h. let e = h.array in cc), λ h. let e = h.array in cc)
 
 lists_no_text : ¬ (IsJsonList (pair 0 (codes "A")) (string (codes "A")))
 lists_no_text h = let e = h.lists in cc
 
--- each member is held as a whole number: a float is none, however whole it is
+-- each member is held as a whole number: a float is not, also one without a fraction
 no_member : (d : Data) (bytes : List ℕ) → ((n : ℕ) → ¬ (d ≡ number (unsigned n)))
     → ¬ (array (item (number (unsigned 0)) (item d no_items)) ≡ number_array bytes)
 no_member d [] other e = cc
 no_member d (b ∷ []) other e = cc
 no_member d (b ∷ c ∷ bytes) other e = other c (cc)
 
-negative_is_no_member : (z : ℤ) (bytes : List ℕ) → ¬ (IsByteArray (array (item (number (unsigned 0)) (item (number (negative z)) no_items))) bytes)
+negative_is_no_member : (z : ℤ) (bytes : List ℕ)
+    → ¬ (IsByteArray (array (item (number (unsigned 0)) (item (number (negative z)) no_items))) bytes)
 negative_is_no_member z bytes h = no_member (number (negative z)) bytes (λ n e. cc) h.array
 
-float_is_no_member : (x : Float) (bytes : List ℕ) → ¬ (IsByteArray (array (item (number (unsigned 0)) (item (number (float x)) no_items))) bytes)
+float_is_no_member : (x : Float) (bytes : List ℕ)
+    → ¬ (IsByteArray (array (item (number (unsigned 0)) (item (number (float x)) no_items))) bytes)
 float_is_no_member x bytes h = no_member (number (float x)) bytes (λ n e. cc) h.array
 
-bytes_of_numbers : (byte_of_number (unsigned 0) ≡ Some 0) × (byte_of_number (unsigned 255) ≡ Some 255) × (byte_of_data (number (unsigned 7)) ≡ Some 7)
+bytes_of_numbers : (byte_of_number (unsigned 0) ≡ Some 0) × (byte_of_number (unsigned 255) ≡ Some 255)
+    × (byte_of_data (number (unsigned 7)) ≡ Some 7)
 bytes_of_numbers = (refl, refl, refl)
 
--- a float is none, however whole it is
-no_byte : (byte_of_number (unsigned 256) ≡ None) × ((z : ℤ) → byte_of_number (negative z) ≡ None) × ((x : Float) → byte_of_number (float x) ≡ None)
+-- a float is no byte, also one without a fraction
+no_byte : (byte_of_number (unsigned 256) ≡ None) × ((z : ℤ) → byte_of_number (negative z) ≡ None)
+    × ((x : Float) → byte_of_number (float x) ≡ None)
 no_byte = (refl, (λ z. refl), λ x. refl)
 
-nor_other_data : (byte_of_data null ≡ None) × ((b : Bool) → byte_of_data (boolean b) ≡ None) × ((text : List ℕ) → byte_of_data (string text) ≡ None)
-    × ((items : Items) → byte_of_data (array items) ≡ None) × ((ms : Members) → byte_of_data (object ms) ≡ None)
+nor_other_data : (byte_of_data null ≡ None) × ((b : Bool) → byte_of_data (boolean b) ≡ None)
+    × ((text : List ℕ) → byte_of_data (string text) ≡ None)
+    × ((items : Items) → byte_of_data (array items) ≡ None)
+    × ((ms : Members) → byte_of_data (object ms) ≡ None)
 nor_other_data = (refl, (λ b. refl), (λ text. refl), (λ items. refl), λ ms. refl)
 
 byte_and_more : (byte_then (Some 7) (8 ∷ []) ≡ 7 ∷ 8 ∷ []) × (byte_then None (8 ∷ []) ≡ [])
 byte_and_more = (refl, refl)
 
--- up to the first that is none
+-- up to the first that is no byte
 leading : (leading_bytes (number (unsigned 1) ∷ number (unsigned 2) ∷ null ∷ number (unsigned 3) ∷ []) ≡ 1 ∷ 2 ∷ [])
-    × (leading_bytes (null ∷ number (unsigned 3) ∷ []) ≡ []) × (leading_bytes (number (unsigned 0) ∷ number (unsigned 255) ∷ []) ≡ 0 ∷ 255 ∷ [])
+    × (leading_bytes (null ∷ number (unsigned 3) ∷ []) ≡ [])
+    × (leading_bytes (number (unsigned 0) ∷ number (unsigned 255) ∷ []) ≡ 0 ∷ 255 ∷ [])
     × (member_bytes [] ≡ [])
 leading = (refl, refl, refl, refl)
 
--- ---- members as the program holds them, by what they are
+-- ---- members as the program holds them, each by its data
 
 leads_with_a_byte : (m : Value) (ms : List Value) → view m ≡ number (unsigned 7)
     → member_bytes (m ∷ ms) ≡ 7 ∷ member_bytes ms

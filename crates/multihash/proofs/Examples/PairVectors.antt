@@ -34,11 +34,12 @@ fits_not h = omega (arith, h)
 fits_no_buffer : FitsBuffer 0 (pair 0 [])
 fits_no_buffer = omega arith
 
--- however large the buffer, a digest has a length of one byte
+-- however large the capacity, a digest has at most 255 bytes
 fits_never : ¬ (FitsBuffer 300 (pair 0 (replicate 256 0)))
 fits_never h = omega (arith, h)
 
-truncates : (truncated 3 (pair 7 (codes "foobar")) ≡ pair 7 (codes "foo")) × (truncated 0 (pair 7 (codes "foobar")) ≡ pair 7 [])
+truncates : (truncated 3 (pair 7 (codes "foobar")) ≡ pair 7 (codes "foo"))
+    × (truncated 0 (pair 7 (codes "foobar")) ≡ pair 7 [])
     × (truncated 9 (pair 7 (codes "foobar")) ≡ pair 7 (codes "foobar"))
 truncates = (refl, refl, refl)
 
@@ -49,7 +50,7 @@ data Row : Type 0 where
 
 orders : List Row
 orders =
-    -- the code decides, then the length, then the first byte that differs, whatever follows it
+    -- the code decides, then the length, then the first byte that differs, whatever follows
     row (pair 0 (codes "zzz")) (pair 1 []) Less refl ∷
     row (pair 1 (codes "a")) (pair 0 (codes "a")) Greater refl ∷
     row (pair 1 []) (pair 0 (codes "a")) Greater refl ∷

@@ -1,4 +1,4 @@
--- What was consumed from known readers, how they failed, and what their laws rule out.
+-- What was consumed from known readers, how they failed, and what their laws exclude.
 use Rattle.std.proofs.Common.{◌≡◌, ◌<◌, ℕ, List, [], ◌∷◌, ◌++◌, length, get_or, refl, sym, ap, arith, inl, inr}
 use Rattle.std.specs.Prelude.{Option, Some, None, Result, Ok, Err}
 use Rattle.std.proofs.lemmas.Bool.{false≢true}
@@ -21,8 +21,9 @@ taken_is a b consumed h = append_cancel_right consumed a b (sym (ap told h))
 precedes : (prepend_known (1 ∷ []) (Some (2 ∷ [])) ≡ Some (1 ∷ 2 ∷ [])) × (prepend_known (1 ∷ []) None ≡ None)
 precedes = (refl, refl)
 
--- without known input nothing is said of what was consumed
-consumes : Consumes (Some (1 ∷ 2 ∷ 3 ∷ [])) (1 ∷ 2 ∷ []) (Some (3 ∷ [])) × Consumes (Some (1 ∷ [])) [] (Some (1 ∷ [])) × ((consumed : List ℕ) → Consumes None consumed None)
+-- without known input nothing is stated of what was consumed
+consumes : Consumes (Some (1 ∷ 2 ∷ 3 ∷ [])) (1 ∷ 2 ∷ []) (Some (3 ∷ []))
+    × Consumes (Some (1 ∷ [])) [] (Some (1 ∷ [])) × ((consumed : List ℕ) → Consumes None consumed None)
 consumes = (refl, refl, λ consumed. refl)
 
 -- the bytes consumed are the first ones
@@ -32,12 +33,13 @@ takes_no_last h = omega (arith, ap (λ (o : Option (List ℕ)). get_or (told o) 
 takes_no_more : ¬ (Consumes (Some (1 ∷ 2 ∷ [])) (1 ∷ []) (Some []))
 takes_no_more h = omega (arith, ap (λ (o : Option (List ℕ)). length (told o)) h)
 
--- and are left no longer
+-- consumed bytes no longer remain
 takes_and_keeps_none : ¬ (Consumes (Some (1 ∷ [])) (1 ∷ []) (Some (1 ∷ [])))
 takes_and_keeps_none h = omega (arith, ap (λ (o : Option (List ℕ)). length (told o)) h)
 
--- and it is known no sooner and no later
-reports_no_more : (consumed rest : List ℕ) → ¬ (Consumes (Some rest) consumed None) × ¬ (Consumes None consumed (Some rest))
+-- an input does not become known, nor unknown
+reports_no_more : (consumed rest : List ℕ) → ¬ (Consumes (Some rest) consumed None)
+    × ¬ (Consumes None consumed (Some rest))
 reports_no_more consumed rest = ((λ h. cc), λ h. cc)
 
 at_end : IsAtEnd (Some []) × IsAtEnd None × ¬ (IsAtEnd (Some (1 ∷ [])))
@@ -52,11 +54,12 @@ takes_fewer = record { consumed = 1 ∷ []; fewer = omega arith; consumes = refl
 takes_not_fewer : ¬ (ConsumesFewerThan 1 (Some (1 ∷ 2 ∷ [])) (Some (2 ∷ [])))
 takes_not_fewer h = none h.consumed h.fewer h.consumes
   where
-    none : (consumed : List ℕ) → length consumed < 1 → Consumes (Some (1 ∷ 2 ∷ [])) consumed (Some (2 ∷ [])) → ⊥
+    none : (consumed : List ℕ) → length consumed < 1 → Consumes (Some (1 ∷ 2 ∷ [])) consumed (Some (2 ∷ []))
+        → ⊥
     none [] fewer e = omega (arith, ap (λ (o : Option (List ℕ)). length (told o)) e)
     none (b ∷ consumed) fewer e = omega arith
 
--- what was consumed is of the reader's bytes
+-- the consumed bytes are the reader's
 takes_fewer_of_its_own : ¬ (ConsumesFewerThan 9 (Some (1 ∷ [])) (Some (1 ∷ 2 ∷ [])))
 takes_fewer_of_its_own h = none h.consumed h.consumes
   where
@@ -70,14 +73,14 @@ takes_fewer_of_its_own h = none h.consumed h.consumes
 abbrev Reads : ℕ → ℕ → Result ℕ Fault → Type 0
 Reads before after outcome = CountsReaderFailures IsOwnFault NoOtherError before after outcome
 
--- an Ok leaves the count, and a fault of the reader's own raises it by one
+-- an Ok leaves the count unchanged, and an error of the reader itself raises it by one
 reads : Reads 3 3 (Ok 1) × Reads 3 4 (Err other) × ¬ (Reads 3 4 (Ok 1)) × ¬ (Reads 4 3 (Ok 1))
 reads = (refl, inl (refl, inl refl), (λ h. omega (arith, h)), λ h. omega (arith, h))
 
 fails_once : ¬ (Reads 3 3 (Err other)) × ¬ (Reads 3 5 (Err other))
 fails_once = ((λ h. elim h [ inl one ↦ omega (arith, one.0) | inr none ↦ none.1 ]), λ h. elim h [ inl one ↦ omega (arith, one.0) | inr none ↦ none.1 ])
 
--- `read` reports the end by a count of 0, and by no error
+-- `read` reports the end of the input by 0, and by no error
 read_no_eof : ¬ (Reads 3 4 (Err eof))
 read_no_eof (inl (more, inl h)) = cc
 read_no_eof (inl (more, inr h)) = cc
@@ -89,7 +92,7 @@ Fills before after outcome = CountsReaderFailures IsOwnFault IsUnexpectedEof bef
 fills : Fills 3 3 (Ok 0) × Fills 3 3 (Err eof) × Fills 3 4 (Err memory) × ¬ (Fills 3 4 (Ok 0))
 fills = (refl, inr (refl, refl), inl (refl, inr refl), λ h. omega (arith, h))
 
--- a fault that was counted is reported, and none is invented
+-- a counted failure is reported, and no other
 fill_hides_no_fault : ¬ (Fills 3 4 (Err eof))
 fill_hides_no_fault (inl (more, inl h)) = cc
 fill_hides_no_fault (inl (more, inr h)) = cc
@@ -101,7 +104,7 @@ fill_invents_no_fault = (
   λ h. elim h [ inl one ↦ omega (arith, one.0) | inr listed ↦ omega (arith, listed.0) ],
 )
 
--- ---- the laws of `read`, each refuted where the others hold
+-- ---- the laws of `read`, each violated while the others hold
 
 -- a reader with a known rest and a known count of failures
 abbrev State : Type 0
@@ -157,7 +160,7 @@ writes_not_beyond_count : ¬
     (ReadLaws left failed (1 ∷ 2 ∷ [], 0) (2 ∷ [], 0) (7 ∷ 8 ∷ []) (1 ∷ 9 ∷ []) (Ok 1))
 writes_not_beyond_count h = omega (arith, ap (λ (z : List ℕ). get_or z 0 0) h.beyond)
 
--- nor where nothing was read
+-- also if nothing was read, the buffer is unchanged
 writes_not_at_end : ¬ (ReadLaws left failed ([], 0) ([], 0) (7 ∷ []) (8 ∷ []) (Ok 0))
 writes_not_at_end h = omega (arith, ap (λ (z : List ℕ). get_or z 0 0) h.beyond)
 
@@ -174,7 +177,7 @@ reads_nothing_at_end_alone h = omega (arith, ap (λ (z : List ℕ). length z) (h
 fails_and_takes_nothing : ¬ (ReadLaws left failed (1 ∷ [], 0) ([], 1) (7 ∷ []) (7 ∷ []) (Err other))
 fails_and_takes_nothing h = omega (arith, ap (λ (o : Option (List ℕ)). length (told o)) h.err)
 
--- `read` reports the end by no error, counted or not
+-- `read` reports the end of the input by no error, counted or not
 reads_no_end_by_refusal : ¬ (ReadLaws left failed ([], 0) ([], 0) (7 ∷ []) (7 ∷ []) (Err eof))
 reads_no_end_by_refusal h =
     elim h.faults [ inl counted ↦ omega (arith, counted.0) | inr listed ↦ listed.1 ]
@@ -210,7 +213,7 @@ fails_with_a_counted_fault : ¬ (Filling (1 ∷ [], 0) (1 ∷ [], 0) (7 ∷ []) 
 fails_with_a_counted_fault h =
     elim h.faults [ inl counted ↦ omega (arith, counted.0) | inr listed ↦ cc ]
 
--- the end is no fault of the reader's own
+-- the end of the input is no error of the reader itself
 ends_by_no_counted_fault : ¬ (Filling ([], 0) ([], 1) (7 ∷ []) (7 ∷ []) (Err eof))
 ends_by_no_counted_fault h = elim h.faults [ inl (counted, own) ↦ elim own [ inl is ↦ cc | inr is ↦ cc ] | inr (same, is) ↦ omega (arith, same) ]
 

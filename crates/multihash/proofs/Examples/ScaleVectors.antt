@@ -1,5 +1,6 @@
--- The SCALE form of known pairs, the verdicts on known inputs, and what a failed decoding consumed. An input has no
--- verdict but the one that is computed (`scale_verdict_is`), so a row says both what holds and what does not.
+-- The SCALE form of known pairs, the verdicts on known inputs, and what a failed decoding consumed. An input
+-- has no other verdict than the computed one (`scale_verdict_is`), so a row states both what holds and what
+-- does not.
 use Rattle.std.proofs.Common.{◌≡◌, ℕ, List, [], ◌∷◌, ◌<◌, ◌++◌, ltb, true, length, replicate, refl, sym, subst, ap, ◌∙◌, arith, length-append, ◌-◌, ◌/◌, ◌^◌, inl, inr}
 use Rattle.std.specs.Prelude.{codes, ◌↔◌, Some}
 use Rattle.std.specs.List.{list_all}
@@ -55,21 +56,21 @@ table =
     row 4 (0x12 ∷ 0 ∷ 0 ∷ 0 ∷ 0 ∷ 0 ∷ 0 ∷ 0 ∷ 1 ∷ 0xaa ∷ 0xbb ∷ []) (accepted (pair 18 (0xaa ∷ []))) refl refl ∷
     row 11 (zeros ++ 11 ∷ codes "hello world") (accepted (pair 0 (codes "hello world"))) refl refl ∷
     row 255 (zeros ++ 255 ∷ replicate 255 7) (accepted (pair 0 (replicate 255 7))) refl refl ∷
-    -- an early end: before or inside the code, before the size, inside the digest
+    -- truncated before or within the code, before the size, within the digest
     row 4 [] unexpected_eof refl refl ∷
     row 4 (255 ∷ 255 ∷ 255 ∷ 255 ∷ 255 ∷ 255 ∷ 255 ∷ []) unexpected_eof refl refl ∷
     row 4 zeros unexpected_eof refl refl ∷
     row 4 (zeros ++ 3 ∷ 0xaa ∷ 0xbb ∷ []) unexpected_eof refl refl ∷
     row 5 (zeros ++ 5 ∷ 0xaa ∷ 0xbb ∷ []) unexpected_eof refl refl ∷
-    -- a digest may be empty, or as long as the buffer
+    -- a digest may be empty, or as long as the capacity
     row 0 (zeros ++ 0 ∷ []) (accepted (pair 0 [])) refl refl ∷
     row 4 (zeros ++ 0 ∷ []) (accepted (pair 0 [])) refl refl ∷
     row 2 (zeros ++ 2 ∷ 0xaa ∷ 0xbb ∷ []) (accepted (pair 0 (0xaa ∷ 0xbb ∷ []))) refl refl ∷
-    -- a size above the buffer is rejected before the digest is looked at, whole or not
+    -- a size above the capacity is rejected, whether or not the digest is there
     row 4 (zeros ++ 5 ∷ []) (invalid_size 5) refl refl ∷
     row 4 (zeros ++ 5 ∷ 0xaa ∷ 0xbb ∷ []) (invalid_size 5) refl refl ∷
     row 4 (zeros ++ 5 ∷ 1 ∷ 2 ∷ 3 ∷ 4 ∷ 5 ∷ []) (invalid_size 5) refl refl ∷
-    -- a code that is too large is rejected at its eighth byte, and its size is neither waited for nor looked at
+    -- a code that is too large is rejected, whether or not a size follows
     row 4 (largest_code ++ 0 ∷ []) (accepted (pair largest [])) refl refl ∷
     row 4 largest_code unexpected_eof refl refl ∷
     row 4 rejected_code (invalid_code too_large) refl refl ∷
@@ -107,10 +108,11 @@ unfolding place_value
 code_of_255 = record { eight = refl; are_bytes = all_below 256 all_255 refl; value = refl }
 
 -- whatever follows
-pub scale_code_above : (rest : List ℕ) → HasScaleVerdict 4 (all_255 ++ rest) (invalid_code 18446744073709551615)
+pub scale_code_above : (rest : List ℕ)
+    → HasScaleVerdict 4 (all_255 ++ rest) (invalid_code 18446744073709551615)
 scale_code_above rest = (all_255, rest, code_of_255, omega arith, refl)
 
--- ---- the parts, failing by one part alone
+-- ---- each part rejects by itself
 
 zero_code : IsScaleCode 0 zeros
 unfolding place_value
@@ -141,7 +143,7 @@ no_number_above_255 h = omega (arith, All-head (λ byte. byte < 256) 256 (0 ∷ 
 no_nine_bytes : (code : ℕ) → ¬ (IsScaleCode code (zeros ++ 0 ∷ []))
 no_nine_bytes code h = omega (arith, h.eight)
 
--- and the digest, with nothing after it
+-- and the digest, with no byte after it
 no_byte_after : ¬ (IsScale (pair 0 []) (zeros ++ 0 ∷ 7 ∷ []))
 no_byte_after h =
     omega (arith, ap (λ (z : List ℕ). length z) h.spelled, h.is_code.eight, length-append h.code (0 ∷ []))
@@ -164,7 +166,7 @@ no_other_rest h =
 
 -- ---- errors
 
--- into four bytes: no varint is read, and no value
+-- for capacity 4: no varint and no JSON value is read
 abbrev DecodingRejects : Refusal → Type 0
 DecodingRejects (of_io fault) = IsUnexpectedEof fault
 DecodingRejects (of_size size) = 4 < size
@@ -184,13 +186,13 @@ decoding_rejects_only e (inl (code, is, large)) = subst DecodingRejects (sym is)
 decoding_rejects_only e (inr (inl (size, is, large))) = subst DecodingRejects (sym is) large
 decoding_rejects_only e (inr (inr (fault, is, kind))) = subst DecodingRejects (sym is) kind
 
--- a digest's length is one byte in this form, so a larger buffer has no limit of its own
+-- the bound is the capacity, not `min(S, 255)`: the size is one byte, so both are the same
 decoding_rejects_above_a_byte : (size : ℕ) → 300 < size → ScaleMayFailWith 300 (of_size size)
 decoding_rejects_above_a_byte size large = inr (inl (size, refl, large))
 
 -- ---- what was consumed
 
--- eight bytes, and the size after them is left
+-- eight bytes were consumed, and the size after them remains
 takes_eight : ConsumesAtScaleError 4 (of_code 18446744073709551615) (Some (all_255 ++ 0 ∷ []))
     (Some (0 ∷ []))
 takes_eight = record {
@@ -205,7 +207,7 @@ takes_eight = record {
   early = λ ends. elim ends [ inl end ↦ absurd (cc (end.1)) | inr own ↦ absurd (cc (own.1)) ];
 }
 
--- nine bytes, and those after them are left
+-- nine bytes were consumed, and those after them remain
 takes_nine : ConsumesAtScaleError 4 (of_size 5) (Some (zeros ++ 5 ∷ 0xaa ∷ 0xbb ∷ []))
     (Some (0xaa ∷ 0xbb ∷ []))
 takes_nine = record {
@@ -257,8 +259,9 @@ takes_no_size_after_code : ¬ (ConsumesAtScaleError 4 (of_code 18446744073709551
 takes_no_size_after_code h =
     omega (arith, (h.code 18446744073709551615 refl).1, ap (λ (z : List ℕ). length z) (taken_is (all_255 ++ 0 ∷ []) [] h.consumed h.consumes))
 
--- where all of an input was consumed, its verdict is the one that the error claims
-claimed : (a consumed : List ℕ) (v w : Verdict) → Consumes (Some (a ++ [])) consumed (Some []) → HasScaleVerdict 4 consumed v → HasScaleVerdict 4 a w → v ≡ w
+-- if all of an input was consumed, its verdict is the one of the error
+claimed : (a consumed : List ℕ) (v w : Verdict) → Consumes (Some (a ++ [])) consumed (Some [])
+    → HasScaleVerdict 4 consumed v → HasScaleVerdict 4 a w → v ≡ w
 claimed a consumed v w consumes has own = scale_verdict_unique 4 a v w (subst (λ (z : List ℕ). HasScaleVerdict 4 z v) (taken_is a [] consumed consumes) has) own
 
 takes_no_other_size : ¬ (ConsumesAtScaleError 4 (of_size 6) (Some (zeros ++ 5 ∷ [])) (Some []))
@@ -273,7 +276,7 @@ takes_no_other_code h =
           (h.code too_large refl).0 (scale_code_above [])),
     )
 
--- no end where a pair is whole, and none after a code that is rejected
+-- no unexpected end of file for a complete pair, nor after a code that is rejected
 ends_not_after_pair : ¬ (ConsumesAtScaleError 4 (of_io eof) (Some (zeros ++ 0 ∷ [])) (Some []))
 ends_not_after_pair h =
     let same = claimed (zeros ++ 0 ∷ []) h.consumed unexpected_eof (accepted (pair 0 [])) h.consumes (h.early (inl (eof, refl, refl))) scale_empty_digest_of_4 in cc
@@ -282,7 +285,7 @@ ends_not_after_code : ¬ (ConsumesAtScaleError 4 (of_io eof) (Some all_255) (Som
 ends_not_after_code h =
     let same = claimed all_255 h.consumed unexpected_eof (invalid_code 18446744073709551615) h.consumes (h.early (inl (eof, refl, refl))) (scale_code_above []) in cc
 
--- a reader that fails after a size that is rejected is not called
+-- a reader is not called after a size that is rejected
 fails_not_after_size : ¬ (ConsumesAtScaleError 4 (of_io other) (Some (zeros ++ 5 ∷ [])) (Some []))
 fails_not_after_size h =
     let same = claimed (zeros ++ 5 ∷ []) h.consumed unexpected_eof (invalid_size 5) h.consumes (h.early (inr (other, refl, inl refl))) scale_size_first in cc

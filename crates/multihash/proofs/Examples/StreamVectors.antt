@@ -1,4 +1,5 @@
--- Concatenated encodings of known pairs, and what reading and writing of many multihashes consumed and appended.
+-- Concatenated encodings of known pairs, and what reading and writing lists of multihashes consumed and
+-- appended.
 use Rattle.std.proofs.Common.{◌≡◌, ℕ, List, [], ◌∷◌, length, refl, ap, ◌∙◌, arith, ◌<◌, ◌⊎◌, sym, subst, inl, inr, append-nil}
 use Rattle.std.specs.Prelude.{codes, Option, Some, None, IfSome}
 use Rattle.std.specs.List.{concat, AllZip, All}
@@ -27,7 +28,7 @@ use Rattle.multihash.proofs.Examples.ConsumingVectors.{takes_no_byte_after_size,
 concatenated_none : AreConcatenated [] []
 concatenated_none = record { encodings = []; each = tt; concatenated = refl }
 
--- and nothing else is
+-- and no other bytes are
 pub concatenated_none_only : (bytes : List ℕ) → AreConcatenated [] bytes → bytes ≡ []
 concatenated_none_only bytes h = h.concatenated ∙ none h.encodings h.each
   where
@@ -57,14 +58,14 @@ abbrev pub first_code : List Pair → ℕ
 first_code [] = 0
 first_code (p ∷ ps) = p.code
 
--- the order counts
+-- the order of the pairs counts
 not_concatenated_backwards : ¬ (AreConcatenated (pair 1 (codes "B") ∷ pair 0 (codes "A") ∷ []) (0 ∷ 1 ∷ 65 ∷ 1 ∷ 1 ∷ 66 ∷ []))
 not_concatenated_backwards h =
     let same = concatenated_whole (pair 1 (codes "B") ∷ pair 0 (codes "A") ∷ []) (pair 0 (codes "A") ∷ pair 1 (codes "B") ∷ [])
     (0 ∷ 1 ∷ 65 ∷ 1 ∷ 1 ∷ 66 ∷ []) h concatenated_two in
     omega (arith, ap first_code same)
 
--- and each pair has its encoding
+-- each pair has its encoding
 no_pair_without_bytes : (p : Pair) → ¬ (AreConcatenated (p ∷ []) [])
 no_pair_without_bytes p h =
     omega (arith, ap (λ (ps : List Pair). length ps) (concatenated_whole (p ∷ []) [] [] h concatenated_none))
@@ -95,7 +96,7 @@ takes_two_pairs : ConsumesPairs 4 (a ∷ b ∷ []) (Some (0 ∷ 1 ∷ 65 ∷ 1 �
     (Some (7 ∷ []))
 takes_two_pairs = record { bytes = 0 ∷ 1 ∷ 65 ∷ 1 ∷ 1 ∷ 66 ∷ []; concatenated = concatenated_two; fit = both_fit; consumes = refl }
 
--- the pairs are those of the bytes, in their order
+-- the pairs are those that the bytes encode, in their order
 takes_pairs_in_order : ¬
     (ConsumesPairs 4 (b ∷ a ∷ []) (Some (0 ∷ 1 ∷ 65 ∷ 1 ∷ 1 ∷ 66 ∷ 7 ∷ [])) (Some (7 ∷ [])))
 takes_pairs_in_order h =
@@ -105,7 +106,7 @@ takes_pairs_in_order h =
     (subst (AreConcatenated (b ∷ a ∷ [])) is h.concatenated) concatenated_two in
     omega (arith, ap first_code same)
 
--- each fits the buffer
+-- each pair fits
 takes_no_pair_that_fits_not : ¬ (ConsumesPairs 0 (a ∷ []) (Some (0 ∷ 1 ∷ 65 ∷ [])) (Some []))
 takes_no_pair_that_fits_not h = omega (arith, All-head (FitsBuffer 0) a [] h.fit)
 
@@ -128,9 +129,9 @@ takes_nothing_after_pairs h =
       ap (λ (z : List ℕ). length z) (taken_is (0 ∷ 1 ∷ 65 ∷ 7 ∷ []) [] h.bytes h.consumes),
     )
 
--- ---- where a list was rejected
+-- ---- a list that was rejected at its first pair
 
--- of one pair that was requested, none was consumed before
+-- one pair was requested, and none was consumed before
 none_before : (S : ℕ) (pairs : List Pair) (old middle : Option (List ℕ)) → length pairs < 1
     → ConsumesPairs S pairs old middle → middle ≡ old
 none_before S [] old middle fewer h =
@@ -163,11 +164,11 @@ rejects_an_open_code = record {
   };
 }
 
--- as many pairs as were requested are no error
+-- there is no error after as many pairs as were requested
 stops_before_the_last : ¬ (StopsAfterPairs 4 0 (of_varint insufficient) 3 3 (Some []) (Some []))
 stops_before_the_last h = omega (arith, h.fewer)
 
--- what was consumed before the rejected one are pairs
+-- the bytes consumed before the rejected one are encodings of pairs
 skips_no_pair : ¬ (StopsAfterPairs 4 1 (of_varint insufficient) 3 3 (Some (0 ∷ 0 ∷ [])) (Some []))
 skips_no_pair h =
     let at = none_before 4 h.pairs (Some (0 ∷ 0 ∷ [])) h.following h.fewer h.consumed in
@@ -181,18 +182,19 @@ skips_no_pair h =
     verdict_unique 4 (0 ∷ 0 ∷ []) (malformed insufficient) (accepted (pair 0 [])) has empty_digest in
     cc
 
--- an insufficient input was consumed whole
+-- all of an insufficient input was consumed
 rejects_with_all_taken : ¬
     (StopsAfterPairs 4 1 (of_varint insufficient) 3 3 (Some (0x80 ∷ [])) (Some (0x80 ∷ [])))
 rejects_with_all_taken h = omega (arith, ap (λ (z : List ℕ). length z) (h.refused.insufficient refl).1)
 
--- what an error says of what was left after the pairs
+-- what an error states of the input after the pairs
 module _ (count : ℕ) (e : Refusal) (before after : ℕ) (old new : Option (List ℕ)) (left : List ℕ) (h : StopsAfterPairs 4 count e before after old new)
     (at : h.following ≡ Some left) where
   verdict_after : after ≡ before → (v : Verdict) × HasVerdict 4 left v × IsErrorOf e v
   verdict_after = subst (λ o. IfSome o (λ left. after ≡ before → (v : Verdict) × HasVerdict 4 left v × IsErrorOf e v)) at h.verdict
 
-  settled_after : after ≡ before → (v : Verdict) → HasVerdict 4 left v → ¬ (IsIncomplete v) → ConsumesShortestSettling 4 left new
+  settled_after : after ≡ before → (v : Verdict) → HasVerdict 4 left v → ¬ (IsIncomplete v)
+      → ConsumesShortestSettling 4 left new
   settled_after = subst (λ o. IfSome o (λ left. after ≡ before → (v : Verdict) → HasVerdict 4 left v → ¬ (IsIncomplete v) → ConsumesShortestSettling 4 left new)) at h.settled
 
   unsettled_after : before < after → ConsumesNothingSettling 4 left new
@@ -202,17 +204,17 @@ module _ (count : ℕ) (e : Refusal) (before after : ℕ) (old new : Option (Lis
 size_5_rejected : HasVerdict 4 (0 ∷ 5 ∷ 9 ∷ []) (invalid_size 5)
 size_5_rejected = (9 ∷ [], size_5 (9 ∷ []), omega arith)
 
--- a size that is rejected is the one that is there
+-- the size that is rejected is that of the input
 no_size_6 : ((v : Verdict) × HasVerdict 4 (0 ∷ 5 ∷ 9 ∷ []) v × IsErrorOf (of_size 6) v) → ⊥
 no_size_6 (v, has, names) =
     omega (arith, ap size_in (subst (IsErrorOf (of_size 6)) (verdict_unique 4 (0 ∷ 5 ∷ 9 ∷ []) v (invalid_size 5) has size_5_rejected) names))
 
--- the error is that of what follows the pairs
+-- the error is that of the input after the pairs
 rejects_by_the_verdict : ¬ (StopsAfterPairs 4 1 (of_size 6) 3 3 (Some (0 ∷ 5 ∷ 9 ∷ [])) (Some (9 ∷ [])))
 rejects_by_the_verdict h =
     no_size_6 (verdict_after 1 (of_size 6) 3 3 _ _ (0 ∷ 5 ∷ 9 ∷ []) h (none_before 4 h.pairs _ h.following h.fewer h.consumed) refl)
 
--- no byte after what settles was consumed
+-- no byte after the settling prefix was consumed
 rejects_with_nothing_after : ¬ (StopsAfterPairs 4 1 (of_size 5) 3 3 (Some (0 ∷ 5 ∷ 9 ∷ [])) (Some []))
 rejects_with_nothing_after h =
     takes_no_byte_after_size (settled_after 1 (of_size 5) 3 3 _ _ (0 ∷ 5 ∷ 9 ∷ []) h (none_before 4 h.pairs _ h.following h.fewer h.consumed) refl
@@ -221,13 +223,13 @@ rejects_with_nothing_after h =
 empty_digest_settles : Settles 4 (0 ∷ 0 ∷ [])
 empty_digest_settles = late_settles 4 (0 ∷ 0 ∷ []) (accepted (pair 0 [])) (λ early. early) empty_digest
 
--- after a failure nothing that settles was consumed
+-- before a failure no settling prefix was consumed
 fails_with_nothing_settled : ¬ (StopsAfterPairs 4 1 (of_io other) 3 4 (Some (0 ∷ 0 ∷ 7 ∷ [])) (Some (7 ∷ [])))
 fails_with_nothing_settled h =
     let u = unsettled_after 1 (of_io other) 3 4 _ _ (0 ∷ 0 ∷ 7 ∷ []) h (none_before 4 h.pairs _ h.following h.fewer h.consumed) (omega arith) in
     u.unsettled (0 ∷ 0 ∷ []) ([], taken_is (0 ∷ 0 ∷ []) (7 ∷ []) u.consumed u.consumes ∙ sym (append-nil (0 ∷ 0 ∷ []))) empty_digest_settles
 
--- ---- where a list was rejected after its first pair
+-- ---- a list that was rejected after its first pair
 
 -- a pair, and a size that is rejected
 abbrev stream : List ℕ
@@ -254,7 +256,7 @@ after_first p (Some rest) h =
     ap Some (concatenated_unique (p ∷ []) (a ∷ []) h.bytes (0 ∷ 1 ∷ 65 ∷ []) rest (0 ∷ 5 ∷ 9 ∷ []) refl
     h.concatenated concatenated_one (sym (ap told h.consumes))).1
 
--- of two pairs that were requested, the first was consumed before, or none
+-- two pairs were requested, and the first was consumed before, or none
 one_before : (pairs : List Pair) (middle : Option (List ℕ)) → length pairs < 2
     → ConsumesPairs 4 pairs (Some stream) middle
     → (middle ≡ Some stream) ⊎ (middle ≡ Some (0 ∷ 5 ∷ 9 ∷ []))
@@ -262,14 +264,14 @@ one_before [] middle fewer h = inl (none_before 4 [] (Some stream) middle (omega
 one_before (p ∷ []) middle fewer h = inr (after_first p middle h)
 one_before (p ∷ q ∷ ps) middle fewer h = absurd (omega arith)
 
--- a rejected size is rejected where it is
+-- the size that is rejected is that of the second
 no_size_at_first : (size : ℕ)
     → ((v : Verdict) × HasVerdict 4 stream v × IsErrorOf (of_size size) v) → ⊥
 no_size_at_first size (v, has, names) =
     subst (λ (w : Verdict). IsErrorOf (of_size size) w)
     (verdict_unique 4 stream v (accepted a) has (pair_and_more (0 ∷ 5 ∷ 9 ∷ []))) names
 
--- the error is that of what follows the first pair
+-- the error is that of the input after the first pair
 rejects_second_by_the_verdict : ¬ (StopsAfterPairs 4 2 (of_size 6) 3 3 (Some stream) (Some (9 ∷ [])))
 rejects_second_by_the_verdict h =
     elim (one_before h.pairs h.following h.fewer h.consumed) [
@@ -277,7 +279,7 @@ rejects_second_by_the_verdict h =
       | inr at ↦ no_size_6 (verdict_after 2 (of_size 6) 3 3 _ _ (0 ∷ 5 ∷ 9 ∷ []) h at refl)
     ]
 
--- no byte after what settles was consumed
+-- no byte after the settling prefix was consumed
 rejects_second_with_nothing_after : ¬ (StopsAfterPairs 4 2 (of_size 5) 3 3 (Some stream) (Some []))
 rejects_second_with_nothing_after h =
     elim (one_before h.pairs h.following h.fewer h.consumed) [
@@ -287,7 +289,7 @@ rejects_second_with_nothing_after h =
           (settled_after 2 (of_size 5) 3 3 _ _ (0 ∷ 5 ∷ 9 ∷ []) h at refl (invalid_size 5) size_5_rejected (λ early. early))
     ]
 
--- after a failure nothing that settles was consumed, neither of the first nor after it
+-- before a failure no settling prefix was consumed, neither of the first pair nor after it
 fails_at_second_with_nothing_settled : ¬ (StopsAfterPairs 4 2 (of_io other) 3 4 (Some stream) (Some (9 ∷ [])))
 fails_at_second_with_nothing_settled h =
     elim (one_before h.pairs h.following h.fewer h.consumed) [

@@ -1,5 +1,5 @@
--- Varints of known numbers, and what begins known inputs. An input begins with nothing but what is computed
--- (`front_is`), so a row says both what holds and what does not.
+-- Varints of known numbers, and the fronts of known inputs. An input has no other front than the computed one
+-- (`front_is`), so a row states both what holds and what does not.
 use Rattle.std.proofs.Common.{◌≡◌, ◌<◌, ℕ, ltb, Bool, true, List, [], ◌∷◌, ◌++◌, length, refl, sym, subst, ap, ◌∙◌, arith, append-nil, length-append, get_or, drop, replicate, zero, suc, ◌≤◌, ◌+◌, ◌-◌, ◌*◌, ◌^◌, inl, inr}
 use Rattle.std.specs.Prelude.{◌↔◌, ◌⊎◌}
 use Rattle.std.specs.List.{All, list_all}
@@ -26,9 +26,11 @@ unfolding ends_well
 ends_well-minimal [] last e z = refl
 ends_well-minimal (d ∷ front) last e z = absurd (omega (arith, ltb-true 0 last e, z))
 
--- a varint in literal digits, each fact by computing
-varint_of : (front : List ℕ) (last n : ℕ) → list_all (λ d. ltb d 128) (front ++ last ∷ []) ≡ true → ends_well front last ≡ true
-    → place_value 128 (front ++ last ∷ []) ≡ n → ltb n varint_limit ≡ true → IsVarint n (continuation_bytes front ++ last ∷ [])
+-- a varint of literal digits; each fact is computed
+varint_of : (front : List ℕ) (last n : ℕ) → list_all (λ d. ltb d 128) (front ++ last ∷ []) ≡ true
+    → ends_well front last ≡ true
+    → place_value 128 (front ++ last ∷ []) ≡ n → ltb n varint_limit ≡ true
+    → IsVarint n (continuation_bytes front ++ last ∷ [])
 varint_of front last n digits minimal value range = record {
   front = front;
   last = last;
@@ -87,8 +89,8 @@ pub varint_72057594037927936 : IsVarint 72057594037927936 (0x80 ∷ 0x80 ∷ 0x8
 unfolding place_value ends_well
 varint_72057594037927936 = varint_of (0x00 ∷ 0x00 ∷ 0x00 ∷ 0x00 ∷ 0x00 ∷ 0x00 ∷ 0x00 ∷ 0x00 ∷ []) 0x01 72057594037927936 refl refl refl refl
 
--- the largest number that has a varint, its bytes, and the first number that has none: a change of the bound changes
--- the first two, and no other example
+-- the largest number that has a varint, its bytes, and the first number that has none: a change of the bound
+-- changes the first two, and no other example
 abbrev pub largest : ℕ
 largest = 9223372036854775807
 
@@ -102,14 +104,14 @@ pub varint_largest : IsVarint largest largest_bytes
 unfolding place_value ends_well
 varint_largest = varint_of (replicate max_continuation 0x7f) (last_byte_limit - 1) largest refl refl refl refl
 
--- bytes that are a varint of one number are none of another
+-- a varint of one number is not a varint of another
 pub not_another : (m n : ℕ) (bytes : List ℕ) → IsVarint n bytes → (m ≡ n → ⊥) → ¬ (IsVarint m bytes)
 not_another m n bytes v other w =
     let same : number m [] ≡ number n [] =
     front_unique bytes (number m []) (number n []) (bytes, w, sym (append-nil bytes)) (bytes, v, sym (append-nil bytes)) in
     other (cc)
 
--- ---- what begins an input
+-- ---- the front of an input
 
 data Row : Type 0 where
   row : (x : List ℕ) (f : Front) → list_all (λ b. ltb b 256) x ≡ true → front_of x ≡ f → Row
@@ -121,7 +123,7 @@ holds : (r : Row) → Holds r
 holds (row x f bytes same) =
     λ g. ((λ h. front_is x g h ∙ same), λ is. subst (HasFront x) (same ∙ sym is) (front_of_has x (all_below 256 x bytes)))
 
--- as many continuation bytes as a varint may have, and the largest of them
+-- as many continuation bytes as a varint may have, of the largest value
 abbrev most : List ℕ
 most = replicate max_continuation 0x80
 
@@ -158,18 +160,18 @@ faults =
     row [] (fault insufficient) refl refl ∷
     row (0x80 ∷ []) (fault insufficient) refl refl ∷
     row most (fault insufficient) refl refl ∷
-    -- a byte that is too large, after the most marked ones, is enough, whatever follows
+    -- a byte that is too large after the most continuation bytes makes an overflow, whatever follows
     row (most ++ last_byte_limit ∷ []) (fault overflow) refl refl ∷
     row (most ++ 0x80 ∷ 0x01 ∷ []) (fault overflow) refl refl ∷
     row (most ++ 0x80 ∷ 0x00 ∷ []) (fault overflow) refl refl ∷
     row (most_255 ++ 0xff ∷ 0x01 ∷ []) (fault overflow) refl refl ∷
-    -- a zero ends continuation bytes, as many as there may be
+    -- a zero after continuation bytes, up to the most
     row (0x80 ∷ 0x00 ∷ []) (fault not_minimal) refl refl ∷
     row (0xac ∷ 0x82 ∷ 0x00 ∷ []) (fault not_minimal) refl refl ∷
     row (most ++ 0x00 ∷ 0x07 ∷ []) (fault not_minimal) refl refl ∷
     []
 
--- ---- what no row says
+-- ---- what no row states
 
 -- the first number that has no varint
 no_varint_of_too_large : (bytes : List ℕ) → ¬ (IsVarint too_large bytes)
@@ -184,7 +186,7 @@ not_continuation_below h = omega (arith, h)
 marks_each : continuation_bytes (0 ∷ 127 ∷ []) ≡ 128 ∷ 255 ∷ []
 marks_each = refl
 
--- a digit is one of seven bits, whatever follows it
+-- a digit has seven bits, whatever follows it
 no_varint_of_larger_digits : (n : ℕ) → ¬ (IsVarint n (256 ∷ 1 ∷ []))
 no_varint_of_larger_digits n v = none v.front v.last v.digits v.spelled
   where
@@ -200,13 +202,15 @@ no_varint_of_larger_digits n v = none v.front v.last v.digits v.spelled
 
 -- ---- each part of a definition rejects by itself, with no lemma: of a varint
 
--- a varint whose first byte is unmarked is that byte
-pub begins_small : (n b : ℕ) (rest front following : List ℕ) → b < 128 → IsVarint n front → b ∷ rest ≡ front ++ following
+-- a varint whose first byte is no continuation byte is that byte
+pub begins_small : (n b : ℕ) (rest front following : List ℕ) → b < 128 → IsVarint n front
+    → b ∷ rest ≡ front ++ following
     → (b ≡ n) × (rest ≡ following)
 unfolding place_value
 begins_small n b rest front following small v cut = of v.front v.value (cut ∙ ap (λ (z : List ℕ). z ++ following) v.spelled)
   where
-    of : (digits : List ℕ) → place_value 128 (digits ++ v.last ∷ []) ≡ n → b ∷ rest ≡ (continuation_bytes digits ++ v.last ∷ []) ++ following
+    of : (digits : List ℕ) → place_value 128 (digits ++ v.last ∷ []) ≡ n
+        → b ∷ rest ≡ (continuation_bytes digits ++ v.last ∷ []) ++ following
         → (b ≡ n) × (rest ≡ following)
     of [] value e = (omega (arith, value, ap (λ (z : List ℕ). get_or z 0 0) e), ap (λ (z : List ℕ). drop 1 z) e)
     of (d ∷ digits) value e = absurd (omega (arith, small, ap (λ (z : List ℕ). get_or z 0 0) e))
@@ -220,24 +224,26 @@ no_varint_and_more v = omega (arith, ap (λ (z : List ℕ). length z) (begins_sm
 no_varint_of_nothing : (n : ℕ) → ¬ (IsVarint n [])
 no_varint_of_nothing n v = omega (arith, ap (λ (z : List ℕ). length z) v.spelled, length-append (continuation_bytes v.front) (v.last ∷ []))
 
--- the last byte is not marked
+-- the last byte is no continuation byte
 no_varint_ends_continuation : (n : ℕ) → ¬ (IsVarint n (0x80 ∷ []))
 no_varint_ends_continuation n v = none v.front v.digits v.spelled
   where
-    none : (front : List ℕ) → All (λ digit. digit < 128) (front ++ v.last ∷ []) → 0x80 ∷ [] ≡ continuation_bytes front ++ v.last ∷ [] → ⊥
+    none : (front : List ℕ) → All (λ digit. digit < 128) (front ++ v.last ∷ [])
+        → 0x80 ∷ [] ≡ continuation_bytes front ++ v.last ∷ [] → ⊥
     none [] digits e = omega (arith, All-head (λ digit. digit < 128) v.last [] digits, ap (λ (z : List ℕ). get_or z 0 0) e)
     none (d ∷ front) digits e = omega (arith, ap (λ (z : List ℕ). length z) e, length-append (continuation_bytes front) (v.last ∷ []))
 
--- nor is it a zero after others
+-- the last byte after others is not zero
 no_varint_ends_in_zero : (n : ℕ) → ¬ (IsVarint n (0x80 ∷ 0x00 ∷ []))
 no_varint_ends_in_zero n v = none v.front v.minimal v.spelled
   where
-    none : (front : List ℕ) → (v.last ≡ 0 → front ≡ []) → 0x80 ∷ 0x00 ∷ [] ≡ continuation_bytes front ++ v.last ∷ [] → ⊥
+    none : (front : List ℕ) → (v.last ≡ 0 → front ≡ [])
+        → 0x80 ∷ 0x00 ∷ [] ≡ continuation_bytes front ++ v.last ∷ [] → ⊥
     none [] minimal e = omega (arith, ap (λ (z : List ℕ). length z) e)
     none (d ∷ []) minimal e = omega (arith, ap (λ (z : List ℕ). length z) (minimal (omega (arith, ap (λ (z : List ℕ). get_or z 1 0) e))))
     none (d ∷ c ∷ front) minimal e = omega (arith, ap (λ (z : List ℕ). length z) e, length-append (continuation_bytes front) (v.last ∷ []))
 
--- ---- of what begins an input in place of one
+-- ---- of the three ways to be malformed
 
 insufficient_are : BeginsMalformed insufficient [] × BeginsMalformed insufficient most
 insufficient_are = (record { few = omega arith; all_continuation = all_continuation [] refl }, record { few = omega arith; all_continuation = all_continuation most refl })
@@ -248,13 +254,14 @@ enough_continuation h = omega (arith, h.few)
 ends_inside_no_varint : ¬ (BeginsMalformed insufficient (0x80 ∷ 0x01 ∷ []))
 ends_inside_no_varint h = omega (arith, All-head IsContinuation 0x01 [] (All-tail IsContinuation 0x80 (0x01 ∷ []) h.all_continuation))
 
-overflows : BeginsMalformed overflow (most ++ last_byte_limit ∷ []) × BeginsMalformed overflow (most ++ 0xff ∷ 0x00 ∷ [])
+overflows : BeginsMalformed overflow (most ++ last_byte_limit ∷ [])
+    × BeginsMalformed overflow (most ++ 0xff ∷ 0x00 ∷ [])
 overflows = (
   record { front = most; byte = last_byte_limit; rest = []; all_continuation = all_continuation most refl; most = refl; too_large = omega arith; cut = refl },
   record { front = most; byte = 0xff; rest = 0x00 ∷ []; all_continuation = all_continuation most refl; most = refl; too_large = omega arith; cut = refl },
 )
 
--- after as many bytes of one kind comes what follows them
+-- after n equal continuation bytes comes the byte that follows them
 follows : (k byte : ℕ) (front rest : List ℕ) (b : ℕ) (more : List ℕ) → length front ≡ k
     → replicate k 0x80 ++ byte ∷ rest ≡ front ++ b ∷ more → byte ≡ b
 follows zero byte [] rest b more many e = ap (λ (z : List ℕ). get_or z 0 0) e
@@ -271,11 +278,13 @@ overflows_no_sooner h = omega (arith, h.most, ap (λ (z : List ℕ). length z) h
 overflows_after_continuation_bytes : ¬ (BeginsMalformed overflow (0x05 ∷ most))
 overflows_after_continuation_bytes h = none h.front h.most h.all_continuation h.cut
   where
-    none : (front : List ℕ) → length front ≡ max_continuation → All IsContinuation front → 0x05 ∷ most ≡ front ++ h.byte ∷ h.rest → ⊥
+    none : (front : List ℕ) → length front ≡ max_continuation → All IsContinuation front
+        → 0x05 ∷ most ≡ front ++ h.byte ∷ h.rest → ⊥
     none [] many marks e = omega (arith, many)
     none (c ∷ front) many marks e = omega (arith, All-head IsContinuation c front marks, ap (λ (z : List ℕ). get_or z 0 0) e)
 
-not_minimal_are : BeginsMalformed not_minimal (0x80 ∷ 0x00 ∷ []) × BeginsMalformed not_minimal (most ++ 0x00 ∷ 0x07 ∷ [])
+not_minimal_are : BeginsMalformed not_minimal (0x80 ∷ 0x00 ∷ [])
+    × BeginsMalformed not_minimal (most ++ 0x00 ∷ 0x07 ∷ [])
 not_minimal_are = (
   record { front = 0x80 ∷ []; rest = []; all_continuation = all_continuation (0x80 ∷ []) refl; some = omega arith; few = omega arith; cut = refl },
   record { front = most; rest = 0x07 ∷ []; all_continuation = all_continuation most refl; some = omega arith; few = omega arith; cut = refl },
@@ -287,16 +296,18 @@ minimal_zero h = omega (arith, h.some, ap (λ (z : List ℕ). length z) h.cut, l
 minimal_after_too_many : ¬ (BeginsMalformed not_minimal ((0x80 ∷ most) ++ 0x00 ∷ []))
 minimal_after_too_many h = none max_continuation h.front h.few h.cut
   where
-    none : (k : ℕ) (front : List ℕ) → length front ≤ k → replicate (suc k) 0x80 ++ 0x00 ∷ [] ≡ front ++ 0 ∷ h.rest → ⊥
+    none : (k : ℕ) (front : List ℕ) → length front ≤ k
+        → replicate (suc k) 0x80 ++ 0x00 ∷ [] ≡ front ++ 0 ∷ h.rest → ⊥
     none k [] few e = omega (arith, ap (λ (z : List ℕ). get_or z 0 0) e)
     none zero (c ∷ front) few e = omega (arith, few)
     none (suc k) (c ∷ front) few e = none k front (omega (arith, few)) (ap (λ (z : List ℕ). drop 1 z) e)
 
--- the bytes before the zero are marked, and it is a zero
+-- continuation bytes and then a zero
 no_zero_after : (a b : ℕ) → a < 128 ⊎ 0 < b → ¬ (BeginsMalformed not_minimal (a ∷ b ∷ []))
 no_zero_after a b other h = none h.front h.some h.all_continuation h.cut
   where
-    none : (front : List ℕ) → 0 < length front → All IsContinuation front → a ∷ b ∷ [] ≡ front ++ 0 ∷ h.rest → ⊥
+    none : (front : List ℕ) → 0 < length front → All IsContinuation front → a ∷ b ∷ [] ≡ front ++ 0 ∷ h.rest
+        → ⊥
     none [] some marks e = omega (arith, some)
     none (c ∷ []) some marks e = elim other [
       | inl small ↦ omega (arith, small, All-head IsContinuation c [] marks, ap (λ (z : List ℕ). get_or z 0 0) e)

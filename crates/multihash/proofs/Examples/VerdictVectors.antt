@@ -1,5 +1,5 @@
--- The verdicts on known inputs, what more input may change, and which inputs settle. An input has no verdict but the one
--- that is computed (`verdict_is`), so a row says both what holds and what does not.
+-- The verdicts on known inputs, what more input may change, and which inputs settle. An input has no other
+-- verdict than the computed one (`verdict_is`), so a row states both what holds and what does not.
 use Rattle.std.proofs.Common.{◌≡◌, ◌∙◌, ltb, true, subst, ℕ, List, [], ◌∷◌, ◌++◌, refl, sym, arith, inl, inr, length, get_or, ap}
 use Rattle.std.specs.Prelude.{◌↔◌}
 use Rattle.std.specs.List.{list_all}
@@ -23,7 +23,7 @@ nine = eight ++ 0x80 ∷ []
 abbrev five : List ℕ
 five = 0x01 ∷ 0x02 ∷ 0x03 ∷ 0x04 ∷ 0x05 ∷ []
 
--- what a verdict names, where it names one
+-- the code of a verdict, or 0
 abbrev pub code_named : Verdict → ℕ
 code_named (accepted p) = p.code
 code_named (invalid_size size) = 0
@@ -42,7 +42,7 @@ size_named unexpected_eof = 0
 abbrev pub known : (S : ℕ) (x : List ℕ) → list_all (λ b. ltb b 256) x ≡ true → HasVerdict S x (found S x)
 known S x bytes = has_found S x (all_below 256 x bytes)
 
--- the verdict on the whole, where it is the same
+-- the verdict on the whole, if it is the same
 abbrev WholeToo : ℕ → List ℕ → Verdict → Type 0
 WholeToo S x (accepted p) = Unit {0}
 WholeToo S x (invalid_size size) = HasWholeVerdict S x (invalid_size size)
@@ -157,14 +157,14 @@ digest_full_whole = (record { code = 0x00 ∷ []; size = 0x04 ∷ []; is_code = 
 digest_and_one_more_whole : HasWholeVerdict 4 (0x00 ∷ 0x04 ∷ 0x01 ∷ 0x02 ∷ 0x03 ∷ 0x04 ∷ 0x09 ∷ []) (invalid_size 1)
 digest_and_one_more_whole = inr (pair 0 (0x01 ∷ 0x02 ∷ 0x03 ∷ 0x04 ∷ []), 0x09 ∷ [], record { encoding = 0x00 ∷ 0x04 ∷ 0x01 ∷ 0x02 ∷ 0x03 ∷ 0x04 ∷ []; encodes = record { code = 0x00 ∷ []; size = 0x04 ∷ []; is_code = varint_0; is_size = varint_4; spelled = refl }; cut = refl }, omega arith, refl, omega arith)
 
--- as many as are left over, whatever they are
+-- the number of trailing bytes, whatever they are
 digest_and_three_more_whole : HasWholeVerdict 4 (0x00 ∷ 0x01 ∷ 0x07 ∷ 0x00 ∷ 0x80 ∷ 0x05 ∷ []) (invalid_size 3)
 digest_and_three_more_whole = inr (pair 0 (0x07 ∷ []), 0x00 ∷ 0x80 ∷ 0x05 ∷ [], record { encoding = 0x00 ∷ 0x01 ∷ 0x07 ∷ []; encodes = record { code = 0x00 ∷ []; size = 0x01 ∷ []; is_code = varint_0; is_size = varint_1; spelled = refl }; cut = refl }, omega arith, refl, omega arith)
 
 nine_byte_code_whole : HasWholeVerdict 4 (eight ++ 0x01 ∷ 0x00 ∷ []) (accepted (pair 72057594037927936 []))
 nine_byte_code_whole = (record { code = eight ++ 0x01 ∷ []; size = 0x00 ∷ []; is_code = varint_72057594037927936; is_size = varint_0; spelled = refl }, omega arith)
 
--- nine are too many, whatever follows: nothing, a zero, or what a tenth byte would have to be
+-- nine continuation bytes are too many, whatever follows: nothing, a zero, or a tenth byte of a longer varint
 nine_continuation : (rest : List ℕ) → HasVerdict 4 (nine ++ rest) (malformed overflow)
 nine_continuation rest = inl (record { front = eight; byte = 0x80; rest = rest; all_continuation = all_continuation eight refl; most = refl; too_large = omega arith; cut = refl })
 
@@ -188,14 +188,14 @@ size_5 more = record { code = 0; code_bytes = 0x00 ∷ []; size_bytes = 0x05 ∷
 
 -- ---- what does not hold
 
--- no code that a varint encodes is out of range
+-- no code of a varint is out of range
 no_code_rejected : (S code : ℕ) (input : List ℕ) → ¬ (HasVerdict S input (invalid_code code))
 no_code_rejected S code input h = h
 
 no_code_rejected_whole : (S code : ℕ) (input : List ℕ) → ¬ (HasWholeVerdict S input (invalid_code code))
 no_code_rejected_whole S code input h = h
 
--- ---- what is left over
+-- ---- trailing bytes
 
 one_trailing : HasTrailing 4 (0x00 ∷ 0x00 ∷ 0x07 ∷ []) 1
 one_trailing = (pair 0 [], 0x07 ∷ [], begins_empty (0x07 ∷ []), omega arith, refl, omega arith)
@@ -203,22 +203,24 @@ one_trailing = (pair 0 [], 0x07 ∷ [], begins_empty (0x07 ∷ []), omega arith,
 nothing_trailing : ¬ (HasTrailing 4 (0x00 ∷ 0x00 ∷ []) 0)
 nothing_trailing (p, rest, begins, fits, count, some) = omega (arith, some)
 
--- ---- the verdicts that more input may change
+-- ---- the verdicts that are incomplete
 
 early : IsIncomplete (malformed insufficient) × IsIncomplete unexpected_eof
 early = (tt, tt)
 
-stays : ((p : Pair) → ¬ (IsIncomplete (accepted p))) × ((n : ℕ) → ¬ (IsIncomplete (invalid_size n))) × ((n : ℕ) → ¬ (IsIncomplete (invalid_code n)))
+stays : ((p : Pair) → ¬ (IsIncomplete (accepted p))) × ((n : ℕ) → ¬ (IsIncomplete (invalid_size n)))
+    × ((n : ℕ) → ¬ (IsIncomplete (invalid_code n)))
     × ¬ (IsIncomplete (malformed overflow)) × ¬ (IsIncomplete (malformed not_minimal))
 stays = ((λ p h. h), (λ n h. h), (λ n h. h), (λ h. h), λ h. h)
 
--- a size that the buffer can't hold, whatever follows
+-- a size above the capacity, whatever follows
 pub size_settles : Settles 4 (0 ∷ 5 ∷ [])
 size_settles = record { verdict = invalid_size 5; always = λ more _. (more, size_5 more, omega arith) }
 
--- a larger buffer waits for the digest, however many bytes it takes; a continuation byte of a size leaves the size open,
--- though its digit is above the buffer's
-waits : ¬ (Settles 5 (0 ∷ 5 ∷ [])) × ¬ (Settles 4 (0 ∷ 133 ∷ [])) × ¬ (Settles 4 []) × ¬ (Settles 4 (0 ∷ [])) × ¬ (Settles 4 (0 ∷ 4 ∷ 1 ∷ 2 ∷ 3 ∷ []))
+-- with a larger capacity the digest decides; after a continuation byte of the size more bytes decide, though
+-- its digit alone is above the capacity
+waits : ¬ (Settles 5 (0 ∷ 5 ∷ [])) × ¬ (Settles 4 (0 ∷ 133 ∷ [])) × ¬ (Settles 4 []) × ¬ (Settles 4 (0 ∷ []))
+    × ¬ (Settles 4 (0 ∷ 4 ∷ 1 ∷ 2 ∷ 3 ∷ []))
     × ¬ (Settles 300 (0x00 ∷ 0xff ∷ 0x01 ∷ [])) × ¬ (Settles 4 eight)
 waits = (
   early_not_settles 5 (0 ∷ 5 ∷ []) unexpected_eof tt (5, [], size_5 [], omega arith, omega arith),
@@ -244,7 +246,7 @@ shortest_of_size = record {
   shortest = λ shorter before. (shortest_size 4 5 (0 ∷ 5 ∷ 9 ∷ []) (9 ∷ []) (size_5 (9 ∷ [])) (omega arith)).shortest shorter before;
 }
 
--- which may be the whole input
+-- the settling prefix may be the whole input
 shortest_whole : IsShortestSettling 4 (0 ∷ 5 ∷ []) (0 ∷ 5 ∷ [])
 shortest_whole = shortest_size 4 5 (0 ∷ 5 ∷ []) [] (size_5 []) (omega arith)
 
@@ -253,11 +255,11 @@ not_shortest : ¬ (IsShortestSettling 4 (0 ∷ 5 ∷ 9 ∷ []) (0 ∷ 5 ∷ 9 �
 not_shortest h =
     h.shortest (0 ∷ 5 ∷ []) (9 ∷ [], (λ e. omega (arith, ap (λ (z : List ℕ). length z) e)), refl) size_settles
 
--- what settles need not begin another input
+-- a settling prefix is a prefix of its input only
 not_begun : ¬ (IsShortestSettling 4 (0 ∷ 5 ∷ 9 ∷ []) (0 ∷ 6 ∷ []))
 not_begun h = omega (arith, ap (λ (z : List ℕ). get_or z 1 0) h.begins.1)
 
--- an input that is longer than what settles it, and what does: the bytes that a call consumes
+-- an input that is longer than its settling prefix, and that prefix: the bytes that a call consumes
 shortest_of_padded_code : IsShortestSettling 4 (0x80 ∷ 0x00 ∷ 0x07 ∷ []) (0x80 ∷ 0x00 ∷ [])
 shortest_of_padded_code =
     shortest_code_fault 4 not_minimal (0x80 ∷ 0x00 ∷ 0x07 ∷ []) (λ early. early) (record {
@@ -279,7 +281,7 @@ shortest_of_padded_size =
       has = record { front = 0x85 ∷ []; rest = []; all_continuation = all_continuation (0x85 ∷ []) refl; some = omega arith; few = omega arith; cut = refl };
     })
 
--- a ninth continuation byte is enough, whatever follows
+-- a ninth continuation byte settles, whatever follows
 shortest_of_overflow : (rest : List ℕ) → IsShortestSettling 4 (eight ++ 0x80 ∷ rest) (eight ++ 0x80 ∷ [])
 shortest_of_overflow rest =
     shortest_code_fault 4 overflow (eight ++ 0x80 ∷ rest) (λ early. early) (record {
@@ -290,7 +292,7 @@ shortest_of_overflow rest =
       has = record { front = eight; byte = 0x80; rest = []; all_continuation = all_continuation eight refl; most = refl; too_large = omega arith; cut = refl };
     })
 
--- in a size too: one byte of the code, and nine
+-- in a size too: one byte of the code, and nine of the size
 shortest_of_size_overflow : IsShortestSettling 4 (0x00 ∷ eight ++ 0xff ∷ 0x01 ∷ []) (0x00 ∷ eight ++ 0xff ∷ [])
 shortest_of_size_overflow =
     shortest_size_fault 4 overflow (0x00 ∷ eight ++ 0xff ∷ 0x01 ∷ []) (eight ++ 0xff ∷ 0x01 ∷ []) (λ early. early)
@@ -324,6 +326,6 @@ shortest_of_long_size =
     shortest_size 4 133 (0x00 ∷ 0x85 ∷ 0x01 ∷ 0x07 ∷ []) (0x07 ∷ [])
     (record { code = 0; code_bytes = 0x00 ∷ []; size_bytes = 0x85 ∷ 0x01 ∷ []; is_code = varint_0; is_size = varint_133; cut = refl }) (omega arith)
 
--- no byte at all is too few
+-- the empty prefix does not settle
 not_shorter : ¬ (IsShortestSettling 4 (0 ∷ 5 ∷ 9 ∷ []) [])
 not_shorter h = waits.2 h.settles

@@ -1,4 +1,5 @@
--- How known writers failed, what they appended, what their laws rule out, and what known slices and vectors then contain.
+-- How known writers failed, what they appended, what their laws exclude, and what known slices and vectors
+-- contain then.
 use Rattle.std.proofs.Common.{◌≡◌, ◌≢◌, ◌≤◌, ℕ, Bool, true, false, List, [], ◌∷◌, ◌++◌, length, get_or, refl, sym, ap, ◌∙◌, arith, inl, inr, length-append}
 use Rattle.std.specs.Prelude.{⊤, Result, Ok, Err}
 use Rattle.std.proofs.lemmas.Bool.{false≢true}
@@ -13,36 +14,38 @@ use Rattle.multihash.specs.declared.no_std_io.slice_writer.SliceWriter.{SliceWri
 failed_writer : IsWriterFault false 3 4 other × IsWriterFault true 3 3 memory
 failed_writer = (record { kind = inl refl; cause = inl refl }, record { kind = inr refl; cause = inr (refl, refl, refl) })
 
--- a failing call counts one failure, and running out of memory none; no call lowers the count, whatever it returns
+-- a failing call counts one failure, and one that is out of memory none; no call lowers the count
 counts_not_so : ¬ (IsWriterFault true 3 5 memory) × ¬ (IsWriterFault true 4 3 memory)
 counts_not_so = (
   (λ h. elim h.cause [ inl one ↦ omega (arith, one) | inr (allocates, e, same) ↦ omega (arith, same) ]),
   λ h. elim h.cause [ inl one ↦ omega (arith, one) | inr (allocates, e, same) ↦ omega (arith, same) ],
 )
 
--- an error that isn't counted is out of memory
+-- an error that is not counted is out of memory
 invents_no_fault : ¬ (IsWriterFault true 3 5 other) × ¬ (IsWriterFault true 3 3 other)
 invents_no_fault = (
   (λ h. elim h.cause [ inl one ↦ omega (arith, one) | inr (allocates, e, same) ↦ cc ]),
   λ h. elim h.cause [ inl one ↦ omega (arith, one) | inr (allocates, e, same) ↦ cc ],
 )
 
--- one that doesn't allocate is out of memory only as a counted error
+-- a writer that doesn't allocate is out of memory only with a counted failure
 wants_no_memory : ¬ (IsWriterFault false 3 3 memory)
 wants_no_memory h = elim h.cause [ inl one ↦ omega (arith, one) | inr (allocates, e, same) ↦ false≢true allocates ]
 
--- neither the end of an input nor a place that is missing is a fault of a writer's own
-no_own_kind : (allocates : Bool) (before after : ℕ) → ¬ (IsWriterFault allocates before after eof) × ¬ (IsWriterFault allocates before after full)
+-- neither the end of the input nor a full writer is an error of the writer itself
+no_own_kind : (allocates : Bool) (before after : ℕ)
+    → ¬ (IsWriterFault allocates before after eof) × ¬ (IsWriterFault allocates before after full)
 no_own_kind allocates before after = ((λ h. elim h.kind [ inl e ↦ cc | inr e ↦ cc ]), λ h. elim h.kind [ inl e ↦ cc | inr e ↦ cc ])
 
 abbrev Stops : ℕ → ℕ → Type 0 → Fault → Type 0
 Stops before after is_full e = IsWriterFaultOrFull false before after is_full e
 
--- only one that is full has no place left, and nothing is counted then
+-- only a writer that is full returns so, and nothing is counted then
 full_writer : Stops 3 3 ⊤ full
 full_writer = inr (refl, refl, tt)
 
-full_alone : (before after : ℕ) (is_full : Type 0) → Stops before after is_full full → (after ≡ before) × is_full
+full_alone : (before after : ℕ) (is_full : Type 0) → Stops before after is_full full
+    → (after ≡ before) × is_full
 full_alone before after is_full (inl h) = absurd ((no_own_kind false before after).1 h)
 full_alone before after is_full (inr h) = (h.1, h.2)
 
@@ -56,7 +59,7 @@ Writer before after is_full outcome = CountsWriterFailures IsFault true before a
 writer : Writer 3 3 ⊥ (Ok 1) × Writer 3 3 ⊤ (Err full) × Writer 3 3 ⊥ (Err memory)
 writer = (refl, inr (refl, refl, tt), inl (record { kind = inr refl; cause = inr (refl, refl, refl) }))
 
--- an Ok leaves the count
+-- an Ok leaves the count unchanged
 writer_counts_at_ok : ¬ (Writer 3 4 ⊥ (Ok 1)) × ¬ (Writer 4 3 ⊥ (Ok 1)) × ¬ (Writer 3 4 ⊤ (Ok 1))
 writer_counts_at_ok = ((λ h. omega (arith, h)), (λ h. omega (arith, h)), λ h. omega (arith, h))
 
@@ -64,7 +67,7 @@ never_full : ¬ (Writer 3 4 ⊥ (Err full))
 never_full (inl h) = (no_own_kind true 3 4).1 h
 never_full (inr h) = h.2
 
--- a count never falls, by whatever fault
+-- the count never falls, whatever the error
 count_rises : {allocates : Bool} {before after : ℕ} {is_full : Type 0} {e : Fault}
     → IsWriterFaultOrFull allocates before after is_full e → before ≤ after
 count_rises (inl h) = elim h.cause [ inl counted ↦ omega (arith, counted) | inr refused ↦ omega (arith, refused.2) ]
@@ -84,7 +87,7 @@ appends_part =
       appends = refl;
     }
 
--- a part is never the whole
+-- a strict prefix is never the whole
 appends_no_whole : ¬ (AppendsPrefix AppendsAtEnd [] (1 ∷ 2 ∷ []) (1 ∷ 2 ∷ []))
 appends_no_whole h =
     none h.strict.0 h.strict.1 (h.strict.2 ∙ ap (λ (z : List ℕ). z ++ h.strict.0) (sym h.appends))
@@ -97,9 +100,9 @@ appends_no_other_part : ¬ (AppendsPrefix AppendsAtEnd [] (1 ∷ 2 ∷ []) (2 �
 appends_no_other_part h =
     omega (arith, ap (λ (z : List ℕ). get_or z 0 0) (h.strict.2 ∙ ap (λ (z : List ℕ). z ++ h.strict.0) (sym h.appends)))
 
--- ---- the laws of `write`, each refuted where the others hold
+-- ---- the laws of `write`, each violated while the others hold
 
--- a writer of three places whose bytes and count of failures are known
+-- a writer of capacity 3 whose bytes and count of failures are known
 abbrev State : Type 0
 State = List ℕ × ℕ
 
@@ -155,11 +158,11 @@ fails_and_appends_nothing h = omega (arith, ap (λ (z : List ℕ). length z) h.e
 writes_with_no_hidden_fault : ¬ (Writes ([], 0) (1 ∷ []) (1 ∷ [], 1) (Ok 1))
 writes_with_no_hidden_fault h = omega (arith, h.faults)
 
--- a full writer returns a count of 0
+-- a full writer returns 0
 full_is_no_fault : ¬ (Writes (7 ∷ 8 ∷ 9 ∷ [], 0) (1 ∷ []) (7 ∷ 8 ∷ 9 ∷ [], 0) (Err full))
 full_is_no_fault h = (full_alone 0 0 ⊥ h.faults).1
 
--- nor has this one, which doesn't allocate, want of memory that it doesn't count
+-- this writer, which doesn't allocate, is not out of memory without a counted failure
 write_wants_no_memory : ¬ (Writes ([], 0) (1 ∷ []) ([], 0) (Err memory))
 write_wants_no_memory h =
     elim h.faults [
@@ -218,27 +221,27 @@ full_with_no_place_alone h = omega (arith, (full_alone 0 0 (has_no_place (1 ∷ 
 fills_two : FillsSlice (7 ∷ 8 ∷ 9 ∷ 9 ∷ []) 1 (1 ∷ 2 ∷ []) (7 ∷ 1 ∷ 2 ∷ 9 ∷ []) 3
 fills_two = record { appends = refl; advances = record { room = omega arith; left = refl }; count = refl }
 
--- all places may be filled
+-- the whole slice may be filled
 fills_all : FillsSlice (7 ∷ 8 ∷ []) 0 (1 ∷ 2 ∷ []) (1 ∷ 2 ∷ []) 2
 fills_all = record { appends = refl; advances = record { room = omega arith; left = refl }; count = refl }
 
--- there are no more places than the slice has
+-- no more than the slice is filled
 fills_no_more : ¬ (FillsSlice (7 ∷ []) 0 (1 ∷ 2 ∷ []) (1 ∷ 2 ∷ []) 2)
 fills_no_more h = omega (arith, h.advances.room)
 
--- what was written before stays
+-- the bytes written before are unchanged
 fills_no_front : ¬ (FillsSlice (7 ∷ 8 ∷ []) 1 (1 ∷ []) (1 ∷ 8 ∷ []) 2)
 fills_no_front h = omega (arith, ap (λ (z : List ℕ). get_or z 0 0) h.appends)
 
--- the places hold the bytes
+-- the bytes are those that were written
 fills_with_no_other : ¬ (FillsSlice (7 ∷ 8 ∷ []) 1 (1 ∷ []) (7 ∷ 2 ∷ []) 2)
 fills_with_no_other h = omega (arith, ap (λ (z : List ℕ). get_or z 1 0) h.appends)
 
--- the places after them stay
+-- the bytes after them are unchanged
 fills_no_further : ¬ (FillsSlice (7 ∷ 8 ∷ 9 ∷ []) 0 (1 ∷ []) (1 ∷ 8 ∷ 0 ∷ []) 1)
 fills_no_further h = omega (arith, ap (λ (z : List ℕ). get_or z 1 0) h.advances.left)
 
--- the slice keeps its places
+-- the slice keeps its length
 fills_cuts_none : ¬ (FillsSlice (7 ∷ 8 ∷ []) 0 (1 ∷ []) (1 ∷ []) 1)
 fills_cuts_none h = omega (arith, ap (λ (z : List ℕ). length z) h.advances.left)
 
@@ -249,36 +252,40 @@ counts_no_fewer h = omega (arith, h.count)
 counts_no_more : ¬ (FillsSlice (7 ∷ 8 ∷ 9 ∷ []) 0 (1 ∷ []) (1 ∷ 8 ∷ 9 ∷ []) 2)
 counts_no_more h = omega (arith, h.count)
 
--- what became of the places is what makes a writer's state the next one
-fills_slice : (old new : SliceWriter) → new.buffer.ghost_name ≡ old.buffer.ghost_name → old.buffer.now ≡ 7 ∷ 8 ∷ []
+-- the buffers and the counts of a writer's two states are compared
+fills_slice : (old new : SliceWriter) → new.buffer.ghost_name ≡ old.buffer.ghost_name
+    → old.buffer.now ≡ 7 ∷ 8 ∷ []
     → old.filled ≡ 1 → new.buffer.now ≡ 7 ∷ 1 ∷ [] → new.filled ≡ 2 → Fills old (1 ∷ []) new
 fills_slice old new same before from after to = record {
   same_slice = same;
   fills = rw (before, from, after, to) (record { appends = refl; advances = record { room = omega arith; left = refl }; count = refl });
 }
 
-fills_slice_with_no_other : (old new : SliceWriter) → new.buffer.ghost_name ≡ old.buffer.ghost_name → old.buffer.now ≡ 7 ∷ 8 ∷ []
+fills_slice_with_no_other : (old new : SliceWriter) → new.buffer.ghost_name ≡ old.buffer.ghost_name
+    → old.buffer.now ≡ 7 ∷ 8 ∷ []
     → old.filled ≡ 1 → new.buffer.now ≡ 7 ∷ 6 ∷ [] → new.filled ≡ 2 → ¬ (Fills old (5 ∷ []) new)
 fills_slice_with_no_other old new same before from after to h =
     let filled : FillsSlice (7 ∷ 8 ∷ []) 1 (5 ∷ []) (7 ∷ 6 ∷ []) 2 = rw (sym before, sym from, sym after, sym to) h.fills in
     omega (arith, ap (λ (z : List ℕ). get_or z 1 0) filled.appends)
 
-fills_slice_uncounted : (old new : SliceWriter) → new.buffer.ghost_name ≡ old.buffer.ghost_name → old.filled ≡ 1 → new.filled ≡ 1
+fills_slice_uncounted : (old new : SliceWriter) → new.buffer.ghost_name ≡ old.buffer.ghost_name
+    → old.filled ≡ 1 → new.filled ≡ 1
     → ¬ (Fills old (1 ∷ []) new)
 fills_slice_uncounted old new same from to h = omega (arith, from, to, h.fills.count)
 
 -- another slice is not the one that was filled
-fills_no_other_slice : (old new : SliceWriter) (bytes : List ℕ) → ¬ (new.buffer.ghost_name ≡ old.buffer.ghost_name) → ¬ (Fills old bytes new)
+fills_no_other_slice : (old new : SliceWriter) (bytes : List ℕ)
+    → ¬ (new.buffer.ghost_name ≡ old.buffer.ghost_name) → ¬ (Fills old bytes new)
 fills_no_other_slice old new bytes other h = other h.same_slice
 
--- a writer with a place left is not full, and one with none is
+-- a writer with capacity left is not full, and one with none is
 is_not_filled : (w : SliceWriter) → length w.buffer.now ≡ 2 → w.filled ≡ 1 → ¬ (IsFilled w)
 is_not_filled w long filled h = omega (arith, long, filled, h)
 
 is_filled : (w : SliceWriter) → length w.buffer.now ≡ 2 → w.filled ≡ 2 → IsFilled w
 is_filled w long filled = omega (arith, long, filled)
 
--- all places may be given up
+-- the slice may advance past all its bytes
 gives_up : AdvancesPast (7 ∷ 8 ∷ 9 ∷ []) (1 ∷ 2 ∷ []) (9 ∷ []) × AdvancesPast (7 ∷ 8 ∷ []) (1 ∷ 2 ∷ []) []
 gives_up = (record { room = omega arith; left = refl }, record { room = omega arith; left = refl })
 
@@ -288,20 +295,23 @@ gives_up_no_more new h = omega (arith, h.room)
 gives_up_the_first : ¬ (AdvancesPast (7 ∷ 8 ∷ []) (1 ∷ []) (7 ∷ []))
 gives_up_the_first h = omega (arith, ap (λ (z : List ℕ). get_or z 0 0) h.left)
 
--- as many as were requested
-gives_up_as_many : ¬ (AdvancesPast (7 ∷ 8 ∷ 9 ∷ []) (1 ∷ 2 ∷ []) (8 ∷ 9 ∷ [])) × ¬ (AdvancesPast (7 ∷ 8 ∷ 9 ∷ []) (1 ∷ []) [])
+-- past as many as were requested
+gives_up_as_many : ¬ (AdvancesPast (7 ∷ 8 ∷ 9 ∷ []) (1 ∷ 2 ∷ []) (8 ∷ 9 ∷ []))
+    × ¬ (AdvancesPast (7 ∷ 8 ∷ 9 ∷ []) (1 ∷ []) [])
 gives_up_as_many = ((λ h. omega (arith, ap (λ (z : List ℕ). length z) h.left)), λ h. omega (arith, ap (λ (z : List ℕ). length z) h.left))
 
 appends_two : AppendsAtEnd (7 ∷ []) (1 ∷ 2 ∷ []) (7 ∷ 1 ∷ 2 ∷ [])
 appends_two = refl
 
--- what was there stays, and no other bytes follow it
-appends_no_other : ¬ (AppendsAtEnd (7 ∷ []) (1 ∷ []) (1 ∷ 7 ∷ [])) × ¬ (AppendsAtEnd (7 ∷ []) (1 ∷ []) (8 ∷ 1 ∷ [])) × ¬ (AppendsAtEnd (7 ∷ []) (1 ∷ []) (7 ∷ 2 ∷ []))
+-- the old bytes are unchanged, and only the new bytes follow
+appends_no_other : ¬ (AppendsAtEnd (7 ∷ []) (1 ∷ []) (1 ∷ 7 ∷ []))
+    × ¬ (AppendsAtEnd (7 ∷ []) (1 ∷ []) (8 ∷ 1 ∷ [])) × ¬ (AppendsAtEnd (7 ∷ []) (1 ∷ []) (7 ∷ 2 ∷ []))
 appends_no_other = (
   (λ h. omega (arith, ap (λ (z : List ℕ). get_or z 0 0) h)),
   (λ h. omega (arith, ap (λ (z : List ℕ). get_or z 0 0) h)),
   λ h. omega (arith, ap (λ (z : List ℕ). get_or z 1 0) h),
 )
 
-appends_as_many : ¬ (AppendsAtEnd (7 ∷ []) (1 ∷ 2 ∷ []) (7 ∷ 1 ∷ [])) × ¬ (AppendsAtEnd (7 ∷ []) (1 ∷ []) (7 ∷ 1 ∷ 2 ∷ []))
+appends_as_many : ¬ (AppendsAtEnd (7 ∷ []) (1 ∷ 2 ∷ []) (7 ∷ 1 ∷ []))
+    × ¬ (AppendsAtEnd (7 ∷ []) (1 ∷ []) (7 ∷ 1 ∷ 2 ∷ []))
 appends_as_many = ((λ h. omega (arith, ap (λ (z : List ℕ). length z) h)), λ h. omega (arith, ap (λ (z : List ℕ). length z) h))

@@ -1,4 +1,4 @@
--- The JSON form: one pair a list, its text, and the bytes that an array's members are.
+-- The JSON form: a list has one pair; its text; the bytes that an array's members are.
 use Rattle.std.proofs.Common.{◌≡◌, ℕ, ◌<◌, List, [], ◌∷◌, ◌++◌, map, refl, sym, ap, ◌∙◌, subst, ◌≤◌, Some, Result, Ok, Err, IfOk, arith, zero, suc, true, false, length, take, drop, set, slice_index_or, is_some, Option, None, inl, inr}
 use Rattle.serde_json.specs.Data.{Data, number, unsigned, Items, items_depth, depth, negative, float, null, boolean, string, array, object}
 use Rattle.serde_json.specs.View.{items_of, view, items_view}
@@ -47,7 +47,8 @@ flat : (ns : List ℕ) → items_depth (numbers ns) ≡ 0
 flat [] = refl
 flat (n ∷ ns) = rw (flat ns) refl
 
--- the printed text of a pair's list reads back as a list of the pair: the second fact is what `serde_json` says of the text
+-- the printed text of a pair's list reads back as a list of the pair: the second fact is the contract of
+-- `serde_json`
 pub list_reads_back : {p : Pair} {d : Data} (text : List ℕ) → IsJsonList p d → (depth d ≤ max_depth → read text ≡ Some d)
     → (e : Data) × (read text ≡ Some e) × IsJsonList p e
 list_reads_back {d = d} text listed back =
@@ -129,7 +130,7 @@ no_byte_array d vs bytes e some h =
     let items : items_view vs ≡ numbers bytes = cc in
     false≢true (sym some ∙ bytes_all vs bytes items h.are_bytes)
 
--- the first member's byte, and the others'
+-- the byte of the first member, and those of the others
 pub first_byte : (v : Value) (vs : List Value) (b : ℕ) → byte_of_data (view v) ≡ Some b → member_bytes (v ∷ vs) ≡ b ∷ member_bytes vs
 first_byte v vs b found = rw found refl
 

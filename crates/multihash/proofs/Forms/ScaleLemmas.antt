@@ -1,4 +1,4 @@
--- One SCALE form a pair, one verdict an input, and what decoding promises of a result.
+-- A pair has one SCALE form, an input one verdict; the contract of decoding for each way to end.
 use Rattle.std.proofs.Common.{◌≡◌, ℕ, zero, suc, ◌/◌, ◌%◌, ◌^◌, ◌<◌, List, length, get_or, refl, sym, ap, ◌∙◌, arith, ◌+◌, ◌≤◌, cond, ltb, [], ◌∷◌, ◌++◌, take, drop, subst, inl, inr, length-append, append_assoc, append-nil, ◌⊎◌, Option, Result, Ok, Err, IfSome, IfOk, IfErr}
 use Rattle.std.specs.Int.{byte_at, bytes_low_first, to_le_bytes, from_le_bytes, w64}
 use Rattle.std.proofs.Math.Nat.{pow-suc, pow-zero, div-add-mod, div-div-eq-div-mul, div-one}
@@ -51,7 +51,7 @@ code_bytes code range = record {
   value = value_of_bytes 8 0 code (rw (pow-zero 256, div-one code) (omega (arith, range))) ∙ (ap (λ (p : ℕ). code / p) (pow-zero 256) ∙ div-one code);
 }
 
--- and of the code that is read from them
+-- the eight bytes that a code is read from
 pub code_read : (bytes : List ℕ) (code : ℕ) → length bytes ≡ 8 → ((i : ℕ) → get_or bytes i 0 < 256) → code < 256 ^ 8
     → code ≡ from_le_bytes w64 bytes → IsScaleCode code bytes
 code_read bytes code eight each range read =
@@ -89,7 +89,7 @@ scale_after S code (size ∷ rest) =
 abbrev scale_judged : ℕ → ℕ → List ℕ → Verdict
 scale_judged S code rest = cond (ltb code varint_limit) (scale_after S code rest) (invalid_code code)
 
--- k is 8, and a variable, so that `take` stays as it is
+-- k is 8, but a variable, so that `take` is not computed
 abbrev found_at : ℕ → ℕ → List ℕ → Verdict
 found_at k S x = cond (ltb (length x) k) unexpected_eof (scale_judged S (place_value 256 (take k x)) (drop k x))
 
@@ -123,14 +123,14 @@ found_is k S x unexpected_eof eight (inr (inr (size, rest, h, within, short))) =
 abbrev pub scale_found : ℕ → List ℕ → Verdict
 scale_found S x = found_at 8 S x
 
--- an input has no verdict but that one
+-- an input has no other verdict than the computed one
 pub scale_verdict_is : (S : ℕ) (x : List ℕ) (v : Verdict) → HasScaleVerdict S x v → v ≡ scale_found S x
 scale_verdict_is S x v h = sym (found_is 8 S x v refl h)
 
 pub scale_verdict_unique : (S : ℕ) (x : List ℕ) (v w : Verdict) → HasScaleVerdict S x v → HasScaleVerdict S x w → v ≡ w
 scale_verdict_unique S x v w h k = scale_verdict_is S x v h ∙ sym (scale_verdict_is S x w k)
 
--- two forms in front of one input are of one pair
+-- two forms at the front of one input are equal, of the same pair
 pub scale_split : (p q : Pair) (a b r s : List ℕ) → IsScale p a → IsScale q b → a ++ r ≡ b ++ s → (p ≡ q) × (a ≡ b) × (r ≡ s)
 scale_split p q a b r s h k e =
     let verdicts : accepted p ≡ accepted q = scale_verdict_unique 255 (a ++ r) (accepted p) (accepted q)
@@ -139,7 +139,7 @@ scale_split p q a b r s h k e =
     let forms : a ≡ b = scale_same q a b (subst (λ x. IsScale x a) pairs h) k in
     (pairs, forms, append_cancel_left b r s (ap (λ x. x ++ r) (sym forms) ∙ e))
 
--- ---- some verdict
+-- ---- a verdict exists
 
 scale_sized : (S size : ℕ) (x rest : List ℕ) → HasScaleSize size x rest → size < 256 → (v : Verdict) × HasScaleVerdict S x v
 scale_sized S size x rest h byte =
@@ -166,7 +166,7 @@ scale_in_range S code x bytes (size ∷ rest) is_code cut each below =
     scale_sized S size x rest (record { code = code; code_bytes = bytes; is_code = is_code; in_range = below; cut = cut })
     (All-head (λ b. b < 256) size rest each)
 
--- that many bytes, and the others
+-- the first k bytes, and the others
 cut_at : (k : ℕ) (x : List ℕ) → k ≤ length x → (front : List ℕ) × (rest : List ℕ) × (x ≡ front ++ rest) × (length front ≡ k)
 cut_at k x long = (take k x, drop k x, sym (take-append-drop k x), length-take-le k x long)
 
@@ -185,7 +185,7 @@ scale_verdict_exists S x bytes =
           ]
     ]
 
--- and it is the one that is computed
+-- the computed verdict holds
 pub has_scale_found : (S : ℕ) (x : List ℕ) → IsBytes x → HasScaleVerdict S x (scale_found S x)
 has_scale_found S x bytes = let (v, h) = scale_verdict_exists S x bytes in subst (HasScaleVerdict S x) (scale_verdict_is S x v h) h
 
@@ -204,7 +204,7 @@ ScaleMeets S old new before after r = record {
 }
 
 module _ (S : ℕ) (old new : Option (List ℕ)) (before after : ℕ) where
-  -- where what was consumed settles that the code or the size is rejected
+  -- the consumed bytes determine that the code or the size is rejected
   refused : (e : Refusal) (consumed : List ℕ) (v : Verdict) → Consumes old consumed new → after ≡ before
       → ((left : List ℕ) → HasScaleVerdict S (consumed ++ left) v) → ¬ (IsIncomplete v) → IsErrorOf e v → ScaleMayFailWith S e
       → ((code : ℕ) → v ≡ invalid_code code → length consumed ≡ 8)
@@ -256,7 +256,7 @@ module _ (S : ℕ) (old new : Option (List ℕ)) (before after : ℕ) where
             err = tt;
           }
 
-  -- where the reader ended or failed inside that many bytes, after others
+  -- the input ended or the reader failed within n bytes that follow others
   pub inside_rejected : (a : List ℕ) (n : ℕ) → ((t : List ℕ) → length t < n → HasScaleVerdict S (a ++ t) unexpected_eof)
       → (fault : Fault) (front : List ℕ) (mid : Option (List ℕ)) → length front < n → Consumes old a mid → Consumes mid front new
       → (IsUnexpectedEof fault → HasFewerThan n mid) → ((after ≡ before + 1) × IsOwnFault fault) ⊎ ((after ≡ before) × IsUnexpectedEof fault)

@@ -29,7 +29,7 @@ none_left bytes h = by h.encodings h.each h.concatenated
     by [] each concatenated = concatenated
     by (e ∷ es) each concatenated = absurd each
 
--- the first pair's encoding, and the others'
+-- the first pair's encoding, and those of the others
 abbrev pub First : Pair → List Pair → List ℕ → Type 0
 First p ps bytes = (e : List ℕ) × (others : List ℕ) × IsEncoding p e × AreConcatenated ps others × (bytes ≡ e ++ others)
 
@@ -40,7 +40,7 @@ first_of p ps bytes h = by h.encodings h.each h.concatenated
     by [] each concatenated = absurd each
     by (e ∷ es) each concatenated = (e, concat es, each.0, record { encodings = es; each = each.1; concatenated = refl }, concatenated)
 
--- an encoding has some bytes
+-- an encoding is not empty
 none_concatenated : (p : Pair) (ps : List Pair) → AreConcatenated (p ∷ ps) [] → ⊥
 none_concatenated p ps h =
     let (x, a, e, _, cut) = first_of p ps [] h in
@@ -54,7 +54,7 @@ none_concatenated p ps h =
       length-append (continuation_bytes e.is_code.front) (e.is_code.last ∷ []),
     )
 
--- two streams that begin one input begin with one encoding, of one pair
+-- two streams at the front of one input start with the same encoding, of the same pair
 pub same_first : (p q : Pair) (ps qs : List Pair) (a b r s : List ℕ) (h : First p ps a) (k : First q qs b) → a ++ r ≡ b ++ s
     → (p ≡ q) × (h.1 ++ r ≡ k.1 ++ s)
 same_first p q ps qs a b r s (x, y, h, _, cut) (z, w, k, _, cut') e =
@@ -87,7 +87,7 @@ concatenated_whole (p ∷ ps) (q ∷ qs) bytes h k =
     let same : y.1 ≡ x.1 = sym (sym (append-nil x.1) ∙ first.1 ∙ append-nil y.1) in
     cc (first.0, concatenated_whole ps qs x.1 x.3 (subst (AreConcatenated qs) same y.3))
 
--- some pairs have one joined encoding
+-- pairs have one concatenated encoding
 pub concatenated_same : (ps : List Pair) (a b : List ℕ) → AreConcatenated ps a → AreConcatenated ps b → a ≡ b
 concatenated_same [] a b h k = none_left a h ∙ sym (none_left b k)
 concatenated_same (p ∷ ps) a b h k =

@@ -1,4 +1,4 @@
--- Two readings, one after the other: who failed, and what both consumed.
+-- Two readings, one after the other: which failed, and what both consumed.
 use Rattle.std.proofs.Common.{◌≡◌, ◌+◌, ℕ, ◌⊎◌, List, ◌++◌, Option, inl, inr, refl}
 use Rattle.multihash.specs.Reading.{Consumes}
 use Rattle.multihash.specs.Consuming.{ConsumesSome, InTurn}
@@ -9,7 +9,7 @@ pub listed_or_own : {Own Listed : Type 0} {before after : ℕ} → ((after ≡ b
 listed_or_own (inl own) = inr own.1
 listed_or_own (inr listed) = inl listed.1
 
--- both succeeded: what they consumed, joined, was consumed
+-- both succeeded: what they consumed, concatenated, has been consumed
 pub in_turn_consumed : {A : Type 0} {P Q : A → List ℕ → Type 0} (old new : Option (List ℕ))
     → InTurn (λ a. ConsumesSome (P a)) (λ a. ConsumesSome (Q a)) old new
     → (a : A) × (x y : List ℕ) × P a x × Q a y × Consumes old (x ++ y) new

@@ -1,4 +1,4 @@
--- What `read` promises where it stops, and where it stops in the code, the size or the digest.
+-- The contract of `read` for each way to end: in the code, the size or the digest.
 use Rattle.std.proofs.Common.{◌∙◌, ◌≡◌, ◌+◌, ◌<◌, ◌⊎◌, ℕ, List, [], ◌++◌, Option, Some, Result, Ok, Err, IfSome, IfOk, IfErr, refl, sym, ap, subst, inl, inr, arith, append-nil, ◌≤◌, length, append_assoc}
 use Rattle.multihash.specs.Bytes.{IsStrictPrefix}
 use Rattle.multihash.specs.Pair.{FitsBuffer, digest_limit}
@@ -16,11 +16,11 @@ use Rattle.multihash.proofs.Readings.ReadingLemmas.{IfSome-consumed, Consumes-co
 use Rattle.multihash.proofs.Readings.VerdictLemmas.{verdict_unique, coded, sized}
 use Rattle.multihash.proofs.Readings.SettlingLemmas.{verdict_kept, none_settles, EndsEarly, before_digest, shortest_from, before_second, before_both}
 
--- an input that ends early, or a reader that failed
+-- an incomplete input, or a reader that failed
 abbrev pub EndsOrFails : ℕ → List ℕ → ℕ → ℕ → Type 0
 EndsOrFails S rest before after = (before < after) ⊎ ((v : Verdict) × HasVerdict S rest v × IsIncomplete v)
 
--- what `read` promises of an outcome
+-- the contract of `read` for a result
 abbrev pub ReadMeets : (S : ℕ) → Option (List ℕ) → Option (List ℕ) → ℕ → ℕ → Result (Fields S) Refusal → Type 0
 ReadMeets S old new before after r = record {
   faults : CountsReaderFailures IsReaderError (ReadMayFailWith S) before after r;
@@ -49,7 +49,7 @@ verdict_of_refusal e (invalid_code code) given = ap verdict_of (sym given)
 verdict_of_refusal e (malformed fault) given = ap verdict_of (sym given)
 verdict_of_refusal e unexpected_eof given = ap verdict_of (sym given.1)
 
--- so one verdict alone does
+-- so an error is that of one verdict only
 pub refusal_unique : (e : Refusal) (v w : Verdict) → IsErrorOf e v → IsErrorOf e w → v ≡ w
 refusal_unique e v w h k = verdict_of_refusal e v h ∙ sym (verdict_of_refusal e w k)
 
@@ -64,7 +64,7 @@ pub own_no_refusal : (e : Refusal) (v : Verdict) → IsReaderError e → IsError
 own_no_refusal e v own given =
     own_not_eof e own (subst (IsErrorOf e) (verdict_of_refusal e v given ∙ ap verdict_of own.1) given)
 
--- an error of a verdict is one that `read` lists
+-- the error of a verdict is one that `read` lists
 listed : (S : ℕ) (e : Refusal) (consumed : List ℕ) (v : Verdict) → IsErrorOf e v → HasVerdict S consumed v → ReadMayFailWith S e
 listed S e consumed (accepted p) given has = absurd given
 listed S e consumed (invalid_size size) given has = inl (size, given, has.2)
@@ -72,11 +72,11 @@ listed S e consumed (invalid_code code) given has = absurd has
 listed S e consumed (malformed fault) given has = inr (inl (fault, given))
 listed S e consumed unexpected_eof given has = inr (inr given)
 
--- ---- where it stops
+-- ---- for each verdict
 
 module _ (S : ℕ) (consumed : List ℕ) (old new : Option (List ℕ)) (before after : ℕ) (consumes : Consumes old consumed new) (v : Verdict)
     (has : HasVerdict S consumed v) where
-  -- at a verdict that is not incomplete, where everything shorter ends early
+  -- a verdict that is not incomplete, while every strict prefix is incomplete
   module _ (unrisen : after ≡ before) (late : ¬ (IsIncomplete v)) (no_sooner : (p : List ℕ) → IsStrictPrefix p consumed → EndsEarly S p) where
     kept : (left : List ℕ) → HasVerdict S (consumed ++ left) v
     kept left = verdict_kept S consumed left v late has
@@ -131,7 +131,7 @@ module _ (S : ℕ) (consumed : List ℕ) (old new : Option (List ℕ)) (before a
     none = IfSome-consumed old new consumed _ consumes (λ left is why.
         record { consumed = consumed; consumes = ap (prepend_known consumed) (sym is); unsettled = none_settles S consumed v has soon })
 
-    -- at an incomplete input, which the whole input has too
+    -- an incomplete verdict, which is that of the whole input too
     pub at_incomplete : (e : Refusal) → after ≡ before → IsErrorOf e v → (v ≡ malformed insufficient → IsAtEnd new)
         → ((left : List ℕ) → new ≡ Some left → HasVerdict S (consumed ++ left) v) → ReadMeets S old new before after (Err e)
     at_incomplete e unrisen given all whole = record {
@@ -152,7 +152,7 @@ module _ (S : ℕ) (consumed : List ℕ) (old new : Option (List ℕ)) (before a
       unsettled = none;
     }
 
-    -- where the reader failed
+    -- the reader failed
     pub at_failure : (e : Refusal) → after ≡ before + 1 → IsReaderError e → ReadMeets S old new before after (Err e)
     at_failure e rose own = record {
       faults = inl (rose, own);
@@ -178,13 +178,13 @@ read_answered S consumed old new before after m unrisen encodes consumes =
     ([], record { encoding = consumed; encodes = encodes; cut = sym (append-nil consumed) }, fits) unrisen (λ e. e)
     (λ p before. before_digest S (pair_of m) consumed p encodes fits before) m refl encodes
 
--- nothing is left after bytes at an input's end
+-- at the end of the input, the consumed bytes are all of it
 at_end : (P : List ℕ → Type 0) (consumed : List ℕ) (new : Option (List ℕ)) → IsAtEnd new → P consumed
     → (left : List ℕ) → new ≡ Some left → P (consumed ++ left)
 at_end P consumed new ends p left is =
     let none : left ≡ [] = subst IsAtEnd is ends in subst P (sym (ap (λ z. consumed ++ z) none ∙ append-nil consumed)) p
 
--- ---- in the code or the size, after what precedes it
+-- ---- in the code or the size
 
 module _ (S : ℕ) (e : Refusal) (old mid new : Option (List ℕ)) (before after : ℕ) (t : ConsumesAtVarintError e mid new)
     (how : ((after ≡ before + 1) × IsReaderError e) ⊎ ((after ≡ before) × IsAnyVarintError e)) where

@@ -1,4 +1,4 @@
--- What two calls consumed one after the other, and what is at the front of a buffer after them.
+-- What two calls, one after the other, consumed, and what is at the front of a buffer after them.
 use Rattle.std.proofs.Common.{◌≡◌, ℕ, ◌+◌, ◌≤◌, List, [], ◌++◌, Option, None, Some, IfSome, subst, length, take, refl, sym, ap, ◌∙◌, append_assoc, length-take-le}
 use Rattle.std.proofs.lemmas.List.{take-append-le}
 use Rattle.std.proofs.Math.Seq.{take-append-add}
@@ -14,8 +14,8 @@ pub Consumes-concatenated : (a b c : Option (List ℕ)) (xs ys whole : List ℕ)
 Consumes-concatenated a b c xs ys whole concatenated first second =
     first ∙ ap (prepend_known xs) second ∙ prepend_known-append xs ys c ∙ ap (λ l. prepend_known l c) (sym concatenated)
 
--- a buffer whose bytes from `at` on were borrowed starts with what it started with, and then with
--- what was put at the front of those bytes
+-- if a call changed the buffer's bytes from `at` on, the buffer starts with its old bytes before `at` and the
+-- first new ones
 pub take-put_mid_more : (at k n : ℕ) (xs ys : List ℕ) → at ≤ length xs → n ≤ length ys → take (at + n) (put_mid at k xs ys) ≡ take at xs ++ take n ys
 take-put_mid_more at k n xs ys within fits =
     let after = post_of at k xs in
@@ -23,17 +23,17 @@ take-put_mid_more at k n xs ys within fits =
     ∙ take-append-add (take at xs) (ys ++ after) n
     ∙ ap (λ l. take at xs ++ l) (take-append-le n ys after fits)
 
--- if the input is known, what was consumed and what is left were its rest
+-- if the input is known, its rest was what was consumed and what remains
 pub Consumes-cut : (whole consumed left : List ℕ) → Consumes (Some whole) consumed (Some left) → whole ≡ consumed ++ left
 Consumes-cut whole consumed left consumes = cc
 
--- and the input stays known
+-- an input that is known stays known
 pub Consumes-told : (whole consumed : List ℕ) (new : Option (List ℕ)) → Consumes (Some whole) consumed new
     → (left : List ℕ) × (new ≡ Some left) × (whole ≡ consumed ++ left)
 Consumes-told whole consumed None consumes = cc
 Consumes-told whole consumed (Some left) consumes = (left, refl, Consumes-cut whole consumed left consumes)
 
--- what holds of `taken` and whatever follows holds of the rest at entry, if it is known
+-- what holds of the consumed bytes with any rest holds of the rest at entry, if the input is known
 pub IfSome-consumed : (old new : Option (List ℕ)) (consumed : List ℕ) (P : List ℕ → Type 0) → Consumes old consumed new → ((left : List ℕ) → new ≡ Some left → P (consumed ++ left)) → IfSome old P
 IfSome-consumed None new consumed P consumes h = tt
 IfSome-consumed (Some xs) new consumed P consumes h = let (left, is, cut) = Consumes-told xs consumed new consumes in subst P (sym cut) (h left is)

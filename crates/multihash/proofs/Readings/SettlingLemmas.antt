@@ -77,12 +77,12 @@ own_verdict : (S : ℕ) (x : List ℕ) (s : Settles S x) → HasVerdict S x s.ve
 own_verdict S x s =
     subst (λ (z : List ℕ). HasVerdict S z s.verdict) (append-nil x) (s.always [] (All-nil (λ b. b < 256)))
 
--- where an input settles, bytes after it leave the verdict as it is
+-- if an input settles its verdict, bytes after it leave the verdict unchanged
 same_after : (S : ℕ) (x more : List ℕ) (v w : Verdict) → Settles S x → HasVerdict S x v → IsBytes more → HasVerdict S (x ++ more) w → v ≡ w
 same_after S x more v w s h bytes k =
     verdict_unique S x v s.verdict h (own_verdict S x s) ∙ verdict_unique S (x ++ more) s.verdict w (s.always more bytes) k
 
--- a zero ends continuation bytes, and a continuation byte and a zero are as bad where there are none
+-- a zero makes continuation bytes not minimal; if there are none, a continuation byte and a zero do
 open_varint : (x : List ℕ) → IsInsufficient x → (more : List ℕ) × IsBytes more × IsNotMinimal (x ++ more)
 open_varint [] h = (
   128 ∷ 0 ∷ [],
@@ -123,7 +123,7 @@ late_settles S x v late h = record { verdict = v; always = λ more _. verdict_ke
 pub settles_exactly : (S : ℕ) (x : List ℕ) (v : Verdict) → HasVerdict S x v → Settles S x ↔ ¬ (IsIncomplete v)
 settles_exactly S x v h = (λ s early. early_not_settles S x v early h s, λ late. late_settles S x v late h)
 
--- no prefix of an input settles whose verdict is incomplete
+-- if an input's verdict is incomplete, no prefix of it settles one
 pub none_settles : (S : ℕ) (x : List ℕ) (v : Verdict) → HasVerdict S x v → IsIncomplete v
     → (front : List ℕ) → IsPrefix front x → ¬ (Settles S front)
 none_settles S x v h early front (rest, cut) s =
@@ -132,9 +132,9 @@ none_settles S x v h early front (rest, cut) s =
     let kept = subst (λ (z : List ℕ). HasVerdict S z s.verdict) (sym cut) (verdict_kept S front rest s.verdict late own) in
     late (subst IsIncomplete (verdict_unique S x v s.verdict h kept) early)
 
--- ---- what ends early
+-- ---- incomplete inputs
 
--- continuation bytes, as many as a varint may have, and one more
+-- at most as many continuation bytes as a varint may have, and one more byte
 pub record IsStep (t : List ℕ) : Type 0 where
   pub front : List ℕ
   pub last : ℕ
@@ -158,7 +158,7 @@ before_step t p s (rest, some, cut) = record { few = omega (arith, s.few, short)
         ∙ (ap (λ (z : List ℕ). get_or z k d) (sym same) ∙ get_or_append_left s.front (s.last ∷ []) d k (omega (arith, short, below))) in
         rw value (s.all_continuation k d (omega (arith, short, below)))
 
--- nothing shorter shows a varint or a fault
+-- every strict prefix is insufficient
 abbrev pub NoSooner : List ℕ → Type 0
 NoSooner t = (p : List ℕ) → IsStrictPrefix p t → IsInsufficient p
 
@@ -167,7 +167,7 @@ varint_no_sooner n bytes v p begins =
     let few : length (continuation_bytes v.front) ≤ max_continuation = omega (arith, (varint_length n bytes v).0, length-map v.front (λ d. d + 128)) in
     before_step bytes p (record { front = continuation_bytes v.front; last = v.last; all_continuation = All-continuation_bytes v.front; few = few; cut = v.spelled }) begins
 
--- the input ends early
+-- the input's verdict is incomplete
 abbrev pub EndsEarly : ℕ → List ℕ → Type 0
 EndsEarly S x = (v : Verdict) × HasVerdict S x v × IsIncomplete v
 
@@ -191,9 +191,9 @@ before_digest S p t x e fits (rest, some, cut) =
           (unexpected_eof, (length p.digest, z, both, fits, short), tt)
     ]
 
--- ---- the shortest that settles
+-- ---- the shortest prefix that settles
 
--- a prefix with a verdict of its own that is not incomplete, all of whose own prefixes are incomplete
+-- a prefix whose verdict is not incomplete, while all its strict prefixes are incomplete
 pub shortest_from : (S : ℕ) (x t rest : List ℕ) (v : Verdict) → x ≡ t ++ rest → HasVerdict S t v → ¬ (IsIncomplete v)
     → ((p : List ℕ) → IsStrictPrefix p t → EndsEarly S p) → IsShortestSettling S x t
 shortest_from S x t rest v cut h late before = record {
@@ -202,7 +202,7 @@ shortest_from S x t rest v cut h late before = record {
   shortest = λ p b. let e = before p b in early_not_settles S p e.0 e.2 e.1;
 }
 
--- the prefix that shows a fault
+-- the shortest prefix that shows that the varint is malformed
 pub record ShowsFault (f : VarintError) (x : List ℕ) : Type 0 where
   pub shown : List ℕ
   pub rest : List ℕ
@@ -234,7 +234,7 @@ shortest_pair S p x rest b fits =
     ([], record { encoding = b.encoding; encodes = b.encodes; cut = sym (append-nil b.encoding) }, fits) (λ e. e)
     (λ y before. before_digest S p b.encoding y b.encodes fits before)
 
--- that of a size that is too large is both varints
+-- for a size that is too large it is both varints
 pub shortest_size : (S size : ℕ) (x rest : List ℕ) (h : BeginsWithSize size x rest) → digest_limit S < size
     → IsShortestSettling S x (h.code_bytes ++ h.size_bytes)
 shortest_size S size x rest h over =
@@ -244,13 +244,13 @@ shortest_size S size x rest h over =
     (h.cut ∙ sym (append_assoc h.code_bytes h.size_bytes rest)) ([], own, over) (λ e. e)
     (λ y before. before_both S h.code size h.code_bytes h.size_bytes y h.is_code h.is_size before)
 
--- that of a fault in the code is what shows it
+-- for a malformed code it is the prefix that shows it
 pub shortest_code_fault : (S : ℕ) (f : VarintError) (x : List ℕ) → ¬ (IsIncomplete (malformed f)) → (s : ShowsFault f x) → IsShortestSettling S x s.shown
 shortest_code_fault S f x late s =
     shortest_from S x s.shown s.rest (malformed f) s.cut (inl s.has) late
     (λ y before. (malformed insufficient, inl (before_step s.shown y s.step before), tt))
 
--- that of a fault in the size is the code and what shows it
+-- for a malformed size it is the code and the prefix that shows it
 pub shortest_size_fault : (S : ℕ) (f : VarintError) (x rest : List ℕ) → ¬ (IsIncomplete (malformed f)) → (c : BeginsWithCode x rest) (s : ShowsFault f rest)
     → IsShortestSettling S x (c.code_bytes ++ s.shown)
 shortest_size_fault S f x rest late c s =

@@ -1,4 +1,4 @@
--- One verdict an input, and the two varints at its front.
+-- An input has one verdict; the two varints at its front.
 use Rattle.std.proofs.Common.{◌≡◌, ℕ, ◌<◌, ◌≤◌, cond, ltb, List, [], ◌∷◌, ◌++◌, length, take, drop, refl, sym, ap, ◌∙◌, subst, arith, inl, inr, length-append, append-nil, ◌+◌, ◌-◌, Some}
 use Rattle.std.proofs.lemmas.Bool.{cases_lt, lt-ltb, le-ltb}
 use Rattle.std.proofs.lemmas.List.{take_at, drop_at, take-append-drop, length-take-le, take_rest, length-drop, drop-drop}
@@ -27,7 +27,7 @@ sized code size a b x rest is_code is_size cut =
 
 -- ---- the verdict, computed
 
--- the verdict on a size and what follows it, where `ends` is that on a pair and what follows it
+-- the verdict on a size and what follows it; `ends` gives that on a pair and what follows it
 abbrev pub judged : (Pair → List ℕ → Verdict) → ℕ → ℕ → Front → Verdict
 judged ends S code (number size rest) =
     cond (ltb (digest_limit S) size) (invalid_size size)
@@ -41,7 +41,7 @@ follows ends S (fault f) = malformed f
 abbrev pub found_by : (Pair → List ℕ → Verdict) → ℕ → List ℕ → Verdict
 found_by ends S x = follows ends S (front_of x)
 
--- what follows a pair does not matter
+-- the verdict on a pair, whatever follows it
 abbrev pub pair_alone : Pair → List ℕ → Verdict
 pair_alone p rest = accepted p
 
@@ -65,7 +65,7 @@ module _ (ends : Pair → List ℕ → Verdict) (S : ℕ) (x : List ℕ) where
       ∙ judged_size n (p.digest ++ rest)
       (sized p.code n b.encodes.code b.encodes.size x _ b.encodes.is_code b.encodes.is_size (b.cut ∙ encoding_cut p b.encoding rest b.encodes))
 
-  -- an input has no verdict but that one
+  -- an input has no other verdict than the computed one
   found_is : (v : Verdict) → HasVerdict S x v → ((p : Pair) (rest : List ℕ) → v ≡ accepted p → v ≡ ends p rest) → v ≡ found_by ends S x
   found_is (accepted p) (rest, b, fits) own = own p rest refl ∙ judged_pair p rest b fits
   found_is (invalid_size size) (rest, h, over) own = rw (lt-ltb (digest_limit S) size over) refl ∙ judged_size size rest h
@@ -81,9 +81,9 @@ verdict_is S x v h = found_is pair_alone S x v h (λ p rest same. same)
 pub verdict_unique : (S : ℕ) (x : List ℕ) (v w : Verdict) → HasVerdict S x v → HasVerdict S x w → v ≡ w
 verdict_unique S x v w h k = verdict_is S x v h ∙ sym (verdict_is S x w k)
 
--- ---- some verdict
+-- ---- a verdict exists
 
--- a digest of the size after both varints ends an encoding
+-- both varints and a digest of that size are an encoding
 pub pair_begins : (size : ℕ) (x rest : List ℕ) (h : BeginsWithSize size x rest) (digest after : List ℕ) → length digest ≡ size
     → rest ≡ digest ++ after → BeginsWith (record { code = h.code; digest = digest }) x after
 pair_begins size x rest h digest after long split =
@@ -119,14 +119,14 @@ from_front S x bytes (number code r) (a, is_code, e) =
     (front_of_has r (All-append_right (λ byte. byte < 256) a r (All-same (λ byte. byte < 256) (a ++ r) x (sym e) bytes)))
 from_front S x bytes (fault f) h = (malformed f, inl h)
 
--- the verdict that is computed holds
+-- the computed verdict holds
 pub has_found : (S : ℕ) (x : List ℕ) → IsBytes x → HasVerdict S x (found S x)
 has_found S x bytes =
     let (v, h) = from_front S x bytes (front_of x) (front_of_has x bytes) in subst (HasVerdict S x) (verdict_is S x v h) h
 
 -- ---- the verdict on the whole
 
--- what follows a pair is left over
+-- the verdict on the whole for a pair and what follows it: trailing bytes are an invalid size
 abbrev trailing : Pair → List ℕ → Verdict
 trailing p [] = accepted p
 trailing p (byte ∷ rest) = invalid_size (length (byte ∷ rest))
@@ -152,7 +152,7 @@ whole_verdict_unique S x v w h k = whole_is S x v h ∙ sym (whole_is S x w k)
 pub whole_pair : (p : Pair) (x : List ℕ) → BeginsWith p x [] → IsEncoding p x
 whole_pair p x b = subst (IsEncoding p) (sym (b.cut ∙ append-nil b.encoding)) b.encodes
 
--- what the verdict says of the whole
+-- each verdict on the front gives one on the whole
 whole_from : (S : ℕ) (x : List ℕ) (u : Verdict) → HasVerdict S x u → (v : Verdict) × HasWholeVerdict S x v
 whole_from S x (accepted p) ([], b, fits) = (accepted p, (whole_pair p x b, fits))
 whole_from S x (accepted p) (byte ∷ rest, b, fits) = (invalid_size _, inr (p, byte ∷ rest, b, fits, refl, omega arith))
@@ -164,12 +164,12 @@ whole_from S x unexpected_eof h = (unexpected_eof, h)
 pub has_whole_found : (S : ℕ) (x : List ℕ) → IsBytes x → HasWholeVerdict S x (whole_found S x)
 has_whole_found S x bytes = let (v, h) = whole_from S x _ (has_found S x bytes) in subst (HasWholeVerdict S x) (whole_is S x v h) h
 
--- a slice from there on is the rest
+-- the slice from the index k on is the rest
 pub sliced : (n : ℕ) (xs : List ℕ) (k : ℕ) → ConsumesVarint n (Some xs) (Some (drop k xs))
     → ConsumesVarint n (Some xs) (Some (take (length xs - k) (drop k xs)))
 sliced n xs k met = subst (λ (back : List ℕ). ConsumesVarint n (Some xs) (Some back)) (sym (take_rest xs k)) met
 
--- an error of the verdict is one of the whole verdict
+-- the error of the verdict is the error of the whole verdict
 pub whole_rejected : (S : ℕ) (x : List ℕ) (e : Refusal) (v : Verdict) → HasVerdict S x v → IsErrorOf e v
     → (w : Verdict) × HasWholeVerdict S x w × IsErrorOf e w
 whole_rejected S x e (accepted p) has given = absurd given
@@ -178,7 +178,7 @@ whole_rejected S x e (invalid_code code) has given = absurd has
 whole_rejected S x e (malformed f) has given = (malformed f, has, given)
 whole_rejected S x e unexpected_eof has given = (unexpected_eof, has, given)
 
--- no varint of a code
+-- the code's varint is malformed
 pub no_code : (S : ℕ) (input : List ℕ) (e : Refusal) → IsFrontError input e
     → (v : Verdict) × HasWholeVerdict S input v × IsErrorOf e v
 no_code S input e (f, named, shows) = (malformed f, inl shows, named)
@@ -187,7 +187,7 @@ module _ (code : ℕ) (input left : List ℕ) (is_code : ConsumesVarint code (So
   pub has_code : BeginsWithCode input left
   has_code = coded code is_code.0 input left is_code.1 (Consumes-cut input _ left is_code.2)
 
-  -- no varint of a size
+  -- the size's varint is malformed
   pub no_size : (S : ℕ) (e : Refusal) → IsFrontError left e → (v : Verdict) × HasWholeVerdict S input v × IsErrorOf e v
   no_size S e (f, named, shows) = (malformed f, inr (left, has_code, shows), named)
 
@@ -197,7 +197,7 @@ module _ (code : ℕ) (input left : List ℕ) (is_code : ConsumesVarint code (So
         sized code size is_code.0 is_size.0 input rest is_code.1 is_size.1
         (Consumes-cut input _ left is_code.2 ∙ ap (λ z. is_code.0 ++ z) (Consumes-cut left _ rest is_size.2))
 
-    -- bytes after the digest
+    -- bytes trail the digest
     pub has_trailing : (S n : ℕ) → size ≤ digest_limit S → size < length rest → n ≡ length rest - size → HasWholeVerdict S input (invalid_size n)
     has_trailing S n within more count =
         let long : length (take size rest) ≡ size = length-take-le size rest (omega arith) in
@@ -208,7 +208,7 @@ module _ (code : ℕ) (input left : List ℕ) (is_code : ConsumesVarint code (So
     pub whole : (S : ℕ) → size ≤ digest_limit S → length rest ≡ size → HasWholeVerdict S input (accepted (record { code = code; digest = rest }))
     whole S within exact = (whole_pair _ input (pair_begins size input rest has_size rest [] exact (sym (append-nil rest))), omega arith)
 
--- the two are a head
+-- the two varints are a head
 pub head_of : (code size k m : ℕ) (input left : List ℕ) → left ≡ drop k input → k ≤ length input → m ≤ length left
     → ConsumesVarint code (Some input) (Some (drop k input)) → ConsumesVarint size (Some left) (Some (drop m left)) → HasHead code size (k + m) input
 head_of code size k m input left is within more a b =

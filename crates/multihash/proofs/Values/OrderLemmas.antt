@@ -1,4 +1,4 @@
--- What follows from how pairs compare: where they tie, and which part decides.
+-- What follows from how pairs compare: when they tie, and which part decides.
 use Rattle.std.proofs.Common.{◌≡◌, ◌≢◌, ℕ, ◌<◌, List, IsTrue, ◌↔◌, Bool, true, false, not, eqb, inl, inr, ◌⊎◌, length, take, get_or, refl, sym, ap, ◌∙◌, subst, arith, rules}
 use Rattle.std.proofs.lemmas.Cmp.{ranked}
 use Rattle.std.proofs.lemmas.Bool.Decides.{eqb_tells}
@@ -15,7 +15,7 @@ use Rattle.multihash.specs.Pair.{Pair}
 use Rattle.multihash.specs.Comparing.{equal_pairs, compare_pairs}
 use Rattle.multihash.proofs.Values.WindowLemmas.{order_of_first, IsCommonFront, common_front, unlike}
 
--- ---- sameness
+-- ---- equality
 
 pub equal_exactly : (p q : Pair) → IsTrue (equal_pairs p q) ↔ (p ≡ q)
 equal_exactly p q = search (comparing, rules) depth 9
@@ -25,7 +25,7 @@ equal_exactly p q = search (comparing, rules) depth 9
 pub pairs_total : IsTotalOrder compare_pairs
 pairs_total = search (comparing, rules) depth 9
 
--- pairs tie exactly where they are the same
+-- pairs tie exactly if they are the same
 pub tie_exactly : (p q : Pair) → IsTrue (is_eq (compare_pairs p q)) ↔ (p ≡ q)
 tie_exactly p q =
     let ties : equal_pairs p q ≡ is_eq (compare_pairs p q) = search (comparing, rules) depth 9 in
@@ -35,7 +35,7 @@ tie_exactly p q =
 pub same_key : (p q : Pair) → is_eq (compare_pairs p q) ≡ true → p ≡ q
 same_key p q tie = (tie_exactly p q).0 tie
 
--- and pairs that differ are other keys
+-- different pairs are different keys
 pub other_key : (p q : Pair) → ¬ (q ≡ p) → is_eq (compare_pairs p q) ≡ false
 other_key p q differs = go (is_eq (compare_pairs p q)) (λ tie. differs (sym ((tie_exactly p q).0 tie)))
   where
@@ -62,7 +62,7 @@ module _ (p q : Pair) where
   pub by_bytes : p.code ≡ q.code → length p.digest ≡ length q.digest → compare_pairs p q ≡ slice_cmp nat_cmp p.digest q.digest
   by_bytes same long = after_code same ∙ ap (λ o. ordering_then o (slice_cmp nat_cmp p.digest q.digest)) (sym (nat_cmp_is (length p.digest) (length q.digest) Equal long))
 
--- of two digests as long as each other that differ, the first byte that does
+-- two different digests of the same length compare as the first byte that differs
 pub first_apart : (x y : List ℕ) → length x ≡ length y → x ≢ y
     → (r : ℕ) × (r < length x) × (take r x ≡ take r y) × (get_or x r 0 ≢ get_or y r 0) × (slice_cmp nat_cmp x y ≡ nat_cmp (get_or x r 0) (get_or y r 0))
 first_apart x y long differs = go (eqb_tells r (length x))

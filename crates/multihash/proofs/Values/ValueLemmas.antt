@@ -14,7 +14,7 @@ use Rattle.multihash.proofs.Writings.EncodingLemmas.{encoding_exists, encoding_l
 pub digest_fits : {S : ℕ} (m : Fields S) → FitsBuffer S (pair_of m)
 digest_fits m = omega (arith, length-take m.size m.buffer, m.fits)
 
--- an encoding is the code's bytes, two of the size and 255 of the digest at most
+-- an encoding is at most the code's bytes, two of the size and 255 of the digest
 pub encoding_within : {S : ℕ} (m : Fields S) (bytes : List ℕ) → IsEncoding (pair_of m) bytes
     → length bytes ≤ (max_continuation + 1) + 2 + 255
 encoding_within m bytes e = omega (arith, encoding_length (pair_of m) bytes e (omega (arith, digest_fits m)))
@@ -22,7 +22,7 @@ encoding_within m bytes e = omega (arith, encoding_length (pair_of m) bytes e (o
 pub all_fit : {S : ℕ} (items : List (Fields S)) → All (FitsBuffer S) (map pair_of items)
 all_fit {S} items = All-map (FitsBuffer S) pair_of items (λ k d within. digest_fits (get_or items k d))
 
--- the values of a list have joined encodings
+-- the pairs of a list of values have a concatenated encoding
 pub have_stream : {S : ℕ} (items : List (Fields S)) → (bytes : List ℕ) × AreConcatenated (map pair_of items) bytes
 have_stream [] = ([], AreConcatenated-none)
 have_stream (m ∷ items) =

@@ -1,5 +1,5 @@
--- Lists that are compared by windows, of which the last may overlap the one before: equality and order. All for speed:
--- `cmp` of 20 bytes or more needs less than half of the instructions of a comparison by bytes.
+-- Lists that are compared by windows, of which the last may overlap the one before: equality and order. All
+-- for speed: `cmp` of 20 bytes or more needs less than half of the instructions of a comparison by bytes.
 use Rattle.std.proofs.Common.{◌≡◌, ◌≢◌, ◌==◌, ◌+◌, ◌-◌, ◌%◌, ◌^◌, ◌<◌, ◌≤◌, ℕ, suc, List, [], ◌∷◌, ◌++◌, Bool, true, false, not, cond, eqb, inl, inr, ◌⊎◌, ◌↔◌, IsTrue, length, take, drop, get_or, map, refl, sym, ap, subst, ◌∙◌, arith, length-drop, w8, zero}
 use Rattle.std.specs.Cmp.{unsigned_Decides, nat_cmp_is}
 use Rattle.std.specs.Cmp.Lexicographic.{pointwise, slice_cmp}
@@ -16,7 +16,7 @@ use Rattle.std.proofs.lemmas.Map.Lookups.{exact_bytes}
 use Rattle.std.specs.declared.cmp.Ordering.{Ordering}
 use Rattle.std.specs.declared.cmp.Ordering.TheVariants.{Less, Equal, Greater}
 
--- that many from there on
+-- the n bytes from the index `at` on
 abbrev pub window : ℕ → ℕ → List ℕ → List ℕ
 window n at bytes = take n (drop at bytes)
 
@@ -36,14 +36,14 @@ both_halves at a b left right =
     ∙ ap (λ l. take 16 (window 32 at b) ++ l) (right_half at a ∙ right ∙ sym (right_half at b))
     ∙ take-append-drop 16 (window 32 at b)
 
--- ---- what follows a front
+-- ---- equal fronts
 
--- one more window
+-- fronts that are equal with one more window
 pub longer_front : (n at : ℕ) (a b : List ℕ) → take at a ≡ take at b → window n at a ≡ window n at b → take (at + n) a ≡ take (at + n) b
 longer_front n at a b front same =
     take-add at n a ∙ ap (λ l. l ++ window n at a) front ∙ ap (λ l. take at b ++ l) same ∙ sym (take-add at n b)
 
--- lists whose fronts are the same, and what begins within the fronts
+-- lists are equal if their first j items are, and those from an index i ≤ j on
 meets : (i j : ℕ) (a b : List ℕ) → i ≤ j → take j a ≡ take j b → drop i a ≡ drop i b → a ≡ b
 meets i j a b within front back =
     let sum : i + (j - i) ≡ j = omega (arith, within) in
@@ -51,19 +51,19 @@ meets i j a b within front back =
     ap (λ n. drop n a) (sym sum) ∙ sym (drop-drop (j - i) i a) ∙ ap (drop (j - i)) back ∙ drop-drop (j - i) i b ∙ ap (λ n. drop n b) sum in
     sym (take-append-drop j a) ∙ ap (λ l. l ++ drop j a) front ∙ ap (λ l. take j b ++ l) following ∙ take-append-drop j b
 
--- the last window is all that is left
+-- the last window is all that remains
 last_window : (n k : ℕ) (a : List ℕ) → length a ≡ k + n → window n k a ≡ drop k a
 last_window n k a long = take_all n (drop k a) (omega (arith, long, length-drop k a))
 
--- the fronts and the last windows are the same, and leave nothing out
+-- lists are equal if their fronts and last windows are, and these cover the lists
 covered : (n k j : ℕ) (a b : List ℕ) → length a ≡ k + n → length b ≡ k + n → k ≤ j → take j a ≡ take j b → window n k a ≡ window n k b
     → a ≡ b
 covered n k j a b left right within front last =
     meets k j a b within front (sym (last_window n k a left) ∙ last ∙ last_window n k b right)
 
--- ---- what comes before the first that differs
+-- ---- the items before the first that differs
 
--- the first r are the same, and the next differ, where there is a next
+-- the first r items are equal, and the next differ, if there is a next
 pub record IsCommonFront (a b : List ℕ) (r : ℕ) : Type 0 where
   pub most : r ≤ length a
   pub same : take r a ≡ take r b
@@ -89,7 +89,7 @@ common_front [] (y ∷ b) long = absurd (omega arith)
 common_front (x ∷ a) [] long = absurd (omega arith)
 common_front (x ∷ a) (y ∷ b) long = common_front-cons x y a b _ (eqb_tells x y) (common_front a b (omega arith))
 
--- what `same_front` says of the places from there on
+-- what `same_front` states of the bytes from the index `at` on
 pub record IsFrontFrom (at : ℕ) (a b : List ℕ) (r : ℕ) : Type 0 where
   pub most : r ≤ 16
   pub same : take r (drop at a) ≡ take r (drop at b)
@@ -110,7 +110,7 @@ from_windows at a b r left right h =
 abbrev pub mask_of : List ℕ → List ℕ → ℕ
 mask_of a b = mask_l (map (top 7) (zip2 (λ x y. cond (unlike x y) 255 0) a b)) % 2 ^ 64
 
--- where no bit is set all are the same, and else the lowest is the first that differs
+-- if no bit is set, all are equal; otherwise the lowest set bit is the first that differs
 lanes_front : (at : ℕ) (a b : List ℕ) → at + 16 ≤ length a → at + 16 ≤ length b
     → IsFrontFrom at a b (cond (eqb (mask_of (window 16 at a) (window 16 at b)) 0) 16 (count_trailing_zeros 64 (mask_of (window 16 at a) (window 16 at b))))
 lanes_front at a b left right =
@@ -140,7 +140,7 @@ lowest_front at a b left right some = go (eqb_tells m 0)
     go (inr (e, other)) =
         subst (λ r. IsFrontFrom at a b r) (ap (λ (t : Bool). cond t 16 (count_trailing_zeros 64 m)) e) (lanes_front at a b left right)
 
--- a front is whole exactly where the windows are the same
+-- if the windows are equal, `same_front` counts all sixteen bytes
 pub whole_front : (at : ℕ) (a b : List ℕ) (r : ℕ) → IsFrontFrom at a b r → window 16 at a ≡ window 16 at b → r ≡ 16
 whole_front at a b r h same = go (eqb_tells r 16)
   where
@@ -152,7 +152,7 @@ whole_front at a b r h same = go (eqb_tells r 16)
 
 -- ---- `==`
 
--- what is true exactly where the lists are the same is what `==` says of them
+-- what is true exactly if the lists are equal is the result of `==`
 is_pointwise : (r : Bool) (a b : List ℕ) → (r ≡ true → a ≡ b) → (a ≡ b → r ≡ true) → r ≡ pointwise ◌==◌ a b
 is_pointwise true a b same true_of = sym ((slice_eq-Decides unsigned_Decides a b (pointwise ◌==◌ a b) refl).1 (same refl))
 is_pointwise false a b same true_of = go (pointwise ◌==◌ a b) refl
@@ -161,7 +161,7 @@ is_pointwise false a b same true_of = go (pointwise ◌==◌ a b) refl
     go false e = refl
     go true e = true_of ((slice_eq-Decides unsigned_Decides a b true e).0 refl)
 
--- so is what says whether the last windows are the same, if the fronts are and nothing lies between
+-- so is what is true exactly if the last windows are equal, if the fronts are and cover the rest
 pub last_pointwise : (n k j : ℕ) (a b : List ℕ) (r : Bool) → length a ≡ k + n → length b ≡ k + n → k ≤ j → take j a ≡ take j b
     → (IsTrue r ↔ (window n k a ≡ window n k b)) → r ≡ pointwise ◌==◌ a b
 last_pointwise n k j a b r left right within front tells =
@@ -170,7 +170,7 @@ last_pointwise n k j a b r left right within front tells =
 abbrev pub order_of : List ℕ → List ℕ → Ordering
 order_of x y = slice_cmp nat_cmp x y
 
--- lists that are the same
+-- lists that are equal
 pub order_of_same : (x y : List ℕ) → x ≡ y → Equal ≡ order_of x y
 order_of_same [] [] same = refl
 order_of_same [] (b ∷ y) same = cc
@@ -195,19 +195,19 @@ order_of_parts (suc n) (a ∷ x) (b ∷ y) =
     ap (λ o. ordering_then (nat_cmp a b) o) (order_of_parts n x y)
     ∙ then_then (nat_cmp a b) (order_of (take n x) (take n y)) (order_of (drop n x) (drop n y))
 
--- fronts that differ decide
+-- if the fronts differ, they decide
 pub order_of_fronts : (n : ℕ) (x y : List ℕ) (o : Ordering) → o ≡ order_of (take n x) (take n y) → o ≢ Equal → o ≡ order_of x y
 order_of_fronts n x y Less e other = sym (order_of_parts n x y ∙ ap (λ p. ordering_then p (order_of (drop n x) (drop n y))) (sym e))
 order_of_fronts n x y Equal e other = absurd (other refl)
 order_of_fronts n x y Greater e other = sym (order_of_parts n x y ∙ ap (λ p. ordering_then p (order_of (drop n x) (drop n y))) (sym e))
 
--- fronts that are the same do not, so that what begins within them does
+-- if the fronts are equal, the lists from an index within them decide
 pub order_of_backs : (i j : ℕ) (x y : List ℕ) → i ≤ j → take j x ≡ take j y → order_of (drop i x) (drop i y) ≡ order_of x y
 order_of_backs i j x y within same =
     let fronts : take i x ≡ take i y = sym (take-take i j x within) ∙ ap (take i) same ∙ take-take i j y within in
     sym (order_of_parts i x y ∙ ap (λ p. ordering_then p (order_of (drop i x) (drop i y))) (sym (order_of_same (take i x) (take i y) fronts)))
 
--- the first place where they differ
+-- the first items that differ decide
 pub order_of_first : (r : ℕ) (x y : List ℕ) (o : Ordering) → r < length x → r < length y → take r x ≡ take r y
     → o ≡ nat_cmp (get_or x r 0) (get_or y r 0) → o ≢ Equal → o ≡ order_of x y
 order_of_first r [] y o left right same e other = absurd (omega arith)
@@ -229,14 +229,14 @@ pub order_of_window : (n at : ℕ) (a b : List ℕ) (o : Ordering) → take at a
 order_of_window n at a b o same e other =
     order_of_fronts n (drop at a) (drop at b) o e other ∙ order_of_backs at at a b (omega arith) same
 
--- and so does the last one, which may overlap the one before
+-- the last window decides, if all before it is equal; it may overlap the one before
 pub order_of_last : (n k j : ℕ) (a b : List ℕ) (o : Ordering) → length a ≡ k + n → length b ≡ k + n → k ≤ j → take j a ≡ take j b
     → o ≡ order_of (window n k a) (window n k b) → o ≡ order_of a b
 order_of_last n k j a b o left right within same e =
     e ∙ ap (λ l. order_of l (window n k b)) (last_window n k a left) ∙ ap (λ l. order_of (drop k a) l) (last_window n k b right)
     ∙ order_of_backs k j a b within same
 
--- windows that tie are the same
+-- lists that tie are equal
 pub same_of_order : (x y : List ℕ) (o : Ordering) → is_ne o ≡ false → o ≡ order_of x y → x ≡ y
 same_of_order x y Less tie e = cc
 same_of_order x y Equal tie e = exact_bytes x y (sym e)
@@ -247,7 +247,7 @@ other_order Less differs e = cc
 other_order Equal differs e = cc
 other_order Greater differs e = cc
 
--- the first of the sixteen that differs
+-- the first of the sixteen bytes that differs decides
 pub order_at_first : (at r : ℕ) (a b : List ℕ) (o : Ordering) → at + 16 ≤ length a → at + 16 ≤ length b → r < 16 → take r (drop at a) ≡ take r (drop at b)
     → o ≡ nat_cmp (get_or a (at + r) 0) (get_or b (at + r) 0) → o ≢ Equal → o ≡ order_of (window 16 at a) (window 16 at b)
 order_at_first at r a b o left right more same e other =
@@ -256,7 +256,7 @@ order_at_first at r a b o left right more same e other =
     (e ∙ ap (λ (n : ℕ). nat_cmp n (get_or b (at + r) 0)) (sym (get_or-chunk at 16 a r 0 more))
     ∙ ap (λ (n : ℕ). nat_cmp (get_or (window 16 at a) r 0) n) (sym (get_or-chunk at 16 b r 0 more))) other
 
--- the halves of 32
+-- the halves of a window of 32 bytes
 pub order_of_left : (at : ℕ) (a b : List ℕ) (o : Ordering) → o ≡ order_of (window 16 at a) (window 16 at b) → o ≢ Equal
     → o ≡ order_of (window 32 at a) (window 32 at b)
 order_of_left at a b o e other =

@@ -9,7 +9,7 @@ use Rattle.multihash.specs.Bytes.{place_value, IsBytes}
 use Rattle.std.proofs.lemmas.List.{get_or_append_left, get_or-append-add, length-map, map-append}
 use Rattle.multihash.specs.Varint.{IsContinuation, continuation_bytes}
 
--- the value of digits of which the first has the place k
+-- the value of digits of which the first has the index k
 abbrev value_from : ℕ → ℕ → List ℕ → ℕ
 value_from base k digits = sum_by (λ (place : ℕ × ℕ). place.1 * base ^ place.0) (enumerate_from k digits)
 
@@ -31,7 +31,7 @@ pub place_value-cons : (base d : ℕ) (ds : List ℕ) → place_value base (d �
 unfolding place_value
 place_value-cons base d ds = value_from-cons base 0 d ds ∙ rw (pow-zero base, value_from_next base 0 ds) (omega arith)
 
--- below the power of the base with as many places
+-- the value is below the power of the base by the number of digits
 pub place_value_below : (base : ℕ) (ds : List ℕ) → All (λ d. d < base) ds → place_value base ds < base ^ length ds
 place_value_below base [] h = rw (place_value-nil base) (omega (arith, pow-zero base))
 place_value_below base (d ∷ ds) h =
@@ -40,7 +40,7 @@ place_value_below base (d ∷ ds) h =
     rw (place_value-cons base d ds, pow-suc base (length ds))
     (omega (arith, mul-le-mul_left base ih))
 
--- of two concatenated lists
+-- the value of two concatenated lists
 pub place_value_append : (base : ℕ) (xs ys : List ℕ)
     → place_value base (xs ++ ys) ≡ place_value base xs + place_value base ys * base ^ length xs
 place_value_append base [] ys = rw (place_value-nil base, pow-zero base) (omega arith)
@@ -72,7 +72,7 @@ place_value_unique base (d ∷ ds) (e ∷ es) p q l v =
     (omega arith) same.0 in
     cc (same.1, rest)
 
--- what holds of each of two joined lists holds of each of the first, and of the second
+-- what holds of each item of two concatenated lists holds of each of the first, and of the second
 pub All-append_left : {X : Type 0} (P : X → Type 0) (xs ys : List X) → All P (xs ++ ys) → All P xs
 All-append_left P xs ys all k d below =
     rw (← get_or_append_left xs ys d k below) (all k d (omega (arith, length-append xs ys)))
@@ -110,7 +110,7 @@ low_digits-continuation_bytes (d ∷ ds) all =
     let head : (d + 128) % 128 ≡ d = omega arith in
     cc (head, low_digits-continuation_bytes ds (All-tail IsDigit d ds all))
 
--- the digits of two concatenated lists, by the code's shift and `|`
+-- the value of the digits of two concatenated lists, by the code's shift and `|`
 pub or_digits : (front back : List ℕ) (i : ℕ) → length front ≡ i → place_value 128 (low_digits (front ++ back)) < 2 ^ 64
     → bit_or (place_value 128 (low_digits front)) (place_value 128 (low_digits back) * 2 ^ (7 * i) % 2 ^ 64)
     ≡ place_value 128 (low_digits (front ++ back))

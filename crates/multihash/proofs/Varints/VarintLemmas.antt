@@ -1,4 +1,4 @@
--- One varint a number, how long it is, and one front an input.
+-- A number has one varint, whose length is known, and an input has one front.
 use Rattle.std.proofs.Common.{◌≡◌, ℕ, zero, suc, ◌+◌, ◌-◌, ◌%◌, cond, ltb, ◌^◌, ◌<◌, ◌≤◌, List, [], ◌∷◌, ◌++◌, length, refl, sym, ap, ◌∙◌, arith, inl, inr, append_assoc, append-nil, ◌*◌, ◌/◌, length-append}
 use Rattle.std.specs.List.{All}
 use Rattle.std.proofs.Math.Nat.{lt_of_not-le, mod-eq_of_lt, mul-le-mul_right, pow-le-pow_right}
@@ -11,9 +11,9 @@ use Rattle.multihash.proofs.Varints.DigitLemmas.{place_value_below, place_value_
 use Rattle.std.specs.Int.{w64, leading_zeros}
 use Rattle.std.proofs.lemmas.Nat.{leading_top}
 
--- ---- how long a varint is
+-- ---- the length of a varint
 
--- a number of so few digits has no longer varint, since a last digit of zero is alone
+-- a small number has a short varint, since a last digit of zero is the only digit
 pub front_within : (k n : ℕ) (bytes : List ℕ) (v : IsVarint n bytes) → n < 128 ^ suc k → length v.front ≤ k
 front_within k n bytes v small =
     let base : 0 < 128 = omega arith in
@@ -23,7 +23,7 @@ front_within k n bytes v small =
     omega (arith, high, v.value, place_value_last 128 v.last v.front, mul-le-mul_right (128 ^ length v.front) last)) in
     omega arith
 
--- and what ends a longest one
+-- the most continuation bytes, and the bound of a byte after as many
 pub varint_length : (n : ℕ) (bytes : List ℕ) (v : IsVarint n bytes)
     → (length v.front ≤ max_continuation) × (length v.front ≡ max_continuation → v.last < last_byte_limit)
 varint_length n bytes v = (
@@ -77,7 +77,7 @@ varint_from_bytes ms b bytes all small few most minimal = record {
   spelled = ap (λ front. front ++ b ∷ []) (sym (continuation_bytes-low_digits ms bytes all));
 }
 
--- continuation bytes and what ends them as none should
+-- continuation bytes, and a byte that makes the varint malformed
 pub overflow_after : (ms : List ℕ) (b : ℕ) (rest : List ℕ) → All IsContinuation ms → length ms ≡ max_continuation → last_byte_limit ≤ b
     → IsOverflow (ms ++ b ∷ rest)
 overflow_after ms b rest all most large =
@@ -88,7 +88,7 @@ zero_after ms rest all some few = record { front = ms; rest = rest; all_continua
 
 -- ---- the front of an input
 
--- what is at the front of an input: a varint's number and what follows, or a fault
+-- the front of an input: a varint's number and what follows, or why the varint is malformed
 pub data Front : Type 0 where
   number : ℕ → List ℕ → Front
   fault : VarintError → Front
@@ -105,7 +105,7 @@ ends_with [] b rest = number (place_value 128 (low_digits (b ∷ []))) rest
 ends_with (m ∷ ms) zero rest = fault not_minimal
 ends_with (m ∷ ms) (suc b) rest = number (place_value 128 (low_digits ((m ∷ ms) ++ suc b ∷ []))) rest
 
--- after these continuation bytes, where that many more may come
+-- after these continuation bytes, if that many more may come
 abbrev front_from : ℕ → List ℕ → List ℕ → Front
 front_from left ms [] = fault insufficient
 front_from zero ms (b ∷ rest) = cond (ltb b last_byte_limit) (ends_with ms b rest) (fault overflow)
@@ -114,7 +114,7 @@ front_from (suc left) ms (b ∷ rest) = cond (ltb b 128) (ends_with ms b rest) (
 abbrev pub front_of : List ℕ → Front
 front_of x = front_from max_continuation [] x
 
--- continuation bytes precede what follows them
+-- the front of continuation bytes and more is found after reading these
 front_run : (ms : List ℕ) (n left : ℕ) (before y : List ℕ) → All IsContinuation ms → n ≡ length ms + left
     → front_from n before (ms ++ y) ≡ front_from left (before ++ ms) y
 front_run [] n left before y all room = let same : n ≡ left = omega (arith, room) in rw (same, append-nil before) refl
@@ -171,7 +171,7 @@ front_unique x a b h k = front_is x a h ∙ sym (front_is x b k)
 pub number_no_fault : (x : List ℕ) (n : ℕ) (r : List ℕ) (f : VarintError) → HasFront x (number n r) → BeginsMalformed f x → ⊥
 number_no_fault x n r f h k = let same : number n r ≡ fault f = front_unique x (number n r) (fault f) h k in cc
 
--- and an input of bytes has that one
+-- an input of bytes has the front that is computed
 ends_has : (ms : List ℕ) (b : ℕ) (rest : List ℕ) → All IsContinuation ms → b < 128 → length ms ≤ max_continuation
     → (length ms ≡ max_continuation → b < last_byte_limit) → IsBytes (ms ++ b ∷ rest) → HasFront (ms ++ b ∷ rest) (ends_with ms b rest)
 ends_has [] b rest all small few most bytes =
@@ -203,11 +203,11 @@ front_has (suc left) ms (b ∷ rest) all room bytes =
 pub front_of_has : (x : List ℕ) → IsBytes x → HasFront x (front_of x)
 front_of_has x bytes = front_has max_continuation [] x (All-nil IsContinuation) refl bytes
 
--- a number and what follows is all that is at the front
+-- an input has one number at its front, and one rest
 pub same_number : (x : List ℕ) (m n : ℕ) (r q : List ℕ) → HasFront x (number m r) → HasFront x (number n q) → (m ≡ n) × (r ≡ q)
 same_number x m n r q h k = let same = front_unique x (number m r) (number n q) h k in (cc, cc)
 
--- a varint has a byte more than its front
+-- a varint has one byte more than its continuation bytes
 pub varint_bytes : (n : ℕ) (bytes : List ℕ) (v : IsVarint n bytes) → length bytes ≡ length v.front + 1
 varint_bytes n bytes v =
     omega (arith, ap length v.spelled, length-append (continuation_bytes v.front) (v.last ∷ []), length-map v.front (λ digit. digit + 128))

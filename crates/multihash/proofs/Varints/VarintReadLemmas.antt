@@ -1,4 +1,4 @@
--- What the loop over a varint's bytes keeps, and what was consumed where it ends.
+-- The invariant of the loop over a varint's bytes, and what has been consumed at its end.
 use Rattle.std.proofs.Common.{◌≡◌, ℕ, ◌+◌, ◌*◌, ◌%◌, ◌^◌, ◌<◌, ◌≤◌, ◌⊎◌, List, [], ◌∷◌, ◌++◌, length, Option, refl, sym, ap, ◌∙◌, subst, inl, inr, arith, append_assoc, bit_and, bit_or}
 use Rattle.std.specs.List.{All}
 use Rattle.std.specs.Io.KnownBytes.{IsAtEnd, prepend_known}
@@ -17,7 +17,7 @@ use Rattle.multihash.proofs.Varints.VarintLemmas.{low_digits_in_range, varint_fr
 use Rattle.multihash.proofs.Readings.ReadingLemmas.{Consumes-none, Consumes-concatenated}
 use Rattle.multihash.proofs.Readings.SettlingLemmas.{before_step}
 
--- that many bytes were consumed, all of them marked, and the sum is the value of their digits
+-- that many bytes have been consumed, all continuation bytes, and the sum is the value of their digits
 pub record ReadsContinuation (old now : Option (List ℕ)) (sum i : ℕ) : Type 0 where
   pub front : List ℕ
   pub consumes : Consumes old front now
@@ -58,7 +58,7 @@ abbrev pub with_byte : ℕ → ℕ → ℕ → ℕ
 with_byte sum byte i = bit_or sum (bit_and byte 127 * 2 ^ (7 * i) % 2 ^ 64)
 
 module _ (old now : Option (List ℕ)) (sum i : ℕ) (h : ReadsContinuation old now sum i) where
-  -- what begins continuation bytes and one more ends inside a varint
+  -- a strict prefix of continuation bytes and one more byte is insufficient
   before_last : (byte : ℕ) (shorter : List ℕ) → IsStrictPrefix shorter (h.front ++ byte ∷ []) → IsInsufficient shorter
   before_last byte shorter begins =
       before_step (h.front ++ byte ∷ []) shorter
@@ -72,7 +72,7 @@ module _ (old now : Option (List ℕ)) (sum i : ℕ) (h : ReadsContinuation old 
   whole : IsInsufficient h.front
   whole = record { few = omega (arith, h.few, h.long); all_continuation = h.continuation_bytes }
 
-  -- the bytes that were consumed show a fault
+  -- the consumed bytes show that the varint is malformed
   refused : (new : Option (List ℕ)) (fault : VarintError) (consumed : List ℕ) (e : Refusal) → e ≡ of_varint fault → BeginsMalformed fault consumed
       → ((shorter : List ℕ) → IsStrictPrefix shorter consumed → IsInsufficient shorter) → (fault ≡ insufficient → IsAtEnd new)
       → Consumes old consumed new → ConsumesAtVarintError e old new
@@ -115,7 +115,7 @@ module _ (old now : Option (List ℕ)) (sum i : ℕ) (h : ReadsContinuation old 
         (before_last byte) (λ same. cc) consumes
 
     module _ (most : i ≡ max_continuation → byte < last_byte_limit) where
-      -- the code's sum is the value with one more digit
+      -- the sum that the code computes is the value with one more digit
       with_byte_is : with_byte sum byte i ≡ place_value 128 (low_digits (h.front ++ byte ∷ []))
       with_byte_is =
           let fits = low_digits_in_range h.front byte (omega (arith, h.long, h.few)) (λ e. most (sym h.long ∙ e)) in

@@ -1,4 +1,4 @@
--- What the loop that writes a varint's bytes keeps, and that each number in range has a varint.
+-- The invariant of the loop that writes a varint's bytes; each number in range has a varint.
 use Rattle.std.proofs.Common.{◌≡◌, ℕ, zero, suc, ◌+◌, ◌*◌, ◌/◌, ◌%◌, ◌^◌, ◌<◌, ◌≤◌, List, [], ◌∷◌, ◌++◌, length, refl, sym, ap, ◌∙◌, arith, add-one, append_assoc, inl, inr, bit_and, bit_or}
 use Rattle.std.specs.List.{All}
 use Rattle.std.proofs.Math.Nat.{lt_of_not-le, pow-suc, pow-zero, div-add-mod', pow-le-pow_right, mul-le-mul_right}
@@ -11,7 +11,7 @@ use Rattle.multihash.specs.Varint.{varint_limit, max_continuation, continuation_
 use Rattle.multihash.proofs.Varints.DigitLemmas.{place_value-nil, place_value_last, IsDigit}
 use Rattle.multihash.specs.Encoding.{varint_within, varint_of}
 
--- that many digits were written, and the rest stands for those still to come
+-- that many digits have been written, and the rest is the number of those still to come
 pub record Wrote (now : List ℕ) (len n rest : ℕ) : Type 0 where
   pub front : List ℕ
   pub long : length front ≡ len
@@ -59,7 +59,7 @@ module _ (now : List ℕ) (len n rest : ℕ) (h : Wrote now len n rest) where
       spelled = ap (λ (z : List ℕ). z ++ rest ∷ []) h.spelled;
     }
 
-    -- the digits that were written leave room for the rest
+    -- fewer digits have been written than a varint may have
     pub wrote_few : len ≤ max_continuation
     wrote_few =
         let base : 0 < 128 = omega arith in
@@ -85,7 +85,7 @@ three_byte n least most =
     wrote_last _ 2 n (n / 128 / 128) (wrote_more _ 1 n (n / 128) first _ (omega (arith, least)) refl)
     (omega (arith, most)) (omega (arith, most))
 
--- what `varint_within` adds to the bytes written makes the varint
+-- the bytes written and those of `varint_within` are the varint
 written_within : (most : ℕ) (now : List ℕ) (len n rest : ℕ) → Wrote now len n rest → n < varint_limit → rest < 128 ^ suc most
     → IsVarint n (now ++ varint_within most rest)
 written_within zero now len n rest h range below = wrote_last now len n rest h range (omega (arith, below, pow-suc 128 0, pow-zero 128))

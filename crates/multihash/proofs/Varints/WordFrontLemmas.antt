@@ -1,5 +1,5 @@
--- The word that the bytes of a slice fill, and what it shows of the varint at their front. All for speed: no loop over the
--- bytes of a varint.
+-- The word of a slice's first bytes, and what it shows of the varint at their front. All for speed: no loop
+-- over the bytes of a varint.
 use Rattle.std.proofs.Common.{◌≡◌, ℕ, zero, suc, ◌-◌, ◌<◌, ◌≤◌, List, [], ◌++◌, length, get_or, take, drop, replicate, refl, sym, ap, ◌∙◌, arith, length-append, ◌+◌, ◌*◌, ◌/◌, ◌%◌, ◌^◌, ◌∷◌, bit_and, bit_or}
 use Prim.Native.Nat.{min}
 use Rattle.std.specs.Int.{byte_worth, sum_through, from_le_bytes, w128}
@@ -30,7 +30,7 @@ zeros : (n : ℕ) → place_value 256 (replicate n 0) ≡ 0
 zeros zero = place_value-nil 256
 zeros (suc n) = place_value-cons 256 0 (replicate n 0) ∙ omega (arith, zeros n)
 
--- zeros after the bytes change nothing
+-- zeros after the bytes leave the value unchanged
 pub padded_word : (xs ys : List ℕ) → ys ≡ xs → length xs ≤ 16
     → from_le_bytes w128 (ys ++ drop (length xs) (replicate 16 0)) ≡ place_value 256 xs
 padded_word xs ys same few =
@@ -53,14 +53,14 @@ whole_front xs front word is same enough = record {
   present_is = omega arith;
 }
 
--- the word of all bytes of a slice, where they are fewer
+-- the word of all bytes of a slice that has fewer
 pub all_front : (xs : List ℕ) (word : ℕ) → length xs < 16 → word ≡ place_value 256 xs → IsFrontWord xs word (length xs)
 all_front xs word few is = record {
   word_is = is ∙ ap (place_value 256) (sym (take_all 16 xs (omega arith)));
   present_is = omega arith;
 }
 
--- the word of as many as there are
+-- the word of as many bytes as there are, at most sixteen
 pub cut_front : (xs : List ℕ) (n word : ℕ) → n ≡ min 16 (length xs) → word ≡ place_value 256 (take n xs)
     → IsFrontWord xs word (length (take n xs))
 cut_front xs n word few is = record {
@@ -68,9 +68,9 @@ cut_front xs n word few is = record {
   present_is = omega (arith, length-take n xs);
 }
 
--- ---- where the continuation bytes of an input end
+-- ---- the end of the continuation bytes at the front of an input
 
--- further continuation bytes after those that begin the input
+-- further continuation bytes after those at the front of the input
 begins_more : (xs : List ℕ) (at m : ℕ) → BeginsWithContinuation at xs → ((i : ℕ) → i < m → 128 ≤ get_or xs (at + i) 0) → BeginsWithContinuation (at + m) xs
 begins_more xs at zero begins more = rw (add-zero at) begins
 begins_more xs at (suc m) begins more =
@@ -89,7 +89,8 @@ overflow_at xs begins large =
     (overflow_after (take max_continuation xs) (get_or xs max_continuation 0) (drop (max_continuation + 1) xs) begins.all_continuation
     (length-take-le max_continuation xs begins.enough) large)
 
--- that many continuation bytes begin the input, and the last is not marked, which counts as zero where the input ends
+-- that many continuation bytes are at the front of the input, and the last byte, or zero at the end of the
+-- input, is not one
 pub record EndsAt (xs : List ℕ) (k last : ℕ) : Type 0 where
   pub bytes : IsBytes xs
   pub begins : BeginsWithContinuation k xs
@@ -122,7 +123,7 @@ module _ (xs : List ℕ) (word present k last : ℕ) (f : IsFrontWord xs word pr
         (varint_from_bytes (take k xs) last (All-take (λ b. b < 256) k xs end.bytes) end.begins.all_continuation end.below_128 (omega (arith, long, end.few))
         (λ e. end.small (sym long ∙ e)) (λ z. nil_from_length (take k xs) (long ∙ minimal z)))
 
--- ---- what half a word says of the bytes that it holds, which are those from `at` on
+-- ---- what a half shows of the bytes that it holds, which are those from `at` on
 
 module _ (xs : List ℕ) (at half : ℕ) (bytes : IsBytes xs) (is : half ≡ place_value 256 (take 8 (drop at xs))) where
   back_bytes : IsBytes (drop at xs)
@@ -165,7 +166,7 @@ module _ (xs : List ℕ) (at half : ℕ) (bytes : IsBytes xs) (is : half ≡ pla
         ∙ ap (place_value 256) (take-take j 8 back (omega arith)) in
         ap (digits_low n) kept ∙ digits_low_of n (take j back) (All-take (λ b. b < 256) j back back_bytes) (omega (arith, length-take j back))
 
--- ---- what a word says of the bytes that it holds the first of
+-- ---- what a word shows of the bytes whose first it holds
 
 module _ (xs : List ℕ) (word present : ℕ) (bytes : IsBytes xs) (f : IsFrontWord xs word present) where
   front_bytes : IsBytes (take 16 xs)
@@ -184,7 +185,7 @@ module _ (xs : List ℕ) (word present : ℕ) (bytes : IsBytes xs) (f : IsFrontW
   none_begins : BeginsWithContinuation 0 xs
   none_begins = record { enough = omega arith; all_continuation = All-nil IsContinuation }
 
-  -- no byte of it is unmarked
+  -- all its bytes are continuation bytes
   pub low_continuation : stops lower ≡ 0 → BeginsWithContinuation 8 xs
   low_continuation none = half_begins xs 0 lower bytes low_is 8 none_begins (omega (arith, (half_stop xs 0 lower bytes low_is).none none)) (omega arith)
 
@@ -231,7 +232,7 @@ module _ (xs : List ℕ) (word present : ℕ) (bytes : IsBytes xs) (f : IsFrontW
           last : 8 + stop_at upper ≡ max_continuation → varint_bits upper / 2 ^ (8 * stop_at upper) < last_byte_limit
           last most = let same : stop_at upper ≡ last_place = omega (arith, most) in rw same (omega (arith, small))
 
-      -- the code's number
+      -- the number that the code computes
       abbrev pub high_value : ℕ
       high_value = bit_or (digits_low 8 lower) (digits_low (max_continuation - 7) (varint_bits upper) * 2 ^ 56 % 2 ^ 64)
 
@@ -253,5 +254,5 @@ module _ (xs : List ℕ) (word present : ℕ) (bytes : IsBytes xs) (f : IsFrontW
           )
           number
 
--- bytes that are fewer than a word has, for the tactics
+-- fewer bytes than a word has, for the tactics
 pub ruleset short_front = (bytes_of, all_front)

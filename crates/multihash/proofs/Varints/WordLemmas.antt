@@ -1,4 +1,4 @@
--- The bytes of a word, the number of its digits, and the first byte of half a word that is no continuation byte.
+-- The bytes of a word, the number of its digits, and the first byte of a half that is no continuation byte.
 use Rattle.std.proofs.Common.{◌≡◌, ℕ, zero, suc, ◌+◌, ◌-◌, ◌*◌, ◌/◌, ◌%◌, ◌^◌, ◌<◌, ◌≤◌, List, [], ◌∷◌, length, get_or, take, drop, sym, ap, ◌∙◌, arith, bit_and, bit_or, mul-le-mul_right, replicate, refl, add-one, inl, inr}
 use Rattle.std.proofs.Math.Nat.{add-zero, mul-suc, mul_assoc, lt_of_not-le, pow-le-pow_right}
 use Rattle.std.proofs.lemmas.Nat.{or_comm, or_shifted, shr-shr, shr_high, shl_whole, mod_low, pow-add, pow_pos, and_assoc, and-not, and_comm, and_le_l, and_le_r, and_mask, and_mod, and_shr, field_of, mod_below, mod-pow-add, shr_le, shr_split}
@@ -98,7 +98,7 @@ digits_low_of (suc i) (y ∷ ys) all few =
 and_halves : (a b : ℕ) → bit_and a b ≡ bit_and (a / 2) (b / 2) * 2 + bit_and (a % 2) (b % 2)
 and_halves a b = omega (arith, and_shr a b 1, and_mod a b 1)
 
--- t is the place of the lowest 1 of b: where a has none of b's, `a & (b - 1)` is what a has below it
+-- t is the index of the lowest set bit of b: if no bit is set in both, `a & (b - 1)` is the bits of a up to t
 and_less : (t a b : ℕ) → bit_at b t ≡ 1 → ((i : ℕ) → i < t → bit_at b i ≡ 0) → bit_and a b ≡ 0 → bit_and a (b - 1) ≡ a % 2 ^ suc t
 and_less zero a b set unset apart =
     let odd : b % 2 ≡ 1 = omega (arith, set) in
@@ -122,19 +122,19 @@ stop_byte : (i : ℕ) → i < 8 → byte_at stop_bits i ≡ 128
 unfolding place_value
 stop_byte i few = byte_of (replicate 8 128) i (All-replicate (λ b. b < 256) 8 128 (omega arith)) ∙ get_or-replicate 8 i 128 0 few
 
--- where a byte of the half is unmarked: its highest bit
+-- the highest bit of each byte of the half that is no continuation byte
 abbrev pub stops : ℕ → ℕ
 stops half = bit_and (bit_not w64 half) stop_bits
 
--- how many continuation bytes begin the half
+-- the number of continuation bytes at the front of the half
 abbrev pub stop_at : ℕ → ℕ
 stop_at half = trailing_zeros w64 (stops half) / 8
 
--- the bits of the half before its first stop bit
+-- the bits of the half below its first stop bit
 abbrev pub varint_bits : ℕ → ℕ
 varint_bits half = bit_and half ((stops half + (2 ^ 64 - 1)) % 2 ^ 64)
 
--- the first m bytes are marked, and the next is not, which is a zero after all eight
+-- the first m bytes are continuation bytes; the next, or a zero after all eight, is not
 pub record StopsAt (half m : ℕ) : Type 0 where
   pub before : (i : ℕ) → i < m → 128 ≤ byte_at half i
   pub here : byte_at half m < 128
@@ -154,7 +154,7 @@ module _ (half : ℕ) (fits : half < 2 ^ 64) where
   stop_of : (i : ℕ) → i < 8 → bit_at (stops half) (8 * i + 7) ≡ 1 - byte_at half i / 128
   stop_of i few = bit_of_stops i 7 few (omega arith) ∙ omega (arith, shr-shr half (8 * i) 7)
 
-  -- no byte is unmarked
+  -- all eight bytes are continuation bytes
   none_stops : stops half ≡ 0 → StopsAt half (stop_at half)
   none_stops none =
       let all : stop_at half ≡ 8 = ap (λ (n : ℕ). trailing_zeros w64 n / 8) none ∙ ap (λ (n : ℕ). n / 8) (trailing_of_zero 64) in
@@ -196,34 +196,34 @@ module _ (half : ℕ) (fits : half < 2 ^ 64) where
     | inr none ↦ none_stops (omega arith)
   ]
 
--- the place in the high half of the byte that may be too large
+-- the index in the high half of the byte that may be too large
 abbrev pub last_place : ℕ
 last_place = max_continuation - 8
 
--- what the code compares a high half with
+-- the bound that the code compares a high half with
 abbrev pub too_large : ℕ
 too_large = last_byte_limit * 256 ^ last_place
 
 module _ (half m : ℕ) (stop : StopsAt half m) where
-  -- the unmarked byte is the highest
+  -- the byte after the continuation bytes is the highest
   pub kept_last : varint_bits half / 2 ^ (8 * m) ≡ byte_at half m
   kept_last =
       let buffer : 8 * (m + 1) ≡ 8 + 8 * m = omega arith in
       ap (λ (n : ℕ). n / 2 ^ (8 * m)) (rw buffer at stop.varint) ∙ field_of half 8 (8 * m)
 
-  -- a byte up to it counts at its place
+  -- a byte up to it counts with its power of 256
   kept_above : last_place ≤ m → byte_at half last_place * 256 ^ last_place ≤ varint_bits half
   kept_above run =
       let buffer : 8 * (m + 1) ≡ 8 * (m - last_place) + 8 * (last_place + 1) = omega arith in
       omega (arith, rw buffer at stop.varint, mod-pow-add half (8 * (m - last_place)) (8 * (last_place + 1)), field_of half 8 (8 * last_place))
 
-  -- no more continuation bytes than a varint has
+  -- no more continuation bytes than a varint may have
   pub few_continuation : varint_bits half < too_large → m ≤ last_place
   few_continuation small =
       let few : m < suc last_place = lt_of_not-le (λ more. omega (arith, small, kept_above (omega arith), stop.before last_place (omega arith))) in
       omega arith
 
-  -- a half that is no less has a byte that is too large
+  -- a half at or above the bound has a byte that is too large
   pub too_large_byte : too_large ≤ varint_bits half → (last_place ≤ m) × (last_byte_limit ≤ byte_at half last_place)
   too_large_byte large = elim (cases_lt m last_place) [
     | inl few ↦

@@ -1,4 +1,4 @@
--- A pair's encoding as a function: `IsEncoding` of a pair in range is to be `encoding_of` it.
+-- A pair's encoding as a function: the encoding of a pair in range is `encoding_of` it.
 use Rattle.std.proofs.Common.{◌≡◌, ◌↔◌, ℕ, ◌<◌, List, length, refl, sym, subst, arith}
 use Rattle.multihash.specs.Pair.{Pair}
 use Rattle.multihash.specs.Varint.{varint_limit}

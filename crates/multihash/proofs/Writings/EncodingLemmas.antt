@@ -1,4 +1,4 @@
--- Encodings: their parts, one of each pair, how long they are, and that they are bytes.
+-- Encodings: their parts and lengths; each pair has one; they are bytes.
 use Rattle.std.proofs.Common.{◌≡◌, ℕ, ◌<◌, ◌≤◌, ◌+◌, List, [], ◌∷◌, ◌++◌, length, take, refl, sym, ap, ◌∙◌, subst, arith, length-append, append_assoc}
 use Rattle.multihash.specs.Pair.{Pair}
 use Rattle.multihash.specs.Varint.{IsVarint, max_continuation, varint_limit, continuation_bytes}
@@ -27,7 +27,7 @@ length-parts a b digest = omega (arith, length-append a (b ++ digest), length-ap
 pub same_pair : (p q : Pair) → p.code ≡ q.code → p.digest ≡ q.digest → p ≡ q
 same_pair p q c d = λ i. record { code = c i; digest = d i }
 
--- two cuts at one place
+-- two ways to split a list at the same index
 pub same_cut : (a b x y : List ℕ) → length a ≡ length b → a ++ x ≡ b ++ y → (a ≡ b) × (x ≡ y)
 same_cut a b x y l e =
     let fronts : a ≡ b = sym (take_at a x (length b) l) ∙ (ap (λ (z : List ℕ). take (length b) z) e ∙ take_at b y (length b) refl) in
@@ -39,7 +39,7 @@ encoding_cut p a x e =
     ap (λ (z : List ℕ). z ++ x) e.spelled
     ∙ (append_assoc e.code (e.size ++ p.digest) x ∙ ap (λ (z : List ℕ). e.code ++ z) (append_assoc e.size p.digest x))
 
--- two encodings in front of one input are one, of one pair
+-- two encodings at the front of one input are equal, of the same pair
 pub encoding_unique : (p q : Pair) (a b x y : List ℕ) → IsEncoding p a → IsEncoding q b → a ++ x ≡ b ++ y
     → (p ≡ q) × (a ≡ b) × (x ≡ y)
 encoding_unique p q a b x y e f same =
@@ -62,7 +62,7 @@ encoding_exists p code size =
     let s = varint_exists (length p.digest) size in
     (c.0 ++ (s.0 ++ p.digest), record { code = c.0; size = s.0; is_code = c.1; is_size = s.1; spelled = refl })
 
--- the longest encoding: the code's bytes, two of the size, and the digest
+-- an encoding is at most the code's bytes, two of the size, and the digest
 pub encoding_length : (p : Pair) (bytes : List ℕ) → IsEncoding p bytes → length p.digest ≤ 255
     → length bytes ≤ (max_continuation + 1) + 2 + 255
 encoding_length p bytes e fits =
@@ -76,7 +76,7 @@ encoding_length p bytes e fits =
       front_within 1 (length p.digest) e.size e.is_size (omega arith),
     )
 
--- its numbers are bytes, where the digest's are
+-- its numbers are bytes if the digest's are
 varint_is_bytes : (n : ℕ) (bytes : List ℕ) → IsVarint n bytes → IsBytes bytes
 varint_is_bytes n bytes v =
     let digits = All-append_left (λ d. d < 128) v.front (v.last ∷ []) v.digits in
@@ -90,12 +90,12 @@ encoding_bytes p bytes digest e =
     (All-append (λ b. b < 256) e.code (e.size ++ p.digest) (varint_is_bytes p.code e.code e.is_code)
     (All-append (λ b. b < 256) e.size p.digest (varint_is_bytes (length p.digest) e.size e.is_size) digest))
 
--- a digest in front of a buffer is the pair's
+-- the digest at the front of a buffer is the pair's
 pub pair_in_front : (code size : ℕ) (digest front rest : List ℕ) → size ≡ length digest → front ≡ digest
     → ◌≡◌ {A = Pair} (record { code = code; digest = take size (front ++ rest) }) (record { code = code; digest = digest })
 pair_in_front code size digest front rest long same =
     same_pair (record { code = code; digest = take size (front ++ rest) }) (record { code = code; digest = digest }) refl
     (take_at front rest size (ap length same ∙ sym long) ∙ same)
 
--- what follows bytes that are copied over zeros
+-- the zeros after bytes that are copied to the front of zeros
 pub ruleset zeros_after = (drop-replicate)

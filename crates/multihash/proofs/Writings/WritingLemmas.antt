@@ -16,12 +16,12 @@ pub length_of_not_nil : (xs : List ℕ) → xs ≢ [] → 0 < length xs
 length_of_not_nil [] some = absurd (some refl)
 length_of_not_nil (x ∷ xs) some = omega arith
 
--- the first n bytes of what is left are the next of the whole
+-- the first n of the remaining bytes follow those done so far
 pub concatenated-take-drop : (whole done left : List ℕ) (n : ℕ) → whole ≡ done ++ left → whole ≡ (done ++ take n left) ++ drop n left
 concatenated-take-drop whole done left n e =
     e ∙ ap (λ l. done ++ l) (sym (take-append-drop n left)) ∙ sym (append_assoc done (take n left) (drop n left))
 
--- the same, where what is left then is written as the range `left[n..]`
+-- the same, with the remaining bytes as the range `left[n..]`
 pub concatenated-take-range : (whole done left : List ℕ) (n : ℕ) → whole ≡ done ++ left → whole ≡ (done ++ take n left) ++ take (length left - n) (drop n left)
 concatenated-take-range whole done left n e = concatenated-take-drop whole done left n e ∙ ap (λ l. (done ++ take n left) ++ l) (sym (take_rest left n))
 
@@ -33,12 +33,12 @@ IsStrictPrefix-append x y z h = (
   ap (λ l. l ++ z) h.2 ∙ append_assoc x h.0 z,
 )
 
--- the first of two lists and a strict prefix of the second begin both
+-- the first of two lists and a strict prefix of the second are a strict prefix of both
 pub IsStrictPrefix-prepend : (x y z : List ℕ) → IsStrictPrefix x y → IsStrictPrefix (z ++ x) (z ++ y)
 IsStrictPrefix-prepend x y z h = (h.0, h.1, ap (λ l. z ++ l) h.2 ∙ sym (append_assoc z x h.0))
 
 module _ {W : Type 0} (appended : W → List ℕ → W → Type 0) where
-  -- what has been appended, and is not all of what was left, is a part
+  -- what has been appended is a strict prefix, since some bytes remain
   pub AppendsPrefix-take : (a b : W) (whole done left : List ℕ) (n : ℕ) → whole ≡ done ++ left → n < length left → appended a (done ++ take n left) b
       → AppendsPrefix appended a whole b
   AppendsPrefix-take a b whole done left n e less appends = record {
@@ -47,11 +47,11 @@ module _ {W : Type 0} (appended : W → List ℕ → W → Type 0) where
     appends = appends;
   }
 
-  -- what stops in the first of two lists stops in both
+  -- a strict prefix of the first of two lists has been appended, so one of both
   pub AppendsPrefix-append : (a b : W) (x y : List ℕ) → AppendsPrefix appended a x b → AppendsPrefix appended a (x ++ y) b
   AppendsPrefix-append a b x y h = record { part = h.part; strict = IsStrictPrefix-append _ _ y h.strict; appends = h.appends }
 
-  -- what appends the first of two lists and stops in the second stops in both
+  -- the first of two lists has been appended and a strict prefix of the second, so one of both
   pub AppendsPrefix-concatenated : ((a b c : W) (x y : List ℕ) → appended a x b → appended b y c → appended a (x ++ y) c)
       → (a b c : W) (x y : List ℕ) → appended a x b → AppendsPrefix appended b y c → AppendsPrefix appended a (x ++ y) c
   AppendsPrefix-concatenated join a b c x y first h = record {
@@ -77,7 +77,7 @@ module _ {W : Type 0} (appended : W → List ℕ → W → Type 0) (join : (a b 
   stops_in_third r u w x v first second part =
       OnErr-always r (a ++ (b ++ d), form, AppendsPrefix-concatenated appended join u w v a (b ++ d) first (AppendsPrefix-concatenated appended join w x v b d second part))
 
--- the slice is full after a part of `bytes`, so it was shorter than these
+-- the slice is full after a strict prefix of `bytes`, so it was shorter than these
 pub fewer_places : (old new bytes part : List ℕ) → AdvancesPast old part new → IsStrictPrefix part bytes → new ≡ [] → length old < length bytes
 fewer_places old new bytes part given strict none =
     omega (
@@ -90,13 +90,13 @@ fewer_places old new bytes part given strict none =
       length-drop (length part) old,
     )
 
--- a writer that doesn't allocate and counted no failure stopped since it was full
+-- a writer that doesn't allocate and counted no failure returned an error because it was full
 pub full_of_faults : (n : ℕ) (is_full : Type 0) (e : Fault) → IsWriterFaultOrFull false n n is_full e → is_full
 full_of_faults n is_full e (inl fault) = elim fault.cause [ inl rose ↦ absurd (omega arith) | inr memory ↦ absurd (false≢true memory.0) ]
 full_of_faults n is_full e (inr full) = full.2
 
--- `write`, `scale_encode` and `write_list` succeed if the slice is as long as the form: the two
--- facts are their clauses `err` and `faults`, and the first says what the slice's `appended` means
+-- `write`, `scale_encode` and `write_list` succeed if the slice is as long as the form: the second and the
+-- third fact are their clauses `err` and `faults`, and the first states what the slice's `appended` means
 pub mut_slice_has_room : {T W : Type 0} (appended : W → List ℕ → W → Type 0) (a b : W) (IsForm : List ℕ → Type 0)
     (old new : List ℕ) (r : Result T Refusal) → ((part : List ℕ) → appended a part b → AdvancesPast old part new)
     → OnErr r ((bytes : List ℕ) × IsForm bytes × AppendsPrefix appended a bytes b)
@@ -150,7 +150,7 @@ filled_length old bytes new n m h =
       length-append (take n old) (drop n old),
     )
 
--- the slice is full after a part of `bytes`, so less capacity was left than they need
+-- the slice is full after a strict prefix of `bytes`, so the remaining capacity was less than they need
 pub fewer_left : (old new : SliceWriter) (bytes : List ℕ) → AppendsPrefix Fills old bytes new → IsFilled new
     → length old.buffer.now < old.filled + length bytes
 fewer_left old new bytes h full =
@@ -164,8 +164,8 @@ fewer_left old new bytes h full =
       length_of_not_nil h.strict.0 h.strict.1,
     )
 
--- `write`, `scale_encode` and `write_list` succeed if the capacity that is left suffices: the two facts are their
--- clauses `err` and `faults`
+-- `write`, `scale_encode` and `write_list` succeed if the remaining capacity suffices: the two facts are
+-- their clauses `err` and `faults`
 pub slice_writer_has_room : {T : Type 0} (old new : SliceWriter) (IsForm : List ℕ → Type 0) (r : Result T Refusal)
     → OnErr r ((bytes : List ℕ) × IsForm bytes × AppendsPrefix Fills old bytes new) → CountsWriterFailures IsIo false 0 0 (IsFilled new) r
     → ((bytes : List ℕ) → IsForm bytes → old.filled + length bytes ≤ length old.buffer.now) → IsOk r

@@ -26,8 +26,8 @@ pub(super) fn copy_front(from: &[u8], to: &mut [u8]) -> usize
     }
 }
 
-/// Its remaining bytes are the slice, and it never fails. If `read_exact` wants more bytes than there
-/// are, slice and buffer are unchanged.
+/// Reads from the front of the slice, and never fails. If fewer bytes remain than `read_exact` needs,
+/// slice and buffer are unchanged.
 impl Read for &[u8] {
     ghost rest = { λ s. Some s.now };
 
@@ -79,7 +79,7 @@ impl<R: Read> Read for &mut R {
 }
 
 /// Writes to the front of the slice and advances past what was written. If not all bytes fit,
-/// `write_all` fills the slice and returns that it is full.
+/// `write_all` fills the slice and returns an error, [`Error::is_write_zero`].
 impl Write for &mut [u8] {
     const ALLOCATES: bool = false;
 

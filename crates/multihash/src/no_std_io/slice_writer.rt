@@ -28,7 +28,7 @@ impl<'a> SliceWriter<'a> {
 }
 
 /// Writes after the bytes written so far. If not all bytes fit, `write_all` fills the slice and returns
-/// that it is full.
+/// an error, [`Error::is_write_zero`].
 impl Write for SliceWriter<'_> {
     ghost use Rattle.multihash.specs.Writing.{WriteLaws, WriteAllLaws};
     ghost use Rattle.multihash.specs.Filling.{Fills, IsFilled, Fills-none, Fills-concatenated};

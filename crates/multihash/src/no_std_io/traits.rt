@@ -34,9 +34,10 @@ pub trait Read {
     ///
     /// # Errors
     ///
-    /// [`Error::is_unexpected_eof`] if fewer bytes remain, or an error of the reader itself, exactly if
-    /// the reader's count of failures rises, by one. Fewer bytes than `buf` holds were consumed then,
-    /// and the contents of `buf` are unspecified.
+    /// - [`Error::is_unexpected_eof`] if fewer bytes remain.
+    /// - An error of the reader itself, exactly if the reader's count of failures rises, by one.
+    ///
+    /// Fewer bytes than `buf` holds were consumed then, and the contents of `buf` are unspecified.
     fn read_exact(&mut self, buf: &mut [u8]) -> Result<(), Error>
         ensures laws { ReadExactLaws rest failures self.old self.new buf.old buf.new result }
     {
@@ -60,16 +61,16 @@ pub trait Read {
 /// fails with an error of the writer itself raises the count by exactly one, and no other call changes
 /// it; so a writer that retries another one has a count of its own.
 pub trait Write {
-    /// Whether a call may allocate, and so return [`Error::out_of_memory`] without a failure.
+    /// Whether a call may allocate, and so return [`Error::out_of_memory`] without counting a failure.
     const ALLOCATES: bool;
 
     // The value of `ALLOCATES`, for contracts.
     ghost allocates: { Bool };
 
-    // These bytes have been appended between the first state and the second.
+    // The bytes have been appended between the first state and the second.
     ghost appended: { Self → List ℕ → Self → Type 0 };
 
-    // It accepts no more bytes.
+    // The writer accepts no more bytes.
     ghost full: { Self → Type 0 };
 
     // The number of times that the writer has failed.
@@ -80,9 +81,11 @@ pub trait Write {
     ///
     /// # Errors
     ///
-    /// An error of the writer itself, of the kind [`Error::is_other`] or [`Error::is_out_of_memory`],
-    /// if the writer's count of failures rises, by one; or out of memory, if it allocates. Nothing was
-    /// appended then.
+    /// - An error of the writer itself, of the kind [`Error::is_other`] or [`Error::is_out_of_memory`],
+    ///   if the writer's count of failures rises, by one.
+    /// - [`Error::is_out_of_memory`] with an unchanged count, if it allocates.
+    ///
+    /// Nothing was appended then.
     fn write(&mut self, buf: &[u8]) -> Result<usize, Error>
         ensures laws { WriteLaws appended full failures allocates
             self.old buf.now self.new result };
@@ -91,8 +94,10 @@ pub trait Write {
     ///
     /// # Errors
     ///
-    /// [`Error::is_write_zero`] if the writer is full, or the errors of [`Write::write`]. A strict
-    /// prefix of `buf` has been appended then.
+    /// - [`Error::is_write_zero`] if the writer is full.
+    /// - Otherwise the errors of [`Write::write`].
+    ///
+    /// A strict prefix of `buf` has been appended then.
     fn write_all(&mut self, buf: &[u8]) -> Result<(), Error>
         ensures laws { WriteAllLaws appended full failures allocates
             self.old buf.now self.new result }

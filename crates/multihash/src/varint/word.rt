@@ -24,7 +24,7 @@ const HIGH_LEN: usize = MAX_LEN - HALF_LEN;
 const TOO_LARGE: u64 = (LAST_BYTE_LIMIT as u64) << (8 * (MAX_CONTINUATION - HALF_LEN));
 
 // The number and the length of the varint at the front of the bytes, from one word. None if it is
-// malformed; `front_fault` then says why.
+// malformed; `front_fault` then returns why.
 #[inline(always)]
 pub(crate) fn read_front(bytes: &[u8]) -> Option<(u64, usize)>
     ensures some { IfSome result (λ found.
@@ -119,12 +119,12 @@ fn read_word(word: u128, present: usize) -> Result<(u64, usize), Error>
         IsFrontError bytes e) }
 {
     let low = (word & 0xffff_ffff_ffff_ffff) as u64;
-    // Set where a byte is not a continuation byte: its highest bit.
+    // The highest bit of each byte that is no continuation byte.
     let stops = !low & HIGH_BITS;
     if stops == 0 {
         return read_high(word, present);
     }
-    // No bit after the first of them is set in both.
+    // The bits below the first of them: above it no bit is set in both.
     let varint = low & stops.wrapping_sub(1);
     let continuation_bytes = (stops.trailing_zeros() / 8) as usize;
     if continuation_bytes >= present {

@@ -1,4 +1,4 @@
--- The members so far are the old ones and the first bytes, and there is room for the others.
+-- The members so far are the old ones and the first bytes, and the capacity suffices for the others.
 use Rattle.std.proofs.Common.{◌≡◌, ◌+◌, ◌≤◌, ◌++◌, length, map, take, vec_len, vec_capacity}
 use Rattle.serde_json.specs.Data.{number, unsigned}
 use Rattle.serde_json.specs.View.{view}

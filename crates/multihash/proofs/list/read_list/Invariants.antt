@@ -1,4 +1,4 @@
--- The pairs so far were consumed, there is room for the others, and no read failed.
+-- The pairs so far have been consumed, the capacity suffices for the others, and no read failed.
 use Rattle.std.proofs.Common.{◌≡◌, ◌≤◌, length, map, vec_capacity}
 use Rattle.multihash.specs.Streams.{ConsumesPairs}
 use Rattle.multihash.specs.Outcome.{pair_of}

@@ -37,7 +37,7 @@ loop-item-preserved g c =
       unfailed = met.faults ∙ before.unfailed;
     }
 
--- a part of all encodings has been appended
+-- a strict prefix of all encodings has been appended
 stop : (g : given.Over) (c : goal.After-from_residual g)
     → (all : List ℕ) × AreConcatenated (map pair_of c.args.items.now) all × AppendsPrefix g.W.Write.appended c.args.w.now all c.write.new.w
 stop g c =

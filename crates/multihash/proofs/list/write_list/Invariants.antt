@@ -1,4 +1,5 @@
--- The items so far were appended: with the others' encodings those are all. No write failed.
+-- The encodings of the items so far have been appended; with those of the others they are all; no write
+-- failed.
 use Rattle.std.proofs.Common.{◌≡◌, ◌++◌, ℕ, List, map, drop}
 use Rattle.multihash.specs.Streams.{AreConcatenated}
 use Rattle.multihash.specs.Outcome.{pair_of}

@@ -3,7 +3,7 @@ use Rattle.std.proofs.lemmas.List.{take-append-drop, take-append-le, take-take, 
 use Rattle.std.proofs.lemmas.Slice.{drop-append-drop}
 use Rattle.multihash.proofs.multihash.copy_ends.Goals as goal
 
--- the last n bytes over places that have the digest's first n bytes, where together these are all
+-- the last n bytes are copied after the first n were, and together these are all
 both_ends : (d z p q : List ℕ) (n at : ℕ) → at + n ≡ length d → at ≤ n
     → p ≡ take n d ++ drop (0 + n) z → q ≡ take at p ++ (take n (drop at d) ++ drop (at + n) p) → q ≡ d ++ drop (length d) z
 both_ends d z p q n at is over before after =

@@ -1,4 +1,4 @@
--- The first `len` bytes encode the digits that were written.
+-- The first `len` bytes encode the digits written so far.
 use Rattle.std.proofs.Common.{◌≡◌, length, take}
 use Rattle.multihash.proofs.Varints.VarintWriteLemmas.{Wrote}
 use Rattle.multihash.proofs.varint.encode.Given as goal

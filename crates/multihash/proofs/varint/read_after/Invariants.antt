@@ -1,4 +1,4 @@
--- Only continuation bytes were consumed, their digits are in the sum, and no read failed.
+-- Only continuation bytes have been consumed, the sum is the value of their digits, and no read failed.
 use Rattle.std.proofs.Common.{◌≡◌, ◌<◌, [], ◌∷◌}
 use Rattle.std.specs.Io.KnownBytes.{prepend_known}
 use Rattle.multihash.proofs.Varints.VarintReadLemmas.{ReadsContinuation}

@@ -12,7 +12,7 @@ use Rattle.multihash.proofs.multihash.Multihash.scale_decode.Goals.{After-from_l
 is_code : (g : given.Over) (c : After-from_le_bytes-code g) → IsScaleCode c.from_le_bytes-code.result c.in_ok-code_bytes.code_bytes
 is_code g c = code_read _ _ (search rules) (search rules) (omega (arith, c.from_le_bytes-code.type_inv)) c.from_le_bytes-code.ensures
 
--- the code's bytes and the one of the size were consumed
+-- the bytes of the code and the byte of the size have been consumed
 consumes : (g : given.Over) (c : After-from-size g)
     → Consumes (g.R.Read.rest c.args.r.now) (c.in_ok-code_bytes.code_bytes ++ c.from-size.result ∷ []) (g.R.Read.rest c.read_array-2.new.r)
 consumes g c =

@@ -1,4 +1,4 @@
--- The first `filled` bytes of the buffer are those that were consumed, and no read failed.
+-- The first `filled` bytes of the buffer are those that have been consumed, and no read failed.
 use Rattle.std.proofs.Common.{length, ◌-◌, ◌≡◌, ◌≤◌, take}
 use Rattle.multihash.specs.Reading.{Consumes}
 use Rattle.multihash.proofs.no_std_io.traits.Read.read_exact.Given as goal

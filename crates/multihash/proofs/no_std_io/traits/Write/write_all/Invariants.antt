@@ -1,4 +1,4 @@
--- What is gone from `left` was appended, and no write failed.
+-- The bytes before `left` have been appended, and no write failed.
 use Rattle.std.proofs.Common.{◌≡◌, List, ℕ, ◌++◌, length}
 use Rattle.multihash.proofs.no_std_io.traits.Write.write_all.Given as goal
 
