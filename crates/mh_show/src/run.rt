@@ -111,6 +111,7 @@ fn read_input<I: Read>(alloc: Global, input: &mut I) -> Result<Vec<u8>, RunError
     ensures err { IfErr result (λ e.
         (e ≡ RunError.Input) ⊎ (e ≡ RunError.NotShown ShowError.Memory)) }
 {
+    // One byte more, so that an input that fills it is too long.
     let mut text = vec![in alloc; 0; MOST_INPUT + 1]?;
     let length = read_to_end(input, text.as_mut_slice())?;
     text.truncate(length);

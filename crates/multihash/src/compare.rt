@@ -237,9 +237,8 @@ fn order_of_many(a: &[u8], b: &[u8]) -> Ordering
     let last = a.len() - 32;
     let mut at = 32;
     while at < last {
-        let order = order_of_pair(a, b, at);
-        if order.is_ne() {
-            return order;
+        if !same_pair(a, b, at) {
+            return order_of_pair(a, b, at);
         }
         at += 32;
     }

@@ -112,7 +112,7 @@ impl<const S: usize> Multihash<S> {
         ensures fits { FitsBuffer S (pair_of self.now) }
         ensures pair { IsPair (pair_of self.now) }
     {
-        front(&self.digest, self.size)
+        prefix(&self.digest, self.size)
     }
 
     /// Returns the same code with the first `size` bytes of the digest, or with all of it if it is
@@ -263,9 +263,9 @@ impl<const S: usize> Default for Multihash<S> {
 
 // The first `len` bytes. A slice that is passed in is known to hold bytes.
 #[inline(always)]
-fn front(bytes: &[u8], len: usize) -> &[u8]
+fn prefix(bytes: &[u8], len: usize) -> &[u8]
     requires { len ≤ length bytes.now }
-    ensures front { result.now ≡ take len bytes.now }
+    ensures prefix { result.now ≡ take len bytes.now }
     ensures bytes { IsBytes result.now }
 {
     &bytes[..len]
@@ -289,15 +289,11 @@ fn copy_to_front(digest: &[u8], buffer: &mut [u8])
     requires { length digest.now ≤ length buffer.old }
     ensures { buffer.new ≡ digest.now ++ drop (length digest.now) buffer.old }
 {
-    let len = digest.len();
-    if len > 64 || len < 16 {
-        if len > 0 {
-            buffer[..len].copy_from_slice(digest);
-        }
-    } else if len > 32 {
-        copy_ends::<32>(digest, buffer);
-    } else {
-        copy_ends::<16>(digest, buffer);
+    match digest.len() {
+        0 => {}
+        16..=32 => copy_ends::<16>(digest, buffer),
+        33..=64 => copy_ends::<32>(digest, buffer),
+        len => buffer[..len].copy_from_slice(digest),
     }
 }
 

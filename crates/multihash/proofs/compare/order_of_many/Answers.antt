@@ -1,5 +1,6 @@
 use Rattle.std.proofs.Common.{◌-◌, ◌∙◌, length, sym, refl, arith}
 use Rattle.multihash.proofs.Values.WindowLemmas.{window, longer_front, order_of_window, order_of_last, same_of_order, other_order}
+use Rattle.std.proofs.lemmas.Map.Lookups.{exact_bytes}
 use Rattle.multihash.proofs.compare.order_of_many.Goals as goal
 
 pub returns-then-is_ne : goal.returns-then-is_ne
@@ -12,26 +13,23 @@ loop-at-init c =
     let first = c.order_of_pair-order in
     same_of_order (window 32 0 c.args.a.now) (window 32 0 c.args.b.now) first.result (sym c.is_ne.ensures ∙ c.if-is_ne.false) first.ensures
 
-pub returns-then-is_ne-2 : goal.returns-then-is_ne-2
-returns-then-is_ne-2 c =
-    let next = c.order_of_pair-order-in-loop-at in
+pub returns-then-not-same_pair : goal.returns-then-not-same_pair
+returns-then-not-same_pair c =
+    let x = window 32 c.loop-at.at c.args.a.now in
+    let y = window 32 c.loop-at.at c.args.b.now in
+    let next = c.order_of_pair in
     order_of_window 32 c.loop-at.at c.args.a.now c.args.b.now next.result c.loop-at.invariant next.ensures
-    (other_order next.result (sym c.is_ne-in-loop-at.ensures ∙ c.if-is_ne-2.true))
+    (λ tie. absurd (cc (c.same_pair.ensures.1 (exact_bytes x y (sym next.ensures ∙ tie)), c.if-not-same_pair.true)))
 
 pub loop-at-preserved : goal.loop-at-preserved
 loop-at-preserved c =
-    let a = c.args.a.now in
-    let b = c.args.b.now in
-    let at = c.loop-at.at in
-    let next = c.order_of_pair-order-in-loop-at in
-    longer_front 32 at a b c.loop-at.invariant
-    (same_of_order (window 32 at a) (window 32 at b) next.result (sym c.is_ne-in-loop-at.ensures ∙ c.if-is_ne-2.false) next.ensures)
+    longer_front 32 c.loop-at.at c.args.a.now c.args.b.now c.loop-at.invariant (c.same_pair.ensures.0 c.if-not-same_pair.false)
 
 pub returns : goal.returns
 returns c =
     let a = c.args.a.now in
     let b = c.args.b.now in
     let k = length a - 32 in
-    let last = c.order_of_pair in
+    let last = c.order_of_pair-2 in
     order_of_last 32 k c.loop-at.at a b last.result (omega (arith, c.requires.least)) (omega (arith, c.requires.least, c.requires.same))
     (omega (arith, c.loop-at-test.false)) c.loop-at.invariant last.ensures
