@@ -1,5 +1,5 @@
 # shellcheck shell=bash
-# What the tests of the library for C share; they source it. Each part is a command that is run by `try`.
+# Runs the parts of a test, each a command; the tests of the library for C and of its bindings source it.
 #
 #   ALL=1    a part that is left out fails
 passed=0
@@ -7,7 +7,7 @@ failed=0
 work=$(mktemp -d) || exit 2
 trap 'rm -rf "$work"' EXIT
 
-# Runs a command and counts it: all that it prints is shown if it fails, else what it left out and its last line.
+# Runs a command and counts it. If it fails prints its output, otherwise what it left out and its last line.
 try() {
   local name=$1 began=$SECONDS
   shift

@@ -10,40 +10,27 @@ here=$(dirname "$(readlink -f "${BASH_SOURCE[0]}")")
 top=$(readlink -f "$here/../..")
 header=$top/crates/multihash_c/include/multihash.h
 archive=$(readlink -f "${1?the static library for C is missing}")
-passed=0
-failed=0
-work=$(mktemp -d) || exit 2
-trap 'rm -rf "$work"' EXIT
+cd "$top" || exit 2
+# shellcheck source=tools/parts.sh
+. tools/parts.sh
 data=$work/data
 node=(node)
 node --experimental-wasm-memory64 -e 0 2> "$work/log" && node+=(--experimental-wasm-memory64)
 
-# Runs a command that needs a tool, and counts it.
+# Runs a command that needs a tool.
 part() {
   local name=$1 tool=$2
   shift 2
-  if ! command -v "$tool" > "$work/log"; then
-    [ "${ALL-}" != 1 ] || failed=$((failed + 1))
-    echo "left out: $name: $tool is not installed"
-  elif "$@" > "$work/log" 2>&1; then
-    passed=$((passed + 1))
-    echo "passed: $name: $(tail -n 1 "$work/log")"
-  else
-    failed=$((failed + 1))
-    echo "failed: $name"
-    cat "$work/log"
-  fi
+  has "$name" "$tool" && try "$name" "$@"
 }
 
-rejects() {
-  ! "$@" && echo "fails, as it has to"
-}
-
-# The data of the tests: the vectors, the header, and 100,000 inputs with what the library for C returns for them.
+# The data of the tests: the vectors, the header, and 100,000 inputs with the results of the library for C.
 make_data() {
-  mkdir "$data" && cp "$header" "$data/header" && cp "$top/crates/vectors/data/verdicts.tsv" "$data/vectors" || return 1
+  mkdir "$data" && cp "$header" "$data/header" &&
+    cp "$top/crates/vectors/data/verdicts.tsv" "$data/vectors" || return 1
   node "$here/test/mutate.js" "$data/vectors" 100000 > "$data/inputs" &&
-    cc -std=c11 -Wall -Wextra -Wpedantic -Wconversion -Werror -O2 -I "$(dirname "$header")" "$here/test/answers.c" "$archive" -o "$work/answers" &&
+    cc -std=c11 -Wall -Wextra -Wpedantic -Wconversion -Werror -O2 -I "$(dirname "$header")" \
+      "$here/test/answers.c" "$archive" -o "$work/answers" &&
     "$work/answers" < "$data/inputs" > "$data/answers" && echo "$(wc -l < "$data/answers") inputs"
 }
 
@@ -51,7 +38,7 @@ in_node() {
   "${node[@]}" "$here/test/node.js" "$@"
 }
 
-# The tests find so many faults, and no more.
+# The tests find exactly that many faults.
 finds() {
   local faults=$1
   shift
@@ -82,30 +69,36 @@ no_vectors() {
 old_engine() {
   "${node[@]}" --input-type=module -e "
     WebAssembly.validate = () => false;
-    await import('$here/$1.js').then(() => process.exit(1), (error) => console.log(error.message));" | grep 'memory64.*Node.js 24, Chrome 133, Edge 133 and Firefox 134'
+    await import('$here/$1.js').then(() => process.exit(1), (error) => console.log(error.message));" |
+    grep 'memory64.*Node.js 24, Chrome 133, Edge 133 and Firefox 134'
 }
 
 package_agrees() {
   local version
   version=$(sed -n 's/^#define MULTIHASH_VERSION "\([0-9.]*\)"$/\1/p' "$header")
-  grep -q "\"version\": \"$version\"" "$here/package.json" && cmp "$here/LICENSE" "$top/LICENSE" && echo "version $version, and the licence"
+  grep -q "\"version\": \"$version\"" "$here/package.json" && cmp "$here/LICENSE" "$top/LICENSE" &&
+    echo "version $version, and the licence"
 }
 
 types() {
-  tsc --noEmit --strict --target es2022 --module nodenext --moduleResolution nodenext --lib es2022,dom,dom.iterable "$here/test/example.ts" &&
+  tsc --noEmit --strict --target es2022 --module nodenext --moduleResolution nodenext \
+    --lib es2022,dom,dom.iterable "$here/test/example.ts" &&
     echo "the example has the types that it says"
 }
 
 # The example of README.md in that language.
 example_in() {
-  awk -v fence="\`\`\`$1" '$0 == fence && !seen { on = seen = 1; next } on && /^```/ { exit } on' "$here/README.md"
+  awk -v fence="\`\`\`$1" '$0 == fence && !seen { on = seen = 1; next } on && /^```/ { exit } on' \
+    "$here/README.md"
 }
 
 # What is packed, unpacked elsewhere, runs the script of README.md.
 packed_script() {
   local at=$work/elsewhere
-  (cd "$here" && npm pack --silent --pack-destination "$work") && mkdir -p "$at/node_modules/verified-multihash" &&
-    tar xzf "$work"/verified-multihash-*.tgz --strip-components 1 -C "$at/node_modules/verified-multihash" || return 1
+  (cd "$here" && npm pack --silent --pack-destination "$work") &&
+    mkdir -p "$at/node_modules/verified-multihash" &&
+    tar xzf "$work"/verified-multihash-*.tgz --strip-components 1 -C "$at/node_modules/verified-multihash" ||
+    return 1
   example_in js > "$at/script.mjs"
   example_in html > "$at/page.html"
   (cd "$at" && "${node[@]}" script.mjs > out 2> err) || return 1
@@ -123,7 +116,8 @@ in_chromium() {
 
 # The demo page, opened from the disk, shows that text for that input.
 demo_shows() {
-  chromium --headless --no-sandbox --disable-gpu --user-data-dir="$work/profile" --dump-dom "file://$here/demo.html#$1" 2> "$work/err" |
+  chromium --headless --no-sandbox --disable-gpu --user-data-dir="$work/profile" \
+    --dump-dom "file://$here/demo.html#$1" 2> "$work/err" |
     sed -e '/<script/,$d' -e 's/<[^>]*>//g' > "$work/shown"
   grep -F "$2" "$work/shown"
 }
@@ -131,10 +125,13 @@ demo_shows() {
 demo() {
   local example
   example=$(cat "$top/crates/mh_show/stdin")
-  demo_shows "$example" 'Valid: code 22, digest of 32 bytes.' && demo_shows "${example}00" 'Byte 35 of 35: 00' &&
-    demo_shows 168002 'The first 2 bytes (1680) can begin a multihash.' && demo_shows 1620ab 'Still needed: 31 bytes.' &&
-    demo_shows 12808000 'The first 2 bytes (1280) can begin a multihash.' && demo_shows 12z0 'is not a hexadecimal digit' &&
-    rejects demo_shows 1200 'Not valid'
+  demo_shows "$example" 'Valid: code 22, digest of 32 bytes.' &&
+    demo_shows "${example}00" 'Byte 35 of 35: 00' &&
+    demo_shows 168002 'The first 2 bytes (1680) can begin a multihash.' &&
+    demo_shows 1620ab 'Still needed: 31 bytes.' &&
+    demo_shows 12808000 'The first 2 bytes (1280) can begin a multihash.' &&
+    demo_shows 12z0 'is not a hexadecimal digit' &&
+    ! demo_shows 1200 'Not valid'
 }
 
 part "the WebAssembly built anew" rt "$here/build.sh" --check
@@ -152,5 +149,4 @@ part "the packed package's script" npm packed_script
 part "the packed package's page" chromium packed_page
 part "in Chromium" chromium in_chromium
 part "the page" chromium demo
-echo "$passed passed, $failed failed"
-[ "$failed" = 0 ] && [ "$passed" -gt 0 ]
+finish
