@@ -1,6 +1,6 @@
 #!/usr/bin/env bash
-# Compares the stored test vectors with those that tools/verdicts.py makes, and then plants differences, each of which must be seen.
-# The last line is 'N passed, M failed'.
+# Compares the stored test vectors with those that tools/verdicts.py makes, and then plants differences, each
+# of which must be seen. The last line is 'N passed, M failed'.
 set -uo pipefail
 cd "$(dirname "$0")/.." || exit 2
 stored=crates/vectors/data/verdicts.tsv

@@ -1,6 +1,6 @@
 #!/usr/bin/env bash
-# Counts the instructions of each call that crates/multihash_c/c_test/count.c makes, and prints the counts of the section
-# "From C" of docs/SPEED.md. The calls are made from C, of the library as `rt lib` builds it.
+# Counts the instructions of each call that crates/multihash_c/c_test/count.c makes, and prints the counts of
+# the section "From C" of docs/SPEED.md. The calls are made from C, of the library as `rt lib` builds it.
 set -euo pipefail
 
 # An operation is run with two counts of calls: the difference leaves out what comes before and after them.

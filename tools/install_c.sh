@@ -1,19 +1,21 @@
 #!/usr/bin/env bash
-# Installs the library for C: the header, the archive, the shared library, the file for pkg-config, man pages, docs/C.md with
-# examples, the licence and the changelog.
+# Installs the library for C: the header, the archive, the shared library, the file for pkg-config, man pages,
+# docs/C.md with examples, the licence and the changelog.
 #
 #   tools/install_c.sh [OPTION..] PREFIX [DESTDIR]   installs below DESTDIR/PREFIX, for use from PREFIX
-#   tools/install_c.sh [OPTION..] --dist FILE        packs the same into FILE, a .tar.gz for machines without the kit: it can
-#                                                    be unpacked anywhere, and has the same bytes each time
+#   tools/install_c.sh [OPTION..] --dist FILE        packs the same into FILE, a .tar.gz for machines without
+#                                                    the kit: it can be unpacked anywhere, and has the same
+#                                                    bytes each time
 #
 #   --target NAME     x86_64 (the default, for all its processors), x86_64-v2, x86_64-v3 or aarch64
 #   --program         adds the program mh_show and its man page, for x86-64 only
 #
 #   LIBDIR=FOLDER     the libraries' folder below the prefix, else lib
-#   ARCHIVE=FILE      an archive that `rt lib` built for the target, else it is built, which proves the crate first
-#   PROGRAM=FILE      the program, else it is built, which proves it first
+#   ARCHIVE=FILE      an archive that `rt lib` built for the target, else it is built, after proving the crate
+#   PROGRAM=FILE      the program, else it is built, after proving it
 #   PROVED=FOLDER     a copy of the repository in which they are built
-#   CC                the compiler that links the shared library, else cc, or aarch64-linux-gnu-gcc on another machine
+#   CC                the compiler that links the shared library, else cc, or for aarch64 on another machine
+#                     aarch64-linux-gnu-gcc
 set -euo pipefail
 top=$(dirname "$(dirname "$(readlink -f "${BASH_SOURCE[0]}")")")
 crates=${PROVED:-$top}/crates
@@ -85,7 +87,8 @@ built_program() {
 
 link_shared() {
   local from=$1 to=$2
-  "$(compiler)" -shared -Wl,-soname,"lib$name.so.$major" -Wl,--version-script="$packaging/$name.map" -Wl,--build-id=none \
+  "$(compiler)" -shared -Wl,-soname,"lib$name.so.$major" -Wl,--version-script="$packaging/$name.map" \
+    -Wl,--build-id=none \
     -Wl,-z,defs -Wl,-z,relro -Wl,-z,now -Wl,--whole-archive "$from" -Wl,--no-whole-archive -o "$to"
 }
 
@@ -157,7 +160,8 @@ make_dist() {
   local up=../ i
   for ((i = 0; i < $(tr -cd / <<< "$libdir" | wc -c) + 1; i++)); do up+=../; done
   install_into "$work/$name-$version" "\${pcfiledir}/${up%/}"
-  tar --sort=name --mtime="$date" --owner=0 --group=0 --numeric-owner -C "$work" -cf - "$name-$version" | gzip -n > "$1"
+  tar --sort=name --mtime="$date" --owner=0 --group=0 --numeric-owner -C "$work" -cf - "$name-$version" |
+    gzip -n > "$1"
 }
 
 version=$(sed -n 's/^#define MULTIHASH_VERSION "\([0-9.]*\)"$/\1/p' "$header")

@@ -1,5 +1,5 @@
-/* Is loaded before a test program (LD_PRELOAD) and makes the allocation fail whose number the variable REFUSE has. At the end the
- * file that COUNTS names has the number of allocations, and of those that were not freed. */
+/* Is loaded before a test program (LD_PRELOAD) and makes the allocation fail whose number is in the variable
+ * REFUSE. At the end writes the number of allocations, and of those not freed, to the file COUNTS. */
 #define _GNU_SOURCE
 #include <dlfcn.h>
 #include <errno.h>

@@ -1,14 +1,15 @@
 #!/usr/bin/env bash
-# Makes each allocation fail in turn: runs each test by itself while its Nth allocation fails, N counted upwards until the test makes
-# fewer. A test in which one failed, and that found all as it should be, fails with REFUSED. Each run has to free what it allocated.
-# The programs are those that 'rt ci' built of the crates' tests, if BUILT says so; otherwise 'rt test' builds them.
-# tools/refuse_memory.c, which is loaded before malloc, makes allocations fail and counts them. The last line is 'N passed, M failed'.
+# Makes each allocation fail in turn: runs each test by itself while its Nth allocation fails, N counted
+# upwards until the test makes fewer. A test in which one failed, and that found all as it should be, fails
+# with REFUSED. Each run has to free what it allocated. The programs are those that 'rt ci' built of the
+# crates' tests, if BUILT says so; otherwise 'rt test' builds them. tools/refuse_memory.c, which is loaded
+# before malloc, makes allocations fail and counts them. The last line is 'N passed, M failed'.
 set -uo pipefail
 cd "$(dirname "$0")/.." || exit 2
 refused='error: "memory was refused"'
 most=40
 
-# The tests, by crate, with how many allocations each makes, and how many of these make it fail, unless all do.
+# The tests, by crate: how many allocations each makes, and how many of these make it fail, if not all do.
 tests() {
   case $1 in
     tests_memory) cat << 'LIST'
@@ -59,12 +60,14 @@ outcome() {
   fi
 }
 
-# Runs one test until it makes fewer allocations than the one that fails. Prints what it did in each run, and at last their number.
+# Runs one test until it makes fewer allocations than the one that fails. Prints the result of each run, and
+# then the number of allocations.
 runs_of() {
   local program=$1 test=$2 out=$3 n asked live status
   for ((n = 1; n <= most; n++)); do
     rm -f "$out.counts"
-    timeout 60 env COUNTS="$out.counts" REFUSE=$n LD_PRELOAD="$folder/refuse_memory.so" "$program" "$test" > "$out.run" 2>&1 < /dev/null
+    timeout 60 env COUNTS="$out.counts" REFUSE=$n LD_PRELOAD="$folder/refuse_memory.so" "$program" \
+      "$test" > "$out.run" 2>&1 < /dev/null
     status=$?
     asked=0 live=none
     [ -f "$out.counts" ] && read -r asked live < "$out.counts"
@@ -74,7 +77,7 @@ runs_of() {
   echo "$asked"
 }
 
-# Prints whether a test made as many allocations as it should, and told of each that failed; its runs are in a file.
+# Prints whether a test made the stated number of allocations and reported each failure. A file has its runs.
 judge() {
   local test=$1 wanted=$2 fatal=$3 runs=$4 asked refused other
   asked=$(tail -n 1 "$runs")
@@ -107,7 +110,8 @@ try_crate() {
     tests "$crate" | grep -q "^$name " || echo "failed: $crate: $name is in no list"
   done
   while read -r name wanted fatal; do
-    test=$(grep -E "(^|::)$name\$" "$out.names") || { echo "failed: $crate: there is no test $name"; continue; }
+    test=$(grep -E "(^|::)$name\$" "$out.names") ||
+      { echo "failed: $crate: there is no test $name"; continue; }
     runs_of "$program" "$test" "$out" > "$out.runs"
     judge "$crate $name" "$wanted" "${fatal:-$wanted}" "$out.runs"
   done < <(tests "$crate")

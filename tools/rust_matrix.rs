@@ -1,10 +1,10 @@
-//! Makes the calls that `crates/speed` makes, of the Rust crate `multihash`: the same cases, inputs, loops and sums,
-//! so that `tools/speed PROGRAM` counts and times both by the same means.
+//! Makes the calls that `crates/speed` makes, of the Rust crate `multihash`: the same cases, inputs, loops
+//! and sums, so that `tools/speed PROGRAM` counts and times both by the same means.
 //!
-//! - `rust_matrix cases` prints the cases, one a line: the operation, the digest's size, the number of bytes of the
-//!   code, and the buffer's size.
+//! - `rust_matrix cases` prints the cases, one a line: the operation, the digest's size, the number of bytes
+//!   of the code, and the buffer's size.
 //! - `rust_matrix check` prints a sum for each operation; the lines of crates/speed/stdout are the same.
-//! - `rust_matrix OPERATION SIZE CODE_LEN BUFFER COUNT` makes `COUNT` calls of one case, and prints their sum.
+//! - `rust_matrix OPERATION SIZE CODE_LEN BUFFER COUNT` makes `COUNT` calls of one case and prints their sum.
 //!
 //! To build it, write into an empty folder a Cargo.toml of
 //!
@@ -28,7 +28,8 @@
 //! serde_json = { version = "1", optional = true }
 //! ```
 //!
-//! with the folder of this repository in the place of `REPOSITORY`, and run `cargo build --release --features codecs`.
+//! with the folder of this repository in place of `REPOSITORY`, and run
+//! `cargo build --release --features codecs`.
 //! Without the feature the SCALE and JSON forms are left out.
 use multihash::{Error, Multihash};
 use std::cmp::Ordering;

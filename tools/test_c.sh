@@ -1,7 +1,7 @@
 #!/usr/bin/env bash
-# Checks the header for C, builds the static library, looks at what it exports and needs, and calls it from C and C++: plain,
-# on buffers between unreadable pages, under sanitizers and under valgrind, with all warnings as errors; runs the examples
-# and the tests of the bindings. The last line is 'N passed, M failed'.
+# Checks the header for C, builds the static library, looks at what it exports and needs, and calls it from C
+# and C++: plain, on buffers between unreadable pages, under sanitizers and under valgrind, with all warnings
+# as errors; runs the examples and the tests of the bindings. The last line is 'N passed, M failed'.
 #
 #   PROVED=FOLDER    a copy of the repository whose crates are proved: the library is built there, else here
 #   ALL=1            a part fails if its tool is not installed, else it is left out
@@ -34,7 +34,8 @@ builds_the_same() {
 # The archive exports what the header declares, no more and no less.
 exports_exactly() {
   python3 tools/check_header.py --exports > "$work/declared" && [ -s "$work/declared" ] || return 1
-  nm --defined-only --extern-only -f posix "$1" | awk '!/:$/ && NF { print $1 }' | sort | diff "$work/declared" - &&
+  nm --defined-only --extern-only -f posix "$1" | awk '!/:$/ && NF { print $1 }' | sort |
+    diff "$work/declared" - &&
     echo "exports the $(wc -l < "$work/declared") functions that the header declares"
 }
 
@@ -60,7 +61,8 @@ writes_nothing() {
 plant_archive() {
   printf '%s\n' '#include <stdlib.h>' 'static int calls;' 'void *multihash_more(void);' \
     'void *multihash_more(void) { calls++; return calls > 1 ? malloc(1) : 0; }' > "$work/more.c"
-  cp "$library" "$work/planted.a" && cc -c "$work/more.c" -o "$work/more.o" && ar r "$work/planted.a" "$work/more.o"
+  cp "$library" "$work/planted.a" && cc -c "$work/more.c" -o "$work/more.o" &&
+    ar r "$work/planted.a" "$work/more.o"
 }
 
 look_at_library() {
@@ -78,7 +80,7 @@ look_at_library() {
 
 # ---- the header
 
-# The header appends alone, also if it is included twice.
+# The header compiles without other includes, also if it is included twice.
 stands_alone() {
   printf '#include "multihash.h"\n#include "multihash.h"\nint main(void) { return 0; }\n' > "$work/alone.c"
   "$@" -I "$crate/include" -fsyntax-only "$work/alone.c"
@@ -98,13 +100,14 @@ test_targets() {
   has "the header for aarch64" aarch64-linux-gnu-gcc || return
   try "the header for aarch64" includes_header aarch64-linux-gnu-gcc
   for option in -mbig-endian -mabi=ilp32; do
-    try "the header for aarch64 with $option" rejects "is built for" includes_header aarch64-linux-gnu-gcc "$option"
+    try "the header for aarch64 with $option" rejects "is built for" includes_header aarch64-linux-gnu-gcc \
+      "$option"
   done
 }
 
 # ---- programs
 
-# The program `$1`, built from the test by the remaining words, passes; `$2` is a command that runs it, or empty.
+# The program `$1`, which the remaining words build, passes; `$2` is a command that runs it, or empty.
 build_and_run() {
   local to=$work/$1 under=$2
   shift 2
@@ -139,7 +142,8 @@ test_compilers() {
 
 # A processor without what x86-64-v2 adds.
 on_old_processor() {
-  build_and_run old "qemu-x86_64 -cpu qemu64,-pni,-ssse3,-sse4.1,-sse4.2,-popcnt,-cx16" cc "${c_flags[@]}" -O2 -static \
+  build_and_run old "qemu-x86_64 -cpu qemu64,-pni,-ssse3,-sse4.1,-sse4.2,-popcnt,-cx16" cc "${c_flags[@]}" \
+    -O2 -static \
     "$crate"/c_test/{test,decoding,encoding,verdicts,shared}.c "$library"
 }
 
@@ -157,7 +161,8 @@ example_in_page() {
 
 # The reader of a stream that is installed, over pipes that are cut at each byte.
 stream_example() {
-  cc "${c_flags[@]}" -I "$crate/include" -I packaging/examples "$crate/c_test/stream.c" "$library" -o "$work/stream" &&
+  cc "${c_flags[@]}" -I "$crate/include" -I packaging/examples "$crate/c_test/stream.c" "$library" \
+    -o "$work/stream" &&
     "$work/stream"
 }
 
@@ -169,11 +174,12 @@ python_binding() {
 
 # Runs a command of Cargo for the crate for Rust; what is set comes first.
 in_crate() {
-  env -C bindings/rust -u MULTIHASH_C_LIB_DIR MULTIHASH_VERDICTS="$list" RUSTFLAGS="-D warnings" RUSTDOCFLAGS="-D warnings" \
+  env -C bindings/rust -u MULTIHASH_C_LIB_DIR MULTIHASH_VERDICTS="$list" RUSTFLAGS="-D warnings" \
+    RUSTDOCFLAGS="-D warnings" \
     CARGO_TARGET_DIR="$work/target" "$@" --offline --locked
 }
 
-# The version of the crate is the header's, its tests pass with and without its features, and its pages have no warnings.
+# The crate has the header's version, its tests pass with and without features, its pages have no warnings.
 rust_binding() {
   local with
   with=MULTIHASH_C_LIB_DIR=$(dirname "$library")
@@ -188,7 +194,8 @@ rust_lints() {
 
 # Whether the crate is built with an archive of that version in that directory; why not is in a file.
 builds_with_version() {
-  printf 'unsigned multihash_version(void);\nunsigned multihash_version(void) { return %d; }\n' "$2" > "$work/version.c"
+  printf 'unsigned multihash_version(void);\nunsigned multihash_version(void) { return %d; }\n' \
+    "$2" > "$work/version.c"
   rm -f "$1/libmultihash_c.a"
   cc -c "$work/version.c" -o "$work/version.o" && ar rc "$1/libmultihash_c.a" "$work/version.o" &&
     in_crate MULTIHASH_C_LIB_DIR="$1" cargo build 2> "$work/build"
@@ -197,11 +204,13 @@ builds_with_version() {
 # The archive is found in a directory of any name, and rejected if its version does not fit.
 rust_build() {
   local directory=$work/$'a \xff directory' major=${version%%.*} number
-  mkdir -p "$directory" && cp "$library" "$directory" && in_crate MULTIHASH_C_LIB_DIR="$directory" cargo build &&
+  mkdir -p "$directory" && cp "$library" "$directory" &&
+    in_crate MULTIHASH_C_LIB_DIR="$directory" cargo build &&
     builds_with_version "$directory" $((major * 10000 + 9999)) || return 1
   for number in $((major * 10000 - 1)) $((major * 10000 + 10000)); do
     builds_with_version "$directory" "$number" && return 1
-    grep "is version $((number / 10000)).$((number / 100 % 100)).$((number % 100)), not $major" "$work/build" || return 1
+    grep "is version $((number / 10000)).$((number / 100 % 100)).$((number % 100)), not $major" \
+      "$work/build" || return 1
   done
 }
 

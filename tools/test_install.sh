@@ -1,9 +1,9 @@
 #!/usr/bin/env bash
-# Installs and packs the library for C, and tests what was installed: its files, programs built against it, its man pages,
-# the crate for Rust, the packages for Debian, and the library for aarch64 in an emulator.
+# Installs and packs the library for C, and tests what was installed: its files, programs built against it,
+# its man pages, the crate for Rust, the packages for Debian, and the library for aarch64 in an emulator.
 # The last line is 'N passed, M failed'.
 #
-#   PROVED=FOLDER    a copy of the repository whose crates are proved: the libraries are built there, else here
+#   PROVED=FOLDER    a copy of the repository whose crates are proved: libraries are built there, else here
 #   ALL=1            a part fails if its tool is not installed, else it is left out
 set -uo pipefail
 top=$(dirname "$(dirname "$(readlink -f "${BASH_SOURCE[0]}")")")
@@ -24,7 +24,7 @@ ulimit -c 0
 
 # ---- what is installed
 
-# The files of an installation, as paths from the prefix; further ones are the words following the libraries' folder.
+# The files of an installation, as paths from the prefix. Words after the libraries' folder are more files.
 files_in() {
   local libdir=$1 function
   shift
@@ -38,19 +38,21 @@ files_in() {
 # Every user can read each file, and run what is to be run.
 has_modes() {
   local wrong runs=(-name test.sh -o -name mh_show -o -type d)
-  wrong=$(find "$1" ! -type l \( \( \( "${runs[@]}" \) ! -perm 755 \) -o \( ! \( "${runs[@]}" \) ! -perm 644 \) \))
+  wrong=$(find "$1" ! -type l \
+    \( \( \( "${runs[@]}" \) ! -perm 755 \) -o \( ! \( "${runs[@]}" \) ! -perm 644 \) \))
   [ -z "$wrong" ] || { echo "wrong mode: $wrong"; return 1; }
 }
 
 # Each document is the one of the repository, and C.md speaks of nothing that is not installed.
 has_documents() {
   local document=$1/share/doc/multihash_c
-  cmp LICENSE "$document/copyright" && cmp packaging/CHANGES "$document/changelog" && cmp "$header" "$1/include/multihash.h" &&
+  cmp LICENSE "$document/copyright" && cmp packaging/CHANGES "$document/changelog" &&
+    cmp "$header" "$1/include/multihash.h" &&
     grep -q "^$version (" "$document/changelog" && [ -s "$document/C.md" ] || return 1
   ! grep -nE '(bindings|tools|crates|packaging)/|`rt' "$document/C.md"
 }
 
-# The shared library has its name, the header's functions with their versions, and relocations that are read-only at start.
+# The shared library has its name, the header's functions with their versions, and read-only relocations.
 has_shared_library() {
   local library=$1 name
   readelf -W -d "$library" > "$work/dynamic" && readelf -W -l "$library" > "$work/segments" || return 1
@@ -59,7 +61,8 @@ has_shared_library() {
   done
   grep -q GNU_RELRO "$work/segments" || { echo "no GNU_RELRO"; return 1; }
   python3 tools/check_header.py --exports | sed "s/\$/@@MULTIHASH_C_1.0/" > "$work/declared"
-  readelf -W --dyn-syms "$library" | awk '$7 ~ /^[0-9]+$/ && $4 != "SECTION" { print $8 }' | sort | diff "$work/declared" -
+  readelf -W --dyn-syms "$library" | awk '$7 ~ /^[0-9]+$/ && $4 != "SECTION" { print $8 }' | sort |
+    diff "$work/declared" -
 }
 
 # A prefix has what it should have, with that folder for libraries, and further files.
@@ -73,7 +76,7 @@ is_installed() {
     echo "$(wc -l < "$work/installed") files"
 }
 
-# The installation consumes an archive that it does not build, unless there is none.
+# Installs or packs with the archive of the first installation, so that it is not built again.
 install_built() {
   ARCHIVE=$prefix/lib/libmultihash_c.a tools/install_c.sh "$@"
 }
@@ -81,13 +84,15 @@ install_built() {
 # Two archives of the same bytes. The library is built anew for one of them.
 pack_twice() {
   tools/install_c.sh --dist "$work/one.tar.gz" && install_built --dist "$work/two.tar.gz" &&
-    cmp "$work/one.tar.gz" "$work/two.tar.gz" && mkdir "$work/un packed" && tar xf "$work/one.tar.gz" -C "$work/un packed"
+    cmp "$work/one.tar.gz" "$work/two.tar.gz" && mkdir "$work/un packed" &&
+    tar xf "$work/one.tar.gz" -C "$work/un packed"
 }
 
 # The example, built with what pkg-config prints for a prefix, by the remaining words.
 build_example() {
   local flags
-  flags=$(PKG_CONFIG_PATH=$prefix/lib/pkgconfig pkg-config --cflags --libs "multihash_c = $version") || return 1
+  flags=$(PKG_CONFIG_PATH=$prefix/lib/pkgconfig pkg-config --cflags --libs "multihash_c = $version") ||
+    return 1
   eval "flags=($flags)"
   "$@" "${warnings[@]}" packaging/examples/show.c "${flags[@]}" -o "$work/example" &&
     LD_LIBRARY_PATH=$prefix/lib "$work/example" | diff - "$expected"
@@ -107,7 +112,8 @@ installed_test_below() {
 
 # An installation whose header does not fit the library.
 plant_installed() {
-  cp -r "$unpacked" "$work/planted" && sed -i 's/MULTIHASH_NOT_MINIMAL = 3/MULTIHASH_NOT_MINIMAL = 9/' "$work/planted/include/multihash.h"
+  cp -r "$unpacked" "$work/planted" &&
+    sed -i 's/MULTIHASH_NOT_MINIMAL = 3/MULTIHASH_NOT_MINIMAL = 9/' "$work/planted/include/multihash.h"
 }
 
 install_elsewhere() {
@@ -127,7 +133,8 @@ test_installation() {
   try "packing twice, and unpacking" pack_twice
   try "what was unpacked" is_installed "$unpacked" lib
   try "installing no archive" rejects "no archive" installs_nothing
-  try "installing for another target" rejects "unknown target: x86" tools/install_c.sh --target x86 "$work/none"
+  try "installing for another target" rejects "unknown target: x86" tools/install_c.sh --target x86 \
+    "$work/none"
 }
 
 test_programs() {
@@ -144,7 +151,8 @@ test_programs() {
 
 # The header and library from C++.
 build_in_cpp() {
-  printf '#include "multihash.h"\nint main() { return multihash_version() != MULTIHASH_VERSION_NUMBER; }\n' > "$work/version.cc"
+  printf '%s\n' '#include "multihash.h"' \
+    'int main() { return multihash_version() != MULTIHASH_VERSION_NUMBER; }' > "$work/version.cc"
   c++ -std=c++17 -I "$prefix/include" "$work/version.cc" -L "$prefix/lib" -lmultihash_c -o "$work/version" &&
     LD_LIBRARY_PATH=$prefix/lib "$work/version"
 }
@@ -157,7 +165,7 @@ pages() {
   rejects "NAMES" mandoc -T lint -W style "$work/planted.1"
 }
 
-# The program beside the library: built with ALL=1, else another one appends in for it.
+# The program beside the library: built with ALL=1; otherwise `true` is installed in its place.
 with_program() {
   local given
   if [ "${ALL-}" = 1 ]; then given=; else given=$(type -P true); fi
@@ -181,7 +189,8 @@ rust_crate() {
   local set=(PKG_CONFIG_PATH="$prefix/lib/pkgconfig" LD_LIBRARY_PATH="$prefix/lib") next=$((major + 1))
   in_crate "${set[@]}" cargo test || return 1
   sed "s/^Version: .*/Version: $next.0.0/" "$prefix/lib/pkgconfig/multihash_c.pc" > "$work/multihash_c.pc"
-  ! in_crate PKG_CONFIG_PATH="$work" cargo build 2> "$work/build" && grep -F "multihash_c < $next" "$work/build"
+  ! in_crate PKG_CONFIG_PATH="$work" cargo build 2> "$work/build" &&
+    grep -F "multihash_c < $next" "$work/build"
 }
 
 # ---- packages for Debian
@@ -203,7 +212,8 @@ try_packages() (
   export PKG_CONFIG_SYSROOT_DIR=$root PKG_CONFIG_LIBDIR=$library/pkgconfig
   flags=$(pkg-config --cflags --libs multihash_c) && eval "flags=($flags)" &&
     "$1" packaging/examples/show.c "${flags[@]}" -L"$library" -o "$work/packaged" && shift &&
-    "$@" "$work/packaged" > "$work/shown" && diff "$work/shown" "$expected" && man -M "$root/usr/share/man" -w 3 multihash_encode
+    "$@" "$work/packaged" > "$work/shown" && diff "$work/shown" "$expected" &&
+    man -M "$root/usr/share/man" -w 3 multihash_encode
 )
 
 test_packages() {
@@ -219,13 +229,15 @@ test_packages() {
 on_aarch64() {
   local lib=$work/aarch64/multihash_c-$version/lib
   # shellcheck disable=SC2086
-  aarch64-linux-gnu-gcc "${warnings[@]}" -O2 "$1" "${tests[@]}" -I "$lib/../include" -L "$lib" -lmultihash_c -o "$work/arm" &&
+  aarch64-linux-gnu-gcc "${warnings[@]}" -O2 "$1" "${tests[@]}" -I "$lib/../include" -L "$lib" -lmultihash_c \
+    -o "$work/arm" &&
     $emulator -E LD_LIBRARY_PATH="$lib" "$work/arm" "$list"
 }
 
 fenced_on_aarch64() {
   local lib=$work/aarch64/multihash_c-$version/lib
-  aarch64-linux-gnu-gcc "${warnings[@]}" -O2 -static crates/multihash_c/c_test/fenced.c -I "$lib/../include" -L "$lib" \
+  aarch64-linux-gnu-gcc "${warnings[@]}" -O2 -static crates/multihash_c/c_test/fenced.c -I "$lib/../include" \
+    -L "$lib" \
     -lmultihash_c -o "$work/arm" && qemu-aarch64 "$work/arm" 2> "$work/signals"
 }
 
@@ -239,7 +251,8 @@ test_aarch64() {
   has aarch64 aarch64-linux-gnu-gcc qemu-aarch64 || return
   try "aarch64: packing and unpacking" unpack_aarch64
   try "aarch64: what was unpacked" is_installed "$root" lib
-  try "aarch64: the installed test" env CC=aarch64-linux-gnu-gcc RUN="$emulator" "$root/share/doc/multihash_c/examples/test.sh" "$root"
+  try "aarch64: the installed test" env CC=aarch64-linux-gnu-gcc RUN="$emulator" \
+    "$root/share/doc/multihash_c/examples/test.sh" "$root"
   try "aarch64: static" on_aarch64 -static
   try "aarch64: shared" on_aarch64 -O2
   try "aarch64: fenced buffers" fenced_on_aarch64

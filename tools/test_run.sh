@@ -1,6 +1,6 @@
 #!/usr/bin/env bash
-# Tests .ci/run over stubs: in a copy 'rt' and each part are scripts of one line; and that tools/check lists each part.
-# The last line is 'N passed, M failed'.
+# Tests .ci/run over stubs: in a copy 'rt' and each part are scripts of one line. Tests also that tools/check
+# lists each part. The last line is 'N passed, M failed'.
 set -u
 cd "$(dirname "$0")/.." || exit 2
 top=$PWD
@@ -18,20 +18,24 @@ stub() {
 
 # Makes a copy in the current folder in which each part is sound. What comes after rt fails before it ended.
 lay_out() {
-  mkdir -p .ci bin tools/folder crates/multihash/out crates/multihash_c crates/mh_show && cp "$top/.ci/run" .ci/ && touch HANDLES
+  mkdir -p .ci bin tools/folder crates/multihash/out crates/multihash_c crates/mh_show &&
+    cp "$top/.ci/run" .ci/ && touch HANDLES
   printf '%s\n' "multihash: itoa" "multihash_c staticlib: multihash" "uses: multihash" > crates.txt
   for part in $parts; do stub "tools/$part" "$sound"; done
   stub bin/rt '[ "$*" = ci ] && sleep 0.3 && touch rt_ended && echo "2 passed, 0 failed"'
-  for part in refuse_memory.sh refused_runs.sh; do stub "tools/$part" "[ \"\$BUILT\" = 'rt ci' ] && $after_rt"; done
+  for part in refuse_memory.sh refused_runs.sh; do
+    stub "tools/$part" "[ \"\$BUILT\" = 'rt ci' ] && $after_rt"
+  done
   stub tools/speed "[ \"\$BUILT \$*\" = 'rt ci --sample 10' ] && $after_rt"
   stub tools/mutants.py "[ \"\${ALL-none} \$*\" = \"none --jobs \$(((\$(nproc) + 1) / 2))\" ] && $sound"
   for part in test_c.sh test_install.sh; do
-    stub "tools/$part" "mkdir \$PROVED/runs_once && grep -c . \$PROVED/crates.txt | grep -qx 2 && [ -d \$PROVED/crates/multihash_c ] &&
+    stub "tools/$part" \
+      "mkdir \$PROVED/runs_once && grep -c . \$PROVED/crates.txt | grep -qx 2 && [ -d \$PROVED/crates/multihash_c ] &&
       ! [ -d \$PROVED/crates/multihash/out ] && $sound"
   done
 }
 
-# Runs a copy with options after a change by a command: it has to end with that status, and to print a line of that form.
+# Runs a copy with options, after a command changed it. It has to end with that status, and print such a line.
 run_case() {
   local name=$1 status=$2 line=$3 options=$4 change=$5 at=$work/$1 found
   mkdir "$at" && cd "$at" && lay_out && eval "$change"
@@ -56,10 +60,13 @@ count=$(wc -w <<< "rt $parts")
 green="$count passed, 0 failed"
 red="$((count - 1)) passed, 1 failed"
 try sound 0 "$green" "" true
-try left_out 0 "left out: types: tsc is not installed" "" "stub tools/mutants.py 'echo left out: types: tsc is not installed; $sound'"
-try progress 0 "   rt: half" "" "sed -i 's/-ge 60/-ge 0/' .ci/run; stub bin/rt 'echo half; until grep rt:.half said; do sleep 0.1; done; touch rt_ended; $sound'"
+try left_out 0 "left out: types: tsc is not installed" "" \
+  "stub tools/mutants.py 'echo left out: types: tsc is not installed; $sound'"
+try progress 0 "   rt: half" "" \
+  "sed -i 's/-ge 60/-ge 0/' .ci/run; stub bin/rt 'echo half; until grep rt:.half said; do sleep 0.1; done; touch rt_ended; $sound'"
 try all 0 "$green" --all "stub tools/mutants.py '[ \"\$ALL \$*\" = \"1 --all\" ] && $sound'"
-try since 0 "$green" "--since HEAD~1" "stub tools/mutants.py '[ \"\${ALL-0} \$*\" = \"0 --jobs \$(((\$(nproc) + 1) / 2)) --since HEAD~1\" ] && $sound'"
+try since 0 "$green" "--since HEAD~1" \
+  "stub tools/mutants.py '[ \"\${ALL-0} \$*\" = \"0 --jobs \$(((\$(nproc) + 1) / 2)) --since HEAD~1\" ] && $sound'"
 try another_option 2 ".*--all .*" --al true
 try not_run 1 "public_names.py +FAILED .*" "" "sed -i 's/ public_names.py / /' .ci/run"
 try one_more 1 "$count passed, 1 failed" "" "stub tools/more.sh '$sound'"
@@ -75,7 +82,8 @@ try missing 1 "$red" "" "rm tools/mutants.py"
 for part in $parts; do
   try "emptied_$part" 1 "$part +FAILED .*" "" ": > tools/$part"
   started=$((started + 1)) && mkdir "$work/listed_$part"
-  grep -q " tools/$part " tools/check && echo passed > "$work/listed_$part/result" || echo "failed: tools/check does not list $part"
+  grep -q " tools/$part " tools/check && echo passed > "$work/listed_$part/result" ||
+    echo "failed: tools/check does not list $part"
 done
 wait
 passed=$(cat "$work"/*/result | wc -l)
