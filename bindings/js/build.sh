@@ -22,8 +22,10 @@ build_wasm() {
   local kit
   kit=$(dirname "$(dirname "$(readlink -f "$(command -v rt)")")")
   if [ -f "$archive" ]; then mv "$archive" "$work/kept.a"; fi
-  (cd "$crate" && rt lib --target=wasm64-unknown-unknown --jobs 1) > "$work/log" 2>&1 || { cat "$work/log"; return 1; }
-  "$kit/bin/rattle-link" --target wasm64-unknown-unknown --toolchain "$kit/toolchain" -o "$1" "$archive" > "$work/log" 2>&1 ||
+  (cd "$crate" && rt lib --target=wasm64-unknown-unknown --jobs 1) > "$work/log" 2>&1 ||
+    { cat "$work/log"; return 1; }
+  "$kit/bin/rattle-link" --target wasm64-unknown-unknown --toolchain "$kit/toolchain" \
+    -o "$1" "$archive" > "$work/log" 2>&1 ||
     { cat "$work/log"; return 1; }
 }
 
@@ -34,14 +36,16 @@ build_bytes() {
 # The page with the code of core.js on one line, without its comments, over the module's bytes.
 build_page() {
   {
-    sed -e '/^ *\/\*\*.*\*\/$/d' -e 's/\(^\| \+\)\/\/ .*$//' -e 's/^export //' -e 's/^ *//' "$here/core.js" | tr '\n' ' '
+    sed -e '/^ *\/\*\*.*\*\/$/d' -e 's/\(^\| \+\)\/\/ .*$//' -e 's/^export //' -e 's/^ *//' "$here/core.js" |
+      tr '\n' ' '
     printf "connect(Uint8Array.from(atob('%s'), (letter) => letter.charCodeAt(0)));\n" "$(base64 -w 0 "$1")"
   } > "$work/module.js"
   sed -e "/^MODULE$/{r $work/module.js" -e 'd}' "$here/demo/page.html"
 }
 
 build_into() {
-  build_wasm "$1/multihash.wasm" && build_bytes "$1/multihash.wasm" > "$1/bytes.js" && build_page "$1/multihash.wasm" > "$1/demo.html"
+  build_wasm "$1/multihash.wasm" && build_bytes "$1/multihash.wasm" > "$1/bytes.js" &&
+    build_page "$1/multihash.wasm" > "$1/demo.html"
 }
 
 case ${1-} in

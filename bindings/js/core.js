@@ -1,5 +1,5 @@
-// Multihashes over the proved library, compiled to WebAssembly. A program imports index.js or inline.js, which connect the
-// functions here to an instance of the module.
+// Multihashes over the proved library, compiled to WebAssembly. A program imports index.js or inline.js,
+// which connect the functions here to an instance of the module.
 
 /** The most bytes of a digest. */
 export const DIGEST_MAX = 255;
@@ -15,15 +15,15 @@ const STATUSES = ['ok', 'insufficient', 'overflow', 'not_minimal', 'invalid_size
 // The longest prefix of an input that a result depends on, except for the number of trailing bytes.
 const PREFIX_MAX = HEAD_MAX + DIGEST_MAX;
 
-// Numbers as BigInts, which lengths, most codes and addresses are passed as: making them anew takes longer than a call.
+// Numbers as BigInts, as lengths, most codes and addresses are passed: to make one is slower than a call.
 const NUMBERS = Array.from({ length: PREFIX_MAX + 1 }, (_, number) => BigInt(number));
 
-// The module's functions; its memory as bytes and as words, which stay valid since no function grows it; and, in the memory
-// after what the module uses, the places of a result, two inputs and an output.
+// The module's functions; its memory as bytes and as words, which stay valid since no function grows it; and,
+// in the memory after what the module uses, the addresses of a result, two inputs and an output.
 let library, memory, words, result, first, second, output;
 let resultAt, firstAt, secondAt, outputAt;
 
-// Views of the memory by place and length: to make one takes as long as to copy from it.
+// Views of the memory by address and length: to make one is as slow as to copy from it.
 const views = [];
 
 // The library's text of each status.
@@ -32,7 +32,7 @@ let texts;
 /** The version of the library, as `"1.0.0"`. */
 export let version;
 
-/** Connects the functions to the module's bytes, once. Throws if the engine has no WebAssembly with 64-bit memory. */
+/** Connects the functions to the module's bytes, once. Throws if the engine has no 64-bit memory. */
 export function connect(bytes) {
   const probe = Uint8Array.of(0, 97, 115, 109, 1, 0, 0, 0, 5, 3, 1, 4, 1);
   if (typeof WebAssembly !== 'object' || !WebAssembly.validate(probe)) {
@@ -107,7 +107,7 @@ function wide(offset) {
   return high < 0x200000 ? high * 0x100000000 + low : (BigInt(high) << 32n) | BigInt(low);
 }
 
-/** A length or a place in the result. */
+/** A length or an offset in the result. */
 function narrow(offset) {
   return words[(result + offset) >> 2];
 }
@@ -118,7 +118,7 @@ function copied(at, length) {
   return new Uint8Array((row[length] ??= memory.subarray(at, at + length)));
 }
 
-/** Why a call failed. `cause` has the same fields, and `structuredClone` keeps it: see `MultihashError.from`. */
+/** Why a call failed. `structuredClone` keeps `cause`, which has the same fields: see `from`. */
 export class MultihashError extends Error {
   constructor(status, { size, code, taken } = {}) {
     const number = STATUSES.indexOf(status);
@@ -128,7 +128,7 @@ export class MultihashError extends Error {
     Object.assign(this, { status, size, code, taken });
   }
 
-  /** The error of which the value is a clone, the value itself if it is an error of this class, else undefined. */
+  /** The error that the value is a clone of, the value itself if it is of this class, or else undefined. */
   static from(value) {
     if (value instanceof MultihashError) return value;
     const cause = value?.cause;
@@ -208,7 +208,7 @@ function ofLong(length) {
   return new MultihashError('invalid_size', { size: length - narrow(40), taken: length });
 }
 
-/** Decodes the multihash whose encoding is a prefix of the bytes, and whose digest has at most `limit` bytes. */
+/** Decodes the multihash whose encoding is a prefix of the bytes, with a digest of at most `limit` bytes. */
 export function read(bytes, limit = DIGEST_MAX) {
   const most = bits64(limit, 'a limit');
   const length = put(bytes, first);

@@ -10,8 +10,8 @@ export const SCALE_LENGTH_MAX: 264;
 export const version: string;
 
 /**
- * A whole number of 64 bits. What is returned is a `number` up to `Number.MAX_SAFE_INTEGER`, else a `bigint`. What is passed
- * may be a `bigint` of any size in range, or a safe integer.
+ * A whole number of 64 bits. A result is a `number` up to `Number.MAX_SAFE_INTEGER`, else a `bigint`. An
+ * argument may be a `bigint` of any size in range, or a safe integer.
  */
 export type Wide = number | bigint;
 
@@ -31,11 +31,11 @@ export interface Details {
   readonly size?: Wide;
   /** At `invalid_code`: the code that is rejected. */
   readonly code?: Wide;
-  /** Of a decoding: how many bytes were consumed. */
+  /** Of a decoding: the number of bytes consumed. */
   readonly taken?: number;
 }
 
-/** The error of each function. A call with an argument of a wrong type throws a `TypeError`, of a wrong range a `RangeError`. */
+/** The error of each function. A wrong argument is a `TypeError`, or a `RangeError` if it is out of range. */
 export class MultihashError extends Error implements Details {
   constructor(status: Status, details?: Details);
   readonly status: Status;
@@ -66,7 +66,7 @@ export class Multihash {
   equals(other: unknown): boolean;
 }
 
-/** A decoding of a prefix, and how many bytes it has. */
+/** A decoding of a prefix, and the prefix's length. */
 export interface Read {
   readonly multihash: Multihash;
   readonly taken: number;
@@ -77,13 +77,13 @@ export interface Head {
   readonly code: Wide;
   /** Below 2^63, also above 255. */
   readonly digestLength: Wide;
-  /** How many bytes both varints have. */
+  /** The length of both varints. */
   readonly taken: number;
 }
 
 /** Decodes the multihash whose encoding is the whole of the bytes. */
 export function decode(bytes: Uint8Array): Multihash;
-/** Decodes the multihash whose encoding is a prefix of the bytes, and whose digest has at most `limit` bytes, by default 255. */
+/** Decodes the multihash whose encoding is a prefix of the bytes. Its digest has at most `limit` bytes. */
 export function read(bytes: Uint8Array, limit?: Wide): Read;
 /** Decodes the two varints before a digest. */
 export function head(bytes: Uint8Array): Head;
@@ -100,7 +100,7 @@ export function scaleEncode(code: Wide, digest: Uint8Array): Uint8Array;
 
 /** Reads concatenated encodings from a `ReadableStream` or an async iterable. */
 export class MultihashReader implements AsyncIterable<Multihash> {
-  /** `limit`: the most bytes of a digest. `rest`: bytes that precede those of the source, as another reader left them. */
+  /** `limit`: the most bytes of a digest. `rest`: bytes before the source's, left by another reader. */
   constructor(source: ReadableStream<Uint8Array> | AsyncIterable<Uint8Array>, options?: { limit?: Wide; rest?: Uint8Array });
   /** A copy of the bytes that were received and belong to no multihash that was returned. */
   readonly rest: Uint8Array;

@@ -1,4 +1,4 @@
-// The functions of core.js over the module's bytes in bytes.js, for bundlers: nothing is requested or awaited.
+// The functions of core.js over the module's bytes in bytes.js, for bundlers: nothing is fetched or awaited.
 import bytes from './bytes.js';
 import { connect } from './core.js';
 

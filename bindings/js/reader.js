@@ -21,7 +21,7 @@ export class MultihashReader {
     return this.#rest.slice();
   }
 
-  /** Returns the next multihash, or null where the source ends after the last one. Calls that overlap run in turn. */
+  /** Returns the next multihash, or null after the last one. Calls that overlap run one after the other. */
   read() {
     const next = this.#last.then(() => this.#next());
     this.#last = next.catch(() => {});
@@ -54,7 +54,7 @@ export class MultihashReader {
   }
 }
 
-/** A copy of the bytes of both. Throws a TypeError where the second is no Uint8Array, or is shared or detached. */
+/** A copy of both. Throws a TypeError if the second is no Uint8Array, or its buffer is shared or detached. */
 function joined(left, right) {
   const both = new Uint8Array(left.length + checkedLength(right));
   both.set(left);

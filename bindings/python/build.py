@@ -4,8 +4,8 @@
     build.py OUT LIBRARY...
 
 OUT      the folder for the results
-LIBRARY  libmultihash_c.a or a shared library, for x86-64 or aarch64. An archive is linked by CC, which is cc where it is not
-         set: aarch64-linux-gnu-gcc for an archive for aarch64 on another machine.
+LIBRARY  libmultihash_c.a or a shared library, for x86-64 or aarch64. An archive is linked by CC; the default
+         is cc, or aarch64-linux-gnu-gcc for an archive for aarch64 on another machine.
 """
 import base64
 import hashlib
@@ -34,7 +34,8 @@ def sdist(out: Path, work: Path) -> Path:
     shutil.copytree(HERE, stage, ignore=shutil.ignore_patterns("__pycache__", "*.egg-info", "*.so", "build", "dist"))
     shutil.copy(HERE.parent.parent / "LICENSE", stage)
     code = "import sys; from setuptools import build_meta; print(build_meta.build_sdist(sys.argv[1]))"
-    built = subprocess.run([sys.executable, "-c", code, str(out)], cwd=stage, check=True, stdout=subprocess.PIPE, text=True)
+    built = subprocess.run([sys.executable, "-c", code, str(out)], cwd=stage, check=True,
+        stdout=subprocess.PIPE, text=True)
     return out / built.stdout.split()[-1]
 
 
@@ -42,7 +43,8 @@ def shared(library: Path, work: Path) -> bytes:
     """The shared library, which is linked where an archive is given."""
     if library.suffix == ".a":
         to = work / "libmultihash_c.so"
-        flags = ["-shared", "-Wl,-z,defs", "-Wl,-z,relro", "-Wl,-z,now", "-Wl,--build-id=none", "-Wl,-soname,libmultihash_c.so.1"]
+        flags = ["-shared", "-Wl,-z,defs", "-Wl,-z,relro", "-Wl,-z,now", "-Wl,--build-id=none",
+            "-Wl,-soname,libmultihash_c.so.1"]
         whole = ["-Wl,--whole-archive", str(library), "-Wl,--no-whole-archive"]
         subprocess.run([*os.environ.get("CC", "cc").split(), *flags, *whole, "-o", str(to)], check=True)
         library = to
@@ -50,7 +52,7 @@ def shared(library: Path, work: Path) -> bytes:
 
 
 def platform(library: bytes) -> str:
-    """The tag of the platforms that a shared library runs on, by its ELF header and the versions of glibc that it names."""
+    """The platform tag of a shared library, by its ELF header and the versions of glibc that it names."""
     machine = MACHINES.get(struct.unpack_from("<H", library, 18)[0]) if library[:6] == b"\x7fELF\x02\x01" else None
     if machine is None:
         raise SystemExit("build.py: no 64-bit ELF library for %s" % " or ".join(MACHINES.values()))
@@ -83,7 +85,8 @@ def wheel(source: Path, library: bytes, out: Path) -> Path:
     name, files = contents(source)
     tags = ["py3-none-" + tag for tag in platform(library).split(".")]
     files[PACKAGE + "/libmultihash_c.so"] = library
-    lines = ["Wheel-Version: 1.0", "Generator: build.py", "Root-Is-Purelib: false", *("Tag: " + tag for tag in tags)]
+    lines = ["Wheel-Version: 1.0", "Generator: build.py", "Root-Is-Purelib: false",
+        *("Tag: " + tag for tag in tags)]
     files[name + ".dist-info/WHEEL"] = ("\n".join(lines) + "\n").encode()
     record = name + ".dist-info/RECORD"
     rows = []

@@ -1,5 +1,5 @@
-//! Finds the C library, and checks its version: `libmultihash_c.a` in the directory `MULTIHASH_C_LIB_DIR`, linked
-//! statically, else what pkg-config finds.
+//! Finds the C library, and checks its version: `libmultihash_c.a` in the directory `MULTIHASH_C_LIB_DIR`,
+//! linked statically, else what pkg-config finds.
 use std::env;
 use std::ffi::OsString;
 use std::fs;
@@ -25,8 +25,8 @@ fn main() {
     }
 }
 
-/// Links the archive through a symbolic link in `OUT_DIR`: Cargo ignores a line with a path that is not UTF-8, and the
-/// directory may have any name.
+/// Links the archive through a symbolic link in `OUT_DIR`: Cargo ignores a line with a path that is not
+/// UTF-8, and the directory may have any name.
 fn link_archive(directory: &Path) {
     let archive = directory.join(ARCHIVE);
     assert!(archive.is_absolute(), "MULTIHASH_C_LIB_DIR is not an absolute path: {}", directory.display());

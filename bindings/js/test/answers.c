@@ -1,6 +1,6 @@
-/* What the library returns for each input of standard input, two bytes of its length and its bytes: a line of the results of
- * decoding, reading with a limit, the head, the SCALE form, encoding its first eight bytes as a code and the others as a
- * digest, and comparing with the input before it, by the same code and digest. */
+/* What the library returns for each input of standard input, two bytes of its length and its bytes: a line of
+ * the results of decoding, reading with a limit, the head, the SCALE form, encoding its first eight bytes as
+ * a code and the others as a digest, and comparing with the input before it, by the same code and digest. */
 #include "multihash.h"
 
 #include <inttypes.h>

@@ -13,7 +13,7 @@ const result = (module, call) => {
   }
 };
 
-/** A result as the vectors write it, and how many bytes were consumed. */
+/** A result as the vectors write it, and the number of bytes consumed. */
 function written(module, call) {
   const { error, multihash, taken } = result(module, call);
   if (error) return [[error.status, error.size ?? error.code ?? []].flat().join(' '), error.isIncomplete ? '-' : String(error.taken)];

@@ -1,5 +1,6 @@
 // Opens a page in headless Chromium, with what it needs from folders served on a port of this machine.
-//   node browser.js report PATH FOLDER..   prints the text that the page sends to /report; status 0 if its last line has ' 0 wrong'
+//   node browser.js report PATH FOLDER..   prints the text that the page sends to /report; status 0 if its
+//                                          last line has ' 0 wrong'
 //   node browser.js dump PATH FOLDER..     prints the page's document
 import { spawn } from 'node:child_process';
 import { mkdtempSync, readFileSync, rmSync } from 'node:fs';
@@ -39,7 +40,7 @@ async function serve(request, response) {
   response.end(body);
 }
 
-// Ends Chromium with its process group, since it starts processes of its own.
+// Ends Chromium with its process group, since it starts other processes.
 function stop() {
   if (chromium.exitCode === null) process.kill(-chromium.pid, 'SIGKILL');
 }

@@ -1,4 +1,4 @@
-// Draws inputs from those of the test vectors by a fixed seed, and writes each as two bytes of its length and its bytes.
+// Draws inputs from those of the test vectors by a fixed seed, and writes each after two bytes of its length.
 //   node mutate.js VERDICTS COUNT > INPUTS
 import { readFileSync, writeFileSync } from 'node:fs';
 

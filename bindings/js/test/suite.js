@@ -1,5 +1,5 @@
-// All tests, in Node.js and in a page: `data` has the texts of the vectors, of the C library's answers and of the header, and the
-// inputs of those answers.
+// All tests, in Node.js and in a page: `data` has the texts of the vectors, of the C library's results and of
+// the header, and the inputs of those results.
 import { mutated, vectors } from './answers.js';
 import { hostile } from './arguments.js';
 import { tally } from './check.js';

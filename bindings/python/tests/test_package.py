@@ -1,4 +1,4 @@
-"""Hostile arguments, errors across processes, order, costs, the choice of the library, and the examples of README.md."""
+"""Wrong arguments, errors across processes, order, costs, the choice of the library, README.md's examples."""
 import array
 import copy
 import ctypes
@@ -56,14 +56,17 @@ class Arguments(unittest.TestCase):
         data = b"\x01\x03abc"
         spread = memoryview(bytes(byte for pair in zip(data, data) for byte in pair))[::2]
         matrix = memoryview(bytes(400)).cast("B", [20, 20])
-        for buffer in (bytearray(data), memoryview(data), spread, array.array("B", data), (ctypes.c_ubyte * 5)(*data)):
+        for buffer in (bytearray(data), memoryview(data), spread, array.array("B", data),
+                (ctypes.c_ubyte * 5)(*data)):
             self.assertEqual(vm.decode(buffer), Multihash(1, b"abc"))
             self.assertEqual(Multihash(2, buffer).digest, data)
         self.assertEqual(vm.decode(array.array("H", [0x0201, 0x4241])).digest, b"AB")
         self.assertEqual(self.error_of(vm.decode, matrix)[:2], (Status.INVALID_SIZE, 398))
-        self.assertEqual(self.error_of(vm.decode, array.array("Q", bytes(800)))[:2], (Status.INVALID_SIZE, 798))
+        self.assertEqual(self.error_of(vm.decode, array.array("Q", bytes(800)))[:2],
+            (Status.INVALID_SIZE, 798))
         self.assertEqual(self.error_of(vm.decode, (ctypes.c_ubyte * 999)())[:2], (Status.INVALID_SIZE, 997))
-        self.assertEqual([vm.encode(0, empty) for empty in (b"", bytearray(), array.array("I"))], [b"\0\0"] * 3)
+        self.assertEqual([vm.encode(0, empty) for empty in (b"", bytearray(), array.array("I"))],
+            [b"\0\0"] * 3)
         for call in (vm.decode, vm.read, vm.head):
             self.assertEqual(self.error_of(call, memoryview(b""))[0], Status.INSUFFICIENT)
 
@@ -89,21 +92,24 @@ class Arguments(unittest.TestCase):
 
     def test_limits(self):
         data = b"\x01\x03abc"
-        for call in (lambda limit: vm.read(data, limit)[0], lambda limit: vm.read_from(io.BytesIO(data), limit)):
+        for call in (lambda limit: vm.read(data, limit)[0],
+                lambda limit: vm.read_from(io.BytesIO(data), limit)):
             for limit in (3, 255, 1 << 64, 1 << 700):
                 self.assertEqual(call(limit).digest, b"abc")
             self.assertEqual(self.error_of(call, 2)[:2], (Status.INVALID_SIZE, 3))
             self.assertRaisesRegex(ValueError, "not negative", call, -1)
             self.assertRaises(TypeError, call, 3.0)
         self.assertRaises(ValueError, vm.read_from, io.BytesIO(), -1)
-        self.assertEqual(self.error_of(vm.read, b"\x01\x80\x02" + bytes(256), 1 << 64)[:2], (Status.INVALID_SIZE, 256))
+        self.assertEqual(self.error_of(vm.read, b"\x01\x80\x02" + bytes(256), 1 << 64)[:2],
+            (Status.INVALID_SIZE, 256))
 
     def test_texts(self):
         texts = {b"\x80": "not enough input bytes", b"\xff" * 9: "input bytes exceed maximum"}
         texts.update({b"\x80\x00": "encoding is not minimal", b"\x01\x02\x00": "failed to fill whole buffer"})
         for data, text in texts.items():
             self.assertEqual(self.error_of(vm.decode, data)[1:], (0, 0, text))
-        for data, incomplete in ((b"\x12", True), (b"\x12\x02\x00", True), (b"\x80\x00", False), (b"\0\0\0", False)):
+        for data, incomplete in ((b"\x12", True), (b"\x12\x02\x00", True), (b"\x80\x00", False),
+                (b"\0\0\0", False)):
             with self.assertRaises(MultihashError) as raised:
                 vm.decode(data)
             self.assertIs(raised.exception.is_incomplete, incomplete)
@@ -126,7 +132,8 @@ class Arguments(unittest.TestCase):
 
 class Values(unittest.TestCase):
     def test_order(self):
-        pairs = [(0, b"zz"), (1, b"b"), (1, b"ab"), (1, b"bb"), (2, b""), (2, b"b"), (2, bytes(255)), ((1 << 63) - 1, b"")]
+        pairs = [(0, b"zz"), (1, b"b"), (1, b"ab"), (1, b"bb"), (2, b""), (2, b"b"), (2, bytes(255)),
+            ((1 << 63) - 1, b"")]
         ordered = [Multihash(*pair) for pair in pairs]
         for i, left in enumerate(ordered):
             for k, right in enumerate(map(copy.deepcopy, ordered)):
@@ -172,7 +179,7 @@ class Values(unittest.TestCase):
 
 class Costs(unittest.TestCase):
     def test_no_long_copies(self):
-        """A sparse file of 8 GiB, with memory for 1 GiB: no call copies it, and lengths keep all their bits."""
+        """A sparse file of 8 GiB, memory for 1 GiB: no call copies it, and lengths keep all their bits."""
         length, before = 1 << 33, resource.getrlimit(resource.RLIMIT_DATA)
         self.addCleanup(resource.setrlimit, resource.RLIMIT_DATA, before)
         with tempfile.TemporaryFile() as file:
@@ -185,7 +192,8 @@ class Costs(unittest.TestCase):
                 for call, size in ((vm.decode, length - 2), *((call, length) for call in BYTES_CALLS[4:])):
                     with self.assertRaises(MultihashError) as raised:
                         call(data)
-                    self.assertEqual((raised.exception.status, raised.exception.size), (Status.INVALID_SIZE, size))
+                    self.assertEqual((raised.exception.status, raised.exception.size),
+                        (Status.INVALID_SIZE, size))
 
 
 class Library(unittest.TestCase):
@@ -193,11 +201,13 @@ class Library(unittest.TestCase):
         """What an import prints where MULTIHASH_C_LIBRARY is that."""
         environment = {**os.environ, "MULTIHASH_C_LIBRARY": str(library)}
         command = [sys.executable, "-c", "import verified_multihash as vm; print(vm.decode(b'\\0\\0').code)"]
-        ran = subprocess.run(command, env=environment, capture_output=True, text=True, timeout=60, check=False)
+        ran = subprocess.run(command, env=environment, capture_output=True, text=True, timeout=60,
+            check=False)
         return ran.stdout + ran.stderr
 
     def test_versions(self):
-        texts = {9999: "has version 0.99.99", 20000: "has version 2.0.0", 10000: "no libmultihash_c: .*multihash_from_bytes"}
+        texts = {9999: "has version 0.99.99", 20000: "has version 2.0.0",
+            10000: "no libmultihash_c: .*multihash_from_bytes"}
         with tempfile.TemporaryDirectory() as folder:
             for version, text in texts.items():
                 source, library = Path(folder, "v.c"), Path(folder, "%d.so" % version)
@@ -205,7 +215,8 @@ class Library(unittest.TestCase):
                 subprocess.run(["cc", "-shared", "-fPIC", str(source), "-o", str(library)], check=True)
                 self.assertRegex(self.imported(library), "(?s)ImportError: .*" + text)
             source.write_text("no library")
-            self.assertRegex(self.imported(source), "ImportError: verified_multihash needs the C library libmultihash_c")
+            self.assertRegex(self.imported(source),
+                "ImportError: verified_multihash needs the C library libmultihash_c")
             self.assertRegex(self.imported(Path(folder, "none.so")), "ImportError: .*MULTIHASH_C_LIBRARY")
 
     def test_names(self):
@@ -215,7 +226,8 @@ class Library(unittest.TestCase):
 
 class Readme(unittest.TestCase):
     def test_examples(self):
-        text = "\n".join("" if line.startswith("```") else line for line in README.read_text("utf-8").splitlines())
+        text = "\n".join("" if line.startswith("```") else line
+            for line in README.read_text("utf-8").splitlines())
         test = doctest.DocTestParser().get_doctest(text, {}, "README.md", str(README), 0)
         self.assertGreaterEqual(len(test.examples), 30)
         self.assertEqual(doctest.DocTestRunner().run(test).failed, 0)

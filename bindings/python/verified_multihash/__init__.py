@@ -1,7 +1,7 @@
 """Multihashes by a verified C library: decoding, encoding and order.
 
-Where bytes are wanted, any object of the buffer protocol will do; numbers, strings and lists are a TypeError. Input that
-is no multihash, and a code or a digest that no multihash has, is a MultihashError, which is a ValueError.
+Where bytes are wanted, any object of the buffer protocol will do; numbers, strings and lists are a TypeError.
+Input that is no multihash, and a code or a digest that no multihash has, is a MultihashError (a ValueError).
 """
 from __future__ import annotations
 
@@ -19,8 +19,10 @@ else:
     Buffer = Union[bytes, bytearray, memoryview]
 
 __all__ = [
-    "DIGEST_MAX", "HEAD_MAX", "LENGTH_MAX", "SCALE_LENGTH_MAX", "Head", "Multihash", "MultihashError", "Status",
-    "__version__", "compare", "decode", "encode", "encoded_len", "head", "read", "read_from", "scale_decode", "scale_encode",
+    "DIGEST_MAX", "HEAD_MAX", "LENGTH_MAX", "SCALE_LENGTH_MAX", "Head", "Multihash", "MultihashError",
+    "Status",
+    "__version__", "compare", "decode", "encode", "encoded_len", "head", "read", "read_from", "scale_decode",
+    "scale_encode",
 ]  # fmt: skip
 
 _CODE_END = 1 << 63
@@ -31,8 +33,8 @@ _Out = ctypes.c_char * LENGTH_MAX  # the longest form
 class MultihashError(ValueError):
     """Why bytes are no multihash, or why a code and a digest make none.
 
-    `size` is the length of a digest that is too long, or the number of trailing bytes, at INVALID_SIZE, else 0. `code` is the
-    code at INVALID_CODE, else 0. `taken` is the number of bytes that a decoding consumed.
+    `size` is the length of a digest that is too long, or the number of trailing bytes, at INVALID_SIZE, else
+    0. `code` is the code at INVALID_CODE, else 0. `taken` is the number of bytes that a decoding consumed.
     """
 
     def __init__(self, status: int, size: int = 0, code: int = 0, taken: int = 0) -> None:
@@ -57,8 +59,8 @@ class MultihashError(ValueError):
 class Multihash:
     """A code below 2**63, which identifies the hash function, and a digest of at most DIGEST_MAX bytes.
 
-    Values are immutable and hashable. They are ordered by the code, then by the digest's length, then by the first byte that
-    differs. `bytes(multihash)` is the encoding.
+    Values are immutable and hashable. They are ordered by the code, then by the digest's length, then by the
+    first byte that differs. `bytes(multihash)` is the encoding.
     """
 
     __slots__ = ("code", "digest")
@@ -82,7 +84,7 @@ class Multihash:
         return compare(self, other) < 0 if isinstance(other, Multihash) else NotImplemented
 
     def hexdigest(self) -> str:
-        """The digest in hexadecimal, without the code and the length: `bytes(multihash).hex()` is the encoding."""
+        """The digest in hexadecimal; `bytes(multihash).hex()` is the whole encoding."""
         return self.digest.hex()
 
 
@@ -112,7 +114,7 @@ def _natural(number: int, what: str) -> int:
 
 
 def _prefix(data: Buffer, most: int) -> Tuple[bytes, int]:
-    """Copies at most so many of the first bytes; and the number of all. memoryview() rejects numbers, strings and lists."""
+    """A copy of at most that many first bytes, and the length. memoryview() rejects numbers and lists."""
     view = memoryview(data)
     flat = view[:most] if view.ndim == 1 else view
     return flat.tobytes()[:most], view.nbytes
@@ -142,7 +144,7 @@ def decode(data: Buffer) -> Multihash:
 def read(data: Buffer, limit: int = DIGEST_MAX) -> Tuple[Multihash, int]:
     """Decodes the multihash at the front of the bytes, whose digest has at most `limit` bytes.
 
-    Returns the multihash and the number of bytes of its encoding. Copies no more than the longest encoding has.
+    Returns the multihash and the length of its encoding. Copies at most the length of the longest encoding.
     """
     limit = min(_natural(limit, "limit"), DIGEST_MAX)
     first, _ = _prefix(data, HEAD_MAX + DIGEST_MAX)
@@ -153,7 +155,8 @@ def read(data: Buffer, limit: int = DIGEST_MAX) -> Tuple[Multihash, int]:
 def read_from(file: _Readable, limit: int = DIGEST_MAX) -> Optional[Multihash]:
     """Reads the next multihash from a binary file, and no byte after it; None at the end of the file.
 
-    `file.read` may return fewer bytes than it is asked for, but has to block. After an error part of a multihash has been read.
+    `file.read` may return fewer bytes than it is asked for, but has to block. After an error part of a
+    multihash has been read.
     """
     limit = min(_natural(limit, "limit"), DIGEST_MAX)
     data = b""
@@ -173,7 +176,7 @@ def read_from(file: _Readable, limit: int = DIGEST_MAX) -> Optional[Multihash]:
 
 
 def _missing(data: bytes, limit: int) -> int:
-    """The number of bytes that are sure to belong to the multihash and are not there yet: 0 also where it is rejected."""
+    """The number of bytes that the multihash still needs at least; 0 also where it is rejected."""
     found = C.head(data, len(data))
     if found.status == Status.INSUFFICIENT:
         return 1 if data else 2  # an encoding has at least two bytes
@@ -191,7 +194,7 @@ def head(data: Buffer) -> Head:
 
 
 def scale_decode(data: Buffer) -> Tuple[Multihash, int]:
-    """Decodes the multihash whose SCALE form is at the front of the bytes; and the number of bytes of the form."""
+    """Decodes the multihash whose SCALE form is at the front of the bytes. Also returns the form's length."""
     first, _ = _prefix(data, SCALE_LENGTH_MAX)
     found = C.scale_decode(first, len(first))
     return _multihash(first, found), found.taken

@@ -71,7 +71,7 @@ _BUNDLED = os.path.join(os.path.dirname(os.path.abspath(__file__)), "libmultihas
 
 
 def _open() -> ctypes.CDLL:
-    """Opens the library that MULTIHASH_C_LIBRARY names by its path, else the wheel's, else the installed one."""
+    """Opens the library at the path MULTIHASH_C_LIBRARY, else the wheel's, else the installed one."""
     bundled = _BUNDLED if os.path.exists(_BUNDLED) else None
     path = os.environ.get("MULTIHASH_C_LIBRARY") or bundled or "libmultihash_c.so.1"
     try:
@@ -96,7 +96,7 @@ def _load() -> SimpleNamespace:
 
 
 def _check_version(number: int) -> None:
-    """Rejects a library of another major version, or of a minor version before the one that this package was written for."""
+    """Rejects a library of another major version, or of an earlier minor version than this package needs."""
     major, minor, _ = map(int, __version__.split("."))
     if number // 10000 != major or number // 100 % 100 < minor:
         found = "%d.%d.%d" % (number // 10000, number // 100 % 100, number % 100)

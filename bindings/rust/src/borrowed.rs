@@ -31,12 +31,13 @@ impl<'a> MultihashRef<'a> {
         decoded(bytes, &ffi::from_bytes(bytes))
     }
 
-    /// Decodes the multihash at the start of `bytes`, with a digest of at most `limit` bytes, and advances `bytes` past it.
+    /// Decodes the multihash at the start of `bytes`, with a digest of at most `limit` bytes, and advances
+    /// `bytes` past it.
     ///
     /// # Errors
     ///
-    /// Each but [`Error::InvalidCode`] and [`Error::NoRoom`]. `bytes` is then advanced past the malformed varint, past both
-    /// varints of a digest that is too long or truncated, or to its end.
+    /// Each but [`Error::InvalidCode`] and [`Error::NoRoom`]. `bytes` is then advanced past the malformed
+    /// varint, past both varints of a digest that is too long or truncated, or to its end.
     pub fn read_limit(bytes: &mut &'a [u8], limit: usize) -> Result<Self> {
         advance(bytes, &ffi::read_limit(bytes, limit))
     }
@@ -45,8 +46,8 @@ impl<'a> MultihashRef<'a> {
     ///
     /// # Errors
     ///
-    /// [`Error::InvalidCode`] or [`Error::UnexpectedEof`]. `bytes` is then advanced past the code and the size, as far as they
-    /// are complete, and for an invalid code past the code.
+    /// [`Error::InvalidCode`] or [`Error::UnexpectedEof`]. `bytes` is then advanced past the code and the
+    /// size, as far as they are complete, and for an invalid code past the code.
     pub fn scale_decode(bytes: &mut &'a [u8]) -> Result<Self> {
         advance(bytes, &ffi::scale_decode(bytes))
     }

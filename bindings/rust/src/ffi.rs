@@ -55,8 +55,8 @@ unsafe extern "C" {
     ) -> i32;
 }
 
-// A slice points to as many initialised bytes as its length, which is below 2^63. While it is shared nothing writes them, and
-// while it is borrowed mutably nothing else reads or writes them. The library requires nothing else.
+// A slice points to as many initialised bytes as its length, which is below 2^63. While it is shared nothing
+// writes them, and while it is borrowed mutably nothing else accesses them. The library requires no more.
 
 pub(crate) fn from_bytes(bytes: &[u8]) -> Decoded {
     unsafe { multihash_from_bytes(bytes.as_ptr(), bytes.len()) }
@@ -90,7 +90,8 @@ pub(crate) fn compare(left_code: u64, left: &[u8], right_code: u64, right: &[u8]
     unsafe { multihash_compare(left_code, left.as_ptr(), left.len(), right_code, right.as_ptr(), right.len()) }
 }
 
-/// Room for the encoding of a digest of at most `S` bytes: an array of `11 + S` bytes, whose length Rust cannot write.
+/// A buffer for the encoding of a digest of at most `S` bytes. It has `11 + S` bytes, a length that the type
+/// of an array cannot express.
 #[repr(C)]
 #[derive(Clone, Copy)]
 pub(crate) struct Buffer<const S: usize> {
@@ -98,7 +99,7 @@ pub(crate) struct Buffer<const S: usize> {
     digest: [u8; S],
 }
 
-// Arrays of bytes have no padding between them in the layout of C, so each byte of a buffer is initialised, and all are its own.
+// In the layout of C there is no padding between arrays of bytes, so each byte of a buffer is initialised.
 impl<const S: usize> Buffer<S> {
     pub(crate) const ZEROS: Self = Self { head: [0; 11], digest: [0; S] };
 

@@ -9,8 +9,9 @@ impl<const S: usize> Multihash<S> {
     ///
     /// # Errors
     ///
-    /// The reader's own, unchanged, but [`ErrorKind::Interrupted`], after which it is read again; else an [`Error`] as
-    /// [`io::Error`]: each but [`Error::InvalidCode`] and [`Error::NoRoom`]. Nothing of a digest that is too long is read.
+    /// The reader's own, unchanged, but [`ErrorKind::Interrupted`], after which it is read again; else an
+    /// [`Error`] as [`io::Error`]: each but [`Error::InvalidCode`] and [`Error::NoRoom`]. Nothing of a digest
+    /// that is too long is read.
     pub fn read<R: io::Read>(mut reader: R) -> io::Result<Self> {
         let head = read_head(&mut reader)?;
         let mut digest = [0; DIGEST_MAX];
@@ -71,8 +72,8 @@ fn fill<R: io::Read>(reader: &mut R, mut out: &mut [u8], error: Error) -> io::Re
     Ok(())
 }
 
-/// Of the kind [`ErrorKind::UnexpectedEof`] where more input can change the result, of [`ErrorKind::WriteZero`] for
-/// [`Error::NoRoom`], else of [`ErrorKind::InvalidData`].
+/// Of the kind [`ErrorKind::UnexpectedEof`] where more input can change the result, of
+/// [`ErrorKind::WriteZero`] for [`Error::NoRoom`], else of [`ErrorKind::InvalidData`].
 impl From<Error> for io::Error {
     fn from(error: Error) -> Self {
         let kind = match error {

@@ -5,14 +5,14 @@ use core::cmp::Ordering;
 use core::fmt;
 use core::hash::{Hash, Hasher};
 
-/// A multihash with a digest of at most `S` bytes, inline: a value that can be copied, and needs no allocation.
+/// A multihash with a digest of at most `S` bytes, inline: a value that is `Copy` and needs no allocation.
 ///
-/// It holds its encoding, so that [`Multihash::as_bytes`] and [`AsRef`] give it without a copy. Values of different `S` with
-/// the same code and digest are equal and have the same hash.
+/// It holds its encoding, so that [`Multihash::as_bytes`] and [`AsRef`] give it without a copy. Values of
+/// different `S` with the same code and digest are equal and have the same hash.
 ///
-/// It has no `Borrow<[u8]>`, which requires that values are ordered as their encodings are: code 255 comes before code 256, and
-/// `ff 01` after `80 02`. It has no `Borrow<MultihashRef>`, since it holds none to be borrowed. To look up a
-/// [`MultihashRef`] in a map, convert it by `try_from`.
+/// It has no `Borrow<[u8]>`, which requires that values are ordered as their encodings are: code 255 comes
+/// before code 256, and `ff 01` after `80 02`. It has no `Borrow<MultihashRef>`, since it holds none to be
+/// borrowed. To look up a [`MultihashRef`] in a map, convert it by `try_from`.
 #[derive(Clone, Copy)]
 pub struct Multihash<const S: usize> {
     code: u64,
@@ -27,7 +27,8 @@ impl<const S: usize> Multihash<S> {
     ///
     /// # Errors
     ///
-    /// [`Error::InvalidSize`] for a digest of more than `S` bytes, or of more than 255, else [`Error::InvalidCode`].
+    /// [`Error::InvalidSize`] for a digest of more than `S` bytes or of more than 255; otherwise
+    /// [`Error::InvalidCode`].
     pub fn wrap(code: u64, digest: &[u8]) -> Result<Self> {
         if digest.len() > S {
             return Err(Error::InvalidSize(digest.len() as u64));
@@ -56,8 +57,8 @@ impl<const S: usize> Multihash<S> {
     ///
     /// # Errors
     ///
-    /// As [`MultihashRef::scale_decode`], and [`Error::InvalidSize`] for a digest of more than `S` bytes, whether or not it is
-    /// complete. `bytes` is then advanced past the size.
+    /// As [`MultihashRef::scale_decode`], and [`Error::InvalidSize`] for a digest of more than `S` bytes,
+    /// whether or not it is complete. `bytes` is then advanced past the size.
     pub fn scale_decode(bytes: &mut &[u8]) -> Result<Self> {
         let (form, found) = (*bytes, MultihashRef::scale_decode(bytes));
         match (found, form.get(8)) {
@@ -115,7 +116,7 @@ impl<const S: usize> Multihash<S> {
         self.as_multihash_ref().scale_encode(out)
     }
 
-    /// Returns the multihash with the first `size` bytes of the digest, or with all of a digest that has fewer.
+    /// Returns the multihash with the first `size` bytes of the digest, or with all if it has fewer.
     ///
     /// Whether a truncated digest is secure is for the caller to know.
     #[must_use]
@@ -124,7 +125,7 @@ impl<const S: usize> Multihash<S> {
         Self::wrap(self.code, digest).expect("a shorter digest of the same code fits")
     }
 
-    /// Returns the multihash with room for a digest of at most `R` bytes.
+    /// Returns the multihash with capacity for a digest of at most `R` bytes.
     ///
     /// # Errors
     ///

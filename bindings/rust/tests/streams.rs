@@ -6,7 +6,7 @@ use std::panic::{AssertUnwindSafe, catch_unwind};
 
 type Answer = fn() -> io::Result<usize>;
 
-/// Gives its bytes one by one, and answers otherwise once, before the byte at `at`.
+/// Returns its bytes one by one, and once something else, before the byte at `at`.
 struct Reader<'a> {
     bytes: &'a [u8],
     at: usize,
@@ -26,7 +26,7 @@ impl Read for Reader<'_> {
     }
 }
 
-/// Takes one byte a call, and answers otherwise once, before the byte at `at`.
+/// Accepts one byte per call, and once returns something else, before the byte at `at`.
 struct Writer {
     bytes: Vec<u8>,
     at: usize,

@@ -41,7 +41,7 @@ fn inner(error: io::Error) -> Error {
     *error.get_ref().and_then(|inner| inner.downcast_ref()).expect("an error of this crate")
 }
 
-/// A line of the list, of a buffer of `S` bytes.
+/// A line of the test vectors, at capacity `S`.
 struct Row<'a> {
     input: &'a [u8],
     read: &'a str,
