@@ -9,7 +9,6 @@ mod encode;
 mod status;
 #[cfg(test)]
 mod tests;
-mod text;
 mod version;
 
 // The most bytes of a digest: `MULTIHASH_DIGEST_MAX` in the header.

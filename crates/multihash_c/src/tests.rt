@@ -4,11 +4,12 @@ use crate::decode::{
     Decoded, multihash_from_bytes, multihash_head, multihash_read, multihash_read_limit,
     multihash_scale_decode,
 };
-use crate::encode::{multihash_encode, multihash_encoded_len, multihash_scale_encode};
+use crate::encode::{
+    multihash_encode, multihash_encoded_len, multihash_put_status_text, multihash_scale_encode,
+};
 use crate::status::{
     INSUFFICIENT, INVALID_CODE, INVALID_SIZE, NO_ROOM, NOT_MINIMAL, OK, OVERFLOW, UNEXPECTED_EOF,
 };
-use crate::text::multihash_put_status_text;
 use crate::version::multihash_version;
 
 #[test]
