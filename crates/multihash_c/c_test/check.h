@@ -7,7 +7,7 @@
 #include <stdio.h>
 #include <stdlib.h>
 
-/* Ends the program where the fact is not so. */
+/* Ends the program if the condition is false. */
 #define CHECK(fact)                                                          \
     do {                                                                     \
         if (!(fact)) {                                                       \
@@ -16,7 +16,7 @@
         }                                                                    \
     } while (0)
 
-/* What stands in each place that a call is not to write. */
+/* The value of each byte that a call must not write. */
 #define MARK 0xa5
 
 typedef multihash_encoded (*encoder)(uint64_t, const uint8_t *, size_t, uint8_t *, size_t);

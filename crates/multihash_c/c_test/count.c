@@ -1,5 +1,5 @@
-/* Makes many calls of one operation, to be counted: its name and the number of calls are the arguments, and none
- * prints the names. Inputs and answers go by memory that the compiler can't see through. */
+/* Makes many calls of one operation, to be counted. The arguments are its name and the number of calls; with
+ * none it prints the names. Inputs and results are in memory that the compiler cannot see through. */
 #include "multihash.h"
 
 #include <stdio.h>
@@ -9,7 +9,7 @@
 static uint64_t code = 18;
 static uint8_t digest[64], short_bytes[34], long_bytes[75], out[MULTIHASH_LENGTH_MAX];
 
-/* The pointer, of which the compiler no longer knows what it points at. */
+/* The same pointer; the compiler does not know what it points to. */
 static void *hidden(void *pointer)
 {
     __asm__ volatile("" : "+r"(pointer) : : "memory");
@@ -64,12 +64,14 @@ static uint64_t encode_32(void)
 
 static uint64_t scale_encode_32(void)
 {
-    return multihash_scale_encode(18, (uint8_t *)hidden(digest), 32, (uint8_t *)hidden(out), sizeof out).length;
+    return multihash_scale_encode(18, (uint8_t *)hidden(digest), 32, (uint8_t *)hidden(out),
+                                  sizeof out).length;
 }
 
 static uint64_t compare_32(void)
 {
-    return (uint64_t)multihash_compare(18, (uint8_t *)hidden(digest), 32, 18, (uint8_t *)hidden(digest + 32), 32);
+    return (uint64_t)multihash_compare(18, (uint8_t *)hidden(digest), 32,
+                                       18, (uint8_t *)hidden(digest + 32), 32);
 }
 
 static const struct {

@@ -1,11 +1,11 @@
-/* Encoding: every room around the need, what is refused, and the lengths from the numbers alone. */
+/* Encoding: each capacity around what is needed, each error, and multihash_encoded_len. */
 #include "test.h"
 
 #define GUARD 16
 
 size_t rooms_tried;
 
-/* One room: the answer, the bytes, and that nothing else was written, before, within or behind. */
+/* One capacity: the result, the bytes, and that nothing else was written, before, within or after them. */
 static void check_room(encoder encode, uint64_t code, const uint8_t *digest, size_t digest_length,
                        const uint8_t *want, size_t need, size_t room)
 {
@@ -13,10 +13,10 @@ static void check_room(encoder encode, uint64_t code, const uint8_t *digest, siz
     CHECK(guarded != NULL);
     memset(guarded, MARK, room + 2 * GUARD);
     uint8_t *out = guarded + GUARD;
-    multihash_encoded answer = encode(code, digest, digest_length, out, room);
+    multihash_encoded result = encode(code, digest, digest_length, out, room);
     size_t written = room < need ? 0 : need;
-    CHECK(answer.status == (room < need ? MULTIHASH_NO_ROOM : MULTIHASH_OK));
-    CHECK(answer.length == need && answer.size == 0);
+    CHECK(result.status == (room < need ? MULTIHASH_NO_ROOM : MULTIHASH_OK));
+    CHECK(result.length == need && result.size == 0);
     check_marks(guarded, GUARD);
     CHECK(written == 0 || memcmp(out, want, need) == 0);
     check_marks(out + written, room - written + GUARD);
@@ -24,14 +24,14 @@ static void check_room(encoder encode, uint64_t code, const uint8_t *digest, siz
 
     uint8_t *exact = room == 0 ? NULL : (uint8_t *)malloc(room);
     CHECK(room == 0 || exact != NULL);
-    answer = encode(code, digest, digest_length, exact, room);
-    CHECK(answer.status == (room < need ? MULTIHASH_NO_ROOM : MULTIHASH_OK) && answer.length == need);
+    result = encode(code, digest, digest_length, exact, room);
+    CHECK(result.status == (room < need ? MULTIHASH_NO_ROOM : MULTIHASH_OK) && result.length == need);
     CHECK(room < need || memcmp(exact, want, need) == 0);
     free(exact);
     rooms_tried++;
 }
 
-/* What was decoded is encoded again, into no room, and into each room around the need. */
+/* What was decoded is encoded again, at capacity 0, and at each capacity around what is needed. */
 void check_back(encoder encode, const uint8_t *input, multihash_decoded found)
 {
     uint8_t *digest = exact_copy(input + found.digest_offset, found.digest_length);
@@ -45,32 +45,32 @@ void check_back(encoder encode, const uint8_t *input, multihash_decoded found)
     free(digest);
 }
 
-/* A digest that is too long is refused first, and then a code that is out of range; the room is judged last, and `out`
- * stays as it was. */
-static void check_refused(encoder encode, const uint8_t *digest, size_t length, uint64_t code)
+/* The errors in their order: a digest that is too long, then a code that is out of range, and the capacity
+ * last. `out` is unchanged. */
+static void check_rejected(encoder encode, const uint8_t *digest, size_t length, uint64_t code)
 {
     uint8_t out[600];
     for (size_t room = 0; room <= sizeof out; room += 300) {
         memset(out, MARK, sizeof out);
-        multihash_encoded answer = encode(code, digest, length, out, room);
-        CHECK(answer.status == (length > 255 ? MULTIHASH_INVALID_SIZE : MULTIHASH_INVALID_CODE));
-        CHECK(answer.size == (length > 255 ? length : 0) && answer.length == 0);
+        multihash_encoded result = encode(code, digest, length, out, room);
+        CHECK(result.status == (length > 255 ? MULTIHASH_INVALID_SIZE : MULTIHASH_INVALID_CODE));
+        CHECK(result.size == (length > 255 ? length : 0) && result.length == 0);
         check_marks(out, sizeof out);
     }
 }
 
-static void check_refused_forms(const uint8_t *digest)
+static void check_rejected_forms(const uint8_t *digest)
 {
     static const encoder encoders[] = {multihash_encode, multihash_scale_encode};
     for (size_t i = 0; i < 2; i++) {
-        check_refused(encoders[i], digest, 256, 1);
-        check_refused(encoders[i], digest, 300, UINT64_MAX);
-        check_refused(encoders[i], digest, 255, (uint64_t)INT64_MAX + 1);
-        check_refused(encoders[i], NULL, 0, UINT64_MAX);
+        check_rejected(encoders[i], digest, 256, 1);
+        check_rejected(encoders[i], digest, 300, UINT64_MAX);
+        check_rejected(encoders[i], digest, 255, (uint64_t)INT64_MAX + 1);
+        check_rejected(encoders[i], NULL, 0, UINT64_MAX);
     }
 }
 
-/* The length from the numbers alone is what encoding needs, and refusals are the same. */
+/* multihash_encoded_len returns the length that encoding needs, and the same errors. */
 static void check_encoded_len(uint64_t code, size_t digest_length)
 {
     static uint8_t digest[600];
@@ -92,13 +92,13 @@ void check_lengths(void)
     CHECK(multihash_encoded_len(INT64_MAX, 255).length == MULTIHASH_LENGTH_MAX);
 }
 
-/* The longest forms, in every room from none to one place more than they need. */
+/* The longest forms, at each capacity from 0 to one byte more than they need. */
 void check_longest(uint64_t largest)
 {
     static uint8_t digest[300];
     uint8_t bytes[MULTIHASH_LENGTH_MAX], form[MULTIHASH_SCALE_LENGTH_MAX];
     for (size_t i = 0; i < sizeof digest; i++) digest[i] = (uint8_t)(7 * i + 3);
-    check_refused_forms(digest);
+    check_rejected_forms(digest);
     CHECK(multihash_encode(largest, digest, 255, bytes, sizeof bytes).status == MULTIHASH_OK);
     CHECK(multihash_scale_encode(largest, digest, 255, form, sizeof form).status == MULTIHASH_OK);
     for (size_t room = 0; room <= sizeof bytes + 1; room++) {
@@ -106,5 +106,6 @@ void check_longest(uint64_t largest)
         check_room(multihash_scale_encode, largest, digest, 255, form, sizeof form, room);
     }
     multihash_decoded found = multihash_from_bytes(bytes, sizeof bytes);
-    CHECK(found.status == MULTIHASH_OK && found.code == largest && found.digest_length == MULTIHASH_DIGEST_MAX);
+    CHECK(found.status == MULTIHASH_OK && found.code == largest);
+    CHECK(found.digest_length == MULTIHASH_DIGEST_MAX);
 }

@@ -1,7 +1,7 @@
-/* Calls each export on buffers that unreadable pages fence: a byte read or written before or behind one ends the
- * program. First sees that the fence holds. Answers are compared with those on a buffer with room around it, and what is
- * written with what a model spells. C11 on POSIX. Says what it did on one line, and ends with status 1 at the first thing
- * that is wrong. */
+/* Calls each export on buffers between unreadable pages: a byte read or written before or after one ends the
+ * program. First checks that it does. Results are compared with those on a buffer with bytes around it, and
+ * what is written with the form that a model makes. C11 on POSIX. Prints one line, and exits with status 1 at
+ * the first error. */
 #define _GNU_SOURCE
 #include "check.h"
 
@@ -31,13 +31,13 @@ static fenced make_fenced(void)
     return (fenced){pages + PAGE};
 }
 
-/* So many places right behind the first fence, or right before the second. */
+/* That many bytes directly after the first fence, or directly before the second. */
 static uint8_t *places(fenced of, size_t length, int at_end)
 {
     return at_end ? of.page + PAGE - length : of.page;
 }
 
-/* Whether a child that touches the byte is killed for it. */
+/* Whether a child process that reads, or also writes, the byte is killed. */
 static int is_fatal(uint8_t *byte, int writes)
 {
     int status = 0;
@@ -67,23 +67,24 @@ static void check_fence(fenced of)
 
 static int same(multihash_decoded a, multihash_decoded b)
 {
-    return a.status == b.status && a.size == b.size && a.code == b.code && a.digest_offset == b.digest_offset &&
-           a.digest_length == b.digest_length && a.taken == b.taken;
+    return a.status == b.status && a.size == b.size && a.code == b.code &&
+           a.digest_offset == b.digest_offset && a.digest_length == b.digest_length && a.taken == b.taken;
 }
 
 static int same_front(multihash_front a, multihash_front b)
 {
-    return a.status == b.status && a.code == b.code && a.digest_length == b.digest_length && a.taken == b.taken;
+    return a.status == b.status && a.code == b.code && a.digest_length == b.digest_length &&
+           a.taken == b.taken;
 }
 
-/* A marked byte but for the last, which is `last`. */
+/* Continuation bytes, except for the last, which is `last`. */
 static void fill_varint(uint8_t *bytes, size_t length, uint8_t last)
 {
     memset(bytes, 0x81, length);
     if (length > 0) bytes[length - 1] = last;
 }
 
-/* A code of so many bytes, and the size that makes the digest so many bytes longer than what is left. */
+/* A code of that many bytes, and a size that many bytes above the number of the bytes that follow. */
 static void fill_encoding(uint8_t *bytes, size_t length, size_t code_length, size_t longer)
 {
     memset(bytes, 0x07, length);
@@ -109,7 +110,7 @@ static void fill_scale(uint8_t *bytes, size_t length, size_t longer)
 
 #define KINDS 29
 
-/* Bytes of a kind: encodings and SCALE forms, whole and cut, and varints that end nowhere or wrongly. */
+/* Bytes of a kind: encodings and SCALE forms, whole and truncated, and malformed varints. */
 static void fill(uint8_t *bytes, size_t length, int kind)
 {
     static const uint8_t repeated[] = {0x00, 0x01, 0x7f, 0x80, 0xff};
@@ -122,11 +123,12 @@ static void fill(uint8_t *bytes, size_t length, int kind)
     } else if (kind < 25) {
         fill_scale(bytes, length, (size_t)kind - 23);
     } else {
-        fill_varint(bytes, length, (uint8_t)(kind == 25 ? 0x00 : kind == 26 ? 0x01 : kind == 27 ? 0x7f : 0x80));
+        fill_varint(bytes, length,
+                    (uint8_t)(kind == 25 ? 0x00 : kind == 26 ? 0x01 : kind == 27 ? 0x7f : 0x80));
     }
 }
 
-/* Each decoding answers the same where other bytes stand around the input. */
+/* Each decoding returns the same if there are other bytes around the input. */
 static void check_decodings(const uint8_t *bytes, size_t length, const uint8_t *roomy)
 {
     static const size_t limits[] = {0, 1, 32, 64, 127, 128, 254, 255, 256, SIZE_MAX};
@@ -135,7 +137,8 @@ static void check_decodings(const uint8_t *bytes, size_t length, const uint8_t *
     CHECK(same(multihash_scale_decode(bytes, length), multihash_scale_decode(roomy, length)));
     CHECK(same_front(multihash_head(bytes, length), multihash_head(roomy, length)));
     for (size_t i = 0; i < sizeof limits / sizeof limits[0]; i++) {
-        CHECK(same(multihash_read_limit(bytes, length, limits[i]), multihash_read_limit(roomy, length, limits[i])));
+        CHECK(same(multihash_read_limit(bytes, length, limits[i]),
+                   multihash_read_limit(roomy, length, limits[i])));
     }
     decodings += 4 + sizeof limits / sizeof limits[0];
 }
@@ -152,7 +155,7 @@ static void check_input(size_t length, int kind)
     }
 }
 
-/* Whether a length is swept: the short ones, and those around 127, 255 and the longest forms. */
+/* Whether a length is tested: the short ones, and those around 127, 255 and the longest forms. */
 static int is_swept(size_t length)
 {
     return length <= 40 || (length >= 120 && length <= 140) || length >= 250;
@@ -168,7 +171,7 @@ static void check_inputs(void)
 
 /* ---- encoding */
 
-static size_t spell_varint(uint64_t number, uint8_t *to)
+static size_t put_varint(uint64_t number, uint8_t *to)
 {
     size_t length = 0;
     for (; number >= 0x80; number >>= 7) to[length++] = (uint8_t)(number | 0x80);
@@ -176,48 +179,50 @@ static size_t spell_varint(uint64_t number, uint8_t *to)
     return length;
 }
 
-/* What stands before the digest in a form. */
-static size_t spell_head(encoder encode, uint64_t code, size_t digest_length, uint8_t *to)
+/* The bytes before the digest in a form. */
+static size_t put_head(encoder encode, uint64_t code, size_t digest_length, uint8_t *to)
 {
     if (encode == multihash_encode) {
-        size_t length = spell_varint(code, to);
-        return length + spell_varint(digest_length, to + length);
+        size_t length = put_varint(code, to);
+        return length + put_varint(digest_length, to + length);
     }
     for (int i = 0; i < 8; i++) to[i] = (uint8_t)(code >> (8 * i));
     to[8] = (uint8_t)digest_length;
     return 9;
 }
 
-static size_t spell(encoder encode, uint64_t code, const uint8_t *digest, size_t digest_length, uint8_t *to)
+static size_t put_form(encoder encode, uint64_t code, const uint8_t *digest, size_t digest_length,
+                       uint8_t *to)
 {
-    size_t length = spell_head(encode, code, digest_length, to);
+    size_t length = put_head(encode, code, digest_length, to);
     if (digest_length > 0) memcpy(to + length, digest, digest_length);
     return length + digest_length;
 }
 
-/* One room: what was written, and that nothing else of the page was. */
-static void check_room(encoder encode, uint64_t code, const uint8_t *digest, size_t digest_length, size_t room, int at_end)
+/* One capacity: what was written, and that nothing else of the page was. */
+static void check_room(encoder encode, uint64_t code, const uint8_t *digest, size_t digest_length,
+                       size_t room, int at_end)
 {
     static uint8_t want[PAGE];
     uint8_t *out = places(output, room, at_end), form[LONGEST + 20];
-    size_t need = spell(encode, code, digest, digest_length, form);
-    int refused = digest_length > 255 || code > INT64_MAX;
+    size_t need = put_form(encode, code, digest, digest_length, form);
+    int rejected = digest_length > 255 || code > INT64_MAX;
     memset(output.page, MARK, PAGE);
     memset(want, MARK, PAGE);
-    if (!refused && need <= room) memcpy(want + (out - output.page), form, need);
-    multihash_encoded answer = encode(code, digest, digest_length, out, room);
+    if (!rejected && need <= room) memcpy(want + (out - output.page), form, need);
+    multihash_encoded result = encode(code, digest, digest_length, out, room);
     CHECK(memcmp(output.page, want, PAGE) == 0);
-    CHECK(answer.length == (refused ? 0 : need));
-    CHECK((answer.status == MULTIHASH_OK) == (!refused && need <= room));
-    CHECK((answer.status == MULTIHASH_NO_ROOM) == (!refused && need > room));
+    CHECK(result.length == (rejected ? 0 : need));
+    CHECK((result.status == MULTIHASH_OK) == (!rejected && need <= room));
+    CHECK((result.status == MULTIHASH_NO_ROOM) == (!rejected && need > room));
     encodings++;
 }
 
-/* Each room around what is needed, and none. */
+/* Each capacity around what is needed, and 0. */
 static void check_rooms(encoder encode, uint64_t code, const uint8_t *digest, size_t digest_length)
 {
     uint8_t form[LONGEST + 20];
-    size_t need = spell(encode, code, digest, digest_length, form);
+    size_t need = put_form(encode, code, digest, digest_length, form);
     check_room(encode, code, digest, digest_length, 0, 0);
     for (size_t room = need < 3 ? 0 : need - 3; room <= need + 3; room++) {
         check_room(encode, code, digest, digest_length, room, 0);
@@ -251,7 +256,7 @@ static void check_digests(void)
 
 /* ---- texts */
 
-/* The text of a status in one room, and that nothing else of the page was written. */
+/* The text of a status at one capacity, and that nothing else of the page was written. */
 static void check_text(multihash_status status, size_t room, int at_end)
 {
     static uint8_t want[PAGE];
@@ -291,7 +296,7 @@ static void check_order(const uint8_t *left, size_t left_length, const uint8_t *
     comparisons += 2;
 }
 
-/* Equal bytes, and then a byte that differs, at each place. */
+/* Equal bytes, and then one byte that differs, at each position. */
 static void check_places(uint8_t *left, size_t length, uint8_t *right, size_t right_length)
 {
     memset(left, 0x70, length);
@@ -329,7 +334,7 @@ int main(void)
     check_texts();
     check_comparisons();
     CHECK(fences_seen == 12 && decodings > 0 && encodings > 0 && texts > 0 && comparisons > 0);
-    printf("%zu fences, %zu decodings, %zu encodings, %zu texts, %zu comparisons\n", fences_seen, decodings, encodings,
-           texts, comparisons);
+    printf("%zu fences, %zu decodings, %zu encodings, %zu texts, %zu comparisons\n", fences_seen, decodings,
+           encodings, texts, comparisons);
     return 0;
 }

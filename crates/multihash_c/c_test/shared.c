@@ -1,7 +1,7 @@
 /* What the parts of the test share. */
 #include "test.h"
 
-/* The bytes that hexadecimal text spells; a dash spells none. */
+/* The bytes of a text in hexadecimal; a dash is no bytes. */
 size_t parse_hex(const char *text, uint8_t *to, size_t places)
 {
     size_t length = strcmp(text, "-") == 0 ? 0 : strlen(text) / 2;
@@ -14,7 +14,7 @@ size_t parse_hex(const char *text, uint8_t *to, size_t places)
     return length;
 }
 
-/* A copy on the heap with no byte to spare, so that a tool sees each access beyond it: null for no bytes. */
+/* A copy on the heap of exactly that length, so that tools see each access outside it; null for no bytes. */
 uint8_t *exact_copy(const uint8_t *bytes, size_t length)
 {
     uint8_t *copy = length == 0 ? NULL : (uint8_t *)malloc(length);
@@ -28,7 +28,7 @@ void check_marks(const uint8_t *bytes, size_t length)
     for (size_t i = 0; i < length; i++) CHECK(bytes[i] == MARK);
 }
 
-/* How many bytes two varints at the front have: each ends at the first of its bytes that is below 128. */
+/* The length of the two varints at the front: each ends at its first byte below 128. */
 size_t two_varints(const uint8_t *input, size_t length)
 {
     size_t at = 0;

@@ -1,6 +1,6 @@
-/* Calls the reader of a stream that is installed as an example, over pipes that are cut at each byte: by a pause, and by an
- * end after which another pipe continues. C11 on POSIX. Says what it did on one line, and exits with status 1 at the first
- * thing that is wrong. */
+/* Calls the reader of a stream that is installed as an example, over pipes that are cut at each byte: by a
+ * pause, and by an end after which another pipe continues. C11 on POSIX. Prints one line, and exits with
+ * status 1 at the first error. */
 int example_main(void);
 #define main example_main
 #include <stream.c>
@@ -13,7 +13,7 @@ int example_main(void);
 
 #define LIMIT 64
 
-/* What the stream is put together from: the bytes of both varints, the code, and the digest's length. */
+/* The items of the stream: the bytes of both varints, the code, and the digest's length. */
 static const struct item {
     const char *head;
     size_t head_length;
@@ -38,19 +38,21 @@ static void put_together(void)
     for (size_t i = 0; i < ITEMS; i++) {
         memcpy(whole + whole_length, items[i].head, items[i].head_length);
         whole_length += items[i].head_length;
-        for (size_t k = 0; k < items[i].digest_length; k++) whole[whole_length++] = (uint8_t)(0x80 + 16 * i + k);
+        for (size_t k = 0; k < items[i].digest_length; k++) {
+            whole[whole_length++] = (uint8_t)(0x80 + 16 * i + k);
+        }
         ends[i + 1] = whole_length;
     }
 }
 
-/* A pipe that holds the bytes: its end for reading, which does not wait, and the one for writing. */
+/* A pipe that holds the bytes: its end for reading, which does not block, and the one for writing. */
 static void open_pipe(int ends_of[2], const uint8_t *bytes, size_t length)
 {
     CHECK(pipe(ends_of) == 0 && fcntl(ends_of[0], F_SETFL, O_NONBLOCK) == 0);
     CHECK(write(ends_of[1], bytes, length) == (ssize_t)length);
 }
 
-/* How many whole multihashes the first bytes of the stream have. */
+/* The number of complete multihashes in a prefix of the stream. */
 static size_t items_in(size_t length)
 {
     size_t count = 0;
@@ -58,7 +60,7 @@ static size_t items_in(size_t length)
     return count;
 }
 
-/* Reads as long as multihashes come: each is the next of those that were put together. */
+/* Reads all multihashes that are complete: each is the next item. */
 static stream_result read_on(stream *from, size_t *at)
 {
     multihash_decoded found;
@@ -73,21 +75,23 @@ static stream_result read_on(stream *from, size_t *at)
     return result;
 }
 
-/* The stream pauses at a byte, and comes on through the same pipe. */
+/* The stream pauses at a byte, and continues through the same pipe. */
 static void check_pause(size_t cut)
 {
     int ends_of[2];
     size_t at = 0;
     open_pipe(ends_of, whole, cut);
     stream from = {.descriptor = ends_of[0], .limit = LIMIT};
-    CHECK(read_on(&from, &at) == STREAM_FAILED && (errno == EAGAIN || errno == EWOULDBLOCK) && at == items_in(cut));
+    CHECK(read_on(&from, &at) == STREAM_FAILED && (errno == EAGAIN || errno == EWOULDBLOCK));
+    CHECK(at == items_in(cut));
     CHECK(read_on(&from, &at) == STREAM_FAILED && at == items_in(cut));
-    CHECK(write(ends_of[1], whole + cut, whole_length - cut) == (ssize_t)(whole_length - cut) && close(ends_of[1]) == 0);
+    CHECK(write(ends_of[1], whole + cut, whole_length - cut) == (ssize_t)(whole_length - cut));
+    CHECK(close(ends_of[1]) == 0);
     CHECK(read_on(&from, &at) == STREAM_END && at == ITEMS);
     CHECK(close(ends_of[0]) == 0);
 }
 
-/* The stream ends at a byte, and another goes on. */
+/* The stream ends at a byte, and another continues. */
 static void check_end(size_t cut)
 {
     int ends_of[2], more[2];
@@ -104,7 +108,7 @@ static void check_end(size_t cut)
     CHECK(close(ends_of[0]) == 0 && close(more[0]) == 0);
 }
 
-/* Byte for byte: a multihash is found with its last one, and not before. */
+/* Byte by byte: a multihash is returned at its last byte, and not before. */
 static void check_bytes(void)
 {
     int ends_of[2];
@@ -133,7 +137,8 @@ static void check_rest(void)
 }
 
 /* A stream that is rejected, with nothing of a digest read. */
-static void check_rejected(const char *bytes, size_t length, multihash_status status, uint64_t size, size_t left)
+static void check_rejected(const char *bytes, size_t length, multihash_status status, uint64_t size,
+                           size_t left)
 {
     int ends_of[2];
     uint8_t rest[64];

@@ -6,7 +6,7 @@
 
 #include <string.h>
 
-/* What was compared so far. */
+/* The number of comparisons so far. */
 extern size_t rooms_tried, heads_compared;
 
 size_t parse_hex(const char *text, uint8_t *to, size_t places);
@@ -15,9 +15,9 @@ void check_marks(const uint8_t *bytes, size_t length);
 size_t two_varints(const uint8_t *input, size_t length);
 
 /* decoding.c */
-void check_refusal(multihash_decoded found, multihash_status status, uint64_t size, size_t taken);
+void check_error(multihash_decoded found, multihash_status status, uint64_t size, size_t taken);
 void check_head(const uint8_t *input, size_t length, multihash_decoded read);
-void check_refusals(void);
+void check_errors(void);
 void check_every_cut(void);
 
 /* encoding.c */

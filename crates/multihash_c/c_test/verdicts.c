@@ -1,11 +1,11 @@
-/* The list of verdicts: each line's answers are compared with those of the library. */
+/* The test vectors: each line's results are compared with those of the library. */
 #include "test.h"
 
 #include <inttypes.h>
 
 #define LINE_MAX_BYTES 8192
 
-/* A line of the list: the size of the buffer that was asked, the input, and what is to be answered. */
+/* A line of the test vectors: the capacity, the input, and the expected results. */
 typedef struct verdict_line {
     unsigned long size;
     uint8_t input[LINE_MAX_BYTES / 2];
@@ -13,10 +13,10 @@ typedef struct verdict_line {
     const char *column[7];
 } verdict_line;
 
-static size_t answers_compared, ends_compared;
+static size_t results_compared, truncated_compared;
 
-/* The answer as the list spells it. What the status leaves without a meaning must be 0. */
-static void spell(multihash_decoded found, const uint8_t *input, char *to, size_t places)
+/* The result as the test vectors write it. A field without a meaning for the status must be 0. */
+static void format(multihash_decoded found, const uint8_t *input, char *to, size_t places)
 {
     static const char *const words[] = {"?", "insufficient", "overflow", "not_minimal",
                                         "?", "?",            "unexpected_eof", "?"};
@@ -43,25 +43,26 @@ static void spell(multihash_decoded found, const uint8_t *input, char *to, size_
     snprintf(to, places, "%s", words[found.status]);
 }
 
-static void check_answer(multihash_decoded found, const uint8_t *input, const char *verdict, const char *taken)
+static void check_result(multihash_decoded found, const uint8_t *input, const char *verdict,
+                         const char *taken)
 {
-    static char spelled[LINE_MAX_BYTES];
-    spell(found, input, spelled, sizeof spelled);
-    CHECK(strcmp(spelled, verdict) == 0);
+    static char formatted[LINE_MAX_BYTES];
+    format(found, input, formatted, sizeof formatted);
+    CHECK(strcmp(formatted, verdict) == 0);
     if (strcmp(taken, "-") != 0) CHECK(found.taken == strtoul(taken, NULL, 10));
-    answers_compared++;
+    results_compared++;
 }
 
-/* Whether the answer for a buffer of that size is the answer for 255 too: no digest was refused that 255 holds. */
+/* Whether the result for that capacity is the result for 255 too: no digest was rejected that 255 holds. */
 static int is_for_all(const char *verdict, unsigned long size)
 {
-    unsigned long refused = 0;
-    if (sscanf(verdict, "invalid_size %lu", &refused) != 1) return 1;
-    return size >= 255 || refused > 255;
+    unsigned long rejected = 0;
+    if (sscanf(verdict, "invalid_size %lu", &rejected) != 1) return 1;
+    return size >= 255 || rejected > 255;
 }
 
-/* What reading takes of an input that ends early: all of it, or both varints where the digest is cut. */
-static void check_early_end(multihash_decoded found, const uint8_t *input, size_t length)
+/* What reading consumes of a truncated input: all of it, or both varints if the digest is truncated. */
+static void check_truncated(multihash_decoded found, const uint8_t *input, size_t length)
 {
     if (found.status == MULTIHASH_INSUFFICIENT) {
         CHECK(found.taken == length);
@@ -70,10 +71,10 @@ static void check_early_end(multihash_decoded found, const uint8_t *input, size_
     } else {
         return;
     }
-    ends_compared++;
+    truncated_compared++;
 }
 
-/* Splits a line at its tabs. */
+/* Splits a line at tabs. */
 static void parse_line(char *text, verdict_line *line)
 {
     text[strcspn(text, "\n")] = '\0';
@@ -100,15 +101,15 @@ static void check_line(const verdict_line *line)
     multihash_decoded scale = multihash_scale_decode(input, length);
     CHECK(read.taken <= length && whole.taken == length && scale.taken <= length);
     multihash_decoded within = multihash_read_limit(input, length, line->size);
-    check_answer(within, input, line->column[2], line->column[3]);
-    check_early_end(within, input, length);
-    check_early_end(read, input, length);
+    check_result(within, input, line->column[2], line->column[3]);
+    check_truncated(within, input, length);
+    check_truncated(read, input, length);
     check_head(input, length, read);
     if (is_for_all(line->column[2], line->size)) {
-        check_answer(read, input, line->column[2], line->column[3]);
-        check_answer(whole, input, line->column[4], "-");
+        check_result(read, input, line->column[2], line->column[3]);
+        check_result(whole, input, line->column[4], "-");
     }
-    if (is_for_all(line->column[5], line->size)) check_answer(scale, input, line->column[5], line->column[6]);
+    if (is_for_all(line->column[5], line->size)) check_result(scale, input, line->column[5], line->column[6]);
     if (read.status == MULTIHASH_OK) check_back(multihash_encode, input, read);
     if (scale.status == MULTIHASH_OK) check_back(multihash_scale_encode, input, scale);
     free(input);
@@ -128,7 +129,7 @@ void replay(const char *name)
         check_line(&line);
         lines++;
     }
-    CHECK(fclose(list) == 0 && lines > 0 && ends_compared > 0);
-    printf("%zu lines, %zu answers, %zu early ends, %zu heads, %zu rooms\n", lines, answers_compared, ends_compared,
-           heads_compared, rooms_tried);
+    CHECK(fclose(list) == 0 && lines > 0 && truncated_compared > 0);
+    printf("%zu lines, %zu results, %zu truncated inputs, %zu heads, %zu capacities\n", lines,
+           results_compared, truncated_compared, heads_compared, rooms_tried);
 }
