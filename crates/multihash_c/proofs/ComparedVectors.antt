@@ -13,7 +13,7 @@ sign_of_equal = refl
 sign_of_greater : IsSign Greater (pos 1)
 sign_of_greater = refl
 
--- the order is not turned
+-- the order is not reversed
 less_is_not_positive : ¬ (IsSign Less (pos 1))
 less_is_not_positive h = cc
 
@@ -33,7 +33,7 @@ equal_is_not_positive h = cc
 greater_is_not_zero : ¬ (IsSign Greater (pos 0))
 greater_is_not_zero h = cc
 
--- one below and one above, no farther
+-- minus one and one, and no other number
 less_is_not_minus_two : ¬ (IsSign Less (negsuc 1))
 less_is_not_minus_two h = cc
 

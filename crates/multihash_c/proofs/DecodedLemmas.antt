@@ -1,4 +1,4 @@
--- Where the digest stands in the input, what decoding the SCALE form took, and what a refusal tells.
+-- Where the digest is in the input, what decoding the SCALE form consumed, and what an error reports.
 use Rattle.std.proofs.Common.{◌≡◌, ℕ, ◌+◌, ◌-◌, ◌<◌, List, [], ◌∷◌, ◌++◌, length, take, drop, ap, sym, ◌∙◌, subst, arith, refl, Option, Some, append_assoc, length-append, length-drop}
 use Rattle.std.proofs.lemmas.List.{length-take-le}
 use Rattle.std.proofs.lemmas.List.Elements.{All-head, All-drop}
@@ -20,19 +20,19 @@ has_trailing input front left cut =
     let long : length input - length left ≡ length front = omega (arith, ap length cut, length-append front left) in
     rw (long, cut) (sym (drop-append_seam front left))
 
--- what was taken is the front
+-- what was consumed is the front
 pub taken_front : (input front left : List ℕ) → input ≡ front ++ left → take (length input - length left) input ≡ front
 taken_front input front left cut =
     let long : length input - length left ≡ length front = omega (arith, ap length cut, length-append front left) in
     rw (long, cut) (take-append_seam front left)
 
--- behind a front of so many bytes stands the digest
+-- the digest follows a front of that many bytes
 after_front : (input front digest rest : List ℕ) (offset n : ℕ) → input ≡ front ++ (digest ++ rest) → offset ≡ length front
     → n ≡ length digest → digest ≡ take n (drop offset input)
 after_front input front digest rest offset n cut at long =
     rw (at, long, cut, drop-append_seam front (digest ++ rest)) (sym (take-append_seam digest rest))
 
--- the digest ends the bytes that were taken
+-- the digest ends the bytes that were consumed
 pub stands_at_end : (input front digest rest : List ℕ) (offset n taken : ℕ) → input ≡ (front ++ digest) ++ rest
     → n ≡ length digest → taken ≡ length (front ++ digest) → offset + n ≡ taken → digest ≡ take n (drop offset input)
 stands_at_end input front digest rest offset n taken cut long all ends =
@@ -55,7 +55,7 @@ form_stands p input bytes rest offset n taken e cut long all ends =
     stands_at_end input (e.code ++ (length p.digest ∷ [])) p.digest rest offset n taken (cut ∙ ap (λ (z : List ℕ). z ++ rest) spelled)
     long (all ∙ ap length spelled) ends
 
--- a digest that ends what was taken is as long as it is told
+-- a digest that ends what was consumed has the reported length
 pub reported_length : (input : List ℕ) (d : Decoded) (p : Pair) → ReportsPair input d p → d.digest_length ≡ length p.digest
 reported_length input d p h =
     omega (
@@ -66,12 +66,12 @@ reported_length input d p h =
       length-take-le d.digest_length (drop d.digest_offset input) (omega (arith, h.is_end, h.inside, length-drop d.digest_offset input)),
     )
 
--- an answer is its fields
+-- a result is determined by its fields
 made_of : (d : Decoded) (size code offset n : ℕ) → d.size ≡ size → d.code ≡ code → d.digest_offset ≡ offset → d.digest_length ≡ n
     → d ≡ record { status = d.status; size = size; code = code; digest_offset = offset; digest_length = n; taken = d.taken }
 made_of d size code offset n a b c e = rw (sym a, sym b, sym c, sym e) refl
 
--- a refusal is what it tells, and what was taken
+-- an error is determined by what it reports and what was consumed
 pub rejected_so : (d : Decoded) (status size code : ℕ) → ReportsRefusal d status size code
     → d ≡ record { status = d.status; size = size; code = code; digest_offset = 0; digest_length = 0; taken = d.taken }
 rejected_so d status size code h = made_of d size code 0 0 h.is_size h.is_code h.no_offset h.no_length
@@ -110,7 +110,7 @@ byte_fits input size bytes (rest, has, over) =
     subst IsBytes left (All-drop (λ byte. byte < 256) (length has.code_bytes) input bytes) in
     omega (arith, over, All-head (λ byte. byte < 256) size rest following)
 
--- a code that is refused is the verdict, and eight bytes were taken
+-- a code that is rejected is the verdict, and eight bytes were consumed
 pub code_taken : (input : List ℕ) (new : Option (List ℕ)) (e : Refusal) (code taken : ℕ) (t : ConsumesAtScaleError 255 e (Some input) new)
     → take taken input ≡ t.consumed → IsInvalidCode code e → (v : Verdict) → HasScaleVerdict 255 input v → IsErrorOf e v
     → (v ≡ invalid_code code) × ConsumesForm v input taken
@@ -122,7 +122,7 @@ code_taken input new e code taken t front is (invalid_code n) has r =
 code_taken input new e code taken t front is (malformed fault) has r = absurd has
 code_taken input new e code taken t front is unexpected_eof has r = let other = r.1 in absurd (cc)
 
--- where no code is refused the input ends early
+-- if no code is rejected the input is truncated
 pub ends_early : (input : List ℕ) (e : Refusal) → IsBytes input → ((n : ℕ) → ¬ (IsInvalidCode n e)) → (v : Verdict)
     → HasScaleVerdict 255 input v → IsErrorOf e v → v ≡ unexpected_eof
 ends_early input e bytes no_code (accepted p) has r = absurd r

@@ -25,7 +25,7 @@ answer status size code offset length taken = record {
 
 -- ---- a pair
 
--- the code 0, one byte of a digest, and what stands behind it
+-- the code 0, one byte of a digest, and a trailing byte
 abbrev pub input : List ℕ
 input = 0 ∷ 1 ∷ 9 ∷ 8 ∷ []
 
@@ -48,36 +48,36 @@ pair_has_no_size h = omega (arith, h.no_size)
 pair_has_its_code : ¬ (ReportsPair input (answer 0 0 1 2 1 3) (pair 0 (9 ∷ [])))
 pair_has_its_code h = omega (arith, h.is_code)
 
--- the length is the digest's, also where the input ends with the digest
+-- the length is the digest's, also if the input ends with the digest
 pair_has_its_length : ¬ (ReportsPair (0 ∷ 1 ∷ 9 ∷ []) (answer 0 0 0 2 2 4) (pair 0 (9 ∷ [])))
 pair_has_its_length h = omega (arith, reported_length (0 ∷ 1 ∷ 9 ∷ []) (answer 0 0 0 2 2 4) (pair 0 (9 ∷ [])) h)
 
--- the digest is the last that was taken
+-- the digest is the last part consumed
 pair_ends_what_was_taken : ¬ (ReportsPair input (answer 0 0 0 2 1 4) (pair 0 (9 ∷ [])))
 pair_ends_what_was_taken h = omega (arith, h.is_end)
 
--- no empty digest stands behind the input
+-- no empty digest is after the input
 pair_is_inside : ¬ (ReportsPair (0 ∷ 0 ∷ []) (answer 0 0 0 3 0 3) (pair 0 []))
 pair_is_inside h = omega (arith, h.inside)
 
 pair_has_its_digest : ¬ (ReportsPair input (answer 0 0 0 1 1 2) (pair 0 (9 ∷ [])))
 pair_has_its_digest h = omega (arith, ap (λ (z : List ℕ). get_or z 0 0) h.is_digest)
 
--- a digest that is there is not told as none, nor as more
+-- a digest is not reported as empty, nor as longer
 pair_has_no_empty_digest : ¬ (ReportsPair input (answer 0 0 0 3 0 3) (pair 0 (9 ∷ [])))
 pair_has_no_empty_digest h = omega (arith, ap (λ (z : List ℕ). length z) h.is_digest)
 
 pair_has_no_longer_digest : ¬ (ReportsPair input (answer 0 0 0 2 2 4) (pair 0 (9 ∷ [])))
 pair_has_no_longer_digest h = omega (arith, ap (λ (z : List ℕ). length z) h.is_digest)
 
--- no less was taken than where the digest ends
+-- no less than up to the digest's end was consumed
 pair_was_taken_whole : ¬ (ReportsPair input (answer 0 0 0 2 1 2) (pair 0 (9 ∷ [])))
 pair_was_taken_whole h = omega (arith, h.is_end)
 
 pair_has_no_smaller_code : ¬ (ReportsPair input (answer 0 0 0 2 1 3) (pair 1 (9 ∷ [])))
 pair_has_no_smaller_code h = omega (arith, h.is_code)
 
--- ---- a refusal
+-- ---- an error
 
 reports_size : ReportsRefusal (answer 4 5 0 0 0 2) 4 5 0
 reports_size = record { is_status = refl; is_size = refl; is_code = refl; no_offset = refl; no_length = refl }
@@ -127,7 +127,7 @@ reports_invalid_code = refused 5 0 5
 reports_unexpected_eof : Reports [] (answer 6 0 0 0 0 0) unexpected_eof
 reports_unexpected_eof = refused 6 0 0
 
--- none is told with another's
+-- no verdict is reported with another's status
 accepted_is_0 : (status : ℕ) → Reports input (answer status 0 0 2 1 3) (accepted (pair 0 (9 ∷ []))) → status ≡ 0
 accepted_is_0 status h = h.is_ok
 
@@ -149,7 +149,7 @@ invalid_code_is_5 status h = h.is_status
 unexpected_eof_is_6 : (status : ℕ) → Reports [] (answer status 0 0 0 0 0) unexpected_eof → status ≡ 6
 unexpected_eof_is_6 status h = h.is_status
 
--- the number that was refused is told in its own place
+-- the number that was rejected is in its own field
 size_is_no_code : ¬ (Reports [] (answer 4 0 5 0 0 0) (invalid_size 5))
 size_is_no_code h = omega (arith, h.is_size)
 
@@ -189,7 +189,7 @@ empty_verdict = (zeros ++ 0 ∷ [], [], empty_form, omega arith, refl)
 
 -- ---- a pair
 
--- what stands behind the form is not taken
+-- what follows the form is not consumed
 takes_form : ConsumesForm (accepted (pair 0 [])) (zeros ++ 0 ∷ 7 ∷ []) 9
 takes_form = empty_form
 
@@ -201,12 +201,12 @@ takes_no_part_of_form : ¬ (ConsumesForm (accepted (pair 0 [])) (zeros ++ 0 ∷ 
 takes_no_part_of_form h =
     omega (arith, ap (λ (z : List ℕ). length z) h.spelled, h.is_code.eight, length-append h.code (0 ∷ []))
 
--- ---- no size is refused
+-- ---- no size is rejected
 
 takes_no_size : (size taken : ℕ) (bytes : List ℕ) → ¬ (ConsumesForm (invalid_size size) bytes taken)
 takes_no_size size taken bytes h = h
 
--- a size that is a byte is not too large, and a larger number is no byte
+-- a size of one byte is never too large, and a larger number has no byte
 no_byte_is_too_large : (size : ℕ) → ¬ (HasScaleVerdict 255 (zeros ++ 255 ∷ []) (invalid_size size))
 no_byte_is_too_large size = byte_fits (zeros ++ 255 ∷ []) size (all_below 256 (zeros ++ 255 ∷ []) refl)
 
@@ -239,9 +239,9 @@ takes_no_other_code h =
 takes_no_varint : (f : VarintError) (taken : ℕ) (bytes : List ℕ) → ¬ (ConsumesForm (malformed f) bytes taken)
 takes_no_varint f taken bytes h = h
 
--- ---- an early end
+-- ---- truncated input
 
--- nothing of a code that is cut
+-- nothing of a truncated code
 takes_nothing : ConsumesForm unexpected_eof (0 ∷ 0 ∷ 0 ∷ 0 ∷ 0 ∷ 0 ∷ 0 ∷ []) 0
 takes_nothing = record { no_code = λ cut. refl; code = λ whole. absurd (omega (arith, whole)); size = λ more. absurd (omega (arith, more)) }
 
@@ -250,7 +250,7 @@ takes_code_alone : ConsumesForm unexpected_eof zeros 8
 takes_code_alone =
     record { no_code = λ cut. absurd (omega (arith, cut)); code = λ whole. refl; size = λ more. absurd (omega (arith, more)) }
 
--- the code and the size, and nothing of a digest that is cut
+-- the code and the size, and nothing of a truncated digest
 takes_cut_digest : ConsumesForm unexpected_eof (zeros ++ 2 ∷ 7 ∷ []) 9
 takes_cut_digest =
     record { no_code = λ cut. absurd (omega (arith, cut)); code = λ whole. absurd (omega (arith, whole)); size = λ more. refl }

@@ -45,13 +45,13 @@ module _ (IsForm : Pair → List ℕ → Type 0) (p : Pair) (short : length p.di
         no_room = λ less. (refused, kept);
       })
 
--- ---- varints and a digest, put into a writer that keeps its slice
+-- ---- varints and a digest, written to a `SliceWriter`
 
--- what holds of each Ok holds of what was unwrapped
+-- what holds of each Ok holds of the unwrapped value
 pub of_ok : {T E : Type 0} (P : T → Type 0) (r : Result T E) (t : T) → r ≡ Ok t → IfOk r P → P t
 of_ok P r t same known = subst (λ x. IfOk x P) same known
 
--- a varint is written where a place is left for each of its bytes: the first fact is the clause `err` of `varint::write`
+-- a varint is written if there is enough capacity: the first fact is the clause `err` of `varint::write`
 pub varint_has_room : (n : ℕ) (old new : SliceWriter) (r : Result ℕ Refusal)
     → IfErr r (λ e. (IsInvalidCode n e × (varint_limit ≤ n) × (new ≡ old))
     ⊎ (IsIo (IsWriterFaultOrFull false 0 0 (IsFilled new)) e × ((bytes : List ℕ) × IsVarint n bytes × AppendsPrefix Fills old bytes new)))
@@ -67,7 +67,7 @@ parts_long p bytes a b e is_code is_size =
     ap length (encoding_same p bytes (a ++ (b ++ p.digest)) e (encoding_of_parts p p.code (length p.digest) p.digest a b refl refl refl is_code is_size))
     ∙ sym (length-parts a b p.digest)
 
--- what a writer was given that had written nothing before stands at the front of its places
+-- the first bytes written to a writer are at the front of its buffer
 pub stands_at_front : (buffer : List ℕ) (old new : SliceWriter) (bytes : List ℕ) → old.filled ≡ 0 → old.buffer.now ≡ buffer
     → Fills old bytes new → new.buffer.now ≡ bytes ++ drop (length bytes) buffer
 stands_at_front buffer old new bytes none kept h =

@@ -1,4 +1,4 @@
--- What known encodings tell a C caller and put in a buffer, and what no encoding tells.
+-- What encoding known pairs returns to a C caller and writes to a buffer, and what no encoding returns.
 use Rattle.std.proofs.Common.{◌≡◌, ℕ, List, [], ◌∷◌, length, get_or, replicate, refl, sym, ap, ◌∙◌, subst, arith}
 use Rattle.multihash.specs.Varint.{IsVarint}
 use Rattle.multihash.specs.Encoding.{IsEncoding}
@@ -49,17 +49,17 @@ large_code_has_no_bytes h = omega (arith, h.no_length)
 
 -- ---- bytes in a buffer
 
--- the place behind them is as it was
+-- the byte after them is unchanged
 puts_in_front : IsPut (1 ∷ 2 ∷ []) (answer 0 0 2) (7 ∷ 8 ∷ 9 ∷ []) (1 ∷ 2 ∷ 9 ∷ [])
 puts_in_front =
     record { is_length = refl; no_size = refl; fits = λ room. (refl, refl); no_room = λ short. absurd (omega (arith, short)) }
 
--- as many places as bytes are enough
+-- a capacity of as many bytes is enough
 puts_in_all : IsPut (1 ∷ 2 ∷ []) (answer 0 0 2) (7 ∷ 8 ∷ []) (1 ∷ 2 ∷ [])
 puts_in_all =
     record { is_length = refl; no_size = refl; fits = λ room. (refl, refl); no_room = λ short. absurd (omega (arith, short)) }
 
--- one place is too few: it keeps what it holds, and the count is told
+-- a capacity of 1 is too small: the byte is unchanged, and the length is returned
 has_no_room : IsPut (1 ∷ 2 ∷ []) (answer 7 0 2) (7 ∷ []) (7 ∷ [])
 has_no_room =
     record { is_length = refl; no_size = refl; fits = λ room. absurd (omega (arith, room)); no_room = λ short. (refl, refl) }
@@ -67,7 +67,7 @@ has_no_room =
 counts_no_fewer : ¬ (IsPut (1 ∷ 2 ∷ []) (answer 0 0 1) (7 ∷ 8 ∷ 9 ∷ []) (1 ∷ 2 ∷ 9 ∷ []))
 counts_no_fewer h = omega (arith, h.is_length)
 
--- nor the places of the buffer
+-- nor the capacity of the buffer
 counts_no_places : ¬ (IsPut (1 ∷ 2 ∷ []) (answer 0 0 3) (7 ∷ 8 ∷ 9 ∷ []) (1 ∷ 2 ∷ 9 ∷ []))
 counts_no_places h = omega (arith, h.is_length)
 
@@ -80,7 +80,7 @@ names_no_size h = omega (arith, h.no_size)
 names_no_size_without_room : ¬ (IsPut (1 ∷ 2 ∷ []) (answer 7 2 2) (7 ∷ []) (7 ∷ []))
 names_no_size_without_room h = omega (arith, h.no_size)
 
--- bytes that fit are not refused, whether or not they are written
+-- bytes that fit are not rejected, whether or not they are written
 rejects_none_that_fit : ¬ (IsPut (1 ∷ 2 ∷ []) (answer 7 0 2) (7 ∷ 8 ∷ []) (1 ∷ 2 ∷ []))
 rejects_none_that_fit h = omega (arith, (h.fits (omega arith)).0)
 
@@ -104,11 +104,11 @@ keeps_the_places_after h = omega (arith, ap (λ (z : List ℕ). get_or z 2 0) (h
 keeps_every_place : ¬ (IsPut (1 ∷ 2 ∷ []) (answer 0 0 2) (7 ∷ 8 ∷ 9 ∷ []) (1 ∷ 2 ∷ []))
 keeps_every_place h = omega (arith, ap (λ (z : List ℕ). length z) (h.fits (omega arith)).1)
 
--- without room the call has not done what it was asked for
+-- without enough capacity the call has not succeeded
 is_not_ok_without_room : ¬ (IsPut (1 ∷ 2 ∷ []) (answer 0 0 2) (7 ∷ []) (7 ∷ []))
 is_not_ok_without_room h = omega (arith, (h.no_room (omega arith)).0)
 
--- it is the room that is missing
+-- the error is that of the capacity
 rejects_no_size_without_room : ¬ (IsPut (1 ∷ 2 ∷ []) (answer 4 0 2) (7 ∷ []) (7 ∷ []))
 rejects_no_size_without_room h = omega (arith, (h.no_room (omega arith)).0)
 
@@ -116,7 +116,7 @@ rejects_no_size_without_room h = omega (arith, (h.no_room (omega arith)).0)
 writes_none_without_room : ¬ (IsPut (1 ∷ 2 ∷ []) (answer 7 0 2) (7 ∷ []) (1 ∷ []))
 writes_none_without_room h = omega (arith, ap (λ (z : List ℕ). get_or z 0 0) (h.no_room (omega arith)).1)
 
--- no places are no room either
+-- a capacity of 0 is too small as well
 has_no_places : IsPut (1 ∷ 2 ∷ []) (answer 7 0 2) [] []
 has_no_places =
     record { is_length = refl; no_size = refl; fits = λ room. absurd (omega (arith, room)); no_room = λ short. (refl, refl) }
@@ -127,23 +127,23 @@ is_not_ok_without_places h = omega (arith, (h.no_room (omega arith)).0)
 makes_no_places : ¬ (IsPut (1 ∷ 2 ∷ []) (answer 7 0 2) [] (1 ∷ 2 ∷ []))
 makes_no_places h = omega (arith, ap (λ (z : List ℕ). length z) (h.no_room (omega arith)).1)
 
--- ---- bytes of which a fact holds
+-- ---- bytes that satisfy a predicate
 
 puts_two_bytes : Puts (λ bytes. length bytes ≡ 2) (answer 0 0 2) (7 ∷ 8 ∷ 9 ∷ []) (1 ∷ 2 ∷ 9 ∷ [])
 puts_two_bytes = (1 ∷ 2 ∷ [], refl, puts_in_front)
 
--- the fact holds of the bytes that were put
+-- the bytes that were written satisfy it
 puts_no_three_bytes : ¬ (Puts (λ bytes. length bytes ≡ 3) (answer 0 0 2) (7 ∷ 8 ∷ 9 ∷ []) (1 ∷ 2 ∷ 9 ∷ []))
 puts_no_three_bytes (bytes, three, put) = omega (arith, three, put.is_length)
 
--- which were put
+-- and they were written
 puts_what_it_reports : ¬ (Puts (λ bytes. bytes ≡ 1 ∷ 2 ∷ []) (answer 7 0 2) (7 ∷ []) (1 ∷ []))
 puts_what_it_reports (bytes, is, put) =
     omega (arith, ap (λ (z : List ℕ). get_or z 0 0) (put.no_room (omega (arith, ap (λ (z : List ℕ). length z) is))).1)
 
--- ---- a length from the numbers alone
+-- ---- the length of an encoding
 
--- a byte of each varint, and the digest's
+-- one byte of each varint, and the digest's
 reports_length : ReportsLength 0 1 (answer 0 0 3)
 reports_length = record {
   is_ok = refl;

@@ -14,12 +14,12 @@ use Rattle.multihash_c.specs.declared.decode.Decoded.{Decoded}
 use Rattle.multihash_c.specs.Decoded.{Reports, ReadsWithin}
 use Rattle.multihash.proofs.Varints.VarintWriteLemmas.{one_byte}
 
--- what begins a beginning begins the whole
+-- a prefix of a prefix is a prefix
 pub begins_whole : (front middle whole : List ℕ) → IsPrefix front middle → IsPrefix middle whole → IsPrefix front whole
 begins_whole front middle whole (rest, cut) (more, whole_cut) =
     (rest ++ more, whole_cut ∙ ap (λ (z : List ℕ). z ++ more) cut ∙ append_assoc front rest more)
 
--- an input has one verdict, so it is not both an early end and none
+-- an input has one verdict, so it is not both incomplete and complete
 other_kind : (S : ℕ) (x : List ℕ) (v w : Verdict) → HasVerdict S x v → HasVerdict S x w → IsIncomplete w → ¬ (IsIncomplete v) → ⊥
 other_kind S x v w has also early late = late (subst IsIncomplete (verdict_unique S x w v also has) early)
 
@@ -47,7 +47,7 @@ module _ (limit code size len : ℕ) (input : List ℕ) (h : HasHead code size l
         cut = λ also. absurd (other_kind limit input (invalid_size size) unexpected_eof has also tt (λ e. e));
       }
 
-  -- a digest that is cut
+  -- a truncated digest
   pub end_read : size ≤ digest_limit limit → length input - len < size → d.taken ≡ len → Reports input d unexpected_eof → ReadsWithin limit input d
   end_read within short at tells =
       let has : HasVerdict limit input unexpected_eof =
@@ -88,7 +88,7 @@ module _ (limit code size len : ℕ) (input : List ℕ) (h : HasHead code size l
         cut = λ also. absurd (other_kind limit input (accepted p) unexpected_eof has also tt (λ e. e));
       }
 
--- where no two varints begin the input, a beginning settles for each limit or for none
+-- if two varints are not at the front, a prefix settles for each limit or for none
 pub settles_alike : (A B : ℕ) (f : VarintError) (x front : List ℕ) → ((S : ℕ) → HasVerdict S x (malformed f)) → IsPrefix front x → Settles A front
     → Settles B front
 settles_alike A B f x front has (rest, cut) s =
@@ -111,7 +111,7 @@ module _ (f : VarintError) (input : List ℕ) (has : (S : ℕ) → HasVerdict S 
         (settles_alike limit 0 f input shorter has (begins_whole shorter front input (strict.0, strict.2) s.begins) settles);
   }
 
-  -- what reading for an empty buffer took is what reading for any takes
+  -- reading at capacity 0 consumes what reading at each capacity does
   pub fault_read : (d : Decoded) → Reports input d (malformed f) → d.taken ≤ length input
       → (¬ (IsIncomplete (malformed f)) → ConsumesShortestSettling 0 input (Some (drop d.taken input)))
       → (f ≡ insufficient → d.taken ≡ length input) → ReadsWithin limit input d

@@ -1,4 +1,4 @@
--- What reading known inputs returns and consumes, for digests of at most four bytes, and of their fronts.
+-- What reading known inputs returns and consumes, for digests of at most four bytes, and their heads.
 use Rattle.std.proofs.Common.{◌≡◌, ℕ, List, [], ◌∷◌, ◌++◌, length, drop, refl, sym, ap, subst, arith, inl, length-drop, ◌∙◌, inr}
 use Rattle.multihash.specs.Varint.{insufficient, not_minimal, BeginsMalformed, VarintError, overflow}
 use Rattle.multihash.specs.Verdict.{BeginsWith, accepted, invalid_size, malformed, unexpected_eof, HasVerdict}
@@ -31,14 +31,14 @@ large_head = record { within = omega arith; varints = size_5 (9 ∷ []); is_code
 size_named : Reports large (answer 4 5 0 0 0 2) (invalid_size 5)
 size_named = record { is_status = refl; is_size = refl; is_code = refl; no_offset = refl; no_length = refl }
 
--- both varints, and nothing behind them
+-- both varints, and nothing after them
 reads_size : ReadsWithin 4 large (answer 4 5 0 0 0 2)
 reads_size = size_read 4 0 5 2 large large_head (answer 4 5 0 0 0 2) (omega arith) refl size_named
 
 pub large_verdict : HasVerdict 4 large (invalid_size 5)
 large_verdict = (9 ∷ [], size_5 (9 ∷ []), omega arith)
 
--- the code 0, one byte of a digest, and what stands behind it
+-- the code 0, one byte of a digest, and a trailing byte
 pair_head : HasHead 0 1 2 input
 pair_head = record {
   within = omega arith;
@@ -100,7 +100,7 @@ reads_insufficient input has =
 reads_nothing : ReadsWithin 4 [] (answer 1 0 0 0 0 0)
 reads_nothing = reads_insufficient [] (λ S. empty_input)
 
--- the verdict on no bytes is told too
+-- the verdict on no bytes is returned too
 reads_nothing_as_no_end : ¬ (ReadsWithin 4 [] (answer 6 0 0 0 0 0))
 reads_nothing_as_no_end h =
     let (v, has, tells) = h.verdict in
@@ -114,7 +114,7 @@ reads_code_alone = reads_insufficient (0 ∷ []) (λ S. code_alone)
 reads_open_size : ReadsWithin 4 (0 ∷ 0x85 ∷ []) (answer 1 0 0 0 0 2)
 reads_open_size = reads_insufficient (0 ∷ 0x85 ∷ []) (λ S. size_open)
 
--- a varint that a zero ends, and a byte behind it
+-- a varint that ends in a zero byte, and a trailing byte
 abbrev pub padded : List ℕ
 padded = 0x80 ∷ 0x00 ∷ 0x07 ∷ []
 
@@ -164,11 +164,11 @@ reads_no_size_that_fits h =
     subst (Reports large (answer 4 5 0 0 0 2)) (verdict_unique 5 large v unexpected_eof has waits) tells in
     omega (arith, told.is_status)
 
--- no more is taken than there is, though none is left behind it
+-- at most the whole input is consumed
 reads_inside : ¬ (ReadsWithin 4 (0 ∷ 5 ∷ []) (answer 4 5 0 0 0 3))
 reads_inside h = omega (arith, h.inside)
 
--- nothing behind what settles
+-- nothing after the prefix that settles
 reads_no_byte_more : ¬ (ReadsWithin 4 large (answer 4 5 0 0 0 3))
 reads_no_byte_more h = takes_no_byte_after_size (h.settled (invalid_size 5) large_verdict (λ early. early))
 
@@ -222,14 +222,14 @@ reads_no_byte_after_fault h =
       ap (λ (z : List ℕ). length z) (taken_is padded [] t.front t.consumes),
     )
 
--- nothing of an insufficient input is left
+-- all of an insufficient input is consumed
 pub reads_no_part_of_insufficient : ¬ (ReadsWithin 4 (0 ∷ []) (answer 1 0 0 0 0 0))
 reads_no_part_of_insufficient h = omega (arith, h.insufficient code_alone)
 
 reads_no_code_of_open_size : ¬ (ReadsWithin 4 (0 ∷ 0x85 ∷ []) (answer 1 0 0 0 0 1))
 reads_no_code_of_open_size h = omega (arith, h.insufficient size_open)
 
--- the head of the cut digest has two bytes
+-- the head of the truncated digest has two bytes
 pub cut_head_is : (code size len : ℕ) → HasHead code size len cut → len ≡ 2
 cut_head_is code size len h =
     let has = h.varints in
@@ -244,7 +244,7 @@ cut_head_is code size len h =
 reads_end_at_head : (taken : ℕ) → ReadsWithin 4 cut (answer 6 0 0 0 0 taken) → taken ≡ 2
 reads_end_at_head taken h = let (code, size, head) = h.cut digest_cut in cut_head_is code size taken head
 
--- of a cut digest not nothing, nor the code alone, nor a byte of the digest, nor all
+-- of a truncated digest both varints are consumed: not none, not the code alone, and no byte of the digest
 reads_no_end_before_head : ¬ (ReadsWithin 4 cut (answer 6 0 0 0 0 0))
 reads_no_end_before_head h = omega (arith, reads_end_at_head 0 h)
 
@@ -265,7 +265,7 @@ front status code digest_length taken =
 
 -- ---- both varints
 
--- of any digest the length is told, also of one that is not there
+-- the length of any digest is returned, also of one that is missing
 reports_head : ReportsHead large (front 0 0 5 2)
 reports_head = record { is_ok = refl; has = large_head }
 
@@ -302,7 +302,7 @@ head_takes_no_digest h = omega (arith, (head_is 0 5 3 h.has).2)
 head_takes_its_size : ¬ (ReportsHead large (front 0 0 5 1))
 head_takes_its_size h = omega (arith, (head_is 0 5 1 h.has).2)
 
--- ---- a fault
+-- ---- a malformed varint
 
 reports_fault : ReportsError padded (front 3 0 0 2)
 reports_fault = record {
@@ -319,7 +319,7 @@ reports_fault = record {
 head_reads_fault : ReadsFront padded (front 3 0 0 2)
 head_reads_fault = inr reports_fault
 
--- a code with no size is all taken
+-- a code with no size is consumed whole
 head_reports_insufficient : ReportsError (0 ∷ []) (front 1 0 0 1)
 head_reports_insufficient = record {
   fault = insufficient;
@@ -344,7 +344,7 @@ fault_takes_no_byte_after_it h = reads_no_byte_after_fault (h.reads 4)
 insufficient_takes_all : ¬ (ReportsError (0 ∷ []) (front 1 0 0 0))
 insufficient_takes_all h = reads_no_part_of_insufficient (h.reads 4)
 
--- the fault is the one that begins the input
+-- the error is that of the varint at the front
 fault_has_its_status : ¬ (ReportsError padded (front 2 0 0 2))
 fault_has_its_status h =
     let (v, has, tells) = (h.reads 4).verdict in
@@ -352,7 +352,7 @@ fault_has_its_status h =
     subst (Reports padded (answer 2 0 0 0 0 2)) (verdict_unique 4 padded v (malformed not_minimal) has (inl (padded_front (0x07 ∷ [])))) tells in
     omega (arith, told.is_status)
 
--- a size that is too long for a limit is no fault of a varint
+-- a size above the limit is no error of a varint
 size_is_no_fault : ¬ (ReportsError large (front 4 0 0 2))
 size_is_no_fault h = no_status h.fault h.is_status
   where

@@ -32,7 +32,7 @@ text_of_no_room text h = h.no_room refl
 text_of_none : (text : List ℕ) → IsStatusText 8 text → text ≡ codes "unknown status"
 text_of_none text h = h.unknown (omega arith)
 
--- a text that is one
+-- the text of no status
 no_fault_is_8 : (f : VarintError) → ¬ (8 ≡ status_of_fault f)
 no_fault_is_8 insufficient e = omega (arith, e)
 no_fault_is_8 overflow e = omega (arith, e)

@@ -3,7 +3,7 @@ use Rattle.std.proofs.lemmas.Bool.{false≢true}
 use Rattle.multihash_c.proofs.DecodedLemmas.{size_reported, code_reported, end_reported}
 use Rattle.multihash_c.proofs.decode.refuse.Goals as goal
 
--- what a test denies is not so
+-- a test that returned false is false
 denied : {P : Type 0} (b : Bool) → (IsTrue b ↔ P) → b ≡ false → ¬ P
 denied b test is h = false≢true (sym is ∙ test.1 h)
 

@@ -1,4 +1,4 @@
--- The bytes so far stand at the front, and behind them the places as they were.
+-- The bytes so far are at the front, and the bytes after them are unchanged.
 use Rattle.std.proofs.Common.{◌≡◌, ◌++◌, take, drop}
 use Rattle.multihash_c.proofs.encode.put_each.Given as goal
 
