@@ -1,3 +1,4 @@
+pub mod CheckVectors
 pub mod OutcomeOfLemmas
 pub mod ListedVectors
 pub mod ScaleOutcomeLemmas

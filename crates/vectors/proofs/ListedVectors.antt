@@ -1,15 +1,13 @@
--- What known lines of a list say, and what they don't.
+-- What known lines of test vectors state, and what they do not.
 use Rattle.std.proofs.Common.{◌≡◌, ℕ, List, [], ◌∷◌, ◌++◌, Option, None, Some, true, false, length, refl, sym, ap, ◌∙◌, subst, arith, inl, inr, length-append}
 use Rattle.std.specs.Prelude.{codes}
-use Rattle.std.proofs.lemmas.List.Elements.{All-head}
 use Rattle.hex.specs.Hex.{decode_pairs}
 use Rattle.multihash.specs.Bytes.{IsStrictPrefix, place_value}
 use Rattle.multihash.specs.Varint.{insufficient, overflow, not_minimal}
-use Rattle.multihash.specs.Verdict.{accepted, invalid_size, invalid_code, malformed, unexpected_eof, HasWholeVerdict}
+use Rattle.multihash.specs.Verdict.{accepted, invalid_size, invalid_code, malformed, unexpected_eof}
 use Rattle.multihash.specs.Scale.{IsScaleCode, HasScaleVerdict}
-use Rattle.multihash.proofs.Varints.DigitLemmas.{All-append_right}
 use Rattle.multihash.proofs.Writings.WritingLemmas.{length_of_not_nil}
-use Rattle.multihash.proofs.Readings.VerdictLemmas.{verdict_unique, whole_verdict_unique}
+use Rattle.multihash.proofs.Readings.VerdictLemmas.{verdict_unique}
 use Rattle.multihash.proofs.Forms.ScaleLemmas.{scale_verdict_unique}
 use Rattle.multihash.proofs.Readings.SettlingLemmas.{shortest_unique}
 use Rattle.multihash.proofs.Examples.BytesVectors.{all_below}
@@ -17,16 +15,12 @@ use Rattle.multihash.proofs.Examples.PairVectors.{pair}
 use Rattle.multihash.proofs.Examples.VerdictVectors.{size_5, size_named, code_named, shortest_of_size}
 use Rattle.multihash.proofs.Examples.ScaleVectors.{zeros, all_255, scale_eight_bytes, scale_size_first, scale_size_after}
 use Rattle.vectors.proofs.ScaleOutcomeLemmas.{size_shortest}
-use Rattle.vectors.specs.declared.check.Check.{Check}
-use Rattle.vectors.specs.declared.check.Check.TheVariants.{FromBytes, ReadSlice, ReadOneByte, ReadTwoBytes, ReadThreeBytes, ScaleSlice, ScaleOneByte, ScaleFourBytes, FromValue}
-use Rattle.vectors.specs.declared.line.Line.{Line}
 use Rattle.vectors.specs.declared.line.Reading.{Reading}
-use Rattle.vectors.specs.declared.verdict.Verdict.{Verdict}
 use Rattle.vectors.specs.declared.verdict.Verdict.TheVariants.{Pair as Listed, InvalidSize, InvalidCode, Insufficient, Overflow, NotMinimal, UnexpectedEof}
-use Rattle.vectors.specs.Listed.{ListsBytes, meaning, SettlesAfter, IsConsumed, IsReading, DecodesAfter, IsScaleConsumed, IsScaleReading, ends_varint, ConsumesEnough, ConsumesAsReadListed, ConsumesAsScaleListed, IsRight, AreRightFor, AreRight}
+use Rattle.vectors.specs.Listed.{ListsBytes, meaning, SettlesAfter, IsConsumed, IsReading, DecodesAfter, IsScaleConsumed, IsScaleReading, ends_varint, ConsumesEnough, ConsumesAsReadListed, ConsumesAsScaleListed}
 use Rattle.multihash.proofs.Writings.EncodingLemmas.{same_cut}
 
--- ---- words of a line
+-- ---- columns of a line
 
 dash_names_nothing : ListsBytes (codes "-") []
 dash_names_nothing = inl (refl, refl)
@@ -76,14 +70,14 @@ settles_after_no_other count other h =
     other (sym h.long ∙ ap (λ (z : List ℕ). length z)
     (shortest_unique 4 (0 ∷ 5 ∷ 9 ∷ []) h.front (0 ∷ 5 ∷ []) h.shortest shortest_of_size))
 
--- no count is listed of an early end, and of nothing else
-taken_of_incomplete : IsConsumed 4 [] (malformed insufficient) None
-taken_of_incomplete = tt
+-- no count is listed for incomplete input, and only for that
+count_of_incomplete : IsConsumed 4 [] (malformed insufficient) None
+count_of_incomplete = tt
 
 no_count_of_size : ¬ (IsConsumed 4 (0 ∷ 5 ∷ 9 ∷ []) (invalid_size 5) None)
 no_count_of_size h = h
 
-abbrev size_after : ℕ → Option ℕ → Reading
+abbrev pub size_after : ℕ → Option ℕ → Reading
 size_after size consumed = record { verdict = InvalidSize size; consumed = consumed }
 
 reading_of_size : IsReading 4 (0 ∷ 5 ∷ 9 ∷ []) (size_after 5 (Some 2))
@@ -99,7 +93,7 @@ no_reading_of_other_size h =
           (9 ∷ [], size_5 (9 ∷ []), omega arith)),
     )
 
-no_reading_after_three : ¬ (IsReading 4 (0 ∷ 5 ∷ 9 ∷ []) (size_after 5 (Some 3)))
+pub no_reading_after_three : ¬ (IsReading 4 (0 ∷ 5 ∷ 9 ∷ []) (size_after 5 (Some 3)))
 no_reading_after_three h = settles_after_no_other 3 (λ e. omega (arith, e)) h.consumed
 
 no_reading_without_count : ¬ (IsReading 4 (0 ∷ 5 ∷ 9 ∷ []) (size_after 5 None))
@@ -108,7 +102,7 @@ no_reading_without_count h = h.consumed
 abbrev code_after : ℕ → Option ℕ → Reading
 code_after code consumed = record { verdict = InvalidCode code; consumed = consumed }
 
--- reading refuses no code
+-- reading rejects no code
 no_reading_of_code : (S : ℕ) (input : List ℕ) (code : ℕ) (consumed : Option ℕ)
     → ¬ (IsReading S input (code_after code consumed))
 no_reading_of_code S input code consumed h = h.verdict
@@ -144,7 +138,7 @@ decodes_after_no_ten h =
     (invalid_size 5) ends scale_size_first in
     cc
 
--- nor is the size's own byte left out
+-- nor is a prefix long enough that lacks the byte of the size
 decodes_after_no_eight : ¬ (DecodesAfter 4 (zeros ++ 5 ∷ 7 ∷ []) 8)
 decodes_after_no_eight h =
     let (rest, cut) = h.begins in
@@ -152,7 +146,7 @@ decodes_after_no_eight h =
     h.late (scale_verdict_unique 4 zeros h.verdict unexpected_eof
     (subst (λ (z : List ℕ). HasScaleVerdict 4 z h.verdict) whole h.decodes) scale_eight_bytes)
 
--- what ends early decodes after no byte
+-- incomplete input decodes after no number of bytes
 decodes_no_incomplete : ¬ (DecodesAfter 4 zeros 8)
 decodes_no_incomplete h =
     let (rest, cut) = h.begins in
@@ -169,7 +163,7 @@ no_scale_reading_without_count h = let e = h.1 in cc
 no_scale_reading_after_ten : ¬ (IsScaleReading 4 (zeros ++ 5 ∷ 7 ∷ []) (size_after 5 (Some 10)))
 no_scale_reading_after_ten h = decodes_after_no_ten h.1
 
-no_scale_reading_of_other_size : ¬ (IsScaleReading 4 (zeros ++ 5 ∷ 7 ∷ []) (size_after 6 (Some 9)))
+pub no_scale_reading_of_other_size : ¬ (IsScaleReading 4 (zeros ++ 5 ∷ 7 ∷ []) (size_after 6 (Some 9)))
 no_scale_reading_of_other_size h =
     omega (
       arith,
@@ -206,7 +200,7 @@ decodes_after_eight = record {
   long = refl;
 }
 
--- the size isn't waited for
+-- the byte of the size is not needed
 decodes_after_no_nine : ¬ (DecodesAfter 4 (all_255 ++ 5 ∷ []) 9)
 decodes_after_no_nine h =
     let (rest, cut) = h.begins in
@@ -236,34 +230,34 @@ no_scale_reading_of_other_code h =
           (invalid_code 18446744073709551615) h.0 (code_above (5 ∷ []))),
     )
 
--- the code is refused before the size
+-- the code is rejected before the size is read
 no_scale_reading_of_size_first : ¬ (IsScaleReading 4 (all_255 ++ 5 ∷ []) (size_after 5 (Some 9)))
 no_scale_reading_of_size_first h = decodes_after_no_nine h.1
 
 scale_cut_has_no_count : IsScaleConsumed 4 (zeros ++ 3 ∷ 0xaa ∷ 0xbb ∷ []) unexpected_eof None
 scale_cut_has_no_count = refl
 
--- ---- what was taken
+-- ---- what was consumed
 
 digit_ends_varint : ends_varint 127 ≡ true
 digit_ends_varint = refl
 
-mark_ends_no_varint : ends_varint 128 ≡ false
-mark_ends_no_varint = refl
+continuation_byte_ends_no_varint : ends_varint 128 ≡ false
+continuation_byte_ends_no_varint = refl
 
-takes_all_of_an_open_varint : ConsumesEnough (malformed insufficient) (0x80 ∷ []) []
-takes_all_of_an_open_varint = refl
+consumes_all_of_an_open_varint : ConsumesEnough (malformed insufficient) (0x80 ∷ []) []
+consumes_all_of_an_open_varint = refl
 
 leaves_none_of_an_open_varint : ¬ (ConsumesEnough (malformed insufficient) (0x80 ∷ []) (0x80 ∷ []))
 leaves_none_of_an_open_varint h = omega (arith, ap (λ (z : List ℕ). length z) h)
 
-takes_both_varints : ConsumesEnough unexpected_eof (0 ∷ 4 ∷ 1 ∷ []) (1 ∷ [])
-takes_both_varints = omega arith
+consumes_both_varints : ConsumesEnough unexpected_eof (0 ∷ 4 ∷ 1 ∷ []) (1 ∷ [])
+consumes_both_varints = omega arith
 
 leaves_no_size : ¬ (ConsumesEnough unexpected_eof (0 ∷ 4 ∷ 1 ∷ []) (4 ∷ 1 ∷ []))
 leaves_no_size h = omega (arith, h)
 
--- two bytes of one varint aren't both varints
+-- two bytes of one varint are not two varints
 leaves_no_size_after_two_bytes : ¬
     (ConsumesEnough unexpected_eof (0x80 ∷ 1 ∷ 4 ∷ 1 ∷ []) (4 ∷ 1 ∷ []))
 leaves_no_size_after_two_bytes h = omega (arith, h)
@@ -283,125 +277,37 @@ enough_of_no_padding h = h
 enough_of_no_pair : ¬ (ConsumesEnough (accepted (pair 0 [])) [] [])
 enough_of_no_pair h = h
 
-takes_as_listed : ConsumesAsReadListed (0 ∷ 5 ∷ 9 ∷ []) (9 ∷ []) (size_after 5 (Some 2))
-takes_as_listed = ((λ early. early), refl)
+consumes_as_listed : ConsumesAsReadListed (0 ∷ 5 ∷ 9 ∷ []) (9 ∷ []) (size_after 5 (Some 2))
+consumes_as_listed = ((λ early. early), refl)
 
-takes_no_other_count : ¬ (ConsumesAsReadListed (0 ∷ 5 ∷ 9 ∷ []) [] (size_after 5 (Some 2)))
-takes_no_other_count h = omega (arith, h.1)
+consumes_no_other_count : ¬ (ConsumesAsReadListed (0 ∷ 5 ∷ 9 ∷ []) [] (size_after 5 (Some 2)))
+consumes_no_other_count h = omega (arith, h.1)
 
-takes_no_count_of_incomplete : ¬ (ConsumesAsReadListed (0x80 ∷ []) [] (record {
+consumes_no_count_of_incomplete : ¬ (ConsumesAsReadListed (0x80 ∷ []) [] (record {
   verdict = Insufficient;
   consumed = Some 1;
 }))
-takes_no_count_of_incomplete h = h.0 tt
+consumes_no_count_of_incomplete h = h.0 tt
 
 lists_a_count_of_size : ¬ (ConsumesAsReadListed (0 ∷ 5 ∷ 9 ∷ []) (9 ∷ []) (size_after 5 None))
 lists_a_count_of_size h = h
 
-decoding_takes_as_listed : ConsumesAsScaleListed (zeros ++ 5 ∷ 7 ∷ []) (7 ∷ []) (size_after 5 (Some 9))
-decoding_takes_as_listed = ((λ e. cc), refl)
+decoding_consumes_as_listed : ConsumesAsScaleListed (zeros ++ 5 ∷ 7 ∷ []) (7 ∷ []) (size_after 5 (Some 9))
+decoding_consumes_as_listed = ((λ e. cc), refl)
 
-decoding_takes_eight_of_code : ConsumesAsScaleListed (all_255 ++ 5 ∷ []) (5 ∷ [])
+decoding_consumes_eight_of_code : ConsumesAsScaleListed (all_255 ++ 5 ∷ []) (5 ∷ [])
     (code_after 18446744073709551615 (Some 8))
-decoding_takes_eight_of_code = ((λ e. cc), refl)
+decoding_consumes_eight_of_code = ((λ e. cc), refl)
 
-decoding_takes_no_nine_of_code : ¬ (ConsumesAsScaleListed (all_255 ++ 5 ∷ []) []
+decoding_consumes_no_nine_of_code : ¬ (ConsumesAsScaleListed (all_255 ++ 5 ∷ []) []
     (code_after 18446744073709551615 (Some 8)))
-decoding_takes_no_nine_of_code h = omega (arith, h.1)
+decoding_consumes_no_nine_of_code h = omega (arith, h.1)
 
-decoding_takes_no_other_count : ¬ (ConsumesAsScaleListed (zeros ++ 5 ∷ 7 ∷ []) [] (size_after 5 (Some 9)))
-decoding_takes_no_other_count h = omega (arith, h.1)
+decoding_consumes_no_other_count : ¬ (ConsumesAsScaleListed (zeros ++ 5 ∷ 7 ∷ []) [] (size_after 5 (Some 9)))
+decoding_consumes_no_other_count h = omega (arith, h.1)
 
-decoding_takes_no_count_of_end : ¬ (ConsumesAsScaleListed zeros [] (record { verdict = UnexpectedEof; consumed = Some 8 }))
-decoding_takes_no_count_of_end h = h.0 refl
+decoding_consumes_no_count_of_end : ¬ (ConsumesAsScaleListed zeros [] (record { verdict = UnexpectedEof; consumed = Some 8 }))
+decoding_consumes_no_count_of_end h = h.0 refl
 
 decoding_lists_a_count_of_size : ¬ (ConsumesAsScaleListed (zeros ++ 5 ∷ []) [] (size_after 5 None))
 decoding_lists_a_count_of_size h = let e : invalid_size 5 ≡ unexpected_eof = h in cc
-
--- ---- checks: over these bytes each is right of what the grammar says, and of nothing else
-
-abbrev three : List ℕ
-three = 0 ∷ 5 ∷ 9 ∷ []
-
-no_other_whole_size : (line : Line) → line.input.items ≡ three → line.from_bytes ≡ InvalidSize 6
-    → ¬ (HasWholeVerdict 4 line.input.items (meaning line.from_bytes))
-no_other_whole_size line input says h =
-    omega (
-      arith,
-      ap size_named
-          (whole_verdict_unique 4 three (invalid_size 6) (invalid_size 5)
-          (subst (λ (v : Verdict). HasWholeVerdict 4 three (meaning v)) says
-          (subst (λ (z : List ℕ). HasWholeVerdict 4 z (meaning line.from_bytes)) input h))
-          (inl (9 ∷ [], size_5 (9 ∷ []), omega arith))),
-    )
-
-from_bytes_answers_no_other : (line : Line) → line.input.items ≡ three
-    → line.from_bytes ≡ InvalidSize 6 → ¬ (IsRight FromBytes 4 line)
-from_bytes_answers_no_other line input says h = no_other_whole_size line input says h
-
-from_bytes_rejects_no_code : (line : Line) (code : ℕ) → line.from_bytes ≡ InvalidCode code
-    → ¬ (IsRight FromBytes 4 line)
-from_bytes_rejects_no_code line code says h =
-    subst (λ (v : Verdict). HasWholeVerdict 4 line.input.items (meaning v)) says h
-
-from_value_answers_no_other : (line : Line) → line.input.items ≡ three
-    → line.from_bytes ≡ InvalidSize 6 → ¬ (IsRight FromValue 4 line)
-from_value_answers_no_other line input says h = no_other_whole_size line input says h
-
-no_other_count : (line : Line) → line.input.items ≡ three → line.read ≡ size_after 5 (Some 3)
-    → ¬ (IsReading 4 line.input.items line.read)
-no_other_count line input says h =
-    no_reading_after_three
-    (subst (λ (r : Reading). IsReading 4 three r) says
-    (subst (λ (z : List ℕ). IsReading 4 z line.read) input h))
-
-read_takes_no_other_count : (line : Line) → line.input.items ≡ three
-    → line.read ≡ size_after 5 (Some 3) → ¬ (IsRight ReadSlice 4 line)
-read_takes_no_other_count line input says h = no_other_count line input says h
-
-read_by_one_takes_no_other_count : (line : Line) → line.input.items ≡ three
-    → line.read ≡ size_after 5 (Some 3) → ¬ (IsRight ReadOneByte 4 line)
-read_by_one_takes_no_other_count line input says h = no_other_count line input says h
-
-read_by_two_takes_no_other_count : (line : Line) → line.input.items ≡ three
-    → line.read ≡ size_after 5 (Some 3) → ¬ (IsRight ReadTwoBytes 4 line)
-read_by_two_takes_no_other_count line input says h = no_other_count line input says h
-
-read_by_three_takes_no_other_count : (line : Line) → line.input.items ≡ three
-    → line.read ≡ size_after 5 (Some 3) → ¬ (IsRight ReadThreeBytes 4 line)
-read_by_three_takes_no_other_count line input says h = no_other_count line input says h
-
-no_other_decoded_size : (line : Line) → line.input.items ≡ zeros ++ 5 ∷ 7 ∷ []
-    → line.scale_decode ≡ size_after 6 (Some 9)
-    → ¬ (IsScaleReading 4 line.input.items line.scale_decode)
-no_other_decoded_size line input says h =
-    no_scale_reading_of_other_size
-    (subst (λ (r : Reading). IsScaleReading 4 (zeros ++ 5 ∷ 7 ∷ []) r) says
-    (subst (λ (z : List ℕ). IsScaleReading 4 z line.scale_decode) input h))
-
-decoding_answers_no_other : (line : Line) → line.input.items ≡ zeros ++ 5 ∷ 7 ∷ []
-    → line.scale_decode ≡ size_after 6 (Some 9) → ¬ (IsRight ScaleSlice 4 line)
-decoding_answers_no_other line input says h = no_other_decoded_size line input says h
-
-decoding_by_one_answers_no_other : (line : Line) → line.input.items ≡ zeros ++ 5 ∷ 7 ∷ []
-    → line.scale_decode ≡ size_after 6 (Some 9) → ¬ (IsRight ScaleOneByte 4 line)
-decoding_by_one_answers_no_other line input says h = no_other_decoded_size line input says h
-
-decoding_by_four_answers_no_other : (line : Line) → line.input.items ≡ zeros ++ 5 ∷ 7 ∷ []
-    → line.scale_decode ≡ size_after 6 (Some 9) → ¬ (IsRight ScaleFourBytes 4 line)
-decoding_by_four_answers_no_other line input says h = no_other_decoded_size line input says h
-
--- one wrong line makes a list wrong, wherever it stands
-no_list_with_a_wrong_line : (before after : List Line) (wrong : Line) → wrong.size ≡ 4
-    → wrong.input.items ≡ three → wrong.from_bytes ≡ InvalidSize 6
-    → ¬ (AreRightFor FromBytes (before ++ wrong ∷ after))
-no_list_with_a_wrong_line before after wrong size input says h =
-    from_bytes_answers_no_other wrong input says
-    (subst (λ (S : ℕ). IsRight FromBytes S wrong) size
-    (All-head (λ line. IsRight FromBytes line.size line) wrong after
-    (All-append_right (λ line. IsRight FromBytes line.size line) before (wrong ∷ after) h)))
-
--- and one check is enough, whichever it is
-right_for_each_check : (check : Check) (lines : List Line) → ¬ (AreRightFor check lines)
-    → ¬ (AreRight lines)
-right_for_each_check check lines wrong h = wrong (h check)

@@ -29,7 +29,7 @@ pub All-last : {X : Type 0} (P : X → Type 0) (xs : List X) (i : ℕ) (d : X) �
 All-last P xs i d below all =
     All-head P (get_or xs i d) [] (All-append_right P (take i xs) (get_or xs i d ∷ []) (subst (All P) (take_more xs i d below) all))
 
--- a refusal has one verdict
+-- an error has one verdict
 refusal_unique : (e : Refusal) (v w : Verdict) → IsErrorOf e v → IsErrorOf e w → v ≡ w
 refusal_unique e (accepted p) w left right = absurd left
 refusal_unique e (invalid_size a) (accepted q) left right = absurd right
@@ -53,12 +53,12 @@ refusal_unique e unexpected_eof (invalid_code b) left right = let is = left.1 in
 refusal_unique e unexpected_eof (malformed g) left right = let is = left.1 in cc
 refusal_unique e unexpected_eof unexpected_eof left right = refl
 
--- an answer has one verdict
+-- a result has one verdict
 pub answers_unique : {S : ℕ} (r : Result (Fields S) Refusal) (v w : Verdict) → IsResultOf r v → IsResultOf r w → v ≡ w
 answers_unique (Ok m) v w left right = cc
 answers_unique (Err e) v w left right = refusal_unique e v w left right
 
--- ---- what reading takes
+-- ---- what reading consumes
 
 count_append : (xs ys : List ℕ) → count_by ends_varint (xs ++ ys) ≡ count_by ends_varint xs + count_by ends_varint ys
 count_append xs ys = sum_by-append (λ x. cond (ends_varint x) 1 0) xs ys
@@ -88,7 +88,7 @@ front_taken input front left cut =
     let long : length input - length left ≡ length front = omega (arith, ap length cut, length-append front left) in
     rw (long, cut, take-append-le (length front) front left (omega arith)) (take_all (length front) front (omega arith))
 
--- what a call of `read` has to say
+-- the contract of a call of `read`
 pub record ReadCall (S : ℕ) (input left : List ℕ) (r : Result (Fields S) Refusal) : Type 0 where
   pub unique : (v w : Verdict) → HasVerdict S input v → HasVerdict S input w → v ≡ w
   pub unsettled : (v : Verdict) → HasVerdict S input v → IsIncomplete v → (front : List ℕ) → IsPrefix front input → ¬ (Settles S front)
@@ -109,7 +109,7 @@ rejected_enough S input left e h unexpected_eof is early =
     let cut : input ≡ h.consumed ++ left = cc (h.consumes) in
     rw (front_taken input h.consumed left cut) (two_varints found.0 h.consumed found.1 found.2)
 
--- an early end took as many bytes as it takes at least
+-- at a truncated input at least the stated bytes were consumed
 enough : (S : ℕ) (input left : List ℕ) (r : Result (Fields S) Refusal) → ReadCall S input left r → (v : Verdict)
     → IsResultOf r v → IsIncomplete v → ConsumesEnough v input left
 enough S input left (Ok m) d v answers early =
@@ -139,7 +139,7 @@ taken_long S input left t =
 
 -- ---- what is listed
 
--- where the answer is the listed one, the bytes taken tell whether the reading is
+-- if the result is the listed one, the reading is right exactly if the number of bytes consumed is
 read_as_listed : (S : ℕ) (input left : List ℕ) (r : Result (Fields S) Refusal) → ReadCall S input left r → (w : Verdict)
     → IsResultOf r w → HasVerdict S input w → (consumed : Option ℕ)
     → MatchOption consumed (ConsumesEnough w input left) (λ n. ¬ (IsIncomplete w) × (length input ≡ n + length left)) ↔ IsConsumed S input w consumed
@@ -168,7 +168,7 @@ reading S input left r d listed answers =
     let both = read_as_listed S input left r d w answers has listed.consumed in
     (λ t. record { verdict = has; consumed = both.0 t }, λ right. both.1 right.consumed)
 
--- where the answer is another, the reading isn't as listed
+-- if the result is another, the reading is not as listed
 pub no_reading : (S : ℕ) (input left : List ℕ) (r : Result (Fields S) Refusal) → ReadCall S input left r → (listed : Reading)
     → ¬ (IsResultOf r (meaning listed.verdict)) → ¬ (IsReading S input listed)
 no_reading S input left r d listed other right =
@@ -205,13 +205,13 @@ back (malformed overflow) = refl
 back (malformed not_minimal) = refl
 back unexpected_eof = refl
 
--- verdicts can be told apart
+-- two verdicts are equal or not
 coded_verdict : Coded Verdict
 coded_verdict =
     coded_via (coded⊎ (coded× coded_ℕ (coded_list coded_ℕ)) (coded⊎ coded_ℕ (coded⊎ coded_ℕ (coded× coded_bool coded_bool))))
     parts_of (λ v w same. sym (back v) ∙ ap verdict_of same ∙ back w)
 
--- the test of an answer to an array of the bytes tells the verdict on the bytes
+-- comparing the result for an array of the bytes with a verdict decides the verdict on the bytes
 pub value_right : (S : ℕ) (input : List ℕ) (listed : Verdict) (r : Result (Fields S) Refusal) (d : Data) → ∥ IsByteArray d input ∥₁
     → ((bytes : List ℕ) → IsByteArray d bytes → (v : Verdict) × HasWholeVerdict S bytes v × IsResultOf r v)
     → (IsBytes input → ExactlyOne (HasWholeVerdict S input)) → (b : Bool) → (IsTrue b ↔ IsResultOf r listed)

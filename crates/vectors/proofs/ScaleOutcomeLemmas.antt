@@ -1,5 +1,5 @@
--- An answer of decoding has one verdict, and a reading is as listed where its answer and the bytes
--- taken are.
+-- A result of decoding has one verdict, and a reading is as listed if its result and the number of bytes
+-- consumed are.
 use Rattle.std.proofs.Common.{◌≡◌, ◌≢◌, ◌↔◌, ℕ, ◌+◌, ◌<◌, ◌≤◌, List, [], ◌∷◌, ◌++◌, Option, None, Some, Ok, Err, IfOk, IfErr, MatchOption, Result, length, length-append, append-nil, append_assoc, arith, subst, ap, sym, ◌∙◌, refl, inl, inr}
 use Rattle.multihash.specs.Outcome.{Fields, pair_of, IsErrorOf, IsResultOf}
 use Rattle.multihash.specs.Bytes.{IsStrictPrefix}
@@ -12,7 +12,7 @@ use Rattle.multihash.proofs.Readings.SettlingLemmas.{split_prefix, compare_prefi
 use Rattle.vectors.proofs.OutcomeOfLemmas.{answers_unique}
 use Rattle.vectors.specs.Listed.{DecodesAfter, IsScaleConsumed}
 
--- ---- beginnings
+-- ---- prefixes
 
 some_left : (rest : List ℕ) → rest ≢ [] → 0 < length rest
 some_left [] some = absurd (some refl)
@@ -22,7 +22,7 @@ proper_shorter : (front whole : List ℕ) → IsStrictPrefix front whole → len
 proper_shorter front whole (rest, some, cut) =
     omega (arith, some_left rest some, ap length cut, length-append front rest)
 
--- where the input ends after the code
+-- the input ends after the code
 after_code : (S code size : ℕ) (a digest q : List ℕ) → IsScaleCode code a → code < varint_limit
     → (0 < length q → (size ≤ S) × (length digest ≡ size))
     → IsStrictPrefix q (size ∷ digest) → HasScaleVerdict S (a ++ q) unexpected_eof
@@ -40,7 +40,7 @@ after_code S code size a digest (d ∷ q) is_code in_range sized (rest, some, cu
       omega (arith, some_left rest some, ap length tails, length-append q rest, long),
     ))
 
--- each proper beginning of a form ends early, and so does each of a code and a size
+-- each strict prefix of a form is truncated, and so is each of a code and a size
 form_shortest : (S code size : ℕ) (a digest shorter : List ℕ) → IsScaleCode code a → code < varint_limit
     → (0 < length digest → (size ≤ S) × (length digest ≡ size))
     → IsStrictPrefix shorter (a ++ size ∷ digest) → HasScaleVerdict S shorter unexpected_eof
@@ -53,7 +53,7 @@ form_shortest S code size a digest shorter is_code in_range sized strict =
           (λ some. sized (omega (arith, some, proper_shorter q (size ∷ digest) more))) more)
     ]
 
--- more input leaves the verdict, where that is no early end
+-- more input does not change the verdict if it is not that of truncated input
 with_more : (S : ℕ) (front rest : List ℕ) (v : Verdict) → v ≢ unexpected_eof → HasScaleVerdict S front v
     → HasScaleVerdict S (front ++ rest) v
 with_more S front rest (accepted p) late (bytes, following, form, fits, cut) =
@@ -74,7 +74,7 @@ with_more S front rest (invalid_size size) late (following, h, over) = (
 with_more S front rest (malformed f) late h = absurd h
 with_more S front rest unexpected_eof late h = absurd (late refl)
 
--- ---- what decoding takes
+-- ---- what decoding consumes
 
 -- no list has two verdicts
 abbrev pub IsOneVerdict : ℕ → Type 0
@@ -88,20 +88,20 @@ count_unique S unique input m n f g =
       | inr (inr sooner) ↦ absurd (g.late (unique g.front g.verdict unexpected_eof g.decodes (f.shortest g.front sooner)))
     ]
 
--- what decodes after some bytes doesn't end early
+-- input that decodes after some bytes is not truncated
 no_incomplete : (S : ℕ) → IsOneVerdict S → (input : List ℕ) (n : ℕ) → DecodesAfter S input n → ¬ (HasScaleVerdict S input unexpected_eof)
 no_incomplete S unique input n f early =
     let whole : HasScaleVerdict S input f.verdict =
     subst (λ (z : List ℕ). HasScaleVerdict S z f.verdict) (sym f.begins.1) (with_more S f.front f.begins.0 f.verdict f.late f.decodes) in
     f.late (unique input f.verdict unexpected_eof whole early)
 
--- a call took the shortest beginning that doesn't end early
+-- a call consumed the shortest prefix that is not truncated
 record ConsumesDecoded (S : ℕ) (input left : List ℕ) : Type 0 where
   pub count : ℕ
   pub decodes : DecodesAfter S input count
   pub consumed : length input ≡ count + length left
 
--- what a call of decoding has to say
+-- the contract of a call of `scale_decode`
 pub record Decoding (S : ℕ) (input left : List ℕ) (r : Result (Fields S) Refusal) : Type 0 where
   pub unique : IsOneVerdict S
   pub verdict : (v : Verdict) × HasScaleVerdict S input v × IsResultOf r v
@@ -145,7 +145,7 @@ takes_code S input left e code is h =
       consumed = omega (arith, ap length cut, length-append h.consumed left, found.1);
     }
 
--- each proper beginning of nine bytes that show a size ends early
+-- each strict prefix of the nine bytes that show a size is truncated
 pub size_shortest : (S size : ℕ) (consumed rest shorter : List ℕ) → HasScaleSize size consumed rest → length consumed ≡ 9
     → IsStrictPrefix shorter consumed → HasScaleVerdict S shorter unexpected_eof
 size_shortest S size consumed rest shorter h nine strict =
@@ -184,13 +184,13 @@ takes_decoded S input left (Err e) d unexpected_eof has answers late = absurd (l
 
 -- ---- what is listed
 
--- a listed verdict is the input's where it is the answer's
+-- a listed verdict is the input's if it is the result's
 answered : (S : ℕ) (input left : List ℕ) (r : Result (Fields S) Refusal) → Decoding S input left r → (w : Verdict)
     → IsResultOf r w → HasScaleVerdict S input w
 answered S input left r d w answers =
     subst (λ (v : Verdict). HasScaleVerdict S input v) (answers_unique r d.verdict.0 w d.verdict.2 answers) d.verdict.1
 
--- where the answer is the listed one, the bytes taken tell whether the reading is
+-- if the result is the listed one, the reading is right exactly if the number of bytes consumed is
 pub reading : (S : ℕ) (input left : List ℕ) (r : Result (Fields S) Refusal) → Decoding S input left r
     → (w : Verdict) (consumed : Option ℕ) → IsResultOf r w
     → MatchOption consumed (w ≡ unexpected_eof) (λ n. (w ≢ unexpected_eof) × (length input ≡ n + length left))
@@ -214,7 +214,7 @@ reading S input left r d w (Some n) answers = (there, back)
         let same : t.count ≡ n = count_unique S d.unique input t.count n t.decodes f in
         (late, omega (arith, t.consumed, same))
 
--- where the answer is another, the reading isn't as listed
+-- if the result is another, the reading is not as listed
 pub no_reading : (S : ℕ) (input left : List ℕ) (r : Result (Fields S) Refusal) → Decoding S input left r
     → (w : Verdict) (consumed : Option ℕ) → ¬ (IsResultOf r w)
     → ¬ (HasScaleVerdict S input w × IsScaleConsumed S input w consumed)

@@ -2,7 +2,7 @@ use Rattle.std.proofs.Common.{rules, ◌≡◌, ◌↔◌, ℕ, IsTrue, Option, 
 use Rattle.std.specs.Option.{option_eq}
 use Rattle.vectors.proofs.verdict.Verdict.is_answer.Goals as goal
 
--- what `==` says of a number and one that may be there
+-- what `==` says of a number and an optional one
 same_number : (o : Option ℕ) (n : ℕ) → IsTrue (option_eq nat_eq o (Some n)) ↔ (o ≡ Some n)
 same_number None n = (λ h. cc, λ h. cc)
 same_number (Some m) n = search rules
