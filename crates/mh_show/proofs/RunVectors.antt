@@ -35,7 +35,7 @@ line_of_input = refl
 reads_whole : ReadsWhole (Some (codes "0000\n")) (Some []) (codes "0000\n")
 reads_whole = record { consumes = refl; at_end = refl; short = omega arith }
 
--- the text is what was taken
+-- the text is what was consumed
 reads_no_other_text : ¬ (ReadsWhole (Some (codes "00")) (Some []) (codes "01"))
 reads_no_other_text h = omega (arith, ap (λ (z : List ℕ). get_or z 1 0) h.consumes)
 
@@ -73,7 +73,7 @@ appends_no_whole h =
       length-append h.part rest,
     )
 
--- the bytes that begin an output are known
+-- the first bytes of an output are known
 first_of : (part rest bytes new : List ℕ) → bytes ≡ part ++ rest → new ≡ part → 0 < length new
     → get_or bytes 0 0 ≡ get_or new 0 0
 first_of [] rest bytes new cut is some = absurd (omega (arith, ap (λ (z : List ℕ). length z) is))
@@ -100,7 +100,7 @@ tries_with_no_other (inr part) = appends_no_other_part part
 
 -- ---- runs
 
--- the text of an input that was read whole
+-- the text of an input that was read to its end
 text_is : (whole text : List ℕ) → ReadsWhole (Some whole) (Some []) text → text ≡ whole
 text_is whole text h = append_cancel_right text whole [] (sym h.consumes ∙ sym (append-nil whole))
 
@@ -162,9 +162,9 @@ no_part_of_an_input_left : (out : List ℕ)
 no_part_of_an_input_left out (text, lines, reads, shows, part) =
     omega (arith, ap (λ (z : List ℕ). length z) reads.at_end)
 
--- ---- the faults that end a run: where one of them says more than that the output is kept, its input is known
+-- ---- errors that end a run. If one states more than that the output is unchanged, its input is known
 
--- a fault before the output is written leaves it as it was
+-- after an error before the output is written it is unchanged
 ends_at_input : EndsRun ⊤ (Some (codes "0")) (Some (codes "0")) (Some []) (Some []) Input
 ends_at_input = tt
 
@@ -212,7 +212,7 @@ ends_at_refusal = (
   rejected_padded,
 )
 
--- a pair is refused for nothing
+-- a pair is rejected with no error
 pair_is_not_rejected : (e : Refusal)
     → ¬ (EndsRun ⊤ (Some (codes "0000\n")) (Some []) (Some []) (Some []) (NotShown (Refused e)))
 pair_is_not_rejected e (kept, text, reads, refused) =
@@ -228,12 +228,12 @@ rejected_when_read_whole e (kept, text, reads, refused) =
 ends_at_output : EndsRun ⊥ (Some (codes "0000\n")) (Some []) (Some []) (Some (codes "code")) Output
 ends_at_output = shows_part
 
--- a run that wrote all its lines didn't end there
+-- a run that wrote all its lines did not end with an error in writing them
 output_was_not_written : ¬
     (EndsRun ⊥ (Some (codes "0000\n")) (Some []) (Some []) (Some shown_empty) Output)
 output_was_not_written h = no_part_is_all h
 
--- ---- the line that tells a fault
+-- ---- the line that reports an error
 
 reports_input : ReportsError (Some []) (Some (codes "mh_show: input not read\n")) Input
 reports_input = inl (inl refl)
@@ -265,7 +265,7 @@ reports_no_other_bytes (inl tries) =
 reports_no_other_bytes (inr tries) =
     omega (arith, first_tried (codes "x") (error_line (codes "out of memory")) (omega arith) tries)
 
--- nor the line of another fault
+-- nor the line of another error
 longer_than : (new line : List ℕ) → length line < length new
     → ¬ (TriesToAppend (Some []) (Some new) line)
 longer_than new line more (inl e) = omega (arith, more, ap (λ (z : List ℕ). length z) e)
@@ -286,7 +286,7 @@ reports_no_other_fault (inr tries) =
     longer_than (codes "mh_show: output not written\n") (error_line (codes "out of memory"))
     (omega arith) tries
 
--- it names no byte, and that is a list of bytes too
+-- it names no byte, which is a list of bytes too
 nothing_named : NamesBytes [] []
 nothing_named = record { digits = []; spelled = refl; each = tt }
 
@@ -303,7 +303,7 @@ nothing_is_hexadecimal = ((λ none. none [] [] nothing_is_a_line nothing_named),
 whole_nothing : HasWholeVerdict 64 [] (malformed insufficient)
 whole_nothing = inl (record { few = omega arith; all_continuation = all_continuation [] refl })
 
--- so what is missing is the code
+-- so the code is missing
 rejected_nothing : IsRejectedAs [] (of_varint insufficient) × IsRejectedAs newline (of_varint insufficient)
 rejected_nothing = (
   ([], [], malformed insufficient, nothing_is_a_line, nothing_named, whole_nothing, refl),

@@ -1,4 +1,4 @@
--- The definitions at texts that are known.
+-- The definitions applied to known texts.
 use Rattle.std.proofs.Common.{◌≡◌, ◌≢◌, ℕ, List, ◌∷◌, [], ◌++◌, length, get_or, replicate, codes, refl, ap, subst, arith, inl, inr}
 use Rattle.std.specs.Fmt.{digits}
 use Rattle.hex.specs.Hex.{encode_with, decode_pairs}
@@ -34,7 +34,7 @@ line_of = inl refl
 line_of_two : IsLine (codes "00\n") (codes "00\n\n")
 line_of_two = inl refl
 
--- a carriage return stays
+-- a carriage return is kept
 line_of_return : IsLine (codes "00\r") (codes "00\r\n")
 line_of_return = inl refl
 
@@ -95,7 +95,7 @@ no_high_digit byte h = let none = h.is_high in cc
 no_low_digit : (byte : ℕ) → ¬ (NamesByte (48, 103) byte)
 no_low_digit byte h = let none = h.is_low in cc
 
--- the higher digit stands first
+-- the higher digit is first
 no_lower_first : ¬ (NamesBytes (codes "10") (0x01 ∷ []))
 unfolding decode_pairs
 no_lower_first h =
@@ -259,7 +259,7 @@ no_digits_show lines (line, bytes, p, is, names, whole, e) =
     (subst (λ (z : List ℕ). NamesBytes z bytes)
     (line_unique (codes "zz\n") line (codes "zz") is (inl refl)) names))
 
--- nor bytes that are refused
+-- nor bytes that are rejected
 no_rejected_bytes_show : (lines : List ℕ) → ¬ (ShowsAs (codes "0001\n") lines)
 no_rejected_bytes_show lines (line, bytes, p, is, names, whole, e) =
     let same : accepted p ≡ unexpected_eof =
@@ -269,7 +269,7 @@ no_rejected_bytes_show lines (line, bytes, p, is, names, whole, e) =
     whole_0001 in
     cc
 
--- nor a pair with more bytes behind it
+-- nor a pair with trailing bytes
 no_trailing_shows : (lines : List ℕ) → ¬ (ShowsAs (codes "000007\n") lines)
 no_trailing_shows lines (line, bytes, p, is, names, whole, e) =
     let same : accepted p ≡ invalid_size 1 =
@@ -279,7 +279,7 @@ no_trailing_shows lines (line, bytes, p, is, names, whole, e) =
     whole_000007 in
     cc
 
--- nor a pair whose digest has a byte more than the buffer
+-- nor a pair whose digest has one byte more than the capacity
 abbrev digits_of_65 : List ℕ
 digits_of_65 = codes "0041" ++ replicate 130 48
 
@@ -296,7 +296,7 @@ no_65_bytes_show lines (line, bytes, p, is, names, whole, e) =
     whole_verdict_unique 64 (0 ∷ 65 ∷ replicate 65 0) (accepted p) (invalid_size 65) has whole_65 in
     cc
 
--- ---- what a text is refused for
+-- ---- why a text is rejected
 
 -- of two newlines one is left, which is no digit
 pub second_newline_names_none : NamesNone (codes "00\n\n")
@@ -340,7 +340,7 @@ rejected_nine_continuation : IsRejectedAs (codes "ffffffffffffffffff0100\n") (of
 rejected_nine_continuation =
     (codes "ffffffffffffffffff0100", nine_continuation, malformed overflow, inl refl, named_nine_continuation, whole_nine_continuation, refl)
 
--- and no text is refused for its code
+-- and no text is rejected for its code
 no_code_rejected : (text : List ℕ) (code : ℕ) → ¬ (IsRejectedAs text (of_code code))
 no_code_rejected text code (line, bytes, accepted p, is, names, whole, refuses) = refuses
 no_code_rejected text code (line, bytes, invalid_size size, is, names, whole, refuses) = cc
@@ -348,11 +348,11 @@ no_code_rejected text code (line, bytes, invalid_code other, is, names, whole, r
 no_code_rejected text code (line, bytes, malformed fault, is, names, whole, refuses) = cc
 no_code_rejected text code (line, bytes, unexpected_eof, is, names, whole, refuses) = let e = refuses.1 in cc
 
--- the buffer has 64 places
+-- the capacity is 64
 rejected_65 : IsRejectedAs (codes "0041\n") (of_size 65)
 rejected_65 = (codes "0041", 0 ∷ 65 ∷ [], invalid_size 65, inl refl, named_0041, whole_0041, refl)
 
--- and counts what is left over
+-- and the error counts the trailing bytes
 rejected_trailing : IsRejectedAs (codes "000007\n") (of_size 1)
 rejected_trailing =
     (codes "000007", 0 ∷ 0 ∷ 7 ∷ [], invalid_size 1, inl refl, named_000007, whole_000007, refl)
@@ -379,7 +379,7 @@ rejected_for_no_other_size (line, bytes, v, is, names, whole, refuses) =
     (bytes_of (codes "0041") (0 ∷ 65 ∷ []) named_0041 line bytes is names) whole) whole_0041 in
     omega (arith, ap size_in (subst (λ (w : Verdict). IsErrorOf (of_size 64) w) same refuses))
 
--- a pair is refused for nothing
+-- a pair is rejected with no error
 pub no_pair_rejected : (e : Refusal) → ¬ (IsRejectedAs (codes "0000\n") e)
 no_pair_rejected e (line, bytes, v, is, names, whole, refuses) =
     let same : v ≡ accepted (pair 0 []) =
@@ -388,7 +388,7 @@ no_pair_rejected e (line, bytes, v, is, names, whole, refuses) =
     (bytes_of (codes "0000") (0 ∷ 0 ∷ []) named_0000 line bytes is names) whole) whole_0000 in
     subst (λ (w : Verdict). IsErrorOf e w) same refuses
 
--- a text that names no bytes is refused in another way
+-- a text that names no bytes has another error
 no_digits_rejected : (e : Refusal) → ¬ (IsRejectedAs (codes "zz\n") e)
 unfolding decode_pairs
 no_digits_rejected e (line, bytes, v, is, names, whole, refuses) =

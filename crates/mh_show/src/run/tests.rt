@@ -18,7 +18,7 @@ const NOT_READ: &[u8] = b"mh_show: input not read\n";
 
 const NOT_HEX: &[u8] = b"mh_show: not hexadecimal\n";
 
-// A run over fakes ends with this status, and its outputs hold this.
+// A run over fakes ends with this status, and with these outputs.
 fn expect_run<I: Read>(
     rt: &(impl Abort + AllocGlobal),
     input: &mut I,
@@ -38,7 +38,7 @@ fn expect_lines_at(rt: &(impl Abort + AllocGlobal), text: &[u8], most: usize, li
     expect_run(rt, &mut input, &mut Page::new(), &mut Page::new(), wanted);
 }
 
-// The text is read in ones, in fives and all at once.
+// The text is read one byte a call, five bytes a call, and all at once.
 fn expect_lines(rt: &(impl Abort + AllocGlobal), text: &[u8], lines: &[u8]) {
     expect_lines_at(rt, text, 1, lines);
     expect_lines_at(rt, text, 5, lines);
@@ -63,8 +63,9 @@ fn shows_the_example(rt: HostRuntime) {
 }
 
 // The SHA-512 digest of the text `multihash`.
-const DIGEST: &str =
-    "fa d5 8a 76 f9 27 d3 b5 bb db 60 6c cf 19 70 02 25 f1 57 26 3f b5 15 e3 c4 19 4f a1 22 0a d3 4d 1d 60 bf 35 a0 7d e0 e1 5c 82 29 c7 eb c7 24 57 54 25 cd 58 1a 4e e9 95 ff 3a 54 75 ab fd e0 d7";
+const DIGEST: &str = "\
+    fa d5 8a 76 f9 27 d3 b5 bb db 60 6c cf 19 70 02 25 f1 57 26 3f b5 15 e3 c4 19 4f a1 22 0a d3 4d \
+    1d 60 bf 35 a0 7d e0 e1 5c 82 29 c7 eb c7 24 57 54 25 cd 58 1a 4e e9 95 ff 3a 54 75 ab fd e0 d7";
 
 // Shows a multihash of this code, given in hexadecimal and in decimal, and this size and digest.
 fn expect_multihash(rt: &(impl Abort + AllocGlobal), code: (&str, &str), size: u64, digits: &str) {
@@ -139,7 +140,7 @@ fn reports_that_a_text_is_not_hexadecimal(rt: HostRuntime) {
     expect_text_rejected(rt, b" 0000", NOT_HEX);
 }
 
-// The input fails behind its bytes, and is asked so often.
+// The input fails after its bytes, and that many calls were made.
 fn expect_failing(rt: &(impl Abort + AllocGlobal), text: &[u8], kind: ErrorKind, calls: usize) {
     let mut input = Drip::failing(text, kind);
     expect_refusal(rt, &mut input, NOT_READ);
@@ -163,7 +164,7 @@ fn a_reader_that_never_ends(rt: HostRuntime) {
 }
 
 fn expect_zeros_rejected(rt: &(impl Abort + AllocGlobal), most: usize) {
-    // a code and a size of one byte each, both 0, and 32766 bytes left over
+    // a code and a size of one byte each, both 0, and 32766 trailing bytes
     let has_trailing = b"mh_show: Invalid multihash size 32766.\n";
     expect_refusal(rt, &mut Zeros::new(65536, most), has_trailing);
     expect_refusal(rt, &mut Zeros::new(65537, most), NOT_READ);
@@ -229,7 +230,7 @@ fn a_failed_error_line_changes_nothing(rt: HostRuntime) {
     expect_line_cut(rt, Fault::Fails(ErrorKind::Interrupted));
 }
 
-// The fault in the input is told, and the output, which would fail, is not asked.
+// The input's error is reported, and the output, which would fail, is not called.
 fn expect_first(rt: &(impl Abort + AllocGlobal), mut input: Drip, line: &[u8]) {
     let mut out = Page::cut(0, Fault::Fails(ErrorKind::BrokenPipe));
     let wanted = (1, b"".as_slice(), line);
@@ -245,11 +246,11 @@ fn first_fault_first(rt: HostRuntime) {
     expect_first(rt, Drip::new(b"zz", 9), NOT_HEX);
 }
 
-// A `refused` test passes where nothing is refused. Where a request is, it looks at what stands then,
-// and fails so: `tools/refuse_memory.sh` refuses each request in turn, and counts them.
+// A test whose name begins with `refused` passes if no allocation fails. If one does, it checks the state
+// then, and fails with `REFUSED`: `tools/refuse_memory.sh` makes each allocation fail in turn.
 const REFUSED: &str = "memory was refused";
 
-// A run over slices. Where memory was refused, nothing is shown, and a line says so.
+// A run over slices. If an allocation failed, nothing is shown, and a line says so.
 fn expect_unless_rejected(
     rt: &(impl Abort + AllocGlobal),
     text: &[u8],
@@ -279,7 +280,7 @@ fn refused_run_of_a_refusal(rt: HostRuntime) -> Result<(), Fail> {
     expect_unless_rejected(&rt, b"0041", (1, b"", line))
 }
 
-// The room for the input is asked for before it is read: one request can be refused with no read.
+// The input's buffer is allocated before the first read: that allocation can fail without a read.
 #[test]
 fn refused_before_a_read(rt: HostRuntime) -> Result<(), Fail> {
     let alloc = rt.alloc();

@@ -15,12 +15,12 @@ fn shows_a_full_digest(rt: HostRuntime) {
     check_eq!(rt; lines.len(), "code 0\nsize 64\ndigest \n".len() + 128);
 }
 
-// The text that was put together is this one.
+// The formatted text is this one.
 fn expect_reported<E: fmt::Debug + Drop>(rt: &impl Abort, told: Result<String, E>, wanted: &str) {
     check_eq!(rt; expect_ok(rt, told).as_str(), wanted);
 }
 
-// The error prints this text alone, whatever width and precision are asked, and something for debugging.
+// The error prints this text alone, whatever the width and precision, and its `Debug` text is not empty.
 fn expect_printed(rt: &impl Abort, alloc: Global, e: &ShowError, text: &str) {
     expect_reported(rt, format!(in alloc; "{e}"), text);
     expect_reported(rt, format!(in alloc; "{e:>40.3}"), text);
@@ -28,7 +28,7 @@ fn expect_printed(rt: &impl Abort, alloc: Global, e: &ShowError, text: &str) {
     check!(rt; !shown.is_empty(), text);
 }
 
-// The text is refused, and this is why.
+// The text is rejected with this error.
 fn expect_rejected(rt: &impl Abort, alloc: Global, text: &[u8], reason: &str) {
     match show(alloc, text) {
         Err(e) => expect_printed(rt, alloc, &e, reason),
@@ -53,8 +53,8 @@ fn rejects_a_longer_digest(rt: HostRuntime) {
     expect_rejected(rt, alloc, &text, "Invalid multihash size 128.");
 }
 
-// A `refused` test passes where nothing is refused. Where a request is, it looks at what stands then,
-// and fails so: `tools/refuse_memory.sh` refuses each request in turn, and counts them.
+// A test whose name begins with `refused` passes if no allocation fails. If one does, it checks the state
+// then, and fails with `REFUSED`: `tools/refuse_memory.sh` makes each allocation fail in turn.
 const REFUSED: &str = "memory was refused";
 
 #[test]
@@ -71,7 +71,7 @@ fn refused_show(rt: HostRuntime) -> Result<(), Fail> {
     Ok(())
 }
 
-// Passes also where each request is refused.
+// Passes also if each allocation fails.
 #[test]
 fn an_odd_line_needs_no_memory(rt: HostRuntime) {
     let alloc = rt.alloc();

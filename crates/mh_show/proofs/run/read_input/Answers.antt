@@ -2,12 +2,12 @@ use Rattle.std.proofs.Common.{◌≡◌, ◌∙◌, ℕ, ◌+◌, ◌<◌, ◌�
 use lib.Seq.{take-append-le}
 use Rattle.mh_show.proofs.run.read_input.Goals as goal
 
--- what stands past the room is not looked at
+-- bytes after the filled ones do not matter
 front_of_room : (n len : ℕ) (room spare : List ℕ) → length room ≡ len → take n (take len (room ++ spare)) ≡ take n room
 front_of_room n len room spare full =
     ap (take n) (take-append-le len room spare (omega arith) ∙ take_all len room (omega arith))
 
--- the room was not filled
+-- the buffer was not filled
 short_of : (n len most : ℕ) (room : List ℕ) → n < length room → length room ≡ len → len ≡ most + 1 → length (take n room) ≤ most
 short_of n len most room h full e = omega (arith, length-take-le n room (omega arith))
 

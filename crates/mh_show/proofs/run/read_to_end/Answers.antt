@@ -6,13 +6,13 @@ use borrow.Rule.Slice.PartMut.{put_mid, post_of}
 use lib.Seq.{take-add, take-append-le}
 use Rattle.mh_show.proofs.run.read_to_end.Goals as goal
 
--- what stood in front stays, and what stands behind it up to b is new
+-- the first bytes are unchanged, and those after them up to b are new
 take_split : (a b : ℕ) (old new : List ℕ) → a ≤ b → take a new ≡ take a old → take a old ++ slice_range new a b ≡ take b new
 take_split a b old new h front =
     let same : a + (b - a) ≡ b = omega arith in
     ap (λ l. l ++ slice_range new a b) (sym front) ∙ sym (take-add a (b - a) new) ∙ ap (λ n. take n new) same
 
--- the first n bytes of what was put at a
+-- the first n bytes of what was written at a
 slice_range-put_mid : (a k n : ℕ) (xs ys : List ℕ) → a ≤ length xs → n ≤ length ys → slice_range (put_mid a k xs ys) a (a + n) ≡ take n ys
 slice_range-put_mid a k n xs ys within fits =
     let same : (a + n) - a ≡ n = omega arith in

@@ -9,7 +9,7 @@ use Rattle.mh_show.specs.Shown.{IsLine, NamesBytes, IsRejectedAs, ShowsAs}
 use Rattle.mh_show.specs.Run.{ReadsWhole, AppendsPrefixOf, EndsRun}
 use Rattle.mh_show.proofs.run.show_input.Goals as goal
 
--- the end that each error of `show` makes
+-- how a run ends at each error of `show`
 show_ends : (kept : Type 0) (old new out after : Option (List ℕ)) (text : List ℕ) (e : ShowError) → kept
     → ReadsWhole old new text
     → ((line bytes : List ℕ) → e ≡ NotHex → IsLine line text → ¬ (NamesBytes line bytes))
@@ -18,7 +18,7 @@ show_ends kept old new out after text NotHex same reads none refused = (same, te
 show_ends kept old new out after text (Refused r) same reads none refused = (same, text, reads, refused r refl)
 show_ends kept old new out after text Memory same reads none refused = same
 
--- the end that a failed write of the lines makes
+-- how a run ends if writing the lines fails
 output_ends : {T : Type 0} (r : Result T RunError) (kept : Type 0) (old new out after : Option (List ℕ)) (text lines : List ℕ)
     → IfErr r (λ e. e ≡ Output) → ReadsWhole old new text → ShowsAs text lines → OnErr r (AppendsPrefixOf out after lines)
     → IfErr r (EndsRun kept old new out after)

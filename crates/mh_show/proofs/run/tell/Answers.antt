@@ -3,7 +3,7 @@ use Rattle.std.specs.Io.KnownBytes.{Appends}
 use Rattle.mh_show.specs.Run.{AppendsPrefixOf, TriesToAppend}
 use Rattle.mh_show.proofs.run.tell.Goals as goal
 
--- a write tried to append its bytes, whatever it answered
+-- a write appended a prefix of its bytes, whatever it returned
 tried : {T E : Type 0} (r : Result T E) (old new : Option (List ℕ)) (bytes : List ℕ)
     → OnOk r (Appends old new bytes) → OnErr r (AppendsPrefixOf old new bytes) → TriesToAppend old new bytes
 tried (Ok t) old new bytes whole part = inl whole

@@ -7,7 +7,7 @@ use Rattle.mh_show.specs.Shown.{newline, shown_digest, shown}
 use Rattle.mh_show.proofs.show.lines_of.Goals as goal
 use Rattle.mh_show.proofs.show.lines_of.Goals.{then-is_empty, else-is_empty}
 
--- a text that is known by another name
+-- equal texts
 same_text : {E : Type 0} (r : Result (String Global) E) (a b : List ℕ) → IfOk r (λ s. string_bytes s ≡ a) → a ≡ b → IfOk r (λ s. string_bytes s ≡ b)
 same_text (Ok s) a b h e = h ∙ e
 same_text (Err x) a b h e = tt

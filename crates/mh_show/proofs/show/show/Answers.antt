@@ -13,17 +13,17 @@ use Rattle.mh_show.specs.ShowError.{decoding_error}
 use Rattle.mh_show.proofs.NamingLemmas.{line_unique, decoded_names, named_decodes}
 use Rattle.mh_show.proofs.show.show.Goals as goal
 
--- one line of a text is as odd as the other
+-- a text has one line, so its length is odd or it is not
 odd_line : (text a b : List ℕ) → IsLine a text → IsLine b text → length a % 2 ≡ 1 → length b % 2 ≡ 1
 odd_line text a b e f odd = ap (λ (l : List ℕ). length l % 2) (sym (line_unique text a b e f)) ∙ odd
 
--- a line that names bytes is not refused as no hexadecimal
+-- a line that names bytes is not rejected as not hexadecimal
 not_rejected : (line bytes : List ℕ) (e : FromHexError) → (e ≡ OutOfMemory) ⊎ (decode_of line ≡ Err e)
     → NamesBytes line bytes → ¬ (NotHex ≡ decoding_error e)
 not_rejected line bytes e (inl full) named gives = cc (gives ∙ ap decoding_error full)
 not_rejected line bytes e (inr refused) named gives = cc (sym refused ∙ named_decodes line bytes named)
 
--- the error that is answered is the one that was made
+-- the error that is returned is the one that was made
 same_error : {T : Type 0} (r : Result T ShowError) (e made : ShowError) → r ≡ Err e → IsErrAnd r (λ x. x ≡ made) → e ≡ made
 same_error (Ok t) e made same given = absurd given
 same_error (Err x) e made same given = cc (same, given)

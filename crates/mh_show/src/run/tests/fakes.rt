@@ -1,10 +1,10 @@
-// Readers and writers that move a few bytes a call, and fail when they are told to.
+// Readers and writers that move few bytes per call, and fail at a given position.
 ghost use Rattle.std.specs.Prelude.{◌≤◌};
 
 use std::io;
 use std::io::{ErrorKind, Read, Write};
 
-// Gives its bytes, at most so many a call, and then its end.
+// Returns its bytes, at most that many per call, and then its end.
 #[derive(Drop)]
 pub struct Drip<'a> {
     left: &'a [u8],
@@ -23,7 +23,7 @@ impl<'a> Drip<'a> {
         }
     }
 
-    // Fails where the bytes end.
+    // Fails after the last byte.
     pub fn failing(left: &'a [u8], end: ErrorKind) -> Self {
         Drip {
             left,
@@ -51,7 +51,7 @@ impl Read for Drip<'_> {
     }
 }
 
-// Gives so many digits `0`, at most so many a call.
+// Returns that many digits `0`, at most that many per call.
 #[derive(Drop)]
 pub struct Zeros {
     left: u64,
@@ -68,7 +68,7 @@ impl Zeros {
         }
     }
 
-    // One a call, for longer than any run.
+    // One per call, more than any run reads.
     pub fn endless() -> Self {
         Zeros::new(u64::MAX, 1)
     }
@@ -84,7 +84,7 @@ impl Read for Zeros {
     }
 }
 
-// How a writer answers once its room is full.
+// What a writer returns once it is full.
 #[derive(Clone, Copy)]
 pub enum Fault {
     ConsumesNothing,
@@ -93,7 +93,7 @@ pub enum Fault {
 
 const CAPACITY: usize = 256;
 
-// Keeps what is written, at most so many bytes a call, up to its room.
+// Keeps what is written, at most that many bytes per call, up to its capacity.
 #[derive(Drop)]
 pub struct Page {
     bytes: [u8; CAPACITY],
@@ -110,7 +110,7 @@ impl Page {
         Page::cut(CAPACITY, Fault::ConsumesNothing)
     }
 
-    // Consumes one byte a call.
+    // Accepts one byte per call.
     pub fn slow() -> Self {
         Page {
             bytes: [0; CAPACITY],
@@ -122,7 +122,7 @@ impl Page {
         }
     }
 
-    // IsResultOf the fault once it holds so many bytes.
+    // Returns the error once it holds that many bytes.
     pub fn cut(room: usize, fault: Fault) -> Self {
         Page {
             bytes: [0; CAPACITY],
