@@ -115,7 +115,7 @@ fn read_within(bytes: &[u8], limit: usize) -> Decoded
     accept(head.code, size, head.digest_offset + size)
 }
 
-// Decodes if a varint is malformed: the result is the same for each limit.
+// Decodes an input with a malformed varint: the result is the same for each limit.
 #[cold]
 #[inline(never)]
 fn read_fault(bytes: &[u8]) -> Decoded
@@ -163,8 +163,8 @@ fn found(code: u64, digest_length: u64, taken: usize) -> Front
     }
 }
 
-// The number of bytes of the complete fixed-size parts of a SCALE form of which that many bytes are
-// there.
+// The length of the complete fixed-size parts (the code, the size) of a SCALE form that is truncated to that
+// many bytes.
 fn whole_parts(present: usize) -> usize
     ensures parts { ConsumesWholeParts present result }
     ensures inside { result ≤ present }

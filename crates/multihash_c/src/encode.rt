@@ -40,7 +40,7 @@ pub extern "C" fn multihash_encode(code: u64, digest: &[u8], out: &mut [u8]) -> 
 pub extern "C" fn multihash_scale_encode(code: u64, digest: &[u8], out: &mut [u8]) -> Encoded
     ensures { WritesForm IsScale (record { code = code; digest = digest.now }) result out.old out.new }
 {
-    // With one helper for these tests and those of `needed` it takes seven more instructions.
+    // With one helper for these tests and those of `needed` it needs seven more instructions.
     if digest.len() > DIGEST_MAX {
         return refuse_size(digest.len() as u64);
     }
