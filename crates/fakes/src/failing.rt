@@ -5,7 +5,7 @@ ghost use Rattle.multihash.specs.Fault.{IsOutOfMemoryFault, IsOther, IsOwnFault}
 
 use multihash::no_std_io::Error;
 
-// Out of memory, or an error of its own with this text.
+// Out of memory, or another error with this text.
 pub(crate) fn fault(wants_memory: bool, text: &'static str) -> Error
     ensures own { IsOwnFault result }
     ensures memory { IsTrue wants_memory ↔ IsOutOfMemoryFault result }

@@ -50,7 +50,7 @@ pub struct FailAt<'a> {
 }
 
 impl<'a> FailAt<'a> {
-    /// Fails with an error of its own.
+    /// Fails with its own error.
     pub fn new(cuts: Cuts<'a>, calls: usize) -> Self
         ensures { (result.cuts ≡ cuts.entry) × (result.asked ≡ 0) × (result.calls ≡ calls)
             × IsFalse result.wants_memory × IsFalse result.failed }
@@ -139,7 +139,7 @@ impl<'a> Counts<'a> {
         }
     }
 
-    /// Fails with an error of its own.
+    /// Fails with its own error.
     pub fn failing(left: &'a [u8], calls: usize) -> Self
         ensures unasked { (result.single ≡ 0) × (result.others ≡ 0) × (result.whole ≡ 0) }
         ensures fault { (result.left.now ≡ left.now) × (result.calls ≡ calls) × IsTrue result.may_fail

@@ -74,7 +74,7 @@ pub struct FailWrite {
 }
 
 impl FailWrite {
-    /// Fails with an error of its own.
+    /// Fails with its own error.
     pub fn new(drip: Drip, calls: usize) -> Self
         ensures { (result.drip ≡ drip) × (result.asked ≡ 0) × (result.calls ≡ calls)
             × IsFalse result.wants_memory × IsFalse result.failed }
@@ -158,7 +158,7 @@ impl CountsWrites {
         }
     }
 
-    /// Fails with an error of its own.
+    /// Fails with its own error.
     pub fn failing(alloc: Global, calls: usize) -> Self
         ensures unasked { (result.parts ≡ 0) × (result.whole ≡ 0) }
         ensures fault { (result.held.items ≡ []) × (result.calls ≡ calls) × IsTrue result.may_fail

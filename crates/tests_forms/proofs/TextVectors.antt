@@ -1,5 +1,5 @@
--- What refusals print whose numbers no call refuses, or none that a test could make: a size and a code of 0,
--- and the largest size.
+-- The texts of errors that no call returns, or no call that a test could make: those of a size and a code of
+-- 0, and of the largest size.
 use Rattle.std.proofs.Common.{◌≡◌, refl}
 use Rattle.std.specs.Prelude.{codes}
 use Rattle.std.specs.Fmt.{digits}

@@ -1,4 +1,4 @@
-//! Pairs, and what they are encoded as: lines of one text, since a table costs a proof each row.
+//! Pairs and their encodings: lines of one text, since a table needs a proof for each row.
 ghost use Rattle.std.specs.Prelude.{◌<◌, ◌^◌};
 
 use crate::expect::{check, check_eq, expect_bytes, expect_ok};

@@ -55,7 +55,7 @@ fn expect_last<T>(rt: &impl Abort, answer: &Result<T, Error>, writer: &CountsWri
     expect_writes(rt, writer, (0, calls.saturating_add(1)));
 }
 
-// A writer that allocates has errors of its own, too.
+// A writer that allocates has its own errors, too.
 #[test]
 fn a_failed_vector_is_not_asked_again(rt: HostRuntime) {
     let alloc = rt.alloc();

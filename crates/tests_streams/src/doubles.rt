@@ -1,5 +1,5 @@
-//! The helpers of the tests: what `is_rejected` and `is_failed` return false for, and that each fake reads, writes and
-//! fails as its docstring says.
+//! The helpers of the tests: what `is_rejected` and `is_failed` return false for, and that each fake reads,
+//! writes and fails as its docstring says.
 use crate::expect::{check, check_eq, expect_bytes, expect_ok};
 use fakes::readers::{Counts, Cuts, FailAt, Silent};
 use fakes::refusal::{Refusal, is_failed, is_rejected};

@@ -72,7 +72,7 @@ pub(crate) fn expect_ok<T, E: Debug + Drop>(rt: &impl Abort, answer: Result<T, E
     answer.expect(rt, "error")
 }
 
-/// Fails where a call was not refused for this reason, and prints the input.
+/// Fails if a call did not fail with this error, and prints the input.
 pub(crate) fn expect_rejected<T, N: Debug + Drop>(
     rt: &impl Abort,
     answer: &Result<T, Error>,

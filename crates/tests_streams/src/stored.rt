@@ -155,7 +155,7 @@ fn cut_entries_are_rejected(rt: HostRuntime) {
     }
 }
 
-// The reader fails: what it gave before was consumed.
+// The reader fails: what it returned before was consumed.
 #[test]
 fn failures_of_the_reader_are_passed_on(rt: HostRuntime) {
     let alloc = rt.alloc();

@@ -10,7 +10,7 @@ use multihash::no_std_io::{self, Read, Write};
 use std::alloc::Global;
 use std::process::Abort;
 
-// A reader with a `read_exact` of its own, and one that fills each buffer.
+// A reader with its own `read_exact`, and one that fills each buffer.
 fn expect_asked<const S: usize>(
     rt: &impl Abort,
     alloc: Global,

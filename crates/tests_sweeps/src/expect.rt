@@ -1,5 +1,5 @@
-//! Assertions for tests, proved once for the crate, while `assert!` is proved at each call. Only tests may end
-//! the process, so no library has them.
+//! Assertions for tests, proved once for the crate, while `assert!` is proved at each call. Only tests may
+//! end the process, so no library has them.
 use std::fmt::{Debug, Display};
 use std::process::Abort;
 

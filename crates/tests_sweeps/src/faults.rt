@@ -26,7 +26,7 @@ fn expect_rejected<T>(
     check!(rt; is_rejected(answer, why), "{form:?}, {why:?} at {at}");
 }
 
-// A reader without a `read_exact` of its own, which fails after that many bytes.
+// A reader without its own `read_exact`, which fails after that many bytes.
 pub(crate) fn failing(input: &[u8], at: usize, why: Refusal) -> FailAt {
     let cuts = Cuts::new(input, 1);
     if why == Refusal::OutOfMemory {
@@ -58,7 +58,7 @@ fn expect_reader_fault<const S: usize>(
     expect_bytes(rt, reader.cuts.left, rest);
 }
 
-// A reader with a `read_exact` of its own, which fails at a call.
+// A reader with its own `read_exact`, which fails at a call.
 fn refusing(input: &[u8], calls: usize, why: Refusal) -> Counts {
     if why == Refusal::OutOfMemory {
         Counts::out_of_memory(input, calls)
@@ -98,7 +98,7 @@ fn expect_request_fault<const S: usize>(
     expect_bytes(rt, reader.left, rest);
 }
 
-// A writer without a `write_all` of its own, which fails or is full after that many bytes.
+// A writer without its own `write_all`, which fails or is full after that many bytes.
 pub(crate) fn failing_writer(rt: &impl Abort, alloc: Global, at: usize, why: Refusal) -> FailWrite {
     let room = if why == Refusal::WriteZero { at } else { MOST };
     let drip = Drip::new(alloc, room, 1).expect(rt, "memory");
@@ -246,7 +246,7 @@ fn each_request_of_each_length_fails(rt: HostRuntime) {
     }
 }
 
-// A writer with a `write_all` of its own, which fails at a call of it.
+// A writer with its own `write_all`, which fails at a call of it.
 fn rejecting_writer(alloc: Global, calls: usize, why: Refusal) -> CountsWrites {
     if why == Refusal::OutOfMemory {
         CountsWrites::out_of_memory(alloc, calls)

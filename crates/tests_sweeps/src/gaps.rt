@@ -1,5 +1,5 @@
-//! What lies between the other sweeps: codes and lengths of usual digests in usual buffers, bytes 0 and letters that
-//! are not ASCII, and buffers and lists that are longer than one digest or two.
+//! What lies between the other sweeps: codes and lengths of usual digests in usual buffers, bytes 0 and
+//! letters that are not ASCII, and buffers and lists that are longer than one digest or two.
 ghost use Rattle.std.specs.Prelude.{◌<◌, ◌^◌};
 
 use crate::asked::{expect_borrowed, expect_calls};

@@ -1,5 +1,5 @@
-//! What is swept: codes with their varints, digests whose bytes all differ, and the forms, whose bytes are made here and
-//! not by the library.
+//! What is swept: codes with their varints, digests whose bytes all differ, and the forms, whose bytes are
+//! made here and not by the library.
 ghost use Rattle.std.specs.Prelude.{◌<◌, ◌^◌};
 
 use fakes::refusal::LARGEST_CODE;
