@@ -62,7 +62,7 @@ fn bare_id(alloc: Global) -> Result<(usize, bool)> {
     Ok((bare.len(), matches!(id, ContentId::V0(_))))
 }
 
-// Version 1, dag-json, and the digest 7, 8; then a 9. Then a digest of version 0, and a version that is not known.
+// Version 1, dag-json, and the digest 7, 8; then a 9. Then a digest of version 0, and an unknown version.
 fn show_content_id(alloc: Global, lines: &mut String) -> Result<()> {
     let (codec, len, left) = first_id(alloc)?;
     writeln!(
@@ -255,7 +255,7 @@ fn show_bytes(alloc: Global, lines: &mut String) -> Result<()> {
     let filled = bytes::fills_longest(&longest, &mut [0; 266]);
     writeln!(
         lines,
-        "bytes: {first:?}, {:?}, {filled} places",
+        "bytes: {first:?}, {:?}, {filled} bytes",
         concatenated.as_slice()
     )?;
     Ok(())

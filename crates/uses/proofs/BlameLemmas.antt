@@ -1,4 +1,4 @@
--- What a refusal leaves behind.
+-- What follows what was consumed at an error.
 use Rattle.std.proofs.Common.{◌≡◌, ℕ, ◌<◌, ◌≤◌, ◌↔◌, refl, inl, inr, List, [], ◌++◌, length, Option, None, Some, Result, Ok, Err, IfOk, IfErr, IsErrAnd, IfSome, MatchOption, ◌⊎◌, sym, ap, ◌∙◌, subst, arith, append_assoc, append-nil, length-append}
 use Rattle.multihash.specs.Varint.{varint_limit}
 use Rattle.multihash.specs.Pair.{Pair, FitsBuffer, digest_limit}
@@ -16,7 +16,7 @@ use Rattle.multihash.proofs.Forms.ScaleLemmas.{scale_verdict_unique}
 use Rattle.multihash.proofs.Writings.WritingLemmas.{length_of_not_nil}
 use Rattle.multihash.proofs.Writings.EncodingLemmas.{same_cut}
 
--- what was taken stands in front of what is left
+-- what was consumed is before what is left
 pub in_front : (Form : Pair → List ℕ → Type 0) (S : ℕ) (input left : List ℕ) (r : Result (Fields S) Refusal)
     → IfOk r (λ m. (bytes : List ℕ) × Form (pair_of m) bytes × Consumes (Some input) bytes (Some left))
     → IfOk r (λ m. (bytes : List ℕ) × Form (pair_of m) bytes × (input ≡ bytes ++ left))
@@ -25,7 +25,7 @@ in_front Form S input left (Ok m) ok =
     (ok.0, ok.1, cut)
 in_front Form S input left (Err e) ok = tt
 
--- a size that is too large is refused
+-- a size that is too large is rejected
 pub rejected_size : (S size : ℕ) (input rest : List ℕ) (r : Result (Fields S) Refusal) → BeginsWithSize size input rest → digest_limit S < size
     → (v : Verdict) × HasVerdict S input v × IsResultOf r v → IsErrAnd r (IsInvalidSize size)
 rejected_size S size input rest (Ok m) h over v =
@@ -44,7 +44,7 @@ left_after S size input rest left h over took =
     let cut : input ≡ took.front ++ left = cc (took.consumes) in
     (same_cut took.front front left rest (ap length same) (sym cut ∙ (h.cut ∙ sym (append_assoc h.code_bytes h.size_bytes rest)))).1
 
--- a code that is out of range is refused
+-- a code that is out of range is rejected
 pub rejected_large : (S code : ℕ) (input bytes rest : List ℕ) (r : Result (Fields S) Refusal) → IsScaleCode code bytes → varint_limit ≤ code
     → input ≡ bytes ++ rest → (v : Verdict) × HasScaleVerdict S input v × IsResultOf r v → IsErrAnd r (IsInvalidCode code)
 rejected_large S code input bytes rest (Ok m) is over cut v =
@@ -64,7 +64,7 @@ left_after_code S code input bytes rest left (Err e) is cut refused took =
     let whole : input ≡ took.consumed ++ left = cc (took.consumes) in
     (same_cut took.consumed bytes left rest (found.1 ∙ sym is.eight) (sym whole ∙ cut)).1
 
--- where `wrap` refuses a code, it tells the code, and else the digest's length
+-- if `wrap` rejects a code, the error is the code; otherwise it is the digest's length
 pub rejected_of : (limit code size : ℕ) (told : Option ℕ) (e : Refusal)
     → (IsInvalidSize size e × (limit < size)) ⊎ (IsInvalidCode code e × (size ≤ limit) × (varint_limit ≤ code))
     → ((n : ℕ) → ((told ≡ Some n) ↔ IsInvalidCode n e))
@@ -79,7 +79,7 @@ rejected_of limit code size (Some n) e (inr (is, fits, large)) tells =
     let same : n ≡ code = cc in
     (same, large, fits)
 
--- the whole verdict is no refusal of a code
+-- no verdict on a whole input is an invalid code
 no_code : (S n : ℕ) (input : List ℕ) (e : Refusal) (v : Verdict) → HasWholeVerdict S input v → IsErrorOf e v → ¬ (IsInvalidCode n e)
 no_code S n input e (accepted p) has is refused = is
 no_code S n input e (invalid_size size) has is refused = cc
@@ -92,7 +92,7 @@ pub no_rejected_code : (S : ℕ) (input : List ℕ) (code : Option ℕ) (e : Ref
 no_rejected_code S input None e v test = refl
 no_rejected_code S input (Some n) e v test = absurd (no_code S n input e v.0 v.1 v.2 ((test n).0 refl))
 
--- of an encoding that was taken in part, more is left than what follows it
+-- if an encoding was consumed in part, more is left than what follows it
 pub end_left : (S : ℕ) (p : Pair) (bytes more : List ℕ) (new : Option (List ℕ)) → IsEncoding p bytes → FitsBuffer S p
     → ConsumesNothingSettling S (bytes ++ more) new → IfSome new (λ left. length more < length left)
 end_left S p bytes more None encodes fits took = tt
@@ -114,7 +114,7 @@ end_left S p bytes more (Some left) encodes fits took =
       )
     ]
 
--- what was told of a reader's rest, of the rest that it had
+-- a fact about a reader's known input holds of that input
 pub at_failure : {P : List ℕ → Type 0} (S : ℕ) (old new : Option (List ℕ)) (input : List ℕ) → old ≡ Some input
     → IfSome old (λ rest. P rest → ConsumesNothingSettling S rest new) → ((rest : List ℕ) → P rest) → ConsumesNothingSettling S input new
 at_failure S None new input rest told why = cc

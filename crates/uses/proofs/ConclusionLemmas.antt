@@ -1,4 +1,4 @@
--- What the laws say of what a call answered.
+-- What the laws say of the result of a call.
 use Rattle.std.proofs.Common.{◌≡◌, ℕ, ◌-◌, List, ◌++◌, length, Option, None, Some, Result, Ok, Err, IfSome, IfOk, MatchResult, sym, ap, ◌∙◌, subst, arith, length-append}
 use Rattle.serde_json.specs.Data.{Data}
 use Rattle.multihash.specs.Bytes.{ExactlyOne}
@@ -15,14 +15,14 @@ use Rattle.multihash.specs.Outcome.{Fields, pair_of, IsErrorOf, IsResultOf}
 use Rattle.uses.specs.Listed.{ListsOne}
 use Rattle.multihash.proofs.Writings.EncodingLemmas.{same_cut}
 
--- what was taken is as long as the one shortest beginning that settles
+-- what was consumed is as long as the one shortest prefix that settles
 pub shortest_len : (S : ℕ) (input left : List ℕ) (one : ExactlyOne (IsShortestSettling S input)) → ConsumesShortestSettling S input (Some left)
     → length input - length left ≡ length one.value
 shortest_len S input left one took =
     let cut : input ≡ took.front ++ left = cc (took.consumes) in
     omega (arith, ap length cut, length-append took.front left, ap length (one.only took.front took.shortest))
 
--- the answer to a verdict that is a pair
+-- the result for a verdict that is a pair
 pub answered : (S : ℕ) (p : Pair) (r : Result (Fields S) Refusal) (v : Verdict) → v ≡ accepted p → IsResultOf r v
     → MatchResult r (λ m. pair_of m ≡ p) (λ _. ⊥)
 answered S p (Ok m) v same answers =
@@ -30,7 +30,7 @@ answered S p (Ok m) v same answers =
     cc
 answered S p (Err e) v same answers = subst (IsErrorOf e) same answers
 
--- what the answer's bytes list is its pair
+-- a value that lists the bytes lists the result's pair
 pub lists_answer : (S : ℕ) (bytes : List ℕ) (r : Result (Fields S) Refusal) (v : Verdict) → HasWholeVerdict S bytes v → IsResultOf r v
     → IfOk r (λ m. (value : Data) → IsByteArray value bytes → IsJsonList (pair_of m) value)
 lists_answer S bytes (Ok m) v has answers =
@@ -47,7 +47,7 @@ lists_one S value m ok verdict =
     let told : HasWholeVerdict S ok.0 (accepted (pair_of m)) = subst (HasWholeVerdict S ok.0) v.2 v.1 in
     record { pair = pair_of m; lists = record { encoding = ok.0; encodes = told.0; lists = ok.1.array }; fits = told.1 }
 
--- decoding where a pair's form comes next gives the pair, and leaves what follows
+-- if a pair's form comes next, decoding returns the pair, and leaves what follows
 pub scale_next : (S before after : ℕ) (old new : Option (List ℕ)) (p : Pair) (bytes more : List ℕ) (r : Result (Fields S) Refusal)
     → HasScaleVerdict S (bytes ++ more) (accepted p)
     → ((v w : Verdict) → HasScaleVerdict S (bytes ++ more) v → HasScaleVerdict S (bytes ++ more) w → v ≡ w)

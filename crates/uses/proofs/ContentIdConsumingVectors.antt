@@ -1,4 +1,4 @@
--- What known errors of reading an identifier took, and what follows one.
+-- What known errors of reading an identifier consumed, and what follows an identifier.
 use Rattle.std.proofs.Common.{◌≡◌, ◌≤◌, ℕ, List, [], ◌∷◌, ◌++◌, length, Option, Some, inl, inr, refl, sym, ap, ◌∙◌, subst, arith, append_assoc, length-append}
 use Rattle.std.proofs.lemmas.List.Elements.{All-head}
 use Rattle.multihash.specs.Varint.{IsVarint, insufficient, IsContinuation, IsInsufficient, BeginsMalformed}
@@ -9,14 +9,14 @@ use Rattle.multihash.proofs.Examples.ReadingVectors.{taken_is}
 use Rattle.multihash.proofs.Examples.VarintVectors.{all_continuation, varint_1, varint_2}
 use Rattle.multihash.proofs.Readings.ReadingLemmas.{Consumes-told}
 use Rattle.multihash.proofs.Writings.WritingLemmas.{length_of_not_nil}
-use Rattle.uses.specs.ContentId.{version_1, FitsContentId, BeginsOtherwise, ConsumesOtherVersion, StopsInContentId, in_version, in_number, in_hash, in_digest, ConsumesAtContentIdError, LeavesOver}
-use Rattle.uses.specs.declared.content_id.ContentIdError.TheVariants.{OtherVersion, LeftOver}
+use Rattle.uses.specs.ContentId.{version_1, FitsContentId, BeginsOtherwise, ConsumesOtherVersion, StopsInContentId, in_version, in_number, in_hash, in_digest, ConsumesAtContentIdError, HasTrailingBytes}
+use Rattle.uses.specs.declared.content_id.ContentIdError.TheVariants.{OtherVersion, Trailing}
 use Rattle.uses.proofs.ContentIdLemmas.{one_place, takes_other_number}
 use Rattle.uses.proofs.ContentIdVectors.{varint_18, varint_32, two_bytes, dag_json, names_dag_json, fits_no_smaller}
 use Rattle.multihash.proofs.Writings.EncodingLemmas.{encoding_unique}
 use Rattle.multihash.proofs.Varints.VarintLemmas.{same_number}
 
--- ---- what an error took
+-- ---- what an error consumed
 
 takes_version_2 : ConsumesAtContentIdError 4 (OtherVersion 2) (Some (0x02 ∷ 0x55 ∷ [])) (Some (0x55 ∷ []))
 takes_version_2 = takes_other_number 2 _ _ (λ one. omega (arith, one)) (λ hash. omega (arith, hash)) (0x02 ∷ [], varint_2, refl)
@@ -44,11 +44,11 @@ takes_no_less t =
     let told = same_number (0x02 ∷ []) 2 2 (h.rest ++ 0x02 ∷ []) [] (h.version, h.is_version, cut) (0x02 ∷ [], varint_2, refl) in
     omega (arith, ap (λ (z : List ℕ). length z) told.1, length-append h.rest (0x02 ∷ []))
 
--- nothing of an identifier is told to be left over where it is read
-takes_at_no_trailing : ¬ (ConsumesAtContentIdError 4 (LeftOver 1) (Some (9 ∷ [])) (Some []))
+-- reading reports no trailing bytes
+takes_at_no_trailing : ¬ (ConsumesAtContentIdError 4 (Trailing 1) (Some (9 ∷ [])) (Some []))
 takes_at_no_trailing h = h
 
--- an input that ends before a version, behind one, and inside a digest
+-- an input that ends before a version, after one, and within a digest
 ends_at_varint : ConsumesAtVarintError (of_varint insufficient) (Some []) (Some [])
 ends_at_varint = record {
   consumed = [];
@@ -83,7 +83,7 @@ stops_in_digest =
     in_digest (Some (0x20 ∷ 7 ∷ [])) (Some (7 ∷ [])) (0x12 ∷ [], varint_18, refl) (0x20 ∷ [], varint_32, refl) (inl (eof, refl, refl))
     (record { consumed = 7 ∷ []; fewer = omega arith; consumes = refl })
 
--- behind a version that is neither
+-- after a version that is neither
 version_at : (n m : ℕ) (a more : List ℕ) (new : Option (List ℕ)) → IsVarint m a → ConsumesVarint n (Some (a ++ more)) new → n ≡ m
 version_at n m a more new is v =
     let (left, told, cut) = Consumes-told (a ++ more) v.0 new v.2 in
@@ -99,7 +99,7 @@ stops_in_no_other (in_number version middle (inr hash) v refuses took) = omega (
 stops_in_no_other (in_hash codec middle following v n refuses took) = omega (arith, version_at 1 2 (0x02 ∷ []) [] middle varint_2 v)
 stops_in_no_other (in_digest middle following v n refuses took) = omega (arith, version_at 0x12 2 (0x02 ∷ []) [] middle varint_2 v)
 
--- a size is refused behind a codec
+-- a size is rejected after a codec
 stops_at_no_size : ¬ (StopsInContentId 4 (of_size 5) (Some (0x02 ∷ [])) (Some (0x02 ∷ [])))
 stops_at_no_size (in_version (inl (fault, is)) took) = cc
 stops_at_no_size (in_version (inr (fault, is, own)) took) = cc
@@ -108,7 +108,7 @@ stops_at_no_size (in_number version middle known v (inr (fault, is, own)) took) 
 stops_at_no_size (in_hash codec middle following v n refuses took) = omega (arith, version_at 1 2 (0x02 ∷ []) [] middle varint_2 v)
 stops_at_no_size (in_digest middle following v n refuses took) = omega (arith, version_at 0x12 2 (0x02 ∷ []) [] middle varint_2 v)
 
--- nor a code anywhere, since none that is too large has a varint
+-- no code is rejected anywhere, since none that is too large has a varint
 stops_at_no_code : (n : ℕ) (old new : Option (List ℕ)) → ¬ (StopsInContentId 4 (of_code n) old new)
 stops_at_no_code n old new (in_version (inl (fault, is)) took) = cc
 stops_at_no_code n old new (in_version (inr (fault, is, own)) took) = cc
@@ -123,7 +123,7 @@ stops_at_no_code n old new (in_digest middle following v m (inr (fault, is, own)
 
 -- ---- what follows an identifier
 
-leaves_one : LeavesOver 4 1 (dag_json ++ 9 ∷ [])
+leaves_one : HasTrailingBytes 4 1 (dag_json ++ 9 ∷ [])
 leaves_one = record {
   content = version_1 0x0129 two_bytes;
   bytes = dag_json;
@@ -135,17 +135,17 @@ leaves_one = record {
   some = omega arith;
 }
 
-left_after : (S n : ℕ) (more : List ℕ) (h : LeavesOver S n (dag_json ++ more)) → (version_1 0x0129 two_bytes ≡ h.content) × (more ≡ h.rest)
+left_after : (S n : ℕ) (more : List ℕ) (h : HasTrailingBytes S n (dag_json ++ more)) → (version_1 0x0129 two_bytes ≡ h.content) × (more ≡ h.rest)
 left_after S n more h =
     let told = one_place (λ p q x y r s e f. encoding_unique p q x y r s e f) (version_1 0x0129 two_bytes) h.content dag_json h.bytes more h.rest
     names_dag_json h.is h.cut in
     (told.0, told.2)
 
-leaves_no_other_number : ¬ (LeavesOver 4 2 (dag_json ++ 9 ∷ []))
+leaves_no_other_number : ¬ (HasTrailingBytes 4 2 (dag_json ++ 9 ∷ []))
 leaves_no_other_number h = omega (arith, ap (λ (z : List ℕ). length z) (left_after 4 2 (9 ∷ []) h).1, h.many)
 
-leaves_some : ¬ (LeavesOver 4 0 (dag_json ++ []))
+leaves_some : ¬ (HasTrailingBytes 4 0 (dag_json ++ []))
 leaves_some h = omega (arith, h.some)
 
-leaves_what_fits : ¬ (LeavesOver 1 1 (dag_json ++ 9 ∷ []))
+leaves_what_fits : ¬ (HasTrailingBytes 1 1 (dag_json ++ 9 ∷ []))
 leaves_what_fits h = fits_no_smaller (subst (FitsContentId 1) (sym (left_after 1 1 (9 ∷ []) h).0) h.fits)

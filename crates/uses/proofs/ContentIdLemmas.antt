@@ -1,4 +1,4 @@
--- The two varints in front of a content identifier, and one identifier at one place.
+-- The two varints at the front of a content identifier; there is one identifier at one position.
 use Rattle.std.proofs.Common.{◌≡◌, ℕ, ◌+◌, List, [], ◌++◌, length, Option, Some, IfOk, IfErr, IfSome, IsErrOf, MatchResult, ◌↔◌, ◌⊎◌, inl, inr, Result, Ok, Err, OnErr, refl, sym, ap, ◌∙◌, subst, arith, append_assoc, append-nil, length-append}
 use Rattle.std.specs.Result.{IsErrAnd}
 use Rattle.std.proofs.lemmas.List.{append_cancel_right}
@@ -32,7 +32,7 @@ abbrev pub second_number : Content → ℕ
 second_number (version_0 digest) = 32
 second_number (version_1 codec p) = codec
 
--- what stands behind them
+-- what follows them
 abbrev pub EndsWith : Content → List ℕ → Type 0
 EndsWith (version_0 digest) rest = (length digest ≡ 32) × (rest ≡ digest)
 EndsWith (version_1 codec p) rest = IsEncoding p rest
@@ -71,7 +71,7 @@ parts_cut c bytes more h =
     ap (λ (z : List ℕ). z ++ more) h.spelled
     ∙ (append_assoc h.first (h.second ++ h.rest) more ∙ ap (λ (z : List ℕ). h.first ++ z) (append_assoc h.second h.rest more))
 
--- where an identifier comes next, reading a varint gives its first number, and then its second
+-- if an identifier comes next, reading a varint returns its first number, and then its second
 module _ (c : Content) (bytes more : List ℕ) (h : Parts c bytes) (before after : ℕ) (old new : Option (List ℕ)) (r : Result ℕ Refusal) (same : after ≡ before)
     (ok : IfOk r (λ n. ConsumesVarint n old new)) (front : IfSome old (λ input. after ≡ before → IfErr r (IsFrontError input))) where
   pub first_read : old ≡ Some (bytes ++ more) → MatchResult r (λ n. (n ≡ first_number c) × (new ≡ Some (h.second ++ (h.rest ++ more)))) (λ _. ⊥)
@@ -119,12 +119,12 @@ make_version_1 version codec p a b encoding is_version first second encodes = re
   spelled = refl;
 }
 
--- three parts were taken one after another
+-- three parts were consumed one after another
 pub takes_three : (a b c d : Option (List ℕ)) (x y z : List ℕ) → Consumes a x b → Consumes b y c → Consumes c z d → Consumes a (x ++ (y ++ z)) d
 takes_three a b c d x y z first second third =
     Consumes-concatenated a b d x (y ++ z) (x ++ (y ++ z)) refl first (Consumes-concatenated b c d y z (y ++ z) refl second third)
 
--- a refusal that is passed on is counted as it was, where nothing was counted before it
+-- an error that is passed on has the same count of failures, if there was none before it
 pub passes : {T : Type 0} (S before mid after : ℕ) (e : Refusal) (r : Result T ContentIdError) → mid ≡ before → IsErrAnd r (λ x. x ≡ Refused e)
     → ((after ≡ mid + 1) × IsReaderError e) ⊎ ((after ≡ mid) × ReadMayFailWith S e)
     → CountsReaderFailures (IsRejected IsReaderError) (ContentIdMayFailWith S) before after r
@@ -132,18 +132,18 @@ passes S before mid after e (Ok x) same given counted = absurd given
 passes S before mid after e (Err x) same given (inl own) = inl (omega (arith, own.0, same), (e, given, own.1))
 passes S before mid after e (Err x) same given (inr listed) = inr (listed.0 ∙ same, inl (e, given, listed.1))
 
--- it is one of those or the reader's own
+-- the error is one of those or the reader's own
 pub rejected_so : {P Q : Type 0} (before after : ℕ) → ((after ≡ before + 1) × Q) ⊎ ((after ≡ before) × P) → P ⊎ Q
 rejected_so before after (inl own) = inr own.1
 rejected_so before after (inr listed) = inl listed.1
 
--- and it took what it took
+-- and the same bytes were consumed
 pub passed_stop : {T : Type 0} (S : ℕ) (old new : Option (List ℕ)) (e : Refusal) (r : Result T ContentIdError) → IsErrAnd r (λ x. x ≡ Refused e)
     → StopsInContentId S e old new → IfErr r (λ x. ConsumesAtContentIdError S x old new)
 passed_stop S old new e (Ok x) given stop = tt
 passed_stop S old new e (Err x) given stop = subst (λ y. ConsumesAtContentIdError S y old new) (sym given) stop
 
--- no varint begins what is shorter than one
+-- no strict prefix of a varint begins with a varint
 no_shorter : (m n : ℕ) (whole shorter rest : List ℕ) → IsVarint m whole → IsStrictPrefix shorter whole
     → (bytes : List ℕ) × IsVarint n bytes × (shorter ≡ bytes ++ rest) → ⊥
 no_shorter m n whole shorter rest is (more, some, cut) (bytes, also, begins) =
@@ -151,7 +151,7 @@ no_shorter m n whole shorter rest is (more, some, cut) (bytes, also, begins) =
     let told = same_number whole m n [] (rest ++ more) (whole, is, sym (append-nil whole)) (bytes, also, spelled) in
     omega (arith, ap (λ (z : List ℕ). length z) told.1, length-append rest more, length_of_not_nil more some)
 
--- the varint of another version, or that of another length, is the last that is taken
+-- the varint of another version, or that of another length, is the last part consumed
 pub takes_other_number : (n : ℕ) (old new : Option (List ℕ)) → ¬ (n ≡ 1) → ¬ (n ≡ 0x12) → ConsumesVarint n old new → ConsumesOtherVersion n old new
 takes_other_number n old new not_1 not_0 v = record {
   consumed = v.0;
@@ -186,7 +186,7 @@ pub takes_other_size : (version size : ℕ) (old middle new : Option (List ℕ))
 takes_other_size version size old middle new is not_32 v s =
     subst (λ n. ConsumesOtherVersion n old new) (sym is) (takes_size size old middle new not_32 (v.0, subst (λ n. IsVarint n v.0) is v.1, v.2) s)
 
--- what shows another version shows it whatever follows
+-- bytes that show another version show it whatever follows
 size_after : (input more : List ℕ) → HasOtherSize input → HasOtherSize (input ++ more)
 size_after input more h = record {
   size = h.size;
@@ -228,7 +228,7 @@ pub content_fits : (S : ℕ) (id : ContentId S) → FitsContentId S (content_of 
 content_fits S (V0 digest) = tt
 content_fits S (V1 codec hash) = digest_fits hash
 
--- an identifier is spelled in one way
+-- an identifier has one encoding
 pub content_same : (c : Content) (a b : List ℕ) → IsContentId c a → IsContentId c b → a ≡ b
 content_same (version_0 digest) a b h k = encoding_same _ a b h.encodes k.encodes
 content_same (version_1 codec p) a b h k =
@@ -240,13 +240,13 @@ content_same (version_1 codec p) a b h k =
       encoding_same p h.encoding k.encoding h.encodes k.encodes,
     )
 
--- what stopped inside one spelling of an identifier stopped inside each
+-- what was appended of an identifier is a strict prefix of its encoding
 pub stops_all : {T E W : Type 0} (appended : W → List ℕ → W → Type 0) (old new : W) (r : Result T E) (c : Content) (x : List ℕ) → IsContentId c x
     → AppendsPrefix appended old x new → OnErr r ((bytes : List ℕ) → IsContentId c bytes → AppendsPrefix appended old bytes new)
 stops_all appended old new r c x is_x part =
     OnErr-always r (λ bytes is_bytes. subst (λ l. AppendsPrefix appended old l new) (content_same c x bytes is_x is_bytes) part)
 
--- what two identifiers in front of one list have in common
+-- two identifiers at the front of one list are equal
 module _ (unique : (p q : Pair) (x y r s : List ℕ) → IsEncoding p x → IsEncoding q y → x ++ r ≡ y ++ s → (p ≡ q) × (x ≡ y) × (r ≡ s)) where
   pub one_place : (c d : Content) (a b r s : List ℕ) → IsContentId c a → IsContentId d b → a ++ r ≡ b ++ s → (c ≡ d) × (a ≡ b) × (r ≡ s)
   one_place c d a b r s id other same = by c d id other (parts c a id) (parts d b other)

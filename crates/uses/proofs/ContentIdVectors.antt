@@ -1,4 +1,5 @@
--- Known content identifiers, and what is none: each content has one spelling, and each spelling one content.
+-- Known content identifiers, and bytes that are none: each content has one encoding, and each encoding one
+-- content.
 use Rattle.std.proofs.Common.{◌≡◌, ◌<◌, ℕ, List, [], ◌∷◌, ◌++◌, length, get_or, replicate, inl, inr, refl, sym, ap, ◌∙◌, subst, arith}
 use Rattle.std.specs.Prelude.{⊤}
 use Rattle.std.proofs.lemmas.Bool.{ltb-true}
@@ -15,7 +16,7 @@ use Rattle.uses.specs.ContentId.{Content, version_0, version_1, content_of, IsCo
 use Rattle.uses.specs.declared.content_id.codec.Codec.{Codec}
 use Rattle.uses.specs.declared.content_id.ContentId.TheVariants.{V0, V1}
 use Rattle.uses.specs.declared.content_id.ContentIdError.{ContentIdError}
-use Rattle.uses.specs.declared.content_id.ContentIdError.TheVariants.{Refused, OtherVersion, LeftOver}
+use Rattle.uses.specs.declared.content_id.ContentIdError.TheVariants.{Refused, OtherVersion, Trailing}
 use Rattle.uses.proofs.ContentIdLemmas.{one_place, content_same}
 use Rattle.multihash.proofs.Writings.EncodingLemmas.{encoding_unique}
 use Rattle.multihash.proofs.Varints.VarintLemmas.{same_number}
@@ -68,7 +69,7 @@ says_one c d bytes is other also =
 spelled_once : (c : Content) (a b : List ℕ) → IsContentId c a → (a ≡ b → ⊥) → ¬ (IsContentId c b)
 spelled_once c a b is other also = other (content_same c a b is also)
 
--- ---- the parts of what is said
+-- ---- the parts of a content
 
 abbrev codec_in : Content → ℕ
 codec_in (version_0 digest) = 0
@@ -126,7 +127,7 @@ names_no_version_0 h = omega (arith, h.whole)
 has_version_1 : ¬ (IsContentId (version_1 0x0129 two_bytes) (0x02 ∷ 0xa9 ∷ 0x02 ∷ 0x12 ∷ 0x02 ∷ 7 ∷ 8 ∷ []))
 has_version_1 = spelled_once (version_1 0x0129 two_bytes) dag_json _ names_dag_json (λ same. omega (arith, ap (λ (z : List ℕ). get_or z 0 0) same))
 
--- the codec stands in front of the multihash
+-- the codec is before the multihash
 codec_not_after : ¬ (IsContentId (version_1 0x0129 two_bytes) (0x01 ∷ 0x12 ∷ 0x02 ∷ 7 ∷ 8 ∷ 0xa9 ∷ 0x02 ∷ []))
 codec_not_after = spelled_once (version_1 0x0129 two_bytes) dag_json _ names_dag_json (λ same. omega (arith, ap (λ (z : List ℕ). get_or z 1 0) same))
 
@@ -152,7 +153,7 @@ no_shorter_digest h = omega (arith, h.whole)
 no_other_function : ¬ (IsContentId (version_0 sevens) (0x13 ∷ 0x20 ∷ sevens))
 no_other_function = spelled_once (version_0 sevens) (0x12 ∷ 0x20 ∷ sevens) _ names_sevens (λ same. omega (arith, ap (λ (z : List ℕ). get_or z 0 0) same))
 
--- neither a version nor a codec stands in front
+-- neither a version nor a codec is before it
 no_version_in_front : ¬ (IsContentId (version_0 sevens) (0x00 ∷ 0x70 ∷ 0x12 ∷ 0x20 ∷ sevens))
 no_version_in_front = spelled_once (version_0 sevens) (0x12 ∷ 0x20 ∷ sevens) _ names_sevens (λ same. omega (arith, ap (λ (z : List ℕ). get_or z 0 0) same))
 
@@ -167,16 +168,16 @@ fits_two = omega arith
 pub fits_no_smaller : ¬ (FitsContentId 1 (version_1 0x0129 two_bytes))
 fits_no_smaller h = omega (arith, h)
 
--- version 0 has a buffer of its own
+-- version 0 has its own buffer
 version_0_fits : FitsContentId 0 (version_0 sevens)
 version_0_fits = tt
 
--- ---- what a value says
+-- ---- the content of a value
 
 abbrev held_codec : Codec
 held_codec = record { number = 0x0129; in_range = omega arith }
 
--- of the buffer only what stands below the size is the digest
+-- only the first `size` bytes of the buffer are the digest
 abbrev held_two : Fields 4
 held_two = record { code = 0x12; size = 2; buffer = 7 ∷ 8 ∷ 9 ∷ 9 ∷ []; in_range = omega arith; fits = omega arith }
 
@@ -203,7 +204,7 @@ says_no_other_version : ¬ (content_of {S = 4} (V0 sevens) ≡ version_1 0 (reco
     × ¬ (content_of (V1 held_codec held_two) ≡ version_0 (7 ∷ 8 ∷ []))
 says_no_other_version = ((λ h. omega (arith, ap version_in h)), λ h. omega (arith, ap version_in h))
 
--- ---- refusals
+-- ---- errors
 
 passes_on : IsRejected (IsVarintError insufficient) (Refused (of_varint insufficient))
 passes_on = (of_varint insufficient, refl, refl)
@@ -211,8 +212,8 @@ passes_on = (of_varint insufficient, refl, refl)
 passes_on_no_other : ¬ (IsRejected (IsVarintError insufficient) (Refused (of_varint overflow)))
 passes_on_no_other (e, is, names) = cc
 
--- another version and bytes left over are no refusals that are passed on
-passes_on_none : ¬ (IsRejected (λ _. ⊤) (OtherVersion 2)) × ¬ (IsRejected (λ _. ⊤) (LeftOver 2))
+-- another version and trailing bytes are not errors that are passed on
+passes_on_none : ¬ (IsRejected (λ _. ⊤) (OtherVersion 2)) × ¬ (IsRejected (λ _. ⊤) (Trailing 2))
 passes_on_none = ((λ (e, is, any). cc), λ (e, is, any). cc)
 
 other_version : IsOtherVersion (OtherVersion 2)
@@ -222,10 +223,10 @@ other_version = (2, refl, λ one. omega (arith, one))
 not_version_1 : ¬ (IsOtherVersion (OtherVersion 1))
 not_version_1 h = h.2 (cc (h.1))
 
-names_other_version : ¬ (IsOtherVersion (LeftOver 2)) × ¬ (IsOtherVersion (Refused (of_varint insufficient)))
+names_other_version : ¬ (IsOtherVersion (Trailing 2)) × ¬ (IsOtherVersion (Refused (of_varint insufficient)))
 names_other_version = ((λ (n, is, other). cc), λ (n, is, other). cc)
 
--- the errors of reading into four bytes: what refuses a multihash there, and another version
+-- the errors of reading at capacity 4: those of a multihash, and another version
 abbrev Rejects : ContentIdError → Type 0
 Rejects (Refused (of_io own)) = IsUnexpectedEof own
 Rejects (Refused (of_size size)) = 4 < size
@@ -233,7 +234,7 @@ Rejects (Refused (of_code code)) = ⊥
 Rejects (Refused (of_varint fault)) = ⊤
 Rejects (Refused of_not_bytes) = ⊥
 Rejects (OtherVersion n) = ¬ (n ≡ 1)
-Rejects (LeftOver n) = ⊥
+Rejects (Trailing n) = ⊥
 
 refuses : (e : ContentIdError) → Rejects e → ContentIdMayFailWith 4 e
 refuses (Refused (of_io own)) h = inl (of_io own, refl, inr (inr (own, refl, h)))
@@ -242,7 +243,7 @@ refuses (Refused (of_code code)) h = absurd h
 refuses (Refused (of_varint fault)) h = inl (of_varint fault, refl, inr (inl (fault, refl)))
 refuses (Refused of_not_bytes) h = absurd h
 refuses (OtherVersion n) h = inr (n, refl, h)
-refuses (LeftOver n) h = absurd h
+refuses (Trailing n) h = absurd h
 
 rejects_only : (e : ContentIdError) → ContentIdMayFailWith 4 e → Rejects e
 rejects_only e (inl (x, is, inl (size, names, large))) = subst Rejects (sym (is ∙ ap Refused names)) large

@@ -1,4 +1,4 @@
--- What the headline concludes from the verdict that was answered.
+-- What the headline concludes from the verdict that was returned.
 use Rattle.std.proofs.Common.{◌≡◌, ◌⊎◌, ◌↔◌, ◌+◌, ℕ, List, Option, Some, Result, Ok, Err, IfSome, IsOkAnd, IsErrAnd, MatchResult, inl, inr, sym, ◌∙◌, subst}
 use Rattle.std.proofs.lemmas.Option.{IfSome_then}
 use Rattle.multihash.specs.Bytes.{ExactlyOne}
@@ -11,7 +11,7 @@ use Rattle.multihash.specs.Reading.{Consumes, CountsReaderFailures}
 use Rattle.multihash.specs.Refusal.{Refusal, IsReaderError}
 use Rattle.multihash.specs.Outcome.{Fields, pair_of, IsErrorOf, IsResultOf}
 
--- a pair is the answer exactly where the bytes are its encoding and it fits
+-- a pair is the result exactly if the bytes are its encoding and it fits
 pub answers_pair : (S : ℕ) (bytes : List ℕ) (r : Result (Fields S) Refusal) (v : Verdict) → HasWholeVerdict S bytes v → IsResultOf r v
     → ((w : Verdict) → HasWholeVerdict S bytes w → w ≡ v) → (p : Pair)
     → (IsEncoding p bytes × FitsBuffer S p) ↔ IsOkAnd r (λ m. pair_of m ≡ p)
@@ -43,7 +43,7 @@ one_answered S before after old r unique counts verdict = either r counts where
   either (Err e) (inl own) = inl own
   either (Err e) (inr (same, listed)) = inr (same, found same)
 
--- what was taken is the one shortest beginning that settles
+-- what was consumed is the one shortest prefix that settles
 pub one_taken : (S before after : ℕ) (old new : Option (List ℕ))
     → ((S : ℕ) (input : List ℕ) (v : Verdict) → HasVerdict S input v → ¬ (IsIncomplete v) → ExactlyOne (IsShortestSettling S input))
     → IfSome old (λ rest. after ≡ before → (v : Verdict) → HasVerdict S rest v → ¬ (IsIncomplete v) → ConsumesShortestSettling S rest new)
@@ -55,7 +55,7 @@ one_taken S before after old new shortest settled = IfSome_then old settled
     let one = shortest S rest v has late in
     (one, subst (λ front. Consumes (Some rest) front new) (one.only took.front took.shortest) took.consumes))
 
--- what holds where the reader does not fail holds, or it failed, once
+-- what holds if the reader does not fail holds, or the reader failed, once
 pub unless_failed : {A : Type 0} (P : A → Type 0) (Q IsListed : Refusal → Type 0) (before after : ℕ) (r : Result A Refusal)
     → CountsReaderFailures IsReaderError IsListed before after r → (after ≡ before → MatchResult r P Q)
     → MatchResult r P (λ e. Q e ⊎ ((after ≡ before + 1) × IsReaderError e))
@@ -63,7 +63,7 @@ unless_failed P Q IsListed before after (Ok x) same met = met same
 unless_failed P Q IsListed before after (Err e) (inl own) met = inr own
 unless_failed P Q IsListed before after (Err e) (inr (same, listed)) met = inl (met same)
 
--- a refusal of one kind is one of two
+-- an error of one kind is one of two
 pub or_other : {T E : Type 0} (P : T → Type 0) (Q R : E → Type 0) (r : Result T E) → MatchResult r P Q → MatchResult r P (λ e. Q e ⊎ R e)
 or_other P Q R (Ok t) h = h
 or_other P Q R (Err e) h = inl h

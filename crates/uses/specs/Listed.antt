@@ -1,4 +1,4 @@
--- What a JSON value lists, and why a value is refused that lists nothing.
+-- What a JSON value lists, and the errors for a value that lists nothing.
 use Rattle.std.specs.Prelude.{ℕ, List}
 use Rattle.serde_json.specs.Data.{Data}
 use Rattle.multihash.specs.Pair.{Pair, FitsBuffer}
@@ -13,7 +13,7 @@ pub record ListsOne (S : ℕ) (value : Data) : Type 0 where
   pub lists : IsJsonList pair value
   pub fits : FitsBuffer S pair
 
--- this refusal is the value's: its bytes' verdict asks for it, or else the value is no array of bytes
+-- the error is the value's: that of its bytes' verdict, or that the value is no array of bytes
 pub record ListMayFailWith (S : ℕ) (value : Data) (e : Refusal) : Type 0 where
   pub verdict : (bytes : List ℕ) → IsByteArray value bytes →
       (v : Verdict) × HasWholeVerdict S bytes v × IsErrorOf e v

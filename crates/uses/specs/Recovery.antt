@@ -1,12 +1,12 @@
--- How a stream with spoilt parts is taken apart.
+-- How a stream with corrupt entries is split.
 use Rattle.std.specs.Prelude.{ℕ, ◌+◌, List, [], ◌∷◌, ◌++◌}
 use Rattle.multihash.specs.Pair.{Pair, FitsBuffer}
 use Rattle.multihash.specs.Encoding.{IsEncoding}
 use Rattle.multihash.specs.Verdict.{Verdict, HasVerdict, IsIncomplete}
 use Rattle.multihash.specs.Settling.{IsShortestSettling}
 
--- the pairs in order, and how many parts were refused: behind each pair's encoding it goes on, and behind the
--- shortest beginning that shows a fault; an early end is the last part
+-- the pairs in order, and the number of corrupt entries: it continues after each pair's encoding, and after
+-- the shortest prefix that shows an error; a truncated entry is the last
 pub data Recovers (S : ℕ) : List ℕ → List Pair → ℕ → Type 0 where
   ended : Recovers S [] [] 0
   good : (p : Pair) (encoding rest : List ℕ) (pairs : List Pair) (count : ℕ)

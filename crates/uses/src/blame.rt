@@ -1,4 +1,4 @@
-//! What an error means: who failed, what was consumed, and whether more input could help.
+//! What an error means: what failed, what was consumed, and whether more input could help.
 ghost use Rattle.std.specs.Prelude.{◌≡◌, ◌<◌, ◌≤◌, ◌↔◌, ◌⊎◌, ℕ, List, ◌++◌, length, codes, string_bytes, Some, None, IsTrue, IfSome, IfNone, IfOk, IfErr, IsErrAnd, MatchOption};
 ghost use Rattle.multihash.specs.Varint.{varint_limit};
 ghost use Rattle.multihash.specs.Pair.{Pair, FitsBuffer, digest_limit};
@@ -15,8 +15,8 @@ use multihash::no_std_io::{Read, Write};
 use multihash::{Error, Multihash, laws};
 use std::alloc::{AllocError, Global};
 
-/// What was read, and whether the reader itself failed: exactly if its failures rose. If nothing was read and
-/// the reader did not fail, no multihash that fits comes next.
+/// What was read, and whether the reader itself failed: exactly if its failure count rose. If nothing was
+/// read and the reader did not fail, no multihash that fits comes next.
 pub fn reader_failed<const S: usize, R: Read>(r: &mut R) -> (Option<Multihash<S>>, bool)
     ensures failed { IsTrue result.1 ↔ (R.failures r.old < R.failures r.new) }
     ensures read { IfSome result.0 (λ m. (bytes : List ℕ) × IsEncoding (pair_of m) bytes

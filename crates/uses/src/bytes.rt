@@ -53,7 +53,7 @@ pub fn write_two<W: Write>(w: &mut W, a: &[u8], b: &[u8]) -> Result<(), no_std_i
     w.write_all(b)
 }
 
-/// Writes `a` and then `b` to the front of `places`, which is long enough, and returns the number of bytes
+/// Writes `a` and then `b` to the front of `buffer`, which is long enough, and returns the number of bytes
 /// left.
 pub fn fill_two(buffer: &mut [u8], a: &[u8], b: &[u8]) -> usize
     requires { length a.now + length b.now ≤ length buffer.old }
@@ -76,7 +76,7 @@ pub fn concatenated(alloc: Global, a: &[u8], b: &[u8]) -> Result<Vec<u8>, no_std
     Ok(all)
 }
 
-/// Whether the encoding was written to the front of `places`, and the number of bytes left after it. If the
+/// Whether the encoding was written to the front of `buffer`, and the number of bytes left after it. If the
 /// slice is too short, none are left.
 pub fn fills<const S: usize>(m: &Multihash<S>, buffer: &mut [u8]) -> (bool, usize)
     ensures { (bytes : List ℕ) × IsEncoding (pair_of m.now) bytes

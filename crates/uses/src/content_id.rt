@@ -3,8 +3,8 @@ ghost use Rattle.std.specs.Prelude.{◌≡◌, ◌↔◌, ℕ, List, ◌++◌, S
 ghost use Rattle.multihash.specs.Reading.{Consumes, CountsReaderFailures};
 ghost use Rattle.multihash.specs.Writing.{AppendsPrefix, CountsWriterFailures};
 ghost use Rattle.multihash.specs.Refusal.{Refusal, IsIo, IsOutOfMemory, IsReaderError, of_io};
-ghost use Rattle.uses.specs.ContentId.{Content, content_of, IsContentId, FitsContentId, IsRejected, ContentIdMayFailWith, BeginsOtherwise, StopsInContentId, ConsumesAtContentIdError, LeavesOver};
-ghost use Rattle.uses.specs.declared.content_id.ContentIdError.TheVariants.{Refused, OtherVersion, LeftOver};
+ghost use Rattle.uses.specs.ContentId.{Content, content_of, IsContentId, FitsContentId, IsRejected, ContentIdMayFailWith, BeginsOtherwise, StopsInContentId, ConsumesAtContentIdError, HasTrailingBytes};
+ghost use Rattle.uses.specs.declared.content_id.ContentIdError.TheVariants.{Refused, OtherVersion, Trailing};
 
 mod codec;
 
@@ -39,7 +39,7 @@ pub enum ContentIdError {
     /// The first varint has this number, which is neither 1 nor the start of a multihash of version 0.
     OtherVersion(u64),
     /// This number of bytes follows the identifier.
-    LeftOver(usize),
+    Trailing(usize),
 }
 
 impl fmt::Display for ContentIdError {
@@ -47,7 +47,7 @@ impl fmt::Display for ContentIdError {
         match self {
             ContentIdError::Refused(e) => write!(f, "{e}"),
             ContentIdError::OtherVersion(n) => write!(f, "no content identifier of version {n}"),
-            ContentIdError::LeftOver(n) => write!(f, "{n} bytes behind a content identifier"),
+            ContentIdError::Trailing(n) => write!(f, "{n} bytes after a content identifier"),
         }
     }
 }
@@ -124,7 +124,7 @@ impl<const S: usize> ContentId<S> {
     ///
     /// # Errors
     ///
-    /// Those of [`ContentId::read`], and [`ContentIdError::LeftOver`] with the number of bytes that follow
+    /// Those of [`ContentId::read`], and [`ContentIdError::Trailing`] with the number of bytes that follow
     /// the identifier, if some do.
     pub fn from_bytes(bytes: &[u8]) -> Result<Self, ContentIdError>
         ensures ok { IfOk result (λ id. IsContentId (content_of id) bytes.now) }
@@ -133,7 +133,7 @@ impl<const S: usize> ContentId<S> {
         ensures other { (n : ℕ) →
             (IsErrOf result (OtherVersion n) ↔ BeginsOtherwise n bytes.now) }
         ensures has_trailing { (n : ℕ) →
-            (IsErrOf result (LeftOver n) ↔ LeavesOver S n bytes.now) }
+            (IsErrOf result (Trailing n) ↔ HasTrailingBytes S n bytes.now) }
         ensures refused { (e : Refusal) → IsErrOf result (Refused e) →
             (left : Option (List ℕ)) × StopsInContentId S e (Some bytes.now) left }
     {
@@ -141,7 +141,7 @@ impl<const S: usize> ContentId<S> {
         let id = Self::read(&mut left)?;
         match left.len() {
             0 => Ok(id),
-            more => Err(ContentIdError::LeftOver(more)),
+            more => Err(ContentIdError::Trailing(more)),
         }
     }
 

@@ -20,7 +20,7 @@ pub enum Form {
     Json,
 }
 
-/// Whether the SCALE form was written to the front of `places`, and the number of bytes left after it. If the
+/// Whether the SCALE form was written to the front of `buffer`, and the number of bytes left after it. If the
 /// slice is too short, none are left.
 pub fn fills_scale<const S: usize>(m: &Multihash<S>, buffer: &mut [u8]) -> (bool, usize)
     ensures { (bytes : List ℕ) × IsScale (pair_of m.now) bytes
@@ -40,7 +40,7 @@ pub fn fills_longest_scale<const S: usize>(m: &Multihash<S>, buffer: &mut [u8; 2
     m.scale_encode(&mut left).unwrap()
 }
 
-/// Whether the encodings of some multihashes were written to the front of `places`, and the number of bytes
+/// Whether the encodings of some multihashes were written to the front of `buffer`, and the number of bytes
 /// left after them. If the slice is too short, none are left.
 pub fn fills_list<const S: usize>(items: &[Multihash<S>], buffer: &mut [u8]) -> (bool, usize)
     ensures { (bytes : List ℕ) × AreConcatenated (map pair_of items.now) bytes

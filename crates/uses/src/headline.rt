@@ -1,5 +1,5 @@
-//! The project's headline, as the contracts of four calls. Each returns what it made, so that a body that does not do
-//! the work fails its contract. One thing no contract can state: that an allocation succeeds. So `same` and
+//! The project's headline, as the contracts of four calls. Each returns what it made, so a body that does
+//! not do the work fails its contract. No contract can state that an allocation succeeds: `same` and
 //! `list_through` may run out of memory, and nothing else stops `same`.
 ghost use Rattle.std.specs.Prelude.{◌≡◌, ◌<◌, ◌⊎◌, ◌↔◌, ℕ, List, ◌+◌, ◌++◌, map, All, Some, IfSome, IfOk, IfErr, IsOkAnd, IsErr, IsErrAnd, IsTrue, MatchResult};
 ghost use Rattle.multihash.specs.Bytes.{ExactlyOne, IsPrefix};
@@ -34,8 +34,8 @@ pub fn verdict<const S: usize>(bytes: &[u8]) -> Result<Multihash<S>, Error>
 /// Reads the multihash that comes next in a reader. The clauses say what was read and what is left if the
 /// reader's input is known (`rest`), as it is for a slice.
 pub fn read_verdict<const S: usize, R: Read>(r: &mut R) -> Result<Multihash<S>, Error>
-    // Either the reader failed, once, and its error is the result; or it did not fail, the grammar assigns exactly one
-    // verdict to the rest, and that is the result.
+    // Either the reader failed, once, and its error is the result; or it did not fail, the grammar assigns
+    // exactly one verdict to the rest, and that is the result.
     ensures one { ((R.failures r.new ≡ R.failures r.old + 1) × IsErrAnd result IsReaderError)
         ⊎ ((R.failures r.new ≡ R.failures r.old) × IfSome (R.rest r.old)
         (λ rest. (one : ExactlyOne (HasVerdict S rest)) × IsResultOf result one.value)) }
@@ -105,9 +105,9 @@ pub fn same<const A: usize, const B: usize>(
 /// Writes a list to any writer, and reads it back from any reader, into values of the same capacity or of
 /// another.
 ///
-/// `W.appended` is all that contracts know of what a writer did. Between a `&mut [u8]` and what is left of it any bytes
-/// of that length have been appended, so no reader meets the premise of `back`: `slices::list_back` has a list that goes
-/// through a slice.
+/// `W.appended` is all that contracts know of what a writer did. For `&mut [u8]` it holds of any bytes of the
+/// right length, so no reader meets the premise of `back`: `slices::list_back` has a list that goes through
+/// a slice.
 pub fn list_through<const S: usize, const T: usize, W: Write, R: Read>(
     alloc: Global,
     items: &[Multihash<S>],

@@ -7,7 +7,7 @@ use multihash::no_std_io::{Error, Read};
 // The most bytes requested in one call.
 const CHUNK: usize = 64;
 
-/// Calls its reader again after a failure, as long as it has tries left. It passes a buffer of its own, since
+/// Calls its reader again after a failure, as long as it has tries left. It passes its own buffer, since
 /// the contents of a buffer after a failed call are unknown.
 ///
 /// Each of its failing calls counts one failure, as the law of `Read` demands: its count is the reader's

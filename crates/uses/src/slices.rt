@@ -12,7 +12,7 @@ use multihash::no_std_io::SliceWriter;
 use multihash::{Error, Multihash};
 use std::alloc::Global;
 
-/// Writes the encoding to the front of `places` and returns its length; none if it does not fit, and then the
+/// Writes the encoding to the front of `buffer` and returns its length; none if it does not fit, and then the
 /// bytes are unchanged.
 pub fn encode_into<const S: usize>(m: &Multihash<S>, buffer: &mut [u8]) -> Option<usize>
     ensures { (bytes : List ℕ) × IsEncoding (pair_of m.now) bytes
@@ -26,7 +26,7 @@ pub fn encode_into<const S: usize>(m: &Multihash<S>, buffer: &mut [u8]) -> Optio
     Some(m.write(&mut writer).unwrap())
 }
 
-/// Writes the encodings of some multihashes to the front of `places` and returns their length; none if they
+/// Writes the encodings of some multihashes to the front of `buffer` and returns their length; none if they
 /// do not fit, and then the bytes are unspecified.
 pub fn encode_all_into<const S: usize>(items: &[Multihash<S>], buffer: &mut [u8]) -> Option<usize>
     ensures { (bytes : List ℕ) × AreConcatenated (map pair_of items.now) bytes
@@ -40,7 +40,7 @@ pub fn encode_all_into<const S: usize>(items: &[Multihash<S>], buffer: &mut [u8]
     }
 }
 
-/// Writes multihashes to the front of `places`, and reads them back with the same capacity or another: the
+/// Writes multihashes to the front of `buffer`, and reads them back with the same capacity or another: the
 /// same pairs in order, if they fit; none if the slice is too short. It fails only when out of memory.
 pub fn list_back<const S: usize, const R: usize>(
     alloc: Global,

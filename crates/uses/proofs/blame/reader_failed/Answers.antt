@@ -6,7 +6,7 @@ use Rattle.multihash.specs.Outcome.{IsErrorOf}
 use Rattle.multihash.proofs.Readings.VerdictLemmas.{verdict_unique}
 use Rattle.uses.proofs.blame.reader_failed.Goals as goal
 
--- what is refused is no pair that fits
+-- rejected input has no pair that fits at its front
 no_pair : (S : ℕ) (e : Refusal) (P : Type 0) (rest : Option (List ℕ))
     → IfSome rest (λ bytes. P → (v : Verdict) × HasVerdict S bytes v × IsErrorOf e v)
     → IfSome rest (λ bytes. P → (p : Pair) → ¬ (HasVerdict S bytes (accepted p)))

@@ -8,7 +8,7 @@ use Rattle.multihash.specs.Outcome.{IsErrorOf}
 use Rattle.multihash.proofs.Forms.StreamLemmas.{ConsumesPairs-more}
 use Rattle.uses.proofs.dump.read_all.Goals as goal
 
--- what is left is what stands at the place
+-- what is left is what is at the position
 rest_at : (S : ℕ) (pairs : List Pair) (input left : List ℕ) → ConsumesPairs S pairs (Some input) (Some left) → left ≡ drop (length input - length left) input
 rest_at S pairs input left took =
     let cut : input ≡ took.bytes ++ left = cc (took.consumes) in

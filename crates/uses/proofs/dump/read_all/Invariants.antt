@@ -1,4 +1,4 @@
--- The multihashes so far were taken, and this much is left.
+-- The multihashes so far were consumed, and this much is left.
 use Rattle.std.proofs.Common.{Some, length, map}
 use Rattle.multihash.specs.Streams.{ConsumesPairs}
 use Rattle.multihash.specs.Outcome.{pair_of}

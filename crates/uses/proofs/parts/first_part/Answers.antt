@@ -3,7 +3,7 @@ use Rattle.std.proofs.lemmas.List.{take-append-drop, take_rest}
 use Rattle.multihash.specs.Varint.{IsVarint}
 use Rattle.uses.proofs.parts.first_part.Goals as goal
 
--- two fronts, and what stands behind them
+-- two prefixes, and what follows them
 concatenated : (a : List ℕ) (k m : ℕ) (following : List ℕ) → following ≡ drop m (drop k a) → a ≡ take k a ++ (take m (drop k a) ++ following)
 concatenated a k m following same =
     sym (take-append-drop k a)

@@ -5,7 +5,7 @@ use Rattle.multihash.specs.Outcome.{pair_of}
 use Rattle.multihash.proofs.OutcomeLemmas.{passed_on}
 use Rattle.uses.proofs.slices.list_back.Goals as goal
 
--- the bytes that were filled are what is read
+-- the bytes that are read are those that were written
 first_filled : (bytes rest buffer : List ℕ) (n : ℕ) → n ≡ length bytes → buffer ≡ bytes ++ rest → take n buffer ≡ bytes ++ []
 first_filled bytes rest buffer n long puts = rw (puts, long) (take-append_seam bytes rest ∙ sym (append-nil bytes))
 

@@ -8,7 +8,7 @@ use Rattle.uses.proofs.ContentIdLemmas.{parts, first_read, second_read, ends_ver
 use Rattle.uses.proofs.content_id.ContentId.read.Goals as goal
 use Rattle.uses.proofs.content_id.ContentId.read.Goals.{else-version-ne-VERSION-via-then-version-ne-VERSION+else-version-ne-SHA2_256, else-version-ne-VERSION-via-else-version-ne-VERSION}
 
--- ---- what was taken
+-- ---- what was consumed
 
 pub returns-then-version-eq-VERSION-clause-ok : goal.returns-then-version-eq-VERSION-clause-ok
 returns-then-version-eq-VERSION-clause-ok g c =
@@ -206,7 +206,7 @@ returns-clause-other g c n input h rest same =
     let two = varint_read k.size _ _ _ _ k.size_bytes k.rest (Ok c.in_ok-number.number) k.is_size (one.1 ∙ ap Some k.cut) met.faults met.ok met.front in
     absurd (k.not_32 (omega (arith, two.0)))
 
--- ---- what an error took
+-- ---- what an error consumed
 
 pub returns-in_err-version-clause-err : goal.returns-in_err-version-clause-err
 returns-in_err-version-clause-err g c =

@@ -1,4 +1,4 @@
--- Nothing was taken, and each failure was paid for by a try.
+-- Nothing was consumed, and each failure cost one try.
 use Rattle.std.proofs.Common.{◌≡◌, ◌+◌}
 use Rattle.uses.proofs.retries.RetriesRead.read.Given as goal
 

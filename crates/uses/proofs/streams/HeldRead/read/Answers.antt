@@ -2,7 +2,7 @@ use Rattle.std.proofs.Common.{◌≡◌, ◌+◌, ◌-◌, ℕ, List, Some, ◌+
 use Rattle.std.proofs.lemmas.List.{drop-drop, drop_at, take_rest}
 use Rattle.uses.proofs.streams.HeldRead.read.Goals as goal
 
--- after a front that begins at a position, the list goes on that much further
+-- what follows a front at a position is at the front's end
 after_front : (items front left : List ℕ) (at : ℕ) → drop at items ≡ front ++ left → left ≡ drop (at + length front) items
 after_front items front left at cut =
     sym (drop_at front left (length front) refl) ∙ (ap (drop (length front)) (sym cut) ∙ drop-drop (length front) at items)
