@@ -1,6 +1,6 @@
 """Decides whether a mutant is rejected: the prover must leave goals open, only of the clauses it breaks."""
 from . import source
-from .output import FOLLOWS, LIMIT
+from .output import FOLLOWS, Finding
 from .repository import is_of_no_function, texts_of
 
 BY_GOAL, BY_LIMIT = "by a goal: ", "by a limit: "
@@ -32,8 +32,8 @@ class Judge:
 
     def judge(self, mutant, findings, where):
         """Judges a mutant under which goals are open."""
-        found = min((it for it in findings if not it.is_of_names), key=lambda it: LIMIT in it.text)
-        why = f"{BY_LIMIT if LIMIT in found.text else BY_GOAL}{where}: {found}"
+        found = min((it for it in findings if not it.is_of_names), key=Finding.is_by_limit)
+        why = f"{BY_LIMIT if found.is_by_limit() else BY_GOAL}{where}: {found}"
         if not self.is_as_stated(mutant, findings):
             opened = "; ".join(sorted(self.open_clauses(mutant, findings)))
             self.report.fails(mutant.label, f"it is to break {', '.join(mutant.breaks)} alone, and these are open: {opened}")

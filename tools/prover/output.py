@@ -12,7 +12,8 @@ SEARCHED = re.compile(r"`search` did not prove (`[^`]*`)")
 # an error that follows from one of another function or file
 FOLLOWS = re.compile(r"depends? on |was not admitted|which is not proved")
 GOAL = re.compile(r"`(returns[^`]*)`")
-LIMIT = "gave up at one of its limits"
+# of a search that did not try all: for a goal of the source, and for one in a proof file
+LIMIT = re.compile(r"gave up at one of its limits|was found\. It stopped ")
 UNCOVERED = re.compile(r"does not cover|not covered by the borrow checker")
 
 
@@ -39,13 +40,17 @@ class Finding:
             else contract.is_single and names and names[0])
         return found if found in names else str(self)
 
+    def is_by_limit(self):
+        return bool(LIMIT.search(self.text))
+
     def __str__(self):
         return f"{self.path}:{self.line}: {self.text}"[:220]
 
 
 class Output:
     def __init__(self, status, text):
-        self.lines = text.rstrip("\n").split("\n")
+        # an error with a long goal has the rest of its text on the next line
+        self.lines = text.rstrip("\n").replace("\n  was found. ", " was found. ").split("\n")
         result = next((it for it in reversed(self.lines) if it.startswith("logic=")), "")
         self.is_proved = status == 0 and result.startswith("logic=proved")
         self.is_rejected = status == 1 and result.startswith("logic=not-proved")
