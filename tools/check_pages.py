@@ -2,9 +2,11 @@
 """Compares the contracts, examples and commands in CALLING.md and README.md with the sources.
 The last line is 'N passed, M failed'.
 
-  check_pages.py            fails where a page says something else than the sources
+  check_pages.py            fails where a page says something else than the sources, or a command of README.md does; the program is that
+                            of 'rt ci', if BUILT says so; otherwise 'rt run' builds it
   check_pages.py --write    writes the contracts of the library's public functions into CALLING.md
 """
+import os
 import re
 import subprocess
 import sys
@@ -78,15 +80,35 @@ def example_faults(page: str, sources: set[str]) -> Iterator[str]:
             yield f"an example has a line that no source has: {line}"
 
 
+def commands(page: str) -> list[str]:
+    """The lines of the page's blocks of commands, and the commands that its text quotes."""
+    text = re.sub(r"^```.*?^```$", "", page, flags=re.MULTILINE | re.DOTALL)
+    quoted = re.findall(r"`((?:apt-get |bash |rt |tools/|\.ci/)[^`]+)`", text)
+    return [line.split("#")[0].strip() for block in blocks(page, "sh") for line in block.splitlines()] + quoted
+
+
 def command_faults(page: str) -> Iterator[str]:
-    """Runs the first command of the page: it prints what the page says, as the program's test does."""
-    command = next(line for block in blocks(page, "sh") for line in block.splitlines() if "rt try" in line)
-    run = subprocess.run(["bash", "-c", command], cwd=TOP, capture_output=True, text=True)
-    wanted = (TOP / "crates" / "mh_show" / "stdout").read_text()
-    if run.returncode != 0 or run.stdout != wanted:
-        yield f"{command.split('#')[0].strip()}: status {run.returncode}, printed {run.stdout!r}, {run.stderr[-300:]!r}"
-    if wanted not in blocks(page, ""):
-        yield "README.md shows another output than the program's test demands"
+    """Runs the quick start, and finds each other command in what CI runs. CI installs nothing by apt-get: it has no network."""
+    ci, installation, wanted = ((TOP / it).read_text() for it in (".ci/run", "tools/test_install.sh", "crates/mh_show/stdout"))
+    parts = {*" ".join(re.findall(r'^(?:last=|  )"(.*)"$', ci, re.MULTILINE)).split()} - {"$last"}
+    options = re.findall(r"\b(\d:[-\w]*)(?= \||\))", ci)
+    installs = re.findall(r'try "installing" (.*)', installation.replace('"$prefix"', "PREFIX"))
+    if wanted not in blocks(page, "") or f"`{len(parts)} passed, 0 failed`" not in page:
+        yield "it shows another output than the program's test demands, or another number of parts than .ci/run has"
+    used = [*(TOP / "crates.txt").read_text().splitlines(), "app: multihash"]
+    yield from (f"crates.txt does not have {line}" for it in blocks(page, "") if "app:" in it for line in it.splitlines() if line not in used)
+    if sum("rt" in command.split() for command in commands(page)) < 2:
+        yield "it does not show the two commands of the quick start"
+    for command in commands(page):
+        path, *words = command.removeprefix("bash ").split()
+        if "rt" in words:
+            if os.environ.get("BUILT") == "rt ci":  # over the program that it built
+                command = command.replace("rt run", "out/mh_show")
+            run = subprocess.run(["bash", "-c", command], cwd=TOP, capture_output=True, text=True)
+            if run.returncode != 0 or run.stdout != wanted:
+                yield f"{command}: status {run.returncode}, printed {run.stdout!r}, {run.stderr[-300:]!r}"
+        elif not (f"{len(words)}:{''.join(words[:1])}" in options if path == ".ci/run" else path == "apt-get" or command in installs):
+            yield f"CI does not run {command}"
 
 
 def main() -> int:
@@ -106,7 +128,7 @@ def main() -> int:
         "the contracts in CALLING.md": [] if found == wanted else ["tools/check_pages.py --write writes those of the sources"],
         "the examples in CALLING.md": list(example_faults(before, sources)),
         "the examples in README.md": list(example_faults(readme, sources)),
-        "the command in README.md": list(command_faults(readme)),
+        "the commands in README.md": list(command_faults(readme)),
     }
     for name, faults in checks.items():
         print("\n".join([f"failed: {name}", *faults] if faults else [f"passed: {name}"]))

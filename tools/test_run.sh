@@ -23,7 +23,7 @@ lay_out() {
   printf '%s\n' "multihash: itoa" "multihash_c staticlib: multihash" "uses: multihash" > crates.txt
   for part in $parts; do stub "tools/$part" "$sound"; done
   stub bin/rt '[ "$*" = ci ] && sleep 0.3 && touch rt_ended && echo "2 passed, 0 failed"'
-  for part in refuse_memory.sh refused_runs.sh; do
+  for part in refuse_memory.sh refused_runs.sh check_pages.py; do
     stub "tools/$part" "[ \"\$BUILT\" = 'rt ci' ] && $after_rt"
   done
   stub tools/speed "[ \"\$BUILT \$*\" = 'rt ci --sample 10' ] && $after_rt"
