@@ -89,7 +89,7 @@ def arguments():
     parser = argparse.ArgumentParser(description=__doc__,
         formatter_class=argparse.RawDescriptionHelpFormatter)
     root = os.path.dirname(os.path.dirname(os.path.realpath(__file__)))
-    for name, default in {"root": root, "proved": "", "jobs": 0, "since": "", "draw": 12,
+    for name, default in {"root": root, "proved": "", "jobs": 0, "since": "", "draw": 6,
             "seed": secrets.token_hex(4)}.items():
         parser.add_argument(f"--{name}", default=default, type=type(default))
     parser.add_argument("--all", action="store_true")
