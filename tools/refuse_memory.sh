@@ -2,8 +2,9 @@
 # Makes each allocation fail in turn: runs each test by itself while its Nth allocation fails, N counted
 # upwards until the test makes fewer. A test in which one failed, and that found all as it should be, fails
 # with REFUSED. Each run has to free what it allocated. The programs are those that 'rt ci' built of the
-# crates' tests, if BUILT says so; otherwise 'rt test' builds them. tools/refuse_memory.c, which is loaded
-# before malloc, makes allocations fail and counts them. The last line is 'N passed, M failed'.
+# crates' tests, if BUILT says so; otherwise 'rt test' builds them. Of mh_show the program is run: if an
+# allocation fails, it has to print that it is out of memory, and nothing else. tools/refuse_memory.c, which
+# is loaded before malloc, makes allocations fail and counts them. The last line is 'N passed, M failed'.
 set -uo pipefail
 cd "$(dirname "$0")/.." || exit 2
 refused='error: "memory was refused"'
@@ -33,14 +34,6 @@ needs_no_memory 0
 parts_and_slices_need_no_memory 0
 errors_need_no_memory 0
 usual_digests_need_no_memory 0
-LIST
-      ;;
-    mh_show) cat << 'LIST'
-refused_show 5
-an_odd_line_needs_no_memory 0
-refused_run_of_the_example 8
-refused_run_of_a_refusal 5
-refused_before_a_read 4 1
 LIST
       ;;
   esac
@@ -117,12 +110,35 @@ try_crate() {
   done < <(tests "$crate")
 }
 
+# Runs mh_show on an input that makes that many allocations, and prints a line.
+try_show() {
+  local name=$1 wanted=$2 input=$3 program=crates/mh_show/out/mh_show out=$folder/show_$1 n asked=0 live=none told
+  for ((n = 1; n <= most; n++)); do
+    told=$(env COUNTS="$out.counts" REFUSE=$n LD_PRELOAD="$folder/refuse_memory.so" "$program" 2>&1 < "$input"; echo $?)
+    [ -f "$out.counts" ] && read -r asked live < "$out.counts"
+    if [ "$asked" -lt $n ] || [ "$live" != 0 ] || [ "$told" != $'mh_show: out of memory\n1' ]; then break; fi
+  done
+  if [ "$asked $live" = "$wanted 0" ] && [ $n = $((wanted + 1)) ]; then
+    echo "passed: mh_show $name: allocations: $asked"
+  else
+    echo "failed: mh_show $name: allocations: $asked, of which $live are not freed; where number $n fails it prints: $told"
+  fi
+}
+
+# mh_show over what it accepts and rejects, and over a folder, which cannot be read: memory is allocated before.
+try_shows() {
+  [ "${BUILT-}" = "rt ci" ] || (cd crates/mh_show && rm -f out/mh_show && rt run < stdin) > "$folder/show.build" 2>&1
+  echo 0041 > "$folder/rejected"
+  try_show example 8 crates/mh_show/stdin
+  try_show rejected 5 "$folder/rejected"
+  try_show unread 4 /
+}
+
 folder=$(mktemp -d) || exit 2
 trap 'rm -rf "$folder"' EXIT
 cc -std=c11 -O1 -shared -fPIC -o "$folder/refuse_memory.so" tools/refuse_memory.c -ldl || exit 2
-for crate in tests_memory mh_show; do
-  try_crate $crate | tee "$folder/$crate.lines" &
-done
+try_crate tests_memory | tee "$folder/tests.lines" &
+try_shows | tee "$folder/shows.lines" &
 wait
 passed=$(cat "$folder"/*.lines | grep -c '^passed')
 failed=$(cat "$folder"/*.lines | grep -c '^failed')

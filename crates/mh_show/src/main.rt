@@ -2,8 +2,6 @@
 //! each on a line. Arguments are ignored.
 #![tactic(auto)]
 
-#[cfg(test)]
-mod expect;
 mod run;
 mod show;
 

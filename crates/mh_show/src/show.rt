@@ -5,9 +5,6 @@ ghost use Rattle.multihash.specs.Outcome.{pair_of};
 ghost use Rattle.mh_show.specs.Shown.{shown, IsLine, NamesBytes, ShowsAs, IsRejectedAs};
 ghost use Rattle.mh_show.specs.ShowError.{show_error_text};
 
-#[cfg(test)]
-mod tests;
-
 use hex::FromHexError;
 use multihash::Multihash;
 use std::alloc::{AllocError, Global};
