@@ -14,7 +14,7 @@ pub struct Head {
     pub code: u64,
     /// The digest's length in bytes as encoded; it may exceed 255.
     pub digest_len: u64,
-    /// The number of bytes of both varints: the index at which the digest begins.
+    /// The number of bytes of both varints: the index at which the digest starts.
     pub digest_offset: usize,
 }
 
