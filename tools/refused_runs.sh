@@ -66,7 +66,7 @@ done < tools/runs/malformed.tsv
 expect_show() {
   local wanted=$1 text=$2 streams=${3-} found
   # shellcheck disable=SC2016
-  found=$(printf %b "$text" | eval '"$crates/mh_show/out/mh_show" 2>&1' "$streams"; echo "$?")
+  found=$(printf %b "$text" | eval 'timeout 60 "$crates/mh_show/out/mh_show" 2>&1' "$streams"; echo "$?")
   if [ "$found" = "$(printf %b "$wanted")" ]; then
     passed=$((passed + 1))
   else
