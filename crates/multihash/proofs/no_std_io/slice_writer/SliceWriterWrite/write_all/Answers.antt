@@ -12,6 +12,6 @@ returns-else-branch-buf-clause-laws c =
 
 pub returns-else-branch-buf-clause-filled : goal.returns-else-branch-buf-clause-filled
 returns-else-branch-buf-clause-filled c =
-    let fills = c.in_ok-write.ensures.laws.ok.fills in
-    let kept = filled_length _ _ _ _ _ fills in
+    let filled = c.in_ok-write.ensures.laws.ok.fills in
+    let kept = filled_length _ _ _ _ _ filled in
     grind (arith, common_steps)
