@@ -1,24 +1,26 @@
 -- An entry that comes next, and how reading one fails.
-use Rattle.std.proofs.Common.{◌≡◌, ◌+◌, ◌≤◌, ℕ, ◌⊎◌, List, [], ◌++◌, Option, Some, Result, Ok, Err, MatchResult, IfSome, IfOk, IfErr, length, take, drop, inl, inr, refl, ap, ◌∙◌, append_assoc, append-nil, length-append, sym, subst, arith}
+use Rattle.std.proofs.Common.{◌≡◌, ◌+◌, ◌≤◌, ℕ, ◌⊎◌, List, [], ◌++◌, Option, Some, Result, Ok, Err, MatchResult, IfSome, IfErr, length, take, drop, inl, inr, refl, ap, ◌∙◌, append_assoc, append-nil, length-append, sym, subst, arith}
 use Rattle.std.proofs.lemmas.List.{append_cancel_right}
 use Rattle.std.proofs.Math.Seq.{take-append_seam}
 use Rattle.std.specs.Result.{IsErrAnd}
 use Rattle.multihash.specs.Pair.{Pair, FitsBuffer}
 use Rattle.multihash.specs.Encoding.{IsEncoding}
 use Rattle.multihash.specs.Verdict.{Verdict, HasVerdict}
-use Rattle.multihash.specs.Outcome.{Fields, pair_of, IsResultOf}
-use Rattle.multihash.specs.Reading.{Consumes, CountsReaderFailures}
-use Rattle.multihash.specs.Refusal.{Refusal, IsOutOfMemory, IsReaderError}
-use Rattle.multihash.specs.Consuming.{ReadMayFailWith, ConsumesVarint, IsFrontError}
+use Rattle.multihash.specs.Outcome.{IsErrorOf}
+use Rattle.multihash.specs.Fault.{Fault, IsOwnFault, IsUnexpectedEof}
+use Rattle.multihash.specs.Reading.{Consumes, ConsumesFewerThan, HasFewerThan}
+use Rattle.multihash.specs.Refusal.{Refusal, IsOutOfMemory, IsReaderError, of_io}
+use Rattle.multihash.specs.Consuming.{ConsumesVarint, ConsumesAtVarintError, IsAnyVarintError, IsFrontError}
+use Rattle.multihash.specs.InTurn.{ConsumesSome}
 use Rattle.multihash.proofs.Writings.EncodingLemmas.{encoding_unique, same_cut}
 use Rattle.multihash.proofs.Varints.VarintLemmas.{same_number}
+use Rattle.multihash.proofs.Readings.ReadingLemmas.{Consumes-told}
 use Rattle.multihash.proofs.OutcomeLemmas.{passed_err}
 use Rattle.multihash.proofs.CallingLemmas.{varint_read, read_of_encoding}
 use Rattle.sha2.proofs.Facts256.{length-sha256}
 use Rattle.storage.specs.Content.{content_pair}
-use Rattle.storage.specs.Log.{IsEntry, IsRejected, EntryMayFailWith, EntryFails, HasEntry, AreEntries, none, one_more}
+use Rattle.storage.specs.Log.{IsEntry, IsFailed, VarintFails, ExactFails, BlockFails, EntryFails, HasEntry, AreEntries, none, one_more}
 use Rattle.storage.specs.declared.log.EntryError.{EntryError}
-use Rattle.storage.specs.declared.log.EntryError.TheVariants.{Failed}
 
 -- the parts of an entry and of what follows it
 pub entry_cut : (p : Pair) (block bytes more : List ℕ) (h : IsEntry p block bytes)
@@ -27,47 +29,93 @@ entry_cut p block bytes more h =
     ap (λ (z : List ℕ). z ++ more) h.parts
     ∙ (append_assoc h.encoding (h.len ++ block) more ∙ ap (λ (z : List ℕ). h.encoding ++ z) (append_assoc h.len block more))
 
--- a refusal that is passed on is counted as it was, where nothing was counted before it
-pub passes : {T Listed : Type 0} (S limit before middle after : ℕ) (e : Refusal) (r : Result T EntryError) → middle ≡ before
-    → IsErrAnd r (λ x. x ≡ Failed e) → (Listed → ReadMayFailWith S e ⊎ IsOutOfMemory e)
-    → ((after ≡ middle + 1) × IsReaderError e) ⊎ ((after ≡ middle) × Listed)
-    → CountsReaderFailures (IsRejected IsReaderError) (EntryMayFailWith S limit) before after r
-passes S limit before middle after e r same given listed counted =
-    passed_err (λ x. CountsReaderFailures (IsRejected IsReaderError) (EntryMayFailWith S limit) before after x) r (Failed e) given
-    (elim counted [
-      | inl own ↦ inl (own.0 ∙ ap (λ (n : ℕ). n + 1) same, (e, refl, own.1))
-      | inr is ↦ inr (is.0 ∙ same, inr (e, refl, listed is.1))
-    ])
+-- an error that is passed on fails as it did
+pub fails_with : {T : Type 0} (S limit before after : ℕ) (old new : Option (List ℕ)) (e : EntryError) (r : Result T EntryError)
+    → IsErrAnd r (λ x. x ≡ e) → EntryFails S limit before after e old new → IfErr r (λ x. EntryFails S limit before after x old new)
+fails_with S limit before after old new e r given fails = passed_err (λ x. IfErr x (λ y. EntryFails S limit before after y old new)) r e given fails
 
--- an error that is passed on consumed what it consumed
-pub fails_with : {T : Type 0} (S limit : ℕ) (old new : Option (List ℕ)) (e : EntryError) (r : Result T EntryError) → IsErrAnd r (λ x. x ≡ e)
-    → EntryFails S limit e old new → IfErr r (λ x. EntryFails S limit x old new)
-fails_with S limit old new e r given fails = passed_err (λ x. IfErr x (λ y. EntryFails S limit y old new)) r e given fails
+-- so does an error of a kind
+pub fails_by : {T : Type 0} {P : EntryError → Type 0} (S limit before after : ℕ) (old new : Option (List ℕ)) (r : Result T EntryError) → IsErrAnd r P
+    → ((e : EntryError) → P e → EntryFails S limit before after e old new) → IfErr r (λ x. EntryFails S limit before after x old new)
+fails_by S limit before after old new (Ok t) given all = absurd given
+fails_by S limit before after old new (Err e) given all = all e given
 
--- so did an error of a kind
-pub fails_by : {T : Type 0} {P : EntryError → Type 0} (S limit : ℕ) (old new : Option (List ℕ)) (r : Result T EntryError) → IsErrAnd r P
-    → ((e : EntryError) → P e → EntryFails S limit e old new) → IfErr r (λ x. EntryFails S limit x old new)
-fails_by S limit old new (Ok t) given all = absurd given
-fails_by S limit old new (Err e) given all = all e given
+-- reading the length failed: the facts are the clauses of `varint::read`
+pub varint_fails : (before middle after : ℕ) (old new : Option (List ℕ)) (e : Refusal) → middle ≡ before
+    → ((after ≡ middle + 1) × IsReaderError e) ⊎ ((after ≡ middle) × IsAnyVarintError e)
+    → ConsumesAtVarintError e old new → IfSome old (λ input. after ≡ middle → IsFrontError input e) → VarintFails before after e old new
+varint_fails before middle after old new e same cause consumed front =
+    subst (λ k. VarintFails k after e old new) same (record { cause = cause; consumed = consumed; front = front })
+
+-- filling a buffer failed: the facts are the laws of `read_exact`
+pub exact_fails : (n m before middle after : ℕ) (old new : Option (List ℕ)) (fault : Fault) → m ≡ n → middle ≡ before
+    → ((after ≡ middle + 1) × IsOwnFault fault) ⊎ ((after ≡ middle) × IsUnexpectedEof fault)
+    → (IsUnexpectedEof fault → HasFewerThan m old) → ConsumesFewerThan m old new
+    → ExactFails n before after (of_io fault) old new
+exact_fails n m before middle after old new fault long same (inl own) eof consumed = record {
+  cause = inl (own.0 ∙ ap (λ (k : ℕ). k + 1) same, (fault, refl, own.1));
+  consumed = subst (λ k. ConsumesFewerThan k old new) long consumed;
+  short = λ unfailed. absurd (omega (arith, own.0, same, unfailed));
+}
+exact_fails n m before middle after old new fault long same (inr ended) eof consumed = record {
+  cause = inr (ended.0 ∙ same, (fault, refl, ended.1));
+  consumed = subst (λ k. ConsumesFewerThan k old new) long consumed;
+  short = λ unfailed. subst (λ k. HasFewerThan k old) long (eof ended.1);
+}
 
 -- a buffer that was filled is the vector's items
 pub filled_items : (n : ℕ) (buf items : List ℕ) → length buf ≡ n → take n (buf ++ drop (length buf) items) ≡ buf
 filled_items n buf items long = rw (← long) (take-append_seam buf (drop (length buf) items))
 
--- where an entry comes next, its multihash is found, and then its length
-module _ (S before after : ℕ) (old new : Option (List ℕ)) (p : Pair) (block bytes more : List ℕ) (h : IsEntry p block bytes) (same : after ≡ before) where
-  pub hash_found : (r : Result (Fields S) Refusal) → FitsBuffer S p → old ≡ Some (bytes ++ more)
-      → IfSome old (λ rest. after ≡ before → (v : Verdict) × HasVerdict S rest v × IsResultOf r v)
-      → IfOk r (λ m. (consumed : List ℕ) × IsEncoding (pair_of m) consumed × Consumes old consumed new)
-      → MatchResult r (λ m. (pair_of m ≡ p) × (new ≡ Some (h.len ++ (block ++ more)))) (λ _. ⊥)
-  hash_found r fits rest verdict ok =
-      read_of_encoding S before after old new p h.encoding (h.len ++ (block ++ more)) r h.encodes fits
-      (rest ∙ ap Some (entry_cut p block bytes more h)) same verdict ok
+-- where an entry comes next, its multihash is read, and then its length
+module _ (p : Pair) (block bytes more : List ℕ) (h : IsEntry p block bytes) where
+  pub hash_read : (S before after : ℕ) (old new : Option (List ℕ)) (e : Refusal) → FitsBuffer S p → old ≡ Some (bytes ++ more) → after ≡ before
+      → IfSome old (λ rest. after ≡ before → (v : Verdict) × HasVerdict S rest v × IsErrorOf e v) → ⊥
+  hash_read S before after old new e fits rest same verdict =
+      read_of_encoding S before after old new p h.encoding (h.len ++ (block ++ more)) (Err e) h.encodes fits
+      (rest ∙ ap Some (entry_cut p block bytes more h)) same verdict tt
 
-  pub length_found : (r : Result ℕ Refusal) → old ≡ Some (h.len ++ (block ++ more))
-      → IfOk r (λ n. ConsumesVarint n old new) → IfSome old (λ input. after ≡ before → IfErr r (IsFrontError input))
-      → MatchResult r (λ n. (n ≡ length block) × (new ≡ Some (block ++ more))) (λ _. ⊥)
-  length_found r rest ok front = varint_read (length block) before after old new h.len (block ++ more) r h.is_len rest same ok front
+  pub hash_consumed : (q : Pair) (old new : Option (List ℕ)) → old ≡ Some (bytes ++ more) → ConsumesSome (IsEncoding q) old new
+      → (q ≡ p) × (new ≡ Some (h.len ++ (block ++ more)))
+  hash_consumed q old new rest (consumed, encodes, consumes) =
+      let (left, is, cut) = Consumes-told (bytes ++ more) consumed new (sym rest ∙ consumes) in
+      let told = encoding_unique q p consumed h.encoding left (h.len ++ (block ++ more)) encodes h.encodes (sym cut ∙ entry_cut p block bytes more h) in
+      (told.0, is ∙ ap Some told.2)
+
+  pub length_read : (before after : ℕ) (old new : Option (List ℕ)) (e : Refusal) → old ≡ Some (h.len ++ (block ++ more)) → after ≡ before
+      → IfSome old (λ input. after ≡ before → IsFrontError input e) → ⊥
+  length_read before after old new e rest same front =
+      varint_read (length block) before after old new h.len (block ++ more) (Err e) h.is_len rest same tt front
+
+  pub length_consumed : (n : ℕ) (old new : Option (List ℕ)) → old ≡ Some (h.len ++ (block ++ more)) → ConsumesVarint n old new
+      → (n ≡ length block) × (new ≡ Some (block ++ more))
+  length_consumed n old new rest (consumed, is, consumes) =
+      let (left, told, cut) = Consumes-told (h.len ++ (block ++ more)) consumed new (sym rest ∙ consumes) in
+      let both = same_number (h.len ++ (block ++ more)) n (length block) left (block ++ more) (consumed, is, cut) (h.len, h.is_len, refl) in
+      (both.0, told ∙ ap Some both.1)
+
+  -- so an entry that fits and is not too long is read, or out of memory
+  module _ (S limit before after : ℕ) (old new : Option (List ℕ)) (fits : FitsBuffer S p) (within : length block ≤ limit)
+      (rest : old ≡ Some (bytes ++ more)) (same : after ≡ before) where
+    block_fails : (e : EntryError) (n : ℕ) (left : Option (List ℕ)) → n ≡ length block → left ≡ Some (block ++ more)
+        → BlockFails limit before after e n left new → IsFailed IsOutOfMemory e
+    block_fails e n left long is (inl over) = absurd (omega (arith, over.1, long, within))
+    block_fails e n left long is (inr (inl memory)) = memory.0
+    block_fails e n left long is (inr (inr ((r, _, fails), few))) =
+        absurd (omega (arith, (rw is at fails.short) same, length-append block more, long))
+
+    pub entry_fails : (e : EntryError) → EntryFails S limit before after e old new → IsFailed IsOutOfMemory e
+    entry_fails e (inl (r, _, fails)) = absurd (hash_read S before after old new r fits rest same fails.verdict)
+    entry_fails e (inr (q, left, (_, first), inl (r, _, fails))) =
+        absurd (length_read before after left new r (hash_consumed q old left rest first).1 same fails.front)
+    entry_fails e (inr (q, left, (_, first), inr (n, after_len, second, fails))) =
+        let told = length_consumed n left after_len (hash_consumed q old left rest first).1 second in
+        block_fails e n after_len told.0 told.1 fails
+
+    pub rejected_found : {T : Type 0} (P : EntryError → Type 0) (Q : T → Type 0) (r : Result T EntryError) → IsErrAnd r P
+        → IfErr r (λ e. EntryFails S limit before after e old new) → MatchResult r Q (IsFailed IsOutOfMemory)
+    rejected_found P Q (Ok t) given fails = absurd given
+    rejected_found P Q (Err e) given fails = entry_fails e fails
 
 -- the pair of a content has a digest of 32 bytes
 pub content_fits : (content : List ℕ) → FitsBuffer 32 (content_pair content)
@@ -80,14 +128,23 @@ entries_more front block entry (one_more b e bytes first more) is =
     subst AreEntries (sym (append_assoc e bytes entry)) (one_more b e (bytes ++ entry) first (entries_more bytes block entry more is))
 
 -- two entries in front of one list are equal, and so is what follows them
-pub entry_unique : (p q : Pair) (a b x y r s : List ℕ) → IsEntry p a x → IsEntry q b y → x ++ r ≡ y ++ s → (x ≡ y) × (r ≡ s)
+pub entry_unique : (p q : Pair) (a b x y r s : List ℕ) → IsEntry p a x → IsEntry q b y → x ++ r ≡ y ++ s
+    → (p ≡ q) × (a ≡ b) × (x ≡ y) × (r ≡ s)
 entry_unique p q a b x y r s h k same =
     let hashes = encoding_unique p q h.encoding k.encoding (h.len ++ (a ++ r)) (k.len ++ (b ++ s)) h.encodes k.encodes
     (sym (entry_cut p a x r h) ∙ (same ∙ entry_cut q b y s k)) in
     let lens = same_number (h.len ++ (a ++ r)) (length a) (length b) (a ++ r) (b ++ s) (h.len, h.is_len, refl) (k.len, k.is_len, hashes.2) in
     let blocks = same_cut a b r s lens.0 lens.1 in
     let whole : x ≡ y = append_cancel_right x y r (same ∙ ap (λ (z : List ℕ). y ++ z) (sym blocks.1)) in
-    (whole, blocks.1)
+    (hashes.0, blocks.0, whole, blocks.1)
+
+-- an entry that was read is the one that comes next
+pub entry_found : (p q : Pair) (a b y more : List ℕ) (old new : Option (List ℕ)) → (x : List ℕ) × IsEntry p a x × Consumes old x new
+    → IsEntry q b y → old ≡ Some (y ++ more) → (p ≡ q) × (a ≡ b) × (new ≡ Some more)
+entry_found p q a b y more old new (x, is, consumes) k rest =
+    let (left, told, cut) = Consumes-told (y ++ more) x new (sym rest ∙ consumes) in
+    let same = entry_unique p q a b x y left more is k (sym cut) in
+    (same.0, same.1, told ∙ ap Some same.3)
 
 -- no prefix that is entries is longer than one after which none comes
 pub longest_entries : (front rest other more : List ℕ) → AreEntries front → AreEntries other → ¬ (HasEntry rest)
@@ -98,4 +155,4 @@ longest_entries front rest other more none (one_more b e bytes is after) ends sa
 longest_entries front rest other more (one_more a d first is_a then_a) (one_more b e bytes is_b then_b) ends same =
     let told = entry_unique (content_pair a) (content_pair b) a b d e (first ++ rest) (bytes ++ more) is_a is_b
     (sym (append_assoc d first rest) ∙ (same ∙ append_assoc e bytes more)) in
-    omega (arith, longest_entries first rest bytes more then_a then_b ends told.1, ap length told.0, length-append d first, length-append e bytes)
+    omega (arith, longest_entries first rest bytes more then_a then_b ends told.3, ap length told.2, length-append d first, length-append e bytes)

@@ -1,11 +1,24 @@
 -- The entries of a log.
-use Rattle.std.specs.Prelude.{◌≡◌, ◌<◌, ◌≤◌, ℕ, ◌⊎◌, List, [], ◌++◌, length, Option}
-use Rattle.multihash.specs.Pair.{Pair}
+use Rattle.std.specs.Prelude.{◌≡◌, ◌+◌, ◌<◌, ◌≤◌, ℕ, ◌⊎◌, List, [], ◌++◌, length, Option, IfSome, codes}
+use Rattle.std.specs.Fmt.{decimal}
+use Rattle.multihash.specs.Pair.{Pair, FitsBuffer}
 use Rattle.multihash.specs.Varint.{IsVarint}
 use Rattle.multihash.specs.Encoding.{IsEncoding}
-use Rattle.multihash.specs.Refusal.{Refusal, IsOutOfMemory}
-use Rattle.multihash.specs.Consuming.{ReadMayFailWith, ConsumesVarint}
-use Rattle.multihash.specs.InTurn.{ConsumesSome, FailsInTurn, ReadFails, VarintFails, ExactFails}
+use Rattle.multihash.specs.Verdict.{Verdict, HasVerdict, IsIncomplete}
+use Rattle.multihash.specs.Outcome.{IsErrorOf}
+use Rattle.multihash.specs.Reading.{ConsumesFewerThan, HasFewerThan}
+use Rattle.multihash.specs.Refusal.{Refusal, refusal_text, IsEof, IsOutOfMemory, IsReaderError}
+use Rattle.multihash.specs.Consuming.{
+  IsAnyVarintError,
+  IsFrontError,
+  ReadMayFailWith,
+  ConsumesVarint,
+  ConsumesAtVarintError,
+  ConsumesAtError,
+  ConsumesShortestSettling,
+  ConsumesNothingSettling,
+}
+use Rattle.multihash.specs.InTurn.{ConsumesSome, FailsInTurn}
 use Rattle.storage.specs.Content.{content_pair}
 use Rattle.storage.specs.declared.log.EntryError.{EntryError}
 use Rattle.storage.specs.declared.log.EntryError.TheVariants.{Failed, TooLong}
@@ -18,34 +31,65 @@ pub record IsEntry (p : Pair) (block bytes : List ℕ) : Type 0 where
   pub is_len : IsVarint (length block) len
   pub parts : bytes ≡ encoding ++ (len ++ block)
 
--- the error passes on a refusal of which P holds
-abbrev pub IsRejected : (Refusal → Type 0) → EntryError → Type 0
-IsRejected P e = (refusal : Refusal) × (e ≡ Failed refusal) × P refusal
+-- the error is `Failed` with a refusal of which P holds
+abbrev pub IsFailed : (Refusal → Type 0) → EntryError → Type 0
+IsFailed P e = (refusal : Refusal) × (e ≡ Failed refusal) × P refusal
 
--- the error gives a length that is above the limit
-abbrev pub IsTooLong : ℕ → EntryError → Type 0
-IsTooLong limit e = (n : ℕ) × (e ≡ TooLong n) × (limit < n)
+-- the text of an error
+abbrev pub error_text : EntryError → List ℕ
+error_text (Failed refusal) = refusal_text refusal
+error_text (TooLong n) = codes "a block of " ++ decimal n ++ codes " bytes is too long"
 
--- the errors of reading an entry, besides the reader's own
-abbrev pub EntryMayFailWith : ℕ → ℕ → EntryError → Type 0
-EntryMayFailWith S limit e = IsTooLong limit e ⊎ IsRejected (λ r. ReadMayFailWith S r ⊎ IsOutOfMemory r) e
+-- the reader failed, which was counted, or the error is one of those listed
+abbrev pub FailsBy : ℕ → ℕ → (Refusal → Type 0) → Refusal → Type 0
+FailsBy before after IsListed e = ((after ≡ before + 1) × IsReaderError e) ⊎ ((after ≡ before) × IsListed e)
 
--- a block of `n` bytes was not read: it is too long or out of memory, and nothing of it was consumed; or
--- its bytes could not be read
-abbrev pub BlockFails : ℕ → EntryError → ℕ → Option (List ℕ) → Option (List ℕ) → Type 0
-BlockFails limit e n old new =
-    ((e ≡ TooLong n) × (limit < n) × (new ≡ old))
-    ⊎ (IsRejected IsOutOfMemory e × (n ≤ limit) × (new ≡ old))
-    ⊎ (IsRejected (λ r. ExactFails n r old new) e × (n ≤ limit))
+-- `read` failed with this error, while the reader's failures went from `before` to `after`
+pub record ReadFails (S before after : ℕ) (e : Refusal) (old new : Option (List ℕ)) : Type 0 where
+  pub cause : FailsBy before after (ReadMayFailWith S) e
+  pub consumed : ConsumesAtError S e old new
+  -- the error is that of the verdict on the input
+  pub verdict : IfSome old (λ rest. after ≡ before → (v : Verdict) × HasVerdict S rest v × IsErrorOf e v)
+  -- if that is not incomplete, exactly the shortest prefix that settles it was consumed; otherwise no prefix
+  -- of what was consumed settles it
+  pub settled : IfSome old (λ rest. after ≡ before → (v : Verdict) → HasVerdict S rest v →
+      ¬ (IsIncomplete v) → ConsumesShortestSettling S rest new)
+  pub unsettled : IfSome old (λ rest.
+      (before < after) ⊎ ((v : Verdict) × HasVerdict S rest v × IsIncomplete v) →
+      ConsumesNothingSettling S rest new)
+
+-- so did `varint::read`
+pub record VarintFails (before after : ℕ) (e : Refusal) (old new : Option (List ℕ)) : Type 0 where
+  pub cause : FailsBy before after IsAnyVarintError e
+  pub consumed : ConsumesAtVarintError e old new
+  pub front : IfSome old (λ input. after ≡ before → IsFrontError input e)
+
+-- so did `read_exact` of `n` bytes
+pub record ExactFails (n before after : ℕ) (e : Refusal) (old new : Option (List ℕ)) : Type 0 where
+  pub cause : FailsBy before after IsEof e
+  pub consumed : ConsumesFewerThan n old new
+  pub short : after ≡ before → HasFewerThan n old
+
+-- a block of `n` bytes was not read: it is too long, or there is no memory for it, and nothing of it was
+-- consumed; or its bytes could not be read
+abbrev pub BlockFails : ℕ → ℕ → ℕ → EntryError → ℕ → Option (List ℕ) → Option (List ℕ) → Type 0
+BlockFails limit before after e n old new =
+    ((e ≡ TooLong n) × (limit < n) × (after ≡ before) × (new ≡ old))
+    ⊎ (IsFailed IsOutOfMemory e × (n ≤ limit) × (after ≡ before) × (new ≡ old))
+    ⊎ (IsFailed (λ r. ExactFails n before after r old new) e × (n ≤ limit))
+
+-- the encoding of the pair, which fits, was consumed
+abbrev pub ConsumesPair : ℕ → Pair → Option (List ℕ) → Option (List ℕ) → Type 0
+ConsumesPair S p old new = FitsBuffer S p × ConsumesSome (IsEncoding p) old new
 
 -- reading an entry failed in the multihash, in the length, or in the block
-abbrev pub EntryFails : ℕ → ℕ → EntryError → Option (List ℕ) → Option (List ℕ) → Type 0
-EntryFails S limit e = FailsInTurn (λ old new. IsRejected (λ r. ReadFails S r old new) e)
-    (λ p. ConsumesSome (IsEncoding p))
-    (λ _. FailsInTurn (λ old new. IsRejected (λ r. VarintFails r old new) e) ConsumesVarint
-    (BlockFails limit e))
+abbrev pub EntryFails : ℕ → ℕ → ℕ → ℕ → EntryError → Option (List ℕ) → Option (List ℕ) → Type 0
+EntryFails S limit before after e = FailsInTurn (λ old new. IsFailed (λ r. ReadFails S before after r old new) e)
+    (ConsumesPair S)
+    (λ _. FailsInTurn (λ old new. IsFailed (λ r. VarintFails before after r old new) e) ConsumesVarint
+    (BlockFails limit before after e))
 
--- the input starts with an entry whose block has the multihash that it says
+-- the input starts with an entry whose multihash is its block's
 pub record HasEntry (input : List ℕ) : Type 0 where
   pub block : List ℕ
   pub entry : List ℕ

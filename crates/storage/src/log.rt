@@ -2,10 +2,10 @@
 ghost use Rattle.std.specs.Prelude.{◌≡◌, ◌≤◌, ℕ, List, ◌++◌, Some, length, IfOk, IfErr, OnOk, OnErr, MatchResult, IfSome, IfNone};
 ghost use Rattle.multihash.specs.Pair.{Pair, FitsBuffer};
 ghost use Rattle.multihash.specs.Outcome.{pair_of};
-ghost use Rattle.multihash.specs.Reading.{Consumes, CountsReaderFailures};
+ghost use Rattle.multihash.specs.Reading.{Consumes};
 ghost use Rattle.multihash.specs.Writing.{AppendsPrefix, CountsWriterFailures};
-ghost use Rattle.multihash.specs.Refusal.{Refusal, IsIo, IsOutOfMemory, IsReaderError, of_io};
-ghost use Rattle.storage.specs.Log.{IsEntry, IsRejected, EntryMayFailWith, EntryFails, HasEntry, AreEntries, IsValidPrefix};
+ghost use Rattle.multihash.specs.Refusal.{IsIo, IsOutOfMemory, of_io};
+ghost use Rattle.storage.specs.Log.{IsEntry, IsFailed, error_text, EntryFails, HasEntry, AreEntries, IsValidPrefix};
 ghost use Rattle.storage.specs.Content.{content_pair};
 ghost use Rattle.storage.specs.declared.log.EntryError.TheVariants.{Failed};
 
@@ -33,9 +33,11 @@ pub enum EntryError {
 }
 
 impl fmt::Display for EntryError {
+    ghost output = { λ e. Some (error_text e) };
+
     fn fmt<W: fmt::Write>(&self, f: &mut fmt::Formatter<W>) -> fmt::Result {
         match self {
-            EntryError::Failed(e) => write!(f, "{e}"),
+            EntryError::Failed(e) => fmt::Display::fmt(e, f),
             EntryError::TooLong(n) => write!(f, "a block of {n} bytes is too long"),
         }
     }
@@ -60,7 +62,7 @@ impl From<no_std_io::Error> for EntryError {
 }
 
 impl From<AllocError> for EntryError {
-    ghost from_gives = { λ _ e. IsRejected IsOutOfMemory e };
+    ghost from_gives = { λ _ e. IsFailed IsOutOfMemory e };
 
     fn from(e: AllocError) -> Self {
         EntryError::Failed(Error::from(e))
@@ -95,11 +97,13 @@ pub fn write_entry<const S: usize, W: Write>(
 /// # Errors
 ///
 /// - [`EntryError::Failed`] with the errors of [`Multihash::read`] and of [`varint::read`]; the parts before
-///   the malformed one were consumed, and of it what those calls say.
+///   the one that failed were consumed, and of that one what those calls consume.
 /// - [`EntryError::TooLong`] with the block's length if that is above `limit`; the multihash and the length
-///   were consumed. Out of memory for the block likewise.
-/// - An unexpected end within the block, or the reader's own error; fewer bytes than the block has were
-///   consumed of it.
+///   were consumed.
+/// - [`EntryError::Failed`] with out of memory, if there is none for a block within the limit; the multihash
+///   and the length were consumed.
+/// - [`EntryError::Failed`] with an unexpected end within the block, or with the reader's own error; fewer
+///   bytes than the block has were consumed of it.
 pub fn read_entry<const S: usize, R: Read>(
     alloc: Global,
     r: &mut R,
@@ -108,16 +112,16 @@ pub fn read_entry<const S: usize, R: Read>(
     ensures ok { IfOk result (λ e. (bytes : List ℕ) × IsEntry (pair_of e.hash) e.block.items bytes
         × Consumes (R.rest r.old) bytes (R.rest r.new)) }
     ensures within { IfOk result (λ e. length e.block.items ≤ limit) }
-    ensures faults { CountsReaderFailures (IsRejected IsReaderError) (EntryMayFailWith S limit)
-        (R.failures r.old) (R.failures r.new) result }
-    ensures err { IfErr result (λ e. EntryFails S limit e (R.rest r.old) (R.rest r.new)) }
+    ensures unfailed { OnOk result (R.failures r.new ≡ R.failures r.old) }
+    ensures err { IfErr result (λ e. EntryFails S limit (R.failures r.old) (R.failures r.new) e
+        (R.rest r.old) (R.rest r.new)) }
 
     // An entry that comes next is found, and what follows it is left.
     ensures found { (p : Pair) (block bytes more : List ℕ) → IsEntry p block bytes →
         FitsBuffer S p → length block ≤ limit → R.rest r.old ≡ Some (bytes ++ more) →
         R.failures r.new ≡ R.failures r.old → MatchResult result
         (λ e. (pair_of e.hash ≡ p) × (e.block.items ≡ block) × (R.rest r.new ≡ Some more))
-        (IsRejected IsOutOfMemory) }
+        (IsFailed IsOutOfMemory) }
 {
     let hash = Multihash::read(r)?;
     let len = varint::read(r)?;
@@ -129,7 +133,7 @@ pub fn read_entry<const S: usize, R: Read>(
     Ok(Entry { hash, block })
 }
 
-// The bytes after the entry at the front, if there is one whose block has the multihash that it says.
+// The bytes after the entry at the front, if there is one whose multihash is its block's.
 fn after_entry(bytes: &[u8]) -> Option<&[u8]>
     ensures some { IfSome result (λ rest. (block entry : List ℕ) × IsEntry (content_pair block) block entry
         × (bytes.now ≡ entry ++ rest.now)) }
@@ -152,8 +156,8 @@ fn after_entry(bytes: &[u8]) -> Option<&[u8]>
     Some(rest)
 }
 
-/// Returns the longest prefix of a log that is whole entries whose blocks have the multihashes that they
-/// say. A log that was cut or spoilt can be continued after that prefix.
+/// Returns the longest prefix of a log that is whole entries, each with the multihash of its block. A log
+/// that was truncated or corrupted can be continued after that prefix.
 pub fn valid_prefix(bytes: &[u8]) -> &[u8]
     ensures valid { IsValidPrefix result.now bytes.now }
     ensures longest { (other more : List ℕ) → AreEntries other → bytes.now ≡ other ++ more →

@@ -1,4 +1,4 @@
-use Rattle.std.proofs.Common.{◌≡◌, ℕ, List, ◌++◌, Some, Ok, Err, length, take, length-append, append_assoc, refl, sym, ap, ◌∙◌, subst, arith, rules}
+use Rattle.std.proofs.Common.{◌≡◌, ℕ, List, ◌++◌, Some, length, take, length-append, append_assoc, refl, sym, ap, ◌∙◌, subst, arith, rules}
 use Rattle.std.proofs.Math.Seq.{take-append_seam}
 use Rattle.std.proofs.lemmas.Bool.{false≢true}
 use Rattle.multihash.specs.Varint.{IsVarint}
@@ -6,36 +6,29 @@ use Rattle.multihash.specs.Encoding.{IsEncoding}
 use Rattle.multihash.specs.Outcome.{pair_of}
 use Rattle.multihash.proofs.Readings.ReadingLemmas.{Consumes-cut}
 use Rattle.storage.specs.Content.{content_pair}
-use Rattle.storage.proofs.LogLemmas.{hash_found, length_found, content_fits}
+use Rattle.storage.proofs.LogLemmas.{hash_read, hash_consumed, length_read, length_consumed, content_fits}
 use Rattle.storage.proofs.log.after_entry.Goals as goal
 
 pub returns-in_default-clause-none : goal.returns-in_default-clause-none
 returns-in_default-clause-none c h =
-    let met = c.in_default.ensures in
-    hash_found 32 0 0 _ (Some c.read.new.r.now) _ h.block h.entry h.rest h.is_entry refl (Err c.in_default.field-0) (content_fits h.block) (ap Some h.cut) met.verdict met.ok
+    hash_read _ h.block h.entry h.rest h.is_entry 32 0 0 _ (Some c.read.new.r.now) _ (content_fits h.block) (ap Some h.cut) refl c.in_default.ensures.verdict
 
 pub returns-in_default-read-clause-none : goal.returns-in_default-read-clause-none
 returns-in_default-read-clause-none c h =
-    let m = c.in-Ok.ensures in
-    let met = c.in_default-read.ensures in
-    let one = hash_found 32 0 0 _ (Some c.read.new.r.now) _ h.block h.entry h.rest h.is_entry refl (Ok c.in-Ok.hash) (content_fits h.block) (ap Some h.cut) m.verdict m.ok in
-    length_found 32 0 0 _ (Some c.read-2.new.r.now) _ h.block h.entry h.rest h.is_entry refl (Err c.in_default-read.field-0) one.1 met.ok met.front
+    let one = hash_consumed _ h.block h.entry h.rest h.is_entry _ _ (Some c.read.new.r.now) (ap Some h.cut) c.in-Ok.ensures.ok in
+    length_read _ h.block h.entry h.rest h.is_entry 0 0 _ (Some c.read-2.new.r.now) _ one.1 refl c.in_default-read.ensures.front
 
 pub returns-then-len-rest-clause-none : goal.returns-then-len-rest-clause-none
 returns-then-len-rest-clause-none c h =
-    let m = c.in-Ok.ensures in
-    let n = c.in-Ok-read.ensures in
-    let one = hash_found 32 0 0 _ (Some c.read.new.r.now) _ h.block h.entry h.rest h.is_entry refl (Ok c.in-Ok.hash) (content_fits h.block) (ap Some h.cut) m.verdict m.ok in
-    let two = length_found 32 0 0 _ (Some c.read-2.new.r.now) _ h.block h.entry h.rest h.is_entry refl (Ok c.in-Ok-read.len) one.1 n.ok n.front in
+    let one = hash_consumed _ h.block h.entry h.rest h.is_entry _ _ (Some c.read.new.r.now) (ap Some h.cut) c.in-Ok.ensures.ok in
+    let two = length_consumed _ h.block h.entry h.rest h.is_entry _ _ (Some c.read-2.new.r.now) one.1 c.in-Ok-read.ensures.ok in
     let left : c.read-2.new.r.now ≡ h.block ++ h.rest = cc in
     omega (arith, two.0, ap length left, length-append h.block h.rest)
 
 pub returns-then-not-same_as-clause-none : goal.returns-then-not-same_as-clause-none
 returns-then-not-same_as-clause-none c h =
-    let m = c.in-Ok.ensures in
-    let n = c.in-Ok-read.ensures in
-    let one = hash_found 32 0 0 _ (Some c.read.new.r.now) _ h.block h.entry h.rest h.is_entry refl (Ok c.in-Ok.hash) (content_fits h.block) (ap Some h.cut) m.verdict m.ok in
-    let two = length_found 32 0 0 _ (Some c.read-2.new.r.now) _ h.block h.entry h.rest h.is_entry refl (Ok c.in-Ok-read.len) one.1 n.ok n.front in
+    let one = hash_consumed _ h.block h.entry h.rest h.is_entry _ _ (Some c.read.new.r.now) (ap Some h.cut) c.in-Ok.ensures.ok in
+    let two = length_consumed _ h.block h.entry h.rest h.is_entry _ _ (Some c.read-2.new.r.now) one.1 c.in-Ok-read.ensures.ok in
     let left : c.read-2.new.r.now ≡ h.block ++ h.rest = cc in
     let len = c.in-Ok-read.len in
     let is : c.split_at.result.0.now ≡ h.block =
