@@ -18,7 +18,7 @@ pub fn hash_of<const S: usize>(content: &[u8]) -> Multihash<S>
     Multihash::wrap(SHA2_256, &digest).unwrap()
 }
 
-/// Whether the multihash, of any capacity, is the content's.
+/// Returns whether the multihash, of any capacity, is the content's.
 pub fn verify<const S: usize>(multihash: &Multihash<S>, content: &[u8]) -> bool
     ensures { IsTrue result ↔ (pair_of multihash.now ≡ content_pair content.now) }
 {

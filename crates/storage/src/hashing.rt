@@ -1,41 +1,40 @@
 //! Hashes of bytes, and a writer and a reader that hash and count the bytes that pass.
-ghost use Rattle.std.specs.Prelude.{◌≡◌, ◌-◌, ◌^◌, List, ℕ, [], length, min};
+ghost use Rattle.std.specs.Prelude.{◌≡◌, ◌-◌, ◌^◌, List, ℕ, [], false, length, min};
 ghost use Rattle.multihash.specs.Outcome.{pair_of};
 ghost use Rattle.storage.specs.Content.{content_pair};
 
 mod reader;
 mod writer;
 
+use crate::content::SHA2_256;
 use multihash::Multihash;
+use multihash::no_std_io::{Error, Write};
 pub use reader::HashingReader;
 use sha2::{Digest, Sha256};
 pub use writer::HashingWriter;
 
-// The code of SHA2-256.
-const SHA2_256: u64 = 0x12;
-
-/// The SHA-256 hash of some bytes, and their number.
+/// A writer that hashes and counts the bytes that are written, and keeps none of them.
 #[derive(Drop)]
-pub struct Tally {
+pub struct ContentHasher {
     hasher: Sha256,
     count: u64,
 }
 
-impl Tally {
+impl ContentHasher {
     ghost use Rattle.storage.specs.Hashing.{HoldsMessage, AddsBytes};
 
-    /// Returns the hash of no bytes.
+    /// Returns a hasher of no bytes.
     pub fn new() -> Self
         ensures { HoldsMessage result [] }
     {
-        Tally {
+        ContentHasher {
             hasher: Sha256::new(),
             count: 0,
         }
     }
 
-    /// Adds the bytes.
-    pub fn add(&mut self, bytes: &[u8])
+    /// Hashes and counts the bytes.
+    pub fn update(&mut self, bytes: &[u8])
         ensures { AddsBytes self.old bytes.now self.new }
     {
         self.hasher.update(bytes);
@@ -57,5 +56,28 @@ impl Tally {
     {
         let digest = self.hasher.finalize();
         Multihash::wrap(SHA2_256, &digest).unwrap()
+    }
+}
+
+impl Write for ContentHasher {
+    ghost use Rattle.storage.specs.Hashing.{AddsBytes, AddsBytes-none, AddsBytes-concatenated};
+
+    const ALLOCATES: bool = false;
+
+    ghost allocates = { false };
+
+    ghost appended = { AddsBytes };
+
+    ghost full = { λ _. ⊥ };
+
+    ghost failures = { λ _. 0 };
+
+    ghost appends_nothing = { AddsBytes-none };
+
+    ghost appends_concatenated = { AddsBytes-concatenated };
+
+    fn write(&mut self, buf: &[u8]) -> Result<usize, Error> {
+        self.update(buf);
+        Ok(buf.len())
     }
 }

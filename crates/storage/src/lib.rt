@@ -1,7 +1,7 @@
 //! Callers that hash and keep content.
 #![tactic(auto)]
 
-pub mod chunks;
+pub mod chained_slices;
 pub mod content;
 pub mod hashing;
 pub mod log;

@@ -1,14 +1,28 @@
-//! What the hashing writer and reader expose to contracts. These functions do nothing.
-ghost use Rattle.std.specs.Prelude.{◌≡◌, ◌↔◌, ℕ, List};
+//! What the readers and writers expose to contracts. These functions do nothing.
+ghost use Rattle.std.specs.Prelude.{◌≡◌, ◌↔◌, ℕ, List, Some, false};
 ghost use Rattle.storage.specs.Hashing.{AddsBytes};
 
-use crate::hashing::{HashingReader, HashingWriter};
+use crate::chained_slices::ChainedSlices;
+use crate::hashing::{ContentHasher, HashingReader, HashingWriter};
 use multihash::no_std_io::{Read, Write};
+
+fn chained_slices(s: &ChainedSlices)
+    ensures rest { ⟦<ChainedSlices<'static> as Read>⟧.rest s.now ≡ Some s.now }
+    ensures failures { ⟦<ChainedSlices<'static> as Read>⟧.failures s.now ≡ 0 }
+{}
+
+fn content_hasher(v: &ContentHasher, w: &ContentHasher)
+    ensures allocates { ⟦<ContentHasher as Write>⟧.allocates ≡ false }
+    ensures appended { (bytes : List ℕ) → ⟦<ContentHasher as Write>⟧.appended v.now bytes w.now
+        ↔ AddsBytes v.now bytes w.now }
+    ensures full { ¬ (⟦<ContentHasher as Write>⟧.full v.now) }
+    ensures failures { ⟦<ContentHasher as Write>⟧.failures v.now ≡ 0 }
+{}
 
 fn hashing_writer<W: Write>(v: &HashingWriter<W>, w: &HashingWriter<W>)
     ensures allocates { ⟦<HashingWriter<W> as Write>⟧.allocates ≡ W.allocates }
     ensures appended { (bytes : List ℕ) → ⟦<HashingWriter<W> as Write>⟧.appended v.now bytes w.now
-        ↔ (W.appended v.now.inner bytes w.now.inner × AddsBytes v.now.tally bytes w.now.tally) }
+        ↔ (W.appended v.now.inner bytes w.now.inner × AddsBytes v.now.hasher bytes w.now.hasher) }
     ensures full { ⟦<HashingWriter<W> as Write>⟧.full v.now ↔ W.full v.now.inner }
     ensures failures { ⟦<HashingWriter<W> as Write>⟧.failures v.now ≡ W.failures v.now.inner }
 {}

@@ -5,8 +5,8 @@ use fakes::refusal::{Refusal, is_failed};
 use fakes::writers::{Drip, FailWrite};
 use multihash::Multihash;
 use multihash::no_std_io::{Read, Write};
-use storage::chunks::Chunks;
-use storage::hashing::{HashingReader, HashingWriter, Tally};
+use storage::chained_slices::ChainedSlices;
+use storage::hashing::{ContentHasher, HashingReader, HashingWriter};
 use storage::log::{Entry, EntryError, read_entry, valid_prefix, write_entry};
 
 // The digest of `abc` (FIPS 180-4).
@@ -36,9 +36,9 @@ const FIRST: usize = 38;
 const HEAD: usize = 35;
 
 fn hash_of(bytes: &[u8]) -> Multihash<32> {
-    let mut tally = Tally::new();
-    tally.add(bytes);
-    tally.finish()
+    let mut hasher = ContentHasher::new();
+    hasher.update(bytes);
+    hasher.finish()
 }
 
 #[test]
@@ -51,17 +51,17 @@ fn hashes_are_those_of_the_standard(rt: HostRuntime) {
 }
 
 #[test]
-fn chunks_are_read_in_a_row(rt: HostRuntime) {
+fn slices_are_read_in_a_row(rt: HostRuntime) {
     let rt = &rt;
     let slices: [&[u8]; 6] = [b"", &[18, 2], b"", &[65], &[66, 1, 2], b""];
-    let mut chunks = Chunks::new(&slices);
-    let hash = expect_ok(rt, Multihash::<4>::read(&mut chunks));
+    let mut chained = ChainedSlices::new(&slices);
+    let hash = expect_ok(rt, Multihash::<4>::read(&mut chained));
     check_eq!(rt; (hash.code(), hash.digest()), (18, b"AB".as_slice()));
     let mut buffer = [0; 4];
-    check_eq!(rt; expect_ok(rt, chunks.read(&mut buffer)), 2);
+    check_eq!(rt; expect_ok(rt, chained.read(&mut buffer)), 2);
     expect_bytes(rt, &buffer, &[1, 2, 0, 0]);
-    check_eq!(rt; expect_ok(rt, chunks.read(&mut buffer)), 0);
-    check!(rt; is_failed(&chunks.read_exact(&mut [0]), Refusal::UnexpectedEof));
+    check_eq!(rt; expect_ok(rt, chained.read(&mut buffer)), 0);
+    check!(rt; is_failed(&chained.read_exact(&mut [0]), Refusal::UnexpectedEof));
 }
 
 // The writer fills up or fails after some bytes: those were hashed, and no others.
@@ -72,7 +72,7 @@ fn what_was_written_is_hashed(rt: HostRuntime) {
     for room in 0..4 {
         let mut writer = HashingWriter::new(expect_ok(rt, Drip::new(alloc, room, 1)));
         check_eq!(rt; writer.write_all(b"abc").is_ok(), room == 3);
-        check_eq!(rt; writer.tally.count(), room as u64);
+        check_eq!(rt; writer.hasher.count(), room as u64);
         let (hash, inner) = writer.finish();
         expect_bytes(rt, &inner.held, &b"abc"[..room]);
         check!(rt; hash == hash_of(&b"abc"[..room]));
@@ -97,7 +97,7 @@ fn what_was_read_is_hashed(rt: HostRuntime) {
         check_eq!(rt; is_failed(&answer, Refusal::UnexpectedEof), n == 4);
         let read = n.min(3);
         expect_bytes(rt, &buffer[..read], &TEXT[..read]);
-        check_eq!(rt; reader.tally.count(), read as u64);
+        check_eq!(rt; reader.hasher.count(), read as u64);
         let (hash, inner) = reader.finish();
         expect_bytes(rt, inner.left, &TEXT[read..]);
         check!(rt; hash == hash_of(&TEXT[..read]));
@@ -135,6 +135,8 @@ fn long_blocks_are_rejected(rt: HostRuntime) {
     let answer: Result<Entry<32>, EntryError> = read_entry(alloc, &mut reader, 2);
     check!(rt; matches!(answer, Err(EntryError::TooLong(3))));
     expect_bytes(rt, reader.left, &LOG[HEAD..]);
+    let text = expect_ok(rt, format!(in alloc; "{}", EntryError::TooLong(3)));
+    check_eq!(rt; text.as_str(), "a block of 3 bytes is too long");
 }
 
 // The input ends within an entry: all of it was consumed.
@@ -152,6 +154,26 @@ fn cut_entries_are_rejected(rt: HostRuntime) {
         };
         check!(rt; is_entry_rejected(&answer, wanted), n);
         check!(rt; reader.left.is_empty(), n);
+    }
+}
+
+// A multihash or a length that is malformed, or a digest that is too long: nothing after it was consumed.
+#[test]
+fn malformed_entries_are_rejected(rt: HostRuntime) {
+    let alloc = rt.alloc();
+    let rt = &rt;
+    let rows: [(&[u8], Refusal, usize); 5] = [
+        (&[0x92, 0, 0, 1], Refusal::NotMinimal, 2),
+        (&[18, 33, 0, 1], Refusal::InvalidSize(33), 2),
+        (&[18, 0, 0x80, 0, 1], Refusal::NotMinimal, 1),
+        (&[18, 0, 255, 255, 255, 255, 255, 255, 255, 255, 128, 1], Refusal::Overflow, 1),
+        (&[18, 1, 65, 0x80], Refusal::Insufficient, 0),
+    ];
+    for (bytes, wanted, left) in rows {
+        let mut reader = Cuts::new(bytes, 1);
+        let answer: Result<Entry<32>, EntryError> = read_entry(alloc, &mut reader, 3);
+        check!(rt; is_entry_rejected(&answer, wanted), bytes.len());
+        check_eq!(rt; reader.left.len(), left, bytes.len());
     }
 }
 

@@ -3,7 +3,7 @@ ghost use Rattle.std.specs.Prelude.{◌≡◌, ◌<◌, List, ℕ, [], length, t
 ghost use Rattle.multihash.specs.Outcome.{pair_of};
 ghost use Rattle.storage.specs.Content.{content_pair};
 
-use super::Tally;
+use super::ContentHasher;
 use multihash::Multihash;
 use multihash::no_std_io::{Error, Read};
 
@@ -13,7 +13,7 @@ pub struct HashingReader<R> {
     /// The inner reader.
     pub inner: R,
     /// The hash of what was read.
-    pub tally: Tally,
+    pub hasher: ContentHasher,
 }
 
 impl<R: Read> HashingReader<R> {
@@ -22,21 +22,21 @@ impl<R: Read> HashingReader<R> {
     /// Returns a reader that has read nothing.
     pub fn new(inner: R) -> Self
         ensures inner { result.inner ≡ inner }
-        ensures nothing { HoldsMessage result.tally [] }
+        ensures nothing { HoldsMessage result.hasher [] }
     {
         HashingReader {
             inner,
-            tally: Tally::new(),
+            hasher: ContentHasher::new(),
         }
     }
 
     /// Returns the multihash of all that was read, and the inner reader.
     pub fn finish(self) -> (Multihash<32>, R)
-        ensures hash { (message : List ℕ) → HoldsMessage self.tally message →
+        ensures hash { (message : List ℕ) → HoldsMessage self.hasher message →
             pair_of result.0 ≡ content_pair message }
         ensures inner { result.1 ≡ self.inner }
     {
-        (self.tally.finish(), self.inner)
+        (self.hasher.finish(), self.inner)
     }
 }
 
@@ -52,11 +52,11 @@ impl<R: Read> Read for HashingReader<R> {
         ensures laws { ReadLaws (λ r. R.rest r.inner) (λ r. R.failures r.inner)
             self.old self.new buf.old buf.new result }
 
-        ensures hashed { IfOk result (λ n. AddsBytes self.old.tally (take n buf.new) self.new.tally) }
-        ensures unchanged { OnErr result (self.new.tally ≡ self.old.tally) }
+        ensures hashed { IfOk result (λ n. AddsBytes self.old.hasher (take n buf.new) self.new.hasher) }
+        ensures unchanged { OnErr result (self.new.hasher ≡ self.old.hasher) }
     {
         let n = self.inner.read(buf)?;
-        self.tally.add(&buf[..n]);
+        self.hasher.update(&buf[..n]);
         Ok(n)
     }
 
@@ -64,10 +64,10 @@ impl<R: Read> Read for HashingReader<R> {
         ensures laws { ReadExactLaws (λ r. R.rest r.inner) (λ r. R.failures r.inner)
             self.old self.new buf.old buf.new result }
 
-        ensures hashed { OnOk result (AddsBytes self.old.tally buf.new self.new.tally) }
+        ensures hashed { OnOk result (AddsBytes self.old.hasher buf.new self.new.hasher) }
         ensures stopped { OnErr result ((part : List ℕ) × (length part < length buf.old)
             × Consumes (R.rest self.old.inner) part (R.rest self.new.inner)
-            × AddsBytes self.old.tally part self.new.tally) }
+            × AddsBytes self.old.hasher part self.new.hasher) }
     {
         let mut filled = 0;
         while filled < buf.len() {

@@ -3,7 +3,7 @@ ghost use Rattle.std.specs.Prelude.{◌≡◌, List, ℕ, []};
 ghost use Rattle.multihash.specs.Outcome.{pair_of};
 ghost use Rattle.storage.specs.Content.{content_pair};
 
-use super::Tally;
+use super::ContentHasher;
 use multihash::Multihash;
 use multihash::no_std_io::{Error, Write};
 
@@ -13,7 +13,7 @@ pub struct HashingWriter<W> {
     /// The inner writer.
     pub inner: W,
     /// The hash of what was written.
-    pub tally: Tally,
+    pub hasher: ContentHasher,
 }
 
 impl<W: Write> HashingWriter<W> {
@@ -22,21 +22,21 @@ impl<W: Write> HashingWriter<W> {
     /// Returns a writer that has written nothing.
     pub fn new(inner: W) -> Self
         ensures inner { result.inner ≡ inner }
-        ensures nothing { HoldsMessage result.tally [] }
+        ensures nothing { HoldsMessage result.hasher [] }
     {
         HashingWriter {
             inner,
-            tally: Tally::new(),
+            hasher: ContentHasher::new(),
         }
     }
 
     /// Returns the multihash of all that was written, and the inner writer.
     pub fn finish(self) -> (Multihash<32>, W)
-        ensures hash { (message : List ℕ) → HoldsMessage self.tally message →
+        ensures hash { (message : List ℕ) → HoldsMessage self.hasher message →
             pair_of result.0 ≡ content_pair message }
         ensures inner { result.1 ≡ self.inner }
     {
-        (self.tally.finish(), self.inner)
+        (self.hasher.finish(), self.inner)
     }
 }
 
@@ -48,22 +48,22 @@ impl<W: Write> Write for HashingWriter<W> {
     ghost allocates = { W.allocates };
 
     ghost appended = { λ old bytes new. W.appended old.inner bytes new.inner
-        × AddsBytes old.tally bytes new.tally };
+        × AddsBytes old.hasher bytes new.hasher };
 
     ghost full = { λ w. W.full w.inner };
 
     ghost failures = { λ w. W.failures w.inner };
 
-    ghost appends_nothing = { λ w. (W.appends_nothing w.inner, AddsBytes-none w.tally) };
+    ghost appends_nothing = { λ w. (W.appends_nothing w.inner, AddsBytes-none w.hasher) };
 
     ghost appends_concatenated = { λ a b c x y first second. (
       W.appends_concatenated a.inner b.inner c.inner x y first.0 second.0,
-      AddsBytes-concatenated a.tally b.tally c.tally x y first.1 second.1,
+      AddsBytes-concatenated a.hasher b.hasher c.hasher x y first.1 second.1,
     ) };
 
     fn write(&mut self, buf: &[u8]) -> Result<usize, Error> {
         let n = self.inner.write(buf)?;
-        self.tally.add(&buf[..n]);
+        self.hasher.update(&buf[..n]);
         Ok(n)
     }
 }

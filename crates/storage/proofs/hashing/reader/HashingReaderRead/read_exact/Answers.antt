@@ -9,6 +9,6 @@ loop-filled-preserved g c =
     let met = c.in_ok-n.ensures in
     let front = take-put_mid_more l.filled (length l.buf - l.filled) c.in_ok-n.n l.buf c.read.new.buf l.invariant.in_buffer (search rules) in
     let consumes = Consumes-concatenated _ _ _ _ _ _ front l.invariant.consumes met.laws.consumes in
-    let hashed = subst (λ (bytes : List ℕ). AddsBytes c.args.self.now.tally bytes c.read.new.self.tally) (sym front)
-    (AddsBytes-concatenated c.args.self.now.tally l.self.tally c.read.new.self.tally _ _ l.invariant.hashed met.hashed) in
+    let hashed = subst (λ (bytes : List ℕ). AddsBytes c.args.self.now.hasher bytes c.read.new.self.hasher) (sym front)
+    (AddsBytes-concatenated c.args.self.now.hasher l.self.hasher c.read.new.self.hasher _ _ l.invariant.hashed met.hashed) in
     search rules

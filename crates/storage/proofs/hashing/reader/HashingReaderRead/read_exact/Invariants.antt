@@ -9,7 +9,7 @@ invariant-loop-filled g l = record {
   in_buffer : l.filled ≤ length l.buf;
   same_length : length l.buf ≡ length l.initial.buf;
   consumes : Consumes (g.R.Read.rest l.initial.self.inner) (take l.filled l.buf) (g.R.Read.rest l.self.inner);
-  hashed : AddsBytes l.initial.self.tally (take l.filled l.buf) l.self.tally;
+  hashed : AddsBytes l.initial.self.hasher (take l.filled l.buf) l.self.hasher;
   unfailed : g.R.Read.failures l.self.inner ≡ g.R.Read.failures l.initial.self.inner;
 }
 

@@ -1,7 +1,7 @@
 -- The same bytes remain.
 use Rattle.std.proofs.Common.{◌≡◌, ◌++◌, map, length}
 use Rattle.std.specs.List.{concat}
-use Rattle.storage.proofs.chunks.ChunksRead.read.Given as goal
+use Rattle.storage.proofs.chained_slices.ChainedSlicesRead.read.Given as goal
 
 abbrev pub invariant-loop-self : goal.invariant-loop-self
 invariant-loop-self l =
