@@ -1,6 +1,7 @@
 -- Binary Merkle trees over pairs, and the path from a leaf to the root.
-use Rattle.std.specs.Prelude.{List, ◌++◌, Bool, if◌then◌else◌}
+use Rattle.std.specs.Prelude.{◌≡◌, ℕ, List, ◌++◌, Bool, if◌then◌else◌}
 use Rattle.std.specs.List.{fold}
+use Rattle.sha2.specs.Sha256.{sha256}
 use Rattle.multihash.specs.Pair.{Pair}
 use Rattle.multihash.specs.Encoded.{encoding_of}
 use Rattle.storage.specs.Content.{content_pair}
@@ -21,3 +22,10 @@ above node step = if step.is_left then parent_pair step.sibling node else parent
 -- the root to which a path leads from a leaf
 abbrev pub root_from : Pair → List PathStep → Pair
 root_from leaf path = fold above leaf path
+
+-- two messages have one hash
+pub record Collision : Type 0 where
+  pub first : List ℕ
+  pub second : List ℕ
+  pub differ : ¬ (first ≡ second)
+  pub collide : sha256 first ≡ sha256 second

@@ -1,68 +1,31 @@
 //! A binary Merkle tree: each inner node is the multihash of its children's encodings.
-ghost use Rattle.std.specs.Prelude.{◌≡◌, ◌↔◌, ◌<◌, ◌/◌, Some, false, IfOk, IsTrue, MatchOption, length, map, slice_get};
-ghost use Rattle.multihash.specs.Pair.{Pair};
+ghost use Rattle.std.specs.Prelude.{◌≡◌, ◌↔◌, ◌<◌, IfOk, IsTrue, MatchOption, length, map};
 ghost use Rattle.multihash.specs.Outcome.{pair_of};
 ghost use Rattle.multihash.specs.Encoded.{encoding_of};
 ghost use Rattle.storage.specs.Merkle.{above, parent_pair, root_from};
-ghost use Rattle.storage.specs.Levels.{level_above, IsNodeAbove, IsRoot, LeadsFrom};
-ghost use Rattle.storage.specs.Step.{step_of};
+ghost use Rattle.storage.specs.Hashing.{AddsBytes};
+ghost use Rattle.storage.specs.Levels.{level_above, HasNoSibling, IsStep, IsRoot, IsPathToRoot, LeadsFrom};
+ghost use Rattle.storage.specs.Step.{step_of, IsOnlyPath};
 
-use crate::content::SHA2_256;
+use crate::hashing::ContentHasher;
 use multihash::Multihash;
-use multihash::no_std_io::{Error, Write};
-use sha2::{Digest, Sha256};
 use std::alloc::{AllocError, Global};
 
-/// A writer that hashes what is written.
-#[derive(Drop)]
-struct NodeHasher {
-    hasher: Sha256,
-}
-
-impl Write for NodeHasher {
-    ghost use Rattle.storage.specs.NodeHasher.{Hashes, Hashes-none, Hashes-concatenated};
-
-    const ALLOCATES: bool = false;
-
-    ghost allocates = { false };
-
-    ghost appended = { Hashes };
-
-    ghost full = { λ _. ⊥ };
-
-    ghost failures = { λ _. 0 };
-
-    ghost appends_nothing = { Hashes-none };
-
-    ghost appends_concatenated = { Hashes-concatenated };
-
-    fn write(&mut self, buf: &[u8]) -> Result<usize, Error> {
-        self.hasher.update(buf);
-        Ok(buf.len())
-    }
-}
-
-impl NodeHasher {
-    ghost use Rattle.storage.specs.NodeHasher.{Hashes};
-
-    /// Hashes a node's encoding.
-    fn push(&mut self, node: &Multihash<32>)
-        ensures { Hashes self.old (encoding_of (pair_of node.now)) self.new }
-    {
-        node.write(self).unwrap();
-    }
+// Adds a node's encoding to what is hashed.
+fn push(node: &Multihash<32>, hasher: &mut ContentHasher)
+    ensures { AddsBytes hasher.old (encoding_of (pair_of node.now)) hasher.new }
+{
+    node.write(hasher).unwrap();
 }
 
 /// Returns the parent of two nodes.
 pub fn parent(left: &Multihash<32>, right: &Multihash<32>) -> Multihash<32>
     ensures { pair_of result ≡ parent_pair (pair_of left.now) (pair_of right.now) }
 {
-    let mut writer = NodeHasher {
-        hasher: Sha256::new(),
-    };
-    writer.push(left);
-    writer.push(right);
-    Multihash::wrap(SHA2_256, &writer.hasher.finalize()).unwrap()
+    let mut hasher = ContentHasher::new();
+    push(left, &mut hasher);
+    push(right, &mut hasher);
+    hasher.finish()
 }
 
 /// A step of a path from a leaf to the root.
@@ -87,11 +50,12 @@ impl Step {
     }
 }
 
-/// Whether the path leads from the leaf to the root. Nothing marks a leaf apart from an inner node: a caller
-/// that has to tell them apart compares the path's length with the tree's height.
+/// Returns whether the path leads from the leaf to the root. Nothing distinguishes a leaf from an inner node:
+/// a caller that needs to compares the path's length with the tree's height.
 pub fn verify_path(leaf: &Multihash<32>, path: &[Step], root: &Multihash<32>) -> bool
-    ensures { IsTrue result ↔
+    ensures accepts { IsTrue result ↔
         (pair_of root.now ≡ root_from (pair_of leaf.now) (map step_of path.now)) }
+    ensures only { IsTrue result → IsOnlyPath (pair_of leaf.now) path.now (pair_of root.now) }
 {
     let mut node = *leaf;
     for step in path {
@@ -100,7 +64,7 @@ pub fn verify_path(leaf: &Multihash<32>, path: &[Step], root: &Multihash<32>) ->
     node.same_as(root)
 }
 
-/// The nodes above: each two nodes have a parent, and a last node without a partner goes up unchanged.
+// The nodes above: each two nodes have a parent, and a last node without a sibling goes up unchanged.
 fn nodes_above(alloc: Global, nodes: &[Multihash<32>]) -> Result<Vec<Multihash<32>>, AllocError>
     ensures { IfOk result (λ v. map pair_of v.items ≡ level_above (map pair_of nodes.now)) }
 {
@@ -114,12 +78,11 @@ fn nodes_above(alloc: Global, nodes: &[Multihash<32>]) -> Result<Vec<Multihash<3
     Ok(above)
 }
 
-/// The step up from the node at `index`; none for a last node without a partner.
+// The step up from the node at `index`; none for a last node without a sibling.
 fn step_at(nodes: &[Multihash<32>], index: usize) -> Option<Step>
     requires { index < length nodes.now }
-    ensures { (node : Pair) → slice_get (map pair_of nodes.now) index ≡ Some node →
-        MatchOption result (IsNodeAbove (map pair_of nodes.now) index node)
-        (λ step. IsNodeAbove (map pair_of nodes.now) index (above node (step_of step))) }
+    ensures { MatchOption result (HasNoSibling (map pair_of nodes.now) index)
+        (λ step. IsStep (map pair_of nodes.now) index (step_of step)) }
 {
     if index % 2 == 1 {
         return Some(Step {
@@ -146,7 +109,9 @@ pub fn root_and_path(
 ) -> Result<(Multihash<32>, Vec<Step>), AllocError>
     requires { index < length leaves.now }
     ensures root { IfOk result (λ made. IsRoot (map pair_of leaves.now) (pair_of made.0)) }
-    ensures path { IfOk result (λ made. LeadsFrom (map pair_of leaves.now) index
+    ensures path { IfOk result (λ made. IsPathToRoot (map pair_of leaves.now) index
+        (map step_of made.1.items)) }
+    ensures leads { IfOk result (λ made. LeadsFrom (map pair_of leaves.now) index
         (map step_of made.1.items) (pair_of made.0)) }
 {
     let mut nodes = Vec::from_slice(alloc, leaves)?;
@@ -160,4 +125,25 @@ pub fn root_and_path(
         at /= 2;
     }
     Ok((nodes[at], path))
+}
+
+/// Returns the root over some leaves, if the path from the leaf at `index` verifies: it always does.
+///
+/// # Errors
+///
+/// [`AllocError`] when out of memory.
+pub fn verified_root(
+    alloc: Global,
+    leaves: &[Multihash<32>],
+    index: usize,
+) -> Result<Option<Multihash<32>>, AllocError>
+    requires { index < length leaves.now }
+    ensures { IfOk result (λ found. MatchOption found ⊥
+        (λ root. IsRoot (map pair_of leaves.now) (pair_of root))) }
+{
+    let (root, path) = root_and_path(alloc, leaves, index)?;
+    if !verify_path(&leaves[index], &path, &root) {
+        return Ok(None);
+    }
+    Ok(Some(root))
 }

@@ -1,5 +1,5 @@
 use Rattle.multihash.proofs.Writings.EncodedLemmas.{encoding_is}
-use Rattle.storage.proofs.merkle.NodeHasher.push.Goals as goal
+use Rattle.storage.proofs.merkle.push.Goals as goal
 
 pub returns : goal.returns
 returns c message holds =
