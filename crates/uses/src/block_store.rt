@@ -17,12 +17,18 @@ pub type Ordered = BTreeMap<Multihash<64>, u32>;
 /// The same, in a hash map.
 pub type Hashed = HashMap<Multihash<64>, u32>;
 
-/// Stores a block's position. Other keys are unchanged.
+/// Stores a block's position, and returns the one that it replaces. Other keys are unchanged.
+///
+/// # Errors
+///
+/// [`AllocFailed`] with the key and the position when out of memory; the store is unchanged.
 pub fn put_ordered(
     store: &mut Ordered,
     key: Multihash<64>,
     place: u32,
-) -> Result<(), AllocFailed<(Multihash<64>, u32)>>
+) -> Result<Option<u32>, AllocFailed<(Multihash<64>, u32)>>
+    ensures previous { IfOk result (λ previous.
+        previous ≡ ordered.get (on pair_of compare_pairs) store.old key) }
     ensures kept { OnOk result
         (ordered.Updates (on pair_of compare_pairs) store.old store.new key (Some place)) }
     ensures others { OnOk result ((other : Fields 64) → ¬ (pair_of other ≡ pair_of key) →
@@ -30,8 +36,7 @@ pub fn put_ordered(
         ≡ ordered.get (on pair_of compare_pairs) store.old other) }
     ensures unchanged { OnErr result (ordered.IsUnchanged store.old store.new) }
 {
-    store.insert(key, place)?;
-    Ok(())
+    store.insert(key, place)
 }
 
 /// The same, in a hash map.
@@ -39,7 +44,9 @@ pub fn put_hashed(
     table: &mut Hashed,
     key: Multihash<64>,
     place: u32,
-) -> Result<(), AllocFailed<(Multihash<64>, u32)>>
+) -> Result<Option<u32>, AllocFailed<(Multihash<64>, u32)>>
+    ensures previous { IfOk result (λ previous.
+        previous ≡ hashed.get (on pair_of equal_pairs) table.old key) }
     ensures kept { OnOk result
         (hashed.Updates (on pair_of equal_pairs) table.old table.new key (Some place)) }
     ensures others { OnOk result ((other : Fields 64) → ¬ (pair_of other ≡ pair_of key) →
@@ -47,12 +54,11 @@ pub fn put_hashed(
         ≡ hashed.get (on pair_of equal_pairs) table.old other) }
     ensures unchanged { OnErr result (hashed.IsUnchanged table.old table.new) }
 {
-    table.insert(key, place)?;
-    Ok(())
+    table.insert(key, place)
 }
 
-/// The position stored for a multihash, whatever its capacity: none if its digest is longer than the keys'
-/// capacity.
+/// Returns the position stored for a multihash, whatever its capacity: none if its digest is longer than the
+/// keys' capacity.
 pub fn find_ordered<const S: usize>(store: &Ordered, key: &Multihash<S>) -> Option<u32>
     ensures kept { (same : Fields 64) → pair_of same ≡ pair_of key.now →
         result ≡ ordered.get (on pair_of compare_pairs) store.now same }
