@@ -264,12 +264,18 @@ fn show_bytes(alloc: Global, lines: &mut String) -> Result<()> {
 fn show_readme(alloc: Global, lines: &mut String) -> Result<()> {
     let (multihash, rest) = readme::head(&[0x12, 2, 7, 8, 9])?;
     let (bytes, back) = readme::there_and_back(alloc, multihash.digest())?;
+    let narrow = multihash.resize::<32>()?;
+    let scale = readme::scale(alloc, &narrow)?;
+    let json = readme::json(alloc, &narrow)?;
     writeln!(
         lines,
-        "README: {} bytes, {}, {} left",
+        "README: {} bytes, {}, {} left, {}, {}, {} stored",
         bytes.len(),
         back.size(),
-        rest.len()
+        rest.len(),
+        scale.same_as(&narrow),
+        json.same_as(&narrow),
+        readme::store(alloc, &[narrow, narrow])?.len()
     )?;
     Ok(())
 }

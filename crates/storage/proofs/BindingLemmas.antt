@@ -4,8 +4,7 @@ use Rattle.std.specs.Ordering.{is_eq}
 use Rattle.std.proofs.lemmas.Bool.{false≢true}
 use Rattle.sha2.proofs.Facts256.{length-sha256}
 use Rattle.multihash.specs.Pair.{Pair}
-use Rattle.multihash.specs.Encoding.{IsEncoding}
-use Rattle.multihash.specs.Encoded.{encoding_of}
+use Rattle.multihash.specs.Encoding.{IsEncoding, encoding_of}
 use Rattle.multihash.specs.Comparing.{compare_pairs}
 use Rattle.multihash.specs.Outcome.{pair_of}
 use Rattle.multihash.proofs.Values.OrderLemmas.{tie_exactly}

@@ -10,8 +10,7 @@ use Rattle.multihash.specs.Outcome.{IsErrorOf}
 use Rattle.multihash.specs.Fault.{Fault, IsOwnFault, IsUnexpectedEof}
 use Rattle.multihash.specs.Reading.{Consumes, ConsumesFewerThan, HasFewerThan}
 use Rattle.multihash.specs.Refusal.{Refusal, IsOutOfMemory, IsReaderError, of_io}
-use Rattle.multihash.specs.Consuming.{ConsumesVarint, ConsumesAtVarintError, IsAnyVarintError, IsFrontError}
-use Rattle.multihash.specs.InTurn.{ConsumesSome}
+use Rattle.multihash.specs.Consuming.{ConsumesSome, ConsumesVarint, ConsumesAtVarintError, IsAnyVarintError, IsFrontError}
 use Rattle.multihash.proofs.Writings.EncodingLemmas.{encoding_unique, same_cut}
 use Rattle.multihash.proofs.Varints.VarintLemmas.{same_number}
 use Rattle.multihash.proofs.Readings.ReadingLemmas.{Consumes-told}

@@ -8,17 +8,7 @@ use Rattle.multihash.specs.Verdict.{Verdict, HasVerdict, IsIncomplete}
 use Rattle.multihash.specs.Outcome.{IsErrorOf}
 use Rattle.multihash.specs.Reading.{ConsumesFewerThan, HasFewerThan}
 use Rattle.multihash.specs.Refusal.{Refusal, refusal_text, IsEof, IsOutOfMemory, IsReaderError}
-use Rattle.multihash.specs.Consuming.{
-  IsAnyVarintError,
-  IsFrontError,
-  ReadMayFailWith,
-  ConsumesVarint,
-  ConsumesAtVarintError,
-  ConsumesAtError,
-  ConsumesShortestSettling,
-  ConsumesNothingSettling,
-}
-use Rattle.multihash.specs.InTurn.{ConsumesSome, FailsInTurn}
+use Rattle.multihash.specs.Consuming.{IsAnyVarintError, IsFrontError, ReadMayFailWith, ConsumesSome, ConsumesVarint, ConsumesAtVarintError, ConsumesAtError, ConsumesShortestSettling, ConsumesNothingSettling, FailsInTurn}
 use Rattle.storage.specs.Content.{content_pair}
 use Rattle.storage.specs.declared.log.EntryError.{EntryError}
 use Rattle.storage.specs.declared.log.EntryError.TheVariants.{Failed, TooLong}

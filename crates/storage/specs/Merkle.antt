@@ -3,7 +3,7 @@ use Rattle.std.specs.Prelude.{◌≡◌, ℕ, List, ◌++◌, Bool, if◌then◌
 use Rattle.std.specs.List.{fold}
 use Rattle.sha2.specs.Sha256.{sha256}
 use Rattle.multihash.specs.Pair.{Pair}
-use Rattle.multihash.specs.Encoded.{encoding_of}
+use Rattle.multihash.specs.Encoding.{encoding_of}
 use Rattle.storage.specs.Content.{content_pair}
 
 -- an inner node is the multihash of its children's encodings

@@ -1,7 +1,7 @@
 //! A binary Merkle tree: each inner node is the multihash of its children's encodings.
 ghost use Rattle.std.specs.Prelude.{◌≡◌, ◌↔◌, ◌<◌, IfOk, IsTrue, MatchOption, length, map};
 ghost use Rattle.multihash.specs.Outcome.{pair_of};
-ghost use Rattle.multihash.specs.Encoded.{encoding_of};
+ghost use Rattle.multihash.specs.Encoding.{encoding_of};
 ghost use Rattle.storage.specs.Merkle.{above, parent_pair, root_from};
 ghost use Rattle.storage.specs.Hashing.{AddsBytes};
 ghost use Rattle.storage.specs.Levels.{level_above, HasNoSibling, IsStep, IsRoot, IsPathToRoot, LeadsFrom};
