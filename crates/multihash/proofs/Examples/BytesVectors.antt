@@ -55,8 +55,7 @@ nothing_begins_properly = (1 ∷ [], (λ e. omega (arith, ap (λ (z : List ℕ).
 
 -- ---- place values: the lowest digit first, in both bases
 
-values : (place_value 128 (44 ∷ 2 ∷ []) ≡ 300) × (place_value 256 (1 ∷ 2 ∷ 3 ∷ []) ≡ 197121)
-    × (place_value 128 (0 ∷ 0 ∷ 1 ∷ []) ≡ 16384)
+values : (place_value 128 (44 ∷ 2 ∷ []) ≡ 300) × (place_value 256 (1 ∷ 2 ∷ 3 ∷ []) ≡ 197121) × (place_value 128 (0 ∷ 0 ∷ 1 ∷ []) ≡ 16384)
     × (place_value 128 [] ≡ 0)
 unfolding place_value
 values = (refl, refl, refl, refl)

@@ -22,8 +22,7 @@ use Rattle.multihash.proofs.Examples.VerdictVectors.{empty_input, code_alone, di
 varint_refusal : IsAnyVarintError (of_varint overflow)
 varint_refusal = (overflow, refl)
 
-no_other_varint_refusal : ((n : ℕ) → ¬ (IsAnyVarintError (of_size n)))
-    × ((n : ℕ) → ¬ (IsAnyVarintError (of_code n))) × ¬ (IsAnyVarintError (of_io eof))
+no_other_varint_refusal : ((n : ℕ) → ¬ (IsAnyVarintError (of_size n))) × ((n : ℕ) → ¬ (IsAnyVarintError (of_code n))) × ¬ (IsAnyVarintError (of_io eof))
 no_other_varint_refusal = ((λ n (f, e). cc), (λ n (f, e). cc), λ (f, e). cc)
 
 padded_front : BeginsMalformed not_minimal (0x80 ∷ 0x00 ∷ [])
@@ -201,8 +200,7 @@ digest_missing =
     (4, [], record { code = 0; code_bytes = 0 ∷ []; size_bytes = 4 ∷ []; is_code = varint_0; is_size = varint_4; cut = refl }, omega arith, omega arith)
 
 -- an input whose verdict is not incomplete has no incomplete one
-not_early : (a consumed : List ℕ) (v w : Verdict) → Consumes (Some (a ++ [])) consumed (Some [])
-    → HasVerdict 4 a w → ¬ (IsIncomplete w)
+not_early : (a consumed : List ℕ) (v w : Verdict) → Consumes (Some (a ++ [])) consumed (Some []) → HasVerdict 4 a w → ¬ (IsIncomplete w)
     → HasVerdict 4 consumed v → ¬ (IsIncomplete v)
 not_early a consumed v w consumes late stays h early =
     stays (subst IsIncomplete (verdict_unique 4 a v w (subst (λ (z : List ℕ). HasVerdict 4 z v) (taken_is a [] consumed consumes) h) late) early)

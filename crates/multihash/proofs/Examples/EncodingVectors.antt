@@ -57,8 +57,7 @@ encodes_no_other_code : ¬ (IsEncoding (pair 1 []) (0x00 ∷ 0x00 ∷ []))
 encodes_no_other_code h = omega (arith, (begins_small 1 0x00 (0x00 ∷ []) h.code (h.size ++ []) (omega arith) h.is_code h.spelled).0)
 
 -- the size and the digest follow the varint of a small code
-after_code : (code b : ℕ) (digest rest : List ℕ) (h : IsEncoding (pair code digest) (b ∷ rest)) → b < 128
-    → rest ≡ h.size ++ digest
+after_code : (code b : ℕ) (digest rest : List ℕ) (h : IsEncoding (pair code digest) (b ∷ rest)) → b < 128 → rest ≡ h.size ++ digest
 after_code code b digest rest h small = (begins_small code b rest h.code (h.size ++ digest) small h.is_code h.spelled).1
 
 encodes_no_other_size : ¬ (IsEncoding (pair 0 (codes "ab")) (0x00 ∷ 0x01 ∷ 0x61 ∷ 0x62 ∷ []))
@@ -89,8 +88,7 @@ head_alone : HasHead 0 5 2 (0x00 ∷ 0x05 ∷ [])
 head_alone = record { within = omega arith; varints = size_5 []; is_code = refl }
 
 -- the code, the size and what follows a head are those of the input
-head_is : (code size len : ℕ) → HasHead code size len input
-    → (code ≡ 0) × (size ≡ 5) × (drop len input ≡ 0x07 ∷ [])
+head_is : (code size len : ℕ) → HasHead code size len input → (code ≡ 0) × (size ≡ 5) × (drop len input ≡ 0x07 ∷ [])
 head_is code size len h =
     let h_size = h.varints in
     let first =
@@ -157,8 +155,7 @@ no_more_present_than_sixteen h = omega (arith, h.present_is)
 -- ---- the digits of its bytes
 
 -- the highest bits are left out, and the digits are seven bits apart
-digits_are : (digits_low 2 0x02ac ≡ 300) × (digits_low 1 0x02ac ≡ 44) × (digits_low 0 0x02ac ≡ 0)
-    × (digits_low 3 0x018080 ≡ 16384)
+digits_are : (digits_low 2 0x02ac ≡ 300) × (digits_low 1 0x02ac ≡ 44) × (digits_low 0 0x02ac ≡ 0) × (digits_low 3 0x018080 ≡ 16384)
 unfolding digits_low
 digits_are = (refl, refl, refl, refl)
 

@@ -38,8 +38,7 @@ fits_no_buffer = omega arith
 fits_never : ¬ (FitsBuffer 300 (pair 0 (replicate 256 0)))
 fits_never h = omega (arith, h)
 
-truncates : (truncated 3 (pair 7 (codes "foobar")) ≡ pair 7 (codes "foo"))
-    × (truncated 0 (pair 7 (codes "foobar")) ≡ pair 7 [])
+truncates : (truncated 3 (pair 7 (codes "foobar")) ≡ pair 7 (codes "foo")) × (truncated 0 (pair 7 (codes "foobar")) ≡ pair 7 [])
     × (truncated 9 (pair 7 (codes "foobar")) ≡ pair 7 (codes "foobar"))
 truncates = (refl, refl, refl)
 
@@ -68,10 +67,8 @@ orders =
 
 -- ---- equality
 
-equal_pairs_are : (equal_pairs (pair 7 (codes "ab")) (pair 7 (codes "ab")) ≡ true)
-    × (equal_pairs (pair 7 (codes "ab")) (pair 8 (codes "ab")) ≡ false)
-    × (equal_pairs (pair 7 (codes "ab")) (pair 7 (codes "ac")) ≡ false)
-    × (equal_pairs (pair 7 (codes "ab")) (pair 7 (codes "a")) ≡ false)
+equal_pairs_are : (equal_pairs (pair 7 (codes "ab")) (pair 7 (codes "ab")) ≡ true) × (equal_pairs (pair 7 (codes "ab")) (pair 8 (codes "ab")) ≡ false)
+    × (equal_pairs (pair 7 (codes "ab")) (pair 7 (codes "ac")) ≡ false) × (equal_pairs (pair 7 (codes "ab")) (pair 7 (codes "a")) ≡ false)
 equal_pairs_are = (refl, refl, refl, refl)
 
 -- ---- hashing

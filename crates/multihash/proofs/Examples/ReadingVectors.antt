@@ -38,8 +38,7 @@ takes_and_keeps_none : ¬ (Consumes (Some (1 ∷ [])) (1 ∷ []) (Some (1 ∷ []
 takes_and_keeps_none h = omega (arith, ap (λ (o : Option (List ℕ)). length (told o)) h)
 
 -- an input does not become known, nor unknown
-reports_no_more : (consumed rest : List ℕ) → ¬ (Consumes (Some rest) consumed None)
-    × ¬ (Consumes None consumed (Some rest))
+reports_no_more : (consumed rest : List ℕ) → ¬ (Consumes (Some rest) consumed None) × ¬ (Consumes None consumed (Some rest))
 reports_no_more consumed rest = ((λ h. cc), λ h. cc)
 
 at_end : IsAtEnd (Some []) × IsAtEnd None × ¬ (IsAtEnd (Some (1 ∷ [])))

@@ -44,8 +44,7 @@ none_is_other : ¬ (IsOther eof) × ¬ (IsOther full) × ¬ (IsOther memory)
 none_is_other = ((λ h. cc), (λ h. cc), λ h. cc)
 
 -- an error that a reader or a writer may return by itself, whatever its text is
-own : (text : List ℕ) → IsOwnFault (record { kind = Other; text = text })
-    × IsOwnFault (record { kind = OutOfMemory; text = text })
+own : (text : List ℕ) → IsOwnFault (record { kind = Other; text = text }) × IsOwnFault (record { kind = OutOfMemory; text = text })
 own text = (inl refl, inr refl)
 
 no_own_eof : (text : List ℕ) → ¬ (IsOwnFault (record { kind = UnexpectedEof; text = text }))
@@ -59,12 +58,10 @@ no_own_full text (inr h) = cc
 -- ---- texts: one for each kind, whatever the error was made with
 
 fault_texts : (made : List ℕ) → (text_of UnexpectedEof made ≡ codes "failed to fill whole buffer")
-    × (text_of WriteZero made ≡ codes "failed to write whole buffer")
-    × (text_of OutOfMemory made ≡ codes "out of memory") × (text_of Other made ≡ made)
+    × (text_of WriteZero made ≡ codes "failed to write whole buffer") × (text_of OutOfMemory made ≡ codes "out of memory") × (text_of Other made ≡ made)
 fault_texts made = (refl, refl, refl, refl)
 
-prints_by_its_kind : (made : List ℕ)
-    → (printed (record { kind = UnexpectedEof; text = made }) ≡ codes "failed to fill whole buffer")
+prints_by_its_kind : (made : List ℕ) → (printed (record { kind = UnexpectedEof; text = made }) ≡ codes "failed to fill whole buffer")
     × (printed (record { kind = Other; text = made }) ≡ made)
 prints_by_its_kind made = (refl, refl)
 
@@ -93,33 +90,27 @@ code_in of_not_bytes = 0
 
 -- ---- of each kind of error
 
-of_kinds : ((fault : Fault) → refusal_of (Io fault) ≡ of_io fault)
-    × ((n : ℕ) → refusal_of (InvalidSize n) ≡ of_size n)
+of_kinds : ((fault : Fault) → refusal_of (Io fault) ≡ of_io fault) × ((n : ℕ) → refusal_of (InvalidSize n) ≡ of_size n)
     × ((n : ℕ) → refusal_of (InvalidCode n) ≡ of_code n)
 of_kinds = ((λ fault. refl), (λ n. refl), λ n. refl)
 
-of_plain_kinds : (refusal_of Insufficient ≡ of_varint insufficient)
-    × (refusal_of Overflow ≡ of_varint overflow)
+of_plain_kinds : (refusal_of Insufficient ≡ of_varint insufficient) × (refusal_of Overflow ≡ of_varint overflow)
     × (refusal_of NotMinimal ≡ of_varint not_minimal) × (refusal_of NotBytes ≡ of_not_bytes)
 of_plain_kinds = (refl, refl, refl, refl)
 
 -- ---- passed on
 
-passed_on : IsIo IsOther (of_io other) × IsEof (of_io eof) × IsOutOfMemory (of_io memory)
-    × IsReaderError (of_io other) × IsReaderError (of_io memory)
+passed_on : IsIo IsOther (of_io other) × IsEof (of_io eof) × IsOutOfMemory (of_io memory) × IsReaderError (of_io other) × IsReaderError (of_io memory)
 passed_on = ((other, refl, refl), (eof, refl, refl), (memory, refl, refl), (other, refl, inl refl), (memory, refl, inr refl))
 
-no_other_passed_on : ¬ (IsIo IsOther (of_io memory)) × ((n : ℕ) → ¬ (IsIo IsOther (of_size n)))
-    × ((n : ℕ) → ¬ (IsIo IsOther (of_code n)))
+no_other_passed_on : ¬ (IsIo IsOther (of_io memory)) × ((n : ℕ) → ¬ (IsIo IsOther (of_size n))) × ((n : ℕ) → ¬ (IsIo IsOther (of_code n)))
 no_other_passed_on = ((λ (fault, e, kind). cc), (λ n (fault, e, kind). cc), λ n (fault, e, kind). cc)
 
-no_other_ends : ¬ (IsEof (of_io other)) × ¬ (IsEof (of_io full)) × ¬ (IsEof (of_io memory))
-    × ¬ (IsEof (of_varint insufficient))
+no_other_ends : ¬ (IsEof (of_io other)) × ¬ (IsEof (of_io full)) × ¬ (IsEof (of_io memory)) × ¬ (IsEof (of_varint insufficient))
     × ((code : ℕ) → ¬ (IsEof (of_code code)))
 no_other_ends = ((λ (fault, e, kind). cc), (λ (fault, e, kind). cc), (λ (fault, e, kind). cc), (λ (fault, e, kind). cc), λ code (fault, e, kind). cc)
 
-no_other_wants_memory : ¬ (IsOutOfMemory (of_io eof)) × ¬ (IsOutOfMemory (of_io full))
-    × ¬ (IsOutOfMemory (of_io other))
+no_other_wants_memory : ¬ (IsOutOfMemory (of_io eof)) × ¬ (IsOutOfMemory (of_io full)) × ¬ (IsOutOfMemory (of_io other))
 no_other_wants_memory = ((λ (fault, e, kind). cc), (λ (fault, e, kind). cc), λ (fault, e, kind). cc)
 
 end_is_no_reader_fault : ¬ (IsReaderError (of_io eof))
@@ -130,15 +121,13 @@ full_is_no_reader_fault : ¬ (IsReaderError (of_io full))
 full_is_no_reader_fault (fault, e, inl kind) = cc
 full_is_no_reader_fault (fault, e, inr kind) = cc
 
-rejected_is_no_reader_fault : ((f : VarintError) → ¬ (IsReaderError (of_varint f)))
-    × ((n : ℕ) → ¬ (IsReaderError (of_size n)))
+rejected_is_no_reader_fault : ((f : VarintError) → ¬ (IsReaderError (of_varint f))) × ((n : ℕ) → ¬ (IsReaderError (of_size n)))
     × ((n : ℕ) → ¬ (IsReaderError (of_code n)))
 rejected_is_no_reader_fault = ((λ f (fault, e, kind). cc), (λ n (fault, e, kind). cc), λ n (fault, e, kind). cc)
 
 -- ---- the library's own
 
-named : IsInvalidSize 5 (of_size 5) × IsInvalidCode 9223372036854775808 (of_code 9223372036854775808)
-    × IsVarintError overflow (of_varint overflow)
+named : IsInvalidSize 5 (of_size 5) × IsInvalidCode 9223372036854775808 (of_code 9223372036854775808) × IsVarintError overflow (of_varint overflow)
     × IsNotBytes of_not_bytes
 named = (refl, refl, refl, refl)
 
@@ -151,15 +140,12 @@ no_other_is_size = ((λ n h. cc), λ h. cc)
 no_other_is_code : ((n : ℕ) → ¬ (IsInvalidCode n (of_size n))) × ¬ (IsInvalidCode 0 (of_varint overflow))
 no_other_is_code = ((λ n h. cc), λ h. cc)
 
-no_other_fault : ¬ (IsVarintError not_minimal (of_varint overflow))
-    × ¬ (IsVarintError overflow (of_varint insufficient))
-    × ¬ (IsVarintError insufficient (of_varint not_minimal))
-    × ((f : VarintError) → ¬ (IsVarintError f (of_io eof)))
+no_other_fault : ¬ (IsVarintError not_minimal (of_varint overflow)) × ¬ (IsVarintError overflow (of_varint insufficient))
+    × ¬ (IsVarintError insufficient (of_varint not_minimal)) × ((f : VarintError) → ¬ (IsVarintError f (of_io eof)))
     × ((n : ℕ) → ¬ (IsVarintError overflow (of_code n)))
 no_other_fault = ((λ h. cc), (λ h. cc), (λ h. cc), (λ f h. cc), λ n h. cc)
 
-no_other_is_not_bytes : ((f : VarintError) → ¬ (IsNotBytes (of_varint f)))
-    × ((fault : Fault) → ¬ (IsNotBytes (of_io fault)))
+no_other_is_not_bytes : ((f : VarintError) → ¬ (IsNotBytes (of_varint f))) × ((fault : Fault) → ¬ (IsNotBytes (of_io fault)))
     × ((n : ℕ) → ¬ (IsNotBytes (of_size n))) × ((n : ℕ) → ¬ (IsNotBytes (of_code n)))
 no_other_is_not_bytes = ((λ f h. cc), (λ fault h. cc), (λ n h. cc), λ n h. cc)
 
@@ -167,10 +153,8 @@ no_other_is_not_bytes = ((λ f h. cc), (λ fault h. cc), (λ n h. cc), λ n h. c
 
 texts : (refusal_text (of_size 256) ≡ codes "Invalid multihash size 256.")
     × (refusal_text (of_code 18446744073709551615) ≡ codes "Invalid multihash code 18446744073709551615.")
-    × (refusal_text (of_varint insufficient) ≡ codes "not enough input bytes")
-    × (refusal_text (of_varint overflow) ≡ codes "input bytes exceed maximum")
-    × (refusal_text (of_varint not_minimal) ≡ codes "encoding is not minimal")
-    × (refusal_text of_not_bytes ≡ codes "Failed to deserialize Multihash")
+    × (refusal_text (of_varint insufficient) ≡ codes "not enough input bytes") × (refusal_text (of_varint overflow) ≡ codes "input bytes exceed maximum")
+    × (refusal_text (of_varint not_minimal) ≡ codes "encoding is not minimal") × (refusal_text of_not_bytes ≡ codes "Failed to deserialize Multihash")
 unfolding digits
 texts = (refl, refl, refl, refl, refl, refl)
 
@@ -184,19 +168,16 @@ stale = record { code = 7; size = 2; buffer = codes "abcd"; in_range = omega ari
 means_ab : pair_of stale ≡ pair 7 (codes "ab")
 means_ab = refl
 
-answers : IsResultOf (Ok stale) (accepted (pair 7 (codes "ab")))
-    × IsResultOf {S = 4} (Err (of_size 5)) (invalid_size 5)
+answers : IsResultOf (Ok stale) (accepted (pair 7 (codes "ab"))) × IsResultOf {S = 4} (Err (of_size 5)) (invalid_size 5)
     × IsResultOf {S = 4} (Err (of_code 18446744073709551615)) (invalid_code 18446744073709551615)
-    × IsResultOf {S = 4} (Err (of_varint overflow)) (malformed overflow)
-    × IsResultOf {S = 4} (Err (of_io eof)) unexpected_eof
+    × IsResultOf {S = 4} (Err (of_varint overflow)) (malformed overflow) × IsResultOf {S = 4} (Err (of_io eof)) unexpected_eof
 answers = (refl, refl, refl, refl, (eof, refl, refl))
 
 answers_no_longer_pair : ¬ (IsResultOf (Ok stale) (accepted (pair 7 (codes "abcd"))))
 answers_no_longer_pair h =
     let same : pair 7 (codes "ab") ≡ pair 7 (codes "abcd") = cc in omega (arith, ap (λ (p : Pair). length p.digest) same)
 
-no_pair_answers_refusal : ¬ (IsResultOf (Ok stale) unexpected_eof)
-    × ((n : ℕ) → ¬ (IsResultOf (Ok stale) (invalid_code n)))
+no_pair_answers_refusal : ¬ (IsResultOf (Ok stale) unexpected_eof) × ((n : ℕ) → ¬ (IsResultOf (Ok stale) (invalid_code n)))
 no_pair_answers_refusal = ((λ h. cc), λ n h. cc)
 
 no_refusal_answers_pair : (e : Refusal) (p : Pair) → ¬ (IsResultOf {S = 4} (Err e) (accepted p))
@@ -209,21 +190,17 @@ answers_no_other_number = ((λ h. omega (arith, ap size_in h)), λ h. omega (ari
 -- a size is no code, a malformed varint of one kind is none of another, and an end within a digest is no end
 -- within a varint
 answers_no_other_kind : ((n : ℕ) → ¬ (IsResultOf {S = 4} (Err (of_size n)) (invalid_code n)))
-    × ((n : ℕ) → ¬ (IsResultOf {S = 4} (Err (of_code n)) (invalid_size n)))
-    × ¬ (IsResultOf {S = 4} (Err (of_varint insufficient)) (malformed overflow))
+    × ((n : ℕ) → ¬ (IsResultOf {S = 4} (Err (of_code n)) (invalid_size n))) × ¬ (IsResultOf {S = 4} (Err (of_varint insufficient)) (malformed overflow))
     × ((fault : Fault) → ¬ (IsResultOf {S = 4} (Err (of_io fault)) (malformed insufficient)))
 answers_no_other_kind = ((λ n h. cc), (λ n h. cc), (λ h. cc), λ fault h. cc)
 
 -- an error of the reader itself is that of no verdict
-no_own_fault_answers : (text : List ℕ)
-    → ¬ (IsResultOf {S = 4} (Err (of_io (record { kind = Other; text = text }))) unexpected_eof)
+no_own_fault_answers : (text : List ℕ) → ¬ (IsResultOf {S = 4} (Err (of_io (record { kind = Other; text = text }))) unexpected_eof)
 no_own_fault_answers text (fault, e, kind) = cc
 
 -- each verdict has its own error, and no other
-alone : (n : ℕ) (f : VarintError) (e : Refusal)
-    → (IsResultOf {S = 4} (Err e) (invalid_size n) → e ≡ of_size n)
-    × (IsResultOf {S = 4} (Err e) (invalid_code n) → e ≡ of_code n)
-    × (IsResultOf {S = 4} (Err e) (malformed f) → e ≡ of_varint f)
+alone : (n : ℕ) (f : VarintError) (e : Refusal) → (IsResultOf {S = 4} (Err e) (invalid_size n) → e ≡ of_size n)
+    × (IsResultOf {S = 4} (Err e) (invalid_code n) → e ≡ of_code n) × (IsResultOf {S = 4} (Err e) (malformed f) → e ≡ of_varint f)
     × (IsResultOf {S = 4} (Err e) unexpected_eof → (fault : Fault) × (e ≡ of_io fault) × (fault.kind ≡ UnexpectedEof))
 alone n f e = ((λ h. h), (λ h. h), (λ h. h), λ h. h)
 

@@ -108,8 +108,7 @@ unfolding place_value
 code_of_255 = record { eight = refl; are_bytes = all_below 256 all_255 refl; value = refl }
 
 -- whatever follows
-pub scale_code_above : (rest : List ℕ)
-    → HasScaleVerdict 4 (all_255 ++ rest) (invalid_code 18446744073709551615)
+pub scale_code_above : (rest : List ℕ) → HasScaleVerdict 4 (all_255 ++ rest) (invalid_code 18446744073709551615)
 scale_code_above rest = (all_255, rest, code_of_255, omega arith, refl)
 
 -- ---- each part rejects by itself

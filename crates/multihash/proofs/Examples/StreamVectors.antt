@@ -110,8 +110,7 @@ takes_pairs_in_order h =
 takes_no_pair_that_fits_not : ¬ (ConsumesPairs 0 (a ∷ []) (Some (0 ∷ 1 ∷ 65 ∷ [])) (Some []))
 takes_no_pair_that_fits_not h = omega (arith, All-head (FitsBuffer 0) a [] h.fit)
 
-takes_no_second_pair_that_fits_not : (old new : Option (List ℕ))
-    → ¬ (ConsumesPairs 1 (a ∷ pair 1 (codes "BB") ∷ []) old new)
+takes_no_second_pair_that_fits_not : (old new : Option (List ℕ)) → ¬ (ConsumesPairs 1 (a ∷ pair 1 (codes "BB") ∷ []) old new)
 takes_no_second_pair_that_fits_not old new h =
     omega (
       arith,
@@ -132,8 +131,7 @@ takes_nothing_after_pairs h =
 -- ---- a list that was rejected at its first pair
 
 -- one pair was requested, and none was consumed before
-none_before : (S : ℕ) (pairs : List Pair) (old middle : Option (List ℕ)) → length pairs < 1
-    → ConsumesPairs S pairs old middle → middle ≡ old
+none_before : (S : ℕ) (pairs : List Pair) (old middle : Option (List ℕ)) → length pairs < 1 → ConsumesPairs S pairs old middle → middle ≡ old
 none_before S [] old middle fewer h =
     Consumes-none middle ∙ sym
     (subst (λ (z : List ℕ). Consumes old z middle) (concatenated_none_only h.bytes h.concatenated) h.consumes)
@@ -249,24 +247,21 @@ pair_and_more more = (
 pair_settles : Settles 4 (0 ∷ 1 ∷ 65 ∷ [])
 pair_settles = late_settles 4 (0 ∷ 1 ∷ 65 ∷ []) (accepted a) (λ early. early) (pair_and_more [])
 
-after_first : (p : Pair) (middle : Option (List ℕ)) → ConsumesPairs 4 (p ∷ []) (Some stream) middle
-    → middle ≡ Some (0 ∷ 5 ∷ 9 ∷ [])
+after_first : (p : Pair) (middle : Option (List ℕ)) → ConsumesPairs 4 (p ∷ []) (Some stream) middle → middle ≡ Some (0 ∷ 5 ∷ 9 ∷ [])
 after_first p None h = let none = h.consumes in absurd cc
 after_first p (Some rest) h =
     ap Some (concatenated_unique (p ∷ []) (a ∷ []) h.bytes (0 ∷ 1 ∷ 65 ∷ []) rest (0 ∷ 5 ∷ 9 ∷ []) refl
     h.concatenated concatenated_one (sym (ap told h.consumes))).1
 
 -- two pairs were requested, and the first was consumed before, or none
-one_before : (pairs : List Pair) (middle : Option (List ℕ)) → length pairs < 2
-    → ConsumesPairs 4 pairs (Some stream) middle
+one_before : (pairs : List Pair) (middle : Option (List ℕ)) → length pairs < 2 → ConsumesPairs 4 pairs (Some stream) middle
     → (middle ≡ Some stream) ⊎ (middle ≡ Some (0 ∷ 5 ∷ 9 ∷ []))
 one_before [] middle fewer h = inl (none_before 4 [] (Some stream) middle (omega arith) h)
 one_before (p ∷ []) middle fewer h = inr (after_first p middle h)
 one_before (p ∷ q ∷ ps) middle fewer h = absurd (omega arith)
 
 -- the size that is rejected is that of the second
-no_size_at_first : (size : ℕ)
-    → ((v : Verdict) × HasVerdict 4 stream v × IsErrorOf (of_size size) v) → ⊥
+no_size_at_first : (size : ℕ) → ((v : Verdict) × HasVerdict 4 stream v × IsErrorOf (of_size size) v) → ⊥
 no_size_at_first size (v, has, names) =
     subst (λ (w : Verdict). IsErrorOf (of_size size) w)
     (verdict_unique 4 stream v (accepted a) has (pair_and_more (0 ∷ 5 ∷ 9 ∷ []))) names

@@ -27,10 +27,8 @@ ends_well-minimal [] last e z = refl
 ends_well-minimal (d ∷ front) last e z = absurd (omega (arith, ltb-true 0 last e, z))
 
 -- a varint of literal digits; each fact is computed
-varint_of : (front : List ℕ) (last n : ℕ) → list_all (λ d. ltb d 128) (front ++ last ∷ []) ≡ true
-    → ends_well front last ≡ true
-    → place_value 128 (front ++ last ∷ []) ≡ n → ltb n varint_limit ≡ true
-    → IsVarint n (continuation_bytes front ++ last ∷ [])
+varint_of : (front : List ℕ) (last n : ℕ) → list_all (λ d. ltb d 128) (front ++ last ∷ []) ≡ true → ends_well front last ≡ true
+    → place_value 128 (front ++ last ∷ []) ≡ n → ltb n varint_limit ≡ true → IsVarint n (continuation_bytes front ++ last ∷ [])
 varint_of front last n digits minimal value range = record {
   front = front;
   last = last;
@@ -203,15 +201,12 @@ no_varint_of_larger_digits n v = none v.front v.last v.digits v.spelled
 -- ---- each part of a definition rejects by itself, with no lemma: of a varint
 
 -- a varint whose first byte is no continuation byte is that byte
-pub begins_small : (n b : ℕ) (rest front following : List ℕ) → b < 128 → IsVarint n front
-    → b ∷ rest ≡ front ++ following
-    → (b ≡ n) × (rest ≡ following)
+pub begins_small : (n b : ℕ) (rest front following : List ℕ) → b < 128 → IsVarint n front → b ∷ rest ≡ front ++ following → (b ≡ n) × (rest ≡ following)
 unfolding place_value
 begins_small n b rest front following small v cut = of v.front v.value (cut ∙ ap (λ (z : List ℕ). z ++ following) v.spelled)
   where
     of : (digits : List ℕ) → place_value 128 (digits ++ v.last ∷ []) ≡ n
-        → b ∷ rest ≡ (continuation_bytes digits ++ v.last ∷ []) ++ following
-        → (b ≡ n) × (rest ≡ following)
+        → b ∷ rest ≡ (continuation_bytes digits ++ v.last ∷ []) ++ following → (b ≡ n) × (rest ≡ following)
     of [] value e = (omega (arith, value, ap (λ (z : List ℕ). get_or z 0 0) e), ap (λ (z : List ℕ). drop 1 z) e)
     of (d ∷ digits) value e = absurd (omega (arith, small, ap (λ (z : List ℕ). get_or z 0 0) e))
 
@@ -254,16 +249,14 @@ enough_continuation h = omega (arith, h.few)
 ends_inside_no_varint : ¬ (BeginsMalformed insufficient (0x80 ∷ 0x01 ∷ []))
 ends_inside_no_varint h = omega (arith, All-head IsContinuation 0x01 [] (All-tail IsContinuation 0x80 (0x01 ∷ []) h.all_continuation))
 
-overflows : BeginsMalformed overflow (most ++ last_byte_limit ∷ [])
-    × BeginsMalformed overflow (most ++ 0xff ∷ 0x00 ∷ [])
+overflows : BeginsMalformed overflow (most ++ last_byte_limit ∷ []) × BeginsMalformed overflow (most ++ 0xff ∷ 0x00 ∷ [])
 overflows = (
   record { front = most; byte = last_byte_limit; rest = []; all_continuation = all_continuation most refl; most = refl; too_large = omega arith; cut = refl },
   record { front = most; byte = 0xff; rest = 0x00 ∷ []; all_continuation = all_continuation most refl; most = refl; too_large = omega arith; cut = refl },
 )
 
 -- after n equal continuation bytes comes the byte that follows them
-follows : (k byte : ℕ) (front rest : List ℕ) (b : ℕ) (more : List ℕ) → length front ≡ k
-    → replicate k 0x80 ++ byte ∷ rest ≡ front ++ b ∷ more → byte ≡ b
+follows : (k byte : ℕ) (front rest : List ℕ) (b : ℕ) (more : List ℕ) → length front ≡ k → replicate k 0x80 ++ byte ∷ rest ≡ front ++ b ∷ more → byte ≡ b
 follows zero byte [] rest b more many e = ap (λ (z : List ℕ). get_or z 0 0) e
 follows zero byte (c ∷ front) rest b more many e = absurd (omega (arith, many))
 follows (suc k) byte [] rest b more many e = absurd (omega (arith, many))
@@ -283,8 +276,7 @@ overflows_after_continuation_bytes h = none h.front h.most h.all_continuation h.
     none [] many marks e = omega (arith, many)
     none (c ∷ front) many marks e = omega (arith, All-head IsContinuation c front marks, ap (λ (z : List ℕ). get_or z 0 0) e)
 
-not_minimal_are : BeginsMalformed not_minimal (0x80 ∷ 0x00 ∷ [])
-    × BeginsMalformed not_minimal (most ++ 0x00 ∷ 0x07 ∷ [])
+not_minimal_are : BeginsMalformed not_minimal (0x80 ∷ 0x00 ∷ []) × BeginsMalformed not_minimal (most ++ 0x00 ∷ 0x07 ∷ [])
 not_minimal_are = (
   record { front = 0x80 ∷ []; rest = []; all_continuation = all_continuation (0x80 ∷ []) refl; some = omega arith; few = omega arith; cut = refl },
   record { front = most; rest = 0x07 ∷ []; all_continuation = all_continuation most refl; some = omega arith; few = omega arith; cut = refl },

@@ -208,8 +208,7 @@ nothing_trailing (p, rest, begins, fits, count, some) = omega (arith, some)
 early : IsIncomplete (malformed insufficient) × IsIncomplete unexpected_eof
 early = (tt, tt)
 
-stays : ((p : Pair) → ¬ (IsIncomplete (accepted p))) × ((n : ℕ) → ¬ (IsIncomplete (invalid_size n)))
-    × ((n : ℕ) → ¬ (IsIncomplete (invalid_code n)))
+stays : ((p : Pair) → ¬ (IsIncomplete (accepted p))) × ((n : ℕ) → ¬ (IsIncomplete (invalid_size n))) × ((n : ℕ) → ¬ (IsIncomplete (invalid_code n)))
     × ¬ (IsIncomplete (malformed overflow)) × ¬ (IsIncomplete (malformed not_minimal))
 stays = ((λ p h. h), (λ n h. h), (λ n h. h), (λ h. h), λ h. h)
 
@@ -219,8 +218,7 @@ size_settles = record { verdict = invalid_size 5; always = λ more _. (more, siz
 
 -- with a larger capacity the digest decides; after a continuation byte of the size more bytes decide, though
 -- its digit alone is above the capacity
-waits : ¬ (Settles 5 (0 ∷ 5 ∷ [])) × ¬ (Settles 4 (0 ∷ 133 ∷ [])) × ¬ (Settles 4 []) × ¬ (Settles 4 (0 ∷ []))
-    × ¬ (Settles 4 (0 ∷ 4 ∷ 1 ∷ 2 ∷ 3 ∷ []))
+waits : ¬ (Settles 5 (0 ∷ 5 ∷ [])) × ¬ (Settles 4 (0 ∷ 133 ∷ [])) × ¬ (Settles 4 []) × ¬ (Settles 4 (0 ∷ [])) × ¬ (Settles 4 (0 ∷ 4 ∷ 1 ∷ 2 ∷ 3 ∷ []))
     × ¬ (Settles 300 (0x00 ∷ 0xff ∷ 0x01 ∷ [])) × ¬ (Settles 4 eight)
 waits = (
   early_not_settles 5 (0 ∷ 5 ∷ []) unexpected_eof tt (5, [], size_5 [], omega arith, omega arith),

@@ -33,8 +33,7 @@ wants_no_memory : ¬ (IsWriterFault false 3 3 memory)
 wants_no_memory h = elim h.cause [ inl one ↦ omega (arith, one) | inr (allocates, e, same) ↦ false≢true allocates ]
 
 -- neither the end of the input nor a full writer is an error of the writer itself
-no_own_kind : (allocates : Bool) (before after : ℕ)
-    → ¬ (IsWriterFault allocates before after eof) × ¬ (IsWriterFault allocates before after full)
+no_own_kind : (allocates : Bool) (before after : ℕ) → ¬ (IsWriterFault allocates before after eof) × ¬ (IsWriterFault allocates before after full)
 no_own_kind allocates before after = ((λ h. elim h.kind [ inl e ↦ cc | inr e ↦ cc ]), λ h. elim h.kind [ inl e ↦ cc | inr e ↦ cc ])
 
 abbrev Stops : ℕ → ℕ → Type 0 → Fault → Type 0
@@ -44,8 +43,7 @@ Stops before after is_full e = IsWriterFaultOrFull false before after is_full e
 full_writer : Stops 3 3 ⊤ full
 full_writer = inr (refl, refl, tt)
 
-full_alone : (before after : ℕ) (is_full : Type 0) → Stops before after is_full full
-    → (after ≡ before) × is_full
+full_alone : (before after : ℕ) (is_full : Type 0) → Stops before after is_full full → (after ≡ before) × is_full
 full_alone before after is_full (inl h) = absurd ((no_own_kind false before after).1 h)
 full_alone before after is_full (inr h) = (h.1, h.2)
 
@@ -68,8 +66,7 @@ never_full (inl h) = (no_own_kind true 3 4).1 h
 never_full (inr h) = h.2
 
 -- the count never falls, whatever the error
-count_rises : {allocates : Bool} {before after : ℕ} {is_full : Type 0} {e : Fault}
-    → IsWriterFaultOrFull allocates before after is_full e → before ≤ after
+count_rises : {allocates : Bool} {before after : ℕ} {is_full : Type 0} {e : Fault} → IsWriterFaultOrFull allocates before after is_full e → before ≤ after
 count_rises (inl h) = elim h.cause [ inl counted ↦ omega (arith, counted) | inr refused ↦ omega (arith, refused.2) ]
 count_rises (inr h) = omega (arith, h.1)
 
@@ -253,29 +250,25 @@ counts_no_more : ¬ (FillsSlice (7 ∷ 8 ∷ 9 ∷ []) 0 (1 ∷ []) (1 ∷ 8 ∷
 counts_no_more h = omega (arith, h.count)
 
 -- the buffers and the counts of a writer's two states are compared
-fills_slice : (old new : SliceWriter) → new.buffer.ghost_name ≡ old.buffer.ghost_name
-    → old.buffer.now ≡ 7 ∷ 8 ∷ []
+fills_slice : (old new : SliceWriter) → new.buffer.ghost_name ≡ old.buffer.ghost_name → old.buffer.now ≡ 7 ∷ 8 ∷ []
     → old.filled ≡ 1 → new.buffer.now ≡ 7 ∷ 1 ∷ [] → new.filled ≡ 2 → Fills old (1 ∷ []) new
 fills_slice old new same before from after to = record {
   same_slice = same;
   fills = rw (before, from, after, to) (record { appends = refl; advances = record { room = omega arith; left = refl }; count = refl });
 }
 
-fills_slice_with_no_other : (old new : SliceWriter) → new.buffer.ghost_name ≡ old.buffer.ghost_name
-    → old.buffer.now ≡ 7 ∷ 8 ∷ []
+fills_slice_with_no_other : (old new : SliceWriter) → new.buffer.ghost_name ≡ old.buffer.ghost_name → old.buffer.now ≡ 7 ∷ 8 ∷ []
     → old.filled ≡ 1 → new.buffer.now ≡ 7 ∷ 6 ∷ [] → new.filled ≡ 2 → ¬ (Fills old (5 ∷ []) new)
 fills_slice_with_no_other old new same before from after to h =
     let filled : FillsSlice (7 ∷ 8 ∷ []) 1 (5 ∷ []) (7 ∷ 6 ∷ []) 2 = rw (sym before, sym from, sym after, sym to) h.fills in
     omega (arith, ap (λ (z : List ℕ). get_or z 1 0) filled.appends)
 
-fills_slice_uncounted : (old new : SliceWriter) → new.buffer.ghost_name ≡ old.buffer.ghost_name
-    → old.filled ≡ 1 → new.filled ≡ 1
+fills_slice_uncounted : (old new : SliceWriter) → new.buffer.ghost_name ≡ old.buffer.ghost_name → old.filled ≡ 1 → new.filled ≡ 1
     → ¬ (Fills old (1 ∷ []) new)
 fills_slice_uncounted old new same from to h = omega (arith, from, to, h.fills.count)
 
 -- another slice is not the one that was filled
-fills_no_other_slice : (old new : SliceWriter) (bytes : List ℕ)
-    → ¬ (new.buffer.ghost_name ≡ old.buffer.ghost_name) → ¬ (Fills old bytes new)
+fills_no_other_slice : (old new : SliceWriter) (bytes : List ℕ) → ¬ (new.buffer.ghost_name ≡ old.buffer.ghost_name) → ¬ (Fills old bytes new)
 fills_no_other_slice old new bytes other h = other h.same_slice
 
 -- a writer with capacity left is not full, and one with none is
@@ -296,8 +289,7 @@ gives_up_the_first : ¬ (AdvancesPast (7 ∷ 8 ∷ []) (1 ∷ []) (7 ∷ []))
 gives_up_the_first h = omega (arith, ap (λ (z : List ℕ). get_or z 0 0) h.left)
 
 -- past as many as were requested
-gives_up_as_many : ¬ (AdvancesPast (7 ∷ 8 ∷ 9 ∷ []) (1 ∷ 2 ∷ []) (8 ∷ 9 ∷ []))
-    × ¬ (AdvancesPast (7 ∷ 8 ∷ 9 ∷ []) (1 ∷ []) [])
+gives_up_as_many : ¬ (AdvancesPast (7 ∷ 8 ∷ 9 ∷ []) (1 ∷ 2 ∷ []) (8 ∷ 9 ∷ [])) × ¬ (AdvancesPast (7 ∷ 8 ∷ 9 ∷ []) (1 ∷ []) [])
 gives_up_as_many = ((λ h. omega (arith, ap (λ (z : List ℕ). length z) h.left)), λ h. omega (arith, ap (λ (z : List ℕ). length z) h.left))
 
 appends_two : AppendsAtEnd (7 ∷ []) (1 ∷ 2 ∷ []) (7 ∷ 1 ∷ 2 ∷ [])
@@ -312,6 +304,5 @@ appends_no_other = (
   λ h. omega (arith, ap (λ (z : List ℕ). get_or z 1 0) h),
 )
 
-appends_as_many : ¬ (AppendsAtEnd (7 ∷ []) (1 ∷ 2 ∷ []) (7 ∷ 1 ∷ []))
-    × ¬ (AppendsAtEnd (7 ∷ []) (1 ∷ []) (7 ∷ 1 ∷ 2 ∷ []))
+appends_as_many : ¬ (AppendsAtEnd (7 ∷ []) (1 ∷ 2 ∷ []) (7 ∷ 1 ∷ [])) × ¬ (AppendsAtEnd (7 ∷ []) (1 ∷ []) (7 ∷ 1 ∷ 2 ∷ []))
 appends_as_many = ((λ h. omega (arith, ap (λ (z : List ℕ). length z) h)), λ h. omega (arith, ap (λ (z : List ℕ). length z) h))

@@ -14,8 +14,7 @@ use Rattle.multihash.proofs.Varints.DigitLemmas.{All-continuation_bytes}
 use Rattle.multihash.proofs.Varints.VarintLemmas.{varint_length}
 use Rattle.multihash.proofs.Writings.WritingLemmas.{length_of_not_nil}
 
-pub split_prefix : (f g p : List ℕ) → IsStrictPrefix p (f ++ g)
-    → IsStrictPrefix p f ⊎ ((q : List ℕ) × (p ≡ f ++ q) × IsStrictPrefix q g)
+pub split_prefix : (f g p : List ℕ) → IsStrictPrefix p (f ++ g) → IsStrictPrefix p f ⊎ ((q : List ℕ) × (p ≡ f ++ q) × IsStrictPrefix q g)
 split_prefix [] g p h = inr (p, refl, h)
 split_prefix (c ∷ f) g [] h = inl (c ∷ f, (λ e. cc), refl)
 split_prefix (c ∷ f) g (d ∷ p) (rest, some, e) =
@@ -259,8 +258,7 @@ shortest_size_fault S f x rest late c s =
     (inr (s.shown, coded c.code c.code_bytes _ s.shown c.is_code refl, s.has)) late
     (λ y before. before_second S c.code c.code_bytes s.shown y c.is_code (λ p b. before_step s.shown p s.step b) before)
 
-pub shortest_exists : (S : ℕ) (x : List ℕ) (v : Verdict) → HasVerdict S x v → ¬ (IsIncomplete v)
-    → (t : List ℕ) × IsShortestSettling S x t
+pub shortest_exists : (S : ℕ) (x : List ℕ) (v : Verdict) → HasVerdict S x v → ¬ (IsIncomplete v) → (t : List ℕ) × IsShortestSettling S x t
 shortest_exists S x (accepted p) (rest, b, fits) late = (b.encoding, shortest_pair S p x rest b fits)
 shortest_exists S x (invalid_size size) (rest, h, over) late = (h.code_bytes ++ h.size_bytes, shortest_size S size x rest h over)
 shortest_exists S x (invalid_code code) h late = absurd h

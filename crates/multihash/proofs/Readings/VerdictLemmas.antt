@@ -179,8 +179,7 @@ whole_rejected S x e (malformed f) has given = (malformed f, has, given)
 whole_rejected S x e unexpected_eof has given = (unexpected_eof, has, given)
 
 -- the code's varint is malformed
-pub no_code : (S : ℕ) (input : List ℕ) (e : Refusal) → IsFrontError input e
-    → (v : Verdict) × HasWholeVerdict S input v × IsErrorOf e v
+pub no_code : (S : ℕ) (input : List ℕ) (e : Refusal) → IsFrontError input e → (v : Verdict) × HasWholeVerdict S input v × IsErrorOf e v
 no_code S input e (f, named, shows) = (malformed f, inl shows, named)
 
 module _ (code : ℕ) (input left : List ℕ) (is_code : ConsumesVarint code (Some input) (Some left)) where

@@ -40,8 +40,7 @@ encoding_cut p a x e =
     ∙ (append_assoc e.code (e.size ++ p.digest) x ∙ ap (λ (z : List ℕ). e.code ++ z) (append_assoc e.size p.digest x))
 
 -- two encodings at the front of one input are equal, of the same pair
-pub encoding_unique : (p q : Pair) (a b x y : List ℕ) → IsEncoding p a → IsEncoding q b → a ++ x ≡ b ++ y
-    → (p ≡ q) × (a ≡ b) × (x ≡ y)
+pub encoding_unique : (p q : Pair) (a b x y : List ℕ) → IsEncoding p a → IsEncoding q b → a ++ x ≡ b ++ y → (p ≡ q) × (a ≡ b) × (x ≡ y)
 encoding_unique p q a b x y e f same =
     let codes = same_number (a ++ x) p.code q.code (e.size ++ (p.digest ++ x)) (f.size ++ (q.digest ++ y))
     (e.code, e.is_code, encoding_cut p a x e) (f.code, f.is_code, same ∙ encoding_cut q b y f) in

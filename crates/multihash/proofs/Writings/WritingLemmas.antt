@@ -99,8 +99,7 @@ full_of_faults n is_full e (inr full) = full.2
 -- third fact are their clauses `err` and `faults`, and the first states what the slice's `appended` means
 pub mut_slice_has_room : {T W : Type 0} (appended : W → List ℕ → W → Type 0) (a b : W) (IsForm : List ℕ → Type 0)
     (old new : List ℕ) (r : Result T Refusal) → ((part : List ℕ) → appended a part b → AdvancesPast old part new)
-    → OnErr r ((bytes : List ℕ) × IsForm bytes × AppendsPrefix appended a bytes b)
-    → CountsWriterFailures IsIo false 0 0 (new ≡ []) r
+    → OnErr r ((bytes : List ℕ) × IsForm bytes × AppendsPrefix appended a bytes b) → CountsWriterFailures IsIo false 0 0 (new ≡ []) r
     → ((bytes : List ℕ) → IsForm bytes → length bytes ≤ length old) → IsOk r
 mut_slice_has_room appended a b IsForm old new (Ok x) gives stopped faults enough = refl
 mut_slice_has_room appended a b IsForm old new (Err e) gives stopped faults enough =

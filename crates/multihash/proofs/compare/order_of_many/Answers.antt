@@ -17,9 +17,8 @@ pub returns-then-not-same_pair : goal.returns-then-not-same_pair
 returns-then-not-same_pair c =
     let x = window 32 c.loop-at.at c.args.a.now in
     let y = window 32 c.loop-at.at c.args.b.now in
-    let next = c.order_of_pair in
-    order_of_window 32 c.loop-at.at c.args.a.now c.args.b.now next.result c.loop-at.invariant next.ensures
-    (λ tie. absurd (cc (c.same_pair.ensures.1 (exact_bytes x y (sym next.ensures ∙ tie)), c.if-not-same_pair.true)))
+    order_of_window 32 c.loop-at.at c.args.a.now c.args.b.now c.order_of_pair.result c.loop-at.invariant c.order_of_pair.ensures
+    (λ tie. absurd (cc (c.same_pair.ensures.1 (exact_bytes x y (sym c.order_of_pair.ensures ∙ tie)), c.if-not-same_pair.true)))
 
 pub loop-at-preserved : goal.loop-at-preserved
 loop-at-preserved c =
