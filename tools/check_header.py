@@ -48,14 +48,11 @@ class Declared:
         yield "typedef uint32_t multihash_status;"
         yield f"enum {{ {', '.join(f'MULTIHASH_{name} = {number}' for name, number in self.statuses.items())} }};"
         for name, fields in self.structs.items():
-            members = " ".join(f"{'multihash_status' if it == 'status' else kind} {it};"
-                for it, kind in fields)
+            members = " ".join(f"{'multihash_status' if it == 'status' else kind} {it};" for it, kind in fields)
             yield f"typedef struct {name} {{ {members} }} {name};"
         yield from self.functions.values()
-        cases = " ".join(f'{f"case MULTIHASH_{name}" if name else "default"}: return "{text}";'
-            for name, text in self.texts.items())
+        cases = " ".join(f'{f"case MULTIHASH_{name}" if name else "default"}: return "{text}";' for name, text in self.texts.items())
         yield f"static inline const char *multihash_status_text(multihash_status status) {{ switch (status) {{ {cases} }} }}"
-
     def macros(self) -> dict[str, str]:
         major, minor, patch = map(int, self.version.split("."))
         number = 10000 * major + 100 * minor + patch
@@ -80,8 +77,7 @@ class Tree:
 
     def texts(self, folder: str, ending: str) -> dict[str, str]:
         its = [*(str(it.relative_to(TOP)) for it in (TOP / folder).rglob(f"*{ending}")), *self.others]
-        return {it: self.read(it) for it in sorted({*its})
-            if it.startswith(f"{folder}/") and it.endswith(ending)}
+        return {it: self.read(it) for it in sorted({*its}) if it.startswith(f"{folder}/") and it.endswith(ending)}
 
 
 def flat(text: str) -> str:
@@ -111,17 +107,14 @@ def parameter(text: str) -> str:
 def structs_of(text: str) -> Structs:
     found = re.findall(r"#\[repr\(C\)\]\s*(?:#\[derive\([\w, ]*\)\]\s*)?pub(?:\(crate\))? struct (\w+) \{([^{}]*)\}", text)
     fields = {name: re.findall(r"(\w+): (\w+),", body) for name, body in found}
-    return {f"multihash_{name.lower()}": [(it, TYPES.get(kind, kind)) for it, kind in its]
-        for name, its in fields.items()}
+    return {f"multihash_{name.lower()}": [(it, TYPES.get(kind, kind)) for it, kind in its] for name, its in fields.items()}
 
 
 def functions_of(text: str) -> dict[str, str]:
     """Returns the declarations of the exports. tools/test_c.sh checks that the archive has no others."""
     found = re.findall(r'#\[unsafe\(no_mangle\)\]\s*pub extern "C" fn (\w+)\(([^()]*)\) -> (\w+)\s', text)
-    parts = {name: ", ".join(parameter(it) for it in its.split(",") if it.strip()) or "void"
-        for name, its, _ in found}
-    return {name: f"{TYPES.get(result, f'multihash_{result.lower()}')} {name}({parts[name]});"
-        for name, _, result in found}
+    parts = {name: ", ".join(parameter(it) for it in its.split(",") if it.strip()) or "void" for name, its, _ in found}
+    return {name: f"{TYPES.get(result, f'multihash_{result.lower()}')} {name}({parts[name]});" for name, _, result in found}
 
 
 def of_crate(tree: Tree) -> Declared:
@@ -133,16 +126,14 @@ def of_crate(tree: Tree) -> Declared:
         raise Unread("a text of a status")
     # the most bytes of a varint; a length that is accepted has two
     varint = int(group(r"\nmax_continuation = (\d+)\n", tree.read("crates/multihash/specs/Varint.antt"))) + 1
-    lengths = {"DIGEST_MAX": 255, "HEAD_MAX": 2 * varint, "LENGTH_MAX": varint + 2 + 255,
-        "SCALE_LENGTH_MAX": 9 + 255}
+    lengths = {"DIGEST_MAX": 255, "HEAD_MAX": 2 * varint, "LENGTH_MAX": varint + 2 + 255, "SCALE_LENGTH_MAX": 9 + 255}
     return Declared(
         structs_of("\n".join(files.values())),
         functions_of("\n".join(files.values())),
         dict(re.findall(r"pub const (\w+): u32 = (\d+);", files[f"{source}/status.rt"])),
         {name: str(most) for name, most in lengths.items()},
         dict(texts),
-        ".".join(group(rf"const {it}: u32 = (\d+);", files[f"{source}/version.rt"])
-            for it in ("MAJOR", "MINOR", "PATCH")),
+        ".".join(group(rf"const {it}: u32 = (\d+);", files[f"{source}/version.rt"]) for it in ("MAJOR", "MINOR", "PATCH")),
     )
 
 
@@ -152,8 +143,7 @@ def of_crate(tree: Tree) -> Declared:
 def preprocessed(text: str, language: str, *options: str) -> str:
     """Returns what the preprocessor makes of the header, without the standard's headers."""
     words = [*LANGUAGES[language], "-E", "-P", "-nostdinc", "-DSIZE_MAX=1", "-DUINT64_MAX=1", *options, "-"]
-    ran = subprocess.run(words, input=re.sub(r"#include <std(def|int)\.h>\n", "", text), capture_output=True,
-        text=True)
+    ran = subprocess.run(words, input=re.sub(r"#include <std(def|int)\.h>\n", "", text), capture_output=True, text=True)
     if ran.returncode:
         raise Unread(f"{language}: {ran.stderr[-300:]}")
     return ran.stdout
@@ -193,8 +183,7 @@ def constants_of(texts: dict[str, str], names: list[str]) -> dict[str, str]:
     found: dict[str, str] = {}
     for path, text in texts.items():
         its = re.findall(form, text, re.M)
-        if len(re.findall(loose, text)) > len(its) or any(
-                not value.isdigit() or found.get(name, value) != value for name, value in its):
+        if len(re.findall(loose, text)) > len(its) or any(not value.isdigit() or found.get(name, value) != value for name, value in its):
             raise Unread(f"{path}: a constant is not read, or has two values: {its}")
         found |= dict(its)
     return found
@@ -203,8 +192,7 @@ def constants_of(texts: dict[str, str], names: list[str]) -> dict[str, str]:
 def python_structs(text: str) -> Structs:
     classes = re.findall(r"class _(\w+)\(ctypes.Structure\):\n    _fields_ = \[(.*?)\]\n", text, re.S)
     fields = {name: re.findall(r'\("(\w+)", ctypes\.c_(\w+?)(?:_t)?\)', body) for name, body in classes}
-    return {f"multihash_{name.lower()}": [(it, f"{kind}_t") for it, kind in its]
-        for name, its in fields.items()}
+    return {f"multihash_{name.lower()}": [(it, f"{kind}_t") for it, kind in its] for name, its in fields.items()}
 
 
 def binding_faults(tree: Tree, crate: Declared) -> Iterator[str]:
@@ -213,19 +201,16 @@ def binding_faults(tree: Tree, crate: Declared) -> Iterator[str]:
     script = tree.read("bindings/js/core.js")
     statuses = re.findall(r"'(\w+)'", group(r"\nconst STATUSES = \[(.*)\];\n", script))
     of_script = {name.upper(): str(at) for at, name in enumerate(statuses)}
-    of_script |= constants_of({it: tree.read(it) for it in ("bindings/js/core.js", "bindings/js/index.d.ts")},
-        [*crate.lengths])
+    of_script |= constants_of({it: tree.read(it) for it in ("bindings/js/core.js", "bindings/js/index.d.ts")}, [*crate.lengths])
     for name, found, wanted in (
         ("Rust's numbers", constants_of(tree.texts(source, ".rs"), [*numbers]), numbers),
         ("Python's numbers", constants_of(tree.texts("bindings/python/verified_multihash", ".py"), [*numbers]), numbers),
         ("JavaScript's numbers", of_script, numbers),
         ("Rust's structs", structs_of(tree.read(f"{source}/ffi.rs")), crate.structs),
         ("Python's structs", python_structs(library), crate.structs),
-        ("Rust's version", group(r'\nversion = "(.*)"\n', tree.read("bindings/rust/Cargo.toml")),
-            crate.version),
+        ("Rust's version", group(r'\nversion = "(.*)"\n', tree.read("bindings/rust/Cargo.toml")), crate.version),
         ("Python's version", group(r'\n__version__ = "(.*)"\n', library), crate.version),
-        ("JavaScript's version", group(r'\n  "version": "(.*)",\n', tree.read("bindings/js/package.json")),
-            crate.version),
+        ("JavaScript's version", group(r'\n  "version": "(.*)",\n', tree.read("bindings/js/package.json")), crate.version),
     ):
         if found != wanted:
             yield f"{name} are {found}, and the crate's {wanted}"
@@ -237,8 +222,7 @@ def binding_faults(tree: Tree, crate: Declared) -> Iterator[str]:
 def faults_of(tree: Tree) -> list[str]:
     try:
         crate, header = of_crate(tree), tree.read(HEADER)
-        return [*(it for language in LANGUAGES for it in header_faults(header, crate, language)),
-            *binding_faults(tree, crate)]
+        return [*(it for language in LANGUAGES for it in header_faults(header, crate, language)), *binding_faults(tree, crate)]
     except Unread as error:
         return [f"not read: {error}"]
 
@@ -271,8 +255,7 @@ def main() -> int:
     plants = planted((TOP / CRATE / "c_test/header_differences.txt").read_text("utf-8")) if is_whole and not faults else []
     with ThreadPoolExecutor(4) as pool:
         found = list(pool.map(lambda it: is_found(*it), plants))
-    faults += [f"a planted difference is not found: {path}: {new}"
-        for (path, _, new), it in zip(plants, found) if not it]
+    faults += [f"a planted difference is not found: {path}: {new}" for (path, _, new), it in zip(plants, found) if not it]
     print("\n".join(faults) or f"the header, the crate and the bindings agree; {len(plants)} planted differences are found")
     return 1 if faults else 0
 

@@ -1,6 +1,5 @@
 #!/usr/bin/env python3
-"""Compares the contracts, examples and commands in CALLING.md and README.md with the sources.
-The last line is 'N passed, M failed'.
+"""Compares the contracts, examples and commands in CALLING.md and README.md with the sources. The last line is 'N passed, M failed'.
 
   check_pages.py            fails where a page says something else than the sources, or a command of README.md does; the program is that
                             of 'rt ci', if BUILT says so; otherwise 'rt run' builds it
@@ -23,8 +22,7 @@ MODULES = {"multihash": "", "binary": "", "compare": "", "scale": "", "json": ""
            "varint": "varint::", "list": "list::", "no_std_io/error": "no_std_io::",
            "no_std_io/slice_writer": "no_std_io::"}
 FIRST, LAST = "<!-- written by tools/check_pages.py -->\n", "<!-- to here -->\n"
-ITEM = re.compile(r"^impl(?:<[^>]*>)? (?P<owner>\w+)[^\n]*\{$|^ *pub (?:const )?fn (?P<name>\w+)",
-    re.MULTILINE)
+ITEM = re.compile(r"^impl(?:<[^>]*>)? (?P<owner>\w+)[^\n]*\{$|^ *pub (?:const )?fn (?P<name>\w+)", re.MULTILINE)
 SIGNATURE_END = re.compile(r"\n +(?=requires|ensures|//)|\s*\{\n|\s+\{")
 CLAUSE = re.compile(r"(?:\s|//[^\n]*\n)*(?P<kind>requires|ensures)(?: (?P<name>\w+))?\s*\{")
 WIDTH = 145
@@ -54,16 +52,14 @@ def contracts(text: str, module: str) -> Iterator[str]:
             at = block_end(text, clause.end())
             body = " ".join(re.sub(r"//[^\n]*", "", text[clause.end():at - 1]).split())
             label = "requires" if clause["kind"] == "requires" else clause["name"] or "ensures"
-            lines += textwrap.wrap(f"{label}: {body}", WIDTH, initial_indent="  ", subsequent_indent="      ",
-                break_on_hyphens=False)
+            lines += textwrap.wrap(f"{label}: {body}", WIDTH, initial_indent="  ", subsequent_indent="      ", break_on_hyphens=False)
         if len(lines) > 1:
             short = " ".join(line.strip() for line in lines)
             yield short if len(lines) == 2 and len(short) <= WIDTH else "\n".join(lines)
 
 
 def blocks(page: str, language: str) -> list[str]:
-    return [body for word, body in re.findall(r"^```(\w*)\n(.*?)^```$", page, re.MULTILINE | re.DOTALL)
-        if word == language]
+    return [body for word, body in re.findall(r"^```(\w*)\n(.*?)^```$", page, re.MULTILINE | re.DOTALL) if word == language]
 
 
 def bare(line: str) -> str:
@@ -112,8 +108,7 @@ def command_faults(page: str) -> Iterator[str]:
 
 
 def main() -> int:
-    made = [entry for name, module in MODULES.items()
-        for entry in contracts((SOURCES / f"{name}.rt").read_text(), module)]
+    made = [entry for name, module in MODULES.items() for entry in contracts((SOURCES / f"{name}.rt").read_text(), module)]
     calling, readme = CALLING.read_text(), README.read_text()
     before, rest = calling.split(FIRST)
     found, after = rest.split(LAST)
@@ -121,8 +116,7 @@ def main() -> int:
     if "--write" in sys.argv[1:]:
         CALLING.write_text(before + FIRST + wanted + LAST + after)
         return 0
-    callers = [path for crate in ("uses", "storage")
-        for path in (TOP / "crates" / crate / "src").rglob("*.rt")]
+    callers = [path for crate in ("uses", "storage") for path in (TOP / "crates" / crate / "src").rglob("*.rt")]
     sources = {bare(line) for path in callers for line in path.read_text().splitlines()} | {""}
     checks = {
         "the contracts in CALLING.md": [] if found == wanted else ["tools/check_pages.py --write writes those of the sources"],

@@ -6,25 +6,21 @@
     tools/mutants.py --unprotected [NAME..]                       lists the clauses of public functions that nothing protects,
                                                                   which fail a run, unless with --allow-unprotected
 
-docs/PLANTED.md says what a mutant is. A function is proved against its own contract and the contracts of what
-it calls, never against another's body, so one check judges a batch with one mutant of each function. A mutant
-is rejected only where its own function has an open goal: not where it merely calls a mutant, where the text
-does not compile, where the borrow checker does not know its form, or where a proof cites a name that is gone.
-What a batch leaves unclear is tried again without the others, and at last alone, as is a mutant of clauses,
-constants, types or several functions, which any open goal rejects, and one of definitions, which an example
-or a lemma has to reject. Where the prover says only that its search gave up, the rejection is counted apart,
-and breaks no clause.
+docs/PLANTED.md says what a mutant is. A function is proved against its own contract and the contracts of what it calls, never against
+another's body, so one check judges a batch with one mutant of each function. A mutant is rejected only where its own function has an open
+goal: not where it merely calls a mutant, where the text does not compile, where the borrow checker does not know its form, or where a
+proof cites a name that is gone. What a batch leaves unclear is tried again without the others, and at last alone, as is a mutant of
+clauses, constants, types or several functions, which any open goal rejects, and one of definitions, which an example or a lemma has to
+reject. Where the prover says only that its search gave up, the rejection is counted apart, and breaks no clause.
 
-A mutant changed where its sum (prover/sums.py) is another at COMMIT, by default the newest of the first
-parents that is more than a day older than the last, else the first; in a shallow clone without such a commit
-all have changed. To check a clone in which you changed nothing, give --since HEAD: only those that are drawn
-are tried.
+A mutant changed where its sum (prover/sums.py) is another at COMMIT, by default the newest of the first parents that is more than a
+day older than the last, else the first; in a shallow clone without such a commit all have changed. To check a clone in which you changed
+nothing, give --since HEAD: only those that are drawn are tried.
 
-Rejections are kept on this machine, outside the checkout, by the same sum, and a later run reuses them; but
-it tries what it drew, and with --all everything. tools/mutants.count has the number of all mutants.
+Rejections are kept on this machine, outside the checkout, by the same sum, and a later run reads them there; but it tries what it
+drew, and with --all everything. tools/mutants.count has the number of all mutants.
 
-It proves a copy of the crates first, or in the folder --proved. It needs about 2 GB a job.
-The last line is 'N passed, M failed'.
+It proves a copy of the crates first, or in the folder --proved. It needs about 2 GB a job. The last line is 'N passed, M failed'.
 """
 import argparse
 import os
@@ -53,7 +49,7 @@ def named(words, its, report):
 
 
 def choose(given, its, tree, judge, folder):
-    """Returns the mutants that are to be tried, and reuses the rejections of others by earlier runs."""
+    """Returns the mutants that are to be tried, and takes from earlier runs the rejections of others that are asked for."""
     is_plain, since, report = not given.names and not given.all, "asked for", judge.report
     if is_plain:
         commit = choice.base_of(given.root, given.since)
@@ -63,8 +59,7 @@ def choose(given, its, tree, judge, folder):
         asked = named(given.names, its, report) if given.names else its
     kept = {it: why for it in asked if not given.all and (why := judge.store.find(it))}
     left = [it for it in asked if it not in kept]
-    others = [it for it in its if it not in left]
-    drawn = choice.drawn(others, tree.below, given.draw, given.seed) if is_plain else []
+    drawn = choice.drawn([it for it in its if it not in left], tree.below, given.draw, given.seed) if is_plain else []
     for mutant, why in kept.items():
         if mutant not in drawn:
             report.passes(mutant.label, f"kept: {why}")
@@ -74,7 +69,7 @@ def choose(given, its, tree, judge, folder):
 
 
 def all_mutants(given, tree, report):
-    """Returns the mutants of all crates. Reports those that cannot be applied, and a wrong stored number."""
+    """Returns the mutants of all crates, and reports those that cannot be applied, and another number than is stored."""
     found = [edits.edits_in(crate, f"{given.root}/crates/{crate}") for crate in tree.below]
     for label, why in (it for _, bad in found for it in bad):
         report.fails(label, f"it cannot be applied: {why}")
@@ -86,11 +81,9 @@ def all_mutants(given, tree, report):
 
 
 def arguments():
-    parser = argparse.ArgumentParser(description=__doc__,
-        formatter_class=argparse.RawDescriptionHelpFormatter)
+    parser = argparse.ArgumentParser(description=__doc__, formatter_class=argparse.RawDescriptionHelpFormatter)
     root = os.path.dirname(os.path.dirname(os.path.realpath(__file__)))
-    for name, default in {"root": root, "proved": "", "jobs": 0, "since": "", "draw": 6,
-            "seed": secrets.token_hex(4)}.items():
+    for name, default in {"root": root, "proved": "", "jobs": 0, "since": "", "draw": 6, "seed": secrets.token_hex(4)}.items():
         parser.add_argument(f"--{name}", default=default, type=type(default))
     parser.add_argument("--all", action="store_true")
     parser.add_argument("--unprotected", action="store_true")
@@ -107,16 +100,14 @@ def main():
     for label, why in protection.faults + ([] if given.allow_unprotected else protection.unprotected):
         report.fails(label, why)
     if given.unprotected:
-        listed = [it for it, _ in protection.unprotected
-            if it.partition("::")[0] in (given.names or tree.below)]
+        listed = [it for it, _ in protection.unprotected if it.partition("::")[0] in (given.names or tree.below)]
         print(*listed, f"{len(listed)} unprotected, {len(report.failed)} failed", sep="\n")
         return 1 if report.failed else 0
     report.say(f"# {len(protection.unprotected)} clauses of public functions are unprotected: --unprotected lists them")
     with tempfile.TemporaryDirectory(prefix="mutants-") as folder:
         left = choose(given, its, tree, judge, folder)
         if left:
-            trial.try_mutants(left, tree, judge, given.proved or f"{folder}/proved",
-                given.jobs or repository.jobs_here(), folder)
+            trial.try_mutants(left, tree, judge, given.proved or f"{folder}/proved", given.jobs or repository.jobs_here(), folder)
     judge.store.clear()
     limits = sum(it.removeprefix("kept: ").startswith(BY_LIMIT) for it in report.passed)
     report.say(f"# rejected by a goal {len(report.passed) - limits}, by a limit {limits}")

@@ -1,13 +1,12 @@
 #!/usr/bin/env python3
-"""Compares the public names of the libraries with the stored ones: if you change one, change the list too.
+"""Compares the public names of the libraries with the stored ones: if you add or remove one, do so in the list too.
 
     tools/public_names.py [--write]
 
-The list tools/public_names/CRATE.txt has a line for each public path of an item, a field, a case and a
-method, for each exported symbol, and for each trait of a type, so that an inherent method that hides a
-trait's shows as one more line. --write writes the lists anew. The sources are read as 'rt fmt' formats them;
-a line in no known form fails. What PLANTED adds to a copy of each crate has to be found.
-The last line is 'N passed, M failed'.
+The list tools/public_names/CRATE.txt has a line for each public path of an item, a field, a case and a method, for each exported
+symbol, and for each trait of a type, so that an inherent method that hides a trait's shows as one more line. --write writes the lists
+anew. The sources are read as 'rt fmt' formats them; a line in no known form fails. What PLANTED adds to a copy of each crate has to be
+found. The last line is 'N passed, M failed'.
 """
 import re
 import sys
@@ -30,8 +29,7 @@ PLANTED = {
         {"struct One", "One.part", "struct Two", "Two.part"},
     "#[derive(Copy)]\npub enum Two {\n    One(u8),\n}\nimpl Two {\n    pub fn max(&self) {}\n}\n":
         {"enum Two", "Two::One", "Two: Copy", "Two::max"},
-    "pub trait Three: Copy {\n    fn three(&self) -> u8;\n}\nimpl Three for u8 {}\n": {
-        "trait Three", "Three::three", "u8: Three"},
+    "pub trait Three: Copy {\n    fn three(&self) -> u8;\n}\nimpl Three for u8 {}\n": {"trait Three", "Three::three", "u8: Three"},
     "pub use crate::missing::More;\n": None,
     "pub fn more() {\n": None,
     "pub mod more {\n    pub fn more() {}\n}\n": None,
@@ -52,8 +50,7 @@ class Item:
 
 @dataclass
 class Module:
-    """What a file has: items; names that it uses, each with its path and whether it is public; impls as
-    trait, type and public members."""
+    """What a file has: items; names that it uses, each with its path and whether for others too; impls as trait, type, public members."""
 
     items: dict[str, Item] = field(default_factory=dict)
     uses: dict[str, tuple[Names, bool]] = field(default_factory=dict)
@@ -61,7 +58,7 @@ class Module:
 
 
 def chunks(text: str) -> Iterator[str]:
-    """Returns the items of a text: each begins at a line with no indent, and its brackets are closed."""
+    """Returns the items of a text: each begins at a line that is not indented, and its brackets are closed."""
     for it in re.findall(r"[^\n]+\n(?:[ (){}\]][^\n]*\n)*", text):
         if any(it.count(pair[0]) != it.count(pair[1]) for pair in ("()", "{}", "[]")):
             raise Unread(f"its brackets are not closed: {it[:90]}")
@@ -71,8 +68,7 @@ def chunks(text: str) -> Iterator[str]:
 def body_of(chunk: str) -> str:
     if re.match(r"[^\n]*\{(?!\}?\n)", chunk):
         raise Unread(f"not formatted: {chunk[:90]}")
-    return textwrap.dedent("\n".join(chunk[: chunk.rindex("}")].splitlines()[1:])
-        + "\n").lstrip("\n") if "{\n" in chunk else ""
+    return textwrap.dedent("\n".join(chunk[: chunk.rindex("}")].splitlines()[1:]) + "\n").lstrip("\n") if "{\n" in chunk else ""
 
 
 def read_use(module: Module, text: str, is_public: bool) -> None:
@@ -82,8 +78,7 @@ def read_use(module: Module, text: str, is_public: bool) -> None:
         raise Unread(f"not read: {text[:90]}")
     if found:
         path, names = tuple(found[1].split("::")), re.findall(r"\w+", found[2] or "")
-        named = {it: path if it == "self" else (*path, it)
-            for it in names} if names else {found[3] or path[-1]: path}
+        named = {it: path if it == "self" else (*path, it) for it in names} if names else {found[3] or path[-1]: path}
         module.uses.update({path[-1] if name == "self" else name: (it, is_public) for name, it in named.items()})
 
 
@@ -109,8 +104,7 @@ def read(text: str) -> Module:
             raise Unread(f"not read: {chunk[:90]}")
         is_public, kind, rest = bool(found[1]), found[2] or found[4], found[3] or found[5]
         name = re.findall(r"\w+", rest)[0]
-        parts = [f": {it}" for its in re.findall(r"derive\((.*?)\)", attributes)
-            for it in re.findall(r"\w+", its)]
+        parts = [f": {it}" for its in re.findall(r"derive\((.*?)\)", attributes) for it in re.findall(r"\w+", its)]
         if kind == "use":
             read_use(module, rest.lstrip(), is_public)
         elif kind == "impl":
@@ -137,17 +131,15 @@ class Crate:
             text = re.sub(r'"(?:\\.|[^"\\])*"', '""', re.sub(r"[ \t]*//[^\n]*", "", text), flags=re.S)
             text = re.sub(r"'(?:\\[^']*|[^\\'])'|\n(?=\s*\n)", "", text).lstrip("\n")
             try:
-                self.modules[() if path == "lib.rt"
-                    else tuple(path.removesuffix(".rt").split("/"))] = read(text)
+                self.modules[() if path == "lib.rt" else tuple(path.removesuffix(".rt").split("/"))] = read(text)
             except Unread as error:
                 raise Unread(f"{path}: {error}") from None
 
     def find(self, at: Names, path: Names) -> Names | None:
-        """Returns the path of the item that a module calls by this name; none if it is another crate's."""
+        """Returns the path from the crate of the item that a module names so; none where it is another crate's."""
         first, *rest = path
         if first in ("crate", "self", "super"):
-            return self.find({"crate": (), "self": at, "super": at[:-1]}[first],
-                tuple(rest)) if rest else None
+            return self.find({"crate": (), "self": at, "super": at[:-1]}[first], tuple(rest)) if rest else None
         if first in self.modules[at].items:
             return self.find((*at, first), tuple(rest)) if rest else (*at, first)
         used = self.modules[at].uses.get(first, (path, False))[0]
@@ -184,8 +176,7 @@ class Crate:
 
 def differences(crate: str, writes: bool) -> Iterator[str]:
     source, stored = ROOT / "crates" / crate / "src", ROOT / "tools" / "public_names" / f"{crate}.txt"
-    texts = {str(it.relative_to(source)): it.read_text("utf-8")
-        for it in source.rglob("*.rt") if it.name != "tests.rt"}
+    texts = {str(it.relative_to(source)): it.read_text("utf-8") for it in source.rglob("*.rt") if it.name != "tests.rt"}
     now = Crate(texts).names()
     if writes:
         stored.write_text("".join(f"{it}\n" for it in now), "utf-8")

@@ -1,9 +1,7 @@
 #!/usr/bin/env python3
-"""Tests mutants.py on a small repository: what counts as rejected, what a run tries and keeps, and which
-clauses are unprotected.
+"""Tests mutants.py on a small repository: what counts as rejected, what a run tries, what it keeps, and what is unprotected.
 
-The prover judges in one run alone; the others have a stub in its place.
-The last line is 'N passed, M failed'.
+The prover judges in one run alone; the others have a stub in its place. The last line is 'N passed, M failed'.
 """
 import os
 import re
@@ -23,24 +21,20 @@ from prover.output import Output  # noqa: E402
 # The small repository: a line '== PATH' and the text of the file.
 TEXTS = re.split(r"(?m)^== (.*)\n", read(f"{HERE}/small_repository.txt"))
 FILES = dict(zip(TEXTS[1::2], TEXTS[2::2]))
-# Each mutant with the clauses that it breaks: the text of the source, what replaces it, and what is reported,
-# if the prover judges it. The first of a function are in one batch, in which `adds_in_front` is right and
-# calls a function with a mutant.
+# Each mutant with the clauses that it breaks: the text of the source, what replaces it, and what is reported, if the prover judges it. The
+# first of a function are in one batch, in which `adds_in_front` is right and calls a function with a mutant.
 MUTANTS = {
     "adds_two: breaks value, bound": ("n as u16 + 1", "n as u16 + 2", "passed: by a goal: small::next"),
-    "adds_two_more: breaks value": ("n as u16 + 1", "n as u16 + 3",
-        "it is to break value alone, and these are open: bound; value"),
+    "adds_two_more: breaks value": ("n as u16 + 1", "n as u16 + 3", "it is to break value alone, and these are open: bound; value"),
     "halves": ("n as u16 + n as u16", "(n as u16 + n as u16) / 2", "passed: by a goal: small::twice"),
     "names_nothing": ("n as u16 + n as u16", "n as u16 + missing", "no contract was tried"),
     "turns": ("3 * (n as u16)", "(n as u16) * 3", ""),
     "adds_in_front": ("next(n) + 1", "1 + next(n)", "NOT REJECTED"),
     "calls_nothing": ("next(n) + 1", "n as u16 + 2", "rejected by names alone"),
-    "promises_more: breaks thrice#thrice": ("result ≡ n + n + n }", "result ≡ n + n + n + 1 }",
-        "passed: by a goal: alone"),
+    "promises_more: breaks thrice#thrice": ("result ≡ n + n + n }", "result ≡ n + n + n + 1 }", "passed: by a goal: alone"),
     "is_not_there": ("n as u16 + n as u64", "n as u16", "cannot be applied"),
     "shows_the_others": ("&self.bytes[..self.len]", "&self.bytes[self.len..]", "borrow checker"),
-    "half_of_it: breaks used": ("&self.bytes[..self.len]", "&self.bytes[..self.len / 2]",
-        "passed: by a goal: small::Part::used"),
+    "half_of_it: breaks used": ("&self.bytes[..self.len]", "&self.bytes[..self.len / 2]", "passed: by a goal: small::Part::used"),
     "adds_nothing: breaks value": ("next(n) + 1", "next(n)", ""),
 }
 # Mutants of definitions: rejected by the example, by the function alone, by nothing.
@@ -49,9 +43,8 @@ DEFINITIONS = {
     "one_less_at_most": ("most = 510", "most = 509", "no example and no lemma rejects it"),
     "one_more_at_most": ("most = 510", "most = 511", "NOT REJECTED"),
 }
-# What is in a crate below and above, and the mutants whose sum changes where another text is there. `above`
-# calls `thrice` alone, so it reads no other contract of `small`, no body and no proof of one, but its
-# definitions.
+# What is in a crate below and above, and the mutants whose sum changes where another text is there. `above` calls
+# `thrice` alone, so it reads no other contract of `small`, no body and no proof of one, but its definitions.
 EACH = {"small/adds_two", "small/adds_nothing", "small/one_more", "above/adds_two"}
 READ = [
     ("crates/small/src/lib.rt", "n as u16 + 1", "1 + n as u16", {"small/adds_two"}),
@@ -60,13 +53,11 @@ READ = [
     ("crates/small/src/lib.rt", "result ≡ n + n + n }", "result ≡ 3 * n }", {"above/adds_two"}),
     ("crates/small/src/lib.rt", "result ≤ 256", "result ≤ 257", {"small/adds_two", "small/adds_nothing"}),
     ("crates/small/src/lib.rt", "    len: usize,", "    len: u64,", EACH),
-    ("crates/small/src/lib.rt", "◌≤◌, length", "◌<◌ as ◌≤◌, length",
-        {"small/adds_two", "small/adds_nothing", "above/adds_two"}),
+    ("crates/small/src/lib.rt", "◌≤◌, length", "◌<◌ as ◌≤◌, length", {"small/adds_two", "small/adds_nothing", "above/adds_two"}),
     ("crates/small/specs/Sum.antt", "most = 510", "most = 500 + 10", EACH),
     ("crates/small/specs/Sum.antt", "-- the largest", "-- a large", set()),
     ("crates/small/proofs/next/Answers.antt", "omega (arith)", "omega (arith, arith)", {"small/adds_two"}),
-    ("crates/small/mutants/lib.edits", "# adds_nothing: breaks value", "# adds_nothing",
-        {"small/adds_nothing"}),
+    ("crates/small/mutants/lib.edits", "# adds_nothing: breaks value", "# adds_nothing", {"small/adds_nothing"}),
     ("crates/above/mutants/lib.edits", "+ 2", "+ 3", {"above/adds_two"}),
     ("crates.txt", "above: small", "above: small hex", {"above/adds_two"}),
 ]
@@ -74,12 +65,9 @@ READ = [
 UNREAD = {
     "half.edits": ("# half\nold: 3 * (n as u16)\n", "small/half: .* it has no 'old:' and 'new:' pair.*"),
     "one.text": ("# one\n", "small/one.text: .* or its name does not end in .edits"),
-    "none.edits": ("file: src/lib.rt\nold: 3 * (n as u16)\nnew: 4\n",
-        "small/none.edits: .* it names no mutant, .*"),
-    "twice.edits": ("file: src/lib.rt\n# halves\nold: 3 * (n as u16)\nnew: 4\n",
-        "small/halves: .* another mutant .* has its name"),
-    "words.edits": ("file: src/lib.rt\n# words\nold: 3 * (n as u16)\nnew: 4\nmore\n",
-        "small/words: .* a line is no .*"),
+    "none.edits": ("file: src/lib.rt\nold: 3 * (n as u16)\nnew: 4\n", "small/none.edits: .* it names no mutant, .*"),
+    "twice.edits": ("file: src/lib.rt\n# halves\nold: 3 * (n as u16)\nnew: 4\n", "small/halves: .* another mutant .* has its name"),
+    "words.edits": ("file: src/lib.rt\n# words\nold: 3 * (n as u16)\nnew: 4\nmore\n", "small/words: .* a line is no .*"),
 }
 # Rows of covered.md, and what is wrong with each.
 ROWS = {
@@ -92,7 +80,7 @@ ROWS = {
     "Part::used#used: follows from value": "the mutant half_of_it breaks Part::used#used",
     "next#bound follows from value": "a row is not",
 }
-# A prover that proves everything but lines that differ from the repository's; `%s` is its folder.
+# A prover that proves everything but a line that differs from the repository's, which it finds beside the copy's.
 STUB = """#!/usr/bin/env python3
 import os, sys
 paths = [f"%s/crates/{os.path.basename(os.getcwd())}/src/lib.rt", "src/lib.rt"] if sys.argv[1] == "check" else []
@@ -108,11 +96,9 @@ def lay_out(root, names):
     """Writes the repository with the small crate's mutants of these names, and the number of all."""
     write_all(root, FILES)
     for path, its in (("src/lib.rt", MUTANTS), ("specs/Sum.antt", DEFINITIONS)):
-        texts = "".join(f"\n# {it}\nold: {its[it][0]}\nnew: {its[it][1]}\n"
-            for it in its if it.partition(":")[0] in names)
+        texts = "".join(f"\n# {it}\nold: {its[it][0]}\nnew: {its[it][1]}\n" for it in its if it.partition(":")[0] in names)
         if texts:
-            write(f"{root}/crates/small/mutants/{os.path.basename(path).partition('.')[0]}.edits",
-                f"file: {path}\n{texts}")
+            write(f"{root}/crates/small/mutants/{os.path.basename(path).partition('.')[0]}.edits", f"file: {path}\n{texts}")
     write(f"{root}/tools/mutants.count", f"{len(names) + 1}\n")
 
 
@@ -129,8 +115,7 @@ def git(root, day, *words):
     """Runs git as if it were that day."""
     when = {f"GIT_{who}_DATE": f"2020-01-{day:02} 12:00:00 +0000" for who in ("AUTHOR", "COMMITTER")}
     command = ["git", "-c", "user.name=nobody", "-c", "user.email=nobody@localhost", *words]
-    return subprocess.run(command, cwd=root, env={**os.environ, **when}, check=True, capture_output=True,
-        text=True).stdout.strip()
+    return subprocess.run(command, cwd=root, env={**os.environ, **when}, check=True, capture_output=True, text=True).stdout.strip()
 
 
 def commit(root, day):
@@ -141,11 +126,10 @@ def commit(root, day):
 
 
 def run(root, *words, stub=True, allow=True):
-    """Runs the tool, and returns its output and status. Unprotected clauses fail only if asked for."""
+    """Runs the tool, and returns what it printed and its status. Clauses that nothing protects are allowed, unless they are to fail."""
     write(f"{root}/bin/rt", STUB % root)
     os.chmod(f"{root}/bin/rt", 0o755)
-    command = [sys.executable, f"{HERE}/mutants.py", "--root", root, "--proved", f"{root}/proved",
-        *["--allow-unprotected"] * allow, *words]
+    command = [sys.executable, f"{HERE}/mutants.py", "--root", root, "--proved", f"{root}/proved", *["--allow-unprotected"] * allow, *words]
     changed = {"XDG_CACHE_HOME": f"{root}/cache", "PATH": f"{root}/bin:" * stub + os.environ["PATH"]}
     ran = subprocess.run(command, capture_output=True, text=True, env={**os.environ, **changed})
     return f"{ran.stdout}{ran.stderr}\nstatus {ran.returncode}"
@@ -153,14 +137,12 @@ def run(root, *words, stub=True, allow=True):
 
 def lacks(output, *lines):
     """Returns what a run should have printed and did not."""
-    return [f"not printed: {it}, but {output[-900:]}"
-        for it in lines if not re.search(rf"(?m)^{it}$", output)]
+    return [f"not printed: {it}, but {output[-900:]}" for it in lines if not re.search(rf"(?m)^{it}$", output)]
 
 
 def mutants_of(root):
     tree = sums.Tree(root, "one")
-    return tree, {it.label: it for crate in tree.crates
-        for it in edits.edits_in(crate, f"{root}/crates/{crate}")[0]}
+    return tree, {it.label: it for crate in tree.crates for it in edits.edits_in(crate, f"{root}/crates/{crate}")[0]}
 
 
 def check_prover(root):
@@ -172,34 +154,28 @@ def check_prover(root):
     for name, why in wanted.items():
         lines = "; ".join(f"{how}: {what}" for how, what in re.findall(rf"(?m)^(passed|FAILED): small/{name}: (.*)$", output))
         wrong += [] if why in lines else [f"{name}: {lines or 'nothing'}, and not {why}"]
-    return wrong + lacks(output, f"# rejected by a goal {passes}, by a limit 0",
-        f"{passes} passed, {len(wanted) - passes} failed", "status 1")
+    return wrong + lacks(output, f"# rejected by a goal {passes}, by a limit 0", f"{passes} passed, {len(wanted) - passes} failed", "status 1")
 
 
 def check_since(root):
-    """A run tries what changed since a commit and is not kept, and what it draws; the commit is the newest
-    that is a day older."""
+    """A run tries what changed since a commit and is not kept, and what it draws; it begins at the newest commit that is a day older."""
     lay_out(root, ["adds_two", "halves", "turns", "adds_nothing"])
     found = ["there is a base without a commit"] if choice.base_of(root, "") else []
     commits = [commit(root, day) for day in (1, 3, 4, 4)]
     bases = [choice.base_of(root, ""), choice.base_of(root, "HEAD~1")]
     found += [] if bases == [commits[0], commits[2]] else [f"the bases of {commits} are {bases}"]
     with another(root, "crates/small/src/lib.rt", "result ≡ n + n + n }", "result ≡ 3 * n }"):
-        output = run(root, "--since", "HEAD", "--draw", "1", "--seed", "a")
-        is_asked = "# 5 stored; 2 changed since .*"
-        found += lacks(output, f"{is_asked}; 0 of these kept.*", "# 1 drawn by the seed a; 3 to be tried",
-            "2 passed, 1 failed")
+        output, is_asked = run(root, "--since", "HEAD", "--draw", "1", "--seed", "a"), "# 5 stored; 2 changed since .*"
+        found += lacks(output, f"{is_asked}; 0 of these kept.*", "# 1 drawn by the seed a; 3 to be tried", "2 passed, 1 failed")
         output = run(root, "--since", "HEAD", "--draw", "0")
-        found += lacks(output, f"{is_asked}; 1 of these kept.*", "FAILED: small/turns: NOT REJECTED.*",
-            "1 passed, 1 failed")
+        found += lacks(output, f"{is_asked}; 1 of these kept.*", "FAILED: small/turns: NOT REJECTED.*", "1 passed, 1 failed")
         output = run(root, "above/adds_two", "--proved", f"{root}/none")
-        found += lacks(output, "passed: above/adds_two: kept: by a goal: .*", "1 passed, 0 failed",
-            "status 0")
+        found += lacks(output, "passed: above/adds_two: kept: by a goal: .*", "1 passed, 0 failed", "status 0")
     return found + (["a run in which all is kept proves a copy"] if os.path.exists(f"{root}/none") else [])
 
 
 def check_faults(root):
-    """Errors in the files of mutants and covered clauses fail a plain run; other clauses are unprotected."""
+    """What is wrong with the files of mutants and of covered clauses is red in a plain run; other clauses are unprotected."""
     lay_out(root, ["adds_two", "adds_two_more", "is_not_there", "halves", "half_of_it"])
     commit(root, 1)
     os.remove(f"{root}/crates/above/mutants/lib.edits")
@@ -207,15 +183,11 @@ def check_faults(root):
     write(f"{root}/crates/small/mutants/covered.md", "# a comment\n\n" + "\n".join(ROWS) + "\n")
     with another(root, "crates/small/mutants/lib.edits", "breaks value\n", "breaks values\n"):
         output = run(root, "--draw", "0")
-    wanted = ["tools/mutants.count: it says 6, and there are 10: .*",
-              "small/is_not_there: it cannot be applied: .* 0 times, and not once",
-              "small/adds_two_more: it is to break values, and there is no such clause",
-              *[why for _, why in UNREAD.values()]]
+    wanted = ["tools/mutants.count: it says 6, and there are 10: .*", "small/is_not_there: it cannot be applied: .* 0 times, and not once",
+              "small/adds_two_more: it is to break values, and there is no such clause", *[why for _, why in UNREAD.values()]]
     wanted += [f"crates/small/mutants/covered.md: {why}.*" for why in ROWS.values() if why]
-    found = lacks(output, *[f"FAILED: {it}" for it in wanted], f"0 passed, {len(wanted) + 1} failed",
-        "status 1")
-    found += lacks(run(root, "--draw", "0", allow=False),
-        "FAILED: small::after_next#value: no mutant breaks it by itself, .*")
+    found = lacks(output, *[f"FAILED: {it}" for it in wanted], f"0 passed, {len(wanted) + 1} failed", "status 1")
+    found += lacks(run(root, "--draw", "0", allow=False), "FAILED: small::after_next#value: no mutant breaks it by itself, .*")
     lines = [it for it in run(root, "--unprotected", "small").split("\n") if it.startswith("small::")]
     return found + ([] if lines == ["small::after_next#value"] else [f"unprotected are {lines}"])
 

@@ -1,14 +1,12 @@
 #!/usr/bin/env python3
-"""Makes the test vectors that crates/vectors replays, and prints them. tools/check_verdicts.sh compares the
-stored ones with them.
+"""Makes the test vectors that crates/vectors replays, and prints them. tools/check_verdicts.sh compares the stored ones with them.
 
 It computes each result from the rules of docs/FORMAT.md by itself and calls nothing of the library.
 
     tools/verdicts.py [LIST]    LIST is the list that has the inputs from outside, by default the stored one
 
-The inputs are those of the first lines of the list, which came from outside, and after them others: those
-chosen here, as at the bounds, and then inputs that are drawn by a seed. No input is there twice with one
-capacity."""
+The inputs are those of the first lines of the list, which came from outside, and after them others: those chosen here, as at the bounds,
+and then inputs that are drawn by a seed. No input is there twice with one capacity."""
 import hashlib
 import random
 import re
@@ -22,7 +20,7 @@ COLUMNS = ("S", "input", "read", "read_taken", "from_bytes", "scale_decode", "sc
 
 SEED = 20
 OTHERS = 3000  # lines after those from outside
-# The number of stored lines from outside, and the SHA-256 of their sizes and inputs, which no bound changes.
+# The number of stored lines that came from outside, and the SHA-256 of their sizes and inputs, which no bound changes.
 FROM_OUTSIDE = 3000
 OUTSIDE_SHA256 = "295042049837f3cd1c893ce5238a82627e5b67977d12fb7fa61d41cd0c66e8de"
 
@@ -45,8 +43,7 @@ class Rules:
         self.last_byte_limit = 1 << (bits - 7 * self.max_continuation)
 
     def varint(self, data: bytes) -> tuple[int | str, int]:
-        """Returns the varint at the front of the bytes, and its length; or the error, and how many bytes
-        determine it."""
+        """Returns the number of the varint at the front of the bytes, and its length; or the error, and how many bytes determine it."""
         number = 0
         for at, byte in enumerate(data):
             if at == self.max_continuation and byte >= self.last_byte_limit:
@@ -96,8 +93,7 @@ class Rules:
 
     def line(self, size: int, data: bytes) -> str:
         (read, read_taken), (scale, scale_taken) = self.read(size, data), self.scale_decode(size, data)
-        fields = (size, hexadecimal(data), read, read_taken or "-", self.from_bytes(size, data), scale,
-            scale_taken or "-")
+        fields = (size, hexadecimal(data), read, read_taken or "-", self.from_bytes(size, data), scale, scale_taken or "-")
         return "\t".join(map(str, fields))
 
 
@@ -121,7 +117,7 @@ def scale_head(code: int, length: int) -> bytes:
     return code.to_bytes(SCALE_CODE, "little") + bytes([length])
 
 
-# Inputs of `read`, by capacity. Each is also there without its last byte, and with trailing bytes.
+# Inputs of `read`, by capacity. Each is also there cut by its last byte, and with more bytes after those that settle it.
 CHOSEN = {
     0: "- 0000 0080 0001",
     2: "- 00 000007 0002 000209 0003 0003090909 8000 0002ff00 80808080808080808002 ffffffffffffffffff0100",
@@ -132,27 +128,23 @@ CHOSEN = {
     32: "- f10000000000808484843a 000007 00 0000",
     300: "00ff01 008002",
 }
-# Numbers at the bounds of their lengths as varints. Each prefix of a varint is an input, with each of
-# FOLLOWING after it.
-NUMBERS = (0, 1, 127, 128, 255, 256, 300, 16383, 16384, 2097151, 2097152, 1 << 56, (1 << 63) - 1, 1 << 63,
-    (1 << 64) - 1)
+# Numbers at the bounds of their lengths as varints. Each prefix of a varint is there with each of these after it.
+NUMBERS = (0, 1, 127, 128, 255, 256, 300, 16383, 16384, 2097151, 2097152, 1 << 56, (1 << 63) - 1, 1 << 63, (1 << 64) - 1)
 FOLLOWING = (b"", b"\0", b"\1", b"\2", b"\0\7", b"\x80" * 17)
 # Inputs of `scale_decode`, by capacity: codes, lengths, and the bytes after them.
 SCALE_CHOSEN = {
     0: ((0, b"\0"), (0, b"\1\7")),
     2: ((0, b"\x0bhello world"),),
     4: (
-        *((code, after) for code in (0, (1 << 63) - 1, 1 << 63, (1 << 63) + 1, (1 << 64) - 1)
-            for after in (b"", b"\0", b"\0\x09", b"\5\xaa\xbb")),
-        *((0, b"\3\xaa\xbb"), (0, b"\xff"), (18, b"\1\xaa\xbb"), (0x0102030405060708, b"\1\xaa"),
-            (300, b"\2AB\7")),
+        *((code, after) for code in (0, (1 << 63) - 1, 1 << 63, (1 << 63) + 1, (1 << 64) - 1) for after in (b"", b"\0", b"\0\x09", b"\5\xaa\xbb")),
+        *((0, b"\3\xaa\xbb"), (0, b"\xff"), (18, b"\1\xaa\xbb"), (0x0102030405060708, b"\1\xaa"), (300, b"\2AB\7")),
     ),
     300: ((0, b"\xff\7"),),
 }
 
 
 def chosen(rules: Rules) -> list[Input]:
-    """Inputs at the bounds, each prefix of a long encoding and of its SCALE form, and each byte as a size."""
+    """Inputs at the bounds, each prefix of a long encoding and of its SCALE form, and each number as a size."""
     entries = []
     for size, texts in CHOSEN.items():
         for data in (bytes.fromhex(text.strip("-")) for text in texts.split()):
@@ -161,8 +153,7 @@ def chosen(rules: Rules) -> list[Input]:
             entries += [(size, it) for it in (data, data[:-1], *more)]
     for code in map(varint, NUMBERS):
         entries += [(4, code[:end] + after) for end in range(len(code) + 1) for after in FOLLOWING]
-    entries += [(size, code.to_bytes(SCALE_CODE, "little") + after) for size, its in SCALE_CHOSEN.items()
-        for code, after in its]
+    entries += [(size, code.to_bytes(SCALE_CODE, "little") + after) for size, its in SCALE_CHOSEN.items() for code, after in its]
     entries += [(4, b"\xff" * length) for length in range(SCALE_CODE)]
     for long in (varint(300) + varint(200) + b"A" * 200, scale_head(300, 200) + b"A" * 200):
         entries += [(200, long[:end]) for end in range(len(long) + 1)]
@@ -171,7 +162,7 @@ def chosen(rules: Rules) -> list[Input]:
 
 
 class Draw:
-    """Inputs of each kind, drawn by a seed, all by `random()`, the one method whose sequence Python keeps."""
+    """Inputs of each kind, drawn by a seed. All draws go through `random()`, the one method whose sequence Python keeps."""
 
     def __init__(self, seed: int, bits: int, rules: Rules) -> None:
         self.draws = random.Random(seed)
@@ -264,8 +255,7 @@ class Draw:
         edges = (0, 1, 2, 127, 128, 255)
         return bytes(self.one_of(edges + (self.below(256),)) for _ in range(self.below(24)))
 
-    KINDS = (encoding, with_trailing, truncated, large_size, bad_code, bad_size, scale, scale_large,
-        scale_code, noise)
+    KINDS = (encoding, with_trailing, truncated, large_size, bad_code, bad_size, scale, scale_large, scale_code, noise)
 
     def inputs(self, count: int, seen: set[Input]) -> list[Input]:
         """That many new inputs, each kind at each size of buffer in turn."""

@@ -1,5 +1,4 @@
-"""Chooses which mutants a run tries: those that changed since a commit and are not kept as rejected on this
-machine, and some that are drawn."""
+"""Chooses which mutants a run tries: those that changed since a commit and are not kept as rejected on this machine, and some drawn."""
 import os
 import random
 import subprocess
@@ -18,8 +17,7 @@ def git(root, *words):
 
 
 def base_of(root, since):
-    """Returns the commit that is named; else the newest first parent that is a day older than the last; else
-    the first, if it is there."""
+    """Returns the commit that is named, else the newest first parent that is a day older than the last, else the first, if it is there."""
     if since:
         found = git(root, "rev-parse", "--verify", f"{since}^{{commit}}")
         if not found:
@@ -44,8 +42,7 @@ def sums_at(root, commit, to, kit):
 
 
 def drawn(its, below, many, seed):
-    """Draws that many of the lowest crate, on which all others depend, and of one other: each crate needs its
-    own proof first."""
+    """Draws so many of the lowest crate, on which all others rest, and as many of one other, as each crate needs its own proof first."""
     draw = random.Random(seed)
     low = next((it for it in below if not repository.below(below, it)), "")
     others = [it for it in its if it.crate != low]
@@ -55,7 +52,7 @@ def drawn(its, below, many, seed):
 
 
 class Store:
-    """Rejections by their sums. The tree was read before the first trial: files may change during a run."""
+    """Rejections by their sums, of a tree that was read before anything was tried: files may be edited while a run goes on."""
 
     def __init__(self, tree):
         self.tree, self.folder = tree, ""

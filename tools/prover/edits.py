@@ -1,9 +1,7 @@
-"""Reads mutants: what each replaces in a crate, which one function's body that changes, and which clauses it
-breaks.
+"""Reads mutants: what each replaces in a crate, which one function's body that changes, and which clauses it breaks.
 
-A file PATH.edits has those of the source PATH: for each a line '# NAME', or '# NAME: breaks CLAUSE, CLAUSE'
-where the goals of these clauses alone are open under it, and first a 'file:' line for all that have none of
-their own.
+A file PATH.edits has those of the source PATH: for each a line '# NAME', or '# NAME: breaks CLAUSE, CLAUSE' where the goals of these
+clauses alone are open under it, and first a 'file:' line for all that have none of their own.
 """
 import os
 import re
@@ -33,7 +31,7 @@ class Body(NamedTuple):
 
 @dataclass(eq=False)
 class Mutant:
-    """What a mutant replaces, as (file, old, new), and the files' texts before and after, by path."""
+    """What a mutant replaces, as (file, old, new), and the texts of these files before and after, by their path in the crate."""
 
     crate: str
     name: str
@@ -99,15 +97,13 @@ def mutant_of(crate, sources, name, breaks, text):
     old = {path: sources[path] for path in texts}
     if old == texts:
         raise BadEdit("it changes nothing")
-    return Mutant(crate, name, tuple(it for it in re.split(r",\s*", breaks or "") if it), replaced, old,
-        texts)
+    return Mutant(crate, name, tuple(it for it in re.split(r",\s*", breaks or "") if it), replaced, old, texts)
 
 
 def edits_in(crate, folder):
     """Returns the mutants of the crate, and (label, why) of each that cannot be applied."""
     good, bad, names, home, sources = [], [], set(), f"{folder}/mutants", texts_of(folder)
-    for path in sorted(f"{at}/{it}" for at, _, files in os.walk(home)
-            for it in files if not it.endswith(".md")):
+    for path in sorted(f"{at}/{it}" for at, _, files in os.walk(home) for it in files if not it.endswith(".md")):
         head, *rest = HEADER.split(read(path)) if path.endswith(".edits") else [""]
         if not rest:
             bad.append((f"{crate}/{os.path.relpath(path, home)}", "it names no mutant, or its name does not end in .edits"))

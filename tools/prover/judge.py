@@ -1,4 +1,4 @@
-"""Decides whether a mutant is rejected: the prover must leave goals open, only of the clauses it breaks."""
+"""Decides whether a mutant is rejected: the prover must leave a goal open under it, and only those of the clauses that it breaks."""
 from . import source
 from .output import FOLLOWS, Finding
 from .repository import is_of_no_function, texts_of
@@ -13,8 +13,7 @@ class Judge:
         self.root, self.store, self.report = root, store, report
 
     def open_clauses(self, mutant, findings):
-        """Returns the clauses whose goals are open: of the mutant's function, or as FUNCTION#CLAUSE if it
-        changes more than one body."""
+        """Returns the clauses whose goals are open: those of its own function, under a mutant of no one body as FUNCTION#CLAUSE."""
         its = [it for it in findings if not FOLLOWS.search(it.text)]
         if mutant.body:
             contract = source.contract(mutant.old[mutant.body.path], mutant.body.function)
@@ -26,8 +25,7 @@ class Judge:
         """Returns whether the clauses that are open are those that the mutant breaks, if it names some."""
         if not mutant.breaks:
             return True
-        names = [next((it for it in mutant.breaks if is_of(found, it)), None)
-            for found in self.open_clauses(mutant, findings)]
+        names = [next((it for it in mutant.breaks if is_of(found, it)), None) for found in self.open_clauses(mutant, findings)]
         return {*names} == {*mutant.breaks}
 
     def judge(self, mutant, findings, where):
@@ -74,7 +72,7 @@ def is_of(label, name):
 
 
 def clause_of(texts, finding):
-    """Returns the clause of a finding, by its line, as FUNCTION#CLAUSE; or the finding."""
+    """Returns the clause of a finding, by its line in a source or its proof file, as FUNCTION#CLAUSE; or the finding."""
     home = finding.path.removeprefix("proofs/").removesuffix("/Answers.antt").replace("/", "::")
     for path, text in texts.items():
         for it in source.functions(text) if path.endswith(".rt") else ():

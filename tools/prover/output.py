@@ -18,7 +18,7 @@ UNCOVERED = re.compile(r"does not cover|not covered by the borrow checker")
 
 
 def is_unread(error):
-    """Returns whether an error says that a text of src/ or specs/ is malformed, not that it has no proof."""
+    """Returns whether an error says that a text of src/ or specs/ cannot be read, and not that what it states has no proof."""
     if not error[1].startswith(("src/", "specs/")):
         return False
     return not re.match(r"`[^`]*`: ", error[3]) or bool(UNREAD.search(re.sub(r"`[^`]*`", "", error[3])))
@@ -34,10 +34,9 @@ class Finding:
     is_of_names: bool
 
     def clause(self, contract):
-        """Returns the clause of the function's contract whose goal this is, or the text if it is of none."""
+        """Returns the clause of its function's contract whose goal this is, or the text where it is no clause's goal."""
         goal, names = GOAL.search(self.text), contract.clauses
-        found = goal and (goal[1].rpartition("-clause-")[2] if "-clause-" in goal[1]
-            else contract.is_single and names and names[0])
+        found = goal and (goal[1].rpartition("-clause-")[2] if "-clause-" in goal[1] else contract.is_single and names and names[0])
         return found if found in names else str(self)
 
     def is_by_limit(self):
@@ -59,24 +58,21 @@ class Output:
         # where a text itself cannot be read no contract was tried
         unread = [it for it in errors if is_unread(it)]
         self.unread = [it[0] for it in unread] + [it for it in self.lines if re.match(r"error[\[:]", it)]
-        self.findings = [Finding(it[1], int(it[2]), "not proved: " + it[3], False)
-            for it in map(OPEN.match, self.lines) if it]
-        self.findings += [Finding(it[1], int(it[2]), it[3], bool(NAMES.search(it[3])))
-            for it in errors if it not in unread]
+        self.findings = [Finding(it[1], int(it[2]), "not proved: " + it[3], False) for it in map(OPEN.match, self.lines) if it]
+        self.findings += [Finding(it[1], int(it[2]), it[3], bool(NAMES.search(it[3]))) for it in errors if it not in unread]
 
     def last(self):
         lines = [it for it in self.lines if not it.startswith(("rt: ", "statements ", " "))]
         return (self.unread or lines or ["it printed nothing"])[-1][:220]
 
     def is_uncovered(self, name):
-        """Returns whether the borrow checker does not know a form, which it rejects in any function."""
+        """Returns whether the borrow checker does not know a form of the function, which is rejected whatever the function does."""
         return bool(UNCOVERED.search(self.functions.get(name, "")))
 
     def of(self, name, path, first, last):
         """Returns the findings of one function: in its lines of the source, or in its own proof files."""
         own = f"proofs/{name.partition('::')[2].replace('::', '/')}/"
-        found = [it for it in self.findings
-            if it.path.startswith(own) or it.path == path and first <= it.line <= last]
+        found = [it for it in self.findings if it.path.startswith(own) or it.path == path and first <= it.line <= last]
         # without an invariant that is lost for a name, goals are open that it would close
         if any(it.is_of_names and it.path.endswith("/Invariants.antt") for it in found):
             return [it for it in found if not it.path.startswith("src/")]

@@ -1,9 +1,7 @@
-"""Lists the clauses that nothing protects: no mutant breaks one by itself, and no row of a file
-mutants/covered.md gives a reason.
+"""Lists the clauses that nothing protects: no mutant breaks one by itself, and no row of a file mutants/covered.md gives a reason.
 
-A row 'FUNCTION#CLAUSE, CLAUSE: REASON' names the function as the prover does, without its crate. In a reason
-that begins with 'needed by', each path is a function of the repository with its crate; one 'rejected by
-must-fail/NAME.edit' names a file of the crate.
+A row 'FUNCTION#CLAUSE, CLAUSE: REASON' names the function as the prover does, without its crate. In a reason that begins with
+'needed by', each path is a function of the repository with its crate; one 'rejected by must-fail/NAME.edit' names a file of the crate.
 """
 import os
 import re
@@ -30,12 +28,11 @@ def functions_in(texts):
         for it in source.functions(text) if path.endswith(".rt") else ():
             is_public = bool(PUBLIC.search(text[it.head : it.body])) or " for " in it.owner or path.endswith("pins.rt")
             name = source.written_name("", path, it).removeprefix("::")
-            yield Function(name, [f"{name}#{clause}" for clause in source.contract(text, it).clauses],
-                is_public)
+            yield Function(name, [f"{name}#{clause}" for clause in source.contract(text, it).clauses], is_public)
 
 
 class Protection:
-    """Unprotected clauses of crates that have mutants, and errors in breaks and rows, as (where, what)."""
+    """The clauses that are unprotected, of each crate that has mutants, and what is wrong with breaks and rows: each as (where, what)."""
 
     def __init__(self, root, below, mutants):
         self.root, self.faults, self.unprotected = root, [], []
@@ -45,8 +42,7 @@ class Protection:
             clauses = [clause for it in functions[crate] for clause in it.clauses]
             broken = self.broken(clauses, [it for it in mutants if it.crate == crate])
             known = {*broken, *self.covered(crate, clauses, broken)}
-            left = [it for function in functions[crate] if function.is_public
-                for it in function.clauses if it not in known]
+            left = [it for function in functions[crate] if function.is_public for it in function.clauses if it not in known]
             self.unprotected += [(f"{crate}::{it}", "no mutant breaks it by itself, and mutants/covered.md has no row of it") for it in left]
 
     def broken(self, clauses, mutants):
@@ -79,6 +75,5 @@ class Protection:
         names = re.findall(r"\w+(?:::\w+)+", reason) if reason.startswith("needed by ") else [""]
         edits = re.findall(r"^rejected by (must-fail/\w+\.edit)", reason)
         faults = [f"there is no function {it}" for it in names if it and it not in self.names]
-        faults += [f"there is no file {it}" for it in edits
-            if not os.path.isfile(f"{self.root}/crates/{crate}/{it}")]
+        faults += [f"there is no file {it}" for it in edits if not os.path.isfile(f"{self.root}/crates/{crate}/{it}")]
         return faults if names else [f"a reason names no function: {reason}"]

@@ -14,8 +14,7 @@ BYTES_A_JOB = 2_200_000_000
 
 
 def run(words, folder):
-    how = {"stdin": subprocess.DEVNULL, "stdout": subprocess.PIPE, "stderr": subprocess.STDOUT,
-        "errors": "replace"}
+    how = {"stdin": subprocess.DEVNULL, "stdout": subprocess.PIPE, "stderr": subprocess.STDOUT, "errors": "replace"}
     return subprocess.run(words, cwd=folder, text=True, **how)
 
 
@@ -77,8 +76,7 @@ def texts_of(folder):
 
 def is_of_no_function(path):
     """Returns whether a file has definitions, lemmas or examples, and not the proof of a function."""
-    return not path.startswith("src/") and os.path.basename(path) not in ("Answers.antt", "Invariants.antt",
-        "Proof.antt")
+    return not path.startswith("src/") and os.path.basename(path) not in ("Answers.antt", "Invariants.antt", "Proof.antt")
 
 
 def link_or_copy(source, to):
@@ -124,7 +122,7 @@ class Copy:
         write_all(self.home, self.texts)
 
     def check(self, texts):
-        """Checks the crate with these texts in place of its own, over cached results, and restores its own."""
+        """Checks the crate with these texts in place of its own, over what was proved of it, and puts its own back."""
         # the prover replaces a file and never writes into one, so that links are safe
         if os.path.isdir(self.kept):
             link(self.kept, f"{self.home}/out/incremental")

@@ -1,10 +1,9 @@
-"""Finds the functions of a .rt file: each one's body, the clauses of its contract, and the prover's name."""
+"""Finds the functions of a .rt file: where each function's body is, which clauses its contract has, and the name that the prover gives it."""
 import re
 from dataclasses import dataclass
 
 CLAUSES = ("requires", "requires*", "ensures", "ensures*", "ghost", "decreases", "invariant")
-KINDS = ("struct", "enum", "type", "mod", "use", "const", "static", "extern", "fn", "impl", "trait",
-    "macro_rules")
+KINDS = ("struct", "enum", "type", "mod", "use", "const", "static", "extern", "fn", "impl", "trait", "macro_rules")
 OPENING, CLOSING = ("(", "[", "{", "#[", "#!["), (")", "]", "}")
 TOKEN = re.compile(
     r"""//[^\n]*|/\*.*?\*/|b?"(?:\\.|[^"\\])*"|b?'(?:\\[^']*|[^\\'])'|[A-Za-z_]\w*\*?|[{}()\[\];]|\#!?\[|[^\sA-Za-z_{}()\[\];"'#/]+|.""",
@@ -14,8 +13,7 @@ TOKEN = re.compile(
 
 @dataclass
 class Function:
-    """A function with a body: the words before fn, the offsets of its head (with its attributes), body and
-    end, and the head of its impl or trait."""
+    """A function with a body: the words before fn, the offsets of its head (with its attributes), body and end, and the head of its impl or trait."""
 
     name: str
     owner: str
@@ -26,14 +24,13 @@ class Function:
 
     @property
     def is_alone(self):
-        """Whether others read its body: a constant function is computed where it is named, and a cycle of
-        calls is proved as one."""
+        """Whether its body is read elsewhere: a constant function is computed where it is named, a cycle of calls is proved as one."""
         return "const" in self.words or "cycle" in self.words
 
 
 @dataclass
 class Contract:
-    """The names of a function's postconditions (the function's own if one has none); whether there is one."""
+    """The names of a function's postconditions, the function's own for one with none, and whether there is only one."""
 
     clauses: list[str]
     is_single: bool
@@ -62,8 +59,7 @@ def functions_among(its, owner):
     found, start, named, at, kind, in_clause = [], 0, 0, 0, "", False
     while at < len(its):
         word = its[at][0]
-        if kind in ("", "const", "extern") and word in KINDS and (
-                word != "fn" or its[at + 1][0].isidentifier()):
+        if kind in ("", "const", "extern") and word in KINDS and (word != "fn" or its[at + 1][0].isidentifier()):
             kind, named = word, at
         is_call = not kind and at > start and its[at - 1][0] == "!"
         is_body = word == "{" and not in_clause and (is_call or kind not in ("", "use", "const"))
@@ -73,8 +69,7 @@ def functions_among(its, owner):
             words = [it[0] for it in its[start:named]]
             found.append(Function(its[named + 1][0], owner, words, its[start].start(), its[at].start(), its[end].end()))
         elif is_body and kind in ("impl", "trait", "mod"):
-            found += functions_among(its[at + 1 : end],
-                owner if kind == "mod" else " ".join(it[0] for it in its[named:at]))
+            found += functions_among(its[at + 1 : end], owner if kind == "mod" else " ".join(it[0] for it in its[named:at]))
         if is_body or word in (";", "#!["):
             start, kind = end + 1, ""
         at = end + 1
@@ -109,8 +104,7 @@ def context(owner):
         return named(type_)
     base, _, inside = re.sub(r"\s+", "", of).partition("<")
     name = base.rpartition("::")[2]
-    return named(type_) + name + (
-        capital(inside[: inside.rfind(">")].partition("<")[0]) if name == "From" else "")
+    return named(type_) + name + (capital(inside[: inside.rfind(">")].partition("<")[0]) if name == "From" else "")
 
 
 def written_name(crate, path, function):

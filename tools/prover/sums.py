@@ -1,11 +1,9 @@
-"""Sums of all that the check of a mutant reads, as far as texts show it: a mutant is tried again where its
-sum is another.
+"""Sums of all that the check of a mutant reads, as far as texts show it: a mutant is tried again where its sum is another.
 
-A mutant of one function is tried against the function's own text, contract and proof files, the contracts of
-what it calls, and the definitions, types and lemmas of its crate and of those below. Its sum leaves out the
-bodies and proofs of all other functions, and the contracts of functions whose name is not in its text, unless
-they are of a trait, as that of `?` or `==`. A mutant of statements that says which functions' clauses it
-breaks has the sums of these functions, one of definitions that of all that is of no function, any other that
+A mutant of one function is tried against the function's own text, contract and proof files, the contracts of what it calls, and the
+definitions, types and lemmas of its crate and of those below. Its sum leaves out the bodies and proofs of all other functions, and the
+contracts of functions whose name is not in its text, unless they are of a trait, as that of `?` or `==`. A mutant of statements that says
+which functions' clauses it breaks has the sums of these functions, one of definitions that of all that is of no function, any other that
 of all texts.
 """
 import ast
@@ -61,8 +59,7 @@ class Crate:
 
     def __init__(self, texts):
         self.parts = []
-        declared = [(path, USE.sub("", self.read_source(path, text)))
-            for path, text in sorted(texts.items()) if path.endswith(".rt")]
+        declared = [(path, USE.sub("", self.read_source(path, text))) for path, text in sorted(texts.items()) if path.endswith(".rt")]
         self.antt = {path: plain_antt(text) for path, text in sorted(texts.items()) if path.endswith(".antt")}
         self.definitions = short(declared, [it for it in self.antt.items() if is_of_no_function(it[0])])
 
@@ -86,10 +83,8 @@ class Tree:
         self.root, self.kit_line, self.below = root, kit_line, crates_of(root)
         self.texts = {it: texts_of(f"{root}/crates/{it}") for it in self.below}
         self.crates = {it: Crate(texts) for it, texts in self.texts.items()}
-        judges = [plain_python(read(it)) for it in (f"{root}/tools/prover/{it}" for it in JUDGES)
-            if os.path.isfile(it)]
-        page = f"{root}/README.md"
-        named = re.findall(r"rattle-kit-\w+", read(page)) if os.path.isfile(page) else ""
+        judges = [plain_python(read(it)) for it in (f"{root}/tools/prover/{it}" for it in JUDGES) if os.path.isfile(it)]
+        named = re.findall(r"rattle-kit-\w+", read(f"{root}/README.md")) if os.path.isfile(f"{root}/README.md") else ""
         self.kit = short(kit_line, named, judges)
 
     def is_unchanged(self, name):
@@ -108,17 +103,13 @@ class Tree:
             functions = [f"::{it.partition('#')[0]}" for it in mutant.breaks]
             own = [it for it in parts if f"::{source.written_name('', it.path, it.function)}".endswith((*functions, "\n"))]
         of_definitions = mutant.is_of_definitions or own
-        read_texts = [self.crates[it].definitions if of_definitions else sorted(self.texts[it].items())
-            for it in names]
+        read_texts = [self.crates[it].definitions if of_definitions else sorted(self.texts[it].items()) for it in names]
         of_functions = [self.of_function(mutant.crate, it) for it in own]
         lines = lines_of_crates(self.root, names)
-        return short(self.kit, mutant.crate, mutant.name, mutant.breaks, mutant.replaced, lines, read_texts,
-            of_functions)
+        return short(self.kit, mutant.crate, mutant.name, mutant.breaks, mutant.replaced, lines, read_texts, of_functions)
 
     def of_function(self, name, part):
         """Returns what the check of one function reads beside the definitions."""
-        shown = [(it, other.shown) for it in self.down_to(name)
-            for other in self.crates[it].parts if part.may_read(other)]
-        proofs = [it for it in self.crates[name].antt.items()
-            if it[0].startswith("proofs/") and it[0].split("/")[-2] == part.function.name]
+        shown = [(it, other.shown) for it in self.down_to(name) for other in self.crates[it].parts if part.may_read(other)]
+        proofs = [it for it in self.crates[name].antt.items() if it[0].startswith("proofs/") and it[0].split("/")[-2] == part.function.name]
         return part.path, part.function.owner, part.text, part.outside, shown, proofs
