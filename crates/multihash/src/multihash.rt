@@ -289,11 +289,15 @@ fn copy_to_front(digest: &[u8], buffer: &mut [u8])
     requires { length digest.now ≤ length buffer.old }
     ensures { buffer.new ≡ digest.now ++ drop (length digest.now) buffer.old }
 {
-    match digest.len() {
-        0 => {}
-        16..=32 => copy_ends::<16>(digest, buffer),
-        33..=64 => copy_ends::<32>(digest, buffer),
-        len => buffer[..len].copy_from_slice(digest),
+    let len = digest.len();
+    if len > 64 || len < 16 {
+        if len > 0 {
+            buffer[..len].copy_from_slice(digest);
+        }
+    } else if len > 32 {
+        copy_ends::<32>(digest, buffer);
+    } else {
+        copy_ends::<16>(digest, buffer);
     }
 }
 
