@@ -166,7 +166,11 @@ fn malformed_entries_are_rejected(rt: HostRuntime) {
         (&[0x92, 0, 0, 1], Refusal::NotMinimal, 2),
         (&[18, 33, 0, 1], Refusal::InvalidSize(33), 2),
         (&[18, 0, 0x80, 0, 1], Refusal::NotMinimal, 1),
-        (&[18, 0, 255, 255, 255, 255, 255, 255, 255, 255, 128, 1], Refusal::Overflow, 1),
+        (
+            &[18, 0, 255, 255, 255, 255, 255, 255, 255, 255, 128, 1],
+            Refusal::Overflow,
+            1,
+        ),
         (&[18, 1, 65, 0x80], Refusal::Insufficient, 0),
     ];
     for (bytes, wanted, left) in rows {
