@@ -1,13 +1,8 @@
--- Two readings, one after the other: which failed, and what both consumed.
-use Rattle.std.proofs.Common.{◌≡◌, ◌+◌, ℕ, ◌⊎◌, List, ◌++◌, Option, inl, inr, refl}
+-- Two readings, one after the other: what both consumed.
+use Rattle.std.proofs.Common.{ℕ, List, ◌++◌, Option, refl}
 use Rattle.multihash.specs.Reading.{Consumes}
 use Rattle.multihash.specs.Consuming.{ConsumesSome, InTurn}
 use Rattle.multihash.proofs.Readings.ReadingLemmas.{Consumes-concatenated}
-
--- an error that `CountsReaderFailures` counts is one of those listed or the reader's own
-pub listed_or_own : {Own Listed : Type 0} {before after : ℕ} → ((after ≡ before + 1) × Own) ⊎ ((after ≡ before) × Listed) → Listed ⊎ Own
-listed_or_own (inl own) = inr own.1
-listed_or_own (inr listed) = inl listed.1
 
 -- both succeeded: what they consumed, concatenated, has been consumed
 pub in_turn_consumed : {A : Type 0} {P Q : A → List ℕ → Type 0} (old new : Option (List ℕ))
