@@ -9,7 +9,7 @@ level_above [] = []
 level_above (last ∷ []) = last ∷ []
 level_above (left ∷ (right ∷ nodes)) = parent_pair left right ∷ level_above nodes
 
--- the level so many above the leaves
+-- the level at that height above the leaves
 abbrev pub level : ℕ → List Pair → List Pair
 level zero leaves = leaves
 level (suc height) leaves = level_above (level height leaves)
@@ -35,7 +35,7 @@ pub record HasNoSibling (nodes : List Pair) (index : ℕ) : Type 0 where
   pub even : index % 2 ≡ 0
   pub last : slice_get nodes (index + 1) ≡ None
 
--- the path from the leaf at the index up to the level so many above: one step up from each node below that
+-- the path from the leaf at the index up to the level at that height: one step up from each node below that
 -- level, but none from a node that has no sibling
 pub data IsPath (leaves : List Pair) (index : ℕ) : ℕ → List PathStep → Type 0 where
   none : IsPath leaves index 0 []

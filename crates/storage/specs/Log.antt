@@ -74,7 +74,8 @@ ConsumesPair S p old new = FitsBuffer S p × ConsumesSome (IsEncoding p) old new
 
 -- reading an entry failed in the multihash, in the length, or in the block
 abbrev pub EntryFails : ℕ → ℕ → ℕ → ℕ → EntryError → Option (List ℕ) → Option (List ℕ) → Type 0
-EntryFails S limit before after e = FailsInTurn (λ old new. IsFailed (λ r. ReadFails S before after r old new) e)
+EntryFails S limit before after e =
+    FailsInTurn (λ old new. IsFailed (λ r. ReadFails S before after r old new) e)
     (ConsumesPair S)
     (λ _. FailsInTurn (λ old new. IsFailed (λ r. VarintFails before after r old new) e) ConsumesVarint
     (BlockFails limit before after e))
