@@ -12,8 +12,8 @@ pub record IsEncoding (p : Pair) (bytes : List ℕ) : Type 0 where
   pub is_size : IsVarint (length p.digest) size
   pub spelled : bytes ≡ code ++ (size ++ p.digest)
 
--- the base-128 digits of a number, lowest first, each but the last with 128 added; `most` bytes before the
--- last at most
+-- the base-128 digits of a number, lowest first, each but the last with 128 added; at most `most` bytes
+-- before the last
 abbrev pub varint_within : ℕ → ℕ → List ℕ
 varint_within zero n = n ∷ []
 varint_within (suc most) n = if nat_lt n 128 then n ∷ [] else (n % 128 + 128) ∷ varint_within most (n / 128)

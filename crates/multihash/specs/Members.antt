@@ -34,7 +34,7 @@ abbrev pub leading_bytes : List Data → List ℕ
 leading_bytes [] = []
 leading_bytes (d ∷ ds) = byte_then (byte_of_data d) (leading_bytes ds)
 
--- the same of members as the program has them
+-- the same of the members of an array
 abbrev pub member_bytes : List Value → List ℕ
 member_bytes members = leading_bytes (map view members)
 

@@ -13,11 +13,11 @@ pub record IsPair (p : Pair) : Type 0 where
   pub in_range : p.code < varint_limit
   pub are_bytes : IsBytes p.digest
 
--- the most bytes of a digest in a buffer of this size
+-- the most bytes of a digest in a buffer of this capacity
 abbrev pub digest_limit : ℕ → ℕ
 digest_limit S = min S 255
 
--- the digest fits a buffer of this size
+-- the digest fits a buffer of this capacity
 abbrev pub FitsBuffer : ℕ → Pair → Type 0
 FitsBuffer S p = length p.digest ≤ digest_limit S
 

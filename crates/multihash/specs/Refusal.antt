@@ -41,7 +41,7 @@ IsOutOfMemory e = IsIo IsOutOfMemoryFault e
 abbrev pub IsReaderError : Refusal → Type 0
 IsReaderError e = IsIo IsOwnFault e
 
--- a size that the capacity or the input contradicts
+-- an invalid size, with that number
 abbrev pub IsInvalidSize : ℕ → Refusal → Type 0
 IsInvalidSize size e = e ≡ of_size size
 

@@ -30,7 +30,7 @@ pub record HasScaleSize (size : ℕ) (input rest : List ℕ) : Type 0 where
   pub in_range : code < varint_limit
   pub cut : input ≡ code_bytes ++ size ∷ rest
 
--- the verdict of decoding on an input that starts with this one; no varint is read. The capacity is `S`, not
+-- the verdict of decoding on the front of the input; no varint is read. The capacity is `S`, not
 -- `digest_limit S`, since the size is one byte, so at most 255
 abbrev pub HasScaleVerdict : ℕ → List ℕ → Verdict → Type 0
 HasScaleVerdict S input (accepted p) =

@@ -40,7 +40,7 @@ pub record HasHead (code size len : ℕ) (input : List ℕ) : Type 0 where
   pub varints : BeginsWithSize size input (drop len input)
   pub is_code : varints.code ≡ code
 
--- the verdict on the front of the input; the number of a varint is never out of range
+-- the verdict on the front of the input; no code is invalid, as the number of a varint is in range
 abbrev pub HasVerdict : ℕ → List ℕ → Verdict → Type 0
 HasVerdict S input (accepted p) = (rest : List ℕ) × BeginsWith p input rest × FitsBuffer S p
 HasVerdict S input (invalid_size size) =

@@ -23,7 +23,7 @@ abbrev pub IsWriterFaultOrFull : Bool → ℕ → ℕ → Type 0 → Fault → T
 IsWriterFaultOrFull allocates before after is_full e =
     IsWriterFault allocates before after e ⊎ (IsWriteZero e × (after ≡ before) × is_full)
 
--- an error of which P holds: so `CountsWriterFailures` speaks of an error as of one that is passed on
+-- P holds of the error: so `CountsWriterFailures` is stated of such an error as of one inside `Refusal`
 abbrev pub IsFault : (Fault → Type 0) → Fault → Type 0
 IsFault P fault = P fault
 

@@ -7,7 +7,7 @@ ghost use Rattle.multihash.specs.Verdict.{Verdict, HasVerdict, IsIncomplete, Has
 ghost use Rattle.multihash.specs.Refusal.{IsInvalidSize, IsOutOfMemory, IsIo, IsReaderError};
 ghost use Rattle.multihash.specs.Reading.{Consumes, CountsReaderFailures, HasFewerThan, ConsumesFewerThan};
 ghost use Rattle.multihash.specs.Fault.{IsUnexpectedEof, IsOwnFault};
-ghost use Rattle.multihash.specs.Writing.{AppendsPrefix, CountsWriterFailures};
+ghost use Rattle.multihash.specs.Writing.{AppendsPrefix, CountsWriterFailures, WriteAllLaws};
 ghost use Rattle.multihash.specs.Consuming.{ReadMayFailWith, ConsumesAtError, ConsumesShortestSettling, ConsumesNothingSettling};
 ghost use Rattle.multihash.specs.Outcome.{pair_of, IsResultOf};
 
@@ -136,7 +136,7 @@ impl<const S: usize> Multihash<S> {
         let digest = self.digest();
         let code = varint::write_in_range(self.code(), w)?;
         let size = varint::write_in_range(u64::from(self.size()), w)?;
-        w.write_all(digest)?;
+        write_digest(digest, w)?;
         Ok(code + size + digest.len())
     }
 
@@ -201,4 +201,15 @@ impl<const S: usize> Multihash<S> {
             Ok(size as u8)
         }
     }
+}
+
+// Writes a digest. A write whose size is known at compile time needs no call for its copy.
+#[inline(always)]
+pub(crate) fn write_digest<W: Write>(digest: &[u8], w: &mut W) -> Result<(), no_std_io::Error>
+    ensures laws { WriteAllLaws W.appended W.full W.failures W.allocates w.old digest.now w.new result }
+{
+    if let Some(array) = whole::<32>(digest) {
+        return w.write_all(array);
+    }
+    w.write_all(digest)
 }

@@ -21,19 +21,20 @@ impl<const S: usize> Multihash<S> {
         self.size == other.size && self.code == other.code && self.same_digest(other)
     }
 
-    // Whether the digests are equal. From sixteen bytes on they are compared by words, without a call.
+    // Whether the digests are equal. From sixteen bytes on they are compared by words, without a call. Paths
+    // that `S` excludes are not compiled.
     #[inline(always)]
     fn same_digest<const B: usize>(&self, other: &Multihash<B>) -> bool
         requires { length (pair_of self.now).digest ≡ length (pair_of other.now).digest }
         ensures { result ≡ pointwise ◌==◌ (pair_of self.now).digest (pair_of other.now).digest }
     {
-        if self.size > 32 {
+        if S > 32 && self.size > 32 {
             return same_many(self.digest(), other.digest());
         }
-        if self.size >= 16 {
+        if S >= 16 && self.size >= 16 {
             return same_ends(self.digest(), other.digest());
         }
-        self.size == 0 || self.same_few(other)
+        S == 0 || self.size == 0 || self.same_few(other)
     }
 
     // The same for fewer bytes. Its parameters are the values, so that the other paths compute no address
@@ -51,13 +52,13 @@ impl<const S: usize> Multihash<S> {
         requires { length (pair_of self.now).digest ≡ length (pair_of other.now).digest }
         ensures { result ≡ slice_cmp nat_cmp (pair_of self.now).digest (pair_of other.now).digest }
     {
-        if self.size > 32 {
+        if S > 32 && self.size > 32 {
             return order_of_many(self.digest(), other.digest());
         }
-        if self.size >= 16 {
+        if S >= 16 && self.size >= 16 {
             return order_of_ends(self.digest(), other.digest());
         }
-        if self.size == 0 {
+        if S == 0 || self.size == 0 {
             return Ordering::Equal;
         }
         self.order_of_few(other)

@@ -153,9 +153,8 @@ impl Error {
         }
     }
 
-    /// Returns the error of the reader or the writer, if it is one: the input ended before the end of a
-    /// digest or of a fixed-size part, a writer is full, out of memory, or a failure of the reader or
-    /// writer itself.
+    /// Returns the I/O error, if it is one: the input ended within a digest or a part of fixed size, the
+    /// writer is full, an allocation failed, or the reader or the writer itself failed.
     pub fn io(&self) -> Option<&no_std_io::Error>
         ensures some { IfSome result (λ e. self.now ≡ of_io e.now) }
         ensures none { IfNone result ((fault : Fault) → self.now ≢ of_io fault) }

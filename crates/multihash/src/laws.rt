@@ -24,7 +24,7 @@ pub fn one_verdict()
         HasWholeVerdict S input v → HasWholeVerdict S input w → v ≡ w }
 {}
 
-/// An input settles its verdict unless it is incomplete.
+/// An input settles its verdict unless the verdict is incomplete.
 #[tactic(auto, using(crate::proofs::Readings::SettlingLemmas::settling))]
 pub fn settles()
     ensures exactly { (S : ℕ) (input : List ℕ) (v : Verdict) → HasVerdict S input v →
@@ -78,7 +78,7 @@ pub fn scale_unique()
         FitsBuffer S p → HasScaleVerdict S (bytes ++ rest) (accepted p) }
 {}
 
-/// A JSON list has one pair.
+/// A JSON value lists at most one pair.
 pub fn json_unique()
     ensures same { (p q : Pair) (value : Data) →
         IsJsonList p value → IsJsonList q value → p ≡ q }

@@ -1,7 +1,7 @@
 //! Self-describing hashes: a code and a digest in one value, in three forms.
 //!
 //! A [`Multihash`] is the code of a hash function and a digest, that function's output. Its encoding is
-//! the minimal varint of the code, the minimal varint of the digest's length, and the digest
+//! the varint of the code, the varint of the digest's length, and the digest
 //! (<https://github.com/multiformats/multihash>). The library does no hashing and has no table of
 //! codes.
 #![tactic(auto)]

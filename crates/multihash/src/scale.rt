@@ -8,6 +8,7 @@ ghost use Rattle.multihash.specs.Writing.{AppendsPrefix, CountsWriterFailures};
 ghost use Rattle.multihash.specs.Refusal.{IsIo, IsReaderError};
 ghost use Rattle.multihash.specs.Outcome.{pair_of, IsResultOf};
 
+use crate::binary::write_digest;
 use crate::no_std_io::{self, Read, Write};
 use crate::{Error, Multihash, varint};
 
@@ -32,7 +33,7 @@ impl<const S: usize> Multihash<S> {
         let digest = self.digest();
         w.write_all(&code)?;
         w.write_all(&[size])?;
-        w.write_all(digest)?;
+        write_digest(digest, w)?;
         Ok(9 + digest.len())
     }
 

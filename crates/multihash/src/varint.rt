@@ -1,4 +1,4 @@
-//! Minimal unsigned varints of multiformats, for numbers below 2^63: at most nine bytes.
+//! Unsigned varints of multiformats, for numbers below 2^63: at most nine bytes.
 //!
 //! The base-128 digits of a number, lowest first, one a byte, with 128 added to each byte but the last
 //! (<https://github.com/multiformats/unsigned-varint>). Multiformats encodes its numbers so: the code

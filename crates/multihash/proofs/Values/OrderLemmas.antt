@@ -31,17 +31,11 @@ tie_exactly p q =
     let ties : equal_pairs p q ≡ is_eq (compare_pairs p q) = search (comparing, rules) depth 9 in
     subst (λ (b : Bool). IsTrue b ↔ (p ≡ q)) ties (equal_exactly p q)
 
--- so keys of an ordered map that tie are one pair
-pub same_key : (p q : Pair) → is_eq (compare_pairs p q) ≡ true → p ≡ q
-same_key p q tie = (tie_exactly p q).0 tie
-
--- different pairs are different keys
-pub other_key : (p q : Pair) → ¬ (q ≡ p) → is_eq (compare_pairs p q) ≡ false
-other_key p q differs = go (is_eq (compare_pairs p q)) (λ tie. differs (sym ((tie_exactly p q).0 tie)))
-  where
-    go : (b : Bool) → ¬ (IsTrue b) → b ≡ false
-    go true never = absurd (never refl)
-    go false never = refl
+-- so keys of an ordered map that tie are one pair: by the parts, as tactics see a key
+pub same_key : (c d : ℕ) (x y : List ℕ) → is_eq (compare_pairs (record { code = c; digest = x }) (record { code = d; digest = y })) ≡ true → (c ≡ d) × (x ≡ y)
+same_key c d x y tie =
+    let same = (tie_exactly (record { code = c; digest = x }) (record { code = d; digest = y })).0 tie in
+    (ap (λ (p : Pair). p.code) same, ap (λ (p : Pair). p.digest) same)
 
 decided : (o p : Ordering) → o ≢ Equal → ordering_then o p ≡ o
 decided Less p other = refl

@@ -175,7 +175,7 @@ impl Write for Vec<u8> {
     }
 }
 
-/// A borrowed writer writes as the writer does.
+/// For a borrowed writer `write` is the writer's own, and `write_all` is the default.
 impl<W: Write> Write for &mut W {
     const ALLOCATES: bool = W::ALLOCATES;
 

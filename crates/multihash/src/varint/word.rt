@@ -124,7 +124,7 @@ fn read_word(word: u128, present: usize) -> Result<(u64, usize), Error>
     if stops == 0 {
         return read_high(word, present);
     }
-    // The bits below the first of them: above it no bit is set in both.
+    // The bits below the first of them: above it `stops - 1` has only bits that `low` lacks.
     let varint = low & stops.wrapping_sub(1);
     let continuation_bytes = (stops.trailing_zeros() / 8) as usize;
     if continuation_bytes >= present {

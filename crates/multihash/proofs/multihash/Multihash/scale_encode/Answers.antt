@@ -27,11 +27,11 @@ returns-in_err-write_all-2-clause-err g c =
     stops_in_second g.W.Write.appended g.met.W.Write.appends_concatenated _ _ _ _ written
     _ _ _ _ c.in_ok-write_all.ensures.laws.ok c.in_err-write_all-2.ensures.laws.err
 
-pub returns-in_err-write_all-3-clause-err : goal.returns-in_err-write_all-3-clause-err
-returns-in_err-write_all-3-clause-err g c =
-    let written = form g (goal.at.returns-in_err-write_all-3-clause-err g c).After-digest-digest in
+pub returns-in_err-write_digest-clause-err : goal.returns-in_err-write_digest-clause-err
+returns-in_err-write_digest-clause-err g c =
+    let written = form g (goal.at.returns-in_err-write_digest-clause-err g c).After-digest-digest in
     stops_in_third g.W.Write.appended g.met.W.Write.appends_concatenated _ _ _ _ written
-    _ _ _ _ _ c.in_ok-write_all.ensures.laws.ok c.in_ok-write_all-2.ensures.laws.ok c.in_err-write_all-3.ensures.laws.err
+    _ _ _ _ _ c.in_ok-write_all.ensures.laws.ok c.in_ok-write_all-2.ensures.laws.ok c.in_err-write_digest.ensures.laws.err
 
 pub returns-clause-ok : goal.returns-clause-ok
 returns-clause-ok g c =
@@ -40,5 +40,5 @@ returns-clause-ok g c =
       written,
       omega (arith, scale_length (pair_of c.args.self.now) _ written, ap length c.digest-digest.ensures.digest),
       g.met.W.Write.appends_concatenated _ _ _ _ _ c.in_ok-write_all.ensures.laws.ok
-          (g.met.W.Write.appends_concatenated _ _ _ _ _ c.in_ok-write_all-2.ensures.laws.ok c.in_ok-write_all-3.ensures.laws.ok),
+          (g.met.W.Write.appends_concatenated _ _ _ _ _ c.in_ok-write_all-2.ensures.laws.ok c.in_ok-write_digest.ensures.laws.ok),
     )

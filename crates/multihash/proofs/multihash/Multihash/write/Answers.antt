@@ -20,12 +20,12 @@ returns-in_err-size-clause-err g c =
     let form = encoding_of_parts (pair_of c.args.self.now) _ _ _ a.0 b.0 c.code.ensures.code (c.from.ensures ∙ c.size.ensures.size) c.digest-digest.ensures.digest a.1 b.1 in
     stops_in_second g.W.Write.appended g.met.W.Write.appends_concatenated (IsEncoding (pair_of c.args.self.now)) _ _ _ form _ _ _ _ a.3 b.2
 
-pub returns-in_err-write_all-clause-err : goal.returns-in_err-write_all-clause-err
-returns-in_err-write_all-clause-err g c =
+pub returns-in_err-write_digest-clause-err : goal.returns-in_err-write_digest-clause-err
+returns-in_err-write_digest-clause-err g c =
     let a = c.in_ok-code.ensures.ok in
     let b = c.in_ok-size.ensures.ok in
     let form = encoding_of_parts (pair_of c.args.self.now) _ _ _ a.0 b.0 c.code.ensures.code (c.from.ensures ∙ c.size.ensures.size) c.digest-digest.ensures.digest a.1 b.1 in
-    stops_in_third g.W.Write.appended g.met.W.Write.appends_concatenated (IsEncoding (pair_of c.args.self.now)) _ _ _ form _ _ _ _ _ a.3 b.3 c.in_err-write_all.ensures.laws.err
+    stops_in_third g.W.Write.appended g.met.W.Write.appends_concatenated (IsEncoding (pair_of c.args.self.now)) _ _ _ form _ _ _ _ _ a.3 b.3 c.in_err-write_digest.ensures.laws.err
 
 pub returns-clause-ok : goal.returns-clause-ok
 returns-clause-ok g c =
@@ -35,5 +35,5 @@ returns-clause-ok g c =
       _,
       form,
       omega (arith, a.2, b.2, length-parts a.0 b.0 c.digest-digest.result.now),
-      g.met.W.Write.appends_concatenated _ _ _ _ _ a.3 (g.met.W.Write.appends_concatenated _ _ _ _ _ b.3 c.in_ok-write_all.ensures.laws.ok),
+      g.met.W.Write.appends_concatenated _ _ _ _ _ a.3 (g.met.W.Write.appends_concatenated _ _ _ _ _ b.3 c.in_ok-write_digest.ensures.laws.ok),
     )
