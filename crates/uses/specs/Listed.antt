@@ -1,11 +1,15 @@
 -- What a JSON value lists, and the errors for a value that lists nothing.
-use Rattle.std.specs.Prelude.{ℕ, List}
+use Rattle.std.specs.Prelude.{◌≡◌, ℕ, List, None, Some}
 use Rattle.serde_json.specs.Data.{Data}
+use Rattle.serde_json.specs.Errors.{IsMemory}
+use Rattle.serde_json.specs.Read.{read}
 use Rattle.multihash.specs.Pair.{Pair, FitsBuffer}
 use Rattle.multihash.specs.Verdict.{Verdict, HasWholeVerdict}
 use Rattle.multihash.specs.Json.{IsByteArray, IsJsonList}
 use Rattle.multihash.specs.Refusal.{Refusal, IsNotBytes}
 use Rattle.multihash.specs.Outcome.{IsErrorOf}
+use Rattle.uses.specs.declared.json_text.TextError.{TextError}
+use Rattle.uses.specs.declared.json_text.TextError.TheVariants.{Text, Value, Memory}
 
 -- the value lists a pair that fits
 pub record ListsOne (S : ℕ) (value : Data) : Type 0 where
@@ -18,3 +22,9 @@ pub record ListMayFailWith (S : ℕ) (value : Data) (e : Refusal) : Type 0 where
   pub verdict : (bytes : List ℕ) → IsByteArray value bytes →
       (v : Verdict) × HasWholeVerdict S bytes v × IsErrorOf e v
   pub not_bytes : ((bytes : List ℕ) → ¬ (IsByteArray value bytes)) → IsNotBytes e
+
+-- the error is the text's: that it is no JSON, unless out of memory, or that of its value
+abbrev pub TextMayFailWith : ℕ → List ℕ → TextError → Type 0
+TextMayFailWith S text (Text x) = ¬ (IsMemory x) → read text ≡ None
+TextMayFailWith S text (Value x) = (value : Data) × (read text ≡ Some value) × ListMayFailWith S value x
+TextMayFailWith S text Memory = ⊥

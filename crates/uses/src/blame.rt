@@ -72,7 +72,7 @@ pub fn decode_slice<const S: usize>(stream: &[u8]) -> (Result<Multihash<S>, Erro
     (decoded, left)
 }
 
-/// The code that `wrap` rejects: none if it is in range, nor if the digest does not fit, which is checked
+/// The code that `wrap` rejects: none if it is in range, or if the digest does not fit, which is checked
 /// first.
 pub fn rejected_code<const S: usize>(code: u64, digest: &[u8]) -> Option<u64>
     requires { S < 65536 }

@@ -22,6 +22,7 @@ pub type Hashed = HashMap<Multihash<64>, u32>;
 /// # Errors
 ///
 /// [`AllocFailed`] with the key and the position when out of memory; the store is unchanged.
+#[tactic(auto, using(multihash::proofs::Values::OrderLemmas::same_key))]
 pub fn put_ordered(
     store: &mut Ordered,
     key: Multihash<64>,
@@ -85,6 +86,7 @@ pub fn kept_is_found<const S: usize>(
 ) -> Result<Option<u32>, AllocFailed<(Multihash<64>, u32)>>
     ensures kept { OnOk result
         (ordered.Updates (on pair_of compare_pairs) store.old store.new key (Some place)) }
+    ensures unchanged { OnErr result (ordered.IsUnchanged store.old store.new) }
     ensures found { IfOk result (λ found. pair_of key ≡ pair_of other.now → found ≡ Some place) }
 {
     put_ordered(store, key, place)?;
@@ -100,6 +102,7 @@ pub fn kept_is_found_hashed<const S: usize>(
 ) -> Result<Option<u32>, AllocFailed<(Multihash<64>, u32)>>
     ensures kept { OnOk result
         (hashed.Updates (on pair_of equal_pairs) table.old table.new key (Some place)) }
+    ensures unchanged { OnErr result (hashed.IsUnchanged table.old table.new) }
     ensures found { IfOk result (λ found. pair_of key ≡ pair_of other.now → found ≡ Some place) }
 {
     put_hashed(table, key, place)?;

@@ -1,6 +1,6 @@
 //! Addresses of parts, as a multiaddr has them: each a code, a length and as many bytes.
-ghost use Rattle.std.specs.Prelude.{◌≡◌, ℕ, List, ◌++◌, length, IfOk};
-ghost use Rattle.multihash.specs.Varint.{IsVarint};
+ghost use Rattle.std.specs.Prelude.{ℕ, List, IfOk, OnErr};
+ghost use Rattle.uses.specs.Part.{BeginsWithPart};
 
 use multihash::{Error, varint};
 
@@ -33,9 +33,10 @@ impl From<Error> for PartError {
 ///
 /// The address does not begin with a part.
 pub fn first_part(address: &[u8]) -> Result<(Part<'_>, &[u8]), PartError>
-    ensures { IfOk result (λ consumed. (code size : List ℕ) × IsVarint consumed.0.code code
-        × IsVarint (length consumed.0.bytes.now) size
-        × (address.now ≡ code ++ (size ++ (consumed.0.bytes.now ++ consumed.1.now)))) }
+    ensures part { IfOk result (λ found.
+        BeginsWithPart found.0.code found.0.bytes.now found.1.now address.now) }
+    ensures none { OnErr result ((code : ℕ) (bytes rest : List ℕ) →
+        ¬ (BeginsWithPart code bytes rest address.now)) }
 {
     let (code, code_len) = varint::read_front(address)?;
     let after_code = &address[code_len..];

@@ -6,4 +6,4 @@ pub returns : goal.returns
 returns g c =
     let p = pair_of c.args.m.now in
     text_lists_one p c.as_str.result.now c.parse.result
-    (rw (← c.as_str.ensures.value) at c.in_ok-text.ensures) c.parse.ensures
+    (rw (← c.as_str.ensures.value) at c.in_ok-text.ensures.text) c.parse.ensures.listed
