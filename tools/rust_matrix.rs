@@ -155,8 +155,8 @@ macro_rules! sum_of_values {
     ($values:expr, $count:expr, |$value:ident| $told:expr) => {{
         let values = $values.as_slice();
         let mut sum = 0_u64;
-        for turn in 0..$count {
-            if let Some($value) = values.get((turn & 7) as usize) {
+        for _ in 0..$count / 8 {
+            for $value in values {
                 sum = sum.wrapping_add($told);
             }
         }
@@ -168,9 +168,8 @@ macro_rules! sum_of_pairs {
     ($left:expr, $right:expr, $count:expr, |$a:ident, $b:ident| $told:expr) => {{
         let (left, right) = ($left.as_slice(), $right.as_slice());
         let mut sum = 0_u64;
-        for turn in 0..$count {
-            let place = (turn & 7) as usize;
-            if let (Some($a), Some($b)) = (left.get(place), right.get(place)) {
+        for _ in 0..$count / 8 {
+            for ($a, $b) in left.iter().zip(right) {
                 sum = sum.wrapping_add($told);
             }
         }

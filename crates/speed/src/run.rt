@@ -12,8 +12,8 @@ macro_rules! sum_of_values {
     ($values:expr, $count:expr, |$value:ident| $term:expr) => {{
         let values = $values.as_slice();
         let mut sum = 0_u64;
-        for turn in 0..$count {
-            if let Some($value) = values.get((turn & 7) as usize) {
+        for _ in 0..$count / 8 {
+            for $value in values {
                 sum = sum.wrapping_add($term);
             }
         }
@@ -26,9 +26,8 @@ macro_rules! sum_of_pairs {
     ($left:expr, $right:expr, $count:expr, |$a:ident, $b:ident| $term:expr) => {{
         let (left, right) = ($left.as_slice(), $right.as_slice());
         let mut sum = 0_u64;
-        for turn in 0..$count {
-            let place = (turn & 7) as usize;
-            if let (Some($a), Some($b)) = (left.get(place), right.get(place)) {
+        for _ in 0..$count / 8 {
+            for ($a, $b) in left.iter().zip(right) {
                 sum = sum.wrapping_add($term);
             }
         }
@@ -53,8 +52,8 @@ macro_rules! sum_of_bytes {
 }
 
 impl<const S: usize> Inputs<S> {
-    /// Makes `count` calls of an operation, and returns the sum of their results. For a list, `count` items
-    /// are written or read, a thousand a call.
+    /// Makes `count` calls of an operation, a multiple of 8, and returns the sum of their results. For a
+    /// list, `count` items are written or read, a thousand a call.
     pub fn run(&mut self, alloc: Global, operation: Operation, count: u32) -> u64 {
         match operation {
             Operation::Wrap => self.wrap(count),
