@@ -53,6 +53,7 @@ class Declared:
         yield from self.functions.values()
         cases = " ".join(f'{f"case MULTIHASH_{name}" if name else "default"}: return "{text}";' for name, text in self.texts.items())
         yield f"static inline const char *multihash_status_text(multihash_status status) {{ switch (status) {{ {cases} }} }}"
+
     def macros(self) -> dict[str, str]:
         major, minor, patch = map(int, self.version.split("."))
         number = 10000 * major + 100 * minor + patch
@@ -91,9 +92,6 @@ def group(form: str, text: str) -> str:
     if not found:
         raise Unread(f"there is no {form}")
     return str(found[1])
-
-
-# ---- the crate
 
 
 def parameter(text: str) -> str:
@@ -137,9 +135,6 @@ def of_crate(tree: Tree) -> Declared:
     )
 
 
-# ---- the header
-
-
 def preprocessed(text: str, language: str, *options: str) -> str:
     """Returns what the preprocessor makes of the header, without the standard's headers."""
     words = [*LANGUAGES[language], "-E", "-P", "-nostdinc", "-DSIZE_MAX=1", "-DUINT64_MAX=1", *options, "-"]
@@ -171,9 +166,6 @@ def header_faults(header: str, crate: Declared, language: str) -> Iterator[str]:
     ran = subprocess.run(words, input=header + crate.uses(), capture_output=True, text=True)
     if ran.returncode:
         yield f"{language}: {ran.stderr[:900]}"
-
-
-# ---- the bindings
 
 
 def constants_of(texts: dict[str, str], names: list[str]) -> dict[str, str]:
@@ -214,9 +206,6 @@ def binding_faults(tree: Tree, crate: Declared) -> Iterator[str]:
     ):
         if found != wanted:
             yield f"{name} are {found}, and the crate's {wanted}"
-
-
-# ---- what differs
 
 
 def faults_of(tree: Tree) -> list[str]:

@@ -6,23 +6,17 @@
     tools/mutants.py --unprotected [NAME..]                       lists the clauses of public functions that nothing protects,
                                                                   which fail a run, unless with --allow-unprotected
 
-docs/PLANTED.md says what a mutant is. A function is proved against its own contract and the contracts of what it calls, never against
-another's body, so one check judges a batch with one mutant of each function. A mutant is rejected only where its own function has an open
-goal: not where it merely calls a mutant, where the text does not compile, where the borrow checker does not know its form, or where a
-proof cites a name that is gone. What a batch leaves unclear is tried again without the others, and at last alone, as is a mutant of
-clauses, constants, types or several functions, which any open goal rejects, and one of definitions, which an example or a lemma has to
-reject. Where the prover says only that its search gave up, the rejection is counted apart, and breaks no clause.
+docs/PLANTED.md says what a mutant is and what rejects it. A function is proved against contracts, never against another's body, so one
+check judges a batch with a mutant of each of several functions. A mutant whose result is unclear there is tried again without the others.
 
-A mutant changed where its sum (prover/sums.py) is another at COMMIT, by default the newest of the first parents that is more than a
-day older than the last, else the first; in a shallow clone without such a commit all have changed. To check a clone in which you changed
-nothing, give --since HEAD: only those that are drawn are tried.
-
-Rejections are kept on this machine, outside the checkout, by the same sum, and a later run reads them there; but it tries what it
-drew, and with --all everything. tools/mutants.count has the number of all mutants.
+A mutant changed if its checksum (prover/sums.py) differs from the one at COMMIT: by default the newest first parent that is more than a day
+older than the last commit, else the first commit. Rejections are cached on this machine by the same checksum. They are read for the mutants
+that changed or are named, but not for those that are drawn, nor with --all.
 
 It proves a copy of the crates first, or in the folder --proved. It needs about 2 GB a job. The last line is 'N passed, M failed'.
 """
 import argparse
+import glob
 import os
 import secrets
 import sys
@@ -73,7 +67,8 @@ def all_mutants(given, tree, report):
     found = [edits.edits_in(crate, f"{given.root}/crates/{crate}") for crate in tree.below]
     for label, why in (it for _, bad in found for it in bad):
         report.fails(label, f"it cannot be applied: {why}")
-    count, number = sum(len(good) + len(bad) for good, bad in found), f"{given.root}/tools/mutants.count"
+    must_fail = glob.glob(f"{given.root}/crates/*/must-fail/*.edit")
+    count, number = sum(len(good) + len(bad) for good, bad in found) + len(must_fail), f"{given.root}/tools/mutants.count"
     stored = repository.read(number).strip() if os.path.isfile(number) else "nothing"
     if stored != str(count):
         report.fails("tools/mutants.count", f"it says {stored}, and there are {count}: where that is meant, write it there")
@@ -85,9 +80,8 @@ def arguments():
     root = os.path.dirname(os.path.dirname(os.path.realpath(__file__)))
     for name, default in {"root": root, "proved": "", "jobs": 0, "since": "", "draw": 6, "seed": secrets.token_hex(4)}.items():
         parser.add_argument(f"--{name}", default=default, type=type(default))
-    parser.add_argument("--all", action="store_true")
-    parser.add_argument("--unprotected", action="store_true")
-    parser.add_argument("--allow-unprotected", action="store_true")
+    for name in ("all", "unprotected", "allow-unprotected"):
+        parser.add_argument(f"--{name}", action="store_true")
     parser.add_argument("names", nargs="*")
     return parser.parse_args()
 

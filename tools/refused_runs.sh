@@ -13,7 +13,7 @@ failed=0
 work=$(mktemp -d) || exit 2
 trap 'rm -rf "$work"' EXIT
 
-# Builds a program, over what is kept of its proof, and runs it on no input.
+# Builds a program, with cached proofs, and runs it on no input.
 build() {
   [ "${BUILT-}" = "rt ci" ] && return
   rm -f "$crates/$1/out/$1"
@@ -141,5 +141,10 @@ expect_sizes ffffffffffffffff7f 9223372036854775807 x
 expect_show "code 22\nsize 3\ndigest aabbcc\n0" "1603aAbBCc\n"
 expect_rejected
 expect_streams
+# A file of cases that is emptied or lost changes the number of runs.
+if [ $((passed + failed)) != 328 ]; then
+  echo "$((passed + failed)) runs, and not 328: where that is meant, write it here"
+  failed=$((failed + 1))
+fi
 echo "$passed passed, $failed failed"
-[ "$failed" = 0 ] && [ "$passed" -gt 0 ]
+[ "$failed" = 0 ]

@@ -2,6 +2,7 @@
 # Tests .ci/run over stubs: in a copy 'rt' and each part are scripts of one line. Tests also that tools/check
 # lists each part. The last line is 'N passed, M failed'.
 set -u
+unset ALL # which '.ci/run --all' sets
 cd "$(dirname "$0")/.." || exit 2
 top=$PWD
 work=$(mktemp -d) || exit 2

@@ -1,4 +1,4 @@
-"""Chooses which mutants a run tries: those that changed since a commit and are not kept as rejected on this machine, and some drawn."""
+"""Chooses which mutants a run tries: those that changed since a commit and have no cached rejection on this machine, and some drawn."""
 import os
 import random
 import subprocess
@@ -42,7 +42,7 @@ def sums_at(root, commit, to, kit):
 
 
 def drawn(its, below, many, seed):
-    """Draws so many of the lowest crate, on which all others rest, and as many of one other, as each crate needs its own proof first."""
+    """Draws this many of the lowest crate, on which all others depend, and of one other crate: each crate has to be proved first."""
     draw = random.Random(seed)
     low = next((it for it in below if not repository.below(below, it)), "")
     others = [it for it in its if it.crate != low]
@@ -52,7 +52,7 @@ def drawn(its, below, many, seed):
 
 
 class Store:
-    """Rejections by their sums, of a tree that was read before anything was tried: files may be edited while a run goes on."""
+    """Rejections by their checksums, of a tree that was read before anything was tried: files may be edited while a run goes on."""
 
     def __init__(self, tree):
         self.tree, self.folder = tree, ""
@@ -72,7 +72,7 @@ class Store:
         return ""
 
     def keep(self, mutant, why):
-        """Keeps a rejection, unless the crate was edited meanwhile."""
+        """Caches a rejection, unless the crate was edited meanwhile."""
         if self.folder and self.tree.is_unchanged(mutant.crate):
             new = f"{self.path(mutant)}.{os.getpid()}"
             repository.write(new, why)

@@ -7,7 +7,7 @@ BY_GOAL, BY_LIMIT = "by a goal: ", "by a limit: "
 
 
 class Judge:
-    """Judges mutants by the findings of a check, reports each result and keeps each rejection."""
+    """Judges mutants by the findings of a check, reports each result and caches each rejection."""
 
     def __init__(self, root, store, report):
         self.root, self.store, self.report = root, store, report

@@ -1,10 +1,10 @@
-"""Sums of all that the check of a mutant reads, as far as texts show it: a mutant is tried again where its sum is another.
+"""Checksums of all that the check of a mutant reads, as far as texts show it: a mutant is tried again if its checksum changes.
 
 A mutant of one function is tried against the function's own text, contract and proof files, the contracts of what it calls, and the
-definitions, types and lemmas of its crate and of those below. Its sum leaves out the bodies and proofs of all other functions, and the
-contracts of functions whose name is not in its text, unless they are of a trait, as that of `?` or `==`. A mutant of statements that says
-which functions' clauses it breaks has the sums of these functions, one of definitions that of all that is of no function, any other that
-of all texts.
+definitions, types and lemmas of its crate and of those below. Its checksum leaves out the bodies and proofs of all other functions, and
+the contracts of functions whose name is not in its text, unless they are of a trait, as that of `?` or `==`. The checksum of a mutant of
+statements that names the functions whose clauses it breaks is that of these functions; of one of definitions, that of all that is outside
+functions; of any other, that of all texts.
 """
 import ast
 import hashlib

@@ -1,4 +1,4 @@
-//! Each export on its happy path, with values from outside.
+//! Each export, on some values and errors.
 use crate::compare::multihash_compare;
 use crate::decode::{
     Decoded, multihash_from_bytes, multihash_head, multihash_read, multihash_read_limit,

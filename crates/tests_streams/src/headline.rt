@@ -1,4 +1,4 @@
-//! The headline's calls, which `uses` proves.
+//! The functions of `uses::headline`, which are proved there.
 use crate::expect::{check_eq, expect_bytes, expect_ok, expect_rejected};
 use crate::form::two;
 use fakes::readers::Cuts;

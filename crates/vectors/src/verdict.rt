@@ -75,7 +75,7 @@ impl Verdict {
     }
 }
 
-// Whether the input ended within the digest.
+// Whether the input ended within the digest, or within the fixed part of the SCALE form.
 fn is_unexpected_eof(error: &Error) -> bool
     ensures { IsTrue result ↔ IsEof error.now }
 {
