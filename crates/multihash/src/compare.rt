@@ -21,14 +21,18 @@ impl<const S: usize> Multihash<S> {
         self.size == other.size && self.code == other.code && self.same_digest(other)
     }
 
-    // Whether the digests are equal. From sixteen bytes on they are compared by words, without a call. Paths
-    // that `S` excludes are not compiled.
+    // Whether the digests are equal. From sixteen bytes on they are compared by words, without a call. The
+    // compiler knows the length of a digest that fills the buffer, and makes no loop. Paths that `S` excludes
+    // are not compiled.
     #[inline(always)]
     fn same_digest<const B: usize>(&self, other: &Multihash<B>) -> bool
         requires { length (pair_of self.now).digest ≡ length (pair_of other.now).digest }
         ensures { result ≡ pointwise ◌==◌ (pair_of self.now).digest (pair_of other.now).digest }
     {
         if S > 32 && self.size > 32 {
+            if S > 64 && self.size == S {
+                return same_many(&self.digest, other.digest());
+            }
             return same_many(self.digest(), other.digest());
         }
         if S >= 16 && self.size >= 16 {
@@ -46,13 +50,16 @@ impl<const S: usize> Multihash<S> {
         self.digest() == other.digest()
     }
 
-    // How the digests compare. From sixteen bytes on they are compared by words, without a call.
+    // How the digests compare, by the same paths.
     #[inline(always)]
     fn order_of_digest(&self, other: &Self) -> Ordering
         requires { length (pair_of self.now).digest ≡ length (pair_of other.now).digest }
         ensures { result ≡ slice_cmp nat_cmp (pair_of self.now).digest (pair_of other.now).digest }
     {
         if S > 32 && self.size > 32 {
+            if S > 64 && self.size == S {
+                return order_of_many(&self.digest, &other.digest);
+            }
             return order_of_many(self.digest(), other.digest());
         }
         if S >= 16 && self.size >= 16 {

@@ -1,7 +1,10 @@
-use Rattle.std.proofs.Common.{◌≡◌, ◌≤◌, ◌++◌, length, take, refl, sym, ◌∙◌, arith}
+use Rattle.std.proofs.Common.{◌≡◌, ◌+◌, ◌≤◌, ◌++◌, ◌⊎◌, ℕ, List, Option, Err, Ok, length, take, refl, sym, ◌∙◌, arith}
 use Rattle.std.proofs.lemmas.List.{length-take-le}
 use Rattle.multihash.specs.Pair.{digest_limit}
 use Rattle.multihash.specs.Varint.{IsVarint}
+use Rattle.multihash.specs.Reading.{Consumes, HasFewerThan, ConsumesFewerThan}
+use Rattle.multihash.specs.Refusal.{of_io}
+use Rattle.multihash.specs.Fault.{Fault, IsUnexpectedEof, IsOwnFault}
 use Rattle.multihash.specs.Outcome.{Fields, pair_of}
 use Rattle.multihash.proofs.OutcomeLemmas.{passed_err}
 use Rattle.multihash.proofs.Writings.EncodingLemmas.{encoding_of_parts}
@@ -30,42 +33,73 @@ returns-in_err-size g c =
     (stops_at_size g.row.S _ _ code.ok.0 size.ok.0 code.ok.1 size.ok.1 _ _ _ _ _ (size.faults ∙ code.faults) c.in_err-size.ensures.over
     c.in_err-size.ensures.err (Consumes-concatenated _ _ _ code.ok.0 size.ok.0 _ refl code.ok.2 size.ok.2))
 
+-- the varint of n was consumed
+abbrev Took : ℕ → Option (List ℕ) → Option (List ℕ) → Type 0
+Took n old new = (bytes : List ℕ) × IsVarint n bytes × Consumes old bytes new
+
+module _ (S n size : ℕ) (old one two new : Option (List ℕ)) (before after : ℕ) (code : Took n old one) (len : Took size one two)
+    (fits : size ≤ digest_limit S) where
+  consumed : (digest : List ℕ) → Consumes two digest new → Consumes old (code.0 ++ (len.0 ++ digest)) new
+  consumed digest last =
+      Consumes-concatenated _ _ _ code.0 (len.0 ++ digest) _ refl code.2 (Consumes-concatenated _ _ _ len.0 digest _ refl len.2 last)
+
+  -- the digest was not read
+  stopped : (fault : Fault) → (IsUnexpectedEof fault → HasFewerThan size two) → ConsumesFewerThan size two new
+      → ((after ≡ before + 1) × IsOwnFault fault) ⊎ ((after ≡ before) × IsUnexpectedEof fault)
+      → ReadMeets S old new before after (Err (of_io fault))
+  stopped fault few t how =
+      stops_in_digest S _ _ code.0 len.0 code.1 len.1 _ _ _ _ fits fault t.consumed _ t.fewer t.consumes few how (consumed t.consumed t.consumes)
+
+  -- the digest was read into the buffer
+  filled : (buffer : List ℕ) → length buffer ≡ S → Consumes two (take size buffer) new → after ≡ before
+      → ReadMeets S old new before after (Ok (record { code = n; size = size; buffer = buffer; in_range = code.1.in_range; fits = fits }))
+  filled buffer full last same =
+      let made : Fields S = record { code = n; size = size; buffer = buffer; in_range = code.1.in_range; fits = fits } in
+      let digest = take size buffer in
+      let long : length digest ≡ size = length-take-le size buffer (omega (arith, fits, full)) in
+      read_answered S _ _ _ _ _ made same
+      (encoding_of_parts (pair_of made) _ _ digest code.0 len.0 refl (sym long) refl code.1 len.1) (consumed digest last)
+
 pub returns-in_err-read_digest : goal.returns-in_err-read_digest
 returns-in_err-read_digest g c =
-    let S = g.row.S in
     let code = c.in_ok-code.ensures in
     let size = c.in_ok-read.ensures in
     let digest = c.in_err-read_digest.ensures in
-    let t = digest.err in
-    let room = c.in_ok-size.ensures.ok in
-    passed_err (ReadMeets S _ _ _ _) c.from_residual-in_err-read_digest.result _ c.from_residual-in_err-read_digest.ensures.1
-    (stops_in_digest S _ _ code.ok.0 size.ok.0 code.ok.1 size.ok.1 _ _ _ _ c.in_ok-size.ensures.fits _ t.consumed _
-    (omega (arith, t.fewer, room)) t.consumes (rw room at digest.eof)
-    (rw (size.faults ∙ code.faults) at digest.faults)
-    (Consumes-concatenated _ _ _ code.ok.0 (size.ok.0 ++ t.consumed) _ refl code.ok.2 (Consumes-concatenated _ _ _ size.ok.0 t.consumed _ refl size.ok.2 t.consumes)))
+    let fitting = c.in_ok-size.ensures in
+    let len : Took c.in_ok-size.size _ _ = rw (← fitting.ok) at size.ok in
+    passed_err (ReadMeets g.row.S _ _ _ _) c.from_residual-in_err-read_digest.result _ c.from_residual-in_err-read_digest.ensures.1
+    (stopped g.row.S _ _ _ _ _ _ _ _ code.ok len (omega (arith, fitting.ok, fitting.fits)) _ digest.eof digest.err
+    (rw (size.faults ∙ code.faults) at digest.faults))
+
+pub returns-then-this-gt64 : goal.returns-then-this-gt64
+returns-then-this-gt64 g c =
+    let code = c.in_ok-code.ensures in
+    let size = c.in_ok-read.ensures in
+    let digest = c.in_ok-read_digest.ensures in
+    let fitting = c.in_ok-size.ensures in
+    let same : c.from.result ≡ c.in_ok-size.size = c.from.ensures in
+    let len : Took c.from.result _ _ = rw (← (same ∙ fitting.ok)) at size.ok in
+    filled g.row.S _ _ _ _ _ _ _ _ code.ok len (omega (arith, same, fitting.ok, fitting.fits)) _ digest.full (rw (← same) at digest.ok)
+    (digest.faults ∙ (size.faults ∙ code.faults))
+
+pub returns-in_err-read_digest-2 : goal.returns-in_err-read_digest-2
+returns-in_err-read_digest-2 g c =
+    let code = c.in_ok-code.ensures in
+    let size = c.in_ok-read.ensures in
+    let digest = c.in_err-read_digest-2.ensures in
+    let fitting = c.in_ok-size.ensures in
+    let len : Took c.in_ok-size.size _ _ = rw (← fitting.ok) at size.ok in
+    passed_err (ReadMeets g.row.S _ _ _ _) c.from_residual-in_err-read_digest-2.result _ c.from_residual-in_err-read_digest-2.ensures.1
+    (stopped g.row.S _ _ _ _ _ _ _ _ code.ok len (omega (arith, fitting.ok, fitting.fits)) _ digest.eof digest.err
+    (rw (size.faults ∙ code.faults) at digest.faults))
 
 pub returns : goal.returns
 returns g c =
-    let S = g.row.S in
     let code = c.in_ok-code.ensures in
     let size = c.in_ok-read.ensures in
-    let len = c.from.result in
-    let buffer = c.read_digest.new.buffer in
-    let same : len ≡ c.in_ok-size.size = c.from.ensures in
-    let digest = take len buffer in
-    let is_size : IsVarint len size.ok.0 = rw (same ∙ c.in_ok-size.ensures.ok) size.ok.1 in
-    let within : len ≤ digest_limit S = omega (arith, same, c.in_ok-size.ensures.ok, c.in_ok-size.ensures.fits) in
-    let full : length buffer ≡ S = c.in_ok-read_digest.ensures.full in
-    let long : length digest ≡ len = length-take-le len buffer (omega (arith, within, full)) in
-    let consumes = rw (← same) at c.in_ok-read_digest.ensures.ok in
-    let made : Fields S = record {
-      code = c.in_ok-code.code;
-      size = len;
-      buffer = buffer;
-      in_range = code.ok.1.in_range;
-      fits = within;
-    } in
-    read_answered S (code.ok.0 ++ (size.ok.0 ++ digest)) _ _ _ _ made
-    (c.in_ok-read_digest.ensures.faults ∙ (size.faults ∙ code.faults))
-    (encoding_of_parts (pair_of made) _ _ digest code.ok.0 size.ok.0 refl (sym long) refl code.ok.1 is_size)
-    (Consumes-concatenated _ _ _ code.ok.0 (size.ok.0 ++ digest) _ refl code.ok.2 (Consumes-concatenated _ _ _ size.ok.0 digest _ refl size.ok.2 consumes))
+    let digest = c.in_ok-read_digest-2.ensures in
+    let fitting = c.in_ok-size.ensures in
+    let same : c.from-2.result ≡ c.in_ok-size.size = c.from-2.ensures in
+    let len : Took c.from-2.result _ _ = rw (← (same ∙ fitting.ok)) at size.ok in
+    filled g.row.S _ _ _ _ _ _ _ _ code.ok len (omega (arith, same, fitting.ok, fitting.fits)) _ digest.full (rw (← same) at digest.ok)
+    (digest.faults ∙ (size.faults ∙ code.faults))
