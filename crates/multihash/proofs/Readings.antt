@@ -1,4 +1,3 @@
-pub mod InTurnLemmas
 pub mod ReadConsumingLemmas
 pub mod ReadingLemmas
 pub mod SettlingLemmas
