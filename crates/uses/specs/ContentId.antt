@@ -1,11 +1,12 @@
 -- Content identifiers of version 0 and of version 1.
-use Rattle.std.specs.Prelude.{◌≡◌, ◌<◌, ℕ, ⊤, ◌⊎◌, List, ◌++◌, length, Option}
+use Rattle.std.specs.Prelude.{◌≡◌, ◌<◌, ℕ, ⊤, ◌⊎◌, List, ◌++◌, length, Option, codes}
+use Rattle.std.specs.Fmt.{decimal}
 use Rattle.multihash.specs.Bytes.{IsStrictPrefix}
 use Rattle.multihash.specs.Varint.{IsVarint}
 use Rattle.multihash.specs.Pair.{Pair, FitsBuffer}
 use Rattle.multihash.specs.Encoding.{IsEncoding}
 use Rattle.multihash.specs.Reading.{Consumes, ConsumesFewerThan}
-use Rattle.multihash.specs.Refusal.{Refusal, IsEof, IsReaderError}
+use Rattle.multihash.specs.Refusal.{Refusal, refusal_text, IsEof, IsReaderError}
 use Rattle.multihash.specs.Consuming.{IsAnyVarintError, ReadMayFailWith, ConsumesVarint, ConsumesAtVarintError, ConsumesAtError}
 use Rattle.multihash.specs.Outcome.{pair_of}
 use Rattle.uses.specs.declared.content_id.ContentId.{ContentId}
@@ -47,6 +48,12 @@ IsContentId (version_1 codec p) bytes = IsVersion1 codec p bytes
 abbrev pub FitsContentId : ℕ → Content → Type 0
 FitsContentId S (version_0 digest) = ⊤
 FitsContentId S (version_1 codec p) = FitsBuffer S p
+
+-- the text of an error
+abbrev pub content_error_text : ContentIdError → List ℕ
+content_error_text (Refused refusal) = refusal_text refusal
+content_error_text (OtherVersion n) = codes "no content identifier of version " ++ decimal n
+content_error_text (Trailing n) = decimal n ++ codes " bytes after a content identifier"
 
 -- the error passes on an error that satisfies P
 abbrev pub IsRejected : (Refusal → Type 0) → ContentIdError → Type 0

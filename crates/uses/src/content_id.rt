@@ -3,7 +3,7 @@ ghost use Rattle.std.specs.Prelude.{◌≡◌, ◌↔◌, ℕ, List, ◌++◌, S
 ghost use Rattle.multihash.specs.Reading.{Consumes, CountsReaderFailures};
 ghost use Rattle.multihash.specs.Writing.{AppendsPrefix, CountsWriterFailures};
 ghost use Rattle.multihash.specs.Refusal.{Refusal, IsIo, IsOutOfMemory, IsReaderError, of_io};
-ghost use Rattle.uses.specs.ContentId.{Content, content_of, IsContentId, FitsContentId, IsRejected, ContentIdMayFailWith, BeginsOtherwise, StopsInContentId, ConsumesAtContentIdError, HasTrailingBytes};
+ghost use Rattle.uses.specs.ContentId.{Content, content_of, content_error_text, IsContentId, FitsContentId, IsRejected, ContentIdMayFailWith, BeginsOtherwise, StopsInContentId, ConsumesAtContentIdError, HasTrailingBytes};
 ghost use Rattle.uses.specs.declared.content_id.ContentIdError.TheVariants.{Refused, OtherVersion, Trailing};
 
 mod codec;
@@ -43,9 +43,11 @@ pub enum ContentIdError {
 }
 
 impl fmt::Display for ContentIdError {
+    ghost output = { λ e. Some (content_error_text e) };
+
     fn fmt<W: fmt::Write>(&self, f: &mut fmt::Formatter<W>) -> fmt::Result {
         match self {
-            ContentIdError::Refused(e) => write!(f, "{e}"),
+            ContentIdError::Refused(e) => fmt::Display::fmt(e, f),
             ContentIdError::OtherVersion(n) => write!(f, "no content identifier of version {n}"),
             ContentIdError::Trailing(n) => write!(f, "{n} bytes after a content identifier"),
         }

@@ -1,6 +1,7 @@
 //! Addresses of parts, as a multiaddr has them: each a code, a length and as many bytes.
-ghost use Rattle.std.specs.Prelude.{ℕ, List, IfOk, OnErr};
-ghost use Rattle.uses.specs.Part.{BeginsWithPart};
+ghost use Rattle.std.specs.Prelude.{◌≡◌, IfOk, IfErr};
+ghost use Rattle.uses.specs.Part.{BeginsWithPart, PartMayFailWith};
+ghost use Rattle.uses.specs.declared.parts.PartError.TheVariants.{Head};
 
 use multihash::{Error, varint};
 
@@ -14,13 +15,15 @@ pub struct Part<'a> {
 /// The error of splitting an address.
 #[derive(Debug, Drop)]
 pub enum PartError {
-    /// It does not begin with two varints.
+    /// The varint of the code, or after it that of the length, is malformed.
     Head(Error),
-    /// Fewer bytes follow than the length says.
+    /// Fewer bytes than the length follow.
     Cut,
 }
 
 impl From<Error> for PartError {
+    ghost from_gives = { λ refusal e. e ≡ Head refusal };
+
     fn from(e: Error) -> Self {
         PartError::Head(e)
     }
@@ -31,12 +34,11 @@ impl From<Error> for PartError {
 ///
 /// # Errors
 ///
-/// The address does not begin with a part.
+/// [`PartError::Head`] or [`PartError::Cut`] if the address begins with no part.
 pub fn first_part(address: &[u8]) -> Result<(Part<'_>, &[u8]), PartError>
     ensures part { IfOk result (λ found.
         BeginsWithPart found.0.code found.0.bytes.now found.1.now address.now) }
-    ensures none { OnErr result ((code : ℕ) (bytes rest : List ℕ) →
-        ¬ (BeginsWithPart code bytes rest address.now)) }
+    ensures err { IfErr result (PartMayFailWith address.now) }
 {
     let (code, code_len) = varint::read_front(address)?;
     let after_code = &address[code_len..];
