@@ -21,10 +21,11 @@ macro_rules! sum_of_values {
     }};
 }
 
-// The sum over calls, each on the next value of both vectors.
+// The sum over calls, each on the next value of both vectors, whose common length the loop tests once.
 macro_rules! sum_of_pairs {
     ($left:expr, $right:expr, $count:expr, |$a:ident, $b:ident| $term:expr) => {{
-        let (left, right) = ($left.as_slice(), $right.as_slice());
+        let length = $left.len().min($right.len());
+        let (left, right) = (&$left.as_slice()[..length], &$right.as_slice()[..length]);
         let mut sum = 0_u64;
         for _ in 0..$count / 8 {
             for ($a, $b) in left.iter().zip(right) {
