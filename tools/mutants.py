@@ -9,9 +9,9 @@
 docs/PLANTED.md says what a mutant is and what rejects it. A function is proved against contracts, never against another's body, so one
 check judges a batch with a mutant of each of several functions. A mutant whose result is unclear there is tried again without the others.
 
-A mutant changed if its checksum (prover/sums.py) differs from the one at COMMIT: by default the newest first parent that is more than a day
-older than the last commit, else the first commit. Rejections are cached on this machine by the same checksum. They are read for the mutants
-that changed or are named, but not for those that are drawn, nor with --all.
+A mutant changed if its checksum (prover/sums.py) differs from the one at COMMIT: by default the newest commit of the first-parent history
+that is more than a day older than the last, else the first. Rejections are cached on this machine by the same checksum. They are read for
+the mutants that changed or are named, but not for those that are drawn, nor with --all.
 
 It proves a copy of the crates first, or in the folder --proved. It needs about 2 GB a job. The last line is 'N passed, M failed'.
 """

@@ -4,7 +4,8 @@
 //! - `rust_matrix cases` prints the cases, one a line: the operation, the digest's size, the number of bytes
 //!   of the code, and the buffer's size.
 //! - `rust_matrix check` prints a sum for each operation; the lines of crates/speed/stdout are the same.
-//! - `rust_matrix OPERATION SIZE CODE_LEN BUFFER COUNT` makes `COUNT` calls of one case and prints their sum.
+//! - `rust_matrix OPERATION SIZE CODE_LEN BUFFER COUNT` makes `COUNT` calls of one case, a multiple
+//!   of 8, and prints their sum.
 //!
 //! To build it, write into an empty folder a Cargo.toml of
 //!

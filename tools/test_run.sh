@@ -82,7 +82,7 @@ try more_in_line 1 "$red" "" "stub tools/mutants.py 'echo \"3 passed, 0 failed (
 try more_lines 1 "$red" "" "stub tools/mutants.py '$sound; echo'"
 try not_executable 1 "$red" "" "chmod -x tools/mutants.py"
 try fails 1 "$red" "" "stub tools/mutants.py 'echo 3 passed, 1 failed'"
-try told_again 1 "== mutants.py failed:" "" "stub tools/mutants.py 'echo 3 passed, 1 failed'"
+try printed_again 1 "== mutants.py failed:" "" "stub tools/mutants.py 'echo 3 passed, 1 failed'"
 try has_status_1 1 "$red" "" "stub tools/mutants.py '$sound; exit 1'"
 try missing 1 "$red" "" "rm tools/mutants.py"
 for part in $parts; do

@@ -4,8 +4,8 @@
 //! - `speed cases` prints the cases, one a line: the operation, the digest's size, the code's length in
 //!   bytes, and the capacity.
 //! - `speed check` makes some calls of each case, and prints a sum for each operation.
-//! - `speed OPERATION SIZE CODE_LEN BUFFER COUNT` makes `COUNT` calls of one case, and prints their
-//!   sum, for a tool that counts instructions.
+//! - `speed OPERATION SIZE CODE_LEN BUFFER COUNT` makes `COUNT` calls of one case, a multiple of 8,
+//!   and prints their sum, for a tool that counts instructions.
 //!
 //! For a list, a call is one item of a thousand.
 #![tactic(auto)]

@@ -1,4 +1,4 @@
--- What a JSON value lists, and the errors for a value that lists nothing.
+-- What a JSON value lists, and the errors for a value that lists nothing and for its text.
 use Rattle.std.specs.Prelude.{◌≡◌, ℕ, List, None, Some}
 use Rattle.serde_json.specs.Data.{Data}
 use Rattle.serde_json.specs.Errors.{IsMemory}
@@ -23,7 +23,7 @@ pub record ListMayFailWith (S : ℕ) (value : Data) (e : Refusal) : Type 0 where
       (v : Verdict) × HasWholeVerdict S bytes v × IsErrorOf e v
   pub not_bytes : ((bytes : List ℕ) → ¬ (IsByteArray value bytes)) → IsNotBytes e
 
--- the error is the text's: that it is no JSON, unless out of memory, or that of its value
+-- the error is the text's: that no value is read from it, unless out of memory, or that of its value
 abbrev pub TextMayFailWith : ℕ → List ℕ → TextError → Type 0
 TextMayFailWith S text (Text x) = ¬ (IsMemory x) → read text ≡ None
 TextMayFailWith S text (Value x) = (value : Data) × (read text ≡ Some value) × ListMayFailWith S value x

@@ -1,4 +1,4 @@
--- The parts of an address, as a multiaddr has them.
+-- The parts of an address: each a code, a length and that many bytes.
 use Rattle.std.specs.Prelude.{◌≡◌, ◌<◌, ℕ, ◌⊎◌, List, ◌++◌, length}
 use Rattle.multihash.specs.Varint.{IsVarint}
 use Rattle.multihash.specs.Refusal.{Refusal}
@@ -6,7 +6,7 @@ use Rattle.multihash.specs.Consuming.{IsFrontError}
 use Rattle.uses.specs.declared.parts.PartError.{PartError}
 use Rattle.uses.specs.declared.parts.PartError.TheVariants.{Head, Cut}
 
--- the varint of a code and the varint of a length are at the front of the address, and this follows
+-- the varint of a code and the varint of a length are at the front of the address, and `following` is the rest
 pub record BeginsWithHead (code size : ℕ) (following address : List ℕ) : Type 0 where
   pub code_bytes : List ℕ
   pub len_bytes : List ℕ
@@ -18,7 +18,7 @@ pub record BeginsWithHead (code size : ℕ) (following address : List ℕ) : Typ
 abbrev pub BeginsWithPart : ℕ → List ℕ → List ℕ → List ℕ → Type 0
 BeginsWithPart code bytes rest address = BeginsWithHead code (length bytes) (bytes ++ rest) address
 
--- the address begins with a varint, after which the next is malformed, as the error says
+-- the address begins with a varint, and the one after it is malformed, as the error says
 pub record HasLengthError (address : List ℕ) (e : Refusal) : Type 0 where
   pub code : ℕ
   pub code_bytes : List ℕ

@@ -15,11 +15,11 @@ use std::alloc::Global;
 /// The error of printing or parsing JSON text.
 #[derive(Debug, Drop)]
 pub enum TextError {
-    /// The text is no JSON.
+    /// `serde_json` does not read the text, or is out of memory.
     Text(serde_json::Error),
     /// The value is no multihash.
     Value(multihash::Error),
-    /// Out of memory.
+    /// Out of memory in [`print`].
     Memory,
 }
 
@@ -46,7 +46,8 @@ pub fn print<const S: usize>(alloc: Global, m: &Multihash<S>) -> Result<String, 
 ///
 /// # Errors
 ///
-/// The text is no JSON, the value is no multihash, or out of memory.
+/// [`TextError::Text`] if `serde_json` does not read the text or is out of memory, [`TextError::Value`] if the
+/// value is no multihash.
 pub fn parse<const S: usize>(alloc: Global, text: &str) -> Result<Multihash<S>, TextError>
     ensures listed { IfOk result (λ m. (d : Data) × (read text.now ≡ Some d)
         × ((bytes : List ℕ) × IsByteArray d bytes × IsEncoding (pair_of m) bytes)) }

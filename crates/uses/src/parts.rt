@@ -1,4 +1,4 @@
-//! Addresses of parts, as a multiaddr has them: each a code, a length and as many bytes.
+//! Addresses of parts, each a code, a length and that many bytes, as the parts of variable size of a multiaddr.
 ghost use Rattle.std.specs.Prelude.{◌≡◌, IfOk, IfErr};
 ghost use Rattle.uses.specs.Part.{BeginsWithPart, PartMayFailWith};
 ghost use Rattle.uses.specs.declared.parts.PartError.TheVariants.{Head};
@@ -15,7 +15,7 @@ pub struct Part<'a> {
 /// The error of splitting an address.
 #[derive(Debug, Drop)]
 pub enum PartError {
-    /// The varint of the code, or after it that of the length, is malformed.
+    /// The varint of the code, or after it that of the length, is malformed or truncated.
     Head(Error),
     /// Fewer bytes than the length follow.
     Cut,
