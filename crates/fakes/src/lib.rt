@@ -2,7 +2,6 @@
 #![tactic(auto)]
 
 mod failing;
-mod pins;
 pub mod readers;
 pub mod refusal;
 pub mod writers;

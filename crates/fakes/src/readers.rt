@@ -1,5 +1,5 @@
 //! Readers that return few bytes, fail, have unknown input, or count their calls.
-ghost use Rattle.std.specs.Prelude.{◌≡◌, ◌<◌, IsTrue, IsFalse, Some, None, if◌then◌else◌};
+ghost use Rattle.std.specs.Prelude.{◌<◌, Some, None, if◌then◌else◌};
 
 use crate::failing::fault;
 use multihash::no_std_io::{Error, Read};
@@ -18,7 +18,6 @@ pub struct Cuts<'a> {
 impl<'a> Cuts<'a> {
     pub fn new(left: &'a [u8], most: usize) -> Self
         requires { 0 < most }
-        ensures { (result.left.now ≡ left.now) × (result.most ≡ most) }
     {
         Cuts { left, most }
     }
@@ -52,8 +51,6 @@ pub struct FailAt<'a> {
 impl<'a> FailAt<'a> {
     /// Fails with its own error.
     pub fn new(cuts: Cuts<'a>, calls: usize) -> Self
-        ensures { (result.cuts ≡ cuts.entry) × (result.asked ≡ 0) × (result.calls ≡ calls)
-            × IsFalse result.wants_memory × IsFalse result.failed }
     {
         FailAt {
             cuts,
@@ -66,8 +63,6 @@ impl<'a> FailAt<'a> {
 
     /// Fails when out of memory.
     pub fn out_of_memory(cuts: Cuts<'a>, calls: usize) -> Self
-        ensures { (result.cuts ≡ cuts.entry) × (result.asked ≡ 0) × (result.calls ≡ calls)
-            × IsTrue result.wants_memory × IsFalse result.failed }
     {
         let mut fails = FailAt::new(cuts, calls);
         fails.wants_memory = true;
@@ -124,9 +119,6 @@ pub struct Counts<'a> {
 
 impl<'a> Counts<'a> {
     pub fn new(left: &'a [u8]) -> Self
-        ensures unasked { (result.single ≡ 0) × (result.others ≡ 0) × (result.whole ≡ 0) }
-        ensures fault { (result.left.now ≡ left.now) × (result.calls ≡ 0) × IsFalse result.may_fail
-            × IsFalse result.wants_memory }
     {
         Counts {
             left,
@@ -141,9 +133,6 @@ impl<'a> Counts<'a> {
 
     /// Fails with its own error.
     pub fn failing(left: &'a [u8], calls: usize) -> Self
-        ensures unasked { (result.single ≡ 0) × (result.others ≡ 0) × (result.whole ≡ 0) }
-        ensures fault { (result.left.now ≡ left.now) × (result.calls ≡ calls) × IsTrue result.may_fail
-            × IsFalse result.wants_memory }
     {
         let mut counts = Counts::new(left);
         counts.calls = calls;
@@ -153,9 +142,6 @@ impl<'a> Counts<'a> {
 
     /// Fails when out of memory.
     pub fn out_of_memory(left: &'a [u8], calls: usize) -> Self
-        ensures unasked { (result.single ≡ 0) × (result.others ≡ 0) × (result.whole ≡ 0) }
-        ensures fault { (result.left.now ≡ left.now) × (result.calls ≡ calls) × IsTrue result.may_fail
-            × IsTrue result.wants_memory }
     {
         let mut counts = Counts::failing(left, calls);
         counts.wants_memory = true;
@@ -164,8 +150,6 @@ impl<'a> Counts<'a> {
 
     /// The calls of `read` for one byte, those for more or none, and those of `read_exact`.
     pub fn asked(&self) -> (usize, usize, usize)
-        ensures { (result.0 ≡ self.now.single) × (result.1 ≡ self.now.others)
-            × (result.2 ≡ self.now.whole) }
     {
         (self.single, self.others, self.whole)
     }

@@ -1,5 +1,5 @@
 //! Writers that fill up, fail, or count their calls.
-ghost use Rattle.std.specs.Prelude.{◌≡◌, ◌<◌, ◌≤◌, ◌+◌, [], IsTrue, IsFalse, IfOk, true, false, vec_len, vec_capacity, if◌then◌else◌};
+ghost use Rattle.std.specs.Prelude.{◌≡◌, ◌<◌, ◌≤◌, ◌+◌, true, false, vec_len, vec_capacity, if◌then◌else◌};
 ghost use Rattle.multihash.specs.Writing.{AppendsAtEnd, AppendsAtEnd-none, AppendsAtEnd-concatenated};
 
 use crate::failing::fault;
@@ -25,8 +25,6 @@ pub struct Drip {
 impl Drip {
     pub fn new(alloc: Global, room: usize, most: usize) -> Result<Self, AllocError>
         requires { 0 < most }
-        ensures { IfOk result (λ drip. (drip.held.items ≡ []) × (drip.asked ≡ 0) × (drip.room ≡ room)
-            × (drip.most ≡ most)) }
     {
         Ok(Drip {
             held: Vec::with_capacity(alloc, room)?,
@@ -76,8 +74,6 @@ pub struct FailWrite {
 impl FailWrite {
     /// Fails with its own error.
     pub fn new(drip: Drip, calls: usize) -> Self
-        ensures { (result.drip ≡ drip) × (result.asked ≡ 0) × (result.calls ≡ calls)
-            × IsFalse result.wants_memory × IsFalse result.failed }
     {
         FailWrite {
             drip,
@@ -90,8 +86,6 @@ impl FailWrite {
 
     /// Fails when out of memory.
     pub fn out_of_memory(drip: Drip, calls: usize) -> Self
-        ensures { (result.drip ≡ drip) × (result.asked ≡ 0) × (result.calls ≡ calls)
-            × IsTrue result.wants_memory × IsFalse result.failed }
     {
         let mut fails = FailWrite::new(drip, calls);
         fails.wants_memory = true;
@@ -144,9 +138,6 @@ pub struct CountsWrites {
 
 impl CountsWrites {
     pub fn new(alloc: Global) -> Self
-        ensures unasked { (result.parts ≡ 0) × (result.whole ≡ 0) }
-        ensures fault { (result.held.items ≡ []) × (result.calls ≡ 0) × IsFalse result.may_fail
-            × IsFalse result.wants_memory }
     {
         CountsWrites {
             held: Vec::new(alloc),
@@ -160,9 +151,6 @@ impl CountsWrites {
 
     /// Fails with its own error.
     pub fn failing(alloc: Global, calls: usize) -> Self
-        ensures unasked { (result.parts ≡ 0) × (result.whole ≡ 0) }
-        ensures fault { (result.held.items ≡ []) × (result.calls ≡ calls) × IsTrue result.may_fail
-            × IsFalse result.wants_memory }
     {
         let mut counts = CountsWrites::new(alloc);
         counts.calls = calls;
@@ -172,9 +160,6 @@ impl CountsWrites {
 
     /// Fails when out of memory.
     pub fn out_of_memory(alloc: Global, calls: usize) -> Self
-        ensures unasked { (result.parts ≡ 0) × (result.whole ≡ 0) }
-        ensures fault { (result.held.items ≡ []) × (result.calls ≡ calls) × IsTrue result.may_fail
-            × IsTrue result.wants_memory }
     {
         let mut counts = CountsWrites::failing(alloc, calls);
         counts.wants_memory = true;
