@@ -50,7 +50,7 @@ pub never_stops : (S count : ℕ) (e : Refusal) (n : ℕ) (new : Option (List �
 never_stops S count e n new pairs bytes more concatenated fit many stop =
     let (left, is, cut) = Consumes-told (bytes ++ more) stop.consumed.bytes stop.following stop.consumed.consumes in
     let next = next_concatenated S stop.pairs pairs stop.consumed.bytes bytes left more stop.consumed.concatenated concatenated fit (omega (arith, stop.fewer)) (sym cut) in
-    let found = (rw is at stop.verdict) refl in
+    let found = (rw is at stop.failed.verdict) refl in
     subst (IsErrorOf e) (verdict_unique S left found.0 (accepted next.0) found.1 next.1) found.2
 
 -- reading that many pairs of a stream returns them and leaves what follows, or it is out of memory

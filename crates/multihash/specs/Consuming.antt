@@ -1,13 +1,14 @@
 -- What the library's calls consumed from a reader.
-use Rattle.std.specs.Prelude.{◌<◌, ℕ, List, ◌⊎◌, Option, Some}
+use Rattle.std.specs.Prelude.{◌≡◌, ◌+◌, ◌<◌, ℕ, List, ◌⊎◌, Option, Some, IfSome}
 use Rattle.multihash.specs.Bytes.{IsPrefix, IsStrictPrefix}
 use Rattle.multihash.specs.Pair.{digest_limit}
 use Rattle.multihash.specs.Varint.{VarintError, insufficient, IsVarint, IsInsufficient, BeginsMalformed}
 use Rattle.multihash.specs.Verdict.{Verdict, malformed, unexpected_eof, HasVerdict, IsIncomplete}
 use Rattle.multihash.specs.Settling.{Settles, IsShortestSettling}
 use Rattle.std.specs.Io.KnownBytes.{IsAtEnd}
-use Rattle.multihash.specs.Reading.{Consumes}
+use Rattle.multihash.specs.Reading.{Consumes, ConsumesFewerThan, HasFewerThan}
 use Rattle.multihash.specs.Refusal.{Refusal, IsEof, IsReaderError, IsInvalidSize, IsVarintError}
+use Rattle.multihash.specs.Outcome.{IsErrorOf}
 
 -- an error that names why a varint is malformed
 abbrev pub IsAnyVarintError : Refusal → Type 0
@@ -77,3 +78,33 @@ pub record ConsumesNothingSettling (S : ℕ) (rest : List ℕ) (new : Option (Li
   pub consumed : List ℕ
   pub consumes : Consumes (Some rest) consumed new
   pub unsettled : (front : List ℕ) → IsPrefix front consumed → ¬ (Settles S front)
+
+-- the reader failed, which was counted, or the error is one of those listed
+abbrev pub FailsBy : ℕ → ℕ → (Refusal → Type 0) → Refusal → Type 0
+FailsBy before after IsListed e = ((after ≡ before + 1) × IsReaderError e) ⊎ ((after ≡ before) × IsListed e)
+
+-- `read` failed with this error, while the reader's failures went from `before` to `after`
+pub record ReadFails (S before after : ℕ) (e : Refusal) (old new : Option (List ℕ)) : Type 0 where
+  pub cause : FailsBy before after (ReadMayFailWith S) e
+  pub consumed : ConsumesAtError S e old new
+  -- the error is that of the verdict on the input
+  pub verdict : IfSome old (λ rest. after ≡ before → (v : Verdict) × HasVerdict S rest v × IsErrorOf e v)
+  -- if that is not incomplete, exactly the shortest prefix that settles it was consumed; otherwise no prefix
+  -- of what was consumed settles it
+  pub settled : IfSome old (λ rest. after ≡ before → (v : Verdict) → HasVerdict S rest v →
+      ¬ (IsIncomplete v) → ConsumesShortestSettling S rest new)
+  pub unsettled : IfSome old (λ rest.
+      (before < after) ⊎ ((v : Verdict) × HasVerdict S rest v × IsIncomplete v) →
+      ConsumesNothingSettling S rest new)
+
+-- so did `varint::read`
+pub record VarintFails (before after : ℕ) (e : Refusal) (old new : Option (List ℕ)) : Type 0 where
+  pub cause : FailsBy before after IsAnyVarintError e
+  pub consumed : ConsumesAtVarintError e old new
+  pub front : IfSome old (λ input. after ≡ before → IsFrontError input e)
+
+-- so did `read_exact` of `n` bytes
+pub record ExactFails (n before after : ℕ) (e : Refusal) (old new : Option (List ℕ)) : Type 0 where
+  pub cause : FailsBy before after IsEof e
+  pub consumed : ConsumesFewerThan n old new
+  pub short : after ≡ before → HasFewerThan n old

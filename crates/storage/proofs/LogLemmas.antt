@@ -10,7 +10,7 @@ use Rattle.multihash.specs.Outcome.{IsErrorOf}
 use Rattle.multihash.specs.Fault.{Fault, IsOwnFault, IsUnexpectedEof}
 use Rattle.multihash.specs.Reading.{Consumes, ConsumesFewerThan, HasFewerThan}
 use Rattle.multihash.specs.Refusal.{Refusal, IsOutOfMemory, IsReaderError, of_io}
-use Rattle.multihash.specs.Consuming.{ConsumesSome, ConsumesVarint, ConsumesAtVarintError, IsAnyVarintError, IsFrontError}
+use Rattle.multihash.specs.Consuming.{ConsumesSome, ConsumesVarint, ConsumesAtVarintError, IsAnyVarintError, IsFrontError, VarintFails, ExactFails}
 use Rattle.multihash.proofs.Writings.EncodingLemmas.{encoding_unique, same_cut}
 use Rattle.multihash.proofs.Varints.VarintLemmas.{same_number}
 use Rattle.multihash.proofs.Readings.ReadingLemmas.{Consumes-told}
@@ -18,7 +18,7 @@ use Rattle.multihash.proofs.OutcomeLemmas.{passed_err}
 use Rattle.multihash.proofs.CallingLemmas.{varint_read, read_of_encoding}
 use Rattle.sha2.proofs.Facts256.{length-sha256}
 use Rattle.storage.specs.Content.{content_pair}
-use Rattle.storage.specs.Log.{IsEntry, IsFailed, VarintFails, ExactFails, BlockFails, EntryFails, HasEntry, AreEntries, none, one_more}
+use Rattle.storage.specs.Log.{IsEntry, IsFailed, BlockFails, EntryFails, HasEntry, AreEntries, none, one_more}
 use Rattle.storage.specs.declared.log.EntryError.{EntryError}
 
 -- the parts of an entry and of what follows it

@@ -1,14 +1,11 @@
 -- The entries of a log.
-use Rattle.std.specs.Prelude.{◌≡◌, ◌+◌, ◌<◌, ◌≤◌, ℕ, ◌⊎◌, List, [], ◌++◌, length, Option, IfSome, codes}
+use Rattle.std.specs.Prelude.{◌≡◌, ◌<◌, ◌≤◌, ℕ, ◌⊎◌, List, [], ◌++◌, length, Option, codes}
 use Rattle.std.specs.Fmt.{decimal}
 use Rattle.multihash.specs.Pair.{Pair, FitsBuffer}
 use Rattle.multihash.specs.Varint.{IsVarint}
 use Rattle.multihash.specs.Encoding.{IsEncoding}
-use Rattle.multihash.specs.Verdict.{Verdict, HasVerdict, IsIncomplete}
-use Rattle.multihash.specs.Outcome.{IsErrorOf}
-use Rattle.multihash.specs.Reading.{ConsumesFewerThan, HasFewerThan}
-use Rattle.multihash.specs.Refusal.{Refusal, refusal_text, IsEof, IsOutOfMemory, IsReaderError}
-use Rattle.multihash.specs.Consuming.{IsAnyVarintError, IsFrontError, ReadMayFailWith, ConsumesSome, ConsumesVarint, ConsumesAtVarintError, ConsumesAtError, ConsumesShortestSettling, ConsumesNothingSettling, FailsInTurn}
+use Rattle.multihash.specs.Refusal.{Refusal, refusal_text, IsOutOfMemory}
+use Rattle.multihash.specs.Consuming.{ConsumesSome, ConsumesVarint, FailsInTurn, ReadFails, VarintFails, ExactFails}
 use Rattle.storage.specs.Content.{content_pair}
 use Rattle.storage.specs.declared.log.EntryError.{EntryError}
 use Rattle.storage.specs.declared.log.EntryError.TheVariants.{Failed, TooLong}
@@ -29,36 +26,6 @@ IsFailed P e = (refusal : Refusal) × (e ≡ Failed refusal) × P refusal
 abbrev pub error_text : EntryError → List ℕ
 error_text (Failed refusal) = refusal_text refusal
 error_text (TooLong n) = codes "a block of " ++ decimal n ++ codes " bytes is too long"
-
--- the reader failed, which was counted, or the error is one of those listed
-abbrev pub FailsBy : ℕ → ℕ → (Refusal → Type 0) → Refusal → Type 0
-FailsBy before after IsListed e = ((after ≡ before + 1) × IsReaderError e) ⊎ ((after ≡ before) × IsListed e)
-
--- `read` failed with this error, while the reader's failures went from `before` to `after`
-pub record ReadFails (S before after : ℕ) (e : Refusal) (old new : Option (List ℕ)) : Type 0 where
-  pub cause : FailsBy before after (ReadMayFailWith S) e
-  pub consumed : ConsumesAtError S e old new
-  -- the error is that of the verdict on the input
-  pub verdict : IfSome old (λ rest. after ≡ before → (v : Verdict) × HasVerdict S rest v × IsErrorOf e v)
-  -- if that is not incomplete, exactly the shortest prefix that settles it was consumed; otherwise no prefix
-  -- of what was consumed settles it
-  pub settled : IfSome old (λ rest. after ≡ before → (v : Verdict) → HasVerdict S rest v →
-      ¬ (IsIncomplete v) → ConsumesShortestSettling S rest new)
-  pub unsettled : IfSome old (λ rest.
-      (before < after) ⊎ ((v : Verdict) × HasVerdict S rest v × IsIncomplete v) →
-      ConsumesNothingSettling S rest new)
-
--- so did `varint::read`
-pub record VarintFails (before after : ℕ) (e : Refusal) (old new : Option (List ℕ)) : Type 0 where
-  pub cause : FailsBy before after IsAnyVarintError e
-  pub consumed : ConsumesAtVarintError e old new
-  pub front : IfSome old (λ input. after ≡ before → IsFrontError input e)
-
--- so did `read_exact` of `n` bytes
-pub record ExactFails (n before after : ℕ) (e : Refusal) (old new : Option (List ℕ)) : Type 0 where
-  pub cause : FailsBy before after IsEof e
-  pub consumed : ConsumesFewerThan n old new
-  pub short : after ≡ before → HasFewerThan n old
 
 -- a block of `n` bytes was not read: it is too long, or there is no memory for it, and nothing of it was
 -- consumed; or its bytes could not be read

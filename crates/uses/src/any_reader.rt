@@ -50,9 +50,6 @@ pub fn read_if_room<const S: usize, R: Read>(
         × (length found.items ≡ count)
         × ConsumesPairs S (map pair_of found.items) (R.rest r.old) (R.rest r.new)
         × (R.failures r.new ≡ R.failures r.old))) }
-    ensures faults { IfErr result (λ e.
-        ((R.failures r.new ≡ R.failures r.old + 1) × IsReaderError e)
-        ⊎ ((R.failures r.new ≡ R.failures r.old) × ReadMayFailWith S e)) }
     ensures err { IfErr result (λ e. ¬ (IsOutOfMemory e) × StopsAfterPairs S count e
         (R.failures r.old) (R.failures r.new) (R.rest r.old) (R.rest r.new)) }
 {

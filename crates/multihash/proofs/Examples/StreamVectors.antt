@@ -143,22 +143,25 @@ rejects_an_open_code = record {
   following = Some (0x80 ∷ []);
   fewer = omega arith;
   consumed = ConsumesPairs-none 4 (Some (0x80 ∷ []));
-  refused = record {
-    consumed = 0x80 ∷ [];
-    consumes = refl;
-    insufficient = λ e. (code_open, refl);
-    eof = λ end. absurd (cc (end.1));
-    failed = λ own. absurd (cc (own.1));
-  };
-  verdict = λ same. (malformed insufficient, code_open, refl);
-  settled = λ same v has late. absurd
-      (late (subst IsIncomplete
-      (verdict_unique 4 (0x80 ∷ []) (malformed insufficient) v code_open has) tt));
-  unsettled = λ why. record {
-    consumed = 0x80 ∷ [];
-    consumes = refl;
-    unsettled = λ front begins. none_settles 4 (0x80 ∷ [])
-        (malformed insufficient) code_open tt front begins;
+  failed = record {
+    cause = inr (refl, inr (inl (insufficient, refl)));
+    consumed = record {
+      consumed = 0x80 ∷ [];
+      consumes = refl;
+      insufficient = λ e. (code_open, refl);
+      eof = λ end. absurd (cc (end.1));
+      failed = λ own. absurd (cc (own.1));
+    };
+    verdict = λ same. (malformed insufficient, code_open, refl);
+    settled = λ same v has late. absurd
+        (late (subst IsIncomplete
+        (verdict_unique 4 (0x80 ∷ []) (malformed insufficient) v code_open has) tt));
+    unsettled = λ why. record {
+      consumed = 0x80 ∷ [];
+      consumes = refl;
+      unsettled = λ front begins. none_settles 4 (0x80 ∷ [])
+          (malformed insufficient) code_open tt front begins;
+    };
   };
 }
 
@@ -171,11 +174,11 @@ skips_no_pair : ¬ (StopsAfterPairs 4 1 (of_varint insufficient) 3 3 (Some (0 �
 skips_no_pair h =
     let at = none_before 4 h.pairs (Some (0 ∷ 0 ∷ [])) h.following h.fewer h.consumed in
     let consumes =
-    subst (λ (o : Option (List ℕ)). Consumes o h.refused.consumed (Some [])) at h.refused.consumes in
-    let consumed = taken_is (0 ∷ 0 ∷ []) [] h.refused.consumed consumes in
+    subst (λ (o : Option (List ℕ)). Consumes o h.failed.consumed.consumed (Some [])) at h.failed.consumed.consumes in
+    let consumed = taken_is (0 ∷ 0 ∷ []) [] h.failed.consumed.consumed consumes in
     let has =
     subst (λ (z : List ℕ). HasVerdict 4 z (malformed insufficient)) consumed
-    (h.refused.insufficient refl).0 in
+    (h.failed.consumed.insufficient refl).0 in
     let same : malformed insufficient ≡ accepted (pair 0 []) =
     verdict_unique 4 (0 ∷ 0 ∷ []) (malformed insufficient) (accepted (pair 0 [])) has empty_digest in
     cc
@@ -183,21 +186,21 @@ skips_no_pair h =
 -- all of an insufficient input was consumed
 rejects_with_all_taken : ¬
     (StopsAfterPairs 4 1 (of_varint insufficient) 3 3 (Some (0x80 ∷ [])) (Some (0x80 ∷ [])))
-rejects_with_all_taken h = omega (arith, ap (λ (z : List ℕ). length z) (h.refused.insufficient refl).1)
+rejects_with_all_taken h = omega (arith, ap (λ (z : List ℕ). length z) (h.failed.consumed.insufficient refl).1)
 
 -- what an error states of the input after the pairs
 module _ (count : ℕ) (e : Refusal) (before after : ℕ) (old new : Option (List ℕ)) (left : List ℕ) (h : StopsAfterPairs 4 count e before after old new)
     (at : h.following ≡ Some left) where
   verdict_after : after ≡ before → (v : Verdict) × HasVerdict 4 left v × IsErrorOf e v
-  verdict_after = subst (λ o. IfSome o (λ left. after ≡ before → (v : Verdict) × HasVerdict 4 left v × IsErrorOf e v)) at h.verdict
+  verdict_after = subst (λ o. IfSome o (λ left. after ≡ before → (v : Verdict) × HasVerdict 4 left v × IsErrorOf e v)) at h.failed.verdict
 
   settled_after : after ≡ before → (v : Verdict) → HasVerdict 4 left v → ¬ (IsIncomplete v)
       → ConsumesShortestSettling 4 left new
-  settled_after = subst (λ o. IfSome o (λ left. after ≡ before → (v : Verdict) → HasVerdict 4 left v → ¬ (IsIncomplete v) → ConsumesShortestSettling 4 left new)) at h.settled
+  settled_after = subst (λ o. IfSome o (λ left. after ≡ before → (v : Verdict) → HasVerdict 4 left v → ¬ (IsIncomplete v) → ConsumesShortestSettling 4 left new)) at h.failed.settled
 
   unsettled_after : before < after → ConsumesNothingSettling 4 left new
   unsettled_after rose =
-      subst (λ o. IfSome o (λ left. (before < after) ⊎ ((v : Verdict) × HasVerdict 4 left v × IsIncomplete v) → ConsumesNothingSettling 4 left new)) at h.unsettled (inl rose)
+      subst (λ o. IfSome o (λ left. (before < after) ⊎ ((v : Verdict) × HasVerdict 4 left v × IsIncomplete v) → ConsumesNothingSettling 4 left new)) at h.failed.unsettled (inl rose)
 
 size_5_rejected : HasVerdict 4 (0 ∷ 5 ∷ 9 ∷ []) (invalid_size 5)
 size_5_rejected = (9 ∷ [], size_5 (9 ∷ []), omega arith)

@@ -17,10 +17,13 @@ returns-in_err-read-clause-err g c =
       following = _;
       fewer = fewer;
       consumed = before.pairs;
-      refused = met.err;
-      verdict = rw same at met.verdict;
-      settled = rw same at met.settled;
-      unsettled = rw same at met.unsettled;
+      failed = record {
+        cause = rw same at met.faults;
+        consumed = met.err;
+        verdict = rw same at met.verdict;
+        settled = rw same at met.settled;
+        unsettled = rw same at met.unsettled;
+      };
     }))
 
 pub loop-preserved : goal.loop-preserved

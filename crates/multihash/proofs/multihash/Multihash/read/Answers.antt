@@ -1,8 +1,8 @@
 use Rattle.std.proofs.Common.{◌≡◌, ◌+◌, ◌≤◌, ◌++◌, ◌⊎◌, ℕ, List, Option, Err, Ok, length, take, refl, sym, ◌∙◌, arith}
 use Rattle.std.proofs.lemmas.List.{length-take-le}
 use Rattle.multihash.specs.Pair.{digest_limit}
-use Rattle.multihash.specs.Varint.{IsVarint}
 use Rattle.multihash.specs.Reading.{Consumes, HasFewerThan, ConsumesFewerThan}
+use Rattle.multihash.specs.Consuming.{ConsumesVarint}
 use Rattle.multihash.specs.Refusal.{of_io}
 use Rattle.multihash.specs.Fault.{Fault, IsUnexpectedEof, IsOwnFault}
 use Rattle.multihash.specs.Outcome.{Fields, pair_of}
@@ -33,11 +33,7 @@ returns-in_err-size g c =
     (stops_at_size g.row.S _ _ code.ok.0 size.ok.0 code.ok.1 size.ok.1 _ _ _ _ _ (size.faults ∙ code.faults) c.in_err-size.ensures.over
     c.in_err-size.ensures.err (Consumes-concatenated _ _ _ code.ok.0 size.ok.0 _ refl code.ok.2 size.ok.2))
 
--- the varint of n was consumed
-abbrev Took : ℕ → Option (List ℕ) → Option (List ℕ) → Type 0
-Took n old new = (bytes : List ℕ) × IsVarint n bytes × Consumes old bytes new
-
-module _ (S n size : ℕ) (old one two new : Option (List ℕ)) (before after : ℕ) (code : Took n old one) (len : Took size one two)
+module _ (S n size : ℕ) (old one two new : Option (List ℕ)) (before after : ℕ) (code : ConsumesVarint n old one) (len : ConsumesVarint size one two)
     (fits : size ≤ digest_limit S) where
   consumed : (digest : List ℕ) → Consumes two digest new → Consumes old (code.0 ++ (len.0 ++ digest)) new
   consumed digest last =
@@ -66,7 +62,7 @@ returns-in_err-read_digest g c =
     let size = c.in_ok-read.ensures in
     let digest = c.in_err-read_digest.ensures in
     let fitting = c.in_ok-size.ensures in
-    let len : Took c.in_ok-size.size _ _ = rw (← fitting.ok) at size.ok in
+    let len : ConsumesVarint c.in_ok-size.size _ _ = rw (← fitting.ok) at size.ok in
     passed_err (ReadMeets g.row.S _ _ _ _) c.from_residual-in_err-read_digest.result _ c.from_residual-in_err-read_digest.ensures.1
     (stopped g.row.S _ _ _ _ _ _ _ _ code.ok len (omega (arith, fitting.ok, fitting.fits)) _ digest.eof digest.err
     (rw (size.faults ∙ code.faults) at digest.faults))
@@ -78,7 +74,7 @@ returns-then-this-gt64 g c =
     let digest = c.in_ok-read_digest.ensures in
     let fitting = c.in_ok-size.ensures in
     let same : c.from.result ≡ c.in_ok-size.size = c.from.ensures in
-    let len : Took c.from.result _ _ = rw (← (same ∙ fitting.ok)) at size.ok in
+    let len : ConsumesVarint c.from.result _ _ = rw (← (same ∙ fitting.ok)) at size.ok in
     filled g.row.S _ _ _ _ _ _ _ _ code.ok len (omega (arith, same, fitting.ok, fitting.fits)) _ digest.full (rw (← same) at digest.ok)
     (digest.faults ∙ (size.faults ∙ code.faults))
 
@@ -88,7 +84,7 @@ returns-in_err-read_digest-2 g c =
     let size = c.in_ok-read.ensures in
     let digest = c.in_err-read_digest-2.ensures in
     let fitting = c.in_ok-size.ensures in
-    let len : Took c.in_ok-size.size _ _ = rw (← fitting.ok) at size.ok in
+    let len : ConsumesVarint c.in_ok-size.size _ _ = rw (← fitting.ok) at size.ok in
     passed_err (ReadMeets g.row.S _ _ _ _) c.from_residual-in_err-read_digest-2.result _ c.from_residual-in_err-read_digest-2.ensures.1
     (stopped g.row.S _ _ _ _ _ _ _ _ code.ok len (omega (arith, fitting.ok, fitting.fits)) _ digest.eof digest.err
     (rw (size.faults ∙ code.faults) at digest.faults))
@@ -100,6 +96,6 @@ returns g c =
     let digest = c.in_ok-read_digest-2.ensures in
     let fitting = c.in_ok-size.ensures in
     let same : c.from-2.result ≡ c.in_ok-size.size = c.from-2.ensures in
-    let len : Took c.from-2.result _ _ = rw (← (same ∙ fitting.ok)) at size.ok in
+    let len : ConsumesVarint c.from-2.result _ _ = rw (← (same ∙ fitting.ok)) at size.ok in
     filled g.row.S _ _ _ _ _ _ _ _ code.ok len (omega (arith, same, fitting.ok, fitting.fits)) _ digest.full (rw (← same) at digest.ok)
     (digest.faults ∙ (size.faults ∙ code.faults))
