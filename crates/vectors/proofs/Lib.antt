@@ -1,4 +1,2 @@
-pub mod CheckVectors
 pub mod OutcomeOfLemmas
-pub mod ListedVectors
 pub mod ScaleOutcomeLemmas
