@@ -1,26 +1,16 @@
 -- What the laws say of the result of a call.
-use Rattle.std.proofs.Common.{◌≡◌, ℕ, ◌-◌, List, ◌++◌, length, Option, None, Some, Result, Ok, Err, IfSome, IfOk, MatchResult, sym, ap, ◌∙◌, subst, arith, length-append}
+use Rattle.std.proofs.Common.{◌≡◌, ℕ, ◌-◌, List, ◌++◌, length, Option, None, Some, Result, Ok, Err, IfSome, IfOk, MatchResult, sym, ap, ◌∙◌, subst}
 use Rattle.serde_json.specs.Data.{Data}
-use Rattle.multihash.specs.Bytes.{ExactlyOne}
 use Rattle.multihash.specs.Pair.{Pair}
 use Rattle.multihash.specs.Verdict.{Verdict, accepted, HasWholeVerdict}
 use Rattle.multihash.specs.Encoding.{IsEncoding}
-use Rattle.multihash.specs.Settling.{IsShortestSettling}
 use Rattle.multihash.specs.Scale.{IsScale, HasScaleVerdict}
 use Rattle.multihash.specs.Json.{IsByteArray, IsJsonList}
-use Rattle.multihash.specs.Consuming.{ConsumesShortestSettling}
 use Rattle.multihash.specs.Reading.{Consumes}
 use Rattle.multihash.specs.Refusal.{Refusal}
 use Rattle.multihash.specs.Outcome.{Fields, pair_of, IsErrorOf, IsResultOf}
 use Rattle.uses.specs.Listed.{ListsOne}
 use Rattle.multihash.proofs.Writings.EncodingLemmas.{same_cut}
-
--- what was consumed is as long as the one shortest prefix that settles
-pub shortest_len : (S : ℕ) (input left : List ℕ) (one : ExactlyOne (IsShortestSettling S input)) → ConsumesShortestSettling S input (Some left)
-    → length input - length left ≡ length one.value
-shortest_len S input left one took =
-    let cut : input ≡ took.front ++ left = cc (took.consumes) in
-    omega (arith, ap length cut, length-append took.front left, ap length (one.only took.front took.shortest))
 
 -- the result for a verdict that is a pair
 pub answered : (S : ℕ) (p : Pair) (r : Result (Fields S) Refusal) (v : Verdict) → v ≡ accepted p → IsResultOf r v

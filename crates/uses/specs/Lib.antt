@@ -1,4 +1,3 @@
 pub mod ContentId
 pub mod Listed
-pub mod Part
 pub mod Recovery

@@ -1,9 +1,9 @@
 //! What an error means: what failed, what was consumed, and whether more input could help.
-ghost use Rattle.std.specs.Prelude.{◌≡◌, ◌<◌, ◌≤◌, ◌↔◌, ◌⊎◌, ℕ, List, ◌++◌, length, codes, string_bytes, Some, None, IsTrue, IfSome, IfNone, IfOk, IfErr, IsErrAnd, MatchOption};
+ghost use Rattle.std.specs.Prelude.{◌≡◌, ◌<◌, ◌≤◌, ◌↔◌, ℕ, List, ◌++◌, Some, None, IsTrue, IfSome, IfNone, IfOk, IfErr, IsErrAnd};
 ghost use Rattle.multihash.specs.Varint.{varint_limit};
-ghost use Rattle.multihash.specs.Pair.{Pair, FitsBuffer, digest_limit};
+ghost use Rattle.multihash.specs.Pair.{Pair, digest_limit};
 ghost use Rattle.multihash.specs.Encoding.{IsEncoding};
-ghost use Rattle.multihash.specs.Verdict.{Verdict, accepted, BeginsWithSize, HasVerdict, IsIncomplete, HasWholeVerdict};
+ghost use Rattle.multihash.specs.Verdict.{Verdict, accepted, BeginsWithSize, HasVerdict, IsIncomplete};
 ghost use Rattle.multihash.specs.Reading.{Consumes};
 ghost use Rattle.multihash.specs.Scale.{IsScale, IsScaleCode, HasScaleVerdict, ConsumesAtScaleError};
 ghost use Rattle.multihash.specs.Refusal.{IsInvalidSize, IsInvalidCode};
@@ -11,9 +11,8 @@ ghost use Rattle.multihash.specs.Settling.{Settles};
 ghost use Rattle.multihash.specs.Consuming.{ConsumesAtError, ConsumesShortestSettling};
 ghost use Rattle.multihash.specs.Outcome.{pair_of, IsResultOf};
 
-use multihash::no_std_io::{Read, Write};
+use multihash::no_std_io::Read;
 use multihash::{Error, Multihash, laws};
-use std::alloc::{AllocError, Global};
 
 /// What was read, and whether the reader itself failed: exactly if its failure count rose. If nothing was
 /// read and the reader did not fail, no multihash that fits comes next.
@@ -72,36 +71,6 @@ pub fn decode_slice<const S: usize>(stream: &[u8]) -> (Result<Multihash<S>, Erro
     (decoded, left)
 }
 
-/// The code that `wrap` rejects: none if it is in range, or if the digest does not fit, which is checked
-/// first.
-pub fn rejected_code<const S: usize>(code: u64, digest: &[u8]) -> Option<u64>
-    requires { S < 65536 }
-    ensures { MatchOption result
-        ((code < varint_limit) ⊎ (digest_limit S < length digest.now))
-        (λ refused. (refused ≡ code) × (varint_limit ≤ code)
-        × (length digest.now ≤ digest_limit S)) }
-{
-    match Multihash::<S>::wrap(code, digest) {
-        Ok(_) => None,
-        Err(e) => e.invalid_code(),
-    }
-}
-
-/// The result of `from_bytes`, and the code that it rejects: none, whatever the bytes are.
-pub fn code_rejected_by_reading<const S: usize>(
-    bytes: &[u8],
-) -> (Result<Multihash<S>, Error>, Option<u64>)
-    ensures verdict { (v : Verdict) × HasWholeVerdict S bytes.now v × IsResultOf result.0 v }
-    ensures none { result.1 ≡ None }
-{
-    let answer = Multihash::from_bytes(bytes);
-    let refused = match &answer {
-        Ok(_) => None,
-        Err(e) => e.invalid_code(),
-    };
-    (answer, refused)
-}
-
 /// Whether more input could change the result of `read`.
 pub fn wants_more<const S: usize>(input: &[u8]) -> bool
     requires { S < 65536 }
@@ -112,47 +81,5 @@ pub fn wants_more<const S: usize>(input: &[u8]) -> bool
     match Multihash::<S>::read(&mut left) {
         Ok(_) => false,
         Err(e) => e.is_insufficient() || e.io().is_some(),
-    }
-}
-
-/// Reads a multihash, and consumes exactly its encoding. If the reader fails within it, the end of the
-/// multihash was not consumed.
-pub fn read_part<const S: usize, R: Read>(r: &mut R) -> Result<Multihash<S>, Error>
-    ensures ok { IfOk result (λ m. (bytes : List ℕ) × IsEncoding (pair_of m) bytes
-        × Consumes (R.rest r.old) bytes (R.rest r.new)) }
-    ensures part { (p : Pair) (bytes more : List ℕ) → IsEncoding p bytes → FitsBuffer S p →
-        R.rest r.old ≡ Some (bytes ++ more) → R.failures r.old < R.failures r.new →
-        IfSome (R.rest r.new) (λ left. length more < length left) }
-{
-    Multihash::read(r)
-}
-
-/// What is printed for a slice that has too few bytes for a buffer of four.
-pub fn incomplete_text(alloc: Global, bytes: &[u8]) -> Result<Option<String>, AllocError>
-    ensures { IfOk result (λ told. MatchOption told (4 ≤ length bytes.now)
-        (λ text. (length bytes.now < 4)
-        × (string_bytes text ≡ codes "failed to fill whole buffer"))) }
-{
-    let mut left = bytes;
-    match left.read_exact(&mut [0; 4]) {
-        Ok(()) => Ok(None),
-        Err(e) => Ok(Some(e.to_string(alloc)?)),
-    }
-}
-
-/// What is printed for a slice that is too short for the bytes.
-pub fn full_text(
-    alloc: Global,
-    bytes: &[u8],
-    buffer: &mut [u8],
-) -> Result<Option<String>, AllocError>
-    ensures { IfOk result (λ told. MatchOption told (length bytes.now ≤ length buffer.old)
-        (λ text. (length buffer.old < length bytes.now)
-        × (string_bytes text ≡ codes "failed to write whole buffer"))) }
-{
-    let mut left = buffer;
-    match left.write_all(bytes) {
-        Ok(()) => Ok(None),
-        Err(e) => Ok(Some(format!(in alloc; "{e}")?)),
     }
 }

@@ -1,5 +1,5 @@
 //! Callers that read and write bytes.
-ghost use Rattle.std.specs.Prelude.{◌≡◌, ℕ, ◌+◌, ◌-◌, ◌≤◌, ◌↔◌, ◌⊎◌, List, [], ◌∷◌, ◌++◌, Some, length, slice_get, IsTrue, IfSome, IfOk, IfErr, OnOk, OnErr, MatchOption, MatchResult};
+ghost use Rattle.std.specs.Prelude.{◌≡◌, ℕ, ◌+◌, ◌-◌, ◌≤◌, ◌↔◌, List, [], ◌∷◌, ◌++◌, Some, length, slice_get, IsTrue, IfSome, IfOk, IfErr, OnOk, OnErr, MatchOption, MatchResult};
 ghost use Rattle.multihash.specs.Fault.{IsOutOfMemoryFault, IsOwnFault};
 ghost use Rattle.std.specs.Io.KnownBytes.{IsAtEnd};
 ghost use Rattle.multihash.specs.Reading.{Consumes, CountsReaderFailures, NoOtherError};
@@ -7,8 +7,7 @@ ghost use Rattle.multihash.specs.Writing.{CountsWriterFailures, AppendsPrefix, I
 ghost use Rattle.multihash.specs.Pair.{FitsBuffer};
 ghost use Rattle.multihash.specs.Encoding.{IsEncoding};
 ghost use Rattle.multihash.specs.Refusal.{IsOutOfMemory};
-ghost use Rattle.multihash.specs.Verdict.{Verdict, HasWholeVerdict};
-ghost use Rattle.multihash.specs.Outcome.{pair_of, IsErrorOf};
+ghost use Rattle.multihash.specs.Outcome.{pair_of};
 
 use multihash::no_std_io::{self, Read, Write};
 use multihash::{Error, Multihash};
@@ -107,20 +106,4 @@ pub fn bytes_back<const S: usize, const R: usize>(
 {
     let bytes = m.to_bytes(alloc)?;
     Multihash::from_bytes(&bytes)
-}
-
-/// The multihash that bytes encode, and its encoding: the same bytes. The error is that of the bytes'
-/// verdict, or out of memory.
-pub fn accepted_back<const S: usize>(
-    alloc: Global,
-    bytes: &[u8],
-) -> Result<(Multihash<S>, Vec<u8>), Error>
-    ensures ok { IfOk result (λ back.
-        IsEncoding (pair_of back.0) bytes.now × (back.1.items ≡ bytes.now)) }
-    ensures err { IfErr result (λ e.
-        IsOutOfMemory e ⊎ ((v : Verdict) × HasWholeVerdict S bytes.now v × IsErrorOf e v)) }
-{
-    let accepted = Multihash::from_bytes(bytes)?;
-    let back = accepted.to_bytes(alloc)?;
-    Ok((accepted, back))
 }

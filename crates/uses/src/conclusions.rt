@@ -1,21 +1,19 @@
 //! What the laws mean for callers: which bytes encode which values, and what determines a result.
-ghost use Rattle.std.specs.Prelude.{◌≡◌, ◌<◌, ◌↔◌, ℕ, List, length, map, IsTrue, IfSome, IfNone, IfOk, IfErr, IsErrAnd, MatchResult, ◌⊎◌};
+ghost use Rattle.std.specs.Prelude.{◌≡◌, ◌<◌, ◌↔◌, ℕ, List, length, map, IsTrue, IfOk, IfErr, IsErrAnd, MatchResult, ◌⊎◌};
 ghost use Rattle.serde_json.specs.Data.{Data};
 ghost use Rattle.serde_json.specs.View.{view};
 ghost use Rattle.multihash.specs.Bytes.{ExactlyOne};
 ghost use Rattle.multihash.specs.Pair.{Pair, IsPair, FitsBuffer};
 ghost use Rattle.multihash.specs.Encoding.{IsEncoding};
 ghost use Rattle.multihash.specs.Verdict.{Verdict, HasVerdict, HasWholeVerdict};
-ghost use Rattle.multihash.specs.Settling.{Settles, IsShortestSettling};
 ghost use Rattle.multihash.specs.Scale.{IsScale, HasScaleVerdict};
 ghost use Rattle.multihash.specs.Json.{IsByteArray, IsJsonList};
-ghost use Rattle.multihash.specs.Fault.{IsOther};
-ghost use Rattle.multihash.specs.Refusal.{IsOutOfMemory, IsIo, IsNotBytes, refusal_text};
+ghost use Rattle.multihash.specs.Refusal.{IsOutOfMemory, IsNotBytes};
 ghost use Rattle.multihash.specs.Outcome.{pair_of, IsResultOf};
 ghost use Rattle.uses.specs.Listed.{ListsOne, ListMayFailWith};
 
 use crate::merkle::write_node;
-use multihash::no_std_io::{self, Write};
+use multihash::no_std_io::Write;
 use multihash::{Error, Multihash, laws, list};
 use serde_json::Value;
 use std::alloc::Global;
@@ -35,28 +33,6 @@ pub fn encoding_len<const S: usize>(m: &Multihash<S>) -> usize
 {
     laws::prefix_free();
     m.encoded_len()
-}
-
-/// The length of the shortest prefix of a stream that settles the result of `read`; there is only one. None
-/// if more bytes could still change it.
-pub fn settling_len<const S: usize>(stream: &[u8]) -> Option<usize>
-    requires { S < 65536 }
-    ensures none { IfNone result (¬ (Settles S stream.now)) }
-    ensures some { IfSome result (λ n.
-        (front : ExactlyOne (IsShortestSettling S stream.now)) × (n ≡ length front.value)) }
-{
-    laws::settles();
-    let mut left = stream;
-    match Multihash::<S>::read(&mut left) {
-        Ok(_) => Some(stream.len() - left.len()),
-        Err(e) => {
-            if e.is_incomplete() {
-                None
-            } else {
-                Some(stream.len() - left.len())
-            }
-        }
-    }
 }
 
 /// Whether two lists have the same encoding: exactly if they have the same pairs, whatever their capacities.
@@ -227,12 +203,4 @@ pub fn put_together<const S: usize>(m: Multihash<S>) -> Multihash<S>
 {
     let (code, array, size) = m.into_inner();
     Multihash::wrap(code, &array[..usize::from(size)]).unwrap()
-}
-
-/// An error with the caller's own text, which it prints: it is none that the library makes.
-pub fn own_refusal(reason: &'static str) -> Error
-    ensures kind { IsIo IsOther result }
-    ensures text { refusal_text result ≡ reason.now }
-{
-    Error::from(no_std_io::Error::other(reason))
 }

@@ -1,8 +1,8 @@
 //! Content identifiers of versions 0 and 1 (<https://github.com/multiformats/cid>).
-ghost use Rattle.std.specs.Prelude.{◌≡◌, ◌↔◌, ℕ, List, ◌++◌, Some, Option, IsTrue, IfOk, IfErr, OnOk, OnErr, IsErrOf, MatchResult};
+ghost use Rattle.std.specs.Prelude.{◌≡◌, ◌↔◌, ℕ, List, ◌++◌, Some, Option, IfOk, IfErr, OnOk, OnErr, IsErrOf, MatchResult};
 ghost use Rattle.multihash.specs.Reading.{Consumes, CountsReaderFailures};
 ghost use Rattle.multihash.specs.Writing.{AppendsPrefix, CountsWriterFailures};
-ghost use Rattle.multihash.specs.Refusal.{Refusal, IsIo, IsOutOfMemory, IsReaderError, of_io};
+ghost use Rattle.multihash.specs.Refusal.{Refusal, IsIo, IsReaderError, of_io};
 ghost use Rattle.uses.specs.ContentId.{Content, content_of, content_error_text, IsContentId, FitsContentId, IsRejected, ContentIdMayFailWith, BeginsOtherwise, StopsInContentId, ConsumesAtContentIdError, HasTrailingBytes};
 ghost use Rattle.uses.specs.declared.content_id.ContentIdError.TheVariants.{Refused, OtherVersion, Trailing};
 
@@ -11,7 +11,6 @@ mod codec;
 pub use codec::Codec;
 use multihash::no_std_io::{self, Read, Write};
 use multihash::{Error, Multihash, laws, varint};
-use std::alloc::Global;
 use std::fmt;
 
 // The version number in an identifier.
@@ -182,26 +181,4 @@ pub fn one_identifier()
         a ++ r ≡ b ++ s → (c ≡ d) × (a ≡ b) × (r ≡ s) }
 {
     laws::prefix_free();
-}
-
-/// Whether two identifiers with trailing bytes have the same encoding: exactly if the identifiers are equal
-/// and the bytes are. It fails only when out of memory.
-pub fn written_alike<const A: usize, const B: usize>(
-    alloc: Global,
-    a: &ContentId<A>,
-    after_a: &[u8],
-    b: &ContentId<B>,
-    after_b: &[u8],
-) -> Result<bool, Error>
-    ensures { MatchResult result (λ alike. IsTrue alike ↔
-        ((content_of a.now ≡ content_of b.now) × (after_a.now ≡ after_b.now))) IsOutOfMemory }
-{
-    one_identifier();
-    let mut first = Vec::new(alloc);
-    a.write(&mut first)?;
-    first.write_all(after_a)?;
-    let mut second = Vec::new(alloc);
-    b.write(&mut second)?;
-    second.write_all(after_b)?;
-    Ok(first.as_slice() == second.as_slice())
 }

@@ -1,5 +1,5 @@
 //! Callers that write multihashes in one form and read them back, alone and many in a stream.
-ghost use Rattle.std.specs.Prelude.{◌≡◌, ◌≤◌, ◌-◌, ◌+◌, ℕ, List, ◌++◌, length, map, min, All, Some, IsTrue, ◌↔◌, IfSome, MatchResult};
+ghost use Rattle.std.specs.Prelude.{◌≡◌, ◌≤◌, ◌-◌, ◌+◌, ℕ, List, ◌++◌, length, map, All, Some, IsTrue, ◌↔◌, MatchResult};
 ghost use Rattle.multihash.specs.Pair.{Pair, FitsBuffer};
 ghost use Rattle.multihash.specs.Streams.{AreConcatenated};
 ghost use Rattle.multihash.specs.Scale.{IsScale};
@@ -30,14 +30,6 @@ pub fn fills_scale<const S: usize>(m: &Multihash<S>, buffer: &mut [u8]) -> (bool
     let mut left = buffer;
     let is_whole = m.scale_encode(&mut left).is_ok();
     (is_whole, left.len())
-}
-
-/// Writes the SCALE form to a buffer of the greatest length, and returns its length.
-pub fn fills_longest_scale<const S: usize>(m: &Multihash<S>, buffer: &mut [u8; 264]) -> usize
-    ensures { (bytes : List ℕ) × IsScale (pair_of m.now) bytes × (result ≡ length bytes) }
-{
-    let mut left = buffer.as_mut_slice();
-    m.scale_encode(&mut left).unwrap()
 }
 
 /// Whether the encodings of some multihashes were written to the front of `buffer`, and the number of bytes

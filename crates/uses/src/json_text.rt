@@ -61,18 +61,3 @@ pub fn parse<const S: usize>(alloc: Global, text: &str) -> Result<Multihash<S>, 
         Err(e) => Err(TextError::Text(e)),
     }
 }
-
-/// A multihash printed, and parsed with the same capacity or another: the same pair.
-///
-/// # Errors
-///
-/// Out of memory, or the digest does not fit.
-pub fn text_back<const S: usize, const R: usize>(
-    alloc: Global,
-    m: &Multihash<S>,
-) -> Result<Multihash<R>, TextError>
-    ensures { IfOk result (λ back. pair_of back ≡ pair_of m.now) }
-{
-    let text = print(alloc, m)?;
-    parse(alloc, text.as_str())
-}

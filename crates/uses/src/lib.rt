@@ -3,7 +3,6 @@
 
 pub mod any_reader;
 pub mod blame;
-pub mod block_store;
 pub mod bytes;
 pub mod code_table;
 pub mod conclusions;
@@ -13,7 +12,6 @@ pub mod forms;
 pub mod headline;
 pub mod json_text;
 pub mod merkle;
-pub mod parts;
 pub mod peer_id;
 pub mod readme;
 pub mod recovery;
