@@ -48,9 +48,17 @@ impl<const S: usize> Multihash<S> {
         let mut rest = bytes;
         let found = MultihashRef::read_limit(&mut rest, S)?;
         match rest.len() {
-            0 => Self::try_from(found),
+            0 => Ok(Self::of_encoding(found, bytes)),
             trailing => Err(Error::InvalidSize(trailing as u64)),
         }
+    }
+
+    // `bytes` is the encoding that `found` was decoded from: each multihash has exactly one.
+    fn of_encoding(found: MultihashRef, bytes: &[u8]) -> Self {
+        let mut encoding = ffi::Buffer::ZEROS;
+        encoding.as_mut_slice()[..bytes.len()].copy_from_slice(bytes);
+        let offset = (bytes.len() - found.digest().len()) as u8; // at most 11
+        Self { code: found.code(), offset, size: found.size(), encoding }
     }
 
     /// Decodes the multihash whose SCALE form is at the start of `bytes`, and advances `bytes` past it.
