@@ -1,8 +1,9 @@
 #!/usr/bin/env bash
-# Builds multihash.wasm from crates/multihash_c, and from it bytes.js and demo.html.
+# Builds multihash.wasm from crates/multihash_c, and from it bytes.js and demo.html. Needs wasm-opt (Binaryen).
 #
 #   bindings/js/build.sh            writes the three files
-#   bindings/js/build.sh --check    builds them elsewhere, and compares them byte for byte with those here
+#   bindings/js/build.sh --check    builds them elsewhere, and compares them byte for byte with those here, and
+#                                   the module's instructions with those that were linked. Needs wasm2wat (WABT)
 #
 #   PROVED=FOLDER   a copy of the repository whose crates are proved: the archive is built there, else here
 set -euo pipefail
@@ -18,7 +19,7 @@ clean() {
 }
 trap clean EXIT
 
-build_wasm() {
+link_wasm() {
   local kit
   kit=$(dirname "$(dirname "$(readlink -f "$(command -v rt)")")")
   if [ -f "$archive" ]; then mv "$archive" "$work/kept.a"; fi
@@ -27,6 +28,51 @@ build_wasm() {
   "$kit/bin/rattle-link" --target wasm64-unknown-unknown --toolchain "$kit/toolchain" \
     -o "$1" "$archive" > "$work/log" 2>&1 ||
     { cat "$work/log"; return 1; }
+}
+
+# The linked module has a 64-bit memory, which few engines have. Makes it one of 32 bits, by `i32.wrap_i64` before
+# each access: the memory is of 1.1 MB, so no bit is lost. Nothing is optimised.
+lower_wasm() {
+  wasm-opt --enable-memory64 --enable-bulk-memory --memory64-lowering "$1" -o "$2" > "$work/log" 2>&1 ||
+    { cat "$work/log"; return 1; }
+}
+
+# The instructions of a module, a line each, without names, types' numbers, `i32.wrap_i64`, and the width of the memory. Locals
+# that are no parameters have numbers by their first use. `unreachable` is left out after a loop that ends in a jump.
+instructions() {
+  cp "$1" "$work/stripped.wasm" && wasm-strip "$work/stripped.wasm" &&
+    wasm2wat --enable-memory64 "$work/stripped.wasm" | awk '
+    { gsub(/\(;[^;]*;\)/, ""); gsub(/[()]/, " ") }
+    $1 == "type" || $1 == "local" || $1 == "i32.wrap_i64" { next }
+    $1 == "unreachable" && last == "end" && closed == "loop" && before ~ /^br [0-9]+$/ { next }
+    $1 ~ /^(block|loop|if)$/ { open[++depth] = $1 }
+    $1 == "end" { closed = open[depth--] }
+    $1 == "memory" { sub(/ i64/, "") }
+    $1 == "data" { sub(/i64\.const/, "i32.const") }
+    $1 == "func" {
+      sub(/type [0-9]+/, "")
+      delete number
+      parameters = split($0, all, / i[36][24]/) - 1 - ($0 ~ / result /)
+      known = parameters
+    }
+    $1 ~ /^local\./ && $2 >= parameters {
+      if (!($2 in number)) number[$2] = known++
+      $2 = number[$2]
+    }
+    { $1 = $1; before = last; last = $0 } 1'
+}
+
+# The module differs from the linked one in `i32.wrap_i64` alone, of which it has one more for each operand that is an
+# address, or a length of a copy. As both are valid, these stand at such operands.
+differs_in_wraps() {
+  local operands linked lowered
+  wasm2wat --enable-memory64 "$1" > "$work/linked.wat" && wasm2wat "$2" > "$work/lowered.wat" || return 1
+  instructions "$1" > "$work/linked" && instructions "$2" > "$work/lowered" && diff "$work/linked" "$work/lowered" || return 1
+  operands=$(awk '/\.(load|store)/ { n++ } /memory\.copy/ { n += 3 } /memory\.fill/ { n += 2 } END { print n }' "$work/linked")
+  linked=$(grep -c i32.wrap_i64 "$work/linked.wat")
+  lowered=$(grep -c i32.wrap_i64 "$work/lowered.wat")
+  echo "$(wc -l < "$work/linked") instructions, and $lowered times i32.wrap_i64: $linked, and $operands for addresses and lengths"
+  [ "$operands" -gt 0 ] && [ $((linked + operands)) = "$lowered" ]
 }
 
 build_bytes() {
@@ -44,7 +90,8 @@ build_page() {
 }
 
 build_into() {
-  build_wasm "$1/multihash.wasm" && build_bytes "$1/multihash.wasm" > "$1/bytes.js" &&
+  link_wasm "$work/linked.wasm" && lower_wasm "$work/linked.wasm" "$1/multihash.wasm" &&
+    build_bytes "$1/multihash.wasm" > "$1/bytes.js" &&
     build_page "$1/multihash.wasm" > "$1/demo.html"
 }
 
@@ -53,6 +100,7 @@ case ${1-} in
   --check)
     mkdir "$work/new"
     build_into "$work/new"
+    differs_in_wraps "$work/linked.wasm" "$work/new/multihash.wasm"
     for name in multihash.wasm bytes.js demo.html; do cmp "$work/new/$name" "$here/$name"; done
     echo "multihash.wasm, bytes.js and demo.html are the same, byte for byte"
     ;;

@@ -15,8 +15,9 @@ const STATUSES = ['ok', 'insufficient', 'overflow', 'not_minimal', 'invalid_size
 // The longest prefix of an input that a result depends on, except for the number of trailing bytes.
 const PREFIX_MAX = HEAD_MAX + DIGEST_MAX;
 
-// Numbers as BigInts, as lengths, most codes and addresses are passed: to make one is slower than a call.
-const NUMBERS = Array.from({ length: PREFIX_MAX + 1 }, (_, number) => BigInt(number));
+// Numbers as BigInts, as lengths, most codes and addresses are passed: to make one is slower than a call. An input has no
+// other length, so that none reaches the module which its memory, of 32-bit addresses, could not have.
+let NUMBERS;
 
 // The module's functions; its memory as bytes and as words, which stay valid since no function grows it; and,
 // in the memory after what the module uses, the addresses of a result, two inputs and an output.
@@ -32,17 +33,23 @@ let texts;
 /** The version of the library, as `"1.0.0"`. */
 export let version;
 
-/** Connects the functions to the module's bytes, once. Throws if the engine has no 64-bit memory. */
+// A module that fills memory at once, as ours does.
+const PROBE = Uint8Array.of(
+  ...[0, 97, 115, 109, 1, 0, 0, 0, 1, 4, 1, 96, 0, 0, 3, 2, 1, 0, 5, 3, 1, 0, 1],
+  ...[10, 13, 1, 11, 0, 65, 0, 65, 0, 65, 0, 252, 11, 0, 11],
+);
+
+/** Connects the functions to the module's bytes, once. Throws if the engine lacks what it needs. */
 export function connect(bytes) {
-  const probe = Uint8Array.of(0, 97, 115, 109, 1, 0, 0, 0, 5, 3, 1, 4, 1);
-  if (typeof WebAssembly !== 'object' || !WebAssembly.validate(probe)) {
+  if (typeof WebAssembly !== 'object' || typeof BigInt !== 'function' || !WebAssembly.validate(PROBE)) {
     throw new Error(
-      'verified-multihash needs WebAssembly with 64-bit memory (memory64), which this engine lacks. ' +
-        'Node.js 24, Chrome 133, Edge 133 and Firefox 134 have it; Node.js 20 and 22 with --experimental-wasm-memory64.',
+      'verified-multihash needs WebAssembly with bulk memory operations, and BigInt, which this engine lacks or forbids. ' +
+        'Node.js 20.16, Chrome 89, Edge 89, Firefox 90 and Safari 15 have them.',
     );
   }
   // index.js and inline.js have the same module, so the first of them serves both
   if (library) return;
+  NUMBERS = Array.from({ length: PREFIX_MAX + 1 }, (_, number) => BigInt(number));
   library = new WebAssembly.Instance(new WebAssembly.Module(bytes)).exports;
   memory = new Uint8Array(library.memory.buffer);
   words = new Uint32Array(library.memory.buffer);

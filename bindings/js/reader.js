@@ -9,11 +9,9 @@ export class MultihashReader {
 
   /** `limit` is the most bytes of a digest; `rest` holds bytes that precede those of the source. */
   constructor(source, { limit = DIGEST_MAX, rest = new Uint8Array() } = {}) {
-    const iterate = source?.[Symbol.asyncIterator];
-    if (typeof iterate !== 'function') throw new TypeError('the source has to be a ReadableStream or an async iterable');
     this.#limit = limit;
     this.#rest = joined(new Uint8Array(), rest);
-    this.#source = iterate.call(source);
+    this.#source = iteratorOf(source);
   }
 
   /** A copy of the bytes that were received and belong to no multihash that was returned. */
@@ -52,6 +50,23 @@ export class MultihashReader {
       await this.#source.return?.();
     }
   }
+}
+
+/** The chunks of a source. A ReadableStream is no async iterable in Safari, and its iterator ends after an error. */
+function iteratorOf(source) {
+  if (typeof source?.getReader === 'function') {
+    const reader = source.getReader();
+    return {
+      next: () => reader.read(),
+      async return() {
+        await reader.cancel();
+        reader.releaseLock();
+      },
+    };
+  }
+  const iterate = source?.[Symbol.asyncIterator];
+  if (typeof iterate !== 'function') throw new TypeError('the source has to be a ReadableStream or an async iterable');
+  return iterate.call(source);
 }
 
 /** A copy of both. Throws a TypeError if the second is no Uint8Array, or its buffer is shared or detached. */

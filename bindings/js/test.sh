@@ -14,14 +14,13 @@ cd "$top" || exit 2
 # shellcheck source=tools/parts.sh
 . tools/parts.sh
 data=$work/data
-node=(node)
-node --experimental-wasm-memory64 -e 0 2> "$work/log" && node+=(--experimental-wasm-memory64)
 
-# Runs a command that needs a tool.
+# Runs a command that needs tools, whose names are one word.
 part() {
-  local name=$1 tool=$2
+  local name=$1 tools=$2
   shift 2
-  has "$name" "$tool" && try "$name" "$@"
+  # shellcheck disable=SC2086
+  has "$name" $tools && try "$name" "$@"
 }
 
 # The data of the tests: the vectors, the header, and 100,000 inputs with the results of the library for C.
@@ -35,7 +34,7 @@ make_data() {
 }
 
 in_node() {
-  "${node[@]}" "$here/test/node.js" "$@"
+  node "$here/test/node.js" "$@"
 }
 
 # The tests find exactly that many faults.
@@ -65,12 +64,25 @@ no_vectors() {
   head -n 1 "$data/vectors" | with_planted vectors
 }
 
-# Without 64-bit memory the import throws an error that lists versions.
+# In an engine without WebAssembly, without BigInt, or without bulk memory operations, the import throws an error that lists
+# versions. --jitless is Node.js without WebAssembly.
 old_engine() {
-  "${node[@]}" --input-type=module -e "
-    WebAssembly.validate = () => false;
-    await import('$here/$1.js').then(() => process.exit(1), (error) => console.log(error.message));" |
-    grep 'memory64.*Node.js 24, Chrome 133, Edge 133 and Firefox 134'
+  local lack option
+  for lack in 0 'delete globalThis.WebAssembly' 'delete globalThis.BigInt' 'WebAssembly.validate = () => false'; do
+    if [ "$lack" = 0 ]; then option=--jitless; else option=--no-warnings; fi
+    node "$option" --input-type=module -e "
+      $lack;
+      await import('$here/$1.js').then(() => process.exit(1), (error) => console.log(error.message));" |
+      grep 'WebAssembly.*BigInt.*Node.js 20.16, Chrome 89, Edge 89, Firefox 90 and Safari 15' || return 1
+  done
+}
+
+# The module has the instructions of WebAssembly's first version and bulk memory operations, and no others.
+old_module() {
+  local others=(--disable-mutable-globals --disable-saturating-float-to-int --disable-sign-extension --disable-simd
+    --disable-multi-value --disable-reference-types)
+  wasm-validate "${others[@]}" "$here/multihash.wasm" &&
+    rejects "invalid section code: 12" wasm-validate "${others[@]}" --disable-bulk-memory "$here/multihash.wasm"
 }
 
 package_agrees() {
@@ -101,7 +113,7 @@ packed_script() {
     return 1
   example_in js > "$at/script.mjs"
   example_in html > "$at/page.html"
-  (cd "$at" && "${node[@]}" script.mjs > out 2> err) || return 1
+  (cd "$at" && node script.mjs > out 2> err) || return 1
   diff "$at/out" "$top/crates/mh_show/stdout" && grep -x 'invalid_size 34' "$at/err"
 }
 
@@ -134,15 +146,16 @@ demo() {
     ! demo_shows 1200 'Not valid'
 }
 
-part "the WebAssembly built anew" rt "$here/build.sh" --check
+part "the WebAssembly built anew" "rt wasm-opt wasm2wat" "$here/build.sh" --check
+part "the WebAssembly for old engines" wasm-validate old_module
 part "inputs and what the library for C returns" cc make_data
 part "in Node.js" node in_node "$data"
 part "in Node.js, inline" node in_node "$data" inline
 part "a digit that differs" node finds 1 one_digit_differs
 part "a line that is missing" node finds 2 one_line_less
 part "no vectors" node finds 1 no_vectors
-part "no 64-bit memory" node old_engine index
-part "no 64-bit memory, inline" node old_engine inline
+part "old engines" node old_engine index
+part "old engines, inline" node old_engine inline
 part "the package" node package_agrees
 part "types" tsc types
 part "the packed package's script" npm packed_script

@@ -126,6 +126,9 @@ function multihashes(module) {
   ordered.forEach((left, i) => ordered.forEach((right, k) => same(module.compare(left, right), Math.sign(i - k), 'compare')));
 }
 
+/** Whether a clone of an error keeps its cause, which Safari drops. */
+const keepsCause = () => structuredClone(new Error('text', { cause: 3 })).cause === 3;
+
 function errors(module) {
   const texts = {
     80: 'not enough input bytes',
@@ -141,8 +144,8 @@ function errors(module) {
     const clone = structuredClone(error);
     const again = module.MultihashError.from(clone);
     const fields = ['name', 'message', 'status', 'size', 'code', 'taken', 'isIncomplete'];
-    for (const field of fields) same(again?.[field], error[field], `${field} of a clone`);
-    same(`${module.MultihashError.from(error) === error} ${again instanceof module.MultihashError}`, 'true true', 'from');
+    if (keepsCause()) for (const field of fields) same(again?.[field], error[field], `${field} of a clone`);
+    same(`${module.MultihashError.from(error) === error} ${again instanceof module.MultihashError}`, `true ${keepsCause()}`, 'from');
   }
   const others = [null, undefined, 3, {}, new Error('text'), new Error('text', { cause: { status: 'ok' } })];
   for (const value of others) same(module.MultihashError.from(value), undefined, 'from');

@@ -30,16 +30,30 @@ async function cutAt(module, stream, cut, wanted) {
   same(second.error, undefined, `end of both parts at ${cut}`);
 }
 
+/** A stream of a byte at a time, with what comes after them. */
+const byteStream = (stream, after, cancel) => new ReadableStream({
+  start(controller) {
+    for (const byte of stream) controller.enqueue(Uint8Array.of(byte));
+  },
+  pull: after,
+  cancel,
+});
+
 async function readableStream(module, stream, wanted) {
-  const source = new ReadableStream({
-    start(controller) {
-      for (const byte of stream) controller.enqueue(Uint8Array.of(byte));
-      controller.close();
-    },
-  });
+  const source = byteStream(stream, (controller) => controller.close());
   const found = [];
   for await (const multihash of new module.MultihashReader(source)) found.push(multihash);
-  same(listed(found), wanted, 'a byte at a time');
+  same(`${listed(found)} ${source.locked}`, `${wanted} false`, 'a byte at a time');
+  let isCancelled = false;
+  const left = byteStream(stream, undefined, () => (isCancelled = true));
+  for await (const multihash of new module.MultihashReader(left)) {
+    same(hex(multihash.bytes), hex(stream.subarray(0, 34)), 'the first of a stream');
+    break;
+  }
+  same(`${isCancelled} ${left.locked}`, 'true false', 'a stream that is left');
+  const broken = new module.MultihashReader(byteStream(stream, (controller) => controller.error(new Error('broken'))));
+  const errors = [await drained(broken), await drained(broken)].map(({ error }) => error?.message);
+  same(`${errors}`, 'broken,broken', 'a stream that fails');
 }
 
 async function badSources(module, stream) {
