@@ -174,7 +174,7 @@ export class Multihash {
   /** Makes the multihash of a code and a digest, which is copied. */
   static of(code, digest) {
     const bytes = encode(code, digest);
-    const exact = typeof code === 'bigint' && code <= Number.MAX_SAFE_INTEGER ? Number(code) : code;
+    const exact = typeof code === 'bigint' && code <= Number.MAX_SAFE_INTEGER ? Number(code) : code || 0; // not -0
     return new Multihash(MAKING, exact, bytes.slice(bytes.length - lengthOf.call(digest)), bytes);
   }
 
@@ -222,6 +222,13 @@ export function read(bytes, limit = DIGEST_MAX) {
   library.multihash_read_limit(resultAt, firstAt, NUMBERS[Math.min(length, PREFIX_MAX)], most);
   if (narrow(0) !== 0) throw failure(narrow(40));
   return { multihash: found(), taken: narrow(40) };
+}
+
+/** Whether the bytes are but the start of an encoding, so that `read` would throw an error that `isIncomplete`. */
+export function isStart(bytes, limit) {
+  const most = bits64(limit, 'a limit');
+  library.multihash_read_limit(resultAt, firstAt, NUMBERS[Math.min(put(bytes, first), PREFIX_MAX)], most);
+  return narrow(0) === 1 || narrow(0) === 6;
 }
 
 /** Decodes the two varints before a digest. */
@@ -282,6 +289,7 @@ export function encodedLength(code, digestLength) {
 export function compare(left, right) {
   if (!(left instanceof Multihash && right instanceof Multihash)) throw new TypeError('multihashes have to be a Multihash');
   const [leftCode, rightCode] = [bits64(left.code, 'a code'), bits64(right.code, 'a code')];
-  const [leftLength, rightLength] = [put(left.digest, first), put(right.digest, second)];
+  const [leftDigest, rightDigest] = [left.digest, right.digest]; // before `put`: a getter may call us again
+  const [leftLength, rightLength] = [put(leftDigest, first), put(rightDigest, second)];
   return library.multihash_compare(leftCode, firstAt, NUMBERS[leftLength], rightCode, secondAt, NUMBERS[rightLength]);
 }

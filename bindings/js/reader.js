@@ -1,4 +1,4 @@
-import { DIGEST_MAX, MultihashError, checkedLength, read } from './core.js';
+import { DIGEST_MAX, checkedLength, isStart, read } from './core.js';
 
 /** Reads concatenated encodings from a `ReadableStream` or an async iterable of `Uint8Array`. */
 export class MultihashReader {
@@ -27,19 +27,15 @@ export class MultihashReader {
   }
 
   async #next() {
-    for (;;) {
-      try {
-        const { multihash, taken } = read(this.#rest, this.#limit);
-        this.#rest = this.#rest.subarray(taken);
-        return multihash;
-      } catch (error) {
-        if (!(error instanceof MultihashError && error.isIncomplete)) throw error;
-        const { done, value } = await this.#source.next();
-        if (done && this.#rest.length === 0) return null;
-        if (done) throw error;
-        this.#rest = joined(this.#rest, value);
-      }
+    while (isStart(this.#rest, this.#limit)) {
+      const { done, value } = await this.#source.next();
+      if (done && this.#rest.length === 0) return null;
+      if (done) break;
+      this.#rest = joined(this.#rest, value);
     }
+    const { multihash, taken } = read(this.#rest, this.#limit);
+    this.#rest = this.#rest.subarray(taken);
+    return multihash;
   }
 
   /** Yields each multihash; where the loop is left, the source is closed. */

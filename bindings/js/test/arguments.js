@@ -116,6 +116,10 @@ function multihashes(module) {
   const unequal = [[21, other.digest], [22, other.digest.subarray(1)], [22, new Uint8Array(32)]].map((pair) => module.Multihash.of(...pair));
   for (const value of [...unequal, null, undefined, 22, 'text', {}, EXAMPLE]) same(multihash.equals(value), false, 'equals');
   fails(TypeError, () => new module.Multihash(22, EXAMPLE), 'constructor');
+  same(Object.is(module.Multihash.of(-0, EXAMPLE).code, 0), true, 'code -0');
+  const digest = { get: () => (module.decode(module.encode(1, new Uint8Array(40))), EXAMPLE.slice(2)) };
+  const busy = Object.create(module.Multihash.prototype, { code: { value: 22 }, digest });
+  same(`${module.compare(multihash, busy)} ${module.compare(busy, multihash)}`, '0 0', 'a getter that decodes');
   const tampered = module.decode(EXAMPLE);
   for (const digest of [3, [1], new Uint8Array(300)]) {
     tampered.digest = digest;

@@ -157,6 +157,15 @@ class Values(unittest.TestCase):
         self.assertRaises(AttributeError, setattr, multihash, "code", 2)
         self.assertRaises(AttributeError, delattr, multihash, "digest")
 
+    def test_subclasses(self):
+        class Named(Multihash):
+            pass
+
+        left, right = Named(18, b"abc"), Multihash(18, b"abc")
+        self.assertTrue(left == right and right == left and left <= right <= left and hash(left) == hash(right))
+        object.__setattr__(right, "digest", bytes(300))
+        self.assertRaises(MultihashError, bytes, right)
+
     def test_pickles(self):
         error = MultihashError(Status.INVALID_CODE, 0, 1 << 64, 8)
         error.more = "kept"

@@ -80,6 +80,11 @@ class Multihash:
     def __bytes__(self) -> bytes:
         return _encoded(C.encode, self.code, self.digest)
 
+    def __eq__(self, other: object) -> bool:
+        if not isinstance(other, Multihash):
+            return NotImplemented
+        return (self.code, self.digest) == (other.code, other.digest)
+
     def __lt__(self, other: Multihash) -> bool:
         return compare(self, other) < 0 if isinstance(other, Multihash) else NotImplemented
 
@@ -211,6 +216,8 @@ def _pair(code: int, digest: Buffer) -> Tuple[int, bytes]:
 def _encoded(function: Any, code: int, digest: bytes) -> bytes:
     out = _Out()
     made = function(code, digest, len(digest), out, LENGTH_MAX)
+    if made.status != Status.OK:  # of a value that was tampered with
+        raise MultihashError(made.status, made.size, code if made.status == Status.INVALID_CODE else 0)
     return out.raw[: made.length]
 
 
