@@ -50,8 +50,7 @@ pub struct FailAt<'a> {
 
 impl<'a> FailAt<'a> {
     /// Fails with its own error.
-    pub fn new(cuts: Cuts<'a>, calls: usize) -> Self
-    {
+    pub fn new(cuts: Cuts<'a>, calls: usize) -> Self {
         FailAt {
             cuts,
             asked: 0,
@@ -62,8 +61,7 @@ impl<'a> FailAt<'a> {
     }
 
     /// Fails when out of memory.
-    pub fn out_of_memory(cuts: Cuts<'a>, calls: usize) -> Self
-    {
+    pub fn out_of_memory(cuts: Cuts<'a>, calls: usize) -> Self {
         let mut fails = FailAt::new(cuts, calls);
         fails.wants_memory = true;
         fails
@@ -118,8 +116,7 @@ pub struct Counts<'a> {
 }
 
 impl<'a> Counts<'a> {
-    pub fn new(left: &'a [u8]) -> Self
-    {
+    pub fn new(left: &'a [u8]) -> Self {
         Counts {
             left,
             single: 0,
@@ -132,8 +129,7 @@ impl<'a> Counts<'a> {
     }
 
     /// Fails with its own error.
-    pub fn failing(left: &'a [u8], calls: usize) -> Self
-    {
+    pub fn failing(left: &'a [u8], calls: usize) -> Self {
         let mut counts = Counts::new(left);
         counts.calls = calls;
         counts.may_fail = true;
@@ -141,16 +137,14 @@ impl<'a> Counts<'a> {
     }
 
     /// Fails when out of memory.
-    pub fn out_of_memory(left: &'a [u8], calls: usize) -> Self
-    {
+    pub fn out_of_memory(left: &'a [u8], calls: usize) -> Self {
         let mut counts = Counts::failing(left, calls);
         counts.wants_memory = true;
         counts
     }
 
     /// The calls of `read` for one byte, those for more or none, and those of `read_exact`.
-    pub fn asked(&self) -> (usize, usize, usize)
-    {
+    pub fn asked(&self) -> (usize, usize, usize) {
         (self.single, self.others, self.whole)
     }
 }

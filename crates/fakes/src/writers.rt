@@ -73,8 +73,7 @@ pub struct FailWrite {
 
 impl FailWrite {
     /// Fails with its own error.
-    pub fn new(drip: Drip, calls: usize) -> Self
-    {
+    pub fn new(drip: Drip, calls: usize) -> Self {
         FailWrite {
             drip,
             asked: 0,
@@ -85,8 +84,7 @@ impl FailWrite {
     }
 
     /// Fails when out of memory.
-    pub fn out_of_memory(drip: Drip, calls: usize) -> Self
-    {
+    pub fn out_of_memory(drip: Drip, calls: usize) -> Self {
         let mut fails = FailWrite::new(drip, calls);
         fails.wants_memory = true;
         fails
@@ -137,8 +135,7 @@ pub struct CountsWrites {
 }
 
 impl CountsWrites {
-    pub fn new(alloc: Global) -> Self
-    {
+    pub fn new(alloc: Global) -> Self {
         CountsWrites {
             held: Vec::new(alloc),
             parts: 0,
@@ -150,8 +147,7 @@ impl CountsWrites {
     }
 
     /// Fails with its own error.
-    pub fn failing(alloc: Global, calls: usize) -> Self
-    {
+    pub fn failing(alloc: Global, calls: usize) -> Self {
         let mut counts = CountsWrites::new(alloc);
         counts.calls = calls;
         counts.may_fail = true;
@@ -159,8 +155,7 @@ impl CountsWrites {
     }
 
     /// Fails when out of memory.
-    pub fn out_of_memory(alloc: Global, calls: usize) -> Self
-    {
+    pub fn out_of_memory(alloc: Global, calls: usize) -> Self {
         let mut counts = CountsWrites::failing(alloc, calls);
         counts.wants_memory = true;
         counts
