@@ -1,15 +1,15 @@
 -- What callers conclude from the contracts of several calls.
 use Rattle.std.proofs.Common.{Vec, Global, length-append, ◌≡◌, ℕ, ◌<◌, ◌≤◌, ◌-◌, ◌⊎◌, IfOk, IfErr, OnOk, OnErr, IsOk, inl, inr, length-drop, List, [], ◌∷◌, ◌++◌, length, map, Bool, true, false, IsTrue, ◌↔◌, Option, None, Some, Result, Ok, Err, MatchResult, IfSome, refl, sym, ap, ◌∙◌, subst, arith, append_assoc, ◌+◌, append-nil}
 use Rattle.std.specs.List.{All}
-use Rattle.std.specs.Result.{is_ok}
+use Rattle.std.specs.Result.{is_ok, IsErrAnd}
 use Rattle.std.proofs.lemmas.List.{length-map, map_push, nil_from_length}
 use Rattle.std.proofs.lemmas.Bool.{false≢true}
-use Rattle.std.proofs.lemmas.List.Elements.{All-nil, All-head, All-tail}
-use Rattle.multihash.specs.Pair.{Pair, FitsBuffer}
+use Rattle.std.proofs.lemmas.List.Elements.{All-nil}
+use Rattle.multihash.specs.Pair.{Pair, FitsBuffer, digest_limit}
 use Rattle.multihash.specs.Encoding.{IsEncoding}
 use Rattle.multihash.specs.Streams.{AreConcatenated, ConsumesPairs, StopsAfterPairs}
 use Rattle.multihash.specs.Varint.{insufficient, IsContinuation, IsVarint}
-use Rattle.multihash.specs.Verdict.{Verdict, accepted, malformed, HasVerdict, HasWholeVerdict, IsIncomplete}
+use Rattle.multihash.specs.Verdict.{Verdict, accepted, invalid_size, malformed, BeginsWithSize, HasVerdict, HasWholeVerdict, IsIncomplete}
 use Rattle.multihash.specs.Settling.{Settles, IsShortestSettling}
 use Rattle.multihash.specs.Consuming.{ConsumesShortestSettling, ConsumesVarint, IsFrontError}
 use Rattle.multihash.proofs.Readings.SettlingLemmas.{early_not_settles}
@@ -19,29 +19,15 @@ use Rattle.multihash.specs.Scale.{IsScale, HasScaleVerdict}
 use Rattle.multihash.specs.Writing.{AdvancesPast, AppendsPrefix, CountsWriterFailures}
 use Rattle.multihash.specs.Filling.{Fills, IsFilled}
 use Rattle.multihash.specs.declared.no_std_io.slice_writer.SliceWriter.{SliceWriter}
-use Rattle.multihash.specs.Refusal.{Refusal, IsIo, IsOutOfMemory}
+use Rattle.multihash.specs.Refusal.{Refusal, IsIo, IsOutOfMemory, IsInvalidSize}
 use Rattle.multihash.specs.Outcome.{Fields, pair_of, IsErrorOf, IsResultOf}
 use Rattle.multihash.proofs.Writings.WritingLemmas.{fewer_places, full_of_faults, slice_writer_has_room, length_of_not_nil}
 use Rattle.multihash.proofs.Readings.ReadingLemmas.{Consumes-cut, Consumes-told}
 use Rattle.multihash.proofs.Readings.VerdictLemmas.{verdict_unique, whole_verdict_unique}
 use Rattle.multihash.proofs.Varints.VarintLemmas.{number_no_fault, same_number}
 use Rattle.multihash.proofs.Forms.ScaleLemmas.{scale_split, scale_verdict_unique}
-use Rattle.multihash.proofs.Forms.StreamLemmas.{none_left, first_of, same_first, concatenated_unique}
+use Rattle.multihash.proofs.Forms.StreamLemmas.{next_part, parts_unique}
 use Rattle.multihash.proofs.Writings.EncodingLemmas.{same_cut, encoding_same, encoding_unique}
-
--- what follows some encodings starts with the next, if those of more pairs are at the front of the input
-next_concatenated : (S : ℕ) (qs ps : List Pair) (b a rest more : List ℕ) → AreConcatenated qs b → AreConcatenated ps a → All (FitsBuffer S) ps
-    → length qs < length ps → b ++ rest ≡ a ++ more → (p : Pair) × HasVerdict S rest (accepted p)
-next_concatenated S qs [] b a rest more h k fit less e = absurd (omega arith)
-next_concatenated S [] (p ∷ ps) b a rest more h k fit less e =
-    let (x, y, encodes, _, cut) = first_of p ps a k in
-    let following : rest ≡ x ++ (y ++ more) = sym (ap (λ z. z ++ rest) (none_left b h)) ∙ (e ∙ ap (λ z. z ++ more) cut ∙ append_assoc x y more) in
-    (p, (y ++ more, record { encoding = x; encodes = encodes; cut = following }, All-head (FitsBuffer S) p ps fit))
-next_concatenated S (q ∷ qs) (p ∷ ps) b a rest more h k fit less e =
-    let x = first_of q qs b h in
-    let y = first_of p ps a k in
-    let first = same_first q p qs ps b a rest more x y e in
-    next_concatenated S qs ps x.1 y.1 rest more x.3 y.3 (All-tail (FitsBuffer S) p ps fit) (omega arith) first.1
 
 -- reading that many pairs of a stream did not stop at an error
 pub never_stops : (S count : ℕ) (e : Refusal) (n : ℕ) (new : Option (List ℕ)) (pairs : List Pair) (bytes more : List ℕ)
@@ -49,9 +35,11 @@ pub never_stops : (S count : ℕ) (e : Refusal) (n : ℕ) (new : Option (List �
     → StopsAfterPairs S count e n n (Some (bytes ++ more)) new → ⊥
 never_stops S count e n new pairs bytes more concatenated fit many stop =
     let (left, is, cut) = Consumes-told (bytes ++ more) stop.consumed.bytes stop.following stop.consumed.consumes in
-    let next = next_concatenated S stop.pairs pairs stop.consumed.bytes bytes left more stop.consumed.concatenated concatenated fit (omega (arith, stop.fewer)) (sym cut) in
+    let (p, x, rest, encodes, follows, each) = next_part IsEncoding encoding_unique stop.pairs pairs stop.consumed.bytes bytes left more stop.consumed.concatenated concatenated
+    (omega (arith, stop.fewer)) (sym cut) in
     let found = (rw is at stop.failed.verdict) refl in
-    subst (IsErrorOf e) (verdict_unique S left found.0 (accepted next.0) found.1 next.1) found.2
+    let next : HasVerdict S left (accepted p) = (rest, record { encoding = x; encodes = encodes; cut = follows }, each (FitsBuffer S) fit) in
+    subst (IsErrorOf e) (verdict_unique S left found.0 (accepted p) found.1 next) found.2
 
 -- reading that many pairs of a stream returns them and leaves what follows, or it is out of memory
 pub read_list_of_encodings : (S count before after : ℕ) (old new : Option (List ℕ)) (pairs : List Pair) (bytes more : List ℕ)
@@ -63,7 +51,7 @@ pub read_list_of_encodings : (S count before after : ℕ) (old new : Option (Lis
 read_list_of_encodings S count before after old new pairs bytes more (Ok list) concatenated fit many rest same ok err =
     let (left, is, cut) = Consumes-told (bytes ++ more) ok.1.bytes new (sym rest ∙ ok.1.consumes) in
     let long : length (map pair_of list.items) ≡ length pairs = omega (arith, length-map list.items pair_of, ok.0) in
-    let told = concatenated_unique (map pair_of list.items) pairs ok.1.bytes bytes left more long ok.1.concatenated concatenated (sym cut) in
+    let told = parts_unique IsEncoding encoding_unique (map pair_of list.items) pairs ok.1.bytes bytes left more long ok.1.concatenated concatenated (sym cut) in
     (told.0, is ∙ ap Some told.1)
 read_list_of_encodings S count before after old new pairs bytes more (Err e) concatenated fit many rest same ok (inl memory) = memory.0
 read_list_of_encodings S count before after old new pairs bytes more (Err e) concatenated fit many rest same ok (inr stop) =
@@ -151,6 +139,16 @@ pub from_bytes_of_encoding : (S : ℕ) (p : Pair) (bytes : List ℕ) (r : Result
     → IsEncoding p bytes → FitsBuffer S p → MatchResult r (λ m. pair_of m ≡ p) IsOutOfMemory
 from_bytes_of_encoding S p bytes (Ok m) v h answers encodes fits = (accepted_encoding S (v, h, answers)).1 p encodes
 from_bytes_of_encoding S p bytes (Err e) v h answers encodes fits = absurd (rejected_no_encoding S (v, h, answers) p encodes fits)
+
+-- a size that is too large is rejected: the last fact is the clause `verdict` of `read`
+pub rejected_size : (S size : ℕ) (input rest : List ℕ) (r : Result (Fields S) Refusal) → BeginsWithSize size input rest → digest_limit S < size
+    → (v : Verdict) × HasVerdict S input v × IsResultOf r v → IsErrAnd r (IsInvalidSize size)
+rejected_size S size input rest (Ok m) h over v =
+    let same : v.0 ≡ invalid_size size = verdict_unique S input v.0 (invalid_size size) v.1 (rest, h, over) in
+    absurd (let e : invalid_size size ≡ accepted (pair_of m) = sym same ∙ v.2 in cc)
+rejected_size S size input rest (Err e) h over v =
+    let same : v.0 ≡ invalid_size size = verdict_unique S input v.0 (invalid_size size) v.1 (rest, h, over) in
+    subst (λ w. IsResultOf {S = S} (Err e) w) same v.2
 
 -- reading consumed something if its verdict is not incomplete
 pub takes_some : (S : ℕ) (old new : List ℕ) → ConsumesShortestSettling S old (Some new) → length new < length old

@@ -1,14 +1,15 @@
 -- What the library's calls consumed from a reader.
-use Rattle.std.specs.Prelude.{◌≡◌, ◌+◌, ◌<◌, ℕ, List, ◌⊎◌, Option, Some, IfSome}
+use Rattle.std.specs.Prelude.{◌≡◌, ◌+◌, ◌<◌, ℕ, List, ◌⊎◌, Option, Some, None, Result, Ok, Err, IfSome, IfOk, IfErr}
 use Rattle.multihash.specs.Bytes.{IsPrefix, IsStrictPrefix}
-use Rattle.multihash.specs.Pair.{digest_limit}
+use Rattle.multihash.specs.Pair.{digest_limit, FitsBuffer}
 use Rattle.multihash.specs.Varint.{VarintError, insufficient, IsVarint, IsInsufficient, BeginsMalformed}
+use Rattle.multihash.specs.Encoding.{IsEncoding}
 use Rattle.multihash.specs.Verdict.{Verdict, malformed, unexpected_eof, HasVerdict, IsIncomplete}
 use Rattle.multihash.specs.Settling.{Settles, IsShortestSettling}
 use Rattle.std.specs.Io.KnownBytes.{IsAtEnd}
-use Rattle.multihash.specs.Reading.{Consumes, ConsumesFewerThan, HasFewerThan}
-use Rattle.multihash.specs.Refusal.{Refusal, IsEof, IsReaderError, IsInvalidSize, IsVarintError}
-use Rattle.multihash.specs.Outcome.{IsErrorOf}
+use Rattle.multihash.specs.Reading.{Consumes, CountsReaderFailures, ConsumesFewerThan, HasFewerThan}
+use Rattle.multihash.specs.Refusal.{Refusal, of_varint, IsEof, IsReaderError, IsInvalidSize, IsVarintError}
+use Rattle.multihash.specs.Outcome.{Fields, pair_of, IsResultOf}
 
 -- an error that names why a varint is malformed
 abbrev pub IsAnyVarintError : Refusal → Type 0
@@ -83,19 +84,35 @@ pub record ConsumesNothingSettling (S : ℕ) (rest : List ℕ) (new : Option (Li
 abbrev pub FailsBy : ℕ → ℕ → (Refusal → Type 0) → Refusal → Type 0
 FailsBy before after IsListed e = ((after ≡ before + 1) × IsReaderError e) ⊎ ((after ≡ before) × IsListed e)
 
--- `read` failed with this error, while the reader's failures went from `before` to `after`
-pub record ReadFails (S before after : ℕ) (e : Refusal) (old new : Option (List ℕ)) : Type 0 where
-  pub cause : FailsBy before after (ReadMayFailWith S) e
-  pub consumed : ConsumesAtError S e old new
-  -- the error is that of the verdict on the input
-  pub verdict : IfSome old (λ rest. after ≡ before → (v : Verdict) × HasVerdict S rest v × IsErrorOf e v)
-  -- if that is not incomplete, exactly the shortest prefix that settles it was consumed; otherwise no prefix
-  -- of what was consumed settles it
-  pub settled : IfSome old (λ rest. after ≡ before → (v : Verdict) → HasVerdict S rest v →
-      ¬ (IsIncomplete v) → ConsumesShortestSettling S rest new)
-  pub unsettled : IfSome old (λ rest.
-      (before < after) ⊎ ((v : Verdict) × HasVerdict S rest v × IsIncomplete v) →
-      ConsumesNothingSettling S rest new)
+-- an incomplete input, or a reader that failed
+abbrev pub EndsOrFails : ℕ → List ℕ → ℕ → ℕ → Type 0
+EndsOrFails S rest before after = (before < after) ⊎ ((v : Verdict) × HasVerdict S rest v × IsIncomplete v)
+
+-- the clauses of `read` for a result, while the reader's failures went from `before` to `after`: if the
+-- verdict is not incomplete, exactly the shortest prefix that settles it was consumed; otherwise, and if the
+-- reader failed, no prefix of what was consumed settles one
+abbrev pub ReadMeets : (S : ℕ) → Option (List ℕ) → Option (List ℕ) → ℕ → ℕ → Result (Fields S) Refusal
+    → Type 0
+ReadMeets S old new before after r = record {
+  faults : CountsReaderFailures IsReaderError (ReadMayFailWith S) before after r;
+  verdict : IfSome old (λ rest. after ≡ before → (v : Verdict) × HasVerdict S rest v × IsResultOf r v);
+  ok : IfOk r (λ m. (bytes : List ℕ) × IsEncoding (pair_of m) bytes × Consumes old bytes new);
+  fits : IfOk r (λ m. FitsBuffer S (pair_of m));
+  err : IfErr r (λ e. ConsumesAtError S e old new);
+  settled : IfSome old (λ rest. after ≡ before → (v : Verdict) → HasVerdict S rest v → ¬ (IsIncomplete v) →
+      ConsumesShortestSettling S rest new);
+  unsettled : IfSome old (λ rest. EndsOrFails S rest before after → ConsumesNothingSettling S rest new);
+}
+
+-- the result of `read` where `read_next` has this one: at the end of the input, an insufficient error
+abbrev pub none_is_insufficient : {A : Type 0} → Result (Option A) Refusal → Result A Refusal
+none_is_insufficient (Ok None) = Err (of_varint insufficient)
+none_is_insufficient (Ok (Some x)) = Ok x
+none_is_insufficient (Err e) = Err e
+
+-- `read` failed with this error
+abbrev pub ReadFails : ℕ → ℕ → ℕ → Refusal → Option (List ℕ) → Option (List ℕ) → Type 0
+ReadFails S before after e old new = ReadMeets S old new before after (Err e)
 
 -- so did `varint::read`
 pub record VarintFails (before after : ℕ) (e : Refusal) (old new : Option (List ℕ)) : Type 0 where

@@ -1,5 +1,5 @@
 -- What a call consumed from a reader, and how it failed.
-use Rattle.std.specs.Prelude.{◌≡◌, ◌+◌, ◌<◌, ◌≤◌, ℕ, List, ◌⊎◌, length, take, drop, Option, Result, MatchResult, IfSome, IfOk, IfErr, OnOk, OnErr, IsOk}
+use Rattle.std.specs.Prelude.{◌≡◌, ◌+◌, ◌<◌, ◌≤◌, ℕ, List, [], ◌⊎◌, length, take, drop, Option, Result, MatchResult, IfSome, IfNone, IfOk, IfErr, OnOk, OnErr, IsOk, IsOkAnd, IsNone}
 use Rattle.std.specs.Io.KnownBytes.{prepend_known, IsAtEnd}
 use Rattle.multihash.specs.Fault.{Fault, IsUnexpectedEof, IsOwnFault}
 
@@ -49,4 +49,13 @@ ReadExactLaws rest failures old new buffer filled outcome = record {
   empty : length buffer ≡ 0 → IsOk outcome;
   eof : IfErr outcome (λ e. IsUnexpectedEof e → HasFewerThan (length buffer) (rest old));
   err : OnErr outcome (ConsumesFewerThan (length buffer) (rest old) (rest new));
+}
+
+-- `None` means that the input has ended and nothing was consumed; at the end of a known input it is returned
+-- unless the reader failed
+abbrev pub EndsInNone : {A E : Type 0} → Option (List ℕ) → Option (List ℕ) → ℕ → ℕ → Result (Option A) E
+    → Type 0
+EndsInNone old new before after outcome = record {
+  none : IfOk outcome (λ next. IfNone next (IsAtEnd old × (new ≡ old)));
+  always : IfSome old (λ rest. after ≡ before → rest ≡ [] → IsOkAnd outcome IsNone);
 }

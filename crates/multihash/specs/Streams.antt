@@ -1,17 +1,20 @@
 -- Many pairs in one stream, and what reading and writing them consumed and appended.
-use Rattle.std.specs.Prelude.{◌≡◌, ℕ, List, ◌<◌, length, Option, All}
-use Rattle.std.specs.List.{concat, AllZip}
+use Rattle.std.specs.Prelude.{◌≡◌, ℕ, List, [], ◌∷◌, ◌++◌, ◌<◌, length, Option, All}
 use Rattle.multihash.specs.Pair.{Pair, FitsBuffer}
 use Rattle.multihash.specs.Encoding.{IsEncoding}
 use Rattle.multihash.specs.Reading.{Consumes}
 use Rattle.multihash.specs.Refusal.{Refusal}
 use Rattle.multihash.specs.Consuming.{ReadFails}
 
+-- the bytes are parts of the items, one after another
+abbrev pub AreParts : {A : Type 0} → (A → List ℕ → Type 0) → List A → List ℕ → Type 0
+AreParts IsPart [] bytes = bytes ≡ []
+AreParts IsPart (item ∷ items) bytes =
+    (part : List ℕ) × (rest : List ℕ) × IsPart item part × AreParts IsPart items rest × (bytes ≡ part ++ rest)
+
 -- the bytes are the encodings of the pairs, one after another
-pub record AreConcatenated (pairs : List Pair) (bytes : List ℕ) : Type 0 where
-  pub encodings : List (List ℕ)
-  pub each : AllZip IsEncoding pairs encodings
-  pub concatenated : bytes ≡ concat encodings
+abbrev pub AreConcatenated : List Pair → List ℕ → Type 0
+AreConcatenated = AreParts IsEncoding
 
 -- the call consumed the encodings of these pairs, all of which fit, one after another
 pub record ConsumesPairs (S : ℕ) (pairs : List Pair) (old new : Option (List ℕ)) : Type 0 where

@@ -1,14 +1,15 @@
 //! The binary form: the varint of the code, the varint of the digest's length, and the digest.
 ghost use Rattle.std.specs.Prelude.{◌≡◌, ◌<◌, ◌≤◌, ◌+◌, ◌-◌, ◌⊎◌, ℕ, List, length, Some, IfSome, IfOk, IfErr, OnOk, OnErr, take};
-ghost use Rattle.multihash.specs.Varint.{max_continuation};
+ghost use Rattle.std.specs.Io.KnownBytes.{prepend_known};
+ghost use Rattle.multihash.specs.Varint.{varint_limit, max_continuation, IsVarint};
 ghost use Rattle.multihash.specs.Pair.{digest_limit, FitsBuffer};
 ghost use Rattle.multihash.specs.Encoding.{IsEncoding};
 ghost use Rattle.multihash.specs.Verdict.{Verdict, HasVerdict, IsIncomplete, HasWholeVerdict};
 ghost use Rattle.multihash.specs.Refusal.{IsInvalidSize, IsOutOfMemory, IsIo, IsReaderError};
-ghost use Rattle.multihash.specs.Reading.{Consumes, CountsReaderFailures, HasFewerThan, ConsumesFewerThan};
+ghost use Rattle.multihash.specs.Reading.{Consumes, EndsInNone, CountsReaderFailures, HasFewerThan, ConsumesFewerThan};
 ghost use Rattle.multihash.specs.Fault.{IsUnexpectedEof, IsOwnFault};
 ghost use Rattle.multihash.specs.Writing.{AppendsPrefix, CountsWriterFailures, WriteAllLaws};
-ghost use Rattle.multihash.specs.Consuming.{ReadMayFailWith, ConsumesAtError, ConsumesShortestSettling, ConsumesNothingSettling};
+ghost use Rattle.multihash.specs.Consuming.{ReadMayFailWith, ConsumesAtError, ConsumesShortestSettling, ConsumesNothingSettling, none_is_insufficient, ReadMeets};
 ghost use Rattle.multihash.specs.Outcome.{pair_of, IsResultOf};
 
 use crate::multihash::whole;
@@ -57,6 +58,31 @@ impl<const S: usize> Multihash<S> {
             ConsumesNothingSettling S rest (R.rest r.new)) }
     {
         let code = varint::read(r)?;
+        Self::read_after(r, code)
+    }
+
+    /// As [`Multihash::read`], but returns `None` instead of an error if the input ended before the
+    /// encoding. If the input is not known, it does so if the reader has no byte to give.
+    #[inline(always)]
+    pub fn read_next<R: Read>(r: &mut R) -> Result<Option<Self>, Error>
+        ensures read { ReadMeets S (R.rest r.old) (R.rest r.new) (R.failures r.old) (R.failures r.new)
+            (none_is_insufficient result) }
+        ensures end { EndsInNone (R.rest r.old) (R.rest r.new) (R.failures r.old) (R.failures r.new) result }
+    {
+        match varint::read_next(r)? {
+            Some(code) => Ok(Some(Self::read_after(r, code)?)),
+            None => Ok(None),
+        }
+    }
+
+    // As `read`, of an encoding whose code was read.
+    #[inline(always)]
+    fn read_after<R: Read>(r: &mut R, code: u64) -> Result<Self, Error>
+        requires { code < varint_limit }
+        ensures { (bytes : List ℕ) → IsVarint code bytes →
+            ReadMeets S (prepend_known bytes (R.rest r.old)) (R.rest r.new)
+            (R.failures r.old) (R.failures r.new) result }
+    {
         let size = Self::fitting_size(varint::read(r)?)?;
         let mut digest = [0; S];
 

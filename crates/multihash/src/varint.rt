@@ -4,14 +4,14 @@
 //! (<https://github.com/multiformats/unsigned-varint>). Multiformats encodes its numbers so: the code
 //! and the length of a multihash, the version and the codec of a content identifier, the parts of a
 //! multiaddr.
-ghost use Rattle.std.specs.Prelude.{◌≡◌, ◌<◌, ◌≤◌, ◌+◌, ◌^◌, ◌⊎◌, ℕ, List, [], ◌∷◌, length, take, Some, IfSome, MatchOption, IfOk, IfErr, OnErr};
+ghost use Rattle.std.specs.Prelude.{◌≡◌, ◌<◌, ◌≤◌, ◌+◌, ◌^◌, ◌⊎◌, ℕ, List, [], ◌∷◌, ◌++◌, length, take, drop, Some, IfSome, MatchOption, IfOk, IfErr, IsOkAnd, OnErr};
 ghost use Rattle.multihash.specs.Varint.{IsVarint, IsContinuation, varint_limit, max_continuation};
 ghost use Rattle.std.specs.Io.KnownBytes.{IsAtEnd, prepend_known};
-ghost use Rattle.multihash.specs.Reading.{Consumes, CountsReaderFailures, NoOtherError};
+ghost use Rattle.multihash.specs.Reading.{Consumes, EndsInNone, CountsReaderFailures, NoOtherError};
 ghost use Rattle.multihash.specs.Writing.{AppendsPrefix, CountsWriterFailures, IsFault, IsWriterFaultOrFull};
 ghost use Rattle.multihash.specs.Fault.{IsOwnFault};
 ghost use Rattle.multihash.specs.Refusal.{IsIo, IsInvalidCode, IsReaderError};
-ghost use Rattle.multihash.specs.Consuming.{IsAnyVarintError, IsFrontError, ConsumesVarint, ConsumesAtVarintError};
+ghost use Rattle.multihash.specs.Consuming.{IsAnyVarintError, IsFrontError, ConsumesVarint, ConsumesAtVarintError, none_is_insufficient};
 
 pub(crate) mod word;
 
@@ -56,6 +56,7 @@ fn encode(n: u64, buffer: &mut [u8; ROOM]) -> &[u8]
 /// [`Error::invalid_code`] with the number if it is 2^63 or more.
 pub fn len(n: u64) -> Result<usize, Error>
     ensures ok { IfOk result (λ len. (bytes : List ℕ) × IsVarint n bytes × (len ≡ length bytes)) }
+    ensures short { IfOk result (λ len. len ≤ max_continuation + 1) }
     ensures err { IfErr result (λ e. IsInvalidCode n e × (varint_limit ≤ n)) }
 {
     if n > MAX {
@@ -98,6 +99,10 @@ pub fn read_front(bytes: &[u8]) -> Result<(u64, usize), Error>
     ensures ok { IfOk result (λ found. IsVarint found.0 (take found.1 bytes.now)
         × (found.1 ≤ length bytes.now)) }
     ensures err { IfErr result (IsFrontError bytes.now) }
+
+    // If a varint is at the front, it is found.
+    ensures found { (n : ℕ) (varint rest : List ℕ) → IsVarint n varint → bytes.now ≡ varint ++ rest →
+        IsOkAnd result (λ found. (found.0 ≡ n) × (drop found.1 bytes.now ≡ rest)) }
 {
     match word::read_front(bytes) {
         Some(found) => Ok(found),
@@ -203,13 +208,32 @@ pub fn read<R: Read>(r: &mut R) -> Result<u64, Error>
     ensures front { IfSome (R.rest r.old) (λ input. R.failures r.new ≡ R.failures r.old →
         IfErr result (IsFrontError input)) }
 {
+    match read_next(r)? {
+        Some(n) => Ok(n),
+        None => Err(Error::insufficient()),
+    }
+}
+
+/// As [`read`], but returns `None` instead of an error if the input ended before the varint. If the
+/// input is not known, it does so if the reader has no byte to give.
+#[inline(always)]
+pub fn read_next<R: Read>(r: &mut R) -> Result<Option<u64>, Error>
+    ensures faults { CountsReaderFailures IsReaderError IsAnyVarintError
+        (R.failures r.old) (R.failures r.new) result }
+    ensures ok { IfOk (none_is_insufficient result) (λ n. ConsumesVarint n (R.rest r.old) (R.rest r.new)) }
+    ensures err { IfErr (none_is_insufficient result) (λ e.
+        ConsumesAtVarintError e (R.rest r.old) (R.rest r.new)) }
+    ensures front { IfSome (R.rest r.old) (λ input. R.failures r.new ≡ R.failures r.old →
+        IfErr (none_is_insufficient result) (IsFrontError input)) }
+    ensures end { EndsInNone (R.rest r.old) (R.rest r.new) (R.failures r.old) (R.failures r.new) result }
+{
     let Some(first) = read_byte(r)? else {
-        return Err(Error::insufficient());
+        return Ok(None);
     };
     if first < 128 {
-        return Ok(u64::from(first));
+        return Ok(Some(u64::from(first)));
     }
-    read_after(r, first)
+    Ok(Some(read_after(r, first)?))
 }
 
 // As `read`, of a varint whose first byte was read and is a continuation byte.

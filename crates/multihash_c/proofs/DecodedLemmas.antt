@@ -1,5 +1,5 @@
 -- Where the digest is in the input, what decoding the SCALE form consumed, and what an error reports.
-use Rattle.std.proofs.Common.{◌≡◌, ℕ, ◌+◌, ◌-◌, ◌<◌, List, [], ◌∷◌, ◌++◌, length, take, drop, ap, sym, ◌∙◌, subst, arith, refl, Option, Some, append_assoc, length-append, length-drop}
+use Rattle.std.proofs.Common.{◌≡◌, ℕ, ◌+◌, ◌<◌, List, [], ◌∷◌, ◌++◌, length, take, drop, ap, sym, ◌∙◌, subst, arith, refl, Option, Some, append_assoc, length-append, length-drop}
 use Rattle.std.proofs.lemmas.List.{length-take-le}
 use Rattle.std.proofs.lemmas.List.Elements.{All-head, All-drop}
 use Rattle.std.proofs.Math.Seq.{drop-append_seam, take-append_seam}
@@ -13,18 +13,6 @@ use Rattle.multihash.specs.Refusal.{Refusal, IsInvalidSize, IsInvalidCode, IsVar
 use Rattle.multihash.specs.Outcome.{IsErrorOf}
 use Rattle.multihash_c.specs.declared.decode.Decoded.{Decoded}
 use Rattle.multihash_c.specs.Decoded.{ReportsPair, ReportsRefusal, Reports, ConsumesForm}
-
--- what is left after the front
-pub has_trailing : (input front left : List ℕ) → input ≡ front ++ left → left ≡ drop (length input - length left) input
-has_trailing input front left cut =
-    let long : length input - length left ≡ length front = omega (arith, ap length cut, length-append front left) in
-    rw (long, cut) (sym (drop-append_seam front left))
-
--- what was consumed is the front
-pub taken_front : (input front left : List ℕ) → input ≡ front ++ left → take (length input - length left) input ≡ front
-taken_front input front left cut =
-    let long : length input - length left ≡ length front = omega (arith, ap length cut, length-append front left) in
-    rw (long, cut) (take-append_seam front left)
 
 -- the digest follows a front of that many bytes
 after_front : (input front digest rest : List ℕ) (offset n : ℕ) → input ≡ front ++ (digest ++ rest) → offset ≡ length front

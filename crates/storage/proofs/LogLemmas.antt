@@ -1,7 +1,8 @@
 -- An entry that comes next, and how reading one fails.
-use Rattle.std.proofs.Common.{◌≡◌, ◌+◌, ◌≤◌, ℕ, ◌⊎◌, List, [], ◌++◌, Option, Some, Result, Ok, Err, MatchResult, IfSome, IfErr, length, take, drop, inl, inr, refl, ap, ◌∙◌, append_assoc, append-nil, length-append, sym, subst, arith}
+use Rattle.std.proofs.Common.{◌≡◌, ◌+◌, ◌≤◌, ℕ, ◌⊎◌, List, ◌++◌, Option, Some, Result, Ok, Err, MatchResult, IfSome, IfErr, length, take, drop, inl, inr, refl, ap, ◌∙◌, append_assoc, length-append, sym, subst, arith}
 use Rattle.std.proofs.lemmas.List.{append_cancel_right}
 use Rattle.std.proofs.Math.Seq.{take-append_seam}
+use Rattle.std.proofs.lemmas.Bool.{cases_lt}
 use Rattle.std.specs.Result.{IsErrAnd}
 use Rattle.multihash.specs.Pair.{Pair, FitsBuffer}
 use Rattle.multihash.specs.Encoding.{IsEncoding}
@@ -14,11 +15,11 @@ use Rattle.multihash.specs.Consuming.{ConsumesSome, ConsumesVarint, ConsumesAtVa
 use Rattle.multihash.proofs.Writings.EncodingLemmas.{encoding_unique, same_cut}
 use Rattle.multihash.proofs.Varints.VarintLemmas.{same_number}
 use Rattle.multihash.proofs.Readings.ReadingLemmas.{Consumes-told}
-use Rattle.multihash.proofs.OutcomeLemmas.{passed_err}
 use Rattle.multihash.proofs.CallingLemmas.{varint_read, read_of_encoding}
 use Rattle.sha2.proofs.Facts256.{length-sha256}
 use Rattle.storage.specs.Content.{content_pair}
-use Rattle.storage.specs.Log.{IsEntry, IsFailed, BlockFails, EntryFails, HasEntry, AreEntries, none, one_more}
+use Rattle.multihash.proofs.Forms.StreamLemmas.{parts_split, next_part}
+use Rattle.storage.specs.Log.{IsEntry, IsFailed, BlockFails, EntryFails, HasEntry, AreEntries}
 use Rattle.storage.specs.declared.log.EntryError.{EntryError}
 
 -- the parts of an entry and of what follows it
@@ -28,12 +29,7 @@ entry_cut p block bytes more h =
     ap (λ (z : List ℕ). z ++ more) h.parts
     ∙ (append_assoc h.encoding (h.len ++ block) more ∙ ap (λ (z : List ℕ). h.encoding ++ z) (append_assoc h.len block more))
 
--- an error that is passed on fails as it did
-pub fails_with : {T : Type 0} (S limit before after : ℕ) (old new : Option (List ℕ)) (e : EntryError) (r : Result T EntryError)
-    → IsErrAnd r (λ x. x ≡ e) → EntryFails S limit before after e old new → IfErr r (λ x. EntryFails S limit before after x old new)
-fails_with S limit before after old new e r given fails = passed_err (λ x. IfErr x (λ y. EntryFails S limit before after y old new)) r e given fails
-
--- so does an error of a kind
+-- an error of a kind that is passed on fails as they all do
 pub fails_by : {T : Type 0} {P : EntryError → Type 0} (S limit before after : ℕ) (old new : Option (List ℕ)) (r : Result T EntryError) → IsErrAnd r P
     → ((e : EntryError) → P e → EntryFails S limit before after e old new) → IfErr r (λ x. EntryFails S limit before after x old new)
 fails_by S limit before after old new (Ok t) given all = absurd given
@@ -120,12 +116,6 @@ module _ (p : Pair) (block bytes more : List ℕ) (h : IsEntry p block bytes) wh
 pub content_fits : (content : List ℕ) → FitsBuffer 32 (content_pair content)
 content_fits content = omega (arith, length-sha256 content)
 
--- one more entry follows
-pub entries_more : (front block entry : List ℕ) → AreEntries front → IsEntry (content_pair block) block entry → AreEntries (front ++ entry)
-entries_more front block entry none is = subst AreEntries (append-nil entry) (one_more block entry [] is none)
-entries_more front block entry (one_more b e bytes first more) is =
-    subst AreEntries (sym (append_assoc e bytes entry)) (one_more b e (bytes ++ entry) first (entries_more bytes block entry more is))
-
 -- two entries in front of one list are equal, and so is what follows them
 pub entry_unique : (p q : Pair) (a b x y r s : List ℕ) → IsEntry p a x → IsEntry q b y → x ++ r ≡ y ++ s
     → (p ≡ q) × (a ≡ b) × (x ≡ y) × (r ≡ s)
@@ -148,10 +138,15 @@ entry_found p q a b y more old new (x, is, consumes) k rest =
 -- no prefix that is entries is longer than one after which none comes
 pub longest_entries : (front rest other more : List ℕ) → AreEntries front → AreEntries other → ¬ (HasEntry rest)
     → front ++ rest ≡ other ++ more → length other ≤ length front
-longest_entries front rest other more are none ends same = omega arith
-longest_entries front rest other more none (one_more b e bytes is after) ends same =
-    absurd (ends (record { block = b; entry = e; rest = bytes ++ more; is_entry = is; cut = same ∙ append_assoc e bytes more }))
-longest_entries front rest other more (one_more a d first is_a then_a) (one_more b e bytes is_b then_b) ends same =
-    let told = entry_unique (content_pair a) (content_pair b) a b d e (first ++ rest) (bytes ++ more) is_a is_b
-    (sym (append_assoc d first rest) ∙ (same ∙ append_assoc e bytes more)) in
-    omega (arith, longest_entries first rest bytes more then_a then_b ends told.3, ap length told.2, length-append d first, length-append e bytes)
+longest_entries front rest other more (xs, g) (ys, h) ends same =
+    elim (cases_lt (length xs) (length ys)) [
+      | inl many ↦
+          let (block, entry, after, is, cut, _) = next_part _ unique xs ys front other rest more g h many same in
+          absurd (ends (record { block = block; entry = entry; rest = after; is_entry = is; cut = cut }))
+      | inr few ↦
+          let (_, c, _, _, whole, _) = parts_split _ unique ys xs other front more rest h g few (sym same) in
+          omega (arith, ap length whole, length-append other c)
+    ]
+  where
+    unique : (a b x y r s : List ℕ) → IsEntry (content_pair a) a x → IsEntry (content_pair b) b y → x ++ r ≡ y ++ s → (a ≡ b) × (x ≡ y) × (r ≡ s)
+    unique a b x y r s h k same = let told = entry_unique _ _ a b x y r s h k same in (told.1, told.2, told.3)

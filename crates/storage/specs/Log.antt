@@ -1,11 +1,12 @@
 -- The entries of a log.
-use Rattle.std.specs.Prelude.{◌≡◌, ◌<◌, ◌≤◌, ℕ, ◌⊎◌, List, [], ◌++◌, length, Option, codes}
+use Rattle.std.specs.Prelude.{◌≡◌, ◌<◌, ◌≤◌, ℕ, ◌⊎◌, List, ◌++◌, length, Option, codes}
 use Rattle.std.specs.Fmt.{decimal}
 use Rattle.multihash.specs.Pair.{Pair, FitsBuffer}
 use Rattle.multihash.specs.Varint.{IsVarint}
 use Rattle.multihash.specs.Encoding.{IsEncoding}
 use Rattle.multihash.specs.Refusal.{Refusal, refusal_text, IsOutOfMemory}
 use Rattle.multihash.specs.Consuming.{ConsumesSome, ConsumesVarint, FailsInTurn, ReadFails, VarintFails, ExactFails}
+use Rattle.multihash.specs.Streams.{AreParts}
 use Rattle.storage.specs.Content.{content_pair}
 use Rattle.storage.specs.declared.log.EntryError.{EntryError}
 use Rattle.storage.specs.declared.log.EntryError.TheVariants.{Failed, TooLong}
@@ -56,10 +57,9 @@ pub record HasEntry (input : List ℕ) : Type 0 where
   pub cut : input ≡ entry ++ rest
 
 -- the bytes are such entries, one after another
-pub data AreEntries : List ℕ → Type 0 where
-  none : AreEntries []
-  one_more : (block entry bytes : List ℕ) → IsEntry (content_pair block) block entry → AreEntries bytes
-      → AreEntries (entry ++ bytes)
+abbrev pub AreEntries : List ℕ → Type 0
+AreEntries bytes =
+    (blocks : List (List ℕ)) × AreParts (λ block. IsEntry (content_pair block) block) blocks bytes
 
 -- the front of the input is such entries, and the rest does not start with one
 pub record IsValidPrefix (front input : List ℕ) : Type 0 where

@@ -4,10 +4,10 @@ ghost use Rattle.std.specs.Prelude.{◌<◌, ◌^◌};
 use crate::expect::{check, check_eq, expect_bytes, expect_ok, expect_rejected};
 use crate::form::two;
 use fakes::readers::{Cuts, Silent};
-use fakes::refusal::Refusal;
-use multihash::Multihash;
+use fakes::refusal::{Refusal, is_rejected};
 use multihash::list::{read_list, write_list};
 use multihash::no_std_io::Read;
+use multihash::{Multihash, varint};
 use std::alloc::Global;
 use std::process::Abort;
 use uses::forms::{fills_list, read_pairs, stream_back};
@@ -39,6 +39,34 @@ fn two_of_a_stream(rt: HostRuntime) {
         expect_rejected(rt, &refused, Refusal::Insufficient, most);
         check!(rt; reader.left.is_empty());
     }
+}
+
+// The first two of the stream come next, and then its end.
+fn expect_two_and_end(rt: &impl Abort, reader: &mut impl Read) {
+    let wanted = expect_ok(rt, two());
+    for item in &wanted {
+        check!(rt; expect_ok(rt, Multihash::<4>::read_next(reader)) == Some(*item));
+    }
+    check!(rt; expect_ok(rt, Multihash::<4>::read_next(reader)).is_none());
+    check!(rt; expect_ok(rt, varint::read_next(reader)).is_none());
+}
+
+#[test]
+fn none_at_the_end_of_a_stream(rt: HostRuntime) {
+    let rt = &rt;
+    let stream = &STREAM[..6];
+    let mut left = stream;
+    expect_two_and_end(rt, &mut left);
+    expect_two_and_end(rt, &mut Silent(stream));
+    for most in 1..8 {
+        expect_two_and_end(rt, &mut Cuts::new(stream, most));
+    }
+    let mut left = &STREAM[6..];
+    let refused = Multihash::<4>::read_next(&mut left);
+    expect_rejected(rt, &refused, Refusal::Insufficient, "code alone");
+    check!(rt; left.is_empty());
+    let mut left = [0x80u8].as_slice();
+    check!(rt; is_rejected(&varint::read_next(&mut left), Refusal::Insufficient));
 }
 
 #[test]

@@ -2,14 +2,13 @@
 use Rattle.std.proofs.Common.{◌≡◌, ℕ, ◌<◌, ◌≤◌, List, ◌++◌, length, Some, Result, Ok, Err, IfOk, IfErr, IsErrAnd, sym, ap, ◌∙◌, subst, append_assoc}
 use Rattle.multihash.specs.Varint.{varint_limit}
 use Rattle.multihash.specs.Pair.{Pair, digest_limit}
-use Rattle.multihash.specs.Verdict.{Verdict, accepted, invalid_size, invalid_code, BeginsWithSize, HasVerdict}
+use Rattle.multihash.specs.Verdict.{Verdict, accepted, invalid_code, BeginsWithSize}
 use Rattle.multihash.specs.Scale.{IsScaleCode, HasScaleVerdict, ConsumesAtScaleError}
 use Rattle.multihash.specs.Consuming.{ConsumesShortestSettling}
 use Rattle.multihash.specs.Reading.{Consumes}
-use Rattle.multihash.specs.Refusal.{Refusal, IsInvalidSize, IsInvalidCode}
+use Rattle.multihash.specs.Refusal.{Refusal, IsInvalidCode}
 use Rattle.multihash.specs.Outcome.{Fields, pair_of, IsResultOf}
 use Rattle.multihash.proofs.Readings.SettlingLemmas.{shortest_size, shortest_unique}
-use Rattle.multihash.proofs.Readings.VerdictLemmas.{verdict_unique}
 use Rattle.multihash.proofs.Forms.ScaleLemmas.{scale_verdict_unique}
 use Rattle.multihash.proofs.Writings.EncodingLemmas.{same_cut}
 
@@ -22,17 +21,7 @@ in_front Form S input left (Ok m) ok =
     (ok.0, ok.1, cut)
 in_front Form S input left (Err e) ok = tt
 
--- a size that is too large is rejected
-pub rejected_size : (S size : ℕ) (input rest : List ℕ) (r : Result (Fields S) Refusal) → BeginsWithSize size input rest → digest_limit S < size
-    → (v : Verdict) × HasVerdict S input v × IsResultOf r v → IsErrAnd r (IsInvalidSize size)
-rejected_size S size input rest (Ok m) h over v =
-    let same : v.0 ≡ invalid_size size = verdict_unique S input v.0 (invalid_size size) v.1 (rest, h, over) in
-    absurd (let e : invalid_size size ≡ accepted (pair_of m) = sym same ∙ v.2 in cc)
-rejected_size S size input rest (Err e) h over v =
-    let same : v.0 ≡ invalid_size size = verdict_unique S input v.0 (invalid_size size) v.1 (rest, h, over) in
-    subst (λ w. IsResultOf {S = S} (Err e) w) same v.2
-
--- and what follows the two varints is left
+-- what follows the two varints of a size that is too large is left
 pub left_after : (S size : ℕ) (input rest left : List ℕ) → BeginsWithSize size input rest → digest_limit S < size
     → ConsumesShortestSettling S input (Some left) → left ≡ rest
 left_after S size input rest left h over took =

@@ -36,10 +36,11 @@ pub fn read_all<const S: usize>(alloc: Global, input: &[u8]) -> Result<Dump<S>, 
 {
     let mut items = Vec::new(alloc);
     let mut left = input;
-    while !left.is_empty() {
+    'left: loop {
         let at = input.len() - left.len();
-        match Multihash::read(&mut left) {
-            Ok(multihash) => items.push(multihash)?,
+        match Multihash::read_next(&mut left) {
+            Ok(Some(multihash)) => items.push(multihash)?,
+            Ok(None) => return Ok(Dump { items, stop: None }),
             Err(reason) => {
                 return Ok(Dump {
                     items,
@@ -48,5 +49,4 @@ pub fn read_all<const S: usize>(alloc: Global, input: &[u8]) -> Result<Dump<S>, 
             }
         }
     }
-    Ok(Dump { items, stop: None })
 }

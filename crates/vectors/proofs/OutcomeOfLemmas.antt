@@ -1,6 +1,6 @@
 -- A result has one verdict; a reading, and the value of an array, are as listed exactly if they are right.
 use Rattle.std.proofs.Common.{ℕ, ◌+◌, ◌<◌, List, [], ◌∷◌, All, length, get_or, take, arith, subst, ◌≡◌, ◌↔◌, ◌-◌, ◌≤◌, ◌++◌, Option, None, Some, Ok, Err, IfErr, MatchOption, Result, count_by, cond, length-append, ap, sym, ◌∙◌, refl, inl, inr, Bool, false, true, ◌⊎◌, IsTrue}
-use Rattle.std.proofs.lemmas.List.{take-take, take_more, take_all, take-append-le}
+use Rattle.std.proofs.lemmas.List.{take-take, take_more}
 use Rattle.std.proofs.lemmas.List.Elements.{All-take, All-head}
 use Rattle.multihash.proofs.Varints.DigitLemmas.{All-append_right}
 use Rattle.std.proofs.lemmas.Bool.{lt-ltb}
@@ -12,7 +12,9 @@ use Rattle.multihash.specs.Settling.{Settles, IsShortestSettling}
 use Rattle.multihash.specs.Consuming.{ConsumesAtError, ConsumesShortestSettling}
 use Rattle.multihash.specs.Varint.{insufficient, overflow, not_minimal, continuation_bytes, IsVarint}
 use Rattle.multihash.specs.Verdict.{Verdict, accepted, invalid_size, invalid_code, malformed, unexpected_eof, BeginsWithSize, HasVerdict, IsIncomplete, HasWholeVerdict}
-use Rattle.multihash.proofs.Readings.SettlingLemmas.{compare_prefixes}
+use Rattle.multihash.proofs.Readings.ReadingLemmas.{cut_at}
+use Rattle.multihash.proofs.Readings.ReadConsumingLemmas.{refusal_unique}
+use Rattle.multihash.proofs.Readings.SettlingLemmas.{shortest_unique}
 use Rattle.vectors.specs.declared.line.Reading.{Reading}
 use Rattle.vectors.specs.Listed.{meaning, ends_varint, IsConsumed, SettlesAfter, IsReading, ConsumesEnough, ConsumesAsReadListed}
 use Rattle.std.proofs.Props.{props}
@@ -28,30 +30,6 @@ All-fewer P xs i all = subst (All P) (take-take i (i + 1) xs (omega arith)) (All
 pub All-last : {X : Type 0} (P : X → Type 0) (xs : List X) (i : ℕ) (d : X) → i < length xs → All P (take (i + 1) xs) → P (get_or xs i d)
 All-last P xs i d below all =
     All-head P (get_or xs i d) [] (All-append_right P (take i xs) (get_or xs i d ∷ []) (subst (All P) (take_more xs i d below) all))
-
--- an error has one verdict
-refusal_unique : (e : Refusal) (v w : Verdict) → IsErrorOf e v → IsErrorOf e w → v ≡ w
-refusal_unique e (accepted p) w left right = absurd left
-refusal_unique e (invalid_size a) (accepted q) left right = absurd right
-refusal_unique e (invalid_size a) (invalid_size b) left right = cc
-refusal_unique e (invalid_size a) (invalid_code b) left right = cc
-refusal_unique e (invalid_size a) (malformed g) left right = cc
-refusal_unique e (invalid_size a) unexpected_eof left right = let is = right.1 in cc
-refusal_unique e (invalid_code a) (accepted q) left right = absurd right
-refusal_unique e (invalid_code a) (invalid_size b) left right = cc
-refusal_unique e (invalid_code a) (invalid_code b) left right = cc
-refusal_unique e (invalid_code a) (malformed g) left right = cc
-refusal_unique e (invalid_code a) unexpected_eof left right = let is = right.1 in cc
-refusal_unique e (malformed f) (accepted q) left right = absurd right
-refusal_unique e (malformed f) (invalid_size b) left right = cc
-refusal_unique e (malformed f) (invalid_code b) left right = cc
-refusal_unique e (malformed f) (malformed g) left right = cc
-refusal_unique e (malformed f) unexpected_eof left right = let is = right.1 in cc
-refusal_unique e unexpected_eof (accepted q) left right = absurd right
-refusal_unique e unexpected_eof (invalid_size b) left right = let is = left.1 in cc
-refusal_unique e unexpected_eof (invalid_code b) left right = let is = left.1 in cc
-refusal_unique e unexpected_eof (malformed g) left right = let is = left.1 in cc
-refusal_unique e unexpected_eof unexpected_eof left right = refl
 
 -- a result has one verdict
 pub answers_unique : {S : ℕ} (r : Result (Fields S) Refusal) (v w : Verdict) → IsResultOf r v → IsResultOf r w → v ≡ w
@@ -83,11 +61,6 @@ two_varints size bytes rest h =
       varint_ends size h.size_bytes h.is_size,
     )
 
-front_taken : (input front left : List ℕ) → input ≡ front ++ left → take (length input - length left) input ≡ front
-front_taken input front left cut =
-    let long : length input - length left ≡ length front = omega (arith, ap length cut, length-append front left) in
-    rw (long, cut, take-append-le (length front) front left (omega arith)) (take_all (length front) front (omega arith))
-
 -- the contract of a call of `read`
 pub record ReadCall (S : ℕ) (input left : List ℕ) (r : Result (Fields S) Refusal) : Type 0 where
   pub unique : (v w : Verdict) → HasVerdict S input v → HasVerdict S input w → v ≡ w
@@ -107,7 +80,7 @@ rejected_enough S input left e h (malformed not_minimal) is early = early
 rejected_enough S input left e h unexpected_eof is early =
     let found = h.eof is in
     let cut : input ≡ h.consumed ++ left = cc (h.consumes) in
-    rw (front_taken input h.consumed left cut) (two_varints found.0 h.consumed found.1 found.2)
+    rw ((cut_at input h.consumed left cut).0) (two_varints found.0 h.consumed found.1 found.2)
 
 -- at a truncated input at least the stated bytes were consumed
 enough : (S : ℕ) (input left : List ℕ) (r : Result (Fields S) Refusal) → ReadCall S input left r → (v : Verdict)
@@ -124,14 +97,6 @@ enough_early (malformed insufficient) input left h = tt
 enough_early (malformed overflow) input left h = h
 enough_early (malformed not_minimal) input left h = h
 enough_early unexpected_eof input left h = tt
-
-shortest_same : (S : ℕ) (input a b : List ℕ) → IsShortestSettling S input a → IsShortestSettling S input b → a ≡ b
-shortest_same S input a b f g =
-    elim (compare_prefixes a b f.begins.0 g.begins.0 (sym f.begins.1 ∙ g.begins.1)) [
-      | inl same ↦ same
-      | inr (inl sooner) ↦ absurd (g.shortest a sooner f.settles)
-      | inr (inr sooner) ↦ absurd (f.shortest b sooner g.settles)
-    ]
 
 taken_long : (S : ℕ) (input left : List ℕ) (t : ConsumesShortestSettling S input (Some left)) → length input ≡ length t.front + length left
 taken_long S input left t =
@@ -156,7 +121,7 @@ read_as_listed S input left r d w answers has (Some n) = (there, back)
     back f =
         let late : ¬ (IsIncomplete w) = λ early. d.unsettled w has early f.front f.shortest.begins f.shortest.settles in
         let t = d.settled w has late in
-        let same = ap length (shortest_same S input t.front f.front t.shortest f.shortest) in
+        let same = ap length (shortest_unique S input t.front f.front t.shortest f.shortest) in
         (late, omega (arith, taken_long S input left t, same, f.long))
 
 pub reading : (S : ℕ) (input left : List ℕ) (r : Result (Fields S) Refusal) → ReadCall S input left r → (listed : Reading)

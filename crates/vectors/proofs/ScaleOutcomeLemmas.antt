@@ -9,18 +9,15 @@ use Rattle.multihash.specs.Varint.{varint_limit}
 use Rattle.multihash.specs.Verdict.{Verdict, accepted, invalid_size, invalid_code, malformed, unexpected_eof}
 use Rattle.multihash.specs.Scale.{IsScaleCode, IsScale, HasScaleSize, HasScaleVerdict, ConsumesAtScaleError}
 use Rattle.multihash.proofs.Readings.SettlingLemmas.{split_prefix, compare_prefixes}
+use Rattle.multihash.proofs.Writings.WritingLemmas.{length_of_not_nil}
 use Rattle.vectors.proofs.OutcomeOfLemmas.{answers_unique}
 use Rattle.vectors.specs.Listed.{DecodesAfter, IsScaleConsumed}
 
 -- ---- prefixes
 
-some_left : (rest : List ℕ) → rest ≢ [] → 0 < length rest
-some_left [] some = absurd (some refl)
-some_left (x ∷ rest) some = omega arith
-
 proper_shorter : (front whole : List ℕ) → IsStrictPrefix front whole → length front < length whole
 proper_shorter front whole (rest, some, cut) =
-    omega (arith, some_left rest some, ap length cut, length-append front rest)
+    omega (arith, length_of_not_nil rest some, ap length cut, length-append front rest)
 
 -- the input ends after the code
 after_code : (S code size : ℕ) (a digest q : List ℕ) → IsScaleCode code a → code < varint_limit
@@ -37,7 +34,7 @@ after_code S code size a digest (d ∷ q) is_code in_range sized (rest, some, cu
       q,
       record { code = code; code_bytes = a; is_code = is_code; in_range = in_range; cut = ap (λ n. a ++ n ∷ q) (sym heads) },
       fits,
-      omega (arith, some_left rest some, ap length tails, length-append q rest, long),
+      omega (arith, length_of_not_nil rest some, ap length tails, length-append q rest, long),
     ))
 
 -- each strict prefix of a form is truncated, and so is each of a code and a size

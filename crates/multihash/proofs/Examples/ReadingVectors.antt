@@ -5,7 +5,7 @@ use Rattle.std.proofs.lemmas.Bool.{false≢true}
 use Rattle.std.proofs.lemmas.List.{append_cancel_right}
 use Rattle.multihash.specs.Fault.{Fault, IsUnexpectedEof, IsOwnFault}
 use Rattle.std.specs.Io.KnownBytes.{prepend_known, IsAtEnd}
-use Rattle.multihash.specs.Reading.{Consumes, HasFewerThan, ConsumesFewerThan, CountsReaderFailures, ReadLaws, ReadExactLaws, NoOtherError}
+use Rattle.multihash.specs.Reading.{Consumes, EndsInNone, HasFewerThan, ConsumesFewerThan, CountsReaderFailures, ReadLaws, ReadExactLaws, NoOtherError}
 use Rattle.multihash.proofs.Examples.RefusalVectors.{other, eof, memory}
 
 -- ---- what was consumed
@@ -43,6 +43,16 @@ reports_no_more consumed rest = ((λ h. cc), λ h. cc)
 
 at_end : IsAtEnd (Some []) × IsAtEnd None × ¬ (IsAtEnd (Some (1 ∷ [])))
 at_end = (refl, tt, λ h. omega (arith, ap (λ (z : List ℕ). length z) h))
+
+-- `None` is returned at the end, and nowhere else, and there is no error there
+ends_in_none : EndsInNone {A = ℕ} {E = ℕ} (Some []) (Some []) 0 0 (Ok None) × EndsInNone {A = ℕ} {E = ℕ} (Some []) (Some []) 0 1 (Err 5)
+ends_in_none = (record { none = (refl, refl); always = λ _ _. refl }, record { none = tt; always = λ same. absurd (omega arith) })
+
+no_none_before_the_end : ¬ (EndsInNone {A = ℕ} {E = ℕ} (Some (1 ∷ [])) (Some (1 ∷ [])) 0 0 (Ok None))
+no_none_before_the_end h = omega (arith, ap (λ (z : List ℕ). length z) h.none.0)
+
+no_error_at_the_end : ¬ (EndsInNone {A = ℕ} {E = ℕ} (Some []) (Some []) 0 0 (Err 5))
+no_error_at_the_end h = h.always refl refl
 
 fewer_than : HasFewerThan 2 (Some (1 ∷ [])) × HasFewerThan 0 None × ¬ (HasFewerThan 1 (Some (1 ∷ [])))
 fewer_than = (omega arith, tt, λ h. omega (arith, h))

@@ -2,11 +2,12 @@
 -- appended.
 use Rattle.std.proofs.Common.{◌≡◌, ℕ, List, [], ◌∷◌, length, refl, ap, ◌∙◌, arith, ◌<◌, ◌⊎◌, sym, subst, inl, inr, append-nil}
 use Rattle.std.specs.Prelude.{codes, Option, Some, None, IfSome}
-use Rattle.std.specs.List.{concat, AllZip, All}
+use Rattle.std.specs.List.{All}
 use Rattle.multihash.specs.Pair.{Pair, FitsBuffer}
 use Rattle.multihash.specs.Encoding.{IsEncoding}
 use Rattle.multihash.specs.Streams.{AreConcatenated, ConsumesPairs, StopsAfterPairs}
-use Rattle.multihash.proofs.Forms.StreamLemmas.{concatenated_whole, concatenated_same, ConsumesPairs-none, concatenated_unique}
+use Rattle.multihash.proofs.Forms.StreamLemmas.{concatenated_whole, parts_same, ConsumesPairs-none, parts_unique}
+use Rattle.multihash.proofs.Writings.EncodingLemmas.{encoding_unique, encoding_same}
 use Rattle.multihash.proofs.Examples.VarintVectors.{varint_0, varint_1}
 use Rattle.multihash.proofs.Examples.PairVectors.{pair}
 use Rattle.std.proofs.lemmas.List.Elements.{All-nil, All-cons, All-head, All-tail}
@@ -26,33 +27,32 @@ use Rattle.multihash.proofs.Examples.VerdictVectors.{size_5, code_open, empty_di
 use Rattle.multihash.proofs.Examples.ConsumingVectors.{takes_no_byte_after_size, takes_what_settles}
 
 concatenated_none : AreConcatenated [] []
-concatenated_none = record { encodings = []; each = tt; concatenated = refl }
-
--- and no other bytes are
-pub concatenated_none_only : (bytes : List ℕ) → AreConcatenated [] bytes → bytes ≡ []
-concatenated_none_only bytes h = h.concatenated ∙ none h.encodings h.each
-  where
-    none : (es : List (List ℕ)) → AllZip IsEncoding [] es → concat es ≡ []
-    none [] each = refl
-    none (e ∷ es) each = absurd each
+concatenated_none = refl
 
 pub concatenated_one : AreConcatenated (pair 0 (codes "A") ∷ []) (0 ∷ 1 ∷ 65 ∷ [])
-concatenated_one = record {
-  encodings = (0 ∷ 1 ∷ 65 ∷ []) ∷ [];
-  each = (record { code = 0 ∷ []; size = 1 ∷ []; is_code = varint_0; is_size = varint_1; spelled = refl }, tt);
-  concatenated = refl;
-}
+concatenated_one = (
+  0 ∷ 1 ∷ 65 ∷ [],
+  [],
+  record { code = 0 ∷ []; size = 1 ∷ []; is_code = varint_0; is_size = varint_1; spelled = refl },
+  refl,
+  refl,
+)
 
 pub concatenated_two : AreConcatenated (pair 0 (codes "A") ∷ pair 1 (codes "B") ∷ [])
     (0 ∷ 1 ∷ 65 ∷ 1 ∷ 1 ∷ 66 ∷ [])
-concatenated_two = record {
-  encodings = (0 ∷ 1 ∷ 65 ∷ []) ∷ (1 ∷ 1 ∷ 66 ∷ []) ∷ [];
-  each = (
-    record { code = 0 ∷ []; size = 1 ∷ []; is_code = varint_0; is_size = varint_1; spelled = refl },
-    (record { code = 1 ∷ []; size = 1 ∷ []; is_code = varint_1; is_size = varint_1; spelled = refl }, tt),
-  );
-  concatenated = refl;
-}
+concatenated_two = (
+  0 ∷ 1 ∷ 65 ∷ [],
+  1 ∷ 1 ∷ 66 ∷ [],
+  record { code = 0 ∷ []; size = 1 ∷ []; is_code = varint_0; is_size = varint_1; spelled = refl },
+  (
+    1 ∷ 1 ∷ 66 ∷ [],
+    [],
+    record { code = 1 ∷ []; size = 1 ∷ []; is_code = varint_1; is_size = varint_1; spelled = refl },
+    refl,
+    refl,
+  ),
+  refl,
+)
 
 abbrev pub first_code : List Pair → ℕ
 first_code [] = 0
@@ -75,7 +75,7 @@ no_pair_is_left_out h =
     omega (
       arith,
       ap (λ (z : List ℕ). length z)
-          (concatenated_same (pair 0 (codes "A") ∷ pair 1 (codes "B") ∷ []) (0 ∷ 1 ∷ 65 ∷ [])
+          (parts_same IsEncoding encoding_same (pair 0 (codes "A") ∷ pair 1 (codes "B") ∷ []) (0 ∷ 1 ∷ 65 ∷ [])
           (0 ∷ 1 ∷ 65 ∷ 1 ∷ 1 ∷ 66 ∷ []) h concatenated_two),
     )
 
@@ -124,7 +124,7 @@ takes_nothing_after_pairs h =
     omega (
       arith,
       ap (λ (z : List ℕ). length z)
-          (concatenated_same (a ∷ []) h.bytes (0 ∷ 1 ∷ 65 ∷ []) h.concatenated concatenated_one),
+          (parts_same IsEncoding encoding_same (a ∷ []) h.bytes (0 ∷ 1 ∷ 65 ∷ []) h.concatenated concatenated_one),
       ap (λ (z : List ℕ). length z) (taken_is (0 ∷ 1 ∷ 65 ∷ 7 ∷ []) [] h.bytes h.consumes),
     )
 
@@ -134,7 +134,7 @@ takes_nothing_after_pairs h =
 none_before : (S : ℕ) (pairs : List Pair) (old middle : Option (List ℕ)) → length pairs < 1 → ConsumesPairs S pairs old middle → middle ≡ old
 none_before S [] old middle fewer h =
     Consumes-none middle ∙ sym
-    (subst (λ (z : List ℕ). Consumes old z middle) (concatenated_none_only h.bytes h.concatenated) h.consumes)
+    (subst (λ (z : List ℕ). Consumes old z middle) h.concatenated h.consumes)
 none_before S (p ∷ pairs) old middle fewer h = absurd (omega arith)
 
 rejects_an_open_code : StopsAfterPairs 4 1 (of_varint insufficient) 3 3 (Some (0x80 ∷ [])) (Some [])
@@ -144,8 +144,10 @@ rejects_an_open_code = record {
   fewer = omega arith;
   consumed = ConsumesPairs-none 4 (Some (0x80 ∷ []));
   failed = record {
-    cause = inr (refl, inr (inl (insufficient, refl)));
-    consumed = record {
+    faults = inr (refl, inr (inl (insufficient, refl)));
+    ok = tt;
+    fits = tt;
+    err = record {
       consumed = 0x80 ∷ [];
       consumes = refl;
       insufficient = λ e. (code_open, refl);
@@ -174,11 +176,11 @@ skips_no_pair : ¬ (StopsAfterPairs 4 1 (of_varint insufficient) 3 3 (Some (0 �
 skips_no_pair h =
     let at = none_before 4 h.pairs (Some (0 ∷ 0 ∷ [])) h.following h.fewer h.consumed in
     let consumes =
-    subst (λ (o : Option (List ℕ)). Consumes o h.failed.consumed.consumed (Some [])) at h.failed.consumed.consumes in
-    let consumed = taken_is (0 ∷ 0 ∷ []) [] h.failed.consumed.consumed consumes in
+    subst (λ (o : Option (List ℕ)). Consumes o h.failed.err.consumed (Some [])) at h.failed.err.consumes in
+    let consumed = taken_is (0 ∷ 0 ∷ []) [] h.failed.err.consumed consumes in
     let has =
     subst (λ (z : List ℕ). HasVerdict 4 z (malformed insufficient)) consumed
-    (h.failed.consumed.insufficient refl).0 in
+    (h.failed.err.insufficient refl).0 in
     let same : malformed insufficient ≡ accepted (pair 0 []) =
     verdict_unique 4 (0 ∷ 0 ∷ []) (malformed insufficient) (accepted (pair 0 [])) has empty_digest in
     cc
@@ -186,7 +188,7 @@ skips_no_pair h =
 -- all of an insufficient input was consumed
 rejects_with_all_taken : ¬
     (StopsAfterPairs 4 1 (of_varint insufficient) 3 3 (Some (0x80 ∷ [])) (Some (0x80 ∷ [])))
-rejects_with_all_taken h = omega (arith, ap (λ (z : List ℕ). length z) (h.failed.consumed.insufficient refl).1)
+rejects_with_all_taken h = omega (arith, ap (λ (z : List ℕ). length z) (h.failed.err.insufficient refl).1)
 
 -- what an error states of the input after the pairs
 module _ (count : ℕ) (e : Refusal) (before after : ℕ) (old new : Option (List ℕ)) (left : List ℕ) (h : StopsAfterPairs 4 count e before after old new)
@@ -253,7 +255,7 @@ pair_settles = late_settles 4 (0 ∷ 1 ∷ 65 ∷ []) (accepted a) (λ early. ea
 after_first : (p : Pair) (middle : Option (List ℕ)) → ConsumesPairs 4 (p ∷ []) (Some stream) middle → middle ≡ Some (0 ∷ 5 ∷ 9 ∷ [])
 after_first p None h = let none = h.consumes in absurd cc
 after_first p (Some rest) h =
-    ap Some (concatenated_unique (p ∷ []) (a ∷ []) h.bytes (0 ∷ 1 ∷ 65 ∷ []) rest (0 ∷ 5 ∷ 9 ∷ []) refl
+    ap Some (parts_unique IsEncoding encoding_unique (p ∷ []) (a ∷ []) h.bytes (0 ∷ 1 ∷ 65 ∷ []) rest (0 ∷ 5 ∷ 9 ∷ []) refl
     h.concatenated concatenated_one (sym (ap told h.consumes))).1
 
 -- two pairs were requested, and the first was consumed before, or none

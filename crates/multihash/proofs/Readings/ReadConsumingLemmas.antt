@@ -9,28 +9,12 @@ use Rattle.std.specs.Io.KnownBytes.{IsAtEnd, prepend_known}
 use Rattle.multihash.specs.Reading.{Consumes, CountsReaderFailures, HasFewerThan}
 use Rattle.multihash.specs.Fault.{Fault, IsUnexpectedEof, IsOwnFault}
 use Rattle.multihash.specs.Refusal.{Refusal, of_io, of_size, of_code, of_varint, of_not_bytes, IsReaderError, IsEof, IsInvalidSize, IsVarintError}
-use Rattle.multihash.specs.Consuming.{ReadMayFailWith, ConsumesAtError, ConsumesShortestSettling, ConsumesNothingSettling, IsAnyVarintError, ConsumesAtVarintError}
+use Rattle.multihash.specs.Consuming.{ReadMayFailWith, ConsumesShortestSettling, ConsumesNothingSettling, EndsOrFails, ReadMeets, IsAnyVarintError, ConsumesAtVarintError}
 use Rattle.multihash.specs.Outcome.{Fields, pair_of, IsErrorOf, IsResultOf}
 use Rattle.multihash.proofs.Values.ValueLemmas.{digest_fits}
 use Rattle.multihash.proofs.Readings.ReadingLemmas.{IfSome-consumed, Consumes-concatenated}
 use Rattle.multihash.proofs.Readings.VerdictLemmas.{verdict_unique, coded, sized}
 use Rattle.multihash.proofs.Readings.SettlingLemmas.{verdict_kept, none_settles, EndsEarly, before_digest, shortest_from, before_second, before_both}
-
--- an incomplete input, or a reader that failed
-abbrev pub EndsOrFails : ℕ → List ℕ → ℕ → ℕ → Type 0
-EndsOrFails S rest before after = (before < after) ⊎ ((v : Verdict) × HasVerdict S rest v × IsIncomplete v)
-
--- the contract of `read` for a result
-abbrev pub ReadMeets : (S : ℕ) → Option (List ℕ) → Option (List ℕ) → ℕ → ℕ → Result (Fields S) Refusal → Type 0
-ReadMeets S old new before after r = record {
-  faults : CountsReaderFailures IsReaderError (ReadMayFailWith S) before after r;
-  verdict : IfSome old (λ rest. after ≡ before → (v : Verdict) × HasVerdict S rest v × IsResultOf r v);
-  ok : IfOk r (λ m. (bytes : List ℕ) × IsEncoding (pair_of m) bytes × Consumes old bytes new);
-  fits : IfOk r (λ m. FitsBuffer S (pair_of m));
-  err : IfErr r (λ e. ConsumesAtError S e old new);
-  settled : IfSome old (λ rest. after ≡ before → (v : Verdict) → HasVerdict S rest v → ¬ (IsIncomplete v) → ConsumesShortestSettling S rest new);
-  unsettled : IfSome old (λ rest. EndsOrFails S rest before after → ConsumesNothingSettling S rest new);
-}
 
 -- ---- errors and verdicts
 
@@ -63,6 +47,22 @@ own_not_eof e (fault, given, kind) h =
 pub own_no_refusal : (e : Refusal) (v : Verdict) → IsReaderError e → IsErrorOf e v → ⊥
 own_no_refusal e v own given =
     own_not_eof e own (subst (IsErrorOf e) (verdict_of_refusal e v given ∙ ap verdict_of own.1) given)
+
+-- nor is it one that `read` lists
+pub own_not_listed : (S : ℕ) (e : Refusal) → IsReaderError e → ReadMayFailWith S e → ⊥
+own_not_listed S e own (inl (size, given, _)) = own_no_refusal e (invalid_size size) own given
+own_not_listed S e own (inr (inl (fault, given))) = own_no_refusal e (malformed fault) own given
+own_not_listed S e own (inr (inr eof)) = own_not_eof e own eof
+
+-- the error of an incomplete verdict
+pub incomplete_error : (e : Refusal) (v : Verdict) → IsErrorOf e v → IsIncomplete v → IsVarintError insufficient e ⊎ IsEof e
+incomplete_error e (accepted p) given soon = absurd soon
+incomplete_error e (invalid_size size) given soon = absurd soon
+incomplete_error e (invalid_code code) given soon = absurd soon
+incomplete_error e (malformed insufficient) given soon = inl given
+incomplete_error e (malformed overflow) given soon = absurd soon
+incomplete_error e (malformed not_minimal) given soon = absurd soon
+incomplete_error e unexpected_eof given soon = inr given
 
 -- the error of a verdict is one that `read` lists
 listed : (S : ℕ) (e : Refusal) (consumed : List ℕ) (v : Verdict) → IsErrorOf e v → HasVerdict S consumed v → ReadMayFailWith S e

@@ -11,7 +11,7 @@ use Rattle.std.specs.List.{All}
 use Rattle.multihash.specs.Pair.{Pair, FitsBuffer, digest_limit}
 use Rattle.multihash.specs.Encoding.{IsEncoding}
 use Rattle.multihash.proofs.Varints.DigitLemmas.{All-continuation_bytes}
-use Rattle.multihash.proofs.Varints.VarintLemmas.{varint_length}
+use Rattle.multihash.proofs.Varints.VarintLemmas.{varint_length, number_no_fault}
 use Rattle.multihash.proofs.Writings.WritingLemmas.{length_of_not_nil}
 
 pub split_prefix : (f g p : List ℕ) → IsStrictPrefix p (f ++ g) → IsStrictPrefix p f ⊎ ((q : List ℕ) × (p ≡ f ++ q) × IsStrictPrefix q g)
@@ -51,7 +51,8 @@ size_kept size x rest more h =
 code_kept : (x rest more : List ℕ) → BeginsWithCode x rest → BeginsWithCode (x ++ more) (rest ++ more)
 code_kept x rest more c = coded c.code c.code_bytes (x ++ more) (rest ++ more) c.is_code (append_more x c.code_bytes rest more c.cut)
 
-fault_kept : (f : VarintError) (x more : List ℕ) → ¬ (IsIncomplete (malformed f)) → BeginsMalformed f x → BeginsMalformed f (x ++ more)
+-- unless its end is missing, a malformed varint stays so whatever follows
+pub fault_kept : (f : VarintError) (x more : List ℕ) → ¬ (IsIncomplete (malformed f)) → BeginsMalformed f x → BeginsMalformed f (x ++ more)
 fault_kept insufficient x more late h = absurd (late tt)
 fault_kept overflow x more late h =
     let cut = append_more x h.front (h.byte ∷ h.rest) more h.cut in
@@ -59,6 +60,15 @@ fault_kept overflow x more late h =
 fault_kept not_minimal x more late h =
     let cut = append_more x h.front (0 ∷ h.rest) more h.cut in
     record { front = h.front; rest = _; all_continuation = h.all_continuation; some = h.some; few = h.few; cut = cut }
+
+-- so the front of an input that starts with a varint is malformed only if it ends within it
+pub fault_of_part : (n : ℕ) (bytes rest x more : List ℕ) (f : VarintError) → IsVarint n bytes → bytes ++ rest ≡ x ++ more → BeginsMalformed f x
+    → f ≡ insufficient
+fault_of_part n bytes rest x more insufficient is same h = refl
+fault_of_part n bytes rest x more overflow is same h =
+    absurd (number_no_fault (x ++ more) n rest overflow (bytes, is, sym same) (fault_kept overflow x more (λ e. e) h))
+fault_of_part n bytes rest x more not_minimal is same h =
+    absurd (number_no_fault (x ++ more) n rest not_minimal (bytes, is, sym same) (fault_kept not_minimal x more (λ e. e) h))
 
 pub verdict_kept : (S : ℕ) (x more : List ℕ) (v : Verdict) → ¬ (IsIncomplete v) → HasVerdict S x v → HasVerdict S (x ++ more) v
 verdict_kept S x more (accepted p) late (rest, b, fits) =
@@ -161,7 +171,7 @@ before_step t p s (rest, some, cut) = record { few = omega (arith, s.few, short)
 abbrev pub NoSooner : List ℕ → Type 0
 NoSooner t = (p : List ℕ) → IsStrictPrefix p t → IsInsufficient p
 
-varint_no_sooner : (n : ℕ) (bytes : List ℕ) → IsVarint n bytes → NoSooner bytes
+pub varint_no_sooner : (n : ℕ) (bytes : List ℕ) → IsVarint n bytes → NoSooner bytes
 varint_no_sooner n bytes v p begins =
     let few : length (continuation_bytes v.front) ≤ max_continuation = omega (arith, (varint_length n bytes v).0, length-map v.front (λ d. d + 128)) in
     before_step bytes p (record { front = continuation_bytes v.front; last = v.last; all_continuation = All-continuation_bytes v.front; few = few; cut = v.spelled }) begins

@@ -1,5 +1,5 @@
 -- What is known of every value, also of one that nothing has read yet: its digest fits the buffer.
-use Rattle.std.proofs.Common.{ℕ, ◌+◌, ◌≤◌, List, [], ◌∷◌, length, map, get_or, arith}
+use Rattle.std.proofs.Common.{ℕ, ◌+◌, ◌≤◌, List, [], ◌∷◌, length, map, get_or, refl, arith}
 use Rattle.std.specs.List.{All}
 use Rattle.std.proofs.lemmas.List.{length-take}
 use Rattle.std.proofs.lemmas.List.Elements.{All-map}
@@ -8,7 +8,6 @@ use Rattle.multihash.specs.Varint.{max_continuation}
 use Rattle.multihash.specs.Encoding.{IsEncoding}
 use Rattle.multihash.specs.Streams.{AreConcatenated}
 use Rattle.multihash.specs.Outcome.{Fields, pair_of}
-use Rattle.multihash.proofs.Forms.StreamLemmas.{AreConcatenated-none, AreConcatenated-first}
 use Rattle.multihash.proofs.Writings.EncodingLemmas.{encoding_exists, encoding_length}
 
 pub digest_fits : {S : ℕ} (m : Fields S) → FitsBuffer S (pair_of m)
@@ -24,8 +23,8 @@ all_fit {S} items = All-map (FitsBuffer S) pair_of items (λ k d within. digest_
 
 -- the pairs of a list of values have a concatenated encoding
 pub have_stream : {S : ℕ} (items : List (Fields S)) → (bytes : List ℕ) × AreConcatenated (map pair_of items) bytes
-have_stream [] = ([], AreConcatenated-none)
+have_stream [] = ([], refl)
 have_stream (m ∷ items) =
     let first = encoding_exists (pair_of m) m.in_range (omega (arith, digest_fits m)) in
     let later = have_stream items in
-    (_, AreConcatenated-first (pair_of m) (map pair_of items) first.0 later.0 first.1 later.1)
+    (_, (first.0, later.0, first.1, later.1, refl))

@@ -212,6 +212,9 @@ pub varint_bytes : (n : ℕ) (bytes : List ℕ) (v : IsVarint n bytes) → lengt
 varint_bytes n bytes v =
     omega (arith, ap length v.spelled, length-append (continuation_bytes v.front) (v.last ∷ []), length-map v.front (λ digit. digit + 128))
 
+pub varint_some : (n : ℕ) (bytes : List ℕ) → IsVarint n bytes → 0 < length bytes
+varint_some n bytes v = omega (arith, varint_bytes n bytes v)
+
 pub varint_longest : (n : ℕ) (bytes : List ℕ) → IsVarint n bytes → length bytes ≤ max_continuation + 1
 varint_longest n bytes v = omega (arith, varint_bytes n bytes v, (varint_length n bytes v).0)
 

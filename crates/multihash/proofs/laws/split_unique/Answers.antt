@@ -1,11 +1,13 @@
-use Rattle.multihash.proofs.Forms.StreamLemmas.{concatenated_unique, concatenated_whole, concatenated_same}
+use Rattle.multihash.specs.Encoding.{IsEncoding}
+use Rattle.multihash.proofs.Writings.EncodingLemmas.{encoding_unique, encoding_same}
+use Rattle.multihash.proofs.Forms.StreamLemmas.{parts_unique, parts_same, concatenated_whole}
 use Rattle.multihash.proofs.laws.split_unique.Goals as goal
 
 pub returns-clause-as_many : goal.returns-clause-as_many
-returns-clause-as_many c = concatenated_unique
+returns-clause-as_many c = parts_unique IsEncoding encoding_unique
 
 pub returns-clause-whole : goal.returns-clause-whole
 returns-clause-whole c = concatenated_whole
 
 pub returns-clause-one_stream : goal.returns-clause-one_stream
-returns-clause-one_stream c = concatenated_same
+returns-clause-one_stream c = parts_same IsEncoding encoding_same

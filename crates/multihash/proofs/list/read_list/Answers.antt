@@ -17,13 +17,7 @@ returns-in_err-read-clause-err g c =
       following = _;
       fewer = fewer;
       consumed = before.pairs;
-      failed = record {
-        cause = rw same at met.faults;
-        consumed = met.err;
-        verdict = rw same at met.verdict;
-        settled = rw same at met.settled;
-        unsettled = rw same at met.unsettled;
-      };
+      failed = rw same at met;
     }))
 
 pub loop-preserved : goal.loop-preserved

@@ -5,7 +5,8 @@ use Rattle.multihash.specs.Encoding.{IsEncoding}
 use Rattle.multihash.specs.Streams.{AreConcatenated}
 use Rattle.multihash.specs.Writing.{AppendsPrefix}
 use Rattle.multihash.proofs.OutcomeLemmas.{OnErr-always}
-use Rattle.multihash.proofs.Forms.StreamLemmas.{AreConcatenated-none, AreConcatenated-first, concatenated_same}
+use Rattle.multihash.proofs.Writings.EncodingLemmas.{encoding_same}
+use Rattle.multihash.proofs.Forms.StreamLemmas.{parts_same}
 use Rattle.multihash.proofs.Writings.WritingLemmas.{AppendsPrefix-append, AppendsPrefix-concatenated}
 use Rattle.multihash.proofs.Values.ValueLemmas.{all_fit, have_stream}
 use Rattle.multihash.proofs.list.write_list.Given as given
@@ -23,7 +24,7 @@ next g c e others encodes h =
     let items = c.args.items.now in
     let i = c.loop-item.item-index in
     let cut = drop_more items i c.item-item.result c.loop-item-test.true ∙ ap (λ (m : Fields g.row.S). m ∷ drop (i + 1) items) (sym c.item-item.is) in
-    c.loop-item.invariant.whole (e ++ others) (rw cut (AreConcatenated-first _ _ e others encodes h))
+    c.loop-item.invariant.whole (e ++ others) (rw cut (e, others, encodes, h, refl))
 
 pub loop-item-preserved : goal.loop-item-preserved
 loop-item-preserved g c =
@@ -57,7 +58,7 @@ pub returns-in_err-write-clause-any : goal.returns-in_err-write-clause-any
 returns-in_err-write-clause-any g c =
     let (some, concatenated, part) = stop g c in
     let any : (all : List ℕ) → AreConcatenated (map pair_of c.args.items.now) all → AppendsPrefix g.W.Write.appended c.args.w.now all c.write.new.w =
-    λ all h. rw (concatenated_same _ all some h concatenated) part in
+    λ all h. rw (parts_same IsEncoding encoding_same _ all some h concatenated) part in
     OnErr-always _ any
 
 pub returns-in_err-write-clause-fit : goal.returns-in_err-write-clause-fit
@@ -70,5 +71,5 @@ pub returns-clause-ok : goal.returns-clause-ok
 returns-clause-ok g c =
     let before = c.loop-item.invariant in
     let none = drop_all c.loop-item.item-index c.args.items.now c.loop-item-test.false in
-    let all = before.whole [] (rw none AreConcatenated-none) in
+    let all = before.whole [] (rw none refl) in
     (before.bytes, rw append-nil at all, before.appends)

@@ -6,7 +6,8 @@ use Rattle.multihash.specs.Verdict.{Verdict, accepted, unexpected_eof}
 use Rattle.multihash.specs.Outcome.{pair_of}
 use Rattle.multihash.proofs.Varints.WordFrontLemmas.{bytes_of}
 use Rattle.multihash_c.specs.Decoded.{Reports, ConsumesWholeParts}
-use Rattle.multihash_c.proofs.DecodedLemmas.{form_stands, taken_front, code_taken, ends_early}
+use Rattle.multihash_c.proofs.DecodedLemmas.{form_stands, code_taken, ends_early}
+use Rattle.multihash.proofs.Readings.ReadingLemmas.{cut_at}
 use Rattle.multihash_c.proofs.decode.multihash_scale_decode.Goals as goal
 
 pub returns-in-Ok-clause-verdict : goal.returns-in-Ok-clause-verdict
@@ -23,7 +24,7 @@ returns-in-Ok-clause-verdict c =
     let all : answer.taken ≡ length met.ok.0 = omega (arith, c.accept.ensures.taken, ap length cut, length-append met.ok.0 left) in
     let appends = form_stands p input met.ok.0 left answer.digest_offset answer.digest_length answer.taken met.ok.1 cut
     (c.accept.ensures.length ∙ long) all (omega (arith, c.accept.ensures.offset, c.accept.ensures.length, c.accept.ensures.taken)) in
-    let front : take answer.taken input ≡ met.ok.0 = ap (λ n. take n input) c.accept.ensures.taken ∙ taken_front input met.ok.0 left cut in (
+    let front : take answer.taken input ≡ met.ok.0 = ap (λ n. take n input) c.accept.ensures.taken ∙ (cut_at input met.ok.0 left cut).0 in (
       accepted p,
       has,
       c.accept.ensures.tells input p (sym c.code.ensures.code) (omega arith) appends,
@@ -38,7 +39,7 @@ returns-in-Some-clause-verdict c =
     let found = met.verdict refl in
     let cut : input ≡ met.err.consumed ++ left = cc (met.err.consumes) in
     let front : take c.refuse_code.result.taken input ≡ met.err.consumed =
-    ap (λ n. take n input) c.refuse_code.ensures.taken ∙ taken_front input met.err.consumed left cut in
+    ap (λ n. take n input) c.refuse_code.ensures.taken ∙ (cut_at input met.err.consumed left cut).0 in
     let is = (c.invalid_code.ensures c.in-Some.code).0 c.in-Some.is in
     let told = code_taken input _ _ c.in-Some.code c.refuse_code.result.taken met.err front is found.0 found.1 found.2 in (
       found.0,

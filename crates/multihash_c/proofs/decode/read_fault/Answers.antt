@@ -6,7 +6,7 @@ use Rattle.multihash.specs.Consuming.{ConsumesShortestSettling}
 use Rattle.multihash.specs.Outcome.{IsErrorOf}
 use Rattle.multihash.proofs.Readings.VerdictLemmas.{verdict_unique}
 use Rattle.multihash_c.specs.Decoded.{Reports}
-use Rattle.multihash_c.proofs.DecodedLemmas.{has_trailing}
+use Rattle.multihash.proofs.Readings.ReadingLemmas.{cut_at}
 use Rattle.multihash_c.proofs.ReadLemmas.{fault_read}
 use Rattle.multihash_c.proofs.decode.read_fault.Goals as goal
 
@@ -29,7 +29,7 @@ returns c =
     let tells : Reports input c.refuse.result v = c.refuse.ensures.tells input v (subst (IsErrorOf c.in-Err.error) same found.2) in
     let cut : input ≡ met.err.consumed ++ left = cc (met.err.consumes) in
     let at : left ≡ drop c.refuse.result.taken input =
-    has_trailing input met.err.consumed left cut ∙ ap (λ n. drop n input) (sym c.refuse.ensures.taken) in
+    sym (cut_at input met.err.consumed left cut).1 ∙ ap (λ n. drop n input) (sym c.refuse.ensures.taken) in
     let inside : c.refuse.result.taken ≤ length input = omega (arith, c.refuse.ensures.taken) in
     record {
       reads = λ limit.

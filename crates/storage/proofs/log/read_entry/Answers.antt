@@ -2,26 +2,22 @@ use Rattle.std.proofs.Common.{◌≡◌, ◌++◌, length, inl, inr, refl, sym, 
 use Rattle.multihash.specs.Refusal.{of_io}
 use Rattle.multihash.specs.Varint.{IsVarint}
 use Rattle.multihash.proofs.Readings.ReadingLemmas.{Consumes-concatenated}
+use Rattle.multihash.proofs.OutcomeLemmas.{passed_on}
 use Rattle.storage.specs.declared.log.EntryError.TheVariants.{Failed}
-use Rattle.storage.proofs.LogLemmas.{fails_with, fails_by, varint_fails, exact_fails, filled_items, entry_fails, rejected_found, entry_found}
+use Rattle.storage.proofs.LogLemmas.{fails_by, varint_fails, exact_fails, filled_items, entry_fails, rejected_found, entry_found}
 use Rattle.storage.proofs.log.read_entry.Goals as goal
 
 -- ---- why it failed, and what was consumed
 
 pub returns-in_err-hash-clause-err : goal.returns-in_err-hash-clause-err
 returns-in_err-hash-clause-err g c =
-    let met = c.in_err-hash.ensures in
-    fails_with g.row.S _ _ _ _ _ (Failed c.in_err-hash.field-0.0) _ c.from_residual.ensures.1 (inl (
-      _,
-      refl,
-      record { cause = met.faults; consumed = met.err; verdict = met.verdict; settled = met.settled; unsettled = met.unsettled },
-    ))
+    passed_on c.from_residual.result (Failed c.in_err-hash.field-0.0) _ _ c.from_residual.ensures.1 (inl (_, refl, c.in_err-hash.ensures))
 
 pub returns-in_err-len-clause-err : goal.returns-in_err-len-clause-err
 returns-in_err-len-clause-err g c =
     let hash = c.in_ok-hash.ensures in
     let met = c.in_err-len.ensures in
-    fails_with g.row.S _ _ _ _ _ (Failed c.in_err-len.field-0.0) _ c.from_residual-in_err-len.ensures.1 (inr (
+    passed_on c.from_residual-in_err-len.result (Failed c.in_err-len.field-0.0) _ _ c.from_residual-in_err-len.ensures.1 (inr (
       _,
       _,
       (hash.fits, hash.ok),
@@ -49,7 +45,7 @@ returns-in_err-read_exact-clause-err g c =
     let fault = c.in_err-read_exact.field-0.0 in
     let long : length c.deref_mut.result.now ≡ c.in_ok-len.len = search rules in
     let fails = exact_fails _ _ _ _ _ _ _ fault long (len.faults ∙ hash.faults) met.faults met.eof met.err in
-    fails_with g.row.S _ _ _ _ _ (Failed (of_io fault)) _ c.from_residual-in_err-read_exact.ensures.1
+    passed_on c.from_residual-in_err-read_exact.result (Failed (of_io fault)) _ _ c.from_residual-in_err-read_exact.ensures.1
     (inr (_, _, (hash.fits, hash.ok), inr (_, _, len.ok, inr (inr ((of_io fault, refl, fails), omega arith)))))
 
 -- ---- an entry that was read

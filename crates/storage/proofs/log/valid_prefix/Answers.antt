@@ -1,17 +1,17 @@
-use Rattle.std.proofs.Common.{◌++◌, ◌-◌, [], length, length-append, length-take-le, refl, sym, ap, ◌∙◌, append_assoc, arith}
-use Rattle.storage.specs.Log.{none}
-use Rattle.storage.proofs.LogLemmas.{entries_more, longest_entries}
+use Rattle.std.proofs.Common.{◌++◌, ◌-◌, [], ◌∷◌, length, length-append, length-take-le, refl, sym, ap, ◌∙◌, append_assoc, arith}
+use Rattle.multihash.proofs.Forms.StreamLemmas.{parts_push}
+use Rattle.storage.proofs.LogLemmas.{longest_entries}
 use Rattle.storage.proofs.log.valid_prefix.Goals as goal
 
 pub loop-next-init : goal.loop-next-init
-loop-next-init c = ([], none, refl)
+loop-next-init c = ([], ([], refl), refl)
 
 pub loop-next-preserved : goal.loop-next-preserved
 loop-next-preserved c =
-    let (front, entries, cut) = c.loop-next.invariant in
+    let (front, (blocks, entries), cut) = c.loop-next.invariant in
     let (block, entry, is_entry, split) = c.in-Some.ensures.some in (
       front ++ entry,
-      entries_more front block entry entries is_entry,
+      (blocks ++ block ∷ [], parts_push _ blocks block front entry entries is_entry),
       cut ∙ (ap (λ z. front ++ z) split ∙ sym (append_assoc front entry c.in-Some.next.now)),
     )
 

@@ -1,7 +1,8 @@
 use Rattle.std.proofs.Common.{refl}
 use Rattle.multihash.specs.Encoding.{IsEncoding}
 use Rattle.multihash.specs.Verdict.{invalid_size}
-use Rattle.uses.proofs.BlameLemmas.{in_front, rejected_size, left_after}
+use Rattle.uses.proofs.BlameLemmas.{in_front, left_after}
+use Rattle.multihash.proofs.CallingLemmas.{rejected_size}
 use Rattle.uses.proofs.blame.read_slice.Goals as goal
 
 pub returns-clause-verdict : goal.returns-clause-verdict

@@ -1,0 +1,25 @@
+use Rattle.std.proofs.Common.{[], ◌∷◌, IfErr, refl}
+use Rattle.multihash.specs.Consuming.{ConsumesAtVarintError, none_is_insufficient}
+use Rattle.multihash.proofs.Varints.VarintReadLemmas.{none_read, reader_failed, input_ended}
+use Rattle.multihash.proofs.Varints.VarintWriteLemmas.{one_byte}
+use Rattle.multihash.proofs.OutcomeLemmas.{passed_err}
+use Rattle.multihash.proofs.varint.read_next.Goals as goal
+
+pub returns-in_err-first-clause-err : goal.returns-in_err-first-clause-err
+returns-in_err-first-clause-err g c =
+    passed_err (λ r. IfErr (none_is_insufficient r) (λ e. ConsumesAtVarintError e (g.R.Read.rest c.args.r.now) (g.R.Read.rest c.read_byte.new.r)))
+    c.from_residual.result _ c.from_residual.ensures.1
+    (rw c.in_err-first.ensures.err (reader_failed _ _ _ _ (none_read _) c.in_err-first.field-0.0 _ refl))
+
+pub returns-in_default-clause-err : goal.returns-in_default-clause-err
+returns-in_default-clause-err g c =
+    let ended = rw c.in_default.is at c.in_ok-first.ensures.byte in
+    rw ended.1 (input_ended _ _ _ _ (none_read _) ended.0 _ refl)
+
+pub returns-then-first-lt128-clause-ok : goal.returns-then-first-lt128-clause-ok
+returns-then-first-lt128-clause-ok g c =
+    rw c.from.ensures
+    (c.in-Some.first ∷ [], one_byte c.in-Some.first c.if-first-lt128.true, rw c.in-Some.is at c.in_ok-first.ensures.byte)
+
+pub returns-clause-ok : goal.returns-clause-ok
+returns-clause-ok g c = rw (rw c.in-Some.is at c.in_ok-first.ensures.byte) c.in_ok-read_after.ensures.ok
