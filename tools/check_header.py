@@ -188,7 +188,7 @@ def python_structs(text: str) -> Structs:
 
 
 def binding_faults(tree: Tree, crate: Declared) -> Iterator[str]:
-    numbers, source = {**crate.statuses, **crate.lengths}, "bindings/rust/src"
+    numbers, source = {**crate.statuses, **crate.lengths}, "bindings/rust/multihash_c/src"
     library = tree.read("bindings/python/verified_multihash/_library.py")
     script = tree.read("bindings/js/core.js")
     statuses = re.findall(r"'(\w+)'", group(r"\nconst STATUSES = \[(.*)\];\n", script))
@@ -200,7 +200,7 @@ def binding_faults(tree: Tree, crate: Declared) -> Iterator[str]:
         ("JavaScript's numbers", of_script, numbers),
         ("Rust's structs", structs_of(tree.read(f"{source}/ffi.rs")), crate.structs),
         ("Python's structs", python_structs(library), crate.structs),
-        ("Rust's version", group(r'\nversion = "(.*)"\n', tree.read("bindings/rust/Cargo.toml")), crate.version),
+        ("Rust's version", group(r'\nversion = "(.*)"\n', tree.read("bindings/rust/multihash_c/Cargo.toml")), crate.version),
         ("Python's version", group(r'\n__version__ = "(.*)"\n', library), crate.version),
         ("JavaScript's version", group(r'\n  "version": "(.*)",\n', tree.read("bindings/js/package.json")), crate.version),
     ):

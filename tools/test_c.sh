@@ -172,24 +172,49 @@ python_binding() {
   MULTIHASH_VERDICTS=$list bindings/python/test.sh "$library" "$work/python"
 }
 
-# Runs a command of Cargo for the crate for Rust; what is set comes first.
+# Runs a command of Cargo for the packages for Rust; what is set comes first.
 in_crate() {
-  env -C bindings/rust -u MULTIHASH_C_LIB_DIR MULTIHASH_VERDICTS="$list" RUSTFLAGS="-D warnings" \
-    RUSTDOCFLAGS="-D warnings" \
-    CARGO_TARGET_DIR="$work/target" "$@" --offline --locked
+  env -u MULTIHASH_C_LIB_DIR MULTIHASH_VERDICTS="$list" RUSTFLAGS="-D warnings" RUSTDOCFLAGS="-D warnings" \
+    bindings/rust/offline.sh "$work" "$@"
 }
 
-# The crate has the header's version, its tests pass with and without features, its pages have no warnings.
+# The same with the library.
+with_library() {
+  in_crate MULTIHASH_C_LIB_DIR="$(dirname "$library")" "$@"
+}
+
+# The crate over C has the header's version. The tests pass with and without features, the pages have no warnings,
+# and what is packed passes them too.
 rust_binding() {
-  local with
-  with=MULTIHASH_C_LIB_DIR=$(dirname "$library")
-  grep -qx "version = \"$version\"" bindings/rust/Cargo.toml && in_crate "$with" cargo doc --no-deps &&
-    in_crate "$with" cargo test --no-default-features && in_crate "$with" cargo test
+  grep -qx "version = \"$version\"" bindings/rust/multihash_c/Cargo.toml && with_library cargo doc --no-deps &&
+    with_library cargo test --no-default-features && with_library cargo test --no-default-features --features alloc &&
+    with_library cargo test && rust_packed
+}
+
+rust_packed() {
+  local packed=$work/rust/packed
+  with_library cargo package --workspace --exclude-lockfile --no-verify && mkdir "$packed" &&
+    tar xf "$work/target/package/multihash-0.19.5.crate" -C "$packed" &&
+    tar xf "$work/target/package/multihash_c-$version.crate" -C "$packed" || return 1
+  printf '[workspace]\n[patch.crates-io]\nmultihash_c.path = "../multihash_c-%s"\n' "$version" \
+    >> "$packed/multihash-0.19.5/Cargo.toml"
+  with_library cargo test --manifest-path packed/multihash-0.19.5/Cargo.toml
+}
+
+# The line of the pages puts the package in the place of that of crates.io, for a whole graph.
+rust_switch() {
+  with_library cargo test --manifest-path switch/Cargo.toml &&
+    with_library cargo build --manifest-path switch/client/Cargo.toml --no-default-features
+}
+
+rust_serde() {
+  with_library cargo test --features serde --test json &&
+    with_library cargo build -p multihash --no-default-features --features serde-codec
 }
 
 rust_lints() {
-  in_crate MULTIHASH_C_LIB_DIR="$(dirname "$library")" cargo clippy --all-targets &&
-    in_crate MULTIHASH_C_LIB_DIR="$(dirname "$library")" cargo clippy --no-default-features --features alloc
+  with_library cargo clippy --all-targets && with_library cargo clippy --no-default-features --all-targets &&
+    with_library cargo clippy --no-default-features --features alloc
 }
 
 # Whether the crate is built with an archive of that version in that directory; why not is in a file.
@@ -201,7 +226,8 @@ builds_with_version() {
     in_crate MULTIHASH_C_LIB_DIR="$1" cargo build 2> "$work/build"
 }
 
-# The archive is found in a directory of any name, and rejected if its version does not fit.
+# The archive is found in a directory of any name, and rejected if its version does not fit. Without a library the
+# build says what to do.
 rust_build() {
   local directory=$work/$'a \xff directory' major=${version%%.*} number
   mkdir -p "$directory" && cp "$library" "$directory" &&
@@ -212,15 +238,31 @@ rust_build() {
     grep "is version $((number / 10000)).$((number / 100 % 100)).$((number % 100)), not $major" \
       "$work/build" || return 1
   done
+  rejects "set MULTIHASH_C_LIB_DIR" in_crate MULTIHASH_C_SYSTEM=1 PKG_CONFIG_LIBDIR="$work/none" cargo build &&
+    rust_prebuilt
+}
+
+# An archive in the folder `prebuilt` of the package is enough.
+rust_prebuilt() {
+  local folder
+  folder=$work/rust/multihash_c/prebuilt/$(uname -m)
+  mkdir -p "$folder" && cp "$library" "$folder" && in_crate PKG_CONFIG_LIBDIR="$work/none" cargo test --test values &&
+    rm -r "${folder%/*}"
 }
 
 test_bindings() {
   try "the package for Python" python_binding
   has "the module for JavaScript" node && try "the module for JavaScript" bindings/js/test.sh "$library"
-  has "the crate for Rust" cargo rustc || return
-  try "the crate for Rust" rust_binding
-  try "the build of the crate for Rust" rust_build
-  has "lints of the crate for Rust" cargo-clippy && try "lints of the crate for Rust" rust_lints
+  has "the packages for Rust" cargo rustc || return
+  try "the packages for Rust" rust_binding
+  try "the build of the packages for Rust" rust_build
+  try "the switch to the packages for Rust" rust_switch
+  if compgen -G "/usr/share/cargo/registry/serde_json-1.*" > /dev/null; then
+    try "serde for Rust" rust_serde
+  else
+    leave_out "serde for Rust" "librust-serde-json-dev is not installed"
+  fi
+  has "lints of the packages for Rust" cargo-clippy && try "lints of the packages for Rust" rust_lints
 }
 
 # ---- all of it

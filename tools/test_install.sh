@@ -1,6 +1,6 @@
 #!/usr/bin/env bash
 # Installs and packs the library for C, and tests what was installed: its files, programs built against it,
-# its man pages, the crate for Rust, the packages for Debian, and the library for aarch64 in an emulator.
+# its man pages, the packages for Rust, the packages for Debian, and the library for aarch64 in an emulator.
 # The last line is 'N passed, M failed'.
 #
 #   PROVED=FOLDER    a copy of the repository whose crates are proved: libraries are built there, else here
@@ -178,13 +178,13 @@ with_program() {
   fi
 }
 
-# Runs a command of Cargo for the crate for Rust; what is set comes first.
+# Runs a command of Cargo for the packages for Rust; what is set comes first.
 in_crate() {
-  env -C bindings/rust -u MULTIHASH_C_LIB_DIR MULTIHASH_VERDICTS="$list" RUSTFLAGS="-D warnings" \
-    CARGO_TARGET_DIR="$work/target" "$@" --offline --locked
+  env -u MULTIHASH_C_LIB_DIR MULTIHASH_C_SYSTEM=1 MULTIHASH_VERDICTS="$list" RUSTFLAGS="-D warnings" \
+    bindings/rust/offline.sh "$work" "$@"
 }
 
-# The crate's tests with the shared library of the prefix, whose version is checked.
+# The tests with the shared library of the prefix, whose version is checked.
 rust_crate() {
   local set=(PKG_CONFIG_PATH="$prefix/lib/pkgconfig" LD_LIBRARY_PATH="$prefix/lib") next=$((major + 1))
   in_crate "${set[@]}" cargo test || return 1
@@ -281,7 +281,7 @@ if has "the installation" cc python3 rt readelf pkg-config; then
   test_programs
   has "man pages" mandoc && try "man pages" pages
   try "the program" with_program
-  has "the crate for Rust, as installed" cargo && try "the crate for Rust, as installed" rust_crate
+  has "the packages for Rust, as installed" cargo && try "the packages for Rust, as installed" rust_crate
   test_packages
   test_aarch64
   test_levels

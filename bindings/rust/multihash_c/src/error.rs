@@ -14,7 +14,7 @@ pub enum Error {
     NotMinimal,
     /// A digest of this length is too long, or the input has this number of trailing bytes.
     InvalidSize(u64),
-    /// This code is 2^63 or above.
+    /// This code, or number to be written as a varint, is 2^63 or above.
     InvalidCode(u64),
     /// The input ends inside the digest, or anywhere in a SCALE form. More input can change the result.
     UnexpectedEof,

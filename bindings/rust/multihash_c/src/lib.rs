@@ -16,11 +16,13 @@ mod error;
 mod ffi;
 #[cfg(feature = "std")]
 mod io;
-mod owned;
+pub mod varint;
 
 pub use borrowed::{Head, MultihashRef};
 pub use error::{Error, Result};
-pub use owned::Multihash;
+
+/// The maximum code.
+pub const CODE_MAX: u64 = u64::MAX >> 1;
 
 /// The maximum length of a digest.
 pub const DIGEST_MAX: usize = 255;

@@ -1,7 +1,9 @@
 //! The functions of the library over slices, and all the unsafe code of the crate.
 #![allow(unsafe_code)]
 
-use core::{ptr, slice};
+use crate::LENGTH_MAX;
+use core::mem::MaybeUninit;
+use core::slice;
 
 pub(crate) const OK: u32 = 0;
 pub(crate) const INSUFFICIENT: u32 = 1;
@@ -43,8 +45,20 @@ unsafe extern "C" {
     fn multihash_scale_decode(bytes: *const u8, bytes_length: usize) -> Decoded;
     fn multihash_head(bytes: *const u8, bytes_length: usize) -> Front;
     fn multihash_encoded_len(code: u64, digest_length: usize) -> Encoded;
-    fn multihash_encode(code: u64, digest: *const u8, digest_length: usize, out: *mut u8, out_length: usize) -> Encoded;
-    fn multihash_scale_encode(code: u64, digest: *const u8, digest_length: usize, out: *mut u8, out_length: usize) -> Encoded;
+    fn multihash_encode(
+        code: u64,
+        digest: *const u8,
+        digest_length: usize,
+        out: *mut u8,
+        out_length: usize,
+    ) -> Encoded;
+    fn multihash_scale_encode(
+        code: u64,
+        digest: *const u8,
+        digest_length: usize,
+        out: *mut u8,
+        out_length: usize,
+    ) -> Encoded;
     fn multihash_compare(
         left_code: u64,
         left_digest: *const u8,
@@ -58,58 +72,57 @@ unsafe extern "C" {
 // A slice points to as many initialised bytes as its length, which is below 2^63. While it is shared nothing
 // writes them, and while it is borrowed mutably nothing else accesses them. The library requires no more.
 
+#[inline]
 pub(crate) fn from_bytes(bytes: &[u8]) -> Decoded {
     unsafe { multihash_from_bytes(bytes.as_ptr(), bytes.len()) }
 }
 
+#[inline]
 pub(crate) fn read_limit(bytes: &[u8], limit: usize) -> Decoded {
     unsafe { multihash_read_limit(bytes.as_ptr(), bytes.len(), limit) }
 }
 
+#[inline]
 pub(crate) fn scale_decode(bytes: &[u8]) -> Decoded {
     unsafe { multihash_scale_decode(bytes.as_ptr(), bytes.len()) }
 }
 
+#[inline]
 pub(crate) fn head(bytes: &[u8]) -> Front {
     unsafe { multihash_head(bytes.as_ptr(), bytes.len()) }
 }
 
+#[inline]
 pub(crate) fn encoded_len(code: u64, digest_length: usize) -> Encoded {
     unsafe { multihash_encoded_len(code, digest_length) }
 }
 
+#[inline]
 pub(crate) fn encode(code: u64, digest: &[u8], out: &mut [u8]) -> Encoded {
     unsafe { multihash_encode(code, digest.as_ptr(), digest.len(), out.as_mut_ptr(), out.len()) }
 }
 
+#[inline]
 pub(crate) fn scale_encode(code: u64, digest: &[u8], out: &mut [u8]) -> Encoded {
     unsafe { multihash_scale_encode(code, digest.as_ptr(), digest.len(), out.as_mut_ptr(), out.len()) }
 }
 
+#[inline]
 pub(crate) fn compare(left_code: u64, left: &[u8], right_code: u64, right: &[u8]) -> i32 {
-    unsafe { multihash_compare(left_code, left.as_ptr(), left.len(), right_code, right.as_ptr(), right.len()) }
+    unsafe {
+        multihash_compare(left_code, left.as_ptr(), left.len(), right_code, right.as_ptr(), right.len())
+    }
 }
 
-/// A buffer for the encoding of a digest of at most `S` bytes. It has `11 + S` bytes, a length that the type
-/// of an array cannot express.
-#[repr(C)]
-#[derive(Clone, Copy)]
-pub(crate) struct Buffer<const S: usize> {
-    head: [u8; 11],
-    digest: [u8; S],
-}
-
-// In the layout of C there is no padding between arrays of bytes, so each byte of a buffer is initialised.
-impl<const S: usize> Buffer<S> {
-    pub(crate) const ZEROS: Self = Self { head: [0; 11], digest: [0; S] };
-
-    pub(crate) const fn as_slice(&self) -> &[u8] {
-        unsafe { slice::from_raw_parts(ptr::from_ref(self).cast(), size_of::<Self>()) }
-    }
-
-    pub(crate) fn as_mut_slice(&mut self) -> &mut [u8] {
-        unsafe { slice::from_raw_parts_mut(ptr::from_mut(self).cast(), size_of::<Self>()) }
-    }
+/// Calls a function with the encoding of a code below 2^63 and a digest of at most 255 bytes.
+#[inline]
+pub(crate) fn with_encoding<T>(code: u64, digest: &[u8], function: impl FnOnce(&[u8]) -> T) -> T {
+    let mut out = MaybeUninit::<[u8; LENGTH_MAX]>::uninit();
+    // The library reads nothing at `out`, and at `OK` it has written the first `length` bytes there.
+    let made =
+        unsafe { multihash_encode(code, digest.as_ptr(), digest.len(), out.as_mut_ptr().cast(), LENGTH_MAX) };
+    assert!(made.status == OK, "a valid code and digest have an encoding");
+    function(unsafe { slice::from_raw_parts(out.as_ptr().cast(), made.length) })
 }
 
 /// The texts of the library, with which those of `Error` are compared, and its version.
@@ -136,7 +149,8 @@ mod tests {
     #[test]
     fn version_is_the_crate_s() {
         let number = |text: &str| text.parse::<u32>().expect("a number");
-        let (major, minor) = (number(env!("CARGO_PKG_VERSION_MAJOR")), number(env!("CARGO_PKG_VERSION_MINOR")));
+        let (major, minor) =
+            (number(env!("CARGO_PKG_VERSION_MAJOR")), number(env!("CARGO_PKG_VERSION_MINOR")));
         let patch = number(env!("CARGO_PKG_VERSION_PATCH"));
         assert_eq!(unsafe { multihash_version() }, major * 10000 + minor * 100 + patch);
     }

@@ -1,0 +1,102 @@
+use crate::io;
+use core::fmt;
+use multihash_c::Error as Format;
+
+/// Why a call fails. The text says it; [`source`](core::error::Error::source) is the error of the reader or
+/// writer, if it is one.
+#[derive(Debug)]
+pub struct Error {
+    kind: Kind,
+}
+
+/// The names are shown by `Debug`.
+#[derive(Debug)]
+enum Kind {
+    Io(io::Error),
+    InvalidSize(u64),
+    InvalidCode(u64),
+    Varint(Varint),
+}
+
+#[derive(Debug)]
+enum Varint {
+    #[cfg(not(feature = "std"))]
+    Insufficient,
+    Overflow,
+    NotMinimal,
+}
+
+impl Error {
+    const fn new(kind: Kind) -> Self {
+        Self { kind }
+    }
+
+    pub(crate) const fn of_size(size: u64) -> Self {
+        Self::new(Kind::InvalidSize(size))
+    }
+
+    pub(crate) const fn of_code(code: u64) -> Self {
+        Self::new(Kind::InvalidCode(code))
+    }
+
+    pub(crate) const fn io(error: io::Error) -> Self {
+        Self::new(Kind::Io(error))
+    }
+
+    /// The input ends before or inside a varint.
+    #[cfg(feature = "std")]
+    pub(crate) fn insufficient() -> Self {
+        Self::io(io::ErrorKind::UnexpectedEof.into())
+    }
+
+    /// The input ends before or inside a varint.
+    #[cfg(not(feature = "std"))]
+    pub(crate) const fn insufficient() -> Self {
+        Self::new(Kind::Varint(Varint::Insufficient))
+    }
+
+    /// The input ends inside the digest: what a reader says that has too few bytes.
+    fn unexpected_end() -> Self {
+        Self::io(
+            io::Read::read_exact(&mut &[][..], &mut [0]).expect_err("no bytes fill no buffer of one byte"),
+        )
+    }
+}
+
+impl From<Format> for Error {
+    #[cold]
+    fn from(error: Format) -> Self {
+        match error {
+            Format::Insufficient => Self::insufficient(),
+            Format::Overflow => Self::new(Kind::Varint(Varint::Overflow)),
+            Format::NotMinimal => Self::new(Kind::Varint(Varint::NotMinimal)),
+            Format::InvalidSize(size) => Self::of_size(size),
+            Format::InvalidCode(code) => Self::of_code(code),
+            Format::UnexpectedEof => Self::unexpected_end(),
+            other => unreachable!("an error of a call that this crate does not make: {other}"),
+        }
+    }
+}
+
+impl fmt::Display for Error {
+    fn fmt(&self, f: &mut fmt::Formatter<'_>) -> fmt::Result {
+        match &self.kind {
+            Kind::Io(error) => error.fmt(f),
+            Kind::InvalidSize(size) => Format::InvalidSize(*size).fmt(f),
+            Kind::InvalidCode(code) => Format::InvalidCode(*code).fmt(f),
+            #[cfg(not(feature = "std"))]
+            Kind::Varint(Varint::Insufficient) => Format::Insufficient.fmt(f),
+            Kind::Varint(Varint::Overflow) => Format::Overflow.fmt(f),
+            Kind::Varint(Varint::NotMinimal) => Format::NotMinimal.fmt(f),
+        }
+    }
+}
+
+impl core::error::Error for Error {
+    fn source(&self) -> Option<&(dyn core::error::Error + 'static)> {
+        match &self.kind {
+            Kind::Io(error) => Some(error),
+            _ => None,
+        }
+    }
+}

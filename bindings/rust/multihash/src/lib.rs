@@ -1,0 +1,33 @@
+#![cfg_attr(any(feature = "std", not(doctest)), doc = include_str!("../README.md"))]
+#![no_std]
+#![forbid(unsafe_code)]
+#![warn(missing_docs)]
+
+#[cfg(feature = "alloc")]
+extern crate alloc;
+#[cfg(feature = "std")]
+extern crate std;
+
+mod error;
+mod multihash;
+#[cfg(not(feature = "std"))]
+pub mod no_std_io;
+mod read;
+#[cfg(feature = "serde")]
+mod serde;
+
+#[cfg(not(feature = "std"))]
+use no_std_io as io;
+#[cfg(feature = "std")]
+use std::io;
+
+pub use error::Error;
+pub use multihash::Multihash;
+
+/// The result of a call.
+#[deprecated(note = "name the error: `Result<T, multihash::Error>`")]
+pub type Result<T> = core::result::Result<T, Error>;
+
+/// An earlier name of [`Multihash`].
+#[deprecated(note = "use `multihash::Multihash`")]
+pub type MultihashGeneric<const N: usize> = Multihash<N>;

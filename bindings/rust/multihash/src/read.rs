@@ -1,0 +1,69 @@
+//! The code and the digest's length from a reader.
+use crate::io::Read;
+use crate::Error;
+use multihash_c::{Error as Format, Head, HEAD_MAX};
+
+/// The most bytes of a varint.
+const VARINT_MAX: usize = HEAD_MAX / 2;
+
+/// A byte with this bit is not the last one of its varint.
+const MORE: u8 = 0x80;
+
+/// Reads the two varints, and no byte after them. Each has at least one byte, and a byte without `MORE` is a
+/// whole varint: its own number. Every other head is decoded by `Head::read`.
+pub(crate) fn head<R: Read>(r: &mut R) -> Result<(u64, u64), Error> {
+    let mut bytes = [0; 2];
+    fill(r, &mut bytes)?;
+    let [code, length] = bytes;
+    if (code | length) & MORE == 0 {
+        return Ok((code.into(), length.into()));
+    }
+    let head = long_head(r, bytes)?;
+    Ok((head.code(), head.digest_length()))
+}
+
+/// Continues after the first two bytes. Whether a verdict is possible is known from `MORE` of each byte, so
+/// that `Head::read`, which gives it, is called for few beginnings.
+#[inline(never)]
+fn long_head<R: Read>(r: &mut R, first: [u8; 2]) -> Result<Head, Error> {
+    let mut bytes = [0; HEAD_MAX];
+    bytes[..2].copy_from_slice(&first);
+    let mut length = 2;
+    // How many bytes the last varint has, if more of it follow.
+    let mut open = if first[1] & MORE == 0 { 0 } else { 1 + usize::from(first[0] / MORE) };
+    loop {
+        if open == 0 || open == VARINT_MAX {
+            match Head::read(&bytes[..length]) {
+                Err(Format::Insufficient) => {}
+                found => return Ok(found?),
+            }
+        }
+        let next = &mut bytes[length..=length]; // a head of `HEAD_MAX` bytes has a verdict
+        fill(r, next)?;
+        open = if next[0] & MORE == 0 { 0 } else { open + 1 };
+        length += 1;
+    }
+}
+
+/// Fills `out`, of one byte or two. An end of the input is the same error for both.
+#[cfg(feature = "std")]
+fn fill<R: Read>(r: &mut R, out: &mut [u8]) -> Result<(), Error> {
+    r.read_exact(out).map_err(|error| match error.kind() {
+        // `read_exact` has a text of its own for it, and no inner error as another reader may have.
+        std::io::ErrorKind::UnexpectedEof if error.get_ref().is_none() => Error::insufficient(),
+        _ => Error::io(error),
+    })
+}
+
+/// Fills `out`, of one byte or two. An end of the input is the same error for both, and the bytes before it
+/// are taken, which not every `read_exact` does.
+#[cfg(not(feature = "std"))]
+fn fill<R: Read>(r: &mut R, mut out: &mut [u8]) -> Result<(), Error> {
+    while !out.is_empty() {
+        match r.read(out).map_err(Error::io)? {
+            0 => return Err(Error::insufficient()),
+            count => out = &mut out[count..],
+        }
+    }
+    Ok(())
+}

@@ -1,0 +1,141 @@
+//! Values: what upstream's documentation shows, limits, order, hashes, texts, and hostile arguments.
+#![cfg(feature = "std")]
+use multihash::{Error, Multihash};
+use multihash_c::{MultihashRef, DIGEST_MAX, LENGTH_MAX, SCALE_LENGTH_MAX};
+use std::collections::{BTreeSet, HashSet};
+use std::hash::{BuildHasher, BuildHasherDefault, DefaultHasher};
+
+const CODE_MAX: u64 = (1 << 63) - 1;
+
+/// `wrap` in a constant.
+const WRAPPED: Result<Multihash<64>, Error> = Multihash::wrap(0x12, b"abc");
+
+fn of<const S: usize>(code: u64, digest: &[u8]) -> Multihash<S> {
+    Multihash::wrap(code, digest).expect("it fits")
+}
+
+fn text<T>(result: Result<T, Error>) -> String {
+    result.err().expect("an error").to_string()
+}
+
+#[test]
+fn identity() {
+    const IDENTITY: u64 = 0;
+    assert_eq!(of::<64>(IDENTITY, b"content").digest(), b"content");
+    assert_eq!(text(Multihash::<6>::wrap(IDENTITY, b"content")), "Invalid multihash size 7.");
+}
+
+#[test]
+fn parts() {
+    let multihash = WRAPPED.expect("a multihash");
+    const PARTS: fn(&Multihash<64>) -> (u64, u8) = {
+        const fn parts(it: &Multihash<64>) -> (u64, u8) {
+            (it.code(), it.size())
+        }
+        parts
+    };
+    assert_eq!((PARTS(&multihash), multihash.digest()), ((0x12, 3), &b"abc"[..]));
+    assert_eq!(multihash.to_bytes(), b"\x12\x03abc");
+    assert_eq!(Vec::from(multihash), b"\x12\x03abc");
+    assert_eq!(multihash.into_inner().1[..4], *b"abc\0");
+    assert_eq!(Multihash::<0>::default().to_bytes(), [0, 0]);
+    assert_eq!(Multihash::<0>::default(), Multihash::<64>::default());
+    assert_eq!(size_of::<Multihash<64>>(), 80);
+    assert_eq!(
+        format!("{:?}", of::<4>(18, &[0, 255])),
+        "Multihash { code: 18, size: 2, digest: [0, 255, 0, 0] }"
+    );
+}
+
+#[test]
+fn limits() {
+    let longest = of::<300>(CODE_MAX, &[7; DIGEST_MAX]);
+    assert_eq!((longest.encoded_len(), longest.to_bytes().len()), (LENGTH_MAX, LENGTH_MAX));
+    assert_eq!(longest.write(&mut [0; LENGTH_MAX][..]).expect("room"), LENGTH_MAX);
+    assert_eq!(text(Multihash::<300>::wrap(1, &[7; DIGEST_MAX + 1])), "Invalid multihash size 256.");
+    assert_eq!(text(Multihash::<3>::wrap(u64::MAX, b"abcd")), "Invalid multihash size 4.");
+    assert_eq!(text(Multihash::<4>::wrap(1 << 63, b"abcd")), "Invalid multihash code 9223372036854775808.");
+    let huge = vec![0; (1 << 32) + 5]; // most of it is never touched
+    assert_eq!(text(Multihash::<300>::wrap(1, &huge)), "Invalid multihash size 4294967301.");
+    assert_eq!(text(Multihash::<1>::from_bytes(&huge)), "Invalid multihash size 4294967299.");
+    assert_eq!(text(Multihash::<0>::from_bytes(&[])), "unexpected end of file");
+}
+
+#[test]
+fn sizes() {
+    let long = of::<200>(0x12, &[7; 200]);
+    assert_eq!(long.truncate(127), of::<127>(0x12, &[7; 127]));
+    assert_eq!(long.truncate(127).to_bytes(), of::<127>(0x12, &[7; 127]).to_bytes());
+    assert_eq!(long.truncate(201), long);
+    assert_eq!(of::<9>(18, b"ab").truncate(3).size(), 2);
+    assert_eq!(
+        long.resize::<300>().map(|large| (large == long, large.size())).expect("it fits"),
+        (true, 200)
+    );
+    assert_eq!(text(long.resize::<199>()), "Invalid multihash size 200.");
+    assert_eq!(long.truncate(20).resize::<20>().expect("it fits").digest(), [7; 20]);
+}
+
+#[test]
+fn order_and_hash() {
+    let sorted = [(0, "zz"), (1, "b"), (1, "ab"), (1, "bb"), (255, ""), (256, "")];
+    let hasher = BuildHasherDefault::<DefaultHasher>::default();
+    for (at, left) in sorted.iter().map(|(code, digest)| of::<2>(*code, digest.as_bytes())).enumerate() {
+        for (to, (code, digest)) in sorted.iter().enumerate() {
+            // one that `truncate` made
+            let right =
+                of::<7>(*code, [digest.as_bytes(), b"zzz"].concat().as_slice()).truncate(digest.len() as u8);
+            let small = right.resize().expect("it fits");
+            assert_eq!((left.partial_cmp(&small), left == right), (Some(at.cmp(&to)), at == to));
+            assert_eq!(left.resize().expect("it fits").cmp(&right), at.cmp(&to));
+            assert_eq!(MultihashRef::from(&left).cmp(&MultihashRef::from(&right)), at.cmp(&to));
+            let hashes =
+                [hasher.hash_one(left), hasher.hash_one(right), hasher.hash_one(MultihashRef::from(&right))];
+            assert_eq!((hashes[0] == hashes[1], hashes[1] == hashes[2]), (at == to, true));
+        }
+    }
+    let all = || sorted.iter().rev().map(|(code, digest)| of::<2>(*code, digest.as_bytes()));
+    assert!(all().collect::<BTreeSet<_>>().into_iter().rev().eq(all()));
+    assert!(all().all(|one| all().collect::<HashSet<_>>().contains(&one)));
+    assert!(all().next().expect("one") > Multihash::default());
+}
+
+#[test]
+fn errors() {
+    use std::error::Error as _;
+    let of = |bytes: &[u8]| Multihash::<4>::from_bytes(bytes).expect_err("no multihash");
+    for (bytes, shown, text) in [
+        (&b"\x12\x05abcde"[..], "InvalidSize(5)", "Invalid multihash size 5."),
+        (b"\x12\x03abcd", "InvalidSize(1)", "Invalid multihash size 1."),
+        (b"\x92\x00\x00", "Varint(NotMinimal)", "encoding is not minimal"),
+        (&[0xff; 12], "Varint(Overflow)", "input bytes exceed maximum"),
+        (b"\x12", "Io(Kind(UnexpectedEof))", "unexpected end of file"),
+    ] {
+        let error = of(bytes);
+        assert_eq!(
+            (error.to_string(), format!("{error:?}")),
+            (text.into(), format!("Error {{ kind: {shown} }}"))
+        );
+        assert_eq!(error.source().is_some(), shown.starts_with("Io"));
+    }
+    let cut = of(b"\x12\x03ab");
+    let source =
+        cut.source().and_then(|source| source.downcast_ref::<std::io::Error>()).expect("an io::Error");
+    assert_eq!(
+        (source.kind(), cut.to_string()),
+        (std::io::ErrorKind::UnexpectedEof, "failed to fill whole buffer".into())
+    );
+    let boxed: Box<dyn std::error::Error + Send + Sync> = cut.into();
+    assert!(boxed.downcast::<Error>().is_ok());
+}
+
+#[test]
+fn scale() {
+    let mut form = [0; SCALE_LENGTH_MAX];
+    let multihash = of::<4>(0x12, b"abc");
+    let length = MultihashRef::from(&multihash).scale_encode(&mut form).expect("room");
+    assert_eq!(form[..length], *b"\x12\0\0\0\0\0\0\0\x03abc");
+    let found = MultihashRef::scale_decode(&mut &form[..]).expect("a form");
+    assert_eq!(Multihash::<4>::try_from(found).expect("it fits"), multihash);
+    assert_eq!(text(Multihash::<2>::try_from(found)), "Invalid multihash size 3.");
+}
