@@ -22,7 +22,7 @@ check() {
   count "$* accepts a planted script" $?
 }
 
-scripts=$(grep -rIlE -m 1 '^(#! ?/.*\b(ba)?sh|# shellcheck shell=bash)$' .ci tools bindings packaging | sort)
+scripts=$(grep -rIlE -m 1 '^(#! ?/.*\b(ba)?sh|# shellcheck shell=bash)$' .ci tools bindings packaging prebuilt | sort)
 check 'if true; then' bash -n
 if command -v shellcheck > /dev/null; then
   check $'#!/bin/bash\ncd $1' shellcheck -x

@@ -11,7 +11,8 @@
 #   --program         adds the program mh_show and its man page, for x86-64 only
 #
 #   LIBDIR=FOLDER     the libraries' folder below the prefix, else lib
-#   ARCHIVE=FILE      an archive that `rt lib` built for the target, else it is built, after proving the crate
+#   ARCHIVE=FILE      an archive that `rt lib` built for the target, else it is built, after proving the
+#                     crate. Without the kit it is the one of prebuilt/
 #   PROGRAM=FILE      the program, else it is built, after proving it
 #   PROVED=FOLDER     a copy of the repository in which they are built
 #   CC                the compiler that links the shared library, else cc, or for aarch64 on another machine
@@ -21,6 +22,7 @@ top=$(dirname "$(dirname "$(readlink -f "${BASH_SOURCE[0]}")")")
 crates=${PROVED:-$top}/crates
 header=$top/crates/multihash_c/include/multihash.h
 packaging=$top/packaging
+prebuilt=$top/prebuilt
 libdir=${LIBDIR:-lib}
 name=multihash_c
 target=x86_64
@@ -59,13 +61,29 @@ compiler() {
   fi
 }
 
+# Copies the archive for the target that the repository has, if its checksum is right.
+copy_prebuilt() {
+  local from=$target/lib$name.a
+  [ -f "$prebuilt/$from" ] || fail "no kit, whose command is rt, and no prebuilt archive for $target"
+  if ! grep " $from\$" "$prebuilt/SHA256SUMS" > "$work/sum" ||
+    ! (cd "$prebuilt" && sha256sum --quiet -c "$work/sum") >&2; then
+    fail "a wrong checksum: prebuilt/$from"
+  fi
+  echo "install_c.sh: no kit, whose command is rt: this is prebuilt/$from" >&2
+  cp "$prebuilt/$from" "$work"
+}
+
 # The path of the archive, which is built unless there is one.
 archive() {
   local options
   options=$(target_options)
-  if [ -z "${ARCHIVE-}" ]; then
+  if [ -n "${ARCHIVE-}" ]; then
+    :
+  elif [ -n "$(type -P rt)" ]; then
     (cd "$crates/multihash_c" && rt lib "$options") >&2 || fail "the archive was not built"
     cp "$crates/multihash_c/out/lib$name.a" "$work"
+  else
+    copy_prebuilt
   fi
   local made=${ARCHIVE:-$work/lib$name.a}
   [ -s "$made" ] || fail "no archive: $made"

@@ -26,9 +26,17 @@ build_library() {
   env -C "$proved/crates/multihash_c" rt lib --cpu=x86-64 && [ -s "$library" ]
 }
 
-# A second build gives the same bytes.
-builds_the_same() {
-  cp "$library" "$work/first.a" && build_library && cmp "$work/first.a" "$library"
+# The archives of the repository have the bytes of this library, and of a second build, which makes both anew.
+prebuilt_archives() {
+  cmp "$library" prebuilt/x86_64/libmultihash_c.a && NEW=$work/new PROVED=$proved prebuilt/build.sh --check
+}
+
+# What was built, and a copy of the archives in which a byte and its checksum were changed.
+planted_prebuilt() {
+  local archive=aarch64/libmultihash_c.a
+  cp -r prebuilt "$work" && printf x | dd bs=1 seek=9999 conv=notrunc of="$work/prebuilt/$archive" &&
+    (cd "$work/prebuilt" && sha256sum {x86_64,aarch64}/libmultihash_c.a > SHA256SUMS) || return 0
+  NEW=$work/new "$work/prebuilt/build.sh" --check
 }
 
 # The archive exports what the header declares, no more and no less.
@@ -282,7 +290,8 @@ if has "the library for C" cc python3 rt; then
   try "header and crate" python3 tools/check_header.py
   test_targets
   try "static library" build_library
-  try "the same library again" builds_the_same
+  try "the prebuilt archives" prebuilt_archives
+  try "a planted archive of them" rejects "aarch64/libmultihash_c.a differ: byte 10000" planted_prebuilt
   [ -s "$library" ] && test_library
 fi
 finish

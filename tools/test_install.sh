@@ -137,6 +137,47 @@ test_installation() {
     "$work/none"
 }
 
+# ---- without the kit
+
+# The folders of PATH in which there is no `rt`.
+path_without_kit() {
+  tr : '\n' <<< "$PATH" | while read -r folder; do [ -x "$folder/rt" ] || echo "$folder"; done | paste -sd :
+}
+
+# Runs install_c.sh without the kit in a copy of what it reads, after an edit of it.
+in_copy() {
+  local copy=$work/copy
+  rm -rf "$copy" && mkdir -p "$copy/crates/multihash_c" &&
+    cp -r tools packaging docs prebuilt LICENSE "$copy" &&
+    cp -r crates/multihash_c/include "$copy/crates/multihash_c" && eval "${edit-}" &&
+    env -u ARCHIVE -u PROVED PATH="$(path_without_kit)" "$copy/tools/install_c.sh" "$@"
+}
+
+# It says which archive it takes, which is what the kit builds.
+without_kit() {
+  in_copy "$work/no kit" 2> "$work/said" && cat "$work/said" &&
+    grep "no kit, .*: this is prebuilt/x86_64/libmultihash_c.a" "$work/said" &&
+    is_installed "$work/no kit" lib &&
+    cmp "$work/no kit/lib/libmultihash_c.a" "$prefix/lib/libmultihash_c.a"
+}
+
+aarch64_without_kit() {
+  in_copy --target aarch64 --dist "$work/no_kit.tar.gz" && cmp "$work/no_kit.tar.gz" "$work/aarch64.tar.gz"
+}
+
+test_without_kit() {
+  # shellcheck disable=SC2016
+  local flip='printf x | dd bs=1 seek=9999 conv=notrunc of="$copy/prebuilt/x86_64/libmultihash_c.a"'
+  try "installing without the kit" without_kit
+  try "the installed test of it" installed_test "$work/no kit"
+  edit=$flip try "a prebuilt archive with a wrong byte" rejects "a wrong checksum: prebuilt/x86_64" in_copy \
+    "$work/none"
+  # shellcheck disable=SC2016
+  edit='rm "$copy/prebuilt/SHA256SUMS"' try "no checksums" rejects "a wrong checksum" in_copy "$work/none"
+  try "no prebuilt archive" rejects "no prebuilt archive for x86_64-v3" in_copy --target x86_64-v3 \
+    "$work/none"
+}
+
 test_programs() {
   try "the installed test" installed_test "$prefix"
   try "the unpacked test" installed_test "$unpacked"
@@ -251,6 +292,7 @@ test_aarch64() {
   has aarch64 aarch64-linux-gnu-gcc qemu-aarch64 || return
   try "aarch64: packing and unpacking" unpack_aarch64
   try "aarch64: what was unpacked" is_installed "$root" lib
+  try "aarch64: packing without the kit" aarch64_without_kit
   try "aarch64: the installed test" env CC=aarch64-linux-gnu-gcc RUN="$emulator" \
     "$root/share/doc/multihash_c/examples/test.sh" "$root"
   try "aarch64: static" on_aarch64 -static
@@ -278,6 +320,7 @@ test_levels() {
 
 if has "the installation" cc python3 rt readelf pkg-config; then
   test_installation
+  test_without_kit
   test_programs
   has "man pages" mandoc && try "man pages" pages
   try "the program" with_program

@@ -32,7 +32,7 @@ lay_out() {
   done
   stub tools/speed "[ \"\$BUILT \$*\" = 'rt ci --sample 10' ] && $after_rt"
   stub tools/mutants.py "$proves && [ \"\${ALL-none} \$*\" = \"none --proved \$2 --jobs \$(((\$(nproc) + 1) / 2))\" ] && $sound"
-  for part in test_c.sh test_install.sh; do
+  for part in test_c.sh test_install.sh test_portable.sh; do
     stub "tools/$part" \
       "grep -c . \$PROVED/crates.txt | grep -qx 2 && [ -d \$PROVED/crates/multihash_c ] &&
       ! [ -d \$PROVED/crates/multihash/out ] && $sound"
@@ -71,7 +71,7 @@ try progress 0 "   rt: half" "" \
 try all 0 "$green" --all "stub tools/mutants.py '$proves && [ \"\$ALL \$*\" = \"1 --proved \$2 --all\" ] && $sound'"
 try since 0 "$green" "--since HEAD~1" \
   "stub tools/mutants.py '$proves && [ \"\${ALL-0} \$*\" = \"0 --proved \$2 --jobs \$(((\$(nproc) + 1) / 2)) --since HEAD~1\" ] && $sound'"
-try one_copy 0 "$green" "" "sed -i 's:^grep:[ -f \$PROVED/ended ] \&\& grep:' tools/test_c.sh tools/test_install.sh"
+try one_copy 0 "$green" "" "sed -i 's:^grep:[ -f \$PROVED/ended ] \&\& grep:' tools/test_c.sh tools/test_install.sh tools/test_portable.sh"
 try another_option 2 ".*--all .*" --al true
 try not_run 1 "public_names.py +FAILED .*" "" "sed -i 's/ public_names.py / /' .ci/run"
 try one_more 1 "$count passed, 1 failed" "" "stub tools/more.sh '$sound'"

@@ -8,27 +8,9 @@
 #   PROVED=FOLDER   a copy of the repository whose crates are proved: the archive is built there, else here
 set -euo pipefail
 here=$(dirname "$(readlink -f "${BASH_SOURCE[0]}")")
-crate=${PROVED:-$here/../..}/crates/multihash_c
-archive=$crate/out/libmultihash_c.a
+top=$(readlink -f "$here/../..")
 work=$(mktemp -d)
-
-# The archive for C has the same name, so it is kept aside.
-clean() {
-  if [ -f "$work/kept.a" ]; then mv -f "$work/kept.a" "$archive"; fi
-  rm -rf "$work"
-}
-trap clean EXIT
-
-link_wasm() {
-  local kit
-  kit=$(dirname "$(dirname "$(readlink -f "$(command -v rt)")")")
-  if [ -f "$archive" ]; then mv "$archive" "$work/kept.a"; fi
-  (cd "$crate" && rt lib --target=wasm64-unknown-unknown --jobs 1) > "$work/log" 2>&1 ||
-    { cat "$work/log"; return 1; }
-  "$kit/bin/rattle-link" --target wasm64-unknown-unknown --toolchain "$kit/toolchain" \
-    -o "$1" "$archive" > "$work/log" 2>&1 ||
-    { cat "$work/log"; return 1; }
-}
+trap 'rm -rf "$work"' EXIT
 
 # The linked module has a 64-bit memory, which few engines have. Makes it one of 32 bits, by `i32.wrap_i64` before
 # each access: the memory is of 1.1 MB, so no bit is lost. Nothing is optimised.
@@ -90,7 +72,7 @@ build_page() {
 }
 
 build_into() {
-  link_wasm "$work/linked.wasm" && lower_wasm "$work/linked.wasm" "$1/multihash.wasm" &&
+  "$top/tools/link_wasm.sh" "$work/linked.wasm" && lower_wasm "$work/linked.wasm" "$1/multihash.wasm" &&
     build_bytes "$1/multihash.wasm" > "$1/bytes.js" &&
     build_page "$1/multihash.wasm" > "$1/demo.html"
 }

@@ -6,7 +6,9 @@
 #include <assert.h>
 #include <stddef.h>
 
-/* The size of each struct and the offsets of its fields, as the library has them. */
+/* The size of each struct and the offsets of its fields, as the library has them. The portable source is also
+ * for machines whose size_t is smaller. */
+#if SIZE_MAX == UINT64_MAX
 static_assert(sizeof(multihash_status) == 4, "the status");
 static_assert(sizeof(multihash_decoded) == 48, "multihash_decoded");
 static_assert(offsetof(multihash_decoded, status) == 0, "multihash_decoded.status");
@@ -24,6 +26,7 @@ static_assert(sizeof(multihash_encoded) == 24, "multihash_encoded");
 static_assert(offsetof(multihash_encoded, status) == 0, "multihash_encoded.status");
 static_assert(offsetof(multihash_encoded, size) == 8, "multihash_encoded.size");
 static_assert(offsetof(multihash_encoded, length) == 16, "multihash_encoded.length");
+#endif
 
 /* The documented example, encoded and decoded: a code, the digest's length and the digest. */
 static void check_example(void)

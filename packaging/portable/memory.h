@@ -1,0 +1,224 @@
+/* The memory of a call, as the generated functions of module.h see it, and what else they need.
+ *
+ * To them an address is a number. Its upper bits name a block, the others are the offset in it. The blocks
+ * are the caller's own bytes, which are not copied, and one for the functions' stack and their result. Each
+ * access is checked against the length of its block, so the functions read nothing but the inputs, write
+ * nothing but `out`, or end the program by `abort`. They should never do that: before their translation they
+ * are proved to stay in the slices that they are given, and STACK_SIZE is what their deepest calls take.
+ *
+ * The blocks are on the caller's stack: no call allocates, and threads share nothing that is written. */
+#ifndef MEMORY_H
+#define MEMORY_H
+
+#include <stddef.h>
+#include <stdint.h>
+#include <stdlib.h>
+#include <string.h>
+
+/* The names of numbers in generated code. */
+typedef uint8_t u8;
+typedef uint32_t u32;
+typedef uint64_t u64;
+typedef int32_t s32;
+typedef int64_t s64;
+
+enum block { OWN, INPUT, OTHER, OUT };
+
+/* A block has 2^61 addresses: no input is longer, and none of them is negative, as the functions compare the
+ * top of their stack with its end as numbers with a sign. */
+#define BLOCK_BITS 61
+#define ADDRESS(block) ((u64)(block) << BLOCK_BITS)
+
+/* In the functions' own block the stack grows down from STACK_SIZE, and the result follows. */
+#define RESULT ((u64)STACK_SIZE)
+#define OWN_SIZE (STACK_SIZE + 64)
+
+typedef struct memory {
+    u64 w2c___stack_pointer; /* with the next one, what the module has as globals, by wasm2c's names */
+    u32 w2c_in_call;
+    const u8 *input, *other;
+    u8 *out;
+    u64 input_length, other_length, out_length;
+    u8 own[OWN_SIZE]; /* not initialised: the functions write each byte before they read it */
+} memory;
+
+/* Whether the `size` bytes at an offset are in a block of that length. */
+static inline int within(u64 offset, u64 size, u64 length)
+{
+    return size <= length && offset <= length - size;
+}
+
+static inline const u8 *readable(const memory *from, u64 address, u64 size)
+{
+    u64 offset = address & (ADDRESS(1) - 1);
+    switch (address >> BLOCK_BITS) {
+    case OWN:
+        if (within(offset, size, OWN_SIZE)) return from->own + offset;
+        if (offset >= TEXTS_START && within(offset - TEXTS_START, size, sizeof texts)) {
+            return texts + (offset - TEXTS_START);
+        }
+        break;
+    case INPUT:
+        if (within(offset, size, from->input_length)) return from->input + offset;
+        break;
+    case OTHER:
+        if (within(offset, size, from->other_length)) return from->other + offset;
+        break;
+    default:
+        break;
+    }
+    abort();
+}
+
+static inline u8 *writable(memory *to, u64 address, u64 size)
+{
+    u64 offset = address & (ADDRESS(1) - 1);
+    switch (address >> BLOCK_BITS) {
+    case OWN:
+        if (within(offset, size, OWN_SIZE)) return to->own + offset;
+        break;
+    case OUT:
+        if (within(offset, size, to->out_length)) return to->out + offset;
+        break;
+    default:
+        break;
+    }
+    abort();
+}
+
+/* Whether this machine has the lowest byte of a number first, as WebAssembly. Compilers know it. */
+static inline int lowest_first(void)
+{
+    const uint16_t one = 1;
+    u8 first = 0;
+    memcpy(&first, &one, 1);
+    return first == 1;
+}
+
+static inline u64 load(const memory *from, u64 address, size_t size)
+{
+    const u8 *bytes = readable(from, address, size);
+    u64 value = 0;
+    if (lowest_first()) {
+        memcpy(&value, bytes, size);
+    } else {
+        for (size_t i = size; i > 0; i--) value = value << 8 | bytes[i - 1];
+    }
+    return value;
+}
+
+static inline void store(memory *to, u64 address, u64 value, size_t size)
+{
+    u8 *bytes = writable(to, address, size);
+    if (lowest_first()) {
+        memcpy(bytes, &value, size);
+    } else {
+        for (size_t i = 0; i < size; i++) bytes[i] = (u8)(value >> 8 * i);
+    }
+}
+
+/* The number whose lowest eight bits are these, and whose others are the highest of them. */
+static inline u64 extended(u64 byte)
+{
+    return (byte ^ 0x80) - 0x80;
+}
+
+/* The instructions of WebAssembly that generated code calls, by their names. */
+static inline u32 i32_load(const memory *m, u64 address, u64 offset)
+{
+    return (u32)load(m, address + offset, 4);
+}
+
+static inline u32 i32_load16_u(const memory *m, u64 address, u64 offset)
+{
+    return (u32)load(m, address + offset, 2);
+}
+
+static inline u32 i32_load8_u(const memory *m, u64 address, u64 offset)
+{
+    return (u32)load(m, address + offset, 1);
+}
+
+static inline u32 i32_load8_s(const memory *m, u64 address, u64 offset)
+{
+    return (u32)extended(load(m, address + offset, 1));
+}
+
+static inline u64 i64_load(const memory *m, u64 address, u64 offset)
+{
+    return load(m, address + offset, 8);
+}
+
+static inline u64 i64_load8_u(const memory *m, u64 address, u64 offset)
+{
+    return load(m, address + offset, 1);
+}
+
+static inline u64 i64_load8_s(const memory *m, u64 address, u64 offset)
+{
+    return extended(load(m, address + offset, 1));
+}
+
+static inline void i32_store(memory *m, u64 address, u32 value, u64 offset)
+{
+    store(m, address + offset, value, 4);
+}
+
+static inline void i32_store16(memory *m, u64 address, u32 value, u64 offset)
+{
+    store(m, address + offset, value & 0xffff, 2);
+}
+
+static inline void i32_store8(memory *m, u64 address, u32 value, u64 offset)
+{
+    store(m, address + offset, value & 0xff, 1);
+}
+
+static inline void i64_store(memory *m, u64 address, u64 value, u64 offset)
+{
+    store(m, address + offset, value, 8);
+}
+
+static inline void i64_store8(memory *m, u64 address, u64 value, u64 offset)
+{
+    store(m, address + offset, value & 0xff, 1);
+}
+
+/* A pointer may be null if nothing is copied. */
+static inline void memory_copy(memory *m, u64 to, u64 from, u64 size)
+{
+    if (size > 0) memmove(writable(m, to, size), readable(m, from, size), (size_t)size);
+}
+
+static inline void memory_fill(memory *m, u64 to, u32 byte, u64 size)
+{
+    if (size > 0) memset(writable(m, to, size), (int)(byte & 0xff), (size_t)size);
+}
+
+/* The number of zero bits before the highest one, and after the lowest one. */
+static inline u64 I64_CLZ(u64 number)
+{
+    u64 zeros = 64;
+    for (unsigned half = 32; half > 0; half /= 2) {
+        if (number >> half != 0) {
+            number >>= half;
+            zeros -= half;
+        }
+    }
+    return zeros - number;
+}
+
+static inline u64 I64_CTZ(u64 number)
+{
+    return number == 0 ? 64 : 63 - I64_CLZ(number & (0 - number));
+}
+
+static inline u32 DIV_U(u32 number, u32 divisor)
+{
+    if (divisor == 0) abort();
+    return number / divisor;
+}
+
+#define UNREACHABLE abort()
+
+#endif

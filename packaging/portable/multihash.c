@@ -1,0 +1,147 @@
+/* The functions of multihash.h over the generated ones of module.h. Each passes on its arguments, with
+ * addresses in place of pointers, and returns what the generated function wrote. Nothing is decided here. */
+#include "multihash.h"
+
+#include "module.h"
+
+/* Begins a call with two inputs and a place for output; null and 0 stand for what it has not. */
+static inline void begin(memory *call, const uint8_t *input, size_t input_length, const uint8_t *other,
+                         size_t other_length, uint8_t *out, size_t out_length)
+{
+    call->w2c___stack_pointer = STACK_SIZE;
+    call->w2c_in_call = 0;
+    call->input = input;
+    call->input_length = input_length;
+    call->other = other;
+    call->other_length = other_length;
+    call->out = out;
+    call->out_length = out_length;
+}
+
+/* A field of the result, whose structs have numbers of eight bytes on every machine. */
+static inline uint64_t field(const memory *call, unsigned number)
+{
+    return load(call, RESULT + 8 * number, 8);
+}
+
+static inline multihash_status status(const memory *call)
+{
+    return (multihash_status)load(call, RESULT, 4);
+}
+
+static inline multihash_decoded decoded(const memory *call)
+{
+    multihash_decoded result;
+    result.status = status(call);
+    result.size = field(call, 1);
+    result.code = field(call, 2);
+    result.digest_offset = (size_t)field(call, 3);
+    result.digest_length = (size_t)field(call, 4);
+    result.taken = (size_t)field(call, 5);
+    return result;
+}
+
+static inline multihash_encoded encoded(const memory *call)
+{
+    multihash_encoded result;
+    result.status = status(call);
+    result.size = field(call, 1);
+    result.length = (size_t)field(call, 2);
+    return result;
+}
+
+multihash_decoded multihash_from_bytes(const uint8_t *bytes, size_t bytes_length)
+{
+    memory call;
+    begin(&call, bytes, bytes_length, NULL, 0, NULL, 0);
+    w2c_multihash_from_bytes(&call, RESULT, ADDRESS(INPUT), bytes_length);
+    return decoded(&call);
+}
+
+multihash_decoded multihash_read(const uint8_t *bytes, size_t bytes_length)
+{
+    memory call;
+    begin(&call, bytes, bytes_length, NULL, 0, NULL, 0);
+    w2c_multihash_read(&call, RESULT, ADDRESS(INPUT), bytes_length);
+    return decoded(&call);
+}
+
+multihash_decoded multihash_read_limit(const uint8_t *bytes, size_t bytes_length, size_t limit)
+{
+    memory call;
+    begin(&call, bytes, bytes_length, NULL, 0, NULL, 0);
+    w2c_multihash_read_limit(&call, RESULT, ADDRESS(INPUT), bytes_length, limit);
+    return decoded(&call);
+}
+
+multihash_front multihash_head(const uint8_t *bytes, size_t bytes_length)
+{
+    memory call;
+    multihash_front result;
+    begin(&call, bytes, bytes_length, NULL, 0, NULL, 0);
+    w2c_multihash_head(&call, RESULT, ADDRESS(INPUT), bytes_length);
+    result.status = status(&call);
+    result.code = field(&call, 1);
+    result.digest_length = field(&call, 2);
+    result.taken = (size_t)field(&call, 3);
+    return result;
+}
+
+multihash_decoded multihash_scale_decode(const uint8_t *bytes, size_t bytes_length)
+{
+    memory call;
+    begin(&call, bytes, bytes_length, NULL, 0, NULL, 0);
+    w2c_multihash_scale_decode(&call, RESULT, ADDRESS(INPUT), bytes_length);
+    return decoded(&call);
+}
+
+multihash_encoded multihash_encoded_len(uint64_t code, size_t digest_length)
+{
+    memory call;
+    begin(&call, NULL, 0, NULL, 0, NULL, 0);
+    w2c_multihash_encoded_len(&call, RESULT, code, digest_length);
+    return encoded(&call);
+}
+
+multihash_encoded multihash_encode(uint64_t code, const uint8_t *digest, size_t digest_length, uint8_t *out,
+                                   size_t out_length)
+{
+    memory call;
+    begin(&call, digest, digest_length, NULL, 0, out, out_length);
+    w2c_multihash_encode(&call, RESULT, code, ADDRESS(INPUT), digest_length, ADDRESS(OUT), out_length);
+    return encoded(&call);
+}
+
+multihash_encoded multihash_scale_encode(uint64_t code, const uint8_t *digest, size_t digest_length,
+                                         uint8_t *out, size_t out_length)
+{
+    memory call;
+    begin(&call, digest, digest_length, NULL, 0, out, out_length);
+    w2c_multihash_scale_encode(&call, RESULT, code, ADDRESS(INPUT), digest_length, ADDRESS(OUT), out_length);
+    return encoded(&call);
+}
+
+int32_t multihash_compare(uint64_t left_code, const uint8_t *left_digest, size_t left_digest_length,
+                          uint64_t right_code, const uint8_t *right_digest, size_t right_digest_length)
+{
+    memory call;
+    begin(&call, left_digest, left_digest_length, right_digest, right_digest_length, NULL, 0);
+    uint32_t order = w2c_multihash_compare(&call, left_code, ADDRESS(INPUT), left_digest_length, right_code,
+                                           ADDRESS(OTHER), right_digest_length);
+    return order == 0 ? 0 : order == 1 ? 1 : -1;
+}
+
+uint32_t multihash_version(void)
+{
+    memory call;
+    begin(&call, NULL, 0, NULL, 0, NULL, 0);
+    return w2c_multihash_version(&call);
+}
+
+multihash_encoded multihash_put_status_text(multihash_status of, uint8_t *out, size_t out_length)
+{
+    memory call;
+    begin(&call, NULL, 0, NULL, 0, out, out_length);
+    w2c_multihash_put_status_text(&call, RESULT, of, ADDRESS(OUT), out_length);
+    return encoded(&call);
+}

@@ -1,0 +1,170 @@
+#!/usr/bin/env python3
+"""Makes C from the library as WebAssembly with 64-bit memory. wasm2c (WABT 1.0.32) translates instructions,
+but knows no such memory, and its own is one block. So each access becomes a call of a function of memory.h.
+
+    translate.py calls LINKED.wat > CALLS.wat            LINKED.wat is what wasm2wat prints of the module
+    translate.py module LINKED.wat CALLS.c > module.h    CALLS.c is what wasm2c makes of CALLS.wat
+
+A text in no known form is an error, as that of another version of WABT may be.
+"""
+import re
+import sys
+from pathlib import Path
+
+ACCESS = re.compile(r"( *)(i(?:32|64))\.(load|store)(\w*)(?: offset=(\d+))?(?: align=\d+)?(\)*)")
+BULK = re.compile(r"( *)memory\.(copy|fill)(\)*)")
+# What says something of the memory itself, and does no access.
+ABOUT_MEMORY = re.compile(r'  \((?:memory |data |export "memory" |export "__heap_base" ).*')
+DATA = re.compile(r'  \(data (?:\$\S+ )?\(i64\.const (\d+)\) "((?:[^"\\]|\\[0-9a-f]{2})*)"\)(\)?)')
+OTHER_MEMORY = re.compile(r"\b(?:memory|table|elem|data)\.\w+|\bcall_indirect\b|\((?:table|elem) ")
+FUNCTION = re.compile(r"  \(func (\S+) ")
+# What a function does with the top of the stack first: it takes its frame, or only looks what is left.
+FRAME = re.compile(r"global\.get \$__stack_pointer\s+i64\.const (\d+)\s+i64\.sub\s+local\.tee ")
+NO_FRAME = re.compile(
+    r"global\.get \$__stack_pointer\s+(?:local\.tee \d+\s+)?i64\.const (?:16\s+i64\.lt_s|15\s+i64\.gt_s)\s"
+)
+BULK_PARAMETERS = {"copy": "i64 i64 i64", "fill": "i64 i32 i64"}
+# A function traps if less than this is left of the stack below its frame.
+STACK_LEFT = 16
+GLOBALS = r"""static void init_globals\(Z_module_instance_t\* instance\) \{
+  instance->w2c___stack_pointer = \d+ull;
+  instance->w2c_in_call = 0u;
+  instance->w2c_g2 = \d+ull;
+\}
+"""
+CALL = re.compile(r"\(\*Z_memoryZ_(\w+)\)\(instance->Z_memory_instance, ")
+
+
+class Unread(Exception):
+    """A text in no known form."""
+
+
+def need(fact: object, what: str) -> None:
+    if not fact:
+        raise Unread(f"not so: {what}")
+
+
+def matched(found: re.Match[str] | None, what: str) -> re.Match[str]:
+    if found is None:
+        raise Unread(f"not so: {what}")
+    return found
+
+
+def access_call(line: str) -> tuple[str, str, str] | None:
+    """Returns the name of an access's function, its type, and the call; nothing for another instruction."""
+    if found := ACCESS.fullmatch(line):
+        indent, width, kind, narrow, offset, end = found.groups()
+        name = f"{width}_{kind}{narrow}"
+        signature = f"(param i64 i64) (result {width})" if kind == "load" else f"(param i64 {width} i64)"
+        return name, signature, f"{indent}i64.const {offset or 0}\n{indent}call ${name}{end}"
+    if found := BULK.fullmatch(line):
+        indent, kind, end = found.groups()
+        return f"memory_{kind}", f"(param {BULK_PARAMETERS[kind]})", f"{indent}call $memory_{kind}{end}"
+    return None
+
+
+def calls(linked: str) -> str:
+    """Returns the module with calls for accesses, and without its memory."""
+    lines: list[str] = []
+    imports: dict[str, str] = {}
+    for line in linked.splitlines():
+        if called := access_call(line):
+            name, signature, line = called
+            imports[name] = f'  (import "memory" "{name}" (func ${name} {signature}))'
+        elif ABOUT_MEMORY.fullmatch(line):
+            line = ")" * (line.count(")") - line.count("(")) if line.startswith("  (data ") else ""
+        else:
+            need(not OTHER_MEMORY.search(line), f"an access is known: {line.strip()}")
+        lines.append(line)
+    first = next(i for i, line in enumerate(lines) if FUNCTION.match(line))
+    lines[first:first] = [imports[name] for name in sorted(imports)]
+    return "\n".join(line for line in lines if line) + "\n"
+
+
+def bodies(linked: str) -> dict[str, str]:
+    """Returns the text of each function, by its name."""
+    parts = re.split(FUNCTION, linked)
+    return dict(zip(parts[1::2], parts[2::2]))
+
+
+def stack_size(linked: str) -> int:
+    """Returns what the deepest calls take of the stack, and what has to be left. No function calls itself."""
+    functions = bodies(linked)
+    known: dict[str, int] = {}
+
+    def deepest(name: str, callers: tuple[str, ...]) -> int:
+        need(name not in callers, f"{name} is not recursive")
+        if name not in known:
+            body = functions[name]
+            frames = [int(size) for size in FRAME.findall(body)]
+            looks = len(frames) + len(NO_FRAME.findall(body))
+            need(looks == body.count("global.get $__stack_pointer") <= 1, f"{name} has at most one frame")
+            within = [deepest(it, (*callers, name)) for it in re.findall(r"call (\$[^\s)]+)", body)]
+            known[name] = sum(frames) + max(within, default=0)
+        return known[name]
+
+    return max(deepest(name, ()) for name in functions) + STACK_LEFT
+
+
+def texts(linked: str) -> tuple[int, bytes]:
+    """Returns the address and the bytes of the module's data."""
+    found = [DATA.fullmatch(line) for line in linked.splitlines() if line.startswith("  (data ")]
+    need(len(found) == 1, "the module has one block of data")
+    start, text, _ = matched(found[0], "the data is text").groups()
+    return int(start), re.sub(rb"\\([0-9a-f]{2})", lambda it: bytes([int(it[1], 16)]), text.encode())
+
+
+def functions(linked: str, made: str) -> str:
+    """Returns the functions that wasm2c made, with calls of memory.h, and without the frame around them."""
+    pattern = r"\n((?:static (?:void|u32|u64) w2c_\w+\(.*\);\n)+)\n(.*?)\n(?=/\* export: )"
+    found = matched(re.search(pattern, made, re.DOTALL), "wasm2c declares functions before it defines them")
+    text, initial = re.subn(GLOBALS, "", found[2])
+    need(initial == 1, "the module has the globals __stack_pointer, in_call and __heap_base")
+    head = re.compile(r"^static .* w2c_\w+\(", re.MULTILINE)
+    declared, defined = len(head.findall(found[1])), len(head.findall(text))
+    need(declared == defined == len(bodies(linked)), "each function is declared and defined")
+    text, replaced = CALL.subn(r"\1(instance, ", text)
+    accesses = sum(access_call(line) is not None for line in linked.splitlines())
+    need(replaced == accesses > 0, "each access is a call")
+    text = re.sub(r"^  FUNC_(?:PROLOGUE|EPILOGUE);\n", "", text, flags=re.MULTILINE)
+    both = (found[1] + text).replace("Z_module_instance_t*", "memory*")
+    need(not re.search(r"\bZ_|wasm_rt|w2c_memory|w2c_table", both), "nothing else of wasm2c's frame is used")
+    return re.sub(r"[ \t]+$", "", both, flags=re.MULTILINE).strip()
+
+
+def module(linked: str, made: str) -> str:
+    start, data = texts(linked)
+    size = stack_size(linked)
+    need(size + 64 <= start, "the own block ends before the texts")
+    rows = [", ".join(map(str, data[at : at + 20])) for at in range(0, len(data), 20)]
+    return "\n".join((
+        "/* Made from the proved library by translate.py and wasm2c: not to be edited. */",
+        "#ifndef MODULE_H\n#define MODULE_H\n",
+        f"#define STACK_SIZE {size}",
+        f"#define TEXTS_START {start}",
+        f"static const unsigned char texts[{len(data)}] = {{\n    " + ",\n    ".join(rows) + "};\n",
+        '#include "memory.h"\n',
+        "/* The rest is generated: compilers are not to warn of it. */",
+        "#if defined(__GNUC__)\n#pragma GCC system_header\n#endif\n",
+        functions(linked, made) + "\n",
+        "#endif",
+    )) + "\n"
+
+
+def main() -> int:
+    try:
+        match sys.argv[1:]:
+            case ["calls", linked]:
+                print(calls(Path(linked).read_text()), end="")
+            case ["module", linked, made]:
+                print(module(Path(linked).read_text(), Path(made).read_text()), end="")
+            case _:
+                print(__doc__, file=sys.stderr)
+                return 2
+    except Unread as error:
+        print(f"translate.py: {error}", file=sys.stderr)
+        return 1
+    return 0
+
+
+sys.exit(main())
