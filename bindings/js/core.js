@@ -202,17 +202,9 @@ function found() {
 /** Decodes the multihash whose encoding is the whole of the bytes. */
 export function decode(bytes) {
   const length = put(bytes, first);
-  if (length > LENGTH_MAX) throw ofLong(length);
-  library.multihash_from_bytes(resultAt, firstAt, NUMBERS[length]);
+  library.multihash_from_prefix(resultAt, firstAt, NUMBERS[Math.min(length, PREFIX_MAX)], bits64(length, 'a length'));
   if (narrow(0) !== 0) throw failure(length);
   return found();
-}
-
-/** The error of an input that is longer than any encoding: where an encoding is its prefix, bytes follow. */
-function ofLong(length) {
-  library.multihash_read(resultAt, firstAt, NUMBERS[Math.min(length, PREFIX_MAX)]);
-  if (narrow(0) !== 0) return failure(length);
-  return new MultihashError('invalid_size', { size: length - narrow(40), taken: length });
 }
 
 /** Decodes the multihash whose encoding is a prefix of the bytes, with a digest of at most `limit` bytes. */

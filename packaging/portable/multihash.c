@@ -58,6 +58,14 @@ multihash_decoded multihash_from_bytes(const uint8_t *bytes, size_t bytes_length
     return decoded(&call);
 }
 
+multihash_decoded multihash_from_prefix(const uint8_t *prefix, size_t prefix_length, size_t whole_length)
+{
+    memory call;
+    begin(&call, prefix, prefix_length, NULL, 0, NULL, 0);
+    w2c_multihash_from_prefix(&call, RESULT, ADDRESS(INPUT), prefix_length, whole_length);
+    return decoded(&call);
+}
+
 multihash_decoded multihash_read(const uint8_t *bytes, size_t bytes_length)
 {
     memory call;

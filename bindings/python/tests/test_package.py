@@ -216,7 +216,7 @@ class Library(unittest.TestCase):
 
     def test_versions(self):
         texts = {9999: "has version 0.99.99", 20000: "has version 2.0.0",
-            10000: "no libmultihash_c: .*multihash_from_bytes"}
+            10000: "no libmultihash_c: .*multihash_from_prefix"}
         with tempfile.TemporaryDirectory() as folder:
             for version, text in texts.items():
                 source, library = Path(folder, "v.c"), Path(folder, "%d.so" % version)

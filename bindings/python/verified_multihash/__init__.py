@@ -137,13 +137,7 @@ def _multihash(data: bytes, found: Any) -> Multihash:
 def decode(data: Buffer) -> Multihash:
     """Decodes the multihash whose encoding is all of the bytes; trailing bytes are an INVALID_SIZE."""
     first, length = _prefix(data, HEAD_MAX + DIGEST_MAX)
-    if length == len(first):
-        return _multihash(first, C.from_bytes(first, length))
-    # Longer than any encoding: an error within the first bytes, or trailing bytes.
-    found = C.read_limit(first, len(first), DIGEST_MAX)
-    if found.status == Status.OK:
-        raise MultihashError(Status.INVALID_SIZE, length - found.taken, 0, length)
-    raise MultihashError(found.status, found.size, found.code, length)
+    return _multihash(first, C.from_prefix(first, len(first), length))
 
 
 def read(data: Buffer, limit: int = DIGEST_MAX) -> Tuple[Multihash, int]:

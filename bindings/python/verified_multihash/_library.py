@@ -57,7 +57,7 @@ _OUTPUT = [ctypes.c_void_p, ctypes.c_size_t]
 _PAIR = [ctypes.c_uint64, *_INPUT]
 _FUNCTIONS = {
     "version": (ctypes.c_uint32, []),
-    "from_bytes": (_Decoded, _INPUT),
+    "from_prefix": (_Decoded, [*_INPUT, ctypes.c_size_t]),
     "read_limit": (_Decoded, [*_INPUT, ctypes.c_size_t]),
     "scale_decode": (_Decoded, _INPUT),
     "head": (_Front, _INPUT),

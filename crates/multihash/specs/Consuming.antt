@@ -1,5 +1,5 @@
 -- What the library's calls consumed from a reader.
-use Rattle.std.specs.Prelude.{◌≡◌, ◌+◌, ◌<◌, ℕ, List, ◌⊎◌, Option, Some, None, Result, Ok, Err, IfSome, IfOk, IfErr}
+use Rattle.std.specs.Prelude.{◌≡◌, ◌+◌, ◌<◌, ◌≤◌, ℕ, List, length, drop, ◌⊎◌, Option, Some, None, Result, Ok, Err, IfSome, IfOk, IfErr}
 use Rattle.multihash.specs.Bytes.{IsPrefix, IsStrictPrefix}
 use Rattle.multihash.specs.Pair.{digest_limit, FitsBuffer}
 use Rattle.multihash.specs.Varint.{VarintError, insufficient, IsVarint, IsInsufficient, BeginsMalformed}
@@ -58,6 +58,11 @@ pub record ConsumesAtVarintError (e : Refusal) (old new : Option (List ℕ)) : T
   pub all : IsVarintError insufficient e → IsAtEnd new
   pub failed : IsReaderError e → IsInsufficient consumed
 
+-- so does the error, and that many bytes are those that reading the varint consumes
+abbrev pub IsFrontErrorAt : List ℕ → Refusal → ℕ → Type 0
+IsFrontErrorAt input e taken = IsFrontError input e × (taken ≤ length input)
+    × ConsumesAtVarintError e (Some input) (Some (drop taken input))
+
 -- what `read` consumed when it failed: all of an insufficient input, at least both varints of a
 -- truncated digest; after a failure of the reader, bytes whose own verdict is incomplete
 pub record ConsumesAtError (S : ℕ) (e : Refusal) (old new : Option (List ℕ)) : Type 0 where
@@ -73,6 +78,17 @@ pub record ConsumesShortestSettling (S : ℕ) (rest : List ℕ) (new : Option (L
   pub front : List ℕ
   pub shortest : IsShortestSettling S rest front
   pub consumes : Consumes (Some rest) front new
+
+-- one of the two varints at the front of the input is malformed, so for each capacity reading returns this
+-- error, and consumes that many bytes: the shortest prefix that settles it, or all of an insufficient input
+pub record IsHeadError (input : List ℕ) (e : Refusal) (taken : ℕ) : Type 0 where
+  pub fault : VarintError
+  pub named : IsVarintError fault e
+  pub verdict : (S : ℕ) → HasVerdict S input (malformed fault)
+  pub within : taken ≤ length input
+  pub settled : (S : ℕ) → ¬ (IsIncomplete (malformed fault)) →
+      ConsumesShortestSettling S input (Some (drop taken input))
+  pub insufficient : fault ≡ insufficient → taken ≡ length input
 
 -- no prefix of what a call consumed settles a verdict
 pub record ConsumesNothingSettling (S : ℕ) (rest : List ℕ) (new : Option (List ℕ)) : Type 0 where

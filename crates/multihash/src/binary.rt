@@ -14,8 +14,7 @@ ghost use Rattle.multihash.specs.Outcome.{pair_of, IsResultOf};
 
 use crate::multihash::whole;
 use crate::no_std_io::{self, Read, Write};
-use crate::varint::{self, word};
-use crate::{Error, Multihash};
+use crate::{Error, Head, Multihash, varint};
 use std::alloc::Global;
 
 impl<const S: usize> Multihash<S> {
@@ -118,18 +117,13 @@ impl<const S: usize> Multihash<S> {
     pub fn from_bytes(bytes: &[u8]) -> Result<Self, Error>
         ensures { (v : Verdict) × HasWholeVerdict S bytes.now v × IsResultOf result v }
     {
-        let Some((code, code_len)) = word::read_front(bytes) else {
-            return Err(word::front_fault(bytes));
-        };
-        let left = &bytes[code_len..];
-        let Some((size, size_len)) = word::read_front(left) else {
-            return Err(word::front_fault(left));
-        };
-        if size > S as u64 || size > 255 {
-            return Err(Error::from_size(size));
+        let head = Head::read_front(bytes)?;
+        if head.digest_len > S as u64 || head.digest_len > 255 {
+            return Err(Error::from_size(head.digest_len));
         }
-        let len = size as usize;
-        let digest = &left[size_len..];
+        let code = head.code;
+        let len = head.digest_len as usize;
+        let digest = &bytes[head.digest_offset..];
         if digest.len() < len {
             return Err(Error::from(no_std_io::Error::unexpected_eof()));
         }

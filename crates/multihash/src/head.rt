@@ -1,8 +1,9 @@
 //! The two varints at the front of an encoding, for callers that keep the digest where it is.
-ghost use Rattle.std.specs.Prelude.{ℕ, IfOk, IfErr};
+ghost use Rattle.std.specs.Prelude.{ℕ, IfOk, IfErr, IfSome, IfNone};
 ghost use Rattle.multihash.specs.Varint.{VarintError};
 ghost use Rattle.multihash.specs.Verdict.{malformed, HasVerdict, HasHead};
 ghost use Rattle.multihash.specs.Refusal.{IsVarintError};
+ghost use Rattle.multihash.specs.Consuming.{IsHeadError};
 
 use crate::Error;
 use crate::varint::word;
@@ -35,17 +36,57 @@ impl Head {
         ensures err { IfErr result (λ e. (fault : VarintError) × IsVarintError fault e
             × ((S : ℕ) → HasVerdict S bytes.now (malformed fault))) }
     {
-        let Some((code, code_len)) = word::read_front(bytes) else {
-            return Err(word::front_fault(bytes));
-        };
-        let left = &bytes[code_len..];
-        let Some((size, size_len)) = word::read_front(left) else {
-            return Err(word::front_fault(left));
-        };
-        Ok(Head {
+        if let Some(head) = Self::find_front(bytes) {
+            return Ok(head);
+        }
+        match Self::read_counted(bytes) {
+            Ok(head) => Ok(head),
+            Err((error, _)) => Err(error),
+        }
+    }
+
+    /// Finds the two varints at the front of `bytes` as [`Head::read_front`] does, and makes no error:
+    /// `None` if one of them is malformed.
+    #[inline(always)]
+    pub fn find_front(bytes: &[u8]) -> Option<Self>
+        ensures some { IfSome result (λ h. HasHead h.code h.digest_len h.digest_offset bytes.now) }
+        ensures none { IfNone result ((fault : VarintError)
+            × ((S : ℕ) → HasVerdict S bytes.now (malformed fault))) }
+    {
+        // Mostly each varint has one byte.
+        if bytes.len() >= 2 && bytes[0] < 128 && bytes[1] < 128 {
+            return Some(Head {
+                code: u64::from(bytes[0]),
+                digest_len: u64::from(bytes[1]),
+                digest_offset: 2,
+            });
+        }
+        let (code, code_len) = word::read_front(bytes)?;
+        let (digest_len, size_len) = word::read_front(&bytes[code_len..])?;
+        Some(Head {
             code,
-            digest_len: size,
+            digest_len,
             digest_offset: code_len + size_len,
         })
+    }
+
+    /// Reads the two varints at the front of `bytes` as [`Head::read_front`] does. An error comes with the
+    /// number of bytes that `read` consumes then: those up to the one that shows the error, or all, if
+    /// they are insufficient.
+    #[cold]
+    #[inline(never)]
+    pub fn read_counted(bytes: &[u8]) -> Result<Self, (Error, usize)>
+        ensures ok { IfOk result (λ h. HasHead h.code h.digest_len h.digest_offset bytes.now) }
+        ensures err { IfErr result (λ e. IsHeadError bytes.now e.0 e.1) }
+    {
+        let (code, code_len) = word::read_counted(bytes)?;
+        match word::read_counted(&bytes[code_len..]) {
+            Ok((digest_len, size_len)) => Ok(Head {
+                code,
+                digest_len,
+                digest_offset: code_len + size_len,
+            }),
+            Err((error, taken)) => Err((error, code_len + taken)),
+        }
     }
 }

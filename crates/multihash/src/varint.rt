@@ -104,9 +104,12 @@ pub fn read_front(bytes: &[u8]) -> Result<(u64, usize), Error>
     ensures found { (n : ℕ) (varint rest : List ℕ) → IsVarint n varint → bytes.now ≡ varint ++ rest →
         IsOkAnd result (λ found. (found.0 ≡ n) × (drop found.1 bytes.now ≡ rest)) }
 {
-    match word::read_front(bytes) {
-        Some(found) => Ok(found),
-        None => Err(word::front_fault(bytes)),
+    if let Some(found) = word::read_front(bytes) {
+        return Ok(found);
+    }
+    match word::read_counted(bytes) {
+        Ok(found) => Ok(found),
+        Err((error, _)) => Err(error),
     }
 }
 

@@ -3,7 +3,7 @@
 
 typedef multihash_decoded (*decoder)(const uint8_t *, size_t);
 
-size_t heads_compared;
+size_t heads_compared, prefixes_compared;
 
 /* The head agrees with the result of reading: it has the same error of a varint, or else the numbers of the
  * pair or of the error of the digest. */
@@ -25,6 +25,31 @@ void check_head(const uint8_t *input, size_t length, multihash_decoded read)
         CHECK(head.status >= MULTIHASH_INSUFFICIENT && head.status <= MULTIHASH_NOT_MINIMAL);
     }
     heads_compared++;
+}
+
+static int same_result(multihash_decoded left, multihash_decoded right)
+{
+    return left.status == right.status && left.size == right.size && left.code == right.code &&
+           left.digest_offset == right.digest_offset && left.digest_length == right.digest_length &&
+           left.taken == right.taken;
+}
+
+/* Each prefix of the input has the result of the whole, unless it is shorter and ends within the varints. */
+void check_prefixes(const uint8_t *input, size_t length, multihash_decoded whole)
+{
+    for (size_t short_of = 0; short_of <= length; short_of++) {
+        size_t prefix = length - short_of;
+        multihash_decoded found = multihash_from_prefix(input, prefix, length);
+        if (short_of > 0 && multihash_head(input, prefix).status == MULTIHASH_INSUFFICIENT) {
+            CHECK(prefix < MULTIHASH_HEAD_MAX);
+            check_error(found, MULTIHASH_INSUFFICIENT, 0, length);
+        } else {
+            CHECK(same_result(found, whole));
+        }
+        /* what comes after the input does not count */
+        CHECK(same_result(multihash_from_prefix(input, length, prefix), multihash_from_bytes(input, prefix)));
+        prefixes_compared++;
+    }
 }
 
 void check_error(multihash_decoded found, multihash_status status, uint64_t size, size_t taken)

@@ -133,6 +133,7 @@ static void check_decodings(const uint8_t *bytes, size_t length, const uint8_t *
 {
     static const size_t limits[] = {0, 1, 32, 64, 127, 128, 254, 255, 256, SIZE_MAX};
     CHECK(same(multihash_from_bytes(bytes, length), multihash_from_bytes(roomy, length)));
+    CHECK(same(multihash_from_prefix(bytes, length, 300), multihash_from_prefix(roomy, length, 300)));
     CHECK(same(multihash_read(bytes, length), multihash_read(roomy, length)));
     CHECK(same(multihash_scale_decode(bytes, length), multihash_scale_decode(roomy, length)));
     CHECK(same_front(multihash_head(bytes, length), multihash_head(roomy, length)));
@@ -140,7 +141,7 @@ static void check_decodings(const uint8_t *bytes, size_t length, const uint8_t *
         CHECK(same(multihash_read_limit(bytes, length, limits[i]),
                    multihash_read_limit(roomy, length, limits[i])));
     }
-    decodings += 4 + sizeof limits / sizeof limits[0];
+    decodings += 5 + sizeof limits / sizeof limits[0];
 }
 
 static void check_input(size_t length, int kind)

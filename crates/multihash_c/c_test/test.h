@@ -7,7 +7,7 @@
 #include <string.h>
 
 /* The number of comparisons so far. */
-extern size_t rooms_tried, heads_compared;
+extern size_t rooms_tried, heads_compared, prefixes_compared;
 
 size_t parse_hex(const char *text, uint8_t *to, size_t places);
 uint8_t *exact_copy(const uint8_t *bytes, size_t length);
@@ -17,6 +17,7 @@ size_t two_varints(const uint8_t *input, size_t length);
 /* decoding.c */
 void check_error(multihash_decoded found, multihash_status status, uint64_t size, size_t taken);
 void check_head(const uint8_t *input, size_t length, multihash_decoded read);
+void check_prefixes(const uint8_t *input, size_t length, multihash_decoded whole);
 void check_errors(void);
 void check_every_cut(void);
 

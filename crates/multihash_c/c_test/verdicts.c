@@ -105,6 +105,7 @@ static void check_line(const verdict_line *line)
     check_truncated(within, input, length);
     check_truncated(read, input, length);
     check_head(input, length, read);
+    check_prefixes(input, length, whole);
     if (is_for_all(line->column[2], line->size)) {
         check_result(read, input, line->column[2], line->column[3]);
         check_result(whole, input, line->column[4], "-");
@@ -130,6 +131,6 @@ void replay(const char *name)
         lines++;
     }
     CHECK(fclose(list) == 0 && lines > 0 && truncated_compared > 0);
-    printf("%zu lines, %zu results, %zu truncated inputs, %zu heads, %zu capacities\n", lines,
-           results_compared, truncated_compared, heads_compared, rooms_tried);
+    printf("%zu lines, %zu results, %zu truncated inputs, %zu heads, %zu prefixes, %zu capacities\n",
+           lines, results_compared, truncated_compared, heads_compared, prefixes_compared, rooms_tried);
 }

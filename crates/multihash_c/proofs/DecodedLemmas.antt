@@ -1,18 +1,22 @@
 -- Where the digest is in the input, what decoding the SCALE form consumed, and what an error reports.
-use Rattle.std.proofs.Common.{◌≡◌, ℕ, ◌+◌, ◌<◌, List, [], ◌∷◌, ◌++◌, length, take, drop, ap, sym, ◌∙◌, subst, arith, refl, Option, Some, append_assoc, length-append, length-drop}
+use Rattle.std.proofs.Common.{◌≡◌, ℕ, ◌+◌, ◌<◌, List, [], ◌∷◌, ◌++◌, length, take, drop, ap, sym, ◌∙◌, subst, arith, refl, Option, Some, append_assoc, length-append, length-drop, ◌-◌}
 use Rattle.std.proofs.lemmas.List.{length-take-le}
 use Rattle.std.proofs.lemmas.List.Elements.{All-head, All-drop}
 use Rattle.std.proofs.Math.Seq.{drop-append_seam, take-append_seam}
 use Rattle.multihash.specs.Bytes.{IsBytes}
 use Rattle.multihash.specs.Pair.{Pair}
-use Rattle.multihash.specs.Varint.{insufficient, overflow, not_minimal}
-use Rattle.multihash.specs.Encoding.{IsEncoding}
 use Rattle.multihash.specs.Scale.{IsScale, HasScaleVerdict, ConsumesAtScaleError}
 use Rattle.multihash.specs.Verdict.{Verdict, accepted, invalid_size, invalid_code, malformed, unexpected_eof}
-use Rattle.multihash.specs.Refusal.{Refusal, IsInvalidSize, IsInvalidCode, IsVarintError}
+use Rattle.multihash.specs.Refusal.{Refusal, IsInvalidCode}
 use Rattle.multihash.specs.Outcome.{IsErrorOf}
 use Rattle.multihash_c.specs.declared.decode.Decoded.{Decoded}
-use Rattle.multihash_c.specs.Decoded.{ReportsPair, ReportsRefusal, Reports, ConsumesForm}
+use Rattle.multihash_c.specs.Decoded.{ReportsPair, ReportsRefusal, ConsumesForm}
+
+-- what was consumed is the front
+pub taken_front : (input front left : List ℕ) → input ≡ front ++ left → take (length input - length left) input ≡ front
+taken_front input front left cut =
+    let long : length input - length left ≡ length front = omega (arith, ap length cut, length-append front left) in
+    rw (long, cut) (take-append_seam front left)
 
 -- the digest follows a front of that many bytes
 after_front : (input front digest rest : List ℕ) (offset n : ℕ) → input ≡ front ++ (digest ++ rest) → offset ≡ length front
@@ -25,14 +29,6 @@ pub stands_at_end : (input front digest rest : List ℕ) (offset n taken : ℕ) 
     → n ≡ length digest → taken ≡ length (front ++ digest) → offset + n ≡ taken → digest ≡ take n (drop offset input)
 stands_at_end input front digest rest offset n taken cut long all ends =
     after_front input front digest rest offset n (cut ∙ append_assoc front digest rest) (omega (arith, long, all, ends, length-append front digest)) long
-
--- the digest ends the encoding
-pub encoding_stands : (p : Pair) (input bytes rest : List ℕ) (offset n taken : ℕ) → IsEncoding p bytes → input ≡ bytes ++ rest
-    → n ≡ length p.digest → taken ≡ length bytes → offset + n ≡ taken → p.digest ≡ take n (drop offset input)
-encoding_stands p input bytes rest offset n taken e cut long all ends =
-    let spelled : bytes ≡ (e.code ++ e.size) ++ p.digest = e.spelled ∙ sym (append_assoc e.code e.size p.digest) in
-    stands_at_end input (e.code ++ e.size) p.digest rest offset n taken (cut ∙ ap (λ (z : List ℕ). z ++ rest) spelled)
-    long (all ∙ ap length spelled) ends
 
 -- the digest ends the SCALE form
 pub form_stands : (p : Pair) (input bytes rest : List ℕ) (offset n taken : ℕ) → IsScale p bytes → input ≡ bytes ++ rest
@@ -63,31 +59,6 @@ made_of d size code offset n a b c e = rw (sym a, sym b, sym c, sym e) refl
 pub rejected_so : (d : Decoded) (status size code : ℕ) → ReportsRefusal d status size code
     → d ≡ record { status = d.status; size = size; code = code; digest_offset = 0; digest_length = 0; taken = d.taken }
 rejected_so d status size code h = made_of d size code 0 0 h.is_size h.is_code h.no_offset h.no_length
-
-module _ (input : List ℕ) (d : Decoded) (e : Refusal) where
-  pub size_reported : (size : ℕ) → IsInvalidSize size e → ReportsRefusal d 4 size 0 → (v : Verdict) → IsErrorOf e v → Reports input d v
-  size_reported size is told (accepted p) r = absurd r
-  size_reported size is told (invalid_size n) r = let same : size ≡ n = cc in subst (λ k. ReportsRefusal d 4 k 0) same told
-  size_reported size is told (invalid_code n) r = absurd (cc)
-  size_reported size is told (malformed fault) r = absurd (cc)
-  size_reported size is told unexpected_eof r = let other = r.1 in absurd (cc)
-
-  pub code_reported : (code : ℕ) → IsInvalidCode code e → ReportsRefusal d 5 0 code → (v : Verdict) → IsErrorOf e v → Reports input d v
-  code_reported code is told (accepted p) r = absurd r
-  code_reported code is told (invalid_size n) r = absurd (cc)
-  code_reported code is told (invalid_code n) r = let same : code ≡ n = cc in subst (ReportsRefusal d 5 0) same told
-  code_reported code is told (malformed fault) r = absurd (cc)
-  code_reported code is told unexpected_eof r = let other = r.1 in absurd (cc)
-
-  pub end_reported : ((n : ℕ) → ¬ (IsInvalidSize n e)) → ((n : ℕ) → ¬ (IsInvalidCode n e)) → ¬ (IsVarintError insufficient e) → ¬ (IsVarintError overflow e)
-      → ¬ (IsVarintError not_minimal e) → ReportsRefusal d 6 0 0 → (v : Verdict) → IsErrorOf e v → Reports input d v
-  end_reported no_size no_code a b c told (accepted p) r = absurd r
-  end_reported no_size no_code a b c told (invalid_size n) r = absurd (no_size n r)
-  end_reported no_size no_code a b c told (invalid_code n) r = absurd (no_code n r)
-  end_reported no_size no_code a b c told (malformed insufficient) r = absurd (a r)
-  end_reported no_size no_code a b c told (malformed overflow) r = absurd (b r)
-  end_reported no_size no_code a b c told (malformed not_minimal) r = absurd (c r)
-  end_reported no_size no_code a b c told unexpected_eof r = told
 
 -- a size that is one byte is not above 255
 pub byte_fits : (input : List ℕ) (size : ℕ) → IsBytes input → ¬ (HasScaleVerdict 255 input (invalid_size size))

@@ -1,23 +1,20 @@
--- What reading in place returns if two varints are at the front of the input, and if none are.
-use Rattle.std.proofs.Common.{◌≡◌, ◌<◌, ◌≤◌, ◌+◌, ◌-◌, ℕ, List, [], ◌++◌, Some, length, take, drop, refl, sym, ap, ◌∙◌, subst, arith, append_assoc, append-nil, take-append-drop, length-drop, ◌∷◌, get_or}
-use Rattle.std.proofs.lemmas.List.{drop-drop, length-take-le}
-use Rattle.std.proofs.lemmas.List.Elements.{All-nil}
+-- What reading in place returns if two varints are at the front of the input, and if none are; the same of the
+-- whole input, by its first bytes.
+use Rattle.std.proofs.Common.{◌≡◌, ◌<◌, ◌≤◌, ◌+◌, ◌*◌, ◌-◌, ◌⊎◌, ℕ, zero, suc, List, [], ◌++◌, Some, length, take, drop, refl, sym, ap, ◌∙◌, subst, inl, inr, arith, append_assoc, append-nil, take-append-drop, length-append, length-drop}
+use Rattle.std.proofs.lemmas.Bool.{cases_lt}
+use Rattle.std.proofs.lemmas.List.{drop-drop, length-take-le, take_all, drop-append-le, nil_from_length}
 use Rattle.multihash.specs.Bytes.{IsPrefix}
 use Rattle.multihash.specs.Pair.{Pair, digest_limit}
-use Rattle.multihash.specs.Varint.{VarintError, insufficient}
-use Rattle.multihash.specs.Verdict.{Verdict, accepted, invalid_size, malformed, unexpected_eof, BeginsWith, HasVerdict, IsIncomplete, HasHead}
-use Rattle.multihash.specs.Settling.{Settles, IsShortestSettling}
-use Rattle.multihash.specs.Consuming.{ConsumesShortestSettling}
-use Rattle.multihash.proofs.Readings.VerdictLemmas.{verdict_unique, pair_begins}
-use Rattle.multihash.proofs.Readings.SettlingLemmas.{verdict_kept, late_settles, settles_exactly, shortest_pair, shortest_size}
+use Rattle.multihash.specs.Varint.{VarintError, insufficient, overflow, not_minimal, max_continuation}
+use Rattle.multihash.specs.Verdict.{Verdict, accepted, invalid_size, malformed, unexpected_eof, BeginsWith, HasVerdict, HasWholeVerdict, IsIncomplete, HasHead}
+use Rattle.multihash.specs.Refusal.{Refusal}
+use Rattle.multihash.specs.Consuming.{IsHeadError}
+use Rattle.multihash.proofs.Varints.VarintLemmas.{varint_longest}
+use Rattle.multihash.proofs.Readings.VerdictLemmas.{verdict_unique, pair_begins, sized}
+use Rattle.multihash.proofs.Readings.SettlingLemmas.{verdict_kept, shortest_pair, shortest_size}
 use Rattle.multihash_c.specs.declared.decode.Decoded.{Decoded}
-use Rattle.multihash_c.specs.Decoded.{Reports, ReadsWithin}
-use Rattle.multihash.proofs.Varints.VarintWriteLemmas.{one_byte}
-
--- a prefix of a prefix is a prefix
-pub begins_whole : (front middle whole : List ℕ) → IsPrefix front middle → IsPrefix middle whole → IsPrefix front whole
-begins_whole front middle whole (rest, cut) (more, whole_cut) =
-    (rest ++ more, whole_cut ∙ ap (λ (z : List ℕ). z ++ more) cut ∙ append_assoc front rest more)
+use Rattle.multihash_c.specs.Status.{status_of_fault}
+use Rattle.multihash_c.specs.Decoded.{Reports, ReportsRefusal, Determines, ReadsWithin}
 
 -- an input has one verdict, so it is not both incomplete and complete
 other_kind : (S : ℕ) (x : List ℕ) (v w : Verdict) → HasVerdict S x v → HasVerdict S x w → IsIncomplete w → ¬ (IsIncomplete v) → ⊥
@@ -88,62 +85,76 @@ module _ (limit code size len : ℕ) (input : List ℕ) (h : HasHead code size l
         cut = λ also. absurd (other_kind limit input (accepted p) unexpected_eof has also tt (λ e. e));
       }
 
--- if two varints are not at the front, a prefix settles for each limit or for none
-pub settles_alike : (A B : ℕ) (f : VarintError) (x front : List ℕ) → ((S : ℕ) → HasVerdict S x (malformed f)) → IsPrefix front x → Settles A front
-    → Settles B front
-settles_alike A B f x front has (rest, cut) s =
-    let own : HasVerdict A front s.verdict =
-    subst (λ (z : List ℕ). HasVerdict A z s.verdict) (append-nil front) (s.always [] (All-nil (λ b. b < 256))) in
-    let late : ¬ (IsIncomplete s.verdict) = (settles_exactly A front s.verdict own).0 s in
-    let whole : HasVerdict A x s.verdict =
-    subst (λ (z : List ℕ). HasVerdict A z s.verdict) (sym cut) (verdict_kept A front rest s.verdict late own) in
-    let same : s.verdict ≡ malformed f = verdict_unique A x s.verdict (malformed f) whole (has A) in
-    let shows : HasVerdict A front (malformed f) = subst (HasVerdict A front) same own in
-    late_settles B front (malformed f) (subst (λ (v : Verdict). ¬ (IsIncomplete v)) same late) shows
+-- ---- a varint is malformed
 
-module _ (f : VarintError) (input : List ℕ) (has : (S : ℕ) → HasVerdict S input (malformed f)) (limit : ℕ) where
-  shortest_alike : (front : List ℕ) → IsShortestSettling 0 input front → IsShortestSettling limit input front
-  shortest_alike front s = record {
-    begins = s.begins;
-    settles = settles_alike 0 limit f input front has s.begins s.settles;
-    shortest = λ shorter strict settles.
-        s.shortest shorter strict
-        (settles_alike limit 0 f input shorter has (begins_whole shorter front input (strict.0, strict.2) s.begins) settles);
-  }
+module _ (input : List ℕ) (e : Refusal) (taken : ℕ) (h : IsHeadError input e taken) (limit : ℕ) where
+  same_fault : (f : VarintError) → HasVerdict limit input (malformed f) → h.fault ≡ f
+  same_fault f also = let same = verdict_unique limit input (malformed h.fault) (malformed f) (h.verdict limit) also in cc
 
-  -- reading at capacity 0 consumes what reading at each capacity does
-  pub fault_read : (d : Decoded) → Reports input d (malformed f) → d.taken ≤ length input
-      → (¬ (IsIncomplete (malformed f)) → ConsumesShortestSettling 0 input (Some (drop d.taken input)))
-      → (f ≡ insufficient → d.taken ≡ length input) → ReadsWithin limit input d
-  fault_read d tells inside settled all = record {
-    verdict = (malformed f, has limit, tells);
-    inside = inside;
+  pub fault_read : (d : Decoded) → d.taken ≡ taken → ReportsRefusal d (status_of_fault h.fault) 0 0 → ReadsWithin limit input d
+  fault_read d at tells = record {
+    verdict = (malformed h.fault, h.verdict limit, tells);
+    inside = omega (arith, h.within, at);
     settled = λ v also late.
-        let t = settled (λ early. other_kind limit input v (malformed f) also (has limit) early late) in
-        record { front = t.front; shortest = shortest_alike t.front t.shortest; consumes = t.consumes };
-    insufficient = λ also.
-        let same : malformed f ≡ malformed insufficient = verdict_unique limit input (malformed f) (malformed insufficient) (has limit) also in
-        all (cc);
+        rw at (h.settled limit (λ early. other_kind limit input v (malformed h.fault) also (h.verdict limit) early late));
+    insufficient = λ also. at ∙ h.insufficient (same_fault insufficient also);
     cut = λ also.
-        let same : malformed f ≡ unexpected_eof = verdict_unique limit input (malformed f) unexpected_eof (has limit) also in
+        let same = verdict_unique limit input (malformed h.fault) unexpected_eof (h.verdict limit) also in
         absurd (cc);
   }
 
--- ---- two varints of one byte each
+-- ---- the whole input, by its first bytes
 
-pub short_head : (input : List ℕ) → 2 ≤ length input → get_or input 0 0 < 128 → get_or input 1 0 < 128
-    → HasHead (get_or input 0 0) (get_or input 1 0) 2 input
-short_head [] long code size = absurd (omega (arith, long))
-short_head (code ∷ []) long is_code is_size = absurd (omega (arith, long))
-short_head (code ∷ size ∷ rest) long is_code is_size = record {
-  within = long;
-  varints = record {
-    code = code;
-    code_bytes = code ∷ [];
-    size_bytes = size ∷ [];
-    is_code = one_byte code is_code;
-    is_size = one_byte size is_size;
-    cut = refl;
-  };
-  is_code = refl;
-}
+-- the two varints stay at the front if more bytes follow
+pub head_kept : (code size len : ℕ) (front input : List ℕ) → IsPrefix front input → HasHead code size len front → HasHead code size len input
+head_kept code size len front input (more, cut) h =
+    let v = h.varints in
+    let after : drop len front ++ more ≡ drop len input = sym (ap (drop len) cut ∙ drop-append-le len front more h.within) in
+    let whole : input ≡ v.code_bytes ++ (v.size_bytes ++ drop len input) =
+    cut ∙ ap (λ z. z ++ more) v.cut ∙ append_assoc v.code_bytes (v.size_bytes ++ drop len front) more
+    ∙ ap (λ z. v.code_bytes ++ z) (append_assoc v.size_bytes (drop len front) more ∙ ap (λ z. v.size_bytes ++ z) after) in
+    record {
+      within = omega (arith, h.within, ap length cut, length-append front more);
+      varints = sized v.code size v.code_bytes v.size_bytes input (drop len input) v.is_code v.is_size whole;
+      is_code = h.is_code;
+    }
+
+-- so does a malformed varint, unless the bytes end within it and more follow
+pub fault_whole : (f : VarintError) (front input : List ℕ) → IsPrefix front input → HasVerdict 255 front (malformed f)
+    → (length input ≤ length front) ⊎ ¬ (HasVerdict 255 front (malformed insufficient)) → HasWholeVerdict 255 input (malformed f)
+fault_whole f front input (more, cut) has (inl all) =
+    let none : more ≡ [] = nil_from_length more (omega (arith, all, ap length cut, length-append front more)) in
+    let same : front ≡ input = sym (cut ∙ ap (λ z. front ++ z) none ∙ append-nil front) in
+    subst (λ z. HasVerdict 255 z (malformed f)) same has
+fault_whole insufficient front input begins has (inr late) = absurd (late has)
+fault_whole overflow front input (more, cut) has (inr late) = rw cut (verdict_kept 255 front more (malformed overflow) (λ e. e) has)
+fault_whole not_minimal front input (more, cut) has (inr late) = rw cut (verdict_kept 255 front more (malformed not_minimal) (λ e. e) has)
+
+-- as many bytes as two varints may have do not end within them
+pub two_varints : (S : ℕ) (x : List ℕ) → 2 * (max_continuation + 1) ≤ length x → ¬ (HasVerdict S x (malformed insufficient))
+two_varints S x long (inl h) = omega (arith, long, h.few)
+two_varints S x long (inr (rest, c, h)) =
+    omega (arith, long, h.few, varint_longest c.code c.code_bytes c.is_code, ap length c.cut, length-append c.code_bytes rest)
+
+-- what a prefix determines, the bytes of it that count determine
+pub determines_cut : (prefix front : List ℕ) (len : ℕ) → front ≡ take len prefix → Determines prefix len
+    → (len ≤ length front) ⊎ ¬ (HasVerdict 255 front (malformed insufficient))
+determines_cut prefix front len is enough =
+    elim (cases_lt (length prefix) len) [
+      | inl short ↦
+          let same : front ≡ prefix = is ∙ take_all len prefix (omega (arith, short)) in
+          elim enough [
+            | inl all ↦ absurd (omega (arith, all, short))
+            | inr (inl long) ↦ inr (two_varints 255 front (omega (arith, long, ap length same)))
+            | inr (inr late) ↦ inr (subst (λ z. ¬ (HasVerdict 255 z (malformed insufficient))) (sym same) late)
+          ]
+      | inr all ↦ inl (omega (arith, ap length is, length-take-le len prefix all))
+    ]
+
+-- two varints are not malformed
+pub head_no_fault : (code size len : ℕ) (x : List ℕ) (f : VarintError) → HasHead code size len x → HasVerdict 255 x (malformed f) → ⊥
+head_no_fault code zero len x f h has =
+    let begins = pair_begins 0 x (drop len x) h.varints [] (drop len x) refl refl in
+    let same = verdict_unique 255 x (accepted _) (malformed f) (drop len x, begins, omega arith) has in cc
+head_no_fault code (suc n) len x f h has =
+    let same = verdict_unique 0 x (invalid_size (suc n)) (malformed f) (drop len x, h.varints, omega arith) has in cc

@@ -1,16 +1,15 @@
 -- What reading known inputs returns and consumes, for digests of at most four bytes, and their heads.
 use Rattle.std.proofs.Common.{◌≡◌, ℕ, List, [], ◌∷◌, ◌++◌, length, drop, refl, sym, ap, subst, arith, inl, length-drop, ◌∙◌, inr}
-use Rattle.multihash.specs.Varint.{insufficient, not_minimal, BeginsMalformed, VarintError, overflow}
+use Rattle.multihash.specs.Varint.{insufficient, not_minimal, VarintError, overflow}
 use Rattle.multihash.specs.Verdict.{BeginsWith, accepted, invalid_size, malformed, unexpected_eof, HasVerdict}
-use Rattle.multihash.specs.Settling.{IsShortestSettling}
 use Rattle.multihash.specs.Verdict.{HasHead}
 use Rattle.multihash.proofs.Readings.VerdictLemmas.{verdict_unique}
-use Rattle.multihash.proofs.Readings.SettlingLemmas.{shortest_pair, shortest_code_fault, shortest_unique}
+use Rattle.multihash.proofs.Readings.SettlingLemmas.{shortest_pair, shortest_unique}
 use Rattle.multihash.proofs.Examples.VerdictVectors.{shortest_of_size}
 use Rattle.multihash.proofs.Examples.ReadingVectors.{taken_is}
-use Rattle.multihash.proofs.Examples.ConsumingVectors.{takes_no_byte_after_size}
+use Rattle.multihash.proofs.Examples.ConsumingVectors.{takes_no_byte_after_size, padded, padded_front, shortest_of_padded, ends_open, ends_padded}
 use Rattle.multihash.proofs.Examples.PairVectors.{pair}
-use Rattle.multihash.proofs.Examples.VarintVectors.{all_continuation, varint_0, varint_1, varint_4, varint_5}
+use Rattle.multihash.proofs.Examples.VarintVectors.{varint_0, varint_1, varint_4, varint_5}
 use Rattle.multihash.proofs.Examples.VerdictVectors.{size_5, digest_cut, empty_input, code_alone, size_open}
 use Rattle.multihash_c.specs.Decoded.{Reports, ReadsWithin, ReportsHead, ReportsError, ReadsFront}
 use Rattle.multihash_c.proofs.DecodedVectors.{answer, input}
@@ -93,9 +92,8 @@ reads_end =
 reads_insufficient : (input : List ℕ) → ((S : ℕ) → HasVerdict S input (malformed insufficient))
     → ReadsWithin 4 input (answer 1 0 0 0 0 (length input))
 reads_insufficient input has =
-    fault_read insufficient input has 4 (answer 1 0 0 0 0 (length input))
+    fault_read input _ _ (ends_open input has) 4 (answer 1 0 0 0 0 (length input)) refl
     (record { is_status = refl; is_size = refl; is_code = refl; no_offset = refl; no_length = refl })
-    (omega arith) (λ late. absurd (late tt)) (λ same. refl)
 
 reads_nothing : ReadsWithin 4 [] (answer 1 0 0 0 0 0)
 reads_nothing = reads_insufficient [] (λ S. empty_input)
@@ -114,36 +112,11 @@ reads_code_alone = reads_insufficient (0 ∷ []) (λ S. code_alone)
 reads_open_size : ReadsWithin 4 (0 ∷ 0x85 ∷ []) (answer 1 0 0 0 0 2)
 reads_open_size = reads_insufficient (0 ∷ 0x85 ∷ []) (λ S. size_open)
 
--- a varint that ends in a zero byte, and a trailing byte
-abbrev pub padded : List ℕ
-padded = 0x80 ∷ 0x00 ∷ 0x07 ∷ []
-
-abbrev pub padded_front : (rest : List ℕ) → BeginsMalformed not_minimal (0x80 ∷ 0x00 ∷ rest)
-padded_front rest = record {
-  front = 0x80 ∷ [];
-  rest = rest;
-  all_continuation = all_continuation (0x80 ∷ []) refl;
-  some = omega arith;
-  few = omega arith;
-  cut = refl;
-}
-
-pub shortest_of_padded : (S : ℕ) → IsShortestSettling S padded (0x80 ∷ 0x00 ∷ [])
-shortest_of_padded S =
-    shortest_code_fault S not_minimal padded (λ early. early) (record {
-      shown = 0x80 ∷ 0x00 ∷ [];
-      rest = 0x07 ∷ [];
-      cut = refl;
-      step = record { front = 0x80 ∷ []; last = 0x00; all_continuation = all_continuation (0x80 ∷ []) refl; few = omega arith; cut = refl };
-      has = padded_front [];
-    })
-
 -- the bytes up to the zero
 reads_fault : ReadsWithin 4 padded (answer 3 0 0 0 0 2)
 reads_fault =
-    fault_read not_minimal padded (λ S. inl (padded_front (0x07 ∷ []))) 4 (answer 3 0 0 0 0 2)
+    fault_read padded _ _ ends_padded 4 (answer 3 0 0 0 0 2) refl
     (record { is_status = refl; is_size = refl; is_code = refl; no_offset = refl; no_length = refl })
-    (omega arith) (λ late. record { front = 0x80 ∷ 0x00 ∷ []; shortest = shortest_of_padded 0; consumes = refl }) (λ same. absurd cc)
 
 -- ---- what does not hold
 
@@ -311,9 +284,8 @@ reports_fault = record {
   no_code = refl;
   no_length = refl;
   reads = λ limit.
-      fault_read not_minimal padded (λ S. inl (padded_front (0x07 ∷ []))) limit (answer 3 0 0 0 0 2)
-      (record { is_status = refl; is_size = refl; is_code = refl; no_offset = refl; no_length = refl })
-      (omega arith) (λ late. record { front = 0x80 ∷ 0x00 ∷ []; shortest = shortest_of_padded 0; consumes = refl }) (λ same. absurd cc);
+      fault_read padded _ _ ends_padded limit (answer 3 0 0 0 0 2) refl
+      (record { is_status = refl; is_size = refl; is_code = refl; no_offset = refl; no_length = refl });
 }
 
 head_reads_fault : ReadsFront padded (front 3 0 0 2)
@@ -327,9 +299,8 @@ head_reports_insufficient = record {
   no_code = refl;
   no_length = refl;
   reads = λ limit.
-      fault_read insufficient (0 ∷ []) (λ S. code_alone) limit (answer 1 0 0 0 0 1)
-      (record { is_status = refl; is_size = refl; is_code = refl; no_offset = refl; no_length = refl })
-      (omega arith) (λ late. absurd (late tt)) (λ same. refl);
+      fault_read (0 ∷ []) _ _ (ends_open (0 ∷ []) (λ S. code_alone)) limit (answer 1 0 0 0 0 1) refl
+      (record { is_status = refl; is_size = refl; is_code = refl; no_offset = refl; no_length = refl });
 }
 
 fault_has_no_code : ¬ (ReportsError padded (front 3 1 0 2))

@@ -1,8 +1,9 @@
 -- The results of a decoding, and of the two varints at the front, for a C caller.
-use Rattle.std.specs.Prelude.{◌≡◌, ℕ, ◌+◌, ◌<◌, ◌≤◌, List, Some, length, take, drop, ◌⊎◌}
+use Rattle.std.specs.Prelude.{◌≡◌, ℕ, ◌+◌, ◌*◌, ◌<◌, ◌≤◌, List, Some, length, take, drop, ◌⊎◌}
+use Rattle.multihash.specs.Bytes.{IsPrefix}
 use Rattle.multihash.specs.Pair.{Pair}
-use Rattle.multihash.specs.Varint.{insufficient, VarintError}
-use Rattle.multihash.specs.Verdict.{Verdict, accepted, invalid_size, invalid_code, malformed, unexpected_eof, HasVerdict, IsIncomplete}
+use Rattle.multihash.specs.Varint.{insufficient, VarintError, max_continuation}
+use Rattle.multihash.specs.Verdict.{Verdict, accepted, invalid_size, invalid_code, malformed, unexpected_eof, HasVerdict, HasWholeVerdict, IsIncomplete}
 use Rattle.multihash.specs.Verdict.{HasHead}
 use Rattle.multihash.specs.Consuming.{ConsumesShortestSettling}
 use Rattle.multihash.specs.Scale.{IsScale, HasScaleVerdict}
@@ -34,6 +35,21 @@ Reports input d (invalid_size size) = ReportsRefusal d status_invalid_size size 
 Reports input d (invalid_code code) = ReportsRefusal d status_invalid_code 0 code
 Reports input d (malformed fault) = ReportsRefusal d (status_of_fault fault) 0 0
 Reports input d unexpected_eof = ReportsRefusal d status_unexpected_eof 0 0
+
+-- the prefix determines the result for the inputs of that many bytes that begin with it: it is all of the
+-- input, it has as many bytes as two varints may have, or it does not end within them
+abbrev pub Determines : List ℕ → ℕ → Type 0
+Determines prefix len = (len ≤ length prefix) ⊎ (2 * (max_continuation + 1) ≤ length prefix)
+    ⊎ ¬ (HasVerdict 255 prefix (malformed insufficient))
+
+-- the result of decoding the whole of each of these inputs; bytes of the prefix beyond that many are ignored.
+-- A prefix that determines no result is reported as insufficient
+pub record ReportsPrefix (prefix : List ℕ) (len : ℕ) (d : Decoded) : Type 0 where
+  pub verdict : (input : List ℕ) → length input ≡ len → IsPrefix (take len prefix) input →
+      Determines prefix len → (v : Verdict) × HasWholeVerdict 255 input v × Reports input d v
+  pub cut : length prefix < len → HasVerdict 255 prefix (malformed insufficient) →
+      ReportsRefusal d (status_of_fault insufficient) 0 0
+  pub taken : d.taken ≡ len
 
 -- of a truncated input with that many bytes, the complete fixed-size parts were consumed: the eight
 -- bytes of the code, and the one of the size

@@ -1,12 +1,14 @@
 //! Decoding, for C.
-ghost use Rattle.std.specs.Prelude.{◌≡◌, ◌+◌, ◌≤◌, ℕ, List, length, take, drop};
+ghost use Rattle.std.specs.Prelude.{◌≡◌, ◌+◌, ◌≤◌, ◌⊎◌, ℕ, List, length, take, drop};
+ghost use Rattle.multihash.specs.Bytes.{IsPrefix};
 ghost use Rattle.multihash.specs.Pair.{Pair};
-ghost use Rattle.multihash.specs.Varint.{VarintError};
+ghost use Rattle.multihash.specs.Varint.{VarintError, insufficient};
 ghost use Rattle.multihash.specs.Verdict.{Verdict, accepted, invalid_size, invalid_code, malformed, unexpected_eof, HasVerdict, HasWholeVerdict};
 ghost use Rattle.multihash.specs.Scale.{HasScaleVerdict};
-ghost use Rattle.multihash.specs.Verdict.{HasHead};
-ghost use Rattle.multihash.specs.Outcome.{IsErrorOf};
-ghost use Rattle.multihash_c.specs.Decoded.{Reports, ReportsRefusal, ConsumesForm, ConsumesWholeParts, ReadsWithin, ReportsHead, ReadsFront};
+ghost use Rattle.multihash.specs.Refusal.{Refusal, IsVarintError};
+ghost use Rattle.multihash.specs.Consuming.{IsHeadError};
+ghost use Rattle.multihash_c.specs.Status.{status_of_fault};
+ghost use Rattle.multihash_c.specs.Decoded.{Reports, ReportsRefusal, ReportsPrefix, ConsumesForm, ConsumesWholeParts, ReadsWithin, ReadsFront};
 
 use crate::{DIGEST_MAX, SCALE_HEAD, status};
 use multihash::{Error, Head, Multihash};
@@ -42,10 +44,16 @@ pub extern "C" fn multihash_from_bytes(bytes: &[u8]) -> Decoded
     ensures verdict { (v : Verdict) × HasWholeVerdict 255 bytes.now v × Reports bytes.now result v }
     ensures taken { result.taken ≡ length bytes.now }
 {
-    match Multihash::<DIGEST_MAX>::from_bytes(bytes) {
-        Ok(multihash) => accept(multihash.code(), usize::from(multihash.size()), bytes.len()),
-        Err(error) => refuse(&error, bytes.len()),
-    }
+    decode_whole(bytes, bytes.len())
+}
+
+/// Decodes each input of `whole_length` bytes that begins with `prefix` as `multihash_from_bytes` does. It
+/// takes the whole of the input, or its first bytes: eighteen suffice, as two varints have no more.
+#[unsafe(no_mangle)]
+pub extern "C" fn multihash_from_prefix(prefix: &[u8], whole_length: usize) -> Decoded
+    ensures { ReportsPrefix prefix.now whole_length result }
+{
+    decode_whole(&prefix[..prefix.len().min(whole_length)], whole_length)
 }
 
 /// Decodes the multihash whose encoding is at the front of `bytes`.
@@ -71,11 +79,21 @@ pub extern "C" fn multihash_read_limit(bytes: &[u8], limit: usize) -> Decoded
 pub extern "C" fn multihash_head(bytes: &[u8]) -> Front
     ensures { ReadsFront bytes.now result }
 {
-    // Mostly each varint has one byte.
-    if bytes.len() >= 2 && bytes[0] < 128 && bytes[1] < 128 {
-        return found(u64::from(bytes[0]), u64::from(bytes[1]), 2);
+    let Some(head) = Head::find_front(bytes) else {
+        let (status, taken) = fault(bytes);
+        return Front {
+            status,
+            code: 0,
+            digest_length: 0,
+            taken,
+        };
+    };
+    Front {
+        status: status::OK,
+        code: head.code,
+        digest_length: head.digest_len,
+        taken: head.digest_offset,
     }
-    read_long(bytes)
 }
 
 /// Decodes the multihash whose SCALE form is at the front of `bytes`.
@@ -97,13 +115,45 @@ pub extern "C" fn multihash_scale_decode(bytes: &[u8]) -> Decoded
     }
 }
 
+// Decodes each input of that many bytes that begins with the front. No digest is read, so only the two
+// varints have to be there.
+#[inline(always)]
+fn decode_whole(front: &[u8], whole_length: usize) -> Decoded
+    requires { length front.now ≤ whole_length }
+    ensures verdict { (input : List ℕ) → length input ≡ whole_length → IsPrefix front.now input →
+        (whole_length ≤ length front.now) ⊎ ¬ (HasVerdict 255 front.now (malformed insufficient)) →
+        (v : Verdict) × HasWholeVerdict 255 input v × Reports input result v }
+    ensures cut { HasVerdict 255 front.now (malformed insufficient) →
+        ReportsRefusal result (status_of_fault insufficient) 0 0 }
+    ensures taken { result.taken ≡ whole_length }
+{
+    let Some(head) = Head::find_front(front) else {
+        let (status, _) = fault(front);
+        return refusal(status, 0, 0, whole_length);
+    };
+    if head.digest_len > DIGEST_MAX as u64 {
+        return refuse_size(head.digest_len, whole_length);
+    }
+    let size = head.digest_len as usize;
+    let left = whole_length - head.digest_offset;
+    if left < size {
+        return refuse_end(whole_length);
+    }
+    if left > size {
+        return refuse_size((left - size) as u64, whole_length);
+    }
+    accept(head.code, size, whole_length)
+}
+
 // Decodes the multihash whose encoding is at the front of `bytes`, as `read` does for the capacity
 // `limit`.
+#[inline(always)]
 fn read_within(bytes: &[u8], limit: usize) -> Decoded
     ensures { ReadsWithin limit bytes.now result }
 {
-    let Ok(head) = Head::read_front(bytes) else {
-        return read_fault(bytes);
+    let Some(head) = Head::find_front(bytes) else {
+        let (status, taken) = fault(bytes);
+        return refusal(status, 0, 0, taken);
     };
     if head.digest_len > limit as u64 || head.digest_len > DIGEST_MAX as u64 {
         return refuse_size(head.digest_len, head.digest_offset);
@@ -115,51 +165,31 @@ fn read_within(bytes: &[u8], limit: usize) -> Decoded
     accept(head.code, size, head.digest_offset + size)
 }
 
-// Decodes an input with a malformed varint: the result is the same for each limit.
+// The status of an input with a malformed varint, and what reading it consumes: plain numbers, so that the
+// usual input needs no room for an error.
 #[cold]
 #[inline(never)]
-fn read_fault(bytes: &[u8]) -> Decoded
+fn fault(bytes: &[u8]) -> (u32, usize)
     requires { (fault : VarintError) × ((S : ℕ) → HasVerdict S bytes.now (malformed fault)) }
-    ensures reads { (limit : ℕ) → ReadsWithin limit bytes.now result }
-    ensures tells { (fault : VarintError) × Reports bytes.now result (malformed fault) }
+    ensures { (e : Refusal) × (h : IsHeadError bytes.now e result.1)
+        × (result.0 ≡ status_of_fault h.fault) }
 {
-    let mut rest = bytes;
-    // No digest is reached, so the capacity 0 is as good as any, and no buffer is filled.
-    let answer = Multihash::<0>::read(&mut rest);
-    let taken = bytes.len() - rest.len();
-    match answer {
+    match Head::read_counted(bytes) {
         Ok(_) => unreachable!(),
-        Err(error) => refuse(&error, taken),
+        Err((error, taken)) => (varint_status(&error), taken),
     }
 }
 
-// As `multihash_head`, if a varint has more than one byte.
-#[inline(never)]
-fn read_long(bytes: &[u8]) -> Front
-    ensures { ReadsFront bytes.now result }
+// The status of the error of a malformed varint.
+fn varint_status(error: &Error) -> u32
+    ensures { (fault : VarintError) → IsVarintError fault error.now → result ≡ status_of_fault fault }
 {
-    let Ok(head) = Head::read_front(bytes) else {
-        let refused = read_fault(bytes);
-        return Front {
-            status: refused.status,
-            code: 0,
-            digest_length: 0,
-            taken: refused.taken,
-        };
-    };
-    found(head.code, head.digest_len, head.digest_offset)
-}
-
-// The result for a code and a size, whose varints have that many bytes.
-#[inline(always)]
-fn found(code: u64, digest_length: u64, taken: usize) -> Front
-    ensures { (input : List ℕ) → HasHead code digest_length taken input → ReportsHead input result }
-{
-    Front {
-        status: status::OK,
-        code,
-        digest_length,
-        taken,
+    if error.is_insufficient() {
+        status::INSUFFICIENT
+    } else if error.is_overflow() {
+        status::OVERFLOW
+    } else {
+        status::NOT_MINIMAL
     }
 }
 
@@ -193,26 +223,6 @@ fn accept(code: u64, digest_length: usize, taken: usize) -> Decoded
         digest_offset: taken - digest_length,
         digest_length,
         taken,
-    }
-}
-
-// The result for an error.
-fn refuse(error: &Error, taken: usize) -> Decoded
-    ensures tells { (input : List ℕ) (v : Verdict) → IsErrorOf error.now v → Reports input result v }
-    ensures taken { result.taken ≡ taken }
-{
-    if let Some(size) = error.invalid_size() {
-        refuse_size(size, taken)
-    } else if let Some(code) = error.invalid_code() {
-        refuse_code(code, taken)
-    } else if error.is_insufficient() {
-        refusal(status::INSUFFICIENT, 0, 0, taken)
-    } else if error.is_overflow() {
-        refusal(status::OVERFLOW, 0, 0, taken)
-    } else if error.is_not_minimal() {
-        refusal(status::NOT_MINIMAL, 0, 0, taken)
-    } else {
-        refuse_end(taken)
     }
 }
 

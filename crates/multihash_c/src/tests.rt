@@ -1,8 +1,8 @@
 //! Each export, on some values and errors.
 use crate::compare::multihash_compare;
 use crate::decode::{
-    Decoded, multihash_from_bytes, multihash_head, multihash_read, multihash_read_limit,
-    multihash_scale_decode,
+    Decoded, multihash_from_bytes, multihash_from_prefix, multihash_head, multihash_read,
+    multihash_read_limit, multihash_scale_decode,
 };
 use crate::encode::{
     multihash_encode, multihash_encoded_len, multihash_put_status_text, multihash_scale_encode,
@@ -38,6 +38,17 @@ fn documented_example(rt: HostRuntime) {
 }
 
 #[test]
+fn prefix(rt: HostRuntime) {
+    let found = multihash_from_prefix(b"\x12\x20", 34);
+    assert_eq!(rt; found.status, OK);
+    assert_eq!(rt; found.digest_length, 32);
+    assert_eq!(rt; multihash_from_prefix(b"\x12\x20", 35).size, 1);
+    assert_eq!(rt; multihash_from_prefix(b"\x12\xa0", 35).status, INSUFFICIENT);
+    assert_eq!(rt; multihash_from_prefix(b"\x12\x20", 1).taken, 1);
+    assert_eq!(rt; after_whole(b"\x12\x20"), b"".as_slice());
+}
+
+#[test]
 fn scale(rt: HostRuntime) {
     let mut bytes = [0; 264];
     let encoded = multihash_scale_encode(22, b"\x64\x4b\xcc", &mut bytes);
@@ -46,6 +57,11 @@ fn scale(rt: HostRuntime) {
         b"\x16\0\0\0\0\0\0\0\x03\x64\x4b\xcc".as_slice()
     );
     assert_eq!(rt; multihash_scale_decode(&bytes).digest_offset, 9);
+}
+
+// The bytes after those that decoding the whole consumed, which are none.
+fn after_whole(bytes: &[u8]) -> &[u8] {
+    &bytes[multihash_from_bytes(bytes).taken..]
 }
 
 // The bytes after those that decoding the SCALE form consumed, which it may not exceed.

@@ -1,16 +1,17 @@
 -- What failed calls consumed from known readers.
-use Rattle.std.proofs.Common.{◌≡◌, ◌<◌, ℕ, List, [], ◌∷◌, ◌++◌, length, refl, sym, ap, ◌∙◌, arith, subst, inl, inr, length-append, append-nil}
+use Rattle.std.proofs.Common.{◌≡◌, ◌<◌, ℕ, List, [], ◌∷◌, ◌++◌, length, drop, refl, sym, ap, ◌∙◌, arith, subst, inl, inr, length-append, append-nil}
 use Rattle.std.specs.Prelude.{⊤, Option, Some}
 use Rattle.multihash.specs.Bytes.{IsStrictPrefix}
 use Rattle.multihash.specs.Varint.{VarintError, insufficient, overflow, not_minimal, IsVarint, IsInsufficient, BeginsMalformed}
 use Rattle.multihash.specs.Verdict.{Verdict, accepted, invalid_size, malformed, unexpected_eof, HasVerdict, IsIncomplete}
+use Rattle.multihash.specs.Settling.{IsShortestSettling}
 use Rattle.multihash.specs.Reading.{Consumes}
 use Rattle.multihash.specs.Fault.{IsUnexpectedEof}
 use Rattle.multihash.specs.Refusal.{Refusal, of_io, of_size, of_code, of_varint, of_not_bytes, IsVarintError}
-use Rattle.multihash.specs.Consuming.{IsAnyVarintError, IsFrontError, IsMalformed, ConsumesVarint, ReadMayFailWith, ConsumesAtVarintError, ConsumesAtError, ConsumesShortestSettling, ConsumesNothingSettling}
+use Rattle.multihash.specs.Consuming.{IsAnyVarintError, IsFrontError, IsFrontErrorAt, IsHeadError, IsMalformed, ConsumesVarint, ReadMayFailWith, ConsumesAtVarintError, ConsumesAtError, ConsumesShortestSettling, ConsumesNothingSettling}
 use Rattle.multihash.proofs.Varints.VarintLemmas.{front_unique, number, fault, varint_unique}
 use Rattle.multihash.proofs.Readings.VerdictLemmas.{verdict_unique}
-use Rattle.multihash.proofs.Readings.SettlingLemmas.{none_settles, shortest_unique}
+use Rattle.multihash.proofs.Readings.SettlingLemmas.{none_settles, shortest_unique, shortest_code_fault, before_step}
 use Rattle.multihash.proofs.Examples.RefusalVectors.{other, eof, memory}
 use Rattle.multihash.proofs.Examples.ReadingVectors.{told, taken_is}
 use Rattle.multihash.proofs.Examples.VarintVectors.{all_continuation, varint_0, varint_4, varint_5, not_another}
@@ -25,17 +26,28 @@ varint_refusal = (overflow, refl)
 no_other_varint_refusal : ((n : ℕ) → ¬ (IsAnyVarintError (of_size n))) × ((n : ℕ) → ¬ (IsAnyVarintError (of_code n))) × ¬ (IsAnyVarintError (of_io eof))
 no_other_varint_refusal = ((λ n (f, e). cc), (λ n (f, e). cc), λ (f, e). cc)
 
-padded_front : BeginsMalformed not_minimal (0x80 ∷ 0x00 ∷ [])
-padded_front = record { front = 0x80 ∷ []; rest = []; all_continuation = all_continuation (0x80 ∷ []) refl; some = omega arith; few = omega arith; cut = refl }
+-- a varint that ends in a zero byte, and a trailing byte
+abbrev pub padded : List ℕ
+padded = 0x80 ∷ 0x00 ∷ 0x07 ∷ []
+
+abbrev pub padded_front : (rest : List ℕ) → BeginsMalformed not_minimal (0x80 ∷ 0x00 ∷ rest)
+padded_front rest = record {
+  front = 0x80 ∷ [];
+  rest = rest;
+  all_continuation = all_continuation (0x80 ∷ []) refl;
+  some = omega arith;
+  few = omega arith;
+  cut = refl;
+}
 
 front_refusal : IsFrontError (0x80 ∷ 0x00 ∷ []) (of_varint not_minimal)
-front_refusal = (not_minimal, refl, padded_front)
+front_refusal = (not_minimal, refl, padded_front [])
 
 -- the error is that of the input
 no_other_front_refusal : ¬ (IsFrontError (0x80 ∷ 0x00 ∷ []) (of_varint overflow))
 no_other_front_refusal (f, e, has) =
     let same : fault f ≡ fault not_minimal =
-    front_unique (0x80 ∷ 0x00 ∷ []) (fault f) (fault not_minimal) has padded_front in
+    front_unique (0x80 ∷ 0x00 ∷ []) (fault f) (fault not_minimal) has (padded_front []) in
     cc
 
 -- and states it
@@ -91,7 +103,7 @@ takes_varint_alone (bytes, is, consumes) =
 not_insufficient : ¬ (IsInsufficient (0x80 ∷ 0x00 ∷ []))
 not_insufficient h =
     let same : fault insufficient ≡ fault not_minimal =
-    front_unique (0x80 ∷ 0x00 ∷ []) (fault insufficient) (fault not_minimal) h padded_front in
+    front_unique (0x80 ∷ 0x00 ∷ []) (fault insufficient) (fault not_minimal) h (padded_front []) in
     cc
 
 -- no more is left than there was
@@ -116,7 +128,7 @@ pub begins_no_varint : IsMalformed (0x80 ∷ [])
 begins_no_varint = (insufficient, one_continuation_is_insufficient)
 
 begins_padded : IsMalformed (0x80 ∷ 0x00 ∷ [])
-begins_padded = (not_minimal, padded_front)
+begins_padded = (not_minimal, padded_front [])
 
 pub begins_a_varint : ¬ (IsMalformed (5 ∷ []))
 begins_a_varint (f, has) =
@@ -163,7 +175,7 @@ shows_no_other_fault h =
     subst (BeginsMalformed overflow) (taken_is (0x80 ∷ 0x00 ∷ []) [] h.consumed h.consumes)
     (h.shows overflow refl) in
     let same : fault overflow ≡ fault not_minimal =
-    front_unique (0x80 ∷ 0x00 ∷ []) (fault overflow) (fault not_minimal) has padded_front in
+    front_unique (0x80 ∷ 0x00 ∷ []) (fault overflow) (fault not_minimal) has (padded_front []) in
     cc
 
 no_byte_after_the_zero : ¬
@@ -315,3 +327,103 @@ takes_beyond_what_settles h =
 
 unsettled_takes_its_own : ¬ (ConsumesNothingSettling 4 [] (Some (7 ∷ [])))
 unsettled_takes_its_own h = gives_none_back h.consumed h.consumes
+
+-- ---- the error of a head
+
+pub shortest_of_padded : (S : ℕ) → IsShortestSettling S padded (0x80 ∷ 0x00 ∷ [])
+shortest_of_padded S =
+    shortest_code_fault S not_minimal padded (λ early. early) (record {
+      shown = 0x80 ∷ 0x00 ∷ [];
+      rest = 0x07 ∷ [];
+      cut = refl;
+      step = record { front = 0x80 ∷ []; last = 0x00; all_continuation = all_continuation (0x80 ∷ []) refl; few = omega arith; cut = refl };
+      has = padded_front [];
+    })
+
+-- all of an input that is insufficient
+abbrev pub ends_open : (input : List ℕ) → ((S : ℕ) → HasVerdict S input (malformed insufficient)) → IsHeadError input (of_varint insufficient) (length input)
+ends_open input has = record {
+  fault = insufficient;
+  named = refl;
+  verdict = has;
+  within = omega arith;
+  settled = λ S late. absurd (late tt);
+  insufficient = λ same. omega arith;
+}
+
+pub not_cut : not_minimal ≡ insufficient → ⊥
+not_cut same = cc
+
+-- the bytes up to the zero
+abbrev pub ends_padded : IsHeadError padded (of_varint not_minimal) 2
+ends_padded = record {
+  fault = not_minimal;
+  named = refl;
+  verdict = λ S. inl (padded_front (0x07 ∷ []));
+  within = omega arith;
+  settled = λ S late. record { front = 0x80 ∷ 0x00 ∷ []; shortest = shortest_of_padded S; consumes = refl };
+  insufficient = λ same. absurd (not_cut same);
+}
+
+named_so : (f g : VarintError) → IsVarintError f (of_varint g) → f ≡ g
+named_so f g is = cc
+
+-- no byte after the zero, and no byte less
+settled_so : (taken : ℕ) → IsHeadError padded (of_varint not_minimal) taken → ConsumesShortestSettling 4 padded (Some (drop taken padded))
+settled_so taken h =
+    h.settled 4 (λ early. subst (λ f. IsIncomplete (malformed f)) (named_so h.fault not_minimal h.named) early)
+
+two_taken : (t : List ℕ) → IsShortestSettling 4 padded t → length t ≡ 2
+two_taken t s = ap (λ (z : List ℕ). length z) (shortest_unique 4 padded t (0x80 ∷ 0x00 ∷ []) s (shortest_of_padded 4))
+
+ends_at_no_byte_after_zero : ¬ (IsHeadError padded (of_varint not_minimal) 3)
+ends_at_no_byte_after_zero h =
+    let t = settled_so 3 h in omega (arith, two_taken t.front t.shortest, ap (λ (z : List ℕ). length z) (taken_is padded [] t.front t.consumes))
+
+ends_not_before_zero : ¬ (IsHeadError padded (of_varint not_minimal) 1)
+ends_not_before_zero h =
+    let t = settled_so 1 h in
+    omega (arith, two_taken t.front t.shortest, ap (λ (z : List ℕ). length z) (taken_is (0x80 ∷ []) (0x00 ∷ 0x07 ∷ []) t.front t.consumes))
+
+ends_inside : ¬ (IsHeadError (0x80 ∷ []) (of_varint insufficient) 2)
+ends_inside h = omega (arith, h.within)
+
+ends_at_the_end : ¬ (IsHeadError (0x80 ∷ []) (of_varint insufficient) 0)
+ends_at_the_end h = omega (arith, h.insufficient (named_so h.fault insufficient h.named))
+
+-- the error is that of the verdict, and names it
+ends_with_no_other_error : (taken : ℕ) → ¬ (IsHeadError padded (of_varint overflow) taken)
+ends_with_no_other_error taken h =
+    let same = verdict_unique 4 padded (malformed h.fault) (malformed not_minimal) (h.verdict 4) (inl (padded_front (0x07 ∷ []))) in
+    let named = named_so h.fault overflow h.named in
+    cc
+
+ends_with_no_size : (taken : ℕ) → ¬ (IsHeadError padded (of_size 0) taken)
+ends_with_no_size taken h = let named = h.named in cc
+
+-- ---- the error of a varint, and what it takes
+
+front_ends : IsFrontErrorAt (0x80 ∷ []) (of_varint insufficient) 1
+front_ends = (
+  (insufficient, refl, record { few = omega arith; all_continuation = all_continuation (0x80 ∷ []) refl }),
+  omega arith,
+  record {
+    consumed = 0x80 ∷ [];
+    consumes = refl;
+    shows = λ f named. let same = named_so f insufficient named in
+        subst (λ g. BeginsMalformed g (0x80 ∷ [])) (sym same) (record { few = omega arith; all_continuation = all_continuation (0x80 ∷ []) refl });
+    no_sooner = λ shorter begins. before_step (0x80 ∷ []) shorter
+        (record { front = []; last = 0x80; all_continuation = all_continuation [] refl; few = omega arith; cut = refl }) begins;
+    all = λ named. refl;
+    failed = λ own. absurd (cc (own.1));
+  },
+)
+
+front_ends_inside : ¬ (IsFrontErrorAt (0x80 ∷ []) (of_varint insufficient) 2)
+front_ends_inside h = omega (arith, h.1)
+
+front_ends_at_the_end : ¬ (IsFrontErrorAt (0x80 ∷ []) (of_varint insufficient) 0)
+front_ends_at_the_end h = let none = h.2.all refl in omega (arith, ap (λ (z : List ℕ). length z) none)
+
+front_ends_with_its_error : ¬ (IsFrontErrorAt (0x80 ∷ []) (of_size 0) 1)
+front_ends_with_its_error h = let named = h.0.1 in cc

@@ -1,7 +1,7 @@
 -- An input has one verdict; the two varints at its front.
-use Rattle.std.proofs.Common.{◌≡◌, ℕ, ◌<◌, ◌≤◌, cond, ltb, List, [], ◌∷◌, ◌++◌, length, take, drop, refl, sym, ap, ◌∙◌, subst, arith, inl, inr, length-append, append-nil, ◌+◌, ◌-◌, Some}
+use Rattle.std.proofs.Common.{◌≡◌, ℕ, ◌<◌, ◌≤◌, cond, ltb, List, [], ◌∷◌, ◌++◌, length, take, drop, refl, sym, ap, ◌∙◌, subst, arith, inl, inr, length-append, append-nil, ◌+◌, ◌-◌, Some, get_or}
 use Rattle.std.proofs.lemmas.Bool.{cases_lt, lt-ltb, le-ltb}
-use Rattle.std.proofs.lemmas.List.{take_at, drop_at, take-append-drop, length-take-le, take_rest, length-drop, drop-drop}
+use Rattle.std.proofs.lemmas.List.{take_at, drop_at, take-append-drop, length-take-le, length-drop, drop-drop}
 use Rattle.std.proofs.lemmas.List.Elements.{All-same}
 use Rattle.multihash.specs.Bytes.{IsBytes}
 use Rattle.multihash.specs.Pair.{Pair, FitsBuffer, digest_limit}
@@ -9,10 +9,11 @@ use Rattle.multihash.specs.Varint.{IsVarint}
 use Rattle.multihash.specs.Encoding.{IsEncoding}
 use Rattle.multihash.specs.Verdict.{Verdict, accepted, invalid_size, invalid_code, malformed, unexpected_eof, BeginsWith, BeginsWithSize, BeginsWithCode, HasVerdict, HasWholeVerdict, HasHead}
 use Rattle.multihash.proofs.Varints.DigitLemmas.{All-append_right}
+use Rattle.multihash.proofs.Varints.VarintWriteLemmas.{one_byte}
 use Rattle.multihash.proofs.Varints.VarintLemmas.{Front, number, fault, HasFront, front_is, front_of, front_of_has}
 use Rattle.multihash.proofs.Writings.EncodingLemmas.{encoding_cut}
 use Rattle.multihash.specs.Refusal.{Refusal}
-use Rattle.multihash.specs.Consuming.{IsFrontError, ConsumesVarint}
+use Rattle.multihash.specs.Consuming.{ConsumesVarint}
 use Rattle.multihash.specs.Outcome.{IsErrorOf}
 use Rattle.multihash.proofs.Readings.ReadingLemmas.{Consumes-cut}
 
@@ -164,11 +165,6 @@ whole_from S x unexpected_eof h = (unexpected_eof, h)
 pub has_whole_found : (S : ℕ) (x : List ℕ) → IsBytes x → HasWholeVerdict S x (whole_found S x)
 has_whole_found S x bytes = let (v, h) = whole_from S x _ (has_found S x bytes) in subst (HasWholeVerdict S x) (whole_is S x v h) h
 
--- the slice from the index k on is the rest
-pub sliced : (n : ℕ) (xs : List ℕ) (k : ℕ) → ConsumesVarint n (Some xs) (Some (drop k xs))
-    → ConsumesVarint n (Some xs) (Some (take (length xs - k) (drop k xs)))
-sliced n xs k met = subst (λ (back : List ℕ). ConsumesVarint n (Some xs) (Some back)) (sym (take_rest xs k)) met
-
 -- the error of the verdict is the error of the whole verdict
 pub whole_rejected : (S : ℕ) (x : List ℕ) (e : Refusal) (v : Verdict) → HasVerdict S x v → IsErrorOf e v
     → (w : Verdict) × HasWholeVerdict S x w × IsErrorOf e w
@@ -178,34 +174,33 @@ whole_rejected S x e (invalid_code code) has given = absurd has
 whole_rejected S x e (malformed f) has given = (malformed f, has, given)
 whole_rejected S x e unexpected_eof has given = (unexpected_eof, has, given)
 
--- the code's varint is malformed
-pub no_code : (S : ℕ) (input : List ℕ) (e : Refusal) → IsFrontError input e → (v : Verdict) × HasWholeVerdict S input v × IsErrorOf e v
-no_code S input e (f, named, shows) = (malformed f, inl shows, named)
+-- ---- the verdict on the whole, by the two varints and what follows them
 
-module _ (code : ℕ) (input left : List ℕ) (is_code : ConsumesVarint code (Some input) (Some left)) where
-  pub has_code : BeginsWithCode input left
-  has_code = coded code is_code.0 input left is_code.1 (Consumes-cut input _ left is_code.2)
+module _ (code size len : ℕ) (input : List ℕ) (h : HasHead code size len input) (S : ℕ) where
+  pub whole_over : digest_limit S < size → HasWholeVerdict S input (invalid_size size)
+  whole_over over = inl (drop len input, h.varints, over)
 
-  -- the size's varint is malformed
-  pub no_size : (S : ℕ) (e : Refusal) → IsFrontError left e → (v : Verdict) × HasWholeVerdict S input v × IsErrorOf e v
-  no_size S e (f, named, shows) = (malformed f, inr (left, has_code, shows), named)
+  module _ (within : size ≤ digest_limit S) (rest : List ℕ) (is : rest ≡ drop len input) where
+    after : BeginsWithSize size input rest
+    after = rw is h.varints
 
-  module _ (size : ℕ) (rest : List ℕ) (is_size : ConsumesVarint size (Some left) (Some rest)) where
-    abbrev pub has_size : BeginsWithSize size input rest
-    has_size =
-        sized code size is_code.0 is_size.0 input rest is_code.1 is_size.1
-        (Consumes-cut input _ left is_code.2 ∙ ap (λ z. is_code.0 ++ z) (Consumes-cut left _ rest is_size.2))
+    pub whole_short : length rest < size → HasWholeVerdict S input unexpected_eof
+    whole_short short = (size, rest, after, within, short)
 
     -- bytes trail the digest
-    pub has_trailing : (S n : ℕ) → size ≤ digest_limit S → size < length rest → n ≡ length rest - size → HasWholeVerdict S input (invalid_size n)
-    has_trailing S n within more count =
+    pub whole_trailing : (n : ℕ) → size < length rest → n ≡ length rest - size → HasWholeVerdict S input (invalid_size n)
+    whole_trailing n more count =
         let long : length (take size rest) ≡ size = length-take-le size rest (omega arith) in
-        let begins = pair_begins size input rest has_size (take size rest) (drop size rest) long (sym (take-append-drop size rest)) in
+        let begins = pair_begins size input rest after (take size rest) (drop size rest) long (sym (take-append-drop size rest)) in
         inr (_, drop size rest, begins, omega arith, omega (arith, length-drop size rest, count), omega arith)
 
     -- the digest, and nothing after it
-    pub whole : (S : ℕ) → size ≤ digest_limit S → length rest ≡ size → HasWholeVerdict S input (accepted (record { code = code; digest = rest }))
-    whole S within exact = (whole_pair _ input (pair_begins size input rest has_size rest [] exact (sym (append-nil rest))), omega arith)
+    pub whole_exact : length rest ≡ size → HasWholeVerdict S input (accepted (record { code = code; digest = rest }))
+    whole_exact exact =
+        let p : Pair = record { code = code; digest = rest } in
+        let begins : BeginsWith p input [] =
+        rw (← h.is_code, is) (pair_begins size input (drop len input) h.varints (drop len input) [] (ap length (sym is) ∙ exact) (sym (append-nil (drop len input)))) in
+        (whole_pair p input begins, omega arith)
 
 -- the two varints are a head
 pub head_of : (code size k m : ℕ) (input left : List ℕ) → left ≡ drop k input → k ≤ length input → m ≤ length left
@@ -215,3 +210,21 @@ head_of code size k m input left is within more a b =
     let cut = Consumes-cut input _ (drop k input) a.2 ∙ ap (λ z. a.0 ++ z) second in
     let inside : k + m ≤ length input = omega (arith, ap length is, length-drop k input, within, more) in
     record { within = inside; varints = sized code size a.0 b.0 input _ a.1 b.1 cut; is_code = refl }
+
+-- two varints of one byte each are a head
+pub short_head : (input : List ℕ) → 2 ≤ length input → get_or input 0 0 < 128 → get_or input 1 0 < 128
+    → HasHead (get_or input 0 0) (get_or input 1 0) 2 input
+short_head [] long code size = absurd (omega (arith, long))
+short_head (code ∷ []) long is_code is_size = absurd (omega (arith, long))
+short_head (code ∷ size ∷ rest) long is_code is_size = record {
+  within = long;
+  varints = record {
+    code = code;
+    code_bytes = code ∷ [];
+    size_bytes = size ∷ [];
+    is_code = one_byte code is_code;
+    is_size = one_byte size is_size;
+    cut = refl;
+  };
+  is_code = refl;
+}

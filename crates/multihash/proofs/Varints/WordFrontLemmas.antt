@@ -1,6 +1,6 @@
 -- The word of a slice's first bytes, and what it shows of the varint at their front. All for speed: no loop
 -- over the bytes of a varint.
-use Rattle.std.proofs.Common.{◌≡◌, ℕ, zero, suc, ◌-◌, ◌<◌, ◌≤◌, List, [], ◌++◌, length, get_or, take, drop, replicate, refl, sym, ap, ◌∙◌, arith, length-append, ◌+◌, ◌*◌, ◌/◌, ◌%◌, ◌^◌, ◌∷◌, bit_and, bit_or}
+use Rattle.std.proofs.Common.{◌≡◌, ℕ, zero, suc, ◌-◌, ◌<◌, ◌≤◌, List, [], ◌++◌, length, get_or, take, drop, replicate, refl, sym, ap, ◌∙◌, arith, length-append, length-drop, ◌+◌, ◌*◌, ◌/◌, ◌%◌, ◌^◌, ◌∷◌, bit_and, bit_or, Some}
 use Prim.Native.Nat.{min}
 use Rattle.std.specs.Int.{byte_worth, sum_through, from_le_bytes, w128}
 use Rattle.std.proofs.Math.Seq.{take-suc, take-add}
@@ -11,8 +11,11 @@ use Rattle.multihash.specs.Word.{IsFrontWord, BeginsWithContinuation, digits_low
 use Rattle.multihash.proofs.Varints.DigitLemmas.{place_value-nil, place_value-cons, place_value_append, place_value_last, low_digits, or_digits}
 use Rattle.std.proofs.Math.Nat.{add-zero, lt_of_not-le, zero-add}
 use Rattle.std.proofs.lemmas.Nat.{and_mask}
-use Rattle.multihash.specs.Varint.{max_continuation, last_byte_limit, IsContinuation, IsVarint, IsInsufficient, IsOverflow, IsNotMinimal}
+use Rattle.multihash.specs.Varint.{max_continuation, last_byte_limit, IsContinuation, IsVarint, insufficient, overflow, not_minimal, IsInsufficient, IsOverflow, IsNotMinimal}
+use Rattle.multihash.specs.Refusal.{Refusal, IsVarintError}
+use Rattle.multihash.specs.Consuming.{IsFrontErrorAt}
 use Rattle.multihash.proofs.Varints.VarintLemmas.{varint_from_bytes, overflow_after, zero_after}
+use Rattle.multihash.proofs.Varints.VarintReadLemmas.{ReadsContinuation, input_ended, too_large as read_overflow, ends_in_zero}
 use Rattle.multihash.proofs.Varints.WordLemmas.{byte_at, byte_of, halves, low_bytes, high_bytes, digits_low_of, stops, stop_at, varint_bits, StopsAt, first_unmarked, last_place, too_large, kept_last, few_continuation, too_large_byte}
 
 -- ---- filling a word
@@ -83,11 +86,31 @@ begins_more xs at (suc m) begins more =
 cut_at : (xs : List ℕ) (k : ℕ) → k < length xs → xs ≡ take k xs ++ get_or xs k 0 ∷ drop (k + 1) xs
 cut_at xs k below = sym (take-append-drop k xs) ∙ ap (λ (back : List ℕ). take k xs ++ back) (drop_more xs k 0 below)
 
-overflow_at : (xs : List ℕ) → BeginsWithContinuation max_continuation xs → last_byte_limit ≤ get_or xs max_continuation 0 → IsOverflow xs
-overflow_at xs begins large =
-    rw (cut_at xs max_continuation (lt_of_not-le (λ past. omega (arith, large, get_or_past xs max_continuation 0 past))))
+-- as many continuation bytes as are at the front of the input were read
+front_read : (xs : List ℕ) (k : ℕ) → IsBytes xs → BeginsWithContinuation k xs → k ≤ max_continuation
+    → ReadsContinuation (Some xs) (Some (drop k xs)) (place_value 128 (low_digits (take k xs))) k
+front_read xs k bytes begins few = record {
+  front = take k xs;
+  consumes = ap Some (sym (take-append-drop k xs));
+  bytes = All-take (λ b. b < 256) k xs bytes;
+  continuation_bytes = begins.all_continuation;
+  long = length-take-le k xs begins.enough;
+  few = few;
+  value = refl;
+}
+
+overflow_at : (xs : List ℕ) → IsBytes xs → BeginsWithContinuation max_continuation xs → last_byte_limit ≤ get_or xs max_continuation 0
+    → (e : Refusal) → IsVarintError overflow e → IsFrontErrorAt xs e (max_continuation + 1)
+overflow_at xs bytes begins large e named =
+    let below : max_continuation < length xs = lt_of_not-le (λ past. omega (arith, large, get_or_past xs max_continuation 0 past)) in
+    let shows : IsOverflow xs =
+    rw (cut_at xs max_continuation below)
     (overflow_after (take max_continuation xs) (get_or xs max_continuation 0) (drop (max_continuation + 1) xs) begins.all_continuation
-    (length-take-le max_continuation xs begins.enough) large)
+    (length-take-le max_continuation xs begins.enough) large) in (
+      (overflow, named, shows),
+      omega (arith, below),
+      read_overflow _ _ _ _ (front_read xs max_continuation bytes begins (omega arith)) _ _ (ap Some (drop_more xs max_continuation 0 below)) refl large e named,
+    )
 
 -- that many continuation bytes are at the front of the input, and the last byte, or zero at the end of the
 -- input, is not one
@@ -100,10 +123,17 @@ pub record EndsAt (xs : List ℕ) (k last : ℕ) : Type 0 where
   pub small : k ≡ max_continuation → last < last_byte_limit
 
 module _ (xs : List ℕ) (word present k last : ℕ) (f : IsFrontWord xs word present) (end : EndsAt xs k last) where
-  pub ends_short : present ≤ k → IsInsufficient xs
-  ends_short past =
+  read_there : ReadsContinuation (Some xs) (Some (drop k xs)) (place_value 128 (low_digits (take k xs))) k
+  read_there = front_read xs k end.bytes end.begins end.few
+
+  pub ends_short : present ≤ k → (e : Refusal) → IsVarintError insufficient e → IsFrontErrorAt xs e present
+  ends_short past e named =
       let all : take k xs ≡ xs = take_all k xs (omega (arith, f.present_is, end.few)) in
-      record { few = omega (arith, f.present_is, end.few); all_continuation = rw all at end.begins.all_continuation }
+      let whole : present ≡ k = omega (arith, past, f.present_is, end.few, end.begins.enough) in
+      let none : drop k xs ≡ [] = nil_from_length (drop k xs) (omega (arith, length-drop k xs, f.present_is, past, end.few)) in
+      let shows : IsInsufficient xs =
+      record { few = omega (arith, f.present_is, end.few); all_continuation = rw all at end.begins.all_continuation } in
+      ((insufficient, named, shows), omega (arith, whole, end.begins.enough), rw whole (input_ended _ _ _ _ read_there none e named))
 
   module _ (within : k < present) where
     below : k < length xs
@@ -112,10 +142,15 @@ module _ (xs : List ℕ) (word present k last : ℕ) (f : IsFrontWord xs word pr
     long : length (take k xs) ≡ k
     long = length-take-le k xs end.begins.enough
 
-    pub ends_zero : last ≡ 0 → 0 < k → IsNotMinimal xs
-    ends_zero null some =
+    pub ends_zero : last ≡ 0 → 0 < k → (e : Refusal) → IsVarintError not_minimal e → IsFrontErrorAt xs e (k + 1)
+    ends_zero null some e named =
+        let shows : IsNotMinimal xs =
         rw (cut_at xs k below, ← end.last_is, null)
-        (zero_after (take k xs) (drop (k + 1) xs) end.begins.all_continuation (omega (arith, long)) (omega (arith, long, end.few)))
+        (zero_after (take k xs) (drop (k + 1) xs) end.begins.all_continuation (omega (arith, long)) (omega (arith, long, end.few))) in (
+          (not_minimal, named, shows),
+          omega (arith, below),
+          ends_in_zero _ _ _ _ read_there _ _ (ap Some (drop_more xs k 0 below)) (sym end.last_is ∙ null) some e named,
+        )
 
     pub ends_number : (last ≡ 0 → k ≡ 0) → IsVarint (place_value 128 (low_digits (take (k + 1) xs))) (take (k + 1) xs)
     ends_number minimal =
@@ -216,10 +251,10 @@ module _ (xs : List ℕ) (word present : ℕ) (bytes : IsBytes xs) (f : IsFrontW
     high_stop : StopsAt upper (stop_at upper)
     high_stop = half_stop xs 8 upper bytes high_is
 
-    pub high_over : too_large ≤ varint_bits upper → IsOverflow xs
+    pub high_over : too_large ≤ varint_bits upper → (e : Refusal) → IsVarintError overflow e → IsFrontErrorAt xs e (max_continuation + 1)
     high_over large =
         let (run, byte) = too_large_byte upper (stop_at upper) high_stop large in
-        overflow_at xs (half_begins xs 8 upper bytes high_is last_place begins run (omega arith))
+        overflow_at xs bytes (half_begins xs 8 upper bytes high_is last_place begins run (omega arith))
         (omega (arith, byte, half_byte xs 8 upper bytes high_is last_place (omega arith)))
 
     module _ (small : varint_bits upper < too_large) where

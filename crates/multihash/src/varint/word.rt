@@ -3,7 +3,7 @@ ghost use Rattle.std.specs.Prelude.{◌≡◌, ◌<◌, ◌≤◌, ◌+◌, ℕ,
 ghost use Rattle.multihash.specs.Bytes.{IsBytes, place_value};
 ghost use Rattle.multihash.specs.Varint.{IsVarint};
 ghost use Rattle.multihash.specs.Word.{IsFrontWord, BeginsWithContinuation, IsFoundFront, digits_low};
-ghost use Rattle.multihash.specs.Consuming.{IsFrontError, IsMalformed, ConsumesVarint};
+ghost use Rattle.multihash.specs.Consuming.{IsFrontErrorAt, IsMalformed, ConsumesVarint};
 
 use super::{LAST_BYTE_LIMIT, MAX_CONTINUATION, MAX_LEN};
 use crate::Error;
@@ -23,8 +23,8 @@ const HIGH_LEN: usize = MAX_LEN - HALF_LEN;
 // A high half of this value or more has a byte that makes the varint overflow.
 const TOO_LARGE: u64 = (LAST_BYTE_LIMIT as u64) << (8 * (MAX_CONTINUATION - HALF_LEN));
 
-// The number and the length of the varint at the front of the bytes, from one word. None if it is
-// malformed; `front_fault` then returns why.
+// The number and the length of the varint at the front of the bytes. None if it is malformed;
+// `read_counted` then returns why.
 #[inline(always)]
 pub(crate) fn read_front(bytes: &[u8]) -> Option<(u64, usize)>
     ensures some { IfSome result (λ found.
@@ -32,38 +32,34 @@ pub(crate) fn read_front(bytes: &[u8]) -> Option<(u64, usize)>
     ensures within { IfSome result (λ found. found.1 ≤ length bytes.now) }
     ensures none { IfNone result (IsMalformed bytes.now) }
 {
-    let (number, len) = front_by_byte(bytes);
+    // Most varints have one byte, which needs no word.
+    if bytes.len() >= 1 && bytes[0] < 128 {
+        return Some((u64::from(bytes[0]), 1));
+    }
+    let (number, len) = front_by_word(bytes);
     if len == 0 { None } else { Some((number, len)) }
 }
 
-// Why the varint at the front of the bytes is malformed.
+// As `read_front`. An error comes with the number of bytes up to the one that shows it: all, if they are
+// insufficient.
 #[cold]
 #[inline(never)]
-pub(crate) fn front_fault(bytes: &[u8]) -> Error
-    requires { IsMalformed bytes.now }
-    ensures { IsFrontError bytes.now result }
+pub(crate) fn read_counted(bytes: &[u8]) -> Result<(u64, usize), (Error, usize)>
+    ensures ok { IfOk result (λ found.
+        ConsumesVarint found.0 (Some bytes.now) (Some (drop found.1 bytes.now))) }
+    ensures within { IfOk result (λ found. found.1 ≤ length bytes.now) }
+    ensures err { IfErr result (λ e. IsFrontErrorAt bytes.now e.0 e.1) }
 {
-    let front = &bytes[..bytes.len().min(WORD_LEN)];
-    match read_word(padded_word(front), front.len()) {
-        Err(fault) => fault,
-        Ok(_) => unreachable!(),
+    // Mostly a code, before a malformed size.
+    if bytes.len() >= 1 && bytes[0] < 128 {
+        return Ok((u64::from(bytes[0]), 1));
     }
+    let front = &bytes[..bytes.len().min(WORD_LEN)];
+    read_word(padded_word(front), front.len())
 }
 
 // The number and the length of the varint at the front of the bytes, and no length if it is malformed:
 // plain numbers, which stay in registers.
-#[inline(always)]
-fn front_by_byte(bytes: &[u8]) -> (u64, usize)
-    ensures { IsFoundFront bytes.now result.0 result.1 }
-{
-    // Most varints have one byte, which needs no word.
-    if bytes.len() >= 1 && bytes[0] < 128 {
-        (u64::from(bytes[0]), 1)
-    } else {
-        front_by_word(bytes)
-    }
-}
-
 #[inline(never)]
 fn front_by_word(bytes: &[u8]) -> (u64, usize)
     ensures { IsFoundFront bytes.now result.0 result.1 }
@@ -74,7 +70,7 @@ fn front_by_word(bytes: &[u8]) -> (u64, usize)
     }
 }
 
-// As `front_by_byte`, if fewer bytes remain than a word has.
+// As `front_by_word`, if fewer bytes remain than a word has.
 #[inline(never)]
 #[tactic(auto, using(crate::proofs::Varints::WordFrontLemmas::short_front))]
 fn front_by_short_word(bytes: &[u8]) -> (u64, usize)
@@ -95,7 +91,7 @@ fn padded_word(bytes: &[u8]) -> u128
     u128::from_le_bytes(front)
 }
 
-// As `front_by_byte`, of bytes whose first are in the word.
+// As `front_by_word`, of bytes whose first are in the word.
 #[inline(always)]
 fn front_in_word(word: u128, present: usize) -> (u64, usize)
     ensures { (bytes : List ℕ) → IsBytes bytes → IsFrontWord bytes word present →
@@ -107,16 +103,16 @@ fn front_in_word(word: u128, present: usize) -> (u64, usize)
     }
 }
 
-// The number of the varint at the front of bytes whose first are in the word, and its length.
+// As `read_counted`, of bytes whose first are in the word.
 #[inline(always)]
-fn read_word(word: u128, present: usize) -> Result<(u64, usize), Error>
+fn read_word(word: u128, present: usize) -> Result<(u64, usize), (Error, usize)>
     ensures ok { IfOk result (λ found. (bytes : List ℕ) → IsBytes bytes →
         IsFrontWord bytes word present →
         IsVarint found.0 (take found.1 bytes)) }
     ensures within { IfOk result (λ found. (0 < found.1) × (found.1 ≤ present)) }
     ensures err { IfErr result (λ e. (bytes : List ℕ) → IsBytes bytes →
         IsFrontWord bytes word present →
-        IsFrontError bytes e) }
+        IsFrontErrorAt bytes e.0 e.1) }
 {
     let low = (word & 0xffff_ffff_ffff_ffff) as u64;
     // The highest bit of each byte that is no continuation byte.
@@ -128,38 +124,38 @@ fn read_word(word: u128, present: usize) -> Result<(u64, usize), Error>
     let varint = low & stops.wrapping_sub(1);
     let continuation_bytes = (stops.trailing_zeros() / 8) as usize;
     if continuation_bytes >= present {
-        return Err(Error::insufficient());
+        return Err((Error::insufficient(), present));
     }
     if varint >> (8 * continuation_bytes) == 0 && continuation_bytes > 0 {
-        return Err(Error::not_minimal());
+        return Err((Error::not_minimal(), continuation_bytes + 1));
     }
     Ok((join_low(varint), continuation_bytes + 1))
 }
 
 // As `read_word`, if all bytes of the low half are continuation bytes.
 #[inline(always)]
-fn read_high(word: u128, present: usize) -> Result<(u64, usize), Error>
+fn read_high(word: u128, present: usize) -> Result<(u64, usize), (Error, usize)>
     ensures ok { IfOk result (λ found. (bytes : List ℕ) → IsBytes bytes →
         IsFrontWord bytes word present → BeginsWithContinuation 8 bytes →
         IsVarint found.0 (take found.1 bytes)) }
     ensures within { IfOk result (λ found. (0 < found.1) × (found.1 ≤ present)) }
     ensures err { IfErr result (λ e. (bytes : List ℕ) → IsBytes bytes →
         IsFrontWord bytes word present → BeginsWithContinuation 8 bytes →
-        IsFrontError bytes e) }
+        IsFrontErrorAt bytes e.0 e.1) }
 {
     let low = (word & 0xffff_ffff_ffff_ffff) as u64;
     let high = (word >> 64) as u64;
     let stops = !high & HIGH_BITS;
     let varint = high & stops.wrapping_sub(1);
     if varint >= TOO_LARGE {
-        return Err(Error::overflow());
+        return Err((Error::overflow(), MAX_LEN));
     }
     let continuation_bytes = (stops.trailing_zeros() / 8) as usize;
     if HALF_LEN + continuation_bytes >= present {
-        return Err(Error::insufficient());
+        return Err((Error::insufficient(), present));
     }
     if varint >> (8 * continuation_bytes) == 0 {
-        return Err(Error::not_minimal());
+        return Err((Error::not_minimal(), HALF_LEN + continuation_bytes + 1));
     }
     let number = join_digits::<HALF_LEN>(low) | join_digits::<HIGH_LEN>(varint) << (7 * HALF_LEN);
     Ok((number, HALF_LEN + continuation_bytes + 1))

@@ -7,7 +7,15 @@ returns-in-Some-clause-found c n varint rest is cut =
     let (bytes, is_found, consumes) = c.in-Some.ensures.some in
     same_number c.args.bytes.now c.in-Some.found.0 n _ rest (bytes, is_found, Consumes-cut _ bytes _ consumes) (varint, is, cut)
 
-pub returns-in-None-clause-found : goal.returns-in-None-clause-found
-returns-in-None-clause-found c n varint rest is cut =
-    let (fault, malformed) = c.in-None.ensures.none in
+pub returns-in-Ok-clause-found : goal.returns-in-Ok-clause-found
+returns-in-Ok-clause-found c n varint rest is cut =
+    let (fault, malformed) = c.in_default.ensures.none in
     absurd (number_no_fault c.args.bytes.now n rest fault (varint, is, cut) malformed)
+
+pub returns-in-Err-clause-found : goal.returns-in-Err-clause-found
+returns-in-Err-clause-found c n varint rest is cut =
+    let (fault, malformed) = c.in_default.ensures.none in
+    absurd (number_no_fault c.args.bytes.now n rest fault (varint, is, cut) malformed)
+
+pub returns-in-Err-clause-err : goal.returns-in-Err-clause-err
+returns-in-Err-clause-err c = c.in-Err.ensures.err.0

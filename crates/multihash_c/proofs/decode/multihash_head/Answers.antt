@@ -1,8 +1,15 @@
-use Rattle.std.proofs.Common.{inl}
-use Rattle.multihash_c.proofs.ReadLemmas.{short_head}
+use Rattle.std.proofs.Common.{refl, inr}
+use Rattle.multihash_c.proofs.ReadLemmas.{fault_read}
 use Rattle.multihash_c.proofs.decode.multihash_head.Goals as goal
 
-pub returns-then-bytes-lt128-2 : goal.returns-then-bytes-lt128-2
-returns-then-bytes-lt128-2 c =
-    let head = short_head c.args.bytes.now c.if-bytes-ge2.true c.if-bytes-lt128.true c.if-bytes-lt128-2.true in
-    inl (c.found.ensures c.args.bytes.now (rw (c.from.ensures, c.from-then-bytes-lt128-2.ensures) head))
+pub returns-in_default : goal.returns-in_default
+returns-in_default c =
+    let (e, h, is) = c.fault-status.ensures in
+    inr (record {
+      fault = h.fault;
+      is_status = is;
+      no_code = refl;
+      no_length = refl;
+      reads = λ limit.
+          fault_read c.args.bytes.now e _ h limit _ refl (record { is_status = is; is_size = refl; is_code = refl; no_offset = refl; no_length = refl });
+    })

@@ -1,7 +1,6 @@
 use Rattle.std.proofs.Common.{◌-◌, ◌^◌, arith, bit_and}
 use Rattle.std.proofs.lemmas.Nat.{and_le_r}
 use Rattle.std.proofs.lemmas.Result.{IfOk-weaker, IfErr-weaker}
-use Rattle.multihash.specs.Varint.{insufficient, not_minimal}
 use Rattle.multihash.proofs.Varints.WordFrontLemmas.{low_continuation, low_end, low_number, ends_short, ends_zero}
 use Rattle.multihash.proofs.Varints.WordLemmas.{first_unmarked}
 use Rattle.multihash.proofs.varint.word.read_word.Goals as goal
@@ -19,7 +18,7 @@ returns-then-stops-eq0-clause-err c =
 
 pub returns-then-continuation_bytes-present-clause-err : goal.returns-then-continuation_bytes-present-clause-err
 returns-then-continuation_bytes-present-clause-err c = λ xs bytes f.
-    (insufficient, c.insufficient.ensures, ends_short xs _ _ _ _ f (low_end xs _ _ bytes f c.if-stops-eq0.false) c.if-continuation_bytes-present.true)
+    ends_short xs _ _ _ _ f (low_end xs _ _ bytes f c.if-stops-eq0.false) c.if-continuation_bytes-present.true _ c.insufficient.ensures
 
 pub overflow_shr-varint : goal.overflow_shr-varint
 overflow_shr-varint c =
@@ -27,11 +26,9 @@ overflow_shr-varint c =
     omega (arith, (first_unmarked low (omega (arith, and_le_r c.args.word (2 ^ 64 - 1)))).some c.if-stops-eq0.false)
 
 pub returns-then-continuation_bytes-gt0-clause-err : goal.returns-then-continuation_bytes-gt0-clause-err
-returns-then-continuation_bytes-gt0-clause-err c = λ xs bytes f. (
-  not_minimal,
-  c.not_minimal.ensures,
-  ends_zero xs _ _ _ _ f (low_end xs _ _ bytes f c.if-stops-eq0.false) c.if-continuation_bytes-present.false c.if-varint-continuation_bytes-eq0.true c.if-continuation_bytes-gt0.true,
-)
+returns-then-continuation_bytes-gt0-clause-err c = λ xs bytes f.
+    ends_zero xs _ _ _ _ f (low_end xs _ _ bytes f c.if-stops-eq0.false) c.if-continuation_bytes-present.false c.if-varint-continuation_bytes-eq0.true
+    c.if-continuation_bytes-gt0.true _ c.not_minimal.ensures
 
 pub returns-clause-ok : goal.returns-clause-ok
 returns-clause-ok c = λ xs bytes f.

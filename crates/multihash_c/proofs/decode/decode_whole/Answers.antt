@@ -1,0 +1,76 @@
+use Rattle.std.proofs.Common.{◌≡◌, length, refl, sym, ap, ◌∙◌, subst, arith, length-drop, take, drop}
+use Rattle.std.proofs.lemmas.List.{take_all}
+use Rattle.multihash.specs.Varint.{insufficient}
+use Rattle.multihash.specs.Verdict.{malformed, invalid_size, unexpected_eof, accepted}
+use Rattle.multihash_c.specs.Decoded.{ReportsRefusal}
+use Rattle.multihash_c.specs.Status.{status_of_fault}
+use Rattle.multihash.proofs.Readings.VerdictLemmas.{verdict_unique, whole_over, whole_short, whole_trailing, whole_exact}
+use Rattle.multihash_c.proofs.ReadLemmas.{head_kept, fault_whole, head_no_fault}
+use Rattle.multihash_c.proofs.decode.decode_whole.Goals as goal
+
+pub returns-in_default-clause-verdict : goal.returns-in_default-clause-verdict
+returns-in_default-clause-verdict c = λ input long begins enough.
+    let (e, h, is) = c.fault-status.ensures in (
+      malformed h.fault,
+      fault_whole h.fault c.args.front.now input begins (h.verdict 255) (rw long enough),
+      rw (← is) c.refusal.ensures.tells,
+    )
+
+pub returns-in_default-clause-cut : goal.returns-in_default-clause-cut
+returns-in_default-clause-cut c = λ has.
+    let (e, h, is) = c.fault-status.ensures in
+    let same = verdict_unique 255 c.args.front.now (malformed h.fault) (malformed insufficient) (h.verdict 255) has in
+    let fault : h.fault ≡ insufficient = cc in
+    subst (λ n. ReportsRefusal c.refusal.result n 0 0) (is ∙ ap status_of_fault fault) c.refusal.ensures.tells
+
+pub returns-then-head-clause-verdict : goal.returns-then-head-clause-verdict
+returns-then-head-clause-verdict c = λ input long begins enough. (
+  invalid_size _,
+  whole_over _ _ _ input (head_kept _ _ _ c.args.front.now input begins c.in-Some.ensures.some) 255 (omega (arith, c.if-head.true)),
+  c.refuse_size.ensures.tells input,
+)
+
+pub returns-then-head-clause-cut : goal.returns-then-head-clause-cut
+returns-then-head-clause-cut c = λ has. absurd (head_no_fault _ _ _ c.args.front.now insufficient c.in-Some.ensures.some has)
+
+pub returns-then-left-size-clause-verdict : goal.returns-then-left-size-clause-verdict
+returns-then-left-size-clause-verdict c = λ input long begins enough. (
+  unexpected_eof,
+  whole_short _ _ _ input (head_kept _ _ _ c.args.front.now input begins c.in-Some.ensures.some) 255 (omega (arith, c.if-head.false)) (drop _ input) refl
+      (omega (arith, length-drop c.in-Some.head.digest_offset input, long, c.if-left-size.true)),
+  c.refuse_end.ensures.tells input,
+)
+
+pub returns-then-left-size-clause-cut : goal.returns-then-left-size-clause-cut
+returns-then-left-size-clause-cut c = λ has. absurd (head_no_fault _ _ _ c.args.front.now insufficient c.in-Some.ensures.some has)
+
+pub returns-then-left-size-2-clause-verdict : goal.returns-then-left-size-2-clause-verdict
+returns-then-left-size-2-clause-verdict c = λ input long begins enough. (
+  invalid_size _,
+  whole_trailing _ _ _ input (head_kept _ _ _ c.args.front.now input begins c.in-Some.ensures.some) 255 (omega (arith, c.if-head.false)) (drop _ input) refl
+      _ (omega (arith, length-drop c.in-Some.head.digest_offset input, long, c.if-left-size-2.true))
+      (omega (arith, length-drop c.in-Some.head.digest_offset input, long)),
+  c.refuse_size-then-left-size-2.ensures.tells input,
+)
+
+pub returns-then-left-size-2-clause-cut : goal.returns-then-left-size-2-clause-cut
+returns-then-left-size-2-clause-cut c = λ has. absurd (head_no_fault _ _ _ c.args.front.now insufficient c.in-Some.ensures.some has)
+
+pub returns-clause-verdict : goal.returns-clause-verdict
+returns-clause-verdict c = λ input long begins enough.
+    let head = c.in-Some.head in
+    let has = c.in-Some.ensures.some in
+    let rest = drop head.digest_offset input in
+    let exact : length rest ≡ head.digest_len =
+    omega (arith, length-drop head.digest_offset input, long, c.if-left-size.false, c.if-left-size-2.false) in
+    let at : c.accept.result.digest_offset ≡ head.digest_offset =
+    omega (arith, c.accept.ensures.offset, exact, length-drop head.digest_offset input, long, has.within, c.requires) in
+    let all : take c.accept.result.digest_length (drop c.accept.result.digest_offset input) ≡ rest =
+    rw (c.accept.ensures.length, at) (take_all head.digest_len rest (omega (arith, exact))) in (
+      accepted _,
+      whole_exact _ _ _ input (head_kept _ _ _ c.args.front.now input begins has) 255 (omega (arith, c.if-head.false)) rest refl exact,
+      c.accept.ensures.tells input _ refl (omega (arith, long)) (sym all),
+    )
+
+pub returns-clause-cut : goal.returns-clause-cut
+returns-clause-cut c = λ has. absurd (head_no_fault _ _ _ c.args.front.now insufficient c.in-Some.ensures.some has)
