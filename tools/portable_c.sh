@@ -49,6 +49,7 @@ if [[ $# != 1 || $1 == -* ]]; then
   exit 2
 fi
 [ ! -e "$1" ] || fail "there is already: $1"
+[ "$(wasm2c --version)" = 1.0.32 ] || fail "needs wasm2c of WABT 1.0.32"
 work=$(mktemp -d)
 trap 'rm -rf "$work"' EXIT
 steps=${STEPS:-$work/steps}

@@ -209,7 +209,7 @@ rust_packed() {
   with_library cargo test --manifest-path packed/multihash-0.19.5/Cargo.toml
 }
 
-# The line of the pages puts the package in the place of that of crates.io, for a whole graph.
+# The line of the pages replaces upstream's package by this one in a whole dependency graph.
 rust_switch() {
   with_library cargo test --manifest-path switch/Cargo.toml &&
     with_library cargo build --manifest-path switch/client/Cargo.toml --no-default-features

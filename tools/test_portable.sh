@@ -98,7 +98,8 @@ fenced() {
 keeps_no_state() {
   local needed written
   needed=$(nm --undefined-only -f posix "$work/cc/multihash.o" | awk '{ print $1 }' | sort | paste -sd ' ')
-  written=$(objdump -h "$work/cc/multihash.o" | awk '$2 ~ /^\.(data|bss)$/ && $3 !~ /^0+$/')
+  objdump -h "$work/cc/multihash.o" > "$work/sections" && grep -q ' \.text ' "$work/sections" || return 1
+  written=$(awk '$2 ~ /^\.t?(data|bss)/ && $3 !~ /^0+$/' "$work/sections")
   echo "needs: $needed"
   [ -z "$written" ] && ! tr ' ' '\n' <<< "$needed" | grep -vxE 'abort|mem(cpy|move|set)|_GLOBAL_OFFSET_TABLE_'
 }

@@ -13,9 +13,11 @@ work=$(mktemp -d)
 trap 'rm -rf "$work"' EXIT
 
 # The linked module has a 64-bit memory, which few engines have. Makes it one of 32 bits, by `i32.wrap_i64` before
-# each access: the memory is of 1.1 MB, so no bit is lost. Nothing is optimised.
+# each access: the memory is of 1.1 MB, so no bit is lost. Nothing is optimised. The list of features goes, as it
+# has memory64.
 lower_wasm() {
-  wasm-opt --enable-memory64 --enable-bulk-memory --memory64-lowering "$1" -o "$2" > "$work/log" 2>&1 ||
+  wasm-opt --enable-memory64 --enable-bulk-memory --memory64-lowering --strip-target-features "$1" -o "$2" \
+    > "$work/log" 2>&1 ||
     { cat "$work/log"; return 1; }
 }
 

@@ -15,8 +15,8 @@ const STATUSES = ['ok', 'insufficient', 'overflow', 'not_minimal', 'invalid_size
 // The longest prefix of an input that a result depends on, except for the number of trailing bytes.
 const PREFIX_MAX = HEAD_MAX + DIGEST_MAX;
 
-// Numbers as BigInts, as lengths, most codes and addresses are passed: to make one is slower than a call. An input has no
-// other length, so that none reaches the module which its memory, of 32-bit addresses, could not have.
+// Numbers as BigInts, as lengths, most codes and addresses are passed: to make one is slower than a call. The length
+// of bytes in the module's memory is always one of them, so 32-bit addresses suffice.
 let NUMBERS;
 
 // The module's functions; its memory as bytes and as words, which stay valid since no function grows it; and,

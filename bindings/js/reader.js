@@ -55,8 +55,11 @@ function iteratorOf(source) {
     return {
       next: () => reader.read(),
       async return() {
-        await reader.cancel();
-        reader.releaseLock();
+        try {
+          await reader.cancel();
+        } finally {
+          reader.releaseLock();
+        }
       },
     };
   }

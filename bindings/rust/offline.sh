@@ -18,7 +18,7 @@ empty_crate() {
 }
 
 if [ ! -d "$work/rust" ]; then
-  mkdir "$work/rust" "$work/cargo"
+  mkdir -p "$work/rust" "$work/cargo"
   tar -c --exclude=target --exclude=Cargo.lock -C "$here" . | tar -x -C "$work/rust"
   if ! compgen -G "$registry/serde_json-1.*" > /dev/null; then
     empty_crate serde

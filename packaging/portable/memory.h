@@ -213,11 +213,8 @@ static inline u64 I64_CTZ(u64 number)
     return number == 0 ? 64 : 63 - I64_CLZ(number & (0 - number));
 }
 
-static inline u32 DIV_U(u32 number, u32 divisor)
-{
-    if (divisor == 0) abort();
-    return number / divisor;
-}
+/* wasm2c has one name for both widths: a function would cut numbers of 64 bits. */
+#define DIV_U(number, divisor) ((divisor) != 0 ? (number) / (divisor) : (abort(), (divisor)))
 
 #define UNREACHABLE abort()
 

@@ -4,7 +4,7 @@
 
 #include "module.h"
 
-/* Begins a call with two inputs and a place for output; null and 0 stand for what it has not. */
+/* Starts a call with two inputs and an output buffer: null and 0 if the function has none. */
 static inline void begin(memory *call, const uint8_t *input, size_t input_length, const uint8_t *other,
                          size_t other_length, uint8_t *out, size_t out_length)
 {

@@ -18,7 +18,7 @@ ABOUT_MEMORY = re.compile(r'  \((?:memory |data |export "memory" |export "__heap
 DATA = re.compile(r'  \(data (?:\$\S+ )?\(i64\.const (\d+)\) "((?:[^"\\]|\\[0-9a-f]{2})*)"\)(\)?)')
 OTHER_MEMORY = re.compile(r"\b(?:memory|table|elem|data)\.\w+|\bcall_indirect\b|\((?:table|elem) ")
 FUNCTION = re.compile(r"  \(func (\S+) ")
-# What a function does with the top of the stack first: it takes its frame, or only looks what is left.
+# What a function does first with the top of the stack: it allocates its frame, or only checks how much is left.
 FRAME = re.compile(r"global\.get \$__stack_pointer\s+i64\.const (\d+)\s+i64\.sub\s+local\.tee ")
 NO_FRAME = re.compile(
     r"global\.get \$__stack_pointer\s+(?:local\.tee \d+\s+)?i64\.const (?:16\s+i64\.lt_s|15\s+i64\.gt_s)\s"

@@ -66,19 +66,14 @@ fn link_archive(directory: &Path) {
     println!("cargo:rerun-if-changed={}", link.display());
     println!("cargo:rustc-link-search=native={}", out.display());
     println!("cargo:rustc-link-lib=static=multihash_c");
-    if architecture("HOST") == architecture("TARGET") {
+    if env::var_os("HOST") == env::var_os("TARGET") {
         check_version(&archive, probed(&out));
     } else {
         println!(
-            "cargo:warning=the version of {} is not checked: it is built for another machine",
+            "cargo:warning=the version of {} is not checked: it is for another target than the host",
             archive.display()
         );
     }
-}
-
-fn architecture(triple: &str) -> String {
-    let triple = env::var(triple).expect("a target triple");
-    triple.split('-').next().expect("an architecture").to_owned()
 }
 
 /// The number of the archive's version, from a program that is linked with it and run.

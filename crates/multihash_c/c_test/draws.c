@@ -1,6 +1,6 @@
-/* Calls each export on drawn inputs, and prints one number for all results, to compare two builds of the
- * library. What is drawn and printed is the same on every machine. Each input and each place for output is on
- * the heap, with exactly its length, so that tools see each access outside it.
+/* Calls each export but multihash_version on drawn inputs, and prints one number for all results, to compare
+ * two builds of the library. What is drawn and printed is the same on every machine. Each input and each
+ * output buffer is on the heap, with exactly its length, so that tools see each access outside it.
  *
  *   draws SEED COUNT */
 #include "check.h"
@@ -31,7 +31,7 @@ static void add(uint64_t number)
     }
 }
 
-static uint8_t *places(size_t length)
+static uint8_t *buffer(size_t length)
 {
     uint8_t *bytes = (uint8_t *)malloc(length);
     CHECK(length == 0 || bytes != NULL);
@@ -40,12 +40,12 @@ static uint8_t *places(size_t length)
 
 static uint8_t *copy_of(const uint8_t *from, size_t length)
 {
-    uint8_t *bytes = places(length);
+    uint8_t *bytes = buffer(length);
     if (length > 0) memcpy(bytes, from, length);
     return bytes;
 }
 
-/* A number of any length in bits. No expression in this file has two draws, as C leaves their order open. */
+/* A number of any length in bits. No expression in this file has two draws whose order C leaves open. */
 static uint64_t number(void)
 {
     size_t zeros = below(64);
@@ -113,6 +113,9 @@ static void try_decodings(const uint8_t *input, size_t length)
     add(head.digest_length);
     add(head.taken);
     add_decoded(multihash_from_bytes(input, length));
+    size_t present = below(length + 1);
+    add_decoded(multihash_from_prefix(input, present, length));
+    add_decoded(multihash_from_prefix(input, length, present));
     add_decoded(multihash_read(input, length));
     add_decoded(multihash_read_limit(input, length, below(LONGEST)));
     add_decoded(multihash_scale_decode(input, length));
@@ -121,7 +124,7 @@ static void try_decodings(const uint8_t *input, size_t length)
 static void try_encoding(encoder encode, uint64_t code, const uint8_t *digest, size_t length)
 {
     size_t room = below(4) == 0 ? below(LONGEST) : length + below(24);
-    uint8_t *out = places(room);
+    uint8_t *out = buffer(room);
     if (room > 0) memset(out, MARK, room);
     add_encoded(encode(code, digest, length, out, room), out, room);
     free(out);
@@ -130,7 +133,7 @@ static void try_encoding(encoder encode, uint64_t code, const uint8_t *digest, s
 static void try_text(multihash_status status)
 {
     size_t room = below(40);
-    uint8_t *out = places(room);
+    uint8_t *out = buffer(room);
     if (room > 0) memset(out, MARK, room);
     add_encoded(multihash_put_status_text(status, out, room), out, room);
     free(out);

@@ -2,8 +2,8 @@ use crate::io;
 use core::fmt;
 use multihash_c::Error as Format;
 
-/// Why a call fails. The text says it; [`source`](core::error::Error::source) is the error of the reader or
-/// writer, if it is one.
+/// Why a call failed. [`source`](core::error::Error::source) is the error of the reader or the writer, if one
+/// of these failed.
 #[derive(Debug)]
 pub struct Error {
     kind: Kind,
@@ -55,17 +55,16 @@ impl Error {
         Self::new(Kind::Varint(Varint::Insufficient))
     }
 
-    /// The input ends inside the digest: what a reader says that has too few bytes.
+    /// The input ends inside the digest: the error of a reader with too few bytes.
     fn unexpected_end() -> Self {
         Self::io(
             io::Read::read_exact(&mut &[][..], &mut [0]).expect_err("no bytes fill no buffer of one byte"),
         )
     }
-}
 
-impl From<Format> for Error {
+    /// The error of a decoding.
     #[cold]
-    fn from(error: Format) -> Self {
+    pub(crate) fn of_format(error: Format) -> Self {
         match error {
             Format::Insufficient => Self::insufficient(),
             Format::Overflow => Self::new(Kind::Varint(Varint::Overflow)),
@@ -81,7 +80,7 @@ impl From<Format> for Error {
 impl fmt::Display for Error {
     fn fmt(&self, f: &mut fmt::Formatter<'_>) -> fmt::Result {
         match &self.kind {
-            Kind::Io(error) => error.fmt(f),
+            Kind::Io(error) => write!(f, "{error}"), // without width and precision, as upstream
             Kind::InvalidSize(size) => Format::InvalidSize(*size).fmt(f),
             Kind::InvalidCode(code) => Format::InvalidCode(*code).fmt(f),
             #[cfg(not(feature = "std"))]

@@ -13,7 +13,7 @@ pub struct Multihash<const S: usize> {
     code: u64,
     /// At most `S`.
     size: u8,
-    /// The bytes from `size` are of no value.
+    /// The bytes from index `size` on are no part of the value.
     digest: [u8; S],
 }
 
@@ -22,7 +22,7 @@ impl<const S: usize> Multihash<S> {
     ///
     /// # Errors
     ///
-    /// For a digest of more than `S` bytes or more than 255, and for a code from 2^63.
+    /// For a digest of more than `S` bytes or more than 255, and for a code of 2^63 or more.
     pub const fn wrap(code: u64, digest: &[u8]) -> Result<Self, Error> {
         let length = digest.len();
         if length > S || length > DIGEST_MAX {
@@ -58,8 +58,8 @@ impl<const S: usize> Multihash<S> {
     ///
     /// # Errors
     ///
-    /// The reader's own, and if what comes is no multihash with a digest of at most `S` bytes. Nothing of a
-    /// digest that is too long is read.
+    /// That of the reader, and one if no multihash with a digest of at most `S` bytes comes next. No byte of
+    /// a digest that is too long is read.
     pub fn read<R: Read>(mut r: R) -> Result<Self, Error> {
         let (code, size) = read::head(&mut r)?;
         if size > S.min(DIGEST_MAX) as u64 {
@@ -76,7 +76,7 @@ impl<const S: usize> Multihash<S> {
     ///
     /// If `bytes` is no encoding, or that of a digest of more than `S` bytes.
     pub fn from_bytes(mut bytes: &[u8]) -> Result<Self, Error> {
-        let found = MultihashRef::read_limit(&mut bytes, S)?;
+        let found = MultihashRef::read_limit(&mut bytes, S).map_err(Error::of_format)?;
         if !bytes.is_empty() {
             return Err(Error::of_size(bytes.len() as u64));
         }
@@ -89,7 +89,7 @@ impl<const S: usize> Multihash<S> {
     ///
     /// # Errors
     ///
-    /// The writer's own. A prefix of the encoding may have been written.
+    /// That of the writer. A prefix of the encoding may have been written.
     pub fn write<W: Write>(&self, mut w: W) -> Result<usize, Error> {
         self.borrowed().with_encoding(|bytes| match w.write_all(bytes) {
             Ok(()) => Ok(bytes.len()),
@@ -111,7 +111,7 @@ impl<const S: usize> Multihash<S> {
     /// Returns the multihash with the first `size` bytes of the digest, or with all if it has fewer.
     ///
     /// Whether a truncated digest is secure is for the caller to know. [`Multihash::into_inner`] and `Debug`
-    /// still show the bytes that were cut off.
+    /// still expose the bytes that were removed.
     pub fn truncate(&self, size: u8) -> Self {
         Self { size: self.size.min(size), ..*self }
     }

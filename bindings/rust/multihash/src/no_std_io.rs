@@ -1,7 +1,7 @@
 //! What reading and writing needs of `std::io`, where there is no `std`.
 use core::{fmt, mem};
 
-/// Why a reader or a writer of this module fails.
+/// Why a reader or a writer of this module failed.
 pub struct Error(Kind);
 
 #[derive(Clone, Copy, Debug)]
@@ -83,7 +83,7 @@ impl<W: Write + ?Sized> Write for &mut W {
     }
 }
 
-/// Takes the bytes from the front of the slice. A `read_exact` that fails takes none.
+/// Consumes the bytes from the front of the slice. A `read_exact` that fails consumes none.
 impl Read for &[u8] {
     fn read(&mut self, buf: &mut [u8]) -> Result<usize, Error> {
         let count = buf.len().min(self.len());
@@ -92,8 +92,8 @@ impl Read for &[u8] {
     }
 
     fn read_exact(&mut self, buf: &mut [u8]) -> Result<(), Error> {
-        let (taken, rest) = self.split_at_checked(buf.len()).ok_or(Error(Kind::UnexpectedEof))?;
-        buf.copy_from_slice(taken);
+        let (front, rest) = self.split_at_checked(buf.len()).ok_or(Error(Kind::UnexpectedEof))?;
+        buf.copy_from_slice(front);
         *self = rest;
         Ok(())
     }
@@ -103,8 +103,8 @@ impl Read for &[u8] {
 impl Write for &mut [u8] {
     fn write(&mut self, buf: &[u8]) -> Result<usize, Error> {
         let count = buf.len().min(self.len());
-        let (places, rest) = mem::take(self).split_at_mut(count);
-        places.copy_from_slice(&buf[..count]);
+        let (front, rest) = mem::take(self).split_at_mut(count);
+        front.copy_from_slice(&buf[..count]);
         *self = rest;
         Ok(count)
     }

@@ -22,8 +22,8 @@ pub(crate) fn head<R: Read>(r: &mut R) -> Result<(u64, u64), Error> {
     Ok((head.code(), head.digest_length()))
 }
 
-/// Continues after the first two bytes. Whether a verdict is possible is known from `MORE` of each byte, so
-/// that `Head::read`, which gives it, is called for few beginnings.
+/// Continues after the first two bytes. Only a byte without `MORE`, and the ninth of a varint, can determine
+/// the result, so `Head::read` is called for few prefixes.
 #[inline(never)]
 fn long_head<R: Read>(r: &mut R, first: [u8; 2]) -> Result<Head, Error> {
     let mut bytes = [0; HEAD_MAX];
@@ -35,10 +35,10 @@ fn long_head<R: Read>(r: &mut R, first: [u8; 2]) -> Result<Head, Error> {
         if open == 0 || open == VARINT_MAX {
             match Head::read(&bytes[..length]) {
                 Err(Format::Insufficient) => {}
-                found => return Ok(found?),
+                found => return found.map_err(Error::of_format),
             }
         }
-        let next = &mut bytes[length..=length]; // a head of `HEAD_MAX` bytes has a verdict
+        let next = &mut bytes[length..=length]; // the result for `HEAD_MAX` bytes is determined
         fill(r, next)?;
         open = if next[0] & MORE == 0 { 0 } else { open + 1 };
         length += 1;
@@ -56,7 +56,7 @@ fn fill<R: Read>(r: &mut R, out: &mut [u8]) -> Result<(), Error> {
 }
 
 /// Fills `out`, of one byte or two. An end of the input is the same error for both, and the bytes before it
-/// are taken, which not every `read_exact` does.
+/// are consumed, which not every `read_exact` does.
 #[cfg(not(feature = "std"))]
 fn fill<R: Read>(r: &mut R, mut out: &mut [u8]) -> Result<(), Error> {
     while !out.is_empty() {

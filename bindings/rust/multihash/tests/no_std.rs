@@ -63,7 +63,7 @@ fn ends() {
         let text = if end < 3 { "not enough input bytes" } else { "failed to fill whole buffer" };
         let wanted = (text.to_owned(), (end >= 3).then(|| text.to_owned()));
         assert!(errors.iter().all(|it| texts(it.as_ref().expect_err("an end")) == wanted));
-        // `read_exact` of a slice takes nothing if it fails
+        // `read_exact` of a slice consumes nothing if it fails
         assert_eq!((slice.len(), bytes.0.len()), (end.saturating_sub(3), 0));
         let mut out = [0xa5; 6];
         let failure = first().write(&mut out[..end]).expect_err("it is full");

@@ -7,7 +7,8 @@ use core::hash::{Hash, Hasher};
 /// A code, which names the hash function, and a borrowed digest.
 ///
 /// The code is below 2^63, and the digest has at most [`DIGEST_MAX`](crate::DIGEST_MAX) bytes. A value that
-/// was decoded has its encoding too, which ends with the digest. Values of one code and digest are equal.
+/// was decoded also borrows its encoding, which ends with the digest. Values of one code and digest are
+/// equal.
 #[derive(Clone, Copy)]
 pub struct MultihashRef<'a> {
     code: u64,

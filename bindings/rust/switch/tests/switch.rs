@@ -13,7 +13,7 @@ fn there_and_back() {
     assert!(matches!(Link::<64>::read(&bytes[..4]), Err(Error::Multihash(_))));
 }
 
-/// The package of crates.io accepts a code of ten bytes.
+/// Upstream's package accepts a code of ten bytes.
 #[test]
 fn is_switched() {
     let bytes = [b"\x55", &[0xff; 9][..], b"\x01\x00"].concat();
