@@ -46,15 +46,19 @@ instructions() {
     { $1 = $1; before = last; last = $0 } 1'
 }
 
+wraps() {
+  awk '/i32.wrap_i64/ { n++ } END { print n + 0 }' "$1"
+}
+
 # The module differs from the linked one in `i32.wrap_i64` alone, of which it has one more for each operand that is an
 # address, or a length of a copy. As both are valid, these stand at such operands.
 differs_in_wraps() {
   local operands linked lowered
   wasm2wat --enable-memory64 "$1" > "$work/linked.wat" && wasm2wat "$2" > "$work/lowered.wat" || return 1
   instructions "$1" > "$work/linked" && instructions "$2" > "$work/lowered" && diff "$work/linked" "$work/lowered" || return 1
-  operands=$(awk '/\.(load|store)/ { n++ } /memory\.copy/ { n += 3 } /memory\.fill/ { n += 2 } END { print n }' "$work/linked")
-  linked=$(grep -c i32.wrap_i64 "$work/linked.wat")
-  lowered=$(grep -c i32.wrap_i64 "$work/lowered.wat")
+  operands=$(awk '/\.(load|store)/ { n++ } /memory\.copy/ { n += 3 } /memory\.fill/ { n += 2 } END { print n + 0 }' "$work/linked")
+  linked=$(wraps "$work/linked.wat")
+  lowered=$(wraps "$work/lowered.wat")
   echo "$(wc -l < "$work/linked") instructions, and $lowered times i32.wrap_i64: $linked, and $operands for addresses and lengths"
   [ "$operands" -gt 0 ] && [ $((linked + operands)) = "$lowered" ]
 }
@@ -74,7 +78,7 @@ build_page() {
 }
 
 build_into() {
-  "$top/tools/link_wasm.sh" "$work/linked.wasm" && lower_wasm "$work/linked.wasm" "$1/multihash.wasm" &&
+  "$top/tools/link_wasm" "$work/linked.wasm" && lower_wasm "$work/linked.wasm" "$1/multihash.wasm" &&
     build_bytes "$1/multihash.wasm" > "$1/bytes.js" &&
     build_page "$1/multihash.wasm" > "$1/demo.html"
 }

@@ -76,13 +76,11 @@ const tagOf = getter(typedArray, Symbol.toStringTag);
 const lengthOf = getter(typedArray, 'length');
 const offsetOf = getter(typedArray, 'byteOffset');
 const bufferOf = getter(typedArray, 'buffer');
-const bufferLengthOf = getter(ArrayBuffer.prototype, 'byteLength');
 
-/** The length of a Uint8Array. Throws a TypeError where the value is none, or its buffer is shared. */
+/** The length of a Uint8Array, 0 if its buffer is detached. Throws a TypeError where the value is none. */
 export function checkedLength(data) {
+  // the buffer is not asked for: an engine has to make it first, which takes longer than to decode a short array
   if (tagOf.call(data) !== 'Uint8Array') throw new TypeError('bytes have to be a Uint8Array');
-  // this getter throws a TypeError for a shared buffer
-  bufferLengthOf.call(bufferOf.call(data));
   return lengthOf.call(data);
 }
 
@@ -95,7 +93,7 @@ function put(data, at) {
 }
 
 /** A whole number of 64 bits as a BigInt. */
-function bits64(number, what) {
+export function bits64(number, what) {
   if (typeof number === 'number') {
     if (!Number.isSafeInteger(number) || number < 0) throw new RangeError(`${what} has to be a whole number, from 2^53 a bigint`);
     return number <= PREFIX_MAX ? NUMBERS[number] : BigInt(number);
@@ -111,6 +109,7 @@ function bits64(number, what) {
 function wide(offset) {
   const low = words[(result + offset) >> 2];
   const high = words[(result + offset + 4) >> 2];
+  if (high === 0) return low;
   return high < 0x200000 ? high * 0x100000000 + low : (BigInt(high) << 32n) | BigInt(low);
 }
 
@@ -125,6 +124,9 @@ function copied(at, length) {
   return new Uint8Array((row[length] ??= memory.subarray(at, at + length)));
 }
 
+/** A number as JSON.stringify accepts it: a bigint as decimal text. */
+const forJSON = (number) => (typeof number === 'bigint' ? `${number}` : number);
+
 /** Why a call failed. `structuredClone` keeps `cause`, which has the same fields: see `from`. */
 export class MultihashError extends Error {
   constructor(status, { size, code, taken } = {}) {
@@ -135,6 +137,12 @@ export class MultihashError extends Error {
     Object.assign(this, { status, size, code, taken });
   }
 
+  /** The name, the text and the fields, for JSON.stringify. */
+  toJSON() {
+    const { name, message, status, size, code, taken } = this;
+    return { name, message, status, size: forJSON(size), code: forJSON(code), taken };
+  }
+
   /** The error that the value is a clone of, the value itself if it is of this class, or else undefined. */
   static from(value) {
     if (value instanceof MultihashError) return value;
@@ -142,7 +150,7 @@ export class MultihashError extends Error {
     return STATUSES.indexOf(cause?.status) > 0 ? new MultihashError(cause.status, cause) : undefined;
   }
 
-  /** Whether more input can change the result. */
+  /** Whether the input is truncated. In `read`, `head` and `scaleDecode` only then can more input change the result. */
   get isIncomplete() {
     return this.status === 'insufficient' || this.status === 'unexpected_eof';
   }
@@ -161,26 +169,29 @@ const MAKING = Symbol('making');
 
 /** A code, which names a hash function, and a digest. */
 export class Multihash {
-  #bytes;
-
-  constructor(making, code, digest, bytes) {
+  constructor(making, code, digest) {
     if (making !== MAKING) throw new TypeError('Multihash.of(code, digest) makes a multihash');
     this.code = code;
     this.size = digest.length;
     this.digest = digest;
-    this.#bytes = bytes;
   }
 
   /** Makes the multihash of a code and a digest, which is copied. */
   static of(code, digest) {
     const bytes = encode(code, digest);
     const exact = typeof code === 'bigint' && code <= Number.MAX_SAFE_INTEGER ? Number(code) : code || 0; // not -0
-    return new Multihash(MAKING, exact, bytes.slice(bytes.length - lengthOf.call(digest)), bytes);
+    return new Multihash(MAKING, exact, bytes.slice(bytes.length - lengthOf.call(digest)));
   }
 
-  /** The encoding. */
+  /** The encoding, a new array each time. */
   get bytes() {
-    return (this.#bytes ??= encode(this.code, this.digest));
+    return encode(this.code, this.digest);
+  }
+
+  /** The code, and the digest in hexadecimal, for JSON.stringify. */
+  toJSON() {
+    const digest = Array.from(this.digest, (byte) => byte.toString(16).padStart(2, '0')).join('');
+    return { code: forJSON(this.code), size: this.size, digest };
   }
 
   /** Whether the other value has the same code and the same digest. */

@@ -18,9 +18,9 @@ export type Wide = number | bigint;
 /** Why a call failed. */
 export type Status =
   | 'insufficient' // the input ends inside or before a varint
-  | 'overflow' // a varint has more than nine bytes, or its number is 2^63 or above
+  | 'overflow' // a varint has more than nine bytes, as every number of 2^63 or above needs
   | 'not_minimal' // a varint of more than one byte ends in a zero
-  | 'invalid_size' // a digest is too long, or bytes follow the encoding: `size` is their number
+  | 'invalid_size' // a digest is too long: `size` is its length; or bytes follow the encoding: `size` is their number
   | 'invalid_code' // `code` is 2^63 or above
   | 'unexpected_eof' // the input ends inside the digest, or before it in the SCALE form
   | 'no_room'; // an output is too short: no function here returns it
@@ -42,12 +42,17 @@ export class MultihashError extends Error implements Details {
   readonly size?: Wide;
   readonly code?: Wide;
   readonly taken?: number;
-  /** Whether more input can change the result. */
+  /**
+   * Whether the input is truncated: it ends inside or before a varint, or inside the digest. In `read`, `head`,
+   * `scaleDecode` and `MultihashReader` only then can more input change the result.
+   */
   readonly isIncomplete: boolean;
   /** The same fields as a plain object, which `structuredClone` keeps. */
   readonly cause: Details & { readonly status: Status };
   /** The error of which `value` is a clone, `value` itself if it is a `MultihashError`, else undefined. */
   static from(value: unknown): MultihashError | undefined;
+  /** The name, the text and the fields, a bigint as decimal text. */
+  toJSON(): { name: string; message: string; status: Status; size?: number | string; code?: number | string; taken?: number };
 }
 
 /** A code, which names a hash function, and a digest. */
@@ -59,11 +64,14 @@ export class Multihash {
   readonly code: Wide;
   /** The digest's length. */
   readonly size: number;
+  /** The bytes of this object, which are not frozen: to write to them changes the multihash. */
   readonly digest: Uint8Array;
-  /** The encoding. */
+  /** The encoding, a new array each time. */
   readonly bytes: Uint8Array;
   /** Whether `other` has the same code and the same digest. */
   equals(other: unknown): boolean;
+  /** The code, a bigint as decimal text, and the digest in hexadecimal. */
+  toJSON(): { code: number | string; size: number; digest: string };
 }
 
 /** A decoding of a prefix, and the prefix's length. */
@@ -98,13 +106,27 @@ export function scaleDecode(bytes: Uint8Array): Read;
 /** Returns the SCALE form of a code and a digest: eight bytes of the code, one of the length, the digest. */
 export function scaleEncode(code: Wide, digest: Uint8Array): Uint8Array;
 
+/** What a reader needs of a `ReadableStream`. */
+export interface ByteStream {
+  readonly locked: boolean;
+  getReader(): {
+    read(): Promise<{ done: boolean; value?: Uint8Array | undefined }>;
+    cancel(): Promise<void>;
+    releaseLock(): void;
+  };
+  cancel(): Promise<void>;
+}
+
 /** Reads concatenated encodings from a `ReadableStream` or an async iterable. */
 export class MultihashReader implements AsyncIterable<Multihash> {
   /** `limit`: the most bytes of a digest. `rest`: bytes before the source's, left by another reader. */
-  constructor(source: ReadableStream<Uint8Array> | AsyncIterable<Uint8Array>, options?: { limit?: Wide; rest?: Uint8Array });
+  constructor(source: ByteStream | AsyncIterable<Uint8Array>, options?: { limit?: Wide; rest?: Uint8Array });
   /** A copy of the bytes that were received and belong to no multihash that was returned. */
   readonly rest: Uint8Array;
-  /** Returns the next multihash, or null where the source ends after the last one. */
+  /**
+   * Returns the next multihash, or null where the source ends after the last one. After an error each call gives that
+   * error. The source is released then, as it is after null.
+   */
   read(): Promise<Multihash | null>;
   [Symbol.asyncIterator](): AsyncGenerator<Multihash, void, void>;
 }

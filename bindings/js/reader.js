@@ -1,4 +1,4 @@
-import { DIGEST_MAX, checkedLength, isStart, read } from './core.js';
+import { DIGEST_MAX, bits64, checkedLength, isStart, read } from './core.js';
 
 /** Reads concatenated encodings from a `ReadableStream` or an async iterable of `Uint8Array`. */
 export class MultihashReader {
@@ -6,12 +6,13 @@ export class MultihashReader {
   #limit;
   #rest;
   #last = Promise.resolve();
+  #end; // what each call does once the reader has ended: it returns null, or throws an error
 
   /** `limit` is the most bytes of a digest; `rest` holds bytes that precede those of the source. */
   constructor(source, { limit = DIGEST_MAX, rest = new Uint8Array() } = {}) {
-    this.#limit = limit;
+    this.#limit = bits64(limit, 'a limit');
     this.#rest = joined(new Uint8Array(), rest);
-    this.#source = iteratorOf(source);
+    this.#source = sourceOf(source);
   }
 
   /** A copy of the bytes that were received and belong to no multihash that was returned. */
@@ -19,7 +20,10 @@ export class MultihashReader {
     return this.#rest.slice();
   }
 
-  /** Returns the next multihash, or null after the last one. Calls that overlap run one after the other. */
+  /**
+   * Returns the next multihash, or null after the last one. After an error each call gives that error, and the source
+   * is released, as it is after null. Calls that overlap run one after the other.
+   */
   read() {
     const next = this.#last.then(() => this.#next());
     this.#last = next.catch(() => {});
@@ -27,6 +31,23 @@ export class MultihashReader {
   }
 
   async #next() {
+    if (!this.#end) {
+      try {
+        const multihash = await this.#received();
+        if (multihash) return multihash;
+        this.#end = () => null;
+      } catch (error) {
+        this.#end = () => {
+          throw error;
+        };
+      }
+      this.#source.release();
+    }
+    return this.#end();
+  }
+
+  /** The next multihash of the source, or null after the last one. */
+  async #received() {
     while (isStart(this.#rest, this.#limit)) {
       const { done, value } = await this.#source.next();
       if (done && this.#rest.length === 0) return null;
@@ -43,32 +64,41 @@ export class MultihashReader {
     try {
       for (let multihash; (multihash = await this.read()) !== null; ) yield multihash;
     } finally {
-      await this.#source.return?.();
+      await this.#source.close();
     }
   }
 }
 
-/** The chunks of a source. A ReadableStream is no async iterable in Safari, and its iterator ends after an error. */
-function iteratorOf(source) {
-  if (typeof source?.getReader === 'function') {
-    const reader = source.getReader();
-    return {
-      next: () => reader.read(),
-      async return() {
-        try {
-          await reader.cancel();
-        } finally {
-          reader.releaseLock();
-        }
-      },
-    };
-  }
-  const iterate = source?.[Symbol.asyncIterator];
-  if (typeof iterate !== 'function') throw new TypeError('the source has to be a ReadableStream or an async iterable');
-  return iterate.call(source);
+/** The chunks of a source. A ReadableStream is no async iterable in Safari. */
+function sourceOf(source) {
+  if (typeof source?.getReader === 'function') return chunksOfStream(source);
+  const iterator = source?.[Symbol.asyncIterator]?.();
+  if (typeof iterator?.next !== 'function') throw new TypeError('the source has to be a ReadableStream or an async iterable');
+  return { next: () => iterator.next(), release() {}, close: () => iterator.return?.() };
 }
 
-/** A copy of both. Throws a TypeError if the second is no Uint8Array, or its buffer is shared or detached. */
+function chunksOfStream(stream) {
+  const reader = stream.getReader();
+  let isHeld = true;
+  return {
+    next: () => reader.read(),
+    release() {
+      isHeld = false;
+      reader.releaseLock();
+    },
+    // another reader may have locked the stream after the release
+    async close() {
+      try {
+        if (isHeld) await reader.cancel();
+        else if (!stream.locked) await stream.cancel();
+      } finally {
+        if (isHeld) this.release();
+      }
+    },
+  };
+}
+
+/** A copy of both. Throws a TypeError if the second is no Uint8Array, or its buffer is detached. */
 function joined(left, right) {
   const both = new Uint8Array(left.length + checkedLength(right));
   both.set(left);

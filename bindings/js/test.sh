@@ -93,9 +93,10 @@ package_agrees() {
 }
 
 types() {
-  tsc --noEmit --strict --target es2022 --module nodenext --moduleResolution nodenext \
-    --lib es2022,dom,dom.iterable "$here/test/example.ts" &&
-    echo "the example has the types that it says"
+  local strict=(tsc --noEmit --strict --target es2022 --module nodenext --moduleResolution nodenext)
+  "${strict[@]}" --lib es2022 "$here/test/example.ts" &&
+    "${strict[@]}" --lib es2022,dom,dom.iterable "$here/test/example_dom.ts" &&
+    echo "the examples have the types that they say"
 }
 
 # The example of README.md in that language.
@@ -117,36 +118,46 @@ packed_script() {
   diff "$at/out" "$top/crates/mh_show/stdout" && grep -x 'invalid_size 34' "$at/err"
 }
 
+# In a browser, pages show texts: each line of standard input is a page, a tab, and a text.
+shows() {
+  mkdir -p "$work/frames" && cat > "$work/frames/frames" &&
+    node "$here/test/browser.js" "$1" test/framed.html "$here" "$work/frames" "$work/elsewhere"
+}
+
+# The page of README.md, over the unpacked package.
 packed_page() {
-  node "$here/test/browser.js" dump page.html "$work/elsewhere" |
-    grep -o 'code 22, size 32; MultihashError: unexpected_eof, incomplete: true' | tail -n 1
-}
-
-in_chromium() {
-  node "$here/test/browser.js" report test/page.html "$here" "$data"
-}
-
-# The demo page, opened from the disk, shows that text for that input.
-demo_shows() {
-  chromium --headless --no-sandbox --disable-gpu --user-data-dir="$work/profile" \
-    --dump-dom "file://$here/demo.html#$1" 2> "$work/err" |
-    sed -e '/<script/,$d' -e 's/<[^>]*>//g' > "$work/shown"
-  grep -F "$2" "$work/shown"
+  printf 'page.html\tcode 22, size 32; MultihashError: unexpected_eof, incomplete: true\n' | shows "$1"
 }
 
 demo() {
   local example
   example=$(cat "$top/crates/mh_show/stdin")
-  demo_shows "$example" 'Valid: code 22, digest of 32 bytes.' &&
-    demo_shows "${example}00" 'Byte 35 of 35: 00' &&
-    demo_shows 168002 'The first 2 bytes (1680) can begin a multihash.' &&
-    demo_shows 1620ab 'Still needed: 31 bytes.' &&
-    demo_shows 12808000 'The first 2 bytes (1280) can begin a multihash.' &&
-    demo_shows 12z0 'is not a hexadecimal digit' &&
-    ! demo_shows 1200 'Not valid'
+  printf 'demo.html#%s\t%s\n' "$example" 'Valid: code 22, digest of 32 bytes.' \
+    "${example}00" 'Byte 35 of 35: 00' 168002 'The first 2 bytes (1680) can begin a multihash.' \
+    1620ab 'Still needed: 31 bytes.' 12808000 'The first 2 bytes (1280) can begin a multihash.' \
+    12z0 'is not a hexadecimal digit' 1200 'Valid: code 18, digest of 0 bytes.' | shows "$1"
 }
 
-part "the WebAssembly built anew" "rt wasm-opt wasm2wat" "$here/build.sh" --check
+another_text() {
+  printf 'demo.html#1200\tNot valid\n' | shows "$1"
+}
+
+# The demo page works from the disk too.
+demo_of_disk() {
+  chromium --headless --no-sandbox --disable-gpu --user-data-dir="$work/profile" \
+    --dump-dom "file://$here/demo.html#1200" 2> "$work/err" |
+    sed -e '/<script/,$d' -e 's/<[^>]*>//g' | grep -F 'Valid: code 18, digest of 0 bytes.'
+}
+
+# The parts in a browser, whose name and tools are given.
+test_browser() {
+  local name=$1 tools=$2
+  part "in $name" "$tools" node "$here/test/browser.js" "$name" test/page.html "$here" "$data"
+  part "the packed package's page in $name" "$tools" packed_page "$name"
+  part "the demo page in $name" "$tools" demo "$name"
+}
+
+part "the WebAssembly built anew" "rt wasm-opt=108 wasm2wat=1.0.32" "$here/build.sh" --check
 part "the WebAssembly for old engines" wasm-validate old_module
 part "inputs and what the library for C returns" cc make_data
 part "in Node.js" node in_node "$data"
@@ -159,7 +170,9 @@ part "old engines, inline" node old_engine inline
 part "the package" node package_agrees
 part "types" tsc types
 part "the packed package's script" npm packed_script
-part "the packed package's page" chromium packed_page
-part "in Chromium" chromium in_chromium
-part "the page" chromium demo
+test_browser chromium chromium
+part "another text than the demo page's" chromium rejects " 1 wrong" another_text chromium
+part "the demo page from the disk" chromium demo_of_disk
+test_browser firefox firefox-esr
+test_browser webkit "WebKitWebDriver xvfb-run"
 finish

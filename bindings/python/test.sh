@@ -1,73 +1,125 @@
 #!/usr/bin/env bash
-# Builds the sdist and the wheel, installs the wheel into a new virtual environment, and runs all tests there.
-# The last line is 'N passed, M failed'.
+# Builds the sdist and the wheel, installs the wheel into a new virtual environment, and runs all tests there: plain, over
+# the portable source, under sanitizers, and with the debug allocator. The last line is 'N passed, M failed'.
 #
-#   test.sh LIBRARY [WORK]
+#   test.sh ARCHIVE [WORK]
 #
-# LIBRARY is libmultihash_c.a or the shared library; WORK a folder in which the results stay, the environment
-# in WORK/venv. Needs cc, setuptools and venv. Without mypy the types are left out, but fail with ALL=1.
+# ARCHIVE is libmultihash_c.a; WORK a folder in which the results stay, the environment in WORK/venv. Needs cc, the
+# headers of Python, and venv. A part whose tool is missing is left out, but fails with ALL=1.
 # MULTIHASH_VERDICTS is the path of the test vectors, if not the repository's.
 set -uo pipefail
 here=$(dirname "$(readlink -f "${BASH_SOURCE[0]}")")
 [ $# = 1 ] || [ $# = 2 ] || { sed -n '2,/^[^#]/s/^# \{0,1\}//p' "${BASH_SOURCE[0]}" >&2; exit 2; }
-library=$(readlink -f "$1")
+archive=$(readlink -f "$1")
 to=
 if [ $# = 2 ]; then mkdir -p "$2" && to=$(readlink -f "$2") || exit 2; fi
 cd "$here/../.." || exit 2
 # shellcheck source=tools/parts.sh
 . tools/parts.sh
 to=${to:-$work}
-# What is tested is what was installed, with the library of the wheel.
-unset MULTIHASH_C_LIBRARY PYTHONPATH LD_LIBRARY_PATH
+# What is tested is what was installed.
+unset PYTHONPATH LD_LIBRARY_PATH MULTIHASH_C_ARCHIVE CFLAGS
 export PYTHONDONTWRITEBYTECODE=1
 python=$to/venv/bin/python
 
 builds() {
   rm -rf "$to/dist" "$to/again"
-  python3 "$here/build.py" "$to/dist" "$library" && python3 "$here/build.py" "$to/again" "$library" ||
-    return 1
-  cmp "$to"/dist/*.whl "$to"/again/*.whl && basename "$to"/dist/*.whl
+  python3 "$here/build.py" "$to/dist" "$archive" && python3 "$here/build.py" "$to/again" "$archive" || return 1
+  diff -r "$to/dist" "$to/again" && ls "$to"/dist/verified_multihash-[0-9]*.tar.gz && basename "$to"/dist/*.whl
 }
 
-# The tag names the library's processor. A file that is no library, or needs a later glibc, makes no wheel.
-looks_at_library() {
+without_warnings() {
+  CFLAGS="-Wall -Wextra -Wshadow -Wconversion -Wsign-conversion -Werror" \
+    python3 "$here/build.py" "$to/warned" "$archive"
+}
+
+# The tag names the archive's processor. A file that is no archive, or a later glibc, makes no wheel.
+looks_at_archive() {
   local at=$to/looked name
   rm -rf "$at" && mkdir "$at" && cd "$at" && python3 -m zipfile -e "$to"/dist/*.whl . || return 1
-  mv verified_multihash/libmultihash_c.so . && cp libmultihash_c.so arm.so || return 1
-  printf '\267' | dd of=arm.so bs=1 seek=18 conv=notrunc status=none  # e_machine of aarch64
-  LC_ALL=C sed 's/GLIBC_2\.14/GLIBC_2.99/' libmultihash_c.so > later.so && : > empty.a &&
-    printf 'no library' > text.so
-  python3 "$here/build.py" arm arm.so && ls arm/*-py3-none-manylinux_2_17_aarch64.manylinux2014_aarch64.whl ||
-    return 1
-  for name in later.so empty.a text.so none.so; do
-    python3 "$here/build.py" wrong "$name" && return 1
+  LC_ALL=C sed 's/GLIBC_2\.14/GLIBC_2.99/' verified_multihash/_core.abi3.so > later.so && : > empty.a &&
+    printf 'no archive' > text.a || return 1
+  for name in empty.a text.a none.a verified_multihash/_core.abi3.so; do
+    rejects "build.py: no archive of libmultihash_c" python3 "$here/build.py" wrong "$name" || return 1
   done
-  [ -d wrong ] && [ -z "$(find wrong -name '*.whl')" ] && basename arm/*.whl
+  [ -z "$(find wrong -name '*.whl')" ] &&
+    rejects "needs glibc 2.99" env PYTHONPATH="$here" python3 -c \
+      'import pathlib, build; print(build.platform_of(pathlib.Path("later.so").read_bytes()))'
 }
 
+for_aarch64() {
+  python3 "$here/build.py" "$to/arm" "$here/../../prebuilt/aarch64/libmultihash_c.a" &&
+    ls "$to"/arm/*-cp38-abi3-manylinux_2_17_aarch64.manylinux2014_aarch64.whl
+}
+
+# Installs what is named without a network, the kit, or a package that builds, in place of what was installed.
 installs() {
-  local quiet=(--quiet --disable-pip-version-check)
-  python3 -m venv --clear "$to/venv" && "$python" -m pip install "${quiet[@]}" --no-index "$to"/dist/*.whl &&
-    cd "$to" &&
+  env PATH=/usr/bin:/bin "$python" -m pip install --quiet --disable-pip-version-check --no-index --force-reinstall "$1"
+}
+
+# What is installed is imported, from the environment.
+imports() {
+  installs "$1" && cd "$to" &&
     "$python" -c 'import verified_multihash as found; print(found.__version__, found.__file__)' |
     grep "^[0-9.]* $to/venv/"
 }
 
+# The tests of a folder over what is installed, with variables that the other words set.
 unit_tests() {
-  cd "$to" && timeout 300 "$python" -m unittest discover -s "$here/tests" 2> unit.log; local status=$?
-  cat unit.log
-  [ $status = 0 ] && grep -E '^Ran [1-9][0-9]* tests' unit.log
+  local tests=$1
+  shift
+  (cd "$to" && env "$@" timeout 600 "$python" -m unittest discover -s "$tests") 2> "$to/unit.log"; local status=$?
+  cat "$to/unit.log"
+  [ $status = 0 ] && grep -E '^Ran [1-9][0-9]* tests' "$to/unit.log"
 }
 
-# The sdist has all that is needed but the library, and says so.
+# Each allocation of each call fails once, in the tests too, which skip this without CPython's module _testcapi.
+failing_allocations() {
+  (cd "$here/tests" && "$python" -m unittest -v test_memory.Memory.test_failing_allocations) 2>&1 | tee "$to/memory.log"
+  grep '^test_failing_allocations .* ok$' "$to/memory.log"
+}
+
+# The sdist is all that is needed: its own tests run too.
 sdist() {
-  rm -rf "$to/sdist" && mkdir "$to/sdist" && cd "$to/sdist" &&
-    tar xf "$to"/dist/*.tar.gz --strip-components=1 || return 1
-  cmp "$here/../../LICENSE" LICENSE && grep -q 'sdist does not contain the library' PKG-INFO || return 1
-  ! "$python" -c 'import verified_multihash' 2> "$to/error" &&
-    grep 'ImportError: .*libmultihash_c' "$to/error" || return 1
-  MULTIHASH_C_LIBRARY=$(echo "$to"/venv/lib/*/site-packages/verified_multihash/libmultihash_c.so) \
-    "$python" -c 'import verified_multihash as found; print(found.__file__)' | grep "^$to/sdist/"
+  rm -rf "$to/sdist" && mkdir "$to/sdist" && tar xf "$to"/dist/*.tar.gz -C "$to/sdist" --strip-components=1 || return 1
+  cmp "$here/../../LICENSE" "$to/sdist/LICENSE" && imports "$to"/dist/*.tar.gz &&
+    unit_tests "$to/sdist/tests" -u MULTIHASH_VERDICTS
+}
+
+# An archive of another version than the header's is not imported.
+other_version() {
+  local at=$to/other number
+  number=$(sed -n 's/^#define MULTIHASH_VERSION_NUMBER //p' "$here/../../crates/multihash_c/include/multihash.h")
+  rm -rf "$at" && mkdir "$at" &&
+    echo "unsigned multihash_version(void) { return $((number + 1)); }" > "$at/version.c" &&
+    objcopy --redefine-sym multihash_version=multihash_other "$archive" "$at/libmultihash_c.a" &&
+    cc -fPIC -c "$at/version.c" -o "$at/version.o" && ar r "$at/libmultihash_c.a" "$at/version.o" || return 1
+  MULTIHASH_C_ARCHIVE=$at/libmultihash_c.a rejects "ImportError: the library for C has version $((number + 1))," \
+    imports "$here"
+}
+
+# The portable source and the module, built with sanitizers, which the interpreter loads first.
+sanitize="-g -O1 -fsanitize=address,undefined -fno-sanitize-recover=all"
+preloaded() {
+  echo "LD_PRELOAD=$(cc -print-file-name=libasan.so) $(cc -print-file-name=libubsan.so)"
+}
+
+under_sanitizers() {
+  CFLAGS=$sanitize installs "$1" &&
+    unit_tests "$here/tests" "$(preloaded)" ASAN_OPTIONS=detect_leaks=0:allocator_may_return_null=1 PYTHONMALLOC=malloc
+}
+
+# A copy of the sdist whose module reads after the end of the input.
+planted_read() {
+  cp -r "$to/sdist" "$to/planted" && sed -i 's/from->bytes + found.digest_offset/& + 4096/' "$to/planted/src/core.c" &&
+    ! cmp "$to/sdist/src/core.c" "$to/planted/src/core.c" && under_sanitizers "$to/planted"
+}
+
+# A copy whose module keeps each argument.
+planted_leak() {
+  rm -rf "$to/planted" && cp -r "$to/sdist" "$to/planted" &&
+    sed -i '/^    Py_DECREF(from->owner);$/d' "$to/planted/src/core.c" &&
+    ! cmp "$to/sdist/src/core.c" "$to/planted/src/core.c" && installs "$to/planted" && unit_tests "$here/tests"
 }
 
 # The package and the examples of README.md are typed, and wrong arguments are found.
@@ -77,17 +129,33 @@ types() {
   python3 -c 'import doctest, sys; print(doctest.script_from_examples(sys.stdin.read()))' < "$here/README.md" |
     grep -vE '"1220"|\(SHA2_256, 32\)$' > readme_examples.py
   printf '%s\n' 'import verified_multihash as vm' 'vm.encode(0x12, 32)' 'vm.decode("1220")' \
-    'vm.Multihash("sha2-256", b"")' \
+    'vm.Multihash("sha2-256", b"")' 'vm.Multihash(1, b"").code = 2' \
     'vm.read_from("name")' > wrong.py
   "${strict[@]}" -p verified_multihash && "${strict[@]}" readme_examples.py || return 1
   ! "${strict[@]}" wrong.py > wrong.log && grep -q '^multihash = ' readme_examples.py &&
-    grep 'Found 4 errors' wrong.log
+    grep 'Found 5 errors' wrong.log
 }
 
-try "the wheel, built twice" builds
-try "libraries" looks_at_library
-try "the wheel, installed" installs
-try "the tests" unit_tests
-try "the sdist" sdist
+has "the package for Python" cc python3 || { finish; exit; }
+try "the sdist and the wheel, built twice" builds
+try "the module without warnings" without_warnings
+try "archives" looks_at_archive
+has "the wheel for aarch64" aarch64-linux-gnu-gcc && try "the wheel for aarch64" for_aarch64
+try "an environment" python3 -m venv --clear "$to/venv"
+try "the wheel, installed" imports "$to"/dist/*.whl
+try "the tests" unit_tests "$here/tests"
+if "$python" -c 'import _testcapi' 2> "$work/log"; then
+  try "failing allocations" failing_allocations
+else
+  leave_out "failing allocations" "_testcapi is not installed"
+fi
+try "the tests with the debug allocator" unit_tests "$here/tests" PYTHONMALLOC=debug
 has "types" mypy && try "types" types
+try "the times beside plain Python" "$python" "$here/tests/speed.py"
+try "the folder, installed" imports "$here"
+has "an archive of another version" objcopy ar && try "an archive of another version" other_version
+try "the sdist, installed: the portable source" sdist
+try "sanitizers" under_sanitizers "$to/sdist"
+try "a read after the end of the input" rejects AddressSanitizer planted_read
+try "an argument that is kept" rejects "not less than 1000" planted_leak
 finish

@@ -3,10 +3,14 @@
 # from Debian's package librust-serde-json-dev. Where that is not installed two empty crates have the names of
 # serde and serde_json, so that everything but the feature serde can be built.
 #
-#   bindings/rust/offline.sh WORK [NAME=VALUE ...] cargo COMMAND [WORD ...]    WORK is a folder for the copy
+#   bindings/rust/offline.sh WORK [NAME=VALUE ...] cargo COMMAND [WORD ...]
+#
+# WORK is a folder for the copy, WORK/repository/bindings/rust. Beside it is what the build script takes from the
+# repository: the archives and the portable source.
 set -euo pipefail
-here=$(dirname "$(readlink -f "${BASH_SOURCE[0]}")")
+top=$(readlink -f "$(dirname "$(readlink -f "$0")")/../..")
 work=$(readlink -f "$1")
+copy=$work/repository
 shift
 registry=/usr/share/cargo/registry
 
@@ -17,9 +21,10 @@ empty_crate() {
   echo '{"files":{}}' > "$work/empty/$1/.cargo-checksum.json"
 }
 
-if [ ! -d "$work/rust" ]; then
-  mkdir -p "$work/rust" "$work/cargo"
-  tar -c --exclude=target --exclude=Cargo.lock -C "$here" . | tar -x -C "$work/rust"
+if [ ! -d "$copy" ]; then
+  mkdir -p "$copy" "$work/cargo"
+  tar -c --exclude=target --exclude=Cargo.lock --exclude=build -C "$top" crates.txt bindings/rust prebuilt \
+    packaging/portable crates/multihash_c/include | tar -x -C "$copy"
   if ! compgen -G "$registry/serde_json-1.*" > /dev/null; then
     empty_crate serde
     empty_crate serde_json
@@ -28,6 +33,6 @@ if [ ! -d "$work/rust" ]; then
   printf '%s\n' '[net]' 'offline = true' '[source.crates-io]' 'replace-with = "here"' \
     '[source.here]' "directory = \"$registry\"" > "$work/cargo/config.toml"
 fi
-verdicts=${MULTIHASH_VERDICTS:-$here/../../crates/vectors/data/verdicts.tsv}
+verdicts=${MULTIHASH_VERDICTS:-$top/crates/vectors/data/verdicts.tsv}
 set -- MULTIHASH_VERDICTS="$verdicts" "$@"
-exec env -C "$work/rust" CARGO_HOME="$work/cargo" CARGO_TARGET_DIR="$work/target" "$@"
+exec env -C "$copy/bindings/rust" CARGO_HOME="$work/cargo" CARGO_TARGET_DIR="$work/target" "$@"

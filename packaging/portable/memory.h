@@ -22,6 +22,10 @@ typedef uint64_t u64;
 typedef int32_t s32;
 typedef int64_t s64;
 
+/* C leaves to the compiler what these two are. Each known one does what WebAssembly does. */
+_Static_assert((s64)-3 >> 1 == -2, "a shift to the right keeps the sign");
+_Static_assert((s32)0xfffffffdu == -3 && (s64)0xfffffffffffffffdu == -3, "numbers wrap to signed ones");
+
 enum block { OWN, INPUT, OTHER, OUT };
 
 /* A block has 2^61 addresses: no input is longer, and none of them is negative, as the functions compare the

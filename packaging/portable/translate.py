@@ -33,6 +33,10 @@ GLOBALS = r"""static void init_globals\(Z_module_instance_t\* instance\) \{
 \}
 """
 CALL = re.compile(r"\(\*Z_memoryZ_(\w+)\)\(instance->Z_memory_instance, ")
+MEMORY = Path(__file__).resolve().parent / "memory.h"
+# The functions and macros of memory.h, and what C has besides calls.
+PROVIDED = re.compile(r"^(?:static inline [^(\n]*?|#define )(\w+)\(", re.MULTILINE)
+KEYWORDS = {"if", "while", "for", "switch", "return", "sizeof"}
 
 
 class Unread(Exception):
@@ -132,10 +136,20 @@ def functions(linked: str, made: str) -> str:
     return re.sub(r"[ \t]+$", "", both, flags=re.MULTILINE).strip()
 
 
+def need_provided(code: str) -> None:
+    """Checks that memory.h has each function that the module calls and does not define."""
+    defined = set(re.findall(r"^static .*?(\w+)\(", code, re.MULTILINE))
+    called = set(re.findall(r"\b([A-Za-z_]\w*)\(", code)) - KEYWORDS - defined
+    missing = called - set(PROVIDED.findall(MEMORY.read_text()))
+    need(called and not missing, f"memory.h has {', '.join(sorted(missing))}")
+
+
 def module(linked: str, made: str) -> str:
     start, data = texts(linked)
     size = stack_size(linked)
     need(size + 64 <= start, "the own block ends before the texts")
+    code = functions(linked, made)
+    need_provided(code)
     rows = [", ".join(map(str, data[at : at + 20])) for at in range(0, len(data), 20)]
     return "\n".join((
         "/* Made from the proved library by translate.py and wasm2c: not to be edited. */",
@@ -146,7 +160,7 @@ def module(linked: str, made: str) -> str:
         '#include "memory.h"\n',
         "/* The rest is generated: compilers are not to warn of it. */",
         "#if defined(__GNUC__)\n#pragma GCC system_header\n#endif\n",
-        functions(linked, made) + "\n",
+        code + "\n",
         "#endif",
     )) + "\n"
 

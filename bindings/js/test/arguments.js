@@ -16,14 +16,11 @@ function outOfBounds() {
   return bytes;
 }
 
-/** A page may lack the constructor SharedArrayBuffer, so this is the buffer of a memory. */
-const shared = () => new Uint8Array(new WebAssembly.Memory({ initial: 1, maximum: 1, shared: true }).buffer, 0, 8);
-
 function noBytes() {
   const others = [34, 34n, '1620', [22, 0], null, undefined, true, {}, { length: 1, 0: 0 }, Symbol('bytes'), () => 0];
   const buffers = [new ArrayBuffer(4), new DataView(new ArrayBuffer(4)), new Uint16Array(2), new Int8Array(2), new Uint8ClampedArray(2)];
   const feigned = [new Proxy(new Uint8Array(2), {}), Object.create(Uint8Array.prototype), { __proto__: new Uint8Array(2) }];
-  return [...others, ...buffers, ...feigned, shared(), detached(), outOfBounds()];
+  return [...others, ...buffers, ...feigned, detached(), outOfBounds()];
 }
 
 function bytesAlone(module) {
@@ -102,6 +99,11 @@ function ownBytes(module) {
     same(bytes.constructor, Uint8Array, 'class of a result');
     same(bytes.buffer.byteLength, bytes.length, 'buffer of a result');
   }
+  // a page may lack the constructor SharedArrayBuffer, so this is the buffer of a memory
+  const shared = new Uint8Array(new WebAssembly.Memory({ initial: 1, maximum: 1, shared: true }).buffer, 0, 34);
+  shared.set(EXAMPLE);
+  const ofShared = [module.decode(shared).bytes, module.encode(22, shared.subarray(2))];
+  for (const bytes of ofShared) same(`${hex(bytes)} ${bytes.buffer.constructor.name}`, `${hex(EXAMPLE)} ArrayBuffer`, 'shared bytes');
   const long = new Uint8Array(3e6);
   long.set(EXAMPLE);
   same(fails(module.MultihashError, () => module.decode(long), 'a long input')?.size, 3e6 - 34, 'trailing bytes');
@@ -113,8 +115,11 @@ function multihashes(module) {
   const other = module.Multihash.of(22n, EXAMPLE.subarray(2));
   same(`${multihash.code} ${multihash.size} ${hex(multihash.bytes)}`, `22 32 ${hex(EXAMPLE)}`, 'fields');
   same(multihash.equals(other) && multihash.equals({ code: 22n, digest: EXAMPLE.slice(2) }), true, 'equals');
-  const unequal = [[21, other.digest], [22, other.digest.subarray(1)], [22, new Uint8Array(32)]].map((pair) => module.Multihash.of(...pair));
+  const digests = [other.digest.subarray(1), other.digest.subarray(0, 31), Uint8Array.of(...other.digest, 0), new Uint8Array(32)];
+  const unequal = [[21, other.digest], ...digests.map((digest) => [22, digest])].map((pair) => module.Multihash.of(...pair));
   for (const value of [...unequal, null, undefined, 22, 'text', {}, EXAMPLE]) same(multihash.equals(value), false, 'equals');
+  multihash.bytes.fill(0);
+  same(hex(multihash.bytes), hex(EXAMPLE), 'bytes are a copy');
   fails(TypeError, () => new module.Multihash(22, EXAMPLE), 'constructor');
   same(Object.is(module.Multihash.of(-0, EXAMPLE).code, 0), true, 'code -0');
   const digest = { get: () => (module.decode(module.encode(1, new Uint8Array(40))), EXAMPLE.slice(2)) };
@@ -130,6 +135,24 @@ function multihashes(module) {
   ordered.forEach((left, i) => ordered.forEach((right, k) => same(module.compare(left, right), Math.sign(i - k), 'compare')));
 }
 
+/** JSON.stringify of each has only texts and numbers that are exact. */
+function inJSON(module) {
+  const multihashes = [[22, '22'], [2 ** 53 - 1, '9007199254740991'], [2n ** 53n, '"9007199254740992"']];
+  for (const [code, text] of multihashes) {
+    const found = JSON.stringify({ found: [module.Multihash.of(code, Uint8Array.of(0, 171))] });
+    same(found, `{"found":[{"code":${text},"size":2,"digest":"00ab"}]}`, 'a multihash in JSON');
+  }
+  const texts = {
+    '80': '{"name":"MultihashError","message":"not enough input bytes","status":"insufficient","taken":1}',
+    '0000ff': '{"name":"MultihashError","message":"Invalid multihash size 1.","status":"invalid_size","size":1,"taken":3}',
+    '12ffffffffffffffff7f': '{"name":"MultihashError","message":"Invalid multihash size 9223372036854775807.",' +
+      '"status":"invalid_size","size":"9223372036854775807","taken":10}',
+  };
+  for (const [input, text] of Object.entries(texts)) same(JSON.stringify(fails(module.MultihashError, () => module.decode(unhex(input)))), text, 'an error in JSON');
+  const code = fails(module.MultihashError, () => module.encode(1n << 63n, EXAMPLE));
+  same(JSON.parse(JSON.stringify(code)).code, '9223372036854775808', 'a code in JSON');
+}
+
 /** Whether a clone of an error keeps its cause, which Safari drops. */
 const keepsCause = () => structuredClone(new Error('text', { cause: 3 })).cause === 3;
 
@@ -141,10 +164,14 @@ function errors(module) {
     '010200': 'failed to fill whole buffer',
     '010000': 'Invalid multihash size 1.',
   };
-  for (const [input, text] of Object.entries(texts)) {
-    const error = fails(module.MultihashError, () => module.decode(unhex(input)), input);
+  const made = Object.entries(texts).map(([input, text]) => [fails(module.MultihashError, () => module.decode(unhex(input)), input), text]);
+  for (const [error, text] of made) {
     same(error.message, text, 'message');
-    same(error.isIncomplete, input === '80' || input === '010200', 'isIncomplete');
+    same(error.isIncomplete, error.taken === 1 || error.status === 'unexpected_eof', 'isIncomplete');
+  }
+  const invalidCode = fails(module.MultihashError, () => module.scaleDecode(new Uint8Array(9).fill(255)), 'a code');
+  same(`${invalidCode.status} ${invalidCode.code}`, `invalid_code ${2n ** 64n - 1n}`, 'code of an error');
+  for (const error of [invalidCode, ...made.map(([each]) => each)]) {
     const clone = structuredClone(error);
     const again = module.MultihashError.from(clone);
     const fields = ['name', 'message', 'status', 'size', 'code', 'taken', 'isIncomplete'];
@@ -170,5 +197,6 @@ export function hostile(module, headerText) {
   ownBytes(module);
   multihashes(module);
   errors(module);
+  inJSON(module);
   header(module, headerText);
 }

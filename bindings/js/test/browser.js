@@ -1,18 +1,32 @@
-// Opens a page in headless Chromium, with what it needs from folders served on a port of this machine.
-//   node browser.js report PATH FOLDER..   prints the text that the page sends to /report; status 0 if its
-//                                          last line has ' 0 wrong'
-//   node browser.js dump PATH FOLDER..     prints the page's document
+// Opens a page in a browser, with what it needs from folders served on a port of this machine, and prints the text that
+// the page sends to /report. The status is 0 if that ends in ' 0 wrong'.
+//   node browser.js chromium|firefox|webkit PATH FOLDER..
 import { spawn } from 'node:child_process';
-import { mkdtempSync, readFileSync, rmSync } from 'node:fs';
+import { existsSync, mkdirSync, mkdtempSync, readFileSync, readdirSync, rmSync } from 'node:fs';
 import { createServer } from 'node:http';
 import { tmpdir } from 'node:os';
 import { extname, join, normalize } from 'node:path';
 
-const [, , mode, path, ...folders] = process.argv;
+const [, , name, path, ...folders] = process.argv;
 const types = { '.html': 'text/html; charset=utf-8', '.js': 'text/javascript', '.wasm': 'application/wasm' };
-const profiles = mkdtempSync(join(tmpdir(), 'chromium-'));
+const profiles = mkdtempSync(join(tmpdir(), `${name}-`));
 const attempts = 3;
 const patience = 120000;
+
+// The example browser of WebKitGTK, which is beside its driver and needs a display.
+function webkit(profile, url) {
+  const places = readdirSync('/usr/lib').map((machine) => `/usr/lib/${machine}/webkit2gtk-4.1/MiniBrowser`);
+  return ['xvfb-run', '-a', places.find(existsSync), url];
+}
+
+const commands = {
+  chromium: (profile, url) => {
+    const words = ['--headless', '--no-sandbox', '--disable-gpu', '--disable-dev-shm-usage', '--no-first-run', '--remote-debugging-port=0'];
+    return ['chromium', ...words, `--user-data-dir=${profile}`, url];
+  },
+  firefox: (profile, url) => ['firefox-esr', '--headless', '--no-remote', '--profile', profile, url],
+  webkit,
+};
 
 function fileOf(name) {
   for (const folder of folders) {
@@ -40,9 +54,13 @@ async function serve(request, response) {
   response.end(body);
 }
 
-// Ends Chromium with its process group, since it starts other processes.
-function stop() {
-  if (chromium.exitCode === null) process.kill(-chromium.pid, 'SIGKILL');
+// Ends the browser with its process group, since it starts other processes. Xvfb removes its lock by itself.
+function stop(signal) {
+  try {
+    process.kill(-browser.pid, signal);
+  } catch {
+    // it has ended
+  }
 }
 
 function finish(status) {
@@ -50,26 +68,28 @@ function finish(status) {
   clearTimeout(late);
   server.close();
   server.closeAllConnections();
-  stop();
-  rmSync(profiles, { recursive: true, force: true, maxRetries: 20, retryDelay: 100 });
+  stop('SIGTERM');
+  setTimeout(() => {
+    stop('SIGKILL');
+    rmSync(profiles, { recursive: true, force: true, maxRetries: 20, retryDelay: 100 });
+  }, 1000);
 }
 
 // On a busy machine Chromium sometimes hangs at its start, so another one is started with a new profile.
 function start(attempt) {
-  const url = `http://127.0.0.1:${server.address().port}/${path}`;
-  const how = mode === 'dump' ? ['--virtual-time-budget=20000', '--dump-dom'] : ['--remote-debugging-port=0'];
-  const words = ['--headless', '--no-sandbox', '--disable-gpu', '--disable-dev-shm-usage', '--no-first-run'];
-  const profile = `--user-data-dir=${join(profiles, `${attempt}`)}`;
-  chromium = spawn('chromium', [...words, profile, ...how, url], { detached: true, stdio: ['ignore', mode === 'dump' ? 'inherit' : 'ignore', 'ignore'] });
-  if (mode === 'dump') chromium.on('exit', (status, signal) => signal || finish(status));
+  const profile = join(profiles, `${attempt}`);
+  mkdirSync(profile);
+  const [command, ...words] = commands[name](profile, `http://127.0.0.1:${server.address().port}/${path}`);
+  const env = { ...process.env, HOME: profile, TMPDIR: profile };
+  browser = spawn(command, words, { detached: true, stdio: 'ignore', env });
   late = setTimeout(() => {
     console.log(`nothing was reported in ${patience / 1000} seconds`);
-    stop();
+    stop('SIGKILL');
     if (attempt < attempts) start(attempt + 1);
     else finish(1);
   }, patience);
 }
 
-let chromium;
+let browser;
 let late;
 const server = createServer(serve).listen(0, '127.0.0.1', () => start(1));

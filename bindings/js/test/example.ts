@@ -15,7 +15,7 @@ function statusOf(value: unknown): Status | undefined {
   return error?.isIncomplete ? error.status : error?.cause.status;
 }
 
-async function all(source: ReadableStream<Uint8Array>): Promise<Multihash[]> {
+async function all(source: AsyncIterable<Uint8Array>): Promise<Multihash[]> {
   const reader = new MultihashReader(source, { limit: 64, rest: new Uint8Array() });
   const found: Multihash[] = [];
   for await (const each of reader) found.push(each);
@@ -33,4 +33,7 @@ multihash.code = 3;
 // @ts-expect-error Multihash.of makes one
 new Multihash(18, multihash.digest);
 
-export { all, encodedLength, form, length, order, small, statusOf, taken, wrong };
+const { digest: text }: { digest: string } = multihash.toJSON();
+const number: number | string | undefined = MultihashError.from(text)?.toJSON().size;
+
+export { all, encodedLength, form, length, number, order, small, statusOf, taken, text, wrong };

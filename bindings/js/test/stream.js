@@ -1,5 +1,5 @@
 // The reader over streams that are cut at each byte.
-import { hex, same } from './check.js';
+import { fails, hex, same } from './check.js';
 
 async function* chunks(...parts) {
   for (const part of parts) yield part;
@@ -40,6 +40,8 @@ const byteStream = (stream, after, cancel) => new ReadableStream({
 });
 
 async function readableStream(module, stream, wanted) {
+  const called = byteStream(stream, (controller) => controller.close());
+  same(`${listed((await drained(new module.MultihashReader(called))).found)} ${called.locked}`, `${wanted} false`, 'read by calls');
   const source = byteStream(stream, (controller) => controller.close());
   const found = [];
   for await (const multihash of new module.MultihashReader(source)) found.push(multihash);
@@ -56,26 +58,51 @@ async function readableStream(module, stream, wanted) {
   same(`${errors}`, 'broken,broken', 'a stream that fails');
 }
 
+/** At an error the stream is released, and another reader goes on with it; a loop that it ends cancels the stream. */
+async function malformedStream(module, stream, wanted) {
+  let cancelled = 0;
+  const source = byteStream(stream, (controller) => controller.close(), () => (cancelled += 1));
+  const limited = await drained(new module.MultihashReader(source, { limit: 31 }));
+  same(`${limited.error?.status} ${source.locked}`, 'invalid_size false', 'a stream at an error');
+  const next = await drained(new module.MultihashReader(source, { rest: limited.rest }));
+  same(`${listed(next.found)} ${cancelled}`, `${wanted} 0`, 'another reader of a stream');
+  const left = byteStream(stream, undefined, () => (cancelled += 1));
+  let status;
+  try {
+    for await (const multihash of new module.MultihashReader(left, { limit: 31 })) same(multihash, undefined, 'a loop');
+  } catch (error) {
+    status = error.status;
+  }
+  same(`${status} ${cancelled} ${left.locked}`, 'invalid_size 1 false', 'a loop that an error ends');
+}
+
 async function badSources(module, stream) {
   const limited = await drained(new module.MultihashReader(chunks(stream), { limit: 31 }));
   same(`${limited.error?.status} ${limited.error?.size} ${limited.error?.taken}`, 'invalid_size 32 2', 'a limit');
   same(hex(limited.rest), hex(stream), 'rest at a limit');
-  const text = await drained(new module.MultihashReader(chunks(stream.subarray(0, 9), 'text')));
-  same(`${text.error?.name} ${text.rest.length}`, 'TypeError 9', 'a chunk that is text');
-  const shared = new Uint8Array(new WebAssembly.Memory({ initial: 1, maximum: 1, shared: true }).buffer, 0, 4);
-  same((await drained(new module.MultihashReader(chunks(shared)))).error?.name, 'TypeError', 'a chunk that is shared');
-  for (const source of [null, 3, 'ab', [stream]]) {
-    let name = 'no error';
-    try {
-      new module.MultihashReader(source);
-    } catch (error) {
-      name = error.name;
-    }
-    same(name, 'TypeError', 'a source');
+  const texts = new module.MultihashReader(chunks(stream.subarray(0, 9), 'text', stream.subarray(9)));
+  for (const text of [await drained(texts), await drained(texts)]) {
+    same(`${text.error?.name} ${text.found.length} ${text.rest.length}`, 'TypeError 0 9', 'a chunk that is text');
   }
+  for (const source of [null, 3, 'ab', [stream], { [Symbol.asyncIterator]: () => null }, { [Symbol.asyncIterator]: 3 }]) {
+    fails(TypeError, () => new module.MultihashReader(source), 'a source');
+  }
+  const options = [[RangeError, { limit: -1 }], [RangeError, { limit: 0.5 }], [TypeError, { limit: '64' }], [TypeError, { rest: 'ab' }]];
+  for (const [kind, option] of options) fails(kind, () => new module.MultihashReader(chunks(), option), 'an option');
 }
 
-/** A source that fails once is read again, and one whose loop is left is closed. */
+/** A generator that threw is done by the language: its reader gives the error again. */
+async function throwing(module, stream) {
+  async function* source() {
+    yield stream.subarray(0, 40);
+    throw new Error('broken');
+  }
+  const reader = new module.MultihashReader(source());
+  const results = [await drained(reader), await drained(reader)].map(({ found, error, rest }) => `${found.length} ${error?.message} ${rest.length}`);
+  same(`${results}`, '2 broken 4,0 broken 4', 'a generator that threw');
+}
+
+/** After an error of a source another reader goes on with the rest; a source whose loop is left is closed. */
 async function failing(module, stream) {
   let [turn, closed] = [0, false];
   const parts = [stream.subarray(0, 20), new Error('broken'), stream.subarray(20)];
@@ -95,7 +122,7 @@ async function failing(module, stream) {
   const broken = await drained(reader);
   same(`${broken.error?.message} ${broken.rest.length}`, 'broken 20', 'a source that fails');
   broken.rest.fill(0);
-  for await (const multihash of reader) {
+  for await (const multihash of new module.MultihashReader(source, { rest: reader.rest })) {
     same(hex(multihash.bytes), hex(stream.subarray(0, 34)), 'after a failure');
     break;
   }
@@ -109,7 +136,9 @@ export async function streams(module) {
   const wanted = encodings.map(hex).join(' ');
   for (let cut = 0; cut <= stream.length; cut++) await cutAt(module, stream, cut, wanted);
   await readableStream(module, stream, wanted);
+  await malformedStream(module, stream, wanted);
   await badSources(module, stream);
+  await throwing(module, stream);
   await failing(module, stream);
   const reader = new module.MultihashReader(chunks(stream));
   const together = await Promise.all([reader.read(), reader.read(), reader.read(), reader.read()]);

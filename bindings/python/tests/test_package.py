@@ -9,14 +9,22 @@ import multiprocessing
 import os
 import pickle
 import resource
-import subprocess
 import sys
 import tempfile
 import unittest
+import weakref
 from pathlib import Path
 
 import verified_multihash as vm
 from verified_multihash import Multihash, MultihashError, Status
+
+def shown(number):
+    """A number as texts have it: CPython converts no more than 4300 digits, from the versions of 2022 on."""
+    try:
+        return str(number)
+    except ValueError:
+        return hex(number)
+
 
 README = Path(__file__).resolve().parents[1] / "README.md"
 BYTES_CALLS = [
@@ -34,6 +42,34 @@ class Reads:
 
     def read(self, _):
         return self.result
+
+
+class Waits:
+    """A file that has no bytes before each byte."""
+
+    def __init__(self, data, fails):
+        self.file, self.fails, self.has = io.BytesIO(data), fails, False
+
+    def read(self, size):
+        self.has = not self.has
+        if self.has:
+            result = self.fails()
+            if result is None:
+                return None
+            raise result
+        return self.file.read(min(size, 1))
+
+
+class Nameless:
+    """A file without weak references, with these results."""
+
+    __slots__ = ("results",)
+
+    def __init__(self, *results):
+        self.results = iter(results)
+
+    def read(self, _):
+        return next(self.results)
 
 
 class Arguments(unittest.TestCase):
@@ -75,8 +111,8 @@ class Arguments(unittest.TestCase):
             for wrong in (18.0, "18", None, b"\x12"):
                 self.assertRaises(TypeError, call, wrong, b"")
             self.assertRaisesRegex(ValueError, "not negative", call, -1, b"")
-            for code in (1 << 63, (1 << 64) - 1, 1 << 64, (1 << 64) + 18, 1 << 700):
-                text = "Invalid multihash code %d." % code
+            for code in (1 << 63, (1 << 64) - 1, 1 << 64, (1 << 64) + 18, 1 << 700, 10**5000):
+                text = "Invalid multihash code %s." % shown(code)
                 self.assertEqual(self.error_of(call, code, bytes(255)), (Status.INVALID_CODE, 0, code, text))
                 text = "Invalid multihash size 256."
                 self.assertEqual(self.error_of(call, code, bytes(256)), (Status.INVALID_SIZE, 256, 0, text))
@@ -113,7 +149,8 @@ class Arguments(unittest.TestCase):
             with self.assertRaises(MultihashError) as raised:
                 vm.decode(data)
             self.assertIs(raised.exception.is_incomplete, incomplete)
-        self.assertRaises(ValueError, MultihashError, 8)
+        for wrong in (0, 8, -1):
+            self.assertRaises(ValueError, MultihashError, wrong)
 
     def test_files(self):
         closed = io.BytesIO(b"\0\0")
@@ -128,6 +165,34 @@ class Arguments(unittest.TestCase):
             sink.write(b"\x01\x03abc\x02")  # the pipe stays open: a byte too many would be waited for
             self.assertEqual(vm.read_from(source).digest, b"abc")
             self.assertEqual(source.read(1), b"\x02")
+
+    def test_waiting_files(self):
+        """What was read before a file had no bytes is the front of what the next call returns."""
+        data = b"".join(bytes(Multihash(1 << 40, bytes([n] * n))) for n in range(4))
+        for fails in (lambda: None, BlockingIOError):
+            file, found, waits = Waits(data, fails), [], 0
+            while len(found) < 4:
+                try:
+                    found.append(vm.read_from(file))
+                except BlockingIOError:
+                    waits += 1
+                    self.assertEqual(vm.read_from(io.BytesIO(b"\0\0")), Multihash(0, b""))  # another file
+                    self.assertRaises(ValueError, vm.read_from, Reads(b"\x80\x80\x80"))
+            self.assertEqual((b"".join(map(bytes, found)), waits), (data, len(data)))
+            self.assertEqual(len(vm._unfinished), 0)
+        reading, writing = os.pipe()
+        os.set_blocking(reading, False)
+        with open(reading, "rb", 0) as source, open(writing, "wb", 0) as sink:
+            sink.write(data[:5])
+            self.assertRaises(BlockingIOError, vm.read_from, source)
+            sink.write(data[5:])
+            self.assertEqual([bytes(vm.read_from(source)) for _ in range(4)], list(map(bytes, found)))
+            sink.write(data[:5])
+            self.assertRaises(BlockingIOError, vm.read_from, source)
+        del source, file
+        self.assertEqual(len(vm._unfinished), 0)
+        nameless = Nameless(b"\1", None)
+        self.assertRaises(TypeError, vm.read_from, nameless)  # what was read of it cannot be kept
 
 
 class Values(unittest.TestCase):
@@ -163,8 +228,35 @@ class Values(unittest.TestCase):
 
         left, right = Named(18, b"abc"), Multihash(18, b"abc")
         self.assertTrue(left == right and right == left and left <= right <= left and hash(left) == hash(right))
-        object.__setattr__(right, "digest", bytes(300))
-        self.assertRaises(MultihashError, bytes, right)
+        self.assertEqual((vm.compare(left, right), bytes(left), left.hexdigest()), (0, bytes(right), "616263"))
+        self.assertTrue(repr(left).endswith("Named(code=18, digest=b'abc')"), repr(left))
+        left.more = "a subclass has a dictionary"
+
+    def test_immutable(self):
+        multihash = Multihash(1, b"abc")
+        for name in ("code", "digest", "more"):
+            for call in (setattr, object.__setattr__):
+                self.assertRaises(AttributeError, call, multihash, name, 2)
+        self.assertRaises(TypeError, Multihash, 1)
+        self.assertEqual(Multihash(digest=b"abc", code=1), multihash)
+        multihash.__init__(2, b"")
+        self.assertEqual(multihash, Multihash(1, b"abc"))
+        again = [copy.deepcopy(multihash), copy.copy(multihash), *(pickle.loads(pickle.dumps(multihash, n)) for n in range(6))]
+        self.assertEqual(again, [multihash] * 8)
+
+    @unittest.skipIf(sys.version_info < (3, 9), "the stable ABI has no weak references")
+    def test_weak_references(self):
+        multihash = Multihash(1, b"abc")
+        kept = weakref.ref(multihash)
+        self.assertIs(kept(), multihash)
+        del multihash
+        self.assertIsNone(kept())
+
+    def test_hashes(self):
+        """Codes and digests that differ in one bit have different hashes, but for a few."""
+        values = [Multihash(1 << bit, b"") for bit in range(63)]
+        values += [Multihash(1, (1 << bit).to_bytes(32, "big")) for bit in range(256)]
+        self.assertGreater(len({hash(value) & 0xFFFFFF for value in values}), len(values) - 5)
 
     def test_pickles(self):
         error = MultihashError(Status.INVALID_CODE, 0, 1 << 64, 8)
@@ -187,6 +279,7 @@ class Values(unittest.TestCase):
 
 
 class Costs(unittest.TestCase):
+    @unittest.skipIf("asan" in os.environ.get("LD_PRELOAD", ""), "the sanitizer has more memory than the limit")
     def test_no_long_copies(self):
         """A sparse file of 8 GiB, memory for 1 GiB: no call copies it, and lengths keep all their bits."""
         length, before = 1 << 33, resource.getrlimit(resource.RLIMIT_DATA)
@@ -205,29 +298,7 @@ class Costs(unittest.TestCase):
                         (Status.INVALID_SIZE, size))
 
 
-class Library(unittest.TestCase):
-    def imported(self, library):
-        """What an import prints where MULTIHASH_C_LIBRARY is that."""
-        environment = {**os.environ, "MULTIHASH_C_LIBRARY": str(library)}
-        command = [sys.executable, "-c", "import verified_multihash as vm; print(vm.decode(b'\\0\\0').code)"]
-        ran = subprocess.run(command, env=environment, capture_output=True, text=True, timeout=60,
-            check=False)
-        return ran.stdout + ran.stderr
-
-    def test_versions(self):
-        texts = {9999: "has version 0.99.99", 20000: "has version 2.0.0",
-            10000: "no libmultihash_c: .*multihash_from_prefix"}
-        with tempfile.TemporaryDirectory() as folder:
-            for version, text in texts.items():
-                source, library = Path(folder, "v.c"), Path(folder, "%d.so" % version)
-                source.write_text("unsigned multihash_version(void) { return %d; }\n" % version)
-                subprocess.run(["cc", "-shared", "-fPIC", str(source), "-o", str(library)], check=True)
-                self.assertRegex(self.imported(library), "(?s)ImportError: .*" + text)
-            source.write_text("no library")
-            self.assertRegex(self.imported(source),
-                "ImportError: verified_multihash needs the C library libmultihash_c")
-            self.assertRegex(self.imported(Path(folder, "none.so")), "ImportError: .*MULTIHASH_C_LIBRARY")
-
+class Names(unittest.TestCase):
     def test_names(self):
         self.assertEqual([name for name in vm.__all__ if not hasattr(vm, name)], [])
         self.assertTrue(Path(vm.__file__).with_name("py.typed").exists())

@@ -7,9 +7,22 @@ from pathlib import Path
 import verified_multihash as vm
 from verified_multihash import MultihashError, Status
 
-BESIDE = Path(__file__).resolve().parents[3] / "crates/vectors/data/verdicts.tsv"
+HERE = Path(__file__).resolve().parent
+# In an sdist the list is beside this file.
+BESIDE = next((it for it in [HERE / "verdicts.tsv"] if it.exists()), HERE.parents[2] / "crates/vectors/data/verdicts.tsv")
 COLUMNS = "S\tinput\tread\tread_taken\tfrom_bytes\tscale_decode\tscale_taken"
 MORE = bytes(400)
+
+
+class Counts:
+    """A file that counts its reads."""
+
+    def __init__(self, data):
+        self.file, self.reads = io.BytesIO(data), 0
+
+    def read(self, size):
+        self.reads += 1
+        return self.file.read(size)
 
 
 class Drip:
@@ -61,6 +74,10 @@ class Vectors(unittest.TestCase):
         found = shown(lambda _: (vm.read_from(file, size), 0), data)[0] if data else vm.read_from(file, size)
         self.assertEqual(found, result if data else None)
         self.assertEqual(file.file.tell(), consumed)
+        counts = Counts(data)
+        if data:
+            shown(lambda _: (vm.read_from(counts, size), 0), data)
+        self.assertLessEqual(counts.reads, vm.HEAD_MAX + 1)  # not one for each byte of the digest
 
     def check_long(self, data, size, result, taken):
         """The whole input with more bytes than any encoding has, where the list has its result."""

@@ -1,9 +1,12 @@
-//! Finds the C library, and checks its version. The first of these that there is:
+//! Finds or makes the C library. The first of these that there is:
 //!
-//! 1. `libmultihash_c.a` in the directory `MULTIHASH_C_LIB_DIR`, linked statically;
-//! 2. unless `MULTIHASH_C_SYSTEM` is set, `prebuilt/ARCHITECTURE/libmultihash_c.a` of this package or, in a
-//!    copy of the repository, of its first folder, linked statically;
-//! 3. what pkg-config finds.
+//! 1. `libmultihash_c.a` in the directory `MULTIHASH_C_LIB_DIR`, an absolute path;
+//! 2. if `MULTIHASH_C_SYSTEM` is set, what pkg-config finds, linked dynamically;
+//! 3. the archive for the target that comes with the source;
+//! 4. the portable source, compiled by `CC` and `AR`, or `cc` and `ar`; `CC_TARGET`, with underscores in the
+//!    target, comes first.
+//!
+//! The last two are in this package, or in the repository that it is a part of.
 use std::env;
 use std::ffi::OsString;
 use std::fs;
@@ -22,29 +25,85 @@ fn main() { print!("{}", multihash_version()) }
 
 fn main() {
     println!("cargo:rerun-if-changed=build.rs");
-    println!("cargo:rerun-if-env-changed=MULTIHASH_C_LIB_DIR");
-    println!("cargo:rerun-if-env-changed=MULTIHASH_C_SYSTEM");
-    println!("cargo:rerun-if-env-changed=PKG_CONFIG_PATH");
     if env::var_os("DOCS_RS").is_some() {
         return; // pages need no library
     }
-    if let Some(directory) = env::var_os("MULTIHASH_C_LIB_DIR").map(PathBuf::from).or_else(prebuilt) {
-        link_archive(&directory);
-    } else {
+    if let Some(directory) = variable("MULTIHASH_C_LIB_DIR") {
+        link_archive(Path::new(&directory));
+    } else if variable("MULTIHASH_C_SYSTEM").is_some() {
         println!("cargo:rustc-link-search=native={}", installed());
         println!("cargo:rustc-link-lib=multihash_c");
+    } else if let Some(directory) = prebuilt() {
+        link_archive(&directory);
+    } else {
+        compile_source();
     }
+}
+
+/// A variable that the user may set. A change of it is seen.
+fn variable(name: &str) -> Option<OsString> {
+    println!("cargo:rerun-if-env-changed={name}");
+    env::var_os(name)
+}
+
+/// A variable that Cargo sets, or an empty text.
+fn target(name: &str) -> String {
+    env::var(name).unwrap_or_default()
+}
+
+fn out_dir() -> PathBuf {
+    PathBuf::from(env::var("OUT_DIR").expect("OUT_DIR in UTF-8"))
+}
+
+/// A path below this package, or below the repository that it is a part of.
+fn shipped(in_package: &str, in_repository: &str) -> Option<PathBuf> {
+    let package = PathBuf::from(env::var_os("CARGO_MANIFEST_DIR").expect("CARGO_MANIFEST_DIR"));
+    let top = package.join("../../..");
+    let in_repository = top.join("crates.txt").is_file().then(|| top.join(in_repository));
+    let found = [package.join(in_package)].into_iter().chain(in_repository).find(|it| it.exists())?;
+    println!("cargo:rerun-if-changed={}", found.display());
+    Some(found)
 }
 
 /// The directory of an archive for the target that comes with the source.
 fn prebuilt() -> Option<PathBuf> {
-    let part = |name: &str| env::var(format!("CARGO_CFG_TARGET_{name}")).unwrap_or_default();
-    let is_built_for = part("OS") == "linux" && part("ENDIAN") == "little" && part("POINTER_WIDTH") == "64";
-    let wanted = is_built_for && env::var_os("MULTIHASH_C_SYSTEM").is_none();
-    let package = PathBuf::from(env::var_os("CARGO_MANIFEST_DIR").expect("CARGO_MANIFEST_DIR"));
-    let mut places =
-        ["prebuilt", "../../../prebuilt"].iter().map(|place| package.join(place).join(part("ARCH")));
-    places.find(|place| wanted && place.join(ARCHIVE).is_file())
+    let is_built_for = target("CARGO_CFG_TARGET_OS") == "linux"
+        && target("CARGO_CFG_TARGET_ENDIAN") == "little"
+        && target("CARGO_CFG_TARGET_POINTER_WIDTH") == "64";
+    let archive = format!("prebuilt/{}/{ARCHIVE}", target("CARGO_CFG_TARGET_ARCH"));
+    let found = is_built_for.then(|| shipped(&archive, &archive)).flatten()?;
+    found.parent().map(Path::to_owned)
+}
+
+/// Compiles the portable source to an archive, and links it.
+fn compile_source() {
+    let source = shipped("portable/multihash.c", "packaging/portable/multihash.c");
+    let header = shipped("portable/multihash.h", "crates/multihash_c/include/multihash.h");
+    let (Some(source), Some(header)) = (source, header) else { no_library("") };
+    let out = out_dir();
+    let (archive, object) = (out.join(ARCHIVE), out.join("multihash.o"));
+    let mut compile = tool("CC", "cc");
+    compile.args(["-std=c11", "-O2", "-I"]).arg(header.parent().expect("the header's folder"));
+    if env::var_os("CARGO_CFG_UNIX").is_some() {
+        compile.arg("-fPIC");
+    }
+    output(compile.arg("-c").arg(source).arg("-o").arg(&object));
+    let _ = fs::remove_file(&archive); // of an earlier build
+    output(tool("AR", "ar").arg("rc").arg(&archive).arg(&object));
+    println!("cargo:rustc-link-search=native={}", out.display());
+    println!("cargo:rustc-link-lib=static=multihash_c");
+}
+
+/// The command that a variable of this name has for the target, or one without the target. Words may follow
+/// the command's name.
+fn tool(name: &str, otherwise: &str) -> Command {
+    let of_target = format!("{name}_{}", target("TARGET").replace('-', "_"));
+    let found = variable(&of_target).or_else(|| variable(name)).unwrap_or_else(|| otherwise.into());
+    let words = found.into_string().unwrap_or_else(|name| panic!("no command in UTF-8: {name:?}"));
+    let mut words = words.split_whitespace();
+    let mut command = Command::new(words.next().unwrap_or(otherwise));
+    command.args(words);
+    command
 }
 
 /// There is no archive for such a machine, but it can build for another one.
@@ -59,7 +118,7 @@ fn link_archive(directory: &Path) {
     let archive = directory.join(ARCHIVE);
     assert!(archive.is_absolute(), "MULTIHASH_C_LIB_DIR is not an absolute path: {}", directory.display());
     assert!(archive.is_file(), "no file {}", archive.display());
-    let out = PathBuf::from(env::var("OUT_DIR").expect("OUT_DIR in UTF-8"));
+    let out = out_dir();
     let link = out.join(ARCHIVE);
     let _ = fs::remove_file(&link); // of an earlier build
     symlink(&archive, &link).expect("a symbolic link in OUT_DIR");
@@ -115,6 +174,9 @@ fn wanted() -> (u32, u32) {
 
 /// The directory of the installed library.
 fn installed() -> String {
+    for name in ["PKG_CONFIG_PATH", "PKG_CONFIG_LIBDIR", "PKG_CONFIG_SYSROOT_DIR"] {
+        variable(name);
+    }
     let (major, minor) = wanted();
     let versions = [format!("multihash_c >= {major}.{minor}"), format!("multihash_c < {}", major + 1)];
     match Command::new("pkg-config").args(["--exists", "--print-errors"]).args(versions).output() {
@@ -129,10 +191,9 @@ fn installed() -> String {
 fn no_library(reason: &str) -> ! {
     eprint!("{reason}");
     eprintln!(
-        "There is no {ARCHIVE} for this target: set MULTIHASH_C_LIB_DIR to the absolute path of its \
-         directory, or install it so that pkg-config finds it (PKG_CONFIG_PATH), or put it into the folder \
-         prebuilt/{} of this package.",
-        env::var("CARGO_CFG_TARGET_ARCH").unwrap_or_default()
+        "There is no {ARCHIVE} for this target, and no source of it: set MULTIHASH_C_LIB_DIR to the absolute \
+         path of its directory, or install it so that pkg-config finds it (PKG_CONFIG_PATH), and set \
+         MULTIHASH_C_SYSTEM."
     );
     exit(1)
 }

@@ -1,7 +1,8 @@
-//! Readers and writers for tests, and tests of errors.
+//! For tests: checks, readers and writers, kinds of errors, and the forms as values.
 #![tactic(auto)]
 
-mod failing;
+pub mod expect;
+pub mod forms;
 pub mod readers;
 pub mod refusal;
 pub mod writers;

@@ -1,11 +1,8 @@
 //! Readers that return few bytes, fail, have unknown input, or count their calls.
 ghost use Rattle.std.specs.Prelude.{◌<◌, Some, None, if◌then◌else◌};
 
-use crate::failing::fault;
+use crate::refusal::{Refusal, own_fault};
 use multihash::no_std_io::{Error, Read};
-
-// The text of the readers' error.
-const LINK_DOWN: &str = "link down";
 
 /// A reader of a slice with known input, which returns at most `most` bytes per call.
 #[derive(Drop)]
@@ -37,34 +34,26 @@ impl Read for Cuts<'_> {
     }
 }
 
-/// Like `Cuts`, but it fails once, after `calls` successful calls.
+/// Like `Cuts`, but it fails once, after `calls` successful calls, with this error of its own.
 #[derive(Drop)]
 pub struct FailAt<'a> {
     pub cuts: Cuts<'a>,
     /// The number of calls.
     pub asked: usize,
     calls: usize,
-    wants_memory: bool,
+    why: Refusal,
     failed: bool,
 }
 
 impl<'a> FailAt<'a> {
-    /// Fails with its own error.
-    pub fn new(cuts: Cuts<'a>, calls: usize) -> Self {
+    pub fn new(cuts: Cuts<'a>, calls: usize, why: Refusal) -> Self {
         FailAt {
             cuts,
             asked: 0,
             calls,
-            wants_memory: false,
+            why,
             failed: false,
         }
-    }
-
-    /// Fails when out of memory.
-    pub fn out_of_memory(cuts: Cuts<'a>, calls: usize) -> Self {
-        let mut fails = FailAt::new(cuts, calls);
-        fails.wants_memory = true;
-        fails
     }
 }
 
@@ -79,7 +68,7 @@ impl Read for FailAt<'_> {
             self.calls -= 1;
         } else if !self.failed {
             self.failed = true;
-            return Err(fault(self.wants_memory, LINK_DOWN));
+            return Err(own_fault(self.why));
         }
         self.cuts.read(buf)
     }
@@ -100,7 +89,7 @@ impl Read for Silent<'_> {
 }
 
 /// A reader of a slice with known input, which counts its calls. It may fail once, after `calls` successful
-/// calls of either kind.
+/// calls of either kind, with an error of its own.
 #[derive(Drop)]
 pub struct Counts<'a> {
     pub left: &'a [u8],
@@ -111,7 +100,7 @@ pub struct Counts<'a> {
     /// The calls of `read_exact`.
     pub whole: usize,
     calls: usize,
-    wants_memory: bool,
+    why: Refusal,
     may_fail: bool,
 }
 
@@ -123,23 +112,16 @@ impl<'a> Counts<'a> {
             others: 0,
             whole: 0,
             calls: 0,
-            wants_memory: false,
+            why: Refusal::LINK_DOWN,
             may_fail: false,
         }
     }
 
-    /// Fails with its own error.
-    pub fn failing(left: &'a [u8], calls: usize) -> Self {
+    pub fn failing(left: &'a [u8], calls: usize, why: Refusal) -> Self {
         let mut counts = Counts::new(left);
         counts.calls = calls;
+        counts.why = why;
         counts.may_fail = true;
-        counts
-    }
-
-    /// Fails when out of memory.
-    pub fn out_of_memory(left: &'a [u8], calls: usize) -> Self {
-        let mut counts = Counts::failing(left, calls);
-        counts.wants_memory = true;
         counts
     }
 
@@ -164,7 +146,7 @@ impl Read for Counts<'_> {
             self.calls -= 1;
         } else if self.may_fail {
             self.may_fail = false;
-            return Err(fault(self.wants_memory, LINK_DOWN));
+            return Err(own_fault(self.why));
         }
         self.left.read(buf)
     }
@@ -175,7 +157,7 @@ impl Read for Counts<'_> {
             self.calls -= 1;
         } else if self.may_fail && !buf.is_empty() {
             self.may_fail = false;
-            return Err(fault(self.wants_memory, LINK_DOWN));
+            return Err(own_fault(self.why));
         }
         self.left.read_exact(buf)
     }

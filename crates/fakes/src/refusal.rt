@@ -1,4 +1,6 @@
 //! Kinds of errors, for tests.
+ghost use Rattle.multihash.specs.Fault.{IsOwnFault};
+
 use multihash::{Error, no_std_io};
 
 /// The largest code of a multihash: 2^63 - 1.
@@ -64,6 +66,16 @@ impl Refusal {
         } else {
             None
         }
+    }
+}
+
+// The error of this kind that a reader or a writer has of its own: out of memory, or another one.
+pub(crate) fn own_fault(why: Refusal) -> no_std_io::Error
+    ensures { IsOwnFault result }
+{
+    match why {
+        Refusal::Other(text) => no_std_io::Error::other(text),
+        _ => no_std_io::Error::out_of_memory(),
     }
 }
 

@@ -2,12 +2,9 @@
 ghost use Rattle.std.specs.Prelude.{◌≡◌, ◌<◌, ◌≤◌, ◌+◌, true, false, vec_len, vec_capacity, if◌then◌else◌};
 ghost use Rattle.multihash.specs.Writing.{AppendsAtEnd, AppendsAtEnd-none, AppendsAtEnd-concatenated};
 
-use crate::failing::fault;
+use crate::refusal::{Refusal, own_fault};
 use multihash::no_std_io::{Error, Write};
 use std::alloc::{AllocError, Global};
-
-// The text of the writers' error.
-const DISK_GONE: &str = "disk gone";
 
 /// A writer with a remaining capacity of `room` bytes, reserved before, which accepts at most `most` bytes
 /// per call.
@@ -60,34 +57,26 @@ impl Write for Drip {
     }
 }
 
-/// Like `Drip`, but it fails once, after `calls` successful calls.
+/// Like `Drip`, but it fails once, after `calls` successful calls, with this error of its own.
 #[derive(Drop)]
 pub struct FailWrite {
     pub drip: Drip,
     /// The number of calls.
     pub asked: usize,
     calls: usize,
-    wants_memory: bool,
+    why: Refusal,
     failed: bool,
 }
 
 impl FailWrite {
-    /// Fails with its own error.
-    pub fn new(drip: Drip, calls: usize) -> Self {
+    pub fn new(drip: Drip, calls: usize, why: Refusal) -> Self {
         FailWrite {
             drip,
             asked: 0,
             calls,
-            wants_memory: false,
+            why,
             failed: false,
         }
-    }
-
-    /// Fails when out of memory.
-    pub fn out_of_memory(drip: Drip, calls: usize) -> Self {
-        let mut fails = FailWrite::new(drip, calls);
-        fails.wants_memory = true;
-        fails
     }
 }
 
@@ -114,14 +103,14 @@ impl Write for FailWrite {
             self.calls -= 1;
         } else if !self.failed {
             self.failed = true;
-            return Err(fault(self.wants_memory, DISK_GONE));
+            return Err(own_fault(self.why));
         }
         self.drip.write(buf)
     }
 }
 
 /// A vector as a writer that counts its calls. It may fail once, after `calls` successful calls of either
-/// kind.
+/// kind, with an error of its own.
 #[derive(Drop)]
 pub struct CountsWrites {
     pub held: Vec<u8>,
@@ -130,7 +119,7 @@ pub struct CountsWrites {
     /// The calls of `write_all`.
     pub whole: usize,
     calls: usize,
-    wants_memory: bool,
+    why: Refusal,
     may_fail: bool,
 }
 
@@ -141,23 +130,16 @@ impl CountsWrites {
             parts: 0,
             whole: 0,
             calls: 0,
-            wants_memory: false,
+            why: Refusal::DISK_GONE,
             may_fail: false,
         }
     }
 
-    /// Fails with its own error.
-    pub fn failing(alloc: Global, calls: usize) -> Self {
+    pub fn failing(alloc: Global, calls: usize, why: Refusal) -> Self {
         let mut counts = CountsWrites::new(alloc);
         counts.calls = calls;
+        counts.why = why;
         counts.may_fail = true;
-        counts
-    }
-
-    /// Fails when out of memory.
-    pub fn out_of_memory(alloc: Global, calls: usize) -> Self {
-        let mut counts = CountsWrites::failing(alloc, calls);
-        counts.wants_memory = true;
         counts
     }
 }
@@ -184,7 +166,7 @@ impl Write for CountsWrites {
             self.calls -= 1;
         } else if self.may_fail {
             self.may_fail = false;
-            return Err(fault(self.wants_memory, DISK_GONE));
+            return Err(own_fault(self.why));
         }
         self.held.write(buf)
     }
@@ -195,7 +177,7 @@ impl Write for CountsWrites {
             self.calls -= 1;
         } else if self.may_fail && !buf.is_empty() {
             self.may_fail = false;
-            return Err(fault(self.wants_memory, DISK_GONE));
+            return Err(own_fault(self.why));
         }
         self.held.write_all(buf)
     }

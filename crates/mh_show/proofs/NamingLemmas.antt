@@ -1,11 +1,12 @@
 -- A text has one line, a line names at most one list of bytes, and these are what `hex` decodes.
-use Rattle.std.proofs.Common.{◌≡◌, ℕ, ◌+◌, ◌*◌, ◌%◌, true, List, [], ◌∷◌, length, Option, None, Some, is_some, Ok, refl, sym, ap, ◌∙◌, subst, arith, inl, inr}
+use Rattle.std.proofs.Common.{◌≡◌, ℕ, ◌+◌, ◌*◌, ◌%◌, true, List, [], ◌∷◌, length, Ok, refl, sym, ap, ◌∙◌, subst, arith, inl, inr}
 use Rattle.std.specs.List.{AllPass, AllZip, flat_map}
 use Rattle.std.proofs.lemmas.List.{append_cancel_right}
 use Rattle.std.proofs.lemmas.List.Elements.{All-head, All-tail}
 use Rattle.hex.specs.Hex.{hex_digit_value, is_hex_digit, pair_value, decode_pairs, decode_of}
 use Rattle.hex.proofs.Pairs.{cons_byte, decode_pairs-ok_pair}
 use Rattle.hex.proofs.HexLemmas.{decode_of-even, decode_of-ok, decode_of-same}
+use Rattle.multihash.proofs.Forms.JsonLemmas.{some_value}
 use Rattle.mh_show.specs.Shown.{newline, IsLine, NamesByte, NamesBytes}
 
 pub line_unique : (text a b : List ℕ) → IsLine a text → IsLine b text → a ≡ b
@@ -41,10 +42,6 @@ pub named_decodes : (line bytes : List ℕ) → NamesBytes line bytes → decode
 named_decodes line bytes n =
     let even : length line % 2 ≡ 0 = omega (arith, ap length n.spelled, length-two_digits n.digits) in
     decode_of-even line even ∙ ap (decode_pairs 0) n.spelled ∙ named_pairs 0 n.digits bytes n.each
-
-some_value : (o : Option ℕ) → is_some o ≡ true → (v : ℕ) × (o ≡ Some v)
-some_value (Some v) h = (v, refl)
-some_value None h = cc h
 
 -- an even number of digits names bytes
 digits_name : (line : List ℕ) → length line % 2 ≡ 0 → AllPass is_hex_digit line → (bytes : List ℕ) × NamesBytes line bytes

@@ -11,7 +11,7 @@ use Rattle.multihash.specs.Streams.{AreConcatenated, ConsumesPairs, StopsAfterPa
 use Rattle.multihash.specs.Varint.{insufficient, IsContinuation, IsVarint}
 use Rattle.multihash.specs.Verdict.{Verdict, accepted, invalid_size, malformed, BeginsWithSize, HasVerdict, HasWholeVerdict, IsIncomplete}
 use Rattle.multihash.specs.Settling.{Settles, IsShortestSettling}
-use Rattle.multihash.specs.Consuming.{ConsumesShortestSettling, ConsumesVarint, IsFrontError}
+use Rattle.multihash.specs.Consuming.{ConsumesShortestSettling, ConsumesVarint}
 use Rattle.multihash.proofs.Readings.SettlingLemmas.{early_not_settles}
 use Rattle.multihash.specs.Fault.{Fault, IsOwnFault, IsUnexpectedEof}
 use Rattle.multihash.specs.Reading.{Consumes, CountsReaderFailures, HasFewerThan}
@@ -19,8 +19,9 @@ use Rattle.multihash.specs.Scale.{IsScale, HasScaleVerdict}
 use Rattle.multihash.specs.Writing.{AdvancesPast, AppendsPrefix, CountsWriterFailures}
 use Rattle.multihash.specs.Filling.{Fills, IsFilled}
 use Rattle.multihash.specs.declared.no_std_io.slice_writer.SliceWriter.{SliceWriter}
-use Rattle.multihash.specs.Refusal.{Refusal, IsIo, IsOutOfMemory, IsInvalidSize}
-use Rattle.multihash.specs.Outcome.{Fields, pair_of, IsErrorOf, IsResultOf}
+use Rattle.multihash.specs.Refusal.{Refusal, IsIo, IsOutOfMemory, IsInvalidSize, IsFrontError}
+use Rattle.multihash.specs.Outcome.{IsErrorOf, IsResultOf}
+use Rattle.multihash.specs.Multihash.{Fields, pair_of}
 use Rattle.multihash.proofs.Writings.WritingLemmas.{fewer_places, full_of_faults, slice_writer_has_room, length_of_not_nil}
 use Rattle.multihash.proofs.Readings.ReadingLemmas.{Consumes-cut, Consumes-told}
 use Rattle.multihash.proofs.Readings.VerdictLemmas.{verdict_unique, whole_verdict_unique}

@@ -8,20 +8,9 @@ use Rattle.multihash.specs.Verdict.{Verdict, malformed, unexpected_eof, HasVerdi
 use Rattle.multihash.specs.Settling.{Settles, IsShortestSettling}
 use Rattle.std.specs.Io.KnownBytes.{IsAtEnd}
 use Rattle.multihash.specs.Reading.{Consumes, CountsReaderFailures, ConsumesFewerThan, HasFewerThan}
-use Rattle.multihash.specs.Refusal.{Refusal, of_varint, IsEof, IsReaderError, IsInvalidSize, IsVarintError}
-use Rattle.multihash.specs.Outcome.{Fields, pair_of, IsResultOf}
-
--- an error that names why a varint is malformed
-abbrev pub IsAnyVarintError : Refusal → Type 0
-IsAnyVarintError e = (fault : VarintError) × IsVarintError fault e
-
--- the error names why the varint at the front of the input is malformed
-abbrev pub IsFrontError : List ℕ → Refusal → Type 0
-IsFrontError input e = (fault : VarintError) × IsVarintError fault e × BeginsMalformed fault input
-
--- the varint at the front of the input is malformed
-abbrev pub IsMalformed : List ℕ → Type 0
-IsMalformed input = (fault : VarintError) × BeginsMalformed fault input
+use Rattle.multihash.specs.Refusal.{Refusal, of_varint, IsEof, IsReaderError, IsInvalidSize, IsVarintError, IsAnyVarintError, IsFrontError}
+use Rattle.multihash.specs.Outcome.{IsResultOf}
+use Rattle.multihash.specs.Multihash.{Fields, pair_of}
 
 -- bytes of which P holds were consumed
 abbrev pub ConsumesSome : (List ℕ → Type 0) → Option (List ℕ) → Option (List ℕ) → Type 0
@@ -58,7 +47,8 @@ pub record ConsumesAtVarintError (e : Refusal) (old new : Option (List ℕ)) : T
   pub all : IsVarintError insufficient e → IsAtEnd new
   pub failed : IsReaderError e → IsInsufficient consumed
 
--- so does the error, and that many bytes are those that reading the varint consumes
+-- the error names why the varint at the front of the input is malformed, and reading the varint consumes that
+-- many bytes
 abbrev pub IsFrontErrorAt : List ℕ → Refusal → ℕ → Type 0
 IsFrontErrorAt input e taken = IsFrontError input e × (taken ≤ length input)
     × ConsumesAtVarintError e (Some input) (Some (drop taken input))
@@ -130,13 +120,13 @@ none_is_insufficient (Err e) = Err e
 abbrev pub ReadFails : ℕ → ℕ → ℕ → Refusal → Option (List ℕ) → Option (List ℕ) → Type 0
 ReadFails S before after e old new = ReadMeets S old new before after (Err e)
 
--- so did `varint::read`
+-- `varint::read` failed with this error
 pub record VarintFails (before after : ℕ) (e : Refusal) (old new : Option (List ℕ)) : Type 0 where
   pub cause : FailsBy before after IsAnyVarintError e
   pub consumed : ConsumesAtVarintError e old new
   pub front : IfSome old (λ input. after ≡ before → IsFrontError input e)
 
--- so did `read_exact` of `n` bytes
+-- `read_exact` of `n` bytes failed with this error
 pub record ExactFails (n before after : ℕ) (e : Refusal) (old new : Option (List ℕ)) : Type 0 where
   pub cause : FailsBy before after IsEof e
   pub consumed : ConsumesFewerThan n old new

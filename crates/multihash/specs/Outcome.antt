@@ -1,23 +1,8 @@
--- What a call returns if a verdict holds, and what the fields of a multihash mean.
-use Rattle.std.specs.Prelude.{◌≡◌, ◌<◌, ◌≤◌, ℕ, List, take, Result, MatchResult}
-use Rattle.multihash.specs.Varint.{varint_limit}
-use Rattle.multihash.specs.Pair.{Pair, digest_limit}
+-- What a call returns if a verdict holds.
+use Rattle.std.specs.Prelude.{◌≡◌, ℕ, Result, MatchResult}
+use Rattle.multihash.specs.Multihash.{Fields, pair_of}
 use Rattle.multihash.specs.Verdict.{Verdict, accepted, invalid_size, invalid_code, malformed, unexpected_eof}
 use Rattle.multihash.specs.Refusal.{Refusal, IsEof, IsInvalidSize, IsInvalidCode, IsVarintError}
-
--- the fields of a multihash: the code, the digest's size, and the buffer of S bytes, which starts with
--- the digest. That the code is in range and the digest fits is part of the value itself, so that it is
--- known of a value that nothing has read yet
-pub record Fields (S : ℕ) : Type 0 where
-  pub code : ℕ
-  pub size : ℕ
-  pub buffer : List ℕ
-  pub in_range : code < varint_limit
-  pub fits : size ≤ digest_limit S
-
--- the pair that a multihash means
-abbrev pub pair_of : {S : ℕ} → Fields S → Pair
-pair_of m = record { code = m.code; digest = take m.size m.buffer }
 
 -- the error of a verdict
 abbrev pub IsErrorOf : Refusal → Verdict → Type 0

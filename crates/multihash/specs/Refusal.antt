@@ -3,7 +3,7 @@ use Rattle.std.specs.Prelude.{◌≡◌, ℕ, ◌++◌, List, codes}
 use Rattle.std.specs.Fmt.{decimal}
 use Rattle.multihash.specs.declared.error.Kind.{Kind}
 use Rattle.multihash.specs.declared.error.Kind.TheVariants.{Io, InvalidSize, InvalidCode, Insufficient, Overflow, NotMinimal, NotBytes}
-use Rattle.multihash.specs.Varint.{VarintError, insufficient, overflow, not_minimal}
+use Rattle.multihash.specs.Varint.{VarintError, insufficient, overflow, not_minimal, BeginsMalformed}
 use Rattle.multihash.specs.Fault.{Fault, IsUnexpectedEof, IsOutOfMemoryFault, IsOwnFault, printed}
 
 -- why a call failed: an error of a reader or a writer, a size, a code, a malformed varint, or a JSON
@@ -52,6 +52,14 @@ IsInvalidCode code e = e ≡ of_code code
 -- a varint is malformed
 abbrev pub IsVarintError : VarintError → Refusal → Type 0
 IsVarintError fault e = e ≡ of_varint fault
+
+-- an error that names why a varint is malformed
+abbrev pub IsAnyVarintError : Refusal → Type 0
+IsAnyVarintError e = (fault : VarintError) × IsVarintError fault e
+
+-- the error names why the varint at the front of the input is malformed
+abbrev pub IsFrontError : List ℕ → Refusal → Type 0
+IsFrontError input e = (fault : VarintError) × IsVarintError fault e × BeginsMalformed fault input
 
 -- a JSON value that is no byte array
 abbrev pub IsNotBytes : Refusal → Type 0

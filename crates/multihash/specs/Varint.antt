@@ -66,3 +66,7 @@ abbrev pub BeginsMalformed : VarintError → List ℕ → Type 0
 BeginsMalformed insufficient input = IsInsufficient input
 BeginsMalformed overflow input = IsOverflow input
 BeginsMalformed not_minimal input = IsNotMinimal input
+
+-- the varint at the front of the input is malformed
+abbrev pub IsMalformed : List ℕ → Type 0
+IsMalformed input = (fault : VarintError) × BeginsMalformed fault input

@@ -10,7 +10,8 @@ ghost use Rattle.multihash.specs.Reading.{Consumes, EndsInNone, CountsReaderFail
 ghost use Rattle.multihash.specs.Fault.{IsUnexpectedEof, IsOwnFault};
 ghost use Rattle.multihash.specs.Writing.{AppendsPrefix, CountsWriterFailures, WriteAllLaws};
 ghost use Rattle.multihash.specs.Consuming.{ReadMayFailWith, ConsumesAtError, ConsumesShortestSettling, ConsumesNothingSettling, none_is_insufficient, ReadMeets};
-ghost use Rattle.multihash.specs.Outcome.{pair_of, IsResultOf};
+ghost use Rattle.multihash.specs.Outcome.{IsResultOf};
+ghost use Rattle.multihash.specs.Multihash.{pair_of};
 
 use crate::multihash::whole;
 use crate::no_std_io::{self, Read, Write};
@@ -26,9 +27,9 @@ impl<const S: usize> Multihash<S> {
     ///
     /// - [`Error::is_insufficient`] if the input ends within or before a varint; all of it was
     ///   consumed.
-    /// - [`Error::is_overflow`] if a varint has more than nine bytes (2^63 or more), and
-    ///   [`Error::is_not_minimal`] if a varint of more than one byte ends in a zero byte; the bytes up
-    ///   to the one that shows it were consumed.
+    /// - [`Error::is_overflow`] if a varint has more than nine bytes, as every number of 2^63 or more
+    ///   needs, and [`Error::is_not_minimal`] if a varint of more than one byte ends in a zero byte; the
+    ///   last byte consumed is the one that determines the error.
     /// - [`Error::invalid_size`] with the digest's length if it exceeds `min(S, 255)`; both varints
     ///   were consumed, and none of the digest.
     /// - [`Error::io`] with an unexpected end of file if the input ends within the digest; both varints
@@ -60,8 +61,13 @@ impl<const S: usize> Multihash<S> {
         Self::read_after(r, code)
     }
 
-    /// As [`Multihash::read`], but returns `None` instead of an error if the input ended before the
-    /// encoding. If the input is not known, it does so if the reader has no byte to give.
+    /// Reads the multihash whose encoding comes next, as [`Multihash::read`] does, but returns `None`
+    /// instead of an error if the input ended before the encoding: for a reader without known input, if
+    /// its `read` returns 0.
+    ///
+    /// # Errors
+    ///
+    /// Those of [`Multihash::read`], except that for an input that ended before the encoding.
     #[inline(always)]
     pub fn read_next<R: Read>(r: &mut R) -> Result<Option<Self>, Error>
         ensures read { ReadMeets S (R.rest r.old) (R.rest r.new) (R.failures r.old) (R.failures r.new)
@@ -74,7 +80,7 @@ impl<const S: usize> Multihash<S> {
         }
     }
 
-    // As `read`, of an encoding whose code was read.
+    // Reads the rest of an encoding whose code was read, as `read` does.
     #[inline(always)]
     fn read_after<R: Read>(r: &mut R, code: u64) -> Result<Self, Error>
         requires { code < varint_limit }
@@ -109,7 +115,8 @@ impl<const S: usize> Multihash<S> {
     /// # Errors
     ///
     /// - [`Error::is_insufficient`] if the bytes end within or before a varint.
-    /// - [`Error::is_overflow`] if a varint has more than nine bytes (2^63 or more).
+    /// - [`Error::is_overflow`] if a varint has more than nine bytes, as every number of 2^63 or more
+    ///   needs.
     /// - [`Error::is_not_minimal`] if a varint of more than one byte ends in a zero byte.
     /// - [`Error::invalid_size`] with the digest's length if it exceeds `min(S, 255)`, and with the
     ///   number of trailing bytes if some follow the digest.
@@ -118,7 +125,7 @@ impl<const S: usize> Multihash<S> {
         ensures { (v : Verdict) × HasWholeVerdict S bytes.now v × IsResultOf result v }
     {
         let head = Head::read_front(bytes)?;
-        if head.digest_len > S as u64 || head.digest_len > 255 {
+        if !Self::is_valid_size(head.digest_len) {
             return Err(Error::from_size(head.digest_len));
         }
         let code = head.code;
@@ -130,8 +137,8 @@ impl<const S: usize> Multihash<S> {
         if digest.len() > len {
             return Err(Error::from_size((digest.len() - len) as u64));
         }
-        // As in `wrap`; a helper for both would copy the value once more, into its `Ok`. With a length
-        // known at compile time the digest is moved as a whole, without a call.
+        // The same paths are in `wrap`: a helper for both would copy the value once more, into its `Ok`. With
+        // a length known at compile time the digest is moved as a whole, without a call.
         if let Some(whole) = whole::<32>(digest) {
             return Ok(Self::in_buffer(code, 32, Self::padded(whole)));
         }
@@ -226,10 +233,10 @@ impl<const S: usize> Multihash<S> {
         ensures over { OnErr result (digest_limit S < size) }
         ensures err { IfErr result (IsInvalidSize size) }
     {
-        if size > S as u64 || size > 255 {
-            Err(Error::from_size(size))
-        } else {
+        if Self::is_valid_size(size) {
             Ok(size as u8)
+        } else {
+            Err(Error::from_size(size))
         }
     }
 }

@@ -6,7 +6,7 @@ ghost use Rattle.std.specs.Cmp.Lexicographic.{pointwise, slice_cmp};
 ghost use Rattle.std.specs.Cmp.Rules.{comparing, hashing};
 ghost use Rattle.std.specs.Ordering.{nat_cmp, on, as_partial_cmp};
 ghost use Rattle.multihash.specs.Comparing.{equal_pairs, compare_pairs, hashed_pair};
-ghost use Rattle.multihash.specs.Outcome.{pair_of};
+ghost use Rattle.multihash.specs.Multihash.{pair_of};
 
 use crate::Multihash;
 use std::cmp::Ordering;
@@ -21,9 +21,9 @@ impl<const S: usize> Multihash<S> {
         self.size == other.size && self.code == other.code && self.same_digest(other)
     }
 
-    // Whether the digests are equal. From sixteen bytes on they are compared by words, without a call. The
-    // compiler knows the length of a digest that fills the buffer, and makes no loop. Paths that `S` excludes
-    // are not compiled.
+    // Whether the digests are equal. From sixteen bytes on they are compared by words, without a call. If `S`
+    // exceeds 64, the compiler knows the length of a digest that fills the buffer, and makes no loop. Paths
+    // that `S` excludes are not compiled.
     #[inline(always)]
     fn same_digest<const B: usize>(&self, other: &Multihash<B>) -> bool
         requires { length (pair_of self.now).digest ≡ length (pair_of other.now).digest }
@@ -41,8 +41,8 @@ impl<const S: usize> Multihash<S> {
         S == 0 || self.size == 0 || self.same_few(other)
     }
 
-    // The same for fewer bytes. Its parameters are the values, so that the other paths compute no address
-    // for it.
+    // Whether digests of fewer bytes are equal. The parameters are the values, so that the other paths
+    // compute no address for this call.
     #[inline(never)]
     fn same_few<const B: usize>(&self, other: &Multihash<B>) -> bool
         ensures { result ≡ pointwise ◌==◌ (pair_of self.now).digest (pair_of other.now).digest }
@@ -71,7 +71,7 @@ impl<const S: usize> Multihash<S> {
         self.order_of_few(other)
     }
 
-    // How fewer bytes compare. As of `same_few`, the parameters are the values.
+    // How digests of fewer bytes compare. The parameters are the values, as those of `same_few` are.
     #[inline(never)]
     fn order_of_few(&self, other: &Self) -> Ordering
         ensures { result ≡ slice_cmp nat_cmp (pair_of self.now).digest (pair_of other.now).digest }

@@ -118,7 +118,7 @@ impl Error {
         matches!(self.kind, Kind::Insufficient)
     }
 
-    /// Returns whether a varint has more than nine bytes: its number would be 2^63 or more.
+    /// Returns whether a varint has more than nine bytes, as every number of 2^63 or more needs.
     pub fn is_overflow(&self) -> bool
         ensures { IsTrue result ↔ IsVarintError overflow self.now }
     {
@@ -139,9 +139,12 @@ impl Error {
         matches!(self.kind, Kind::NotBytes)
     }
 
-    /// Returns whether more input could have changed the result: the input ended within or before a
-    /// varint, or before the end of a digest or of a fixed-size part. It is true if
-    /// [`Error::is_insufficient`] is, and if [`Error::io`] is an unexpected end of file.
+    /// Returns whether the input is incomplete: it ended within or before a varint, or before the end of
+    /// a digest or of a fixed-size part. It is true if [`Error::is_insufficient`] is, and if
+    /// [`Error::io`] is an unexpected end of file.
+    ///
+    /// For `read` and `scale_decode` that is exactly when more input could change the result. More input
+    /// also changes an error of `from_bytes` or `from_value` that counts trailing bytes.
     pub fn is_incomplete(&self) -> bool
         ensures ends { IsTrue result ↔ (IsVarintError insufficient self.now ⊎ IsEof self.now) }
         ensures early { (v : Verdict) → IsErrorOf self.now v → (IsTrue result ↔ IsIncomplete v) }
@@ -153,8 +156,8 @@ impl Error {
         }
     }
 
-    /// Returns the I/O error, if it is one: the input ended within a digest or a part of fixed size, the
-    /// writer is full, an allocation failed, or the reader or the writer itself failed.
+    /// Returns the I/O error, if it is one: the input ended before the end of a digest or of a fixed-size
+    /// part, the writer is full, an allocation failed, or the reader or the writer itself failed.
     pub fn io(&self) -> Option<&no_std_io::Error>
         ensures some { IfSome result (λ e. self.now ≡ of_io e.now) }
         ensures none { IfNone result ((fault : Fault) → self.now ≢ of_io fault) }

@@ -26,7 +26,8 @@ impl Head {
     /// # Errors
     ///
     /// - [`Error::is_insufficient`] if the bytes end within or before a varint.
-    /// - [`Error::is_overflow`] if a varint has more than nine bytes (2^63 or more).
+    /// - [`Error::is_overflow`] if a varint has more than nine bytes, as every number of 2^63 or more
+    ///   needs.
     /// - [`Error::is_not_minimal`] if a varint of more than one byte ends in a zero byte.
     ///
     /// `from_bytes` and `read` return the same error for every capacity.
@@ -45,7 +46,7 @@ impl Head {
         }
     }
 
-    /// Finds the two varints at the front of `bytes` as [`Head::read_front`] does, and makes no error:
+    /// Finds the two varints at the front of `bytes` as [`Head::read_front`] does, but returns no error:
     /// `None` if one of them is malformed.
     #[inline(always)]
     pub fn find_front(bytes: &[u8]) -> Option<Self>
@@ -71,8 +72,8 @@ impl Head {
     }
 
     /// Reads the two varints at the front of `bytes` as [`Head::read_front`] does. An error comes with the
-    /// number of bytes that `read` consumes then: those up to the one that shows the error, or all, if
-    /// they are insufficient.
+    /// number of bytes that `read` consumes then: all of an insufficient input, otherwise those up to and
+    /// including the byte that determines the error.
     #[cold]
     #[inline(never)]
     pub fn read_counted(bytes: &[u8]) -> Result<Self, (Error, usize)>

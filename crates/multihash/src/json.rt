@@ -4,11 +4,12 @@ ghost use Rattle.std.specs.List.{list_all};
 ghost use Rattle.serde_json.specs.View.{view};
 ghost use Rattle.multihash.specs.Encoding.{IsEncoding};
 ghost use Rattle.multihash.specs.Json.{IsByteArray, IsJsonList};
-ghost use Rattle.multihash.specs.Members.{byte_of_data, member_bytes, is_byte, AppendsMembers, AppendsMembers-none, AppendsMembers-concatenated};
+ghost use Rattle.multihash.specs.Private.Members.{byte_of_data, member_bytes, is_byte, AppendsMembers, AppendsMembers-none, AppendsMembers-concatenated};
 ghost use Rattle.multihash.specs.Verdict.{Verdict, HasWholeVerdict};
 ghost use Rattle.multihash.specs.Fault.{IsOutOfMemoryFault};
 ghost use Rattle.multihash.specs.Refusal.{IsNotBytes, IsOutOfMemory};
-ghost use Rattle.multihash.specs.Outcome.{pair_of, IsResultOf};
+ghost use Rattle.multihash.specs.Outcome.{IsResultOf};
+ghost use Rattle.multihash.specs.Multihash.{pair_of};
 
 use crate::no_std_io::{self, Read, Write};
 use crate::{Error, Multihash};
@@ -189,10 +190,3 @@ fn put_bytes(members: &[Value], buffer: &mut [u8])
         }
     }
 }
-
-// The input is known, the bytes of the members, and the reader never fails.
-fn array_reader(m: &ByteMembers)
-    ensures rest { ⟦<ByteMembers<'static> as Read>⟧.rest m.now
-        ≡ Some (member_bytes m.now.left.now) }
-    ensures failures { ⟦<ByteMembers<'static> as Read>⟧.failures m.now ≡ 0 }
-{}

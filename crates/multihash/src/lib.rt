@@ -4,6 +4,14 @@
 //! the varint of the code, the varint of the digest's length, and the digest
 //! (<https://github.com/multiformats/multihash>). The library does no hashing and has no table of
 //! codes.
+//!
+//! Each form is written by one call and read by another:
+//!
+//! - binary: `m.to_bytes(alloc)?` and `Multihash::<64>::from_bytes(&bytes)?`
+//! - SCALE: `m.scale_encode(&mut writer)?` and `Multihash::<64>::scale_decode(&mut reader)?`
+//! - JSON: `m.to_value(alloc)?` and `Multihash::<64>::from_value(&value)?`
+//!
+//! [`Multihash::write`], [`Multihash::read`] and the module [`list`] are for streams of the binary form.
 #![tactic(auto)]
 
 mod binary;
@@ -26,5 +34,5 @@ pub use crate::multihash::Multihash;
 /// The result of this library's calls.
 pub type Result<T> = std::result::Result<T, Error>;
 
-/// The same type under its former name.
-pub type MultihashGeneric<const N: usize> = Multihash<N>;
+/// [`Multihash`] under its former name.
+pub type MultihashGeneric<const CAPACITY: usize> = Multihash<CAPACITY>;

@@ -6,7 +6,7 @@ ghost use Rattle.multihash.specs.Writing.{AppendsPrefix, CountsWriterFailures};
 ghost use Rattle.multihash.specs.Refusal.{IsOutOfMemory, IsIo, IsReaderError};
 ghost use Rattle.multihash.specs.Reading.{CountsReaderFailures};
 ghost use Rattle.multihash.specs.Consuming.{ReadMayFailWith};
-ghost use Rattle.multihash.specs.Outcome.{pair_of};
+ghost use Rattle.multihash.specs.Multihash.{pair_of};
 
 use crate::no_std_io::{Read, Write};
 use crate::{Error, Multihash};
@@ -35,9 +35,11 @@ pub fn write_list<const S: usize, W: Write>(items: &[Multihash<S>], w: &mut W) -
     Ok(())
 }
 
-/// Reads `count` multihashes, one after another, and leaves what follows them in `r` unread. Capacity
-/// for exactly `count` values is allocated before anything is read. For a `count` of 0 nothing is read
-/// or allocated.
+/// Reads `count` multihashes, one after another, and leaves what follows them in `r` unread. For a
+/// `count` of 0 nothing is read or allocated.
+///
+/// **Warning:** capacity for exactly `count` values is allocated before anything is read, however short
+/// the input is. A `count` that comes from the input needs a limit.
 ///
 /// # Errors
 ///

@@ -1,10 +1,10 @@
 //! The type and its parts.
-ghost use Rattle.std.specs.Prelude.{◌≡◌, ◌<◌, ◌≤◌, ◌-◌, ◌+◌, ◌⊎◌, ◌↔◌, [], ◌++◌, length, take, drop, replicate, Some, IfSome, IfOk, IfErr, IsErr};
+ghost use Rattle.std.specs.Prelude.{◌≡◌, ◌<◌, ◌≤◌, ◌-◌, ◌+◌, ◌⊎◌, ◌↔◌, [], ◌++◌, length, take, drop, replicate, Some, IfSome, IfOk, IfErr, IsErr, IsTrue, false};
 ghost use Rattle.multihash.specs.Bytes.{IsBytes};
 ghost use Rattle.multihash.specs.Varint.{varint_limit};
 ghost use Rattle.multihash.specs.Pair.{IsPair, digest_limit, truncated, FitsBuffer};
 ghost use Rattle.multihash.specs.Refusal.{IsInvalidSize, IsInvalidCode};
-ghost use Rattle.multihash.specs.Outcome.{pair_of};
+ghost use Rattle.multihash.specs.Multihash.{pair_of};
 
 use crate::{Error, varint};
 use std::fmt;
@@ -33,7 +33,7 @@ pub struct Multihash<const S: usize> {
 }
 
 impl<const S: usize> Model for Multihash<S> {
-    ghost use Rattle.multihash.specs.Outcome.{Fields};
+    ghost use Rattle.multihash.specs.Multihash.{Fields};
 
     ghost Value = { Fields S };
 
@@ -72,7 +72,7 @@ impl<const S: usize> Multihash<S> {
             × (varint_limit ≤ code))) }
     {
         let len = input_digest.len();
-        if len > S || len > 255 {
+        if !Self::is_valid_size(len as u64) {
             return Err(Error::from_size(len as u64));
         }
         if code > varint::MAX {
@@ -101,7 +101,7 @@ impl<const S: usize> Multihash<S> {
     /// Returns the digest's length in bytes, at most `min(S, 255)`.
     pub fn size(&self) -> u8
         ensures size { result ≡ length (pair_of self.now).digest }
-        ensures fits { FitsBuffer S (pair_of self.now) }
+        ensures fits { result ≤ digest_limit S }
     {
         self.size as u8
     }
@@ -167,6 +167,15 @@ impl<const S: usize> Multihash<S> {
         ensures size { result.2 ≡ length (pair_of self.entry).digest }
     {
         (self.code, Self::array_of(self.digest()), self.size())
+    }
+
+    // Whether a digest of that many bytes fits the buffer.
+    #[inline(always)]
+    pub(crate) fn is_valid_size(size: u64) -> bool
+        ensures fits { IsTrue result → size ≤ digest_limit S }
+        ensures over { result ≡ false → digest_limit S < size }
+    {
+        size <= S as u64 && size <= 255
     }
 
     // The multihash of a digest whose length is known at compile time.

@@ -1,7 +1,7 @@
 //! Fixes what implementations expose to contracts. These functions do nothing: their clauses pin the
 //! ghost members, which the laws alone leave open.
 ghost use Rattle.std.specs.Prelude.{◌≡◌, ◌↔◌, ℕ, List, [], Some, true, false};
-ghost use Rattle.multihash.specs.Outcome.{pair_of};
+ghost use Rattle.multihash.specs.Multihash.{pair_of};
 ghost use Rattle.multihash.specs.Writing.{AdvancesPast, AppendsAtEnd};
 ghost use Rattle.multihash.specs.Filling.{Fills, IsFilled};
 

@@ -6,7 +6,8 @@ ghost use Rattle.multihash.specs.Fault.{IsUnexpectedEof, IsOwnFault};
 ghost use Rattle.multihash.specs.Reading.{Consumes, HasFewerThan, ConsumesFewerThan, CountsReaderFailures};
 ghost use Rattle.multihash.specs.Writing.{AppendsPrefix, CountsWriterFailures};
 ghost use Rattle.multihash.specs.Refusal.{IsIo, IsReaderError};
-ghost use Rattle.multihash.specs.Outcome.{pair_of, IsResultOf};
+ghost use Rattle.multihash.specs.Outcome.{IsResultOf};
+ghost use Rattle.multihash.specs.Multihash.{pair_of};
 
 use crate::binary::write_digest;
 use crate::no_std_io::{self, Read, Write};

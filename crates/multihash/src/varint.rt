@@ -10,8 +10,8 @@ ghost use Rattle.std.specs.Io.KnownBytes.{IsAtEnd, prepend_known};
 ghost use Rattle.multihash.specs.Reading.{Consumes, EndsInNone, CountsReaderFailures, NoOtherError};
 ghost use Rattle.multihash.specs.Writing.{AppendsPrefix, CountsWriterFailures, IsFault, IsWriterFaultOrFull};
 ghost use Rattle.multihash.specs.Fault.{IsOwnFault};
-ghost use Rattle.multihash.specs.Refusal.{IsIo, IsInvalidCode, IsReaderError};
-ghost use Rattle.multihash.specs.Consuming.{IsAnyVarintError, IsFrontError, ConsumesVarint, ConsumesAtVarintError, none_is_insufficient};
+ghost use Rattle.multihash.specs.Refusal.{IsIo, IsInvalidCode, IsReaderError, IsAnyVarintError, IsFrontError};
+ghost use Rattle.multihash.specs.Consuming.{ConsumesVarint, ConsumesAtVarintError, none_is_insufficient};
 
 pub(crate) mod word;
 
@@ -93,7 +93,7 @@ pub fn write<W: Write>(n: u64, w: &mut W) -> Result<usize, Error>
 /// # Errors
 ///
 /// - [`Error::is_insufficient`] if the bytes end within or before the varint.
-/// - [`Error::is_overflow`] if the varint has more than nine bytes (2^63 or more).
+/// - [`Error::is_overflow`] if the varint has more than nine bytes, as every number of 2^63 or more needs.
 /// - [`Error::is_not_minimal`] if a varint of more than one byte ends in a zero byte.
 pub fn read_front(bytes: &[u8]) -> Result<(u64, usize), Error>
     ensures ok { IfOk result (λ found. IsVarint found.0 (take found.1 bytes.now)
@@ -113,7 +113,7 @@ pub fn read_front(bytes: &[u8]) -> Result<(u64, usize), Error>
     }
 }
 
-// As `len`, of a number that is known to be in range.
+// The length of the varint of a number that is known to be in range.
 #[inline(always)]
 pub(crate) fn len_in_range(n: u64) -> usize
     requires { n < varint_limit }
@@ -133,7 +133,7 @@ pub(crate) fn len_in_range(n: u64) -> usize
     (70 - n.leading_zeros() as usize) / 7
 }
 
-// As `write`, of a number that is known to be in range.
+// Appends the varint of a number that is known to be in range, as `write` does.
 #[inline(always)]
 pub(crate) fn write_in_range<W: Write>(n: u64, w: &mut W) -> Result<usize, no_std_io::Error>
     requires { n < varint_limit }
@@ -197,9 +197,9 @@ fn three_bytes(n: u64) -> [u8; 3]
 /// # Errors
 ///
 /// - [`Error::is_insufficient`] if the input ends within or before the varint; all of it was consumed.
-/// - [`Error::is_overflow`] if the varint has more than nine bytes (2^63 or more), and
-///   [`Error::is_not_minimal`] if a varint of more than one byte ends in a zero byte; the bytes up to
-///   the one that shows it were consumed.
+/// - [`Error::is_overflow`] if the varint has more than nine bytes, as every number of 2^63 or more needs,
+///   and [`Error::is_not_minimal`] if a varint of more than one byte ends in a zero byte; the last byte
+///   consumed is the one that determines the error.
 /// - [`Error::io`] with the reader's own error if it failed; what was consumed is a truncated varint.
 // In line, so that the usual varint, of one byte, is no call.
 #[inline(always)]
@@ -217,8 +217,12 @@ pub fn read<R: Read>(r: &mut R) -> Result<u64, Error>
     }
 }
 
-/// As [`read`], but returns `None` instead of an error if the input ended before the varint. If the
-/// input is not known, it does so if the reader has no byte to give.
+/// Reads the varint that comes next, as [`read`] does, but returns `None` instead of an error if the
+/// input ended before the varint: for a reader without known input, if its `read` returns 0.
+///
+/// # Errors
+///
+/// Those of [`read`], except that for an input that ended before the varint.
 #[inline(always)]
 pub fn read_next<R: Read>(r: &mut R) -> Result<Option<u64>, Error>
     ensures faults { CountsReaderFailures IsReaderError IsAnyVarintError
@@ -239,7 +243,7 @@ pub fn read_next<R: Read>(r: &mut R) -> Result<Option<u64>, Error>
     Ok(Some(read_after(r, first)?))
 }
 
-// As `read`, of a varint whose first byte was read and is a continuation byte.
+// Reads the rest of a varint whose first byte was read and is a continuation byte, as `read` does.
 #[inline(never)]
 fn read_after<R: Read>(r: &mut R, first: u8) -> Result<u64, Error>
     requires { IsContinuation first }

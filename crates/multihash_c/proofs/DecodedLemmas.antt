@@ -56,9 +56,9 @@ made_of : (d : Decoded) (size code offset n : ℕ) → d.size ≡ size → d.cod
 made_of d size code offset n a b c e = rw (sym a, sym b, sym c, sym e) refl
 
 -- an error is determined by what it reports and what was consumed
-pub rejected_so : (d : Decoded) (status size code : ℕ) → ReportsRefusal d status size code
+pub reports_rejected : (d : Decoded) (status size code : ℕ) → ReportsRefusal d status size code
     → d ≡ record { status = d.status; size = size; code = code; digest_offset = 0; digest_length = 0; taken = d.taken }
-rejected_so d status size code h = made_of d size code 0 0 h.is_size h.is_code h.no_offset h.no_length
+reports_rejected d status size code h = made_of d size code 0 0 h.is_size h.is_code h.no_offset h.no_length
 
 -- a size that is one byte is not above 255
 pub byte_fits : (input : List ℕ) (size : ℕ) → IsBytes input → ¬ (HasScaleVerdict 255 input (invalid_size size))

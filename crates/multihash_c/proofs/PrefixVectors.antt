@@ -77,9 +77,9 @@ takes_no_prefix_alone h = omega (arith, h.taken)
 reports_no_end : ¬ (ReportsPrefix both 3 (answer 6 0 0 0 0 3))
 reports_no_end h =
     let whole : List ℕ = 0 ∷ 1 ∷ 9 ∷ [] in
-    let (v, has, tells) = h.verdict whole refl (9 ∷ [], refl) (inr (inr both_end)) in
+    let (v, has, reports) = h.verdict whole refl (9 ∷ [], refl) (inr (inr both_end)) in
     let there : HasWholeVerdict 255 whole (accepted (pair 0 (9 ∷ []))) =
     whole_exact 0 1 2 whole (head_kept 0 1 2 both whole (9 ∷ [], refl) both_head) 255 (omega arith) (9 ∷ []) refl refl in
     let told : Reports whole (answer 6 0 0 0 0 3) (accepted (pair 0 (9 ∷ []))) =
-    subst (Reports whole (answer 6 0 0 0 0 3)) (whole_verdict_unique 255 whole v (accepted (pair 0 (9 ∷ []))) has there) tells in
+    subst (Reports whole (answer 6 0 0 0 0 3)) (whole_verdict_unique 255 whole v (accepted (pair 0 (9 ∷ []))) has there) reports in
     omega (arith, told.is_ok)

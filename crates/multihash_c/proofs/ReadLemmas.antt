@@ -24,33 +24,33 @@ module _ (limit code size len : ℕ) (input : List ℕ) (h : HasHead code size l
   varints : List ℕ
   varints = h.varints.code_bytes ++ h.varints.size_bytes
 
-  cut_at : d.taken ≡ len → input ≡ varints ++ drop d.taken input
+  cut_at_digest : d.taken ≡ len → input ≡ varints ++ drop d.taken input
   unfolding varints
-  cut_at at =
+  cut_at_digest at =
       h.varints.cut ∙ sym (append_assoc h.varints.code_bytes h.varints.size_bytes (drop len input))
       ∙ ap (λ n. (h.varints.code_bytes ++ h.varints.size_bytes) ++ drop n input) (sym at)
 
   -- a size that is too large
   pub size_read : digest_limit limit < size → d.taken ≡ len → Reports input d (invalid_size size) → ReadsWithin limit input d
   unfolding varints
-  size_read over at tells =
+  size_read over at reports =
       let has : HasVerdict limit input (invalid_size size) = (drop len input, h.varints, over) in
       record {
-        verdict = (invalid_size size, has, tells);
+        verdict = (invalid_size size, has, reports);
         inside = omega (arith, h.within, at);
         settled = λ v also late.
-            record { front = varints; shortest = shortest_size limit size input (drop len input) h.varints over; consumes = ap Some (cut_at at) };
+            record { front = varints; shortest = shortest_size limit size input (drop len input) h.varints over; consumes = ap Some (cut_at_digest at) };
         insufficient = λ also. absurd (other_kind limit input (invalid_size size) (malformed insufficient) has also tt (λ e. e));
         cut = λ also. absurd (other_kind limit input (invalid_size size) unexpected_eof has also tt (λ e. e));
       }
 
   -- a truncated digest
   pub end_read : size ≤ digest_limit limit → length input - len < size → d.taken ≡ len → Reports input d unexpected_eof → ReadsWithin limit input d
-  end_read within short at tells =
+  end_read within short at reports =
       let has : HasVerdict limit input unexpected_eof =
       (size, drop len input, h.varints, within, omega (arith, short, length-drop len input)) in
       record {
-        verdict = (unexpected_eof, has, tells);
+        verdict = (unexpected_eof, has, reports);
         inside = omega (arith, h.within, at);
         settled = λ v also late. absurd (other_kind limit input v unexpected_eof also has tt late);
         insufficient = λ also.
@@ -61,10 +61,10 @@ module _ (limit code size len : ℕ) (input : List ℕ) (h : HasHead code size l
       }
 
   -- the digest is there
-  pub read_of_encoding : size ≤ digest_limit limit → len + size ≤ length input → d.taken ≡ len + size
+  pub reads_encoding : size ≤ digest_limit limit → len + size ≤ length input → d.taken ≡ len + size
       → ((p : Pair) → p.code ≡ code → p.digest ≡ take size (drop len input) → Reports input d (accepted p))
       → ReadsWithin limit input d
-  read_of_encoding within there at tells =
+  reads_encoding within there at reports =
       let rest = drop size (drop len input) in
       let p : Pair = record { code = h.varints.code; digest = take size (drop len input) } in
       let long : length p.digest ≡ size = length-take-le size (drop len input) (omega (arith, there, length-drop len input)) in
@@ -74,7 +74,7 @@ module _ (limit code size len : ℕ) (input : List ℕ) (h : HasHead code size l
       let fits : length p.digest ≤ digest_limit limit = omega (arith, long, within) in
       let has : HasVerdict limit input (accepted p) = (rest, begins, fits) in
       record {
-        verdict = (accepted p, has, tells p h.is_code refl);
+        verdict = (accepted p, has, reports p h.is_code refl);
         inside = omega (arith, there, at);
         settled = λ v also late. record {
           front = begins.encoding;
@@ -92,8 +92,8 @@ module _ (input : List ℕ) (e : Refusal) (taken : ℕ) (h : IsHeadError input e
   same_fault f also = let same = verdict_unique limit input (malformed h.fault) (malformed f) (h.verdict limit) also in cc
 
   pub fault_read : (d : Decoded) → d.taken ≡ taken → ReportsRefusal d (status_of_fault h.fault) 0 0 → ReadsWithin limit input d
-  fault_read d at tells = record {
-    verdict = (malformed h.fault, h.verdict limit, tells);
+  fault_read d at reports = record {
+    verdict = (malformed h.fault, h.verdict limit, reports);
     inside = omega (arith, h.within, at);
     settled = λ v also late.
         rw at (h.settled limit (λ early. other_kind limit input v (malformed h.fault) also (h.verdict limit) early late));
@@ -131,9 +131,9 @@ fault_whole overflow front input (more, cut) has (inr late) = rw cut (verdict_ke
 fault_whole not_minimal front input (more, cut) has (inr late) = rw cut (verdict_kept 255 front more (malformed not_minimal) (λ e. e) has)
 
 -- as many bytes as two varints may have do not end within them
-pub two_varints : (S : ℕ) (x : List ℕ) → 2 * (max_continuation + 1) ≤ length x → ¬ (HasVerdict S x (malformed insufficient))
-two_varints S x long (inl h) = omega (arith, long, h.few)
-two_varints S x long (inr (rest, c, h)) =
+pub has_two_varints : (S : ℕ) (x : List ℕ) → 2 * (max_continuation + 1) ≤ length x → ¬ (HasVerdict S x (malformed insufficient))
+has_two_varints S x long (inl h) = omega (arith, long, h.few)
+has_two_varints S x long (inr (rest, c, h)) =
     omega (arith, long, h.few, varint_longest c.code c.code_bytes c.is_code, ap length c.cut, length-append c.code_bytes rest)
 
 -- what a prefix determines, the bytes of it that count determine
@@ -145,7 +145,7 @@ determines_cut prefix front len is enough =
           let same : front ≡ prefix = is ∙ take_all len prefix (omega (arith, short)) in
           elim enough [
             | inl all ↦ absurd (omega (arith, all, short))
-            | inr (inl long) ↦ inr (two_varints 255 front (omega (arith, long, ap length same)))
+            | inr (inl long) ↦ inr (has_two_varints 255 front (omega (arith, long, ap length same)))
             | inr (inr late) ↦ inr (subst (λ z. ¬ (HasVerdict 255 z (malformed insufficient))) (sym same) late)
           ]
       | inr all ↦ inl (omega (arith, ap length is, length-take-le len prefix all))

@@ -11,9 +11,9 @@ use Rattle.multihash.proofs.Examples.ConsumingVectors.{takes_no_byte_after_size,
 use Rattle.multihash.proofs.Examples.PairVectors.{pair}
 use Rattle.multihash.proofs.Examples.VarintVectors.{varint_0, varint_1, varint_4, varint_5}
 use Rattle.multihash.proofs.Examples.VerdictVectors.{size_5, digest_cut, empty_input, code_alone, size_open}
-use Rattle.multihash_c.specs.Decoded.{Reports, ReadsWithin, ReportsHead, ReportsError, ReadsFront}
+use Rattle.multihash_c.specs.Decoded.{Reports, ReadsWithin, ReportsHead, ReportsHeadError, ReadsFront}
 use Rattle.multihash_c.proofs.DecodedVectors.{answer, input}
-use Rattle.multihash_c.proofs.ReadLemmas.{size_read, end_read, read_of_encoding, fault_read}
+use Rattle.multihash_c.proofs.ReadLemmas.{size_read, end_read, reads_encoding, fault_read}
 use Rattle.multihash.proofs.Varints.VarintLemmas.{same_number}
 use Rattle.multihash_c.specs.declared.decode.Front.{Front}
 use Rattle.multihash_c.specs.Status.{status_of_fault}
@@ -54,7 +54,7 @@ pair_head = record {
 
 reads_pair : ReadsWithin 4 input (answer 0 0 0 2 1 3)
 reads_pair =
-    read_of_encoding 4 0 1 2 input pair_head (answer 0 0 0 2 1 3) (omega arith) (omega arith) refl
+    reads_encoding 4 0 1 2 input pair_head (answer 0 0 0 2 1 3) (omega arith) (omega arith) refl
     (λ p code appends. record {
       is_ok = refl;
       no_size = refl;
@@ -101,9 +101,9 @@ reads_nothing = reads_insufficient [] (λ S. empty_input)
 -- the verdict on no bytes is returned too
 reads_nothing_as_no_end : ¬ (ReadsWithin 4 [] (answer 6 0 0 0 0 0))
 reads_nothing_as_no_end h =
-    let (v, has, tells) = h.verdict in
+    let (v, has, reports) = h.verdict in
     let told : Reports [] (answer 6 0 0 0 0 0) (malformed insufficient) =
-    subst (Reports [] (answer 6 0 0 0 0 0)) (verdict_unique 4 [] v (malformed insufficient) has empty_input) tells in
+    subst (Reports [] (answer 6 0 0 0 0 0)) (verdict_unique 4 [] v (malformed insufficient) has empty_input) reports in
     omega (arith, told.is_status)
 
 reads_code_alone : ReadsWithin 4 (0 ∷ []) (answer 1 0 0 0 0 1)
@@ -123,18 +123,18 @@ reads_fault =
 -- the verdict is the one that holds
 reads_no_other_verdict : ¬ (ReadsWithin 4 large (answer 6 0 0 0 0 2))
 reads_no_other_verdict h =
-    let (v, has, tells) = h.verdict in
+    let (v, has, reports) = h.verdict in
     let told : Reports large (answer 6 0 0 0 0 2) (invalid_size 5) =
-    subst (Reports large (answer 6 0 0 0 0 2)) (verdict_unique 4 large v (invalid_size 5) has large_verdict) tells in
+    subst (Reports large (answer 6 0 0 0 0 2)) (verdict_unique 4 large v (invalid_size 5) has large_verdict) reports in
     omega (arith, told.is_status)
 
 -- for a limit of five the size is not too large
 reads_no_size_that_fits : ¬ (ReadsWithin 5 large (answer 4 5 0 0 0 2))
 reads_no_size_that_fits h =
-    let (v, has, tells) = h.verdict in
+    let (v, has, reports) = h.verdict in
     let waits : HasVerdict 5 large unexpected_eof = (5, 9 ∷ [], size_5 (9 ∷ []), omega arith, omega arith) in
     let told : Reports large (answer 4 5 0 0 0 2) unexpected_eof =
-    subst (Reports large (answer 4 5 0 0 0 2)) (verdict_unique 5 large v unexpected_eof has waits) tells in
+    subst (Reports large (answer 4 5 0 0 0 2)) (verdict_unique 5 large v unexpected_eof has waits) reports in
     omega (arith, told.is_status)
 
 -- at most the whole input is consumed
@@ -277,7 +277,7 @@ head_takes_its_size h = omega (arith, (head_is 0 5 1 h.has).2)
 
 -- ---- a malformed varint
 
-reports_fault : ReportsError padded (front 3 0 0 2)
+reports_fault : ReportsHeadError padded (front 3 0 0 2)
 reports_fault = record {
   fault = not_minimal;
   is_status = refl;
@@ -292,7 +292,7 @@ head_reads_fault : ReadsFront padded (front 3 0 0 2)
 head_reads_fault = inr reports_fault
 
 -- a code with no size is consumed whole
-head_reports_insufficient : ReportsError (0 ∷ []) (front 1 0 0 1)
+head_reports_insufficient : ReportsHeadError (0 ∷ []) (front 1 0 0 1)
 head_reports_insufficient = record {
   fault = insufficient;
   is_status = refl;
@@ -303,28 +303,28 @@ head_reports_insufficient = record {
       (record { is_status = refl; is_size = refl; is_code = refl; no_offset = refl; no_length = refl });
 }
 
-fault_has_no_code : ¬ (ReportsError padded (front 3 1 0 2))
+fault_has_no_code : ¬ (ReportsHeadError padded (front 3 1 0 2))
 fault_has_no_code h = omega (arith, h.no_code)
 
-fault_has_no_length : ¬ (ReportsError padded (front 3 0 1 2))
+fault_has_no_length : ¬ (ReportsHeadError padded (front 3 0 1 2))
 fault_has_no_length h = omega (arith, h.no_length)
 
-fault_takes_no_byte_after_it : ¬ (ReportsError padded (front 3 0 0 3))
+fault_takes_no_byte_after_it : ¬ (ReportsHeadError padded (front 3 0 0 3))
 fault_takes_no_byte_after_it h = reads_no_byte_after_fault (h.reads 4)
 
-insufficient_takes_all : ¬ (ReportsError (0 ∷ []) (front 1 0 0 0))
+insufficient_takes_all : ¬ (ReportsHeadError (0 ∷ []) (front 1 0 0 0))
 insufficient_takes_all h = reads_no_part_of_insufficient (h.reads 4)
 
 -- the error is that of the varint at the front
-fault_has_its_status : ¬ (ReportsError padded (front 2 0 0 2))
+fault_has_its_status : ¬ (ReportsHeadError padded (front 2 0 0 2))
 fault_has_its_status h =
-    let (v, has, tells) = (h.reads 4).verdict in
+    let (v, has, reports) = (h.reads 4).verdict in
     let told : Reports padded (answer 2 0 0 0 0 2) (malformed not_minimal) =
-    subst (Reports padded (answer 2 0 0 0 0 2)) (verdict_unique 4 padded v (malformed not_minimal) has (inl (padded_front (0x07 ∷ [])))) tells in
+    subst (Reports padded (answer 2 0 0 0 0 2)) (verdict_unique 4 padded v (malformed not_minimal) has (inl (padded_front (0x07 ∷ [])))) reports in
     omega (arith, told.is_status)
 
 -- a size above the limit is no error of a varint
-size_is_no_fault : ¬ (ReportsError large (front 4 0 0 2))
+size_is_no_fault : ¬ (ReportsHeadError large (front 4 0 0 2))
 size_is_no_fault h = no_status h.fault h.is_status
   where
     no_status : (f : VarintError) → ¬ (4 ≡ status_of_fault f)

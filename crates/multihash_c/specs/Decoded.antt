@@ -87,7 +87,7 @@ pub record ReportsHead (input : List ℕ) (f : Front) : Type 0 where
 
 -- a varint at the front is malformed: reading returns the same error for each limit, and consumes as
 -- much
-pub record ReportsError (input : List ℕ) (f : Front) : Type 0 where
+pub record ReportsHeadError (input : List ℕ) (f : Front) : Type 0 where
   pub fault : VarintError
   pub is_status : f.status ≡ status_of_fault fault
   pub no_code : f.code ≡ 0
@@ -102,4 +102,4 @@ pub record ReportsError (input : List ℕ) (f : Front) : Type 0 where
   })
 
 abbrev pub ReadsFront : List ℕ → Front → Type 0
-ReadsFront input f = ReportsHead input f ⊎ ReportsError input f
+ReadsFront input f = ReportsHead input f ⊎ ReportsHeadError input f

@@ -20,11 +20,17 @@ const CODE_LEN: usize = SCALE_HEAD - 1;
 #[repr(C)]
 #[derive(Clone, Copy, Debug, PartialEq, Eq)]
 pub struct Decoded {
+    /// 0 (`status::OK`) or the error.
     pub status: u32,
+    /// The invalid size: the length of a digest that is too long, or the number of trailing bytes.
     pub size: u64,
+    /// The code, also an invalid one.
     pub code: u64,
+    /// The index at which the digest starts in the input.
     pub digest_offset: usize,
+    /// The digest's length in bytes.
     pub digest_length: usize,
+    /// The number of bytes consumed.
     pub taken: usize,
 }
 
@@ -32,9 +38,13 @@ pub struct Decoded {
 #[repr(C)]
 #[derive(Clone, Copy, Debug, PartialEq, Eq)]
 pub struct Front {
+    /// 0 (`status::OK`) or the error.
     pub status: u32,
+    /// The code.
     pub code: u64,
+    /// The digest's length in bytes as encoded; it may exceed 255.
     pub digest_length: u64,
+    /// The number of bytes consumed; if there is no error, the index at which the digest starts.
     pub taken: usize,
 }
 
@@ -47,8 +57,8 @@ pub extern "C" fn multihash_from_bytes(bytes: &[u8]) -> Decoded
     decode_whole(bytes, bytes.len())
 }
 
-/// Decodes each input of `whole_length` bytes that begins with `prefix` as `multihash_from_bytes` does. It
-/// takes the whole of the input, or its first bytes: eighteen suffice, as two varints have no more.
+/// Decodes an input of `whole_length` bytes as `multihash_from_bytes` does. `prefix` is the whole input, or
+/// at least its first 18 bytes, the most that two varints have.
 #[unsafe(no_mangle)]
 pub extern "C" fn multihash_from_prefix(prefix: &[u8], whole_length: usize) -> Decoded
     ensures { ReportsPrefix prefix.now whole_length result }
@@ -104,13 +114,13 @@ pub extern "C" fn multihash_scale_decode(bytes: &[u8]) -> Decoded
     ensures inside { result.taken ≤ length bytes.now }
 {
     let mut rest = bytes;
-    let answer = Multihash::<DIGEST_MAX>::scale_decode(&mut rest);
+    let decoded = Multihash::<DIGEST_MAX>::scale_decode(&mut rest);
     let taken = bytes.len() - rest.len();
-    match answer {
+    match decoded {
         Ok(multihash) => accept(multihash.code(), usize::from(multihash.size()), taken),
         Err(error) => match error.invalid_code() {
-            Some(code) => refuse_code(code, taken),
-            None => refuse_end(whole_parts(bytes.len())),
+            Some(code) => rejected_code(code, taken),
+            None => rejected_end(whole_parts(bytes.len())),
         },
     }
 }
@@ -129,18 +139,18 @@ fn decode_whole(front: &[u8], whole_length: usize) -> Decoded
 {
     let Some(head) = Head::find_front(front) else {
         let (status, _) = fault(front);
-        return refusal(status, 0, 0, whole_length);
+        return rejected(status, 0, 0, whole_length);
     };
     if head.digest_len > DIGEST_MAX as u64 {
-        return refuse_size(head.digest_len, whole_length);
+        return rejected_size(head.digest_len, whole_length);
     }
     let size = head.digest_len as usize;
     let left = whole_length - head.digest_offset;
     if left < size {
-        return refuse_end(whole_length);
+        return rejected_end(whole_length);
     }
     if left > size {
-        return refuse_size((left - size) as u64, whole_length);
+        return rejected_size((left - size) as u64, whole_length);
     }
     accept(head.code, size, whole_length)
 }
@@ -153,14 +163,14 @@ fn read_within(bytes: &[u8], limit: usize) -> Decoded
 {
     let Some(head) = Head::find_front(bytes) else {
         let (status, taken) = fault(bytes);
-        return refusal(status, 0, 0, taken);
+        return rejected(status, 0, 0, taken);
     };
     if head.digest_len > limit as u64 || head.digest_len > DIGEST_MAX as u64 {
-        return refuse_size(head.digest_len, head.digest_offset);
+        return rejected_size(head.digest_len, head.digest_offset);
     }
     let size = head.digest_len as usize;
     if bytes.len() - head.digest_offset < size {
-        return refuse_end(head.digest_offset);
+        return rejected_end(head.digest_offset);
     }
     accept(head.code, size, head.digest_offset + size)
 }
@@ -209,7 +219,7 @@ fn whole_parts(present: usize) -> usize
 // The result for a pair whose digest is the last part consumed.
 fn accept(code: u64, digest_length: usize, taken: usize) -> Decoded
     requires { digest_length ≤ taken }
-    ensures tells { (input : List ℕ) (p : Pair) → p.code ≡ code → taken ≤ length input
+    ensures reports { (input : List ℕ) (p : Pair) → p.code ≡ code → taken ≤ length input
         → p.digest ≡ take result.digest_length (drop result.digest_offset input)
         → Reports input result (accepted p) }
     ensures offset { result.digest_offset + digest_length ≡ taken }
@@ -227,32 +237,32 @@ fn accept(code: u64, digest_length: usize, taken: usize) -> Decoded
 }
 
 // The result for a digest that is too long.
-fn refuse_size(size: u64, taken: usize) -> Decoded
-    ensures tells { (input : List ℕ) → Reports input result (invalid_size size) }
+fn rejected_size(size: u64, taken: usize) -> Decoded
+    ensures reports { (input : List ℕ) → Reports input result (invalid_size size) }
     ensures taken { result.taken ≡ taken }
 {
-    refusal(status::INVALID_SIZE, size, 0, taken)
+    rejected(status::INVALID_SIZE, size, 0, taken)
 }
 
 // The result for a code that is out of range.
-fn refuse_code(code: u64, taken: usize) -> Decoded
-    ensures tells { (input : List ℕ) → Reports input result (invalid_code code) }
+fn rejected_code(code: u64, taken: usize) -> Decoded
+    ensures reports { (input : List ℕ) → Reports input result (invalid_code code) }
     ensures taken { result.taken ≡ taken }
 {
-    refusal(status::INVALID_CODE, 0, code, taken)
+    rejected(status::INVALID_CODE, 0, code, taken)
 }
 
 // The result for a truncated digest.
-fn refuse_end(taken: usize) -> Decoded
-    ensures tells { (input : List ℕ) → Reports input result unexpected_eof }
+fn rejected_end(taken: usize) -> Decoded
+    ensures reports { (input : List ℕ) → Reports input result unexpected_eof }
     ensures taken { result.taken ≡ taken }
 {
-    refusal(status::UNEXPECTED_EOF, 0, 0, taken)
+    rejected(status::UNEXPECTED_EOF, 0, 0, taken)
 }
 
 // The result with that status, which has no digest.
-fn refusal(status: u32, size: u64, code: u64, taken: usize) -> Decoded
-    ensures tells { ReportsRefusal result status size code }
+fn rejected(status: u32, size: u64, code: u64, taken: usize) -> Decoded
+    ensures reports { ReportsRefusal result status size code }
     ensures taken { result.taken ≡ taken }
 {
     Decoded {

@@ -15,8 +15,11 @@ use multihash::varint;
 #[repr(C)]
 #[derive(Clone, Copy, Debug, PartialEq, Eq)]
 pub struct Encoded {
+    /// 0 (`status::OK`) or the error.
     pub status: u32,
+    /// The length of a digest that is too long.
     pub size: u64,
+    /// The number of bytes of the encoding: written, or required if the buffer is too small.
     pub length: usize,
 }
 
@@ -42,10 +45,10 @@ pub extern "C" fn multihash_scale_encode(code: u64, digest: &[u8], out: &mut [u8
 {
     // With one helper for these tests and those of `needed` it needs seven more instructions.
     if digest.len() > DIGEST_MAX {
-        return refuse_size(digest.len() as u64);
+        return rejected_size(digest.len() as u64);
     }
     if code > varint::MAX {
-        return refuse_code();
+        return rejected_code();
     }
     let form_length = SCALE_HEAD + digest.len();
     if form_length <= out.len() {
@@ -95,16 +98,16 @@ fn needed(code: u64, digest_length: usize) -> Result<usize, Encoded>
         ⊎ ((digest_length ≤ 255) × (varint_limit ≤ code) × IsLargeCode e)) }
 {
     if digest_length > DIGEST_MAX {
-        return Err(refuse_size(digest_length as u64));
+        return Err(rejected_size(digest_length as u64));
     }
     match (varint::len(code), varint::len(digest_length as u64)) {
         (Ok(code_length), Ok(size_length)) => Ok(code_length + size_length + digest_length),
-        _ => Err(refuse_code()),
+        _ => Err(rejected_code()),
     }
 }
 
 // The result for a digest that is too long.
-fn refuse_size(size: u64) -> Encoded
+fn rejected_size(size: u64) -> Encoded
     ensures { IsTooLong size result }
 {
     Encoded {
@@ -115,7 +118,7 @@ fn refuse_size(size: u64) -> Encoded
 }
 
 // The result for a code that is out of range.
-fn refuse_code() -> Encoded
+fn rejected_code() -> Encoded
     ensures { IsLargeCode result }
 {
     Encoded {

@@ -6,7 +6,7 @@ pub const OK: u32 = 0;
 /// The input ends within or before a varint.
 pub const INSUFFICIENT: u32 = 1;
 
-/// A varint has more than nine bytes: its number would be 2^63 or more.
+/// A varint has more than nine bytes, as every number of 2^63 or more needs.
 pub const OVERFLOW: u32 = 2;
 
 /// A varint of more than one byte ends in a zero byte.

@@ -6,10 +6,10 @@ use Rattle.std.proofs.lemmas.List.Sums.{fold_push}
 use Rattle.std.proofs.lemmas.Bool.{false≢true}
 use Rattle.std.proofs.lemmas.Option.{slice_get-map, slice_get_read, slice_get-get_or, slice_get_within}
 use Rattle.multihash.specs.Pair.{Pair}
-use Rattle.multihash.specs.Outcome.{Fields, pair_of}
+use Rattle.multihash.specs.Multihash.{Fields, pair_of}
 use Rattle.storage.specs.declared.merkle.Step.{Step}
 use Rattle.storage.specs.Content.{content_pair}
-use Rattle.storage.specs.Merkle.{above, parent_pair, PathStep, root_from}
+use Rattle.storage.specs.Merkle.{above, leaf_pair, parent_pair, PathStep, root_from}
 use Rattle.storage.specs.Levels.{level, level_above, index_above, IsRoot, IsStep, HasNoSibling, IsPath, none, without_step, one_more, IsPathToRoot, LeadsFrom}
 use Rattle.storage.specs.Step.{step_of}
 
@@ -54,11 +54,11 @@ alone_above nodes index node last at = rw (rw add-one at last.last) at (above_tw
 -- the node to which a path leads
 path_leads : (leaves : List Pair) (index : ℕ) (leaf : Pair) → slice_get leaves index ≡ Some leaf → (height : ℕ) (path : List PathStep)
     → IsPath leaves index height path → slice_get (level height leaves) (index_above height index) ≡ Some (root_from leaf path)
-path_leads leaves index leaf is height path none = is
+path_leads leaves index leaf is height path none = rw (slice_get-map leaf_pair leaves index, is) refl
 path_leads leaves index leaf is height path (without_step h p is_path last) =
     alone_above (level h leaves) (index_above h index) (root_from leaf p) last (path_leads leaves index leaf is h p is_path)
 path_leads leaves index leaf is height path (one_more h p step is_path up) =
-    rw (fold_push above leaf p step)
+    rw (fold_push above (leaf_pair leaf) p step)
     (by_step (level h leaves) (index_above h index) (root_from leaf p) step.sibling step.is_left up (path_leads leaves index leaf is h p is_path))
 
 no_longer : (nodes : List Pair) → length (level_above nodes) ≤ length nodes
@@ -83,8 +83,8 @@ pub record Climbs (leaves : List Pair) (index : ℕ) (nodes : List Pair) (at : �
   pub is_at : index_above height index ≡ at
   pub is_path : IsPath leaves index height path
 
-pub climbs_none : (leaves : List Pair) (index : ℕ) → Climbs leaves index leaves index []
-climbs_none leaves index = record { height = 0; is_level = refl; is_at = refl; is_path = none }
+pub climbs_none : (leaves nodes : List Pair) (index : ℕ) → nodes ≡ map leaf_pair leaves → Climbs leaves index nodes index []
+climbs_none leaves nodes index is = record { height = 0; is_level = sym is; is_at = refl; is_path = none }
 
 -- one level higher, by a step or without
 module _ (leaves : List Pair) (index : ℕ) (nodes : List Pair) (at : ℕ) (path : List Step) (next : List Pair)

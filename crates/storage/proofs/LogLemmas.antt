@@ -1,5 +1,5 @@
 -- An entry that comes next, and how reading one fails.
-use Rattle.std.proofs.Common.{◌≡◌, ◌+◌, ◌≤◌, ℕ, ◌⊎◌, List, ◌++◌, Option, Some, Result, Ok, Err, MatchResult, IfSome, IfErr, length, take, drop, inl, inr, refl, ap, ◌∙◌, append_assoc, length-append, sym, subst, arith}
+use Rattle.std.proofs.Common.{◌≡◌, ◌+◌, ◌<◌, ◌≤◌, ℕ, ◌⊎◌, List, ◌++◌, Option, Some, Result, Ok, Err, MatchResult, IfSome, IfErr, length, take, drop, inl, inr, refl, ap, ◌∙◌, append_assoc, length-append, sym, subst, arith}
 use Rattle.std.proofs.lemmas.List.{append_cancel_right}
 use Rattle.std.proofs.Math.Seq.{take-append_seam}
 use Rattle.std.proofs.lemmas.Bool.{cases_lt}
@@ -10,16 +10,16 @@ use Rattle.multihash.specs.Verdict.{Verdict, HasVerdict}
 use Rattle.multihash.specs.Outcome.{IsErrorOf}
 use Rattle.multihash.specs.Fault.{Fault, IsOwnFault, IsUnexpectedEof}
 use Rattle.multihash.specs.Reading.{Consumes, ConsumesFewerThan, HasFewerThan}
-use Rattle.multihash.specs.Refusal.{Refusal, IsOutOfMemory, IsReaderError, of_io}
-use Rattle.multihash.specs.Consuming.{ConsumesSome, ConsumesVarint, ConsumesAtVarintError, IsAnyVarintError, IsFrontError, VarintFails, ExactFails}
+use Rattle.multihash.specs.Refusal.{Refusal, IsOutOfMemory, IsReaderError, of_io, IsAnyVarintError, IsFrontError}
+use Rattle.multihash.specs.Consuming.{ConsumesSome, ConsumesVarint, ConsumesAtVarintError, VarintFails, ExactFails}
 use Rattle.multihash.proofs.Writings.EncodingLemmas.{encoding_unique, same_cut}
 use Rattle.multihash.proofs.Varints.VarintLemmas.{same_number}
-use Rattle.multihash.proofs.Readings.ReadingLemmas.{Consumes-told}
+use Rattle.multihash.proofs.Readings.ReadingLemmas.{Consumes-told, Consumes-concatenated, IfSome-consumed}
 use Rattle.multihash.proofs.CallingLemmas.{varint_read, read_of_encoding}
 use Rattle.sha2.proofs.Facts256.{length-sha256}
 use Rattle.storage.specs.Content.{content_pair}
 use Rattle.multihash.proofs.Forms.StreamLemmas.{parts_split, next_part}
-use Rattle.storage.specs.Log.{IsEntry, IsFailed, BlockFails, EntryFails, HasEntry, AreEntries}
+use Rattle.storage.specs.Log.{IsEntry, IsFailed, BytesFail, BlockFails, EntryFails, HasEntry, AreEntries}
 use Rattle.storage.specs.declared.log.EntryError.{EntryError}
 
 -- the parts of an entry and of what follows it
@@ -29,12 +29,6 @@ entry_cut p block bytes more h =
     ap (λ (z : List ℕ). z ++ more) h.parts
     ∙ (append_assoc h.encoding (h.len ++ block) more ∙ ap (λ (z : List ℕ). h.encoding ++ z) (append_assoc h.len block more))
 
--- an error of a kind that is passed on fails as they all do
-pub fails_by : {T : Type 0} {P : EntryError → Type 0} (S limit before after : ℕ) (old new : Option (List ℕ)) (r : Result T EntryError) → IsErrAnd r P
-    → ((e : EntryError) → P e → EntryFails S limit before after e old new) → IfErr r (λ x. EntryFails S limit before after x old new)
-fails_by S limit before after old new (Ok t) given all = absurd given
-fails_by S limit before after old new (Err e) given all = all e given
-
 -- reading the length failed: the facts are the clauses of `varint::read`
 pub varint_fails : (before middle after : ℕ) (old new : Option (List ℕ)) (e : Refusal) → middle ≡ before
     → ((after ≡ middle + 1) × IsReaderError e) ⊎ ((after ≡ middle) × IsAnyVarintError e)
@@ -42,25 +36,33 @@ pub varint_fails : (before middle after : ℕ) (old new : Option (List ℕ)) (e 
 varint_fails before middle after old new e same cause consumed front =
     subst (λ k. VarintFails k after e old new) same (record { cause = cause; consumed = consumed; front = front })
 
--- filling a buffer failed: the facts are the laws of `read_exact`
-pub exact_fails : (n m before middle after : ℕ) (old new : Option (List ℕ)) (fault : Fault) → m ≡ n → middle ≡ before
+-- filling a buffer of `m` bytes failed, after others of the `n` were read: the facts are the laws of `read_exact`
+pub chunk_fails : (n m before middle after : ℕ) (old mid new : Option (List ℕ)) (read : List ℕ) (fault : Fault)
+    → middle ≡ before → Consumes old read mid
     → ((after ≡ middle + 1) × IsOwnFault fault) ⊎ ((after ≡ middle) × IsUnexpectedEof fault)
-    → (IsUnexpectedEof fault → HasFewerThan m old) → ConsumesFewerThan m old new
+    → (IsUnexpectedEof fault → HasFewerThan m mid) → ConsumesFewerThan m mid new → length read + m ≤ n
     → ExactFails n before after (of_io fault) old new
-exact_fails n m before middle after old new fault long same (inl own) eof consumed = record {
-  cause = inl (own.0 ∙ ap (λ (k : ℕ). k + 1) same, (fault, refl, own.1));
-  consumed = subst (λ k. ConsumesFewerThan k old new) long consumed;
-  short = λ unfailed. absurd (omega (arith, own.0, same, unfailed));
-}
-exact_fails n m before middle after old new fault long same (inr ended) eof consumed = record {
-  cause = inr (ended.0 ∙ same, (fault, refl, ended.1));
-  consumed = subst (λ k. ConsumesFewerThan k old new) long consumed;
-  short = λ unfailed. subst (λ k. HasFewerThan k old) long (eof ended.1);
+chunk_fails n m before middle after old mid new read fault same consumes faults eof part long = record {
+  cause = elim faults [
+    | inl own ↦ inl (own.0 ∙ ap (λ (k : ℕ). k + 1) same, (fault, refl, own.1))
+    | inr ended ↦ inr (ended.0 ∙ same, (fault, refl, ended.1))
+  ];
+  consumed = record {
+    consumed = read ++ part.consumed;
+    fewer = omega (arith, part.fewer, length-append read part.consumed, long);
+    consumes = Consumes-concatenated old mid new read part.consumed _ refl consumes part.consumes;
+  };
+  short = λ unfailed. elim faults [
+    | inl own ↦ absurd (omega (arith, own.0, same, unfailed))
+    | inr ended ↦ IfSome-consumed old mid read (λ bytes. length bytes < n) consumes
+        (λ left is. omega (arith, (rw is at (eof ended.1)), length-append read left, long))
+  ];
 }
 
--- a buffer that was filled is the vector's items
-pub filled_items : (n : ℕ) (buf items : List ℕ) → length buf ≡ n → take n (buf ++ drop (length buf) items) ≡ buf
-filled_items n buf items long = rw (← long) (take-append_seam buf (drop (length buf) items))
+-- reading the bytes of a block failed, after a call that counted no failure
+pub bytes_fail : (n before middle after : ℕ) (old new : Option (List ℕ)) (e : EntryError) → middle ≡ before → BytesFail n middle after e old new
+    → BytesFail n before after e old new
+bytes_fail n before middle after old new e same fails = subst (λ k. BytesFail n k after e old new) same fails
 
 -- where an entry comes next, its multihash is read, and then its length
 module _ (p : Pair) (block bytes more : List ℕ) (h : IsEntry p block bytes) where
@@ -95,8 +97,8 @@ module _ (p : Pair) (block bytes more : List ℕ) (h : IsEntry p block bytes) wh
     block_fails : (e : EntryError) (n : ℕ) (left : Option (List ℕ)) → n ≡ length block → left ≡ Some (block ++ more)
         → BlockFails limit before after e n left new → IsFailed IsOutOfMemory e
     block_fails e n left long is (inl over) = absurd (omega (arith, over.1, long, within))
-    block_fails e n left long is (inr (inl memory)) = memory.0
-    block_fails e n left long is (inr (inr ((r, _, fails), few))) =
+    block_fails e n left long is (inr (few, inl memory)) = memory.0
+    block_fails e n left long is (inr (few, inr (r, _, fails))) =
         absurd (omega (arith, (rw is at fails.short) same, length-append block more, long))
 
     pub entry_fails : (e : EntryError) → EntryFails S limit before after e old new → IsFailed IsOutOfMemory e

@@ -1,7 +1,7 @@
 -- The levels of a Merkle tree over a list of leaves, and the path from a leaf to the root.
-use Rattle.std.specs.Prelude.{◌≡◌, ◌↔◌, ◌+◌, ◌-◌, ◌/◌, ◌%◌, ℕ, zero, suc, List, [], ◌∷◌, ◌++◌, None, Some, IsTrue, if◌then◌else◌, slice_get}
+use Rattle.std.specs.Prelude.{◌≡◌, ◌↔◌, ◌+◌, ◌-◌, ◌/◌, ◌%◌, ℕ, zero, suc, List, [], ◌∷◌, ◌++◌, map, None, Some, IsTrue, if◌then◌else◌, slice_get}
 use Rattle.multihash.specs.Pair.{Pair}
-use Rattle.storage.specs.Merkle.{parent_pair, PathStep, root_from}
+use Rattle.storage.specs.Merkle.{leaf_pair, parent_pair, PathStep, root_from}
 
 -- each two nodes have a parent above, and a last node without a sibling goes up unchanged
 abbrev pub level_above : List Pair → List Pair
@@ -9,9 +9,9 @@ level_above [] = []
 level_above (last ∷ []) = last ∷ []
 level_above (left ∷ (right ∷ nodes)) = parent_pair left right ∷ level_above nodes
 
--- the level at that height above the leaves
+-- the level at that height above the leaves' nodes
 abbrev pub level : ℕ → List Pair → List Pair
-level zero leaves = leaves
+level zero leaves = map leaf_pair leaves
 level (suc height) leaves = level_above (level height leaves)
 
 -- the index on that level of the node above the leaf at the index
@@ -19,7 +19,7 @@ abbrev pub index_above : ℕ → ℕ → ℕ
 index_above zero index = index
 index_above (suc height) index = index_above height index / 2
 
--- a level above the leaves is the root alone
+-- a level is the root alone
 pub record IsRoot (leaves : List Pair) (root : Pair) : Type 0 where
   pub height : ℕ
   pub alone : level height leaves ≡ root ∷ []

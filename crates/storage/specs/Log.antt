@@ -5,6 +5,7 @@ use Rattle.multihash.specs.Pair.{Pair, FitsBuffer}
 use Rattle.multihash.specs.Varint.{IsVarint}
 use Rattle.multihash.specs.Encoding.{IsEncoding}
 use Rattle.multihash.specs.Refusal.{Refusal, refusal_text, IsOutOfMemory}
+use Rattle.multihash.specs.Reading.{ConsumesFewerThan}
 use Rattle.multihash.specs.Consuming.{ConsumesSome, ConsumesVarint, FailsInTurn, ReadFails, VarintFails, ExactFails}
 use Rattle.multihash.specs.Streams.{AreParts}
 use Rattle.storage.specs.Content.{content_pair}
@@ -28,13 +29,17 @@ abbrev pub error_text : EntryError → List ℕ
 error_text (Failed refusal) = refusal_text refusal
 error_text (TooLong n) = codes "a block of " ++ decimal n ++ codes " bytes is too long"
 
--- a block of `n` bytes was not read: it is too long, or there is no memory for it, and nothing of it was
--- consumed; or its bytes could not be read
+-- reading `n` bytes of a block failed: memory ran out before all were read, or they could not be read
+abbrev pub BytesFail : ℕ → ℕ → ℕ → EntryError → Option (List ℕ) → Option (List ℕ) → Type 0
+BytesFail n before after e old new =
+    (IsFailed IsOutOfMemory e × (after ≡ before) × ConsumesFewerThan n old new)
+    ⊎ IsFailed (λ r. ExactFails n before after r old new) e
+
+-- a block of `n` bytes was not read: it is too long, and nothing of it was consumed; or its bytes failed
 abbrev pub BlockFails : ℕ → ℕ → ℕ → EntryError → ℕ → Option (List ℕ) → Option (List ℕ) → Type 0
 BlockFails limit before after e n old new =
     ((e ≡ TooLong n) × (limit < n) × (after ≡ before) × (new ≡ old))
-    ⊎ (IsFailed IsOutOfMemory e × (n ≤ limit) × (after ≡ before) × (new ≡ old))
-    ⊎ (IsFailed (λ r. ExactFails n before after r old new) e × (n ≤ limit))
+    ⊎ ((n ≤ limit) × BytesFail n before after e old new)
 
 -- the encoding of the pair, which fits, was consumed
 abbrev pub ConsumesPair : ℕ → Pair → Option (List ℕ) → Option (List ℕ) → Type 0
@@ -61,9 +66,9 @@ abbrev pub AreEntries : List ℕ → Type 0
 AreEntries bytes =
     (blocks : List (List ℕ)) × AreParts (λ block. IsEntry (content_pair block) block) blocks bytes
 
--- the front of the input is such entries, and the rest does not start with one
+-- the front of the input is such entries, and no longer front is
 pub record IsValidPrefix (front input : List ℕ) : Type 0 where
   pub entries : AreEntries front
   pub rest : List ℕ
   pub cut : input ≡ front ++ rest
-  pub ends : ¬ (HasEntry rest)
+  pub longest : (other more : List ℕ) → AreEntries other → input ≡ other ++ more → length other ≤ length front

@@ -1,6 +1,6 @@
 //! Hashes of bytes, and a writer and a reader that hash and count the bytes that pass.
 ghost use Rattle.std.specs.Prelude.{◌≡◌, ◌-◌, ◌^◌, List, ℕ, [], false, length, min};
-ghost use Rattle.multihash.specs.Outcome.{pair_of};
+ghost use Rattle.multihash.specs.Multihash.{pair_of};
 ghost use Rattle.storage.specs.Content.{content_pair};
 
 mod reader;

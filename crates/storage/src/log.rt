@@ -1,11 +1,11 @@
 //! A log of blocks: each entry is a multihash, the varint of the block's length, and the block.
 ghost use Rattle.std.specs.Prelude.{◌≡◌, ◌≤◌, ℕ, List, ◌++◌, Some, length, IfOk, IfErr, OnOk, OnErr, MatchResult, IfSome, IfNone};
 ghost use Rattle.multihash.specs.Pair.{Pair, FitsBuffer};
-ghost use Rattle.multihash.specs.Outcome.{pair_of};
+ghost use Rattle.multihash.specs.Multihash.{pair_of};
 ghost use Rattle.multihash.specs.Reading.{Consumes};
 ghost use Rattle.multihash.specs.Writing.{AppendsPrefix, CountsWriterFailures};
 ghost use Rattle.multihash.specs.Refusal.{IsIo, IsOutOfMemory, of_io};
-ghost use Rattle.storage.specs.Log.{IsEntry, IsFailed, error_text, EntryFails, HasEntry, AreEntries, IsValidPrefix};
+ghost use Rattle.storage.specs.Log.{IsEntry, IsFailed, error_text, BytesFail, EntryFails, HasEntry, IsValidPrefix};
 ghost use Rattle.storage.specs.Content.{content_pair};
 ghost use Rattle.storage.specs.declared.log.EntryError.TheVariants.{Failed};
 
@@ -14,6 +14,9 @@ use multihash::no_std_io::{self, Read, Write};
 use multihash::{Error, Multihash, varint};
 use std::alloc::{AllocError, Global};
 use std::fmt;
+
+// The most bytes that are read at once.
+const CHUNK: usize = 4096;
 
 /// A block and its multihash.
 #[derive(Debug, Drop)]
@@ -92,7 +95,10 @@ pub fn write_entry<const S: usize, W: Write>(
     Ok(())
 }
 
-/// Reads the entry that comes next. It consumes exactly that entry.
+/// Reads the entry that comes next. It consumes exactly that entry. It does not check that the multihash is
+/// the block's: `content::verify` does.
+///
+/// Memory grows with the bytes that arrive: a length that is only claimed allocates 4096 bytes at most.
 ///
 /// # Errors
 ///
@@ -100,10 +106,8 @@ pub fn write_entry<const S: usize, W: Write>(
 ///   the one that failed were consumed, and of that one what those calls consume.
 /// - [`EntryError::TooLong`] with the block's length if that is above `limit`; the multihash and the length
 ///   were consumed.
-/// - [`EntryError::Failed`] with out of memory, if there is none for a block within the limit; the multihash
-///   and the length were consumed.
-/// - [`EntryError::Failed`] with an unexpected end within the block, or with the reader's own error; fewer
-///   bytes than the block has were consumed of it.
+/// - [`EntryError::Failed`] with out of memory, with an unexpected end within the block, or with the reader's
+///   own error; the multihash and the length were consumed, and fewer bytes than the block has.
 pub fn read_entry<const S: usize, R: Read>(
     alloc: Global,
     r: &mut R,
@@ -128,9 +132,27 @@ pub fn read_entry<const S: usize, R: Read>(
     if len > limit as u64 {
         return Err(EntryError::TooLong(len));
     }
-    let mut block = vec![in alloc; 0; len as usize]?;
-    r.read_exact(&mut block)?;
+    let block = read_block(alloc, r, len as usize)?;
     Ok(Entry { hash, block })
+}
+
+// Reads a block of that length.
+fn read_block<R: Read>(alloc: Global, r: &mut R, len: usize) -> Result<Vec<u8>, EntryError>
+    ensures ok { IfOk result (λ block. (length block.items ≡ len)
+        × Consumes (R.rest r.old) block.items (R.rest r.new)) }
+    ensures unfailed { OnOk result (R.failures r.new ≡ R.failures r.old) }
+    ensures err { IfErr result (λ e. BytesFail len (R.failures r.old) (R.failures r.new) e
+        (R.rest r.old) (R.rest r.new)) }
+{
+    let mut block = Vec::new(alloc);
+    let mut chunk = [0; CHUNK];
+    while block.len() < len {
+        let more = (len - block.len()).min(CHUNK);
+        block.reserve(more)?;
+        r.read_exact(&mut chunk[..more])?;
+        block.write_all(&chunk[..more]).unwrap();
+    }
+    Ok(block)
 }
 
 // The bytes after the entry at the front, if there is one whose multihash is its block's.
@@ -143,9 +165,10 @@ fn after_entry(bytes: &[u8]) -> Option<&[u8]>
     let Ok(hash) = Multihash::<32>::read(&mut rest) else {
         return None;
     };
-    let Ok(len) = varint::read(&mut rest) else {
+    let Ok((len, used)) = varint::read_front(rest) else {
         return None;
     };
+    let (_, rest) = rest.split_at(used);
     if len > rest.len() as u64 {
         return None;
     }
@@ -156,12 +179,11 @@ fn after_entry(bytes: &[u8]) -> Option<&[u8]>
     Some(rest)
 }
 
-/// Returns the longest prefix of a log that is whole entries, each with the multihash of its block. A log
-/// that was truncated or corrupted can be continued after that prefix.
+/// Returns the longest prefix of a log that is whole entries, each with the SHA2-256 multihash of its block:
+/// an entry with another hash function ends it. A log that was truncated or corrupted can be continued after
+/// that prefix. Each block is hashed once.
 pub fn valid_prefix(bytes: &[u8]) -> &[u8]
-    ensures valid { IsValidPrefix result.now bytes.now }
-    ensures longest { (other more : List ℕ) → AreEntries other → bytes.now ≡ other ++ more →
-        length other ≤ length result.now }
+    ensures { IsValidPrefix result.now bytes.now }
 {
     let mut rest = bytes;
     while let Some(next) = after_entry(rest) {

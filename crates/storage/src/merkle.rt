@@ -1,15 +1,22 @@
-//! A binary Merkle tree: each inner node is the multihash of its children's encodings.
-ghost use Rattle.std.specs.Prelude.{◌≡◌, ◌↔◌, ◌<◌, IfOk, IsTrue, MatchOption, length, map};
-ghost use Rattle.multihash.specs.Outcome.{pair_of};
+//! A binary Merkle tree. The node of a leaf is the multihash of a byte 0 and the leaf's encoding; an inner
+//! node is that of a byte 1 and its children's encodings. The tree of RFC 6962 has the same shape and the same
+//! first bytes, but hashes digests in place of encodings.
+ghost use Rattle.std.specs.Prelude.{◌≡◌, ◌↔◌, ◌<◌, ◌∷◌, IfOk, IsTrue, MatchOption, length, map};
+ghost use Rattle.multihash.specs.Multihash.{pair_of};
 ghost use Rattle.multihash.specs.Encoding.{encoding_of};
-ghost use Rattle.storage.specs.Merkle.{above, parent_pair, root_from};
+ghost use Rattle.storage.specs.Merkle.{above, leaf_pair, parent_pair, root_from};
 ghost use Rattle.storage.specs.Hashing.{AddsBytes};
 ghost use Rattle.storage.specs.Levels.{level_above, HasNoSibling, IsStep, IsRoot, IsPathToRoot, LeadsFrom};
-ghost use Rattle.storage.specs.Step.{step_of, IsOnlyPath};
+ghost use Rattle.storage.specs.Step.{step_of, steps_of, IsOnlyPath};
 
 use crate::hashing::ContentHasher;
 use multihash::Multihash;
 use std::alloc::{AllocError, Global};
+
+// The first byte of what is hashed for a leaf, and for an inner node.
+const LEAF: u8 = 0;
+
+const INNER: u8 = 1;
 
 // Adds a node's encoding to what is hashed.
 fn push(node: &Multihash<32>, hasher: &mut ContentHasher)
@@ -18,11 +25,22 @@ fn push(node: &Multihash<32>, hasher: &mut ContentHasher)
     node.write(hasher).unwrap();
 }
 
-/// Returns the parent of two nodes.
+/// Returns the node of a leaf.
+pub fn leaf_node(leaf: &Multihash<32>) -> Multihash<32>
+    ensures { pair_of result ≡ leaf_pair (pair_of leaf.now) }
+{
+    let mut hasher = ContentHasher::new();
+    hasher.update(&[LEAF]);
+    push(leaf, &mut hasher);
+    hasher.finish()
+}
+
+/// Returns the node above two.
 pub fn parent(left: &Multihash<32>, right: &Multihash<32>) -> Multihash<32>
     ensures { pair_of result ≡ parent_pair (pair_of left.now) (pair_of right.now) }
 {
     let mut hasher = ContentHasher::new();
+    hasher.update(&[INNER]);
     push(left, &mut hasher);
     push(right, &mut hasher);
     hasher.finish()
@@ -50,18 +68,33 @@ impl Step {
     }
 }
 
-/// Returns whether the path leads from the leaf to the root. Nothing distinguishes a leaf from an inner node:
-/// a caller that needs to compares the path's length with the tree's height.
+/// Returns whether the path leads from the leaf to the root.
+///
+/// The sides of the siblings say which leaf of a tree it is. An inner node does not pass for a leaf, nor a
+/// leaf for an inner node: they are hashed apart.
 pub fn verify_path(leaf: &Multihash<32>, path: &[Step], root: &Multihash<32>) -> bool
     ensures accepts { IsTrue result ↔
-        (pair_of root.now ≡ root_from (pair_of leaf.now) (map step_of path.now)) }
+        (pair_of root.now ≡ root_from (pair_of leaf.now) (steps_of path.now)) }
+
+    // No other leaf is accepted in its place, unless two messages with one hash are known.
     ensures only { IsTrue result → IsOnlyPath (pair_of leaf.now) path.now (pair_of root.now) }
 {
-    let mut node = *leaf;
+    let mut node = leaf_node(leaf);
     for step in path {
         node = step.above(&node);
     }
-    node.same_as(root)
+    node == *root
+}
+
+// The nodes of the leaves.
+fn leaf_nodes(alloc: Global, leaves: &[Multihash<32>]) -> Result<Vec<Multihash<32>>, AllocError>
+    ensures { IfOk result (λ v. map pair_of v.items ≡ map leaf_pair (map pair_of leaves.now)) }
+{
+    let mut nodes = Vec::with_capacity(alloc, leaves.len())?;
+    for leaf in leaves {
+        nodes.push(leaf_node(leaf))?;
+    }
+    Ok(nodes)
 }
 
 // The nodes above: each two nodes have a parent, and a last node without a sibling goes up unchanged.
@@ -110,11 +143,11 @@ pub fn root_and_path(
     requires { index < length leaves.now }
     ensures root { IfOk result (λ made. IsRoot (map pair_of leaves.now) (pair_of made.0)) }
     ensures path { IfOk result (λ made. IsPathToRoot (map pair_of leaves.now) index
-        (map step_of made.1.items)) }
+        (steps_of made.1.items)) }
     ensures leads { IfOk result (λ made. LeadsFrom (map pair_of leaves.now) index
-        (map step_of made.1.items) (pair_of made.0)) }
+        (steps_of made.1.items) (pair_of made.0)) }
 {
-    let mut nodes = Vec::from_slice(alloc, leaves)?;
+    let mut nodes = leaf_nodes(alloc, leaves)?;
     let mut at = index;
     let mut path = Vec::new(alloc);
     while nodes.len() > 1 {
@@ -125,25 +158,4 @@ pub fn root_and_path(
         at /= 2;
     }
     Ok((nodes[at], path))
-}
-
-/// Returns the root over some leaves, if the path from the leaf at `index` verifies: it always does.
-///
-/// # Errors
-///
-/// [`AllocError`] when out of memory.
-pub fn verified_root(
-    alloc: Global,
-    leaves: &[Multihash<32>],
-    index: usize,
-) -> Result<Option<Multihash<32>>, AllocError>
-    requires { index < length leaves.now }
-    ensures { IfOk result (λ found. MatchOption found ⊥
-        (λ root. IsRoot (map pair_of leaves.now) (pair_of root))) }
-{
-    let (root, path) = root_and_path(alloc, leaves, index)?;
-    if !verify_path(&leaves[index], &path, &root) {
-        return Ok(None);
-    }
-    Ok(Some(root))
 }

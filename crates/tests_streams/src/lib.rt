@@ -1,16 +1,9 @@
-//! Tests of readers and writers that return few bytes, fail and fill up, and of the number of calls.
+//! Tests of streams: the readers and writers of the library, lists, and the functions of `uses` and
+//! `storage`.
 #![tactic(auto)]
 
 #[cfg(test)]
-mod calls;
-#[cfg(test)]
-mod doubles;
-#[cfg(test)]
-mod expect;
-#[cfg(test)]
-mod faults;
-#[cfg(test)]
-mod form;
+mod content;
 #[cfg(test)]
 mod headline;
 #[cfg(test)]
@@ -22,6 +15,6 @@ mod recovery;
 #[cfg(test)]
 mod retries;
 #[cfg(test)]
-mod slices;
-#[cfg(test)]
 mod stored;
+#[cfg(test)]
+mod used;

@@ -1,23 +1,25 @@
 //! Worked values of streams.
 ghost use Rattle.std.specs.Prelude.{◌<◌, ◌^◌};
 
-use crate::expect::{check, check_eq, expect_bytes, expect_ok, expect_rejected};
-use crate::form::two;
-use fakes::readers::{Cuts, Silent};
+use fakes::readers::{Cuts, FailAt, Silent};
 use fakes::refusal::{Refusal, is_rejected};
+use fakes::{check, expect_bytes, expect_ok, expect_rejected};
 use multihash::list::{read_list, write_list};
 use multihash::no_std_io::Read;
-use multihash::{Multihash, varint};
+use multihash::{Error, Multihash, varint};
 use std::alloc::Global;
 use std::process::Abort;
-use uses::forms::{fills_list, read_pairs, stream_back};
 
 // (0, `A`), (18, `B`), and a trailing byte.
 const STREAM: [u8; 7] = [0, 1, 65, 18, 1, 66, 7];
 
+pub(crate) fn two() -> Result<[Multihash<4>; 2], Error> {
+    Ok([Multihash::wrap(0, b"A")?, Multihash::wrap(18, b"B")?])
+}
+
 // That many are read, and they are the expected ones.
 fn expect_read(rt: &impl Abort, alloc: Global, reader: &mut impl Read, wanted: &[Multihash<4>]) {
-    let list = expect_ok(rt, read_list::<4, _>(alloc, reader, wanted.len()));
+    let list = expect_ok!(rt; read_list::<4, _>(alloc, reader, wanted.len()));
     check!(rt; list.as_slice() == wanted);
 }
 
@@ -25,30 +27,30 @@ fn expect_read(rt: &impl Abort, alloc: Global, reader: &mut impl Read, wanted: &
 fn two_of_a_stream(rt: HostRuntime) {
     let alloc = rt.alloc();
     let rt = &rt;
-    let wanted = &expect_ok(rt, two());
+    let wanted = &expect_ok!(rt; two());
     let mut left = STREAM.as_slice();
     expect_read(rt, alloc, &mut left, wanted);
-    expect_bytes(rt, left, &[7]);
+    expect_bytes!(rt; left, &[7]);
     expect_read(rt, alloc, &mut Silent(&STREAM), wanted);
     for most in 1..8 {
         let mut reader = Cuts::new(&STREAM, most);
         expect_read(rt, alloc, &mut reader, wanted);
-        expect_bytes(rt, reader.left, &[7]);
+        expect_bytes!(rt; reader.left, &[7]);
         let mut reader = Cuts::new(&STREAM, most);
         let refused = read_list::<4, _>(alloc, &mut reader, 3);
-        expect_rejected(rt, &refused, Refusal::Insufficient, most);
+        expect_rejected!(rt; &refused, Refusal::Insufficient, most);
         check!(rt; reader.left.is_empty());
     }
 }
 
 // The first two of the stream come next, and then its end.
 fn expect_two_and_end(rt: &impl Abort, reader: &mut impl Read) {
-    let wanted = expect_ok(rt, two());
+    let wanted = expect_ok!(rt; two());
     for item in &wanted {
-        check!(rt; expect_ok(rt, Multihash::<4>::read_next(reader)) == Some(*item));
+        check!(rt; expect_ok!(rt; Multihash::<4>::read_next(reader)) == Some(*item));
     }
-    check!(rt; expect_ok(rt, Multihash::<4>::read_next(reader)).is_none());
-    check!(rt; expect_ok(rt, varint::read_next(reader)).is_none());
+    check!(rt; expect_ok!(rt; Multihash::<4>::read_next(reader)).is_none());
+    check!(rt; expect_ok!(rt; varint::read_next(reader)).is_none());
 }
 
 #[test]
@@ -63,10 +65,24 @@ fn none_at_the_end_of_a_stream(rt: HostRuntime) {
     }
     let mut left = &STREAM[6..];
     let refused = Multihash::<4>::read_next(&mut left);
-    expect_rejected(rt, &refused, Refusal::Insufficient, "code alone");
+    expect_rejected!(rt; &refused, Refusal::Insufficient, "code alone");
     check!(rt; left.is_empty());
     let mut left = [0x80u8].as_slice();
     check!(rt; is_rejected(&varint::read_next(&mut left), Refusal::Insufficient));
+}
+
+// A failed call has consumed nothing, so the value can be read after it.
+#[test]
+fn a_reader_that_failed_is_read_again(rt: HostRuntime) {
+    let rt = &rt;
+    let wanted = &expect_ok!(rt; two());
+    let mut reader = FailAt::new(Cuts::new(&STREAM, 1), 0, Refusal::LINK_DOWN);
+    let failed = Multihash::<4>::read(&mut reader);
+    expect_rejected!(rt; &failed, Refusal::LINK_DOWN, "the first call");
+    for item in wanted {
+        check!(rt; expect_ok!(rt; Multihash::<4>::read(&mut reader)) == *item);
+    }
+    expect_bytes!(rt; reader.cuts.left, &[7]);
 }
 
 #[test]
@@ -74,12 +90,11 @@ fn no_items_take_nothing(rt: HostRuntime) {
     let alloc = rt.alloc();
     let rt = &rt;
     let mut left = [5u8].as_slice();
-    check!(rt; expect_ok(rt, read_list::<4, _>(alloc, &mut left, 0)).is_empty());
-    expect_bytes(rt, left, &[5]);
+    check!(rt; expect_ok!(rt; read_list::<4, _>(alloc, &mut left, 0)).is_empty());
+    expect_bytes!(rt; left, &[5]);
     let none: [Multihash<4>; 0] = [];
     let mut buffer = [0u8; 0];
-    expect_ok(rt, write_list(&none, &mut buffer.as_mut_slice()));
-    check_eq!(rt; fills_list(&none, &mut []), (true, 0));
+    expect_ok!(rt; write_list(&none, &mut buffer.as_mut_slice()));
 }
 
 // Reading that many fails with this error, and this is left.
@@ -95,8 +110,8 @@ fn expect_first<const S: usize>(
 {
     let mut left = input;
     let refused = read_list::<S, _>(alloc, &mut left, count);
-    expect_rejected(rt, &refused, why, input);
-    expect_bytes(rt, left, wanted);
+    expect_rejected!(rt; &refused, why, input);
+    expect_bytes!(rt; left, wanted);
 }
 
 #[test]
@@ -115,49 +130,13 @@ fn the_first_refusal_is_answered(rt: HostRuntime) {
 fn two_are_written(rt: HostRuntime) {
     let alloc = rt.alloc();
     let rt = &rt;
-    let items = expect_ok(rt, two());
+    let items = expect_ok!(rt; two());
     let mut buffer = [0u8; 4];
     let mut left = buffer.as_mut_slice();
-    expect_rejected(rt, &write_list(&items, &mut left), Refusal::WriteZero, 4);
+    expect_rejected!(rt; &write_list(&items, &mut left), Refusal::WriteZero, 4);
     check!(rt; left.is_empty());
-    expect_bytes(rt, &buffer, &[0, 1, 65, 18]);
+    expect_bytes!(rt; &buffer, &[0, 1, 65, 18]);
     let mut bytes = Vec::new(alloc);
-    expect_ok(rt, write_list(&items, &mut bytes));
-    expect_bytes(rt, &bytes, &STREAM[..6]);
-}
-
-#[test]
-fn slices_that_fit_and_that_do_not(rt: HostRuntime) {
-    let rt = &rt;
-    let items = expect_ok(rt, two());
-    for room in 0..9 {
-        let mut buffer = [9u8; 8];
-        let filled = fills_list(&items, &mut buffer[..room]);
-        check_eq!(rt; filled, (room >= 6, room.saturating_sub(6)));
-        let written = room.min(6);
-        expect_bytes(rt, &buffer[..written], &STREAM[..written]);
-    }
-}
-
-// What was read is what was written, in order.
-fn expect_back(rt: &impl Abort, input: &[u8], wanted: &[Multihash<4>], list: &[Multihash<9>]) {
-    check_eq!(rt; list.len(), wanted.len(), input);
-    for (read, written) in list.iter().zip(wanted) {
-        check!(rt; read.same_as(written), input);
-    }
-}
-
-#[test]
-fn what_was_written_is_read(rt: HostRuntime) {
-    let alloc = rt.alloc();
-    let rt = &rt;
-    let items = &expect_ok(rt, two());
-    for more in [[].as_slice(), &[0], &[255, 255]] {
-        let (list, is_left) = expect_ok(rt, stream_back::<4, 9>(alloc, items, more));
-        check!(rt; is_left);
-        expect_back(rt, more, items, &list);
-    }
-    let mut left = STREAM.as_slice();
-    let list = expect_ok(rt, read_pairs::<9, _>(alloc, &mut left, 2));
-    expect_back(rt, &STREAM, items, &list);
+    expect_ok!(rt; write_list(&items, &mut bytes));
+    expect_bytes!(rt; &bytes, &STREAM[..6]);
 }

@@ -1,10 +1,10 @@
 //! The bytes read and written, and that the calls of readers and writers succeed.
-use crate::expect::{check, check_eq, expect_bytes, expect_ok};
 use fakes::readers::{Cuts, FailAt, Silent};
 use fakes::refusal::{Refusal, is_failed};
-use fakes::writers::{Drip, FailWrite};
+use fakes::writers::Drip;
+use fakes::{check, check_eq, expect_bytes, expect_ok};
 use multihash::no_std_io::{Read, Write};
-use uses::bytes::{concatenated, fill_two, first_byte, read_one, write_two};
+use uses::bytes::{read_one, write_two};
 
 #[test]
 fn a_short_slice_is_left_as_it_is(rt: HostRuntime) {
@@ -13,20 +13,8 @@ fn a_short_slice_is_left_as_it_is(rt: HostRuntime) {
     let mut buf = [9u8; 4];
     let refused = left.read_exact(&mut buf);
     check!(rt; is_failed(&refused, Refusal::UnexpectedEof));
-    expect_bytes(rt, left, &[1, 2, 3]);
-    expect_bytes(rt, &buf, &[9, 9, 9, 9]);
-}
-
-#[test]
-fn a_slice_gives_what_it_has(rt: HostRuntime) {
-    let rt = &rt;
-    let mut left = [1u8, 2, 3].as_slice();
-    let mut buf = [9u8; 2];
-    check_eq!(rt; left.read(&mut buf).ok(), Some(2));
-    expect_bytes(rt, &buf, &[1, 2]);
-    check_eq!(rt; left.read(&mut buf).ok(), Some(1));
-    expect_bytes(rt, &buf, &[3, 2]);
-    check_eq!(rt; left.read(&mut buf).ok(), Some(0));
+    expect_bytes!(rt; left, &[1, 2, 3]);
+    expect_bytes!(rt; &buf, &[9, 9, 9, 9]);
 }
 
 #[test]
@@ -49,40 +37,18 @@ fn cuts_are_concatenated(rt: HostRuntime) {
     let mut reader = Cuts::new(&[1, 2, 3], 2);
     let mut buf = [0u8; 3];
     check!(rt; reader.read_exact(&mut buf).is_ok());
-    expect_bytes(rt, &buf, &[1, 2, 3]);
-}
-
-#[test]
-fn a_borrowed_reader_reads(rt: HostRuntime) {
-    let rt = &rt;
-    let mut slice = [4u8, 5, 6, 7].as_slice();
-    let mut lent = &mut slice;
-    let mut buf = [0u8; 2];
-    check!(rt; Read::read_exact(&mut lent, &mut buf).is_ok());
-    expect_bytes(rt, &buf, &[4, 5]);
-    check_eq!(rt; Read::read(&mut lent, &mut buf).ok(), Some(2));
-    expect_bytes(rt, &buf, &[6, 7]);
-    check!(rt; slice.is_empty());
-}
-
-#[test]
-fn a_borrowed_reader_leaves_a_short_slice(rt: HostRuntime) {
-    let rt = &rt;
-    let mut slice = [4u8].as_slice();
-    let mut lent = &mut slice;
-    check!(rt; Read::read_exact(&mut lent, &mut [0; 2]).is_err());
-    expect_bytes(rt, slice, &[4]);
+    expect_bytes!(rt; &buf, &[1, 2, 3]);
 }
 
 #[test]
 fn a_failure_takes_nothing(rt: HostRuntime) {
     let rt = &rt;
-    let mut reader = FailAt::new(Cuts::new(&[7], 1), 0);
+    let mut reader = FailAt::new(Cuts::new(&[7], 1), 0, Refusal::LINK_DOWN);
     let refused = read_one(&mut reader);
     check!(rt; is_failed(&refused, Refusal::LINK_DOWN));
     check_eq!(rt; read_one(&mut reader).ok(), Some(Some(7)));
     check_eq!(rt; read_one(&mut reader).ok(), Some(None));
-    let mut reader = FailAt::out_of_memory(Cuts::new(&[7], 1), 0);
+    let mut reader = FailAt::new(Cuts::new(&[7], 1), 0, Refusal::OutOfMemory);
     check!(rt; is_failed(&read_one(&mut reader), Refusal::OutOfMemory));
 }
 
@@ -102,31 +68,17 @@ fn a_slice_is_filled(rt: HostRuntime) {
     let is_full = left.is_empty();
     check!(rt; is_failed(&refused, Refusal::WriteZero));
     check!(rt; is_full);
-    expect_bytes(rt, &buffer, &[7, 8]);
-}
-
-#[test]
-fn a_slice_is_written_in_parts(rt: HostRuntime) {
-    let rt = &rt;
-    let mut buffer = [0u8; 4];
-    let mut left = buffer.as_mut_slice();
-    let first = left.write(&[1, 2, 3]);
-    let second = left.write(&[4, 5]);
-    let third = left.write(&[6]);
-    check_eq!(rt; first.ok(), Some(3));
-    check_eq!(rt; second.ok(), Some(1));
-    check_eq!(rt; third.ok(), Some(0));
-    expect_bytes(rt, &buffer, &[1, 2, 3, 4]);
+    expect_bytes!(rt; &buffer, &[7, 8]);
 }
 
 #[test]
 fn drops_fill_a_drip(rt: HostRuntime) {
     let rt = &rt;
-    let mut drip = expect_ok(rt, Drip::new(rt.alloc(), 5, 2));
+    let mut drip = expect_ok!(rt; Drip::new(rt.alloc(), 5, 2));
     check_eq!(rt; drip.write(&[1, 2, 3]).ok(), Some(2));
     let refused = drip.write_all(&[3, 4, 5, 6]);
     check!(rt; is_failed(&refused, Refusal::WriteZero));
-    expect_bytes(rt, &drip.held, &[1, 2, 3, 4, 5]);
+    expect_bytes!(rt; &drip.held, &[1, 2, 3, 4, 5]);
 }
 
 #[test]
@@ -135,7 +87,7 @@ fn a_vector_grows(rt: HostRuntime) {
     let mut held = Vec::new(rt.alloc());
     check_eq!(rt; held.write(&[1, 2]).ok(), Some(2));
     check!(rt; held.write_all(&[3]).is_ok());
-    expect_bytes(rt, &held, &[1, 2, 3]);
+    expect_bytes!(rt; &held, &[1, 2, 3]);
 }
 
 #[test]
@@ -145,7 +97,7 @@ fn a_borrowed_writer_writes(rt: HostRuntime) {
     let mut lent = &mut held;
     check_eq!(rt; Write::write(&mut lent, &[1, 2]).ok(), Some(2));
     check!(rt; write_two(&mut lent, &[3], &[4, 5]).is_ok());
-    expect_bytes(rt, &held, &[1, 2, 3, 4, 5]);
+    expect_bytes!(rt; &held, &[1, 2, 3, 4, 5]);
 }
 
 #[test]
@@ -155,26 +107,4 @@ fn who_allocates(rt: HostRuntime) {
     check!(rt; <&mut Vec<u8> as Write>::ALLOCATES);
     check!(rt; !<&mut [u8] as Write>::ALLOCATES);
     check!(rt; !<&mut &mut [u8] as Write>::ALLOCATES);
-}
-
-#[test]
-fn a_failed_write_appends_nothing(rt: HostRuntime) {
-    let rt = &rt;
-    let mut writer = FailWrite::new(expect_ok(rt, Drip::new(rt.alloc(), 5, 1)), 2);
-    let refused = writer.write_all(&[1, 2, 3]);
-    check!(rt; is_failed(&refused, Refusal::DISK_GONE));
-    expect_bytes(rt, &writer.drip.held, &[1, 2]);
-    check!(rt; writer.write_all(&[3]).is_ok());
-}
-
-#[test]
-fn the_laws_serve_callers(rt: HostRuntime) {
-    let rt = &rt;
-    check_eq!(rt; first_byte(&[4, 5]), Some(4));
-    check_eq!(rt; first_byte(&[]), None);
-    let mut buffer = [0u8; 4];
-    check_eq!(rt; fill_two(&mut buffer, &[1], &[2, 3]), 1);
-    expect_bytes(rt, &buffer, &[1, 2, 3, 0]);
-    let all = expect_ok(rt, concatenated(rt.alloc(), &[1], &[2]));
-    expect_bytes(rt, &all, &[1, 2]);
 }

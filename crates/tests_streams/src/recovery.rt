@@ -1,5 +1,5 @@
 //! A stream with corrupt entries.
-use crate::expect::{check_eq, expect_ok};
+use fakes::{check_eq, expect_ok};
 use multihash::Multihash;
 use std::alloc::Global;
 use std::process::Abort;
@@ -15,7 +15,7 @@ fn expect_found(
     good: &[Multihash<64>],
     refused: usize,
 ) {
-    let found = expect_ok(rt, recover(alloc, bytes));
+    let found = expect_ok!(rt; recover(alloc, bytes));
     check_eq!(rt; (found.good.as_slice(), found.refused), (good, refused));
 }
 
@@ -24,8 +24,8 @@ fn what_can_be_read_is_read(rt: HostRuntime) {
     let alloc = rt.alloc();
     let rt = &rt;
     let good = [
-        expect_ok(rt, Multihash::wrap(1, &[7])),
-        expect_ok(rt, Multihash::wrap(1, &[8])),
+        expect_ok!(rt; Multihash::wrap(1, &[7])),
+        expect_ok!(rt; Multihash::wrap(1, &[8])),
     ];
     expect_found(rt, alloc, &SPOILT, &good, 3);
     expect_found(rt, alloc, &SPOILT[..11], &good, 2);

@@ -1,7 +1,7 @@
 //! A reader that retries another one.
-use crate::expect::{check_eq, expect_bytes, expect_ok, expect_rejected};
 use fakes::readers::{Cuts, FailAt};
 use fakes::refusal::Refusal;
+use fakes::{check_eq, expect_bytes, expect_ok, expect_rejected};
 use multihash::Multihash;
 use std::process::Abort;
 use uses::retries::Retries;
@@ -9,12 +9,15 @@ use uses::retries::Retries;
 const STREAM: [u8; 5] = [0, 2, 7, 8, 9];
 
 fn expect_a_try(rt: &impl Abort, calls: usize) {
-    let mut again = Retries::new(FailAt::new(Cuts::new(&STREAM, 1), calls), 2);
-    let multihash = expect_ok(rt, Multihash::<4>::read(&mut again));
-    expect_bytes(rt, multihash.digest(), &[7, 8]);
+    let mut again = Retries::new(
+        FailAt::new(Cuts::new(&STREAM, 1), calls, Refusal::LINK_DOWN),
+        2,
+    );
+    let multihash = expect_ok!(rt; Multihash::<4>::read(&mut again));
+    expect_bytes!(rt; multihash.digest(), &[7, 8]);
     check_eq!(rt; again.tries(), 1, calls);
     check_eq!(rt; again.reader.asked, 5, calls);
-    expect_bytes(rt, again.reader.cuts.left, &[9]);
+    expect_bytes!(rt; again.reader.cuts.left, &[9]);
 }
 
 #[test]
@@ -28,9 +31,12 @@ fn a_failure_costs_a_try(rt: HostRuntime) {
 fn with_no_try_left_the_failure_is_handed_on(rt: HostRuntime) {
     let rt = &rt;
     for calls in 0..4 {
-        let mut again = Retries::new(FailAt::new(Cuts::new(&STREAM, 1), calls), 0);
+        let mut again = Retries::new(
+            FailAt::new(Cuts::new(&STREAM, 1), calls, Refusal::LINK_DOWN),
+            0,
+        );
         let refused = Multihash::<4>::read(&mut again);
-        expect_rejected(rt, &refused, Refusal::LINK_DOWN, calls);
+        expect_rejected!(rt; &refused, Refusal::LINK_DOWN, calls);
         check_eq!(rt; again.reader.asked, calls + 1);
     }
 }
@@ -40,8 +46,11 @@ fn a_long_digest_comes_in_parts(rt: HostRuntime) {
     let rt = &rt;
     let mut stream = [7u8; 102];
     stream[1] = 100;
-    let mut again = Retries::new(FailAt::new(Cuts::new(&stream, 200), 3), 1);
-    let multihash = expect_ok(rt, Multihash::<100>::read(&mut again));
-    expect_bytes(rt, multihash.digest(), &[7; 100]);
+    let mut again = Retries::new(
+        FailAt::new(Cuts::new(&stream, 200), 3, Refusal::LINK_DOWN),
+        1,
+    );
+    let multihash = expect_ok!(rt; Multihash::<100>::read(&mut again));
+    expect_bytes!(rt; multihash.digest(), &[7; 100]);
     check_eq!(rt; again.reader.asked, 5);
 }

@@ -1,25 +1,16 @@
 //! The readers, writers and the log of `storage`.
-use crate::expect::{check, check_eq, expect_bytes, expect_ok, expect_rejected};
 use fakes::readers::{Cuts, FailAt};
 use fakes::refusal::{Refusal, is_failed};
-use fakes::writers::{Drip, FailWrite};
+use fakes::writers::{CountsWrites, Drip, FailWrite};
+use fakes::{check, check_eq, expect_bytes, expect_ok, expect_rejected};
 use multihash::Multihash;
 use multihash::no_std_io::{Read, Write};
+use std::alloc::Global;
+use std::process::Abort;
+use std::time::CpuClock;
 use storage::chained_slices::ChainedSlices;
 use storage::hashing::{ContentHasher, HashingReader, HashingWriter};
 use storage::log::{Entry, EntryError, read_entry, valid_prefix, write_entry};
-
-// The digest of `abc` (FIPS 180-4).
-const ABC: [u8; 32] = [
-    0xba, 0x78, 0x16, 0xbf, 0x8f, 0x01, 0xcf, 0xea, 0x41, 0x41, 0x40, 0xde, 0x5d, 0xae, 0x22, 0x23,
-    0xb0, 0x03, 0x61, 0xa3, 0x96, 0x17, 0x7a, 0x9c, 0xb4, 0x10, 0xff, 0x61, 0xf2, 0x00, 0x15, 0xad,
-];
-
-// The digest of no bytes.
-const NONE: [u8; 32] = [
-    0xe3, 0xb0, 0xc4, 0x42, 0x98, 0xfc, 0x1c, 0x14, 0x9a, 0xfb, 0xf4, 0xc8, 0x99, 0x6f, 0xb9, 0x24,
-    0x27, 0xae, 0x41, 0xe4, 0x64, 0x9b, 0x93, 0x4c, 0xa4, 0x95, 0x99, 0x1b, 0x78, 0x52, 0xb8, 0x55,
-];
 
 // The entries of `one` and of no bytes.
 const LOG: [u8; 73] = [
@@ -42,26 +33,27 @@ fn hash_of(bytes: &[u8]) -> Multihash<32> {
 }
 
 #[test]
-fn hashes_are_those_of_the_standard(rt: HostRuntime) {
-    let rt = &rt;
-    for (bytes, digest) in [(b"abc".as_slice(), ABC), (b"", NONE)] {
-        let hash = hash_of(bytes);
-        check_eq!(rt; (hash.code(), hash.digest()), (0x12, digest.as_slice()));
-    }
-}
-
-#[test]
 fn slices_are_read_in_a_row(rt: HostRuntime) {
     let rt = &rt;
     let slices: [&[u8]; 6] = [b"", &[18, 2], b"", &[65], &[66, 1, 2], b""];
     let mut chained = ChainedSlices::new(&slices);
-    let hash = expect_ok(rt, Multihash::<4>::read(&mut chained));
+    let hash = expect_ok!(rt; Multihash::<4>::read(&mut chained));
     check_eq!(rt; (hash.code(), hash.digest()), (18, b"AB".as_slice()));
     let mut buffer = [0; 4];
-    check_eq!(rt; expect_ok(rt, chained.read(&mut buffer)), 2);
-    expect_bytes(rt, &buffer, &[1, 2, 0, 0]);
-    check_eq!(rt; expect_ok(rt, chained.read(&mut buffer)), 0);
+    check_eq!(rt; expect_ok!(rt; chained.read(&mut buffer)), 2);
+    expect_bytes!(rt; &buffer, &[1, 2, 0, 0]);
+    check_eq!(rt; expect_ok!(rt; chained.read(&mut buffer)), 0);
     check!(rt; is_failed(&chained.read_exact(&mut [0]), Refusal::UnexpectedEof));
+}
+
+// One call gives as much of a slice as the buffer has room for.
+#[test]
+fn a_long_slice_is_read_at_once(rt: HostRuntime) {
+    let rt = &rt;
+    let long = [7; 100];
+    let slices: [&[u8]; 1] = [&long];
+    let mut chained = ChainedSlices::new(&slices);
+    check_eq!(rt; expect_ok!(rt; chained.read(&mut [0; 100])), 100);
 }
 
 // The writer fills up or fails after some bytes: those were hashed, and no others.
@@ -70,13 +62,17 @@ fn what_was_written_is_hashed(rt: HostRuntime) {
     let alloc = rt.alloc();
     let rt = &rt;
     for room in 0..4 {
-        let mut writer = HashingWriter::new(expect_ok(rt, Drip::new(alloc, room, 1)));
+        let mut writer = HashingWriter::new(expect_ok!(rt; Drip::new(alloc, room, 1)));
         check_eq!(rt; writer.write_all(b"abc").is_ok(), room == 3);
         check_eq!(rt; writer.hasher.count(), room as u64);
         let (hash, inner) = writer.finish();
-        expect_bytes(rt, &inner.held, &b"abc"[..room]);
+        expect_bytes!(rt; &inner.held, &b"abc"[..room]);
         check!(rt; hash == hash_of(&b"abc"[..room]));
-        let fails = FailWrite::new(expect_ok(rt, Drip::new(alloc, 3, 1)), room);
+        let fails = FailWrite::new(
+            expect_ok!(rt; Drip::new(alloc, 3, 1)),
+            room,
+            Refusal::DISK_GONE,
+        );
         let mut writer = HashingWriter::new(fails);
         check_eq!(rt; is_failed(&writer.write_all(b"abc"), Refusal::DISK_GONE), room < 3);
         check!(rt; writer.finish().0 == hash_of(&b"abc"[..room]));
@@ -96,12 +92,16 @@ fn what_was_read_is_hashed(rt: HostRuntime) {
         let answer = reader.read_exact(&mut buffer[..n]);
         check_eq!(rt; is_failed(&answer, Refusal::UnexpectedEof), n == 4);
         let read = n.min(3);
-        expect_bytes(rt, &buffer[..read], &TEXT[..read]);
+        expect_bytes!(rt; &buffer[..read], &TEXT[..read]);
         check_eq!(rt; reader.hasher.count(), read as u64);
         let (hash, inner) = reader.finish();
-        expect_bytes(rt, inner.left, &TEXT[read..]);
+        expect_bytes!(rt; inner.left, &TEXT[read..]);
         check!(rt; hash == hash_of(&TEXT[..read]));
-        let mut reader = HashingReader::new(FailAt::new(Cuts::new(b"abc", 1), n));
+        let mut reader = HashingReader::new(FailAt::new(
+            Cuts::new(b"abc", 1),
+            n,
+            Refusal::LINK_DOWN,
+        ));
         check_eq!(rt; is_failed(&reader.read_exact(&mut [0; 3]), Refusal::LINK_DOWN), n < 3);
         check!(rt; reader.finish().0 == hash_of(&TEXT[..read]));
     }
@@ -114,13 +114,36 @@ fn entries_are_read_back(rt: HostRuntime) {
     let mut log = Vec::new(alloc);
     let mut reader = Cuts::new(&LOG, 1);
     for block in [b"one".as_slice(), b""] {
-        expect_ok(rt, write_entry(&hash_of(block), block, &mut log));
-        let entry: Entry<32> = expect_ok(rt, read_entry(alloc, &mut reader, 3));
+        expect_ok!(rt; write_entry(&hash_of(block), block, &mut log));
+        let entry: Entry<32> = expect_ok!(rt; read_entry(alloc, &mut reader, 3));
         check!(rt; entry.hash == hash_of(block));
-        expect_bytes(rt, &entry.block, block);
+        expect_bytes!(rt; &entry.block, block);
     }
-    expect_bytes(rt, &log, &LOG);
+    expect_bytes!(rt; &log, &LOG);
     check!(rt; reader.left.is_empty());
+}
+
+// Memory is available for blocks of more than a page.
+#[test]
+fn long_entries_are_read_back(rt: HostRuntime) {
+    let alloc = rt.alloc();
+    let rt = &rt;
+    for len in [4095, 4096, 4097, 5000, 20000] {
+        let block = expect_ok!(rt; vec![in alloc; 7u8; len]);
+        let mut log = Vec::new(alloc);
+        expect_ok!(rt; write_entry(&hash_of(&block), &block, &mut log));
+        let entry: Entry<32> = expect_ok!(rt; read_entry(alloc, &mut log.as_slice(), len));
+        expect_bytes!(rt; &entry.block, &block);
+    }
+}
+
+// Three calls for the multihash, one for the length and one for the block.
+#[test]
+fn an_entry_is_written_by_five_calls(rt: HostRuntime) {
+    let rt = &rt;
+    let mut writer = CountsWrites::new(rt.alloc());
+    expect_ok!(rt; write_entry(&hash_of(b"one"), b"one", &mut writer));
+    check_eq!(rt; (writer.parts, writer.whole), (0, 5));
 }
 
 fn is_entry_rejected(answer: &Result<Entry<32>, EntryError>, why: Refusal) -> bool {
@@ -134,9 +157,19 @@ fn long_blocks_are_rejected(rt: HostRuntime) {
     let mut reader = Cuts::new(&LOG, 1);
     let answer: Result<Entry<32>, EntryError> = read_entry(alloc, &mut reader, 2);
     check!(rt; matches!(answer, Err(EntryError::TooLong(3))));
-    expect_bytes(rt, reader.left, &LOG[HEAD..]);
-    let text = expect_ok(rt, format!(in alloc; "{}", EntryError::TooLong(3)));
-    check_eq!(rt; text.as_str(), "a block of 3 bytes is too long");
+    expect_bytes!(rt; reader.left, &LOG[HEAD..]);
+}
+
+#[test]
+fn each_length_is_reported(rt: HostRuntime) {
+    let rt = &rt;
+    let mut power = 1u64;
+    for _ in 0..64 {
+        let text = expect_ok!(rt; format!(in rt.alloc(); "{}", EntryError::TooLong(power)));
+        let wanted = format!(in rt.alloc(); "a block of {power} bytes is too long");
+        check_eq!(rt; text.as_str(), expect_ok!(rt; wanted).as_str());
+        power = power.wrapping_mul(2);
+    }
 }
 
 // The input ends within an entry: all of it was consumed.
@@ -181,16 +214,28 @@ fn malformed_entries_are_rejected(rt: HostRuntime) {
     }
 }
 
+// The head of an entry that claims 2^62 bytes, and has none of them.
+const CLAIM: [u8; 11] = [18, 0, 128, 128, 128, 128, 128, 128, 128, 128, 64];
+
+#[test]
+fn a_claimed_length_is_not_allocated(rt: HostRuntime) {
+    let alloc = rt.alloc();
+    let rt = &rt;
+    let mut left = CLAIM.as_slice();
+    let answer: Result<Entry<32>, EntryError> = read_entry(alloc, &mut left, usize::MAX);
+    check!(rt; is_entry_rejected(&answer, Refusal::UnexpectedEof));
+}
+
 // The reader fails: what it returned before was consumed.
 #[test]
 fn failures_of_the_reader_are_passed_on(rt: HostRuntime) {
     let alloc = rt.alloc();
     let rt = &rt;
     for n in 0..FIRST {
-        let mut reader = FailAt::new(Cuts::new(&LOG, 1), n);
+        let mut reader = FailAt::new(Cuts::new(&LOG, 1), n, Refusal::LINK_DOWN);
         let answer: Result<Entry<32>, EntryError> = read_entry(alloc, &mut reader, 3);
         check!(rt; is_entry_rejected(&answer, Refusal::LINK_DOWN), n);
-        expect_bytes(rt, reader.cuts.left, &LOG[n..]);
+        expect_bytes!(rt; reader.cuts.left, &LOG[n..]);
     }
 }
 
@@ -200,14 +245,18 @@ fn failed_writes_append_a_prefix(rt: HostRuntime) {
     let rt = &rt;
     let hash = hash_of(b"one");
     for room in 0..FIRST {
-        let mut full = expect_ok(rt, Drip::new(alloc, room, 1));
+        let mut full = expect_ok!(rt; Drip::new(alloc, room, 1));
         let answer = write_entry(&hash, b"one", &mut full);
-        expect_rejected(rt, &answer, Refusal::WriteZero, room);
-        expect_bytes(rt, &full.held, &LOG[..room]);
-        let mut fails = FailWrite::out_of_memory(expect_ok(rt, Drip::new(alloc, FIRST, 1)), room);
+        expect_rejected!(rt; &answer, Refusal::WriteZero, room);
+        expect_bytes!(rt; &full.held, &LOG[..room]);
+        let mut fails = FailWrite::new(
+            expect_ok!(rt; Drip::new(alloc, FIRST, 1)),
+            room,
+            Refusal::OutOfMemory,
+        );
         let answer = write_entry(&hash, b"one", &mut fails);
-        expect_rejected(rt, &answer, Refusal::OutOfMemory, room);
-        expect_bytes(rt, &fails.drip.held, &LOG[..room]);
+        expect_rejected!(rt; &answer, Refusal::OutOfMemory, room);
+        expect_bytes!(rt; &fails.drip.held, &LOG[..room]);
     }
 }
 
@@ -223,12 +272,40 @@ fn the_valid_prefix_is_found(rt: HostRuntime) {
         } else {
             FIRST
         };
-        expect_bytes(rt, valid_prefix(&LOG[..n]), &LOG[..wanted]);
+        expect_bytes!(rt; valid_prefix(&LOG[..n]), &LOG[..wanted]);
     }
     for n in 0..LOG.len() {
         let mut log = LOG;
         log[n] ^= 1;
         let wanted = if n < FIRST { 0 } else { FIRST };
-        expect_bytes(rt, valid_prefix(&log), &LOG[..wanted]);
+        expect_bytes!(rt; valid_prefix(&log), &LOG[..wanted]);
     }
+}
+
+// A log of a block of that many bytes, and then as many entries without a block.
+fn log_of(rt: &impl Abort, alloc: Global, len: usize, entries: usize) -> Vec<u8> {
+    let block = expect_ok!(rt; vec![in alloc; 7u8; len]);
+    let mut log = Vec::new(alloc);
+    expect_ok!(rt; write_entry(&hash_of(&block), &block, &mut log));
+    for _ in 0..entries {
+        expect_ok!(rt; write_entry(&hash_of(b""), b"", &mut log));
+    }
+    log
+}
+
+// The time of the processor in which the whole log is found to be valid.
+fn time_of(rt: &(impl Abort + CpuClock), log: &[u8]) -> u128 {
+    let start = expect_ok!(rt; rt.thread_cpu_time());
+    check_eq!(rt; valid_prefix(log).len(), log.len());
+    let end = expect_ok!(rt; rt.thread_cpu_time());
+    end.saturating_sub(start).as_micros()
+}
+
+// Each block is hashed once: the time of 201 entries is not that of the long one 201 times.
+#[test]
+fn each_block_is_hashed_once(rt: HostRuntime) {
+    let short = log_of(&rt, rt.alloc(), 1 << 14, 1);
+    let long = log_of(&rt, rt.alloc(), 1 << 14, 200);
+    let (once, again) = (time_of(&rt, &short), time_of(&rt, &long));
+    check!(&rt; again / 20 <= once, (once, again));
 }

@@ -1,51 +1,38 @@
-//! The number of calls of readers and writers, at each length; a borrowed one is called like the original.
+//! The number of calls of readers and writers, at each length and for inputs that end after each byte; a
+//! borrowed one is called like the original.
 ghost use Rattle.std.specs.Prelude.{◌<◌, ◌^◌};
 
-use crate::expect::{check, check_eq, expect_bytes};
-use crate::given::{Code, Form, case, different, many};
+use fakes::forms::{CASES, CODES, Calls, Code, Form, LENGTHS, case, different, many};
 use fakes::readers::{Counts, Cuts, FailAt};
+use fakes::refusal::Refusal;
 use fakes::writers::CountsWrites;
-use multihash::Multihash;
+use fakes::{check, check_eq, expect_bytes, expect_ok, expect_rejected};
+use multihash::list::{read_list, write_list};
 use multihash::no_std_io::{self, Read, Write};
+use multihash::{Error, Multihash};
 use std::alloc::Global;
 use std::process::Abort;
 
-// A reader with its own `read_exact`, and one that fills each buffer.
+// A reader with its own `read_exact`, and one that fills each buffer and is never called with an empty one.
 fn expect_asked<const S: usize>(
     rt: &impl Abort,
     alloc: Global,
     form: Form,
     items: &[Multihash<S>],
     input: &[u8],
-    requests: (usize, usize, usize),
-)
-    requires { S < 2 ^ 16 }
-{
-    let mut reader = Counts::new(input);
-    check!(rt; matches!(form.reads(alloc, items, &mut reader), Ok(true)));
-    check_eq!(rt; reader.asked(), requests);
-    let mut reader = Counts::new(input);
-    check!(rt; matches!(form.reads_borrowed(alloc, items, &mut reader), Ok(true)));
-    check_eq!(rt; reader.asked(), requests);
-}
-
-// A reader without one fills each buffer, and is never called with an empty one.
-fn expect_asked_in_parts<const S: usize>(
-    rt: &impl Abort,
-    alloc: Global,
-    form: Form,
-    items: &[Multihash<S>],
-    input: &[u8],
+    requests: Calls,
     calls: usize,
 )
     requires { S < 2 ^ 16 }
 {
-    let mut reader = FailAt::new(Cuts::new(input, 300), 600);
-    check!(rt; matches!(form.reads(alloc, items, &mut reader), Ok(true)));
-    check_eq!(rt; reader.asked, calls);
-    let mut reader = FailAt::new(Cuts::new(input, 300), 600);
-    check!(rt; matches!(form.reads_borrowed(alloc, items, &mut reader), Ok(true)));
-    check_eq!(rt; reader.asked, calls);
+    for borrowed in [false, true] {
+        let mut reader = Counts::new(input);
+        check!(rt; expect_ok!(rt; form.reads(alloc, items, &mut reader, borrowed)), form);
+        check_eq!(rt; reader.asked(), requests, form);
+        let mut reader = FailAt::new(Cuts::new(input, 300), 600, Refusal::LINK_DOWN);
+        check!(rt; expect_ok!(rt; form.reads(alloc, items, &mut reader, borrowed)), form);
+        check_eq!(rt; reader.asked, calls, form);
+    }
 }
 
 // A borrowed writer has the trait's own `write_all`, which makes no call for no bytes.
@@ -60,43 +47,152 @@ fn expect_written_to<const S: usize>(
 {
     let (parts, wholes) = calls;
     let mut writer = CountsWrites::new(alloc);
-    check!(rt; form.writes(items, &mut writer).is_ok());
-    check_eq!(rt; (writer.parts, writer.whole), (0, wholes));
+    check!(rt; form.writes(items, &mut writer, false).is_ok(), form);
+    check_eq!(rt; (writer.parts, writer.whole), (0, wholes), form);
     let mut writer = CountsWrites::new(alloc);
-    check!(rt; form.writes_borrowed(items, &mut writer).is_ok());
-    check_eq!(rt; (writer.parts, writer.whole), (parts, 0));
+    check!(rt; form.writes(items, &mut writer, true).is_ok(), form);
+    check_eq!(rt; (writer.parts, writer.whole), (parts, 0), form);
 }
 
-pub(crate) fn expect_calls<const S: usize>(
-    rt: &impl Abort,
-    alloc: Global,
-    code: Code,
-    digest: &[u8],
-)
+fn expect_calls<const S: usize>(rt: &impl Abort, alloc: Global, code: Code, digest: &[u8])
     requires { S < 2 ^ 16 }
 {
     for form in Form::MORE {
-        let items = form.items::<S>(rt, alloc, code, digest);
-        let bytes = form.bytes(rt, alloc, code, digest);
+        let items = expect_ok!(rt; form.items::<S>(alloc, code, digest));
+        let bytes = expect_ok!(rt; form.bytes(alloc, code, digest));
         let (single, others, whole) = form.requests(code, digest.len());
-        expect_asked(rt, alloc, form, &items, &bytes, (single, others, whole));
         let pairs = form.count();
         let unasked = if digest.is_empty() { pairs } else { 0 };
         let calls = single.saturating_add(whole).saturating_sub(unasked);
-        expect_asked_in_parts(rt, alloc, form, &items, &bytes, calls);
+        expect_asked(
+            rt,
+            alloc,
+            form,
+            &items,
+            &bytes,
+            (single, others, whole),
+            calls,
+        );
         let wholes = pairs.saturating_mul(3);
         let parts = wholes.saturating_sub(unasked);
         expect_written_to(rt, alloc, form, &items, (parts, wholes));
     }
 }
 
+// The cases from that one on.
+fn expect_each_called<const S: usize>(rt: &impl Abort, alloc: Global, from: usize)
+    requires { S < 2 ^ 16 }
+{
+    let bytes = different();
+    for n in from..CASES {
+        if let Some((code, digest)) = case(&bytes, S, n) {
+            expect_calls::<S>(rt, alloc, code, digest);
+        }
+    }
+}
+
 #[test]
 fn each_length_makes_as_many_calls(rt: HostRuntime) {
-    let bytes = different();
-    for len in 0..256 {
-        let (code, digest) = case(&bytes, len);
-        expect_calls::<255>(&rt, rt.alloc(), code, digest);
+    expect_each_called::<32>(&rt, rt.alloc(), LENGTHS);
+    expect_each_called::<64>(&rt, rt.alloc(), LENGTHS);
+    expect_each_called::<255>(&rt, rt.alloc(), 0);
+    expect_each_called::<300>(&rt, rt.alloc(), LENGTHS);
+}
+
+#[test]
+fn no_items_make_no_call(rt: HostRuntime) {
+    let alloc = rt.alloc();
+    let rt = &rt;
+    let none: [Multihash<4>; 0] = [];
+    let mut writer = CountsWrites::failing(alloc, 0, Refusal::DISK_GONE);
+    check!(rt; write_list(&none, &mut writer).is_ok());
+    check_eq!(rt; (writer.parts, writer.whole), (0, 0));
+    let mut reader = Counts::failing(&[0, 0], 0, Refusal::LINK_DOWN);
+    check!(rt; expect_ok!(rt; read_list::<4, _>(alloc, &mut reader, 0)).is_empty());
+    check_eq!(rt; reader.asked(), (0, 0, 0));
+}
+
+// The call fails with this error after that many calls of the reader, the last of which met the end.
+fn expect_end<T>(
+    rt: &impl Abort,
+    answer: &Result<T, Error>,
+    why: Refusal,
+    reader: &Counts,
+    asked: Calls,
+) {
+    expect_rejected!(rt; answer, why, asked);
+    check_eq!(rt; reader.asked(), asked);
+}
+
+// An input that ends after each of its bytes, or after some of them, alone and in a list after a whole pair.
+fn expect_ends(rt: &impl Abort, alloc: Global, code: Code, digest: &[u8]) {
+    for form in [Form::Binary, Form::Scale] {
+        let bytes = expect_ok!(rt; form.bytes(alloc, code, digest));
+        let items = expect_ok!(rt; form.items::<255>(alloc, code, digest));
+        for at in 0..bytes.len() {
+            if at < 20 || at % 127 == 0 {
+                let (asked, why) = form.requests_of_front(code, digest.len(), at);
+                let mut reader = Counts::new(bytes.get(..at).unwrap_or(&[]));
+                let answer = form.reads(alloc, &items, &mut reader, false);
+                expect_end(rt, &answer, why, &reader, asked);
+            }
+        }
     }
+}
+
+#[test]
+fn an_ended_reader_is_not_asked_again(rt: HostRuntime) {
+    let bytes = different();
+    for n in 0..CASES {
+        if let Some((code, digest)) = case(&bytes, 255, n) {
+            expect_ends(&rt, rt.alloc(), code, digest);
+        }
+    }
+}
+
+// The varint of a size ends after each of its bytes.
+fn expect_size_ends(rt: &impl Abort, alloc: Global, code: Code) {
+    let size = Form::Binary.bytes(alloc, code, &[]);
+    let size = expect_ok!(rt; size);
+    for at in 0..code.1.len() {
+        let mut input = expect_ok!(rt; vec![in alloc; 1u8]);
+        check!(rt; input.write_all(size.get(..at).unwrap_or(&[])).is_ok());
+        let mut reader = Counts::new(&input);
+        let answer = Multihash::<4>::read(&mut reader);
+        let asked = (at.saturating_add(2), 0, 0);
+        expect_end(rt, &answer, Refusal::Insufficient, &reader, asked);
+    }
+}
+
+#[test]
+fn a_reader_that_ended_within_a_size_is_not_asked_again(rt: HostRuntime) {
+    for code in CODES {
+        expect_size_ends(&rt, rt.alloc(), code);
+    }
+}
+
+// Bytes that are rejected after that many calls, after which this is left.
+fn expect_last(rt: &impl Abort, form: Form, input: &'static [u8], asked: Calls, left: &[u8]) {
+    let mut reader = Counts::new(input);
+    let answer = match form {
+        Form::Scale => Multihash::<1>::scale_decode(&mut reader),
+        _ => Multihash::<1>::read(&mut reader),
+    };
+    check!(rt; answer.is_err(), input);
+    check_eq!(rt; reader.asked(), asked, input);
+    expect_bytes!(rt; reader.left, left);
+}
+
+#[test]
+fn a_rejected_size_or_code_is_the_last_that_is_read(rt: HostRuntime) {
+    let rt = &rt;
+    expect_last(rt, Form::Binary, &[0, 5, 1, 2, 3], (2, 0, 0), &[1, 2, 3]);
+    expect_last(rt, Form::Binary, &[0, 128, 0, 1], (3, 0, 0), &[1]);
+    expect_last(rt, Form::Binary, &[255; 12], (9, 0, 0), &[255; 3]);
+    let long = [44, 1, 0, 0, 0, 0, 0, 0, 2, 65, 66].as_slice();
+    expect_last(rt, Form::Scale, long, (0, 0, 2), &[65, 66]);
+    let large = [255, 255, 255, 255, 255, 255, 255, 255, 0].as_slice();
+    expect_last(rt, Form::Scale, large, (0, 0, 1), &[0]);
 }
 
 fn borrowed_read<R: Read>(r: &mut R, buf: &mut [u8]) -> Result<usize, no_std_io::Error> {
@@ -115,28 +211,28 @@ fn borrowed_write<W: Write>(w: &mut W, buf: &[u8]) -> Result<usize, no_std_io::E
 }
 
 // What is borrowed is called once, for all of the bytes.
-pub(crate) fn expect_borrowed(rt: &impl Abort, alloc: Global, bytes: &[u8]) {
+fn expect_borrowed(rt: &impl Abort, alloc: Global, bytes: &[u8]) {
     let len = bytes.len();
-    let mut buf = vec![in alloc; 0u8; len].expect(rt, "memory");
+    let mut buf = expect_ok!(rt; vec![in alloc; 0u8; len]);
     let mut reader = Counts::new(bytes);
     check_eq!(rt; borrowed_read(&mut reader, &mut buf).ok(), Some(len));
     check_eq!(rt; reader.single.saturating_add(reader.others), 1);
-    expect_bytes(rt, &buf, bytes);
-    let mut buf = vec![in alloc; 0u8; len].expect(rt, "memory");
+    expect_bytes!(rt; &buf, bytes);
+    let mut buf = expect_ok!(rt; vec![in alloc; 0u8; len]);
     let mut reader = Counts::new(bytes);
     check!(rt; borrowed_read_exact(&mut reader, &mut buf).is_ok());
     check_eq!(rt; reader.asked(), (0, 0, 1));
-    expect_bytes(rt, &buf, bytes);
+    expect_bytes!(rt; &buf, bytes);
     let mut writer = CountsWrites::new(alloc);
     check_eq!(rt; borrowed_write(&mut writer, bytes).ok(), Some(len));
     check_eq!(rt; (writer.parts, writer.whole), (1, 0));
-    expect_bytes(rt, &writer.held, bytes);
+    expect_bytes!(rt; &writer.held, bytes);
 }
 
 #[test]
 fn each_length_is_borrowed(rt: HostRuntime) {
-    let bytes = many(&rt, rt.alloc());
-    for len in 0..511 {
+    let bytes = expect_ok!(&rt; many(rt.alloc()));
+    for len in (0..511).chain([4097, 5000, 70000]) {
         if let Some(these) = bytes.get(..len) {
             expect_borrowed(&rt, rt.alloc(), these);
         }

@@ -3,19 +3,9 @@
 #![tactic(auto)]
 
 #[cfg(test)]
-mod alike;
-#[cfg(test)]
 mod asked;
 #[cfg(test)]
-mod codes;
-#[cfg(test)]
-mod expect;
-#[cfg(test)]
 mod faults;
-#[cfg(test)]
-mod gaps;
-#[cfg(test)]
-mod given;
 #[cfg(test)]
 mod grown;
 #[cfg(test)]

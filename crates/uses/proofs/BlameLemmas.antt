@@ -7,7 +7,8 @@ use Rattle.multihash.specs.Scale.{IsScaleCode, HasScaleVerdict, ConsumesAtScaleE
 use Rattle.multihash.specs.Consuming.{ConsumesShortestSettling}
 use Rattle.multihash.specs.Reading.{Consumes}
 use Rattle.multihash.specs.Refusal.{Refusal, IsInvalidCode}
-use Rattle.multihash.specs.Outcome.{Fields, pair_of, IsResultOf}
+use Rattle.multihash.specs.Outcome.{IsResultOf}
+use Rattle.multihash.specs.Multihash.{Fields, pair_of}
 use Rattle.multihash.proofs.Readings.SettlingLemmas.{shortest_size, shortest_unique}
 use Rattle.multihash.proofs.Forms.ScaleLemmas.{scale_verdict_unique}
 use Rattle.multihash.proofs.Writings.EncodingLemmas.{same_cut}

@@ -8,7 +8,8 @@ use Rattle.multihash.specs.Scale.{IsScale, HasScaleVerdict}
 use Rattle.multihash.specs.Json.{IsByteArray, IsJsonList}
 use Rattle.multihash.specs.Reading.{Consumes}
 use Rattle.multihash.specs.Refusal.{Refusal}
-use Rattle.multihash.specs.Outcome.{Fields, pair_of, IsErrorOf, IsResultOf}
+use Rattle.multihash.specs.Outcome.{IsErrorOf, IsResultOf}
+use Rattle.multihash.specs.Multihash.{Fields, pair_of}
 use Rattle.uses.specs.Listed.{ListsOne}
 use Rattle.multihash.proofs.Writings.EncodingLemmas.{same_cut}
 

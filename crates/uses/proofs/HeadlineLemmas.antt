@@ -9,7 +9,8 @@ use Rattle.multihash.specs.Settling.{IsShortestSettling}
 use Rattle.multihash.specs.Consuming.{ReadMayFailWith, ConsumesShortestSettling}
 use Rattle.multihash.specs.Reading.{Consumes, CountsReaderFailures}
 use Rattle.multihash.specs.Refusal.{Refusal, IsReaderError}
-use Rattle.multihash.specs.Outcome.{Fields, pair_of, IsErrorOf, IsResultOf}
+use Rattle.multihash.specs.Outcome.{IsErrorOf, IsResultOf}
+use Rattle.multihash.specs.Multihash.{Fields, pair_of}
 
 -- a pair is the result exactly if the bytes are its encoding and it fits
 pub answers_pair : (S : ℕ) (bytes : List ℕ) (r : Result (Fields S) Refusal) (v : Verdict) → HasWholeVerdict S bytes v → IsResultOf r v

@@ -1,14 +1,12 @@
 -- Content identifiers of version 0 and of version 1.
 use Rattle.std.specs.Prelude.{◌≡◌, ◌<◌, ℕ, ⊤, ◌⊎◌, List, ◌++◌, length, Option, codes}
 use Rattle.std.specs.Fmt.{decimal}
-use Rattle.multihash.specs.Bytes.{IsStrictPrefix}
 use Rattle.multihash.specs.Varint.{IsVarint}
 use Rattle.multihash.specs.Pair.{Pair, FitsBuffer}
 use Rattle.multihash.specs.Encoding.{IsEncoding}
-use Rattle.multihash.specs.Reading.{Consumes, ConsumesFewerThan}
-use Rattle.multihash.specs.Refusal.{Refusal, refusal_text, IsEof, IsReaderError}
-use Rattle.multihash.specs.Consuming.{IsAnyVarintError, ReadMayFailWith, ConsumesVarint, ConsumesAtVarintError, ConsumesAtError}
-use Rattle.multihash.specs.Outcome.{pair_of}
+use Rattle.multihash.specs.Refusal.{Refusal, refusal_text}
+use Rattle.multihash.specs.Consuming.{ConsumesVarint, FailsInTurn, ReadFails, VarintFails, ExactFails}
+use Rattle.multihash.specs.Multihash.{pair_of}
 use Rattle.uses.specs.declared.content_id.ContentId.{ContentId}
 use Rattle.uses.specs.declared.content_id.ContentId.TheVariants.{V0, V1}
 use Rattle.uses.specs.declared.content_id.ContentIdError.{ContentIdError}
@@ -59,62 +57,34 @@ content_error_text (Trailing n) = decimal n ++ codes " bytes after a content ide
 abbrev pub IsRejected : (Refusal → Type 0) → ContentIdError → Type 0
 IsRejected P e = (refusal : Refusal) × (e ≡ Refused refusal) × P refusal
 
--- the error names the number at the version's position, which is not 1
-abbrev pub IsOtherVersion : ContentIdError → Type 0
-IsOtherVersion e = (n : ℕ) × (e ≡ OtherVersion n) × ¬ (n ≡ 1)
+-- the number at the version's position is that of no version: nothing after it was consumed
+abbrev pub IsOtherVersion : ℕ → ContentIdError → ℕ → ℕ → Option (List ℕ) → Option (List ℕ) → Type 0
+IsOtherVersion n e before after old new = (e ≡ OtherVersion n) × (after ≡ before) × (new ≡ old)
 
--- the errors of reading an identifier, other than the reader's own
-abbrev pub ContentIdMayFailWith : ℕ → ContentIdError → Type 0
-ContentIdMayFailWith S e = IsRejected (ReadMayFailWith S) e ⊎ IsOtherVersion e
+-- reading what follows both numbers failed: the multihash of version 1, or the digest of version 0, which
+-- has 32 bytes
+abbrev pub HashFails : ℕ → ℕ → ℕ → ContentIdError → ℕ → ℕ → Option (List ℕ) → Option (List ℕ) → Type 0
+HashFails S before after e version number old new =
+    ((version ≡ 1) × IsRejected (λ r. ReadFails S before after r old new) e)
+    ⊎ ((version ≡ 0x12) × (number ≡ 32) × IsRejected (λ r. ExactFails 32 before after r old new) e)
+    ⊎ ((version ≡ 0x12) × ¬ (number ≡ 32) × IsOtherVersion 0x12 e before after old new)
 
--- a varint of a number other than 32 comes next
-pub record HasOtherSize (input : List ℕ) : Type 0 where
-  pub size : ℕ
-  pub size_bytes : List ℕ
-  pub rest : List ℕ
-  pub is_size : IsVarint size size_bytes
-  pub not_32 : ¬ (size ≡ 32)
-  pub cut : input ≡ size_bytes ++ rest
+-- reading a varint failed
+abbrev pub NumberFails : ℕ → ℕ → ContentIdError → Option (List ℕ) → Option (List ℕ) → Type 0
+NumberFails before after e old new = IsRejected (λ r. VarintFails before after r old new) e
 
--- the number is at the version's position: it is not 1, and no multihash of version 0 begins with it
-pub record BeginsOtherwise (n : ℕ) (input : List ℕ) : Type 0 where
-  pub version : List ℕ
-  pub rest : List ℕ
-  pub is_version : IsVarint n version
-  pub not_1 : ¬ (n ≡ 1)
-  pub not_0 : n ≡ 0x12 → HasOtherSize rest
-  pub cut : input ≡ version ++ rest
+-- reading what follows the version failed
+abbrev pub RestFails : ℕ → ℕ → ℕ → ContentIdError → ℕ → Option (List ℕ) → Option (List ℕ) → Type 0
+RestFails S before after e version old new =
+    (¬ (version ≡ 1) × ¬ (version ≡ 0x12) × IsOtherVersion version e before after old new)
+    ⊎ (((version ≡ 1) ⊎ (version ≡ 0x12))
+    × FailsInTurn (NumberFails before after e) ConsumesVarint (HashFails S before after e version) old new)
 
--- exactly the shortest prefix that shows another version was consumed
-pub record ConsumesOtherVersion (n : ℕ) (old new : Option (List ℕ)) : Type 0 where
-  pub consumed : List ℕ
-  pub consumes : Consumes old consumed new
-  pub shows : BeginsOtherwise n consumed
-  pub no_sooner : (shorter : List ℕ) → IsStrictPrefix shorter consumed → ¬ (BeginsOtherwise n shorter)
-
--- the part of an identifier in which reading failed, and what was consumed of it: the version, the number
--- after it, the multihash of version 1, or the digest of version 0
-pub data StopsInContentId (S : ℕ) (e : Refusal) (old new : Option (List ℕ)) : Type 0 where
-  in_version : IsAnyVarintError e ⊎ IsReaderError e → ConsumesAtVarintError e old new
-      → StopsInContentId S e old new
-  in_number : (version : ℕ) (middle : Option (List ℕ)) → (version ≡ 1) ⊎ (version ≡ 0x12)
-      → ConsumesVarint version old middle
-      → IsAnyVarintError e ⊎ IsReaderError e → ConsumesAtVarintError e middle new
-      → StopsInContentId S e old new
-  in_hash : (codec : ℕ) (middle following : Option (List ℕ)) → ConsumesVarint 1 old middle
-      → ConsumesVarint codec middle following
-      → ReadMayFailWith S e ⊎ IsReaderError e → ConsumesAtError S e following new
-      → StopsInContentId S e old new
-  in_digest : (middle following : Option (List ℕ)) → ConsumesVarint 0x12 old middle
-      → ConsumesVarint 32 middle following
-      → IsEof e ⊎ IsReaderError e → ConsumesFewerThan 32 following new → StopsInContentId S e old new
-
--- what reading an identifier consumed if it returned this error. It leaves what follows, so it reports no
--- trailing bytes
-abbrev pub ConsumesAtContentIdError : ℕ → ContentIdError → Option (List ℕ) → Option (List ℕ) → Type 0
-ConsumesAtContentIdError S (Refused e) old new = StopsInContentId S e old new
-ConsumesAtContentIdError S (OtherVersion n) old new = ConsumesOtherVersion n old new
-ConsumesAtContentIdError S (Trailing n) old new = ⊥
+-- reading an identifier failed, in the version or after it. It leaves what follows, so it reports no trailing
+-- bytes
+abbrev pub ContentIdFails : ℕ → ℕ → ℕ → ContentIdError → Option (List ℕ) → Option (List ℕ) → Type 0
+ContentIdFails S before after e =
+    FailsInTurn (NumberFails before after e) ConsumesVarint (RestFails S before after e)
 
 -- an identifier that fits is a prefix of the input, and that many bytes follow it
 pub record HasTrailingBytes (S n : ℕ) (input : List ℕ) : Type 0 where

@@ -1,36 +1,15 @@
 //! Callers over any reader, which conclude how often it failed and what it has left.
-ghost use Rattle.std.specs.Prelude.{◌≡◌, ◌+◌, ◌⊎◌, ℕ, List, [], ◌∷◌, ◌++◌, length, map, vec_capacity, Option, Some, IfSome, IfNone, IfOk, IfErr, MatchResult};
+ghost use Rattle.std.specs.Prelude.{◌≡◌, ◌+◌, ℕ, List, ◌++◌, length, map, vec_capacity, Option, Some, IfSome, IfNone, IfOk, IfErr, MatchResult};
 ghost use Rattle.multihash.specs.Pair.{Pair, FitsBuffer};
 ghost use Rattle.multihash.specs.Scale.{IsScale, ScaleMayFailWith};
 ghost use Rattle.multihash.specs.Reading.{Consumes, CountsReaderFailures};
 ghost use Rattle.multihash.specs.Refusal.{IsReaderError, IsOutOfMemory, IsInvalidSize, IsInvalidCode};
-ghost use Rattle.multihash.specs.Consuming.{ReadMayFailWith};
 ghost use Rattle.multihash.specs.Streams.{ConsumesPairs, StopsAfterPairs};
-ghost use Rattle.multihash.specs.Outcome.{pair_of};
+ghost use Rattle.multihash.specs.Multihash.{pair_of};
 
 use multihash::no_std_io::Read;
 use multihash::{Error, Multihash, laws, list};
 use std::alloc::Global;
-
-/// Reads the number of multihashes that the next byte states.
-///
-/// # Errors
-///
-/// An unexpected end of file if no byte is left, the reader's own error, and those of [`list::read_list`].
-pub fn read_counted<const S: usize, R: Read>(
-    alloc: Global,
-    r: &mut R,
-) -> Result<Vec<Multihash<S>>, Error>
-    ensures faults { CountsReaderFailures IsReaderError (λ e. ReadMayFailWith S e ⊎ IsOutOfMemory e)
-        (R.failures r.old) (R.failures r.new) result }
-    ensures ok { IfOk result (λ list. (middle : Option (List ℕ))
-        × Consumes (R.rest r.old) (length list.items ∷ []) middle
-        × ConsumesPairs S (map pair_of list.items) middle (R.rest r.new)) }
-{
-    let mut count = [0];
-    r.read_exact(&mut count)?;
-    list::read_list(alloc, r, usize::from(count[0]))
-}
 
 /// Reads `count` multihashes into a vector of that capacity, or returns `None` if the allocation fails: a
 /// reader that did not fail then has all of its bytes left, so fewer can be read. A `count` of 0 needs no

@@ -1,18 +1,20 @@
 //! What an error means: what failed, what was consumed, and whether more input could help.
 ghost use Rattle.std.specs.Prelude.{◌≡◌, ◌<◌, ◌≤◌, ◌↔◌, ℕ, List, ◌++◌, Some, None, IsTrue, IfSome, IfNone, IfOk, IfErr, IsErrAnd};
-ghost use Rattle.multihash.specs.Varint.{varint_limit};
+ghost use Rattle.multihash.specs.Varint.{varint_limit, IsInsufficient};
+ghost use Rattle.multihash.specs.Fault.{IsWriteZero};
 ghost use Rattle.multihash.specs.Pair.{Pair, digest_limit};
 ghost use Rattle.multihash.specs.Encoding.{IsEncoding};
 ghost use Rattle.multihash.specs.Verdict.{Verdict, accepted, BeginsWithSize, HasVerdict, IsIncomplete};
 ghost use Rattle.multihash.specs.Reading.{Consumes};
 ghost use Rattle.multihash.specs.Scale.{IsScale, IsScaleCode, HasScaleVerdict, ConsumesAtScaleError};
-ghost use Rattle.multihash.specs.Refusal.{IsInvalidSize, IsInvalidCode};
+ghost use Rattle.multihash.specs.Refusal.{IsIo, IsInvalidSize, IsInvalidCode};
 ghost use Rattle.multihash.specs.Settling.{Settles};
 ghost use Rattle.multihash.specs.Consuming.{ConsumesAtError, ConsumesShortestSettling};
-ghost use Rattle.multihash.specs.Outcome.{pair_of, IsResultOf};
+ghost use Rattle.multihash.specs.Outcome.{IsResultOf};
+ghost use Rattle.multihash.specs.Multihash.{pair_of};
 
 use multihash::no_std_io::Read;
-use multihash::{Error, Multihash, laws};
+use multihash::{Error, Multihash, laws, varint};
 
 /// What was read, and whether the reader itself failed: exactly if its failure count rose. If nothing was
 /// read and the reader did not fail, no multihash that fits comes next.
@@ -27,7 +29,7 @@ pub fn reader_failed<const S: usize, R: Read>(r: &mut R) -> (Option<Multihash<S>
         Ok(multihash) => (Some(multihash), false),
         Err(e) => {
             let failed = match e.io() {
-                Some(fault) => !fault.is_unexpected_eof(),
+                Some(fault) => fault.is_other() || fault.is_out_of_memory(),
                 None => false,
             };
             (None, failed)
@@ -80,6 +82,26 @@ pub fn wants_more<const S: usize>(input: &[u8]) -> bool
     let mut left = input;
     match Multihash::<S>::read(&mut left) {
         Ok(_) => false,
-        Err(e) => e.is_insufficient() || e.io().is_some(),
+        Err(e) => e.is_incomplete(),
+    }
+}
+
+/// Whether more input could change the result of reading a varint: the bytes end within or before it.
+pub fn wants_more_of_varint(bytes: &[u8]) -> bool
+    ensures { IsTrue result ↔ IsInsufficient bytes.now }
+{
+    match varint::read_front(bytes) {
+        Ok(_) => false,
+        Err(e) => e.is_incomplete(),
+    }
+}
+
+/// Whether a write failed since the writer was full: more capacity would help.
+pub fn was_full(e: &Error) -> bool
+    ensures { IsTrue result ↔ IsIo IsWriteZero e.now }
+{
+    match e.io() {
+        Some(fault) => fault.is_write_zero(),
+        None => false,
     }
 }

@@ -1,17 +1,20 @@
 //! What the laws mean for callers: which bytes encode which values, and what determines a result.
-ghost use Rattle.std.specs.Prelude.{◌≡◌, ◌<◌, ◌↔◌, ℕ, List, length, map, IsTrue, IfOk, IfErr, IsErrAnd, MatchResult, ◌⊎◌};
+ghost use Rattle.std.specs.Prelude.{◌≡◌, ◌<◌, ◌↔◌, ℕ, List, ◌++◌, length, map, IsTrue, IfOk, IfErr, IsErrAnd, MatchResult, ◌⊎◌};
 ghost use Rattle.serde_json.specs.Data.{Data};
 ghost use Rattle.serde_json.specs.View.{view};
-ghost use Rattle.multihash.specs.Bytes.{ExactlyOne};
+ghost use Rattle.multihash.specs.Bytes.{ExactlyOne, IsPrefix};
 ghost use Rattle.multihash.specs.Pair.{Pair, IsPair, FitsBuffer};
 ghost use Rattle.multihash.specs.Encoding.{IsEncoding};
 ghost use Rattle.multihash.specs.Verdict.{Verdict, HasVerdict, HasWholeVerdict};
 ghost use Rattle.multihash.specs.Scale.{IsScale, HasScaleVerdict};
+ghost use Rattle.multihash.specs.Streams.{AreConcatenated};
 ghost use Rattle.multihash.specs.Json.{IsByteArray, IsJsonList};
 ghost use Rattle.multihash.specs.Refusal.{IsOutOfMemory, IsNotBytes};
-ghost use Rattle.multihash.specs.Outcome.{pair_of, IsResultOf};
+ghost use Rattle.multihash.specs.Outcome.{IsResultOf};
+ghost use Rattle.multihash.specs.Multihash.{pair_of};
 ghost use Rattle.uses.specs.Listed.{ListsOne, ListMayFailWith};
 
+use crate::headline::Compared;
 use crate::merkle::write_node;
 use multihash::no_std_io::Write;
 use multihash::{Error, Multihash, laws, list};
@@ -35,75 +38,102 @@ pub fn encoding_len<const S: usize>(m: &Multihash<S>) -> usize
     m.encoded_len()
 }
 
-/// Whether two lists have the same encoding: exactly if they have the same pairs, whatever their capacities.
-/// It fails only when out of memory.
+// Two encodings, and whether they are equal.
+fn compared(first: Vec<u8>, second: Vec<u8>) -> Compared
+    ensures first { result.first.items ≡ first.items }
+    ensures second { result.second.items ≡ second.items }
+    ensures same { IsTrue result.same ↔ (result.first.items ≡ result.second.items) }
+{
+    let same = first.as_slice() == second.as_slice();
+    Compared {
+        first,
+        second,
+        same,
+    }
+}
+
+/// Compares the encodings of two lists: they are equal exactly if the lists have the same pairs, whatever
+/// their capacities. It fails only when out of memory.
 pub fn lists_written_alike<const A: usize, const B: usize>(
     alloc: Global,
     a: &[Multihash<A>],
     b: &[Multihash<B>],
-) -> Result<bool, Error>
-    ensures { MatchResult result
-        (λ alike. IsTrue alike ↔ (map pair_of a.now ≡ map pair_of b.now)) IsOutOfMemory }
+) -> Result<Compared, Error>
+    ensures { MatchResult result (λ x. AreConcatenated (map pair_of a.now) x.first.items
+        × AreConcatenated (map pair_of b.now) x.second.items
+        × (IsTrue x.same ↔ (x.first.items ≡ x.second.items))
+        × (IsTrue x.same ↔ (map pair_of a.now ≡ map pair_of b.now))) IsOutOfMemory }
 {
     laws::split_unique();
     let mut first = Vec::new(alloc);
     list::write_list(a, &mut first)?;
     let mut second = Vec::new(alloc);
     list::write_list(b, &mut second)?;
-    Ok(first.as_slice() == second.as_slice())
+    Ok(compared(first, second))
 }
 
-/// Whether two nodes with the same number of links have the same encoding: exactly if their links and their
-/// data are the same. It fails only when out of memory.
+/// Compares the encodings of two nodes with the same number of links: they are equal exactly if the links
+/// and the data are the same. It fails only when out of memory.
 pub fn nodes_written_alike<const A: usize, const B: usize>(
     alloc: Global,
     links: &[Multihash<A>],
     content: &[u8],
     other_links: &[Multihash<B>],
     other_content: &[u8],
-) -> Result<bool, Error>
+) -> Result<Compared, Error>
     requires { length links.now ≡ length other_links.now }
-    ensures { MatchResult result (λ alike. IsTrue alike ↔
-        ((map pair_of links.now ≡ map pair_of other_links.now)
-        × (content.now ≡ other_content.now))) IsOutOfMemory }
+    ensures { MatchResult result (λ x.
+        ((bytes : List ℕ) × AreConcatenated (map pair_of links.now) bytes
+        × (x.first.items ≡ bytes ++ content.now))
+        × ((bytes : List ℕ) × AreConcatenated (map pair_of other_links.now) bytes
+        × (x.second.items ≡ bytes ++ other_content.now))
+        × (IsTrue x.same ↔ (x.first.items ≡ x.second.items))
+        × (IsTrue x.same ↔ ((map pair_of links.now ≡ map pair_of other_links.now)
+        × (content.now ≡ other_content.now)))) IsOutOfMemory }
 {
     laws::split_unique();
     let mut first = Vec::new(alloc);
     write_node(links, content, &mut first)?;
     let mut second = Vec::new(alloc);
     write_node(other_links, other_content, &mut second)?;
-    Ok(first.as_slice() == second.as_slice())
+    Ok(compared(first, second))
 }
 
-/// Whether the SCALE form of one multihash is a prefix of another's: exactly if they have the same pair. It
-/// fails only when out of memory.
+/// Whether the SCALE form of one multihash is a prefix of another's: exactly if they are the same. It fails
+/// only when out of memory.
 pub fn begins_scale<const A: usize, const B: usize>(
     alloc: Global,
     a: &Multihash<A>,
     b: &Multihash<B>,
-) -> Result<bool, Error>
-    ensures { MatchResult result
-        (λ begins. IsTrue begins ↔ (pair_of a.now ≡ pair_of b.now)) IsOutOfMemory }
+) -> Result<Compared, Error>
+    ensures { MatchResult result (λ x. IsScale (pair_of a.now) x.first.items
+        × IsScale (pair_of b.now) x.second.items
+        × (IsPrefix x.first.items x.second.items → IsTrue x.same)
+        × (IsTrue x.same ↔ (pair_of a.now ≡ pair_of b.now))) IsOutOfMemory }
 {
     laws::scale_unique();
     let mut first = Vec::new(alloc);
     a.scale_encode(&mut first)?;
     let mut second = Vec::new(alloc);
     b.scale_encode(&mut second)?;
-    Ok(second.as_slice().starts_with(first.as_slice()))
+    Ok(compared(first, second))
 }
 
-/// Whether two SCALE forms with trailing bytes are equal: exactly if the pairs are the same and so are the
-/// bytes. It fails only when out of memory.
+/// Compares two SCALE forms with trailing bytes: they are equal exactly if the multihashes are the same and
+/// so are the bytes. It fails only when out of memory.
 pub fn scale_streams_alike<const A: usize, const B: usize>(
     alloc: Global,
     a: &Multihash<A>,
     after_a: &[u8],
     b: &Multihash<B>,
     after_b: &[u8],
-) -> Result<bool, Error>
-    ensures { MatchResult result (λ alike. IsTrue alike ↔
-        ((pair_of a.now ≡ pair_of b.now) × (after_a.now ≡ after_b.now))) IsOutOfMemory }
+) -> Result<Compared, Error>
+    ensures { MatchResult result (λ x.
+        ((form : List ℕ) × IsScale (pair_of a.now) form × (x.first.items ≡ form ++ after_a.now))
+        × ((form : List ℕ) × IsScale (pair_of b.now) form × (x.second.items ≡ form ++ after_b.now))
+        × (IsTrue x.same ↔ (x.first.items ≡ x.second.items))
+        × (IsTrue x.same ↔ ((pair_of a.now ≡ pair_of b.now) × (after_a.now ≡ after_b.now))))
+        IsOutOfMemory }
 {
     laws::scale_unique();
     let mut first = Vec::new(alloc);
@@ -112,7 +142,7 @@ pub fn scale_streams_alike<const A: usize, const B: usize>(
     let mut second = Vec::new(alloc);
     b.scale_encode(&mut second)?;
     second.write_all(after_b)?;
-    Ok(first.as_slice() == second.as_slice())
+    Ok(compared(first, second))
 }
 
 /// The length of a multihash's one SCALE form.
@@ -197,10 +227,12 @@ pub fn listed_alike<const A: usize, const B: usize>(a: &Value, b: &Value) -> Res
     Ok(first.same_as(&second))
 }
 
-/// A multihash split into its parts and wrapped again: the same pair.
-pub fn put_together<const S: usize>(m: Multihash<S>) -> Multihash<S>
-    ensures { pair_of result ≡ pair_of m.entry }
+/// Whether a JSON value is something other than an array of bytes.
+pub fn is_other_json(value: &Value) -> bool
+    ensures { IsTrue result ↔ ((bytes : List ℕ) → ¬ (IsByteArray (view value.now) bytes)) }
 {
-    let (code, array, size) = m.into_inner();
-    Multihash::wrap(code, &array[..usize::from(size)]).unwrap()
+    match Multihash::<0>::from_value(value) {
+        Ok(_) => false,
+        Err(e) => e.is_not_bytes(),
+    }
 }

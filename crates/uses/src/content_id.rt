@@ -1,10 +1,11 @@
 //! Content identifiers of versions 0 and 1 (<https://github.com/multiformats/cid>).
-ghost use Rattle.std.specs.Prelude.{◌≡◌, ◌↔◌, ℕ, List, ◌++◌, Some, Option, IfOk, IfErr, OnOk, OnErr, IsErrOf, MatchResult};
-ghost use Rattle.multihash.specs.Reading.{Consumes, CountsReaderFailures};
+ghost use Rattle.std.specs.Prelude.{◌≡◌, ◌⊎◌, ◌↔◌, ℕ, List, ◌++◌, length, IsTrue, Some, Option, IfOk, IfErr, OnOk, OnErr, MatchResult};
+ghost use Rattle.multihash.specs.Reading.{Consumes};
 ghost use Rattle.multihash.specs.Writing.{AppendsPrefix, CountsWriterFailures};
-ghost use Rattle.multihash.specs.Refusal.{Refusal, IsIo, IsReaderError, of_io};
-ghost use Rattle.uses.specs.ContentId.{Content, content_of, content_error_text, IsContentId, FitsContentId, IsRejected, ContentIdMayFailWith, BeginsOtherwise, StopsInContentId, ConsumesAtContentIdError, HasTrailingBytes};
-ghost use Rattle.uses.specs.declared.content_id.ContentIdError.TheVariants.{Refused, OtherVersion, Trailing};
+ghost use Rattle.multihash.specs.Refusal.{IsIo, of_io};
+ghost use Rattle.multihash.specs.Multihash.{pair_of};
+ghost use Rattle.uses.specs.ContentId.{Content, content_of, content_error_text, IsContentId, FitsContentId, ContentIdFails, HasTrailingBytes};
+ghost use Rattle.uses.specs.declared.content_id.ContentIdError.TheVariants.{Refused, Trailing};
 
 mod codec;
 
@@ -86,8 +87,9 @@ impl<const S: usize> ContentId<S> {
     pub fn read<R: Read>(r: &mut R) -> Result<Self, ContentIdError>
         ensures ok { IfOk result (λ id. (bytes : List ℕ) × IsContentId (content_of id) bytes
             × Consumes (R.rest r.old) bytes (R.rest r.new)) }
-        ensures faults { CountsReaderFailures (IsRejected IsReaderError) (ContentIdMayFailWith S)
-            (R.failures r.old) (R.failures r.new) result }
+        ensures unfailed { OnOk result (R.failures r.new ≡ R.failures r.old) }
+        ensures err { IfErr result (λ e. ContentIdFails S (R.failures r.old) (R.failures r.new) e
+            (R.rest r.old) (R.rest r.new)) }
 
         // An identifier that comes next is found, and what follows it is left.
         ensures found { (content : Content) (bytes more : List ℕ) →
@@ -95,13 +97,6 @@ impl<const S: usize> ContentId<S> {
             R.rest r.old ≡ Some (bytes ++ more) →
             R.failures r.new ≡ R.failures r.old → MatchResult result
             (λ id. (content_of id ≡ content) × (R.rest r.new ≡ Some more)) (λ _. ⊥) }
-        ensures other { (n : ℕ) (input : List ℕ) → BeginsOtherwise n input →
-            R.rest r.old ≡ Some input →
-            R.failures r.new ≡ R.failures r.old → IsErrOf result (OtherVersion n) }
-
-        // What was consumed at an error: of another version the bytes that show it.
-        ensures err { IfErr result (λ e.
-            ConsumesAtContentIdError S e (R.rest r.old) (R.rest r.new)) }
     {
         let version = varint::read(r)?;
         if version != VERSION && version != SHA2_256 {
@@ -131,12 +126,9 @@ impl<const S: usize> ContentId<S> {
         ensures ok { IfOk result (λ id. IsContentId (content_of id) bytes.now) }
         ensures found { (content : Content) → IsContentId content bytes.now →
             FitsContentId S content → MatchResult result (λ id. content_of id ≡ content) (λ _. ⊥) }
-        ensures other { (n : ℕ) →
-            (IsErrOf result (OtherVersion n) ↔ BeginsOtherwise n bytes.now) }
-        ensures has_trailing { (n : ℕ) →
-            (IsErrOf result (Trailing n) ↔ HasTrailingBytes S n bytes.now) }
-        ensures refused { (e : Refusal) → IsErrOf result (Refused e) →
-            (left : Option (List ℕ)) × StopsInContentId S e (Some bytes.now) left }
+        ensures err { IfErr result (λ e.
+            ((n : ℕ) × (e ≡ Trailing n) × HasTrailingBytes S n bytes.now)
+            ⊎ ((left : Option (List ℕ)) × ContentIdFails S 0 0 e (Some bytes.now) left)) }
     {
         let mut left = bytes;
         let id = Self::read(&mut left)?;
@@ -154,15 +146,14 @@ impl<const S: usize> ContentId<S> {
     pub fn write<W: Write>(&self, w: &mut W) -> Result<(), Error>
         ensures ok { OnOk result ((bytes : List ℕ) × IsContentId (content_of self.now) bytes
             × W.appended w.old bytes w.new) }
-        ensures err { OnErr result ((bytes : List ℕ) → IsContentId (content_of self.now) bytes →
-            AppendsPrefix W.appended w.old bytes w.new) }
+        ensures err { OnErr result ((bytes : List ℕ) × IsContentId (content_of self.now) bytes
+            × AppendsPrefix W.appended w.old bytes w.new) }
         ensures faults { CountsWriterFailures IsIo W.allocates
             (W.failures w.old) (W.failures w.new) (W.full w.new) result }
     {
         match self {
             ContentId::V0(digest) => {
-                let hash = Multihash::<32>::wrap(SHA2_256, digest).unwrap();
-                hash.write(w)?;
+                bare(digest).write(w)?;
             }
             ContentId::V1 { codec, hash } => {
                 varint::write(VERSION, w)?;
@@ -172,6 +163,46 @@ impl<const S: usize> ContentId<S> {
         }
         Ok(())
     }
+
+    /// Returns the identifier's length in bytes.
+    pub fn encoded_len(&self) -> usize
+        ensures { (bytes : List ℕ) × IsContentId (content_of self.now) bytes
+            × (result ≡ length bytes) }
+    {
+        match self {
+            ContentId::V0(digest) => bare(digest).encoded_len(),
+            ContentId::V1 { codec, hash } => {
+                1 + varint::len(codec.number).unwrap() + hash.encoded_len()
+            }
+        }
+    }
+
+    /// Returns whether both name the same content, whatever the capacities.
+    pub fn same_as<const B: usize>(&self, other: &ContentId<B>) -> bool
+        ensures { IsTrue result ↔ (content_of self.now ≡ content_of other.now) }
+    {
+        match self {
+            ContentId::V0(digest) => match other {
+                ContentId::V0(other) => digest == other,
+                ContentId::V1 { .. } => false,
+            },
+            ContentId::V1 { codec, hash } => match other {
+                ContentId::V0(_) => false,
+                ContentId::V1 {
+                    codec: other_codec,
+                    hash: other,
+                } => codec.number == other_codec.number && hash.same_as(other),
+            },
+        }
+    }
+}
+
+// The multihash that is an identifier of version 0.
+fn bare(digest: &[u8; 32]) -> Multihash<32>
+    ensures pair { pair_of result ≡ record { code = 0x12; digest = digest.now } }
+    ensures whole { length digest.now ≡ 32 }
+{
+    Multihash::wrap(SHA2_256, digest).unwrap()
 }
 
 /// Two identifiers at the same position of a stream are equal, and so is what follows them: no identifier of

@@ -1,8 +1,9 @@
 //! A dump of a stream: every multihash of an input until its end or the first error.
-ghost use Rattle.std.specs.Prelude.{◌<◌, [], Some, map, drop, IfOk, IfSome, IfNone};
+ghost use Rattle.std.specs.Prelude.{◌<◌, [], Some, length, map, drop, IfOk, IfSome, IfNone};
 ghost use Rattle.multihash.specs.Verdict.{Verdict, HasVerdict};
 ghost use Rattle.multihash.specs.Streams.{ConsumesPairs};
-ghost use Rattle.multihash.specs.Outcome.{pair_of, IsErrorOf};
+ghost use Rattle.multihash.specs.Outcome.{IsErrorOf};
+ghost use Rattle.multihash.specs.Multihash.{pair_of};
 
 use multihash::{Error, Multihash};
 use std::alloc::{AllocError, Global};
@@ -30,8 +31,8 @@ pub fn read_all<const S: usize>(alloc: Global, input: &[u8]) -> Result<Dump<S>, 
     requires { S < 65536 }
     ensures end { IfOk result (λ dump. IfNone dump.stop
         (ConsumesPairs S (map pair_of dump.items.items) (Some input.now) (Some []))) }
-    ensures stop { IfOk result (λ dump. IfSome dump.stop (λ stop.
-        ConsumesPairs S (map pair_of dump.items.items) (Some input.now) (Some (drop stop.at input.now))
+    ensures stop { IfOk result (λ dump. IfSome dump.stop (λ stop. (stop.at < length input.now)
+        × ConsumesPairs S (map pair_of dump.items.items) (Some input.now) (Some (drop stop.at input.now))
         × ((v : Verdict) × HasVerdict S (drop stop.at input.now) v × IsErrorOf stop.reason v))) }
 {
     let mut items = Vec::new(alloc);

@@ -12,7 +12,8 @@ ghost use Rattle.multihash.specs.Reading.{Consumes};
 ghost use Rattle.multihash.specs.Writing.{AppendsPrefix, IsWriterFaultOrFull};
 ghost use Rattle.multihash.specs.Consuming.{ConsumesNothingSettling};
 ghost use Rattle.multihash.specs.Refusal.{IsIo, IsOutOfMemory, IsReaderError};
-ghost use Rattle.multihash.specs.Outcome.{pair_of, IsResultOf};
+ghost use Rattle.multihash.specs.Outcome.{IsResultOf};
+ghost use Rattle.multihash.specs.Multihash.{pair_of};
 
 use multihash::no_std_io::{Read, Write};
 use multihash::{Error, Multihash, laws, list};
@@ -57,14 +58,14 @@ pub fn read_verdict<const S: usize, R: Read>(r: &mut R) -> Result<Multihash<S>, 
     Multihash::read(r)
 }
 
-/// The encodings of two multihashes, and whether they are the same.
+/// The encodings of two values, and whether the values are the same.
 #[derive(Drop)]
 pub struct Compared {
     /// The encoding of the first.
     pub first: Vec<u8>,
     /// The encoding of the second.
     pub second: Vec<u8>,
-    /// The result of [`Multihash::same_as`].
+    /// Whether they are the same.
     pub same: bool,
 }
 
@@ -106,8 +107,7 @@ pub fn same<const A: usize, const B: usize>(
 /// another.
 ///
 /// `W.appended` is all that contracts know of what a writer did. For `&mut [u8]` it holds of any bytes of the
-/// right length, so no reader meets the premise of `back`: `slices::list_back` has a list that goes through
-/// a slice.
+/// right length, so no reader meets the premise of `back`; for a vector one does.
 pub fn list_through<const S: usize, const T: usize, W: Write, R: Read>(
     alloc: Global,
     items: &[Multihash<S>],

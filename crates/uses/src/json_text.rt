@@ -4,7 +4,7 @@ ghost use Rattle.serde_json.specs.Data.{Data};
 ghost use Rattle.serde_json.specs.Read.{read};
 ghost use Rattle.multihash.specs.Encoding.{IsEncoding};
 ghost use Rattle.multihash.specs.Json.{IsByteArray, IsJsonList};
-ghost use Rattle.multihash.specs.Outcome.{pair_of};
+ghost use Rattle.multihash.specs.Multihash.{pair_of};
 ghost use Rattle.uses.specs.Listed.{TextMayFailWith};
 ghost use Rattle.uses.specs.declared.json_text.TextError.TheVariants.{Memory};
 

@@ -13,7 +13,6 @@ pub mod headline;
 pub mod json_text;
 pub mod merkle;
 pub mod peer_id;
-pub mod readme;
 pub mod recovery;
 pub mod retries;
 pub mod slices;

@@ -1,10 +1,10 @@
 //! Merkle nodes: links, followed by data.
-ghost use Rattle.std.specs.Prelude.{◌≡◌, ◌⊎◌, ℕ, List, ◌++◌, length, map, All, Some, OnOk, OnErr, IsTrue, MatchResult};
+ghost use Rattle.std.specs.Prelude.{◌≡◌, ◌⊎◌, ℕ, List, ◌++◌, map, All, Some, OnOk, OnErr, MatchResult};
 ghost use Rattle.multihash.specs.Pair.{FitsBuffer};
 ghost use Rattle.multihash.specs.Streams.{AreConcatenated};
 ghost use Rattle.multihash.specs.Writing.{AppendsPrefix, CountsWriterFailures, IsWriterFaultOrFull};
 ghost use Rattle.multihash.specs.Refusal.{IsIo, IsOutOfMemory};
-ghost use Rattle.multihash.specs.Outcome.{pair_of};
+ghost use Rattle.multihash.specs.Multihash.{pair_of};
 
 use multihash::no_std_io::{Read, Write};
 use multihash::{Error, Multihash, list};
@@ -52,21 +52,4 @@ pub fn through<const S: usize, const T: usize, W: Write, R: Read>(
 {
     write_node(links, content, w)?;
     list::read_list(alloc, r, links.len())
-}
-
-/// A node written to memory and read from there: the same links, and whether the data was left, which it is.
-/// It fails only when out of memory.
-pub fn node_back<const S: usize>(
-    alloc: Global,
-    links: &[Multihash<S>],
-    content: &[u8],
-) -> Result<(Vec<Multihash<S>>, bool), Error>
-    ensures { MatchResult result
-        (λ back. (map pair_of back.0.items ≡ map pair_of links.now) × IsTrue back.1) IsOutOfMemory }
-{
-    let mut bytes = Vec::new(alloc);
-    write_node(links, content, &mut bytes)?;
-    let mut left = bytes.as_slice();
-    let back = list::read_list(alloc, &mut left, links.len())?;
-    Ok((back, left == content))
 }

@@ -1,7 +1,7 @@
 //! Peer identifiers: a multihash and its bytes, whatever the capacity.
 ghost use Rattle.std.specs.Prelude.{◌↔◌, IsTrue};
 ghost use Rattle.multihash.specs.Encoding.{IsEncoding};
-ghost use Rattle.multihash.specs.Outcome.{pair_of};
+ghost use Rattle.multihash.specs.Multihash.{pair_of};
 
 use multihash::Multihash;
 

@@ -1,7 +1,7 @@
 //! Streams with corrupt entries: reads what can be read, and counts the rest.
 ghost use Rattle.std.specs.Prelude.{IfOk, IfErr, map};
 ghost use Rattle.multihash.specs.Refusal.{IsOutOfMemory};
-ghost use Rattle.multihash.specs.Outcome.{pair_of};
+ghost use Rattle.multihash.specs.Multihash.{pair_of};
 ghost use Rattle.uses.specs.Recovery.{Recovers};
 
 use multihash::{Error, Multihash};

@@ -1,16 +1,12 @@
 //! Callers that fill a slice, and whose contracts state its bytes.
-ghost use Rattle.std.specs.Prelude.{◌≡◌, ◌<◌, ℕ, List, ◌++◌, length, map, drop, All, MatchOption, MatchResult};
+ghost use Rattle.std.specs.Prelude.{◌≡◌, ◌<◌, ℕ, List, ◌++◌, length, map, drop, MatchOption};
 ghost use Rattle.multihash.specs.Encoding.{IsEncoding};
 ghost use Rattle.multihash.specs.Streams.{AreConcatenated};
-ghost use Rattle.multihash.specs.Pair.{FitsBuffer};
-ghost use Rattle.multihash.specs.Refusal.{IsOutOfMemory};
-ghost use Rattle.multihash.specs.Outcome.{pair_of};
+ghost use Rattle.multihash.specs.Multihash.{pair_of};
 
-use crate::forms::read_pairs;
+use multihash::Multihash;
 use multihash::list::write_list;
 use multihash::no_std_io::SliceWriter;
-use multihash::{Error, Multihash};
-use std::alloc::Global;
 
 /// Writes the encoding to the front of `buffer` and returns its length; none if it does not fit, and then the
 /// bytes are unchanged.
@@ -38,23 +34,4 @@ pub fn encode_all_into<const S: usize>(items: &[Multihash<S>], buffer: &mut [u8]
         Ok(()) => Some(writer.filled),
         Err(_) => None,
     }
-}
-
-/// Writes multihashes to the front of `buffer`, and reads them back with the same capacity or another: the
-/// same pairs in order, if they fit; none if the slice is too short. It fails only when out of memory.
-pub fn list_back<const S: usize, const R: usize>(
-    alloc: Global,
-    items: &[Multihash<S>],
-    buffer: &mut [u8],
-) -> Result<Option<Vec<Multihash<R>>>, Error>
-    ensures { All (FitsBuffer R) (map pair_of items.now) →
-        MatchResult result (λ back. (bytes : List ℕ) × AreConcatenated (map pair_of items.now) bytes
-        × MatchOption back (length buffer.old < length bytes)
-        (λ list. map pair_of list.items ≡ map pair_of items.now)) IsOutOfMemory }
-{
-    let Some(filled) = encode_all_into(items, buffer) else {
-        return Ok(None);
-    };
-    let mut left = &buffer[..filled];
-    Ok(Some(read_pairs(alloc, &mut left, items.len())?))
 }

@@ -5,7 +5,8 @@ use Rattle.std.proofs.lemmas.List.Elements.{All-take, All-head}
 use Rattle.multihash.proofs.Varints.DigitLemmas.{All-append_right}
 use Rattle.std.proofs.lemmas.Bool.{lt-ltb}
 use Rattle.std.proofs.lemmas.List.Sums.{sum_by-append}
-use Rattle.multihash.specs.Outcome.{Fields, IsErrorOf, IsResultOf}
+use Rattle.multihash.specs.Outcome.{IsErrorOf, IsResultOf}
+use Rattle.multihash.specs.Multihash.{Fields}
 use Rattle.multihash.specs.Bytes.{IsPrefix, IsBytes, ExactlyOne}
 use Rattle.multihash.specs.Refusal.{Refusal}
 use Rattle.multihash.specs.Settling.{Settles, IsShortestSettling}

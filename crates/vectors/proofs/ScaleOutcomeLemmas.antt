@@ -1,7 +1,8 @@
 -- A result of decoding has one verdict, and a reading is as listed if its result and the number of bytes
 -- consumed are.
 use Rattle.std.proofs.Common.{◌≡◌, ◌≢◌, ◌↔◌, ℕ, ◌+◌, ◌<◌, ◌≤◌, List, [], ◌∷◌, ◌++◌, Option, None, Some, Ok, Err, IfOk, IfErr, MatchOption, Result, length, length-append, append-nil, append_assoc, arith, subst, ap, sym, ◌∙◌, refl, inl, inr}
-use Rattle.multihash.specs.Outcome.{Fields, pair_of, IsErrorOf, IsResultOf}
+use Rattle.multihash.specs.Outcome.{IsErrorOf, IsResultOf}
+use Rattle.multihash.specs.Multihash.{Fields, pair_of}
 use Rattle.multihash.specs.Bytes.{IsStrictPrefix}
 use Rattle.multihash.specs.Reading.{Consumes}
 use Rattle.multihash.specs.Refusal.{Refusal}

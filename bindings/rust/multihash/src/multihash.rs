@@ -1,5 +1,6 @@
 use crate::io::{Read, Write};
-use crate::{read, Error};
+use crate::read::{self, MORE};
+use crate::Error;
 use core::cmp::Ordering;
 use core::hash::{Hash, Hasher};
 use multihash_c::{MultihashRef, CODE_MAX, DIGEST_MAX};
@@ -91,6 +92,11 @@ impl<const S: usize> Multihash<S> {
     ///
     /// That of the writer. A prefix of the encoding may have been written.
     pub fn write<W: Write>(&self, mut w: W) -> Result<usize, Error> {
+        if let Some(head) = self.short_head() {
+            w.write_all(&head).map_err(Error::io)?;
+            w.write_all(self.digest()).map_err(Error::io)?;
+            return Ok(head.len() + usize::from(self.size));
+        }
         self.borrowed().with_encoding(|bytes| match w.write_all(bytes) {
             Ok(()) => Ok(bytes.len()),
             Err(error) => Err(Error::io(error)),
@@ -99,7 +105,11 @@ impl<const S: usize> Multihash<S> {
 
     /// Returns the length of the encoding.
     pub fn encoded_len(&self) -> usize {
-        self.borrowed().encoded_len()
+        let head = match self.short_head() {
+            Some(head) => head.len(),
+            None => varint_len(self.code) + varint_len(self.size.into()),
+        };
+        head + usize::from(self.size)
     }
 
     /// Returns the encoding.
@@ -136,9 +146,21 @@ impl<const S: usize> Multihash<S> {
         (self.code, self.digest, self.size)
     }
 
+    /// Returns the varints of the code and the size if each is one byte, which is its own number. They are made
+    /// as one number, which a processor writes and reads again faster than two.
+    fn short_head(&self) -> Option<[u8; 2]> {
+        let is_short = (self.code | u64::from(self.size)) < MORE.into();
+        is_short.then(|| (self.code as u16 | u16::from(self.size) << 8).to_le_bytes())
+    }
+
     pub(crate) fn borrowed(&self) -> MultihashRef<'_> {
         MultihashRef::wrap(self.code, self.digest()).expect("each value has a valid code and digest")
     }
+}
+
+/// Returns the length of a number's varint: a byte for each seven bits, and one for 0.
+const fn varint_len(number: u64) -> usize {
+    (u64::BITS - (number | 1).leading_zeros()).div_ceil(7) as usize
 }
 
 /// The code 0 and no digest.

@@ -7,7 +7,7 @@ use multihash_c::{Error as Format, Head, HEAD_MAX};
 const VARINT_MAX: usize = HEAD_MAX / 2;
 
 /// A byte with this bit is not the last one of its varint.
-const MORE: u8 = 0x80;
+pub(crate) const MORE: u8 = 0x80;
 
 /// Reads the two varints, and no byte after them. Each has at least one byte, and a byte without `MORE` is a
 /// whole varint: its own number. Every other head is decoded by `Head::read`.

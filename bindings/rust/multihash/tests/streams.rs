@@ -1,152 +1,191 @@
-//! Readers and writers: short, interrupted, failing, panicking, and wrong ones.
-#![cfg(feature = "std")]
+//! Readers and writers, of `std` or `no_std_io`: short, interrupted, failing, panicking, and wrong ones.
 use multihash::{Error, Multihash};
 use multihash_c::MultihashRef;
 use std::error::Error as _;
-use std::io::{self, BufReader, Cursor, ErrorKind, Read, Write};
 use std::panic::{catch_unwind, AssertUnwindSafe};
 
-type Answer = fn() -> io::Result<usize>;
+#[cfg(not(feature = "std"))]
+use multihash::no_std_io as io;
+#[cfg(feature = "std")]
+use std::io;
 
-/// Returns its bytes one by one, and once something else, before the byte at `at`.
-struct Reader<'a> {
-    bytes: &'a [u8],
+use io::{Read, Write};
+
+const HAS_STD: bool = cfg!(feature = "std");
+const INSUFFICIENT: &str = if HAS_STD { "unexpected end of file" } else { "not enough input bytes" };
+const UNEXPECTED_EOF: &str = "failed to fill whole buffer";
+const NO_ROOM: &str = "failed to write whole buffer";
+
+type Fault = fn() -> Result<usize, io::Error>;
+
+/// Reads or writes one byte per call, and once does something else, before the byte at `at`.
+struct Slow<T> {
+    bytes: T,
     at: usize,
-    answer: Option<Answer>,
+    fault: Option<Fault>,
 }
 
-impl Read for Reader<'_> {
-    fn read(&mut self, out: &mut [u8]) -> io::Result<usize> {
-        assert!(!out.is_empty());
-        if self.at == 0 {
-            if let Some(answer) = self.answer.take() {
-                return answer();
-            }
-        }
-        self.at = self.at.wrapping_sub(1);
-        self.bytes.read(&mut out[..1])
+impl<T> Slow<T> {
+    fn next(&mut self) -> Option<Fault> {
+        let fault = if self.at == 0 { self.fault.take() } else { None };
+        self.at = self.at.wrapping_sub(usize::from(fault.is_none()));
+        fault
     }
 }
 
-/// Accepts one byte per call, and once returns something else, before the byte at `at`.
-struct Writer {
-    bytes: Vec<u8>,
-    at: usize,
-    answer: Option<Answer>,
+impl Read for Slow<&[u8]> {
+    fn read(&mut self, out: &mut [u8]) -> Result<usize, io::Error> {
+        assert!(!out.is_empty());
+        self.next().map_or_else(|| self.bytes.read(&mut out[..1]), |fault| fault())
+    }
 }
 
-impl Write for Writer {
-    fn write(&mut self, bytes: &[u8]) -> io::Result<usize> {
-        if self.bytes.len() == self.at {
-            if let Some(answer) = self.answer.take() {
-                return answer();
-            }
+impl Write for Slow<Vec<u8>> {
+    fn write(&mut self, bytes: &[u8]) -> Result<usize, io::Error> {
+        assert!(!bytes.is_empty());
+        if let Some(fault) = self.next() {
+            return fault();
         }
         self.bytes.push(bytes[0]);
         Ok(1)
     }
 
+    #[cfg(feature = "std")]
     fn flush(&mut self) -> io::Result<()> {
         unreachable!("nothing flushes")
     }
 }
 
-/// Two multihashes, and what follows them.
-const STREAM: &[u8] = b"\x80\x02\x03abc\x12\x01zrest";
-const FIRST: usize = 6;
+fn slow(bytes: &[u8]) -> Slow<&[u8]> {
+    Slow { bytes, at: 0, fault: None }
+}
 
-fn each_byte(answer: Answer, mut check: impl FnMut(Reader<'static>, Writer)) {
-    for at in 0..FIRST {
-        let reader = Reader { bytes: STREAM, at, answer: Some(answer) };
-        check(reader, Writer { bytes: Vec::new(), at, answer: Some(answer) });
+type Value = Multihash<200>;
+
+/// A multihash, its encoding, and the length of its head.
+struct Case {
+    value: Value,
+    encoding: Vec<u8>,
+    head: usize,
+}
+
+/// One with a head of two bytes, and one with a longer head.
+fn cases() -> [Case; 2] {
+    let digest: [u8; 200] = std::array::from_fn(|at| at as u8);
+    [(0x12, 100, &b"\x12\x64"[..]), (0x100, 200, b"\x80\x02\xc8\x01")].map(|(code, size, head)| Case {
+        value: Multihash::wrap(code, &digest[..size]).expect("it fits"),
+        encoding: [head, &digest[..size]].concat(),
+        head: head.len(),
+    })
+}
+
+/// What follows in a stream.
+const REST: &[u8] = b"\x12\x01zrest";
+
+/// Calls `check` with a reader and a writer that do something else before each byte of an encoding, with that
+/// byte's index.
+fn each_byte(fault: Fault, check: impl Fn(&Case, usize, Slow<&[u8]>, Slow<Vec<u8>>)) {
+    for case in cases() {
+        let stream = [&case.encoding, REST].concat();
+        for at in 0..case.encoding.len() {
+            let reader = Slow { bytes: &stream[..], at, fault: Some(fault) };
+            check(&case, at, reader, Slow { bytes: Vec::new(), at, fault: Some(fault) });
+        }
     }
 }
 
-fn first() -> Multihash<32> {
-    Multihash::from_bytes(&STREAM[..FIRST]).expect("a multihash")
+/// Both multihashes of a stream are read, and no byte more; the first is written.
+fn check_whole(case: &Case, mut reader: Slow<&[u8]>, mut writer: Slow<Vec<u8>>) {
+    assert_eq!(Value::read(&mut reader).expect("a multihash"), case.value);
+    assert_eq!(Value::read(&mut reader).expect("a multihash").digest(), b"z");
+    assert_eq!(reader.bytes, b"rest");
+    assert_eq!(case.value.write(&mut writer).expect("it is written"), case.encoding.len());
+    assert_eq!(writer.bytes, case.encoding);
 }
 
-fn source(error: &Error) -> &io::Error {
-    error.source().and_then(|source| source.downcast_ref()).expect("the reader's or the writer's error")
+fn texts(error: &Error) -> (String, Option<String>) {
+    (error.to_string(), error.source().map(ToString::to_string))
 }
 
 #[test]
-fn interrupted_and_short() {
-    each_byte(
-        || Err(ErrorKind::Interrupted.into()),
-        |mut reader, mut writer| {
-            assert_eq!(Multihash::<3>::read(&mut reader).expect("a multihash"), first());
-            assert_eq!(Multihash::<3>::read(&mut reader).expect("a multihash").to_bytes(), b"\x12\x01z");
-            assert_eq!(reader.bytes, b"rest");
-            assert_eq!(first().write(&mut writer).expect("it is written"), FIRST);
-            assert_eq!(writer.bytes, STREAM[..FIRST]);
-        },
-    );
+fn one_byte_a_call() {
+    for case in cases() {
+        let stream = [&case.encoding, REST].concat();
+        check_whole(&case, slow(&stream), Slow { bytes: Vec::new(), at: 0, fault: None });
+    }
 }
 
+#[cfg(feature = "std")]
+#[test]
+fn interrupted() {
+    let interrupt: Fault = || Err(io::ErrorKind::Interrupted.into());
+    each_byte(interrupt, |case, _, reader, writer| check_whole(case, reader, writer));
+}
+
+#[cfg(feature = "std")]
 #[test]
 fn failing() {
-    for kind in [ErrorKind::TimedOut, ErrorKind::UnexpectedEof] {
-        let answer: Answer = match kind {
-            ErrorKind::TimedOut => || Err(io::Error::new(ErrorKind::TimedOut, "größer")),
-            _ => || Err(io::Error::new(ErrorKind::UnexpectedEof, "größer")),
-        };
-        each_byte(answer, |mut reader, mut writer| {
-            let at = reader.at;
+    let faults: [(_, Fault); 2] = [
+        (io::ErrorKind::TimedOut, || Err(io::Error::new(io::ErrorKind::TimedOut, "größer"))),
+        (io::ErrorKind::UnexpectedEof, || Err(io::Error::new(io::ErrorKind::UnexpectedEof, "größer"))),
+    ];
+    for (kind, fault) in faults {
+        each_byte(fault, |case, at, mut reader, mut writer| {
             let failures = [
-                Multihash::<3>::read(&mut reader).expect_err("a failure"),
-                first().write(&mut writer).expect_err("a failure"),
+                Value::read(&mut reader).expect_err("a failure"),
+                case.value.write(&mut writer).expect_err("a failure"),
             ];
-            assert!(failures.iter().all(|it| source(it).kind() == kind && it.to_string() == "größer"));
-            assert_eq!((reader.bytes, &writer.bytes[..]), (&STREAM[at..], &STREAM[..at]));
+            for failure in failures {
+                let source =
+                    failure.source().and_then(|it| it.downcast_ref::<io::Error>()).expect("its source");
+                assert_eq!((source.kind(), failure.to_string()), (kind, "größer".into()));
+            }
+            assert_eq!(reader.bytes, [&case.encoding[at..], REST].concat());
+            assert_eq!(writer.bytes, case.encoding[..at]);
         });
     }
 }
 
+/// One that panics, and one that returns a wrong number.
 #[test]
 fn panicking() {
-    each_byte(
-        || panic!("on purpose"),
-        |mut reader, mut writer| {
-            let at = reader.at;
-            catch_unwind(AssertUnwindSafe(|| Multihash::<3>::read(&mut reader))).expect_err("a panic");
-            catch_unwind(AssertUnwindSafe(|| first().write(&mut writer))).expect_err("a panic");
-            assert_eq!((reader.bytes, &writer.bytes[..]), (&STREAM[at..], &STREAM[..at]));
-        },
-    );
-}
-
-#[test]
-fn wrong_numbers() {
-    each_byte(
-        || Ok(usize::MAX),
-        |mut reader, mut writer| {
-            catch_unwind(AssertUnwindSafe(|| Multihash::<3>::read(&mut reader))).expect_err("a panic");
-            catch_unwind(AssertUnwindSafe(|| first().write(&mut writer))).expect_err("a panic");
-        },
-    );
+    let faults: [Fault; 2] = [|| panic!("on purpose"), || Ok(usize::MAX)];
+    for fault in faults {
+        each_byte(fault, |case, at, mut reader, mut writer| {
+            catch_unwind(AssertUnwindSafe(|| Value::read(&mut reader))).expect_err("a panic");
+            catch_unwind(AssertUnwindSafe(|| case.value.write(&mut writer))).expect_err("a panic");
+            assert_eq!(reader.bytes, [&case.encoding[at..], REST].concat());
+            assert_eq!(writer.bytes, case.encoding[..at]);
+        });
+    }
 }
 
 #[test]
 fn ends() {
     each_byte(
         || Ok(0),
-        |mut reader, mut writer| {
-            let text = if reader.at < 3 { "unexpected end of file" } else { "failed to fill whole buffer" };
-            let failure = Multihash::<3>::read(&mut reader).expect_err("an end");
-            assert_eq!(
-                (source(&failure).kind(), failure.to_string()),
-                (ErrorKind::UnexpectedEof, text.into())
-            );
-            let failure = first().write(&mut writer).expect_err("an end");
-            assert_eq!(source(&failure).kind(), ErrorKind::WriteZero);
+        |case, at, mut reader, mut writer| {
+            let end = if at < case.head { INSUFFICIENT } else { UNEXPECTED_EOF };
+            let has_source = HAS_STD || at >= case.head;
+            let failures = [Value::read(&mut reader), Value::from_bytes(&case.encoding[..at])];
+            for failure in failures {
+                let found = texts(&failure.expect_err("an end"));
+                assert_eq!(found, (end.into(), has_source.then(|| end.into())));
+            }
+            let mut out = [0xa5; 204];
+            let failures = [case.value.write(&mut writer), case.value.write(&mut out[..at])];
+            for failure in failures {
+                assert_eq!(texts(&failure.expect_err("it is full")), (NO_ROOM.into(), Some(NO_ROOM.into())));
+            }
+            assert_eq!((&out[..at], out[at]), (&case.encoding[..at], 0xa5));
+            assert_eq!(writer.bytes, case.encoding[..at]);
         },
     );
 }
 
 /// What stays in a reader after an error, and that nothing after a value is read.
 #[test]
-fn left_over() {
+fn trailing() {
     for (bytes, left) in [
         (&b""[..], 0),
         (b"\x12", 0),
@@ -163,24 +202,26 @@ fn left_over() {
         (b"\x00\x00rest", 4),
         (b"\xff\xff\xff\xff\xff\xff\xff\xff\x7f\x83\x01rest", 4),
     ] {
-        let mut slice = bytes;
-        let results = [
-            Multihash::<3>::read(&mut slice).map_err(|error| error.to_string()),
-            Multihash::<3>::read(&mut Cursor::new(bytes)).map_err(|error| error.to_string()),
-            Multihash::<3>::read(BufReader::with_capacity(3, bytes)).map_err(|error| error.to_string()),
-            Multihash::<3>::read(Reader { bytes, at: usize::MAX, answer: None })
-                .map_err(|error| error.to_string()),
-        ];
-        assert!(results.iter().all(|it| *it == results[0]), "{results:?}");
-        assert_eq!(slice.len(), left, "{bytes:?}");
-        let (mut cursor, mut reader) = (Cursor::new(bytes), Reader { bytes, at: usize::MAX, answer: None });
-        let _ = (Multihash::<3>::read(&mut cursor), Multihash::<3>::read(&mut reader));
-        assert_eq!((bytes.len() - cursor.position() as usize, reader.bytes.len()), (left, left), "{bytes:?}");
+        let (mut slice, mut reader) = (bytes, slow(bytes));
+        let found = Multihash::<3>::read(&mut slice).map_err(|error| error.to_string());
+        assert_eq!(found, Multihash::<3>::read(&mut reader).map_err(|error| error.to_string()));
+        assert_eq!(reader.bytes.len(), left, "{bytes:?}");
+        // without `std` a slice that is too short keeps its bytes
+        let kept = if !HAS_STD && found == Err(UNEXPECTED_EOF.into()) { 2 } else { left };
+        assert_eq!(slice.len(), kept, "{bytes:?}");
+        #[cfg(feature = "std")]
+        {
+            let mut cursor = io::Cursor::new(bytes);
+            assert_eq!(found, Multihash::<3>::read(&mut cursor).map_err(|error| error.to_string()));
+            assert_eq!(bytes.len() - cursor.position() as usize, left);
+            let buffered = io::BufReader::with_capacity(3, bytes);
+            assert_eq!(found, Multihash::<3>::read(buffered).map_err(|error| error.to_string()));
+        }
     }
 }
 
-/// `read` itself decodes the heads of two bytes without a continuation. For each first two bytes it does what
-/// the proved functions do.
+/// `read` and `write` decode and encode heads of two bytes in plain Rust, and `encoded_len` all lengths. For
+/// each first two bytes they do what the proved functions do.
 #[test]
 fn each_two_bytes() {
     let mut input = [7; 2 + 255];
@@ -190,19 +231,26 @@ fn each_two_bytes() {
             let (mut ours, mut proved) = (&input[..], &input[..]);
             let found = Multihash::<255>::read(&mut ours).map_err(|error| error.to_string());
             let wanted = MultihashRef::read_limit(&mut proved, 255);
-            match (&found, wanted) {
-                (Ok(found), Ok(wanted)) => assert_eq!(MultihashRef::from(found), wanted),
-                (Err(found), Err(wanted)) => assert_eq!(*found, wanted.to_string()),
-                _ => panic!("{code} {size}: {found:?}, {wanted:?}"),
+            match (found, wanted) {
+                (Ok(found), Ok(wanted)) => {
+                    assert_eq!(MultihashRef::from(&found), wanted);
+                    let mut out = [0; 266];
+                    let length = found.write(&mut out[..]).expect("room");
+                    assert_eq!((Some(&out[..length]), found.encoded_len()), (wanted.encoding(), length));
+                }
+                (Err(found), Err(wanted)) => assert_eq!(found, wanted.to_string()),
+                (found, wanted) => panic!("{code} {size}: {found:?}, {wanted:?}"),
             }
-            assert!(ours.len() == proved.len() || wanted == Err(multihash_c::Error::UnexpectedEof));
+            assert_eq!(ours.len(), proved.len());
         }
     }
 }
 
+#[cfg(not(feature = "std"))]
 #[test]
-fn a_full_buffer() {
-    let mut out = [0xa5; FIRST - 1];
-    let failure = first().write(&mut out[..]).expect_err("it is full");
-    assert_eq!((source(&failure).kind(), &out[..]), (ErrorKind::WriteZero, &STREAM[..FIRST - 1]));
+fn debug_without_std() {
+    let of = |bytes: &[u8]| format!("{:?}", Multihash::<3>::from_bytes(bytes).expect_err("an end"));
+    let end = "Io(Error { kind: UnexpectedEof, error: \"failed to fill whole buffer\" })";
+    assert_eq!(of(b"\x12\x01"), format!("Error {{ kind: {end} }}"));
+    assert_eq!(of(b"\x12"), "Error { kind: Varint(Insufficient) }");
 }

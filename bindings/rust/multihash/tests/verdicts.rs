@@ -1,7 +1,7 @@
-//! The test vectors of the library, each with a buffer of its size.
+//! The test vectors of the library, for this package and for `multihash_c`.
 #![cfg(feature = "std")]
-use multihash::{Error, Multihash};
-use multihash_c::{MultihashRef, SCALE_LENGTH_MAX};
+use multihash::Multihash;
+use multihash_c::{varint, Error, Head, MultihashRef, LENGTH_MAX, SCALE_LENGTH_MAX};
 use std::path::Path;
 use std::{env, fs};
 
@@ -13,72 +13,155 @@ fn bytes_of(hex: &str) -> Vec<u8> {
     (0..digits.len()).step_by(2).map(byte).collect()
 }
 
-fn pair(code: u64, digest: &[u8]) -> String {
-    let hex: String = digest.iter().map(|byte| format!("{byte:02x}")).collect();
-    format!("pair {code} {}", if hex.is_empty() { "-" } else { &hex })
-}
-
-/// The error of a line: its text, as this crate has it.
-fn text(words: &str) -> String {
-    match words.split_once(' ').unwrap_or((words, "")) {
-        ("insufficient", _) => "unexpected end of file".into(),
-        ("overflow", _) => "input bytes exceed maximum".into(),
-        ("not_minimal", _) => "encoding is not minimal".into(),
-        ("unexpected_eof", _) => "failed to fill whole buffer".into(),
-        ("invalid_size", size) => format!("Invalid multihash size {size}."),
-        _ => panic!("{words}"),
+/// What a line has for a result: a pair, or an error as `multihash_c` has it.
+fn wanted(words: &str) -> Result<(u64, Vec<u8>), Error> {
+    let words: Vec<&str> = words.split(' ').collect();
+    let number = |text: &str| text.parse().expect("a number");
+    match words[..] {
+        ["pair", code, digest] => Ok((number(code), bytes_of(digest))),
+        ["insufficient"] => Err(Error::Insufficient),
+        ["overflow"] => Err(Error::Overflow),
+        ["not_minimal"] => Err(Error::NotMinimal),
+        ["unexpected_eof"] => Err(Error::UnexpectedEof),
+        ["invalid_size", size] => Err(Error::InvalidSize(number(size))),
+        ["invalid_code", code] => Err(Error::InvalidCode(number(code))),
+        _ => panic!("{words:?}"),
     }
 }
 
-fn check_result<const S: usize>(result: &Result<Multihash<S>, Error>, wanted: &str) {
-    match result {
-        Ok(multihash) => assert_eq!(pair(multihash.code(), multihash.digest()), wanted),
-        Err(error) => assert_eq!(error.to_string(), text(wanted)),
+fn borrowed(found: Result<MultihashRef<'_>, Error>) -> Result<(u64, Vec<u8>), Error> {
+    found.map(|it| (it.code(), it.digest().to_vec()))
+}
+
+/// The results of this package have the same errors, by their texts.
+fn owned<const S: usize>(found: Result<Multihash<S>, multihash::Error>) -> Result<(u64, Vec<u8>), String> {
+    found.map(|it| (it.code(), it.digest().to_vec())).map_err(|error| error.to_string())
+}
+
+fn text(error: Error) -> String {
+    match error {
+        Error::Insufficient => "unexpected end of file".into(),
+        other => other.to_string(),
     }
 }
 
-/// A line of the test vectors, at capacity `S`.
+/// A line of the test vectors.
 struct Row<'a> {
     input: &'a [u8],
     read: &'a str,
     read_taken: &'a str,
     from_bytes: &'a str,
+    scale_decode: &'a str,
+    scale_taken: &'a str,
 }
 
 impl Row<'_> {
     fn check<const S: usize>(&self) {
-        check_result(&Multihash::<S>::from_bytes(self.input), self.from_bytes);
+        assert_eq!(owned(Multihash::<S>::from_bytes(self.input)), wanted(self.from_bytes).map_err(text));
         let mut rest = self.input;
         let found = Multihash::<S>::read(&mut rest);
-        check_result(&found, self.read);
-        assert!(self.read_taken == "-" || self.read_taken == (self.input.len() - rest.len()).to_string());
+        self.is_taken(self.read_taken, rest);
+        if let Ok(multihash) = &found {
+            check_owned(multihash, &self.input[..self.input.len() - rest.len()]);
+        }
+        assert_eq!(owned(found), wanted(self.read).map_err(text));
+        self.check_borrowed(S);
+        self.check_head();
+        check_varints(self.input);
+    }
+
+    fn is_taken(&self, taken: &str, rest: &[u8]) {
+        assert!(taken == "-" || taken == (self.input.len() - rest.len()).to_string());
+    }
+
+    fn check_borrowed(&self, limit: usize) {
+        let mut rest = self.input;
+        let found = MultihashRef::read_limit(&mut rest, limit);
+        assert_eq!(borrowed(found), wanted(self.read));
+        self.is_taken(self.read_taken, rest);
         if let Ok(multihash) = found {
-            check_back(&multihash, &self.input[..self.input.len() - rest.len()]);
+            check_encoders(&multihash, &self.input[..self.input.len() - rest.len()]);
+        }
+        if limit >= 255 {
+            assert_eq!(borrowed(MultihashRef::from_bytes(self.input)), wanted(self.from_bytes));
+            let mut rest = self.input;
+            let found = MultihashRef::scale_decode(&mut rest);
+            assert_eq!(borrowed(found), wanted(self.scale_decode));
+            self.is_taken(self.scale_taken, rest);
+            assert_eq!(found.ok().and_then(|found| found.encoding()), None);
+        }
+    }
+
+    fn check_head(&self) {
+        match (Head::read(self.input), wanted(self.read)) {
+            (Ok(head), Ok((code, digest))) => {
+                assert_eq!((head.code(), head.digest_length()), (code, digest.len() as u64));
+                assert_eq!((head.digest_offset() + digest.len()).to_string(), self.read_taken);
+            }
+            (Ok(head), Err(Error::InvalidSize(size))) => {
+                assert_eq!(head.digest_length(), size);
+                assert_eq!(head.digest_offset().to_string(), self.read_taken);
+            }
+            (Ok(_), other) => assert_eq!(other, Err(Error::UnexpectedEof)),
+            (Err(error), other) => assert_eq!(other, Err(error)),
         }
     }
 }
 
-/// Every way to write a multihash gives its encoding, and what was written is read.
-fn check_back<const S: usize>(multihash: &Multihash<S>, encoding: &[u8]) {
+/// Both varints, decoded one by one, are those of the head.
+fn check_varints(mut bytes: &[u8]) {
+    let whole = Head::read(bytes);
+    let code = varint::read(&mut bytes);
+    let length = code.and_then(|_| varint::read(&mut bytes));
+    match whole {
+        Ok(head) => assert_eq!((code, length), (Ok(head.code()), Ok(head.digest_length()))),
+        Err(error) => assert_eq!(length, Err(error)),
+    }
+    for number in code.into_iter().chain(length) {
+        let mut out = [0xa5; varint::LENGTH];
+        let length = varint::encode(number, &mut out).expect("room");
+        assert_eq!(varint::read(&mut &out[..length]), Ok(number));
+        assert_eq!(out[length..], [0xa5; varint::LENGTH][length..]);
+        assert_eq!(varint::encode(number, &mut out[..length - 1]), Err(Error::NoRoom(length)));
+        assert_eq!(varint::read(&mut &out[..length - 1]), Err(Error::Insufficient));
+    }
+}
+
+/// Every way to write a multihash gives its encoding, which it also has.
+fn check_encoders(multihash: &MultihashRef<'_>, encoding: &[u8]) {
+    assert_eq!(multihash.encoding(), Some(encoding));
+    let made = MultihashRef::wrap(multihash.code(), multihash.digest()).expect("it was decoded");
+    assert_eq!((made, made.encoding(), made.size()), (*multihash, None, multihash.size()));
+    for it in [multihash, &made] {
+        let mut out = [0xa5; LENGTH_MAX + 1];
+        let length = it.encode(&mut out).expect("room");
+        assert_eq!((&out[..length], &out[length..]), (encoding, &[0xa5; LENGTH_MAX + 1][length..]));
+        assert_eq!(it.encode(&mut out[..length - 1]), Err(Error::NoRoom(length)));
+        assert_eq!((it.with_encoding(|bytes| bytes == encoding), it.encoded_len()), (true, length));
+        let mut form = [0xa5; SCALE_LENGTH_MAX];
+        let length = it.scale_encode(&mut form).expect("room");
+        assert_eq!(MultihashRef::scale_decode(&mut &form[..length]), Ok(*multihash));
+        assert_eq!(it.scale_encode(&mut form[..length - 1]), Err(Error::NoRoom(length)));
+    }
+}
+
+fn check_owned<const S: usize>(multihash: &Multihash<S>, encoding: &[u8]) {
     let mut written = Vec::new();
     assert_eq!(multihash.write(&mut written).expect("a vector"), encoding.len());
-    assert_eq!(
-        (&written[..], &multihash.to_bytes()[..], &Vec::from(*multihash)[..]),
-        (encoding, encoding, encoding)
-    );
-    assert_eq!(multihash.encoded_len(), encoding.len());
-    let mut form = [0; SCALE_LENGTH_MAX];
-    let length = MultihashRef::from(multihash).scale_encode(&mut form).expect("room");
-    let found = MultihashRef::scale_decode(&mut &form[..length]).expect("a form");
-    assert_eq!(Multihash::<S>::try_from(found).expect("it fits"), *multihash);
+    assert_eq!((&written[..], &multihash.to_bytes()[..]), (encoding, encoding));
+    assert_eq!((Vec::from(*multihash).len(), multihash.encoded_len()), (encoding.len(), encoding.len()));
     let (code, digest, size) = multihash.into_inner();
     assert_eq!(Multihash::<S>::wrap(code, &digest[..size.into()]).expect("it fits"), *multihash);
+    let borrowed = MultihashRef::from(multihash);
+    assert_eq!(Multihash::<S>::try_from(borrowed).expect("it fits"), *multihash);
 }
 
 fn check_line(line: &str) {
     let columns: Vec<&str> = line.split('\t').collect();
-    let [size, input, read, read_taken, from_bytes, ..] = columns[..] else { panic!("{line}") };
-    let row = Row { input: &bytes_of(input), read, read_taken, from_bytes };
+    let [size, input, read, read_taken, from_bytes, scale_decode, scale_taken] = columns[..] else {
+        panic!("{line}")
+    };
+    let row = Row { input: &bytes_of(input), read, read_taken, from_bytes, scale_decode, scale_taken };
     match size {
         "0" => row.check::<0>(),
         "1" => row.check::<1>(),

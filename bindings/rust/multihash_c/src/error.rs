@@ -8,7 +8,7 @@ use core::{error, fmt};
 pub enum Error {
     /// The input ends before or inside a varint. More input can change the result.
     Insufficient,
-    /// A varint has more than nine bytes, so that its number is 2^63 or above.
+    /// A varint has more than nine bytes, as every number of 2^63 or above needs.
     Overflow,
     /// A varint has more than one byte and ends in a zero: it is not the shortest one of its number.
     NotMinimal,
@@ -26,7 +26,11 @@ pub enum Error {
 pub type Result<T> = core::result::Result<T, Error>;
 
 impl Error {
-    /// Whether more input can change the result.
+    /// Returns whether the input is truncated: it ends before or within a varint or the digest.
+    ///
+    /// A function that decodes the start of its input returns such an error exactly if more input can change
+    /// the result. [`MultihashRef::from_bytes`](crate::MultihashRef::from_bytes) decodes a whole input: more
+    /// input can change other results too.
     pub const fn is_incomplete(&self) -> bool {
         matches!(self, Error::Insufficient | Error::UnexpectedEof)
     }

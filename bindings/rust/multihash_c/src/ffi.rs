@@ -69,8 +69,9 @@ unsafe extern "C" {
     ) -> i32;
 }
 
-// A slice points to as many initialised bytes as its length, which is below 2^63. While it is shared nothing
-// writes them, and while it is borrowed mutably nothing else accesses them. The library requires no more.
+// A slice points to as many initialised bytes as its length, which is below 2^61 on every machine. While it is
+// shared nothing writes them, and while it is borrowed mutably nothing else accesses them. The library requires
+// no more.
 
 #[inline]
 pub(crate) fn from_bytes(bytes: &[u8]) -> Decoded {

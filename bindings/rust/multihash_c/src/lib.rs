@@ -8,9 +8,6 @@ extern crate alloc;
 #[cfg(feature = "std")]
 extern crate std;
 
-#[cfg(not(target_pointer_width = "64"))]
-compile_error!("the C library has lengths of 64 bits");
-
 mod borrowed;
 mod error;
 mod ffi;

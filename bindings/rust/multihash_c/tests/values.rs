@@ -1,11 +1,7 @@
-//! Values, their order and hashes, limits, and hostile arguments.
+//! Values, limits, hostile arguments, and errors. The test vectors are in the package `multihash`.
 use multihash_c::{
     varint, Error, Head, MultihashRef, CODE_MAX, DIGEST_MAX, HEAD_MAX, LENGTH_MAX, SCALE_LENGTH_MAX,
 };
-use std::hash::{BuildHasher, BuildHasherDefault, DefaultHasher};
-
-/// More bytes than 32 bits can count. Most of them are never touched, so that they take no memory.
-const HUGE: usize = (1 << 32) + 5;
 
 /// `wrap` in a constant.
 const WRAPPED: MultihashRef<'static> = match MultihashRef::wrap(0x12, b"abc") {
@@ -41,6 +37,8 @@ fn wrapping() {
     assert_eq!(MultihashRef::try_from(&b"\x01\x01ab"[..]), Err(Error::InvalidSize(1)));
     assert_eq!(format!("{WRAPPED:?}"), "MultihashRef { code: 18, digest: [97, 98, 99] }");
     assert!(WRAPPED.with_encoding(|bytes| bytes == b"\x12\x03abc"));
+    #[cfg(feature = "alloc")]
+    assert_eq!(WRAPPED.to_bytes(), b"\x12\x03abc");
 }
 
 #[test]
@@ -55,23 +53,6 @@ fn encodings() {
     assert_eq!(both.map(|it| it.digest()), [&b"abc"[..], b"z"]);
     assert_eq!(both[1], of(0x12, b"z"));
     assert_eq!(size_of::<MultihashRef>(), 32);
-}
-
-#[test]
-fn order_and_hash() {
-    let sorted = [(0, "zz"), (1, "b"), (1, "ab"), (1, "bb"), (255, ""), (256, "")];
-    let hasher = BuildHasherDefault::<DefaultHasher>::default();
-    for (at, left) in sorted.iter().map(|(code, digest)| of(*code, digest.as_bytes())).enumerate() {
-        for (to, right) in sorted
-            .iter()
-            .map(|(code, digest)| of(*code, digest.as_bytes()).with_encoding(<[u8]>::to_vec))
-            .enumerate()
-        {
-            let right = MultihashRef::from_bytes(&right).expect("a multihash");
-            assert_eq!((left.partial_cmp(&right), left == right), (Some(at.cmp(&to)), at == to));
-            assert_eq!(hasher.hash_one(left) == hasher.hash_one(right), at == to);
-        }
-    }
 }
 
 #[test]
@@ -110,14 +91,52 @@ fn slices_of_no_bytes() {
 }
 
 #[test]
-fn huge_slices() {
-    let mut huge = vec![0; HUGE];
-    assert_eq!(MultihashRef::wrap(1, &huge), Err(Error::InvalidSize(HUGE as u64)));
-    assert_eq!(MultihashRef::from_bytes(&huge), Err(Error::InvalidSize(HUGE as u64 - 2)));
-    let mut rest = &huge[..];
+fn long_slices() {
+    let mut long = [0; (1 << 16) + 5];
+    assert_eq!(MultihashRef::wrap(1, &long), Err(Error::InvalidSize(65541)));
+    assert_eq!(MultihashRef::from_bytes(&long), Err(Error::InvalidSize(65539)));
+    let mut rest = &long[..];
     assert_eq!(MultihashRef::read_limit(&mut rest, usize::MAX).map(|found| found.size()), Ok(0));
     assert_eq!(MultihashRef::scale_decode(&mut rest).map(|found| found.code()), Ok(0));
-    assert_eq!(rest.len(), HUGE - 2 - 9);
-    assert_eq!(of(1, b"a").encode(&mut huge), Ok(3));
-    assert_eq!(huge[..4], [1, 1, b'a', 0]);
+    assert_eq!(rest.len(), 65541 - 2 - 9);
+    assert_eq!(of(1, b"a").encode(&mut long), Ok(3));
+    assert_eq!(long[..4], [1, 1, b'a', 0]);
+}
+
+#[test]
+fn errors() {
+    let texts = [
+        (Error::Overflow, "input bytes exceed maximum"),
+        (Error::InvalidSize(256), "Invalid multihash size 256."),
+        (Error::InvalidCode(1 << 63), "Invalid multihash code 9223372036854775808."),
+        (Error::NoRoom(3), "failed to write whole buffer"),
+    ];
+    for (error, text) in texts {
+        let error: Box<dyn std::error::Error + Send + Sync> = Box::new(error);
+        assert_eq!(error.to_string(), text);
+    }
+    let are_incomplete =
+        [Error::Insufficient, Error::UnexpectedEof, Error::NotMinimal].map(|error| error.is_incomplete());
+    assert_eq!(are_incomplete, [true, true, false]);
+}
+
+/// As errors of `std::io`, and of a writer that is full.
+#[cfg(feature = "std")]
+#[test]
+fn errors_of_std() {
+    use std::io::{self, ErrorKind};
+    let kind = |error: Error| io::Error::from(error).kind();
+    assert_eq!([Error::Insufficient, Error::UnexpectedEof].map(kind), [ErrorKind::UnexpectedEof; 2]);
+    assert_eq!(
+        [Error::Overflow, Error::NotMinimal, Error::InvalidSize(9)].map(kind),
+        [ErrorKind::InvalidData; 3]
+    );
+    assert_eq!(kind(Error::NoRoom(9)), ErrorKind::WriteZero);
+    let inner = io::Error::from(Error::Overflow);
+    assert_eq!(inner.get_ref().and_then(|inner| inner.downcast_ref()), Some(&Error::Overflow));
+    let mut written = Vec::new();
+    assert_eq!((WRAPPED.write(&mut written).expect("a vector"), &written[..]), (5, &b"\x12\x03abc"[..]));
+    let mut out = [0xa5; 4];
+    assert_eq!(WRAPPED.write(&mut out[..]).expect_err("it is full").kind(), ErrorKind::WriteZero);
+    assert_eq!(out, *b"\x12\x03ab");
 }

@@ -1,4 +1,4 @@
--- Known lists of bytes, prefixes of lists, place values, and facts that hold of one value.
+-- Known lists that are no bytes or no prefixes, place values, and facts that do not hold of one value.
 use Rattle.std.proofs.Common.{◌≡◌, ℕ, ◌<◌, ltb, true, List, [], ◌∷◌, length, get_or, refl, ap, arith}
 use Rattle.std.specs.List.{All, list_all}
 use Rattle.std.proofs.lemmas.Bool.{ltb-true, and_parts}
@@ -14,31 +14,13 @@ all_below bound (x ∷ xs) e =
 
 -- ---- bytes
 
-bytes_0_255 : IsBytes (0 ∷ 255 ∷ [])
-bytes_0_255 = all_below 256 (0 ∷ 255 ∷ []) refl
-
-no_bytes_are_bytes : IsBytes []
-no_bytes_are_bytes = all_below 256 [] refl
-
 no_byte_256 : ¬ (IsBytes (0 ∷ 256 ∷ []))
 no_byte_256 h = omega (arith, h 1 0 (omega arith))
 
-no_byte_256_before_one : ¬ (IsBytes (256 ∷ 0 ∷ []))
-no_byte_256_before_one h = omega (arith, h 0 0 (omega arith))
-
 -- ---- prefixes
-
-begins : IsPrefix (1 ∷ 2 ∷ []) (1 ∷ 2 ∷ []) × IsPrefix [] (1 ∷ 2 ∷ [])
-begins = (([], refl), (1 ∷ 2 ∷ [], refl))
-
-begins_no_shorter : ¬ (IsPrefix (1 ∷ 2 ∷ []) (1 ∷ []))
-begins_no_shorter h = omega (arith, ap (λ (z : List ℕ). length z) h.1)
 
 begins_no_other : ¬ (IsPrefix (2 ∷ []) (1 ∷ 2 ∷ []))
 begins_no_other h = omega (arith, ap (λ (z : List ℕ). get_or z 0 0) h.1)
-
-begins_properly : IsStrictPrefix (1 ∷ []) (1 ∷ 2 ∷ [])
-begins_properly = (2 ∷ [], (λ e. omega (arith, ap (λ (z : List ℕ). length z) e)), refl)
 
 not_properly_itself : ¬ (IsStrictPrefix (1 ∷ 2 ∷ []) (1 ∷ 2 ∷ []))
 not_properly_itself ([], some, cut) = some refl
@@ -46,12 +28,6 @@ not_properly_itself (r ∷ rest, some, cut) = omega (arith, ap (λ (z : List ℕ
 
 begins_no_other_properly : ¬ (IsStrictPrefix (2 ∷ []) (1 ∷ 2 ∷ []))
 begins_no_other_properly (rest, some, cut) = omega (arith, ap (λ (z : List ℕ). get_or z 0 0) cut)
-
-begins_no_shorter_properly : ¬ (IsStrictPrefix (1 ∷ 2 ∷ []) (1 ∷ []))
-begins_no_shorter_properly (rest, some, cut) = omega (arith, ap (λ (z : List ℕ). length z) cut)
-
-nothing_begins_properly : IsStrictPrefix [] (1 ∷ [])
-nothing_begins_properly = (1 ∷ [], (λ e. omega (arith, ap (λ (z : List ℕ). length z) e)), refl)
 
 -- ---- place values: the lowest digit first, in both bases
 
@@ -61,9 +37,6 @@ unfolding place_value
 values = (refl, refl, refl, refl)
 
 -- ---- one value
-
-one_three : ExactlyOne (λ (n : ℕ). n ≡ 3)
-one_three = record { value = 3; holds = refl; only = λ other same. same }
 
 -- two different values are not exactly one
 two_are_not_one : ¬ (ExactlyOne (λ (n : ℕ). n < 2))

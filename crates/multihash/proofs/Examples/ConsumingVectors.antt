@@ -1,27 +1,22 @@
--- What failed calls consumed from known readers.
-use Rattle.std.proofs.Common.{◌≡◌, ◌<◌, ℕ, List, [], ◌∷◌, ◌++◌, length, drop, refl, sym, ap, ◌∙◌, arith, subst, inl, inr, length-append, append-nil}
-use Rattle.std.specs.Prelude.{⊤, Option, Some}
-use Rattle.multihash.specs.Bytes.{IsStrictPrefix}
-use Rattle.multihash.specs.Varint.{VarintError, insufficient, overflow, not_minimal, IsVarint, IsInsufficient, BeginsMalformed}
-use Rattle.multihash.specs.Verdict.{Verdict, accepted, invalid_size, malformed, unexpected_eof, HasVerdict, IsIncomplete}
+-- What failed calls consumed from known readers: what each part of a definition rejects by itself.
+use Rattle.std.proofs.Common.{◌≡◌, ◌<◌, ℕ, List, [], ◌∷◌, ◌++◌, length, drop, refl, sym, ap, ◌∙◌, arith, subst, inl, inr, append-nil}
+use Rattle.std.specs.Prelude.{⊤, Option, Some, None}
+use Rattle.multihash.specs.Varint.{VarintError, insufficient, overflow, not_minimal, IsVarint, IsInsufficient, BeginsMalformed, IsMalformed}
+use Rattle.multihash.specs.Verdict.{Verdict, invalid_size, malformed, unexpected_eof, HasVerdict, IsIncomplete}
 use Rattle.multihash.specs.Settling.{IsShortestSettling}
 use Rattle.multihash.specs.Reading.{Consumes}
 use Rattle.multihash.specs.Fault.{IsUnexpectedEof}
-use Rattle.multihash.specs.Refusal.{Refusal, of_io, of_size, of_code, of_varint, of_not_bytes, IsVarintError}
-use Rattle.multihash.specs.Consuming.{IsAnyVarintError, IsFrontError, IsFrontErrorAt, IsHeadError, IsMalformed, ConsumesVarint, ReadMayFailWith, ConsumesAtVarintError, ConsumesAtError, ConsumesShortestSettling, ConsumesNothingSettling}
+use Rattle.multihash.specs.Refusal.{Refusal, of_io, of_size, of_code, of_varint, of_not_bytes, IsVarintError, IsAnyVarintError, IsFrontError}
+use Rattle.multihash.specs.Consuming.{IsFrontErrorAt, IsHeadError, ConsumesVarint, ReadMayFailWith, ConsumesAtVarintError, ConsumesAtError, ConsumesShortestSettling, ConsumesNothingSettling, FailsBy, VarintFails, ExactFails}
 use Rattle.multihash.proofs.Varints.VarintLemmas.{front_unique, number, fault, varint_unique}
 use Rattle.multihash.proofs.Readings.VerdictLemmas.{verdict_unique}
-use Rattle.multihash.proofs.Readings.SettlingLemmas.{none_settles, shortest_unique, shortest_code_fault, before_step}
-use Rattle.multihash.proofs.Examples.RefusalVectors.{other, eof, memory}
+use Rattle.multihash.proofs.Readings.SettlingLemmas.{shortest_unique, shortest_code_fault}
+use Rattle.multihash.proofs.Examples.RefusalVectors.{other, eof}
 use Rattle.multihash.proofs.Examples.ReadingVectors.{told, taken_is}
-use Rattle.multihash.proofs.Examples.VarintVectors.{all_continuation, varint_0, varint_4, varint_5, not_another}
-use Rattle.multihash.proofs.Examples.PairVectors.{pair}
-use Rattle.multihash.proofs.Examples.VerdictVectors.{empty_input, code_alone, digest_cut, digest_full, size_above_limit, size_settles, shortest_of_size}
+use Rattle.multihash.proofs.Examples.VarintVectors.{all_continuation, varint_5, not_another}
+use Rattle.multihash.proofs.Examples.VerdictVectors.{code_alone, size_above_limit, size_settles, shortest_of_size}
 
 -- ---- errors
-
-varint_refusal : IsAnyVarintError (of_varint overflow)
-varint_refusal = (overflow, refl)
 
 no_other_varint_refusal : ((n : ℕ) → ¬ (IsAnyVarintError (of_size n))) × ((n : ℕ) → ¬ (IsAnyVarintError (of_code n))) × ¬ (IsAnyVarintError (of_io eof))
 no_other_varint_refusal = ((λ n (f, e). cc), (λ n (f, e). cc), λ (f, e). cc)
@@ -40,19 +35,12 @@ padded_front rest = record {
   cut = refl;
 }
 
-front_refusal : IsFrontError (0x80 ∷ 0x00 ∷ []) (of_varint not_minimal)
-front_refusal = (not_minimal, refl, padded_front [])
-
 -- the error is that of the input
 no_other_front_refusal : ¬ (IsFrontError (0x80 ∷ 0x00 ∷ []) (of_varint overflow))
 no_other_front_refusal (f, e, has) =
     let same : fault f ≡ fault not_minimal =
     front_unique (0x80 ∷ 0x00 ∷ []) (fault f) (fault not_minimal) has (padded_front []) in
     cc
-
--- and states it
-no_size_is_front_refusal : ¬ (IsFrontError (0x80 ∷ 0x00 ∷ []) (of_size 0))
-no_size_is_front_refusal (f, e, has) = cc
 
 -- the errors of `read` for capacity 4: no code is too large, an error of the reader itself is not listed, and
 -- there is no writer and no JSON value
@@ -63,26 +51,12 @@ ReadRejects (of_code code) = ⊥
 ReadRejects (of_varint f) = ⊤
 ReadRejects of_not_bytes = ⊥
 
-read_rejects : (e : Refusal) → ReadRejects e → ReadMayFailWith 4 e
-read_rejects (of_io own) h = inr (inr (own, refl, h))
-read_rejects (of_size size) h = inl (size, refl, h)
-read_rejects (of_code code) h = absurd h
-read_rejects (of_varint f) h = inr (inl (f, refl))
-read_rejects of_not_bytes h = absurd h
-
 read_rejects_only : (e : Refusal) → ReadMayFailWith 4 e → ReadRejects e
 read_rejects_only e (inl (size, is, large)) = subst ReadRejects (sym is) large
 read_rejects_only e (inr (inl (f, is))) = subst ReadRejects (sym is) tt
 read_rejects_only e (inr (inr (own, is, kind))) = subst ReadRejects (sym is) kind
 
--- however large the capacity
-read_rejects_256 : ReadMayFailWith 300 (of_size 256)
-read_rejects_256 = inl (256, refl, omega arith)
-
 -- ---- a varint that was consumed
-
-takes_varint : ConsumesVarint 5 (Some (5 ∷ 9 ∷ [])) (Some (9 ∷ []))
-takes_varint = (5 ∷ [], varint_5, refl)
 
 takes_no_other_varint : ¬ (ConsumesVarint 6 (Some (5 ∷ 9 ∷ [])) (Some (9 ∷ [])))
 takes_no_other_varint (bytes, is, consumes) =
@@ -111,60 +85,13 @@ pub gives_none_back : (consumed : List ℕ) → ¬ (Consumes (Some []) consumed 
 gives_none_back [] h = omega (arith, ap (λ (o : Option (List ℕ)). length (told o)) h)
 gives_none_back (b ∷ consumed) h = omega (arith, ap (λ (o : Option (List ℕ)). length (told o)) h)
 
-before_one : (a : ℕ) (shorter : List ℕ) → IsStrictPrefix shorter (a ∷ []) → shorter ≡ []
-before_one a [] h = refl
-before_one a (b ∷ shorter) ([], some, cut) = absurd (some refl)
-before_one a (b ∷ shorter) (r ∷ rest, some, cut) =
-    absurd (omega (arith, ap (λ (z : List ℕ). length z) cut, length-append shorter (r ∷ rest)))
-
-none_is_insufficient : IsInsufficient []
-none_is_insufficient = record { few = omega arith; all_continuation = all_continuation [] refl }
-
-one_continuation_is_insufficient : IsInsufficient (0x80 ∷ [])
-one_continuation_is_insufficient = record { few = omega arith; all_continuation = all_continuation (0x80 ∷ []) refl }
-
--- an input has at its front a varint or one that is malformed in one way
-pub begins_no_varint : IsMalformed (0x80 ∷ [])
-begins_no_varint = (insufficient, one_continuation_is_insufficient)
-
-begins_padded : IsMalformed (0x80 ∷ 0x00 ∷ [])
-begins_padded = (not_minimal, padded_front [])
-
-pub begins_a_varint : ¬ (IsMalformed (5 ∷ []))
+begins_a_varint : ¬ (IsMalformed (5 ∷ []))
 begins_a_varint (f, has) =
     let same : number 5 [] ≡ fault f =
     front_unique (5 ∷ []) (number 5 []) (fault f) (5 ∷ [], varint_5, refl) has in
     cc
 
--- a reader that failed after a continuation byte
-fails_inside_varint : ConsumesAtVarintError (of_io other) (Some (0x80 ∷ 0x01 ∷ []))
-    (Some (0x01 ∷ []))
-fails_inside_varint = record {
-  consumed = 0x80 ∷ [];
-  consumes = refl;
-  shows = λ f e. absurd cc;
-  no_sooner = λ shorter before. subst IsInsufficient
-      (sym (before_one 0x80 shorter before)) none_is_insufficient;
-  all = λ e. absurd cc;
-  failed = λ own. one_continuation_is_insufficient;
-}
-
-ends_inside_varint : ConsumesAtVarintError (of_varint insufficient) (Some (0x80 ∷ [])) (Some [])
-ends_inside_varint = record {
-  consumed = 0x80 ∷ [];
-  consumes = refl;
-  shows = λ f e. subst (λ (g : VarintError). BeginsMalformed g (0x80 ∷ []))
-      (insufficient_is f e) one_continuation_is_insufficient;
-  no_sooner = λ shorter before. subst IsInsufficient
-      (sym (before_one 0x80 shorter before)) none_is_insufficient;
-  all = λ e. refl;
-  failed = λ own. one_continuation_is_insufficient;
-}
-  where
-    insufficient_is : (f : VarintError) → IsVarintError f (of_varint insufficient) → insufficient ≡ f
-    insufficient_is f e = cc
-
-varint_takes_its_own : ¬ (ConsumesAtVarintError (of_varint insufficient) (Some []) (Some (7 ∷ [])))
+varint_takes_its_own : ¬ (ConsumesAtVarintError of_not_bytes (Some []) (Some (7 ∷ [])))
 varint_takes_its_own h = gives_none_back h.consumed h.consumes
 
 -- the consumed bytes show that the varint is malformed
@@ -198,18 +125,7 @@ fails_not_after_varint h =
     (subst IsInsufficient (taken_is (0x80 ∷ 0x00 ∷ []) [] h.consumed h.consumes)
     (h.failed (other, refl, inl refl)))
 
-memory_fails_not_after_varint : ¬
-    (ConsumesAtVarintError (of_io memory) (Some (0x80 ∷ 0x00 ∷ [])) (Some []))
-memory_fails_not_after_varint h =
-    not_insufficient
-    (subst IsInsufficient (taken_is (0x80 ∷ 0x00 ∷ []) [] h.consumed h.consumes)
-    (h.failed (memory, refl, inr refl)))
-
 -- ---- a failed `read`
-
-digest_missing : HasVerdict 4 (0 ∷ 4 ∷ []) unexpected_eof
-digest_missing =
-    (4, [], record { code = 0; code_bytes = 0 ∷ []; size_bytes = 4 ∷ []; is_code = varint_0; is_size = varint_4; cut = refl }, omega arith, omega arith)
 
 -- an input whose verdict is not incomplete has no incomplete one
 not_early : (a consumed : List ℕ) (v w : Verdict) → Consumes (Some (a ++ [])) consumed (Some []) → HasVerdict 4 a w → ¬ (IsIncomplete w)
@@ -217,27 +133,7 @@ not_early : (a consumed : List ℕ) (v w : Verdict) → Consumes (Some (a ++ [])
 not_early a consumed v w consumes late stays h early =
     stays (subst IsIncomplete (verdict_unique 4 a v w (subst (λ (z : List ℕ). HasVerdict 4 z v) (taken_is a [] consumed consumes) h) late) early)
 
-ends_inside_digest : ConsumesAtError 4 (of_io eof) (Some (0 ∷ 4 ∷ 1 ∷ 2 ∷ 3 ∷ [])) (Some [])
-ends_inside_digest = record {
-  consumed = 0 ∷ 4 ∷ 1 ∷ 2 ∷ 3 ∷ [];
-  consumes = refl;
-  insufficient = λ e. absurd cc;
-  eof = λ end. digest_cut;
-  failed = λ own. (unexpected_eof, tt, digest_cut);
-}
-
--- bytes of the digest may remain
-leaves_a_cut_digest : ConsumesAtError 4 (of_io eof) (Some (0 ∷ 4 ∷ 1 ∷ 2 ∷ 3 ∷ []))
-    (Some (1 ∷ 2 ∷ 3 ∷ []))
-leaves_a_cut_digest = record {
-  consumed = 0 ∷ 4 ∷ [];
-  consumes = refl;
-  insufficient = λ e. absurd cc;
-  eof = λ end. digest_missing;
-  failed = λ own. (unexpected_eof, tt, digest_missing);
-}
-
-read_takes_its_own : ¬ (ConsumesAtError 4 (of_varint insufficient) (Some []) (Some (7 ∷ [])))
+read_takes_its_own : ¬ (ConsumesAtError 4 of_not_bytes (Some []) (Some (7 ∷ [])))
 read_takes_its_own h = gives_none_back h.consumed h.consumes
 
 -- the consumed bytes are insufficient by themselves
@@ -266,16 +162,7 @@ fails_not_after_size h =
     let (v, early, has) = h.failed (other, refl, inl refl) in
     not_early (0 ∷ 5 ∷ []) h.consumed v (invalid_size 5) h.consumes size_above_limit (λ e. e) has early
 
-fails_not_after_pair : ¬
-    (ConsumesAtError 4 (of_io memory) (Some (0 ∷ 4 ∷ 1 ∷ 2 ∷ 3 ∷ 4 ∷ [])) (Some []))
-fails_not_after_pair h =
-    let (v, early, has) = h.failed (memory, refl, inr refl) in
-    not_early (0 ∷ 4 ∷ 1 ∷ 2 ∷ 3 ∷ 4 ∷ []) h.consumed v (accepted (pair 0 (1 ∷ 2 ∷ 3 ∷ 4 ∷ []))) h.consumes digest_full (λ e. e) has early
-
 -- ---- the shortest prefix that settles
-
-takes_both_bytes : ConsumesShortestSettling 4 (0 ∷ 5 ∷ 9 ∷ []) (Some (9 ∷ []))
-takes_both_bytes = record { front = 0 ∷ 5 ∷ []; shortest = shortest_of_size; consumes = refl }
 
 pub takes_no_byte_after_size : ¬ (ConsumesShortestSettling 4 (0 ∷ 5 ∷ 9 ∷ []) (Some []))
 takes_no_byte_after_size h =
@@ -286,31 +173,7 @@ takes_no_byte_after_size h =
       ap (λ (z : List ℕ). length z) (taken_is (0 ∷ 5 ∷ 9 ∷ []) [] h.front h.consumes),
     )
 
-takes_no_fewer : ¬ (ConsumesShortestSettling 4 (0 ∷ 5 ∷ 9 ∷ []) (Some (5 ∷ 9 ∷ [])))
-takes_no_fewer h =
-    omega (
-      arith,
-      ap (λ (z : List ℕ). length z)
-          (shortest_unique 4 (0 ∷ 5 ∷ 9 ∷ []) h.front (0 ∷ 5 ∷ []) h.shortest shortest_of_size),
-      ap (λ (z : List ℕ). length z) (taken_is (0 ∷ []) (5 ∷ 9 ∷ []) h.front h.consumes),
-    )
-
 -- ---- nothing that was consumed settles
-
-takes_code_alone : ConsumesNothingSettling 4 (0 ∷ []) (Some [])
-takes_code_alone = record {
-  consumed = 0 ∷ [];
-  consumes = refl;
-  unsettled = λ front begins. none_settles 4 (0 ∷ [])
-      (malformed insufficient) code_alone tt front begins;
-}
-
-takes_nothing_unsettled : ConsumesNothingSettling 4 (0x80 ∷ 0x00 ∷ []) (Some (0x80 ∷ 0x00 ∷ []))
-takes_nothing_unsettled = record {
-  consumed = [];
-  consumes = refl;
-  unsettled = λ front begins. none_settles 4 [] (malformed insufficient) empty_input tt front begins;
-}
 
 pub takes_what_settles : ¬ (ConsumesNothingSettling 4 (0 ∷ 5 ∷ 9 ∷ []) (Some (9 ∷ [])))
 takes_what_settles h =
@@ -319,11 +182,6 @@ takes_what_settles h =
       taken_is (0 ∷ 5 ∷ []) (9 ∷ []) h.consumed h.consumes ∙ sym
           (append-nil (0 ∷ 5 ∷ [])),
     ) size_settles
-
--- also if it is only a strict prefix
-takes_beyond_what_settles : ¬ (ConsumesNothingSettling 4 (0 ∷ 5 ∷ 9 ∷ []) (Some []))
-takes_beyond_what_settles h =
-    h.unsettled (0 ∷ 5 ∷ []) (9 ∷ [], taken_is (0 ∷ 5 ∷ 9 ∷ []) [] h.consumed h.consumes) size_settles
 
 unsettled_takes_its_own : ¬ (ConsumesNothingSettling 4 [] (Some (7 ∷ [])))
 unsettled_takes_its_own h = gives_none_back h.consumed h.consumes
@@ -368,7 +226,7 @@ ends_padded = record {
 named_so : (f g : VarintError) → IsVarintError f (of_varint g) → f ≡ g
 named_so f g is = cc
 
--- no byte after the zero, and no byte less
+-- no byte after the zero is consumed
 settled_so : (taken : ℕ) → IsHeadError padded (of_varint not_minimal) taken → ConsumesShortestSettling 4 padded (Some (drop taken padded))
 settled_so taken h =
     h.settled 4 (λ early. subst (λ f. IsIncomplete (malformed f)) (named_so h.fault not_minimal h.named) early)
@@ -380,12 +238,7 @@ ends_at_no_byte_after_zero : ¬ (IsHeadError padded (of_varint not_minimal) 3)
 ends_at_no_byte_after_zero h =
     let t = settled_so 3 h in omega (arith, two_taken t.front t.shortest, ap (λ (z : List ℕ). length z) (taken_is padded [] t.front t.consumes))
 
-ends_not_before_zero : ¬ (IsHeadError padded (of_varint not_minimal) 1)
-ends_not_before_zero h =
-    let t = settled_so 1 h in
-    omega (arith, two_taken t.front t.shortest, ap (λ (z : List ℕ). length z) (taken_is (0x80 ∷ []) (0x00 ∷ 0x07 ∷ []) t.front t.consumes))
-
-ends_inside : ¬ (IsHeadError (0x80 ∷ []) (of_varint insufficient) 2)
+ends_inside : ¬ (IsHeadError (0x80 ∷ 0x00 ∷ []) (of_varint not_minimal) 3)
 ends_inside h = omega (arith, h.within)
 
 ends_at_the_end : ¬ (IsHeadError (0x80 ∷ []) (of_varint insufficient) 0)
@@ -403,22 +256,6 @@ ends_with_no_size taken h = let named = h.named in cc
 
 -- ---- the error of a varint, and what it takes
 
-front_ends : IsFrontErrorAt (0x80 ∷ []) (of_varint insufficient) 1
-front_ends = (
-  (insufficient, refl, record { few = omega arith; all_continuation = all_continuation (0x80 ∷ []) refl }),
-  omega arith,
-  record {
-    consumed = 0x80 ∷ [];
-    consumes = refl;
-    shows = λ f named. let same = named_so f insufficient named in
-        subst (λ g. BeginsMalformed g (0x80 ∷ [])) (sym same) (record { few = omega arith; all_continuation = all_continuation (0x80 ∷ []) refl });
-    no_sooner = λ shorter begins. before_step (0x80 ∷ []) shorter
-        (record { front = []; last = 0x80; all_continuation = all_continuation [] refl; few = omega arith; cut = refl }) begins;
-    all = λ named. refl;
-    failed = λ own. absurd (cc (own.1));
-  },
-)
-
 front_ends_inside : ¬ (IsFrontErrorAt (0x80 ∷ []) (of_varint insufficient) 2)
 front_ends_inside h = omega (arith, h.1)
 
@@ -427,3 +264,32 @@ front_ends_at_the_end h = let none = h.2.all refl in omega (arith, ap (λ (z : L
 
 front_ends_with_its_error : ¬ (IsFrontErrorAt (0x80 ∷ []) (of_size 0) 1)
 front_ends_with_its_error h = let named = h.0.1 in cc
+
+-- ---- how a call failed
+
+-- a failure of the reader is counted once, and an error that is listed is not counted
+fails_by_no_other : ¬ (FailsBy 3 5 (λ e. ⊥) (of_io other)) × ¬ (FailsBy 3 4 (λ e. ⊥) (of_size 5))
+    × ¬ (FailsBy 3 2 (λ e. ⊤) (of_size 5)) × ¬ (FailsBy 3 3 (λ e. ⊥) (of_size 5))
+fails_by_no_other = (
+  (λ h. elim h [ inl own ↦ omega (arith, own.0) | inr listed ↦ listed.1 ]),
+  (λ h. elim h [ inl own ↦ let is = own.1.1 in cc | inr listed ↦ listed.1 ]),
+  (λ h. elim h [ inl own ↦ omega (arith, own.0) | inr listed ↦ omega (arith, listed.0) ]),
+  λ h. elim h [ inl own ↦ omega (arith, own.0) | inr listed ↦ listed.1 ],
+)
+
+varint_fails_by_no_size : ¬ (VarintFails 3 3 (of_size 0) None None)
+varint_fails_by_no_size h =
+    elim h.cause [ inl own ↦ omega (arith, own.0) | inr listed ↦ let is = listed.1.1 in cc ]
+
+varint_fails_and_gives_none_back : ¬ (VarintFails 3 4 (of_io other) (Some []) (Some (7 ∷ [])))
+varint_fails_and_gives_none_back h = gives_none_back h.consumed.consumed h.consumed.consumes
+
+exact_fails_by_no_size : ¬ (ExactFails 2 3 3 (of_size 0) None None)
+exact_fails_by_no_size h =
+    elim h.cause [ inl own ↦ omega (arith, own.0) | inr listed ↦ let is = listed.1.1 in cc ]
+
+exact_fails_before_all : ¬ (ExactFails 0 3 4 (of_io other) None None)
+exact_fails_before_all h = omega (arith, h.consumed.fewer)
+
+exact_fails_at_the_end : ¬ (ExactFails 1 3 3 (of_io eof) (Some (7 ∷ [])) (Some (7 ∷ [])))
+exact_fails_at_the_end h = omega (arith, h.short refl)

@@ -3,8 +3,7 @@ use Rattle.std.proofs.Common.{◌≡◌, ℕ, List, [], ◌∷◌, ◌<◌, repl
 use Rattle.std.specs.Prelude.{codes}
 use Rattle.std.proofs.lemmas.List.Elements.{All-head}
 use Rattle.multihash.specs.Pair.{Pair, IsPair, digest_limit, FitsBuffer, truncated}
-use Rattle.multihash.proofs.Examples.BytesVectors.{all_below}
-use Rattle.multihash.proofs.Examples.VarintVectors.{largest, too_large}
+use Rattle.multihash.proofs.Examples.VarintVectors.{too_large}
 use Rattle.std.specs.declared.cmp.Ordering.{Ordering}
 use Rattle.std.specs.declared.cmp.Ordering.TheVariants.{Less, Equal, Greater}
 use Rattle.std.specs.Hash.{le_bytes}
@@ -16,23 +15,14 @@ pair code digest = record { code = code; digest = digest }
 limits : (digest_limit 0 ≡ 0) × (digest_limit 64 ≡ 64) × (digest_limit 255 ≡ 255) × (digest_limit 300 ≡ 255)
 limits = (refl, refl, refl, refl)
 
-largest_code : IsPair (pair largest (0 ∷ 255 ∷ []))
-largest_code = record { in_range = omega arith; are_bytes = all_below 256 (0 ∷ 255 ∷ []) refl }
-
 no_larger_code : (digest : List ℕ) → ¬ (IsPair (pair too_large digest))
 no_larger_code digest h = omega (arith, h.in_range)
 
 no_digest_of_256 : (code : ℕ) → ¬ (IsPair (pair code (256 ∷ [])))
 no_digest_of_256 code h = let small = All-head (λ byte. byte < 256) 256 [] h.are_bytes in omega (arith, small)
 
-fits_exactly : FitsBuffer 4 (pair 0 (codes "abcd"))
-fits_exactly = omega arith
-
 fits_not : ¬ (FitsBuffer 4 (pair 0 (codes "abcde")))
 fits_not h = omega (arith, h)
-
-fits_no_buffer : FitsBuffer 0 (pair 0 [])
-fits_no_buffer = omega arith
 
 -- however large the capacity, a digest has at most 255 bytes
 fits_never : ¬ (FitsBuffer 300 (pair 0 (replicate 256 0)))
@@ -51,18 +41,11 @@ orders : List Row
 orders =
     -- the code decides, then the length, then the first byte that differs, whatever follows
     row (pair 0 (codes "zzz")) (pair 1 []) Less refl ∷
-    row (pair 1 (codes "a")) (pair 0 (codes "a")) Greater refl ∷
     row (pair 1 []) (pair 0 (codes "a")) Greater refl ∷
-    row (pair 1 (codes "ab")) (pair 0 (codes "ac")) Greater refl ∷
     row (pair 0 (codes "b")) (pair 0 (codes "aa")) Less refl ∷
-    row (pair 0 (codes "aa")) (pair 0 (codes "b")) Greater refl ∷
     row (pair 0 (codes "aaa")) (pair 0 (codes "ab")) Greater refl ∷
-    row (pair 0 (codes "ab")) (pair 0 (codes "ac")) Less refl ∷
-    row (pair 0 (codes "ac")) (pair 0 (codes "ab")) Greater refl ∷
     row (pair 0 (codes "bz")) (pair 0 (codes "ca")) Less refl ∷
-    row (pair 0 (codes "ba")) (pair 0 (codes "ab")) Greater refl ∷
     row (pair 0 (codes "ab")) (pair 0 (codes "ab")) Equal refl ∷
-    row (truncated 1 (pair 0 (codes "ab"))) (pair 0 (codes "a")) Equal refl ∷
     []
 
 -- ---- equality
@@ -80,7 +63,3 @@ eight n = n ∷ 0 ∷ 0 ∷ 0 ∷ 0 ∷ 0 ∷ 0 ∷ 0 ∷ []
 feeds_code_length_and_bytes : hashed_pair (pair 3 (codes "AB")) ≡ eight 3 ∷ eight 2 ∷ (65 ∷ []) ∷ (66 ∷ []) ∷ []
 unfolding le_bytes
 feeds_code_length_and_bytes = refl
-
-feeds_an_empty_digest : hashed_pair (pair 0 []) ≡ eight 0 ∷ eight 0 ∷ []
-unfolding le_bytes
-feeds_an_empty_digest = refl

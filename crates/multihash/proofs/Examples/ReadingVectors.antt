@@ -1,12 +1,11 @@
--- What was consumed from known readers, how they failed, and what their laws exclude.
+-- What each part of a definition rejects by itself: what readers consumed, how they failed, and their laws.
 use Rattle.std.proofs.Common.{◌≡◌, ◌<◌, ℕ, List, [], ◌∷◌, ◌++◌, length, get_or, refl, sym, ap, arith, inl, inr}
 use Rattle.std.specs.Prelude.{Option, Some, None, Result, Ok, Err}
 use Rattle.std.proofs.lemmas.Bool.{false≢true}
 use Rattle.std.proofs.lemmas.List.{append_cancel_right}
 use Rattle.multihash.specs.Fault.{Fault, IsUnexpectedEof, IsOwnFault}
-use Rattle.std.specs.Io.KnownBytes.{prepend_known, IsAtEnd}
 use Rattle.multihash.specs.Reading.{Consumes, EndsInNone, HasFewerThan, ConsumesFewerThan, CountsReaderFailures, ReadLaws, ReadExactLaws, NoOtherError}
-use Rattle.multihash.proofs.Examples.RefusalVectors.{other, eof, memory}
+use Rattle.multihash.proofs.Examples.RefusalVectors.{other, eof}
 
 -- ---- what was consumed
 
@@ -18,47 +17,26 @@ told (Some bytes) = bytes
 pub taken_is : (a b consumed : List ℕ) → Consumes (Some (a ++ b)) consumed (Some b) → consumed ≡ a
 taken_is a b consumed h = append_cancel_right consumed a b (sym (ap told h))
 
-precedes : (prepend_known (1 ∷ []) (Some (2 ∷ [])) ≡ Some (1 ∷ 2 ∷ [])) × (prepend_known (1 ∷ []) None ≡ None)
-precedes = (refl, refl)
-
--- without known input nothing is stated of what was consumed
-consumes : Consumes (Some (1 ∷ 2 ∷ 3 ∷ [])) (1 ∷ 2 ∷ []) (Some (3 ∷ []))
-    × Consumes (Some (1 ∷ [])) [] (Some (1 ∷ [])) × ((consumed : List ℕ) → Consumes None consumed None)
-consumes = (refl, refl, λ consumed. refl)
-
 -- the bytes consumed are the first ones
 takes_no_last : ¬ (Consumes (Some (1 ∷ 2 ∷ 3 ∷ [])) (3 ∷ []) (Some (1 ∷ 2 ∷ [])))
 takes_no_last h = omega (arith, ap (λ (o : Option (List ℕ)). get_or (told o) 0 0) h)
-
-takes_no_more : ¬ (Consumes (Some (1 ∷ 2 ∷ [])) (1 ∷ []) (Some []))
-takes_no_more h = omega (arith, ap (λ (o : Option (List ℕ)). length (told o)) h)
-
--- consumed bytes no longer remain
-takes_and_keeps_none : ¬ (Consumes (Some (1 ∷ [])) (1 ∷ []) (Some (1 ∷ [])))
-takes_and_keeps_none h = omega (arith, ap (λ (o : Option (List ℕ)). length (told o)) h)
 
 -- an input does not become known, nor unknown
 reports_no_more : (consumed rest : List ℕ) → ¬ (Consumes (Some rest) consumed None) × ¬ (Consumes None consumed (Some rest))
 reports_no_more consumed rest = ((λ h. cc), λ h. cc)
 
-at_end : IsAtEnd (Some []) × IsAtEnd None × ¬ (IsAtEnd (Some (1 ∷ [])))
-at_end = (refl, tt, λ h. omega (arith, ap (λ (z : List ℕ). length z) h))
-
--- `None` is returned at the end, and nowhere else, and there is no error there
-ends_in_none : EndsInNone {A = ℕ} {E = ℕ} (Some []) (Some []) 0 0 (Ok None) × EndsInNone {A = ℕ} {E = ℕ} (Some []) (Some []) 0 1 (Err 5)
-ends_in_none = (record { none = (refl, refl); always = λ _ _. refl }, record { none = tt; always = λ same. absurd (omega arith) })
-
 no_none_before_the_end : ¬ (EndsInNone {A = ℕ} {E = ℕ} (Some (1 ∷ [])) (Some (1 ∷ [])) 0 0 (Ok None))
 no_none_before_the_end h = omega (arith, ap (λ (z : List ℕ). length z) h.none.0)
+
+-- an input does not become known
+no_none_that_forgets : ¬ (EndsInNone {A = ℕ} {E = ℕ} None (Some []) 0 0 (Ok None))
+no_none_that_forgets h = let same = h.none.1 in cc
 
 no_error_at_the_end : ¬ (EndsInNone {A = ℕ} {E = ℕ} (Some []) (Some []) 0 0 (Err 5))
 no_error_at_the_end h = h.always refl refl
 
-fewer_than : HasFewerThan 2 (Some (1 ∷ [])) × HasFewerThan 0 None × ¬ (HasFewerThan 1 (Some (1 ∷ [])))
-fewer_than = (omega arith, tt, λ h. omega (arith, h))
-
-takes_fewer : ConsumesFewerThan 2 (Some (1 ∷ 2 ∷ [])) (Some (2 ∷ []))
-takes_fewer = record { consumed = 1 ∷ []; fewer = omega arith; consumes = refl }
+not_fewer_than : ¬ (HasFewerThan 1 (Some (1 ∷ [])))
+not_fewer_than h = omega (arith, h)
 
 takes_not_fewer : ¬ (ConsumesFewerThan 1 (Some (1 ∷ 2 ∷ [])) (Some (2 ∷ [])))
 takes_not_fewer h = none h.consumed h.fewer h.consumes
@@ -83,8 +61,8 @@ abbrev Reads : ℕ → ℕ → Result ℕ Fault → Type 0
 Reads before after outcome = CountsReaderFailures IsOwnFault NoOtherError before after outcome
 
 -- an Ok leaves the count unchanged, and an error of the reader itself raises it by one
-reads : Reads 3 3 (Ok 1) × Reads 3 4 (Err other) × ¬ (Reads 3 4 (Ok 1)) × ¬ (Reads 4 3 (Ok 1))
-reads = (refl, inl (refl, inl refl), (λ h. omega (arith, h)), λ h. omega (arith, h))
+counts_at_no_ok : ¬ (Reads 3 4 (Ok 1)) × ¬ (Reads 4 3 (Ok 1))
+counts_at_no_ok = ((λ h. omega (arith, h)), λ h. omega (arith, h))
 
 fails_once : ¬ (Reads 3 3 (Err other)) × ¬ (Reads 3 5 (Err other))
 fails_once = ((λ h. elim h [ inl one ↦ omega (arith, one.0) | inr none ↦ none.1 ]), λ h. elim h [ inl one ↦ omega (arith, one.0) | inr none ↦ none.1 ])
@@ -97,15 +75,6 @@ read_no_eof (inr h) = h.1
 
 abbrev Fills : ℕ → ℕ → Result ℕ Fault → Type 0
 Fills before after outcome = CountsReaderFailures IsOwnFault IsUnexpectedEof before after outcome
-
-fills : Fills 3 3 (Ok 0) × Fills 3 3 (Err eof) × Fills 3 4 (Err memory) × ¬ (Fills 3 4 (Ok 0))
-fills = (refl, inr (refl, refl), inl (refl, inr refl), λ h. omega (arith, h))
-
--- a counted failure is reported, and no other
-fill_hides_no_fault : ¬ (Fills 3 4 (Err eof))
-fill_hides_no_fault (inl (more, inl h)) = cc
-fill_hides_no_fault (inl (more, inr h)) = cc
-fill_hides_no_fault (inr (same, h)) = omega (arith, same)
 
 fill_invents_no_fault : ¬ (Fills 3 3 (Err other)) × ¬ (Fills 4 3 (Err eof))
 fill_invents_no_fault = (
@@ -125,42 +94,6 @@ left s = Some s.0
 abbrev failed : State → ℕ
 failed s = s.1
 
-reads_two : ReadLaws left failed (1 ∷ 2 ∷ 3 ∷ [], 0) (3 ∷ [], 0) (7 ∷ 8 ∷ 9 ∷ []) (1 ∷ 2 ∷ 9 ∷ [])
-    (Ok 2)
-reads_two = record {
-  count = omega arith;
-  beyond = refl;
-  faults = refl;
-  consumes = refl;
-  at_end = λ none some. absurd (omega (arith, none));
-  err = tt;
-}
-
-reads_end : ReadLaws left failed ([], 0) ([], 0) (7 ∷ []) (7 ∷ []) (Ok 0)
-reads_end =
-    record { count = omega arith; beyond = refl; faults = refl; consumes = refl; at_end = λ none some. refl; err = tt }
-
--- an empty buffer reports no end
-reads_into_nothing : ReadLaws left failed (1 ∷ [], 0) (1 ∷ [], 0) [] [] (Ok 0)
-reads_into_nothing = record {
-  count = omega arith;
-  beyond = refl;
-  faults = refl;
-  consumes = refl;
-  at_end = λ none some. absurd (omega (arith, some));
-  err = tt;
-}
-
-reads_with_fault : ReadLaws left failed (1 ∷ [], 0) (1 ∷ [], 1) (7 ∷ []) (8 ∷ []) (Err other)
-reads_with_fault = record {
-  count = tt;
-  beyond = tt;
-  faults = inl (omega arith, inl refl);
-  consumes = tt;
-  at_end = tt;
-  err = refl;
-}
-
 counts_no_more_than_places : ¬
     (ReadLaws left failed (1 ∷ 2 ∷ 3 ∷ [], 0) (3 ∷ [], 0) (7 ∷ 8 ∷ []) (1 ∷ 2 ∷ []) (Ok 3))
 counts_no_more_than_places h = omega (arith, h.count)
@@ -168,10 +101,6 @@ counts_no_more_than_places h = omega (arith, h.count)
 writes_not_beyond_count : ¬
     (ReadLaws left failed (1 ∷ 2 ∷ [], 0) (2 ∷ [], 0) (7 ∷ 8 ∷ []) (1 ∷ 9 ∷ []) (Ok 1))
 writes_not_beyond_count h = omega (arith, ap (λ (z : List ℕ). get_or z 0 0) h.beyond)
-
--- also if nothing was read, the buffer is unchanged
-writes_not_at_end : ¬ (ReadLaws left failed ([], 0) ([], 0) (7 ∷ []) (8 ∷ []) (Ok 0))
-writes_not_at_end h = omega (arith, ap (λ (z : List ℕ). get_or z 0 0) h.beyond)
 
 reads_with_no_hidden_fault : ¬ (ReadLaws left failed (1 ∷ [], 0) ([], 1) (7 ∷ []) (1 ∷ []) (Ok 1))
 reads_with_no_hidden_fault h = omega (arith, h.faults)
@@ -203,24 +132,8 @@ reads_no_end_by_fault h =
 abbrev Filling : State → State → List ℕ → List ℕ → Result ℕ Fault → Type 0
 Filling old new buffer filled outcome = ReadExactLaws left failed old new buffer filled outcome
 
-fills_two : Filling (1 ∷ 2 ∷ 3 ∷ [], 0) (3 ∷ [], 0) (7 ∷ 8 ∷ []) (1 ∷ 2 ∷ []) (Ok 0)
-fills_two = record { faults = refl; consumes = refl; empty = λ none. refl; eof = tt; err = tt }
-
-fills_a_part : Filling (1 ∷ [], 0) ([], 0) (7 ∷ 8 ∷ []) (1 ∷ 8 ∷ []) (Err eof)
-fills_a_part = record {
-  faults = inr (refl, refl);
-  consumes = tt;
-  empty = λ none. absurd (omega (arith, none));
-  eof = λ end. omega arith;
-  err = record { consumed = 1 ∷ []; fewer = omega arith; consumes = refl };
-}
-
 fills_with_no_hidden_fault : ¬ (Filling (1 ∷ [], 0) ([], 1) (7 ∷ []) (1 ∷ []) (Ok 0))
 fills_with_no_hidden_fault h = omega (arith, h.faults)
-
-fails_with_a_counted_fault : ¬ (Filling (1 ∷ [], 0) (1 ∷ [], 0) (7 ∷ []) (7 ∷ []) (Err other))
-fails_with_a_counted_fault h =
-    elim h.faults [ inl counted ↦ omega (arith, counted.0) | inr listed ↦ cc ]
 
 -- the end of the input is no error of the reader itself
 ends_by_no_counted_fault : ¬ (Filling ([], 0) ([], 1) (7 ∷ []) (7 ∷ []) (Err eof))

@@ -1,35 +1,30 @@
--- Concatenated encodings of known pairs, and what reading and writing lists of multihashes consumed and
--- appended.
+-- Concatenated encodings of known pairs, and what reading lists of multihashes consumed.
 use Rattle.std.proofs.Common.{◌≡◌, ℕ, List, [], ◌∷◌, length, refl, ap, ◌∙◌, arith, ◌<◌, ◌⊎◌, sym, subst, inl, inr, append-nil}
 use Rattle.std.specs.Prelude.{codes, Option, Some, None, IfSome}
-use Rattle.std.specs.List.{All}
 use Rattle.multihash.specs.Pair.{Pair, FitsBuffer}
 use Rattle.multihash.specs.Encoding.{IsEncoding}
 use Rattle.multihash.specs.Streams.{AreConcatenated, ConsumesPairs, StopsAfterPairs}
-use Rattle.multihash.proofs.Forms.StreamLemmas.{concatenated_whole, parts_same, ConsumesPairs-none, parts_unique}
-use Rattle.multihash.proofs.Writings.EncodingLemmas.{encoding_unique, encoding_same}
+use Rattle.multihash.proofs.Forms.StreamLemmas.{concatenated_whole, parts_same}
+use Rattle.multihash.proofs.Writings.EncodingLemmas.{encoding_same}
 use Rattle.multihash.proofs.Examples.VarintVectors.{varint_0, varint_1}
 use Rattle.multihash.proofs.Examples.PairVectors.{pair}
-use Rattle.std.proofs.lemmas.List.Elements.{All-nil, All-cons, All-head, All-tail}
+use Rattle.std.proofs.lemmas.List.Elements.{All-head, All-tail}
 use Rattle.multihash.specs.Varint.{insufficient}
 use Rattle.multihash.specs.Verdict.{Verdict, accepted, invalid_size, malformed, HasVerdict, IsIncomplete}
 use Rattle.multihash.specs.Settling.{Settles}
 use Rattle.multihash.specs.Reading.{Consumes}
-use Rattle.multihash.specs.Refusal.{Refusal, of_io, of_size, of_varint}
+use Rattle.multihash.specs.Refusal.{Refusal, of_io, of_size, of_code, of_varint}
 use Rattle.multihash.specs.Outcome.{IsErrorOf}
 use Rattle.multihash.specs.Consuming.{ConsumesShortestSettling, ConsumesNothingSettling}
 use Rattle.multihash.proofs.Readings.ReadingLemmas.{Consumes-none}
 use Rattle.multihash.proofs.Readings.VerdictLemmas.{verdict_unique}
-use Rattle.multihash.proofs.Readings.SettlingLemmas.{late_settles, none_settles}
+use Rattle.multihash.proofs.Readings.SettlingLemmas.{late_settles}
 use Rattle.multihash.proofs.Examples.RefusalVectors.{other, size_in}
-use Rattle.multihash.proofs.Examples.ReadingVectors.{told, taken_is}
-use Rattle.multihash.proofs.Examples.VerdictVectors.{size_5, code_open, empty_digest}
-use Rattle.multihash.proofs.Examples.ConsumingVectors.{takes_no_byte_after_size, takes_what_settles}
+use Rattle.multihash.proofs.Examples.ReadingVectors.{taken_is}
+use Rattle.multihash.proofs.Examples.VerdictVectors.{size_5, empty_digest}
+use Rattle.multihash.proofs.Examples.ConsumingVectors.{takes_no_byte_after_size}
 
-concatenated_none : AreConcatenated [] []
-concatenated_none = refl
-
-pub concatenated_one : AreConcatenated (pair 0 (codes "A") ∷ []) (0 ∷ 1 ∷ 65 ∷ [])
+concatenated_one : AreConcatenated (pair 0 (codes "A") ∷ []) (0 ∷ 1 ∷ 65 ∷ [])
 concatenated_one = (
   0 ∷ 1 ∷ 65 ∷ [],
   [],
@@ -38,7 +33,7 @@ concatenated_one = (
   refl,
 )
 
-pub concatenated_two : AreConcatenated (pair 0 (codes "A") ∷ pair 1 (codes "B") ∷ [])
+concatenated_two : AreConcatenated (pair 0 (codes "A") ∷ pair 1 (codes "B") ∷ [])
     (0 ∷ 1 ∷ 65 ∷ 1 ∷ 1 ∷ 66 ∷ [])
 concatenated_two = (
   0 ∷ 1 ∷ 65 ∷ [],
@@ -54,7 +49,7 @@ concatenated_two = (
   refl,
 )
 
-abbrev pub first_code : List Pair → ℕ
+abbrev first_code : List Pair → ℕ
 first_code [] = 0
 first_code (p ∷ ps) = p.code
 
@@ -65,20 +60,6 @@ not_concatenated_backwards h =
     (0 ∷ 1 ∷ 65 ∷ 1 ∷ 1 ∷ 66 ∷ []) h concatenated_two in
     omega (arith, ap first_code same)
 
--- each pair has its encoding
-no_pair_without_bytes : (p : Pair) → ¬ (AreConcatenated (p ∷ []) [])
-no_pair_without_bytes p h =
-    omega (arith, ap (λ (ps : List Pair). length ps) (concatenated_whole (p ∷ []) [] [] h concatenated_none))
-
-no_pair_is_left_out : ¬ (AreConcatenated (pair 0 (codes "A") ∷ pair 1 (codes "B") ∷ []) (0 ∷ 1 ∷ 65 ∷ []))
-no_pair_is_left_out h =
-    omega (
-      arith,
-      ap (λ (z : List ℕ). length z)
-          (parts_same IsEncoding encoding_same (pair 0 (codes "A") ∷ pair 1 (codes "B") ∷ []) (0 ∷ 1 ∷ 65 ∷ [])
-          (0 ∷ 1 ∷ 65 ∷ 1 ∷ 1 ∷ 66 ∷ []) h concatenated_two),
-    )
-
 abbrev a : Pair
 a = pair 0 (codes "A")
 
@@ -86,15 +67,6 @@ abbrev b : Pair
 b = pair 1 (codes "B")
 
 -- ---- the pairs that were consumed
-
-both_fit : All (FitsBuffer 4) (a ∷ b ∷ [])
-both_fit =
-    All-cons (FitsBuffer 4) a (b ∷ []) (omega arith)
-    (All-cons (FitsBuffer 4) b [] (omega arith) (All-nil (FitsBuffer 4)))
-
-takes_two_pairs : ConsumesPairs 4 (a ∷ b ∷ []) (Some (0 ∷ 1 ∷ 65 ∷ 1 ∷ 1 ∷ 66 ∷ 7 ∷ []))
-    (Some (7 ∷ []))
-takes_two_pairs = record { bytes = 0 ∷ 1 ∷ 65 ∷ 1 ∷ 1 ∷ 66 ∷ []; concatenated = concatenated_two; fit = both_fit; consumes = refl }
 
 -- the pairs are those that the bytes encode, in their order
 takes_pairs_in_order : ¬
@@ -106,10 +78,7 @@ takes_pairs_in_order h =
     (subst (AreConcatenated (b ∷ a ∷ [])) is h.concatenated) concatenated_two in
     omega (arith, ap first_code same)
 
--- each pair fits
-takes_no_pair_that_fits_not : ¬ (ConsumesPairs 0 (a ∷ []) (Some (0 ∷ 1 ∷ 65 ∷ [])) (Some []))
-takes_no_pair_that_fits_not h = omega (arith, All-head (FitsBuffer 0) a [] h.fit)
-
+-- each pair fits, not the first alone
 takes_no_second_pair_that_fits_not : (old new : Option (List ℕ)) → ¬ (ConsumesPairs 1 (a ∷ pair 1 (codes "BB") ∷ []) old new)
 takes_no_second_pair_that_fits_not old new h =
     omega (
@@ -137,39 +106,18 @@ none_before S [] old middle fewer h =
     (subst (λ (z : List ℕ). Consumes old z middle) h.concatenated h.consumes)
 none_before S (p ∷ pairs) old middle fewer h = absurd (omega arith)
 
-rejects_an_open_code : StopsAfterPairs 4 1 (of_varint insufficient) 3 3 (Some (0x80 ∷ [])) (Some [])
-rejects_an_open_code = record {
-  pairs = [];
-  following = Some (0x80 ∷ []);
-  fewer = omega arith;
-  consumed = ConsumesPairs-none 4 (Some (0x80 ∷ []));
-  failed = record {
-    faults = inr (refl, inr (inl (insufficient, refl)));
-    ok = tt;
-    fits = tt;
-    err = record {
-      consumed = 0x80 ∷ [];
-      consumes = refl;
-      insufficient = λ e. (code_open, refl);
-      eof = λ end. absurd (cc (end.1));
-      failed = λ own. absurd (cc (own.1));
-    };
-    verdict = λ same. (malformed insufficient, code_open, refl);
-    settled = λ same v has late. absurd
-        (late (subst IsIncomplete
-        (verdict_unique 4 (0x80 ∷ []) (malformed insufficient) v code_open has) tt));
-    unsettled = λ why. record {
-      consumed = 0x80 ∷ [];
-      consumes = refl;
-      unsettled = λ front begins. none_settles 4 (0x80 ∷ [])
-          (malformed insufficient) code_open tt front begins;
-    };
-  };
-}
-
 -- there is no error after as many pairs as were requested
 stops_before_the_last : ¬ (StopsAfterPairs 4 0 (of_varint insufficient) 3 3 (Some []) (Some []))
 stops_before_the_last h = omega (arith, h.fewer)
+
+-- the error is one of those of `read`
+rejects_no_code : ¬ (StopsAfterPairs 4 1 (of_code 5) 3 3 None None)
+rejects_no_code h = elim h.failed.faults [
+  | inl own ↦ omega (arith, own.0)
+  | inr (same, inl (size, is, large)) ↦ cc
+  | inr (same, inr (inl (fault, is))) ↦ cc
+  | inr (same, inr (inr (fault, is, end))) ↦ cc
+]
 
 -- the bytes consumed before the rejected one are encodings of pairs
 skips_no_pair : ¬ (StopsAfterPairs 4 1 (of_varint insufficient) 3 3 (Some (0 ∷ 0 ∷ [])) (Some []))
@@ -231,70 +179,3 @@ fails_with_nothing_settled : ¬ (StopsAfterPairs 4 1 (of_io other) 3 4 (Some (0 
 fails_with_nothing_settled h =
     let u = unsettled_after 1 (of_io other) 3 4 _ _ (0 ∷ 0 ∷ 7 ∷ []) h (none_before 4 h.pairs _ h.following h.fewer h.consumed) (omega arith) in
     u.unsettled (0 ∷ 0 ∷ []) ([], taken_is (0 ∷ 0 ∷ []) (7 ∷ []) u.consumed u.consumes ∙ sym (append-nil (0 ∷ 0 ∷ []))) empty_digest_settles
-
--- ---- a list that was rejected after its first pair
-
--- a pair, and a size that is rejected
-abbrev stream : List ℕ
-stream = 0 ∷ 1 ∷ 65 ∷ 0 ∷ 5 ∷ 9 ∷ []
-
-pair_and_more : (more : List ℕ) → HasVerdict 4 (0 ∷ 1 ∷ 65 ∷ more) (accepted a)
-pair_and_more more = (
-  more,
-  record {
-    encoding = 0 ∷ 1 ∷ 65 ∷ [];
-    encodes = record { code = 0 ∷ []; size = 1 ∷ []; is_code = varint_0; is_size = varint_1; spelled = refl };
-    cut = refl;
-  },
-  omega arith,
-)
-
-pair_settles : Settles 4 (0 ∷ 1 ∷ 65 ∷ [])
-pair_settles = late_settles 4 (0 ∷ 1 ∷ 65 ∷ []) (accepted a) (λ early. early) (pair_and_more [])
-
-after_first : (p : Pair) (middle : Option (List ℕ)) → ConsumesPairs 4 (p ∷ []) (Some stream) middle → middle ≡ Some (0 ∷ 5 ∷ 9 ∷ [])
-after_first p None h = let none = h.consumes in absurd cc
-after_first p (Some rest) h =
-    ap Some (parts_unique IsEncoding encoding_unique (p ∷ []) (a ∷ []) h.bytes (0 ∷ 1 ∷ 65 ∷ []) rest (0 ∷ 5 ∷ 9 ∷ []) refl
-    h.concatenated concatenated_one (sym (ap told h.consumes))).1
-
--- two pairs were requested, and the first was consumed before, or none
-one_before : (pairs : List Pair) (middle : Option (List ℕ)) → length pairs < 2 → ConsumesPairs 4 pairs (Some stream) middle
-    → (middle ≡ Some stream) ⊎ (middle ≡ Some (0 ∷ 5 ∷ 9 ∷ []))
-one_before [] middle fewer h = inl (none_before 4 [] (Some stream) middle (omega arith) h)
-one_before (p ∷ []) middle fewer h = inr (after_first p middle h)
-one_before (p ∷ q ∷ ps) middle fewer h = absurd (omega arith)
-
--- the size that is rejected is that of the second
-no_size_at_first : (size : ℕ) → ((v : Verdict) × HasVerdict 4 stream v × IsErrorOf (of_size size) v) → ⊥
-no_size_at_first size (v, has, names) =
-    subst (λ (w : Verdict). IsErrorOf (of_size size) w)
-    (verdict_unique 4 stream v (accepted a) has (pair_and_more (0 ∷ 5 ∷ 9 ∷ []))) names
-
--- the error is that of the input after the first pair
-rejects_second_by_the_verdict : ¬ (StopsAfterPairs 4 2 (of_size 6) 3 3 (Some stream) (Some (9 ∷ [])))
-rejects_second_by_the_verdict h =
-    elim (one_before h.pairs h.following h.fewer h.consumed) [
-      | inl at ↦ no_size_at_first 6 (verdict_after 2 (of_size 6) 3 3 _ _ stream h at refl)
-      | inr at ↦ no_size_6 (verdict_after 2 (of_size 6) 3 3 _ _ (0 ∷ 5 ∷ 9 ∷ []) h at refl)
-    ]
-
--- no byte after the settling prefix was consumed
-rejects_second_with_nothing_after : ¬ (StopsAfterPairs 4 2 (of_size 5) 3 3 (Some stream) (Some []))
-rejects_second_with_nothing_after h =
-    elim (one_before h.pairs h.following h.fewer h.consumed) [
-      | inl at ↦ no_size_at_first 5 (verdict_after 2 (of_size 5) 3 3 _ _ stream h at refl)
-      | inr at ↦
-          takes_no_byte_after_size
-          (settled_after 2 (of_size 5) 3 3 _ _ (0 ∷ 5 ∷ 9 ∷ []) h at refl (invalid_size 5) size_5_rejected (λ early. early))
-    ]
-
--- before a failure no settling prefix was consumed, neither of the first pair nor after it
-fails_at_second_with_nothing_settled : ¬ (StopsAfterPairs 4 2 (of_io other) 3 4 (Some stream) (Some (9 ∷ [])))
-fails_at_second_with_nothing_settled h =
-    elim (one_before h.pairs h.following h.fewer h.consumed) [
-      | inl at ↦
-          let u = unsettled_after 2 (of_io other) 3 4 _ _ stream h at (omega arith) in
-          u.unsettled (0 ∷ 1 ∷ 65 ∷ []) (0 ∷ 5 ∷ [], taken_is (0 ∷ 1 ∷ 65 ∷ 0 ∷ 5 ∷ []) (9 ∷ []) u.consumed u.consumes) pair_settles
-      | inr at ↦ takes_what_settles (unsettled_after 2 (of_io other) 3 4 _ _ (0 ∷ 5 ∷ 9 ∷ []) h at (omega arith))
-    ]

@@ -1,14 +1,14 @@
--- Varints of known numbers, and the fronts of known inputs. An input has no other front than the computed one
--- (`front_is`), so a row states both what holds and what does not.
-use Rattle.std.proofs.Common.{◌≡◌, ◌<◌, ℕ, ltb, Bool, true, List, [], ◌∷◌, ◌++◌, length, refl, sym, subst, ap, ◌∙◌, arith, append-nil, length-append, get_or, drop, replicate, zero, suc, ◌≤◌, ◌+◌, ◌-◌, ◌*◌, ◌^◌, inl, inr}
-use Rattle.std.specs.Prelude.{◌↔◌, ◌⊎◌}
+-- Varints of known numbers, and what each part of a definition rejects by itself. The fronts of inputs are
+-- seen by the test vectors of the crate `vectors`.
+use Rattle.std.proofs.Common.{◌≡◌, ◌<◌, ℕ, ltb, Bool, true, List, [], ◌∷◌, ◌++◌, length, refl, sym, ap, ◌∙◌, arith, append-nil, length-append, get_or, drop, replicate, zero, suc, ◌≤◌, ◌+◌, ◌-◌, inl, inr}
+use Rattle.std.specs.Prelude.{◌⊎◌}
 use Rattle.std.specs.List.{All, list_all}
 use Rattle.std.proofs.lemmas.Bool.{ltb-true, and_parts}
 use Rattle.std.proofs.lemmas.List.Elements.{All-nil, All-cons, All-head, All-tail}
 use Rattle.multihash.specs.Bytes.{place_value}
 use Rattle.multihash.specs.Varint.{IsContinuation, continuation_bytes, varint_limit, max_continuation, last_byte_limit, IsVarint, insufficient, overflow, not_minimal, BeginsMalformed}
 use Rattle.multihash.proofs.Examples.BytesVectors.{all_below}
-use Rattle.multihash.proofs.Varints.VarintLemmas.{Front, number, fault, HasFront, front_of, front_is, front_of_has, front_unique}
+use Rattle.multihash.proofs.Varints.VarintLemmas.{number, front_unique}
 
 -- every number in a literal list has 128 added
 pub all_continuation : (xs : List ℕ) → list_all (λ x. ltb 127 x) xs ≡ true → All IsContinuation xs
@@ -59,48 +59,16 @@ pub varint_5 : IsVarint 5 (0x05 ∷ [])
 unfolding place_value ends_well
 varint_5 = varint_of [] 0x05 5 refl refl refl refl
 
-pub varint_64 : IsVarint 64 (0x40 ∷ [])
-unfolding place_value ends_well
-varint_64 = varint_of [] 0x40 64 refl refl refl refl
-
-pub varint_65 : IsVarint 65 (0x41 ∷ [])
-unfolding place_value ends_well
-varint_65 = varint_of [] 0x41 65 refl refl refl refl
-
 pub varint_128 : IsVarint 128 (0x80 ∷ 0x01 ∷ [])
 unfolding place_value ends_well
 varint_128 = varint_of (0x00 ∷ []) 0x01 128 refl refl refl refl
 
-pub varint_133 : IsVarint 133 (0x85 ∷ 0x01 ∷ [])
-unfolding place_value ends_well
-varint_133 = varint_of (0x05 ∷ []) 0x01 133 refl refl refl refl
-
-pub varint_255 : IsVarint 255 (0xff ∷ 0x01 ∷ [])
-unfolding place_value ends_well
-varint_255 = varint_of (0x7f ∷ []) 0x01 255 refl refl refl refl
-
-pub varint_300 : IsVarint 300 (0xac ∷ 0x02 ∷ [])
-unfolding place_value ends_well
-varint_300 = varint_of (0x2c ∷ []) 0x02 300 refl refl refl refl
-
-pub varint_72057594037927936 : IsVarint 72057594037927936 (0x80 ∷ 0x80 ∷ 0x80 ∷ 0x80 ∷ 0x80 ∷ 0x80 ∷ 0x80 ∷ 0x80 ∷ 0x01 ∷ [])
-unfolding place_value ends_well
-varint_72057594037927936 = varint_of (0x00 ∷ 0x00 ∷ 0x00 ∷ 0x00 ∷ 0x00 ∷ 0x00 ∷ 0x00 ∷ 0x00 ∷ []) 0x01 72057594037927936 refl refl refl refl
-
--- the largest number that has a varint, its bytes, and the first number that has none: a change of the bound
--- changes the first two, and no other example
+-- the largest number that has a varint, and the first that has none
 abbrev pub largest : ℕ
 largest = 9223372036854775807
 
-abbrev pub largest_bytes : List ℕ
-largest_bytes = 0xff ∷ 0xff ∷ 0xff ∷ 0xff ∷ 0xff ∷ 0xff ∷ 0xff ∷ 0xff ∷ 0x7f ∷ []
-
 abbrev pub too_large : ℕ
 too_large = largest + 1
-
-pub varint_largest : IsVarint largest largest_bytes
-unfolding place_value ends_well
-varint_largest = varint_of (replicate max_continuation 0x7f) (last_byte_limit - 1) largest refl refl refl refl
 
 -- a varint of one number is not a varint of another
 pub not_another : (m n : ℕ) (bytes : List ℕ) → IsVarint n bytes → (m ≡ n → ⊥) → ¬ (IsVarint m bytes)
@@ -109,96 +77,18 @@ not_another m n bytes v other w =
     front_unique bytes (number m []) (number n []) (bytes, w, sym (append-nil bytes)) (bytes, v, sym (append-nil bytes)) in
     other (cc)
 
--- ---- the front of an input
-
-data Row : Type 0 where
-  row : (x : List ℕ) (f : Front) → list_all (λ b. ltb b 256) x ≡ true → front_of x ≡ f → Row
-
-abbrev Holds : Row → Type 0
-Holds (row x f bytes same) = (g : Front) → HasFront x g ↔ (g ≡ f)
-
-holds : (r : Row) → Holds r
-holds (row x f bytes same) =
-    λ g. ((λ h. front_is x g h ∙ same), λ is. subst (HasFront x) (same ∙ sym is) (front_of_has x (all_below 256 x bytes)))
-
--- as many continuation bytes as a varint may have, of the largest value
+-- as many continuation bytes as a varint may have
 abbrev most : List ℕ
 most = replicate max_continuation 0x80
 
-abbrev most_255 : List ℕ
-most_255 = replicate max_continuation 0xff
-
-numbers : List Row
-unfolding place_value
-numbers =
-    row (0x00 ∷ []) (number 0 []) refl refl ∷
-    row (0x7f ∷ []) (number 127 []) refl refl ∷
-    row (0x80 ∷ 0x02 ∷ []) (number 256 []) refl refl ∷
-    -- the lowest digit comes first
-    row (0x02 ∷ 0xac ∷ []) (number 2 (0xac ∷ [])) refl refl ∷
-    row (0xff ∷ 0x01 ∷ []) (number 255 []) refl refl ∷
-    row (0xff ∷ 0x7f ∷ []) (number 16383 []) refl refl ∷
-    row (0x80 ∷ 0x80 ∷ 0x01 ∷ []) (number 16384 []) refl refl ∷
-    row (0xff ∷ 0xff ∷ 0x7f ∷ []) (number 2097151 []) refl refl ∷
-    row (0x80 ∷ 0x80 ∷ 0x80 ∷ 0x01 ∷ []) (number 2097152 []) refl refl ∷
-    -- the largest number, whose last byte is the one before the first that is too large
-    row (most_255 ++ (last_byte_limit - 1) ∷ []) (number largest []) refl refl ∷
-    row largest_bytes (number largest []) refl refl ∷
-    row (most ++ (last_byte_limit - 1) ∷ []) (number ((last_byte_limit - 1) * 2 ^ (7 * max_continuation)) []) refl refl ∷
-    -- what follows a whole varint does not belong to it
-    row (0x01 ∷ 0x01 ∷ []) (number 1 (0x01 ∷ [])) refl refl ∷
-    row (0x01 ∷ 0x00 ∷ []) (number 1 (0x00 ∷ [])) refl refl ∷
-    row (0x80 ∷ 0x01 ∷ 0x00 ∷ []) (number 128 (0x00 ∷ [])) refl refl ∷
-    row (replicate max_continuation 0 ++ last_byte_limit ∷ []) (number 0 (replicate (max_continuation - 1) 0 ++ last_byte_limit ∷ [])) refl refl ∷
-    []
-
-faults : List Row
-unfolding place_value
-faults =
-    row [] (fault insufficient) refl refl ∷
-    row (0x80 ∷ []) (fault insufficient) refl refl ∷
-    row most (fault insufficient) refl refl ∷
-    -- a byte that is too large after the most continuation bytes makes an overflow, whatever follows
-    row (most ++ last_byte_limit ∷ []) (fault overflow) refl refl ∷
-    row (most ++ 0x80 ∷ 0x01 ∷ []) (fault overflow) refl refl ∷
-    row (most ++ 0x80 ∷ 0x00 ∷ []) (fault overflow) refl refl ∷
-    row (most_255 ++ 0xff ∷ 0x01 ∷ []) (fault overflow) refl refl ∷
-    -- a zero after continuation bytes, up to the most
-    row (0x80 ∷ 0x00 ∷ []) (fault not_minimal) refl refl ∷
-    row (0xac ∷ 0x82 ∷ 0x00 ∷ []) (fault not_minimal) refl refl ∷
-    row (most ++ 0x00 ∷ 0x07 ∷ []) (fault not_minimal) refl refl ∷
-    []
-
--- ---- what no row states
+-- ---- each part of a definition rejects by itself, with no lemma: of a varint
 
 -- the first number that has no varint
 no_varint_of_too_large : (bytes : List ℕ) → ¬ (IsVarint too_large bytes)
 no_varint_of_too_large bytes v = omega (arith, v.in_range)
 
-continuation_from_128 : IsContinuation 128
-continuation_from_128 = omega arith
-
 not_continuation_below : ¬ (IsContinuation 127)
 not_continuation_below h = omega (arith, h)
-
-marks_each : continuation_bytes (0 ∷ 127 ∷ []) ≡ 128 ∷ 255 ∷ []
-marks_each = refl
-
--- a digit has seven bits, whatever follows it
-no_varint_of_larger_digits : (n : ℕ) → ¬ (IsVarint n (256 ∷ 1 ∷ []))
-no_varint_of_larger_digits n v = none v.front v.last v.digits v.spelled
-  where
-    none : (front : List ℕ) (last : ℕ) → All (λ digit. digit < 128) (front ++ last ∷ [])
-        → 256 ∷ 1 ∷ [] ≡ continuation_bytes front ++ last ∷ [] → ⊥
-    none [] last digits e = omega (arith, ap (λ (z : List ℕ). length z) e)
-    none (d ∷ front) last digits e =
-        omega (
-          arith,
-          All-head (λ digit. digit < 128) d (front ++ last ∷ []) digits,
-          ap (λ (z : List ℕ). get_or z 0 0) e,
-        )
-
--- ---- each part of a definition rejects by itself, with no lemma: of a varint
 
 -- a varint whose first byte is no continuation byte is that byte
 pub begins_small : (n b : ℕ) (rest front following : List ℕ) → b < 128 → IsVarint n front → b ∷ rest ≡ front ++ following → (b ≡ n) × (rest ≡ following)
@@ -215,9 +105,6 @@ no_varint_of_another v = omega (arith, (begins_small 6 0x05 [] (0x05 ∷ []) [] 
 
 no_varint_and_more : ¬ (IsVarint 1 (0x01 ∷ 0x01 ∷ []))
 no_varint_and_more v = omega (arith, ap (λ (z : List ℕ). length z) (begins_small 1 0x01 (0x01 ∷ []) (0x01 ∷ 0x01 ∷ []) [] (omega arith) v refl).1)
-
-no_varint_of_nothing : (n : ℕ) → ¬ (IsVarint n [])
-no_varint_of_nothing n v = omega (arith, ap (λ (z : List ℕ). length z) v.spelled, length-append (continuation_bytes v.front) (v.last ∷ []))
 
 -- the last byte is no continuation byte
 no_varint_ends_continuation : (n : ℕ) → ¬ (IsVarint n (0x80 ∷ []))
@@ -240,20 +127,11 @@ no_varint_ends_in_zero n v = none v.front v.minimal v.spelled
 
 -- ---- of the three ways to be malformed
 
-insufficient_are : BeginsMalformed insufficient [] × BeginsMalformed insufficient most
-insufficient_are = (record { few = omega arith; all_continuation = all_continuation [] refl }, record { few = omega arith; all_continuation = all_continuation most refl })
-
 enough_continuation : ¬ (BeginsMalformed insufficient (0x80 ∷ most))
 enough_continuation h = omega (arith, h.few)
 
 ends_inside_no_varint : ¬ (BeginsMalformed insufficient (0x80 ∷ 0x01 ∷ []))
 ends_inside_no_varint h = omega (arith, All-head IsContinuation 0x01 [] (All-tail IsContinuation 0x80 (0x01 ∷ []) h.all_continuation))
-
-overflows : BeginsMalformed overflow (most ++ last_byte_limit ∷ []) × BeginsMalformed overflow (most ++ 0xff ∷ 0x00 ∷ [])
-overflows = (
-  record { front = most; byte = last_byte_limit; rest = []; all_continuation = all_continuation most refl; most = refl; too_large = omega arith; cut = refl },
-  record { front = most; byte = 0xff; rest = 0x00 ∷ []; all_continuation = all_continuation most refl; most = refl; too_large = omega arith; cut = refl },
-)
 
 -- after n equal continuation bytes comes the byte that follows them
 follows : (k byte : ℕ) (front rest : List ℕ) (b : ℕ) (more : List ℕ) → length front ≡ k → replicate k 0x80 ++ byte ∷ rest ≡ front ++ b ∷ more → byte ≡ b
@@ -275,12 +153,6 @@ overflows_after_continuation_bytes h = none h.front h.most h.all_continuation h.
         → 0x05 ∷ most ≡ front ++ h.byte ∷ h.rest → ⊥
     none [] many marks e = omega (arith, many)
     none (c ∷ front) many marks e = omega (arith, All-head IsContinuation c front marks, ap (λ (z : List ℕ). get_or z 0 0) e)
-
-not_minimal_are : BeginsMalformed not_minimal (0x80 ∷ 0x00 ∷ []) × BeginsMalformed not_minimal (most ++ 0x00 ∷ 0x07 ∷ [])
-not_minimal_are = (
-  record { front = 0x80 ∷ []; rest = []; all_continuation = all_continuation (0x80 ∷ []) refl; some = omega arith; few = omega arith; cut = refl },
-  record { front = most; rest = 0x07 ∷ []; all_continuation = all_continuation most refl; some = omega arith; few = omega arith; cut = refl },
-)
 
 minimal_zero : ¬ (BeginsMalformed not_minimal (0x00 ∷ []))
 minimal_zero h = omega (arith, h.some, ap (λ (z : List ℕ). length z) h.cut, length-append h.front (0 ∷ h.rest))

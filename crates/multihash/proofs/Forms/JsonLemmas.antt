@@ -8,14 +8,14 @@ use Rattle.multihash.specs.Encoding.{IsEncoding}
 use Rattle.multihash.specs.Json.{number_array, IsByteArray, IsJsonList}
 use Rattle.multihash.proofs.Writings.EncodingLemmas.{encoding_unique, encoding_bytes}
 use Rattle.serde_json.specs.Read.{max_depth, read}
-use Rattle.multihash.specs.Outcome.{Fields, pair_of}
+use Rattle.multihash.specs.Multihash.{Fields, pair_of}
 use Rattle.std.specs.List.{list_all}
 use Rattle.std.proofs.lemmas.Bool.{false≢true, and_parts, cases_lt, lt-ltb, le-ltb}
 use Rattle.std.proofs.lemmas.List.Sums.{AllPass-from_list_all}
 use Rattle.std.proofs.lemmas.List.Elements.{All-nil, All-cons, All-head, All-tail}
 use Rattle.serde_json.specs.Find.{as_array}
 use Rattle.serde_json.specs.declared.value.Value.{Value}
-use Rattle.multihash.specs.Members.{byte_of_data, member_bytes, is_byte}
+use Rattle.multihash.specs.Private.Members.{byte_of_data, member_bytes, is_byte}
 
 abbrev pub numbers : List ℕ → Items
 numbers ns = items_of (map (λ n. number (unsigned n)) ns)
@@ -66,7 +66,8 @@ text_lists_one p text (Ok m) (d, reads, listed) (e, again, (bytes, is_array, enc
     (encoding_unique (pair_of m) p bytes bytes [] [] encodes own refl).0
 text_lists_one p text (Err x) printed parsed = tt
 
-some_value : (o : Option ℕ) → is_some o ≡ true → (b : ℕ) × (o ≡ Some b)
+-- what is there, is a value
+pub some_value : (o : Option ℕ) → is_some o ≡ true → (b : ℕ) × (o ≡ Some b)
 some_value None e = absurd (false≢true e)
 some_value (Some b) e = (b, refl)
 
@@ -146,9 +147,9 @@ length-member_bytes (v ∷ vs) e =
     rw found.1 (ap suc (length-member_bytes vs others))
 
 -- the byte that a member is
-pub byte_at : (vs : List Value) (at : ℕ) (v : Value) → list_all is_byte vs ≡ true → at < length vs → v ≡ slice_index_or vs at v
+pub member_byte : (vs : List Value) (at : ℕ) (v : Value) → list_all is_byte vs ≡ true → at < length vs → v ≡ slice_index_or vs at v
     → (b : ℕ) × (byte_of_data (view v) ≡ Some b)
-byte_at vs at v e inside is = some_value _ (ap is_byte is ∙ AllPass-from_list_all is_byte vs e at v inside)
+member_byte vs at v e inside is = some_value _ (ap is_byte is ∙ AllPass-from_list_all is_byte vs e at v inside)
 
 -- the bytes of the first members, and of the others
 pub bytes_split : (n : ℕ) (vs : List Value) → list_all is_byte vs ≡ true → member_bytes vs ≡ member_bytes (take n vs) ++ member_bytes (drop n vs)

@@ -16,7 +16,8 @@ use Rattle.multihash.specs.Fault.{Fault, IsUnexpectedEof, IsOwnFault}
 use Rattle.multihash.specs.Reading.{Consumes, HasFewerThan, CountsReaderFailures}
 use Rattle.std.specs.Io.KnownBytes.{prepend_known}
 use Rattle.multihash.specs.Refusal.{Refusal, of_io, IsReaderError, IsInvalidSize, IsInvalidCode}
-use Rattle.multihash.specs.Outcome.{Fields, pair_of, IsErrorOf, IsResultOf}
+use Rattle.multihash.specs.Outcome.{IsErrorOf, IsResultOf}
+use Rattle.multihash.specs.Multihash.{Fields, pair_of}
 use Rattle.multihash.proofs.Readings.ReadingLemmas.{IfSome-consumed, Consumes-concatenated}
 use Rattle.multihash.proofs.Readings.ReadConsumingLemmas.{refusal_unique, own_no_refusal}
 
@@ -98,8 +99,8 @@ found_after k S code x bytes rest eight is cut =
     let long : length bytes ≡ k = is.eight ∙ sym eight in
     rw (cut, le-ltb (length (bytes ++ rest)) k (omega (arith, length-append bytes rest, long)), take_at bytes rest k long, drop_at bytes rest k long, is.value) refl
 
-found_is : (k S : ℕ) (x : List ℕ) (v : Verdict) → k ≡ 8 → HasScaleVerdict S x v → found_at k S x ≡ v
-found_is k S x (accepted p) eight (bytes, rest, h, fits, cut) =
+scale_found_is : (k S : ℕ) (x : List ℕ) (v : Verdict) → k ≡ 8 → HasScaleVerdict S x v → found_at k S x ≡ v
+scale_found_is k S x (accepted p) eight (bytes, rest, h, fits, cut) =
     found_after k S p.code x h.code (length p.digest ∷ (p.digest ++ rest)) eight h.is_code
     (cut ∙ (ap (λ (z : List ℕ). z ++ rest) h.spelled ∙ append_assoc h.code (length p.digest ∷ p.digest) rest))
     ∙ rw (
@@ -108,15 +109,15 @@ found_is k S x (accepted p) eight (bytes, rest, h, fits, cut) =
       le-ltb (length (p.digest ++ rest)) (length p.digest) (omega (arith, length-append p.digest rest)),
       take_at p.digest rest (length p.digest) refl,
     ) refl
-found_is k S x (invalid_code code) eight (bytes, rest, is_code, above, cut) =
+scale_found_is k S x (invalid_code code) eight (bytes, rest, is_code, above, cut) =
     found_after k S code x bytes rest eight is_code cut ∙ rw (le-ltb code varint_limit above) refl
-found_is k S x (invalid_size size) eight (rest, h, over) =
+scale_found_is k S x (invalid_size size) eight (rest, h, over) =
     found_after k S h.code x h.code_bytes (size ∷ rest) eight h.is_code h.cut ∙ rw (lt-ltb h.code varint_limit h.in_range, lt-ltb S size over) refl
-found_is k S x (malformed fault) eight h = absurd h
-found_is k S x unexpected_eof eight (inl short) = rw (lt-ltb (length x) k (omega (arith, short, eight))) refl
-found_is k S x unexpected_eof eight (inr (inl (code, is_code, below))) =
+scale_found_is k S x (malformed fault) eight h = absurd h
+scale_found_is k S x unexpected_eof eight (inl short) = rw (lt-ltb (length x) k (omega (arith, short, eight))) refl
+scale_found_is k S x unexpected_eof eight (inr (inl (code, is_code, below))) =
     found_after k S code x x [] eight is_code (sym (append-nil x)) ∙ rw (lt-ltb code varint_limit below) refl
-found_is k S x unexpected_eof eight (inr (inr (size, rest, h, within, short))) =
+scale_found_is k S x unexpected_eof eight (inr (inr (size, rest, h, within, short))) =
     found_after k S h.code x h.code_bytes (size ∷ rest) eight h.is_code h.cut
     ∙ rw (lt-ltb h.code varint_limit h.in_range, le-ltb S size within, lt-ltb (length rest) size short) refl
 
@@ -125,7 +126,7 @@ scale_found S x = found_at 8 S x
 
 -- an input has no other verdict than the computed one
 pub scale_verdict_is : (S : ℕ) (x : List ℕ) (v : Verdict) → HasScaleVerdict S x v → v ≡ scale_found S x
-scale_verdict_is S x v h = sym (found_is 8 S x v refl h)
+scale_verdict_is S x v h = sym (scale_found_is 8 S x v refl h)
 
 pub scale_verdict_unique : (S : ℕ) (x : List ℕ) (v w : Verdict) → HasScaleVerdict S x v → HasScaleVerdict S x w → v ≡ w
 scale_verdict_unique S x v w h k = scale_verdict_is S x v h ∙ sym (scale_verdict_is S x w k)
@@ -167,15 +168,15 @@ scale_in_range S code x bytes (size ∷ rest) is_code cut each below =
     (All-head (λ b. b < 256) size rest each)
 
 -- the first k bytes, and the others
-cut_at : (k : ℕ) (x : List ℕ) → k ≤ length x → (front : List ℕ) × (rest : List ℕ) × (x ≡ front ++ rest) × (length front ≡ k)
-cut_at k x long = (take k x, drop k x, sym (take-append-drop k x), length-take-le k x long)
+cut_after : (k : ℕ) (x : List ℕ) → k ≤ length x → (front : List ℕ) × (rest : List ℕ) × (x ≡ front ++ rest) × (length front ≡ k)
+cut_after k x long = (take k x, drop k x, sym (take-append-drop k x), length-take-le k x long)
 
 pub scale_verdict_exists : (S : ℕ) (x : List ℕ) → IsBytes x → (v : Verdict) × HasScaleVerdict S x v
 scale_verdict_exists S x bytes =
     elim (cases_lt (length x) 8) [
       | inl short ↦ (unexpected_eof, inl short)
       | inr long ↦
-          let (front, rest, cut, eight) = cut_at 8 x long in
+          let (front, rest, cut, eight) = cut_after 8 x long in
           let whole = All-same (λ b. b < 256) (front ++ rest) x (sym cut) bytes in
           let is_code : IsScaleCode (place_value 256 front) front =
           record { eight = eight; are_bytes = All-append_left (λ b. b < 256) front rest whole; value = refl } in
@@ -205,11 +206,11 @@ ScaleMeets S old new before after r = record {
 
 module _ (S : ℕ) (old new : Option (List ℕ)) (before after : ℕ) where
   -- the consumed bytes determine that the code or the size is rejected
-  refused : (e : Refusal) (consumed : List ℕ) (v : Verdict) → Consumes old consumed new → after ≡ before
+  scale_rejected : (e : Refusal) (consumed : List ℕ) (v : Verdict) → Consumes old consumed new → after ≡ before
       → ((left : List ℕ) → HasScaleVerdict S (consumed ++ left) v) → ¬ (IsIncomplete v) → IsErrorOf e v → ScaleMayFailWith S e
       → ((code : ℕ) → v ≡ invalid_code code → length consumed ≡ 8)
       → ((size : ℕ) → v ≡ invalid_size size → length consumed ≡ 9) → ScaleMeets S old new before after (Err e)
-  refused e consumed v consumes same has late given listed eight nine =
+  scale_rejected e consumed v consumes same has late given listed eight nine =
       let own = subst (λ x. HasScaleVerdict S x v) (append-nil consumed) (has []) in record {
         faults = inr (same, listed);
         verdict = IfSome-consumed old new consumed _ consumes (λ left _ _. (v, has left, given));
@@ -230,23 +231,23 @@ module _ (S : ℕ) (old new : Option (List ℕ)) (before after : ℕ) where
     pub code_rejected : (e : Refusal) → varint_limit ≤ code → after ≡ before → IsInvalidCode code e → Consumes old a new
         → ScaleMeets S old new before after (Err e)
     code_rejected e above same given consumes =
-        refused e a (invalid_code code) consumes same (λ left. (a, left, is, above, refl)) (λ h. h) given (inl (code, given, above))
+        scale_rejected e a (invalid_code code) consumes same (λ left. (a, left, is, above, refl)) (λ h. h) given (inl (code, given, above))
         (λ k named. is.eight) (λ k named. cc)
 
     module _ (size : ℕ) (below : code < varint_limit) where
-      has_size : (rest : List ℕ) → HasScaleSize size ((a ++ size ∷ []) ++ rest) rest
-      has_size rest = record { code = code; code_bytes = a; is_code = is; in_range = below; cut = append_assoc a (size ∷ []) rest }
+      has_scale_size : (rest : List ℕ) → HasScaleSize size ((a ++ size ∷ []) ++ rest) rest
+      has_scale_size rest = record { code = code; code_bytes = a; is_code = is; in_range = below; cut = append_assoc a (size ∷ []) rest }
 
       pub size_rejected : (e : Refusal) → S < size → after ≡ before → IsInvalidSize size e → Consumes old (a ++ size ∷ []) new
           → ScaleMeets S old new before after (Err e)
       size_rejected e over same given consumes =
-          refused e (a ++ size ∷ []) (invalid_size size) consumes same (λ left. (left, has_size left, over)) (λ h. h) given
+          scale_rejected e (a ++ size ∷ []) (invalid_size size) consumes same (λ left. (left, has_scale_size left, over)) (λ h. h) given
           (inr (inl (size, given, over))) (λ k named. cc) (λ k named. omega (arith, is.eight, length-append a (size ∷ [])))
 
       -- the whole form
-      pub answered : (digest : List ℕ) (m : Fields S) → size ≤ S → size < 256 → length digest ≡ size → after ≡ before
+      pub scale_answered : (digest : List ℕ) (m : Fields S) → size ≤ S → size < 256 → length digest ≡ size → after ≡ before
           → pair_of m ≡ record { code = code; digest = digest } → Consumes old (a ++ size ∷ digest) new → ScaleMeets S old new before after (Ok m)
-      answered digest m fits byte long same made consumes =
+      scale_answered digest m fits byte long same made consumes =
           let p : Pair = record { code = code; digest = digest } in
           let form : IsScale p (a ++ size ∷ digest) = scale_of p size a digest is below (sym long) byte refl in record {
             faults = same;
@@ -287,7 +288,7 @@ pub no_size : (S code : ℕ) (a : List ℕ) → IsScaleCode code a → code < va
 no_size S code a is below [] none = inr (inl (code, subst (IsScaleCode code) (sym (append-nil a)) is, below))
 no_size S code a is below (b ∷ t) none = absurd (omega arith)
 
-pub cut_digest : (S code : ℕ) (a : List ℕ) → IsScaleCode code a → (size : ℕ) → code < varint_limit → size ≤ S → (t : List ℕ) → length t < size
+pub cut_scale_digest : (S code : ℕ) (a : List ℕ) → IsScaleCode code a → (size : ℕ) → code < varint_limit → size ≤ S → (t : List ℕ) → length t < size
     → HasScaleVerdict S ((a ++ size ∷ []) ++ t) unexpected_eof
-cut_digest S code a is size below fits t short =
+cut_scale_digest S code a is size below fits t short =
     inr (inr (size, t, record { code = code; code_bytes = a; is_code = is; in_range = below; cut = append_assoc a (size ∷ []) t }, fits, short))

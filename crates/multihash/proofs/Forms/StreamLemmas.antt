@@ -11,7 +11,7 @@ use Rattle.multihash.proofs.Writings.EncodingLemmas.{encoding_unique}
 use Rattle.std.proofs.lemmas.List.{map_push}
 use Rattle.std.proofs.lemmas.List.Elements.{All-nil, All-push, All-head}
 use Rattle.multihash.specs.Reading.{Consumes}
-use Rattle.multihash.specs.Outcome.{Fields, pair_of}
+use Rattle.multihash.specs.Multihash.{Fields, pair_of}
 use Rattle.multihash.proofs.Readings.ReadingLemmas.{Consumes-none, Consumes-concatenated}
 
 module _ {A : Type 0} (IsPart : A → List ℕ → Type 0) where

@@ -9,9 +9,10 @@ use Rattle.multihash.specs.Verdict.{Verdict, accepted, invalid_size, invalid_cod
 use Rattle.std.specs.Io.KnownBytes.{IsAtEnd, prepend_known}
 use Rattle.multihash.specs.Reading.{Consumes, HasFewerThan}
 use Rattle.multihash.specs.Fault.{Fault, IsUnexpectedEof, IsOwnFault}
-use Rattle.multihash.specs.Refusal.{Refusal, of_io, of_size, of_code, of_varint, of_not_bytes, IsReaderError, IsEof, IsInvalidSize, IsVarintError}
-use Rattle.multihash.specs.Consuming.{ReadMayFailWith, ConsumesShortestSettling, ConsumesNothingSettling, EndsOrFails, ReadMeets, IsAnyVarintError, ConsumesAtVarintError, ConsumesVarint, IsFrontErrorAt, IsHeadError}
-use Rattle.multihash.specs.Outcome.{Fields, pair_of, IsErrorOf, IsResultOf}
+use Rattle.multihash.specs.Refusal.{Refusal, of_io, of_size, of_code, of_varint, of_not_bytes, IsReaderError, IsEof, IsInvalidSize, IsVarintError, IsAnyVarintError}
+use Rattle.multihash.specs.Consuming.{ReadMayFailWith, ConsumesShortestSettling, ConsumesNothingSettling, EndsOrFails, ReadMeets, ConsumesAtVarintError, ConsumesVarint, IsFrontErrorAt, IsHeadError}
+use Rattle.multihash.specs.Outcome.{IsErrorOf, IsResultOf}
+use Rattle.multihash.specs.Multihash.{Fields, pair_of}
 use Rattle.multihash.proofs.Values.ValueLemmas.{digest_fits}
 use Rattle.multihash.proofs.Readings.ReadingLemmas.{IfSome-consumed, Consumes-concatenated, Consumes-cut}
 use Rattle.multihash.proofs.Readings.VerdictLemmas.{verdict_unique, coded, sized}
@@ -20,19 +21,19 @@ use Rattle.multihash.proofs.Readings.SettlingLemmas.{verdict_kept, none_settles,
 -- ---- errors and verdicts
 
 -- the verdict of an error
-abbrev verdict_of : Refusal → Verdict
-verdict_of (of_io fault) = unexpected_eof
-verdict_of (of_size size) = invalid_size size
-verdict_of (of_code code) = invalid_code code
-verdict_of (of_varint fault) = malformed fault
-verdict_of of_not_bytes = unexpected_eof
+abbrev refused_verdict : Refusal → Verdict
+refused_verdict (of_io fault) = unexpected_eof
+refused_verdict (of_size size) = invalid_size size
+refused_verdict (of_code code) = invalid_code code
+refused_verdict (of_varint fault) = malformed fault
+refused_verdict of_not_bytes = unexpected_eof
 
-verdict_of_refusal : (e : Refusal) (v : Verdict) → IsErrorOf e v → v ≡ verdict_of e
+verdict_of_refusal : (e : Refusal) (v : Verdict) → IsErrorOf e v → v ≡ refused_verdict e
 verdict_of_refusal e (accepted p) given = absurd given
-verdict_of_refusal e (invalid_size size) given = ap verdict_of (sym given)
-verdict_of_refusal e (invalid_code code) given = ap verdict_of (sym given)
-verdict_of_refusal e (malformed fault) given = ap verdict_of (sym given)
-verdict_of_refusal e unexpected_eof given = ap verdict_of (sym given.1)
+verdict_of_refusal e (invalid_size size) given = ap refused_verdict (sym given)
+verdict_of_refusal e (invalid_code code) given = ap refused_verdict (sym given)
+verdict_of_refusal e (malformed fault) given = ap refused_verdict (sym given)
+verdict_of_refusal e unexpected_eof given = ap refused_verdict (sym given.1)
 
 -- so an error is that of one verdict only
 pub refusal_unique : (e : Refusal) (v w : Verdict) → IsErrorOf e v → IsErrorOf e w → v ≡ w
@@ -47,7 +48,7 @@ own_not_eof e (fault, given, kind) h =
 -- no verdict has an error of the reader's own
 pub own_no_refusal : (e : Refusal) (v : Verdict) → IsReaderError e → IsErrorOf e v → ⊥
 own_no_refusal e v own given =
-    own_not_eof e own (subst (IsErrorOf e) (verdict_of_refusal e v given ∙ ap verdict_of own.1) given)
+    own_not_eof e own (subst (IsErrorOf e) (verdict_of_refusal e v given ∙ ap refused_verdict own.1) given)
 
 -- nor is it one that `read` lists
 pub own_not_listed : (S : ℕ) (e : Refusal) → IsReaderError e → ReadMayFailWith S e → ⊥
@@ -180,9 +181,9 @@ read_answered S consumed old new before after m unrisen encodes consumes =
     (λ p before. before_digest S (pair_of m) consumed p encodes fits before) m refl encodes
 
 -- at the end of the input, the consumed bytes are all of it
-at_end : (P : List ℕ → Type 0) (consumed : List ℕ) (new : Option (List ℕ)) → IsAtEnd new → P consumed
+whole_at_end : (P : List ℕ → Type 0) (consumed : List ℕ) (new : Option (List ℕ)) → IsAtEnd new → P consumed
     → (left : List ℕ) → new ≡ Some left → P (consumed ++ left)
-at_end P consumed new ends p left is =
+whole_at_end P consumed new ends p left is =
     let none : left ≡ [] = subst IsAtEnd is ends in subst P (sym (ap (λ z. consumed ++ z) none ∙ append-nil consumed)) p
 
 -- ---- in the code or the size
@@ -195,7 +196,7 @@ module _ (S : ℕ) (e : Refusal) (old mid new : Option (List ℕ)) (before after
     refused : (f : VarintError) → after ≡ before → IsVarintError f e → HasVerdict S (a ++ t.consumed) (malformed f) → ReadMeets S old new before after (Err e)
     refused insufficient same given has =
         at_incomplete S _ _ _ _ _ consumes (malformed insufficient) has tt e same given (λ _. t.all given)
-        (at_end (λ x. HasVerdict S x (malformed insufficient)) (a ++ t.consumed) new (t.all given) has)
+        (whole_at_end (λ x. HasVerdict S x (malformed insufficient)) (a ++ t.consumed) new (t.all given) has)
     refused overflow same given has = at_settled S _ _ _ _ _ consumes (malformed overflow) has same (λ h. h) no_sooner e given
     refused not_minimal same given has = at_settled S _ _ _ _ _ consumes (malformed not_minimal) has same (λ h. h) no_sooner e given
 

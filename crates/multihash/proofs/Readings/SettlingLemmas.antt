@@ -144,14 +144,14 @@ none_settles S x v h early front (rest, cut) s =
 -- ---- incomplete inputs
 
 -- at most as many continuation bytes as a varint may have, and one more byte
-pub record IsStep (t : List ℕ) : Type 0 where
+pub record IsContinuationThenByte (t : List ℕ) : Type 0 where
   pub front : List ℕ
   pub last : ℕ
   pub all_continuation : All IsContinuation front
   pub few : length front ≤ max_continuation
   pub cut : t ≡ front ++ last ∷ []
 
-pub before_step : (t p : List ℕ) → IsStep t → IsStrictPrefix p t → IsInsufficient p
+pub before_step : (t p : List ℕ) → IsContinuationThenByte t → IsStrictPrefix p t → IsInsufficient p
 before_step t p s (rest, some, cut) = record { few = omega (arith, s.few, short); all_continuation = marks }
   where
     same : s.front ++ s.last ∷ [] ≡ p ++ rest
@@ -216,7 +216,7 @@ pub record ShowsFault (f : VarintError) (x : List ℕ) : Type 0 where
   pub shown : List ℕ
   pub rest : List ℕ
   pub cut : x ≡ shown ++ rest
-  pub step : IsStep shown
+  pub step : IsContinuationThenByte shown
   pub has : BeginsMalformed f shown
 
 pub shows_fault : (f : VarintError) (x : List ℕ) → ¬ (IsIncomplete (malformed f)) → BeginsMalformed f x → ShowsFault f x

@@ -109,14 +109,14 @@ has_judged S size x rest h =
       ]
     ]
 
-after_code : (S : ℕ) (x r : List ℕ) → BeginsWithCode x r → (g : Front) → HasFront r g → (v : Verdict) × HasVerdict S x v
-after_code S x r c (number size rest) (b, is_size, e) =
+verdict_after_code : (S : ℕ) (x r : List ℕ) → BeginsWithCode x r → (g : Front) → HasFront r g → (v : Verdict) × HasVerdict S x v
+verdict_after_code S x r c (number size rest) (b, is_size, e) =
     has_judged S size x rest (sized c.code size c.code_bytes b x rest c.is_code is_size (c.cut ∙ ap (λ (z : List ℕ). c.code_bytes ++ z) e))
-after_code S x r c (fault f) h = (malformed f, inr (r, c, h))
+verdict_after_code S x r c (fault f) h = (malformed f, inr (r, c, h))
 
 from_front : (S : ℕ) (x : List ℕ) → IsBytes x → (f : Front) → HasFront x f → (v : Verdict) × HasVerdict S x v
 from_front S x bytes (number code r) (a, is_code, e) =
-    after_code S x r (coded code a x r is_code e) (front_of r)
+    verdict_after_code S x r (coded code a x r is_code e) (front_of r)
     (front_of_has r (All-append_right (λ byte. byte < 256) a r (All-same (λ byte. byte < 256) (a ++ r) x (sym e) bytes)))
 from_front S x bytes (fault f) h = (malformed f, inl h)
 

@@ -47,14 +47,14 @@ module _ (p q : Pair) where
   pub by_code : p.code ≢ q.code → compare_pairs p q ≡ nat_cmp p.code q.code
   by_code other = decided _ _ (λ tie. other (ranked p.code q.code Equal (sym tie)))
 
-  after_code : p.code ≡ q.code → compare_pairs p q ≡ ordering_then (nat_cmp (length p.digest) (length q.digest)) (slice_cmp nat_cmp p.digest q.digest)
-  after_code same = ap (λ o. ordering_then o (ordering_then (nat_cmp (length p.digest) (length q.digest)) (slice_cmp nat_cmp p.digest q.digest))) (sym (nat_cmp_is p.code q.code Equal same))
+  order_after_code : p.code ≡ q.code → compare_pairs p q ≡ ordering_then (nat_cmp (length p.digest) (length q.digest)) (slice_cmp nat_cmp p.digest q.digest)
+  order_after_code same = ap (λ o. ordering_then o (ordering_then (nat_cmp (length p.digest) (length q.digest)) (slice_cmp nat_cmp p.digest q.digest))) (sym (nat_cmp_is p.code q.code Equal same))
 
   pub by_size : p.code ≡ q.code → length p.digest ≢ length q.digest → compare_pairs p q ≡ nat_cmp (length p.digest) (length q.digest)
-  by_size same other = after_code same ∙ decided _ _ (λ tie. other (ranked (length p.digest) (length q.digest) Equal (sym tie)))
+  by_size same other = order_after_code same ∙ decided _ _ (λ tie. other (ranked (length p.digest) (length q.digest) Equal (sym tie)))
 
   pub by_bytes : p.code ≡ q.code → length p.digest ≡ length q.digest → compare_pairs p q ≡ slice_cmp nat_cmp p.digest q.digest
-  by_bytes same long = after_code same ∙ ap (λ o. ordering_then o (slice_cmp nat_cmp p.digest q.digest)) (sym (nat_cmp_is (length p.digest) (length q.digest) Equal long))
+  by_bytes same long = order_after_code same ∙ ap (λ o. ordering_then o (slice_cmp nat_cmp p.digest q.digest)) (sym (nat_cmp_is (length p.digest) (length q.digest) Equal long))
 
 -- two different digests of the same length compare as the first byte that differs
 pub first_apart : (x y : List ℕ) → length x ≡ length y → x ≢ y

@@ -7,7 +7,7 @@ use Rattle.multihash.specs.Pair.{FitsBuffer}
 use Rattle.multihash.specs.Varint.{max_continuation}
 use Rattle.multihash.specs.Encoding.{IsEncoding}
 use Rattle.multihash.specs.Streams.{AreConcatenated}
-use Rattle.multihash.specs.Outcome.{Fields, pair_of}
+use Rattle.multihash.specs.Multihash.{Fields, pair_of}
 use Rattle.multihash.proofs.Writings.EncodingLemmas.{encoding_exists, encoding_length}
 
 pub digest_fits : {S : ℕ} (m : Fields S) → FitsBuffer S (pair_of m)

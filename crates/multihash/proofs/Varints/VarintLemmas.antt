@@ -31,15 +31,15 @@ varint_length n bytes v = (
   λ most. omega (arith, v.value, v.in_range, rw most at (place_value_last 128 v.last v.front)),
 )
 
-no_longer : (n : ℕ) (a b : List ℕ) (v : IsVarint n a) (w : IsVarint n b) → length v.front ≤ length w.front
-no_longer n a b v w =
+front_no_longer : (n : ℕ) (a b : List ℕ) (v : IsVarint n a) (w : IsVarint n b) → length v.front ≤ length w.front
+front_no_longer n a b v w =
     let long : length (w.front ++ w.last ∷ []) ≡ suc (length w.front) = omega (arith, length_push w.front w.last) in
     front_within (length w.front) n a v (rw (w.value, long) at (place_value_below 128 (w.front ++ w.last ∷ []) w.digits))
 
 pub varint_unique : (n : ℕ) (a b : List ℕ) → IsVarint n a → IsVarint n b → a ≡ b
 varint_unique n a b v w =
     let long : length (v.front ++ v.last ∷ []) ≡ length (w.front ++ w.last ∷ []) =
-    omega (arith, length_push v.front v.last, length_push w.front w.last, no_longer n a b v w, no_longer n b a w v) in
+    omega (arith, length_push v.front v.last, length_push w.front w.last, front_no_longer n a b v w, front_no_longer n b a w v) in
     let digits = place_value_unique 128 (v.front ++ v.last ∷ []) (w.front ++ w.last ∷ []) v.digits w.digits long (v.value ∙ sym w.value) in
     let same = same_from_push v.front w.front v.last w.last digits in
     cc (v.spelled, w.spelled, same.0, same.1)
@@ -219,8 +219,8 @@ pub varint_longest : (n : ℕ) (bytes : List ℕ) → IsVarint n bytes → lengt
 varint_longest n bytes v = omega (arith, varint_bytes n bytes v, (varint_length n bytes v).0)
 
 -- a number above zero has as many bytes as its bits need, seven in each
-pub varint_bits : (n : ℕ) (bytes : List ℕ) → IsVarint n bytes → 0 < n → length bytes ≡ (70 - leading_zeros w64 n) / 7
-varint_bits n bytes v some =
+pub length_by_bits : (n : ℕ) (bytes : List ℕ) → IsVarint n bytes → 0 < n → length bytes ≡ (70 - leading_zeros w64 n) / 7
+length_by_bits n bytes v some =
     let two : 0 < 2 = omega arith in
     let top = leading_top 64 n some (omega (arith, v.in_range)) in
     let above : 2 ^ suc top.0 ≤ 2 ^ (7 * suc (top.0 / 7)) = pow-le-pow_right two (omega arith) in

@@ -73,10 +73,10 @@ module _ (old now : Option (List ℕ)) (sum i : ℕ) (h : ReadsContinuation old 
   whole = record { few = omega (arith, h.few, h.long); all_continuation = h.continuation_bytes }
 
   -- the consumed bytes show that the varint is malformed
-  refused : (new : Option (List ℕ)) (fault : VarintError) (consumed : List ℕ) (e : Refusal) → e ≡ of_varint fault → BeginsMalformed fault consumed
+  varint_rejected : (new : Option (List ℕ)) (fault : VarintError) (consumed : List ℕ) (e : Refusal) → e ≡ of_varint fault → BeginsMalformed fault consumed
       → ((shorter : List ℕ) → IsStrictPrefix shorter consumed → IsInsufficient shorter) → (fault ≡ insufficient → IsAtEnd new)
       → Consumes old consumed new → ConsumesAtVarintError e old new
-  refused new fault consumed e given has no_sooner all consumes = record {
+  varint_rejected new fault consumed e given has no_sooner all consumes = record {
     consumed = consumed;
     consumes = consumes;
     shows = λ f malformed. let same : fault ≡ f = cc (given, malformed) in subst (λ k. BeginsMalformed k consumed) same has;
@@ -96,21 +96,21 @@ module _ (old now : Option (List ℕ)) (sum i : ℕ) (h : ReadsContinuation old 
   }
 
   pub input_ended : IsAtEnd now → (e : Refusal) → e ≡ of_varint insufficient → ConsumesAtVarintError e old now
-  input_ended end e given = refused now insufficient h.front e given whole before_end (λ _. end) h.consumes
+  input_ended end e given = varint_rejected now insufficient h.front e given whole before_end (λ _. end) h.consumes
 
   module _ (new : Option (List ℕ)) (byte : ℕ) (next : Consumes now (byte ∷ []) new) where
     consumes : Consumes old (h.front ++ byte ∷ []) new
     consumes = Consumes-concatenated old now new h.front (byte ∷ []) (h.front ++ byte ∷ []) refl h.consumes next
 
-    pub too_large : i ≡ max_continuation → last_byte_limit ≤ byte → (e : Refusal) → e ≡ of_varint overflow → ConsumesAtVarintError e old new
-    too_large most large e given =
-        refused new overflow (h.front ++ byte ∷ []) e given
+    pub read_overflow : i ≡ max_continuation → last_byte_limit ≤ byte → (e : Refusal) → e ≡ of_varint overflow → ConsumesAtVarintError e old new
+    read_overflow most large e given =
+        varint_rejected new overflow (h.front ++ byte ∷ []) e given
         (overflow_after h.front byte [] h.continuation_bytes (h.long ∙ most) large)
         (before_last byte) (λ same. cc) consumes
 
     pub ends_in_zero : byte ≡ 0 → 0 < i → (e : Refusal) → e ≡ of_varint not_minimal → ConsumesAtVarintError e old new
     ends_in_zero null some e given =
-        refused new not_minimal (h.front ++ byte ∷ []) e given
+        varint_rejected new not_minimal (h.front ++ byte ∷ []) e given
         (rw null (zero_after h.front [] h.continuation_bytes (omega (arith, h.long)) (omega (arith, h.long, h.few))))
         (before_last byte) (λ same. cc) consumes
 

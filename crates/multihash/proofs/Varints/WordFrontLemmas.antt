@@ -7,7 +7,7 @@ use Rattle.std.proofs.Math.Seq.{take-suc, take-add}
 use Rattle.std.proofs.lemmas.List.{drop-replicate, length-replicate, length-take, length-take-le, take_min, take_all, get_or_past, get_or-take, get_or-drop, nil_from_length, take_more, take-take, take-append-drop, drop_more, drop-take}
 use Rattle.std.proofs.lemmas.List.Elements.{All-from_get_or, All-nil, All-take, All-drop, All-more}
 use Rattle.multihash.specs.Bytes.{IsBytes, place_value}
-use Rattle.multihash.specs.Word.{IsFrontWord, BeginsWithContinuation, digits_low}
+use Rattle.multihash.specs.Private.Word.{IsFrontWord, BeginsWithContinuation, digits_low}
 use Rattle.multihash.proofs.Varints.DigitLemmas.{place_value-nil, place_value-cons, place_value_append, place_value_last, low_digits, or_digits}
 use Rattle.std.proofs.Math.Nat.{add-zero, lt_of_not-le, zero-add}
 use Rattle.std.proofs.lemmas.Nat.{and_mask}
@@ -15,7 +15,7 @@ use Rattle.multihash.specs.Varint.{max_continuation, last_byte_limit, IsContinua
 use Rattle.multihash.specs.Refusal.{Refusal, IsVarintError}
 use Rattle.multihash.specs.Consuming.{IsFrontErrorAt}
 use Rattle.multihash.proofs.Varints.VarintLemmas.{varint_from_bytes, overflow_after, zero_after}
-use Rattle.multihash.proofs.Varints.VarintReadLemmas.{ReadsContinuation, input_ended, too_large as read_overflow, ends_in_zero}
+use Rattle.multihash.proofs.Varints.VarintReadLemmas.{ReadsContinuation, input_ended, read_overflow, ends_in_zero}
 use Rattle.multihash.proofs.Varints.WordLemmas.{byte_at, byte_of, halves, low_bytes, high_bytes, digits_low_of, stops, stop_at, varint_bits, StopsAt, first_unmarked, last_place, too_large, kept_last, few_continuation, too_large_byte}
 
 -- ---- filling a word
@@ -49,16 +49,16 @@ pub bytes_of : (xs : List ℕ) → ((i : ℕ) → get_or xs i 0 < 256) → IsByt
 bytes_of xs each = All-from_get_or (λ b. b < 256) xs 0 (λ i _. each i)
 
 -- the word of a slice's first sixteen bytes
-pub whole_front : (xs front : List ℕ) (word : ℕ) → word ≡ from_le_bytes w128 front → front ≡ take 16 xs → 16 ≤ length xs
+pub full_front_word : (xs front : List ℕ) (word : ℕ) → word ≡ from_le_bytes w128 front → front ≡ take 16 xs → 16 ≤ length xs
     → IsFrontWord xs word 16
-whole_front xs front word is same enough = record {
+full_front_word xs front word is same enough = record {
   word_is = is ∙ (le_word front (ap length same ∙ length-take-le 16 xs enough) ∙ ap (place_value 256) same);
   present_is = omega arith;
 }
 
 -- the word of all bytes of a slice that has fewer
-pub all_front : (xs : List ℕ) (word : ℕ) → length xs < 16 → word ≡ place_value 256 xs → IsFrontWord xs word (length xs)
-all_front xs word few is = record {
+pub padded_front_word : (xs : List ℕ) (word : ℕ) → length xs < 16 → word ≡ place_value 256 xs → IsFrontWord xs word (length xs)
+padded_front_word xs word few is = record {
   word_is = is ∙ ap (place_value 256) (sym (take_all 16 xs (omega arith)));
   present_is = omega arith;
 }
@@ -83,8 +83,8 @@ begins_more xs at (suc m) begins more =
     let next : at + suc m ≡ at + m + 1 = omega arith in
     rw next (record { enough = omega arith; all_continuation = All-more IsContinuation xs (at + m) 0 within front.all_continuation large })
 
-cut_at : (xs : List ℕ) (k : ℕ) → k < length xs → xs ≡ take k xs ++ get_or xs k 0 ∷ drop (k + 1) xs
-cut_at xs k below = sym (take-append-drop k xs) ∙ ap (λ (back : List ℕ). take k xs ++ back) (drop_more xs k 0 below)
+cut_at_byte : (xs : List ℕ) (k : ℕ) → k < length xs → xs ≡ take k xs ++ get_or xs k 0 ∷ drop (k + 1) xs
+cut_at_byte xs k below = sym (take-append-drop k xs) ∙ ap (λ (back : List ℕ). take k xs ++ back) (drop_more xs k 0 below)
 
 -- as many continuation bytes as are at the front of the input were read
 front_read : (xs : List ℕ) (k : ℕ) → IsBytes xs → BeginsWithContinuation k xs → k ≤ max_continuation
@@ -104,7 +104,7 @@ overflow_at : (xs : List ℕ) → IsBytes xs → BeginsWithContinuation max_cont
 overflow_at xs bytes begins large e named =
     let below : max_continuation < length xs = lt_of_not-le (λ past. omega (arith, large, get_or_past xs max_continuation 0 past)) in
     let shows : IsOverflow xs =
-    rw (cut_at xs max_continuation below)
+    rw (cut_at_byte xs max_continuation below)
     (overflow_after (take max_continuation xs) (get_or xs max_continuation 0) (drop (max_continuation + 1) xs) begins.all_continuation
     (length-take-le max_continuation xs begins.enough) large) in (
       (overflow, named, shows),
@@ -142,18 +142,18 @@ module _ (xs : List ℕ) (word present k last : ℕ) (f : IsFrontWord xs word pr
     long : length (take k xs) ≡ k
     long = length-take-le k xs end.begins.enough
 
-    pub ends_zero : last ≡ 0 → 0 < k → (e : Refusal) → IsVarintError not_minimal e → IsFrontErrorAt xs e (k + 1)
-    ends_zero null some e named =
+    pub stops_at_zero : last ≡ 0 → 0 < k → (e : Refusal) → IsVarintError not_minimal e → IsFrontErrorAt xs e (k + 1)
+    stops_at_zero null some e named =
         let shows : IsNotMinimal xs =
-        rw (cut_at xs k below, ← end.last_is, null)
+        rw (cut_at_byte xs k below, ← end.last_is, null)
         (zero_after (take k xs) (drop (k + 1) xs) end.begins.all_continuation (omega (arith, long)) (omega (arith, long, end.few))) in (
           (not_minimal, named, shows),
           omega (arith, below),
           ends_in_zero _ _ _ _ read_there _ _ (ap Some (drop_more xs k 0 below)) (sym end.last_is ∙ null) some e named,
         )
 
-    pub ends_number : (last ≡ 0 → k ≡ 0) → IsVarint (place_value 128 (low_digits (take (k + 1) xs))) (take (k + 1) xs)
-    ends_number minimal =
+    pub stops_at_number : (last ≡ 0 → k ≡ 0) → IsVarint (place_value 128 (low_digits (take (k + 1) xs))) (take (k + 1) xs)
+    stops_at_number minimal =
         rw (take_more xs k 0 below, ← end.last_is)
         (varint_from_bytes (take k xs) last (All-take (λ b. b < 256) k xs end.bytes) end.begins.all_continuation end.below_128 (omega (arith, long, end.few))
         (λ e. end.small (sym long ∙ e)) (λ z. nil_from_length (take k xs) (long ∙ minimal z)))
@@ -237,7 +237,7 @@ module _ (xs : List ℕ) (word present : ℕ) (bytes : IsBytes xs) (f : IsFrontW
       → IsVarint (digits_low 8 (varint_bits lower)) (take (stop_at lower + 1) xs)
   low_number some within minimal =
       rw (half_digits xs 0 lower bytes low_is (low_early some) 8 (low_early some))
-      (ends_number xs word present (stop_at lower) _ f (low_end some) within minimal)
+      (stops_at_number xs word present (stop_at lower) _ f (low_end some) within minimal)
 
   -- ---- the high half
 
@@ -274,7 +274,7 @@ module _ (xs : List ℕ) (word present : ℕ) (bytes : IsBytes xs) (f : IsFrontW
       pub high_number : 8 + stop_at upper < present → ¬ (varint_bits upper / 2 ^ (8 * stop_at upper) ≡ 0)
           → IsVarint high_value (take (8 + stop_at upper + 1) xs)
       high_number within minimal =
-          let number = ends_number xs word present (8 + stop_at upper) _ f high_end within (λ z. absurd (minimal z)) in
+          let number = stops_at_number xs word present (8 + stop_at upper) _ f high_end within (λ z. absurd (minimal z)) in
           let front = take 8 xs in
           let back = take (stop_at upper + 1) (drop 8 xs) in
           let buffer : 8 + stop_at upper + 1 ≡ 8 + (stop_at upper + 1) = omega arith in
@@ -290,4 +290,4 @@ module _ (xs : List ℕ) (word present : ℕ) (bytes : IsBytes xs) (f : IsFrontW
           number
 
 -- fewer bytes than a word has, for the tactics
-pub ruleset short_front = (bytes_of, all_front)
+pub ruleset short_front = (bytes_of, padded_front_word)

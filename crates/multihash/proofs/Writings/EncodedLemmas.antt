@@ -3,7 +3,7 @@ use Rattle.std.proofs.Common.{◌≡◌, ◌↔◌, ℕ, ◌<◌, List, length, 
 use Rattle.multihash.specs.Pair.{Pair}
 use Rattle.multihash.specs.Varint.{varint_limit}
 use Rattle.multihash.specs.Encoding.{IsEncoding, varint_of, encoding_of}
-use Rattle.multihash.specs.Outcome.{Fields, pair_of}
+use Rattle.multihash.specs.Multihash.{Fields, pair_of}
 use Rattle.multihash.proofs.Varints.VarintWriteLemmas.{is_varint_of}
 use Rattle.multihash.proofs.Writings.EncodingLemmas.{encoding_same}
 use Rattle.multihash.proofs.Values.ValueLemmas.{digest_fits}

@@ -55,12 +55,12 @@ pub trait Read {
 
 /// A sink of bytes.
 ///
-/// An implementation exposes four ghost members to contracts: `allocates`, the value of `ALLOCATES`,
-/// `appended`, the relation of two states and the list of bytes appended between them, whether it is
-/// `full`, and `failures`, the number of times that it has failed. Its methods are proved to keep the
-/// laws in their clauses. A call that fails with an error of the writer itself raises the count by
-/// exactly one, and no other call changes it; so a writer that retries another one has a count of its
-/// own.
+/// An implementation exposes four ghost members to contracts: `allocates`, which has to be the value of
+/// `ALLOCATES` (nothing checks this for a custom writer), `appended`, the relation of two states and the
+/// list of bytes appended between them, whether it is `full`, and `failures`, the number of times that
+/// it has failed. Its methods are proved to keep the laws in their clauses. A call that fails with an
+/// error of the writer itself raises the count by exactly one, and no other call changes it; so a writer
+/// that retries another one has a count of its own.
 pub trait Write {
     /// Whether a call may allocate, and so return [`Error::out_of_memory`] without counting a failure.
     const ALLOCATES: bool;

@@ -1,9 +1,9 @@
 //! The varint at the front of a slice, from one word of its first bytes.
 ghost use Rattle.std.specs.Prelude.{◌≡◌, ◌<◌, ◌≤◌, ◌+◌, ℕ, List, length, take, drop, Some, IfSome, IfNone, IfOk, IfErr};
 ghost use Rattle.multihash.specs.Bytes.{IsBytes, place_value};
-ghost use Rattle.multihash.specs.Varint.{IsVarint};
-ghost use Rattle.multihash.specs.Word.{IsFrontWord, BeginsWithContinuation, IsFoundFront, digits_low};
-ghost use Rattle.multihash.specs.Consuming.{IsFrontErrorAt, IsMalformed, ConsumesVarint};
+ghost use Rattle.multihash.specs.Varint.{IsVarint, IsMalformed};
+ghost use Rattle.multihash.specs.Private.Word.{IsFrontWord, BeginsWithContinuation, IsFoundFront, digits_low};
+ghost use Rattle.multihash.specs.Consuming.{IsFrontErrorAt, ConsumesVarint};
 
 use super::{LAST_BYTE_LIMIT, MAX_CONTINUATION, MAX_LEN};
 use crate::Error;
@@ -40,8 +40,8 @@ pub(crate) fn read_front(bytes: &[u8]) -> Option<(u64, usize)>
     if len == 0 { None } else { Some((number, len)) }
 }
 
-// As `read_front`. An error comes with the number of bytes up to the one that shows it: all, if they are
-// insufficient.
+// Reads the varint at the front as `read_front` does. An error comes with the number of bytes up to and
+// including the one that determines it: all, if they are insufficient.
 #[cold]
 #[inline(never)]
 pub(crate) fn read_counted(bytes: &[u8]) -> Result<(u64, usize), (Error, usize)>
@@ -70,7 +70,7 @@ fn front_by_word(bytes: &[u8]) -> (u64, usize)
     }
 }
 
-// As `front_by_word`, if fewer bytes remain than a word has.
+// Does what `front_by_word` does, if fewer bytes remain than a word has.
 #[inline(never)]
 #[tactic(auto, using(crate::proofs::Varints::WordFrontLemmas::short_front))]
 fn front_by_short_word(bytes: &[u8]) -> (u64, usize)
@@ -91,7 +91,7 @@ fn padded_word(bytes: &[u8]) -> u128
     u128::from_le_bytes(front)
 }
 
-// As `front_by_word`, of bytes whose first are in the word.
+// Does what `front_by_word` does, of bytes whose first are in the word.
 #[inline(always)]
 fn front_in_word(word: u128, present: usize) -> (u64, usize)
     ensures { (bytes : List ℕ) → IsBytes bytes → IsFrontWord bytes word present →
@@ -103,7 +103,7 @@ fn front_in_word(word: u128, present: usize) -> (u64, usize)
     }
 }
 
-// As `read_counted`, of bytes whose first are in the word.
+// Does what `read_counted` does, of bytes whose first are in the word.
 #[inline(always)]
 fn read_word(word: u128, present: usize) -> Result<(u64, usize), (Error, usize)>
     ensures ok { IfOk result (λ found. (bytes : List ℕ) → IsBytes bytes →
@@ -132,7 +132,7 @@ fn read_word(word: u128, present: usize) -> Result<(u64, usize), (Error, usize)>
     Ok((join_low(varint), continuation_bytes + 1))
 }
 
-// As `read_word`, if all bytes of the low half are continuation bytes.
+// Does what `read_word` does, if all bytes of the low half are continuation bytes.
 #[inline(always)]
 fn read_high(word: u128, present: usize) -> Result<(u64, usize), (Error, usize)>
     ensures ok { IfOk result (λ found. (bytes : List ℕ) → IsBytes bytes →
@@ -163,7 +163,7 @@ fn read_high(word: u128, present: usize) -> Result<(u64, usize), (Error, usize)>
 
 // The number of the low seven bits of each byte of a low half, which mostly has few bytes of a varint.
 #[inline(always)]
-#[tactic(auto, unfolding(crate::specs::Word::digits_low))]
+#[tactic(auto, unfolding(crate::specs::Private::Word::digits_low))]
 fn join_low(half: u64) -> u64
     ensures { result ≡ digits_low 8 half }
 {
@@ -176,7 +176,7 @@ fn join_low(half: u64) -> u64
 
 // The number of the low seven bits of each of the lowest `N` bytes.
 #[inline(always)]
-#[tactic(auto, using(crate::proofs::Varints::WordLemmas::add_low), unfolding(crate::specs::Word::digits_low))]
+#[tactic(auto, using(crate::proofs::Varints::WordLemmas::add_low), unfolding(crate::specs::Private::Word::digits_low))]
 fn join_digits<const N: usize>(half: u64) -> u64
     requires { N ≤ 8 }
     ensures { result ≡ digits_low N half }

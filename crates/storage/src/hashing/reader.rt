@@ -1,6 +1,6 @@
 //! A reader that hashes and counts the bytes that pass.
 ghost use Rattle.std.specs.Prelude.{◌≡◌, ◌<◌, List, ℕ, [], length, take, IfOk, OnOk, OnErr};
-ghost use Rattle.multihash.specs.Outcome.{pair_of};
+ghost use Rattle.multihash.specs.Multihash.{pair_of};
 ghost use Rattle.storage.specs.Content.{content_pair};
 
 use super::ContentHasher;

@@ -1,6 +1,6 @@
 //! A writer that hashes and counts the bytes that pass.
 ghost use Rattle.std.specs.Prelude.{◌≡◌, List, ℕ, []};
-ghost use Rattle.multihash.specs.Outcome.{pair_of};
+ghost use Rattle.multihash.specs.Multihash.{pair_of};
 ghost use Rattle.storage.specs.Content.{content_pair};
 
 use super::ContentHasher;

@@ -2,7 +2,7 @@ use Rattle.std.proofs.Common.{◌≡◌, ◌<◌, ℕ, List, [], ◌∷◌, ◌+
 use Rattle.std.specs.Fmt.{decimal}
 use Rattle.hex.specs.Hex.{encode_lower, encode_with}
 use Rattle.multihash.specs.Pair.{Pair}
-use Rattle.multihash.specs.Outcome.{pair_of}
+use Rattle.multihash.specs.Multihash.{pair_of}
 use Rattle.mh_show.specs.Shown.{newline, shown_digest, shown}
 use Rattle.mh_show.proofs.show.lines_of.Goals as goal
 use Rattle.mh_show.proofs.show.lines_of.Goals.{then-is_empty, else-is_empty}

@@ -4,7 +4,8 @@ use Rattle.hex.specs.declared.error.FromHexError.{FromHexError}
 use Rattle.hex.specs.declared.error.FromHexError.TheVariants.{OutOfMemory}
 use Rattle.hex.specs.Hex.{decode_of}
 use Rattle.multihash.specs.Refusal.{Refusal}
-use Rattle.multihash.specs.Outcome.{pair_of, IsErrorOf}
+use Rattle.multihash.specs.Outcome.{IsErrorOf}
+use Rattle.multihash.specs.Multihash.{pair_of}
 use Rattle.multihash.specs.Verdict.{HasWholeVerdict}
 use Rattle.mh_show.specs.declared.show.ShowError.{ShowError}
 use Rattle.mh_show.specs.declared.show.ShowError.TheVariants.{NotHex}

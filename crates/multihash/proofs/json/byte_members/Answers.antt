@@ -1,7 +1,7 @@
 use Rattle.std.proofs.Common.{◌≡◌, Some, true, false, sym, ap, ◌∙◌}
 use Rattle.std.specs.List.{list_all}
 use Rattle.serde_json.specs.View.{view, items_view}
-use Rattle.multihash.specs.Members.{is_byte}
+use Rattle.multihash.specs.Private.Members.{is_byte}
 use Rattle.multihash.proofs.Forms.JsonLemmas.{byte_array, no_byte_array}
 use Rattle.multihash.proofs.json.byte_members.Goals as goal
 

@@ -1,8 +1,8 @@
 use Rattle.std.proofs.Common.{◌≡◌, ◌+◌, ◌∙◌, [], ◌∷◌, ◌++◌, take, drop, ap, sym, arith, append_assoc, append-nil}
 use Rattle.std.proofs.lemmas.List.{take_all, drop_all, take_more_set, drop_more}
 use Rattle.serde_json.specs.View.{view}
-use Rattle.multihash.specs.Members.{byte_of_data, member_bytes}
-use Rattle.multihash.proofs.Forms.JsonLemmas.{byte_at, first_byte}
+use Rattle.multihash.specs.Private.Members.{byte_of_data, member_bytes}
+use Rattle.multihash.proofs.Forms.JsonLemmas.{member_byte, first_byte}
 use Rattle.multihash.proofs.json.put_bytes.Goals as goal
 use Rattle.multihash.proofs.json.put_bytes.Goals.{in-Some, in_default}
 
@@ -24,7 +24,7 @@ loop-at-preserved c =
           ∙ ap (λ l. take at c.loop-at.buffer ++ l) (sym next)
           ∙ c.loop-at.invariant
       | in_default w ↦
-          let held = byte_at members at member c.requires.bytes c.loop-at-test.true c.index-members-at.is in
+          let held = member_byte members at member c.requires.bytes c.loop-at-test.true c.index-members-at.is in
           absurd (w.in_default.not-Some (held.0) (c.byte_of.ensures ∙ held.1))
     ]
 

@@ -1,6 +1,6 @@
 use Rattle.std.proofs.Common.{◌≡◌, ◌<◌, [], ◌∷◌, ◌++◌, length, map, inr, arith, rules}
 use Rattle.std.proofs.lemmas.List.{length-map}
-use Rattle.multihash.specs.Outcome.{pair_of}
+use Rattle.multihash.specs.Multihash.{pair_of}
 use Rattle.multihash.proofs.OutcomeLemmas.{passed_on}
 use Rattle.multihash.proofs.Forms.StreamLemmas.{ConsumesPairs-more}
 use Rattle.multihash.proofs.list.read_list.Goals as goal

@@ -2,7 +2,7 @@
 -- failed.
 use Rattle.std.proofs.Common.{◌≡◌, ◌++◌, ℕ, List, map, drop}
 use Rattle.multihash.specs.Streams.{AreConcatenated}
-use Rattle.multihash.specs.Outcome.{pair_of}
+use Rattle.multihash.specs.Multihash.{pair_of}
 use Rattle.multihash.proofs.list.write_list.Given as goal
 
 abbrev pub invariant-loop-item : goal.invariant-loop-item

@@ -1,6 +1,6 @@
 use Rattle.std.proofs.Common.{[], ◌∷◌, refl, sym, arith}
 use Rattle.multihash.proofs.Varints.VarintWriteLemmas.{one_byte, two_byte, three_byte, varint_exists}
-use Rattle.multihash.proofs.Varints.VarintLemmas.{varint_longest, varint_bits}
+use Rattle.multihash.proofs.Varints.VarintLemmas.{varint_longest, length_by_bits}
 use Rattle.multihash.proofs.varint.len_in_range.Goals as goal
 
 pub returns-then-n-lt128-clause-varint : goal.returns-then-n-lt128-clause-varint
@@ -15,9 +15,9 @@ returns-then-n-2-clause-varint c = (_, three_byte c.args.n (omega (arith, c.if-n
 pub returns-clause-varint : goal.returns-clause-varint
 returns-clause-varint c =
     let v = varint_exists c.args.n c.requires in
-    (v.0, v.1, sym (varint_bits c.args.n v.0 v.1 (omega (arith, c.if-n-2.false))))
+    (v.0, v.1, sym (length_by_bits c.args.n v.0 v.1 (omega (arith, c.if-n-2.false))))
 
 pub returns-clause-short : goal.returns-clause-short
 returns-clause-short c =
     let v = varint_exists c.args.n c.requires in
-    omega (arith, varint_bits c.args.n v.0 v.1 (omega (arith, c.if-n-2.false)), varint_longest c.args.n v.0 v.1)
+    omega (arith, length_by_bits c.args.n v.0 v.1 (omega (arith, c.if-n-2.false)), varint_longest c.args.n v.0 v.1)

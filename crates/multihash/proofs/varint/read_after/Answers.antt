@@ -1,5 +1,5 @@
 use Rattle.std.proofs.Common.{refl, ◌∙◌, arith}
-use Rattle.multihash.proofs.Varints.VarintReadLemmas.{one_read, reader_failed, input_ended, too_large, ends_in_zero, read_last, read_more, first_of_two}
+use Rattle.multihash.proofs.Varints.VarintReadLemmas.{one_read, reader_failed, input_ended, read_overflow, ends_in_zero, read_last, read_more, first_of_two}
 use Rattle.multihash.proofs.OutcomeLemmas.{passed_on}
 use Rattle.multihash.proofs.varint.read_after.Goals as goal
 
@@ -18,7 +18,7 @@ returns-in_default-clause-err g c =
 
 pub returns-then-byte-ge-LAST_BYTE_LIMIT-clause-err : goal.returns-then-byte-ge-LAST_BYTE_LIMIT-clause-err
 returns-then-byte-ge-LAST_BYTE_LIMIT-clause-err g c =
-    too_large _ _ _ _ c.loop-i.invariant.reads _ c.in-Some.byte (rw c.in-Some.is at c.in_ok-byte.ensures.byte) c.if-i-eq-MAX_CONTINUATION.true
+    read_overflow _ _ _ _ c.loop-i.invariant.reads _ c.in-Some.byte (rw c.in-Some.is at c.in_ok-byte.ensures.byte) c.if-i-eq-MAX_CONTINUATION.true
     c.if-byte-ge-LAST_BYTE_LIMIT.true _ c.overflow.ensures
 
 pub returns-then-byte-eq0-clause-err : goal.returns-then-byte-eq0-clause-err

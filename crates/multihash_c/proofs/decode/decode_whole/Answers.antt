@@ -13,7 +13,7 @@ returns-in_default-clause-verdict c = λ input long begins enough.
     let (e, h, is) = c.fault-status.ensures in (
       malformed h.fault,
       fault_whole h.fault c.args.front.now input begins (h.verdict 255) (rw long enough),
-      rw (← is) c.refusal.ensures.tells,
+      rw (← is) c.rejected.ensures.reports,
     )
 
 pub returns-in_default-clause-cut : goal.returns-in_default-clause-cut
@@ -21,13 +21,13 @@ returns-in_default-clause-cut c = λ has.
     let (e, h, is) = c.fault-status.ensures in
     let same = verdict_unique 255 c.args.front.now (malformed h.fault) (malformed insufficient) (h.verdict 255) has in
     let fault : h.fault ≡ insufficient = cc in
-    subst (λ n. ReportsRefusal c.refusal.result n 0 0) (is ∙ ap status_of_fault fault) c.refusal.ensures.tells
+    subst (λ n. ReportsRefusal c.rejected.result n 0 0) (is ∙ ap status_of_fault fault) c.rejected.ensures.reports
 
 pub returns-then-head-clause-verdict : goal.returns-then-head-clause-verdict
 returns-then-head-clause-verdict c = λ input long begins enough. (
   invalid_size _,
   whole_over _ _ _ input (head_kept _ _ _ c.args.front.now input begins c.in-Some.ensures.some) 255 (omega (arith, c.if-head.true)),
-  c.refuse_size.ensures.tells input,
+  c.rejected_size.ensures.reports input,
 )
 
 pub returns-then-head-clause-cut : goal.returns-then-head-clause-cut
@@ -38,7 +38,7 @@ returns-then-left-size-clause-verdict c = λ input long begins enough. (
   unexpected_eof,
   whole_short _ _ _ input (head_kept _ _ _ c.args.front.now input begins c.in-Some.ensures.some) 255 (omega (arith, c.if-head.false)) (drop _ input) refl
       (omega (arith, length-drop c.in-Some.head.digest_offset input, long, c.if-left-size.true)),
-  c.refuse_end.ensures.tells input,
+  c.rejected_end.ensures.reports input,
 )
 
 pub returns-then-left-size-clause-cut : goal.returns-then-left-size-clause-cut
@@ -50,7 +50,7 @@ returns-then-left-size-2-clause-verdict c = λ input long begins enough. (
   whole_trailing _ _ _ input (head_kept _ _ _ c.args.front.now input begins c.in-Some.ensures.some) 255 (omega (arith, c.if-head.false)) (drop _ input) refl
       _ (omega (arith, length-drop c.in-Some.head.digest_offset input, long, c.if-left-size-2.true))
       (omega (arith, length-drop c.in-Some.head.digest_offset input, long)),
-  c.refuse_size-then-left-size-2.ensures.tells input,
+  c.rejected_size-then-left-size-2.ensures.reports input,
 )
 
 pub returns-then-left-size-2-clause-cut : goal.returns-then-left-size-2-clause-cut
@@ -69,7 +69,7 @@ returns-clause-verdict c = λ input long begins enough.
     rw (c.accept.ensures.length, at) (take_all head.digest_len rest (omega (arith, exact))) in (
       accepted _,
       whole_exact _ _ _ input (head_kept _ _ _ c.args.front.now input begins has) 255 (omega (arith, c.if-head.false)) rest refl exact,
-      c.accept.ensures.tells input _ refl (omega (arith, long)) (sym all),
+      c.accept.ensures.reports input _ refl (omega (arith, long)) (sym all),
     )
 
 pub returns-clause-cut : goal.returns-clause-cut

@@ -3,7 +3,7 @@ use Rattle.multihash.specs.Bytes.{IsBytes}
 use Rattle.multihash.specs.Scale.{IsScale, HasScaleVerdict}
 use Rattle.multihash.specs.Refusal.{IsInvalidCode}
 use Rattle.multihash.specs.Verdict.{Verdict, accepted, unexpected_eof}
-use Rattle.multihash.specs.Outcome.{pair_of}
+use Rattle.multihash.specs.Multihash.{pair_of}
 use Rattle.multihash.proofs.Varints.WordFrontLemmas.{bytes_of}
 use Rattle.multihash_c.specs.Decoded.{Reports, ConsumesWholeParts}
 use Rattle.multihash_c.proofs.DecodedLemmas.{form_stands, code_taken, ends_early}
@@ -13,38 +13,38 @@ use Rattle.multihash_c.proofs.decode.multihash_scale_decode.Goals as goal
 pub returns-in-Ok-clause-verdict : goal.returns-in-Ok-clause-verdict
 returns-in-Ok-clause-verdict c =
     let input = c.args.bytes.now in
-    let left = c.scale_decode-answer.new.r.now in
+    let left = c.scale_decode-decoded.new.r.now in
     let p = pair_of c.in-Ok.multihash in
     let met = c.in-Ok.ensures in
     let found = met.verdict refl in
     let has : HasScaleVerdict 255 input (accepted p) = subst (λ (v : Verdict). HasScaleVerdict 255 input v) found.2 found.1 in
     let cut : input ≡ met.ok.0 ++ left = cc (met.ok.2) in
     let long : c.from.result ≡ length p.digest = c.from.ensures ∙ c.size.ensures.size in
-    let answer = c.accept.result in
-    let all : answer.taken ≡ length met.ok.0 = omega (arith, c.accept.ensures.taken, ap length cut, length-append met.ok.0 left) in
-    let appends = form_stands p input met.ok.0 left answer.digest_offset answer.digest_length answer.taken met.ok.1 cut
+    let reported = c.accept.result in
+    let all : reported.taken ≡ length met.ok.0 = omega (arith, c.accept.ensures.taken, ap length cut, length-append met.ok.0 left) in
+    let appends = form_stands p input met.ok.0 left reported.digest_offset reported.digest_length reported.taken met.ok.1 cut
     (c.accept.ensures.length ∙ long) all (omega (arith, c.accept.ensures.offset, c.accept.ensures.length, c.accept.ensures.taken)) in
-    let front : take answer.taken input ≡ met.ok.0 = ap (λ n. take n input) c.accept.ensures.taken ∙ (cut_at input met.ok.0 left cut).0 in (
+    let front : take reported.taken input ≡ met.ok.0 = ap (λ n. take n input) c.accept.ensures.taken ∙ (cut_at input met.ok.0 left cut).0 in (
       accepted p,
       has,
-      c.accept.ensures.tells input p (sym c.code.ensures.code) (omega arith) appends,
+      c.accept.ensures.reports input p (sym c.code.ensures.code) (omega arith) appends,
       subst (λ (z : List ℕ). IsScale p z) (sym front) met.ok.1,
     )
 
 pub returns-in-Some-clause-verdict : goal.returns-in-Some-clause-verdict
 returns-in-Some-clause-verdict c =
     let input = c.args.bytes.now in
-    let left = c.scale_decode-answer.new.r.now in
+    let left = c.scale_decode-decoded.new.r.now in
     let met = c.in-Err.ensures in
     let found = met.verdict refl in
     let cut : input ≡ met.err.consumed ++ left = cc (met.err.consumes) in
-    let front : take c.refuse_code.result.taken input ≡ met.err.consumed =
-    ap (λ n. take n input) c.refuse_code.ensures.taken ∙ (cut_at input met.err.consumed left cut).0 in
+    let front : take c.rejected_code.result.taken input ≡ met.err.consumed =
+    ap (λ n. take n input) c.rejected_code.ensures.taken ∙ (cut_at input met.err.consumed left cut).0 in
     let is = (c.invalid_code.ensures c.in-Some.code).0 c.in-Some.is in
-    let told = code_taken input _ _ c.in-Some.code c.refuse_code.result.taken met.err front is found.0 found.1 found.2 in (
+    let told = code_taken input _ _ c.in-Some.code c.rejected_code.result.taken met.err front is found.0 found.1 found.2 in (
       found.0,
       found.1,
-      subst (λ (v : Verdict). Reports input c.refuse_code.result v) (sym told.0) (c.refuse_code.ensures.tells input),
+      subst (λ (v : Verdict). Reports input c.rejected_code.result v) (sym told.0) (c.rejected_code.ensures.reports input),
       told.1,
     )
 
@@ -61,6 +61,6 @@ returns-in-None-clause-verdict c =
     let early = ends_early input _ bytes no_code found.0 found.1 found.2 in (
       unexpected_eof,
       subst (λ (v : Verdict). HasScaleVerdict 255 input v) early found.1,
-      c.refuse_end.ensures.tells input,
-      subst (λ n. ConsumesWholeParts (length input) n) (sym c.refuse_end.ensures.taken) c.whole_parts.ensures.parts,
+      c.rejected_end.ensures.reports input,
+      subst (λ n. ConsumesWholeParts (length input) n) (sym c.rejected_end.ensures.taken) c.whole_parts.ensures.parts,
     )

@@ -1,24 +1,24 @@
 use Rattle.std.proofs.Common.{◌≡◌, ◌≤◌, ◌+◌, length, inl, inr, arith}
-use Rattle.multihash_c.proofs.ReadLemmas.{size_read, end_read, read_of_encoding, fault_read}
+use Rattle.multihash_c.proofs.ReadLemmas.{size_read, end_read, reads_encoding, fault_read}
 use Rattle.multihash_c.proofs.decode.read_within.Goals as goal
 
 pub returns-in_default : goal.returns-in_default
 returns-in_default c =
     let (e, h, is) = c.fault-status.ensures in
-    fault_read c.args.bytes.now e _ h c.args.limit c.refusal.result c.refusal.ensures.taken (rw (← is) c.refusal.ensures.tells)
+    fault_read c.args.bytes.now e _ h c.args.limit c.rejected.result c.rejected.ensures.taken (rw (← is) c.rejected.ensures.reports)
 
 pub returns-then-head-limit : goal.returns-then-head-limit
 returns-then-head-limit c =
     let input = c.args.bytes.now in
-    size_read c.args.limit c.in-Some.head.code c.in-Some.head.digest_len c.in-Some.head.digest_offset input c.in-Some.ensures.some c.refuse_size.result
+    size_read c.args.limit c.in-Some.head.code c.in-Some.head.digest_len c.in-Some.head.digest_offset input c.in-Some.ensures.some c.rejected_size.result
     (elim c.then-head-limit.either [ inl long ↦ omega (arith, long) | inr (_, long) ↦ omega (arith, long) ])
-    c.refuse_size.ensures.taken (c.refuse_size.ensures.tells input)
+    c.rejected_size.ensures.taken (c.rejected_size.ensures.reports input)
 
 pub returns-then-bytes-head : goal.returns-then-bytes-head
 returns-then-bytes-head c =
     let input = c.args.bytes.now in
-    end_read c.args.limit c.in-Some.head.code c.in-Some.head.digest_len c.in-Some.head.digest_offset input c.in-Some.ensures.some c.refuse_end.result
-    (omega (arith, c.if-head-limit.false, c.if-head.false)) c.if-bytes-head.true c.refuse_end.ensures.taken (c.refuse_end.ensures.tells input)
+    end_read c.args.limit c.in-Some.head.code c.in-Some.head.digest_len c.in-Some.head.digest_offset input c.in-Some.ensures.some c.rejected_end.result
+    (omega (arith, c.if-head-limit.false, c.if-head.false)) c.if-bytes-head.true c.rejected_end.ensures.taken (c.rejected_end.ensures.reports input)
 
 pub returns : goal.returns
 returns c =
@@ -27,6 +27,6 @@ returns c =
     let answer = c.accept.result in
     let at : answer.digest_offset ≡ c.in-Some.head.digest_offset = omega (arith, c.accept.ensures.offset) in
     let there : c.in-Some.head.digest_offset + c.in-Some.head.digest_len ≤ length input = omega (arith, head.within, c.if-bytes-head.false) in
-    read_of_encoding c.args.limit c.in-Some.head.code c.in-Some.head.digest_len c.in-Some.head.digest_offset input head answer
+    reads_encoding c.args.limit c.in-Some.head.code c.in-Some.head.digest_len c.in-Some.head.digest_offset input head answer
     (omega (arith, c.if-head-limit.false, c.if-head.false)) there c.accept.ensures.taken
-    (λ p code is. c.accept.ensures.tells input p code there (rw (c.accept.ensures.length, at) is))
+    (λ p code is. c.accept.ensures.reports input p code there (rw (c.accept.ensures.length, at) is))

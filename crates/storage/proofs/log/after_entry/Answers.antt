@@ -3,36 +3,34 @@ use Rattle.std.proofs.Math.Seq.{take-append_seam}
 use Rattle.std.proofs.lemmas.Bool.{false≢true}
 use Rattle.multihash.specs.Varint.{IsVarint}
 use Rattle.multihash.specs.Encoding.{IsEncoding}
-use Rattle.multihash.specs.Outcome.{pair_of}
+use Rattle.multihash.specs.Multihash.{pair_of}
 use Rattle.multihash.proofs.Readings.ReadingLemmas.{Consumes-cut}
 use Rattle.storage.specs.Content.{content_pair}
-use Rattle.storage.proofs.LogLemmas.{hash_read, hash_consumed, length_read, length_consumed, content_fits}
+use Rattle.storage.proofs.LogLemmas.{hash_read, hash_consumed, length_read, content_fits}
 use Rattle.storage.proofs.log.after_entry.Goals as goal
 
 pub returns-in_default-clause-none : goal.returns-in_default-clause-none
 returns-in_default-clause-none c h =
     hash_read _ h.block h.entry h.rest h.is_entry 32 0 0 _ (Some c.read.new.r.now) _ (content_fits h.block) (ap Some h.cut) refl c.in_default.ensures.verdict
 
-pub returns-in_default-read-clause-none : goal.returns-in_default-read-clause-none
-returns-in_default-read-clause-none c h =
+pub returns-in_default-read_front-clause-none : goal.returns-in_default-read_front-clause-none
+returns-in_default-read_front-clause-none c h =
     let one = hash_consumed _ h.block h.entry h.rest h.is_entry _ _ (Some c.read.new.r.now) (ap Some h.cut) c.in-Ok.ensures.ok in
-    length_read _ h.block h.entry h.rest h.is_entry 0 0 _ (Some c.read-2.new.r.now) _ one.1 refl c.in_default-read.ensures.front
+    length_read _ h.block h.entry h.rest h.is_entry 0 0 _ (Some c.read.new.r.now) _ one.1 refl (λ _. c.in_default-read_front.ensures.err)
 
 pub returns-then-len-rest-clause-none : goal.returns-then-len-rest-clause-none
 returns-then-len-rest-clause-none c h =
     let one = hash_consumed _ h.block h.entry h.rest h.is_entry _ _ (Some c.read.new.r.now) (ap Some h.cut) c.in-Ok.ensures.ok in
-    let two = length_consumed _ h.block h.entry h.rest h.is_entry _ _ (Some c.read-2.new.r.now) one.1 c.in-Ok-read.ensures.ok in
-    let left : c.read-2.new.r.now ≡ h.block ++ h.rest = cc in
-    omega (arith, two.0, ap length left, length-append h.block h.rest)
+    let two = c.in-Ok-read_front.ensures.found (length h.block) h.is_entry.len (h.block ++ h.rest) h.is_entry.is_len cc in
+    omega (arith, two.0, ap length (c.split_at.ensures.back ∙ two.1), length-append h.block h.rest)
 
 pub returns-then-not-same_as-clause-none : goal.returns-then-not-same_as-clause-none
 returns-then-not-same_as-clause-none c h =
     let one = hash_consumed _ h.block h.entry h.rest h.is_entry _ _ (Some c.read.new.r.now) (ap Some h.cut) c.in-Ok.ensures.ok in
-    let two = length_consumed _ h.block h.entry h.rest h.is_entry _ _ (Some c.read-2.new.r.now) one.1 c.in-Ok-read.ensures.ok in
-    let left : c.read-2.new.r.now ≡ h.block ++ h.rest = cc in
-    let len = c.in-Ok-read.len in
-    let is : c.split_at.result.0.now ≡ h.block =
-    c.split_at.ensures.front ∙ (ap (λ (z : List ℕ). take len z) left
+    let two = c.in-Ok-read_front.ensures.found (length h.block) h.is_entry.len (h.block ++ h.rest) h.is_entry.is_len cc in
+    let len = c.in-Ok-read_front.len in
+    let is : c.split_at-2.result.0.now ≡ h.block =
+    c.split_at-2.ensures.front ∙ (ap (λ (z : List ℕ). take len z) (c.split_at.ensures.back ∙ two.1)
     ∙ (ap (λ (n : ℕ). take n (h.block ++ h.rest)) two.0 ∙ take-append_seam h.block h.rest)) in
     let same : pair_of c.hash_of.result ≡ pair_of c.in-Ok.hash = c.hash_of.ensures ∙ (ap content_pair is ∙ sym one.0) in
     false≢true (sym c.if-not-same_as.true ∙ c.same_as.ensures.1 same)
@@ -40,22 +38,24 @@ returns-then-not-same_as-clause-none c h =
 pub returns-clause-some : goal.returns-clause-some
 returns-clause-some c =
     let h = c.in-Ok.ensures.ok in
-    let n = c.in-Ok-read.ensures.ok in
-    let block = c.split_at.result.0.now in
-    let rest = c.read-2.new.r.now in
+    let (is_len, within) = c.in-Ok-read_front.ensures.ok in
+    let used = c.in-Ok-read_front.used in
+    let middle = c.read.new.r.now in
+    let block = c.split_at-2.result.0.now in
+    let rest = c.split_at.result.1.now in
     let own : pair_of c.in-Ok.hash ≡ content_pair block = sym (c.same_as.ensures.0 c.if-not-same_as.false) ∙ c.hash_of.ensures in
-    let long : length block ≡ c.in-Ok-read.len = search rules in
-    let whole : rest ≡ block ++ c.split_at.result.1.now = search rules in
-    let first = Consumes-cut c.args.bytes.now h.0 c.read.new.r.now h.2 in
-    let second = Consumes-cut c.read.new.r.now n.0 rest n.2 in (
+    let long : length block ≡ c.in-Ok-read_front.len = search rules in
+    let whole : rest ≡ block ++ c.split_at-2.result.1.now = search rules in
+    let first = Consumes-cut c.args.bytes.now h.0 middle h.2 in
+    let second : middle ≡ take used middle ++ rest = search rules in (
       block,
-      h.0 ++ (n.0 ++ block),
+      h.0 ++ (take used middle ++ block),
       record {
         encoding = h.0;
-        len = n.0;
+        len = take used middle;
         encodes = subst (λ p. IsEncoding p h.0) own h.1;
-        is_len = subst (λ k. IsVarint k n.0) (sym long) n.1;
+        is_len = subst (λ k. IsVarint k (take used middle)) (sym long) is_len;
         parts = refl;
       },
-      simp append_assoc (first ∙ ap (λ (z : List ℕ). h.0 ++ z) (second ∙ ap (λ (z : List ℕ). n.0 ++ z) whole)),
+      simp append_assoc (first ∙ ap (λ (z : List ℕ). h.0 ++ z) (second ∙ ap (λ (z : List ℕ). take used middle ++ z) whole)),
     )

@@ -1,5 +1,6 @@
-use Rattle.std.proofs.Common.{◌++◌, ◌-◌, [], ◌∷◌, length, length-append, length-take-le, refl, sym, ap, ◌∙◌, append_assoc, arith}
+use Rattle.std.proofs.Common.{◌++◌, [], ◌∷◌, refl, sym, ap, ◌∙◌, append_assoc}
 use Rattle.multihash.proofs.Forms.StreamLemmas.{parts_push}
+use Rattle.multihash.proofs.Readings.ReadingLemmas.{cut_at}
 use Rattle.storage.proofs.LogLemmas.{longest_entries}
 use Rattle.storage.proofs.log.valid_prefix.Goals as goal
 
@@ -15,11 +16,14 @@ loop-next-preserved c =
       cut ∙ (ap (λ z. front ++ z) split ∙ sym (append_assoc front entry c.in-Some.next.now)),
     )
 
-pub returns-clause-longest : goal.returns-clause-longest
-returns-clause-longest c other more are same =
+pub returns : goal.returns
+returns c =
     let (front, entries, cut) = c.loop-next.invariant in
     let rest = c.loop-next.rest.now in
-    let bytes = c.args.bytes.now in
-    let longest = longest_entries front rest other more entries are c.in_default.ensures.none (sym cut ∙ same) in
-    let long = length-take-le (length bytes - length rest) bytes (omega arith) in
-    omega (arith, longest, long, ap length cut, length-append front rest)
+    let is = (cut_at c.args.bytes.now front rest cut).0 in
+    rw is (record {
+      entries = entries;
+      rest = rest;
+      cut = cut;
+      longest = λ other more are same. longest_entries front rest other more entries are c.in_default.ensures.none (sym cut ∙ same);
+    })

@@ -1,5 +1,5 @@
 use Rattle.std.proofs.Common.{◌++◌, length, inl, inr, refl, arith}
-use Rattle.multihash.specs.Outcome.{pair_of}
+use Rattle.multihash.specs.Multihash.{pair_of}
 use Rattle.multihash.proofs.Writings.WritingLemmas.{stops_in_first, stops_in_second, stops_in_third}
 use Rattle.multihash.proofs.Varints.VarintWriteLemmas.{varint_exists}
 use Rattle.storage.specs.Log.{IsEntry}

@@ -1,5 +1,5 @@
 use Rattle.std.proofs.Common.{◌≡◌, ◌++◌, length, map}
-use Rattle.multihash.specs.Outcome.{pair_of}
+use Rattle.multihash.specs.Multihash.{pair_of}
 use Rattle.storage.specs.Levels.{level_above}
 use Rattle.storage.proofs.merkle.nodes_above.Given as goal
 

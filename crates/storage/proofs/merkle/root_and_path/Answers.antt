@@ -1,14 +1,13 @@
 use Rattle.std.proofs.Common.{map, arith}
 use Rattle.std.proofs.lemmas.List.{length-map}
-use Rattle.multihash.specs.Outcome.{pair_of}
+use Rattle.multihash.specs.Multihash.{pair_of}
 use Rattle.storage.proofs.LevelLemmas.{shorter_above, climbs_none, climbs_alone, climbs_step, climbs_within, climbs_leads, climbs_root, climbs_path}
 use Rattle.storage.proofs.merkle.root_and_path.Goals as goal
 use Rattle.storage.proofs.merkle.root_and_path.Goals.{in-Some+in_ok-push, in_default}
 
 pub loop-alloc-init : goal.loop-alloc-init
 loop-alloc-init c =
-    rw (c.in_ok-nodes.ensures.items, c.new-path.ensures.items)
-    (climbs_none (map pair_of c.args.leaves.now) c.args.index)
+    rw c.new-path.ensures.items (climbs_none (map pair_of c.args.leaves.now) _ c.args.index c.in_ok-nodes.ensures)
 
 pub step_at-requires : goal.step_at-requires
 step_at-requires c = rw c.deref.ensures.value (climbs_within _ _ _ _ _ c.loop-alloc.invariant (omega (arith, length-map c.args.leaves.now pair_of)))

@@ -1,5 +1,5 @@
 use Rattle.std.proofs.Common.{length, map}
-use Rattle.multihash.specs.Outcome.{pair_of}
+use Rattle.multihash.specs.Multihash.{pair_of}
 use Rattle.storage.specs.Step.{step_of}
 use Rattle.storage.proofs.LevelLemmas.{Climbs}
 use Rattle.storage.proofs.merkle.root_and_path.Given as goal

@@ -2,7 +2,7 @@ use Rattle.std.proofs.Common.{◌+◌, map, refl, arith}
 use Rattle.std.proofs.lemmas.Bool.{false≢true}
 use Rattle.std.proofs.lemmas.List.{length-map}
 use Rattle.std.proofs.lemmas.Option.{slice_get_past}
-use Rattle.multihash.specs.Outcome.{pair_of}
+use Rattle.multihash.specs.Multihash.{pair_of}
 use Rattle.storage.proofs.LevelLemmas.{pair_at}
 use Rattle.storage.proofs.merkle.step_at.Goals as goal
 

@@ -1,20 +1,24 @@
-use Rattle.std.proofs.Common.{◌≡◌, ◌↔◌, IsTrue, ◌++◌, length, take, drop, sym, ap, ◌∙◌, subst, take-append-drop, arith, rules}
-use Rattle.std.proofs.lemmas.List.{take_all}
+use Rattle.std.proofs.Common.{◌≡◌, [], IsTrue, sym, ◌∙◌, append-nil, subst, rules}
 use Rattle.multihash.specs.Scale.{IsScale}
-use Rattle.multihash.specs.Outcome.{pair_of}
+use Rattle.multihash.specs.Multihash.{pair_of}
 use Rattle.uses.proofs.conclusions.begins_scale.Goals as goal
 
 pub returns : goal.returns
 returns g c =
     let p = pair_of c.args.a.now in
     let q = pair_of c.args.b.now in
-    let first = c.in_ok-scale_encode.ensures.ok in
-    let second = c.in_ok-scale_encode-2.ensures.ok in
-    let n = length first.0 in
-    let front : IsTrue c.starts_with.result ↔ (first.0 ≡ take n second.0) = search rules in (
-      (λ begins. c.scale_unique.ensures.begins_no_other p q first.0 second.0 first.1 second.1
-          (drop n second.0, sym (take-append-drop n second.0) ∙ ap (λ z. z ++ drop n second.0) (sym (front.0 begins)))),
-      λ same.
-          let forms : first.0 ≡ second.0 = c.scale_unique.ensures.same p first.0 second.0 first.1 (subst (λ z. IsScale z second.0) (sym same) second.1) in
-          front.1 (forms ∙ sym (take_all n second.0 (omega (arith, ap (λ z. length z) forms)))),
+    let law = c.scale_unique.ensures in
+    let (first, is_first, _, _) = c.in_ok-scale_encode.ensures.ok in
+    let (second, is_second, _, _) = c.in_ok-scale_encode-2.ensures.ok in
+    let x = c.compared.result in
+    let own : x.first.items ≡ first = search rules in
+    let other : x.second.items ≡ second = search rules in
+    let a = subst (IsScale p) (sym own) is_first in
+    let b = subst (IsScale q) (sym other) is_second in
+    let alike = c.compared.ensures.same in
+    let if_same : p ≡ q → IsTrue x.same = λ same. alike.1 (law.same p x.first.items x.second.items a (subst (λ z. IsScale z x.second.items) (sym same) b)) in (
+      a,
+      b,
+      (λ begins. if_same (law.begins_no_other p q x.first.items x.second.items a b begins)),
+      ((λ is. law.begins_no_other p q x.first.items x.second.items a b ([], sym (alike.0 is) ∙ sym (append-nil x.first.items))), if_same),
     )

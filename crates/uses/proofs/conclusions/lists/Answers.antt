@@ -2,7 +2,7 @@ use Rattle.std.proofs.Common.{◌≡◌, ◌≢◌, ◌↔◌, IsTrue, sym, ap, 
 use Rattle.serde_json.specs.View.{view}
 use Rattle.multihash.specs.Pair.{Pair}
 use Rattle.multihash.specs.Json.{IsJsonList}
-use Rattle.multihash.specs.Outcome.{pair_of}
+use Rattle.multihash.specs.Multihash.{pair_of}
 use Rattle.multihash.proofs.Writings.EncodingLemmas.{same_pair}
 use Rattle.uses.proofs.conclusions.lists.Goals as goal
 

@@ -1,5 +1,5 @@
 use Rattle.std.proofs.Common.{length, ap, arith}
-use Rattle.multihash.specs.Outcome.{pair_of}
+use Rattle.multihash.specs.Multihash.{pair_of}
 use Rattle.multihash.proofs.Forms.ScaleLemmas.{scale_length}
 use Rattle.uses.proofs.conclusions.scale_len.Goals as goal
 

@@ -1,4 +1,4 @@
-use Rattle.std.proofs.Common.{◌≡◌, ◌-◌, ℕ, List, [], ◌∷◌, ◌++◌, length, drop, Some, refl, sym, ap, ◌∙◌, subst, rules, arith, length-append}
+use Rattle.std.proofs.Common.{◌≡◌, ◌<◌, ◌-◌, ℕ, List, [], ◌∷◌, ◌++◌, length, drop, Some, refl, sym, ap, ◌∙◌, subst, rules, arith, length-append}
 use Rattle.multihash.specs.Pair.{Pair}
 use Rattle.multihash.specs.Verdict.{Verdict, HasVerdict}
 use Rattle.multihash.specs.Refusal.{Refusal}
@@ -25,7 +25,14 @@ left-preserved g c =
     let items : c.push.new.self.items ≡ c.left.items.items ++ m ∷ [] = search rules in
     record { consumed = rw items (ConsumesPairs-more g.row.S c.left.items.items m met.ok.0 _ _ _ before.consumed met.ok.1 met.fits met.ok.2) }
 
+not_empty : (bytes : List ℕ) → ¬ (bytes ≡ []) → 0 < length bytes
+not_empty [] some = absurd (some refl)
+not_empty (x ∷ xs) some = omega arith
+
 pub returns-in-Err-clause-stop : goal.returns-in-Err-clause-stop
 returns-in-Err-clause-stop g c =
     let before = c.left.invariant in
-    at_rest g.row.S _ c.args.input.now c.left.left.now c.in-Err.reason before.consumed (c.in-Err.ensures.read.verdict refl)
+    let cut = Consumes-cut c.args.input.now before.consumed.bytes c.left.left.now before.consumed.consumes in
+    let some = not_empty c.left.left.now (λ none. c.in-Err.ensures.end.always refl none) in
+    let rest = at_rest g.row.S _ c.args.input.now c.left.left.now c.in-Err.reason before.consumed (c.in-Err.ensures.read.verdict refl) in
+    (omega (arith, some, ap length cut, length-append before.consumed.bytes c.left.left.now), rest.0, rest.1)

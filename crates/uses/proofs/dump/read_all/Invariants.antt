@@ -1,7 +1,7 @@
 -- The multihashes so far were consumed, and this much is left.
 use Rattle.std.proofs.Common.{Some, length, map}
 use Rattle.multihash.specs.Streams.{ConsumesPairs}
-use Rattle.multihash.specs.Outcome.{pair_of}
+use Rattle.multihash.specs.Multihash.{pair_of}
 use Rattle.uses.proofs.dump.read_all.Given as goal
 
 abbrev pub invariant-left : goal.invariant-left

@@ -1,6 +1,6 @@
 use Rattle.std.proofs.Common.{map}
 use Rattle.multihash.specs.Streams.{AreConcatenated}
-use Rattle.multihash.specs.Outcome.{pair_of}
+use Rattle.multihash.specs.Multihash.{pair_of}
 use Rattle.multihash.proofs.CallingLemmas.{filled}
 use Rattle.uses.proofs.forms.fills_list.Goals as goal
 

@@ -1,4 +1,4 @@
-use Rattle.multihash.specs.Outcome.{pair_of}
+use Rattle.multihash.specs.Multihash.{pair_of}
 use Rattle.multihash.specs.Scale.{IsScale}
 use Rattle.multihash.proofs.CallingLemmas.{filled}
 use Rattle.multihash.proofs.OutcomeLemmas.{OnOk-from_IfOk}

@@ -1,6 +1,6 @@
 use Rattle.std.proofs.Common.{map, inl, inr}
 use Rattle.std.proofs.lemmas.List.{length-map}
-use Rattle.multihash.specs.Outcome.{pair_of}
+use Rattle.multihash.specs.Multihash.{pair_of}
 use Rattle.multihash.proofs.CallingLemmas.{read_list_of_encodings}
 use Rattle.multihash.proofs.OutcomeLemmas.{passed_on}
 use Rattle.uses.proofs.HeadlineLemmas.{unless_failed, or_other}

@@ -1,7 +1,7 @@
 use Rattle.std.proofs.Common.{List, ℕ, ◌++◌, map}
 use Rattle.multihash.specs.Streams.{AreConcatenated}
 use Rattle.multihash.specs.Writing.{AppendsPrefix}
-use Rattle.multihash.specs.Outcome.{pair_of}
+use Rattle.multihash.specs.Multihash.{pair_of}
 use Rattle.multihash.proofs.OutcomeLemmas.{OnErr-always}
 use Rattle.multihash.proofs.Writings.WritingLemmas.{AppendsPrefix-append, AppendsPrefix-concatenated}
 use Rattle.uses.proofs.merkle.write_node.Goals as goal

@@ -1,6 +1,6 @@
 use Rattle.std.proofs.Common.{subst}
 use Rattle.multihash.specs.Encoding.{IsEncoding}
-use Rattle.multihash.specs.Outcome.{pair_of}
+use Rattle.multihash.specs.Multihash.{pair_of}
 use Rattle.multihash.proofs.CallingLemmas.{accepted_encoding, rejected_no_encoding}
 use Rattle.multihash.proofs.Values.ValueLemmas.{digest_fits}
 use Rattle.uses.proofs.peer_id.is_peer.Goals as goal

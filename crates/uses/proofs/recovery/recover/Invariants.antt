@@ -1,5 +1,5 @@
 use Rattle.std.proofs.Common.{length, map}
-use Rattle.multihash.specs.Outcome.{pair_of}
+use Rattle.multihash.specs.Multihash.{pair_of}
 use Rattle.multihash.proofs.CallingLemmas.{ReadsOn}
 use Rattle.uses.specs.Recovery.{Recovers}
 use Rattle.uses.proofs.recovery.recover.Given as goal

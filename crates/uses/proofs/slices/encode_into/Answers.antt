@@ -1,4 +1,4 @@
-use Rattle.multihash.specs.Outcome.{pair_of}
+use Rattle.multihash.specs.Multihash.{pair_of}
 use Rattle.multihash.proofs.CallingLemmas.{write_of_encoded_len}
 use Rattle.uses.proofs.slices.encode_into.Goals as goal
 

@@ -1,5 +1,5 @@
 use Rattle.std.proofs.Common.{◌<◌, ◌∙◌, [], ◌++◌, length, drop, Some, ap, sym, refl, arith, rules}
-use Rattle.multihash.specs.Members.{member_bytes}
+use Rattle.multihash.specs.Private.Members.{member_bytes}
 use Rattle.multihash.specs.Reading.{ConsumesFewerThan}
 use Rattle.multihash.proofs.Forms.JsonLemmas.{bytes_split, length-member_bytes}
 use Rattle.multihash.proofs.json.ByteMembersRead.read_exact.Goals as goal

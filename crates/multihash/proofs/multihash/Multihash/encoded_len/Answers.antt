@@ -1,5 +1,5 @@
 use Rattle.std.proofs.Common.{◌++◌, refl, ◌∙◌, arith}
-use Rattle.multihash.specs.Outcome.{pair_of}
+use Rattle.multihash.specs.Multihash.{pair_of}
 use Rattle.multihash.proofs.Writings.EncodingLemmas.{encoding_of_parts, length-parts, encoding_length}
 use Rattle.multihash.proofs.multihash.Multihash.encoded_len.Goals as goal
 

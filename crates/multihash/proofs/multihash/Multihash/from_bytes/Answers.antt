@@ -1,4 +1,4 @@
-use Rattle.std.proofs.Common.{◌-◌, ℕ, replicate, refl, ◌∙◌, arith, sym, ap, inl, inr}
+use Rattle.std.proofs.Common.{◌-◌, ℕ, replicate, refl, ◌∙◌, arith, sym, ap}
 use Rattle.std.proofs.lemmas.List.{take_rest}
 use Rattle.multihash.specs.Verdict.{Verdict, invalid_size, unexpected_eof, accepted, malformed, HasWholeVerdict}
 use Rattle.multihash.specs.Outcome.{IsResultOf}
@@ -13,17 +13,17 @@ returns-in_err-head g c =
     passed_err (λ r. (v : Verdict) × HasWholeVerdict g.row.S c.args.bytes.now v × IsResultOf r v) c.from_residual.result _ c.from_residual.ensures.1
     (malformed fault, has g.row.S, named)
 
-pub returns-then-head : goal.returns-then-head
-returns-then-head g c = (
+pub returns-then-not-is_valid_size : goal.returns-then-not-is_valid_size
+returns-then-not-is_valid_size g c = (
   invalid_size _,
-  whole_over _ _ _ _ c.in_ok-head.ensures.ok g.row.S (elim c.then-head.either [ inl long ↦ omega (arith, long) | inr (_, long) ↦ omega (arith, long) ]),
+  whole_over _ _ _ _ c.in_ok-head.ensures.ok g.row.S (c.is_valid_size.ensures.over c.if-not-is_valid_size.true),
   c.from_size.ensures,
 )
 
 pub returns-then-digest-len : goal.returns-then-digest-len
 returns-then-digest-len g c = (
   unexpected_eof,
-  whole_short _ _ _ _ c.in_ok-head.ensures.ok g.row.S (omega (arith, c.if-head.false, c.if-head-gt255.false)) _ (take_rest c.args.bytes.now _)
+  whole_short _ _ _ _ c.in_ok-head.ensures.ok g.row.S (c.is_valid_size.ensures.fits c.if-not-is_valid_size.false) _ (take_rest c.args.bytes.now _)
       c.if-digest-len.true,
   (_, c.from.ensures, c.unexpected_eof.ensures),
 )
@@ -31,7 +31,7 @@ returns-then-digest-len g c = (
 pub returns-then-digest-len-2 : goal.returns-then-digest-len-2
 returns-then-digest-len-2 g c = (
   invalid_size _,
-  whole_trailing _ _ _ _ c.in_ok-head.ensures.ok g.row.S (omega (arith, c.if-head.false, c.if-head-gt255.false)) _ (take_rest c.args.bytes.now _) _
+  whole_trailing _ _ _ _ c.in_ok-head.ensures.ok g.row.S (c.is_valid_size.ensures.fits c.if-not-is_valid_size.false) _ (take_rest c.args.bytes.now _) _
       c.if-digest-len-2.true refl,
   c.from_size-then-digest-len-2.ensures,
 )
@@ -40,7 +40,7 @@ pub returns-in-Some : goal.returns-in-Some
 returns-in-Some g c =
     let known = c.in-Some.ensures.some in (
       accepted _,
-      whole_exact _ _ _ _ c.in_ok-head.ensures.ok g.row.S (omega (arith, c.if-head.false, c.if-head-gt255.false)) _ (take_rest c.args.bytes.now _)
+      whole_exact _ _ _ _ c.in_ok-head.ensures.ok g.row.S (c.is_valid_size.ensures.fits c.if-not-is_valid_size.false) _ (take_rest c.args.bytes.now _)
           (omega (arith, c.if-digest-len.false, c.if-digest-len-2.false)),
       ap accepted (sym (c.in_buffer.ensures
           ∙ rw c.padded.ensures (pair_in_front _ 32 _ c.in-Some.whole.now (replicate {A = ℕ} (g.row.S - 32) 0) (sym known.1) known.0))),
@@ -49,7 +49,7 @@ returns-in-Some g c =
 pub returns : goal.returns
 returns g c = (
   accepted _,
-  whole_exact _ _ _ _ c.in_ok-head.ensures.ok g.row.S (omega (arith, c.if-head.false, c.if-head-gt255.false)) _ (take_rest c.args.bytes.now _)
+  whole_exact _ _ _ _ c.in_ok-head.ensures.ok g.row.S (c.is_valid_size.ensures.fits c.if-not-is_valid_size.false) _ (take_rest c.args.bytes.now _)
       (omega (arith, c.if-digest-len.false, c.if-digest-len-2.false)),
   ap accepted (sym c.fill.ensures),
 )

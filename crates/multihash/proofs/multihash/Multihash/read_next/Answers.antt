@@ -3,7 +3,7 @@ use Rattle.multihash.specs.Varint.{insufficient}
 use Rattle.multihash.specs.Reading.{EndsInNone}
 use Rattle.multihash.specs.Refusal.{Refusal, of_varint}
 use Rattle.multihash.specs.Consuming.{ReadMeets, none_is_insufficient}
-use Rattle.multihash.specs.Outcome.{Fields}
+use Rattle.multihash.specs.Multihash.{Fields}
 use Rattle.multihash.proofs.OutcomeLemmas.{passed_err}
 use Rattle.multihash.proofs.Readings.ReadConsumingLemmas.{stops_in_code}
 use Rattle.multihash.proofs.multihash.Multihash.read_next.Goals as goal

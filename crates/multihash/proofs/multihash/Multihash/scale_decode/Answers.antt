@@ -4,7 +4,7 @@ use Rattle.multihash.specs.Scale.{IsScaleCode}
 use Rattle.multihash.specs.Reading.{Consumes}
 use Rattle.multihash.proofs.OutcomeLemmas.{passed_err}
 use Rattle.multihash.proofs.Readings.ReadingLemmas.{Consumes-concatenated}
-use Rattle.multihash.proofs.Forms.ScaleLemmas.{code_read, ScaleMeets, one_item, code_rejected, no_size, size_rejected, cut_digest, inside_rejected, answered}
+use Rattle.multihash.proofs.Forms.ScaleLemmas.{code_read, ScaleMeets, one_item, code_rejected, no_size, size_rejected, cut_scale_digest, inside_rejected, scale_answered}
 use Rattle.multihash.proofs.multihash.Multihash.scale_decode.Given as given
 use Rattle.multihash.proofs.multihash.Multihash.scale_decode.Goals as goal
 use Rattle.multihash.proofs.multihash.Multihash.scale_decode.Goals.{After-from_le_bytes-code, After-from-size}
@@ -52,7 +52,7 @@ returns-in_err-read_exact g c =
     let t = c.in_err-read_exact.ensures.laws.err in
     let unrisen = c.in_ok-size_byte.ensures.faults ∙ c.in_ok-code_bytes.ensures.faults in
     passed_err (ScaleMeets S _ _ _ _) c.from_residual-in_err-read_exact.result _ c.from_residual-in_err-read_exact.ensures.1
-    (inside_rejected S _ _ _ _ _ size (cut_digest S _ _ code size (omega (arith, c.if-code-gt-MAX.false)) c.if-size.false) _ t.consumed _
+    (inside_rejected S _ _ _ _ _ size (cut_scale_digest S _ _ code size (omega (arith, c.if-code-gt-MAX.false)) c.if-size.false) _ t.consumed _
     (omega (arith, t.fewer, room)) (consumes g (goal.at.returns-in_err-read_exact g c).After-from-size) t.consumes
     (rw room at c.in_err-read_exact.ensures.laws.eof) (rw unrisen at c.in_err-read_exact.ensures.laws.faults))
 
@@ -64,7 +64,7 @@ returns g c =
     let long : length d ≡ size = search rules in
     let front : take size (d ++ drop size (replicate {A = ℕ} g.row.S 0)) ≡ d = take_at d _ size long in
     let byte : size < 256 = search rules in
-    answered g.row.S _ _ _ _ _ _ code size (omega (arith, c.if-code-gt-MAX.false)) d c.in_buffer.result c.if-size.false byte long
+    scale_answered g.row.S _ _ _ _ _ _ code size (omega (arith, c.if-code-gt-MAX.false)) d c.in_buffer.result c.if-size.false byte long
     (c.in_ok-read_exact.ensures.laws.faults ∙ (c.in_ok-size_byte.ensures.faults ∙ c.in_ok-code_bytes.ensures.faults)) (rw front at c.in_buffer.ensures)
     (Consumes-concatenated _ _ _ _ d _ (sym (append_assoc _ (size ∷ []) d)) (consumes g (goal.at.returns g c).After-from-size)
     c.in_ok-read_exact.ensures.laws.consumes)

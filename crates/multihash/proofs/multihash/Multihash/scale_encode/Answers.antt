@@ -1,6 +1,6 @@
 use Rattle.std.proofs.Common.{[], ◌∷◌, ◌++◌, length, ap, arith}
 use Rattle.multihash.specs.Scale.{IsScale}
-use Rattle.multihash.specs.Outcome.{pair_of}
+use Rattle.multihash.specs.Multihash.{pair_of}
 use Rattle.multihash.proofs.Forms.ScaleLemmas.{code_bytes, scale_of, scale_length}
 use Rattle.multihash.proofs.Writings.WritingLemmas.{stops_in_first, stops_in_second, stops_in_third}
 use Rattle.multihash.proofs.multihash.Multihash.scale_encode.Given as given

@@ -1,5 +1,5 @@
 use Rattle.std.proofs.Common.{arith, ◌/◌, ◌^◌}
-use Rattle.multihash.proofs.Varints.WordFrontLemmas.{high_over, high_end, high_number, ends_short, ends_zero}
+use Rattle.multihash.proofs.Varints.WordFrontLemmas.{high_over, high_end, high_number, ends_short, stops_at_zero}
 use Rattle.multihash.proofs.Varints.WordLemmas.{few_continuation, first_unmarked}
 use Rattle.multihash.proofs.varint.word.read_high.Goals as goal
 
@@ -18,7 +18,7 @@ overflow_shr-varint c =
 
 pub returns-then-varint-continuation_bytes-eq0-clause-err : goal.returns-then-varint-continuation_bytes-eq0-clause-err
 returns-then-varint-continuation_bytes-eq0-clause-err c = λ xs bytes f begins.
-    ends_zero xs _ _ _ _ f (high_end xs _ _ bytes f begins c.if-varint-ge-TOO_LARGE.false) c.if-continuation_bytes-present.false c.if-varint-continuation_bytes-eq0.true
+    stops_at_zero xs _ _ _ _ f (high_end xs _ _ bytes f begins c.if-varint-ge-TOO_LARGE.false) c.if-continuation_bytes-present.false c.if-varint-continuation_bytes-eq0.true
     (omega arith) _ c.not_minimal.ensures
 
 pub returns-clause-ok : goal.returns-clause-ok

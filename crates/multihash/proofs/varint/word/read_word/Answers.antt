@@ -1,7 +1,7 @@
 use Rattle.std.proofs.Common.{◌-◌, ◌^◌, arith, bit_and}
 use Rattle.std.proofs.lemmas.Nat.{and_le_r}
 use Rattle.std.proofs.lemmas.Result.{IfOk-weaker, IfErr-weaker}
-use Rattle.multihash.proofs.Varints.WordFrontLemmas.{low_continuation, low_end, low_number, ends_short, ends_zero}
+use Rattle.multihash.proofs.Varints.WordFrontLemmas.{low_continuation, low_end, low_number, ends_short, stops_at_zero}
 use Rattle.multihash.proofs.Varints.WordLemmas.{first_unmarked}
 use Rattle.multihash.proofs.varint.word.read_word.Goals as goal
 use Rattle.multihash.proofs.varint.word.read_word.Goals.{else-varint-continuation_bytes-eq0-via-then-varint-continuation_bytes-eq0+else-continuation_bytes-gt0, else-varint-continuation_bytes-eq0-via-else-varint-continuation_bytes-eq0}
@@ -27,7 +27,7 @@ overflow_shr-varint c =
 
 pub returns-then-continuation_bytes-gt0-clause-err : goal.returns-then-continuation_bytes-gt0-clause-err
 returns-then-continuation_bytes-gt0-clause-err c = λ xs bytes f.
-    ends_zero xs _ _ _ _ f (low_end xs _ _ bytes f c.if-stops-eq0.false) c.if-continuation_bytes-present.false c.if-varint-continuation_bytes-eq0.true
+    stops_at_zero xs _ _ _ _ f (low_end xs _ _ bytes f c.if-stops-eq0.false) c.if-continuation_bytes-present.false c.if-varint-continuation_bytes-eq0.true
     c.if-continuation_bytes-gt0.true _ c.not_minimal.ensures
 
 pub returns-clause-ok : goal.returns-clause-ok

@@ -1,26 +1,30 @@
-use Rattle.std.proofs.Common.{◌≡◌, ◌++◌, length, inl, inr, refl, sym, subst, arith, rules}
+use Rattle.std.proofs.Common.{◌≡◌, ℕ, List, ◌++◌, length, inl, inr, refl, sym, subst, arith, rules}
 use Rattle.multihash.specs.Pair.{Pair}
 use Rattle.multihash.specs.Encoding.{IsEncoding}
-use Rattle.multihash.specs.Outcome.{pair_of}
-use Rattle.multihash.proofs.Writings.WritingLemmas.{AppendsPrefix-append, AppendsPrefix-concatenated}
+use Rattle.multihash.specs.Multihash.{pair_of}
+use Rattle.multihash.specs.Writing.{AppendsPrefix}
+use Rattle.multihash.proofs.OutcomeLemmas.{OnErr-always}
+use Rattle.multihash.proofs.Writings.EncodingLemmas.{encoding_exists}
+use Rattle.multihash.proofs.Writings.WritingLemmas.{stops_in_first, stops_in_second, stops_in_third}
 use Rattle.multihash.proofs.Varints.VarintWriteLemmas.{varint_exists}
 use Rattle.multihash.proofs.Values.ValueLemmas.{digest_fits}
 use Rattle.uses.specs.ContentId.{version_0, version_1, content_of, IsContentId}
-use Rattle.uses.proofs.ContentIdLemmas.{make_version_1, stops_all}
+use Rattle.uses.proofs.ContentIdLemmas.{make_version_1}
 use Rattle.uses.proofs.content_id.ContentId.write.Goals as goal
 use Rattle.uses.proofs.content_id.ContentId.write.Goals.{in-V0+in_ok-write-in-V0, in-V1+in_ok-write-in-V1+in_ok-write-in-V1-2+in_ok-write-in-V1-3}
-use Rattle.multihash.proofs.Writings.EncodingLemmas.{encoding_exists}
 
 pub returns-in_err-write-in-V0-clause-err : goal.returns-in_err-write-in-V0-clause-err
 returns-in_err-write-in-V0-clause-err g c =
     let digest = c.in-V0.digest in
     let says : content_of c.args.self.now ≡ version_0 digest = search rules in
-    let whole : length digest ≡ 32 = search rules in
-    let made : pair_of c.unwrap-hash.result ≡ record { code = 0x12; digest = digest } = search rules in
+    let whole : length digest ≡ 32 = search (rules, c.bare.ensures.whole) in
+    let made : pair_of c.bare.result ≡ record { code = 0x12; digest = digest } = search (rules, c.bare.ensures.pair) in
     let part = c.in_err-write-in-V0.ensures.err in
     let is : IsContentId (content_of c.args.self.now) part.0 =
     subst (λ x. IsContentId x part.0) (sym says) (record { whole = whole; encodes = subst (λ (p : Pair). IsEncoding p part.0) made part.1 }) in
-    stops_all g.W.Write.appended _ _ _ (content_of c.args.self.now) part.0 is part.2
+    let stops : (bytes : List ℕ) × IsContentId (content_of c.args.self.now) bytes × AppendsPrefix g.W.Write.appended c.args.w.now bytes c.write.new.w =
+    (part.0, is, part.2) in
+    OnErr-always _ stops
 
 pub returns-in_err-write-in-V1-clause-err : goal.returns-in_err-write-in-V1-clause-err
 returns-in_err-write-in-V1-clause-err g c =
@@ -32,8 +36,8 @@ returns-in_err-write-in-V1-clause-err g c =
       | inr io ↦
           let part = io.1 in
           let is = make_version_1 1 c.in-V1.codec.number (pair_of c.in-V1.hash) part.0 n.0 h.0 refl part.1 n.1 h.1 in
-          let stops = AppendsPrefix-append g.W.Write.appended _ _ part.0 (n.0 ++ h.0) part.2 in
-          stops_all g.W.Write.appended _ _ _ _ (part.0 ++ (n.0 ++ h.0)) (subst (λ x. IsContentId x (part.0 ++ (n.0 ++ h.0))) (sym says) is) stops
+          stops_in_first g.W.Write.appended g.met.W.Write.appends_concatenated (IsContentId (content_of c.args.self.now)) part.0 n.0 h.0
+          (subst (λ x. IsContentId x (part.0 ++ (n.0 ++ h.0))) (sym says) is) _ _ _ part.2
     ]
 
 pub returns-in_err-write-in-V1-2-clause-err : goal.returns-in_err-write-in-V1-2-clause-err
@@ -46,8 +50,8 @@ returns-in_err-write-in-V1-2-clause-err g c =
       | inr io ↦
           let part = io.1 in
           let is = make_version_1 1 c.in-V1.codec.number (pair_of c.in-V1.hash) v.0 part.0 h.0 refl v.1 part.1 h.1 in
-          let stops = AppendsPrefix-concatenated g.W.Write.appended g.met.W.Write.appends_concatenated _ _ _ v.0 _ v.3 (AppendsPrefix-append g.W.Write.appended _ _ part.0 h.0 part.2) in
-          stops_all g.W.Write.appended _ _ _ _ (v.0 ++ (part.0 ++ h.0)) (subst (λ x. IsContentId x (v.0 ++ (part.0 ++ h.0))) (sym says) is) stops
+          stops_in_second g.W.Write.appended g.met.W.Write.appends_concatenated (IsContentId (content_of c.args.self.now)) v.0 part.0 h.0
+          (subst (λ x. IsContentId x (v.0 ++ (part.0 ++ h.0))) (sym says) is) _ _ _ _ v.3 part.2
     ]
 
 pub returns-in_err-write-in-V1-3-clause-err : goal.returns-in_err-write-in-V1-3-clause-err
@@ -57,9 +61,8 @@ returns-in_err-write-in-V1-3-clause-err g c =
     let n = c.in_ok-write-in-V1-2.ensures.ok in
     let part = c.in_err-write-in-V1-3.ensures.err in
     let is = make_version_1 1 c.in-V1.codec.number (pair_of c.in-V1.hash) v.0 n.0 part.0 refl v.1 n.1 part.1 in
-    let stops = AppendsPrefix-concatenated g.W.Write.appended g.met.W.Write.appends_concatenated _ _ _ v.0 _ v.3
-    (AppendsPrefix-concatenated g.W.Write.appended g.met.W.Write.appends_concatenated _ _ _ n.0 _ n.3 part.2) in
-    stops_all g.W.Write.appended _ _ _ _ (v.0 ++ (n.0 ++ part.0)) (subst (λ x. IsContentId x (v.0 ++ (n.0 ++ part.0))) (sym says) is) stops
+    stops_in_third g.W.Write.appended g.met.W.Write.appends_concatenated (IsContentId (content_of c.args.self.now)) v.0 n.0 part.0
+    (subst (λ x. IsContentId x (v.0 ++ (n.0 ++ part.0))) (sym says) is) _ _ _ _ _ v.3 n.3 part.2
 
 pub returns-clause-ok : goal.returns-clause-ok
 returns-clause-ok g c =
@@ -67,8 +70,8 @@ returns-clause-ok g c =
       | in-V0+in_ok-write-in-V0 w ↦
           let digest = w.in-V0.digest in
           let says : content_of c.args.self.now ≡ version_0 digest = search rules in
-          let whole : length digest ≡ 32 = search rules in
-          let made : pair_of w.unwrap-hash.result ≡ record { code = 0x12; digest = digest } = search rules in
+          let whole : length digest ≡ 32 = search (rules, w.bare.ensures.whole) in
+          let made : pair_of w.bare.result ≡ record { code = 0x12; digest = digest } = search (rules, w.bare.ensures.pair) in
           let wrote = w.in_ok-write-in-V0.ensures.ok in
           let is : IsContentId (content_of c.args.self.now) wrote.0 =
           subst (λ x. IsContentId x wrote.0) (sym says) (record { whole = whole; encodes = subst (λ (p : Pair). IsEncoding p wrote.0) made wrote.1 }) in

@@ -1,0 +1,563 @@
+/* The functions of verified_multihash over the library for C. They convert arguments and results, and decide
+ * nothing. The state of the module is the type Multihash. It is written in the stable ABI of CPython 3.8. */
+#define Py_LIMITED_API 0x03080000
+#define PY_SSIZE_T_CLEAN
+#include <Python.h>
+#include <stddef.h>
+#include <structmember.h>
+
+#include "multihash.h"
+
+/* ---- arguments */
+
+/* Bytes of an argument: all of them, or the first ones where it is no bytes object. */
+typedef struct input {
+    PyObject *owner; /* the bytes object */
+    const uint8_t *bytes;
+    size_t length;
+    size_t whole; /* the length of the argument */
+} input;
+
+/* The length of a memoryview, which is negative with an error set. */
+static Py_ssize_t bytes_of_view(PyObject *view)
+{
+    PyObject *number = PyObject_GetAttrString(view, "nbytes");
+    Py_ssize_t length = number == NULL ? -1 : PyLong_AsSsize_t(number);
+    Py_XDECREF(number);
+    return length;
+}
+
+/* Copies at least `most` first bytes of a memoryview, or all of them. */
+static PyObject *front_of_view(PyObject *view, Py_ssize_t most)
+{
+    PyObject *number = PyObject_GetAttrString(view, "ndim"), *front = NULL, *copied = NULL;
+    long dimensions = number == NULL ? -1 : PyLong_AsLong(number);
+    Py_XDECREF(number);
+    if (dimensions < 0) return NULL;
+    if (dimensions == 1) {
+        front = PySequence_GetSlice(view, 0, most);
+    } else {
+        front = view;
+        Py_INCREF(front);
+    }
+    if (front != NULL) copied = PyObject_CallMethod(front, "tobytes", NULL);
+    Py_XDECREF(front);
+    return copied;
+}
+
+/* Takes any object with the buffer protocol. Copies some `most` bytes of what is no bytes object. */
+static int get_input(PyObject *argument, Py_ssize_t most, input *to)
+{
+    char *bytes;
+    Py_ssize_t length, whole = -1;
+    if (PyBytes_CheckExact(argument)) {
+        to->owner = argument;
+        Py_INCREF(argument);
+    } else {
+        PyObject *view = PyMemoryView_FromObject(argument); /* rejects numbers, texts and lists */
+        if (view == NULL) return -1;
+        whole = bytes_of_view(view);
+        to->owner = whole < 0 ? NULL : front_of_view(view, most);
+        Py_DECREF(view);
+        if (to->owner == NULL) return -1;
+    }
+    if (PyBytes_AsStringAndSize(to->owner, &bytes, &length) < 0) {
+        Py_DECREF(to->owner);
+        return -1;
+    }
+    to->bytes = (const uint8_t *)bytes;
+    to->length = (size_t)length;
+    to->whole = (size_t)(whole < 0 ? length : whole);
+    return 0;
+}
+
+/* A whole number that is not negative. One of more than 64 bits is the largest, which the library rejects too. */
+static int get_number(PyObject *argument, const char *name, uint64_t *number)
+{
+    PyObject *index = PyNumber_Index(argument);
+    if (index == NULL) return -1;
+    int overflow;
+    long long value = PyLong_AsLongLongAndOverflow(index, &overflow);
+    int is_wrong = value == -1 && overflow == 0 && PyErr_Occurred() != NULL;
+    if (!is_wrong && (overflow < 0 || (overflow == 0 && value < 0))) {
+        PyErr_Format(PyExc_ValueError, "a %s is not negative", name);
+        is_wrong = 1;
+    }
+    *number = (uint64_t)value;
+    if (!is_wrong && overflow > 0) {
+        *number = PyLong_AsUnsignedLongLong(index);
+        if (PyErr_Occurred() != NULL && PyErr_ExceptionMatches(PyExc_OverflowError)) PyErr_Clear();
+        is_wrong = PyErr_Occurred() != NULL;
+    }
+    Py_DECREF(index);
+    return is_wrong ? -1 : 0;
+}
+
+/* A limit or a digest's length as a size_t: what is larger is rejected as the largest is. */
+static size_t clamped(uint64_t number)
+{
+    return number > SIZE_MAX ? SIZE_MAX : (size_t)number;
+}
+
+/* A code, and a digest, of which at most one byte more than the longest has is copied. */
+static int get_pair(PyObject *code, PyObject *digest, uint64_t *number, input *bytes)
+{
+    if (get_number(code, "code", number) < 0) return -1;
+    return get_input(digest, MULTIHASH_DIGEST_MAX + 1, bytes);
+}
+
+/* ---- errors */
+
+/* Raises a MultihashError. The numbers are taken over; null is a failure that has raised an error. */
+static PyObject *raise_error(multihash_status status, PyObject *size, PyObject *code, size_t taken)
+{
+    PyObject *package = NULL, *class = NULL, *error = NULL;
+    if (size != NULL && code != NULL) package = PyImport_ImportModule("verified_multihash");
+    if (package != NULL) class = PyObject_GetAttrString(package, "MultihashError");
+    if (class != NULL) error = PyObject_CallFunction(class, "IOOn", status, size, code, (Py_ssize_t)taken);
+    if (error != NULL) PyErr_SetObject(class, error);
+    Py_XDECREF(error);
+    Py_XDECREF(class);
+    Py_XDECREF(package);
+    Py_XDECREF(size);
+    Py_XDECREF(code);
+    return NULL;
+}
+
+/* Raises the error of an encoding, with the length or the code as it was given. */
+static PyObject *encoding_error(multihash_status status, PyObject *length, PyObject *code)
+{
+    int is_size = status == MULTIHASH_INVALID_SIZE;
+    PyObject *number = PyNumber_Index(is_size ? length : code), *none = number == NULL ? NULL : PyLong_FromLong(0);
+    return is_size ? raise_error(status, number, none, 0) : raise_error(status, none, number, 0);
+}
+
+/* Raises the error of encoding a code and a digest of that many bytes. */
+static PyObject *pair_error(multihash_status status, size_t length, PyObject *code)
+{
+    PyObject *size = PyLong_FromSize_t(length);
+    if (size != NULL) encoding_error(status, size, code);
+    Py_XDECREF(size);
+    return NULL;
+}
+
+/* ---- the type */
+
+typedef struct multihash_object {
+    PyObject_HEAD
+    PyObject *weak_references;
+    PyObject *digest; /* a bytes object */
+    uint64_t code;
+} multihash_object;
+
+typedef struct state {
+    PyObject *type;
+} state;
+
+static PyTypeObject *type_of_module(PyObject *module)
+{
+    return (PyTypeObject *)((state *)PyModule_GetState(module))->type;
+}
+
+/* Multihash, of which the value's type is a subclass or which it is: the one whose base is object. */
+static PyTypeObject *type_of_value(PyObject *value)
+{
+    PyTypeObject *type = Py_TYPE(value);
+    for (;;) {
+        PyTypeObject *base = PyType_GetSlot(type, Py_tp_base);
+        if (base == &PyBaseObject_Type) return type;
+        type = base;
+    }
+}
+
+/* Makes a multihash of a code and a digest, which is taken over; null is a failure that has raised an error. */
+static PyObject *new_multihash(PyTypeObject *type, uint64_t code, PyObject *digest)
+{
+    multihash_object *made = digest == NULL ? NULL : (multihash_object *)PyType_GenericAlloc(type, 0);
+    if (made == NULL) {
+        Py_XDECREF(digest);
+        return NULL;
+    }
+    made->code = code;
+    made->digest = digest;
+    return (PyObject *)made;
+}
+
+static PyObject *multihash_new(PyTypeObject *type, PyObject *arguments, PyObject *named)
+{
+    static char *names[] = {"code", "digest", NULL};
+    PyObject *code, *digest;
+    uint64_t number;
+    input bytes;
+    if (!PyArg_ParseTupleAndKeywords(arguments, named, "OO:Multihash", names, &code, &digest)) return NULL;
+    if (get_pair(code, digest, &number, &bytes) < 0) return NULL;
+    multihash_encoded length = multihash_encoded_len(number, bytes.whole);
+    if (length.status == MULTIHASH_OK) return new_multihash(type, number, bytes.owner);
+    pair_error(length.status, bytes.whole, code);
+    Py_DECREF(bytes.owner);
+    return NULL;
+}
+
+static void multihash_dealloc(PyObject *self)
+{
+    multihash_object *it = (multihash_object *)self;
+    PyTypeObject *type = Py_TYPE(self);
+    if (it->weak_references != NULL) PyObject_ClearWeakRefs(self);
+    Py_XDECREF(it->digest);
+    ((freefunc)PyType_GetSlot(type, Py_tp_free))(self);
+    Py_DECREF(type);
+}
+
+/* The bytes of the digest, which is a bytes object. */
+static const uint8_t *digest_of(PyObject *value, size_t *length)
+{
+    char *bytes = NULL;
+    Py_ssize_t found = 0;
+    PyBytes_AsStringAndSize(((multihash_object *)value)->digest, &bytes, &found);
+    *length = (size_t)found;
+    return (const uint8_t *)bytes;
+}
+
+static int order_of(PyObject *left, PyObject *right)
+{
+    size_t lengths[2];
+    const uint8_t *digests[] = {digest_of(left, &lengths[0]), digest_of(right, &lengths[1])};
+    return multihash_compare(((multihash_object *)left)->code, digests[0], lengths[0],
+                             ((multihash_object *)right)->code, digests[1], lengths[1]);
+}
+
+static PyObject *multihash_compared(PyObject *left, PyObject *right, int operation)
+{
+    if (Py_TYPE(left) != Py_TYPE(right) && !PyObject_TypeCheck(right, type_of_value(left))) Py_RETURN_NOTIMPLEMENTED;
+    Py_RETURN_RICHCOMPARE(order_of(left, right), 0, operation);
+}
+
+/* The hash of the digest, which its object keeps, and the code, mixed by the last step of MurmurHash3. */
+static Py_hash_t multihash_hash(PyObject *self)
+{
+    const multihash_object *it = (const multihash_object *)self;
+    Py_hash_t of_digest = PyObject_Hash(it->digest);
+    if (of_digest == -1) return -1;
+    uint64_t mixed = (uint64_t)of_digest ^ it->code;
+    mixed = (mixed ^ mixed >> 33) * 0xff51afd7ed558ccdu;
+    mixed = (mixed ^ mixed >> 33) * 0xc4ceb9fe1a85ec53u;
+    Py_hash_t hash = (Py_hash_t)(mixed ^ mixed >> 33);
+    return hash == -1 ? -2 : hash;
+}
+
+static PyObject *multihash_code(PyObject *self, void *unused)
+{
+    (void)unused;
+    return PyLong_FromUnsignedLongLong(((multihash_object *)self)->code);
+}
+
+static PyObject *multihash_repr(PyObject *self)
+{
+    PyObject *name = PyObject_GetAttrString((PyObject *)Py_TYPE(self), "__qualname__"), *text = NULL;
+    if (name != NULL) {
+        unsigned long long code = ((multihash_object *)self)->code;
+        text = PyUnicode_FromFormat("%U(code=%llu, digest=%R)", name, code, ((multihash_object *)self)->digest);
+    }
+    Py_XDECREF(name);
+    return text;
+}
+
+static PyObject *multihash_reduce(PyObject *self, PyObject *unused)
+{
+    (void)unused;
+    unsigned long long code = ((multihash_object *)self)->code;
+    return Py_BuildValue("O(KO)", Py_TYPE(self), code, ((multihash_object *)self)->digest);
+}
+
+static PyObject *multihash_hexdigest(PyObject *self, PyObject *unused)
+{
+    (void)unused;
+    return PyObject_CallMethod(((multihash_object *)self)->digest, "hex", NULL);
+}
+
+static PyObject *multihash_bytes(PyObject *self, PyObject *unused)
+{
+    (void)unused;
+    uint8_t out[MULTIHASH_LENGTH_MAX];
+    size_t length;
+    const uint8_t *digest = digest_of(self, &length);
+    multihash_encoded made = multihash_encode(((multihash_object *)self)->code, digest, length, out, sizeof out);
+    return PyBytes_FromStringAndSize((const char *)out, (Py_ssize_t)made.length); /* a Multihash has an encoding */
+}
+
+static PyMethodDef multihash_methods[] = {
+    {"__bytes__", multihash_bytes, METH_NOARGS, "The encoding."},
+    {"__reduce__", multihash_reduce, METH_NOARGS, "For pickle and copy."},
+    {"hexdigest", multihash_hexdigest, METH_NOARGS,
+     "hexdigest($self)\n--\n\nThe digest in hexadecimal; `bytes(multihash).hex()` is the whole encoding."},
+    {NULL, NULL, 0, NULL},
+};
+
+static PyMemberDef multihash_members[] = {
+    {"digest", T_OBJECT_EX, offsetof(multihash_object, digest), READONLY, "The digest, as bytes."},
+    /* From CPython 3.9 on: that there are weak references. */
+    {"__weaklistoffset__", T_PYSSIZET, offsetof(multihash_object, weak_references), READONLY, NULL},
+    {NULL, 0, 0, 0, NULL},
+};
+
+static PyGetSetDef multihash_properties[] = {
+    {"code", multihash_code, NULL, "The code of the hash function, below 2**63.", NULL},
+    {NULL, NULL, NULL, NULL, NULL},
+};
+
+static const char multihash_doc[] =
+    "Multihash(code, digest)\n--\n\n"
+    "A code below 2**63, which identifies the hash function, and a digest of at most DIGEST_MAX bytes.\n\n"
+    "Values are immutable and hashable. They are ordered by the code, then by the digest's length, then by the\n"
+    "first byte that differs. `bytes(multihash)` is the encoding.";
+
+static PyType_Slot multihash_slots[] = {
+    {Py_tp_doc, (void *)multihash_doc},
+    {Py_tp_new, multihash_new},
+    {Py_tp_dealloc, multihash_dealloc},
+    {Py_tp_repr, multihash_repr},
+    {Py_tp_hash, multihash_hash},
+    {Py_tp_richcompare, multihash_compared},
+    {Py_tp_methods, multihash_methods},
+    {Py_tp_members, multihash_members},
+    {Py_tp_getset, multihash_properties},
+    {0, NULL},
+};
+
+static PyType_Spec multihash_spec = {
+    "verified_multihash.Multihash",
+    sizeof(multihash_object),
+    0,
+    Py_TPFLAGS_DEFAULT | Py_TPFLAGS_BASETYPE,
+    multihash_slots,
+};
+
+/* ---- decoding */
+
+/* The multihash that a decoding found in the input. */
+static PyObject *decoded(PyObject *module, const input *from, multihash_decoded found)
+{
+    if (found.status != MULTIHASH_OK) {
+        PyObject *size = PyLong_FromUnsignedLongLong(found.size), *code = PyLong_FromUnsignedLongLong(found.code);
+        return raise_error(found.status, size, code, found.taken);
+    }
+    const char *digest = (const char *)from->bytes + found.digest_offset;
+    PyObject *copied = PyBytes_FromStringAndSize(digest, (Py_ssize_t)found.digest_length);
+    return new_multihash(type_of_module(module), found.code, copied);
+}
+
+/* The same with the number of bytes consumed. */
+static PyObject *decoded_front(PyObject *module, input *from, multihash_decoded found)
+{
+    PyObject *multihash = decoded(module, from, found);
+    Py_DECREF(from->owner);
+    return multihash == NULL ? NULL : Py_BuildValue("Nn", multihash, (Py_ssize_t)found.taken);
+}
+
+static PyObject *decode(PyObject *module, PyObject *arguments, PyObject *named)
+{
+    static char *names[] = {"data", NULL};
+    PyObject *data;
+    input from;
+    if (!PyArg_ParseTupleAndKeywords(arguments, named, "O:decode", names, &data)) return NULL;
+    if (get_input(data, MULTIHASH_HEAD_MAX + MULTIHASH_DIGEST_MAX, &from) < 0) return NULL;
+    PyObject *multihash = decoded(module, &from, multihash_from_prefix(from.bytes, from.length, from.whole));
+    Py_DECREF(from.owner);
+    return multihash;
+}
+
+static PyObject *read_front(PyObject *module, PyObject *arguments, PyObject *named)
+{
+    static char *names[] = {"data", "limit", NULL};
+    PyObject *data, *most = NULL;
+    uint64_t limit = MULTIHASH_DIGEST_MAX;
+    input from;
+    if (!PyArg_ParseTupleAndKeywords(arguments, named, "O|O:read", names, &data, &most)) return NULL;
+    if (most != NULL && get_number(most, "limit", &limit) < 0) return NULL;
+    if (get_input(data, MULTIHASH_HEAD_MAX + MULTIHASH_DIGEST_MAX, &from) < 0) return NULL;
+    return decoded_front(module, &from, multihash_read_limit(from.bytes, from.length, clamped(limit)));
+}
+
+static PyObject *scale_decode(PyObject *module, PyObject *arguments, PyObject *named)
+{
+    static char *names[] = {"data", NULL};
+    PyObject *data;
+    input from;
+    if (!PyArg_ParseTupleAndKeywords(arguments, named, "O:scale_decode", names, &data)) return NULL;
+    if (get_input(data, MULTIHASH_SCALE_LENGTH_MAX, &from) < 0) return NULL;
+    return decoded_front(module, &from, multihash_scale_decode(from.bytes, from.length));
+}
+
+static PyObject *head(PyObject *module, PyObject *data)
+{
+    input from;
+    (void)module;
+    if (get_input(data, MULTIHASH_HEAD_MAX, &from) < 0) return NULL;
+    multihash_front found = multihash_head(from.bytes, from.length);
+    Py_DECREF(from.owner);
+    if (found.status != MULTIHASH_OK) return raise_error(found.status, PyLong_FromLong(0), PyLong_FromLong(0), found.taken);
+    unsigned long long code = found.code, length = found.digest_length;
+    return Py_BuildValue("KKn", code, length, (Py_ssize_t)found.taken);
+}
+
+/* ---- encoding */
+
+typedef multihash_encoded encoder(uint64_t, const uint8_t *, size_t, uint8_t *, size_t);
+
+static PyObject *encoded(encoder *function, const char *format, PyObject *arguments, PyObject *named)
+{
+    static char *names[] = {"code", "digest", NULL};
+    uint8_t out[MULTIHASH_LENGTH_MAX];
+    PyObject *code, *digest, *result;
+    uint64_t number;
+    input bytes;
+    if (!PyArg_ParseTupleAndKeywords(arguments, named, format, names, &code, &digest)) return NULL;
+    if (get_pair(code, digest, &number, &bytes) < 0) return NULL;
+    /* What is longer was not copied whole. */
+    multihash_encoded made = bytes.whole > MULTIHASH_DIGEST_MAX
+                                 ? multihash_encoded_len(number, bytes.whole)
+                                 : function(number, bytes.bytes, bytes.whole, out, sizeof out);
+    if (made.status == MULTIHASH_OK) {
+        result = PyBytes_FromStringAndSize((const char *)out, (Py_ssize_t)made.length);
+    } else {
+        result = pair_error(made.status, bytes.whole, code);
+    }
+    Py_DECREF(bytes.owner);
+    return result;
+}
+
+static PyObject *encode(PyObject *module, PyObject *arguments, PyObject *named)
+{
+    (void)module;
+    return encoded(multihash_encode, "OO:encode", arguments, named);
+}
+
+static PyObject *scale_encode(PyObject *module, PyObject *arguments, PyObject *named)
+{
+    (void)module;
+    return encoded(multihash_scale_encode, "OO:scale_encode", arguments, named);
+}
+
+static PyObject *encoded_len(PyObject *module, PyObject *arguments, PyObject *named)
+{
+    static char *names[] = {"code", "digest_length", NULL};
+    PyObject *code, *length;
+    uint64_t number, size;
+    (void)module;
+    if (!PyArg_ParseTupleAndKeywords(arguments, named, "OO:encoded_len", names, &code, &length)) return NULL;
+    if (get_number(code, "code", &number) < 0 || get_number(length, "length", &size) < 0) return NULL;
+    multihash_encoded made = multihash_encoded_len(number, clamped(size));
+    return made.status == MULTIHASH_OK ? PyLong_FromSize_t(made.length) : encoding_error(made.status, length, code);
+}
+
+static PyObject *compare(PyObject *module, PyObject *arguments, PyObject *named)
+{
+    static char *names[] = {"left", "right", NULL};
+    PyObject *sides[2];
+    if (!PyArg_ParseTupleAndKeywords(arguments, named, "OO:compare", names, &sides[0], &sides[1])) return NULL;
+    for (int side = 0; side < 2; side++) {
+        if (!PyObject_TypeCheck(sides[side], type_of_module(module))) {
+            return PyErr_Format(PyExc_TypeError, "expected a Multihash, not %R", Py_TYPE(sides[side]));
+        }
+    }
+    return PyLong_FromLong(order_of(sides[0], sides[1]));
+}
+
+static PyObject *status_text(PyObject *module, PyObject *status)
+{
+    uint8_t out[64];
+    uint64_t number;
+    (void)module;
+    if (get_number(status, "status", &number) < 0) return NULL;
+    multihash_status known = number > UINT32_MAX ? UINT32_MAX : (multihash_status)number;
+    multihash_encoded made = multihash_put_status_text(known, out, sizeof out);
+    return PyUnicode_FromStringAndSize((const char *)out, (Py_ssize_t)made.length);
+}
+
+/* ---- the module */
+
+#define WITH_NAMES(function) (PyCFunction)(void (*)(void))function, METH_VARARGS | METH_KEYWORDS
+
+static PyMethodDef functions[] = {
+    {"decode", WITH_NAMES(decode),
+     "decode(data)\n--\n\nDecodes the multihash whose encoding is all of the bytes; trailing bytes are an INVALID_SIZE."},
+    {"read", WITH_NAMES(read_front),
+     "read(data, limit=255)\n--\n\n"
+     "Decodes the multihash at the front of the bytes, whose digest has at most `limit` bytes.\n\n"
+     "Returns the multihash and the length of its encoding. Copies at most 273 bytes of a byte buffer."},
+    {"scale_decode", WITH_NAMES(scale_decode),
+     "scale_decode(data)\n--\n\n"
+     "Decodes the multihash whose SCALE form is at the front of the bytes. Also returns the form's length."},
+    {"head", head, METH_O, NULL},
+    {"encode", WITH_NAMES(encode), "encode(code, digest)\n--\n\nReturns the encoding of a code and a digest."},
+    {"scale_encode", WITH_NAMES(scale_encode),
+     "scale_encode(code, digest)\n--\n\nReturns the SCALE form of a code and a digest."},
+    {"encoded_len", WITH_NAMES(encoded_len),
+     "encoded_len(code, digest_length)\n--\n\n"
+     "Returns the length of the encoding of a code and a digest of that length."},
+    {"compare", WITH_NAMES(compare),
+     "compare(left, right)\n--\n\nCompares two multihashes: returns -1, 0 or 1 by their order."},
+    {"status_text", status_text, METH_O, NULL},
+    {NULL, NULL, 0, NULL},
+};
+
+static int fill_module(PyObject *module)
+{
+    if (multihash_version() != MULTIHASH_VERSION_NUMBER) {
+        PyErr_Format(PyExc_ImportError, "the library for C has version %u, and its header %d", multihash_version(),
+                     MULTIHASH_VERSION_NUMBER);
+        return -1;
+    }
+    PyObject *type = PyType_FromSpec(&multihash_spec), *names = NULL;
+    if (type == NULL) return -1;
+    ((state *)PyModule_GetState(module))->type = type;
+    names = Py_BuildValue("(ss)", "code", "digest");
+    int is_wrong = names == NULL || PyObject_SetAttrString(type, "__match_args__", names) < 0;
+    Py_XDECREF(names);
+    if (is_wrong) return -1;
+    Py_INCREF(type);
+    if (PyModule_AddObject(module, "Multihash", type) == 0) return 0;
+    Py_DECREF(type);
+    return -1;
+}
+
+static int visit_state(PyObject *module, visitproc visit, void *arg)
+{
+    state *its = PyModule_GetState(module);
+    if (its != NULL) Py_VISIT(its->type);
+    return 0;
+}
+
+static int clear_state(PyObject *module)
+{
+    state *its = PyModule_GetState(module);
+    if (its != NULL) Py_CLEAR(its->type);
+    return 0;
+}
+
+static void free_state(void *module)
+{
+    clear_state(module);
+}
+
+static PyModuleDef_Slot module_slots[] = {{Py_mod_exec, fill_module}, {0, NULL}};
+
+static struct PyModuleDef definition = {
+    PyModuleDef_HEAD_INIT,
+    "_core",
+    "The library for C.",
+    sizeof(state),
+    functions,
+    module_slots,
+    visit_state,
+    clear_state,
+    free_state,
+};
+
+#ifdef __GNUC__
+__attribute__((visibility("default"))) /* CPython 3.8 does not say so */
+#endif
+PyMODINIT_FUNC PyInit__core(void)
+{
+    return PyModuleDef_Init(&definition);
+}

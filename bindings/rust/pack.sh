@@ -1,0 +1,17 @@
+#!/usr/bin/env bash
+# Packs both packages into WORK/target/package, by offline.sh. The packed multihash_c has the archives and the
+# portable source, so it can be built anywhere.
+#
+#   bindings/rust/pack.sh WORK
+set -euo pipefail
+here=$(dirname "$(readlink -f "$0")")
+work=$(readlink -f "$1")
+copy=$work/repository
+"$here/offline.sh" "$work" true
+package=$copy/bindings/rust/multihash_c
+trap 'rm -r "$package/prebuilt" "$package/portable"' EXIT
+mkdir "$package/prebuilt" "$package/portable"
+cp -r "$copy"/prebuilt/*/ "$package/prebuilt"
+cp "$copy"/packaging/portable/{multihash.c,module.h,memory.h} "$copy/crates/multihash_c/include/multihash.h" \
+  "$package/portable"
+"$here/offline.sh" "$work" cargo package --workspace --exclude-lockfile --no-verify

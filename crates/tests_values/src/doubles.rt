@@ -1,0 +1,76 @@
+//! What the tests stand on: `is_rejected` and `is_failed` return false for each other error and for none.
+use fakes::check_eq;
+use fakes::refusal::{Refusal, is_failed, is_rejected};
+use multihash::no_std_io::{self, Read, Write};
+use multihash::{Error, Multihash};
+
+const REFUSALS: [Refusal; 11] = [
+    Refusal::Insufficient,
+    Refusal::Overflow,
+    Refusal::NotMinimal,
+    Refusal::InvalidSize(5),
+    Refusal::InvalidSize(6),
+    Refusal::InvalidCode(1 << 63),
+    Refusal::InvalidCode(u64::MAX),
+    Refusal::UnexpectedEof,
+    Refusal::LINK_DOWN,
+    Refusal::DISK_GONE,
+    Refusal::OutOfMemory,
+];
+
+// A result for each of these errors, in this order, and a success.
+fn answers() -> [Result<Multihash<4>, Error>; 12] {
+    [
+        Multihash::from_bytes(&[]),
+        Multihash::from_bytes(&[255; 9]),
+        Multihash::from_bytes(&[128, 0]),
+        Multihash::from_bytes(&[0, 5]),
+        Multihash::from_bytes(&[0, 6]),
+        Multihash::wrap(1 << 63, &[]),
+        Multihash::wrap(u64::MAX, &[]),
+        Multihash::from_bytes(&[0, 1]),
+        Err(Error::from(no_std_io::Error::other("link down"))),
+        Err(Error::from(no_std_io::Error::other("disk gone"))),
+        Err(Error::from(no_std_io::Error::out_of_memory())),
+        Ok(Multihash::default()),
+    ]
+}
+
+#[test]
+fn a_refusal_is_no_other(rt: HostRuntime) {
+    let rt = &rt;
+    for (row, answer) in answers().iter().enumerate() {
+        for (column, why) in REFUSALS.iter().enumerate() {
+            check_eq!(rt; is_rejected(answer, *why), row == column, (row, column));
+        }
+    }
+}
+
+// The I/O errors, each by itself, and a success.
+fn failures() -> [(Result<(), no_std_io::Error>, Refusal); 6] {
+    [
+        ([].as_slice().read_exact(&mut [0]), Refusal::UnexpectedEof),
+        (
+            Err(no_std_io::Error::other("link down")),
+            Refusal::LINK_DOWN,
+        ),
+        (
+            Err(no_std_io::Error::other("disk gone")),
+            Refusal::DISK_GONE,
+        ),
+        (Err(no_std_io::Error::out_of_memory()), Refusal::OutOfMemory),
+        ([].as_mut_slice().write_all(&[7]), Refusal::WriteZero),
+        (Ok(()), Refusal::Other("no failure")),
+    ]
+}
+
+#[test]
+fn a_failure_is_no_other(rt: HostRuntime) {
+    let rt = &rt;
+    for (row, (answer, _)) in failures().iter().enumerate() {
+        for (column, (_, why)) in failures().iter().enumerate() {
+            let wanted = row == column && answer.is_err();
+            check_eq!(rt; is_failed(answer, *why), wanted, (row, column));
+        }
+    }
+}

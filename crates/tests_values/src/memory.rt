@@ -1,0 +1,344 @@
+//! Failing allocations. A test whose name begins with `refused` passes if no allocation fails. If one does,
+//! it checks what is left then, and fails with `REFUSED`: `tools/memory` makes each allocation fail
+//! in turn, and counts them.
+ghost use Rattle.std.specs.Prelude.{◌<◌, ◌^◌};
+
+use fakes::refusal::{LARGEST_CODE, Refusal, is_rejected};
+use fakes::{check, check_eq, expect_bytes};
+use multihash::list::{read_list, write_list};
+use multihash::no_std_io::{self, Read, SliceWriter, Write};
+use multihash::{Error, Head, Multihash, laws, varint};
+use serde_json::Value;
+use std::alloc::Global;
+use std::cmp::Ordering;
+use std::hash::{DefaultHasher, Hash, Hasher};
+use std::process::Abort;
+use std::test::Fail;
+use storage::content::hash_of;
+use storage::merkle::{root_and_path, verify_path};
+
+const REFUSED: &str = "memory was refused";
+
+// The value of a result that is not out of memory.
+fn unless_rejected<T>(rt: &impl Abort, answer: Result<T, Error>) -> Result<T, Fail> {
+    match answer {
+        Ok(answer) => Ok(answer),
+        Err(e) => {
+            check_eq!(rt; Refusal::of(&e), Some(Refusal::OutOfMemory));
+            check!(rt; matches!(e.io(), Some(fault) if fault.text() == "out of memory"));
+            Err(REFUSED)?
+        }
+    }
+}
+
+// (0, `A`), (18, `B`), and a trailing byte.
+const STREAM: [u8; 7] = [0, 1, 65, 18, 1, 66, 7];
+
+fn two() -> Result<[Multihash<4>; 2], Error> {
+    Ok([Multihash::wrap(0, b"A")?, Multihash::wrap(18, b"B")?])
+}
+
+// The code 300, and 200 bytes `A`.
+fn long() -> Result<Multihash<200>, Error> {
+    Multihash::wrap(300, &[65; 200])
+}
+
+// One allocation for each form.
+fn expect_forms_at<const S: usize>(
+    rt: &impl Abort,
+    alloc: Global,
+    code: u64,
+    digest: &[u8],
+) -> Result<(), Fail>
+    requires { S < 2 ^ 16 }
+{
+    let m = Multihash::<S>::wrap(code, digest)?;
+    unless_rejected(rt, m.to_bytes(alloc))?;
+    unless_rejected(rt, m.to_value(alloc))?;
+    Ok(())
+}
+
+// Sizes about powers of two, the longest, and those of usual digests.
+#[test]
+fn refused_forms_at_each_size(rt: HostRuntime) -> Result<(), Fail> {
+    let alloc = rt.alloc();
+    expect_forms_at::<0>(&rt, alloc, 300, &[])?;
+    expect_forms_at::<1>(&rt, alloc, 300, &[65; 1])?;
+    expect_forms_at::<20>(&rt, alloc, 300, &[65; 20])?;
+    expect_forms_at::<31>(&rt, alloc, 300, &[65; 31])?;
+    expect_forms_at::<32>(&rt, alloc, 300, &[65; 32])?;
+    expect_forms_at::<33>(&rt, alloc, 300, &[65; 33])?;
+    expect_forms_at::<48>(&rt, alloc, 300, &[65; 48])?;
+    expect_forms_at::<64>(&rt, alloc, 300, &[65; 64])?;
+    expect_forms_at::<127>(&rt, alloc, 300, &[65; 127])?;
+    expect_forms_at::<128>(&rt, alloc, 300, &[65; 128])?;
+    expect_forms_at::<200>(&rt, alloc, 300, &[65; 200])?;
+    expect_forms_at::<255>(&rt, alloc, 300, &[65; 255])
+}
+
+// Codes of usual hash functions (sha2-256, blake3), and one of nine bytes.
+const USUAL: [u64; 3] = [18, 30, LARGEST_CODE];
+
+#[test]
+fn refused_forms_of_usual_digests(rt: HostRuntime) -> Result<(), Fail> {
+    for code in USUAL {
+        expect_forms_at::<32>(&rt, rt.alloc(), code, &[65; 32])?;
+        expect_forms_at::<64>(&rt, rt.alloc(), code, &[65; 32])?;
+        expect_forms_at::<300>(&rt, rt.alloc(), code, &[65; 32])?;
+    }
+    Ok(())
+}
+
+#[test]
+fn refused_read_list(rt: HostRuntime) -> Result<(), Fail> {
+    let mut left = STREAM.as_slice();
+    let answer = read_list::<4, _>(rt.alloc(), &mut left, 2);
+    if answer.is_err() {
+        expect_bytes!(&rt; left, &STREAM);
+    }
+    let list = unless_rejected(&rt, answer)?;
+    check!(&rt; list.as_slice() == two()?.as_slice());
+    expect_bytes!(&rt; left, &[7]);
+    Ok(())
+}
+
+// One allocation, of the capacity: the input ends after one pair.
+fn expect_list_of<const S: usize>(rt: &impl Abort, alloc: Global, count: usize) -> Result<(), Fail>
+    requires { S < 2 ^ 16 }
+{
+    let answer = read_list::<S, _>(alloc, &mut [0u8, 0].as_slice(), count);
+    if !is_rejected(&answer, Refusal::Insufficient) {
+        unless_rejected(rt, answer)?;
+    }
+    Ok(())
+}
+
+#[test]
+fn refused_read_of_lists(rt: HostRuntime) -> Result<(), Fail> {
+    for count in [1, 2, 3, 4, 5, 6, 32, 33] {
+        expect_list_of::<32>(&rt, rt.alloc(), count)?;
+    }
+    for count in [3, 5, 300, 301] {
+        expect_list_of::<64>(&rt, rt.alloc(), count)?;
+    }
+    for count in [255, 4096, 65536, 70001] {
+        expect_list_of::<0>(&rt, rt.alloc(), count)?;
+    }
+    Ok(())
+}
+
+// If an allocation failed, the vector has a strict prefix, and the rest can be appended.
+fn expect_appended<R: Abort>(rt: &R, mut held: Vec<u8>, refused: bool, wanted: &[u8]) {
+    if refused {
+        check!(rt; held.len() < wanted.len());
+        check_eq!(rt; Some(held.as_slice()), wanted.get(..held.len()));
+        let rest = wanted.get(held.len()..).unwrap_or(&[]);
+        check!(rt; held.write_all(rest).is_ok());
+    }
+    expect_bytes!(rt; &held, wanted);
+}
+
+#[test]
+fn refused_write(rt: HostRuntime) -> Result<(), Fail> {
+    let mut held = Vec::new(rt.alloc());
+    let answer = long()?.write(&mut held);
+    let mut wanted = [65u8; 204];
+    wanted[..4].copy_from_slice(&[172, 2, 200, 1]);
+    expect_appended(&rt, held, answer.is_err(), &wanted);
+    check_eq!(&rt; unless_rejected(&rt, answer)?, 204);
+    Ok(())
+}
+
+#[test]
+fn refused_scale_encode(rt: HostRuntime) -> Result<(), Fail> {
+    let mut held = Vec::new(rt.alloc());
+    let answer = long()?.scale_encode(&mut held);
+    let mut wanted = [65u8; 209];
+    wanted[..9].copy_from_slice(&[44, 1, 0, 0, 0, 0, 0, 0, 200]);
+    expect_appended(&rt, held, answer.is_err(), &wanted);
+    check_eq!(&rt; unless_rejected(&rt, answer)?, 209);
+    Ok(())
+}
+
+#[test]
+fn refused_write_of_a_long_list(rt: HostRuntime) -> Result<(), Fail> {
+    let item = long()?;
+    let mut wanted = [65u8; 408];
+    wanted[..4].copy_from_slice(&[172, 2, 200, 1]);
+    wanted[204..208].copy_from_slice(&[172, 2, 200, 1]);
+    let mut held = Vec::new(rt.alloc());
+    let answer = write_list(&[item, item], &mut held);
+    expect_appended(&rt, held, answer.is_err(), &wanted);
+    unless_rejected(&rt, answer)
+}
+
+// With enough capacity nothing is allocated: the one allocation is that of the capacity.
+#[test]
+fn refused_room_alone(rt: HostRuntime) -> Result<(), Fail> {
+    let room = Vec::with_capacity(rt.alloc(), 8192).map_err(Error::from);
+    let mut held = unless_rejected(&rt, room)?;
+    for len in [0usize, 1, 31, 32, 33, 64, 127, 128, 200, 255] {
+        let m = Multihash::<255>::wrap(300, [65; 255].get(..len).unwrap_or(&[]))?;
+        unless_rejected(&rt, m.write(&mut held))?;
+        unless_rejected(&rt, m.write(&mut &mut held))?;
+        unless_rejected(&rt, m.scale_encode(&mut held))?;
+        unless_rejected(&rt, write_list(&[m, m], &mut held))?;
+    }
+    check_eq!(&rt; held.capacity(), 8192);
+    Ok(())
+}
+
+// A vector whose allocation fails is unchanged, by both calls of a writer.
+#[test]
+fn refused_write_of_a_vector(rt: HostRuntime) -> Result<(), Fail> {
+    let mut held = Vec::new(rt.alloc());
+    let answer = held.write(&[1, 2, 3]);
+    if answer.is_err() {
+        check!(&rt; held.is_empty() && held.capacity() == 0);
+        check!(&rt; held.write_all(&[1, 2, 3]).is_ok());
+        check_eq!(&rt; held.as_slice(), [1, 2, 3].as_slice());
+    }
+    check_eq!(&rt; unless_rejected(&rt, answer.map_err(Error::from))?, 3);
+    check_eq!(&rt; held.as_slice(), [1, 2, 3].as_slice());
+    Ok(())
+}
+
+// So is one under `?` after a push: the error is the library's.
+#[test]
+fn refused_push(rt: HostRuntime) -> Result<(), Fail> {
+    let mut held = Vec::new(rt.alloc());
+    let answer = keep(&mut held, long()?);
+    check_eq!(&rt; held.len(), usize::from(answer.is_ok()));
+    unless_rejected(&rt, answer)
+}
+
+fn keep(held: &mut Vec<Multihash<200>>, multihash: Multihash<200>) -> Result<(), Error> {
+    held.push(multihash)?;
+    Ok(())
+}
+
+#[test]
+fn refused_root_and_path(rt: HostRuntime) -> Result<(), Fail> {
+    let first = hash_of(b"a");
+    let leaves = [first, hash_of(b"b"), hash_of(b"c")];
+    let answer = root_and_path(rt.alloc(), &leaves, 0).map_err(Error::from);
+    let (root, path) = unless_rejected(&rt, answer)?;
+    check_eq!(&rt; path.len(), 2);
+    check!(&rt; verify_path(&first, &path, &root));
+    Ok(())
+}
+
+#[test]
+fn too_many_places_are_rejected(rt: HostRuntime) -> Result<(), Fail> {
+    for count in [usize::MAX, usize::MAX / 2] {
+        let mut left = STREAM.as_slice();
+        let refused = read_list::<4, _>(rt.alloc(), &mut left, count);
+        check!(&rt; is_rejected(&refused, Refusal::OutOfMemory));
+        expect_bytes!(&rt; left, &STREAM);
+    }
+    Ok(())
+}
+
+fn hash_value<const S: usize>(m: &Multihash<S>) -> u64
+    requires { S < 2 ^ 16 }
+{
+    let mut state = DefaultHasher::new();
+    m.hash(&mut state);
+    state.finish()
+}
+
+fn expect_parts<const S: usize>(rt: &impl Abort, m: &Multihash<S>) -> Result<(), Fail>
+    requires { S < 2 ^ 16 }
+{
+    check_eq!(rt; (m.size(), m.digest().len(), m.into_inner().2), (32, 32, 32));
+    check_eq!(rt; hash_value(m), hash_value(m));
+    let cut = m.truncate(31);
+    check!(rt; cut != *m && cut.cmp(m) == Ordering::Less && !cut.same_as(m));
+    check!(rt; m.resize::<64>()?.same_as(m));
+    check!(rt; m.clone().is_ok());
+    Ok(())
+}
+
+fn expect_forms<const S: usize>(
+    rt: &impl Abort,
+    alloc: Global,
+    m: &Multihash<S>,
+) -> Result<(), Fail>
+    requires { S < 2 ^ 16 }
+{
+    let mut buffer = [0u8; 64];
+    let len = m.write(&mut buffer.as_mut_slice())?;
+    check_eq!(rt; len, m.encoded_len());
+    check!(rt; Multihash::<S>::from_bytes(buffer.get(..len).unwrap_or(&[]))? == *m);
+    check!(rt; Multihash::<S>::read(&mut buffer.as_slice())? == *m);
+    check_eq!(rt; Head::read_front(&buffer)?.digest_len, 32);
+    let (code, code_len) = varint::read_front(&buffer)?;
+    check_eq!(rt; (code, code_len), (m.code(), varint::len(code)?));
+    check_eq!(rt; varint::read(&mut buffer.as_slice())?, code);
+    check!(rt; read_list::<S, _>(alloc, &mut buffer.as_slice(), 0)?.is_empty());
+    check_eq!(rt; varint::write(code, &mut buffer.as_mut_slice())?, code_len);
+    write_list(&[*m], &mut buffer.as_mut_slice())?;
+    m.scale_encode(&mut buffer.as_mut_slice())?;
+    check!(rt; Multihash::<S>::scale_decode(&mut buffer.as_slice())? == *m);
+    Ok(())
+}
+
+fn expect_no_memory<const S: usize>(rt: &impl Abort, alloc: Global) -> Result<(), Fail>
+    requires { S < 2 ^ 16 }
+{
+    for code in USUAL {
+        let m = Multihash::<S>::wrap(code, &[65; 32])?;
+        expect_parts(rt, &m)?;
+        expect_forms(rt, alloc, &m)?;
+    }
+    Ok(())
+}
+
+// Passes also if each allocation fails, since none of these calls makes one. So do those below.
+#[test]
+fn usual_values_need_no_memory(rt: HostRuntime) -> Result<(), Fail> {
+    expect_no_memory::<32>(&rt, rt.alloc())?;
+    expect_no_memory::<64>(&rt, rt.alloc())?;
+    expect_no_memory::<300>(&rt, rt.alloc())
+}
+
+fn expect_slices(rt: &impl Abort) {
+    let mut left = [0u8; 9].as_slice();
+    let mut buf = [0u8; 3];
+    check!(rt; left.read(&mut buf).is_ok());
+    check!(rt; left.read_exact(&mut buf).is_ok());
+    let mut free: &mut [u8] = &mut [0; 3];
+    check!(rt; free.write(&[1]).is_ok());
+    check!(rt; free.write_all(&[1, 2]).is_ok());
+    let mut kept = [0u8; 3];
+    let mut writer = SliceWriter::new(&mut kept);
+    check!(rt; writer.write(&[1]).is_ok());
+    check!(rt; writer.write_all(&[1, 2]).is_ok());
+}
+
+#[test]
+fn slices_and_laws_need_no_memory(rt: HostRuntime) {
+    expect_slices(&rt);
+    laws::one_verdict();
+    laws::settles();
+    laws::prefix_free();
+    laws::split_unique();
+    laws::scale_unique();
+    laws::json_unique();
+}
+
+#[test]
+fn errors_need_no_memory(rt: HostRuntime) {
+    let e = Error::from(no_std_io::Error::other("x"));
+    check!(&rt; matches!(e.io(), Some(e) if e.is_other() && e.text() == "x" && !e.is_write_zero()));
+    check!(&rt; !e.is_overflow() && !e.is_insufficient() && !e.is_not_minimal());
+    check!(&rt; e.invalid_size().is_none() && e.invalid_code().is_none() && !e.is_incomplete());
+    let e = Error::from(no_std_io::Error::out_of_memory());
+    check_eq!(&rt; Refusal::of(&e), Some(Refusal::OutOfMemory));
+    check!(&rt; !e.is_incomplete() && !e.is_not_bytes());
+    let empty = Value::Array(Vec::new(rt.alloc()));
+    check!(&rt; is_rejected(&Multihash::<4>::from_value(&empty), Refusal::Insufficient));
+    check!(&rt; is_rejected(&Multihash::<4>::from_value(&Value::Null), Refusal::NotBytes));
+    let refused = Multihash::<4>::wrap(u64::MAX, &[]);
+    check!(&rt; is_rejected(&refused, Refusal::InvalidCode(u64::MAX)));
+}

@@ -1,0 +1,23 @@
+use Rattle.std.proofs.Common.{◌≡◌, inl, inr, sym, ◌∙◌, subst}
+use Rattle.multihash.specs.Varint.{insufficient, BeginsMalformed}
+use Rattle.multihash.specs.Refusal.{of_varint}
+use Rattle.multihash.proofs.Varints.VarintLemmas.{fault, front_unique}
+use Rattle.uses.proofs.blame.wants_more_of_varint.Goals as goal
+
+pub returns-in-Err : goal.returns-in-Err
+returns-in-Err c =
+    let (why, named, malformed) = c.in-Err.ensures.err in
+    let bytes = c.args.bytes.now in
+    let ends = c.is_incomplete.ensures.ends in (
+      (λ is. elim (ends.0 is) [
+        | inl short ↦
+            let names : of_varint why ≡ of_varint insufficient = sym named ∙ short in
+            let same : why ≡ insufficient = cc in
+            subst (λ f. BeginsMalformed f bytes) same malformed
+        | inr (ended, is_io, _) ↦ absurd cc
+      ]),
+      λ short.
+          let fronts : fault why ≡ fault insufficient = front_unique bytes (fault why) (fault insufficient) malformed short in
+          let same : why ≡ insufficient = cc in
+          ends.1 (inl (subst (λ f. c.in-Err.e ≡ of_varint f) same named)),
+    )

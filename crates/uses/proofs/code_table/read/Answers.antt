@@ -1,0 +1,42 @@
+use Rattle.std.proofs.Common.{◌≡◌, true, get_or, Ok, Err, sym, ap, ◌∙◌, subst, eqb-true, true≢false}
+use Rattle.std.proofs.lemmas.List.Folds.{list_any_at}
+use Rattle.std.specs.Cmp.{nat_eq_equiv}
+use Rattle.std.specs.Prelude.{nat_eq}
+use Rattle.std.specs.List.{Contains}
+use Rattle.std.proofs.lemmas.Map.Views.{Contains-from_any}
+use Rattle.multihash.specs.Pair.{Pair}
+use Rattle.multihash.proofs.CallingLemmas.{read_of_encoding}
+use Rattle.uses.proofs.code_table.read.Goals as goal
+
+pub returns-in_err-multihash-clause-other : goal.returns-in_err-multihash-clause-other
+returns-in_err-multihash-clause-other g c p bytes more encodes fits missing rest same =
+    absurd (read_of_encoding g.row.S _ _ _ (g.R.Read.rest c.read.new.r) p bytes more (Err c.in_err-multihash.field-0.0) encodes fits rest same
+    c.in_err-multihash.ensures.verdict tt)
+
+pub returns-clause-other : goal.returns-clause-other
+returns-clause-other g c p bytes more encodes fits missing rest same =
+    let met = c.in_ok-multihash.ensures in
+    let told = read_of_encoding g.row.S _ _ _ _ p bytes more (Ok c.in_ok-multihash.multihash) encodes fits rest same met.verdict met.ok in
+    let held = Contains-from_any {eq = λ a b. nat_eq b a} (λ a b is. sym (eqb-true b a is)) c.code.result c.args.allowed.now
+    (sym c.contains.ensures.value ∙ c.if-not-contains.false) in
+    absurd (missing (subst (Contains c.args.allowed.now) (c.code.ensures.code ∙ ap (λ (q : Pair). q.code) told.0) held))
+
+pub returns-in_err-multihash-clause-found : goal.returns-in_err-multihash-clause-found
+returns-in_err-multihash-clause-found g c p bytes more encodes fits allowed rest same =
+    absurd (read_of_encoding g.row.S _ _ _ (g.R.Read.rest c.read.new.r) p bytes more (Err c.in_err-multihash.field-0.0) encodes fits rest same
+    c.in_err-multihash.ensures.verdict tt)
+
+pub returns-clause-found : goal.returns-clause-found
+returns-clause-found g c p bytes more encodes fits allowed rest same =
+    let met = c.in_ok-multihash.ensures in
+    read_of_encoding g.row.S _ _ _ _ p bytes more (Ok c.in_ok-multihash.multihash) encodes fits rest same met.verdict met.ok
+
+pub returns-then-not-contains-clause-found : goal.returns-then-not-contains-clause-found
+returns-then-not-contains-clause-found g c p bytes more encodes fits allowed rest same =
+    let met = c.in_ok-multihash.ensures in
+    let told = read_of_encoding g.row.S _ _ _ _ p bytes more (Ok c.in_ok-multihash.multihash) encodes fits rest same met.verdict met.ok in
+    let is : get_or c.args.allowed.now allowed.0 p.code ≡ c.code.result =
+    allowed.2 ∙ sym (c.code.ensures.code ∙ ap (λ (q : Pair). q.code) told.0) in
+    let found = subst (λ z. nat_eq (get_or c.args.allowed.now allowed.0 p.code) z ≡ true) is (nat_eq_equiv.refl _) in
+    let held = list_any_at (λ b. nat_eq b c.code.result) c.args.allowed.now allowed.0 p.code allowed.1 found in
+    absurd (true≢false (sym held ∙ (sym c.contains.ensures.value ∙ c.if-not-contains.true)))

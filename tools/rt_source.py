@@ -1,0 +1,136 @@
+"""Reads .rt files, as `rt fmt` lays them out: items, with their fields, members and contracts."""
+import re
+from collections.abc import Iterator
+from typing import NamedTuple
+
+# A string, a character or a comment; what an item begins with; a field of a struct or a case of an enum; a clause of a contract.
+TEXT = re.compile(r'"(?:\\.|[^"\\])*"|\'(?:\\[^\']*|[^\\\'])\'|//[^\n]*', re.S)
+HEAD = re.compile(
+    r"(pub )?(?:pub\(\w+\) )?(?:unsafe )?(?:(ghost|use|impl|mod|struct|enum|trait|type|const|static)\b(?! +(?:unsafe +|extern +)?fn\b)"
+    r"|(?:const +|unsafe +|extern +)*(fn)\b) ?"
+)
+PART = re.compile(r"(pub )?(?:pub\(\w+\) )?((?:ghost )?\w+)(?:: ([^\n]*),|[,(:\n]| \{)")
+CLAUSE = re.compile(r"\s*(requires|ensures)\*?(?: (\w+))? ?\{")
+
+
+class Unread(Exception):
+    """A text in no known form."""
+
+
+def blanked(text: str) -> str:
+    """Returns a text of the same length in which strings, characters and comments are blank."""
+    return TEXT.sub(lambda it: re.sub(r"[^\n]", " ", it[0]), text)
+
+
+class Clause(NamedTuple):
+    """A clause of a contract, and where its text is."""
+
+    kind: str
+    name: str
+    start: int
+    end: int
+
+
+class Item(NamedTuple):
+    """An item of a text. Its code is the text without strings, characters and comments; its kind is empty if that is not known."""
+
+    kind: str
+    name: str
+    is_public: bool
+    attributes: str
+    text: str
+    code: str
+    start: int
+    after: int
+    end: int
+    depth: int
+
+    @property
+    def source(self) -> str:
+        return self.text[self.start : self.end]
+
+    @property
+    def head(self) -> str:
+        """Returns what comes after the item's first words, up to a brace or the line's end."""
+        return self.code[self.after : self.end].partition("{")[0].partition("\n")[0].strip(" ;")
+
+    def inner(self) -> int:
+        """Returns where what the item has in braces begins, or its end."""
+        if re.match(r"[^\n]*\{(?!\}?\n)", self.code[self.start : self.end]):
+            raise Unread(f"not formatted: {self.source[:90]}")
+        at = self.code.find("{\n", self.start, self.end)
+        return self.end if at < 0 else at + 2
+
+    def members(self) -> list["Item"]:
+        """Returns the items in an impl or a trait."""
+        return items(self.text, self.code, self.inner(), self.end, self.depth + 4)
+
+    def parts(self) -> Iterator[tuple[bool, str, str]]:
+        """Returns the fields of a struct or the cases of an enum: whether each is public, its name, and its type."""
+        for start, end in chunks(self.code, self.inner(), self.end, self.depth + 4):
+            chunk = self.code[start:end]
+            found = PART.match(chunk)
+            if not found and not chunk.startswith("#"):
+                raise Unread(f"no field and no case: {chunk[:90]}")
+            if found:
+                yield bool(found[1]), found[2], found[3] or ""
+
+    def signature_end(self) -> int:
+        found = re.compile(r"\n +(?=requires|ensures|ghost )|\s*\{\n|\s*\{\}|;\n").search(self.code, self.after, self.end)
+        return found.start() if found else self.end
+
+    def signature(self) -> str:
+        """Returns a function's name, parameters and result, in one line."""
+        text = " ".join(self.text[self.after : self.signature_end()].split())
+        return text.replace("( ", "(").replace(", )", ")")
+
+    def clauses(self) -> Iterator[Clause]:
+        """Returns the clauses of a function's contract."""
+        at = self.signature_end()
+        while found := CLAUSE.match(self.code, at):
+            at = end_of_braces(self.code, found.end())
+            yield Clause(found[1], found[2] or "", found.end(), at - 1)
+
+
+def end_of_braces(code: str, start: int) -> int:
+    """Returns the index after the brace that closes the one before `start`."""
+    depth = 1
+    while depth:
+        depth += {"{": 1, "}": -1}.get(code[start], 0)
+        start += 1
+    return start
+
+
+def chunks(code: str, start: int, end: int, depth: int) -> Iterator[tuple[int, int]]:
+    """Returns where each text begins and ends whose first line has that indent, without the indent: its brackets are closed."""
+    indent = " " * depth
+    for it in re.compile(rf"(?m)^{indent}(?=\S)[^)}}\]][^\n]*\n(?:(?:{indent}[ (){{}}\]][^\n]*| *)\n)*").finditer(code, start, end):
+        if any(it[0].count(pair[0]) != it[0].count(pair[1]) for pair in ("()", "{}", "[]")):
+            raise Unread(f"its brackets are not closed: {it[0][:90]}")
+        yield it.start() + depth, it.start() + len(it[0].rstrip()) + 1
+
+
+def items(text: str, code: str = "", start: int = 0, end: int | None = None, depth: int = 0) -> list[Item]:
+    """Returns the items of a text, or of a part of it."""
+    code = code or blanked(text)
+    found, attributes = [], ""
+    for at, to in chunks(code, start, len(code) if end is None else end, depth):
+        if code.startswith("#", at):
+            attributes += code[at:to]
+            continue
+        head = HEAD.match(code, at)
+        after = head.end() if head else at
+        name = re.search(r"\w+", code[after:to])
+        kind = (head[2] or head[3]) if head else ""
+        found.append(Item(kind, name[0] if name else "", bool(head and head[1]), attributes, text, code, at, after, to, depth))
+        attributes = ""
+    return found
+
+
+def functions(text: str) -> Iterator[tuple[Item | None, Item]]:
+    """Returns each function of a text, after the impl or the trait that it is a member of."""
+    for it in items(text):
+        if it.kind == "fn":
+            yield None, it
+        elif it.kind in ("impl", "trait"):
+            yield from ((it, member) for member in it.members() if member.kind == "fn")
