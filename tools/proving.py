@@ -4,12 +4,13 @@ import re
 import shutil
 import signal
 import subprocess
-from collections import defaultdict
+from collections import Counter, defaultdict
+from graphlib import TopologicalSorter
 from typing import NamedTuple
 
 from rt_source import functions
 
-PARTS = ("src", "specs", "proofs")
+PARTS, FILES = ("src", "specs", "proofs"), ("crates.txt", "HANDLES")
 BY_LIMIT = " by a limit"  # what follows a clause of which no goal is open but one where the search gave up at a limit
 # the lines that the prover prints: a note for each open goal of a function, before its state; and errors in the files of proofs
 NOTE = re.compile(r"note: \S+: it is not proved that (.*)")
@@ -55,20 +56,19 @@ def name_of_owner(owner):
 
 def functions_of(texts, known):
     """Returns the functions that have a body, by the names that the prover prints; one that gets no such name has none."""
-    its = ((path, text, *its) for path, text in texts.items() if path.endswith(".rt") for its in functions(text))
-    return [function_at(path, text, owner, it, known) for path, text, owner, it in its if not text[it.start : it.end].rstrip().endswith(";")]
-
-
-def function_at(path, text, owner, it, known):
-    own = [name_of_owner(owner), it.name] if owner else [it.name]
-    module = [part for part in path[len("src/") : -len(".rt")].split("/") if part not in ("lib", "main")]
-    found = [name for name in known if name.endswith("::" + "::".join(own))]
-    found = [name for name in found if name.split("::")[1:] == module + own] or found
-    contract = [*it.clauses()]
-    clauses = {clause.name or it.name: (clause.start, clause.end) for clause in contract if clause.kind == "ensures"}
-    is_public = it.is_public or bool(owner and (owner.kind == "trait" or " for " in owner.head))
-    body = contract[-1].end + 1 if contract else it.signature_end()
-    return Function(found[0] if len(found) == 1 else "", path, body, it.end, clauses, is_public)
+    found = []
+    for path, text in ((path, text) for path, text in texts.items() if path.endswith(".rt")):
+        module = [part for part in path[len("src/") : -len(".rt")].split("/") if part not in ("lib", "main")]
+        for owner, it in ((owner, it) for owner, it in functions(text) if not it.source.rstrip().endswith(";")):
+            own = [name_of_owner(owner), it.name] if owner else [it.name]
+            names = [name for name in known if name.endswith("::" + "::".join(own))]
+            names = [name for name in names if name.split("::")[1:] == module + own] or names
+            contract = [*it.clauses()]
+            clauses = {clause.name or it.name: (clause.start, clause.end) for clause in contract if clause.kind == "ensures"}
+            is_public = it.is_public or bool(owner and (owner.kind == "trait" or " for " in owner.head))
+            body = contract[-1].end + 1 if contract else it.signature_end()
+            found.append(Function(names[0] if len(names) == 1 else "", path, body, it.end, clauses, is_public))
+    return found
 
 
 def function_of(texts, edits, functions):
@@ -111,23 +111,22 @@ def written(home):
 
 
 def report(results):
-    """Prints what was tried, each with its fault or none, and then how many passed and failed. Returns the exit status."""
-    results = [*results]
+    """Prints each (what, fault) that has a fault, and then how many passed and failed. Returns the exit status."""
+    counts = Counter()
     for what, fault in results:
-        print(f"FAILED: {what}: {fault}" if fault else f"passed: {what}")
-    failed = sum(bool(fault) for _, fault in results)
-    print(f"{len(results) - failed} passed, {failed} failed")
-    return 1 if failed or not results else 0
+        counts[bool(fault)] += 1
+        if fault:
+            print(f"FAILED: {what}: {fault}", flush=True)
+    print(f"{counts[False]} passed, {counts[True]} failed")
+    return 0 if counts[False] and not counts[True] else 1
 
 
 def crates_of(root):
     """Returns each crate of a repository with the crates below it, lowest first."""
-    lines = [it.partition("#")[0].partition(":") for it in (root / "crates.txt").read_text().splitlines()]
-    uses = {head.split()[0]: words.split() for head, colon, words in lines if colon}
-    below = {}
-    while left := [it for it in uses if it not in below]:
-        for name in (it for it in left if all(low in below or low not in uses for low in uses[it])):
-            below[name] = [*dict.fromkeys(low for it in uses[name] if it in uses for low in (*below[it], it))]
+    lines = [it.partition("#")[0].partition(":") for it in (root / "crates.txt").read_text("utf-8").splitlines()]
+    uses, below = {head.split()[0]: words.split() for head, colon, words in lines if colon}, {}
+    for name in (it for it in TopologicalSorter(uses).static_order() if it in uses):
+        below[name] = [*dict.fromkeys(low for it in uses[name] if it in uses for low in (*below[it], it))]
     return below
 
 
@@ -138,28 +137,20 @@ def copy_crates(root, to):
     for old in (path for part in PARTS for path in to.glob(f"crates/*/{part}")):
         shutil.rmtree(old)
     shutil.copytree(root / "crates", to / "crates", dirs_exist_ok=True, ignore=shutil.ignore_patterns("out", "data", "mu*s", "must-fail"))
-    for name in ("crates.txt", "HANDLES"):
+    for name in FILES:
+        shutil.copy(root / name, to)
+
+
+def link_crates(root, to):
+    """Copies the crates, and what checks kept of them by links: the prover replaces files and never writes into one."""
+    shutil.copytree(root / "crates", to / "crates", copy_function=lambda old, new: (os.link if "/out/" in old else shutil.copy)(old, new))
+    for name in FILES:
         shutil.copy(root / name, to)
 
 
 def texts_of(home):
     files = (path for part in PARTS for path in home.glob(f"{part}/**/*") if path.is_file())
     return {str(path.relative_to(home)): path.read_text("utf-8") for path in files}
-
-
-def link_crates(root, names, to):
-    """Copies crates with what their checks kept, by links: the prover replaces files and never writes into one."""
-    for name in names:
-        shutil.copytree(root / "crates" / name, to / "crates" / name, copy_function=os.link)
-    lines = (root / "crates.txt").read_text("utf-8").splitlines(keepends=True)
-    (to / "crates.txt").write_text("".join(it for it in lines if it.partition(":")[0].partition(" ")[0] in names), "utf-8")
-    shutil.copy(root / "HANDLES", to)
-
-
-def replace(path, text):
-    """Writes a file anew, as it may be linked to another."""
-    path.unlink()
-    path.write_text(text, "utf-8")
 
 
 class Prover:
@@ -171,8 +162,8 @@ class Prover:
             signal.signal(it, self.end)
 
     def check(self, home, jobs=1):
-        how = {"stdin": subprocess.DEVNULL, "stdout": subprocess.PIPE, "stderr": subprocess.STDOUT, "text": True}
-        with subprocess.Popen(["rt", "check", "--jobs", str(jobs)], cwd=home, **how) as child:
+        words, pipe = ["rt", "check", "--jobs", str(jobs)], subprocess.PIPE
+        with subprocess.Popen(words, cwd=home, stdin=subprocess.DEVNULL, stdout=pipe, stderr=subprocess.STDOUT, text=True) as child:
             self.running.add(child)
             if self.is_ended:
                 child.kill()

@@ -6,20 +6,15 @@ from typing import NamedTuple
 # A string, a character or a comment; what an item begins with; a field of a struct or a case of an enum; a clause of a contract.
 TEXT = re.compile(r'"(?:\\.|[^"\\])*"|\'(?:\\[^\']*|[^\\\'])\'|//[^\n]*', re.S)
 HEAD = re.compile(
-    r"(pub )?(?:pub\(\w+\) )?(?:unsafe )?(?:(ghost|use|impl|mod|struct|enum|trait|type|const|static)\b(?! +(?:unsafe +|extern +)?fn\b)"
-    r"|(?:const +|unsafe +|extern +)*(fn)\b) ?"
+    r"(pub )?(?:pub\(\w+\) )?(?:unsafe )?(?:(?:const +|unsafe +|extern +)*(fn)\b"
+    r"|(ghost|use|impl|mod|struct|enum|trait|type|const|static|extern|macro_rules)\b) ?"
 )
 PART = re.compile(r"(pub )?(?:pub\(\w+\) )?((?:ghost )?\w+)(?:: ([^\n]*),|[,(:\n]| \{)")
-CLAUSE = re.compile(r"\s*(requires|ensures)\*?(?: (\w+))? ?\{")
+CLAUSE = re.compile(r"\s*(requires|ensures)\*?(?: (\w+))? ?\{(.*?)\}(?=\s*\n\s*(?:requires|ensures|ghost|\{)|;\n)", re.S)
 
 
-class Unread(Exception):
+class Unread(ValueError):
     """A text in no known form."""
-
-
-def blanked(text: str) -> str:
-    """Returns a text of the same length in which strings, characters and comments are blank."""
-    return TEXT.sub(lambda it: re.sub(r"[^\n]", " ", it[0]), text)
 
 
 class Clause(NamedTuple):
@@ -32,7 +27,7 @@ class Clause(NamedTuple):
 
 
 class Item(NamedTuple):
-    """An item of a text. Its code is the text without strings, characters and comments; its kind is empty if that is not known."""
+    """An item of a text. Its code is the text without strings, characters and comments."""
 
     kind: str
     name: str
@@ -43,7 +38,6 @@ class Item(NamedTuple):
     start: int
     after: int
     end: int
-    depth: int
 
     @property
     def source(self) -> str:
@@ -63,11 +57,11 @@ class Item(NamedTuple):
 
     def members(self) -> list["Item"]:
         """Returns the items in an impl or a trait."""
-        return items(self.text, self.code, self.inner(), self.end, self.depth + 4)
+        return items(self.text, self.code, self.inner(), self.end, 4)
 
     def parts(self) -> Iterator[tuple[bool, str, str]]:
         """Returns the fields of a struct or the cases of an enum: whether each is public, its name, and its type."""
-        for start, end in chunks(self.code, self.inner(), self.end, self.depth + 4):
+        for start, end in chunks(self.code, self.inner(), self.end, 4):
             chunk = self.code[start:end]
             found = PART.match(chunk)
             if not found and not chunk.startswith("#"):
@@ -87,18 +81,11 @@ class Item(NamedTuple):
     def clauses(self) -> Iterator[Clause]:
         """Returns the clauses of a function's contract."""
         at = self.signature_end()
-        while found := CLAUSE.match(self.code, at):
-            at = end_of_braces(self.code, found.end())
-            yield Clause(found[1], found[2] or "", found.end(), at - 1)
-
-
-def end_of_braces(code: str, start: int) -> int:
-    """Returns the index after the brace that closes the one before `start`."""
-    depth = 1
-    while depth:
-        depth += {"{": 1, "}": -1}.get(code[start], 0)
-        start += 1
-    return start
+        while found := CLAUSE.match(self.code, at, self.end):
+            at = found.end()
+            if found[3].count("{") != found[3].count("}"):
+                raise Unread(f"its braces are not closed: {found[0][:90]}")
+            yield Clause(found[1], found[2] or "", *found.span(3))
 
 
 def chunks(code: str, start: int, end: int, depth: int) -> Iterator[tuple[int, int]]:
@@ -112,17 +99,17 @@ def chunks(code: str, start: int, end: int, depth: int) -> Iterator[tuple[int, i
 
 def items(text: str, code: str = "", start: int = 0, end: int | None = None, depth: int = 0) -> list[Item]:
     """Returns the items of a text, or of a part of it."""
-    code = code or blanked(text)
+    code = code or TEXT.sub(lambda it: re.sub(r"[^\n]", " ", it[0]), text)
     found, attributes = [], ""
     for at, to in chunks(code, start, len(code) if end is None else end, depth):
         if code.startswith("#", at):
             attributes += code[at:to]
             continue
         head = HEAD.match(code, at)
-        after = head.end() if head else at
-        name = re.search(r"\w+", code[after:to])
-        kind = (head[2] or head[3]) if head else ""
-        found.append(Item(kind, name[0] if name else "", bool(head and head[1]), attributes, text, code, at, after, to, depth))
+        if not head:
+            raise Unread(f"no known item: {text[at:to][:90]}")
+        name = re.search(r"\w+", code[head.end() : to])
+        found.append(Item(head[2] or head[3], name[0] if name else "", bool(head[1]), attributes, text, code, at, head.end(), to))
         attributes = ""
     return found
 
@@ -134,3 +121,5 @@ def functions(text: str) -> Iterator[tuple[Item | None, Item]]:
             yield None, it
         elif it.kind in ("impl", "trait"):
             yield from ((it, member) for member in it.members() if member.kind == "fn")
+        elif it.kind == "mod" and "{" in it.code[it.after : it.end]:
+            raise Unread(f"a module in a file: {it.source[:90]}")
