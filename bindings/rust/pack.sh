@@ -1,6 +1,6 @@
 #!/usr/bin/env bash
-# Packs both packages into WORK/target/package, by offline.sh. The packed multihash_c has the archives and the
-# portable source, so it can be built anywhere.
+# Packs both packages into WORK/target/package, by offline.sh, with the licence. The packed multihash_c has the
+# archives and the portable source, so it can be built anywhere.
 #
 #   bindings/rust/pack.sh WORK
 set -euo pipefail
@@ -9,8 +9,10 @@ work=$(readlink -f "$1")
 copy=$work/repository
 "$here/offline.sh" "$work" true
 package=$copy/bindings/rust/multihash_c
-trap 'rm -r "$package/prebuilt" "$package/portable"' EXIT
+licences=("$package/LICENSE" "$copy/bindings/rust/multihash/LICENSE")
+trap 'rm -r "$package/prebuilt" "$package/portable" "${licences[@]}"' EXIT
 mkdir "$package/prebuilt" "$package/portable"
+for licence in "${licences[@]}"; do cp "$here/../../LICENSE" "$licence"; done
 cp -r "$copy"/prebuilt/*/ "$package/prebuilt"
 cp "$copy"/packaging/portable/{multihash.c,module.h,memory.h} "$copy/crates/multihash_c/include/multihash.h" \
   "$package/portable"
