@@ -1,5 +1,5 @@
 //! From a line of hexadecimal to three lines that show its multihash.
-ghost use Rattle.std.specs.Prelude.{◌≡◌, ℕ, ◌%◌, List, length, Some, IfOk, IfErr, string_bytes};
+ghost use Rattle.std.specs.Prelude.{◌≡◌, ℕ, ◌%◌, List, length, Some, IfOk, string_bytes};
 ghost use Rattle.multihash.specs.Refusal.{Refusal};
 ghost use Rattle.multihash.specs.Multihash.{pair_of};
 ghost use Rattle.mh_show.specs.Shown.{shown, IsLine, NamesBytes, ShowsAs, IsRejectedAs};

@@ -1,5 +1,5 @@
 //! The JSON form: the encoding's bytes as an array of whole numbers.
-ghost use Rattle.std.specs.Prelude.{◌≡◌, ◌<◌, ◌≤◌, ◌+◌, ℕ, List, ◌++◌, length, map, vec_len, vec_capacity, Some, IfOk, IfErr, OnOk, OnErr, IsOk, IsErrAnd, MatchOption, true};
+ghost use Rattle.std.specs.Prelude.{◌≡◌, ◌<◌, ℕ, List, length, Some, IfOk, IfErr, OnOk, OnErr, IsOk, IsErrAnd, MatchOption, true};
 ghost use Rattle.std.specs.List.{list_all};
 ghost use Rattle.serde_json.specs.View.{view};
 ghost use Rattle.multihash.specs.Encoding.{IsEncoding};

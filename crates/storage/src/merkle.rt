@@ -1,7 +1,7 @@
 //! A binary Merkle tree. The node of a leaf is the multihash of a byte 0 and the leaf's encoding; an inner
-//! node is that of a byte 1 and its children's encodings. The tree of RFC 6962 has the same shape and the same
-//! first bytes, but hashes digests in place of encodings.
-ghost use Rattle.std.specs.Prelude.{◌≡◌, ◌↔◌, ◌<◌, ◌∷◌, IfOk, IsTrue, MatchOption, length, map};
+//! node is that of a byte 1 and its children's encodings. The tree of RFC 6962 has the same shape and first
+//! bytes, but hashes digests in place of encodings.
+ghost use Rattle.std.specs.Prelude.{◌≡◌, ◌↔◌, ◌<◌, IfOk, IsTrue, MatchOption, length, map};
 ghost use Rattle.multihash.specs.Multihash.{pair_of};
 ghost use Rattle.multihash.specs.Encoding.{encoding_of};
 ghost use Rattle.storage.specs.Merkle.{above, leaf_pair, parent_pair, root_from};

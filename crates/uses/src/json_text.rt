@@ -46,8 +46,8 @@ pub fn print<const S: usize>(alloc: Global, m: &Multihash<S>) -> Result<String, 
 ///
 /// # Errors
 ///
-/// [`TextError::Text`] if `serde_json` does not read the text or is out of memory, [`TextError::Value`] if the
-/// value is no multihash.
+/// [`TextError::Text`] if `serde_json` does not read the text or is out of memory, [`TextError::Value`] if
+/// the value is no multihash.
 pub fn parse<const S: usize>(alloc: Global, text: &str) -> Result<Multihash<S>, TextError>
     ensures listed { IfOk result (λ m. (d : Data) × (read text.now ≡ Some d)
         × ((bytes : List ℕ) × IsByteArray d bytes × IsEncoding (pair_of m) bytes)) }
