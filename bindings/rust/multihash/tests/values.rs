@@ -55,9 +55,10 @@ fn limits() {
     assert_eq!(text(Multihash::<300>::wrap(1, &[7; DIGEST_MAX + 1])), "Invalid multihash size 256.");
     assert_eq!(text(Multihash::<3>::wrap(u64::MAX, b"abcd")), "Invalid multihash size 4.");
     assert_eq!(text(Multihash::<4>::wrap(1 << 63, b"abcd")), "Invalid multihash code 9223372036854775808.");
-    let long = [0; (1 << 16) + 5];
-    assert_eq!(text(Multihash::<300>::wrap(1, &long)), "Invalid multihash size 65541.");
-    assert_eq!(text(Multihash::<1>::from_bytes(&long)), "Invalid multihash size 65539.");
+    // 2^32 and 2, or as much as fits: no page is touched but the first
+    let long = vec![0; 1_usize.checked_shl(32).unwrap_or(1 << 16) + 2];
+    let texts = [0, 2].map(|taken| format!("Invalid multihash size {}.", long.len() - taken));
+    assert_eq!([text(Multihash::<300>::wrap(1, &long)), text(Multihash::<1>::from_bytes(&long))], texts);
     assert_eq!(text(Multihash::<0>::from_bytes(&[])), "unexpected end of file");
 }
 

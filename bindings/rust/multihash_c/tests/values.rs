@@ -44,7 +44,8 @@ fn wrapping() {
 #[test]
 fn encodings() {
     let mut input = &b"\x80\x02\x03abc\x12\x01zrest"[..];
-    let both = [MultihashRef::read_limit(&mut input, 3), MultihashRef::read_limit(&mut input, 3)];
+    // a limit whose lower half is 0
+    let both = [3, usize::MAX << (usize::BITS / 2)].map(|limit| MultihashRef::read_limit(&mut input, limit));
     let both = both.map(|found| found.expect("a multihash"));
     assert_eq!(
         (both.map(|it| it.encoding()), input),
@@ -92,13 +93,17 @@ fn slices_of_no_bytes() {
 
 #[test]
 fn long_slices() {
-    let mut long = [0; (1 << 16) + 5];
-    assert_eq!(MultihashRef::wrap(1, &long), Err(Error::InvalidSize(65541)));
-    assert_eq!(MultihashRef::from_bytes(&long), Err(Error::InvalidSize(65539)));
-    let mut rest = &long[..];
+    // 2^32 and 1, or as much as fits: no page is touched but the first
+    let mut long = vec![0; 1_usize.checked_shl(32).unwrap_or(1 << 16) + 1];
+    let length = long.len();
+    assert_eq!(MultihashRef::wrap(1, &long), Err(Error::InvalidSize(length as u64)));
+    assert_eq!(MultihashRef::from_bytes(&long), Err(Error::InvalidSize(length as u64 - 2)));
+    assert_eq!(Head::read(&long).map(|head| head.digest_offset()), Ok(2));
+    let (mut rest, mut form) = (&long[..], &long[..]);
     assert_eq!(MultihashRef::read_limit(&mut rest, usize::MAX).map(|found| found.size()), Ok(0));
-    assert_eq!(MultihashRef::scale_decode(&mut rest).map(|found| found.code()), Ok(0));
-    assert_eq!(rest.len(), 65541 - 2 - 9);
+    assert_eq!(MultihashRef::scale_decode(&mut form).map(|found| found.code()), Ok(0));
+    assert_eq!((rest.len(), form.len()), (length - 2, length - 9));
+    assert_eq!(of(1, b"a").scale_encode(&mut long), Ok(10));
     assert_eq!(of(1, b"a").encode(&mut long), Ok(3));
     assert_eq!(long[..4], [1, 1, b'a', 0]);
 }
