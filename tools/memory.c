@@ -1,12 +1,12 @@
 /* Is loaded before a test program (LD_PRELOAD) and makes the allocation fail whose number is in the variable
- * REFUSE. At the end writes the number of allocations, and of those not freed, to the file COUNTS. */
+ * FAIL. At the end writes the number of allocations, and of those not freed, to the file COUNTS. */
 #define _GNU_SOURCE
 #include <dlfcn.h>
 #include <errno.h>
 #include <stdio.h>
 #include <stdlib.h>
 
-static unsigned long asked, refused;
+static unsigned long asked, failing;
 static long live;
 static void *(*its_malloc)(size_t);
 static void *(*its_realloc)(void *, size_t);
@@ -19,26 +19,26 @@ static void look_up(void) {
 }
 
 __attribute__((constructor)) static void begin(void) {
-    const char *number = getenv("REFUSE");
+    const char *number = getenv("FAIL");
     look_up();
     /* what was allocated before the program began is not its own */
     asked = 0;
     live = 0;
-    refused = number ? strtoul(number, 0, 10) : 0;
+    failing = number ? strtoul(number, 0, 10) : 0;
 }
 
-static int refuses(void) {
+static int fails(void) {
     asked += 1;
-    if (asked == refused)
+    if (asked == failing)
         errno = ENOMEM;
-    return asked == refused;
+    return asked == failing;
 }
 
 void *malloc(size_t size) {
     void *made;
     if (!its_malloc)
         look_up();
-    made = refuses() ? 0 : its_malloc(size);
+    made = fails() ? 0 : its_malloc(size);
     live += made != 0;
     return made;
 }
@@ -47,7 +47,7 @@ void *realloc(void *old, size_t size) {
     void *made;
     if (!its_realloc)
         look_up();
-    made = refuses() ? 0 : its_realloc(old, size);
+    made = fails() ? 0 : its_realloc(old, size);
     live += made != 0 && old == 0;
     return made;
 }
@@ -64,7 +64,7 @@ __attribute__((destructor)) static void end(void) {
     unsigned long its_asked = asked;
     long its_live = live;
     FILE *counts;
-    refused = 0; /* fopen allocates */
+    failing = 0; /* fopen allocates */
     counts = path ? fopen(path, "w") : 0;
     if (counts) {
         fprintf(counts, "%lu %ld\n", its_asked, its_live);

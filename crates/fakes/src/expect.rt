@@ -40,17 +40,17 @@ macro_rules! expect_bytes {
 /// The value of a result that is no error.
 #[macro_export]
 macro_rules! expect_ok {
-    ($rt:expr; $answer:expr $(,)?) => {
-        $answer.expect($rt, stringify!($answer))
+    ($rt:expr; $outcome:expr $(,)?) => {
+        $outcome.expect($rt, stringify!($outcome))
     };
 }
 
 /// Fails if a call did not fail with this error; prints the note's value too.
 #[macro_export]
 macro_rules! expect_rejected {
-    ($rt:expr; $answer:expr, $why:expr, $note:expr $(,)?) => {
-        $crate::expect::rejected($answer, $why, $note)
-            .expect($rt, concat!(stringify!($answer), ", ", stringify!($note)))
+    ($rt:expr; $outcome:expr, $why:expr, $note:expr $(,)?) => {
+        $crate::expect::rejected($outcome, $why, $note)
+            .expect($rt, concat!(stringify!($outcome), ", ", stringify!($note)))
     };
 }
 
@@ -90,9 +90,9 @@ pub fn equal_bytes<'a>(bytes: &'a [u8], wanted: &'a [u8]) -> Result<(), Unequal<
 
 /// Returns the expected error and the note if the call did not fail with that error.
 pub fn rejected<T, N: Debug + Drop>(
-    answer: &Result<T, Error>,
+    outcome: &Result<T, Error>,
     why: Refusal,
     note: N,
 ) -> Result<(), (Refusal, N)> {
-    holds(is_rejected(answer, why), (why, note))
+    holds(is_rejected(outcome, why), (why, note))
 }

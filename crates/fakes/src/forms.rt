@@ -178,8 +178,8 @@ impl Form {
         requires { S < 2 ^ 16 }
     {
         if borrowed {
-            let mut lent = w;
-            self.writes_to(items, &mut lent)
+            let mut reference = w;
+            self.writes_to(items, &mut reference)
         } else {
             self.writes_to(items, w)
         }
@@ -217,8 +217,8 @@ impl Form {
         requires { S < 2 ^ 16 }
     {
         if borrowed {
-            let mut lent = r;
-            self.reads_from(alloc, items, &mut lent)
+            let mut reference = r;
+            self.reads_from(alloc, items, &mut reference)
         } else {
             self.reads_from(alloc, items, r)
         }

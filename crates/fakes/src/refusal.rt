@@ -80,11 +80,11 @@ pub(crate) fn own_fault(why: Refusal) -> no_std_io::Error
 }
 
 /// Whether a call failed with this kind of error.
-pub fn is_rejected<T>(answer: &Result<T, Error>, why: Refusal) -> bool {
-    matches!(answer, Err(e) if Refusal::of(e) == Some(why))
+pub fn is_rejected<T>(outcome: &Result<T, Error>, why: Refusal) -> bool {
+    matches!(outcome, Err(e) if Refusal::of(e) == Some(why))
 }
 
 /// Whether a reader or a writer failed with this kind of error.
-pub fn is_failed<T>(answer: &Result<T, no_std_io::Error>, why: Refusal) -> bool {
-    matches!(answer, Err(e) if Refusal::of_fault(e) == Some(why))
+pub fn is_failed<T>(outcome: &Result<T, no_std_io::Error>, why: Refusal) -> bool {
+    matches!(outcome, Err(e) if Refusal::of_fault(e) == Some(why))
 }

@@ -37,8 +37,8 @@ fn two_of_a_stream(rt: HostRuntime) {
         expect_read(rt, alloc, &mut reader, wanted);
         expect_bytes!(rt; reader.left, &[7]);
         let mut reader = Cuts::new(&STREAM, most);
-        let refused = read_list::<4, _>(alloc, &mut reader, 3);
-        expect_rejected!(rt; &refused, Refusal::Insufficient, most);
+        let failed = read_list::<4, _>(alloc, &mut reader, 3);
+        expect_rejected!(rt; &failed, Refusal::Insufficient, most);
         check!(rt; reader.left.is_empty());
     }
 }
@@ -64,8 +64,8 @@ fn none_at_the_end_of_a_stream(rt: HostRuntime) {
         expect_two_and_end(rt, &mut Cuts::new(stream, most));
     }
     let mut left = &STREAM[6..];
-    let refused = Multihash::<4>::read_next(&mut left);
-    expect_rejected!(rt; &refused, Refusal::Insufficient, "code alone");
+    let failed = Multihash::<4>::read_next(&mut left);
+    expect_rejected!(rt; &failed, Refusal::Insufficient, "code alone");
     check!(rt; left.is_empty());
     let mut left = [0x80u8].as_slice();
     check!(rt; is_rejected(&varint::read_next(&mut left), Refusal::Insufficient));
@@ -109,13 +109,13 @@ fn expect_first<const S: usize>(
     requires { S < 2 ^ 16 }
 {
     let mut left = input;
-    let refused = read_list::<S, _>(alloc, &mut left, count);
-    expect_rejected!(rt; &refused, why, input);
+    let failed = read_list::<S, _>(alloc, &mut left, count);
+    expect_rejected!(rt; &failed, why, input);
     expect_bytes!(rt; left, wanted);
 }
 
 #[test]
-fn the_first_refusal_is_answered(rt: HostRuntime) {
+fn the_first_error_is_returned(rt: HostRuntime) {
     let alloc = rt.alloc();
     let rt = &rt;
     let why = Refusal::InvalidSize(2);

@@ -11,8 +11,8 @@ fn a_short_slice_is_left_as_it_is(rt: HostRuntime) {
     let rt = &rt;
     let mut left = [1u8, 2, 3].as_slice();
     let mut buf = [9u8; 4];
-    let refused = left.read_exact(&mut buf);
-    check!(rt; is_failed(&refused, Refusal::UnexpectedEof));
+    let failed = left.read_exact(&mut buf);
+    check!(rt; is_failed(&failed, Refusal::UnexpectedEof));
     expect_bytes!(rt; left, &[1, 2, 3]);
     expect_bytes!(rt; &buf, &[9, 9, 9, 9]);
 }
@@ -31,8 +31,8 @@ fn cuts_are_concatenated(rt: HostRuntime) {
     let rt = &rt;
     let mut reader = Cuts::new(&[1, 2, 3], 2);
     let mut buf = [0u8; 4];
-    let refused = reader.read_exact(&mut buf);
-    check!(rt; is_failed(&refused, Refusal::UnexpectedEof));
+    let failed = reader.read_exact(&mut buf);
+    check!(rt; is_failed(&failed, Refusal::UnexpectedEof));
     check!(rt; reader.left.is_empty());
     let mut reader = Cuts::new(&[1, 2, 3], 2);
     let mut buf = [0u8; 3];
@@ -44,8 +44,8 @@ fn cuts_are_concatenated(rt: HostRuntime) {
 fn a_failure_takes_nothing(rt: HostRuntime) {
     let rt = &rt;
     let mut reader = FailAt::new(Cuts::new(&[7], 1), 0, Refusal::LINK_DOWN);
-    let refused = read_one(&mut reader);
-    check!(rt; is_failed(&refused, Refusal::LINK_DOWN));
+    let failed = read_one(&mut reader);
+    check!(rt; is_failed(&failed, Refusal::LINK_DOWN));
     check_eq!(rt; read_one(&mut reader).ok(), Some(Some(7)));
     check_eq!(rt; read_one(&mut reader).ok(), Some(None));
     let mut reader = FailAt::new(Cuts::new(&[7], 1), 0, Refusal::OutOfMemory);
@@ -64,9 +64,9 @@ fn a_slice_is_filled(rt: HostRuntime) {
     let rt = &rt;
     let mut buffer = [0u8; 2];
     let mut left = buffer.as_mut_slice();
-    let refused = left.write_all(&[7, 8, 9]);
+    let failed = left.write_all(&[7, 8, 9]);
     let is_full = left.is_empty();
-    check!(rt; is_failed(&refused, Refusal::WriteZero));
+    check!(rt; is_failed(&failed, Refusal::WriteZero));
     check!(rt; is_full);
     expect_bytes!(rt; &buffer, &[7, 8]);
 }
@@ -76,8 +76,8 @@ fn drops_fill_a_drip(rt: HostRuntime) {
     let rt = &rt;
     let mut drip = expect_ok!(rt; Drip::new(rt.alloc(), 5, 2));
     check_eq!(rt; drip.write(&[1, 2, 3]).ok(), Some(2));
-    let refused = drip.write_all(&[3, 4, 5, 6]);
-    check!(rt; is_failed(&refused, Refusal::WriteZero));
+    let failed = drip.write_all(&[3, 4, 5, 6]);
+    check!(rt; is_failed(&failed, Refusal::WriteZero));
     expect_bytes!(rt; &drip.held, &[1, 2, 3, 4, 5]);
 }
 
@@ -94,9 +94,9 @@ fn a_vector_grows(rt: HostRuntime) {
 fn a_borrowed_writer_writes(rt: HostRuntime) {
     let rt = &rt;
     let mut held = Vec::new(rt.alloc());
-    let mut lent = &mut held;
-    check_eq!(rt; Write::write(&mut lent, &[1, 2]).ok(), Some(2));
-    check!(rt; write_two(&mut lent, &[3], &[4, 5]).is_ok());
+    let mut reference = &mut held;
+    check_eq!(rt; Write::write(&mut reference, &[1, 2]).ok(), Some(2));
+    check!(rt; write_two(&mut reference, &[3], &[4, 5]).is_ok());
     expect_bytes!(rt; &held, &[1, 2, 3, 4, 5]);
 }
 

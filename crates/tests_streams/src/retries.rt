@@ -35,8 +35,8 @@ fn with_no_try_left_the_failure_is_handed_on(rt: HostRuntime) {
             FailAt::new(Cuts::new(&STREAM, 1), calls, Refusal::LINK_DOWN),
             0,
         );
-        let refused = Multihash::<4>::read(&mut again);
-        expect_rejected!(rt; &refused, Refusal::LINK_DOWN, calls);
+        let failed = Multihash::<4>::read(&mut again);
+        expect_rejected!(rt; &failed, Refusal::LINK_DOWN, calls);
         check_eq!(rt; again.reader.asked, calls + 1);
     }
 }

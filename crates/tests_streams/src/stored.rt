@@ -89,8 +89,8 @@ fn what_was_read_is_hashed(rt: HostRuntime) {
     for n in 0..5 {
         let mut buffer = [0; 4];
         let mut reader = HashingReader::new(Cuts::new(b"abc", 1));
-        let answer = reader.read_exact(&mut buffer[..n]);
-        check_eq!(rt; is_failed(&answer, Refusal::UnexpectedEof), n == 4);
+        let outcome = reader.read_exact(&mut buffer[..n]);
+        check_eq!(rt; is_failed(&outcome, Refusal::UnexpectedEof), n == 4);
         let read = n.min(3);
         expect_bytes!(rt; &buffer[..read], &TEXT[..read]);
         check_eq!(rt; reader.hasher.count(), read as u64);
@@ -146,8 +146,8 @@ fn an_entry_is_written_by_five_calls(rt: HostRuntime) {
     check_eq!(rt; (writer.parts, writer.whole), (0, 5));
 }
 
-fn is_entry_rejected(answer: &Result<Entry<32>, EntryError>, why: Refusal) -> bool {
-    matches!(answer, Err(EntryError::Failed(e)) if Refusal::of(e) == Some(why))
+fn is_entry_rejected(outcome: &Result<Entry<32>, EntryError>, why: Refusal) -> bool {
+    matches!(outcome, Err(EntryError::Failed(e)) if Refusal::of(e) == Some(why))
 }
 
 #[test]
@@ -155,8 +155,8 @@ fn long_blocks_are_rejected(rt: HostRuntime) {
     let alloc = rt.alloc();
     let rt = &rt;
     let mut reader = Cuts::new(&LOG, 1);
-    let answer: Result<Entry<32>, EntryError> = read_entry(alloc, &mut reader, 2);
-    check!(rt; matches!(answer, Err(EntryError::TooLong(3))));
+    let outcome: Result<Entry<32>, EntryError> = read_entry(alloc, &mut reader, 2);
+    check!(rt; matches!(outcome, Err(EntryError::TooLong(3))));
     expect_bytes!(rt; reader.left, &LOG[HEAD..]);
 }
 
@@ -179,13 +179,13 @@ fn cut_entries_are_rejected(rt: HostRuntime) {
     let rt = &rt;
     for n in 0..FIRST {
         let mut reader = Cuts::new(&LOG[..n], 1);
-        let answer: Result<Entry<32>, EntryError> = read_entry(alloc, &mut reader, 3);
+        let outcome: Result<Entry<32>, EntryError> = read_entry(alloc, &mut reader, 3);
         let wanted = if n < 2 || n == HEAD - 1 {
             Refusal::Insufficient
         } else {
             Refusal::UnexpectedEof
         };
-        check!(rt; is_entry_rejected(&answer, wanted), n);
+        check!(rt; is_entry_rejected(&outcome, wanted), n);
         check!(rt; reader.left.is_empty(), n);
     }
 }
@@ -208,8 +208,8 @@ fn malformed_entries_are_rejected(rt: HostRuntime) {
     ];
     for (bytes, wanted, left) in rows {
         let mut reader = Cuts::new(bytes, 1);
-        let answer: Result<Entry<32>, EntryError> = read_entry(alloc, &mut reader, 3);
-        check!(rt; is_entry_rejected(&answer, wanted), bytes.len());
+        let outcome: Result<Entry<32>, EntryError> = read_entry(alloc, &mut reader, 3);
+        check!(rt; is_entry_rejected(&outcome, wanted), bytes.len());
         check_eq!(rt; reader.left.len(), left, bytes.len());
     }
 }
@@ -222,8 +222,8 @@ fn a_claimed_length_is_not_allocated(rt: HostRuntime) {
     let alloc = rt.alloc();
     let rt = &rt;
     let mut left = CLAIM.as_slice();
-    let answer: Result<Entry<32>, EntryError> = read_entry(alloc, &mut left, usize::MAX);
-    check!(rt; is_entry_rejected(&answer, Refusal::UnexpectedEof));
+    let outcome: Result<Entry<32>, EntryError> = read_entry(alloc, &mut left, usize::MAX);
+    check!(rt; is_entry_rejected(&outcome, Refusal::UnexpectedEof));
 }
 
 // The reader fails: what it returned before was consumed.
@@ -233,8 +233,8 @@ fn failures_of_the_reader_are_passed_on(rt: HostRuntime) {
     let rt = &rt;
     for n in 0..FIRST {
         let mut reader = FailAt::new(Cuts::new(&LOG, 1), n, Refusal::LINK_DOWN);
-        let answer: Result<Entry<32>, EntryError> = read_entry(alloc, &mut reader, 3);
-        check!(rt; is_entry_rejected(&answer, Refusal::LINK_DOWN), n);
+        let outcome: Result<Entry<32>, EntryError> = read_entry(alloc, &mut reader, 3);
+        check!(rt; is_entry_rejected(&outcome, Refusal::LINK_DOWN), n);
         expect_bytes!(rt; reader.cuts.left, &LOG[n..]);
     }
 }
@@ -246,16 +246,16 @@ fn failed_writes_append_a_prefix(rt: HostRuntime) {
     let hash = hash_of(b"one");
     for room in 0..FIRST {
         let mut full = expect_ok!(rt; Drip::new(alloc, room, 1));
-        let answer = write_entry(&hash, b"one", &mut full);
-        expect_rejected!(rt; &answer, Refusal::WriteZero, room);
+        let outcome = write_entry(&hash, b"one", &mut full);
+        expect_rejected!(rt; &outcome, Refusal::WriteZero, room);
         expect_bytes!(rt; &full.held, &LOG[..room]);
         let mut fails = FailWrite::new(
             expect_ok!(rt; Drip::new(alloc, FIRST, 1)),
             room,
             Refusal::OutOfMemory,
         );
-        let answer = write_entry(&hash, b"one", &mut fails);
-        expect_rejected!(rt; &answer, Refusal::OutOfMemory, room);
+        let outcome = write_entry(&hash, b"one", &mut fails);
+        expect_rejected!(rt; &outcome, Refusal::OutOfMemory, room);
         expect_bytes!(rt; &fails.drip.held, &LOG[..room]);
     }
 }

@@ -115,12 +115,12 @@ fn no_items_make_no_call(rt: HostRuntime) {
 // The call fails with this error after that many calls of the reader, the last of which met the end.
 fn expect_end<T>(
     rt: &impl Abort,
-    answer: &Result<T, Error>,
+    outcome: &Result<T, Error>,
     why: Refusal,
     reader: &Counts,
     asked: Calls,
 ) {
-    expect_rejected!(rt; answer, why, asked);
+    expect_rejected!(rt; outcome, why, asked);
     check_eq!(rt; reader.asked(), asked);
 }
 
@@ -133,8 +133,8 @@ fn expect_ends(rt: &impl Abort, alloc: Global, code: Code, digest: &[u8]) {
             if at < 20 || at % 127 == 0 {
                 let (asked, why) = form.requests_of_front(code, digest.len(), at);
                 let mut reader = Counts::new(bytes.get(..at).unwrap_or(&[]));
-                let answer = form.reads(alloc, &items, &mut reader, false);
-                expect_end(rt, &answer, why, &reader, asked);
+                let outcome = form.reads(alloc, &items, &mut reader, false);
+                expect_end(rt, &outcome, why, &reader, asked);
             }
         }
     }
@@ -158,9 +158,9 @@ fn expect_size_ends(rt: &impl Abort, alloc: Global, code: Code) {
         let mut input = expect_ok!(rt; vec![in alloc; 1u8]);
         check!(rt; input.write_all(size.get(..at).unwrap_or(&[])).is_ok());
         let mut reader = Counts::new(&input);
-        let answer = Multihash::<4>::read(&mut reader);
+        let outcome = Multihash::<4>::read(&mut reader);
         let asked = (at.saturating_add(2), 0, 0);
-        expect_end(rt, &answer, Refusal::Insufficient, &reader, asked);
+        expect_end(rt, &outcome, Refusal::Insufficient, &reader, asked);
     }
 }
 
@@ -174,11 +174,11 @@ fn a_reader_that_ended_within_a_size_is_not_asked_again(rt: HostRuntime) {
 // Bytes that are rejected after that many calls, after which this is left.
 fn expect_last(rt: &impl Abort, form: Form, input: &'static [u8], asked: Calls, left: &[u8]) {
     let mut reader = Counts::new(input);
-    let answer = match form {
+    let outcome = match form {
         Form::Scale => Multihash::<1>::scale_decode(&mut reader),
         _ => Multihash::<1>::read(&mut reader),
     };
-    check!(rt; answer.is_err(), input);
+    check!(rt; outcome.is_err(), input);
     check_eq!(rt; reader.asked(), asked, input);
     expect_bytes!(rt; reader.left, left);
 }
@@ -196,18 +196,18 @@ fn a_rejected_size_or_code_is_the_last_that_is_read(rt: HostRuntime) {
 }
 
 fn borrowed_read<R: Read>(r: &mut R, buf: &mut [u8]) -> Result<usize, no_std_io::Error> {
-    let mut lent = r;
-    Read::read(&mut lent, buf)
+    let mut reference = r;
+    Read::read(&mut reference, buf)
 }
 
 fn borrowed_read_exact<R: Read>(r: &mut R, buf: &mut [u8]) -> Result<(), no_std_io::Error> {
-    let mut lent = r;
-    Read::read_exact(&mut lent, buf)
+    let mut reference = r;
+    Read::read_exact(&mut reference, buf)
 }
 
 fn borrowed_write<W: Write>(w: &mut W, buf: &[u8]) -> Result<usize, no_std_io::Error> {
-    let mut lent = w;
-    Write::write(&mut lent, buf)
+    let mut reference = w;
+    Write::write(&mut reference, buf)
 }
 
 // What is borrowed is called once, for all of the bytes.

@@ -29,8 +29,8 @@ fn expect_reader_fault<const S: usize>(
 {
     for borrowed in [false, true] {
         let mut reader = FailAt::new(Cuts::new(input, 1), at, why);
-        let answer = form.reads(alloc, items, &mut reader, borrowed);
-        expect_rejected!(rt; &answer, why, (form, at));
+        let outcome = form.reads(alloc, items, &mut reader, borrowed);
+        expect_rejected!(rt; &outcome, why, (form, at));
         expect_bytes!(rt; reader.cuts.left, input.get(at..).unwrap_or(&[]));
         check_eq!(rt; reader.asked, at.saturating_add(1), (form, at));
     }
@@ -58,8 +58,8 @@ fn expect_writer_fault<const S: usize>(
     let at = front.len();
     for borrowed in [false, true] {
         let mut writer = failing_writer(rt, alloc, at, why);
-        let answer = form.writes(items, &mut writer, borrowed);
-        expect_rejected!(rt; &answer, why, (form, at));
+        let outcome = form.writes(items, &mut writer, borrowed);
+        expect_rejected!(rt; &outcome, why, (form, at));
         expect_bytes!(rt; &writer.drip.held, front);
         check_eq!(rt; writer.asked, at.saturating_add(1), (form, at));
     }
@@ -168,8 +168,8 @@ fn expect_request_fault<const S: usize>(
     let rest = input.get(given_before(form, calls)..).unwrap_or(&[]);
     for borrowed in [false, true] {
         let mut reader = Counts::failing(input, calls, why);
-        let answer = form.reads(alloc, items, &mut reader, borrowed);
-        expect_rejected!(rt; &answer, why, (form, calls));
+        let outcome = form.reads(alloc, items, &mut reader, borrowed);
+        expect_rejected!(rt; &outcome, why, (form, calls));
         expect_bytes!(rt; reader.left, rest);
         let (single, others, whole) = reader.asked();
         let asked = single.saturating_add(others).saturating_add(whole);
@@ -190,8 +190,8 @@ fn expect_call_fault<const S: usize>(
 {
     for why in [Refusal::DISK_GONE, Refusal::OutOfMemory] {
         let mut writer = CountsWrites::failing(alloc, calls, why);
-        let answer = form.writes(items, &mut writer, false);
-        expect_rejected!(rt; &answer, why, (form, calls));
+        let outcome = form.writes(items, &mut writer, false);
+        expect_rejected!(rt; &outcome, why, (form, calls));
         expect_bytes!(rt; &writer.held, front);
         check_eq!(rt; (writer.parts, writer.whole), (0, calls.saturating_add(1)), form);
     }
@@ -241,14 +241,14 @@ fn each_call_of_each_length_fails(rt: HostRuntime) {
 fn expect_long_fault(rt: &impl Abort, alloc: Global, bytes: &[u8], at: usize) {
     for why in [Refusal::LINK_DOWN, Refusal::OutOfMemory] {
         let mut reader = FailAt::new(Cuts::new(bytes, 1), at, why);
-        let answer = reader.read_exact(&mut [0; 600]);
-        check!(rt; is_failed(&answer, why), (why, at));
+        let outcome = reader.read_exact(&mut [0; 600]);
+        check!(rt; is_failed(&outcome, why), (why, at));
         expect_bytes!(rt; reader.cuts.left, bytes.get(at..).unwrap_or(&[]));
     }
     for why in [Refusal::DISK_GONE, Refusal::OutOfMemory, Refusal::WriteZero] {
         let mut writer = failing_writer(rt, alloc, at, why);
-        let answer = writer.write_all(bytes);
-        check!(rt; is_failed(&answer, why), (why, at));
+        let outcome = writer.write_all(bytes);
+        check!(rt; is_failed(&outcome, why), (why, at));
         expect_bytes!(rt; &writer.drip.held, bytes.get(..at).unwrap_or(&[]));
     }
 }

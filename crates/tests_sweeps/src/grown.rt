@@ -131,8 +131,8 @@ fn each_count_is_read_and_written(rt: HostRuntime) {
 fn expect_places<const S: usize>(rt: &impl Abort, alloc: Global, count: usize)
     requires { S < 2 ^ 16 }
 {
-    let answer = read_list::<S, _>(alloc, &mut [].as_slice(), count);
-    check!(rt; is_rejected(&answer, Refusal::Insufficient), count);
+    let outcome = read_list::<S, _>(alloc, &mut [].as_slice(), count);
+    check!(rt; is_rejected(&outcome, Refusal::Insufficient), count);
 }
 
 #[test]
@@ -147,15 +147,15 @@ fn each_count_has_places(rt: HostRuntime) {
 // changed.
 fn count_growths(rt: &impl Abort, alloc: Global, m: &Multihash<255>) -> usize {
     let mut held = Vec::new(alloc);
-    let mut lent = Vec::new(alloc);
+    let mut reference = Vec::new(alloc);
     let mut scale = Vec::new(alloc);
     let mut growths = 0usize;
     for _ in 0..500 {
-        let before = (held.capacity(), lent.capacity(), scale.capacity());
+        let before = (held.capacity(), reference.capacity(), scale.capacity());
         check!(rt; m.write(&mut held).is_ok());
-        check!(rt; m.write(&mut &mut lent).is_ok());
+        check!(rt; m.write(&mut &mut reference).is_ok());
         check!(rt; m.scale_encode(&mut scale).is_ok());
-        if (held.capacity(), lent.capacity(), scale.capacity()) != before {
+        if (held.capacity(), reference.capacity(), scale.capacity()) != before {
             growths = growths.saturating_add(1);
         }
     }

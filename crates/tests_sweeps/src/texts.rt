@@ -26,11 +26,11 @@ fn expect_shown<D: Debug>(rt: &impl Abort, alloc: Global, shown: &D, wanted: &st
 fn expect_fault(
     rt: &impl Abort,
     alloc: Global,
-    answer: &Result<(), no_std_io::Error>,
+    outcome: &Result<(), no_std_io::Error>,
     kind: &str,
     text: &str,
 ) {
-    match answer {
+    match outcome {
         Ok(()) => check!(rt; false, text),
         Err(e) => {
             check_eq!(rt; e.text(), text);
@@ -38,7 +38,7 @@ fn expect_fault(
         }
     }
     let wanted = format!(in alloc; "Err(Error {{ kind: {kind}, text: {text:?} }})");
-    expect_shown(rt, alloc, answer, expect_ok!(rt; wanted).as_str());
+    expect_shown(rt, alloc, outcome, expect_ok!(rt; wanted).as_str());
 }
 
 #[test]
@@ -61,8 +61,8 @@ fn faults_print_their_texts(rt: HostRuntime) {
         "WriteZero",
         "failed to write whole buffer",
     );
-    let refused = Err(no_std_io::Error::out_of_memory());
-    expect_fault(rt, alloc, &refused, "OutOfMemory", "out of memory");
+    let failed = Err(no_std_io::Error::out_of_memory());
+    expect_fault(rt, alloc, &failed, "OutOfMemory", "out of memory");
     let failed = Err(no_std_io::Error::other("link down"));
     expect_fault(rt, alloc, &failed, "Other", "link down");
     expect_fault(rt, alloc, &Err(no_std_io::Error::other("")), "Other", "");
@@ -72,11 +72,11 @@ fn faults_print_their_texts(rt: HostRuntime) {
 fn expect_error<T>(
     rt: &impl Abort,
     alloc: Global,
-    answer: &Result<T, Error>,
+    outcome: &Result<T, Error>,
     kind: &str,
     text: &str,
 ) {
-    match answer {
+    match outcome {
         Ok(_) => check!(rt; false, text),
         Err(e) => {
             expect_text(rt, alloc, e, text);
@@ -119,33 +119,33 @@ fn errors_print_their_texts(rt: HostRuntime) {
 fn expect_number<T>(
     rt: &impl Abort,
     alloc: Global,
-    answer: &Result<T, Error>,
+    outcome: &Result<T, Error>,
     words: (&str, &str),
     number: u64,
 ) {
     let (word, kind) = words;
     let text = expect_ok!(rt; format!(in alloc; "Invalid multihash {word} {number}."));
     let kind = expect_ok!(rt; format!(in alloc; "{kind}({number})"));
-    expect_error(rt, alloc, answer, kind.as_str(), text.as_str());
+    expect_error(rt, alloc, outcome, kind.as_str(), text.as_str());
 }
 
 // A head with such a size, and a code that many above 2^63. A size of 0 is never rejected.
 fn expect_numbers(rt: &impl Abort, alloc: Global, number: u64) {
     if number > LARGEST_CODE {
-        let answer = Multihash::<0>::wrap(number, &[]);
-        expect_number(rt, alloc, &answer, ("code", "InvalidCode"), number);
+        let outcome = Multihash::<0>::wrap(number, &[]);
+        expect_number(rt, alloc, &outcome, ("code", "InvalidCode"), number);
         return;
     }
     let code = number.wrapping_add(1 << 63);
-    let answer = Multihash::<0>::wrap(code, &[]);
-    expect_number(rt, alloc, &answer, ("code", "InvalidCode"), code);
+    let outcome = Multihash::<0>::wrap(code, &[]);
+    expect_number(rt, alloc, &outcome, ("code", "InvalidCode"), code);
     if number == 0 {
         return;
     }
     let mut input = expect_ok!(rt; vec![in alloc; 0u8]);
     check!(rt; varint::write(number, &mut input).is_ok(), number);
-    let answer = Multihash::<0>::from_bytes(&input);
-    expect_number(rt, alloc, &answer, ("size", "InvalidSize"), number);
+    let outcome = Multihash::<0>::from_bytes(&input);
+    expect_number(rt, alloc, &outcome, ("size", "InvalidSize"), number);
 }
 
 fn expect_numbers_about(rt: &impl Abort, alloc: Global, number: u64) {

@@ -14,10 +14,10 @@ use std::process::Abort;
 const PLACES: usize = 533;
 
 // Whether that many bytes were written, or the writer was full if they do not fit.
-fn is_written(answer: &Result<usize, Error>, len: usize, room: usize) -> bool {
-    match answer {
+fn is_written(outcome: &Result<usize, Error>, len: usize, room: usize) -> bool {
+    match outcome {
         Ok(n) => *n == len && len <= room,
-        Err(_) => room < len && is_rejected(answer, Refusal::WriteZero),
+        Err(_) => room < len && is_rejected(outcome, Refusal::WriteZero),
     }
 }
 
@@ -41,9 +41,9 @@ fn expect_in_slice<const S: usize>(
     for borrowed in [false, true] {
         let mut buffer = [0u8; PLACES];
         let mut left = &mut buffer[..room];
-        let answer = form.writes(items, &mut left, borrowed);
+        let outcome = form.writes(items, &mut left, borrowed);
         check_eq!(rt; left.len(), room.saturating_sub(wanted.len()), form);
-        check!(rt; is_written(&answer, wanted.len(), room), form);
+        check!(rt; is_written(&outcome, wanted.len(), room), form);
         expect_front(rt, &buffer[..room], wanted);
     }
 }
@@ -60,9 +60,9 @@ fn expect_in_slice_writer<const S: usize>(
     let room = room.min(PLACES);
     let mut buffer = [0u8; PLACES];
     let mut writer = SliceWriter::new(&mut buffer[..room]);
-    let answer = form.writes(items, &mut writer, false);
+    let outcome = form.writes(items, &mut writer, false);
     check_eq!(rt; writer.filled, room.min(wanted.len()), form);
-    check!(rt; is_written(&answer, wanted.len(), room), form);
+    check!(rt; is_written(&outcome, wanted.len(), room), form);
     expect_front(rt, &buffer[..room], wanted);
 }
 
@@ -78,8 +78,8 @@ fn expect_in_vectors<const S: usize>(
 {
     for borrowed in [false, true] {
         let mut held = Vec::new(alloc);
-        let answer = form.writes(items, &mut held, borrowed);
-        check!(rt; is_written(&answer, wanted.len(), wanted.len()), form);
+        let outcome = form.writes(items, &mut held, borrowed);
+        check!(rt; is_written(&outcome, wanted.len(), wanted.len()), form);
         expect_bytes!(rt; &held, wanted);
     }
 }

@@ -19,7 +19,7 @@ const REFUSALS: [Refusal; 11] = [
 ];
 
 // A result for each of these errors, in this order, and a success.
-fn answers() -> [Result<Multihash<4>, Error>; 12] {
+fn outcomes() -> [Result<Multihash<4>, Error>; 12] {
     [
         Multihash::from_bytes(&[]),
         Multihash::from_bytes(&[255; 9]),
@@ -37,11 +37,11 @@ fn answers() -> [Result<Multihash<4>, Error>; 12] {
 }
 
 #[test]
-fn a_refusal_is_no_other(rt: HostRuntime) {
+fn an_error_is_no_other(rt: HostRuntime) {
     let rt = &rt;
-    for (row, answer) in answers().iter().enumerate() {
+    for (row, outcome) in outcomes().iter().enumerate() {
         for (column, why) in REFUSALS.iter().enumerate() {
-            check_eq!(rt; is_rejected(answer, *why), row == column, (row, column));
+            check_eq!(rt; is_rejected(outcome, *why), row == column, (row, column));
         }
     }
 }
@@ -67,10 +67,10 @@ fn failures() -> [(Result<(), no_std_io::Error>, Refusal); 6] {
 #[test]
 fn a_failure_is_no_other(rt: HostRuntime) {
     let rt = &rt;
-    for (row, (answer, _)) in failures().iter().enumerate() {
+    for (row, (outcome, _)) in failures().iter().enumerate() {
         for (column, (_, why)) in failures().iter().enumerate() {
-            let wanted = row == column && answer.is_err();
-            check_eq!(rt; is_failed(answer, *why), wanted, (row, column));
+            let wanted = row == column && outcome.is_err();
+            check_eq!(rt; is_failed(outcome, *why), wanted, (row, column));
         }
     }
 }

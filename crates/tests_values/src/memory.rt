@@ -1,5 +1,5 @@
-//! Failing allocations. A test whose name begins with `refused` passes if no allocation fails. If one does,
-//! it checks what is left then, and fails with `REFUSED`: `tools/memory` makes each allocation fail
+//! Failing allocations. A test whose name begins with `allocating` passes if no allocation fails. If one does,
+//! it checks what is left then, and fails with `FAILED`: `tools/memory` makes each allocation fail
 //! in turn, and counts them.
 ghost use Rattle.std.specs.Prelude.{◌<◌, ◌^◌};
 
@@ -17,16 +17,16 @@ use std::test::Fail;
 use storage::content::hash_of;
 use storage::merkle::{root_and_path, verify_path};
 
-const REFUSED: &str = "memory was refused";
+const FAILED: &str = "an allocation failed";
 
 // The value of a result that is not out of memory.
-fn unless_rejected<T>(rt: &impl Abort, answer: Result<T, Error>) -> Result<T, Fail> {
-    match answer {
-        Ok(answer) => Ok(answer),
+fn unless_rejected<T>(rt: &impl Abort, outcome: Result<T, Error>) -> Result<T, Fail> {
+    match outcome {
+        Ok(outcome) => Ok(outcome),
         Err(e) => {
             check_eq!(rt; Refusal::of(&e), Some(Refusal::OutOfMemory));
             check!(rt; matches!(e.io(), Some(fault) if fault.text() == "out of memory"));
-            Err(REFUSED)?
+            Err(FAILED)?
         }
     }
 }
@@ -60,7 +60,7 @@ fn expect_forms_at<const S: usize>(
 
 // Sizes about powers of two, the longest, and those of usual digests.
 #[test]
-fn refused_forms_at_each_size(rt: HostRuntime) -> Result<(), Fail> {
+fn allocating_forms_at_each_size(rt: HostRuntime) -> Result<(), Fail> {
     let alloc = rt.alloc();
     expect_forms_at::<0>(&rt, alloc, 300, &[])?;
     expect_forms_at::<1>(&rt, alloc, 300, &[65; 1])?;
@@ -80,7 +80,7 @@ fn refused_forms_at_each_size(rt: HostRuntime) -> Result<(), Fail> {
 const USUAL: [u64; 3] = [18, 30, LARGEST_CODE];
 
 #[test]
-fn refused_forms_of_usual_digests(rt: HostRuntime) -> Result<(), Fail> {
+fn allocating_forms_of_usual_digests(rt: HostRuntime) -> Result<(), Fail> {
     for code in USUAL {
         expect_forms_at::<32>(&rt, rt.alloc(), code, &[65; 32])?;
         expect_forms_at::<64>(&rt, rt.alloc(), code, &[65; 32])?;
@@ -90,13 +90,13 @@ fn refused_forms_of_usual_digests(rt: HostRuntime) -> Result<(), Fail> {
 }
 
 #[test]
-fn refused_read_list(rt: HostRuntime) -> Result<(), Fail> {
+fn allocating_read_list(rt: HostRuntime) -> Result<(), Fail> {
     let mut left = STREAM.as_slice();
-    let answer = read_list::<4, _>(rt.alloc(), &mut left, 2);
-    if answer.is_err() {
+    let outcome = read_list::<4, _>(rt.alloc(), &mut left, 2);
+    if outcome.is_err() {
         expect_bytes!(&rt; left, &STREAM);
     }
-    let list = unless_rejected(&rt, answer)?;
+    let list = unless_rejected(&rt, outcome)?;
     check!(&rt; list.as_slice() == two()?.as_slice());
     expect_bytes!(&rt; left, &[7]);
     Ok(())
@@ -106,15 +106,15 @@ fn refused_read_list(rt: HostRuntime) -> Result<(), Fail> {
 fn expect_list_of<const S: usize>(rt: &impl Abort, alloc: Global, count: usize) -> Result<(), Fail>
     requires { S < 2 ^ 16 }
 {
-    let answer = read_list::<S, _>(alloc, &mut [0u8, 0].as_slice(), count);
-    if !is_rejected(&answer, Refusal::Insufficient) {
-        unless_rejected(rt, answer)?;
+    let outcome = read_list::<S, _>(alloc, &mut [0u8, 0].as_slice(), count);
+    if !is_rejected(&outcome, Refusal::Insufficient) {
+        unless_rejected(rt, outcome)?;
     }
     Ok(())
 }
 
 #[test]
-fn refused_read_of_lists(rt: HostRuntime) -> Result<(), Fail> {
+fn allocating_read_of_lists(rt: HostRuntime) -> Result<(), Fail> {
     for count in [1, 2, 3, 4, 5, 6, 32, 33] {
         expect_list_of::<32>(&rt, rt.alloc(), count)?;
     }
@@ -128,8 +128,8 @@ fn refused_read_of_lists(rt: HostRuntime) -> Result<(), Fail> {
 }
 
 // If an allocation failed, the vector has a strict prefix, and the rest can be appended.
-fn expect_appended<R: Abort>(rt: &R, mut held: Vec<u8>, refused: bool, wanted: &[u8]) {
-    if refused {
+fn expect_appended<R: Abort>(rt: &R, mut held: Vec<u8>, failed: bool, wanted: &[u8]) {
+    if failed {
         check!(rt; held.len() < wanted.len());
         check_eq!(rt; Some(held.as_slice()), wanted.get(..held.len()));
         let rest = wanted.get(held.len()..).unwrap_or(&[]);
@@ -139,42 +139,42 @@ fn expect_appended<R: Abort>(rt: &R, mut held: Vec<u8>, refused: bool, wanted: &
 }
 
 #[test]
-fn refused_write(rt: HostRuntime) -> Result<(), Fail> {
+fn allocating_write(rt: HostRuntime) -> Result<(), Fail> {
     let mut held = Vec::new(rt.alloc());
-    let answer = long()?.write(&mut held);
+    let outcome = long()?.write(&mut held);
     let mut wanted = [65u8; 204];
     wanted[..4].copy_from_slice(&[172, 2, 200, 1]);
-    expect_appended(&rt, held, answer.is_err(), &wanted);
-    check_eq!(&rt; unless_rejected(&rt, answer)?, 204);
+    expect_appended(&rt, held, outcome.is_err(), &wanted);
+    check_eq!(&rt; unless_rejected(&rt, outcome)?, 204);
     Ok(())
 }
 
 #[test]
-fn refused_scale_encode(rt: HostRuntime) -> Result<(), Fail> {
+fn allocating_scale_encode(rt: HostRuntime) -> Result<(), Fail> {
     let mut held = Vec::new(rt.alloc());
-    let answer = long()?.scale_encode(&mut held);
+    let outcome = long()?.scale_encode(&mut held);
     let mut wanted = [65u8; 209];
     wanted[..9].copy_from_slice(&[44, 1, 0, 0, 0, 0, 0, 0, 200]);
-    expect_appended(&rt, held, answer.is_err(), &wanted);
-    check_eq!(&rt; unless_rejected(&rt, answer)?, 209);
+    expect_appended(&rt, held, outcome.is_err(), &wanted);
+    check_eq!(&rt; unless_rejected(&rt, outcome)?, 209);
     Ok(())
 }
 
 #[test]
-fn refused_write_of_a_long_list(rt: HostRuntime) -> Result<(), Fail> {
+fn allocating_write_of_a_long_list(rt: HostRuntime) -> Result<(), Fail> {
     let item = long()?;
     let mut wanted = [65u8; 408];
     wanted[..4].copy_from_slice(&[172, 2, 200, 1]);
     wanted[204..208].copy_from_slice(&[172, 2, 200, 1]);
     let mut held = Vec::new(rt.alloc());
-    let answer = write_list(&[item, item], &mut held);
-    expect_appended(&rt, held, answer.is_err(), &wanted);
-    unless_rejected(&rt, answer)
+    let outcome = write_list(&[item, item], &mut held);
+    expect_appended(&rt, held, outcome.is_err(), &wanted);
+    unless_rejected(&rt, outcome)
 }
 
 // With enough capacity nothing is allocated: the one allocation is that of the capacity.
 #[test]
-fn refused_room_alone(rt: HostRuntime) -> Result<(), Fail> {
+fn allocating_room_alone(rt: HostRuntime) -> Result<(), Fail> {
     let room = Vec::with_capacity(rt.alloc(), 8192).map_err(Error::from);
     let mut held = unless_rejected(&rt, room)?;
     for len in [0usize, 1, 31, 32, 33, 64, 127, 128, 200, 255] {
@@ -190,26 +190,26 @@ fn refused_room_alone(rt: HostRuntime) -> Result<(), Fail> {
 
 // A vector whose allocation fails is unchanged, by both calls of a writer.
 #[test]
-fn refused_write_of_a_vector(rt: HostRuntime) -> Result<(), Fail> {
+fn allocating_write_of_a_vector(rt: HostRuntime) -> Result<(), Fail> {
     let mut held = Vec::new(rt.alloc());
-    let answer = held.write(&[1, 2, 3]);
-    if answer.is_err() {
+    let outcome = held.write(&[1, 2, 3]);
+    if outcome.is_err() {
         check!(&rt; held.is_empty() && held.capacity() == 0);
         check!(&rt; held.write_all(&[1, 2, 3]).is_ok());
         check_eq!(&rt; held.as_slice(), [1, 2, 3].as_slice());
     }
-    check_eq!(&rt; unless_rejected(&rt, answer.map_err(Error::from))?, 3);
+    check_eq!(&rt; unless_rejected(&rt, outcome.map_err(Error::from))?, 3);
     check_eq!(&rt; held.as_slice(), [1, 2, 3].as_slice());
     Ok(())
 }
 
 // So is one under `?` after a push: the error is the library's.
 #[test]
-fn refused_push(rt: HostRuntime) -> Result<(), Fail> {
+fn allocating_push(rt: HostRuntime) -> Result<(), Fail> {
     let mut held = Vec::new(rt.alloc());
-    let answer = keep(&mut held, long()?);
-    check_eq!(&rt; held.len(), usize::from(answer.is_ok()));
-    unless_rejected(&rt, answer)
+    let outcome = keep(&mut held, long()?);
+    check_eq!(&rt; held.len(), usize::from(outcome.is_ok()));
+    unless_rejected(&rt, outcome)
 }
 
 fn keep(held: &mut Vec<Multihash<200>>, multihash: Multihash<200>) -> Result<(), Error> {
@@ -218,11 +218,11 @@ fn keep(held: &mut Vec<Multihash<200>>, multihash: Multihash<200>) -> Result<(),
 }
 
 #[test]
-fn refused_root_and_path(rt: HostRuntime) -> Result<(), Fail> {
+fn allocating_root_and_path(rt: HostRuntime) -> Result<(), Fail> {
     let first = hash_of(b"a");
     let leaves = [first, hash_of(b"b"), hash_of(b"c")];
-    let answer = root_and_path(rt.alloc(), &leaves, 0).map_err(Error::from);
-    let (root, path) = unless_rejected(&rt, answer)?;
+    let outcome = root_and_path(rt.alloc(), &leaves, 0).map_err(Error::from);
+    let (root, path) = unless_rejected(&rt, outcome)?;
     check_eq!(&rt; path.len(), 2);
     check!(&rt; verify_path(&first, &path, &root));
     Ok(())
@@ -232,8 +232,8 @@ fn refused_root_and_path(rt: HostRuntime) -> Result<(), Fail> {
 fn too_many_places_are_rejected(rt: HostRuntime) -> Result<(), Fail> {
     for count in [usize::MAX, usize::MAX / 2] {
         let mut left = STREAM.as_slice();
-        let refused = read_list::<4, _>(rt.alloc(), &mut left, count);
-        check!(&rt; is_rejected(&refused, Refusal::OutOfMemory));
+        let failed = read_list::<4, _>(rt.alloc(), &mut left, count);
+        check!(&rt; is_rejected(&failed, Refusal::OutOfMemory));
         expect_bytes!(&rt; left, &STREAM);
     }
     Ok(())
@@ -339,6 +339,6 @@ fn errors_need_no_memory(rt: HostRuntime) {
     let empty = Value::Array(Vec::new(rt.alloc()));
     check!(&rt; is_rejected(&Multihash::<4>::from_value(&empty), Refusal::Insufficient));
     check!(&rt; is_rejected(&Multihash::<4>::from_value(&Value::Null), Refusal::NotBytes));
-    let refused = Multihash::<4>::wrap(u64::MAX, &[]);
-    check!(&rt; is_rejected(&refused, Refusal::InvalidCode(u64::MAX)));
+    let failed = Multihash::<4>::wrap(u64::MAX, &[]);
+    check!(&rt; is_rejected(&failed, Refusal::InvalidCode(u64::MAX)));
 }

@@ -46,12 +46,12 @@ fn pairs_are_rejected(rt: HostRuntime) {
 fn a_digest_is_incomplete(rt: HostRuntime) {
     let rt = &rt;
     let mut left = [0u8, 2, 9].as_slice();
-    let refused = Multihash::<2>::read(&mut left);
-    expect_rejected!(rt; &refused, Refusal::UnexpectedEof, 2);
+    let failed = Multihash::<2>::read(&mut left);
+    expect_rejected!(rt; &failed, Refusal::UnexpectedEof, 2);
     expect_bytes!(rt; left, &[9]);
     let mut cuts = Cuts::new(&[0, 2, 9], 1);
-    let refused = Multihash::<2>::read(&mut cuts);
-    expect_rejected!(rt; &refused, Refusal::UnexpectedEof, 3);
+    let failed = Multihash::<2>::read(&mut cuts);
+    expect_rejected!(rt; &failed, Refusal::UnexpectedEof, 3);
     check!(rt; cuts.left.is_empty());
 }
 
