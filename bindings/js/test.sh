@@ -37,7 +37,7 @@ in_node() {
   node "$here/test/node.js" "$@"
 }
 
-# The tests find exactly that many faults.
+# The tests find exactly that many wrong checks.
 finds() {
   local faults=$1
   shift

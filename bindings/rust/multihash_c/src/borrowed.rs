@@ -39,7 +39,7 @@ impl<'a> MultihashRef<'a> {
     ///
     /// # Errors
     ///
-    /// Each but [`Error::InvalidCode`] and [`Error::NoRoom`].
+    /// Any variant except [`Error::InvalidCode`] and [`Error::NoRoom`].
     #[inline]
     pub fn from_bytes(bytes: &'a [u8]) -> Result<Self> {
         decoded(bytes, &ffi::from_bytes(bytes))
@@ -50,8 +50,8 @@ impl<'a> MultihashRef<'a> {
     ///
     /// # Errors
     ///
-    /// Each but [`Error::InvalidCode`] and [`Error::NoRoom`]. `bytes` is then advanced past the malformed
-    /// varint, past both varints of a digest that is too long or truncated, or to its end.
+    /// Any variant except [`Error::InvalidCode`] and [`Error::NoRoom`]. `bytes` is then advanced past the
+    /// malformed varint, past both varints of a digest that is too long or truncated, or to its end.
     #[inline]
     pub fn read_limit(bytes: &mut &'a [u8], limit: usize) -> Result<Self> {
         let found = ffi::read_limit(bytes, limit);

@@ -23,7 +23,7 @@ pub const LENGTH: usize = 9;
 /// # Errors
 ///
 /// [`Error::Insufficient`], [`Error::Overflow`] or [`Error::NotMinimal`]. `bytes` is then advanced past the
-/// byte that shows it, or to its end.
+/// byte that determines the error, or to its end.
 pub fn read(bytes: &mut &[u8]) -> Result<u64> {
     // The library decodes two varints: the first is here the byte 0 before the one that is asked for.
     let mut two = [0; 1 + LENGTH];
