@@ -11,6 +11,10 @@ use std::fmt;
 pub const SHA2_256: u64 = 0x12;
 
 /// Returns the content's multihash, whose digest has 32 bytes.
+///
+/// # Requires
+///
+/// The capacity `S` is at least 32.
 pub fn hash_of<const S: usize>(content: &[u8]) -> Multihash<S>
     requires { 32 ≤ S }
     ensures { pair_of result ≡ content_pair content.now }

@@ -21,7 +21,9 @@ const CHUNK: usize = 4096;
 /// A block and its multihash.
 #[derive(Debug, Drop)]
 pub struct Entry<const S: usize> {
+    /// The multihash that is written before the block.
     pub hash: Multihash<S>,
+    /// The block's bytes.
     pub block: Vec<u8>,
 }
 

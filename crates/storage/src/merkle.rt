@@ -132,6 +132,10 @@ fn step_at(nodes: &[Multihash<32>], index: usize) -> Option<Step>
 
 /// Returns the root over some leaves, and the path to it from the leaf at `index`.
 ///
+/// # Requires
+///
+/// `index` is less than the number of leaves, so there is at least one.
+///
 /// # Errors
 ///
 /// [`AllocError`] when out of memory.

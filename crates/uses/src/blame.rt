@@ -37,8 +37,8 @@ pub fn reader_failed<const S: usize, R: Read>(r: &mut R) -> (Option<Multihash<S>
     }
 }
 
-/// The result of `read` for a slice, and what it leaves. If the digest is too long for the capacity, the
-/// result is its size, and the digest is left, so a caller can skip it. If the digest is truncated, both
+/// Returns the result of `read` for a slice, and what it leaves. If the digest is too long for the capacity,
+/// the error has its length, and the digest is left, so a caller can skip it. If the digest is truncated, both
 /// varints are consumed, and an unspecified part of the digest.
 pub fn read_slice<const S: usize>(stream: &[u8]) -> (Result<Multihash<S>, Error>, &[u8])
     ensures verdict { (v : Verdict) × HasVerdict S stream.now v × IsResultOf result.0 v }
@@ -56,8 +56,8 @@ pub fn read_slice<const S: usize>(stream: &[u8]) -> (Result<Multihash<S>, Error>
     (answer, left)
 }
 
-/// The same for the SCALE form. If the code is out of range only its eight bytes are consumed, and the size
-/// is left with all that follows it.
+/// Returns the result of `scale_decode` for a slice, and what it leaves. If the code is out of range only its
+/// eight bytes are consumed, and the size is left with all that follows it.
 pub fn decode_slice<const S: usize>(stream: &[u8]) -> (Result<Multihash<S>, Error>, &[u8])
     ensures verdict { (v : Verdict) × HasScaleVerdict S stream.now v × IsResultOf result.0 v }
     ensures ok { IfOk result.0 (λ m. (bytes : List ℕ) × IsScale (pair_of m) bytes
@@ -73,7 +73,11 @@ pub fn decode_slice<const S: usize>(stream: &[u8]) -> (Result<Multihash<S>, Erro
     (decoded, left)
 }
 
-/// Whether more input could change the result of `read`.
+/// Returns whether more input could change the result of `read`.
+///
+/// # Requires
+///
+/// The capacity `S` is below 65536.
 pub fn wants_more<const S: usize>(input: &[u8]) -> bool
     requires { S < 65536 }
     ensures { IsTrue result ↔ ¬ (Settles S input.now) }

@@ -211,6 +211,10 @@ pub fn of_listed_bytes<const S: usize>(bytes: &[u8]) -> Result<Multihash<S>, Err
 /// Whether two JSON values list the same multihash, each with its own capacity: exactly if they are the same
 /// value.
 ///
+/// # Requires
+///
+/// Both capacities are below 65536.
+///
 /// # Errors
 ///
 /// Those of [`Multihash::from_value`], for the first value that is rejected.
