@@ -4,7 +4,7 @@ use Rattle.multihash.proofs.OutcomeLemmas.{passed_on}
 use Rattle.mh_show.specs.declared.run.RunError.{RunError}
 use Rattle.mh_show.specs.declared.run.RunError.TheVariants.{NotShown, Output}
 use Rattle.mh_show.specs.declared.show.ShowError.{ShowError}
-use Rattle.mh_show.specs.declared.show.ShowError.TheVariants.{NotHex, Refused, Memory}
+use Rattle.mh_show.specs.declared.show.ShowError.TheVariants.{NotHex, Rejected, Memory}
 use Rattle.mh_show.specs.Shown.{IsLine, NamesBytes, IsRejectedAs, ShowsAs}
 use Rattle.mh_show.specs.Run.{ReadsWhole, AppendsPrefixOf, EndsRun}
 use Rattle.mh_show.proofs.run.show_input.Goals as goal
@@ -13,10 +13,10 @@ use Rattle.mh_show.proofs.run.show_input.Goals as goal
 show_ends : (kept : Type 0) (old new out after : Option (List ℕ)) (text : List ℕ) (e : ShowError) → kept
     → ReadsWhole old new text
     → ((line bytes : List ℕ) → e ≡ NotHex → IsLine line text → ¬ (NamesBytes line bytes))
-    → ((r : Refusal) → e ≡ Refused r → IsRejectedAs text r) → EndsRun kept old new out after (NotShown e)
-show_ends kept old new out after text NotHex same reads none refused = (same, text, reads, λ line bytes. none line bytes refl)
-show_ends kept old new out after text (Refused r) same reads none refused = (same, text, reads, refused r refl)
-show_ends kept old new out after text Memory same reads none refused = same
+    → ((r : Refusal) → e ≡ Rejected r → IsRejectedAs text r) → EndsRun kept old new out after (NotShown e)
+show_ends kept old new out after text NotHex same reads none rejected = (same, text, reads, λ line bytes. none line bytes refl)
+show_ends kept old new out after text (Rejected r) same reads none rejected = (same, text, reads, rejected r refl)
+show_ends kept old new out after text Memory same reads none rejected = same
 
 -- how a run ends if writing the lines fails
 output_ends : {T : Type 0} (r : Result T RunError) (kept : Type 0) (old new out after : Option (List ℕ)) (text lines : List ℕ)
@@ -36,7 +36,7 @@ returns-in_err-lines-clause-err g c =
     passed_on c.from_residual-in_err-lines.result _ _ ends c.from_residual-in_err-lines.ensures.1
     (show_ends (c.args.out.now ≡ c.args.out.now) old new out out c.as_slice.result.now c.in_err-lines.field-0.0 refl (rw c.as_slice.ensures.value c.in_ok-text.ensures.ok)
     (λ line bytes same. met.not_hex line bytes (ap Err same))
-    (λ r same. met.refused r (ap Err same)))
+    (λ r same. met.rejected r (ap Err same)))
 
 pub returns-clause-err : goal.returns-clause-err
 returns-clause-err g c =

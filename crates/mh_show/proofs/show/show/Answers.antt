@@ -22,7 +22,7 @@ odd_line text a b e f odd = ap (λ (l : List ℕ). length l % 2) (sym (line_uniq
 not_rejected : (line bytes : List ℕ) (e : FromHexError) → (e ≡ OutOfMemory) ⊎ (decode_of line ≡ Err e)
     → NamesBytes line bytes → ¬ (NotHex ≡ decoding_error e)
 not_rejected line bytes e (inl full) named gives = cc (gives ∙ ap decoding_error full)
-not_rejected line bytes e (inr refused) named gives = cc (sym refused ∙ named_decodes line bytes named)
+not_rejected line bytes e (inr rejected) named gives = cc (sym rejected ∙ named_decodes line bytes named)
 
 -- the error that is returned is the one that was made
 same_error : {T : Type 0} (r : Result T ShowError) (e made : ShowError) → r ≡ Err e → IsErrAnd r (λ x. x ≡ made) → e ≡ made
@@ -35,8 +35,8 @@ returns-in_err-bytes-clause-not_hex c line bytes same is_line named =
     not_rejected _ bytes _ c.in_err-bytes.ensures.err (subst (λ (l : List ℕ). NamesBytes l bytes) found named)
     (same_error c.from_residual.result _ _ same c.from_residual.ensures.1)
 
-pub returns-in_err-multihash-clause-refused : goal.returns-in_err-multihash-clause-refused
-returns-in_err-multihash-clause-refused c e same =
+pub returns-in_err-multihash-clause-rejected : goal.returns-in_err-multihash-clause-rejected
+returns-in_err-multihash-clause-rejected c e same =
     let met = c.in_err-multihash.ensures in
     let made = same_error c.from_residual-in_err-multihash.result _ _ same c.from_residual-in_err-multihash.ensures.1 in
     let refusal : c.in_err-multihash.field-0.0 ≡ e = cc made in (
