@@ -171,7 +171,7 @@ class Prover:
             self.running.discard(child)
         if self.is_ended:
             raise SystemExit("ended")
-        return Output(home.name, printed)
+        return Output(home.name, printed, child.returncode)
 
     def end(self, *_):
         """Ends rt, which ends what it started, and this program."""
@@ -184,7 +184,7 @@ class Prover:
 class Output:
     """What a check of a crate printed, by function; the errors in other files; and those of texts that cannot be read."""
 
-    def __init__(self, crate, text):
+    def __init__(self, crate, text, status):
         lines, goals = text.replace("\n  was found. ", " was found. ").split("\n"), []  # a long error has two lines
         self.found = defaultdict(lambda: Found("it has no state", [], []))
         self.others, self.unread = [], [it for it in lines if it.startswith(("error:", "error["))]
@@ -198,8 +198,9 @@ class Output:
                 self.found[it[1]], goals = Found(it[2], goals, []), []
         for path, error in (it.groups() for it in map(ERROR.match, lines) if it):
             self.add_error(crate, path, error)
-        self.is_proved, self.is_whole = "\nlogic=proved" in text, "\nlogic=" in text and not self.unread
-        self.unread += [] if "\nlogic=" in text else [(text.strip().split("\n") or [""])[-1][:200]]
+        logic = ["", *(it for it in lines if it.startswith("logic="))][-1]  # before the crate's own line are those of libraries built first
+        self.is_proved, self.is_whole = not status and logic.startswith("logic=proved "), bool(logic) and not self.unread
+        self.unread += [] if logic else [(text.strip().split("\n") or [""])[-1][:200]]
 
     def add_error(self, crate, path, error):
         home, goal = PROOF.fullmatch(path), re.match(r"`([^`]*)`", error)
