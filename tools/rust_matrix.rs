@@ -34,6 +34,7 @@
 //! Without the feature the SCALE and JSON forms are left out.
 use multihash::{Error, Multihash};
 use std::cmp::Ordering;
+use std::hint::black_box;
 use std::process::ExitCode;
 
 const LIST: usize = 1000;
@@ -342,14 +343,20 @@ fn cases(operation: &str) -> Vec<Case> {
     cases
 }
 
-fn run_case((operation, size, code_len, buffer): &Case, count: u32) -> Option<u64> {
-    match buffer {
-        0 => Inputs::<0>::new(operation, *size, *code_len)?.run(operation, count),
-        32 => Inputs::<32>::new(operation, *size, *code_len)?.run(operation, count),
-        64 => Inputs::<64>::new(operation, *size, *code_len)?.run(operation, count),
-        255 => Inputs::<255>::new(operation, *size, *code_len)?.run(operation, count),
+fn run_case(case: &Case, count: u32) -> Option<u64> {
+    match case.3 {
+        0 => run_in::<0>(case, count),
+        32 => run_in::<32>(case, count),
+        64 => run_in::<64>(case, count),
+        255 => run_in::<255>(case, count),
         _ => None,
     }
+}
+
+fn run_in<const S: usize>((operation, size, code_len, _): &Case, count: u32) -> Option<u64> {
+    // The compiler is not to know the inputs: otherwise it unrolls the loop over eight values and, with
+    // link-time optimization, makes the calls of `cmp` once.
+    black_box(Inputs::<S>::new(operation, *size, *code_len)?).run(operation, count)
 }
 
 /// What the program prints, or `None` where its words name no case.
