@@ -205,7 +205,7 @@ impl<const S: usize> Multihash<S> {
 
     // Reads a digest of that size into the front of the buffer.
     #[inline(always)]
-    fn read_digest<R: Read>(
+    pub(crate) fn read_digest<R: Read>(
         r: &mut R,
         size: u8,
         buffer: &mut [u8; S],

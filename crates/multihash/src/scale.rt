@@ -71,7 +71,7 @@ impl<const S: usize> Multihash<S> {
             return Err(Error::from_size(size as u64));
         }
         let mut digest = [0; S];
-        r.read_exact(&mut digest[..size])?;
+        Self::read_digest(r, size_byte[0], &mut digest)?;
         Ok(Self::in_buffer(code, size, digest))
     }
 }

@@ -1,5 +1,5 @@
-use Rattle.std.proofs.Common.{◌≡◌, ◌<◌, ℕ, [], ◌∷◌, ◌++◌, length, take, drop, replicate, refl, sym, ap, ◌∙◌, arith, rules, append_assoc}
-use Rattle.std.proofs.lemmas.List.{take_at, length-take-le, length-replicate}
+use Rattle.std.proofs.Common.{◌≡◌, ◌<◌, ℕ, [], ◌∷◌, ◌++◌, length, take, refl, sym, ap, ◌∙◌, arith, rules, append_assoc}
+use Rattle.std.proofs.lemmas.List.{length-take-le}
 use Rattle.multihash.specs.Scale.{IsScaleCode}
 use Rattle.multihash.specs.Reading.{Consumes}
 use Rattle.multihash.proofs.OutcomeLemmas.{passed_err}
@@ -42,29 +42,27 @@ returns-then-size g c =
     (c.in_ok-size_byte.ensures.faults ∙ c.in_ok-code_bytes.ensures.faults) c.from_size.ensures
     (consumes g (goal.at.returns-then-size g c).After-from-size)
 
-pub returns-in_err-read_exact : goal.returns-in_err-read_exact
-returns-in_err-read_exact g c =
+pub returns-in_err-read_digest : goal.returns-in_err-read_digest
+returns-in_err-read_digest g c =
     let S = g.row.S in
     let size = c.from-size.result in
-    let code = is_code g (goal.at.returns-in_err-read_exact g c).After-from_le_bytes-code in
-    let room : length (take size (replicate {A = ℕ} S 0)) ≡ size =
-    length-take-le size (replicate {A = ℕ} S 0) (omega (arith, length-replicate {A = ℕ} S 0, c.if-size.false)) in
-    let t = c.in_err-read_exact.ensures.laws.err in
+    let code = is_code g (goal.at.returns-in_err-read_digest g c).After-from_le_bytes-code in
+    let t = c.in_err-read_digest.ensures.err in
     let unrisen = c.in_ok-size_byte.ensures.faults ∙ c.in_ok-code_bytes.ensures.faults in
-    passed_err (ScaleMeets S _ _ _ _) c.from_residual-in_err-read_exact.result _ c.from_residual-in_err-read_exact.ensures.1
+    passed_err (ScaleMeets S _ _ _ _) c.from_residual-in_err-read_digest.result _ c.from_residual-in_err-read_digest.ensures.1
     (inside_rejected S _ _ _ _ _ size (cut_scale_digest S _ _ code size (omega (arith, c.if-code-gt-MAX.false)) c.if-size.false) _ t.consumed _
-    (omega (arith, t.fewer, room)) (consumes g (goal.at.returns-in_err-read_exact g c).After-from-size) t.consumes
-    (rw room at c.in_err-read_exact.ensures.laws.eof) (rw unrisen at c.in_err-read_exact.ensures.laws.faults))
+    (omega (arith, t.fewer, c.from-size.ensures)) (consumes g (goal.at.returns-in_err-read_digest g c).After-from-size) t.consumes
+    (rw (← c.from-size.ensures) at c.in_err-read_digest.ensures.eof) (rw unrisen at c.in_err-read_digest.ensures.faults))
 
 pub returns : goal.returns
 returns g c =
     let size = c.from-size.result in
     let code = is_code g (goal.at.returns g c).After-from_le_bytes-code in
-    let d = c.read_exact.new.buf in
-    let long : length d ≡ size = search rules in
-    let front : take size (d ++ drop size (replicate {A = ℕ} g.row.S 0)) ≡ d = take_at d _ size long in
+    let read = c.in_ok-read_digest.ensures in
+    let d = take size c.read_digest.new.buffer in
+    let long : length d ≡ size = length-take-le size c.read_digest.new.buffer (omega (arith, read.full, c.if-size.false)) in
     let byte : size < 256 = search rules in
     scale_answered g.row.S _ _ _ _ _ _ code size (omega (arith, c.if-code-gt-MAX.false)) d c.in_buffer.result c.if-size.false byte long
-    (c.in_ok-read_exact.ensures.laws.faults ∙ (c.in_ok-size_byte.ensures.faults ∙ c.in_ok-code_bytes.ensures.faults)) (rw front at c.in_buffer.ensures)
+    (read.faults ∙ (c.in_ok-size_byte.ensures.faults ∙ c.in_ok-code_bytes.ensures.faults)) c.in_buffer.ensures
     (Consumes-concatenated _ _ _ _ d _ (sym (append_assoc _ (size ∷ []) d)) (consumes g (goal.at.returns g c).After-from-size)
-    c.in_ok-read_exact.ensures.laws.consumes)
+    (rw (← c.from-size.ensures) at read.ok))
