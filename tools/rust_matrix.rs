@@ -27,10 +27,16 @@
 //! parity-scale-codec = { version = "3", optional = true }
 //! serde = { version = "1", optional = true }
 //! serde_json = { version = "1", optional = true }
+//!
+//! [profile.tuned]
+//! inherits = "release"
+//! lto = "fat"
+//! codegen-units = 1
 //! ```
 //!
 //! with the folder of this repository in place of `REPOSITORY`, and run
-//! `cargo build --release --features codecs`.
+//! `RUSTFLAGS="-C target-cpu=x86-64-v2" cargo build --profile tuned --features codecs`, or
+//! `cargo build --release --features codecs` for a program that is not tuned.
 //! Without the feature the SCALE and JSON forms are left out.
 use multihash::{Error, Multihash};
 use std::cmp::Ordering;
