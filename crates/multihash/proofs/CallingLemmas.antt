@@ -216,20 +216,20 @@ module _ {Parts : List ℕ → List Pair → ℕ → Type 0} {whole : List ℕ} 
   -- `read` rejected a part, and the verdict is not incomplete: the facts are its clauses `verdict` and
   -- `settled`, and `early` of `is_incomplete`. The remaining input became shorter
   pub one_more_rejected : {S : ℕ} {pairs : List Pair} {new : List ℕ} {e : Refusal} {early : Bool}
-      → ((v : Verdict) (front rest : List ℕ) (pairs : List Pair) (n : ℕ) → HasVerdict S (front ++ rest) v → ¬ (IsIncomplete v)
+      → ((v : Verdict) (front rest : List ℕ) (pairs : List Pair) (n : ℕ) → HasVerdict S (front ++ rest) v → ((p : Pair) → ¬ (v ≡ accepted p)) → ¬ (IsIncomplete v)
       → IsShortestSettling S (front ++ rest) front → Parts rest pairs n → Parts (front ++ rest) pairs (n + 1))
       → ReadsOn Parts whole pairs count left
       → (v : Verdict) × HasVerdict S left v × IsErrorOf e v
       → ((v : Verdict) → HasVerdict S left v → ¬ (IsIncomplete v) → ConsumesShortestSettling S left (Some new))
       → ((v : Verdict) → IsErrorOf e v → (IsTrue early ↔ IsIncomplete v)) → early ≡ false
       → (length new < length left) × ReadsOn Parts whole pairs (count + 1) new
-  one_more_rejected {S = S} {pairs = pairs} {new = new} refused so_far (v, has, names) settled told late =
+  one_more_rejected {S = S} {pairs = pairs} {new = new} {e = e} rejected so_far (v, has, names) settled told late =
       let other : ¬ (IsIncomplete v) = λ ends. false≢true (sym late ∙ (told v names).1 ends) in
       let consumed = settled v has other in
       let fewer = takes_some S left new consumed in
       let split : left ≡ consumed.front ++ new = Consumes-cut left consumed.front new consumed.consumes in
       let part = λ (more : List Pair) (n : ℕ) (parts : Parts new more n). subst (λ z. Parts z more (n + 1)) (sym split)
-      (refused v consumed.front new more n (subst (λ z. HasVerdict S z v) split has) other
+      (rejected v consumed.front new more n (subst (λ z. HasVerdict S z v) split has) (λ p is. subst (IsErrorOf e) is names) other
       (subst (λ z. IsShortestSettling S z consumed.front) split consumed.shortest) parts) in (
         fewer,
         record {

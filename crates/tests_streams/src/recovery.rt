@@ -13,10 +13,10 @@ fn expect_found(
     alloc: Global,
     bytes: &[u8],
     good: &[Multihash<64>],
-    refused: usize,
+    rejected: usize,
 ) {
     let found = expect_ok!(rt; recover(alloc, bytes));
-    check_eq!(rt; (found.good.as_slice(), found.refused), (good, refused));
+    check_eq!(rt; (found.good.as_slice(), found.rejected), (good, rejected));
 }
 
 #[test]

@@ -1,8 +1,8 @@
 -- How a stream with corrupt entries is split.
-use Rattle.std.specs.Prelude.{ℕ, ◌+◌, List, [], ◌∷◌, ◌++◌}
+use Rattle.std.specs.Prelude.{◌≡◌, ℕ, ◌+◌, List, [], ◌∷◌, ◌++◌}
 use Rattle.multihash.specs.Pair.{Pair, FitsBuffer}
 use Rattle.multihash.specs.Encoding.{IsEncoding}
-use Rattle.multihash.specs.Verdict.{Verdict, HasVerdict, IsIncomplete}
+use Rattle.multihash.specs.Verdict.{Verdict, accepted, HasVerdict, IsIncomplete}
 use Rattle.multihash.specs.Settling.{IsShortestSettling}
 
 -- the pairs in order, and the number of corrupt entries: it continues after each pair's encoding, and after
@@ -12,7 +12,8 @@ pub data Recovers (S : ℕ) : List ℕ → List Pair → ℕ → Type 0 where
   good : (p : Pair) (encoding rest : List ℕ) (pairs : List Pair) (count : ℕ)
       → IsEncoding p encoding → FitsBuffer S p → Recovers S rest pairs count
       → Recovers S (encoding ++ rest) (p ∷ pairs) count
-  refused : (v : Verdict) (front rest : List ℕ) (pairs : List Pair) (count : ℕ)
-      → HasVerdict S (front ++ rest) v → ¬ (IsIncomplete v) → IsShortestSettling S (front ++ rest) front
+  rejected : (v : Verdict) (front rest : List ℕ) (pairs : List Pair) (count : ℕ)
+      → HasVerdict S (front ++ rest) v → ((p : Pair) → ¬ (v ≡ accepted p)) → ¬ (IsIncomplete v)
+      → IsShortestSettling S (front ++ rest) front
       → Recovers S rest pairs count → Recovers S (front ++ rest) pairs (count + 1)
   cut : (v : Verdict) (input : List ℕ) → HasVerdict S input v → IsIncomplete v → Recovers S input [] 1

@@ -1,10 +1,11 @@
 //! A list of allowed codes.
-ghost use Rattle.std.specs.Prelude.{◌≡◌, ℕ, List, ◌++◌, Some, Contains, IfOk, IsOkAnd, IsErrAnd, codes};
+ghost use Rattle.std.specs.Prelude.{◌≡◌, ◌⊎◌, ℕ, List, ◌++◌, Some, Contains, IfOk, IsOkAnd, IsErrAnd, codes};
 ghost use Rattle.multihash.specs.declared.no_std_io.error.Kind.TheVariants.{Other};
 ghost use Rattle.multihash.specs.Pair.{Pair, FitsBuffer};
 ghost use Rattle.multihash.specs.Encoding.{IsEncoding};
-ghost use Rattle.multihash.specs.Reading.{Consumes};
-ghost use Rattle.multihash.specs.Refusal.{of_io};
+ghost use Rattle.multihash.specs.Reading.{Consumes, CountsReaderFailures};
+ghost use Rattle.multihash.specs.Refusal.{of_io, IsReaderError};
+ghost use Rattle.multihash.specs.Consuming.{ReadMayFailWith};
 ghost use Rattle.multihash.specs.Multihash.{pair_of};
 
 use multihash::no_std_io::{self, Read};
@@ -25,7 +26,11 @@ pub fn read<const S: usize, R: Read>(allowed: &[u64], r: &mut R) -> Result<Multi
     ensures other { (p : Pair) (bytes more : List ℕ) → IsEncoding p bytes → FitsBuffer S p →
         ¬ (Contains allowed.now p.code) → R.rest r.old ≡ Some (bytes ++ more) →
         R.failures r.new ≡ R.failures r.old → IsErrAnd result (λ e.
-        e ≡ of_io (record { kind = Other; text = codes "the code is not allowed" })) }
+        e ≡ of_io (record { kind = Other; text = codes "the code is not allowed" }))
+        × (R.rest r.new ≡ Some more) }
+    ensures faults { CountsReaderFailures IsReaderError (λ e. ReadMayFailWith S e
+        ⊎ (e ≡ of_io (record { kind = Other; text = codes "the code is not allowed" })))
+        (R.failures r.old) (R.failures r.new) result }
 {
     let multihash = Multihash::read(r)?;
     if !allowed.contains(&multihash.code()) {

@@ -11,7 +11,7 @@ use std::alloc::Global;
 #[derive(Drop)]
 pub struct Recovered {
     pub good: Vec<Multihash<64>>,
-    pub refused: usize,
+    pub rejected: usize,
 }
 
 /// Reads all multihashes that can be read. It continues after the bytes that show an error; a truncated end
@@ -22,22 +22,22 @@ pub struct Recovered {
 /// Out of memory.
 pub fn recover(alloc: Global, bytes: &[u8]) -> Result<Recovered, Error>
     ensures ok { IfOk result
-        (λ found. Recovers 64 bytes.now (map pair_of found.good.items) found.refused) }
+        (λ found. Recovers 64 bytes.now (map pair_of found.good.items) found.rejected) }
     ensures memory { IfErr result IsOutOfMemory }
 {
     let mut good = Vec::new(alloc);
-    let mut refused = 0;
+    let mut rejected = 0;
     let mut left = bytes;
     while !left.is_empty() {
         match Multihash::<64>::read(&mut left) {
             Ok(multihash) => good.push(multihash)?,
             Err(error) => {
-                refused += 1;
+                rejected += 1;
                 if error.is_incomplete() {
-                    return Ok(Recovered { good, refused });
+                    return Ok(Recovered { good, rejected });
                 }
             }
         }
     }
-    Ok(Recovered { good, refused })
+    Ok(Recovered { good, rejected })
 }

@@ -1,4 +1,4 @@
-use Rattle.std.proofs.Common.{◌≡◌, true, get_or, Ok, Err, sym, ap, ◌∙◌, subst, eqb-true, true≢false}
+use Rattle.std.proofs.Common.{◌≡◌, true, get_or, Ok, Err, sym, ap, ◌∙◌, subst, eqb-true, true≢false, rules}
 use Rattle.std.proofs.lemmas.List.Folds.{list_any_at}
 use Rattle.std.specs.Cmp.{nat_eq_equiv}
 use Rattle.std.specs.Prelude.{nat_eq}
@@ -20,6 +20,12 @@ returns-clause-other g c p bytes more encodes fits missing rest same =
     let held = Contains-from_any {eq = λ a b. nat_eq b a} (λ a b is. sym (eqb-true b a is)) c.code.result c.args.allowed.now
     (sym c.contains.ensures.value ∙ c.if-not-contains.false) in
     absurd (missing (subst (Contains c.args.allowed.now) (c.code.ensures.code ∙ ap (λ (q : Pair). q.code) told.0) held))
+
+pub returns-then-not-contains-clause-other : goal.returns-then-not-contains-clause-other
+returns-then-not-contains-clause-other g c p bytes more encodes fits missing rest same =
+    let met = c.in_ok-multihash.ensures in
+    let told = read_of_encoding g.row.S _ _ _ _ p bytes more (Ok c.in_ok-multihash.multihash) encodes fits rest same met.verdict met.ok in
+    (search rules, told.1)
 
 pub returns-in_err-multihash-clause-found : goal.returns-in_err-multihash-clause-found
 returns-in_err-multihash-clause-found g c p bytes more encodes fits allowed rest same =
