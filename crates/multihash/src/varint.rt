@@ -4,7 +4,7 @@
 //! (<https://github.com/multiformats/unsigned-varint>). Multiformats encodes its numbers so: the code
 //! and the length of a multihash, the version and the codec of a content identifier, the parts of a
 //! multiaddr.
-ghost use Rattle.std.specs.Prelude.{◌≡◌, ◌<◌, ◌≤◌, ◌+◌, ◌^◌, ◌⊎◌, ℕ, List, [], ◌∷◌, ◌++◌, length, take, drop, Some, IfSome, MatchOption, IfOk, IfErr, IsOkAnd, OnErr};
+ghost use Rattle.std.specs.Prelude.{◌≡◌, ◌<◌, ◌≤◌, ◌+◌, ◌^◌, ◌⊎◌, ℕ, List, [], ◌∷◌, ◌++◌, length, Some, IfSome, MatchOption, IfOk, IfErr, IsOkAnd, OnErr};
 ghost use Rattle.multihash.specs.Varint.{IsVarint, IsContinuation, varint_limit, max_continuation};
 ghost use Rattle.std.specs.Io.KnownBytes.{IsAtEnd, prepend_known};
 ghost use Rattle.multihash.specs.Reading.{Consumes, EndsInNone, CountsReaderFailures, NoOtherError};
@@ -88,27 +88,27 @@ pub fn write<W: Write>(n: u64, w: &mut W) -> Result<usize, Error>
     Ok(write_in_range(n, w)?)
 }
 
-/// Reads the varint at the front of the bytes. Returns its number and its length in bytes: one to nine.
+/// Reads the varint at the front of the bytes. Returns its number and the bytes that follow it.
 ///
 /// # Errors
 ///
 /// - [`Error::is_insufficient`] if the bytes end within or before the varint.
 /// - [`Error::is_overflow`] if the varint has more than nine bytes, as every number of 2^63 or more needs.
 /// - [`Error::is_not_minimal`] if a varint of more than one byte ends in a zero byte.
-pub fn read_front(bytes: &[u8]) -> Result<(u64, usize), Error>
-    ensures ok { IfOk result (λ found. IsVarint found.0 (take found.1 bytes.now)
-        × (found.1 ≤ length bytes.now)) }
+pub fn read_front(bytes: &[u8]) -> Result<(u64, &[u8]), Error>
+    ensures ok { IfOk result (λ found. (varint : List ℕ) × IsVarint found.0 varint
+        × (bytes.now ≡ varint ++ found.1.now)) }
     ensures err { IfErr result (IsFrontError bytes.now) }
 
     // If a varint is at the front, it is found.
     ensures found { (n : ℕ) (varint rest : List ℕ) → IsVarint n varint → bytes.now ≡ varint ++ rest →
-        IsOkAnd result (λ found. (found.0 ≡ n) × (drop found.1 bytes.now ≡ rest)) }
+        IsOkAnd result (λ found. (found.0 ≡ n) × (found.1.now ≡ rest)) }
 {
-    if let Some(found) = word::read_front(bytes) {
-        return Ok(found);
+    if let Some((n, len)) = word::read_front(bytes) {
+        return Ok((n, &bytes[len..]));
     }
     match word::read_counted(bytes) {
-        Ok(found) => Ok(found),
+        Ok((n, len)) => Ok((n, &bytes[len..])),
         Err((error, _)) => Err(error),
     }
 }

@@ -167,10 +167,9 @@ fn after_entry(bytes: &[u8]) -> Option<&[u8]>
     let Ok(hash) = Multihash::<32>::read(&mut rest) else {
         return None;
     };
-    let Ok((len, used)) = varint::read_front(rest) else {
+    let Ok((len, rest)) = varint::read_front(rest) else {
         return None;
     };
-    let (_, rest) = rest.split_at(used);
     if len > rest.len() as u64 {
         return None;
     }

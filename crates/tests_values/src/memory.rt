@@ -272,8 +272,9 @@ fn expect_forms<const S: usize>(
     check!(rt; Multihash::<S>::from_bytes(buffer.get(..len).unwrap_or(&[]))? == *m);
     check!(rt; Multihash::<S>::read(&mut buffer.as_slice())? == *m);
     check_eq!(rt; Head::read_front(&buffer)?.digest_len, 32);
-    let (code, code_len) = varint::read_front(&buffer)?;
-    check_eq!(rt; (code, code_len), (m.code(), varint::len(code)?));
+    let (code, rest) = varint::read_front(&buffer)?;
+    let code_len = varint::len(code)?;
+    check_eq!(rt; (code, rest), (m.code(), buffer.get(code_len..).unwrap_or(&[])));
     check_eq!(rt; varint::read(&mut buffer.as_slice())?, code);
     check!(rt; read_list::<S, _>(alloc, &mut buffer.as_slice(), 0)?.is_empty());
     check_eq!(rt; varint::write(code, &mut buffer.as_mut_slice())?, code_len);

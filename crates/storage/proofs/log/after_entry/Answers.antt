@@ -22,15 +22,15 @@ pub returns-then-len-rest-clause-none : goal.returns-then-len-rest-clause-none
 returns-then-len-rest-clause-none c h =
     let one = hash_consumed _ h.block h.entry h.rest h.is_entry _ _ (Some c.read.new.r.now) (ap Some h.cut) c.in-Ok.ensures.ok in
     let two = c.in-Ok-read_front.ensures.found (length h.block) h.is_entry.len (h.block ++ h.rest) h.is_entry.is_len cc in
-    omega (arith, two.0, ap length (c.split_at.ensures.back ∙ two.1), length-append h.block h.rest)
+    omega (arith, two.0, ap length two.1, length-append h.block h.rest)
 
 pub returns-then-not-same_as-clause-none : goal.returns-then-not-same_as-clause-none
 returns-then-not-same_as-clause-none c h =
     let one = hash_consumed _ h.block h.entry h.rest h.is_entry _ _ (Some c.read.new.r.now) (ap Some h.cut) c.in-Ok.ensures.ok in
     let two = c.in-Ok-read_front.ensures.found (length h.block) h.is_entry.len (h.block ++ h.rest) h.is_entry.is_len cc in
     let len = c.in-Ok-read_front.len in
-    let is : c.split_at-2.result.0.now ≡ h.block =
-    c.split_at-2.ensures.front ∙ (ap (λ (z : List ℕ). take len z) (c.split_at.ensures.back ∙ two.1)
+    let is : c.split_at.result.0.now ≡ h.block =
+    c.split_at.ensures.front ∙ (ap (λ (z : List ℕ). take len z) two.1
     ∙ (ap (λ (n : ℕ). take n (h.block ++ h.rest)) two.0 ∙ take-append_seam h.block h.rest)) in
     let same : pair_of c.hash_of.result ≡ pair_of c.in-Ok.hash = c.hash_of.ensures ∙ (ap content_pair is ∙ sym one.0) in
     false≢true (sym c.if-not-same_as.true ∙ c.same_as.ensures.1 same)
@@ -38,24 +38,21 @@ returns-then-not-same_as-clause-none c h =
 pub returns-clause-some : goal.returns-clause-some
 returns-clause-some c =
     let h = c.in-Ok.ensures.ok in
-    let (is_len, within) = c.in-Ok-read_front.ensures.ok in
-    let used = c.in-Ok-read_front.used in
-    let middle = c.read.new.r.now in
-    let block = c.split_at-2.result.0.now in
-    let rest = c.split_at.result.1.now in
+    let (len, is_len, second) = c.in-Ok-read_front.ensures.ok in
+    let block = c.split_at.result.0.now in
+    let rest = c.in-Ok-read_front.rest.now in
     let own : pair_of c.in-Ok.hash ≡ content_pair block = sym (c.same_as.ensures.0 c.if-not-same_as.false) ∙ c.hash_of.ensures in
     let long : length block ≡ c.in-Ok-read_front.len = search rules in
-    let whole : rest ≡ block ++ c.split_at-2.result.1.now = search rules in
-    let first = Consumes-cut c.args.bytes.now h.0 middle h.2 in
-    let second : middle ≡ take used middle ++ rest = search rules in (
+    let whole : rest ≡ block ++ c.split_at.result.1.now = search rules in
+    let first = Consumes-cut c.args.bytes.now h.0 c.read.new.r.now h.2 in (
       block,
-      h.0 ++ (take used middle ++ block),
+      h.0 ++ (len ++ block),
       record {
         encoding = h.0;
-        len = take used middle;
+        len = len;
         encodes = subst (λ p. IsEncoding p h.0) own h.1;
-        is_len = subst (λ k. IsVarint k (take used middle)) (sym long) is_len;
+        is_len = subst (λ k. IsVarint k len) (sym long) is_len;
         parts = refl;
       },
-      simp append_assoc (first ∙ ap (λ (z : List ℕ). h.0 ++ z) (second ∙ ap (λ (z : List ℕ). take used middle ++ z) whole)),
+      simp append_assoc (first ∙ ap (λ (z : List ℕ). h.0 ++ z) (second ∙ ap (λ (z : List ℕ). len ++ z) whole)),
     )

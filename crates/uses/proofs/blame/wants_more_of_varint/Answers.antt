@@ -1,8 +1,13 @@
 use Rattle.std.proofs.Common.{◌≡◌, inl, inr, sym, ◌∙◌, subst}
 use Rattle.multihash.specs.Varint.{insufficient, BeginsMalformed}
 use Rattle.multihash.specs.Refusal.{of_varint}
-use Rattle.multihash.proofs.Varints.VarintLemmas.{fault, front_unique}
+use Rattle.multihash.proofs.Varints.VarintLemmas.{fault, front_unique, number_no_fault}
 use Rattle.uses.proofs.blame.wants_more_of_varint.Goals as goal
+
+pub returns-in-Ok : goal.returns-in-Ok
+returns-in-Ok c =
+    let (varint, is, cut) = c.in-Ok.ensures.ok in
+    ((λ is_false. cc), λ short. absurd (number_no_fault c.args.bytes.now _ _ insufficient (varint, is, cut) short))
 
 pub returns-in-Err : goal.returns-in-Err
 returns-in-Err c =
