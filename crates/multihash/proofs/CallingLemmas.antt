@@ -11,7 +11,7 @@ use Rattle.multihash.specs.Streams.{AreConcatenated, ConsumesPairs, StopsAfterPa
 use Rattle.multihash.specs.Varint.{insufficient, IsContinuation, IsVarint}
 use Rattle.multihash.specs.Verdict.{Verdict, accepted, invalid_size, malformed, BeginsWithSize, HasVerdict, HasWholeVerdict, IsIncomplete}
 use Rattle.multihash.specs.Settling.{Settles, IsShortestSettling}
-use Rattle.multihash.specs.Consuming.{ConsumesShortestSettling, ConsumesVarint}
+use Rattle.multihash.specs.Consuming.{ConsumesShortestSettling, ConsumesVarint, ConsumesAtVarintError, FailsBy, VarintFails}
 use Rattle.multihash.proofs.Readings.SettlingLemmas.{early_not_settles}
 use Rattle.multihash.specs.Fault.{Fault, IsOwnFault, IsUnexpectedEof}
 use Rattle.multihash.specs.Reading.{Consumes, CountsReaderFailures, HasFewerThan}
@@ -19,7 +19,7 @@ use Rattle.multihash.specs.Scale.{IsScale, HasScaleVerdict}
 use Rattle.multihash.specs.Writing.{AdvancesPast, AppendsPrefix, CountsWriterFailures}
 use Rattle.multihash.specs.Filling.{Fills, IsFilled}
 use Rattle.multihash.specs.declared.no_std_io.slice_writer.SliceWriter.{SliceWriter}
-use Rattle.multihash.specs.Refusal.{Refusal, IsIo, IsOutOfMemory, IsInvalidSize, IsFrontError}
+use Rattle.multihash.specs.Refusal.{Refusal, IsIo, IsOutOfMemory, IsInvalidSize, IsFrontError, IsAnyVarintError}
 use Rattle.multihash.specs.Outcome.{IsErrorOf, IsResultOf}
 use Rattle.multihash.specs.Multihash.{Fields, pair_of}
 use Rattle.multihash.proofs.Writings.WritingLemmas.{fewer_places, full_of_faults, slice_writer_has_room, length_of_not_nil}
@@ -187,6 +187,12 @@ read_exact_of_bytes n before after (Some input) new filled bytes more (Err e) re
 read_exact_of_bytes n before after (Some input) new filled bytes more (Err e) rest long whole same (inr ended) consumes eof =
     let spelled : input ≡ bytes ++ more = cc in
     omega (arith, eof ended.1, ap (λ (z : List ℕ). length z) spelled, length-append bytes more, long)
+
+-- reading a varint failed, after calls that counted no failure: the facts are the clauses of `varint::read`
+pub varint_fails : (before middle after : ℕ) (old new : Option (List ℕ)) (e : Refusal) → middle ≡ before → FailsBy middle after IsAnyVarintError e
+    → ConsumesAtVarintError e old new → IfSome old (λ input. after ≡ middle → IsFrontError input e) → VarintFails before after e old new
+varint_fails before middle after old new e same cause consumed front =
+    subst (λ k. VarintFails k after e old new) same (record { cause = cause; consumed = consumed; front = front })
 
 -- the loop's invariant: if the remaining input is some parts, the whole is these after those found so far;
 -- and at most as many parts were rejected as bytes were consumed

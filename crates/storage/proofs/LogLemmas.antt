@@ -1,7 +1,6 @@
 -- An entry that comes next, and how reading one fails.
-use Rattle.std.proofs.Common.{◌≡◌, ◌+◌, ◌<◌, ◌≤◌, ℕ, ◌⊎◌, List, ◌++◌, Option, Some, Result, Ok, Err, MatchResult, IfSome, IfErr, length, take, drop, inl, inr, refl, ap, ◌∙◌, append_assoc, length-append, sym, subst, arith}
+use Rattle.std.proofs.Common.{◌≡◌, ◌+◌, ◌<◌, ◌≤◌, ℕ, ◌⊎◌, List, ◌++◌, Option, Some, Result, Ok, Err, MatchResult, IfSome, IfErr, length, inl, inr, refl, ap, ◌∙◌, append_assoc, length-append, sym, subst, arith}
 use Rattle.std.proofs.lemmas.List.{append_cancel_right}
-use Rattle.std.proofs.Math.Seq.{take-append_seam}
 use Rattle.std.proofs.lemmas.Bool.{cases_lt}
 use Rattle.std.specs.Result.{IsErrAnd}
 use Rattle.multihash.specs.Pair.{Pair, FitsBuffer}
@@ -10,8 +9,8 @@ use Rattle.multihash.specs.Verdict.{Verdict, HasVerdict}
 use Rattle.multihash.specs.Outcome.{IsErrorOf}
 use Rattle.multihash.specs.Fault.{Fault, IsOwnFault, IsUnexpectedEof}
 use Rattle.multihash.specs.Reading.{Consumes, ConsumesFewerThan, HasFewerThan}
-use Rattle.multihash.specs.Refusal.{Refusal, IsOutOfMemory, IsReaderError, of_io, IsAnyVarintError, IsFrontError}
-use Rattle.multihash.specs.Consuming.{ConsumesSome, ConsumesVarint, ConsumesAtVarintError, VarintFails, ExactFails}
+use Rattle.multihash.specs.Refusal.{Refusal, IsOutOfMemory, of_io, IsFrontError}
+use Rattle.multihash.specs.Consuming.{ConsumesSome, ConsumesVarint, ExactFails}
 use Rattle.multihash.proofs.Writings.EncodingLemmas.{encoding_unique, same_cut}
 use Rattle.multihash.proofs.Varints.VarintLemmas.{same_number}
 use Rattle.multihash.proofs.Readings.ReadingLemmas.{Consumes-told, Consumes-concatenated, IfSome-consumed}
@@ -28,13 +27,6 @@ pub entry_cut : (p : Pair) (block bytes more : List ℕ) (h : IsEntry p block by
 entry_cut p block bytes more h =
     ap (λ (z : List ℕ). z ++ more) h.parts
     ∙ (append_assoc h.encoding (h.len ++ block) more ∙ ap (λ (z : List ℕ). h.encoding ++ z) (append_assoc h.len block more))
-
--- reading the length failed: the facts are the clauses of `varint::read`
-pub varint_fails : (before middle after : ℕ) (old new : Option (List ℕ)) (e : Refusal) → middle ≡ before
-    → ((after ≡ middle + 1) × IsReaderError e) ⊎ ((after ≡ middle) × IsAnyVarintError e)
-    → ConsumesAtVarintError e old new → IfSome old (λ input. after ≡ middle → IsFrontError input e) → VarintFails before after e old new
-varint_fails before middle after old new e same cause consumed front =
-    subst (λ k. VarintFails k after e old new) same (record { cause = cause; consumed = consumed; front = front })
 
 -- filling a buffer of `m` bytes failed, after others of the `n` were read: the facts are the laws of `read_exact`
 pub chunk_fails : (n m before middle after : ℕ) (old mid new : Option (List ℕ)) (read : List ℕ) (fault : Fault)

@@ -1,16 +1,25 @@
 //! That the calls of `uses` succeed, for long inputs too, and what they print.
 ghost use Rattle.std.specs.Prelude.{◌<◌, ◌^◌};
 
+use fakes::readers::Cuts;
+use fakes::refusal::Refusal;
 use fakes::{check, check_eq, expect_bytes, expect_ok};
 use multihash::Multihash;
 use std::alloc::Global;
 use std::process::Abort;
-use uses::bytes::fills;
-use uses::content_id::ContentIdError;
-use uses::dump::read_all;
-use uses::forms::{fills_list, fills_scale};
+use uses::any_reader::read_up_to;
+use uses::content_id::{ContentId, ContentIdError};
 use uses::json_text::{parse, print};
-use uses::slices::{encode_all_into, encode_into};
+use uses::section::{read_section, section_front};
+use uses::slices::{encode_all_into, encode_into, encode_longest, scale_into};
+
+// A section of CARv1: the length 40, the identifier of `aaaa` as raw bytes, with its SHA-256 from another
+// implementation, and these bytes.
+const SECTION: [u8; 41] = [
+    40, 1, 0x55, 0x12, 32, 0x61, 0xbe, 0x55, 0xa8, 0xe2, 0xf6, 0xb4, 0xe1, 0x72, 0x33, 0x8b, 0xdd,
+    0xf1, 0x84, 0xd6, 0xdb, 0xee, 0x29, 0xc9, 0x88, 0x53, 0xe0, 0xa0, 0x48, 0x5e, 0xce, 0xe7, 0xf2,
+    0x7b, 0x9a, 0xf0, 0xb4, 97, 97, 97, 97,
+];
 
 // The bytes after those that are written are unchanged.
 #[test]
@@ -30,29 +39,66 @@ fn an_encoding_goes_into_a_slice(rt: HostRuntime) {
 #[test]
 fn slices_are_filled(rt: HostRuntime) {
     let rt = &rt;
-    let m = expect_ok!(rt; Multihash::<4>::wrap(0, b"ABC"));
-    let mut buffer = [7u8; 7];
-    check_eq!(rt; fills(&m, &mut buffer), (true, 2));
-    expect_bytes!(rt; &buffer, &[0, 3, 65, 66, 67, 7, 7]);
-    check_eq!(rt; fills(&m, &mut buffer[..4]), (false, 0));
-    check_eq!(rt; fills_list(&[m, m], &mut [0; 12]), (true, 2));
-    check_eq!(rt; fills_scale(&m, &mut [0; 14]), (true, 2));
+    let m = expect_ok!(rt; Multihash::<4>::wrap(300, b"ABC"));
+    expect_bytes!(rt; encode_longest(&m, &mut [1; 266]), &[0xac, 0x02, 3, 65, 66, 67]);
+    let mut buffer = [7u8; 13];
+    check_eq!(rt; scale_into(&m, &mut buffer), Some(12));
+    expect_bytes!(rt; &buffer, &[44, 1, 0, 0, 0, 0, 0, 0, 3, 65, 66, 67, 7]);
+    check_eq!(rt; scale_into(&m, &mut buffer[..11]), None);
 }
 
-fn expect_dump(rt: &impl Abort, alloc: Global, count: usize) {
+fn expect_items(rt: &impl Abort, alloc: Global, count: usize) {
     let mut input = expect_ok!(rt; vec![in alloc; 0u8; count.saturating_mul(2)]);
-    let dump = expect_ok!(rt; read_all::<4>(alloc, &input));
-    check_eq!(rt; (dump.items.len(), dump.stop.is_none()), (count, true));
+    let mut left = input.as_slice();
+    let items = expect_ok!(rt; read_up_to::<4, _>(alloc, &mut left, usize::MAX));
+    check_eq!(rt; (items.len(), left.len()), (count, 0));
     expect_ok!(rt; input.push(128));
-    let dump = expect_ok!(rt; read_all::<4>(alloc, &input));
-    check_eq!(rt; (dump.items.len(), dump.stop.is_none()), (count, false));
+    let mut left = input.as_slice();
+    check!(rt; read_up_to::<4, _>(alloc, &mut left, usize::MAX).is_err());
+    let mut left = input.as_slice();
+    let items = expect_ok!(rt; read_up_to::<4, _>(alloc, &mut left, count));
+    check_eq!(rt; (items.len(), left.len()), (count, 1));
 }
 
 #[test]
-fn dumps_of_each_length_are_read(rt: HostRuntime) {
+fn streams_of_each_length_are_read(rt: HostRuntime) {
     for count in (0..130).chain([255, 1000, 5000]) {
-        expect_dump(&rt, rt.alloc(), count);
+        expect_items(&rt, rt.alloc(), count);
     }
+}
+
+fn expect_content(rt: &impl Abort, id: &ContentId<32>) {
+    let mut bytes = [0u8; 36];
+    expect_ok!(rt; id.write(&mut bytes.as_mut_slice()));
+    expect_bytes!(rt; &bytes, &SECTION[1..37]);
+}
+
+fn refused(bytes: &[u8]) -> Option<Refusal> {
+    match section_front::<32>(bytes) {
+        Err(ContentIdError::Refused(e)) => Refusal::of(&e),
+        _ => None,
+    }
+}
+
+#[test]
+fn a_section_is_read(rt: HostRuntime) {
+    let rt = &rt;
+    let mut reader = Cuts::new(&SECTION, 1);
+    let next = expect_ok!(rt; read_section::<32, _>(&mut reader));
+    let (id, len) = expect_ok!(rt; next);
+    expect_content(rt, &id);
+    check_eq!(rt; (len, reader.left.len()), (4, 4));
+    let next = expect_ok!(rt; section_front::<32>(&SECTION));
+    let (id, data, rest) = expect_ok!(rt; next);
+    expect_content(rt, &id);
+    expect_bytes!(rt; data, b"aaaa");
+    check!(rt; expect_ok!(rt; section_front::<32>(rest)).is_none());
+    let mut short = SECTION;
+    short[0] = 35;
+    let text = Refusal::Other("the identifier is longer than its section");
+    check_eq!(rt; refused(&short), Some(text));
+    check_eq!(rt; refused(&SECTION[..40]), Some(Refusal::UnexpectedEof));
+    check_eq!(rt; refused(&SECTION[..4]), Some(Refusal::Insufficient));
 }
 
 fn expect_printed<const S: usize>(rt: &impl Abort, alloc: Global, digest: &[u8])

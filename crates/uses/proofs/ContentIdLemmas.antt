@@ -1,5 +1,5 @@
 -- The two varints at the front of a content identifier; there is one identifier at one position.
-use Rattle.std.proofs.Common.{◌≡◌, ℕ, ◌+◌, List, ◌++◌, length, Option, Some, IfErr, IfSome, MatchResult, ◌⊎◌, inl, inr, Result, Ok, Err, refl, sym, ap, ◌∙◌, subst, arith, append_assoc, length-append}
+use Rattle.std.proofs.Common.{◌≡◌, ℕ, ◌+◌, List, ◌++◌, length, Option, Some, IfErr, MatchResult, ◌⊎◌, inl, inr, Result, Ok, Err, refl, sym, ap, ◌∙◌, subst, arith, append_assoc, length-append}
 use Rattle.std.specs.Result.{IsErrAnd}
 use Rattle.std.proofs.lemmas.List.{append_cancel_right}
 use Rattle.multihash.specs.Pair.{Pair, FitsBuffer}
@@ -7,13 +7,13 @@ use Rattle.multihash.specs.Encoding.{IsEncoding}
 use Rattle.multihash.specs.Varint.{IsVarint}
 use Rattle.multihash.specs.Fault.{Fault, IsOwnFault, IsUnexpectedEof}
 use Rattle.multihash.specs.Reading.{Consumes, ConsumesFewerThan, HasFewerThan}
-use Rattle.multihash.specs.Consuming.{ConsumesVarint, ConsumesAtVarintError, ReadFails, VarintFails, ExactFails}
-use Rattle.multihash.specs.Refusal.{Refusal, IsReaderError, of_io, IsAnyVarintError, IsFrontError}
+use Rattle.multihash.specs.Consuming.{ConsumesVarint, ReadFails, ExactFails}
+use Rattle.multihash.specs.Refusal.{Refusal, of_io}
 use Rattle.multihash.proofs.CallingLemmas.{varint_read, read_of_encoding}
 use Rattle.multihash.proofs.Readings.ReadingLemmas.{Consumes-concatenated, Consumes-told}
 use Rattle.multihash.proofs.Values.ValueLemmas.{digest_fits}
-use Rattle.multihash.proofs.Varints.VarintLemmas.{same_number}
-use Rattle.multihash.proofs.Writings.EncodingLemmas.{encoding_unique}
+use Rattle.multihash.proofs.Varints.VarintLemmas.{same_number, varint_unique}
+use Rattle.multihash.proofs.Writings.EncodingLemmas.{encoding_unique, encoding_same}
 use Rattle.uses.specs.ContentId.{Content, version_0, version_1, content_of, IsContentId, FitsContentId, NumberFails, HashFails, ContentIdFails}
 use Rattle.uses.specs.declared.content_id.ContentId.{ContentId}
 use Rattle.uses.specs.declared.content_id.ContentId.TheVariants.{V0, V1}
@@ -105,18 +105,24 @@ make_version_1 version codec p a b encoding is_version first second encodes = re
   spelled = refl;
 }
 
+-- a content has at most one identifier
+pub content_same : (c : Content) (a b : List ℕ) → IsContentId c a → IsContentId c b → a ≡ b
+content_same (version_0 digest) a b h k = encoding_same _ a b h.encodes k.encodes
+content_same (version_1 codec p) a b h k =
+    cc (
+      h.spelled,
+      k.spelled,
+      varint_unique 1 h.version k.version h.is_version k.is_version,
+      varint_unique codec h.codec_bytes k.codec_bytes h.is_codec k.is_codec,
+      encoding_same p h.encoding k.encoding h.encodes k.encodes,
+    )
+
 -- three parts were consumed one after another
 pub takes_three : (a b c d : Option (List ℕ)) (x y z : List ℕ) → Consumes a x b → Consumes b y c → Consumes c z d → Consumes a (x ++ (y ++ z)) d
 takes_three a b c d x y z first second third =
     Consumes-concatenated a b d x (y ++ z) (x ++ (y ++ z)) refl first (Consumes-concatenated b c d y z (y ++ z) refl second third)
 
 -- what a call says of a failure holds of it after calls that counted none
-pub number_fails : (before middle after : ℕ) (old new : Option (List ℕ)) (e : Refusal) → middle ≡ before
-    → ((after ≡ middle + 1) × IsReaderError e) ⊎ ((after ≡ middle) × IsAnyVarintError e)
-    → ConsumesAtVarintError e old new → IfSome old (λ input. after ≡ middle → IsFrontError input e) → VarintFails before after e old new
-number_fails before middle after old new e same cause consumed front =
-    subst (λ k. VarintFails k after e old new) same (record { cause = cause; consumed = consumed; front = front })
-
 pub hash_fails : (S before middle after : ℕ) (old new : Option (List ℕ)) (e : Refusal) → middle ≡ before → ReadFails S middle after e old new
     → ReadFails S before after e old new
 hash_fails S before middle after old new e same fails = subst (λ k. ReadFails S k after e old new) same fails

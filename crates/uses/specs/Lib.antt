@@ -1,3 +1,4 @@
 pub mod ContentId
 pub mod Listed
 pub mod Recovery
+pub mod Section

@@ -1,5 +1,6 @@
 //! Callers over any reader, which conclude how often it failed and what it has left.
-ghost use Rattle.std.specs.Prelude.{◌≡◌, ◌+◌, ℕ, List, ◌++◌, length, map, vec_capacity, Option, Some, IfSome, IfNone, IfOk, IfErr, MatchResult};
+ghost use Rattle.std.specs.Prelude.{◌≡◌, ◌+◌, ◌<◌, ◌≤◌, ◌⊎◌, ℕ, List, ◌++◌, length, map, vec_capacity, Option, Some, IfSome, IfNone, IfOk, IfErr, MatchResult};
+ghost use Rattle.std.specs.Io.KnownBytes.{IsAtEnd};
 ghost use Rattle.multihash.specs.Pair.{Pair, FitsBuffer};
 ghost use Rattle.multihash.specs.Scale.{IsScale, ScaleMayFailWith};
 ghost use Rattle.multihash.specs.Reading.{Consumes, CountsReaderFailures};
@@ -11,9 +12,9 @@ use multihash::no_std_io::Read;
 use multihash::{Error, Multihash, laws, list};
 use std::alloc::Global;
 
-/// Reads `count` multihashes into a vector of that capacity, or returns `None` if the allocation fails: a
-/// reader that did not fail then has all of its bytes left, so fewer can be read. A `count` of 0 needs no
-/// allocation.
+/// Reads `count` multihashes into a vector of that capacity, or returns `None` if an allocation fails: that of
+/// the vector, and then nothing was read, or one of the reader's, which counts one failure. A `count` of 0
+/// needs no allocation.
 ///
 /// # Errors
 ///
@@ -24,7 +25,8 @@ pub fn read_if_room<const S: usize, R: Read>(
     count: usize,
 ) -> Result<Option<Vec<Multihash<S>>>, Error>
     ensures none { IfOk result (λ list. IfNone list (¬ (count ≡ 0)
-        × (R.failures r.new ≡ R.failures r.old → R.rest r.new ≡ R.rest r.old))) }
+        × (((R.failures r.new ≡ R.failures r.old) × (R.rest r.new ≡ R.rest r.old))
+        ⊎ (R.failures r.new ≡ R.failures r.old + 1)))) }
     ensures some { IfOk result (λ list. IfSome list (λ found. (vec_capacity found ≡ count)
         × (length found.items ≡ count)
         × ConsumesPairs S (map pair_of found.items) (R.rest r.old) (R.rest r.new)
@@ -42,6 +44,34 @@ pub fn read_if_room<const S: usize, R: Read>(
             if is_memory { Ok(None) } else { Err(e) }
         }
     }
+}
+
+/// Reads multihashes until the input has ended, but no more than `limit`.
+///
+/// # Errors
+///
+/// Out of memory, or the first error of [`Multihash::read_next`]; the encodings before it were consumed, and
+/// what the failed call consumed.
+pub fn read_up_to<const S: usize, R: Read>(
+    alloc: Global,
+    r: &mut R,
+    limit: usize,
+) -> Result<Vec<Multihash<S>>, Error>
+    ensures ok { IfOk result (λ list. ConsumesPairs S (map pair_of list.items) (R.rest r.old) (R.rest r.new)
+        × (R.failures r.new ≡ R.failures r.old)) }
+    ensures end { IfOk result (λ list. (length list.items ≤ limit)
+        × (length list.items < limit → IsAtEnd (R.rest r.new))) }
+    ensures err { IfErr result (λ e. IsOutOfMemory e ⊎ StopsAfterPairs S limit e
+        (R.failures r.old) (R.failures r.new) (R.rest r.old) (R.rest r.new)) }
+{
+    let mut list = Vec::new(alloc);
+    for _ in 0..limit {
+        match Multihash::read_next(r)? {
+            Some(multihash) => list.push(multihash)?,
+            None => return Ok(list),
+        }
+    }
+    Ok(list)
 }
 
 /// Reads the SCALE form that comes next: that pair, if it fits, and what follows it is left.

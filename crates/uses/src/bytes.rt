@@ -1,13 +1,10 @@
 //! Callers that read and write bytes.
-ghost use Rattle.std.specs.Prelude.{◌≡◌, ℕ, ◌+◌, ◌-◌, ◌≤◌, ◌↔◌, List, [], ◌∷◌, ◌++◌, Some, length, slice_get, IsTrue, IfSome, IfOk, OnOk, OnErr, MatchOption};
+ghost use Rattle.std.specs.Prelude.{◌≡◌, [], ◌∷◌, ◌++◌, slice_get, IfSome, IfOk, OnOk, OnErr, MatchOption};
 ghost use Rattle.multihash.specs.Fault.{IsOwnFault};
 ghost use Rattle.std.specs.Io.KnownBytes.{IsAtEnd};
 ghost use Rattle.multihash.specs.Reading.{Consumes, CountsReaderFailures, NoOtherError};
 ghost use Rattle.multihash.specs.Writing.{CountsWriterFailures, AppendsPrefix, IsFault};
-ghost use Rattle.multihash.specs.Encoding.{IsEncoding};
-ghost use Rattle.multihash.specs.Multihash.{pair_of};
 
-use multihash::Multihash;
 use multihash::no_std_io::{self, Read, Write};
 
 /// The next byte, or none at the end of the input.
@@ -36,24 +33,4 @@ pub fn write_two<W: Write>(w: &mut W, a: &[u8], b: &[u8]) -> Result<(), no_std_i
 {
     w.write_all(a)?;
     w.write_all(b)
-}
-
-/// Whether the encoding was written to the front of `buffer`, and the number of bytes left after it. If the
-/// slice is too short, none are left.
-pub fn fills<const S: usize>(m: &Multihash<S>, buffer: &mut [u8]) -> (bool, usize)
-    ensures { (bytes : List ℕ) × IsEncoding (pair_of m.now) bytes
-        × (IsTrue result.0 ↔ (length bytes ≤ length buffer.old))
-        × (result.1 ≡ length buffer.old - length bytes) }
-{
-    let mut left = buffer;
-    let is_whole = m.write(&mut left).is_ok();
-    (is_whole, left.len())
-}
-
-/// Writes the encoding to the front of an array of the greatest length, and returns its length.
-pub fn fills_longest<const S: usize>(m: &Multihash<S>, buffer: &mut [u8; 266]) -> usize
-    ensures { (bytes : List ℕ) × IsEncoding (pair_of m.now) bytes × (result ≡ length bytes) }
-{
-    let mut left = &mut buffer[..m.encoded_len()];
-    m.write(&mut left).unwrap()
 }

@@ -22,7 +22,6 @@ pub fn write_node<const S: usize, W: Write>(
 ) -> Result<(), Error>
     ensures ok { OnOk result ((bytes : List ℕ) × AreConcatenated (map pair_of links.now) bytes
         × W.appended w.old (bytes ++ content.now) w.new) }
-    ensures fit { OnOk result (All (FitsBuffer S) (map pair_of links.now)) }
     ensures err { OnErr result ((bytes : List ℕ) × AreConcatenated (map pair_of links.now) bytes
         × AppendsPrefix W.appended w.old (bytes ++ content.now) w.new) }
     ensures faults { CountsWriterFailures IsIo W.allocates

@@ -2,6 +2,7 @@
 ghost use Rattle.std.specs.Prelude.{◌≡◌, ◌<◌, ℕ, List, ◌++◌, length, map, drop, MatchOption};
 ghost use Rattle.multihash.specs.Encoding.{IsEncoding};
 ghost use Rattle.multihash.specs.Streams.{AreConcatenated};
+ghost use Rattle.multihash.specs.Scale.{IsScale};
 ghost use Rattle.multihash.specs.Multihash.{pair_of};
 
 use multihash::Multihash;
@@ -22,6 +23,14 @@ pub fn encode_into<const S: usize>(m: &Multihash<S>, buffer: &mut [u8]) -> Optio
     Some(m.write(&mut writer).unwrap())
 }
 
+/// Writes the encoding to the front of an array of the greatest length, and returns it.
+pub fn encode_longest<'a, const S: usize>(m: &Multihash<S>, buffer: &'a mut [u8; 266]) -> &'a [u8]
+    ensures { IsEncoding (pair_of m.now) result.now }
+{
+    let len = encode_into(m, &mut buffer[..m.encoded_len()]).unwrap();
+    &buffer[..len]
+}
+
 /// Writes the encodings of some multihashes to the front of `buffer` and returns their length; none if they
 /// do not fit, and then the bytes are unspecified.
 pub fn encode_all_into<const S: usize>(items: &[Multihash<S>], buffer: &mut [u8]) -> Option<usize>
@@ -32,6 +41,20 @@ pub fn encode_all_into<const S: usize>(items: &[Multihash<S>], buffer: &mut [u8]
     let mut writer = SliceWriter::new(buffer);
     match write_list(items, &mut writer) {
         Ok(()) => Some(writer.filled),
+        Err(_) => None,
+    }
+}
+
+/// Writes the SCALE form to the front of `buffer` and returns its length; none if it does not fit, and then
+/// the bytes are unspecified.
+pub fn scale_into<const S: usize>(m: &Multihash<S>, buffer: &mut [u8]) -> Option<usize>
+    ensures { (bytes : List ℕ) × IsScale (pair_of m.now) bytes
+        × MatchOption result (length buffer.old < length bytes)
+        (λ n. (n ≡ length bytes) × (buffer.new ≡ bytes ++ drop n buffer.old)) }
+{
+    let mut writer = SliceWriter::new(buffer);
+    match m.scale_encode(&mut writer) {
+        Ok(n) => Some(n),
         Err(_) => None,
     }
 }

@@ -34,8 +34,8 @@ impl Model for Error {
 }
 
 impl Error {
-    // The input ended before a buffer was full.
-    pub(crate) fn unexpected_eof() -> Self
+    /// Returns the error for an input that ends too early. It prints `failed to fill whole buffer`.
+    pub fn unexpected_eof() -> Self
         ensures { IsUnexpectedEof result }
     {
         Error {

@@ -1,9 +1,10 @@
-use Rattle.std.proofs.Common.{◌≡◌, ◌++◌, length, inl, inr, refl, sym, subst, ◌∙◌, arith, rules}
+use Rattle.std.proofs.Common.{◌++◌, inl, inr, refl, sym, subst, ◌∙◌, arith}
 use Rattle.multihash.specs.Varint.{IsVarint}
 use Rattle.multihash.proofs.Readings.ReadingLemmas.{Consumes-concatenated}
+use Rattle.multihash.proofs.CallingLemmas.{varint_fails}
 use Rattle.multihash.proofs.OutcomeLemmas.{passed_on}
 use Rattle.storage.specs.declared.log.EntryError.TheVariants.{Failed}
-use Rattle.storage.proofs.LogLemmas.{varint_fails, bytes_fail, entry_fails, rejected_found, entry_found}
+use Rattle.storage.proofs.LogLemmas.{bytes_fail, entry_fails, rejected_found, entry_found}
 use Rattle.storage.proofs.log.read_entry.Goals as goal
 
 -- ---- why it failed, and what was consumed

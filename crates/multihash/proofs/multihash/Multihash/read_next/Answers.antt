@@ -1,18 +1,12 @@
-use Rattle.std.proofs.Common.{◌≡◌, ℕ, List, Option, Some, None, Ok, Err, inr, refl}
+use Rattle.std.proofs.Common.{inr, refl}
 use Rattle.multihash.specs.Varint.{insufficient}
 use Rattle.multihash.specs.Reading.{EndsInNone}
-use Rattle.multihash.specs.Refusal.{Refusal, of_varint}
+use Rattle.multihash.specs.Refusal.{Refusal}
 use Rattle.multihash.specs.Consuming.{ReadMeets, none_is_insufficient}
-use Rattle.multihash.specs.Multihash.{Fields}
 use Rattle.multihash.proofs.OutcomeLemmas.{passed_err}
 use Rattle.multihash.proofs.Readings.ReadConsumingLemmas.{stops_in_code}
+use Rattle.multihash.proofs.Readings.ReadingLemmas.{not_ended}
 use Rattle.multihash.proofs.multihash.Multihash.read_next.Goals as goal
-
--- an input at whose front a code was read has not ended
-not_ended : (S : ℕ) (old mid new : Option (List ℕ)) (before between after code : ℕ) → between ≡ before
-    → EndsInNone {E = Refusal} old mid before between (Ok (Some code)) → EndsInNone {A = Fields S} old new before after (Err (of_varint insufficient))
-not_ended S None mid new before between after code same ends = record { none = tt; always = tt }
-not_ended S (Some rest) mid new before between after code same ends = record { none = tt; always = λ _ empty. cc (ends.always same empty) }
 
 pub returns-in_err-code-clause-read : goal.returns-in_err-code-clause-read
 returns-in_err-code-clause-read g c =
@@ -35,7 +29,7 @@ returns-in_err-read_after-in-Some-clause-end g c =
     let before = g.R.Read.failures c.args.r.now in
     let after = g.R.Read.failures c.read_after.new.r in
     passed_err (EndsInNone old new before after) c.from_residual-in_err-read_after-in-Some.result _ c.from_residual-in_err-read_after-in-Some.ensures.1
-    (not_ended g.row.S old (g.R.Read.rest c.read_next.new.r) new before _ after c.in-Some.code code.faults code.end)
+    (record { none = tt; always = not_ended Refusal _ c.in-Some.code old (g.R.Read.rest c.read_next.new.r) before _ after code.faults code.end })
 
 pub returns-in-None-clause-read : goal.returns-in-None-clause-read
 returns-in-None-clause-read g c =

@@ -1,11 +1,10 @@
-use Rattle.std.proofs.Common.{◌≡◌, ℕ, length, inl, inr, refl, sym, ap, ◌∙◌, subst, arith, rules}
-use Rattle.multihash.specs.Varint.{IsVarint}
+use Rattle.std.proofs.Common.{◌≡◌, length, inl, inr, refl, ◌∙◌, arith, rules}
 use Rattle.multihash.specs.Refusal.{of_io}
-use Rattle.multihash.specs.Reading.{ConsumesFewerThan, HasFewerThan}
 use Rattle.multihash.specs.Multihash.{pair_of}
+use Rattle.multihash.proofs.CallingLemmas.{varint_fails}
 use Rattle.multihash.proofs.OutcomeLemmas.{passed_on}
 use Rattle.uses.specs.declared.content_id.ContentIdError.TheVariants.{Refused}
-use Rattle.uses.proofs.ContentIdLemmas.{make_version_0, make_version_1, takes_three, number_fails, hash_fails, digest_fails, id_fails, rejected_found, id_found}
+use Rattle.uses.proofs.ContentIdLemmas.{make_version_0, make_version_1, takes_three, hash_fails, digest_fails, id_fails, rejected_found, id_found}
 use Rattle.uses.proofs.content_id.ContentId.read.Goals as goal
 use Rattle.uses.proofs.content_id.ContentId.read.Goals.{else-version-ne-VERSION-via-then-version-ne-VERSION+else-version-ne-SHA2_256, else-version-ne-VERSION-via-else-version-ne-VERSION}
 
@@ -38,7 +37,7 @@ pub returns-in_err-version-clause-err : goal.returns-in_err-version-clause-err
 returns-in_err-version-clause-err g c =
     let met = c.in_err-version.ensures in
     passed_on c.from_residual.result (Refused c.in_err-version.field-0.0) _ _ c.from_residual.ensures.1
-    (inl (_, refl, number_fails _ _ _ _ _ _ refl met.faults met.err met.front))
+    (inl (_, refl, varint_fails _ _ _ _ _ _ refl met.faults met.err met.front))
 
 pub returns-then-version-ne-SHA2_256-clause-err : goal.returns-then-version-ne-SHA2_256-clause-err
 returns-then-version-ne-SHA2_256-clause-err g c =
@@ -58,7 +57,7 @@ returns-in_err-number-clause-err g c =
           | else-version-ne-VERSION-via-then-version-ne-VERSION+else-version-ne-SHA2_256 w ↦ inr (omega arith)
           | else-version-ne-VERSION-via-else-version-ne-VERSION w ↦ inl (omega arith)
         ],
-        inl (_, refl, number_fails _ _ _ _ _ _ v.faults met.faults met.err met.front),
+        inl (_, refl, varint_fails _ _ _ _ _ _ v.faults met.faults met.err met.front),
       ),
     ))
 

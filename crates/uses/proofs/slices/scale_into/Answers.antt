@@ -1,0 +1,22 @@
+use Rattle.std.proofs.Common.{length, ap, arith}
+use Rattle.std.proofs.lemmas.Grind.{common_steps}
+use Rattle.multihash.specs.Filling.{IsFilled}
+use Rattle.multihash.proofs.Writings.WritingLemmas.{filled_slice, fewer_left, full_of_faults}
+use Rattle.uses.proofs.slices.scale_into.Goals as goal
+
+pub returns-in-Ok : goal.returns-in-Ok
+returns-in-Ok g c =
+    let (bytes, is, long, h) = c.in-Ok.ensures.ok in
+    let made = c.new-writer.ensures in
+    let same = h.same_slice in
+    let count = h.fills.count in
+    let whole = filled_slice _ bytes _ _ _ h.fills in
+    (bytes, is, grind (arith, common_steps))
+
+pub returns-in-Err : goal.returns-in-Err
+returns-in-Err g c =
+    let (bytes, is, h) = c.in-Err.ensures.err in
+    let made = c.new-writer.ensures in
+    let faults = c.in-Err.ensures.faults in
+    let fewer = fewer_left c.new-writer.result c.scale_encode.new.w bytes h (full_of_faults 0 (IsFilled c.scale_encode.new.w) faults.0 faults.2) in
+    (bytes, is, omega (arith, fewer, made.empty, ap length made.kept))
