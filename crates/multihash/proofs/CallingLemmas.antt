@@ -1,7 +1,7 @@
 -- What callers conclude from the contracts of several calls.
-use Rattle.std.proofs.Common.{Vec, Global, length-append, ◌≡◌, ℕ, ◌<◌, ◌≤◌, ◌-◌, ◌⊎◌, IfOk, IfErr, OnOk, OnErr, IsOk, inl, inr, length-drop, List, [], ◌∷◌, ◌++◌, length, map, Bool, true, false, IsTrue, ◌↔◌, Option, None, Some, Result, Ok, Err, MatchResult, IfSome, refl, sym, ap, ◌∙◌, subst, arith, append_assoc, ◌+◌, append-nil}
+use Rattle.std.proofs.Common.{Vec, Global, length-append, ◌≡◌, ℕ, ◌<◌, ◌≤◌, ◌-◌, ◌⊎◌, IfOk, IfErr, OnErr, IsOk, inl, inr, List, [], ◌∷◌, ◌++◌, length, map, Bool, true, false, IsTrue, ◌↔◌, Option, Some, Result, Ok, Err, MatchResult, IfSome, refl, sym, ap, ◌∙◌, subst, arith, append_assoc, ◌+◌, append-nil}
 use Rattle.std.specs.List.{All}
-use Rattle.std.specs.Result.{is_ok, IsErrAnd}
+use Rattle.std.specs.Result.{IsErrAnd}
 use Rattle.std.proofs.lemmas.List.{length-map, map_push, nil_from_length}
 use Rattle.std.proofs.lemmas.Bool.{false≢true}
 use Rattle.std.proofs.lemmas.List.Elements.{All-nil}
@@ -13,22 +13,21 @@ use Rattle.multihash.specs.Verdict.{Verdict, accepted, invalid_size, malformed, 
 use Rattle.multihash.specs.Settling.{Settles, IsShortestSettling}
 use Rattle.multihash.specs.Consuming.{ConsumesShortestSettling, ConsumesVarint, ConsumesAtVarintError, FailsBy, VarintFails}
 use Rattle.multihash.proofs.Readings.SettlingLemmas.{early_not_settles}
-use Rattle.multihash.specs.Fault.{Fault, IsOwnFault, IsUnexpectedEof}
-use Rattle.multihash.specs.Reading.{Consumes, CountsReaderFailures, HasFewerThan}
+use Rattle.multihash.specs.Reading.{Consumes}
 use Rattle.multihash.specs.Scale.{IsScale, HasScaleVerdict}
-use Rattle.multihash.specs.Writing.{AdvancesPast, AppendsPrefix, CountsWriterFailures}
+use Rattle.multihash.specs.Writing.{AppendsPrefix, CountsWriterFailures}
 use Rattle.multihash.specs.Filling.{Fills, IsFilled}
 use Rattle.multihash.specs.declared.no_std_io.slice_writer.SliceWriter.{SliceWriter}
 use Rattle.multihash.specs.Refusal.{Refusal, IsIo, IsOutOfMemory, IsInvalidSize, IsFrontError, IsAnyVarintError}
 use Rattle.multihash.specs.Outcome.{IsErrorOf, IsResultOf}
 use Rattle.multihash.specs.Multihash.{Fields, pair_of}
-use Rattle.multihash.proofs.Writings.WritingLemmas.{fewer_places, full_of_faults, slice_writer_has_room, length_of_not_nil}
+use Rattle.multihash.proofs.Writings.WritingLemmas.{slice_writer_has_room, length_of_not_nil}
 use Rattle.multihash.proofs.Readings.ReadingLemmas.{Consumes-cut, Consumes-told}
 use Rattle.multihash.proofs.Readings.VerdictLemmas.{verdict_unique, whole_verdict_unique}
 use Rattle.multihash.proofs.Varints.VarintLemmas.{number_no_fault, same_number}
 use Rattle.multihash.proofs.Forms.ScaleLemmas.{scale_split, scale_verdict_unique}
 use Rattle.multihash.proofs.Forms.StreamLemmas.{next_part, parts_unique}
-use Rattle.multihash.proofs.Writings.EncodingLemmas.{same_cut, encoding_same, encoding_unique}
+use Rattle.multihash.proofs.Writings.EncodingLemmas.{encoding_same, encoding_unique}
 
 -- reading that many pairs of a stream did not stop at an error
 pub never_stops : (S count : ℕ) (e : Refusal) (n : ℕ) (new : Option (List ℕ)) (pairs : List Pair) (bytes more : List ℕ)
@@ -58,31 +57,6 @@ read_list_of_encodings S count before after old new pairs bytes more (Err e) con
 read_list_of_encodings S count before after old new pairs bytes more (Err e) concatenated fit many rest same ok (inr stop) =
     absurd (never_stops S count e before new pairs bytes more concatenated fit many
     (subst (λ o. StopsAfterPairs S count e before before o new) rest (subst (λ n. StopsAfterPairs S count e before n old new) same stop)))
-
--- a form is written to a slice if its capacity suffices; otherwise the slice is full afterwards
-module _ {W : Type 0} (appended : W → List ℕ → W → Type 0) (a b : W) (IsForm : List ℕ → Type 0) (old new : List ℕ)
-    (gives : (part : List ℕ) → appended a part b → AdvancesPast old part new) where
-  pub filled : {T : Type 0} (r : Result T Refusal) (is_whole : Bool) → is_whole ≡ is_ok r
-      → OnOk r ((bytes : List ℕ) × IsForm bytes × appended a bytes b)
-      → OnErr r ((bytes : List ℕ) × IsForm bytes × AppendsPrefix appended a bytes b)
-      → CountsWriterFailures IsIo false 0 0 (new ≡ []) r
-      → (bytes : List ℕ) × IsForm bytes × (IsTrue is_whole ↔ (length bytes ≤ length old)) × (length new ≡ length old - length bytes)
-  filled (Ok n) is_whole told wrote stopped faults =
-      let given = gives wrote.0 wrote.2 in (
-        wrote.0,
-        wrote.1,
-        ((λ _. given.room), λ _. told),
-        ap length given.left ∙ length-drop (length wrote.0) old,
-      )
-  filled (Err e) is_whole told wrote stopped faults =
-      let part = stopped.2 in
-      let none = full_of_faults 0 (new ≡ []) faults.0 faults.2 in
-      let fewer = fewer_places old new stopped.0 part.part (gives part.part part.appends) part.strict none in (
-        stopped.0,
-        stopped.1,
-        ((λ is_true. absurd (false≢true (sym told ∙ is_true))), λ fits. absurd (omega (arith, fewer, fits))),
-        omega (arith, fewer, ap length none),
-      )
 
 -- `write` succeeds through a new `SliceWriter` if the slice has the capacity that `encoded_len` returns: the
 -- facts are the clauses of `encoded_len` and of `SliceWriter::new`, and `err` and `faults` of `write`
@@ -171,22 +145,6 @@ varint_read n before after old new bytes more (Ok m) is rest same ok front =
 varint_read n before after old new bytes more (Err e) is rest same ok front =
     let met = (rw rest at front) same in
     number_no_fault (bytes ++ more) n more met.0 (bytes, is, refl) met.2
-
--- if as many bytes as the buffer holds come next, `read_exact` fills it with them and leaves what follows
-pub read_exact_of_bytes : {A : Type 0} (n before after : ℕ) (old new : Option (List ℕ)) (filled bytes more : List ℕ) (r : Result A Fault)
-    → old ≡ Some (bytes ++ more) → length bytes ≡ n → length filled ≡ n → after ≡ before → CountsReaderFailures IsOwnFault IsUnexpectedEof before after r
-    → OnOk r (Consumes old filled new) → IfErr r (λ e. IsUnexpectedEof e → HasFewerThan n old)
-    → MatchResult r (λ _. (filled ≡ bytes) × (new ≡ Some more)) (λ _. ⊥)
-read_exact_of_bytes n before after None new filled bytes more r rest long whole same faults consumes eof = cc
-read_exact_of_bytes n before after (Some input) None filled bytes more (Ok x) rest long whole same faults consumes eof = cc
-read_exact_of_bytes n before after (Some input) (Some left) filled bytes more (Ok x) rest long whole same faults consumes eof =
-    let cut : filled ++ left ≡ bytes ++ more = cc in
-    let told = same_cut filled bytes left more (whole ∙ sym long) cut in
-    (told.0, ap Some told.1)
-read_exact_of_bytes n before after (Some input) new filled bytes more (Err e) rest long whole same (inl own) consumes eof = absurd (omega (arith, own.0, same))
-read_exact_of_bytes n before after (Some input) new filled bytes more (Err e) rest long whole same (inr ended) consumes eof =
-    let spelled : input ≡ bytes ++ more = cc in
-    omega (arith, eof ended.1, ap (λ (z : List ℕ). length z) spelled, length-append bytes more, long)
 
 -- reading a varint failed, after calls that counted no failure: the facts are the clauses of `varint::read`
 pub varint_fails : (before middle after : ℕ) (old new : Option (List ℕ)) (e : Refusal) → middle ≡ before → FailsBy middle after IsAnyVarintError e

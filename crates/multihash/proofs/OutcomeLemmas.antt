@@ -1,5 +1,5 @@
 -- What holds of the result if a `?` passes an error on.
-use Rattle.std.proofs.Common.{◌≡◌, Result, Ok, Err, IfOk, MatchResult, OnOk, OnErr, sym, subst}
+use Rattle.std.proofs.Common.{◌≡◌, Result, Ok, Err, MatchResult, OnErr, sym, subst}
 use Rattle.std.specs.Result.{IsErrAnd}
 
 -- the returned error is the one that was passed on, so what holds of that one holds of it
@@ -11,11 +11,6 @@ passed_on (Err x) e Q P given p = subst P (sym given) p
 pub OnErr-always : {T E P : Type 0} (r : Result T E) → P → OnErr r P
 OnErr-always (Ok x) p = tt
 OnErr-always (Err e) p = p
-
--- a fact about the value of an Ok gives one for the case Ok
-pub OnOk-from_IfOk : {T E P : Type 0} {Q : T → Type 0} (r : Result T E) → IfOk r Q → ((t : T) → Q t → P) → OnOk r P
-OnOk-from_IfOk (Ok t) known follows = follows t known
-OnOk-from_IfOk (Err e) known follows = tt
 
 -- what is known of an error holds of the result that passes it on
 pub passed_err : {T E : Type 0} (P : Result T E → Type 0) (r : Result T E) (e : E) → IsErrAnd r (λ x. x ≡ e) → P (Err e) → P r

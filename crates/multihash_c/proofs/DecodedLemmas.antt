@@ -10,13 +10,7 @@ use Rattle.multihash.specs.Verdict.{Verdict, accepted, invalid_size, invalid_cod
 use Rattle.multihash.specs.Refusal.{Refusal, IsInvalidCode}
 use Rattle.multihash.specs.Outcome.{IsErrorOf}
 use Rattle.multihash_c.specs.declared.decode.Decoded.{Decoded}
-use Rattle.multihash_c.specs.Decoded.{ReportsPair, ReportsRefusal, ConsumesForm}
-
--- what was consumed is the front
-pub taken_front : (input front left : List ℕ) → input ≡ front ++ left → take (length input - length left) input ≡ front
-taken_front input front left cut =
-    let long : length input - length left ≡ length front = omega (arith, ap length cut, length-append front left) in
-    rw (long, cut) (take-append_seam front left)
+use Rattle.multihash_c.specs.Decoded.{ReportsPair, ConsumesForm}
 
 -- the digest follows a front of that many bytes
 after_front : (input front digest rest : List ℕ) (offset n : ℕ) → input ≡ front ++ (digest ++ rest) → offset ≡ length front
@@ -49,16 +43,6 @@ reported_length input d p h =
       ap length h.is_digest,
       length-take-le d.digest_length (drop d.digest_offset input) (omega (arith, h.is_end, h.inside, length-drop d.digest_offset input)),
     )
-
--- a result is determined by its fields
-made_of : (d : Decoded) (size code offset n : ℕ) → d.size ≡ size → d.code ≡ code → d.digest_offset ≡ offset → d.digest_length ≡ n
-    → d ≡ record { status = d.status; size = size; code = code; digest_offset = offset; digest_length = n; taken = d.taken }
-made_of d size code offset n a b c e = rw (sym a, sym b, sym c, sym e) refl
-
--- an error is determined by what it reports and what was consumed
-pub reports_rejected : (d : Decoded) (status size code : ℕ) → ReportsRefusal d status size code
-    → d ≡ record { status = d.status; size = size; code = code; digest_offset = 0; digest_length = 0; taken = d.taken }
-reports_rejected d status size code h = made_of d size code 0 0 h.is_size h.is_code h.no_offset h.no_length
 
 -- a size that is one byte is not above 255
 pub byte_fits : (input : List ℕ) (size : ℕ) → IsBytes input → ¬ (HasScaleVerdict 255 input (invalid_size size))

@@ -1,5 +1,5 @@
 -- The JSON form: a list has one pair; its text; the bytes that an array's members are.
-use Rattle.std.proofs.Common.{◌≡◌, ℕ, ◌<◌, List, [], ◌∷◌, ◌++◌, map, refl, sym, ap, ◌∙◌, subst, ◌≤◌, Some, Result, Ok, Err, IfOk, arith, zero, suc, true, false, length, take, drop, set, slice_index_or, is_some, Option, None, inl, inr}
+use Rattle.std.proofs.Common.{◌≡◌, ℕ, ◌<◌, List, [], ◌∷◌, ◌++◌, map, refl, sym, ap, ◌∙◌, subst, ◌≤◌, Some, arith, zero, suc, true, false, length, take, drop, set, slice_index_or, is_some, Option, None, inl, inr}
 use Rattle.serde_json.specs.Data.{Data, number, unsigned, Items, items_depth, depth, negative, float, null, boolean, string, array, object}
 use Rattle.serde_json.specs.View.{items_of, view, items_view}
 use Rattle.multihash.specs.Bytes.{IsBytes}
@@ -8,7 +8,6 @@ use Rattle.multihash.specs.Encoding.{IsEncoding}
 use Rattle.multihash.specs.Json.{number_array, IsByteArray, IsJsonList}
 use Rattle.multihash.proofs.Writings.EncodingLemmas.{encoding_unique, encoding_bytes}
 use Rattle.serde_json.specs.Read.{max_depth, read}
-use Rattle.multihash.specs.Multihash.{Fields, pair_of}
 use Rattle.std.specs.List.{list_all}
 use Rattle.std.proofs.lemmas.Bool.{false≢true, and_parts, cases_lt, lt-ltb, le-ltb}
 use Rattle.std.proofs.lemmas.List.Sums.{AllPass-from_list_all}
@@ -54,17 +53,6 @@ pub list_reads_back : {p : Pair} {d : Data} (text : List ℕ) → IsJsonList p d
 list_reads_back {d = d} text listed back =
     let within : depth d ≤ max_depth = rw listed.lists (rw (flat listed.encoding) (omega arith)) in
     (d, back within, listed)
-
--- a text that reads as a pair's list lists no other pair's bytes
-pub text_lists_one : {S : ℕ} {E : Type 0} (p : Pair) (text : List ℕ) (r : Result (Fields S) E)
-    → (d : Data) × (read text ≡ Some d) × IsJsonList p d
-    → IfOk r (λ m. (d : Data) × (read text ≡ Some d) × ((bytes : List ℕ) × IsByteArray d bytes × IsEncoding (pair_of m) bytes))
-    → IfOk r (λ m. pair_of m ≡ p)
-text_lists_one p text (Ok m) (d, reads, listed) (e, again, (bytes, is_array, encodes)) =
-    let same : e ≡ d = cc in
-    let own = json_bytes p d bytes listed (subst (λ z. IsByteArray z bytes) same is_array) in
-    (encoding_unique (pair_of m) p bytes bytes [] [] encodes own refl).0
-text_lists_one p text (Err x) printed parsed = tt
 
 -- what is there, is a value
 pub some_value : (o : Option ℕ) → is_some o ≡ true → (b : ℕ) × (o ≡ Some b)

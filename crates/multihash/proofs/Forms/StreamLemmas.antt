@@ -9,10 +9,10 @@ use Rattle.multihash.proofs.Varints.DigitLemmas.{All-append_right}
 use Rattle.multihash.proofs.Varints.VarintLemmas.{varint_some}
 use Rattle.multihash.proofs.Writings.EncodingLemmas.{encoding_unique}
 use Rattle.std.proofs.lemmas.List.{map_push}
-use Rattle.std.proofs.lemmas.List.Elements.{All-nil, All-push, All-head}
+use Rattle.std.proofs.lemmas.List.Elements.{All-push, All-head}
 use Rattle.multihash.specs.Reading.{Consumes}
 use Rattle.multihash.specs.Multihash.{Fields, pair_of}
-use Rattle.multihash.proofs.Readings.ReadingLemmas.{Consumes-none, Consumes-concatenated}
+use Rattle.multihash.proofs.Readings.ReadingLemmas.{Consumes-concatenated}
 
 module _ {A : Type 0} (IsPart : A → List ℕ → Type 0) where
   -- one more part
@@ -80,9 +80,6 @@ encoding_some p bytes e = omega (arith, varint_some p.code e.code e.is_code, ap 
 
 pub concatenated_whole : (ps qs : List Pair) (bytes : List ℕ) → AreConcatenated ps bytes → AreConcatenated qs bytes → ps ≡ qs
 concatenated_whole = parts_whole IsEncoding encoding_unique encoding_some
-
-pub ConsumesPairs-none : (S : ℕ) (a : Option (List ℕ)) → ConsumesPairs S [] a a
-ConsumesPairs-none S a = record { bytes = []; concatenated = refl; fit = All-nil (FitsBuffer S); consumes = Consumes-none a }
 
 pub ConsumesPairs-more : (S : ℕ) (items : List (Fields S)) (m : Fields S) (encoding : List ℕ) (a b c : Option (List ℕ)) → ConsumesPairs S (map pair_of items) a b
     → IsEncoding (pair_of m) encoding → FitsBuffer S (pair_of m) → Consumes b encoding c → ConsumesPairs S (map pair_of (items ++ m ∷ [])) a c

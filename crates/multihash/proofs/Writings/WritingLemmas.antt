@@ -3,7 +3,7 @@ use Rattle.std.proofs.Common.{◌≡◌, ◌≢◌, ◌<◌, [], ◌∷◌, refl
 use Rattle.std.proofs.lemmas.List.{take_rest, length-take-le, drop-drop}
 use Rattle.std.proofs.Math.Seq.{drop-append_seam, take-append_seam}
 use Rattle.multihash.specs.Bytes.{IsStrictPrefix}
-use Rattle.multihash.specs.Writing.{AppendsPrefix, IsWriterFaultOrFull, CountsWriterFailures, AdvancesPast}
+use Rattle.multihash.specs.Writing.{AppendsPrefix, IsWriterFaultOrFull, CountsWriterFailures}
 use Rattle.multihash.proofs.OutcomeLemmas.{OnErr-always}
 use Rattle.std.proofs.lemmas.Bool.{false≢true}
 use Rattle.multihash.specs.Fault.{Fault}
@@ -77,36 +77,10 @@ module _ {W : Type 0} (appended : W → List ℕ → W → Type 0) (join : (a b 
   stops_in_third r u w x v first second part =
       OnErr-always r (a ++ (b ++ d), form, AppendsPrefix-concatenated appended join u w v a (b ++ d) first (AppendsPrefix-concatenated appended join w x v b d second part))
 
--- the slice is full after a strict prefix of `bytes`, so it was shorter than these
-pub fewer_places : (old new bytes part : List ℕ) → AdvancesPast old part new → IsStrictPrefix part bytes → new ≡ [] → length old < length bytes
-fewer_places old new bytes part given strict none =
-    omega (
-      arith,
-      ap length strict.2,
-      length-append part strict.0,
-      length_of_not_nil strict.0 strict.1,
-      ap length given.left,
-      ap length none,
-      length-drop (length part) old,
-    )
-
 -- a writer that doesn't allocate and counted no failure returned an error because it was full
 pub full_of_faults : (n : ℕ) (is_full : Type 0) (e : Fault) → IsWriterFaultOrFull false n n is_full e → is_full
 full_of_faults n is_full e (inl fault) = elim fault.cause [ inl rose ↦ absurd (omega arith) | inr memory ↦ absurd (false≢true memory.0) ]
 full_of_faults n is_full e (inr full) = full.2
-
--- `write`, `scale_encode` and `write_list` succeed if the slice is as long as the form: the second and the
--- third fact are their clauses `err` and `faults`, and the first states what the slice's `appended` means
-pub mut_slice_has_room : {T W : Type 0} (appended : W → List ℕ → W → Type 0) (a b : W) (IsForm : List ℕ → Type 0)
-    (old new : List ℕ) (r : Result T Refusal) → ((part : List ℕ) → appended a part b → AdvancesPast old part new)
-    → OnErr r ((bytes : List ℕ) × IsForm bytes × AppendsPrefix appended a bytes b) → CountsWriterFailures IsIo false 0 0 (new ≡ []) r
-    → ((bytes : List ℕ) → IsForm bytes → length bytes ≤ length old) → IsOk r
-mut_slice_has_room appended a b IsForm old new (Ok x) gives stopped faults enough = refl
-mut_slice_has_room appended a b IsForm old new (Err e) gives stopped faults enough =
-    let h = stopped.2 in
-    let none = full_of_faults 0 (new ≡ []) faults.0 faults.2 in
-    let fewer = fewer_places old new stopped.0 h.part (gives h.part h.appends) h.strict none in
-    absurd (omega (arith, fewer, enough stopped.0 stopped.1))
 
 -- the slice after filling it, as one list
 pub filled_slice : (old bytes new : List ℕ) (n m : ℕ) → FillsSlice old n bytes new m → new ≡ take n old ++ (bytes ++ drop (n + length bytes) old)
