@@ -15,5 +15,4 @@ pub mod recovery;
 pub mod retries;
 pub mod section;
 pub mod slices;
-pub mod streams;
 pub mod values;
