@@ -46,26 +46,34 @@ typedef struct memory {
     u8 own[OWN_SIZE]; /* not initialised: the functions write each byte before they read it */
 } memory;
 
+/* The accesses are compiled in place: mostly the block is known there, and its length is compared once. */
+#if defined(__GNUC__)
+#define ALWAYS_INLINE static inline __attribute__((always_inline))
+#else
+#define ALWAYS_INLINE static inline
+#endif
+
 /* Whether the `size` bytes at an offset are in a block of that length. */
-static inline int within(u64 offset, u64 size, u64 length)
+ALWAYS_INLINE int within(u64 offset, u64 size, u64 length)
 {
     return size <= length && offset <= length - size;
 }
 
-static inline const u8 *readable(const memory *from, u64 address, u64 size)
+ALWAYS_INLINE const u8 *readable(const memory *from, u64 address, u64 size)
 {
-    u64 offset = address & (ADDRESS(1) - 1);
+    u64 offset;
     switch (address >> BLOCK_BITS) {
     case OWN:
-        if (within(offset, size, OWN_SIZE)) return from->own + offset;
-        if (offset >= TEXTS_START && within(offset - TEXTS_START, size, sizeof texts)) {
-            return texts + (offset - TEXTS_START);
-        }
+        if (within(address, size, OWN_SIZE)) return from->own + address;
+        offset = address - TEXTS_START;
+        if (address >= TEXTS_START && within(offset, size, sizeof texts)) return texts + offset;
         break;
     case INPUT:
+        offset = address - ADDRESS(INPUT);
         if (within(offset, size, from->input_length)) return from->input + offset;
         break;
     case OTHER:
+        offset = address - ADDRESS(OTHER);
         if (within(offset, size, from->other_length)) return from->other + offset;
         break;
     default:
@@ -74,14 +82,15 @@ static inline const u8 *readable(const memory *from, u64 address, u64 size)
     abort();
 }
 
-static inline u8 *writable(memory *to, u64 address, u64 size)
+ALWAYS_INLINE u8 *writable(memory *to, u64 address, u64 size)
 {
-    u64 offset = address & (ADDRESS(1) - 1);
+    u64 offset;
     switch (address >> BLOCK_BITS) {
     case OWN:
-        if (within(offset, size, OWN_SIZE)) return to->own + offset;
+        if (within(address, size, OWN_SIZE)) return to->own + address;
         break;
     case OUT:
+        offset = address - ADDRESS(OUT);
         if (within(offset, size, to->out_length)) return to->out + offset;
         break;
     default:
@@ -91,7 +100,7 @@ static inline u8 *writable(memory *to, u64 address, u64 size)
 }
 
 /* Whether this machine has the lowest byte of a number first, as WebAssembly. Compilers know it. */
-static inline int lowest_first(void)
+ALWAYS_INLINE int lowest_first(void)
 {
     const uint16_t one = 1;
     u8 first = 0;
@@ -99,7 +108,7 @@ static inline int lowest_first(void)
     return first == 1;
 }
 
-static inline u64 load(const memory *from, u64 address, size_t size)
+ALWAYS_INLINE u64 load(const memory *from, u64 address, size_t size)
 {
     const u8 *bytes = readable(from, address, size);
     u64 value = 0;
@@ -111,7 +120,7 @@ static inline u64 load(const memory *from, u64 address, size_t size)
     return value;
 }
 
-static inline void store(memory *to, u64 address, u64 value, size_t size)
+ALWAYS_INLINE void store(memory *to, u64 address, u64 value, size_t size)
 {
     u8 *bytes = writable(to, address, size);
     if (lowest_first()) {
@@ -122,79 +131,79 @@ static inline void store(memory *to, u64 address, u64 value, size_t size)
 }
 
 /* The number whose lowest eight bits are these, and whose others are the highest of them. */
-static inline u64 extended(u64 byte)
+ALWAYS_INLINE u64 extended(u64 byte)
 {
     return (byte ^ 0x80) - 0x80;
 }
 
 /* The instructions of WebAssembly that generated code calls, by their names. */
-static inline u32 i32_load(const memory *m, u64 address, u64 offset)
+ALWAYS_INLINE u32 i32_load(const memory *m, u64 address, u64 offset)
 {
     return (u32)load(m, address + offset, 4);
 }
 
-static inline u32 i32_load16_u(const memory *m, u64 address, u64 offset)
+ALWAYS_INLINE u32 i32_load16_u(const memory *m, u64 address, u64 offset)
 {
     return (u32)load(m, address + offset, 2);
 }
 
-static inline u32 i32_load8_u(const memory *m, u64 address, u64 offset)
+ALWAYS_INLINE u32 i32_load8_u(const memory *m, u64 address, u64 offset)
 {
     return (u32)load(m, address + offset, 1);
 }
 
-static inline u32 i32_load8_s(const memory *m, u64 address, u64 offset)
+ALWAYS_INLINE u32 i32_load8_s(const memory *m, u64 address, u64 offset)
 {
     return (u32)extended(load(m, address + offset, 1));
 }
 
-static inline u64 i64_load(const memory *m, u64 address, u64 offset)
+ALWAYS_INLINE u64 i64_load(const memory *m, u64 address, u64 offset)
 {
     return load(m, address + offset, 8);
 }
 
-static inline u64 i64_load8_u(const memory *m, u64 address, u64 offset)
+ALWAYS_INLINE u64 i64_load8_u(const memory *m, u64 address, u64 offset)
 {
     return load(m, address + offset, 1);
 }
 
-static inline u64 i64_load8_s(const memory *m, u64 address, u64 offset)
+ALWAYS_INLINE u64 i64_load8_s(const memory *m, u64 address, u64 offset)
 {
     return extended(load(m, address + offset, 1));
 }
 
-static inline void i32_store(memory *m, u64 address, u32 value, u64 offset)
+ALWAYS_INLINE void i32_store(memory *m, u64 address, u32 value, u64 offset)
 {
     store(m, address + offset, value, 4);
 }
 
-static inline void i32_store16(memory *m, u64 address, u32 value, u64 offset)
+ALWAYS_INLINE void i32_store16(memory *m, u64 address, u32 value, u64 offset)
 {
     store(m, address + offset, value & 0xffff, 2);
 }
 
-static inline void i32_store8(memory *m, u64 address, u32 value, u64 offset)
+ALWAYS_INLINE void i32_store8(memory *m, u64 address, u32 value, u64 offset)
 {
     store(m, address + offset, value & 0xff, 1);
 }
 
-static inline void i64_store(memory *m, u64 address, u64 value, u64 offset)
+ALWAYS_INLINE void i64_store(memory *m, u64 address, u64 value, u64 offset)
 {
     store(m, address + offset, value, 8);
 }
 
-static inline void i64_store8(memory *m, u64 address, u64 value, u64 offset)
+ALWAYS_INLINE void i64_store8(memory *m, u64 address, u64 value, u64 offset)
 {
     store(m, address + offset, value & 0xff, 1);
 }
 
 /* A pointer may be null if nothing is copied. */
-static inline void memory_copy(memory *m, u64 to, u64 from, u64 size)
+ALWAYS_INLINE void memory_copy(memory *m, u64 to, u64 from, u64 size)
 {
     if (size > 0) memmove(writable(m, to, size), readable(m, from, size), (size_t)size);
 }
 
-static inline void memory_fill(memory *m, u64 to, u32 byte, u64 size)
+ALWAYS_INLINE void memory_fill(memory *m, u64 to, u32 byte, u64 size)
 {
     if (size > 0) memset(writable(m, to, size), (int)(byte & 0xff), (size_t)size);
 }

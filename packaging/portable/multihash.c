@@ -4,6 +4,13 @@
 
 #include "module.h"
 
+/* A length of a block. Addresses have no room for a longer one, which is rejected, as C can say so. */
+static inline uint64_t block_length(size_t length)
+{
+    if ((uint64_t)length >> BLOCK_BITS != 0) abort();
+    return length;
+}
+
 /* Starts a call with two inputs and an output buffer: null and 0 if the function has none. */
 static inline void begin(memory *call, const uint8_t *input, size_t input_length, const uint8_t *other,
                          size_t other_length, uint8_t *out, size_t out_length)
@@ -11,11 +18,11 @@ static inline void begin(memory *call, const uint8_t *input, size_t input_length
     call->w2c___stack_pointer = STACK_SIZE;
     call->w2c_in_call = 0;
     call->input = input;
-    call->input_length = input_length;
+    call->input_length = block_length(input_length);
     call->other = other;
-    call->other_length = other_length;
+    call->other_length = block_length(other_length);
     call->out = out;
-    call->out_length = out_length;
+    call->out_length = block_length(out_length);
 }
 
 /* A field of the result, whose structs have numbers of eight bytes on every machine. */

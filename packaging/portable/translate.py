@@ -35,7 +35,7 @@ GLOBALS = r"""static void init_globals\(Z_module_instance_t\* instance\) \{
 CALL = re.compile(r"\(\*Z_memoryZ_(\w+)\)\(instance->Z_memory_instance, ")
 MEMORY = Path(__file__).resolve().parent / "memory.h"
 # The functions and macros of memory.h, and what C has besides calls.
-PROVIDED = re.compile(r"^(?:static inline [^(\n]*?|#define )(\w+)\(", re.MULTILINE)
+PROVIDED = re.compile(r"^(?:(?:static inline|ALWAYS_INLINE) [^(\n]*?|#define )(\w+)\(", re.MULTILINE)
 KEYWORDS = {"if", "while", "for", "switch", "return", "sizeof"}
 
 

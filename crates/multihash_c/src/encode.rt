@@ -205,17 +205,6 @@ fn put_digest(digest: &[u8], buffer: &mut [u8])
 {
     match digest.as_array::<32>() {
         Some(whole) => *buffer.first_chunk_mut().unwrap() = *whole,
-        None => put_each(digest, buffer),
-    }
-}
-
-// Copies bytes to the front of a buffer that is large enough, one by one: a copy of a whole slice would
-// be a call of `memmove`, since the compiler cannot know that the caller's buffers do not overlap.
-fn put_each(bytes: &[u8], buffer: &mut [u8])
-    requires { length bytes.now ≤ length buffer.old }
-    ensures { buffer.new ≡ bytes.now ++ drop (length bytes.now) buffer.old }
-{
-    for (i, byte) in bytes.iter().enumerate() {
-        buffer[i] = *byte;
+        None => buffer[..digest.len()].copy_from_slice(digest),
     }
 }

@@ -1,0 +1,13 @@
+use Rattle.std.proofs.Common.{◌≡◌, ◌+◌, ◌-◌, ◌∙◌, ℕ, ap, arith, take, drop}
+use Rattle.multihash.proofs.Values.WindowLemmas.{window, order_of, order_of_same}
+use Rattle.multihash_c.proofs.compare.order_of_pair.Goals as goal
+
+pub returns-then-same_pair : goal.returns-then-same_pair
+returns-then-same_pair c =
+    order_of_same (window 16 c.args.at c.args.a.now) (window 16 c.args.at c.args.b.now) (c.same_pair.ensures.0 c.if-same_pair.true)
+
+pub returns : goal.returns
+returns c =
+    let at = c.args.at in
+    let long : at + 16 - at ≡ 16 = omega arith in
+    c.order_of_unlike.ensures ∙ ap (λ (n : ℕ). order_of (take n (drop at c.args.a.now)) (take n (drop at c.args.b.now))) long
