@@ -4,11 +4,10 @@
 
 #include "module.h"
 
-/* A length of a block. Addresses have no room for a longer one, which is rejected, as C can say so. */
-static inline uint64_t block_length(size_t length)
+/* Ends the program if no block is that long. The compiler then knows in which block an index of it is. */
+static inline void need_block_length(size_t length)
 {
     if ((uint64_t)length >> BLOCK_BITS != 0) abort();
-    return length;
 }
 
 /* Starts a call with two inputs and an output buffer: null and 0 if the function has none. */
@@ -18,11 +17,11 @@ static inline void begin(memory *call, const uint8_t *input, size_t input_length
     call->w2c___stack_pointer = STACK_SIZE;
     call->w2c_in_call = 0;
     call->input = input;
-    call->input_length = block_length(input_length);
+    call->input_length = input_length;
     call->other = other;
-    call->other_length = block_length(other_length);
+    call->other_length = other_length;
     call->out = out;
-    call->out_length = block_length(out_length);
+    call->out_length = out_length;
 }
 
 /* A field of the result, whose structs have numbers of eight bytes on every machine. */
@@ -122,6 +121,8 @@ multihash_encoded multihash_encode(uint64_t code, const uint8_t *digest, size_t 
                                    size_t out_length)
 {
     memory call;
+    need_block_length(digest_length);
+    need_block_length(out_length);
     begin(&call, digest, digest_length, NULL, 0, out, out_length);
     w2c_multihash_encode(&call, RESULT, code, ADDRESS(INPUT), digest_length, ADDRESS(OUT), out_length);
     return encoded(&call);
@@ -140,6 +141,8 @@ int32_t multihash_compare(uint64_t left_code, const uint8_t *left_digest, size_t
                           uint64_t right_code, const uint8_t *right_digest, size_t right_digest_length)
 {
     memory call;
+    need_block_length(left_digest_length);
+    need_block_length(right_digest_length);
     begin(&call, left_digest, left_digest_length, right_digest, right_digest_length, NULL, 0);
     uint32_t order = w2c_multihash_compare(&call, left_code, ADDRESS(INPUT), left_digest_length, right_code,
                                            ADDRESS(OTHER), right_digest_length);
