@@ -26,20 +26,20 @@ static const unsigned char texts[186] = {
 static u32 w2c___rattle_enter(memory*);
 static void w2c___rattle_leave(memory*);
 static void w2c___rattle_trap(memory*);
-static u32 w2c_core__cmp__slices__order____914af4d8504a0b72_(memory*, u64, u64, u64, u64);
 static void w2c_multihash__varint__word__front_by_word(memory*, u64, u64, u64);
 static void w2c_multihash__varint__word__front_by_short_word(memory*, u64, u64, u64);
 static void w2c_multihash_c__decode__fault(memory*, u64, u64, u64);
 static void w2c_multihash__head__Head__read_counted(memory*, u64, u64, u64);
 static void w2c_multihash__varint__word__read_counted(memory*, u64, u64, u64);
+static u32 w2c_multihash_c__compare__order_of_unlike(memory*, u64, u64);
+static u32 w2c_core__cmp__slices__RefSliceOrd__cmp____914af4d8504a0b72_(memory*, u64, u64, u64, u64);
+static u32 w2c_multihash_c__compare__order_of_any(memory*, u64, u64, u64, u64);
 static u32 w2c_multihash_version(memory*);
 static void w2c_rattle__export_multihash_version(memory*);
 static void w2c_multihash_put_status_text(memory*, u64, u32, u64, u64);
 static void w2c_rattle__export_multihash_put_status_text(memory*, u64, u32, u64, u64);
 static void w2c_multihash_encoded_len(memory*, u64, u64, u64);
 static void w2c_rattle__export_multihash_encoded_len(memory*, u64, u64, u64);
-static u32 w2c_multihash_compare(memory*, u64, u64, u64, u64, u64, u64);
-static u32 w2c_rattle__export_multihash_compare(memory*, u64, u64, u64, u64, u64, u64);
 static void w2c_multihash_from_bytes(memory*, u64, u64, u64);
 static void w2c_rattle__export_multihash_from_bytes(memory*, u64, u64, u64);
 static void w2c_multihash_from_prefix(memory*, u64, u64, u64, u64);
@@ -52,6 +52,8 @@ static void w2c_multihash_read_limit(memory*, u64, u64, u64, u64);
 static void w2c_rattle__export_multihash_read_limit(memory*, u64, u64, u64, u64);
 static void w2c_multihash_scale_decode(memory*, u64, u64, u64);
 static void w2c_rattle__export_multihash_scale_decode(memory*, u64, u64, u64);
+static u32 w2c_multihash_compare(memory*, u64, u64, u64, u64, u64, u64);
+static u32 w2c_rattle__export_multihash_compare(memory*, u64, u64, u64, u64, u64, u64);
 static void w2c_multihash_encode(memory*, u64, u64, u64, u64, u64, u64);
 static void w2c_rattle__export_multihash_encode(memory*, u64, u64, u64, u64, u64, u64);
 static void w2c_multihash_scale_encode(memory*, u64, u64, u64, u64, u64, u64);
@@ -79,202 +81,6 @@ static void w2c___rattle_leave(memory* instance) {
 
 static void w2c___rattle_trap(memory* instance) {
   UNREACHABLE;
-}
-
-static u32 w2c_core__cmp__slices__order____914af4d8504a0b72_(memory* instance, u64 w2c_p0, u64 w2c_p1, u64 w2c_p2, u64 w2c_p3) {
-  u32 w2c_l9 = 0, w2c_l13 = 0;
-  u64 w2c_l4 = 0, w2c_l5 = 0, w2c_l6 = 0, w2c_l7 = 0, w2c_l8 = 0, w2c_l10 = 0, w2c_l11 = 0, w2c_l12 = 0;
-  u32 w2c_i0, w2c_i1, w2c_i2, w2c_i3;
-  u64 w2c_j0, w2c_j1, w2c_j2, w2c_j3, w2c_j4;
-  w2c_j0 = instance->w2c___stack_pointer;
-  w2c_j1 = 16ull;
-  w2c_i0 = (u64)((s64)w2c_j0 < (s64)w2c_j1);
-  if (w2c_i0) {goto w2c_B1;}
-  w2c_j0 = 0ull;
-  w2c_l4 = w2c_j0;
-  w2c_j0 = w2c_p3;
-  w2c_j1 = w2c_p1;
-  w2c_j2 = w2c_p3;
-  w2c_j3 = w2c_p1;
-  w2c_i2 = w2c_j2 < w2c_j3;
-  w2c_j0 = w2c_i2 ? w2c_j0 : w2c_j1;
-  w2c_l5 = w2c_j0;
-  w2c_j1 = 64ull;
-  w2c_i0 = w2c_j0 < w2c_j1;
-  if (w2c_i0) {goto w2c_B2;}
-  w2c_j0 = w2c_l5;
-  w2c_j1 = 18446744073709551552ull;
-  w2c_j0 &= w2c_j1;
-  w2c_l6 = w2c_j0;
-  w2c_j0 = 0ull;
-  w2c_l4 = w2c_j0;
-  w2c_j0 = w2c_p0;
-  w2c_l7 = w2c_j0;
-  w2c_j0 = w2c_p2;
-  w2c_l8 = w2c_j0;
-  w2c_L3:
-    w2c_i0 = 0u;
-    w2c_l9 = w2c_i0;
-    w2c_j0 = 0ull;
-    w2c_l10 = w2c_j0;
-    w2c_L4:
-      w2c_i0 = w2c_l9;
-      w2c_j1 = w2c_l7;
-      w2c_j2 = w2c_l10;
-      w2c_j1 += w2c_j2;
-      w2c_l11 = w2c_j1;
-      w2c_j2 = 0ull;
-      w2c_i1 = i32_load8_u(instance, w2c_j1, w2c_j2);
-      w2c_j2 = w2c_l8;
-      w2c_j3 = w2c_l10;
-      w2c_j2 += w2c_j3;
-      w2c_l12 = w2c_j2;
-      w2c_j3 = 0ull;
-      w2c_i2 = i32_load8_u(instance, w2c_j2, w2c_j3);
-      w2c_i1 = w2c_i1 != w2c_i2;
-      w2c_i0 |= w2c_i1;
-      w2c_j1 = w2c_l11;
-      w2c_j2 = 1ull;
-      w2c_j1 += w2c_j2;
-      w2c_j2 = 0ull;
-      w2c_i1 = i32_load8_u(instance, w2c_j1, w2c_j2);
-      w2c_j2 = w2c_l12;
-      w2c_j3 = 1ull;
-      w2c_j2 += w2c_j3;
-      w2c_j3 = 0ull;
-      w2c_i2 = i32_load8_u(instance, w2c_j2, w2c_j3);
-      w2c_i1 = w2c_i1 != w2c_i2;
-      w2c_i0 |= w2c_i1;
-      w2c_l9 = w2c_i0;
-      w2c_j0 = w2c_l10;
-      w2c_j1 = 2ull;
-      w2c_j0 += w2c_j1;
-      w2c_l10 = w2c_j0;
-      w2c_j1 = 64ull;
-      w2c_i0 = w2c_j0 != w2c_j1;
-      if (w2c_i0) {goto w2c_L4;}
-    w2c_i0 = w2c_l9;
-    w2c_i1 = 1u;
-    w2c_i0 &= w2c_i1;
-    if (w2c_i0) {goto w2c_B2;}
-    w2c_j0 = w2c_l7;
-    w2c_j1 = 64ull;
-    w2c_j0 += w2c_j1;
-    w2c_l7 = w2c_j0;
-    w2c_j0 = w2c_l8;
-    w2c_j1 = 64ull;
-    w2c_j0 += w2c_j1;
-    w2c_l8 = w2c_j0;
-    w2c_j0 = w2c_l5;
-    w2c_j1 = w2c_l4;
-    w2c_j2 = 64ull;
-    w2c_j1 += w2c_j2;
-    w2c_l4 = w2c_j1;
-    w2c_j0 -= w2c_j1;
-    w2c_j1 = 63ull;
-    w2c_i0 = w2c_j0 > w2c_j1;
-    if (w2c_i0) {goto w2c_L3;}
-  w2c_j0 = w2c_l6;
-  w2c_l4 = w2c_j0;
-  w2c_B2:;
-  w2c_j0 = w2c_l5;
-  w2c_j1 = w2c_l4;
-  w2c_j0 -= w2c_j1;
-  w2c_l10 = w2c_j0;
-  w2c_j1 = 8ull;
-  w2c_i0 = w2c_j0 < w2c_j1;
-  if (w2c_i0) {goto w2c_B5;}
-  w2c_L6:
-    w2c_j0 = w2c_p0;
-    w2c_j1 = w2c_l4;
-    w2c_j0 += w2c_j1;
-    w2c_j1 = 0ull;
-    w2c_j0 = i64_load(instance, w2c_j0, w2c_j1);
-    w2c_j1 = w2c_p2;
-    w2c_j2 = w2c_l4;
-    w2c_j1 += w2c_j2;
-    w2c_j2 = 0ull;
-    w2c_j1 = i64_load(instance, w2c_j1, w2c_j2);
-    w2c_i0 = w2c_j0 != w2c_j1;
-    if (w2c_i0) {goto w2c_B5;}
-    w2c_j0 = w2c_l4;
-    w2c_j1 = 8ull;
-    w2c_j0 += w2c_j1;
-    w2c_l4 = w2c_j0;
-    w2c_j0 = w2c_l10;
-    w2c_j1 = 18446744073709551608ull;
-    w2c_j0 += w2c_j1;
-    w2c_l10 = w2c_j0;
-    w2c_j1 = 7ull;
-    w2c_i0 = w2c_j0 > w2c_j1;
-    if (w2c_i0) {goto w2c_L6;}
-  w2c_B5:;
-  w2c_j0 = w2c_l5;
-  w2c_j1 = w2c_l4;
-  w2c_i0 = w2c_j0 <= w2c_j1;
-  if (w2c_i0) {goto w2c_B0;}
-  w2c_j0 = w2c_p0;
-  w2c_j1 = w2c_l4;
-  w2c_j0 += w2c_j1;
-  w2c_l10 = w2c_j0;
-  w2c_j0 = w2c_p2;
-  w2c_j1 = w2c_l4;
-  w2c_j0 += w2c_j1;
-  w2c_l11 = w2c_j0;
-  w2c_j0 = w2c_l5;
-  w2c_j1 = w2c_l4;
-  w2c_j0 -= w2c_j1;
-  w2c_l12 = w2c_j0;
-  w2c_L8:
-    w2c_j0 = w2c_l10;
-    w2c_j1 = 0ull;
-    w2c_i0 = i32_load8_u(instance, w2c_j0, w2c_j1);
-    w2c_l9 = w2c_i0;
-    w2c_j1 = w2c_l11;
-    w2c_j2 = 0ull;
-    w2c_i1 = i32_load8_u(instance, w2c_j1, w2c_j2);
-    w2c_l13 = w2c_i1;
-    w2c_i0 = w2c_i0 != w2c_i1;
-    if (w2c_i0) {goto w2c_B7;}
-    w2c_j0 = w2c_l10;
-    w2c_j1 = 1ull;
-    w2c_j0 += w2c_j1;
-    w2c_l10 = w2c_j0;
-    w2c_j0 = w2c_l11;
-    w2c_j1 = 1ull;
-    w2c_j0 += w2c_j1;
-    w2c_l11 = w2c_j0;
-    w2c_j0 = w2c_l12;
-    w2c_j1 = 18446744073709551615ull;
-    w2c_j0 += w2c_j1;
-    w2c_l12 = w2c_j0;
-    w2c_i0 = !(w2c_j0);
-    if (w2c_i0) {goto w2c_B0;}
-    goto w2c_L8;
-  w2c_B7:;
-  w2c_i0 = 0u;
-  w2c_i1 = 2u;
-  w2c_i2 = w2c_l9;
-  w2c_i3 = w2c_l13;
-  w2c_i2 = w2c_i2 < w2c_i3;
-  w2c_i0 = w2c_i2 ? w2c_i0 : w2c_i1;
-  goto w2c_Bfunc;
-  w2c_B1:;
-  UNREACHABLE;
-  w2c_B0:;
-  w2c_i0 = 1u;
-  w2c_i1 = 0u;
-  w2c_i2 = 2u;
-  w2c_j3 = w2c_p1;
-  w2c_j4 = w2c_p3;
-  w2c_i3 = w2c_j3 < w2c_j4;
-  w2c_i1 = w2c_i3 ? w2c_i1 : w2c_i2;
-  w2c_j2 = w2c_p1;
-  w2c_j3 = w2c_p3;
-  w2c_i2 = w2c_j2 == w2c_j3;
-  w2c_i0 = w2c_i2 ? w2c_i0 : w2c_i1;
-  w2c_Bfunc:;
-  return w2c_i0;
 }
 
 static void w2c_multihash__varint__word__front_by_word(memory* instance, u64 w2c_p0, u64 w2c_p1, u64 w2c_p2) {
@@ -1516,6 +1322,418 @@ static void w2c_multihash__varint__word__read_counted(memory* instance, u64 w2c_
   w2c_Bfunc:;
 }
 
+static u32 w2c_multihash_c__compare__order_of_unlike(memory* instance, u64 w2c_p0, u64 w2c_p1) {
+  u32 w2c_l3 = 0;
+  u64 w2c_l2 = 0;
+  u32 w2c_i0, w2c_i1;
+  u64 w2c_j0, w2c_j1, w2c_j2, w2c_j3;
+  w2c_j0 = instance->w2c___stack_pointer;
+  w2c_l2 = w2c_j0;
+  w2c_j1 = 16ull;
+  w2c_i0 = (u64)((s64)w2c_j0 < (s64)w2c_j1);
+  if (w2c_i0) {goto w2c_B0;}
+  w2c_j0 = w2c_p0;
+  w2c_j1 = 16ull;
+  w2c_j2 = w2c_p1;
+  w2c_j3 = 16ull;
+  w2c_i0 = w2c_core__cmp__slices__RefSliceOrd__cmp____914af4d8504a0b72_(instance, w2c_j0, w2c_j1, w2c_j2, w2c_j3);
+  w2c_l3 = w2c_i0;
+  w2c_j0 = w2c_l2;
+  instance->w2c___stack_pointer = w2c_j0;
+  w2c_i0 = w2c_l3;
+  w2c_i1 = 255u;
+  w2c_i0 &= w2c_i1;
+  goto w2c_Bfunc;
+  w2c_B0:;
+  UNREACHABLE;
+  w2c_Bfunc:;
+  return w2c_i0;
+}
+
+static u32 w2c_core__cmp__slices__RefSliceOrd__cmp____914af4d8504a0b72_(memory* instance, u64 w2c_p0, u64 w2c_p1, u64 w2c_p2, u64 w2c_p3) {
+  u32 w2c_l9 = 0, w2c_l13 = 0;
+  u64 w2c_l4 = 0, w2c_l5 = 0, w2c_l6 = 0, w2c_l7 = 0, w2c_l8 = 0, w2c_l10 = 0, w2c_l11 = 0, w2c_l12 = 0;
+  u32 w2c_i0, w2c_i1, w2c_i2, w2c_i3;
+  u64 w2c_j0, w2c_j1, w2c_j2, w2c_j3, w2c_j4;
+  w2c_j0 = instance->w2c___stack_pointer;
+  w2c_j1 = 16ull;
+  w2c_i0 = (u64)((s64)w2c_j0 < (s64)w2c_j1);
+  if (w2c_i0) {goto w2c_B1;}
+  w2c_j0 = 0ull;
+  w2c_l4 = w2c_j0;
+  w2c_j0 = w2c_p3;
+  w2c_j1 = w2c_p1;
+  w2c_j2 = w2c_p3;
+  w2c_j3 = w2c_p1;
+  w2c_i2 = w2c_j2 < w2c_j3;
+  w2c_j0 = w2c_i2 ? w2c_j0 : w2c_j1;
+  w2c_l5 = w2c_j0;
+  w2c_j1 = 64ull;
+  w2c_i0 = w2c_j0 < w2c_j1;
+  if (w2c_i0) {goto w2c_B2;}
+  w2c_j0 = w2c_l5;
+  w2c_j1 = 18446744073709551552ull;
+  w2c_j0 &= w2c_j1;
+  w2c_l6 = w2c_j0;
+  w2c_j0 = 0ull;
+  w2c_l4 = w2c_j0;
+  w2c_j0 = w2c_p0;
+  w2c_l7 = w2c_j0;
+  w2c_j0 = w2c_p2;
+  w2c_l8 = w2c_j0;
+  w2c_L3:
+    w2c_i0 = 0u;
+    w2c_l9 = w2c_i0;
+    w2c_j0 = 0ull;
+    w2c_l10 = w2c_j0;
+    w2c_L4:
+      w2c_i0 = w2c_l9;
+      w2c_j1 = w2c_l7;
+      w2c_j2 = w2c_l10;
+      w2c_j1 += w2c_j2;
+      w2c_l11 = w2c_j1;
+      w2c_j2 = 0ull;
+      w2c_i1 = i32_load8_u(instance, w2c_j1, w2c_j2);
+      w2c_j2 = w2c_l8;
+      w2c_j3 = w2c_l10;
+      w2c_j2 += w2c_j3;
+      w2c_l12 = w2c_j2;
+      w2c_j3 = 0ull;
+      w2c_i2 = i32_load8_u(instance, w2c_j2, w2c_j3);
+      w2c_i1 = w2c_i1 != w2c_i2;
+      w2c_i0 |= w2c_i1;
+      w2c_j1 = w2c_l11;
+      w2c_j2 = 1ull;
+      w2c_j1 += w2c_j2;
+      w2c_j2 = 0ull;
+      w2c_i1 = i32_load8_u(instance, w2c_j1, w2c_j2);
+      w2c_j2 = w2c_l12;
+      w2c_j3 = 1ull;
+      w2c_j2 += w2c_j3;
+      w2c_j3 = 0ull;
+      w2c_i2 = i32_load8_u(instance, w2c_j2, w2c_j3);
+      w2c_i1 = w2c_i1 != w2c_i2;
+      w2c_i0 |= w2c_i1;
+      w2c_l9 = w2c_i0;
+      w2c_j0 = w2c_l10;
+      w2c_j1 = 2ull;
+      w2c_j0 += w2c_j1;
+      w2c_l10 = w2c_j0;
+      w2c_j1 = 64ull;
+      w2c_i0 = w2c_j0 != w2c_j1;
+      if (w2c_i0) {goto w2c_L4;}
+    w2c_i0 = w2c_l9;
+    w2c_i1 = 1u;
+    w2c_i0 &= w2c_i1;
+    if (w2c_i0) {goto w2c_B2;}
+    w2c_j0 = w2c_l7;
+    w2c_j1 = 64ull;
+    w2c_j0 += w2c_j1;
+    w2c_l7 = w2c_j0;
+    w2c_j0 = w2c_l8;
+    w2c_j1 = 64ull;
+    w2c_j0 += w2c_j1;
+    w2c_l8 = w2c_j0;
+    w2c_j0 = w2c_l5;
+    w2c_j1 = w2c_l4;
+    w2c_j2 = 64ull;
+    w2c_j1 += w2c_j2;
+    w2c_l4 = w2c_j1;
+    w2c_j0 -= w2c_j1;
+    w2c_j1 = 63ull;
+    w2c_i0 = w2c_j0 > w2c_j1;
+    if (w2c_i0) {goto w2c_L3;}
+  w2c_j0 = w2c_l6;
+  w2c_l4 = w2c_j0;
+  w2c_B2:;
+  w2c_j0 = w2c_l5;
+  w2c_j1 = w2c_l4;
+  w2c_j0 -= w2c_j1;
+  w2c_l10 = w2c_j0;
+  w2c_j1 = 8ull;
+  w2c_i0 = w2c_j0 < w2c_j1;
+  if (w2c_i0) {goto w2c_B5;}
+  w2c_L6:
+    w2c_j0 = w2c_p0;
+    w2c_j1 = w2c_l4;
+    w2c_j0 += w2c_j1;
+    w2c_j1 = 0ull;
+    w2c_j0 = i64_load(instance, w2c_j0, w2c_j1);
+    w2c_j1 = w2c_p2;
+    w2c_j2 = w2c_l4;
+    w2c_j1 += w2c_j2;
+    w2c_j2 = 0ull;
+    w2c_j1 = i64_load(instance, w2c_j1, w2c_j2);
+    w2c_i0 = w2c_j0 != w2c_j1;
+    if (w2c_i0) {goto w2c_B5;}
+    w2c_j0 = w2c_l4;
+    w2c_j1 = 8ull;
+    w2c_j0 += w2c_j1;
+    w2c_l4 = w2c_j0;
+    w2c_j0 = w2c_l10;
+    w2c_j1 = 18446744073709551608ull;
+    w2c_j0 += w2c_j1;
+    w2c_l10 = w2c_j0;
+    w2c_j1 = 7ull;
+    w2c_i0 = w2c_j0 > w2c_j1;
+    if (w2c_i0) {goto w2c_L6;}
+  w2c_B5:;
+  w2c_j0 = w2c_l5;
+  w2c_j1 = w2c_l4;
+  w2c_i0 = w2c_j0 <= w2c_j1;
+  if (w2c_i0) {goto w2c_B0;}
+  w2c_j0 = w2c_p0;
+  w2c_j1 = w2c_l4;
+  w2c_j0 += w2c_j1;
+  w2c_l10 = w2c_j0;
+  w2c_j0 = w2c_p2;
+  w2c_j1 = w2c_l4;
+  w2c_j0 += w2c_j1;
+  w2c_l11 = w2c_j0;
+  w2c_j0 = w2c_l5;
+  w2c_j1 = w2c_l4;
+  w2c_j0 -= w2c_j1;
+  w2c_l12 = w2c_j0;
+  w2c_L8:
+    w2c_j0 = w2c_l10;
+    w2c_j1 = 0ull;
+    w2c_i0 = i32_load8_u(instance, w2c_j0, w2c_j1);
+    w2c_l9 = w2c_i0;
+    w2c_j1 = w2c_l11;
+    w2c_j2 = 0ull;
+    w2c_i1 = i32_load8_u(instance, w2c_j1, w2c_j2);
+    w2c_l13 = w2c_i1;
+    w2c_i0 = w2c_i0 != w2c_i1;
+    if (w2c_i0) {goto w2c_B7;}
+    w2c_j0 = w2c_l10;
+    w2c_j1 = 1ull;
+    w2c_j0 += w2c_j1;
+    w2c_l10 = w2c_j0;
+    w2c_j0 = w2c_l11;
+    w2c_j1 = 1ull;
+    w2c_j0 += w2c_j1;
+    w2c_l11 = w2c_j0;
+    w2c_j0 = w2c_l12;
+    w2c_j1 = 18446744073709551615ull;
+    w2c_j0 += w2c_j1;
+    w2c_l12 = w2c_j0;
+    w2c_i0 = !(w2c_j0);
+    if (w2c_i0) {goto w2c_B0;}
+    goto w2c_L8;
+  w2c_B7:;
+  w2c_i0 = 0u;
+  w2c_i1 = 2u;
+  w2c_i2 = w2c_l9;
+  w2c_i3 = w2c_l13;
+  w2c_i2 = w2c_i2 < w2c_i3;
+  w2c_i0 = w2c_i2 ? w2c_i0 : w2c_i1;
+  goto w2c_Bfunc;
+  w2c_B1:;
+  UNREACHABLE;
+  w2c_B0:;
+  w2c_i0 = 1u;
+  w2c_i1 = 0u;
+  w2c_i2 = 2u;
+  w2c_j3 = w2c_p1;
+  w2c_j4 = w2c_p3;
+  w2c_i3 = w2c_j3 < w2c_j4;
+  w2c_i1 = w2c_i3 ? w2c_i1 : w2c_i2;
+  w2c_j2 = w2c_p1;
+  w2c_j3 = w2c_p3;
+  w2c_i2 = w2c_j2 == w2c_j3;
+  w2c_i0 = w2c_i2 ? w2c_i0 : w2c_i1;
+  w2c_Bfunc:;
+  return w2c_i0;
+}
+
+static u32 w2c_multihash_c__compare__order_of_any(memory* instance, u64 w2c_p0, u64 w2c_p1, u64 w2c_p2, u64 w2c_p3) {
+  u32 w2c_l5 = 0, w2c_l11 = 0;
+  u64 w2c_l4 = 0, w2c_l6 = 0, w2c_l7 = 0, w2c_l8 = 0, w2c_l9 = 0, w2c_l10 = 0;
+  u32 w2c_i0, w2c_i1, w2c_i2;
+  u64 w2c_j0, w2c_j1, w2c_j2, w2c_j3;
+  w2c_j0 = instance->w2c___stack_pointer;
+  w2c_l4 = w2c_j0;
+  w2c_j1 = 16ull;
+  w2c_i0 = (u64)((s64)w2c_j0 < (s64)w2c_j1);
+  if (w2c_i0) {goto w2c_B0;}
+  w2c_j0 = w2c_p1;
+  w2c_j1 = 15ull;
+  w2c_i0 = w2c_j0 > w2c_j1;
+  if (w2c_i0) {goto w2c_B1;}
+  w2c_j0 = w2c_p0;
+  w2c_j1 = w2c_p1;
+  w2c_j2 = w2c_p2;
+  w2c_j3 = w2c_p3;
+  w2c_i0 = w2c_core__cmp__slices__RefSliceOrd__cmp____914af4d8504a0b72_(instance, w2c_j0, w2c_j1, w2c_j2, w2c_j3);
+  w2c_l5 = w2c_i0;
+  w2c_j0 = w2c_l4;
+  instance->w2c___stack_pointer = w2c_j0;
+  w2c_i0 = w2c_l5;
+  w2c_i1 = 255u;
+  w2c_i0 &= w2c_i1;
+  goto w2c_Bfunc;
+  w2c_B1:;
+  w2c_j0 = w2c_p1;
+  w2c_j1 = 18446744073709551600ull;
+  w2c_j0 += w2c_j1;
+  w2c_l6 = w2c_j0;
+  w2c_i0 = !(w2c_j0);
+  if (w2c_i0) {goto w2c_B2;}
+  w2c_j0 = 0ull;
+  w2c_p3 = w2c_j0;
+  w2c_L4:
+    w2c_j0 = w2c_p0;
+    w2c_j1 = w2c_p3;
+    w2c_j0 += w2c_j1;
+    w2c_l7 = w2c_j0;
+    w2c_j1 = 0ull;
+    w2c_j0 = i64_load(instance, w2c_j0, w2c_j1);
+    w2c_l8 = w2c_j0;
+    w2c_j1 = w2c_p2;
+    w2c_j2 = w2c_p3;
+    w2c_j1 += w2c_j2;
+    w2c_l9 = w2c_j1;
+    w2c_j2 = 0ull;
+    w2c_j1 = i64_load(instance, w2c_j1, w2c_j2);
+    w2c_l10 = w2c_j1;
+    w2c_i0 = w2c_j0 != w2c_j1;
+    if (w2c_i0) {goto w2c_B3;}
+    w2c_j0 = w2c_l7;
+    w2c_j1 = 8ull;
+    w2c_j0 += w2c_j1;
+    w2c_j1 = 0ull;
+    w2c_j0 = i64_load(instance, w2c_j0, w2c_j1);
+    w2c_j1 = w2c_l9;
+    w2c_j2 = 8ull;
+    w2c_j1 += w2c_j2;
+    w2c_j2 = 0ull;
+    w2c_j1 = i64_load(instance, w2c_j1, w2c_j2);
+    w2c_i0 = w2c_j0 != w2c_j1;
+    if (w2c_i0) {goto w2c_B3;}
+    w2c_j0 = w2c_p3;
+    w2c_j1 = 16ull;
+    w2c_j0 += w2c_j1;
+    w2c_p3 = w2c_j0;
+    w2c_j1 = w2c_l6;
+    w2c_i0 = w2c_j0 >= w2c_j1;
+    if (w2c_i0) {goto w2c_B2;}
+    goto w2c_L4;
+  w2c_B3:;
+  w2c_j0 = w2c_l8;
+  w2c_i0 = (u32)(w2c_j0);
+  w2c_i1 = 255u;
+  w2c_i0 &= w2c_i1;
+  w2c_l5 = w2c_i0;
+  w2c_j1 = w2c_l10;
+  w2c_i1 = (u32)(w2c_j1);
+  w2c_i2 = 255u;
+  w2c_i1 &= w2c_i2;
+  w2c_l11 = w2c_i1;
+  w2c_i0 = w2c_i0 >= w2c_i1;
+  if (w2c_i0) {goto w2c_B5;}
+  w2c_j0 = w2c_l4;
+  instance->w2c___stack_pointer = w2c_j0;
+  w2c_i0 = 0u;
+  goto w2c_Bfunc;
+  w2c_B5:;
+  w2c_i0 = w2c_l11;
+  w2c_i1 = w2c_l5;
+  w2c_i0 = w2c_i0 >= w2c_i1;
+  if (w2c_i0) {goto w2c_B6;}
+  w2c_j0 = w2c_l4;
+  instance->w2c___stack_pointer = w2c_j0;
+  w2c_i0 = 2u;
+  goto w2c_Bfunc;
+  w2c_B6:;
+  w2c_j0 = w2c_l7;
+  w2c_j1 = w2c_l9;
+  w2c_i0 = w2c_multihash_c__compare__order_of_unlike(instance, w2c_j0, w2c_j1);
+  w2c_l5 = w2c_i0;
+  w2c_j0 = w2c_l4;
+  instance->w2c___stack_pointer = w2c_j0;
+  w2c_i0 = w2c_l5;
+  w2c_i1 = 255u;
+  w2c_i0 &= w2c_i1;
+  goto w2c_Bfunc;
+  w2c_B2:;
+  w2c_j0 = w2c_p0;
+  w2c_j1 = w2c_l6;
+  w2c_j0 += w2c_j1;
+  w2c_l8 = w2c_j0;
+  w2c_j1 = 0ull;
+  w2c_j0 = i64_load(instance, w2c_j0, w2c_j1);
+  w2c_p3 = w2c_j0;
+  w2c_j1 = w2c_p2;
+  w2c_j2 = w2c_l6;
+  w2c_j1 += w2c_j2;
+  w2c_l6 = w2c_j1;
+  w2c_j2 = 0ull;
+  w2c_j1 = i64_load(instance, w2c_j1, w2c_j2);
+  w2c_l7 = w2c_j1;
+  w2c_i0 = w2c_j0 != w2c_j1;
+  if (w2c_i0) {goto w2c_B7;}
+  w2c_j0 = w2c_p0;
+  w2c_j1 = w2c_p1;
+  w2c_j2 = 18446744073709551608ull;
+  w2c_j1 += w2c_j2;
+  w2c_l9 = w2c_j1;
+  w2c_j0 += w2c_j1;
+  w2c_j1 = 0ull;
+  w2c_j0 = i64_load(instance, w2c_j0, w2c_j1);
+  w2c_j1 = w2c_p2;
+  w2c_j2 = w2c_l9;
+  w2c_j1 += w2c_j2;
+  w2c_j2 = 0ull;
+  w2c_j1 = i64_load(instance, w2c_j1, w2c_j2);
+  w2c_i0 = w2c_j0 != w2c_j1;
+  if (w2c_i0) {goto w2c_B7;}
+  w2c_j0 = w2c_l4;
+  instance->w2c___stack_pointer = w2c_j0;
+  w2c_i0 = 1u;
+  goto w2c_Bfunc;
+  w2c_B7:;
+  w2c_j0 = w2c_p3;
+  w2c_i0 = (u32)(w2c_j0);
+  w2c_i1 = 255u;
+  w2c_i0 &= w2c_i1;
+  w2c_l5 = w2c_i0;
+  w2c_j1 = w2c_l7;
+  w2c_i1 = (u32)(w2c_j1);
+  w2c_i2 = 255u;
+  w2c_i1 &= w2c_i2;
+  w2c_l11 = w2c_i1;
+  w2c_i0 = w2c_i0 >= w2c_i1;
+  if (w2c_i0) {goto w2c_B8;}
+  w2c_j0 = w2c_l4;
+  instance->w2c___stack_pointer = w2c_j0;
+  w2c_i0 = 0u;
+  goto w2c_Bfunc;
+  w2c_B8:;
+  w2c_i0 = w2c_l11;
+  w2c_i1 = w2c_l5;
+  w2c_i0 = w2c_i0 >= w2c_i1;
+  if (w2c_i0) {goto w2c_B9;}
+  w2c_j0 = w2c_l4;
+  instance->w2c___stack_pointer = w2c_j0;
+  w2c_i0 = 2u;
+  goto w2c_Bfunc;
+  w2c_B9:;
+  w2c_j0 = w2c_l8;
+  w2c_j1 = w2c_l6;
+  w2c_i0 = w2c_multihash_c__compare__order_of_unlike(instance, w2c_j0, w2c_j1);
+  w2c_l5 = w2c_i0;
+  w2c_j0 = w2c_l4;
+  instance->w2c___stack_pointer = w2c_j0;
+  w2c_i0 = w2c_l5;
+  w2c_i1 = 255u;
+  w2c_i0 &= w2c_i1;
+  goto w2c_Bfunc;
+  w2c_B0:;
+  UNREACHABLE;
+  w2c_Bfunc:;
+  return w2c_i0;
+}
+
 static u32 w2c_multihash_version(memory* instance) {
   u32 w2c_i0;
   w2c_i0 = w2c___rattle_enter(instance);
@@ -2202,114 +2420,6 @@ static void w2c_rattle__export_multihash_encoded_len(memory* instance, u64 w2c_p
   w2c_B0:;
   UNREACHABLE;
   w2c_Bfunc:;
-}
-
-static u32 w2c_multihash_compare(memory* instance, u64 w2c_p0, u64 w2c_p1, u64 w2c_p2, u64 w2c_p3, u64 w2c_p4, u64 w2c_p5) {
-  u32 w2c_l6 = 0;
-  u32 w2c_i0;
-  u64 w2c_j0, w2c_j1, w2c_j2, w2c_j3, w2c_j4, w2c_j5;
-  w2c_i0 = w2c___rattle_enter(instance);
-  w2c_i0 = !(w2c_i0);
-  if (w2c_i0) {goto w2c_B0;}
-  w2c___rattle_trap(instance);
-  UNREACHABLE;
-  w2c_B0:;
-  w2c_j0 = w2c_p0;
-  w2c_j1 = w2c_p1;
-  w2c_j2 = w2c_p2;
-  w2c_j3 = w2c_p3;
-  w2c_j4 = w2c_p4;
-  w2c_j5 = w2c_p5;
-  w2c_i0 = w2c_rattle__export_multihash_compare(instance, w2c_j0, w2c_j1, w2c_j2, w2c_j3, w2c_j4, w2c_j5);
-  w2c_l6 = w2c_i0;
-  w2c___rattle_leave(instance);
-  w2c_i0 = w2c_l6;
-  return w2c_i0;
-}
-
-static u32 w2c_rattle__export_multihash_compare(memory* instance, u64 w2c_p0, u64 w2c_p1, u64 w2c_p2, u64 w2c_p3, u64 w2c_p4, u64 w2c_p5) {
-  u32 w2c_l7 = 0;
-  u64 w2c_l6 = 0;
-  u32 w2c_i0, w2c_i1, w2c_i2, w2c_i3;
-  u64 w2c_j0, w2c_j1, w2c_j2, w2c_j3;
-  w2c_j0 = instance->w2c___stack_pointer;
-  w2c_l6 = w2c_j0;
-  w2c_j1 = 16ull;
-  w2c_i0 = (u64)((s64)w2c_j0 < (s64)w2c_j1);
-  if (w2c_i0) {goto w2c_B2;}
-  w2c_j0 = w2c_p0;
-  w2c_j1 = w2c_p3;
-  w2c_i0 = w2c_j0 == w2c_j1;
-  if (w2c_i0) {goto w2c_B3;}
-  w2c_i0 = 0u;
-  w2c_i1 = 2u;
-  w2c_j2 = w2c_p0;
-  w2c_j3 = w2c_p3;
-  w2c_i2 = w2c_j2 < w2c_j3;
-  w2c_i0 = w2c_i2 ? w2c_i0 : w2c_i1;
-  w2c_l7 = w2c_i0;
-  goto w2c_B0;
-  w2c_B3:;
-  w2c_j0 = w2c_p2;
-  w2c_j1 = w2c_p5;
-  w2c_i0 = w2c_j0 == w2c_j1;
-  if (w2c_i0) {goto w2c_B4;}
-  w2c_i0 = 0u;
-  w2c_i1 = 2u;
-  w2c_j2 = w2c_p2;
-  w2c_j3 = w2c_p5;
-  w2c_i2 = w2c_j2 < w2c_j3;
-  w2c_i0 = w2c_i2 ? w2c_i0 : w2c_i1;
-  w2c_l7 = w2c_i0;
-  goto w2c_B0;
-  w2c_B4:;
-  w2c_j0 = w2c_p4;
-  w2c_j1 = 4096ull;
-  w2c_j2 = 0ull;
-  w2c_j3 = w2c_p4;
-  w2c_i3 = !(w2c_j3);
-  w2c_j1 = w2c_i3 ? w2c_j1 : w2c_j2;
-  w2c_j0 += w2c_j1;
-  w2c_p3 = w2c_j0;
-  w2c_j0 = w2c_p1;
-  w2c_j1 = 4096ull;
-  w2c_j2 = 0ull;
-  w2c_j3 = w2c_p1;
-  w2c_i3 = !(w2c_j3);
-  w2c_j1 = w2c_i3 ? w2c_j1 : w2c_j2;
-  w2c_j0 += w2c_j1;
-  w2c_p0 = w2c_j0;
-  w2c_j0 = w2c_p2;
-  w2c_j1 = 32ull;
-  w2c_i0 = w2c_j0 != w2c_j1;
-  if (w2c_i0) {goto w2c_B1;}
-  w2c_j0 = w2c_p0;
-  w2c_j1 = 32ull;
-  w2c_j2 = w2c_p3;
-  w2c_j3 = 32ull;
-  w2c_i0 = w2c_core__cmp__slices__order____914af4d8504a0b72_(instance, w2c_j0, w2c_j1, w2c_j2, w2c_j3);
-  w2c_i1 = 255u;
-  w2c_i0 &= w2c_i1;
-  w2c_l7 = w2c_i0;
-  goto w2c_B0;
-  w2c_B2:;
-  UNREACHABLE;
-  w2c_B1:;
-  w2c_j0 = w2c_p0;
-  w2c_j1 = w2c_p2;
-  w2c_j2 = w2c_p3;
-  w2c_j3 = w2c_p2;
-  w2c_i0 = w2c_core__cmp__slices__order____914af4d8504a0b72_(instance, w2c_j0, w2c_j1, w2c_j2, w2c_j3);
-  w2c_i1 = 255u;
-  w2c_i0 &= w2c_i1;
-  w2c_l7 = w2c_i0;
-  w2c_B0:;
-  w2c_j0 = w2c_l6;
-  instance->w2c___stack_pointer = w2c_j0;
-  w2c_i0 = w2c_l7;
-  w2c_i1 = 4294967295u;
-  w2c_i0 += w2c_i1;
-  return w2c_i0;
 }
 
 static void w2c_multihash_from_bytes(memory* instance, u64 w2c_p0, u64 w2c_p1, u64 w2c_p2) {
@@ -3647,6 +3757,227 @@ static void w2c_rattle__export_multihash_scale_decode(memory* instance, u64 w2c_
   i32_store(instance, w2c_j0, w2c_i1, w2c_j2);
 }
 
+static u32 w2c_multihash_compare(memory* instance, u64 w2c_p0, u64 w2c_p1, u64 w2c_p2, u64 w2c_p3, u64 w2c_p4, u64 w2c_p5) {
+  u32 w2c_l6 = 0;
+  u32 w2c_i0;
+  u64 w2c_j0, w2c_j1, w2c_j2, w2c_j3, w2c_j4, w2c_j5;
+  w2c_i0 = w2c___rattle_enter(instance);
+  w2c_i0 = !(w2c_i0);
+  if (w2c_i0) {goto w2c_B0;}
+  w2c___rattle_trap(instance);
+  UNREACHABLE;
+  w2c_B0:;
+  w2c_j0 = w2c_p0;
+  w2c_j1 = w2c_p1;
+  w2c_j2 = w2c_p2;
+  w2c_j3 = w2c_p3;
+  w2c_j4 = w2c_p4;
+  w2c_j5 = w2c_p5;
+  w2c_i0 = w2c_rattle__export_multihash_compare(instance, w2c_j0, w2c_j1, w2c_j2, w2c_j3, w2c_j4, w2c_j5);
+  w2c_l6 = w2c_i0;
+  w2c___rattle_leave(instance);
+  w2c_i0 = w2c_l6;
+  return w2c_i0;
+}
+
+static u32 w2c_rattle__export_multihash_compare(memory* instance, u64 w2c_p0, u64 w2c_p1, u64 w2c_p2, u64 w2c_p3, u64 w2c_p4, u64 w2c_p5) {
+  u32 w2c_l7 = 0, w2c_l8 = 0;
+  u64 w2c_l6 = 0;
+  u32 w2c_i0, w2c_i1, w2c_i2, w2c_i3;
+  u64 w2c_j0, w2c_j1, w2c_j2, w2c_j3;
+  w2c_j0 = instance->w2c___stack_pointer;
+  w2c_l6 = w2c_j0;
+  w2c_j1 = 16ull;
+  w2c_i0 = (u64)((s64)w2c_j0 < (s64)w2c_j1);
+  if (w2c_i0) {goto w2c_B3;}
+  w2c_j0 = w2c_p0;
+  w2c_j1 = w2c_p3;
+  w2c_i0 = w2c_j0 == w2c_j1;
+  if (w2c_i0) {goto w2c_B4;}
+  w2c_i0 = 0u;
+  w2c_i1 = 2u;
+  w2c_j2 = w2c_p0;
+  w2c_j3 = w2c_p3;
+  w2c_i2 = w2c_j2 < w2c_j3;
+  w2c_i0 = w2c_i2 ? w2c_i0 : w2c_i1;
+  w2c_l7 = w2c_i0;
+  goto w2c_B0;
+  w2c_B4:;
+  w2c_j0 = w2c_p2;
+  w2c_j1 = w2c_p5;
+  w2c_i0 = w2c_j0 == w2c_j1;
+  if (w2c_i0) {goto w2c_B5;}
+  w2c_i0 = 0u;
+  w2c_i1 = 2u;
+  w2c_j2 = w2c_p2;
+  w2c_j3 = w2c_p5;
+  w2c_i2 = w2c_j2 < w2c_j3;
+  w2c_i0 = w2c_i2 ? w2c_i0 : w2c_i1;
+  w2c_l7 = w2c_i0;
+  goto w2c_B0;
+  w2c_B5:;
+  w2c_j0 = w2c_p4;
+  w2c_j1 = 4096ull;
+  w2c_j2 = 0ull;
+  w2c_j3 = w2c_p4;
+  w2c_i3 = !(w2c_j3);
+  w2c_j1 = w2c_i3 ? w2c_j1 : w2c_j2;
+  w2c_j0 += w2c_j1;
+  w2c_p3 = w2c_j0;
+  w2c_j0 = w2c_p1;
+  w2c_j1 = 4096ull;
+  w2c_j2 = 0ull;
+  w2c_j3 = w2c_p1;
+  w2c_i3 = !(w2c_j3);
+  w2c_j1 = w2c_i3 ? w2c_j1 : w2c_j2;
+  w2c_j0 += w2c_j1;
+  w2c_p0 = w2c_j0;
+  w2c_j0 = w2c_p2;
+  w2c_j1 = 32ull;
+  w2c_i0 = w2c_j0 != w2c_j1;
+  if (w2c_i0) {goto w2c_B6;}
+  w2c_j0 = w2c_p0;
+  w2c_j1 = 8ull;
+  w2c_j0 = i64_load(instance, w2c_j0, w2c_j1);
+  w2c_j1 = w2c_p3;
+  w2c_j2 = 8ull;
+  w2c_j1 = i64_load(instance, w2c_j1, w2c_j2);
+  w2c_i0 = w2c_j0 != w2c_j1;
+  if (w2c_i0) {goto w2c_B2;}
+  w2c_j0 = w2c_p0;
+  w2c_j1 = 0ull;
+  w2c_j0 = i64_load(instance, w2c_j0, w2c_j1);
+  w2c_p2 = w2c_j0;
+  w2c_j1 = w2c_p3;
+  w2c_j2 = 0ull;
+  w2c_j1 = i64_load(instance, w2c_j1, w2c_j2);
+  w2c_p5 = w2c_j1;
+  w2c_i0 = w2c_j0 == w2c_j1;
+  if (w2c_i0) {goto w2c_B7;}
+  w2c_j0 = w2c_p2;
+  w2c_i0 = (u32)(w2c_j0);
+  w2c_l7 = w2c_i0;
+  w2c_j0 = w2c_p5;
+  w2c_i0 = (u32)(w2c_j0);
+  w2c_l8 = w2c_i0;
+  goto w2c_B1;
+  w2c_B7:;
+  w2c_j0 = w2c_p0;
+  w2c_j1 = 16ull;
+  w2c_j0 = i64_load(instance, w2c_j0, w2c_j1);
+  w2c_p2 = w2c_j0;
+  w2c_j1 = w2c_p3;
+  w2c_j2 = 16ull;
+  w2c_j1 = i64_load(instance, w2c_j1, w2c_j2);
+  w2c_p5 = w2c_j1;
+  w2c_i0 = w2c_j0 != w2c_j1;
+  if (w2c_i0) {goto w2c_B8;}
+  w2c_j0 = w2c_p0;
+  w2c_j1 = 24ull;
+  w2c_j0 = i64_load(instance, w2c_j0, w2c_j1);
+  w2c_j1 = w2c_p3;
+  w2c_j2 = 24ull;
+  w2c_j1 = i64_load(instance, w2c_j1, w2c_j2);
+  w2c_i0 = w2c_j0 != w2c_j1;
+  if (w2c_i0) {goto w2c_B8;}
+  w2c_i0 = 1u;
+  w2c_l7 = w2c_i0;
+  goto w2c_B0;
+  w2c_B8:;
+  w2c_j0 = w2c_p2;
+  w2c_i0 = (u32)(w2c_j0);
+  w2c_i1 = 255u;
+  w2c_i0 &= w2c_i1;
+  w2c_l7 = w2c_i0;
+  w2c_j1 = w2c_p5;
+  w2c_i1 = (u32)(w2c_j1);
+  w2c_i2 = 255u;
+  w2c_i1 &= w2c_i2;
+  w2c_l8 = w2c_i1;
+  w2c_i0 = w2c_i0 >= w2c_i1;
+  if (w2c_i0) {goto w2c_B9;}
+  w2c_i0 = 0u;
+  w2c_l7 = w2c_i0;
+  goto w2c_B0;
+  w2c_B9:;
+  w2c_i0 = w2c_l8;
+  w2c_i1 = w2c_l7;
+  w2c_i0 = w2c_i0 >= w2c_i1;
+  if (w2c_i0) {goto w2c_B10;}
+  w2c_i0 = 2u;
+  w2c_l7 = w2c_i0;
+  goto w2c_B0;
+  w2c_B10:;
+  w2c_j0 = w2c_p0;
+  w2c_j1 = 16ull;
+  w2c_j0 += w2c_j1;
+  w2c_j1 = w2c_p3;
+  w2c_j2 = 16ull;
+  w2c_j1 += w2c_j2;
+  w2c_i0 = w2c_multihash_c__compare__order_of_unlike(instance, w2c_j0, w2c_j1);
+  w2c_i1 = 255u;
+  w2c_i0 &= w2c_i1;
+  w2c_l7 = w2c_i0;
+  goto w2c_B0;
+  w2c_B6:;
+  w2c_j0 = w2c_p0;
+  w2c_j1 = w2c_p2;
+  w2c_j2 = w2c_p3;
+  w2c_j3 = w2c_p2;
+  w2c_i0 = w2c_multihash_c__compare__order_of_any(instance, w2c_j0, w2c_j1, w2c_j2, w2c_j3);
+  w2c_i1 = 255u;
+  w2c_i0 &= w2c_i1;
+  w2c_l7 = w2c_i0;
+  goto w2c_B0;
+  w2c_B3:;
+  UNREACHABLE;
+  w2c_B2:;
+  w2c_j0 = w2c_p3;
+  w2c_j1 = 0ull;
+  w2c_i0 = i32_load8_u(instance, w2c_j0, w2c_j1);
+  w2c_l8 = w2c_i0;
+  w2c_j0 = w2c_p0;
+  w2c_j1 = 0ull;
+  w2c_i0 = i32_load8_u(instance, w2c_j0, w2c_j1);
+  w2c_l7 = w2c_i0;
+  w2c_B1:;
+  w2c_i0 = w2c_l7;
+  w2c_i1 = 255u;
+  w2c_i0 &= w2c_i1;
+  w2c_l7 = w2c_i0;
+  w2c_i1 = w2c_l8;
+  w2c_i2 = 255u;
+  w2c_i1 &= w2c_i2;
+  w2c_l8 = w2c_i1;
+  w2c_i0 = w2c_i0 >= w2c_i1;
+  if (w2c_i0) {goto w2c_B11;}
+  w2c_i0 = 0u;
+  w2c_l7 = w2c_i0;
+  goto w2c_B0;
+  w2c_B11:;
+  w2c_i0 = w2c_l8;
+  w2c_i1 = w2c_l7;
+  w2c_i0 = w2c_i0 >= w2c_i1;
+  if (w2c_i0) {goto w2c_B12;}
+  w2c_i0 = 2u;
+  w2c_l7 = w2c_i0;
+  goto w2c_B0;
+  w2c_B12:;
+  w2c_j0 = w2c_p0;
+  w2c_j1 = w2c_p3;
+  w2c_i0 = w2c_multihash_c__compare__order_of_unlike(instance, w2c_j0, w2c_j1);
+  w2c_i1 = 255u;
+  w2c_i0 &= w2c_i1;
+  w2c_l7 = w2c_i0;
+  w2c_B0:;
+  w2c_j0 = w2c_l6;
+  instance->w2c___stack_pointer = w2c_j0;
+  w2c_i0 = w2c_l7;
+  w2c_i1 = 4294967295u;
+  w2c_i0 += w2c_i1;
+  return w2c_i0;
+}
+
 static void w2c_multihash_encode(memory* instance, u64 w2c_p0, u64 w2c_p1, u64 w2c_p2, u64 w2c_p3, u64 w2c_p4, u64 w2c_p5) {
   u32 w2c_i0;
   u64 w2c_j0, w2c_j1, w2c_j2, w2c_j3, w2c_j4, w2c_j5;
@@ -3668,7 +3999,7 @@ static void w2c_multihash_encode(memory* instance, u64 w2c_p0, u64 w2c_p1, u64 w
 
 static void w2c_rattle__export_multihash_encode(memory* instance, u64 w2c_p0, u64 w2c_p1, u64 w2c_p2, u64 w2c_p3, u64 w2c_p4, u64 w2c_p5) {
   u32 w2c_l10 = 0, w2c_l13 = 0;
-  u64 w2c_l6 = 0, w2c_l7 = 0, w2c_l8 = 0, w2c_l9 = 0, w2c_l11 = 0, w2c_l12 = 0, w2c_l14 = 0, w2c_l15 = 0;
+  u64 w2c_l6 = 0, w2c_l7 = 0, w2c_l8 = 0, w2c_l9 = 0, w2c_l11 = 0, w2c_l12 = 0;
   u32 w2c_i0, w2c_i1, w2c_i2, w2c_i3;
   u64 w2c_j0, w2c_j1, w2c_j2, w2c_j3, w2c_j4;
   w2c_j0 = instance->w2c___stack_pointer;
@@ -3677,24 +4008,24 @@ static void w2c_rattle__export_multihash_encode(memory* instance, u64 w2c_p0, u6
   w2c_l6 = w2c_j0;
   w2c_j1 = 16ull;
   w2c_i0 = (u64)((s64)w2c_j0 < (s64)w2c_j1);
-  if (w2c_i0) {goto w2c_B0;}
+  if (w2c_i0) {goto w2c_B2;}
   w2c_j0 = w2c_p3;
   w2c_j1 = 255ull;
   w2c_i0 = w2c_j0 <= w2c_j1;
-  if (w2c_i0) {goto w2c_B3;}
+  if (w2c_i0) {goto w2c_B5;}
   w2c_j0 = 4ull;
   w2c_p1 = w2c_j0;
-  goto w2c_B2;
-  w2c_B3:;
+  goto w2c_B4;
+  w2c_B5:;
   w2c_j0 = w2c_p1;
   w2c_j1 = 0ull;
   w2c_i0 = (u64)((s64)w2c_j0 >= (s64)w2c_j1);
-  if (w2c_i0) {goto w2c_B1;}
+  if (w2c_i0) {goto w2c_B3;}
   w2c_j0 = 5ull;
   w2c_p1 = w2c_j0;
   w2c_j0 = 0ull;
   w2c_p3 = w2c_j0;
-  w2c_B2:;
+  w2c_B4:;
   w2c_j0 = w2c_p0;
   w2c_j1 = 0ull;
   w2c_j2 = 16ull;
@@ -3708,16 +4039,24 @@ static void w2c_rattle__export_multihash_encode(memory* instance, u64 w2c_p0, u6
   w2c_j2 = 0ull;
   i64_store(instance, w2c_j0, w2c_j1, w2c_j2);
   goto w2c_Bfunc;
-  w2c_B1:;
+  w2c_B3:;
   w2c_j0 = w2c_p4;
   w2c_j1 = 4096ull;
   w2c_j2 = 0ull;
   w2c_j3 = w2c_p4;
   w2c_i3 = !(w2c_j3);
   w2c_j1 = w2c_i3 ? w2c_j1 : w2c_j2;
-  w2c_l7 = w2c_j1;
   w2c_j0 += w2c_j1;
-  w2c_l8 = w2c_j0;
+  w2c_l7 = w2c_j0;
+  w2c_j0 = w2c_p2;
+  w2c_j1 = 4096ull;
+  w2c_j2 = 0ull;
+  w2c_j3 = w2c_p2;
+  w2c_i3 = !(w2c_j3);
+  w2c_j1 = w2c_i3 ? w2c_j1 : w2c_j2;
+  w2c_l8 = w2c_j1;
+  w2c_j0 += w2c_j1;
+  w2c_l9 = w2c_j0;
   w2c_j0 = w2c_p1;
   w2c_j1 = 128ull;
   w2c_i0 = w2c_j0 < w2c_j1;
@@ -3731,7 +4070,7 @@ static void w2c_rattle__export_multihash_encode(memory* instance, u64 w2c_p0, u6
   w2c_i0 = w2c_j0 > w2c_j1;
   if (w2c_i0) {goto w2c_B13;}
   w2c_j0 = 3ull;
-  w2c_l9 = w2c_j0;
+  w2c_p4 = w2c_j0;
   w2c_j0 = 1ull;
   w2c_j1 = 2ull;
   w2c_j2 = w2c_p3;
@@ -3748,11 +4087,11 @@ static void w2c_rattle__export_multihash_encode(memory* instance, u64 w2c_p0, u6
   w2c_i0 = w2c_j0 <= w2c_j1;
   if (w2c_i0) {goto w2c_B10;}
   w2c_j0 = 7ull;
-  w2c_l9 = w2c_j0;
-  goto w2c_B4;
+  w2c_p4 = w2c_j0;
+  goto w2c_B0;
   w2c_B13:;
   w2c_j0 = 1ull;
-  w2c_l9 = w2c_j0;
+  w2c_p4 = w2c_j0;
   w2c_j0 = 1ull;
   w2c_j1 = 2ull;
   w2c_j2 = w2c_p3;
@@ -3777,11 +4116,11 @@ static void w2c_rattle__export_multihash_encode(memory* instance, u64 w2c_p0, u6
   w2c_i0 = w2c_j0 <= w2c_j1;
   if (w2c_i0) {goto w2c_B9;}
   w2c_j0 = 7ull;
-  w2c_l9 = w2c_j0;
-  goto w2c_B4;
+  w2c_p4 = w2c_j0;
+  goto w2c_B0;
   w2c_B12:;
   w2c_j0 = 2ull;
-  w2c_l9 = w2c_j0;
+  w2c_p4 = w2c_j0;
   w2c_j0 = w2c_p3;
   w2c_j1 = 1ull;
   w2c_j2 = 2ull;
@@ -3798,11 +4137,11 @@ static void w2c_rattle__export_multihash_encode(memory* instance, u64 w2c_p0, u6
   w2c_i0 = w2c_j0 <= w2c_j1;
   if (w2c_i0) {goto w2c_B8;}
   w2c_j0 = 7ull;
-  w2c_l9 = w2c_j0;
-  goto w2c_B4;
+  w2c_p4 = w2c_j0;
+  goto w2c_B0;
   w2c_B11:;
   w2c_j0 = 1ull;
-  w2c_l9 = w2c_j0;
+  w2c_p4 = w2c_j0;
   w2c_j0 = 1ull;
   w2c_j1 = 2ull;
   w2c_j2 = w2c_p3;
@@ -3820,10 +4159,10 @@ static void w2c_rattle__export_multihash_encode(memory* instance, u64 w2c_p0, u6
   w2c_i0 = w2c_j0 < w2c_j1;
   if (w2c_i0) {goto w2c_B14;}
   w2c_j0 = 7ull;
-  w2c_l9 = w2c_j0;
-  goto w2c_B4;
+  w2c_p4 = w2c_j0;
+  goto w2c_B0;
   w2c_B14:;
-  w2c_j0 = w2c_l8;
+  w2c_j0 = w2c_l7;
   w2c_j1 = w2c_p1;
   w2c_j2 = 0ull;
   i64_store8(instance, w2c_j0, w2c_j1, w2c_j2);
@@ -3833,13 +4172,13 @@ static void w2c_rattle__export_multihash_encode(memory* instance, u64 w2c_p0, u6
   if (w2c_i0) {goto w2c_B6;}
   goto w2c_B7;
   w2c_B10:;
-  w2c_j0 = w2c_l8;
+  w2c_j0 = w2c_l7;
   w2c_j1 = w2c_p1;
   w2c_j2 = 14ull;
   w2c_j1 >>= (w2c_j2 & 63);
   w2c_j2 = 2ull;
   i64_store8(instance, w2c_j0, w2c_j1, w2c_j2);
-  w2c_j0 = w2c_l8;
+  w2c_j0 = w2c_l7;
   w2c_j1 = w2c_p1;
   w2c_i1 = (u32)(w2c_j1);
   w2c_l13 = w2c_i1;
@@ -3847,7 +4186,7 @@ static void w2c_rattle__export_multihash_encode(memory* instance, u64 w2c_p0, u6
   w2c_i1 |= w2c_i2;
   w2c_j2 = 0ull;
   i32_store8(instance, w2c_j0, w2c_i1, w2c_j2);
-  w2c_j0 = w2c_l8;
+  w2c_j0 = w2c_l7;
   w2c_i1 = w2c_l13;
   w2c_i2 = 7u;
   w2c_i1 >>= (w2c_i2 & 31);
@@ -3871,7 +4210,7 @@ static void w2c_rattle__export_multihash_encode(memory* instance, u64 w2c_p0, u6
     w2c_j0 = w2c_l6;
     w2c_j1 = 8ull;
     w2c_j0 += w2c_j1;
-    w2c_j1 = w2c_l9;
+    w2c_j1 = w2c_p4;
     w2c_j0 += w2c_j1;
     w2c_j1 = 18446744073709551615ull;
     w2c_j0 += w2c_j1;
@@ -3881,10 +4220,10 @@ static void w2c_rattle__export_multihash_encode(memory* instance, u64 w2c_p0, u6
     w2c_i1 |= w2c_i2;
     w2c_j2 = 0ull;
     i32_store8(instance, w2c_j0, w2c_i1, w2c_j2);
-    w2c_j0 = w2c_l9;
+    w2c_j0 = w2c_p4;
     w2c_j1 = 1ull;
     w2c_j0 += w2c_j1;
-    w2c_l9 = w2c_j0;
+    w2c_p4 = w2c_j0;
     w2c_j0 = w2c_p1;
     w2c_j1 = 16383ull;
     w2c_i0 = w2c_j0 > w2c_j1;
@@ -3899,25 +4238,25 @@ static void w2c_rattle__export_multihash_encode(memory* instance, u64 w2c_p0, u6
   w2c_j0 = w2c_l6;
   w2c_j1 = 8ull;
   w2c_j0 += w2c_j1;
-  w2c_j1 = w2c_l9;
+  w2c_j1 = w2c_p4;
   w2c_j0 += w2c_j1;
   w2c_j1 = 18446744073709551615ull;
   w2c_j0 += w2c_j1;
   w2c_j1 = w2c_l12;
   w2c_j2 = 0ull;
   i64_store8(instance, w2c_j0, w2c_j1, w2c_j2);
-  w2c_j0 = w2c_l9;
+  w2c_j0 = w2c_p4;
   w2c_j1 = w2c_p5;
   w2c_i0 = w2c_j0 >= w2c_j1;
   if (w2c_i0) {goto w2c_B16;}
-  w2c_j0 = w2c_l9;
+  w2c_j0 = w2c_p4;
   w2c_i0 = !(w2c_j0);
   if (w2c_i0) {goto w2c_B17;}
-  w2c_j0 = w2c_l8;
+  w2c_j0 = w2c_l7;
   w2c_j1 = w2c_l6;
   w2c_j2 = 8ull;
   w2c_j1 += w2c_j2;
-  w2c_j2 = w2c_l9;
+  w2c_j2 = w2c_p4;
   memory_copy(instance, w2c_j0, w2c_j1, w2c_j2);
   w2c_B17:;
   w2c_j0 = w2c_p3;
@@ -3929,7 +4268,7 @@ static void w2c_rattle__export_multihash_encode(memory* instance, u64 w2c_p0, u6
   w2c_j0 = w2c_p5;
   w2c_i0 = !(w2c_j0);
   if (w2c_i0) {goto w2c_B18;}
-  w2c_j0 = w2c_l8;
+  w2c_j0 = w2c_l7;
   w2c_j1 = w2c_l6;
   w2c_j2 = 8ull;
   w2c_j1 += w2c_j2;
@@ -3937,14 +4276,14 @@ static void w2c_rattle__export_multihash_encode(memory* instance, u64 w2c_p0, u6
   memory_copy(instance, w2c_j0, w2c_j1, w2c_j2);
   w2c_B18:;
   w2c_j0 = w2c_p5;
-  w2c_j1 = w2c_l9;
+  w2c_j1 = w2c_p4;
   w2c_i0 = w2c_j0 != w2c_j1;
-  if (w2c_i0) {goto w2c_B0;}
+  if (w2c_i0) {goto w2c_B2;}
   w2c_j0 = w2c_p5;
-  w2c_l9 = w2c_j0;
+  w2c_p4 = w2c_j0;
   goto w2c_B6;
   w2c_B8:;
-  w2c_j0 = w2c_l8;
+  w2c_j0 = w2c_l7;
   w2c_j1 = w2c_p1;
   w2c_i1 = (u32)(w2c_j1);
   w2c_l13 = w2c_i1;
@@ -3966,50 +4305,52 @@ static void w2c_rattle__export_multihash_encode(memory* instance, u64 w2c_p0, u6
   w2c_j0 = w2c_l6;
   w2c_j1 = w2c_p3;
   w2c_i1 = (u32)(w2c_j1);
-  w2c_l10 = w2c_i1;
   w2c_i2 = 384u;
   w2c_i1 |= w2c_i2;
-  w2c_l13 = w2c_i1;
+  w2c_l10 = w2c_i1;
   w2c_j2 = 8ull;
   i32_store16(instance, w2c_j0, w2c_i1, w2c_j2);
-  w2c_j0 = w2c_l8;
-  w2c_j1 = w2c_l9;
+  w2c_j0 = w2c_l7;
+  w2c_j1 = w2c_p4;
   w2c_j0 += w2c_j1;
   w2c_l12 = w2c_j0;
   w2c_j0 = w2c_p5;
-  w2c_j1 = w2c_l9;
+  w2c_j1 = w2c_p4;
   w2c_j0 -= w2c_j1;
   w2c_p1 = w2c_j0;
   w2c_j1 = 3ull;
   w2c_i0 = w2c_j0 < w2c_j1;
-  if (w2c_i0) {goto w2c_B19;}
+  if (w2c_i0) {goto w2c_B20;}
   w2c_j0 = w2c_l12;
-  w2c_i1 = w2c_l13;
+  w2c_i1 = w2c_l10;
   w2c_j2 = 0ull;
   i32_store16(instance, w2c_j0, w2c_i1, w2c_j2);
-  w2c_j0 = w2c_l9;
+  w2c_j0 = w2c_p4;
   w2c_j1 = 2ull;
   w2c_j0 += w2c_j1;
-  w2c_l14 = w2c_j0;
-  goto w2c_B5;
-  w2c_B19:;
+  w2c_p5 = w2c_j0;
+  goto w2c_B19;
+  w2c_B20:;
   w2c_j0 = w2c_p1;
   w2c_i0 = !(w2c_j0);
-  if (w2c_i0) {goto w2c_B20;}
+  if (w2c_i0) {goto w2c_B21;}
   w2c_j0 = w2c_l12;
   w2c_j1 = w2c_l6;
   w2c_j2 = 8ull;
   w2c_j1 += w2c_j2;
   w2c_j2 = w2c_p1;
   memory_copy(instance, w2c_j0, w2c_j1, w2c_j2);
-  w2c_B20:;
-  w2c_j0 = w2c_p5;
-  w2c_l14 = w2c_j0;
+  w2c_B21:;
   w2c_j0 = w2c_p1;
   w2c_j1 = 2ull;
   w2c_i0 = w2c_j0 != w2c_j1;
-  if (w2c_i0) {goto w2c_B0;}
-  goto w2c_B5;
+  if (w2c_i0) {goto w2c_B2;}
+  w2c_B19:;
+  w2c_j0 = w2c_l7;
+  w2c_j1 = w2c_p5;
+  w2c_j0 += w2c_j1;
+  w2c_l7 = w2c_j0;
+  goto w2c_B1;
   w2c_B6:;
   w2c_j0 = w2c_l6;
   w2c_j1 = w2c_p3;
@@ -4017,23 +4358,23 @@ static void w2c_rattle__export_multihash_encode(memory* instance, u64 w2c_p0, u6
   w2c_l10 = w2c_i1;
   w2c_j2 = 31ull;
   i32_store8(instance, w2c_j0, w2c_i1, w2c_j2);
-  w2c_j0 = w2c_l8;
-  w2c_j1 = w2c_l9;
+  w2c_j0 = w2c_l7;
+  w2c_j1 = w2c_p4;
   w2c_j0 += w2c_j1;
   w2c_l12 = w2c_j0;
   w2c_j0 = w2c_p5;
-  w2c_j1 = w2c_l9;
+  w2c_j1 = w2c_p4;
   w2c_j0 -= w2c_j1;
   w2c_p1 = w2c_j0;
   w2c_j1 = 2ull;
   w2c_i0 = w2c_j0 < w2c_j1;
-  if (w2c_i0) {goto w2c_B23;}
+  if (w2c_i0) {goto w2c_B25;}
   w2c_j0 = w2c_l12;
   w2c_i1 = w2c_l10;
   w2c_j2 = 0ull;
   i32_store8(instance, w2c_j0, w2c_i1, w2c_j2);
-  goto w2c_B22;
-  w2c_B23:;
+  goto w2c_B24;
+  w2c_B25:;
   w2c_j0 = w2c_l12;
   w2c_j1 = w2c_l6;
   w2c_j2 = 31ull;
@@ -4041,88 +4382,117 @@ static void w2c_rattle__export_multihash_encode(memory* instance, u64 w2c_p0, u6
   w2c_j0 -= w2c_j1;
   w2c_j1 = w2c_p1;
   w2c_i0 = w2c_j0 >= w2c_j1;
-  if (w2c_i0) {goto w2c_B21;}
+  if (w2c_i0) {goto w2c_B23;}
   w2c_j0 = w2c_p1;
   w2c_i0 = !(w2c_j0);
-  if (w2c_i0) {goto w2c_B22;}
+  if (w2c_i0) {goto w2c_B24;}
   w2c_j0 = w2c_l12;
   w2c_i1 = w2c_l10;
   w2c_j2 = w2c_p1;
   memory_fill(instance, w2c_j0, w2c_i1, w2c_j2);
-  w2c_B22:;
-  w2c_j0 = w2c_l9;
+  w2c_B24:;
+  w2c_j0 = w2c_p4;
   w2c_j1 = 1ull;
   w2c_j0 += w2c_j1;
-  w2c_l14 = w2c_j0;
-  goto w2c_B5;
-  w2c_B21:;
+  w2c_p4 = w2c_j0;
+  goto w2c_B22;
+  w2c_B23:;
   w2c_j0 = w2c_p1;
   w2c_i0 = !(w2c_j0);
-  if (w2c_i0) {goto w2c_B24;}
+  if (w2c_i0) {goto w2c_B26;}
   w2c_j0 = w2c_l12;
   w2c_j1 = w2c_l6;
   w2c_j2 = 31ull;
   w2c_j1 += w2c_j2;
   w2c_j2 = w2c_p1;
   memory_copy(instance, w2c_j0, w2c_j1, w2c_j2);
-  w2c_B24:;
+  w2c_B26:;
   w2c_j0 = w2c_p5;
-  w2c_l14 = w2c_j0;
+  w2c_p4 = w2c_j0;
   w2c_j0 = w2c_p1;
   w2c_j1 = 1ull;
   w2c_i0 = w2c_j0 != w2c_j1;
-  if (w2c_i0) {goto w2c_B0;}
-  w2c_B5:;
-  w2c_j0 = 0ull;
-  w2c_l9 = w2c_j0;
-  w2c_i0 = w2c_l10;
-  w2c_i1 = 255u;
-  w2c_i0 &= w2c_i1;
-  w2c_l10 = w2c_i0;
-  w2c_i0 = !(w2c_i0);
-  if (w2c_i0) {goto w2c_B4;}
-  w2c_j0 = w2c_p2;
-  w2c_j1 = 4096ull;
+  if (w2c_i0) {goto w2c_B2;}
+  w2c_B22:;
+  w2c_j0 = w2c_l7;
+  w2c_j1 = w2c_p4;
+  w2c_j0 += w2c_j1;
+  w2c_l7 = w2c_j0;
+  w2c_j0 = w2c_p3;
+  w2c_j1 = 32ull;
+  w2c_i0 = w2c_j0 != w2c_j1;
+  if (w2c_i0) {goto w2c_B1;}
+  w2c_j0 = w2c_p5;
+  w2c_j1 = w2c_p4;
+  w2c_j0 -= w2c_j1;
+  w2c_j1 = 31ull;
+  w2c_i0 = w2c_j0 <= w2c_j1;
+  if (w2c_i0) {goto w2c_B2;}
+  w2c_j0 = w2c_l9;
+  w2c_j1 = 0ull;
+  w2c_j0 = i64_load(instance, w2c_j0, w2c_j1);
+  w2c_p1 = w2c_j0;
+  w2c_j0 = w2c_l9;
+  w2c_j1 = 8ull;
+  w2c_j0 = i64_load(instance, w2c_j0, w2c_j1);
+  w2c_p3 = w2c_j0;
+  w2c_j0 = w2c_l9;
+  w2c_j1 = 16ull;
+  w2c_j0 = i64_load(instance, w2c_j0, w2c_j1);
+  w2c_p4 = w2c_j0;
+  w2c_j0 = w2c_l7;
+  w2c_j1 = w2c_l9;
+  w2c_j2 = 24ull;
+  w2c_j1 = i64_load(instance, w2c_j1, w2c_j2);
+  w2c_j2 = 24ull;
+  i64_store(instance, w2c_j0, w2c_j1, w2c_j2);
+  w2c_j0 = w2c_l7;
+  w2c_j1 = w2c_p4;
+  w2c_j2 = 16ull;
+  i64_store(instance, w2c_j0, w2c_j1, w2c_j2);
+  w2c_j0 = w2c_l7;
+  w2c_j1 = w2c_p3;
+  w2c_j2 = 8ull;
+  i64_store(instance, w2c_j0, w2c_j1, w2c_j2);
+  w2c_j0 = w2c_l7;
+  w2c_j1 = w2c_p1;
   w2c_j2 = 0ull;
-  w2c_j3 = w2c_p2;
-  w2c_i3 = !(w2c_j3);
-  w2c_j1 = w2c_i3 ? w2c_j1 : w2c_j2;
-  w2c_l15 = w2c_j1;
-  w2c_j0 += w2c_j1;
-  w2c_l12 = w2c_j0;
-  w2c_j0 = w2c_l8;
-  w2c_j1 = w2c_l14;
-  w2c_j0 += w2c_j1;
-  w2c_l8 = w2c_j0;
-  w2c_i0 = w2c_l10;
-  w2c_i1 = 32u;
-  w2c_i0 = w2c_i0 == w2c_i1;
-  if (w2c_i0) {goto w2c_B26;}
+  i64_store(instance, w2c_j0, w2c_j1, w2c_j2);
+  w2c_j0 = 0ull;
+  w2c_p4 = w2c_j0;
+  goto w2c_B0;
+  w2c_B2:;
+  UNREACHABLE;
+  w2c_B1:;
+  w2c_j0 = w2c_l7;
+  w2c_j1 = w2c_l9;
+  w2c_j0 -= w2c_j1;
+  w2c_j1 = w2c_p3;
+  w2c_i0 = w2c_j0 >= w2c_j1;
+  if (w2c_i0) {goto w2c_B28;}
   w2c_j0 = w2c_p3;
   w2c_j1 = 3ull;
   w2c_j0 &= w2c_j1;
   w2c_l6 = w2c_j0;
   w2c_j0 = 0ull;
-  w2c_l9 = w2c_j0;
+  w2c_p4 = w2c_j0;
   w2c_j0 = w2c_p3;
-  w2c_j1 = 18446744073709551615ull;
-  w2c_j0 += w2c_j1;
-  w2c_j1 = 3ull;
+  w2c_j1 = 4ull;
   w2c_i0 = w2c_j0 < w2c_j1;
-  if (w2c_i0) {goto w2c_B25;}
+  if (w2c_i0) {goto w2c_B27;}
   w2c_j0 = w2c_p3;
   w2c_j1 = 252ull;
   w2c_j0 &= w2c_j1;
   w2c_p5 = w2c_j0;
   w2c_j0 = 0ull;
-  w2c_l9 = w2c_j0;
-  w2c_L27:
-    w2c_j0 = w2c_l8;
-    w2c_j1 = w2c_l9;
+  w2c_p4 = w2c_j0;
+  w2c_L29:
+    w2c_j0 = w2c_l7;
+    w2c_j1 = w2c_p4;
     w2c_j0 += w2c_j1;
     w2c_p1 = w2c_j0;
-    w2c_j1 = w2c_l12;
-    w2c_j2 = w2c_l9;
+    w2c_j1 = w2c_l9;
+    w2c_j2 = w2c_p4;
     w2c_j1 += w2c_j2;
     w2c_p3 = w2c_j1;
     w2c_j2 = 0ull;
@@ -4160,75 +4530,45 @@ static void w2c_rattle__export_multihash_encode(memory* instance, u64 w2c_p0, u6
     w2c_j2 = 0ull;
     i32_store8(instance, w2c_j0, w2c_i1, w2c_j2);
     w2c_j0 = w2c_p5;
-    w2c_j1 = w2c_l9;
+    w2c_j1 = w2c_p4;
     w2c_j2 = 4ull;
     w2c_j1 += w2c_j2;
-    w2c_l9 = w2c_j1;
+    w2c_p4 = w2c_j1;
     w2c_i0 = w2c_j0 != w2c_j1;
-    if (w2c_i0) {goto w2c_L27;}
+    if (w2c_i0) {goto w2c_L29;}
   w2c_j0 = w2c_l6;
   w2c_i0 = !(w2c_j0);
   w2c_i0 = !(w2c_i0);
-  if (w2c_i0) {goto w2c_B25;}
+  if (w2c_i0) {goto w2c_B27;}
   w2c_j0 = 0ull;
-  w2c_l9 = w2c_j0;
-  goto w2c_B4;
-  w2c_B26:;
-  w2c_j0 = w2c_p5;
-  w2c_j1 = w2c_l14;
-  w2c_j0 -= w2c_j1;
-  w2c_j1 = 31ull;
-  w2c_i0 = w2c_j0 <= w2c_j1;
-  if (w2c_i0) {goto w2c_B0;}
-  w2c_j0 = w2c_l12;
-  w2c_j1 = 0ull;
-  w2c_j0 = i64_load(instance, w2c_j0, w2c_j1);
+  w2c_p4 = w2c_j0;
+  goto w2c_B0;
+  w2c_B28:;
+  w2c_j0 = w2c_p3;
+  w2c_i0 = !(w2c_j0);
+  if (w2c_i0) {goto w2c_B30;}
+  w2c_j0 = w2c_l7;
+  w2c_j1 = w2c_l9;
+  w2c_j2 = w2c_p3;
+  memory_copy(instance, w2c_j0, w2c_j1, w2c_j2);
+  w2c_B30:;
+  w2c_j0 = 0ull;
+  w2c_p4 = w2c_j0;
+  goto w2c_B0;
+  w2c_B27:;
+  w2c_j0 = w2c_l7;
+  w2c_j1 = w2c_p4;
+  w2c_j0 += w2c_j1;
   w2c_p1 = w2c_j0;
-  w2c_j0 = w2c_l12;
-  w2c_j1 = 8ull;
-  w2c_j0 = i64_load(instance, w2c_j0, w2c_j1);
-  w2c_p3 = w2c_j0;
-  w2c_j0 = w2c_l12;
-  w2c_j1 = 16ull;
-  w2c_j0 = i64_load(instance, w2c_j0, w2c_j1);
-  w2c_l6 = w2c_j0;
-  w2c_j0 = w2c_l8;
-  w2c_j1 = w2c_l12;
-  w2c_j2 = 24ull;
-  w2c_j1 = i64_load(instance, w2c_j1, w2c_j2);
-  w2c_j2 = 24ull;
-  i64_store(instance, w2c_j0, w2c_j1, w2c_j2);
-  w2c_j0 = w2c_l8;
-  w2c_j1 = w2c_l6;
-  w2c_j2 = 16ull;
-  i64_store(instance, w2c_j0, w2c_j1, w2c_j2);
-  w2c_j0 = w2c_l8;
-  w2c_j1 = w2c_p3;
-  w2c_j2 = 8ull;
-  i64_store(instance, w2c_j0, w2c_j1, w2c_j2);
-  w2c_j0 = w2c_l8;
-  w2c_j1 = w2c_p1;
-  w2c_j2 = 0ull;
-  i64_store(instance, w2c_j0, w2c_j1, w2c_j2);
-  goto w2c_B4;
-  w2c_B25:;
   w2c_j0 = w2c_p2;
-  w2c_j1 = w2c_l15;
-  w2c_j2 = w2c_l9;
-  w2c_j1 += w2c_j2;
-  w2c_j0 += w2c_j1;
-  w2c_p1 = w2c_j0;
-  w2c_j0 = w2c_p4;
-  w2c_j1 = w2c_l7;
-  w2c_j2 = w2c_l14;
-  w2c_j1 += w2c_j2;
-  w2c_j2 = w2c_l9;
+  w2c_j1 = w2c_l8;
+  w2c_j2 = w2c_p4;
   w2c_j1 += w2c_j2;
   w2c_j0 += w2c_j1;
   w2c_p3 = w2c_j0;
-  w2c_L28:
-    w2c_j0 = w2c_p3;
-    w2c_j1 = w2c_p1;
+  w2c_L31:
+    w2c_j0 = w2c_p1;
+    w2c_j1 = w2c_p3;
     w2c_j2 = 0ull;
     w2c_i1 = i32_load8_u(instance, w2c_j1, w2c_j2);
     w2c_j2 = 0ull;
@@ -4242,15 +4582,15 @@ static void w2c_rattle__export_multihash_encode(memory* instance, u64 w2c_p0, u6
     w2c_j0 += w2c_j1;
     w2c_p3 = w2c_j0;
     w2c_j0 = 0ull;
-    w2c_l9 = w2c_j0;
+    w2c_p4 = w2c_j0;
     w2c_j0 = w2c_l6;
     w2c_j1 = 18446744073709551615ull;
     w2c_j0 += w2c_j1;
     w2c_l6 = w2c_j0;
     w2c_j1 = 0ull;
     w2c_i0 = w2c_j0 != w2c_j1;
-    if (w2c_i0) {goto w2c_L28;}
-  w2c_B4:;
+    if (w2c_i0) {goto w2c_L31;}
+  w2c_B0:;
   w2c_j0 = w2c_p0;
   w2c_j1 = w2c_l11;
   w2c_j2 = 16ull;
@@ -4260,12 +4600,9 @@ static void w2c_rattle__export_multihash_encode(memory* instance, u64 w2c_p0, u6
   w2c_j2 = 8ull;
   i64_store(instance, w2c_j0, w2c_j1, w2c_j2);
   w2c_j0 = w2c_p0;
-  w2c_j1 = w2c_l9;
+  w2c_j1 = w2c_p4;
   w2c_j2 = 0ull;
   i64_store(instance, w2c_j0, w2c_j1, w2c_j2);
-  goto w2c_Bfunc;
-  w2c_B0:;
-  UNREACHABLE;
   w2c_Bfunc:;
 }
 
@@ -4296,11 +4633,11 @@ static void w2c_rattle__export_multihash_scale_encode(memory* instance, u64 w2c_
   w2c_j0 = instance->w2c___stack_pointer;
   w2c_j1 = 16ull;
   w2c_i0 = (u64)((s64)w2c_j0 < (s64)w2c_j1);
-  if (w2c_i0) {goto w2c_B2;}
+  if (w2c_i0) {goto w2c_B0;}
   w2c_j0 = w2c_p3;
   w2c_j1 = 256ull;
   w2c_i0 = w2c_j0 < w2c_j1;
-  if (w2c_i0) {goto w2c_B3;}
+  if (w2c_i0) {goto w2c_B1;}
   w2c_j0 = w2c_p0;
   w2c_j1 = 0ull;
   w2c_j2 = 16ull;
@@ -4314,11 +4651,11 @@ static void w2c_rattle__export_multihash_scale_encode(memory* instance, u64 w2c_
   w2c_j2 = 0ull;
   i64_store(instance, w2c_j0, w2c_j1, w2c_j2);
   goto w2c_Bfunc;
-  w2c_B3:;
+  w2c_B1:;
   w2c_j0 = w2c_p1;
   w2c_j1 = 18446744073709551615ull;
   w2c_i0 = (u64)((s64)w2c_j0 > (s64)w2c_j1);
-  if (w2c_i0) {goto w2c_B4;}
+  if (w2c_i0) {goto w2c_B2;}
   w2c_j0 = w2c_p0;
   w2c_j1 = 0ull;
   w2c_j2 = 4ull;
@@ -4336,55 +4673,91 @@ static void w2c_rattle__export_multihash_scale_encode(memory* instance, u64 w2c_
   w2c_j2 = 20ull;
   i32_store(instance, w2c_j0, w2c_i1, w2c_j2);
   goto w2c_Bfunc;
-  w2c_B4:;
+  w2c_B2:;
   w2c_j0 = w2c_p3;
   w2c_j1 = 9ull;
   w2c_j0 += w2c_j1;
   w2c_l6 = w2c_j0;
   w2c_j1 = w2c_p5;
   w2c_i0 = w2c_j0 <= w2c_j1;
-  if (w2c_i0) {goto w2c_B5;}
+  if (w2c_i0) {goto w2c_B4;}
   w2c_i0 = 7u;
   w2c_l7 = w2c_i0;
-  goto w2c_B0;
-  w2c_B5:;
-  w2c_j0 = w2c_p4;
-  w2c_j1 = 4096ull;
-  w2c_j2 = 0ull;
-  w2c_j3 = w2c_p4;
-  w2c_i3 = !(w2c_j3);
-  w2c_j1 = w2c_i3 ? w2c_j1 : w2c_j2;
-  w2c_l8 = w2c_j1;
-  w2c_j0 += w2c_j1;
-  w2c_l9 = w2c_j0;
-  w2c_j1 = w2c_p1;
-  w2c_j2 = 0ull;
-  i64_store(instance, w2c_j0, w2c_j1, w2c_j2);
-  w2c_j0 = w2c_l9;
-  w2c_j1 = 8ull;
-  w2c_j0 += w2c_j1;
-  w2c_j1 = w2c_p3;
-  w2c_j2 = 0ull;
-  i64_store8(instance, w2c_j0, w2c_j1, w2c_j2);
-  w2c_j0 = w2c_p3;
-  w2c_i0 = (u32)(w2c_j0);
-  w2c_l7 = w2c_i0;
-  w2c_j0 = w2c_p3;
-  w2c_i0 = !(w2c_j0);
-  if (w2c_i0) {goto w2c_B0;}
+  goto w2c_B3;
+  w2c_B4:;
   w2c_j0 = w2c_p2;
   w2c_j1 = 4096ull;
   w2c_j2 = 0ull;
   w2c_j3 = w2c_p2;
   w2c_i3 = !(w2c_j3);
   w2c_j1 = w2c_i3 ? w2c_j1 : w2c_j2;
+  w2c_l8 = w2c_j1;
+  w2c_j0 += w2c_j1;
+  w2c_l9 = w2c_j0;
+  w2c_j0 = w2c_p4;
+  w2c_j1 = 4096ull;
+  w2c_j2 = 0ull;
+  w2c_j3 = w2c_p4;
+  w2c_i3 = !(w2c_j3);
+  w2c_j1 = w2c_i3 ? w2c_j1 : w2c_j2;
   w2c_l10 = w2c_j1;
   w2c_j0 += w2c_j1;
   w2c_l11 = w2c_j0;
-  w2c_i0 = w2c_l7;
-  w2c_i1 = 32u;
-  w2c_i0 = w2c_i0 == w2c_i1;
+  w2c_j1 = w2c_p1;
+  w2c_j2 = 0ull;
+  i64_store(instance, w2c_j0, w2c_j1, w2c_j2);
+  w2c_j0 = w2c_l11;
+  w2c_j1 = 8ull;
+  w2c_j0 += w2c_j1;
+  w2c_j1 = w2c_p3;
+  w2c_j2 = 0ull;
+  i64_store8(instance, w2c_j0, w2c_j1, w2c_j2);
+  w2c_j0 = w2c_l11;
+  w2c_j1 = 9ull;
+  w2c_j0 += w2c_j1;
+  w2c_p1 = w2c_j0;
+  w2c_j0 = w2c_p3;
+  w2c_j1 = 32ull;
+  w2c_i0 = w2c_j0 != w2c_j1;
   if (w2c_i0) {goto w2c_B6;}
+  w2c_j0 = w2c_l9;
+  w2c_j1 = 0ull;
+  w2c_j0 = i64_load(instance, w2c_j0, w2c_j1);
+  w2c_p3 = w2c_j0;
+  w2c_j0 = w2c_l9;
+  w2c_j1 = 8ull;
+  w2c_j0 = i64_load(instance, w2c_j0, w2c_j1);
+  w2c_p5 = w2c_j0;
+  w2c_j0 = w2c_l9;
+  w2c_j1 = 16ull;
+  w2c_j0 = i64_load(instance, w2c_j0, w2c_j1);
+  w2c_l12 = w2c_j0;
+  w2c_j0 = w2c_p1;
+  w2c_j1 = w2c_l9;
+  w2c_j2 = 24ull;
+  w2c_j1 = i64_load(instance, w2c_j1, w2c_j2);
+  w2c_j2 = 24ull;
+  i64_store(instance, w2c_j0, w2c_j1, w2c_j2);
+  w2c_j0 = w2c_p1;
+  w2c_j1 = w2c_l12;
+  w2c_j2 = 16ull;
+  i64_store(instance, w2c_j0, w2c_j1, w2c_j2);
+  w2c_j0 = w2c_p1;
+  w2c_j1 = w2c_p5;
+  w2c_j2 = 8ull;
+  i64_store(instance, w2c_j0, w2c_j1, w2c_j2);
+  w2c_j0 = w2c_p1;
+  w2c_j1 = w2c_p3;
+  w2c_j2 = 0ull;
+  i64_store(instance, w2c_j0, w2c_j1, w2c_j2);
+  goto w2c_B5;
+  w2c_B6:;
+  w2c_j0 = w2c_p1;
+  w2c_j1 = w2c_l9;
+  w2c_j0 -= w2c_j1;
+  w2c_j1 = w2c_p3;
+  w2c_i0 = w2c_j0 >= w2c_j1;
+  if (w2c_i0) {goto w2c_B7;}
   w2c_j0 = w2c_p3;
   w2c_j1 = 3ull;
   w2c_j0 &= w2c_j1;
@@ -4392,25 +4765,23 @@ static void w2c_rattle__export_multihash_scale_encode(memory* instance, u64 w2c_
   w2c_j0 = 0ull;
   w2c_p1 = w2c_j0;
   w2c_j0 = w2c_p3;
-  w2c_j1 = 18446744073709551615ull;
-  w2c_j0 += w2c_j1;
-  w2c_j1 = 3ull;
+  w2c_j1 = 4ull;
   w2c_i0 = w2c_j0 < w2c_j1;
-  if (w2c_i0) {goto w2c_B7;}
+  if (w2c_i0) {goto w2c_B8;}
   w2c_j0 = w2c_p3;
   w2c_j1 = 252ull;
   w2c_j0 &= w2c_j1;
   w2c_l13 = w2c_j0;
   w2c_j0 = 0ull;
   w2c_p1 = w2c_j0;
-  w2c_L8:
-    w2c_j0 = w2c_l9;
+  w2c_L9:
+    w2c_j0 = w2c_l11;
     w2c_j1 = w2c_p1;
     w2c_j0 += w2c_j1;
     w2c_p3 = w2c_j0;
     w2c_j1 = 9ull;
     w2c_j0 += w2c_j1;
-    w2c_j1 = w2c_l11;
+    w2c_j1 = w2c_l9;
     w2c_j2 = w2c_p1;
     w2c_j1 += w2c_j2;
     w2c_p5 = w2c_j1;
@@ -4454,18 +4825,18 @@ static void w2c_rattle__export_multihash_scale_encode(memory* instance, u64 w2c_
     w2c_j1 += w2c_j2;
     w2c_p1 = w2c_j1;
     w2c_i0 = w2c_j0 != w2c_j1;
-    if (w2c_i0) {goto w2c_L8;}
+    if (w2c_i0) {goto w2c_L9;}
   w2c_j0 = w2c_l12;
   w2c_i0 = !(w2c_j0);
-  if (w2c_i0) {goto w2c_B1;}
-  w2c_B7:;
+  if (w2c_i0) {goto w2c_B5;}
+  w2c_B8:;
   w2c_j0 = w2c_p2;
-  w2c_j1 = w2c_l10;
+  w2c_j1 = w2c_l8;
   w2c_j2 = w2c_p1;
   w2c_j1 += w2c_j2;
   w2c_j0 += w2c_j1;
   w2c_p3 = w2c_j0;
-  w2c_j0 = w2c_l8;
+  w2c_j0 = w2c_l10;
   w2c_j1 = w2c_p1;
   w2c_j0 += w2c_j1;
   w2c_j1 = w2c_p4;
@@ -4473,70 +4844,41 @@ static void w2c_rattle__export_multihash_scale_encode(memory* instance, u64 w2c_
   w2c_j1 = 9ull;
   w2c_j0 += w2c_j1;
   w2c_p1 = w2c_j0;
-  w2c_L9:
+  w2c_L10:
     w2c_j0 = w2c_p1;
     w2c_j1 = w2c_p3;
     w2c_j2 = 0ull;
     w2c_i1 = i32_load8_u(instance, w2c_j1, w2c_j2);
     w2c_j2 = 0ull;
     i32_store8(instance, w2c_j0, w2c_i1, w2c_j2);
-    w2c_j0 = w2c_p3;
-    w2c_j1 = 1ull;
-    w2c_j0 += w2c_j1;
-    w2c_p3 = w2c_j0;
     w2c_j0 = w2c_p1;
     w2c_j1 = 1ull;
     w2c_j0 += w2c_j1;
     w2c_p1 = w2c_j0;
+    w2c_j0 = w2c_p3;
+    w2c_j1 = 1ull;
+    w2c_j0 += w2c_j1;
+    w2c_p3 = w2c_j0;
     w2c_j0 = w2c_l12;
     w2c_j1 = 18446744073709551615ull;
     w2c_j0 += w2c_j1;
     w2c_l12 = w2c_j0;
     w2c_j1 = 0ull;
     w2c_i0 = w2c_j0 != w2c_j1;
-    if (w2c_i0) {goto w2c_L9;}
-    goto w2c_B1;
-  w2c_B6:;
-  w2c_j0 = w2c_l11;
-  w2c_j1 = 0ull;
-  w2c_j0 = i64_load(instance, w2c_j0, w2c_j1);
-  w2c_p1 = w2c_j0;
-  w2c_j0 = w2c_l11;
-  w2c_j1 = 8ull;
-  w2c_j0 = i64_load(instance, w2c_j0, w2c_j1);
-  w2c_p5 = w2c_j0;
-  w2c_j0 = w2c_l11;
-  w2c_j1 = 16ull;
-  w2c_j0 = i64_load(instance, w2c_j0, w2c_j1);
-  w2c_l12 = w2c_j0;
-  w2c_j0 = w2c_l9;
-  w2c_j1 = 9ull;
-  w2c_j0 += w2c_j1;
-  w2c_p3 = w2c_j0;
-  w2c_j1 = w2c_l11;
-  w2c_j2 = 24ull;
-  w2c_j1 = i64_load(instance, w2c_j1, w2c_j2);
-  w2c_j2 = 24ull;
-  i64_store(instance, w2c_j0, w2c_j1, w2c_j2);
+    if (w2c_i0) {goto w2c_L10;}
+    goto w2c_B5;
+  w2c_B7:;
   w2c_j0 = w2c_p3;
-  w2c_j1 = w2c_l12;
-  w2c_j2 = 16ull;
-  i64_store(instance, w2c_j0, w2c_j1, w2c_j2);
-  w2c_j0 = w2c_p3;
-  w2c_j1 = w2c_p5;
-  w2c_j2 = 8ull;
-  i64_store(instance, w2c_j0, w2c_j1, w2c_j2);
-  w2c_j0 = w2c_p3;
-  w2c_j1 = w2c_p1;
-  w2c_j2 = 0ull;
-  i64_store(instance, w2c_j0, w2c_j1, w2c_j2);
-  goto w2c_B1;
-  w2c_B2:;
-  UNREACHABLE;
-  w2c_B1:;
+  w2c_i0 = !(w2c_j0);
+  if (w2c_i0) {goto w2c_B5;}
+  w2c_j0 = w2c_p1;
+  w2c_j1 = w2c_l9;
+  w2c_j2 = w2c_p3;
+  memory_copy(instance, w2c_j0, w2c_j1, w2c_j2);
+  w2c_B5:;
   w2c_i0 = 0u;
   w2c_l7 = w2c_i0;
-  w2c_B0:;
+  w2c_B3:;
   w2c_j0 = w2c_p0;
   w2c_j1 = w2c_l6;
   w2c_j2 = 16ull;
@@ -4553,6 +4895,9 @@ static void w2c_rattle__export_multihash_scale_encode(memory* instance, u64 w2c_
   w2c_i1 = w2c_l7;
   w2c_j2 = 0ull;
   i32_store(instance, w2c_j0, w2c_i1, w2c_j2);
+  goto w2c_Bfunc;
+  w2c_B0:;
+  UNREACHABLE;
   w2c_Bfunc:;
 }
 
