@@ -141,8 +141,7 @@ int32_t multihash_compare(uint64_t left_code, const uint8_t *left_digest, size_t
                           uint64_t right_code, const uint8_t *right_digest, size_t right_digest_length)
 {
     memory call;
-    need_block_length(left_digest_length);
-    need_block_length(right_digest_length);
+    need_block_length(left_digest_length); /* bytes are compared if the other length is the same */
     begin(&call, left_digest, left_digest_length, right_digest, right_digest_length, NULL, 0);
     uint32_t order = w2c_multihash_compare(&call, left_code, ADDRESS(INPUT), left_digest_length, right_code,
                                            ADDRESS(OTHER), right_digest_length);
