@@ -121,7 +121,6 @@ multihash_encoded multihash_encode(uint64_t code, const uint8_t *digest, size_t 
                                    size_t out_length)
 {
     memory call;
-    need_block_length(digest_length);
     need_block_length(out_length);
     begin(&call, digest, digest_length, NULL, 0, out, out_length);
     w2c_multihash_encode(&call, RESULT, code, ADDRESS(INPUT), digest_length, ADDRESS(OUT), out_length);
