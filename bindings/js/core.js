@@ -19,8 +19,8 @@ const PREFIX_MAX = HEAD_MAX + DIGEST_MAX;
 // of bytes in the module's memory is always one of them, so 32-bit addresses suffice.
 let NUMBERS;
 
-// The module's functions; its memory as bytes and as words, which stay valid since no function grows it; and,
-// in the memory after what the module uses, the addresses of a result, two inputs and an output.
+// The module's functions; its memory, which no function grows, and the words of a result in it; and, in the
+// memory after what the module uses, the addresses of that result, two inputs and an output.
 let library, memory, words, result, first, second, output;
 let resultAt, firstAt, secondAt, outputAt;
 
@@ -52,10 +52,10 @@ export function connect(bytes) {
   NUMBERS = Array.from({ length: PREFIX_MAX + 1 }, (_, number) => BigInt(number));
   library = new WebAssembly.Instance(new WebAssembly.Module(bytes)).exports;
   memory = new Uint8Array(library.memory.buffer);
-  words = new Uint32Array(library.memory.buffer);
   const free = (Number(library.__heap_base.value) + 7) & ~7;
   [result, first, second, output] = [0, 64, 64 + 512, 64 + 1024].map((offset) => free + offset);
   if (output + LENGTH_MAX > memory.length) throw new Error('the WebAssembly module is of another version');
+  words = new Uint32Array(memory.buffer, result, (first - result) / 4);
   [resultAt, firstAt, secondAt, outputAt] = [result, first, second, output].map(BigInt);
   const number = library.multihash_version();
   texts = STATUSES.map((_, status) => textOf(status));
@@ -107,15 +107,15 @@ export function bits64(number, what) {
 
 /** A number of 64 bits in the result: a bigint only where a number would not be exact. */
 function wide(offset) {
-  const low = words[(result + offset) >> 2];
-  const high = words[(result + offset + 4) >> 2];
+  const low = words[offset >> 2];
+  const high = words[(offset >> 2) + 1];
   if (high === 0) return low;
   return high < 0x200000 ? high * 0x100000000 + low : (BigInt(high) << 32n) | BigInt(low);
 }
 
 /** A length or an offset in the result. */
 function narrow(offset) {
-  return words[(result + offset) >> 2];
+  return words[offset >> 2];
 }
 
 /** Copies bytes of the module's memory. */
@@ -213,7 +213,8 @@ function found() {
 /** Decodes the multihash whose encoding is the whole of the bytes. */
 export function decode(bytes) {
   const length = put(bytes, first);
-  library.multihash_from_prefix(resultAt, firstAt, NUMBERS[Math.min(length, PREFIX_MAX)], bits64(length, 'a length'));
+  if (length <= PREFIX_MAX) library.multihash_from_bytes(resultAt, firstAt, NUMBERS[length]);
+  else library.multihash_from_prefix(resultAt, firstAt, NUMBERS[PREFIX_MAX], BigInt(length));
   if (narrow(0) !== 0) throw failure(length);
   return found();
 }
