@@ -1,5 +1,5 @@
 -- Where the digest is in the input, what decoding the SCALE form consumed, and what an error reports.
-use Rattle.std.proofs.Common.{◌≡◌, ℕ, ◌+◌, ◌<◌, List, [], ◌∷◌, ◌++◌, length, take, drop, ap, sym, ◌∙◌, subst, arith, refl, Option, Some, append_assoc, length-append, length-drop, ◌-◌}
+use Rattle.std.proofs.Common.{◌≡◌, ℕ, ◌+◌, ◌<◌, List, [], ◌∷◌, ◌++◌, length, take, drop, ap, sym, ◌∙◌, subst, arith, refl, Option, Some, append_assoc, length-append, length-drop}
 use Rattle.std.proofs.lemmas.List.{length-take-le}
 use Rattle.std.proofs.lemmas.List.Elements.{All-head, All-drop}
 use Rattle.std.proofs.Math.Seq.{drop-append_seam, take-append_seam}
@@ -11,6 +11,10 @@ use Rattle.multihash.specs.Refusal.{Refusal, IsInvalidCode}
 use Rattle.multihash.specs.Outcome.{IsErrorOf}
 use Rattle.multihash_c.specs.declared.decode.Decoded.{Decoded}
 use Rattle.multihash_c.specs.Decoded.{ReportsPair, ConsumesForm}
+
+-- what was consumed is the front
+pub taken_front : (input front left : List ℕ) (taken : ℕ) → input ≡ front ++ left → taken ≡ length front → take taken input ≡ front
+taken_front input front left taken cut long = rw (long, cut) (take-append_seam front left)
 
 -- the digest follows a front of that many bytes
 after_front : (input front digest rest : List ℕ) (offset n : ℕ) → input ≡ front ++ (digest ++ rest) → offset ≡ length front

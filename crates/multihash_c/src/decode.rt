@@ -115,11 +115,13 @@ pub extern "C" fn multihash_scale_decode(bytes: &[u8]) -> Decoded
 {
     let mut rest = bytes;
     let decoded = Multihash::<DIGEST_MAX>::scale_decode(&mut rest);
-    let taken = bytes.len() - rest.len();
     match decoded {
-        Ok(multihash) => accept(multihash.code(), usize::from(multihash.size()), taken),
+        Ok(multihash) => {
+            let size = usize::from(multihash.size());
+            accept(multihash.code(), size, SCALE_HEAD + size)
+        }
         Err(error) => match error.invalid_code() {
-            Some(code) => rejected_code(code, taken),
+            Some(code) => rejected_code(code, CODE_LEN),
             None => rejected_end(whole_parts(bytes.len())),
         },
     }
