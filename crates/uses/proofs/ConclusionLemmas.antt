@@ -1,5 +1,5 @@
 -- What the laws say of the result of a call.
-use Rattle.std.proofs.Common.{◌≡◌, ℕ, ◌-◌, List, ◌++◌, length, Option, None, Some, Result, Ok, Err, IfSome, IfOk, MatchResult, sym, ap, ◌∙◌, subst}
+use Rattle.std.proofs.Common.{◌≡◌, ℕ, List, ◌++◌, length, Option, None, Some, Result, Ok, Err, IfSome, IfOk, MatchResult, sym, ap, ◌∙◌, subst}
 use Rattle.serde_json.specs.Data.{Data}
 use Rattle.multihash.specs.Pair.{Pair}
 use Rattle.multihash.specs.Verdict.{Verdict, accepted, HasWholeVerdict}

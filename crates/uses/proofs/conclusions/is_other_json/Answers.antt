@@ -1,5 +1,4 @@
-use Rattle.std.proofs.Common.{◌≡◌, ℕ, List, subst}
-use Rattle.multihash.specs.Verdict.{Verdict, accepted, invalid_size, invalid_code, malformed, unexpected_eof, HasWholeVerdict}
+use Rattle.multihash.specs.Verdict.{Verdict, accepted, invalid_size, invalid_code, malformed, unexpected_eof}
 use Rattle.multihash.specs.Refusal.{Refusal, IsNotBytes}
 use Rattle.multihash.specs.Outcome.{IsErrorOf}
 use Rattle.uses.proofs.conclusions.is_other_json.Goals as goal
