@@ -3640,14 +3640,14 @@ static void w2c_multihash_scale_decode(memory* instance, u64 w2c_p0, u64 w2c_p1,
 }
 
 static void w2c_rattle__export_multihash_scale_decode(memory* instance, u64 w2c_p0, u64 w2c_p1, u64 w2c_p2) {
-  u32 w2c_l6 = 0;
-  u64 w2c_l3 = 0, w2c_l4 = 0, w2c_l5 = 0;
+  u32 w2c_l7 = 0;
+  u64 w2c_l3 = 0, w2c_l4 = 0, w2c_l5 = 0, w2c_l6 = 0;
   u32 w2c_i0, w2c_i1, w2c_i2, w2c_i3;
   u64 w2c_j0, w2c_j1, w2c_j2, w2c_j3;
   w2c_j0 = instance->w2c___stack_pointer;
   w2c_j1 = 16ull;
   w2c_i0 = (u64)((s64)w2c_j0 < (s64)w2c_j1);
-  if (w2c_i0) {goto w2c_B3;}
+  if (w2c_i0) {goto w2c_B2;}
   w2c_j0 = 0ull;
   w2c_l3 = w2c_j0;
   w2c_j0 = 8ull;
@@ -3655,9 +3655,9 @@ static void w2c_rattle__export_multihash_scale_decode(memory* instance, u64 w2c_
   w2c_j0 = w2c_p2;
   w2c_j1 = 8ull;
   w2c_i0 = w2c_j0 < w2c_j1;
-  if (w2c_i0) {goto w2c_B2;}
+  if (w2c_i0) {goto w2c_B1;}
   w2c_j0 = 0ull;
-  w2c_l3 = w2c_j0;
+  w2c_l5 = w2c_j0;
   w2c_j0 = w2c_p1;
   w2c_j1 = 4096ull;
   w2c_j2 = 0ull;
@@ -3665,51 +3665,65 @@ static void w2c_rattle__export_multihash_scale_decode(memory* instance, u64 w2c_
   w2c_i3 = !(w2c_j3);
   w2c_j1 = w2c_i3 ? w2c_j1 : w2c_j2;
   w2c_j0 += w2c_j1;
-  w2c_l5 = w2c_j0;
+  w2c_l6 = w2c_j0;
   w2c_j1 = 0ull;
   w2c_j0 = i64_load(instance, w2c_j0, w2c_j1);
   w2c_p1 = w2c_j0;
   w2c_j1 = 0ull;
   w2c_i0 = (u64)((s64)w2c_j0 >= (s64)w2c_j1);
-  if (w2c_i0) {goto w2c_B4;}
+  if (w2c_i0) {goto w2c_B3;}
   w2c_i0 = 5u;
-  w2c_l6 = w2c_i0;
-  goto w2c_B1;
-  w2c_B4:;
+  w2c_l7 = w2c_i0;
+  w2c_j0 = 0ull;
+  w2c_p2 = w2c_j0;
+  goto w2c_B0;
+  w2c_B3:;
   w2c_j0 = 9ull;
   w2c_l3 = w2c_j0;
   w2c_j0 = w2c_p2;
   w2c_j1 = 8ull;
   w2c_i0 = w2c_j0 == w2c_j1;
-  if (w2c_i0) {goto w2c_B2;}
-  w2c_j0 = w2c_l5;
+  if (w2c_i0) {goto w2c_B1;}
+  w2c_j0 = w2c_p2;
+  w2c_j1 = 18446744073709551607ull;
+  w2c_j0 += w2c_j1;
+  w2c_l4 = w2c_j0;
+  w2c_j0 = 32ull;
+  w2c_l5 = w2c_j0;
+  w2c_j0 = w2c_l6;
   w2c_j1 = 8ull;
   w2c_j0 += w2c_j1;
   w2c_j1 = 0ull;
   w2c_j0 = i64_load8_u(instance, w2c_j0, w2c_j1);
+  w2c_l6 = w2c_j0;
+  w2c_j1 = 32ull;
+  w2c_i0 = w2c_j0 != w2c_j1;
+  if (w2c_i0) {goto w2c_B5;}
+  w2c_j0 = w2c_l4;
+  w2c_j1 = 32ull;
+  w2c_i0 = w2c_j0 >= w2c_j1;
+  if (w2c_i0) {goto w2c_B4;}
+  goto w2c_B1;
+  w2c_B5:;
+  w2c_j0 = w2c_l6;
   w2c_l5 = w2c_j0;
-  w2c_j1 = w2c_p2;
-  w2c_j2 = 18446744073709551607ull;
-  w2c_j1 += w2c_j2;
-  w2c_l4 = w2c_j1;
-  w2c_i0 = w2c_j0 > w2c_j1;
-  if (w2c_i0) {goto w2c_B2;}
-  w2c_j0 = w2c_p2;
-  w2c_j1 = w2c_l4;
-  w2c_j0 -= w2c_j1;
-  w2c_l3 = w2c_j0;
+  w2c_j0 = w2c_l4;
+  w2c_j1 = w2c_l6;
+  w2c_i0 = w2c_j0 < w2c_j1;
+  if (w2c_i0) {goto w2c_B1;}
+  w2c_B4:;
+  w2c_j0 = 9ull;
+  w2c_p2 = w2c_j0;
   w2c_j0 = w2c_l5;
-  w2c_j1 = w2c_l4;
-  w2c_j0 -= w2c_j1;
-  w2c_j1 = w2c_p2;
+  w2c_j1 = 9ull;
   w2c_j0 += w2c_j1;
   w2c_l4 = w2c_j0;
   w2c_i0 = 0u;
-  w2c_l6 = w2c_i0;
+  w2c_l7 = w2c_i0;
   goto w2c_B0;
-  w2c_B3:;
-  UNREACHABLE;
   w2c_B2:;
+  UNREACHABLE;
+  w2c_B1:;
   w2c_j0 = 8ull;
   w2c_j1 = w2c_l3;
   w2c_j2 = w2c_p2;
@@ -3720,10 +3734,9 @@ static void w2c_rattle__export_multihash_scale_decode(memory* instance, u64 w2c_
   w2c_j0 = 0ull;
   w2c_p1 = w2c_j0;
   w2c_i0 = 6u;
-  w2c_l6 = w2c_i0;
+  w2c_l7 = w2c_i0;
   w2c_j0 = 0ull;
-  w2c_l3 = w2c_j0;
-  w2c_B1:;
+  w2c_p2 = w2c_j0;
   w2c_j0 = 0ull;
   w2c_l5 = w2c_j0;
   w2c_B0:;
@@ -3736,7 +3749,7 @@ static void w2c_rattle__export_multihash_scale_decode(memory* instance, u64 w2c_
   w2c_j2 = 32ull;
   i64_store(instance, w2c_j0, w2c_j1, w2c_j2);
   w2c_j0 = w2c_p0;
-  w2c_j1 = w2c_l3;
+  w2c_j1 = w2c_p2;
   w2c_j2 = 24ull;
   i64_store(instance, w2c_j0, w2c_j1, w2c_j2);
   w2c_j0 = w2c_p0;
@@ -3752,7 +3765,7 @@ static void w2c_rattle__export_multihash_scale_decode(memory* instance, u64 w2c_
   w2c_j2 = 4ull;
   i32_store(instance, w2c_j0, w2c_i1, w2c_j2);
   w2c_j0 = w2c_p0;
-  w2c_i1 = w2c_l6;
+  w2c_i1 = w2c_l7;
   w2c_j2 = 0ull;
   i32_store(instance, w2c_j0, w2c_i1, w2c_j2);
 }
