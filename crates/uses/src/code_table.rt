@@ -1,11 +1,10 @@
 //! A list of allowed codes.
-ghost use Rattle.std.specs.Prelude.{◌≡◌, ◌⊎◌, ℕ, List, ◌++◌, Some, Contains, IfOk, IsOkAnd, IsErrAnd, codes};
+ghost use Rattle.std.specs.Prelude.{◌≡◌, ◌⊎◌, ℕ, List, ◌++◌, Some, Contains, IfOk, IfErr, IsOkAnd, IsErrAnd, codes};
 ghost use Rattle.multihash.specs.declared.no_std_io.error.Kind.TheVariants.{Other};
 ghost use Rattle.multihash.specs.Pair.{Pair, FitsBuffer};
 ghost use Rattle.multihash.specs.Encoding.{IsEncoding};
-ghost use Rattle.multihash.specs.Reading.{Consumes, CountsReaderFailures};
-ghost use Rattle.multihash.specs.Refusal.{of_io, IsReaderError};
-ghost use Rattle.multihash.specs.Consuming.{ReadMayFailWith};
+ghost use Rattle.multihash.specs.Refusal.{of_io};
+ghost use Rattle.multihash.specs.Consuming.{ConsumesSome, ReadFails};
 ghost use Rattle.multihash.specs.Multihash.{pair_of};
 
 use multihash::no_std_io::{self, Read};
@@ -15,10 +14,12 @@ use multihash::{Error, Multihash};
 ///
 /// # Errors
 ///
-/// Those of [`Multihash::read`], and one with the text "the code is not allowed"; the multihash was consumed.
+/// - Those of [`Multihash::read`], with what it consumed.
+/// - The text "the code is not allowed"; the multihash was consumed.
 pub fn read<const S: usize, R: Read>(allowed: &[u64], r: &mut R) -> Result<Multihash<S>, Error>
     ensures ok { IfOk result (λ m. Contains allowed.now (pair_of m).code
-        × ((bytes : List ℕ) × IsEncoding (pair_of m) bytes × Consumes (R.rest r.old) bytes (R.rest r.new))) }
+        × ConsumesSome (IsEncoding (pair_of m)) (R.rest r.old) (R.rest r.new)
+        × (R.failures r.new ≡ R.failures r.old)) }
     ensures found { (p : Pair) (bytes more : List ℕ) → IsEncoding p bytes → FitsBuffer S p →
         Contains allowed.now p.code → R.rest r.old ≡ Some (bytes ++ more) →
         R.failures r.new ≡ R.failures r.old →
@@ -28,9 +29,12 @@ pub fn read<const S: usize, R: Read>(allowed: &[u64], r: &mut R) -> Result<Multi
         R.failures r.new ≡ R.failures r.old → IsErrAnd result (λ e.
         e ≡ of_io (record { kind = Other; text = codes "the code is not allowed" }))
         × (R.rest r.new ≡ Some more) }
-    ensures faults { CountsReaderFailures IsReaderError (λ e. ReadMayFailWith S e
-        ⊎ (e ≡ of_io (record { kind = Other; text = codes "the code is not allowed" })))
-        (R.failures r.old) (R.failures r.new) result }
+    ensures err { IfErr result (λ e.
+        ReadFails S (R.failures r.old) (R.failures r.new) e (R.rest r.old) (R.rest r.new)
+        ⊎ ((p : Pair) × ¬ (Contains allowed.now p.code)
+        × ConsumesSome (IsEncoding p) (R.rest r.old) (R.rest r.new)
+        × (R.failures r.new ≡ R.failures r.old)
+        × (e ≡ of_io (record { kind = Other; text = codes "the code is not allowed" })))) }
 {
     let multihash = Multihash::read(r)?;
     if !allowed.contains(&multihash.code()) {
