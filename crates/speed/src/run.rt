@@ -53,8 +53,8 @@ macro_rules! sum_of_bytes {
 }
 
 impl<const S: usize> Inputs<S> {
-    /// Makes `count` calls of an operation, a multiple of 8, and returns the sum of their results. For a list,
-    /// `count` items are written or read, a thousand a call.
+    /// Makes `count` calls of an operation, a multiple of 8, and returns the sum of their results. For a
+    /// list, `count` items are written or read, a thousand a call.
     pub fn run(&mut self, alloc: Global, operation: Operation, count: u32) -> u64 {
         match operation {
             Operation::Wrap => self.wrap(count),

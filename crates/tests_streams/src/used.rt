@@ -73,7 +73,7 @@ fn expect_content(rt: &impl Abort, id: &ContentId<32>) {
     expect_bytes!(rt; &bytes, &SECTION[1..37]);
 }
 
-fn refused(bytes: &[u8]) -> Option<Refusal> {
+fn section_error(bytes: &[u8]) -> Option<Refusal> {
     match section_front::<32>(bytes) {
         Err(ContentIdError::Refused(e)) => Refusal::of(&e),
         _ => None,
@@ -96,9 +96,9 @@ fn a_section_is_read(rt: HostRuntime) {
     let mut short = SECTION;
     short[0] = 35;
     let text = Refusal::Other("the identifier is longer than its section");
-    check_eq!(rt; refused(&short), Some(text));
-    check_eq!(rt; refused(&SECTION[..40]), Some(Refusal::UnexpectedEof));
-    check_eq!(rt; refused(&SECTION[..4]), Some(Refusal::Insufficient));
+    check_eq!(rt; section_error(&short), Some(text));
+    check_eq!(rt; section_error(&SECTION[..40]), Some(Refusal::UnexpectedEof));
+    check_eq!(rt; section_error(&SECTION[..4]), Some(Refusal::Insufficient));
 }
 
 fn expect_printed<const S: usize>(rt: &impl Abort, alloc: Global, digest: &[u8])

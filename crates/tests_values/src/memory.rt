@@ -1,6 +1,6 @@
-//! Failing allocations. A test whose name begins with `allocating` passes if no allocation fails. If one does,
-//! it checks what is left then, and fails with `FAILED`: `tools/memory` makes each allocation fail
-//! in turn, and counts them.
+//! Failing allocations. A test whose name begins with `allocating` passes if no allocation fails. If one
+//! does, it checks what is left then, and fails with `FAILED`: `tools/memory` makes each allocation fail in
+//! turn, and counts them.
 ghost use Rattle.std.specs.Prelude.{◌<◌, ◌^◌};
 
 use fakes::refusal::{LARGEST_CODE, Refusal, is_rejected};

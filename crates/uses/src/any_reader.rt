@@ -12,8 +12,8 @@ use multihash::no_std_io::Read;
 use multihash::{Error, Multihash, laws, list};
 use std::alloc::Global;
 
-/// Reads `count` multihashes into a vector of that capacity, or returns `None` if an allocation fails: that of
-/// the vector, and then nothing was read, or one of the reader's, which counts one failure. A `count` of 0
+/// Reads `count` multihashes into a vector of that capacity, or returns `None` if an allocation fails: that
+/// of the vector, and then nothing was read, or one of the reader's, which counts one failure. A `count` of 0
 /// needs no allocation.
 ///
 /// # Errors

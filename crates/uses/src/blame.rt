@@ -38,8 +38,8 @@ pub fn reader_failed<const S: usize, R: Read>(r: &mut R) -> (Option<Multihash<S>
 }
 
 /// Returns the result of `read` for a slice, and what it leaves. If the digest is too long for the capacity,
-/// the error has its length, and the digest is left, so a caller can skip it. If the digest is truncated, both
-/// varints are consumed, and an unspecified part of the digest.
+/// the error has its length, and the digest is left, so a caller can skip it. If the digest is truncated,
+/// both varints are consumed, and an unspecified part of the digest.
 pub fn read_slice<const S: usize>(stream: &[u8]) -> (Result<Multihash<S>, Error>, &[u8])
     ensures verdict { (v : Verdict) × HasVerdict S stream.now v × IsResultOf result.0 v }
     ensures ok { IfOk result.0 (λ m. (bytes : List ℕ) × IsEncoding (pair_of m) bytes
