@@ -20,7 +20,7 @@ PROOF = re.compile(r"proofs/(.*)/(?:Answers|Invariants|Proof)\.antt")
 # a search that did not try all; a name that is gone; a function or a lemma that fails only as another does
 LIMIT = re.compile(r"gave up at one of its limits|was found\. It stopped ")
 NAMES = re.compile(r"can be named from here|has no field|is not in scope|is no name|has no `|^`[^`]*`: (?:`[^`]*`: )?(?:record|module) `")
-FOLLOWS = re.compile(r"depends? on |was not admitted|(?:is|are) not proved|it waits for the proof of ")
+FOLLOWS = re.compile(r"(?<!nothing )depends? on |was not admitted|(?:is|are) not proved|it waits for the proof of ")
 
 
 class Function(NamedTuple):
