@@ -88,11 +88,14 @@ fn a_section_is_read(rt: HostRuntime) {
     let (id, len) = expect_ok!(rt; next);
     expect_content(rt, &id);
     check_eq!(rt; (len, reader.left.len()), (4, 4));
-    let next = expect_ok!(rt; section_front::<32>(&SECTION));
-    let (id, data, rest) = expect_ok!(rt; next);
-    expect_content(rt, &id);
-    expect_bytes!(rt; data, b"aaaa");
-    check!(rt; expect_ok!(rt; section_front::<32>(rest)).is_none());
+    match section_front::<32>(&SECTION) {
+        Ok(Some((id, data, rest))) => {
+            expect_content(rt, &id);
+            expect_bytes!(rt; data, b"aaaa");
+            check!(rt; matches!(section_front::<32>(rest), Ok(None)));
+        }
+        _ => check!(rt; false),
+    }
     let mut short = SECTION;
     short[0] = 35;
     let text = Refusal::Other("the identifier is longer than its section");
