@@ -34,7 +34,7 @@ make_data() {
 }
 
 in_node() {
-  node "$here/test/node.js" "$@"
+  timeout 600 node "$here/test/node.js" "$@"
 }
 
 # The tests find exactly that many wrong checks.
