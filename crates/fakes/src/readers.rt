@@ -1,7 +1,7 @@
 //! Readers that return few bytes, fail, have unknown input, or count their calls.
 ghost use Rattle.std.specs.Prelude.{◌<◌, Some, None, if◌then◌else◌};
 
-use crate::refusal::{Refusal, own_fault};
+use crate::refusal::{Refusal, own_error};
 use multihash::no_std_io::{Error, Read};
 
 /// A reader of a slice with known input, which returns at most `most` bytes per call.
@@ -68,7 +68,7 @@ impl Read for FailAt<'_> {
             self.calls -= 1;
         } else if !self.failed {
             self.failed = true;
-            return Err(own_fault(self.why));
+            return Err(own_error(self.why));
         }
         self.cuts.read(buf)
     }
@@ -146,7 +146,7 @@ impl Read for Counts<'_> {
             self.calls -= 1;
         } else if self.may_fail {
             self.may_fail = false;
-            return Err(own_fault(self.why));
+            return Err(own_error(self.why));
         }
         self.left.read(buf)
     }
@@ -157,7 +157,7 @@ impl Read for Counts<'_> {
             self.calls -= 1;
         } else if self.may_fail && !buf.is_empty() {
             self.may_fail = false;
-            return Err(own_fault(self.why));
+            return Err(own_error(self.why));
         }
         self.left.read_exact(buf)
     }

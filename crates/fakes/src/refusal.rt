@@ -31,8 +31,8 @@ impl Refusal {
 
     /// The kind of an error: the first test that applies.
     pub fn of(e: &Error) -> Option<Self> {
-        if let Some(fault) = e.io() {
-            return Refusal::of_fault(fault);
+        if let Some(error) = e.io() {
+            return Refusal::of_error(error);
         }
         if let Some(size) = e.invalid_size() {
             return Some(Refusal::InvalidSize(size));
@@ -54,7 +54,7 @@ impl Refusal {
     }
 
     /// The kind of a reader's or a writer's error.
-    pub fn of_fault(e: &no_std_io::Error) -> Option<Self> {
+    pub fn of_error(e: &no_std_io::Error) -> Option<Self> {
         if e.is_unexpected_eof() {
             Some(Refusal::UnexpectedEof)
         } else if e.is_write_zero() {
@@ -70,7 +70,7 @@ impl Refusal {
 }
 
 // The error of this kind that a reader or a writer has of its own: out of memory, or another one.
-pub(crate) fn own_fault(why: Refusal) -> no_std_io::Error
+pub(crate) fn own_error(why: Refusal) -> no_std_io::Error
     ensures { IsOwnFault result }
 {
     match why {
@@ -86,5 +86,5 @@ pub fn is_rejected<T>(outcome: &Result<T, Error>, why: Refusal) -> bool {
 
 /// Whether a reader or a writer failed with this kind of error.
 pub fn is_failed<T>(outcome: &Result<T, no_std_io::Error>, why: Refusal) -> bool {
-    matches!(outcome, Err(e) if Refusal::of_fault(e) == Some(why))
+    matches!(outcome, Err(e) if Refusal::of_error(e) == Some(why))
 }

@@ -2,7 +2,7 @@
 ghost use Rattle.std.specs.Prelude.{◌≡◌, ◌<◌, ◌≤◌, ◌+◌, true, false, vec_len, vec_capacity, if◌then◌else◌};
 ghost use Rattle.multihash.specs.Writing.{AppendsAtEnd, AppendsAtEnd-none, AppendsAtEnd-concatenated};
 
-use crate::refusal::{Refusal, own_fault};
+use crate::refusal::{Refusal, own_error};
 use multihash::no_std_io::{Error, Write};
 use std::alloc::{AllocError, Global};
 
@@ -103,7 +103,7 @@ impl Write for FailWrite {
             self.calls -= 1;
         } else if !self.failed {
             self.failed = true;
-            return Err(own_fault(self.why));
+            return Err(own_error(self.why));
         }
         self.drip.write(buf)
     }
@@ -166,7 +166,7 @@ impl Write for CountsWrites {
             self.calls -= 1;
         } else if self.may_fail {
             self.may_fail = false;
-            return Err(own_fault(self.why));
+            return Err(own_error(self.why));
         }
         self.held.write(buf)
     }
@@ -177,7 +177,7 @@ impl Write for CountsWrites {
             self.calls -= 1;
         } else if self.may_fail && !buf.is_empty() {
             self.may_fail = false;
-            return Err(own_fault(self.why));
+            return Err(own_error(self.why));
         }
         self.held.write_all(buf)
     }

@@ -112,9 +112,9 @@ digits_keep_output : (input output new_input new_output : Option (List ℕ))
     → ¬ (EndsRun ⊥ input output new_input new_output (NotShown NotHex))
 digits_keep_output input output new_input new_output h = h.0
 
-refusal_keeps_output : (e : Refusal) (input output new_input new_output : Option (List ℕ))
+error_keeps_output : (e : Refusal) (input output new_input new_output : Option (List ℕ))
     → ¬ (EndsRun ⊥ input output new_input new_output (NotShown (Rejected e)))
-refusal_keeps_output e input output new_input new_output h = h.0
+error_keeps_output e input output new_input new_output h = h.0
 
 -- a text that names bytes is hexadecimal
 digits_are_hex : ¬ (EndsRun ⊤ (Some (codes "00\n")) (Some []) (Some []) (Some []) (NotShown NotHex))
@@ -172,10 +172,10 @@ longer_than new line more (inr part) =
       length-append part.part part.strict.0,
     )
 
-reports_no_other_fault : ¬ (ReportsError (Some []) (Some (codes "mh_show: output not written\n")) Input)
-reports_no_other_fault (inl tries) =
+reports_no_other_error : ¬ (ReportsError (Some []) (Some (codes "mh_show: output not written\n")) Input)
+reports_no_other_error (inl tries) =
     longer_than (codes "mh_show: output not written\n") (error_line (codes "input not read"))
     (omega arith) tries
-reports_no_other_fault (inr tries) =
+reports_no_other_error (inr tries) =
     longer_than (codes "mh_show: output not written\n") (error_line (codes "out of memory"))
     (omega arith) tries

@@ -156,29 +156,29 @@ no_trailing_shows lines (line, bytes, p, is, names, whole, e) =
 pub digits_name_some : ¬ (NamesNone (codes "00\n"))
 digits_name_some none = none (codes "00") (0 ∷ []) (inl refl) named_00
 
-rejected_for_no_other_fault : ¬ (IsRejectedAs (codes "8000\n") (of_varint overflow))
-rejected_for_no_other_fault (line, bytes, v, is, names, whole, refuses) =
+rejected_for_no_other_error : ¬ (IsRejectedAs (codes "8000\n") (of_varint overflow))
+rejected_for_no_other_error (line, bytes, v, is, names, whole, rejects) =
     let same : v ≡ malformed not_minimal =
     whole_verdict_unique 64 (0x80 ∷ 0 ∷ []) v (malformed not_minimal)
     (subst (λ (z : List ℕ). HasWholeVerdict 64 z v)
     (bytes_of (codes "8000")
     (0x80 ∷ 0 ∷ []) named_8000 line bytes is names) whole) whole_8000 in
-    let e = subst (λ (w : Verdict). IsErrorOf (of_varint overflow) w) same refuses in
+    let e = subst (λ (w : Verdict). IsErrorOf (of_varint overflow) w) same rejects in
     cc
 
 -- a pair is rejected with no error
 pub no_pair_rejected : (e : Refusal) → ¬ (IsRejectedAs (codes "0000\n") e)
-no_pair_rejected e (line, bytes, v, is, names, whole, refuses) =
+no_pair_rejected e (line, bytes, v, is, names, whole, rejects) =
     let same : v ≡ accepted (pair 0 []) =
     whole_verdict_unique 64 (0 ∷ 0 ∷ []) v (accepted (pair 0 []))
     (subst (λ (z : List ℕ). HasWholeVerdict 64 z v)
     (bytes_of (codes "0000") (0 ∷ 0 ∷ []) named_0000 line bytes is names) whole) whole_0000 in
-    subst (λ (w : Verdict). IsErrorOf e w) same refuses
+    subst (λ (w : Verdict). IsErrorOf e w) same rejects
 
 -- a text that names no bytes has another error
 no_digits_rejected : (e : Refusal) → ¬ (IsRejectedAs (codes "zz\n") e)
 unfolding decode_pairs
-no_digits_rejected e (line, bytes, v, is, names, whole, refuses) =
+no_digits_rejected e (line, bytes, v, is, names, whole, rejects) =
     cc (named_decodes (codes "zz") bytes
     (subst (λ (z : List ℕ). NamesBytes z bytes)
     (line_unique (codes "zz\n") line (codes "zz") is (inl refl)) names))

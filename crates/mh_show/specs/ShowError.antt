@@ -14,7 +14,7 @@ use Rattle.mh_show.specs.declared.show.ShowError.TheVariants.{NotHex, Rejected, 
 -- the text that an error prints
 abbrev pub show_error_text : ShowError → List ℕ
 show_error_text NotHex = codes "not hexadecimal"
-show_error_text (Rejected refusal) = refusal_text refusal
+show_error_text (Rejected error) = refusal_text error
 show_error_text Memory = codes "out of memory"
 
 -- the error that an error of `hex` becomes

@@ -54,7 +54,7 @@ impl From<FromHexError> for ShowError {
 impl From<multihash::Error> for ShowError {
     ghost use Rattle.mh_show.specs.declared.show.ShowError.{ShowError};
 
-    ghost from_gives = { λ refusal e. e ≡ ShowError.Rejected refusal };
+    ghost from_gives = { λ error e. e ≡ ShowError.Rejected error };
 
     fn from(e: multihash::Error) -> Self {
         ShowError::Rejected(e)

@@ -24,7 +24,7 @@ use Rattle.multihash.specs.Multihash.{Fields, pair_of}
 use Rattle.multihash.proofs.Writings.WritingLemmas.{slice_writer_has_room, length_of_not_nil}
 use Rattle.multihash.proofs.Readings.ReadingLemmas.{Consumes-cut, Consumes-told}
 use Rattle.multihash.proofs.Readings.VerdictLemmas.{verdict_unique, whole_verdict_unique}
-use Rattle.multihash.proofs.Varints.VarintLemmas.{number_no_fault, same_number}
+use Rattle.multihash.proofs.Varints.VarintLemmas.{number_no_error, same_number}
 use Rattle.multihash.proofs.Forms.ScaleLemmas.{scale_split, scale_verdict_unique}
 use Rattle.multihash.proofs.Forms.StreamLemmas.{next_part, parts_unique}
 use Rattle.multihash.proofs.Writings.EncodingLemmas.{encoding_same, encoding_unique}
@@ -65,21 +65,21 @@ pub write_of_encoded_len : {T : Type 0} {buffer : List ℕ} (old new : SliceWrit
     → old.filled ≡ 0 → old.buffer.now ≡ buffer
     → OnErr r ((bytes : List ℕ) × IsEncoding p bytes × AppendsPrefix Fills old bytes new)
     → CountsWriterFailures IsIo false 0 0 (IsFilled new) r → IsOk r
-write_of_encoded_len old new p len r (own, is_own, long) room empty kept stopped faults =
-    slice_writer_has_room old new (IsEncoding p) r stopped faults
+write_of_encoded_len old new p len r (own, is_own, long) room empty kept stopped errors =
+    slice_writer_has_room old new (IsEncoding p) r stopped errors
     (λ bytes is_form. omega (arith, room, long, empty, ap length kept, ap length (encoding_same p own bytes is_own is_form)))
 
 -- decoding a pair's SCALE form and more returns the pair and leaves what follows
 pub scale_pair : (S : ℕ) (p q : Pair) (input bytes consumed more left : List ℕ) (v : Verdict) → input ≡ bytes ++ more → IsScale p bytes
     → FitsBuffer S p → HasScaleVerdict S input v → v ≡ accepted q → IsScale q consumed → input ≡ consumed ++ left → (q ≡ p) × (left ≡ more)
-scale_pair S p q input bytes consumed more left v whole form fits found answers is_taken cut =
+scale_pair S p q input bytes consumed more left v whole form fits found results is_taken cut =
     let same = scale_split q p consumed bytes left more is_taken form (sym cut ∙ whole) in (same.0, same.2)
 
 -- and it is not rejected
 pub scale_taken : (S : ℕ) (p : Pair) (input bytes more : List ℕ) (v : Verdict) (e : Refusal) → input ≡ bytes ++ more → IsScale p bytes
     → FitsBuffer S p → HasScaleVerdict S input v → IsErrorOf e v → ⊥
-scale_taken S p input bytes more v e whole form fits found refused =
-    subst (IsErrorOf e) (scale_verdict_unique S input v (accepted p) found (bytes, more, form, omega arith, whole)) refused
+scale_taken S p input bytes more v e whole form fits found rejected =
+    subst (IsErrorOf e) (scale_verdict_unique S input v (accepted p) found (bytes, more, form, omega arith, whole)) rejected
 
 -- if a pair's encoding comes next, reading returns the pair and leaves what follows
 pub read_of_encoding : (S before after : ℕ) (old new : Option (List ℕ)) (p : Pair) (bytes more : List ℕ) (r : Result (Fields S) Refusal)
@@ -105,15 +105,15 @@ rejected_no_encoding S {e = e} {bytes = bytes} (v, h, names) p encodes fits =
 -- bytes that `from_bytes` accepts are the encoding of the pair that it returns, and of no other
 pub accepted_encoding : (S : ℕ) {q : Pair} {bytes : List ℕ} → (v : Verdict) × HasWholeVerdict S bytes v × (v ≡ accepted q)
     → IsEncoding q bytes × ((p : Pair) → IsEncoding p bytes → q ≡ p)
-accepted_encoding S {q = q} {bytes = bytes} (v, h, answers) =
-    let own = (subst (HasWholeVerdict S bytes) answers h).0 in
+accepted_encoding S {q = q} {bytes = bytes} (v, h, results) =
+    let own = (subst (HasWholeVerdict S bytes) results h).0 in
     (own, λ p encodes. (encoding_unique q p bytes bytes [] [] own encodes refl).0)
 
 -- the verdict on a pair's encoding is the pair
 pub from_bytes_of_encoding : (S : ℕ) (p : Pair) (bytes : List ℕ) (r : Result (Fields S) Refusal) (v : Verdict) → HasWholeVerdict S bytes v → IsResultOf r v
     → IsEncoding p bytes → FitsBuffer S p → MatchResult r (λ m. pair_of m ≡ p) IsOutOfMemory
-from_bytes_of_encoding S p bytes (Ok m) v h answers encodes fits = (accepted_encoding S (v, h, answers)).1 p encodes
-from_bytes_of_encoding S p bytes (Err e) v h answers encodes fits = absurd (rejected_no_encoding S (v, h, answers) p encodes fits)
+from_bytes_of_encoding S p bytes (Ok m) v h results encodes fits = (accepted_encoding S (v, h, results)).1 p encodes
+from_bytes_of_encoding S p bytes (Err e) v h results encodes fits = absurd (rejected_no_encoding S (v, h, results) p encodes fits)
 
 -- a size that is too large is rejected: the last fact is the clause `verdict` of `read`
 pub rejected_size : (S size : ℕ) (input rest : List ℕ) (r : Result (Fields S) Refusal) → BeginsWithSize size input rest → digest_limit S < size
@@ -144,7 +144,7 @@ varint_read n before after old new bytes more (Ok m) is rest same ok front =
     (both.0, told ∙ ap Some both.1)
 varint_read n before after old new bytes more (Err e) is rest same ok front =
     let met = (rw rest at front) same in
-    number_no_fault (bytes ++ more) n more met.0 (bytes, is, refl) met.2
+    number_no_error (bytes ++ more) n more met.0 (bytes, is, refl) met.2
 
 -- reading a varint failed, after calls that counted no failure: the facts are the clauses of `varint::read`
 pub varint_fails : (before middle after : ℕ) (old new : Option (List ℕ)) (e : Refusal) → middle ≡ before → FailsBy middle after IsAnyVarintError e

@@ -42,7 +42,7 @@ ReadMayFailWith S e =
 pub record ConsumesAtVarintError (e : Refusal) (old new : Option (List ℕ)) : Type 0 where
   pub consumed : List ℕ
   pub consumes : Consumes old consumed new
-  pub shows : (fault : VarintError) → IsVarintError fault e → BeginsMalformed fault consumed
+  pub shows : (error : VarintError) → IsVarintError error e → BeginsMalformed error consumed
   pub no_sooner : (shorter : List ℕ) → IsStrictPrefix shorter consumed → IsInsufficient shorter
   pub all : IsVarintError insufficient e → IsAtEnd new
   pub failed : IsReaderError e → IsInsufficient consumed
@@ -72,13 +72,13 @@ pub record ConsumesShortestSettling (S : ℕ) (rest : List ℕ) (new : Option (L
 -- one of the two varints at the front of the input is malformed, so for each capacity reading returns this
 -- error, and consumes that many bytes: the shortest prefix that settles it, or all of an insufficient input
 pub record IsHeadError (input : List ℕ) (e : Refusal) (taken : ℕ) : Type 0 where
-  pub fault : VarintError
-  pub named : IsVarintError fault e
-  pub verdict : (S : ℕ) → HasVerdict S input (malformed fault)
+  pub error : VarintError
+  pub named : IsVarintError error e
+  pub verdict : (S : ℕ) → HasVerdict S input (malformed error)
   pub within : taken ≤ length input
-  pub settled : (S : ℕ) → ¬ (IsIncomplete (malformed fault)) →
+  pub settled : (S : ℕ) → ¬ (IsIncomplete (malformed error)) →
       ConsumesShortestSettling S input (Some (drop taken input))
-  pub insufficient : fault ≡ insufficient → taken ≡ length input
+  pub insufficient : error ≡ insufficient → taken ≡ length input
 
 -- no prefix of what a call consumed settles a verdict
 pub record ConsumesNothingSettling (S : ℕ) (rest : List ℕ) (new : Option (List ℕ)) : Type 0 where

@@ -9,7 +9,7 @@ abbrev pub IsErrorOf : Refusal → Verdict → Type 0
 IsErrorOf e (accepted p) = ⊥
 IsErrorOf e (invalid_size size) = IsInvalidSize size e
 IsErrorOf e (invalid_code code) = IsInvalidCode code e
-IsErrorOf e (malformed fault) = IsVarintError fault e
+IsErrorOf e (malformed error) = IsVarintError error e
 IsErrorOf e unexpected_eof = IsEof e
 
 -- the result is the verdict's: its pair, or its error

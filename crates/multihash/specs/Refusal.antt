@@ -15,9 +15,9 @@ pub data Refusal : Type 0 where
   of_varint : VarintError → Refusal
   of_not_bytes : Refusal
 
--- the refusal of each kind of error
+-- the `Refusal` of each kind of error
 abbrev pub refusal_of : Kind → Refusal
-refusal_of (Io fault) = of_io fault
+refusal_of (Io error) = of_io error
 refusal_of (InvalidSize size) = of_size size
 refusal_of (InvalidCode code) = of_code code
 refusal_of Insufficient = of_varint insufficient
@@ -25,9 +25,9 @@ refusal_of Overflow = of_varint overflow
 refusal_of NotMinimal = of_varint not_minimal
 refusal_of NotBytes = of_not_bytes
 
--- the refusal passes on an error of which P holds
+-- it passes on an I/O error of which P holds
 abbrev pub IsIo : (Fault → Type 0) → Refusal → Type 0
-IsIo P e = (fault : Fault) × (e ≡ of_io fault) × P fault
+IsIo P e = (error : Fault) × (e ≡ of_io error) × P error
 
 -- the input ended before the end of a digest or of a fixed-size part
 abbrev pub IsEof : Refusal → Type 0
@@ -51,15 +51,15 @@ IsInvalidCode code e = e ≡ of_code code
 
 -- a varint is malformed
 abbrev pub IsVarintError : VarintError → Refusal → Type 0
-IsVarintError fault e = e ≡ of_varint fault
+IsVarintError error e = e ≡ of_varint error
 
 -- an error that names why a varint is malformed
 abbrev pub IsAnyVarintError : Refusal → Type 0
-IsAnyVarintError e = (fault : VarintError) × IsVarintError fault e
+IsAnyVarintError e = (error : VarintError) × IsVarintError error e
 
 -- the error names why the varint at the front of the input is malformed
 abbrev pub IsFrontError : List ℕ → Refusal → Type 0
-IsFrontError input e = (fault : VarintError) × IsVarintError fault e × BeginsMalformed fault input
+IsFrontError input e = (error : VarintError) × IsVarintError error e × BeginsMalformed error input
 
 -- a JSON value that is no byte array
 abbrev pub IsNotBytes : Refusal → Type 0
@@ -71,10 +71,10 @@ varint_text insufficient = codes "not enough input bytes"
 varint_text overflow = codes "input bytes exceed maximum"
 varint_text not_minimal = codes "encoding is not minimal"
 
--- the text of a refusal
+-- the text of an error
 abbrev pub refusal_text : Refusal → List ℕ
-refusal_text (of_io fault) = printed fault
+refusal_text (of_io error) = printed error
 refusal_text (of_size size) = codes "Invalid multihash size " ++ decimal size ++ codes "."
 refusal_text (of_code code) = codes "Invalid multihash code " ++ decimal code ++ codes "."
-refusal_text (of_varint fault) = varint_text fault
+refusal_text (of_varint error) = varint_text error
 refusal_text of_not_bytes = codes "Failed to deserialize Multihash"

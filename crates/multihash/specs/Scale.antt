@@ -41,7 +41,7 @@ HasScaleVerdict S input (invalid_code code) =
     × (input ≡ bytes ++ rest)
 HasScaleVerdict S input (invalid_size size) =
     (rest : List ℕ) × HasScaleSize size input rest × (S < size)
-HasScaleVerdict S input (malformed fault) = ⊥
+HasScaleVerdict S input (malformed error) = ⊥
 HasScaleVerdict S input unexpected_eof =
     (length input < 8)
     ⊎ ((code : ℕ) × IsScaleCode code input × (code < varint_limit))

@@ -69,4 +69,4 @@ BeginsMalformed not_minimal input = IsNotMinimal input
 
 -- the varint at the front of the input is malformed
 abbrev pub IsMalformed : List ℕ → Type 0
-IsMalformed input = (fault : VarintError) × BeginsMalformed fault input
+IsMalformed input = (error : VarintError) × BeginsMalformed error input

@@ -46,8 +46,8 @@ HasVerdict S input (accepted p) = (rest : List ℕ) × BeginsWith p input rest �
 HasVerdict S input (invalid_size size) =
     (rest : List ℕ) × BeginsWithSize size input rest × (digest_limit S < size)
 HasVerdict S input (invalid_code code) = ⊥
-HasVerdict S input (malformed fault) =
-    BeginsMalformed fault input ⊎ ((rest : List ℕ) × BeginsWithCode input rest × BeginsMalformed fault rest)
+HasVerdict S input (malformed error) =
+    BeginsMalformed error input ⊎ ((rest : List ℕ) × BeginsWithCode input rest × BeginsMalformed error rest)
 HasVerdict S input unexpected_eof =
     (size : ℕ) × (rest : List ℕ) × BeginsWithSize size input rest × (size ≤ digest_limit S)
     × (length rest < size)
@@ -74,5 +74,5 @@ HasWholeVerdict S input (accepted p) = IsEncoding p input × FitsBuffer S p
 HasWholeVerdict S input (invalid_size size) =
     HasVerdict S input (invalid_size size) ⊎ HasTrailing S input size
 HasWholeVerdict S input (invalid_code code) = HasVerdict S input (invalid_code code)
-HasWholeVerdict S input (malformed fault) = HasVerdict S input (malformed fault)
+HasWholeVerdict S input (malformed error) = HasVerdict S input (malformed error)
 HasWholeVerdict S input unexpected_eof = HasVerdict S input unexpected_eof

@@ -25,7 +25,7 @@ IsWriterFaultOrFull allocates before after is_full e =
 
 -- P holds of the error: so `CountsWriterFailures` is stated of such an error as of one inside `Refusal`
 abbrev pub IsFault : (Fault → Type 0) → Fault → Type 0
-IsFault P fault = P fault
+IsFault P error = P error
 
 -- an Ok leaves the count of failures unchanged; an Err is the writer's own or says that it is full, and
 -- only the former is counted

@@ -160,7 +160,7 @@ impl Error {
     /// part, the writer is full, an allocation failed, or the reader or the writer itself failed.
     pub fn io(&self) -> Option<&no_std_io::Error>
         ensures some { IfSome result (λ e. self.now ≡ of_io e.now) }
-        ensures none { IfNone result ((fault : Fault) → self.now ≢ of_io fault) }
+        ensures none { IfNone result ((error : Fault) → self.now ≢ of_io error) }
     {
         match &self.kind {
             Kind::Io(e) => Some(e),
@@ -170,7 +170,7 @@ impl Error {
 }
 
 impl From<no_std_io::Error> for Error {
-    ghost from_gives = { λ fault e. e ≡ of_io fault };
+    ghost from_gives = { λ error e. e ≡ of_io error };
 
     fn from(e: no_std_io::Error) -> Self {
         Error { kind: Kind::Io(e) }

@@ -34,8 +34,8 @@ impl Head {
     #[inline(always)]
     pub fn read_front(bytes: &[u8]) -> Result<Self, Error>
         ensures ok { IfOk result (λ h. HasHead h.code h.digest_len h.digest_offset bytes.now) }
-        ensures err { IfErr result (λ e. (fault : VarintError) × IsVarintError fault e
-            × ((S : ℕ) → HasVerdict S bytes.now (malformed fault))) }
+        ensures err { IfErr result (λ e. (error : VarintError) × IsVarintError error e
+            × ((S : ℕ) → HasVerdict S bytes.now (malformed error))) }
     {
         if let Some(head) = Self::find_front(bytes) {
             return Ok(head);
@@ -51,8 +51,8 @@ impl Head {
     #[inline(always)]
     pub fn find_front(bytes: &[u8]) -> Option<Self>
         ensures some { IfSome result (λ h. HasHead h.code h.digest_len h.digest_offset bytes.now) }
-        ensures none { IfNone result ((fault : VarintError)
-            × ((S : ℕ) → HasVerdict S bytes.now (malformed fault))) }
+        ensures none { IfNone result ((error : VarintError)
+            × ((S : ℕ) → HasVerdict S bytes.now (malformed error))) }
     {
         // Mostly each varint has one byte.
         if bytes.len() >= 2 && bytes[0] < 128 && bytes[1] < 128 {

@@ -66,7 +66,7 @@ code_taken input new e code taken t front is (invalid_size size) has r = absurd 
 code_taken input new e code taken t front is (invalid_code n) has r =
     let same : code ≡ n = cc in
     (ap (λ k. invalid_code k) (sym same), subst (λ (z : List ℕ). HasScaleVerdict 255 z (invalid_code n) × (length z ≡ 8)) (sym front) (t.code n r))
-code_taken input new e code taken t front is (malformed fault) has r = absurd has
+code_taken input new e code taken t front is (malformed error) has r = absurd has
 code_taken input new e code taken t front is unexpected_eof has r = let other = r.1 in absurd (cc)
 
 -- if no code is rejected the input is truncated
@@ -75,5 +75,5 @@ pub ends_early : (input : List ℕ) (e : Refusal) → IsBytes input → ((n : �
 ends_early input e bytes no_code (accepted p) has r = absurd r
 ends_early input e bytes no_code (invalid_size size) has r = absurd (byte_fits input size bytes has)
 ends_early input e bytes no_code (invalid_code n) has r = absurd (no_code n r)
-ends_early input e bytes no_code (malformed fault) has r = absurd has
+ends_early input e bytes no_code (malformed error) has r = absurd has
 ends_early input e bytes no_code unexpected_eof has r = refl

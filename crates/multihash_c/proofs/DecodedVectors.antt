@@ -4,7 +4,7 @@ use Rattle.multihash.specs.Varint.{VarintError, insufficient, overflow, not_mini
 use Rattle.multihash.specs.Verdict.{accepted, invalid_size, invalid_code, malformed, unexpected_eof}
 use Rattle.multihash.proofs.Examples.PairVectors.{pair}
 use Rattle.multihash_c.specs.declared.decode.Decoded.{Decoded}
-use Rattle.multihash_c.specs.Decoded.{ReportsPair, ReportsRefusal, Reports, ConsumesForm}
+use Rattle.multihash_c.specs.Decoded.{ReportsPair, ReportsError, Reports, ConsumesForm}
 use Rattle.multihash_c.proofs.DecodedLemmas.{reported_length, byte_fits}
 use Rattle.multihash.specs.Bytes.{place_value}
 use Rattle.multihash.specs.Scale.{IsScaleCode, IsScale, HasScaleVerdict}
@@ -13,8 +13,8 @@ use Rattle.multihash.proofs.Forms.ScaleLemmas.{scale_verdict_unique}
 use Rattle.multihash.proofs.Examples.ScaleVectors.{zeros, all_255, scale_code_above}
 use Rattle.multihash.proofs.Examples.VerdictVectors.{code_named}
 
-abbrev pub answer : ℕ → ℕ → ℕ → ℕ → ℕ → ℕ → Decoded
-answer status size code offset length taken = record {
+abbrev pub outcome : ℕ → ℕ → ℕ → ℕ → ℕ → ℕ → Decoded
+outcome status size code offset length taken = record {
   status = status;
   size = size;
   code = code;
@@ -29,7 +29,7 @@ answer status size code offset length taken = record {
 abbrev pub input : List ℕ
 input = 0 ∷ 1 ∷ 9 ∷ 8 ∷ []
 
-pub reports_pair : ReportsPair input (answer 0 0 0 2 1 3) (pair 0 (9 ∷ []))
+pub reports_pair : ReportsPair input (outcome 0 0 0 2 1 3) (pair 0 (9 ∷ []))
 reports_pair = record {
   is_ok = refl;
   no_size = refl;
@@ -39,139 +39,139 @@ reports_pair = record {
   is_digest = refl;
 }
 
-pair_is_no_refusal : ¬ (ReportsPair input (answer 4 0 0 2 1 3) (pair 0 (9 ∷ [])))
-pair_is_no_refusal h = omega (arith, h.is_ok)
+pair_is_no_error : ¬ (ReportsPair input (outcome 4 0 0 2 1 3) (pair 0 (9 ∷ [])))
+pair_is_no_error h = omega (arith, h.is_ok)
 
-pair_has_no_size : ¬ (ReportsPair input (answer 0 7 0 2 1 3) (pair 0 (9 ∷ [])))
+pair_has_no_size : ¬ (ReportsPair input (outcome 0 7 0 2 1 3) (pair 0 (9 ∷ [])))
 pair_has_no_size h = omega (arith, h.no_size)
 
-pair_has_its_code : ¬ (ReportsPair input (answer 0 0 1 2 1 3) (pair 0 (9 ∷ [])))
+pair_has_its_code : ¬ (ReportsPair input (outcome 0 0 1 2 1 3) (pair 0 (9 ∷ [])))
 pair_has_its_code h = omega (arith, h.is_code)
 
 -- the length is the digest's, also if the input ends with the digest
-pair_has_its_length : ¬ (ReportsPair (0 ∷ 1 ∷ 9 ∷ []) (answer 0 0 0 2 2 4) (pair 0 (9 ∷ [])))
-pair_has_its_length h = omega (arith, reported_length (0 ∷ 1 ∷ 9 ∷ []) (answer 0 0 0 2 2 4) (pair 0 (9 ∷ [])) h)
+pair_has_its_length : ¬ (ReportsPair (0 ∷ 1 ∷ 9 ∷ []) (outcome 0 0 0 2 2 4) (pair 0 (9 ∷ [])))
+pair_has_its_length h = omega (arith, reported_length (0 ∷ 1 ∷ 9 ∷ []) (outcome 0 0 0 2 2 4) (pair 0 (9 ∷ [])) h)
 
 -- the digest is the last part consumed
-pair_ends_what_was_taken : ¬ (ReportsPair input (answer 0 0 0 2 1 4) (pair 0 (9 ∷ [])))
+pair_ends_what_was_taken : ¬ (ReportsPair input (outcome 0 0 0 2 1 4) (pair 0 (9 ∷ [])))
 pair_ends_what_was_taken h = omega (arith, h.is_end)
 
 -- no empty digest is after the input
-pair_is_inside : ¬ (ReportsPair (0 ∷ 0 ∷ []) (answer 0 0 0 3 0 3) (pair 0 []))
+pair_is_inside : ¬ (ReportsPair (0 ∷ 0 ∷ []) (outcome 0 0 0 3 0 3) (pair 0 []))
 pair_is_inside h = omega (arith, h.inside)
 
-pair_has_its_digest : ¬ (ReportsPair input (answer 0 0 0 1 1 2) (pair 0 (9 ∷ [])))
+pair_has_its_digest : ¬ (ReportsPair input (outcome 0 0 0 1 1 2) (pair 0 (9 ∷ [])))
 pair_has_its_digest h = omega (arith, ap (λ (z : List ℕ). get_or z 0 0) h.is_digest)
 
 -- a digest is not reported as empty, nor as longer
-pair_has_no_empty_digest : ¬ (ReportsPair input (answer 0 0 0 3 0 3) (pair 0 (9 ∷ [])))
+pair_has_no_empty_digest : ¬ (ReportsPair input (outcome 0 0 0 3 0 3) (pair 0 (9 ∷ [])))
 pair_has_no_empty_digest h = omega (arith, ap (λ (z : List ℕ). length z) h.is_digest)
 
-pair_has_no_longer_digest : ¬ (ReportsPair input (answer 0 0 0 2 2 4) (pair 0 (9 ∷ [])))
+pair_has_no_longer_digest : ¬ (ReportsPair input (outcome 0 0 0 2 2 4) (pair 0 (9 ∷ [])))
 pair_has_no_longer_digest h = omega (arith, ap (λ (z : List ℕ). length z) h.is_digest)
 
 -- no less than up to the digest's end was consumed
-pair_was_taken_whole : ¬ (ReportsPair input (answer 0 0 0 2 1 2) (pair 0 (9 ∷ [])))
+pair_was_taken_whole : ¬ (ReportsPair input (outcome 0 0 0 2 1 2) (pair 0 (9 ∷ [])))
 pair_was_taken_whole h = omega (arith, h.is_end)
 
-pair_has_no_smaller_code : ¬ (ReportsPair input (answer 0 0 0 2 1 3) (pair 1 (9 ∷ [])))
+pair_has_no_smaller_code : ¬ (ReportsPair input (outcome 0 0 0 2 1 3) (pair 1 (9 ∷ [])))
 pair_has_no_smaller_code h = omega (arith, h.is_code)
 
 -- ---- an error
 
-reports_size : ReportsRefusal (answer 4 5 0 0 0 2) 4 5 0
+reports_size : ReportsError (outcome 4 5 0 0 0 2) 4 5 0
 reports_size = record { is_status = refl; is_size = refl; is_code = refl; no_offset = refl; no_length = refl }
 
-reports_code : ReportsRefusal (answer 5 0 9223372036854775808 0 0 8) 5 0 9223372036854775808
+reports_code : ReportsError (outcome 5 0 9223372036854775808 0 0 8) 5 0 9223372036854775808
 reports_code = record { is_status = refl; is_size = refl; is_code = refl; no_offset = refl; no_length = refl }
 
-refusal_is_not_ok : ¬ (ReportsRefusal (answer 0 5 0 0 0 2) 4 5 0)
-refusal_is_not_ok h = omega (arith, h.is_status)
+error_is_not_ok : ¬ (ReportsError (outcome 0 5 0 0 0 2) 4 5 0)
+error_is_not_ok h = omega (arith, h.is_status)
 
-refusal_has_its_size : ¬ (ReportsRefusal (answer 4 6 0 0 0 2) 4 5 0)
-refusal_has_its_size h = omega (arith, h.is_size)
+error_has_its_size : ¬ (ReportsError (outcome 4 6 0 0 0 2) 4 5 0)
+error_has_its_size h = omega (arith, h.is_size)
 
-refusal_has_its_code : ¬ (ReportsRefusal (answer 4 5 1 0 0 2) 4 5 0)
-refusal_has_its_code h = omega (arith, h.is_code)
+error_has_its_code : ¬ (ReportsError (outcome 4 5 1 0 0 2) 4 5 0)
+error_has_its_code h = omega (arith, h.is_code)
 
-refusal_has_no_offset : ¬ (ReportsRefusal (answer 4 5 0 2 0 2) 4 5 0)
-refusal_has_no_offset h = omega (arith, h.no_offset)
+error_has_no_offset : ¬ (ReportsError (outcome 4 5 0 2 0 2) 4 5 0)
+error_has_no_offset h = omega (arith, h.no_offset)
 
-refusal_has_no_digest : ¬ (ReportsRefusal (answer 4 5 0 0 1 2) 4 5 0)
-refusal_has_no_digest h = omega (arith, h.no_length)
+error_has_no_digest : ¬ (ReportsError (outcome 4 5 0 0 1 2) 4 5 0)
+error_has_no_digest h = omega (arith, h.no_length)
 
 -- ---- each verdict has its own status
 
-refused : (status size code : ℕ) → ReportsRefusal (answer status size code 0 0 0) status size code
-refused status size code =
+rejected : (status size code : ℕ) → ReportsError (outcome status size code 0 0 0) status size code
+rejected status size code =
     record { is_status = refl; is_size = refl; is_code = refl; no_offset = refl; no_length = refl }
 
-reports_accepted : Reports input (answer 0 0 0 2 1 3) (accepted (pair 0 (9 ∷ [])))
+reports_accepted : Reports input (outcome 0 0 0 2 1 3) (accepted (pair 0 (9 ∷ [])))
 reports_accepted = reports_pair
 
-reports_insufficient : Reports [] (answer 1 0 0 0 0 0) (malformed insufficient)
-reports_insufficient = refused 1 0 0
+reports_insufficient : Reports [] (outcome 1 0 0 0 0 0) (malformed insufficient)
+reports_insufficient = rejected 1 0 0
 
-reports_overflow : Reports [] (answer 2 0 0 0 0 0) (malformed overflow)
-reports_overflow = refused 2 0 0
+reports_overflow : Reports [] (outcome 2 0 0 0 0 0) (malformed overflow)
+reports_overflow = rejected 2 0 0
 
-reports_not_minimal : Reports [] (answer 3 0 0 0 0 0) (malformed not_minimal)
-reports_not_minimal = refused 3 0 0
+reports_not_minimal : Reports [] (outcome 3 0 0 0 0 0) (malformed not_minimal)
+reports_not_minimal = rejected 3 0 0
 
-reports_invalid_size : Reports [] (answer 4 5 0 0 0 0) (invalid_size 5)
-reports_invalid_size = refused 4 5 0
+reports_invalid_size : Reports [] (outcome 4 5 0 0 0 0) (invalid_size 5)
+reports_invalid_size = rejected 4 5 0
 
-reports_invalid_code : Reports [] (answer 5 0 5 0 0 0) (invalid_code 5)
-reports_invalid_code = refused 5 0 5
+reports_invalid_code : Reports [] (outcome 5 0 5 0 0 0) (invalid_code 5)
+reports_invalid_code = rejected 5 0 5
 
-reports_unexpected_eof : Reports [] (answer 6 0 0 0 0 0) unexpected_eof
-reports_unexpected_eof = refused 6 0 0
+reports_unexpected_eof : Reports [] (outcome 6 0 0 0 0 0) unexpected_eof
+reports_unexpected_eof = rejected 6 0 0
 
 -- no verdict is reported with another's status
-accepted_is_0 : (status : ℕ) → Reports input (answer status 0 0 2 1 3) (accepted (pair 0 (9 ∷ []))) → status ≡ 0
+accepted_is_0 : (status : ℕ) → Reports input (outcome status 0 0 2 1 3) (accepted (pair 0 (9 ∷ []))) → status ≡ 0
 accepted_is_0 status h = h.is_ok
 
-insufficient_is_1 : (status : ℕ) → Reports [] (answer status 0 0 0 0 0) (malformed insufficient) → status ≡ 1
+insufficient_is_1 : (status : ℕ) → Reports [] (outcome status 0 0 0 0 0) (malformed insufficient) → status ≡ 1
 insufficient_is_1 status h = h.is_status
 
-overflow_is_2 : (status : ℕ) → Reports [] (answer status 0 0 0 0 0) (malformed overflow) → status ≡ 2
+overflow_is_2 : (status : ℕ) → Reports [] (outcome status 0 0 0 0 0) (malformed overflow) → status ≡ 2
 overflow_is_2 status h = h.is_status
 
-not_minimal_is_3 : (status : ℕ) → Reports [] (answer status 0 0 0 0 0) (malformed not_minimal) → status ≡ 3
+not_minimal_is_3 : (status : ℕ) → Reports [] (outcome status 0 0 0 0 0) (malformed not_minimal) → status ≡ 3
 not_minimal_is_3 status h = h.is_status
 
-invalid_size_is_4 : (status : ℕ) → Reports [] (answer status 5 0 0 0 0) (invalid_size 5) → status ≡ 4
+invalid_size_is_4 : (status : ℕ) → Reports [] (outcome status 5 0 0 0 0) (invalid_size 5) → status ≡ 4
 invalid_size_is_4 status h = h.is_status
 
-invalid_code_is_5 : (status : ℕ) → Reports [] (answer status 0 5 0 0 0) (invalid_code 5) → status ≡ 5
+invalid_code_is_5 : (status : ℕ) → Reports [] (outcome status 0 5 0 0 0) (invalid_code 5) → status ≡ 5
 invalid_code_is_5 status h = h.is_status
 
-unexpected_eof_is_6 : (status : ℕ) → Reports [] (answer status 0 0 0 0 0) unexpected_eof → status ≡ 6
+unexpected_eof_is_6 : (status : ℕ) → Reports [] (outcome status 0 0 0 0 0) unexpected_eof → status ≡ 6
 unexpected_eof_is_6 status h = h.is_status
 
 -- the number that was rejected is in its own field
-size_is_no_code : ¬ (Reports [] (answer 4 0 5 0 0 0) (invalid_size 5))
+size_is_no_code : ¬ (Reports [] (outcome 4 0 5 0 0 0) (invalid_size 5))
 size_is_no_code h = omega (arith, h.is_size)
 
-size_reports_no_code : ¬ (Reports [] (answer 4 5 5 0 0 0) (invalid_size 5))
+size_reports_no_code : ¬ (Reports [] (outcome 4 5 5 0 0 0) (invalid_size 5))
 size_reports_no_code h = omega (arith, h.is_code)
 
-code_is_no_size : ¬ (Reports [] (answer 5 5 0 0 0 0) (invalid_code 5))
+code_is_no_size : ¬ (Reports [] (outcome 5 5 0 0 0 0) (invalid_code 5))
 code_is_no_size h = omega (arith, h.is_code)
 
-code_reports_no_size : ¬ (Reports [] (answer 5 5 5 0 0 0) (invalid_code 5))
+code_reports_no_size : ¬ (Reports [] (outcome 5 5 5 0 0 0) (invalid_code 5))
 code_reports_no_size h = omega (arith, h.is_size)
 
-fault_reports_no_size : (f : VarintError) (status : ℕ) → ¬ (Reports [] (answer status 1 0 0 0 0) (malformed f))
-fault_reports_no_size f status h = omega (arith, h.is_size)
+error_reports_no_size : (f : VarintError) (status : ℕ) → ¬ (Reports [] (outcome status 1 0 0 0 0) (malformed f))
+error_reports_no_size f status h = omega (arith, h.is_size)
 
-fault_reports_no_code : (f : VarintError) (status : ℕ) → ¬ (Reports [] (answer status 0 1 0 0 0) (malformed f))
-fault_reports_no_code f status h = omega (arith, h.is_code)
+error_reports_no_code : (f : VarintError) (status : ℕ) → ¬ (Reports [] (outcome status 0 1 0 0 0) (malformed f))
+error_reports_no_code f status h = omega (arith, h.is_code)
 
-end_reports_no_size : ¬ (Reports [] (answer 6 1 0 0 0 0) unexpected_eof)
+end_reports_no_size : ¬ (Reports [] (outcome 6 1 0 0 0 0) unexpected_eof)
 end_reports_no_size h = omega (arith, h.is_size)
 
-end_reports_no_code : ¬ (Reports [] (answer 6 0 1 0 0 0) unexpected_eof)
+end_reports_no_code : ¬ (Reports [] (outcome 6 0 1 0 0 0) unexpected_eof)
 end_reports_no_code h = omega (arith, h.is_code)
 
 -- ---- what decoding the SCALE form consumed

@@ -36,13 +36,13 @@ module _ (IsForm : Pair → List ℕ → Type 0) (p : Pair) (short : length p.di
 
   pub writes_none : (bytes : List ℕ) → IsForm p bytes → length old < e.length → e.status ≡ status_no_room → new ≡ old
       → WritesForm IsForm p e old new
-  writes_none bytes is_form less refused kept =
+  writes_none bytes is_form less rejected kept =
       let long = told bytes is_form in
       writes bytes is_form (record {
         is_length = long;
         no_size = no_size;
         fits = λ fit. absurd (omega (arith, long, fit, less));
-        no_room = λ less. (refused, kept);
+        no_room = λ less. (rejected, kept);
       })
 
 -- ---- varints and a digest, written to a `SliceWriter`
@@ -58,7 +58,7 @@ pub varint_has_room : (n : ℕ) (old new : SliceWriter) (r : Result ℕ Refusal)
     → n < varint_limit → ((bytes : List ℕ) → IsVarint n bytes → old.filled + length bytes ≤ length old.buffer.now) → IsOk r
 varint_has_room n old new (Ok x) stopped below enough = refl
 varint_has_room n old new (Err e) (inl large) below enough = absurd (omega (arith, below, large.1))
-varint_has_room n old new (Err e) (inr (faults, part)) below enough = slice_writer_has_room {T = ℕ} old new (IsVarint n) (Err e) part faults enough
+varint_has_room n old new (Err e) (inr (errors, part)) below enough = slice_writer_has_room {T = ℕ} old new (IsVarint n) (Err e) part errors enough
 
 -- an encoding is as long as its parts, whichever varints they are
 pub parts_long : (p : Pair) (bytes a b : List ℕ) → IsEncoding p bytes → IsVarint p.code a → IsVarint (length p.digest) b

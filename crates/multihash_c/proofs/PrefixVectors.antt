@@ -8,8 +8,8 @@ use Rattle.multihash.proofs.Examples.VarintVectors.{varint_0, varint_1}
 use Rattle.multihash.proofs.Examples.VerdictVectors.{code_alone}
 use Rattle.multihash.proofs.Examples.PairVectors.{pair}
 use Rattle.multihash_c.specs.Decoded.{Reports, ReportsPrefix, Determines}
-use Rattle.multihash_c.proofs.DecodedVectors.{answer}
-use Rattle.multihash_c.proofs.ReadLemmas.{head_kept, head_no_fault}
+use Rattle.multihash_c.proofs.DecodedVectors.{outcome}
+use Rattle.multihash_c.proofs.ReadLemmas.{head_kept, head_no_error}
 
 -- the code 0 and the size 1
 abbrev both : List ℕ
@@ -23,10 +23,10 @@ both_head = record {
 }
 
 both_end : ¬ (HasVerdict 255 both (malformed insufficient))
-both_end has = head_no_fault 0 1 2 both insufficient both_head has
+both_end has = head_no_error 0 1 2 both insufficient both_head has
 
 -- one byte follows
-reports_pair : ReportsPrefix both 3 (answer 0 0 0 2 1 3)
+reports_pair : ReportsPrefix both 3 (outcome 0 0 0 2 1 3)
 reports_pair = record {
   verdict = λ input long begins enough.
       let exact : length (drop 2 input) ≡ 1 = omega (arith, long, length-drop 2 input) in (
@@ -46,7 +46,7 @@ reports_pair = record {
 }
 
 -- two bytes follow
-reports_trailing : ReportsPrefix both 4 (answer 4 1 0 0 0 4)
+reports_trailing : ReportsPrefix both 4 (outcome 4 1 0 0 0 4)
 reports_trailing = record {
   verdict = λ input long begins enough. (
     invalid_size 1,
@@ -67,19 +67,19 @@ not_determined (inl all) = omega (arith, all)
 not_determined (inr (inl long)) = omega (arith, long)
 not_determined (inr (inr late)) = late code_alone
 
-reports_no_cut_as_end : ¬ (ReportsPrefix (0 ∷ []) 3 (answer 6 0 0 0 0 3))
+reports_no_cut_as_end : ¬ (ReportsPrefix (0 ∷ []) 3 (outcome 6 0 0 0 0 3))
 reports_no_cut_as_end h = omega (arith, (h.cut (omega arith) code_alone).is_status)
 
-takes_no_prefix_alone : ¬ (ReportsPrefix both 3 (answer 0 0 0 2 1 2))
+takes_no_prefix_alone : ¬ (ReportsPrefix both 3 (outcome 0 0 0 2 1 2))
 takes_no_prefix_alone h = omega (arith, h.taken)
 
 -- the digest is there, though not in the prefix
-reports_no_end : ¬ (ReportsPrefix both 3 (answer 6 0 0 0 0 3))
+reports_no_end : ¬ (ReportsPrefix both 3 (outcome 6 0 0 0 0 3))
 reports_no_end h =
     let whole : List ℕ = 0 ∷ 1 ∷ 9 ∷ [] in
     let (v, has, reports) = h.verdict whole refl (9 ∷ [], refl) (inr (inr both_end)) in
     let there : HasWholeVerdict 255 whole (accepted (pair 0 (9 ∷ []))) =
     whole_exact 0 1 2 whole (head_kept 0 1 2 both whole (9 ∷ [], refl) both_head) 255 (omega arith) (9 ∷ []) refl refl in
-    let told : Reports whole (answer 6 0 0 0 0 3) (accepted (pair 0 (9 ∷ []))) =
-    subst (Reports whole (answer 6 0 0 0 0 3)) (whole_verdict_unique 255 whole v (accepted (pair 0 (9 ∷ []))) has there) reports in
+    let told : Reports whole (outcome 6 0 0 0 0 3) (accepted (pair 0 (9 ∷ []))) =
+    subst (Reports whole (outcome 6 0 0 0 0 3)) (whole_verdict_unique 255 whole v (accepted (pair 0 (9 ∷ []))) has there) reports in
     omega (arith, told.is_ok)

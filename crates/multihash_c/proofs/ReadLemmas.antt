@@ -13,8 +13,8 @@ use Rattle.multihash.proofs.Varints.VarintLemmas.{varint_longest}
 use Rattle.multihash.proofs.Readings.VerdictLemmas.{verdict_unique, pair_begins, sized}
 use Rattle.multihash.proofs.Readings.SettlingLemmas.{verdict_kept, shortest_pair, shortest_size}
 use Rattle.multihash_c.specs.declared.decode.Decoded.{Decoded}
-use Rattle.multihash_c.specs.Status.{status_of_fault}
-use Rattle.multihash_c.specs.Decoded.{Reports, ReportsRefusal, Determines, ReadsWithin}
+use Rattle.multihash_c.specs.Status.{status_of_error}
+use Rattle.multihash_c.specs.Decoded.{Reports, ReportsError, Determines, ReadsWithin}
 
 -- an input has one verdict, so it is not both incomplete and complete
 other_kind : (S : ℕ) (x : List ℕ) (v w : Verdict) → HasVerdict S x v → HasVerdict S x w → IsIncomplete w → ¬ (IsIncomplete v) → ⊥
@@ -88,18 +88,18 @@ module _ (limit code size len : ℕ) (input : List ℕ) (h : HasHead code size l
 -- ---- a varint is malformed
 
 module _ (input : List ℕ) (e : Refusal) (taken : ℕ) (h : IsHeadError input e taken) (limit : ℕ) where
-  same_fault : (f : VarintError) → HasVerdict limit input (malformed f) → h.fault ≡ f
-  same_fault f also = let same = verdict_unique limit input (malformed h.fault) (malformed f) (h.verdict limit) also in cc
+  same_error : (f : VarintError) → HasVerdict limit input (malformed f) → h.error ≡ f
+  same_error f also = let same = verdict_unique limit input (malformed h.error) (malformed f) (h.verdict limit) also in cc
 
-  pub fault_read : (d : Decoded) → d.taken ≡ taken → ReportsRefusal d (status_of_fault h.fault) 0 0 → ReadsWithin limit input d
-  fault_read d at reports = record {
-    verdict = (malformed h.fault, h.verdict limit, reports);
+  pub error_read : (d : Decoded) → d.taken ≡ taken → ReportsError d (status_of_error h.error) 0 0 → ReadsWithin limit input d
+  error_read d at reports = record {
+    verdict = (malformed h.error, h.verdict limit, reports);
     inside = omega (arith, h.within, at);
     settled = λ v also late.
-        rw at (h.settled limit (λ early. other_kind limit input v (malformed h.fault) also (h.verdict limit) early late));
-    insufficient = λ also. at ∙ h.insufficient (same_fault insufficient also);
+        rw at (h.settled limit (λ early. other_kind limit input v (malformed h.error) also (h.verdict limit) early late));
+    insufficient = λ also. at ∙ h.insufficient (same_error insufficient also);
     cut = λ also.
-        let same = verdict_unique limit input (malformed h.fault) unexpected_eof (h.verdict limit) also in
+        let same = verdict_unique limit input (malformed h.error) unexpected_eof (h.verdict limit) also in
         absurd (cc);
   }
 
@@ -120,15 +120,15 @@ head_kept code size len front input (more, cut) h =
     }
 
 -- so does a malformed varint, unless the bytes end within it and more follow
-pub fault_whole : (f : VarintError) (front input : List ℕ) → IsPrefix front input → HasVerdict 255 front (malformed f)
+pub error_whole : (f : VarintError) (front input : List ℕ) → IsPrefix front input → HasVerdict 255 front (malformed f)
     → (length input ≤ length front) ⊎ ¬ (HasVerdict 255 front (malformed insufficient)) → HasWholeVerdict 255 input (malformed f)
-fault_whole f front input (more, cut) has (inl all) =
+error_whole f front input (more, cut) has (inl all) =
     let none : more ≡ [] = nil_from_length more (omega (arith, all, ap length cut, length-append front more)) in
     let same : front ≡ input = sym (cut ∙ ap (λ z. front ++ z) none ∙ append-nil front) in
     subst (λ z. HasVerdict 255 z (malformed f)) same has
-fault_whole insufficient front input begins has (inr late) = absurd (late has)
-fault_whole overflow front input (more, cut) has (inr late) = rw cut (verdict_kept 255 front more (malformed overflow) (λ e. e) has)
-fault_whole not_minimal front input (more, cut) has (inr late) = rw cut (verdict_kept 255 front more (malformed not_minimal) (λ e. e) has)
+error_whole insufficient front input begins has (inr late) = absurd (late has)
+error_whole overflow front input (more, cut) has (inr late) = rw cut (verdict_kept 255 front more (malformed overflow) (λ e. e) has)
+error_whole not_minimal front input (more, cut) has (inr late) = rw cut (verdict_kept 255 front more (malformed not_minimal) (λ e. e) has)
 
 -- as many bytes as two varints may have do not end within them
 pub has_two_varints : (S : ℕ) (x : List ℕ) → 2 * (max_continuation + 1) ≤ length x → ¬ (HasVerdict S x (malformed insufficient))
@@ -152,9 +152,9 @@ determines_cut prefix front len is enough =
     ]
 
 -- two varints are not malformed
-pub head_no_fault : (code size len : ℕ) (x : List ℕ) (f : VarintError) → HasHead code size len x → HasVerdict 255 x (malformed f) → ⊥
-head_no_fault code zero len x f h has =
+pub head_no_error : (code size len : ℕ) (x : List ℕ) (f : VarintError) → HasHead code size len x → HasVerdict 255 x (malformed f) → ⊥
+head_no_error code zero len x f h has =
     let begins = pair_begins 0 x (drop len x) h.varints [] (drop len x) refl refl in
     let same = verdict_unique 255 x (accepted _) (malformed f) (drop len x, begins, omega arith) has in cc
-head_no_fault code (suc n) len x f h has =
+head_no_error code (suc n) len x f h has =
     let same = verdict_unique 0 x (invalid_size (suc n)) (malformed f) (drop len x, h.varints, omega arith) has in cc

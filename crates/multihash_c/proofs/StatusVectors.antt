@@ -2,20 +2,20 @@
 use Rattle.std.proofs.Common.{◌≡◌, ℕ, List, refl, arith}
 use Rattle.std.specs.Prelude.{codes}
 use Rattle.multihash.specs.Varint.{VarintError, insufficient, overflow, not_minimal}
-use Rattle.multihash_c.specs.Status.{status_of_fault, IsStatusText}
+use Rattle.multihash_c.specs.Status.{status_of_error, IsStatusText}
 
 -- each status has one text
 text_of_ok : (text : List ℕ) → IsStatusText 0 text → text ≡ codes "ok"
 text_of_ok text h = h.ok refl
 
 text_of_insufficient : (text : List ℕ) → IsStatusText 1 text → text ≡ codes "not enough input bytes"
-text_of_insufficient text h = h.fault insufficient refl
+text_of_insufficient text h = h.error insufficient refl
 
 text_of_overflow : (text : List ℕ) → IsStatusText 2 text → text ≡ codes "input bytes exceed maximum"
-text_of_overflow text h = h.fault overflow refl
+text_of_overflow text h = h.error overflow refl
 
 text_of_not_minimal : (text : List ℕ) → IsStatusText 3 text → text ≡ codes "encoding is not minimal"
-text_of_not_minimal text h = h.fault not_minimal refl
+text_of_not_minimal text h = h.error not_minimal refl
 
 text_of_invalid_size : (text : List ℕ) → IsStatusText 4 text → text ≡ codes "Invalid multihash size"
 text_of_invalid_size text h = h.size refl
@@ -33,15 +33,15 @@ text_of_none : (text : List ℕ) → IsStatusText 8 text → text ≡ codes "unk
 text_of_none text h = h.unknown (omega arith)
 
 -- the text of no status
-no_fault_is_8 : (f : VarintError) → ¬ (8 ≡ status_of_fault f)
-no_fault_is_8 insufficient e = omega (arith, e)
-no_fault_is_8 overflow e = omega (arith, e)
-no_fault_is_8 not_minimal e = omega (arith, e)
+no_error_is_8 : (f : VarintError) → ¬ (8 ≡ status_of_error f)
+no_error_is_8 insufficient e = omega (arith, e)
+no_error_is_8 overflow e = omega (arith, e)
+no_error_is_8 not_minimal e = omega (arith, e)
 
 reports_none : IsStatusText 8 (codes "unknown status")
 reports_none = record {
   ok = λ e. absurd (omega (arith, e));
-  fault = λ f e. absurd (no_fault_is_8 f e);
+  error = λ f e. absurd (no_error_is_8 f e);
   size = λ e. absurd (omega (arith, e));
   code = λ e. absurd (omega (arith, e));
   eof = λ e. absurd (omega (arith, e));

@@ -7,7 +7,7 @@ use Rattle.multihash.specs.Verdict.{Verdict, accepted, invalid_size, invalid_cod
 use Rattle.multihash.specs.Verdict.{HasHead}
 use Rattle.multihash.specs.Consuming.{ConsumesShortestSettling}
 use Rattle.multihash.specs.Scale.{IsScale, HasScaleVerdict}
-use Rattle.multihash_c.specs.Status.{status_ok, status_of_fault, status_invalid_size, status_invalid_code, status_unexpected_eof}
+use Rattle.multihash_c.specs.Status.{status_ok, status_of_error, status_invalid_size, status_invalid_code, status_unexpected_eof}
 use Rattle.multihash_c.specs.declared.decode.Decoded.{Decoded}
 use Rattle.multihash_c.specs.declared.decode.Front.{Front}
 
@@ -22,7 +22,7 @@ pub record ReportsPair (input : List ℕ) (d : Decoded) (p : Pair) : Type 0 wher
   pub is_digest : p.digest ≡ take d.digest_length (drop d.digest_offset input)
 
 -- a status, the invalid size and code, and no digest
-pub record ReportsRefusal (d : Decoded) (status size code : ℕ) : Type 0 where
+pub record ReportsError (d : Decoded) (status size code : ℕ) : Type 0 where
   pub is_status : d.status ≡ status
   pub is_size : d.size ≡ size
   pub is_code : d.code ≡ code
@@ -31,10 +31,10 @@ pub record ReportsRefusal (d : Decoded) (status size code : ℕ) : Type 0 where
 
 abbrev pub Reports : List ℕ → Decoded → Verdict → Type 0
 Reports input d (accepted p) = ReportsPair input d p
-Reports input d (invalid_size size) = ReportsRefusal d status_invalid_size size 0
-Reports input d (invalid_code code) = ReportsRefusal d status_invalid_code 0 code
-Reports input d (malformed fault) = ReportsRefusal d (status_of_fault fault) 0 0
-Reports input d unexpected_eof = ReportsRefusal d status_unexpected_eof 0 0
+Reports input d (invalid_size size) = ReportsError d status_invalid_size size 0
+Reports input d (invalid_code code) = ReportsError d status_invalid_code 0 code
+Reports input d (malformed error) = ReportsError d (status_of_error error) 0 0
+Reports input d unexpected_eof = ReportsError d status_unexpected_eof 0 0
 
 -- the prefix determines the result for the inputs of that many bytes that begin with it: it is all of the
 -- input, it has as many bytes as two varints may have, or it does not end within them
@@ -48,7 +48,7 @@ pub record ReportsPrefix (prefix : List ℕ) (len : ℕ) (d : Decoded) : Type 0 
   pub verdict : (input : List ℕ) → length input ≡ len → IsPrefix (take len prefix) input →
       Determines prefix len → (v : Verdict) × HasWholeVerdict 255 input v × Reports input d v
   pub cut : length prefix < len → HasVerdict 255 prefix (malformed insufficient) →
-      ReportsRefusal d (status_of_fault insufficient) 0 0
+      ReportsError d (status_of_error insufficient) 0 0
   pub taken : d.taken ≡ len
 
 -- of a truncated input with that many bytes, the complete fixed-size parts were consumed: the eight
@@ -65,7 +65,7 @@ ConsumesForm (accepted p) input taken = IsScale p (take taken input)
 ConsumesForm (invalid_size size) input taken = ⊥
 ConsumesForm (invalid_code code) input taken =
     HasScaleVerdict 255 (take taken input) (invalid_code code) × (length (take taken input) ≡ 8)
-ConsumesForm (malformed fault) input taken = ⊥
+ConsumesForm (malformed error) input taken = ⊥
 ConsumesForm unexpected_eof input taken = ConsumesWholeParts (length input) taken
 
 -- the result of reading a digest of at most that many bytes, and the number of bytes consumed: the
@@ -88,8 +88,8 @@ pub record ReportsHead (input : List ℕ) (f : Front) : Type 0 where
 -- a varint at the front is malformed: reading returns the same error for each limit, and consumes as
 -- much
 pub record ReportsHeadError (input : List ℕ) (f : Front) : Type 0 where
-  pub fault : VarintError
-  pub is_status : f.status ≡ status_of_fault fault
+  pub error : VarintError
+  pub is_status : f.status ≡ status_of_error error
   pub no_code : f.code ≡ 0
   pub no_length : f.digest_length ≡ 0
   pub reads : (limit : ℕ) → ReadsWithin limit input (record {

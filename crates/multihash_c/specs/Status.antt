@@ -10,10 +10,10 @@ abbrev pub status_ok : ℕ
 status_ok = 0
 
 -- a varint is malformed
-abbrev pub status_of_fault : VarintError → ℕ
-status_of_fault insufficient = 1
-status_of_fault overflow = 2
-status_of_fault not_minimal = 3
+abbrev pub status_of_error : VarintError → ℕ
+status_of_error insufficient = 1
+status_of_error overflow = 2
+status_of_error not_minimal = 3
 
 -- a size is invalid
 abbrev pub status_invalid_size : ℕ
@@ -34,7 +34,7 @@ status_no_room = 7
 -- the text of a status, in the library's words, without the invalid size or code
 pub record IsStatusText (status : ℕ) (text : List ℕ) : Type 0 where
   pub ok : status ≡ status_ok → text ≡ codes "ok"
-  pub fault : (fault : VarintError) → status ≡ status_of_fault fault → text ≡ varint_text fault
+  pub error : (error : VarintError) → status ≡ status_of_error error → text ≡ varint_text error
   pub size : status ≡ status_invalid_size → text ≡ codes "Invalid multihash size"
   pub code : status ≡ status_invalid_code → text ≡ codes "Invalid multihash code"
   pub eof : status ≡ status_unexpected_eof → text ≡ text_of UnexpectedEof []

@@ -7,8 +7,8 @@ ghost use Rattle.multihash.specs.Verdict.{Verdict, accepted, invalid_size, inval
 ghost use Rattle.multihash.specs.Scale.{HasScaleVerdict};
 ghost use Rattle.multihash.specs.Refusal.{Refusal, IsVarintError};
 ghost use Rattle.multihash.specs.Consuming.{IsHeadError};
-ghost use Rattle.multihash_c.specs.Status.{status_of_fault};
-ghost use Rattle.multihash_c.specs.Decoded.{Reports, ReportsRefusal, ReportsPrefix, ConsumesForm, ConsumesWholeParts, ReadsWithin, ReadsFront};
+ghost use Rattle.multihash_c.specs.Status.{status_of_error};
+ghost use Rattle.multihash_c.specs.Decoded.{Reports, ReportsError, ReportsPrefix, ConsumesForm, ConsumesWholeParts, ReadsWithin, ReadsFront};
 
 use crate::{DIGEST_MAX, SCALE_HEAD, status};
 use multihash::{Error, Head, Multihash};
@@ -136,7 +136,7 @@ fn decode_whole(front: &[u8], whole_length: usize) -> Decoded
         (whole_length ≤ length front.now) ⊎ ¬ (HasVerdict 255 front.now (malformed insufficient)) →
         (v : Verdict) × HasWholeVerdict 255 input v × Reports input result v }
     ensures cut { HasVerdict 255 front.now (malformed insufficient) →
-        ReportsRefusal result (status_of_fault insufficient) 0 0 }
+        ReportsError result (status_of_error insufficient) 0 0 }
     ensures taken { result.taken ≡ whole_length }
 {
     let Some(head) = Head::find_front(front) else {
@@ -182,9 +182,9 @@ fn read_within(bytes: &[u8], limit: usize) -> Decoded
 #[cold]
 #[inline(never)]
 fn fault(bytes: &[u8]) -> (u32, usize)
-    requires { (fault : VarintError) × ((S : ℕ) → HasVerdict S bytes.now (malformed fault)) }
+    requires { (error : VarintError) × ((S : ℕ) → HasVerdict S bytes.now (malformed error)) }
     ensures { (e : Refusal) × (h : IsHeadError bytes.now e result.1)
-        × (result.0 ≡ status_of_fault h.fault) }
+        × (result.0 ≡ status_of_error h.error) }
 {
     match Head::read_counted(bytes) {
         Ok(_) => unreachable!(),
@@ -194,7 +194,7 @@ fn fault(bytes: &[u8]) -> (u32, usize)
 
 // The status of the error of a malformed varint.
 fn varint_status(error: &Error) -> u32
-    ensures { (fault : VarintError) → IsVarintError fault error.now → result ≡ status_of_fault fault }
+    ensures { (f : VarintError) → IsVarintError f error.now → result ≡ status_of_error f }
 {
     if error.is_insufficient() {
         status::INSUFFICIENT
@@ -264,7 +264,7 @@ fn rejected_end(taken: usize) -> Decoded
 
 // The result with that status, which has no digest.
 fn rejected(status: u32, size: u64, code: u64, taken: usize) -> Decoded
-    ensures reports { ReportsRefusal result status size code }
+    ensures reports { ReportsError result status size code }
     ensures taken { result.taken ≡ taken }
 {
     Decoded {

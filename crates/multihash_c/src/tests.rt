@@ -110,11 +110,11 @@ fn order(rt: HostRuntime) {
 }
 
 #[test]
-fn refusals(rt: HostRuntime) {
-    let refused = multihash_read_limit(b"\x16\x03\x64", 2);
-    assert_eq!(rt; refused.status, INVALID_SIZE);
-    assert_eq!(rt; refused.size, 3);
-    assert_eq!(rt; refused.taken, 2);
+fn errors(rt: HostRuntime) {
+    let rejected = multihash_read_limit(b"\x16\x03\x64", 2);
+    assert_eq!(rt; rejected.status, INVALID_SIZE);
+    assert_eq!(rt; rejected.size, 3);
+    assert_eq!(rt; rejected.taken, 2);
     assert_eq!(rt;
         multihash_read_limit(b"\x16\x03\x64", 3).status,
         UNEXPECTED_EOF
@@ -125,9 +125,9 @@ fn refusals(rt: HostRuntime) {
         multihash_read(b"\xff\xff\xff\xff\xff\xff\xff\xff\xff").status,
         OVERFLOW
     );
-    let refused = multihash_scale_decode(b"\xff\xff\xff\xff\xff\xff\xff\xff\xff");
-    assert_eq!(rt; refused.status, INVALID_CODE);
-    assert_eq!(rt; refused.code, u64::MAX);
+    let rejected = multihash_scale_decode(b"\xff\xff\xff\xff\xff\xff\xff\xff\xff");
+    assert_eq!(rt; rejected.status, INVALID_CODE);
+    assert_eq!(rt; rejected.code, u64::MAX);
     assert_eq!(rt;
         multihash_encode(u64::MAX, b"", &mut []).status,
         INVALID_CODE

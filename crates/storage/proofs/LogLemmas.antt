@@ -29,22 +29,22 @@ entry_cut p block bytes more h =
     ∙ (append_assoc h.encoding (h.len ++ block) more ∙ ap (λ (z : List ℕ). h.encoding ++ z) (append_assoc h.len block more))
 
 -- filling a buffer of `m` bytes failed, after others of the `n` were read: the facts are the laws of `read_exact`
-pub chunk_fails : (n m before middle after : ℕ) (old mid new : Option (List ℕ)) (read : List ℕ) (fault : Fault)
+pub chunk_fails : (n m before middle after : ℕ) (old mid new : Option (List ℕ)) (read : List ℕ) (error : Fault)
     → middle ≡ before → Consumes old read mid
-    → ((after ≡ middle + 1) × IsOwnFault fault) ⊎ ((after ≡ middle) × IsUnexpectedEof fault)
-    → (IsUnexpectedEof fault → HasFewerThan m mid) → ConsumesFewerThan m mid new → length read + m ≤ n
-    → ExactFails n before after (of_io fault) old new
-chunk_fails n m before middle after old mid new read fault same consumes faults eof part long = record {
-  cause = elim faults [
-    | inl own ↦ inl (own.0 ∙ ap (λ (k : ℕ). k + 1) same, (fault, refl, own.1))
-    | inr ended ↦ inr (ended.0 ∙ same, (fault, refl, ended.1))
+    → ((after ≡ middle + 1) × IsOwnFault error) ⊎ ((after ≡ middle) × IsUnexpectedEof error)
+    → (IsUnexpectedEof error → HasFewerThan m mid) → ConsumesFewerThan m mid new → length read + m ≤ n
+    → ExactFails n before after (of_io error) old new
+chunk_fails n m before middle after old mid new read error same consumes errors eof part long = record {
+  cause = elim errors [
+    | inl own ↦ inl (own.0 ∙ ap (λ (k : ℕ). k + 1) same, (error, refl, own.1))
+    | inr ended ↦ inr (ended.0 ∙ same, (error, refl, ended.1))
   ];
   consumed = record {
     consumed = read ++ part.consumed;
     fewer = omega (arith, part.fewer, length-append read part.consumed, long);
     consumes = Consumes-concatenated old mid new read part.consumed _ refl consumes part.consumes;
   };
-  short = λ unfailed. elim faults [
+  short = λ unfailed. elim errors [
     | inl own ↦ absurd (omega (arith, own.0, same, unfailed))
     | inr ended ↦ IfSome-consumed old mid read (λ bytes. length bytes < n) consumes
         (λ left is. omega (arith, (rw is at (eof ended.1)), length-append read left, long))

@@ -20,13 +20,13 @@ pub record IsEntry (p : Pair) (block bytes : List ℕ) : Type 0 where
   pub is_len : IsVarint (length block) len
   pub parts : bytes ≡ encoding ++ (len ++ block)
 
--- the error is `Failed` with a refusal of which P holds
+-- the error is `Failed` with an error of which P holds
 abbrev pub IsFailed : (Refusal → Type 0) → EntryError → Type 0
-IsFailed P e = (refusal : Refusal) × (e ≡ Failed refusal) × P refusal
+IsFailed P e = (error : Refusal) × (e ≡ Failed error) × P error
 
 -- the text of an error
 abbrev pub error_text : EntryError → List ℕ
-error_text (Failed refusal) = refusal_text refusal
+error_text (Failed error) = refusal_text error
 error_text (TooLong n) = codes "a block of " ++ decimal n ++ codes " bytes is too long"
 
 -- reading `n` bytes of a block failed: memory ran out before all were read, or they could not be read

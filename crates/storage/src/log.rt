@@ -51,7 +51,7 @@ impl fmt::Display for EntryError {
 impl std::error::Error for EntryError {}
 
 impl From<Error> for EntryError {
-    ghost from_gives = { λ refusal e. e ≡ Failed refusal };
+    ghost from_gives = { λ error e. e ≡ Failed error };
 
     fn from(e: Error) -> Self {
         EntryError::Failed(e)
@@ -59,7 +59,7 @@ impl From<Error> for EntryError {
 }
 
 impl From<no_std_io::Error> for EntryError {
-    ghost from_gives = { λ fault e. e ≡ Failed (of_io fault) };
+    ghost from_gives = { λ error e. e ≡ Failed (of_io error) };
 
     fn from(e: no_std_io::Error) -> Self {
         EntryError::Failed(Error::from(e))

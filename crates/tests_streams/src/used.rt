@@ -75,7 +75,7 @@ fn expect_content(rt: &impl Abort, id: &ContentId<32>) {
 
 fn section_error(bytes: &[u8]) -> Option<Refusal> {
     match section_front::<32>(bytes) {
-        Err(ContentIdError::Refused(e)) => Refusal::of(&e),
+        Err(ContentIdError::Rejected(e)) => Refusal::of(&e),
         _ => None,
     }
 }

@@ -16,7 +16,7 @@ use std::process::Abort;
 const MOST: usize = 700;
 
 // A reader without its own `read_exact`, which fails after that many bytes.
-fn expect_reader_fault<const S: usize>(
+fn expect_reader_error<const S: usize>(
     rt: &impl Abort,
     alloc: Global,
     form: Form,
@@ -45,7 +45,7 @@ fn failing_writer(rt: &impl Abort, alloc: Global, at: usize, why: Refusal) -> Fa
     FailWrite::new(drip, calls, why)
 }
 
-fn expect_writer_fault<const S: usize>(
+fn expect_writer_error<const S: usize>(
     rt: &impl Abort,
     alloc: Global,
     form: Form,
@@ -65,7 +65,7 @@ fn expect_writer_fault<const S: usize>(
     }
 }
 
-fn expect_faults_at<const S: usize>(
+fn expect_errors_at<const S: usize>(
     rt: &impl Abort,
     alloc: Global,
     form: Form,
@@ -75,16 +75,16 @@ fn expect_faults_at<const S: usize>(
 )
     requires { S < 2 ^ 16 }
 {
-    expect_reader_fault(rt, alloc, form, items, bytes, at, Refusal::LINK_DOWN);
-    expect_reader_fault(rt, alloc, form, items, bytes, at, Refusal::OutOfMemory);
+    expect_reader_error(rt, alloc, form, items, bytes, at, Refusal::LINK_DOWN);
+    expect_reader_error(rt, alloc, form, items, bytes, at, Refusal::OutOfMemory);
     let front = bytes.get(..at).unwrap_or(&[]);
-    expect_writer_fault(rt, alloc, form, items, front, Refusal::DISK_GONE);
-    expect_writer_fault(rt, alloc, form, items, front, Refusal::OutOfMemory);
-    expect_writer_fault(rt, alloc, form, items, front, Refusal::WriteZero);
+    expect_writer_error(rt, alloc, form, items, front, Refusal::DISK_GONE);
+    expect_writer_error(rt, alloc, form, items, front, Refusal::OutOfMemory);
+    expect_writer_error(rt, alloc, form, items, front, Refusal::WriteZero);
 }
 
 // At each byte of a form, or at some of them and the last.
-fn expect_faults<const S: usize>(
+fn expect_errors<const S: usize>(
     rt: &impl Abort,
     alloc: Global,
     form: Form,
@@ -99,7 +99,7 @@ fn expect_faults<const S: usize>(
     let last = bytes.len().saturating_sub(1);
     for at in 0..bytes.len() {
         if each || at % 127 == 0 || at == last {
-            expect_faults_at(rt, alloc, form, &items, &bytes, at);
+            expect_errors_at(rt, alloc, form, &items, &bytes, at);
         }
     }
 }
@@ -112,7 +112,7 @@ fn expect_each_length_fails<const S: usize>(rt: &impl Abort, alloc: Global, from
     for n in from..CASES {
         if let Some((code, digest)) = case(&bytes, S, n) {
             for form in Form::ALL {
-                expect_faults::<S>(rt, alloc, form, code, digest, false);
+                expect_errors::<S>(rt, alloc, form, code, digest, false);
             }
         }
     }
@@ -132,7 +132,7 @@ fn each_byte_fails(rt: HostRuntime) {
     for len in [0, 2, 20, 32, 64, 255] {
         if let Some((code, digest)) = case(&bytes, 255, len) {
             for form in Form::ALL {
-                expect_faults::<255>(&rt, rt.alloc(), form, code, digest, true);
+                expect_errors::<255>(&rt, rt.alloc(), form, code, digest, true);
             }
         }
     }
@@ -141,7 +141,7 @@ fn each_byte_fails(rt: HostRuntime) {
 // Forty pairs of no bytes.
 #[test]
 fn each_item_of_a_list_fails(rt: HostRuntime) {
-    expect_faults::<0>(&rt, rt.alloc(), Form::List(40), (0, &[0]), &[], true);
+    expect_errors::<0>(&rt, rt.alloc(), Form::List(40), (0, &[0]), &[], true);
 }
 
 // The number of bytes returned before that many calls: those of a varint one by one, SCALE's parts as wholes.
@@ -154,7 +154,7 @@ fn given_before(form: Form, calls: usize) -> usize {
 }
 
 // A reader with its own `read_exact`, which fails at a call.
-fn expect_request_fault<const S: usize>(
+fn expect_request_error<const S: usize>(
     rt: &impl Abort,
     alloc: Global,
     form: Form,
@@ -178,7 +178,7 @@ fn expect_request_fault<const S: usize>(
 }
 
 // A writer with its own `write_all`, which fails at a call of it.
-fn expect_call_fault<const S: usize>(
+fn expect_call_error<const S: usize>(
     rt: &impl Abort,
     alloc: Global,
     form: Form,
@@ -198,7 +198,7 @@ fn expect_call_fault<const S: usize>(
 }
 
 // Each call for both forms of a pair. A digest of no bytes is always read and written.
-fn expect_call_faults<const S: usize>(rt: &impl Abort, alloc: Global, code: Code, digest: &[u8])
+fn expect_call_errors<const S: usize>(rt: &impl Abort, alloc: Global, code: Code, digest: &[u8])
     requires { S < 2 ^ 16 }
 {
     for (form, first) in [(Form::Binary, code.1.len()), (Form::Scale, 8)] {
@@ -206,13 +206,13 @@ fn expect_call_faults<const S: usize>(rt: &impl Abort, alloc: Global, code: Code
         let bytes = expect_ok!(rt; form.bytes(alloc, code, digest));
         let (single, _, whole) = form.requests(code, digest.len());
         for calls in 0..single.saturating_add(whole) {
-            expect_request_fault(rt, alloc, form, &items, &bytes, calls, Refusal::LINK_DOWN);
-            expect_request_fault(rt, alloc, form, &items, &bytes, calls, Refusal::OutOfMemory);
+            expect_request_error(rt, alloc, form, &items, &bytes, calls, Refusal::LINK_DOWN);
+            expect_request_error(rt, alloc, form, &items, &bytes, calls, Refusal::OutOfMemory);
         }
         let second = bytes.len().saturating_sub(digest.len());
         for (calls, written) in [(0, 0), (1, first), (2, second)] {
             let front = bytes.get(..written).unwrap_or(&[]);
-            expect_call_fault(rt, alloc, form, &items, calls, front);
+            expect_call_error(rt, alloc, form, &items, calls, front);
         }
     }
 }
@@ -224,7 +224,7 @@ fn expect_each_call_fails<const S: usize>(rt: &impl Abort, alloc: Global, from: 
     let bytes = different();
     for n in from..CASES {
         if let Some((code, digest)) = case(&bytes, S, n) {
-            expect_call_faults::<S>(rt, alloc, code, digest);
+            expect_call_errors::<S>(rt, alloc, code, digest);
         }
     }
 }
@@ -238,7 +238,7 @@ fn each_call_of_each_length_fails(rt: HostRuntime) {
 }
 
 // The traits' own `read_exact` and `write_all`, of more bytes than a digest has.
-fn expect_long_fault(rt: &impl Abort, alloc: Global, bytes: &[u8], at: usize) {
+fn expect_long_error(rt: &impl Abort, alloc: Global, bytes: &[u8], at: usize) {
     for why in [Refusal::LINK_DOWN, Refusal::OutOfMemory] {
         let mut reader = FailAt::new(Cuts::new(bytes, 1), at, why);
         let outcome = reader.read_exact(&mut [0; 600]);
@@ -257,6 +257,6 @@ fn expect_long_fault(rt: &impl Abort, alloc: Global, bytes: &[u8], at: usize) {
 fn each_byte_of_a_long_buffer_fails(rt: HostRuntime) {
     let bytes = expect_ok!(&rt; many(rt.alloc()));
     for at in 0..600 {
-        expect_long_fault(&rt, rt.alloc(), bytes.get(..600).unwrap_or(&[]), at);
+        expect_long_error(&rt, rt.alloc(), bytes.get(..600).unwrap_or(&[]), at);
     }
 }

@@ -23,7 +23,7 @@ fn expect_shown<D: Debug>(rt: &impl Abort, alloc: Global, shown: &D, wanted: &st
     check_eq!(rt; told.as_str(), wanted);
 }
 
-fn expect_fault(
+fn expect_io_error(
     rt: &impl Abort,
     alloc: Global,
     outcome: &Result<(), no_std_io::Error>,
@@ -42,11 +42,11 @@ fn expect_fault(
 }
 
 #[test]
-fn faults_print_their_texts(rt: HostRuntime) {
+fn io_errors_print_their_texts(rt: HostRuntime) {
     let rt = &rt;
     let alloc = rt.alloc();
     let ended = [7u8].as_slice().read_exact(&mut [0; 2]);
-    expect_fault(
+    expect_io_error(
         rt,
         alloc,
         &ended,
@@ -54,7 +54,7 @@ fn faults_print_their_texts(rt: HostRuntime) {
         "failed to fill whole buffer",
     );
     let full = [0u8].as_mut_slice().write_all(&[7, 8]);
-    expect_fault(
+    expect_io_error(
         rt,
         alloc,
         &full,
@@ -62,10 +62,10 @@ fn faults_print_their_texts(rt: HostRuntime) {
         "failed to write whole buffer",
     );
     let failed = Err(no_std_io::Error::out_of_memory());
-    expect_fault(rt, alloc, &failed, "OutOfMemory", "out of memory");
+    expect_io_error(rt, alloc, &failed, "OutOfMemory", "out of memory");
     let failed = Err(no_std_io::Error::other("link down"));
-    expect_fault(rt, alloc, &failed, "Other", "link down");
-    expect_fault(rt, alloc, &Err(no_std_io::Error::other("")), "Other", "");
+    expect_io_error(rt, alloc, &failed, "Other", "link down");
+    expect_io_error(rt, alloc, &Err(no_std_io::Error::other("")), "Other", "");
 }
 
 // The error prints this text, and `Debug` this kind.
@@ -182,10 +182,10 @@ const TEXT: &str =
 const LETTERS: &str = "größer als „eins“";
 
 fn expect_reported(rt: &impl Abort, alloc: Global, text: &'static str) {
-    let fault = no_std_io::Error::other(text);
-    check_eq!(rt; fault.text(), text);
-    expect_text(rt, alloc, &fault, text);
-    expect_text(rt, alloc, &Error::from(fault), text);
+    let error = no_std_io::Error::other(text);
+    check_eq!(rt; error.text(), text);
+    expect_text(rt, alloc, &error, text);
+    expect_text(rt, alloc, &Error::from(error), text);
 }
 
 #[test]

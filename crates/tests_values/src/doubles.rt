@@ -4,7 +4,7 @@ use fakes::refusal::{Refusal, is_failed, is_rejected};
 use multihash::no_std_io::{self, Read, Write};
 use multihash::{Error, Multihash};
 
-const REFUSALS: [Refusal; 11] = [
+const ERRORS: [Refusal; 11] = [
     Refusal::Insufficient,
     Refusal::Overflow,
     Refusal::NotMinimal,
@@ -40,7 +40,7 @@ fn outcomes() -> [Result<Multihash<4>, Error>; 12] {
 fn an_error_is_no_other(rt: HostRuntime) {
     let rt = &rt;
     for (row, outcome) in outcomes().iter().enumerate() {
-        for (column, why) in REFUSALS.iter().enumerate() {
+        for (column, why) in ERRORS.iter().enumerate() {
             check_eq!(rt; is_rejected(outcome, *why), row == column, (row, column));
         }
     }

@@ -25,7 +25,7 @@ fn unless_rejected<T>(rt: &impl Abort, outcome: Result<T, Error>) -> Result<T, F
         Ok(outcome) => Ok(outcome),
         Err(e) => {
             check_eq!(rt; Refusal::of(&e), Some(Refusal::OutOfMemory));
-            check!(rt; matches!(e.io(), Some(fault) if fault.text() == "out of memory"));
+            check!(rt; matches!(e.io(), Some(error) if error.text() == "out of memory"));
             Err(FAILED)?
         }
     }

@@ -45,8 +45,8 @@ rejected_large S code input bytes rest (Err e) is over cut v =
 pub left_after_code : (S code : ℕ) (input bytes rest left : List ℕ) (r : Result (Fields S) Refusal) → IsScaleCode code bytes
     → input ≡ bytes ++ rest → IsErrAnd r (IsInvalidCode code)
     → IfErr r (λ e. ConsumesAtScaleError S e (Some input) (Some left)) → left ≡ rest
-left_after_code S code input bytes rest left (Ok m) is cut refused took = absurd refused
-left_after_code S code input bytes rest left (Err e) is cut refused took =
-    let found = took.code code refused in
+left_after_code S code input bytes rest left (Ok m) is cut rejected took = absurd rejected
+left_after_code S code input bytes rest left (Err e) is cut rejected took =
+    let found = took.code code rejected in
     let whole : input ≡ took.consumed ++ left = cc (took.consumes) in
     (same_cut took.consumed bytes left rest (found.1 ∙ sym is.eight) (sym whole ∙ cut)).1

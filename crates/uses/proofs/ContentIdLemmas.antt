@@ -127,16 +127,16 @@ pub hash_fails : (S before middle after : ℕ) (old new : Option (List ℕ)) (e 
     → ReadFails S before after e old new
 hash_fails S before middle after old new e same fails = subst (λ k. ReadFails S k after e old new) same fails
 
-pub digest_fails : (before middle after : ℕ) (old new : Option (List ℕ)) (fault : Fault) → middle ≡ before
-    → ((after ≡ middle + 1) × IsOwnFault fault) ⊎ ((after ≡ middle) × IsUnexpectedEof fault)
-    → (IsUnexpectedEof fault → HasFewerThan 32 old) → ConsumesFewerThan 32 old new → ExactFails 32 before after (of_io fault) old new
-digest_fails before middle after old new fault same (inl own) eof consumed = record {
-  cause = inl (own.0 ∙ ap (λ (k : ℕ). k + 1) same, (fault, refl, own.1));
+pub digest_fails : (before middle after : ℕ) (old new : Option (List ℕ)) (error : Fault) → middle ≡ before
+    → ((after ≡ middle + 1) × IsOwnFault error) ⊎ ((after ≡ middle) × IsUnexpectedEof error)
+    → (IsUnexpectedEof error → HasFewerThan 32 old) → ConsumesFewerThan 32 old new → ExactFails 32 before after (of_io error) old new
+digest_fails before middle after old new error same (inl own) eof consumed = record {
+  cause = inl (own.0 ∙ ap (λ (k : ℕ). k + 1) same, (error, refl, own.1));
   consumed = consumed;
   short = λ unfailed. absurd (omega (arith, own.0, same, unfailed));
 }
-digest_fails before middle after old new fault same (inr ended) eof consumed = record {
-  cause = inr (ended.0 ∙ same, (fault, refl, ended.1));
+digest_fails before middle after old new error same (inr ended) eof consumed = record {
+  cause = inr (ended.0 ∙ same, (error, refl, ended.1));
   consumed = consumed;
   short = λ unfailed. eof ended.1;
 }

@@ -13,26 +13,26 @@ use Rattle.multihash.specs.Outcome.{IsErrorOf, IsResultOf}
 use Rattle.multihash.specs.Multihash.{Fields, pair_of}
 
 -- a pair is the result exactly if the bytes are its encoding and it fits
-pub answers_pair : (S : ℕ) (bytes : List ℕ) (r : Result (Fields S) Refusal) (v : Verdict) → HasWholeVerdict S bytes v → IsResultOf r v
+pub returns_pair : (S : ℕ) (bytes : List ℕ) (r : Result (Fields S) Refusal) (v : Verdict) → HasWholeVerdict S bytes v → IsResultOf r v
     → ((w : Verdict) → HasWholeVerdict S bytes w → w ≡ v) → (p : Pair)
     → (IsEncoding p bytes × FitsBuffer S p) ↔ IsOkAnd r (λ m. pair_of m ≡ p)
-answers_pair S bytes (Ok m) v has answers only p = (
-  (λ own. let told : accepted (pair_of m) ≡ accepted p = sym answers ∙ sym (only (accepted p) own) in cc),
-  λ same. subst (λ q. HasWholeVerdict S bytes (accepted q)) same (subst (HasWholeVerdict S bytes) answers has),
+returns_pair S bytes (Ok m) v has results only p = (
+  (λ own. let told : accepted (pair_of m) ≡ accepted p = sym results ∙ sym (only (accepted p) own) in cc),
+  λ same. subst (λ q. HasWholeVerdict S bytes (accepted q)) same (subst (HasWholeVerdict S bytes) results has),
 )
-answers_pair S bytes (Err e) v has answers only p = (
-  (λ own. subst (IsErrorOf e) (sym (only (accepted p) own)) answers),
+returns_pair S bytes (Err e) v has results only p = (
+  (λ own. subst (IsErrorOf e) (sym (only (accepted p) own)) results),
   λ is_ok. absurd is_ok,
 )
 
 -- the reader failed, once, or the verdict that was returned is the only one
-pub one_answered : (S before after : ℕ) (old : Option (List ℕ)) (r : Result (Fields S) Refusal)
+pub one_returned : (S before after : ℕ) (old : Option (List ℕ)) (r : Result (Fields S) Refusal)
     → ((S : ℕ) (input : List ℕ) (v w : Verdict) → HasVerdict S input v → HasVerdict S input w → v ≡ w)
     → CountsReaderFailures IsReaderError (ReadMayFailWith S) before after r
     → IfSome old (λ rest. after ≡ before → (v : Verdict) × HasVerdict S rest v × IsResultOf r v)
     → ((after ≡ before + 1) × IsErrAnd r IsReaderError)
     ⊎ ((after ≡ before) × IfSome old (λ rest. (one : ExactlyOne (HasVerdict S rest)) × IsResultOf r one.value))
-one_answered S before after old r unique counts verdict = either r counts where
+one_returned S before after old r unique counts verdict = either r counts where
   found : after ≡ before → IfSome old (λ rest. (one : ExactlyOne (HasVerdict S rest)) × IsResultOf r one.value)
   found same = IfSome_then old verdict
       (λ rest found. let v = found same in (record { value = v.0; holds = v.1; only = λ w has. unique S rest w v.0 has v.1 }, v.2))

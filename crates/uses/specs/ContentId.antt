@@ -10,7 +10,7 @@ use Rattle.multihash.specs.Multihash.{pair_of}
 use Rattle.uses.specs.declared.content_id.ContentId.{ContentId}
 use Rattle.uses.specs.declared.content_id.ContentId.TheVariants.{V0, V1}
 use Rattle.uses.specs.declared.content_id.ContentIdError.{ContentIdError}
-use Rattle.uses.specs.declared.content_id.ContentIdError.TheVariants.{Refused, OtherVersion, Trailing}
+use Rattle.uses.specs.declared.content_id.ContentIdError.TheVariants.{Rejected, OtherVersion, Trailing}
 
 -- what an identifier encodes: a SHA2-256 digest, or a codec and a multihash
 pub data Content : Type 0 where
@@ -49,13 +49,13 @@ FitsContentId S (version_1 codec p) = FitsBuffer S p
 
 -- the text of an error
 abbrev pub content_error_text : ContentIdError → List ℕ
-content_error_text (Refused refusal) = refusal_text refusal
+content_error_text (Rejected error) = refusal_text error
 content_error_text (OtherVersion n) = codes "no content identifier of version " ++ decimal n
 content_error_text (Trailing n) = decimal n ++ codes " bytes after a content identifier"
 
 -- the error passes on an error that satisfies P
 abbrev pub IsRejected : (Refusal → Type 0) → ContentIdError → Type 0
-IsRejected P e = (refusal : Refusal) × (e ≡ Refused refusal) × P refusal
+IsRejected P e = (error : Refusal) × (e ≡ Rejected error) × P error
 
 -- the number at the version's position is that of no version: nothing after it was consumed
 abbrev pub IsOtherVersion : ℕ → ContentIdError → ℕ → ℕ → Option (List ℕ) → Option (List ℕ) → Type 0

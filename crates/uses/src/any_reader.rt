@@ -38,7 +38,7 @@ pub fn read_if_room<const S: usize, R: Read>(
         Ok(list) => Ok(Some(list)),
         Err(e) => {
             let is_memory = match e.io() {
-                Some(fault) => fault.is_out_of_memory(),
+                Some(error) => error.is_out_of_memory(),
                 None => false,
             };
             if is_memory { Ok(None) } else { Err(e) }

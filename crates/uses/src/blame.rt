@@ -29,7 +29,7 @@ pub fn reader_failed<const S: usize, R: Read>(r: &mut R) -> (Option<Multihash<S>
         Ok(multihash) => (Some(multihash), false),
         Err(e) => {
             let failed = match e.io() {
-                Some(fault) => fault.is_other() || fault.is_out_of_memory(),
+                Some(error) => error.is_other() || error.is_out_of_memory(),
                 None => false,
             };
             (None, failed)
@@ -52,8 +52,8 @@ pub fn read_slice<const S: usize>(stream: &[u8]) -> (Result<Multihash<S>, Error>
         IsErrAnd result.0 (IsInvalidSize size) × (result.1.now ≡ rest) }
 {
     let mut left = stream;
-    let answer = Multihash::read(&mut left);
-    (answer, left)
+    let outcome = Multihash::read(&mut left);
+    (outcome, left)
 }
 
 /// Returns the result of `scale_decode` for a slice, and what it leaves. If the code is out of range only its
@@ -105,7 +105,7 @@ pub fn was_full(e: &Error) -> bool
     ensures { IsTrue result ↔ IsIo IsWriteZero e.now }
 {
     match e.io() {
-        Some(fault) => fault.is_write_zero(),
+        Some(error) => error.is_write_zero(),
         None => false,
     }
 }

@@ -5,7 +5,7 @@ ghost use Rattle.multihash.specs.Writing.{AppendsPrefix, CountsWriterFailures};
 ghost use Rattle.multihash.specs.Refusal.{IsIo, of_io};
 ghost use Rattle.multihash.specs.Multihash.{pair_of};
 ghost use Rattle.uses.specs.ContentId.{Content, content_of, content_error_text, IsContentId, FitsContentId, ContentIdFails, HasTrailingBytes};
-ghost use Rattle.uses.specs.declared.content_id.ContentIdError.TheVariants.{Refused, Trailing};
+ghost use Rattle.uses.specs.declared.content_id.ContentIdError.TheVariants.{Rejected, Trailing};
 
 mod codec;
 
@@ -35,7 +35,7 @@ pub enum ContentId<const S: usize> {
 #[derive(Debug, Drop)]
 pub enum ContentIdError {
     /// A varint or the multihash is malformed, or the reader failed.
-    Refused(Error),
+    Rejected(Error),
     /// The first varint has this number, which is neither 1 nor the start of a multihash of version 0.
     OtherVersion(u64),
     /// This number of bytes follows the identifier.
@@ -47,7 +47,7 @@ impl fmt::Display for ContentIdError {
 
     fn fmt<W: fmt::Write>(&self, f: &mut fmt::Formatter<W>) -> fmt::Result {
         match self {
-            ContentIdError::Refused(e) => fmt::Display::fmt(e, f),
+            ContentIdError::Rejected(e) => fmt::Display::fmt(e, f),
             ContentIdError::OtherVersion(n) => write!(f, "no content identifier of version {n}"),
             ContentIdError::Trailing(n) => write!(f, "{n} bytes after a content identifier"),
         }
@@ -57,18 +57,18 @@ impl fmt::Display for ContentIdError {
 impl std::error::Error for ContentIdError {}
 
 impl From<Error> for ContentIdError {
-    ghost from_gives = { λ refusal e. e ≡ Refused refusal };
+    ghost from_gives = { λ error e. e ≡ Rejected error };
 
     fn from(e: Error) -> Self {
-        ContentIdError::Refused(e)
+        ContentIdError::Rejected(e)
     }
 }
 
 impl From<no_std_io::Error> for ContentIdError {
-    ghost from_gives = { λ fault e. e ≡ Refused (of_io fault) };
+    ghost from_gives = { λ error e. e ≡ Rejected (of_io error) };
 
     fn from(e: no_std_io::Error) -> Self {
-        ContentIdError::Refused(Error::from(e))
+        ContentIdError::Rejected(Error::from(e))
     }
 }
 
@@ -81,7 +81,7 @@ impl<const S: usize> ContentId<S> {
     ///
     /// - [`ContentIdError::OtherVersion`] with the first varint's number if that is neither 1 nor 0x12; that
     ///   varint was consumed. With 0x12 if a length other than 32 follows it; both varints were consumed.
-    /// - [`ContentIdError::Refused`] with the errors of [`varint::read`] and of [`Multihash::read`], an
+    /// - [`ContentIdError::Rejected`] with the errors of [`varint::read`] and of [`Multihash::read`], an
     ///   unexpected end within the digest of version 0, or the reader's own error. The parts before the
     ///   malformed one were consumed, and of it what those calls say; of the digest fewer than 32 bytes.
     pub fn read<R: Read>(r: &mut R) -> Result<Self, ContentIdError>

@@ -14,7 +14,7 @@ use Rattle.multihash.specs.Consuming.{ConsumesAtError, ConsumesShortestSettling}
 use Rattle.multihash.specs.Varint.{insufficient, overflow, not_minimal, continuation_bytes, IsVarint}
 use Rattle.multihash.specs.Verdict.{Verdict, accepted, invalid_size, invalid_code, malformed, unexpected_eof, BeginsWithSize, HasVerdict, IsIncomplete, HasWholeVerdict}
 use Rattle.multihash.proofs.Readings.ReadingLemmas.{cut_at}
-use Rattle.multihash.proofs.Readings.ReadConsumingLemmas.{refusal_unique}
+use Rattle.multihash.proofs.Readings.ReadConsumingLemmas.{error_unique}
 use Rattle.multihash.proofs.Readings.SettlingLemmas.{shortest_unique}
 use Rattle.vectors.specs.declared.line.Reading.{Reading}
 use Rattle.vectors.specs.Listed.{meaning, ends_varint, IsConsumed, SettlesAfter, IsReading, ConsumesEnough, ConsumesAsReadListed}
@@ -33,9 +33,9 @@ All-last P xs i d below all =
     All-head P (get_or xs i d) [] (All-append_right P (take i xs) (get_or xs i d ∷ []) (subst (All P) (take_more xs i d below) all))
 
 -- a result has one verdict
-pub answers_unique : {S : ℕ} (r : Result (Fields S) Refusal) (v w : Verdict) → IsResultOf r v → IsResultOf r w → v ≡ w
-answers_unique (Ok m) v w left right = cc
-answers_unique (Err e) v w left right = refusal_unique e v w left right
+pub result_unique : {S : ℕ} (r : Result (Fields S) Refusal) (v w : Verdict) → IsResultOf r v → IsResultOf r w → v ≡ w
+result_unique (Ok m) v w left right = cc
+result_unique (Err e) v w left right = error_unique e v w left right
 
 -- ---- what reading consumes
 
@@ -86,9 +86,9 @@ rejected_enough S input left e h unexpected_eof is early =
 -- at a truncated input at least the stated bytes were consumed
 enough : (S : ℕ) (input left : List ℕ) (r : Result (Fields S) Refusal) → ReadCall S input left r → (v : Verdict)
     → IsResultOf r v → IsIncomplete v → ConsumesEnough v input left
-enough S input left (Ok m) d v answers early =
-    absurd (subst IsIncomplete answers early)
-enough S input left (Err e) d v answers early = rejected_enough S input left e d.err v answers early
+enough S input left (Ok m) d v results early =
+    absurd (subst IsIncomplete results early)
+enough S input left (Err e) d v results early = rejected_enough S input left e d.err v results early
 
 enough_early : (v : Verdict) (input left : List ℕ) → ConsumesEnough v input left → IsIncomplete v
 enough_early (accepted p) input left h = h
@@ -109,9 +109,9 @@ taken_long S input left t =
 read_as_listed : (S : ℕ) (input left : List ℕ) (r : Result (Fields S) Refusal) → ReadCall S input left r → (w : Verdict)
     → IsResultOf r w → HasVerdict S input w → (consumed : Option ℕ)
     → MatchOption consumed (ConsumesEnough w input left) (λ n. ¬ (IsIncomplete w) × (length input ≡ n + length left)) ↔ IsConsumed S input w consumed
-read_as_listed S input left r d w answers has None =
-    (enough_early w input left, enough S input left r d w answers)
-read_as_listed S input left r d w answers has (Some n) = (there, back)
+read_as_listed S input left r d w results has None =
+    (enough_early w input left, enough S input left r d w results)
+read_as_listed S input left r d w results has (Some n) = (there, back)
   where
     there : ¬ (IsIncomplete w) × (length input ≡ n + length left) → SettlesAfter S input n
     there (late, count) =
@@ -127,11 +127,11 @@ read_as_listed S input left r d w answers has (Some n) = (there, back)
 
 pub reading : (S : ℕ) (input left : List ℕ) (r : Result (Fields S) Refusal) → ReadCall S input left r → (listed : Reading)
     → IsResultOf r (meaning listed.verdict) → ConsumesAsReadListed input left listed ↔ IsReading S input listed
-reading S input left r d listed answers =
+reading S input left r d listed results =
     let w = meaning listed.verdict in
     let has : HasVerdict S input w =
-    subst (λ (v : Verdict). HasVerdict S input v) (answers_unique r d.verdict.0 w d.verdict.2 answers) d.verdict.1 in
-    let both = read_as_listed S input left r d w answers has listed.consumed in
+    subst (λ (v : Verdict). HasVerdict S input v) (result_unique r d.verdict.0 w d.verdict.2 results) d.verdict.1 in
+    let both = read_as_listed S input left r d w results has listed.consumed in
     (λ t. record { verdict = has; consumed = both.0 t }, λ right. both.1 right.consumed)
 
 -- if the result is another, the reading is not as listed
@@ -182,7 +182,7 @@ pub value_right : (S : ℕ) (input : List ℕ) (listed : Verdict) (r : Result (F
     → ((bytes : List ℕ) → IsByteArray d bytes → (v : Verdict) × HasWholeVerdict S bytes v × IsResultOf r v)
     → (IsBytes input → ExactlyOne (HasWholeVerdict S input)) → (b : Bool) → (IsTrue b ↔ IsResultOf r listed)
     → IsTrue b ↔ HasWholeVerdict S input listed
-value_right S input listed r d lists answered exactly_one b test = (there, back_again)
+value_right S input listed r d lists returned exactly_one b test = (there, back_again)
   where
     one : ExactlyOne (HasWholeVerdict S input)
     one = exactly_one (∥∥₁_elim lists (Prim.hlevel props) (λ h. h.are_bytes))
@@ -190,13 +190,13 @@ value_right S input listed r d lists answered exactly_one b test = (there, back_
     there : IsTrue b → HasWholeVerdict S input listed
     there holds =
         let same : one.value ≡ listed = ∥∥₁_elim lists (Coded-set coded_verdict one.value listed) (λ h.
-        let found = answered input h in
-        sym (one.only found.0 found.1) ∙ answers_unique r found.0 listed found.2 (test.0 holds)) in
+        let found = returned input h in
+        sym (one.only found.0 found.1) ∙ result_unique r found.0 listed found.2 (test.0 holds)) in
         subst (λ (v : Verdict). HasWholeVerdict S input v) same one.holds
 
     back_again : HasWholeVerdict S input listed → IsTrue b
     back_again right =
         ∥∥₁_elim lists (Coded-set coded_bool b true) (λ h.
-        let found = answered input h in
+        let found = returned input h in
         let same : found.0 ≡ listed = one.only found.0 found.1 ∙ sym (one.only listed right) in
         test.1 (subst (λ (v : Verdict). IsResultOf r v) same found.2))

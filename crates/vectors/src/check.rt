@@ -129,8 +129,8 @@ fn value_agrees<const S: usize>(line: &Line) -> bool
     ensures { IsTrue result ↔ HasWholeVerdict S line.now.input.items (meaning line.now.from_bytes) }
 {
     laws::one_verdict();
-    let answer = Multihash::<S>::from_value(&line.json);
-    line.from_bytes.is_answer(&answer)
+    let outcome = Multihash::<S>::from_value(&line.json);
+    line.from_bytes.is_answer(&outcome)
 }
 
 // Whether `read` from the slice does what is listed.
@@ -141,8 +141,8 @@ fn slice_agrees<const S: usize>(input: &[u8], listed: &Reading) -> bool
     laws::one_verdict();
     laws::settles();
     let mut left = input;
-    let answer = Multihash::<S>::read(&mut left);
-    listed.verdict.is_answer(&answer) && takes_as_listed(input, left, listed)
+    let outcome = Multihash::<S>::read(&mut left);
+    listed.verdict.is_answer(&outcome) && takes_as_listed(input, left, listed)
 }
 
 // Whether `read` does what is listed, from a reader that returns at most that many bytes per call.
@@ -154,8 +154,8 @@ fn cuts_agree<const S: usize>(input: &[u8], listed: &Reading, most: usize) -> bo
     laws::one_verdict();
     laws::settles();
     let mut cuts = Cuts::new(input, most);
-    let answer = Multihash::<S>::read(&mut cuts);
-    listed.verdict.is_answer(&answer) && takes_as_listed(input, cuts.left, listed)
+    let outcome = Multihash::<S>::read(&mut cuts);
+    listed.verdict.is_answer(&outcome) && takes_as_listed(input, cuts.left, listed)
 }
 
 // Whether the listed number of bytes was consumed: there is one exactly if the input is complete. Of an input
@@ -181,8 +181,8 @@ fn scale_slice_agrees<const S: usize>(input: &[u8], listed: &Reading) -> bool
 {
     laws::scale_unique();
     let mut left = input;
-    let answer = Multihash::<S>::scale_decode(&mut left);
-    listed.verdict.is_answer(&answer) && takes_as_scale_listed(input, left, listed)
+    let outcome = Multihash::<S>::scale_decode(&mut left);
+    listed.verdict.is_answer(&outcome) && takes_as_scale_listed(input, left, listed)
 }
 
 // Whether `scale_decode` does what is listed, from a reader that returns at most that many bytes per call.
@@ -193,8 +193,8 @@ fn scale_cuts_agree<const S: usize>(input: &[u8], listed: &Reading, most: usize)
 {
     laws::scale_unique();
     let mut cuts = Cuts::new(input, most);
-    let answer = Multihash::<S>::scale_decode(&mut cuts);
-    listed.verdict.is_answer(&answer) && takes_as_scale_listed(input, cuts.left, listed)
+    let outcome = Multihash::<S>::scale_decode(&mut cuts);
+    listed.verdict.is_answer(&outcome) && takes_as_scale_listed(input, cuts.left, listed)
 }
 
 // Whether the listed number of bytes was consumed; any number if the input is incomplete.

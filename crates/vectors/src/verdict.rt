@@ -57,10 +57,10 @@ impl Verdict {
     }
 
     /// Whether the result is this verdict.
-    pub fn is_answer<const S: usize>(&self, answer: &Result<Multihash<S>, Error>) -> bool
-        ensures { IsTrue result ↔ IsResultOf answer.now (meaning self.now) }
+    pub fn is_answer<const S: usize>(&self, outcome: &Result<Multihash<S>, Error>) -> bool
+        ensures { IsTrue result ↔ IsResultOf outcome.now (meaning self.now) }
     {
-        match (self, answer) {
+        match (self, outcome) {
             (Verdict::Pair { code, digest }, Ok(multihash)) => {
                 multihash.code() == *code && multihash.digest() == digest.as_slice()
             }

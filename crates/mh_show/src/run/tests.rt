@@ -23,7 +23,7 @@ enum End {
 }
 
 impl End {
-    fn answer(self) -> io::Result<usize>
+    fn outcome(self) -> io::Result<usize>
         ensures { IfOk result (λ n. n ≡ 0) }
     {
         match self {
@@ -58,7 +58,7 @@ impl Read for Drip<'_> {
         self.calls = self.calls.saturating_add(1);
         let count = self.left.len().min(self.most).min(buf.len());
         if count == 0 {
-            return self.end.answer();
+            return self.end.outcome();
         }
         let (front, rest) = self.left.split_at(count);
         buf[..count].copy_from_slice(front);
@@ -103,7 +103,7 @@ impl Write for Page {
         self.calls = self.calls.saturating_add(1);
         let room = self.room.min(CAPACITY).saturating_sub(self.length);
         if room == 0 {
-            return self.end.answer();
+            return self.end.outcome();
         }
         let count = buf.len().min(self.most).min(room);
         let end = self.length + count;

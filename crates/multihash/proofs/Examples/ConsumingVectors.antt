@@ -8,9 +8,9 @@ use Rattle.multihash.specs.Reading.{Consumes}
 use Rattle.multihash.specs.Fault.{IsUnexpectedEof}
 use Rattle.multihash.specs.Refusal.{Refusal, of_io, of_size, of_code, of_varint, of_not_bytes, IsVarintError, IsAnyVarintError, IsFrontError}
 use Rattle.multihash.specs.Consuming.{IsFrontErrorAt, IsHeadError, ConsumesVarint, ReadMayFailWith, ConsumesAtVarintError, ConsumesAtError, ConsumesShortestSettling, ConsumesNothingSettling, FailsBy, VarintFails, ExactFails}
-use Rattle.multihash.proofs.Varints.VarintLemmas.{front_unique, number, fault, varint_unique}
+use Rattle.multihash.proofs.Varints.VarintLemmas.{front_unique, number, error, varint_unique}
 use Rattle.multihash.proofs.Readings.VerdictLemmas.{verdict_unique}
-use Rattle.multihash.proofs.Readings.SettlingLemmas.{shortest_unique, shortest_code_fault}
+use Rattle.multihash.proofs.Readings.SettlingLemmas.{shortest_unique, shortest_code_error}
 use Rattle.multihash.proofs.Examples.RefusalVectors.{other, eof}
 use Rattle.multihash.proofs.Examples.ReadingVectors.{told, taken_is}
 use Rattle.multihash.proofs.Examples.VarintVectors.{all_continuation, varint_5, not_another}
@@ -18,8 +18,8 @@ use Rattle.multihash.proofs.Examples.VerdictVectors.{code_alone, size_above_limi
 
 -- ---- errors
 
-no_other_varint_refusal : ((n : ℕ) → ¬ (IsAnyVarintError (of_size n))) × ((n : ℕ) → ¬ (IsAnyVarintError (of_code n))) × ¬ (IsAnyVarintError (of_io eof))
-no_other_varint_refusal = ((λ n (f, e). cc), (λ n (f, e). cc), λ (f, e). cc)
+no_other_varint_error : ((n : ℕ) → ¬ (IsAnyVarintError (of_size n))) × ((n : ℕ) → ¬ (IsAnyVarintError (of_code n))) × ¬ (IsAnyVarintError (of_io eof))
+no_other_varint_error = ((λ n (f, e). cc), (λ n (f, e). cc), λ (f, e). cc)
 
 -- a varint that ends in a zero byte, and a trailing byte
 abbrev pub padded : List ℕ
@@ -36,10 +36,10 @@ padded_front rest = record {
 }
 
 -- the error is that of the input
-no_other_front_refusal : ¬ (IsFrontError (0x80 ∷ 0x00 ∷ []) (of_varint overflow))
-no_other_front_refusal (f, e, has) =
-    let same : fault f ≡ fault not_minimal =
-    front_unique (0x80 ∷ 0x00 ∷ []) (fault f) (fault not_minimal) has (padded_front []) in
+no_other_front_error : ¬ (IsFrontError (0x80 ∷ 0x00 ∷ []) (of_varint overflow))
+no_other_front_error (f, e, has) =
+    let same : error f ≡ error not_minimal =
+    front_unique (0x80 ∷ 0x00 ∷ []) (error f) (error not_minimal) has (padded_front []) in
     cc
 
 -- the errors of `read` for capacity 4: no code is too large, an error of the reader itself is not listed, and
@@ -76,8 +76,8 @@ takes_varint_alone (bytes, is, consumes) =
 
 not_insufficient : ¬ (IsInsufficient (0x80 ∷ 0x00 ∷ []))
 not_insufficient h =
-    let same : fault insufficient ≡ fault not_minimal =
-    front_unique (0x80 ∷ 0x00 ∷ []) (fault insufficient) (fault not_minimal) h (padded_front []) in
+    let same : error insufficient ≡ error not_minimal =
+    front_unique (0x80 ∷ 0x00 ∷ []) (error insufficient) (error not_minimal) h (padded_front []) in
     cc
 
 -- no more is left than there was
@@ -87,22 +87,22 @@ gives_none_back (b ∷ consumed) h = omega (arith, ap (λ (o : Option (List ℕ)
 
 begins_a_varint : ¬ (IsMalformed (5 ∷ []))
 begins_a_varint (f, has) =
-    let same : number 5 [] ≡ fault f =
-    front_unique (5 ∷ []) (number 5 []) (fault f) (5 ∷ [], varint_5, refl) has in
+    let same : number 5 [] ≡ error f =
+    front_unique (5 ∷ []) (number 5 []) (error f) (5 ∷ [], varint_5, refl) has in
     cc
 
 varint_takes_its_own : ¬ (ConsumesAtVarintError of_not_bytes (Some []) (Some (7 ∷ [])))
 varint_takes_its_own h = gives_none_back h.consumed h.consumes
 
 -- the consumed bytes show that the varint is malformed
-shows_no_other_fault : ¬
+shows_no_other_error : ¬
     (ConsumesAtVarintError (of_varint overflow) (Some (0x80 ∷ 0x00 ∷ [])) (Some []))
-shows_no_other_fault h =
+shows_no_other_error h =
     let has =
     subst (BeginsMalformed overflow) (taken_is (0x80 ∷ 0x00 ∷ []) [] h.consumed h.consumes)
     (h.shows overflow refl) in
-    let same : fault overflow ≡ fault not_minimal =
-    front_unique (0x80 ∷ 0x00 ∷ []) (fault overflow) (fault not_minimal) has (padded_front []) in
+    let same : error overflow ≡ error not_minimal =
+    front_unique (0x80 ∷ 0x00 ∷ []) (error overflow) (error not_minimal) has (padded_front []) in
     cc
 
 no_byte_after_the_zero : ¬
@@ -190,7 +190,7 @@ unsettled_takes_its_own h = gives_none_back h.consumed h.consumes
 
 pub shortest_of_padded : (S : ℕ) → IsShortestSettling S padded (0x80 ∷ 0x00 ∷ [])
 shortest_of_padded S =
-    shortest_code_fault S not_minimal padded (λ early. early) (record {
+    shortest_code_error S not_minimal padded (λ early. early) (record {
       shown = 0x80 ∷ 0x00 ∷ [];
       rest = 0x07 ∷ [];
       cut = refl;
@@ -201,7 +201,7 @@ shortest_of_padded S =
 -- all of an input that is insufficient
 abbrev pub ends_open : (input : List ℕ) → ((S : ℕ) → HasVerdict S input (malformed insufficient)) → IsHeadError input (of_varint insufficient) (length input)
 ends_open input has = record {
-  fault = insufficient;
+  error = insufficient;
   named = refl;
   verdict = has;
   within = omega arith;
@@ -215,7 +215,7 @@ not_cut same = cc
 -- the bytes up to the zero
 abbrev pub ends_padded : IsHeadError padded (of_varint not_minimal) 2
 ends_padded = record {
-  fault = not_minimal;
+  error = not_minimal;
   named = refl;
   verdict = λ S. inl (padded_front (0x07 ∷ []));
   within = omega arith;
@@ -229,7 +229,7 @@ named_so f g is = cc
 -- no byte after the zero is consumed
 settled_so : (taken : ℕ) → IsHeadError padded (of_varint not_minimal) taken → ConsumesShortestSettling 4 padded (Some (drop taken padded))
 settled_so taken h =
-    h.settled 4 (λ early. subst (λ f. IsIncomplete (malformed f)) (named_so h.fault not_minimal h.named) early)
+    h.settled 4 (λ early. subst (λ f. IsIncomplete (malformed f)) (named_so h.error not_minimal h.named) early)
 
 two_taken : (t : List ℕ) → IsShortestSettling 4 padded t → length t ≡ 2
 two_taken t s = ap (λ (z : List ℕ). length z) (shortest_unique 4 padded t (0x80 ∷ 0x00 ∷ []) s (shortest_of_padded 4))
@@ -242,13 +242,13 @@ ends_inside : ¬ (IsHeadError (0x80 ∷ 0x00 ∷ []) (of_varint not_minimal) 3)
 ends_inside h = omega (arith, h.within)
 
 ends_at_the_end : ¬ (IsHeadError (0x80 ∷ []) (of_varint insufficient) 0)
-ends_at_the_end h = omega (arith, h.insufficient (named_so h.fault insufficient h.named))
+ends_at_the_end h = omega (arith, h.insufficient (named_so h.error insufficient h.named))
 
 -- the error is that of the verdict, and names it
 ends_with_no_other_error : (taken : ℕ) → ¬ (IsHeadError padded (of_varint overflow) taken)
 ends_with_no_other_error taken h =
-    let same = verdict_unique 4 padded (malformed h.fault) (malformed not_minimal) (h.verdict 4) (inl (padded_front (0x07 ∷ []))) in
-    let named = named_so h.fault overflow h.named in
+    let same = verdict_unique 4 padded (malformed h.error) (malformed not_minimal) (h.verdict 4) (inl (padded_front (0x07 ∷ []))) in
+    let named = named_so h.error overflow h.named in
     cc
 
 ends_with_no_size : (taken : ℕ) → ¬ (IsHeadError padded (of_size 0) taken)

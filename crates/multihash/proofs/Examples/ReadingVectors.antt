@@ -76,8 +76,8 @@ read_no_eof (inr h) = h.1
 abbrev Fills : ℕ → ℕ → Result ℕ Fault → Type 0
 Fills before after outcome = CountsReaderFailures IsOwnFault IsUnexpectedEof before after outcome
 
-fill_invents_no_fault : ¬ (Fills 3 3 (Err other)) × ¬ (Fills 4 3 (Err eof))
-fill_invents_no_fault = (
+fill_invents_no_error : ¬ (Fills 3 3 (Err other)) × ¬ (Fills 4 3 (Err eof))
+fill_invents_no_error = (
   (λ h. elim h [ inl one ↦ omega (arith, one.0) | inr listed ↦ let kind = listed.1 in cc ]),
   λ h. elim h [ inl one ↦ omega (arith, one.0) | inr listed ↦ omega (arith, listed.0) ],
 )
@@ -102,8 +102,8 @@ writes_not_beyond_count : ¬
     (ReadLaws left failed (1 ∷ 2 ∷ [], 0) (2 ∷ [], 0) (7 ∷ 8 ∷ []) (1 ∷ 9 ∷ []) (Ok 1))
 writes_not_beyond_count h = omega (arith, ap (λ (z : List ℕ). get_or z 0 0) h.beyond)
 
-reads_with_no_hidden_fault : ¬ (ReadLaws left failed (1 ∷ [], 0) ([], 1) (7 ∷ []) (1 ∷ []) (Ok 1))
-reads_with_no_hidden_fault h = omega (arith, h.faults)
+reads_with_no_hidden_error : ¬ (ReadLaws left failed (1 ∷ [], 0) ([], 1) (7 ∷ []) (1 ∷ []) (Ok 1))
+reads_with_no_hidden_error h = omega (arith, h.faults)
 
 reads_no_other_bytes : ¬ (ReadLaws left failed (1 ∷ 2 ∷ [], 0) (2 ∷ [], 0) (7 ∷ []) (5 ∷ []) (Ok 1))
 reads_no_other_bytes h = omega (arith, ap (λ (o : Option (List ℕ)). get_or (told o) 0 0) h.consumes)
@@ -116,12 +116,12 @@ fails_and_takes_nothing : ¬ (ReadLaws left failed (1 ∷ [], 0) ([], 1) (7 ∷ 
 fails_and_takes_nothing h = omega (arith, ap (λ (o : Option (List ℕ)). length (told o)) h.err)
 
 -- `read` reports the end of the input by no error, counted or not
-reads_no_end_by_refusal : ¬ (ReadLaws left failed ([], 0) ([], 0) (7 ∷ []) (7 ∷ []) (Err eof))
-reads_no_end_by_refusal h =
+reads_no_end_by_eof : ¬ (ReadLaws left failed ([], 0) ([], 0) (7 ∷ []) (7 ∷ []) (Err eof))
+reads_no_end_by_eof h =
     elim h.faults [ inl counted ↦ omega (arith, counted.0) | inr listed ↦ listed.1 ]
 
-reads_no_end_by_fault : ¬ (ReadLaws left failed ([], 0) ([], 1) (7 ∷ []) (7 ∷ []) (Err eof))
-reads_no_end_by_fault h =
+reads_no_end_by_error : ¬ (ReadLaws left failed ([], 0) ([], 1) (7 ∷ []) (7 ∷ []) (Err eof))
+reads_no_end_by_error h =
     elim h.faults [
       | inl (counted, own) ↦ elim own [ inl is ↦ cc | inr is ↦ cc ]
       | inr listed ↦ listed.1
@@ -132,12 +132,12 @@ reads_no_end_by_fault h =
 abbrev Filling : State → State → List ℕ → List ℕ → Result ℕ Fault → Type 0
 Filling old new buffer filled outcome = ReadExactLaws left failed old new buffer filled outcome
 
-fills_with_no_hidden_fault : ¬ (Filling (1 ∷ [], 0) ([], 1) (7 ∷ []) (1 ∷ []) (Ok 0))
-fills_with_no_hidden_fault h = omega (arith, h.faults)
+fills_with_no_hidden_error : ¬ (Filling (1 ∷ [], 0) ([], 1) (7 ∷ []) (1 ∷ []) (Ok 0))
+fills_with_no_hidden_error h = omega (arith, h.faults)
 
 -- the end of the input is no error of the reader itself
-ends_by_no_counted_fault : ¬ (Filling ([], 0) ([], 1) (7 ∷ []) (7 ∷ []) (Err eof))
-ends_by_no_counted_fault h = elim h.faults [ inl (counted, own) ↦ elim own [ inl is ↦ cc | inr is ↦ cc ] | inr (same, is) ↦ omega (arith, same) ]
+ends_by_no_counted_error : ¬ (Filling ([], 0) ([], 1) (7 ∷ []) (7 ∷ []) (Err eof))
+ends_by_no_counted_error h = elim h.faults [ inl (counted, own) ↦ elim own [ inl is ↦ cc | inr is ↦ cc ] | inr (same, is) ↦ omega (arith, same) ]
 
 fills_with_no_other_bytes : ¬ (Filling (1 ∷ 2 ∷ [], 0) (2 ∷ [], 0) (7 ∷ []) (5 ∷ []) (Ok 0))
 fills_with_no_other_bytes h = omega (arith, ap (λ (o : Option (List ℕ)). get_or (told o) 0 0) h.consumes)

@@ -54,53 +54,53 @@ no_other_text = ((λ h. omega (arith, ap length h)), (λ h. omega (arith, ap len
 
 -- the size in an error
 abbrev pub size_in : Refusal → ℕ
-size_in (of_io fault) = 0
+size_in (of_io error) = 0
 size_in (of_size size) = size
 size_in (of_code code) = 0
-size_in (of_varint fault) = 0
+size_in (of_varint error) = 0
 size_in of_not_bytes = 0
 
 -- the code in an error
 abbrev pub code_in : Refusal → ℕ
-code_in (of_io fault) = 0
+code_in (of_io error) = 0
 code_in (of_size size) = 0
 code_in (of_code code) = code
-code_in (of_varint fault) = 0
+code_in (of_varint error) = 0
 code_in of_not_bytes = 0
 
 -- ---- passed on
 
 no_other_passed_on : ¬ (IsIo IsOther (of_io memory)) × ((n : ℕ) → ¬ (IsIo IsOther (of_size n))) × ((n : ℕ) → ¬ (IsIo IsOther (of_code n)))
-no_other_passed_on = ((λ (fault, e, kind). cc), (λ n (fault, e, kind). cc), λ n (fault, e, kind). cc)
+no_other_passed_on = ((λ (error, e, kind). cc), (λ n (error, e, kind). cc), λ n (error, e, kind). cc)
 
 no_other_ends : ¬ (IsEof (of_io other)) × ¬ (IsEof (of_io full)) × ¬ (IsEof (of_io memory)) × ¬ (IsEof (of_varint insufficient))
     × ((code : ℕ) → ¬ (IsEof (of_code code)))
-no_other_ends = ((λ (fault, e, kind). cc), (λ (fault, e, kind). cc), (λ (fault, e, kind). cc), (λ (fault, e, kind). cc), λ code (fault, e, kind). cc)
+no_other_ends = ((λ (error, e, kind). cc), (λ (error, e, kind). cc), (λ (error, e, kind). cc), (λ (error, e, kind). cc), λ code (error, e, kind). cc)
 
 no_other_wants_memory : ¬ (IsOutOfMemory (of_io eof)) × ¬ (IsOutOfMemory (of_io full)) × ¬ (IsOutOfMemory (of_io other))
-no_other_wants_memory = ((λ (fault, e, kind). cc), (λ (fault, e, kind). cc), λ (fault, e, kind). cc)
+no_other_wants_memory = ((λ (error, e, kind). cc), (λ (error, e, kind). cc), λ (error, e, kind). cc)
 
-end_is_no_reader_fault : ¬ (IsReaderError (of_io eof))
-end_is_no_reader_fault (fault, e, inl kind) = cc
-end_is_no_reader_fault (fault, e, inr kind) = cc
+end_is_no_reader_error : ¬ (IsReaderError (of_io eof))
+end_is_no_reader_error (error, e, inl kind) = cc
+end_is_no_reader_error (error, e, inr kind) = cc
 
-full_is_no_reader_fault : ¬ (IsReaderError (of_io full))
-full_is_no_reader_fault (fault, e, inl kind) = cc
-full_is_no_reader_fault (fault, e, inr kind) = cc
+full_is_no_reader_error : ¬ (IsReaderError (of_io full))
+full_is_no_reader_error (error, e, inl kind) = cc
+full_is_no_reader_error (error, e, inr kind) = cc
 
 -- ---- the library's own
 
 no_other_number : ¬ (IsInvalidSize 6 (of_size 5)) × ¬ (IsInvalidCode 6 (of_code 5))
 no_other_number = ((λ h. omega (arith, ap size_in h)), λ h. omega (arith, ap code_in h))
 
-no_other_fault : ¬ (IsVarintError not_minimal (of_varint overflow)) × ¬ (IsVarintError overflow (of_varint insufficient))
+no_other_error : ¬ (IsVarintError not_minimal (of_varint overflow)) × ¬ (IsVarintError overflow (of_varint insufficient))
     × ¬ (IsVarintError insufficient (of_varint not_minimal)) × ((f : VarintError) → ¬ (IsVarintError f (of_io eof)))
     × ((n : ℕ) → ¬ (IsVarintError overflow (of_code n)))
-no_other_fault = ((λ h. cc), (λ h. cc), (λ h. cc), (λ f h. cc), λ n h. cc)
+no_other_error = ((λ h. cc), (λ h. cc), (λ h. cc), (λ f h. cc), λ n h. cc)
 
-no_other_is_not_bytes : ((f : VarintError) → ¬ (IsNotBytes (of_varint f))) × ((fault : Fault) → ¬ (IsNotBytes (of_io fault)))
+no_other_is_not_bytes : ((f : VarintError) → ¬ (IsNotBytes (of_varint f))) × ((error : Fault) → ¬ (IsNotBytes (of_io error)))
     × ((n : ℕ) → ¬ (IsNotBytes (of_size n))) × ((n : ℕ) → ¬ (IsNotBytes (of_code n)))
-no_other_is_not_bytes = ((λ f h. cc), (λ fault h. cc), (λ n h. cc), λ n h. cc)
+no_other_is_not_bytes = ((λ f h. cc), (λ error h. cc), (λ n h. cc), λ n h. cc)
 
 -- the numbers in texts
 texts : (refusal_text (of_size 256) ≡ codes "Invalid multihash size 256.")
@@ -114,27 +114,27 @@ texts = (refl, refl)
 abbrev stale : Fields 4
 stale = record { code = 7; size = 2; buffer = codes "abcd"; in_range = omega arith; fits = omega arith }
 
-answers_no_longer_pair : ¬ (IsResultOf (Ok stale) (accepted (pair 7 (codes "abcd"))))
-answers_no_longer_pair h =
+returns_no_longer_pair : ¬ (IsResultOf (Ok stale) (accepted (pair 7 (codes "abcd"))))
+returns_no_longer_pair h =
     let same : pair 7 (codes "ab") ≡ pair 7 (codes "abcd") = cc in omega (arith, ap (λ (p : Pair). length p.digest) same)
 
-no_refusal_answers_pair : (e : Refusal) (p : Pair) → ¬ (IsResultOf {S = 4} (Err e) (accepted p))
-no_refusal_answers_pair e p h = h
+no_error_returns_pair : (e : Refusal) (p : Pair) → ¬ (IsResultOf {S = 4} (Err e) (accepted p))
+no_error_returns_pair e p h = h
 
-answers_no_other_number : ¬ (IsResultOf {S = 4} (Err (of_size 6)) (invalid_size 5))
+returns_no_other_number : ¬ (IsResultOf {S = 4} (Err (of_size 6)) (invalid_size 5))
     × ¬ (IsResultOf {S = 4} (Err (of_code too_large)) (invalid_code (too_large + 1)))
-answers_no_other_number = ((λ h. omega (arith, ap size_in h)), λ h. omega (arith, ap code_in h))
+returns_no_other_number = ((λ h. omega (arith, ap size_in h)), λ h. omega (arith, ap code_in h))
 
 -- a size is no code, a malformed varint of one kind is none of another, and an end within a digest is no end
 -- within a varint
-answers_no_other_kind : ((n : ℕ) → ¬ (IsResultOf {S = 4} (Err (of_size n)) (invalid_code n)))
+returns_no_other_kind : ((n : ℕ) → ¬ (IsResultOf {S = 4} (Err (of_size n)) (invalid_code n)))
     × ((n : ℕ) → ¬ (IsResultOf {S = 4} (Err (of_code n)) (invalid_size n))) × ¬ (IsResultOf {S = 4} (Err (of_varint insufficient)) (malformed overflow))
-    × ((fault : Fault) → ¬ (IsResultOf {S = 4} (Err (of_io fault)) (malformed insufficient)))
-answers_no_other_kind = ((λ n h. cc), (λ n h. cc), (λ h. cc), λ fault h. cc)
+    × ((error : Fault) → ¬ (IsResultOf {S = 4} (Err (of_io error)) (malformed insufficient)))
+returns_no_other_kind = ((λ n h. cc), (λ n h. cc), (λ h. cc), λ error h. cc)
 
 -- an error of the reader itself is that of no verdict
-no_own_fault_answers : (text : List ℕ) → ¬ (IsResultOf {S = 4} (Err (of_io (record { kind = Other; text = text }))) unexpected_eof)
-no_own_fault_answers text (fault, e, kind) = cc
+no_own_error_returns : (text : List ℕ) → ¬ (IsResultOf {S = 4} (Err (of_io (record { kind = Other; text = text }))) unexpected_eof)
+no_own_error_returns text (error, e, kind) = cc
 
 -- ---- every value has a code in range and a digest that fits, also one that nothing has read yet
 

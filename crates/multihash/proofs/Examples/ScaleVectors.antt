@@ -83,7 +83,7 @@ no_other_rest h =
 
 -- for capacity 4: no varint and no JSON value is read
 abbrev DecodingRejects : Refusal → Type 0
-DecodingRejects (of_io fault) = IsUnexpectedEof fault
+DecodingRejects (of_io error) = IsUnexpectedEof error
 DecodingRejects (of_size size) = 4 < size
 DecodingRejects (of_code code) = largest < code
 DecodingRejects (of_varint f) = ⊥
@@ -92,7 +92,7 @@ DecodingRejects of_not_bytes = ⊥
 decoding_rejects_only : (e : Refusal) → ScaleMayFailWith 4 e → DecodingRejects e
 decoding_rejects_only e (inl (code, is, large)) = subst DecodingRejects (sym is) (omega (arith, large))
 decoding_rejects_only e (inr (inl (size, is, large))) = subst DecodingRejects (sym is) large
-decoding_rejects_only e (inr (inr (fault, is, kind))) = subst DecodingRejects (sym is) kind
+decoding_rejects_only e (inr (inr (error, is, kind))) = subst DecodingRejects (sym is) kind
 
 -- ---- what was consumed
 

@@ -115,8 +115,8 @@ rejects_no_code : ¬ (StopsAfterPairs 4 1 (of_code 5) 3 3 None None)
 rejects_no_code h = elim h.failed.faults [
   | inl own ↦ omega (arith, own.0)
   | inr (same, inl (size, is, large)) ↦ cc
-  | inr (same, inr (inl (fault, is))) ↦ cc
-  | inr (same, inr (inr (fault, is, end))) ↦ cc
+  | inr (same, inr (inl (error, is))) ↦ cc
+  | inr (same, inr (inr (error, is, end))) ↦ cc
 ]
 
 -- the bytes consumed before the rejected one are encodings of pairs

@@ -19,8 +19,8 @@ counts_not_so = (
 )
 
 -- an error that is not counted is out of memory
-invents_no_fault : ¬ (IsWriterFault true 3 5 other) × ¬ (IsWriterFault true 3 3 other)
-invents_no_fault = (
+invents_no_error : ¬ (IsWriterFault true 3 5 other) × ¬ (IsWriterFault true 3 3 other)
+invents_no_error = (
   (λ h. elim h.cause [ inl one ↦ omega (arith, one) | inr (allocates, e, same) ↦ cc ]),
   λ h. elim h.cause [ inl one ↦ omega (arith, one) | inr (allocates, e, same) ↦ cc ],
 )
@@ -96,12 +96,12 @@ stuck_when_full_alone h = omega (arith, h.stuck refl (omega arith))
 fails_and_appends_nothing : ¬ (Writes ([], 0) (1 ∷ 2 ∷ []) (1 ∷ [], 1) (Err other))
 fails_and_appends_nothing h = omega (arith, ap (λ (z : List ℕ). length z) h.err)
 
-writes_with_no_hidden_fault : ¬ (Writes ([], 0) (1 ∷ []) (1 ∷ [], 1) (Ok 1))
-writes_with_no_hidden_fault h = omega (arith, h.faults)
+writes_with_no_hidden_error : ¬ (Writes ([], 0) (1 ∷ []) (1 ∷ [], 1) (Ok 1))
+writes_with_no_hidden_error h = omega (arith, h.faults)
 
 -- a full writer returns 0
-full_is_no_fault : ¬ (Writes (7 ∷ 8 ∷ 9 ∷ [], 0) (1 ∷ []) (7 ∷ 8 ∷ 9 ∷ [], 0) (Err full))
-full_is_no_fault h = (full_alone 0 0 ⊥ h.faults).1
+full_is_no_error : ¬ (Writes (7 ∷ 8 ∷ 9 ∷ [], 0) (1 ∷ []) (7 ∷ 8 ∷ 9 ∷ [], 0) (Err full))
+full_is_no_error h = (full_alone 0 0 ⊥ h.faults).1
 
 -- this writer, which does not allocate, is not out of memory without a counted failure
 write_wants_no_memory : ¬ (Writes ([], 0) (1 ∷ []) ([], 0) (Err memory))
@@ -131,8 +131,8 @@ fails_before_the_end h = none h.err.part h.err.strict.0 h.err.strict.1 (h.err.ap
     none (p ∷ part) (r ∷ rest) some is e =
         omega (arith, ap (λ (z : List ℕ). length z) e, length-append (p ∷ part) (r ∷ rest))
 
-writes_all_with_no_hidden_fault : ¬ (WritesAll ([], 0) (1 ∷ []) (1 ∷ [], 1) (Ok 0))
-writes_all_with_no_hidden_fault h = omega (arith, h.faults)
+writes_all_with_no_hidden_error : ¬ (WritesAll ([], 0) (1 ∷ []) (1 ∷ [], 1) (Ok 0))
+writes_all_with_no_hidden_error h = omega (arith, h.faults)
 
 write_all_wants_no_memory : ¬ (WritesAll ([], 0) (1 ∷ []) ([], 0) (Err memory))
 write_all_wants_no_memory h =

@@ -19,7 +19,7 @@ use Rattle.multihash.specs.Refusal.{Refusal, of_io, IsReaderError, IsInvalidSize
 use Rattle.multihash.specs.Outcome.{IsErrorOf, IsResultOf}
 use Rattle.multihash.specs.Multihash.{Fields, pair_of}
 use Rattle.multihash.proofs.Readings.ReadingLemmas.{IfSome-consumed, Consumes-concatenated}
-use Rattle.multihash.proofs.Readings.ReadConsumingLemmas.{refusal_unique, own_no_refusal}
+use Rattle.multihash.proofs.Readings.ReadConsumingLemmas.{error_unique, own_no_verdict}
 
 byte_at-is : (i n : ℕ) → byte_at i n ≡ n / 256 ^ i % 256
 byte_at-is zero n = ap (λ (m : ℕ). m % 256) (sym (ap (λ (p : ℕ). n / p) (pow-zero 256) ∙ div-one n))
@@ -113,7 +113,7 @@ scale_found_is k S x (invalid_code code) eight (bytes, rest, is_code, above, cut
     found_after k S code x bytes rest eight is_code cut ∙ rw (le-ltb code varint_limit above) refl
 scale_found_is k S x (invalid_size size) eight (rest, h, over) =
     found_after k S h.code x h.code_bytes (size ∷ rest) eight h.is_code h.cut ∙ rw (lt-ltb h.code varint_limit h.in_range, lt-ltb S size over) refl
-scale_found_is k S x (malformed fault) eight h = absurd h
+scale_found_is k S x (malformed error) eight h = absurd h
 scale_found_is k S x unexpected_eof eight (inl short) = rw (lt-ltb (length x) k (omega (arith, short, eight))) refl
 scale_found_is k S x unexpected_eof eight (inr (inl (code, is_code, below))) =
     found_after k S code x x [] eight is_code (sym (append-nil x)) ∙ rw (lt-ltb code varint_limit below) refl
@@ -218,11 +218,11 @@ module _ (S : ℕ) (old new : Option (List ℕ)) (before after : ℕ) where
         err = record {
           consumed = consumed;
           consumes = consumes;
-          code = λ k named. let is = refusal_unique e v (invalid_code k) given named in (subst (HasScaleVerdict S consumed) is own, eight k is);
-          size = λ k named. let is = refusal_unique e v (invalid_size k) given named in (subst (HasScaleVerdict S consumed) is own, nine k is);
+          code = λ k named. let is = error_unique e v (invalid_code k) given named in (subst (HasScaleVerdict S consumed) is own, eight k is);
+          size = λ k named. let is = error_unique e v (invalid_size k) given named in (subst (HasScaleVerdict S consumed) is own, nine k is);
           early = λ io. absurd (elim io [
-            | inl eof ↦ late (rw (refusal_unique e v unexpected_eof given eof) tt)
-            | inr fault ↦ own_no_refusal e v fault given
+            | inl eof ↦ late (rw (error_unique e v unexpected_eof given eof) tt)
+            | inr error ↦ own_no_verdict e v error given
           ]);
         };
       }
@@ -245,9 +245,9 @@ module _ (S : ℕ) (old new : Option (List ℕ)) (before after : ℕ) where
           (inr (inl (size, given, over))) (λ k named. cc) (λ k named. omega (arith, is.eight, length-append a (size ∷ [])))
 
       -- the whole form
-      pub scale_answered : (digest : List ℕ) (m : Fields S) → size ≤ S → size < 256 → length digest ≡ size → after ≡ before
+      pub scale_returned : (digest : List ℕ) (m : Fields S) → size ≤ S → size < 256 → length digest ≡ size → after ≡ before
           → pair_of m ≡ record { code = code; digest = digest } → Consumes old (a ++ size ∷ digest) new → ScaleMeets S old new before after (Ok m)
-      scale_answered digest m fits byte long same made consumes =
+      scale_returned digest m fits byte long same made consumes =
           let p : Pair = record { code = code; digest = digest } in
           let form : IsScale p (a ++ size ∷ digest) = scale_of p size a digest is below (sym long) byte refl in record {
             faults = same;
@@ -259,18 +259,18 @@ module _ (S : ℕ) (old new : Option (List ℕ)) (before after : ℕ) where
 
   -- the input ended or the reader failed within n bytes that follow others
   pub inside_rejected : (a : List ℕ) (n : ℕ) → ((t : List ℕ) → length t < n → HasScaleVerdict S (a ++ t) unexpected_eof)
-      → (fault : Fault) (front : List ℕ) (mid : Option (List ℕ)) → length front < n → Consumes old a mid → Consumes mid front new
-      → (IsUnexpectedEof fault → HasFewerThan n mid) → ((after ≡ before + 1) × IsOwnFault fault) ⊎ ((after ≡ before) × IsUnexpectedEof fault)
-      → ScaleMeets S old new before after (Err (of_io fault))
-  inside_rejected a n inside fault front mid short first took few how =
+      → (error : Fault) (front : List ℕ) (mid : Option (List ℕ)) → length front < n → Consumes old a mid → Consumes mid front new
+      → (IsUnexpectedEof error → HasFewerThan n mid) → ((after ≡ before + 1) × IsOwnFault error) ⊎ ((after ≡ before) × IsUnexpectedEof error)
+      → ScaleMeets S old new before after (Err (of_io error))
+  inside_rejected a n inside error front mid short first took few how =
       let consumes = Consumes-concatenated old mid new a front _ refl first took in record {
-        faults = elim how [ inl (rose, own) ↦ inl (rose, (fault, refl, own)) | inr (same, eof) ↦ inr (same, inr (inr (fault, refl, eof))) ];
+        faults = elim how [ inl (rose, own) ↦ inl (rose, (error, refl, own)) | inr (same, eof) ↦ inr (same, inr (inr (error, refl, eof))) ];
         verdict = IfSome-consumed old new (a ++ front) _ consumes (λ left told same.
             elim how [
               | inl (rose, own) ↦ absurd (omega (arith, rose, same))
               | inr (_, eof) ↦
                   let fewer = subst (HasFewerThan n) (took ∙ ap (prepend_known front) told) (few eof) in
-                  (unexpected_eof, rw (append_assoc a front left) (inside (front ++ left) fewer), (fault, refl, eof))
+                  (unexpected_eof, rw (append_assoc a front left) (inside (front ++ left) fewer), (error, refl, eof))
             ]);
         ok = tt;
         err = record {

@@ -21,39 +21,39 @@ use Rattle.multihash.proofs.Readings.SettlingLemmas.{verdict_kept, none_settles,
 -- ---- errors and verdicts
 
 -- the verdict of an error
-abbrev refused_verdict : Refusal → Verdict
-refused_verdict (of_io fault) = unexpected_eof
-refused_verdict (of_size size) = invalid_size size
-refused_verdict (of_code code) = invalid_code code
-refused_verdict (of_varint fault) = malformed fault
-refused_verdict of_not_bytes = unexpected_eof
+abbrev error_verdict : Refusal → Verdict
+error_verdict (of_io error) = unexpected_eof
+error_verdict (of_size size) = invalid_size size
+error_verdict (of_code code) = invalid_code code
+error_verdict (of_varint error) = malformed error
+error_verdict of_not_bytes = unexpected_eof
 
-verdict_of_refusal : (e : Refusal) (v : Verdict) → IsErrorOf e v → v ≡ refused_verdict e
-verdict_of_refusal e (accepted p) given = absurd given
-verdict_of_refusal e (invalid_size size) given = ap refused_verdict (sym given)
-verdict_of_refusal e (invalid_code code) given = ap refused_verdict (sym given)
-verdict_of_refusal e (malformed fault) given = ap refused_verdict (sym given)
-verdict_of_refusal e unexpected_eof given = ap refused_verdict (sym given.1)
+verdict_of_error : (e : Refusal) (v : Verdict) → IsErrorOf e v → v ≡ error_verdict e
+verdict_of_error e (accepted p) given = absurd given
+verdict_of_error e (invalid_size size) given = ap error_verdict (sym given)
+verdict_of_error e (invalid_code code) given = ap error_verdict (sym given)
+verdict_of_error e (malformed error) given = ap error_verdict (sym given)
+verdict_of_error e unexpected_eof given = ap error_verdict (sym given.1)
 
 -- so an error is that of one verdict only
-pub refusal_unique : (e : Refusal) (v w : Verdict) → IsErrorOf e v → IsErrorOf e w → v ≡ w
-refusal_unique e v w h k = verdict_of_refusal e v h ∙ sym (verdict_of_refusal e w k)
+pub error_unique : (e : Refusal) (v w : Verdict) → IsErrorOf e v → IsErrorOf e w → v ≡ w
+error_unique e v w h k = verdict_of_error e v h ∙ sym (verdict_of_error e w k)
 
 own_not_eof : (e : Refusal) → IsReaderError e → IsEof e → ⊥
-own_not_eof e (fault, given, kind) h =
-    let same : fault ≡ h.0 = cc (given, h.1) in
+own_not_eof e (error, given, kind) h =
+    let same : error ≡ h.0 = cc (given, h.1) in
     let kinds = ap (λ (f : Fault). f.kind) same in
     elim kind [ inl other ↦ cc (kinds, other, h.2) | inr memory ↦ cc (kinds, memory, h.2) ]
 
 -- no verdict has an error of the reader's own
-pub own_no_refusal : (e : Refusal) (v : Verdict) → IsReaderError e → IsErrorOf e v → ⊥
-own_no_refusal e v own given =
-    own_not_eof e own (subst (IsErrorOf e) (verdict_of_refusal e v given ∙ ap refused_verdict own.1) given)
+pub own_no_verdict : (e : Refusal) (v : Verdict) → IsReaderError e → IsErrorOf e v → ⊥
+own_no_verdict e v own given =
+    own_not_eof e own (subst (IsErrorOf e) (verdict_of_error e v given ∙ ap error_verdict own.1) given)
 
 -- nor is it one that `read` lists
 pub own_not_listed : (S : ℕ) (e : Refusal) → IsReaderError e → ReadMayFailWith S e → ⊥
-own_not_listed S e own (inl (size, given, _)) = own_no_refusal e (invalid_size size) own given
-own_not_listed S e own (inr (inl (fault, given))) = own_no_refusal e (malformed fault) own given
+own_not_listed S e own (inl (size, given, _)) = own_no_verdict e (invalid_size size) own given
+own_not_listed S e own (inr (inl (error, given))) = own_no_verdict e (malformed error) own given
 own_not_listed S e own (inr (inr eof)) = own_not_eof e own eof
 
 -- the error of an incomplete verdict
@@ -71,7 +71,7 @@ listed : (S : ℕ) (e : Refusal) (consumed : List ℕ) (v : Verdict) → IsError
 listed S e consumed (accepted p) given has = absurd given
 listed S e consumed (invalid_size size) given has = inl (size, given, has.2)
 listed S e consumed (invalid_code code) given has = absurd has
-listed S e consumed (malformed fault) given has = inr (inl (fault, given))
+listed S e consumed (malformed error) given has = inr (inl (error, given))
 listed S e consumed unexpected_eof given has = inr (inr given)
 
 -- ---- for each verdict
@@ -84,7 +84,7 @@ module _ (S : ℕ) (consumed : List ℕ) (old new : Option (List ℕ)) (before a
     kept left = verdict_kept S consumed left v late has
 
     told : (r : Result (Fields S) Refusal) → IsResultOf r v → IfSome old (λ rest. after ≡ before → (w : Verdict) × HasVerdict S rest w × IsResultOf r w)
-    told r answers = IfSome-consumed old new consumed _ consumes (λ left is _. (v, kept left, answers))
+    told r results = IfSome-consumed old new consumed _ consumes (λ left is _. (v, kept left, results))
 
     shortest : IfSome old (λ rest. after ≡ before → (w : Verdict) → HasVerdict S rest w → ¬ (IsIncomplete w) → ConsumesShortestSettling S rest new)
     shortest = IfSome-consumed old new consumed _ consumes (λ left is _ w holds stays. record {
@@ -109,9 +109,9 @@ module _ (S : ℕ) (consumed : List ℕ) (old new : Option (List ℕ)) (before a
       err = record {
         consumed = consumed;
         consumes = consumes;
-        insufficient = λ h. absurd (late (rw (refusal_unique e v (malformed insufficient) given h) tt));
-        eof = λ h. absurd (late (rw (refusal_unique e v unexpected_eof given h) tt));
-        failed = λ h. absurd (own_no_refusal e v h given);
+        insufficient = λ h. absurd (late (rw (error_unique e v (malformed insufficient) given h) tt));
+        eof = λ h. absurd (late (rw (error_unique e v unexpected_eof given h) tt));
+        failed = λ h. absurd (own_no_verdict e v h given);
       };
       settled = shortest;
       unsettled = never;
@@ -145,8 +145,8 @@ module _ (S : ℕ) (consumed : List ℕ) (old new : Option (List ℕ)) (before a
         consumed = consumed;
         consumes = consumes;
         insufficient = λ h.
-            let same = refusal_unique e v (malformed insufficient) given h in (subst (HasVerdict S consumed) same has, all same);
-        eof = λ h. subst (HasVerdict S consumed) (refusal_unique e v unexpected_eof given h) has;
+            let same = error_unique e v (malformed insufficient) given h in (subst (HasVerdict S consumed) same has, all same);
+        eof = λ h. subst (HasVerdict S consumed) (error_unique e v unexpected_eof given h) has;
         failed = λ _. (v, soon, has);
       };
       settled = IfSome-consumed old new consumed _ consumes (λ left is _ w holds later.
@@ -164,7 +164,7 @@ module _ (S : ℕ) (consumed : List ℕ) (old new : Option (List ℕ)) (before a
       err = record {
         consumed = consumed;
         consumes = consumes;
-        insufficient = λ h. absurd (own_no_refusal e (malformed insufficient) own h);
+        insufficient = λ h. absurd (own_no_verdict e (malformed insufficient) own h);
         eof = λ h. absurd (own_not_eof e own h);
         failed = λ _. (v, soon, has);
       };
@@ -172,9 +172,9 @@ module _ (S : ℕ) (consumed : List ℕ) (old new : Option (List ℕ)) (before a
       unsettled = none;
     }
 
-pub read_answered : (S : ℕ) (consumed : List ℕ) (old new : Option (List ℕ)) (before after : ℕ) (m : Fields S) → after ≡ before
+pub read_returned : (S : ℕ) (consumed : List ℕ) (old new : Option (List ℕ)) (before after : ℕ) (m : Fields S) → after ≡ before
     → IsEncoding (pair_of m) consumed → Consumes old consumed new → ReadMeets S old new before after (Ok m)
-read_answered S consumed old new before after m unrisen encodes consumes =
+read_returned S consumed old new before after m unrisen encodes consumes =
     let fits = digest_fits m in
     at_pair S consumed old new before after consumes (accepted (pair_of m))
     ([], record { encoding = consumed; encodes = encodes; cut = sym (append-nil consumed) }, fits) unrisen (λ e. e)
@@ -193,18 +193,18 @@ module _ (S : ℕ) (e : Refusal) (old mid new : Option (List ℕ)) (before after
   module _ (a : List ℕ) (consumes : Consumes old (a ++ t.consumed) new)
       (shows : (f : VarintError) → BeginsMalformed f t.consumed → HasVerdict S (a ++ t.consumed) (malformed f))
       (no_sooner : (p : List ℕ) → IsStrictPrefix p (a ++ t.consumed) → EndsEarly S p) where
-    refused : (f : VarintError) → after ≡ before → IsVarintError f e → HasVerdict S (a ++ t.consumed) (malformed f) → ReadMeets S old new before after (Err e)
-    refused insufficient same given has =
+    rejected : (f : VarintError) → after ≡ before → IsVarintError f e → HasVerdict S (a ++ t.consumed) (malformed f) → ReadMeets S old new before after (Err e)
+    rejected insufficient same given has =
         at_incomplete S _ _ _ _ _ consumes (malformed insufficient) has tt e same given (λ _. t.all given)
         (whole_at_end (λ x. HasVerdict S x (malformed insufficient)) (a ++ t.consumed) new (t.all given) has)
-    refused overflow same given has = at_settled S _ _ _ _ _ consumes (malformed overflow) has same (λ h. h) no_sooner e given
-    refused not_minimal same given has = at_settled S _ _ _ _ _ consumes (malformed not_minimal) has same (λ h. h) no_sooner e given
+    rejected overflow same given has = at_settled S _ _ _ _ _ consumes (malformed overflow) has same (λ h. h) no_sooner e given
+    rejected not_minimal same given has = at_settled S _ _ _ _ _ consumes (malformed not_minimal) has same (λ h. h) no_sooner e given
 
     stops_in_varint : ReadMeets S old new before after (Err e)
     stops_in_varint =
         elim how [
           | inl (rose, own) ↦ at_failure S _ _ _ _ _ consumes (malformed insufficient) (shows insufficient (t.failed own)) tt e rose own
-          | inr (same, (f, given)) ↦ refused f same given (shows f (t.shows f given))
+          | inr (same, (f, given)) ↦ rejected f same given (shows f (t.shows f given))
         ]
 
   pub stops_in_code : Consumes old t.consumed new → ReadMeets S old new before after (Err e)
@@ -232,16 +232,16 @@ module _ (S code size : ℕ) (a b : List ℕ) (is_code : IsVarint code a) (is_si
     cut_digest : (rest : List ℕ) → length rest < size → HasVerdict S (a ++ (b ++ rest)) unexpected_eof
     cut_digest rest short = (size, rest, has_size rest, within, short)
 
-    pub stops_in_digest : (fault : Fault) (front : List ℕ) (mid : Option (List ℕ)) → length front < size → Consumes mid front new
-        → (IsUnexpectedEof fault → HasFewerThan size mid)
-        → ((after ≡ before + 1) × IsOwnFault fault) ⊎ ((after ≡ before) × IsUnexpectedEof fault) → Consumes old (a ++ (b ++ front)) new
-        → ReadMeets S old new before after (Err (of_io fault))
-    stops_in_digest fault front mid short last few how consumes =
+    pub stops_in_digest : (error : Fault) (front : List ℕ) (mid : Option (List ℕ)) → length front < size → Consumes mid front new
+        → (IsUnexpectedEof error → HasFewerThan size mid)
+        → ((after ≡ before + 1) × IsOwnFault error) ⊎ ((after ≡ before) × IsUnexpectedEof error) → Consumes old (a ++ (b ++ front)) new
+        → ReadMeets S old new before after (Err (of_io error))
+    stops_in_digest error front mid short last few how consumes =
         elim how [
           | inl (rose, own) ↦
-              at_failure S _ old new before after consumes unexpected_eof (cut_digest front short) tt (of_io fault) rose (fault, refl, own)
+              at_failure S _ old new before after consumes unexpected_eof (cut_digest front short) tt (of_io error) rose (error, refl, own)
           | inr (same, ended) ↦
-              at_incomplete S _ old new before after consumes unexpected_eof (cut_digest front short) tt (of_io fault) same (fault, refl, ended)
+              at_incomplete S _ old new before after consumes unexpected_eof (cut_digest front short) tt (of_io error) same (error, refl, ended)
               (λ no. cc) (λ left is. rw (append_assoc a (b ++ front) left, append_assoc b front left)
               (cut_digest (front ++ left) (subst (HasFewerThan size) (last ∙ ap (prepend_known front) is) (few ended))))
         ]
@@ -252,7 +252,7 @@ module _ (e : Refusal) (input : List ℕ) where
   head_error : (f : VarintError) (taken : ℕ) → IsVarintError f e → taken ≤ length input → ((S : ℕ) → HasVerdict S input (malformed f))
       → ((S : ℕ) → ReadMeets S (Some input) (Some (drop taken input)) 0 0 (Err e)) → IsHeadError input e taken
   head_error f taken named within has meets = record {
-    fault = f;
+    error = f;
     named = named;
     verdict = has;
     within = within;

@@ -11,7 +11,7 @@ use Rattle.std.specs.List.{All}
 use Rattle.multihash.specs.Pair.{Pair, FitsBuffer, digest_limit}
 use Rattle.multihash.specs.Encoding.{IsEncoding}
 use Rattle.multihash.proofs.Varints.DigitLemmas.{All-continuation_bytes}
-use Rattle.multihash.proofs.Varints.VarintLemmas.{varint_length, number_no_fault}
+use Rattle.multihash.proofs.Varints.VarintLemmas.{varint_length, number_no_error}
 use Rattle.multihash.proofs.Writings.WritingLemmas.{length_of_not_nil}
 
 pub split_prefix : (f g p : List ℕ) → IsStrictPrefix p (f ++ g) → IsStrictPrefix p f ⊎ ((q : List ℕ) × (p ≡ f ++ q) × IsStrictPrefix q g)
@@ -52,32 +52,32 @@ code_kept : (x rest more : List ℕ) → BeginsWithCode x rest → BeginsWithCod
 code_kept x rest more c = coded c.code c.code_bytes (x ++ more) (rest ++ more) c.is_code (append_more x c.code_bytes rest more c.cut)
 
 -- unless its end is missing, a malformed varint stays so whatever follows
-pub fault_kept : (f : VarintError) (x more : List ℕ) → ¬ (IsIncomplete (malformed f)) → BeginsMalformed f x → BeginsMalformed f (x ++ more)
-fault_kept insufficient x more late h = absurd (late tt)
-fault_kept overflow x more late h =
+pub error_kept : (f : VarintError) (x more : List ℕ) → ¬ (IsIncomplete (malformed f)) → BeginsMalformed f x → BeginsMalformed f (x ++ more)
+error_kept insufficient x more late h = absurd (late tt)
+error_kept overflow x more late h =
     let cut = append_more x h.front (h.byte ∷ h.rest) more h.cut in
     record { front = h.front; byte = h.byte; rest = _; all_continuation = h.all_continuation; most = h.most; too_large = h.too_large; cut = cut }
-fault_kept not_minimal x more late h =
+error_kept not_minimal x more late h =
     let cut = append_more x h.front (0 ∷ h.rest) more h.cut in
     record { front = h.front; rest = _; all_continuation = h.all_continuation; some = h.some; few = h.few; cut = cut }
 
 -- so the front of an input that starts with a varint is malformed only if it ends within it
-pub fault_of_part : (n : ℕ) (bytes rest x more : List ℕ) (f : VarintError) → IsVarint n bytes → bytes ++ rest ≡ x ++ more → BeginsMalformed f x
+pub error_of_part : (n : ℕ) (bytes rest x more : List ℕ) (f : VarintError) → IsVarint n bytes → bytes ++ rest ≡ x ++ more → BeginsMalformed f x
     → f ≡ insufficient
-fault_of_part n bytes rest x more insufficient is same h = refl
-fault_of_part n bytes rest x more overflow is same h =
-    absurd (number_no_fault (x ++ more) n rest overflow (bytes, is, sym same) (fault_kept overflow x more (λ e. e) h))
-fault_of_part n bytes rest x more not_minimal is same h =
-    absurd (number_no_fault (x ++ more) n rest not_minimal (bytes, is, sym same) (fault_kept not_minimal x more (λ e. e) h))
+error_of_part n bytes rest x more insufficient is same h = refl
+error_of_part n bytes rest x more overflow is same h =
+    absurd (number_no_error (x ++ more) n rest overflow (bytes, is, sym same) (error_kept overflow x more (λ e. e) h))
+error_of_part n bytes rest x more not_minimal is same h =
+    absurd (number_no_error (x ++ more) n rest not_minimal (bytes, is, sym same) (error_kept not_minimal x more (λ e. e) h))
 
 pub verdict_kept : (S : ℕ) (x more : List ℕ) (v : Verdict) → ¬ (IsIncomplete v) → HasVerdict S x v → HasVerdict S (x ++ more) v
 verdict_kept S x more (accepted p) late (rest, b, fits) =
     (rest ++ more, record { encoding = b.encoding; encodes = b.encodes; cut = append_more x b.encoding rest more b.cut }, fits)
 verdict_kept S x more (invalid_size size) late (rest, h, over) = (rest ++ more, size_kept size x rest more h, over)
 verdict_kept S x more (invalid_code code) late h = h
-verdict_kept S x more (malformed f) late (inl h) = inl (fault_kept f x more late h)
+verdict_kept S x more (malformed f) late (inl h) = inl (error_kept f x more late h)
 verdict_kept S x more (malformed f) late (inr (rest, c, h)) =
-    inr (rest ++ more, code_kept x rest more c, fault_kept f rest more late h)
+    inr (rest ++ more, code_kept x rest more c, error_kept f rest more late h)
 verdict_kept S x more unexpected_eof late h = absurd (late tt)
 
 -- ---- what settles
@@ -212,23 +212,23 @@ shortest_from S x t rest v cut h late before = record {
 }
 
 -- the shortest prefix that shows that the varint is malformed
-pub record ShowsFault (f : VarintError) (x : List ℕ) : Type 0 where
+pub record ShowsError (f : VarintError) (x : List ℕ) : Type 0 where
   pub shown : List ℕ
   pub rest : List ℕ
   pub cut : x ≡ shown ++ rest
   pub step : IsContinuationThenByte shown
   pub has : BeginsMalformed f shown
 
-pub shows_fault : (f : VarintError) (x : List ℕ) → ¬ (IsIncomplete (malformed f)) → BeginsMalformed f x → ShowsFault f x
-shows_fault insufficient x late h = absurd (late tt)
-shows_fault overflow x late h = record {
+pub shows_error : (f : VarintError) (x : List ℕ) → ¬ (IsIncomplete (malformed f)) → BeginsMalformed f x → ShowsError f x
+shows_error insufficient x late h = absurd (late tt)
+shows_error overflow x late h = record {
   shown = h.front ++ h.byte ∷ [];
   rest = h.rest;
   cut = h.cut ∙ sym (append_assoc h.front (h.byte ∷ []) h.rest);
   step = record { front = h.front; last = h.byte; all_continuation = h.all_continuation; few = omega (arith, h.most); cut = refl };
   has = record { front = h.front; byte = h.byte; rest = []; all_continuation = h.all_continuation; most = h.most; too_large = h.too_large; cut = refl };
 }
-shows_fault not_minimal x late h = record {
+shows_error not_minimal x late h = record {
   shown = h.front ++ 0 ∷ [];
   rest = h.rest;
   cut = h.cut ∙ sym (append_assoc h.front (0 ∷ []) h.rest);
@@ -254,15 +254,15 @@ shortest_size S size x rest h over =
     (λ y before. before_both S h.code size h.code_bytes h.size_bytes y h.is_code h.is_size before)
 
 -- for a malformed code it is the prefix that shows it
-pub shortest_code_fault : (S : ℕ) (f : VarintError) (x : List ℕ) → ¬ (IsIncomplete (malformed f)) → (s : ShowsFault f x) → IsShortestSettling S x s.shown
-shortest_code_fault S f x late s =
+pub shortest_code_error : (S : ℕ) (f : VarintError) (x : List ℕ) → ¬ (IsIncomplete (malformed f)) → (s : ShowsError f x) → IsShortestSettling S x s.shown
+shortest_code_error S f x late s =
     shortest_from S x s.shown s.rest (malformed f) s.cut (inl s.has) late
     (λ y before. (malformed insufficient, inl (before_step s.shown y s.step before), tt))
 
 -- for a malformed size it is the code and the prefix that shows it
-pub shortest_size_fault : (S : ℕ) (f : VarintError) (x rest : List ℕ) → ¬ (IsIncomplete (malformed f)) → (c : BeginsWithCode x rest) (s : ShowsFault f rest)
+pub shortest_size_error : (S : ℕ) (f : VarintError) (x rest : List ℕ) → ¬ (IsIncomplete (malformed f)) → (c : BeginsWithCode x rest) (s : ShowsError f rest)
     → IsShortestSettling S x (c.code_bytes ++ s.shown)
-shortest_size_fault S f x rest late c s =
+shortest_size_error S f x rest late c s =
     shortest_from S x (c.code_bytes ++ s.shown) s.rest (malformed f)
     (c.cut ∙ (ap (λ (z : List ℕ). c.code_bytes ++ z) s.cut ∙ sym (append_assoc c.code_bytes s.shown s.rest)))
     (inr (s.shown, coded c.code c.code_bytes _ s.shown c.is_code refl, s.has)) late
@@ -273,9 +273,9 @@ shortest_exists S x (accepted p) (rest, b, fits) late = (b.encoding, shortest_pa
 shortest_exists S x (invalid_size size) (rest, h, over) late = (h.code_bytes ++ h.size_bytes, shortest_size S size x rest h over)
 shortest_exists S x (invalid_code code) h late = absurd h
 shortest_exists S x (malformed f) (inl h) late =
-    let s = shows_fault f x late h in (s.shown, shortest_code_fault S f x late s)
+    let s = shows_error f x late h in (s.shown, shortest_code_error S f x late s)
 shortest_exists S x (malformed f) (inr (rest, c, h)) late =
-    let s = shows_fault f rest late h in (c.code_bytes ++ s.shown, shortest_size_fault S f x rest late c s)
+    let s = shows_error f rest late h in (c.code_bytes ++ s.shown, shortest_size_error S f x rest late c s)
 shortest_exists S x unexpected_eof h late = absurd (late tt)
 
 pub shortest_unique : (S : ℕ) (x a b : List ℕ) → IsShortestSettling S x a → IsShortestSettling S x b → a ≡ b

@@ -10,7 +10,7 @@ use Rattle.multihash.specs.Encoding.{IsEncoding}
 use Rattle.multihash.specs.Verdict.{Verdict, accepted, invalid_size, invalid_code, malformed, unexpected_eof, BeginsWith, BeginsWithSize, BeginsWithCode, HasVerdict, HasWholeVerdict, HasHead}
 use Rattle.multihash.proofs.Varints.DigitLemmas.{All-append_right}
 use Rattle.multihash.proofs.Varints.VarintWriteLemmas.{one_byte}
-use Rattle.multihash.proofs.Varints.VarintLemmas.{Front, number, fault, HasFront, front_is, front_of, front_of_has}
+use Rattle.multihash.proofs.Varints.VarintLemmas.{Front, number, error, HasFront, front_is, front_of, front_of_has}
 use Rattle.multihash.proofs.Writings.EncodingLemmas.{encoding_cut}
 use Rattle.multihash.specs.Refusal.{Refusal}
 use Rattle.multihash.specs.Consuming.{ConsumesVarint}
@@ -33,11 +33,11 @@ abbrev pub judged : (Pair → List ℕ → Verdict) → ℕ → ℕ → Front �
 judged ends S code (number size rest) =
     cond (ltb (digest_limit S) size) (invalid_size size)
     (cond (ltb (length rest) size) unexpected_eof (ends (record { code = code; digest = take size rest }) (drop size rest)))
-judged ends S code (fault f) = malformed f
+judged ends S code (error f) = malformed f
 
 abbrev follows : (Pair → List ℕ → Verdict) → ℕ → Front → Verdict
 follows ends S (number code rest) = judged ends S code (front_of rest)
-follows ends S (fault f) = malformed f
+follows ends S (error f) = malformed f
 
 abbrev pub found_by : (Pair → List ℕ → Verdict) → ℕ → List ℕ → Verdict
 found_by ends S x = follows ends S (front_of x)
@@ -71,8 +71,8 @@ module _ (ends : Pair → List ℕ → Verdict) (S : ℕ) (x : List ℕ) where
   found_is (accepted p) (rest, b, fits) own = own p rest refl ∙ judged_pair p rest b fits
   found_is (invalid_size size) (rest, h, over) own = rw (lt-ltb (digest_limit S) size over) refl ∙ judged_size size rest h
   found_is (invalid_code code) h own = absurd h
-  found_is (malformed f) (inl h) own = ap (follows ends S) (front_is x (fault f) h)
-  found_is (malformed f) (inr (rest, c, h)) own = judged_at rest c (fault f) h
+  found_is (malformed f) (inl h) own = ap (follows ends S) (front_is x (error f) h)
+  found_is (malformed f) (inr (rest, c, h)) own = judged_at rest c (error f) h
   found_is unexpected_eof (size, rest, h, within, short) own =
       rw (le-ltb (digest_limit S) size within, lt-ltb (length rest) size short) refl ∙ judged_size size rest h
 
@@ -112,13 +112,13 @@ has_judged S size x rest h =
 verdict_after_code : (S : ℕ) (x r : List ℕ) → BeginsWithCode x r → (g : Front) → HasFront r g → (v : Verdict) × HasVerdict S x v
 verdict_after_code S x r c (number size rest) (b, is_size, e) =
     has_judged S size x rest (sized c.code size c.code_bytes b x rest c.is_code is_size (c.cut ∙ ap (λ (z : List ℕ). c.code_bytes ++ z) e))
-verdict_after_code S x r c (fault f) h = (malformed f, inr (r, c, h))
+verdict_after_code S x r c (error f) h = (malformed f, inr (r, c, h))
 
 from_front : (S : ℕ) (x : List ℕ) → IsBytes x → (f : Front) → HasFront x f → (v : Verdict) × HasVerdict S x v
 from_front S x bytes (number code r) (a, is_code, e) =
     verdict_after_code S x r (coded code a x r is_code e) (front_of r)
     (front_of_has r (All-append_right (λ byte. byte < 256) a r (All-same (λ byte. byte < 256) (a ++ r) x (sym e) bytes)))
-from_front S x bytes (fault f) h = (malformed f, inl h)
+from_front S x bytes (error f) h = (malformed f, inl h)
 
 -- the computed verdict holds
 pub has_found : (S : ℕ) (x : List ℕ) → IsBytes x → HasVerdict S x (found S x)

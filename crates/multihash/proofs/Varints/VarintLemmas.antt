@@ -91,24 +91,24 @@ zero_after ms rest all some few = record { front = ms; rest = rest; all_continua
 -- the front of an input: a varint's number and what follows, or why the varint is malformed
 pub data Front : Type 0 where
   number : ℕ → List ℕ → Front
-  fault : VarintError → Front
+  error : VarintError → Front
 
 abbrev pub HasFront : List ℕ → Front → Type 0
 HasFront x (number n rest) = (bytes : List ℕ) × IsVarint n bytes × (x ≡ bytes ++ rest)
-HasFront x (fault f) = BeginsMalformed f x
+HasFront x (error f) = BeginsMalformed f x
 
 -- ---- computed
 
 -- after these continuation bytes, the last byte and what follows it
 abbrev ends_with : List ℕ → ℕ → List ℕ → Front
 ends_with [] b rest = number (place_value 128 (low_digits (b ∷ []))) rest
-ends_with (m ∷ ms) zero rest = fault not_minimal
+ends_with (m ∷ ms) zero rest = error not_minimal
 ends_with (m ∷ ms) (suc b) rest = number (place_value 128 (low_digits ((m ∷ ms) ++ suc b ∷ []))) rest
 
 -- after these continuation bytes, if that many more may come
 abbrev front_from : ℕ → List ℕ → List ℕ → Front
-front_from left ms [] = fault insufficient
-front_from zero ms (b ∷ rest) = cond (ltb b last_byte_limit) (ends_with ms b rest) (fault overflow)
+front_from left ms [] = error insufficient
+front_from zero ms (b ∷ rest) = cond (ltb b last_byte_limit) (ends_with ms b rest) (error overflow)
 front_from (suc left) ms (b ∷ rest) = cond (ltb b 128) (ends_with ms b rest) (front_from left (ms ++ b ∷ []) rest)
 
 abbrev pub front_of : List ℕ → Front
@@ -140,7 +140,7 @@ ends_number [] b rest minimal = refl
 ends_number (m ∷ ms) zero rest minimal = let none = minimal refl in cc
 ends_number (m ∷ ms) (suc b) rest minimal = refl
 
-ends_zero : (ms rest : List ℕ) → 0 < length ms → ends_with ms 0 rest ≡ fault not_minimal
+ends_zero : (ms rest : List ℕ) → 0 < length ms → ends_with ms 0 rest ≡ error not_minimal
 ends_zero [] rest some = absurd (omega arith)
 ends_zero (m ∷ ms) rest some = refl
 
@@ -157,19 +157,19 @@ front_is x (number n rest) (bytes, v, cut) =
     rw (map_push (λ b. b % 128) ms v.last, low_digits-continuation_bytes v.front front, mod-eq_of_lt last) v.value in
     sym (front_ends ms v.last rest x (All-continuation_bytes v.front) (omega (arith, few.0, long)) last (λ most. few.1 (sym long ∙ most)) whole
     ∙ ends_number ms v.last rest (λ z. ap continuation_bytes (v.minimal z)) ∙ ap (λ m. number m rest) value)
-front_is x (fault insufficient) h =
+front_is x (error insufficient) h =
     sym (ap front_of (sym (append-nil x)) ∙ front_run x max_continuation (max_continuation - length x) [] [] h.all_continuation (omega (arith, h.few)))
-front_is x (fault overflow) h =
+front_is x (error overflow) h =
     sym (ap front_of h.cut ∙ front_run h.front max_continuation 0 [] (h.byte ∷ h.rest) h.all_continuation (omega (arith, h.most))
     ∙ rw (le-ltb h.byte last_byte_limit h.too_large) refl)
-front_is x (fault not_minimal) h =
+front_is x (error not_minimal) h =
     sym (front_ends h.front 0 h.rest x h.all_continuation h.few (omega arith) (λ _. omega arith) h.cut ∙ ends_zero h.front h.rest h.some)
 
 pub front_unique : (x : List ℕ) (a b : Front) → HasFront x a → HasFront x b → a ≡ b
 front_unique x a b h k = front_is x a h ∙ sym (front_is x b k)
 
-pub number_no_fault : (x : List ℕ) (n : ℕ) (r : List ℕ) (f : VarintError) → HasFront x (number n r) → BeginsMalformed f x → ⊥
-number_no_fault x n r f h k = let same : number n r ≡ fault f = front_unique x (number n r) (fault f) h k in cc
+pub number_no_error : (x : List ℕ) (n : ℕ) (r : List ℕ) (f : VarintError) → HasFront x (number n r) → BeginsMalformed f x → ⊥
+number_no_error x n r f h k = let same : number n r ≡ error f = front_unique x (number n r) (error f) h k in cc
 
 -- an input of bytes has the front that is computed
 ends_has : (ms : List ℕ) (b : ℕ) (rest : List ℕ) → All IsContinuation ms → b < 128 → length ms ≤ max_continuation

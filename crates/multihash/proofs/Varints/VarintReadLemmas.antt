@@ -73,20 +73,20 @@ module _ (old now : Option (List ℕ)) (sum i : ℕ) (h : ReadsContinuation old 
   whole = record { few = omega (arith, h.few, h.long); all_continuation = h.continuation_bytes }
 
   -- the consumed bytes show that the varint is malformed
-  varint_rejected : (new : Option (List ℕ)) (fault : VarintError) (consumed : List ℕ) (e : Refusal) → e ≡ of_varint fault → BeginsMalformed fault consumed
-      → ((shorter : List ℕ) → IsStrictPrefix shorter consumed → IsInsufficient shorter) → (fault ≡ insufficient → IsAtEnd new)
+  varint_rejected : (new : Option (List ℕ)) (error : VarintError) (consumed : List ℕ) (e : Refusal) → e ≡ of_varint error → BeginsMalformed error consumed
+      → ((shorter : List ℕ) → IsStrictPrefix shorter consumed → IsInsufficient shorter) → (error ≡ insufficient → IsAtEnd new)
       → Consumes old consumed new → ConsumesAtVarintError e old new
-  varint_rejected new fault consumed e given has no_sooner all consumes = record {
+  varint_rejected new error consumed e given has no_sooner all consumes = record {
     consumed = consumed;
     consumes = consumes;
-    shows = λ f malformed. let same : fault ≡ f = cc (given, malformed) in subst (λ k. BeginsMalformed k consumed) same has;
+    shows = λ f malformed. let same : error ≡ f = cc (given, malformed) in subst (λ k. BeginsMalformed k consumed) same has;
     no_sooner = no_sooner;
     all = λ malformed. all (cc (given, malformed));
     failed = λ own. absurd (cc (given, own.1));
   }
 
-  pub reader_failed : (fault : Fault) (e : Refusal) → e ≡ of_io fault → ConsumesAtVarintError e old now
-  reader_failed fault e given = record {
+  pub reader_failed : (error : Fault) (e : Refusal) → e ≡ of_io error → ConsumesAtVarintError e old now
+  reader_failed error e given = record {
     consumed = h.front;
     consumes = h.consumes;
     shows = λ f malformed. absurd (cc (given, malformed));

@@ -78,9 +78,9 @@ module _ {W : Type 0} (appended : W → List ℕ → W → Type 0) (join : (a b 
       OnErr-always r (a ++ (b ++ d), form, AppendsPrefix-concatenated appended join u w v a (b ++ d) first (AppendsPrefix-concatenated appended join w x v b d second part))
 
 -- a writer that doesn't allocate and counted no failure returned an error because it was full
-pub full_of_faults : (n : ℕ) (is_full : Type 0) (e : Fault) → IsWriterFaultOrFull false n n is_full e → is_full
-full_of_faults n is_full e (inl fault) = elim fault.cause [ inl rose ↦ absurd (omega arith) | inr memory ↦ absurd (false≢true memory.0) ]
-full_of_faults n is_full e (inr full) = full.2
+pub full_of_errors : (n : ℕ) (is_full : Type 0) (e : Fault) → IsWriterFaultOrFull false n n is_full e → is_full
+full_of_errors n is_full e (inl error) = elim error.cause [ inl rose ↦ absurd (omega arith) | inr memory ↦ absurd (false≢true memory.0) ]
+full_of_errors n is_full e (inr full) = full.2
 
 -- the slice after filling it, as one list
 pub filled_slice : (old bytes new : List ℕ) (n m : ℕ) → FillsSlice old n bytes new m → new ≡ take n old ++ (bytes ++ drop (n + length bytes) old)
@@ -142,7 +142,7 @@ fewer_left old new bytes h full =
 pub slice_writer_has_room : {T : Type 0} (old new : SliceWriter) (IsForm : List ℕ → Type 0) (r : Result T Refusal)
     → OnErr r ((bytes : List ℕ) × IsForm bytes × AppendsPrefix Fills old bytes new) → CountsWriterFailures IsIo false 0 0 (IsFilled new) r
     → ((bytes : List ℕ) → IsForm bytes → old.filled + length bytes ≤ length old.buffer.now) → IsOk r
-slice_writer_has_room old new IsForm (Ok x) stopped faults enough = refl
-slice_writer_has_room old new IsForm (Err e) stopped faults enough =
+slice_writer_has_room old new IsForm (Ok x) stopped errors enough = refl
+slice_writer_has_room old new IsForm (Err e) stopped errors enough =
     let (bytes, is_form, part) = stopped in
-    absurd (omega (arith, fewer_left old new bytes part (full_of_faults 0 (IsFilled new) faults.0 faults.2), enough bytes is_form))
+    absurd (omega (arith, fewer_left old new bytes part (full_of_errors 0 (IsFilled new) errors.0 errors.2), enough bytes is_form))

@@ -39,14 +39,14 @@ pub returns-in_err-multihash-clause-rejected : goal.returns-in_err-multihash-cla
 returns-in_err-multihash-clause-rejected c e same =
     let met = c.in_err-multihash.ensures in
     let made = same_error c.from_residual-in_err-multihash.result _ _ same c.from_residual-in_err-multihash.ensures.1 in
-    let refusal : c.in_err-multihash.field-0.0 ≡ e = cc made in (
+    let error : c.in_err-multihash.field-0.0 ≡ e = cc made in (
       _,
       c.as_slice.result.now,
       met.0,
       c.line_of.ensures,
       rw c.as_slice.ensures.value (decoded_names _ _ c.in_ok-bytes.ensures.ok),
       met.1,
-      subst (λ (r : Refusal). IsErrorOf r met.0) refusal met.2,
+      subst (λ (r : Refusal). IsErrorOf r met.0) error met.2,
     )
 
 pub returns-clause-ok : goal.returns-clause-ok

@@ -1,7 +1,7 @@
 use Rattle.std.proofs.Common.{◌∙◌}
 use Rattle.std.proofs.lemmas.List.{take_rest}
 use Rattle.multihash.proofs.Readings.ReadingLemmas.{Consumes-cut}
-use Rattle.multihash.proofs.Varints.VarintLemmas.{same_number, number_no_fault}
+use Rattle.multihash.proofs.Varints.VarintLemmas.{same_number, number_no_error}
 use Rattle.multihash.proofs.varint.read_front.Goals as goal
 
 pub returns-in-Some-clause-found : goal.returns-in-Some-clause-found
@@ -12,13 +12,13 @@ returns-in-Some-clause-found c n varint rest is cut =
 
 pub returns-in-Ok-clause-found : goal.returns-in-Ok-clause-found
 returns-in-Ok-clause-found c n varint rest is cut =
-    let (fault, malformed) = c.in_default.ensures.none in
-    absurd (number_no_fault c.args.bytes.now n rest fault (varint, is, cut) malformed)
+    let (error, malformed) = c.in_default.ensures.none in
+    absurd (number_no_error c.args.bytes.now n rest error (varint, is, cut) malformed)
 
 pub returns-in-Err-clause-found : goal.returns-in-Err-clause-found
 returns-in-Err-clause-found c n varint rest is cut =
-    let (fault, malformed) = c.in_default.ensures.none in
-    absurd (number_no_fault c.args.bytes.now n rest fault (varint, is, cut) malformed)
+    let (error, malformed) = c.in_default.ensures.none in
+    absurd (number_no_error c.args.bytes.now n rest error (varint, is, cut) malformed)
 
 pub returns-in-Err-clause-err : goal.returns-in-Err-clause-err
 returns-in-Err-clause-err c = c.in-Err.ensures.err.0

@@ -2,26 +2,26 @@ use Rattle.std.proofs.Common.{◌≡◌, length, refl, sym, ap, ◌∙◌, subst
 use Rattle.std.proofs.lemmas.List.{take_all}
 use Rattle.multihash.specs.Varint.{insufficient}
 use Rattle.multihash.specs.Verdict.{malformed, invalid_size, unexpected_eof, accepted}
-use Rattle.multihash_c.specs.Decoded.{ReportsRefusal}
-use Rattle.multihash_c.specs.Status.{status_of_fault}
+use Rattle.multihash_c.specs.Decoded.{ReportsError}
+use Rattle.multihash_c.specs.Status.{status_of_error}
 use Rattle.multihash.proofs.Readings.VerdictLemmas.{verdict_unique, whole_over, whole_short, whole_trailing, whole_exact}
-use Rattle.multihash_c.proofs.ReadLemmas.{head_kept, fault_whole, head_no_fault}
+use Rattle.multihash_c.proofs.ReadLemmas.{head_kept, error_whole, head_no_error}
 use Rattle.multihash_c.proofs.decode.decode_whole.Goals as goal
 
 pub returns-in_default-clause-verdict : goal.returns-in_default-clause-verdict
 returns-in_default-clause-verdict c = λ input long begins enough.
     let (e, h, is) = c.fault-status.ensures in (
-      malformed h.fault,
-      fault_whole h.fault c.args.front.now input begins (h.verdict 255) (rw long enough),
+      malformed h.error,
+      error_whole h.error c.args.front.now input begins (h.verdict 255) (rw long enough),
       rw (← is) c.rejected.ensures.reports,
     )
 
 pub returns-in_default-clause-cut : goal.returns-in_default-clause-cut
 returns-in_default-clause-cut c = λ has.
     let (e, h, is) = c.fault-status.ensures in
-    let same = verdict_unique 255 c.args.front.now (malformed h.fault) (malformed insufficient) (h.verdict 255) has in
-    let fault : h.fault ≡ insufficient = cc in
-    subst (λ n. ReportsRefusal c.rejected.result n 0 0) (is ∙ ap status_of_fault fault) c.rejected.ensures.reports
+    let same = verdict_unique 255 c.args.front.now (malformed h.error) (malformed insufficient) (h.verdict 255) has in
+    let error : h.error ≡ insufficient = cc in
+    subst (λ n. ReportsError c.rejected.result n 0 0) (is ∙ ap status_of_error error) c.rejected.ensures.reports
 
 pub returns-then-head-clause-verdict : goal.returns-then-head-clause-verdict
 returns-then-head-clause-verdict c = λ input long begins enough. (
@@ -31,7 +31,7 @@ returns-then-head-clause-verdict c = λ input long begins enough. (
 )
 
 pub returns-then-head-clause-cut : goal.returns-then-head-clause-cut
-returns-then-head-clause-cut c = λ has. absurd (head_no_fault _ _ _ c.args.front.now insufficient c.in-Some.ensures.some has)
+returns-then-head-clause-cut c = λ has. absurd (head_no_error _ _ _ c.args.front.now insufficient c.in-Some.ensures.some has)
 
 pub returns-then-left-size-clause-verdict : goal.returns-then-left-size-clause-verdict
 returns-then-left-size-clause-verdict c = λ input long begins enough. (
@@ -42,7 +42,7 @@ returns-then-left-size-clause-verdict c = λ input long begins enough. (
 )
 
 pub returns-then-left-size-clause-cut : goal.returns-then-left-size-clause-cut
-returns-then-left-size-clause-cut c = λ has. absurd (head_no_fault _ _ _ c.args.front.now insufficient c.in-Some.ensures.some has)
+returns-then-left-size-clause-cut c = λ has. absurd (head_no_error _ _ _ c.args.front.now insufficient c.in-Some.ensures.some has)
 
 pub returns-then-left-size-2-clause-verdict : goal.returns-then-left-size-2-clause-verdict
 returns-then-left-size-2-clause-verdict c = λ input long begins enough. (
@@ -54,7 +54,7 @@ returns-then-left-size-2-clause-verdict c = λ input long begins enough. (
 )
 
 pub returns-then-left-size-2-clause-cut : goal.returns-then-left-size-2-clause-cut
-returns-then-left-size-2-clause-cut c = λ has. absurd (head_no_fault _ _ _ c.args.front.now insufficient c.in-Some.ensures.some has)
+returns-then-left-size-2-clause-cut c = λ has. absurd (head_no_error _ _ _ c.args.front.now insufficient c.in-Some.ensures.some has)
 
 pub returns-clause-verdict : goal.returns-clause-verdict
 returns-clause-verdict c = λ input long begins enough.
@@ -73,4 +73,4 @@ returns-clause-verdict c = λ input long begins enough.
     )
 
 pub returns-clause-cut : goal.returns-clause-cut
-returns-clause-cut c = λ has. absurd (head_no_fault _ _ _ c.args.front.now insufficient c.in-Some.ensures.some has)
+returns-clause-cut c = λ has. absurd (head_no_error _ _ _ c.args.front.now insufficient c.in-Some.ensures.some has)

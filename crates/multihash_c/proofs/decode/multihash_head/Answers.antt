@@ -1,15 +1,15 @@
 use Rattle.std.proofs.Common.{refl, inr}
-use Rattle.multihash_c.proofs.ReadLemmas.{fault_read}
+use Rattle.multihash_c.proofs.ReadLemmas.{error_read}
 use Rattle.multihash_c.proofs.decode.multihash_head.Goals as goal
 
 pub returns-in_default : goal.returns-in_default
 returns-in_default c =
     let (e, h, is) = c.fault-status.ensures in
     inr (record {
-      fault = h.fault;
+      error = h.error;
       is_status = is;
       no_code = refl;
       no_length = refl;
       reads = λ limit.
-          fault_read c.args.bytes.now e _ h limit _ refl (record { is_status = is; is_size = refl; is_code = refl; no_offset = refl; no_length = refl });
+          error_read c.args.bytes.now e _ h limit _ refl (record { is_status = is; is_size = refl; is_code = refl; no_offset = refl; no_length = refl });
     })

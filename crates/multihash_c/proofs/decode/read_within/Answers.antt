@@ -1,11 +1,11 @@
 use Rattle.std.proofs.Common.{◌≡◌, ◌≤◌, ◌+◌, length, inl, inr, arith}
-use Rattle.multihash_c.proofs.ReadLemmas.{size_read, end_read, reads_encoding, fault_read}
+use Rattle.multihash_c.proofs.ReadLemmas.{size_read, end_read, reads_encoding, error_read}
 use Rattle.multihash_c.proofs.decode.read_within.Goals as goal
 
 pub returns-in_default : goal.returns-in_default
 returns-in_default c =
     let (e, h, is) = c.fault-status.ensures in
-    fault_read c.args.bytes.now e _ h c.args.limit c.rejected.result c.rejected.ensures.taken (rw (← is) c.rejected.ensures.reports)
+    error_read c.args.bytes.now e _ h c.args.limit c.rejected.result c.rejected.ensures.taken (rw (← is) c.rejected.ensures.reports)
 
 pub returns-then-head-limit : goal.returns-then-head-limit
 returns-then-head-limit c =
@@ -24,9 +24,9 @@ pub returns : goal.returns
 returns c =
     let input = c.args.bytes.now in
     let head = c.in-Some.ensures.some in
-    let answer = c.accept.result in
-    let at : answer.digest_offset ≡ c.in-Some.head.digest_offset = omega (arith, c.accept.ensures.offset) in
+    let outcome = c.accept.result in
+    let at : outcome.digest_offset ≡ c.in-Some.head.digest_offset = omega (arith, c.accept.ensures.offset) in
     let there : c.in-Some.head.digest_offset + c.in-Some.head.digest_len ≤ length input = omega (arith, head.within, c.if-bytes-head.false) in
-    reads_encoding c.args.limit c.in-Some.head.code c.in-Some.head.digest_len c.in-Some.head.digest_offset input head answer
+    reads_encoding c.args.limit c.in-Some.head.code c.in-Some.head.digest_len c.in-Some.head.digest_offset input head outcome
     (omega (arith, c.if-head-limit.false, c.if-head.false)) there c.accept.ensures.taken
     (λ p code is. c.accept.ensures.reports input p code there (rw (c.accept.ensures.length, at) is))

@@ -14,5 +14,5 @@ returns-clause-ok g c =
 pub returns-clause-large : goal.returns-clause-large
 returns-clause-large g c code bytes rest is over cut =
     let call = c.scale_decode-decoded in
-    let refused = rejected_large g.row.S code _ bytes rest call.result is over cut (call.ensures.verdict refl) in
-    (refused, left_after_code g.row.S code _ bytes rest _ call.result is cut refused call.ensures.err)
+    let rejected = rejected_large g.row.S code _ bytes rest call.result is over cut (call.ensures.verdict refl) in
+    (rejected, left_after_code g.row.S code _ bytes rest _ call.result is cut rejected call.ensures.err)

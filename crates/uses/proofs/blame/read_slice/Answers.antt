@@ -6,13 +6,13 @@ use Rattle.multihash.proofs.CallingLemmas.{rejected_size}
 use Rattle.uses.proofs.blame.read_slice.Goals as goal
 
 pub returns-clause-verdict : goal.returns-clause-verdict
-returns-clause-verdict g c = c.read-answer.ensures.verdict refl
+returns-clause-verdict g c = c.read-outcome.ensures.verdict refl
 
 pub returns-clause-ok : goal.returns-clause-ok
-returns-clause-ok g c = in_front IsEncoding g.row.S c.args.stream.now c.read-answer.new.r.now c.read-answer.result c.read-answer.ensures.ok
+returns-clause-ok g c = in_front IsEncoding g.row.S c.args.stream.now c.read-outcome.new.r.now c.read-outcome.result c.read-outcome.ensures.ok
 
 pub returns-clause-long : goal.returns-clause-long
 returns-clause-long g c size rest h over = (
-  rejected_size g.row.S size _ rest c.read-answer.result h over (c.read-answer.ensures.verdict refl),
-  left_after g.row.S size _ rest _ h over (c.read-answer.ensures.settled refl (invalid_size size) (rest, h, over) (λ early. early)),
+  rejected_size g.row.S size _ rest c.read-outcome.result h over (c.read-outcome.ensures.verdict refl),
+  left_after g.row.S size _ rest _ h over (c.read-outcome.ensures.settled refl (invalid_size size) (rest, h, over) (λ early. early)),
 )

@@ -10,9 +10,9 @@ use Rattle.uses.proofs.blame.reader_failed.Goals as goal
 no_pair : (S : ℕ) (e : Refusal) (P : Type 0) (rest : Option (List ℕ))
     → IfSome rest (λ bytes. P → (v : Verdict) × HasVerdict S bytes v × IsErrorOf e v)
     → IfSome rest (λ bytes. P → (p : Pair) → ¬ (HasVerdict S bytes (accepted p)))
-no_pair S e P None refused = tt
-no_pair S e P (Some bytes) refused = λ same p has.
-    let v = refused same in
+no_pair S e P None rejected = tt
+no_pair S e P (Some bytes) rejected = λ same p has.
+    let v = rejected same in
     subst (IsErrorOf e) (verdict_unique S bytes v.0 (accepted p) v.1 has) v.2
 
 pub returns-after-io-clause-none : goal.returns-after-io-clause-none

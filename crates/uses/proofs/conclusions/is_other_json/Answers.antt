@@ -8,8 +8,8 @@ of_no_verdict : (e : Refusal) (v : Verdict) → IsNotBytes e → ¬ (IsErrorOf e
 of_no_verdict e (accepted p) is error = error
 of_no_verdict e (invalid_size size) is error = cc
 of_no_verdict e (invalid_code code) is error = cc
-of_no_verdict e (malformed fault) is error = cc
-of_no_verdict e unexpected_eof is (fault, error, _) = cc
+of_no_verdict e (malformed f) is error = cc
+of_no_verdict e unexpected_eof is (io, error, _) = cc
 
 pub returns-in-Ok : goal.returns-in-Ok
 returns-in-Ok c = ((λ is. cc), λ none. absurd (none c.in-Ok.ensures.ok.0 c.in-Ok.ensures.ok.1))

@@ -1,4 +1,4 @@
-use Rattle.uses.proofs.HeadlineLemmas.{answers_pair}
+use Rattle.uses.proofs.HeadlineLemmas.{returns_pair}
 use Rattle.uses.proofs.headline.verdict.Goals as goal
 
 pub returns-clause-one : goal.returns-clause-one
@@ -9,5 +9,5 @@ returns-clause-one g c =
 pub returns-clause-canonical : goal.returns-clause-canonical
 returns-clause-canonical g c =
     let v = c.from_bytes.ensures in
-    answers_pair g.row.S c.args.bytes.now c.from_bytes.result v.0 v.1 v.2
+    returns_pair g.row.S c.args.bytes.now c.from_bytes.result v.0 v.1 v.2
     (λ w has. c.one_verdict.ensures.whole_unique g.row.S c.args.bytes.now w v.0 has v.1)

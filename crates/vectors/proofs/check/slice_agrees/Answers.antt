@@ -5,7 +5,7 @@ use Rattle.vectors.proofs.check.slice_agrees.Goals as goal
 
 pub returns-then-is_answer : goal.returns-then-is_answer
 returns-then-is_answer g c =
-    let call = c.read-answer in
+    let call = c.read-outcome in
     let d : ReadCall g.row.S c.args.input.now call.new.r.now call.result =
     record { unique = c.one_verdict.ensures.read_unique g.row.S _; unsettled = c.settles.ensures.none g.row.S _; verdict = call.ensures.verdict refl; settled = call.ensures.settled refl; err = call.ensures.err } in
     let test = c.takes_as_listed.ensures in
@@ -14,10 +14,10 @@ returns-then-is_answer g c =
 
 pub returns-else-is_answer : goal.returns-else-is_answer
 returns-else-is_answer g c =
-    let call = c.read-answer in
+    let call = c.read-outcome in
     let d : ReadCall g.row.S c.args.input.now call.new.r.now call.result =
     record { unique = c.one_verdict.ensures.read_unique g.row.S _; unsettled = c.settles.ensures.none g.row.S _; verdict = call.ensures.verdict refl; settled = call.ensures.settled refl; err = call.ensures.err } in (
       λ holds. absurd (false≢true (sym c.if-is_answer.false ∙ holds)),
       λ right. absurd (no_reading g.row.S _ _ _ d c.args.listed.now
-          (λ answers. false≢true (sym c.if-is_answer.false ∙ c.is_answer.ensures.1 answers)) right),
+          (λ results. false≢true (sym c.if-is_answer.false ∙ c.is_answer.ensures.1 results)) right),
     )

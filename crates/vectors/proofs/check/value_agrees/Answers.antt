@@ -3,5 +3,5 @@ use Rattle.vectors.proofs.check.value_agrees.Goals as goal
 
 pub returns : goal.returns
 returns g c =
-    value_right g.row.S _ _ c.from_value-answer.result _ c.args.line.now.lists_input c.from_value-answer.ensures.verdict
+    value_right g.row.S _ _ c.from_value-outcome.result _ c.args.line.now.lists_input c.from_value-outcome.ensures.verdict
     (c.one_verdict.ensures.whole g.row.S _) _ c.is_answer.ensures

@@ -9,9 +9,9 @@ use Rattle.multihash.proofs.multihash.Multihash.from_bytes.Goals as goal
 
 pub returns-in_err-head : goal.returns-in_err-head
 returns-in_err-head g c =
-    let (fault, named, has) = c.in_err-head.ensures.err in
+    let (error, named, has) = c.in_err-head.ensures.err in
     passed_err (λ r. (v : Verdict) × HasWholeVerdict g.row.S c.args.bytes.now v × IsResultOf r v) c.from_residual.result _ c.from_residual.ensures.1
-    (malformed fault, has g.row.S, named)
+    (malformed error, has g.row.S, named)
 
 pub returns-then-not-is_valid_size : goal.returns-then-not-is_valid_size
 returns-then-not-is_valid_size g c = (

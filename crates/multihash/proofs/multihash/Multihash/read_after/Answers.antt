@@ -10,7 +10,7 @@ use Rattle.multihash.specs.Multihash.{Fields, pair_of}
 use Rattle.multihash.proofs.OutcomeLemmas.{passed_err}
 use Rattle.multihash.proofs.Writings.EncodingLemmas.{encoding_of_parts}
 use Rattle.multihash.proofs.Readings.ReadingLemmas.{Consumes-concatenated}
-use Rattle.multihash.proofs.Readings.ReadConsumingLemmas.{stops_in_size, stops_at_size, stops_in_digest, read_answered}
+use Rattle.multihash.proofs.Readings.ReadConsumingLemmas.{stops_in_size, stops_at_size, stops_in_digest, read_returned}
 use Rattle.multihash.proofs.multihash.Multihash.read_after.Goals as goal
 
 pub returns-in_err-read : goal.returns-in_err-read
@@ -33,12 +33,12 @@ module _ (S n size byte : ℕ) (old one two new : Option (List ℕ)) (before bet
       Consumes-concatenated _ _ _ code.0 (len.0 ++ digest) _ refl code.2 (Consumes-concatenated _ _ _ len.0 digest _ refl len.2 last)
 
   -- the digest was not read
-  stopped : (r : Result (Fields S) Refusal) (fault : Fault) → IsErrAnd r (λ e. e ≡ of_io fault) → (IsUnexpectedEof fault → HasFewerThan byte two)
-      → ConsumesFewerThan byte two new → ((after ≡ between + 1) × IsOwnFault fault) ⊎ ((after ≡ between) × IsUnexpectedEof fault)
+  stopped : (r : Result (Fields S) Refusal) (error : Fault) → IsErrAnd r (λ e. e ≡ of_io error) → (IsUnexpectedEof error → HasFewerThan byte two)
+      → ConsumesFewerThan byte two new → ((after ≡ between + 1) × IsOwnFault error) ⊎ ((after ≡ between) × IsUnexpectedEof error)
       → ReadMeets S old new before after r
-  stopped r fault passed few t how =
+  stopped r error passed few t how =
       passed_err (ReadMeets S old new before after) r _ passed
-      (stops_in_digest S _ _ code.0 len.0 code.1 len.1 _ _ _ _ fits fault t.consumed _ (omega (arith, same, t.fewer)) t.consumes
+      (stops_in_digest S _ _ code.0 len.0 code.1 len.1 _ _ _ _ fits error t.consumed _ (omega (arith, same, t.fewer)) t.consumes
       (rw same at few) (rw unrisen at how) (consumed t.consumed t.consumes))
 
   -- the digest was read into the buffer
@@ -47,7 +47,7 @@ module _ (S n size byte : ℕ) (old one two new : Option (List ℕ)) (before bet
   filled held buffer inside sized full last risen =
       let made : Fields S = record { code = n; size = held; buffer = buffer; in_range = code.1.in_range; fits = inside } in
       let digest : take held buffer ≡ take byte buffer = ap (λ k. take k buffer) sized in
-      read_answered S _ _ _ _ _ made (risen ∙ unrisen)
+      read_returned S _ _ _ _ _ made (risen ∙ unrisen)
       (encoding_of_parts (pair_of made) _ _ _ code.0 len.0 refl (sym (length-take-le held buffer (omega (arith, inside, full)) ∙ sized ∙ same)) (sym digest) code.1 len.1)
       (consumed (take byte buffer) last)
 

@@ -4,7 +4,7 @@ use Rattle.multihash.specs.Scale.{IsScaleCode}
 use Rattle.multihash.specs.Reading.{Consumes}
 use Rattle.multihash.proofs.OutcomeLemmas.{passed_err}
 use Rattle.multihash.proofs.Readings.ReadingLemmas.{Consumes-concatenated}
-use Rattle.multihash.proofs.Forms.ScaleLemmas.{code_read, ScaleMeets, one_item, code_rejected, no_size, size_rejected, cut_scale_digest, inside_rejected, scale_answered}
+use Rattle.multihash.proofs.Forms.ScaleLemmas.{code_read, ScaleMeets, one_item, code_rejected, no_size, size_rejected, cut_scale_digest, inside_rejected, scale_returned}
 use Rattle.multihash.proofs.multihash.Multihash.scale_decode.Given as given
 use Rattle.multihash.proofs.multihash.Multihash.scale_decode.Goals as goal
 use Rattle.multihash.proofs.multihash.Multihash.scale_decode.Goals.{After-from_le_bytes-code, After-from-size}
@@ -62,7 +62,7 @@ returns g c =
     let d = take size c.read_digest.new.buffer in
     let long : length d ≡ size = length-take-le size c.read_digest.new.buffer (omega (arith, read.full, c.if-size.false)) in
     let byte : size < 256 = search rules in
-    scale_answered g.row.S _ _ _ _ _ _ code size (omega (arith, c.if-code-gt-MAX.false)) d c.in_buffer.result c.if-size.false byte long
+    scale_returned g.row.S _ _ _ _ _ _ code size (omega (arith, c.if-code-gt-MAX.false)) d c.in_buffer.result c.if-size.false byte long
     (read.faults ∙ (c.in_ok-size_byte.ensures.faults ∙ c.in_ok-code_bytes.ensures.faults)) c.in_buffer.ensures
     (Consumes-concatenated _ _ _ _ d _ (sym (append_assoc _ (size ∷ []) d)) (consumes g (goal.at.returns g c).After-from-size)
     (rw (← c.from-size.ensures) at read.ok))

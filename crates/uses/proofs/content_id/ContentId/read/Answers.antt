@@ -3,7 +3,7 @@ use Rattle.multihash.specs.Refusal.{of_io}
 use Rattle.multihash.specs.Multihash.{pair_of}
 use Rattle.multihash.proofs.CallingLemmas.{varint_fails}
 use Rattle.multihash.proofs.OutcomeLemmas.{passed_on}
-use Rattle.uses.specs.declared.content_id.ContentIdError.TheVariants.{Refused}
+use Rattle.uses.specs.declared.content_id.ContentIdError.TheVariants.{Rejected}
 use Rattle.uses.proofs.ContentIdLemmas.{make_version_0, make_version_1, takes_three, hash_fails, digest_fails, id_fails, rejected_found, id_found}
 use Rattle.uses.proofs.content_id.ContentId.read.Goals as goal
 use Rattle.uses.proofs.content_id.ContentId.read.Goals.{else-version-ne-VERSION-via-then-version-ne-VERSION+else-version-ne-SHA2_256, else-version-ne-VERSION-via-else-version-ne-VERSION}
@@ -36,7 +36,7 @@ returns-clause-ok g c =
 pub returns-in_err-version-clause-err : goal.returns-in_err-version-clause-err
 returns-in_err-version-clause-err g c =
     let met = c.in_err-version.ensures in
-    passed_on c.from_residual.result (Refused c.in_err-version.field-0.0) _ _ c.from_residual.ensures.1
+    passed_on c.from_residual.result (Rejected c.in_err-version.field-0.0) _ _ c.from_residual.ensures.1
     (inl (_, refl, varint_fails _ _ _ _ _ _ refl met.faults met.err met.front))
 
 pub returns-then-version-ne-SHA2_256-clause-err : goal.returns-then-version-ne-SHA2_256-clause-err
@@ -48,7 +48,7 @@ pub returns-in_err-number-clause-err : goal.returns-in_err-number-clause-err
 returns-in_err-number-clause-err g c =
     let v = c.in_ok-version.ensures in
     let met = c.in_err-number.ensures in
-    passed_on c.from_residual-in_err-number.result (Refused c.in_err-number.field-0.0) _ _ c.from_residual-in_err-number.ensures.1 (inr (
+    passed_on c.from_residual-in_err-number.result (Rejected c.in_err-number.field-0.0) _ _ c.from_residual-in_err-number.ensures.1 (inr (
       _,
       _,
       v.ok,
@@ -66,7 +66,7 @@ returns-in_err-hash-clause-err g c =
     let v = c.in_ok-version.ensures in
     let n = c.in_ok-number.ensures in
     let one : c.in_ok-version.version ≡ 1 = omega arith in
-    passed_on c.from_residual-in_err-hash.result (Refused c.in_err-hash.field-0.0) _ _ c.from_residual-in_err-hash.ensures.1
+    passed_on c.from_residual-in_err-hash.result (Rejected c.in_err-hash.field-0.0) _ _ c.from_residual-in_err-hash.ensures.1
     (inr (_, _, v.ok, inr (inl one, inr (_, _, n.ok, inl (one, (_, refl, hash_fails _ _ _ _ _ _ _ (n.faults ∙ v.faults) c.in_err-hash.ensures))))))
 
 pub returns-then-number-ne-SHA2_256_SIZE-clause-err : goal.returns-then-number-ne-SHA2_256_SIZE-clause-err
@@ -83,10 +83,10 @@ returns-in_err-read_exact-clause-err g c =
     let zero : c.in_ok-version.version ≡ 0x12 = omega arith in
     let whole : c.in_ok-number.number ≡ 32 = omega arith in
     let met = c.in_err-read_exact.ensures.laws in
-    let fault = c.in_err-read_exact.field-0.0 in
-    let fails = digest_fails _ _ _ _ _ fault (n.faults ∙ v.faults) met.faults met.eof met.err in
-    passed_on c.from_residual-in_err-read_exact.result (Refused (of_io fault)) _ _ c.from_residual-in_err-read_exact.ensures.1
-    (inr (_, _, v.ok, inr (inr zero, inr (_, _, n.ok, inr (inl (zero, whole, (of_io fault, refl, fails)))))))
+    let error = c.in_err-read_exact.field-0.0 in
+    let fails = digest_fails _ _ _ _ _ error (n.faults ∙ v.faults) met.faults met.eof met.err in
+    passed_on c.from_residual-in_err-read_exact.result (Rejected (of_io error)) _ _ c.from_residual-in_err-read_exact.ensures.1
+    (inr (_, _, v.ok, inr (inr zero, inr (_, _, n.ok, inr (inl (zero, whole, (of_io error, refl, fails)))))))
 
 -- ---- an identifier that comes next
 
