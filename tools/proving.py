@@ -111,12 +111,12 @@ def written(home):
 
 
 def report(results):
-    """Prints each (what, fault) that has a fault, and then how many passed and failed. Returns the exit status."""
+    """Prints each (what, error) that has a error, and then how many passed and failed. Returns the exit status."""
     counts = Counter()
-    for what, fault in results:
-        counts[bool(fault)] += 1
-        if fault:
-            print(f"FAILED: {what}: {fault}", flush=True)
+    for what, error in results:
+        counts[bool(error)] += 1
+        if error:
+            print(f"FAILED: {what}: {error}", flush=True)
     print(f"{counts[False]} passed, {counts[True]} failed")
     return 0 if counts[False] and not counts[True] else 1
 

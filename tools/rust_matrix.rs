@@ -321,15 +321,15 @@ fn unlike<const S: usize>(operation: &str, multihash: &Multihash<S>) -> Option<M
     Multihash::wrap(multihash.code(), &digest).ok()
 }
 
-fn told<const S: usize, E>(answer: &Result<Multihash<S>, E>) -> u64 {
-    match answer {
+fn told<const S: usize, E>(result: &Result<Multihash<S>, E>) -> u64 {
+    match result {
         Ok(m) => m.code().wrapping_add(u64::from(m.size())),
         Err(_) => 0,
     }
 }
 
-fn told_count(answer: &Result<usize, Error>) -> u64 {
-    match answer {
+fn told_count(result: &Result<usize, Error>) -> u64 {
+    match result {
         Ok(count) => *count as u64,
         Err(_) => 0,
     }
@@ -366,7 +366,7 @@ fn run_in<const S: usize>((operation, size, code_len, _): &Case, count: u32) -> 
 }
 
 /// What the program prints, or `None` where its words name no case.
-fn answer(words: &[&str]) -> Option<String> {
+fn result(words: &[&str]) -> Option<String> {
     let operations = || OPERATIONS.into_iter().chain(CODECS);
     let lines: Vec<String> = match words {
         ["cases"] => operations().flat_map(cases).map(|(o, s, c, b)| format!("{o} {s} {c} {b}\n")).collect(),
@@ -387,7 +387,7 @@ fn answer(words: &[&str]) -> Option<String> {
 
 fn main() -> ExitCode {
     let words: Vec<String> = std::env::args().skip(1).collect();
-    match answer(&words.iter().map(String::as_str).collect::<Vec<_>>()) {
+    match result(&words.iter().map(String::as_str).collect::<Vec<_>>()) {
         Some(text) => {
             print!("{text}");
             ExitCode::SUCCESS

@@ -132,8 +132,8 @@ export class MultihashError extends Error {
   constructor(status, { size, code, taken } = {}) {
     const number = STATUSES.indexOf(status);
     if (number < 1) throw new TypeError('no status of an error');
-    const refused = size ?? code;
-    super(texts[number] + (refused === undefined ? '' : ` ${refused}.`), { cause: { status, size, code, taken } });
+    const named = size ?? code;
+    super(texts[number] + (named === undefined ? '' : ` ${named}.`), { cause: { status, size, code, taken } });
     Object.assign(this, { status, size, code, taken });
   }
 

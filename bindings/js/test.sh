@@ -39,9 +39,9 @@ in_node() {
 
 # The tests find exactly that many wrong checks.
 finds() {
-  local faults=$1
+  local errors=$1
   shift
-  ! "$@" > "$work/found" && grep -o " checks right, $faults wrong" "$work/found"
+  ! "$@" > "$work/found" && grep -o " checks right, $errors wrong" "$work/found"
 }
 
 # A copy of the data in which a file is what standard input has.

@@ -1,5 +1,5 @@
 // Counts checks, and notes what is wrong.
-export const tally = { checks: 0, faults: [] };
+export const tally = { checks: 0, errors: [] };
 
 const DIGITS = Array.from({ length: 256 }, (_, byte) => byte.toString(16).padStart(2, '0'));
 
@@ -13,7 +13,7 @@ export const unhex = (text) => Uint8Array.from(text.match(/[0-9a-f]{2}/g) ?? [],
 
 export function same(found, wanted, what) {
   tally.checks++;
-  if (found !== wanted) tally.faults.push(`${what}: ${String(found)}, wanted ${String(wanted)}`);
+  if (found !== wanted) tally.errors.push(`${what}: ${String(found)}, wanted ${String(wanted)}`);
 }
 
 /** The error of a call, which has to be of that class. */

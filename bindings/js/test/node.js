@@ -9,4 +9,4 @@ const inputs = new Uint8Array(readFileSync(`${folder}/inputs`));
 const data = { header: text('header'), vectors: text('vectors'), answers: text('answers'), inputs };
 const tally = await suite(module, data);
 console.log(`${summary(tally)}; ${speed(module)}`);
-process.exitCode = tally.faults.length === 0 && tally.checks > 0 ? 0 : 1;
+process.exitCode = tally.errors.length === 0 && tally.checks > 0 ? 0 : 1;

@@ -15,14 +15,14 @@ fn json() {
     let text = serde_json::to_string(&full()).expect("JSON");
     assert_eq!(text, "[255,255,255,255,255,255,255,255,127,4,97,98,99,100]");
     assert_eq!(serde_json::from_str::<Multihash<4>>(&text).expect("a multihash"), full());
-    let refusal = |text| serde_json::from_str::<Multihash<3>>(text).expect_err("a refusal").to_string();
-    assert!(refusal(&text).starts_with("Invalid multihash size 4."));
-    assert!(refusal("[18,1]").starts_with("failed to fill whole buffer"));
-    assert!(refusal("[18,256]").contains("256"));
-    assert!(refusal("7").contains("the bytes of a multihash"));
+    let error = |text| serde_json::from_str::<Multihash<3>>(text).expect_err("an error").to_string();
+    assert!(error(&text).starts_with("Invalid multihash size 4."));
+    assert!(error("[18,1]").starts_with("failed to fill whole buffer"));
+    assert!(error("[18,256]").contains("256"));
+    assert!(error("7").contains("the bytes of a multihash"));
     let long = format!("[0,0{}]", ",0".repeat(265));
-    assert!(refusal(&long).starts_with("invalid length 267"));
-    assert!(refusal(&long.replacen(",0", "", 1)).starts_with("Invalid multihash size 264."));
+    assert!(error(&long).starts_with("invalid length 267"));
+    assert!(error(&long.replacen(",0", "", 1)).starts_with("Invalid multihash size 264."));
 }
 
 #[test]

@@ -16,35 +16,35 @@ const INSUFFICIENT: &str = if HAS_STD { "unexpected end of file" } else { "not e
 const UNEXPECTED_EOF: &str = "failed to fill whole buffer";
 const NO_ROOM: &str = "failed to write whole buffer";
 
-type Fault = fn() -> Result<usize, io::Error>;
+type Event = fn() -> Result<usize, io::Error>;
 
 /// Reads or writes one byte per call, and once does something else, before the byte at `at`.
 struct Slow<T> {
     bytes: T,
     at: usize,
-    fault: Option<Fault>,
+    event: Option<Event>,
 }
 
 impl<T> Slow<T> {
-    fn next(&mut self) -> Option<Fault> {
-        let fault = if self.at == 0 { self.fault.take() } else { None };
-        self.at = self.at.wrapping_sub(usize::from(fault.is_none()));
-        fault
+    fn next(&mut self) -> Option<Event> {
+        let event = if self.at == 0 { self.event.take() } else { None };
+        self.at = self.at.wrapping_sub(usize::from(event.is_none()));
+        event
     }
 }
 
 impl Read for Slow<&[u8]> {
     fn read(&mut self, out: &mut [u8]) -> Result<usize, io::Error> {
         assert!(!out.is_empty());
-        self.next().map_or_else(|| self.bytes.read(&mut out[..1]), |fault| fault())
+        self.next().map_or_else(|| self.bytes.read(&mut out[..1]), |event| event())
     }
 }
 
 impl Write for Slow<Vec<u8>> {
     fn write(&mut self, bytes: &[u8]) -> Result<usize, io::Error> {
         assert!(!bytes.is_empty());
-        if let Some(fault) = self.next() {
-            return fault();
+        if let Some(event) = self.next() {
+            return event();
         }
         self.bytes.push(bytes[0]);
         Ok(1)
@@ -57,7 +57,7 @@ impl Write for Slow<Vec<u8>> {
 }
 
 fn slow(bytes: &[u8]) -> Slow<&[u8]> {
-    Slow { bytes, at: 0, fault: None }
+    Slow { bytes, at: 0, event: None }
 }
 
 type Value = Multihash<200>;
@@ -84,12 +84,12 @@ const REST: &[u8] = b"\x12\x01zrest";
 
 /// Calls `check` with a reader and a writer that do something else before each byte of an encoding, with that
 /// byte's index.
-fn each_byte(fault: Fault, check: impl Fn(&Case, usize, Slow<&[u8]>, Slow<Vec<u8>>)) {
+fn each_byte(event: Event, check: impl Fn(&Case, usize, Slow<&[u8]>, Slow<Vec<u8>>)) {
     for case in cases() {
         let stream = [&case.encoding, REST].concat();
         for at in 0..case.encoding.len() {
-            let reader = Slow { bytes: &stream[..], at, fault: Some(fault) };
-            check(&case, at, reader, Slow { bytes: Vec::new(), at, fault: Some(fault) });
+            let reader = Slow { bytes: &stream[..], at, event: Some(event) };
+            check(&case, at, reader, Slow { bytes: Vec::new(), at, event: Some(event) });
         }
     }
 }
@@ -111,26 +111,26 @@ fn texts(error: &Error) -> (String, Option<String>) {
 fn one_byte_a_call() {
     for case in cases() {
         let stream = [&case.encoding, REST].concat();
-        check_whole(&case, slow(&stream), Slow { bytes: Vec::new(), at: 0, fault: None });
+        check_whole(&case, slow(&stream), Slow { bytes: Vec::new(), at: 0, event: None });
     }
 }
 
 #[cfg(feature = "std")]
 #[test]
 fn interrupted() {
-    let interrupt: Fault = || Err(io::ErrorKind::Interrupted.into());
+    let interrupt: Event = || Err(io::ErrorKind::Interrupted.into());
     each_byte(interrupt, |case, _, reader, writer| check_whole(case, reader, writer));
 }
 
 #[cfg(feature = "std")]
 #[test]
 fn failing() {
-    let faults: [(_, Fault); 2] = [
+    let events: [(_, Event); 2] = [
         (io::ErrorKind::TimedOut, || Err(io::Error::new(io::ErrorKind::TimedOut, "größer"))),
         (io::ErrorKind::UnexpectedEof, || Err(io::Error::new(io::ErrorKind::UnexpectedEof, "größer"))),
     ];
-    for (kind, fault) in faults {
-        each_byte(fault, |case, at, mut reader, mut writer| {
+    for (kind, event) in events {
+        each_byte(event, |case, at, mut reader, mut writer| {
             let failures = [
                 Value::read(&mut reader).expect_err("a failure"),
                 case.value.write(&mut writer).expect_err("a failure"),
@@ -149,9 +149,9 @@ fn failing() {
 /// One that panics, and one that returns a wrong number.
 #[test]
 fn panicking() {
-    let faults: [Fault; 2] = [|| panic!("on purpose"), || Ok(usize::MAX)];
-    for fault in faults {
-        each_byte(fault, |case, at, mut reader, mut writer| {
+    let events: [Event; 2] = [|| panic!("on purpose"), || Ok(usize::MAX)];
+    for event in events {
+        each_byte(event, |case, at, mut reader, mut writer| {
             catch_unwind(AssertUnwindSafe(|| Value::read(&mut reader))).expect_err("a panic");
             catch_unwind(AssertUnwindSafe(|| case.value.write(&mut writer))).expect_err("a panic");
             assert_eq!(reader.bytes, [&case.encoding[at..], REST].concat());
