@@ -1,5 +1,5 @@
 -- What a call consumed from a reader, and how it failed.
-use Rattle.std.specs.Prelude.{◌≡◌, ◌+◌, ◌<◌, ◌≤◌, ℕ, List, [], ◌⊎◌, length, take, drop, Option, Result, MatchResult, IfSome, IfNone, IfOk, IfErr, OnOk, OnErr, IsOk, IsOkAnd, IsNone}
+use Rattle.std.specs.Prelude.{◌≡◌, ◌+◌, ◌<◌, ◌≤◌, ℕ, List, [], ◌⊎◌, length, take, drop, Option, Some, Result, MatchResult, IfSome, IfNone, IfOk, IfErr, OnOk, OnErr, IsOk, IsOkAnd, IsNone}
 use Rattle.std.specs.Io.KnownBytes.{prepend_known, IsAtEnd}
 use Rattle.multihash.specs.Fault.{Fault, IsUnexpectedEof, IsOwnFault}
 
@@ -57,5 +57,5 @@ abbrev pub EndsInNone : {A E : Type 0} → Option (List ℕ) → Option (List �
     → Type 0
 EndsInNone old new before after outcome = record {
   none : IfOk outcome (λ next. IfNone next (IsAtEnd old × (new ≡ old)));
-  always : IfSome old (λ rest. after ≡ before → rest ≡ [] → IsOkAnd outcome IsNone);
+  always : after ≡ before → old ≡ Some [] → IsOkAnd outcome IsNone;
 }

@@ -1,10 +1,9 @@
 //! Sections of an archive (CARv1): the varint of a length, and in that length a content identifier and data.
-ghost use Rattle.std.specs.Prelude.{◌≡◌, ◌⊎◌, ℕ, List, ◌++◌, Some, Option, IfOk, IfErr, IfSome, OnOk};
+ghost use Rattle.std.specs.Prelude.{◌≡◌, ◌⊎◌, ℕ, List, ◌++◌, Some, Option, length, IfOk, IfErr, IfSome};
 ghost use Rattle.multihash.specs.Reading.{EndsInNone, HasFewerThan};
-ghost use Rattle.multihash.specs.Consuming.{ConsumesSome};
 ghost use Rattle.multihash.specs.Refusal.{IsEof};
 ghost use Rattle.uses.specs.ContentId.{Content, content_of, IsRejected};
-ghost use Rattle.uses.specs.Section.{IsHead, IsSection, SectionFails};
+ghost use Rattle.uses.specs.Section.{ConsumesHead, SectionFails};
 
 use crate::content_id::{ContentId, ContentIdError};
 use multihash::no_std_io::{Error, Read};
@@ -21,10 +20,9 @@ use multihash::varint;
 pub fn read_section<const S: usize, R: Read>(
     r: &mut R,
 ) -> Result<Option<(ContentId<S>, u64)>, ContentIdError>
-    ensures ok { IfOk result (λ next. IfSome next (λ s.
-        ConsumesSome (IsHead (content_of s.0) s.1) (R.rest r.old) (R.rest r.new))) }
+    ensures ok { IfOk result (λ next. (R.failures r.new ≡ R.failures r.old) × IfSome next (λ s.
+        ConsumesHead (content_of s.0) s.1 (R.rest r.old) (R.rest r.new))) }
     ensures end { EndsInNone (R.rest r.old) (R.rest r.new) (R.failures r.old) (R.failures r.new) result }
-    ensures unfailed { OnOk result (R.failures r.new ≡ R.failures r.old) }
     ensures err { IfErr result (λ e. SectionFails S (R.failures r.old) (R.failures r.new) e
         (R.rest r.old) (R.rest r.new)) }
 {
@@ -38,8 +36,7 @@ pub fn read_section<const S: usize, R: Read>(
     }
 }
 
-/// Returns the identifier and the data of the section at the front of the bytes, and what follows it; or
-/// `None` if there are no bytes.
+/// Returns the identifier and data of the first section, and what follows it; `None` if `bytes` is empty.
 ///
 /// # Errors
 ///
@@ -47,20 +44,19 @@ pub fn read_section<const S: usize, R: Read>(
 pub fn section_front<const S: usize>(
     bytes: &[u8],
 ) -> Result<Option<(ContentId<S>, &[u8], &[u8])>, ContentIdError>
-    ensures ok { IfOk result (λ next. IfSome next (λ s. (section : List ℕ)
-        × IsSection (content_of s.0) s.1.now section × (bytes.now ≡ section ++ s.2.now))) }
+    ensures ok { IfOk result (λ next. IfSome next (λ s.
+        ConsumesHead (content_of s.0) (length s.1.now) (Some bytes.now) (Some (s.1.now ++ s.2.now)))) }
     ensures end { EndsInNone (Some bytes.now) (Some bytes.now) 0 0 result }
     ensures err { IfErr result (λ e. (left : Option (List ℕ)) × (SectionFails S 0 0 e (Some bytes.now) left
-        ⊎ ((content : Content) × (n : ℕ) × ConsumesSome (IsHead content n) (Some bytes.now) left
+        ⊎ ((content : Content) × (n : ℕ) × ConsumesHead content n (Some bytes.now) left
         × HasFewerThan n left × IsRejected IsEof e))) }
 {
     let mut rest = bytes;
     let Some((id, len)) = read_section(&mut rest)? else {
         return Ok(None);
     };
-    if len > rest.len() as u64 {
-        return Err(Error::unexpected_eof().into());
+    match rest.split_at_checked(len as usize) {
+        Some((data, rest)) => Ok(Some((id, data, rest))),
+        None => Err(Error::unexpected_eof().into()),
     }
-    let (data, rest) = rest.split_at(len as usize);
-    Ok(Some((id, data, rest)))
 }

@@ -1,10 +1,10 @@
 -- What two calls, one after the other, consumed, and what is at the front of a buffer after them.
-use Rattle.std.proofs.Common.{◌≡◌, ℕ, ◌+◌, ◌≤◌, List, [], ◌++◌, Option, None, Some, Ok, IfSome, subst, length, take, refl, sym, ap, ◌∙◌, ◌-◌, drop, arith, append_assoc, append-nil, length-append, length-take-le}
+use Rattle.std.proofs.Common.{◌≡◌, ℕ, ◌+◌, ◌≤◌, List, [], ◌++◌, Option, None, Some, IfSome, subst, length, take, refl, sym, ap, ◌∙◌, ◌-◌, drop, arith, append_assoc, append-nil, length-append, length-take-le}
 use Rattle.std.proofs.lemmas.List.{take-append-le}
 use Rattle.std.proofs.Math.Seq.{take-append-add, take-append_seam, drop-append_seam}
 use borrow.Rule.Slice.PartMut.{put_mid, post_of}
 use Rattle.std.specs.Io.KnownBytes.{prepend_known, IsAtEnd}
-use Rattle.multihash.specs.Reading.{Consumes, EndsInNone}
+use Rattle.multihash.specs.Reading.{Consumes}
 
 pub prepend_known-append : (xs ys : List ℕ) (rest : Option (List ℕ)) → prepend_known xs (prepend_known ys rest) ≡ prepend_known (xs ++ ys) rest
 prepend_known-append xs ys None = refl
@@ -55,9 +55,3 @@ IfSome-consumed (Some xs) new consumed P consumes h = let (left, is, cut) = Cons
 pub Consumes-none : (a : Option (List ℕ)) → Consumes a [] a
 Consumes-none None = refl
 Consumes-none (Some rest) = refl
-
--- an input at whose front a value was found has not ended
-pub not_ended : {A : Type 0} (E P : Type 0) (x : A) (old mid : Option (List ℕ)) (before between after : ℕ) → between ≡ before
-    → EndsInNone {E = E} old mid before between (Ok (Some x)) → IfSome old (λ rest. after ≡ before → rest ≡ [] → P)
-not_ended E P x None mid before between after same ends = tt
-not_ended E P x (Some rest) mid before between after same ends = λ _ empty. cc (ends.always same empty)
