@@ -61,8 +61,10 @@ pub fn read_up_to<const S: usize, R: Read>(
         × (R.failures r.new ≡ R.failures r.old)) }
     ensures end { IfOk result (λ list. (length list.items ≤ limit)
         × (length list.items < limit → IsAtEnd (R.rest r.new))) }
-    ensures err { IfErr result (λ e. IsOutOfMemory e ⊎ StopsAfterPairs S limit e
-        (R.failures r.old) (R.failures r.new) (R.rest r.old) (R.rest r.new)) }
+    ensures err { IfErr result (λ e. StopsAfterPairs S limit e
+        (R.failures r.old) (R.failures r.new) (R.rest r.old) (R.rest r.new)
+        ⊎ (IsOutOfMemory e × (R.failures r.new ≡ R.failures r.old) × (pairs : List Pair)
+        × (length pairs ≤ limit) × ConsumesPairs S pairs (R.rest r.old) (R.rest r.new))) }
 {
     let mut list = Vec::new(alloc);
     for _ in 0..limit {
