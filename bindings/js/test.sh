@@ -29,8 +29,8 @@ make_data() {
     cp "$top/crates/vectors/data/verdicts.tsv" "$data/vectors" || return 1
   node "$here/test/mutate.js" "$data/vectors" 100000 > "$data/inputs" &&
     cc -std=c11 -Wall -Wextra -Wpedantic -Wconversion -Werror -O2 -I "$(dirname "$header")" \
-      "$here/test/answers.c" "$archive" -o "$work/answers" &&
-    "$work/answers" < "$data/inputs" > "$data/answers" && echo "$(wc -l < "$data/answers") inputs"
+      "$here/test/results.c" "$archive" -o "$work/results" &&
+    "$work/results" < "$data/inputs" > "$data/results" && echo "$(wc -l < "$data/results") inputs"
 }
 
 in_node() {
@@ -53,11 +53,11 @@ with_planted() {
 }
 
 one_digit_differs() {
-  awk 'NR == 77777 { sub(/^./, substr($0, 1, 1) == 1 ? 2 : 1) } 1' "$data/answers" | with_planted answers
+  awk 'NR == 77777 { sub(/^./, substr($0, 1, 1) == 1 ? 2 : 1) } 1' "$data/results" | with_planted results
 }
 
 one_line_less() {
-  sed '$d' "$data/answers" | with_planted answers
+  sed '$d' "$data/results" | with_planted results
 }
 
 no_vectors() {

@@ -6,7 +6,7 @@ const [, , folder, which = 'index'] = process.argv;
 const text = (name) => readFileSync(`${folder}/${name}`, 'utf8');
 const module = await import(`../${which}.js`);
 const inputs = new Uint8Array(readFileSync(`${folder}/inputs`));
-const data = { header: text('header'), vectors: text('vectors'), answers: text('answers'), inputs };
+const data = { header: text('header'), vectors: text('vectors'), results: text('results'), inputs };
 const tally = await suite(module, data);
 console.log(`${summary(tally)}; ${speed(module)}`);
 process.exitCode = tally.errors.length === 0 && tally.checks > 0 ? 0 : 1;

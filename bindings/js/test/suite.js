@@ -1,6 +1,6 @@
 // All tests, in Node.js and in a page: `data` has the texts of the vectors, of the C library's results and of
 // the header, and the inputs of those results.
-import { mutated, vectors } from './answers.js';
+import { mutated, vectors } from './results.js';
 import { hostile } from './arguments.js';
 import { tally } from './check.js';
 import { streams } from './stream.js';
@@ -10,7 +10,7 @@ export async function suite(module, data) {
   vectors(module, data.vectors);
   const limit = Error.stackTraceLimit;
   Error.stackTraceLimit = 0; // half a million errors are made, and a stack trace takes most of their time
-  mutated(module, data.inputs, data.answers);
+  mutated(module, data.inputs, data.results);
   Error.stackTraceLimit = limit;
   await streams(module);
   return tally;

@@ -5,7 +5,7 @@
 #[cfg(test)]
 mod asked;
 #[cfg(test)]
-mod faults;
+mod errors;
 #[cfg(test)]
 mod grown;
 #[cfg(test)]

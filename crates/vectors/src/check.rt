@@ -120,7 +120,7 @@ fn whole_agrees<const S: usize>(input: &[u8], listed: &Verdict) -> bool
 {
     // An input has one verdict: what is not returned is not the grammar's verdict either.
     laws::one_verdict();
-    listed.is_answer(&Multihash::<S>::from_bytes(input))
+    listed.is_result(&Multihash::<S>::from_bytes(input))
 }
 
 // Whether `from_value` of the input as an array of numbers returns what is listed for `from_bytes`.
@@ -130,7 +130,7 @@ fn value_agrees<const S: usize>(line: &Line) -> bool
 {
     laws::one_verdict();
     let outcome = Multihash::<S>::from_value(&line.json);
-    line.from_bytes.is_answer(&outcome)
+    line.from_bytes.is_result(&outcome)
 }
 
 // Whether `read` from the slice does what is listed.
@@ -142,7 +142,7 @@ fn slice_agrees<const S: usize>(input: &[u8], listed: &Reading) -> bool
     laws::settles();
     let mut left = input;
     let outcome = Multihash::<S>::read(&mut left);
-    listed.verdict.is_answer(&outcome) && takes_as_listed(input, left, listed)
+    listed.verdict.is_result(&outcome) && takes_as_listed(input, left, listed)
 }
 
 // Whether `read` does what is listed, from a reader that returns at most that many bytes per call.
@@ -155,7 +155,7 @@ fn cuts_agree<const S: usize>(input: &[u8], listed: &Reading, most: usize) -> bo
     laws::settles();
     let mut cuts = Cuts::new(input, most);
     let outcome = Multihash::<S>::read(&mut cuts);
-    listed.verdict.is_answer(&outcome) && takes_as_listed(input, cuts.left, listed)
+    listed.verdict.is_result(&outcome) && takes_as_listed(input, cuts.left, listed)
 }
 
 // Whether the listed number of bytes was consumed: there is one exactly if the input is complete. Of an input
@@ -182,7 +182,7 @@ fn scale_slice_agrees<const S: usize>(input: &[u8], listed: &Reading) -> bool
     laws::scale_unique();
     let mut left = input;
     let outcome = Multihash::<S>::scale_decode(&mut left);
-    listed.verdict.is_answer(&outcome) && takes_as_scale_listed(input, left, listed)
+    listed.verdict.is_result(&outcome) && takes_as_scale_listed(input, left, listed)
 }
 
 // Whether `scale_decode` does what is listed, from a reader that returns at most that many bytes per call.
@@ -194,7 +194,7 @@ fn scale_cuts_agree<const S: usize>(input: &[u8], listed: &Reading, most: usize)
     laws::scale_unique();
     let mut cuts = Cuts::new(input, most);
     let outcome = Multihash::<S>::scale_decode(&mut cuts);
-    listed.verdict.is_answer(&outcome) && takes_as_scale_listed(input, cuts.left, listed)
+    listed.verdict.is_result(&outcome) && takes_as_scale_listed(input, cuts.left, listed)
 }
 
 // Whether the listed number of bytes was consumed; any number if the input is incomplete.

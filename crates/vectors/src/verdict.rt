@@ -57,7 +57,7 @@ impl Verdict {
     }
 
     /// Whether the result is this verdict.
-    pub fn is_answer<const S: usize>(&self, outcome: &Result<Multihash<S>, Error>) -> bool
+    pub fn is_result<const S: usize>(&self, outcome: &Result<Multihash<S>, Error>) -> bool
         ensures { IsTrue result ↔ IsResultOf outcome.now (meaning self.now) }
     {
         match (self, outcome) {

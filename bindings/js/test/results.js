@@ -54,7 +54,7 @@ export function vectors(module, text) {
   }
 }
 
-/** A decoding as answers.c writes it. */
+/** A decoding as results.c writes it. */
 function decoded(module, call) {
   const { error, multihash, taken } = result(module, call);
   if (error) return `${STATUSES.indexOf(error.status)} ${error.size ?? 0} ${error.code ?? 0} ${error.taken} `;
@@ -91,8 +91,8 @@ function lineOf(module, data, index, before) {
   return `${parts.join('|')}|${module.compare(left, right)}`;
 }
 
-export function mutated(module, inputs, answers) {
-  const lines = answers.split('\n').slice(0, -1);
+export function mutated(module, inputs, results) {
+  const lines = results.split('\n').slice(0, -1);
   let at = 0;
   let before;
   for (let index = 0; at < inputs.length; index++) {
@@ -101,7 +101,7 @@ export function mutated(module, inputs, answers) {
     const data = inputs.subarray(start, at);
     same(lineOf(module, data, index, before), lines[index], `input ${index} ${hex(data)}`);
     before = data;
-    if (at === inputs.length) same(index + 1, lines.length, 'lines of answers');
+    if (at === inputs.length) same(index + 1, lines.length, 'lines of results');
   }
-  same(lines.length > 0, true, 'answers');
+  same(lines.length > 0, true, 'results');
 }

@@ -1,6 +1,6 @@
 use Rattle.std.proofs.Common.{rules, ◌≡◌, ◌↔◌, ℕ, IsTrue, Option, None, Some, nat_eq}
 use Rattle.std.specs.Option.{option_eq}
-use Rattle.vectors.proofs.verdict.Verdict.is_answer.Goals as goal
+use Rattle.vectors.proofs.verdict.Verdict.is_result.Goals as goal
 
 -- what `==` says of a number and an optional one
 same_number : (o : Option ℕ) (n : ℕ) → IsTrue (option_eq nat_eq o (Some n)) ↔ (o ≡ Some n)
