@@ -2,7 +2,7 @@
 //! call `expect` on that in the test. A check is proved once, while `assert!` is proved at each call. Each
 //! borrow of a local and each branch makes the proof of a test longer: so a note is a value and no formatted
 //! text, and `expect_ok!` replaces `?`.
-use crate::refusal::{Refusal, is_rejected};
+use crate::error_kind::{ErrorKind, is_rejected};
 use multihash::Error;
 use std::fmt::Debug;
 
@@ -91,8 +91,8 @@ pub fn equal_bytes<'a>(bytes: &'a [u8], wanted: &'a [u8]) -> Result<(), Unequal<
 /// Returns the expected error and the note if the call did not fail with that error.
 pub fn rejected<T, N: Debug + Drop>(
     outcome: &Result<T, Error>,
-    why: Refusal,
+    why: ErrorKind,
     note: N,
-) -> Result<(), (Refusal, N)> {
+) -> Result<(), (ErrorKind, N)> {
     holds(is_rejected(outcome, why), (why, note))
 }

@@ -2,7 +2,7 @@
 //! made here and not by the library.
 ghost use Rattle.std.specs.Prelude.{◌<◌, ◌^◌};
 
-use crate::refusal::{LARGEST_CODE, Refusal};
+use crate::error_kind::{ErrorKind, LARGEST_CODE};
 use multihash::list::{read_list, write_list};
 use multihash::no_std_io::{Read, Write};
 use multihash::{Error, Multihash};
@@ -156,14 +156,14 @@ impl Form {
     }
 
     /// The calls for an input that ends after that many bytes of a pair's form, and the error.
-    pub fn requests_of_front(self, code: Code, len: usize, at: usize) -> (Calls, Refusal) {
+    pub fn requests_of_front(self, code: Code, len: usize, at: usize) -> (Calls, ErrorKind) {
         let single = head_len(code, len);
         match self {
-            Form::Scale if at < 8 => ((0, 0, 1), Refusal::UnexpectedEof),
-            Form::Scale if at < 9 => ((0, 0, 2), Refusal::UnexpectedEof),
-            Form::Scale => ((0, 0, 3), Refusal::UnexpectedEof),
-            _ if at < single => ((at.saturating_add(1), 0, 0), Refusal::Insufficient),
-            _ => ((single, 0, 1), Refusal::UnexpectedEof),
+            Form::Scale if at < 8 => ((0, 0, 1), ErrorKind::UnexpectedEof),
+            Form::Scale if at < 9 => ((0, 0, 2), ErrorKind::UnexpectedEof),
+            Form::Scale => ((0, 0, 3), ErrorKind::UnexpectedEof),
+            _ if at < single => ((at.saturating_add(1), 0, 0), ErrorKind::Insufficient),
+            _ => ((single, 0, 1), ErrorKind::UnexpectedEof),
         }
     }
 

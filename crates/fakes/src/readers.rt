@@ -1,7 +1,7 @@
 //! Readers that return few bytes, fail, have unknown input, or count their calls.
 ghost use Rattle.std.specs.Prelude.{◌<◌, Some, None, if◌then◌else◌};
 
-use crate::refusal::{Refusal, own_error};
+use crate::error_kind::{ErrorKind, own_error};
 use multihash::no_std_io::{Error, Read};
 
 /// A reader of a slice with known input, which returns at most `most` bytes per call.
@@ -41,12 +41,12 @@ pub struct FailAt<'a> {
     /// The number of calls.
     pub asked: usize,
     calls: usize,
-    why: Refusal,
+    why: ErrorKind,
     failed: bool,
 }
 
 impl<'a> FailAt<'a> {
-    pub fn new(cuts: Cuts<'a>, calls: usize, why: Refusal) -> Self {
+    pub fn new(cuts: Cuts<'a>, calls: usize, why: ErrorKind) -> Self {
         FailAt {
             cuts,
             asked: 0,
@@ -100,7 +100,7 @@ pub struct Counts<'a> {
     /// The calls of `read_exact`.
     pub whole: usize,
     calls: usize,
-    why: Refusal,
+    why: ErrorKind,
     may_fail: bool,
 }
 
@@ -112,12 +112,12 @@ impl<'a> Counts<'a> {
             others: 0,
             whole: 0,
             calls: 0,
-            why: Refusal::LINK_DOWN,
+            why: ErrorKind::LINK_DOWN,
             may_fail: false,
         }
     }
 
-    pub fn failing(left: &'a [u8], calls: usize, why: Refusal) -> Self {
+    pub fn failing(left: &'a [u8], calls: usize, why: ErrorKind) -> Self {
         let mut counts = Counts::new(left);
         counts.calls = calls;
         counts.why = why;

@@ -2,7 +2,7 @@
 ghost use Rattle.std.specs.Prelude.{◌≡◌, ◌<◌, ◌≤◌, ◌+◌, true, false, vec_len, vec_capacity, if◌then◌else◌};
 ghost use Rattle.multihash.specs.Writing.{AppendsAtEnd, AppendsAtEnd-none, AppendsAtEnd-concatenated};
 
-use crate::refusal::{Refusal, own_error};
+use crate::error_kind::{ErrorKind, own_error};
 use multihash::no_std_io::{Error, Write};
 use std::alloc::{AllocError, Global};
 
@@ -64,12 +64,12 @@ pub struct FailWrite {
     /// The number of calls.
     pub asked: usize,
     calls: usize,
-    why: Refusal,
+    why: ErrorKind,
     failed: bool,
 }
 
 impl FailWrite {
-    pub fn new(drip: Drip, calls: usize, why: Refusal) -> Self {
+    pub fn new(drip: Drip, calls: usize, why: ErrorKind) -> Self {
         FailWrite {
             drip,
             asked: 0,
@@ -119,7 +119,7 @@ pub struct CountsWrites {
     /// The calls of `write_all`.
     pub whole: usize,
     calls: usize,
-    why: Refusal,
+    why: ErrorKind,
     may_fail: bool,
 }
 
@@ -130,12 +130,12 @@ impl CountsWrites {
             parts: 0,
             whole: 0,
             calls: 0,
-            why: Refusal::DISK_GONE,
+            why: ErrorKind::DISK_GONE,
             may_fail: false,
         }
     }
 
-    pub fn failing(alloc: Global, calls: usize, why: Refusal) -> Self {
+    pub fn failing(alloc: Global, calls: usize, why: ErrorKind) -> Self {
         let mut counts = CountsWrites::new(alloc);
         counts.calls = calls;
         counts.why = why;

@@ -1,7 +1,7 @@
 //! The functions of `uses::headline`, which are proved there.
 use crate::list::two;
+use fakes::error_kind::ErrorKind;
 use fakes::readers::Cuts;
-use fakes::refusal::Refusal;
 use fakes::{check_eq, expect_bytes, expect_ok, expect_rejected};
 use multihash::list::write_list;
 use uses::headline::{list_through, read_verdict, verdict};
@@ -14,13 +14,13 @@ fn one_verdict_of_each(rt: HostRuntime) {
     let rt = &rt;
     let whole = expect_ok!(rt; verdict::<4>(&STREAM[..3]));
     expect_bytes!(rt; whole.digest(), &[65]);
-    expect_rejected!(rt; &verdict::<4>(&STREAM), Refusal::InvalidSize(4), 7);
-    expect_rejected!(rt; &verdict::<4>(&STREAM[..1]), Refusal::Insufficient, 1);
+    expect_rejected!(rt; &verdict::<4>(&STREAM), ErrorKind::InvalidSize(4), 7);
+    expect_rejected!(rt; &verdict::<4>(&STREAM[..1]), ErrorKind::Insufficient, 1);
     let mut reader = Cuts::new(&STREAM, 2);
     check_eq!(rt; expect_ok!(rt; read_verdict(&mut reader)), whole);
     expect_bytes!(rt; reader.left, &STREAM[3..]);
     let early = read_verdict::<0, _>(&mut reader);
-    expect_rejected!(rt; &early, Refusal::InvalidSize(1), 0);
+    expect_rejected!(rt; &early, ErrorKind::InvalidSize(1), 0);
     expect_bytes!(rt; reader.left, &STREAM[5..]);
 }
 

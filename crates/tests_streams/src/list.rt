@@ -1,8 +1,8 @@
 //! Worked values of streams.
 ghost use Rattle.std.specs.Prelude.{◌<◌, ◌^◌};
 
+use fakes::error_kind::{ErrorKind, is_rejected};
 use fakes::readers::{Cuts, FailAt, Silent};
-use fakes::refusal::{Refusal, is_rejected};
 use fakes::{check, expect_bytes, expect_ok, expect_rejected};
 use multihash::list::{read_list, write_list};
 use multihash::no_std_io::Read;
@@ -38,7 +38,7 @@ fn two_of_a_stream(rt: HostRuntime) {
         expect_bytes!(rt; reader.left, &[7]);
         let mut reader = Cuts::new(&STREAM, most);
         let failed = read_list::<4, _>(alloc, &mut reader, 3);
-        expect_rejected!(rt; &failed, Refusal::Insufficient, most);
+        expect_rejected!(rt; &failed, ErrorKind::Insufficient, most);
         check!(rt; reader.left.is_empty());
     }
 }
@@ -65,10 +65,10 @@ fn none_at_the_end_of_a_stream(rt: HostRuntime) {
     }
     let mut left = &STREAM[6..];
     let failed = Multihash::<4>::read_next(&mut left);
-    expect_rejected!(rt; &failed, Refusal::Insufficient, "code alone");
+    expect_rejected!(rt; &failed, ErrorKind::Insufficient, "code alone");
     check!(rt; left.is_empty());
     let mut left = [0x80u8].as_slice();
-    check!(rt; is_rejected(&varint::read_next(&mut left), Refusal::Insufficient));
+    check!(rt; is_rejected(&varint::read_next(&mut left), ErrorKind::Insufficient));
 }
 
 // A failed call has consumed nothing, so the value can be read after it.
@@ -76,9 +76,9 @@ fn none_at_the_end_of_a_stream(rt: HostRuntime) {
 fn a_reader_that_failed_is_read_again(rt: HostRuntime) {
     let rt = &rt;
     let wanted = &expect_ok!(rt; two());
-    let mut reader = FailAt::new(Cuts::new(&STREAM, 1), 0, Refusal::LINK_DOWN);
+    let mut reader = FailAt::new(Cuts::new(&STREAM, 1), 0, ErrorKind::LINK_DOWN);
     let failed = Multihash::<4>::read(&mut reader);
-    expect_rejected!(rt; &failed, Refusal::LINK_DOWN, "the first call");
+    expect_rejected!(rt; &failed, ErrorKind::LINK_DOWN, "the first call");
     for item in wanted {
         check!(rt; expect_ok!(rt; Multihash::<4>::read(&mut reader)) == *item);
     }
@@ -103,7 +103,7 @@ fn expect_first<const S: usize>(
     alloc: Global,
     input: &[u8],
     count: usize,
-    why: Refusal,
+    why: ErrorKind,
     wanted: &[u8],
 )
     requires { S < 2 ^ 16 }
@@ -118,11 +118,11 @@ fn expect_first<const S: usize>(
 fn the_first_error_is_returned(rt: HostRuntime) {
     let alloc = rt.alloc();
     let rt = &rt;
-    let why = Refusal::InvalidSize(2);
+    let why = ErrorKind::InvalidSize(2);
     expect_first::<1>(rt, alloc, &[0, 1, 65, 0, 2, 66, 67], 2, why, &[66, 67]);
-    let why = Refusal::NotMinimal;
+    let why = ErrorKind::NotMinimal;
     expect_first::<1>(rt, alloc, &[0, 1, 65, 128, 0, 0, 0], 3, why, &[0, 0]);
-    let why = Refusal::UnexpectedEof;
+    let why = ErrorKind::UnexpectedEof;
     expect_first::<4>(rt, alloc, &[0, 1, 65, 0, 4, 1, 2], 2, why, &[1, 2]);
 }
 
@@ -133,7 +133,7 @@ fn two_are_written(rt: HostRuntime) {
     let items = expect_ok!(rt; two());
     let mut buffer = [0u8; 4];
     let mut left = buffer.as_mut_slice();
-    expect_rejected!(rt; &write_list(&items, &mut left), Refusal::WriteZero, 4);
+    expect_rejected!(rt; &write_list(&items, &mut left), ErrorKind::WriteZero, 4);
     check!(rt; left.is_empty());
     expect_bytes!(rt; &buffer, &[0, 1, 65, 18]);
     let mut bytes = Vec::new(alloc);

@@ -1,6 +1,6 @@
 //! The bytes read and written, and that the calls of readers and writers succeed.
+use fakes::error_kind::{ErrorKind, is_failed};
 use fakes::readers::{Cuts, FailAt, Silent};
-use fakes::refusal::{Refusal, is_failed};
 use fakes::writers::Drip;
 use fakes::{check, check_eq, expect_bytes, expect_ok};
 use multihash::no_std_io::{Read, Write};
@@ -12,7 +12,7 @@ fn a_short_slice_is_left_as_it_is(rt: HostRuntime) {
     let mut left = [1u8, 2, 3].as_slice();
     let mut buf = [9u8; 4];
     let failed = left.read_exact(&mut buf);
-    check!(rt; is_failed(&failed, Refusal::UnexpectedEof));
+    check!(rt; is_failed(&failed, ErrorKind::UnexpectedEof));
     expect_bytes!(rt; left, &[1, 2, 3]);
     expect_bytes!(rt; &buf, &[9, 9, 9, 9]);
 }
@@ -32,7 +32,7 @@ fn cuts_are_concatenated(rt: HostRuntime) {
     let mut reader = Cuts::new(&[1, 2, 3], 2);
     let mut buf = [0u8; 4];
     let failed = reader.read_exact(&mut buf);
-    check!(rt; is_failed(&failed, Refusal::UnexpectedEof));
+    check!(rt; is_failed(&failed, ErrorKind::UnexpectedEof));
     check!(rt; reader.left.is_empty());
     let mut reader = Cuts::new(&[1, 2, 3], 2);
     let mut buf = [0u8; 3];
@@ -43,13 +43,13 @@ fn cuts_are_concatenated(rt: HostRuntime) {
 #[test]
 fn a_failure_takes_nothing(rt: HostRuntime) {
     let rt = &rt;
-    let mut reader = FailAt::new(Cuts::new(&[7], 1), 0, Refusal::LINK_DOWN);
+    let mut reader = FailAt::new(Cuts::new(&[7], 1), 0, ErrorKind::LINK_DOWN);
     let failed = read_one(&mut reader);
-    check!(rt; is_failed(&failed, Refusal::LINK_DOWN));
+    check!(rt; is_failed(&failed, ErrorKind::LINK_DOWN));
     check_eq!(rt; read_one(&mut reader).ok(), Some(Some(7)));
     check_eq!(rt; read_one(&mut reader).ok(), Some(None));
-    let mut reader = FailAt::new(Cuts::new(&[7], 1), 0, Refusal::OutOfMemory);
-    check!(rt; is_failed(&read_one(&mut reader), Refusal::OutOfMemory));
+    let mut reader = FailAt::new(Cuts::new(&[7], 1), 0, ErrorKind::OutOfMemory);
+    check!(rt; is_failed(&read_one(&mut reader), ErrorKind::OutOfMemory));
 }
 
 #[test]
@@ -66,7 +66,7 @@ fn a_slice_is_filled(rt: HostRuntime) {
     let mut left = buffer.as_mut_slice();
     let failed = left.write_all(&[7, 8, 9]);
     let is_full = left.is_empty();
-    check!(rt; is_failed(&failed, Refusal::WriteZero));
+    check!(rt; is_failed(&failed, ErrorKind::WriteZero));
     check!(rt; is_full);
     expect_bytes!(rt; &buffer, &[7, 8]);
 }
@@ -77,7 +77,7 @@ fn drops_fill_a_drip(rt: HostRuntime) {
     let mut drip = expect_ok!(rt; Drip::new(rt.alloc(), 5, 2));
     check_eq!(rt; drip.write(&[1, 2, 3]).ok(), Some(2));
     let failed = drip.write_all(&[3, 4, 5, 6]);
-    check!(rt; is_failed(&failed, Refusal::WriteZero));
+    check!(rt; is_failed(&failed, ErrorKind::WriteZero));
     expect_bytes!(rt; &drip.held, &[1, 2, 3, 4, 5]);
 }
 

@@ -1,6 +1,6 @@
 //! A reader that retries another one.
+use fakes::error_kind::ErrorKind;
 use fakes::readers::{Cuts, FailAt};
-use fakes::refusal::Refusal;
 use fakes::{check_eq, expect_bytes, expect_ok, expect_rejected};
 use multihash::Multihash;
 use std::process::Abort;
@@ -10,7 +10,7 @@ const STREAM: [u8; 5] = [0, 2, 7, 8, 9];
 
 fn expect_a_try(rt: &impl Abort, calls: usize) {
     let mut again = Retries::new(
-        FailAt::new(Cuts::new(&STREAM, 1), calls, Refusal::LINK_DOWN),
+        FailAt::new(Cuts::new(&STREAM, 1), calls, ErrorKind::LINK_DOWN),
         2,
     );
     let multihash = expect_ok!(rt; Multihash::<4>::read(&mut again));
@@ -32,11 +32,11 @@ fn with_no_try_left_the_failure_is_handed_on(rt: HostRuntime) {
     let rt = &rt;
     for calls in 0..4 {
         let mut again = Retries::new(
-            FailAt::new(Cuts::new(&STREAM, 1), calls, Refusal::LINK_DOWN),
+            FailAt::new(Cuts::new(&STREAM, 1), calls, ErrorKind::LINK_DOWN),
             0,
         );
         let failed = Multihash::<4>::read(&mut again);
-        expect_rejected!(rt; &failed, Refusal::LINK_DOWN, calls);
+        expect_rejected!(rt; &failed, ErrorKind::LINK_DOWN, calls);
         check_eq!(rt; again.reader.asked, calls + 1);
     }
 }
@@ -47,7 +47,7 @@ fn a_long_digest_comes_in_parts(rt: HostRuntime) {
     let mut stream = [7u8; 102];
     stream[1] = 100;
     let mut again = Retries::new(
-        FailAt::new(Cuts::new(&stream, 200), 3, Refusal::LINK_DOWN),
+        FailAt::new(Cuts::new(&stream, 200), 3, ErrorKind::LINK_DOWN),
         1,
     );
     let multihash = expect_ok!(rt; Multihash::<100>::read(&mut again));

@@ -1,6 +1,6 @@
 //! The readers, writers and the log of `storage`.
+use fakes::error_kind::{ErrorKind, is_failed};
 use fakes::readers::{Cuts, FailAt};
-use fakes::refusal::{Refusal, is_failed};
 use fakes::writers::{CountsWrites, Drip, FailWrite};
 use fakes::{check, check_eq, expect_bytes, expect_ok, expect_rejected};
 use multihash::Multihash;
@@ -43,7 +43,7 @@ fn slices_are_read_in_a_row(rt: HostRuntime) {
     check_eq!(rt; expect_ok!(rt; chained.read(&mut buffer)), 2);
     expect_bytes!(rt; &buffer, &[1, 2, 0, 0]);
     check_eq!(rt; expect_ok!(rt; chained.read(&mut buffer)), 0);
-    check!(rt; is_failed(&chained.read_exact(&mut [0]), Refusal::UnexpectedEof));
+    check!(rt; is_failed(&chained.read_exact(&mut [0]), ErrorKind::UnexpectedEof));
 }
 
 // One call gives as much of a slice as the buffer has room for.
@@ -71,10 +71,10 @@ fn what_was_written_is_hashed(rt: HostRuntime) {
         let fails = FailWrite::new(
             expect_ok!(rt; Drip::new(alloc, 3, 1)),
             room,
-            Refusal::DISK_GONE,
+            ErrorKind::DISK_GONE,
         );
         let mut writer = HashingWriter::new(fails);
-        check_eq!(rt; is_failed(&writer.write_all(b"abc"), Refusal::DISK_GONE), room < 3);
+        check_eq!(rt; is_failed(&writer.write_all(b"abc"), ErrorKind::DISK_GONE), room < 3);
         check!(rt; writer.finish().0 == hash_of(&b"abc"[..room]));
     }
     check!(rt; HashingWriter::<Vec<u8>>::ALLOCATES && !HashingWriter::<Drip>::ALLOCATES);
@@ -90,7 +90,7 @@ fn what_was_read_is_hashed(rt: HostRuntime) {
         let mut buffer = [0; 4];
         let mut reader = HashingReader::new(Cuts::new(b"abc", 1));
         let outcome = reader.read_exact(&mut buffer[..n]);
-        check_eq!(rt; is_failed(&outcome, Refusal::UnexpectedEof), n == 4);
+        check_eq!(rt; is_failed(&outcome, ErrorKind::UnexpectedEof), n == 4);
         let read = n.min(3);
         expect_bytes!(rt; &buffer[..read], &TEXT[..read]);
         check_eq!(rt; reader.hasher.count(), read as u64);
@@ -100,9 +100,9 @@ fn what_was_read_is_hashed(rt: HostRuntime) {
         let mut reader = HashingReader::new(FailAt::new(
             Cuts::new(b"abc", 1),
             n,
-            Refusal::LINK_DOWN,
+            ErrorKind::LINK_DOWN,
         ));
-        check_eq!(rt; is_failed(&reader.read_exact(&mut [0; 3]), Refusal::LINK_DOWN), n < 3);
+        check_eq!(rt; is_failed(&reader.read_exact(&mut [0; 3]), ErrorKind::LINK_DOWN), n < 3);
         check!(rt; reader.finish().0 == hash_of(&TEXT[..read]));
     }
 }
@@ -146,8 +146,8 @@ fn an_entry_is_written_by_five_calls(rt: HostRuntime) {
     check_eq!(rt; (writer.parts, writer.whole), (0, 5));
 }
 
-fn is_entry_rejected(outcome: &Result<Entry<32>, EntryError>, why: Refusal) -> bool {
-    matches!(outcome, Err(EntryError::Failed(e)) if Refusal::of(e) == Some(why))
+fn is_entry_rejected(outcome: &Result<Entry<32>, EntryError>, why: ErrorKind) -> bool {
+    matches!(outcome, Err(EntryError::Failed(e)) if ErrorKind::of(e) == Some(why))
 }
 
 #[test]
@@ -181,9 +181,9 @@ fn cut_entries_are_rejected(rt: HostRuntime) {
         let mut reader = Cuts::new(&LOG[..n], 1);
         let outcome: Result<Entry<32>, EntryError> = read_entry(alloc, &mut reader, 3);
         let wanted = if n < 2 || n == HEAD - 1 {
-            Refusal::Insufficient
+            ErrorKind::Insufficient
         } else {
-            Refusal::UnexpectedEof
+            ErrorKind::UnexpectedEof
         };
         check!(rt; is_entry_rejected(&outcome, wanted), n);
         check!(rt; reader.left.is_empty(), n);
@@ -195,16 +195,16 @@ fn cut_entries_are_rejected(rt: HostRuntime) {
 fn malformed_entries_are_rejected(rt: HostRuntime) {
     let alloc = rt.alloc();
     let rt = &rt;
-    let rows: [(&[u8], Refusal, usize); 5] = [
-        (&[0x92, 0, 0, 1], Refusal::NotMinimal, 2),
-        (&[18, 33, 0, 1], Refusal::InvalidSize(33), 2),
-        (&[18, 0, 0x80, 0, 1], Refusal::NotMinimal, 1),
+    let rows: [(&[u8], ErrorKind, usize); 5] = [
+        (&[0x92, 0, 0, 1], ErrorKind::NotMinimal, 2),
+        (&[18, 33, 0, 1], ErrorKind::InvalidSize(33), 2),
+        (&[18, 0, 0x80, 0, 1], ErrorKind::NotMinimal, 1),
         (
             &[18, 0, 255, 255, 255, 255, 255, 255, 255, 255, 128, 1],
-            Refusal::Overflow,
+            ErrorKind::Overflow,
             1,
         ),
-        (&[18, 1, 65, 0x80], Refusal::Insufficient, 0),
+        (&[18, 1, 65, 0x80], ErrorKind::Insufficient, 0),
     ];
     for (bytes, wanted, left) in rows {
         let mut reader = Cuts::new(bytes, 1);
@@ -223,7 +223,7 @@ fn a_claimed_length_is_not_allocated(rt: HostRuntime) {
     let rt = &rt;
     let mut left = CLAIM.as_slice();
     let outcome: Result<Entry<32>, EntryError> = read_entry(alloc, &mut left, usize::MAX);
-    check!(rt; is_entry_rejected(&outcome, Refusal::UnexpectedEof));
+    check!(rt; is_entry_rejected(&outcome, ErrorKind::UnexpectedEof));
 }
 
 // The reader fails: what it returned before was consumed.
@@ -232,9 +232,9 @@ fn failures_of_the_reader_are_passed_on(rt: HostRuntime) {
     let alloc = rt.alloc();
     let rt = &rt;
     for n in 0..FIRST {
-        let mut reader = FailAt::new(Cuts::new(&LOG, 1), n, Refusal::LINK_DOWN);
+        let mut reader = FailAt::new(Cuts::new(&LOG, 1), n, ErrorKind::LINK_DOWN);
         let outcome: Result<Entry<32>, EntryError> = read_entry(alloc, &mut reader, 3);
-        check!(rt; is_entry_rejected(&outcome, Refusal::LINK_DOWN), n);
+        check!(rt; is_entry_rejected(&outcome, ErrorKind::LINK_DOWN), n);
         expect_bytes!(rt; reader.cuts.left, &LOG[n..]);
     }
 }
@@ -247,15 +247,15 @@ fn failed_writes_append_a_prefix(rt: HostRuntime) {
     for room in 0..FIRST {
         let mut full = expect_ok!(rt; Drip::new(alloc, room, 1));
         let outcome = write_entry(&hash, b"one", &mut full);
-        expect_rejected!(rt; &outcome, Refusal::WriteZero, room);
+        expect_rejected!(rt; &outcome, ErrorKind::WriteZero, room);
         expect_bytes!(rt; &full.held, &LOG[..room]);
         let mut fails = FailWrite::new(
             expect_ok!(rt; Drip::new(alloc, FIRST, 1)),
             room,
-            Refusal::OutOfMemory,
+            ErrorKind::OutOfMemory,
         );
         let outcome = write_entry(&hash, b"one", &mut fails);
-        expect_rejected!(rt; &outcome, Refusal::OutOfMemory, room);
+        expect_rejected!(rt; &outcome, ErrorKind::OutOfMemory, room);
         expect_bytes!(rt; &fails.drip.held, &LOG[..room]);
     }
 }

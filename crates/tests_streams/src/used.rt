@@ -1,8 +1,8 @@
 //! That the calls of `uses` succeed, for long inputs too, and what they print.
 ghost use Rattle.std.specs.Prelude.{◌<◌, ◌^◌};
 
+use fakes::error_kind::ErrorKind;
 use fakes::readers::Cuts;
-use fakes::refusal::Refusal;
 use fakes::{check, check_eq, expect_bytes, expect_ok};
 use multihash::Multihash;
 use std::alloc::Global;
@@ -73,9 +73,9 @@ fn expect_content(rt: &impl Abort, id: &ContentId<32>) {
     expect_bytes!(rt; &bytes, &SECTION[1..37]);
 }
 
-fn section_error(bytes: &[u8]) -> Option<Refusal> {
+fn section_error(bytes: &[u8]) -> Option<ErrorKind> {
     match section_front::<32>(bytes) {
-        Err(ContentIdError::Rejected(e)) => Refusal::of(&e),
+        Err(ContentIdError::Rejected(e)) => ErrorKind::of(&e),
         _ => None,
     }
 }
@@ -98,10 +98,10 @@ fn a_section_is_read(rt: HostRuntime) {
     }
     let mut short = SECTION;
     short[0] = 35;
-    let text = Refusal::Other("the identifier is longer than its section");
+    let text = ErrorKind::Other("the identifier is longer than its section");
     check_eq!(rt; section_error(&short), Some(text));
-    check_eq!(rt; section_error(&SECTION[..40]), Some(Refusal::UnexpectedEof));
-    check_eq!(rt; section_error(&SECTION[..4]), Some(Refusal::Insufficient));
+    check_eq!(rt; section_error(&SECTION[..40]), Some(ErrorKind::UnexpectedEof));
+    check_eq!(rt; section_error(&SECTION[..4]), Some(ErrorKind::Insufficient));
 }
 
 fn expect_printed<const S: usize>(rt: &impl Abort, alloc: Global, digest: &[u8])

@@ -2,9 +2,9 @@
 //! borrowed one is called like the original.
 ghost use Rattle.std.specs.Prelude.{◌<◌, ◌^◌};
 
+use fakes::error_kind::ErrorKind;
 use fakes::forms::{CASES, CODES, Calls, Code, Form, LENGTHS, case, different, many};
 use fakes::readers::{Counts, Cuts, FailAt};
-use fakes::refusal::Refusal;
 use fakes::writers::CountsWrites;
 use fakes::{check, check_eq, expect_bytes, expect_ok, expect_rejected};
 use multihash::list::{read_list, write_list};
@@ -29,7 +29,7 @@ fn expect_asked<const S: usize>(
         let mut reader = Counts::new(input);
         check!(rt; expect_ok!(rt; form.reads(alloc, items, &mut reader, borrowed)), form);
         check_eq!(rt; reader.asked(), requests, form);
-        let mut reader = FailAt::new(Cuts::new(input, 300), 600, Refusal::LINK_DOWN);
+        let mut reader = FailAt::new(Cuts::new(input, 300), 600, ErrorKind::LINK_DOWN);
         check!(rt; expect_ok!(rt; form.reads(alloc, items, &mut reader, borrowed)), form);
         check_eq!(rt; reader.asked, calls, form);
     }
@@ -104,10 +104,10 @@ fn no_items_make_no_call(rt: HostRuntime) {
     let alloc = rt.alloc();
     let rt = &rt;
     let none: [Multihash<4>; 0] = [];
-    let mut writer = CountsWrites::failing(alloc, 0, Refusal::DISK_GONE);
+    let mut writer = CountsWrites::failing(alloc, 0, ErrorKind::DISK_GONE);
     check!(rt; write_list(&none, &mut writer).is_ok());
     check_eq!(rt; (writer.parts, writer.whole), (0, 0));
-    let mut reader = Counts::failing(&[0, 0], 0, Refusal::LINK_DOWN);
+    let mut reader = Counts::failing(&[0, 0], 0, ErrorKind::LINK_DOWN);
     check!(rt; expect_ok!(rt; read_list::<4, _>(alloc, &mut reader, 0)).is_empty());
     check_eq!(rt; reader.asked(), (0, 0, 0));
 }
@@ -116,7 +116,7 @@ fn no_items_make_no_call(rt: HostRuntime) {
 fn expect_end<T>(
     rt: &impl Abort,
     outcome: &Result<T, Error>,
-    why: Refusal,
+    why: ErrorKind,
     reader: &Counts,
     asked: Calls,
 ) {
@@ -160,7 +160,7 @@ fn expect_size_ends(rt: &impl Abort, alloc: Global, code: Code) {
         let mut reader = Counts::new(&input);
         let outcome = Multihash::<4>::read(&mut reader);
         let asked = (at.saturating_add(2), 0, 0);
-        expect_end(rt, &outcome, Refusal::Insufficient, &reader, asked);
+        expect_end(rt, &outcome, ErrorKind::Insufficient, &reader, asked);
     }
 }
 

@@ -2,9 +2,9 @@
 //! each call, that what was not consumed is left, and that no call is made after it.
 ghost use Rattle.std.specs.Prelude.{◌<◌, ◌^◌};
 
+use fakes::error_kind::{ErrorKind, is_failed};
 use fakes::forms::{CASES, Code, Form, LENGTHS, case, different, many};
 use fakes::readers::{Counts, Cuts, FailAt};
-use fakes::refusal::{Refusal, is_failed};
 use fakes::writers::{CountsWrites, Drip, FailWrite};
 use fakes::{check, check_eq, expect_bytes, expect_ok, expect_rejected};
 use multihash::Multihash;
@@ -23,7 +23,7 @@ fn expect_reader_error<const S: usize>(
     items: &[Multihash<S>],
     input: &[u8],
     at: usize,
-    why: Refusal,
+    why: ErrorKind,
 )
     requires { S < 2 ^ 16 }
 {
@@ -37,8 +37,8 @@ fn expect_reader_error<const S: usize>(
 }
 
 // A writer without its own `write_all`, which fails or is full after that many bytes.
-fn failing_writer(rt: &impl Abort, alloc: Global, at: usize, why: Refusal) -> FailWrite {
-    let is_full = why == Refusal::WriteZero;
+fn failing_writer(rt: &impl Abort, alloc: Global, at: usize, why: ErrorKind) -> FailWrite {
+    let is_full = why == ErrorKind::WriteZero;
     let room = if is_full { at } else { MOST };
     let calls = if is_full { MOST } else { at };
     let drip = expect_ok!(rt; Drip::new(alloc, room, 1));
@@ -51,7 +51,7 @@ fn expect_writer_error<const S: usize>(
     form: Form,
     items: &[Multihash<S>],
     front: &[u8],
-    why: Refusal,
+    why: ErrorKind,
 )
     requires { S < 2 ^ 16 }
 {
@@ -75,12 +75,12 @@ fn expect_errors_at<const S: usize>(
 )
     requires { S < 2 ^ 16 }
 {
-    expect_reader_error(rt, alloc, form, items, bytes, at, Refusal::LINK_DOWN);
-    expect_reader_error(rt, alloc, form, items, bytes, at, Refusal::OutOfMemory);
+    expect_reader_error(rt, alloc, form, items, bytes, at, ErrorKind::LINK_DOWN);
+    expect_reader_error(rt, alloc, form, items, bytes, at, ErrorKind::OutOfMemory);
     let front = bytes.get(..at).unwrap_or(&[]);
-    expect_writer_error(rt, alloc, form, items, front, Refusal::DISK_GONE);
-    expect_writer_error(rt, alloc, form, items, front, Refusal::OutOfMemory);
-    expect_writer_error(rt, alloc, form, items, front, Refusal::WriteZero);
+    expect_writer_error(rt, alloc, form, items, front, ErrorKind::DISK_GONE);
+    expect_writer_error(rt, alloc, form, items, front, ErrorKind::OutOfMemory);
+    expect_writer_error(rt, alloc, form, items, front, ErrorKind::WriteZero);
 }
 
 // At each byte of a form, or at some of them and the last.
@@ -161,7 +161,7 @@ fn expect_request_error<const S: usize>(
     items: &[Multihash<S>],
     input: &[u8],
     calls: usize,
-    why: Refusal,
+    why: ErrorKind,
 )
     requires { S < 2 ^ 16 }
 {
@@ -188,7 +188,7 @@ fn expect_call_error<const S: usize>(
 )
     requires { S < 2 ^ 16 }
 {
-    for why in [Refusal::DISK_GONE, Refusal::OutOfMemory] {
+    for why in [ErrorKind::DISK_GONE, ErrorKind::OutOfMemory] {
         let mut writer = CountsWrites::failing(alloc, calls, why);
         let outcome = form.writes(items, &mut writer, false);
         expect_rejected!(rt; &outcome, why, (form, calls));
@@ -206,8 +206,16 @@ fn expect_call_errors<const S: usize>(rt: &impl Abort, alloc: Global, code: Code
         let bytes = expect_ok!(rt; form.bytes(alloc, code, digest));
         let (single, _, whole) = form.requests(code, digest.len());
         for calls in 0..single.saturating_add(whole) {
-            expect_request_error(rt, alloc, form, &items, &bytes, calls, Refusal::LINK_DOWN);
-            expect_request_error(rt, alloc, form, &items, &bytes, calls, Refusal::OutOfMemory);
+            expect_request_error(rt, alloc, form, &items, &bytes, calls, ErrorKind::LINK_DOWN);
+            expect_request_error(
+                rt,
+                alloc,
+                form,
+                &items,
+                &bytes,
+                calls,
+                ErrorKind::OutOfMemory,
+            );
         }
         let second = bytes.len().saturating_sub(digest.len());
         for (calls, written) in [(0, 0), (1, first), (2, second)] {
@@ -239,13 +247,17 @@ fn each_call_of_each_length_fails(rt: HostRuntime) {
 
 // The traits' own `read_exact` and `write_all`, of more bytes than a digest has.
 fn expect_long_error(rt: &impl Abort, alloc: Global, bytes: &[u8], at: usize) {
-    for why in [Refusal::LINK_DOWN, Refusal::OutOfMemory] {
+    for why in [ErrorKind::LINK_DOWN, ErrorKind::OutOfMemory] {
         let mut reader = FailAt::new(Cuts::new(bytes, 1), at, why);
         let outcome = reader.read_exact(&mut [0; 600]);
         check!(rt; is_failed(&outcome, why), (why, at));
         expect_bytes!(rt; reader.cuts.left, bytes.get(at..).unwrap_or(&[]));
     }
-    for why in [Refusal::DISK_GONE, Refusal::OutOfMemory, Refusal::WriteZero] {
+    for why in [
+        ErrorKind::DISK_GONE,
+        ErrorKind::OutOfMemory,
+        ErrorKind::WriteZero,
+    ] {
         let mut writer = failing_writer(rt, alloc, at, why);
         let outcome = writer.write_all(bytes);
         check!(rt; is_failed(&outcome, why), (why, at));

@@ -2,8 +2,8 @@
 //! capacity is allocated.
 ghost use Rattle.std.specs.Prelude.{◌<◌, ◌^◌};
 
+use fakes::error_kind::{ErrorKind, is_rejected};
 use fakes::forms::{CASES, case, different, many};
-use fakes::refusal::{Refusal, is_rejected};
 use fakes::{check, check_eq, expect_ok};
 use multihash::Multihash;
 use multihash::list::{read_list, write_list};
@@ -132,7 +132,7 @@ fn expect_places<const S: usize>(rt: &impl Abort, alloc: Global, count: usize)
     requires { S < 2 ^ 16 }
 {
     let outcome = read_list::<S, _>(alloc, &mut [].as_slice(), count);
-    check!(rt; is_rejected(&outcome, Refusal::Insufficient), count);
+    check!(rt; is_rejected(&outcome, ErrorKind::Insufficient), count);
 }
 
 #[test]

@@ -1,8 +1,8 @@
 //! Printed texts: those of errors, at any width and precision, the number in one, and `Debug`.
 ghost use Rattle.std.specs.Prelude.{◌<◌, ◌^◌};
 
+use fakes::error_kind::LARGEST_CODE;
 use fakes::forms::{CASES, CODES, case, different};
-use fakes::refusal::LARGEST_CODE;
 use fakes::{check, check_eq, expect_ok};
 use multihash::no_std_io::{self, Read, Write};
 use multihash::{Error, Head, Multihash, varint};

@@ -2,8 +2,8 @@
 //! byte shorter, and into vectors.
 ghost use Rattle.std.specs.Prelude.{◌<◌, ◌^◌};
 
+use fakes::error_kind::{ErrorKind, is_rejected};
 use fakes::forms::{CASES, CODES, Code, Form, case, different, many};
-use fakes::refusal::{Refusal, is_rejected};
 use fakes::{check, check_eq, expect_bytes, expect_ok};
 use multihash::no_std_io::{SliceWriter, Write};
 use multihash::{Error, Multihash};
@@ -17,7 +17,7 @@ const PLACES: usize = 533;
 fn is_written(outcome: &Result<usize, Error>, len: usize, room: usize) -> bool {
     match outcome {
         Ok(n) => *n == len && len <= room,
-        Err(_) => room < len && is_rejected(outcome, Refusal::WriteZero),
+        Err(_) => room < len && is_rejected(outcome, ErrorKind::WriteZero),
     }
 }
 

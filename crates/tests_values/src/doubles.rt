@@ -1,21 +1,21 @@
 //! What the tests stand on: `is_rejected` and `is_failed` return false for each other error and for none.
 use fakes::check_eq;
-use fakes::refusal::{Refusal, is_failed, is_rejected};
+use fakes::error_kind::{ErrorKind, is_failed, is_rejected};
 use multihash::no_std_io::{self, Read, Write};
 use multihash::{Error, Multihash};
 
-const ERRORS: [Refusal; 11] = [
-    Refusal::Insufficient,
-    Refusal::Overflow,
-    Refusal::NotMinimal,
-    Refusal::InvalidSize(5),
-    Refusal::InvalidSize(6),
-    Refusal::InvalidCode(1 << 63),
-    Refusal::InvalidCode(u64::MAX),
-    Refusal::UnexpectedEof,
-    Refusal::LINK_DOWN,
-    Refusal::DISK_GONE,
-    Refusal::OutOfMemory,
+const ERRORS: [ErrorKind; 11] = [
+    ErrorKind::Insufficient,
+    ErrorKind::Overflow,
+    ErrorKind::NotMinimal,
+    ErrorKind::InvalidSize(5),
+    ErrorKind::InvalidSize(6),
+    ErrorKind::InvalidCode(1 << 63),
+    ErrorKind::InvalidCode(u64::MAX),
+    ErrorKind::UnexpectedEof,
+    ErrorKind::LINK_DOWN,
+    ErrorKind::DISK_GONE,
+    ErrorKind::OutOfMemory,
 ];
 
 // A result for each of these errors, in this order, and a success.
@@ -47,20 +47,23 @@ fn an_error_is_no_other(rt: HostRuntime) {
 }
 
 // The I/O errors, each by itself, and a success.
-fn failures() -> [(Result<(), no_std_io::Error>, Refusal); 6] {
+fn failures() -> [(Result<(), no_std_io::Error>, ErrorKind); 6] {
     [
-        ([].as_slice().read_exact(&mut [0]), Refusal::UnexpectedEof),
+        ([].as_slice().read_exact(&mut [0]), ErrorKind::UnexpectedEof),
         (
             Err(no_std_io::Error::other("link down")),
-            Refusal::LINK_DOWN,
+            ErrorKind::LINK_DOWN,
         ),
         (
             Err(no_std_io::Error::other("disk gone")),
-            Refusal::DISK_GONE,
+            ErrorKind::DISK_GONE,
         ),
-        (Err(no_std_io::Error::out_of_memory()), Refusal::OutOfMemory),
-        ([].as_mut_slice().write_all(&[7]), Refusal::WriteZero),
-        (Ok(()), Refusal::Other("no failure")),
+        (
+            Err(no_std_io::Error::out_of_memory()),
+            ErrorKind::OutOfMemory,
+        ),
+        ([].as_mut_slice().write_all(&[7]), ErrorKind::WriteZero),
+        (Ok(()), ErrorKind::Other("no failure")),
     ]
 }
 

@@ -1,7 +1,7 @@
 //! The JSON form.
 ghost use Rattle.std.specs.Prelude.{◌<◌, ◌^◌};
 
-use fakes::refusal::Refusal;
+use fakes::error_kind::ErrorKind;
 use fakes::{check, check_eq, expect_ok, expect_rejected};
 use multihash::Multihash;
 use serde_json::Value;
@@ -36,7 +36,7 @@ null, true, false, 0, 7, 255, 256, 18446744073709551615, -1, -922337203685477580
 fn expect_no_bytes<const S: usize>(rt: &impl Abort, value: &Value, n: usize)
     requires { S < 2 ^ 16 }
 {
-    expect_rejected!(rt; &Multihash::<S>::from_value(value), Refusal::NotBytes, n);
+    expect_rejected!(rt; &Multihash::<S>::from_value(value), ErrorKind::NotBytes, n);
 }
 
 #[test]

@@ -3,7 +3,7 @@
 //! turn, and counts them.
 ghost use Rattle.std.specs.Prelude.{◌<◌, ◌^◌};
 
-use fakes::refusal::{LARGEST_CODE, Refusal, is_rejected};
+use fakes::error_kind::{ErrorKind, LARGEST_CODE, is_rejected};
 use fakes::{check, check_eq, expect_bytes};
 use multihash::list::{read_list, write_list};
 use multihash::no_std_io::{self, Read, SliceWriter, Write};
@@ -24,7 +24,7 @@ fn unless_rejected<T>(rt: &impl Abort, outcome: Result<T, Error>) -> Result<T, F
     match outcome {
         Ok(outcome) => Ok(outcome),
         Err(e) => {
-            check_eq!(rt; Refusal::of(&e), Some(Refusal::OutOfMemory));
+            check_eq!(rt; ErrorKind::of(&e), Some(ErrorKind::OutOfMemory));
             check!(rt; matches!(e.io(), Some(error) if error.text() == "out of memory"));
             Err(FAILED)?
         }
@@ -107,7 +107,7 @@ fn expect_list_of<const S: usize>(rt: &impl Abort, alloc: Global, count: usize) 
     requires { S < 2 ^ 16 }
 {
     let outcome = read_list::<S, _>(alloc, &mut [0u8, 0].as_slice(), count);
-    if !is_rejected(&outcome, Refusal::Insufficient) {
+    if !is_rejected(&outcome, ErrorKind::Insufficient) {
         unless_rejected(rt, outcome)?;
     }
     Ok(())
@@ -233,7 +233,7 @@ fn too_many_places_are_rejected(rt: HostRuntime) -> Result<(), Fail> {
     for count in [usize::MAX, usize::MAX / 2] {
         let mut left = STREAM.as_slice();
         let failed = read_list::<4, _>(rt.alloc(), &mut left, count);
-        check!(&rt; is_rejected(&failed, Refusal::OutOfMemory));
+        check!(&rt; is_rejected(&failed, ErrorKind::OutOfMemory));
         expect_bytes!(&rt; left, &STREAM);
     }
     Ok(())
@@ -335,11 +335,11 @@ fn errors_need_no_memory(rt: HostRuntime) {
     check!(&rt; !e.is_overflow() && !e.is_insufficient() && !e.is_not_minimal());
     check!(&rt; e.invalid_size().is_none() && e.invalid_code().is_none() && !e.is_incomplete());
     let e = Error::from(no_std_io::Error::out_of_memory());
-    check_eq!(&rt; Refusal::of(&e), Some(Refusal::OutOfMemory));
+    check_eq!(&rt; ErrorKind::of(&e), Some(ErrorKind::OutOfMemory));
     check!(&rt; !e.is_incomplete() && !e.is_not_bytes());
     let empty = Value::Array(Vec::new(rt.alloc()));
-    check!(&rt; is_rejected(&Multihash::<4>::from_value(&empty), Refusal::Insufficient));
-    check!(&rt; is_rejected(&Multihash::<4>::from_value(&Value::Null), Refusal::NotBytes));
+    check!(&rt; is_rejected(&Multihash::<4>::from_value(&empty), ErrorKind::Insufficient));
+    check!(&rt; is_rejected(&Multihash::<4>::from_value(&Value::Null), ErrorKind::NotBytes));
     let failed = Multihash::<4>::wrap(u64::MAX, &[]);
-    check!(&rt; is_rejected(&failed, Refusal::InvalidCode(u64::MAX)));
+    check!(&rt; is_rejected(&failed, ErrorKind::InvalidCode(u64::MAX)));
 }

@@ -1,8 +1,8 @@
 //! Comparing, hashing, truncating and resizing, by known values.
 ghost use Rattle.std.specs.Prelude.{◌<◌, ◌^◌};
 
+use fakes::error_kind::{ErrorKind, is_rejected};
 use fakes::readers::Cuts;
-use fakes::refusal::{Refusal, is_rejected};
 use fakes::{check, check_eq, expect_bytes, expect_ok, expect_rejected};
 use multihash::{Head, Multihash, MultihashGeneric};
 use std::alloc::Global;
@@ -25,7 +25,7 @@ fn defaults_are_empty(rt: HostRuntime) {
     check_eq!(rt; Multihash::<0>::default().into_inner(), (0, [], 0));
 }
 
-fn expect_unwrapped<const S: usize>(rt: &impl Abort, code: u64, digest: &[u8], why: Refusal)
+fn expect_unwrapped<const S: usize>(rt: &impl Abort, code: u64, digest: &[u8], why: ErrorKind)
     requires { S < 2 ^ 16 }
 {
     expect_rejected!(rt; &Multihash::<S>::wrap(code, digest), why, (code, digest));
@@ -34,11 +34,11 @@ fn expect_unwrapped<const S: usize>(rt: &impl Abort, code: u64, digest: &[u8], w
 #[test]
 fn pairs_are_rejected(rt: HostRuntime) {
     let rt = &rt;
-    expect_unwrapped::<4>(rt, 1 << 63, b"AB", Refusal::InvalidCode(1 << 63));
-    expect_unwrapped::<300>(rt, 0, &[0; 256], Refusal::InvalidSize(256));
-    expect_unwrapped::<128>(rt, 0, &[0; 129], Refusal::InvalidSize(129));
+    expect_unwrapped::<4>(rt, 1 << 63, b"AB", ErrorKind::InvalidCode(1 << 63));
+    expect_unwrapped::<300>(rt, 0, &[0; 256], ErrorKind::InvalidSize(256));
+    expect_unwrapped::<128>(rt, 0, &[0; 129], ErrorKind::InvalidSize(129));
     // The size comes before the code.
-    expect_unwrapped::<2>(rt, u64::MAX, b"foobar", Refusal::InvalidSize(6));
+    expect_unwrapped::<2>(rt, u64::MAX, b"foobar", ErrorKind::InvalidSize(6));
 }
 
 // How much of an incomplete digest is read depends on the reader.
@@ -47,11 +47,11 @@ fn a_digest_is_incomplete(rt: HostRuntime) {
     let rt = &rt;
     let mut left = [0u8, 2, 9].as_slice();
     let failed = Multihash::<2>::read(&mut left);
-    expect_rejected!(rt; &failed, Refusal::UnexpectedEof, 2);
+    expect_rejected!(rt; &failed, ErrorKind::UnexpectedEof, 2);
     expect_bytes!(rt; left, &[9]);
     let mut cuts = Cuts::new(&[0, 2, 9], 1);
     let failed = Multihash::<2>::read(&mut cuts);
-    expect_rejected!(rt; &failed, Refusal::UnexpectedEof, 3);
+    expect_rejected!(rt; &failed, ErrorKind::UnexpectedEof, 3);
     check!(rt; cuts.left.is_empty());
 }
 
@@ -65,7 +65,7 @@ fn a_digest_is_cut(rt: HostRuntime) {
     array[..3].copy_from_slice(b"foo");
     check_eq!(rt; cut.into_inner(), (0, array, 3));
     check_eq!(rt; &m.truncate(9), &m);
-    check!(rt; is_rejected(&m.resize::<2>(), Refusal::InvalidSize(6)));
+    check!(rt; is_rejected(&m.resize::<2>(), ErrorKind::InvalidSize(6)));
 }
 
 /// Two pairs, and how the left one compares with the right one.

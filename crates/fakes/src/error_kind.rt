@@ -8,7 +8,7 @@ pub const LARGEST_CODE: u64 = 9223372036854775807;
 
 /// The kind of an error: the library's, or one of a reader or a writer, which may be passed on.
 #[derive(Clone, Copy, Debug, PartialEq, Eq)]
-pub enum Refusal {
+pub enum ErrorKind {
     InvalidSize(u64),
     InvalidCode(u64),
     Insufficient,
@@ -22,32 +22,32 @@ pub enum Refusal {
     Other(&'static str),
 }
 
-impl Refusal {
+impl ErrorKind {
     /// The error of this crate's readers.
-    pub const LINK_DOWN: Refusal = Refusal::Other("link down");
+    pub const LINK_DOWN: ErrorKind = ErrorKind::Other("link down");
 
     /// The error of this crate's writers.
-    pub const DISK_GONE: Refusal = Refusal::Other("disk gone");
+    pub const DISK_GONE: ErrorKind = ErrorKind::Other("disk gone");
 
     /// The kind of an error: the first test that applies.
     pub fn of(e: &Error) -> Option<Self> {
         if let Some(error) = e.io() {
-            return Refusal::of_error(error);
+            return ErrorKind::of_error(error);
         }
         if let Some(size) = e.invalid_size() {
-            return Some(Refusal::InvalidSize(size));
+            return Some(ErrorKind::InvalidSize(size));
         }
         if let Some(code) = e.invalid_code() {
-            return Some(Refusal::InvalidCode(code));
+            return Some(ErrorKind::InvalidCode(code));
         }
         if e.is_insufficient() {
-            Some(Refusal::Insufficient)
+            Some(ErrorKind::Insufficient)
         } else if e.is_overflow() {
-            Some(Refusal::Overflow)
+            Some(ErrorKind::Overflow)
         } else if e.is_not_minimal() {
-            Some(Refusal::NotMinimal)
+            Some(ErrorKind::NotMinimal)
         } else if e.is_not_bytes() {
-            Some(Refusal::NotBytes)
+            Some(ErrorKind::NotBytes)
         } else {
             None
         }
@@ -56,13 +56,13 @@ impl Refusal {
     /// The kind of a reader's or a writer's error.
     pub fn of_error(e: &no_std_io::Error) -> Option<Self> {
         if e.is_unexpected_eof() {
-            Some(Refusal::UnexpectedEof)
+            Some(ErrorKind::UnexpectedEof)
         } else if e.is_write_zero() {
-            Some(Refusal::WriteZero)
+            Some(ErrorKind::WriteZero)
         } else if e.is_out_of_memory() {
-            Some(Refusal::OutOfMemory)
+            Some(ErrorKind::OutOfMemory)
         } else if e.is_other() {
-            Some(Refusal::Other(e.text()))
+            Some(ErrorKind::Other(e.text()))
         } else {
             None
         }
@@ -70,21 +70,21 @@ impl Refusal {
 }
 
 // The error of this kind that a reader or a writer has of its own: out of memory, or another one.
-pub(crate) fn own_error(why: Refusal) -> no_std_io::Error
+pub(crate) fn own_error(why: ErrorKind) -> no_std_io::Error
     ensures { IsOwnFault result }
 {
     match why {
-        Refusal::Other(text) => no_std_io::Error::other(text),
+        ErrorKind::Other(text) => no_std_io::Error::other(text),
         _ => no_std_io::Error::out_of_memory(),
     }
 }
 
 /// Whether a call failed with this kind of error.
-pub fn is_rejected<T>(outcome: &Result<T, Error>, why: Refusal) -> bool {
-    matches!(outcome, Err(e) if Refusal::of(e) == Some(why))
+pub fn is_rejected<T>(outcome: &Result<T, Error>, why: ErrorKind) -> bool {
+    matches!(outcome, Err(e) if ErrorKind::of(e) == Some(why))
 }
 
 /// Whether a reader or a writer failed with this kind of error.
-pub fn is_failed<T>(outcome: &Result<T, no_std_io::Error>, why: Refusal) -> bool {
-    matches!(outcome, Err(e) if Refusal::of_error(e) == Some(why))
+pub fn is_failed<T>(outcome: &Result<T, no_std_io::Error>, why: ErrorKind) -> bool {
+    matches!(outcome, Err(e) if ErrorKind::of_error(e) == Some(why))
 }
