@@ -1,17 +1,26 @@
 -- What a contract sees of an error of readers and writers.
 use Rattle.std.specs.Prelude.{◌≡◌, ℕ, List, ◌⊎◌, codes}
 use Rattle.multihash.specs.declared.no_std_io.error.Kind.{Kind}
-use Rattle.multihash.specs.declared.no_std_io.error.Kind.TheVariants.{
-  UnexpectedEof,
-  WriteZero,
-  OutOfMemory,
-  Other,
-}
+use Rattle.multihash.specs.declared.no_std_io.error.Kind.TheVariants.{UnexpectedEof as Eof, WriteZero as Full, OutOfMemory as Memory, Other as Own}
+
+-- the kinds of an error
+pub data FaultKind : Type 0 where
+  UnexpectedEof : FaultKind
+  WriteZero : FaultKind
+  OutOfMemory : FaultKind
+  Other : FaultKind
 
 -- an error's kind, and the text that it prints
 pub record Fault : Type 0 where
-  pub kind : Kind
+  pub kind : FaultKind
   pub text : List ℕ
+
+-- what a contract sees of each kind with its text
+abbrev pub fault_of : Kind → Fault
+fault_of (Eof text) = record { kind = UnexpectedEof; text = text.now }
+fault_of (Full text) = record { kind = WriteZero; text = text.now }
+fault_of (Memory text) = record { kind = OutOfMemory; text = text.now }
+fault_of (Own text) = record { kind = Other; text = text.now }
 
 -- the input ended before a buffer was full
 abbrev pub IsUnexpectedEof : Fault → Type 0
@@ -34,7 +43,7 @@ abbrev pub IsOwnFault : Fault → Type 0
 IsOwnFault e = IsOther e ⊎ IsOutOfMemoryFault e
 
 -- the text that an error of this kind prints; `own`, which it was made with, matters only for `Other`
-abbrev pub text_of : Kind → List ℕ → List ℕ
+abbrev pub text_of : FaultKind → List ℕ → List ℕ
 text_of UnexpectedEof own = codes "failed to fill whole buffer"
 text_of WriteZero own = codes "failed to write whole buffer"
 text_of OutOfMemory own = codes "out of memory"

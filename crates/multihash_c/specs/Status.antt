@@ -1,9 +1,8 @@
 -- The statuses that a C caller gets.
 use Rattle.std.specs.Prelude.{◌≡◌, ◌<◌, ℕ, List, [], codes}
 use Rattle.multihash.specs.Varint.{VarintError, insufficient, overflow, not_minimal}
-use Rattle.multihash.specs.Fault.{text_of}
+use Rattle.multihash.specs.Fault.{text_of, UnexpectedEof, WriteZero}
 use Rattle.multihash.specs.Refusal.{varint_text}
-use Rattle.multihash.specs.declared.no_std_io.error.Kind.TheVariants.{UnexpectedEof, WriteZero}
 
 -- success
 abbrev pub status_ok : ℕ

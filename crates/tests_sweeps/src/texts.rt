@@ -37,7 +37,7 @@ fn expect_io_error(
             expect_text(rt, alloc, e, text);
         }
     }
-    let wanted = format!(in alloc; "Err(Error {{ kind: {kind}, text: {text:?} }})");
+    let wanted = format!(in alloc; "Err(Error {{ kind: {kind}({text:?}) }})");
     expect_shown(rt, alloc, outcome, expect_ok!(rt; wanted).as_str());
 }
 
@@ -96,7 +96,7 @@ fn errors_print_their_texts(rt: HostRuntime) {
         (&[128, 0], "NotMinimal", "encoding is not minimal"),
         (
             &[0, 1],
-            "Io(Error { kind: UnexpectedEof, text: \"failed to fill whole buffer\" })",
+            "Io(Error { kind: UnexpectedEof(\"failed to fill whole buffer\") })",
             "failed to fill whole buffer",
         ),
     ] {
@@ -111,7 +111,7 @@ fn errors_print_their_texts(rt: HostRuntime) {
         "Failed to deserialize Multihash",
     );
     let full = Multihash::<1>::default().write(&mut [].as_mut_slice());
-    let kind = "Io(Error { kind: WriteZero, text: \"failed to write whole buffer\" })";
+    let kind = "Io(Error { kind: WriteZero(\"failed to write whole buffer\") })";
     expect_error(rt, alloc, &full, kind, "failed to write whole buffer");
 }
 

@@ -1,6 +1,6 @@
 //! A list of allowed codes.
 ghost use Rattle.std.specs.Prelude.{◌≡◌, ◌⊎◌, ℕ, List, ◌++◌, Some, Contains, IfOk, IfErr, IsOkAnd, IsErrAnd, codes};
-ghost use Rattle.multihash.specs.declared.no_std_io.error.Kind.TheVariants.{Other};
+ghost use Rattle.multihash.specs.Fault.{Other};
 ghost use Rattle.multihash.specs.Pair.{Pair, FitsBuffer};
 ghost use Rattle.multihash.specs.Encoding.{IsEncoding};
 ghost use Rattle.multihash.specs.Refusal.{of_io};

@@ -2,8 +2,7 @@
 -- value has a code in range and a digest that fits.
 use Rattle.std.proofs.Common.{◌≡◌, ℕ, List, [], length, refl, ap, arith, inl, inr, ◌+◌}
 use Rattle.std.specs.Prelude.{codes, Ok, Err}
-use Rattle.multihash.specs.declared.no_std_io.error.Kind.TheVariants.{UnexpectedEof, WriteZero, OutOfMemory, Other}
-use Rattle.multihash.specs.Fault.{Fault, IsUnexpectedEof, IsWriteZero, IsOutOfMemoryFault, IsOther, IsOwnFault, HasStandardText}
+use Rattle.multihash.specs.Fault.{Fault, UnexpectedEof, WriteZero, OutOfMemory, Other, IsUnexpectedEof, IsWriteZero, IsOutOfMemoryFault, IsOther, IsOwnFault, HasStandardText}
 use Rattle.std.specs.Fmt.{digits}
 use Rattle.multihash.specs.Varint.{VarintError, insufficient, overflow, not_minimal}
 use Rattle.multihash.specs.Refusal.{Refusal, of_io, of_size, of_code, of_varint, of_not_bytes, IsIo, IsEof, IsOutOfMemory, IsReaderError, IsInvalidSize, IsInvalidCode, IsVarintError, IsNotBytes, refusal_text}

@@ -5,14 +5,6 @@ ghost use Rattle.multihash.specs.Fault.{IsUnexpectedEof, IsWriteZero, IsOutOfMem
 use std::fmt;
 use std::marker::Model;
 
-#[derive(Clone, Copy, Debug, PartialEq, Eq)]
-enum Kind {
-    UnexpectedEof,
-    WriteZero,
-    OutOfMemory,
-    Other,
-}
-
 /// The error of readers and writers: one of four kinds, and the text that it prints.
 ///
 /// Exactly one of `is_unexpected_eof`, `is_write_zero`, `is_out_of_memory` and `is_other` is true of an
@@ -20,17 +12,26 @@ enum Kind {
 #[derive(Debug, Drop)]
 pub struct Error {
     kind: Kind,
-    text: &'static str,
+}
+
+// Each kind has its text: between a kind and a text of the struct there would be padding, which needs
+// instructions wherever an error is returned.
+#[derive(Debug, Drop)]
+enum Kind {
+    UnexpectedEof(&'static str),
+    WriteZero(&'static str),
+    OutOfMemory(&'static str),
+    Other(&'static str),
 }
 
 impl Model for Error {
-    ghost use Rattle.multihash.specs.Fault.{Fault, HasStandardText};
+    ghost use Rattle.multihash.specs.Fault.{Fault, HasStandardText, fault_of};
 
     ghost Value = { Fault };
 
-    ghost view = { λ e. record { kind = e.kind; text = e.text.now } };
+    ghost view = { λ e. fault_of e.kind };
 
-    ghost invariant = { λ e. HasStandardText (record { kind = e.kind; text = e.text.now }) };
+    ghost invariant = { λ e. HasStandardText (fault_of e.kind) };
 }
 
 impl Error {
@@ -39,8 +40,7 @@ impl Error {
         ensures { IsUnexpectedEof result }
     {
         Error {
-            kind: Kind::UnexpectedEof,
-            text: "failed to fill whole buffer",
+            kind: Kind::UnexpectedEof("failed to fill whole buffer"),
         }
     }
 
@@ -49,8 +49,7 @@ impl Error {
         ensures { IsWriteZero result }
     {
         Error {
-            kind: Kind::WriteZero,
-            text: "failed to write whole buffer",
+            kind: Kind::WriteZero("failed to write whole buffer"),
         }
     }
 
@@ -59,8 +58,7 @@ impl Error {
         ensures { IsOutOfMemoryFault result }
     {
         Error {
-            kind: Kind::OutOfMemory,
-            text: "out of memory",
+            kind: Kind::OutOfMemory("out of memory"),
         }
     }
 
@@ -70,8 +68,7 @@ impl Error {
         ensures text { result.text ≡ text.now }
     {
         Error {
-            kind: Kind::Other,
-            text,
+            kind: Kind::Other(text),
         }
     }
 
@@ -80,35 +77,40 @@ impl Error {
         ensures text { result.now ≡ self.now.text }
         ensures standard { HasStandardText self.now }
     {
-        self.text
+        match &self.kind {
+            Kind::UnexpectedEof(text)
+            | Kind::WriteZero(text)
+            | Kind::OutOfMemory(text)
+            | Kind::Other(text) => text,
+        }
     }
 
     /// Returns whether the input ended before a buffer was full.
     pub fn is_unexpected_eof(&self) -> bool
         ensures { IsTrue result ↔ IsUnexpectedEof self.now }
     {
-        matches!(self.kind, Kind::UnexpectedEof)
+        matches!(&self.kind, Kind::UnexpectedEof(_))
     }
 
     /// Returns whether a writer was full.
     pub fn is_write_zero(&self) -> bool
         ensures { IsTrue result ↔ IsWriteZero self.now }
     {
-        matches!(self.kind, Kind::WriteZero)
+        matches!(&self.kind, Kind::WriteZero(_))
     }
 
     /// Returns whether an allocation failed.
     pub fn is_out_of_memory(&self) -> bool
         ensures { IsTrue result ↔ IsOutOfMemoryFault self.now }
     {
-        matches!(self.kind, Kind::OutOfMemory)
+        matches!(&self.kind, Kind::OutOfMemory(_))
     }
 
     /// Returns whether it is an error of the reader or the writer itself, made by [`Error::other`].
     pub fn is_other(&self) -> bool
         ensures { IsTrue result ↔ IsOther self.now }
     {
-        matches!(self.kind, Kind::Other)
+        matches!(&self.kind, Kind::Other(_))
     }
 }
 
@@ -119,7 +121,7 @@ impl fmt::Display for Error {
     ghost styled_output = { λ e _. Some (printed e) };
 
     fn fmt<W: fmt::Write>(&self, f: &mut fmt::Formatter<W>) -> fmt::Result {
-        f.write_str(self.text)
+        f.write_str(self.text())
     }
 }
 

@@ -115,12 +115,37 @@ impl Write for &mut [u8] {
         ensures fits { IsOk result ↔ (length buf.now ≤ length self.old.now) }
         ensures filled { OnErr result (self.new.now ≡ []) }
     {
-        if self.write(buf)? == buf.len() {
-            Ok(())
-        } else {
-            Err(Error::write_zero())
+        let all = std::mem::take(self);
+        if buf.len() > all.len() {
+            fill(buf, all);
+            return Err(Error::write_zero());
         }
+        put_front(buf, all);
+        *self = &mut all[buf.len()..];
+        Ok(())
     }
+}
+
+// Copies all bytes to the front. The usual digest is copied as a whole.
+#[inline(always)]
+fn put_front(from: &[u8], to: &mut [u8])
+    requires { length from.now ≤ length to.old }
+    ensures { to.new ≡ from.now ++ drop (length from.now) to.old }
+{
+    match from.as_array::<32>() {
+        Some(whole) => *to.first_chunk_mut().unwrap() = *whole,
+        None => to[..from.len()].copy_from_slice(from),
+    }
+}
+
+// Fills a slice with the first bytes: apart, so that the usual write keeps no registers for it.
+#[cold]
+#[inline(never)]
+fn fill(from: &[u8], to: &mut [u8])
+    requires { length to.old ≤ length from.now }
+    ensures { to.new ≡ take (length to.old) from.now }
+{
+    to.copy_from_slice(&from[..to.len()]);
 }
 
 /// Appends to the vector. If out of memory, the vector is unchanged.
