@@ -140,7 +140,7 @@ fn head_of(bytes: &[u8]) -> Front
     ensures { ReadsFront bytes.now result }
 {
     let Some(head) = Head::find_front(bytes) else {
-        let (status, taken) = fault(bytes);
+        let (status, taken) = error_of(bytes);
         return Front {
             status,
             code: 0,
@@ -177,7 +177,7 @@ fn decode_whole(front: &[u8], whole_length: usize) -> Decoded
     ensures taken { result.taken ≡ whole_length }
 {
     let Some(head) = Head::find_front(front) else {
-        let (status, _) = fault(front);
+        let (status, _) = error_of(front);
         return rejected(status, 0, 0, whole_length);
     };
     if head.digest_len > DIGEST_MAX as u64 {
@@ -201,7 +201,7 @@ fn read_within(bytes: &[u8], limit: usize) -> Decoded
     ensures { ReadsWithin limit bytes.now result }
 {
     let Some(head) = Head::find_front(bytes) else {
-        let (status, taken) = fault(bytes);
+        let (status, taken) = error_of(bytes);
         return rejected(status, 0, 0, taken);
     };
     if head.digest_len > limit as u64 || head.digest_len > DIGEST_MAX as u64 {
@@ -218,7 +218,7 @@ fn read_within(bytes: &[u8], limit: usize) -> Decoded
 // usual input needs no room for an error.
 #[cold]
 #[inline(never)]
-fn fault(bytes: &[u8]) -> (u32, usize)
+fn error_of(bytes: &[u8]) -> (u32, usize)
     requires { (error : VarintError) × ((S : ℕ) → HasVerdict S bytes.now (malformed error)) }
     ensures { (e : Refusal) × (h : IsHeadError bytes.now e result.1)
         × (result.0 ≡ status_of_error h.error) }
