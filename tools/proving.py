@@ -111,7 +111,7 @@ def written(home):
 
 
 def report(results):
-    """Prints each (what, error) that has a error, and then how many passed and failed. Returns the exit status."""
+    """Prints each (what, error) that has an error, and then how many passed and failed. Returns the exit status."""
     counts = Counter()
     for what, error in results:
         counts[bool(error)] += 1

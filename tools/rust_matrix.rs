@@ -366,7 +366,7 @@ fn run_in<const S: usize>((operation, size, code_len, _): &Case, count: u32) -> 
 }
 
 /// What the program prints, or `None` where its words name no case.
-fn result(words: &[&str]) -> Option<String> {
+fn output(words: &[&str]) -> Option<String> {
     let operations = || OPERATIONS.into_iter().chain(CODECS);
     let lines: Vec<String> = match words {
         ["cases"] => operations().flat_map(cases).map(|(o, s, c, b)| format!("{o} {s} {c} {b}\n")).collect(),
@@ -387,7 +387,7 @@ fn result(words: &[&str]) -> Option<String> {
 
 fn main() -> ExitCode {
     let words: Vec<String> = std::env::args().skip(1).collect();
-    match result(&words.iter().map(String::as_str).collect::<Vec<_>>()) {
+    match output(&words.iter().map(String::as_str).collect::<Vec<_>>()) {
         Some(text) => {
             print!("{text}");
             ExitCode::SUCCESS

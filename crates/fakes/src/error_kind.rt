@@ -32,7 +32,7 @@ impl ErrorKind {
     /// The kind of an error: the first test that applies.
     pub fn of(e: &Error) -> Option<Self> {
         if let Some(error) = e.io() {
-            return ErrorKind::of_error(error);
+            return ErrorKind::of_io(error);
         }
         if let Some(size) = e.invalid_size() {
             return Some(ErrorKind::InvalidSize(size));
@@ -54,7 +54,7 @@ impl ErrorKind {
     }
 
     /// The kind of a reader's or a writer's error.
-    pub fn of_error(e: &no_std_io::Error) -> Option<Self> {
+    pub fn of_io(e: &no_std_io::Error) -> Option<Self> {
         if e.is_unexpected_eof() {
             Some(ErrorKind::UnexpectedEof)
         } else if e.is_write_zero() {
@@ -86,5 +86,5 @@ pub fn is_rejected<T>(outcome: &Result<T, Error>, why: ErrorKind) -> bool {
 
 /// Whether a reader or a writer failed with this kind of error.
 pub fn is_failed<T>(outcome: &Result<T, no_std_io::Error>, why: ErrorKind) -> bool {
-    matches!(outcome, Err(e) if ErrorKind::of_error(e) == Some(why))
+    matches!(outcome, Err(e) if ErrorKind::of_io(e) == Some(why))
 }

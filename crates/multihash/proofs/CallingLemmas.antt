@@ -72,7 +72,7 @@ write_of_encoded_len old new p len r (own, is_own, long) room empty kept stopped
 -- decoding a pair's SCALE form and more returns the pair and leaves what follows
 pub scale_pair : (S : ℕ) (p q : Pair) (input bytes consumed more left : List ℕ) (v : Verdict) → input ≡ bytes ++ more → IsScale p bytes
     → FitsBuffer S p → HasScaleVerdict S input v → v ≡ accepted q → IsScale q consumed → input ≡ consumed ++ left → (q ≡ p) × (left ≡ more)
-scale_pair S p q input bytes consumed more left v whole form fits found results is_taken cut =
+scale_pair S p q input bytes consumed more left v whole form fits found is_result is_taken cut =
     let same = scale_split q p consumed bytes left more is_taken form (sym cut ∙ whole) in (same.0, same.2)
 
 -- and it is not rejected
@@ -105,15 +105,15 @@ rejected_no_encoding S {e = e} {bytes = bytes} (v, h, names) p encodes fits =
 -- bytes that `from_bytes` accepts are the encoding of the pair that it returns, and of no other
 pub accepted_encoding : (S : ℕ) {q : Pair} {bytes : List ℕ} → (v : Verdict) × HasWholeVerdict S bytes v × (v ≡ accepted q)
     → IsEncoding q bytes × ((p : Pair) → IsEncoding p bytes → q ≡ p)
-accepted_encoding S {q = q} {bytes = bytes} (v, h, results) =
-    let own = (subst (HasWholeVerdict S bytes) results h).0 in
+accepted_encoding S {q = q} {bytes = bytes} (v, h, is_result) =
+    let own = (subst (HasWholeVerdict S bytes) is_result h).0 in
     (own, λ p encodes. (encoding_unique q p bytes bytes [] [] own encodes refl).0)
 
 -- the verdict on a pair's encoding is the pair
 pub from_bytes_of_encoding : (S : ℕ) (p : Pair) (bytes : List ℕ) (r : Result (Fields S) Refusal) (v : Verdict) → HasWholeVerdict S bytes v → IsResultOf r v
     → IsEncoding p bytes → FitsBuffer S p → MatchResult r (λ m. pair_of m ≡ p) IsOutOfMemory
-from_bytes_of_encoding S p bytes (Ok m) v h results encodes fits = (accepted_encoding S (v, h, results)).1 p encodes
-from_bytes_of_encoding S p bytes (Err e) v h results encodes fits = absurd (rejected_no_encoding S (v, h, results) p encodes fits)
+from_bytes_of_encoding S p bytes (Ok m) v h is_result encodes fits = (accepted_encoding S (v, h, is_result)).1 p encodes
+from_bytes_of_encoding S p bytes (Err e) v h is_result encodes fits = absurd (rejected_no_encoding S (v, h, is_result) p encodes fits)
 
 -- a size that is too large is rejected: the last fact is the clause `verdict` of `read`
 pub rejected_size : (S size : ℕ) (input rest : List ℕ) (r : Result (Fields S) Refusal) → BeginsWithSize size input rest → digest_limit S < size

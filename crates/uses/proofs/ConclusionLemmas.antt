@@ -16,18 +16,18 @@ use Rattle.multihash.proofs.Writings.EncodingLemmas.{same_cut}
 -- the result for a verdict that is a pair
 pub returned : (S : ℕ) (p : Pair) (r : Result (Fields S) Refusal) (v : Verdict) → v ≡ accepted p → IsResultOf r v
     → MatchResult r (λ m. pair_of m ≡ p) (λ _. ⊥)
-returned S p (Ok m) v same results =
-    let told : accepted (pair_of m) ≡ accepted p = sym results ∙ same in
+returned S p (Ok m) v same is_result =
+    let told : accepted (pair_of m) ≡ accepted p = sym is_result ∙ same in
     cc
-returned S p (Err e) v same results = subst (IsErrorOf e) same results
+returned S p (Err e) v same is_result = subst (IsErrorOf e) same is_result
 
 -- a value that lists the bytes lists the result's pair
 pub lists_result : (S : ℕ) (bytes : List ℕ) (r : Result (Fields S) Refusal) (v : Verdict) → HasWholeVerdict S bytes v → IsResultOf r v
     → IfOk r (λ m. (value : Data) → IsByteArray value bytes → IsJsonList (pair_of m) value)
-lists_result S bytes (Ok m) v has results =
-    let told : HasWholeVerdict S bytes (accepted (pair_of m)) = subst (HasWholeVerdict S bytes) results has in
+lists_result S bytes (Ok m) v has is_result =
+    let told : HasWholeVerdict S bytes (accepted (pair_of m)) = subst (HasWholeVerdict S bytes) is_result has in
     λ value array. record { encoding = bytes; encodes = told.0; lists = array.array }
-lists_result S bytes (Err e) v has results = tt
+lists_result S bytes (Err e) v has is_result = tt
 
 -- a value from which a multihash was read lists its pair, which fits
 pub lists_one : (S : ℕ) (value : Data) (m : Fields S) → (bytes : List ℕ) × IsByteArray value bytes × IsEncoding (pair_of m) bytes

@@ -16,12 +16,12 @@ use Rattle.multihash.specs.Multihash.{Fields, pair_of}
 pub returns_pair : (S : ℕ) (bytes : List ℕ) (r : Result (Fields S) Refusal) (v : Verdict) → HasWholeVerdict S bytes v → IsResultOf r v
     → ((w : Verdict) → HasWholeVerdict S bytes w → w ≡ v) → (p : Pair)
     → (IsEncoding p bytes × FitsBuffer S p) ↔ IsOkAnd r (λ m. pair_of m ≡ p)
-returns_pair S bytes (Ok m) v has results only p = (
-  (λ own. let told : accepted (pair_of m) ≡ accepted p = sym results ∙ sym (only (accepted p) own) in cc),
-  λ same. subst (λ q. HasWholeVerdict S bytes (accepted q)) same (subst (HasWholeVerdict S bytes) results has),
+returns_pair S bytes (Ok m) v has is_result only p = (
+  (λ own. let told : accepted (pair_of m) ≡ accepted p = sym is_result ∙ sym (only (accepted p) own) in cc),
+  λ same. subst (λ q. HasWholeVerdict S bytes (accepted q)) same (subst (HasWholeVerdict S bytes) is_result has),
 )
-returns_pair S bytes (Err e) v has results only p = (
-  (λ own. subst (IsErrorOf e) (sym (only (accepted p) own)) results),
+returns_pair S bytes (Err e) v has is_result only p = (
+  (λ own. subst (IsErrorOf e) (sym (only (accepted p) own)) is_result),
   λ is_ok. absurd is_ok,
 )
 

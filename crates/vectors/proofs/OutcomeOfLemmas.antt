@@ -86,9 +86,9 @@ rejected_enough S input left e h unexpected_eof is early =
 -- at a truncated input at least the stated bytes were consumed
 enough : (S : ℕ) (input left : List ℕ) (r : Result (Fields S) Refusal) → ReadCall S input left r → (v : Verdict)
     → IsResultOf r v → IsIncomplete v → ConsumesEnough v input left
-enough S input left (Ok m) d v results early =
-    absurd (subst IsIncomplete results early)
-enough S input left (Err e) d v results early = rejected_enough S input left e d.err v results early
+enough S input left (Ok m) d v is_result early =
+    absurd (subst IsIncomplete is_result early)
+enough S input left (Err e) d v is_result early = rejected_enough S input left e d.err v is_result early
 
 enough_early : (v : Verdict) (input left : List ℕ) → ConsumesEnough v input left → IsIncomplete v
 enough_early (accepted p) input left h = h
@@ -109,9 +109,9 @@ taken_long S input left t =
 read_as_listed : (S : ℕ) (input left : List ℕ) (r : Result (Fields S) Refusal) → ReadCall S input left r → (w : Verdict)
     → IsResultOf r w → HasVerdict S input w → (consumed : Option ℕ)
     → MatchOption consumed (ConsumesEnough w input left) (λ n. ¬ (IsIncomplete w) × (length input ≡ n + length left)) ↔ IsConsumed S input w consumed
-read_as_listed S input left r d w results has None =
-    (enough_early w input left, enough S input left r d w results)
-read_as_listed S input left r d w results has (Some n) = (there, back)
+read_as_listed S input left r d w is_result has None =
+    (enough_early w input left, enough S input left r d w is_result)
+read_as_listed S input left r d w is_result has (Some n) = (there, back)
   where
     there : ¬ (IsIncomplete w) × (length input ≡ n + length left) → SettlesAfter S input n
     there (late, count) =
@@ -127,11 +127,11 @@ read_as_listed S input left r d w results has (Some n) = (there, back)
 
 pub reading : (S : ℕ) (input left : List ℕ) (r : Result (Fields S) Refusal) → ReadCall S input left r → (listed : Reading)
     → IsResultOf r (meaning listed.verdict) → ConsumesAsReadListed input left listed ↔ IsReading S input listed
-reading S input left r d listed results =
+reading S input left r d listed is_result =
     let w = meaning listed.verdict in
     let has : HasVerdict S input w =
-    subst (λ (v : Verdict). HasVerdict S input v) (result_unique r d.verdict.0 w d.verdict.2 results) d.verdict.1 in
-    let both = read_as_listed S input left r d w results has listed.consumed in
+    subst (λ (v : Verdict). HasVerdict S input v) (result_unique r d.verdict.0 w d.verdict.2 is_result) d.verdict.1 in
+    let both = read_as_listed S input left r d w is_result has listed.consumed in
     (λ t. record { verdict = has; consumed = both.0 t }, λ right. both.1 right.consumed)
 
 -- if the result is another, the reading is not as listed

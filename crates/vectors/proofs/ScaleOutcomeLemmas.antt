@@ -171,44 +171,44 @@ takes_size S input left e size is h =
 
 takes_decoded : (S : ℕ) (input left : List ℕ) (r : Result (Fields S) Refusal) → Decoding S input left r → (v : Verdict)
     → HasScaleVerdict S input v → IsResultOf r v → v ≢ unexpected_eof → ConsumesDecoded S input left
-takes_decoded S input left (Ok m) d v has results late =
-    let own : HasScaleVerdict S input (accepted (pair_of m)) = subst (λ (w : Verdict). HasScaleVerdict S input w) results has in
+takes_decoded S input left (Ok m) d v has is_result late =
+    let own : HasScaleVerdict S input (accepted (pair_of m)) = subst (λ (w : Verdict). HasScaleVerdict S input w) is_result has in
     takes_form S input left m d.ok.0 d.ok.1 d.ok.2 own.3
-takes_decoded S input left (Err e) d (accepted p) has results late = absurd results
-takes_decoded S input left (Err e) d (invalid_size size) has results late = takes_size S input left e size results d.err
-takes_decoded S input left (Err e) d (invalid_code code) has results late = takes_code S input left e code results d.err
-takes_decoded S input left (Err e) d (malformed f) has results late = absurd has
-takes_decoded S input left (Err e) d unexpected_eof has results late = absurd (late refl)
+takes_decoded S input left (Err e) d (accepted p) has is_result late = absurd is_result
+takes_decoded S input left (Err e) d (invalid_size size) has is_result late = takes_size S input left e size is_result d.err
+takes_decoded S input left (Err e) d (invalid_code code) has is_result late = takes_code S input left e code is_result d.err
+takes_decoded S input left (Err e) d (malformed f) has is_result late = absurd has
+takes_decoded S input left (Err e) d unexpected_eof has is_result late = absurd (late refl)
 
 -- ---- what is listed
 
 -- a listed verdict is the input's if it is the result's
 returned : (S : ℕ) (input left : List ℕ) (r : Result (Fields S) Refusal) → Decoding S input left r → (w : Verdict)
     → IsResultOf r w → HasScaleVerdict S input w
-returned S input left r d w results =
-    subst (λ (v : Verdict). HasScaleVerdict S input v) (result_unique r d.verdict.0 w d.verdict.2 results) d.verdict.1
+returned S input left r d w is_result =
+    subst (λ (v : Verdict). HasScaleVerdict S input v) (result_unique r d.verdict.0 w d.verdict.2 is_result) d.verdict.1
 
 -- if the result is the listed one, the reading is right exactly if the number of bytes consumed is
 pub reading : (S : ℕ) (input left : List ℕ) (r : Result (Fields S) Refusal) → Decoding S input left r
     → (w : Verdict) (consumed : Option ℕ) → IsResultOf r w
     → MatchOption consumed (w ≡ unexpected_eof) (λ n. (w ≢ unexpected_eof) × (length input ≡ n + length left))
     ↔ HasScaleVerdict S input w × IsScaleConsumed S input w consumed
-reading S input left r d w None results = (λ same. (returned S input left r d w results, same), λ right. right.1)
-reading S input left r d w (Some n) results = (there, back)
+reading S input left r d w None is_result = (λ same. (returned S input left r d w is_result, same), λ right. right.1)
+reading S input left r d w (Some n) is_result = (there, back)
   where
     has : HasScaleVerdict S input w
-    has = returned S input left r d w results
+    has = returned S input left r d w is_result
 
     there : (w ≢ unexpected_eof) × (length input ≡ n + length left) → HasScaleVerdict S input w × DecodesAfter S input n
     there (late, count) =
-        let t = takes_decoded S input left r d w has results late in
+        let t = takes_decoded S input left r d w has is_result late in
         let same : t.count ≡ n = omega (arith, t.consumed, count) in
         (has, subst (λ k. DecodesAfter S input k) same t.decodes)
 
     back : HasScaleVerdict S input w × DecodesAfter S input n → (w ≢ unexpected_eof) × (length input ≡ n + length left)
     back (_, f) =
         let late : w ≢ unexpected_eof = λ e. no_incomplete S d.unique input n f (subst (λ (v : Verdict). HasScaleVerdict S input v) e has) in
-        let t = takes_decoded S input left r d w has results late in
+        let t = takes_decoded S input left r d w has is_result late in
         let same : t.count ≡ n = count_unique S d.unique input t.count n t.decodes f in
         (late, omega (arith, t.consumed, same))
 

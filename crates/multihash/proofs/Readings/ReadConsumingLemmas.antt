@@ -84,7 +84,7 @@ module _ (S : ℕ) (consumed : List ℕ) (old new : Option (List ℕ)) (before a
     kept left = verdict_kept S consumed left v late has
 
     told : (r : Result (Fields S) Refusal) → IsResultOf r v → IfSome old (λ rest. after ≡ before → (w : Verdict) × HasVerdict S rest w × IsResultOf r w)
-    told r results = IfSome-consumed old new consumed _ consumes (λ left is _. (v, kept left, results))
+    told r is_result = IfSome-consumed old new consumed _ consumes (λ left is _. (v, kept left, is_result))
 
     shortest : IfSome old (λ rest. after ≡ before → (w : Verdict) → HasVerdict S rest w → ¬ (IsIncomplete w) → ConsumesShortestSettling S rest new)
     shortest = IfSome-consumed old new consumed _ consumes (λ left is _ w holds stays. record {

@@ -19,5 +19,5 @@ returns-else-is_result g c =
     record { unique = c.scale_unique.ensures.verdict_unique g.row.S; verdict = rw c.new-cuts.ensures.left at (call.ensures.verdict refl); ok = rw c.new-cuts.ensures.left at call.ensures.ok; err = rw c.new-cuts.ensures.left at call.ensures.err } in (
       λ holds. absurd (false≢true (sym c.if-is_result.false ∙ holds)),
       λ right. absurd (no_reading g.row.S _ _ _ d _ c.args.listed.now.consumed
-          (λ results. false≢true (sym c.if-is_result.false ∙ c.is_result.ensures.1 results)) right),
+          (λ is_result. false≢true (sym c.if-is_result.false ∙ c.is_result.ensures.1 is_result)) right),
     )

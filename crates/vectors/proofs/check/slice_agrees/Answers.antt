@@ -19,5 +19,5 @@ returns-else-is_result g c =
     record { unique = c.one_verdict.ensures.read_unique g.row.S _; unsettled = c.settles.ensures.none g.row.S _; verdict = call.ensures.verdict refl; settled = call.ensures.settled refl; err = call.ensures.err } in (
       λ holds. absurd (false≢true (sym c.if-is_result.false ∙ holds)),
       λ right. absurd (no_reading g.row.S _ _ _ d c.args.listed.now
-          (λ results. false≢true (sym c.if-is_result.false ∙ c.is_result.ensures.1 results)) right),
+          (λ is_result. false≢true (sym c.if-is_result.false ∙ c.is_result.ensures.1 is_result)) right),
     )
