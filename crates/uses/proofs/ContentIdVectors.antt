@@ -1,5 +1,5 @@
--- Known content identifiers.
-use Rattle.std.proofs.Common.{List, ℕ, [], ◌∷◌, replicate, refl, arith}
+-- Known content identifiers, and a section.
+use Rattle.std.proofs.Common.{List, ℕ, [], ◌∷◌, Some, length, replicate, refl, ap, arith}
 use Rattle.std.proofs.lemmas.Bool.{ltb-true}
 use Rattle.multihash.specs.Bytes.{place_value}
 use Rattle.multihash.specs.Pair.{Pair}
@@ -7,8 +7,12 @@ use Rattle.multihash.specs.Encoding.{IsEncoding}
 use Rattle.multihash.specs.Varint.{IsVarint, varint_limit}
 use Rattle.multihash.proofs.Examples.BytesVectors.{all_below}
 use Rattle.multihash.proofs.Examples.VarintVectors.{varint_1, varint_2}
+use Rattle.multihash.proofs.Readings.ReadingLemmas.{Consumes-told}
+use Rattle.multihash.proofs.Varints.VarintLemmas.{same_number}
 use Rattle.multihash.proofs.Varints.VarintWriteLemmas.{one_byte}
 use Rattle.uses.specs.ContentId.{version_0, version_1, IsContentId}
+use Rattle.uses.specs.Section.{ConsumesHead}
+use Rattle.uses.proofs.ContentIdLemmas.{content_same}
 
 -- the codec dag-json, of two bytes
 varint_297 : IsVarint 0x0129 (0xa9 ∷ 0x02 ∷ [])
@@ -44,6 +48,13 @@ names_dag_json = record {
   encodes = encodes_two;
   spelled = refl;
 }
+
+-- in a section of 8 bytes, an identifier of 7 leaves one byte of data
+no_head_with_less_data : ¬ (ConsumesHead (version_1 0x0129 two_bytes) 0 (Some (8 ∷ dag_json)) (Some []))
+no_head_with_less_data (len, mid, (bytes, is, first), (id, (names, long), second)) =
+    let told = Consumes-told (8 ∷ dag_json) bytes mid first in
+    let both = same_number (8 ∷ dag_json) len 8 told.0 dag_json (bytes, is, told.2) (8 ∷ [], one_byte 8 (omega arith), refl) in
+    omega (arith, long, both.0, ap length (content_same (version_1 0x0129 two_bytes) id dag_json names names_dag_json))
 
 -- ---- version 0
 
