@@ -28,7 +28,7 @@ static void w2c___rattle_leave(memory*);
 static void w2c___rattle_trap(memory*);
 static void w2c_multihash_c__decode__decode_longer(memory*, u64, u64, u64);
 static void w2c_multihash__varint__word__front_by_word(memory*, u64, u64, u64);
-static void w2c_multihash_c__decode__fault(memory*, u64, u64, u64);
+static void w2c_multihash_c__decode__error_of(memory*, u64, u64, u64);
 static void w2c_multihash__varint__word__front_by_short_word(memory*, u64, u64, u64);
 static void w2c_multihash__head__Head__read_counted(memory*, u64, u64, u64);
 static void w2c_multihash__varint__word__read_counted(memory*, u64, u64, u64);
@@ -225,7 +225,7 @@ static void w2c_multihash_c__decode__decode_longer(memory* instance, u64 w2c_p0,
   w2c_j0 = w2c_l3;
   w2c_j1 = w2c_p1;
   w2c_j2 = w2c_p2;
-  w2c_multihash_c__decode__fault(instance, w2c_j0, w2c_j1, w2c_j2);
+  w2c_multihash_c__decode__error_of(instance, w2c_j0, w2c_j1, w2c_j2);
   w2c_j0 = 0ull;
   w2c_l7 = w2c_j0;
   w2c_j0 = w2c_l3;
@@ -564,7 +564,7 @@ static void w2c_multihash__varint__word__front_by_word(memory* instance, u64 w2c
   w2c_Bfunc:;
 }
 
-static void w2c_multihash_c__decode__fault(memory* instance, u64 w2c_p0, u64 w2c_p1, u64 w2c_p2) {
+static void w2c_multihash_c__decode__error_of(memory* instance, u64 w2c_p0, u64 w2c_p1, u64 w2c_p2) {
   u32 w2c_l4 = 0;
   u64 w2c_l3 = 0;
   u32 w2c_i0, w2c_i1, w2c_i2, w2c_i3, w2c_i4, w2c_i5;
@@ -1683,7 +1683,7 @@ static void w2c_multihash_c__decode__longer_head(memory* instance, u64 w2c_p0, u
   w2c_j0 = w2c_l3;
   w2c_j1 = w2c_p1;
   w2c_j2 = w2c_p2;
-  w2c_multihash_c__decode__fault(instance, w2c_j0, w2c_j1, w2c_j2);
+  w2c_multihash_c__decode__error_of(instance, w2c_j0, w2c_j1, w2c_j2);
   w2c_j0 = 0ull;
   w2c_l6 = w2c_j0;
   w2c_j0 = w2c_l3;
@@ -4464,7 +4464,7 @@ static void w2c_rattle__export_multihash_from_prefix(memory* instance, u64 w2c_p
   w2c_j0 = w2c_l4;
   w2c_j1 = w2c_l5;
   w2c_j2 = w2c_l6;
-  w2c_multihash_c__decode__fault(instance, w2c_j0, w2c_j1, w2c_j2);
+  w2c_multihash_c__decode__error_of(instance, w2c_j0, w2c_j1, w2c_j2);
   w2c_j0 = 0ull;
   w2c_p2 = w2c_j0;
   w2c_j0 = w2c_l4;
@@ -4843,7 +4843,7 @@ static void w2c_rattle__export_multihash_read(memory* instance, u64 w2c_p0, u64 
   w2c_j0 = w2c_l3;
   w2c_j1 = w2c_l4;
   w2c_j2 = w2c_p2;
-  w2c_multihash_c__decode__fault(instance, w2c_j0, w2c_j1, w2c_j2);
+  w2c_multihash_c__decode__error_of(instance, w2c_j0, w2c_j1, w2c_j2);
   w2c_j0 = 0ull;
   w2c_l4 = w2c_j0;
   w2c_j0 = w2c_l3;
@@ -5109,7 +5109,7 @@ static void w2c_rattle__export_multihash_read_limit(memory* instance, u64 w2c_p0
   w2c_j0 = w2c_l4;
   w2c_j1 = w2c_l5;
   w2c_j2 = w2c_p2;
-  w2c_multihash_c__decode__fault(instance, w2c_j0, w2c_j1, w2c_j2);
+  w2c_multihash_c__decode__error_of(instance, w2c_j0, w2c_j1, w2c_j2);
   w2c_j0 = 0ull;
   w2c_p3 = w2c_j0;
   w2c_j0 = w2c_l4;
