@@ -11,8 +11,6 @@ mod list;
 #[cfg(test)]
 mod no_std_io;
 #[cfg(test)]
-mod recovery;
-#[cfg(test)]
 mod retries;
 #[cfg(test)]
 mod stored;
