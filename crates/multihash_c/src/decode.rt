@@ -54,10 +54,6 @@ pub extern "C" fn multihash_from_bytes(bytes: &[u8]) -> Decoded
     ensures verdict { (v : Verdict) × HasWholeVerdict 255 bytes.now v × Reports bytes.now result v }
     ensures taken { result.taken ≡ length bytes.now }
 {
-    if !is_short(bytes) {
-        let decoded = decode_longer(bytes);
-        return decoded;
-    }
     decode_whole(bytes, bytes.len())
 }
 
@@ -93,11 +89,21 @@ pub extern "C" fn multihash_read_limit(bytes: &[u8], limit: usize) -> Decoded
 pub extern "C" fn multihash_head(bytes: &[u8]) -> Front
     ensures { ReadsFront bytes.now result }
 {
-    if !is_short(bytes) {
-        let front = longer_head(bytes);
-        return front;
+    let Some(head) = Head::find_front(bytes) else {
+        let (status, taken) = error_of(bytes);
+        return Front {
+            status,
+            code: 0,
+            digest_length: 0,
+            taken,
+        };
+    };
+    Front {
+        status: status::OK,
+        code: head.code,
+        digest_length: head.digest_len,
+        taken: head.digest_offset,
     }
-    head_of(bytes)
 }
 
 /// Decodes the multihash whose SCALE form is at the front of `bytes`.
@@ -119,49 +125,6 @@ pub extern "C" fn multihash_scale_decode(bytes: &[u8]) -> Decoded
             None => rejected_end(whole_parts(bytes.len())),
         },
     }
-}
-
-// Whether both varints have one byte, as mostly. Other inputs have functions of their own, with the same
-// body: so this case saves no registers. A result that is returned at once would be kept in memory here too.
-#[inline(always)]
-fn is_short(bytes: &[u8]) -> bool {
-    bytes.len() >= 2 && bytes[0] < 128 && bytes[1] < 128
-}
-
-#[inline(never)]
-fn longer_head(bytes: &[u8]) -> Front
-    ensures { ReadsFront bytes.now result }
-{
-    head_of(bytes)
-}
-
-#[inline(always)]
-fn head_of(bytes: &[u8]) -> Front
-    ensures { ReadsFront bytes.now result }
-{
-    let Some(head) = Head::find_front(bytes) else {
-        let (status, taken) = error_of(bytes);
-        return Front {
-            status,
-            code: 0,
-            digest_length: 0,
-            taken,
-        };
-    };
-    Front {
-        status: status::OK,
-        code: head.code,
-        digest_length: head.digest_len,
-        taken: head.digest_offset,
-    }
-}
-
-#[inline(never)]
-fn decode_longer(bytes: &[u8]) -> Decoded
-    ensures verdict { (v : Verdict) × HasWholeVerdict 255 bytes.now v × Reports bytes.now result v }
-    ensures taken { result.taken ≡ length bytes.now }
-{
-    decode_whole(bytes, bytes.len())
 }
 
 // Decodes each input of that many bytes that begins with the front. No digest is read, so only the two

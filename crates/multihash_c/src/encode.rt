@@ -28,11 +28,14 @@ pub struct Encoded {
 pub extern "C" fn multihash_encode(code: u64, digest: &[u8], out: &mut [u8]) -> Encoded
     ensures { WritesForm IsEncoding (record { code = code; digest = digest.now }) result out.old out.new }
 {
-    if code >= 128 || digest.len() != 32 {
-        let encoded = encode_unusual(code, digest, out);
-        return encoded;
+    let encoding_length = match needed(code, digest.len()) {
+        Ok(length) => length,
+        Err(rejected) => return rejected,
+    };
+    if encoding_length <= out.len() {
+        put_encoding(code, digest, out);
     }
-    encode_form(code, digest, out)
+    count(encoding_length, out.len())
 }
 
 /// Writes the SCALE form of a code and a digest to the front of `out`.
@@ -40,11 +43,18 @@ pub extern "C" fn multihash_encode(code: u64, digest: &[u8], out: &mut [u8]) -> 
 pub extern "C" fn multihash_scale_encode(code: u64, digest: &[u8], out: &mut [u8]) -> Encoded
     ensures { WritesForm IsScale (record { code = code; digest = digest.now }) result out.old out.new }
 {
-    if digest.len() != 32 {
-        let encoded = scale_encode_unusual(code, digest, out);
-        return encoded;
+    // With one helper for these tests and those of `needed` it needs seven more instructions.
+    if digest.len() > DIGEST_MAX {
+        return rejected_size(digest.len() as u64);
     }
-    encode_scale_form(code, digest, out)
+    if code > varint::MAX {
+        return rejected_code();
+    }
+    let form_length = SCALE_HEAD + digest.len();
+    if form_length <= out.len() {
+        put_scale_form(code, digest, out);
+    }
+    count(form_length, out.len())
 }
 
 /// Returns the length of the encoding of a code and a digest of that many bytes.
@@ -77,54 +87,6 @@ pub extern "C" fn multihash_put_status_text(status: u32, out: &mut [u8]) -> Enco
         status::NO_ROOM => put_text(b"failed to write whole buffer", out),
         _ => put_text(b"unknown status", out),
     }
-}
-
-// A function of its own, with the same body: so the usual call, which calls nothing, saves no registers.
-#[inline(never)]
-fn encode_unusual(code: u64, digest: &[u8], out: &mut [u8]) -> Encoded
-    ensures { WritesForm IsEncoding (record { code = code; digest = digest.now }) result out.old out.new }
-{
-    encode_form(code, digest, out)
-}
-
-#[inline(always)]
-fn encode_form(code: u64, digest: &[u8], out: &mut [u8]) -> Encoded
-    ensures { WritesForm IsEncoding (record { code = code; digest = digest.now }) result out.old out.new }
-{
-    let encoding_length = match needed(code, digest.len()) {
-        Ok(length) => length,
-        Err(rejected) => return rejected,
-    };
-    if encoding_length <= out.len() {
-        put_encoding(code, digest, out);
-    }
-    count(encoding_length, out.len())
-}
-
-// As `encode_unusual`.
-#[inline(never)]
-fn scale_encode_unusual(code: u64, digest: &[u8], out: &mut [u8]) -> Encoded
-    ensures { WritesForm IsScale (record { code = code; digest = digest.now }) result out.old out.new }
-{
-    encode_scale_form(code, digest, out)
-}
-
-#[inline(always)]
-fn encode_scale_form(code: u64, digest: &[u8], out: &mut [u8]) -> Encoded
-    ensures { WritesForm IsScale (record { code = code; digest = digest.now }) result out.old out.new }
-{
-    // With one helper for these tests and those of `needed` it needs seven more instructions.
-    if digest.len() > DIGEST_MAX {
-        return rejected_size(digest.len() as u64);
-    }
-    if code > varint::MAX {
-        return rejected_code();
-    }
-    let form_length = SCALE_HEAD + digest.len();
-    if form_length <= out.len() {
-        put_scale_form(code, digest, out);
-    }
-    count(form_length, out.len())
 }
 
 // The length of the encoding of a code and a digest of that many bytes, or the result if there is none.
@@ -197,7 +159,6 @@ fn put_text(text: &[u8], out: &mut [u8]) -> Encoded
 }
 
 // Writes the encoding of a code and a digest to the front of a buffer that is large enough.
-#[inline(always)]
 fn put_encoding(code: u64, digest: &[u8], buffer: &mut [u8])
     requires in_range { code < varint_limit }
     requires short { length digest.now ≤ 255 }
@@ -213,7 +174,6 @@ fn put_encoding(code: u64, digest: &[u8], buffer: &mut [u8])
 }
 
 // Writes the SCALE form of a code and a digest to the front of a buffer that is large enough.
-#[inline(always)]
 fn put_scale_form(code: u64, digest: &[u8], buffer: &mut [u8])
     requires short { length digest.now ≤ 255 }
     requires fits { (bytes : List ℕ) × IsScale (record { code = code; digest = digest.now }) bytes

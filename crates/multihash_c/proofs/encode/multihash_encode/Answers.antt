@@ -3,8 +3,8 @@ use Rattle.multihash.specs.Pair.{Pair}
 use Rattle.multihash.specs.Encoding.{IsEncoding}
 use Rattle.multihash.proofs.Writings.EncodingLemmas.{encoding_same}
 use Rattle.multihash_c.proofs.EncodedLemmas.{writes_all, writes_none}
-use Rattle.multihash_c.proofs.encode.encode_form.Goals as goal
-use Rattle.multihash_c.proofs.encode.encode_form.Goals.{then-encoding_length-out, else-encoding_length-out}
+use Rattle.multihash_c.proofs.encode.multihash_encode.Goals as goal
+use Rattle.multihash_c.proofs.encode.multihash_encode.Goals.{then-encoding_length-out, else-encoding_length-out}
 
 pub returns : goal.returns
 returns c =

@@ -4,8 +4,8 @@ use Rattle.multihash.specs.Varint.{varint_limit}
 use Rattle.multihash.specs.Scale.{IsScale}
 use Rattle.multihash.proofs.Forms.ScaleLemmas.{scale_exists, scale_length}
 use Rattle.multihash_c.proofs.EncodedLemmas.{writes_all, writes_none}
-use Rattle.multihash_c.proofs.encode.encode_scale_form.Goals as goal
-use Rattle.multihash_c.proofs.encode.encode_scale_form.Goals.{then-form_length-out, else-form_length-out}
+use Rattle.multihash_c.proofs.encode.multihash_scale_encode.Goals as goal
+use Rattle.multihash_c.proofs.encode.multihash_scale_encode.Goals.{then-form_length-out, else-form_length-out}
 
 pub put_scale_form-requires-clause-fits : goal.put_scale_form-requires-clause-fits
 put_scale_form-requires-clause-fits c =
