@@ -72,10 +72,9 @@ def functions_of(texts, known):
 
 
 def function_of(texts, edits, functions):
-    """Returns the one function whose body these edits change, if they change nothing else of the sources."""
-    places = [(path, texts[path].index(old), len(old)) for path, old, _ in edits if path.startswith("src/")]
-    own = (it for it in functions if all(path == it.path and it.body < at and at + size <= it.end for path, at, size in places))
-    return next(own, None) if places else None
+    """Returns the one function whose body has all these edits, if there is one."""
+    places = [(path, texts[path].index(old), len(old)) for path, old, _ in edits]
+    return next((it for it in functions if all(path == it.path and it.body < at and at + size <= it.end for path, at, size in places)), None)
 
 
 def clause_of(function, goal):
@@ -161,8 +160,9 @@ class Prover:
         for it in (signal.SIGTERM, signal.SIGINT, signal.SIGHUP):
             signal.signal(it, self.end)
 
-    def check(self, home, jobs=1):
-        words, pipe = ["rt", "check", "--jobs", str(jobs)], subprocess.PIPE
+    def check(self, home, jobs=1, modules=()):
+        """Checks a crate, or what these modules of it have."""
+        words, pipe = ["rt", "check", "--jobs", str(jobs), *(f"--only={it}" for it in modules)], subprocess.PIPE
         with subprocess.Popen(words, cwd=home, stdin=subprocess.DEVNULL, stdout=pipe, stderr=subprocess.STDOUT, text=True) as child:
             self.running.add(child)
             if self.is_ended:
@@ -198,9 +198,9 @@ class Output:
                 self.found[it[1]], goals = Found(it[2], goals, []), []
         for path, error in (it.groups() for it in map(ERROR.match, lines) if it):
             self.add_error(crate, path, error)
-        logic = ["", *(it for it in lines if it.startswith("logic="))][-1]  # before the crate's own line are those of libraries built first
-        self.is_proved, self.is_whole = not status and logic.startswith("logic=proved "), bool(logic) and not self.unread
-        self.unread += [] if logic else [(text.strip().split("\n") or [""])[-1][:200]]
+        last = ["", *(it for it in lines if re.match("logic=|only=[1-9]", it))][-1]  # before it are those of libraries built first
+        self.is_proved, self.is_whole = not status and bool(last), bool(last) and not self.unread
+        self.unread += [] if last else [(text.strip().split("\n") or [""])[-1][:200]]
 
     def add_error(self, crate, path, error):
         home, goal = PROOF.fullmatch(path), re.match(r"`([^`]*)`", error)

@@ -18,7 +18,6 @@ const CODE_LEN: usize = SCALE_HEAD - 1;
 
 /// The result of a decoding. A field without a meaning for its status is 0.
 #[repr(C)]
-#[derive(Clone, Copy, Debug, PartialEq, Eq)]
 pub struct Decoded {
     /// 0 (`status::OK`) or the error.
     pub status: u32,
@@ -36,7 +35,6 @@ pub struct Decoded {
 
 /// The two varints at the front of an encoding. A field without a meaning for its status is 0.
 #[repr(C)]
-#[derive(Clone, Copy, Debug, PartialEq, Eq)]
 pub struct Front {
     /// 0 (`status::OK`) or the error.
     pub status: u32,

@@ -13,7 +13,6 @@ use multihash::varint;
 
 /// The result of an encoding. A field without a meaning for its status is 0.
 #[repr(C)]
-#[derive(Clone, Copy, Debug, PartialEq, Eq)]
 pub struct Encoded {
     /// 0 (`status::OK`) or the error.
     pub status: u32,

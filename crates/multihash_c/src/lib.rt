@@ -7,8 +7,6 @@ mod compare;
 mod decode;
 mod encode;
 mod status;
-#[cfg(test)]
-mod tests;
 mod version;
 
 // The most bytes of a digest: `MULTIHASH_DIGEST_MAX` in the header.
