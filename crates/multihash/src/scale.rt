@@ -1,6 +1,6 @@
 //! The SCALE form: the code as eight bytes, lowest first; the digest's length as one byte; the digest.
-ghost use Rattle.std.specs.Prelude.{◌≡◌, ◌+◌, ◌<◌, ℕ, List, length, IfSome, IfOk, IfErr, OnErr};
-ghost use Rattle.multihash.specs.Scale.{IsScale, HasScaleVerdict, ScaleMayFailWith, ConsumesAtScaleError};
+ghost use Rattle.std.specs.Prelude.{◌≡◌, ◌+◌, ◌<◌, ℕ, List, [], ◌∷◌, ◌++◌, length, IfSome, IfOk, IfErr, OnErr};
+ghost use Rattle.multihash.specs.Scale.{IsScale, IsScaleCode, HasScaleVerdict, ScaleMayFailWith, ConsumesAtScaleError};
 ghost use Rattle.multihash.specs.Verdict.{Verdict};
 ghost use Rattle.multihash.specs.Fault.{IsUnexpectedEof, IsOwnFault};
 ghost use Rattle.multihash.specs.Reading.{Consumes, HasFewerThan, ConsumesFewerThan, CountsReaderFailures};
@@ -29,13 +29,21 @@ impl<const S: usize> Multihash<S> {
         ensures faults { CountsWriterFailures IsIo W.allocates
             (W.failures w.old) (W.failures w.new) (W.full w.new) result }
     {
-        let code = self.code().to_le_bytes();
-        let size = self.size();
         let digest = self.digest();
-        w.write_all(&code)?;
-        w.write_all(&[size])?;
+        w.write_all(&self.scale_head())?;
         write_digest(digest, w)?;
         Ok(9 + digest.len())
+    }
+
+    // The bytes of the form before the digest, as one array: so one test of a slice's length suffices.
+    #[inline(always)]
+    fn scale_head(&self) -> [u8; 9]
+        ensures { (code : List ℕ) × IsScaleCode (pair_of self.now).code code
+            × (result ≡ code ++ length (pair_of self.now).digest ∷ []) }
+    {
+        let mut head = [self.size(); 9];
+        head[..8].copy_from_slice(&self.code().to_le_bytes());
+        head
     }
 
     /// Reads the multihash whose SCALE form comes next. It consumes exactly that form and leaves what

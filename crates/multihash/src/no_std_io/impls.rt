@@ -108,6 +108,7 @@ impl Write for &mut [u8] {
         Ok(n)
     }
 
+    #[inline(always)]
     fn write_all(&mut self, buf: &[u8]) -> Result<(), Error>
         ensures laws { WriteAllLaws (λ old bytes new. AdvancesPast old.now bytes new.now)
             (λ s. s.now ≡ []) (λ _. 0) false self.old buf.now self.new result }
@@ -138,10 +139,28 @@ fn put_front(from: &[u8], to: &mut [u8])
     }
 }
 
-// Fills a slice with the first bytes: apart, so that the usual write keeps no registers for it.
+// Fills a slice with the first bytes. An array of one byte or nine, a short varint or the head of a SCALE
+// form, is copied first: so the usual write of it needs no memory.
+#[inline(always)]
+fn fill(from: &[u8], to: &mut [u8])
+    requires { length to.old ≤ length from.now }
+    ensures { to.new ≡ take (length to.old) from.now }
+{
+    if let Some(array) = from.as_array::<1>() {
+        let copy = *array;
+        fill_apart(&copy, to);
+    } else if let Some(array) = from.as_array::<9>() {
+        let copy = *array;
+        fill_apart(&copy, to);
+    } else {
+        fill_apart(from, to);
+    }
+}
+
+// Fills a slice, as `fill` does: apart, so that the usual write keeps no registers for it.
 #[cold]
 #[inline(never)]
-fn fill(from: &[u8], to: &mut [u8])
+fn fill_apart(from: &[u8], to: &mut [u8])
     requires { length to.old ≤ length from.now }
     ensures { to.new ≡ take (length to.old) from.now }
 {

@@ -1,44 +1,41 @@
-use Rattle.std.proofs.Common.{[], ◌∷◌, ◌++◌, length, ap, arith}
+use Rattle.std.proofs.Common.{[], ◌++◌, length, ap, arith, append_assoc}
 use Rattle.multihash.specs.Scale.{IsScale}
 use Rattle.multihash.specs.Multihash.{pair_of}
-use Rattle.multihash.proofs.Forms.ScaleLemmas.{code_bytes, scale_of, scale_length}
-use Rattle.multihash.proofs.Writings.WritingLemmas.{stops_in_first, stops_in_second, stops_in_third}
+use Rattle.multihash.proofs.Forms.ScaleLemmas.{scale_length}
+use Rattle.multihash.proofs.Writings.WritingLemmas.{stops_in_first, stops_in_third}
 use Rattle.multihash.proofs.multihash.Multihash.scale_encode.Given as given
 use Rattle.multihash.proofs.multihash.Multihash.scale_encode.Goals as goal
-use Rattle.multihash.proofs.multihash.Multihash.scale_encode.Goals.{After-digest-digest}
+use Rattle.multihash.proofs.multihash.Multihash.scale_encode.Goals.{After-scale_head}
 
 -- what is written is the form
-form : (g : given.Over) (c : After-digest-digest g)
-    → IsScale (pair_of c.args.self.now) (c.to_le_bytes-code.result ++ ((c.size-size.result ∷ []) ++ c.digest-digest.result.now))
+form : (g : given.Over) (c : After-scale_head g) → IsScale (pair_of c.args.self.now) (c.scale_head.result ++ c.digest-digest.result.now)
 form g c =
-    let code = code_bytes c.code.result (omega (arith, c.code.type_inv)) in
-    scale_of (pair_of c.args.self.now) _ _ _ (rw (c.to_le_bytes-code.ensures, ← c.code.ensures.code) code) c.args.self.now.in_range
-    c.size-size.ensures.size (omega (arith, c.size-size.type_inv)) c.digest-digest.ensures.digest
+    let (code, is_code, head) = c.scale_head.ensures in
+    record {
+      code = code;
+      is_code = is_code;
+      in_range = c.args.self.now.in_range;
+      size = omega (arith, c.digest-digest.ensures.fits);
+      spelled = rw (head, c.digest-digest.ensures.digest) (append_assoc code _ _);
+    }
 
 pub returns-in_err-write_all-clause-err : goal.returns-in_err-write_all-clause-err
 returns-in_err-write_all-clause-err g c =
-    let written = form g (goal.at.returns-in_err-write_all-clause-err g c).After-digest-digest in
-    stops_in_first g.W.Write.appended g.met.W.Write.appends_concatenated _ _ (c.size-size.result ∷ []) c.digest-digest.result.now written
+    let written = form g (goal.at.returns-in_err-write_all-clause-err g c).After-scale_head in
+    stops_in_first g.W.Write.appended g.met.W.Write.appends_concatenated (IsScale (pair_of c.args.self.now)) _ [] c.digest-digest.result.now written
     _ _ _ c.in_err-write_all.ensures.laws.err
-
-pub returns-in_err-write_all-2-clause-err : goal.returns-in_err-write_all-2-clause-err
-returns-in_err-write_all-2-clause-err g c =
-    let written = form g (goal.at.returns-in_err-write_all-2-clause-err g c).After-digest-digest in
-    stops_in_second g.W.Write.appended g.met.W.Write.appends_concatenated _ _ _ _ written
-    _ _ _ _ c.in_ok-write_all.ensures.laws.ok c.in_err-write_all-2.ensures.laws.err
 
 pub returns-in_err-write_digest-clause-err : goal.returns-in_err-write_digest-clause-err
 returns-in_err-write_digest-clause-err g c =
-    let written = form g (goal.at.returns-in_err-write_digest-clause-err g c).After-digest-digest in
-    stops_in_third g.W.Write.appended g.met.W.Write.appends_concatenated _ _ _ _ written
-    _ _ _ _ _ c.in_ok-write_all.ensures.laws.ok c.in_ok-write_all-2.ensures.laws.ok c.in_err-write_digest.ensures.laws.err
+    let written = form g (goal.at.returns-in_err-write_digest-clause-err g c).After-scale_head in
+    stops_in_third g.W.Write.appended g.met.W.Write.appends_concatenated (IsScale (pair_of c.args.self.now)) _ [] _ written
+    _ _ _ _ _ c.in_ok-write_all.ensures.laws.ok (g.met.W.Write.appends_nothing _) c.in_err-write_digest.ensures.laws.err
 
 pub returns-clause-ok : goal.returns-clause-ok
 returns-clause-ok g c =
-    let written = form g (goal.at.returns-clause-ok g c).After-digest-digest in (
+    let written = form g (goal.at.returns-clause-ok g c).After-scale_head in (
       _,
       written,
       omega (arith, scale_length (pair_of c.args.self.now) _ written, ap length c.digest-digest.ensures.digest),
-      g.met.W.Write.appends_concatenated _ _ _ _ _ c.in_ok-write_all.ensures.laws.ok
-          (g.met.W.Write.appends_concatenated _ _ _ _ _ c.in_ok-write_all-2.ensures.laws.ok c.in_ok-write_digest.ensures.laws.ok),
+      g.met.W.Write.appends_concatenated _ _ _ _ _ c.in_ok-write_all.ensures.laws.ok c.in_ok-write_digest.ensures.laws.ok,
     )
