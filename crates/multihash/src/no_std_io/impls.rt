@@ -1,5 +1,5 @@
 //! Slices, vectors and references as readers and writers.
-ghost use Rattle.std.specs.Prelude.{◌≡◌, ◌<◌, ◌≤◌, ◌+◌, vec_len, vec_capacity, Some, Ok, [], ◌++◌, min, length, take, drop, true, false, IfOk, IfErr, OnOk, OnErr, IsOk, IsErr, ◌↔◌};
+ghost use Rattle.std.specs.Prelude.{◌≡◌, ◌<◌, ◌≤◌, ◌+◌, ◌%◌, ◌^◌, vec_len, vec_capacity, Some, Ok, [], ◌++◌, min, length, take, drop, true, false, IfOk, IfErr, OnOk, OnErr, IsOk, IsErr, ◌↔◌};
 ghost use Rattle.multihash.specs.Fault.{IsOutOfMemoryFault};
 ghost use Rattle.multihash.specs.Reading.{ReadLaws, ReadExactLaws};
 ghost use Rattle.multihash.specs.Writing.{WriteLaws, WriteAllLaws, AdvancesPast, AdvancesPast-none, AdvancesPast-concatenated, AppendsAtEnd, AppendsAtEnd-none, AppendsAtEnd-concatenated};
@@ -117,8 +117,10 @@ impl Write for &mut [u8] {
         ensures filled { OnErr result (self.new.now ≡ []) }
     {
         let all = std::mem::take(self);
+        // Used on both paths, so that it is one instruction with the comparison.
+        let left = all.len().wrapping_sub(buf.len());
         if buf.len() > all.len() {
-            fill(buf, all);
+            fill(buf, all, left);
             return Err(Error::write_zero());
         }
         put_front(buf, all);
@@ -142,29 +144,31 @@ fn put_front(from: &[u8], to: &mut [u8])
 // Fills a slice with the first bytes. An array of one byte or nine, a short varint or the head of a SCALE
 // form, is copied first: so the usual write of it needs no memory.
 #[inline(always)]
-fn fill(from: &[u8], to: &mut [u8])
-    requires { length to.old ≤ length from.now }
+fn fill(from: &[u8], to: &mut [u8], left: usize)
+    requires short { length to.old ≤ length from.now }
+    requires left { (left + length from.now) % 2 ^ 64 ≡ length to.old }
     ensures { to.new ≡ take (length to.old) from.now }
 {
     if let Some(array) = from.as_array::<1>() {
         let copy = *array;
-        fill_apart(&copy, to);
+        fill_apart(&copy, to, left);
     } else if let Some(array) = from.as_array::<9>() {
         let copy = *array;
-        fill_apart(&copy, to);
+        fill_apart(&copy, to, left);
     } else {
-        fill_apart(from, to);
+        fill_apart(from, to, left);
     }
 }
 
 // Fills a slice, as `fill` does: apart, so that the usual write keeps no registers for it.
 #[cold]
 #[inline(never)]
-fn fill_apart(from: &[u8], to: &mut [u8])
-    requires { length to.old ≤ length from.now }
+fn fill_apart(from: &[u8], to: &mut [u8], left: usize)
+    requires short { length to.old ≤ length from.now }
+    requires left { (left + length from.now) % 2 ^ 64 ≡ length to.old }
     ensures { to.new ≡ take (length to.old) from.now }
 {
-    to.copy_from_slice(&from[..to.len()]);
+    to.copy_from_slice(&from[..left.wrapping_add(from.len())]);
 }
 
 /// Appends to the vector. If out of memory, the vector is unchanged.

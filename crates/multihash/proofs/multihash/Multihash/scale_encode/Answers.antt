@@ -25,11 +25,11 @@ returns-in_err-write_all-clause-err g c =
     stops_in_first g.W.Write.appended g.met.W.Write.appends_concatenated (IsScale (pair_of c.args.self.now)) _ [] c.digest-digest.result.now written
     _ _ _ c.in_err-write_all.ensures.laws.err
 
-pub returns-in_err-write_digest-clause-err : goal.returns-in_err-write_digest-clause-err
-returns-in_err-write_digest-clause-err g c =
-    let written = form g (goal.at.returns-in_err-write_digest-clause-err g c).After-scale_head in
+pub returns-in_err-write_scale_digest-clause-err : goal.returns-in_err-write_scale_digest-clause-err
+returns-in_err-write_scale_digest-clause-err g c =
+    let written = form g (goal.at.returns-in_err-write_scale_digest-clause-err g c).After-scale_head in
     stops_in_third g.W.Write.appended g.met.W.Write.appends_concatenated (IsScale (pair_of c.args.self.now)) _ [] _ written
-    _ _ _ _ _ c.in_ok-write_all.ensures.laws.ok (g.met.W.Write.appends_nothing _) c.in_err-write_digest.ensures.laws.err
+    _ _ _ _ _ c.in_ok-write_all.ensures.laws.ok (g.met.W.Write.appends_nothing _) c.in_err-write_scale_digest.ensures.laws.err
 
 pub returns-clause-ok : goal.returns-clause-ok
 returns-clause-ok g c =
@@ -37,5 +37,5 @@ returns-clause-ok g c =
       _,
       written,
       omega (arith, scale_length (pair_of c.args.self.now) _ written, ap length c.digest-digest.ensures.digest),
-      g.met.W.Write.appends_concatenated _ _ _ _ _ c.in_ok-write_all.ensures.laws.ok c.in_ok-write_digest.ensures.laws.ok,
+      g.met.W.Write.appends_concatenated _ _ _ _ _ c.in_ok-write_all.ensures.laws.ok c.in_ok-write_scale_digest.ensures.laws.ok,
     )
