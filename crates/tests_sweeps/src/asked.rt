@@ -73,7 +73,9 @@ fn expect_calls<const S: usize>(rt: &impl Abort, alloc: Global, code: Code, dige
             (single, others, whole),
             calls,
         );
-        let wholes = pairs.saturating_mul(3);
+        // The head of a SCALE form is one write.
+        let writes = if matches!(form, Form::Scale) { 2 } else { 3 };
+        let wholes = pairs.saturating_mul(writes);
         let parts = wholes.saturating_sub(unasked);
         expect_written_to(rt, alloc, form, &items, (parts, wholes));
     }

@@ -201,7 +201,8 @@ fn expect_call_error<const S: usize>(
 fn expect_call_errors<const S: usize>(rt: &impl Abort, alloc: Global, code: Code, digest: &[u8])
     requires { S < 2 ^ 16 }
 {
-    for (form, first) in [(Form::Binary, code.1.len()), (Form::Scale, 8)] {
+    // The head of a SCALE form is one write.
+    for (form, first, last) in [(Form::Binary, code.1.len(), 2), (Form::Scale, 9, 1)] {
         let items = expect_ok!(rt; form.items::<S>(alloc, code, digest));
         let bytes = expect_ok!(rt; form.bytes(alloc, code, digest));
         let (single, _, whole) = form.requests(code, digest.len());
@@ -218,7 +219,7 @@ fn expect_call_errors<const S: usize>(rt: &impl Abort, alloc: Global, code: Code
             );
         }
         let second = bytes.len().saturating_sub(digest.len());
-        for (calls, written) in [(0, 0), (1, first), (2, second)] {
+        for (calls, written) in [(0, 0), (1, first), (last, second)] {
             let front = bytes.get(..written).unwrap_or(&[]);
             expect_call_error(rt, alloc, form, &items, calls, front);
         }
