@@ -1,14 +1,16 @@
 -- Where the digest is in the input, what decoding the SCALE form consumed, and what an error reports.
-use Rattle.std.proofs.Common.{◌≡◌, ℕ, ◌+◌, ◌<◌, List, [], ◌∷◌, ◌++◌, length, take, drop, ap, sym, ◌∙◌, subst, arith, refl, Option, Some, append_assoc, length-append, length-drop}
-use Rattle.std.proofs.lemmas.List.{length-take-le}
+use Rattle.std.proofs.Common.{◌≡◌, ℕ, ◌+◌, ◌<◌, ◌≤◌, ◌^◌, List, [], ◌∷◌, ◌++◌, length, get_or, take, drop, ap, sym, ◌∙◌, subst, arith, refl, inl, inr, append_assoc, append-nil, take-append-drop, length-append, length-drop}
+use Rattle.std.specs.Int.{from_le_bytes, w64}
+use Rattle.std.proofs.lemmas.Bool.{cases_lt}
+use Rattle.std.proofs.lemmas.List.{length-take-le, take_all, get_or_past, get_or-take, get_or-drop, drop_more}
 use Rattle.std.proofs.lemmas.List.Elements.{All-head, All-drop}
 use Rattle.std.proofs.Math.Seq.{drop-append_seam, take-append_seam}
 use Rattle.multihash.specs.Bytes.{IsBytes}
 use Rattle.multihash.specs.Pair.{Pair}
-use Rattle.multihash.specs.Scale.{IsScale, HasScaleVerdict, ConsumesAtScaleError}
-use Rattle.multihash.specs.Verdict.{Verdict, accepted, invalid_size, invalid_code, malformed, unexpected_eof}
-use Rattle.multihash.specs.Refusal.{Refusal, IsInvalidCode}
-use Rattle.multihash.specs.Outcome.{IsErrorOf}
+use Rattle.multihash.specs.Scale.{IsScaleCode, IsScale, HasScaleSize, HasScaleVerdict}
+use Rattle.multihash.specs.Varint.{varint_limit}
+use Rattle.multihash.specs.Verdict.{accepted, invalid_size, invalid_code, unexpected_eof}
+use Rattle.multihash.proofs.Forms.ScaleLemmas.{code_read, scale_of, scale_length}
 use Rattle.multihash_c.specs.declared.decode.Decoded.{Decoded}
 use Rattle.multihash_c.specs.Decoded.{ReportsPair, ConsumesForm}
 
@@ -57,23 +59,69 @@ byte_fits input size bytes (rest, has, over) =
     subst IsBytes left (All-drop (λ byte. byte < 256) (length has.code_bytes) input bytes) in
     omega (arith, over, All-head (λ byte. byte < 256) size rest following)
 
--- a code that is rejected is the verdict, and eight bytes were consumed
-pub code_taken : (input : List ℕ) (new : Option (List ℕ)) (e : Refusal) (code taken : ℕ) (t : ConsumesAtScaleError 255 e (Some input) new)
-    → take taken input ≡ t.consumed → IsInvalidCode code e → (v : Verdict) → HasScaleVerdict 255 input v → IsErrorOf e v
-    → (v ≡ invalid_code code) × ConsumesForm v input taken
-code_taken input new e code taken t front is (accepted p) has r = absurd r
-code_taken input new e code taken t front is (invalid_size size) has r = absurd (cc)
-code_taken input new e code taken t front is (invalid_code n) has r =
-    let same : code ≡ n = cc in
-    (ap (λ k. invalid_code k) (sym same), subst (λ (z : List ℕ). HasScaleVerdict 255 z (invalid_code n) × (length z ≡ 8)) (sym front) (t.code n r))
-code_taken input new e code taken t front is (malformed error) has r = absurd has
-code_taken input new e code taken t front is unexpected_eof has r = let other = r.1 in absurd (cc)
+-- the first eight bytes of the input, read as a code, and what follows
+module _ (input front rest : List ℕ) (code : ℕ) (parts : (front ≡ take 8 input) × (rest ≡ drop 8 input) × (length rest + 8 ≡ length input))
+    (each : (i : ℕ) → get_or input i 0 < 256) (range : code < 2 ^ 64) (read : code ≡ from_le_bytes w64 front) where
+  eight : length front ≡ 8
+  eight = ap length parts.0 ∙ length-take-le 8 input (omega (arith, parts.2))
 
--- if no code is rejected the input is truncated
-pub ends_early : (input : List ℕ) (e : Refusal) → IsBytes input → ((n : ℕ) → ¬ (IsInvalidCode n e)) → (v : Verdict)
-    → HasScaleVerdict 255 input v → IsErrorOf e v → v ≡ unexpected_eof
-ends_early input e bytes no_code (accepted p) has r = absurd r
-ends_early input e bytes no_code (invalid_size size) has r = absurd (byte_fits input size bytes has)
-ends_early input e bytes no_code (invalid_code n) has r = absurd (no_code n r)
-ends_early input e bytes no_code (malformed error) has r = absurd has
-ends_early input e bytes no_code unexpected_eof has r = refl
+  front_byte : (i : ℕ) → get_or front i 0 < 256
+  front_byte i = elim (cases_lt i 8) [
+    | inl below ↦ rw (parts.0, get_or-take 8 input i 0 below) (each i)
+    | inr past ↦ rw (get_or_past front i 0 (omega (arith, eight, past))) (omega arith)
+  ]
+
+  is_code : IsScaleCode code front
+  is_code = code_read front code eight front_byte (omega (arith, range)) read
+
+  cut : input ≡ front ++ rest
+  cut = rw (parts.0, parts.1) (sym (take-append-drop 8 input))
+
+  pub code_taken : (taken : ℕ) → varint_limit ≤ code → taken ≡ 8
+      → HasScaleVerdict 255 input (invalid_code code) × ConsumesForm (invalid_code code) input taken
+  code_taken taken above all = (
+    (front, rest, is_code, above, cut),
+    subst (λ (z : List ℕ). HasScaleVerdict 255 z (invalid_code code) × (length z ≡ 8)) (sym (taken_front input front rest taken cut (all ∙ sym eight)))
+        ((front, [], is_code, above, sym (append-nil front)), eight),
+  )
+
+  module _ (below : code < varint_limit) where
+    pub size_missing : length rest ≡ 0 → HasScaleVerdict 255 input unexpected_eof
+    size_missing none =
+        let same : front ≡ input = parts.0 ∙ take_all 8 input (omega (arith, parts.2, none)) in inr (inl (code, subst (IsScaleCode code) same is_code, below))
+
+    module _ (size : ℕ) (more : 0 < length rest) (is_size : size ≡ get_or rest 0 0) where
+      byte : size < 256
+      byte = omega (arith, each 8, is_size ∙ (ap (λ (z : List ℕ). get_or z 0 0) parts.1 ∙ get_or-drop 8 input 0 0))
+
+      abbrev has_size : HasScaleSize size input (drop 1 rest)
+      has_size = record {
+        code = code;
+        code_bytes = front;
+        is_code = is_code;
+        in_range = below;
+        cut = cut ∙ ap (λ (z : List ℕ). front ++ z) (rw is_size (drop_more rest 0 0 more));
+      }
+
+      pub digest_missing : length input < 9 + size → HasScaleVerdict 255 input unexpected_eof
+      digest_missing short = inr (inr (size, drop 1 rest, has_size, omega (arith, byte), omega (arith, length-drop 1 rest, parts.2, short)))
+
+      -- the whole form
+      pub form_taken : (offset n taken : ℕ) → n ≡ size → taken ≡ 9 + size → offset + n ≡ taken → taken ≤ length input
+          → (p : Pair) × (p.code ≡ code) × HasScaleVerdict 255 input (accepted p) × (p.digest ≡ take n (drop offset input)) × IsScale p (take taken input)
+      form_taken offset n taken exact all ends within =
+          let digest = take size (drop 1 rest) in
+          let following = drop size (drop 1 rest) in
+          let p : Pair = record { code = code; digest = digest } in
+          let bytes : List ℕ = front ++ size ∷ digest in
+          let there : length digest ≡ size = length-take-le size (drop 1 rest) (omega (arith, length-drop 1 rest, parts.2, all, within)) in
+          let form : IsScale p bytes = scale_of p size front digest is_code below (sym there) byte refl in
+          let whole : input ≡ bytes ++ following =
+          has_size.cut ∙ (ap (λ (z : List ℕ). front ++ size ∷ z) (sym (take-append-drop size (drop 1 rest))) ∙ sym (append_assoc front (size ∷ digest) following)) in
+          let count : taken ≡ length bytes = omega (arith, all, there, scale_length p bytes form) in (
+            p,
+            refl,
+            (bytes, following, form, omega (arith, there, byte), whole),
+            form_stands p input bytes following offset n taken form whole (omega (arith, exact, there)) count ends,
+            subst (λ (z : List ℕ). IsScale p z) (sym (taken_front input bytes following taken whole count)) form,
+          )

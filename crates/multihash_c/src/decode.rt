@@ -8,10 +8,10 @@ ghost use Rattle.multihash.specs.Scale.{HasScaleVerdict};
 ghost use Rattle.multihash.specs.Refusal.{Refusal, IsVarintError};
 ghost use Rattle.multihash.specs.Consuming.{IsHeadError};
 ghost use Rattle.multihash_c.specs.Status.{status_of_error};
-ghost use Rattle.multihash_c.specs.Decoded.{Reports, ReportsError, ReportsPrefix, ConsumesForm, ConsumesWholeParts, ReadsWithin, ReadsFront};
+ghost use Rattle.multihash_c.specs.Decoded.{Reports, ReportsError, ReportsPrefix, ConsumesForm, ReadsWithin, ReadsFront};
 
 use crate::{DIGEST_MAX, SCALE_HEAD, status};
-use multihash::{Error, Head, Multihash};
+use multihash::{Error, Head, varint};
 
 // The number of bytes of a code in the SCALE form.
 const CODE_LEN: usize = SCALE_HEAD - 1;
@@ -111,18 +111,22 @@ pub extern "C" fn multihash_scale_decode(bytes: &[u8]) -> Decoded
         × ConsumesForm v bytes.now result.taken }
     ensures inside { result.taken ≤ length bytes.now }
 {
-    let mut rest = bytes;
-    let decoded = Multihash::<DIGEST_MAX>::scale_decode(&mut rest);
-    match decoded {
-        Ok(multihash) => {
-            let size = usize::from(multihash.size());
-            accept(multihash.code(), size, SCALE_HEAD + size)
-        }
-        Err(error) => match error.invalid_code() {
-            Some(code) => rejected_code(code, CODE_LEN),
-            None => rejected_end(whole_parts(bytes.len())),
-        },
+    let Some((code, rest)) = bytes.split_first_chunk() else {
+        return rejected_end(0);
+    };
+    let code = u64::from_le_bytes(*code);
+    if code > varint::MAX {
+        return rejected_code(code, CODE_LEN);
     }
+    if rest.is_empty() {
+        return rejected_end(CODE_LEN);
+    }
+    let size = usize::from(rest[0]);
+    let taken = SCALE_HEAD + size;
+    if bytes.len() < taken {
+        return rejected_end(SCALE_HEAD);
+    }
+    accept(code, size, taken)
 }
 
 // Decodes each input of that many bytes that begins with the front. No digest is read, so only the two
@@ -200,19 +204,6 @@ fn varint_status(error: &Error) -> u32
         status::OVERFLOW
     } else {
         status::NOT_MINIMAL
-    }
-}
-
-// The length of the complete fixed-size parts (the code, the size) of a SCALE form that is truncated to that
-// many bytes.
-fn whole_parts(present: usize) -> usize
-    ensures parts { ConsumesWholeParts present result }
-    ensures inside { result ≤ present }
-{
-    match present {
-        0..CODE_LEN => 0,
-        CODE_LEN => CODE_LEN,
-        _ => SCALE_HEAD,
     }
 }
 
