@@ -64,10 +64,11 @@ pub extern "C" fn multihash_encoded_len(code: u64, digest_length: usize) -> Enco
     ensures length { digest_length ≤ 255 → code < varint_limit →
         ReportsLength code digest_length result }
 {
-    match needed(code, digest_length) {
-        Ok(length) => count(length, length),
-        Err(rejected) => rejected,
-    }
+    let length = match needed(code, digest_length) {
+        Ok(length) => length,
+        Err(result) => return result,
+    };
+    count(length, length)
 }
 
 /// Writes the text of a status to the front of `out`: ASCII, with no zero byte at its end.
