@@ -43,14 +43,17 @@ typedef struct memory {
     const u8 *input, *other;
     u8 *out;
     u64 input_length, other_length, out_length;
-    u8 own[OWN_SIZE]; /* not initialised: the functions write each byte before they read it */
+    u8 *own; /* OWN_SIZE bytes, not initialised: the functions write each byte before they read it */
 } memory;
 
-/* The accesses are compiled in place: mostly the block is known there, and its length is compared once. */
+/* The accesses are compiled in place: mostly the block is known there, and its length is compared once. What
+ * seldom inputs need is compiled apart. */
 #if defined(__GNUC__)
 #define ALWAYS_INLINE static inline __attribute__((always_inline))
+#define APART static __attribute__((noinline, cold))
 #else
 #define ALWAYS_INLINE static inline
+#define APART static
 #endif
 
 /* Whether the `size` bytes at an offset are in a block of that length. */

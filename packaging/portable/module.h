@@ -2,7 +2,7 @@
 #ifndef MODULE_H
 #define MODULE_H
 
-#define STACK_SIZE 240
+#define STACK_SIZE 256
 #define TEXTS_START 65536
 static const unsigned char texts[186] = {
     111, 107, 110, 111, 116, 32, 101, 110, 111, 117, 103, 104, 32, 105, 110, 112, 117, 116, 32, 98,
@@ -26,9 +26,18 @@ static const unsigned char texts[186] = {
 static u32 w2c___rattle_enter(memory*);
 static void w2c___rattle_leave(memory*);
 static void w2c___rattle_trap(memory*);
-static void w2c_multihash__varint__word__front_by_word(memory*, u64, u64, u64);
-static void w2c_multihash__varint__word__front_by_short_word(memory*, u64, u64, u64);
-static void w2c_multihash_c__decode__error_of(memory*, u64, u64, u64);
+ALWAYS_INLINE void w2c_multihash_c__decode__seldom(memory*, u64, u64, u64);
+ALWAYS_INLINE void w2c_multihash__varint__word__front_by_word(memory*, u64, u64, u64);
+APART void w2c_multihash__varint__word__front_by_short_word_apart(memory*, u64, u64, u64);
+ALWAYS_INLINE void w2c_multihash__varint__word__front_by_short_word(const memory* instance, u64 p0, u64 p1, u64 p2) {
+  memory call = *instance;
+  w2c_multihash__varint__word__front_by_short_word_apart(&call, p0, p1, p2);
+}
+APART void w2c_multihash_c__decode__error_of_apart(memory*, u64, u64, u64);
+ALWAYS_INLINE void w2c_multihash_c__decode__error_of(const memory* instance, u64 p0, u64 p1, u64 p2) {
+  memory call = *instance;
+  w2c_multihash_c__decode__error_of_apart(&call, p0, p1, p2);
+}
 static void w2c_multihash__head__Head__read_counted(memory*, u64, u64, u64);
 static void w2c_multihash__varint__word__read_counted(memory*, u64, u64, u64);
 static u32 w2c_multihash_c__compare__order_of_unlike(memory*, u64, u64);
@@ -83,7 +92,28 @@ static void w2c___rattle_trap(memory* instance) {
   UNREACHABLE;
 }
 
-static void w2c_multihash__varint__word__front_by_word(memory* instance, u64 w2c_p0, u64 w2c_p1, u64 w2c_p2) {
+ALWAYS_INLINE void w2c_multihash_c__decode__seldom(memory* instance, u64 w2c_p0, u64 w2c_p1, u64 w2c_p2) {
+  u32 w2c_i0;
+  u64 w2c_j0, w2c_j1, w2c_j2;
+  w2c_j0 = instance->w2c___stack_pointer;
+  w2c_j1 = 16ull;
+  w2c_i0 = (u64)((s64)w2c_j0 < (s64)w2c_j1);
+  if (w2c_i0) {goto w2c_B0;}
+  w2c_j0 = w2c_p0;
+  w2c_j1 = w2c_p2;
+  w2c_j2 = 8ull;
+  i64_store(instance, w2c_j0, w2c_j1, w2c_j2);
+  w2c_j0 = w2c_p0;
+  w2c_j1 = w2c_p1;
+  w2c_j2 = 0ull;
+  i64_store(instance, w2c_j0, w2c_j1, w2c_j2);
+  goto w2c_Bfunc;
+  w2c_B0:;
+  UNREACHABLE;
+  w2c_Bfunc:;
+}
+
+ALWAYS_INLINE void w2c_multihash__varint__word__front_by_word(memory* instance, u64 w2c_p0, u64 w2c_p1, u64 w2c_p2) {
   u64 w2c_l3 = 0, w2c_l4 = 0, w2c_l5 = 0, w2c_l6 = 0, w2c_l7 = 0;
   u32 w2c_i0;
   u64 w2c_j0, w2c_j1, w2c_j2, w2c_j3, w2c_j4, w2c_j5, w2c_j6, w2c_j7,
@@ -331,7 +361,7 @@ static void w2c_multihash__varint__word__front_by_word(memory* instance, u64 w2c
   w2c_Bfunc:;
 }
 
-static void w2c_multihash__varint__word__front_by_short_word(memory* instance, u64 w2c_p0, u64 w2c_p1, u64 w2c_p2) {
+APART void w2c_multihash__varint__word__front_by_short_word_apart(memory* instance, u64 w2c_p0, u64 w2c_p1, u64 w2c_p2) {
   u64 w2c_l3 = 0, w2c_l4 = 0, w2c_l5 = 0, w2c_l6 = 0, w2c_l7 = 0;
   u32 w2c_i0;
   u64 w2c_j0, w2c_j1, w2c_j2, w2c_j3, w2c_j4, w2c_j5, w2c_j6, w2c_j7,
@@ -581,7 +611,7 @@ static void w2c_multihash__varint__word__front_by_short_word(memory* instance, u
   w2c_Bfunc:;
 }
 
-static void w2c_multihash_c__decode__error_of(memory* instance, u64 w2c_p0, u64 w2c_p1, u64 w2c_p2) {
+APART void w2c_multihash_c__decode__error_of_apart(memory* instance, u64 w2c_p0, u64 w2c_p1, u64 w2c_p2) {
   u32 w2c_l4 = 0;
   u64 w2c_l3 = 0;
   u32 w2c_i0, w2c_i1, w2c_i2, w2c_i3, w2c_i4, w2c_i5;
@@ -2639,12 +2669,12 @@ static void w2c_multihash_from_bytes(memory* instance, u64 w2c_p0, u64 w2c_p1, u
 }
 
 static void w2c_rattle__export_multihash_from_bytes(memory* instance, u64 w2c_p0, u64 w2c_p1, u64 w2c_p2) {
-  u32 w2c_l5 = 0;
-  u64 w2c_l3 = 0, w2c_l4 = 0, w2c_l6 = 0, w2c_l7 = 0, w2c_l8 = 0;
+  u32 w2c_l6 = 0;
+  u64 w2c_l3 = 0, w2c_l4 = 0, w2c_l5 = 0, w2c_l7 = 0, w2c_l8 = 0;
   u32 w2c_i0, w2c_i1, w2c_i3;
   u64 w2c_j0, w2c_j1, w2c_j2, w2c_j3;
   w2c_j0 = instance->w2c___stack_pointer;
-  w2c_j1 = 48ull;
+  w2c_j1 = 64ull;
   w2c_j0 -= w2c_j1;
   w2c_l3 = w2c_j0;
   instance->w2c___stack_pointer = w2c_j0;
@@ -2652,7 +2682,7 @@ static void w2c_rattle__export_multihash_from_bytes(memory* instance, u64 w2c_p0
   w2c_l3 = w2c_j0;
   w2c_j1 = 16ull;
   w2c_i0 = (u64)((s64)w2c_j0 < (s64)w2c_j1);
-  if (w2c_i0) {goto w2c_B3;}
+  if (w2c_i0) {goto w2c_B6;}
   w2c_j0 = w2c_p1;
   w2c_j1 = 4096ull;
   w2c_j2 = 0ull;
@@ -2664,14 +2694,14 @@ static void w2c_rattle__export_multihash_from_bytes(memory* instance, u64 w2c_p0
   w2c_j0 = w2c_p2;
   w2c_j1 = 2ull;
   w2c_i0 = w2c_j0 < w2c_j1;
-  if (w2c_i0) {goto w2c_B8;}
+  if (w2c_i0) {goto w2c_B7;}
   w2c_j0 = w2c_l4;
   w2c_j1 = 0ull;
-  w2c_i0 = i32_load8_s(instance, w2c_j0, w2c_j1);
-  w2c_l5 = w2c_i0;
-  w2c_i1 = 0u;
-  w2c_i0 = (u32)((s32)w2c_i0 < (s32)w2c_i1);
-  if (w2c_i0) {goto w2c_B6;}
+  w2c_j0 = i64_load8_s(instance, w2c_j0, w2c_j1);
+  w2c_l5 = w2c_j0;
+  w2c_j1 = 0ull;
+  w2c_i0 = (u64)((s64)w2c_j0 < (s64)w2c_j1);
+  if (w2c_i0) {goto w2c_B7;}
   w2c_j0 = w2c_l4;
   w2c_j1 = 1ull;
   w2c_j0 = i64_load8_s(instance, w2c_j0, w2c_j1);
@@ -2679,33 +2709,103 @@ static void w2c_rattle__export_multihash_from_bytes(memory* instance, u64 w2c_p0
   w2c_j1 = 0ull;
   w2c_i0 = (u64)((s64)w2c_j0 < (s64)w2c_j1);
   if (w2c_i0) {goto w2c_B7;}
-  w2c_i0 = w2c_l5;
-  w2c_j0 = (u64)(w2c_i0);
-  w2c_j1 = 255ull;
-  w2c_j0 &= w2c_j1;
-  w2c_l6 = w2c_j0;
-  w2c_j0 = 2ull;
+  w2c_j0 = 0ull;
+  w2c_l4 = w2c_j0;
+  w2c_i0 = 6u;
+  w2c_l6 = w2c_i0;
+  w2c_j0 = w2c_p2;
+  w2c_j1 = 18446744073709551614ull;
+  w2c_j0 += w2c_j1;
+  w2c_l7 = w2c_j0;
+  w2c_j1 = w2c_p1;
+  w2c_i0 = w2c_j0 >= w2c_j1;
+  if (w2c_i0) {goto w2c_B8;}
+  w2c_j0 = 0ull;
   w2c_l7 = w2c_j0;
   goto w2c_B2;
   w2c_B8:;
+  w2c_j0 = w2c_l7;
+  w2c_j1 = w2c_p1;
+  w2c_i0 = w2c_j0 <= w2c_j1;
+  if (w2c_i0) {goto w2c_B9;}
+  w2c_j0 = w2c_l7;
+  w2c_j1 = w2c_p1;
+  w2c_j0 -= w2c_j1;
+  w2c_l7 = w2c_j0;
+  w2c_i0 = 4u;
+  w2c_l6 = w2c_i0;
+  goto w2c_B2;
+  w2c_B9:;
   w2c_j0 = w2c_p2;
-  w2c_i0 = !(w2c_j0);
-  if (w2c_i0) {goto w2c_B6;}
+  w2c_j1 = w2c_p1;
+  w2c_j0 -= w2c_j1;
+  w2c_l8 = w2c_j0;
+  w2c_i0 = 0u;
+  w2c_l6 = w2c_i0;
+  w2c_j0 = 0ull;
+  w2c_l7 = w2c_j0;
+  w2c_j0 = w2c_l5;
+  w2c_l4 = w2c_j0;
+  goto w2c_B1;
+  w2c_B7:;
+  w2c_j0 = w2c_l3;
+  w2c_j1 = 48ull;
+  w2c_j0 += w2c_j1;
+  w2c_j1 = w2c_l4;
+  w2c_j2 = w2c_p2;
+  w2c_multihash_c__decode__seldom(instance, w2c_j0, w2c_j1, w2c_j2);
+  w2c_j0 = w2c_l3;
+  w2c_j1 = 48ull;
+  w2c_j0 = i64_load(instance, w2c_j0, w2c_j1);
+  w2c_l4 = w2c_j0;
+  w2c_j0 = w2c_l3;
+  w2c_j1 = 56ull;
+  w2c_j0 = i64_load(instance, w2c_j0, w2c_j1);
+  w2c_p2 = w2c_j0;
+  w2c_j1 = 2ull;
+  w2c_i0 = w2c_j0 < w2c_j1;
+  if (w2c_i0) {goto w2c_B14;}
   w2c_j0 = w2c_l4;
   w2c_j1 = 0ull;
   w2c_i0 = i32_load8_s(instance, w2c_j0, w2c_j1);
-  w2c_l5 = w2c_i0;
+  w2c_l6 = w2c_i0;
   w2c_i1 = 0u;
   w2c_i0 = (u32)((s32)w2c_i0 < (s32)w2c_i1);
-  if (w2c_i0) {goto w2c_B6;}
-  w2c_B7:;
-  w2c_i0 = w2c_l5;
-  w2c_j0 = (u64)(s64)(s32)(w2c_i0);
-  w2c_l6 = w2c_j0;
-  w2c_j0 = 1ull;
+  if (w2c_i0) {goto w2c_B12;}
+  w2c_j0 = w2c_l4;
+  w2c_j1 = 1ull;
+  w2c_j0 = i64_load8_s(instance, w2c_j0, w2c_j1);
+  w2c_p1 = w2c_j0;
+  w2c_j1 = 0ull;
+  w2c_i0 = (u64)((s64)w2c_j0 < (s64)w2c_j1);
+  if (w2c_i0) {goto w2c_B13;}
+  w2c_i0 = w2c_l6;
+  w2c_j0 = (u64)(w2c_i0);
+  w2c_j1 = 255ull;
+  w2c_j0 &= w2c_j1;
+  w2c_l5 = w2c_j0;
+  w2c_j0 = 2ull;
   w2c_l7 = w2c_j0;
   goto w2c_B5;
-  w2c_B6:;
+  w2c_B14:;
+  w2c_j0 = w2c_p2;
+  w2c_i0 = !(w2c_j0);
+  if (w2c_i0) {goto w2c_B12;}
+  w2c_j0 = w2c_l4;
+  w2c_j1 = 0ull;
+  w2c_i0 = i32_load8_s(instance, w2c_j0, w2c_j1);
+  w2c_l6 = w2c_i0;
+  w2c_i1 = 0u;
+  w2c_i0 = (u32)((s32)w2c_i0 < (s32)w2c_i1);
+  if (w2c_i0) {goto w2c_B12;}
+  w2c_B13:;
+  w2c_i0 = w2c_l6;
+  w2c_j0 = (u64)(s64)(s32)(w2c_i0);
+  w2c_l5 = w2c_j0;
+  w2c_j0 = 1ull;
+  w2c_l7 = w2c_j0;
+  goto w2c_B11;
+  w2c_B12:;
   w2c_j0 = w2c_l3;
   w2c_j1 = 32ull;
   w2c_j0 += w2c_j1;
@@ -2717,12 +2817,12 @@ static void w2c_rattle__export_multihash_from_bytes(memory* instance, u64 w2c_p0
   w2c_j0 = i64_load(instance, w2c_j0, w2c_j1);
   w2c_l7 = w2c_j0;
   w2c_i0 = !(w2c_j0);
-  if (w2c_i0) {goto w2c_B4;}
+  if (w2c_i0) {goto w2c_B10;}
   w2c_j0 = w2c_l3;
   w2c_j1 = 32ull;
   w2c_j0 = i64_load(instance, w2c_j0, w2c_j1);
-  w2c_l6 = w2c_j0;
-  w2c_B5:;
+  w2c_l5 = w2c_j0;
+  w2c_B11:;
   w2c_j0 = w2c_l4;
   w2c_j1 = w2c_l7;
   w2c_j0 += w2c_j1;
@@ -2730,20 +2830,20 @@ static void w2c_rattle__export_multihash_from_bytes(memory* instance, u64 w2c_p0
   w2c_j0 = w2c_p2;
   w2c_j1 = w2c_l7;
   w2c_i0 = w2c_j0 == w2c_j1;
-  if (w2c_i0) {goto w2c_B9;}
+  if (w2c_i0) {goto w2c_B15;}
   w2c_j0 = w2c_l8;
   w2c_j1 = 0ull;
   w2c_j0 = i64_load8_s(instance, w2c_j0, w2c_j1);
   w2c_p1 = w2c_j0;
   w2c_j1 = 0ull;
   w2c_i0 = (u64)((s64)w2c_j0 < (s64)w2c_j1);
-  if (w2c_i0) {goto w2c_B9;}
+  if (w2c_i0) {goto w2c_B15;}
   w2c_j0 = w2c_l7;
   w2c_j1 = 1ull;
   w2c_j0 += w2c_j1;
   w2c_l7 = w2c_j0;
-  goto w2c_B2;
-  w2c_B9:;
+  goto w2c_B5;
+  w2c_B15:;
   w2c_j0 = w2c_l3;
   w2c_j1 = 16ull;
   w2c_j0 += w2c_j1;
@@ -2757,28 +2857,28 @@ static void w2c_rattle__export_multihash_from_bytes(memory* instance, u64 w2c_p0
   w2c_j0 = i64_load(instance, w2c_j0, w2c_j1);
   w2c_l8 = w2c_j0;
   w2c_i0 = !(w2c_j0);
-  if (w2c_i0) {goto w2c_B4;}
+  if (w2c_i0) {goto w2c_B10;}
   w2c_j0 = w2c_l3;
   w2c_j1 = 16ull;
   w2c_j0 = i64_load(instance, w2c_j0, w2c_j1);
   w2c_p1 = w2c_j0;
   w2c_j1 = 255ull;
   w2c_i0 = w2c_j0 > w2c_j1;
-  if (w2c_i0) {goto w2c_B10;}
+  if (w2c_i0) {goto w2c_B16;}
   w2c_j0 = w2c_l8;
   w2c_j1 = w2c_l7;
   w2c_j0 += w2c_j1;
   w2c_l7 = w2c_j0;
-  goto w2c_B2;
-  w2c_B10:;
+  goto w2c_B5;
+  w2c_B16:;
   w2c_j0 = 0ull;
   w2c_l4 = w2c_j0;
   w2c_i0 = 4u;
-  w2c_l5 = w2c_i0;
+  w2c_l6 = w2c_i0;
   w2c_j0 = w2c_p1;
   w2c_l7 = w2c_j0;
-  goto w2c_B1;
-  w2c_B4:;
+  goto w2c_B4;
+  w2c_B10:;
   w2c_j0 = w2c_l3;
   w2c_j1 = w2c_l4;
   w2c_j2 = w2c_p2;
@@ -2788,13 +2888,13 @@ static void w2c_rattle__export_multihash_from_bytes(memory* instance, u64 w2c_p0
   w2c_j0 = w2c_l3;
   w2c_j1 = 0ull;
   w2c_i0 = i32_load(instance, w2c_j0, w2c_j1);
-  w2c_l5 = w2c_i0;
+  w2c_l6 = w2c_i0;
   w2c_j0 = 0ull;
   w2c_l4 = w2c_j0;
-  goto w2c_B1;
-  w2c_B3:;
+  goto w2c_B4;
+  w2c_B6:;
   UNREACHABLE;
-  w2c_B2:;
+  w2c_B5:;
   w2c_j0 = 0ull;
   w2c_l4 = w2c_j0;
   w2c_j0 = w2c_p2;
@@ -2803,42 +2903,42 @@ static void w2c_rattle__export_multihash_from_bytes(memory* instance, u64 w2c_p0
   w2c_l7 = w2c_j0;
   w2c_j1 = w2c_p1;
   w2c_i0 = w2c_j0 >= w2c_j1;
-  if (w2c_i0) {goto w2c_B11;}
+  if (w2c_i0) {goto w2c_B17;}
   w2c_i0 = 6u;
-  w2c_l5 = w2c_i0;
+  w2c_l6 = w2c_i0;
   w2c_j0 = 0ull;
   w2c_l7 = w2c_j0;
-  goto w2c_B1;
-  w2c_B11:;
+  goto w2c_B4;
+  w2c_B17:;
   w2c_j0 = w2c_l7;
   w2c_j1 = w2c_p1;
   w2c_i0 = w2c_j0 <= w2c_j1;
-  if (w2c_i0) {goto w2c_B12;}
+  if (w2c_i0) {goto w2c_B18;}
   w2c_j0 = w2c_l7;
   w2c_j1 = w2c_p1;
   w2c_j0 -= w2c_j1;
   w2c_l7 = w2c_j0;
   w2c_i0 = 4u;
-  w2c_l5 = w2c_i0;
-  goto w2c_B1;
-  w2c_B12:;
+  w2c_l6 = w2c_i0;
+  goto w2c_B4;
+  w2c_B18:;
   w2c_j0 = w2c_p2;
   w2c_j1 = w2c_p1;
   w2c_j0 -= w2c_j1;
   w2c_l8 = w2c_j0;
   w2c_i0 = 0u;
-  w2c_l5 = w2c_i0;
+  w2c_l6 = w2c_i0;
   w2c_j0 = 0ull;
   w2c_l7 = w2c_j0;
-  w2c_j0 = w2c_l6;
+  w2c_j0 = w2c_l5;
   w2c_l4 = w2c_j0;
-  goto w2c_B0;
-  w2c_B1:;
+  goto w2c_B3;
+  w2c_B4:;
   w2c_j0 = 0ull;
   w2c_l8 = w2c_j0;
   w2c_j0 = 0ull;
   w2c_p1 = w2c_j0;
-  w2c_B0:;
+  w2c_B3:;
   w2c_j0 = w2c_p0;
   w2c_j1 = w2c_p2;
   w2c_j2 = 40ull;
@@ -2864,11 +2964,47 @@ static void w2c_rattle__export_multihash_from_bytes(memory* instance, u64 w2c_p0
   w2c_j2 = 4ull;
   i32_store(instance, w2c_j0, w2c_i1, w2c_j2);
   w2c_j0 = w2c_p0;
-  w2c_i1 = w2c_l5;
+  w2c_i1 = w2c_l6;
   w2c_j2 = 0ull;
   i32_store(instance, w2c_j0, w2c_i1, w2c_j2);
+  goto w2c_B0;
+  w2c_B2:;
+  w2c_j0 = 0ull;
+  w2c_l8 = w2c_j0;
+  w2c_j0 = 0ull;
+  w2c_p1 = w2c_j0;
+  w2c_B1:;
+  w2c_j0 = w2c_p0;
+  w2c_j1 = w2c_p2;
+  w2c_j2 = 40ull;
+  i64_store(instance, w2c_j0, w2c_j1, w2c_j2);
+  w2c_j0 = w2c_p0;
+  w2c_j1 = w2c_p1;
+  w2c_j2 = 32ull;
+  i64_store(instance, w2c_j0, w2c_j1, w2c_j2);
+  w2c_j0 = w2c_p0;
+  w2c_j1 = w2c_l8;
+  w2c_j2 = 24ull;
+  i64_store(instance, w2c_j0, w2c_j1, w2c_j2);
+  w2c_j0 = w2c_p0;
+  w2c_j1 = w2c_l4;
+  w2c_j2 = 16ull;
+  i64_store(instance, w2c_j0, w2c_j1, w2c_j2);
+  w2c_j0 = w2c_p0;
+  w2c_j1 = w2c_l7;
+  w2c_j2 = 8ull;
+  i64_store(instance, w2c_j0, w2c_j1, w2c_j2);
+  w2c_j0 = w2c_p0;
+  w2c_i1 = 0u;
+  w2c_j2 = 4ull;
+  i32_store(instance, w2c_j0, w2c_i1, w2c_j2);
+  w2c_j0 = w2c_p0;
+  w2c_i1 = w2c_l6;
+  w2c_j2 = 0ull;
+  i32_store(instance, w2c_j0, w2c_i1, w2c_j2);
+  w2c_B0:;
   w2c_j0 = w2c_l3;
-  w2c_j1 = 48ull;
+  w2c_j1 = 64ull;
   w2c_j0 += w2c_j1;
   instance->w2c___stack_pointer = w2c_j0;
 }
@@ -3148,12 +3284,12 @@ static void w2c_multihash_head(memory* instance, u64 w2c_p0, u64 w2c_p1, u64 w2c
 }
 
 static void w2c_rattle__export_multihash_head(memory* instance, u64 w2c_p0, u64 w2c_p1, u64 w2c_p2) {
-  u32 w2c_l5 = 0;
-  u64 w2c_l3 = 0, w2c_l4 = 0, w2c_l6 = 0, w2c_l7 = 0, w2c_l8 = 0;
+  u32 w2c_l6 = 0;
+  u64 w2c_l3 = 0, w2c_l4 = 0, w2c_l5 = 0, w2c_l7 = 0, w2c_l8 = 0;
   u32 w2c_i0, w2c_i1, w2c_i3;
   u64 w2c_j0, w2c_j1, w2c_j2, w2c_j3;
   w2c_j0 = instance->w2c___stack_pointer;
-  w2c_j1 = 48ull;
+  w2c_j1 = 64ull;
   w2c_j0 -= w2c_j1;
   w2c_l3 = w2c_j0;
   instance->w2c___stack_pointer = w2c_j0;
@@ -3161,7 +3297,7 @@ static void w2c_rattle__export_multihash_head(memory* instance, u64 w2c_p0, u64 
   w2c_l3 = w2c_j0;
   w2c_j1 = 16ull;
   w2c_i0 = (u64)((s64)w2c_j0 < (s64)w2c_j1);
-  if (w2c_i0) {goto w2c_B2;}
+  if (w2c_i0) {goto w2c_B0;}
   w2c_j0 = w2c_p1;
   w2c_j1 = 4096ull;
   w2c_j2 = 0ull;
@@ -3169,93 +3305,144 @@ static void w2c_rattle__export_multihash_head(memory* instance, u64 w2c_p0, u64 
   w2c_i3 = !(w2c_j3);
   w2c_j1 = w2c_i3 ? w2c_j1 : w2c_j2;
   w2c_j0 += w2c_j1;
-  w2c_l4 = w2c_j0;
+  w2c_p1 = w2c_j0;
   w2c_j0 = w2c_p2;
   w2c_j1 = 2ull;
   w2c_i0 = w2c_j0 < w2c_j1;
-  if (w2c_i0) {goto w2c_B7;}
-  w2c_j0 = w2c_l4;
+  if (w2c_i0) {goto w2c_B2;}
+  w2c_j0 = w2c_p1;
   w2c_j1 = 0ull;
-  w2c_i0 = i32_load8_s(instance, w2c_j0, w2c_j1);
-  w2c_l5 = w2c_i0;
-  w2c_i1 = 0u;
-  w2c_i0 = (u32)((s32)w2c_i0 < (s32)w2c_i1);
-  if (w2c_i0) {goto w2c_B5;}
-  w2c_j0 = w2c_l4;
-  w2c_j1 = 1ull;
   w2c_j0 = i64_load8_s(instance, w2c_j0, w2c_j1);
-  w2c_l6 = w2c_j0;
+  w2c_l4 = w2c_j0;
   w2c_j1 = 0ull;
   w2c_i0 = (u64)((s64)w2c_j0 < (s64)w2c_j1);
+  if (w2c_i0) {goto w2c_B2;}
+  w2c_j0 = w2c_p1;
+  w2c_j1 = 1ull;
+  w2c_j0 = i64_load8_s(instance, w2c_j0, w2c_j1);
+  w2c_l5 = w2c_j0;
+  w2c_j1 = 0ull;
+  w2c_i0 = (u64)((s64)w2c_j0 < (s64)w2c_j1);
+  if (w2c_i0) {goto w2c_B2;}
+  w2c_j0 = w2c_p0;
+  w2c_j1 = 2ull;
+  w2c_j2 = 24ull;
+  i64_store(instance, w2c_j0, w2c_j1, w2c_j2);
+  w2c_j0 = w2c_p0;
+  w2c_j1 = w2c_l5;
+  w2c_j2 = 16ull;
+  i64_store(instance, w2c_j0, w2c_j1, w2c_j2);
+  w2c_j0 = w2c_p0;
+  w2c_j1 = w2c_l4;
+  w2c_j2 = 8ull;
+  i64_store(instance, w2c_j0, w2c_j1, w2c_j2);
+  w2c_j0 = w2c_p0;
+  w2c_j1 = 0ull;
+  w2c_j2 = 0ull;
+  i64_store(instance, w2c_j0, w2c_j1, w2c_j2);
+  goto w2c_B1;
+  w2c_B2:;
+  w2c_j0 = w2c_l3;
+  w2c_j1 = 48ull;
+  w2c_j0 += w2c_j1;
+  w2c_j1 = w2c_p1;
+  w2c_j2 = w2c_p2;
+  w2c_multihash_c__decode__seldom(instance, w2c_j0, w2c_j1, w2c_j2);
+  w2c_j0 = w2c_l3;
+  w2c_j1 = 48ull;
+  w2c_j0 = i64_load(instance, w2c_j0, w2c_j1);
+  w2c_p2 = w2c_j0;
+  w2c_j0 = w2c_l3;
+  w2c_j1 = 56ull;
+  w2c_j0 = i64_load(instance, w2c_j0, w2c_j1);
+  w2c_l4 = w2c_j0;
+  w2c_j1 = 2ull;
+  w2c_i0 = w2c_j0 < w2c_j1;
+  if (w2c_i0) {goto w2c_B8;}
+  w2c_j0 = w2c_p2;
+  w2c_j1 = 0ull;
+  w2c_i0 = i32_load8_s(instance, w2c_j0, w2c_j1);
+  w2c_l6 = w2c_i0;
+  w2c_i1 = 0u;
+  w2c_i0 = (u32)((s32)w2c_i0 < (s32)w2c_i1);
   if (w2c_i0) {goto w2c_B6;}
-  w2c_i0 = w2c_l5;
+  w2c_j0 = w2c_p2;
+  w2c_j1 = 1ull;
+  w2c_j0 = i64_load8_s(instance, w2c_j0, w2c_j1);
+  w2c_l5 = w2c_j0;
+  w2c_j1 = 0ull;
+  w2c_i0 = (u64)((s64)w2c_j0 < (s64)w2c_j1);
+  if (w2c_i0) {goto w2c_B7;}
+  w2c_i0 = w2c_l6;
   w2c_j0 = (u64)(w2c_i0);
   w2c_j1 = 255ull;
   w2c_j0 &= w2c_j1;
   w2c_l7 = w2c_j0;
   w2c_j0 = 2ull;
-  w2c_p2 = w2c_j0;
+  w2c_p1 = w2c_j0;
+  w2c_i0 = 0u;
+  w2c_l6 = w2c_i0;
   goto w2c_B3;
-  w2c_B7:;
-  w2c_j0 = w2c_p2;
-  w2c_i0 = !(w2c_j0);
-  if (w2c_i0) {goto w2c_B5;}
+  w2c_B8:;
   w2c_j0 = w2c_l4;
+  w2c_i0 = !(w2c_j0);
+  if (w2c_i0) {goto w2c_B6;}
+  w2c_j0 = w2c_p2;
   w2c_j1 = 0ull;
   w2c_i0 = i32_load8_s(instance, w2c_j0, w2c_j1);
-  w2c_l5 = w2c_i0;
+  w2c_l6 = w2c_i0;
   w2c_i1 = 0u;
   w2c_i0 = (u32)((s32)w2c_i0 < (s32)w2c_i1);
-  if (w2c_i0) {goto w2c_B5;}
-  w2c_B6:;
-  w2c_i0 = w2c_l5;
+  if (w2c_i0) {goto w2c_B6;}
+  w2c_B7:;
+  w2c_i0 = w2c_l6;
   w2c_j0 = (u64)(s64)(s32)(w2c_i0);
   w2c_l7 = w2c_j0;
   w2c_j0 = 1ull;
   w2c_p1 = w2c_j0;
-  goto w2c_B4;
-  w2c_B5:;
+  goto w2c_B5;
+  w2c_B6:;
   w2c_j0 = w2c_l3;
   w2c_j1 = 32ull;
   w2c_j0 += w2c_j1;
-  w2c_j1 = w2c_l4;
-  w2c_j2 = w2c_p2;
+  w2c_j1 = w2c_p2;
+  w2c_j2 = w2c_l4;
   w2c_multihash__varint__word__front_by_word(instance, w2c_j0, w2c_j1, w2c_j2);
   w2c_j0 = w2c_l3;
   w2c_j1 = 40ull;
   w2c_j0 = i64_load(instance, w2c_j0, w2c_j1);
   w2c_p1 = w2c_j0;
   w2c_i0 = !(w2c_j0);
-  if (w2c_i0) {goto w2c_B1;}
+  if (w2c_i0) {goto w2c_B4;}
   w2c_j0 = w2c_l3;
   w2c_j1 = 32ull;
   w2c_j0 = i64_load(instance, w2c_j0, w2c_j1);
   w2c_l7 = w2c_j0;
-  w2c_B4:;
-  w2c_j0 = w2c_l4;
+  w2c_B5:;
+  w2c_j0 = w2c_p2;
   w2c_j1 = w2c_p1;
   w2c_j0 += w2c_j1;
   w2c_l8 = w2c_j0;
-  w2c_j0 = w2c_p2;
+  w2c_j0 = w2c_l4;
   w2c_j1 = w2c_p1;
   w2c_i0 = w2c_j0 == w2c_j1;
-  if (w2c_i0) {goto w2c_B9;}
+  if (w2c_i0) {goto w2c_B10;}
   w2c_j0 = w2c_l8;
   w2c_j1 = 0ull;
   w2c_j0 = i64_load8_s(instance, w2c_j0, w2c_j1);
-  w2c_l6 = w2c_j0;
+  w2c_l5 = w2c_j0;
   w2c_j1 = 0ull;
   w2c_i0 = (u64)((s64)w2c_j0 < (s64)w2c_j1);
-  if (w2c_i0) {goto w2c_B9;}
+  if (w2c_i0) {goto w2c_B10;}
   w2c_j0 = 1ull;
   w2c_l8 = w2c_j0;
-  goto w2c_B8;
-  w2c_B9:;
+  goto w2c_B9;
+  w2c_B10:;
   w2c_j0 = w2c_l3;
   w2c_j1 = 16ull;
   w2c_j0 += w2c_j1;
   w2c_j1 = w2c_l8;
-  w2c_j2 = w2c_p2;
+  w2c_j2 = w2c_l4;
   w2c_j3 = w2c_p1;
   w2c_j2 -= w2c_j3;
   w2c_multihash__varint__word__front_by_word(instance, w2c_j0, w2c_j1, w2c_j2);
@@ -3264,23 +3451,43 @@ static void w2c_rattle__export_multihash_head(memory* instance, u64 w2c_p0, u64 
   w2c_j0 = i64_load(instance, w2c_j0, w2c_j1);
   w2c_l8 = w2c_j0;
   w2c_i0 = !(w2c_j0);
-  if (w2c_i0) {goto w2c_B1;}
+  if (w2c_i0) {goto w2c_B4;}
   w2c_j0 = w2c_l3;
   w2c_j1 = 16ull;
   w2c_j0 = i64_load(instance, w2c_j0, w2c_j1);
-  w2c_l6 = w2c_j0;
-  w2c_B8:;
+  w2c_l5 = w2c_j0;
+  w2c_B9:;
   w2c_j0 = w2c_l8;
   w2c_j1 = w2c_p1;
   w2c_j0 += w2c_j1;
-  w2c_p2 = w2c_j0;
+  w2c_p1 = w2c_j0;
+  w2c_i0 = 0u;
+  w2c_l6 = w2c_i0;
+  goto w2c_B3;
+  w2c_B4:;
+  w2c_j0 = w2c_l3;
+  w2c_j1 = w2c_p2;
+  w2c_j2 = w2c_l4;
+  w2c_multihash_c__decode__error_of(instance, w2c_j0, w2c_j1, w2c_j2);
+  w2c_j0 = 0ull;
+  w2c_l7 = w2c_j0;
+  w2c_j0 = w2c_l3;
+  w2c_j1 = 8ull;
+  w2c_j0 = i64_load(instance, w2c_j0, w2c_j1);
+  w2c_p1 = w2c_j0;
+  w2c_j0 = w2c_l3;
+  w2c_j1 = 0ull;
+  w2c_i0 = i32_load(instance, w2c_j0, w2c_j1);
+  w2c_l6 = w2c_i0;
+  w2c_j0 = 0ull;
+  w2c_l5 = w2c_j0;
   w2c_B3:;
   w2c_j0 = w2c_p0;
-  w2c_j1 = w2c_p2;
+  w2c_j1 = w2c_p1;
   w2c_j2 = 24ull;
   i64_store(instance, w2c_j0, w2c_j1, w2c_j2);
   w2c_j0 = w2c_p0;
-  w2c_j1 = w2c_l6;
+  w2c_j1 = w2c_l5;
   w2c_j2 = 16ull;
   i64_store(instance, w2c_j0, w2c_j1, w2c_j2);
   w2c_j0 = w2c_p0;
@@ -3288,50 +3495,22 @@ static void w2c_rattle__export_multihash_head(memory* instance, u64 w2c_p0, u64 
   w2c_j2 = 8ull;
   i64_store(instance, w2c_j0, w2c_j1, w2c_j2);
   w2c_j0 = w2c_p0;
-  w2c_j1 = 0ull;
+  w2c_i1 = 0u;
+  w2c_j2 = 4ull;
+  i32_store(instance, w2c_j0, w2c_i1, w2c_j2);
+  w2c_j0 = w2c_p0;
+  w2c_i1 = w2c_l6;
   w2c_j2 = 0ull;
-  i64_store(instance, w2c_j0, w2c_j1, w2c_j2);
-  goto w2c_B0;
-  w2c_B2:;
-  UNREACHABLE;
+  i32_store(instance, w2c_j0, w2c_i1, w2c_j2);
   w2c_B1:;
   w2c_j0 = w2c_l3;
-  w2c_j1 = w2c_l4;
-  w2c_j2 = w2c_p2;
-  w2c_multihash_c__decode__error_of(instance, w2c_j0, w2c_j1, w2c_j2);
-  w2c_j0 = w2c_l3;
-  w2c_j1 = 8ull;
-  w2c_j0 = i64_load(instance, w2c_j0, w2c_j1);
-  w2c_p2 = w2c_j0;
-  w2c_j0 = w2c_l3;
-  w2c_j1 = 0ull;
-  w2c_i0 = i32_load(instance, w2c_j0, w2c_j1);
-  w2c_l5 = w2c_i0;
-  w2c_j0 = w2c_p0;
-  w2c_j1 = 0ull;
-  w2c_j2 = 4ull;
-  i64_store(instance, w2c_j0, w2c_j1, w2c_j2);
-  w2c_j0 = w2c_p0;
-  w2c_i1 = w2c_l5;
-  w2c_j2 = 0ull;
-  i32_store(instance, w2c_j0, w2c_i1, w2c_j2);
-  w2c_j0 = w2c_p0;
-  w2c_j1 = 0ull;
-  w2c_j2 = 12ull;
-  i64_store(instance, w2c_j0, w2c_j1, w2c_j2);
-  w2c_j0 = w2c_p0;
-  w2c_i1 = 0u;
-  w2c_j2 = 20ull;
-  i32_store(instance, w2c_j0, w2c_i1, w2c_j2);
-  w2c_j0 = w2c_p0;
-  w2c_j1 = w2c_p2;
-  w2c_j2 = 24ull;
-  i64_store(instance, w2c_j0, w2c_j1, w2c_j2);
-  w2c_B0:;
-  w2c_j0 = w2c_l3;
-  w2c_j1 = 48ull;
+  w2c_j1 = 64ull;
   w2c_j0 += w2c_j1;
   instance->w2c___stack_pointer = w2c_j0;
+  goto w2c_Bfunc;
+  w2c_B0:;
+  UNREACHABLE;
+  w2c_Bfunc:;
 }
 
 static void w2c_multihash_read(memory* instance, u64 w2c_p0, u64 w2c_p1, u64 w2c_p2) {

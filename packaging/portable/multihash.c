@@ -10,12 +10,13 @@ static inline void need_block_length(size_t length)
     if ((uint64_t)length >> BLOCK_BITS != 0) abort();
 }
 
-/* Starts a call with two inputs and an output buffer: null and 0 if the function has none. */
-static inline void begin(memory *call, const uint8_t *input, size_t input_length, const uint8_t *other,
+/* Starts a call with its own memory, two inputs and an output buffer: null and 0 if the function has none. */
+static inline void begin(memory *call, u8 *own, const uint8_t *input, size_t input_length, const uint8_t *other,
                          size_t other_length, uint8_t *out, size_t out_length)
 {
     call->w2c___stack_pointer = STACK_SIZE;
     call->w2c_in_call = 0;
+    call->own = own;
     call->input = input;
     call->input_length = input_length;
     call->other = other;
@@ -59,7 +60,8 @@ static inline multihash_encoded encoded(const memory *call)
 multihash_decoded multihash_from_bytes(const uint8_t *bytes, size_t bytes_length)
 {
     memory call;
-    begin(&call, bytes, bytes_length, NULL, 0, NULL, 0);
+    u8 own[OWN_SIZE];
+    begin(&call, own, bytes, bytes_length, NULL, 0, NULL, 0);
     w2c_multihash_from_bytes(&call, RESULT, ADDRESS(INPUT), bytes_length);
     return decoded(&call);
 }
@@ -67,7 +69,8 @@ multihash_decoded multihash_from_bytes(const uint8_t *bytes, size_t bytes_length
 multihash_decoded multihash_from_prefix(const uint8_t *prefix, size_t prefix_length, size_t whole_length)
 {
     memory call;
-    begin(&call, prefix, prefix_length, NULL, 0, NULL, 0);
+    u8 own[OWN_SIZE];
+    begin(&call, own, prefix, prefix_length, NULL, 0, NULL, 0);
     w2c_multihash_from_prefix(&call, RESULT, ADDRESS(INPUT), prefix_length, whole_length);
     return decoded(&call);
 }
@@ -75,7 +78,8 @@ multihash_decoded multihash_from_prefix(const uint8_t *prefix, size_t prefix_len
 multihash_decoded multihash_read(const uint8_t *bytes, size_t bytes_length)
 {
     memory call;
-    begin(&call, bytes, bytes_length, NULL, 0, NULL, 0);
+    u8 own[OWN_SIZE];
+    begin(&call, own, bytes, bytes_length, NULL, 0, NULL, 0);
     w2c_multihash_read(&call, RESULT, ADDRESS(INPUT), bytes_length);
     return decoded(&call);
 }
@@ -83,7 +87,8 @@ multihash_decoded multihash_read(const uint8_t *bytes, size_t bytes_length)
 multihash_decoded multihash_read_limit(const uint8_t *bytes, size_t bytes_length, size_t limit)
 {
     memory call;
-    begin(&call, bytes, bytes_length, NULL, 0, NULL, 0);
+    u8 own[OWN_SIZE];
+    begin(&call, own, bytes, bytes_length, NULL, 0, NULL, 0);
     w2c_multihash_read_limit(&call, RESULT, ADDRESS(INPUT), bytes_length, limit);
     return decoded(&call);
 }
@@ -91,8 +96,9 @@ multihash_decoded multihash_read_limit(const uint8_t *bytes, size_t bytes_length
 multihash_front multihash_head(const uint8_t *bytes, size_t bytes_length)
 {
     memory call;
+    u8 own[OWN_SIZE];
     multihash_front result;
-    begin(&call, bytes, bytes_length, NULL, 0, NULL, 0);
+    begin(&call, own, bytes, bytes_length, NULL, 0, NULL, 0);
     w2c_multihash_head(&call, RESULT, ADDRESS(INPUT), bytes_length);
     result.status = status(&call);
     result.code = field(&call, 1);
@@ -104,7 +110,8 @@ multihash_front multihash_head(const uint8_t *bytes, size_t bytes_length)
 multihash_decoded multihash_scale_decode(const uint8_t *bytes, size_t bytes_length)
 {
     memory call;
-    begin(&call, bytes, bytes_length, NULL, 0, NULL, 0);
+    u8 own[OWN_SIZE];
+    begin(&call, own, bytes, bytes_length, NULL, 0, NULL, 0);
     w2c_multihash_scale_decode(&call, RESULT, ADDRESS(INPUT), bytes_length);
     return decoded(&call);
 }
@@ -112,7 +119,8 @@ multihash_decoded multihash_scale_decode(const uint8_t *bytes, size_t bytes_leng
 multihash_encoded multihash_encoded_len(uint64_t code, size_t digest_length)
 {
     memory call;
-    begin(&call, NULL, 0, NULL, 0, NULL, 0);
+    u8 own[OWN_SIZE];
+    begin(&call, own, NULL, 0, NULL, 0, NULL, 0);
     w2c_multihash_encoded_len(&call, RESULT, code, digest_length);
     return encoded(&call);
 }
@@ -121,8 +129,9 @@ multihash_encoded multihash_encode(uint64_t code, const uint8_t *digest, size_t 
                                    size_t out_length)
 {
     memory call;
+    u8 own[OWN_SIZE];
     need_block_length(out_length);
-    begin(&call, digest, digest_length, NULL, 0, out, out_length);
+    begin(&call, own, digest, digest_length, NULL, 0, out, out_length);
     w2c_multihash_encode(&call, RESULT, code, ADDRESS(INPUT), digest_length, ADDRESS(OUT), out_length);
     return encoded(&call);
 }
@@ -131,7 +140,8 @@ multihash_encoded multihash_scale_encode(uint64_t code, const uint8_t *digest, s
                                          uint8_t *out, size_t out_length)
 {
     memory call;
-    begin(&call, digest, digest_length, NULL, 0, out, out_length);
+    u8 own[OWN_SIZE];
+    begin(&call, own, digest, digest_length, NULL, 0, out, out_length);
     w2c_multihash_scale_encode(&call, RESULT, code, ADDRESS(INPUT), digest_length, ADDRESS(OUT), out_length);
     return encoded(&call);
 }
@@ -140,8 +150,9 @@ int32_t multihash_compare(uint64_t left_code, const uint8_t *left_digest, size_t
                           uint64_t right_code, const uint8_t *right_digest, size_t right_digest_length)
 {
     memory call;
+    u8 own[OWN_SIZE];
     need_block_length(left_digest_length); /* bytes are compared if the other length is the same */
-    begin(&call, left_digest, left_digest_length, right_digest, right_digest_length, NULL, 0);
+    begin(&call, own, left_digest, left_digest_length, right_digest, right_digest_length, NULL, 0);
     uint32_t order = w2c_multihash_compare(&call, left_code, ADDRESS(INPUT), left_digest_length, right_code,
                                            ADDRESS(OTHER), right_digest_length);
     return order == 0 ? 0 : order == 1 ? 1 : -1;
@@ -150,14 +161,16 @@ int32_t multihash_compare(uint64_t left_code, const uint8_t *left_digest, size_t
 uint32_t multihash_version(void)
 {
     memory call;
-    begin(&call, NULL, 0, NULL, 0, NULL, 0);
+    u8 own[OWN_SIZE];
+    begin(&call, own, NULL, 0, NULL, 0, NULL, 0);
     return w2c_multihash_version(&call);
 }
 
 multihash_encoded multihash_put_status_text(multihash_status of, uint8_t *out, size_t out_length)
 {
     memory call;
-    begin(&call, NULL, 0, NULL, 0, out, out_length);
+    u8 own[OWN_SIZE];
+    begin(&call, own, NULL, 0, NULL, 0, out, out_length);
     w2c_multihash_put_status_text(&call, RESULT, of, ADDRESS(OUT), out_length);
     return encoded(&call);
 }

@@ -36,6 +36,11 @@ CALL = re.compile(r"\(\*Z_memoryZ_(\w+)\)\(instance->Z_memory_instance, ")
 MEMORY = Path(__file__).resolve().parent / "memory.h"
 # The functions and macros of memory.h, and what C has besides calls.
 PROVIDED = re.compile(r"^(?:(?:static inline|ALWAYS_INLINE) [^(\n]*?|#define )(\w+)\(", re.MULTILINE)
+# The functions that are compiled into their callers, which mostly know the block of an address, and those that are
+# called apart, for seldom inputs.
+INLINED = {"w2c_multihash__varint__word__front_by_word", "w2c_multihash_c__decode__seldom"}
+APART = {"w2c_multihash__varint__word__front_by_short_word", "w2c_multihash_c__decode__error_of"}
+HEAD = re.compile(r"^static (void|u32|u64) (w2c_\w+)\((.*)\)(;| \{)$", re.MULTILINE)
 KEYWORDS = {"if", "while", "for", "switch", "return", "sizeof"}
 
 
@@ -136,9 +141,32 @@ def functions(linked: str, made: str) -> str:
     return re.sub(r"[ \t]+$", "", both, flags=re.MULTILINE).strip()
 
 
+def placed(code: str) -> str:
+    """Says where functions are compiled. One called apart gets a copy of the call's numbers: so its caller can keep its
+    own in registers."""
+
+    def head(found: re.Match[str]) -> str:
+        kind, name, parameters, end = found.groups()
+        if name in INLINED:
+            return f"ALWAYS_INLINE {kind} {name}({parameters}){end}"
+        if name not in APART:
+            return found[0]
+        if end == " {":
+            return f"APART {kind} {name}_apart({parameters}) {{"
+        need(kind == "void", f"{name} returns nothing")
+        types = parameters.split(", ")[1:]
+        typed = "".join(f", {it} p{at}" for at, it in enumerate(types))
+        given = "".join(f", p{at}" for at in range(len(types)))
+        return (f"APART void {name}_apart({parameters});\nALWAYS_INLINE void {name}(const memory* instance{typed}) {{\n"
+                f"  memory call = *instance;\n  {name}_apart(&call{given});\n}}")
+
+    need(INLINED | APART <= {it[1] for it in HEAD.findall(code)}, "the module has the functions that are placed")
+    return HEAD.sub(head, code)
+
+
 def need_provided(code: str) -> None:
     """Checks that memory.h has each function that the module calls and does not define."""
-    defined = set(re.findall(r"^static .*?(\w+)\(", code, re.MULTILINE))
+    defined = set(re.findall(r"^(?:static|ALWAYS_INLINE|APART) .*?(\w+)\(", code, re.MULTILINE))
     called = set(re.findall(r"\b([A-Za-z_]\w*)\(", code)) - KEYWORDS - defined
     missing = called - set(PROVIDED.findall(MEMORY.read_text()))
     need(called and not missing, f"memory.h has {', '.join(sorted(missing))}")
@@ -148,7 +176,7 @@ def module(linked: str, made: str) -> str:
     start, data = texts(linked)
     size = stack_size(linked)
     need(size + 64 <= start, "the own block ends before the texts")
-    code = functions(linked, made)
+    code = placed(functions(linked, made))
     need_provided(code)
     rows = [", ".join(map(str, data[at : at + 20])) for at in range(0, len(data), 20)]
     return "\n".join((

@@ -52,6 +52,10 @@ pub extern "C" fn multihash_from_bytes(bytes: &[u8]) -> Decoded
     ensures verdict { (v : Verdict) × HasWholeVerdict 255 bytes.now v × Reports bytes.now result v }
     ensures taken { result.taken ≡ length bytes.now }
 {
+    if is_short(bytes) {
+        return decode_whole(bytes, bytes.len());
+    }
+    let bytes = seldom(bytes);
     decode_whole(bytes, bytes.len())
 }
 
@@ -85,6 +89,17 @@ pub extern "C" fn multihash_read_limit(bytes: &[u8], limit: usize) -> Decoded
 /// the digest.
 #[unsafe(no_mangle)]
 pub extern "C" fn multihash_head(bytes: &[u8]) -> Front
+    ensures { ReadsFront bytes.now result }
+{
+    if is_short(bytes) {
+        return head_of(bytes);
+    }
+    head_of(seldom(bytes))
+}
+
+// What `multihash_head` returns.
+#[inline(always)]
+fn head_of(bytes: &[u8]) -> Front
     ensures { ReadsFront bytes.now result }
 {
     let Some(head) = Head::find_front(bytes) else {
@@ -127,6 +142,22 @@ pub extern "C" fn multihash_scale_decode(bytes: &[u8]) -> Decoded
         return rejected_end(SCALE_HEAD);
     }
     accept(code, size, taken)
+}
+
+// Whether both varints have one byte, as mostly.
+#[inline(always)]
+fn is_short(bytes: &[u8]) -> bool {
+    bytes.len() >= 2 && bytes[0] < 128 && bytes[1] < 128
+}
+
+// Returns the bytes unchanged. The compiler cannot see that: so the registers that later calls need are saved only
+// for input that is not short.
+#[cold]
+#[inline(never)]
+fn seldom(bytes: &[u8]) -> &[u8]
+    ensures { result.now ≡ bytes.now }
+{
+    bytes
 }
 
 // Decodes each input of that many bytes that begins with the front. No digest is read, so only the two

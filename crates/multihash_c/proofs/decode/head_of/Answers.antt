@@ -1,6 +1,6 @@
 use Rattle.std.proofs.Common.{refl, inr}
 use Rattle.multihash_c.proofs.ReadLemmas.{error_read}
-use Rattle.multihash_c.proofs.decode.multihash_head.Goals as goal
+use Rattle.multihash_c.proofs.decode.head_of.Goals as goal
 
 pub returns-in_default : goal.returns-in_default
 returns-in_default c =
