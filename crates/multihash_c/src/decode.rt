@@ -18,6 +18,7 @@ const CODE_LEN: usize = SCALE_HEAD - 1;
 
 /// The result of a decoding. A field without a meaning for its status is 0.
 #[repr(C)]
+#[derive(Clone, Copy)]
 pub struct Decoded {
     /// 0 (`status::OK`) or the error.
     pub status: u32,
@@ -35,6 +36,7 @@ pub struct Decoded {
 
 /// The two varints at the front of an encoding. A field without a meaning for its status is 0.
 #[repr(C)]
+#[derive(Clone, Copy)]
 pub struct Front {
     /// 0 (`status::OK`) or the error.
     pub status: u32,

@@ -13,6 +13,7 @@ use multihash::varint;
 
 /// The result of an encoding. A field without a meaning for its status is 0.
 #[repr(C)]
+#[derive(Clone, Copy)]
 pub struct Encoded {
     /// 0 (`status::OK`) or the error.
     pub status: u32,
