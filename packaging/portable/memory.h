@@ -47,7 +47,7 @@ typedef struct memory {
 } memory;
 
 /* The accesses are compiled in place: mostly the block is known there, and its length is compared once. What
- * seldom inputs need is compiled apart. */
+ * rare inputs need is compiled apart. */
 #if defined(__GNUC__)
 #define ALWAYS_INLINE static inline __attribute__((always_inline))
 #define APART static __attribute__((noinline, cold))

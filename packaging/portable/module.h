@@ -26,7 +26,7 @@ static const unsigned char texts[186] = {
 static u32 w2c___rattle_enter(memory*);
 static void w2c___rattle_leave(memory*);
 static void w2c___rattle_trap(memory*);
-ALWAYS_INLINE void w2c_multihash_c__decode__seldom(memory*, u64, u64, u64);
+ALWAYS_INLINE void w2c_multihash_c__decode__longer(memory*, u64, u64, u64);
 ALWAYS_INLINE void w2c_multihash__varint__word__front_by_word(memory*, u64, u64, u64);
 APART void w2c_multihash__varint__word__front_by_short_word_apart(memory*, u64, u64, u64);
 ALWAYS_INLINE void w2c_multihash__varint__word__front_by_short_word(const memory* instance, u64 p0, u64 p1, u64 p2) {
@@ -43,6 +43,7 @@ static void w2c_multihash__varint__word__read_counted(memory*, u64, u64, u64);
 static u32 w2c_multihash_c__compare__order_of_unlike(memory*, u64, u64);
 static u32 w2c_core__cmp__slices__RefSliceOrd__cmp____914af4d8504a0b72_(memory*, u64, u64, u64, u64);
 static u32 w2c_multihash_c__compare__order_of_any(memory*, u64, u64, u64, u64);
+ALWAYS_INLINE void w2c_multihash_c__encode__put_apart(memory*, u64, u64, u64);
 static u32 w2c_multihash_version(memory*);
 static void w2c_rattle__export_multihash_version(memory*);
 static void w2c_multihash_put_status_text(memory*, u64, u32, u64, u64);
@@ -92,7 +93,7 @@ static void w2c___rattle_trap(memory* instance) {
   UNREACHABLE;
 }
 
-ALWAYS_INLINE void w2c_multihash_c__decode__seldom(memory* instance, u64 w2c_p0, u64 w2c_p1, u64 w2c_p2) {
+ALWAYS_INLINE void w2c_multihash_c__decode__longer(memory* instance, u64 w2c_p0, u64 w2c_p1, u64 w2c_p2) {
   u32 w2c_i0;
   u64 w2c_j0, w2c_j1, w2c_j2;
   w2c_j0 = instance->w2c___stack_pointer;
@@ -1764,6 +1765,136 @@ static u32 w2c_multihash_c__compare__order_of_any(memory* instance, u64 w2c_p0, 
   return w2c_i0;
 }
 
+ALWAYS_INLINE void w2c_multihash_c__encode__put_apart(memory* instance, u64 w2c_p0, u64 w2c_p1, u64 w2c_p2) {
+  u64 w2c_l3 = 0, w2c_l4 = 0, w2c_l5 = 0, w2c_l6 = 0;
+  u32 w2c_i0, w2c_i1;
+  u64 w2c_j0, w2c_j1, w2c_j2;
+  w2c_j0 = instance->w2c___stack_pointer;
+  w2c_j1 = 16ull;
+  w2c_i0 = (u64)((s64)w2c_j0 < (s64)w2c_j1);
+  if (w2c_i0) {goto w2c_B0;}
+  w2c_j0 = w2c_p2;
+  w2c_j1 = w2c_p0;
+  w2c_j0 -= w2c_j1;
+  w2c_j1 = w2c_p1;
+  w2c_i0 = w2c_j0 >= w2c_j1;
+  if (w2c_i0) {goto w2c_B2;}
+  w2c_j0 = w2c_p1;
+  w2c_j1 = 3ull;
+  w2c_j0 &= w2c_j1;
+  w2c_l3 = w2c_j0;
+  w2c_j0 = 0ull;
+  w2c_l4 = w2c_j0;
+  w2c_j0 = w2c_p1;
+  w2c_j1 = 4ull;
+  w2c_i0 = w2c_j0 < w2c_j1;
+  if (w2c_i0) {goto w2c_B3;}
+  w2c_j0 = w2c_p1;
+  w2c_j1 = 252ull;
+  w2c_j0 &= w2c_j1;
+  w2c_l5 = w2c_j0;
+  w2c_j0 = 0ull;
+  w2c_l4 = w2c_j0;
+  w2c_L4:
+    w2c_j0 = w2c_p2;
+    w2c_j1 = w2c_l4;
+    w2c_j0 += w2c_j1;
+    w2c_p1 = w2c_j0;
+    w2c_j1 = w2c_p0;
+    w2c_j2 = w2c_l4;
+    w2c_j1 += w2c_j2;
+    w2c_l6 = w2c_j1;
+    w2c_j2 = 0ull;
+    w2c_i1 = i32_load8_u(instance, w2c_j1, w2c_j2);
+    w2c_j2 = 0ull;
+    i32_store8(instance, w2c_j0, w2c_i1, w2c_j2);
+    w2c_j0 = w2c_p1;
+    w2c_j1 = 1ull;
+    w2c_j0 += w2c_j1;
+    w2c_j1 = w2c_l6;
+    w2c_j2 = 1ull;
+    w2c_j1 += w2c_j2;
+    w2c_j2 = 0ull;
+    w2c_i1 = i32_load8_u(instance, w2c_j1, w2c_j2);
+    w2c_j2 = 0ull;
+    i32_store8(instance, w2c_j0, w2c_i1, w2c_j2);
+    w2c_j0 = w2c_p1;
+    w2c_j1 = 2ull;
+    w2c_j0 += w2c_j1;
+    w2c_j1 = w2c_l6;
+    w2c_j2 = 2ull;
+    w2c_j1 += w2c_j2;
+    w2c_j2 = 0ull;
+    w2c_i1 = i32_load8_u(instance, w2c_j1, w2c_j2);
+    w2c_j2 = 0ull;
+    i32_store8(instance, w2c_j0, w2c_i1, w2c_j2);
+    w2c_j0 = w2c_p1;
+    w2c_j1 = 3ull;
+    w2c_j0 += w2c_j1;
+    w2c_j1 = w2c_l6;
+    w2c_j2 = 3ull;
+    w2c_j1 += w2c_j2;
+    w2c_j2 = 0ull;
+    w2c_i1 = i32_load8_u(instance, w2c_j1, w2c_j2);
+    w2c_j2 = 0ull;
+    i32_store8(instance, w2c_j0, w2c_i1, w2c_j2);
+    w2c_j0 = w2c_l5;
+    w2c_j1 = w2c_l4;
+    w2c_j2 = 4ull;
+    w2c_j1 += w2c_j2;
+    w2c_l4 = w2c_j1;
+    w2c_i0 = w2c_j0 != w2c_j1;
+    if (w2c_i0) {goto w2c_L4;}
+  w2c_j0 = w2c_l3;
+  w2c_i0 = !(w2c_j0);
+  if (w2c_i0) {goto w2c_B1;}
+  w2c_B3:;
+  w2c_j0 = w2c_p2;
+  w2c_j1 = w2c_l4;
+  w2c_j0 += w2c_j1;
+  w2c_p1 = w2c_j0;
+  w2c_j0 = w2c_p0;
+  w2c_j1 = w2c_l4;
+  w2c_j0 += w2c_j1;
+  w2c_l4 = w2c_j0;
+  w2c_L5:
+    w2c_j0 = w2c_p1;
+    w2c_j1 = w2c_l4;
+    w2c_j2 = 0ull;
+    w2c_i1 = i32_load8_u(instance, w2c_j1, w2c_j2);
+    w2c_j2 = 0ull;
+    i32_store8(instance, w2c_j0, w2c_i1, w2c_j2);
+    w2c_j0 = w2c_p1;
+    w2c_j1 = 1ull;
+    w2c_j0 += w2c_j1;
+    w2c_p1 = w2c_j0;
+    w2c_j0 = w2c_l4;
+    w2c_j1 = 1ull;
+    w2c_j0 += w2c_j1;
+    w2c_l4 = w2c_j0;
+    w2c_j0 = w2c_l3;
+    w2c_j1 = 18446744073709551615ull;
+    w2c_j0 += w2c_j1;
+    w2c_l3 = w2c_j0;
+    w2c_j1 = 0ull;
+    w2c_i0 = w2c_j0 != w2c_j1;
+    if (w2c_i0) {goto w2c_L5;}
+    goto w2c_B1;
+  w2c_B2:;
+  w2c_j0 = w2c_p1;
+  w2c_i0 = !(w2c_j0);
+  if (w2c_i0) {goto w2c_B1;}
+  w2c_j0 = w2c_p2;
+  w2c_j1 = w2c_p0;
+  w2c_j2 = w2c_p1;
+  memory_copy(instance, w2c_j0, w2c_j1, w2c_j2);
+  w2c_B1:;
+  goto w2c_Bfunc;
+  w2c_B0:;
+  UNREACHABLE;
+  w2c_Bfunc:;
+}
+
 static u32 w2c_multihash_version(memory* instance) {
   u32 w2c_i0;
   w2c_i0 = w2c___rattle_enter(instance);
@@ -2753,7 +2884,7 @@ static void w2c_rattle__export_multihash_from_bytes(memory* instance, u64 w2c_p0
   w2c_j0 += w2c_j1;
   w2c_j1 = w2c_l4;
   w2c_j2 = w2c_p2;
-  w2c_multihash_c__decode__seldom(instance, w2c_j0, w2c_j1, w2c_j2);
+  w2c_multihash_c__decode__longer(instance, w2c_j0, w2c_j1, w2c_j2);
   w2c_j0 = w2c_l3;
   w2c_j1 = 48ull;
   w2c_j0 = i64_load(instance, w2c_j0, w2c_j1);
@@ -3347,7 +3478,7 @@ static void w2c_rattle__export_multihash_head(memory* instance, u64 w2c_p0, u64 
   w2c_j0 += w2c_j1;
   w2c_j1 = w2c_p1;
   w2c_j2 = w2c_p2;
-  w2c_multihash_c__decode__seldom(instance, w2c_j0, w2c_j1, w2c_j2);
+  w2c_multihash_c__decode__longer(instance, w2c_j0, w2c_j1, w2c_j2);
   w2c_j0 = w2c_l3;
   w2c_j1 = 48ull;
   w2c_j0 = i64_load(instance, w2c_j0, w2c_j1);
@@ -4243,10 +4374,10 @@ static void w2c_multihash_encode(memory* instance, u64 w2c_p0, u64 w2c_p1, u64 w
 }
 
 static void w2c_rattle__export_multihash_encode(memory* instance, u64 w2c_p0, u64 w2c_p1, u64 w2c_p2, u64 w2c_p3, u64 w2c_p4, u64 w2c_p5) {
-  u32 w2c_l10 = 0, w2c_l13 = 0;
-  u64 w2c_l6 = 0, w2c_l7 = 0, w2c_l8 = 0, w2c_l9 = 0, w2c_l11 = 0, w2c_l12 = 0;
-  u32 w2c_i0, w2c_i1, w2c_i2, w2c_i3;
-  u64 w2c_j0, w2c_j1, w2c_j2, w2c_j3, w2c_j4;
+  u32 w2c_l11 = 0;
+  u64 w2c_l6 = 0, w2c_l7 = 0, w2c_l8 = 0, w2c_l9 = 0, w2c_l10 = 0, w2c_l12 = 0;
+  u32 w2c_i0, w2c_i1, w2c_i2, w2c_i3, w2c_i4;
+  u64 w2c_j0, w2c_j1, w2c_j2, w2c_j3, w2c_j4, w2c_j5;
   w2c_j0 = instance->w2c___stack_pointer;
   w2c_j1 = 32ull;
   w2c_j0 -= w2c_j1;
@@ -4254,37 +4385,6 @@ static void w2c_rattle__export_multihash_encode(memory* instance, u64 w2c_p0, u6
   w2c_j1 = 16ull;
   w2c_i0 = (u64)((s64)w2c_j0 < (s64)w2c_j1);
   if (w2c_i0) {goto w2c_B2;}
-  w2c_j0 = w2c_p3;
-  w2c_j1 = 255ull;
-  w2c_i0 = w2c_j0 <= w2c_j1;
-  if (w2c_i0) {goto w2c_B5;}
-  w2c_j0 = 4ull;
-  w2c_p1 = w2c_j0;
-  goto w2c_B4;
-  w2c_B5:;
-  w2c_j0 = w2c_p1;
-  w2c_j1 = 0ull;
-  w2c_i0 = (u64)((s64)w2c_j0 >= (s64)w2c_j1);
-  if (w2c_i0) {goto w2c_B3;}
-  w2c_j0 = 5ull;
-  w2c_p1 = w2c_j0;
-  w2c_j0 = 0ull;
-  w2c_p3 = w2c_j0;
-  w2c_B4:;
-  w2c_j0 = w2c_p0;
-  w2c_j1 = 0ull;
-  w2c_j2 = 16ull;
-  i64_store(instance, w2c_j0, w2c_j1, w2c_j2);
-  w2c_j0 = w2c_p0;
-  w2c_j1 = w2c_p3;
-  w2c_j2 = 8ull;
-  i64_store(instance, w2c_j0, w2c_j1, w2c_j2);
-  w2c_j0 = w2c_p0;
-  w2c_j1 = w2c_p1;
-  w2c_j2 = 0ull;
-  i64_store(instance, w2c_j0, w2c_j1, w2c_j2);
-  goto w2c_Bfunc;
-  w2c_B3:;
   w2c_j0 = w2c_p4;
   w2c_j1 = 4096ull;
   w2c_j2 = 0ull;
@@ -4305,118 +4405,197 @@ static void w2c_rattle__export_multihash_encode(memory* instance, u64 w2c_p0, u6
   w2c_j0 = w2c_p1;
   w2c_j1 = 128ull;
   w2c_i0 = w2c_j0 < w2c_j1;
-  if (w2c_i0) {goto w2c_B11;}
+  if (w2c_i0) {goto w2c_B8;}
+  w2c_j0 = w2c_p3;
+  w2c_j1 = 255ull;
+  w2c_i0 = w2c_j0 > w2c_j1;
+  if (w2c_i0) {goto w2c_B1;}
   w2c_j0 = w2c_p1;
   w2c_j1 = 16384ull;
-  w2c_i0 = w2c_j0 < w2c_j1;
-  if (w2c_i0) {goto w2c_B12;}
-  w2c_j0 = w2c_p1;
-  w2c_j1 = 2097151ull;
-  w2c_i0 = w2c_j0 > w2c_j1;
-  if (w2c_i0) {goto w2c_B13;}
+  w2c_i0 = (u64)((s64)w2c_j0 < (s64)w2c_j1);
+  if (w2c_i0) {goto w2c_B7;}
   w2c_j0 = 3ull;
   w2c_p4 = w2c_j0;
-  w2c_j0 = 1ull;
-  w2c_j1 = 2ull;
-  w2c_j2 = w2c_p3;
-  w2c_j3 = 128ull;
-  w2c_i2 = w2c_j2 < w2c_j3;
-  w2c_l10 = w2c_i2;
-  w2c_j0 = w2c_i2 ? w2c_j0 : w2c_j1;
-  w2c_j1 = w2c_p3;
-  w2c_j0 += w2c_j1;
-  w2c_j1 = 3ull;
-  w2c_j0 += w2c_j1;
-  w2c_l11 = w2c_j0;
-  w2c_j1 = w2c_p5;
-  w2c_i0 = w2c_j0 <= w2c_j1;
-  if (w2c_i0) {goto w2c_B10;}
-  w2c_j0 = 7ull;
-  w2c_p4 = w2c_j0;
-  goto w2c_B0;
-  w2c_B13:;
-  w2c_j0 = 1ull;
-  w2c_p4 = w2c_j0;
-  w2c_j0 = 1ull;
-  w2c_j1 = 2ull;
-  w2c_j2 = w2c_p3;
-  w2c_j3 = 128ull;
-  w2c_i2 = w2c_j2 < w2c_j3;
-  w2c_j0 = w2c_i2 ? w2c_j0 : w2c_j1;
-  w2c_j1 = w2c_p3;
-  w2c_j0 += w2c_j1;
-  w2c_i1 = 70u;
-  w2c_j2 = w2c_p1;
-  w2c_j2 = I64_CLZ(w2c_j2);
-  w2c_i2 = (u32)(w2c_j2);
-  w2c_i1 -= w2c_i2;
-  w2c_i2 = 255u;
-  w2c_i1 &= w2c_i2;
-  w2c_i2 = 7u;
-  w2c_i1 = DIV_U(w2c_i1, w2c_i2);
-  w2c_j1 = (u64)(w2c_i1);
-  w2c_j0 += w2c_j1;
-  w2c_l11 = w2c_j0;
-  w2c_j1 = w2c_p5;
-  w2c_i0 = w2c_j0 <= w2c_j1;
-  if (w2c_i0) {goto w2c_B9;}
-  w2c_j0 = 7ull;
-  w2c_p4 = w2c_j0;
-  goto w2c_B0;
-  w2c_B12:;
-  w2c_j0 = 2ull;
-  w2c_p4 = w2c_j0;
-  w2c_j0 = w2c_p3;
-  w2c_j1 = 1ull;
-  w2c_j2 = 2ull;
-  w2c_j3 = w2c_p3;
-  w2c_j4 = 128ull;
-  w2c_i3 = w2c_j3 < w2c_j4;
-  w2c_l10 = w2c_i3;
-  w2c_j1 = w2c_i3 ? w2c_j1 : w2c_j2;
-  w2c_j0 += w2c_j1;
-  w2c_j1 = 2ull;
-  w2c_j0 += w2c_j1;
-  w2c_l11 = w2c_j0;
-  w2c_j1 = w2c_p5;
-  w2c_i0 = w2c_j0 <= w2c_j1;
-  if (w2c_i0) {goto w2c_B8;}
-  w2c_j0 = 7ull;
-  w2c_p4 = w2c_j0;
-  goto w2c_B0;
-  w2c_B11:;
-  w2c_j0 = 1ull;
-  w2c_p4 = w2c_j0;
-  w2c_j0 = 1ull;
-  w2c_j1 = 2ull;
-  w2c_j2 = w2c_p3;
-  w2c_j3 = 128ull;
-  w2c_i2 = w2c_j2 < w2c_j3;
-  w2c_j0 = w2c_i2 ? w2c_j0 : w2c_j1;
-  w2c_j1 = w2c_p3;
-  w2c_j0 += w2c_j1;
-  w2c_l12 = w2c_j0;
-  w2c_j1 = 1ull;
-  w2c_j0 += w2c_j1;
-  w2c_l11 = w2c_j0;
-  w2c_j0 = w2c_l12;
-  w2c_j1 = w2c_p5;
+  w2c_j0 = w2c_p1;
+  w2c_j1 = 2097152ull;
   w2c_i0 = w2c_j0 < w2c_j1;
-  if (w2c_i0) {goto w2c_B14;}
+  if (w2c_i0) {goto w2c_B9;}
+  w2c_i0 = 70u;
+  w2c_j1 = w2c_p1;
+  w2c_j1 = I64_CLZ(w2c_j1);
+  w2c_i1 = (u32)(w2c_j1);
+  w2c_i0 -= w2c_i1;
+  w2c_i1 = 255u;
+  w2c_i0 &= w2c_i1;
+  w2c_i1 = 7u;
+  w2c_i0 = DIV_U(w2c_i0, w2c_i1);
+  w2c_j0 = (u64)(w2c_i0);
+  w2c_p4 = w2c_j0;
+  w2c_B9:;
+  w2c_j0 = 1ull;
+  w2c_j1 = 2ull;
+  w2c_j2 = w2c_p3;
+  w2c_j3 = 128ull;
+  w2c_i2 = w2c_j2 < w2c_j3;
+  w2c_j0 = w2c_i2 ? w2c_j0 : w2c_j1;
+  w2c_j1 = w2c_p3;
+  w2c_j0 += w2c_j1;
+  w2c_j1 = w2c_p4;
+  w2c_j0 += w2c_j1;
+  w2c_l10 = w2c_j0;
+  goto w2c_B6;
+  w2c_B8:;
+  w2c_j0 = w2c_p3;
+  w2c_j1 = 32ull;
+  w2c_i0 = w2c_j0 == w2c_j1;
+  if (w2c_i0) {goto w2c_B10;}
+  w2c_j0 = w2c_p3;
+  w2c_j1 = 256ull;
+  w2c_i0 = w2c_j0 >= w2c_j1;
+  if (w2c_i0) {goto w2c_B1;}
+  w2c_j0 = 2ull;
+  w2c_j1 = 3ull;
+  w2c_j2 = w2c_p3;
+  w2c_j3 = 128ull;
+  w2c_i2 = w2c_j2 < w2c_j3;
+  w2c_j0 = w2c_i2 ? w2c_j0 : w2c_j1;
+  w2c_j1 = w2c_p3;
+  w2c_j0 += w2c_j1;
+  w2c_l10 = w2c_j0;
+  w2c_j1 = w2c_p5;
+  w2c_i0 = w2c_j0 <= w2c_j1;
+  if (w2c_i0) {goto w2c_B5;}
   w2c_j0 = 7ull;
   w2c_p4 = w2c_j0;
-  goto w2c_B0;
-  w2c_B14:;
+  goto w2c_B3;
+  w2c_B10:;
+  w2c_j0 = w2c_p5;
+  w2c_j1 = 34ull;
+  w2c_i0 = w2c_j0 < w2c_j1;
+  w2c_l11 = w2c_i0;
+  if (w2c_i0) {goto w2c_B11;}
+  w2c_j0 = w2c_l7;
+  w2c_i1 = 32u;
+  w2c_j2 = 1ull;
+  i32_store8(instance, w2c_j0, w2c_i1, w2c_j2);
   w2c_j0 = w2c_l7;
   w2c_j1 = w2c_p1;
   w2c_j2 = 0ull;
   i64_store8(instance, w2c_j0, w2c_j1, w2c_j2);
-  w2c_j0 = w2c_p3;
-  w2c_j1 = 128ull;
-  w2c_i0 = w2c_j0 < w2c_j1;
-  if (w2c_i0) {goto w2c_B6;}
-  goto w2c_B7;
-  w2c_B10:;
+  w2c_j0 = w2c_l9;
+  w2c_j1 = 0ull;
+  w2c_j0 = i64_load(instance, w2c_j0, w2c_j1);
+  w2c_p1 = w2c_j0;
+  w2c_j0 = w2c_l9;
+  w2c_j1 = 8ull;
+  w2c_j0 = i64_load(instance, w2c_j0, w2c_j1);
+  w2c_p3 = w2c_j0;
+  w2c_j0 = w2c_l9;
+  w2c_j1 = 16ull;
+  w2c_j0 = i64_load(instance, w2c_j0, w2c_j1);
+  w2c_p4 = w2c_j0;
+  w2c_j0 = w2c_l7;
+  w2c_j1 = 26ull;
+  w2c_j0 += w2c_j1;
+  w2c_j1 = w2c_l9;
+  w2c_j2 = 24ull;
+  w2c_j1 = i64_load(instance, w2c_j1, w2c_j2);
+  w2c_j2 = 0ull;
+  i64_store(instance, w2c_j0, w2c_j1, w2c_j2);
+  w2c_j0 = w2c_l7;
+  w2c_j1 = 18ull;
+  w2c_j0 += w2c_j1;
+  w2c_j1 = w2c_p4;
+  w2c_j2 = 0ull;
+  i64_store(instance, w2c_j0, w2c_j1, w2c_j2);
+  w2c_j0 = w2c_l7;
+  w2c_j1 = 10ull;
+  w2c_j0 += w2c_j1;
+  w2c_j1 = w2c_p3;
+  w2c_j2 = 0ull;
+  i64_store(instance, w2c_j0, w2c_j1, w2c_j2);
+  w2c_j0 = w2c_l7;
+  w2c_j1 = 2ull;
+  w2c_j0 += w2c_j1;
+  w2c_j1 = w2c_p1;
+  w2c_j2 = 0ull;
+  i64_store(instance, w2c_j0, w2c_j1, w2c_j2);
+  w2c_B11:;
+  w2c_j0 = w2c_p0;
+  w2c_j1 = 34ull;
+  w2c_j2 = 16ull;
+  i64_store(instance, w2c_j0, w2c_j1, w2c_j2);
+  w2c_j0 = w2c_p0;
+  w2c_j1 = 0ull;
+  w2c_j2 = 8ull;
+  i64_store(instance, w2c_j0, w2c_j1, w2c_j2);
+  w2c_j0 = w2c_p0;
+  w2c_j1 = 7ull;
+  w2c_j2 = 0ull;
+  w2c_i3 = w2c_l11;
+  w2c_j1 = w2c_i3 ? w2c_j1 : w2c_j2;
+  w2c_j2 = 0ull;
+  i64_store(instance, w2c_j0, w2c_j1, w2c_j2);
+  goto w2c_Bfunc;
+  w2c_B7:;
+  w2c_j0 = 0ull;
+  w2c_p4 = w2c_j0;
+  w2c_j0 = 5ull;
+  w2c_j1 = w2c_p3;
+  w2c_j2 = 1ull;
+  w2c_j3 = 2ull;
+  w2c_j4 = w2c_p3;
+  w2c_j5 = 128ull;
+  w2c_i4 = w2c_j4 < w2c_j5;
+  w2c_j2 = w2c_i4 ? w2c_j2 : w2c_j3;
+  w2c_j1 += w2c_j2;
+  w2c_j2 = 2ull;
+  w2c_j1 += w2c_j2;
+  w2c_j2 = w2c_p1;
+  w2c_j3 = 0ull;
+  w2c_i2 = (u64)((s64)w2c_j2 < (s64)w2c_j3);
+  w2c_l11 = w2c_i2;
+  w2c_j0 = w2c_i2 ? w2c_j0 : w2c_j1;
+  w2c_l10 = w2c_j0;
+  w2c_i0 = w2c_l11;
+  if (w2c_i0) {goto w2c_B0;}
+  w2c_B6:;
+  w2c_j0 = w2c_l10;
+  w2c_j1 = w2c_p5;
+  w2c_i0 = w2c_j0 <= w2c_j1;
+  if (w2c_i0) {goto w2c_B12;}
+  w2c_j0 = 7ull;
+  w2c_p4 = w2c_j0;
+  goto w2c_B3;
+  w2c_B12:;
+  w2c_j0 = w2c_p1;
+  w2c_j1 = 16383ull;
+  w2c_i0 = w2c_j0 > w2c_j1;
+  if (w2c_i0) {goto w2c_B13;}
+  w2c_j0 = w2c_l7;
+  w2c_j1 = w2c_p1;
+  w2c_i1 = (u32)(w2c_j1);
+  w2c_l11 = w2c_i1;
+  w2c_i2 = 1u;
+  w2c_i1 <<= (w2c_i2 & 31);
+  w2c_i2 = 32512u;
+  w2c_i1 &= w2c_i2;
+  w2c_i2 = w2c_l11;
+  w2c_i3 = 128u;
+  w2c_i2 |= w2c_i3;
+  w2c_i3 = 255u;
+  w2c_i2 &= w2c_i3;
+  w2c_i1 |= w2c_i2;
+  w2c_j2 = 0ull;
+  i32_store16(instance, w2c_j0, w2c_i1, w2c_j2);
+  w2c_j0 = 2ull;
+  w2c_p4 = w2c_j0;
+  goto w2c_B4;
+  w2c_B13:;
+  w2c_j0 = w2c_p1;
+  w2c_j1 = 2097151ull;
+  w2c_i0 = w2c_j0 > w2c_j1;
+  if (w2c_i0) {goto w2c_B14;}
   w2c_j0 = w2c_l7;
   w2c_j1 = w2c_p1;
   w2c_j2 = 14ull;
@@ -4426,23 +4605,23 @@ static void w2c_rattle__export_multihash_encode(memory* instance, u64 w2c_p0, u6
   w2c_j0 = w2c_l7;
   w2c_j1 = w2c_p1;
   w2c_i1 = (u32)(w2c_j1);
-  w2c_l13 = w2c_i1;
+  w2c_l11 = w2c_i1;
   w2c_i2 = 128u;
   w2c_i1 |= w2c_i2;
   w2c_j2 = 0ull;
   i32_store8(instance, w2c_j0, w2c_i1, w2c_j2);
   w2c_j0 = w2c_l7;
-  w2c_i1 = w2c_l13;
+  w2c_i1 = w2c_l11;
   w2c_i2 = 7u;
   w2c_i1 >>= (w2c_i2 & 31);
   w2c_i2 = 128u;
   w2c_i1 |= w2c_i2;
   w2c_j2 = 1ull;
   i32_store8(instance, w2c_j0, w2c_i1, w2c_j2);
-  w2c_i0 = w2c_l10;
-  if (w2c_i0) {goto w2c_B6;}
-  goto w2c_B7;
-  w2c_B9:;
+  w2c_j0 = 3ull;
+  w2c_p4 = w2c_j0;
+  goto w2c_B4;
+  w2c_B14:;
   w2c_j0 = w2c_l6;
   w2c_j1 = 0ull;
   w2c_j2 = 16ull;
@@ -4451,6 +4630,8 @@ static void w2c_rattle__export_multihash_encode(memory* instance, u64 w2c_p0, u6
   w2c_j1 = 0ull;
   w2c_j2 = 8ull;
   i64_store(instance, w2c_j0, w2c_j1, w2c_j2);
+  w2c_j0 = 1ull;
+  w2c_p4 = w2c_j0;
   w2c_L15:
     w2c_j0 = w2c_l6;
     w2c_j1 = 8ull;
@@ -4472,13 +4653,13 @@ static void w2c_rattle__export_multihash_encode(memory* instance, u64 w2c_p0, u6
     w2c_j0 = w2c_p1;
     w2c_j1 = 16383ull;
     w2c_i0 = w2c_j0 > w2c_j1;
-    w2c_l10 = w2c_i0;
+    w2c_l11 = w2c_i0;
     w2c_j0 = w2c_p1;
     w2c_j1 = 7ull;
     w2c_j0 >>= (w2c_j1 & 63);
     w2c_l12 = w2c_j0;
     w2c_p1 = w2c_j0;
-    w2c_i0 = w2c_l10;
+    w2c_i0 = w2c_l11;
     if (w2c_i0) {goto w2c_L15;}
   w2c_j0 = w2c_l6;
   w2c_j1 = 8ull;
@@ -4496,107 +4677,51 @@ static void w2c_rattle__export_multihash_encode(memory* instance, u64 w2c_p0, u6
   if (w2c_i0) {goto w2c_B16;}
   w2c_j0 = w2c_p4;
   w2c_i0 = !(w2c_j0);
-  if (w2c_i0) {goto w2c_B17;}
+  if (w2c_i0) {goto w2c_B4;}
   w2c_j0 = w2c_l7;
   w2c_j1 = w2c_l6;
   w2c_j2 = 8ull;
   w2c_j1 += w2c_j2;
   w2c_j2 = w2c_p4;
   memory_copy(instance, w2c_j0, w2c_j1, w2c_j2);
-  w2c_B17:;
-  w2c_j0 = w2c_p3;
-  w2c_j1 = 128ull;
-  w2c_i0 = w2c_j0 < w2c_j1;
-  if (w2c_i0) {goto w2c_B6;}
-  goto w2c_B7;
+  goto w2c_B4;
   w2c_B16:;
   w2c_j0 = w2c_p5;
   w2c_i0 = !(w2c_j0);
-  if (w2c_i0) {goto w2c_B18;}
+  if (w2c_i0) {goto w2c_B17;}
   w2c_j0 = w2c_l7;
   w2c_j1 = w2c_l6;
   w2c_j2 = 8ull;
   w2c_j1 += w2c_j2;
   w2c_j2 = w2c_p5;
   memory_copy(instance, w2c_j0, w2c_j1, w2c_j2);
-  w2c_B18:;
+  w2c_B17:;
   w2c_j0 = w2c_p5;
   w2c_j1 = w2c_p4;
-  w2c_i0 = w2c_j0 != w2c_j1;
-  if (w2c_i0) {goto w2c_B2;}
+  w2c_i0 = w2c_j0 == w2c_j1;
+  w2c_l11 = w2c_i0;
   w2c_j0 = w2c_p5;
   w2c_p4 = w2c_j0;
-  goto w2c_B6;
-  w2c_B8:;
+  w2c_i0 = w2c_l11;
+  if (w2c_i0) {goto w2c_B4;}
+  goto w2c_B2;
+  w2c_B5:;
   w2c_j0 = w2c_l7;
   w2c_j1 = w2c_p1;
-  w2c_i1 = (u32)(w2c_j1);
-  w2c_l13 = w2c_i1;
-  w2c_i2 = 1u;
-  w2c_i1 <<= (w2c_i2 & 31);
-  w2c_i2 = 32512u;
-  w2c_i1 &= w2c_i2;
-  w2c_i2 = w2c_l13;
-  w2c_i3 = 128u;
-  w2c_i2 |= w2c_i3;
-  w2c_i3 = 255u;
-  w2c_i2 &= w2c_i3;
-  w2c_i1 |= w2c_i2;
   w2c_j2 = 0ull;
-  i32_store16(instance, w2c_j0, w2c_i1, w2c_j2);
-  w2c_i0 = w2c_l10;
-  if (w2c_i0) {goto w2c_B6;}
-  w2c_B7:;
-  w2c_j0 = w2c_l6;
-  w2c_j1 = w2c_p3;
-  w2c_i1 = (u32)(w2c_j1);
-  w2c_i2 = 384u;
-  w2c_i1 |= w2c_i2;
-  w2c_l10 = w2c_i1;
-  w2c_j2 = 8ull;
-  i32_store16(instance, w2c_j0, w2c_i1, w2c_j2);
-  w2c_j0 = w2c_l7;
-  w2c_j1 = w2c_p4;
-  w2c_j0 += w2c_j1;
-  w2c_p1 = w2c_j0;
-  w2c_j0 = w2c_p5;
-  w2c_j1 = w2c_p4;
-  w2c_j0 -= w2c_j1;
+  i64_store8(instance, w2c_j0, w2c_j1, w2c_j2);
+  w2c_j0 = 1ull;
   w2c_p4 = w2c_j0;
-  w2c_j1 = 3ull;
-  w2c_i0 = w2c_j0 < w2c_j1;
+  w2c_B4:;
+  w2c_j0 = w2c_p3;
+  w2c_i0 = (u32)(w2c_j0);
+  w2c_l11 = w2c_i0;
+  w2c_j0 = w2c_p3;
+  w2c_j1 = 127ull;
+  w2c_i0 = w2c_j0 > w2c_j1;
   if (w2c_i0) {goto w2c_B20;}
-  w2c_j0 = w2c_p1;
-  w2c_i1 = w2c_l10;
-  w2c_j2 = 0ull;
-  i32_store16(instance, w2c_j0, w2c_i1, w2c_j2);
-  goto w2c_B19;
-  w2c_B20:;
-  w2c_j0 = w2c_p4;
-  w2c_i0 = !(w2c_j0);
-  if (w2c_i0) {goto w2c_B21;}
-  w2c_j0 = w2c_p1;
-  w2c_j1 = w2c_l6;
-  w2c_j2 = 8ull;
-  w2c_j1 += w2c_j2;
-  w2c_j2 = w2c_p4;
-  memory_copy(instance, w2c_j0, w2c_j1, w2c_j2);
-  w2c_B21:;
-  w2c_j0 = w2c_p4;
-  w2c_j1 = 2ull;
-  w2c_i0 = w2c_j0 != w2c_j1;
-  if (w2c_i0) {goto w2c_B2;}
-  w2c_B19:;
-  w2c_j0 = w2c_p1;
-  w2c_j1 = 2ull;
-  w2c_j0 += w2c_j1;
-  w2c_l7 = w2c_j0;
-  goto w2c_B1;
-  w2c_B6:;
   w2c_j0 = w2c_l6;
-  w2c_j1 = w2c_p3;
-  w2c_i1 = (u32)(w2c_j1);
-  w2c_l10 = w2c_i1;
+  w2c_i1 = w2c_l11;
   w2c_j2 = 31ull;
   i32_store8(instance, w2c_j0, w2c_i1, w2c_j2);
   w2c_j0 = w2c_l7;
@@ -4609,13 +4734,13 @@ static void w2c_rattle__export_multihash_encode(memory* instance, u64 w2c_p0, u6
   w2c_p1 = w2c_j0;
   w2c_j1 = 2ull;
   w2c_i0 = w2c_j0 < w2c_j1;
-  if (w2c_i0) {goto w2c_B23;}
+  if (w2c_i0) {goto w2c_B21;}
   w2c_j0 = w2c_l12;
-  w2c_i1 = w2c_l10;
+  w2c_i1 = w2c_l11;
   w2c_j2 = 0ull;
   i32_store8(instance, w2c_j0, w2c_i1, w2c_j2);
-  goto w2c_B22;
-  w2c_B23:;
+  goto w2c_B19;
+  w2c_B21:;
   w2c_j0 = w2c_l12;
   w2c_j1 = w2c_l6;
   w2c_j2 = 31ull;
@@ -4623,42 +4748,96 @@ static void w2c_rattle__export_multihash_encode(memory* instance, u64 w2c_p0, u6
   w2c_j0 -= w2c_j1;
   w2c_j1 = w2c_p1;
   w2c_i0 = w2c_j0 >= w2c_j1;
-  if (w2c_i0) {goto w2c_B24;}
+  if (w2c_i0) {goto w2c_B22;}
   w2c_j0 = w2c_p1;
   w2c_i0 = !(w2c_j0);
-  if (w2c_i0) {goto w2c_B22;}
+  if (w2c_i0) {goto w2c_B19;}
   w2c_j0 = w2c_l12;
-  w2c_i1 = w2c_l10;
+  w2c_i1 = w2c_l11;
   w2c_j2 = w2c_p1;
   memory_fill(instance, w2c_j0, w2c_i1, w2c_j2);
-  goto w2c_B22;
-  w2c_B24:;
+  goto w2c_B19;
+  w2c_B22:;
   w2c_j0 = w2c_p1;
   w2c_i0 = !(w2c_j0);
-  if (w2c_i0) {goto w2c_B25;}
+  if (w2c_i0) {goto w2c_B23;}
   w2c_j0 = w2c_l12;
   w2c_j1 = w2c_l6;
   w2c_j2 = 31ull;
   w2c_j1 += w2c_j2;
   w2c_j2 = w2c_p1;
   memory_copy(instance, w2c_j0, w2c_j1, w2c_j2);
-  w2c_B25:;
+  w2c_B23:;
   w2c_j0 = w2c_p1;
   w2c_j1 = 1ull;
   w2c_i0 = w2c_j0 != w2c_j1;
   if (w2c_i0) {goto w2c_B2;}
-  w2c_B22:;
+  goto w2c_B19;
+  w2c_B20:;
+  w2c_j0 = w2c_l6;
+  w2c_i1 = w2c_l11;
+  w2c_i2 = 1u;
+  w2c_i1 <<= (w2c_i2 & 31);
+  w2c_i2 = 32512u;
+  w2c_i1 &= w2c_i2;
+  w2c_i2 = w2c_l11;
+  w2c_i3 = 128u;
+  w2c_i2 |= w2c_i3;
+  w2c_i3 = 255u;
+  w2c_i2 &= w2c_i3;
+  w2c_i1 |= w2c_i2;
+  w2c_l11 = w2c_i1;
+  w2c_j2 = 8ull;
+  i32_store16(instance, w2c_j0, w2c_i1, w2c_j2);
+  w2c_j0 = w2c_l7;
+  w2c_j1 = w2c_p4;
+  w2c_j0 += w2c_j1;
+  w2c_p1 = w2c_j0;
+  w2c_j0 = w2c_p5;
+  w2c_j1 = w2c_p4;
+  w2c_j0 -= w2c_j1;
+  w2c_p4 = w2c_j0;
+  w2c_j1 = 3ull;
+  w2c_i0 = w2c_j0 < w2c_j1;
+  if (w2c_i0) {goto w2c_B25;}
+  w2c_j0 = w2c_p1;
+  w2c_i1 = w2c_l11;
+  w2c_j2 = 0ull;
+  i32_store16(instance, w2c_j0, w2c_i1, w2c_j2);
+  goto w2c_B24;
+  w2c_B25:;
+  w2c_j0 = w2c_p4;
+  w2c_i0 = !(w2c_j0);
+  if (w2c_i0) {goto w2c_B26;}
+  w2c_j0 = w2c_p1;
+  w2c_j1 = w2c_l6;
+  w2c_j2 = 8ull;
+  w2c_j1 += w2c_j2;
+  w2c_j2 = w2c_p4;
+  memory_copy(instance, w2c_j0, w2c_j1, w2c_j2);
+  w2c_B26:;
+  w2c_j0 = w2c_p4;
+  w2c_j1 = 2ull;
+  w2c_i0 = w2c_j0 != w2c_j1;
+  if (w2c_i0) {goto w2c_B2;}
+  w2c_B24:;
+  w2c_j0 = w2c_p1;
+  w2c_j1 = 2ull;
+  w2c_j0 += w2c_j1;
+  w2c_l6 = w2c_j0;
+  goto w2c_B18;
+  w2c_B19:;
   w2c_j0 = w2c_l7;
   w2c_j1 = w2c_p4;
   w2c_j2 = 1ull;
   w2c_j1 += w2c_j2;
   w2c_p1 = w2c_j1;
   w2c_j0 += w2c_j1;
-  w2c_l7 = w2c_j0;
+  w2c_l6 = w2c_j0;
   w2c_j0 = w2c_p3;
   w2c_j1 = 32ull;
   w2c_i0 = w2c_j0 != w2c_j1;
-  if (w2c_i0) {goto w2c_B1;}
+  if (w2c_i0) {goto w2c_B18;}
   w2c_j0 = w2c_p5;
   w2c_j1 = w2c_p1;
   w2c_j0 -= w2c_j1;
@@ -4677,54 +4856,52 @@ static void w2c_rattle__export_multihash_encode(memory* instance, u64 w2c_p0, u6
   w2c_j1 = 16ull;
   w2c_j0 = i64_load(instance, w2c_j0, w2c_j1);
   w2c_p4 = w2c_j0;
-  w2c_j0 = w2c_l7;
+  w2c_j0 = w2c_l6;
   w2c_j1 = w2c_l9;
   w2c_j2 = 24ull;
   w2c_j1 = i64_load(instance, w2c_j1, w2c_j2);
   w2c_j2 = 24ull;
   i64_store(instance, w2c_j0, w2c_j1, w2c_j2);
-  w2c_j0 = w2c_l7;
+  w2c_j0 = w2c_l6;
   w2c_j1 = w2c_p4;
   w2c_j2 = 16ull;
   i64_store(instance, w2c_j0, w2c_j1, w2c_j2);
-  w2c_j0 = w2c_l7;
+  w2c_j0 = w2c_l6;
   w2c_j1 = w2c_p3;
   w2c_j2 = 8ull;
   i64_store(instance, w2c_j0, w2c_j1, w2c_j2);
-  w2c_j0 = w2c_l7;
+  w2c_j0 = w2c_l6;
   w2c_j1 = w2c_p1;
   w2c_j2 = 0ull;
   i64_store(instance, w2c_j0, w2c_j1, w2c_j2);
   w2c_j0 = 0ull;
   w2c_p4 = w2c_j0;
-  goto w2c_B0;
-  w2c_B2:;
-  UNREACHABLE;
-  w2c_B1:;
-  w2c_j0 = w2c_l7;
+  goto w2c_B3;
+  w2c_B18:;
+  w2c_j0 = w2c_l6;
   w2c_j1 = w2c_l9;
   w2c_j0 -= w2c_j1;
   w2c_j1 = w2c_p3;
   w2c_i0 = w2c_j0 >= w2c_j1;
-  if (w2c_i0) {goto w2c_B27;}
+  if (w2c_i0) {goto w2c_B28;}
   w2c_j0 = w2c_p3;
   w2c_j1 = 3ull;
   w2c_j0 &= w2c_j1;
-  w2c_l6 = w2c_j0;
+  w2c_l7 = w2c_j0;
   w2c_j0 = 0ull;
   w2c_p4 = w2c_j0;
   w2c_j0 = w2c_p3;
   w2c_j1 = 4ull;
   w2c_i0 = w2c_j0 < w2c_j1;
-  if (w2c_i0) {goto w2c_B26;}
+  if (w2c_i0) {goto w2c_B27;}
   w2c_j0 = w2c_p3;
-  w2c_j1 = 252ull;
+  w2c_j1 = 18446744073709551612ull;
   w2c_j0 &= w2c_j1;
   w2c_p5 = w2c_j0;
   w2c_j0 = 0ull;
   w2c_p4 = w2c_j0;
-  w2c_L28:
-    w2c_j0 = w2c_l7;
+  w2c_L29:
+    w2c_j0 = w2c_l6;
     w2c_j1 = w2c_p4;
     w2c_j0 += w2c_j1;
     w2c_p1 = w2c_j0;
@@ -4772,28 +4949,28 @@ static void w2c_rattle__export_multihash_encode(memory* instance, u64 w2c_p0, u6
     w2c_j1 += w2c_j2;
     w2c_p4 = w2c_j1;
     w2c_i0 = w2c_j0 != w2c_j1;
-    if (w2c_i0) {goto w2c_L28;}
-  w2c_j0 = w2c_l6;
+    if (w2c_i0) {goto w2c_L29;}
+  w2c_j0 = w2c_l7;
   w2c_i0 = !(w2c_j0);
   w2c_i0 = !(w2c_i0);
-  if (w2c_i0) {goto w2c_B26;}
+  if (w2c_i0) {goto w2c_B27;}
   w2c_j0 = 0ull;
   w2c_p4 = w2c_j0;
-  goto w2c_B0;
-  w2c_B27:;
+  goto w2c_B3;
+  w2c_B28:;
   w2c_j0 = w2c_p3;
   w2c_i0 = !(w2c_j0);
-  if (w2c_i0) {goto w2c_B29;}
-  w2c_j0 = w2c_l7;
+  if (w2c_i0) {goto w2c_B30;}
+  w2c_j0 = w2c_l6;
   w2c_j1 = w2c_l9;
   w2c_j2 = w2c_p3;
   memory_copy(instance, w2c_j0, w2c_j1, w2c_j2);
-  w2c_B29:;
+  w2c_B30:;
   w2c_j0 = 0ull;
   w2c_p4 = w2c_j0;
-  goto w2c_B0;
-  w2c_B26:;
-  w2c_j0 = w2c_l7;
+  goto w2c_B3;
+  w2c_B27:;
+  w2c_j0 = w2c_l6;
   w2c_j1 = w2c_p4;
   w2c_j0 += w2c_j1;
   w2c_p1 = w2c_j0;
@@ -4803,7 +4980,7 @@ static void w2c_rattle__export_multihash_encode(memory* instance, u64 w2c_p0, u6
   w2c_j1 += w2c_j2;
   w2c_j0 += w2c_j1;
   w2c_p3 = w2c_j0;
-  w2c_L30:
+  w2c_L31:
     w2c_j0 = w2c_p1;
     w2c_j1 = w2c_p3;
     w2c_j2 = 0ull;
@@ -4820,16 +4997,16 @@ static void w2c_rattle__export_multihash_encode(memory* instance, u64 w2c_p0, u6
     w2c_p3 = w2c_j0;
     w2c_j0 = 0ull;
     w2c_p4 = w2c_j0;
-    w2c_j0 = w2c_l6;
+    w2c_j0 = w2c_l7;
     w2c_j1 = 18446744073709551615ull;
     w2c_j0 += w2c_j1;
-    w2c_l6 = w2c_j0;
+    w2c_l7 = w2c_j0;
     w2c_j1 = 0ull;
     w2c_i0 = w2c_j0 != w2c_j1;
-    if (w2c_i0) {goto w2c_L30;}
-  w2c_B0:;
+    if (w2c_i0) {goto w2c_L31;}
+  w2c_B3:;
   w2c_j0 = w2c_p0;
-  w2c_j1 = w2c_l11;
+  w2c_j1 = w2c_l10;
   w2c_j2 = 16ull;
   i64_store(instance, w2c_j0, w2c_j1, w2c_j2);
   w2c_j0 = w2c_p0;
@@ -4838,6 +5015,27 @@ static void w2c_rattle__export_multihash_encode(memory* instance, u64 w2c_p0, u6
   i64_store(instance, w2c_j0, w2c_j1, w2c_j2);
   w2c_j0 = w2c_p0;
   w2c_j1 = w2c_p4;
+  w2c_j2 = 0ull;
+  i64_store(instance, w2c_j0, w2c_j1, w2c_j2);
+  goto w2c_Bfunc;
+  w2c_B2:;
+  UNREACHABLE;
+  w2c_B1:;
+  w2c_j0 = 4ull;
+  w2c_l10 = w2c_j0;
+  w2c_j0 = w2c_p3;
+  w2c_p4 = w2c_j0;
+  w2c_B0:;
+  w2c_j0 = w2c_p0;
+  w2c_j1 = 0ull;
+  w2c_j2 = 16ull;
+  i64_store(instance, w2c_j0, w2c_j1, w2c_j2);
+  w2c_j0 = w2c_p0;
+  w2c_j1 = w2c_p4;
+  w2c_j2 = 8ull;
+  i64_store(instance, w2c_j0, w2c_j1, w2c_j2);
+  w2c_j0 = w2c_p0;
+  w2c_j1 = w2c_l10;
   w2c_j2 = 0ull;
   i64_store(instance, w2c_j0, w2c_j1, w2c_j2);
   w2c_Bfunc:;
@@ -4864,10 +5062,11 @@ static void w2c_multihash_scale_encode(memory* instance, u64 w2c_p0, u64 w2c_p1,
 
 static void w2c_rattle__export_multihash_scale_encode(memory* instance, u64 w2c_p0, u64 w2c_p1, u64 w2c_p2, u64 w2c_p3, u64 w2c_p4, u64 w2c_p5) {
   u32 w2c_l7 = 0;
-  u64 w2c_l6 = 0, w2c_l8 = 0, w2c_l9 = 0, w2c_l10 = 0, w2c_l11 = 0, w2c_l12 = 0, w2c_l13 = 0;
+  u64 w2c_l6 = 0, w2c_l8 = 0;
   u32 w2c_i0, w2c_i1, w2c_i3;
   u64 w2c_j0, w2c_j1, w2c_j2, w2c_j3;
   w2c_j0 = instance->w2c___stack_pointer;
+  w2c_l6 = w2c_j0;
   w2c_j1 = 16ull;
   w2c_i0 = (u64)((s64)w2c_j0 < (s64)w2c_j1);
   if (w2c_i0) {goto w2c_B0;}
@@ -4887,6 +5086,8 @@ static void w2c_rattle__export_multihash_scale_encode(memory* instance, u64 w2c_
   w2c_j1 = 4ull;
   w2c_j2 = 0ull;
   i64_store(instance, w2c_j0, w2c_j1, w2c_j2);
+  w2c_j0 = w2c_l6;
+  instance->w2c___stack_pointer = w2c_j0;
   goto w2c_Bfunc;
   w2c_B1:;
   w2c_j0 = w2c_p1;
@@ -4909,215 +5110,94 @@ static void w2c_rattle__export_multihash_scale_encode(memory* instance, u64 w2c_
   w2c_i1 = 0u;
   w2c_j2 = 20ull;
   i32_store(instance, w2c_j0, w2c_i1, w2c_j2);
+  w2c_j0 = w2c_l6;
+  instance->w2c___stack_pointer = w2c_j0;
   goto w2c_Bfunc;
   w2c_B2:;
+  w2c_i0 = 7u;
+  w2c_l7 = w2c_i0;
   w2c_j0 = w2c_p3;
   w2c_j1 = 9ull;
   w2c_j0 += w2c_j1;
-  w2c_l6 = w2c_j0;
+  w2c_l8 = w2c_j0;
   w2c_j1 = w2c_p5;
-  w2c_i0 = w2c_j0 <= w2c_j1;
-  if (w2c_i0) {goto w2c_B4;}
-  w2c_i0 = 7u;
-  w2c_l7 = w2c_i0;
-  goto w2c_B3;
-  w2c_B4:;
+  w2c_i0 = w2c_j0 > w2c_j1;
+  if (w2c_i0) {goto w2c_B3;}
   w2c_j0 = w2c_p2;
   w2c_j1 = 4096ull;
   w2c_j2 = 0ull;
   w2c_j3 = w2c_p2;
   w2c_i3 = !(w2c_j3);
   w2c_j1 = w2c_i3 ? w2c_j1 : w2c_j2;
-  w2c_l8 = w2c_j1;
   w2c_j0 += w2c_j1;
-  w2c_l9 = w2c_j0;
+  w2c_p2 = w2c_j0;
   w2c_j0 = w2c_p4;
   w2c_j1 = 4096ull;
   w2c_j2 = 0ull;
   w2c_j3 = w2c_p4;
   w2c_i3 = !(w2c_j3);
   w2c_j1 = w2c_i3 ? w2c_j1 : w2c_j2;
-  w2c_l10 = w2c_j1;
   w2c_j0 += w2c_j1;
-  w2c_l11 = w2c_j0;
+  w2c_p4 = w2c_j0;
   w2c_j1 = w2c_p1;
   w2c_j2 = 0ull;
   i64_store(instance, w2c_j0, w2c_j1, w2c_j2);
-  w2c_j0 = w2c_l11;
+  w2c_j0 = w2c_p4;
   w2c_j1 = 8ull;
   w2c_j0 += w2c_j1;
   w2c_j1 = w2c_p3;
   w2c_j2 = 0ull;
   i64_store8(instance, w2c_j0, w2c_j1, w2c_j2);
-  w2c_j0 = w2c_l11;
+  w2c_j0 = w2c_p4;
   w2c_j1 = 9ull;
   w2c_j0 += w2c_j1;
   w2c_p1 = w2c_j0;
   w2c_j0 = w2c_p3;
   w2c_j1 = 32ull;
   w2c_i0 = w2c_j0 != w2c_j1;
-  if (w2c_i0) {goto w2c_B6;}
-  w2c_j0 = w2c_l9;
+  if (w2c_i0) {goto w2c_B5;}
+  w2c_j0 = w2c_p2;
   w2c_j1 = 0ull;
   w2c_j0 = i64_load(instance, w2c_j0, w2c_j1);
   w2c_p3 = w2c_j0;
-  w2c_j0 = w2c_l9;
+  w2c_j0 = w2c_p2;
   w2c_j1 = 8ull;
   w2c_j0 = i64_load(instance, w2c_j0, w2c_j1);
-  w2c_p5 = w2c_j0;
-  w2c_j0 = w2c_l9;
+  w2c_p4 = w2c_j0;
+  w2c_j0 = w2c_p2;
   w2c_j1 = 16ull;
   w2c_j0 = i64_load(instance, w2c_j0, w2c_j1);
-  w2c_l12 = w2c_j0;
+  w2c_p5 = w2c_j0;
   w2c_j0 = w2c_p1;
-  w2c_j1 = w2c_l9;
+  w2c_j1 = w2c_p2;
   w2c_j2 = 24ull;
   w2c_j1 = i64_load(instance, w2c_j1, w2c_j2);
   w2c_j2 = 24ull;
   i64_store(instance, w2c_j0, w2c_j1, w2c_j2);
   w2c_j0 = w2c_p1;
-  w2c_j1 = w2c_l12;
+  w2c_j1 = w2c_p5;
   w2c_j2 = 16ull;
   i64_store(instance, w2c_j0, w2c_j1, w2c_j2);
   w2c_j0 = w2c_p1;
-  w2c_j1 = w2c_p5;
+  w2c_j1 = w2c_p4;
   w2c_j2 = 8ull;
   i64_store(instance, w2c_j0, w2c_j1, w2c_j2);
   w2c_j0 = w2c_p1;
   w2c_j1 = w2c_p3;
   w2c_j2 = 0ull;
   i64_store(instance, w2c_j0, w2c_j1, w2c_j2);
-  goto w2c_B5;
-  w2c_B6:;
-  w2c_j0 = w2c_p1;
-  w2c_j1 = w2c_l9;
-  w2c_j0 -= w2c_j1;
-  w2c_j1 = w2c_p3;
-  w2c_i0 = w2c_j0 >= w2c_j1;
-  if (w2c_i0) {goto w2c_B7;}
-  w2c_j0 = w2c_p3;
-  w2c_j1 = 3ull;
-  w2c_j0 &= w2c_j1;
-  w2c_l12 = w2c_j0;
-  w2c_j0 = 0ull;
-  w2c_p1 = w2c_j0;
-  w2c_j0 = w2c_p3;
-  w2c_j1 = 4ull;
-  w2c_i0 = w2c_j0 < w2c_j1;
-  if (w2c_i0) {goto w2c_B8;}
-  w2c_j0 = w2c_p3;
-  w2c_j1 = 252ull;
-  w2c_j0 &= w2c_j1;
-  w2c_l13 = w2c_j0;
-  w2c_j0 = 0ull;
-  w2c_p1 = w2c_j0;
-  w2c_L9:
-    w2c_j0 = w2c_l11;
-    w2c_j1 = w2c_p1;
-    w2c_j0 += w2c_j1;
-    w2c_p3 = w2c_j0;
-    w2c_j1 = 9ull;
-    w2c_j0 += w2c_j1;
-    w2c_j1 = w2c_l9;
-    w2c_j2 = w2c_p1;
-    w2c_j1 += w2c_j2;
-    w2c_p5 = w2c_j1;
-    w2c_j2 = 0ull;
-    w2c_i1 = i32_load8_u(instance, w2c_j1, w2c_j2);
-    w2c_j2 = 0ull;
-    i32_store8(instance, w2c_j0, w2c_i1, w2c_j2);
-    w2c_j0 = w2c_p3;
-    w2c_j1 = 10ull;
-    w2c_j0 += w2c_j1;
-    w2c_j1 = w2c_p5;
-    w2c_j2 = 1ull;
-    w2c_j1 += w2c_j2;
-    w2c_j2 = 0ull;
-    w2c_i1 = i32_load8_u(instance, w2c_j1, w2c_j2);
-    w2c_j2 = 0ull;
-    i32_store8(instance, w2c_j0, w2c_i1, w2c_j2);
-    w2c_j0 = w2c_p3;
-    w2c_j1 = 11ull;
-    w2c_j0 += w2c_j1;
-    w2c_j1 = w2c_p5;
-    w2c_j2 = 2ull;
-    w2c_j1 += w2c_j2;
-    w2c_j2 = 0ull;
-    w2c_i1 = i32_load8_u(instance, w2c_j1, w2c_j2);
-    w2c_j2 = 0ull;
-    i32_store8(instance, w2c_j0, w2c_i1, w2c_j2);
-    w2c_j0 = w2c_p3;
-    w2c_j1 = 12ull;
-    w2c_j0 += w2c_j1;
-    w2c_j1 = w2c_p5;
-    w2c_j2 = 3ull;
-    w2c_j1 += w2c_j2;
-    w2c_j2 = 0ull;
-    w2c_i1 = i32_load8_u(instance, w2c_j1, w2c_j2);
-    w2c_j2 = 0ull;
-    i32_store8(instance, w2c_j0, w2c_i1, w2c_j2);
-    w2c_j0 = w2c_l13;
-    w2c_j1 = w2c_p1;
-    w2c_j2 = 4ull;
-    w2c_j1 += w2c_j2;
-    w2c_p1 = w2c_j1;
-    w2c_i0 = w2c_j0 != w2c_j1;
-    if (w2c_i0) {goto w2c_L9;}
-  w2c_j0 = w2c_l12;
-  w2c_i0 = !(w2c_j0);
-  if (w2c_i0) {goto w2c_B5;}
-  w2c_B8:;
-  w2c_j0 = w2c_p2;
-  w2c_j1 = w2c_l8;
-  w2c_j2 = w2c_p1;
-  w2c_j1 += w2c_j2;
-  w2c_j0 += w2c_j1;
-  w2c_p3 = w2c_j0;
-  w2c_j0 = w2c_l10;
-  w2c_j1 = w2c_p1;
-  w2c_j0 += w2c_j1;
-  w2c_j1 = w2c_p4;
-  w2c_j0 += w2c_j1;
-  w2c_j1 = 9ull;
-  w2c_j0 += w2c_j1;
-  w2c_p1 = w2c_j0;
-  w2c_L10:
-    w2c_j0 = w2c_p1;
-    w2c_j1 = w2c_p3;
-    w2c_j2 = 0ull;
-    w2c_i1 = i32_load8_u(instance, w2c_j1, w2c_j2);
-    w2c_j2 = 0ull;
-    i32_store8(instance, w2c_j0, w2c_i1, w2c_j2);
-    w2c_j0 = w2c_p1;
-    w2c_j1 = 1ull;
-    w2c_j0 += w2c_j1;
-    w2c_p1 = w2c_j0;
-    w2c_j0 = w2c_p3;
-    w2c_j1 = 1ull;
-    w2c_j0 += w2c_j1;
-    w2c_p3 = w2c_j0;
-    w2c_j0 = w2c_l12;
-    w2c_j1 = 18446744073709551615ull;
-    w2c_j0 += w2c_j1;
-    w2c_l12 = w2c_j0;
-    w2c_j1 = 0ull;
-    w2c_i0 = w2c_j0 != w2c_j1;
-    if (w2c_i0) {goto w2c_L10;}
-    goto w2c_B5;
-  w2c_B7:;
-  w2c_j0 = w2c_p3;
-  w2c_i0 = !(w2c_j0);
-  if (w2c_i0) {goto w2c_B5;}
-  w2c_j0 = w2c_p1;
-  w2c_j1 = w2c_l9;
-  w2c_j2 = w2c_p3;
-  memory_copy(instance, w2c_j0, w2c_j1, w2c_j2);
+  goto w2c_B4;
   w2c_B5:;
+  w2c_j0 = w2c_p2;
+  w2c_j1 = w2c_p3;
+  w2c_j2 = w2c_p1;
+  w2c_multihash_c__encode__put_apart(instance, w2c_j0, w2c_j1, w2c_j2);
+  w2c_B4:;
   w2c_i0 = 0u;
   w2c_l7 = w2c_i0;
   w2c_B3:;
   w2c_j0 = w2c_p0;
-  w2c_j1 = w2c_l6;
+  w2c_j1 = w2c_l8;
   w2c_j2 = 16ull;
   i64_store(instance, w2c_j0, w2c_j1, w2c_j2);
   w2c_j0 = w2c_p0;
@@ -5132,6 +5212,8 @@ static void w2c_rattle__export_multihash_scale_encode(memory* instance, u64 w2c_
   w2c_i1 = w2c_l7;
   w2c_j2 = 0ull;
   i32_store(instance, w2c_j0, w2c_i1, w2c_j2);
+  w2c_j0 = w2c_l6;
+  instance->w2c___stack_pointer = w2c_j0;
   goto w2c_Bfunc;
   w2c_B0:;
   UNREACHABLE;

@@ -37,8 +37,9 @@ MEMORY = Path(__file__).resolve().parent / "memory.h"
 # The functions and macros of memory.h, and what C has besides calls.
 PROVIDED = re.compile(r"^(?:(?:static inline|ALWAYS_INLINE) [^(\n]*?|#define )(\w+)\(", re.MULTILINE)
 # The functions that are compiled into their callers, which mostly know the block of an address, and those that are
-# called apart, for seldom inputs.
-INLINED = {"w2c_multihash__varint__word__front_by_word", "w2c_multihash_c__decode__seldom"}
+# called apart, for rare inputs.
+INLINED = {"w2c_multihash__varint__word__front_by_word", "w2c_multihash_c__decode__longer",
+           "w2c_multihash_c__encode__put_apart"}
 APART = {"w2c_multihash__varint__word__front_by_short_word", "w2c_multihash_c__decode__error_of"}
 HEAD = re.compile(r"^static (void|u32|u64) (w2c_\w+)\((.*)\)(;| \{)$", re.MULTILINE)
 KEYWORDS = {"if", "while", "for", "switch", "return", "sizeof"}

@@ -57,7 +57,7 @@ pub extern "C" fn multihash_from_bytes(bytes: &[u8]) -> Decoded
     if is_short(bytes) {
         return decode_whole(bytes, bytes.len());
     }
-    let bytes = seldom(bytes);
+    let bytes = longer(bytes);
     decode_whole(bytes, bytes.len())
 }
 
@@ -96,7 +96,7 @@ pub extern "C" fn multihash_head(bytes: &[u8]) -> Front
     if is_short(bytes) {
         return head_of(bytes);
     }
-    head_of(seldom(bytes))
+    head_of(longer(bytes))
 }
 
 // What `multihash_head` returns.
@@ -152,11 +152,11 @@ fn is_short(bytes: &[u8]) -> bool {
     bytes.len() >= 2 && bytes[0] < 128 && bytes[1] < 128
 }
 
-// Returns the bytes unchanged. The compiler cannot see that: so the registers that later calls need are saved only
-// for input that is not short.
+// Returns the bytes of an input that is not short, unchanged. The compiler cannot see that: so the registers
+// that later calls need are saved only for such an input.
 #[cold]
 #[inline(never)]
-fn seldom(bytes: &[u8]) -> &[u8]
+fn longer(bytes: &[u8]) -> &[u8]
     ensures { result.now ≡ bytes.now }
 {
     bytes

@@ -11,6 +11,12 @@ use crate::{DIGEST_MAX, SCALE_HEAD, status};
 use multihash::no_std_io::{SliceWriter, Write};
 use multihash::varint;
 
+// The usual length of a digest.
+const USUAL_DIGEST: usize = 32;
+
+// The length of the usual encoding: the code and the digest's length have one byte each.
+const USUAL_ENCODING: usize = USUAL_DIGEST + 2;
+
 /// The result of an encoding. A field without a meaning for its status is 0.
 #[repr(C)]
 #[derive(Clone, Copy)]
@@ -28,6 +34,9 @@ pub struct Encoded {
 pub extern "C" fn multihash_encode(code: u64, digest: &[u8], out: &mut [u8]) -> Encoded
     ensures { WritesForm IsEncoding (record { code = code; digest = digest.now }) result out.old out.new }
 {
+    if code < 128 && digest.len() == USUAL_DIGEST {
+        return encode_usual(code, digest, out);
+    }
     let encoding_length = match needed(code, digest.len()) {
         Ok(length) => length,
         Err(rejected) => return rejected,
@@ -88,6 +97,21 @@ pub extern "C" fn multihash_put_status_text(status: u32, out: &mut [u8]) -> Enco
         status::NO_ROOM => put_text(b"failed to write whole buffer", out),
         _ => put_text(b"unknown status", out),
     }
+}
+
+// Writes the encoding of a code of one byte and a digest of the usual length. Each part has a constant place, so
+// nothing is tested but whether all of it fits.
+#[inline(always)]
+fn encode_usual(code: u64, digest: &[u8], out: &mut [u8]) -> Encoded
+    requires small { code < 128 }
+    requires usual { length digest.now ≡ 32 }
+    ensures { WritesForm IsEncoding (record { code = code; digest = digest.now }) result out.old out.new }
+{
+    if USUAL_ENCODING <= out.len() {
+        *out.first_chunk_mut().unwrap() = [code as u8, USUAL_DIGEST as u8];
+        put_digest(digest, &mut out[2..]);
+    }
+    count(USUAL_ENCODING, out.len())
 }
 
 // The length of the encoding of a code and a digest of that many bytes, or the result if there is none.
@@ -171,7 +195,7 @@ fn put_encoding(code: u64, digest: &[u8], buffer: &mut [u8])
     let mut writer = SliceWriter::new(buffer);
     varint::write(code, &mut writer).unwrap();
     varint::write(digest.len() as u64, &mut writer).unwrap();
-    write_digest(digest, &mut writer);
+    write_digest::<false>(digest, &mut writer);
 }
 
 // Writes the SCALE form of a code and a digest to the front of a buffer that is large enough.
@@ -185,16 +209,22 @@ fn put_scale_form(code: u64, digest: &[u8], buffer: &mut [u8])
     let mut writer = SliceWriter::new(buffer);
     writer.write_all(&code.to_le_bytes()).unwrap();
     writer.write_all(&[digest.len() as u8]).unwrap();
-    write_digest(digest, &mut writer);
+    write_digest::<true>(digest, &mut writer);
 }
 
-// Appends a digest, for which there is enough capacity.
+// Appends a digest, for which there is enough capacity. If `APART`, one of another than the usual length is
+// copied by a call: so the caller saves fewer registers.
 #[inline(always)]
-fn write_digest(digest: &[u8], writer: &mut SliceWriter<'_>)
+fn write_digest<const APART: bool>(digest: &[u8], writer: &mut SliceWriter<'_>)
     requires { writer.old.filled + length digest.now ≤ length writer.old.buffer.now }
     ensures { Fills writer.old digest.now writer.new }
 {
-    put_digest(digest, &mut writer.buffer[writer.filled..]);
+    let buffer = &mut writer.buffer[writer.filled..];
+    if APART && digest.len() != USUAL_DIGEST {
+        put_apart(digest, buffer);
+    } else {
+        put_digest(digest, buffer);
+    }
     writer.filled += digest.len();
 }
 
@@ -204,8 +234,17 @@ fn put_digest(digest: &[u8], buffer: &mut [u8])
     requires { length digest.now ≤ length buffer.old }
     ensures { buffer.new ≡ digest.now ++ drop (length digest.now) buffer.old }
 {
-    match digest.as_array::<32>() {
+    match digest.as_array::<USUAL_DIGEST>() {
         Some(whole) => *buffer.first_chunk_mut().unwrap() = *whole,
         None => buffer[..digest.len()].copy_from_slice(digest),
     }
+}
+
+// Copies a digest to the front of a buffer that is large enough, whatever its length.
+#[inline(never)]
+fn put_apart(digest: &[u8], buffer: &mut [u8])
+    requires { length digest.now ≤ length buffer.old }
+    ensures { buffer.new ≡ digest.now ++ drop (length digest.now) buffer.old }
+{
+    buffer[..digest.len()].copy_from_slice(digest);
 }

@@ -8,5 +8,5 @@ returns-then-is_short-clause-verdict c =
 pub returns-clause-verdict : goal.returns-clause-verdict
 returns-clause-verdict c =
     let input = c.args.bytes.now in
-    let same = c.seldom-bytes.ensures in
+    let same = c.longer-bytes.ensures in
     c.decode_whole-2.ensures.verdict input (ap length (sym same)) ([], sym (append-nil _ ∙ same)) (inl (omega arith))
