@@ -60,32 +60,32 @@ fn known_tree(rt: HostRuntime) {
 
 // The path leads from this leaf to the root, and from no other; and no step can be another.
 fn expect_path(rt: &impl Abort, alloc: Global, leaves: &[Multihash<32>], index: usize) {
-    if index >= leaves.len() {
+    let Some(leaf) = leaves.get(index) else {
         return;
-    }
+    };
     let (root, mut path) = expect_ok!(rt; root_and_path(alloc, leaves, index));
-    for (i, leaf) in leaves.iter().enumerate() {
-        check_eq!(rt; verify_path(leaf, &path, &root), i == index, (i, index));
+    for (i, other) in leaves.iter().enumerate() {
+        check_eq!(rt; verify_path(other, &path, &root), i == index, (i, index));
     }
-    for i in 0..path.len() {
-        let step = path[i];
-        path[i] = Step {
-            sibling: step.sibling,
-            is_left: !step.is_left,
-        };
-        check!(rt; !verify_path(&leaves[index], &path, &root), (i, index));
-        path[i] = Step {
-            sibling: step.sibling.truncate(31),
-            is_left: step.is_left,
-        };
-        check!(rt; !verify_path(&leaves[index], &path, &root), (i, index));
-        path[i] = step;
-    }
-    check!(rt; verify_path(&leaves[index], &path, &root));
+    expect_steps(rt, leaf, &mut path, &root);
+    check!(rt; verify_path(leaf, &path, &root));
     // The node above the leaf is no leaf.
     if let [first, above @ ..] = path.as_slice() {
-        let inner = first.above(&leaf_node(&leaves[index]));
+        let inner = first.above(&leaf_node(leaf));
         check!(rt; !verify_path(&inner, above, &root), index);
+    }
+}
+
+// No step can be of the other side, or have a shorter sibling.
+fn expect_steps(rt: &impl Abort, leaf: &Multihash<32>, path: &mut [Step], root: &Multihash<32>) {
+    for i in 0..path.len() {
+        let step = path[i];
+        path[i].is_left = !step.is_left;
+        check!(rt; !verify_path(leaf, path, root), i);
+        path[i].is_left = step.is_left;
+        path[i].sibling = step.sibling.truncate(31);
+        check!(rt; !verify_path(leaf, path, root), i);
+        path[i] = step;
     }
 }
 

@@ -56,7 +56,7 @@ fn a_long_slice_is_read_at_once(rt: HostRuntime) {
     check_eq!(rt; expect_ok!(rt; chained.read(&mut [0; 100])), 100);
 }
 
-// The writer fills up or fails after some bytes: those were hashed, and no others.
+// The writer fills up, or fails, after some bytes: those were hashed, and no others.
 #[test]
 fn what_was_written_is_hashed(rt: HostRuntime) {
     let alloc = rt.alloc();
@@ -68,6 +68,15 @@ fn what_was_written_is_hashed(rt: HostRuntime) {
         let (hash, inner) = writer.finish();
         expect_bytes!(rt; &inner.held, &b"abc"[..room]);
         check!(rt; hash == hash_of(&b"abc"[..room]));
+    }
+    check!(rt; HashingWriter::<Vec<u8>>::ALLOCATES && !HashingWriter::<Drip>::ALLOCATES);
+}
+
+#[test]
+fn what_was_written_before_a_failure_is_hashed(rt: HostRuntime) {
+    let alloc = rt.alloc();
+    let rt = &rt;
+    for room in 0..4 {
         let fails = FailWrite::new(
             expect_ok!(rt; Drip::new(alloc, 3, 1)),
             room,
@@ -77,7 +86,6 @@ fn what_was_written_is_hashed(rt: HostRuntime) {
         check_eq!(rt; is_failed(&writer.write_all(b"abc"), ErrorKind::DISK_GONE), room < 3);
         check!(rt; writer.finish().0 == hash_of(&b"abc"[..room]));
     }
-    check!(rt; HashingWriter::<Vec<u8>>::ALLOCATES && !HashingWriter::<Drip>::ALLOCATES);
 }
 
 const TEXT: [u8; 3] = *b"abc";
@@ -97,13 +105,20 @@ fn what_was_read_is_hashed(rt: HostRuntime) {
         let (hash, inner) = reader.finish();
         expect_bytes!(rt; inner.left, &TEXT[read..]);
         check!(rt; hash == hash_of(&TEXT[..read]));
+    }
+}
+
+#[test]
+fn what_was_read_before_a_failure_is_hashed(rt: HostRuntime) {
+    let rt = &rt;
+    for n in 0..4 {
         let mut reader = HashingReader::new(FailAt::new(
             Cuts::new(b"abc", 1),
             n,
             ErrorKind::LINK_DOWN,
         ));
         check_eq!(rt; is_failed(&reader.read_exact(&mut [0; 3]), ErrorKind::LINK_DOWN), n < 3);
-        check!(rt; reader.finish().0 == hash_of(&TEXT[..read]));
+        check!(rt; reader.finish().0 == hash_of(&TEXT[..n]));
     }
 }
 

@@ -4,7 +4,7 @@
 ghost use Rattle.std.specs.Prelude.{◌<◌, ◌^◌};
 
 use fakes::error_kind::{ErrorKind, LARGEST_CODE, is_rejected};
-use fakes::{check, check_eq, expect_bytes};
+use fakes::{check, check_eq, expect_bytes, expect_ok, expect_rejected};
 use multihash::list::{read_list, write_list};
 use multihash::no_std_io::{self, Read, SliceWriter, Write};
 use multihash::{Error, Head, Multihash, laws, varint};
@@ -172,17 +172,22 @@ fn allocating_write_of_a_long_list(rt: HostRuntime) -> Result<(), Fail> {
     unless_rejected(&rt, outcome)
 }
 
+fn append_forms(rt: &impl Abort, held: &mut Vec<u8>, m: &Multihash<255>) -> Result<(), Fail> {
+    unless_rejected(rt, m.write(held))?;
+    unless_rejected(rt, m.write(&mut &mut *held))?;
+    unless_rejected(rt, m.scale_encode(held))?;
+    unless_rejected(rt, write_list(&[*m, *m], held))
+}
+
 // With enough capacity nothing is allocated: the one allocation is that of the capacity.
 #[test]
 fn allocating_room_alone(rt: HostRuntime) -> Result<(), Fail> {
     let room = Vec::with_capacity(rt.alloc(), 8192).map_err(Error::from);
     let mut held = unless_rejected(&rt, room)?;
     for len in [0usize, 1, 31, 32, 33, 64, 127, 128, 200, 255] {
-        let m = Multihash::<255>::wrap(300, [65; 255].get(..len).unwrap_or(&[]))?;
-        unless_rejected(&rt, m.write(&mut held))?;
-        unless_rejected(&rt, m.write(&mut &mut held))?;
-        unless_rejected(&rt, m.scale_encode(&mut held))?;
-        unless_rejected(&rt, write_list(&[m, m], &mut held))?;
+        let digest = [65; 255];
+        let m = expect_ok!(&rt; Multihash::wrap(300, digest.get(..len).unwrap_or(&[])));
+        append_forms(&rt, &mut held, &m)?;
     }
     check_eq!(&rt; held.capacity(), 8192);
     Ok(())
@@ -247,60 +252,69 @@ fn hash_value<const S: usize>(m: &Multihash<S>) -> u64
     state.finish()
 }
 
-fn expect_parts<const S: usize>(rt: &impl Abort, m: &Multihash<S>) -> Result<(), Fail>
+fn expect_parts<const S: usize>(rt: &impl Abort, m: &Multihash<S>)
     requires { S < 2 ^ 16 }
 {
     check_eq!(rt; (m.size(), m.digest().len(), m.into_inner().2), (32, 32, 32));
     check_eq!(rt; hash_value(m), hash_value(m));
     let cut = m.truncate(31);
     check!(rt; cut != *m && cut.cmp(m) == Ordering::Less && !cut.same_as(m));
-    check!(rt; m.resize::<64>()?.same_as(m));
+    check!(rt; expect_ok!(rt; m.resize::<64>()).same_as(m));
     check!(rt; m.clone().is_ok());
-    Ok(())
 }
 
-fn expect_forms<const S: usize>(
-    rt: &impl Abort,
-    alloc: Global,
-    m: &Multihash<S>,
-) -> Result<(), Fail>
+fn expect_read<const S: usize>(rt: &impl Abort, alloc: Global, m: &Multihash<S>, bytes: &[u8])
+    requires { S < 2 ^ 16 }
+{
+    check!(rt; expect_ok!(rt; Multihash::<S>::from_bytes(bytes)) == *m);
+    let mut left = bytes;
+    check!(rt; expect_ok!(rt; Multihash::<S>::read(&mut left)) == *m);
+    check_eq!(rt; expect_ok!(rt; Head::read_front(bytes)).digest_len, 32);
+    check!(rt; expect_ok!(rt; read_list::<S, _>(alloc, &mut left, 0)).is_empty());
+}
+
+fn expect_varints(rt: &impl Abort, code: u64, bytes: &[u8]) {
+    let len = expect_ok!(rt; varint::len(code));
+    let rest = bytes.get(len..).unwrap_or(&[]);
+    check_eq!(rt; expect_ok!(rt; varint::read_front(bytes)), (code, rest));
+    let mut left = bytes;
+    check_eq!(rt; expect_ok!(rt; varint::read(&mut left)), code);
+    let mut buffer = [0u8; 9];
+    check_eq!(rt; expect_ok!(rt; varint::write(code, &mut buffer.as_mut_slice())), len);
+}
+
+fn expect_written<const S: usize>(rt: &impl Abort, m: &Multihash<S>)
     requires { S < 2 ^ 16 }
 {
     let mut buffer = [0u8; 64];
-    let len = m.write(&mut buffer.as_mut_slice())?;
-    check_eq!(rt; len, m.encoded_len());
-    check!(rt; Multihash::<S>::from_bytes(buffer.get(..len).unwrap_or(&[]))? == *m);
-    check!(rt; Multihash::<S>::read(&mut buffer.as_slice())? == *m);
-    check_eq!(rt; Head::read_front(&buffer)?.digest_len, 32);
-    let (code, rest) = varint::read_front(&buffer)?;
-    let code_len = varint::len(code)?;
-    check_eq!(rt; (code, rest), (m.code(), buffer.get(code_len..).unwrap_or(&[])));
-    check_eq!(rt; varint::read(&mut buffer.as_slice())?, code);
-    check!(rt; read_list::<S, _>(alloc, &mut buffer.as_slice(), 0)?.is_empty());
-    check_eq!(rt; varint::write(code, &mut buffer.as_mut_slice())?, code_len);
-    write_list(&[*m], &mut buffer.as_mut_slice())?;
-    m.scale_encode(&mut buffer.as_mut_slice())?;
-    check!(rt; Multihash::<S>::scale_decode(&mut buffer.as_slice())? == *m);
-    Ok(())
+    check!(rt; write_list(&[*m], &mut buffer.as_mut_slice()).is_ok());
+    check!(rt; m.scale_encode(&mut buffer.as_mut_slice()).is_ok());
+    let decoded = expect_ok!(rt; Multihash::<S>::scale_decode(&mut buffer.as_slice()));
+    check!(rt; decoded == *m);
 }
 
-fn expect_no_memory<const S: usize>(rt: &impl Abort, alloc: Global) -> Result<(), Fail>
+fn expect_no_memory<const S: usize>(rt: &impl Abort, alloc: Global)
     requires { S < 2 ^ 16 }
 {
     for code in USUAL {
-        let m = Multihash::<S>::wrap(code, &[65; 32])?;
-        expect_parts(rt, &m)?;
-        expect_forms(rt, alloc, &m)?;
+        let m = expect_ok!(rt; Multihash::<S>::wrap(code, &[65; 32]));
+        let mut buffer = [0u8; 64];
+        let len = expect_ok!(rt; m.write(&mut buffer.as_mut_slice()));
+        check_eq!(rt; len, m.encoded_len());
+        let bytes = buffer.get(..len).unwrap_or(&[]);
+        expect_parts(rt, &m);
+        expect_read(rt, alloc, &m, bytes);
+        expect_varints(rt, code, bytes);
+        expect_written(rt, &m);
     }
-    Ok(())
 }
 
 // Passes also if each allocation fails, since none of these calls makes one. So do those below.
 #[test]
-fn usual_values_need_no_memory(rt: HostRuntime) -> Result<(), Fail> {
-    expect_no_memory::<32>(&rt, rt.alloc())?;
-    expect_no_memory::<64>(&rt, rt.alloc())?;
-    expect_no_memory::<300>(&rt, rt.alloc())
+fn usual_values_need_no_memory(rt: HostRuntime) {
+    expect_no_memory::<32>(&rt, rt.alloc());
+    expect_no_memory::<64>(&rt, rt.alloc());
+    expect_no_memory::<300>(&rt, rt.alloc());
 }
 
 fn expect_slices(rt: &impl Abort) {
@@ -328,18 +342,28 @@ fn slices_and_laws_need_no_memory(rt: HostRuntime) {
     laws::json_unique();
 }
 
+fn expect_own_error(rt: &impl Abort) {
+    let e = Error::from(no_std_io::Error::other("x"));
+    check!(rt; matches!(e.io(), Some(e) if e.is_other() && e.text() == "x" && !e.is_write_zero()));
+    check!(rt; !e.is_overflow() && !e.is_insufficient() && !e.is_not_minimal());
+    check!(rt; e.invalid_size().is_none() && e.invalid_code().is_none() && !e.is_incomplete());
+}
+
+fn expect_out_of_memory(rt: &impl Abort) {
+    let e = Error::from(no_std_io::Error::out_of_memory());
+    check_eq!(rt; ErrorKind::of(&e), Some(ErrorKind::OutOfMemory));
+    check!(rt; !e.is_incomplete() && !e.is_not_bytes());
+}
+
 #[test]
 fn errors_need_no_memory(rt: HostRuntime) {
-    let e = Error::from(no_std_io::Error::other("x"));
-    check!(&rt; matches!(e.io(), Some(e) if e.is_other() && e.text() == "x" && !e.is_write_zero()));
-    check!(&rt; !e.is_overflow() && !e.is_insufficient() && !e.is_not_minimal());
-    check!(&rt; e.invalid_size().is_none() && e.invalid_code().is_none() && !e.is_incomplete());
-    let e = Error::from(no_std_io::Error::out_of_memory());
-    check_eq!(&rt; ErrorKind::of(&e), Some(ErrorKind::OutOfMemory));
-    check!(&rt; !e.is_incomplete() && !e.is_not_bytes());
+    expect_own_error(&rt);
+    expect_out_of_memory(&rt);
     let empty = Value::Array(Vec::new(rt.alloc()));
-    check!(&rt; is_rejected(&Multihash::<4>::from_value(&empty), ErrorKind::Insufficient));
-    check!(&rt; is_rejected(&Multihash::<4>::from_value(&Value::Null), ErrorKind::NotBytes));
+    let empty = Multihash::<4>::from_value(&empty);
+    expect_rejected!(&rt; &empty, ErrorKind::Insufficient, ());
+    let null = Multihash::<4>::from_value(&Value::Null);
+    expect_rejected!(&rt; &null, ErrorKind::NotBytes, ());
     let failed = Multihash::<4>::wrap(u64::MAX, &[]);
-    check!(&rt; is_rejected(&failed, ErrorKind::InvalidCode(u64::MAX)));
+    expect_rejected!(&rt; &failed, ErrorKind::InvalidCode(u64::MAX), ());
 }

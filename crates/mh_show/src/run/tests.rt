@@ -126,10 +126,8 @@ fn expect_run(
     wanted: (u8, &[u8], &[u8]),
     calls: (usize, usize, usize),
 ) {
-    let (status, shown, told) = wanted;
-    assert_eq!(rt; run(rt.alloc(), &mut input, &mut out, &mut err), status);
-    assert_eq!(rt; out.written(), shown);
-    assert_eq!(rt; err.written(), told);
+    let status = run(rt.alloc(), &mut input, &mut out, &mut err);
+    assert_eq!(rt; (status, out.written(), err.written()), wanted);
     assert_eq!(rt; (input.calls, out.calls, err.calls), calls);
 }
 
