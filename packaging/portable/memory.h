@@ -37,9 +37,13 @@ enum block { OWN, INPUT, OTHER, OUT };
 #define RESULT ((u64)STACK_SIZE)
 #define OWN_SIZE (STACK_SIZE + 64)
 
+/* What a call is for: any input, or only short input. In the second case it may end with nothing done. */
+enum purpose { ANY_INPUT, SHORT_INPUT, NOTHING_DONE };
+
 typedef struct memory {
     u64 w2c___stack_pointer; /* with the next one, what the module has as globals, by wasm2c's names */
     u32 w2c_in_call;
+    u32 purpose; /* set only for functions that end early by it */
     const u8 *input, *other;
     u8 *out;
     u64 input_length, other_length, out_length;
@@ -55,6 +59,14 @@ typedef struct memory {
 #define ALWAYS_INLINE static inline
 #define APART static
 #endif
+
+/* Whether the call ends here, as it is only for short input. */
+ALWAYS_INLINE int is_left(memory *call)
+{
+    if (call->purpose == ANY_INPUT) return 0;
+    call->purpose = NOTHING_DONE;
+    return 1;
+}
 
 /* Whether the `size` bytes at an offset are in a block of that length. */
 ALWAYS_INLINE int within(u64 offset, u64 size, u64 length)

@@ -56,8 +56,8 @@ static void w2c_multihash_from_bytes(memory*, u64, u64, u64);
 static void w2c_rattle__export_multihash_from_bytes(memory*, u64, u64, u64);
 static void w2c_multihash_from_prefix(memory*, u64, u64, u64, u64);
 static void w2c_rattle__export_multihash_from_prefix(memory*, u64, u64, u64, u64);
-static void w2c_multihash_head(memory*, u64, u64, u64);
-static void w2c_rattle__export_multihash_head(memory*, u64, u64, u64);
+ALWAYS_INLINE void w2c_multihash_head(memory*, u64, u64, u64);
+ALWAYS_INLINE void w2c_rattle__export_multihash_head(memory*, u64, u64, u64);
 static void w2c_multihash_read(memory*, u64, u64, u64);
 static void w2c_rattle__export_multihash_read(memory*, u64, u64, u64);
 static void w2c_multihash_read_limit(memory*, u64, u64, u64, u64);
@@ -2884,6 +2884,7 @@ static void w2c_rattle__export_multihash_from_bytes(memory* instance, u64 w2c_p0
   w2c_j0 += w2c_j1;
   w2c_j1 = w2c_l4;
   w2c_j2 = w2c_p2;
+  if (is_left(instance)) return;
   w2c_multihash_c__decode__longer(instance, w2c_j0, w2c_j1, w2c_j2);
   w2c_j0 = w2c_l3;
   w2c_j1 = 48ull;
@@ -3398,7 +3399,7 @@ static void w2c_rattle__export_multihash_from_prefix(memory* instance, u64 w2c_p
   instance->w2c___stack_pointer = w2c_j0;
 }
 
-static void w2c_multihash_head(memory* instance, u64 w2c_p0, u64 w2c_p1, u64 w2c_p2) {
+ALWAYS_INLINE void w2c_multihash_head(memory* instance, u64 w2c_p0, u64 w2c_p1, u64 w2c_p2) {
   u32 w2c_i0;
   u64 w2c_j0, w2c_j1, w2c_j2;
   w2c_i0 = w2c___rattle_enter(instance);
@@ -3414,7 +3415,7 @@ static void w2c_multihash_head(memory* instance, u64 w2c_p0, u64 w2c_p1, u64 w2c
   w2c___rattle_leave(instance);
 }
 
-static void w2c_rattle__export_multihash_head(memory* instance, u64 w2c_p0, u64 w2c_p1, u64 w2c_p2) {
+ALWAYS_INLINE void w2c_rattle__export_multihash_head(memory* instance, u64 w2c_p0, u64 w2c_p1, u64 w2c_p2) {
   u32 w2c_l6 = 0;
   u64 w2c_l3 = 0, w2c_l4 = 0, w2c_l5 = 0, w2c_l7 = 0, w2c_l8 = 0;
   u32 w2c_i0, w2c_i1, w2c_i3;
@@ -3478,6 +3479,7 @@ static void w2c_rattle__export_multihash_head(memory* instance, u64 w2c_p0, u64 
   w2c_j0 += w2c_j1;
   w2c_j1 = w2c_p1;
   w2c_j2 = w2c_p2;
+  if (is_left(instance)) return;
   w2c_multihash_c__decode__longer(instance, w2c_j0, w2c_j1, w2c_j2);
   w2c_j0 = w2c_l3;
   w2c_j1 = 48ull;

@@ -48,6 +48,16 @@ static inline multihash_decoded decoded(const memory *call)
     return result;
 }
 
+static inline multihash_front front(const memory *call)
+{
+    multihash_front result;
+    result.status = status(call);
+    result.code = field(call, 1);
+    result.digest_length = field(call, 2);
+    result.taken = (size_t)field(call, 3);
+    return result;
+}
+
 static inline multihash_encoded encoded(const memory *call)
 {
     multihash_encoded result;
@@ -62,6 +72,7 @@ multihash_decoded multihash_from_bytes(const uint8_t *bytes, size_t bytes_length
     memory call;
     u8 own[OWN_SIZE];
     begin(&call, own, bytes, bytes_length, NULL, 0, NULL, 0);
+    call.purpose = ANY_INPUT;
     w2c_multihash_from_bytes(&call, RESULT, ADDRESS(INPUT), bytes_length);
     return decoded(&call);
 }
@@ -93,18 +104,25 @@ multihash_decoded multihash_read_limit(const uint8_t *bytes, size_t bytes_length
     return decoded(&call);
 }
 
+/* Decodes input that is not short, apart: so the call for short input saves no registers. */
+APART multihash_front head_of_longer(const uint8_t *bytes, size_t bytes_length)
+{
+    memory call;
+    u8 own[OWN_SIZE];
+    begin(&call, own, bytes, bytes_length, NULL, 0, NULL, 0);
+    call.purpose = ANY_INPUT;
+    w2c_multihash_head(&call, RESULT, ADDRESS(INPUT), bytes_length);
+    return front(&call);
+}
+
 multihash_front multihash_head(const uint8_t *bytes, size_t bytes_length)
 {
     memory call;
     u8 own[OWN_SIZE];
-    multihash_front result;
     begin(&call, own, bytes, bytes_length, NULL, 0, NULL, 0);
+    call.purpose = SHORT_INPUT;
     w2c_multihash_head(&call, RESULT, ADDRESS(INPUT), bytes_length);
-    result.status = status(&call);
-    result.code = field(&call, 1);
-    result.digest_length = field(&call, 2);
-    result.taken = (size_t)field(&call, 3);
-    return result;
+    return call.purpose == NOTHING_DONE ? head_of_longer(bytes, bytes_length) : front(&call);
 }
 
 multihash_decoded multihash_scale_decode(const uint8_t *bytes, size_t bytes_length)
