@@ -54,9 +54,11 @@ typedef struct memory {
  * rare inputs need is compiled apart. */
 #if defined(__GNUC__)
 #define ALWAYS_INLINE static inline __attribute__((always_inline))
-#define APART static __attribute__((noinline, cold))
+#define OUT_OF_LINE static __attribute__((noinline))
+#define APART OUT_OF_LINE __attribute__((cold))
 #else
 #define ALWAYS_INLINE static inline
+#define OUT_OF_LINE static
 #define APART static
 #endif
 

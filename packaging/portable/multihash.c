@@ -104,8 +104,8 @@ multihash_decoded multihash_read_limit(const uint8_t *bytes, size_t bytes_length
     return decoded(&call);
 }
 
-/* Decodes input that is not short, apart: so the call for short input saves no registers. */
-APART multihash_front head_of_longer(const uint8_t *bytes, size_t bytes_length)
+/* Decodes input that is not short, out of line: so the call for short input saves no registers. */
+OUT_OF_LINE multihash_front head_of_longer(const uint8_t *bytes, size_t bytes_length)
 {
     memory call;
     u8 own[OWN_SIZE];
