@@ -1,18 +1,17 @@
 -- Pairs of words of eight bytes, which are compared as numbers.
-use Rattle.std.proofs.Common.{◌≡◌, ◌+◌, ◌<◌, ◌≤◌, ℕ, zero, suc, List, [], ◌∷◌, ◌++◌, length, take, drop, get_or, refl, sym, ap, ◌∙◌, subst, arith, w64, get_or-drop}
-use Rattle.std.proofs.lemmas.List.{take-append-drop, take-take, drop-take, drop-drop}
+use Rattle.std.proofs.Common.{◌≡◌, ◌+◌, ◌<◌, ◌≤◌, ℕ, List, ◌++◌, inl, inr, length, take, drop, get_or, refl, sym, ap, ◌∙◌, subst, arith, w64, get_or-drop}
+use Rattle.std.proofs.lemmas.Bool.{cases_lt}
+use Rattle.std.proofs.lemmas.List.{take-append-drop, take-take, drop-take, drop-drop, get_or-take, get_or_past, length-take}
 use Rattle.std.proofs.lemmas.Nat.{le_bytes_8}
 use Rattle.std.proofs.lemmas.Simd.{length-chunk}
 use Rattle.std.specs.Int.{from_le_bytes, to_le_bytes}
 use Rattle.multihash.proofs.Values.WindowLemmas.{window}
 
-take_bytes : (n : ℕ) (l : List ℕ) → ((i : ℕ) → get_or l i 0 < 256) → (i : ℕ) → get_or (take n l) i 0 < 256
-take_bytes zero l each zero = let low : 0 < 256 = omega arith in low
-take_bytes zero l each (suc i) = let low : 0 < 256 = omega arith in low
-take_bytes (suc n) [] each zero = let low : 0 < 256 = omega arith in low
-take_bytes (suc n) [] each (suc i) = let low : 0 < 256 = omega arith in low
-take_bytes (suc n) (x ∷ l) each zero = each 0
-take_bytes (suc n) (x ∷ l) each (suc i) = take_bytes n l (λ k. each (suc k)) i
+pub take_bytes : (n : ℕ) (l : List ℕ) → ((i : ℕ) → get_or l i 0 < 256) → (i : ℕ) → get_or (take n l) i 0 < 256
+take_bytes n l each i = elim (cases_lt i n) [
+  | inl below ↦ rw (get_or-take n l i 0 below) (each i)
+  | inr past ↦ rw (get_or_past (take n l) i 0 (omega (arith, length-take n l, past))) (omega arith)
+]
 
 window_bytes : (n at : ℕ) (l : List ℕ) → ((i : ℕ) → get_or l i 0 < 256) → (i : ℕ) → get_or (window n at l) i 0 < 256
 window_bytes n at l each = take_bytes n (drop at l) (λ i. subst (λ (b : ℕ). b < 256) (sym (get_or-drop at l i 0)) (each (at + i)))

@@ -1,8 +1,7 @@
 -- Where the digest is in the input, what decoding the SCALE form consumed, and what an error reports.
-use Rattle.std.proofs.Common.{◌≡◌, ℕ, ◌+◌, ◌<◌, ◌≤◌, ◌^◌, List, [], ◌∷◌, ◌++◌, length, get_or, take, drop, ap, sym, ◌∙◌, subst, arith, refl, inl, inr, append_assoc, append-nil, take-append-drop, length-append, length-drop}
+use Rattle.std.proofs.Common.{◌≡◌, ℕ, ◌+◌, ◌<◌, ◌≤◌, ◌^◌, List, [], ◌∷◌, ◌++◌, length, get_or, take, drop, ap, sym, ◌∙◌, subst, arith, refl, inl, inr, append_assoc, append-nil, take-append-drop, length-drop}
 use Rattle.std.specs.Int.{from_le_bytes, w64}
-use Rattle.std.proofs.lemmas.Bool.{cases_lt}
-use Rattle.std.proofs.lemmas.List.{length-take-le, take_all, get_or_past, get_or-take, get_or-drop, drop_more}
+use Rattle.std.proofs.lemmas.List.{length-take-le, take_all, get_or-drop, drop_more, drop-drop}
 use Rattle.std.proofs.lemmas.List.Elements.{All-head, All-drop}
 use Rattle.std.proofs.Math.Seq.{drop-append_seam, take-append_seam}
 use Rattle.multihash.specs.Bytes.{IsBytes}
@@ -11,33 +10,13 @@ use Rattle.multihash.specs.Scale.{IsScaleCode, IsScale, HasScaleSize, HasScaleVe
 use Rattle.multihash.specs.Varint.{varint_limit}
 use Rattle.multihash.specs.Verdict.{accepted, invalid_size, invalid_code, unexpected_eof}
 use Rattle.multihash.proofs.Forms.ScaleLemmas.{code_read, scale_of, scale_length}
+use Rattle.multihash_c.proofs.ComparedLemmas.{take_bytes}
 use Rattle.multihash_c.specs.declared.decode.Decoded.{Decoded}
 use Rattle.multihash_c.specs.Decoded.{ReportsPair, ConsumesForm}
 
 -- what was consumed is the front
 pub taken_front : (input front left : List ℕ) (taken : ℕ) → input ≡ front ++ left → taken ≡ length front → take taken input ≡ front
 taken_front input front left taken cut long = rw (long, cut) (take-append_seam front left)
-
--- the digest follows a front of that many bytes
-after_front : (input front digest rest : List ℕ) (offset n : ℕ) → input ≡ front ++ (digest ++ rest) → offset ≡ length front
-    → n ≡ length digest → digest ≡ take n (drop offset input)
-after_front input front digest rest offset n cut at long =
-    rw (at, long, cut, drop-append_seam front (digest ++ rest)) (sym (take-append_seam digest rest))
-
--- the digest ends the bytes that were consumed
-pub stands_at_end : (input front digest rest : List ℕ) (offset n taken : ℕ) → input ≡ (front ++ digest) ++ rest
-    → n ≡ length digest → taken ≡ length (front ++ digest) → offset + n ≡ taken → digest ≡ take n (drop offset input)
-stands_at_end input front digest rest offset n taken cut long all ends =
-    after_front input front digest rest offset n (cut ∙ append_assoc front digest rest) (omega (arith, long, all, ends, length-append front digest)) long
-
--- the digest ends the SCALE form
-pub form_stands : (p : Pair) (input bytes rest : List ℕ) (offset n taken : ℕ) → IsScale p bytes → input ≡ bytes ++ rest
-    → n ≡ length p.digest → taken ≡ length bytes → offset + n ≡ taken → p.digest ≡ take n (drop offset input)
-form_stands p input bytes rest offset n taken e cut long all ends =
-    let spelled : bytes ≡ (e.code ++ (length p.digest ∷ [])) ++ p.digest =
-    e.spelled ∙ sym (append_assoc e.code (length p.digest ∷ []) p.digest) in
-    stands_at_end input (e.code ++ (length p.digest ∷ [])) p.digest rest offset n taken (cut ∙ ap (λ (z : List ℕ). z ++ rest) spelled)
-    long (all ∙ ap length spelled) ends
 
 -- a digest that ends what was consumed has the reported length
 pub reported_length : (input : List ℕ) (d : Decoded) (p : Pair) → ReportsPair input d p → d.digest_length ≡ length p.digest
@@ -65,14 +44,8 @@ module _ (input front rest : List ℕ) (code : ℕ) (parts : (front ≡ take 8 i
   eight : length front ≡ 8
   eight = ap length parts.0 ∙ length-take-le 8 input (omega (arith, parts.2))
 
-  front_byte : (i : ℕ) → get_or front i 0 < 256
-  front_byte i = elim (cases_lt i 8) [
-    | inl below ↦ rw (parts.0, get_or-take 8 input i 0 below) (each i)
-    | inr past ↦ rw (get_or_past front i 0 (omega (arith, eight, past))) (omega arith)
-  ]
-
   is_code : IsScaleCode code front
-  is_code = code_read front code eight front_byte (omega (arith, range)) read
+  is_code = code_read front code eight (λ i. rw parts.0 (take_bytes 8 input each i)) (omega (arith, range)) read
 
   cut : input ≡ front ++ rest
   cut = rw (parts.0, parts.1) (sym (take-append-drop 8 input))
@@ -118,10 +91,11 @@ module _ (input front rest : List ℕ) (code : ℕ) (parts : (front ≡ take 8 i
           let form : IsScale p bytes = scale_of p size front digest is_code below (sym there) byte refl in
           let whole : input ≡ bytes ++ following =
           has_size.cut ∙ (ap (λ (z : List ℕ). front ++ size ∷ z) (sym (take-append-drop size (drop 1 rest))) ∙ sym (append_assoc front (size ∷ digest) following)) in
+          let start : offset ≡ 9 = omega (arith, exact, all, ends) in
           let count : taken ≡ length bytes = omega (arith, all, there, scale_length p bytes form) in (
             p,
             refl,
             (bytes, following, form, omega (arith, there, byte), whole),
-            form_stands p input bytes following offset n taken form whole (omega (arith, exact, there)) count ends,
+            rw (exact, start) (ap (λ (z : List ℕ). take size z) (ap (λ (z : List ℕ). drop 1 z) parts.1 ∙ drop-drop 1 8 input)),
             subst (λ (z : List ℕ). IsScale p z) (sym (taken_front input bytes following taken whole count)) form,
           )

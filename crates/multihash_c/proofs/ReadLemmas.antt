@@ -9,6 +9,7 @@ use Rattle.multihash.specs.Varint.{VarintError, insufficient, overflow, not_mini
 use Rattle.multihash.specs.Verdict.{Verdict, accepted, invalid_size, malformed, unexpected_eof, BeginsWith, HasVerdict, HasWholeVerdict, IsIncomplete, HasHead}
 use Rattle.multihash.specs.Refusal.{Refusal}
 use Rattle.multihash.specs.Consuming.{IsHeadError}
+use Rattle.multihash.specs.Settling.{IsShortestSettling}
 use Rattle.multihash.proofs.Varints.VarintLemmas.{varint_longest}
 use Rattle.multihash.proofs.Readings.VerdictLemmas.{verdict_unique, pair_begins, sized}
 use Rattle.multihash.proofs.Readings.SettlingLemmas.{verdict_kept, shortest_pair, shortest_size}
@@ -21,28 +22,23 @@ other_kind : (S : ℕ) (x : List ℕ) (v w : Verdict) → HasVerdict S x v → H
 other_kind S x v w has also early late = late (subst IsIncomplete (verdict_unique S x w v also has) early)
 
 module _ (limit code size len : ℕ) (input : List ℕ) (h : HasHead code size len input) (d : Decoded) where
-  varints : List ℕ
-  varints = h.varints.code_bytes ++ h.varints.size_bytes
-
-  cut_at_digest : d.taken ≡ len → input ≡ varints ++ drop d.taken input
-  unfolding varints
-  cut_at_digest at =
-      h.varints.cut ∙ sym (append_assoc h.varints.code_bytes h.varints.size_bytes (drop len input))
-      ∙ ap (λ n. (h.varints.code_bytes ++ h.varints.size_bytes) ++ drop n input) (sym at)
+  -- a verdict that is not incomplete, after its shortest prefix
+  complete_read : (v : Verdict) (front : List ℕ) → HasVerdict limit input v → ¬ (IsIncomplete v) → Reports input d v → d.taken ≤ length input
+      → IsShortestSettling limit input front → input ≡ front ++ drop d.taken input → ReadsWithin limit input d
+  complete_read v front has late reports inside shortest cut = record {
+    verdict = (v, has, reports);
+    inside = inside;
+    settled = λ _ _ _. record { front = front; shortest = shortest; consumes = ap Some cut };
+    insufficient = λ also. absurd (other_kind limit input v (malformed insufficient) has also tt late);
+    cut = λ also. absurd (other_kind limit input v unexpected_eof has also tt late);
+  }
 
   -- a size that is too large
   pub size_read : digest_limit limit < size → d.taken ≡ len → Reports input d (invalid_size size) → ReadsWithin limit input d
-  unfolding varints
   size_read over at reports =
-      let has : HasVerdict limit input (invalid_size size) = (drop len input, h.varints, over) in
-      record {
-        verdict = (invalid_size size, has, reports);
-        inside = omega (arith, h.within, at);
-        settled = λ v also late.
-            record { front = varints; shortest = shortest_size limit size input (drop len input) h.varints over; consumes = ap Some (cut_at_digest at) };
-        insufficient = λ also. absurd (other_kind limit input (invalid_size size) (malformed insufficient) has also tt (λ e. e));
-        cut = λ also. absurd (other_kind limit input (invalid_size size) unexpected_eof has also tt (λ e. e));
-      }
+      complete_read (invalid_size size) (h.varints.code_bytes ++ h.varints.size_bytes) (drop len input, h.varints, over) (λ early. early) reports
+      (omega (arith, h.within, at)) (shortest_size limit size input (drop len input) h.varints over)
+      (rw at (h.varints.cut ∙ sym (append_assoc h.varints.code_bytes h.varints.size_bytes (drop len input))))
 
   -- a truncated digest
   pub end_read : size ≤ digest_limit limit → length input - len < size → d.taken ≡ len → Reports input d unexpected_eof → ReadsWithin limit input d
@@ -53,10 +49,7 @@ module _ (limit code size len : ℕ) (input : List ℕ) (h : HasHead code size l
         verdict = (unexpected_eof, has, reports);
         inside = omega (arith, h.within, at);
         settled = λ v also late. absurd (other_kind limit input v unexpected_eof also has tt late);
-        insufficient = λ also.
-            let same : unexpected_eof ≡ malformed insufficient =
-            verdict_unique limit input unexpected_eof (malformed insufficient) has also in
-            absurd (cc);
+        insufficient = λ also. absurd (cc (verdict_unique limit input unexpected_eof (malformed insufficient) has also));
         cut = λ also. (code, size, subst (λ n. HasHead code size n input) (sym at) h);
       }
 
@@ -72,35 +65,21 @@ module _ (limit code size len : ℕ) (input : List ℕ) (h : HasHead code size l
       pair_begins size input (drop len input) h.varints p.digest rest long (sym (take-append-drop size (drop len input))) in
       let left : rest ≡ drop d.taken input = drop-drop size len input ∙ ap (λ n. drop n input) (sym at) in
       let fits : length p.digest ≤ digest_limit limit = omega (arith, long, within) in
-      let has : HasVerdict limit input (accepted p) = (rest, begins, fits) in
-      record {
-        verdict = (accepted p, has, reports p h.is_code refl);
-        inside = omega (arith, there, at);
-        settled = λ v also late. record {
-          front = begins.encoding;
-          shortest = shortest_pair limit p input rest begins fits;
-          consumes = ap Some (begins.cut ∙ ap (λ (z : List ℕ). begins.encoding ++ z) left);
-        };
-        insufficient = λ also. absurd (other_kind limit input (accepted p) (malformed insufficient) has also tt (λ e. e));
-        cut = λ also. absurd (other_kind limit input (accepted p) unexpected_eof has also tt (λ e. e));
-      }
+      complete_read (accepted p) begins.encoding (rest, begins, fits) (λ early. early) (reports p h.is_code refl) (omega (arith, there, at))
+      (shortest_pair limit p input rest begins fits) (begins.cut ∙ ap (λ (z : List ℕ). begins.encoding ++ z) left)
 
 -- ---- a varint is malformed
 
 module _ (input : List ℕ) (e : Refusal) (taken : ℕ) (h : IsHeadError input e taken) (limit : ℕ) where
-  same_error : (f : VarintError) → HasVerdict limit input (malformed f) → h.error ≡ f
-  same_error f also = let same = verdict_unique limit input (malformed h.error) (malformed f) (h.verdict limit) also in cc
-
   pub error_read : (d : Decoded) → d.taken ≡ taken → ReportsError d (status_of_error h.error) 0 0 → ReadsWithin limit input d
   error_read d at reports = record {
     verdict = (malformed h.error, h.verdict limit, reports);
     inside = omega (arith, h.within, at);
     settled = λ v also late.
         rw at (h.settled limit (λ early. other_kind limit input v (malformed h.error) also (h.verdict limit) early late));
-    insufficient = λ also. at ∙ h.insufficient (same_error insufficient also);
-    cut = λ also.
-        let same = verdict_unique limit input (malformed h.error) unexpected_eof (h.verdict limit) also in
-        absurd (cc);
+    insufficient = λ also.
+        let same = verdict_unique limit input (malformed h.error) (malformed insufficient) (h.verdict limit) also in at ∙ h.insufficient (cc);
+    cut = λ also. absurd (cc (verdict_unique limit input (malformed h.error) unexpected_eof (h.verdict limit) also));
   }
 
 -- ---- the whole input, by its first bytes

@@ -9,16 +9,14 @@ returns-in_default c =
 
 pub returns-then-head-limit : goal.returns-then-head-limit
 returns-then-head-limit c =
-    let input = c.args.bytes.now in
-    size_read c.args.limit c.in-Some.head.code c.in-Some.head.digest_len c.in-Some.head.digest_offset input c.in-Some.ensures.some c.rejected_size.result
+    size_read c.args.limit _ _ _ c.args.bytes.now c.in-Some.ensures.some c.rejected_size.result
     (elim c.then-head-limit.either [ inl long ↦ omega (arith, long) | inr (_, long) ↦ omega (arith, long) ])
-    c.rejected_size.ensures.taken (c.rejected_size.ensures.reports input)
+    c.rejected_size.ensures.taken (c.rejected_size.ensures.reports c.args.bytes.now)
 
 pub returns-then-bytes-head : goal.returns-then-bytes-head
 returns-then-bytes-head c =
-    let input = c.args.bytes.now in
-    end_read c.args.limit c.in-Some.head.code c.in-Some.head.digest_len c.in-Some.head.digest_offset input c.in-Some.ensures.some c.rejected_end.result
-    (omega (arith, c.if-head-limit.false, c.if-head.false)) c.if-bytes-head.true c.rejected_end.ensures.taken (c.rejected_end.ensures.reports input)
+    end_read c.args.limit _ _ _ c.args.bytes.now c.in-Some.ensures.some c.rejected_end.result (omega (arith, c.if-head-limit.false, c.if-head.false))
+    c.if-bytes-head.true c.rejected_end.ensures.taken (c.rejected_end.ensures.reports c.args.bytes.now)
 
 pub returns : goal.returns
 returns c =
@@ -27,6 +25,5 @@ returns c =
     let outcome = c.accept.result in
     let at : outcome.digest_offset ≡ c.in-Some.head.digest_offset = omega (arith, c.accept.ensures.offset) in
     let there : c.in-Some.head.digest_offset + c.in-Some.head.digest_len ≤ length input = omega (arith, head.within, c.if-bytes-head.false) in
-    reads_encoding c.args.limit c.in-Some.head.code c.in-Some.head.digest_len c.in-Some.head.digest_offset input head outcome
-    (omega (arith, c.if-head-limit.false, c.if-head.false)) there c.accept.ensures.taken
+    reads_encoding c.args.limit _ _ _ input head outcome (omega (arith, c.if-head-limit.false, c.if-head.false)) there c.accept.ensures.taken
     (λ p code is. c.accept.ensures.reports input p code there (rw (c.accept.ensures.length, at) is))

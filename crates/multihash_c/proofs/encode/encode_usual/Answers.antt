@@ -1,11 +1,10 @@
-use Rattle.std.proofs.Common.{◌≡◌, ◌≤◌, ◌<◌, ℕ, List, [], ◌∷◌, ◌++◌, length, drop, refl, sym, ap, ◌∙◌, arith}
+use Rattle.std.proofs.Common.{◌≡◌, ℕ, List, [], ◌∷◌, ◌++◌, length, drop, refl, sym, ap, ◌∙◌, inl, inr, arith}
 use Rattle.std.proofs.lemmas.Grind.{common_steps}
 use Rattle.multihash.specs.Pair.{Pair}
-use Rattle.multihash.specs.Varint.{varint_limit}
 use Rattle.multihash.specs.Encoding.{IsEncoding}
 use Rattle.multihash.proofs.Varints.VarintWriteLemmas.{one_byte}
 use Rattle.multihash.proofs.Writings.EncodingLemmas.{encoding_of_parts, encoding_same}
-use Rattle.multihash_c.proofs.EncodedLemmas.{writes_all, writes_none}
+use Rattle.multihash_c.proofs.EncodedLemmas.{writes_form}
 use Rattle.multihash_c.proofs.encode.encode_usual.Goals as goal
 use Rattle.multihash_c.proofs.encode.encode_usual.Goals.{then-out-ge-USUAL_ENCODING, else-out-ge-USUAL_ENCODING}
 
@@ -17,22 +16,14 @@ returns c =
     let new = c.if-out-ge-USUAL_ENCODING.out in
     let bytes : List ℕ = c.args.code ∷ 32 ∷ digest in
     let usual : length digest ≡ 32 = c.requires.usual in
-    let fits : length p.digest ≤ 255 = omega (arith, usual) in
-    let small : p.code < varint_limit = omega (arith, c.requires.small) in
     let form : IsEncoding p bytes =
     encoding_of_parts p c.args.code 32 digest (c.args.code ∷ []) (32 ∷ []) refl (sym usual) refl (one_byte c.args.code c.requires.small) (one_byte 32 (omega arith)) in
-    let counted = c.count.ensures in
     let long : length bytes ≡ 34 = omega (arith, usual) in
-    let told : (z : List ℕ) → IsEncoding p z → c.count.result.length ≡ length z =
-    λ z e. counted.length ∙ (sym long ∙ ap (λ (y : List ℕ). length y) (encoding_same p bytes z form e)) in
-    elim c.if-out-ge-USUAL_ENCODING.branch [
+    writes_form IsEncoding p old new _ c.count.result (omega (arith, usual)) (omega (arith, c.requires.small)) c.count.ensures
+    c.if-out-ge-USUAL_ENCODING.auto.out (λ other is_other. sym long ∙ ap (λ (y : List ℕ). length y) (encoding_same p bytes other form is_other))
+    (elim c.if-out-ge-USUAL_ENCODING.branch [
       | then-out-ge-USUAL_ENCODING w ↦
-          let there = w.if-out-ge-USUAL_ENCODING.true in
           let appends : new ≡ bytes ++ drop (length bytes) old = grind (arith, common_steps) in
-          writes_all IsEncoding p fits small old new c.count.result counted.no_size told bytes form appends
-          (omega (arith, counted.length, there)) (counted.fits (omega (arith, c.if-out-ge-USUAL_ENCODING.auto.out, there)))
-      | else-out-ge-USUAL_ENCODING w ↦
-          let less = w.if-out-ge-USUAL_ENCODING.false in
-          writes_none IsEncoding p fits small old new c.count.result counted.no_size told bytes form
-          (omega (arith, counted.length, less)) (counted.no_room (omega (arith, c.if-out-ge-USUAL_ENCODING.auto.out, less))) w.out-is
-    ]
+          (bytes, form, inl (w.if-out-ge-USUAL_ENCODING.true, appends))
+      | else-out-ge-USUAL_ENCODING w ↦ (bytes, form, inr (w.if-out-ge-USUAL_ENCODING.false, w.out-is))
+    ])

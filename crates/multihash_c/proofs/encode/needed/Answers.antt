@@ -1,19 +1,6 @@
 use Rattle.std.proofs.Common.{◌++◌, refl, sym, arith}
 use Rattle.multihash.proofs.Writings.EncodingLemmas.{encoding_of_parts, length-parts}
-use Rattle.multihash.proofs.Varints.VarintLemmas.{varint_longest}
 use Rattle.multihash_c.proofs.encode.needed.Goals as goal
-
-pub overflow_add-result : goal.overflow_add-result
-overflow_add-result c =
-    let a = c.in-Ok-Ok.ensures.ok in
-    let b = c.in-Ok-Ok.ensures'.ok in
-    record { fits = omega (arith, a.2, varint_longest _ a.0 a.1, b.2, varint_longest _ b.0 b.1) }
-
-pub overflow_add-result-in-Ok-Ok : goal.overflow_add-result-in-Ok-Ok
-overflow_add-result-in-Ok-Ok c =
-    let a = c.in-Ok-Ok.ensures.ok in
-    let b = c.in-Ok-Ok.ensures'.ok in
-    record { fits = omega (arith, a.2, varint_longest _ a.0 a.1, b.2, varint_longest _ b.0 b.1, c.if-digest_length-gt-DIGEST_MAX.false) }
 
 pub returns-in-Ok-Ok-clause-ok : goal.returns-in-Ok-Ok-clause-ok
 returns-in-Ok-Ok-clause-ok c =
