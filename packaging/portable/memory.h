@@ -37,13 +37,13 @@ enum block { OWN, INPUT, OTHER, OUT };
 #define RESULT ((u64)STACK_SIZE)
 #define OWN_SIZE (STACK_SIZE + 64)
 
-/* What a call is for: any input, or only short input. In the second case it may end with nothing done. */
-enum purpose { ANY_INPUT, SHORT_INPUT, NOTHING_DONE };
+/* What a call reads: any input, or short input only. In the second case longer input ends it, with nothing done. */
+enum reads { ANY_INPUT, SHORT_INPUT, LONGER_INPUT };
 
 typedef struct memory {
     u64 w2c___stack_pointer; /* with the next one, what the module has as globals, by wasm2c's names */
     u32 w2c_in_call;
-    u32 purpose; /* set only for functions that end early by it */
+    u32 reads; /* set only for functions that longer input can end */
     const u8 *input, *other;
     u8 *out;
     u64 input_length, other_length, out_length;
@@ -62,11 +62,11 @@ typedef struct memory {
 #define APART static
 #endif
 
-/* Whether the call ends here, as it is only for short input. */
-ALWAYS_INLINE int is_left(memory *call)
+/* Whether the call ends here, where its input is found to be longer. */
+ALWAYS_INLINE int ends_here(memory *call)
 {
-    if (call->purpose == ANY_INPUT) return 0;
-    call->purpose = NOTHING_DONE;
+    if (call->reads == ANY_INPUT) return 0;
+    call->reads = LONGER_INPUT;
     return 1;
 }
 

@@ -2884,7 +2884,7 @@ static void w2c_rattle__export_multihash_from_bytes(memory* instance, u64 w2c_p0
   w2c_j0 += w2c_j1;
   w2c_j1 = w2c_l4;
   w2c_j2 = w2c_p2;
-  if (is_left(instance)) return;
+  if (ends_here(instance)) return;
   w2c_multihash_c__decode__longer(instance, w2c_j0, w2c_j1, w2c_j2);
   w2c_j0 = w2c_l3;
   w2c_j1 = 48ull;
@@ -3479,7 +3479,7 @@ ALWAYS_INLINE void w2c_rattle__export_multihash_head(memory* instance, u64 w2c_p
   w2c_j0 += w2c_j1;
   w2c_j1 = w2c_p1;
   w2c_j2 = w2c_p2;
-  if (is_left(instance)) return;
+  if (ends_here(instance)) return;
   w2c_multihash_c__decode__longer(instance, w2c_j0, w2c_j1, w2c_j2);
   w2c_j0 = w2c_l3;
   w2c_j1 = 48ull;

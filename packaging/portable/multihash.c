@@ -72,7 +72,7 @@ multihash_decoded multihash_from_bytes(const uint8_t *bytes, size_t bytes_length
     memory call;
     u8 own[OWN_SIZE];
     begin(&call, own, bytes, bytes_length, NULL, 0, NULL, 0);
-    call.purpose = ANY_INPUT;
+    call.reads = ANY_INPUT;
     w2c_multihash_from_bytes(&call, RESULT, ADDRESS(INPUT), bytes_length);
     return decoded(&call);
 }
@@ -110,7 +110,7 @@ OUT_OF_LINE multihash_front head_of_longer(const uint8_t *bytes, size_t bytes_le
     memory call;
     u8 own[OWN_SIZE];
     begin(&call, own, bytes, bytes_length, NULL, 0, NULL, 0);
-    call.purpose = ANY_INPUT;
+    call.reads = ANY_INPUT;
     w2c_multihash_head(&call, RESULT, ADDRESS(INPUT), bytes_length);
     return front(&call);
 }
@@ -120,9 +120,9 @@ multihash_front multihash_head(const uint8_t *bytes, size_t bytes_length)
     memory call;
     u8 own[OWN_SIZE];
     begin(&call, own, bytes, bytes_length, NULL, 0, NULL, 0);
-    call.purpose = SHORT_INPUT;
+    call.reads = SHORT_INPUT;
     w2c_multihash_head(&call, RESULT, ADDRESS(INPUT), bytes_length);
-    return call.purpose == NOTHING_DONE ? head_of_longer(bytes, bytes_length) : front(&call);
+    return call.reads == LONGER_INPUT ? head_of_longer(bytes, bytes_length) : front(&call);
 }
 
 multihash_decoded multihash_scale_decode(const uint8_t *bytes, size_t bytes_length)

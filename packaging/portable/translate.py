@@ -41,7 +41,7 @@ PROVIDED = re.compile(r"^(?:(?:static inline|ALWAYS_INLINE) [^(\n]*?|#define )(\
 INLINED = {"w2c_multihash__varint__word__front_by_word", "w2c_multihash_c__decode__longer",
            "w2c_multihash_c__encode__put_apart", "w2c_multihash_head", "w2c_rattle__export_multihash_head"}
 APART = {"w2c_multihash__varint__word__front_by_short_word", "w2c_multihash_c__decode__error_of"}
-# Called for input that is not short: a call that is only for short input ends there.
+# Called for input that is not short: a call that reads short input only ends there.
 LONGER = re.compile(r"^(?=  w2c_multihash_c__decode__longer\()", re.MULTILINE)
 HEAD = re.compile(r"^static (void|u32|u64) (w2c_\w+)\((.*)\)(;| \{)$", re.MULTILINE)
 KEYWORDS = {"if", "while", "for", "switch", "return", "sizeof"}
@@ -164,7 +164,7 @@ def placed(code: str) -> str:
                 f"  memory call = *instance;\n  {name}_apart(&call{given});\n}}")
 
     need(INLINED | APART <= {it[1] for it in HEAD.findall(code)}, "the module has the functions that are placed")
-    code, ends = LONGER.subn("  if (is_left(instance)) return;\n", code)
+    code, ends = LONGER.subn("  if (ends_here(instance)) return;\n", code)
     need(ends == 2, "two functions call another for input that is not short")
     return HEAD.sub(head, code)
 
