@@ -160,9 +160,9 @@ class Prover:
         for it in (signal.SIGTERM, signal.SIGINT, signal.SIGHUP):
             signal.signal(it, self.end)
 
-    def check(self, home, jobs=1, modules=()):
-        """Checks a crate, or what these modules of it have."""
-        words, pipe = ["rt", "check", "--jobs", str(jobs), *(f"--only={it}" for it in modules)], subprocess.PIPE
+    def check(self, home, modules=()):
+        """Checks a crate, or what these modules of it have. A second job would cost more CPU time and save none."""
+        words, pipe = ["rt", "check", "--jobs", "1", *(f"--only={it}" for it in modules)], subprocess.PIPE
         with subprocess.Popen(words, cwd=home, stdin=subprocess.DEVNULL, stdout=pipe, stderr=subprocess.STDOUT, text=True) as child:
             self.running.add(child)
             if self.is_ended:

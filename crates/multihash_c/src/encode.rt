@@ -99,8 +99,8 @@ pub extern "C" fn multihash_put_status_text(status: u32, out: &mut [u8]) -> Enco
     }
 }
 
-// Writes the encoding of a code of one byte and a digest of the usual length. Each part has a constant place, so
-// nothing is tested but whether all of it fits.
+// Writes the encoding of a code of one byte and a digest of the usual length. Each part has a constant
+// place, so nothing is tested but whether all of it fits.
 #[inline(always)]
 fn encode_usual(code: u64, digest: &[u8], out: &mut [u8]) -> Encoded
     requires small { code < 128 }
