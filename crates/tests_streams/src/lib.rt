@@ -1,9 +1,11 @@
-//! Tests of streams: the readers and writers of the library, lists, and the functions of `uses` and
-//! `storage`.
+//! Tests of streams: the readers and writers of the library, lists, the functions of `uses` and
+//! `storage`, and what the tests stand on.
 #![tactic(auto)]
 
 #[cfg(test)]
 mod content;
+#[cfg(test)]
+mod doubles;
 #[cfg(test)]
 mod headline;
 #[cfg(test)]

@@ -1,9 +1,6 @@
-//! Tests of values in the binary form, SCALE and JSON, of the number of allocations, and of what the tests
-//! stand on.
+//! Tests of values in the binary form, SCALE and JSON, and of the number of allocations.
 #![tactic(auto)]
 
-#[cfg(test)]
-mod doubles;
 #[cfg(test)]
 mod encodings;
 #[cfg(test)]
