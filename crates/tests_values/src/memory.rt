@@ -3,6 +3,7 @@
 //! turn, and counts them.
 ghost use Rattle.std.specs.Prelude.{◌<◌, ◌^◌};
 
+use crate::values::hash_of;
 use fakes::error_kind::{ErrorKind, LARGEST_CODE, is_rejected};
 use fakes::{check, check_eq, expect_bytes, expect_ok, expect_rejected};
 use multihash::list::{read_list, write_list};
@@ -11,10 +12,9 @@ use multihash::{Error, Head, Multihash, laws, varint};
 use serde_json::Value;
 use std::alloc::Global;
 use std::cmp::Ordering;
-use std::hash::{DefaultHasher, Hash, Hasher};
 use std::process::Abort;
 use std::test::Fail;
-use storage::content::hash_of;
+use storage::content;
 use storage::merkle::{root_and_path, verify_path};
 
 const FAILED: &str = "an allocation failed";
@@ -24,56 +24,78 @@ fn unless_rejected<T>(rt: &impl Abort, outcome: Result<T, Error>) -> Result<T, F
     match outcome {
         Ok(outcome) => Ok(outcome),
         Err(e) => {
-            check_eq!(rt; ErrorKind::of(&e), Some(ErrorKind::OutOfMemory));
-            check!(rt; matches!(e.io(), Some(error) if error.text() == "out of memory"));
+            expect_memory_error(rt, &e);
             Err(FAILED)?
         }
     }
 }
 
+// Whether a call succeeded; otherwise it is out of memory.
+fn succeeded<T>(rt: &impl Abort, outcome: &Result<T, Error>) -> bool {
+    if let Err(e) = outcome {
+        expect_memory_error(rt, e);
+    }
+    outcome.is_ok()
+}
+
+// The result of a test whose calls all succeeded, or not.
+fn unless_failed(succeeded: bool) -> Result<(), Fail> {
+    if succeeded { Ok(()) } else { Err(FAILED)? }
+}
+
+fn expect_memory_error(rt: &impl Abort, e: &Error) {
+    check_eq!(rt; ErrorKind::of(e), Some(ErrorKind::OutOfMemory));
+    check!(rt; matches!(e.io(), Some(error) if error.text() == "out of memory"));
+}
+
 // (0, `A`), (18, `B`), and a trailing byte.
 const STREAM: [u8; 7] = [0, 1, 65, 18, 1, 66, 7];
 
-fn two() -> Result<[Multihash<4>; 2], Error> {
-    Ok([Multihash::wrap(0, b"A")?, Multihash::wrap(18, b"B")?])
+fn two(rt: &impl Abort) -> [Multihash<4>; 2] {
+    let first = expect_ok!(rt; Multihash::wrap(0, b"A"));
+    let second = expect_ok!(rt; Multihash::wrap(18, b"B"));
+    [first, second]
 }
 
 // The code 300, and 200 bytes `A`.
-fn long() -> Result<Multihash<200>, Error> {
-    Multihash::wrap(300, &[65; 200])
+fn long(rt: &impl Abort) -> Multihash<200> {
+    expect_ok!(rt; Multihash::wrap(300, &[65; 200]))
 }
 
-// One allocation for each form.
-fn expect_forms_at<const S: usize>(
-    rt: &impl Abort,
-    alloc: Global,
-    code: u64,
-    digest: &[u8],
-) -> Result<(), Fail>
+// Whether both forms are made, each by one allocation.
+fn makes_forms<const S: usize>(rt: &impl Abort, alloc: Global, code: u64, digest: &[u8]) -> bool
     requires { S < 2 ^ 16 }
 {
-    let m = Multihash::<S>::wrap(code, digest)?;
-    unless_rejected(rt, m.to_bytes(alloc))?;
-    unless_rejected(rt, m.to_value(alloc))?;
-    Ok(())
+    let m = expect_ok!(rt; Multihash::<S>::wrap(code, digest));
+    succeeded(rt, &m.to_bytes(alloc)) && succeeded(rt, &m.to_value(alloc))
+}
+
+// The code 300, and as many bytes `A` as fit.
+fn makes_full_forms<const S: usize>(rt: &impl Abort, alloc: Global) -> bool
+    requires { S < 2 ^ 16 }
+{
+    makes_forms::<S>(rt, alloc, 300, &[65; S])
 }
 
 // Sizes about powers of two, the longest, and those of usual digests.
 #[test]
 fn allocating_forms_at_each_size(rt: HostRuntime) -> Result<(), Fail> {
     let alloc = rt.alloc();
-    expect_forms_at::<0>(&rt, alloc, 300, &[])?;
-    expect_forms_at::<1>(&rt, alloc, 300, &[65; 1])?;
-    expect_forms_at::<20>(&rt, alloc, 300, &[65; 20])?;
-    expect_forms_at::<31>(&rt, alloc, 300, &[65; 31])?;
-    expect_forms_at::<32>(&rt, alloc, 300, &[65; 32])?;
-    expect_forms_at::<33>(&rt, alloc, 300, &[65; 33])?;
-    expect_forms_at::<48>(&rt, alloc, 300, &[65; 48])?;
-    expect_forms_at::<64>(&rt, alloc, 300, &[65; 64])?;
-    expect_forms_at::<127>(&rt, alloc, 300, &[65; 127])?;
-    expect_forms_at::<128>(&rt, alloc, 300, &[65; 128])?;
-    expect_forms_at::<200>(&rt, alloc, 300, &[65; 200])?;
-    expect_forms_at::<255>(&rt, alloc, 300, &[65; 255])
+    let rt = &rt;
+    unless_failed(
+        makes_full_forms::<0>(rt, alloc)
+            && makes_full_forms::<1>(rt, alloc)
+            && makes_full_forms::<20>(rt, alloc)
+            && makes_full_forms::<31>(rt, alloc)
+            && makes_full_forms::<32>(rt, alloc)
+            && makes_full_forms::<33>(rt, alloc)
+            && makes_full_forms::<48>(rt, alloc)
+            && makes_full_forms::<64>(rt, alloc)
+            && makes_full_forms::<127>(rt, alloc)
+            && makes_full_forms::<128>(rt, alloc)
+            && makes_full_forms::<200>(rt, alloc)
+            && makes_full_forms::<255>(rt, alloc),
+    )
 }
 
 // Codes of usual hash functions (sha2-256, blake3), and one of nine bytes.
@@ -81,50 +103,54 @@ const USUAL: [u64; 3] = [18, 30, LARGEST_CODE];
 
 #[test]
 fn allocating_forms_of_usual_digests(rt: HostRuntime) -> Result<(), Fail> {
+    let mut made = true;
     for code in USUAL {
-        expect_forms_at::<32>(&rt, rt.alloc(), code, &[65; 32])?;
-        expect_forms_at::<64>(&rt, rt.alloc(), code, &[65; 32])?;
-        expect_forms_at::<300>(&rt, rt.alloc(), code, &[65; 32])?;
+        made = made
+            && makes_forms::<32>(&rt, rt.alloc(), code, &[65; 32])
+            && makes_forms::<64>(&rt, rt.alloc(), code, &[65; 32])
+            && makes_forms::<300>(&rt, rt.alloc(), code, &[65; 32]);
     }
-    Ok(())
+    unless_failed(made)
 }
 
 #[test]
 fn allocating_read_list(rt: HostRuntime) -> Result<(), Fail> {
     let mut left = STREAM.as_slice();
     let outcome = read_list::<4, _>(rt.alloc(), &mut left, 2);
-    if outcome.is_err() {
-        expect_bytes!(&rt; left, &STREAM);
-    }
+    // If the allocation fails, nothing is read.
+    let wanted: &[u8] = if outcome.is_err() { &STREAM } else { &[7] };
+    expect_bytes!(&rt; left, wanted);
     let list = unless_rejected(&rt, outcome)?;
-    check!(&rt; list.as_slice() == two()?.as_slice());
-    expect_bytes!(&rt; left, &[7]);
+    check!(&rt; list.as_slice() == two(&rt).as_slice());
     Ok(())
 }
 
-// One allocation, of the capacity: the input ends after one pair.
-fn expect_list_of<const S: usize>(rt: &impl Abort, alloc: Global, count: usize) -> Result<(), Fail>
+// Whether the capacity, the one allocation, is reserved: the input ends after one pair.
+fn reserves_list<const S: usize>(rt: &impl Abort, alloc: Global, count: usize) -> bool
     requires { S < 2 ^ 16 }
 {
     let outcome = read_list::<S, _>(alloc, &mut [0u8, 0].as_slice(), count);
-    if !is_rejected(&outcome, ErrorKind::Insufficient) {
-        unless_rejected(rt, outcome)?;
+    is_rejected(&outcome, ErrorKind::Insufficient) || succeeded(rt, &outcome)
+}
+
+fn reserves_lists<const S: usize>(rt: &impl Abort, alloc: Global, counts: &[usize]) -> bool
+    requires { S < 2 ^ 16 }
+{
+    for count in counts {
+        if !reserves_list::<S>(rt, alloc, *count) {
+            return false;
+        }
     }
-    Ok(())
+    true
 }
 
 #[test]
 fn allocating_read_of_lists(rt: HostRuntime) -> Result<(), Fail> {
-    for count in [1, 2, 3, 4, 5, 6, 32, 33] {
-        expect_list_of::<32>(&rt, rt.alloc(), count)?;
-    }
-    for count in [3, 5, 300, 301] {
-        expect_list_of::<64>(&rt, rt.alloc(), count)?;
-    }
-    for count in [255, 4096, 65536, 70001] {
-        expect_list_of::<0>(&rt, rt.alloc(), count)?;
-    }
-    Ok(())
+    unless_failed(
+        reserves_lists::<32>(&rt, rt.alloc(), &[1, 2, 3, 4, 5, 6, 32, 33])
+            && reserves_lists::<64>(&rt, rt.alloc(), &[3, 5, 300, 301])
+            && reserves_lists::<0>(&rt, rt.alloc(), &[255, 4096, 65536, 70001]),
+    )
 }
 
 // If an allocation failed, the vector has a strict prefix, and the rest can be appended.
@@ -138,45 +164,59 @@ fn expect_appended<R: Abort>(rt: &R, mut held: Vec<u8>, failed: bool, wanted: &[
     expect_bytes!(rt; &held, wanted);
 }
 
+fn expect_encoded<R: Abort>(
+    rt: &R,
+    held: Vec<u8>,
+    outcome: Result<usize, Error>,
+    wanted: &[u8],
+) -> Result<(), Fail> {
+    expect_appended(rt, held, outcome.is_err(), wanted);
+    check_eq!(rt; unless_rejected(rt, outcome)?, wanted.len());
+    Ok(())
+}
+
 #[test]
 fn allocating_write(rt: HostRuntime) -> Result<(), Fail> {
     let mut held = Vec::new(rt.alloc());
-    let outcome = long()?.write(&mut held);
+    let outcome = long(&rt).write(&mut held);
     let mut wanted = [65u8; 204];
     wanted[..4].copy_from_slice(&[172, 2, 200, 1]);
-    expect_appended(&rt, held, outcome.is_err(), &wanted);
-    check_eq!(&rt; unless_rejected(&rt, outcome)?, 204);
-    Ok(())
+    expect_encoded(&rt, held, outcome, &wanted)
 }
 
 #[test]
 fn allocating_scale_encode(rt: HostRuntime) -> Result<(), Fail> {
     let mut held = Vec::new(rt.alloc());
-    let outcome = long()?.scale_encode(&mut held);
+    let outcome = long(&rt).scale_encode(&mut held);
     let mut wanted = [65u8; 209];
     wanted[..9].copy_from_slice(&[44, 1, 0, 0, 0, 0, 0, 0, 200]);
-    expect_appended(&rt, held, outcome.is_err(), &wanted);
-    check_eq!(&rt; unless_rejected(&rt, outcome)?, 209);
-    Ok(())
+    expect_encoded(&rt, held, outcome, &wanted)
 }
 
 #[test]
 fn allocating_write_of_a_long_list(rt: HostRuntime) -> Result<(), Fail> {
-    let item = long()?;
+    let item = long(&rt);
     let mut wanted = [65u8; 408];
     wanted[..4].copy_from_slice(&[172, 2, 200, 1]);
     wanted[204..208].copy_from_slice(&[172, 2, 200, 1]);
     let mut held = Vec::new(rt.alloc());
     let outcome = write_list(&[item, item], &mut held);
     expect_appended(&rt, held, outcome.is_err(), &wanted);
-    unless_rejected(&rt, outcome)
+    unless_failed(succeeded(&rt, &outcome))
 }
 
-fn append_forms(rt: &impl Abort, held: &mut Vec<u8>, m: &Multihash<255>) -> Result<(), Fail> {
-    unless_rejected(rt, m.write(held))?;
-    unless_rejected(rt, m.write(&mut &mut *held))?;
-    unless_rejected(rt, m.scale_encode(held))?;
-    unless_rejected(rt, write_list(&[*m, *m], held))
+fn append_forms(held: &mut Vec<u8>, m: &Multihash<255>) -> Result<(), Error> {
+    m.write(held)?;
+    m.write(&mut &mut *held)?;
+    m.scale_encode(held)?;
+    write_list(&[*m, *m], held)
+}
+
+// The forms of a digest of that many bytes.
+fn append_forms_at(rt: &impl Abort, held: &mut Vec<u8>, len: usize) -> Result<(), Fail> {
+    let digest = [65; 255];
+    let m = expect_ok!(rt; Multihash::wrap(300, digest.get(..len).unwrap_or(&[])));
+    unless_failed(succeeded(rt, &append_forms(held, &m)))
 }
 
 // With enough capacity nothing is allocated: the one allocation is that of the capacity.
@@ -185,9 +225,7 @@ fn allocating_room_alone(rt: HostRuntime) -> Result<(), Fail> {
     let room = Vec::with_capacity(rt.alloc(), 8192).map_err(Error::from);
     let mut held = unless_rejected(&rt, room)?;
     for len in [0usize, 1, 31, 32, 33, 64, 127, 128, 200, 255] {
-        let digest = [65; 255];
-        let m = expect_ok!(&rt; Multihash::wrap(300, digest.get(..len).unwrap_or(&[])));
-        append_forms(&rt, &mut held, &m)?;
+        append_forms_at(&rt, &mut held, len)?;
     }
     check_eq!(&rt; held.capacity(), 8192);
     Ok(())
@@ -200,21 +238,17 @@ fn allocating_write_of_a_vector(rt: HostRuntime) -> Result<(), Fail> {
     let outcome = held.write(&[1, 2, 3]);
     if outcome.is_err() {
         check!(&rt; held.is_empty() && held.capacity() == 0);
-        check!(&rt; held.write_all(&[1, 2, 3]).is_ok());
-        check_eq!(&rt; held.as_slice(), [1, 2, 3].as_slice());
     }
-    check_eq!(&rt; unless_rejected(&rt, outcome.map_err(Error::from))?, 3);
-    check_eq!(&rt; held.as_slice(), [1, 2, 3].as_slice());
-    Ok(())
+    expect_encoded(&rt, held, outcome.map_err(Error::from), &[1, 2, 3])
 }
 
 // So is one under `?` after a push: the error is the library's.
 #[test]
 fn allocating_push(rt: HostRuntime) -> Result<(), Fail> {
     let mut held = Vec::new(rt.alloc());
-    let outcome = keep(&mut held, long()?);
+    let outcome = keep(&mut held, long(&rt));
     check_eq!(&rt; held.len(), usize::from(outcome.is_ok()));
-    unless_rejected(&rt, outcome)
+    unless_failed(succeeded(&rt, &outcome))
 }
 
 fn keep(held: &mut Vec<Multihash<200>>, multihash: Multihash<200>) -> Result<(), Error> {
@@ -224,8 +258,8 @@ fn keep(held: &mut Vec<Multihash<200>>, multihash: Multihash<200>) -> Result<(),
 
 #[test]
 fn allocating_root_and_path(rt: HostRuntime) -> Result<(), Fail> {
-    let first = hash_of(b"a");
-    let leaves = [first, hash_of(b"b"), hash_of(b"c")];
+    let first = content::hash_of(b"a");
+    let leaves = [first, content::hash_of(b"b"), content::hash_of(b"c")];
     let outcome = root_and_path(rt.alloc(), &leaves, 0).map_err(Error::from);
     let (root, path) = unless_rejected(&rt, outcome)?;
     check_eq!(&rt; path.len(), 2);
@@ -244,31 +278,24 @@ fn too_many_places_are_rejected(rt: HostRuntime) -> Result<(), Fail> {
     Ok(())
 }
 
-fn hash_value<const S: usize>(m: &Multihash<S>) -> u64
-    requires { S < 2 ^ 16 }
-{
-    let mut state = DefaultHasher::new();
-    m.hash(&mut state);
-    state.finish()
-}
-
 fn expect_parts<const S: usize>(rt: &impl Abort, m: &Multihash<S>)
     requires { S < 2 ^ 16 }
 {
-    check_eq!(rt; (m.size(), m.digest().len(), m.into_inner().2), (32, 32, 32));
-    check_eq!(rt; hash_value(m), hash_value(m));
+    let sizes = (m.size(), m.digest().len(), m.into_inner().2);
+    check_eq!(rt; (sizes, hash_of(m)), ((32, 32, 32), hash_of(m)));
     let cut = m.truncate(31);
     check!(rt; cut != *m && cut.cmp(m) == Ordering::Less && !cut.same_as(m));
-    check!(rt; expect_ok!(rt; m.resize::<64>()).same_as(m));
-    check!(rt; m.clone().is_ok());
+    let larger = expect_ok!(rt; m.resize::<64>());
+    check_eq!(rt; (larger.same_as(m), m.clone().is_ok()), (true, true));
 }
 
 fn expect_read<const S: usize>(rt: &impl Abort, alloc: Global, m: &Multihash<S>, bytes: &[u8])
     requires { S < 2 ^ 16 }
 {
-    check!(rt; expect_ok!(rt; Multihash::<S>::from_bytes(bytes)) == *m);
+    let whole = expect_ok!(rt; Multihash::<S>::from_bytes(bytes));
     let mut left = bytes;
-    check!(rt; expect_ok!(rt; Multihash::<S>::read(&mut left)) == *m);
+    let read = expect_ok!(rt; Multihash::<S>::read(&mut left));
+    check_eq!(rt; (&whole, &read), (m, m));
     check_eq!(rt; expect_ok!(rt; Head::read_front(bytes)).digest_len, 32);
     check!(rt; expect_ok!(rt; read_list::<S, _>(alloc, &mut left, 0)).is_empty());
 }
@@ -278,17 +305,18 @@ fn expect_varints(rt: &impl Abort, code: u64, bytes: &[u8]) {
     let rest = bytes.get(len..).unwrap_or(&[]);
     check_eq!(rt; expect_ok!(rt; varint::read_front(bytes)), (code, rest));
     let mut left = bytes;
-    check_eq!(rt; expect_ok!(rt; varint::read(&mut left)), code);
+    let read = expect_ok!(rt; varint::read(&mut left));
     let mut buffer = [0u8; 9];
-    check_eq!(rt; expect_ok!(rt; varint::write(code, &mut buffer.as_mut_slice())), len);
+    let written = expect_ok!(rt; varint::write(code, &mut buffer.as_mut_slice()));
+    check_eq!(rt; (read, written), (code, len));
 }
 
 fn expect_written<const S: usize>(rt: &impl Abort, m: &Multihash<S>)
     requires { S < 2 ^ 16 }
 {
     let mut buffer = [0u8; 64];
-    check!(rt; write_list(&[*m], &mut buffer.as_mut_slice()).is_ok());
-    check!(rt; m.scale_encode(&mut buffer.as_mut_slice()).is_ok());
+    let list = write_list(&[*m], &mut buffer.as_mut_slice()).is_ok();
+    check_eq!(rt; (list, m.scale_encode(&mut buffer.as_mut_slice()).is_ok()), (true, true));
     let decoded = expect_ok!(rt; Multihash::<S>::scale_decode(&mut buffer.as_slice()));
     check!(rt; decoded == *m);
 }
@@ -320,15 +348,14 @@ fn usual_values_need_no_memory(rt: HostRuntime) {
 fn expect_slices(rt: &impl Abort) {
     let mut left = [0u8; 9].as_slice();
     let mut buf = [0u8; 3];
-    check!(rt; left.read(&mut buf).is_ok());
-    check!(rt; left.read_exact(&mut buf).is_ok());
-    let mut free: &mut [u8] = &mut [0; 3];
-    check!(rt; free.write(&[1]).is_ok());
-    check!(rt; free.write_all(&[1, 2]).is_ok());
+    check_eq!(rt; (left.read(&mut buf).is_ok(), left.read_exact(&mut buf).is_ok()), (true, true));
     let mut kept = [0u8; 3];
-    let mut writer = SliceWriter::new(&mut kept);
-    check!(rt; writer.write(&[1]).is_ok());
-    check!(rt; writer.write_all(&[1, 2]).is_ok());
+    expect_writes(rt, &mut kept.as_mut_slice());
+    expect_writes(rt, &mut SliceWriter::new(&mut kept));
+}
+
+fn expect_writes<W: Write>(rt: &impl Abort, w: &mut W) {
+    check_eq!(rt; (w.write(&[1]).is_ok(), w.write_all(&[1, 2]).is_ok()), (true, true));
 }
 
 #[test]
@@ -342,28 +369,29 @@ fn slices_and_laws_need_no_memory(rt: HostRuntime) {
     laws::json_unique();
 }
 
-fn expect_own_error(rt: &impl Abort) {
-    let e = Error::from(no_std_io::Error::other("x"));
+// The error of a reader or a writer itself, with the text `x`.
+fn expect_own_error(rt: &impl Abort, e: &Error) {
     check!(rt; matches!(e.io(), Some(e) if e.is_other() && e.text() == "x" && !e.is_write_zero()));
-    check!(rt; !e.is_overflow() && !e.is_insufficient() && !e.is_not_minimal());
-    check!(rt; e.invalid_size().is_none() && e.invalid_code().is_none() && !e.is_incomplete());
+    check_eq!(rt; (e.invalid_size(), e.invalid_code()), (None, None));
+    check_eq!(rt; [e.is_overflow(), e.is_insufficient(), e.is_not_minimal(), e.is_incomplete()], [false; 4]);
 }
 
-fn expect_out_of_memory(rt: &impl Abort) {
-    let e = Error::from(no_std_io::Error::out_of_memory());
-    check_eq!(rt; ErrorKind::of(&e), Some(ErrorKind::OutOfMemory));
+fn expect_io_errors(rt: &impl Abort) {
+    expect_own_error(rt, &Error::from(no_std_io::Error::other("x")));
+    let e = &Error::from(no_std_io::Error::out_of_memory());
+    expect_memory_error(rt, e);
     check!(rt; !e.is_incomplete() && !e.is_not_bytes());
+}
+
+fn expect_no_value(rt: &impl Abort, value: &Value, why: ErrorKind) {
+    expect_rejected!(rt; &Multihash::<4>::from_value(value), why, ());
 }
 
 #[test]
 fn errors_need_no_memory(rt: HostRuntime) {
-    expect_own_error(&rt);
-    expect_out_of_memory(&rt);
+    expect_io_errors(&rt);
     let empty = Value::Array(Vec::new(rt.alloc()));
-    let empty = Multihash::<4>::from_value(&empty);
-    expect_rejected!(&rt; &empty, ErrorKind::Insufficient, ());
-    let null = Multihash::<4>::from_value(&Value::Null);
-    expect_rejected!(&rt; &null, ErrorKind::NotBytes, ());
-    let failed = Multihash::<4>::wrap(u64::MAX, &[]);
-    expect_rejected!(&rt; &failed, ErrorKind::InvalidCode(u64::MAX), ());
+    expect_no_value(&rt, &empty, ErrorKind::Insufficient);
+    expect_no_value(&rt, &Value::Null, ErrorKind::NotBytes);
+    expect_rejected!(&rt; &Multihash::<4>::wrap(u64::MAX, &[]), ErrorKind::InvalidCode(u64::MAX), ());
 }

@@ -10,7 +10,7 @@ use std::cmp::Ordering;
 use std::hash::{DefaultHasher, Hash, Hasher};
 use std::process::Abort;
 
-fn hash_of<T: Hash>(x: &T) -> u64 {
+pub(crate) fn hash_of<T: Hash>(x: &T) -> u64 {
     let mut state = DefaultHasher::new();
     x.hash(&mut state);
     state.finish()
@@ -84,11 +84,11 @@ fn expect_ordered(rt: &impl Abort, row: &Row) {
     let (left_code, left_digest, right_code, right_digest, want) = *row;
     let left = &expect_ok!(rt; Multihash::<4>::wrap(left_code, left_digest));
     let right = &expect_ok!(rt; Multihash::<4>::wrap(right_code, right_digest));
-    check_eq!(rt; left.cmp(right), want, left_digest);
-    check_eq!(rt; right.cmp(left), want.reverse(), left_digest);
-    check_eq!(rt; left == right, want.is_eq(), left_digest);
+    let orders = (left.cmp(right), right.cmp(left));
     let larger = expect_ok!(rt; right.resize::<300>());
-    check_eq!(rt; left.same_as(&larger), want.is_eq(), left_digest);
+    let alike = (left == right, left.same_as(&larger));
+    let equal = want.is_eq();
+    check_eq!(rt; (orders, alike), ((want, want.reverse()), (equal, equal)), left_digest);
 }
 
 #[test]
@@ -117,19 +117,18 @@ fn expect_foo(rt: &impl Abort, alloc: Global, m: &Multihash<6>) {
     let bytes = expect_ok!(rt; m.to_bytes(alloc));
     expect_bytes!(rt; &bytes, &[0, 3, 102, 111, 111]);
     let mut scale = Vec::new(alloc);
-    check_eq!(rt; expect_ok!(rt; m.scale_encode(&mut scale)), 12);
+    let written = expect_ok!(rt; m.scale_encode(&mut scale));
     expect_bytes!(rt; &scale, &[0, 0, 0, 0, 0, 0, 0, 0, 3, 102, 111, 111]);
     let value = expect_ok!(rt; m.to_value(alloc));
     let text = expect_ok!(rt; value.to_string(alloc));
-    check_eq!(rt; text.as_str(), "[0,3,102,111,111]");
+    check_eq!(rt; (written, text.as_str()), (12, "[0,3,102,111,111]"));
     check_eq!(rt; m.into_inner(), (0, [102, 111, 111, 0, 0, 0], 3));
 }
 
 fn expect_equal_values(rt: &impl Abort, m: &Multihash<6>, other: &Multihash<6>) {
     check_eq!(rt; m, other);
-    check_eq!(rt; m.cmp(other), Ordering::Equal);
-    check_eq!(rt; hash_of(m), hash_of(other));
-    check!(rt; m.same_as(other));
+    let found = (m.cmp(other), hash_of(m), m.same_as(other));
+    check_eq!(rt; found, (Ordering::Equal, hash_of(other), true));
 }
 
 #[test]
@@ -155,8 +154,7 @@ fn head_of(code: u64, digest_len: u64, digest_offset: usize) -> Head {
 // Both ways, and the clone of one.
 fn expect_alike(rt: &impl Abort, head: Head, alike: bool) {
     let first = head_of(1, 2, 3);
-    check_eq!(rt; first == head, alike, head);
-    check_eq!(rt; head != first, !alike, head);
+    check_eq!(rt; (first == head, head != first), (alike, !alike), head);
     let copy = expect_ok!(rt; head.clone());
     check_eq!(rt;
         (copy.code, copy.digest_len, copy.digest_offset),
