@@ -21,10 +21,9 @@ fn json_text(rt: HostRuntime) {
     let rt = &rt;
     let m = &expect_ok!(rt; Multihash::<32>::wrap(18, &DIGEST));
     let value = expect_ok!(rt; m.to_value(alloc));
-    let text = expect_ok!(rt; value.to_string(alloc));
+    check_eq!(rt; expect_ok!(rt; value.to_string(alloc)).as_str(), DIGEST_TEXT);
     let parsed = expect_ok!(rt; Value::from_str(alloc, DIGEST_TEXT));
-    let read = expect_ok!(rt; Multihash::from_value(&parsed));
-    check_eq!(rt; (text.as_str(), &read), (DIGEST_TEXT, m));
+    check_eq!(rt; &expect_ok!(rt; Multihash::from_value(&parsed)), m);
 }
 
 // Every kind of value, alone and after a zero, but arrays of bytes.

@@ -281,8 +281,7 @@ fn too_many_places_are_rejected(rt: HostRuntime) -> Result<(), Fail> {
 fn expect_parts<const S: usize>(rt: &impl Abort, m: &Multihash<S>)
     requires { S < 2 ^ 16 }
 {
-    let sizes = (m.size(), m.digest().len(), m.into_inner().2);
-    check_eq!(rt; (sizes, hash_of(m)), ((32, 32, 32), hash_of(m)));
+    check_eq!(rt; (m.size(), m.digest().len(), m.into_inner().2, hash_of(m)), (32, 32, 32, hash_of(m)));
     let cut = m.truncate(31);
     check!(rt; cut != *m && cut.cmp(m) == Ordering::Less && !cut.same_as(m));
     let larger = expect_ok!(rt; m.resize::<64>());
@@ -292,10 +291,9 @@ fn expect_parts<const S: usize>(rt: &impl Abort, m: &Multihash<S>)
 fn expect_read<const S: usize>(rt: &impl Abort, alloc: Global, m: &Multihash<S>, bytes: &[u8])
     requires { S < 2 ^ 16 }
 {
-    let whole = expect_ok!(rt; Multihash::<S>::from_bytes(bytes));
+    check!(rt; expect_ok!(rt; Multihash::<S>::from_bytes(bytes)) == *m);
     let mut left = bytes;
-    let read = expect_ok!(rt; Multihash::<S>::read(&mut left));
-    check_eq!(rt; (&whole, &read), (m, m));
+    check!(rt; expect_ok!(rt; Multihash::<S>::read(&mut left)) == *m);
     check_eq!(rt; expect_ok!(rt; Head::read_front(bytes)).digest_len, 32);
     check!(rt; expect_ok!(rt; read_list::<S, _>(alloc, &mut left, 0)).is_empty());
 }
@@ -305,18 +303,17 @@ fn expect_varints(rt: &impl Abort, code: u64, bytes: &[u8]) {
     let rest = bytes.get(len..).unwrap_or(&[]);
     check_eq!(rt; expect_ok!(rt; varint::read_front(bytes)), (code, rest));
     let mut left = bytes;
-    let read = expect_ok!(rt; varint::read(&mut left));
+    check_eq!(rt; expect_ok!(rt; varint::read(&mut left)), code);
     let mut buffer = [0u8; 9];
-    let written = expect_ok!(rt; varint::write(code, &mut buffer.as_mut_slice()));
-    check_eq!(rt; (read, written), (code, len));
+    check_eq!(rt; expect_ok!(rt; varint::write(code, &mut buffer.as_mut_slice())), len);
 }
 
 fn expect_written<const S: usize>(rt: &impl Abort, m: &Multihash<S>)
     requires { S < 2 ^ 16 }
 {
     let mut buffer = [0u8; 64];
-    let list = write_list(&[*m], &mut buffer.as_mut_slice()).is_ok();
-    check_eq!(rt; (list, m.scale_encode(&mut buffer.as_mut_slice()).is_ok()), (true, true));
+    check!(rt; write_list(&[*m], &mut buffer.as_mut_slice()).is_ok());
+    check!(rt; m.scale_encode(&mut buffer.as_mut_slice()).is_ok());
     let decoded = expect_ok!(rt; Multihash::<S>::scale_decode(&mut buffer.as_slice()));
     check!(rt; decoded == *m);
 }
