@@ -56,7 +56,7 @@ fn a_long_slice_is_read_at_once(rt: HostRuntime) {
     check_eq!(rt; expect_ok!(rt; chained.read(&mut [0; 100])), 100);
 }
 
-// The writer fills up, or fails, after some bytes: those were hashed, and no others.
+// The writer fills up after some bytes: those were hashed, and no others.
 #[test]
 fn what_was_written_is_hashed(rt: HostRuntime) {
     let alloc = rt.alloc();
