@@ -1,0 +1,132 @@
+#!/usr/bin/env python3
+"""Writes docs/CONTRACTS.md: the public items of crates, with the contracts of their functions.
+
+A line is left out or kept, never changed, so no clause can become weaker, and no public name can go, without a
+difference in that page. Left out are comments, bodies and what is private.
+"""
+import re
+import sys
+from collections.abc import Iterator
+from itertools import takewhile
+from pathlib import Path
+
+from rt_source import Item, items
+
+TOP = Path(__file__).resolve().parent.parent
+PAGE = TOP / "docs" / "CONTRACTS.md"
+CRATES = ("multihash", "multihash_c", "mh_show", "storage")
+INTRODUCTION = """\
+# Contracts
+
+Written by `tools/contracts.py`, and compared with the sources in CI: the public items of these crates, as they
+stand in their files, without comments and bodies. A difference here is a changed promise.
+[CALLING.md](../crates/multihash/CALLING.md#what-contracts-see) says how to read a clause, and explains its words.
+
+A function with an empty body does nothing: its clauses are laws of the definitions, or fix what implementations
+expose.
+"""
+
+
+def kept_lines(text: str) -> Iterator[str]:
+    """Returns the lines of a text that are no comments and not empty."""
+    for line in text.splitlines():
+        if line.strip() and not line.strip().startswith("//"):
+            yield line.rstrip()
+
+
+def attribute_lines(item: Item, indent: str) -> Iterator[str]:
+    """Returns the attributes that a caller can see."""
+    for line in kept_lines(item.attributes):
+        if re.match(r" *#\[(derive|repr|unsafe)", line):
+            yield indent + line.strip()
+
+
+def function_lines(function: Item, indent: str) -> Iterator[str]:
+    """Returns a function's signature and contract."""
+    clauses = [*function.clauses()]
+    end = clauses[-1].end + 1 if clauses else function.signature_end()
+    yield from attribute_lines(function, indent)
+    yield from kept_lines(indent + function.text[function.start : end])
+
+
+def has_no_body(function: Item) -> bool:
+    return function.source.rstrip().endswith("\n{}")
+
+
+def member_lines(owner: Item) -> Iterator[str]:
+    """Returns the members of an impl or a trait that a caller can see."""
+    is_of_trait = owner.kind == "trait" or " for " in owner.head
+    for member in owner.members():
+        if member.kind == "fn" and (is_of_trait or member.is_public):
+            yield from function_lines(member, "    ")
+        elif member.kind != "fn" and is_of_trait and not member.source.startswith("ghost use"):
+            yield from kept_lines("    " + member.source)
+
+
+def field_lines(item: Item) -> Iterator[str]:
+    """Returns the cases of an enum, or the fields of a struct that are public or ghost."""
+    for line in kept_lines(item.text[item.inner() : item.end]):
+        if line != "}" and item.kind == "enum" or re.match(r"    (pub|ghost) ", line):
+            yield line
+
+
+def item_lines(item: Item, private: set[str]) -> Iterator[str]:
+    """Returns the lines of an item that a caller can see. Those of an impl of a private type are none."""
+    if item.kind == "fn":
+        if item.is_public or has_no_body(item):
+            yield from function_lines(item, "")
+    elif item.kind in ("struct", "enum", "trait", "impl"):
+        is_impl = item.kind == "impl"
+        lines = [*(member_lines(item) if is_impl or item.kind == "trait" else field_lines(item))]
+        if private.isdisjoint(re.findall(r"\w+", item.head)) if is_impl else item.is_public:
+            first, _, _ = item.source.partition("\n")
+            if lines and first.endswith("{"):
+                yield from (*attribute_lines(item, ""), first, *lines, "}")
+            elif item.kind == "struct" and first.endswith("{"):
+                yield from (*attribute_lines(item, ""), f"{first} .. }}")
+            elif not is_impl or " for " in item.head:
+                yield from (*attribute_lines(item, ""), first)
+    elif item.is_public:
+        yield from kept_lines(item.source)
+
+
+def first_lines(text: str) -> Iterator[str]:
+    """Returns the first paragraph of what a file says of itself."""
+    return takewhile(lambda line: line.startswith("//! "), text.splitlines())
+
+
+def section_of(path: str, text: str) -> str:
+    """Returns a heading, what the file says of itself, and its public items; nothing if it has none."""
+    top_items = items(text)
+    private = {
+        item.name for item in top_items if item.kind in ("struct", "enum") and not item.is_public
+    }
+    blocks = [[*item_lines(item, private)] for item in top_items]
+    # an empty line precedes and follows what has several lines
+    block = "\n".join("\n".join(lines if len(lines) < 2 else ["", *lines, ""]) for lines in blocks if lines)
+    block = re.sub(r"\n{3,}", "\n\n", block).strip("\n")
+    description = " ".join(line[3:].strip() for line in first_lines(text))
+    return f"\n### [{path}](../{path})\n\n{description}\n\n```text\n{block}\n```\n" if block else ""
+
+
+def sources() -> dict[str, str]:
+    """Returns the text of each file of the crates."""
+    paths = [
+        path for crate in CRATES for path in sorted((TOP / "crates" / crate / "src").rglob("*.rt"))
+    ]
+    return {str(path.relative_to(TOP)): path.read_text("utf-8") for path in paths}
+
+
+def written_page(texts: dict[str, str]) -> str:
+    """Returns the page of these sources."""
+    page, last = INTRODUCTION, ""
+    for path, text in texts.items():
+        crate = path.split("/")[1]
+        page += f"\n## {crate}\n" if crate != last else ""
+        page += section_of(path, text)
+        last = crate
+    return page
+
+
+if __name__ == "__main__":
+    sys.exit(PAGE.write_text(written_page(sources()), "utf-8") == 0)
