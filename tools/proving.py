@@ -31,7 +31,6 @@ class Function(NamedTuple):
     body: int
     end: int
     clauses: dict[str, tuple[int, int]]
-    is_public: bool
 
 
 class Found(NamedTuple):
@@ -65,9 +64,8 @@ def functions_of(texts, known):
             names = [name for name in names if name.split("::")[1:] == module + own] or names
             contract = [*it.clauses()]
             clauses = {clause.name or it.name: (clause.start, clause.end) for clause in contract if clause.kind == "ensures"}
-            is_public = it.is_public or bool(owner and (owner.kind == "trait" or " for " in owner.head))
             body = contract[-1].end + 1 if contract else it.signature_end()
-            found.append(Function(names[0] if len(names) == 1 else "", path, body, it.end, clauses, is_public))
+            found.append(Function(names[0] if len(names) == 1 else "", path, body, it.end, clauses))
     return found
 
 
