@@ -4,7 +4,7 @@ use fakes::readers::{Cuts, FailAt, Silent};
 use fakes::writers::Drip;
 use fakes::{check, check_eq, expect_bytes, expect_ok};
 use multihash::no_std_io::{Read, Write};
-use uses::bytes::{read_one, write_two};
+use multihash::varint::read_next;
 
 #[test]
 fn a_short_slice_is_left_as_it_is(rt: HostRuntime) {
@@ -44,19 +44,18 @@ fn cuts_are_concatenated(rt: HostRuntime) {
 fn a_failure_takes_nothing(rt: HostRuntime) {
     let rt = &rt;
     let mut reader = FailAt::new(Cuts::new(&[7], 1), 0, ErrorKind::LINK_DOWN);
-    let failed = read_one(&mut reader);
-    check!(rt; is_failed(&failed, ErrorKind::LINK_DOWN));
-    check_eq!(rt; read_one(&mut reader).ok(), Some(Some(7)));
-    check_eq!(rt; read_one(&mut reader).ok(), Some(None));
+    check!(rt; is_failed(&reader.read(&mut [0u8; 1]), ErrorKind::LINK_DOWN));
+    check_eq!(rt; read_next(&mut reader).ok(), Some(Some(7)));
+    check_eq!(rt; read_next(&mut reader).ok(), Some(None));
     let mut reader = FailAt::new(Cuts::new(&[7], 1), 0, ErrorKind::OutOfMemory);
-    check!(rt; is_failed(&read_one(&mut reader), ErrorKind::OutOfMemory));
+    check!(rt; is_failed(&reader.read(&mut [0u8; 1]), ErrorKind::OutOfMemory));
 }
 
 #[test]
 fn a_silent_reader_reads(rt: HostRuntime) {
     let rt = &rt;
-    check_eq!(rt; read_one(&mut Silent(&[7])).ok(), Some(Some(7)));
-    check_eq!(rt; read_one(&mut Silent(&[])).ok(), Some(None));
+    check_eq!(rt; read_next(&mut Silent(&[7])).ok(), Some(Some(7)));
+    check_eq!(rt; read_next(&mut Silent(&[])).ok(), Some(None));
 }
 
 #[test]
@@ -96,7 +95,7 @@ fn a_borrowed_writer_writes(rt: HostRuntime) {
     let mut held = Vec::new(rt.alloc());
     let mut reference = &mut held;
     check_eq!(rt; Write::write(&mut reference, &[1, 2]).ok(), Some(2));
-    check!(rt; write_two(&mut reference, &[3], &[4, 5]).is_ok());
+    check!(rt; Write::write_all(&mut reference, &[3, 4, 5]).is_ok());
     expect_bytes!(rt; &held, &[1, 2, 3, 4, 5]);
 }
 

@@ -1,5 +1,4 @@
-pub mod BlameLemmas
-pub mod ConclusionLemmas
 pub mod ContentIdLemmas
 pub mod ContentIdVectors
 pub mod HeadlineLemmas
+pub mod SliceLemmas

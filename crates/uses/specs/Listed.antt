@@ -1,21 +1,14 @@
--- What a JSON value lists, and the errors for a value that lists nothing and for its text.
+-- The errors for a JSON value that lists no multihash, and for its text.
 use Rattle.std.specs.Prelude.{◌≡◌, ℕ, List, None, Some}
 use Rattle.serde_json.specs.Data.{Data}
 use Rattle.serde_json.specs.Errors.{IsMemory}
 use Rattle.serde_json.specs.Read.{read}
-use Rattle.multihash.specs.Pair.{Pair, FitsBuffer}
 use Rattle.multihash.specs.Verdict.{Verdict, HasWholeVerdict}
-use Rattle.multihash.specs.Json.{IsByteArray, IsJsonList}
+use Rattle.multihash.specs.Json.{IsByteArray}
 use Rattle.multihash.specs.Refusal.{Refusal, IsNotBytes}
 use Rattle.multihash.specs.Outcome.{IsErrorOf}
 use Rattle.uses.specs.declared.json_text.TextError.{TextError}
 use Rattle.uses.specs.declared.json_text.TextError.TheVariants.{Text, Value, Memory}
-
--- the value lists a pair that fits
-pub record ListsOne (S : ℕ) (value : Data) : Type 0 where
-  pub pair : Pair
-  pub lists : IsJsonList pair value
-  pub fits : FitsBuffer S pair
 
 -- the error is the value's: that of its bytes' verdict, or that the value is no array of bytes
 pub record ListMayFailWith (S : ℕ) (value : Data) (e : Refusal) : Type 0 where

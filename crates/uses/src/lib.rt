@@ -2,10 +2,7 @@
 #![tactic(auto)]
 
 pub mod any_reader;
-pub mod blame;
-pub mod bytes;
 pub mod code_table;
-pub mod conclusions;
 pub mod content_id;
 pub mod headline;
 pub mod json_text;
@@ -15,4 +12,3 @@ pub mod recovery;
 pub mod retries;
 pub mod section;
 pub mod slices;
-pub mod values;

@@ -1,15 +1,14 @@
 use Rattle.std.proofs.Common.{refl}
-use Rattle.multihash.specs.Encoding.{IsEncoding}
 use Rattle.multihash.specs.Verdict.{invalid_size}
-use Rattle.uses.proofs.BlameLemmas.{in_front, left_after}
+use Rattle.uses.proofs.SliceLemmas.{in_front, left_after}
 use Rattle.multihash.proofs.CallingLemmas.{rejected_size}
-use Rattle.uses.proofs.blame.read_slice.Goals as goal
+use Rattle.uses.proofs.slices.read_slice.Goals as goal
 
 pub returns-clause-verdict : goal.returns-clause-verdict
 returns-clause-verdict g c = c.read-outcome.ensures.verdict refl
 
 pub returns-clause-ok : goal.returns-clause-ok
-returns-clause-ok g c = in_front IsEncoding g.row.S c.args.stream.now c.read-outcome.new.r.now c.read-outcome.result c.read-outcome.ensures.ok
+returns-clause-ok g c = in_front g.row.S c.args.stream.now c.read-outcome.new.r.now c.read-outcome.result c.read-outcome.ensures.ok
 
 pub returns-clause-long : goal.returns-clause-long
 returns-clause-long g c size rest h over = (
