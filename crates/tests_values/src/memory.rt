@@ -1,5 +1,5 @@
 //! Failing allocations. A test whose name begins with `allocating` passes if no allocation fails. If one
-//! does, it checks what is left then, and fails with `FAILED`: `tools/memory` makes each allocation fail in
+//! does, it checks what is left then, and fails with `FAILED`: `checks/memory.t` makes each allocation fail in
 //! turn, and counts them.
 ghost use Rattle.std.specs.Prelude.{◌<◌, ◌^◌};
 

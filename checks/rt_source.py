@@ -10,7 +10,10 @@ HEAD = re.compile(
     r"|(ghost|use|impl|mod|struct|enum|trait|type|const|static|extern|macro_rules)\b) ?"
 )
 PART = re.compile(r"(pub )?(?:pub\(\w+\) )?((?:ghost )?\w+)(?:: ([^\n]*),|[,(:\n]| \{)")
-CLAUSE = re.compile(r"\s*(requires|ensures)\*?(?: (\w+))? ?\{(.*?)\}(?=\s*\n\s*(?:requires|ensures|ghost|\{)|;\n)", re.S)
+CLAUSE = re.compile(
+    r"\s*(requires|ensures)\*?(?: (\w+))? ?\{(.*?)\}(?=\s*\n\s*(?:requires|ensures|ghost|\{)|;\n)",
+    re.S,
+)
 
 
 class Unread(ValueError):
@@ -70,7 +73,9 @@ class Item(NamedTuple):
                 yield bool(found[1]), found[2], found[3] or ""
 
     def signature_end(self) -> int:
-        found = re.compile(r"\n +(?=requires|ensures|ghost )|\s*\{\n|\s*\{\}|;\n").search(self.code, self.after, self.end)
+        found = re.compile(r"\n +(?=requires|ensures|ghost )|\s*\{\n|\s*\{\}|;\n").search(
+            self.code, self.after, self.end
+        )
         return found.start() if found else self.end
 
     def signature(self) -> str:
@@ -91,13 +96,17 @@ class Item(NamedTuple):
 def chunks(code: str, start: int, end: int, depth: int) -> Iterator[tuple[int, int]]:
     """Returns where each text begins and ends whose first line has that indent, without the indent: its brackets are closed."""
     indent = " " * depth
-    for it in re.compile(rf"(?m)^{indent}(?=\S)[^)}}\]][^\n]*\n(?:(?:{indent}[ (){{}}\]][^\n]*| *)\n)*").finditer(code, start, end):
+    for it in re.compile(
+        rf"(?m)^{indent}(?=\S)[^)}}\]][^\n]*\n(?:(?:{indent}[ (){{}}\]][^\n]*| *)\n)*"
+    ).finditer(code, start, end):
         if any(it[0].count(pair[0]) != it[0].count(pair[1]) for pair in ("()", "{}", "[]")):
             raise Unread(f"its brackets are not closed: {it[0][:90]}")
         yield it.start() + depth, it.start() + len(it[0].rstrip()) + 1
 
 
-def items(text: str, code: str = "", start: int = 0, end: int | None = None, depth: int = 0) -> list[Item]:
+def items(
+    text: str, code: str = "", start: int = 0, end: int | None = None, depth: int = 0
+) -> list[Item]:
     """Returns the items of a text, or of a part of it."""
     code = code or TEXT.sub(lambda it: re.sub(r"[^\n]", " ", it[0]), text)
     found, attributes = [], ""
@@ -109,7 +118,19 @@ def items(text: str, code: str = "", start: int = 0, end: int | None = None, dep
         if not head:
             raise Unread(f"no known item: {text[at:to][:90]}")
         name = re.search(r"\w+", code[head.end() : to])
-        found.append(Item(head[2] or head[3], name[0] if name else "", bool(head[1]), attributes, text, code, at, head.end(), to))
+        found.append(
+            Item(
+                head[2] or head[3],
+                name[0] if name else "",
+                bool(head[1]),
+                attributes,
+                text,
+                code,
+                at,
+                head.end(),
+                to,
+            )
+        )
         attributes = ""
     return found
 

@@ -3,10 +3,11 @@
 
 It computes them from the rules of docs/FORMAT.md by itself and calls nothing of the library.
 
-    tools/verdicts            checks each line
-    tools/verdicts --write    writes the results of the stored inputs: of a new one only the capacity and the input are needed
+    checks/verdicts.py            checks each line
+    checks/verdicts.py --write    writes the results of the stored inputs: of a new one only the
+                                  capacity and the input are needed
 
-The last line is 'N passed, M failed'. The inputs of the first lines came from outside. None is there twice with one capacity."""
+The inputs of the first lines came from outside. None is there twice with one capacity."""
 import hashlib
 import re
 import sys
@@ -14,7 +15,7 @@ from collections.abc import Callable
 from itertools import zip_longest
 from pathlib import Path
 
-from proving import report
+import tap
 
 TOP = Path(__file__).resolve().parent.parent
 STORED, BOUND = TOP / "crates/vectors/data/verdicts.tsv", TOP / "crates/multihash/specs/Varint.antt"
@@ -29,6 +30,10 @@ LONGEST_DIGEST, SCALE_CODE, SCALE_HEAD = 255, 8, 9
 
 class Rejected(Exception):
     """An error, and the number of bytes that determine it, 0 if more bytes can change it."""
+
+    def __init__(self, error: str, consumed: int) -> None:
+        super().__init__(error)
+        self.error, self.consumed = error, consumed
 
 
 class Rules:
@@ -66,10 +71,16 @@ class Rules:
         return code, *digest(size, data, SCALE_HEAD, data[SCALE_CODE])
 
     def line(self, size: int, data: bytes) -> str:
-        (read, taken), (scale, scale_taken) = (result(call, size, data) for call in (self.read, self.scale_decode))
+        (read, taken), (scale, scale_taken) = (
+            result(call, size, data) for call in (self.read, self.scale_decode)
+        )
         is_longer = read.startswith("pair") and len(data) > taken
         whole = f"invalid_size {len(data) - taken}" if is_longer else read
-        return "\t".join(map(str, (size, data.hex() or "-", read, taken or "-", whole, scale, scale_taken or "-")))
+        return "\t".join(
+            map(
+                str, (size, data.hex() or "-", read, taken or "-", whole, scale, scale_taken or "-")
+            )
+        )
 
 
 def digest(size: int, data: bytes, start: int, length: int) -> tuple[bytes, int]:
@@ -80,18 +91,20 @@ def digest(size: int, data: bytes, start: int, length: int) -> tuple[bytes, int]
     return data[start : start + length], start + length
 
 
-def result(call: Callable[[int, bytes], tuple[int, bytes, int]], size: int, data: bytes) -> tuple[str, int]:
+def result(
+    call: Callable[[int, bytes], tuple[int, bytes, int]], size: int, data: bytes
+) -> tuple[str, int]:
     try:
-        code, its, end = call(size, data)
-        return f"pair {code} {its.hex() or '-'}", end
-    except Rejected as error:
-        return error.args
+        code, found, end = call(size, data)
+        return f"pair {code} {found.hex() or '-'}", end
+    except Rejected as rejected:
+        return rejected.error, rejected.consumed
 
 
 def made_of(stored: str) -> str:
     """Makes the list that has the inputs of the stored list, by the bound on numbers that the definitions state."""
     inputs = [tuple(line.split("\t")[:2]) for line in stored.splitlines()[1:]]
-    text = "".join("\t".join(it) + "\n" for it in inputs[:FROM_OUTSIDE])
+    text = "".join("\t".join(line) + "\n" for line in inputs[:FROM_OUTSIDE])
     if hashlib.sha256(text.encode()).hexdigest() != OUTSIDE_SHA256:
         raise ValueError(f"the first {FROM_OUTSIDE} inputs are not those that came from outside")
     if len({*inputs}) < len(inputs):
@@ -102,29 +115,31 @@ def made_of(stored: str) -> str:
     return "\n".join(["\t".join(COLUMNS), *lines, ""])
 
 
-def errors(stored: str) -> list[tuple[str, str]]:
-    """Returns each stored line, with what is made in its place if that differs."""
+def error_of(stored: str) -> str:
+    """Returns the stored lines that differ, with what is made in their places."""
     try:
         pairs = zip_longest(stored.splitlines(), made_of(stored).splitlines(), fillvalue="")
-        return [(it, "" if it == made else f"made: {made}") for it, made in pairs]
+        return "\n".join(f"{line}\n  made: {made}" for line, made in pairs if line != made)
     except ValueError as error:
-        return [("the list", str(error))]
+        return str(error)
 
 
 def main() -> int:
     stored = STORED.read_text("utf-8")
     if sys.argv[1:] == ["--write"]:
         return STORED.write_text(made_of(stored), "utf-8") < 1
-    results = errors(stored)
+    results = [("the results of the stored inputs", error_of(stored))]
     for what, text in {
         "another result of the first line": stored.replace("invalid_size 3", "invalid_size 4", 1),
-        "an input from outside that is another": stored.replace("88f5bac6a53b03", "88f5bac6a53b04", 1),
+        "an input from outside that is another": stored.replace(
+            "88f5bac6a53b03", "88f5bac6a53b04", 1
+        ),
         "an input that is there twice": "".join([stored, *stored.splitlines(True)[-1:]]),
         "an empty list": "",
     }.items():
-        is_seen = text != stored and any(error for _, error in errors(text))
+        is_seen = text != stored and error_of(text)
         results.append((f"planted: {what}", "" if is_seen else "it is not seen"))
-    return report(results)
+    return tap.report(results)
 
 
 if __name__ == "__main__":

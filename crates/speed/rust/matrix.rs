@@ -1,5 +1,5 @@
 //! Makes the calls that `crates/speed` makes, of the Rust crate `multihash`: the same cases, inputs, loops
-//! and sums, so that `tools/speed --write PROGRAM` counts and times both by the same means.
+//! and sums, so that `checks/speed.py --write PROGRAM` counts and times both by the same means.
 //!
 //! - `rust_matrix cases` prints the cases, one a line: the operation, the digest's size, the number of bytes
 //!   of the code, and the buffer's size.
@@ -17,7 +17,7 @@
 //!
 //! [[bin]]
 //! name = "rust_matrix"
-//! path = "REPOSITORY/tools/rust_matrix.rs"
+//! path = "REPOSITORY/crates/speed/rust/matrix.rs"
 //!
 //! [features]
 //! codecs = ["dep:parity-scale-codec", "dep:serde", "dep:serde_json", "multihash/scale-codec", "multihash/serde-codec"]
@@ -201,7 +201,7 @@ macro_rules! sum_of_bytes {
 }
 
 #[cfg(feature = "codecs")]
-#[path = "rust_codecs.rs"]
+#[path = "codecs.rs"]
 mod codecs;
 
 struct Inputs<const S: usize> {

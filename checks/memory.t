@@ -4,12 +4,12 @@
 # upwards until the test makes fewer. A test in which one failed, and that found all as it should be, fails
 # with FAILED. Each run has to free what it allocated. The programs are those that 'rt ci' built of the
 # crates' tests, if BUILT says so; otherwise 'rt test' builds them. Of mh_show the program is run: if an
-# allocation fails, it has to print that it is out of memory, and nothing else. tools/memory.c, which
-# is loaded before malloc, makes allocations fail and counts them. The last line is 'N passed, M failed'.
-set -uo pipefail
-cd "$(dirname "$0")/.." || exit 2
-# shellcheck source=tools/parts.sh
-. tools/parts.sh
+# allocation fails, it has to print that it is out of memory, and nothing else. checks/memory.c, which
+# is loaded before malloc, makes allocations fail and counts them.
+# shellcheck source=checks/tap.sh
+. "$(dirname "$0")/tap.sh"
+plan 20
+set -o pipefail
 message='error: "an allocation failed"' # `FAILED` of the tests
 most=40
 
@@ -131,7 +131,7 @@ try_shows() {
   try_show unread 4 /
 }
 
-cc -std=c11 -O1 -shared -fPIC -o "$work/memory.so" tools/memory.c -ldl || exit 2
+cc -std=c11 -O1 -shared -fPIC -o "$work/memory.so" checks/memory.c -ldl || exit 2
 # A run in which no allocation failed, or which leaks, is not what was wanted.
 for runs in $'right\nright\n1' $'leaks 1\nright\n1'; do
   echo "$runs" > "$work/planted" && judge "a planted run" 1 1 "$work/planted" | grep -q '^failed: '
@@ -141,4 +141,3 @@ try_crate tests_values > "$work/tests.lines" &
 try_shows > "$work/shows.lines" &
 wait
 count_lines < <(cat "$work"/*.lines)
-finish

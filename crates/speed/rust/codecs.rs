@@ -1,4 +1,4 @@
-//! The SCALE and JSON forms of `rust_matrix.rs`, which says how to build it.
+//! The SCALE and JSON forms of `matrix.rs`, which says how to build it.
 use super::{told, Inputs};
 use multihash::Multihash;
 use parity_scale_codec::{Decode, Encode, Output};

@@ -18,7 +18,7 @@ CRATES = ("multihash", "multihash_c", "mh_show", "storage")
 INTRODUCTION = """\
 # Contracts
 
-Written by `tools/contracts.py`, and compared with the sources in CI: the public items of these crates, as they
+Written by `checks/contracts.py`, and compared with the sources in CI: the public items of these crates, as they
 stand in their files, without comments and bodies. A difference here is a changed promise.
 [CALLING.md](../crates/multihash/CALLING.md#what-contracts-see) says how to read a clause, and explains its words.
 
@@ -103,7 +103,9 @@ def section_of(path: str, text: str) -> str:
     }
     blocks = [[*item_lines(item, private)] for item in top_items]
     # an empty line precedes and follows what has several lines
-    block = "\n".join("\n".join(lines if len(lines) < 2 else ["", *lines, ""]) for lines in blocks if lines)
+    block = "\n".join(
+        "\n".join(lines if len(lines) < 2 else ["", *lines, ""]) for lines in blocks if lines
+    )
     block = re.sub(r"\n{3,}", "\n\n", block).strip("\n")
     description = " ".join(line[3:].strip() for line in first_lines(text))
     return f"\n### [{path}](../{path})\n\n{description}\n\n```text\n{block}\n```\n" if block else ""

@@ -1,0 +1,77 @@
+"""Reads planted differences: mutants, bugs, differences of the header and of pages.
+
+    file: PATH               after an empty line: of all that follow
+
+    # NAME: TEXT             begins a difference
+    seen: TEXT               what has to see it, if that is written
+    file: PATH
+    old: TEXT                one line or a part of one, which the file has exactly once; none: the file is new
+    new: TEXT                what replaces it
+
+In old and new texts '\\n' is the end of a line.
+"""
+from collections import defaultdict
+from collections.abc import Mapping
+from pathlib import Path
+from typing import NamedTuple
+
+
+class Edit(NamedTuple):
+    """A text of a file, and what replaces it."""
+
+    path: str
+    old: str
+    new: str
+
+
+class Planted(NamedTuple):
+    """A planted difference: its name, what is written beside it, what has to see it, and its edits."""
+
+    name: str
+    text: str
+    seen: str
+    edits: list[Edit]
+
+
+def read(path: Path) -> list[Planted]:
+    """Returns the differences of a file. A line in no known form is an error."""
+    found: list[Planted] = []
+    default = file = old = previous = ""
+    for line in path.read_text("utf-8").splitlines():
+        word, _, rest = line.partition(" ")
+        text = rest.replace("\\n", "\n")
+        if word == "#":
+            name, _, what = rest.partition(": ")
+            found.append(Planted(name, what, "", []))
+            file = default
+        elif word == "seen:" and found:
+            found[-1] = found[-1]._replace(seen=rest)
+        elif word == "file:":
+            default, file = (default, rest) if previous else (rest, rest)
+        elif word == "old:":
+            old = text
+        elif word == "new:" and found and file:
+            found[-1].edits.append(Edit(file, old, text))
+        elif line:
+            raise ValueError(f"{path}: in no known form: {line}")
+        previous = line
+    return found
+
+
+def apply(texts: Mapping[str, str], edits: list[Edit]) -> dict[str, str]:
+    """Returns the files that these edits change, with all of them in."""
+    places: dict[str, list[tuple[int, Edit]]] = defaultdict(list)
+    for edit in edits:
+        text = texts.get(edit.path, "")
+        if (edit.path in texts) if not edit.old else text.count(edit.old) != 1:
+            raise ValueError(
+                f"'old:' is in {edit.path} {text.count(edit.old)} times: {edit.old[:60]}"
+            )
+        places[edit.path].append((text.index(edit.old), edit))
+    changed = {}
+    for path, found in places.items():
+        text = texts.get(path, "")
+        for at, edit in sorted(found, reverse=True):
+            text = text[:at] + edit.new + text[at + len(edit.old) :]
+        changed[path] = text
+    return changed

@@ -1,0 +1,296 @@
+#!/usr/bin/env python3
+"""Compares the header for C, and the numbers, structs and version of the bindings, with the crate.
+
+    checks/header.py              checks
+    checks/header.py --exports    prints the names of the functions that the header declares
+
+The header's declarations are made from the crate. The preprocessed header has to be these
+declarations and nothing else, in C and in C++, and its macros have to be the crate's constants. A
+text in no known form is an error. Then the differences of header.edits are planted, each of which
+has to be found.
+"""
+import re
+import shutil
+import subprocess
+import sys
+from collections.abc import Iterator
+from concurrent.futures import ThreadPoolExecutor
+from pathlib import Path
+from typing import NamedTuple
+
+import edits
+import tap
+from rt_source import Item, Unread, items
+
+TOP = Path(__file__).resolve().parent.parent
+CRATE = "crates/multihash_c"
+HEADER = f"{CRATE}/include/multihash.h"
+LANGUAGES = {"C": ["cc", "-x", "c", "-std=c11"], "C++": ["c++", "-x", "c++", "-std=c++17"]}
+TYPES = {"u32": "uint32_t", "u64": "uint64_t", "i32": "int32_t", "usize": "size_t"}
+
+# The files that are compared.
+RUST, PYTHON, JS = "bindings/rust/multihash_c", "bindings/python/verified_multihash", "bindings/js"
+PATTERNS = (
+    HEADER,
+    f"{CRATE}/src/**/*.rt",
+    "crates/multihash/specs/Varint.antt",
+    f"{RUST}/Cargo.toml",
+    f"{RUST}/src/**/*.rs",
+    f"{PYTHON}/**/*.py",
+    f"{JS}/core.js",
+    f"{JS}/index.d.ts",
+    f"{JS}/package.json",
+)
+
+Files = dict[str, str]
+Structs = dict[str, list[tuple[str, str]]]
+
+
+class Declared(NamedTuple):
+    """What the crate has: the declarations and macros of the header; structs with fields, numbers and version."""
+
+    declarations: list[str]
+    macros: dict[str, str]
+    structs: Structs
+    statuses: dict[str, str]
+    lengths: dict[str, str]
+    version: str
+
+
+def read_files() -> Files:
+    """Returns the texts that are compared, by their paths."""
+    return {
+        str(path.relative_to(TOP)): path.read_text("utf-8")
+        for pattern in PATTERNS
+        for path in TOP.glob(pattern)
+    }
+
+
+def flat(text: str) -> str:
+    """Returns a text with one blank between its words."""
+    return " ".join(re.findall(r'"[^"]*"|\w+|[^\w\s]', text))
+
+
+def group(form: str, text: str) -> str:
+    """Returns the group of a form that the text has once."""
+    [found] = re.findall(form, text)
+    return str(found)
+
+
+def parameter(text: str) -> str:
+    """Returns a parameter of an export in C: a slice is a pointer and a length."""
+    name, _, kind = text.partition(": ")
+    if slice_of := re.fullmatch(r"&(mut )?\[u8\]", kind):
+        return f"{'' if slice_of[1] else 'const '}uint8_t *{name}, size_t {name}_length"
+    return f"{'multihash_status' if name == 'status' else TYPES.get(kind, kind)} {name}"
+
+
+def structs_of(sources: list[Item]) -> Structs:
+    """Returns the structs that C sees, with their fields."""
+    found = {}
+    for item in sources:
+        if item.kind == "struct" and item.attributes.startswith("#[repr(C)]\n"):
+            fields = [(name, TYPES.get(kind, kind)) for _, name, kind in item.parts()]
+            found[f"multihash_{item.name.lower()}"] = fields
+    return found
+
+
+def declaration(item: Item) -> str:
+    """Returns the declaration of an export. tools/test_c checks that the archive has no others."""
+    [(name, parameters, result)] = re.findall(r"^(\w+)\((.*)\) -> (\w+)$", item.signature())
+    parts = ", ".join(map(parameter, filter(None, parameters.split(", ")))) or "void"
+    return f"{TYPES.get(result, f'multihash_{result.lower()}')} {name}({parts});"
+
+
+def numbers_of(sources: list[Item]) -> dict[str, str]:
+    """Returns the constants of a file that are numbers."""
+    form = re.compile(r"(?:pub )?const (\w+): u32 = (\d+);\s*")
+    found = (form.fullmatch(item.source) for item in sources)
+    return {constant[1]: constant[2] for constant in found if constant}
+
+
+def declarations(
+    structs: Structs, exports: list[Item], statuses: dict[str, str], texts: list[tuple[str, str]]
+) -> Iterator[str]:
+    """Returns the declarations that the header has to have, in C."""
+    yield "typedef uint32_t multihash_status;"
+    yield f"enum {{ {', '.join(f'MULTIHASH_{name} = {number}' for name, number in statuses.items())} }};"
+    for name, fields in structs.items():
+        typed = [
+            ("multihash_status" if field == "status" else kind, field) for field, kind in fields
+        ]
+        members = " ".join(f"{kind} {field};" for kind, field in typed)
+        yield f"typedef struct {name} {{ {members} }} {name};"
+    yield from map(declaration, exports)
+    cases = " ".join(
+        f'{f"case MULTIHASH_{name}" if name else "default"}: return "{text}";'
+        for name, text in texts
+    )
+    yield f"static inline const char *multihash_status_text(multihash_status status) {{ switch (status) {{ {cases} }} }}"
+
+
+def of_crate(files: Files) -> Declared:
+    sources = {path: items(text) for path, text in files.items() if path.startswith(f"{CRATE}/src")}
+    every = [item for found in sources.values() for item in found]
+    exports = [item for item in every if "no_mangle" in item.attributes]
+    [put_text] = [item.source for item in exports if item.name == "multihash_put_status_text"]
+    texts = re.findall(r'(?:status::(\w+)|_) => put_text\(b"([^"]*)", out\)', put_text)
+    if len(texts) != put_text.count("=>"):
+        raise Unread("a text of a status")
+    # the most bytes of a varint; a length that is accepted has two
+    varint = (
+        int(group(r"\nmax_continuation = (\d+)\n", files["crates/multihash/specs/Varint.antt"])) + 1
+    )
+    most = {
+        "DIGEST_MAX": 255,
+        "HEAD_MAX": 2 * varint,
+        "LENGTH_MAX": varint + 2 + 255,
+        "SCALE_LENGTH_MAX": 9 + 255,
+    }
+    lengths, statuses = {name: str(number) for name, number in most.items()}, numbers_of(
+        sources[f"{CRATE}/src/status.rt"]
+    )
+    of_version = numbers_of(sources[f"{CRATE}/src/version.rt"])
+    major, minor, patch = (int(of_version[part]) for part in ("MAJOR", "MINOR", "PATCH"))
+    version, number = f"{major}.{minor}.{patch}", 10000 * major + 100 * minor + patch
+    macros = {"H": "", "VERSION": f'"{version}"', "VERSION_NUMBER": str(number), **lengths}
+    structs = structs_of(every)
+    return Declared(
+        [*declarations(structs, exports, statuses, texts)],
+        macros,
+        structs,
+        statuses,
+        lengths,
+        version,
+    )
+
+
+def preprocessed(text: str, language: str, *options: str) -> str:
+    """Returns what the preprocessor makes of the header, without the standard's headers."""
+    words = [
+        *LANGUAGES[language],
+        "-E",
+        "-P",
+        "-nostdinc",
+        "-DSIZE_MAX=1",
+        "-DUINT64_MAX=1",
+        *options,
+        "-",
+    ]
+    return subprocess.check_output(
+        words, input=re.sub(r"#include <std(def|int)\.h>\n", "", text), text=True
+    )
+
+
+def header_errors(header: str, crate: Declared, language: str) -> Iterator[str]:
+    rest = flat(preprocessed(header, language))
+    if language == "C++":
+        rest = rest.removeprefix('extern "C" { ').removesuffix("}")
+    for wanted in map(flat, crate.declarations):
+        if wanted not in rest:
+            yield f"{language}: the header lacks {wanted}"
+        rest = rest.replace(wanted, "", 1)
+    if rest.strip():
+        yield f"{language}: the header has more than the crate: {rest.strip()}"
+    macros, predefined = (
+        {*preprocessed(text, language, "-dM").splitlines()} for text in (header, "")
+    )
+    if macros - predefined != {
+        f"#define MULTIHASH_{name} {value}" for name, value in crate.macros.items()
+    }:
+        yield f"{language}: the crate has {crate.macros}, and the header {sorted(macros - predefined)}"
+
+
+def constants_of(files: Files, folder: str, names: list[str]) -> dict[str, str]:
+    """Returns the constants of these names in the files of a folder. A value that is no number is an error."""
+    form = rf"(?<![.\w])({'|'.join(names)})(?:: *&?[\w' ]+)?(?: = |: )([^;\n]*);?(?: *(?:#|//)[^\n]*)?$"
+    loose = rf"(?<![.\w])(?:{'|'.join(names)})\b *(?::[^=\n:]*)?=(?![=>])"
+    found: dict[str, str] = {}
+    for path, text in files.items():
+        if not path.startswith(folder):
+            continue
+        constants = re.findall(form, text, re.M)
+        is_unread = len(re.findall(loose, text)) > len(constants)
+        for name, value in constants:
+            is_unread |= not value.isdigit() or found.get(name, value) != value
+        if is_unread:
+            raise Unread(f"{path}: a constant is not read, or has two values: {constants}")
+        found |= dict(constants)
+    return found
+
+
+def binding_errors(files: Files, crate: Declared) -> Iterator[str]:
+    numbers = {**crate.statuses, **crate.lengths}
+    statuses = re.findall(
+        r"'(\w+)'", group(r"\nconst STATUSES = \[(.*)\];\n", files[f"{JS}/core.js"])
+    )
+    of_script = {name.upper(): str(at) for at, name in enumerate(statuses)} | constants_of(
+        files, JS, [*crate.lengths]
+    )
+    for name, found, wanted in (
+        ("Rust's numbers", constants_of(files, RUST, [*numbers]), numbers),
+        ("Python's numbers", constants_of(files, PYTHON, [*numbers]), numbers),
+        ("JavaScript's numbers", of_script, numbers),
+        ("Rust's structs", structs_of(items(files[f"{RUST}/src/ffi.rs"])), crate.structs),
+        (
+            "Rust's version",
+            group(r'\nversion = "(.*)"\n', files[f"{RUST}/Cargo.toml"]),
+            crate.version,
+        ),
+        (
+            "Python's version",
+            group(r'\n__version__ = "(.*)"\n', files[f"{PYTHON}/_library.py"]),
+            crate.version,
+        ),
+        (
+            "JavaScript's version",
+            group(r'\n  "version": "(.*)",\n', files[f"{JS}/package.json"]),
+            crate.version,
+        ),
+    ):
+        if found != wanted:
+            yield f"{name} are {found}, and the crate's {wanted}"
+
+
+def error_of(files: Files) -> str:
+    """Returns what differs, or what cannot be read."""
+    try:
+        crate = of_crate(files)
+        errors = [*binding_errors(files, crate)]
+        for language in LANGUAGES:
+            errors += header_errors(files[HEADER], crate, language)
+        return "\n".join(errors)
+    except (KeyError, ValueError, subprocess.CalledProcessError) as error:
+        return f"not read: {error!r}"
+
+
+def plant(files: Files, difference: edits.Planted) -> tap.Result:
+    """Plants a difference, which has to be found."""
+    found = error_of({**files, **edits.apply(files, difference.edits)})
+    return f"planted: {difference.name}", "" if found else "it is not found"
+
+
+def results() -> Iterator[tap.Result]:
+    files = read_files()
+    differences = edits.read(TOP / "checks" / "header.edits")
+    if not shutil.which("c++"):
+        why = "c++ is not installed"
+        del LANGUAGES["C++"]
+        yield "the header and the bindings", error_of(files)
+        yield from (tap.left_out(f"planted: {each.name}", why) for each in differences)
+        return
+    yield "the header and the bindings", error_of(files)
+    with ThreadPoolExecutor(4) as pool:
+        yield from pool.map(lambda each: plant(files, each), differences)
+
+
+def main() -> int:
+    if sys.argv[1:] == ["--exports"]:
+        header = preprocessed(read_files()[HEADER], "C")
+        print("\n".join(sorted(re.findall(r"(\w+)\([^()]*\);", header))))
+        return 0
+    return tap.report(results())
+
+
+if __name__ == "__main__":
+    sys.exit(main())

@@ -1,0 +1,42 @@
+#!/usr/bin/env bash
+# The scripts of the repository: bash -n, shellcheck, black and mypy. Each rejects a planted script.
+# shellcheck source=checks/tap.sh
+. "$(dirname "$0")/tap.sh"
+plan 9
+
+# Prints the paths of the scripts in a language, by their first lines.
+scripts() { git ls-files -co --exclude-standard -z | xargs -0 grep -lIE -m 1 -e "$1" 2> "$work/log" | sort; }
+
+shell=$(scripts '^(#! ?/.*\b(ba)?sh|# shellcheck shell=bash)$')
+python=$(git ls-files -co --exclude-standard 'checks/*.py')
+[ -n "$shell" ] && [ -n "$python" ]
+count $? "there are scripts"
+
+# Checks the syntax of each script: bash reads one alone.
+syntax() {
+  local script failed=0
+  for script in "$@"; do bash -n "$script" || failed=1; done
+  return $failed
+}
+
+# shellcheck disable=SC2086,SC2016 # no path has a blank; what is planted is not expanded
+{
+  echo 'if true; then' > "$work/syntax.sh"
+  try "bash -n" syntax $shell
+  try "bash -n rejects a planted script" rejects "unexpected end of file" syntax "$work/syntax.sh" checks/tap.sh
+  if has shellcheck 2; then
+    printf '#!/bin/bash\ncd $1\n' > "$work/planted.sh"
+    try shellcheck shellcheck -x $shell
+    try "shellcheck rejects a planted script" rejects SC2164 shellcheck "$work/planted.sh"
+  fi
+  if has black 2; then
+    echo "number  =  1" > "$work/layout.py"
+    try black black --check --diff --line-length 100 $python
+    try "black rejects a planted script" rejects "would reformat" black --check "$work/layout.py"
+  fi
+  if has mypy 2; then
+    echo "def same(number): return number" > "$work/untyped.py"
+    try mypy mypy --strict --cache-dir "$work/mypy" $python
+    try "mypy rejects a planted script" rejects "missing a type annotation" mypy --strict --cache-dir "$work/mypy" "$work/untyped.py"
+  fi
+}

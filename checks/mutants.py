@@ -1,0 +1,316 @@
+#!/usr/bin/env python3
+"""Tries mutants of functions and definitions: the prover must leave open, in each, goals of exactly the clauses that it names.
+
+    checks/mutants.py [--only NAME] [--definitions | --since COMMIT] [--jobs N] [--proved FOLDER] [CRATE..]
+
+They are in crates/*/mutants/*.edits and crates/*/must-fail/*.edit; docs/PLANTED.md says how to write one. Each round
+puts one mutant of each of several functions into a copy of a crate and checks the copy once: a function is proved
+against contracts, never against another's body. One that names a clause as FUNCTION#CLAUSE, or none, changes a
+definition: these are tried with --definitions, each in a check of its own, or in the crates whose specs/, examples or
+mutants of definitions differ from --since. Needs 2 GB a job. First these crates, or of mutants of bodies the modules,
+are proved in a copy or in the folder --proved.
+"""
+import argparse
+import re
+import subprocess
+import sys
+import tempfile
+from collections import defaultdict
+from collections.abc import Iterable, Iterator
+from concurrent.futures import ThreadPoolExecutor, as_completed
+from itertools import zip_longest
+from pathlib import Path
+from typing import NamedTuple
+
+import edits
+import proving
+import tap
+from proving import Function, Goal, Output, Prover
+
+ROOT = Path(__file__).resolve().parent.parent
+EXAMPLES = ("specs", "proofs/Examples", "proofs/*Vectors.antt", "mutants/definitions.edits")
+BY_LIMIT = " by a limit"  # what follows a clause of which no goal is open but one where the search gave up at a limit
+
+
+class Written(NamedTuple):
+    """A mutant as it is written: the clauses that it breaks, and its edits; or why it cannot be read."""
+
+    label: str
+    clauses: list[str]
+    edits: list[edits.Edit]
+    error: str = ""
+
+
+class Mutant(NamedTuple):
+    """A mutant, and the function whose body it changes, if that is one."""
+
+    label: str
+    clauses: list[str]
+    edits: list[edits.Edit]
+    function: Function | None
+
+    @property
+    def is_of_definitions(self) -> bool:
+        names_function = any("#" in clause for clause in self.clauses)
+        changes_source = any(edit.path.startswith("src/") for edit in self.edits)
+        return not self.function and (names_function or not changes_source)
+
+
+def written(home: Path) -> Iterator[Written]:
+    """Returns the mutants of a crate."""
+    for path in sorted(home.glob("mutants/**/*.edits")):
+        try:
+            for name, text, _, its_edits in edits.read(path):
+                clauses = text.removeprefix("breaks ").split(", ") if text else []
+                yield Written(f"{home.name}/{name}", clauses, its_edits)
+        except ValueError as error:
+            yield Written(f"{home.name}/{path.name}", [], [], str(error))
+    for path in sorted(home.glob("must-fail/*.edit")):
+        clause = path.read_text("utf-8").partition("\n")[0].removeprefix("clause: ")
+        label = f"{home.name}/{path.stem}"
+        with tempfile.NamedTemporaryFile("w", suffix=".edits") as file:
+            file.write(re.sub(r"\Aclause: .*\n", f"# {path.stem}\n", path.read_text("utf-8")))
+            file.flush()
+            try:
+                yield Written(label, clause.split(", "), edits.read(Path(file.name))[0].edits)
+            except (ValueError, IndexError) as error:
+                yield Written(label, [], [], str(error))
+
+
+def error_of(
+    mutant: Mutant, output: Output, goals: Iterable[Goal], names: list[str], state: str
+) -> str:
+    """Returns what is wrong with a mutant's rejection, if something is. A goal has the name of its clause."""
+    by_limit: dict[str, bool] = {}
+    for goal in goals:
+        by_limit[goal.name] = by_limit.get(goal.name, True) and goal.by_limit
+    opened = sorted(f"{clause}{BY_LIMIT if limit else ''}" for clause, limit in by_limit.items())
+    if not output.is_whole:
+        return f"no contract was tried: {output.unread[0]}"
+    if names:
+        return f"a name that a proof cites is gone, and open are {opened}: {names[0]}"
+    if not opened or state == "proved":
+        return f"NOT REJECTED, no goal is open: {state}"
+    named = sorted(mutant.clauses)
+    return "" if opened == named else f"it names {named}, and open are {opened}"
+
+
+class Crate:
+    """A proved crate, its functions and its mutants."""
+
+    def __init__(
+        self, proved: Path, name: str, prover: Prover, modules: list[str], output: Output
+    ) -> None:
+        self.proved, self.name, self.prover, self.modules = proved, name, prover, modules
+        self.texts = proving.texts_of(proved / "crates" / name)
+        # a check also prints the functions of the crates below where these were not proved by the same process
+        self.known = {
+            function
+            for function, found in output.found.items()
+            if found.state == "proved" and function.startswith(f"{name}::")
+        }
+        functions = proving.functions_of(self.texts, self.known)
+        self.functions = {function.name: function for function in functions if function.name}
+        self.mutants: list[Mutant] = []
+        self.unread: list[tap.Result] = []
+        for label, clauses, its_edits, error in written(ROOT / "crates" / name):
+            try:
+                if error or not its_edits:
+                    raise ValueError(error or "it replaces nothing")
+                edits.apply(self.texts, its_edits)
+                function = proving.function_of(self.texts, its_edits, functions)
+                mutant = Mutant(label, clauses, its_edits, function)
+                if not mutant.is_of_definitions and not (function and function.name):
+                    raise ValueError(
+                        "it changes no one body that the prover names, and names no FUNCTION#CLAUSE"
+                    )
+                self.mutants.append(mutant)
+            except ValueError as reason:
+                self.unread.append((label, str(reason)))
+
+    def check(self, mutants: list[Mutant]) -> Output:
+        """Checks a copy of the crate with these mutants in it."""
+        with tempfile.TemporaryDirectory(prefix="round-", dir=self.proved) as folder:
+            proving.link_crates(self.proved, Path(folder))
+            home = Path(folder) / "crates" / self.name
+            changed = edits.apply(self.texts, [edit for mutant in mutants for edit in mutant.edits])
+            for path, text in changed.items():
+                (home / path).write_text(text, "utf-8")
+            return self.prover.check(home, self.modules)
+
+    def rounds(self, wanted: list[Mutant]) -> list[list[Mutant]]:
+        """Returns the mutants of bodies in rounds with at most one of a function, and each other one in one of its own."""
+        bodies: dict[str, list[Mutant]] = defaultdict(list)
+        alone = []
+        for mutant in wanted:
+            if mutant.function and not mutant.is_of_definitions:
+                bodies[mutant.function.name].append(mutant)
+            else:
+                alone.append([mutant])
+        together = zip_longest(*bodies.values())
+        return [[mutant for mutant in mutants if mutant] for mutants in together] + alone
+
+    def try_round(self, mutants: list[Mutant]) -> list[tap.Result]:
+        """Tries mutants in one check. Those that are unclear there are tried again, in two halves."""
+        output = self.check(mutants)
+        results: list[tap.Result] = []
+        unclear: list[Mutant] = []
+        for mutant in mutants:
+            if not mutant.function or mutant.is_of_definitions:
+                return [(mutant.label, self.error_of_definition(mutant, output))]
+            found = output.found[mutant.function.name]
+            clauses = (
+                Goal(proving.clause_of(mutant.function, goal.name), goal.by_limit)
+                for goal in found.goals
+            )
+            error = error_of(mutant, output, clauses, found.names, found.state)
+            # where a function that it calls is not proved, some of its goals may not be tried
+            follows = not output.is_whole or proving.FOLLOWS.search(found.state)
+            if error and len(mutants) > 1 and follows:
+                unclear.append(mutant)
+            else:
+                results.append((mutant.label, error))
+        if output.is_whole:
+            results += self.strays(
+                output, {mutant.function.name for mutant in mutants if mutant.function}
+            )
+        middle = len(unclear) // 2
+        for half in (unclear[:middle], unclear[middle:]):
+            results += self.try_round(half) if half else []
+        return results
+
+    def strays(self, output: Output, changed: set[str]) -> list[tap.Result]:
+        """Returns a failure for each error in a file of no function, and for each other function not proved by itself."""
+        states = {name: output.found[name].state for name in sorted(self.known - changed)}
+        others = [
+            (f"{name} has no mutant", state)
+            for name, state in states.items()
+            if state != "proved" and not proving.FOLLOWS.search(state)
+        ]
+        return others + [("no mutant of a body opens this", error) for error in output.others]
+
+    def error_of_definition(self, mutant: Mutant, output: Output) -> str:
+        """Judges a mutant by an example or a lemma where it names no clause, else by all clauses of the crate."""
+        if not mutant.clauses:
+            unread = [error for error in output.unread if not error.startswith("src/")]
+            if unread:
+                return f"no example was tried: {unread[0]}"
+            return "" if output.others else "no example and no lemma rejects it"
+        opened = [
+            (name, found) for name, found in output.found.items() if found.goals or found.names
+        ]
+        goals = []
+        for name, found in opened:
+            for goal in found.goals:
+                label = f"{name}#{proving.clause_of(self.functions.get(name), goal.name)}"
+                # a mutant may leave out the first modules of a name
+                short = next(
+                    (clause for clause in mutant.clauses if label.endswith(f"::{clause}")), label
+                )
+                goals.append(Goal(short, goal.by_limit))
+        names = [text for _, found in opened for text in found.names]
+        return error_of(mutant, output, goals, names, "" if opened else "proved")
+
+
+class Options(NamedTuple):
+    """What was asked for."""
+
+    only: str
+    since: str
+    jobs: int
+    definitions: bool
+    crates: list[str]
+
+    def names(self, label: str) -> bool:
+        return self.only in ("", label, label.rpartition("/")[2])
+
+    def tries_definitions(self, crate: str) -> bool:
+        """Returns whether a crate's definitions are to be tried."""
+        if self.definitions or self.only:
+            return True
+        paths = [*(f"crates/{crate}/{path}" for path in EXAMPLES), "checks/mutants.py"]
+        diff = ["git", "diff", "--name-only", self.since, "--", *paths]
+        return bool(self.since and subprocess.check_output(diff, cwd=ROOT))
+
+    def modules(self, crate: str) -> list[str]:
+        """Returns the modules that the mutants of bodies change; none if definitions are to be tried, or one changes the root."""
+        mutants = written(ROOT / "crates" / crate)
+        paths = {
+            edit.path for mutant in mutants for edit in mutant.edits if edit.path.startswith("src/")
+        }
+        modules = sorted(path[len("src/") : -len(".rt")].replace("/", "::") for path in paths)
+        return [] if self.tries_definitions(crate) or {"lib", "main"} & {*modules} else modules
+
+
+def prove(options: Options, proved: Path, prover: Prover) -> tuple[list[Crate], list[tap.Result]]:
+    """Proves a copy of the crates that have mutants. Returns them, and what is wrong with those that are not proved."""
+    below = proving.crates_of(ROOT)
+    found: list[Crate] = []
+    errors: list[tap.Result] = []
+    have_mutants = [
+        name
+        for name in below
+        if any(options.names(mutant.label) for mutant in written(ROOT / "crates" / name))
+    ]
+    if not have_mutants or not {*options.crates} <= {*have_mutants}:
+        what = options.only or " ".join(options.crates)
+        return [], [(what, "there is no such mutant, or none in such a crate")]
+    wanted = [name for name in have_mutants if name in options.crates or not options.crates]
+    proving.copy_crates(ROOT, proved)
+    for name in dict.fromkeys(low for crate in wanted for low in (*below[crate], crate)):
+        modules = options.modules(name)
+        output = prover.check(proved / "crates" / name, modules)
+        print(
+            f"# {name}: {'proved' if output.is_proved else 'NOT proved'} without a mutant",
+            flush=True,
+        )
+        if not output.is_proved:
+            errors.append((name, "it is not proved without a mutant"))
+        elif name in wanted:
+            found.append(Crate(proved, name, prover, modules, output))
+    return found, errors
+
+
+def results(options: Options, folder: Path, prover: Prover) -> Iterator[tap.Result]:
+    """Tries the mutants of the crates."""
+    crates, errors = prove(options, folder, prover)
+    yield from errors
+    rounds = []
+    for crate in crates:
+        yield from (result for result in crate.unread if options.names(result[0]))
+        tried = []
+        for mutant in crate.mutants:
+            if not mutant.is_of_definitions or options.tries_definitions(crate.name):
+                tried += [mutant] if options.names(mutant.label) else []
+            else:
+                yield tap.skipped(mutant.label, "definitions and examples did not change")
+        rounds += [(crate, mutants) for mutants in crate.rounds(tried)]
+    pool = ThreadPoolExecutor(options.jobs)
+    try:
+        for future in as_completed(
+            [pool.submit(crate.try_round, mutants) for crate, mutants in rounds]
+        ):
+            yield from future.result()
+    finally:
+        pool.shutdown(cancel_futures=True)
+
+
+def main() -> int:
+    parser = argparse.ArgumentParser(
+        description=__doc__, formatter_class=argparse.RawDescriptionHelpFormatter
+    )
+    parser.add_argument("--only", default="")
+    parser.add_argument("--since", default="")
+    parser.add_argument("--jobs", type=int, default=2)
+    parser.add_argument("--proved", default="")
+    parser.add_argument("--definitions", action="store_true")
+    parser.add_argument("crates", nargs="*", metavar="CRATE")
+    given = parser.parse_args()
+    options = Options(given.only, given.since, given.jobs, given.definitions, given.crates)
+    prover = Prover()
+    with tempfile.TemporaryDirectory(prefix="mutants-") as folder:
+        return tap.report(results(options, Path(given.proved or folder).resolve(), prover))
+
+
+if __name__ == "__main__":
+    sys.exit(main())

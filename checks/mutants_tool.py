@@ -1,0 +1,212 @@
+#!/usr/bin/env python3
+"""Tests mutants.py on a small crate: a mutant of each kind that it has to fail, and runs that must not pass."""
+import os
+import re
+import shutil
+import subprocess
+import sys
+import tempfile
+import time
+from collections.abc import Iterator
+from pathlib import Path
+from typing import NamedTuple
+
+import tap
+
+TEXTS = {
+    "crates.txt": "small:\n",
+    "HANDLES": "Handles allowed: none.\n",
+    "crates/small/specs/Lib.antt": "pub mod Sum\n",
+    "crates/small/specs/Sum.antt": """\
+use Rattle.std.specs.Prelude.{ℕ}
+abbrev pub most : ℕ
+most = 512
+""",
+    "crates/small/proofs/Lib.antt": "mod SumVectors\n",
+    "crates/small/proofs/SumVectors.antt": """\
+use Rattle.std.proofs.Common.{◌≡◌, refl}
+use Rattle.small.specs.Sum.{most}
+most_is : most ≡ 512
+most_is = refl
+""",
+    "crates/small/proofs/cited/Answers.antt": """\
+use Rattle.std.proofs.Common.{arith}
+use Rattle.small.proofs.cited.Goals as goal
+pub returns-clause-value : goal.returns-clause-value
+returns-clause-value c = omega (arith, c.next.ensures.value)
+""",
+}
+HEAD = """\
+#![tactic(auto)]
+ghost use Rattle.std.specs.Prelude.{◌≡◌, ◌+◌, ◌≤◌};
+ghost use Rattle.small.specs.Sum.{most};
+"""
+
+
+class Case(NamedTuple):
+    """A function, with its clause and body; a mutant of it, the clause that this names, and what is reported."""
+
+    name: str
+    clause: str
+    body: str
+    old: str
+    new: str
+    named: str
+    reported: str
+
+
+CASES = [
+    Case(
+        "next",
+        "result ≡ n + 1",
+        "n as u16 + 1",
+        "    n as u16 + 1",
+        "    n as u16 + 2",
+        "value",
+        "",
+    ),
+    Case(
+        "cited",
+        "result ≡ n + 2",
+        "next(n) + 1",
+        "next(n) + 1",
+        "n as u16 + 3",
+        "value",
+        "a name that a proof cites is gone",
+    ),
+    Case(
+        "right",
+        "result ≡ n + 1",
+        "1 + n as u16",
+        "    1 + n",
+        "    0 + 1 + n",
+        "value",
+        "NOT REJECTED",
+    ),
+    Case(
+        "weakened",
+        "result ≤ most",
+        "n as u16 + 6",
+        "    n as u16 + 6",
+        "    n as u16 + 7",
+        "value",
+        "NOT REJECTED",
+    ),
+    Case(
+        "two",
+        "result ≡ n + 3",
+        "n as u16 + 3",
+        "    n as u16 + 3",
+        "    n as u16 + 600",
+        "value",
+        "open are ['bound', 'value']",
+    ),
+    Case(
+        "other",
+        "result ≡ n + 4",
+        "n as u16 + 4",
+        "    n as u16 + 4",
+        "    n as u16 + 5",
+        "bound",
+        "open are ['value']",
+    ),
+    Case(
+        "absent", "result ≡ n + 5", "n as u16 + 5", "n as u16 + 99", "n as u16", "value", "0 times"
+    ),
+    Case(
+        "no_body",
+        "result ≡ n + 7",
+        "n as u16 + 7",
+        "fn no_body(n",
+        "fn no_body(m",
+        "value",
+        "it changes no one body",
+    ),
+]
+DEFINITIONS = """
+file: specs/Sum.antt
+
+# less
+old: 512
+new: 511
+
+# as_much
+old: 512
+new: 0x200
+"""
+
+
+def lay_out(root: Path) -> None:
+    """Makes a repository with the small crate and its mutants."""
+    source, edits = HEAD, "file: src/lib.rt\n"
+    for case in CASES:
+        source += f"""
+pub fn {case.name}(n: u8) -> u16
+    ensures value {{ {case.clause} }}
+    ensures bound {{ result ≤ most }}
+{{
+    {case.body}
+}}
+"""
+        edits += f"\n# {case.name}: breaks {case.named}\nold: {case.old}\nnew: {case.new}\n"
+    made = {
+        "crates/small/src/lib.rt": source,
+        "crates/small/mutants/lib.edits": edits + DEFINITIONS,
+    }
+    for path, text in {**TEXTS, **made}.items():
+        (root / path).parent.mkdir(parents=True, exist_ok=True)
+        (root / path).write_text(text, "utf-8")
+    shutil.copytree(Path(__file__).resolve().parent, root / "checks")
+
+
+def start(root: Path, *words: str, path: str = "") -> subprocess.Popen[str]:
+    """Starts mutants.py, with another PATH if one is given."""
+    command = [
+        sys.executable,
+        str(root / "checks/mutants.py"),
+        "--proved",
+        str(root / "proved"),
+        *words,
+    ]
+    environment = os.environ | ({"PATH": path} if path else {})
+    return subprocess.Popen(
+        command, env=environment, stdout=subprocess.PIPE, stderr=subprocess.STDOUT, text=True
+    )
+
+
+def provers(root: Path) -> list[Path]:
+    """Returns the processes whose folder is in the repository."""
+    folders = Path("/proc").glob("[0-9]*/cwd")
+    return [folder for folder in folders if str(root / "proved") in os.path.realpath(folder)]
+
+
+def results(root: Path) -> Iterator[tap.Result]:
+    """Tries the mutants, and runs that must not pass."""
+    printed = start(root, "--definitions").communicate()[0]
+    wanted = {case.name: case.reported for case in CASES} | {"less": "", "as_much": "no example"}
+    for label, text in wanted.items():
+        found = re.findall(rf"(?m)^((?:not )?ok) \d+ - small/{label}\n((?:#   .*\n)*)", printed)
+        status = "not ok" if text else "ok"
+        is_right = len(found) == 1 and found[0][0] == status and text in found[0][1]
+        yield label, "" if is_right else f"reported: {found}"
+    runs = {"another name": ["--only", "nothing"], "another crate": ["nothing"]}
+    for what, words in runs.items():
+        with start(root, *words) as ran:
+            ran.communicate()
+        yield what, "" if ran.returncode != 0 else "it passes"
+    with start(root, path=str(root)) as ran:
+        ran.communicate()
+    yield "no prover", "" if ran.returncode != 0 else "it passes"
+    with start(root) as ran:
+        while not (running := provers(root)) and ran.poll() is None:
+            time.sleep(0.1)
+        ran.terminate()
+    time.sleep(2)
+    has_ended = running and ran.returncode != 0 and not provers(root)
+    yield "its provers end with it", "" if has_ended else "they do not"
+
+
+if __name__ == "__main__":
+    with tempfile.TemporaryDirectory(prefix="mutants-tool-") as folder:
+        lay_out(Path(folder).resolve())
+        sys.exit(tap.report(results(Path(folder).resolve())))

@@ -1,0 +1,235 @@
+#!/usr/bin/env python3
+"""Compares what the pages say with the sources.
+
+It compares CONTRACTS.md with the sources, the names in CALLING.md, examples, links, limits and the
+table of checks, and runs README's commands over the program that 'rt ci' built, if BUILT says so;
+otherwise 'rt run' builds it. The differences of pages.edits are planted in pages and sources.
+"""
+import difflib
+import os
+import re
+import subprocess
+import sys
+from collections.abc import Callable, Iterator
+from pathlib import Path
+
+import contracts
+import edits
+import tap
+from rt_source import Unread, functions
+
+TOP = Path(__file__).resolve().parent.parent
+README, CALLING, FORMAT = "README.md", "crates/multihash/CALLING.md", "docs/FORMAT.md"
+CONTRACTS, C, MAN = "docs/CONTRACTS.md", "docs/C.md", "packaging/mh_show.1"
+ARCHITECTURE = "docs/ARCHITECTURE.md"
+FENCE = re.compile(r"^ *```(\S*)[^\n]*\n(.*?)^ *```$", re.M | re.S)
+# the sentences with limits, or parts of them; limits() has the numbers
+LIMITS = {
+    README: ("more than {input:,} bytes", "at most {length}"),
+    MAN: ("a digest of at most {capacity} bytes.", "The input has at most {input:,} bytes."),
+    FORMAT: (
+        "and at most {length}:",
+        "at most `S + {short}`",
+        "`min(S, {digest}) + {long}`",
+        "9 to {scale} bytes",
+    ),
+    CALLING: ("an encoding has at most {length} bytes",),
+    C: (
+        "digests have at most {digest} bytes. `multihash_compare` accepts any code and digest, "
+        "`multihash_head` any length.",
+    ),
+}
+Texts = dict[str, str]
+
+
+def read_texts() -> Texts:
+    """Returns the pages, and the sources that CONTRACTS.md is about."""
+    command = ["git", "ls-files", "-co", "--exclude-standard", "*.md"]
+    listed = subprocess.run(command, cwd=TOP, capture_output=True, text=True, check=True)
+    paths = [path for path in (*listed.stdout.split(), MAN) if (TOP / path).exists()]
+    return {path: (TOP / path).read_text("utf-8") for path in paths} | contracts.sources()
+
+
+def pages_of(texts: Texts) -> Texts:
+    return {path: text for path, text in texts.items() if path.endswith(".md")}
+
+
+def flat(text: str) -> str:
+    return " ".join(text.split())
+
+
+def contract_errors(texts: Texts) -> Iterator[str]:
+    """Compares CONTRACTS.md with the sources."""
+    sources = {path: text for path, text in texts.items() if path.endswith(".rt")}
+    try:
+        page = contracts.written_page(sources)
+    except Unread as error:
+        yield str(error)
+        return
+    if texts[CONTRACTS] != page:
+        yield "checks/contracts.py writes, if it is meant:"
+        stored, made = texts[CONTRACTS].splitlines(), page.splitlines()
+        yield from difflib.unified_diff(stored, made, lineterm="", n=0)
+
+
+def name_errors(texts: Texts) -> Iterator[str]:
+    """Returns the names in backquotes in CALLING.md that no source has, but paths and what has a word in capitals."""
+    sources = TOP.glob("crates/*/[!o]*/**/*.[ar]*t")
+    known = {word for path in sources for word in re.findall(r"[\w-]+", path.read_text("utf-8"))}
+    known |= {"BTreeMap", "HashMap", "checker", "prog"}
+    quoted = re.findall(r"`([^`\n]+)`", FENCE.sub("", texts[CALLING]))
+    quoted = [text for text in quoted if not re.search(r"/|\.antt|[A-Z]{3}", text)]
+    gone = {*re.findall(r"[A-Za-z][\w-]+", " ".join(quoted))} - known
+    yield from (f"{CALLING}: no source has {name}" for name in sorted(gone))
+
+
+def code_of(path: Path) -> list[str]:
+    """Returns the text of a source, and the same without its contracts."""
+    text = short = path.read_text("utf-8")
+    for _, function in reversed([*functions(text)]):
+        start = function.signature_end()
+        end = max([start, *(clause.end + 1 for clause in function.clauses())])
+        short = short[:start] + short[end:]
+    return [flat(code).replace("pub ", "") for code in (text, short)]
+
+
+def example_errors(texts: Texts) -> Iterator[str]:
+    """Returns the paragraphs of the examples in Rattle that no caller has, with or without contracts."""
+    crates = [TOP / "crates" / crate / "src" for crate in ("uses", "storage", "example")]
+    callers = [path for crate in crates for path in crate.rglob("*.rt")]
+    sources = "\n".join(code for path in callers for code in code_of(path))
+    for page in (README, CALLING):
+        examples = [body for language, body in FENCE.findall(texts[page]) if language == "rust"]
+        if not examples:
+            yield f"{page} has no example"
+        for paragraph in (part for body in examples for part in body.split("\n\n")):
+            if flat(paragraph).replace("pub ", "") not in sources:
+                yield f"{page}: no source has this: {paragraph}"
+        for language, _ in FENCE.findall(texts[page]):
+            if language not in ("rust", "sh", "text", ""):
+                yield f"{page}: a block is in {language}"
+
+
+def anchors(text: str) -> set[str]:
+    """Returns the anchors of a page's headings."""
+    found: list[str] = []
+    for head in re.findall(r"^#+ +(.*?) *$", FENCE.sub("", text), re.M):
+        words = re.sub(r"\[([^\]]*)\]\([^)]*\)", r"\1", head).lower()
+        slug = re.sub(r"[^\w\- ]", "", words).replace(" ", "-")
+        found.append(f"{slug}-{found.count(slug)}" if slug in found else slug)
+    return {*found}
+
+
+def link_errors(texts: Texts) -> Iterator[str]:
+    """Returns the links that lead to no file, folder or heading of the repository."""
+    form = re.compile(r"\]\(<?([^\s)>]+)>?(?: \"[^\"]*\")?\)|^\[[^\]]+\]: (\S+)", re.M)
+    for page, text in pages_of(texts).items():
+        text = FENCE.sub("", text)
+        if "```" in text:
+            yield f"{page}: a block has no end"
+        for link in map("".join, form.findall(re.sub(r"`[^`\n]*`", "", text))):
+            target, _, anchor = link.partition("#")
+            if re.match(r"[a-z]+:", target):  # other addresses are not followed
+                continue
+            to = os.path.normpath(os.path.join(os.path.dirname(page), target)) if target else page
+            if not (TOP / to).exists() or anchor and anchor not in anchors(texts.get(to, "")):
+                yield f"{page}: a link leads nowhere: {link}"
+
+
+def limits() -> dict[str, int]:
+    """Returns the limits that the sources have. checks/header.py compares those of the header with the crate."""
+    files = ("mh_show/src/show.rt", "mh_show/src/run.rt", "multihash_c/include/multihash.h")
+    text = "\n".join((TOP / "crates" / file).read_text("utf-8") for file in files)
+    forms = {
+        "capacity": r"Multihash::<(\d+)>::from_bytes",
+        "input": r"const MOST_INPUT: usize = (\d+);",
+        "digest": r"MULTIHASH_DIGEST_MAX (\d+)\n",
+        "length": r"MULTIHASH_LENGTH_MAX (\d+)\n",
+        "scale": r"MULTIHASH_SCALE_LENGTH_MAX (\d+)\n",
+    }
+    found = {name: int(re.findall(form, text)[0]) for name, form in forms.items()}
+    long = found["length"] - found["digest"]
+    return {**found, "long": long, "short": long - 1}  # a length of one byte less
+
+
+def limit_errors(texts: Texts) -> Iterator[str]:
+    for page, sentences in LIMITS.items():
+        for sentence in sentences:
+            if sentence.format(**limits()) not in flat(texts[page]):
+                yield f"{page} does not say: {sentence.format(**limits())}"
+
+
+def check_errors(texts: Texts) -> Iterator[str]:
+    """Compares the table of checks in ARCHITECTURE.md with the files."""
+    rows = set(re.findall(r"^\| `(\w+)` \|", texts[ARCHITECTURE].partition("| Check |")[2], re.M))
+    files = {path.stem for path in (TOP / "checks").glob("*.t")}
+    if rows != files:
+        yield f"{ARCHITECTURE} has a row for one of {sorted(rows ^ files)} alone, or a file is there alone"
+
+
+def commands_of(readme: str) -> Iterator[str]:
+    """Returns the commands that README.md shows."""
+    for language, body in FENCE.findall(readme):
+        if language == "sh":
+            yield from (line.split("#")[0].strip() for line in body.splitlines())
+    yield from re.findall(r"`((?:bash |rt |tools/|\.ci/)[^`]+)`", FENCE.sub("", readme))
+
+
+def command_errors(texts: Texts) -> Iterator[str]:
+    """Runs the quick start, and looks for the other commands, the programs' outputs and the library's line of crates.txt."""
+    blocks = {body for _, body in FENCE.findall(texts[README])}
+    shown, printed = (
+        (TOP / "crates" / crate / "stdout").read_text("utf-8") for crate in ("mh_show", "example")
+    )
+    crates = (TOP / "crates.txt").read_text("utf-8").splitlines(keepends=True)
+    library = next(line for line in crates if line.startswith("multihash:"))
+    if not {shown, printed, f"app: multihash\n{library}"} <= blocks:
+        yield "it shows another output than a program's stdout, or another line than crates.txt"
+    commands = [command for command in commands_of(texts[README]) if command]
+    if sum("rt" in command.split() for command in commands) < 2:
+        yield "it does not show the two commands of the quick start"
+    for command in commands:
+        if "rt" not in command.split():
+            if not os.access(TOP / command.removeprefix("bash ").split()[0], os.X_OK):
+                yield f"there is no {command}"
+            continue
+        if os.environ.get("BUILT") == "rt ci":
+            command = command.replace("rt run", "out/mh_show")
+        ran = subprocess.run(["bash", "-c", command], cwd=TOP, capture_output=True, text=True)
+        if ran.returncode != 0 or not ran.stdout.startswith(shown):
+            yield f"{command}: status {ran.returncode}, printed {ran.stdout!r}, {ran.stderr[-300:]!r}"
+
+
+CHECKS: dict[str, Callable[[Texts], Iterator[str]]] = {
+    "contract_errors": contract_errors,
+    "name_errors": name_errors,
+    "example_errors": example_errors,
+    "link_errors": link_errors,
+    "limit_errors": limit_errors,
+    "check_errors": check_errors,
+    "command_errors": command_errors,
+}
+
+
+def planted(texts: Texts) -> Iterator[tap.Result]:
+    """Plants differences, each of which has to be found."""
+    for name, _, seen, its_edits in edits.read(TOP / "checks" / "pages.edits"):
+        changed = edits.apply(texts, its_edits)
+        found = any(CHECKS[seen]({**texts, **changed}))
+        yield f"planted: {name}", "" if found else f"{seen} does not find it"
+    for page, sentences in LIMITS.items():
+        for sentence in sentences:
+            text = flat(texts[page]).replace(sentence.format(**limits()), "")
+            found = any(limit_errors({**texts, page: text}))
+            yield f"planted in {page}: {sentence}", "" if found else "it is not found"
+
+
+def results() -> Iterator[tap.Result]:
+    texts = read_texts()
+    for name, check in CHECKS.items():
+        yield name, "\n".join(check(texts))
+    yield from planted(texts)
+
+
+if __name__ == "__main__":
+    sys.exit(tap.report(results()))

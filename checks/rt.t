@@ -1,0 +1,25 @@
+#!/usr/bin/env bash
+# 'rt ci': proves every crate and its tests, tries the mutants of must-fail/, runs tests and programs. Each crate has
+# as many tests as are stated here.
+# shellcheck source=checks/tap.sh
+. "$(dirname "$0")/tap.sh"
+plan 2
+rt ci > "$work/out" 2>&1 < /dev/null
+status=$?
+last=$(tail -n 1 "$work/out")
+[ $status = 0 ] && [ "$last" = "46 passed, 0 failed" ]
+count $? "rt ci: $last"
+[ $status = 0 ] || sed 's/^/# /' "$work/out" >&2
+
+# Prints each crate that has tests, and their number.
+tests() {
+  awk '/^test result: ok\. / { tests = $4 }
+    /^rt: [a-z_]+: its tests passed$/ { print substr($2, 1, length($2) - 1), tests }' "$work/out" | sort
+}
+
+try "the tests of each crate" diff - <(tests) << 'LIST'
+mh_show 6
+tests_streams 53
+tests_sweeps 30
+tests_values 26
+LIST
