@@ -3,10 +3,11 @@
 
     checks/bugs.py [--alone]
 
-They are in checks/bugs.edits. In 'seen: CRATE MODULE::TEST [N]' is the test that has to fail and, with N, the number of
-the allocation that fails in it. With 'passes CRATE MODULE::TEST' it has to pass. The bugs of one crate of tests are
-planted in one copy, so each has a test of its own, which no other bug changes: --alone shows that. It plants each bug in
-a copy of its own, which needs four times as long.
+They are in checks/bugs.edits. In 'seen: CRATE MODULE::TEST [N]' is the test that has to fail and,
+with N, the number of the allocation that fails in it. With 'seen: passes CRATE MODULE::TEST' it
+has to pass. The bugs of one crate of tests are planted in one copy, so each has a test of its own,
+which no other bug changes: --alone shows that. It plants each bug in a copy of its own, which needs
+four times as long.
 """
 import re
 import subprocess
@@ -54,7 +55,7 @@ def groups(is_alone: bool) -> dict[Group, list[Bug]]:
 
 
 def result_of(log: str, test: str) -> str:
-    """Returns how a test ended: 'fails', 'passes', or nothing if it ran out of time or did not run."""
+    """Returns how a test ended: 'fails', 'passes', or '' if it did not end."""
     found = re.search(rf"(?ms)^test {re.escape(test)} \.\.\.(.*?)(?=^test |\Z)", log)
     if not found or "no-answer" in found[1]:
         return ""

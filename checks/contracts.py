@@ -1,8 +1,8 @@
 #!/usr/bin/env python3
 """Writes docs/CONTRACTS.md: the public items of crates, with the contracts of their functions.
 
-A line is left out or kept, never changed, so no clause can become weaker, and no public name can go, without a
-difference in that page. Left out are comments, bodies and what is private.
+A line is left out or kept, never changed, so no clause can become weaker, and no public name can
+go, without a difference in that page. Left out are comments, bodies and what is private.
 """
 import re
 import sys
@@ -18,12 +18,13 @@ CRATES = ("multihash", "multihash_c", "mh_show", "storage")
 INTRODUCTION = """\
 # Contracts
 
-Written by `checks/contracts.py`, and compared with the sources in CI: the public items of these crates, as they
-stand in their files, without comments and bodies. A difference here is a changed promise.
-[CALLING.md](../crates/multihash/CALLING.md#what-contracts-see) says how to read a clause, and explains its words.
+Written by `checks/contracts.py`, and compared with the sources in CI: the public items of these
+crates, as they stand in their files, without comments and bodies. A difference here is a changed
+promise. [CALLING.md](../crates/multihash/CALLING.md#what-contracts-see) says how to read a clause,
+and explains its words.
 
-A function with an empty body does nothing: its clauses are laws of the definitions, or fix what implementations
-expose.
+The functions of `laws.rt` and `pins.rt` do nothing: their clauses are laws of the definitions, and
+fix what implementations expose.
 """
 
 
@@ -71,7 +72,10 @@ def field_lines(item: Item) -> Iterator[str]:
 
 
 def item_lines(item: Item, private: set[str]) -> Iterator[str]:
-    """Returns the lines of an item that a caller can see. Those of an impl of a private type are none."""
+    """Returns the lines of an item that a caller can see.
+
+    Those of an impl of a private type are none.
+    """
     if item.kind == "fn":
         if item.is_public or has_no_body(item):
             yield from function_lines(item, "")
@@ -96,7 +100,7 @@ def first_lines(text: str) -> Iterator[str]:
 
 
 def section_of(path: str, text: str) -> str:
-    """Returns a heading, what the file says of itself, and its public items; nothing if it has none."""
+    """Returns the section of a file, which is empty if the file has no public items."""
     top_items = items(text)
     private = {
         item.name for item in top_items if item.kind in ("struct", "enum") and not item.is_public

@@ -5,7 +5,7 @@
     # NAME: TEXT             begins a difference
     seen: TEXT               what has to see it, if that is written
     file: PATH
-    old: TEXT                one line or a part of one, which the file has exactly once; none: the file is new
+    old: TEXT                a text that the file has exactly once; none: the file is new
     new: TEXT                what replaces it
 
 In old and new texts '\\n' is the end of a line.
@@ -25,7 +25,7 @@ class Edit(NamedTuple):
 
 
 class Planted(NamedTuple):
-    """A planted difference: its name, what is written beside it, what has to see it, and its edits."""
+    """A planted difference: its name and text, what has to see it, and its edits."""
 
     name: str
     text: str

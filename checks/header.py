@@ -47,7 +47,7 @@ Structs = dict[str, list[tuple[str, str]]]
 
 
 class Declared(NamedTuple):
-    """What the crate has: the declarations and macros of the header; structs with fields, numbers and version."""
+    """What the crate has, from which the header and the bindings are judged."""
 
     declarations: list[str]
     macros: dict[str, str]
@@ -114,7 +114,8 @@ def declarations(
 ) -> Iterator[str]:
     """Returns the declarations that the header has to have, in C."""
     yield "typedef uint32_t multihash_status;"
-    yield f"enum {{ {', '.join(f'MULTIHASH_{name} = {number}' for name, number in statuses.items())} }};"
+    numbers = ", ".join(f"MULTIHASH_{name} = {number}" for name, number in statuses.items())
+    yield f"enum {{ {numbers} }};"
     for name, fields in structs.items():
         typed = [
             ("multihash_status" if field == "status" else kind, field) for field, kind in fields
@@ -126,7 +127,8 @@ def declarations(
         f'{f"case MULTIHASH_{name}" if name else "default"}: return "{text}";'
         for name, text in texts
     )
-    yield f"static inline const char *multihash_status_text(multihash_status status) {{ switch (status) {{ {cases} }} }}"
+    signature = "static inline const char *multihash_status_text(multihash_status status)"
+    yield f"{signature} {{ switch (status) {{ {cases} }} }}"
 
 
 def of_crate(files: Files) -> Declared:
@@ -198,13 +200,18 @@ def header_errors(header: str, crate: Declared, language: str) -> Iterator[str]:
     if macros - predefined != {
         f"#define MULTIHASH_{name} {value}" for name, value in crate.macros.items()
     }:
-        yield f"{language}: the crate has {crate.macros}, and the header {sorted(macros - predefined)}"
+        found = sorted(macros - predefined)
+        yield f"{language}: the crate has {crate.macros}, and the header {found}"
 
 
 def constants_of(files: Files, folder: str, names: list[str]) -> dict[str, str]:
-    """Returns the constants of these names in the files of a folder. A value that is no number is an error."""
-    form = rf"(?<![.\w])({'|'.join(names)})(?:: *&?[\w' ]+)?(?: = |: )([^;\n]*);?(?: *(?:#|//)[^\n]*)?$"
-    loose = rf"(?<![.\w])(?:{'|'.join(names)})\b *(?::[^=\n:]*)?=(?![=>])"
+    """Returns the constants of these names in the files of a folder.
+
+    A value that is no number is an error.
+    """
+    one = "|".join(names)
+    form = rf"(?<![.\w])({one})(?:: *&?[\w' ]+)?(?: = |: )([^;\n]*);?(?: *(?:#|//)[^\n]*)?$"
+    loose = rf"(?<![.\w])(?:{one})\b *(?::[^=\n:]*)?=(?![=>])"
     found: dict[str, str] = {}
     for path, text in files.items():
         if not path.startswith(folder):

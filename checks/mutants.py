@@ -1,14 +1,18 @@
 #!/usr/bin/env python3
-"""Tries mutants of functions and definitions: the prover must leave open, in each, goals of exactly the clauses that it names.
+"""Tries mutants of functions and definitions.
 
-    checks/mutants.py [--only NAME] [--definitions | --since COMMIT] [--jobs N] [--proved FOLDER] [CRATE..]
+The prover must leave open, in each, goals of exactly the clauses that it names.
 
-They are in crates/*/mutants/*.edits and crates/*/must-fail/*.edit; docs/PLANTED.md says how to write one. Each round
-puts one mutant of each of several functions into a copy of a crate and checks the copy once: a function is proved
-against contracts, never against another's body. One that names a clause as FUNCTION#CLAUSE, or none, changes a
-definition: these are tried with --definitions, each in a check of its own, or in the crates whose specs/, examples or
-mutants of definitions differ from --since. Needs 2 GB a job. First these crates, or of mutants of bodies the modules,
-are proved in a copy or in the folder --proved.
+    checks/mutants.py [--only NAME] [--definitions | --since COMMIT] [--jobs N] [--proved FOLDER]
+                      [CRATE..]
+
+They are in crates/*/mutants/*.edits and crates/*/must-fail/*.edit; docs/PLANTED.md says how to
+write one. Each round puts one mutant of each of several functions into a copy of a crate and checks
+the copy once: a function is proved against contracts, never against another's body. One that names
+a clause as FUNCTION#CLAUSE, or none, changes a definition: these are tried with --definitions, each
+in a check of its own, or in the crates whose specs/, examples or mutants of definitions differ from
+--since. Needs 2 GB a job. First these crates, or of mutants of bodies the modules, are proved in a
+copy or in the folder --proved.
 """
 import argparse
 import re
@@ -29,11 +33,12 @@ from proving import Function, Goal, Output, Prover
 
 ROOT = Path(__file__).resolve().parent.parent
 EXAMPLES = ("specs", "proofs/Examples", "proofs/*Vectors.antt", "mutants/definitions.edits")
-BY_LIMIT = " by a limit"  # what follows a clause of which no goal is open but one where the search gave up at a limit
+# what follows a clause of which no goal is open but one where the search gave up at a limit
+BY_LIMIT = " by a limit"
 
 
 class Written(NamedTuple):
-    """A mutant as it is written: the clauses that it breaks, and its edits; or why it cannot be read."""
+    """A mutant as it is written, or why it cannot be read."""
 
     label: str
     clauses: list[str]
@@ -80,7 +85,10 @@ def written(home: Path) -> Iterator[Written]:
 def error_of(
     mutant: Mutant, output: Output, goals: Iterable[Goal], names: list[str], state: str
 ) -> str:
-    """Returns what is wrong with a mutant's rejection, if something is. A goal has the name of its clause."""
+    """Returns what is wrong with a mutant's rejection, if something is.
+
+    A goal has the name of its clause.
+    """
     by_limit: dict[str, bool] = {}
     for goal in goals:
         by_limit[goal.name] = by_limit.get(goal.name, True) and goal.by_limit
@@ -103,7 +111,8 @@ class Crate:
     ) -> None:
         self.proved, self.name, self.prover, self.modules = proved, name, prover, modules
         self.texts = proving.texts_of(proved / "crates" / name)
-        # a check also prints the functions of the crates below where these were not proved by the same process
+        # a check also prints the functions of the crates below where these were not proved by the
+        # same process
         self.known = {
             function
             for function, found in output.found.items()
@@ -139,7 +148,7 @@ class Crate:
             return self.prover.check(home, self.modules)
 
     def rounds(self, wanted: list[Mutant]) -> list[list[Mutant]]:
-        """Returns the mutants of bodies in rounds with at most one of a function, and each other one in one of its own."""
+        """Returns rounds, with at most one mutant of each body, or with one of a definition."""
         bodies: dict[str, list[Mutant]] = defaultdict(list)
         alone = []
         for mutant in wanted:
@@ -151,7 +160,10 @@ class Crate:
         return [[mutant for mutant in mutants if mutant] for mutants in together] + alone
 
     def try_round(self, mutants: list[Mutant]) -> list[tap.Result]:
-        """Tries mutants in one check. Those that are unclear there are tried again, in two halves."""
+        """Tries mutants in one check.
+
+        Those that are unclear there are tried again, in two halves.
+        """
         output = self.check(mutants)
         results: list[tap.Result] = []
         unclear: list[Mutant] = []
@@ -180,7 +192,7 @@ class Crate:
         return results
 
     def strays(self, output: Output, changed: set[str]) -> list[tap.Result]:
-        """Returns a failure for each error in a file of no function, and for each other function not proved by itself."""
+        """Returns a failure for each error that belongs to no mutant."""
         states = {name: output.found[name].state for name in sorted(self.known - changed)}
         others = [
             (f"{name} has no mutant", state)
@@ -190,7 +202,7 @@ class Crate:
         return others + [("no mutant of a body opens this", error) for error in output.others]
 
     def error_of_definition(self, mutant: Mutant, output: Output) -> str:
-        """Judges a mutant by an example or a lemma where it names no clause, else by all clauses of the crate."""
+        """Judges a mutant by an example or lemma if it names no clause, else by all clauses."""
         if not mutant.clauses:
             unread = [error for error in output.unread if not error.startswith("src/")]
             if unread:
@@ -233,7 +245,10 @@ class Options(NamedTuple):
         return bool(self.since and subprocess.check_output(diff, cwd=ROOT))
 
     def modules(self, crate: str) -> list[str]:
-        """Returns the modules that the mutants of bodies change; none if definitions are to be tried, or one changes the root."""
+        """Returns the modules that the mutants of bodies change.
+
+        There are none if definitions are to be tried, or one changes the root.
+        """
         mutants = written(ROOT / "crates" / crate)
         paths = {
             edit.path for mutant in mutants for edit in mutant.edits if edit.path.startswith("src/")
@@ -243,7 +258,10 @@ class Options(NamedTuple):
 
 
 def prove(options: Options, proved: Path, prover: Prover) -> tuple[list[Crate], list[tap.Result]]:
-    """Proves a copy of the crates that have mutants. Returns them, and what is wrong with those that are not proved."""
+    """Proves a copy of the crates that have mutants.
+
+    Returns them, and what is wrong with those that are not proved.
+    """
     below = proving.crates_of(ROOT)
     found: list[Crate] = []
     errors: list[tap.Result] = []

@@ -1,5 +1,8 @@
 #!/usr/bin/env python3
-"""Tests mutants.py on a small crate: a mutant of each kind that it has to fail, and runs that must not pass."""
+"""Tests mutants.py on a small crate.
+
+It tries a mutant of each kind that mutants.py has to fail, and runs that must not pass.
+"""
 import os
 import re
 import shutil
@@ -44,7 +47,11 @@ ghost use Rattle.small.specs.Sum.{most};
 
 
 class Case(NamedTuple):
-    """A function, with its clause and body; a mutant of it, the clause that this names, and what is reported."""
+    """A function and a mutant of it.
+
+    It has a clause 'value' and a body. The mutant replaces a text, and names a clause. What is
+    reported contains a text, if the mutant has to fail.
+    """
 
     name: str
     clause: str
@@ -55,74 +62,17 @@ class Case(NamedTuple):
     reported: str
 
 
-CASES = [
-    Case(
-        "next",
-        "result ≡ n + 1",
-        "n as u16 + 1",
-        "    n as u16 + 1",
-        "    n as u16 + 2",
-        "value",
-        "",
-    ),
-    Case(
-        "cited",
-        "result ≡ n + 2",
-        "next(n) + 1",
-        "next(n) + 1",
-        "n as u16 + 3",
-        "value",
-        "a name that a proof cites is gone",
-    ),
-    Case(
-        "right",
-        "result ≡ n + 1",
-        "1 + n as u16",
-        "    1 + n",
-        "    0 + 1 + n",
-        "value",
-        "NOT REJECTED",
-    ),
-    Case(
-        "weakened",
-        "result ≤ most",
-        "n as u16 + 6",
-        "    n as u16 + 6",
-        "    n as u16 + 7",
-        "value",
-        "NOT REJECTED",
-    ),
-    Case(
-        "two",
-        "result ≡ n + 3",
-        "n as u16 + 3",
-        "    n as u16 + 3",
-        "    n as u16 + 600",
-        "value",
-        "open are ['bound', 'value']",
-    ),
-    Case(
-        "other",
-        "result ≡ n + 4",
-        "n as u16 + 4",
-        "    n as u16 + 4",
-        "    n as u16 + 5",
-        "bound",
-        "open are ['value']",
-    ),
-    Case(
-        "absent", "result ≡ n + 5", "n as u16 + 5", "n as u16 + 99", "n as u16", "value", "0 times"
-    ),
-    Case(
-        "no_body",
-        "result ≡ n + 7",
-        "n as u16 + 7",
-        "fn no_body(n",
-        "fn no_body(m",
-        "value",
-        "it changes no one body",
-    ),
-]
+TABLE = """
+next     | result ≡ n + 1 | n as u16 + 1 | n as u16 + 1  | n as u16 + 2     | value |
+cited    | result ≡ n + 2 | next(n) + 1  | next(n) + 1   | n as u16 + 3     | value | a name that
+right    | result ≡ n + 1 | 1 + n as u16 | 1 + n as u16  | 0 + 1 + n as u16 | value | NOT REJECTED
+weakened | result ≤ most  | n as u16 + 6 | n as u16 + 6  | n as u16 + 7     | value | NOT REJECTED
+two      | result ≡ n + 3 | n as u16 + 3 | n as u16 + 3  | n as u16 + 600   | value | ['bound'
+other    | result ≡ n + 4 | n as u16 + 4 | n as u16 + 4  | n as u16 + 5     | bound | ['value']
+absent   | result ≡ n + 5 | n as u16 + 5 | n as u16 + 99 | n as u16         | value | 0 times
+no_body  | result ≡ n + 7 | n as u16 + 7 | fn no_body(n  | fn no_body(m     | value | no one body
+"""
+CASES = [Case(*map(str.strip, line.split("|"))) for line in TABLE.strip().splitlines()]
 DEFINITIONS = """
 file: specs/Sum.antt
 

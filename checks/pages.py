@@ -73,7 +73,7 @@ def contract_errors(texts: Texts) -> Iterator[str]:
 
 
 def name_errors(texts: Texts) -> Iterator[str]:
-    """Returns the names in backquotes in CALLING.md that no source has, but paths and what has a word in capitals."""
+    """Returns the names in backquotes in CALLING.md that no source has, but paths and capitals."""
     sources = TOP.glob("crates/*/[!o]*/**/*.[ar]*t")
     known = {word for path in sources for word in re.findall(r"[\w-]+", path.read_text("utf-8"))}
     known |= {"BTreeMap", "HashMap", "checker", "prog"}
@@ -94,7 +94,7 @@ def code_of(path: Path) -> list[str]:
 
 
 def example_errors(texts: Texts) -> Iterator[str]:
-    """Returns the paragraphs of the examples in Rattle that no caller has, with or without contracts."""
+    """Returns the paragraphs of the examples that no caller has, with or without contracts."""
     crates = [TOP / "crates" / crate / "src" for crate in ("uses", "storage", "example")]
     callers = [path for crate in crates for path in crate.rglob("*.rt")]
     sources = "\n".join(code for path in callers for code in code_of(path))
@@ -137,7 +137,7 @@ def link_errors(texts: Texts) -> Iterator[str]:
 
 
 def limits() -> dict[str, int]:
-    """Returns the limits that the sources have. checks/header.py compares those of the header with the crate."""
+    """Returns the limits that the sources have. header.py compares the header with the crate."""
     files = ("mh_show/src/show.rt", "mh_show/src/run.rt", "multihash_c/include/multihash.h")
     text = "\n".join((TOP / "crates" / file).read_text("utf-8") for file in files)
     forms = {
@@ -164,7 +164,7 @@ def check_errors(texts: Texts) -> Iterator[str]:
     rows = set(re.findall(r"^\| `(\w+)` \|", texts[ARCHITECTURE].partition("| Check |")[2], re.M))
     files = {path.stem for path in (TOP / "checks").glob("*.t")}
     if rows != files:
-        yield f"{ARCHITECTURE} has a row for one of {sorted(rows ^ files)} alone, or a file is there alone"
+        yield f"{ARCHITECTURE}: there is only a row, or only a file, of {sorted(rows ^ files)}"
 
 
 def commands_of(readme: str) -> Iterator[str]:
@@ -176,7 +176,7 @@ def commands_of(readme: str) -> Iterator[str]:
 
 
 def command_errors(texts: Texts) -> Iterator[str]:
-    """Runs the quick start, and looks for the other commands, the programs' outputs and the library's line of crates.txt."""
+    """Runs the quick start, and looks for other commands, outputs and the line of crates.txt."""
     blocks = {body for _, body in FENCE.findall(texts[README])}
     shown, printed = (
         (TOP / "crates" / crate / "stdout").read_text("utf-8") for crate in ("mh_show", "example")
@@ -197,7 +197,8 @@ def command_errors(texts: Texts) -> Iterator[str]:
             command = command.replace("rt run", "out/mh_show")
         ran = subprocess.run(["bash", "-c", command], cwd=TOP, capture_output=True, text=True)
         if ran.returncode != 0 or not ran.stdout.startswith(shown):
-            yield f"{command}: status {ran.returncode}, printed {ran.stdout!r}, {ran.stderr[-300:]!r}"
+            printed = f"{ran.stdout!r}, {ran.stderr[-300:]!r}"
+            yield f"{command}: status {ran.returncode}, printed {printed}"
 
 
 CHECKS: dict[str, Callable[[Texts], Iterator[str]]] = {

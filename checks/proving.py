@@ -15,13 +15,14 @@ from edits import Edit
 from rt_source import Item, functions
 
 PARTS, FILES = ("src", "specs", "proofs"), ("crates.txt", "HANDLES")
-# the lines that the prover prints: a note for each open goal of a function, before its state; and errors in the files
-# of proofs
+# the lines that the prover prints: a note for each open goal of a function, before its state; and
+# errors in the files of proofs
 NOTE = re.compile(r"note: \S+: it is not proved that (.*)")
 STATE = re.compile(r"(?:fn|impl) (\S+): (.*)")
 ERROR = re.compile(r"(?:\./)?((?:src|specs|proofs)/[^\s:]+):\d+:\d+: error: (.*)")
 PROOF = re.compile(r"proofs/(.*)/(?:Answers|Invariants|Proof)\.antt")
-# a search that did not try all; a name that is gone; a function or a lemma that fails only as another does
+# a search that did not try all; a name that is gone; a function or a lemma that fails only as
+# another does
 LIMIT = re.compile(r"gave up at one of its limits|was found\. It stopped ")
 NAMES = re.compile(
     r"can be named from here|has no field|is not in scope|is no name|has no `"
@@ -33,7 +34,7 @@ FOLLOWS = re.compile(
 
 
 class Function(NamedTuple):
-    """A function with a body: its name and file, where its body is, and the names of its clauses."""
+    """A function with a body: its name and file, where its body is, and its clauses."""
 
     name: str
     path: str
@@ -79,7 +80,7 @@ def camel_case(path: str) -> str:
 
 
 def functions_of(texts: Mapping[str, str], known: Iterable[str]) -> list[Function]:
-    """Returns the functions that have a body, by the names that the prover prints; one without such a name has none."""
+    """Returns the functions that have a body, with the names that the prover prints, or none."""
     found = []
     for path, text in texts.items():
         if not path.endswith(".rt"):
@@ -153,7 +154,10 @@ def copy_crates(root: Path, to: Path) -> None:
 
 
 def link_crates(root: Path, to: Path) -> None:
-    """Copies the crates, and what checks kept of them by links: the prover replaces files and never writes into one."""
+    """Copies the crates, and what checks kept of them by links.
+
+    The prover replaces files and never writes into one.
+    """
 
     def copy(old: str, new: str) -> None:
         if "/out/" in old:
@@ -173,7 +177,7 @@ def texts_of(home: Path) -> dict[str, str]:
 
 
 class Output:
-    """What a check of a crate printed, by function; the errors in other files; and those of texts that cannot be read."""
+    """What a check of a crate printed: by function, in other files, and of texts not read."""
 
     def __init__(self, crate: str, text: str, status: int) -> None:
         lines = text.replace("\n  was found. ", " was found. ").split(
@@ -226,7 +230,10 @@ class Prover:
             signal.signal(number, self.end)
 
     def check(self, home: Path, modules: Iterable[str] = ()) -> Output:
-        """Checks a crate, or what these modules of it have. A second job would cost more CPU time and save none."""
+        """Checks a crate, or what these modules of it have.
+
+        A second job would cost more CPU time and save none.
+        """
         words = ["rt", "check", "--jobs", "1", *(f"--only={module}" for module in modules)]
         with subprocess.Popen(
             words,

@@ -3,7 +3,8 @@ import re
 from collections.abc import Iterator
 from typing import NamedTuple
 
-# A string, a character or a comment; what an item begins with; a field of a struct or a case of an enum; a clause of a contract.
+# A string, a character or a comment; what an item begins with; a field of a struct or a case of an
+# enum; a clause of a contract.
 TEXT = re.compile(r'"(?:\\.|[^"\\])*"|\'(?:\\[^\']*|[^\\\'])\'|//[^\n]*', re.S)
 HEAD = re.compile(
     r"(pub )?(?:pub\(\w+\) )?(?:unsafe )?(?:(?:const +|unsafe +|extern +)*(fn)\b"
@@ -63,7 +64,7 @@ class Item(NamedTuple):
         return items(self.text, self.code, self.inner(), self.end, 4)
 
     def parts(self) -> Iterator[tuple[bool, str, str]]:
-        """Returns the fields of a struct or the cases of an enum: whether each is public, its name, and its type."""
+        """Returns the fields or cases: whether each is public, its name, and its type."""
         for start, end in chunks(self.code, self.inner(), self.end, 4):
             chunk = self.code[start:end]
             found = PART.match(chunk)
@@ -94,22 +95,32 @@ class Item(NamedTuple):
 
 
 def chunks(code: str, start: int, end: int, depth: int) -> Iterator[tuple[int, int]]:
-    """Returns where each text begins and ends whose first line has that indent, without the indent: its brackets are closed."""
+    """Returns where each text with that indent begins and ends, without the indent.
+
+    Its brackets are closed.
+    """
     indent = " " * depth
-    for it in re.compile(
-        rf"(?m)^{indent}(?=\S)[^)}}\]][^\n]*\n(?:(?:{indent}[ (){{}}\]][^\n]*| *)\n)*"
-    ).finditer(code, start, end):
-        if any(it[0].count(pair[0]) != it[0].count(pair[1]) for pair in ("()", "{}", "[]")):
-            raise Unread(f"its brackets are not closed: {it[0][:90]}")
-        yield it.start() + depth, it.start() + len(it[0].rstrip()) + 1
+    first = rf"^{indent}(?=\S)[^)}}\]][^\n]*\n"
+    more = rf"(?:(?:{indent}[ (){{}}\]][^\n]*| *)\n)*"
+    for chunk in re.compile(first + more, re.M).finditer(code, start, end):
+        for pair in ("()", "{}", "[]"):
+            if chunk[0].count(pair[0]) != chunk[0].count(pair[1]):
+                raise Unread(f"its brackets are not closed: {chunk[0][:90]}")
+        yield chunk.start() + depth, chunk.start() + len(chunk[0].rstrip()) + 1
+
+
+def blank(text: str) -> str:
+    """Returns blanks for each character of a text, but the ends of its lines."""
+    return re.sub(r"[^\n]", " ", text)
 
 
 def items(
     text: str, code: str = "", start: int = 0, end: int | None = None, depth: int = 0
 ) -> list[Item]:
     """Returns the items of a text, or of a part of it."""
-    code = code or TEXT.sub(lambda it: re.sub(r"[^\n]", " ", it[0]), text)
-    found, attributes = [], ""
+    code = code or TEXT.sub(lambda quoted: blank(quoted[0]), text)
+    found: list[Item] = []
+    attributes = ""
     for at, to in chunks(code, start, len(code) if end is None else end, depth):
         if code.startswith("#", at):
             attributes += code[at:to]
@@ -117,30 +128,20 @@ def items(
         head = HEAD.match(code, at)
         if not head:
             raise Unread(f"no known item: {text[at:to][:90]}")
-        name = re.search(r"\w+", code[head.end() : to])
-        found.append(
-            Item(
-                head[2] or head[3],
-                name[0] if name else "",
-                bool(head[1]),
-                attributes,
-                text,
-                code,
-                at,
-                head.end(),
-                to,
-            )
-        )
+        word = re.search(r"\w+", code[head.end() : to])
+        kind, name = head[2] or head[3], word[0] if word else ""
+        is_public, after = bool(head[1]), head.end()
+        found.append(Item(kind, name, is_public, attributes, text, code, at, after, to))
         attributes = ""
     return found
 
 
 def functions(text: str) -> Iterator[tuple[Item | None, Item]]:
     """Returns each function of a text, after the impl or the trait that it is a member of."""
-    for it in items(text):
-        if it.kind == "fn":
-            yield None, it
-        elif it.kind in ("impl", "trait"):
-            yield from ((it, member) for member in it.members() if member.kind == "fn")
-        elif it.kind == "mod" and "{" in it.code[it.after : it.end]:
-            raise Unread(f"a module in a file: {it.source[:90]}")
+    for item in items(text):
+        if item.kind == "fn":
+            yield None, item
+        elif item.kind in ("impl", "trait"):
+            yield from ((item, member) for member in item.members() if member.kind == "fn")
+        elif item.kind == "mod" and "{" in item.code[item.after : item.end]:
+            raise Unread(f"a module in a file: {item.source[:90]}")

@@ -1,13 +1,13 @@
 #!/usr/bin/env python3
-"""Compares the instructions of each case of crates/speed, and of calls from C, with the stored ones.
+"""Compares the instructions of each case of crates/speed, and of calls from C, with stored ones.
 
-    checks/speed.py                           compares docs/speed.tsv and docs/SPEED.md with the counts,
-                                              each of which may differ by 1, or by 2 %, and the page's
-                                              table and chart with docs/speed.tsv
-    checks/speed.py --write [TUNED DEFAULT]   writes docs/speed.tsv, docs/speed.svg and the tables of
-                                              docs/SPEED.md, and prints the dearer cases. With two
-                                              builds of crates/speed/rust/matrix.rs counts and times
-                                              them too; else these columns stay
+    checks/speed.py
+        compares docs/speed.tsv and docs/SPEED.md with the counts, each of which may differ by 1, or
+        by 2 %, and the page's table and chart with docs/speed.tsv
+    checks/speed.py --write [TUNED DEFAULT]
+        writes docs/speed.tsv, docs/speed.svg and the tables of docs/SPEED.md, and prints the dearer
+        cases. With two builds of crates/speed/rust/matrix.rs counts and times them too; else these
+        columns stay
 
 Valgrind counts instructions; times are CPU times. The program is that of 'rt ci', if BUILT says so;
 otherwise 'rt run' builds it.
@@ -56,7 +56,10 @@ Rows = dict[str, list[str]]
 
 
 def run(words: Iterable[str | Path], place: str = "") -> str:
-    """Returns what a program printed. The length of 'place', in the environment, moves its stack."""
+    """Returns what a program printed.
+
+    The length of 'place', in the environment, moves its stack.
+    """
     environment = os.environ | {"PLACE": place}
     pipe = subprocess.PIPE
     ran = subprocess.run(
@@ -69,8 +72,8 @@ def count_all(program: str, cases: list[str], caller: str = "") -> dict[str, int
     """Returns the instructions of a call of each case.
 
     These are those in the function that makes the calls, or else the difference of two runs. libc
-    copies more than 256 bytes with fewer instructions if the stack is aligned to 32 bytes: the lower
-    count is taken.
+    copies more than 256 bytes with fewer instructions if the stack is aligned to 32 bytes: the
+    lower count is taken.
     """
     tool = ["valgrind", "--tool=callgrind", "--callgrind-out-file=/dev/null"]
     tool += [f"--toggle-collect={caller}", program] if caller else [program]
@@ -106,9 +109,9 @@ def nanoseconds(program: str, case: str) -> float:
 def times(programs: list[str], rows: Rows) -> Rows:
     """Returns the columns of times.
 
-    These are the medians of runs of all cases, the programs by turns on one core; then the median of
-    the shares, the lowest and the highest. Dashes, if these are not all on the side of 1 on which the
-    share of the instructions is.
+    These are the medians of runs of all cases, the programs by turns on one core; then the median
+    of the shares, the lowest and the highest. Dashes, if these are not all on the side of 1 on
+    which the share of the instructions is.
     """
     os.sched_setaffinity(0, {max(os.sched_getaffinity(0))})
     runs = [
@@ -181,8 +184,8 @@ def chart(rows: Rows) -> str:
     svg = [
         f'<svg xmlns="http://www.w3.org/2000/svg" viewBox="0 0 720 {24 * len(bars) + 40}" '
         'font-family="sans-serif" font-size="13">',
-        '<rect width="720" height="100%" fill="#fff"/><text x="12" y="20">Instructions of a call as '
-        "a share of the tuned Rust crate's (32-byte digests, capacity 64)</text>",
+        '<rect width="720" height="100%" fill="#fff"/><text x="12" y="20">Instructions of a call '
+        "as a share of the tuned Rust crate's (32-byte digests, capacity 64)</text>",
     ]
     for top, (part, name) in zip(range(34, 24 * len(bars) + 34, 24), bars):
         left, right = sorted((390, round(390 + 90 * log2(part))))

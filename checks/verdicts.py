@@ -21,7 +21,8 @@ TOP = Path(__file__).resolve().parent.parent
 STORED, BOUND = TOP / "crates/vectors/data/verdicts.tsv", TOP / "crates/multihash/specs/Varint.antt"
 COLUMNS = ("S", "input", "read", "read_taken", "from_bytes", "scale_decode", "scale_taken")
 
-# The number of stored lines that came from outside, and the SHA-256 of their sizes and inputs, which no bound changes.
+# The number of stored lines that came from outside, and the SHA-256 of their sizes and inputs,
+# which no bound changes.
 FROM_OUTSIDE = 3000
 OUTSIDE_SHA256 = "295042049837f3cd1c893ce5238a82627e5b67977d12fb7fa61d41cd0c66e8de"
 
@@ -37,7 +38,10 @@ class Rejected(Exception):
 
 
 class Rules:
-    """The rules for numbers below 2^bits. To read is to return a code, a digest and where it ends."""
+    """The rules for numbers below 2^bits.
+
+    To read is to return a code, a digest and where it ends.
+    """
 
     def __init__(self, bits: int) -> None:
         self.limit = 1 << bits
@@ -102,7 +106,7 @@ def result(
 
 
 def made_of(stored: str) -> str:
-    """Makes the list that has the inputs of the stored list, by the bound on numbers that the definitions state."""
+    """Makes the list of the stored inputs, by the bound on numbers that the definitions state."""
     inputs = [tuple(line.split("\t")[:2]) for line in stored.splitlines()[1:]]
     text = "".join("\t".join(line) + "\n" for line in inputs[:FROM_OUTSIDE])
     if hashlib.sha256(text.encode()).hexdigest() != OUTSIDE_SHA256:
