@@ -1,8 +1,4 @@
 //! A line of test vectors.
-ghost use Rattle.std.specs.Prelude.{◌≡◌, IfOk, IsTrue};
-ghost use Rattle.serde_json.specs.View.{view};
-ghost use Rattle.multihash.specs.Json.{IsByteArray};
-ghost use Rattle.vectors.specs.Sizes.{is_size};
 
 use crate::verdict::{self, Verdict};
 use anyhow::{Context, Result, bail, ensure};
@@ -46,8 +42,6 @@ pub struct Line {
     pub read: Reading,
     pub from_bytes: Verdict,
     pub scale_decode: Reading,
-    ghost known_size: { IsTrue (is_size size) },
-    ghost lists_input: { ∥ IsByteArray (view json) input.items ∥₁ },
 }
 
 impl Line {
@@ -87,9 +81,7 @@ impl Line {
     }
 }
 
-fn parse_size(text: &str) -> Result<usize>
-    ensures { IfOk result (λ size. IsTrue (is_size size)) }
-{
+fn parse_size(text: &str) -> Result<usize> {
     let size = text.parse::<usize>().context("a size")?;
     ensure!(
         is_known_size(size),
@@ -99,9 +91,7 @@ fn parse_size(text: &str) -> Result<usize>
 }
 
 // Whether test vectors may have this capacity.
-fn is_known_size(size: usize) -> bool
-    ensures { result ≡ is_size size }
-{
+fn is_known_size(size: usize) -> bool {
     matches!(
         size,
         0 | 1 | 2 | 4 | 16 | 32 | 64 | 128 | 200 | 255 | 256 | 300
@@ -109,9 +99,7 @@ fn is_known_size(size: usize) -> bool
 }
 
 // The bytes as an array of numbers.
-fn number_array(alloc: Global, bytes: &[u8]) -> Result<Value>
-    ensures { IfOk result (λ value. IsByteArray (view value) bytes.now) }
-{
+fn number_array(alloc: Global, bytes: &[u8]) -> Result<Value> {
     let mut members = Vec::with_capacity(alloc, bytes.len())?;
     for byte in bytes {
         members.push(Value::from(*byte))?;

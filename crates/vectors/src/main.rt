@@ -12,7 +12,6 @@ use std::fs;
 use std::process::ExitCode;
 
 mod check;
-mod cuts;
 mod line;
 mod replay;
 mod verdict;

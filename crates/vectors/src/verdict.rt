@@ -1,8 +1,4 @@
 //! The expected result of a call.
-ghost use Rattle.std.specs.Prelude.{◌↔◌, IsTrue, IfOk};
-ghost use Rattle.multihash.specs.Outcome.{IsResultOf};
-ghost use Rattle.multihash.specs.Refusal.{IsEof};
-ghost use Rattle.vectors.specs.Listed.{meaning, ListsBytes};
 
 use anyhow::{Context, Result, bail, ensure};
 use multihash::{Error, Multihash};
@@ -57,9 +53,7 @@ impl Verdict {
     }
 
     /// Whether the result is this verdict.
-    pub fn is_result<const S: usize>(&self, outcome: &Result<Multihash<S>, Error>) -> bool
-        ensures { IsTrue result ↔ IsResultOf outcome.now (meaning self.now) }
-    {
+    pub fn is_result<const S: usize>(&self, outcome: &Result<Multihash<S>, Error>) -> bool {
         match (self, outcome) {
             (Verdict::Pair { code, digest }, Ok(multihash)) => {
                 multihash.code() == *code && multihash.digest() == digest.as_slice()
@@ -76,9 +70,7 @@ impl Verdict {
 }
 
 // Whether the input ended within the digest, or within the fixed part of the SCALE form.
-fn is_unexpected_eof(error: &Error) -> bool
-    ensures { IsTrue result ↔ IsEof error.now }
-{
+fn is_unexpected_eof(error: &Error) -> bool {
     match error.io() {
         Some(io) => io.is_unexpected_eof(),
         None => false,
@@ -90,9 +82,7 @@ fn is_unexpected_eof(error: &Error) -> bool
 /// # Errors
 ///
 /// The text is neither; out of memory.
-pub fn parse_bytes(alloc: Global, text: &str) -> Result<Vec<u8>>
-    ensures { IfOk result (λ bytes. ListsBytes text.now bytes.items) }
-{
+pub fn parse_bytes(alloc: Global, text: &str) -> Result<Vec<u8>> {
     if text == "-" {
         return Ok(Vec::new(alloc));
     }

@@ -1,2 +1,0 @@
-pub mod OutcomeOfLemmas
-pub mod ScaleOutcomeLemmas
