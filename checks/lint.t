@@ -2,15 +2,18 @@
 # The scripts of the repository: bash -n, shellcheck, black and mypy. Each rejects a planted script.
 # shellcheck source=checks/tap.sh
 . "$(dirname "$0")/tap.sh"
-plan 9
+plan 10
 
 # Prints the paths of the scripts in a language, by their first lines.
 scripts() { git ls-files -co --exclude-standard -z | xargs -0 grep -lIE -m 1 -e "$1" 2> "$work/log" | sort; }
 
 shell=$(scripts '^(#! ?/.*\b(ba)?sh|# shellcheck shell=bash)$')
 python=$(git ls-files -co --exclude-standard 'checks/*.py')
-[ -n "$shell" ] && [ -n "$python" ]
-count $? "there are scripts"
+# an executable file in no known language would not be checked
+try "the language of each executable file is known" diff /dev/null <(git ls-files -s | awk '$1 == 100755 { print $4 }' |
+  grep -vxE '.*\.py|packaging/debian/rules' | grep -vxF "$shell")
+[ -n "$python" ]
+count $? "there is Python"
 
 # Checks the syntax of each script: bash reads one alone.
 syntax() {

@@ -1,32 +1,37 @@
 #!/usr/bin/env bash
-# That what fails is printed as failed: by tap.sh, by tap.py, and of a tool that counts by counted.sh.
-# shellcheck source=checks/tap.sh
-. "$(dirname "$0")/tap.sh"
-plan 10
+# That what fails is printed as failed: by tap.sh, by tap.py, and by counted.sh of a tool that counts.
+# It uses none of them itself.
+set -u
+cd "$(dirname "$0")/.." || exit 2
+number=0
+work=$(mktemp -d) || exit 2
+trap 'rm -rf "$work"' EXIT
+unset PROVED
+mkdir "$work/tools" && cp -r checks "$work" || exit 2
 
-# Whether a command prints these lines of results, and no other.
-prints() {
-  local wanted=$1
-  shift
-  diff <(echo "$wanted") <("$@" 2> "$work/errors")
+# Runs a text in a copy, and compares the results that it prints, one in a line.
+expect() {
+  local wanted=$1 text=$2 result="not ok"
+  number=$((number + 1))
+  diff <(printf "%b\n" "$wanted") <(cd "$work" && bash -c "$text" checks/text 2> /dev/null) >&2 && result=ok
+  echo "$result $number - ${text%%$'\n'*}"
 }
 
-# A tool of the repository, in a copy of checks/, whose last line is given.
-counted() {
-  local root=$work/$1
-  mkdir -p "$root/tools" && cp -r checks "$root" && printf '#!/bin/bash\n%s\n' "$2" > "$root/tools/tool" && chmod +x "$root/tools/tool"
-  (unset PROVED && "$root/checks/counted.sh" tool 2)
+# The same of a tool that ends with this command.
+expect_counted() {
+  printf '#!/bin/bash\n%s\n' "$2" > "$work/tools/tool" && chmod +x "$work/tools/tool"
+  expect "1..2\n$1" "checks/counted.sh tool 2 # $2"
 }
 
-report() { PYTHONPATH=checks python3 -c "import tap, sys; sys.exit(tap.report($1))"; }
-
-try "a command that fails" prints "not ok $((number + 1)) - a" try a false
-try "a command that is not there" prints "not ok $((number + 1)) - a" try a no_such_command
-try "a command that was to fail" prints "not ok $((number + 1)) - a" try a rejects "" true
-try "a command that fails without the text" prints "not ok $((number + 1)) - a" try a rejects "a text" false
-ALL=0 try "what is left out" prints "ok $((number + 1)) # SKIP why" leave_out why 1
-ALL=1 try "what is left out, with ALL=1" prints "not ok $((number + 1)) - why" leave_out why 1
-try "an error" prints $'not ok 1 - a\nok 2 - b' report '[("a", "why"), ("b", "")]'
-try "a tool that counts one less" prints $'1..2\nok 1 - tool' counted less 'echo 1 passed, 0 failed'
-try "a tool that fails" prints $'1..2\nnot ok 1 - tool' counted fails 'echo 2 passed, 0 failed; exit 1'
-try "a tool that leaves out" prints $'1..2\nok 1 - tool\nok 2 # SKIP all: why' counted skips 'echo left out: all: why; echo 1 passed, 0 failed'
+echo 1..11
+expect "not ok 1 - a\nok 2 - b" ". checks/tap.sh; try a false; try b true"
+expect "not ok 1 - a" ". checks/tap.sh; try a no_such_command"
+expect "not ok 1 - a" ". checks/tap.sh; try a rejects '' true"
+expect "not ok 1 - a" ". checks/tap.sh; try a rejects 'a text' false"
+expect "not ok 1 - a\nok 2 - b" ". checks/tap.sh; printf 'failed: a\npassed: b\n' | count_lines"
+expect "ok 1 # SKIP why" "unset ALL; . checks/tap.sh; leave_out why 1"
+expect "not ok 1 - why" "export ALL=1; . checks/tap.sh; leave_out why 1"
+expect "not ok 1 - a\nok 2 - b" "PYTHONPATH=checks python3 -c 'import tap; tap.report([(\"a\", \"why\"), (\"b\", \"\")])'"
+expect_counted "ok 1 - tool" "echo 1 passed, 0 failed"
+expect_counted "not ok 1 - tool" "echo 2 passed, 0 failed; exit 1"
+expect_counted "ok 1 - tool\nok 2 # SKIP all: why" "echo left out: all: why; echo 1 passed, 0 failed"
