@@ -34,12 +34,17 @@ class Planted(NamedTuple):
 
 
 def read(path: Path) -> list[Planted]:
-    """Returns the differences of a file. A line in no known form is an error."""
+    """Returns the differences of a file."""
+    return parse(path.read_text("utf-8"))
+
+
+def parse(text: str) -> list[Planted]:
+    """Returns the differences of a text. A line in no known form is an error."""
     found: list[Planted] = []
     default = file = old = previous = ""
-    for line in path.read_text("utf-8").splitlines():
+    for line in text.splitlines():
         word, _, rest = line.partition(" ")
-        text = rest.replace("\\n", "\n")
+        part = rest.replace("\\n", "\n")
         if word == "#":
             name, _, what = rest.partition(": ")
             found.append(Planted(name, what, "", []))
@@ -49,11 +54,11 @@ def read(path: Path) -> list[Planted]:
         elif word == "file:":
             default, file = (default, rest) if previous else (rest, rest)
         elif word == "old:":
-            old = text
+            old = part
         elif word == "new:" and found and file:
-            found[-1].edits.append(Edit(file, old, text))
+            found[-1].edits.append(Edit(file, old, part))
         elif line:
-            raise ValueError(f"{path}: in no known form: {line}")
+            raise ValueError(f"in no known form: {line}")
         previous = line
     return found
 

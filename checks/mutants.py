@@ -63,23 +63,16 @@ class Mutant(NamedTuple):
 
 def written(home: Path) -> Iterator[Written]:
     """Returns the mutants of a crate."""
-    for path in sorted(home.glob("mutants/**/*.edits")):
+    for path in sorted([*home.glob("mutants/**/*.edits"), *home.glob("must-fail/*.edit")]):
+        # a file that 'rt ci' reads too has one mutant, and a first line 'clause: ok, short'
+        head = f"# {path.stem}: breaks "
+        text = re.sub(r"\Aclause: ", head, path.read_text("utf-8"))
         try:
-            for name, text, _, its_edits in edits.read(path):
-                clauses = text.removeprefix("breaks ").split(", ") if text else []
+            for name, breaks, _, its_edits in edits.parse(text):
+                clauses = breaks.removeprefix("breaks ").split(", ") if breaks else []
                 yield Written(f"{home.name}/{name}", clauses, its_edits)
         except ValueError as error:
             yield Written(f"{home.name}/{path.name}", [], [], str(error))
-    for path in sorted(home.glob("must-fail/*.edit")):
-        clause = path.read_text("utf-8").partition("\n")[0].removeprefix("clause: ")
-        label = f"{home.name}/{path.stem}"
-        with tempfile.NamedTemporaryFile("w", suffix=".edits") as file:
-            file.write(re.sub(r"\Aclause: .*\n", f"# {path.stem}\n", path.read_text("utf-8")))
-            file.flush()
-            try:
-                yield Written(label, clause.split(", "), edits.read(Path(file.name))[0].edits)
-            except (ValueError, IndexError) as error:
-                yield Written(label, [], [], str(error))
 
 
 def error_of(
