@@ -66,8 +66,11 @@ def member_lines(owner: Item) -> Iterator[str]:
 
 def field_lines(item: Item) -> Iterator[str]:
     """Returns the cases of an enum, or the fields of a struct that are public or ghost."""
+    is_seen = False
     for line in kept_lines(item.text[item.inner() : item.end]):
-        if line != "}" and item.kind == "enum" or re.match(r"    (pub|ghost) ", line):
+        if re.match(r"    \S", line):  # else it continues a field
+            is_seen = item.kind == "enum" or line.startswith(("    pub ", "    ghost "))
+        if is_seen and line != "}":
             yield line
 
 
