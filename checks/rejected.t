@@ -7,7 +7,7 @@
 # Each program is built once, or used as 'rt ci' built it, if BUILT says so.
 # shellcheck source=checks/tap.sh
 . "$(dirname "$0")/tap.sh"
-plan 393
+plan 375
 crates=$PWD/crates
 
 # Builds a program, with cached proofs, and runs it on no input.
@@ -45,27 +45,12 @@ expect_malformed() {
 
 4	390286ce	pair 57 86ce	4	pair 57 86ce	unexpected_eof
 four	390286ce	pair 57 86ce	4	pair 57 86ce	unexpected_eof	-
-3	390286ce	pair 57 86ce	4	pair 57 86ce	unexpected_eof	-
 4	390286c	pair 57 86ce	4	pair 57 86ce	unexpected_eof	-
 4		insufficient	-	insufficient	unexpected_eof	-
-4	390286ce	pair 57	4	pair 57 86ce	unexpected_eof	-
-4	390286ce	pair 57 	4	pair 57 86ce	unexpected_eof	-
-4	390286ce	pair 57 86ce		pair 57 86ce	unexpected_eof	-
-4	390286ce	pair 57 86ce	4	pair 57 86ce	unexpected_eof	
 4	390286ce	pair 57 86ce	four	pair 57 86ce	unexpected_eof	-
 4	390286ce	pair 57 86ce	4	pairs 57 86ce	unexpected_eof	-
-1	390286ce	invalid_size two	2	invalid_size 2	unexpected_eof	-
-1	80	insufficient 1	-	insufficient	unexpected_eof	-
-4	000000000000008000	pair 0 -	2	invalid_size 7	invalid_code	8
-4	000000000000008000	pair 0 -	2	invalid_size 7	invalid_code -1	8
 1	80	insufficient 	-	insufficient	unexpected_eof	-
-4	390286ce	pair 57 86ce	4 	pair 57 86ce	unexpected_eof	-
-4	390286ce	pair 57 86ce 	4	pair 57 86ce	unexpected_eof	-
-4	390286ce 	pair 57 86ce	4	pair 57 86ce	unexpected_eof	-
-4 	390286ce	pair 57 86ce	4	pair 57 86ce	unexpected_eof	-
-4	390286ce	pair 57 86ce	4	pair 57 86ce	unexpected_eof	- 
 # 4	390286ce	pair 57 86ce	4	pair 57 86ce	unexpected_eof	-
-4	390286ce	pair 57 86ce	4	pair 57 86ce	unexpected_eof	-	-
 LIST
 }
 
