@@ -135,7 +135,7 @@ cc -std=c11 -O1 -shared -fPIC -o "$work/memory.so" checks/memory.c -ldl || exit 
 # A run in which no allocation failed, or which leaks, is not what was wanted.
 for runs in $'right\nright\n1' $'leaks 1\nright\n1'; do
   echo "$runs" > "$work/planted" && judge "a planted run" 1 1 "$work/planted" | grep -q '^failed: '
-  count $? "a planted run is not seen"
+  count $? "a planted run is seen"
 done
 try_crate tests_values > "$work/tests.lines" &
 try_shows > "$work/shows.lines" &

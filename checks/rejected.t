@@ -132,9 +132,9 @@ done < <(awk '/^== / { print $2 }' checks/rejected.txt | sort -u)
 expect_malformed
 # Another output than the wanted one is seen.
 judge "$work/planted" 2> "$work/log" | grep -q "^not ok "
-count $? "a run without its output is not seen"
+count $? "a run without its output is seen"
 expect_show "code 0\nsize 1\ndigest 00\n0" 0000 | grep -q "^not ok "
-count $? "another output is not seen"
+count $? "another output is seen"
 expect_sizes 00 0 x
 expect_sizes 01 1 ""
 expect_sizes 12 18 x
