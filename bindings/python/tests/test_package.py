@@ -60,16 +60,14 @@ class Waits:
         return self.file.read(min(size, 1))
 
 
-class Nameless:
-    """A file without weak references, with these results."""
+class Equal(io.BytesIO):
+    """Files that are equal to each other, and have no hash."""
 
-    __slots__ = ("results",)
+    def __eq__(self, other):
+        return isinstance(other, Equal)
 
-    def __init__(self, *results):
-        self.results = iter(results)
-
-    def read(self, _):
-        return next(self.results)
+    def read(self, size):
+        return super().read(size) or None
 
 
 class Arguments(unittest.TestCase):
@@ -157,7 +155,7 @@ class Arguments(unittest.TestCase):
         closed.close()
         self.assertRaisesRegex(ValueError, "closed file", vm.read_from, closed)
         self.assertRaises(TypeError, vm.read_from, io.StringIO("\0\0"))
-        self.assertRaises(BlockingIOError, vm.read_from, Reads(None))
+        self.assertRaises(io.UnsupportedOperation, vm.read_from, Reads(None))
         self.assertRaisesRegex(ValueError, "returned 3 bytes", vm.read_from, Reads(b"\x80\x80\x80"))
         self.assertIsNone(vm.read_from(io.BytesIO()))
         reading, writing = os.pipe()
@@ -167,32 +165,47 @@ class Arguments(unittest.TestCase):
             self.assertEqual(source.read(1), b"\x02")
 
     def test_waiting_files(self):
-        """What was read before a file had no bytes is the front of what the next call returns."""
+        """A reader keeps what it has read when a file has no bytes, and the bytes of that file alone."""
         data = b"".join(bytes(Multihash(1 << 40, bytes([n] * n))) for n in range(4))
         for fails in (lambda: None, BlockingIOError):
-            file, found, waits = Waits(data, fails), [], 0
+            reader, found, waits = vm.MultihashReader(Waits(data, fails)), [], 0
             while len(found) < 4:
                 try:
-                    found.append(vm.read_from(file))
+                    found.append(reader.read())
                 except BlockingIOError:
                     waits += 1
-                    self.assertEqual(vm.read_from(io.BytesIO(b"\0\0")), Multihash(0, b""))  # another file
-                    self.assertRaises(ValueError, vm.read_from, Reads(b"\x80\x80\x80"))
             self.assertEqual((b"".join(map(bytes, found)), waits), (data, len(data)))
-            self.assertEqual(len(vm._unfinished), 0)
-        reading, writing = os.pipe()
-        os.set_blocking(reading, False)
-        with open(reading, "rb", 0) as source, open(writing, "wb", 0) as sink:
-            sink.write(data[:5])
-            self.assertRaises(BlockingIOError, vm.read_from, source)
-            sink.write(data[5:])
-            self.assertEqual([bytes(vm.read_from(source)) for _ in range(4)], list(map(bytes, found)))
-            sink.write(data[:5])
-            self.assertRaises(BlockingIOError, vm.read_from, source)
-        del source, file
-        self.assertEqual(len(vm._unfinished), 0)
-        nameless = Nameless(b"\1", None)
-        self.assertRaises(TypeError, vm.read_from, nameless)  # what was read of it cannot be kept
+            with self.assertRaisesRegex(io.UnsupportedOperation, "MultihashReader"):
+                vm.read_from(Waits(data, fails))
+        files = [Equal(data[:5]), Equal(b"\1\0")]
+        first, second = map(vm.MultihashReader, files)
+        self.assertRaises(BlockingIOError, first.read)
+        self.assertEqual((first.rest, second.read(), second.rest), (data[:5], Multihash(1, b""), b""))
+
+    def test_readers(self):
+        """A reader goes on after an error of the file, and where the file has grown; a multihash that is none stays."""
+        file, data = io.BytesIO(), bytes(Multihash(18, b"abc"))
+        reader = vm.MultihashReader(file, limit=3)
+        for cut in range(1, len(data)):
+            file.write(data[:cut])
+            file.seek(-cut, io.SEEK_CUR)
+            with self.assertRaises(MultihashError) as raised:
+                reader.read()
+            self.assertEqual((raised.exception.is_incomplete, reader.rest), (True, data[:cut]))
+            file.write(data[cut:] + data)
+            file.seek(-len(data) * 2 + cut, io.SEEK_CUR)
+            self.assertEqual(list(reader), [Multihash(18, b"abc")] * 2)
+        file.write(b"\1\4abcd")
+        file.seek(-6, io.SEEK_CUR)
+        for _ in range(2):
+            self.assertRaises(MultihashError, reader.read)
+            self.assertEqual((reader.rest, file.read()), (b"\1\4", b"abcd"))
+            file.seek(-4, io.SEEK_CUR)
+        file.close()
+        self.assertRaises(MultihashError, reader.read)
+        self.assertRaisesRegex(ValueError, "closed file", vm.MultihashReader(file).read)
+        for kind, limit in ((ValueError, -1), (TypeError, 3.0), (TypeError, "3")):
+            self.assertRaises(kind, vm.MultihashReader, io.BytesIO(), limit)
 
 
 class Values(unittest.TestCase):

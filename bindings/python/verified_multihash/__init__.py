@@ -5,9 +5,9 @@ Input that is no multihash, and a code or a digest that no multihash has, is a M
 """
 from __future__ import annotations
 
+import io
 import operator
-from typing import TYPE_CHECKING, Any, MutableMapping, NamedTuple, Optional, Protocol, Tuple, Union
-from weakref import WeakKeyDictionary
+from typing import TYPE_CHECKING, Any, Iterator, NamedTuple, Optional, Protocol, Tuple, Union
 
 from . import _core
 from ._core import Multihash, compare, decode, encode, encoded_len, read, scale_decode, scale_encode
@@ -20,9 +20,8 @@ else:
 
 __all__ = [
     "DIGEST_MAX", "HEAD_MAX", "LENGTH_MAX", "SCALE_LENGTH_MAX", "Head", "Multihash", "MultihashError",
-    "Status",
-    "__version__", "compare", "decode", "encode", "encoded_len", "head", "read", "read_from", "scale_decode",
-    "scale_encode",
+    "MultihashReader", "Status", "__version__", "compare", "decode", "encode", "encoded_len", "head", "read",
+    "read_from", "scale_decode", "scale_encode",
 ]  # fmt: skip
 
 
@@ -52,7 +51,7 @@ class MultihashError(ValueError):
     def is_incomplete(self) -> bool:
         """Whether the input is truncated: it ends within or before a varint, or within the digest.
 
-        In `read`, `read_from`, `head` and `scale_decode` only then can more input change the result.
+        Only then can more input change the result of `read`, `read_from`, a reader, `head` and `scale_decode`.
         """
         return self.status in (Status.INSUFFICIENT, Status.UNEXPECTED_EOF)
 
@@ -82,53 +81,65 @@ def head(data: Buffer) -> Head:
     return Head(*_core.head(data))
 
 
-# What was read of a multihash before a file had no bytes for the time being.
-_unfinished: MutableMapping[_Readable, bytes] = WeakKeyDictionary()
+class MultihashReader:
+    """Reads concatenated encodings from a binary file: each `read` the next one, and no byte after it.
+
+    `file.read` may return fewer bytes than it is asked for. If it returns None or raises a BlockingIOError, since
+    the file does not block, `read` raises a BlockingIOError, and the next call continues where it stopped. So it does
+    after any error of the file, and after the file has ended within a multihash. Nothing else may read from the
+    file or move it meanwhile. `limit` is the most bytes of a digest.
+    """
+
+    def __init__(self, file: _Readable, limit: int = DIGEST_MAX) -> None:
+        self._file = file
+        self._limit = operator.index(limit)
+        if self._limit < 0:
+            raise ValueError("a limit is not negative")
+        self._rest = b""
+
+    @property
+    def rest(self) -> bytes:
+        """The bytes that were read and belong to no multihash that was returned."""
+        return self._rest
+
+    def read(self) -> Optional[Multihash]:
+        """Returns the next multihash, or None at the end of the file."""
+        while True:
+            wanted = _missing(self._rest, self._limit)
+            chunk = self._chunk(wanted) if wanted else b""
+            if not chunk:
+                break
+            self._rest += chunk
+        if not self._rest:
+            return None
+        multihash = read(self._rest, self._limit)[0]
+        self._rest = b""
+        return multihash
+
+    def __iter__(self) -> Iterator[Multihash]:
+        return iter(self.read, None)
+
+    def _chunk(self, wanted: int) -> bytes:
+        """At most that many bytes of the file, none at its end."""
+        chunk = self._file.read(wanted)
+        if chunk is None:
+            raise BlockingIOError("the file has no bytes now")
+        chunk = memoryview(chunk).tobytes()
+        if len(chunk) > wanted:
+            raise ValueError("read(%d) returned %d bytes" % (wanted, len(chunk)))
+        return chunk
 
 
 def read_from(file: _Readable, limit: int = DIGEST_MAX) -> Optional[Multihash]:
-    """Reads the next multihash from a binary file, and no byte after it; None at the end of the file.
+    """Reads the next multihash from a binary file that blocks, and no byte after it; None at the end of the file.
 
-    `file.read` may return fewer bytes than it is asked for. If it returns None or raises a BlockingIOError, since
-    the file does not block, this is a BlockingIOError. The next call for that file continues where it stopped, so
-    nothing else may read from it or move it meanwhile. After any other error part of a multihash has been read.
+    `file.read` may return fewer bytes than it is asked for. After an error part of a multihash has been read. A file
+    that has no bytes for the time being is an io.UnsupportedOperation: a MultihashReader keeps what it has read.
     """
-    limit = operator.index(limit)
-    if limit < 0:
-        raise ValueError("a limit is not negative")
-    data = _kept(file) if _unfinished else b""
-    while True:
-        wanted = _missing(data, limit)
-        if wanted == 0:
-            return read(data, limit)[0]
-        chunk = _chunk(file, wanted, data)
-        if not chunk:
-            return read(data, limit)[0] if data else None
-        data += chunk
-
-
-def _kept(file: _Readable) -> bytes:
-    """What was kept of a file: nothing of one that has no weak references."""
     try:
-        return _unfinished.pop(file, b"")
-    except TypeError:
-        return b""
-
-
-def _chunk(file: _Readable, wanted: int, data: bytes) -> bytes:
-    """At most that many bytes of the file. If it has none now, keeps what was read of the multihash."""
-    try:
-        chunk = file.read(wanted)
-        if chunk is None:
-            raise BlockingIOError("the file has no bytes now")
-    except BlockingIOError:
-        if data:
-            _unfinished[file] = data
-        raise
-    chunk = memoryview(chunk).tobytes()
-    if len(chunk) > wanted:
-        raise ValueError("read(%d) returned %d bytes" % (wanted, len(chunk)))
-    return chunk
+        return MultihashReader(file, limit).read()
+    except BlockingIOError as error:
+        raise io.UnsupportedOperation("the file does not block: MultihashReader reads from it") from error
 
 
 def _missing(data: bytes, limit: int) -> int:
