@@ -4,6 +4,8 @@
 #define PY_SSIZE_T_CLEAN
 #include <Python.h>
 #include <stddef.h>
+#include <stdlib.h>
+#include <string.h>
 #include <structmember.h>
 
 #include "multihash.h"
@@ -542,6 +544,10 @@ static void free_state(void *module)
 
 static PyModuleDef_Slot module_slots[] = {{Py_mod_exec, fill_module}, {0, NULL}};
 
+/* The same, and Py_mod_multiple_interpreters with Py_MOD_PER_INTERPRETER_GIL_SUPPORTED, which CPython knows from 3.12
+ * on: all that changes is in the module's state. */
+static PyModuleDef_Slot slots_of_3_12[] = {{Py_mod_exec, fill_module}, {3, (void *)2}, {0, NULL}};
+
 static struct PyModuleDef definition = {
     PyModuleDef_HEAD_INIT,
     "_core",
@@ -559,5 +565,7 @@ __attribute__((visibility("default"))) /* CPython 3.8 does not say so */
 #endif
 PyMODINIT_FUNC PyInit__core(void)
 {
+    const char *version = Py_GetVersion();
+    if (strncmp(version, "3.", 2) != 0 || strtol(version + 2, NULL, 10) >= 12) definition.m_slots = slots_of_3_12;
     return PyModuleDef_Init(&definition);
 }

@@ -3,6 +3,7 @@ import array
 import copy
 import ctypes
 import doctest
+import importlib
 import io
 import mmap
 import multiprocessing
@@ -11,6 +12,7 @@ import pickle
 import resource
 import sys
 import tempfile
+import threading
 import unittest
 import weakref
 from pathlib import Path
@@ -309,6 +311,31 @@ class Costs(unittest.TestCase):
                         call(data)
                     self.assertEqual((raised.exception.status, raised.exception.size),
                         (Status.INVALID_SIZE, size))
+
+
+class Interpreters(unittest.TestCase):
+    @unittest.skipIf(sys.version_info < (3, 12), "earlier interpreters share a lock")
+    def test_interpreters(self):
+        """Interpreters with locks of their own, two at once."""
+        interpreters = importlib.import_module("_interpreters" if sys.version_info > (3, 13) else "_xxsubinterpreters")
+        program = "import sys; sys.path[:] = %r\nimport verified_multihash as vm\nfor n in range(20000): " % (sys.path,)
+        program += "assert vm.decode(vm.encode(n, b'abc')) == vm.Multihash(n, b'abc')\ntry: vm.decode(b'')\n"
+        program += "except vm.MultihashError as error: assert error.status is vm.Status.INSUFFICIENT\nelse: assert False"
+        errors = []
+
+        def run():
+            number = interpreters.create()
+            try:
+                errors.append(interpreters.run_string(number, program))
+            finally:
+                interpreters.destroy(number)
+
+        threads = [threading.Thread(target=run) for _ in range(2)]
+        for thread in threads:
+            thread.start()
+        for thread in threads:
+            thread.join()
+        self.assertEqual(errors, [None, None])
 
 
 class Names(unittest.TestCase):
