@@ -73,10 +73,11 @@ static int get_input(PyObject *argument, Py_ssize_t most, input *to)
     return 0;
 }
 
-/* A whole number that is not negative. One of more than 64 bits is the largest, which the library rejects too. */
-static int get_number(PyObject *argument, const char *name, uint64_t *number)
+/* A whole number that is not negative, and in place of the argument a new int. One of more than 64 bits is the
+ * largest, which the library rejects too. */
+static int get_number(PyObject **argument, const char *name, uint64_t *number)
 {
-    PyObject *index = PyNumber_Index(argument);
+    PyObject *index = PyNumber_Index(*argument);
     if (index == NULL) return -1;
     int overflow;
     long long value = PyLong_AsLongLongAndOverflow(index, &overflow);
@@ -91,7 +92,8 @@ static int get_number(PyObject *argument, const char *name, uint64_t *number)
         if (PyErr_Occurred() != NULL && PyErr_ExceptionMatches(PyExc_OverflowError)) PyErr_Clear();
         is_wrong = PyErr_Occurred() != NULL;
     }
-    Py_DECREF(index);
+    *argument = index;
+    if (is_wrong) Py_DECREF(index);
     return is_wrong ? -1 : 0;
 }
 
@@ -101,11 +103,13 @@ static size_t clamped(uint64_t number)
     return number > SIZE_MAX ? SIZE_MAX : (size_t)number;
 }
 
-/* A code, and a digest, of which at most one byte more than the longest has is copied. */
-static int get_pair(PyObject *code, PyObject *digest, uint64_t *number, input *bytes)
+/* A code, as `get_number` has it, and a digest, of which at most one byte more than the longest has is copied. */
+static int get_pair(PyObject **code, PyObject *digest, uint64_t *number, input *bytes)
 {
     if (get_number(code, "code", number) < 0) return -1;
-    return get_input(digest, MULTIHASH_DIGEST_MAX + 1, bytes);
+    if (get_input(digest, MULTIHASH_DIGEST_MAX + 1, bytes) == 0) return 0;
+    Py_DECREF(*code);
+    return -1;
 }
 
 /* ---- errors */
@@ -126,21 +130,13 @@ static PyObject *raise_error(multihash_status status, PyObject *size, PyObject *
     return NULL;
 }
 
-/* Raises the error of an encoding, with the length or the code as it was given. */
+/* Raises the error of an encoding. The length, which may be null, and the code are taken over. */
 static PyObject *encoding_error(multihash_status status, PyObject *length, PyObject *code)
 {
     int is_size = status == MULTIHASH_INVALID_SIZE;
-    PyObject *number = PyNumber_Index(is_size ? length : code), *none = number == NULL ? NULL : PyLong_FromLong(0);
-    return is_size ? raise_error(status, number, none, 0) : raise_error(status, none, number, 0);
-}
-
-/* Raises the error of encoding a code and a digest of that many bytes. */
-static PyObject *pair_error(multihash_status status, size_t length, PyObject *code)
-{
-    PyObject *size = PyLong_FromSize_t(length);
-    if (size != NULL) encoding_error(status, size, code);
-    Py_XDECREF(size);
-    return NULL;
+    PyObject *none = length == NULL ? NULL : PyLong_FromLong(0);
+    Py_XDECREF(is_size ? code : length);
+    return is_size ? raise_error(status, length, none, 0) : raise_error(status, none, code, 0);
 }
 
 /* ---- the type */
@@ -192,12 +188,14 @@ static PyObject *multihash_new(PyTypeObject *type, PyObject *arguments, PyObject
     uint64_t number;
     input bytes;
     if (!PyArg_ParseTupleAndKeywords(arguments, named, "OO:Multihash", names, &code, &digest)) return NULL;
-    if (get_pair(code, digest, &number, &bytes) < 0) return NULL;
+    if (get_pair(&code, digest, &number, &bytes) < 0) return NULL;
     multihash_encoded length = multihash_encoded_len(number, bytes.whole);
-    if (length.status == MULTIHASH_OK) return new_multihash(type, number, bytes.owner);
-    pair_error(length.status, bytes.whole, code);
+    if (length.status == MULTIHASH_OK) {
+        Py_DECREF(code);
+        return new_multihash(type, number, bytes.owner);
+    }
     Py_DECREF(bytes.owner);
-    return NULL;
+    return encoding_error(length.status, PyLong_FromSize_t(bytes.whole), code);
 }
 
 static void multihash_dealloc(PyObject *self)
@@ -375,7 +373,8 @@ static PyObject *read_front(PyObject *module, PyObject *arguments, PyObject *nam
     uint64_t limit = MULTIHASH_DIGEST_MAX;
     input from;
     if (!PyArg_ParseTupleAndKeywords(arguments, named, "O|O:read", names, &data, &most)) return NULL;
-    if (most != NULL && get_number(most, "limit", &limit) < 0) return NULL;
+    if (most != NULL && get_number(&most, "limit", &limit) < 0) return NULL;
+    Py_XDECREF(most);
     if (get_input(data, MULTIHASH_HEAD_MAX + MULTIHASH_DIGEST_MAX, &from) < 0) return NULL;
     return decoded_front(module, &from, multihash_read_limit(from.bytes, from.length, clamped(limit)));
 }
@@ -410,22 +409,19 @@ static PyObject *encoded(encoder *function, const char *format, PyObject *argume
 {
     static char *names[] = {"code", "digest", NULL};
     uint8_t out[MULTIHASH_LENGTH_MAX];
-    PyObject *code, *digest, *result;
+    PyObject *code, *digest;
     uint64_t number;
     input bytes;
     if (!PyArg_ParseTupleAndKeywords(arguments, named, format, names, &code, &digest)) return NULL;
-    if (get_pair(code, digest, &number, &bytes) < 0) return NULL;
+    if (get_pair(&code, digest, &number, &bytes) < 0) return NULL;
     /* What is longer was not copied whole. */
     multihash_encoded made = bytes.whole > MULTIHASH_DIGEST_MAX
                                  ? multihash_encoded_len(number, bytes.whole)
                                  : function(number, bytes.bytes, bytes.whole, out, sizeof out);
-    if (made.status == MULTIHASH_OK) {
-        result = PyBytes_FromStringAndSize((const char *)out, (Py_ssize_t)made.length);
-    } else {
-        result = pair_error(made.status, bytes.whole, code);
-    }
     Py_DECREF(bytes.owner);
-    return result;
+    if (made.status != MULTIHASH_OK) return encoding_error(made.status, PyLong_FromSize_t(bytes.whole), code);
+    Py_DECREF(code);
+    return PyBytes_FromStringAndSize((const char *)out, (Py_ssize_t)made.length);
 }
 
 static PyObject *encode(PyObject *module, PyObject *arguments, PyObject *named)
@@ -443,13 +439,19 @@ static PyObject *scale_encode(PyObject *module, PyObject *arguments, PyObject *n
 static PyObject *encoded_len(PyObject *module, PyObject *arguments, PyObject *named)
 {
     static char *names[] = {"code", "digest_length", NULL};
-    PyObject *code, *length;
+    PyObject *code, *length, *result = NULL;
     uint64_t number, size;
     (void)module;
     if (!PyArg_ParseTupleAndKeywords(arguments, named, "OO:encoded_len", names, &code, &length)) return NULL;
-    if (get_number(code, "code", &number) < 0 || get_number(length, "length", &size) < 0) return NULL;
-    multihash_encoded made = multihash_encoded_len(number, clamped(size));
-    return made.status == MULTIHASH_OK ? PyLong_FromSize_t(made.length) : encoding_error(made.status, length, code);
+    if (get_number(&code, "code", &number) < 0) return NULL;
+    if (get_number(&length, "length", &size) == 0) {
+        multihash_encoded made = multihash_encoded_len(number, clamped(size));
+        if (made.status != MULTIHASH_OK) return encoding_error(made.status, length, code);
+        result = PyLong_FromSize_t(made.length);
+        Py_DECREF(length);
+    }
+    Py_DECREF(code);
+    return result;
 }
 
 static PyObject *compare(PyObject *module, PyObject *arguments, PyObject *named)
@@ -470,7 +472,8 @@ static PyObject *status_text(PyObject *module, PyObject *status)
     uint8_t out[64];
     uint64_t number;
     (void)module;
-    if (get_number(status, "status", &number) < 0) return NULL;
+    if (get_number(&status, "status", &number) < 0) return NULL;
+    Py_DECREF(status);
     multihash_status known = number > UINT32_MAX ? UINT32_MAX : (multihash_status)number;
     multihash_encoded made = multihash_put_status_text(known, out, sizeof out);
     return PyUnicode_FromStringAndSize((const char *)out, (Py_ssize_t)made.length);

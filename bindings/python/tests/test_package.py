@@ -62,6 +62,17 @@ class Waits:
         return self.file.read(min(size, 1))
 
 
+class Counts:
+    """A number that is one less each time it is asked for."""
+
+    def __init__(self, number):
+        self.number = number + 1
+
+    def __index__(self):
+        self.number -= 1
+        return self.number
+
+
 class Equal(io.BytesIO):
     """Files that are equal to each other, and have no hash."""
 
@@ -116,6 +127,8 @@ class Arguments(unittest.TestCase):
                 self.assertEqual(self.error_of(call, code, bytes(255)), (Status.INVALID_CODE, 0, code, text))
                 text = "Invalid multihash size 256."
                 self.assertEqual(self.error_of(call, code, bytes(256)), (Status.INVALID_SIZE, 256, 0, text))
+            self.assertEqual(self.error_of(call, Counts(code), b"")[2], code)
+        self.assertEqual(self.error_of(vm.encoded_len, 1, Counts(256))[1], 256)
         self.assertEqual(vm.scale_decode(bytes(7) + b"\x7f\0")[0].code, 0x7F << 56)
         self.assertEqual(self.error_of(vm.scale_decode, bytes(7) + b"\x80\0")[2], 1 << 63)
 
