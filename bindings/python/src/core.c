@@ -117,14 +117,17 @@ static int get_pair(PyObject **code, PyObject *digest, uint64_t *number, input *
 /* Raises a MultihashError. The numbers are taken over; null is a failure that has raised an error. */
 static PyObject *raise_error(multihash_status status, PyObject *size, PyObject *code, size_t taken)
 {
-    PyObject *package = NULL, *class = NULL, *error = NULL;
-    if (size != NULL && code != NULL) package = PyImport_ImportModule("verified_multihash");
+    PyObject *name = NULL, *package = NULL, *class = NULL, *error = NULL;
+    if (size != NULL && code != NULL) name = PyUnicode_FromString("verified_multihash");
+    if (name != NULL) package = PyImport_GetModule(name); /* faster, as it is there already */
+    if (name != NULL && package == NULL && PyErr_Occurred() == NULL) package = PyImport_Import(name);
     if (package != NULL) class = PyObject_GetAttrString(package, "MultihashError");
     if (class != NULL) error = PyObject_CallFunction(class, "IOOn", status, size, code, (Py_ssize_t)taken);
     if (error != NULL) PyErr_SetObject(class, error);
     Py_XDECREF(error);
     Py_XDECREF(class);
     Py_XDECREF(package);
+    Py_XDECREF(name);
     Py_XDECREF(size);
     Py_XDECREF(code);
     return NULL;
@@ -145,7 +148,8 @@ typedef struct multihash_object {
     PyObject_HEAD
     PyObject *weak_references;
     PyObject *digest; /* a bytes object */
-    uint64_t code;
+    PyObject *code;   /* an int, and its number: an attribute that is an object is read faster */
+    uint64_t number;
 } multihash_object;
 
 typedef struct state {
@@ -171,12 +175,15 @@ static PyTypeObject *type_of_value(PyObject *value)
 /* Makes a multihash of a code and a digest, which is taken over; null is a failure that has raised an error. */
 static PyObject *new_multihash(PyTypeObject *type, uint64_t code, PyObject *digest)
 {
-    multihash_object *made = digest == NULL ? NULL : (multihash_object *)PyType_GenericAlloc(type, 0);
+    PyObject *number = digest == NULL ? NULL : PyLong_FromUnsignedLongLong(code);
+    multihash_object *made = number == NULL ? NULL : (multihash_object *)PyType_GenericAlloc(type, 0);
     if (made == NULL) {
+        Py_XDECREF(number);
         Py_XDECREF(digest);
         return NULL;
     }
-    made->code = code;
+    made->number = code;
+    made->code = number;
     made->digest = digest;
     return (PyObject *)made;
 }
@@ -203,6 +210,7 @@ static void multihash_dealloc(PyObject *self)
     multihash_object *it = (multihash_object *)self;
     PyTypeObject *type = Py_TYPE(self);
     if (it->weak_references != NULL) PyObject_ClearWeakRefs(self);
+    Py_XDECREF(it->code);
     Py_XDECREF(it->digest);
     ((freefunc)PyType_GetSlot(type, Py_tp_free))(self);
     Py_DECREF(type);
@@ -222,8 +230,8 @@ static int order_of(PyObject *left, PyObject *right)
 {
     size_t lengths[2];
     const uint8_t *digests[] = {digest_of(left, &lengths[0]), digest_of(right, &lengths[1])};
-    return multihash_compare(((multihash_object *)left)->code, digests[0], lengths[0],
-                             ((multihash_object *)right)->code, digests[1], lengths[1]);
+    return multihash_compare(((multihash_object *)left)->number, digests[0], lengths[0],
+                             ((multihash_object *)right)->number, digests[1], lengths[1]);
 }
 
 static PyObject *multihash_compared(PyObject *left, PyObject *right, int operation)
@@ -238,25 +246,19 @@ static Py_hash_t multihash_hash(PyObject *self)
     const multihash_object *it = (const multihash_object *)self;
     Py_hash_t of_digest = PyObject_Hash(it->digest);
     if (of_digest == -1) return -1;
-    uint64_t mixed = (uint64_t)of_digest ^ it->code;
+    uint64_t mixed = (uint64_t)of_digest ^ it->number;
     mixed = (mixed ^ mixed >> 33) * 0xff51afd7ed558ccdu;
     mixed = (mixed ^ mixed >> 33) * 0xc4ceb9fe1a85ec53u;
     Py_hash_t hash = (Py_hash_t)(mixed ^ mixed >> 33);
     return hash == -1 ? -2 : hash;
 }
 
-static PyObject *multihash_code(PyObject *self, void *unused)
-{
-    (void)unused;
-    return PyLong_FromUnsignedLongLong(((multihash_object *)self)->code);
-}
-
 static PyObject *multihash_repr(PyObject *self)
 {
+    const multihash_object *it = (const multihash_object *)self;
     PyObject *name = PyObject_GetAttrString((PyObject *)Py_TYPE(self), "__qualname__"), *text = NULL;
     if (name != NULL) {
-        unsigned long long code = ((multihash_object *)self)->code;
-        text = PyUnicode_FromFormat("%U(code=%llu, digest=%R)", name, code, ((multihash_object *)self)->digest);
+        text = PyUnicode_FromFormat("%U(code=%R, digest=%R)", name, it->code, it->digest);
     }
     Py_XDECREF(name);
     return text;
@@ -265,8 +267,8 @@ static PyObject *multihash_repr(PyObject *self)
 static PyObject *multihash_reduce(PyObject *self, PyObject *unused)
 {
     (void)unused;
-    unsigned long long code = ((multihash_object *)self)->code;
-    return Py_BuildValue("O(KO)", Py_TYPE(self), code, ((multihash_object *)self)->digest);
+    const multihash_object *it = (const multihash_object *)self;
+    return Py_BuildValue("O(OO)", Py_TYPE(self), it->code, it->digest);
 }
 
 static PyObject *multihash_hexdigest(PyObject *self, PyObject *unused)
@@ -281,7 +283,7 @@ static PyObject *multihash_bytes(PyObject *self, PyObject *unused)
     uint8_t out[MULTIHASH_LENGTH_MAX];
     size_t length;
     const uint8_t *digest = digest_of(self, &length);
-    multihash_encoded made = multihash_encode(((multihash_object *)self)->code, digest, length, out, sizeof out);
+    multihash_encoded made = multihash_encode(((multihash_object *)self)->number, digest, length, out, sizeof out);
     return PyBytes_FromStringAndSize((const char *)out, (Py_ssize_t)made.length); /* a Multihash has an encoding */
 }
 
@@ -294,15 +296,11 @@ static PyMethodDef multihash_methods[] = {
 };
 
 static PyMemberDef multihash_members[] = {
+    {"code", T_OBJECT_EX, offsetof(multihash_object, code), READONLY, "The code of the hash function, below 2**63."},
     {"digest", T_OBJECT_EX, offsetof(multihash_object, digest), READONLY, "The digest, as bytes."},
     /* From CPython 3.9 on: that there are weak references. */
     {"__weaklistoffset__", T_PYSSIZET, offsetof(multihash_object, weak_references), READONLY, NULL},
     {NULL, 0, 0, 0, NULL},
-};
-
-static PyGetSetDef multihash_properties[] = {
-    {"code", multihash_code, NULL, "The code of the hash function, below 2**63.", NULL},
-    {NULL, NULL, NULL, NULL, NULL},
 };
 
 static const char multihash_doc[] =
@@ -320,7 +318,6 @@ static PyType_Slot multihash_slots[] = {
     {Py_tp_richcompare, multihash_compared},
     {Py_tp_methods, multihash_methods},
     {Py_tp_members, multihash_members},
-    {Py_tp_getset, multihash_properties},
     {0, NULL},
 };
 

@@ -33,16 +33,13 @@ class MultihashError(ValueError):
     """
 
     def __init__(self, status: int, size: int = 0, code: int = 0, taken: int = 0) -> None:
-        self.status = Status(status)
-        if self.status is Status.OK:
-            raise ValueError("OK is no error")
+        if status not in _ERRORS:
+            raise ValueError("no status of an error: %r" % (status,))
+        self.status, text, number = _ERRORS[status]
         self.size = size
         self.code = code
         self.taken = taken
-        text = _core.status_text(self.status)
-        if self.status in (Status.INVALID_SIZE, Status.INVALID_CODE):
-            text += " %s." % _shown(size if self.status is Status.INVALID_SIZE else code)
-        super().__init__(text)
+        super().__init__(text + " %s." % _shown(getattr(self, number)) if number else text)
 
     def __reduce__(self) -> Tuple[Any, ...]:
         return type(self), (int(self.status), self.size, self.code, self.taken), self.__dict__
@@ -54,6 +51,11 @@ class MultihashError(ValueError):
         Only then can more input change the result of `read`, `read_from`, a reader, `head` and `scale_decode`.
         """
         return self.status in (Status.INSUFFICIENT, Status.UNEXPECTED_EOF)
+
+
+# Each status of an error, its text, and the attribute whose number follows that. A look-up of an enum is slower.
+_NUMBERS = {Status.INVALID_SIZE: "size", Status.INVALID_CODE: "code"}
+_ERRORS = {int(it): (it, _core.status_text(it), _NUMBERS.get(it)) for it in Status if it is not Status.OK}
 
 
 def _shown(number: int) -> str:
