@@ -264,11 +264,17 @@ static PyObject *multihash_repr(PyObject *self)
     return text;
 }
 
+static PyObject *multihash_arguments(PyObject *self, PyObject *unused)
+{
+    (void)unused;
+    return Py_BuildValue("OO", ((multihash_object *)self)->code, ((multihash_object *)self)->digest);
+}
+
+/* What `object` does from the second protocol on, for each protocol: it keeps the attributes of a subclass. */
 static PyObject *multihash_reduce(PyObject *self, PyObject *unused)
 {
     (void)unused;
-    const multihash_object *it = (const multihash_object *)self;
-    return Py_BuildValue("O(OO)", Py_TYPE(self), it->code, it->digest);
+    return PyObject_CallMethod((PyObject *)&PyBaseObject_Type, "__reduce_ex__", "Oi", self, 2);
 }
 
 static PyObject *multihash_hexdigest(PyObject *self, PyObject *unused)
@@ -289,7 +295,8 @@ static PyObject *multihash_bytes(PyObject *self, PyObject *unused)
 
 static PyMethodDef multihash_methods[] = {
     {"__bytes__", multihash_bytes, METH_NOARGS, "The encoding."},
-    {"__reduce__", multihash_reduce, METH_NOARGS, "For pickle and copy."},
+    {"__getnewargs__", multihash_arguments, METH_NOARGS, "For pickle and copy: the arguments of the class."},
+    {"__reduce_ex__", multihash_reduce, METH_O, "For pickle and copy."},
     {"hexdigest", multihash_hexdigest, METH_NOARGS,
      "hexdigest($self)\n--\n\nThe digest in hexadecimal; `bytes(multihash).hex()` is the whole encoding."},
     {NULL, NULL, 0, NULL},

@@ -83,6 +83,16 @@ class Equal(io.BytesIO):
         return super().read(size) or None
 
 
+class Sha256(Multihash):
+    __slots__ = ("slot", "__dict__")
+
+    def __new__(cls, digest):
+        return super().__new__(cls, 18, digest)
+
+    def __getnewargs__(self):
+        return (self.digest,)
+
+
 class Arguments(unittest.TestCase):
     def error_of(self, call, *arguments):
         with self.assertRaises(MultihashError) as raised:
@@ -259,6 +269,13 @@ class Values(unittest.TestCase):
         self.assertEqual((vm.compare(left, right), bytes(left), left.hexdigest()), (0, bytes(right), "616263"))
         self.assertTrue(repr(left).endswith("Named(code=18, digest=b'abc')"), repr(left))
         left.more = "a subclass has a dictionary"
+
+    def test_copies_of_subclasses(self):
+        """They keep their attributes, and may have other parameters."""
+        value = Sha256(b"abc")
+        value.more, value.slot = "kept", 3
+        for again in [copy.deepcopy(value), copy.copy(value), *(pickle.loads(pickle.dumps(value, n)) for n in range(6))]:
+            self.assertEqual((type(again), again, again.more, again.slot), (Sha256, Multihash(18, b"abc"), "kept", 3))
 
     def test_immutable(self):
         multihash = Multihash(1, b"abc")

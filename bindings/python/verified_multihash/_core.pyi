@@ -1,10 +1,11 @@
 from typing import Tuple
 
 from _typeshed import ReadableBuffer as Buffer
+from typing_extensions import Self
 
 class Multihash:
     __match_args__ = ("code", "digest")
-    def __init__(self, code: int, digest: Buffer) -> None: ...
+    def __new__(cls, code: int, digest: Buffer) -> Self: ...
     @property
     def code(self) -> int: ...
     @property
