@@ -124,6 +124,7 @@ class Arguments(unittest.TestCase):
         self.assertEqual(self.error_of(vm.decode, (ctypes.c_ubyte * 999)())[:2], (Status.INVALID_SIZE, 997))
         self.assertEqual([vm.encode(0, empty) for empty in (b"", bytearray(), array.array("I"))],
             [b"\0\0"] * 3)
+        self.assertEqual(vm.decode(ctypes.c_uint16(0)), Multihash(0, b""))  # a buffer of no dimension
         for call in (vm.decode, vm.read, vm.head):
             self.assertEqual(self.error_of(call, memoryview(b""))[0], Status.INSUFFICIENT)
 
