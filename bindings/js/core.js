@@ -178,9 +178,7 @@ export class Multihash {
 
   /** Makes the multihash of a code and a digest, which is copied. */
   static of(code, digest) {
-    const bytes = encode(code, digest);
-    const exact = typeof code === 'bigint' && code <= Number.MAX_SAFE_INTEGER ? Number(code) : code || 0; // not -0
-    return new Multihash(MAKING, exact, bytes.slice(bytes.length - lengthOf.call(digest)));
+    return decode(encode(code, digest)); // the digest is read once: its memory may grow meanwhile
   }
 
   /** The encoding, a new array each time. */
@@ -196,10 +194,13 @@ export class Multihash {
 
   /** Whether the other value has the same code and the same digest. */
   equals(other) {
-    const [left, right] = [this.digest, other?.digest];
+    const [left, right, code] = [this.digest, other?.digest, other?.code];
+    if (tagOf.call(left) !== 'Uint8Array' || tagOf.call(right) !== 'Uint8Array') return false;
+    const length = lengthOf.call(left);
     // a number and a bigint of the same value are the same code
-    if (tagOf.call(right) !== 'Uint8Array' || other.code != this.code || left.length !== right.length) return false;
-    return left.every((byte, index) => byte === right[index]);
+    if ((typeof code !== 'number' && typeof code !== 'bigint') || code != this.code || lengthOf.call(right) !== length) return false;
+    for (let index = 0; index < length; index++) if (left[index] !== right[index]) return false;
+    return true;
   }
 }
 
@@ -239,9 +240,8 @@ export function isStart(bytes, limit) {
 export function head(bytes) {
   const length = put(bytes, first);
   library.multihash_head(resultAt, firstAt, NUMBERS[Math.min(length, PREFIX_MAX)]);
-  const taken = narrow(24);
-  if (narrow(0) !== 0) throw new MultihashError(STATUSES[narrow(0)], { taken });
-  return { code: wide(8), digestLength: wide(16), taken };
+  if (narrow(0) !== 0) throw failure(narrow(24));
+  return { code: wide(8), digestLength: wide(16), taken: narrow(24) };
 }
 
 /** Decodes the multihash whose SCALE form is a prefix of the bytes. */

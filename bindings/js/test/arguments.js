@@ -110,6 +110,55 @@ function ownBytes(module) {
   same(module.read(long).taken, 34, 'a long input');
 }
 
+/** Only a number or a bigint is a code, and only a Uint8Array a digest. */
+function looseEquals(module) {
+  class Short extends Uint8Array {
+    get length() {
+      return 1;
+    }
+  }
+  const multihash = module.Multihash.of(0, Uint8Array.of(5));
+  for (const code of ['0', '', false, [], [0], null, undefined, Symbol('0'), Object.create(null), { valueOf: () => 0 }]) {
+    same(multihash.equals({ code, digest: Uint8Array.of(5) }), false, 'equals, a code that is none');
+  }
+  for (const digest of [[5], '5', new Int8Array([5]), new Short([5, 6, 7])]) same(multihash.equals({ code: 0, digest }), false, 'equals, another digest');
+  same(multihash.equals({ code: 0n, digest: new Short([5]) }), true, 'equals, a subclass');
+}
+
+/** A digest that grows while its code and bytes are encoded is read once. */
+function growing(module) {
+  const buffer = new ArrayBuffer(4, { maxByteLength: 64 });
+  const { set } = Uint8Array.prototype;
+  const prototype = Object.getPrototypeOf(Uint8Array.prototype);
+  prototype.set = function (...words) {
+    set.apply(this, words);
+    buffer.resize(12);
+  };
+  let multihash;
+  try {
+    multihash = module.Multihash.of(18, new Uint8Array(buffer));
+  } finally {
+    prototype.set = set;
+  }
+  same(`${hex(multihash.bytes)} ${buffer.byteLength}`, '120400000000 12', 'a digest that grows');
+}
+
+/** An error's fields are its own, whatever Object.prototype has. */
+function polluted(module) {
+  Object.prototype.size = 5;
+  Object.prototype.code = 6;
+  let found;
+  try {
+    module.head(unhex('8000'));
+  } catch (error) {
+    found = `${error.message} ${error.size} ${error.code} ${error.taken}`;
+  } finally {
+    delete Object.prototype.size;
+    delete Object.prototype.code;
+  }
+  same(found, 'encoding is not minimal undefined undefined 2', 'fields of Object.prototype');
+}
+
 function multihashes(module) {
   const multihash = module.decode(EXAMPLE);
   const other = module.Multihash.of(22n, EXAMPLE.subarray(2));
@@ -120,6 +169,7 @@ function multihashes(module) {
   for (const value of [...unequal, null, undefined, 22, 'text', {}, EXAMPLE]) same(multihash.equals(value), false, 'equals');
   multihash.bytes.fill(0);
   same(hex(multihash.bytes), hex(EXAMPLE), 'bytes are a copy');
+  looseEquals(module);
   fails(TypeError, () => new module.Multihash(22, EXAMPLE), 'constructor');
   same(Object.is(module.Multihash.of(-0, EXAMPLE).code, 0), true, 'code -0');
   const digest = { get: () => (module.decode(module.encode(1, new Uint8Array(40))), EXAMPLE.slice(2)) };
@@ -196,6 +246,8 @@ export function hostile(module, headerText) {
   wideNumbers(module);
   ownBytes(module);
   multihashes(module);
+  growing(module);
+  polluted(module);
   errors(module);
   inJSON(module);
   header(module, headerText);
