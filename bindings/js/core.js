@@ -39,18 +39,45 @@ const PROBE = Uint8Array.of(
   ...[10, 13, 1, 11, 0, 65, 0, 65, 0, 65, 0, 252, 11, 0, 11],
 );
 
-/** Connects the functions to the module's bytes, once. Throws if the engine lacks what it needs. */
+/** Throws an error that lists engines. */
+function unfit(cause) {
+  throw new Error(
+    'verified-multihash needs WebAssembly with bulk memory operations, and BigInt, which this engine lacks or forbids. ' +
+      'Node.js 20.16, Chrome 89, Edge 89, Firefox 90 and Safari 15 have them.',
+    { cause },
+  );
+}
+
+function checkEngine() {
+  if (typeof WebAssembly !== 'object' || typeof BigInt !== 'function' || !WebAssembly.validate(PROBE)) unfit();
+}
+
+/** Connects the functions to the module's bytes. Throws if the engine lacks or forbids what it needs. */
 export function connect(bytes) {
-  if (typeof WebAssembly !== 'object' || typeof BigInt !== 'function' || !WebAssembly.validate(PROBE)) {
-    throw new Error(
-      'verified-multihash needs WebAssembly with bulk memory operations, and BigInt, which this engine lacks or forbids. ' +
-        'Node.js 20.16, Chrome 89, Edge 89, Firefox 90 and Safari 15 have them.',
-    );
-  }
-  // index.js and inline.js have the same module, so the first of them serves both
+  checkEngine();
   if (library) return;
+  let instance;
+  try {
+    instance = new WebAssembly.Instance(new WebAssembly.Module(bytes));
+  } catch (cause) {
+    unfit(cause);
+  }
+  connectTo(instance.exports);
+}
+
+/** The same later, as pages need it in Chrome before 115, which compiles at once no more than 4 kB there. */
+export async function connectLater(bytes) {
+  checkEngine();
+  if (library) return;
+  const { instance } = await WebAssembly.instantiate(bytes).catch(unfit);
+  connectTo(instance.exports);
+}
+
+/** Connects the functions once: index.js and inline.js have the same module, so the first of them serves both. */
+function connectTo(functions) {
+  if (library) return;
+  library = functions;
   NUMBERS = Array.from({ length: PREFIX_MAX + 1 }, (_, number) => BigInt(number));
-  library = new WebAssembly.Instance(new WebAssembly.Module(bytes)).exports;
   memory = new Uint8Array(library.memory.buffer);
   const free = (Number(library.__heap_base.value) + 7) & ~7;
   [result, first, second, output] = [0, 64, 64 + 512, 64 + 1024].map((offset) => free + offset);

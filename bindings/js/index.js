@@ -1,5 +1,5 @@
 // The functions of core.js over multihash.wasm, which lies beside this file.
-import { connect } from './core.js';
+import { connectLater } from './core.js';
 
 /** Returns the module's bytes, from the disk in Node.js and what is like it, else by a request. */
 async function load(place) {
@@ -10,7 +10,7 @@ async function load(place) {
   return response.arrayBuffer();
 }
 
-connect(await load(new URL('./multihash.wasm', import.meta.url)));
+await connectLater(await load(new URL('./multihash.wasm', import.meta.url)));
 
 export {
   DIGEST_MAX, HEAD_MAX, LENGTH_MAX, SCALE_LENGTH_MAX, Multihash, MultihashError, compare, decode, encode, encodedLength, head, read,

@@ -1,4 +1,5 @@
 // Arguments of wrong types and ranges, and what results and errors are.
+import base64 from '../bytes.js';
 import { fails, hex, same, unhex } from './check.js';
 
 const EXAMPLE = unhex('1620644bcc7e564373040999aac89e7622f3ca71fba1d972fd94a31c3bfbf24e3938');
@@ -238,6 +239,37 @@ function header(module, text) {
   same(found.length, 4, 'constants of the header');
   for (const [, name, number] of found) same(module[name], Number(number), name);
   same(module.version, /#define MULTIHASH_VERSION "(.*)"/.exec(text)?.[1], 'version');
+}
+
+/** Where WebAssembly is there and forbidden, as by a policy, the error lists engines, and has that of the engine. */
+export async function forbidden() {
+  const { Module, instantiate } = WebAssembly;
+  const { connect, connectLater } = await import('../core.js?forbidden');
+  const refusal = new WebAssembly.CompileError('forbidden');
+  WebAssembly.Module = function Forbidden() {
+    throw refusal;
+  };
+  WebAssembly.instantiate = async () => {
+    throw refusal;
+  };
+  for (const call of [connect, connectLater]) {
+    const error = await new Promise((resolve) => resolve(call(new Uint8Array(8)))).catch((found) => found);
+    same(`${error?.cause} ${/Chrome 89, .* Firefox 90/.test(error?.message)}`, `${refusal} true`, 'a policy');
+  }
+  Object.assign(WebAssembly, { Module, instantiate });
+}
+
+/** Where both entries connect at once, the first of them serves both. */
+export async function both() {
+  const bytes = Uint8Array.from(atob(base64), (letter) => letter.charCodeAt(0));
+  const core = await import('../core.js?both');
+  const later = core.connectLater(bytes);
+  core.connect(bytes);
+  for (const byte of [1, 2]) {
+    const multihash = core.Multihash.of(18, new Uint8Array(4).fill(byte));
+    same(hex(multihash.bytes), hex(Uint8Array.of(18, 4, byte, byte, byte, byte)), 'connected twice');
+    await later;
+  }
 }
 
 export function hostile(module, headerText) {

@@ -4,7 +4,15 @@ import { speed, suite, summary } from './suite.js';
 
 const [, , folder, which = 'index'] = process.argv;
 const text = (name) => readFileSync(`${folder}/${name}`, 'utf8');
+const { Module } = WebAssembly;
+// as in pages of Chrome before 115, where index.js works
+if (which === 'index') {
+  WebAssembly.Module = function TooLarge() {
+    throw new RangeError('the module is too large to be compiled at once');
+  };
+}
 const module = await import(`../${which}.js`);
+WebAssembly.Module = Module;
 const inputs = new Uint8Array(readFileSync(`${folder}/inputs`));
 const data = { header: text('header'), vectors: text('vectors'), results: text('results'), inputs };
 const tally = await suite(module, data);

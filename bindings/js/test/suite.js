@@ -1,7 +1,7 @@
 // All tests, in Node.js and in a page: `data` has the texts of the vectors, of the C library's results and of
 // the header, and the inputs of those results.
 import { mutated, vectors } from './results.js';
-import { hostile } from './arguments.js';
+import { both, forbidden, hostile } from './arguments.js';
 import { tally } from './check.js';
 import { streams } from './stream.js';
 
@@ -13,6 +13,8 @@ export async function suite(module, data) {
   mutated(module, data.inputs, data.results);
   Error.stackTraceLimit = limit;
   await streams(module);
+  await forbidden();
+  await both();
   return tally;
 }
 
