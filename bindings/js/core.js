@@ -229,6 +229,12 @@ export class Multihash {
     for (let index = 0; index < length; index++) if (left[index] !== right[index]) return false;
     return true;
   }
+
+  /** This multihash, whose code is a number: a RangeError if it is a bigint. */
+  narrow() {
+    if (typeof this.code !== 'number') throw new RangeError('the code is 2^53 or more');
+    return this;
+  }
 }
 
 /** What a decoding of the first input found. */

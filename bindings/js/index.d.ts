@@ -55,13 +55,16 @@ export class MultihashError extends Error implements Details {
   toJSON(): { name: string; message: string; status: Status; size?: number | string; code?: number | string; taken?: number };
 }
 
-/** A code, which names a hash function, and a digest. */
-export class Multihash {
+/**
+ * A code, which names a hash function, and a digest. A `Multihash<number>` has the properties of `MultihashDigest`
+ * in js-multiformats.
+ */
+export class Multihash<Code extends Wide = Wide> {
   private constructor();
   /** Makes the multihash of a code and a digest, which is copied. Throws what `encode` throws. */
   static of(code: Wide, digest: Uint8Array): Multihash;
   /** Below 2^63. A `number` up to `Number.MAX_SAFE_INTEGER`, else a `bigint`. */
-  readonly code: Wide;
+  readonly code: Code;
   /** The digest's length. */
   readonly size: number;
   /** The bytes of this object, which are not frozen: to write to them changes the multihash. */
@@ -70,6 +73,8 @@ export class Multihash {
   readonly bytes: Uint8Array;
   /** Whether `other` has the same code and the same digest. */
   equals(other: unknown): boolean;
+  /** Returns this multihash, whose code is a `number`. Throws a `RangeError` if it is a `bigint`. */
+  narrow(): Multihash<number>;
   /** The code, a bigint as decimal text, and the digest in hexadecimal. */
   toJSON(): { code: number | string; size: number; digest: string };
 }

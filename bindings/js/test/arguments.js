@@ -171,6 +171,8 @@ function multihashes(module) {
   multihash.bytes.fill(0);
   same(hex(multihash.bytes), hex(EXAMPLE), 'bytes are a copy');
   looseEquals(module);
+  same(multihash.narrow(), multihash, 'a code that is a number');
+  fails(RangeError, () => module.Multihash.of(2n ** 53n, EXAMPLE).narrow(), 'a code that is a bigint');
   fails(TypeError, () => new module.Multihash(22, EXAMPLE), 'constructor');
   same(Object.is(module.Multihash.of(-0, EXAMPLE).code, 0), true, 'code -0');
   const digest = { get: () => (module.decode(module.encode(1, new Uint8Array(40))), EXAMPLE.slice(2)) };

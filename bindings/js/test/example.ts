@@ -22,6 +22,17 @@ async function all(source: AsyncIterable<Uint8Array>): Promise<Multihash[]> {
   return (await reader.read()) === null ? found : [];
 }
 
+/** As in js-multiformats, whose `CID.create` takes it. */
+interface MultihashDigest<Code extends number = number> {
+  code: Code;
+  size: number;
+  digest: Uint8Array;
+  bytes: Uint8Array;
+}
+const theirs: MultihashDigest = multihash.narrow();
+
+// @ts-expect-error the code may be a bigint
+const wide: MultihashDigest = multihash;
 // @ts-expect-error a text is no bytes
 decode('1200');
 // @ts-expect-error a code is not a text
@@ -36,4 +47,4 @@ new Multihash(18, multihash.digest);
 const { digest: text }: { digest: string } = multihash.toJSON();
 const number: number | string | undefined = MultihashError.from(text)?.toJSON().size;
 
-export { all, encodedLength, form, length, number, order, small, statusOf, taken, text, wrong };
+export { all, encodedLength, form, length, number, order, small, statusOf, taken, text, theirs, wide, wrong };
