@@ -262,11 +262,15 @@ export function read(bytes, limit = DIGEST_MAX) {
   return { multihash: found(), taken: narrow(40) };
 }
 
-/** Whether the bytes are but the start of an encoding, so that `read` would throw an error that `isIncomplete`. */
-export function isStart(bytes, limit) {
-  const most = bits64(limit, 'a limit');
-  library.multihash_read_limit(resultAt, firstAt, NUMBERS[Math.min(put(bytes, first), PREFIX_MAX)], most);
-  return narrow(0) === 1 || narrow(0) === 6;
+/** The same for a plain Uint8Array from an index on; undefined if it has only the start of an encoding. */
+export function readAt(bytes, at, limit) {
+  const length = Math.min(bytes.length - at, PREFIX_MAX);
+  memory.set(length === bytes.length ? bytes : bytes.subarray(at, at + length), first);
+  library.multihash_read_limit(resultAt, firstAt, NUMBERS[length], limit);
+  const status = narrow(0);
+  if (status === 1 || status === 6) return undefined; // `insufficient` and `unexpected_eof`
+  if (status !== 0) throw failure(narrow(40));
+  return { multihash: found(), taken: narrow(40) };
 }
 
 /** Decodes the two varints before a digest. */

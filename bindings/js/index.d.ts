@@ -116,10 +116,10 @@ export interface ByteStream {
   readonly locked: boolean;
   getReader(): {
     read(): Promise<{ done: boolean; value?: Uint8Array | undefined }>;
-    cancel(): Promise<void>;
+    cancel(reason?: unknown): Promise<void>;
     releaseLock(): void;
   };
-  cancel(): Promise<void>;
+  cancel(reason?: unknown): Promise<void>;
 }
 
 /** Reads concatenated encodings from a `ReadableStream` or an async iterable. */
@@ -133,5 +133,12 @@ export class MultihashReader implements AsyncIterable<Multihash> {
    * error. The source is released then, as it is after null.
    */
   read(): Promise<Multihash | null>;
+  /**
+   * Unlocks a `ReadableStream`, for another reader. `rest` has the bytes that were received, and each `read` is
+   * rejected with a `TypeError` from then on, unless the reader has ended before.
+   */
+  release(): void;
+  /** Cancels the source: `read` returns null from then on, also a call that waits for a `ReadableStream`. */
+  cancel(reason?: unknown): Promise<void>;
   [Symbol.asyncIterator](): AsyncGenerator<Multihash, void, void>;
 }

@@ -1,23 +1,25 @@
-import { DIGEST_MAX, bits64, checkedLength, isStart, read } from './core.js';
+import { DIGEST_MAX, bits64, checkedLength, read, readAt } from './core.js';
 
 /** Reads concatenated encodings from a `ReadableStream` or an async iterable of `Uint8Array`. */
 export class MultihashReader {
   #source;
   #limit;
-  #rest;
+  #bytes; // what was received, and from which index on it belongs to no multihash that was returned
+  #at = 0;
+  #calls = 0; // those that have not ended
   #last = Promise.resolve();
   #end; // what each call does once the reader has ended: it returns null, or throws an error
 
   /** `limit` is the most bytes of a digest; `rest` holds bytes that precede those of the source. */
   constructor(source, { limit = DIGEST_MAX, rest = new Uint8Array() } = {}) {
     this.#limit = bits64(limit, 'a limit');
-    this.#rest = joined(new Uint8Array(), rest);
+    this.#bytes = joined(new Uint8Array(), 0, rest);
     this.#source = sourceOf(source);
   }
 
   /** A copy of the bytes that were received and belong to no multihash that was returned. */
   get rest() {
-    return this.#rest.slice();
+    return this.#bytes.slice(this.#at);
   }
 
   /**
@@ -25,49 +27,83 @@ export class MultihashReader {
    * is released, as it is after null. Calls that overlap run one after the other.
    */
   read() {
-    const next = this.#last.then(() => this.#next());
-    this.#last = next.catch(() => {});
+    const next = this.#calls++ === 0 ? this.#next() : this.#last.then(() => this.#next());
+    if (this.#calls > 0) this.#last = next.catch(() => {});
     return next;
   }
 
   async #next() {
-    if (!this.#end) {
-      try {
-        const multihash = await this.#received();
-        if (multihash) return multihash;
-        this.#end = () => null;
-      } catch (error) {
-        this.#end = () => {
-          throw error;
-        };
-      }
-      this.#source.release();
+    try {
+      return this.#end ? this.#end() : (this.#received() ?? (await this.#awaited()) ?? this.#finish(() => null));
+    } catch (error) {
+      return this.#finish(() => {
+        throw error;
+      });
+    } finally {
+      this.#calls--;
     }
+  }
+
+  #finish(end) {
+    this.#end ??= end;
+    this.#source.release();
     return this.#end();
   }
 
+  /** The next multihash, if all of it was received. */
+  #received() {
+    const found = readAt(this.#bytes, this.#at, this.#limit);
+    this.#at += found?.taken ?? 0;
+    return found?.multihash;
+  }
+
   /** The next multihash of the source, or null after the last one. */
-  async #received() {
-    while (isStart(this.#rest, this.#limit)) {
+  async #awaited() {
+    let multihash;
+    while (!multihash) {
       const { done, value } = await this.#source.next();
-      if (done && this.#rest.length === 0) return null;
-      if (done) break;
-      this.#rest = joined(this.#rest, value);
+      if (done) return this.#at === this.#bytes.length ? null : read(this.rest, this.#limit).multihash; // which throws
+      this.#bytes = joined(this.#bytes, this.#at, value);
+      this.#at = 0;
+      multihash = this.#received();
     }
-    const { multihash, taken } = read(this.#rest, this.#limit);
-    this.#rest = this.#rest.subarray(taken);
     return multihash;
   }
 
-  /** Yields each multihash; where the loop is left, the source is closed. */
+  /** What `read` would give, if that is a multihash and nothing has to be awaited. */
+  #ready() {
+    try {
+      return this.#calls === 0 && !this.#end ? this.#received() : undefined;
+    } catch {
+      return undefined;
+    }
+  }
+
+  /** Unlocks a `ReadableStream`, for another reader: `rest` has what was received. `read` gives an error from then on. */
+  release() {
+    this.#end ??= () => {
+      throw new TypeError('the reader was released');
+    };
+    this.#source.release();
+  }
+
+  /** Cancels the source. `read` gives null from then on, also where it waits. */
+  async cancel(reason) {
+    this.#end ??= () => null;
+    await this.#source.close(reason);
+  }
+
+  /** Yields each multihash; where the loop is left, the source is cancelled. */
   async *[Symbol.asyncIterator]() {
     try {
-      for (let multihash; (multihash = await this.read()) !== null; ) yield multihash;
+      for (let multihash; (multihash = this.#ready() ?? (await this.read())) !== null; ) yield multihash;
     } finally {
-      await this.#source.close();
+      await this.cancel();
     }
   }
 }
+
+if (Symbol.asyncDispose) MultihashReader.prototype[Symbol.asyncDispose] = MultihashReader.prototype.cancel;
 
 /** The chunks of a source. A ReadableStream is no async iterable in Safari. */
 function sourceOf(source) {
@@ -87,10 +123,10 @@ function chunksOfStream(stream) {
       reader.releaseLock();
     },
     // another reader may have locked the stream after the release
-    async close() {
+    async close(reason) {
       try {
-        if (isHeld) await reader.cancel();
-        else if (!stream.locked) await stream.cancel();
+        if (isHeld) await reader.cancel(reason);
+        else if (!stream.locked) await stream.cancel(reason);
       } finally {
         if (isHeld) this.release();
       }
@@ -98,10 +134,11 @@ function chunksOfStream(stream) {
   };
 }
 
-/** A copy of both. Throws a TypeError if the second is no Uint8Array, or its buffer is detached. */
-function joined(left, right) {
-  const both = new Uint8Array(left.length + checkedLength(right));
-  both.set(left);
-  both.set(right, left.length);
+/** A copy of the first from an index on, and the second. Throws a TypeError if that is no Uint8Array, or is detached. */
+function joined(left, at, right) {
+  const rest = at === 0 ? left : left.subarray(at);
+  const both = new Uint8Array(rest.length + checkedLength(right));
+  both.set(rest);
+  both.set(right, rest.length);
   return both;
 }

@@ -19,6 +19,8 @@ async function all(source: AsyncIterable<Uint8Array>): Promise<Multihash[]> {
   const reader = new MultihashReader(source, { limit: 64, rest: new Uint8Array() });
   const found: Multihash[] = [];
   for await (const each of reader) found.push(each);
+  reader.release();
+  await reader.cancel('done');
   return (await reader.read()) === null ? found : [];
 }
 

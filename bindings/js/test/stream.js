@@ -67,13 +67,46 @@ async function malformedStream(module, stream, wanted) {
   const next = await drained(new module.MultihashReader(source, { rest: limited.rest }));
   same(`${listed(next.found)} ${cancelled}`, `${wanted} 0`, 'another reader of a stream');
   const left = byteStream(stream, undefined, () => (cancelled += 1));
-  let status;
+  const reader = new module.MultihashReader(left, { limit: 31, rest: stream.subarray(0, 2) });
+  let found;
   try {
-    for await (const multihash of new module.MultihashReader(left, { limit: 31 })) same(multihash, undefined, 'a loop');
+    for await (const multihash of reader) same(multihash, undefined, 'a loop');
   } catch (error) {
-    status = error.status;
+    found = error;
   }
-  same(`${status} ${cancelled} ${left.locked}`, 'invalid_size 1 false', 'a loop that an error ends');
+  same(`${found?.status} ${cancelled} ${left.locked}`, 'invalid_size 1 false', 'a loop that an error ends');
+  same((await drained(reader)).error, found, 'the error after a loop');
+}
+
+/** A reader that is given up: its stream can have another reader, or is cancelled, also while a call waits. */
+async function givenUp(module, stream) {
+  const source = byteStream(stream);
+  const first = new module.MultihashReader(source);
+  same(hex((await first.read()).bytes), hex(stream.subarray(0, 34)), 'the first before a release');
+  first.release();
+  same(`${source.locked} ${hex(first.rest)}`, 'false ', 'a stream that was released');
+  const next = source.getReader();
+  same((await next.read()).value?.[0], stream[34], 'the next byte after a release');
+  next.releaseLock();
+  const whole = new module.MultihashReader(chunks(stream));
+  await whole.read();
+  whole.release();
+  same(hex(whole.rest), hex(stream.subarray(34)), 'rest after a release');
+  for (const reader of [first, whole]) {
+    const looped = await reader[Symbol.asyncIterator]().next().catch((error) => error);
+    same(`${looped.message}, ${(await drained(reader)).error?.message}`, 'the reader was released, the reader was released', 'after a release');
+  }
+  const reasons = [];
+  for (const [cut, waits] of [[0, true], [20, true], [20, false]]) {
+    const left = byteStream(stream.subarray(0, cut), undefined, (reason) => reasons.push(reason));
+    const reader = new module.MultihashReader(left);
+    const pending = waits ? reader.read() : null;
+    await reader.cancel(cut);
+    same(`${await pending} ${await reader.read()} ${left.locked}`, 'null null false', 'a reader that was cancelled');
+  }
+  const disposed = new module.MultihashReader(byteStream(stream, undefined, () => reasons.push('disposed')));
+  await disposed[Symbol.asyncDispose ?? 'cancel']();
+  same(`${reasons} ${await disposed.read()}`, '0,20,20,disposed null', 'reasons');
 }
 
 async function badSources(module, stream) {
@@ -140,7 +173,13 @@ export async function streams(module) {
   await badSources(module, stream);
   await throwing(module, stream);
   await failing(module, stream);
+  await givenUp(module, stream);
   const reader = new module.MultihashReader(chunks(stream));
   const together = await Promise.all([reader.read(), reader.read(), reader.read(), reader.read()]);
   same(listed(together.slice(0, 3)) + together[3], `${wanted}null`, 'calls that overlap');
+  const other = new module.MultihashReader(chunks(stream));
+  const calls = [other.read(), other.read()];
+  await calls[0];
+  const loop = other[Symbol.asyncIterator]().next();
+  same(listed([...(await Promise.all(calls)), (await loop).value]), wanted, 'a loop beside a call that waits');
 }
