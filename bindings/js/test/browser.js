@@ -90,6 +90,8 @@ function start(attempt) {
   }, patience);
 }
 
+for (const signal of ['SIGHUP', 'SIGINT', 'SIGTERM']) process.once(signal, () => finish(1));
+
 let browser;
 let late;
 const server = createServer(serve).listen(0, '127.0.0.1', () => start(1));
