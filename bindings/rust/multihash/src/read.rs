@@ -1,7 +1,7 @@
 //! The code and the digest's length from a reader.
 use crate::io::Read;
 use crate::Error;
-use multihash_c::{Error as Format, Head, HEAD_MAX};
+use multihash_c::{Head, HEAD_MAX};
 
 /// The most bytes of a varint.
 const VARINT_MAX: usize = HEAD_MAX / 2;
@@ -22,27 +22,26 @@ pub(crate) fn head<R: Read>(r: &mut R) -> Result<(u64, u64), Error> {
     Ok((head.code(), head.digest_length()))
 }
 
-/// Continues after the first two bytes. Only a byte without `MORE`, and the ninth of a varint, can determine
-/// the result, so `Head::read` is called for few prefixes.
+/// Continues after the first two bytes, one byte at a time until these determine the result: both varints have
+/// ended, the first has ended in a zero, or one has nine bytes and no end. `Head::read` is called then, with
+/// zeros after them, which it does not reach.
 #[inline(never)]
 fn long_head<R: Read>(r: &mut R, first: [u8; 2]) -> Result<Head, Error> {
     let mut bytes = [0; HEAD_MAX];
     bytes[..2].copy_from_slice(&first);
     let mut length = 2;
-    // How many bytes the last varint has, if more of it follow.
+    // How many varints have ended, and how many bytes of the next one there are.
+    let mut ended = first.iter().filter(|byte| **byte & MORE == 0).count();
     let mut open = if first[1] & MORE == 0 { 0 } else { 1 + usize::from(first[0] / MORE) };
-    loop {
-        if open == 0 || open == VARINT_MAX {
-            match Head::read(&bytes[..length]) {
-                Err(Format::Insufficient) => {}
-                found => return found.map_err(Error::of_format),
-            }
-        }
+    while ended < 2 && bytes[length - 1] != 0 && open < VARINT_MAX {
         let next = &mut bytes[length..=length]; // the result for `HEAD_MAX` bytes is determined
         fill(r, next)?;
-        open = if next[0] & MORE == 0 { 0 } else { open + 1 };
+        let is_last = next[0] & MORE == 0;
+        ended += usize::from(is_last);
+        open = if is_last { 0 } else { open + 1 };
         length += 1;
     }
+    Head::read(&bytes).map_err(Error::of_format)
 }
 
 /// Fills `out`, of one byte or two. An end of the input is the same error for both.
