@@ -105,11 +105,7 @@ impl<const S: usize> Multihash<S> {
 
     /// Returns the length of the encoding.
     pub fn encoded_len(&self) -> usize {
-        let head = match self.short_head() {
-            Some(head) => head.len(),
-            None => varint_len(self.code) + varint_len(self.size.into()),
-        };
-        head + usize::from(self.size)
+        varint_len(self.code) + 1 + usize::from(self.size / MORE) + usize::from(self.size)
     }
 
     /// Returns the encoding.
@@ -158,9 +154,11 @@ impl<const S: usize> Multihash<S> {
     }
 }
 
-/// Returns the length of a number's varint: a byte for each seven bits, and one for 0.
+/// Returns the length of the varint of a number below 2^63: a byte for each seven bits, and one for 0. For up to
+/// 63 bits the quotient is that of a division by 7, rounded up.
 const fn varint_len(number: u64) -> usize {
-    (u64::BITS - (number | 1).leading_zeros()).div_ceil(7) as usize
+    let bits = u64::BITS - (number | 1).leading_zeros();
+    (bits * 9 + 64) as usize / 64
 }
 
 /// The code 0 and no digest.
