@@ -1,7 +1,7 @@
 //! The encoding as bytes, or as a sequence of numbers where a format has no bytes.
 use crate::Multihash;
 use core::fmt;
-use multihash_c::LENGTH_MAX;
+use multihash_c::{DIGEST_MAX, LENGTH_MAX};
 use serde::de::{Error, SeqAccess, Visitor};
 use serde::{Deserialize, Deserializer, Serialize, Serializer};
 
@@ -19,11 +19,16 @@ impl<'de, const S: usize> Deserialize<'de> for Multihash<S> {
 
 struct Bytes<const S: usize>;
 
+impl<const S: usize> Bytes<S> {
+    /// The most bytes of an encoding: nine of the code, one of a length below 128 or two, and the digest.
+    const MOST: usize = if S < DIGEST_MAX { 10 + S / 128 + S } else { LENGTH_MAX };
+}
+
 impl<'de, const S: usize> Visitor<'de> for Bytes<S> {
     type Value = Multihash<S>;
 
     fn expecting(&self, f: &mut fmt::Formatter<'_>) -> fmt::Result {
-        f.write_str("the bytes of a multihash")
+        f.write_str("a valid Multihash in bytes") // as upstream
     }
 
     fn visit_bytes<E: Error>(self, bytes: &[u8]) -> Result<Multihash<S>, E> {
@@ -33,7 +38,10 @@ impl<'de, const S: usize> Visitor<'de> for Bytes<S> {
     fn visit_seq<A: SeqAccess<'de>>(self, mut numbers: A) -> Result<Multihash<S>, A::Error> {
         let (mut bytes, mut length) = ([0; LENGTH_MAX], 0);
         while let Some(byte) = numbers.next_element()? {
-            *bytes.get_mut(length).ok_or_else(|| A::Error::invalid_length(length + 1, &self))? = byte;
+            if length == Self::MOST {
+                return Err(A::Error::invalid_length(length + 1, &self));
+            }
+            bytes[length] = byte;
             length += 1;
         }
         self.visit_bytes(&bytes[..length])

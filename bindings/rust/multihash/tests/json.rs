@@ -16,13 +16,34 @@ fn json() {
     assert_eq!(text, "[255,255,255,255,255,255,255,255,127,4,97,98,99,100]");
     assert_eq!(serde_json::from_str::<Multihash<4>>(&text).expect("a multihash"), full());
     let error = |text| serde_json::from_str::<Multihash<3>>(text).expect_err("an error").to_string();
-    assert!(error(&text).starts_with("Invalid multihash size 4."));
+    assert!(error("[18,4,97,98,99,100]").starts_with("Invalid multihash size 4."));
     assert!(error("[18,1]").starts_with("failed to fill whole buffer"));
     assert!(error("[18,256]").contains("256"));
-    assert!(error("7").contains("the bytes of a multihash"));
-    let long = format!("[0,0{}]", ",0".repeat(265));
-    assert!(error(&long).starts_with("invalid length 267"));
-    assert!(error(&long.replacen(",0", "", 1)).starts_with("Invalid multihash size 264."));
+    assert!(error("7").contains("expected a valid Multihash in bytes"));
+}
+
+/// A sequence of more numbers than an encoding has is an error before its end, and the longest encoding is decoded.
+#[test]
+fn long_sequences() {
+    fn check<const S: usize>(longest: usize) {
+        let value = Multihash::<S>::wrap((1 << 63) - 1, &[7; 255][..S.min(255)]).expect("it fits");
+        let text = serde_json::to_string(&value).expect("JSON");
+        assert_eq!(value.encoded_len(), longest);
+        assert_eq!(serde_json::from_str::<Multihash<S>>(&text).expect("the longest"), value);
+        let zeros = format!("[0,0{}", ",0".repeat(longest - 2));
+        let error = |text: String| serde_json::from_str::<Multihash<S>>(&text).expect_err("an error");
+        assert!(error(zeros.clone() + "]").to_string().starts_with("Invalid multihash size"));
+        assert!(error(zeros.clone() + ",").is_eof());
+        let long = error(zeros + ",0,");
+        assert!(long.is_data(), "{long}");
+        assert!(long.to_string().starts_with(&format!("invalid length {}", longest + 1)));
+    }
+    check::<3>(13);
+    check::<127>(137);
+    check::<128>(139);
+    check::<254>(265);
+    check::<255>(266);
+    check::<300>(266);
 }
 
 #[test]
