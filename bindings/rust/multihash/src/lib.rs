@@ -3,6 +3,9 @@
 #![forbid(unsafe_code)]
 #![warn(missing_docs)]
 
+#[cfg(any(feature = "scale-codec", feature = "arb"))]
+compile_error!("the features scale-codec and arb are absent in this package of multihash: see its README");
+
 #[cfg(feature = "alloc")]
 extern crate alloc;
 #[cfg(feature = "std")]
