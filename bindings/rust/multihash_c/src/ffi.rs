@@ -69,47 +69,55 @@ unsafe extern "C" {
     ) -> i32;
 }
 
-// A slice points to as many initialised bytes as its length, which is below 2^61 on every machine. While it is
-// shared nothing writes them, and while it is borrowed mutably nothing else accesses them. The library requires
-// no more.
+// What the library requires of a pointer and a length, a slice has: it points to as many initialised bytes as its
+// length, which is below 2^61 on every machine. While it is shared nothing writes them, and while it is borrowed
+// mutably nothing else accesses them.
 
 #[inline]
 pub(crate) fn from_bytes(bytes: &[u8]) -> Decoded {
+    // SAFETY: pointer and length are those of a slice.
     unsafe { multihash_from_bytes(bytes.as_ptr(), bytes.len()) }
 }
 
 #[inline]
 pub(crate) fn read_limit(bytes: &[u8], limit: usize) -> Decoded {
+    // SAFETY: pointer and length are those of a slice.
     unsafe { multihash_read_limit(bytes.as_ptr(), bytes.len(), limit) }
 }
 
 #[inline]
 pub(crate) fn scale_decode(bytes: &[u8]) -> Decoded {
+    // SAFETY: pointer and length are those of a slice.
     unsafe { multihash_scale_decode(bytes.as_ptr(), bytes.len()) }
 }
 
 #[inline]
 pub(crate) fn head(bytes: &[u8]) -> Front {
+    // SAFETY: pointer and length are those of a slice.
     unsafe { multihash_head(bytes.as_ptr(), bytes.len()) }
 }
 
 #[inline]
 pub(crate) fn encoded_len(code: u64, digest_length: usize) -> Encoded {
+    // SAFETY: it has no pointer.
     unsafe { multihash_encoded_len(code, digest_length) }
 }
 
 #[inline]
 pub(crate) fn encode(code: u64, digest: &[u8], out: &mut [u8]) -> Encoded {
+    // SAFETY: pointers and lengths are those of slices.
     unsafe { multihash_encode(code, digest.as_ptr(), digest.len(), out.as_mut_ptr(), out.len()) }
 }
 
 #[inline]
 pub(crate) fn scale_encode(code: u64, digest: &[u8], out: &mut [u8]) -> Encoded {
+    // SAFETY: pointers and lengths are those of slices.
     unsafe { multihash_scale_encode(code, digest.as_ptr(), digest.len(), out.as_mut_ptr(), out.len()) }
 }
 
 #[inline]
 pub(crate) fn compare(left_code: u64, left: &[u8], right_code: u64, right: &[u8]) -> i32 {
+    // SAFETY: pointers and lengths are those of slices.
     unsafe {
         multihash_compare(left_code, left.as_ptr(), left.len(), right_code, right.as_ptr(), right.len())
     }
@@ -119,10 +127,11 @@ pub(crate) fn compare(left_code: u64, left: &[u8], right_code: u64, right: &[u8]
 #[inline]
 pub(crate) fn with_encoding<T>(code: u64, digest: &[u8], function: impl FnOnce(&[u8]) -> T) -> T {
     let mut out = MaybeUninit::<[u8; LENGTH_MAX]>::uninit();
-    // The library reads nothing at `out`, and at `OK` it has written the first `length` bytes there.
+    // SAFETY: the digest is a slice; `out` has that many bytes, of which the library reads none.
     let made =
         unsafe { multihash_encode(code, digest.as_ptr(), digest.len(), out.as_mut_ptr().cast(), LENGTH_MAX) };
     assert!(made.status == OK, "a valid code and digest have an encoding");
+    // SAFETY: at `OK` the library has written the first `length` bytes of `out`.
     function(unsafe { slice::from_raw_parts(out.as_ptr().cast(), made.length) })
 }
 
@@ -141,6 +150,7 @@ mod tests {
     fn texts_are_the_library_s() {
         for status in INSUFFICIENT..=NO_ROOM {
             let mut text = [0; 64];
+            // SAFETY: pointer and length are those of a slice.
             let made = unsafe { multihash_put_status_text(status, text.as_mut_ptr(), text.len()) };
             assert_eq!(made.status, OK);
             assert_eq!(Error::of(status, 0, 0, 0).as_str().as_bytes(), &text[..made.length]);
@@ -153,6 +163,7 @@ mod tests {
         let (major, minor) =
             (number(env!("CARGO_PKG_VERSION_MAJOR")), number(env!("CARGO_PKG_VERSION_MINOR")));
         let patch = number(env!("CARGO_PKG_VERSION_PATCH"));
+        // SAFETY: it has no pointer.
         assert_eq!(unsafe { multihash_version() }, major * 10000 + minor * 100 + patch);
     }
 }

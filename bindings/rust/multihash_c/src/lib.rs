@@ -1,6 +1,7 @@
 #![cfg_attr(any(feature = "std", not(doctest)), doc = include_str!("../README.md"))]
 #![no_std]
 #![deny(unsafe_code)]
+#![warn(clippy::undocumented_unsafe_blocks)]
 #![warn(missing_docs)]
 
 #[cfg(feature = "alloc")]
