@@ -363,7 +363,12 @@ static PyObject *decode(PyObject *module, PyObject *arguments, PyObject *named)
     static char *names[] = {"data", NULL};
     PyObject *data;
     input from;
-    if (!PyArg_ParseTupleAndKeywords(arguments, named, "O:decode", names, &data)) return NULL;
+    /* The parser of arguments takes a seventh of the usual call. */
+    if (named == NULL && PyTuple_Size(arguments) == 1) {
+        data = PyTuple_GetItem(arguments, 0);
+    } else if (!PyArg_ParseTupleAndKeywords(arguments, named, "O:decode", names, &data)) {
+        return NULL;
+    }
     if (get_input(data, MULTIHASH_HEAD_MAX + MULTIHASH_DIGEST_MAX, &from) < 0) return NULL;
     PyObject *multihash = decoded(module, &from, multihash_from_prefix(from.bytes, from.length, from.whole));
     Py_DECREF(from.owner);
