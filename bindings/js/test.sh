@@ -105,7 +105,7 @@ example_in() {
     "$here/README.md"
 }
 
-# What is packed, unpacked elsewhere, runs the script of README.md.
+# What is packed, unpacked elsewhere, runs the script of README.md, and is imported from CommonJS.
 packed_script() {
   local at=$work/elsewhere
   (cd "$here" && npm pack --silent --pack-destination "$work") &&
@@ -115,7 +115,11 @@ packed_script() {
   example_in js > "$at/script.mjs"
   example_in html > "$at/page.html"
   (cd "$at" && node script.mjs > out 2> err) || return 1
-  diff "$at/out" "$top/crates/mh_show/stdout" && grep -x 'invalid_size 34' "$at/err"
+  diff "$at/out" "$top/crates/mh_show/stdout" && grep -x 'invalid_size 34' "$at/err" &&
+    (cd "$at" && node --no-warnings --input-type=commonjs -e "
+      if (process.features.require_module) require('verified-multihash/inline').decode(Uint8Array.of(1, 0));
+      import('verified-multihash').then((found) => console.log(found.decode(Uint8Array.of(1, 0)).code));") |
+    grep -x 1
 }
 
 # In a browser, pages show texts: each line of standard input is a page, a tab, and a text.
