@@ -12,8 +12,15 @@
 
 #include <stddef.h>
 #include <stdint.h>
+#if __STDC_HOSTED__
 #include <stdlib.h>
 #include <string.h>
+#else /* without a C library: these three are all that compilers call there too */
+void *memcpy(void *, const void *, size_t);
+void *memmove(void *, const void *, size_t);
+void *memset(void *, int, size_t);
+#define abort() __builtin_trap()
+#endif
 
 /* The names of numbers in generated code. */
 typedef uint8_t u8;
