@@ -4,9 +4,9 @@
 #
 #   test.sh ARCHIVE [WORK]
 #
-# ARCHIVE is libmultihash_c.a; WORK a folder in which the results stay, the environment in WORK/venv. Needs cc, the
-# headers of Python, and venv. A part whose tool is missing is left out, but fails with ALL=1.
-# MULTIHASH_VERDICTS is the path of the test vectors, if not the repository's.
+# ARCHIVE is libmultihash_c.a; WORK a folder in which the results stay, the environment in WORK/venv. Needs cc, and PYTHON
+# with headers, build, setuptools, venv and wheel, else /usr/bin/python3. A part whose tool is missing is left out, but fails
+# with ALL=1. MULTIHASH_VERDICTS is the path of the test vectors, if not the repository's.
 set -uo pipefail
 here=$(dirname "$(readlink -f "${BASH_SOURCE[0]}")")
 [ $# = 1 ] || [ $# = 2 ] || { sed -n '2,/^[^#]/s/^# \{0,1\}//p' "${BASH_SOURCE[0]}" >&2; exit 2; }
@@ -17,44 +17,51 @@ cd "$here/../.." || exit 2
 # shellcheck source=tools/parts.sh
 . tools/parts.sh
 to=${to:-$work}
+header=$PWD/crates/multihash_c/include/multihash.h
 # What is tested is what was installed.
 unset PYTHONPATH LD_LIBRARY_PATH MULTIHASH_C_ARCHIVE CFLAGS
-export PYTHONDONTWRITEBYTECODE=1
+export PYTHONDONTWRITEBYTECODE=1 PYTHON=${PYTHON:-/usr/bin/python3}
+export MULTIHASH_VERDICTS=${MULTIHASH_VERDICTS:-$PWD/crates/vectors/data/verdicts.tsv}
 python=$to/venv/bin/python
 
 builds() {
   rm -rf "$to/dist" "$to/again"
-  python3 "$here/build.py" "$to/dist" "$archive" && python3 "$here/build.py" "$to/again" "$archive" || return 1
+  "$here/pack.sh" "$to/dist" "$archive" && "$here/pack.sh" "$to/again" "$archive" || return 1
   diff -r "$to/dist" "$to/again" && ls "$to"/dist/verified_multihash-[0-9]*.tar.gz && basename "$to"/dist/*.whl
 }
 
 without_warnings() {
-  CFLAGS="-Wall -Wextra -Wshadow -Wconversion -Wsign-conversion -Werror" \
-    python3 "$here/build.py" "$to/warned" "$archive"
+  CFLAGS="-Wall -Wextra -Wshadow -Wconversion -Wsign-conversion -Werror" "$here/pack.sh" "$to/warned" "$archive"
 }
 
-# The tag names the archive's processor. A file that is no archive, or a later glibc, makes no wheel.
+# An archive with a function less than the header's, which `$1` has in C.
+archive_with() {
+  local at=$to/other
+  rm -rf "$at" && mkdir "$at" && printf '%s\n' "$1" > "$at/version.c" &&
+    objcopy --redefine-sym multihash_version=multihash_other "$archive" "$at/libmultihash_c.a" &&
+    cc -fPIC -c "$at/version.c" -o "$at/version.o" && ar r "$at/libmultihash_c.a" "$at/version.o"
+}
+
+# A file that is no archive, or a later glibc, makes no wheel.
 looks_at_archive() {
-  local at=$to/looked name
-  rm -rf "$at" && mkdir "$at" && cd "$at" && python3 -m zipfile -e "$to"/dist/*.whl . || return 1
-  LC_ALL=C sed 's/GLIBC_2\.14/GLIBC_2.99/' verified_multihash/_core.abi3.so > later.so && : > empty.a &&
-    printf 'no archive' > text.a || return 1
-  for name in empty.a text.a none.a verified_multihash/_core.abi3.so; do
-    rejects "build.py: no archive of libmultihash_c" python3 "$here/build.py" wrong "$name" || return 1
+  local name
+  for name in "$here/README.md" none.a; do
+    rejects "pack.sh: no archive for x86-64 or aarch64" "$here/pack.sh" "$to/wrong" "$name" || return 1
   done
-  [ -z "$(find wrong -name '*.whl')" ] &&
-    rejects "needs glibc 2.99" env PYTHONPATH="$here" python3 -c \
-      'import pathlib, build; print(build.platform_of(pathlib.Path("later.so").read_bytes()))'
+  archive_with 'int pthread_detach(unsigned long); int multihash_version(void) { return pthread_detach(0); }' &&
+    rejects "pack.sh: the module needs GLIBC_2.34" "$here/pack.sh" "$to/wrong" "$to/other/libmultihash_c.a" &&
+    [ -z "$(find "$to/wrong" -name '*.whl')" ]
 }
 
 for_aarch64() {
-  python3 "$here/build.py" "$to/arm" "$here/../../prebuilt/aarch64/libmultihash_c.a" &&
-    ls "$to"/arm/*-cp38-abi3-manylinux_2_17_aarch64.manylinux2014_aarch64.whl
+  "$here/pack.sh" "$to/arm" "$here/../../prebuilt/aarch64/libmultihash_c.a" &&
+    ls "$to"/arm/*-cp38-abi3-manylinux2014_aarch64.whl
 }
 
 # Installs what is named without a network, the kit, or a package that builds, in place of what was installed.
 installs() {
-  env PATH=/usr/bin:/bin "$python" -m pip install --quiet --disable-pip-version-check --no-index --force-reinstall "$1"
+  env PATH=/usr/bin:/bin "$python" -m pip install --quiet --disable-pip-version-check --no-index --no-build-isolation \
+    --force-reinstall "$1"
 }
 
 # What is installed is imported, from the environment.
@@ -88,14 +95,11 @@ sdist() {
 
 # An archive of another version than the header's is not imported.
 other_version() {
-  local at=$to/other number
-  number=$(sed -n 's/^#define MULTIHASH_VERSION_NUMBER //p' "$here/../../crates/multihash_c/include/multihash.h")
-  rm -rf "$at" && mkdir "$at" &&
-    echo "unsigned multihash_version(void) { return $((number + 1)); }" > "$at/version.c" &&
-    objcopy --redefine-sym multihash_version=multihash_other "$archive" "$at/libmultihash_c.a" &&
-    cc -fPIC -c "$at/version.c" -o "$at/version.o" && ar r "$at/libmultihash_c.a" "$at/version.o" || return 1
-  MULTIHASH_C_ARCHIVE=$at/libmultihash_c.a rejects "ImportError: the library for C has version $((number + 1))," \
-    imports "$here"
+  local number
+  number=$(sed -n 's/^#define MULTIHASH_VERSION_NUMBER //p' "$header")
+  archive_with "unsigned multihash_version(void) { return $((number + 1)); }" &&
+    MULTIHASH_C_ARCHIVE=$to/other/libmultihash_c.a rejects "ImportError: the library for C has version $((number + 1))," \
+      imports "$here"
 }
 
 # The portable source and the module, built with sanitizers, which the interpreter loads first.
@@ -136,12 +140,13 @@ types() {
     grep 'Found 5 errors' wrong.log
 }
 
-has "the package for Python" cc python3 || { finish; exit; }
+"$PYTHON" -c 'import build, setuptools, venv, wheel' || exit 2
+has "the package for Python" cc || { finish; exit; }
 try "the sdist and the wheel, built twice" builds
 try "the module without warnings" without_warnings
-try "archives" looks_at_archive
+has "archives" objcopy ar && try "archives" looks_at_archive
 has "the wheel for aarch64" aarch64-linux-gnu-gcc && try "the wheel for aarch64" for_aarch64
-try "an environment" python3 -m venv --clear "$to/venv"
+try "an environment" "$PYTHON" -m venv --clear --system-site-packages "$to/venv"
 try "the wheel, installed" imports "$to"/dist/*.whl
 try "the tests" unit_tests "$here/tests"
 if "$python" -c 'import _testcapi' 2> "$work/log"; then

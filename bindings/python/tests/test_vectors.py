@@ -7,9 +7,7 @@ from pathlib import Path
 import verified_multihash as vm
 from verified_multihash import MultihashError, Status
 
-HERE = Path(__file__).resolve().parent
-# In an sdist the list is beside this file.
-BESIDE = next((it for it in [HERE / "verdicts.tsv"] if it.exists()), HERE.parents[2] / "crates/vectors/data/verdicts.tsv")
+BESIDE = Path(__file__).parent / "verdicts.tsv"
 COLUMNS = "S\tinput\tread\tread_taken\tfrom_bytes\tscale_decode\tscale_taken"
 MORE = bytes(400)
 

@@ -1,0 +1,42 @@
+"""Builds the extension module over an archive of the library for C, or else over its portable source.
+
+The archive is MULTIHASH_C_ARCHIVE, or on Linux the one that the repository has for the machine; an sdist has none.
+"""
+import os
+import shutil
+import sys
+import sysconfig
+
+from setuptools import Extension, setup
+
+# What an sdist has in this folder, and the repository elsewhere.
+COPIES = {
+    "LICENSE": "LICENSE",
+    "portable/memory.h": "packaging/portable/memory.h",
+    "portable/module.h": "packaging/portable/module.h",
+    "portable/multihash.c": "packaging/portable/multihash.c",
+    "portable/multihash.h": "crates/multihash_c/include/multihash.h",
+    "tests/verdicts.tsv": "crates/vectors/data/verdicts.tsv",
+}
+if os.path.exists("../../crates/multihash_c"):
+    os.makedirs("portable", exist_ok=True)
+    for name, path in COPIES.items():
+        shutil.copyfile("../../" + path, name)
+
+system, _, machine = sysconfig.get_platform().partition("-")
+prebuilt = "../../prebuilt/%s/libmultihash_c.a" % machine
+archive = os.environ.get("MULTIHASH_C_ARCHIVE")
+if not archive and system == "linux" and sys.maxsize > 2**32 and os.path.exists(prebuilt):
+    archive = prebuilt
+
+core = Extension(
+    "verified_multihash._core",
+    ["src/core.c"] if archive else ["src/core.c", "portable/multihash.c"],
+    include_dirs=["portable"],
+    extra_objects=[archive] if archive else [],
+    extra_compile_args=["/std:c11"] if system.startswith("win") else ["-std=c11", "-fvisibility=hidden"],
+    extra_link_args=["-Wl,--exclude-libs,ALL", "-Wl,-z,relro", "-Wl,-z,now"] if system == "linux" else [],
+    py_limited_api=True,
+)
+# An earlier build may have linked another archive.
+setup(license="MIT", ext_modules=[core], options={"bdist_wheel": {"py_limited_api": "cp38"}, "build_ext": {"force": True}})
