@@ -83,6 +83,16 @@ has() {
   done
 }
 
+# Whether the crates are installed, by Debian's packages, that the packages for Rust depend on, else the part is left out.
+has_crates() {
+  local crate
+  for crate in cc-1 pkg-config-0.3 serde_json-1; do
+    compgen -G "/usr/share/cargo/registry/$crate.*" > "$work/log" && continue
+    leave_out "$1" "the crate ${crate%-*} of Debian is not installed"
+    return 1
+  done
+}
+
 finish() {
   echo "$passed passed, $failed failed"
   [ "$failed" = 0 ] && [ "$passed" -gt 0 ]

@@ -1,7 +1,6 @@
 #!/usr/bin/env bash
-# Runs a command of Cargo in a copy of this folder, without a network. What the packages can depend on comes
-# from Debian's package librust-serde-json-dev. Where that is not installed two empty crates have the names of
-# serde and serde_json, so that everything but the feature serde can be built.
+# Runs a command of Cargo in a copy of this folder, without a network. What the packages depend on comes from
+# Debian's packages librust-cc-dev, librust-pkg-config-dev and librust-serde-json-dev.
 #
 #   bindings/rust/offline.sh WORK [NAME=VALUE ...] cargo COMMAND [WORD ...]
 #
@@ -12,26 +11,13 @@ top=$(readlink -f "$(dirname "$(readlink -f "$0")")/../..")
 work=$(readlink -f "$1")
 copy=$work/repository
 shift
-registry=/usr/share/cargo/registry
-
-empty_crate() {
-  mkdir -p "$work/empty/$1/src"
-  : > "$work/empty/$1/src/lib.rs"
-  printf '[package]\nname = "%s"\nversion = "1.0.0"\n' "$1" > "$work/empty/$1/Cargo.toml"
-  echo '{"files":{}}' > "$work/empty/$1/.cargo-checksum.json"
-}
 
 if [ ! -d "$copy" ]; then
   mkdir -p "$copy" "$work/cargo"
   tar -c --exclude=target --exclude=Cargo.lock --exclude=build -C "$top" crates.txt bindings/rust prebuilt \
     packaging/portable crates/multihash_c/include | tar -x -C "$copy"
-  if ! compgen -G "$registry/serde_json-1.*" > /dev/null; then
-    empty_crate serde
-    empty_crate serde_json
-    registry=$work/empty
-  fi
   printf '%s\n' '[net]' 'offline = true' '[source.crates-io]' 'replace-with = "here"' \
-    '[source.here]' "directory = \"$registry\"" > "$work/cargo/config.toml"
+    '[source.here]' 'directory = "/usr/share/cargo/registry"' > "$work/cargo/config.toml"
 fi
 verdicts=${MULTIHASH_VERDICTS:-$top/crates/vectors/data/verdicts.tsv}
 set -- MULTIHASH_VERDICTS="$verdicts" "$@"
