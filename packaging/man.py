@@ -1,12 +1,13 @@
 #!/usr/bin/env python3
-"""Writes the man page multihash(3) to standard output: the comments and declarations of multihash.h.
+"""Writes the man page multihash(3): the comments and declarations of multihash.h. Those of its functions include it.
 
-    packaging/man.py HEADER CHANGES    CHANGES has the date of the page
+    packaging/man.py HEADER CHANGES OUT    CHANGES has the date of the page, OUT is the folder of the pages
 """
 import datetime
 import re
 import sys
 import textwrap
+from pathlib import Path
 
 FUNCTION = r"/\*((?:(?!\*/).)*)\*/\n(?:static inline )?(const char \*|\w+ )(multihash_\w+)\(([^()]*)\)"
 STRUCT = r"/\*((?:(?!\*/).)*)\*/\n(typedef struct .*?\} \w+;)"
@@ -81,13 +82,14 @@ def page(header, changes):
 
 
 def main():
-    if len(sys.argv) != 3:
+    if len(sys.argv) != 4:
         sys.exit(__doc__)
-    texts = []
-    for name in sys.argv[1:]:
-        with open(name, encoding="utf-8") as file:
-            texts.append(file.read())
-    sys.stdout.write(page(*texts))
+    header, changes = (Path(name).read_text("utf-8") for name in sys.argv[1:3])
+    out = Path(sys.argv[3])
+    out.mkdir(parents=True, exist_ok=True)
+    for _, _, name, _ in re.findall(FUNCTION, header, re.S):
+        (out / (name + ".3")).write_text(".so man3/multihash.3\n", "utf-8")
+    (out / "multihash.3").write_text(page(header, changes), "utf-8")
 
 
 if __name__ == "__main__":
