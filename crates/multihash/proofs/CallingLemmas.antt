@@ -11,22 +11,23 @@ use Rattle.multihash.specs.Streams.{AreConcatenated, ConsumesPairs, StopsAfterPa
 use Rattle.multihash.specs.Varint.{insufficient, IsContinuation, IsVarint}
 use Rattle.multihash.specs.Verdict.{Verdict, accepted, invalid_size, malformed, BeginsWithSize, HasVerdict, HasWholeVerdict, IsIncomplete}
 use Rattle.multihash.specs.Settling.{Settles, IsShortestSettling}
-use Rattle.multihash.specs.Consuming.{ConsumesShortestSettling, ConsumesVarint, ConsumesAtVarintError, FailsBy, VarintFails}
-use Rattle.multihash.proofs.Readings.SettlingLemmas.{early_not_settles}
-use Rattle.multihash.specs.Reading.{Consumes}
+use Rattle.multihash.specs.Consuming.{ConsumesShortestSettling, ConsumesVarint, ConsumesAtVarintError, FailsBy, VarintFails, ExactFails}
+use Rattle.multihash.proofs.Readings.SettlingLemmas.{early_not_settles, error_of_part}
+use Rattle.multihash.specs.Fault.{Fault, IsOwnFault, IsUnexpectedEof}
+use Rattle.multihash.specs.Reading.{Consumes, ConsumesFewerThan, HasFewerThan}
 use Rattle.multihash.specs.Scale.{IsScale, HasScaleVerdict}
 use Rattle.multihash.specs.Writing.{AppendsPrefix, CountsWriterFailures}
 use Rattle.multihash.specs.Filling.{Fills, IsFilled}
 use Rattle.multihash.specs.declared.no_std_io.slice_writer.SliceWriter.{SliceWriter}
-use Rattle.multihash.specs.Refusal.{Refusal, IsIo, IsOutOfMemory, IsInvalidSize, IsFrontError, IsAnyVarintError}
+use Rattle.multihash.specs.Refusal.{Refusal, of_io, of_varint, IsIo, IsEof, IsOutOfMemory, IsInvalidSize, IsVarintError, IsFrontError, IsAnyVarintError}
 use Rattle.multihash.specs.Outcome.{IsErrorOf, IsResultOf}
 use Rattle.multihash.specs.Multihash.{Fields, pair_of}
 use Rattle.multihash.proofs.Writings.WritingLemmas.{slice_writer_has_room, length_of_not_nil}
-use Rattle.multihash.proofs.Readings.ReadingLemmas.{Consumes-cut, Consumes-told}
+use Rattle.multihash.proofs.Readings.ReadingLemmas.{Consumes-cut, Consumes-told, Consumes-concatenated, IfSome-consumed}
 use Rattle.multihash.proofs.Readings.VerdictLemmas.{verdict_unique, whole_verdict_unique}
 use Rattle.multihash.proofs.Varints.VarintLemmas.{number_no_error, same_number}
 use Rattle.multihash.proofs.Forms.ScaleLemmas.{scale_split, scale_verdict_unique}
-use Rattle.multihash.proofs.Forms.StreamLemmas.{next_part, parts_unique}
+use Rattle.multihash.proofs.Forms.StreamLemmas.{part_read, next_part, parts_unique}
 use Rattle.multihash.proofs.Writings.EncodingLemmas.{encoding_same, encoding_unique}
 
 -- reading that many pairs of a stream did not stop at an error
@@ -88,9 +89,7 @@ pub read_of_encoding : (S before after : ℕ) (old new : Option (List ℕ)) (p :
     → IfOk r (λ m. (consumed : List ℕ) × IsEncoding (pair_of m) consumed × Consumes old consumed new)
     → MatchResult r (λ m. (pair_of m ≡ p) × (new ≡ Some more)) (λ _. ⊥)
 read_of_encoding S before after old new p bytes more (Ok m) encodes fits rest same verdict ok =
-    let (left, is, cut) = Consumes-told (bytes ++ more) ok.0 new (sym rest ∙ ok.2) in
-    let told = encoding_unique (pair_of m) p ok.0 bytes left more ok.1 encodes (sym cut) in
-    (told.0, is ∙ ap Some told.2)
+    part_read IsEncoding encoding_unique (pair_of m) p bytes more old new ok encodes rest
 read_of_encoding S before after old new p bytes more (Err e) encodes fits rest same verdict ok =
     let found = (rw rest at verdict) same in
     let own : HasVerdict S (bytes ++ more) (accepted p) = (more, record { encoding = bytes; encodes = encodes; cut = refl }, fits) in
@@ -131,6 +130,74 @@ takes_some S old new consumed =
     let some = length_of_not_nil consumed.front (λ none. early_not_settles S [] (malformed insufficient) tt
     (inl (record { few = omega arith; all_continuation = All-nil IsContinuation })) (subst (Settles S) none consumed.shortest.settles)) in
     omega (arith, some, ap length (Consumes-cut old consumed.front new consumed.consumes), length-append consumed.front new)
+
+-- ---- parts that are read one after another
+
+module _ (n m : ℕ) (varint rest : List ℕ) (is : IsVarint n varint) where
+  -- a varint that comes next was read: its number, and what follows it
+  pub number_read : (old new : Option (List ℕ)) → old ≡ Some (varint ++ rest) → ConsumesVarint m old new → (m ≡ n) × (new ≡ Some rest)
+  number_read old new at (read, also, consumes) =
+      let (left, told, cut) = Consumes-told (varint ++ rest) read new (sym at ∙ consumes) in
+      let both = same_number (varint ++ rest) m n left rest (read, also, cut) (varint, is, refl) in
+      (both.0, told ∙ ap Some both.1)
+
+  -- a varint was read from a part of the input: the rest of the part is left
+  pub number_cut : (part more : List ℕ) (new : Option (List ℕ)) → varint ++ rest ≡ part ++ more → ConsumesVarint m (Some part) new
+      → (left : List ℕ) × (new ≡ Some left) × (m ≡ n) × (rest ≡ left ++ more)
+  number_cut part more new cut (read, also, consumes) =
+      let (left, told, split) = Consumes-told part read new consumes in
+      let whole = cut ∙ (ap (λ (z : List ℕ). z ++ more) split ∙ append_assoc read left more) in
+      let both = same_number (varint ++ rest) m n (left ++ more) rest (read, also, whole) (varint, is, refl) in
+      (left, told, both.0, sym both.1)
+
+module _ (before after : ℕ) (same : after ≡ before) (e : Refusal) where
+  -- a varint that comes next is read if the reader does not fail
+  pub number_found : (n : ℕ) (varint rest : List ℕ) (old new : Option (List ℕ)) → IsVarint n varint → old ≡ Some (varint ++ rest)
+      → VarintFails before after e old new → ⊥
+  number_found n varint rest old new is at fails =
+      let (error, _, bad) = (rw at at fails.front) same in
+      number_no_error (varint ++ rest) n rest error (varint, is, refl) bad
+
+  -- a part of the input is rejected only if it ends within the varint
+  pub number_early : (n : ℕ) (varint rest part more : List ℕ) (new : Option (List ℕ)) → IsVarint n varint → varint ++ rest ≡ part ++ more
+      → VarintFails before after e (Some part) new → IsVarintError insufficient e
+  number_early n varint rest part more new is cut fails =
+      let (error, named, bad) = fails.front same in
+      named ∙ ap of_varint (error_of_part n varint rest part more error is cut bad)
+
+  -- as many bytes as are requested are read if they come next, and the reader does not fail
+  pub exact_found : (n : ℕ) (body more : List ℕ) (old new : Option (List ℕ)) → n ≤ length body → old ≡ Some (body ++ more)
+      → ExactFails n before after e old new → ⊥
+  exact_found n body more old new long at fails = omega (arith, (rw at at fails.short) same, length-append body more, long)
+
+  -- otherwise the input ended
+  pub exact_early : (n : ℕ) (old new : Option (List ℕ)) → ExactFails n before after e old new → IsEof e
+  exact_early n old new fails = elim fails.cause [ inl own ↦ absurd (omega (arith, own.0, same)) | inr ended ↦ ended.1 ]
+
+-- reading exactly `n` bytes failed, after calls that counted no failure: the facts are the laws of `read_exact`
+pub exact_fails : (n before middle after : ℕ) (old new : Option (List ℕ)) (error : Fault) → middle ≡ before
+    → ((after ≡ middle + 1) × IsOwnFault error) ⊎ ((after ≡ middle) × IsUnexpectedEof error)
+    → (IsUnexpectedEof error → HasFewerThan n old) → ConsumesFewerThan n old new → ExactFails n before after (of_io error) old new
+exact_fails n before middle after old new error same faults eof part =
+    subst (λ k. ExactFails n k after (of_io error) old new) same (record {
+      cause = elim faults [ inl own ↦ inl (own.0, (error, refl, own.1)) | inr ended ↦ inr (ended.0, (error, refl, ended.1)) ];
+      consumed = part;
+      short = λ unfailed. elim faults [ inl own ↦ absurd (omega (arith, own.0, unfailed)) | inr ended ↦ eof ended.1 ];
+    })
+
+-- the last `m` of `n` bytes could not be read, after the others
+pub exact_after : (n m before after : ℕ) (read : List ℕ) (old mid new : Option (List ℕ)) (e : Refusal) → Consumes old read mid → length read + m ≤ n
+    → ExactFails m before after e mid new → ExactFails n before after e old new
+exact_after n m before after read old mid new e consumes long fails = record {
+  cause = fails.cause;
+  consumed = record {
+    consumed = read ++ fails.consumed.consumed;
+    fewer = omega (arith, fails.consumed.fewer, length-append read fails.consumed.consumed, long);
+    consumes = Consumes-concatenated old mid new read fails.consumed.consumed _ refl consumes fails.consumed.consumes;
+  };
+  short = λ same. IfSome-consumed old mid read (λ bytes. length bytes < n) consumes
+      (λ left is. omega (arith, (rw is at (fails.short same)), length-append read left, long));
+}
 
 -- if a varint comes next, reading it returns its number and leaves what follows
 pub varint_read : (n before after : ℕ) (old new : Option (List ℕ)) (bytes more : List ℕ) (r : Result ℕ Refusal)

@@ -1,20 +1,19 @@
 -- The two varints at the front of a content identifier; there is one identifier at one position.
-use Rattle.std.proofs.Common.{◌≡◌, ℕ, ◌+◌, List, ◌++◌, length, Option, Some, IfErr, MatchResult, ◌⊎◌, inl, inr, Result, Ok, Err, refl, sym, ap, ◌∙◌, subst, arith, append_assoc, length-append}
+use Rattle.std.proofs.Common.{◌≡◌, ℕ, List, ◌++◌, length, Option, Some, IfErr, MatchResult, inl, inr, Result, Ok, Err, refl, sym, ap, ◌∙◌, subst, arith, append_assoc}
 use Rattle.std.specs.Result.{IsErrAnd}
 use Rattle.std.proofs.lemmas.List.{append_cancel_right}
 use Rattle.multihash.specs.Pair.{Pair, FitsBuffer}
 use Rattle.multihash.specs.Encoding.{IsEncoding}
 use Rattle.multihash.specs.Varint.{IsVarint}
-use Rattle.multihash.specs.Fault.{Fault, IsOwnFault, IsUnexpectedEof}
-use Rattle.multihash.specs.Reading.{Consumes, ConsumesFewerThan, HasFewerThan}
-use Rattle.multihash.specs.Consuming.{ConsumesVarint, ReadFails, ExactFails}
-use Rattle.multihash.specs.Refusal.{Refusal, of_io}
-use Rattle.multihash.proofs.CallingLemmas.{varint_read, read_of_encoding}
-use Rattle.multihash.proofs.Readings.ReadingLemmas.{Consumes-concatenated, Consumes-told}
+use Rattle.multihash.specs.Reading.{Consumes}
+use Rattle.multihash.specs.Consuming.{ConsumesVarint}
+use Rattle.multihash.proofs.CallingLemmas.{number_read, number_found, exact_found, read_of_encoding}
+use Rattle.multihash.proofs.Forms.StreamLemmas.{part_read}
+use Rattle.multihash.proofs.Readings.ReadingLemmas.{Consumes-concatenated}
 use Rattle.multihash.proofs.Values.ValueLemmas.{digest_fits}
 use Rattle.multihash.proofs.Varints.VarintLemmas.{same_number, varint_unique}
 use Rattle.multihash.proofs.Writings.EncodingLemmas.{encoding_unique, encoding_same}
-use Rattle.uses.specs.ContentId.{Content, version_0, version_1, content_of, IsContentId, FitsContentId, NumberFails, HashFails, ContentIdFails}
+use Rattle.uses.specs.ContentId.{Content, version_0, version_1, content_of, IsContentId, FitsContentId, HashFails, ContentIdFails}
 use Rattle.uses.specs.declared.content_id.ContentId.{ContentId}
 use Rattle.uses.specs.declared.content_id.ContentId.TheVariants.{V0, V1}
 use Rattle.uses.specs.declared.content_id.ContentIdError.{ContentIdError}
@@ -122,34 +121,8 @@ pub takes_three : (a b c d : Option (List ℕ)) (x y z : List ℕ) → Consumes 
 takes_three a b c d x y z first second third =
     Consumes-concatenated a b d x (y ++ z) (x ++ (y ++ z)) refl first (Consumes-concatenated b c d y z (y ++ z) refl second third)
 
--- what a call says of a failure holds of it after calls that counted none
-pub hash_fails : (S before middle after : ℕ) (old new : Option (List ℕ)) (e : Refusal) → middle ≡ before → ReadFails S middle after e old new
-    → ReadFails S before after e old new
-hash_fails S before middle after old new e same fails = subst (λ k. ReadFails S k after e old new) same fails
-
-pub digest_fails : (before middle after : ℕ) (old new : Option (List ℕ)) (error : Fault) → middle ≡ before
-    → ((after ≡ middle + 1) × IsOwnFault error) ⊎ ((after ≡ middle) × IsUnexpectedEof error)
-    → (IsUnexpectedEof error → HasFewerThan 32 old) → ConsumesFewerThan 32 old new → ExactFails 32 before after (of_io error) old new
-digest_fails before middle after old new error same (inl own) eof consumed = record {
-  cause = inl (own.0 ∙ ap (λ (k : ℕ). k + 1) same, (error, refl, own.1));
-  consumed = consumed;
-  short = λ unfailed. absurd (omega (arith, own.0, same, unfailed));
-}
-digest_fails before middle after old new error same (inr ended) eof consumed = record {
-  cause = inr (ended.0 ∙ same, (error, refl, ended.1));
-  consumed = consumed;
-  short = λ unfailed. eof ended.1;
-}
-
 -- if an identifier that fits comes next, and the reader does not fail, nothing fails
 module _ (S : ℕ) (c : Content) (bytes more : List ℕ) (id : IsContentId c bytes) (fits : FitsContentId S c) (before after : ℕ) (same : after ≡ before) where
-  consumed : (n m : ℕ) (varint rest : List ℕ) (old new : Option (List ℕ)) → IsVarint n varint → old ≡ Some (varint ++ rest) → ConsumesVarint m old new
-      → (m ≡ n) × (new ≡ Some rest)
-  consumed n m varint rest old new is at (read, also, consumes) =
-      let (left, told, cut) = Consumes-told (varint ++ rest) read new (sym at ∙ consumes) in
-      let both = same_number (varint ++ rest) m n left rest (read, also, cut) (varint, is, refl) in
-      (both.0, told ∙ ap Some both.1)
-
   hash_found : (e : ContentIdError) (version number : ℕ) (old new : Option (List ℕ)) → version ≡ first_number c → number ≡ second_number c
       → old ≡ Some ((parts c bytes id).rest ++ more) → HashFails S before after e version number old new → ⊥
   hash_found e version number old new one two at (inl (is, (r, _, fails))) =
@@ -157,15 +130,10 @@ module _ (S : ℕ) (c : Content) (bytes more : List ℕ) (id : IsContentId c byt
       read_of_encoding S before after old new p (parts c bytes id).rest more (Err r) encodes fit at same fails.verdict tt
   hash_found e version number old new one two at (inr (inl (is, _, (r, _, fails)))) =
       let zero = ends_version_0 c (parts c bytes id).rest (parts c bytes id).ends (λ other. omega (arith, one, is, other)) in
-      absurd (omega (arith, (rw at at fails.short) same, length-append (parts c bytes id).rest more, zero.2))
+      exact_found before after same r 32 (parts c bytes id).rest more old new (omega (arith, zero.2)) at fails
   hash_found e version number old new one two at (inr (inr (is, other, _))) =
       let zero = ends_version_0 c (parts c bytes id).rest (parts c bytes id).ends (λ not. omega (arith, one, is, not)) in
       other (two ∙ zero.1)
-
-  number_found : (e : ContentIdError) (n : ℕ) (varint rest : List ℕ) (old new : Option (List ℕ)) → IsVarint n varint → old ≡ Some (varint ++ rest)
-      → NumberFails before after e old new → ⊥
-  number_found e n varint rest old new is at (r, _, fails) =
-      varint_read n before after old new varint rest (Err r) is at same tt fails.front
 
   known : (n : ℕ) → n ≡ first_number c → ¬ (n ≡ 1) → ¬ (n ≡ 0x12) → ⊥
   known n is other also = by c is
@@ -183,15 +151,19 @@ module _ (S : ℕ) (c : Content) (bytes more : List ℕ) (id : IsContentId c byt
       at : old ≡ Some (h.first ++ (h.second ++ (h.rest ++ more)))
       at = rest ∙ ap Some (parts_cut c bytes more h)
 
+      one : (version : ℕ) (middle : Option (List ℕ)) → ConsumesVarint version old middle
+          → (version ≡ first_number c) × (middle ≡ Some (h.second ++ (h.rest ++ more)))
+      one version middle first = number_read (first_number c) version h.first (h.second ++ (h.rest ++ more)) h.is_first old middle at first
+
       by : ContentIdFails S before after e old new → ⊥
-      by (inl number) = number_found e _ h.first _ old new h.is_first at number
-      by (inr (version, middle, first, inl (other, also, _))) = known version (consumed _ version h.first _ old middle h.is_first at first).0 other also
-      by (inr (version, middle, first, inr (_, inl number))) =
-          number_found e _ h.second _ middle new h.is_second (consumed _ version h.first _ old middle h.is_first at first).1 number
+      by (inl (r, _, fails)) = number_found before after same r _ h.first _ old new h.is_first at fails
+      by (inr (version, middle, first, inl (other, also, _))) = known version (one version middle first).0 other also
+      by (inr (version, middle, first, inr (_, inl (r, _, fails)))) =
+          number_found before after same r _ h.second _ middle new h.is_second (one version middle first).1 fails
       by (inr (version, middle, first, inr (_, inr (number, left, second, hash)))) =
-          let one = consumed _ version h.first _ old middle h.is_first at first in
-          let two = consumed _ number h.second _ middle left h.is_second one.1 second in
-          hash_found e version number left new one.0 two.0 two.1 hash
+          let told = one version middle first in
+          let two = number_read (second_number c) number h.second (h.rest ++ more) h.is_second middle left told.1 second in
+          hash_found e version number left new told.0 two.0 two.1 hash
 
   pub rejected_found : {T : Type 0} (old new : Option (List ℕ)) (P : ContentIdError → Type 0) (Q : T → Type 0) (r : Result T ContentIdError)
       → old ≡ Some (bytes ++ more) → IsErrAnd r P → IfErr r (λ e. ContentIdFails S before after e old new) → MatchResult r Q (λ _. ⊥)
@@ -206,32 +178,25 @@ content_fits S (V1 codec hash) = digest_fits hash
 -- two identifiers at the front of one list are equal
 module _ (unique : (p q : Pair) (x y r s : List ℕ) → IsEncoding p x → IsEncoding q y → x ++ r ≡ y ++ s → (p ≡ q) × (x ≡ y) × (r ≡ s)) where
   pub one_place : (c d : Content) (a b r s : List ℕ) → IsContentId c a → IsContentId d b → a ++ r ≡ b ++ s → (c ≡ d) × (a ≡ b) × (r ≡ s)
-  one_place c d a b r s id other same = by c d id other (parts c a id) (parts d b other)
+  one_place c d a b r s id other same =
+      let h = parts c a id in
+      let k = parts d b other in
+      by c d id other h k (same_number (a ++ r) (first_number c) (first_number d) (h.second ++ (h.rest ++ r)) (k.second ++ (k.rest ++ s))
+      (h.first, h.is_first, parts_cut c a r h) (k.first, k.is_first, same ∙ parts_cut d b s k))
     where
-      by : (c d : Content) → IsContentId c a → IsContentId d b → Parts c a → Parts d b → (c ≡ d) × (a ≡ b) × (r ≡ s)
-      by (version_0 x) (version_0 y) id other h k =
+      by : (c d : Content) → IsContentId c a → IsContentId d b → (h : Parts c a) (k : Parts d b)
+          → (first_number c ≡ first_number d) × (h.second ++ (h.rest ++ r) ≡ k.second ++ (k.rest ++ s)) → (c ≡ d) × (a ≡ b) × (r ≡ s)
+      by (version_0 x) (version_0 y) id other h k _ =
           let told = unique _ _ a b r s id.encodes other.encodes same in
           (ap (λ (p : Pair). version_0 p.digest) told.0, told.1, told.2)
-      by (version_1 m p) (version_1 n q) id other h k =
-          let versions = same_number (a ++ r) 1 1 (h.second ++ (h.rest ++ r)) (k.second ++ (k.rest ++ s))
-          (h.first, h.is_first, parts_cut _ a r h) (k.first, k.is_first, same ∙ parts_cut _ b s k) in
-          let codecs = same_number (h.second ++ (h.rest ++ r)) m n (h.rest ++ r) (k.rest ++ s)
-          (h.second, h.is_second, refl) (k.second, k.is_second, versions.1) in
+      by (version_1 m p) (version_1 n q) id other h k (_, after) =
+          let codecs = same_number (h.second ++ (h.rest ++ r)) m n (h.rest ++ r) (k.rest ++ s) (h.second, h.is_second, refl) (k.second, k.is_second, after) in
           let told = unique p q h.rest k.rest r s h.ends k.ends codecs.1 in
           (cc (codecs.0, told.0), append_cancel_right a b r (same ∙ ap (λ (z : List ℕ). b ++ z) (sym told.2)), told.2)
-      by (version_0 x) (version_1 n q) id other h k =
-          let versions = same_number (a ++ r) 0x12 1 (h.second ++ (h.rest ++ r)) (k.second ++ (k.rest ++ s))
-          (h.first, h.is_first, parts_cut _ a r h) (k.first, k.is_first, same ∙ parts_cut _ b s k) in
-          absurd (omega (arith, versions.0))
-      by (version_1 m p) (version_0 y) id other h k =
-          let versions = same_number (a ++ r) 1 0x12 (h.second ++ (h.rest ++ r)) (k.second ++ (k.rest ++ s))
-          (h.first, h.is_first, parts_cut _ a r h) (k.first, k.is_first, same ∙ parts_cut _ b s k) in
-          absurd (omega (arith, versions.0))
+      by (version_0 x) (version_1 n q) id other h k (first, _) = absurd (omega (arith, first))
+      by (version_1 m p) (version_0 y) id other h k (first, _) = absurd (omega (arith, first))
 
 -- an identifier that was read is the one that comes next
 pub id_found : (c d : Content) (y more : List ℕ) (old new : Option (List ℕ)) → (x : List ℕ) × IsContentId c x × Consumes old x new
     → IsContentId d y → old ≡ Some (y ++ more) → (c ≡ d) × (new ≡ Some more)
-id_found c d y more old new (x, is, consumes) also rest =
-    let (left, told, cut) = Consumes-told (y ++ more) x new (sym rest ∙ consumes) in
-    let same = one_place encoding_unique c d x y left more is also (sym cut) in
-    (same.0, told ∙ ap Some same.2)
+id_found = part_read IsContentId (one_place encoding_unique)

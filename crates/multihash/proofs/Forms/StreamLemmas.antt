@@ -1,6 +1,6 @@
 -- Parts in a stream, none of which is a prefix of another, can be split in one way only; one more pair has been
 -- consumed.
-use Rattle.std.proofs.Common.{◌≡◌, ℕ, ◌<◌, ◌≤◌, List, [], ◌∷◌, ◌++◌, length, refl, sym, ap, ◌∙◌, subst, arith, length-append, append_assoc, append-nil, Option, map}
+use Rattle.std.proofs.Common.{◌≡◌, ℕ, ◌<◌, ◌≤◌, List, [], ◌∷◌, ◌++◌, length, refl, sym, ap, ◌∙◌, subst, arith, length-append, append_assoc, append-nil, Option, Some, map, inl, inr}
 use Rattle.std.specs.List.{All}
 use Rattle.multihash.specs.Pair.{Pair, FitsBuffer}
 use Rattle.multihash.specs.Encoding.{IsEncoding}
@@ -8,11 +8,13 @@ use Rattle.multihash.specs.Streams.{AreParts, AreConcatenated, ConsumesPairs}
 use Rattle.multihash.proofs.Varints.DigitLemmas.{All-append_right}
 use Rattle.multihash.proofs.Varints.VarintLemmas.{varint_some}
 use Rattle.multihash.proofs.Writings.EncodingLemmas.{encoding_unique}
-use Rattle.std.proofs.lemmas.List.{map_push}
+use Rattle.std.proofs.lemmas.Bool.{cases_lt}
+use Rattle.std.proofs.lemmas.List.{map_push, nil_from_length}
 use Rattle.std.proofs.lemmas.List.Elements.{All-push, All-head}
+use Rattle.multihash.specs.Consuming.{ConsumesSome}
 use Rattle.multihash.specs.Reading.{Consumes}
 use Rattle.multihash.specs.Multihash.{Fields, pair_of}
-use Rattle.multihash.proofs.Readings.ReadingLemmas.{Consumes-concatenated}
+use Rattle.multihash.proofs.Readings.ReadingLemmas.{Consumes-concatenated, Consumes-told}
 
 module _ {A : Type 0} (IsPart : A → List ℕ → Type 0) where
   -- one more part
@@ -27,6 +29,14 @@ module _ {A : Type 0} (IsPart : A → List ℕ → Type 0) where
   parts_same same (x ∷ xs) a b (p, a', is_p, g, a_cut) (q, b', is_q, h, b_cut) = cc (a_cut, b_cut, same x p q is_p is_q, parts_same same xs a' b' g h)
 
   module _ (unique : (x y : A) (a b r s : List ℕ) → IsPart x a → IsPart y b → a ++ r ≡ b ++ s → (x ≡ y) × (a ≡ b) × (r ≡ s)) where
+    -- a part that was read is the one that comes next
+    pub part_read : (x y : A) (bytes more : List ℕ) (old new : Option (List ℕ)) → ConsumesSome (IsPart x) old new → IsPart y bytes → old ≡ Some (bytes ++ more)
+        → (x ≡ y) × (new ≡ Some more)
+    part_read x y bytes more old new (read, is, consumes) also at =
+        let (left, told, cut) = Consumes-told (bytes ++ more) read new (sym at ∙ consumes) in
+        let same = unique x y read bytes left more is also (sym cut) in
+        (same.0, told ∙ ap Some same.2)
+
     -- of two streams at the front of one input, the one of fewer items is the front of the other
     pub parts_split : (xs ys : List A) (a b r s : List ℕ) → AreParts IsPart xs a → AreParts IsPart ys b → length xs ≤ length ys → a ++ r ≡ b ++ s
         → (zs : List A) × (c : List ℕ) × (ys ≡ xs ++ zs) × AreParts IsPart zs c × (b ≡ a ++ c) × (r ≡ c ++ s)
@@ -64,18 +74,40 @@ module _ {A : Type 0} (IsPart : A → List ℕ → Type 0) where
           λ P all. All-head P z zs (All-append_right P xs (z ∷ zs) (subst (All P) same all)),
         )
 
-    -- if no part is empty, the stream alone determines the items and their number
-    pub parts_whole : ((x : A) (part : List ℕ) → IsPart x part → 0 < length part) → (xs ys : List A) (bytes : List ℕ)
-        → AreParts IsPart xs bytes → AreParts IsPart ys bytes → xs ≡ ys
-    parts_whole some [] [] bytes g h = refl
-    parts_whole some [] (y ∷ ys) bytes none (q, b, is, h, cut) = absurd (omega (arith, some y q is, ap length (sym none ∙ cut), length-append q b))
-    parts_whole some (x ∷ xs) [] bytes (p, a, is, g, cut) none = absurd (omega (arith, some x p is, ap length (sym none ∙ cut), length-append p a))
-    parts_whole some (x ∷ xs) (y ∷ ys) bytes (p, a, is_p, g, a_cut) (q, b, is_q, h, b_cut) =
-        let first = unique x y p q a b is_p is_q (sym a_cut ∙ b_cut) in
-        cc (first.0, parts_whole some xs ys a g (subst (AreParts IsPart ys) (sym first.2) h))
+    -- after a shorter stream comes a part of the longer one, so a loop need not know their number
+    pub part_follows : (xs ys : List A) (a b r s : List ℕ) → AreParts IsPart xs a → AreParts IsPart ys b → length a < length b → a ++ r ≡ b ++ s
+        → (y : A) × (part : List ℕ) × (rest : List ℕ) × IsPart y part × (r ≡ part ++ rest) × ((P : A → Type 0) → All P ys → P y)
+    part_follows xs ys a b r s g h longer e =
+        elim (cases_lt (length xs) (length ys)) [
+          | inl few ↦ next_part xs ys a b r s g h few e
+          | inr many ↦
+              let (_, c, _, _, whole, _) = parts_split ys xs b a s r h g many (sym e) in
+              absurd (omega (arith, longer, ap length whole, length-append b c))
+        ]
+
+    module _ (some : (x : A) (part : List ℕ) → IsPart x part → 0 < length part) where
+      -- if no part is empty, the items of a stream at the front of a longer one are the first of its items
+      pub prefix_of : (xs ys : List A) (a b r s : List ℕ) → AreParts IsPart xs a → AreParts IsPart ys b → length a ≤ length b → a ++ r ≡ b ++ s
+          → (zs : List A) × (ys ≡ xs ++ zs)
+      prefix_of [] ys a b r s none h longer e = (ys, refl)
+      prefix_of (x ∷ xs) [] a b r s (p, a', is, g, cut) none longer e = absurd (omega (arith, longer, some x p is, ap length cut, ap length none, length-append p a'))
+      prefix_of (x ∷ xs) (y ∷ ys) a b r s (p, a', is_p, g, a_cut) (q, b', is_q, h, b_cut) longer e =
+          let first = unique x y p q (a' ++ r) (b' ++ s) is_p is_q
+          (sym (ap (λ z. z ++ r) a_cut ∙ append_assoc p a' r) ∙ (e ∙ (ap (λ z. z ++ s) b_cut ∙ append_assoc q b' s))) in
+          let shorter : length a' ≤ length b' = omega (arith, longer, ap length a_cut, ap length b_cut, ap length first.1, length-append p a', length-append q b') in
+          let (zs, same) = prefix_of xs ys a' b' r s g h shorter first.2 in
+          (zs, cc (first.0, same))
+
+      -- so the stream alone determines the items and their number
+      pub parts_whole : (xs ys : List A) (bytes : List ℕ) → AreParts IsPart xs bytes → AreParts IsPart ys bytes → xs ≡ ys
+      parts_whole xs ys bytes g h =
+          let (zs, same) = prefix_of xs ys bytes bytes [] [] g h (omega arith) refl in
+          let (ws, also) = prefix_of ys xs bytes bytes [] [] h g (omega arith) refl in
+          let none : length zs ≡ 0 = omega (arith, ap length same, ap length also, length-append xs zs, length-append ys ws) in
+          sym (same ∙ (ap (λ z. xs ++ z) (nil_from_length zs none) ∙ append-nil xs))
 
 -- an encoding is not empty
-encoding_some : (p : Pair) (bytes : List ℕ) → IsEncoding p bytes → 0 < length bytes
+pub encoding_some : (p : Pair) (bytes : List ℕ) → IsEncoding p bytes → 0 < length bytes
 encoding_some p bytes e = omega (arith, varint_some p.code e.code e.is_code, ap length e.spelled, length-append e.code (e.size ++ p.digest))
 
 pub concatenated_whole : (ps qs : List Pair) (bytes : List ℕ) → AreConcatenated ps bytes → AreConcatenated qs bytes → ps ≡ qs

@@ -1,10 +1,10 @@
 use Rattle.std.proofs.Common.{◌≡◌, length, inl, inr, refl, ◌∙◌, arith, rules}
 use Rattle.multihash.specs.Refusal.{of_io}
 use Rattle.multihash.specs.Multihash.{pair_of}
-use Rattle.multihash.proofs.CallingLemmas.{varint_fails}
+use Rattle.multihash.proofs.CallingLemmas.{varint_fails, exact_fails}
 use Rattle.multihash.proofs.OutcomeLemmas.{passed_on}
 use Rattle.uses.specs.declared.content_id.ContentIdError.TheVariants.{Rejected}
-use Rattle.uses.proofs.ContentIdLemmas.{make_version_0, make_version_1, takes_three, hash_fails, digest_fails, id_fails, rejected_found, id_found}
+use Rattle.uses.proofs.ContentIdLemmas.{make_version_0, make_version_1, takes_three, id_fails, rejected_found, id_found}
 use Rattle.uses.proofs.content_id.ContentId.read.Goals as goal
 use Rattle.uses.proofs.content_id.ContentId.read.Goals.{else-version-ne-VERSION-via-then-version-ne-VERSION+else-version-ne-SHA2_256, else-version-ne-VERSION-via-else-version-ne-VERSION}
 
@@ -67,7 +67,7 @@ returns-in_err-hash-clause-err g c =
     let n = c.in_ok-number.ensures in
     let one : c.in_ok-version.version ≡ 1 = omega arith in
     passed_on c.from_residual-in_err-hash.result (Rejected c.in_err-hash.field-0.0) _ _ c.from_residual-in_err-hash.ensures.1
-    (inr (_, _, v.ok, inr (inl one, inr (_, _, n.ok, inl (one, (_, refl, hash_fails _ _ _ _ _ _ _ (n.faults ∙ v.faults) c.in_err-hash.ensures))))))
+    (inr (_, _, v.ok, inr (inl one, inr (_, _, n.ok, inl (one, (_, refl, rw (n.faults ∙ v.faults) at c.in_err-hash.ensures))))))
 
 pub returns-then-number-ne-SHA2_256_SIZE-clause-err : goal.returns-then-number-ne-SHA2_256_SIZE-clause-err
 returns-then-number-ne-SHA2_256_SIZE-clause-err g c =
@@ -84,7 +84,7 @@ returns-in_err-read_exact-clause-err g c =
     let whole : c.in_ok-number.number ≡ 32 = omega arith in
     let met = c.in_err-read_exact.ensures.laws in
     let error = c.in_err-read_exact.field-0.0 in
-    let fails = digest_fails _ _ _ _ _ error (n.faults ∙ v.faults) met.faults met.eof met.err in
+    let fails = exact_fails 32 _ _ _ _ _ error (n.faults ∙ v.faults) met.faults met.eof met.err in
     passed_on c.from_residual-in_err-read_exact.result (Rejected (of_io error)) _ _ c.from_residual-in_err-read_exact.ensures.1
     (inr (_, _, v.ok, inr (inr zero, inr (_, _, n.ok, inr (inl (zero, whole, (of_io error, refl, fails)))))))
 
