@@ -199,20 +199,6 @@ exact_after n m before after read old mid new e consumes long fails = record {
       (λ left is. omega (arith, (rw is at (fails.short same)), length-append read left, long));
 }
 
--- if a varint comes next, reading it returns its number and leaves what follows
-pub varint_read : (n before after : ℕ) (old new : Option (List ℕ)) (bytes more : List ℕ) (r : Result ℕ Refusal)
-    → IsVarint n bytes → old ≡ Some (bytes ++ more) → after ≡ before
-    → IfOk r (λ m. ConsumesVarint m old new)
-    → IfSome old (λ input. after ≡ before → IfErr r (IsFrontError input))
-    → MatchResult r (λ m. (m ≡ n) × (new ≡ Some more)) (λ _. ⊥)
-varint_read n before after old new bytes more (Ok m) is rest same ok front =
-    let (left, told, cut) = Consumes-told (bytes ++ more) ok.0 new (sym rest ∙ ok.2) in
-    let both = same_number (bytes ++ more) m n left more (ok.0, ok.1, cut) (bytes, is, refl) in
-    (both.0, told ∙ ap Some both.1)
-varint_read n before after old new bytes more (Err e) is rest same ok front =
-    let met = (rw rest at front) same in
-    number_no_error (bytes ++ more) n more met.0 (bytes, is, refl) met.2
-
 -- reading a varint failed, after calls that counted no failure: the facts are the clauses of `varint::read`
 pub varint_fails : (before middle after : ℕ) (old new : Option (List ℕ)) (e : Refusal) → middle ≡ before → FailsBy middle after IsAnyVarintError e
     → ConsumesAtVarintError e old new → IfSome old (λ input. after ≡ middle → IsFrontError input e) → VarintFails before after e old new

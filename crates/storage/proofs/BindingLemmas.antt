@@ -1,5 +1,5 @@
 -- Two paths to one root that turn alike: they are equal, or two messages that are hashed on them have one hash.
-use Rattle.std.proofs.Common.{◌≡◌, ◌≢◌, ◌⊎◌, ◌↔◌, ℕ, zero, suc, List, [], ◌∷◌, ◌++◌, Bool, true, false, IsTrue, length, map, inl, inr, refl, sym, ap, ◌∙◌, subst, arith}
+use Rattle.std.proofs.Common.{◌≡◌, ◌≢◌, ◌⊎◌, ◌↔◌, ℕ, suc, List, [], ◌∷◌, ◌++◌, Bool, true, false, IsTrue, inl, inr, refl, sym, ap, ◌∙◌, subst, arith}
 use Rattle.std.specs.List.{fold, Contains}
 use Rattle.std.specs.Ordering.{is_eq}
 use Rattle.std.proofs.lemmas.Bool.{false≢true}
@@ -14,8 +14,8 @@ use Rattle.multihash.proofs.Writings.EncodingLemmas.{encoding_unique}
 use Rattle.multihash.proofs.Writings.EncodedLemmas.{is_encoding_of, encoding_of_value}
 use Rattle.storage.specs.declared.merkle.Step.{Step}
 use Rattle.storage.specs.Content.{content_pair}
-use Rattle.storage.specs.Merkle.{above, leaf_pair, leaf_message, message_above, messages_above, messages_from, PathStep, root_from, Collides}
-use Rattle.storage.specs.Step.{step_of, steps_of, sides, TurnAlike, IsOnlyPath}
+use Rattle.storage.specs.Merkle.{above, leaf_pair, leaf_message, message_above, messages_above, messages_from, root_from, Collides}
+use Rattle.storage.specs.Step.{step_of, steps_of, sides, IsOnlyPath}
 
 abbrev HasEncoding : Pair → Type 0
 HasEncoding p = IsEncoding p (encoding_of p)

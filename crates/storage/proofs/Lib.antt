@@ -1,3 +1,4 @@
+pub mod PrefixedLemmas
 pub mod LogLemmas
 pub mod LevelLemmas
 pub mod BindingLemmas

@@ -5,8 +5,8 @@ use Rattle.std.specs.List.{Contains}
 use Rattle.std.specs.Io.KnownBytes.{prepend_known}
 use Rattle.multihash.specs.Reading.{ConsumesFewerThan}
 use Rattle.storage.specs.Merkle.{Collides}
-use Rattle.storage.specs.Log.{BlockFails}
-use Rattle.storage.specs.declared.log.EntryError.{EntryError}
+use Rattle.storage.specs.Prefixed.{BlockFails}
+use Rattle.storage.specs.declared.prefixed.PrefixedError.{PrefixedError}
 
 only : (m x : List ℕ) → Contains (m ∷ []) x → m ≡ x
 only m x (zero, within, is) = is
@@ -23,7 +23,7 @@ few h = by h.consumed h.fewer h.consumes
     by [] fewer consumes = cc
     by (b ∷ bytes) fewer consumes = omega (arith, fewer)
 
-whole_block : (limit before after : ℕ) (e : EntryError) → ¬ (BlockFails limit before after e 1 (Some (7 ∷ [])) (Some []))
+whole_block : (limit before after : ℕ) (e : PrefixedError) → ¬ (BlockFails limit before after e 1 (Some (7 ∷ [])) (Some []))
 whole_block limit before after e (inl (long, over, counted, kept)) = cc
 whole_block limit before after e (inr (within, inl (memory, counted, consumed))) = few consumed
 whole_block limit before after e (inr (within, inr (r, is, fails))) = few fails.consumed

@@ -3,4 +3,5 @@ pub mod Hashing
 pub mod Levels
 pub mod Log
 pub mod Merkle
+pub mod Prefixed
 pub mod Step

@@ -7,3 +7,4 @@ pub mod hashing;
 pub mod log;
 pub mod merkle;
 mod pins;
+pub mod prefixed;

@@ -4,19 +4,17 @@ ghost use Rattle.multihash.specs.Pair.{Pair, FitsBuffer};
 ghost use Rattle.multihash.specs.Multihash.{pair_of};
 ghost use Rattle.multihash.specs.Reading.{Consumes};
 ghost use Rattle.multihash.specs.Writing.{AppendsPrefix, CountsWriterFailures};
-ghost use Rattle.multihash.specs.Refusal.{IsIo, IsOutOfMemory, of_io};
-ghost use Rattle.storage.specs.Log.{IsEntry, IsFailed, error_text, BytesFail, EntryFails, HasEntry, IsValidPrefix};
+ghost use Rattle.multihash.specs.Refusal.{IsIo, IsOutOfMemory};
+ghost use Rattle.storage.specs.Log.{IsEntry, EntryFails, HasEntry, IsValidPrefix};
+ghost use Rattle.storage.specs.Prefixed.{IsFailed};
 ghost use Rattle.storage.specs.Content.{content_pair};
-ghost use Rattle.storage.specs.declared.log.EntryError.TheVariants.{Failed};
 
 use crate::content::hash_of;
-use multihash::no_std_io::{self, Read, Write};
-use multihash::{Error, Multihash, varint};
-use std::alloc::{AllocError, Global};
-use std::fmt;
-
-// The most bytes that are read at once.
-const CHUNK: usize = 4096;
+pub use crate::prefixed::PrefixedError as EntryError;
+use crate::prefixed::{read_front, read_prefixed, write_prefixed};
+use multihash::no_std_io::{Read, Write};
+use multihash::{Error, Multihash};
+use std::alloc::Global;
 
 /// A block and its multihash.
 #[derive(Debug, Drop)]
@@ -25,53 +23,6 @@ pub struct Entry<const S: usize> {
     pub hash: Multihash<S>,
     /// The block's bytes.
     pub block: Vec<u8>,
-}
-
-/// The error of reading an entry.
-#[derive(Debug, Drop)]
-pub enum EntryError {
-    /// The multihash or the length is malformed, the input ends within the entry, the reader failed, or an
-    /// allocation did.
-    Failed(Error),
-    /// The block has this many bytes, more than the limit.
-    TooLong(u64),
-}
-
-impl fmt::Display for EntryError {
-    ghost output = { λ e. Some (error_text e) };
-
-    fn fmt<W: fmt::Write>(&self, f: &mut fmt::Formatter<W>) -> fmt::Result {
-        match self {
-            EntryError::Failed(e) => fmt::Display::fmt(e, f),
-            EntryError::TooLong(n) => write!(f, "a block of {n} bytes is too long"),
-        }
-    }
-}
-
-impl std::error::Error for EntryError {}
-
-impl From<Error> for EntryError {
-    ghost from_gives = { λ error e. e ≡ Failed error };
-
-    fn from(e: Error) -> Self {
-        EntryError::Failed(e)
-    }
-}
-
-impl From<no_std_io::Error> for EntryError {
-    ghost from_gives = { λ error e. e ≡ Failed (of_io error) };
-
-    fn from(e: no_std_io::Error) -> Self {
-        EntryError::Failed(Error::from(e))
-    }
-}
-
-impl From<AllocError> for EntryError {
-    ghost from_gives = { λ _ e. IsFailed IsOutOfMemory e };
-
-    fn from(e: AllocError) -> Self {
-        EntryError::Failed(Error::from(e))
-    }
 }
 
 /// Appends an entry to `w`.
@@ -92,9 +43,7 @@ pub fn write_entry<const S: usize, W: Write>(
         (W.failures w.old) (W.failures w.new) (W.full w.new) result }
 {
     hash.write(w)?;
-    varint::write(block.len() as u64, w)?;
-    w.write_all(block)?;
-    Ok(())
+    write_prefixed(block, w)
 }
 
 /// Reads the entry that comes next. It consumes exactly that entry. It does not check that the multihash is
@@ -104,8 +53,8 @@ pub fn write_entry<const S: usize, W: Write>(
 ///
 /// # Errors
 ///
-/// - [`EntryError::Failed`] with the errors of [`Multihash::read`] and of [`varint::read`]; the parts before
-///   the one that failed were consumed, and of that one what those calls consume.
+/// - [`EntryError::Failed`] with the errors of [`Multihash::read`] and of `varint::read`; the parts before the
+///   one that failed were consumed, and of that one what those calls consume.
 /// - [`EntryError::TooLong`] with the block's length if that is above `limit`; the multihash and the length
 ///   were consumed.
 /// - [`EntryError::Failed`] with out of memory, with an unexpected end within the block, or with the reader's
@@ -130,31 +79,8 @@ pub fn read_entry<const S: usize, R: Read>(
         (IsFailed IsOutOfMemory) }
 {
     let hash = Multihash::read(r)?;
-    let len = varint::read(r)?;
-    if len > limit as u64 {
-        return Err(EntryError::TooLong(len));
-    }
-    let block = read_block(alloc, r, len as usize)?;
+    let block = read_prefixed(alloc, r, limit)?;
     Ok(Entry { hash, block })
-}
-
-// Reads a block of that length.
-fn read_block<R: Read>(alloc: Global, r: &mut R, len: usize) -> Result<Vec<u8>, EntryError>
-    ensures ok { IfOk result (λ block. (length block.items ≡ len)
-        × Consumes (R.rest r.old) block.items (R.rest r.new)) }
-    ensures unfailed { OnOk result (R.failures r.new ≡ R.failures r.old) }
-    ensures err { IfErr result (λ e. BytesFail len (R.failures r.old) (R.failures r.new) e
-        (R.rest r.old) (R.rest r.new)) }
-{
-    let mut block = Vec::new(alloc);
-    let mut chunk = [0; CHUNK];
-    while block.len() < len {
-        let more = (len - block.len()).min(CHUNK);
-        block.reserve(more)?;
-        r.read_exact(&mut chunk[..more])?;
-        block.write_all(&chunk[..more]).unwrap();
-    }
-    Ok(block)
 }
 
 // The bytes after the entry at the front, if there is one whose multihash is its block's.
@@ -167,13 +93,9 @@ fn after_entry(bytes: &[u8]) -> Option<&[u8]>
     let Ok(hash) = Multihash::<32>::read(&mut rest) else {
         return None;
     };
-    let Ok((len, rest)) = varint::read_front(rest) else {
+    let Ok((block, rest)) = read_front(rest) else {
         return None;
     };
-    if len > rest.len() as u64 {
-        return None;
-    }
-    let (block, rest) = rest.split_at(len as usize);
     if !hash_of::<32>(block).same_as(&hash) {
         return None;
     }

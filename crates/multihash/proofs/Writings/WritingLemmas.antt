@@ -60,22 +60,30 @@ module _ {W : Type 0} (appended : W → List ℕ → W → Type 0) where
     appends = join a b c x h.part first h.appends;
   }
 
--- a form of three parts, each written by itself
 module _ {W : Type 0} (appended : W → List ℕ → W → Type 0) (join : (a b c : W) (x y : List ℕ) → appended a x b → appended b y c → appended a (x ++ y) c)
-    (IsForm : List ℕ → Type 0) (a b d : List ℕ) (form : IsForm (a ++ (b ++ d))) where
+    (IsForm : List ℕ → Type 0) where
   abbrev Stopped : W → W → Type 0
   Stopped old new = (bytes : List ℕ) × IsForm bytes × AppendsPrefix appended old bytes new
 
-  pub stops_in_first : {T E : Type 0} (r : Result T E) (u v : W) → AppendsPrefix appended u a v → OnErr r (Stopped u v)
-  stops_in_first r u v part = OnErr-always r (a ++ (b ++ d), form, AppendsPrefix-append appended u v a (b ++ d) part)
+  -- a form of two parts, each written by itself
+  module _ (a b : List ℕ) (form : IsForm (a ++ b)) where
+    pub stops_in_front : {T E : Type 0} (r : Result T E) (u v : W) → AppendsPrefix appended u a v → OnErr r (Stopped u v)
+    stops_in_front r u v part = OnErr-always r (a ++ b, form, AppendsPrefix-append appended u v a b part)
 
-  pub stops_in_second : {T E : Type 0} (r : Result T E) (u w v : W) → appended u a w → AppendsPrefix appended w b v → OnErr r (Stopped u v)
-  stops_in_second r u w v first part =
-      OnErr-always r (a ++ (b ++ d), form, AppendsPrefix-concatenated appended join u w v a (b ++ d) first (AppendsPrefix-append appended w v b d part))
+    pub stops_in_back : {T E : Type 0} (r : Result T E) (u w v : W) → appended u a w → AppendsPrefix appended w b v → OnErr r (Stopped u v)
+    stops_in_back r u w v first part = OnErr-always r (a ++ b, form, AppendsPrefix-concatenated appended join u w v a b first part)
 
-  pub stops_in_third : {T E : Type 0} (r : Result T E) (u w x v : W) → appended u a w → appended w b x → AppendsPrefix appended x d v → OnErr r (Stopped u v)
-  stops_in_third r u w x v first second part =
-      OnErr-always r (a ++ (b ++ d), form, AppendsPrefix-concatenated appended join u w v a (b ++ d) first (AppendsPrefix-concatenated appended join w x v b d second part))
+  -- and one of three
+  module _ (a b d : List ℕ) (form : IsForm (a ++ (b ++ d))) where
+    pub stops_in_first : {T E : Type 0} (r : Result T E) (u v : W) → AppendsPrefix appended u a v → OnErr r (Stopped u v)
+    stops_in_first = stops_in_front a (b ++ d) form
+
+    pub stops_in_second : {T E : Type 0} (r : Result T E) (u w v : W) → appended u a w → AppendsPrefix appended w b v → OnErr r (Stopped u v)
+    stops_in_second r u w v first part = stops_in_back a (b ++ d) form r u w v first (AppendsPrefix-append appended w v b d part)
+
+    pub stops_in_third : {T E : Type 0} (r : Result T E) (u w x v : W) → appended u a w → appended w b x → AppendsPrefix appended x d v → OnErr r (Stopped u v)
+    stops_in_third r u w x v first second part =
+        stops_in_back a (b ++ d) form r u w v first (AppendsPrefix-concatenated appended join w x v b d second part)
 
 -- a writer that doesn't allocate and counted no failure returned an error because it was full
 pub full_of_errors : (n : ℕ) (is_full : Type 0) (e : Fault) → IsWriterFaultOrFull false n n is_full e → is_full
