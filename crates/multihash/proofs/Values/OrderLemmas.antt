@@ -1,8 +1,14 @@
 -- What follows from how pairs compare: when they tie, and which part decides.
-use Rattle.std.proofs.Common.{◌≡◌, ℕ, List, IsTrue, ◌↔◌, Bool, true, ap, subst, rules}
+use Rattle.std.proofs.Common.{◌≡◌, ◌<◌, ℕ, List, ◌∷◌, [], length, IsTrue, ◌↔◌, Bool, true, sym, ◌∙◌, ap, subst, rules}
 use Rattle.std.specs.Cmp.{IsTotalOrder}
 use Rattle.std.specs.Cmp.Rules.{comparing}
-use Rattle.std.specs.Ordering.{is_eq}
+use Rattle.std.specs.Cmp.Lexicographic.{slice_cmp}
+use Rattle.std.specs.Ordering.{is_eq, nat_cmp}
+use Rattle.std.specs.declared.cmp.Ordering.TheVariants.{Less, Equal}
+use Rattle.std.proofs.lemmas.Cmp.{tied_itself}
+use Rattle.multihash.specs.Encoding.{IsEncoding}
+use Rattle.multihash.proofs.Varints.VarintLemmas.{varint_unique}
+use Rattle.multihash.proofs.Varints.VarintWriteLemmas.{one_byte}
 use Rattle.multihash.specs.Pair.{Pair}
 use Rattle.multihash.specs.Comparing.{equal_pairs, compare_pairs}
 
@@ -22,8 +28,32 @@ tie_exactly p q =
     let ties : equal_pairs p q ≡ is_eq (compare_pairs p q) = search (comparing, rules) depth 9 in
     subst (λ (b : Bool). IsTrue b ↔ (p ≡ q)) ties (equal_exactly p q)
 
+-- the same, as a search states it
+pub tie_same : (p q : Pair) → (compare_pairs p q ≡ Equal) ↔ (p ≡ q)
+tie_same p q = ((λ tie. (tie_exactly p q).0 (ap is_eq tie)), λ same. rw same (tied_itself pairs_total q))
+
+-- no pair is less than itself
+pub pairs_irreflexive : (p : Pair) → ¬ (compare_pairs p p ≡ Less)
+pairs_irreflexive p less = let both : Equal ≡ Less = sym (tied_itself pairs_total p) ∙ less in cc
+
 -- so keys of an ordered map that tie are one pair: by the parts, as tactics see a key
 pub same_key : (c d : ℕ) (x y : List ℕ) → is_eq (compare_pairs (record { code = c; digest = x }) (record { code = d; digest = y })) ≡ true → (c ≡ d) × (x ≡ y)
 same_key c d x y tie =
     let same = (tie_exactly (record { code = c; digest = x }) (record { code = d; digest = y })).0 tie in
     (ap (λ (p : Pair). p.code) same, ap (λ (p : Pair). p.digest) same)
+
+-- ---- the order of the encodings
+
+-- the code and the digest's length have a byte each in the encoding
+abbrev pub HasShortHead : Pair → Type 0
+HasShortHead p = (p.code < 128) × (length p.digest < 128)
+
+short_bytes : (p : Pair) (x : List ℕ) → HasShortHead p → IsEncoding p x → x ≡ p.code ∷ length p.digest ∷ p.digest
+short_bytes p x short e =
+    let code = varint_unique p.code e.code (p.code ∷ []) e.is_code (one_byte p.code short.0) in
+    let size = varint_unique (length p.digest) e.size (length p.digest ∷ []) e.is_size (one_byte (length p.digest) short.1) in
+    rw (e.spelled, code, size)
+
+-- then pairs are ordered as their encodings are, byte by byte; in general they are not
+pub order_of_bytes : (p q : Pair) (x y : List ℕ) → HasShortHead p → HasShortHead q → IsEncoding p x → IsEncoding q y → compare_pairs p q ≡ slice_cmp nat_cmp x y
+order_of_bytes p q x y short also e f = rw (short_bytes p x short e, short_bytes q y also f)
