@@ -1,5 +1,5 @@
 -- What callers conclude from the contracts of several calls.
-use Rattle.std.proofs.Common.{Vec, Global, length-append, ◌≡◌, ℕ, ◌<◌, ◌≤◌, ◌⊎◌, IfOk, IfErr, OnErr, IsOk, inl, inr, List, [], ◌∷◌, ◌++◌, length, map, Bool, true, false, IsTrue, ◌↔◌, Option, Some, Result, Ok, Err, MatchResult, IfSome, refl, sym, ap, ◌∙◌, subst, arith, append_assoc, ◌+◌, append-nil}
+use Rattle.std.proofs.Common.{Vec, Global, length-append, ◌≡◌, ℕ, ◌<◌, ◌≤◌, ◌⊎◌, IfOk, IfErr, OnErr, IsOk, inl, inr, List, [], ◌∷◌, ◌++◌, length, map, Bool, true, false, IsTrue, ◌↔◌, Option, Some, Result, Ok, Err, MatchResult, IfSome, refl, sym, ap, ◌∙◌, subst, arith, append_assoc, ◌+◌, append-nil, drop, length-drop}
 use Rattle.std.specs.List.{All}
 use Rattle.std.specs.Result.{IsErrAnd}
 use Rattle.std.proofs.lemmas.List.{length-map, map_push, nil_from_length}
@@ -8,8 +8,8 @@ use Rattle.std.proofs.lemmas.List.Elements.{All-nil}
 use Rattle.multihash.specs.Pair.{Pair, FitsBuffer, digest_limit}
 use Rattle.multihash.specs.Encoding.{IsEncoding}
 use Rattle.multihash.specs.Streams.{AreConcatenated, ConsumesPairs, StopsAfterPairs}
-use Rattle.multihash.specs.Varint.{insufficient, IsContinuation, IsVarint}
-use Rattle.multihash.specs.Verdict.{Verdict, accepted, invalid_size, malformed, BeginsWithSize, HasVerdict, HasWholeVerdict, IsIncomplete}
+use Rattle.multihash.specs.Varint.{VarintError, insufficient, IsContinuation, IsVarint}
+use Rattle.multihash.specs.Verdict.{Verdict, accepted, invalid_size, malformed, BeginsWithSize, HasHead, HasVerdict, HasWholeVerdict, IsIncomplete}
 use Rattle.multihash.specs.Settling.{Settles, IsShortestSettling}
 use Rattle.multihash.specs.Consuming.{ConsumesShortestSettling, ConsumesVarint, ConsumesAtVarintError, FailsBy, VarintFails, ExactFails}
 use Rattle.multihash.proofs.Readings.SettlingLemmas.{early_not_settles, error_of_part}
@@ -198,6 +198,38 @@ exact_after n m before after read old mid new e consumes long fails = record {
   short = λ same. IfSome-consumed old mid read (λ bytes. length bytes < n) consumes
       (λ left is. omega (arith, (rw is at (fails.short same)), length-append read left, long));
 }
+
+-- ---- the two varints at the front of an input
+
+sizes_once : (s t : ℕ) (x r q : List ℕ) (h : BeginsWithSize s x r) (g : BeginsWithSize t x q) → (h.code ≡ g.code) × (s ≡ t) × (r ≡ q)
+sizes_once s t x r q h g =
+    let codes = same_number x h.code g.code (h.size_bytes ++ r) (g.size_bytes ++ q) (h.code_bytes, h.is_code, h.cut) (g.code_bytes, g.is_code, g.cut) in
+    let sizes = same_number (h.size_bytes ++ r) s t r q (h.size_bytes, h.is_size, refl) (g.size_bytes, g.is_size, codes.1) in
+    (codes.0, sizes.0, sizes.1)
+
+module _ (code size len : ℕ) (input : List ℕ) (h : HasHead code size len input) where
+  -- an input has one head
+  pub head_unique : (c s k : ℕ) → HasHead c s k input → (code ≡ c) × (size ≡ s) × (len ≡ k)
+  head_unique c s k g =
+      let once = sizes_once size s input (drop len input) (drop k input) h.varints g.varints in
+      (sym h.is_code ∙ (once.0 ∙ g.is_code), once.1, omega (arith, ap length once.2, length-drop len input, length-drop k input, h.within, g.within))
+
+  -- and then no varint is malformed
+  pub head_no_error : (S : ℕ) (f : VarintError) → HasVerdict S input (malformed f) → ⊥
+  head_no_error S f (inl bad) =
+      number_no_error input h.varints.code (h.varints.size_bytes ++ drop len input) f (h.varints.code_bytes, h.varints.is_code, h.varints.cut) bad
+  head_no_error S f (inr (rest, c, bad)) =
+      let codes = same_number input c.code h.varints.code rest (h.varints.size_bytes ++ drop len input) (c.code_bytes, c.is_code, c.cut)
+      (h.varints.code_bytes, h.varints.is_code, h.varints.cut) in
+      number_no_error rest size (drop len input) f (h.varints.size_bytes, h.varints.is_size, codes.1) bad
+
+  -- the head of an encoding: the digest follows
+  pub head_of_encoding : (p : Pair) → IsEncoding p input → (code ≡ p.code) × (size ≡ length p.digest) × (drop len input ≡ p.digest)
+  head_of_encoding p e =
+      let own : BeginsWithSize (length p.digest) input p.digest =
+      record { code = p.code; code_bytes = e.code; size_bytes = e.size; is_code = e.is_code; is_size = e.is_size; cut = e.spelled } in
+      let once = sizes_once size (length p.digest) input (drop len input) p.digest h.varints own in
+      (sym h.is_code ∙ once.0, once.1, once.2)
 
 -- reading a varint failed, after calls that counted no failure: the facts are the clauses of `varint::read`
 pub varint_fails : (before middle after : ℕ) (old new : Option (List ℕ)) (e : Refusal) → middle ≡ before → FailsBy middle after IsAnyVarintError e

@@ -1,5 +1,5 @@
 -- What reading known inputs returns and consumes, for digests of at most four bytes, and their heads.
-use Rattle.std.proofs.Common.{◌≡◌, ℕ, List, [], ◌∷◌, ◌++◌, length, drop, refl, sym, ap, subst, arith, inl, length-drop, ◌∙◌, inr}
+use Rattle.std.proofs.Common.{◌≡◌, ℕ, List, [], ◌∷◌, length, refl, sym, ap, subst, arith, inl, inr}
 use Rattle.multihash.specs.Varint.{insufficient, not_minimal, VarintError, overflow}
 use Rattle.multihash.specs.Verdict.{BeginsWith, accepted, invalid_size, malformed, unexpected_eof, HasVerdict}
 use Rattle.multihash.specs.Verdict.{HasHead}
@@ -7,14 +7,14 @@ use Rattle.multihash.proofs.Readings.VerdictLemmas.{verdict_unique}
 use Rattle.multihash.proofs.Readings.SettlingLemmas.{shortest_pair, shortest_unique}
 use Rattle.multihash.proofs.Examples.VerdictVectors.{shortest_of_size}
 use Rattle.multihash.proofs.Examples.ReadingVectors.{taken_is}
+use Rattle.multihash.proofs.CallingLemmas.{head_unique}
 use Rattle.multihash.proofs.Examples.ConsumingVectors.{takes_no_byte_after_size, padded, padded_front, shortest_of_padded, ends_open, ends_padded}
 use Rattle.multihash.proofs.Examples.PairVectors.{pair}
-use Rattle.multihash.proofs.Examples.VarintVectors.{varint_0, varint_1, varint_4, varint_5}
+use Rattle.multihash.proofs.Examples.VarintVectors.{varint_0, varint_1, varint_4}
 use Rattle.multihash.proofs.Examples.VerdictVectors.{size_5, digest_cut, empty_input, code_alone, size_open}
 use Rattle.multihash_c.specs.Decoded.{Reports, ReadsWithin, ReportsHead, ReportsHeadError, ReadsFront}
 use Rattle.multihash_c.proofs.DecodedVectors.{outcome, input}
 use Rattle.multihash_c.proofs.ReadLemmas.{size_read, end_read, reads_encoding, error_read}
-use Rattle.multihash.proofs.Varints.VarintLemmas.{same_number}
 use Rattle.multihash_c.specs.declared.decode.Front.{Front}
 use Rattle.multihash_c.specs.Status.{status_of_error}
 
@@ -204,15 +204,7 @@ reads_no_code_of_open_size h = omega (arith, h.insufficient size_open)
 
 -- the head of the truncated digest has two bytes
 pub cut_head_is : (code size len : ℕ) → HasHead code size len cut → len ≡ 2
-cut_head_is code size len h =
-    let has = h.varints in
-    let first =
-    same_number cut has.code 0 (has.size_bytes ++ drop len cut) (4 ∷ 1 ∷ 2 ∷ 3 ∷ [])
-    (has.code_bytes, has.is_code, has.cut) (0 ∷ [], varint_0, refl) in
-    let second =
-    same_number (4 ∷ 1 ∷ 2 ∷ 3 ∷ []) size 4 (drop len cut) (1 ∷ 2 ∷ 3 ∷ [])
-    (has.size_bytes, has.is_size, sym first.1) (4 ∷ [], varint_4, refl) in
-    omega (arith, h.within, length-drop len cut, ap (λ (z : List ℕ). length z) second.1)
+cut_head_is code size len h = (head_unique code size len cut h 0 4 2 cut_head).2
 
 reads_end_at_head : (taken : ℕ) → ReadsWithin 4 cut (outcome 6 0 0 0 0 taken) → taken ≡ 2
 reads_end_at_head taken h = let (code, size, head) = h.cut digest_cut in cut_head_is code size taken head
@@ -250,15 +242,7 @@ reads_head_of_cut_digest = inl (record { is_ok = refl; has = cut_head })
 
 -- the numbers and the bytes are those of the input
 head_is : (code size len : ℕ) → HasHead code size len large → (code ≡ 0) × (size ≡ 5) × (len ≡ 2)
-head_is code size len h =
-    let has = h.varints in
-    let first =
-    same_number large has.code 0 (has.size_bytes ++ drop len large) (5 ∷ 9 ∷ [])
-    (has.code_bytes, has.is_code, has.cut) (0 ∷ [], varint_0, refl) in
-    let second =
-    same_number (5 ∷ 9 ∷ []) size 5 (drop len large) (9 ∷ [])
-    (has.size_bytes, has.is_size, sym first.1) (5 ∷ [], varint_5, refl) in
-    (sym h.is_code ∙ first.0, second.0, omega (arith, h.within, length-drop len large, ap (λ (z : List ℕ). length z) second.1))
+head_is code size len h = head_unique code size len large h 0 5 2 large_head
 
 head_is_ok : ¬ (ReportsHead large (front 4 0 5 2))
 head_is_ok h = omega (arith, h.is_ok)

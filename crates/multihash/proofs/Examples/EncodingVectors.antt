@@ -1,12 +1,12 @@
 -- What is no encoding of a known pair, a computed encoding, and the heads of a known input. The encodings of
 -- other pairs are seen by the test vectors of the crate `vectors`.
-use Rattle.std.proofs.Common.{◌≡◌, ◌<◌, ℕ, List, [], ◌∷◌, ◌++◌, length, get_or, replicate, refl, ap, arith, ◌∙◌, drop, sym}
+use Rattle.std.proofs.Common.{◌≡◌, ◌<◌, ℕ, List, [], ◌∷◌, ◌++◌, length, get_or, replicate, refl, ap, arith}
 use Rattle.std.specs.Prelude.{codes}
 use Rattle.multihash.specs.Encoding.{IsEncoding, varint_of, encoding_of}
 use Rattle.multihash.proofs.Examples.VarintVectors.{varint_0, begins_small, varint_5}
 use Rattle.multihash.proofs.Examples.PairVectors.{pair}
 use Rattle.multihash.specs.Verdict.{HasHead}
-use Rattle.multihash.proofs.Varints.VarintLemmas.{same_number}
+use Rattle.multihash.proofs.CallingLemmas.{head_unique}
 
 -- three bytes of the code, and two of the length
 encoding_of_128 : encoding_of (pair 0xb220 (replicate 128 7))
@@ -41,20 +41,16 @@ encodes_no_other_digest h = omega (arith, ap (λ (z : List ℕ). get_or z 1 0) (
 abbrev input : List ℕ
 input = 0x00 ∷ 0x05 ∷ 0x07 ∷ []
 
--- the code, the size and what follows a head are those of the input
-head_is : (code size len : ℕ) → HasHead code size len input → (code ≡ 0) × (size ≡ 5) × (drop len input ≡ 0x07 ∷ [])
-head_is code size len h =
-    let h_size = h.varints in
-    let first =
-    same_number input h_size.code 0 (h_size.size_bytes ++ drop len input) (0x05 ∷ 0x07 ∷ [])
-    (h_size.code_bytes, h_size.is_code, h_size.cut) (0x00 ∷ [], varint_0, refl) in
-    let second =
-    same_number (0x05 ∷ 0x07 ∷ []) size 5 (drop len input) (0x07 ∷ [])
-    (h_size.size_bytes, h_size.is_size, sym first.1) (0x05 ∷ [], varint_5, refl) in
-    (sym h.is_code ∙ first.0, second.0, second.1)
+input_head : HasHead 0 5 2 input
+input_head = record {
+  within = omega arith;
+  varints = record { code = 0; code_bytes = 0x00 ∷ []; size_bytes = 0x05 ∷ []; is_code = varint_0; is_size = varint_5; cut = refl };
+  is_code = refl;
+}
 
 no_other_number : ¬ (HasHead 1 5 2 input) × ¬ (HasHead 0 4 2 input)
-no_other_number = ((λ h. omega (arith, (head_is 1 5 2 h).0)), λ h. omega (arith, (head_is 0 4 2 h).1))
+no_other_number =
+    ((λ h. omega (arith, (head_unique 1 5 2 input h 0 5 2 input_head).0)), λ h. omega (arith, (head_unique 0 4 2 input h 0 5 2 input_head).1))
 
 -- a byte that is missing is no part of a head
 no_head_past_the_end : ¬ (HasHead 0 5 3 (0x00 ∷ 0x05 ∷ []))
