@@ -1,4 +1,5 @@
 pub mod ContentIdLemmas
 pub mod ContentIdVectors
 pub mod HeadlineLemmas
+pub mod PeerLemmas
 pub mod SliceLemmas

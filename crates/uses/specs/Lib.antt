@@ -1,4 +1,5 @@
 pub mod ContentId
 pub mod Listed
+pub mod PeerId
 pub mod Recovery
 pub mod Section
