@@ -104,6 +104,11 @@ make_version_1 version codec p a b encoding is_version first second encodes = re
   spelled = refl;
 }
 
+-- for the tactics: the multihash of version 0, and the parts of version 1
+pub bare_is : (c : Content) (digest b : List ℕ) (p : Pair) → c ≡ version_0 digest → p ≡ record { code = 0x12; digest = digest } → length digest ≡ 32 → IsEncoding p b → IsContentId c b
+bare_is c digest b p is pair whole encodes =
+    subst (λ x. IsContentId x b) (sym is) (record { whole = whole; encodes = subst (λ (q : Pair). IsEncoding q b) pair encodes })
+
 -- a content has at most one identifier
 pub content_same : (c : Content) (a b : List ℕ) → IsContentId c a → IsContentId c b → a ≡ b
 content_same (version_0 digest) a b h k = encoding_same _ a b h.encodes k.encodes

@@ -1,20 +1,9 @@
-use Rattle.std.proofs.Common.{◌≡◌, ◌∷◌, [], ◌++◌, length, refl, sym, subst, arith, rules, length-append}
-use Rattle.multihash.specs.Pair.{Pair}
-use Rattle.multihash.specs.Encoding.{IsEncoding}
+use Rattle.std.proofs.Common.{◌≡◌, ◌∷◌, [], ◌++◌, refl, sym, subst, arith, rules, length-append}
 use Rattle.multihash.specs.Multihash.{pair_of}
 use Rattle.multihash.proofs.Varints.VarintWriteLemmas.{one_byte}
-use Rattle.uses.specs.ContentId.{version_0, version_1, content_of, IsContentId}
+use Rattle.uses.specs.ContentId.{version_1, content_of, IsContentId}
 use Rattle.uses.proofs.ContentIdLemmas.{make_version_1}
 use Rattle.uses.proofs.content_id.ContentId.encoded_len.Goals as goal
-
-pub returns-in-V0 : goal.returns-in-V0
-returns-in-V0 g c =
-    let digest = c.in-V0.digest in
-    let says : content_of c.args.self.now ≡ version_0 digest = search rules in
-    let whole : length digest ≡ 32 = search (rules, c.bare.ensures.whole) in
-    let made : pair_of c.bare.result ≡ record { code = 0x12; digest = digest } = search (rules, c.bare.ensures.pair) in
-    let own = c.encoded_len.ensures.encoding in
-    (own.0, subst (λ x. IsContentId x own.0) (sym says) (record { whole = whole; encodes = subst (λ (p : Pair). IsEncoding p own.0) made own.1 }), own.2)
 
 pub returns-in-V1 : goal.returns-in-V1
 returns-in-V1 g c =

@@ -1,30 +1,13 @@
-use Rattle.std.proofs.Common.{◌≡◌, ℕ, List, ◌++◌, length, inl, inr, refl, sym, subst, arith, rules}
-use Rattle.multihash.specs.Pair.{Pair}
-use Rattle.multihash.specs.Encoding.{IsEncoding}
+use Rattle.std.proofs.Common.{◌≡◌, ◌++◌, inl, inr, refl, sym, subst, arith, rules}
 use Rattle.multihash.specs.Multihash.{pair_of}
-use Rattle.multihash.specs.Writing.{AppendsPrefix}
-use Rattle.multihash.proofs.OutcomeLemmas.{OnErr-always}
 use Rattle.multihash.proofs.Writings.EncodingLemmas.{encoding_exists}
 use Rattle.multihash.proofs.Writings.WritingLemmas.{stops_in_first, stops_in_second, stops_in_third}
 use Rattle.multihash.proofs.Varints.VarintWriteLemmas.{varint_exists}
 use Rattle.multihash.proofs.Values.ValueLemmas.{digest_fits}
-use Rattle.uses.specs.ContentId.{version_0, version_1, content_of, IsContentId}
-use Rattle.uses.proofs.ContentIdLemmas.{make_version_1}
+use Rattle.uses.specs.ContentId.{version_1, content_of, IsContentId}
+use Rattle.uses.proofs.ContentIdLemmas.{make_version_1, bare_is}
 use Rattle.uses.proofs.content_id.ContentId.write.Goals as goal
 use Rattle.uses.proofs.content_id.ContentId.write.Goals.{in-V0+in_ok-write-in-V0, in-V1+in_ok-write-in-V1+in_ok-write-in-V1-2+in_ok-write-in-V1-3}
-
-pub returns-in_err-write-in-V0-clause-err : goal.returns-in_err-write-in-V0-clause-err
-returns-in_err-write-in-V0-clause-err g c =
-    let digest = c.in-V0.digest in
-    let says : content_of c.args.self.now ≡ version_0 digest = search rules in
-    let whole : length digest ≡ 32 = search (rules, c.bare.ensures.whole) in
-    let made : pair_of c.bare.result ≡ record { code = 0x12; digest = digest } = search (rules, c.bare.ensures.pair) in
-    let part = c.in_err-write-in-V0.ensures.err in
-    let is : IsContentId (content_of c.args.self.now) part.0 =
-    subst (λ x. IsContentId x part.0) (sym says) (record { whole = whole; encodes = subst (λ (p : Pair). IsEncoding p part.0) made part.1 }) in
-    let stops : (bytes : List ℕ) × IsContentId (content_of c.args.self.now) bytes × AppendsPrefix g.W.Write.appended c.args.w.now bytes c.write.new.w =
-    (part.0, is, part.2) in
-    OnErr-always _ stops
 
 pub returns-in_err-write-in-V1-clause-err : goal.returns-in_err-write-in-V1-clause-err
 returns-in_err-write-in-V1-clause-err g c =
@@ -68,13 +51,9 @@ pub returns-clause-ok : goal.returns-clause-ok
 returns-clause-ok g c =
     elim c.match-self.branch [
       | in-V0+in_ok-write-in-V0 w ↦
-          let digest = w.in-V0.digest in
-          let says : content_of c.args.self.now ≡ version_0 digest = search rules in
-          let whole : length digest ≡ 32 = search (rules, w.bare.ensures.whole) in
-          let made : pair_of w.bare.result ≡ record { code = 0x12; digest = digest } = search (rules, w.bare.ensures.pair) in
           let wrote = w.in_ok-write-in-V0.ensures.ok in
           let is : IsContentId (content_of c.args.self.now) wrote.0 =
-          subst (λ x. IsContentId x wrote.0) (sym says) (record { whole = whole; encodes = subst (λ (p : Pair). IsEncoding p wrote.0) made wrote.1 }) in
+          bare_is (content_of c.args.self.now) w.in-V0.digest wrote.0 _ (search rules) (search (rules, w.bare.ensures.pair)) (search (rules, w.bare.ensures.whole)) wrote.1 in
           (wrote.0, is, subst (λ x. g.W.Write.appended c.args.w.now wrote.0 x) (sym w.w-is) wrote.3)
       | in-V1+in_ok-write-in-V1+in_ok-write-in-V1-2+in_ok-write-in-V1-3 w ↦
           let says : content_of c.args.self.now ≡ version_1 w.in-V1.codec.number (pair_of w.in-V1.hash) = search rules in
