@@ -41,6 +41,7 @@ WriteLaws appended full failures allocates old bytes new outcome = record {
   count : IfOk outcome (λ n. n ≤ length bytes);
   ok : IfOk outcome (λ n. appended old (take n bytes) new);
   stuck : IfOk outcome (λ n. n ≡ 0 → 0 < length bytes → full new);
+  filled : full old → IfOk outcome (λ n. n ≡ 0);
   err : OnErr outcome (appended old [] new);
   faults : CountsWriterFailures IsFault allocates (failures old) (failures new) ⊥ outcome;
 }

@@ -93,6 +93,9 @@ writes_no_other_bytes h = omega (arith, ap (λ (z : List ℕ). get_or z 0 0) h.o
 stuck_when_full_alone : ¬ (Writes ([], 0) (1 ∷ []) ([], 0) (Ok 0))
 stuck_when_full_alone h = omega (arith, h.stuck refl (omega arith))
 
+full_takes_no_byte : ¬ (Writes (7 ∷ 8 ∷ 9 ∷ [], 0) (1 ∷ []) (7 ∷ 8 ∷ 9 ∷ 1 ∷ [], 0) (Ok 1))
+full_takes_no_byte h = omega (arith, h.filled (omega arith))
+
 fails_and_appends_nothing : ¬ (Writes ([], 0) (1 ∷ 2 ∷ []) (1 ∷ [], 1) (Err other))
 fails_and_appends_nothing h = omega (arith, ap (λ (z : List ℕ). length z) h.err)
 

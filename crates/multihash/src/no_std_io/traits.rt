@@ -78,7 +78,7 @@ pub trait Write {
     ghost failures: { Self → ℕ };
 
     /// Appends some of the first bytes of `buf`, and returns their number. It returns 0 for a non-empty
-    /// buffer only if it is full.
+    /// buffer only if it is full then, and for every buffer if it was full before.
     ///
     /// # Errors
     ///
