@@ -111,6 +111,8 @@ fn trees_of_each_size_are_made(rt: HostRuntime) {
 
 fn expect_leaves(rt: &impl Abort, alloc: Global, leaves: &[Multihash<32>]) {
     assert!(rt; !leaves.is_empty());
-    let (root, path) = expect_ok!(rt; root_and_path(alloc, leaves, 0));
-    check!(rt; verify_path(&leaves[0], &path, &root), leaves.len());
+    for index in [0, leaves.len() - 1] {
+        let (root, path) = expect_ok!(rt; root_and_path(alloc, leaves, index));
+        check!(rt; verify_path(&leaves[index], &path, &root), leaves.len());
+    }
 }

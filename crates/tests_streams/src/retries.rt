@@ -83,4 +83,5 @@ fn what_can_be_read_is_read(rt: HostRuntime) {
     expect_found(rt, alloc, &SPOILT[..11], &good, 2);
     expect_found(rt, alloc, &SPOILT[..8], &good[..1], 2);
     expect_found(rt, alloc, &[], &[], 0);
+    expect_found(rt, alloc, &[255; 9000], &[], 1000);
 }

@@ -1,16 +1,19 @@
 //! The readers, writers and the log of `storage`.
 use fakes::error_kind::{ErrorKind, is_failed};
-use fakes::readers::{Cuts, FailAt};
+use fakes::readers::{Counts, Cuts, FailAt};
 use fakes::writers::{CountsWrites, Drip, FailWrite};
 use fakes::{check, check_eq, expect_bytes, expect_ok, expect_rejected};
 use multihash::Multihash;
 use multihash::no_std_io::{Read, Write};
 use std::alloc::Global;
+use std::error::Error;
 use std::process::Abort;
 use std::time::CpuClock;
 use storage::chained_slices::ChainedSlices;
+use storage::content::UnknownCode;
 use storage::hashing::{ContentHasher, HashingReader, HashingWriter};
 use storage::log::{Entry, EntryError, read_entry, valid_prefix, write_entry};
+use uses::content_id::ContentIdError;
 
 // The entries of `one` and of no bytes.
 const LOG: [u8; 73] = [
@@ -70,6 +73,7 @@ fn what_was_written_is_hashed(rt: HostRuntime) {
         check!(rt; hash == hash_of(&b"abc"[..room]));
     }
     check!(rt; HashingWriter::<Vec<u8>>::ALLOCATES && !HashingWriter::<Drip>::ALLOCATES);
+    check!(rt; !ContentHasher::ALLOCATES);
 }
 
 #[test]
@@ -90,20 +94,22 @@ fn what_was_written_before_a_failure_is_hashed(rt: HostRuntime) {
 
 const TEXT: [u8; 3] = *b"abc";
 
-// As many bytes as there are, and one more.
+// As many bytes as there are, and one more; the inner reader is not called again after its end.
 #[test]
 fn what_was_read_is_hashed(rt: HostRuntime) {
     let rt = &rt;
     for n in 0..5 {
         let mut buffer = [0; 4];
-        let mut reader = HashingReader::new(Cuts::new(b"abc", 1));
+        let inner = FailAt::new(Cuts::new(b"abc", 1), 9, ErrorKind::LINK_DOWN);
+        let mut reader = HashingReader::new(inner);
         let outcome = reader.read_exact(&mut buffer[..n]);
         check_eq!(rt; is_failed(&outcome, ErrorKind::UnexpectedEof), n == 4);
         let read = n.min(3);
         expect_bytes!(rt; &buffer[..read], &TEXT[..read]);
         check_eq!(rt; reader.hasher.count(), read as u64);
         let (hash, inner) = reader.finish();
-        expect_bytes!(rt; inner.left, &TEXT[read..]);
+        expect_bytes!(rt; inner.cuts.left, &TEXT[read..]);
+        check_eq!(rt; inner.asked, n);
         check!(rt; hash == hash_of(&TEXT[..read]));
     }
 }
@@ -138,7 +144,7 @@ fn entries_are_read_back(rt: HostRuntime) {
     check!(rt; reader.left.is_empty());
 }
 
-// Memory is available for blocks of more than a page.
+// Memory is available for blocks of more than a page. They are read page by page, into a vector that doubles.
 #[test]
 fn long_entries_are_read_back(rt: HostRuntime) {
     let alloc = rt.alloc();
@@ -147,8 +153,11 @@ fn long_entries_are_read_back(rt: HostRuntime) {
         let block = expect_ok!(rt; vec![in alloc; 7u8; len]);
         let mut log = Vec::new(alloc);
         expect_ok!(rt; write_entry(&hash_of(&block), &block, &mut log));
-        let entry: Entry<32> = expect_ok!(rt; read_entry(alloc, &mut log.as_slice(), len));
+        let mut reader = Counts::new(&log);
+        let entry: Entry<32> = expect_ok!(rt; read_entry(alloc, &mut reader, len));
         expect_bytes!(rt; &entry.block, &block);
+        check_eq!(rt; reader.whole, 1 + len.div_ceil(4096), len);
+        check_eq!(rt; entry.block.capacity() > len, len > 4096, len);
     }
 }
 
@@ -156,9 +165,12 @@ fn long_entries_are_read_back(rt: HostRuntime) {
 #[test]
 fn an_entry_is_written_by_five_calls(rt: HostRuntime) {
     let rt = &rt;
-    let mut writer = CountsWrites::new(rt.alloc());
-    expect_ok!(rt; write_entry(&hash_of(b"one"), b"one", &mut writer));
-    check_eq!(rt; (writer.parts, writer.whole), (0, 5));
+    for len in [3, 70000] {
+        let block = expect_ok!(rt; vec![in rt.alloc(); 7u8; len]);
+        let mut writer = CountsWrites::new(rt.alloc());
+        expect_ok!(rt; write_entry(&hash_of(&block), &block, &mut writer));
+        check_eq!(rt; (writer.parts, writer.whole), (0, 5), len);
+    }
 }
 
 fn is_entry_rejected(outcome: &Result<Entry<32>, EntryError>, why: ErrorKind) -> bool {
@@ -175,14 +187,38 @@ fn long_blocks_are_rejected(rt: HostRuntime) {
     expect_bytes!(rt; reader.left, &LOG[HEAD..]);
 }
 
+// The error prints the number between these texts.
+fn expect_number<E: Error>(rt: &impl Abort, alloc: Global, e: &E, texts: (&str, &str), n: u64) {
+    let (before, after) = texts;
+    let text = expect_ok!(rt; format!(in alloc; "{e}"));
+    let wanted = expect_ok!(rt; format!(in alloc; "{before} {n}{after}"));
+    check_eq!(rt; text.as_str(), wanted.as_str());
+}
+
 #[test]
-fn each_length_is_reported(rt: HostRuntime) {
+fn each_number_is_reported(rt: HostRuntime) {
+    let alloc = rt.alloc();
     let rt = &rt;
     let mut power = 1u64;
     for _ in 0..64 {
-        let text = expect_ok!(rt; format!(in rt.alloc(); "{}", EntryError::TooLong(power)));
-        let wanted = format!(in rt.alloc(); "a block of {power} bytes is too long");
-        check_eq!(rt; text.as_str(), expect_ok!(rt; wanted).as_str());
+        let e = EntryError::TooLong(power);
+        expect_number(rt, alloc, &e, ("a block of", " bytes is too long"), power);
+        let e = UnknownCode { code: power };
+        expect_number(
+            rt,
+            alloc,
+            &e,
+            ("no hash function is known for the code", ""),
+            power,
+        );
+        let e = ContentIdError::OtherVersion(power);
+        expect_number(
+            rt,
+            alloc,
+            &e,
+            ("no content identifier of version", ""),
+            power,
+        );
         power = power.wrapping_mul(2);
     }
 }

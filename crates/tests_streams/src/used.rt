@@ -10,6 +10,7 @@ use std::process::Abort;
 use uses::any_reader::read_up_to;
 use uses::content_id::{ContentId, ContentIdError};
 use uses::json_text::{parse, print};
+use uses::merkle::through;
 use uses::section::{read_section, section_front};
 use uses::slices::{encode_all_into, encode_into, encode_longest, scale_into};
 
@@ -47,11 +48,20 @@ fn slices_are_filled(rt: HostRuntime) {
     check_eq!(rt; scale_into(&m, &mut buffer[..11]), None);
 }
 
+// Memory is available to the callers that fail only without it.
+fn expect_memory(rt: &impl Abort, alloc: Global, items: &[Multihash<4>], input: &[u8]) {
+    let back = through::<4, 4, _, _>(alloc, items, &[], &mut Vec::new(alloc), &mut { input });
+    check!(rt; expect_ok!(rt; back).as_slice() == items);
+}
+
 fn expect_items(rt: &impl Abort, alloc: Global, count: usize) {
     let mut input = expect_ok!(rt; vec![in alloc; 0u8; count.saturating_mul(2)]);
     let mut left = input.as_slice();
     let items = expect_ok!(rt; read_up_to::<4, _>(alloc, &mut left, usize::MAX));
     check_eq!(rt; (items.len(), left.len()), (count, 0));
+    // Its vector doubles.
+    check!(rt; count < 1000 || items.capacity() > count);
+    expect_memory(rt, alloc, &items, &input);
     expect_ok!(rt; input.push(128));
     let mut left = input.as_slice();
     check!(rt; read_up_to::<4, _>(alloc, &mut left, usize::MAX).is_err());
