@@ -5,7 +5,7 @@ use Rattle.std.proofs.lemmas.List.{append_cancel_right}
 use Rattle.multihash.specs.Refusal.{Refusal}
 use Rattle.multihash.proofs.Writings.WritingLemmas.{length_of_not_nil}
 use Rattle.mh_show.specs.declared.run.RunError.TheVariants.{Input, NotShown, Output}
-use Rattle.mh_show.specs.declared.show.ShowError.TheVariants.{NotHex, Rejected, Memory}
+use Rattle.mh_show.specs.declared.show.ShowError.TheVariants.{NotHex, Refused, Memory}
 use Rattle.mh_show.specs.Shown.{ShowsAs, NamesNone, IsRejectedAs}
 use Rattle.mh_show.specs.Run.{error_line, ReadsWhole, AppendsPrefixOf, TriesToAppend, ShowsInput, ShowsPart, EndsRun, ReportsError}
 use Rattle.mh_show.proofs.ShownVectors.{digits_name_some, no_pair_rejected, shows_only}
@@ -113,7 +113,7 @@ digits_keep_output : (input output new_input new_output : Option (List ℕ))
 digits_keep_output input output new_input new_output h = h.0
 
 error_keeps_output : (e : Refusal) (input output new_input new_output : Option (List ℕ))
-    → ¬ (EndsRun ⊥ input output new_input new_output (NotShown (Rejected e)))
+    → ¬ (EndsRun ⊥ input output new_input new_output (NotShown (Refused e)))
 error_keeps_output e input output new_input new_output h = h.0
 
 -- a text that names bytes is hexadecimal
@@ -128,14 +128,14 @@ digits_are_looked_at_whole (kept, text, reads, none) =
 
 -- a pair is rejected with no error
 pair_is_not_rejected : (e : Refusal)
-    → ¬ (EndsRun ⊤ (Some (codes "0000\n")) (Some []) (Some []) (Some []) (NotShown (Rejected e)))
+    → ¬ (EndsRun ⊤ (Some (codes "0000\n")) (Some []) (Some []) (Some []) (NotShown (Refused e)))
 pair_is_not_rejected e (kept, text, reads, rejected) =
     no_pair_rejected e
     (subst (λ (z : List ℕ). IsRejectedAs z e) (text_is (codes "0000\n") text reads) rejected)
 
 rejected_when_read_whole : (e : Refusal)
     → ¬ (EndsRun ⊤ (Some (codes "8000\n")) (Some (codes "8000\n")) (Some []) (Some [])
-    (NotShown (Rejected e)))
+    (NotShown (Refused e)))
 rejected_when_read_whole e (kept, text, reads, rejected) =
     omega (arith, ap (λ (z : List ℕ). length z) reads.at_end)
 

@@ -4,7 +4,7 @@ use Rattle.std.specs.Io.KnownBytes.{Appends, Consumes, IsAtEnd}
 use Rattle.multihash.specs.Writing.{AppendsPrefix}
 use Rattle.mh_show.specs.declared.run.RunError.{RunError}
 use Rattle.mh_show.specs.declared.run.RunError.TheVariants.{Input, NotShown, Output}
-use Rattle.mh_show.specs.declared.show.ShowError.TheVariants.{NotHex, Rejected, Memory}
+use Rattle.mh_show.specs.declared.show.ShowError.TheVariants.{NotHex, Refused, Memory}
 use Rattle.mh_show.specs.Shown.{newline, ShowsAs, NamesNone, IsRejectedAs}
 use Rattle.mh_show.specs.ShowError.{show_error_text}
 
@@ -55,7 +55,7 @@ abbrev pub EndsRun : (kept : Type 0) (old_input new_input old_out new_out : Opti
 EndsRun kept old_input new_input old_out new_out Input = kept
 EndsRun kept old_input new_input old_out new_out (NotShown NotHex) =
     kept × (text : List ℕ) × ReadsWhole old_input new_input text × NamesNone text
-EndsRun kept old_input new_input old_out new_out (NotShown (Rejected e)) =
+EndsRun kept old_input new_input old_out new_out (NotShown (Refused e)) =
     kept × (text : List ℕ) × ReadsWhole old_input new_input text × IsRejectedAs text e
 EndsRun kept old_input new_input old_out new_out (NotShown Memory) = kept
 EndsRun kept old_input new_input old_out new_out Output =

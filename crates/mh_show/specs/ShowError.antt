@@ -9,12 +9,12 @@ use Rattle.hex.specs.declared.error.FromHexError.TheVariants.{
 }
 use Rattle.multihash.specs.Refusal.{refusal_text}
 use Rattle.mh_show.specs.declared.show.ShowError.{ShowError}
-use Rattle.mh_show.specs.declared.show.ShowError.TheVariants.{NotHex, Rejected, Memory}
+use Rattle.mh_show.specs.declared.show.ShowError.TheVariants.{NotHex, Refused, Memory}
 
 -- the text that an error prints
 abbrev pub show_error_text : ShowError → List ℕ
 show_error_text NotHex = codes "not hexadecimal"
-show_error_text (Rejected error) = refusal_text error
+show_error_text (Refused error) = refusal_text error
 show_error_text Memory = codes "out of memory"
 
 -- the error that an error of `hex` becomes

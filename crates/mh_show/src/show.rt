@@ -16,7 +16,7 @@ pub enum ShowError {
     /// The line is not an even number of hexadecimal digits.
     NotHex,
     /// The line's bytes are not one multihash with a digest of at most 64 bytes.
-    Rejected(multihash::Error),
+    Refused(multihash::Error),
     /// Out of memory.
     Memory,
 }
@@ -30,7 +30,7 @@ impl fmt::Display for ShowError {
     fn fmt<W: fmt::Write>(&self, f: &mut fmt::Formatter<W>) -> fmt::Result {
         match self {
             ShowError::NotHex => f.write_str("not hexadecimal"),
-            ShowError::Rejected(e) => fmt::Display::fmt(e, f),
+            ShowError::Refused(e) => fmt::Display::fmt(e, f),
             ShowError::Memory => f.write_str("out of memory"),
         }
     }
@@ -54,10 +54,10 @@ impl From<FromHexError> for ShowError {
 impl From<multihash::Error> for ShowError {
     ghost use Rattle.mh_show.specs.declared.show.ShowError.{ShowError};
 
-    ghost from_gives = { λ error e. e ≡ ShowError.Rejected error };
+    ghost from_gives = { λ error e. e ≡ ShowError.Refused error };
 
     fn from(e: multihash::Error) -> Self {
-        ShowError::Rejected(e)
+        ShowError::Refused(e)
     }
 }
 
@@ -78,7 +78,7 @@ impl From<AllocError> for ShowError {
 /// # Errors
 ///
 /// - [`ShowError::NotHex`] if the line is not an even number of hexadecimal digits.
-/// - [`ShowError::Rejected`] if its bytes are not one multihash with a digest of at most 64 bytes.
+/// - [`ShowError::Refused`] if its bytes are not one multihash with a digest of at most 64 bytes.
 /// - [`ShowError::Memory`] if out of memory, but never for a line of odd length.
 pub fn show(alloc: Global, text: &[u8]) -> Result<String, ShowError>
     ensures ok { IfOk result (λ s. ShowsAs text.now (string_bytes s)) }
@@ -86,7 +86,7 @@ pub fn show(alloc: Global, text: &[u8]) -> Result<String, ShowError>
     // Each error comes for its own reason alone.
     ensures not_hex { (line bytes : List ℕ) → result ≡ Err ShowError.NotHex → IsLine line text.now
         → ¬ (NamesBytes line bytes) }
-    ensures rejected { (e : Refusal) → result ≡ Err (ShowError.Rejected e) → IsRejectedAs text.now e }
+    ensures rejected { (e : Refusal) → result ≡ Err (ShowError.Refused e) → IsRejectedAs text.now e }
     ensures odd { (line : List ℕ) → IsLine line text.now → length line % 2 ≡ 1
         → result ≡ Err ShowError.NotHex }
 {

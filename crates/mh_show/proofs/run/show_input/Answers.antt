@@ -4,7 +4,7 @@ use Rattle.multihash.proofs.OutcomeLemmas.{passed_on}
 use Rattle.mh_show.specs.declared.run.RunError.{RunError}
 use Rattle.mh_show.specs.declared.run.RunError.TheVariants.{NotShown, Output}
 use Rattle.mh_show.specs.declared.show.ShowError.{ShowError}
-use Rattle.mh_show.specs.declared.show.ShowError.TheVariants.{NotHex, Rejected, Memory}
+use Rattle.mh_show.specs.declared.show.ShowError.TheVariants.{NotHex, Refused, Memory}
 use Rattle.mh_show.specs.Shown.{IsLine, NamesBytes, IsRejectedAs, ShowsAs}
 use Rattle.mh_show.specs.Run.{ReadsWhole, AppendsPrefixOf, EndsRun}
 use Rattle.mh_show.proofs.run.show_input.Goals as goal
@@ -13,9 +13,9 @@ use Rattle.mh_show.proofs.run.show_input.Goals as goal
 show_ends : (kept : Type 0) (old new out after : Option (List ℕ)) (text : List ℕ) (e : ShowError) → kept
     → ReadsWhole old new text
     → ((line bytes : List ℕ) → e ≡ NotHex → IsLine line text → ¬ (NamesBytes line bytes))
-    → ((r : Refusal) → e ≡ Rejected r → IsRejectedAs text r) → EndsRun kept old new out after (NotShown e)
+    → ((r : Refusal) → e ≡ Refused r → IsRejectedAs text r) → EndsRun kept old new out after (NotShown e)
 show_ends kept old new out after text NotHex same reads none rejected = (same, text, reads, λ line bytes. none line bytes refl)
-show_ends kept old new out after text (Rejected r) same reads none rejected = (same, text, reads, rejected r refl)
+show_ends kept old new out after text (Refused r) same reads none rejected = (same, text, reads, rejected r refl)
 show_ends kept old new out after text Memory same reads none rejected = same
 
 -- how a run ends if writing the lines fails
