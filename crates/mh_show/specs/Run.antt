@@ -18,7 +18,7 @@ run_error_text Output = codes "output not written"
 abbrev pub error_line : List ℕ → List ℕ
 error_line text = codes "mh_show: " ++ text ++ newline
 
--- the greatest number of bytes that the program reads
+-- the greatest number of bytes of an input; the program reads one more to reject a longer one
 abbrev pub most_input : ℕ
 most_input = 65536
 

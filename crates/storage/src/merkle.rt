@@ -1,6 +1,7 @@
 //! A binary Merkle tree. The node of a leaf is the multihash of a byte 0 and the leaf's encoding; an inner
-//! node is that of a byte 1 and its children's encodings. The tree of RFC 6962 has the same shape and first
-//! bytes, but hashes digests in place of encodings.
+//! node is that of a byte 1 and its children's encodings. The tree has the shape of that of RFC 6962, and a
+//! leaf's node is the one there, for the encoding as the entry; an inner node hashes encodings where RFC 6962
+//! hashes digests.
 ghost use Rattle.std.specs.Prelude.{◌≡◌, ◌↔◌, ◌<◌, IfOk, IsTrue, MatchOption, length, map};
 ghost use Rattle.multihash.specs.Multihash.{pair_of};
 ghost use Rattle.multihash.specs.Encoding.{encoding_of};

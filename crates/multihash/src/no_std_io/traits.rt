@@ -20,7 +20,8 @@ pub trait Read {
     ghost failures: { Self → ℕ };
 
     /// Reads some of the next bytes into the front of `buf`, and returns their number. The rest of
-    /// `buf` is unchanged. It returns 0 for a non-empty buffer only at the end of the input.
+    /// `buf` is unchanged. It returns 0 for a non-empty buffer only at the end of a known input; no law
+    /// states this of an input that is not known.
     ///
     /// # Errors
     ///
