@@ -7,8 +7,8 @@ use fakes::forms::{CASES, Code, Form, LENGTHS, case, different, many};
 use fakes::readers::{Counts, Cuts, FailAt};
 use fakes::writers::{CountsWrites, Drip, FailWrite};
 use fakes::{check, check_eq, expect_bytes, expect_ok, expect_rejected};
-use multihash::Multihash;
 use multihash::no_std_io::{Read, Write};
+use multihash::{Multihash, varint};
 use std::alloc::Global;
 use std::process::Abort;
 
@@ -75,12 +75,31 @@ fn expect_errors_at<const S: usize>(
 )
     requires { S < 2 ^ 16 }
 {
-    expect_reader_error(rt, alloc, form, items, bytes, at, ErrorKind::LINK_DOWN);
-    expect_reader_error(rt, alloc, form, items, bytes, at, ErrorKind::OutOfMemory);
+    for why in [ErrorKind::LINK_DOWN, ErrorKind::OutOfMemory] {
+        expect_reader_error(rt, alloc, form, items, bytes, at, why);
+        if matches!(form, Form::Binary) {
+            let mut reader = FailAt::new(Cuts::new(bytes, 1), at, why);
+            expect_rejected!(rt; &Multihash::<S>::read_next(&mut reader), why, at);
+        }
+    }
     let front = bytes.get(..at).unwrap_or(&[]);
     expect_writer_error(rt, alloc, form, items, front, ErrorKind::DISK_GONE);
     expect_writer_error(rt, alloc, form, items, front, ErrorKind::OutOfMemory);
     expect_writer_error(rt, alloc, form, items, front, ErrorKind::WriteZero);
+}
+
+// The calls of varints, at each byte of the code's.
+fn expect_varint_errors(rt: &impl Abort, alloc: Global, code: Code) {
+    for at in 0..code.1.len() {
+        for why in [ErrorKind::LINK_DOWN, ErrorKind::OutOfMemory] {
+            let mut reader = FailAt::new(Cuts::new(code.1, 1), at, why);
+            expect_rejected!(rt; &varint::read_next(&mut reader), why, at);
+        }
+        for why in [ErrorKind::DISK_GONE, ErrorKind::OutOfMemory] {
+            let mut writer = failing_writer(rt, alloc, at, why);
+            expect_rejected!(rt; &varint::write(code.0, &mut writer), why, at);
+        }
+    }
 }
 
 // At each byte of a form, or at some of them and the last.
@@ -131,6 +150,7 @@ fn each_byte_fails(rt: HostRuntime) {
     let bytes = different();
     for len in [0, 2, 20, 32, 64, 255] {
         if let Some((code, digest)) = case(&bytes, 255, len) {
+            expect_varint_errors(&rt, rt.alloc(), code);
             for form in Form::ALL {
                 expect_errors::<255>(&rt, rt.alloc(), form, code, digest, true);
             }
