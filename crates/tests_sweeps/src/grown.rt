@@ -20,8 +20,8 @@ fn places_of(value: &Value) -> usize {
     }
 }
 
-// A capacity of exactly the bytes, and of the members; and a clone, which allocates nothing. The encoding
-// begins with the code's varint and the size.
+// A capacity of exactly the bytes, and of the members, which are read back; and a clone, which allocates
+// nothing. The encoding begins with the code's varint and the size.
 fn expect_kept<const S: usize>(
     rt: &impl Abort,
     alloc: Global,
@@ -38,6 +38,7 @@ fn expect_kept<const S: usize>(
     check_eq!(rt; (bytes.len(), bytes.capacity()), (len, len));
     let value = expect_ok!(rt; m.to_value(alloc));
     check_eq!(rt; places_of(&value), len);
+    check!(rt; expect_ok!(rt; Multihash::<S>::from_value(&value)) == m, len);
     check!(rt; expect_ok!(rt; m.clone()) == m, len);
 }
 

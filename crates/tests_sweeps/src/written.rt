@@ -1,9 +1,11 @@
 //! The bytes written for each length of a digest, in each form: into slices of the exact length, into shorter
-//! ones, which are filled, and into vectors.
+//! ones, which are filled, into vectors, and by few bytes per call.
 ghost use Rattle.std.specs.Prelude.{◌<◌, ◌^◌};
 
 use fakes::error_kind::{ErrorKind, is_rejected};
 use fakes::forms::{CASES, CODES, Code, Form, case, different, many};
+use fakes::readers::Cuts;
+use fakes::writers::Drip;
 use fakes::{check, check_eq, expect_bytes, expect_ok};
 use multihash::no_std_io::{SliceWriter, Write};
 use multihash::{Error, Multihash};
@@ -84,6 +86,27 @@ fn expect_in_vectors<const S: usize>(
     }
 }
 
+// Into a writer, and from a reader, of few bytes per call.
+fn expect_in_parts<const S: usize>(
+    rt: &impl Abort,
+    alloc: Global,
+    form: Form,
+    items: &[Multihash<S>],
+    wanted: &[u8],
+)
+    requires { S < 2 ^ 16 }
+{
+    for most in [1, 2, 3, 7] {
+        let mut drip = expect_ok!(rt; Drip::new(alloc, wanted.len(), most));
+        let outcome = form.writes(items, &mut drip, false);
+        check!(rt; is_written(&outcome, wanted.len(), wanted.len()), (form, most));
+        expect_bytes!(rt; &drip.held, wanted);
+        let mut cuts = Cuts::new(wanted, most);
+        check!(rt; expect_ok!(rt; form.reads(alloc, items, &mut cuts, false)), (form, most));
+        check!(rt; cuts.left.is_empty(), (form, most));
+    }
+}
+
 fn expect_written<const S: usize>(rt: &impl Abort, alloc: Global, code: Code, digest: &[u8])
     requires { S < 2 ^ 16 }
 {
@@ -98,6 +121,7 @@ fn expect_written<const S: usize>(rt: &impl Abort, alloc: Global, code: Code, di
             }
         }
         expect_in_vectors(rt, alloc, form, &items, &wanted);
+        expect_in_parts(rt, alloc, form, &items, &wanted);
     }
 }
 

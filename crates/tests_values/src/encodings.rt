@@ -23,7 +23,9 @@ const LINES: &str = "\
 72057594037927936 - 80808080808080800100 000000000000000100
 9223372036854775807 - ffffffffffffffff7f00 ffffffffffffff7f00
 0 01020304 000401020304 00000000000000000401020304
+0 41 000141 00000000000000000141
 18 42 120142 12000000000000000142
+18 9fe4ccc6de16724f3a30c7e8f254f3c6471986acb1f8d8cf8e96ce2ad7dbe7fb 12209fe4ccc6de16724f3a30c7e8f254f3c6471986acb1f8d8cf8e96ce2ad7dbe7fb 1200000000000000209fe4ccc6de16724f3a30c7e8f254f3c6471986acb1f8d8cf8e96ce2ad7dbe7fb
 300 4142 ac02024142 2c01000000000000024142
 72623859790382856 aa 888e98a8c0e080810101aa 080706050403020101aa
 0 68656c6c6f20776f726c64 000b68656c6c6f20776f726c64 00000000000000000b68656c6c6f20776f726c64
@@ -56,6 +58,25 @@ fn expect_scale<const S: usize>(rt: &impl Abort, alloc: Global, m: &Multihash<S>
     check_eq!(rt; &expect_ok!(rt; Multihash::scale_decode(&mut Silent(wanted))), m);
 }
 
+// Made in each form, and read from it with another capacity.
+fn expect_forms<const S: usize, const T: usize>(
+    rt: &impl Abort,
+    alloc: Global,
+    m: &Multihash<S>,
+) -> [Multihash<T>; 3]
+    requires { (S < 2 ^ 16) × (T < 2 ^ 16) }
+{
+    let bytes = expect_ok!(rt; m.to_bytes(alloc));
+    let binary = expect_ok!(rt; Multihash::<T>::from_bytes(&bytes));
+    let mut bytes = Vec::new(alloc);
+    expect_ok!(rt; m.scale_encode(&mut bytes));
+    let scale = expect_ok!(rt; Multihash::<T>::scale_decode(&mut bytes.as_slice()));
+    let value = expect_ok!(rt; m.to_value(alloc));
+    let json = expect_ok!(rt; Multihash::<T>::from_value(&value));
+    check_eq!(rt; [m.same_as(&binary), m.same_as(&scale), m.same_as(&json)], [true; 3]);
+    [binary, scale, json]
+}
+
 // A line whose digest fits the capacity.
 fn expect_line<const S: usize>(rt: &impl Abort, alloc: Global, columns: &[&str])
     requires { S < 2 ^ 16 }
@@ -71,6 +92,9 @@ fn expect_line<const S: usize>(rt: &impl Abort, alloc: Global, columns: &[&str])
         expect_bytes!(rt; m.digest(), &digest);
         expect_binary(rt, alloc, m, &bytes_of(rt, alloc, encoding));
         expect_scale(rt, alloc, m, &bytes_of(rt, alloc, scale));
+        for read in expect_forms::<S, S>(rt, alloc, m) {
+            expect_forms::<S, 128>(rt, alloc, &read);
+        }
     }
 }
 
@@ -86,5 +110,5 @@ fn pairs_have_their_forms(rt: HostRuntime) {
         expect_line::<64>(rt, alloc, &columns);
         count = count.saturating_add(1);
     }
-    check_eq!(rt; count, 19);
+    check_eq!(rt; count, 21);
 }

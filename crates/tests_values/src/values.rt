@@ -36,6 +36,7 @@ fn pairs_are_rejected(rt: HostRuntime) {
     let rt = &rt;
     expect_unwrapped::<4>(rt, 1 << 63, b"AB", ErrorKind::InvalidCode(1 << 63));
     expect_unwrapped::<300>(rt, 0, &[0; 256], ErrorKind::InvalidSize(256));
+    expect_unwrapped::<300>(rt, 0, &[0; 300], ErrorKind::InvalidSize(300));
     expect_unwrapped::<128>(rt, 0, &[0; 129], ErrorKind::InvalidSize(129));
     // The size comes before the code.
     expect_unwrapped::<2>(rt, u64::MAX, b"foobar", ErrorKind::InvalidSize(6));
@@ -65,6 +66,7 @@ fn a_digest_is_cut(rt: HostRuntime) {
     array[..3].copy_from_slice(b"foo");
     check_eq!(rt; cut.into_inner(), (0, array, 3));
     check_eq!(rt; &m.truncate(9), &m);
+    check_eq!(rt; (m.truncate(5).truncate(2), m.truncate(2).truncate(5)), (m.truncate(2), m.truncate(2)));
     check!(rt; is_rejected(&m.resize::<2>(), ErrorKind::InvalidSize(6)));
 }
 
