@@ -9,6 +9,7 @@ use multihash::no_std_io::Read;
 use multihash::{Error, Multihash, varint};
 use std::alloc::Global;
 use std::process::Abort;
+use uses::std_reader::StdReader;
 
 // (0, `A`), (18, `B`), and a trailing byte.
 const STREAM: [u8; 7] = [0, 1, 65, 18, 1, 66, 7];
@@ -60,6 +61,7 @@ fn none_at_the_end_of_a_stream(rt: HostRuntime) {
     let mut left = stream;
     expect_two_and_end(rt, &mut left);
     expect_two_and_end(rt, &mut Silent(stream));
+    expect_two_and_end(rt, &mut StdReader::new(stream));
     for most in 1..8 {
         expect_two_and_end(rt, &mut Cuts::new(stream, most));
     }

@@ -12,3 +12,4 @@ pub mod recovery;
 pub mod retries;
 pub mod section;
 pub mod slices;
+pub mod std_reader;
