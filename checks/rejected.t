@@ -7,7 +7,7 @@
 # Each program is built once, or used as 'rt ci' built it, if BUILT says so.
 # shellcheck source=checks/tap.sh
 . "$(dirname "$0")/tap.sh"
-plan 375
+plan 382
 crates=$PWD/crates
 
 # Builds a program, with cached proofs, and runs it on no input.
@@ -109,6 +109,9 @@ expect_streams() {
   head -c 65536 /dev/zero | tr '\0' 0 > "$work/longest"
   { cat "$work/longest" && printf 0; } > "$work/too_long"
   expect_show "mh_show: Invalid multihash size 32766.\n1" "" "< $work/longest"
+  for size in 512 1024 2048 4096 8192 16384 32768; do
+    expect_show "mh_show: Invalid multihash size $((size / 2 - 2)).\n1" "" "< <(head -c $size $work/longest)"
+  done
   expect_show "$not_read" "" "< $work/too_long"
   expect_show "$not_read" "" "< /dev/zero"
   expect_show "$not_read" "" "< /"

@@ -67,7 +67,7 @@ impl Read for Drip<'_> {
     }
 }
 
-const CAPACITY: usize = 64;
+const CAPACITY: usize = 256;
 
 // Keeps what is written, at most that many bytes per call. When it has that many bytes, it ends.
 #[derive(Drop)]
@@ -78,7 +78,7 @@ struct Page {
     most: usize,
     end: End,
     calls: usize,
-    ghost fits: { length ≤ 64 },
+    ghost fits: { length ≤ 256 },
 }
 
 impl Page {
@@ -178,6 +178,21 @@ fn a_writer_of_one_byte(rt: HostRuntime) {
     let wanted = (1, b"".as_slice(), b"mh_show: not hexadecimal\n".as_slice());
     let input = Drip::new(b"zz", 1, End::Nothing);
     expect_run(rt, input, whole_page(), err, wanted, (3, 0, 25));
+    // The lines of a long digest are one write.
+    let mut digits = [b'0'; 132];
+    digits[2] = b'4';
+    let mut lines = [b'0'; 151];
+    lines[..22].copy_from_slice(b"code 0\nsize 64\ndigest ");
+    lines[150] = b'\n';
+    let input = Drip::new(&digits, 200, End::Nothing);
+    expect_run(
+        rt,
+        input,
+        whole_page(),
+        whole_page(),
+        (0, &lines, b""),
+        (2, 1, 0),
+    );
 }
 
 // A page that is full at once or after ten bytes: the write that fails is the last.
