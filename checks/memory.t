@@ -16,7 +16,7 @@ most=40
 # The tests: how many allocations each makes, and how many of these make it fail, if not all do.
 tests() {
   cat << 'LIST'
-allocating_forms_at_each_size 24
+allocating_forms_at_each_size 26
 allocating_forms_of_usual_digests 18
 allocating_read_list 1
 allocating_read_of_lists 16

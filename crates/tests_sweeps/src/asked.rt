@@ -112,6 +112,10 @@ fn no_items_make_no_call(rt: HostRuntime) {
     let mut reader = Counts::failing(&[0, 0], 0, ErrorKind::LINK_DOWN);
     check!(rt; expect_ok!(rt; read_list::<4, _>(alloc, &mut reader, 0)).is_empty());
     check_eq!(rt; reader.asked(), (0, 0, 0));
+    // Nor does a long list make one for no bytes.
+    let mut reader = Counts::new(&[0; 2002]);
+    check_eq!(rt; expect_ok!(rt; read_list::<4, _>(alloc, &mut reader, 1001)).len(), 1001);
+    check_eq!(rt; reader.asked(), (2002, 0, 1001));
 }
 
 // The call fails with this error after that many calls of the reader, the last of which met the end.

@@ -91,6 +91,7 @@ fn allocating_forms_at_each_size(rt: HostRuntime) -> Result<(), Fail> {
             && makes_full_forms::<33>(rt, alloc)
             && makes_full_forms::<48>(rt, alloc)
             && makes_full_forms::<64>(rt, alloc)
+            && makes_forms::<64>(rt, alloc, 1 << 20, &[65; 64])
             && makes_full_forms::<127>(rt, alloc)
             && makes_full_forms::<128>(rt, alloc)
             && makes_full_forms::<200>(rt, alloc)
