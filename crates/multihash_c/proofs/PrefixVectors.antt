@@ -1,5 +1,5 @@
 -- What decoding an input by its first bytes returns.
-use Rattle.std.proofs.Common.{◌≡◌, ℕ, List, [], ◌∷◌, length, drop, refl, sym, subst, arith, inl, inr, length-drop}
+use Rattle.std.proofs.Common.{◌≡◌, ℕ, List, [], ◌∷◌, length, drop, replicate, refl, sym, subst, arith, inl, inr, length-drop}
 use Rattle.std.proofs.lemmas.List.{take_all}
 use Rattle.multihash.specs.Varint.{insufficient}
 use Rattle.multihash.specs.Verdict.{accepted, invalid_size, malformed, HasHead, HasVerdict, HasWholeVerdict}
@@ -61,6 +61,10 @@ reports_trailing = record {
 -- the code alone determines nothing, unless nothing follows
 determined : Determines (0 ∷ []) 1
 determined = inl (omega arith)
+
+-- as many bytes as two varints may have
+determined_by_two_longest : Determines (replicate 18 0x80) 19
+determined_by_two_longest = inr (inl (omega arith))
 
 not_determined : ¬ (Determines (0 ∷ []) 3)
 not_determined (inl all) = omega (arith, all)
