@@ -73,9 +73,7 @@ impl<R: Read> Read for HashingReader<R> {
         while filled < buf.len() {
             let n = self.read(&mut buf[filled..])?;
             if n == 0 {
-                // Only the library makes the error of an input that ends.
-                let mut none: &[u8] = &[];
-                return none.read_exact(&mut buf[filled..]);
+                return Err(Error::unexpected_eof());
             }
             filled += n;
         }
