@@ -96,7 +96,7 @@ def structs_of(sources: list[Item]) -> Structs:
 
 
 def declaration(item: Item) -> str:
-    """Returns the declaration of an export. tools/test_c checks that the archive has no others."""
+    """Returns the declaration of an export. checks/c_library.t sees any other."""
     [(name, parameters, result)] = re.findall(r"^(\w+)\((.*)\) -> (\w+)$", item.signature())
     parts = ", ".join(map(parameter, filter(None, parameters.split(", ")))) or "void"
     return f"{TYPES.get(result, f'multihash_{result.lower()}')} {name}({parts});"

@@ -27,17 +27,17 @@ syntax() {
   echo 'if true; then' > "$work/syntax.sh"
   try "bash -n" syntax $shell
   try "bash -n rejects a planted script" rejects "unexpected end of file" syntax "$work/syntax.sh" checks/tap.sh
-  if has shellcheck 2; then
+  if has 2 shellcheck; then
     printf '#!/bin/bash\ncd $1\n' > "$work/planted.sh"
     try shellcheck shellcheck -x $shell
     try "shellcheck rejects a planted script" rejects SC2164 shellcheck "$work/planted.sh"
   fi
-  if has black 2; then
+  if has 2 black; then
     echo "number  =  1" > "$work/layout.py"
     try black black --check --diff --line-length 100 $python
     try "black rejects a planted script" rejects "would reformat" black --check "$work/layout.py"
   fi
-  if has mypy 2; then
+  if has 2 mypy; then
     echo "def same(number): return number" > "$work/untyped.py"
     try mypy mypy --strict --cache-dir "$work/mypy" $python
     try "mypy rejects a planted script" rejects "missing a type annotation" mypy --strict --cache-dir "$work/mypy" "$work/untyped.py"

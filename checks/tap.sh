@@ -1,22 +1,30 @@
 # shellcheck shell=bash
-# Prints results as TAP, for prove. A script that sources this is at the top of the repository then, and says first
-# how many checks it makes: 'plan N'.
+# Prints results as TAP, for prove. A script that sources this is at the top of the repository then, and says first how
+# many checks it makes, 'plan N'. Its status is 1 if one failed, or another number was made.
 #
 #   ALL=1    what is left out fails
 set -u
-cd "$(dirname "$0")/.." || exit 2
-number=0
+cd "$(dirname "${BASH_SOURCE[0]}")/.." || exit 2
+planned=0 number=0 failed=0
 work=$(mktemp -d) || exit 2
-trap 'rm -rf "$work"' EXIT
 
-plan() { echo "1..$1"; }
+finish() {
+  rm -rf "$work"
+  exit $((failed || number != planned))
+}
+trap finish EXIT
+
+plan() {
+  planned=$1
+  echo "1..$1"
+}
 
 # Counts a check by its status.
 count() {
-  local result=ok
-  [ "$1" = 0 ] || result="not ok"
+  local result=ok name=${2//'#'/}
+  [ "$1" = 0 ] || result="not ok" failed=1
   number=$((number + 1))
-  echo "$result $number - ${2//'#'/}"
+  echo "$result $number - ${name//$'\n'/ }"
 }
 
 # Counts each line of standard input that begins with 'passed: ' or 'failed: ', and shows the others.
@@ -47,7 +55,10 @@ try() {
 rejects() {
   local text=$1
   shift
-  ! "$@" > "$work/rejected" 2>&1 && grep -F -- "$text" "$work/rejected"
+  ! "$@" > "$work/rejected" 2>&1 && grep -F -- "$text" "$work/rejected" && return
+  echo "not rejected, or without the text: $text"
+  cat "$work/rejected"
+  return 1
 }
 
 # Leaves out a number of checks, and says why.
@@ -64,5 +75,29 @@ leave_out() {
   done
 }
 
-# Whether a tool is installed, else a number of checks is left out.
-has() { command -v "$1" > "$work/log" || { leave_out "$1 is not installed" "$2" && false; }; }
+# Whether all is to be tested, else a number of checks is left out, which show little that the others do not.
+with_all() { [ "${ALL-}" = 1 ] || { leave_out "only with ALL=1" "$1" && false; }; }
+
+# Whether a tool has a version: '1.0.32', or '1.82+' for this and later ones.
+is_version() {
+  local its
+  its=$("$1" --version 2>&1 | grep -oE '[0-9]+(\.[0-9]+)*' | head -n 1)
+  [ "$its" = "$2" ] || { [ "$2" != "${2%+}" ] && [ "$(printf '%s\n' "${2%+}" "$its" | sort -V | head -n 1)" = "${2%+}" ]; }
+}
+
+# Whether a tool is installed, as NAME or NAME=VERSION, or a path is there that fits a pattern.
+is_there() {
+  case $1 in
+    /*) compgen -G "$1" ;;
+    *=*) command -v "${1%%=*}" && is_version "${1%%=*}" "${1#*=}" ;;
+    *) command -v "$1" ;;
+  esac
+}
+
+# Whether all these are installed, else a number of checks is left out.
+has() {
+  local checks=$1 tool
+  for tool in "${@:2}"; do
+    is_there "$tool" > "$work/log" || { leave_out "$tool is not installed" "$checks" && return 1; }
+  done
+}

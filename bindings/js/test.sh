@@ -1,26 +1,28 @@
 #!/usr/bin/env bash
-# Tests the module for JavaScript. The last line is 'N passed, M failed'.
+# Tests the module for JavaScript. It prints results as TAP, and its status is 1 if one failed.
 #
-#   bindings/js/test.sh ARCHIVE   ARCHIVE is the static library for C, whose results are compared
+#   bindings/js/test.sh [ARCHIVE]   ARCHIVE is the static library for C, whose results are compared, else that of prebuilt/
 #
-#   ALL=1            a part whose tool is not installed fails, else it is left out
-#   PROVED=FOLDER    a copy of the repository whose crates are proved, for build.sh
-set -uo pipefail
+#   ALL=1            what needs a tool that is not installed fails, else it is left out
+#   PROVED=FOLDER    a copy of the repository whose crates are proved: build.sh builds a copy of these, else it builds here
 here=$(dirname "$(readlink -f "${BASH_SOURCE[0]}")")
-top=$(readlink -f "$here/../..")
+archive=$(readlink -f "${1:-$here/../../prebuilt/$(uname -m)/libmultihash_c.a}")
+# shellcheck source=checks/tap.sh
+. "$here/../../checks/tap.sh"
+plan 24
+set -o pipefail
+# shellcheck source=checks/proved.sh
+. checks/proved.sh
+top=$PWD
 header=$top/crates/multihash_c/include/multihash.h
-archive=$(readlink -f "${1?the static library for C is missing}")
-cd "$top" || exit 2
-# shellcheck source=tools/parts.sh
-. tools/parts.sh
 data=$work/data
 
-# Runs a command that needs tools, whose names are one word.
+# Counts a command that needs tools, whose names are one word.
 part() {
   local name=$1 tools=$2
   shift 2
   # shellcheck disable=SC2086
-  has "$name" $tools && try "$name" "$@"
+  has 1 $tools && try "$name" "$@"
 }
 
 # The data of the tests: the vectors, the header, and 100,000 inputs with the results of the library for C.
@@ -179,4 +181,3 @@ part "another text than the demo page's" chromium rejects " 1 wrong" another_tex
 part "the demo page from the disk" chromium demo_of_disk
 test_browser firefox firefox-esr
 test_browser webkit "WebKitWebDriver xvfb-run"
-finish

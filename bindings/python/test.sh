@@ -1,21 +1,23 @@
 #!/usr/bin/env bash
 # Builds the sdist and the wheel, installs the wheel into a new virtual environment, and runs all tests there: plain, over
-# the portable source, under sanitizers, and with the debug allocator. The last line is 'N passed, M failed'.
+# the portable source, under sanitizers, and with the debug allocator. It prints results as TAP, and its status is 1 if
+# one failed.
 #
-#   test.sh ARCHIVE [WORK]
+#   test.sh [ARCHIVE [WORK]]
 #
-# ARCHIVE is libmultihash_c.a; WORK a folder in which the results stay, the environment in WORK/venv. Needs cc, and PYTHON
-# with headers, build, setuptools, venv and wheel, else /usr/bin/python3. A part whose tool is missing is left out, but fails
-# with ALL=1. MULTIHASH_VERDICTS is the path of the test vectors, if not the repository's.
-set -uo pipefail
+# ARCHIVE is libmultihash_c.a, else that of prebuilt/; WORK a folder in which the results stay, the environment in
+# WORK/venv. Needs cc, and PYTHON with headers, build, setuptools, venv and wheel, else /usr/bin/python3. What needs a tool
+# that is not installed is left out, but fails with ALL=1. MULTIHASH_VERDICTS is the path of the test vectors, if not the
+# repository's.
 here=$(dirname "$(readlink -f "${BASH_SOURCE[0]}")")
-[ $# = 1 ] || [ $# = 2 ] || { sed -n '2,/^[^#]/s/^# \{0,1\}//p' "${BASH_SOURCE[0]}" >&2; exit 2; }
-archive=$(readlink -f "$1")
+[ $# -le 2 ] || { sed -n '2,/^[^#]/s/^# \{0,1\}//p' "${BASH_SOURCE[0]}" >&2; exit 2; }
+archive=$(readlink -f "${1:-$here/../../prebuilt/$(uname -m)/libmultihash_c.a}")
 to=
 if [ $# = 2 ]; then mkdir -p "$2" && to=$(readlink -f "$2") || exit 2; fi
-cd "$here/../.." || exit 2
-# shellcheck source=tools/parts.sh
-. tools/parts.sh
+# shellcheck source=checks/tap.sh
+. "$here/../../checks/tap.sh"
+plan 17
+set -o pipefail
 to=${to:-$work}
 header=$PWD/crates/multihash_c/include/multihash.h
 # What is tested is what was installed.
@@ -140,27 +142,26 @@ types() {
     grep 'Found 5 errors' wrong.log
 }
 
-"$PYTHON" -c 'import build, setuptools, venv, wheel' || exit 2
-has "the package for Python" cc || { finish; exit; }
+has 17 cc "$PYTHON" || exit 0
+"$PYTHON" -c 'import build, setuptools, venv, wheel' 2> "$work/log" || { leave_out "build, setuptools, venv or wheel is not installed" 17 && exit 0; }
 try "the sdist and the wheel, built twice" builds
 try "the module without warnings" without_warnings
-has "archives" objcopy ar && try "archives" looks_at_archive
-has "the wheel for aarch64" aarch64-linux-gnu-gcc && try "the wheel for aarch64" for_aarch64
+has 1 objcopy ar && try "archives" looks_at_archive
+has 1 aarch64-linux-gnu-gcc && try "the wheel for aarch64" for_aarch64
 try "an environment" "$PYTHON" -m venv --clear --system-site-packages "$to/venv"
 try "the wheel, installed" imports "$to"/dist/*.whl
 try "the tests" unit_tests "$here/tests"
 if "$python" -c 'import _testcapi' 2> "$work/log"; then
   try "failing allocations" failing_allocations
 else
-  leave_out "failing allocations" "_testcapi is not installed"
+  leave_out "_testcapi is not installed" 1
 fi
 try "the tests with the debug allocator" unit_tests "$here/tests" PYTHONMALLOC=debug
-has "types" mypy && try "types" types
+has 1 mypy && try "types" types
 try "the times beside plain Python" "$python" "$here/tests/speed.py"
 try "the folder, installed" imports "$here"
-has "an archive of another version" objcopy ar && try "an archive of another version" other_version
+has 1 objcopy ar && try "an archive of another version" other_version
 try "the sdist, installed: the portable source" sdist
 try "sanitizers" under_sanitizers "$to/sdist"
 try "a read after the end of the input" rejects AddressSanitizer planted_read
 try "an argument that is kept" rejects "not less than 1000" planted_leak
-finish

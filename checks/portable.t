@@ -1,15 +1,14 @@
 #!/usr/bin/env bash
-# Tests the portable source of the library for C.
-# It compares the generated file with a new one, and tests the source by its own tests: here with sanitizers, on
-# other machines in emulators, and against the archive's results. The last line is 'N passed, M failed'.
-#
-#   PROVED=FOLDER    a copy of the repository whose crates are proved: the library is built there, else here
-#   ALL=1            a part fails if its tool is not installed, else it is left out
-set -uo pipefail
-top=$(dirname "$(dirname "$(readlink -f "${BASH_SOURCE[0]}")")")
-cd "$top" || exit 2
-# shellcheck source=tools/parts.sh
-. tools/parts.sh
+# The portable source of the library for C.
+# It compares the generated file with a new one, byte for byte, and tests the source by its own tests: here with
+# sanitizers, on other machines in emulators, and against the archive's results.
+# shellcheck source=checks/tap.sh
+. "$(dirname "$0")/tap.sh"
+plan 25
+set -o pipefail
+# shellcheck source=checks/proved.sh
+. checks/proved.sh
+top=$PWD
 tree=$work/tree
 steps=$work/steps
 translate=packaging/portable/translate.py
@@ -20,11 +19,6 @@ archive=$top/prebuilt/x86_64/libmultihash_c.a
 warnings=(-Wall -Wextra -Wpedantic -Wconversion -Wsign-conversion -Wshadow -Wcast-qual -Wstrict-prototypes
   -Wmissing-prototypes -Werror)
 ulimit -c 0
-
-# What shows little that the rest does not is left out, unless all is to be tested.
-with_all() {
-  [ "${ALL-}" = 1 ] || ! leave_out "$1" "it runs with ALL=1"
-}
 
 # ---- the generated file
 
@@ -137,15 +131,15 @@ tests_planted() {
 test_here() {
   try "two files" two_files
   test_compiler cc
-  with_all clang && has clang clang && test_compiler clang
-  has "objects without a C library" clang nm && try "objects without a C library" freestanding
+  with_all 2 && has 2 clang && test_compiler clang
+  has 1 clang nm && try "objects without a C library" freestanding
   if [ "$(uname -m)" = x86_64 ]; then
     try "the archive's results" like_the_archive
   else
-    leave_out "the archive's results" "the archive is for another machine"
+    leave_out "the archive is for another machine" 1
   fi
   try "fenced buffers" fenced
-  has "what the object needs" nm objdump && try "what the object needs" keeps_no_state
+  has 1 nm objdump && try "what the object needs" keeps_no_state
   try "a wrong byte: an access elsewhere" rejects "Aborted" tests_planted \
     '0,/ = 127ull;/s// = 126ull;/'
   try "a wrong byte: another result" rejects "not so: " tests_planted '0,/ = 128ull;/s// = 129ull;/'
@@ -157,7 +151,7 @@ test_here() {
 on_machine() {
   local name=$1 compiler=$2-gcc
   local -x RUN=$3
-  has "$name" "$compiler" "$RUN" && try "$name" passes "$tree" "$name" "$compiler" -O2 "${warnings[@]}" -static
+  has 1 "$compiler" "$RUN" && try "$name" passes "$tree" "$name" "$compiler" -O2 "${warnings[@]}" -static
 }
 
 # Wine keeps its files below the folder of this test; its server ends with it.
@@ -167,17 +161,15 @@ on_windows() {
   if [ -d "$WINEPREFIX" ]; then wineserver -k; fi
 }
 
-if has "the portable source" cc python3; then
-  has "the generated file" rt wasm2c=1.0.32 wasm2wat=1.0.32 wat2wasm=1.0.32 && try "the generated file" generated
-  if [ -s "$steps/calls.c" ]; then
-    try "a wrong byte of it" rejects "module.h differ: " planted_generated
-    test_translation
-  fi
-  test_here
-  with_all aarch64 && on_machine aarch64 aarch64-linux-gnu qemu-aarch64
-  with_all riscv64 && on_machine riscv64 riscv64-linux-gnu qemu-riscv64
-  on_machine "armhf, 32 bits" arm-linux-gnueabihf qemu-arm
-  on_machine "s390x, big-endian" s390x-linux-gnu qemu-s390x
-  on_windows
+has 25 cc python3 || exit 0
+if has 9 rt wasm2c=1.0.32 wasm2wat=1.0.32 wat2wasm=1.0.32; then
+  try "the generated file" generated
+  try "a wrong byte of it" rejects "module.h differ: " planted_generated
+  test_translation
 fi
-finish
+test_here
+with_all 1 && on_machine aarch64 aarch64-linux-gnu qemu-aarch64
+with_all 1 && on_machine riscv64 riscv64-linux-gnu qemu-riscv64
+on_machine "armhf, 32 bits" arm-linux-gnueabihf qemu-arm
+on_machine "s390x, big-endian" s390x-linux-gnu qemu-s390x
+on_windows

@@ -1,15 +1,14 @@
 #!/usr/bin/env bash
-# Tests what CMake builds, installs and packs of the library for C.
+# What CMake builds, installs and packs of the library for C.
 # That is its tests, its files, programs built against it, its man pages, the packages for Rust and for Debian, of the
-# archives, in an emulator for aarch64, and of the portable source. The last line is 'N passed, M failed'.
-#
-#   PROVED=FOLDER    a copy of the repository whose crates are proved: with ALL=1 libraries are built there, else here
-#   ALL=1            a part fails if its tool is not installed, else it is left out
-set -uo pipefail
-top=$(dirname "$(dirname "$(readlink -f "${BASH_SOURCE[0]}")")")
-cd "$top" || exit 2
-# shellcheck source=tools/parts.sh
-. tools/parts.sh
+# archives, in an emulator for aarch64, and of the portable source.
+# shellcheck source=checks/tap.sh
+. "$(dirname "$0")/tap.sh"
+plan 28
+set -o pipefail
+# shellcheck source=checks/proved.sh
+. checks/proved.sh
+top=$PWD
 header=$top/crates/multihash_c/include/multihash.h
 version=$(sed -n 's/^#define MULTIHASH_VERSION "\([0-9.]*\)"$/\1/p' "$header")
 major=${version%%.*}
@@ -38,7 +37,7 @@ files_in() {
   printf './%s\n' include/multihash.h "$libdir"/libmultihash_c.{a,so,so."$major",so."$version"} \
     "$libdir"/cmake/multihash_c/multihash_c-config{,-release,-version}.cmake "$libdir/pkgconfig/multihash_c.pc" \
     share/doc/multihash_c/{C.md,changelog,copyright,examples/{show.c,stream.c,test.sh}} share/man/man3/multihash.3 "${@:2}"
-  { tools/header --exports && echo multihash_status_text; } |
+  { checks/header.py --exports && echo multihash_status_text; } |
     while read -r function; do echo "./share/man/man3/$function.3"; done
 }
 
@@ -55,7 +54,7 @@ exports_exactly() {
   local -x LC_ALL=C
   awk '/^MULTIHASH_C/ { node = $1; left = $4 } /^    multihash_/ { sub(/;/, "", $1); print $1 "@@" node; left-- }
     /^}/ && left { print "another number of functions than it says: " node > "/dev/stderr"; exit 1 }' "$2" | sort \
-    > "$work/versions" && sed 's/@.*//' "$work/versions" | diff <(tools/header --exports) - &&
+    > "$work/versions" && sed 's/@.*//' "$work/versions" | diff <(checks/header.py --exports) - &&
     readelf -W --dyn-syms "$1" | awk '$7 ~ /^[0-9]+$/ && $4 != "SECTION" { print $8 }' | sort | diff "$work/versions" -
 }
 
@@ -81,8 +80,9 @@ is_installed() {
 
 # The installed test over what is installed in a folder.
 installed_test() {
-  local test="$1/share/doc/multihash_c/examples/test.sh"
-  "$test" "$1" | tee "$work/tested" && tail -n 1 "$work/tested" | grep -qx '[1-9][0-9]* passed, 0 failed'
+  "$1/share/doc/multihash_c/examples/test.sh" "$1" > "$work/tested"
+  cat "$work/tested"
+  tail -n 1 "$work/tested" | grep -x '14 passed, 0 failed'
 }
 
 # In the configured prefix, whose name has a blank. The archive keeps its bytes.
@@ -162,6 +162,7 @@ pages() {
   rejects "NAMES" mandoc -T lint -W style "$work/planted.1"
 }
 
+crates=("/usr/share/cargo/registry/"{cc-1,pkg-config-0.3,serde_json-1}".*")
 # Runs a command of Cargo for the packages for Rust; what is set comes first.
 in_crate() {
   env -u MULTIHASH_C_LIB_DIR MULTIHASH_C_SYSTEM=1 RUSTFLAGS="-D warnings" bindings/rust/offline.sh "$work" "$@"
@@ -177,14 +178,14 @@ rust_crate() {
 
 test_programs() {
   try "a project of CMake" by_find_package
-  has Go go && try Go in_go
-  has "man pages" mandoc && try "man pages" pages
-  has "the packages for Rust, as installed" cargo && has_crates "the packages for Rust, as installed" &&
-    try "the packages for Rust, as installed" rust_crate
+  has 1 go && try Go in_go
+  has 1 mandoc && try "man pages" pages
+  has 1 cargo "${crates[@]}" && try "the packages for Rust, as installed" rust_crate
 }
 
 # ---- packages for Debian
 
+debian=(dpkg-buildpackage dh lintian man)
 # Builds the packages for an architecture in a copy of what they are made of, after an edit of it. They have no errors by lintian.
 build_packages() {
   local architecture=$1 to=$work/debian-$2 from
@@ -226,7 +227,7 @@ try_packages() (
 )
 
 test_packages() {
-  has "packages for Debian" dpkg-buildpackage dh lintian man || return
+  has 4 "${debian[@]}" || return
   try "packages for amd64" build_packages amd64 amd64
   try "a planted package" rejects "E: libmultihash-c1: no-copyright-file" lints_planted
   try "a function of a later version" later_function
@@ -242,18 +243,23 @@ installs_aarch64() {
   install_built arm && is_installed "$work/aarch64" lib && cmp prebuilt/aarch64/libmultihash_c.a "$work/aarch64/lib/libmultihash_c.a"
 }
 
+tested_on_aarch64() {
+  local -x CC=aarch64-linux-gnu-gcc RUN=$emulator
+  installed_test "$work/aarch64"
+}
+
 fenced_on_aarch64() {
   aarch64-linux-gnu-gcc "${warnings[@]}" -O2 -static crates/multihash_c/c_test/fenced.c -I "$work/aarch64/include" \
     -L "$work/aarch64/lib" -lmultihash_c -o "$work/fenced" && qemu-aarch64 "$work/fenced" 2> "$work/signals"
 }
 
 test_aarch64() {
-  has aarch64 aarch64-linux-gnu-gcc qemu-aarch64 || return
+  has 6 aarch64-linux-gnu-gcc qemu-aarch64 || return
   try "aarch64: building" build arm -DCMAKE_TOOLCHAIN_FILE=packaging/aarch64.cmake -DCMAKE_INSTALL_PREFIX="$work/aarch64"
   try "aarch64: installing" installs_aarch64
-  try "aarch64: the installed test" env CC=aarch64-linux-gnu-gcc RUN="$emulator" packaging/examples/test.sh "$work/aarch64"
+  try "aarch64: the installed test" tested_on_aarch64
   try "aarch64: fenced buffers" fenced_on_aarch64
-  has "packages for arm64" dpkg-buildpackage dh lintian man || return
+  has 2 "${debian[@]}" || return
   try "packages for arm64" build_packages arm64 arm64
   # shellcheck disable=SC2086
   try "a program by the packages for arm64" try_packages arm64 aarch64-linux-gnu aarch64-linux-gnu-gcc \
@@ -268,7 +274,7 @@ from_source() {
 # ---- what takes the same way as the rest, and runs only if all is to be tested
 
 build_for_level() {
-  local crate=${PROVED:-$top}/crates/multihash_c
+  local crate=$PROVED/crates/multihash_c
   (cd "$crate" && rt lib "--cpu=x86-64-$1") && build "$1" -DMULTIHASH_C_ARCHIVE="$crate/out/libmultihash_c.a"
 }
 
@@ -287,24 +293,17 @@ release_twice() {
 }
 
 test_more() {
+  with_all 4 || return
   local name
-  if [ "${ALL-}" != 1 ]; then
-    for name in x86_64-v2 x86_64-v3 "packages for armhf" "a release"; do leave_out "$name" "it runs with ALL=1"; done
-    return
-  fi
-  for name in v2 v3; do has "x86_64-$name" rt && try "x86_64-$name" build_for_level "$name"; done
-  has "packages for armhf" arm-linux-gnueabihf-gcc dpkg-buildpackage dh lintian &&
-    try "packages for armhf" build_packages armhf armhf
-  has "a release" aarch64-linux-gnu-gcc cargo npm dpkg-buildpackage dh && has_crates "a release" &&
-    try "a release" release_twice
+  for name in v2 v3; do has 1 rt && try "x86_64-$name" build_for_level "$name"; done
+  has 1 arm-linux-gnueabihf-gcc "${debian[@]}" && try "packages for armhf" build_packages armhf armhf
+  has 1 aarch64-linux-gnu-gcc cargo npm "${debian[@]}" "${crates[@]}" && try "a release" release_twice
 }
 
-if has "the installation" cc cmake python3 readelf pkg-config; then
-  test_installation
-  test_programs
-  test_packages
-  test_aarch64
-  try "the portable source" from_source
-  test_more
-fi
-finish
+has 28 cc cmake python3 readelf pkg-config || exit 0
+test_installation
+test_programs
+test_packages
+test_aarch64
+try "the portable source" from_source
+test_more

@@ -1,0 +1,190 @@
+#!/usr/bin/env bash
+# The header and the static library for C.
+# It looks at what the library exports and needs, and calls it from C and C++: plain, on buffers between unreadable
+# pages, under sanitizers and under valgrind, with all warnings as errors; and runs the examples.
+# shellcheck source=checks/tap.sh
+. "$(dirname "$0")/tap.sh"
+plan 34
+set -o pipefail
+# shellcheck source=checks/proved.sh
+. checks/proved.sh
+top=$PWD
+crate=$top/crates/multihash_c
+library=$PROVED/crates/multihash_c/out/libmultihash_c.a
+list=$top/crates/vectors/data/verdicts.tsv
+warnings=(-Wall -Wextra -Wpedantic -Wconversion -Wsign-conversion -Wshadow -Wcast-qual -Werror)
+c_flags=(-std=c11 "${warnings[@]}" -Wstrict-prototypes -Wmissing-prototypes)
+cpp_flags=(-std=c++17 "${warnings[@]}")
+
+# ---- the library
+
+build_library() {
+  rm -f "$library"
+  env -C "$PROVED/crates/multihash_c" rt lib --cpu=x86-64 && [ -s "$library" ]
+}
+
+# The archives of the repository have the bytes of this library, and of a second build, which makes both anew.
+prebuilt_archives() {
+  cmp "$library" prebuilt/x86_64/libmultihash_c.a && STEPS=$work/steps tools/generate --check archives
+}
+
+# A copy of the archives in which a byte and its checksum were changed.
+planted_prebuilt() {
+  local archive=aarch64/libmultihash_c.a
+  cp -r prebuilt "$work" && printf x | dd bs=1 seek=9999 conv=notrunc of="$work/prebuilt/$archive" &&
+    (cd "$work/prebuilt" && sha256sum {x86_64,aarch64}/libmultihash_c.a > SHA256SUMS) || return 0
+  TREE=$work STEPS=$work/steps tools/generate --check archives
+}
+
+# The archive exports what the header declares, no more and no less.
+exports_exactly() {
+  checks/header.py --exports > "$work/declared" && [ -s "$work/declared" ] || return 1
+  nm --defined-only --extern-only -f posix "$1" | awk '!/:$/ && NF { print $1 }' | sort |
+    diff "$work/declared" - &&
+    echo "exports the $(wc -l < "$work/declared") functions that the header declares"
+}
+
+# The page of the library names each function that the header declares, and a test in C calls it.
+names_and_calls() {
+  local name
+  checks/header.py --exports > "$work/names" && [ -s "$work/names" ] || return 1
+  while read -r name; do
+    grep -q "\`$name\`" "$1" || { echo "not in $1: $name"; return 1; }
+    grep -q "\b$name(" "$crate"/c_test/{test,decoding,encoding,verdicts}.c || { echo "not called: $name"; return 1; }
+  done < "$work/names"
+}
+
+page_without_one() {
+  sed 's/multihash_head/another/' docs/C.md > "$work/page.md" && names_and_calls "$work/page.md"
+}
+
+# It needs functions that copy and fill memory, and no others.
+needs_copies_alone() {
+  local needed
+  needed=$(nm --undefined-only -f posix "$1" | awk '!/:$/ && NF { print $1 }' | sort -u | tr '\n' ' ')
+  echo "needs: $needed"
+  [ "$needed" = "memcpy memmove memset " ]
+}
+
+# None of its sections is writable, so it keeps no state.
+writes_nothing() {
+  local writable
+  objdump -h "$1" | grep ALLOC > "$work/sections"
+  grep -q CODE "$work/sections" || { echo "no code"; return 1; }
+  writable=$(grep -vc READONLY "$work/sections")
+  echo "sections: $(wc -l < "$work/sections"), $writable of them writable"
+  [ "$writable" = 0 ]
+}
+
+# An archive with a function more, which needs `malloc` and writes data.
+plant_archive() {
+  printf '%s\n' '#include <stdlib.h>' 'static int calls;' 'void *multihash_more(void);' \
+    'void *multihash_more(void) { calls++; return calls > 1 ? malloc(1) : 0; }' > "$work/more.c"
+  cp "$library" "$work/planted.a" && cc -c "$work/more.c" -o "$work/more.o" &&
+    ar r "$work/planted.a" "$work/more.o"
+}
+
+look_at_library() {
+  try "exports" exports_exactly "$library"
+  try "page and tests of the exports" names_and_calls docs/C.md
+  try "a page without one" rejects "not in $work/page.md: multihash_head" page_without_one
+  try "needs" needs_copies_alone "$library"
+  try "state" writes_nothing "$library"
+  try "a planted archive" plant_archive
+  try "exports of a planted archive" rejects "> multihash_more" exports_exactly "$work/planted.a"
+  try "needs of a planted archive" rejects "needs: malloc memcpy memmove memset" needs_copies_alone "$work/planted.a"
+  try "state of a planted archive" rejects " of them writable" writes_nothing "$work/planted.a"
+  try "exports of no archive" rejects "No such file" exports_exactly "$work/none.a"
+  try "needs of no archive" rejects "No such file" needs_copies_alone "$work/none.a"
+  try "state of no archive" rejects "no code" writes_nothing "$work/none.a"
+}
+
+# ---- the header
+
+# The header compiles without other includes, also if it is included twice.
+stands_alone() {
+  printf '#include "multihash.h"\n#include "multihash.h"\nint main(void) { return 0; }\n' > "$work/alone.c"
+  "$@" -I "$crate/include" -fsyntax-only "$work/alone.c"
+}
+
+# ---- programs
+
+# The program `$1`, which the remaining words build, passes; `$2` is a command that runs it, or empty.
+build_and_run() {
+  local to=$work/$1 under=$2
+  shift 2
+  "$@" -I "$crate/include" -o "$to" || return 1
+  # shellcheck disable=SC2086
+  $under "$to" "$list"
+}
+
+# What a compiler has to pass: its command, with the flags for the language.
+test_compiler() {
+  local name=$1 from=("${@:2}") test=("$crate"/c_test/{test,decoding,encoding,verdicts,shared}.c -x none "$library")
+  local sanitize=(-fsanitize=address -fsanitize=undefined -fno-sanitize-recover=all)
+  try "$name, header alone" stands_alone "${from[@]}"
+  try "$name, plain" build_and_run "$name" "" "${from[@]}" -O2 "${test[@]}"
+  try "$name, address and undefined-behaviour sanitizers" build_and_run "$name-san" "" "${from[@]}" -g -O1 "${sanitize[@]}" "${test[@]}"
+}
+
+test_compilers() {
+  test_compiler cc cc "${c_flags[@]}"
+  has 3 c++ && test_compiler c++ c++ "${cpp_flags[@]}" -x c++
+  has 3 clang && test_compiler clang clang "${c_flags[@]}"
+  has 3 clang++ && test_compiler clang++ clang++ "${cpp_flags[@]}" -x c++
+}
+
+# Each access of the library is checked, which the compilers' sanitizers do not see.
+under_valgrind() {
+  build_and_run valgrind "valgrind -q --error-exitcode=9 --leak-check=full --errors-for-leak-kinds=all" cc "${c_flags[@]}" -g -O1 \
+    "$crate"/c_test/{test,decoding,encoding,verdicts,shared}.c "$library"
+}
+
+# A processor without what x86-64-v2 adds.
+on_old_processor() {
+  build_and_run old "qemu-x86_64 -cpu qemu64,-pni,-ssse3,-sse4.1,-sse4.2,-popcnt,-cx16" cc "${c_flags[@]}" \
+    -O2 -static \
+    "$crate"/c_test/{test,decoding,encoding,verdicts,shared}.c "$library"
+}
+
+# The calls that are counted for docs/SPEED.md compile too.
+counted_calls() {
+  cc "${c_flags[@]}" -O2 -I "$crate/include" "$crate/c_test/count.c" "$library" -o "$work/count" &&
+    "$work/count" read_34 10
+}
+
+# C by hand, which is counted beside the library, has the same results: those of the vectors, and of drawn inputs.
+plain_c() {
+  build_and_run plain "" cc "${c_flags[@]}" -O2 "$crate"/c_test/{plain,test,decoding,encoding,verdicts,shared}.c &&
+    cc "${c_flags[@]}" -O2 -I "$crate/include" "$crate"/c_test/{plain,draws}.c -o "$work/draws" &&
+    "$work/draws" 1 100000 | diff - "$crate/c_test/draws.txt"
+}
+
+# The example of docs/C.md is the one that is installed.
+example_in_page() {
+  awk '$0 == "```c" && !seen { on = seen = 1; next } on && /^```/ { exit } on' docs/C.md |
+    diff packaging/examples/show.c - && echo "$(wc -l < packaging/examples/show.c) lines"
+}
+
+# The reader of a stream that is installed, over pipes that are cut at each byte.
+stream_example() {
+  cc "${c_flags[@]}" -I "$crate/include" -I packaging/examples "$crate/c_test/stream.c" "$library" \
+    -o "$work/stream" &&
+    "$work/stream"
+}
+
+# ---- all of it
+
+has 34 cc python3 rt || exit 0
+try "static library" build_library
+try "the prebuilt archives" prebuilt_archives
+try "a planted archive of them" rejects "aarch64/libmultihash_c.a differ: byte 10000" planted_prebuilt
+has 12 nm objdump ar && look_at_library
+test_compilers
+has 1 valgrind && try valgrind under_valgrind
+has 1 qemu-x86_64 && try "a processor of the baseline" on_old_processor
+try "fenced buffers" build_and_run fenced "" cc "${c_flags[@]}" -O2 "$crate/c_test/fenced.c" "$library"
+try "the counted calls" counted_calls
+try "C by hand" plain_c
+try "the example of docs/C.md" example_in_page
+try "the reader of a stream" stream_example

@@ -1,0 +1,107 @@
+#!/usr/bin/env bash
+# The packages for Rust: their tests over the archive and the portable source, from a clone and as packed, in a program
+# that uses upstream's package, and with serde; and their build script.
+# shellcheck source=checks/tap.sh
+. "$(dirname "$0")/tap.sh"
+plan 7
+set -o pipefail
+version=$(sed -n 's/^#define MULTIHASH_VERSION "\([0-9.]*\)"$/\1/p' crates/multihash_c/include/multihash.h)
+
+# Runs a command of Cargo for the packages for Rust; what is set comes first.
+in_crate() {
+  env -u MULTIHASH_C_LIB_DIR RUSTFLAGS="-D warnings" RUSTDOCFLAGS="-D warnings" \
+    bindings/rust/offline.sh "$work" "$@"
+}
+
+# The crate over C has the header's version. The tests pass with and without features, the pages have no warnings.
+rust_binding() {
+  grep -qx "version = \"$version\"" bindings/rust/multihash_c/Cargo.toml && in_crate cargo doc --no-deps &&
+    in_crate cargo test --no-default-features && in_crate cargo test --no-default-features --features alloc &&
+    in_crate cargo test
+}
+
+# A clone without archives has the portable source, which another compiler can build too, also for a target without a
+# C library, for which Rust's core is not installed here.
+rust_source() {
+  local folder=$work/repository target=thumbv7em-none-eabi
+  mv "$folder/prebuilt" "$work/kept" && in_crate cargo test && in_crate cargo clean -p multihash_c &&
+    rejects "no-compiler" in_crate CC=no-compiler cargo build && mv "$work/kept" "$folder/prebuilt" || return 1
+  [ -n "$(type -P clang)" ] || return 0
+  rejects "can't find crate for \`core\`" in_crate CC=clang AR=ar cargo build -p multihash_c --no-default-features \
+    --target "$target" && [ -n "$(find "$work/target/$target" -name libmultihash_c.a)" ]
+}
+
+# What is packed needs no repository: it has the archives, and else the portable source.
+rust_packed() {
+  local packed=$work/packed package
+  bindings/rust/pack.sh "$work" && mkdir "$packed" || return 1
+  for package in multihash-0.19.5 "multihash_c-$version"; do
+    tar xf "$work/target/package/$package.crate" -C "$packed" && cmp LICENSE "$packed/$package/LICENSE" || return 1
+  done
+  printf '[workspace]\n[patch.crates-io]\nmultihash_c.path = "../multihash_c-%s"\n' "$version" \
+    >> "$packed/multihash-0.19.5/Cargo.toml"
+  in_crate cargo test --manifest-path "$packed/multihash-0.19.5/Cargo.toml" &&
+    rm -r "$packed/multihash_c-$version/prebuilt" &&
+    in_crate cargo test --manifest-path "$packed/multihash-0.19.5/Cargo.toml"
+}
+
+# The line of the pages replaces upstream's package by this one in a whole dependency graph, after an update if a
+# Cargo.lock names another version. A crate that asks for an absent feature is an error, and does not undo this.
+rust_switch() {
+  in_crate cargo test --manifest-path switch/Cargo.toml &&
+    in_crate cargo build --manifest-path switch/client/Cargo.toml --no-default-features || return 1
+  local feature
+  for feature in scale-codec arb; do
+    rejects "see its README" in_crate cargo build -p multihash --features "$feature" || return 1
+  done
+  rust_locked
+}
+
+# The same in a program whose Cargo.lock names an empty package multihash 0.19.6, in a registry beside Debian's crates.
+rust_locked() {
+  local program=$work/repository/bindings/rust/locked registry=$work/registry
+  local stub=$registry/multihash-0.19.6 here=(CARGO_HOME="$work/locked" cargo)
+  mkdir -p "$stub/src" "$work/locked" && ln -s "$(sed -n 's/^directory = "\(.*\)"/\1/p' "$work/cargo/config.toml")"/* "$registry" &&
+    sed "s|^directory = .*|directory = \"$registry\"|" "$work/cargo/config.toml" > "$work/locked/config.toml" || return 1
+  : > "$stub/src/lib.rs"
+  echo '{"files":{}}' > "$stub/.cargo-checksum.json"
+  printf '[package]\nname = "multihash"\nversion = "0.19.6"\n[features]\nstd = []\nalloc = []\n' > "$stub/Cargo.toml"
+  printf 'serde-codec = []\n' >> "$stub/Cargo.toml"
+  cp -r "$work/repository/bindings/rust/switch" "$program" && rm -f "$program/Cargo.lock" &&
+    sed -i '/^\[patch/,/^$/d' "$program/Cargo.toml" && in_crate "${here[@]}" generate-lockfile --manifest-path "$program/Cargo.toml" &&
+    grep -A1 'name = "multihash"' "$program/Cargo.lock" | grep 0.19.6 || return 1
+  cp "$work/repository/bindings/rust/switch/Cargo.toml" "$program"
+  in_crate "${here[@]}" tree --manifest-path "$program/Cargo.toml" -i multihash | grep -x 'multihash v0.19.6' &&
+    in_crate "${here[@]}" update --manifest-path "$program/Cargo.toml" -p multihash &&
+    in_crate "${here[@]}" tree --manifest-path "$program/Cargo.toml" -i multihash | grep '^multihash v0.19.5 (/' &&
+    in_crate "${here[@]}" test --manifest-path "$program/Cargo.toml"
+}
+
+rust_serde() {
+  in_crate cargo test --features serde --test json &&
+    in_crate cargo build -p multihash --no-default-features --features serde-codec &&
+    in_crate cargo build --manifest-path switch/client/Cargo.toml --features serde
+}
+
+rust_lints() {
+  in_crate cargo clippy --all-targets && in_crate cargo clippy --no-default-features --all-targets &&
+    in_crate cargo clippy --no-default-features --features alloc
+}
+
+# The archive is found in a directory of any name. A relative path is rejected, and a library that pkg-config does not find.
+rust_build() {
+  local directory=$work/$'a \xff directory'
+  mkdir -p "$directory" && cp prebuilt/x86_64/libmultihash_c.a "$directory" &&
+    in_crate MULTIHASH_C_LIB_DIR="$directory" cargo test -p multihash_c &&
+    rejects "not an absolute path" in_crate MULTIHASH_C_LIB_DIR=prebuilt cargo build &&
+    rejects "multihash_c >= 1.0" in_crate MULTIHASH_C_SYSTEM=1 PKG_CONFIG_LIBDIR="$work/none" cargo build
+}
+
+has 7 cc cargo rustc=1.82+ "/usr/share/cargo/registry/"{cc-1,pkg-config-0.3,serde_json-1}".*" || exit 0
+try "the tests" rust_binding
+try "the portable source" rust_source
+try "the packed packages" rust_packed
+try "the build script" rust_build
+try "the switch from upstream's package" rust_switch
+try serde rust_serde
+has 1 cargo-clippy && try lints rust_lints
