@@ -1,8 +1,8 @@
 #!/usr/bin/env python3
 """Compares what the pages say with the sources.
 
-It compares CONTRACTS.md with the sources, the names in CALLING.md, examples, links, limits and the
-table of checks, and runs README's commands over the program that 'rt ci' built, if BUILT says so;
+It compares CONTRACTS.md with the sources, the names in CALLING.md, of files, examples, links, limits
+and the table of checks, and runs README's commands over the program that 'rt ci' built, if BUILT says so;
 otherwise 'rt run' builds it. The differences of pages.edits are planted in pages and sources.
 """
 import difflib
@@ -38,6 +38,19 @@ LIMITS = {
         "digests have at most {digest} bytes. `multihash_compare` accepts any code and digest, "
         "`multihash_head` any length.",
     ),
+}
+# a path or a file's name; and a path below these folders, in all texts
+PATH = re.compile(
+    r"[\w.@-]+(?:/[\w.@-]+)+"
+    r"|[\w-]+\.(?:antt|c|edits?|h|html|js|json|map|md|py|rs|rt|sh|t|toml|ts|tsv|txt|wasm|yml)"
+)
+BELOW = re.compile(r"(?<![\w./-])(?:\.ci|checks|docs|tools)/[\w./-]*\w")
+# files of programs, and of what is built and installed
+NOT_HERE = {
+    ".cargo/config.toml",
+    "out/libmultihash_c.a",
+    "share/doc/multihash_c/examples",
+    "verified-multihash/inline",
 }
 Texts = dict[str, str]
 
@@ -136,6 +149,27 @@ def link_errors(texts: Texts) -> Iterator[str]:
                 yield f"{page}: a link leads nowhere: {link}"
 
 
+def file_errors(texts: Texts) -> Iterator[str]:
+    """Returns the names of files that are gone, in pages those in backquotes too."""
+    command = ["git", "ls-files", "-co", "--exclude-standard"]
+    listed = subprocess.run(command, cwd=TOP, capture_output=True, text=True, check=True)
+    paths = [Path(path) for path in listed.stdout.splitlines() if (TOP / path).exists()]
+    found = {path for file in paths for path in (file, file.with_suffix(""), *file.parents)}
+    ends = {"/".join(path.parts[at:]) for path in found for at in range(len(path.parts))}
+    for path in map(str, paths):
+        if path.endswith(".edits"):
+            continue
+        text = texts.get(path) or (TOP / path).read_bytes().decode("utf-8", "replace")
+        words = [word for word in BELOW.findall(text) if not (TOP / word).exists()]
+        if path.endswith(".md") and path != CONTRACTS:
+            spans = " ".join(re.findall(r"`([^`\n]+)`", FENCE.sub("", text))).split()
+            named = (word.removeprefix("./").rstrip("/,") for word in spans)
+            words += [word for word in named if PATH.fullmatch(word) and word not in ends]
+        for word in sorted({*words} - NOT_HERE):
+            if "NAME" not in word:
+                yield f"{path}: there is no {word}"
+
+
 def limits() -> dict[str, int]:
     """Returns the limits that the sources have. header.py compares the header with the crate."""
     files = ("mh_show/src/show.rt", "mh_show/src/run.rt", "multihash_c/include/multihash.h")
@@ -206,6 +240,7 @@ CHECKS: dict[str, Callable[[Texts], Iterator[str]]] = {
     "name_errors": name_errors,
     "example_errors": example_errors,
     "link_errors": link_errors,
+    "file_errors": file_errors,
     "limit_errors": limit_errors,
     "check_errors": check_errors,
     "command_errors": command_errors,
