@@ -1,7 +1,9 @@
 """Builds the extension module over an archive of the library for C, or else over its portable source.
 
-The archive is MULTIHASH_C_ARCHIVE, or on Linux the one that the repository has for the machine; an sdist has none.
+The archive is MULTIHASH_C_ARCHIVE, or on Linux the one that the repository has for the machine, whose checksum is
+compared; an sdist has none.
 """
+import hashlib
 import os
 import shutil
 import sys
@@ -24,10 +26,13 @@ if os.path.exists("../../crates/multihash_c"):
         shutil.copyfile("../../" + path, name)
 
 system, _, machine = sysconfig.get_platform().partition("-")
-prebuilt = "../../prebuilt/%s/libmultihash_c.a" % machine
+prebuilt, name = "../../prebuilt/", "%s/libmultihash_c.a" % machine
 archive = os.environ.get("MULTIHASH_C_ARCHIVE")
-if not archive and system == "linux" and sys.maxsize > 2**32 and os.path.exists(prebuilt):
-    archive = prebuilt
+if not archive and system == "linux" and sys.maxsize > 2**32 and os.path.exists(prebuilt + name):
+    archive = prebuilt + name
+    with open(archive, "rb") as file, open(prebuilt + "SHA256SUMS") as sums:
+        if "%s  %s\n" % (hashlib.sha256(file.read()).hexdigest(), name) not in sums:
+            sys.exit("not the archive of prebuilt/SHA256SUMS: " + archive)
 
 core = Extension(
     "verified_multihash._core",

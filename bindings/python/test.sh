@@ -16,7 +16,7 @@ to=
 if [ $# = 2 ]; then mkdir -p "$2" && to=$(readlink -f "$2") || exit 2; fi
 # shellcheck source=checks/tap.sh
 . "$here/../../checks/tap.sh"
-plan 17
+plan 18
 set -o pipefail
 to=${to:-$work}
 header=$PWD/crates/multihash_c/include/multihash.h
@@ -104,6 +104,16 @@ other_version() {
       imports "$here"
 }
 
+# A folder whose archive differs in one byte is not installed.
+altered_archive() {
+  local top=$here/../.. copy=$to/altered archive
+  archive=prebuilt/$(uname -m)/libmultihash_c.a
+  rm -rf "$copy" && mkdir "$copy" && tar -C "$top" -c --exclude=build LICENSE bindings/python packaging/portable prebuilt \
+    crates/{multihash_c/include,vectors/data} | tar -x -C "$copy" &&
+    printf x | dd of="$copy/$archive" bs=1 seek=9999 conv=notrunc && ! cmp "$copy/$archive" "$top/$archive" &&
+    rejects "not the archive of prebuilt/SHA256SUMS" installs "$copy/bindings/python"
+}
+
 # The portable source and the module, built with sanitizers, which the interpreter loads first.
 sanitize="-g -O1 -fsanitize=address,undefined -fno-sanitize-recover=all"
 preloaded() {
@@ -142,8 +152,8 @@ types() {
     grep 'Found 5 errors' wrong.log
 }
 
-has 17 cc "$PYTHON" || exit 0
-"$PYTHON" -c 'import build, setuptools, venv, wheel' 2> "$work/log" || { leave_out "build, setuptools, venv or wheel is not installed" 17 && exit 0; }
+has 18 cc "$PYTHON" || exit 0
+"$PYTHON" -c 'import build, setuptools, venv, wheel' 2> "$work/log" || { leave_out "build, setuptools, venv or wheel is not installed" 18 && exit 0; }
 try "the sdist and the wheel, built twice" builds
 try "the module without warnings" without_warnings
 has 1 objcopy ar && try "archives" looks_at_archive
@@ -161,6 +171,7 @@ has 1 mypy && try "types" types
 try "the times beside plain Python" "$python" "$here/tests/speed.py"
 try "the folder, installed" imports "$here"
 has 1 objcopy ar && try "an archive of another version" other_version
+try "an altered archive" altered_archive
 try "the sdist, installed: the portable source" sdist
 try "sanitizers" under_sanitizers "$to/sdist"
 try "a read after the end of the input" rejects AddressSanitizer planted_read
