@@ -1,5 +1,5 @@
-// Multihashes over the proved library, compiled to WebAssembly. A program imports index.js or inline.js,
-// which connect the functions here to an instance of the module.
+// Multihashes over the proved library, compiled to WebAssembly. A program imports index.js, inline.js or
+// module.js, which connect the functions here to an instance of the module.
 
 /** The most bytes of a digest. */
 export const DIGEST_MAX = 255;
@@ -73,8 +73,8 @@ export async function connectLater(bytes) {
   connectTo(instance.exports);
 }
 
-/** Connects the functions once: index.js and inline.js have the same module, so the first of them serves both. */
-function connectTo(functions) {
+/** Connects the functions once: all entries have the same module, so the first of them serves all. */
+export function connectTo(functions) {
   if (library) return;
   library = functions;
   NUMBERS = Array.from({ length: PREFIX_MAX + 1 }, (_, number) => BigInt(number));

@@ -14,8 +14,4 @@ async function load(place) {
 
 await connectLater(await load(new URL('./multihash.wasm', import.meta.url)));
 
-export {
-  DIGEST_MAX, HEAD_MAX, LENGTH_MAX, SCALE_LENGTH_MAX, Multihash, MultihashError, compare, decode, encode, encodedLength, head, read,
-  scaleDecode, scaleEncode, version,
-} from './core.js';
-export { MultihashReader } from './reader.js';
+export * from './api.js';

@@ -4,8 +4,4 @@ import { connect } from './core.js';
 
 connect(Uint8Array.from(atob(bytes), (letter) => letter.charCodeAt(0)));
 
-export {
-  DIGEST_MAX, HEAD_MAX, LENGTH_MAX, SCALE_LENGTH_MAX, Multihash, MultihashError, compare, decode, encode, encodedLength, head, read,
-  scaleDecode, scaleEncode, version,
-} from './core.js';
-export { MultihashReader } from './reader.js';
+export * from './api.js';

@@ -120,8 +120,10 @@ packed_script() {
   diff "$at/out" "$top/crates/mh_show/stdout" && grep -x 'invalid_size 34' "$at/err" &&
     (cd "$at" && node --no-warnings --input-type=commonjs -e "
       if (process.features.require_module) require('verified-multihash/inline').decode(Uint8Array.of(1, 0));
-      import('verified-multihash').then((found) => console.log(found.decode(Uint8Array.of(1, 0)).code));") |
-    grep -x 1
+      const compiled = new WebAssembly.Module(require('fs').readFileSync(require.resolve('verified-multihash/multihash.wasm')));
+      import('verified-multihash/module').then((found) => console.log(found.connect(compiled), found.decode(Uint8Array.of(2, 0)).code));
+      import('verified-multihash').then((found) => console.log(found.decode(Uint8Array.of(1, 0)).code));" > out) &&
+    sort "$at/out" | paste -sd ' ' | grep -x '1 undefined 2'
 }
 
 # In a browser, pages show texts: each line of standard input is a page, a tab, and a text.
@@ -168,6 +170,8 @@ part "the WebAssembly for old engines" wasm-validate old_module
 part "inputs and what the library for C returns" cc make_data
 part "in Node.js" node in_node "$data"
 part "in Node.js, inline" node in_node "$data" inline
+part "in Node.js, a compiled module" node in_node "$data" module
+part "where nothing is compiled" node node --experimental-vm-modules --no-warnings "$here/test/compiled.js"
 part "a digit that differs" node finds 1 one_digit_differs
 part "a line that is missing" node finds 2 one_line_less
 part "no vectors" node finds 1 no_vectors

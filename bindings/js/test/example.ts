@@ -1,6 +1,7 @@
 // What the types say, for tsc --noEmit --strict.
 import { compare, decode, DIGEST_MAX, encode, encodedLength, head, Multihash, MultihashError, MultihashReader, read, scaleDecode, scaleEncode } from 'verified-multihash';
 import type { Status, Wide } from 'verified-multihash/inline';
+import { connect } from 'verified-multihash/module';
 
 const multihash: Multihash = decode(new Uint8Array([0x12, 0]));
 const exact: bigint = BigInt(multihash.code);
@@ -32,11 +33,14 @@ interface MultihashDigest<Code extends number = number> {
   bytes: Uint8Array;
 }
 const theirs: MultihashDigest = multihash.narrow();
+const connected = (module: object): void => connect(module);
 
 // @ts-expect-error the code may be a bigint
 const wide: MultihashDigest = multihash;
 // @ts-expect-error a text is no bytes
 decode('1200');
+// @ts-expect-error a text is no module
+connect('AGFzbQ==');
 // @ts-expect-error a code is not a text
 encode('18', multihash.digest);
 // @ts-expect-error the code may be a bigint
@@ -49,4 +53,4 @@ new Multihash(18, multihash.digest);
 const { digest: text }: { digest: string } = multihash.toJSON();
 const number: number | string | undefined = MultihashError.from(text)?.toJSON().size;
 
-export { all, encodedLength, form, length, number, order, small, statusOf, taken, text, theirs, wide, wrong };
+export { all, connected, encodedLength, form, length, number, order, small, statusOf, taken, text, theirs, wide, wrong };

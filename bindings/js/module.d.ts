@@ -1,0 +1,6 @@
+export * from './index.js';
+/**
+ * Connects the functions to `multihash.wasm`, a `WebAssembly.Module`, which not all sets of types declare. They cannot
+ * be called before. If an entry has connected them, nothing changes.
+ */
+export function connect(module: object): void;
