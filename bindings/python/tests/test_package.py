@@ -1,5 +1,6 @@
 """Wrong arguments, errors across processes, order, costs, the choice of the library, README.md's examples."""
 import array
+import asyncio
 import copy
 import ctypes
 import doctest
@@ -232,6 +233,64 @@ class Arguments(unittest.TestCase):
         self.assertRaisesRegex(ValueError, "closed file", vm.MultihashReader(file).read)
         for kind, limit in ((ValueError, -1), (TypeError, 3.0), (TypeError, "3")):
             self.assertRaises(kind, vm.MultihashReader, io.BytesIO(), limit)
+
+
+class Streams(unittest.IsolatedAsyncioTestCase):
+    """AsyncMultihashReader over a StreamReader."""
+
+    def setUp(self):
+        self.data = b"".join(bytes(Multihash(1 << 40, bytes([n] * n))) for n in range(4))
+
+    async def test_each_byte(self):
+        """The bytes come one by one; a call that waits for more is ended by a time limit, and loses nothing."""
+        stream, found, waits = asyncio.StreamReader(), [], 0
+        reader = vm.AsyncMultihashReader(stream)
+        for byte in self.data:
+            stream.feed_data(bytes([byte]))
+            try:
+                found.append(await asyncio.wait_for(reader.read(), 0.01))
+            except asyncio.TimeoutError:
+                waits += 1
+        self.assertEqual((b"".join(map(bytes, found)), waits), (self.data, len(self.data) - 4))
+        stream.feed_eof()
+        self.assertIsNone(await reader.read())
+
+    async def test_what_follows(self):
+        stream = asyncio.StreamReader()
+        stream.feed_data(self.data + b"\x01\x05abcdefg")
+        stream.feed_eof()
+        reader = vm.AsyncMultihashReader(stream, limit=4)
+        with self.assertRaises(MultihashError) as raised:
+            found = []
+            async for item in reader:
+                found.append(item)
+        self.assertEqual(b"".join(map(bytes, found)), self.data)
+        self.assertEqual((raised.exception.size, reader.rest, await stream.read()), (5, b"\x01\x05", b"abcdefg"))
+
+    async def test_ends(self):
+        for cut in range(len(self.data) + 1):
+            stream = asyncio.StreamReader()
+            stream.feed_data(self.data[:cut])
+            stream.feed_eof()
+            reader, found = vm.AsyncMultihashReader(stream), []
+            try:
+                async for item in reader:
+                    found.append(item)
+            except MultihashError as error:
+                self.assertTrue(error.is_incomplete)
+                self.assertNotEqual(reader.rest, b"")
+            self.assertEqual(b"".join(map(bytes, found)) + reader.rest, self.data[:cut])
+
+    async def test_wrong_streams(self):
+        class Wrong:
+            async def read(self, _):
+                return self.result
+
+        stream = Wrong()
+        for stream.result, kind in ((None, BlockingIOError), (b"abc", ValueError), ("ab", TypeError)):
+            with self.assertRaises(kind):
+                await vm.AsyncMultihashReader(stream).read()
+        self.assertRaises(ValueError, vm.AsyncMultihashReader, stream, -1)
 
 
 class Values(unittest.TestCase):

@@ -7,7 +7,7 @@ from __future__ import annotations
 
 import io
 import operator
-from typing import TYPE_CHECKING, Any, Iterator, NamedTuple, Optional, Protocol, Tuple, Union
+from typing import TYPE_CHECKING, Any, AsyncIterator, Iterator, NamedTuple, Optional, Protocol, Tuple, Union
 
 from . import _core
 from ._core import Multihash, compare, decode, encode, encoded_len, read, scale_decode, scale_encode
@@ -19,8 +19,8 @@ else:
     Buffer = Union[bytes, bytearray, memoryview]
 
 __all__ = [
-    "DIGEST_MAX", "HEAD_MAX", "LENGTH_MAX", "SCALE_LENGTH_MAX", "Head", "Multihash", "MultihashError",
-    "MultihashReader", "Status", "__version__", "compare", "decode", "encode", "encoded_len", "head", "read",
+    "AsyncMultihashReader", "DIGEST_MAX", "HEAD_MAX", "LENGTH_MAX", "SCALE_LENGTH_MAX", "Head", "Multihash",
+    "MultihashError", "MultihashReader", "Status", "__version__", "compare", "decode", "encode", "encoded_len", "head", "read",
     "read_from", "scale_decode", "scale_encode",
 ]  # fmt: skip
 
@@ -78,21 +78,19 @@ class _Readable(Protocol):
     def read(self, size: int, /) -> Optional[bytes]: ...
 
 
+class _AsyncReadable(Protocol):
+    async def read(self, size: int, /) -> bytes: ...
+
+
 def head(data: Buffer) -> Head:
     """Decodes the code and the digest's length at the front of the bytes, without looking at the digest."""
     return Head(*_core.head(data))
 
 
-class MultihashReader:
-    """Reads concatenated encodings from a binary file: each `read` the next one, and no byte after it.
+class _Reader:
+    """What both readers are, but for the call of the file."""
 
-    `file.read` may return fewer bytes than it is asked for. If it returns None or raises a BlockingIOError, since
-    the file does not block, `read` raises a BlockingIOError, and the next call continues where it stopped. So it does
-    after any error of the file, and after the file has ended within a multihash. Nothing else may read from the
-    file or move it meanwhile. `limit` is the most bytes of a digest.
-    """
-
-    def __init__(self, file: _Readable, limit: int = DIGEST_MAX) -> None:
+    def __init__(self, file: Any, limit: int) -> None:
         self._file = file
         self._limit = operator.index(limit)
         if self._limit < 0:
@@ -104,32 +102,71 @@ class MultihashReader:
         """The bytes that were read and belong to no multihash that was returned."""
         return self._rest
 
-    def read(self) -> Optional[Multihash]:
-        """Returns the next multihash, or None at the end of the file."""
-        while True:
-            wanted = _missing(self._rest, self._limit)
-            chunk = self._chunk(wanted) if wanted else b""
-            if not chunk:
-                break
-            self._rest += chunk
+    def _wanted(self) -> int:
+        return _missing(self._rest, self._limit)
+
+    def _keep(self, chunk: Optional[bytes], wanted: int) -> bool:
+        """Keeps what the file returned, at most that many bytes. False at its end, where these are none."""
+        if chunk is None:
+            raise BlockingIOError("the file has no bytes now")
+        chunk = memoryview(chunk).tobytes()
+        if len(chunk) > wanted:
+            raise ValueError("read(%d) returned %d bytes" % (wanted, len(chunk)))
+        self._rest += chunk
+        return bool(chunk)
+
+    def _decoded(self) -> Optional[Multihash]:
         if not self._rest:
             return None
         multihash = read(self._rest, self._limit)[0]
         self._rest = b""
         return multihash
 
+
+class MultihashReader(_Reader):
+    """Reads concatenated encodings from a binary file: each `read` the next one, and no byte after it.
+
+    `file.read` may return fewer bytes than it is asked for. If it returns None or raises a BlockingIOError, since
+    the file does not block, `read` raises a BlockingIOError, and the next call continues where it stopped. So it does
+    after any error of the file, and after the file has ended within a multihash. Nothing else may read from the
+    file or move it meanwhile. `limit` is the most bytes of a digest.
+    """
+
+    def __init__(self, file: _Readable, limit: int = DIGEST_MAX) -> None:
+        super().__init__(file, limit)
+
+    def read(self) -> Optional[Multihash]:
+        """Returns the next multihash, or None at the end of the file."""
+        wanted = self._wanted()
+        while wanted and self._keep(self._file.read(wanted), wanted):
+            wanted = self._wanted()
+        return self._decoded()
+
     def __iter__(self) -> Iterator[Multihash]:
         return iter(self.read, None)
 
-    def _chunk(self, wanted: int) -> bytes:
-        """At most that many bytes of the file, none at its end."""
-        chunk = self._file.read(wanted)
-        if chunk is None:
-            raise BlockingIOError("the file has no bytes now")
-        chunk = memoryview(chunk).tobytes()
-        if len(chunk) > wanted:
-            raise ValueError("read(%d) returned %d bytes" % (wanted, len(chunk)))
-        return chunk
+
+class AsyncMultihashReader(_Reader):
+    """Reads as a MultihashReader does from a stream whose `read` is awaited, such as an asyncio.StreamReader.
+
+    One call waits at a time. After a call that was cancelled, as by a time limit, the next one continues.
+    """
+
+    def __init__(self, stream: _AsyncReadable, limit: int = DIGEST_MAX) -> None:
+        super().__init__(stream, limit)
+
+    async def read(self) -> Optional[Multihash]:
+        """Returns the next multihash, or None at the end of the stream."""
+        wanted = self._wanted()
+        while wanted and self._keep(await self._file.read(wanted), wanted):
+            wanted = self._wanted()
+        return self._decoded()
+
+    async def __aiter__(self) -> AsyncIterator[Multihash]:
+        multihash = await self.read()
+        while multihash is not None:
+            yield multihash
+            multihash = await self.read()
 
 
 def read_from(file: _Readable, limit: int = DIGEST_MAX) -> Optional[Multihash]:
