@@ -63,6 +63,23 @@ class Waits:
         return self.file.read(min(size, 1))
 
 
+class Fails(io.RawIOBase):
+    """A file that fails once, after some bytes."""
+
+    def __init__(self, data, error):
+        self.data, self.error = io.BytesIO(data), error
+
+    def readable(self):
+        return True
+
+    def readinto(self, buffer):
+        count = self.data.readinto(buffer)
+        if count == 0 and self.error:
+            error, self.error, self.data = self.error, None, io.BytesIO(b"c" + bytes(9))
+            raise error
+        return count
+
+
 class Counts:
     """A number that is one less each time it is asked for."""
 
@@ -210,7 +227,7 @@ class Arguments(unittest.TestCase):
         self.assertEqual((first.rest, second.read(), second.rest), (data[:5], Multihash(1, b""), b""))
 
     def test_readers(self):
-        """A reader goes on after an error of the file, and where the file has grown; a multihash that is none stays."""
+        """A reader goes on where the file has grown; a multihash that is none stays."""
         file, data = io.BytesIO(), bytes(Multihash(18, b"abc"))
         reader = vm.MultihashReader(file, limit=3)
         for cut in range(1, len(data)):
@@ -233,6 +250,15 @@ class Arguments(unittest.TestCase):
         self.assertRaisesRegex(ValueError, "closed file", vm.MultihashReader(file).read)
         for kind, limit in ((ValueError, -1), (TypeError, 3.0), (TypeError, "3")):
             self.assertRaises(kind, vm.MultihashReader, io.BytesIO(), limit)
+
+    def test_failing_files(self):
+        """After an error of a file, which loses bytes if it is buffered, nothing more is read from it."""
+        for error in (TimeoutError, KeyboardInterrupt):
+            file = io.BufferedReader(Fails(b"\1\3ab", error))
+            reader = vm.MultihashReader(file)
+            self.assertRaises(error, reader.read)
+            for _ in range(2):
+                self.assertRaisesRegex(ValueError, "failed before", reader.read)
 
 
 class Streams(unittest.IsolatedAsyncioTestCase):

@@ -96,6 +96,7 @@ class _Reader:
         if self._limit < 0:
             raise ValueError("a limit is not negative")
         self._rest = b""
+        self._has_lost = False  # whether the file may have lost bytes
 
     @property
     def rest(self) -> bytes:
@@ -103,17 +104,23 @@ class _Reader:
         return self._rest
 
     def _wanted(self) -> int:
-        return _missing(self._rest, self._limit)
+        """The number of bytes to read, none if the next result is known."""
+        wanted = _missing(self._rest, self._limit)
+        if wanted and self._has_lost:
+            raise ValueError("the file failed before, so bytes may be lost")
+        return wanted
 
     def _keep(self, chunk: Optional[bytes], wanted: int) -> bool:
         """Keeps what the file returned, at most that many bytes. False at its end, where these are none."""
         if chunk is None:
+            self._has_lost = False
             raise BlockingIOError("the file has no bytes now")
-        chunk = memoryview(chunk).tobytes()
-        if len(chunk) > wanted:
-            raise ValueError("read(%d) returned %d bytes" % (wanted, len(chunk)))
-        self._rest += chunk
-        return bool(chunk)
+        data = memoryview(chunk).tobytes()
+        if len(data) > wanted:
+            raise ValueError("read(%d) returned %d bytes" % (wanted, len(data)))
+        self._rest += data
+        self._has_lost = False
+        return bool(data)
 
     def _decoded(self) -> Optional[Multihash]:
         if not self._rest:
@@ -128,8 +135,8 @@ class MultihashReader(_Reader):
 
     `file.read` may return fewer bytes than it is asked for. If it returns None or raises a BlockingIOError, since
     the file does not block, `read` raises a BlockingIOError, and the next call continues where it stopped. So it does
-    after any error of the file, and after the file has ended within a multihash. Nothing else may read from the
-    file or move it meanwhile. `limit` is the most bytes of a digest.
+    after the file has ended within a multihash. After another error of the file each call is a ValueError: a buffered
+    file loses bytes then. Nothing else may read from the file or move it. `limit` is the most bytes of a digest.
     """
 
     def __init__(self, file: _Readable, limit: int = DIGEST_MAX) -> None:
@@ -138,12 +145,21 @@ class MultihashReader(_Reader):
     def read(self) -> Optional[Multihash]:
         """Returns the next multihash, or None at the end of the file."""
         wanted = self._wanted()
-        while wanted and self._keep(self._file.read(wanted), wanted):
+        while wanted and self._keep(self._chunk(wanted), wanted):
             wanted = self._wanted()
         return self._decoded()
 
     def __iter__(self) -> Iterator[Multihash]:
         return iter(self.read, None)
+
+    def _chunk(self, wanted: int) -> Optional[bytes]:
+        self._has_lost = True  # until the bytes are kept: a signal may raise an error at any place
+        try:
+            chunk: Optional[bytes] = self._file.read(wanted)
+        except BlockingIOError:
+            self._has_lost = False
+            raise
+        return chunk
 
 
 class AsyncMultihashReader(_Reader):
