@@ -135,7 +135,7 @@ export class MultihashReader implements AsyncIterable<Multihash> {
   read(): Promise<Multihash | null>;
   /**
    * Unlocks a `ReadableStream`, for another reader. `rest` has the bytes that were received, and each `read` is
-   * rejected with a `TypeError` from then on, unless the reader has ended before.
+   * rejected with a `TypeError` from then on, unless the reader has ended before. Nothing cancels the source then.
    */
   release(): void;
   /** Cancels the source: `read` returns null from then on, also a call that waits for a `ReadableStream`. */

@@ -8,6 +8,7 @@ export class MultihashReader {
   #at = 0;
   #calls = 0; // those that have not ended
   #last = Promise.resolve();
+  #isReleased = false; // by its user
   #end; // what each call does once the reader has ended: it returns null, or throws an error
 
   /** `limit` is the most bytes of a digest; `rest` holds bytes that precede those of the source. */
@@ -79,18 +80,22 @@ export class MultihashReader {
     }
   }
 
-  /** Unlocks a `ReadableStream`, for another reader: `rest` has what was received. `read` gives an error from then on. */
+  /**
+   * Unlocks a `ReadableStream`, for another reader: `rest` has what was received. `read` gives an error from then on,
+   * and nothing cancels the source.
+   */
   release() {
     this.#end ??= () => {
       throw new TypeError('the reader was released');
     };
+    this.#isReleased = true;
     this.#source.release();
   }
 
-  /** Cancels the source. `read` gives null from then on, also where it waits. */
+  /** Cancels the source, if it was not released. `read` gives null from then on, also where it waits. */
   async cancel(reason) {
     this.#end ??= () => null;
-    await this.#source.close(reason);
+    if (!this.#isReleased) await this.#source.close(reason);
   }
 
   /** Yields each multihash; where the loop is left, the source is cancelled. */

@@ -88,6 +88,14 @@ async function givenUp(module, stream) {
   const next = source.getReader();
   same((await next.read()).value?.[0], stream[34], 'the next byte after a release');
   next.releaseLock();
+  let cancelled = 0;
+  const handed = byteStream(stream, undefined, () => (cancelled += 1));
+  const left = new module.MultihashReader(handed);
+  for await (const multihash of left) {
+    left.release();
+    break;
+  }
+  same(`${cancelled} ${handed.locked}`, '0 false', 'a loop that is left after a release');
   const whole = new module.MultihashReader(chunks(stream));
   await whole.read();
   whole.release();
@@ -98,11 +106,11 @@ async function givenUp(module, stream) {
   }
   const reasons = [];
   for (const [cut, waits] of [[0, true], [20, true], [20, false]]) {
-    const left = byteStream(stream.subarray(0, cut), undefined, (reason) => reasons.push(reason));
-    const reader = new module.MultihashReader(left);
+    const source = byteStream(stream.subarray(0, cut), undefined, (reason) => reasons.push(reason));
+    const reader = new module.MultihashReader(source);
     const pending = waits ? reader.read() : null;
     await reader.cancel(cut);
-    same(`${await pending} ${await reader.read()} ${left.locked}`, 'null null false', 'a reader that was cancelled');
+    same(`${await pending} ${await reader.read()} ${source.locked}`, 'null null false', 'a reader that was cancelled');
   }
   const disposed = new module.MultihashReader(byteStream(stream, undefined, () => reasons.push('disposed')));
   await disposed[Symbol.asyncDispose ?? 'cancel']();
