@@ -1,8 +1,9 @@
 #!/usr/bin/env python3
 """Writes docs/CONTRACTS.md: the public items of crates, with the contracts of their functions.
 
-A line is left out or kept, never changed, so no clause can become weaker, and no public name can
-go, without a difference in that page. Left out are comments, bodies and what is private.
+A line is left out or kept, never changed, so no clause can change, and no public name can go,
+without a difference in that page. What the words of a clause mean is in the definitions of specs/.
+Left out are comments, bodies and what is private.
 """
 import re
 import sys
@@ -14,13 +15,15 @@ from rt_source import Item, items
 
 TOP = Path(__file__).resolve().parent.parent
 PAGE = TOP / "docs" / "CONTRACTS.md"
-CRATES = ("multihash", "multihash_c", "mh_show", "storage")
+PLACES = ("uses/src/headline.rt", "multihash", "multihash_c", "mh_show", "storage")
+# attributes that no caller can see
+OF_BODIES = re.compile(r"#\[(allow|cold|inline|tactic)\b")
 INTRODUCTION = """\
 # Contracts
 
-Written by `checks/contracts.py`, and compared with the sources in CI: the public items of these
-crates, as they stand in their files, without comments and bodies. A difference here is a changed
-promise. [CALLING.md](../crates/multihash/CALLING.md#what-contracts-see) says how to read a clause,
+Written by `checks/contracts.py`, and compared with the sources in CI: the main theorems, then the
+public items of these crates, as they stand in their files, without comments and bodies. A difference
+here is a changed promise; what its words mean is in the definitions of `specs/`. [CALLING.md](../crates/multihash/CALLING.md#what-contracts-see) says how to read a clause,
 and explains its words.
 
 The functions of `laws.rt` and `pins.rt` do nothing: their clauses are laws of the definitions, and
@@ -37,9 +40,12 @@ def kept_lines(text: str) -> Iterator[str]:
 
 def attribute_lines(item: Item, indent: str) -> Iterator[str]:
     """Returns the attributes that a caller can see."""
-    for line in kept_lines(item.attributes):
-        if re.match(r" *#\[(derive|repr|unsafe)", line):
-            yield indent + line.strip()
+    is_seen = False
+    for line in map(str.strip, kept_lines(item.attributes)):
+        if line.startswith("#["):  # else it continues an attribute
+            is_seen = not OF_BODIES.match(line)
+        if is_seen:
+            yield indent + line
 
 
 def function_lines(function: Item, indent: str) -> Iterator[str]:
@@ -120,9 +126,10 @@ def section_of(path: str, text: str) -> str:
 
 def sources() -> dict[str, str]:
     """Returns the text of each file of the crates."""
-    paths = [
-        path for crate in CRATES for path in sorted((TOP / "crates" / crate / "src").rglob("*.rt"))
-    ]
+    paths: list[Path] = []
+    for place in PLACES:
+        path = TOP / "crates" / place
+        paths += [path] if path.is_file() else sorted((path / "src").rglob("*.rt"))
     return {str(path.relative_to(TOP)): path.read_text("utf-8") for path in paths}
 
 
