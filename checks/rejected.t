@@ -7,7 +7,7 @@
 # Each program is built once, or used as 'rt ci' built it, if BUILT says so.
 # shellcheck source=checks/tap.sh
 . "$(dirname "$0")/tap.sh"
-plan 382
+plan 383
 crates=$PWD/crates
 
 # Builds a program, with cached proofs, and runs it on no input.
@@ -44,6 +44,7 @@ expect_malformed() {
   done << 'LIST'
 
 4	390286ce	pair 57 86ce	4	pair 57 86ce	unexpected_eof
+4	390286ce	pair 57 86ce	4	pair 57 86ce	unexpected_eof	-	4
 four	390286ce	pair 57 86ce	4	pair 57 86ce	unexpected_eof	-
 4	390286c	pair 57 86ce	4	pair 57 86ce	unexpected_eof	-
 4		insufficient	-	insufficient	unexpected_eof	-
