@@ -1,7 +1,7 @@
 """Builds the extension module over an archive of the library for C, or else over its portable source.
 
 The archive is MULTIHASH_C_ARCHIVE, or on Linux the one that the repository has for the machine, whose checksum is
-compared; an sdist has none.
+compared. An sdist has none, and looks at no folder above its own: there anyone may have made files.
 """
 import hashlib
 import os
@@ -20,7 +20,8 @@ COPIES = {
     "portable/multihash.h": "crates/multihash_c/include/multihash.h",
     "tests/verdicts.tsv": "crates/vectors/data/verdicts.tsv",
 }
-if os.path.exists("../../crates/multihash_c"):
+in_repository = not os.path.exists("PKG-INFO")
+if in_repository:
     os.makedirs("portable", exist_ok=True)
     for name, path in COPIES.items():
         shutil.copyfile("../../" + path, name)
@@ -28,7 +29,7 @@ if os.path.exists("../../crates/multihash_c"):
 system, _, machine = sysconfig.get_platform().partition("-")
 prebuilt, name = "../../prebuilt/", "%s/libmultihash_c.a" % machine
 archive = os.environ.get("MULTIHASH_C_ARCHIVE")
-if not archive and system == "linux" and sys.maxsize > 2**32 and os.path.exists(prebuilt + name):
+if not archive and in_repository and system == "linux" and sys.maxsize > 2**32 and os.path.exists(prebuilt + name):
     archive = prebuilt + name
     with open(archive, "rb") as file, open(prebuilt + "SHA256SUMS") as sums:
         if "%s  %s\n" % (hashlib.sha256(file.read()).hexdigest(), name) not in sums:

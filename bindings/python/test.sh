@@ -88,10 +88,13 @@ failing_allocations() {
   grep '^test_failing_allocations .* ok$' "$to/memory.log"
 }
 
-# The sdist is all that is needed: its own tests run too.
+# The sdist is all that is needed: its own tests run too. What is in the folders above it is not used.
 sdist() {
-  rm -rf "$to/sdist" && mkdir "$to/sdist" && tar xf "$to"/dist/*.tar.gz -C "$to/sdist" --strip-components=1 || return 1
-  cmp "$here/../../LICENSE" "$to/sdist/LICENSE" && imports "$to"/dist/*.tar.gz &&
+  local above=$to/above
+  rm -rf "$to/sdist" "$above" && mkdir "$to/sdist" && tar xf "$to"/dist/*.tar.gz -C "$to/sdist" --strip-components=1 || return 1
+  mkdir -p "$above/folder" "$above/crates/multihash_c" "$above/prebuilt/$(uname -m)" && cp -r "$to/sdist" "$above/folder" &&
+    touch "$above/prebuilt/$(uname -m)/libmultihash_c.a" "$above/LICENSE" && imports "$above/folder/sdist" &&
+    cmp "$here/../../LICENSE" "$to/sdist/LICENSE" && imports "$to"/dist/*.tar.gz &&
     unit_tests "$to/sdist/tests" -u MULTIHASH_VERDICTS
 }
 
