@@ -9,7 +9,9 @@ int example_main(void);
 #include "check.h"
 
 #include <fcntl.h>
+#include <signal.h>
 #include <string.h>
+#include <sys/time.h>
 
 #define LIMIT 64
 
@@ -136,6 +138,29 @@ static void check_rest(void)
     CHECK(close(ends_of[0]) == 0 && close(ends_of[1]) == 0);
 }
 
+/* Where a signal writes the stream. */
+static int written_at;
+
+static void write_whole(int number)
+{
+    (void)number;
+    if (write(written_at, whole, whole_length) == (ssize_t)whole_length) close(written_at);
+}
+
+/* A read that a signal interrupts goes on. */
+static void check_interrupted(void)
+{
+    const struct sigaction action = {.sa_handler = write_whole}; /* without SA_RESTART */
+    const struct itimerval later = {.it_value = {.tv_usec = 50000}};
+    int ends_of[2];
+    size_t at = 0;
+    CHECK(pipe(ends_of) == 0 && sigaction(SIGALRM, &action, NULL) == 0);
+    written_at = ends_of[1];
+    stream from = {.descriptor = ends_of[0], .limit = LIMIT};
+    CHECK(setitimer(ITIMER_REAL, &later, NULL) == 0 && read_on(&from, &at) == STREAM_END && at == ITEMS);
+    CHECK(close(ends_of[0]) == 0);
+}
+
 /* A stream that is rejected, with nothing of a digest read. */
 static void check_rejected(const char *bytes, size_t length, multihash_status status, uint64_t size,
                            size_t left)
@@ -158,6 +183,7 @@ int main(void)
     for (size_t cut = 0; cut <= whole_length; cut++) check_end(cut);
     check_bytes();
     check_rest();
+    check_interrupted();
     check_rejected("\x12\x41\x07\x07", 4, MULTIHASH_INVALID_SIZE, 65, 2);
     check_rejected("\x12\xff\xff\xff\xff\xff\xff\xff\xff\x7f\x07", 11, MULTIHASH_INVALID_SIZE, INT64_MAX, 1);
     check_rejected("\x80\x00\x07", 3, MULTIHASH_NOT_MINIMAL, 0, 1);
