@@ -455,6 +455,10 @@ class Interpreters(unittest.TestCase):
 
 
 class Names(unittest.TestCase):
+    def test_exports(self):
+        module = ctypes.CDLL(vm._core.__file__)
+        self.assertEqual([hasattr(module, name) for name in ("PyInit__core", "multihash_read")], [True, False])
+
     def test_names(self):
         self.assertEqual([name for name in vm.__all__ if not hasattr(vm, name)], [])
         self.assertTrue(Path(vm.__file__).with_name("py.typed").exists())

@@ -125,7 +125,7 @@ fn errors() {
     let source =
         cut.source().and_then(|source| source.downcast_ref::<std::io::Error>()).expect("an io::Error");
     assert_eq!(
-        (source.kind(), cut.to_string()),
+        (source.kind(), format!("{cut:99.9}")), // without width and precision
         (std::io::ErrorKind::UnexpectedEof, "failed to fill whole buffer".into())
     );
     let boxed: Box<dyn std::error::Error + Send + Sync> = cut.into();
