@@ -70,9 +70,12 @@ shows() {
   run "$1" > "$work/shown" && diff "$work/expected" "$work/shown"
 }
 
+# A folder cannot be read.
 streams() {
   { expected && expected; } > "$work/expected"
-  { documented && documented; } | run "$1" > "$work/shown" && diff "$work/expected" "$work/shown"
+  { documented && documented; } | run "$1" > "$work/shown" && diff "$work/expected" "$work/shown" || return 1
+  run "$1" < "$work" 2> "$work/error"
+  [ $? = 1 ] && grep '^read: ' "$work/error"
 }
 
 # The program prints nothing, a text on standard error, and exits with status 1.
