@@ -114,5 +114,6 @@ fn expect_leaves(rt: &impl Abort, alloc: Global, leaves: &[Multihash<32>]) {
     for index in [0, leaves.len() - 1] {
         let (root, path) = expect_ok!(rt; root_and_path(alloc, leaves, index));
         check!(rt; verify_path(&leaves[index], &path, &root), leaves.len());
+        check!(rt; path.capacity() <= 8, leaves.len());
     }
 }

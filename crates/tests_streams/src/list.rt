@@ -3,7 +3,7 @@ ghost use Rattle.std.specs.Prelude.{◌<◌, ◌^◌};
 
 use fakes::error_kind::{ErrorKind, is_rejected};
 use fakes::readers::{Cuts, FailAt, Silent};
-use fakes::{check, expect_bytes, expect_ok, expect_rejected};
+use fakes::{check, check_eq, expect_bytes, expect_ok, expect_rejected};
 use multihash::list::{read_list, write_list};
 use multihash::no_std_io::Read;
 use multihash::{Error, Multihash, varint};
@@ -44,6 +44,15 @@ fn two_of_a_stream(rt: HostRuntime) {
     }
 }
 
+#[derive(Drop)]
+struct Broken;
+
+impl std::io::Read for Broken {
+    fn read(&mut self, _buf: &mut [u8]) -> std::io::Result<usize> {
+        Err(std::io::ErrorKind::Other.into())
+    }
+}
+
 // The first two of the stream come next, and then its end.
 fn expect_two_and_end(rt: &impl Abort, reader: &mut impl Read) {
     let wanted = expect_ok!(rt; two());
@@ -62,6 +71,10 @@ fn none_at_the_end_of_a_stream(rt: HostRuntime) {
     expect_two_and_end(rt, &mut left);
     expect_two_and_end(rt, &mut Silent(stream));
     expect_two_and_end(rt, &mut StdReader::new(stream));
+    let failed = Multihash::<4>::read(&mut StdReader::new(Broken));
+    expect_rejected!(rt; &failed, ErrorKind::Other("not read"), "a failing reader");
+    let mut reader = StdReader::new([7; 64].as_slice());
+    check_eq!(rt; expect_ok!(rt; reader.read(&mut [0; 64])), 64);
     for most in 1..8 {
         expect_two_and_end(rt, &mut Cuts::new(stream, most));
     }

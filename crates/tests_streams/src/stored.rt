@@ -49,14 +49,18 @@ fn slices_are_read_in_a_row(rt: HostRuntime) {
     check!(rt; is_failed(&chained.read_exact(&mut [0]), ErrorKind::UnexpectedEof));
 }
 
-// One call gives as much of a slice as the buffer has room for.
+// One call gives, or takes, as much as the buffer has room for.
 #[test]
 fn a_long_slice_is_read_at_once(rt: HostRuntime) {
+    let alloc = rt.alloc();
     let rt = &rt;
     let long = [7; 100];
     let slices: [&[u8]; 1] = [&long];
     let mut chained = ChainedSlices::new(&slices);
     check_eq!(rt; expect_ok!(rt; chained.read(&mut [0; 100])), 100);
+    check_eq!(rt; expect_ok!(rt; HashingReader::new(long.as_slice()).read(&mut [0; 100])), 100);
+    check_eq!(rt; expect_ok!(rt; HashingWriter::new(Vec::new(alloc)).write(&long)), 100);
+    check_eq!(rt; expect_ok!(rt; ContentHasher::new().write(&long)), 100);
 }
 
 // The writer fills up after some bytes: those were hashed, and no others.
@@ -149,7 +153,7 @@ fn entries_are_read_back(rt: HostRuntime) {
 fn long_entries_are_read_back(rt: HostRuntime) {
     let alloc = rt.alloc();
     let rt = &rt;
-    for len in [4095, 4096, 4097, 5000, 20000] {
+    for len in [4095, 4096, 4097, 5000, 20000, 70000] {
         let block = expect_ok!(rt; vec![in alloc; 7u8; len]);
         let mut log = Vec::new(alloc);
         expect_ok!(rt; write_entry(&hash_of(&block), &block, &mut log));
@@ -158,6 +162,7 @@ fn long_entries_are_read_back(rt: HostRuntime) {
         expect_bytes!(rt; &entry.block, &block);
         check_eq!(rt; reader.whole, 1 + len.div_ceil(4096), len);
         check_eq!(rt; entry.block.capacity() > len, len > 4096, len);
+        check!(rt; entry.block.capacity() / 2 <= len, len);
     }
 }
 
