@@ -1,17 +1,22 @@
 -- What the definitions exclude: a message that collides with itself, a block that failed though all of it was
--- read, another root of two leaves, no path from one of them, and no entry where there is one.
-use Rattle.std.proofs.Common.{◌≡◌, ◌<◌, ◌++◌, ℕ, zero, suc, List, [], ◌∷◌, length, length-append, append-nil, None, Some, inl, inr, refl, sym, ap, ◌∙◌, arith}
+-- read or though it is too long, another root of two leaves, no path from one of them, and no entry where there
+-- is one. What they do not exclude: paths of which one goes on where the other ends.
+use Rattle.std.proofs.Common.{◌≡◌, ◌<◌, ◌++◌, ℕ, zero, suc, List, [], ◌∷◌, length, length-append, append-nil, Option, None, Some, inl, inr, refl, sym, ap, ◌∙◌, arith}
 use Rattle.std.specs.List.{Contains}
 use Rattle.std.specs.Io.KnownBytes.{prepend_known}
 use Rattle.multihash.specs.Reading.{ConsumesFewerThan}
 use Rattle.multihash.specs.Pair.{Pair}
+use Rattle.multihash.specs.Refusal.{Refusal}
 use Rattle.multihash.proofs.Varints.VarintLemmas.{varint_some}
 use Rattle.storage.specs.Content.{content_pair}
 use Rattle.storage.specs.Merkle.{Collides, PathStep, leaf_pair, parent_pair}
 use Rattle.storage.specs.Levels.{level, level_above, index_above, IsRoot, IsPath, none, without_step, one_more, IsPathToRoot}
 use Rattle.storage.specs.Log.{IsEntry, IsValidPrefix}
 use Rattle.storage.specs.Prefixed.{BlockFails}
+use Rattle.storage.specs.Step.{TurnAlike}
 use Rattle.storage.specs.declared.prefixed.PrefixedError.{PrefixedError}
+use Rattle.storage.specs.declared.prefixed.PrefixedError.TheVariants.{Failed}
+use Rattle.storage.specs.declared.merkle.Step.{Step}
 
 only : (m x : List ℕ) → Contains (m ∷ []) x → m ≡ x
 only m x (zero, within, is) = is
@@ -32,6 +37,13 @@ whole_block : (limit before after : ℕ) (e : PrefixedError) → ¬ (BlockFails 
 whole_block limit before after e (inl (long, over, counted, kept)) = cc
 whole_block limit before after e (inr (within, inl (memory, counted, consumed))) = few consumed
 whole_block limit before after e (inr (within, inr (r, is, fails))) = few fails.consumed
+
+long_block : (before after : ℕ) (e : Refusal) (old new : Option (List ℕ)) → ¬ (BlockFails 0 before after (Failed e) 1 old new)
+long_block before after e old new (inl (long, over, counted, kept)) = cc
+long_block before after e old new (inr (within, fails)) = omega (arith, within)
+
+shorter : (step : Step) → TurnAlike (step ∷ []) [] × TurnAlike [] (step ∷ [])
+shorter step = (inl (step.is_left ∷ [], refl), inr (step.is_left ∷ [], refl))
 
 -- the root of two leaves is their parent, and no leaf
 module _ (a b : Pair) where
