@@ -34,12 +34,14 @@ syntax() {
   fi
   if has 2 black; then
     echo "number  =  1" > "$work/layout.py"
-    try black black --check --diff --line-length 100 $python
-    try "black rejects a planted script" rejects "would reformat" black --check "$work/layout.py"
+    layout=(black --check --line-length 100)
+    try black "${layout[@]}" --diff $python
+    try "black rejects a planted script" rejects "would reformat" "${layout[@]}" "$work/layout.py"
   fi
   if has 2 mypy; then
     echo "def same(number): return number" > "$work/untyped.py"
-    try mypy mypy --strict --cache-dir "$work/mypy" $python
-    try "mypy rejects a planted script" rejects "missing a type annotation" mypy --strict --cache-dir "$work/mypy" "$work/untyped.py"
+    types=(mypy --strict --cache-dir "$work/mypy")
+    try mypy "${types[@]}" $python
+    try "mypy rejects a planted script" rejects "missing a type annotation" "${types[@]}" "$work/untyped.py"
   fi
 }

@@ -133,9 +133,12 @@ try_shows() {
 
 cc -std=c11 -O1 -shared -fPIC -o "$work/memory.so" checks/memory.c -ldl || exit 2
 # A run in which no allocation failed, or which leaks, is not what was wanted.
-for runs in $'right\nright\n1' $'leaks 1\nright\n1'; do
-  echo "$runs" > "$work/planted" && judge "a planted run" 1 1 "$work/planted" | grep -q '^failed: '
-  count $? "a planted run is seen"
+echo 'void *malloc(unsigned long); int main(void) { return !malloc(1); }' | cc -w -x c - -o "$work/leaks" || exit 2
+runs_of "$work/leaks" "" "$work/run" > "$work/leaking"
+printf 'right\nright\n1\n' > "$work/planted"
+for run in "leaking leaks 1" "planted of which 0 fail"; do
+  judge "a planted run" 1 1 "$work/${run%% *}" | grep -q "^failed: .*${run#* }"
+  count $? "a planted run: ${run#* }"
 done
 try_crate tests_values > "$work/tests.lines" &
 try_shows > "$work/shows.lines" &

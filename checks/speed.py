@@ -244,8 +244,8 @@ def results(program: str, rows: Rows) -> Iterator[tap.Result]:
     yield "docs/SPEED.md", "" if has_tables else "it does not have the tables of these numbers"
     has_chart = chart(rows) == CHART.read_text("utf-8")
     yield "docs/speed.svg", "" if has_chart else "it is not the chart of docs/speed.tsv"
-    is_seen = differences({"a": [105]}, {"a": [100]}) and differences({"a": [1]}, {"b": [1]})
-    yield "planted: a count that is 5 % off, and another case", "" if is_seen else "not seen"
+    is_seen = differences({"a": [103]}, {"a": [100]}) and differences({"a": [1]}, {"b": [1]})
+    yield "planted: a count that is 3 % off, and another case", "" if is_seen else "not seen"
     if not can_count():
         why = "no valgrind, or a processor without AVX2"
         yield tap.left_out("the calls from C", why)
