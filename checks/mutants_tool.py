@@ -14,6 +14,8 @@ from collections.abc import Iterator
 from pathlib import Path
 from typing import NamedTuple
 
+import mutants
+import proving
 import tap
 
 TEXTS = {
@@ -102,6 +104,7 @@ pub fn {case.name}(n: u8) -> u16
     made = {
         "crates/small/src/lib.rt": source,
         "crates/small/mutants/lib.edits": edits + DEFINITIONS,
+        "crates/small/mutants/unread.edits": edits + "olds: n\n",
     }
     for path, text in {**TEXTS, **made}.items():
         (root / path).parent.mkdir(parents=True, exist_ok=True)
@@ -134,11 +137,17 @@ def results(root: Path) -> Iterator[tap.Result]:
     """Tries the mutants, and runs that must not pass."""
     printed = start(root, "--definitions").communicate()[0]
     wanted = {case.name: case.reported for case in CASES} | {"less": "", "as_much": "no example"}
+    wanted["unread.edits"] = "in no known form: olds"
     for label, text in wanted.items():
         found = re.findall(rf"(?m)^((?:not )?ok) \d+ - small/{label}\n((?:#   .*\n)*)", printed)
         status = "not ok" if text else "ok"
         is_right = len(found) == 1 and found[0][0] == status and text in found[0][1]
         yield label, "" if is_right else f"reported: {found}"
+    crate = object.__new__(mutants.Crate)
+    crate.known = {"small::next", "small::two"}
+    lines = "./proofs/Lemmas.antt:1:1: error: `a_lemma`: wrong\nfn small::two: open\nlogic=open"
+    others = crate.strays(proving.Output("small", lines, 1), {"small::next"})
+    yield "errors of no mutant", "" if len(others) == 2 else f"reported: {others}"
     runs = {"another name": ["--only", "nothing"], "another crate": ["nothing"]}
     for what, words in runs.items():
         with start(root, *words) as ran:
