@@ -22,10 +22,18 @@ TOP = Path(__file__).resolve().parent.parent
 README, CALLING, FORMAT = "README.md", "crates/multihash/CALLING.md", "docs/FORMAT.md"
 CONTRACTS, C, MAN = "docs/CONTRACTS.md", "docs/C.md", "packaging/mh_show.1"
 ARCHITECTURE = "docs/ARCHITECTURE.md"
+JS, PYTHON = "bindings/js/README.md", "bindings/python/README.md"
 FENCE = re.compile(r"^ *```(\S*)[^\n]*\n(.*?)^ *```$", re.M | re.S)
 # the sentences with limits, or parts of them; limits() has the numbers
 LIMITS = {
-    README: ("more than {input:,} bytes", "at most {length}"),
+    README: (
+        "more than {input:,} bytes",
+        "at most {length}",
+        "with {wasm} kB of WebAssembly",
+        "`wrap` of {over} bytes or more",
+    ),
+    JS: ("module of {wasm} kB.",),
+    PYTHON: ("needs CPython 3.{python} or later",),
     MAN: ("a digest of at most {capacity} bytes.", "The input has at most {input:,} bytes."),
     FORMAT: (
         "and at most {length}:",
@@ -149,8 +157,16 @@ def link_errors(texts: Texts) -> Iterator[str]:
                 yield f"{page}: a link leads nowhere: {link}"
 
 
+def options_gone(command: str) -> list[str]:
+    """Returns the options of a command that its script in the repository does not have."""
+    script, *words = command.split() or [""]
+    text = (TOP / script).read_text("utf-8") if (TOP / script).is_file() else command
+    known = re.findall(r"--[\w-]+", text)
+    return [word for word in words if word.startswith("--") and word.split("=")[0] not in known]
+
+
 def file_errors(texts: Texts) -> Iterator[str]:
-    """Returns the names of files that are gone, in pages those in backquotes too."""
+    """Returns the names of files that are gone, in pages those in backquotes and options too."""
     command = ["git", "ls-files", "-co", "--exclude-standard"]
     listed = subprocess.run(command, cwd=TOP, capture_output=True, text=True, check=True)
     paths = [Path(path) for path in listed.stdout.splitlines() if (TOP / path).exists()]
@@ -162,8 +178,9 @@ def file_errors(texts: Texts) -> Iterator[str]:
         text = texts.get(path) or (TOP / path).read_bytes().decode("utf-8", "replace")
         words = [word for word in BELOW.findall(text) if not (TOP / word).exists()]
         if path.endswith(".md") and path != CONTRACTS:
-            spans = " ".join(re.findall(r"`([^`\n]+)`", FENCE.sub("", text))).split()
-            named = (word.removeprefix("./").rstrip("/,") for word in spans)
+            spans = re.findall(r"`([^`\n]+)`", FENCE.sub("", text))
+            words += [option for span in spans for option in options_gone(span)]
+            named = (word.removeprefix("./").rstrip("/,") for word in " ".join(spans).split())
             words += [word for word in named if PATH.fullmatch(word) and word not in ends]
         for word in sorted({*words} - NOT_HERE):
             if "NAME" not in word:
@@ -172,17 +189,25 @@ def file_errors(texts: Texts) -> Iterator[str]:
 
 def limits() -> dict[str, int]:
     """Returns the limits that the sources have. header.py compares the header with the crate."""
-    files = ("mh_show/src/show.rt", "mh_show/src/run.rt", "multihash_c/include/multihash.h")
-    text = "\n".join((TOP / "crates" / file).read_text("utf-8") for file in files)
+    files = (
+        "crates/mh_show/src/show.rt",
+        "crates/mh_show/src/run.rt",
+        "crates/multihash_c/include/multihash.h",
+        "bindings/python/pyproject.toml",
+    )
+    text = "\n".join((TOP / file).read_text("utf-8") for file in files)
     forms = {
         "capacity": r"Multihash::<(\d+)>::from_bytes",
         "input": r"const MOST_INPUT: usize = (\d+);",
         "digest": r"MULTIHASH_DIGEST_MAX (\d+)\n",
         "length": r"MULTIHASH_LENGTH_MAX (\d+)\n",
         "scale": r"MULTIHASH_SCALE_LENGTH_MAX (\d+)\n",
+        "python": r'requires-python = ">=3\.(\d+)"',
     }
     found = {name: int(re.findall(form, text)[0]) for name, form in forms.items()}
     long = found["length"] - found["digest"]
+    found["wasm"] = round((TOP / "bindings/js/multihash.wasm").stat().st_size / 1000)
+    found["over"] = found["digest"] + 1
     return {**found, "long": long, "short": long - 1}  # a length of one byte less
 
 
@@ -248,16 +273,17 @@ CHECKS: dict[str, Callable[[Texts], Iterator[str]]] = {
 
 
 def planted(texts: Texts) -> Iterator[tap.Result]:
-    """Plants differences, each of which has to be found."""
-    for name, _, seen, its_edits in edits.read(TOP / "checks" / "pages.edits"):
-        changed = edits.apply(texts, its_edits)
-        found = any(CHECKS[seen]({**texts, **changed}))
-        yield f"planted: {name}", "" if found else f"{seen} does not find it"
+    """Plants differences, each of which has to be found, and nothing."""
+    nothing = edits.Planted("nothing", "", "link_errors", [])
+    for name, _, seen, its_edits in [nothing, *edits.read(TOP / "checks" / "pages.edits")]:
+        found = any(CHECKS[seen]({**texts, **edits.apply(texts, its_edits)}))
+        yield f"planted: {name}", "" if found == bool(its_edits) else f"{seen}: found: {found}"
     for page, sentences in LIMITS.items():
-        for sentence in sentences:
-            text = flat(texts[page]).replace(sentence.format(**limits()), "")
-            found = any(limit_errors({**texts, page: text}))
-            yield f"planted in {page}: {sentence}", "" if found else "it is not found"
+        texts_without = (
+            flat(texts[page]).replace(sentence.format(**limits()), "") for sentence in sentences
+        )
+        found = all(any(limit_errors({**texts, page: text})) for text in texts_without)
+        yield f"planted in {page}: a sentence less", "" if found else "it is not found"
 
 
 def results() -> Iterator[tap.Result]:
