@@ -1,14 +1,19 @@
-use Rattle.std.proofs.Common.{◌≡◌, true, get_or, Ok, Err, inl, inr, sym, ap, ◌∙◌, subst, eqb-true, true≢false, rules}
+use Rattle.std.proofs.Common.{◌≡◌, ℕ, List, true, false, get_or, Ok, Err, inl, inr, sym, ap, ◌∙◌, subst, eqb-true, true≢false, rules}
 use Rattle.std.proofs.lemmas.List.Folds.{list_any_at}
 use Rattle.std.specs.Cmp.{nat_eq_equiv}
 use Rattle.std.specs.Prelude.{nat_eq}
-use Rattle.std.specs.List.{Contains}
+use Rattle.std.specs.List.{Contains, list_any}
 use Rattle.std.proofs.lemmas.Map.Views.{Contains-from_any}
 use Rattle.multihash.specs.Pair.{Pair}
 use Rattle.multihash.specs.Multihash.{pair_of}
 use Rattle.multihash.proofs.OutcomeLemmas.{passed_on}
 use Rattle.multihash.proofs.CallingLemmas.{read_of_encoding}
 use Rattle.uses.proofs.code_table.read.Goals as goal
+
+not_in_list : (list : List ℕ) (code also : ℕ) → code ≡ also → list_any (λ b. nat_eq b code) list ≡ false → ¬ (Contains list also)
+not_in_list list code also same none (at, within, is) =
+    let found = subst (λ z. nat_eq (get_or list at also) z ≡ true) (is ∙ sym same) (nat_eq_equiv.refl _) in
+    true≢false (sym (list_any_at (λ b. nat_eq b code) list at also within found) ∙ none)
 
 pub returns-in_err-multihash-clause-other : goal.returns-in_err-multihash-clause-other
 returns-in_err-multihash-clause-other g c p bytes more encodes fits missing rest same =
@@ -43,11 +48,7 @@ pub returns-then-not-contains-clause-found : goal.returns-then-not-contains-clau
 returns-then-not-contains-clause-found g c p bytes more encodes fits allowed rest same =
     let met = c.in_ok-multihash.ensures in
     let told = read_of_encoding g.row.S _ _ _ _ p bytes more (Ok c.in_ok-multihash.multihash) encodes fits rest same met.verdict met.ok in
-    let is : get_or c.args.allowed.now allowed.0 p.code ≡ c.code.result =
-    allowed.2 ∙ sym (c.code.ensures.code ∙ ap (λ (q : Pair). q.code) told.0) in
-    let found = subst (λ z. nat_eq (get_or c.args.allowed.now allowed.0 p.code) z ≡ true) is (nat_eq_equiv.refl _) in
-    let held = list_any_at (λ b. nat_eq b c.code.result) c.args.allowed.now allowed.0 p.code allowed.1 found in
-    absurd (true≢false (sym held ∙ (sym c.contains.ensures.value ∙ c.if-not-contains.true)))
+    absurd (not_in_list _ _ _ (c.code.ensures.code ∙ ap (λ (q : Pair). q.code) told.0) (sym c.contains.ensures.value ∙ c.if-not-contains.true) allowed)
 
 pub returns-in_err-multihash-clause-err : goal.returns-in_err-multihash-clause-err
 returns-in_err-multihash-clause-err g c = passed_on c.from_residual.result _ _ _ c.from_residual.ensures.1
@@ -58,12 +59,7 @@ returns-then-not-contains-clause-err g c =
     let met = c.in_ok-multihash.ensures in
     inr (
       pair_of c.in_ok-multihash.multihash,
-      (λ allowed.
-          let is : get_or c.args.allowed.now allowed.0 (pair_of c.in_ok-multihash.multihash).code ≡ c.code.result =
-          allowed.2 ∙ sym c.code.ensures.code in
-          let found = subst (λ z. nat_eq (get_or c.args.allowed.now allowed.0 (pair_of c.in_ok-multihash.multihash).code) z ≡ true) is (nat_eq_equiv.refl _) in
-          let held = list_any_at (λ b. nat_eq b c.code.result) c.args.allowed.now allowed.0 (pair_of c.in_ok-multihash.multihash).code allowed.1 found in
-          absurd (true≢false (sym held ∙ (sym c.contains.ensures.value ∙ c.if-not-contains.true)))),
+      not_in_list _ _ _ c.code.ensures.code (sym c.contains.ensures.value ∙ c.if-not-contains.true),
       met.ok,
       met.faults,
       search rules,
