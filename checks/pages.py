@@ -31,15 +31,21 @@ LIMITS = {
         "at most {length}",
         "with {wasm} kB of WebAssembly",
         "`wrap` of {over} bytes or more",
+        "exits with status {status}.",
     ),
     JS: ("module of {wasm} kB.",),
     PYTHON: ("needs CPython 3.{python} or later",),
-    MAN: ("a digest of at most {capacity} bytes.", "The input has at most {input:,} bytes."),
+    MAN: (
+        "a digest of at most {capacity} bytes.",
+        "The input has at most {input:,} bytes.",
+        "exits with status {status}.",
+    ),
     FORMAT: (
         "and at most {length}:",
         "at most `S + {short}`",
         "`min(S, {digest}) + {long}`",
         "9 to {scale} bytes",
+        "begin with {continuation} continuation bytes and",
     ),
     CALLING: ("an encoding has at most {length} bytes",),
     C: (
@@ -187,11 +193,13 @@ def file_errors(texts: Texts) -> Iterator[str]:
                 yield f"{path}: there is no {word}"
 
 
-def limits() -> dict[str, int]:
+def limits() -> dict[str, int | str]:
     """Returns the limits that the sources have. header.py compares the header with the crate."""
+    digits = "zero one two three four five six seven eight nine".split()
     files = (
         "crates/mh_show/src/show.rt",
         "crates/mh_show/src/run.rt",
+        "crates/multihash/specs/Varint.antt",
         "crates/multihash_c/include/multihash.h",
         "bindings/python/pyproject.toml",
     )
@@ -202,13 +210,17 @@ def limits() -> dict[str, int]:
         "digest": r"MULTIHASH_DIGEST_MAX (\d+)\n",
         "length": r"MULTIHASH_LENGTH_MAX (\d+)\n",
         "scale": r"MULTIHASH_SCALE_LENGTH_MAX (\d+)\n",
+        "status": r"tell\(alloc, err, &e\);\n +(\d+)\n",
+        "continuation": r"\nmax_continuation = (\d)\n",
         "python": r'requires-python = ">=3\.(\d+)"',
     }
     found = {name: int(re.findall(form, text)[0]) for name, form in forms.items()}
     long = found["length"] - found["digest"]
     found["wasm"] = round((TOP / "bindings/js/multihash.wasm").stat().st_size / 1000)
     found["over"] = found["digest"] + 1
-    return {**found, "long": long, "short": long - 1}  # a length of one byte less
+    continuation = digits[found["continuation"]]
+    # a length of one byte less
+    return {**found, "long": long, "short": long - 1, "continuation": continuation}
 
 
 def limit_errors(texts: Texts) -> Iterator[str]:
