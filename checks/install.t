@@ -4,7 +4,7 @@
 # archives, in an emulator for aarch64, and of the portable source.
 # shellcheck source=checks/tap.sh
 . "$(dirname "$0")/tap.sh"
-plan 28
+plan 30
 set -o pipefail
 # shellcheck source=checks/proved.sh
 . checks/proved.sh
@@ -118,6 +118,14 @@ another_function() {
     exports_exactly "$prefix/lib/libmultihash_c.so" "$work/planted.map"
 }
 
+# An archive of prebuilt/ that differs in one byte is not built.
+altered_archive() {
+  local copy=$work/altered
+  mkdir -p "$copy/crates" && cp -r CMakeLists.txt packaging prebuilt "$copy" && cp -r crates/multihash_c "$copy/crates" &&
+    printf x | dd of="$copy/prebuilt/$(uname -m)/libmultihash_c.a" bs=1 seek=9999 conv=notrunc status=none &&
+    rejects "not the archive of prebuilt/SHA256SUMS" cmake -S "$copy" -B "$work/altered.built"
+}
+
 test_installation() {
   try "building" build built -DCMAKE_INSTALL_PREFIX="$prefix"
   try "installing" installs
@@ -128,6 +136,7 @@ test_installation() {
   try "a planted installation" plant_installed
   try "the installed test of it" rejects "failed: static: a non-minimal varint" installed_test "$work/planted"
   try "the installed test of nothing" rejects "no multihash_c.pc" packaging/examples/test.sh "$work/none"
+  try "an altered archive" altered_archive
 }
 
 # ---- programs
@@ -271,6 +280,15 @@ from_source() {
     is_installed "$work/source.prefix" lib && installed_test "$work/source.prefix"
 }
 
+# Flags of a distribution reach the compiler and the linker, and hide no function of the shared library.
+with_flags() {
+  local library=$work/flags/libmultihash_c.so object=CMakeFiles/multihash_c_objects.dir/packaging/portable/multihash.c.o
+  CFLAGS="-fvisibility=hidden -fcf-protection" LDFLAGS=-Wl,--build-id=0x01234567 cmake -S "$top" -B "$work/flags" \
+    -DMULTIHASH_C_ARCHIVE=OFF -DBUILD_TESTING=OFF && cmake --build "$work/flags" &&
+    exports_exactly "$library" packaging/portable/multihash_c.map && readelf -n "$library" | grep 'Build ID: 01234567' &&
+    readelf -n "$work/flags/$object" | grep 'IBT, SHSTK'
+}
+
 # ---- what takes the same way as the rest, and runs only if all is to be tested
 
 build_for_level() {
@@ -286,9 +304,19 @@ changed_archive() {
     rejects "not that of prebuilt/SHA256SUMS" "$changed/tools/release" "$work/wrong"
 }
 
+# The bill of materials of a release has the checksum of each file.
+has_materials() {
+  local name sum
+  python3 -m json.tool "$1"/*.spdx.json > "$work/materials" || return 1
+  while read -r sum name; do
+    [[ $name = *.spdx.json ]] || grep -F -A 12 "\"name\": \"$name\"" "$work/materials" | grep -F "$sum" || return 1
+  done < "$1/SHA256SUMS"
+}
+
 # A release has the same bytes each time, and their checksums.
 release_twice() {
   changed_archive && tools/release "$work/release" && (cd "$work/release" && sha256sum --quiet -c SHA256SUMS) &&
+    has_materials "$work/release" &&
     tools/release "$work/again" && diff -r "$work/release" "$work/again" && find "$work/again" -type f | wc -l
 }
 
@@ -300,10 +328,11 @@ test_more() {
   has 1 aarch64-linux-gnu-gcc cargo npm "${debian[@]}" "${crates[@]}" && try "a release" release_twice
 }
 
-has 28 cc cmake python3 readelf pkg-config || exit 0
+has 30 cc cmake python3 readelf pkg-config || exit 0
 test_installation
 test_programs
 test_packages
 test_aarch64
 try "the portable source" from_source
+try "flags of a distribution" with_flags
 test_more

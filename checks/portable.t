@@ -4,7 +4,7 @@
 # sanitizers, on other machines in emulators, and against the archive's results.
 # shellcheck source=checks/tap.sh
 . "$(dirname "$0")/tap.sh"
-plan 25
+plan 26
 set -o pipefail
 # shellcheck source=checks/proved.sh
 . checks/proved.sh
@@ -161,13 +161,14 @@ on_windows() {
   if [ -d "$WINEPREFIX" ]; then wineserver -k; fi
 }
 
-has 25 cc python3 || exit 0
+has 26 cc python3 || exit 0
 if has 9 rt wasm2c=1.0.32 wasm2wat=1.0.32 wat2wasm=1.0.32; then
   try "the generated file" generated
   try "a wrong byte of it" rejects "module.h differ: " planted_generated
   test_translation
 fi
 test_here
+has 1 clang && try "fuzzing" crates/multihash_c/fuzz/test.sh
 with_all 1 && on_machine aarch64 aarch64-linux-gnu qemu-aarch64
 with_all 1 && on_machine riscv64 riscv64-linux-gnu qemu-riscv64
 on_machine "armhf, 32 bits" arm-linux-gnueabihf qemu-arm

@@ -9,7 +9,7 @@ here=$(dirname "$(readlink -f "${BASH_SOURCE[0]}")")
 archive=$(readlink -f "${1:-$here/../../prebuilt/$(uname -m)/libmultihash_c.a}")
 # shellcheck source=checks/tap.sh
 . "$here/../../checks/tap.sh"
-plan 24
+plan 26
 set -o pipefail
 # shellcheck source=checks/proved.sh
 . checks/proved.sh
