@@ -2,8 +2,8 @@
 """Writes docs/CONTRACTS.md: the public items of crates, with the contracts of their functions.
 
 A line is left out or kept, never changed, so no clause can change, and no public name can go,
-without a difference in that page. What the words of a clause mean is in the definitions of specs/.
-Left out are comments, bodies and what is private.
+without a difference in that page. Left out are comments, bodies and what is private. The words of
+the clauses follow, with the comments of their definitions.
 """
 import re
 import sys
@@ -23,8 +23,8 @@ INTRODUCTION = """\
 
 Written by `checks/contracts.py`, and compared with the sources in CI: the main theorems, then the
 public items of these crates, as they stand in their files, without comments and bodies. A difference
-here is a changed promise; what its words mean is in the definitions of `specs/`. [CALLING.md](../crates/multihash/CALLING.md#what-contracts-see) says how to read a clause,
-and explains its words.
+here is a changed promise. [CALLING.md](../crates/multihash/CALLING.md#what-contracts-see) says how to
+read a clause; its words are [at the end](#words).
 
 The functions of `laws.rt` and `pins.rt` do nothing: their clauses are laws of the definitions, and
 fix what implementations expose.
@@ -125,12 +125,34 @@ def section_of(path: str, text: str) -> str:
 
 
 def sources() -> dict[str, str]:
-    """Returns the text of each file of the crates."""
+    """Returns the text of each file of the crates, and of their definitions."""
     paths: list[Path] = []
     for place in PLACES:
         path = TOP / "crates" / place
         paths += [path] if path.is_file() else sorted((path / "src").rglob("*.rt"))
+    for crate in sorted({place.split("/")[0] for place in PLACES}):
+        paths += sorted((TOP / "crates" / crate / "specs").glob("*.antt"))
     return {str(path.relative_to(TOP)): path.read_text("utf-8") for path in paths}
+
+
+def with_parameters(name: str, kind: str, rest: str, next_line: str) -> str:
+    """Returns a word with its parameters, if one line has names for them."""
+    if kind == "record ":
+        head = re.fullmatch(r"(.*) : Type \d+( where)?", re.sub(r" \{[^{}]*\}", "", rest))
+        form = r" \(([^:()]*) : (?:[^()]|\([^()]*\))*\)"
+        return name + re.sub(form, r" \1", head[1]) if head else name
+    equation = next_line.partition(" =")[0]
+    is_plain = re.fullmatch(re.escape(name) + r"( [a-z]\w*| [A-Z])+", equation)
+    return equation if is_plain else name
+
+
+def word_rows(definitions: str, used: set[str]) -> Iterator[str]:
+    """Returns a row for each of the words that are used and defined in a file."""
+    form = r"^((?:-- [^\n]*\n)+)(?:abbrev )?pub (?!mod )(record |data |)([\w-]+)([^\n]*)\n([^\n]*)"
+    for comment, kind, name, *rest in re.findall(form, definitions, re.M):
+        if name in used:
+            text = " ".join(line[3:] for line in comment.splitlines())
+            yield f"| `{with_parameters(name, kind, *rest)}` | {text} |"
 
 
 def written_page(texts: dict[str, str]) -> str:
@@ -138,9 +160,17 @@ def written_page(texts: dict[str, str]) -> str:
     page, last = INTRODUCTION, ""
     for path, text in texts.items():
         crate = path.split("/")[1]
-        page += f"\n## {crate}\n" if crate != last else ""
-        page += section_of(path, text)
-        last = crate
+        if path.endswith(".rt"):
+            page += f"\n## {crate}\n" if crate != last else ""
+            page += section_of(path, text)
+            last = crate
+    used = {*re.findall(r"[\w-]+", page)}
+    page += "\n## Words\n\nThose that the clauses above use, by the files that define them.\n"
+    for path, text in texts.items():
+        rows = [*word_rows(text, used)] if path.endswith(".antt") else []
+        if rows:
+            page += f"\n### [{path}](../{path})\n\n| Word | Meaning |\n|---|---|\n"
+            page += "\n".join(rows) + "\n"
     return page
 
 

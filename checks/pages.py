@@ -2,37 +2,34 @@
 """Compares what the pages say with the sources.
 
 It compares CONTRACTS.md with the sources, the names in CALLING.md, of files, examples, links, limits
-and the table of checks, and runs README's commands over the program that 'rt ci' built, if BUILT says so;
-otherwise 'rt run' builds it. The differences of pages.edits are planted in pages and sources.
+and the table of checks, and runs README's commands and programs: mh_show as 'rt ci' built it, if
+BUILT says so, otherwise 'rt run' builds it. The differences of pages.edits are planted in pages and
+sources.
 """
 import difflib
 import os
 import re
 import subprocess
 import sys
+import tempfile
 from collections.abc import Callable, Iterator
 from pathlib import Path
 
 import contracts
 import edits
+import start
 import tap
 from rt_source import Unread, functions
 
 TOP = Path(__file__).resolve().parent.parent
 README, CALLING, FORMAT = "README.md", "crates/multihash/CALLING.md", "docs/FORMAT.md"
 CONTRACTS, C, MAN = "docs/CONTRACTS.md", "docs/C.md", "packaging/mh_show.1"
-ARCHITECTURE = "docs/ARCHITECTURE.md"
+ARCHITECTURE, SPEED = "docs/ARCHITECTURE.md", "docs/SPEED.md"
 JS, PYTHON = "bindings/js/README.md", "bindings/python/README.md"
 FENCE = re.compile(r"^ *```(\S*)[^\n]*\n(.*?)^ *```$", re.M | re.S)
 # the sentences with limits, or parts of them; limits() has the numbers
 LIMITS = {
-    README: (
-        "more than {input:,} bytes",
-        "at most {length}",
-        "with {wasm} kB of WebAssembly",
-        "`wrap` of {over} bytes or more",
-        "exits with status {status}.",
-    ),
+    README: ("`wrap` of {over} bytes or more",),
     JS: ("module of {wasm} kB.",),
     PYTHON: ("needs CPython 3.{python} or later",),
     MAN: (
@@ -41,11 +38,12 @@ LIMITS = {
         "exits with status {status}.",
     ),
     FORMAT: (
-        "and at most {length}:",
+        "2 to {length} bytes",
         "at most `S + {short}`",
         "`min(S, {digest}) + {long}`",
         "9 to {scale} bytes",
         "begin with {continuation} continuation bytes and",
+        "{input:,} bytes, a digest of {capacity}",
     ),
     CALLING: ("an encoding has at most {length} bytes",),
     C: (
@@ -65,6 +63,7 @@ NOT_HERE = {
     "out/libmultihash_c.a",
     "share/doc/multihash_c/examples",
     "verified-multihash/inline",
+    "verified-multihash/module",
 }
 Texts = dict[str, str]
 
@@ -87,7 +86,7 @@ def flat(text: str) -> str:
 
 def contract_errors(texts: Texts) -> Iterator[str]:
     """Compares CONTRACTS.md with the sources."""
-    sources = {path: text for path, text in texts.items() if path.endswith(".rt")}
+    sources = {path: text for path, text in texts.items() if path.endswith((".rt", ".antt"))}
     try:
         page = contracts.written_page(sources)
     except Unread as error:
@@ -125,16 +124,16 @@ def example_errors(texts: Texts) -> Iterator[str]:
     crates = [TOP / "crates" / crate / "src" for crate in ("uses", "storage", "example")]
     callers = [path for crate in crates for path in crate.rglob("*.rt")]
     sources = "\n".join(code for path in callers for code in code_of(path))
-    for page in (README, CALLING):
-        examples = [body for language, body in FENCE.findall(texts[page]) if language == "rust"]
-        if not examples:
-            yield f"{page} has no example"
-        for paragraph in (part for body in examples for part in body.split("\n\n")):
-            if flat(paragraph).replace("pub ", "") not in sources:
-                yield f"{page}: no source has this: {paragraph}"
-        for language, _ in FENCE.findall(texts[page]):
-            if language not in ("rust", "sh", "text", ""):
-                yield f"{page}: a block is in {language}"
+    blocks = FENCE.findall(texts[CALLING])
+    examples = [body for language, body in blocks if language == "rust"]
+    if not examples:
+        yield f"{CALLING} has no example"
+    for paragraph in (part for body in examples for part in body.split("\n\n")):
+        if flat(paragraph).replace("pub ", "") not in sources:
+            yield f"{CALLING}: no source has this: {paragraph}"
+    for language, _ in blocks:
+        if language not in ("rust", "sh", "text", ""):
+            yield f"{CALLING}: a block is in {language}"
 
 
 def anchors(text: str) -> set[str]:
@@ -193,6 +192,20 @@ def file_errors(texts: Texts) -> Iterator[str]:
                 yield f"{path}: there is no {word}"
 
 
+def table_errors(texts: Texts) -> Iterator[str]:
+    """Returns the rows that have not the cells of their table's first two lines."""
+    for page, text in pages_of(texts).items():
+        cells: list[int] = []
+        for line in FENCE.sub("", text).splitlines():
+            if not line.startswith("|"):
+                cells = []
+                continue
+            cells.append(len(re.findall(r"\|", re.sub(r"`[^`]*`|\\\|", "", line))))
+            is_second = len(cells) == 2 and not re.fullmatch(r"[|:-]+", line)
+            if cells[0] != cells[-1] or not line.endswith("|") or is_second:
+                yield f"{page}: this is no row of a table: {line}"
+
+
 def limits() -> dict[str, int | str]:
     """Returns the limits that the sources have. header.py compares the header with the crate."""
     digits = "zero one two three four five six seven eight nine".split()
@@ -230,6 +243,37 @@ def limit_errors(texts: Texts) -> Iterator[str]:
                 yield f"{page} does not say: {sentence.format(**limits())}"
 
 
+def share_errors(texts: Texts) -> Iterator[str]:
+    """Compares the calls of which the Rust crate needs fewer instructions with speed.tsv."""
+    shares: dict[str, list[float]] = {}
+    for line in (TOP / "docs/speed.tsv").read_text("utf-8").splitlines()[1:]:
+        case, here, tuned, *_ = line.split("\t")
+        if int(here) / int(tuned) > 1.05:
+            shares.setdefault(case.split()[0], []).append(int(here) / int(tuned))
+    page = texts[SPEED].partition("## Where the Rust crate needs fewer")[2]
+    rows = re.findall(r"^\| (`\w+`|others) \| (\d+) \| ([\d.]+) to ([\d.]+) \|", page, re.M)
+    if len(rows) < 7:
+        yield f"{SPEED} does not say of which calls"
+    for name, count, low, high in rows:
+        found = shares.get(name.strip("`"), [])
+        off = [abs(float(low) - min(found)), abs(float(high) - max(found))] if found else [0.0]
+        if name != "others" and (len(found) != int(count) or max(off) > 0.0501):
+            yield f"{SPEED}: {name} has other shares"
+    said = f"In {sum(map(len, shares.values()))} of the "
+    if said not in page:
+        yield f"{SPEED} does not say: {said}"
+
+
+def status_errors(texts: Texts) -> Iterator[str]:
+    """Compares the table of errors in C.md with the header."""
+    header = (TOP / "crates/multihash_c/include/multihash.h").read_text("utf-8")
+    numbers = re.findall(r"^ +(MULTIHASH_\w+) = (\d+)", header, re.M)
+    said = dict(re.findall(r"case (MULTIHASH_\w+):\s*return \"([^\"]*)\";", header))
+    rows = re.findall(r"^\| `(MULTIHASH_\w+)` \| (\d+) \| ([^|]*) \|", texts[C], re.M)
+    if rows != [(name, number, said.get(name)) for name, number in numbers]:
+        yield f"{C}: its table of errors is not that of the header"
+
+
 def check_errors(texts: Texts) -> Iterator[str]:
     """Compares the table of checks in ARCHITECTURE.md with the files."""
     rows = set(re.findall(r"^\| `(\w+)` \|", texts[ARCHITECTURE].partition("| Check |")[2], re.M))
@@ -247,29 +291,61 @@ def commands_of(readme: str) -> Iterator[str]:
 
 
 def command_errors(texts: Texts) -> Iterator[str]:
-    """Runs the quick start, and looks for other commands, outputs and the line of crates.txt."""
-    blocks = {body for _, body in FENCE.findall(texts[README])}
-    shown, printed = (
-        (TOP / "crates" / crate / "stdout").read_text("utf-8") for crate in ("mh_show", "example")
-    )
-    crates = (TOP / "crates.txt").read_text("utf-8").splitlines(keepends=True)
-    library = next(line for line in crates if line.startswith("multihash:"))
-    if not {shown, printed, f"app: multihash\n{library}"} <= blocks:
-        yield "it shows another output than a program's stdout, or another line than crates.txt"
+    """Runs the commands that need no installation, and looks for other commands and outputs."""
+    shown = (TOP / "crates/mh_show/stdout").read_text("utf-8")
+    if shown not in {body for _, body in FENCE.findall(texts[README])}:
+        yield "it shows another output than that of mh_show"
     commands = [command for command in commands_of(texts[README]) if command]
-    if sum("rt" in command.split() for command in commands) < 2:
-        yield "it does not show the two commands of the quick start"
-    for command in commands:
-        if "rt" not in command.split():
-            if not os.access(TOP / command.removeprefix("bash ").split()[0], os.X_OK):
-                yield f"there is no {command}"
-            continue
-        if os.environ.get("BUILT") == "rt ci":
-            command = command.replace("rt run", "out/mh_show")
-        ran = subprocess.run(["bash", "-c", command], cwd=TOP, capture_output=True, text=True)
-        if ran.returncode != 0 or not ran.stdout.startswith(shown):
-            printed = f"{ran.stdout!r}, {ran.stderr[-300:]!r}"
-            yield f"{command}: status {ran.returncode}, printed {printed}"
+    for tool in ("rt", "cc"):
+        if not any(tool in command.split() for command in commands):
+            yield f"it has no command that runs {tool}"
+    with tempfile.TemporaryDirectory() as work:
+        start.copy_repository(copy := Path(work) / "copy")
+        for command in commands:
+            if not {"rt", "cc"} & set(command.split()):
+                if not os.access(TOP / command.removeprefix("bash ").split()[0], os.X_OK):
+                    yield f"there is no {command}"
+                continue
+            where = copy if "cc" in command.split() else TOP
+            if os.environ.get("BUILT") == "rt ci":
+                command = command.replace("rt run", "out/mh_show")
+            words = ["bash", "-c", command]
+            ran = subprocess.run(words, cwd=where, capture_output=True, text=True)
+            if ran.returncode != 0 or not ran.stdout.startswith(shown):
+                printed = f"{ran.stdout!r}, {ran.stderr[-300:]!r}"
+                yield f"{command}: status {ran.returncode}, printed {printed}"
+
+
+def program_results(texts: Texts) -> Iterator[tap.Result]:
+    """Installs each package and runs its program, and plants another output and another package."""
+    shown = {}
+    with tempfile.TemporaryDirectory() as work:
+        start.copy_repository(copy := Path(work) / "copy")
+        for program in start.programs(texts[README]):
+            other = program._replace(install=program.install.replace("$MH", "$MH/none"))
+            planted = [other] if program.language == "JavaScript" else []
+            name, gone = f"{README}, {program.language}", start.missing(program.language)
+            for number, each in enumerate([program, *planted]):
+                which = f"planted: {name}" if number else name
+                if gone:
+                    yield tap.left_out(which, f"{gone} is not installed")
+                    continue
+                error, text = start.run(each, copy, Path(work) / f"{program.language}{number}")
+                if number:
+                    yield which, "" if error else "it is not found"
+                else:
+                    yield which, error
+                    shown[program.language] = text
+    yield "what the programs print", "\n".join(start.judge(texts[README], shown))
+    for old, new in (
+        (start.SHOWN, "another"),
+        ("| [C, C++]", "| C, C++ |"),
+        ("// hello.mjs", "//"),
+    ):
+        found = any(start.judge(texts[README].replace(old, new), shown))
+        yield f"planted in {README}: {old}", "" if found else "it is not found"
+    is_seen = any(start.judge(texts[README], {"C": "code 1, digest hello"}))
+    yield "planted: another output", "" if is_seen else "it is not found"
 
 
 CHECKS: dict[str, Callable[[Texts], Iterator[str]]] = {
@@ -278,7 +354,10 @@ CHECKS: dict[str, Callable[[Texts], Iterator[str]]] = {
     "example_errors": example_errors,
     "link_errors": link_errors,
     "file_errors": file_errors,
+    "table_errors": table_errors,
     "limit_errors": limit_errors,
+    "status_errors": status_errors,
+    "share_errors": share_errors,
     "check_errors": check_errors,
     "command_errors": command_errors,
 }
@@ -302,6 +381,7 @@ def results() -> Iterator[tap.Result]:
     texts = read_texts()
     for name, check in CHECKS.items():
         yield name, "\n".join(check(texts))
+    yield from program_results(texts)
     yield from planted(texts)
 
 

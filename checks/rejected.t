@@ -80,28 +80,7 @@ expect_rejected() {
   local text reason
   while IFS='|' read -r text reason; do
     expect_show "mh_show: $reason\n1" "$text"
-  done << 'LIST'
-|not enough input bytes
-\n|not enough input bytes
-00|not enough input bytes
-0041|Invalid multihash size 65.
-008001|Invalid multihash size 128.
-00ffffffffffffffff7f|Invalid multihash size 9223372036854775807.
-8000|encoding is not minimal
-808080808080808000|encoding is not minimal
-0001|failed to fill whole buffer
-00000000|Invalid multihash size 2.
-ffffffffffffffffff|input bytes exceed maximum
-ffffffffffffffffff0200|input bytes exceed maximum
-0|not hexadecimal
-0\n|not hexadecimal
-zz|not hexadecimal
-00\n\n|not hexadecimal
-0000\r\n|not hexadecimal
-000\r\n|not hexadecimal
-0x0000|not hexadecimal
- 0000|not hexadecimal
-LIST
+  done < <(sed 1d checks/not_shown.txt)
 }
 
 # Streams of mh_show that fail or never end. The first error is reported.

@@ -111,8 +111,8 @@ other_version() {
 altered_archive() {
   local top=$here/../.. copy=$to/altered archive
   archive=prebuilt/$(uname -m)/libmultihash_c.a
-  rm -rf "$copy" && mkdir "$copy" && tar -C "$top" -c --exclude=build LICENSE bindings/python packaging/portable prebuilt \
-    crates/{multihash_c/include,vectors/data} | tar -x -C "$copy" &&
+  rm -rf "$copy" && mkdir "$copy" && tar -C "$top" -c --exclude=build LICENSE bindings/python checks/not_shown.txt packaging/portable \
+    prebuilt crates/{multihash_c/include,vectors/data} | tar -x -C "$copy" &&
     printf x | dd of="$copy/$archive" bs=1 seek=9999 conv=notrunc && ! cmp "$copy/$archive" "$top/$archive" &&
     rejects "not the archive of prebuilt/SHA256SUMS" installs "$copy/bindings/python"
 }

@@ -1,5 +1,4 @@
-//! Encodes and decodes a multihash in each form, and prints the forms: the examples of README.md. Input and
-//! arguments are ignored.
+//! Encodes and decodes a multihash in each form, and prints the forms. Input and arguments are ignored.
 #![tactic(auto)]
 
 ghost use Rattle.std.specs.Prelude.{◌≡◌, ◌<◌, ◌⊎◌, List, ℕ, ◌++◌, length, map, IfOk, IfErr, MatchResult};

@@ -1,0 +1,53 @@
+"""The command: that it prints what mh_show prints, and ends with its status."""
+import subprocess
+import sys
+import unittest
+from pathlib import Path
+
+HEX = "1620644bcc7e564373040999aac89e7622f3ca71fba1d972fd94a31c3bfbf24e3938"
+SHOWN = "code 22\nsize 32\ndigest %s\n" % HEX[4:]
+NOT_READ = (1, "", "mh_show: input not read\n")
+LISTED = (Path(__file__).resolve().parent / "not_shown.txt").read_text("utf-8").splitlines()[1:]
+
+
+def run(*words, text="", **files):
+    """The status, and what was printed to both outputs."""
+    given = {"input": text.encode(), "stdout": subprocess.PIPE, "stderr": subprocess.PIPE, **files}
+    if "stdin" in files:
+        del given["input"]
+    ended = subprocess.run([sys.executable, "-m", "verified_multihash", *words], timeout=60, check=False, **given)
+    return ended.returncode, (ended.stdout or b"").decode(), (ended.stderr or b"").decode()
+
+
+class Main(unittest.TestCase):
+    def test_shown(self):
+        for text in (HEX, HEX.upper(), HEX + "\n"):
+            self.assertEqual(run(text=text), (0, SHOWN, ""))
+            self.assertEqual(run(text, text="zz"), (0, SHOWN, ""))
+        self.assertEqual(run("0000"), (0, "code 0\nsize 0\ndigest -\n", ""))
+        largest = "ffffffffffffffff7f40" + "ab" * 64
+        self.assertEqual(run(largest), (0, "code %d\nsize 64\ndigest %s\n" % (2**63 - 1, "ab" * 64), ""))
+
+    def test_rejected(self):
+        self.assertGreater(len(LISTED), 15)
+        for line in LISTED:
+            text, _, reason = line.encode().decode("unicode_escape").partition("|")
+            with self.subTest(text=text):
+                self.assertEqual(run(text=text), (1, "", "mh_show: %s\n" % reason))
+                self.assertEqual(run(text), (1, "", "mh_show: %s\n" % reason))
+
+    def test_input(self):
+        self.assertEqual(run(text="0" * 65536), (1, "", "mh_show: Invalid multihash size 32766.\n"))
+        self.assertEqual(run(text="0" * 65537), NOT_READ)
+        with open("/dev/zero", "rb") as endless:
+            self.assertEqual(run(stdin=endless), NOT_READ)
+
+    def test_outputs(self):
+        with open("/dev/full", "wb") as full:
+            self.assertEqual(run(HEX, stdout=full), (1, "", "mh_show: output not written\n"))
+            self.assertEqual(run(HEX, stderr=full), (0, SHOWN, ""))
+            self.assertEqual(run("zz", stderr=full), (1, "", ""))
+
+
+if __name__ == "__main__":
+    unittest.main()

@@ -1,0 +1,65 @@
+"""Shows a multihash, as the program mh_show does.
+
+    python -m verified_multihash [HEX]
+
+reads HEX, or else a line of standard input: an encoding in hexadecimal, with a digest of at most 64 bytes. It prints
+the code, the digest's length and the digest. If that fails it prints the reason to standard error, with status 1.
+"""
+import os
+import re
+import sys
+
+from . import MultihashError, Status, read
+
+MOST_INPUT = 65536
+
+
+def _input() -> bytes:
+    """Standard input, up to its end or one byte more than is accepted."""
+    text = b""
+    while len(text) <= MOST_INPUT:
+        part = os.read(0, MOST_INPUT + 1 - len(text))
+        if not part:
+            return text
+        text += part
+    raise OSError("the input is too long")
+
+
+def _shown(text: bytes) -> bytes:
+    """The three lines that show the multihash of a text."""
+    if not re.fullmatch(b"([0-9A-Fa-f]{2})*\n?", text):
+        raise ValueError("not hexadecimal")
+    data = bytes.fromhex(text.decode())
+    multihash, taken = read(data, limit=64)
+    if taken < len(data):
+        raise MultihashError(Status.INVALID_SIZE, len(data) - taken)
+    lines = "code %d\nsize %d\ndigest %s\n"
+    return (lines % (multihash.code, len(multihash.digest), multihash.hexdigest() or "-")).encode()
+
+
+def _write(to: int, text: bytes) -> None:
+    while text:
+        text = text[os.write(to, text) :]
+
+
+def main() -> int:
+    """Reads and prints. Returns the status."""
+    reason = "input not read"
+    try:
+        lines = _shown(os.fsencode(sys.argv[1]) if sys.argv[1:] else _input())
+        reason = "output not written"
+        _write(1, lines)
+        return 0
+    except OSError:
+        pass
+    except ValueError as error:
+        reason = str(error)
+    try:
+        _write(2, b"mh_show: %s\n" % reason.encode())
+    except OSError:
+        pass  # there is nowhere to report it
+    return 1
+
+
+if __name__ == "__main__":
+    sys.exit(main())

@@ -1,0 +1,133 @@
+"""Runs the commands and the programs of README.md as a reader would, in new folders.
+
+Each row of its first table has a program, in the same order: the program's first line has the name
+of its file and the command that runs it. Nothing uses a network. What the programs print is compared
+with the line that the page says they print.
+"""
+import os
+import re
+import shutil
+import subprocess
+from collections.abc import Iterator
+from pathlib import Path
+from typing import NamedTuple
+
+TOP = Path(__file__).resolve().parent.parent
+FENCE = re.compile(r"^```(\S*)[^\n]*\n(.*?)^```$", re.M | re.S)
+ROW = re.compile(r"^\| \[(\w+)[^\]]*\]\([^)]*\) \| `([^`]+)` \|", re.M)
+HEAD = re.compile(r"(?://|#) (\S+): (.*)\n")
+SHOWN = "code 0, digest hello"
+REGISTRY = Path(
+    "/usr/share/cargo/registry"
+)  # of Debian, for crates that the packages for Rust need
+TOOLS = {
+    "JavaScript": ("node", "npm"),
+    "Python": ("/usr/bin/python3", "cc"),
+    "Rust": ("cargo",),
+    "C": ("cc", "cmake", "pkg-config"),
+    "Rattle": ("rt",),
+}
+
+
+class Program(NamedTuple):
+    """A program of the page, what runs it, and the lines of crates.txt, which Rattle needs."""
+
+    language: str
+    install: str
+    file: str
+    command: str
+    text: str
+    crates: str
+
+
+def programs(readme: str) -> list[Program]:
+    """Returns the programs that have a row of the table, as far as both go."""
+    blocks = [text for _, text in FENCE.findall(readme)]
+    crates = "".join(text for text in blocks if text.startswith("app: "))
+    heads = [(HEAD.match(text), text) for text in blocks]
+    named = [(head[1], head[2], text) for head, text in heads if head]
+    rows = zip(ROW.findall(readme), named)
+    return [Program(row[0], row[1], *rest, crates) for row, rest in rows]
+
+
+def missing(language: str) -> str:
+    """Returns what is not installed that a program needs, or an empty text."""
+    gone = [tool for tool in TOOLS[language] if not shutil.which(tool)]
+    if language == "Rust" and not any(REGISTRY.glob("cc-1.*")):
+        gone.append("librust-cc-dev")
+    if language == "Python" and not gone:
+        command = ["/usr/bin/python3", "-c", "import setuptools, venv, wheel"]
+        if subprocess.run(command, capture_output=True).returncode:
+            gone.append("python3-setuptools, python3-venv or python3-wheel")
+    return ", ".join(gone)
+
+
+def copy_repository(to: Path) -> None:
+    """Copies the files of the repository that git knows or would."""
+    command = "git ls-files -co --exclude-standard -z | tar -c --null -T - | tar -x -C " + f"'{to}'"
+    to.mkdir()
+    subprocess.run(["bash", "-c", command], cwd=TOP, check=True, stderr=subprocess.DEVNULL)
+
+
+def prepare(program: Program, folder: Path) -> dict[str, str]:
+    """Makes the folder a project of that language. Returns its environment."""
+    language, path = program.language, os.environ["PATH"]
+    if language == "JavaScript":
+        return {"npm_config_cache": f"{folder}/npm", "npm_config_offline": "true"}
+    if language == "Python":
+        command = ["/usr/bin/python3", "-m", "venv", "--system-site-packages", f"{folder}/venv"]
+        subprocess.run(command, check=True)
+        path = f"{folder}/venv/bin:/usr/bin:/bin"
+        return {"PATH": path, "PIP_NO_INDEX": "1", "PIP_NO_BUILD_ISOLATION": "0"}
+    if language == "Rust":
+        home = folder / "cargo"
+        home.mkdir()
+        lines = ["[net]", "offline = true", "[source.crates-io]", "replace-with = 'here'"]
+        lines += ["[source.here]", f"directory = '{REGISTRY}'", ""]
+        (home / "config.toml").write_text("\n".join(lines), "utf-8")
+        environment = {"CARGO_HOME": str(home), "CARGO_TARGET_DIR": f"{folder}/target"}
+        command = ["cargo", "init", "--quiet", "--vcs", "none", "--name", "app"]
+        subprocess.run(command, cwd=folder, check=True, env={**os.environ, **environment})
+        return environment
+    if language == "C":
+        local = folder / "root/usr/local/lib"
+        return {
+            "DESTDIR": f"{folder}/root",
+            "PKG_CONFIG_PATH": f"{local}/pkgconfig",
+            "PKG_CONFIG_SYSROOT_DIR": f"{folder}/root",
+        }
+    (folder / "crates").mkdir()
+    (folder / "crates.txt").write_text(program.crates, "utf-8")
+    return {}
+
+
+def run(program: Program, repository: Path, folder: Path) -> tuple[str, str]:
+    """Installs the package in a new folder, and runs the program there. Returns what is wrong.
+
+    The other text is what the program has printed last.
+    """
+    folder.mkdir()
+    environment = {**os.environ, "MH": str(repository), **prepare(program, folder)}
+    file = folder / program.file
+    file.parent.mkdir(parents=True, exist_ok=True)
+    file.write_text(program.text, "utf-8")
+    shown = ""
+    for command in (program.install, program.command):
+        words = ["bash", "-c", command]
+        ran = subprocess.run(words, cwd=folder, env=environment, capture_output=True, text=True)
+        if ran.returncode:
+            return f"{command}: status {ran.returncode}\n{(ran.stdout + ran.stderr)[-900:]}", ""
+        shown = ran.stdout
+    return "", shown
+
+
+def judge(readme: str, shown: dict[str, str]) -> Iterator[str]:
+    """Compares what the programs printed with what the page says, and the table with its programs."""
+    found = {program.language for program in programs(readme)}
+    if found != set(TOOLS):
+        yield f"only a row, or only a program, is there of {sorted(found ^ set(TOOLS))}"
+    if f"prints `{SHOWN}`" not in readme:
+        yield f"it does not say that each program prints {SHOWN}"
+    for language, text in shown.items():
+        if SHOWN not in text.splitlines():
+            yield f"{language}: it printed {text[-300:]!r}"
