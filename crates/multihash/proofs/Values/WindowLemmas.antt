@@ -180,7 +180,7 @@ order_of_same (a ∷ x) (b ∷ y) same =
     let tails : x ≡ y = cc same in
     order_of_same x y tails ∙ ap (λ o. ordering_then o (order_of x y)) (nat_cmp_is a b Equal heads)
 
-then_then : (o p q : Ordering) → ordering_then o (ordering_then p q) ≡ ordering_then (ordering_then o p) q
+pub then_then : (o p q : Ordering) → ordering_then o (ordering_then p q) ≡ ordering_then (ordering_then o p) q
 then_then Less p q = refl
 then_then Equal p q = refl
 then_then Greater p q = refl

@@ -1,5 +1,5 @@
 use Rattle.std.proofs.Common.{◌≡◌, ◌+◌, ◌-◌, take}
-use Rattle.multihash_c.proofs.compare.order_of_many.Given as goal
+use Rattle.multihash_c.proofs.compare.compare_many.Given as goal
 
 -- the bytes before that index are equal
 abbrev pub invariant-loop-at : goal.invariant-loop-at
