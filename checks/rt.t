@@ -10,6 +10,8 @@ last=$(tail -n 1 "$work/out")
 [ $status = 0 ] && [ "$last" = "46 passed, 0 failed" ]
 count $? "rt ci: $last"
 [ $status = 0 ] || sed 's/^/# /' "$work/out" >&2
+# for .ci/run: the programs are those of this run
+[ $status != 0 ] || [ -z "${PROVED-}" ] || touch "$PROVED/built"
 
 # Prints each crate that has tests, and their number.
 tests() {

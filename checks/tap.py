@@ -13,11 +13,9 @@ def report(results: Iterable[Result]) -> int:
     failed = number = 0
     for number, (what, error) in enumerate(results, 1):
         failed += bool(error)
-        name, skip, why = what.partition(SKIP)
-        print(
-            f"{'not ok' if error else 'ok'} {number} - {name.replace('#', ' ')}{skip}{why}",
-            flush=True,
-        )
+        name, skip, why = what.replace("\n", " ").partition(SKIP)
+        result = "not ok" if error else "ok"
+        print(f"{result} {number} - {name.replace('#', '')}{skip}{why}", flush=True)
         for line in error.splitlines():
             print(f"#   {line}", file=sys.stderr, flush=True)
     return 1 if failed or not number else 0

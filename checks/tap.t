@@ -1,5 +1,5 @@
 #!/usr/bin/env bash
-# That what fails is printed as failed, by tap.sh and by tap.py, and is the status of .ci/run. It uses none of them itself.
+# That what fails is printed as failed, by tap.sh and by tap.py, and makes .ci/run fail. It uses none of them itself.
 set -u
 cd "$(dirname "$0")/.." || exit 2
 number=0
@@ -7,20 +7,23 @@ work=$(mktemp -d) || exit 2
 trap 'rm -rf "$work"' EXIT
 unset ALL
 cp -r .ci checks "$work" || exit 2
+export PYTHONPATH=checks # of the copy
 
 # Runs a text in a copy, and compares the results that it prints, one in a line.
 expect() {
   local wanted=$1 text=$2 result="not ok"
   number=$((number + 1))
   diff <(printf "%b\n" "$wanted") <(cd "$work" && bash -c "$text" 2> /dev/null) >&2 && result=ok
-  echo "$result $number - ${text%%$'\n'*}"
+  text=${text%%$'\n'*}
+  echo "$result $number - ${text//'#'/}"
 }
 
-echo 1..16
+echo 1..32
 expect "not ok 1 - a\nok 2 - b" ". checks/tap.sh; try a false; try b true"
 expect "not ok 1 - a" ". checks/tap.sh; try a no_such_command"
 expect "ok 1 - a b" ". checks/tap.sh; try \$'a\\nb#' true"
-expect "not ok 1 - a\nnot ok 2 - b" ". checks/tap.sh; try a rejects '' true; try b rejects 'a text' false"
+expect "not ok 1 - a" ". checks/tap.sh; try a rejects '' true"
+expect "not ok 1 - a" ". checks/tap.sh; try a rejects 'a text' false"
 expect "not ok 1 - a\nok 2 - b" ". checks/tap.sh; printf 'failed: a\npassed: b\n' | count_lines"
 expect "ok 1 # SKIP why" ". checks/tap.sh; leave_out why 1"
 expect "not ok 1 - why" "export ALL=1; . checks/tap.sh; leave_out why 1"
@@ -31,5 +34,34 @@ expect "ok 1 - a" ". checks/tap.sh; has 1 bash=1.0+ '/bin/s*' && try a true"
 expect "1..2\nok 1 - a\nnot ok 2 - b\n1" "(. checks/tap.sh; plan 2; try a true; try b false); echo \$?"
 expect "1..2\nok 1 - a\n1" "(. checks/tap.sh; plan 2; try a true); echo \$?"
 expect "1..1\nok 1 # SKIP why\n0" "(. checks/tap.sh; plan 1; leave_out why 1; false); echo \$?"
-expect 3 "printf '#!/bin/sh\nexit 3' > prove; chmod +x prove; PATH=.:\$PATH .ci/run; echo \$?"
-expect "not ok 1 - a\nok 2 - b" "PYTHONPATH=checks python3 -c 'import tap; tap.report([(\"a\", \"why\"), (\"b\", \"\")])'"
+
+# The same of tap.py.
+report() { echo "python3 -c 'import sys, tap; sys.exit(tap.report([$1]))'; echo \$?"; }
+expect "not ok 1 - a\nok 2 - b\n1" "$(report '("a", "why"), ("b", "")')"
+expect "ok 1 - a\n0" "$(report '("a", "")')"
+expect 1 "$(report "")"
+expect "ok 1 - a b\n0" "$(report '("a#\nb", "")')"
+expect "ok 1 - a # SKIP why\n0" "$(report 'tap.left_out("a", "why")')"
+expect "not ok 1 - a\n1" "export ALL=1; $(report 'tap.left_out("a", "why")')"
+
+# Runs .ci/run over a check, a text, after another text, and prints its status.
+ran() {
+  rm -f checks/*.t
+  printf -- '---\nseq:\n  - checks/rt.t\n  - checks/*.t\n' > checks/rules.yml
+  printf '#!/bin/bash\necho 1..1\n%s\n' "$1" > checks/rt.t && chmod +x checks/rt.t
+  eval "${2-}"
+  .ci/run > /dev/null
+  echo $?
+}
+export -f ran
+expect 0 "ran 'echo ok 1'"
+expect 1 "ran 'echo not ok 1'"
+expect 1 "ran 'echo ok 1; exit 1'"
+expect 1 "ran 'echo \"not ok 1 # TODO\"'"
+expect 1 "ran '' 'sed -i s/1$/0/ checks/rt.t'"
+expect 2 "ran 'echo ok 1' 'rm checks/rules.yml'"
+expect 2 "ran 'echo ok 1' 'echo \"  - checks/lint.t\" >> checks/rules.yml'"
+expect 2 "ran '' 'rm checks/rt.t'"
+expect 0 "ran 'echo ok 1' 'echo --wrong > .proverc'; rm .proverc"
+expect 0 "ran '[ \"\${BUILT-}\" ] || echo ok 1' 'export BUILT=\"rt ci\"'"
+expect 0 "ran '[ \$0 = checks/rt.t ] && touch \"\$PROVED/built\" || [ \"\$BUILT\" ] && echo ok 1' 'cp checks/rt.t checks/lint.t'"
