@@ -24,4 +24,5 @@ mh_show 6
 tests_streams 53
 tests_sweeps 30
 tests_values 26
+vectors 1
 LIST

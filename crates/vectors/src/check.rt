@@ -16,8 +16,11 @@ pub enum Check {
     FromBytes,
     ReadSlice,
     ReadOneByte,
+    ReadTwoBytes,
+    ReadThreeBytes,
     ScaleSlice,
     ScaleOneByte,
+    ScaleFourBytes,
     FromValue,
 }
 
@@ -27,8 +30,11 @@ impl fmt::Display for Check {
             Check::FromBytes => "from_bytes",
             Check::ReadSlice => "read over the slice",
             Check::ReadOneByte => "read, one byte a call",
+            Check::ReadTwoBytes => "read, two bytes a call",
+            Check::ReadThreeBytes => "read, three bytes a call",
             Check::ScaleSlice => "scale_decode over the slice",
             Check::ScaleOneByte => "scale_decode, one byte a call",
+            Check::ScaleFourBytes => "scale_decode, four bytes a call",
             Check::FromValue => "from_value",
         })
     }
@@ -36,12 +42,15 @@ impl fmt::Display for Check {
 
 impl Check {
     /// All checks, in the order in which they are made.
-    pub const ALL: [Check; 6] = [
+    pub const ALL: [Check; 9] = [
         Check::FromBytes,
         Check::ReadSlice,
         Check::ReadOneByte,
+        Check::ReadTwoBytes,
+        Check::ReadThreeBytes,
         Check::ScaleSlice,
         Check::ScaleOneByte,
+        Check::ScaleFourBytes,
         Check::FromValue,
     ];
 
@@ -68,7 +77,13 @@ impl Check {
         requires { S ≤ LARGEST }
     {
         let mut slice = line.input.as_slice();
-        let mut cuts = Cuts::new(&line.input, 1);
+        let most = match self {
+            Check::ReadTwoBytes => 2,
+            Check::ReadThreeBytes => 3,
+            Check::ScaleFourBytes => 4,
+            _ => 1,
+        };
+        let mut cuts = Cuts::new(&line.input, most);
         match self {
             Check::FromBytes => line
                 .from_bytes
@@ -80,7 +95,7 @@ impl Check {
                 let found = Multihash::<S>::read(&mut slice);
                 line.read.is_found(&found, &line.input, slice)
             }
-            Check::ReadOneByte => {
+            Check::ReadOneByte | Check::ReadTwoBytes | Check::ReadThreeBytes => {
                 let found = Multihash::<S>::read(&mut cuts);
                 line.read.is_found(&found, &line.input, cuts.left)
             }
@@ -89,7 +104,7 @@ impl Check {
                 line.scale_decode
                     .is_found_in_scale(&found, &line.input, slice)
             }
-            Check::ScaleOneByte => {
+            Check::ScaleOneByte | Check::ScaleFourBytes => {
                 let found = Multihash::<S>::scale_decode(&mut cuts);
                 line.scale_decode
                     .is_found_in_scale(&found, &line.input, cuts.left)
@@ -138,4 +153,17 @@ impl Reading {
         };
         self.verdict.is_result(found) && is_consumed
     }
+}
+
+// Of an input that ends within the digest both varints are consumed: with a byte less it is not found.
+#[test]
+fn both_varints_are_consumed(rt: HostRuntime) {
+    let input = [0x92, 1, 2, 7];
+    let listed = Reading {
+        verdict: Verdict::UnexpectedEof,
+        consumed: None,
+    };
+    let found = Multihash::<4>::read(&mut &input[..]);
+    fakes::check!(&rt; listed.is_found(&found, &input, &input[3..]));
+    fakes::check!(&rt; !listed.is_found(&found, &input, &input[2..]));
 }
