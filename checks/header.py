@@ -26,6 +26,8 @@ TOP = Path(__file__).resolve().parent.parent
 CRATE = "crates/multihash_c"
 HEADER = f"{CRATE}/include/multihash.h"
 LANGUAGES = {"C": ["cc", "-x", "c", "-std=c11"], "C++": ["c++", "-x", "c++", "-std=c++17"]}
+# The header's conditions: any other hides text from these preprocessors.
+CONDITIONS = ["ifndef MULTIHASH_H", "ifdef __cplusplus", "ifdef __cplusplus"]
 TYPES = {"u32": "uint32_t", "u64": "uint64_t", "i32": "int32_t", "usize": "size_t"}
 
 # The files that are compared.
@@ -185,6 +187,9 @@ def preprocessed(text: str, language: str, *options: str) -> str:
 
 
 def header_errors(header: str, crate: Declared, language: str) -> Iterator[str]:
+    conditions = re.findall(r"(?m)^\s*#\s*((?:if|el).*)", header)
+    if conditions != CONDITIONS:
+        yield f"{language}: the header's conditions are {conditions}"
     rest = flat(preprocessed(header, language))
     if language == "C++":
         rest = rest.removeprefix('extern "C" { ').removesuffix("}")
@@ -234,10 +239,12 @@ def binding_errors(files: Files, crate: Declared) -> Iterator[str]:
     of_script = {name.upper(): str(at) for at, name in enumerate(statuses)} | constants_of(
         files, JS, [*crate.lengths]
     )
+    of_types = group(r"\nexport type Status =((?:\n  \|.*)+)", files[f"{JS}/index.d.ts"])
     for name, found, wanted in (
         ("Rust's numbers", constants_of(files, RUST, [*numbers]), numbers),
         ("Python's numbers", constants_of(files, PYTHON, [*numbers]), numbers),
         ("JavaScript's numbers", of_script, numbers),
+        ("TypeScript's statuses", re.findall(r"\| '(\w+)'", of_types), statuses[1:]),
         ("Rust's structs", structs_of(items(files[f"{RUST}/src/ffi.rs"])), crate.structs),
         (
             "Rust's version",
