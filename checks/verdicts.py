@@ -21,10 +21,12 @@ TOP = Path(__file__).resolve().parent.parent
 STORED, BOUND = TOP / "crates/vectors/data/verdicts.tsv", TOP / "crates/multihash/specs/Varint.antt"
 COLUMNS = ("S", "input", "read", "read_taken", "from_bytes", "scale_decode", "scale_taken")
 
-# The number of stored lines that came from outside, and the SHA-256 of their sizes and inputs,
-# which no bound changes.
-FROM_OUTSIDE = 3000
-OUTSIDE_SHA256 = "295042049837f3cd1c893ce5238a82627e5b67977d12fb7fa61d41cd0c66e8de"
+# The SHA-256 of the sizes and inputs of so many first lines, which no bound changes: of those that
+# came from outside, and of these with our own.
+SHA256 = {
+    3000: "295042049837f3cd1c893ce5238a82627e5b67977d12fb7fa61d41cd0c66e8de",
+    6000: "fe8ecaa6eb54534e0a29677cf6481a9664bb035168e2ac3fde86d63c6488109c",
+}
 
 LONGEST_DIGEST, SCALE_CODE, SCALE_HEAD = 255, 8, 9
 
@@ -105,16 +107,21 @@ def result(
         return rejected.error, rejected.consumed
 
 
+def rules_of_crate() -> Rules:
+    [bits] = re.findall(r"(?m)^varint_limit = 2 \^ (\d+)$", BOUND.read_text("utf-8"))
+    return Rules(int(bits))
+
+
 def made_of(stored: str) -> str:
     """Makes the list of the stored inputs, by the bound on numbers that the definitions state."""
     inputs = [tuple(line.split("\t")[:2]) for line in stored.splitlines()[1:]]
-    text = "".join("\t".join(line) + "\n" for line in inputs[:FROM_OUTSIDE])
-    if hashlib.sha256(text.encode()).hexdigest() != OUTSIDE_SHA256:
-        raise ValueError(f"the first {FROM_OUTSIDE} inputs are not those that came from outside")
+    for count, wanted in SHA256.items():
+        text = "".join("\t".join(line) + "\n" for line in inputs[:count])
+        if (found := hashlib.sha256(text.encode()).hexdigest()) != wanted:
+            raise ValueError(f"the first {count} inputs are others: their SHA-256 is {found}")
     if len({*inputs}) < len(inputs):
         raise ValueError("an input is there twice with one capacity")
-    [bits] = re.findall(r"(?m)^varint_limit = 2 \^ (\d+)$", BOUND.read_text("utf-8"))
-    rules = Rules(int(bits))
+    rules = rules_of_crate()
     lines = (rules.line(int(size), bytes.fromhex(data.removeprefix("-"))) for size, data in inputs)
     return "\n".join(["\t".join(COLUMNS), *lines, ""])
 
@@ -133,12 +140,15 @@ def main() -> int:
     if sys.argv[1:] == ["--write"]:
         return STORED.write_text(made_of(stored), "utf-8") < 1
     results = [("the results of the stored inputs", error_of(stored))]
+    but_last = stored[: stored.rindex("\n", 0, -1) + 1]
     for what, text in {
         "another result of the first line": stored.replace("invalid_size 3", "invalid_size 4", 1),
         "an input from outside that is another": stored.replace(
             "88f5bac6a53b03", "88f5bac6a53b04", 1
         ),
         "an input that is there twice": "".join([stored, *stored.splitlines(True)[-1:]]),
+        "an own input that is lost": but_last,
+        "an own input that is another": f"{but_last}{rules_of_crate().line(0, bytes(77))}\n",
         "an empty list": "",
     }.items():
         is_seen = text != stored and error_of(text)
