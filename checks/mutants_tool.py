@@ -86,6 +86,17 @@ new: 511
 old: 512
 new: 0x200
 """
+AUTHOR = ["-c", "user.name=a", "-c", "user.email=a"]
+
+
+class Printed(mutants.Crate):
+    """A crate whose checks print these lines."""
+
+    def __init__(self, lines: str) -> None:
+        self.lines, self.known = lines, {"small::two"}
+
+    def check(self, _: list[mutants.Mutant]) -> proving.Output:
+        return proving.Output("small", self.lines, 1)
 
 
 def lay_out(root: Path) -> None:
@@ -135,7 +146,18 @@ def provers(root: Path) -> list[Path]:
 
 def results(root: Path) -> Iterator[tap.Result]:
     """Tries the mutants, and runs that must not pass."""
-    printed = start(root, "--definitions").communicate()[0]
+    for words in (["init", "-q"], ["add", "crates"], [*AUTHOR, "commit", "-q", "-m", "small"]):
+        subprocess.run(["git", *words], cwd=root, check=True)
+    mutants.ROOT = root
+    for what, is_wanted in {
+        "definitions as they were": False,
+        "definitions that changed": True,
+    }.items():
+        is_tried = mutants.Options("", "HEAD", 1, False, []).tries_definitions("small")
+        yield what, "" if is_tried == is_wanted else f"whether they are tried: {is_tried}"
+        with (root / "crates/small/specs/Sum.antt").open("a") as specs:
+            specs.write("-- more\n")
+    printed = start(root, "--since", "HEAD").communicate()[0]
     wanted = {case.name: case.reported for case in CASES} | {"less": "", "as_much": "no example"}
     wanted["unread.edits"] = "in no known form: olds"
     for label, text in wanted.items():
@@ -143,10 +165,8 @@ def results(root: Path) -> Iterator[tap.Result]:
         status = "not ok" if text else "ok"
         is_right = len(found) == 1 and found[0][0] == status and text in found[0][1]
         yield label, "" if is_right else f"reported: {found}"
-    crate = object.__new__(mutants.Crate)
-    crate.known = {"small::next", "small::two"}
     lines = "./proofs/Lemmas.antt:1:1: error: `a_lemma`: wrong\nfn small::two: open\nlogic=open"
-    others = crate.strays(proving.Output("small", lines, 1), {"small::next"})
+    others = Printed(lines).try_round([])
     yield "errors of no mutant", "" if len(others) == 2 else f"reported: {others}"
     runs = {"another name": ["--only", "nothing"], "another crate": ["nothing"]}
     for what, words in runs.items():
