@@ -3,6 +3,8 @@
 
     packaging/man.py HEADER CHANGES OUT    CHANGES has the date of the page, OUT is the folder of the pages
 """
+from __future__ import annotations
+
 import datetime
 import re
 import sys
@@ -15,23 +17,23 @@ STATUS = r"/\*((?:(?!\*/).)*)\*/\s*(MULTIHASH_\w+) = \d+"
 CONSTANTS = r"/\*((?:(?!\*/).)*)\*/\n((?:#define MULTIHASH_\w+ [^\n]*\n)+)"
 
 
-def plain(comment):
+def plain(comment: str) -> str:
     """The text of a comment, without the marks at the front of its lines."""
     return "\n".join(re.sub(r"^ \* ?", "", line) for line in comment.split("\n")).strip()
 
 
-def text(words):
+def text(words: str) -> str:
     """A paragraph: each sentence starts a line, and names are in italics."""
     words = re.sub(r"`([^`]*)`", r"\\fI\1\\fP", re.sub(r"\s+", " ", words.replace("\\", "\\e")).strip())
-    how = {"width": 79, "break_long_words": False, "break_on_hyphens": False}
-    return "\n".join(textwrap.fill(sentence, **how) for sentence in re.split(r"(?<=\.) ", words))
+    lines = textwrap.TextWrapper(79, break_long_words=False, break_on_hyphens=False)
+    return "\n".join(lines.fill(sentence) for sentence in re.split(r"(?<=\.) ", words))
 
 
-def literal(lines):
+def literal(lines: str) -> list[str]:
     return [".Bd -literal", lines.rstrip("\n"), ".Ed"]
 
 
-def paragraphs(comment):
+def paragraphs(comment: str) -> list[str]:
     """The paragraphs of a comment; lines that begin with ' - ' are a list."""
     made = []
     for part in plain(comment).split("\n\n"):
@@ -42,7 +44,7 @@ def paragraphs(comment):
     return made
 
 
-def described(comment, name):
+def described(comment: str, name: str) -> list[str]:
     """The section of a function: what it does, what it returns, its errors."""
     first, *parts = re.split(r"\n(Returns|Errors): +", plain(comment))
     made = [".Ss " + name, text(first)]
@@ -52,14 +54,15 @@ def described(comment, name):
     return made
 
 
-def prototype(kind, name, parameters):
+def prototype(kind: str, name: str, parameters: str) -> list[str]:
     quoted = "" if parameters == "void" else " ".join('"%s"' % " ".join(it.split()) for it in parameters.split(","))
     return [".Ft " + kind.strip(), (".Fn %s %s" % (name, quoted or "void"))]
 
 
-def page(header, changes):
-    version = re.search(r'#define MULTIHASH_VERSION "([\d.]+)"', header)[1]
-    date = datetime.date.fromisoformat(re.search(r"^%s \(([\d-]+)\)$" % re.escape(version), changes, re.M)[1])
+def page(header: str, changes: str) -> str:
+    [version] = re.findall(r'#define MULTIHASH_VERSION "([\d.]+)"', header)
+    [day] = re.findall(r"^%s \(([\d-]+)\)$" % re.escape(version), changes, re.M)
+    date = datetime.date.fromisoformat(day)
     functions = re.findall(FUNCTION, header, re.S)
     names = ["multihash", *(name for _, _, name, _ in functions)]
     made = [".Dd %s %d, %d" % (date.strftime("%B"), date.day, date.year), ".Dt MULTIHASH 3", ".Os"]
@@ -69,7 +72,8 @@ def page(header, changes):
     made += [".Sh SYNOPSIS", ".In multihash.h"]
     for _, kind, name, parameters in functions:
         made += prototype(kind, name, parameters)
-    made += [".Sh DESCRIPTION", *paragraphs(re.match(r"/\*(.*?)\*/", header, re.S)[1])[1:], ".Ss Types and constants"]
+    [first] = re.findall(r"\A/\*(.*?)\*/", header, re.S)
+    made += [".Sh DESCRIPTION", *paragraphs(first)[1:], ".Ss Types and constants"]
     for comment, declaration in [*re.findall(STRUCT, header, re.S), *re.findall(CONSTANTS, header, re.S)]:
         made += [text(plain(comment)), *literal(declaration), ".Pp"]
     del made[-1]
@@ -81,7 +85,7 @@ def page(header, changes):
     return "\n".join(made) + "\n"
 
 
-def main():
+def main() -> None:
     if len(sys.argv) != 4:
         sys.exit(__doc__)
     header, changes = (Path(name).read_text("utf-8") for name in sys.argv[1:3])

@@ -46,4 +46,6 @@ core = Extension(
     py_limited_api=True,
 )
 # An earlier build may have linked another archive.
-setup(license="MIT", ext_modules=[core], options={"bdist_wheel": {"py_limited_api": "cp38"}, "build_ext": {"force": True}})
+setup(
+    license="MIT", ext_modules=[core], options={"bdist_wheel": {"py_limited_api": "cp38"}, "build_ext": {"force": True}}
+)

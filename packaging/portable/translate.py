@@ -38,8 +38,13 @@ MEMORY = Path(__file__).resolve().parent / "memory.h"
 PROVIDED = re.compile(r"^(?:(?:static inline|ALWAYS_INLINE) [^(\n]*?|#define )(\w+)\(", re.MULTILINE)
 # The functions that are compiled into their callers, which mostly know the block of an address, and those that are
 # called apart, for rare inputs.
-INLINED = {"w2c_multihash__varint__word__front_by_word", "w2c_multihash_c__decode__longer",
-           "w2c_multihash_c__encode__put_apart", "w2c_multihash_head", "w2c_rattle__export_multihash_head"}
+INLINED = {
+    "w2c_multihash__varint__word__front_by_word",
+    "w2c_multihash_c__decode__longer",
+    "w2c_multihash_c__encode__put_apart",
+    "w2c_multihash_head",
+    "w2c_rattle__export_multihash_head",
+}
 APART = {"w2c_multihash__varint__word__front_by_short_word", "w2c_multihash_c__decode__error_of"}
 # Called for input that is not short: a call that reads short input only ends there.
 LONGER = re.compile(r"^(?=  w2c_multihash_c__decode__longer\()", re.MULTILINE)
@@ -160,8 +165,10 @@ def placed(code: str) -> str:
         types = parameters.split(", ")[1:]
         typed = "".join(f", {it} p{at}" for at, it in enumerate(types))
         given = "".join(f", p{at}" for at in range(len(types)))
-        return (f"APART void {name}_apart({parameters});\nALWAYS_INLINE void {name}(const memory* instance{typed}) {{\n"
-                f"  memory call = *instance;\n  {name}_apart(&call{given});\n}}")
+        return (
+            f"APART void {name}_apart({parameters});\nALWAYS_INLINE void {name}(const memory* instance{typed}) {{\n"
+            f"  memory call = *instance;\n  {name}_apart(&call{given});\n}}"
+        )
 
     need(INLINED | APART <= {it[1] for it in HEAD.findall(code)}, "the module has the functions that are placed")
     code, ends = LONGER.subn("  if (ends_here(instance)) return;\n", code)
@@ -184,18 +191,23 @@ def module(linked: str, made: str) -> str:
     code = placed(functions(linked, made))
     need_provided(code)
     rows = [", ".join(map(str, data[at : at + 20])) for at in range(0, len(data), 20)]
-    return "\n".join((
-        "/* Made from the proved library by translate.py and wasm2c: not to be edited. */",
-        "#ifndef MODULE_H\n#define MODULE_H\n",
-        f"#define STACK_SIZE {size}",
-        f"#define TEXTS_START {start}",
-        f"static const unsigned char texts[{len(data)}] = {{\n    " + ",\n    ".join(rows) + "};\n",
-        '#include "memory.h"\n',
-        "/* The rest is generated: compilers are not to warn of it. */",
-        "#if defined(__GNUC__)\n#pragma GCC system_header\n#endif\n",
-        code + "\n",
-        "#endif",
-    )) + "\n"
+    return (
+        "\n".join(
+            (
+                "/* Made from the proved library by translate.py and wasm2c: not to be edited. */",
+                "#ifndef MODULE_H\n#define MODULE_H\n",
+                f"#define STACK_SIZE {size}",
+                f"#define TEXTS_START {start}",
+                f"static const unsigned char texts[{len(data)}] = {{\n    " + ",\n    ".join(rows) + "};\n",
+                '#include "memory.h"\n',
+                "/* The rest is generated: compilers are not to warn of it. */",
+                "#if defined(__GNUC__)\n#pragma GCC system_header\n#endif\n",
+                code + "\n",
+                "#endif",
+            )
+        )
+        + "\n"
+    )
 
 
 def main() -> int:

@@ -1,4 +1,6 @@
-"""Times of the package beside plain Python, by turns, as medians of CPU time. The status is 1 if one takes more than 0.6 of it.
+"""Times of the package beside plain Python, by turns, as medians of CPU time.
+
+The status is 1 if one takes more than 0.6 of it.
 
     python3 tests/speed.py
 """

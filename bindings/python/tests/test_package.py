@@ -21,6 +21,7 @@ from pathlib import Path
 import verified_multihash as vm
 from verified_multihash import Multihash, MultihashError, Status
 
+
 def shown(number):
     """A number as texts have it: CPython converts no more than 4300 digits, from the versions of 2022 on."""
     try:
@@ -131,17 +132,14 @@ class Arguments(unittest.TestCase):
         data = b"\x01\x03abc"
         spread = memoryview(bytes(byte for pair in zip(data, data) for byte in pair))[::2]
         matrix = memoryview(bytes(400)).cast("B", [20, 20])
-        for buffer in (bytearray(data), memoryview(data), spread, array.array("B", data),
-                (ctypes.c_ubyte * 5)(*data)):
+        for buffer in (bytearray(data), memoryview(data), spread, array.array("B", data), (ctypes.c_ubyte * 5)(*data)):
             self.assertEqual(vm.decode(buffer), Multihash(1, b"abc"))
             self.assertEqual(Multihash(2, buffer).digest, data)
         self.assertEqual(vm.decode(array.array("H", [0x0201, 0x4241])).digest, b"AB")
         self.assertEqual(self.error_of(vm.decode, matrix)[:2], (Status.INVALID_SIZE, 398))
-        self.assertEqual(self.error_of(vm.decode, array.array("Q", bytes(800)))[:2],
-            (Status.INVALID_SIZE, 798))
+        self.assertEqual(self.error_of(vm.decode, array.array("Q", bytes(800)))[:2], (Status.INVALID_SIZE, 798))
         self.assertEqual(self.error_of(vm.decode, (ctypes.c_ubyte * 999)())[:2], (Status.INVALID_SIZE, 997))
-        self.assertEqual([vm.encode(0, empty) for empty in (b"", bytearray(), array.array("I"))],
-            [b"\0\0"] * 3)
+        self.assertEqual([vm.encode(0, empty) for empty in (b"", bytearray(), array.array("I"))], [b"\0\0"] * 3)
         self.assertEqual(vm.decode(ctypes.c_uint16(0)), Multihash(0, b""))  # a buffer of no dimension
         for call in (vm.decode, vm.read, vm.head):
             self.assertEqual(self.error_of(call, memoryview(b""))[0], Status.INSUFFICIENT)
@@ -170,24 +168,21 @@ class Arguments(unittest.TestCase):
 
     def test_limits(self):
         data = b"\x01\x03abc"
-        for call in (lambda limit: vm.read(data, limit)[0],
-                lambda limit: vm.read_from(io.BytesIO(data), limit)):
+        for call in (lambda limit: vm.read(data, limit)[0], lambda limit: vm.read_from(io.BytesIO(data), limit)):
             for limit in (3, 255, 1 << 64, 1 << 700):
                 self.assertEqual(call(limit).digest, b"abc")
             self.assertEqual(self.error_of(call, 2)[:2], (Status.INVALID_SIZE, 3))
             self.assertRaisesRegex(ValueError, "not negative", call, -1)
             self.assertRaises(TypeError, call, 3.0)
         self.assertRaises(ValueError, vm.read_from, io.BytesIO(), -1)
-        self.assertEqual(self.error_of(vm.read, b"\x01\x80\x02" + bytes(256), 1 << 64)[:2],
-            (Status.INVALID_SIZE, 256))
+        self.assertEqual(self.error_of(vm.read, b"\x01\x80\x02" + bytes(256), 1 << 64)[:2], (Status.INVALID_SIZE, 256))
 
     def test_texts(self):
         texts = {b"\x80": "not enough input bytes", b"\xff" * 9: "input bytes exceed maximum"}
         texts.update({b"\x80\x00": "encoding is not minimal", b"\x01\x02\x00": "failed to fill whole buffer"})
         for data, text in texts.items():
             self.assertEqual(self.error_of(vm.decode, data)[1:], (0, 0, text))
-        for data, incomplete in ((b"\x12", True), (b"\x12\x02\x00", True), (b"\x80\x00", False),
-                (b"\0\0\0", False)):
+        for data, incomplete in ((b"\x12", True), (b"\x12\x02\x00", True), (b"\x80\x00", False), (b"\0\0\0", False)):
             with self.assertRaises(MultihashError) as raised:
                 vm.decode(data)
             self.assertIs(raised.exception.is_incomplete, incomplete)
@@ -321,8 +316,16 @@ class Streams(unittest.IsolatedAsyncioTestCase):
 
 class Values(unittest.TestCase):
     def test_order(self):
-        pairs = [(0, b"zz"), (1, b"b"), (1, b"ab"), (1, b"bb"), (2, b""), (2, b"b"), (2, bytes(255)),
-            ((1 << 63) - 1, b"")]
+        pairs = [
+            (0, b"zz"),
+            (1, b"b"),
+            (1, b"ab"),
+            (1, b"bb"),
+            (2, b""),
+            (2, b"b"),
+            (2, bytes(255)),
+            ((1 << 63) - 1, b""),
+        ]
         ordered = [Multihash(*pair) for pair in pairs]
         for i, left in enumerate(ordered):
             for k, right in enumerate(map(copy.deepcopy, ordered)):
@@ -360,7 +363,11 @@ class Values(unittest.TestCase):
         """They keep their attributes, and may have other parameters."""
         value = Sha256(b"abc")
         value.more, value.slot = "kept", 3
-        for again in [copy.deepcopy(value), copy.copy(value), *(pickle.loads(pickle.dumps(value, n)) for n in range(6))]:
+        for again in [
+            copy.deepcopy(value),
+            copy.copy(value),
+            *(pickle.loads(pickle.dumps(value, n)) for n in range(6)),
+        ]:
             self.assertEqual((type(again), again, again.more, again.slot), (Sha256, Multihash(18, b"abc"), "kept", 3))
 
     def test_immutable(self):
@@ -372,7 +379,11 @@ class Values(unittest.TestCase):
         self.assertEqual(Multihash(digest=b"abc", code=1), multihash)
         multihash.__init__(2, b"")
         self.assertEqual(multihash, Multihash(1, b"abc"))
-        again = [copy.deepcopy(multihash), copy.copy(multihash), *(pickle.loads(pickle.dumps(multihash, n)) for n in range(6))]
+        again = [
+            copy.deepcopy(multihash),
+            copy.copy(multihash),
+            *(pickle.loads(pickle.dumps(multihash, n)) for n in range(6)),
+        ]
         self.assertEqual(again, [multihash] * 8)
 
     @unittest.skipIf(sys.version_info < (3, 9), "the stable ABI has no weak references")
@@ -425,8 +436,7 @@ class Costs(unittest.TestCase):
                 for call, size in ((vm.decode, length - 2), *((call, length) for call in BYTES_CALLS[4:])):
                     with self.assertRaises(MultihashError) as raised:
                         call(data)
-                    self.assertEqual((raised.exception.status, raised.exception.size),
-                        (Status.INVALID_SIZE, size))
+                    self.assertEqual((raised.exception.status, raised.exception.size), (Status.INVALID_SIZE, size))
 
 
 class Interpreters(unittest.TestCase):
@@ -436,7 +446,9 @@ class Interpreters(unittest.TestCase):
         interpreters = importlib.import_module("_interpreters" if sys.version_info > (3, 13) else "_xxsubinterpreters")
         program = "import sys; sys.path[:] = %r\nimport verified_multihash as vm\nfor n in range(20000): " % (sys.path,)
         program += "assert vm.decode(vm.encode(n, b'abc')) == vm.Multihash(n, b'abc')\ntry: vm.decode(b'')\n"
-        program += "except vm.MultihashError as error: assert error.status is vm.Status.INSUFFICIENT\nelse: assert False"
+        program += (
+            "except vm.MultihashError as error: assert error.status is vm.Status.INSUFFICIENT\nelse: assert False"
+        )
         errors = []
 
         def run():
@@ -466,8 +478,7 @@ class Names(unittest.TestCase):
 
 class Readme(unittest.TestCase):
     def test_examples(self):
-        text = "\n".join("" if line.startswith("```") else line
-            for line in README.read_text("utf-8").splitlines())
+        text = "\n".join("" if line.startswith("```") else line for line in README.read_text("utf-8").splitlines())
         test = doctest.DocTestParser().get_doctest(text, {}, "README.md", str(README), 0)
         self.assertGreaterEqual(len(test.examples), 30)
         self.assertEqual(doctest.DocTestRunner().run(test).failed, 0)

@@ -38,8 +38,9 @@ def shown(call, *arguments):
     try:
         found = call(*arguments)
     except MultihashError as error:
-        number = {Status.INVALID_SIZE: " %d" % error.size,
-            Status.INVALID_CODE: " %d" % error.code}.get(error.status, "")
+        number = {Status.INVALID_SIZE: " %d" % error.size, Status.INVALID_CODE: " %d" % error.code}.get(
+            error.status, ""
+        )
         return error.status.name.lower() + number, error.taken, None
     multihash, taken = found if isinstance(found, tuple) else (found, len(arguments[0]))
     return "pair %d %s" % (multihash.code, multihash.digest.hex() or "-"), taken, multihash
@@ -86,8 +87,7 @@ class Vectors(unittest.TestCase):
         self.assertEqual(shown(vm.decode, data + MORE), (result, len(data + MORE), None))
 
     def check_back(self, multihash, data, taken):
-        encoding, form = vm.encode(multihash.code, multihash.digest), vm.scale_encode(multihash.code,
-            multihash.digest)
+        encoding, form = vm.encode(multihash.code, multihash.digest), vm.scale_encode(multihash.code, multihash.digest)
         self.assertEqual((encoding, bytes(multihash)), (data[:taken], data[:taken]))
         self.assertEqual(vm.encoded_len(multihash.code, len(multihash.digest)), taken)
         code, size = multihash.code.to_bytes(8, "little"), bytes([len(multihash.digest)])

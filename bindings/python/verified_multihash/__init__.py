@@ -75,7 +75,8 @@ class Head(NamedTuple):
 
 
 class _Readable(Protocol):
-    def read(self, size: int, /) -> Optional[bytes]: ...
+    def read(self, size: int, /) -> Optional[bytes]:
+        ...
 
 
 class _AsyncReadable(Protocol):
