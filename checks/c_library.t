@@ -124,7 +124,8 @@ test_compiler() {
   local sanitize=(-fsanitize=address -fsanitize=undefined -fno-sanitize-recover=all)
   try "$name, header alone" stands_alone "${from[@]}"
   try "$name, plain" build_and_run "$name" "" "${from[@]}" -O2 "${test[@]}"
-  try "$name, address and undefined-behaviour sanitizers" build_and_run "$name-san" "" "${from[@]}" -g -O1 "${sanitize[@]}" "${test[@]}"
+  try "$name, address and undefined-behaviour sanitizers" build_and_run "$name-san" "" "${from[@]}" -g -O1 \
+    "${sanitize[@]}" "${test[@]}"
 }
 
 test_compilers() {
@@ -136,7 +137,8 @@ test_compilers() {
 
 # Each access of the library is checked, which the compilers' sanitizers do not see.
 under_valgrind() {
-  build_and_run valgrind "valgrind -q --error-exitcode=9 --leak-check=full --errors-for-leak-kinds=all" cc "${c_flags[@]}" -g -O1 \
+  build_and_run valgrind "valgrind -q --error-exitcode=9 --leak-check=full --errors-for-leak-kinds=all" cc \
+    "${c_flags[@]}" -g -O1 \
     "$crate"/c_test/{test,decoding,encoding,verdicts,shared}.c "$library"
 }
 

@@ -234,7 +234,7 @@ def constants_of(files: Files, folder: str, names: list[str]) -> dict[str, str]:
 def binding_errors(files: Files, crate: Declared) -> Iterator[str]:
     numbers = {**crate.statuses, **crate.lengths}
     statuses = re.findall(
-        r"'(\w+)'", group(r"\nconst STATUSES = \[(.*)\];\n", files[f"{JS}/core.js"])
+        r"'(\w+)'", group(r"\nconst STATUSES = \[([^\]]*)\];\n", files[f"{JS}/core.js"])
     )
     of_script = {name.upper(): str(at) for at, name in enumerate(statuses)} | constants_of(
         files, JS, [*crate.lengths]

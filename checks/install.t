@@ -36,7 +36,8 @@ files_in() {
   local libdir=$1 function
   printf './%s\n' include/multihash.h "$libdir"/libmultihash_c.{a,so,so."$major",so."$version"} \
     "$libdir"/cmake/multihash_c/multihash_c-config{,-release,-version}.cmake "$libdir/pkgconfig/multihash_c.pc" \
-    share/doc/multihash_c/{C.md,changelog,copyright,examples/{show.c,stream.c,test.sh}} share/man/man3/multihash.3 "${@:2}"
+    share/doc/multihash_c/{C.md,changelog,copyright,examples/{show.c,stream.c,test.sh}} share/man/man3/multihash.3 \
+    "${@:2}"
   { checks/header.py --exports && echo multihash_status_text; } |
     while read -r function; do echo "./share/man/man3/$function.3"; done
 }
@@ -48,8 +49,8 @@ has_documents() {
     ! grep -n '](\.*/' "$document/C.md"
 }
 
-# A shared library exports the functions of the header, each with its version of a map, whose versions have as many functions as
-# they say.
+# A shared library exports the functions of the header, each with its version of a map, whose versions have as many
+# functions as they say.
 exports_exactly() {
   local -x LC_ALL=C
   awk '/^MULTIHASH_C/ { node = $1; left = $4 } /^    multihash_/ { sub(/;/, "", $1); print $1 "@@" node; left-- }
@@ -87,10 +88,12 @@ installed_test() {
 
 # In the configured prefix, whose name has a blank. The archive keeps its bytes.
 installs() {
-  install_built built && is_installed "$prefix" lib && cmp prebuilt/x86_64/libmultihash_c.a "$prefix/lib/libmultihash_c.a"
+  install_built built && is_installed "$prefix" lib &&
+    cmp prebuilt/x86_64/libmultihash_c.a "$prefix/lib/libmultihash_c.a"
 }
 
-# Below DESTDIR, from where pkg-config has to find it, in another folder for libraries; with the program, another one here.
+# Below DESTDIR, from where pkg-config has to find it, in another folder for libraries; with the program, another one
+# here.
 installs_below() {
   local -x PKG_CONFIG_SYSROOT_DIR=$work/below
   build lib64 -DCMAKE_INSTALL_PREFIX=/opt/multihash -DCMAKE_INSTALL_LIBDIR=/opt/multihash/lib/64 \
@@ -102,7 +105,8 @@ installs_below() {
 # The package works where it was unpacked.
 packs() {
   (cd "$work/built" && cpack -B "$work/packed") && mkdir "$work/un packed" &&
-    tar xf "$work"/packed/multihash_c-*.tar.gz -C "$work/un packed" --strip-components=1 && is_installed "$work/un packed" lib &&
+    tar xf "$work"/packed/multihash_c-*.tar.gz -C "$work/un packed" --strip-components=1 &&
+    is_installed "$work/un packed" lib &&
     installed_test "$work/un packed"
 }
 
@@ -130,7 +134,8 @@ test_installation() {
   try "building" build built -DCMAKE_INSTALL_PREFIX="$prefix"
   try "installing" installs
   try "the installed test" installed_test "$prefix"
-  try "a function in a released version" rejects "another number of functions than it says: MULTIHASH_C_1.0" another_function
+  try "a function in a released version" rejects "another number of functions than it says: MULTIHASH_C_1.0" \
+    another_function
   try "installing below a folder" installs_below
   try "packing" packs
   try "a planted installation" plant_installed
@@ -146,7 +151,8 @@ test_installation() {
 by_find_package() {
   local to=$work/project kind
   mkdir "$to" && printf '%s\n' 'cmake_minimum_required(VERSION 3.20)' 'project(example LANGUAGES C)' \
-    "find_package(multihash_c ${version%.*} REQUIRED)" 'foreach(kind static shared)' 'add_executable(${kind} ${source})' \
+    "find_package(multihash_c ${version%.*} REQUIRED)" 'foreach(kind static shared)' \
+    'add_executable(${kind} ${source})' \
     'target_link_libraries(${kind} multihash_c::${kind})' 'endforeach()' > "$to/CMakeLists.txt" &&
     cmake -S "$to" -B "$to/build" -Dsource="$top/packaging/examples/show.c" -DCMAKE_PREFIX_PATH="$work/un packed" &&
     cmake --build "$to/build" || return 1
@@ -195,12 +201,14 @@ test_programs() {
 # ---- packages for Debian
 
 debian=(dpkg-buildpackage dh lintian man)
-# Builds the packages for an architecture in a copy of what they are made of, after an edit of it. They have no errors by lintian.
+# Builds the packages for an architecture in a copy of what they are made of, after an edit of it. They have no errors
+# by lintian.
 build_packages() {
   local architecture=$1 to=$work/debian-$2 from
   mkdir -p "$to/source/crates"/{multihash_c,vectors} && from=$to/source &&
     cp -r CMakeLists.txt LICENSE docs packaging prebuilt packaging/debian "$from" &&
-    cp -r crates/multihash_c/{include,c_test} "$from/crates/multihash_c" && cp -r crates/vectors/data "$from/crates/vectors" &&
+    cp -r crates/multihash_c/{include,c_test} "$from/crates/multihash_c" &&
+    cp -r crates/vectors/data "$from/crates/vectors" &&
     eval "${3-}" && (cd "$from" && dpkg-buildpackage -b -d -us -uc -a"$architecture") &&
     lintian --allow-root --fail-on error "$to"/*.changes || return 1
   mkdir "$to/root" && for package in "$to"/*.deb; do dpkg -x "$package" "$to/root" || return 1; done
@@ -217,7 +225,8 @@ lints_planted() {
 later_function() {
   # shellcheck disable=SC2016
   local edit='sed -i -e "/ multihash_head;/d" -e "s/# 12 f/# 11 f/" "$from"/packaging/portable/multihash_c.map &&
-    printf "MULTIHASH_C_1.1 { # 1 functions\n    multihash_head;\n} MULTIHASH_C_1.0;\n" >> "$from"/packaging/portable/multihash_c.map'
+    printf "MULTIHASH_C_1.1 { # 1 functions\n    multihash_head;\n} MULTIHASH_C_1.0;\n" >> \
+      "$from"/packaging/portable/multihash_c.map'
   rejects "+ multihash_head@MULTIHASH_C_1.1" build_packages amd64 later "$edit" || return 1
   local from=$work/debian-later/source
   exports_exactly "$from"/obj-*/libmultihash_c.so "$from/packaging/portable/multihash_c.map"
@@ -249,7 +258,8 @@ test_packages() {
 emulator="qemu-aarch64 -L /usr/aarch64-linux-gnu"
 
 installs_aarch64() {
-  install_built arm && is_installed "$work/aarch64" lib && cmp prebuilt/aarch64/libmultihash_c.a "$work/aarch64/lib/libmultihash_c.a"
+  install_built arm && is_installed "$work/aarch64" lib &&
+    cmp prebuilt/aarch64/libmultihash_c.a "$work/aarch64/lib/libmultihash_c.a"
 }
 
 tested_on_aarch64() {
@@ -264,7 +274,8 @@ fenced_on_aarch64() {
 
 test_aarch64() {
   has 6 aarch64-linux-gnu-gcc qemu-aarch64 || return
-  try "aarch64: building" build arm -DCMAKE_TOOLCHAIN_FILE=packaging/aarch64.cmake -DCMAKE_INSTALL_PREFIX="$work/aarch64"
+  try "aarch64: building" build arm -DCMAKE_TOOLCHAIN_FILE=packaging/aarch64.cmake \
+    -DCMAKE_INSTALL_PREFIX="$work/aarch64"
   try "aarch64: installing" installs_aarch64
   try "aarch64: the installed test" tested_on_aarch64
   try "aarch64: fenced buffers" fenced_on_aarch64
@@ -299,7 +310,8 @@ build_for_level() {
 # A commit in which one byte of an archive differs is not released.
 changed_archive() {
   local changed=$work/changed as=(-c user.name=tester -c user.email=tester)
-  git clone -q . "$changed" && printf x | dd of="$changed/prebuilt/x86_64/libmultihash_c.a" bs=1 seek=9999 conv=notrunc status=none &&
+  git clone -q . "$changed" && printf x |
+    dd of="$changed/prebuilt/x86_64/libmultihash_c.a" bs=1 seek=9999 conv=notrunc status=none &&
     git -C "$changed" "${as[@]}" commit -q -a -m changed &&
     rejects "not that of prebuilt/SHA256SUMS" "$changed/tools/release" "$work/wrong"
 }

@@ -115,7 +115,8 @@ try_show() {
   if [ "$asked $live" = "$wanted 0" ] && [ $n = $((wanted + 1)) ]; then
     echo "passed: mh_show $name: allocations: $asked"
   else
-    echo "failed: mh_show $name: allocations: $asked, of which $live are not freed; where number $n fails it prints: $printed"
+    echo "failed: mh_show $name: allocations: $asked, of which $live are not freed;" \
+      "where number $n fails it prints: $printed"
   fi
 }
 

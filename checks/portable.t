@@ -69,12 +69,13 @@ test_translation() {
 two_files() {
   tools/portable_c "$tree" && mkdir "$work/a folder" && tools/portable_c "$work/a folder/tree" &&
     diff -r "$tree" "$work/a folder/tree" && cc -std=c11 -O2 "${warnings[@]}" -c "$tree/multihash.c" -o "$work/one.o" &&
-    cc -std=c11 -O2 "${warnings[@]}" -I crates/multihash_c/include -c packaging/portable/multihash.c -o "$work/apart.o" &&
+    cc -std=c11 -O2 "${warnings[@]}" -I crates/multihash_c/include -c packaging/portable/multihash.c \
+    -o "$work/apart.o" &&
     cmp "$work/one.o" "$work/apart.o" && wc -c < "$tree/multihash.c"
 }
 
-# The tests pass over multihash.c of a folder, whose results for drawn inputs are the archive's. Results are kept in a folder; the
-# last words are a compiler with options, and RUN runs a program.
+# The tests pass over multihash.c of a folder, whose results for drawn inputs are the archive's. Results are kept in a
+# folder; the last words are a compiler with options, and RUN runs a program.
 passes() {
   local from=$1 to=$work/$2 compile=("${@:3}" -std=c11 -I "$1")
   mkdir "$to" && "${compile[@]}" -c "$from/multihash.c" -o "$to/multihash.o" &&
@@ -90,11 +91,12 @@ like_the_archive() {
     "$work/cc-sanitizers/draws.exe" 2 1000000 | diff - "$work/wanted" && cat "$work/wanted"
 }
 
-# Objects for machines without a C library, and for macOS and MSVC's mode of Clang without their headers. All that they call are
-# three functions.
+# Objects for machines without a C library, and for macOS and MSVC's mode of Clang without their headers. All that
+# they call are three functions.
 freestanding() {
   local target
-  for target in arm64-apple-macos11 x86_64-pc-windows-msvc wasm32-unknown-unknown thumbv7em-none-eabi riscv32-unknown-elf; do
+  for target in arm64-apple-macos11 x86_64-pc-windows-msvc wasm32-unknown-unknown thumbv7em-none-eabi \
+    riscv32-unknown-elf; do
     clang --target=$target -ffreestanding -nostdlibinc -Werror=implicit-function-declaration -std=c11 -O2 \
       -c "$tree/multihash.c" -o "$work/free.o" || return 1
   done
@@ -108,7 +110,8 @@ test_compiler() {
 }
 
 fenced() {
-  cc -std=c11 "${warnings[@]}" -O2 -I "$tree" "$c_test/fenced.c" "$work/cc/multihash.o" -o "$work/fenced" && "$work/fenced"
+  cc -std=c11 "${warnings[@]}" -O2 -I "$tree" "$c_test/fenced.c" "$work/cc/multihash.o" -o "$work/fenced" &&
+    "$work/fenced"
 }
 
 # The object needs four functions of the C library, and has no section that is written.
@@ -123,7 +126,8 @@ keeps_no_state() {
 
 # The tests over a copy in which one byte of the generated code differs.
 tests_planted() {
-  rm -rf "$work/planted" "$work/planted.built" && cp -r "$tree" "$work/planted" && sed -i "$1" "$work/planted/multihash.c" &&
+  rm -rf "$work/planted" "$work/planted.built" && cp -r "$tree" "$work/planted" &&
+    sed -i "$1" "$work/planted/multihash.c" &&
     [ "$(cmp -l "$tree/multihash.c" "$work/planted/multihash.c" | wc -l)" = 1 ] || return 0
   passes "$work/planted" planted.built cc -O1
 }

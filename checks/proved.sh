@@ -6,7 +6,8 @@
 # Copies the crates of the library for C and of mh_show.
 copy_proved() {
   local name
-  mkdir "$work/copy" && tar -c --exclude=out HANDLES crates/multihash crates/multihash_c crates/mh_show | tar -x -C "$work/copy" || return
+  mkdir "$work/copy" && tar -c --exclude=out HANDLES crates/multihash crates/multihash_c crates/mh_show |
+    tar -x -C "$work/copy" || return
   for name in multihash multihash_c mh_show; do
     [ ! -d "$PROVED/crates/$name/out" ] || cp -a "$PROVED/crates/$name/out" "$work/copy/crates/$name/" || return
   done

@@ -70,7 +70,8 @@ expect_sizes() {
   digits=$(printf multihash | sha512sum | cut -c 1-128)
   for ((size = 0; size <= 64; size++)); do
     digest=${digits:0:2 * size}
-    expect_show "code $decimal\nsize $size\ndigest ${digest:--}\n0" "$(printf '%s%02x%s' "$encoded" "$size" "$digest")${newline:+\\n}"
+    expect_show "code $decimal\nsize $size\ndigest ${digest:--}\n0" \
+      "$(printf '%s%02x%s' "$encoded" "$size" "$digest")${newline:+\\n}"
     if [ "$newline" ]; then newline=; else newline=x; fi
   done
 }

@@ -61,14 +61,17 @@ rust_switch() {
 rust_locked() {
   local program=$work/repository/bindings/rust/locked registry=$work/registry
   local stub=$registry/multihash-0.19.6 here=(CARGO_HOME="$work/locked" cargo)
-  mkdir -p "$stub/src" "$work/locked" && ln -s "$(sed -n 's/^directory = "\(.*\)"/\1/p' "$work/cargo/config.toml")"/* "$registry" &&
-    sed "s|^directory = .*|directory = \"$registry\"|" "$work/cargo/config.toml" > "$work/locked/config.toml" || return 1
+  mkdir -p "$stub/src" "$work/locked" &&
+    ln -s "$(sed -n 's/^directory = "\(.*\)"/\1/p' "$work/cargo/config.toml")"/* "$registry" &&
+    sed "s|^directory = .*|directory = \"$registry\"|" "$work/cargo/config.toml" > "$work/locked/config.toml" ||
+    return 1
   : > "$stub/src/lib.rs"
   echo '{"files":{}}' > "$stub/.cargo-checksum.json"
   printf '[package]\nname = "multihash"\nversion = "0.19.6"\n[features]\nstd = []\nalloc = []\n' > "$stub/Cargo.toml"
   printf 'serde-codec = []\n' >> "$stub/Cargo.toml"
   cp -r "$work/repository/bindings/rust/switch" "$program" && rm -f "$program/Cargo.lock" &&
-    sed -i '/^\[patch/,/^$/d' "$program/Cargo.toml" && in_crate "${here[@]}" generate-lockfile --manifest-path "$program/Cargo.toml" &&
+    sed -i '/^\[patch/,/^$/d' "$program/Cargo.toml" &&
+    in_crate "${here[@]}" generate-lockfile --manifest-path "$program/Cargo.toml" &&
     grep -A1 'name = "multihash"' "$program/Cargo.lock" | grep 0.19.6 || return 1
   cp "$work/repository/bindings/rust/switch/Cargo.toml" "$program"
   in_crate "${here[@]}" tree --manifest-path "$program/Cargo.toml" -i multihash | grep -x 'multihash v0.19.6' &&
@@ -88,7 +91,8 @@ rust_lints() {
     in_crate cargo clippy --no-default-features --features alloc
 }
 
-# The archive is found in a directory of any name. A relative path is rejected, and a library that pkg-config does not find.
+# The archive is found in a directory of any name. A relative path is rejected, and a library that pkg-config does not
+# find.
 rust_build() {
   local directory=$work/$'a \xff directory'
   mkdir -p "$directory" && cp prebuilt/x86_64/libmultihash_c.a "$directory" &&

@@ -1,5 +1,6 @@
 #!/usr/bin/env bash
-# The instructions of each case of crates/speed and of calls from C; that docs/SPEED.md and its chart have these numbers.
+# The instructions of each case of crates/speed and of calls from C; that docs/SPEED.md and its chart have these
+# numbers.
 cd "$(dirname "$0")/.." || exit 2
 echo 1..6
 exec checks/speed.py

@@ -82,7 +82,8 @@ with_all() { [ "${ALL-}" = 1 ] || { leave_out "only with ALL=1" "$1" && false; }
 is_version() {
   local its
   its=$("$1" --version 2>&1 | grep -oE '[0-9]+(\.[0-9]+)*' | head -n 1)
-  [ "$its" = "$2" ] || { [ "$2" != "${2%+}" ] && [ "$(printf '%s\n' "${2%+}" "$its" | sort -V | head -n 1)" = "${2%+}" ]; }
+  [ "$its" = "$2" ] || { [ "$2" != "${2%+}" ] &&
+    [ "$(printf '%s\n' "${2%+}" "$its" | sort -V | head -n 1)" = "${2%+}" ]; }
 }
 
 # Whether a tool is installed, as NAME or NAME=VERSION, or a path is there that fits a pattern.

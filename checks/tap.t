@@ -27,7 +27,8 @@ expect "not ok 1 - a" ". checks/tap.sh; try a rejects 'a text' false"
 expect "not ok 1 - a\nok 2 - b" ". checks/tap.sh; printf 'failed: a\npassed: b\n' | count_lines"
 expect "ok 1 # SKIP why" ". checks/tap.sh; leave_out why 1"
 expect "not ok 1 - why" "export ALL=1; . checks/tap.sh; leave_out why 1"
-expect "not ok 1 - no_such_command is not installed" "export ALL=1; . checks/tap.sh; has 1 sh no_such_command && try a true"
+expect "not ok 1 - no_such_command is not installed" \
+  "export ALL=1; . checks/tap.sh; has 1 sh no_such_command && try a true"
 expect "ok 1 # SKIP bash=1.0 is not installed" ". checks/tap.sh; has 1 bash=1.0 && try a true"
 expect "ok 1 # SKIP bash=999+ is not installed" ". checks/tap.sh; has 1 bash=999+ && try a true"
 expect "ok 1 - a" ". checks/tap.sh; has 1 bash=1.0+ '/bin/s*' && try a true"
@@ -64,4 +65,6 @@ expect 2 "ran 'echo ok 1' 'echo \"  - checks/lint.t\" >> checks/rules.yml'"
 expect 2 "ran '' 'rm checks/rt.t'"
 expect 0 "ran 'echo ok 1' 'echo --wrong > .proverc'; rm .proverc"
 expect 0 "ran '[ \"\${BUILT-}\" ] || echo ok 1' 'export BUILT=\"rt ci\"'"
-expect 0 "ran '[ \$0 = checks/rt.t ] && touch \"\$PROVED/built\" || [ \"\$BUILT\" ] && echo ok 1' 'cp checks/rt.t checks/lint.t'"
+# shellcheck disable=SC2016 # the check expands it
+text='[ $0 = checks/rt.t ] && touch "$PROVED/built" || [ "$BUILT" ] && echo ok 1'
+expect 0 "ran '$text' 'cp checks/rt.t checks/lint.t'"

@@ -21,8 +21,9 @@ lower_wasm() {
     { cat "$work/log"; return 1; }
 }
 
-# The instructions of a module, a line each, without names, types' numbers, `i32.wrap_i64`, and the width of the memory. Locals
-# that are no parameters have numbers by their first use. `unreachable` is left out after a loop that ends in a jump.
+# The instructions of a module, a line each, without names, types' numbers, `i32.wrap_i64`, and the width of the
+# memory. Locals that are no parameters have numbers by their first use. `unreachable` is left out after a loop that
+# ends in a jump.
 instructions() {
   cp "$1" "$work/stripped.wasm" && wasm-strip "$work/stripped.wasm" &&
     wasm2wat --enable-memory64 "$work/stripped.wasm" | awk '
@@ -55,11 +56,14 @@ wraps() {
 differs_in_wraps() {
   local operands linked lowered
   wasm2wat --enable-memory64 "$1" > "$work/linked.wat" && wasm2wat "$2" > "$work/lowered.wat" || return 1
-  instructions "$1" > "$work/linked" && instructions "$2" > "$work/lowered" && diff "$work/linked" "$work/lowered" || return 1
-  operands=$(awk '/\.(load|store)/ { n++ } /memory\.copy/ { n += 3 } /memory\.fill/ { n += 2 } END { print n + 0 }' "$work/linked")
+  instructions "$1" > "$work/linked" && instructions "$2" > "$work/lowered" && diff "$work/linked" "$work/lowered" ||
+    return 1
+  operands=$(awk '/\.(load|store)/ { n++ } /memory\.copy/ { n += 3 } /memory\.fill/ { n += 2 } END { print n + 0 }' \
+    "$work/linked")
   linked=$(wraps "$work/linked.wat")
   lowered=$(wraps "$work/lowered.wat")
-  echo "$(wc -l < "$work/linked") instructions, and $lowered times i32.wrap_i64: $linked, and $operands for addresses and lengths"
+  echo "$(wc -l < "$work/linked") instructions, and $lowered times i32.wrap_i64: $linked," \
+    "and $operands for addresses and lengths"
   [ "$operands" -gt 0 ] && [ $((linked + operands)) = "$lowered" ]
 }
 

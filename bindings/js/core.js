@@ -10,7 +10,8 @@ export const LENGTH_MAX = 266;
 /** The most bytes of a SCALE form. */
 export const SCALE_LENGTH_MAX = 264;
 
-const STATUSES = ['ok', 'insufficient', 'overflow', 'not_minimal', 'invalid_size', 'invalid_code', 'unexpected_eof', 'no_room'];
+const STATUSES = ['ok', 'insufficient', 'overflow', 'not_minimal', 'invalid_size', 'invalid_code', 'unexpected_eof',
+  'no_room'];
 
 // The longest prefix of an input that a result depends on, except for the number of trailing bytes.
 const PREFIX_MAX = HEAD_MAX + DIGEST_MAX;
@@ -42,7 +43,8 @@ const PROBE = Uint8Array.of(
 /** Throws an error that lists engines. */
 function unfit(cause) {
   throw new Error(
-    'verified-multihash needs WebAssembly with bulk memory operations, and BigInt, which this engine lacks or forbids. ' +
+    'verified-multihash needs WebAssembly with bulk memory operations, and BigInt, ' +
+      'which this engine lacks or forbids. ' +
       'Node.js 20.16, Chrome 89, Edge 89, Firefox 90 and Safari 15 have them.',
     { cause },
   );
@@ -122,7 +124,8 @@ function put(data, at) {
 /** A whole number of 64 bits as a BigInt. */
 export function bits64(number, what) {
   if (typeof number === 'number') {
-    if (!Number.isSafeInteger(number) || number < 0) throw new RangeError(`${what} has to be a whole number, from 2^53 a bigint`);
+    if (!Number.isSafeInteger(number) || number < 0)
+      throw new RangeError(`${what} has to be a whole number, from 2^53 a bigint`);
     return number <= PREFIX_MAX ? NUMBERS[number] : BigInt(number);
   }
   if (typeof number !== 'bigint') throw new TypeError(`${what} has to be a number or a bigint`);
@@ -182,7 +185,8 @@ export class MultihashError extends Error {
     return this.status === 'insufficient' || this.status === 'unexpected_eof';
   }
 }
-Object.defineProperty(MultihashError.prototype, 'name', { value: 'MultihashError', writable: true, configurable: true });
+Object.defineProperty(MultihashError.prototype, 'name',
+  { value: 'MultihashError', writable: true, configurable: true });
 
 /** The error in the result of a decoding, after `taken` bytes. */
 function failure(taken) {
@@ -225,7 +229,8 @@ export class Multihash {
     if (tagOf.call(left) !== 'Uint8Array' || tagOf.call(right) !== 'Uint8Array') return false;
     const length = lengthOf.call(left);
     // a number and a bigint of the same value are the same code
-    if ((typeof code !== 'number' && typeof code !== 'bigint') || code != this.code || lengthOf.call(right) !== length) return false;
+    if ((typeof code !== 'number' && typeof code !== 'bigint') || code != this.code || lengthOf.call(right) !== length)
+      return false;
     for (let index = 0; index < length; index++) if (left[index] !== right[index]) return false;
     return true;
   }
@@ -328,7 +333,8 @@ export function encodedLength(code, digestLength) {
 
 /** Compares by the code, then by the digest's length, then by the first byte that differs: -1, 0 or 1. */
 export function compare(left, right) {
-  if (!(left instanceof Multihash && right instanceof Multihash)) throw new TypeError('multihashes have to be a Multihash');
+  if (!(left instanceof Multihash && right instanceof Multihash))
+    throw new TypeError('multihashes have to be a Multihash');
   const [leftCode, rightCode] = [bits64(left.code, 'a code'), bits64(right.code, 'a code')];
   const [leftDigest, rightDigest] = [left.digest, right.digest]; // before `put`: a getter may call us again
   const [leftLength, rightLength] = [put(leftDigest, first), put(rightDigest, second)];

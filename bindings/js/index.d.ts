@@ -52,7 +52,14 @@ export class MultihashError extends Error implements Details {
   /** The error of which `value` is a clone, `value` itself if it is a `MultihashError`, else undefined. */
   static from(value: unknown): MultihashError | undefined;
   /** The name, the text and the fields, a bigint as decimal text. */
-  toJSON(): { name: string; message: string; status: Status; size?: number | string; code?: number | string; taken?: number };
+  toJSON(): {
+    name: string;
+    message: string;
+    status: Status;
+    size?: number | string;
+    code?: number | string;
+    taken?: number;
+  };
 }
 
 /**

@@ -114,7 +114,8 @@ if (Symbol.asyncDispose) MultihashReader.prototype[Symbol.asyncDispose] = Multih
 function sourceOf(source) {
   if (typeof source?.getReader === 'function') return chunksOfStream(source);
   const iterator = source?.[Symbol.asyncIterator]?.();
-  if (typeof iterator?.next !== 'function') throw new TypeError('the source has to be a ReadableStream or an async iterable');
+  if (typeof iterator?.next !== 'function')
+    throw new TypeError('the source has to be a ReadableStream or an async iterable');
   return { next: () => iterator.next(), release() {}, close: () => iterator.return?.() };
 }
 
@@ -139,7 +140,9 @@ function chunksOfStream(stream) {
   };
 }
 
-/** A copy of the first from an index on, and the second. Throws a TypeError if that is no Uint8Array, or is detached. */
+/**
+ * A copy of the first from an index on, and the second. Throws a TypeError if that is no Uint8Array, or is detached.
+ */
 function joined(left, at, right) {
   const rest = at === 0 ? left : left.subarray(at);
   const both = new Uint8Array(rest.length + checkedLength(right));

@@ -1,10 +1,12 @@
 #!/usr/bin/env bash
 # Tests the module for JavaScript. It prints results as TAP, and its status is 1 if one failed.
 #
-#   bindings/js/test.sh [ARCHIVE]   ARCHIVE is the static library for C, whose results are compared, else that of prebuilt/
+#   bindings/js/test.sh [ARCHIVE]   ARCHIVE is the static library for C, whose results are compared, else that of
+#                                   prebuilt/
 #
 #   ALL=1            what needs a tool that is not installed fails, else it is left out
-#   PROVED=FOLDER    a copy of the repository whose crates are proved: build.sh builds a copy of these, else it builds here
+#   PROVED=FOLDER    a copy of the repository whose crates are proved: build.sh builds a copy of these, else it builds
+#                    here
 here=$(dirname "$(readlink -f "${BASH_SOURCE[0]}")")
 archive=$(readlink -f "${1:-$here/../../prebuilt/$(uname -m)/libmultihash_c.a}")
 # shellcheck source=checks/tap.sh
@@ -66,8 +68,8 @@ no_vectors() {
   head -n 1 "$data/vectors" | with_planted vectors
 }
 
-# In an engine without WebAssembly, without BigInt, or without bulk memory operations, the import throws an error that lists
-# versions. --jitless is Node.js without WebAssembly.
+# In an engine without WebAssembly, without BigInt, or without bulk memory operations, the import throws an error that
+# lists versions. --jitless is Node.js without WebAssembly.
 old_engine() {
   local lack option
   for lack in 0 'delete globalThis.WebAssembly' 'delete globalThis.BigInt' 'WebAssembly.validate = () => false'; do

@@ -26,7 +26,8 @@ build() {
 # Debian's Python.h includes a file for each machine; those with 64 bits have the same configuration.
 for_machine() {
   local headers
-  headers=$("$python" -c 'import sysconfig; print(sysconfig.get_config_var("MULTIARCH"), sysconfig.get_path("include"))')
+  headers=$("$python" \
+    -c 'import sysconfig; print(sysconfig.get_config_var("MULTIARCH"), sysconfig.get_path("include"))')
   mkdir -p "$work/$1-linux-gnu" && ln -s "/usr/include/${headers%% *}/${headers##*/}" "$work/$1-linux-gnu"
   export CC=$1-linux-gnu-gcc CFLAGS="$CFLAGS -I$work" _PYTHON_HOST_PLATFORM=linux-$1
 }
@@ -39,7 +40,8 @@ wheel() (
   *) fail "no archive for x86-64 or aarch64: $1" ;;
   esac
   [ "$machine" = "$(uname -m)" ] || for_machine "$machine"
-  MULTIHASH_C_ARCHIVE=$(readlink -f "$1") build -w "-C--build-option=--plat-name=manylinux2014_$machine" -o "$work/$machine" "$work/$name"
+  MULTIHASH_C_ARCHIVE=$(readlink -f "$1") build -w "-C--build-option=--plat-name=manylinux2014_$machine" \
+    -o "$work/$machine" "$work/$name"
   "$python" -m zipfile -e "$work/$machine"/*.whl "$work/$machine/files"
   glibc=$(readelf -W --dyn-syms "$work/$machine"/files/*/_core.abi3.so | grep -o 'GLIBC_[0-9.]*' | sort -Vu | tail -n 1)
   [ "$(printf '%s\n' GLIBC_2.17 "$glibc" | sort -V | tail -n 1)" = GLIBC_2.17 ] || fail "the module needs $glibc"
@@ -47,11 +49,12 @@ wheel() (
 )
 
 mkdir "$work/repository"
-tar -c --exclude=build --exclude='*.egg-info' -C "$here/../.." LICENSE bindings/python checks/not_shown.txt packaging/portable crates/multihash_c/include \
-  crates/vectors/data | tar -x -C "$work/repository"
+tar -c --exclude=build --exclude='*.egg-info' -C "$here/../.." LICENSE bindings/python checks/not_shown.txt \
+  packaging/portable crates/multihash_c/include crates/vectors/data | tar -x -C "$work/repository"
 build -s -o "$work" "$work/repository/bindings/python"
 name=verified_multihash-$(sed -n 's/^__version__ = "\(.*\)"$/\1/p' "$here/verified_multihash/_library.py")
 mkdir "$work/$name" && tar xf "$work"/*.tar.gz -C "$work/$name" --strip-components=1
-tar --sort=name --mode=u=rwX,go=rX --mtime="@$SOURCE_DATE_EPOCH" --owner=0 --group=0 --numeric-owner -C "$work" -c "$name" |
+tar --sort=name --mode=u=rwX,go=rX --mtime="@$SOURCE_DATE_EPOCH" --owner=0 --group=0 --numeric-owner \
+  -C "$work" -c "$name" |
   gzip -n9 > "$out/$name.tar.gz"
 for archive in "${@:2}"; do wheel "$archive"; done

@@ -1,14 +1,14 @@
 #!/usr/bin/env bash
-# Builds the sdist and the wheel, installs the wheel into a new virtual environment, and runs all tests there: plain, over
-# the portable source, under sanitizers, and with the debug allocator. It prints results as TAP, and its status is 1 if
-# one failed.
+# Builds the sdist and the wheel, installs the wheel into a new virtual environment, and runs all tests there: plain,
+# over the portable source, under sanitizers, and with the debug allocator. It prints results as TAP, and its status
+# is 1 if one failed.
 #
 #   test.sh [ARCHIVE [WORK]]
 #
 # ARCHIVE is libmultihash_c.a, else that of prebuilt/; WORK a folder in which the results stay, the environment in
-# WORK/venv. Needs cc, and PYTHON with headers, build, setuptools, venv and wheel, else /usr/bin/python3. What needs a tool
-# that is not installed is left out, but fails with ALL=1. MULTIHASH_VERDICTS is the path of the test vectors, if not the
-# repository's.
+# WORK/venv. Needs cc, and PYTHON with headers, build, setuptools, venv and wheel, else /usr/bin/python3. What needs a
+# tool that is not installed is left out, but fails with ALL=1. MULTIHASH_VERDICTS is the path of the test vectors, if
+# not the repository's.
 here=$(dirname "$(readlink -f "${BASH_SOURCE[0]}")")
 [ $# -le 2 ] || { sed -n '2,/^[^#]/s/^# \{0,1\}//p' "${BASH_SOURCE[0]}" >&2; exit 2; }
 archive=$(readlink -f "${1:-$here/../../prebuilt/$(uname -m)/libmultihash_c.a}")
@@ -103,7 +103,8 @@ other_version() {
   local number
   number=$(sed -n 's/^#define MULTIHASH_VERSION_NUMBER //p' "$header")
   archive_with "unsigned multihash_version(void) { return $((number + 1)); }" &&
-    MULTIHASH_C_ARCHIVE=$to/other/libmultihash_c.a rejects "ImportError: the library for C has version $((number + 1))," \
+    MULTIHASH_C_ARCHIVE=$to/other/libmultihash_c.a rejects \
+    "ImportError: the library for C has version $((number + 1))," \
       imports "$here"
 }
 
@@ -156,7 +157,8 @@ types() {
 }
 
 has 18 cc "$PYTHON" || exit 0
-"$PYTHON" -c 'import build, setuptools, venv, wheel' 2> "$work/log" || { leave_out "build, setuptools, venv or wheel is not installed" 18 && exit 0; }
+"$PYTHON" -c 'import build, setuptools, venv, wheel' 2> "$work/log" ||
+  { leave_out "build, setuptools, venv or wheel is not installed" 18 && exit 0; }
 try "the sdist and the wheel, built twice" builds
 try "the module without warnings" without_warnings
 has 1 objcopy ar && try "archives" looks_at_archive

@@ -1,6 +1,6 @@
 #!/bin/sh
-# Tests an installed multihash_c: builds the examples beside this script against it, with the shared library and statically,
-# and runs them. Needs a C compiler and pkg-config. The last line is 'N passed, M failed'.
+# Tests an installed multihash_c: builds the examples beside this script against it, with the shared library and
+# statically, and runs them. Needs a C compiler and pkg-config. The last line is 'N passed, M failed'.
 #
 #   test.sh [PREFIX]   PREFIX is where it is installed or unpacked, else pkg-config finds it
 #
@@ -58,7 +58,8 @@ run() {
 }
 
 documented() {
-  printf '\026\040\144\113\314\176\126\103\163\004\011\231\252\310\236\166\042\363\312\161\373\241\331\162\375\224\243\034\073\373\362\116\071\070'
+  printf '\026\040\144\113\314\176\126\103\163\004\011\231\252\310\236\166\042\363'
+  printf '\312\161\373\241\331\162\375\224\243\034\073\373\362\116\071\070'
 }
 
 expected() {

@@ -19,15 +19,18 @@ function outOfBounds() {
 
 function noBytes() {
   const others = [34, 34n, '1620', [22, 0], null, undefined, true, {}, { length: 1, 0: 0 }, Symbol('bytes'), () => 0];
-  const buffers = [new ArrayBuffer(4), new DataView(new ArrayBuffer(4)), new Uint16Array(2), new Int8Array(2), new Uint8ClampedArray(2)];
-  const feigned = [new Proxy(new Uint8Array(2), {}), Object.create(Uint8Array.prototype), { __proto__: new Uint8Array(2) }];
+  const buffers = [new ArrayBuffer(4), new DataView(new ArrayBuffer(4)), new Uint16Array(2), new Int8Array(2),
+    new Uint8ClampedArray(2)];
+  const feigned = [new Proxy(new Uint8Array(2), {}), Object.create(Uint8Array.prototype),
+    { __proto__: new Uint8Array(2) }];
   return [...others, ...buffers, ...feigned, detached(), outOfBounds()];
 }
 
 function bytesAlone(module) {
   for (const wrong of noBytes()) {
     const what = Object.prototype.toString.call(wrong);
-    for (const name of ['decode', 'read', 'head', 'scaleDecode']) fails(TypeError, () => module[name](wrong), `${name} ${what}`);
+    for (const name of ['decode', 'read', 'head', 'scaleDecode'])
+      fails(TypeError, () => module[name](wrong), `${name} ${what}`);
     for (const name of ['encode', 'scaleEncode']) fails(TypeError, () => module[name](18, wrong), `${name} ${what}`);
     fails(TypeError, () => module.Multihash.of(18, wrong), `of ${what}`);
     fails(TypeError, () => module.compare(wrong, wrong), `compare ${what}`);
@@ -45,12 +48,15 @@ function numbers(module) {
     limit: (number) => module.read(EXAMPLE, number),
   };
   for (const [name, call] of Object.entries(calls)) {
-    for (const wrong of ['18', null, {}, [18], true, Symbol('code')]) fails(TypeError, () => call(wrong), `${name} ${typeof wrong}`);
-    for (const wrong of [-1, 1.5, NaN, Infinity, 2 ** 53, -1n, 1n << 64n]) fails(RangeError, () => call(wrong), `${name} ${wrong}`);
+    for (const wrong of ['18', null, {}, [18], true, Symbol('code')])
+      fails(TypeError, () => call(wrong), `${name} ${typeof wrong}`);
+    for (const wrong of [-1, 1.5, NaN, Infinity, 2 ** 53, -1n, 1n << 64n])
+      fails(RangeError, () => call(wrong), `${name} ${wrong}`);
   }
   for (const name of ['encode', 'scaleEncode', 'of', 'encodedLength']) {
     const error = fails(module.MultihashError, () => calls[name](1n << 63n), name);
-    same(`${error?.status} ${error?.code} ${error?.message}`, `invalid_code ${1n << 63n} Invalid multihash code 9223372036854775808.`, name);
+    same(`${error?.status} ${error?.code} ${error?.message}`,
+      `invalid_code ${1n << 63n} Invalid multihash code 9223372036854775808.`, name);
   }
   same(module.read(EXAMPLE, (1n << 64n) - 1n).taken, 34, 'the largest limit');
   same(fails(module.MultihashError, () => module.read(EXAMPLE, 0), 'limit 0')?.size, 32, 'size at limit 0');
@@ -69,7 +75,8 @@ function wideNumbers(module) {
     same(module.head(bytes).code, code, 'code of head');
   }
   same(module.head(unhex('00808080808080808001')).digestLength, 2n ** 56n, 'length of head');
-  same(fails(module.MultihashError, () => module.encode(1n << 63n, new Uint8Array(256)), 'size first')?.size, 256, 'size');
+  same(fails(module.MultihashError, () => module.encode(1n << 63n, new Uint8Array(256)), 'size first')?.size, 256,
+    'size');
   same(module.encode(18, new Uint8Array(255)).length, 258, 'the longest digest');
 }
 
@@ -104,7 +111,8 @@ function ownBytes(module) {
   const shared = new Uint8Array(new WebAssembly.Memory({ initial: 1, maximum: 1, shared: true }).buffer, 0, 34);
   shared.set(EXAMPLE);
   const ofShared = [module.decode(shared).bytes, module.encode(22, shared.subarray(2))];
-  for (const bytes of ofShared) same(`${hex(bytes)} ${bytes.buffer.constructor.name}`, `${hex(EXAMPLE)} ArrayBuffer`, 'shared bytes');
+  for (const bytes of ofShared)
+    same(`${hex(bytes)} ${bytes.buffer.constructor.name}`, `${hex(EXAMPLE)} ArrayBuffer`, 'shared bytes');
   const long = new Uint8Array(3e6);
   long.set(EXAMPLE);
   same(fails(module.MultihashError, () => module.decode(long), 'a long input')?.size, 3e6 - 34, 'trailing bytes');
@@ -119,10 +127,12 @@ function looseEquals(module) {
     }
   }
   const multihash = module.Multihash.of(0, Uint8Array.of(5));
-  for (const code of ['0', '', false, [], [0], null, undefined, Symbol('0'), Object.create(null), { valueOf: () => 0 }]) {
+  for (const code of ['0', '', false, [], [0], null, undefined, Symbol('0'), Object.create(null),
+    { valueOf: () => 0 }]) {
     same(multihash.equals({ code, digest: Uint8Array.of(5) }), false, 'equals, a code that is none');
   }
-  for (const digest of [[5], '5', new Int8Array([5]), new Short([5, 6, 7])]) same(multihash.equals({ code: 0, digest }), false, 'equals, another digest');
+  for (const digest of [[5], '5', new Int8Array([5]), new Short([5, 6, 7])])
+    same(multihash.equals({ code: 0, digest }), false, 'equals, another digest');
   same(multihash.equals({ code: 0n, digest: new Short([5]) }), true, 'equals, a subclass');
 }
 
@@ -165,9 +175,12 @@ function multihashes(module) {
   const other = module.Multihash.of(22n, EXAMPLE.subarray(2));
   same(`${multihash.code} ${multihash.size} ${hex(multihash.bytes)}`, `22 32 ${hex(EXAMPLE)}`, 'fields');
   same(multihash.equals(other) && multihash.equals({ code: 22n, digest: EXAMPLE.slice(2) }), true, 'equals');
-  const digests = [other.digest.subarray(1), other.digest.subarray(0, 31), Uint8Array.of(...other.digest, 0), new Uint8Array(32)];
-  const unequal = [[21, other.digest], ...digests.map((digest) => [22, digest])].map((pair) => module.Multihash.of(...pair));
-  for (const value of [...unequal, null, undefined, 22, 'text', {}, EXAMPLE]) same(multihash.equals(value), false, 'equals');
+  const digests = [other.digest.subarray(1), other.digest.subarray(0, 31), Uint8Array.of(...other.digest, 0),
+    new Uint8Array(32)];
+  const unequal = [[21, other.digest], ...digests.map((digest) => [22, digest])].map((pair) =>
+    module.Multihash.of(...pair));
+  for (const value of [...unequal, null, undefined, 22, 'text', {}, EXAMPLE])
+    same(multihash.equals(value), false, 'equals');
   multihash.bytes.fill(0);
   same(hex(multihash.bytes), hex(EXAMPLE), 'bytes are a copy');
   looseEquals(module);
@@ -185,7 +198,8 @@ function multihashes(module) {
   }
   const pairs = [[0, 'zz'], [1, 'b'], [1, 'ab'], [1, 'bb'], [2, 'b'], [2n ** 60n, '']];
   const ordered = pairs.map(([code, text]) => module.Multihash.of(code, new TextEncoder().encode(text)));
-  ordered.forEach((left, i) => ordered.forEach((right, k) => same(module.compare(left, right), Math.sign(i - k), 'compare')));
+  ordered.forEach((left, i) =>
+    ordered.forEach((right, k) => same(module.compare(left, right), Math.sign(i - k), 'compare')));
 }
 
 /** JSON.stringify of each has only texts and numbers that are exact. */
@@ -197,11 +211,13 @@ function inJSON(module) {
   }
   const texts = {
     '80': '{"name":"MultihashError","message":"not enough input bytes","status":"insufficient","taken":1}',
-    '0000ff': '{"name":"MultihashError","message":"Invalid multihash size 1.","status":"invalid_size","size":1,"taken":3}',
+    '0000ff':
+      '{"name":"MultihashError","message":"Invalid multihash size 1.","status":"invalid_size","size":1,"taken":3}',
     '12ffffffffffffffff7f': '{"name":"MultihashError","message":"Invalid multihash size 9223372036854775807.",' +
       '"status":"invalid_size","size":"9223372036854775807","taken":10}',
   };
-  for (const [input, text] of Object.entries(texts)) same(JSON.stringify(fails(module.MultihashError, () => module.decode(unhex(input)))), text, 'an error in JSON');
+  for (const [input, text] of Object.entries(texts))
+    same(JSON.stringify(fails(module.MultihashError, () => module.decode(unhex(input)))), text, 'an error in JSON');
   const code = fails(module.MultihashError, () => module.encode(1n << 63n, EXAMPLE));
   same(JSON.parse(JSON.stringify(code)).code, '9223372036854775808', 'a code in JSON');
 }
@@ -217,7 +233,8 @@ function errors(module) {
     '010200': 'failed to fill whole buffer',
     '010000': 'Invalid multihash size 1.',
   };
-  const made = Object.entries(texts).map(([input, text]) => [fails(module.MultihashError, () => module.decode(unhex(input)), input), text]);
+  const made = Object.entries(texts).map(([input, text]) =>
+    [fails(module.MultihashError, () => module.decode(unhex(input)), input), text]);
   for (const [error, text] of made) {
     same(error.message, text, 'message');
     same(error.isIncomplete, error.taken === 1 || error.status === 'unexpected_eof', 'isIncomplete');
@@ -229,7 +246,8 @@ function errors(module) {
     const again = module.MultihashError.from(clone);
     const fields = ['name', 'message', 'status', 'size', 'code', 'taken', 'isIncomplete'];
     if (keepsCause()) for (const field of fields) same(again?.[field], error[field], `${field} of a clone`);
-    same(`${module.MultihashError.from(error) === error} ${again instanceof module.MultihashError}`, `true ${keepsCause()}`, 'from');
+    same(`${module.MultihashError.from(error) === error} ${again instanceof module.MultihashError}`,
+      `true ${keepsCause()}`, 'from');
   }
   const others = [null, undefined, 3, {}, new Error('text'), new Error('text', { cause: { status: 'ok' } })];
   for (const value of others) same(module.MultihashError.from(value), undefined, 'from');

@@ -21,7 +21,8 @@ function webkit(profile, url) {
 
 const commands = {
   chromium: (profile, url) => {
-    const words = ['--headless', '--no-sandbox', '--disable-gpu', '--disable-dev-shm-usage', '--no-first-run', '--remote-debugging-port=0'];
+    const words = ['--headless', '--no-sandbox', '--disable-gpu', '--disable-dev-shm-usage', '--no-first-run',
+      '--remote-debugging-port=0'];
     return ['chromium', ...words, `--user-data-dir=${profile}`, url];
   },
   firefox: (profile, url) => ['firefox-esr', '--headless', '--no-remote', '--profile', profile, url],

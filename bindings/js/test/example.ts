@@ -1,5 +1,6 @@
 // What the types say, for tsc --noEmit --strict.
-import { compare, decode, DIGEST_MAX, encode, encodedLength, head, Multihash, MultihashError, MultihashReader, read, scaleDecode, scaleEncode } from 'verified-multihash';
+import { compare, decode, DIGEST_MAX, encode, encodedLength, head, Multihash, MultihashError, MultihashReader, read,
+  scaleDecode, scaleEncode } from 'verified-multihash';
 import type { Status } from 'verified-multihash/inline';
 import { connect } from 'verified-multihash/module';
 

@@ -5,7 +5,8 @@ import { connect } from 'verified-multihash/module';
 connect(await WebAssembly.compileStreaming(fetch('multihash.wasm')));
 
 const response: Response = await fetch('multihashes.bin');
-if (response.body !== null) for await (const multihash of new MultihashReader(response.body, { limit: 64 })) console.log(multihash.code);
+if (response.body !== null)
+  for await (const multihash of new MultihashReader(response.body, { limit: 64 })) console.log(multihash.code);
 
 export const ofStream = (stream: ReadableStream<Uint8Array>): MultihashReader => new MultihashReader(stream);
 // @ts-expect-error a stream of texts

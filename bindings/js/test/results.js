@@ -1,7 +1,8 @@
 // The test vectors, and what the library for C returned for other inputs.
 import { hex, same, unhex } from './check.js';
 
-const STATUSES = ['ok', 'insufficient', 'overflow', 'not_minimal', 'invalid_size', 'invalid_code', 'unexpected_eof', 'no_room'];
+const STATUSES = ['ok', 'insufficient', 'overflow', 'not_minimal', 'invalid_size', 'invalid_code', 'unexpected_eof',
+  'no_room'];
 const COLUMNS = 'S\tinput\tread\tread_taken\tfrom_bytes\tscale_decode\tscale_taken';
 
 const result = (module, call) => {
@@ -16,12 +17,16 @@ const result = (module, call) => {
 /** A result as the vectors write it, and the number of bytes consumed. */
 function written(module, call) {
   const { error, multihash, taken } = result(module, call);
-  if (error) return [[error.status, error.size ?? error.code ?? []].flat().join(' '), error.isIncomplete ? '-' : String(error.taken)];
+  if (error) {
+    const words = [error.status, error.size ?? error.code ?? []].flat().join(' ');
+    return [words, error.isIncomplete ? '-' : String(error.taken)];
+  }
   return [`pair ${multihash.code} ${hex(multihash.digest) || '-'}`, String(taken), multihash];
 }
 
 /** Whether a result for a buffer of that size is the result for 255 too. */
-const isForAll = (verdict, size) => size >= 255 || !verdict.startsWith('invalid_size') || BigInt(verdict.slice(13)) > 255n;
+const isForAll = (verdict, size) => size >= 255 || !verdict.startsWith('invalid_size') ||
+  BigInt(verdict.slice(13)) > 255n;
 
 function checkBack(module, multihash, data) {
   const encoding = module.encode(multihash.code, multihash.digest);
@@ -68,7 +73,9 @@ function encoded(module, call) {
 
 function headed(module, data) {
   const head = result(module, () => module.head(data));
-  return head.error ? `${STATUSES.indexOf(head.error.status)} 0 0 ${head.error.taken}` : `0 ${head.code} ${head.digestLength} ${head.taken}`;
+  return head.error
+    ? `${STATUSES.indexOf(head.error.status)} 0 0 ${head.error.taken}`
+    : `0 ${head.code} ${head.digestLength} ${head.taken}`;
 }
 
 const pairOf = (data) => [new DataView(data.buffer, data.byteOffset).getBigUint64(0, true), data.subarray(8)];
@@ -84,7 +91,8 @@ function lineOf(module, data, index, before) {
   if (data.length < 8) return `${parts.join('|')}|`;
   const [code, digest] = pairOf(data);
   const need = result(module, () => module.encodedLength(code, digest.length));
-  parts.push(encoded(module, () => module.encode(code, digest)), encoded(module, () => module.scaleEncode(code, digest)));
+  parts.push(encoded(module, () => module.encode(code, digest)),
+    encoded(module, () => module.scaleEncode(code, digest)));
   parts.push(need.error ? `${STATUSES.indexOf(need.error.status)} 0` : `0 ${need}`);
   if (!isPair(before) || !isPair(data)) return `${parts.join('|')}|`;
   const [left, right] = [before, data].map((pair) => module.Multihash.of(...pairOf(pair)));

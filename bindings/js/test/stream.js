@@ -41,7 +41,8 @@ const byteStream = (stream, after, cancel) => new ReadableStream({
 
 async function readableStream(module, stream, wanted) {
   const called = byteStream(stream, (controller) => controller.close());
-  same(`${listed((await drained(new module.MultihashReader(called))).found)} ${called.locked}`, `${wanted} false`, 'read by calls');
+  same(`${listed((await drained(new module.MultihashReader(called))).found)} ${called.locked}`, `${wanted} false`,
+    'read by calls');
   const source = byteStream(stream, (controller) => controller.close());
   const found = [];
   for await (const multihash of new module.MultihashReader(source)) found.push(multihash);
@@ -102,7 +103,8 @@ async function givenUp(module, stream) {
   same(hex(whole.rest), hex(stream.subarray(34)), 'rest after a release');
   for (const reader of [first, whole]) {
     const looped = await reader[Symbol.asyncIterator]().next().catch((error) => error);
-    same(`${looped.message}, ${(await drained(reader)).error?.message}`, 'the reader was released, the reader was released', 'after a release');
+    same(`${looped.message}, ${(await drained(reader)).error?.message}`,
+      'the reader was released, the reader was released', 'after a release');
   }
   const reasons = [];
   for (const [cut, waits] of [[0, true], [20, true], [20, false]]) {
@@ -125,10 +127,12 @@ async function badSources(module, stream) {
   for (const text of [await drained(texts), await drained(texts)]) {
     same(`${text.error?.name} ${text.found.length} ${text.rest.length}`, 'TypeError 0 9', 'a chunk that is text');
   }
-  for (const source of [null, 3, 'ab', [stream], { [Symbol.asyncIterator]: () => null }, { [Symbol.asyncIterator]: 3 }]) {
+  for (const source of [null, 3, 'ab', [stream], { [Symbol.asyncIterator]: () => null },
+    { [Symbol.asyncIterator]: 3 }]) {
     fails(TypeError, () => new module.MultihashReader(source), 'a source');
   }
-  const options = [[RangeError, { limit: -1 }], [RangeError, { limit: 0.5 }], [TypeError, { limit: '64' }], [TypeError, { rest: 'ab' }]];
+  const options = [[RangeError, { limit: -1 }], [RangeError, { limit: 0.5 }], [TypeError, { limit: '64' }],
+    [TypeError, { rest: 'ab' }]];
   for (const [kind, option] of options) fails(kind, () => new module.MultihashReader(chunks(), option), 'an option');
 }
 
@@ -139,7 +143,8 @@ async function throwing(module, stream) {
     throw new Error('broken');
   }
   const reader = new module.MultihashReader(source());
-  const results = [await drained(reader), await drained(reader)].map(({ found, error, rest }) => `${found.length} ${error?.message} ${rest.length}`);
+  const results = [await drained(reader), await drained(reader)].map(({ found, error, rest }) =>
+    `${found.length} ${error?.message} ${rest.length}`);
   same(`${results}`, '2 broken 4,0 broken 4', 'a generator that threw');
 }
 

@@ -33,4 +33,5 @@ export function speed(module) {
   return `decode ${best(() => module.decode(encoding))} ns, encode ${best(() => module.encode(18, digest))} ns`;
 }
 
-export const summary = ({ checks, errors }) => [...errors.slice(0, 5), `${checks - errors.length} checks right, ${errors.length} wrong`].join('\n');
+export const summary = ({ checks, errors }) =>
+  [...errors.slice(0, 5), `${checks - errors.length} checks right, ${errors.length} wrong`].join('\n');
