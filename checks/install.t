@@ -125,7 +125,8 @@ another_function() {
 # An archive of prebuilt/ that differs in one byte is not built.
 altered_archive() {
   local copy=$work/altered
-  mkdir -p "$copy/crates" && cp -r CMakeLists.txt packaging prebuilt "$copy" && cp -r crates/multihash_c "$copy/crates" &&
+  mkdir -p "$copy/crates" && cp -r CMakeLists.txt packaging prebuilt "$copy" &&
+    cp -r crates/multihash_c "$copy/crates" &&
     printf x | dd of="$copy/prebuilt/$(uname -m)/libmultihash_c.a" bs=1 seek=9999 conv=notrunc status=none &&
     rejects "not the archive of prebuilt/SHA256SUMS" cmake -S "$copy" -B "$work/altered.built"
 }
@@ -296,7 +297,8 @@ with_flags() {
   local library=$work/flags/libmultihash_c.so object=CMakeFiles/multihash_c_objects.dir/packaging/portable/multihash.c.o
   CFLAGS="-fvisibility=hidden -fcf-protection" LDFLAGS=-Wl,--build-id=0x01234567 cmake -S "$top" -B "$work/flags" \
     -DMULTIHASH_C_ARCHIVE=OFF -DBUILD_TESTING=OFF && cmake --build "$work/flags" &&
-    exports_exactly "$library" packaging/portable/multihash_c.map && readelf -n "$library" | grep 'Build ID: 01234567' &&
+    exports_exactly "$library" packaging/portable/multihash_c.map && readelf -n "$library" |
+    grep 'Build ID: 01234567' &&
     readelf -n "$work/flags/$object" | grep 'IBT, SHSTK'
 }
 

@@ -13,12 +13,23 @@ import os
 import re
 import sys
 from pathlib import Path
+from typing import Any, Optional
 
 SOURCE, *FILES = map(Path, sys.argv[1:])
 VERSION = SOURCE.name.rpartition("-")[2]
-COPYRIGHT, OWNER = re.search(r"(Copyright .*\d{4} (.*))", (SOURCE / "LICENSE").read_text()).groups()
+
+
+def found(form: str, text: str) -> list[str]:
+    """The groups of the first match, which there has to be."""
+    match = re.search(form, text)
+    if not match:
+        sys.exit("not found: " + form)
+    return [*match.groups()]
+
+
+COPYRIGHT, OWNER = found(r"(Copyright .*\d{4} (.*))", (SOURCE / "LICENSE").read_text())
 README, GENERATE = ((SOURCE / name).read_text() for name in ("README.md", "tools/generate"))
-KIT, LOGIC = (re.search(form, README)[1] for form in ("`(rattle-kit-[^`]*)`", "logic `([^`]*)`"))
+KIT, LOGIC = (found(form, README)[0] for form in ("`(rattle-kit-[^`]*)`", "logic `([^`]*)`"))
 # what the kit made, and the files of a release that have it, or were linked with it
 MADE = {
     "prebuilt/x86_64/libmultihash_c.a": r"_x86_64\.|-x86_64\.|_amd64\.|multihash_c-[0-9.]*\.crate",
@@ -27,21 +38,26 @@ MADE = {
     "bindings/js/multihash.wasm": r"\.tgz$",
 }
 GENERATED = {"source": "packaging/portable/module.h", "wasm": "bindings/js/multihash.wasm"}  # parts of tools/generate
-packages, relations = [], []
+packages: list[dict[str, Any]] = []
+relations: list[dict[str, str]] = []
 
 
-def package(name, version, purpose, path=None):
-    found = {"SPDXID": "SPDXRef-" + re.sub("[^A-Za-z0-9.]", "-", name), "name": name, "versionInfo": version}
-    found.update(downloadLocation="NOASSERTION", filesAnalyzed=False, primaryPackagePurpose=purpose)
+def package(name: str, version: str, purpose: str, path: Optional[Path] = None) -> str:
+    row: dict[str, Any] = {
+        "SPDXID": "SPDXRef-" + re.sub("[^A-Za-z0-9.]", "-", name),
+        "name": name,
+        "versionInfo": version,
+    }
+    row.update(downloadLocation="NOASSERTION", filesAnalyzed=False, primaryPackagePurpose=purpose)
     if path:
         sums = [{"algorithm": "SHA256", "checksumValue": hashlib.sha256(path.read_bytes()).hexdigest()}]
-        found.update(packageFileName=name, checksums=sums, licenseConcluded="MIT", licenseDeclared="MIT")
-        found.update(copyrightText=COPYRIGHT)
-    packages.append(found)
-    return found["SPDXID"]
+        row.update(packageFileName=name, checksums=sums, licenseConcluded="MIT", licenseDeclared="MIT")
+        row.update(copyrightText=COPYRIGHT)
+    packages.append(row)
+    return str(row["SPDXID"])
 
 
-def relate(left, kind, right):
+def relate(left: str, kind: str, right: str) -> None:
     relations.append({"spdxElementId": left, "relationshipType": kind, "relatedSpdxElement": right})
 
 
@@ -62,7 +78,8 @@ for path in FILES:
         if re.search(form, path.name):
             relate(file, "GENERATED_FROM", made[name])
 for line in sys.stdin:
-    relate(package(*line.split(), "APPLICATION"), "BUILD_TOOL_OF", release)
+    tool, version = line.split()
+    relate(package(tool, version, "APPLICATION"), "BUILD_TOOL_OF", release)
 assert len({each["SPDXID"] for each in packages}) == len(packages)
 time = datetime.datetime.fromtimestamp(int(os.environ["SOURCE_DATE_EPOCH"]), datetime.timezone.utc)
 digest = hashlib.sha256(json.dumps(packages).encode()).hexdigest()

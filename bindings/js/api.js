@@ -1,6 +1,6 @@
 // What each entry exports: index.js, inline.js and module.js.
 export {
-  DIGEST_MAX, HEAD_MAX, LENGTH_MAX, SCALE_LENGTH_MAX, Multihash, MultihashError, compare, decode, encode, encodedLength, head, read,
-  scaleDecode, scaleEncode, version,
+  DIGEST_MAX, HEAD_MAX, LENGTH_MAX, SCALE_LENGTH_MAX, Multihash, MultihashError, compare, decode, encode,
+  encodedLength, head, read, scaleDecode, scaleEncode, version,
 } from './core.js';
 export { MultihashReader } from './reader.js';

@@ -122,8 +122,10 @@ packed_script() {
   diff "$at/out" "$top/crates/mh_show/stdout" && grep -x 'invalid_size 34' "$at/err" &&
     (cd "$at" && node --no-warnings --input-type=commonjs -e "
       if (process.features.require_module) require('verified-multihash/inline').decode(Uint8Array.of(1, 0));
-      const compiled = new WebAssembly.Module(require('fs').readFileSync(require.resolve('verified-multihash/multihash.wasm')));
-      import('verified-multihash/module').then((found) => console.log(found.connect(compiled), found.decode(Uint8Array.of(2, 0)).code));
+      const compiled = new \
+        WebAssembly.Module(require('fs').readFileSync(require.resolve('verified-multihash/multihash.wasm')));
+      import('verified-multihash/module').then((found) => console.log(found.connect(compiled), \
+        found.decode(Uint8Array.of(2, 0)).code));
       import('verified-multihash').then((found) => console.log(found.decode(Uint8Array.of(1, 0)).code));" > out) &&
     sort "$at/out" | paste -sd ' ' | grep -x '1 undefined 2'
 }

@@ -91,8 +91,10 @@ failing_allocations() {
 # The sdist is all that is needed: its own tests run too. What is in the folders above it is not used.
 sdist() {
   local above=$to/above
-  rm -rf "$to/sdist" "$above" && mkdir "$to/sdist" && tar xf "$to"/dist/*.tar.gz -C "$to/sdist" --strip-components=1 || return 1
-  mkdir -p "$above/folder" "$above/crates/multihash_c" "$above/prebuilt/$(uname -m)" && cp -r "$to/sdist" "$above/folder" &&
+  rm -rf "$to/sdist" "$above" && mkdir "$to/sdist" && tar xf "$to"/dist/*.tar.gz -C "$to/sdist" --strip-components=1 ||
+    return 1
+  mkdir -p "$above/folder" "$above/crates/multihash_c" "$above/prebuilt/$(uname -m)" &&
+    cp -r "$to/sdist" "$above/folder" &&
     touch "$above/prebuilt/$(uname -m)/libmultihash_c.a" "$above/LICENSE" && imports "$above/folder/sdist" &&
     cmp "$here/../../LICENSE" "$to/sdist/LICENSE" && imports "$to"/dist/*.tar.gz &&
     unit_tests "$to/sdist/tests" -u MULTIHASH_VERDICTS
@@ -112,7 +114,8 @@ other_version() {
 altered_archive() {
   local top=$here/../.. copy=$to/altered archive
   archive=prebuilt/$(uname -m)/libmultihash_c.a
-  rm -rf "$copy" && mkdir "$copy" && tar -C "$top" -c --exclude=build LICENSE bindings/python checks/not_shown.txt packaging/portable \
+  rm -rf "$copy" && mkdir "$copy" &&
+    tar -C "$top" -c --exclude=build LICENSE bindings/python checks/not_shown.txt packaging/portable \
     prebuilt crates/{multihash_c/include,vectors/data} | tar -x -C "$copy" &&
     printf x | dd of="$copy/$archive" bs=1 seek=9999 conv=notrunc && ! cmp "$copy/$archive" "$top/$archive" &&
     rejects "not the archive of prebuilt/SHA256SUMS" installs "$copy/bindings/python"

@@ -55,4 +55,5 @@ new Multihash(18, multihash.digest);
 const { digest: text }: { digest: string } = multihash.toJSON();
 const number: number | string | undefined = MultihashError.from(text)?.toJSON().size;
 
-export { all, connected, encodedLength, form, length, number, order, small, statusOf, taken, text, theirs, wide, wrong };
+export { all, connected, encodedLength, form, length, number, order, small, statusOf, taken, text, theirs, wide,
+  wrong };

@@ -80,7 +80,8 @@ class _Readable(Protocol):
 
 
 class _AsyncReadable(Protocol):
-    async def read(self, size: int, /) -> bytes: ...
+    async def read(self, size: int, /) -> bytes:
+        ...
 
 
 def head(data: Buffer) -> Head:

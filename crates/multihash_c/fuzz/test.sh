@@ -32,5 +32,6 @@ fuzz plain 20000 || { cat "$work/log"; exit 1; }
 grep -x 'Done 20000 runs in .*' "$work/log"
 finds result '/w2c_multihash_from_bytes(/s/bytes_length)/bytes_length - (bytes_length > 281))/' \
   "not so: same(multihash_from_bytes(bytes, length), whole)"
-finds read '/^multihash_decoded multihash_from_bytes/,/^}/s/= ANY/= bytes_length > 281 ? bytes[bytes_length] == 1 : ANY/' \
+beyond='bytes_length > 281 ? bytes[bytes_length] == 1'
+finds read "/^multihash_decoded multihash_from_bytes/,/^}/s/= ANY/= $beyond : ANY/" \
   "AddressSanitizer: heap-buffer-overflow"
