@@ -2,4 +2,4 @@
 # That tests fail for bugs which no contract excludes.
 cd "$(dirname "$0")/.." || exit 2
 echo 1..28
-exec checks/bugs.py
+exec checks/lib/bugs.py

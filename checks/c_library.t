@@ -2,12 +2,12 @@
 # The header and the static library for C.
 # It looks at what the library exports and needs, and calls it from C and C++: plain, on buffers between unreadable
 # pages, under sanitizers and under valgrind, with all warnings as errors; and runs the examples.
-# shellcheck source=checks/tap.sh
-. "$(dirname "$0")/tap.sh"
+# shellcheck source=checks/lib/tap.sh
+. "$(dirname "$0")/lib/tap.sh"
 plan 34
 set -o pipefail
-# shellcheck source=checks/proved.sh
-. checks/proved.sh
+# shellcheck source=checks/lib/proved.sh
+. checks/lib/proved.sh
 top=$PWD
 crate=$top/crates/multihash_c
 library=$PROVED/crates/multihash_c/out/libmultihash_c.a
@@ -38,7 +38,7 @@ planted_prebuilt() {
 
 # The archive exports what the header declares, no more and no less.
 exports_exactly() {
-  checks/header.py --exports > "$work/declared" && [ -s "$work/declared" ] || return 1
+  checks/lib/header.py --exports > "$work/declared" && [ -s "$work/declared" ] || return 1
   nm --defined-only --extern-only -f posix "$1" | awk '!/:$/ && NF { print $1 }' | sort |
     diff "$work/declared" - &&
     echo "exports the $(wc -l < "$work/declared") functions that the header declares"
@@ -47,7 +47,7 @@ exports_exactly() {
 # The page of the library names each function that the header declares, and a test in C calls it.
 names_and_calls() {
   local name
-  checks/header.py --exports > "$work/names" && [ -s "$work/names" ] || return 1
+  checks/lib/header.py --exports > "$work/names" && [ -s "$work/names" ] || return 1
   while read -r name; do
     grep -q "\`$name\`" "$1" || { echo "not in $1: $name"; return 1; }
     grep -q "\b$name(" "$crate"/c_test/{test,decoding,encoding,verdicts}.c || { echo "not called: $name"; return 1; }

@@ -2,4 +2,4 @@
 # That the header for C, and the numbers, structs and versions of the bindings, are those of the crate.
 cd "$(dirname "$0")/.." || exit 2
 echo 1..46
-exec checks/header.py
+exec checks/lib/header.py

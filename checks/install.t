@@ -2,12 +2,12 @@
 # What CMake builds, installs and packs of the library for C.
 # That is its tests, its files, programs built against it, its man pages, the packages for Rust and for Debian, of the
 # archives, in an emulator for aarch64, and of the portable source.
-# shellcheck source=checks/tap.sh
-. "$(dirname "$0")/tap.sh"
+# shellcheck source=checks/lib/tap.sh
+. "$(dirname "$0")/lib/tap.sh"
 plan 30
 set -o pipefail
-# shellcheck source=checks/proved.sh
-. checks/proved.sh
+# shellcheck source=checks/lib/proved.sh
+. checks/lib/proved.sh
 top=$PWD
 header=$top/crates/multihash_c/include/multihash.h
 version=$(sed -n 's/^#define MULTIHASH_VERSION "\([0-9.]*\)"$/\1/p' "$header")
@@ -38,7 +38,7 @@ files_in() {
     "$libdir"/cmake/multihash_c/multihash_c-config{,-release,-version}.cmake "$libdir/pkgconfig/multihash_c.pc" \
     share/doc/multihash_c/{C.md,changelog,copyright,examples/{show.c,stream.c,test.sh}} share/man/man3/multihash.3 \
     "${@:2}"
-  { checks/header.py --exports && echo multihash_status_text; } |
+  { checks/lib/header.py --exports && echo multihash_status_text; } |
     while read -r function; do echo "./share/man/man3/$function.3"; done
 }
 
@@ -55,7 +55,7 @@ exports_exactly() {
   local -x LC_ALL=C
   awk '/^MULTIHASH_C/ { node = $1; left = $4 } /^    multihash_/ { sub(/;/, "", $1); print $1 "@@" node; left-- }
     /^}/ && left { print "another number of functions than it says: " node > "/dev/stderr"; exit 1 }' "$2" | sort \
-    > "$work/versions" && sed 's/@.*//' "$work/versions" | diff <(checks/header.py --exports) - &&
+    > "$work/versions" && sed 's/@.*//' "$work/versions" | diff <(checks/lib/header.py --exports) - &&
     readelf -W --dyn-syms "$1" | awk '$7 ~ /^[0-9]+$/ && $4 != "SECTION" { print $8 }' | sort | diff "$work/versions" -
 }
 

@@ -1,8 +1,8 @@
 #!/usr/bin/env bash
 # The scripts of the repository: bash -n, shellcheck, python3, black, mypy, node, and the lengths of lines. Each rejects
 # a planted script.
-# shellcheck source=checks/tap.sh
-. "$(dirname "$0")/tap.sh"
+# shellcheck source=checks/lib/tap.sh
+. "$(dirname "$0")/lib/tap.sh"
 plan 16
 
 # Prints the paths of the scripts in a language, by their first lines.
@@ -41,14 +41,14 @@ short() { awk 'length($0) > 120 { print FILENAME ":" FNR ": is longer"; long = 1
   echo 'if true; then' > "$work/syntax.sh"
   try "bash -n" syntax 'bash -n' $shell
   try "bash -n rejects a planted script" rejects "unexpected end of file" syntax 'bash -n' "$work/syntax.sh" \
-    checks/tap.sh
+    checks/lib/tap.sh
   printf '%121s\n' . > "$work/long.sh"
   try "lines of at most 120 columns" short $lines
-  try "a planted line is too long" rejects "long.sh:1" short checks/tap.sh "$work/long.sh" checks/tap.sh
+  try "a planted line is too long" rejects "long.sh:1" short checks/lib/tap.sh "$work/long.sh" checks/lib/tap.sh
   echo "return" > "$work/syntax.py"
   try python3 python_syntax $python
-  try "python3 rejects a planted script" rejects "outside function" python_syntax checks/tap.py "$work/syntax.py" \
-    checks/tap.py
+  try "python3 rejects a planted script" rejects "outside function" python_syntax checks/lib/tap.py "$work/syntax.py" \
+    checks/lib/tap.py
   if has 2 node; then
     echo "let;" > "$work/syntax.mjs"
     try "node --check" syntax "node --check" $javascript

@@ -4,10 +4,10 @@
 # upwards until the test makes fewer. A test in which one failed, and that found all as it should be, fails
 # with FAILED. Each run has to free what it allocated. The programs are those that 'rt ci' built of the
 # crates' tests, if BUILT says so; otherwise 'rt test' builds them. Of mh_show the program is run: if an
-# allocation fails, it has to print that it is out of memory, and nothing else. checks/memory.c, which
+# allocation fails, it has to print that it is out of memory, and nothing else. checks/lib/memory.c, which
 # is loaded before malloc, makes allocations fail and counts them.
-# shellcheck source=checks/tap.sh
-. "$(dirname "$0")/tap.sh"
+# shellcheck source=checks/lib/tap.sh
+. "$(dirname "$0")/lib/tap.sh"
 plan 20
 set -o pipefail
 message='error: "an allocation failed"' # `FAILED` of the tests
@@ -132,7 +132,7 @@ try_shows() {
   try_show unread 4 /
 }
 
-cc -std=c11 -O1 -shared -fPIC -o "$work/memory.so" checks/memory.c -ldl || exit 2
+cc -std=c11 -O1 -shared -fPIC -o "$work/memory.so" checks/lib/memory.c -ldl || exit 2
 # A run in which no allocation failed, or which leaks, is not what was wanted.
 echo 'void *malloc(unsigned long); int main(void) { return !malloc(1); }' | cc -w -x c - -o "$work/leaks" || exit 2
 runs_of "$work/leaks" "" "$work/run" > "$work/leaking"

@@ -7,4 +7,4 @@ options=(--jobs $((($(nproc) + 1) / 2)) --since "${SINCE-}")
 [ -z "${PROVED-}" ] || options+=(--proved "$PROVED")
 [ "${ALL-}" != 1 ] || options+=(--definitions)
 echo 1..145
-exec checks/mutants.py "${options[@]}"
+exec checks/lib/mutants.py "${options[@]}"

@@ -2,4 +2,4 @@
 # What the pages say, README.md's programs, and that docs/CONTRACTS.md is what the sources say.
 cd "$(dirname "$0")/.." || exit 2
 echo 1..58
-exec checks/pages.py
+exec checks/lib/pages.py

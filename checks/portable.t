@@ -2,12 +2,12 @@
 # The portable source of the library for C.
 # It compares the generated file with a new one, byte for byte, and tests the source by its own tests: here with
 # sanitizers, on other machines in emulators, and against the archive's results.
-# shellcheck source=checks/tap.sh
-. "$(dirname "$0")/tap.sh"
+# shellcheck source=checks/lib/tap.sh
+. "$(dirname "$0")/lib/tap.sh"
 plan 26
 set -o pipefail
-# shellcheck source=checks/proved.sh
-. checks/proved.sh
+# shellcheck source=checks/lib/proved.sh
+. checks/lib/proved.sh
 top=$PWD
 tree=$work/tree
 steps=$work/steps

@@ -1,12 +1,12 @@
 #!/usr/bin/env bash
 # Runs each program on input that it has to reject.
-# checks/rejected.txt has the cases of crates/vectors: a line '== CASE FILE', followed by the text of the file
+# checks/lib/rejected.txt has the cases of crates/vectors: a line '== CASE FILE', followed by the text of the file
 # verdicts.tsv that it reads, or by what it must write to stdout or stderr. A file without such a line is empty.
 # The status must be 1.
 # Runs mh_show on texts, on digests of each size, on the longest input, and on streams that fail.
 # Each program is built once, or used as 'rt ci' built it, if BUILT says so.
-# shellcheck source=checks/tap.sh
-. "$(dirname "$0")/tap.sh"
+# shellcheck source=checks/lib/tap.sh
+. "$(dirname "$0")/lib/tap.sh"
 plan 383
 crates=$PWD/crates
 
@@ -81,7 +81,7 @@ expect_rejected() {
   local text reason
   while IFS='|' read -r text reason; do
     expect_show "mh_show: $reason\n1" "$text"
-  done < <(sed 1d checks/not_shown.txt)
+  done < <(sed 1d checks/lib/not_shown.txt)
 }
 
 # Streams of mh_show that fail or never end. The first error is reported.
@@ -109,10 +109,10 @@ expect_streams() {
 build vectors
 build mh_show
 mkdir "$work/vectors"
-awk -v to="$work/vectors" '/^== / { file = to "/" $2 "." $3; next } { print > file }' checks/rejected.txt
+awk -v to="$work/vectors" '/^== / { file = to "/" $2 "." $3; next } { print > file }' checks/lib/rejected.txt
 while read -r name; do
   judge "$work/vectors/$name"
-done < <(awk '/^== / { print $2 }' checks/rejected.txt | sort -u)
+done < <(awk '/^== / { print $2 }' checks/lib/rejected.txt | sort -u)
 expect_malformed
 # Another output than the wanted one is seen.
 judge "$work/planted" 2> "$work/log" | grep -q "^not ok "

@@ -1,8 +1,8 @@
 #!/usr/bin/env bash
 # 'rt ci': proves every crate and its tests, tries the mutants of must-fail/, runs tests and programs. Each crate has
 # as many tests as are stated here.
-# shellcheck source=checks/tap.sh
-. "$(dirname "$0")/tap.sh"
+# shellcheck source=checks/lib/tap.sh
+. "$(dirname "$0")/lib/tap.sh"
 plan 2
 rt ci > "$work/out" 2>&1 < /dev/null
 status=$?

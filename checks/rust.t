@@ -1,8 +1,8 @@
 #!/usr/bin/env bash
 # The packages for Rust: their tests over the archive and the portable source, from a clone and as packed, in a program
 # that uses upstream's package, and with serde; and their build script.
-# shellcheck source=checks/tap.sh
-. "$(dirname "$0")/tap.sh"
+# shellcheck source=checks/lib/tap.sh
+. "$(dirname "$0")/lib/tap.sh"
 plan 7
 set -o pipefail
 version=$(sed -n 's/^#define MULTIHASH_VERSION "\([0-9.]*\)"$/\1/p' crates/multihash_c/include/multihash.h)

@@ -3,4 +3,4 @@
 # numbers.
 cd "$(dirname "$0")/.." || exit 2
 echo 1..6
-exec checks/speed.py
+exec checks/lib/speed.py

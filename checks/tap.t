@@ -7,7 +7,7 @@ work=$(mktemp -d) || exit 2
 trap 'rm -rf "$work"' EXIT
 unset ALL
 cp -r .ci checks "$work" || exit 2
-export PYTHONPATH=checks # of the copy
+export PYTHONPATH=checks/lib # of the copy
 
 # Runs a text in a copy, and compares the results that it prints, one in a line.
 expect() {
@@ -19,22 +19,22 @@ expect() {
 }
 
 echo 1..32
-expect "not ok 1 - a\nok 2 - b" ". checks/tap.sh; try a false; try b true"
-expect "not ok 1 - a" ". checks/tap.sh; try a no_such_command"
-expect "ok 1 - a b" ". checks/tap.sh; try \$'a\\nb#' true"
-expect "not ok 1 - a" ". checks/tap.sh; try a rejects '' true"
-expect "not ok 1 - a" ". checks/tap.sh; try a rejects 'a text' false"
-expect "not ok 1 - a\nok 2 - b" ". checks/tap.sh; printf 'failed: a\npassed: b\n' | count_lines"
-expect "ok 1 # SKIP why" ". checks/tap.sh; leave_out why 1"
-expect "not ok 1 - why" "export ALL=1; . checks/tap.sh; leave_out why 1"
+expect "not ok 1 - a\nok 2 - b" ". checks/lib/tap.sh; try a false; try b true"
+expect "not ok 1 - a" ". checks/lib/tap.sh; try a no_such_command"
+expect "ok 1 - a b" ". checks/lib/tap.sh; try \$'a\\nb#' true"
+expect "not ok 1 - a" ". checks/lib/tap.sh; try a rejects '' true"
+expect "not ok 1 - a" ". checks/lib/tap.sh; try a rejects 'a text' false"
+expect "not ok 1 - a\nok 2 - b" ". checks/lib/tap.sh; printf 'failed: a\npassed: b\n' | count_lines"
+expect "ok 1 # SKIP why" ". checks/lib/tap.sh; leave_out why 1"
+expect "not ok 1 - why" "export ALL=1; . checks/lib/tap.sh; leave_out why 1"
 expect "not ok 1 - no_such_command is not installed" \
-  "export ALL=1; . checks/tap.sh; has 1 sh no_such_command && try a true"
-expect "ok 1 # SKIP bash=1.0 is not installed" ". checks/tap.sh; has 1 bash=1.0 && try a true"
-expect "ok 1 # SKIP bash=999+ is not installed" ". checks/tap.sh; has 1 bash=999+ && try a true"
-expect "ok 1 - a" ". checks/tap.sh; has 1 bash=1.0+ '/bin/s*' && try a true"
-expect "1..2\nok 1 - a\nnot ok 2 - b\n1" "(. checks/tap.sh; plan 2; try a true; try b false); echo \$?"
-expect "1..2\nok 1 - a\n1" "(. checks/tap.sh; plan 2; try a true); echo \$?"
-expect "1..1\nok 1 # SKIP why\n0" "(. checks/tap.sh; plan 1; leave_out why 1; false); echo \$?"
+  "export ALL=1; . checks/lib/tap.sh; has 1 sh no_such_command && try a true"
+expect "ok 1 # SKIP bash=1.0 is not installed" ". checks/lib/tap.sh; has 1 bash=1.0 && try a true"
+expect "ok 1 # SKIP bash=999+ is not installed" ". checks/lib/tap.sh; has 1 bash=999+ && try a true"
+expect "ok 1 - a" ". checks/lib/tap.sh; has 1 bash=1.0+ '/bin/s*' && try a true"
+expect "1..2\nok 1 - a\nnot ok 2 - b\n1" "(. checks/lib/tap.sh; plan 2; try a true; try b false); echo \$?"
+expect "1..2\nok 1 - a\n1" "(. checks/lib/tap.sh; plan 2; try a true); echo \$?"
+expect "1..1\nok 1 # SKIP why\n0" "(. checks/lib/tap.sh; plan 1; leave_out why 1; false); echo \$?"
 
 # The same of tap.py.
 report() { echo "python3 -c 'import sys, tap; sys.exit(tap.report([$1]))'; echo \$?"; }

@@ -9,12 +9,12 @@
 #                    here
 here=$(dirname "$(readlink -f "${BASH_SOURCE[0]}")")
 archive=$(readlink -f "${1:-$here/../../prebuilt/$(uname -m)/libmultihash_c.a}")
-# shellcheck source=checks/tap.sh
-. "$here/../../checks/tap.sh"
+# shellcheck source=checks/lib/tap.sh
+. "$here/../../checks/lib/tap.sh"
 plan 26
 set -o pipefail
-# shellcheck source=checks/proved.sh
-. checks/proved.sh
+# shellcheck source=checks/lib/proved.sh
+. checks/lib/proved.sh
 top=$PWD
 header=$top/crates/multihash_c/include/multihash.h
 data=$work/data

@@ -18,7 +18,7 @@ COPIES = {
     "portable/module.h": "packaging/portable/module.h",
     "portable/multihash.c": "packaging/portable/multihash.c",
     "portable/multihash.h": "crates/multihash_c/include/multihash.h",
-    "tests/not_shown.txt": "checks/not_shown.txt",
+    "tests/not_shown.txt": "checks/lib/not_shown.txt",
     "tests/verdicts.tsv": "crates/vectors/data/verdicts.tsv",
 }
 in_repository = not os.path.exists("PKG-INFO")

@@ -14,8 +14,8 @@ here=$(dirname "$(readlink -f "${BASH_SOURCE[0]}")")
 archive=$(readlink -f "${1:-$here/../../prebuilt/$(uname -m)/libmultihash_c.a}")
 to=
 if [ $# = 2 ]; then mkdir -p "$2" && to=$(readlink -f "$2") || exit 2; fi
-# shellcheck source=checks/tap.sh
-. "$here/../../checks/tap.sh"
+# shellcheck source=checks/lib/tap.sh
+. "$here/../../checks/lib/tap.sh"
 plan 18
 set -o pipefail
 to=${to:-$work}
@@ -115,7 +115,7 @@ altered_archive() {
   local top=$here/../.. copy=$to/altered archive
   archive=prebuilt/$(uname -m)/libmultihash_c.a
   rm -rf "$copy" && mkdir "$copy" &&
-    tar -C "$top" -c --exclude=build LICENSE bindings/python checks/not_shown.txt packaging/portable \
+    tar -C "$top" -c --exclude=build LICENSE bindings/python checks/lib/not_shown.txt packaging/portable \
     prebuilt crates/{multihash_c/include,vectors/data} | tar -x -C "$copy" &&
     printf x | dd of="$copy/$archive" bs=1 seek=9999 conv=notrunc && ! cmp "$copy/$archive" "$top/$archive" &&
     rejects "not the archive of prebuilt/SHA256SUMS" installs "$copy/bindings/python"

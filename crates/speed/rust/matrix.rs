@@ -1,5 +1,5 @@
 //! Makes the calls that `crates/speed` makes, of the Rust crate `multihash`: the same cases, inputs, loops
-//! and sums, so that `checks/speed.py --write PROGRAM` counts and times both by the same means.
+//! and sums, so that `checks/lib/speed.py --write PROGRAM` counts and times both by the same means.
 //!
 //! - `rust_matrix cases` prints the cases, one a line: the operation, the digest's size, the number of bytes
 //!   of the code, and the buffer's size.

@@ -1,11 +1,10 @@
 #!/usr/bin/env python3
 """Plants bugs that no contract excludes in copies of the crates, and checks that the tests fail.
 
-    checks/bugs.py [--alone]
+    checks/lib/bugs.py [--alone]
 
-They are in checks/bugs.edits. In 'seen: CRATE MODULE::TEST [N]' is the test that has to fail and,
-with N, the number of the allocation that fails in it. With 'seen: passes CRATE MODULE::TEST' it
-has to pass. The bugs of one crate of tests are planted in one copy, so each has a test of its own,
+They are in bugs.edits. In 'seen: CRATE MODULE::TEST [N]' is the test that has to fail and, with N,
+the number of the allocation that fails in it. With 'seen: passes CRATE MODULE::TEST' it has to pass. The bugs of one crate of tests are planted in one copy, so each has a test of its own,
 which no other bug changes: --alone shows that. It plants each bug in a copy of its own, which needs
 four times as long.
 """
@@ -22,8 +21,8 @@ import edits
 import proving
 import tap
 
-ROOT = Path(__file__).resolve().parent.parent
-BUGS = ROOT / "checks" / "bugs.edits"
+ROOT = Path(__file__).resolve().parents[2]
+BUGS = Path(__file__).with_name("bugs.edits")
 
 
 class Bug(NamedTuple):

@@ -1,10 +1,10 @@
 #!/usr/bin/env python3
 """Compares the instructions of each case of crates/speed, and of calls from C, with stored ones.
 
-    checks/speed.py
+    checks/lib/speed.py
         compares docs/speed.tsv and docs/SPEED.md with the counts, each of which may differ by 1, or
         by 2 %, and the page's table and chart with docs/speed.tsv
-    checks/speed.py --write [TUNED DEFAULT]
+    checks/lib/speed.py --write [TUNED DEFAULT]
         writes docs/speed.tsv, docs/speed.svg and the tables of docs/SPEED.md, and prints the dearer
         cases. With two builds of crates/speed/rust/matrix.rs counts and times them too; else these
         columns stay
@@ -28,7 +28,7 @@ from pathlib import Path
 
 import tap
 
-ROOT = Path(__file__).resolve().parent.parent
+ROOT = Path(__file__).resolve().parents[2]
 HOME, C = ROOT / "crates" / "speed", ROOT / "crates" / "multihash_c"
 CALLER = "speed::bench::Bench::run"
 DATA, CHART, PAGE = (ROOT / "docs" / name for name in ("speed.tsv", "speed.svg", "SPEED.md"))

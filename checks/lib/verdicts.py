@@ -3,9 +3,9 @@
 
 It computes them from the rules of docs/FORMAT.md by itself and calls nothing of the library.
 
-    checks/verdicts.py            checks each line
-    checks/verdicts.py --write    writes the results of the stored inputs: of a new one only the
-                                  capacity and the input are needed
+    checks/lib/verdicts.py            checks each line
+    checks/lib/verdicts.py --write    writes the results of the stored inputs: of a new one only the
+                                      capacity and the input are needed
 
 The inputs of the first lines came from outside. None is there twice with one capacity."""
 import hashlib
@@ -17,7 +17,7 @@ from pathlib import Path
 
 import tap
 
-TOP = Path(__file__).resolve().parent.parent
+TOP = Path(__file__).resolve().parents[2]
 STORED, BOUND = TOP / "crates/vectors/data/verdicts.tsv", TOP / "crates/multihash/specs/Varint.antt"
 COLUMNS = ("S", "input", "read", "read_taken", "from_bytes", "scale_decode", "scale_taken")
 

@@ -21,7 +21,7 @@ import start
 import tap
 from rt_source import Unread, functions
 
-TOP = Path(__file__).resolve().parent.parent
+TOP = Path(__file__).resolve().parents[2]
 README, CALLING, FORMAT = "README.md", "crates/multihash/CALLING.md", "docs/FORMAT.md"
 CONTRACTS, C, MAN = "docs/CONTRACTS.md", "docs/C.md", "packaging/mh_show.1"
 ARCHITECTURE, SPEED = "docs/ARCHITECTURE.md", "docs/SPEED.md"
@@ -93,7 +93,7 @@ def contract_errors(texts: Texts) -> Iterator[str]:
         yield str(error)
         return
     if texts[CONTRACTS] != page:
-        yield "checks/contracts.py writes, if it is meant:"
+        yield "checks/lib/contracts.py writes, if it is meant:"
         stored, made = texts[CONTRACTS].splitlines(), page.splitlines()
         yield from difflib.unified_diff(stored, made, lineterm="", n=0)
 
@@ -366,7 +366,7 @@ CHECKS: dict[str, Callable[[Texts], Iterator[str]]] = {
 def planted(texts: Texts) -> Iterator[tap.Result]:
     """Plants differences, each of which has to be found, and nothing."""
     nothing = edits.Planted("nothing", "", "link_errors", [])
-    for name, _, seen, its_edits in [nothing, *edits.read(TOP / "checks" / "pages.edits")]:
+    for name, _, seen, its_edits in [nothing, *edits.read(Path(__file__).with_name("pages.edits"))]:
         found = any(CHECKS[seen]({**texts, **edits.apply(texts, its_edits)}))
         yield f"planted: {name}", "" if found == bool(its_edits) else f"{seen}: found: {found}"
     for page, sentences in LIMITS.items():

@@ -120,14 +120,14 @@ pub fn {case.name}(n: u8) -> u16
     for path, text in {**TEXTS, **made}.items():
         (root / path).parent.mkdir(parents=True, exist_ok=True)
         (root / path).write_text(text, "utf-8")
-    shutil.copytree(Path(__file__).resolve().parent, root / "checks")
+    shutil.copytree(Path(__file__).resolve().parent, root / "checks/lib")
 
 
 def start(root: Path, *words: str, path: str = "") -> subprocess.Popen[str]:
     """Starts mutants.py, with another PATH if one is given."""
     command = [
         sys.executable,
-        str(root / "checks/mutants.py"),
+        str(root / "checks/lib/mutants.py"),
         "--proved",
         str(root / "proved"),
         *words,

@@ -1,8 +1,8 @@
 #!/usr/bin/env python3
 """Compares the header for C, and the numbers, structs and version of the bindings, with the crate.
 
-    checks/header.py              checks
-    checks/header.py --exports    prints the names of the functions that the header declares
+    checks/lib/header.py              checks
+    checks/lib/header.py --exports    prints the names of the functions that the header declares
 
 The header's declarations are made from the crate. The preprocessed header has to be these
 declarations and nothing else, in C and in C++, and its macros have to be the crate's constants. A
@@ -22,7 +22,7 @@ import edits
 import tap
 from rt_source import Item, Unread, items
 
-TOP = Path(__file__).resolve().parent.parent
+TOP = Path(__file__).resolve().parents[2]
 CRATE = "crates/multihash_c"
 HEADER = f"{CRATE}/include/multihash.h"
 LANGUAGES = {"C": ["cc", "-x", "c", "-std=c11"], "C++": ["c++", "-x", "c++", "-std=c++17"]}
@@ -286,7 +286,7 @@ def plant(files: Files, difference: edits.Planted) -> tap.Result:
 
 def results() -> Iterator[tap.Result]:
     files = read_files()
-    differences = edits.read(TOP / "checks" / "header.edits")
+    differences = edits.read(Path(__file__).with_name("header.edits"))
     if not shutil.which("c++"):
         why = "c++ is not installed"
         del LANGUAGES["C++"]

@@ -4,7 +4,7 @@
 #
 #   ALL=1    what is left out fails
 set -u
-cd "$(dirname "${BASH_SOURCE[0]}")/.." || exit 2
+cd "$(dirname "${BASH_SOURCE[0]}")/../.." || exit 2
 planned=0 number=0 failed=0
 work=$(mktemp -d) || exit 2
 

@@ -13,7 +13,7 @@ from pathlib import Path
 
 from rt_source import Item, items
 
-TOP = Path(__file__).resolve().parent.parent
+TOP = Path(__file__).resolve().parents[2]
 PAGE = TOP / "docs" / "CONTRACTS.md"
 PLACES = ("uses/src/headline.rt", "multihash", "multihash_c", "mh_show", "storage")
 # attributes that no caller can see
@@ -21,10 +21,10 @@ OF_BODIES = re.compile(r"#\[(allow|cold|inline|tactic)\b")
 INTRODUCTION = """\
 # Contracts
 
-Written by `checks/contracts.py`, and compared with the sources in CI: the main theorems, then the
-public items of these crates, as they stand in their files, without comments and bodies. A difference
-here is a changed promise. [CALLING.md](../crates/multihash/CALLING.md#what-contracts-see) says how to
-read a clause; its words are [at the end](#words).
+Written by `checks/lib/contracts.py`, and compared with the sources in CI: the main theorems, then
+the public items of these crates, as they stand in their files, without comments and bodies. A
+difference here is a changed promise. [CALLING.md](../crates/multihash/CALLING.md#what-contracts-see)
+says how to read a clause; its words are [at the end](#words).
 
 The functions of `laws.rt` and `pins.rt` do nothing: their clauses are laws of the definitions, and
 fix what implementations expose.

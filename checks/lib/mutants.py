@@ -3,7 +3,7 @@
 
 The prover must leave open, in each, goals of exactly the clauses that it names.
 
-    checks/mutants.py [--only NAME] [--definitions | --since COMMIT] [--jobs N] [--proved FOLDER]
+    checks/lib/mutants.py [--only NAME] [--definitions | --since COMMIT] [--jobs N] [--proved FOLDER]
                       [CRATE..]
 
 They are in crates/*/mutants/*.edits and crates/*/must-fail/*.edit; docs/PLANTED.md says how to
@@ -31,7 +31,7 @@ import proving
 import tap
 from proving import Function, Goal, Output, Prover
 
-ROOT = Path(__file__).resolve().parent.parent
+ROOT = Path(__file__).resolve().parents[2]
 EXAMPLES = ("specs", "proofs/Examples", "proofs/*Vectors.antt", "mutants/definitions.edits")
 # what follows a clause of which no goal is open but one where the search gave up at a limit
 BY_LIMIT = " by a limit"
@@ -233,7 +233,7 @@ class Options(NamedTuple):
         """Returns whether a crate's definitions are to be tried."""
         if self.definitions or self.only:
             return True
-        paths = [*(f"crates/{crate}/{path}" for path in EXAMPLES), "checks/mutants.py"]
+        paths = [*(f"crates/{crate}/{path}" for path in EXAMPLES), "checks/lib/mutants.py"]
         diff = ["git", "diff", "--name-only", self.since, "--", *paths]
         return bool(self.since and subprocess.check_output(diff, cwd=ROOT))
 
