@@ -9,7 +9,7 @@ set -o pipefail
 # shellcheck source=checks/lib/proved.sh
 . checks/lib/proved.sh
 top=$PWD
-crate=$top/crates/multihash_c
+c=$top/bindings/c
 library=$PROVED/crates/multihash_c/out/libmultihash_c.a
 list=$top/crates/vectors/data/verdicts.tsv
 warnings=(-Wall -Wextra -Wpedantic -Wconversion -Wsign-conversion -Wshadow -Wcast-qual -Werror)
@@ -25,14 +25,15 @@ build_library() {
 
 # The archives of the repository have the bytes of this library, and of a second build, which makes both anew.
 prebuilt_archives() {
-  cmp "$library" prebuilt/x86_64/libmultihash_c.a && STEPS=$work/steps tools/generate --check archives
+  cmp "$library" bindings/c/prebuilt/x86_64/libmultihash_c.a && STEPS=$work/steps tools/generate --check archives
 }
 
 # A copy of the archives in which a byte and its checksum were changed.
 planted_prebuilt() {
   local archive=aarch64/libmultihash_c.a
-  cp -r prebuilt "$work" && printf x | dd bs=1 seek=9999 conv=notrunc of="$work/prebuilt/$archive" &&
-    (cd "$work/prebuilt" && sha256sum {x86_64,aarch64}/libmultihash_c.a > SHA256SUMS) || return 0
+  mkdir -p "$work/bindings/c" && cp -r bindings/c/prebuilt "$work/bindings/c" &&
+    printf x | dd bs=1 seek=9999 conv=notrunc of="$work/bindings/c/prebuilt/$archive" &&
+    (cd "$work/bindings/c/prebuilt" && sha256sum {x86_64,aarch64}/libmultihash_c.a > SHA256SUMS) || return 0
   TREE=$work STEPS=$work/steps tools/generate --check archives
 }
 
@@ -50,12 +51,12 @@ names_and_calls() {
   checks/lib/header.py --exports > "$work/names" && [ -s "$work/names" ] || return 1
   while read -r name; do
     grep -q "\`$name\`" "$1" || { echo "not in $1: $name"; return 1; }
-    grep -q "\b$name(" "$crate"/c_test/{test,decoding,encoding,verdicts}.c || { echo "not called: $name"; return 1; }
+    grep -q "\b$name(" "$c"/tests/{test,decoding,encoding,verdicts}.c || { echo "not called: $name"; return 1; }
   done < "$work/names"
 }
 
 page_without_one() {
-  sed 's/multihash_head/another/' docs/C.md > "$work/page.md" && names_and_calls "$work/page.md"
+  sed 's/multihash_head/another/' bindings/c/README.md > "$work/page.md" && names_and_calls "$work/page.md"
 }
 
 # It needs functions that copy and fill memory, and no others.
@@ -86,7 +87,7 @@ plant_archive() {
 
 look_at_library() {
   try "exports" exports_exactly "$library"
-  try "page and tests of the exports" names_and_calls docs/C.md
+  try "page and tests of the exports" names_and_calls bindings/c/README.md
   try "a page without one" rejects "not in $work/page.md: multihash_head" page_without_one
   try "needs" needs_copies_alone "$library"
   try "state" writes_nothing "$library"
@@ -104,7 +105,7 @@ look_at_library() {
 # The header compiles without other includes, also if it is included twice.
 stands_alone() {
   printf '#include "multihash.h"\n#include "multihash.h"\nint main(void) { return 0; }\n' > "$work/alone.c"
-  "$@" -I "$crate/include" -fsyntax-only "$work/alone.c"
+  "$@" -I "$c/include" -fsyntax-only "$work/alone.c"
 }
 
 # ---- programs
@@ -113,14 +114,14 @@ stands_alone() {
 build_and_run() {
   local to=$work/$1 under=$2
   shift 2
-  "$@" -I "$crate/include" -o "$to" || return 1
+  "$@" -I "$c/include" -o "$to" || return 1
   # shellcheck disable=SC2086
   $under "$to" "$list"
 }
 
 # What a compiler has to pass: its command, with the flags for the language.
 test_compiler() {
-  local name=$1 from=("${@:2}") test=("$crate"/c_test/{test,decoding,encoding,verdicts,shared}.c -x none "$library")
+  local name=$1 from=("${@:2}") test=("$c"/tests/{test,decoding,encoding,verdicts,shared}.c -x none "$library")
   local sanitize=(-fsanitize=address -fsanitize=undefined -fno-sanitize-recover=all)
   try "$name, header alone" stands_alone "${from[@]}"
   try "$name, plain" build_and_run "$name" "" "${from[@]}" -O2 "${test[@]}"
@@ -139,38 +140,38 @@ test_compilers() {
 under_valgrind() {
   build_and_run valgrind "valgrind -q --error-exitcode=9 --leak-check=full --errors-for-leak-kinds=all" cc \
     "${c_flags[@]}" -g -O1 \
-    "$crate"/c_test/{test,decoding,encoding,verdicts,shared}.c "$library"
+    "$c"/tests/{test,decoding,encoding,verdicts,shared}.c "$library"
 }
 
 # A processor without what x86-64-v2 adds.
 on_old_processor() {
   build_and_run old "qemu-x86_64 -cpu qemu64,-pni,-ssse3,-sse4.1,-sse4.2,-popcnt,-cx16" cc "${c_flags[@]}" \
     -O2 -static \
-    "$crate"/c_test/{test,decoding,encoding,verdicts,shared}.c "$library"
+    "$c"/tests/{test,decoding,encoding,verdicts,shared}.c "$library"
 }
 
 # The calls that are counted for docs/SPEED.md compile too.
 counted_calls() {
-  cc "${c_flags[@]}" -O2 -I "$crate/include" "$crate/c_test/count.c" "$library" -o "$work/count" &&
+  cc "${c_flags[@]}" -O2 -I "$c/include" "$c/tests/count.c" "$library" -o "$work/count" &&
     "$work/count" read_34 10
 }
 
 # C by hand, which is counted beside the library, has the same results: those of the vectors, and of drawn inputs.
 plain_c() {
-  build_and_run plain "" cc "${c_flags[@]}" -O2 "$crate"/c_test/{plain,test,decoding,encoding,verdicts,shared}.c &&
-    cc "${c_flags[@]}" -O2 -I "$crate/include" "$crate"/c_test/{plain,draws}.c -o "$work/draws" &&
-    "$work/draws" 1 100000 | diff - "$crate/c_test/draws.txt"
+  build_and_run plain "" cc "${c_flags[@]}" -O2 "$c"/tests/{plain,test,decoding,encoding,verdicts,shared}.c &&
+    cc "${c_flags[@]}" -O2 -I "$c/include" "$c"/tests/{plain,draws}.c -o "$work/draws" &&
+    "$work/draws" 1 100000 | diff - "$c/tests/draws.txt"
 }
 
-# The example of docs/C.md is the one that is installed.
+# The example of bindings/c/README.md is the one that is installed.
 example_in_page() {
-  awk '$0 == "```c" && !seen { on = seen = 1; next } on && /^```/ { exit } on' docs/C.md |
-    diff packaging/examples/show.c - && echo "$(wc -l < packaging/examples/show.c) lines"
+  awk '$0 == "```c" && !seen { on = seen = 1; next } on && /^```/ { exit } on' bindings/c/README.md |
+    diff bindings/c/examples/show.c - && echo "$(wc -l < bindings/c/examples/show.c) lines"
 }
 
 # The reader of a stream that is installed, over pipes that are cut at each byte.
 stream_example() {
-  cc "${c_flags[@]}" -I "$crate/include" -I packaging/examples "$crate/c_test/stream.c" "$library" \
+  cc "${c_flags[@]}" -I "$c/include" -I bindings/c/examples "$c/tests/stream.c" "$library" \
     -o "$work/stream" &&
     "$work/stream"
 }
@@ -185,8 +186,8 @@ has 12 nm objdump ar && look_at_library
 test_compilers
 has 1 valgrind && try valgrind under_valgrind
 has 1 qemu-x86_64 && try "a processor of the baseline" on_old_processor
-try "fenced buffers" build_and_run fenced "" cc "${c_flags[@]}" -O2 "$crate/c_test/fenced.c" "$library"
+try "fenced buffers" build_and_run fenced "" cc "${c_flags[@]}" -O2 "$c/tests/fenced.c" "$library"
 try "the counted calls" counted_calls
 try "C by hand" plain_c
-try "the example of docs/C.md" example_in_page
+try "the example of bindings/c/README.md" example_in_page
 try "the reader of a stream" stream_example

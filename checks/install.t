@@ -9,7 +9,7 @@ set -o pipefail
 # shellcheck source=checks/lib/proved.sh
 . checks/lib/proved.sh
 top=$PWD
-header=$top/crates/multihash_c/include/multihash.h
+header=$top/bindings/c/include/multihash.h
 version=$(sed -n 's/^#define MULTIHASH_VERSION "\([0-9.]*\)"$/\1/p' "$header")
 major=${version%%.*}
 expected=$top/crates/mh_show/stdout
@@ -36,8 +36,8 @@ files_in() {
   local libdir=$1 function
   printf './%s\n' include/multihash.h "$libdir"/libmultihash_c.{a,so,so."$major",so."$version"} \
     "$libdir"/cmake/multihash_c/multihash_c-config{,-release,-version}.cmake "$libdir/pkgconfig/multihash_c.pc" \
-    share/doc/multihash_c/{C.md,changelog,copyright,examples/{show.c,stream.c,test.sh}} share/man/man3/multihash.3 \
-    "${@:2}"
+    share/doc/multihash_c/{README.md,changelog,copyright,examples/{show.c,stream.c,test.sh}} \
+    share/man/man3/multihash.3 "${@:2}"
   { checks/lib/header.py --exports && echo multihash_status_text; } |
     while read -r function; do echo "./share/man/man3/$function.3"; done
 }
@@ -45,8 +45,8 @@ files_in() {
 # The page has no link to what is not installed, and the changelog has the version.
 has_documents() {
   local document=$1/share/doc/multihash_c
-  cmp "$header" "$1/include/multihash.h" && grep -q "^$version (" "$document/changelog" && [ -s "$document/C.md" ] &&
-    ! grep -n '](\.*/' "$document/C.md"
+  cmp "$header" "$1/include/multihash.h" && grep -q "^$version (" "$document/changelog" &&
+    [ -s "$document/README.md" ] && ! grep -n '](\.*/' "$document/README.md"
 }
 
 # A shared library exports the functions of the header, each with its version of a map, whose versions have as many
@@ -66,7 +66,7 @@ has_shared_library() {
   for name in "SONAME.*libmultihash_c.so.$major]" "NEEDED.*libc.so.6" BIND_NOW GNU_RELRO; do
     grep -q "$name" "$work/segments" || { echo "not in the shared library: $name"; return 1; }
   done
-  exports_exactly "$library" packaging/portable/multihash_c.map
+  exports_exactly "$library" bindings/c/src/multihash_c.map
 }
 
 # A prefix has what it should have, with that folder for libraries, and further files.
@@ -89,7 +89,7 @@ installed_test() {
 # In the configured prefix, whose name has a blank. The archive keeps its bytes.
 installs() {
   install_built built && is_installed "$prefix" lib &&
-    cmp prebuilt/x86_64/libmultihash_c.a "$prefix/lib/libmultihash_c.a"
+    cmp bindings/c/prebuilt/x86_64/libmultihash_c.a "$prefix/lib/libmultihash_c.a"
 }
 
 # Below DESTDIR, from where pkg-config has to find it, in another folder for libraries; with the program, another one
@@ -118,16 +118,15 @@ plant_installed() {
 
 # A map whose released version has a function more than it says.
 another_function() {
-  sed 's/# 12 functions/# 11 functions/' packaging/portable/multihash_c.map > "$work/planted.map" &&
+  sed 's/# 12 functions/# 11 functions/' bindings/c/src/multihash_c.map > "$work/planted.map" &&
     exports_exactly "$prefix/lib/libmultihash_c.so" "$work/planted.map"
 }
 
-# An archive of prebuilt/ that differs in one byte is not built.
+# An archive of bindings/c/prebuilt that differs in one byte is not built.
 altered_archive() {
   local copy=$work/altered
-  mkdir -p "$copy/crates" && cp -r CMakeLists.txt packaging prebuilt "$copy" &&
-    cp -r crates/multihash_c "$copy/crates" &&
-    printf x | dd of="$copy/prebuilt/$(uname -m)/libmultihash_c.a" bs=1 seek=9999 conv=notrunc status=none &&
+  mkdir -p "$copy/bindings" && cp CMakeLists.txt "$copy" && cp -r bindings/c "$copy/bindings" &&
+    printf x | dd of="$copy/bindings/c/prebuilt/$(uname -m)/libmultihash_c.a" bs=1 seek=9999 conv=notrunc status=none &&
     rejects "not the archive of prebuilt/SHA256SUMS" cmake -S "$copy" -B "$work/altered.built"
 }
 
@@ -141,7 +140,7 @@ test_installation() {
   try "packing" packs
   try "a planted installation" plant_installed
   try "the installed test of it" rejects "failed: static: a non-minimal varint" installed_test "$work/planted"
-  try "the installed test of nothing" rejects "no multihash_c.pc" packaging/examples/test.sh "$work/none"
+  try "the installed test of nothing" rejects "no multihash_c.pc" bindings/c/examples/test.sh "$work/none"
   try "an altered archive" altered_archive
 }
 
@@ -155,26 +154,26 @@ by_find_package() {
     "find_package(multihash_c ${version%.*} REQUIRED)" 'foreach(kind static shared)' \
     'add_executable(${kind} ${source})' \
     'target_link_libraries(${kind} multihash_c::${kind})' 'endforeach()' > "$to/CMakeLists.txt" &&
-    cmake -S "$to" -B "$to/build" -Dsource="$top/packaging/examples/show.c" -DCMAKE_PREFIX_PATH="$work/un packed" &&
+    cmake -S "$to" -B "$to/build" -Dsource="$top/bindings/c/examples/show.c" -DCMAKE_PREFIX_PATH="$work/un packed" &&
     cmake --build "$to/build" || return 1
   for kind in static shared; do "$to/build/$kind" | diff - "$expected" || return 1; done
   sed -i "s/multihash_c ${version%.*}/multihash_c $((major + 1))/" "$to/CMakeLists.txt" &&
     rejects "compatible with requested version" cmake -S "$to" -B "$to/build"
 }
 
-# The example of docs/C.md for Go, in a module of its own. cgo takes no prefix with a blank.
+# The example of bindings/c/README.md for Go, in a module of its own. cgo takes no prefix with a blank.
 in_go() {
   local lib=$work/go/lib
   cp -r "$work/un packed" "$work/go" &&
-    awk '$0 == "```go" { on = 1; next } on && /^```/ { exit } on' docs/C.md > "$work/go/main.go" &&
+    awk '$0 == "```go" { on = 1; next } on && /^```/ { exit } on' bindings/c/README.md > "$work/go/main.go" &&
     echo 'module example' > "$work/go/go.mod" &&
     (cd "$work/go" && PKG_CONFIG_PATH=$lib/pkgconfig LD_LIBRARY_PATH=$lib GOCACHE=$work/go.cache go run .) |
     grep -x 'code 18, digest abc'
 }
 
 pages() {
-  mandoc -T lint -W style "$prefix/share/man/man3/multihash.3" packaging/mh_show.1 || return 1
-  sed 's/^\.Sh NAME/.Sh NAMES/' packaging/mh_show.1 > "$work/planted.1"
+  mandoc -T lint -W style "$prefix/share/man/man3/multihash.3" crates/mh_show/mh_show.1 || return 1
+  sed 's/^\.Sh NAME/.Sh NAMES/' crates/mh_show/mh_show.1 > "$work/planted.1"
   rejects "NAMES" mandoc -T lint -W style "$work/planted.1"
 }
 
@@ -206,9 +205,8 @@ debian=(dpkg-buildpackage dh lintian man)
 # by lintian.
 build_packages() {
   local architecture=$1 to=$work/debian-$2 from
-  mkdir -p "$to/source/crates"/{multihash_c,vectors} && from=$to/source &&
-    cp -r CMakeLists.txt LICENSE docs packaging prebuilt packaging/debian "$from" &&
-    cp -r crates/multihash_c/{include,c_test} "$from/crates/multihash_c" &&
+  mkdir -p "$to/source"/{bindings,crates/vectors} && from=$to/source && cp -r bindings/c "$from/bindings" &&
+    cp -r CHANGES CMakeLists.txt LICENSE bindings/c/debian "$from" &&
     cp -r crates/vectors/data "$from/crates/vectors" &&
     eval "${3-}" && (cd "$from" && dpkg-buildpackage -b -d -us -uc -a"$architecture") &&
     lintian --allow-root --fail-on error "$to"/*.changes || return 1
@@ -225,12 +223,12 @@ lints_planted() {
 # A function that a later version brought: the map may say so, but Debian's list has to have that version.
 later_function() {
   # shellcheck disable=SC2016
-  local edit='sed -i -e "/ multihash_head;/d" -e "s/# 12 f/# 11 f/" "$from"/packaging/portable/multihash_c.map &&
+  local edit='sed -i -e "/ multihash_head;/d" -e "s/# 12 f/# 11 f/" "$from"/bindings/c/src/multihash_c.map &&
     printf "MULTIHASH_C_1.1 { # 1 functions\n    multihash_head;\n} MULTIHASH_C_1.0;\n" >> \
-      "$from"/packaging/portable/multihash_c.map'
+      "$from"/bindings/c/src/multihash_c.map'
   rejects "+ multihash_head@MULTIHASH_C_1.1" build_packages amd64 later "$edit" || return 1
   local from=$work/debian-later/source
-  exports_exactly "$from"/obj-*/libmultihash_c.so "$from/packaging/portable/multihash_c.map"
+  exports_exactly "$from"/obj-*/libmultihash_c.so "$from/bindings/c/src/multihash_c.map"
 }
 
 # What the packages have works from where they were unpacked.
@@ -240,7 +238,7 @@ try_packages() (
   shift 2
   export PKG_CONFIG_SYSROOT_DIR=$root PKG_CONFIG_LIBDIR=$library/pkgconfig
   flags=$(pkg-config --cflags --libs multihash_c) && eval "flags=($flags)" &&
-    "$1" packaging/examples/show.c "${flags[@]}" -L"$library" -o "$work/packaged" && shift &&
+    "$1" bindings/c/examples/show.c "${flags[@]}" -L"$library" -o "$work/packaged" && shift &&
     "$@" "$work/packaged" > "$work/shown" && diff "$work/shown" "$expected" &&
     man -M "$root/usr/share/man" -w 3 multihash_encode
 )
@@ -260,7 +258,7 @@ emulator="qemu-aarch64 -L /usr/aarch64-linux-gnu"
 
 installs_aarch64() {
   install_built arm && is_installed "$work/aarch64" lib &&
-    cmp prebuilt/aarch64/libmultihash_c.a "$work/aarch64/lib/libmultihash_c.a"
+    cmp bindings/c/prebuilt/aarch64/libmultihash_c.a "$work/aarch64/lib/libmultihash_c.a"
 }
 
 tested_on_aarch64() {
@@ -269,13 +267,13 @@ tested_on_aarch64() {
 }
 
 fenced_on_aarch64() {
-  aarch64-linux-gnu-gcc "${warnings[@]}" -O2 -static crates/multihash_c/c_test/fenced.c -I "$work/aarch64/include" \
+  aarch64-linux-gnu-gcc "${warnings[@]}" -O2 -static bindings/c/tests/fenced.c -I "$work/aarch64/include" \
     -L "$work/aarch64/lib" -lmultihash_c -o "$work/fenced" && qemu-aarch64 "$work/fenced" 2> "$work/signals"
 }
 
 test_aarch64() {
   has 6 aarch64-linux-gnu-gcc qemu-aarch64 || return
-  try "aarch64: building" build arm -DCMAKE_TOOLCHAIN_FILE=packaging/aarch64.cmake \
+  try "aarch64: building" build arm -DCMAKE_TOOLCHAIN_FILE=bindings/c/aarch64.cmake \
     -DCMAKE_INSTALL_PREFIX="$work/aarch64"
   try "aarch64: installing" installs_aarch64
   try "aarch64: the installed test" tested_on_aarch64
@@ -294,10 +292,10 @@ from_source() {
 
 # Flags of a distribution reach the compiler and the linker, and hide no function of the shared library.
 with_flags() {
-  local library=$work/flags/libmultihash_c.so object=CMakeFiles/multihash_c_objects.dir/packaging/portable/multihash.c.o
+  local library=$work/flags/libmultihash_c.so object=CMakeFiles/multihash_c_objects.dir/bindings/c/src/multihash.c.o
   CFLAGS="-fvisibility=hidden -fcf-protection" LDFLAGS=-Wl,--build-id=0x01234567 cmake -S "$top" -B "$work/flags" \
     -DMULTIHASH_C_ARCHIVE=OFF -DBUILD_TESTING=OFF && cmake --build "$work/flags" &&
-    exports_exactly "$library" packaging/portable/multihash_c.map && readelf -n "$library" |
+    exports_exactly "$library" bindings/c/src/multihash_c.map && readelf -n "$library" |
     grep 'Build ID: 01234567' &&
     readelf -n "$work/flags/$object" | grep 'IBT, SHSTK'
 }
@@ -313,7 +311,7 @@ build_for_level() {
 changed_archive() {
   local changed=$work/changed as=(-c user.name=tester -c user.email=tester)
   git clone -q . "$changed" && printf x |
-    dd of="$changed/prebuilt/x86_64/libmultihash_c.a" bs=1 seek=9999 conv=notrunc status=none &&
+    dd of="$changed/bindings/c/prebuilt/x86_64/libmultihash_c.a" bs=1 seek=9999 conv=notrunc status=none &&
     git -C "$changed" "${as[@]}" commit -q -a -m changed &&
     rejects "not that of prebuilt/SHA256SUMS" "$changed/tools/release" "$work/wrong"
 }

@@ -19,7 +19,7 @@ lines=$({ printf '%s\n' "$shell" "$javascript" && git ls-files -co --exclude-sta
   grep -vx bindings/js/bytes.js)
 # an executable file in no known language would not be checked
 try "the language of each executable file is known" diff /dev/null <(git ls-files -s | awk '$1 == 100755 { print $4 }' |
-  grep -vxE '.*\.py|packaging/debian/rules' | grep -vxF "$shell")
+  grep -vxE '.*\.py|bindings/c/debian/rules' | grep -vxF "$shell")
 [ -n "$python" ] && [ -n "$javascript" ]
 count $? "there is Python and JavaScript"
 

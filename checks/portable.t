@@ -11,11 +11,11 @@ set -o pipefail
 top=$PWD
 tree=$work/tree
 steps=$work/steps
-translate=packaging/portable/translate.py
-c_test=$top/crates/multihash_c/c_test
-parts=("$c_test"/{test,decoding,encoding,verdicts,shared}.c)
+translate=tools/translate.py
+tests=$top/bindings/c/tests
+parts=("$tests"/{test,decoding,encoding,verdicts,shared}.c)
 vectors=$top/crates/vectors/data/verdicts.tsv
-archive=$top/prebuilt/x86_64/libmultihash_c.a
+archive=$top/bindings/c/prebuilt/x86_64/libmultihash_c.a
 warnings=(-Wall -Wextra -Wpedantic -Wconversion -Wsign-conversion -Wshadow -Wcast-qual -Wstrict-prototypes
   -Wmissing-prototypes -Werror)
 ulimit -c 0
@@ -29,8 +29,8 @@ generated() {
 
 # A copy of the repository in which one byte of the generated file differs.
 planted_generated() {
-  local file=$work/repository/packaging/portable/module.h
-  mkdir -p "${file%/*}" && sed '0,/ = 127ull;/s// = 126ull;/' packaging/portable/module.h > "$file" &&
+  local file=$work/repository/bindings/c/src/module.h
+  mkdir -p "${file%/*}" && sed '0,/ = 127ull;/s// = 126ull;/' bindings/c/src/module.h > "$file" &&
     TREE=$work/repository STEPS=$steps tools/generate --check source
 }
 
@@ -69,7 +69,7 @@ test_translation() {
 two_files() {
   tools/portable_c "$tree" && mkdir "$work/a folder" && tools/portable_c "$work/a folder/tree" &&
     diff -r "$tree" "$work/a folder/tree" && cc -std=c11 -O2 "${warnings[@]}" -c "$tree/multihash.c" -o "$work/one.o" &&
-    cc -std=c11 -O2 "${warnings[@]}" -I crates/multihash_c/include -c packaging/portable/multihash.c \
+    cc -std=c11 -O2 "${warnings[@]}" -I bindings/c/include -c bindings/c/src/multihash.c \
     -o "$work/apart.o" &&
     cmp "$work/one.o" "$work/apart.o" && wc -c < "$tree/multihash.c"
 }
@@ -80,13 +80,13 @@ passes() {
   local from=$1 to=$work/$2 compile=("${@:3}" -std=c11 -I "$1")
   mkdir "$to" && "${compile[@]}" -c "$from/multihash.c" -o "$to/multihash.o" &&
     "${compile[@]}" "${parts[@]}" "$to/multihash.o" -o "$to/test.exe" &&
-    "${compile[@]}" "$c_test/draws.c" "$to/multihash.o" -o "$to/draws.exe" && ${RUN-} "$to/test.exe" "$vectors" &&
-    ${RUN-} "$to/draws.exe" 1 100000 | tr -d '\r' | diff - "$c_test/draws.txt"
+    "${compile[@]}" "$tests/draws.c" "$to/multihash.o" -o "$to/draws.exe" && ${RUN-} "$to/test.exe" "$vectors" &&
+    ${RUN-} "$to/draws.exe" 1 100000 | tr -d '\r' | diff - "$tests/draws.txt"
 }
 
 # The results for a million inputs under sanitizers are the archive's.
 like_the_archive() {
-  cc -O2 -I crates/multihash_c/include "$c_test/draws.c" "$archive" -o "$work/archive" &&
+  cc -O2 -I bindings/c/include "$tests/draws.c" "$archive" -o "$work/archive" &&
     "$work/archive" 2 1000000 > "$work/wanted" && [ -s "$work/wanted" ] &&
     "$work/cc-sanitizers/draws.exe" 2 1000000 | diff - "$work/wanted" && cat "$work/wanted"
 }
@@ -110,7 +110,7 @@ test_compiler() {
 }
 
 fenced() {
-  cc -std=c11 "${warnings[@]}" -O2 -I "$tree" "$c_test/fenced.c" "$work/cc/multihash.o" -o "$work/fenced" &&
+  cc -std=c11 "${warnings[@]}" -O2 -I "$tree" "$tests/fenced.c" "$work/cc/multihash.o" -o "$work/fenced" &&
     "$work/fenced"
 }
 
@@ -172,7 +172,7 @@ if has 9 rt wasm2c=1.0.32 wasm2wat=1.0.32 wat2wasm=1.0.32; then
   test_translation
 fi
 test_here
-has 1 clang && try "fuzzing" crates/multihash_c/fuzz/test.sh
+has 1 clang && try "fuzzing" bindings/c/fuzz/test.sh
 with_all 1 && on_machine aarch64 aarch64-linux-gnu qemu-aarch64
 with_all 1 && on_machine riscv64 riscv64-linux-gnu qemu-riscv64
 on_machine "armhf, 32 bits" arm-linux-gnueabihf qemu-arm

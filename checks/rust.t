@@ -5,7 +5,7 @@
 . "$(dirname "$0")/lib/tap.sh"
 plan 7
 set -o pipefail
-version=$(sed -n 's/^#define MULTIHASH_VERSION "\([0-9.]*\)"$/\1/p' crates/multihash_c/include/multihash.h)
+version=$(sed -n 's/^#define MULTIHASH_VERSION "\([0-9.]*\)"$/\1/p' bindings/c/include/multihash.h)
 
 # Runs a command of Cargo for the packages for Rust; what is set comes first.
 in_crate() {
@@ -24,8 +24,9 @@ rust_binding() {
 # C library, for which Rust's core is not installed here.
 rust_source() {
   local folder=$work/repository target=thumbv7em-none-eabi
-  mv "$folder/prebuilt" "$work/kept" && in_crate cargo test && in_crate cargo clean -p multihash_c &&
-    rejects "no-compiler" in_crate CC=no-compiler cargo build && mv "$work/kept" "$folder/prebuilt" || return 1
+  mv "$folder/bindings/c/prebuilt" "$work/kept" && in_crate cargo test && in_crate cargo clean -p multihash_c &&
+    rejects "no-compiler" in_crate CC=no-compiler cargo build &&
+    mv "$work/kept" "$folder/bindings/c/prebuilt" || return 1
   [ -n "$(type -P clang)" ] || return 0
   rejects "can't find crate for \`core\`" in_crate CC=clang AR=ar cargo build -p multihash_c --no-default-features \
     --target "$target" && [ -n "$(find "$work/target/$target" -name libmultihash_c.a)" ]
@@ -95,7 +96,7 @@ rust_lints() {
 # find.
 rust_build() {
   local directory=$work/$'a \xff directory'
-  mkdir -p "$directory" && cp prebuilt/x86_64/libmultihash_c.a "$directory" &&
+  mkdir -p "$directory" && cp bindings/c/prebuilt/x86_64/libmultihash_c.a "$directory" &&
     in_crate MULTIHASH_C_LIB_DIR="$directory" cargo test -p multihash_c &&
     rejects "not an absolute path" in_crate MULTIHASH_C_LIB_DIR=prebuilt cargo build &&
     rejects "multihash_c >= 1.0" in_crate MULTIHASH_C_SYSTEM=1 PKG_CONFIG_LIBDIR="$work/none" cargo build

@@ -2,13 +2,13 @@
 # Tests the module for JavaScript. It prints results as TAP, and its status is 1 if one failed.
 #
 #   bindings/js/test.sh [ARCHIVE]   ARCHIVE is the static library for C, whose results are compared, else that of
-#                                   prebuilt/
+#                                   bindings/c/prebuilt
 #
 #   ALL=1            what needs a tool that is not installed fails, else it is left out
 #   PROVED=FOLDER    a copy of the repository whose crates are proved: build.sh builds a copy of these, else it builds
 #                    here
 here=$(dirname "$(readlink -f "${BASH_SOURCE[0]}")")
-archive=$(readlink -f "${1:-$here/../../prebuilt/$(uname -m)/libmultihash_c.a}")
+archive=$(readlink -f "${1:-$here/../c/prebuilt/$(uname -m)/libmultihash_c.a}")
 # shellcheck source=checks/lib/tap.sh
 . "$here/../../checks/lib/tap.sh"
 plan 26
@@ -16,7 +16,7 @@ set -o pipefail
 # shellcheck source=checks/lib/proved.sh
 . checks/lib/proved.sh
 top=$PWD
-header=$top/crates/multihash_c/include/multihash.h
+header=$top/bindings/c/include/multihash.h
 data=$work/data
 
 # Counts a command that needs tools, whose names are one word.

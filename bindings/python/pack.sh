@@ -50,7 +50,7 @@ wheel() (
 
 mkdir "$work/repository"
 tar -c --exclude=build --exclude='*.egg-info' -C "$here/../.." LICENSE bindings/python checks/lib/not_shown.txt \
-  packaging/portable crates/multihash_c/include crates/vectors/data | tar -x -C "$work/repository"
+  bindings/c/{include,src} crates/vectors/data | tar -x -C "$work/repository"
 build -s -o "$work" "$work/repository/bindings/python"
 name=verified_multihash-$(sed -n 's/^__version__ = "\(.*\)"$/\1/p' "$here/verified_multihash/_library.py")
 mkdir "$work/$name" && tar xf "$work"/*.tar.gz -C "$work/$name" --strip-components=1

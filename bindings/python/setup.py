@@ -14,10 +14,10 @@ from setuptools import Extension, setup
 # What an sdist has in this folder, and the repository elsewhere.
 COPIES = {
     "LICENSE": "LICENSE",
-    "portable/memory.h": "packaging/portable/memory.h",
-    "portable/module.h": "packaging/portable/module.h",
-    "portable/multihash.c": "packaging/portable/multihash.c",
-    "portable/multihash.h": "crates/multihash_c/include/multihash.h",
+    "portable/memory.h": "bindings/c/src/memory.h",
+    "portable/module.h": "bindings/c/src/module.h",
+    "portable/multihash.c": "bindings/c/src/multihash.c",
+    "portable/multihash.h": "bindings/c/include/multihash.h",
     "tests/not_shown.txt": "checks/lib/not_shown.txt",
     "tests/verdicts.tsv": "crates/vectors/data/verdicts.tsv",
 }
@@ -28,7 +28,7 @@ if in_repository:
         shutil.copyfile("../../" + path, name)
 
 system, _, machine = sysconfig.get_platform().partition("-")
-prebuilt, name = "../../prebuilt/", "%s/libmultihash_c.a" % machine
+prebuilt, name = "../c/prebuilt/", "%s/libmultihash_c.a" % machine
 archive = os.environ.get("MULTIHASH_C_ARCHIVE")
 if not archive and in_repository and system == "linux" and sys.maxsize > 2**32 and os.path.exists(prebuilt + name):
     archive = prebuilt + name

@@ -5,13 +5,13 @@
 #
 #   test.sh [ARCHIVE [WORK]]
 #
-# ARCHIVE is libmultihash_c.a, else that of prebuilt/; WORK a folder in which the results stay, the environment in
-# WORK/venv. Needs cc, and PYTHON with headers, build, setuptools, venv and wheel, else /usr/bin/python3. What needs a
-# tool that is not installed is left out, but fails with ALL=1. MULTIHASH_VERDICTS is the path of the test vectors, if
-# not the repository's.
+# ARCHIVE is libmultihash_c.a, else that of bindings/c/prebuilt; WORK a folder in which the results stay, the
+# environment in WORK/venv. Needs cc, and PYTHON with headers, build, setuptools, venv and wheel, else
+# /usr/bin/python3. What needs a tool that is not installed is left out, but fails with ALL=1.
+# MULTIHASH_VERDICTS is the path of the test vectors, if not the repository's.
 here=$(dirname "$(readlink -f "${BASH_SOURCE[0]}")")
 [ $# -le 2 ] || { sed -n '2,/^[^#]/s/^# \{0,1\}//p' "${BASH_SOURCE[0]}" >&2; exit 2; }
-archive=$(readlink -f "${1:-$here/../../prebuilt/$(uname -m)/libmultihash_c.a}")
+archive=$(readlink -f "${1:-$here/../c/prebuilt/$(uname -m)/libmultihash_c.a}")
 to=
 if [ $# = 2 ]; then mkdir -p "$2" && to=$(readlink -f "$2") || exit 2; fi
 # shellcheck source=checks/lib/tap.sh
@@ -19,7 +19,7 @@ if [ $# = 2 ]; then mkdir -p "$2" && to=$(readlink -f "$2") || exit 2; fi
 plan 18
 set -o pipefail
 to=${to:-$work}
-header=$PWD/crates/multihash_c/include/multihash.h
+header=$PWD/bindings/c/include/multihash.h
 # What is tested is what was installed.
 unset PYTHONPATH LD_LIBRARY_PATH MULTIHASH_C_ARCHIVE CFLAGS
 export PYTHONDONTWRITEBYTECODE=1 PYTHON=${PYTHON:-/usr/bin/python3}
@@ -56,7 +56,7 @@ looks_at_archive() {
 }
 
 for_aarch64() {
-  "$here/pack.sh" "$to/arm" "$here/../../prebuilt/aarch64/libmultihash_c.a" &&
+  "$here/pack.sh" "$to/arm" "$here/../c/prebuilt/aarch64/libmultihash_c.a" &&
     ls "$to"/arm/*-cp38-abi3-manylinux2014_aarch64.whl
 }
 
@@ -93,9 +93,9 @@ sdist() {
   local above=$to/above
   rm -rf "$to/sdist" "$above" && mkdir "$to/sdist" && tar xf "$to"/dist/*.tar.gz -C "$to/sdist" --strip-components=1 ||
     return 1
-  mkdir -p "$above/folder" "$above/crates/multihash_c" "$above/prebuilt/$(uname -m)" &&
+  mkdir -p "$above/folder" "$above/bindings/c/prebuilt/$(uname -m)" &&
     cp -r "$to/sdist" "$above/folder" &&
-    touch "$above/prebuilt/$(uname -m)/libmultihash_c.a" "$above/LICENSE" && imports "$above/folder/sdist" &&
+    touch "$above/bindings/c/prebuilt/$(uname -m)/libmultihash_c.a" "$above/LICENSE" && imports "$above/folder/sdist" &&
     cmp "$here/../../LICENSE" "$to/sdist/LICENSE" && imports "$to"/dist/*.tar.gz &&
     unit_tests "$to/sdist/tests" -u MULTIHASH_VERDICTS
 }
@@ -113,10 +113,10 @@ other_version() {
 # A folder whose archive differs in one byte is not installed.
 altered_archive() {
   local top=$here/../.. copy=$to/altered archive
-  archive=prebuilt/$(uname -m)/libmultihash_c.a
+  archive=bindings/c/prebuilt/$(uname -m)/libmultihash_c.a
   rm -rf "$copy" && mkdir "$copy" &&
-    tar -C "$top" -c --exclude=build LICENSE bindings/python checks/lib/not_shown.txt packaging/portable \
-    prebuilt crates/{multihash_c/include,vectors/data} | tar -x -C "$copy" &&
+    tar -C "$top" -c --exclude=build LICENSE bindings/python checks/lib/not_shown.txt \
+    bindings/c/{include,prebuilt,src} crates/vectors/data | tar -x -C "$copy" &&
     printf x | dd of="$copy/$archive" bs=1 seek=9999 conv=notrunc && ! cmp "$copy/$archive" "$top/$archive" &&
     rejects "not the archive of prebuilt/SHA256SUMS" installs "$copy/bindings/python"
 }

@@ -14,8 +14,8 @@ shift
 
 if [ ! -d "$copy" ]; then
   mkdir -p "$copy" "$work/cargo"
-  tar -c --exclude=target --exclude=Cargo.lock --exclude=build -C "$top" crates.txt bindings/rust prebuilt \
-    packaging/portable crates/multihash_c/include | tar -x -C "$copy"
+  tar -c --exclude=target --exclude=Cargo.lock --exclude=build -C "$top" crates.txt bindings/rust \
+    bindings/c/{include,prebuilt,src} | tar -x -C "$copy"
   printf '%s\n' '[net]' 'offline = true' '[source.crates-io]' 'replace-with = "here"' \
     '[source.here]' 'directory = "/usr/share/cargo/registry"' > "$work/cargo/config.toml"
 fi

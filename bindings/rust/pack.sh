@@ -13,7 +13,7 @@ licences=("$package/LICENSE" "$copy/bindings/rust/multihash/LICENSE")
 trap 'rm -r "$package/prebuilt" "$package/portable" "${licences[@]}"' EXIT
 mkdir "$package/prebuilt" "$package/portable"
 for licence in "${licences[@]}"; do cp "$here/../../LICENSE" "$licence"; done
-cp -r "$copy"/prebuilt/* "$package/prebuilt"
-cp "$copy"/packaging/portable/{multihash.c,module.h,memory.h} "$copy/crates/multihash_c/include/multihash.h" \
+cp -r "$copy"/bindings/c/prebuilt/* "$package/prebuilt"
+cp "$copy"/bindings/c/{src/{multihash.c,module.h,memory.h},include/multihash.h} \
   "$package/portable"
 "$here/offline.sh" "$work" cargo package --workspace --exclude-lockfile --no-verify

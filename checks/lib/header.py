@@ -24,7 +24,7 @@ from rt_source import Item, Unread, items
 
 TOP = Path(__file__).resolve().parents[2]
 CRATE = "crates/multihash_c"
-HEADER = f"{CRATE}/include/multihash.h"
+HEADER = "bindings/c/include/multihash.h"
 LANGUAGES = {"C": ["cc", "-x", "c", "-std=c11"], "C++": ["c++", "-x", "c++", "-std=c++17"]}
 # The header's conditions: any other hides text from these preprocessors.
 CONDITIONS = ["ifndef MULTIHASH_H", "ifdef __cplusplus", "ifdef __cplusplus"]

@@ -23,7 +23,7 @@ from rt_source import Unread, functions
 
 TOP = Path(__file__).resolve().parents[2]
 README, CALLING, FORMAT = "README.md", "crates/multihash/CALLING.md", "docs/FORMAT.md"
-CONTRACTS, C, MAN = "docs/CONTRACTS.md", "docs/C.md", "packaging/mh_show.1"
+CONTRACTS, C, MAN = "docs/CONTRACTS.md", "bindings/c/README.md", "crates/mh_show/mh_show.1"
 ARCHITECTURE, SPEED = "docs/ARCHITECTURE.md", "docs/SPEED.md"
 JS, PYTHON = "bindings/js/README.md", "bindings/python/README.md"
 FENCE = re.compile(r"^ *```(\S*)[^\n]*\n(.*?)^ *```$", re.M | re.S)
@@ -213,7 +213,7 @@ def limits() -> dict[str, int | str]:
         "crates/mh_show/src/show.rt",
         "crates/mh_show/src/run.rt",
         "crates/multihash/specs/Varint.antt",
-        "crates/multihash_c/include/multihash.h",
+        "bindings/c/include/multihash.h",
         "bindings/python/pyproject.toml",
     )
     text = "\n".join((TOP / file).read_text("utf-8") for file in files)
@@ -265,8 +265,8 @@ def share_errors(texts: Texts) -> Iterator[str]:
 
 
 def status_errors(texts: Texts) -> Iterator[str]:
-    """Compares the table of errors in C.md with the header."""
-    header = (TOP / "crates/multihash_c/include/multihash.h").read_text("utf-8")
+    """Compares the table of errors in the page for C with the header."""
+    header = (TOP / "bindings/c/include/multihash.h").read_text("utf-8")
     numbers = re.findall(r"^ +(MULTIHASH_\w+) = (\d+)", header, re.M)
     said = dict(re.findall(r"case (MULTIHASH_\w+):\s*return \"([^\"]*)\";", header))
     rows = re.findall(r"^\| `(MULTIHASH_\w+)` \| (\d+) \| ([^|]*) \|", texts[C], re.M)

@@ -29,7 +29,7 @@ from pathlib import Path
 import tap
 
 ROOT = Path(__file__).resolve().parents[2]
-HOME, C = ROOT / "crates" / "speed", ROOT / "crates" / "multihash_c"
+HOME, C = ROOT / "crates/speed", ROOT / "bindings/c"
 CALLER = "speed::bench::Bench::run"
 DATA, CHART, PAGE = (ROOT / "docs" / name for name in ("speed.tsv", "speed.svg", "SPEED.md"))
 HEAD = (
@@ -37,9 +37,9 @@ HEAD = (
     "\ttuned Rust crate\tshare in time"
 )
 C_BUILDS = [
-    ROOT / "prebuilt/x86_64/libmultihash_c.a",
-    C / "c_test/plain.c",
-    ROOT / "packaging/portable/multihash.c",
+    C / "prebuilt/x86_64/libmultihash_c.a",
+    C / "tests/plain.c",
+    C / "src/multihash.c",
 ]
 NAMES = {
     "read_slice": "read, slice",
@@ -206,7 +206,7 @@ def count_c() -> dict[str, list[int]]:
     """Returns the instructions of each call from C: of each of the builds."""
     with tempfile.TemporaryDirectory() as work:
         program, counts = f"{work}/count", []
-        source = C / "c_test" / "count.c"
+        source = C / "tests/count.c"
         for build in C_BUILDS:
             run(["cc", "-std=c11", "-O2", f"-I{C}/include", source, build, "-o", program])
             counts.append(count_all(program, run([program]).split()))

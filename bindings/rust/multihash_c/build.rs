@@ -41,11 +41,11 @@ fn target(name: &str) -> String {
     env::var(format!("CARGO_CFG_TARGET_{name}")).unwrap_or_default()
 }
 
-/// A path below this package if it was packed, else below the repository that it is a part of.
+/// A path below this package if it was packed, else below the folder for C of the repository.
 fn shipped(in_package: &str, in_repository: &str) -> PathBuf {
     let package = PathBuf::from(env::var_os("CARGO_MANIFEST_DIR").expect("CARGO_MANIFEST_DIR"));
     let is_packed = package.join("portable").is_dir();
-    if is_packed { package.join(in_package) } else { package.join("../../..").join(in_repository) }
+    if is_packed { package.join(in_package) } else { package.join("../../c").join(in_repository) }
 }
 
 fn prebuilt() -> Option<PathBuf> {
@@ -73,8 +73,8 @@ fn link_installed() {
 }
 
 fn compile() {
-    let source = shipped("portable", "packaging/portable");
-    let headers = shipped("portable", "crates/multihash_c/include");
+    let source = shipped("portable", "src");
+    let headers = shipped("portable", "include");
     println!("cargo:rerun-if-changed={}", source.display());
     let mut build = cc::Build::new();
     build.file(source.join("multihash.c")).include(headers).opt_level(2).warnings(false);

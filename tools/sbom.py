@@ -1,7 +1,7 @@
 #!/usr/bin/env python3
 """Prints the bill of materials of a release, in SPDX 2.3: its files, what of the kit is in them, and the tools.
 
-    packaging/sbom.py SOURCE FILE.. < TOOLS
+    tools/sbom.py SOURCE FILE.. < TOOLS
 
 SOURCE is the unpacked source, multihash-VERSION. A line of TOOLS is a name, a blank and a version. SOURCE_DATE_EPOCH
 is the time.
@@ -32,12 +32,12 @@ README, GENERATE = ((SOURCE / name).read_text() for name in ("README.md", "tools
 KIT, LOGIC = (found(form, README)[0] for form in ("`(rattle-kit-[^`]*)`", "logic `([^`]*)`"))
 # what the kit made, and the files of a release that have it, or were linked with it
 MADE = {
-    "prebuilt/x86_64/libmultihash_c.a": r"_x86_64\.|-x86_64\.|_amd64\.|multihash_c-[0-9.]*\.crate",
-    "prebuilt/aarch64/libmultihash_c.a": r"_aarch64\.|-aarch64\.|_arm64\.|multihash_c-[0-9.]*\.crate",
-    "packaging/portable/module.h": r"-source\.|multihash_c-[0-9.]*\.crate|verified_multihash-[0-9.]*\.tar",
+    "bindings/c/prebuilt/x86_64/libmultihash_c.a": r"_x86_64\.|-x86_64\.|_amd64\.|multihash_c-[0-9.]*\.crate",
+    "bindings/c/prebuilt/aarch64/libmultihash_c.a": r"_aarch64\.|-aarch64\.|_arm64\.|multihash_c-[0-9.]*\.crate",
+    "bindings/c/src/module.h": r"-source\.|multihash_c-[0-9.]*\.crate|verified_multihash-[0-9.]*\.tar",
     "bindings/js/multihash.wasm": r"\.tgz$",
 }
-GENERATED = {"source": "packaging/portable/module.h", "wasm": "bindings/js/multihash.wasm"}  # parts of tools/generate
+GENERATED = {"source": "bindings/c/src/module.h", "wasm": "bindings/js/multihash.wasm"}  # parts of tools/generate
 packages: list[dict[str, Any]] = []
 relations: list[dict[str, str]] = []
 

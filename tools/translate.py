@@ -33,7 +33,7 @@ GLOBALS = r"""static void init_globals\(Z_module_instance_t\* instance\) \{
 \}
 """
 CALL = re.compile(r"\(\*Z_memoryZ_(\w+)\)\(instance->Z_memory_instance, ")
-MEMORY = Path(__file__).resolve().parent / "memory.h"
+MEMORY = Path(__file__).resolve().parent.parent / "bindings/c/src/memory.h"
 # The functions and macros of memory.h, and what C has besides calls.
 PROVIDED = re.compile(r"^(?:(?:static inline|ALWAYS_INLINE) [^(\n]*?|#define )(\w+)\(", re.MULTILINE)
 # The functions that are compiled into their callers, which mostly know the block of an address, and those that are

@@ -3,7 +3,7 @@
  *
  * The first byte of an input is a limit, and selects a capacity. The others are what is decoded; they are also
  * eight bytes of a code and a digest, which are encoded. */
-#include "../c_test/check.h"
+#include "../tests/check.h"
 
 #include <string.h>
 

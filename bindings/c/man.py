@@ -1,7 +1,7 @@
 #!/usr/bin/env python3
 """Writes the man page multihash(3): the comments and declarations of multihash.h. Those of its functions include it.
 
-    packaging/man.py HEADER CHANGES OUT    CHANGES has the date of the page, OUT is the folder of the pages
+    bindings/c/man.py HEADER CHANGES OUT    CHANGES has the date of the page, OUT is the folder of the pages
 """
 from __future__ import annotations
 

@@ -3,7 +3,7 @@
 # Needs Clang.
 set -euo pipefail
 cd "$(dirname "$(readlink -f "${BASH_SOURCE[0]}")")"
-portable=../../../packaging/portable
+portable=../src
 work=$(mktemp -d)
 trap 'rm -rf "$work"' EXIT
 
