@@ -121,7 +121,7 @@ def code_of(path: Path) -> list[str]:
 
 def example_errors(texts: Texts) -> Iterator[str]:
     """Returns the paragraphs of the examples that no caller has, with or without contracts."""
-    crates = [TOP / "crates" / crate / "src" for crate in ("uses", "storage", "example")]
+    crates = [TOP / "crates" / crate / "src" for crate in ("examples", "storage")]
     callers = [path for crate in crates for path in crate.rglob("*.rt")]
     sources = "\n".join(code for path in callers for code in code_of(path))
     blocks = FENCE.findall(texts[CALLING])

@@ -1,18 +1,15 @@
 -- What callers conclude from the contracts of several calls.
-use Rattle.std.proofs.Common.{Vec, Global, length-append, ◌≡◌, ℕ, ◌<◌, ◌≤◌, ◌⊎◌, IfOk, IfErr, OnErr, IsOk, inl, inr, List, [], ◌∷◌, ◌++◌, length, map, Bool, true, false, IsTrue, ◌↔◌, Option, Some, Result, Ok, Err, MatchResult, IfSome, refl, sym, ap, ◌∙◌, subst, arith, append_assoc, ◌+◌, append-nil, drop, length-drop}
+use Rattle.std.proofs.Common.{Vec, Global, length-append, ◌≡◌, ℕ, ◌<◌, ◌≤◌, ◌⊎◌, IfOk, IfErr, OnErr, IsOk, inl, inr, List, [], ◌++◌, length, map, false, Option, Some, Result, Ok, Err, MatchResult, IfSome, refl, sym, ap, ◌∙◌, subst, arith, append_assoc, ◌+◌, drop, length-drop}
 use Rattle.std.specs.List.{All}
 use Rattle.std.specs.Result.{IsErrAnd}
-use Rattle.std.proofs.lemmas.List.{length-map, map_push, nil_from_length}
-use Rattle.std.proofs.lemmas.Bool.{false≢true}
-use Rattle.std.proofs.lemmas.List.Elements.{All-nil}
+use Rattle.std.proofs.lemmas.List.{length-map}
 use Rattle.multihash.specs.Pair.{Pair, FitsBuffer, digest_limit}
 use Rattle.multihash.specs.Encoding.{IsEncoding}
 use Rattle.multihash.specs.Streams.{AreConcatenated, ConsumesPairs, StopsAfterPairs}
-use Rattle.multihash.specs.Varint.{VarintError, insufficient, IsContinuation, IsVarint}
-use Rattle.multihash.specs.Verdict.{Verdict, accepted, invalid_size, malformed, BeginsWithSize, HasHead, HasVerdict, HasWholeVerdict, IsIncomplete}
-use Rattle.multihash.specs.Settling.{Settles, IsShortestSettling}
-use Rattle.multihash.specs.Consuming.{ConsumesShortestSettling, ConsumesVarint, ConsumesAtVarintError, FailsBy, VarintFails, ExactFails}
-use Rattle.multihash.proofs.Readings.SettlingLemmas.{early_not_settles, error_of_part}
+use Rattle.multihash.specs.Varint.{VarintError, insufficient, IsVarint}
+use Rattle.multihash.specs.Verdict.{Verdict, accepted, invalid_size, malformed, BeginsWithSize, HasHead, HasVerdict, HasWholeVerdict}
+use Rattle.multihash.specs.Consuming.{ConsumesVarint, ConsumesAtVarintError, FailsBy, VarintFails, ExactFails}
+use Rattle.multihash.proofs.Readings.SettlingLemmas.{error_of_part}
 use Rattle.multihash.specs.Fault.{Fault, IsOwnFault, IsUnexpectedEof}
 use Rattle.multihash.specs.Reading.{Consumes, ConsumesFewerThan, HasFewerThan}
 use Rattle.multihash.specs.Scale.{IsScale, HasScaleVerdict}
@@ -22,8 +19,8 @@ use Rattle.multihash.specs.declared.no_std_io.slice_writer.SliceWriter.{SliceWri
 use Rattle.multihash.specs.Refusal.{Refusal, of_io, of_varint, IsIo, IsEof, IsOutOfMemory, IsInvalidSize, IsVarintError, IsFrontError, IsAnyVarintError}
 use Rattle.multihash.specs.Outcome.{IsErrorOf, IsResultOf}
 use Rattle.multihash.specs.Multihash.{Fields, pair_of}
-use Rattle.multihash.proofs.Writings.WritingLemmas.{slice_writer_has_room, length_of_not_nil}
-use Rattle.multihash.proofs.Readings.ReadingLemmas.{Consumes-cut, Consumes-told, Consumes-concatenated, IfSome-consumed}
+use Rattle.multihash.proofs.Writings.WritingLemmas.{slice_writer_has_room}
+use Rattle.multihash.proofs.Readings.ReadingLemmas.{Consumes-told, Consumes-concatenated, IfSome-consumed}
 use Rattle.multihash.proofs.Readings.VerdictLemmas.{verdict_unique, whole_verdict_unique}
 use Rattle.multihash.proofs.Varints.VarintLemmas.{number_no_error, same_number}
 use Rattle.multihash.proofs.Forms.ScaleLemmas.{scale_split, scale_verdict_unique}
@@ -123,13 +120,6 @@ rejected_size S size input rest (Ok m) h over v =
 rejected_size S size input rest (Err e) h over v =
     let same : v.0 ≡ invalid_size size = verdict_unique S input v.0 (invalid_size size) v.1 (rest, h, over) in
     subst (λ w. IsResultOf {S = S} (Err e) w) same v.2
-
--- reading consumed something if its verdict is not incomplete
-pub takes_some : (S : ℕ) (old new : List ℕ) → ConsumesShortestSettling S old (Some new) → length new < length old
-takes_some S old new consumed =
-    let some = length_of_not_nil consumed.front (λ none. early_not_settles S [] (malformed insufficient) tt
-    (inl (record { few = omega arith; all_continuation = All-nil IsContinuation })) (subst (Settles S) none consumed.shortest.settles)) in
-    omega (arith, some, ap length (Consumes-cut old consumed.front new consumed.consumes), length-append consumed.front new)
 
 -- ---- parts that are read one after another
 
@@ -236,70 +226,3 @@ pub varint_fails : (before middle after : ℕ) (old new : Option (List ℕ)) (e 
     → ConsumesAtVarintError e old new → IfSome old (λ input. after ≡ middle → IsFrontError input e) → VarintFails before after e old new
 varint_fails before middle after old new e same cause consumed front =
     subst (λ k. VarintFails k after e old new) same (record { cause = cause; consumed = consumed; front = front })
-
--- the loop's invariant: if the remaining input is some parts, the whole is these after those found so far;
--- and at most as many parts were rejected as bytes were consumed
-pub record ReadsOn (Parts : List ℕ → List Pair → ℕ → Type 0) (whole : List ℕ) (pairs : List Pair) (count : ℕ) (left : List ℕ) : Type 0 where
-  pub few : count + length left ≤ length whole
-  pub on : (more : List Pair) (n : ℕ) → Parts left more n → Parts whole (pairs ++ more) (count + n)
-
-module _ {Parts : List ℕ → List Pair → ℕ → Type 0} {whole : List ℕ} {count : ℕ} {left : List ℕ} where
-  -- `read` returned a pair, which was pushed: the facts are its clauses `ok` and `fits`
-  pub one_more_pair : {S : ℕ} {after : List (Fields S)} {new : List ℕ} (items : List (Fields S)) (m : Fields S)
-      → ((p : Pair) (encoding rest : List ℕ) (pairs : List Pair) (n : ℕ) → IsEncoding p encoding → FitsBuffer S p
-      → Parts rest pairs n → Parts (encoding ++ rest) (p ∷ pairs) n)
-      → ReadsOn Parts whole (map pair_of items) count left
-      → (bytes : List ℕ) × IsEncoding (pair_of m) bytes × Consumes (Some left) bytes (Some new) → FitsBuffer S (pair_of m)
-      → after ≡ items ++ m ∷ [] → ReadsOn Parts whole (map pair_of after) count new
-  one_more_pair {after = after} {new = new} items m good so_far (bytes, encodes, consumes) fits pushed =
-      let split : left ≡ bytes ++ new = Consumes-cut left bytes new consumes in
-      let pairs : map pair_of after ≡ map pair_of items ++ pair_of m ∷ [] = ap (λ z. map pair_of z) pushed ∙ map_push pair_of items m in
-      record {
-        few = omega (arith, so_far.few, ap length split, length-append bytes new);
-        on = λ more n parts.
-            let found = so_far.on (pair_of m ∷ more) n (subst (λ z. Parts z (pair_of m ∷ more) n) (sym split) (good (pair_of m) bytes new more n encodes fits parts)) in
-            subst (λ z. Parts whole z (count + n))
-            (sym (ap (λ z. z ++ more) pairs ∙ append_assoc (map pair_of items) (pair_of m ∷ []) more)) found;
-      }
-
-  -- `read` rejected a part, and the verdict is not incomplete: the facts are its clauses `verdict` and
-  -- `settled`, and `early` of `is_incomplete`. The remaining input became shorter
-  pub one_more_rejected : {S : ℕ} {pairs : List Pair} {new : List ℕ} {e : Refusal} {early : Bool}
-      → ((v : Verdict) (front rest : List ℕ) (pairs : List Pair) (n : ℕ) → HasVerdict S (front ++ rest) v → ((p : Pair) → ¬ (v ≡ accepted p)) → ¬ (IsIncomplete v)
-      → IsShortestSettling S (front ++ rest) front → Parts rest pairs n → Parts (front ++ rest) pairs (n + 1))
-      → ReadsOn Parts whole pairs count left
-      → (v : Verdict) × HasVerdict S left v × IsErrorOf e v
-      → ((v : Verdict) → HasVerdict S left v → ¬ (IsIncomplete v) → ConsumesShortestSettling S left (Some new))
-      → ((v : Verdict) → IsErrorOf e v → (IsTrue early ↔ IsIncomplete v)) → early ≡ false
-      → (length new < length left) × ReadsOn Parts whole pairs (count + 1) new
-  one_more_rejected {S = S} {pairs = pairs} {new = new} {e = e} rejected so_far (v, has, names) settled told late =
-      let other : ¬ (IsIncomplete v) = λ ends. false≢true (sym late ∙ (told v names).1 ends) in
-      let consumed = settled v has other in
-      let fewer = takes_some S left new consumed in
-      let split : left ≡ consumed.front ++ new = Consumes-cut left consumed.front new consumed.consumes in
-      let part = λ (more : List Pair) (n : ℕ) (parts : Parts new more n). subst (λ z. Parts z more (n + 1)) (sym split)
-      (rejected v consumed.front new more n (subst (λ z. HasVerdict S z v) split has) (λ p is. subst (IsErrorOf e) is names) other
-      (subst (λ z. IsShortestSettling S z consumed.front) split consumed.shortest) parts) in (
-        fewer,
-        record {
-          few = omega (arith, so_far.few, fewer);
-          on = λ more n parts. subst (λ z. Parts whole (pairs ++ more) z) (omega arith) (so_far.on more (n + 1) (part more n parts));
-        },
-      )
-
-  -- the remaining input is incomplete: it is the last part
-  pub ended_early : {pairs : List Pair} {e : Refusal} {early : Bool} (S : ℕ)
-      → ((v : Verdict) (input : List ℕ) → HasVerdict S input v → IsIncomplete v → Parts input [] 1)
-      → ReadsOn Parts whole pairs count left
-      → (v : Verdict) × HasVerdict S left v × IsErrorOf e v
-      → ((v : Verdict) → IsErrorOf e v → (IsTrue early ↔ IsIncomplete v)) → early ≡ true
-      → Parts whole pairs (count + 1)
-  ended_early {pairs = pairs} S cut so_far (v, has, names) told is_true =
-      subst (λ z. Parts whole z (count + 1)) (append-nil pairs) (so_far.on [] 1 (cut v left has ((told v names).0 is_true)))
-
-  -- no input remains
-  pub read_through : {pairs : List Pair} → Parts [] [] 0 → ReadsOn Parts whole pairs count left → length left ≡ 0 → Parts whole pairs count
-  read_through {pairs = pairs} ended so_far none =
-      let empty = subst (λ z. Parts z [] 0) (sym (nil_from_length left none)) ended in
-      let no_more : count + 0 ≡ count = omega arith in
-      rw no_more at (subst (λ z. Parts whole z (count + 0)) (append-nil pairs) (so_far.on [] 0 empty))

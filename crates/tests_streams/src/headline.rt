@@ -1,10 +1,10 @@
-//! The functions of `uses::headline`, which are proved there.
+//! The functions of `examples::headline`, which are proved there.
 use crate::list::two;
+use examples::headline::{list_through, read_verdict, verdict};
 use fakes::error_kind::ErrorKind;
 use fakes::readers::Cuts;
 use fakes::{check_eq, expect_bytes, expect_ok, expect_rejected};
 use multihash::list::write_list;
-use uses::headline::{list_through, read_verdict, verdict};
 
 // (0, `A`), (18, `B`), and a trailing byte.
 const STREAM: [u8; 7] = [0, 1, 65, 18, 1, 66, 7];

@@ -1,4 +1,4 @@
-//! Tests of streams: the readers and writers of the library, lists, the functions of `uses` and
+//! Tests of streams: the readers and writers of the library, lists, the functions of `examples` and
 //! `storage`, and what the tests stand on.
 #![tactic(auto)]
 

@@ -1,6 +1,7 @@
 //! Worked values of streams.
 ghost use Rattle.std.specs.Prelude.{◌<◌, ◌^◌};
 
+use examples::std_reader::StdReader;
 use fakes::error_kind::{ErrorKind, is_rejected};
 use fakes::readers::{Cuts, FailAt, Silent};
 use fakes::{check, check_eq, expect_bytes, expect_ok, expect_rejected};
@@ -9,7 +10,6 @@ use multihash::no_std_io::Read;
 use multihash::{Error, Multihash, varint};
 use std::alloc::Global;
 use std::process::Abort;
-use uses::std_reader::StdReader;
 
 // (0, `A`), (18, `B`), and a trailing byte.
 const STREAM: [u8; 7] = [0, 1, 65, 18, 1, 66, 7];

@@ -1,12 +1,10 @@
-//! A reader that retries another one, and a stream with corrupt entries.
+//! A reader that retries another one.
+use examples::retries::Retries;
 use fakes::error_kind::ErrorKind;
 use fakes::readers::{Cuts, FailAt};
 use fakes::{check_eq, expect_bytes, expect_ok, expect_rejected};
 use multihash::Multihash;
-use std::alloc::Global;
 use std::process::Abort;
-use uses::recovery::recover;
-use uses::retries::Retries;
 
 const STREAM: [u8; 5] = [0, 2, 7, 8, 9];
 
@@ -55,33 +53,4 @@ fn a_long_digest_comes_in_parts(rt: HostRuntime) {
     let multihash = expect_ok!(rt; Multihash::<100>::read(&mut again));
     expect_bytes!(rt; multihash.digest(), &[7; 100]);
     check_eq!(rt; again.reader.asked, 5);
-}
-
-// (1, `7`), an invalid size, (1, `8`), a varint that is not minimal, and a truncated one.
-const SPOILT: [u8; 12] = [1, 1, 7, 0, 0xff, 0x01, 1, 1, 8, 0x80, 0, 0x12];
-
-fn expect_found(
-    rt: &impl Abort,
-    alloc: Global,
-    bytes: &[u8],
-    good: &[Multihash<64>],
-    rejected: usize,
-) {
-    let found = expect_ok!(rt; recover(alloc, bytes));
-    check_eq!(rt; (found.good.as_slice(), found.rejected), (good, rejected));
-}
-
-#[test]
-fn what_can_be_read_is_read(rt: HostRuntime) {
-    let alloc = rt.alloc();
-    let rt = &rt;
-    let good = [
-        expect_ok!(rt; Multihash::wrap(1, &[7])),
-        expect_ok!(rt; Multihash::wrap(1, &[8])),
-    ];
-    expect_found(rt, alloc, &SPOILT, &good, 3);
-    expect_found(rt, alloc, &SPOILT[..11], &good, 2);
-    expect_found(rt, alloc, &SPOILT[..8], &good[..1], 2);
-    expect_found(rt, alloc, &[], &[], 0);
-    expect_found(rt, alloc, &[255; 9000], &[], 1000);
 }

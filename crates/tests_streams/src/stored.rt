@@ -1,4 +1,5 @@
 //! The readers, writers and the log of `storage`.
+use examples::content_id::ContentIdError;
 use fakes::error_kind::{ErrorKind, is_failed};
 use fakes::readers::{Counts, Cuts, FailAt};
 use fakes::writers::{CountsWrites, Drip, FailWrite};
@@ -13,7 +14,6 @@ use storage::chained_slices::ChainedSlices;
 use storage::content::UnknownCode;
 use storage::hashing::{ContentHasher, HashingReader, HashingWriter};
 use storage::log::{Entry, EntryError, read_entry, valid_prefix, write_entry};
-use uses::content_id::ContentIdError;
 
 // The entries of `one` and of no bytes.
 const LOG: [u8; 73] = [

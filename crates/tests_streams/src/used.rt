@@ -1,18 +1,16 @@
-//! That the calls of `uses` succeed, for long inputs too, and what they print.
-ghost use Rattle.std.specs.Prelude.{◌<◌, ◌^◌};
-
+//! That the calls of `examples` succeed, for long inputs too, and what they print.
+use examples::any_reader::read_up_to;
+use examples::content_id::{ContentId, ContentIdError};
+use examples::forms::{json, scale, there_and_back};
+use examples::merkle::through;
+use examples::section::{read_section, section_front};
+use examples::slices::encode_into;
 use fakes::error_kind::ErrorKind;
 use fakes::readers::Cuts;
 use fakes::{check, check_eq, expect_bytes, expect_ok};
 use multihash::Multihash;
 use std::alloc::Global;
 use std::process::Abort;
-use uses::any_reader::read_up_to;
-use uses::content_id::{ContentId, ContentIdError};
-use uses::json_text::{parse, print};
-use uses::merkle::through;
-use uses::section::{read_section, section_front};
-use uses::slices::{encode_all_into, encode_into, encode_longest, scale_into};
 
 // A section of CARv1: the length 40, the identifier of `aaaa` as raw bytes, with its SHA-256 from another
 // implementation, and these bytes.
@@ -31,21 +29,16 @@ fn an_encoding_goes_into_a_slice(rt: HostRuntime) {
     check_eq!(rt; encode_into(&multihash, &mut buffer), Some(6));
     expect_bytes!(rt; &buffer, &[0xac, 0x02, 3, 7, 8, 9, 1, 1]);
     check_eq!(rt; encode_into(&multihash, &mut buffer[..5]), None);
-    let mut buffer = [5u8; 13];
-    check_eq!(rt; encode_all_into(&[multihash, multihash], &mut buffer), Some(12));
-    expect_bytes!(rt; &buffer[6..], &[0xac, 0x02, 3, 7, 8, 9, 5]);
-    check_eq!(rt; encode_all_into(&[multihash, multihash], &mut buffer[..11]), None);
 }
 
 #[test]
-fn slices_are_filled(rt: HostRuntime) {
+fn each_form_is_made_and_read(rt: HostRuntime) {
+    let alloc = rt.alloc();
     let rt = &rt;
-    let m = expect_ok!(rt; Multihash::<4>::wrap(300, b"ABC"));
-    expect_bytes!(rt; encode_longest(&m, &mut [1; 266]), &[0xac, 0x02, 3, 65, 66, 67]);
-    let mut buffer = [7u8; 13];
-    check_eq!(rt; scale_into(&m, &mut buffer), Some(12));
-    expect_bytes!(rt; &buffer, &[44, 1, 0, 0, 0, 0, 0, 0, 3, 65, 66, 67, 7]);
-    check_eq!(rt; scale_into(&m, &mut buffer[..11]), None);
+    let (_, m) = expect_ok!(rt; there_and_back(alloc, &[7; 32]));
+    let m = expect_ok!(rt; m.resize::<32>());
+    expect_ok!(rt; scale(alloc, &m));
+    expect_ok!(rt; json(alloc, &m));
 }
 
 // Memory is available to the callers that fail only without it.
@@ -112,23 +105,6 @@ fn a_section_is_read(rt: HostRuntime) {
     check_eq!(rt; section_error(&short), Some(text));
     check_eq!(rt; section_error(&SECTION[..40]), Some(ErrorKind::UnexpectedEof));
     check_eq!(rt; section_error(&SECTION[..4]), Some(ErrorKind::Insufficient));
-}
-
-fn expect_printed<const S: usize>(rt: &impl Abort, alloc: Global, digest: &[u8])
-    requires { S < 2 ^ 16 }
-{
-    let m = expect_ok!(rt; Multihash::<S>::wrap(300, digest));
-    let text = expect_ok!(rt; print(alloc, &m));
-    check!(rt; expect_ok!(rt; parse::<S>(alloc, text.as_str())) == m, digest.len());
-}
-
-#[test]
-fn digests_of_each_length_are_printed(rt: HostRuntime) {
-    let bytes = [200; 255];
-    for len in 0..256 {
-        expect_printed::<255>(&rt, rt.alloc(), bytes.get(..len).unwrap_or(&bytes));
-    }
-    expect_printed::<64>(&rt, rt.alloc(), &[200; 64]);
 }
 
 #[test]

@@ -1,0 +1,124 @@
+use Rattle.std.proofs.Common.{◌≡◌, length, inl, inr, refl, ◌∙◌, arith, rules}
+use Rattle.multihash.specs.Refusal.{of_io}
+use Rattle.multihash.specs.Multihash.{pair_of}
+use Rattle.multihash.proofs.CallingLemmas.{varint_fails, exact_fails}
+use Rattle.multihash.proofs.OutcomeLemmas.{passed_on}
+use Rattle.examples.specs.declared.content_id.ContentIdError.TheVariants.{Rejected}
+use Rattle.examples.proofs.ContentIdLemmas.{make_version_0, make_version_1, takes_three, id_fails, rejected_found, id_found}
+use Rattle.examples.proofs.content_id.ContentId.read.Goals as goal
+use Rattle.examples.proofs.content_id.ContentId.read.Goals.{else-version-ne-VERSION-via-then-version-ne-VERSION+else-version-ne-SHA2_256, else-version-ne-VERSION-via-else-version-ne-VERSION}
+
+-- ---- what was consumed
+
+pub returns-then-version-eq-VERSION-clause-ok : goal.returns-then-version-eq-VERSION-clause-ok
+returns-then-version-eq-VERSION-clause-ok g c =
+    let v = c.in_ok-version.ensures.ok in
+    let n = c.in_ok-number.ensures.ok in
+    let h = c.in_ok-hash.ensures.ok in (
+      _,
+      make_version_1 c.in_ok-version.version c.in_ok-number.number (pair_of c.in_ok-hash.hash) v.0 n.0 h.0 (omega arith) v.1 n.1 h.1,
+      takes_three _ _ _ _ v.0 n.0 h.0 v.2 n.2 h.2,
+    )
+
+pub returns-clause-ok : goal.returns-clause-ok
+returns-clause-ok g c =
+    let v = c.in_ok-version.ensures.ok in
+    let n = c.in_ok-number.ensures.ok in
+    let digest = c.read_exact.new.buf in
+    let whole : length digest ≡ 32 = search rules in (
+      _,
+      make_version_0 c.in_ok-version.version c.in_ok-number.number digest v.0 n.0 (omega arith) (omega arith) whole v.1 n.1,
+      takes_three _ _ _ _ v.0 n.0 digest v.2 n.2 c.in_ok-read_exact.ensures.laws.consumes,
+    )
+
+-- ---- how it failed
+
+pub returns-in_err-version-clause-err : goal.returns-in_err-version-clause-err
+returns-in_err-version-clause-err g c =
+    let met = c.in_err-version.ensures in
+    passed_on c.from_residual.result (Rejected c.in_err-version.field-0.0) _ _ c.from_residual.ensures.1
+    (inl (_, refl, varint_fails _ _ _ _ _ _ refl met.faults met.err met.front))
+
+pub returns-then-version-ne-SHA2_256-clause-err : goal.returns-then-version-ne-SHA2_256-clause-err
+returns-then-version-ne-SHA2_256-clause-err g c =
+    let v = c.in_ok-version.ensures in
+    inr (_, _, v.ok, inl ((λ one. omega (arith, one)), (λ hash. omega (arith, hash)), (refl, v.faults, refl)))
+
+pub returns-in_err-number-clause-err : goal.returns-in_err-number-clause-err
+returns-in_err-number-clause-err g c =
+    let v = c.in_ok-version.ensures in
+    let met = c.in_err-number.ensures in
+    passed_on c.from_residual-in_err-number.result (Rejected c.in_err-number.field-0.0) _ _ c.from_residual-in_err-number.ensures.1 (inr (
+      _,
+      _,
+      v.ok,
+      inr (
+        elim c.else-version-ne-VERSION.branch [
+          | else-version-ne-VERSION-via-then-version-ne-VERSION+else-version-ne-SHA2_256 w ↦ inr (omega arith)
+          | else-version-ne-VERSION-via-else-version-ne-VERSION w ↦ inl (omega arith)
+        ],
+        inl (_, refl, varint_fails _ _ _ _ _ _ v.faults met.faults met.err met.front),
+      ),
+    ))
+
+pub returns-in_err-hash-clause-err : goal.returns-in_err-hash-clause-err
+returns-in_err-hash-clause-err g c =
+    let v = c.in_ok-version.ensures in
+    let n = c.in_ok-number.ensures in
+    let one : c.in_ok-version.version ≡ 1 = omega arith in
+    passed_on c.from_residual-in_err-hash.result (Rejected c.in_err-hash.field-0.0) _ _ c.from_residual-in_err-hash.ensures.1
+    (inr (_, _, v.ok, inr (inl one, inr (_, _, n.ok, inl (one, (_, refl, rw (n.faults ∙ v.faults) at c.in_err-hash.ensures))))))
+
+pub returns-then-number-ne-SHA2_256_SIZE-clause-err : goal.returns-then-number-ne-SHA2_256_SIZE-clause-err
+returns-then-number-ne-SHA2_256_SIZE-clause-err g c =
+    let v = c.in_ok-version.ensures in
+    let n = c.in_ok-number.ensures in
+    let zero : c.in_ok-version.version ≡ 0x12 = omega arith in
+    inr (_, _, v.ok, inr (inr zero, inr (_, _, n.ok, inr (inr (zero, (λ whole. omega (arith, whole)), (cc zero, n.faults ∙ v.faults, refl))))))
+
+pub returns-in_err-read_exact-clause-err : goal.returns-in_err-read_exact-clause-err
+returns-in_err-read_exact-clause-err g c =
+    let v = c.in_ok-version.ensures in
+    let n = c.in_ok-number.ensures in
+    let zero : c.in_ok-version.version ≡ 0x12 = omega arith in
+    let whole : c.in_ok-number.number ≡ 32 = omega arith in
+    let met = c.in_err-read_exact.ensures.laws in
+    let error = c.in_err-read_exact.field-0.0 in
+    let fails = exact_fails 32 _ _ _ _ _ error (n.faults ∙ v.faults) met.faults met.eof met.err in
+    passed_on c.from_residual-in_err-read_exact.result (Rejected (of_io error)) _ _ c.from_residual-in_err-read_exact.ensures.1
+    (inr (_, _, v.ok, inr (inr zero, inr (_, _, n.ok, inr (inl (zero, whole, (of_io error, refl, fails)))))))
+
+-- ---- an identifier that comes next
+
+pub returns-in_err-version-clause-found : goal.returns-in_err-version-clause-found
+returns-in_err-version-clause-found g c content bytes more id fits rest same =
+    rejected_found g.row.S content bytes more id fits _ _ same _ _ _ _ _ rest c.from_residual.ensures.1 (returns-in_err-version-clause-err g c)
+
+pub returns-then-version-ne-SHA2_256-clause-found : goal.returns-then-version-ne-SHA2_256-clause-found
+returns-then-version-ne-SHA2_256-clause-found g c content bytes more id fits rest same =
+    id_fails g.row.S content bytes more id fits _ _ same _ _ _ rest (returns-then-version-ne-SHA2_256-clause-err g c)
+
+pub returns-in_err-number-clause-found : goal.returns-in_err-number-clause-found
+returns-in_err-number-clause-found g c content bytes more id fits rest same =
+    rejected_found g.row.S content bytes more id fits _ _ same _ _ _ _ _ rest c.from_residual-in_err-number.ensures.1
+    (returns-in_err-number-clause-err g c)
+
+pub returns-in_err-hash-clause-found : goal.returns-in_err-hash-clause-found
+returns-in_err-hash-clause-found g c content bytes more id fits rest same =
+    rejected_found g.row.S content bytes more id fits _ _ same _ _ _ _ _ rest c.from_residual-in_err-hash.ensures.1 (returns-in_err-hash-clause-err g c)
+
+pub returns-then-version-eq-VERSION-clause-found : goal.returns-then-version-eq-VERSION-clause-found
+returns-then-version-eq-VERSION-clause-found g c content bytes more id fits rest same =
+    id_found _ content bytes more _ _ (returns-then-version-eq-VERSION-clause-ok g c) id rest
+
+pub returns-then-number-ne-SHA2_256_SIZE-clause-found : goal.returns-then-number-ne-SHA2_256_SIZE-clause-found
+returns-then-number-ne-SHA2_256_SIZE-clause-found g c content bytes more id fits rest same =
+    id_fails g.row.S content bytes more id fits _ _ same _ _ _ rest (returns-then-number-ne-SHA2_256_SIZE-clause-err g c)
+
+pub returns-in_err-read_exact-clause-found : goal.returns-in_err-read_exact-clause-found
+returns-in_err-read_exact-clause-found g c content bytes more id fits rest same =
+    rejected_found g.row.S content bytes more id fits _ _ same _ _ _ _ _ rest c.from_residual-in_err-read_exact.ensures.1
+    (returns-in_err-read_exact-clause-err g c)
+
+pub returns-clause-found : goal.returns-clause-found
+returns-clause-found g c content bytes more id fits rest same = id_found _ content bytes more _ _ (returns-clause-ok g c) id rest

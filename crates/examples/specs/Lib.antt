@@ -1,0 +1,3 @@
+pub mod ContentId
+pub mod PeerId
+pub mod Section

@@ -1,0 +1,14 @@
+//! Callers of each kind, by public paths of the library alone: what the pages show, and users of multihashes.
+#![tactic(auto)]
+
+pub mod any_reader;
+pub mod code_table;
+pub mod content_id;
+pub mod forms;
+pub mod headline;
+pub mod merkle;
+pub mod peer_id;
+pub mod retries;
+pub mod section;
+pub mod slices;
+pub mod std_reader;
