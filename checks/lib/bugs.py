@@ -3,10 +3,10 @@
 
     checks/lib/bugs.py [--alone]
 
-They are in bugs.edits. In 'seen: CRATE MODULE::TEST [N]' is the test that has to fail and, with N,
-the number of the allocation that fails in it. With 'seen: passes CRATE MODULE::TEST' it has to pass. The bugs of one crate of tests are planted in one copy, so each has a test of its own,
-which no other bug changes: --alone shows that. It plants each bug in a copy of its own, which needs
-four times as long.
+They are in bugs.edits. In 'seen: CRATE MODULE::TEST [N]' is the test that has to fail and, with N, the number of the
+allocation that fails in it. With 'seen: passes CRATE MODULE::TEST' it has to pass. The bugs of one crate of tests are
+planted in one copy, so each has a test of its own, which no other bug changes: --alone shows that. It plants each bug
+in a copy of its own, which needs four times as long.
 """
 import re
 import subprocess

@@ -111,14 +111,10 @@ def first_lines(text: str) -> Iterator[str]:
 def section_of(path: str, text: str) -> str:
     """Returns the section of a file, which is empty if the file has no public items."""
     top_items = items(text)
-    private = {
-        item.name for item in top_items if item.kind in ("struct", "enum") and not item.is_public
-    }
+    private = {item.name for item in top_items if item.kind in ("struct", "enum") and not item.is_public}
     blocks = [[*item_lines(item, private)] for item in top_items]
     # an empty line precedes and follows what has several lines
-    block = "\n".join(
-        "\n".join(lines if len(lines) < 2 else ["", *lines, ""]) for lines in blocks if lines
-    )
+    block = "\n".join("\n".join(lines if len(lines) < 2 else ["", *lines, ""]) for lines in blocks if lines)
     block = re.sub(r"\n{3,}", "\n\n", block).strip("\n")
     description = " ".join(line[3:].strip() for line in first_lines(text))
     return f"\n### [{path}](../{path})\n\n{description}\n\n```text\n{block}\n```\n" if block else ""

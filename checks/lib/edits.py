@@ -69,9 +69,7 @@ def apply(texts: Mapping[str, str], edits: list[Edit]) -> dict[str, str]:
     for edit in edits:
         text = texts.get(edit.path, "")
         if (edit.path in texts) if not edit.old else text.count(edit.old) != 1:
-            raise ValueError(
-                f"'old:' is in {edit.path} {text.count(edit.old)} times: {edit.old[:60]}"
-            )
+            raise ValueError(f"'old:' is in {edit.path} {text.count(edit.old)} times: {edit.old[:60]}")
         places[edit.path].append((text.index(edit.old), edit))
     changed = {}
     for path, found in places.items():

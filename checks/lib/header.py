@@ -61,11 +61,7 @@ class Declared(NamedTuple):
 
 def read_files() -> Files:
     """Returns the texts that are compared, by their paths."""
-    return {
-        str(path.relative_to(TOP)): path.read_text("utf-8")
-        for pattern in PATTERNS
-        for path in TOP.glob(pattern)
-    }
+    return {str(path.relative_to(TOP)): path.read_text("utf-8") for pattern in PATTERNS for path in TOP.glob(pattern)}
 
 
 def flat(text: str) -> str:
@@ -119,16 +115,11 @@ def declarations(
     numbers = ", ".join(f"MULTIHASH_{name} = {number}" for name, number in statuses.items())
     yield f"enum {{ {numbers} }};"
     for name, fields in structs.items():
-        typed = [
-            ("multihash_status" if field == "status" else kind, field) for field, kind in fields
-        ]
+        typed = [("multihash_status" if field == "status" else kind, field) for field, kind in fields]
         members = " ".join(f"{kind} {field};" for kind, field in typed)
         yield f"typedef struct {name} {{ {members} }} {name};"
     yield from map(declaration, exports)
-    cases = " ".join(
-        f'{f"case MULTIHASH_{name}" if name else "default"}: return "{text}";'
-        for name, text in texts
-    )
+    cases = " ".join(f'{f"case MULTIHASH_{name}" if name else "default"}: return "{text}";' for name, text in texts)
     signature = "static inline const char *multihash_status_text(multihash_status status)"
     yield f"{signature} {{ switch (status) {{ {cases} }} }}"
 
@@ -142,15 +133,8 @@ def of_crate(files: Files) -> Declared:
     if len(texts) != put_text.count("=>"):
         raise Unread("a text of a status")
     # the most bytes of a varint; a length that is accepted has two
-    varint = (
-        int(group(r"\nmax_continuation = (\d+)\n", files["crates/multihash/specs/Varint.antt"])) + 1
-    )
-    most = {
-        "DIGEST_MAX": 255,
-        "HEAD_MAX": 2 * varint,
-        "LENGTH_MAX": varint + 2 + 255,
-        "SCALE_LENGTH_MAX": 9 + 255,
-    }
+    varint = int(group(r"\nmax_continuation = (\d+)\n", files["crates/multihash/specs/Varint.antt"])) + 1
+    most = {"DIGEST_MAX": 255, "HEAD_MAX": 2 * varint, "LENGTH_MAX": varint + 2 + 255, "SCALE_LENGTH_MAX": 9 + 255}
     lengths, statuses = {name: str(number) for name, number in most.items()}, numbers_of(
         sources[f"{CRATE}/src/status.rt"]
     )
@@ -159,31 +143,13 @@ def of_crate(files: Files) -> Declared:
     version, number = f"{major}.{minor}.{patch}", 10000 * major + 100 * minor + patch
     macros = {"H": "", "VERSION": f'"{version}"', "VERSION_NUMBER": str(number), **lengths}
     structs = structs_of(every)
-    return Declared(
-        [*declarations(structs, exports, statuses, texts)],
-        macros,
-        structs,
-        statuses,
-        lengths,
-        version,
-    )
+    return Declared([*declarations(structs, exports, statuses, texts)], macros, structs, statuses, lengths, version)
 
 
 def preprocessed(text: str, language: str, *options: str) -> str:
     """Returns what the preprocessor makes of the header, without the standard's headers."""
-    words = [
-        *LANGUAGES[language],
-        "-E",
-        "-P",
-        "-nostdinc",
-        "-DSIZE_MAX=1",
-        "-DUINT64_MAX=1",
-        *options,
-        "-",
-    ]
-    return subprocess.check_output(
-        words, input=re.sub(r"#include <std(def|int)\.h>\n", "", text), text=True
-    )
+    words = [*LANGUAGES[language], "-E", "-P", "-nostdinc", "-DSIZE_MAX=1", "-DUINT64_MAX=1", *options, "-"]
+    return subprocess.check_output(words, input=re.sub(r"#include <std(def|int)\.h>\n", "", text), text=True)
 
 
 def header_errors(header: str, crate: Declared, language: str) -> Iterator[str]:
@@ -199,12 +165,8 @@ def header_errors(header: str, crate: Declared, language: str) -> Iterator[str]:
         rest = rest.replace(wanted, "", 1)
     if rest.strip():
         yield f"{language}: the header has more than the crate: {rest.strip()}"
-    macros, predefined = (
-        {*preprocessed(text, language, "-dM").splitlines()} for text in (header, "")
-    )
-    if macros - predefined != {
-        f"#define MULTIHASH_{name} {value}" for name, value in crate.macros.items()
-    }:
+    macros, predefined = ({*preprocessed(text, language, "-dM").splitlines()} for text in (header, ""))
+    if macros - predefined != {f"#define MULTIHASH_{name} {value}" for name, value in crate.macros.items()}:
         found = sorted(macros - predefined)
         yield f"{language}: the crate has {crate.macros}, and the header {found}"
 
@@ -233,12 +195,8 @@ def constants_of(files: Files, folder: str, names: list[str]) -> dict[str, str]:
 
 def binding_errors(files: Files, crate: Declared) -> Iterator[str]:
     numbers = {**crate.statuses, **crate.lengths}
-    statuses = re.findall(
-        r"'(\w+)'", group(r"\nconst STATUSES = \[([^\]]*)\];\n", files[f"{JS}/core.js"])
-    )
-    of_script = {name.upper(): str(at) for at, name in enumerate(statuses)} | constants_of(
-        files, JS, [*crate.lengths]
-    )
+    statuses = re.findall(r"'(\w+)'", group(r"\nconst STATUSES = \[([^\]]*)\];\n", files[f"{JS}/core.js"]))
+    of_script = {name.upper(): str(at) for at, name in enumerate(statuses)} | constants_of(files, JS, [*crate.lengths])
     of_types = group(r"\nexport type Status =((?:\n  \|.*)+)", files[f"{JS}/index.d.ts"])
     for name, found, wanted in (
         ("Rust's numbers", constants_of(files, RUST, [*numbers]), numbers),
@@ -246,21 +204,9 @@ def binding_errors(files: Files, crate: Declared) -> Iterator[str]:
         ("JavaScript's numbers", of_script, numbers),
         ("TypeScript's statuses", re.findall(r"\| '(\w+)'", of_types), statuses[1:]),
         ("Rust's structs", structs_of(items(files[f"{RUST}/src/ffi.rs"])), crate.structs),
-        (
-            "Rust's version",
-            group(r'\nversion = "(.*)"\n', files[f"{RUST}/Cargo.toml"]),
-            crate.version,
-        ),
-        (
-            "Python's version",
-            group(r'\n__version__ = "(.*)"\n', files[f"{PYTHON}/_library.py"]),
-            crate.version,
-        ),
-        (
-            "JavaScript's version",
-            group(r'\n  "version": "(.*)",\n', files[f"{JS}/package.json"]),
-            crate.version,
-        ),
+        ("Rust's version", group(r'\nversion = "(.*)"\n', files[f"{RUST}/Cargo.toml"]), crate.version),
+        ("Python's version", group(r'\n__version__ = "(.*)"\n', files[f"{PYTHON}/_library.py"]), crate.version),
+        ("JavaScript's version", group(r'\n  "version": "(.*)",\n', files[f"{JS}/package.json"]), crate.version),
     ):
         if found != wanted:
             yield f"{name} are {found}, and the crate's {wanted}"

@@ -75,9 +75,7 @@ def written(home: Path) -> Iterator[Written]:
             yield Written(f"{home.name}/{path.name}", [], [], str(error))
 
 
-def error_of(
-    mutant: Mutant, output: Output, goals: Iterable[Goal], names: list[str], state: str
-) -> str:
+def error_of(mutant: Mutant, output: Output, goals: Iterable[Goal], names: list[str], state: str) -> str:
     """Returns what is wrong with a mutant's rejection, if something is.
 
     A goal has the name of its clause.
@@ -99,9 +97,7 @@ def error_of(
 class Crate:
     """A proved crate, its functions and its mutants."""
 
-    def __init__(
-        self, proved: Path, name: str, prover: Prover, modules: list[str], output: Output
-    ) -> None:
+    def __init__(self, proved: Path, name: str, prover: Prover, modules: list[str], output: Output) -> None:
         self.proved, self.name, self.prover, self.modules = proved, name, prover, modules
         self.texts = proving.texts_of(proved / "crates" / name)
         # a check also prints the functions of the crates below where these were not proved by the
@@ -123,9 +119,7 @@ class Crate:
                 function = proving.function_of(self.texts, its_edits, functions)
                 mutant = Mutant(label, clauses, its_edits, function)
                 if not mutant.is_of_definitions and not (function and function.name):
-                    raise ValueError(
-                        "it changes no one body that the prover names, and names no FUNCTION#CLAUSE"
-                    )
+                    raise ValueError("it changes no one body that the prover names, and names no FUNCTION#CLAUSE")
                 self.mutants.append(mutant)
             except ValueError as reason:
                 self.unread.append((label, str(reason)))
@@ -164,10 +158,7 @@ class Crate:
             if not mutant.function or mutant.is_of_definitions:
                 return [(mutant.label, self.error_of_definition(mutant, output))]
             found = output.found[mutant.function.name]
-            clauses = (
-                Goal(proving.clause_of(mutant.function, goal.name), goal.by_limit)
-                for goal in found.goals
-            )
+            clauses = (Goal(proving.clause_of(mutant.function, goal.name), goal.by_limit) for goal in found.goals)
             error = error_of(mutant, output, clauses, found.names, found.state)
             # where a function that it calls is not proved, some of its goals may not be tried
             follows = not output.is_whole or proving.FOLLOWS.search(found.state)
@@ -176,9 +167,7 @@ class Crate:
             else:
                 results.append((mutant.label, error))
         if output.is_whole:
-            results += self.strays(
-                output, {mutant.function.name for mutant in mutants if mutant.function}
-            )
+            results += self.strays(output, {mutant.function.name for mutant in mutants if mutant.function})
         middle = len(unclear) // 2
         for half in (unclear[:middle], unclear[middle:]):
             results += self.try_round(half) if half else []
@@ -201,17 +190,13 @@ class Crate:
             if unread:
                 return f"no example was tried: {unread[0]}"
             return "" if output.others else "no example and no lemma rejects it"
-        opened = [
-            (name, found) for name, found in output.found.items() if found.goals or found.names
-        ]
+        opened = [(name, found) for name, found in output.found.items() if found.goals or found.names]
         goals = []
         for name, found in opened:
             for goal in found.goals:
                 label = f"{name}#{proving.clause_of(self.functions.get(name), goal.name)}"
                 # a mutant may leave out the first modules of a name
-                short = next(
-                    (clause for clause in mutant.clauses if label.endswith(f"::{clause}")), label
-                )
+                short = next((clause for clause in mutant.clauses if label.endswith(f"::{clause}")), label)
                 goals.append(Goal(short, goal.by_limit))
         names = [text for _, found in opened for text in found.names]
         return error_of(mutant, output, goals, names, "" if opened else "proved")
@@ -243,9 +228,7 @@ class Options(NamedTuple):
         There are none if definitions are to be tried, or one changes the root.
         """
         mutants = written(ROOT / "crates" / crate)
-        paths = {
-            edit.path for mutant in mutants for edit in mutant.edits if edit.path.startswith("src/")
-        }
+        paths = {edit.path for mutant in mutants for edit in mutant.edits if edit.path.startswith("src/")}
         modules = sorted(path[len("src/") : -len(".rt")].replace("/", "::") for path in paths)
         return [] if self.tries_definitions(crate) or {"lib", "main"} & {*modules} else modules
 
@@ -259,9 +242,7 @@ def prove(options: Options, proved: Path, prover: Prover) -> tuple[list[Crate], 
     found: list[Crate] = []
     errors: list[tap.Result] = []
     have_mutants = [
-        name
-        for name in below
-        if any(options.names(mutant.label) for mutant in written(ROOT / "crates" / name))
+        name for name in below if any(options.names(mutant.label) for mutant in written(ROOT / "crates" / name))
     ]
     if not have_mutants or not {*options.crates} <= {*have_mutants}:
         what = options.only or " ".join(options.crates)
@@ -271,10 +252,7 @@ def prove(options: Options, proved: Path, prover: Prover) -> tuple[list[Crate], 
     for name in dict.fromkeys(low for crate in wanted for low in (*below[crate], crate)):
         modules = options.modules(name)
         output = prover.check(proved / "crates" / name, modules)
-        print(
-            f"# {name}: {'proved' if output.is_proved else 'NOT proved'} without a mutant",
-            flush=True,
-        )
+        print(f"# {name}: {'proved' if output.is_proved else 'NOT proved'} without a mutant", flush=True)
         if not output.is_proved:
             errors.append((name, "it is not proved without a mutant"))
         elif name in wanted:
@@ -298,18 +276,14 @@ def results(options: Options, folder: Path, prover: Prover) -> Iterator[tap.Resu
         rounds += [(crate, mutants) for mutants in crate.rounds(tried)]
     pool = ThreadPoolExecutor(options.jobs)
     try:
-        for future in as_completed(
-            [pool.submit(crate.try_round, mutants) for crate, mutants in rounds]
-        ):
+        for future in as_completed([pool.submit(crate.try_round, mutants) for crate, mutants in rounds]):
             yield from future.result()
     finally:
         pool.shutdown(cancel_futures=True)
 
 
 def main() -> int:
-    parser = argparse.ArgumentParser(
-        description=__doc__, formatter_class=argparse.RawDescriptionHelpFormatter
-    )
+    parser = argparse.ArgumentParser(description=__doc__, formatter_class=argparse.RawDescriptionHelpFormatter)
     parser.add_argument("--only", default="")
     parser.add_argument("--since", default="")
     parser.add_argument("--jobs", type=int, default=2)

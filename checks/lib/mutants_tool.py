@@ -125,17 +125,9 @@ pub fn {case.name}(n: u8) -> u16
 
 def start(root: Path, *words: str, path: str = "") -> subprocess.Popen[str]:
     """Starts mutants.py, with another PATH if one is given."""
-    command = [
-        sys.executable,
-        str(root / "checks/lib/mutants.py"),
-        "--proved",
-        str(root / "proved"),
-        *words,
-    ]
+    command = [sys.executable, str(root / "checks/lib/mutants.py"), "--proved", str(root / "proved"), *words]
     environment = os.environ | ({"PATH": path} if path else {})
-    return subprocess.Popen(
-        command, env=environment, stdout=subprocess.PIPE, stderr=subprocess.STDOUT, text=True
-    )
+    return subprocess.Popen(command, env=environment, stdout=subprocess.PIPE, stderr=subprocess.STDOUT, text=True)
 
 
 def provers(root: Path) -> list[Path]:
@@ -149,10 +141,7 @@ def results(root: Path) -> Iterator[tap.Result]:
     for words in (["init", "-q"], ["add", "crates"], [*AUTHOR, "commit", "-q", "-m", "small"]):
         subprocess.run(["git", *words], cwd=root, check=True)
     mutants.ROOT = root
-    for what, is_wanted in {
-        "definitions as they were": False,
-        "definitions that changed": True,
-    }.items():
+    for what, is_wanted in {"definitions as they were": False, "definitions that changed": True}.items():
         is_tried = mutants.Options("", "HEAD", 1, False, []).tries_definitions("small")
         yield what, "" if is_tried == is_wanted else f"whether they are tried: {is_tried}"
         with (root / "crates/small/specs/Sum.antt").open("a") as specs:

@@ -53,8 +53,7 @@ LIMITS = {
 }
 # a path or a file's name; and a path below these folders, in all texts
 PATH = re.compile(
-    r"[\w.@-]+(?:/[\w.@-]+)+"
-    r"|[\w-]+\.(?:antt|c|edits?|h|html|js|json|map|md|py|rs|rt|sh|t|toml|ts|tsv|txt|wasm|yml)"
+    r"[\w.@-]+(?:/[\w.@-]+)+" r"|[\w-]+\.(?:antt|c|edits?|h|html|js|json|map|md|py|rs|rt|sh|t|toml|ts|tsv|txt|wasm|yml)"
 )
 BELOW = re.compile(r"(?<![\w./-])(?:\.ci|checks|docs|tools)/[\w./-]*\w")
 # files of programs, and of what is built and installed
@@ -337,11 +336,7 @@ def program_results(texts: Texts) -> Iterator[tap.Result]:
                     yield which, error
                     shown[program.language] = text
     yield "what the programs print", "\n".join(start.judge(texts[README], shown))
-    for old, new in (
-        (start.SHOWN, "another"),
-        ("| [C, C++]", "| C, C++ |"),
-        ("// hello.mjs", "//"),
-    ):
+    for old, new in ((start.SHOWN, "another"), ("| [C, C++]", "| C, C++ |"), ("// hello.mjs", "//")):
         found = any(start.judge(texts[README].replace(old, new), shown))
         yield f"planted in {README}: {old}", "" if found else "it is not found"
     is_seen = any(start.judge(texts[README], {"C": "code 1, digest hello"}))
@@ -370,9 +365,7 @@ def planted(texts: Texts) -> Iterator[tap.Result]:
         found = any(CHECKS[seen]({**texts, **edits.apply(texts, its_edits)}))
         yield f"planted: {name}", "" if found == bool(its_edits) else f"{seen}: found: {found}"
     for page, sentences in LIMITS.items():
-        texts_without = (
-            flat(texts[page]).replace(sentence.format(**limits()), "") for sentence in sentences
-        )
+        texts_without = (flat(texts[page]).replace(sentence.format(**limits()), "") for sentence in sentences)
         found = all(any(limit_errors({**texts, page: text})) for text in texts_without)
         yield f"planted in {page}: a sentence less", "" if found else "it is not found"
 

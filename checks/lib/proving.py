@@ -28,9 +28,7 @@ NAMES = re.compile(
     r"can be named from here|has no field|is not in scope|is no name|has no `"
     r"|^`[^`]*`: (?:`[^`]*`: )?(?:record|module) `"
 )
-FOLLOWS = re.compile(
-    r"(?<!nothing )depends? on |was not admitted|(?:is|are) not proved|it waits for the proof of "
-)
+FOLLOWS = re.compile(r"(?<!nothing )depends? on |was not admitted|(?:is|are) not proved|it waits for the proof of ")
 
 
 class Function(NamedTuple):
@@ -63,12 +61,7 @@ def name_of_owner(owner: Item) -> str:
     if owner.kind == "trait":
         return owner.name
     head = re.sub(r"^<(?:[^<>]|<[^<>]*>)*>|'\w+ ?", "", owner.head).strip()
-    for text, name in (
-        ("&mut ", "RefMut"),
-        ("&", "Ref"),
-        ("[u8]", "SliceU8"),
-        ("Vec<u8>", "VecU8"),
-    ):
+    for text, name in (("&mut ", "RefMut"), ("&", "Ref"), ("[u8]", "SliceU8"), ("Vec<u8>", "VecU8")):
         head = head.replace(text, name)
     head = re.sub(r"\bFrom<([\w:]*).*>(?= for )", lambda found: "From" + camel_case(found[1]), head)
     trait, _, type_name = re.sub(r"<.*?>", "", head).strip().rpartition(" for ")
@@ -94,25 +87,18 @@ def functions_of(texts: Mapping[str, str], known: Iterable[str]) -> list[Functio
             names = [name for name in known if name.endswith("::" + "::".join(own))]
             names = [name for name in names if name.split("::")[1:] == module + own] or names
             contract = [*function.clauses()]
-            clauses = [
-                clause.name or function.name for clause in contract if clause.kind == "ensures"
-            ]
+            clauses = [clause.name or function.name for clause in contract if clause.kind == "ensures"]
             body = contract[-1].end + 1 if contract else function.signature_end()
             name = names[0] if len(names) == 1 else ""
             found.append(Function(name, path, body, function.end, clauses))
     return found
 
 
-def function_of(
-    texts: Mapping[str, str], edits: list[Edit], known: list[Function]
-) -> Function | None:
+def function_of(texts: Mapping[str, str], edits: list[Edit], known: list[Function]) -> Function | None:
     """Returns the one function whose body has all these edits, if there is one."""
     places = [(edit.path, texts[edit.path].index(edit.old), len(edit.old)) for edit in edits]
     for function in known:
-        if all(
-            path == function.path and function.body < at and at + size <= function.end
-            for path, at, size in places
-        ):
+        if all(path == function.path and function.body < at and at + size <= function.end for path, at, size in places):
             return function
     return None
 
@@ -180,9 +166,7 @@ class Output:
     """What a check of a crate printed: by function, in other files, and of texts not read."""
 
     def __init__(self, crate: str, text: str, status: int) -> None:
-        lines = text.replace("\n  was found. ", " was found. ").split(
-            "\n"
-        )  # a long error has two lines
+        lines = text.replace("\n  was found. ", " was found. ").split("\n")  # a long error has two lines
         goals: list[Goal] = []
         self.found: dict[str, Found] = defaultdict(lambda: Found("it has no state", [], []))
         self.others: list[str] = []
@@ -236,12 +220,7 @@ class Prover:
         """
         words = ["rt", "check", "--jobs", "1", *(f"--only={module}" for module in modules)]
         with subprocess.Popen(
-            words,
-            cwd=home,
-            stdin=subprocess.DEVNULL,
-            stdout=subprocess.PIPE,
-            stderr=subprocess.STDOUT,
-            text=True,
+            words, cwd=home, stdin=subprocess.DEVNULL, stdout=subprocess.PIPE, stderr=subprocess.STDOUT, text=True
         ) as child:
             self.running.add(child)
             if self.is_ended:

@@ -12,8 +12,7 @@ HEAD = re.compile(
 )
 PART = re.compile(r"(pub )?(?:pub\(\w+\) )?((?:ghost )?\w+)(?:: ([^\n]*),|[,(:\n]| \{)")
 CLAUSE = re.compile(
-    r"\s*(requires|ensures)\*?(?: (\w+))? ?\{(.*?)\}(?=\s*\n\s*(?:requires|ensures|ghost|\{)|;\n)",
-    re.S,
+    r"\s*(requires|ensures)\*?(?: (\w+))? ?\{(.*?)\}(?=\s*\n\s*(?:requires|ensures|ghost|\{)|;\n)", re.S
 )
 
 
@@ -114,9 +113,7 @@ def blank(text: str) -> str:
     return re.sub(r"[^\n]", " ", text)
 
 
-def items(
-    text: str, code: str = "", start: int = 0, end: int | None = None, depth: int = 0
-) -> list[Item]:
+def items(text: str, code: str = "", start: int = 0, end: int | None = None, depth: int = 0) -> list[Item]:
     """Returns the items of a text, or of a part of it."""
     code = code or TEXT.sub(lambda quoted: blank(quoted[0]), text)
     found: list[Item] = []

@@ -36,11 +36,7 @@ HEAD = (
     "# case\tinstructions here\ttuned Rust crate\tdefault Rust crate\tnanoseconds here"
     "\ttuned Rust crate\tshare in time"
 )
-C_BUILDS = [
-    C / "prebuilt/x86_64/libmultihash_c.a",
-    C / "tests/plain.c",
-    C / "src/multihash.c",
-]
+C_BUILDS = [C / "prebuilt/x86_64/libmultihash_c.a", C / "tests/plain.c", C / "src/multihash.c"]
 NAMES = {
     "read_slice": "read, slice",
     "write_slice": "write, slice",
@@ -62,9 +58,7 @@ def run(words: Iterable[str | Path], place: str = "") -> str:
     """
     environment = os.environ | {"PLACE": place}
     pipe = subprocess.PIPE
-    ran = subprocess.run(
-        [*words], env=environment, stdout=pipe, stderr=subprocess.STDOUT, text=True, check=True
-    )
+    ran = subprocess.run([*words], env=environment, stdout=pipe, stderr=subprocess.STDOUT, text=True, check=True)
     return ran.stdout
 
 
@@ -114,10 +108,7 @@ def times(programs: list[str], rows: Rows) -> Rows:
     which the share of the instructions is.
     """
     os.sched_setaffinity(0, {max(os.sched_getaffinity(0))})
-    runs = [
-        {case: [nanoseconds(program, case) for program in programs] for case in rows}
-        for _ in range(ROUNDS)
-    ]
+    runs = [{case: [nanoseconds(program, case) for program in programs] for case in rows} for _ in range(ROUNDS)]
     columns: Rows = {}
     for case, fields in rows.items():
         shares = sorted(found[case][0] / found[case][1] for found in runs)
@@ -151,8 +142,7 @@ def name_of(case: str) -> str:
 
 def table(rows: Rows) -> str:
     lines = [
-        "| Call | instructions | tuned Rust | share | default Rust | share | ns | tuned Rust "
-        "| share in time |",
+        "| Call | instructions | tuned Rust | share | default Rust | share | ns | tuned Rust " "| share in time |",
         "|---" + 8 * "|---:" + "|",
     ]
     for case, (here, tuned, default, *in_time) in headline(rows).items():
@@ -165,10 +155,7 @@ def table(rows: Rows) -> str:
 
 
 def c_table(calls: Mapping[str, list[int]]) -> str:
-    lines = [
-        "| Call from C | archive | plain C | share | portable source | share |",
-        "|---" + 5 * "|---:" + "|",
-    ]
+    lines = ["| Call from C | archive | plain C | share | portable source | share |", "|---" + 5 * "|---:" + "|"]
     for name, (archive, plain, portable) in calls.items():
         shares = f"{archive / plain:.2f} | {portable} | {portable / plain:.2f}"
         lines.append(f"| `{name}` | {archive} | {plain} | {shares} |")
@@ -254,19 +241,14 @@ def results(program: str, rows: Rows) -> Iterator[tap.Result]:
     yield "the calls from C", differences(count_c(), calls)
     counts = count_all(program, list(rows), CALLER)
     stored = {case: [int(fields[0])] for case, fields in rows.items()}
-    yield "the cases of crates/speed", differences(
-        {case: [n] for case, n in counts.items()}, stored
-    )
+    yield "the cases of crates/speed", differences({case: [n] for case, n in counts.items()}, stored)
 
 
 def write(program: str, rust: list[str], before: Rows) -> None:
     """Writes the data, the chart and the page."""
     cases = run([program, "cases"]).splitlines()
     counts = [count_all(program, cases, CALLER), *(count_all(other, cases) for other in rust)]
-    rows = {
-        case: [*(str(found[case]) for found in counts), *([] if rust else before[case][1:])]
-        for case in cases
-    }
+    rows = {case: [*(str(found[case]) for found in counts), *([] if rust else before[case][1:])] for case in cases}
     timed = times([program, rust[0]], headline(rows)) if rust else {}
     rows = {case: fields + timed.get(case, []) for case, fields in rows.items()}
     lines = ["\t".join([case, *fields]) for case, fields in rows.items()]
@@ -283,9 +265,7 @@ def write(program: str, rust: list[str], before: Rows) -> None:
 
 
 def main() -> int:
-    parser = argparse.ArgumentParser(
-        description=__doc__, formatter_class=argparse.RawDescriptionHelpFormatter
-    )
+    parser = argparse.ArgumentParser(description=__doc__, formatter_class=argparse.RawDescriptionHelpFormatter)
     parser.add_argument("--write", action="store_true")
     parser.add_argument("rust", nargs="*", metavar="TUNED DEFAULT")
     given, rows, program = parser.parse_args(), read_rows(), str(HOME / "out" / "speed")

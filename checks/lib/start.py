@@ -17,9 +17,7 @@ FENCE = re.compile(r"^```(\S*)[^\n]*\n(.*?)^```$", re.M | re.S)
 ROW = re.compile(r"^\| \[(\w+)[^\]]*\]\([^)]*\) \| `([^`]+)` \|", re.M)
 HEAD = re.compile(r"(?://|#) (\S+): (.*)\n")
 SHOWN = "code 0, digest hello"
-REGISTRY = Path(
-    "/usr/share/cargo/registry"
-)  # of Debian, for crates that the packages for Rust need
+REGISTRY = Path("/usr/share/cargo/registry")  # of Debian, for crates that the packages for Rust need
 TOOLS = {
     "JavaScript": ("node", "npm"),
     "Python": ("/usr/bin/python3", "cc"),

@@ -77,16 +77,10 @@ class Rules:
         return code, *digest(size, data, SCALE_HEAD, data[SCALE_CODE])
 
     def line(self, size: int, data: bytes) -> str:
-        (read, taken), (scale, scale_taken) = (
-            result(call, size, data) for call in (self.read, self.scale_decode)
-        )
+        (read, taken), (scale, scale_taken) = (result(call, size, data) for call in (self.read, self.scale_decode))
         is_longer = read.startswith("pair") and len(data) > taken
         whole = f"invalid_size {len(data) - taken}" if is_longer else read
-        return "\t".join(
-            map(
-                str, (size, data.hex() or "-", read, taken or "-", whole, scale, scale_taken or "-")
-            )
-        )
+        return "\t".join(map(str, (size, data.hex() or "-", read, taken or "-", whole, scale, scale_taken or "-")))
 
 
 def digest(size: int, data: bytes, start: int, length: int) -> tuple[bytes, int]:
@@ -97,9 +91,7 @@ def digest(size: int, data: bytes, start: int, length: int) -> tuple[bytes, int]
     return data[start : start + length], start + length
 
 
-def result(
-    call: Callable[[int, bytes], tuple[int, bytes, int]], size: int, data: bytes
-) -> tuple[str, int]:
+def result(call: Callable[[int, bytes], tuple[int, bytes, int]], size: int, data: bytes) -> tuple[str, int]:
     try:
         code, found, end = call(size, data)
         return f"pair {code} {found.hex() or '-'}", end
@@ -143,9 +135,7 @@ def main() -> int:
     but_last = stored[: stored.rindex("\n", 0, -1) + 1]
     for what, text in {
         "another result of the first line": stored.replace("invalid_size 3", "invalid_size 4", 1),
-        "an input from outside that is another": stored.replace(
-            "88f5bac6a53b03", "88f5bac6a53b04", 1
-        ),
+        "an input from outside that is another": stored.replace("88f5bac6a53b03", "88f5bac6a53b04", 1),
         "an input that is there twice": "".join([stored, *stored.splitlines(True)[-1:]]),
         "an own input that is lost": but_last,
         "an own input that is another": f"{but_last}{rules_of_crate().line(0, bytes(77))}\n",

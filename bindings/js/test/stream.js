@@ -92,7 +92,7 @@ async function givenUp(module, stream) {
   let cancelled = 0;
   const handed = byteStream(stream, undefined, () => (cancelled += 1));
   const left = new module.MultihashReader(handed);
-  for await (const multihash of left) {
+  for await (const _ of left) {
     left.release();
     break;
   }

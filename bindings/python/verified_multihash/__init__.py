@@ -20,8 +20,8 @@ else:
 
 __all__ = [
     "AsyncMultihashReader", "DIGEST_MAX", "HEAD_MAX", "LENGTH_MAX", "SCALE_LENGTH_MAX", "Head", "Multihash",
-    "MultihashError", "MultihashReader", "Status", "__version__", "compare", "decode", "encode", "encoded_len", "head", "read",
-    "read_from", "scale_decode", "scale_encode",
+    "MultihashError", "MultihashReader", "Status", "__version__", "compare", "decode", "encode", "encoded_len", "head",
+    "read", "read_from", "scale_decode", "scale_encode",
 ]  # fmt: skip
 
 
