@@ -18,7 +18,7 @@ expect() {
   echo "$result $number - ${text//'#'/}"
 }
 
-echo 1..32
+echo 1..40
 expect "not ok 1 - a\nok 2 - b" ". checks/lib/tap.sh; try a false; try b true"
 expect "not ok 1 - a" ". checks/lib/tap.sh; try a no_such_command"
 expect "ok 1 - a b" ". checks/lib/tap.sh; try \$'a\\nb#' true"
@@ -26,9 +26,8 @@ expect "not ok 1 - a" ". checks/lib/tap.sh; try a rejects '' true"
 expect "not ok 1 - a" ". checks/lib/tap.sh; try a rejects 'a text' false"
 expect "not ok 1 - a\nok 2 - b" ". checks/lib/tap.sh; printf 'failed: a\npassed: b\n' | count_lines"
 expect "ok 1 # SKIP why" ". checks/lib/tap.sh; leave_out why 1"
-expect "not ok 1 - why" "export ALL=1; . checks/lib/tap.sh; leave_out why 1"
-expect "not ok 1 - no_such_command is not installed" \
-  "export ALL=1; . checks/lib/tap.sh; has 1 sh no_such_command && try a true"
+expect "ok 1 # SKIP no_such_command is not installed" \
+  ". checks/lib/tap.sh; has 1 sh no_such_command && try a true"
 expect "ok 1 # SKIP bash=1.0 is not installed" ". checks/lib/tap.sh; has 1 bash=1.0 && try a true"
 expect "ok 1 # SKIP bash=999+ is not installed" ". checks/lib/tap.sh; has 1 bash=999+ && try a true"
 expect "ok 1 - a" ". checks/lib/tap.sh; has 1 bash=1.0+ '/bin/s*' && try a true"
@@ -43,28 +42,66 @@ expect "ok 1 - a\n0" "$(report '("a", "")')"
 expect 1 "$(report "")"
 expect "ok 1 - a b\n0" "$(report '("a#\nb", "")')"
 expect "ok 1 - a # SKIP why\n0" "$(report 'tap.left_out("a", "why")')"
-expect "not ok 1 - a\n1" "export ALL=1; $(report 'tap.left_out("a", "why")')"
+
+# Writes a check.
+stub() { printf '#!/bin/bash\necho 1..1\n%s\n' "$2" > "$1" && chmod +x "$1"; }
+
+# Whether a check, or a script that it runs, has a text.
+# shellcheck disable=SC2046 # no path has a blank
+has() { grep -q "$2" "$top/$1" $(grep -oE '(checks/lib|bindings)/[a-z_/]+\.(py|sh)' "$top/$1" | sed "s|^|$top/|"); }
+
+# Runs .ci/run over stubs by the rules of checks/, after a text: what reads programs of 'rt ci' fails before it ended,
+# and what reads the proofs of the mutants before these.
+# shellcheck disable=SC2016 # the checks expand it
+in_order() {
+  local check text
+  for check in checks/*.t; do
+    text='echo ok 1'
+    if has "$check" BUILT; then text='[ -e "$PROVED/rt.t" ] && echo ok 1'; fi
+    if has "$check" lib/proved.sh; then text='[ -e "$PROVED/mutants.t" ] && echo ok 1'; fi
+    case $check in
+      */rt.t | */mutants.t) text='sleep 1; touch "$PROVED/${0##*/}"; echo ok 1' ;;
+      */tap.t) text='echo ok 1' ;;
+    esac
+    stub "$check" "$text"
+  done
+  eval "$1"
+  .ci/run > /dev/null
+  echo $?
+}
 
 # Runs .ci/run over a check, a text, after another text, and prints its status.
 ran() {
   rm -f checks/*.t
   printf -- '---\nseq:\n  - checks/rt.t\n  - checks/*.t\n' > checks/rules.yml
-  printf '#!/bin/bash\necho 1..1\n%s\n' "$1" > checks/rt.t && chmod +x checks/rt.t
+  stub checks/rt.t "$1"
   eval "${2-}"
-  .ci/run > /dev/null
+  .ci/run "${@:3}" > /dev/null
   echo $?
 }
-export -f ran
+export top=$PWD
+export -f stub has in_order ran
+expect 0 "in_order ''"
+expect 1 "in_order 'sed -i /memory/d checks/rules.yml'"
+expect 1 "in_order 'sed -i /js.t/d checks/rules.yml'"
 expect 0 "ran 'echo ok 1'"
 expect 1 "ran 'echo not ok 1'"
 expect 1 "ran 'echo ok 1; exit 1'"
 expect 1 "ran 'echo \"not ok 1 # TODO\"'"
+expect 0 "ran 'echo \"ok 1 # SKIP\"'"
+expect 1 "ran 'echo \"ok 1 - a # skip why\"' '' --all"
+expect 1 "ran 'echo \"ok 1 # SKIP\"' '' --all"
+expect 0 "ran '[ \"\$ALL\" ] && echo ok 1' '' --all"
+expect 0 "ran '[ \"\$SINCE\" = a ] && echo ok 1' '' --since a"
 expect 1 "ran '' 'sed -i s/1$/0/ checks/rt.t'"
 expect 2 "ran 'echo ok 1' 'rm checks/rules.yml'"
 expect 2 "ran 'echo ok 1' 'echo \"  - checks/lint.t\" >> checks/rules.yml'"
 expect 2 "ran '' 'rm checks/rt.t'"
+expect 2 "ran '' '' --wrong"
 expect 0 "ran 'echo ok 1' 'echo --wrong > .proverc'; rm .proverc"
 expect 0 "ran '[ \"\${BUILT-}\" ] || echo ok 1' 'export BUILT=\"rt ci\"'"
 # shellcheck disable=SC2016 # the check expands it
 text='[ $0 = checks/rt.t ] && touch "$PROVED/built" || [ "$BUILT" ] && echo ok 1'
 expect 0 "ran '$text' 'cp checks/rt.t checks/lint.t'"
+# the last: only one of two checks is run
+expect 1 "ran 'echo ok 1' 'cp checks/rt.t checks/lint.t; sed -i \"s|timer checks|&/rt.t|\" .ci/run'"

@@ -4,7 +4,6 @@
 #   bindings/js/test.sh [ARCHIVE]   ARCHIVE is the static library for C, whose results are compared, else that of
 #                                   bindings/c/prebuilt
 #
-#   ALL=1            what needs a tool that is not installed fails, else it is left out
 #   PROVED=FOLDER    a copy of the repository whose crates are proved: build.sh builds a copy of these, else it builds
 #                    here
 here=$(dirname "$(readlink -f "${BASH_SOURCE[0]}")")

@@ -272,7 +272,7 @@ def results(options: Options, folder: Path, prover: Prover) -> Iterator[tap.Resu
             if not mutant.is_of_definitions or options.tries_definitions(crate.name):
                 tried += [mutant] if options.names(mutant.label) else []
             else:
-                yield tap.skipped(mutant.label, "definitions and examples did not change")
+                yield tap.left_out(mutant.label, "definitions and examples did not change")
         rounds += [(crate, mutants) for mutants in crate.rounds(tried)]
     pool = ThreadPoolExecutor(options.jobs)
     try:

@@ -1,5 +1,4 @@
-"""Prints results as TAP, for prove: with ALL=1 in the environment what is left out fails."""
-import os
+"""Prints results as TAP, for prove."""
 import sys
 from collections.abc import Iterable
 
@@ -21,11 +20,9 @@ def report(results: Iterable[Result]) -> int:
     return 1 if failed or not number else 0
 
 
-def skipped(what: str, why: str) -> Result:
-    """Returns the result of a check that is not wanted in this run."""
-    return f"{what} {SKIP}{why}", ""
-
-
 def left_out(what: str, why: str) -> Result:
-    """Returns the result of a check whose tool is missing."""
-    return (what, why) if os.environ.get("ALL") == "1" else skipped(what, why)
+    """Returns the result of a check that is not wanted in this run, or whose tool is missing.
+
+    .ci/run --all makes it a failure.
+    """
+    return f"{what} {SKIP}{why}", ""
