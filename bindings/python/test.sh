@@ -7,7 +7,7 @@
 #
 # ARCHIVE is libmultihash_c.a, else that of bindings/c/prebuilt; WORK a folder in which the results stay, the
 # environment in WORK/venv. Needs cc, and PYTHON with headers, build, setuptools, venv and wheel, else
-# /usr/bin/python3. What needs a tool that is not installed is left out, but fails with ALL=1.
+# /usr/bin/python3. What needs a tool that is not installed is left out.
 # MULTIHASH_VERDICTS is the path of the test vectors, if not the repository's.
 here=$(dirname "$(readlink -f "${BASH_SOURCE[0]}")")
 [ $# -le 2 ] || { sed -n '2,/^[^#]/s/^# \{0,1\}//p' "${BASH_SOURCE[0]}" >&2; exit 2; }
