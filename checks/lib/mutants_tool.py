@@ -10,7 +10,7 @@ import subprocess
 import sys
 import tempfile
 import time
-from collections.abc import Iterator
+from collections.abc import Iterable, Iterator
 from pathlib import Path
 from typing import NamedTuple
 
@@ -89,14 +89,14 @@ new: 0x200
 AUTHOR = ["-c", "user.name=a", "-c", "user.email=a"]
 
 
-class Printed(mutants.Crate):
-    """A crate whose checks print these lines."""
+class Printed(proving.Prover):
+    """A prover that prints these lines."""
 
     def __init__(self, lines: str) -> None:
-        self.lines, self.known = lines, {"small::two"}
+        self.lines = lines
 
-    def check(self, _: list[mutants.Mutant]) -> proving.Output:
-        return proving.Output("small", self.lines, 1)
+    def check(self, home: Path, modules: Iterable[str] = ()) -> proving.Output:
+        return proving.Output(home.name, self.lines, 1)
 
 
 def lay_out(root: Path) -> None:
@@ -112,9 +112,11 @@ pub fn {case.name}(n: u8) -> u16
 }}
 """
         edits += f"\n# {case.name}: breaks {case.named}\nold: {case.old}\nnew: {case.new}\n"
+    first, others = edits.split("\n\n", 2)[1:]
     made = {
         "crates/small/src/lib.rt": source,
-        "crates/small/mutants/lib.edits": edits + DEFINITIONS,
+        "crates/small/must-fail/next.edit": "clause: value\nfile: src/lib.rt\n" + first.partition("\n")[2],
+        "crates/small/mutants/lib.edits": f"file: src/lib.rt\n\n{others}{DEFINITIONS}",
         "crates/small/mutants/unread.edits": edits + "olds: n\n",
     }
     for path, text in {**TEXTS, **made}.items():
@@ -136,6 +138,30 @@ def provers(root: Path) -> list[Path]:
     return [folder for folder in folders if str(root / "proved") in os.path.realpath(folder)]
 
 
+def printed_results(root: Path) -> Iterator[tap.Result]:
+    """Judges mutants, some or none, by what a prover prints."""
+
+    def printed(state: str, more: str = "") -> str:
+        states = (f"fn small::{case.name}: {state}\n" for case in CASES)
+        return f"{more}{''.join(states)}logic={state}"
+
+    lemma = "./proofs/Lemmas.antt:1:1: error: `a_lemma`: wrong\n"
+    limit = "note: a: it is not proved that (`value`): gave up at one of its limits\n"
+    for what, lines, count, wanted in (
+        ("errors of no mutant", printed("proved", lemma).replace("two: proved", "two: open"), 0, 2),
+        ("mutants that are unclear", printed("depends on others"), 5, 5),
+        ("a clause by a limit", printed("proved", limit).replace("next: proved", "next: open"), 1, 1),
+    ):
+        known = proving.Output("small", printed("proved"), 0)
+        crate = mutants.Crate(root, "small", Printed(lines), [], known)
+        found = crate.try_round(crate.rounds(crate.mutants)[0][:count])
+        is_right = len({label for label, error in found if error}) == len(found) == wanted
+        yield what, "" if is_right else f"reported: {found}"
+    options = mutants.Options("", "", 1, False, [])
+    crates, errors = mutants.prove(options, root / "proved", Printed("logic=open"))
+    yield "a crate that is not proved", "" if errors and not crates else "it passes"
+
+
 def results(root: Path) -> Iterator[tap.Result]:
     """Tries the mutants, and runs that must not pass."""
     for words in (["init", "-q"], ["add", "crates"], [*AUTHOR, "commit", "-q", "-m", "small"]):
@@ -154,9 +180,7 @@ def results(root: Path) -> Iterator[tap.Result]:
         status = "not ok" if text else "ok"
         is_right = len(found) == 1 and found[0][0] == status and text in found[0][1]
         yield label, "" if is_right else f"reported: {found}"
-    lines = "./proofs/Lemmas.antt:1:1: error: `a_lemma`: wrong\nfn small::two: open\nlogic=open"
-    others = Printed(lines).try_round([])
-    yield "errors of no mutant", "" if len(others) == 2 else f"reported: {others}"
+    yield from printed_results(root)
     runs = {"another name": ["--only", "nothing"], "another crate": ["nothing"]}
     for what, words in runs.items():
         with start(root, *words) as ran:
