@@ -93,7 +93,7 @@ export function connectTo(functions) {
 
 function textOf(status) {
   library.multihash_put_status_text(resultAt, status, outputAt, NUMBERS[LENGTH_MAX]);
-  return String.fromCharCode(...memory.subarray(output, output + narrow(16)));
+  return String.fromCharCode(...memory.subarray(output, output + word(16)));
 }
 
 // ---- arguments
@@ -143,8 +143,8 @@ function wide(offset) {
   return high < 0x200000 ? high * 0x100000000 + low : (BigInt(high) << 32n) | BigInt(low);
 }
 
-/** A length or an offset in the result. */
-function narrow(offset) {
+/** A number of 32 bits in the result: a status, a length or an offset. */
+function word(offset) {
   return words[offset >> 2];
 }
 
@@ -190,7 +190,7 @@ Object.defineProperty(MultihashError.prototype, 'name',
 
 /** The error in the result of a decoding, after `taken` bytes. */
 function failure(taken) {
-  const status = STATUSES[narrow(0)];
+  const status = STATUSES[word(0)];
   const size = status === 'invalid_size' ? wide(8) : undefined;
   const code = status === 'invalid_code' ? wide(16) : undefined;
   return new MultihashError(status, { size, code, taken });
@@ -244,7 +244,7 @@ export class Multihash {
 
 /** What a decoding of the first input found. */
 function found() {
-  return new Multihash(MAKING, wide(16), copied(first + narrow(24), narrow(32)));
+  return new Multihash(MAKING, wide(16), copied(first + word(24), word(32)));
 }
 
 // ---- decoding
@@ -254,7 +254,7 @@ export function decode(bytes) {
   const length = put(bytes, first);
   if (length <= PREFIX_MAX) library.multihash_from_bytes(resultAt, firstAt, NUMBERS[length]);
   else library.multihash_from_prefix(resultAt, firstAt, NUMBERS[PREFIX_MAX], BigInt(length));
-  if (narrow(0) !== 0) throw failure(length);
+  if (word(0) !== 0) throw failure(length);
   return found();
 }
 
@@ -263,8 +263,8 @@ export function read(bytes, limit = DIGEST_MAX) {
   const most = bits64(limit, 'a limit');
   const length = put(bytes, first);
   library.multihash_read_limit(resultAt, firstAt, NUMBERS[Math.min(length, PREFIX_MAX)], most);
-  if (narrow(0) !== 0) throw failure(narrow(40));
-  return { multihash: found(), taken: narrow(40) };
+  if (word(0) !== 0) throw failure(word(40));
+  return { multihash: found(), taken: word(40) };
 }
 
 /** The same for a plain Uint8Array from an index on; undefined if it has only the start of an encoding. */
@@ -272,34 +272,34 @@ export function readAt(bytes, at, limit) {
   const length = Math.min(bytes.length - at, PREFIX_MAX);
   memory.set(length === bytes.length ? bytes : bytes.subarray(at, at + length), first);
   library.multihash_read_limit(resultAt, firstAt, NUMBERS[length], limit);
-  const status = narrow(0);
+  const status = word(0);
   if (status === 1 || status === 6) return undefined; // `insufficient` and `unexpected_eof`
-  if (status !== 0) throw failure(narrow(40));
-  return { multihash: found(), taken: narrow(40) };
+  if (status !== 0) throw failure(word(40));
+  return { multihash: found(), taken: word(40) };
 }
 
 /** Decodes the two varints before a digest. */
 export function head(bytes) {
   const length = put(bytes, first);
   library.multihash_head(resultAt, firstAt, NUMBERS[Math.min(length, PREFIX_MAX)]);
-  if (narrow(0) !== 0) throw failure(narrow(24));
-  return { code: wide(8), digestLength: wide(16), taken: narrow(24) };
+  if (word(0) !== 0) throw failure(word(24));
+  return { code: wide(8), digestLength: wide(16), taken: word(24) };
 }
 
 /** Decodes the multihash whose SCALE form is a prefix of the bytes. */
 export function scaleDecode(bytes) {
   const length = put(bytes, first);
   library.multihash_scale_decode(resultAt, firstAt, NUMBERS[Math.min(length, PREFIX_MAX)]);
-  if (narrow(0) !== 0) throw failure(narrow(40));
-  return { multihash: found(), taken: narrow(40) };
+  if (word(0) !== 0) throw failure(word(40));
+  return { multihash: found(), taken: word(40) };
 }
 
 // ---- encoding
 
 /** The length in the result of an encoding. */
 function made(code) {
-  const status = STATUSES[narrow(0)];
-  if (status === 'ok') return narrow(16);
+  const status = STATUSES[word(0)];
+  if (status === 'ok') return word(16);
   const size = status === 'invalid_size' ? wide(8) : undefined;
   throw new MultihashError(status, { size, code: status === 'invalid_code' ? code : undefined });
 }

@@ -1,22 +1,19 @@
 #!/usr/bin/env bash
 # Tests the module for JavaScript. It prints results as TAP, and its status is 1 if one failed.
 #
-#   bindings/js/test.sh [ARCHIVE]   ARCHIVE is the static library for C, whose results are compared, else that of
-#                                   bindings/c/prebuilt
+#   bindings/js/test.sh
 #
 #   PROVED=FOLDER    a copy of the repository whose crates are proved: build.sh builds a copy of these, else it builds
 #                    here
 here=$(dirname "$(readlink -f "${BASH_SOURCE[0]}")")
-archive=$(readlink -f "${1:-$here/../c/prebuilt/$(uname -m)/libmultihash_c.a}")
 # shellcheck source=checks/lib/tap.sh
 . "$here/../../checks/lib/tap.sh"
-plan 26
+plan 22
 set -o pipefail
 # shellcheck source=checks/lib/proved.sh
 . checks/lib/proved.sh
 top=$PWD
-header=$top/bindings/c/include/multihash.h
-data=$work/data
+vectors=$top/crates/vectors/data
 
 # Counts a command that needs tools, whose names are one word.
 part() {
@@ -26,45 +23,14 @@ part() {
   has 1 $tools && try "$name" "$@"
 }
 
-# The data of the tests: the vectors, the header, and 100,000 inputs with the results of the library for C.
-make_data() {
-  mkdir "$data" && cp "$header" "$data/header" &&
-    cp "$top/crates/vectors/data/verdicts.tsv" "$data/vectors" || return 1
-  node "$here/test/mutate.js" "$data/vectors" 100000 > "$data/inputs" &&
-    cc -std=c11 -Wall -Wextra -Wpedantic -Wconversion -Werror -O2 -I "$(dirname "$header")" \
-      "$here/test/results.c" "$archive" -o "$work/results" &&
-    "$work/results" < "$data/inputs" > "$data/results" && echo "$(wc -l < "$data/results") inputs"
-}
-
 in_node() {
   timeout 600 node "$here/test/node.js" "$@"
 }
 
-# The tests find exactly that many wrong checks.
-finds() {
-  local errors=$1
-  shift
-  ! "$@" > "$work/found" && grep -o " checks right, $errors wrong" "$work/found"
-}
-
-# A copy of the data in which a file is what standard input has.
-with_planted() {
-  cp -r "$data" "$work/planted" && cat > "$work/planted/$1" && in_node "$work/planted"
-  local status=$?
-  rm -r "$work/planted"
-  return "$status"
-}
-
-one_digit_differs() {
-  awk 'NR == 77777 { sub(/^./, substr($0, 1, 1) == 1 ? 2 : 1) } 1' "$data/results" | with_planted results
-}
-
-one_line_less() {
-  sed '$d' "$data/results" | with_planted results
-}
-
-no_vectors() {
-  head -n 1 "$data/vectors" | with_planted vectors
+# The tests find a result that differs, and that there are no vectors.
+planted() {
+  sed '77s/unexpected_eof/overflow/' "$vectors/verdicts.tsv" > "$work/planted" && rejects " wrong" in_node "$work/planted" &&
+    head -n 1 "$vectors/verdicts.tsv" > "$work/planted" && rejects " 1 wrong" in_node "$work/planted"
 }
 
 # In an engine without WebAssembly, without BigInt, or without bulk memory operations, the import throws an error that
@@ -86,13 +52,6 @@ old_module() {
     --disable-multi-value --disable-reference-types)
   wasm-validate "${others[@]}" "$here/multihash.wasm" &&
     rejects "invalid section code: 12" wasm-validate "${others[@]}" --disable-bulk-memory "$here/multihash.wasm"
-}
-
-package_agrees() {
-  local version
-  version=$(sed -n 's/^#define MULTIHASH_VERSION "\([0-9.]*\)"$/\1/p' "$header")
-  grep -q "\"version\": \"$version\"" "$here/package.json" && cmp "$here/LICENSE" "$top/LICENSE" &&
-    echo "version $version, and the licence"
 }
 
 types() {
@@ -118,7 +77,8 @@ packed_script() {
   example_in js > "$at/script.mjs"
   example_in html > "$at/page.html"
   (cd "$at" && node script.mjs > out 2> err) || return 1
-  diff "$at/out" "$top/crates/mh_show/stdout" && grep -x 'invalid_size 34' "$at/err" &&
+  cmp "$top/LICENSE" "$at/node_modules/verified-multihash/LICENSE" &&
+    diff "$at/out" "$top/crates/mh_show/stdout" && grep -x 'invalid_size 34' "$at/err" &&
     (cd "$at" && node --no-warnings --input-type=commonjs -e "
       if (process.features.require_module) require('verified-multihash/inline').decode(Uint8Array.of(1, 0));
       const compiled = new \
@@ -163,24 +123,20 @@ demo_of_disk() {
 # The parts in a browser, whose name and tools are given.
 test_browser() {
   local name=$1 tools=$2
-  part "in $name" "$tools" node "$here/test/browser.js" "$name" test/page.html "$here" "$data"
+  part "in $name" "$tools" node "$here/test/browser.js" "$name" test/page.html "$here" "$vectors"
   part "the packed package's page in $name" "$tools" packed_page "$name"
   part "the demo page in $name" "$tools" demo "$name"
 }
 
 part "the WebAssembly built anew" "rt wasm-opt=108 wasm2wat=1.0.32" "$here/build.sh" --check
 part "the WebAssembly for old engines" wasm-validate old_module
-part "inputs and what the library for C returns" cc make_data
-part "in Node.js" node in_node "$data"
-part "in Node.js, inline" node in_node "$data" inline
-part "in Node.js, a compiled module" node in_node "$data" module
+part "in Node.js" node in_node "$vectors/verdicts.tsv"
+part "in Node.js, inline" node in_node "$vectors/verdicts.tsv" inline
+part "in Node.js, a compiled module" node in_node "$vectors/verdicts.tsv" module
 part "where nothing is compiled" node node --experimental-vm-modules --no-warnings "$here/test/compiled.js"
-part "a digit that differs" node finds 1 one_digit_differs
-part "a line that is missing" node finds 2 one_line_less
-part "no vectors" node finds 1 no_vectors
+part "vectors that differ" node planted
 part "old engines" node old_engine index
 part "old engines, inline" node old_engine inline
-part "the package" node package_agrees
 part "types" tsc types
 part "the packed package's script" npm packed_script
 test_browser chromium chromium

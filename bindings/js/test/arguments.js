@@ -60,24 +60,9 @@ function numbers(module) {
   }
   same(module.read(EXAMPLE, (1n << 64n) - 1n).taken, 34, 'the largest limit');
   same(fails(module.MultihashError, () => module.read(EXAMPLE, 0), 'limit 0')?.size, 32, 'size at limit 0');
-}
-
-function wideNumbers(module) {
-  const codes = [0, 127, 128, 2 ** 32, 2 ** 53 - 1, 2n ** 53n, 2n ** 63n - 1n];
-  for (const code of codes) {
-    const bytes = module.encode(code, new Uint8Array(3));
-    const made = module.Multihash.of(BigInt(code), new Uint8Array(3));
-    const { multihash: scale } = module.scaleDecode(module.scaleEncode(code, new Uint8Array(3)));
-    for (const multihash of [module.decode(bytes), made, scale]) {
-      same(multihash.code, code, 'code');
-      same(hex(multihash.bytes), hex(bytes), 'bytes of a code');
-    }
-    same(module.head(bytes).code, code, 'code of head');
-  }
-  same(module.head(unhex('00808080808080808001')).digestLength, 2n ** 56n, 'length of head');
-  same(fails(module.MultihashError, () => module.encode(1n << 63n, new Uint8Array(256)), 'size first')?.size, 256,
-    'size');
-  same(module.encode(18, new Uint8Array(255)).length, 258, 'the longest digest');
+  const long = 2n ** 63n + 256n;
+  const sizes = [() => module.encode(1n << 63n, new Uint8Array(256)), () => module.encodedLength(1n << 63n, long)];
+  same(`${sizes.map((call) => fails(module.MultihashError, call, 'size first')?.size)}`, `256,${long}`, 'size');
 }
 
 /** Results keep nothing of the module's memory or of the input, also where a subclass lies. */
@@ -115,7 +100,10 @@ function ownBytes(module) {
     same(`${hex(bytes)} ${bytes.buffer.constructor.name}`, `${hex(EXAMPLE)} ArrayBuffer`, 'shared bytes');
   const long = new Uint8Array(3e6);
   long.set(EXAMPLE);
-  same(fails(module.MultihashError, () => module.decode(long), 'a long input')?.size, 3e6 - 34, 'trailing bytes');
+  for (const length of [272, 273, 274, 275, 3e6]) {
+    const input = long.subarray(0, length);
+    same(fails(module.MultihashError, () => module.decode(input), 'a long input')?.size, length - 34, 'trailing bytes');
+  }
   same(module.read(long).taken, 34, 'a long input');
 }
 
@@ -196,10 +184,6 @@ function multihashes(module) {
     tampered.digest = digest;
     fails(TypeError, () => module.compare(tampered, other), 'a digest that was replaced');
   }
-  const pairs = [[0, 'zz'], [1, 'b'], [1, 'ab'], [1, 'bb'], [2, 'b'], [2n ** 60n, '']];
-  const ordered = pairs.map(([code, text]) => module.Multihash.of(code, new TextEncoder().encode(text)));
-  ordered.forEach((left, i) =>
-    ordered.forEach((right, k) => same(module.compare(left, right), Math.sign(i - k), 'compare')));
 }
 
 /** JSON.stringify of each has only texts and numbers that are exact. */
@@ -253,30 +237,31 @@ function errors(module) {
   for (const value of others) same(module.MultihashError.from(value), undefined, 'from');
 }
 
-/** The constants and the version are those of the header for C. */
-function header(module, text) {
-  const found = [...text.matchAll(/#define MULTIHASH_(\w+_MAX) (\d+)/g)];
-  same(found.length, 4, 'constants of the header');
-  for (const [, name, number] of found) same(module[name], Number(number), name);
-  same(module.version, /#define MULTIHASH_VERSION "(.*)"/.exec(text)?.[1], 'version');
-}
-
 /** Where WebAssembly is there and forbidden, as by a policy, the error lists engines, and has that of the engine. */
 export async function forbidden() {
   const { Module, instantiate } = WebAssembly;
   const { connect, connectLater } = await import('../core.js?forbidden');
-  const refusal = new WebAssembly.CompileError('forbidden');
+  const cause = new WebAssembly.CompileError('forbidden');
   WebAssembly.Module = function Forbidden() {
-    throw refusal;
+    throw cause;
   };
   WebAssembly.instantiate = async () => {
-    throw refusal;
+    throw cause;
   };
   for (const call of [connect, connectLater]) {
     const error = await new Promise((resolve) => resolve(call(new Uint8Array(8)))).catch((found) => found);
-    same(`${error?.cause} ${/Chrome 89, .* Firefox 90/.test(error?.message)}`, `${refusal} true`, 'a policy');
+    same(`${error?.cause} ${/Chrome 89, .* Firefox 90/.test(error?.message)}`, `${cause} true`, 'a policy');
   }
   Object.assign(WebAssembly, { Module, instantiate });
+}
+
+/** A module that cannot be fetched is an error that names its place. */
+export async function missing() {
+  const { fetch, process } = globalThis;
+  Object.assign(globalThis, { fetch: async () => ({ ok: false, status: 404 }), process: undefined });
+  const error = await import('../index.js?missing').catch((found) => found);
+  Object.assign(globalThis, { fetch, process });
+  same(/multihash.wasm: status 404$/.test(error.message), true, 'a module that is missing');
 }
 
 /** Where both entries connect at once, the first of them serves both. */
@@ -292,15 +277,13 @@ export async function both() {
   }
 }
 
-export function hostile(module, headerText) {
+export function hostile(module) {
   bytesAlone(module);
   numbers(module);
-  wideNumbers(module);
   ownBytes(module);
   multihashes(module);
   growing(module);
   polluted(module);
   errors(module);
   inJSON(module);
-  header(module, headerText);
 }

@@ -1,31 +1,80 @@
-// What the types say, for tsc --noEmit --strict.
-import { compare, decode, DIGEST_MAX, encode, encodedLength, head, Multihash, MultihashError, MultihashReader, read,
-  scaleDecode, scaleEncode } from 'verified-multihash';
-import type { Status } from 'verified-multihash/inline';
+// What the types say, for tsc --noEmit --strict: each public name has this type, and no other.
+import * as multihash from 'verified-multihash';
+import * as inline from 'verified-multihash/inline';
 import { connect } from 'verified-multihash/module';
+import type { ByteStream, Details, Head, Multihash, MultihashError, MultihashReader, Read, Status, Wide } from
+  'verified-multihash';
 
-const multihash: Multihash = decode(new Uint8Array([0x12, 0]));
-const exact: bigint = BigInt(multihash.code);
-const small: number | undefined = typeof multihash.code === 'number' ? multihash.code : undefined;
-const { taken }: { taken: number } = read(multihash.bytes, DIGEST_MAX);
-// @ts-expect-error the length may be a bigint
-const length: number = head(multihash.bytes).digestLength;
-const order: -1 | 0 | 1 = compare(multihash, Multihash.of(0x12n, multihash.digest));
-const form: Uint8Array = scaleEncode(exact, scaleDecode(encode(18, multihash.digest)).multihash.digest);
-
-function statusOf(value: unknown): Status | undefined {
-  const error = MultihashError.from(value);
-  return error?.isIncomplete ? error.status : error?.cause.status;
+type Same<Left, Right> =
+  (<T>() => T extends Left ? 1 : 2) extends (<T>() => T extends Right ? 1 : 2) ? true : { found: Left };
+type Result = 'insufficient' | 'overflow' | 'not_minimal' | 'invalid_size' | 'invalid_code' | 'unexpected_eof';
+type Encoder = (code: Wide, digest: Uint8Array) => Uint8Array;
+type Classes = 'Multihash' | 'MultihashError' | 'MultihashReader';
+interface Fields {
+  readonly size?: Wide;
+  readonly code?: Wide;
+  readonly taken?: number;
 }
 
-async function all(source: AsyncIterable<Uint8Array>): Promise<Multihash[]> {
-  const reader = new MultihashReader(source, { limit: 64, rest: new Uint8Array() });
-  const found: Multihash[] = [];
-  for await (const each of reader) found.push(each);
-  reader.release();
-  await reader.cancel('done');
-  return (await reader.read()) === null ? found : [];
-}
+type Names = {
+  DIGEST_MAX: 255;
+  HEAD_MAX: 18;
+  LENGTH_MAX: 266;
+  SCALE_LENGTH_MAX: 264;
+  version: string;
+  decode: (bytes: Uint8Array) => Multihash;
+  read: (bytes: Uint8Array, limit?: Wide) => Read;
+  head: (bytes: Uint8Array) => Head;
+  encode: Encoder;
+  encodedLength: (code: Wide, digestLength: Wide) => number;
+  compare: (left: Multihash, right: Multihash) => -1 | 0 | 1;
+  scaleDecode: (bytes: Uint8Array) => Read;
+  scaleEncode: Encoder;
+};
+type OfMultihash = {
+  readonly code: Wide;
+  readonly size: number;
+  readonly digest: Uint8Array;
+  readonly bytes: Uint8Array;
+  equals: (other: unknown) => boolean;
+  narrow: () => Multihash<number>;
+  toJSON: () => { code: number | string; size: number; digest: string };
+};
+type OfError = Fields & {
+  readonly status: Status;
+  readonly isIncomplete: boolean;
+  readonly cause: Details & { readonly status: Status };
+  toJSON: () => { name: string; message: string; status: Status; size?: number | string; code?: number | string;
+    taken?: number };
+};
+type OfReader = {
+  readonly rest: Uint8Array;
+  read: () => Promise<Multihash | null>;
+  release: () => void;
+  cancel: (reason?: unknown) => Promise<void>;
+  [Symbol.asyncIterator]: () => AsyncGenerator<Multihash, void, void>;
+};
+type Flat<T> = { [K in keyof T]: T[K] };
+type Options = { limit?: Wide; rest?: Uint8Array };
+
+export const same: [
+  Same<Wide, number | bigint>,
+  Same<Status, Result | 'no_room'>,
+  Same<Readonly<Omit<typeof multihash, Classes>>, Readonly<Names>>,
+  Same<typeof inline, typeof multihash>,
+  Same<typeof connect, (module: object) => void>,
+  Same<Flat<Multihash>, OfMultihash>,
+  Same<Flat<Omit<MultihashError, keyof Error>> & Pick<MultihashError, 'cause'>, Flat<Omit<OfError, 'cause'>> &
+    Pick<OfError, 'cause'>>,
+  Same<Flat<MultihashReader>, OfReader>,
+  Same<Flat<Details>, Fields>,
+  Same<Flat<Read>, { readonly multihash: Multihash; readonly taken: number }>,
+  Same<Flat<Head>, { readonly code: Wide; readonly digestLength: Wide; readonly taken: number }>,
+  Same<typeof multihash.Multihash.of, (code: Wide, digest: Uint8Array) => Multihash>,
+  Same<typeof multihash.MultihashError.from, (value: unknown) => MultihashError | undefined>,
+  Same<ConstructorParameters<typeof MultihashError>, [status: Status, details?: Details]>,
+  Same<ConstructorParameters<typeof MultihashReader>, [source: ByteStream | AsyncIterable<Uint8Array>, options?: Options]>,
+] = [true, true, true, true, true, true, true, true, true, true, true, true, true, true, true];
 
 /** As in js-multiformats, whose `CID.create` takes it. */
 interface MultihashDigest<Code extends number = number> {
@@ -34,26 +83,12 @@ interface MultihashDigest<Code extends number = number> {
   digest: Uint8Array;
   bytes: Uint8Array;
 }
-const theirs: MultihashDigest = multihash.narrow();
-const connected = (module: object): void => connect(module);
-
+const found = multihash.decode(new Uint8Array([0x12, 0]));
+export const theirs: MultihashDigest = found.narrow();
+export const error: Error = new multihash.MultihashError('overflow');
 // @ts-expect-error the code may be a bigint
-const wide: MultihashDigest = multihash;
-// @ts-expect-error a text is no bytes
-decode('1200');
-// @ts-expect-error a text is no module
-connect('AGFzbQ==');
-// @ts-expect-error a code is not a text
-encode('18', multihash.digest);
-// @ts-expect-error the code may be a bigint
-const wrong: number = multihash.code;
+export const wide: MultihashDigest = found;
 // @ts-expect-error a multihash is not changed
-multihash.code = 3;
+found.code = 3;
 // @ts-expect-error Multihash.of makes one
-new Multihash(18, multihash.digest);
-
-const { digest: text }: { digest: string } = multihash.toJSON();
-const number: number | string | undefined = MultihashError.from(text)?.toJSON().size;
-
-export { all, connected, encodedLength, form, length, number, order, small, statusOf, taken, text, theirs, wide,
-  wrong };
+new multihash.Multihash(18, found.digest);

@@ -1,9 +1,9 @@
-// Runs the tests over a folder of data: node node.js FOLDER [inline|module]
+// Runs the tests over the test vectors: node node.js VECTORS [inline|module]
 import { readFileSync } from 'node:fs';
-import { speed, suite, summary } from './suite.js';
+import { same } from './check.js';
+import { suite, summary } from './suite.js';
 
-const [, , folder, which = 'index'] = process.argv;
-const text = (name) => readFileSync(`${folder}/${name}`, 'utf8');
+const [, , vectors, which = 'index'] = process.argv;
 const { Module } = WebAssembly;
 const compiled = which === 'module' && new Module(readFileSync(new URL('../multihash.wasm', import.meta.url)));
 // as in pages of Chrome before 115, where index.js works
@@ -15,8 +15,10 @@ if (which !== 'inline') {
 const module = await import(`../${which}.js`);
 if (compiled) module.connect(compiled);
 WebAssembly.Module = Module;
-const inputs = new Uint8Array(readFileSync(`${folder}/inputs`));
-const data = { header: text('header'), vectors: text('vectors'), results: text('results'), inputs };
-const tally = await suite(module, data);
-console.log(`${summary(tally)}; ${speed(module)}`);
+const types = readFileSync(new URL('../index.d.ts', import.meta.url), 'utf8');
+const names = Array.from(types.matchAll(/^export (?:const|class|function) (\w+)/gm), ([, name]) => name);
+if (compiled) names.push('connect');
+same(`${Object.keys(module).sort()}`, `${names.sort()}`, 'the names that are exported');
+const tally = await suite(module, readFileSync(vectors, 'utf8'));
+console.log(summary(tally));
 process.exitCode = tally.errors.length === 0 && tally.checks > 0 ? 0 : 1;

@@ -136,18 +136,6 @@ async function badSources(module, stream) {
   for (const [kind, option] of options) fails(kind, () => new module.MultihashReader(chunks(), option), 'an option');
 }
 
-/** A generator that threw is done by the language: its reader gives the error again. */
-async function throwing(module, stream) {
-  async function* source() {
-    yield stream.subarray(0, 40);
-    throw new Error('broken');
-  }
-  const reader = new module.MultihashReader(source());
-  const results = [await drained(reader), await drained(reader)].map(({ found, error, rest }) =>
-    `${found.length} ${error?.message} ${rest.length}`);
-  same(`${results}`, '2 broken 4,0 broken 4', 'a generator that threw');
-}
-
 /** After an error of a source another reader goes on with the rest; a source whose loop is left is closed. */
 async function failing(module, stream) {
   let [turn, closed] = [0, false];
@@ -175,6 +163,24 @@ async function failing(module, stream) {
   same(closed, true, 'closed');
 }
 
+/** What a reader has received is its own: a source may use its memory again. A source needs no `return`. */
+async function reused(module, stream, wanted) {
+  const chunk = new Uint8Array(7);
+  let at = 0;
+  const next = async () => {
+    chunk.set(stream.subarray(at, at + 7));
+    at += 7;
+    return { done: at - 7 >= stream.length, value: chunk.subarray(0, stream.length - at + 7) };
+  };
+  const rest = stream.slice(0, 20);
+  at = 20;
+  const reader = new module.MultihashReader({ [Symbol.asyncIterator]: () => ({ next }) }, { rest });
+  rest.fill(0);
+  const found = [];
+  for await (const multihash of reader) found.push(multihash);
+  same(listed(found), wanted, 'memory that is used again');
+}
+
 export async function streams(module) {
   const digests = [new Uint8Array(32).fill(7), new Uint8Array(), new Uint8Array(200).fill(9)];
   const encodings = digests.map((digest, index) => module.encode([0x12, 0, 2n ** 62n][index], digest));
@@ -184,9 +190,9 @@ export async function streams(module) {
   await readableStream(module, stream, wanted);
   await malformedStream(module, stream, wanted);
   await badSources(module, stream);
-  await throwing(module, stream);
   await failing(module, stream);
   await givenUp(module, stream);
+  await reused(module, stream, wanted);
   const reader = new module.MultihashReader(chunks(stream));
   const together = await Promise.all([reader.read(), reader.read(), reader.read(), reader.read()]);
   same(listed(together.slice(0, 3)) + together[3], `${wanted}null`, 'calls that overlap');

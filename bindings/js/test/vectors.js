@@ -1,0 +1,92 @@
+// Each test vector, through each call.
+import { hex, same, unhex } from './check.js';
+
+const COLUMNS = 'S\tinput\tread\tread_taken\tfrom_bytes\tscale_decode\tscale_taken';
+const MORE = new Uint8Array(400);
+
+/** A result as the vectors write it, the number of bytes consumed, and what was found. */
+function written(module, call, taken) {
+  try {
+    const found = call();
+    const { multihash = found } = found;
+    same(typeof multihash.code, BigInt(multihash.code) < 2n ** 53n ? 'number' : 'bigint', 'type of a code');
+    return [`pair ${multihash.code} ${hex(multihash.digest) || '-'}`, found.taken ?? taken, multihash];
+  } catch (error) {
+    if (!(error instanceof module.MultihashError)) throw error;
+    const words = [error.status, error.size ?? error.code ?? []].flat().join(' ');
+    return [words, error.taken];
+  }
+}
+
+/** Whether a result for a buffer of that size is the result for 255 too. */
+const isForAll = (verdict, size) => size >= 255 || !verdict.startsWith('invalid_size') ||
+  BigInt(verdict.slice(13)) > 255n;
+
+/** The head of an input for which `read` consumes that many bytes. Returns that number. */
+function checkHead(module, data, read, taken) {
+  const [status, number, digest = ''] = read.split(' ');
+  if (!['pair', 'invalid_size', 'unexpected_eof'].includes(status)) {
+    const consumed = taken === '-' ? data.length : taken;
+    same(written(module, () => module.head(data)).slice(0, 2).join(' '), `${read} ${consumed}`, 'head, an error');
+    return consumed;
+  }
+  const { code, digestLength, taken: length } = module.head(data);
+  const size = digest.replace('-', '').length / 2;
+  if (status === 'pair') same(`${code} ${digestLength} ${length}`, `${number} ${size} ${taken - size}`, 'head');
+  if (status === 'invalid_size') same(`${digestLength} ${length}`, `${number} ${taken}`, 'head');
+  return taken === '-' ? length : taken;
+}
+
+/** The input with more bytes than an encoding has. */
+function checkLong(module, data, read, taken) {
+  const long = Uint8Array.of(...data, ...MORE);
+  const wanted = read.startsWith('pair') ? `invalid_size ${long.length - taken}` : read;
+  same(written(module, () => module.decode(long)).slice(0, 2).join(' '), `${wanted} ${long.length}`, 'decode, a long input');
+}
+
+function checkBack(module, multihash, data, taken) {
+  const { code, digest, size } = multihash;
+  for (const bytes of [module.encode(code, digest), multihash.bytes, module.Multihash.of(code, digest).bytes])
+    same(hex(bytes), hex(data.subarray(0, taken)), 'an encoding');
+  same(module.encodedLength(code, size), taken, 'encodedLength');
+  const form = module.scaleEncode(code, digest);
+  const head = new DataView(new ArrayBuffer(9));
+  head.setBigUint64(0, BigInt(code), true);
+  head.setUint8(8, size);
+  same(hex(form), hex(new Uint8Array(head.buffer)) + hex(digest), 'scaleEncode');
+  const { multihash: again, taken: length } = module.scaleDecode(Uint8Array.of(...form, ...MORE));
+  same(`${again.equals(multihash)} ${length}`, `true ${form.length}`, 'scaleDecode');
+}
+
+/** The order by the code, the digest's length, and the digest. */
+function order(left, right) {
+  const keys = [left, right].map(({ code, size, digest }) => [BigInt(code), size, hex(digest)]);
+  const at = keys[0].findIndex((key, index) => key !== keys[1][index]);
+  return at < 0 ? 0 : keys[0][at] < keys[1][at] ? -1 : 1;
+}
+
+export function vectors(module, text) {
+  const [columns, ...lines] = text.trim().split('\n');
+  same(columns, COLUMNS, 'columns');
+  same(lines.length > 0, true, 'lines');
+  let before = module.Multihash.of(0, new Uint8Array());
+  for (const line of lines) {
+    const [S, input, read, readTaken, whole, scale, scaleTaken] = line.split('\t');
+    const data = unhex(input);
+    const [found, taken, multihash] = written(module, () => module.read(data, Number(S)));
+    same(`${found} ${taken}`, `${read} ${checkHead(module, data, read, readTaken)}`, `read ${line}`);
+    if (isForAll(read, Number(S))) {
+      const [decoded, length] = written(module, () => module.decode(data), data.length);
+      same(`${decoded} ${length}`, `${whole} ${data.length}`, `decode ${line}`);
+      if (!/^(insufficient|unexpected_eof)/.test(read)) checkLong(module, data, read, taken);
+    }
+    const [form, formTaken] = written(module, () => module.scaleDecode(data));
+    if (isForAll(scale, Number(S))) same(`${form} ${scaleTaken === '-' || formTaken}`, `${scale} ${scaleTaken === '-' || scaleTaken}`, line);
+    if (!multihash) continue;
+    checkBack(module, multihash, data, taken);
+    for (const [left, right] of [[before, multihash], [multihash, before]])
+      same(module.compare(left, right), order(left, right), 'compare');
+    same(multihash.equals(before), order(before, multihash) === 0, 'equals');
+    before = multihash;
+  }
+}
