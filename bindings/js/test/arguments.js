@@ -179,6 +179,8 @@ function multihashes(module) {
   const digest = { get: () => (module.decode(module.encode(1, new Uint8Array(40))), EXAMPLE.slice(2)) };
   const busy = Object.create(module.Multihash.prototype, { code: { value: 22 }, digest });
   same(`${module.compare(multihash, busy)} ${module.compare(busy, multihash)}`, '0 0', 'a getter that decodes');
+  const near = [2n ** 60n, 2n ** 60n + 1n].map((code) => module.Multihash.of(code, EXAMPLE));
+  same(`${module.compare(...near)} ${near[0].equals(near[1])}`, '-1 false', 'codes that are the same as a double');
   const tampered = module.decode(EXAMPLE);
   for (const digest of [3, [1], new Uint8Array(300)]) {
     tampered.digest = digest;
