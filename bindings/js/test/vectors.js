@@ -10,6 +10,7 @@ function written(module, call, taken) {
     const found = call();
     const { multihash = found } = found;
     same(typeof multihash.code, BigInt(multihash.code) < 2n ** 53n ? 'number' : 'bigint', 'type of a code');
+    same(multihash.digest.buffer.byteLength, multihash.size, 'memory of a digest');
     return [`pair ${multihash.code} ${hex(multihash.digest) || '-'}`, found.taken ?? taken, multihash];
   } catch (error) {
     if (!(error instanceof module.MultihashError)) throw error;
