@@ -145,7 +145,8 @@ planted_leak() {
     ! cmp "$to/sdist/src/core.c" "$to/planted/src/core.c" && installs "$to/planted" && unit_tests "$here/tests"
 }
 
-# The package and the examples of README.md are typed, and wrong arguments are found.
+# The package and the examples of README.md are typed, the module has the names of its stub, and wrong arguments are
+# found.
 types() {
   local strict=(mypy --strict --cache-dir "$to/mypy" --python-executable "$python")
   cd "$to" || return 1
@@ -155,6 +156,8 @@ types() {
     'vm.Multihash("sha2-256", b"")' 'vm.Multihash(1, b"").code = 2' \
     'vm.read_from("name")' > wrong.py
   "${strict[@]}" -p verified_multihash && "${strict[@]}" readme_examples.py || return 1
+  PYTHONPATH=$("$python" -c 'import sysconfig; print(sysconfig.get_path("purelib"))') \
+    stubtest verified_multihash._core || return 1
   ! "${strict[@]}" wrong.py > wrong.log && grep -q '^multihash = ' readme_examples.py &&
     grep 'Found 5 errors' wrong.log
 }
@@ -175,8 +178,8 @@ else
   leave_out "_testcapi is not installed" 1
 fi
 try "the tests with the debug allocator" unit_tests "$here/tests" PYTHONMALLOC=debug
-has 1 mypy && try "types" types
-try "the times beside plain Python" "$python" "$here/tests/speed.py"
+has 1 mypy stubtest && try "types" types
+try "the times beside plain Python" "$python" "$here/speed.py"
 try "the folder, installed" imports "$here"
 has 1 objcopy ar && try "an archive of another version" other_version
 try "an altered archive" altered_archive
