@@ -450,6 +450,9 @@ class Names(unittest.TestCase):
         constants = {name for name in vars(vm) if name.endswith("_MAX")} | {"__version__"}
         self.assertEqual(sorted(vm.__all__), sorted(public | constants))
         self.assertTrue(Path(vm.__file__).with_name("py.typed").exists())
+        for call in (*NAMED_CALLS, vm.MultihashReader, vm.AsyncMultihashReader):
+            limit = inspect.signature(call).parameters.get("limit")
+            self.assertIn(limit and limit.default, (None, vm.DIGEST_MAX))
         for call, arguments in NAMED_CALLS.items():
             names = list(inspect.signature(call).parameters)
             by_name, by_position = call(**dict(zip(names, arguments))), call(*arguments)

@@ -1,8 +1,9 @@
 //! `serde`: the encoding as bytes, in JSON as an array of numbers.
 use multihash::Multihash;
-use serde::de::value::{BorrowedBytesDeserializer, BytesDeserializer, Error, SeqDeserializer};
-use serde::de::IntoDeserializer;
-use serde::{Deserialize, Serialize};
+use serde::de::value::{BorrowedBytesDeserializer, Error, SeqDeserializer};
+use serde::de::{IntoDeserializer, Visitor};
+use serde::ser::Impossible;
+use serde::{forward_to_deserialize_any, Deserialize, Deserializer, Serialize, Serializer};
 
 fn full() -> Multihash<4> {
     Multihash::wrap((1 << 63) - 1, b"abcd").expect("it fits")
@@ -48,13 +49,78 @@ fn long_sequences() {
 
 #[test]
 fn bytes_and_sequences() {
-    let bytes = BytesDeserializer::<Error>::new(&ENCODING);
-    assert_eq!(Multihash::<4>::deserialize(bytes), Ok(full()));
     let borrowed = BorrowedBytesDeserializer::<Error>::new(&ENCODING);
     assert_eq!(Multihash::<9>::deserialize(borrowed), Ok(full().resize().expect("it fits")));
     let sequence = SeqDeserializer::<_, Error>::new(ENCODING.into_iter());
     assert_eq!(Multihash::<4>::deserialize(sequence), Ok(full()));
     assert!(Multihash::<4>::deserialize(IntoDeserializer::<Error>::into_deserializer(7u8)).is_err());
+}
+
+/// A format that has only bytes: what asks for anything else fails.
+struct BytesAlone;
+
+impl<'de> Deserializer<'de> for BytesAlone {
+    type Error = Error;
+
+    fn deserialize_bytes<V: Visitor<'de>>(self, visitor: V) -> Result<V::Value, Error> {
+        visitor.visit_bytes(&ENCODING)
+    }
+
+    fn deserialize_any<V: Visitor<'de>>(self, _: V) -> Result<V::Value, Error> {
+        unreachable!()
+    }
+
+    forward_to_deserialize_any! {
+        bool i8 i16 i32 i64 u8 u16 u32 u64 f32 f64 char str string byte_buf option unit unit_struct newtype_struct seq
+        tuple tuple_struct map struct enum identifier ignored_any
+    }
+}
+
+macro_rules! others {
+    ($($name:ident ($($type:ty),*) $result:ident;)*) => {
+        $(fn $name(self, $(_: $type),*) -> Result<Self::$result, Error> { unreachable!() })*
+    };
+    (of values: $($name:ident ($($type:ty),*);)*) => {
+        $(fn $name<T: Serialize + ?Sized>(self, $(_: $type,)* _: &T) -> Result<Self::Ok, Error> { unreachable!() })*
+    };
+}
+
+type Name = &'static str;
+type Never = Impossible<Vec<u8>, Error>;
+
+impl Serializer for BytesAlone {
+    type Ok = Vec<u8>;
+    type Error = Error;
+    type SerializeSeq = Never;
+    type SerializeTuple = Never;
+    type SerializeTupleStruct = Never;
+    type SerializeTupleVariant = Never;
+    type SerializeMap = Never;
+    type SerializeStruct = Never;
+    type SerializeStructVariant = Never;
+
+    fn serialize_bytes(self, bytes: &[u8]) -> Result<Vec<u8>, Error> {
+        Ok(bytes.to_vec())
+    }
+
+    others! {
+        serialize_bool(bool) Ok; serialize_i8(i8) Ok; serialize_i16(i16) Ok; serialize_i32(i32) Ok;
+        serialize_i64(i64) Ok; serialize_u8(u8) Ok; serialize_u16(u16) Ok; serialize_u32(u32) Ok;
+        serialize_u64(u64) Ok; serialize_f32(f32) Ok; serialize_f64(f64) Ok; serialize_char(char) Ok;
+        serialize_str(&str) Ok; serialize_none() Ok; serialize_unit() Ok; serialize_unit_struct(Name) Ok;
+        serialize_unit_variant(Name, u32, Name) Ok; serialize_seq(Option<usize>) SerializeSeq;
+        serialize_tuple(usize) SerializeTuple; serialize_tuple_struct(Name, usize) SerializeTupleStruct;
+        serialize_tuple_variant(Name, u32, Name, usize) SerializeTupleVariant;
+        serialize_map(Option<usize>) SerializeMap; serialize_struct(Name, usize) SerializeStruct;
+        serialize_struct_variant(Name, u32, Name, usize) SerializeStructVariant;
+    }
+    others! { of values: serialize_some(); serialize_newtype_struct(Name); serialize_newtype_variant(Name, u32, Name); }
+}
+
+#[test]
+fn bytes_alone() {
+    assert_eq!(full().serialize(BytesAlone), Ok(ENCODING.to_vec()));
+    assert_eq!(Multihash::<4>::deserialize(BytesAlone), Ok(full()));
 }
 
 /// As a field of another type.

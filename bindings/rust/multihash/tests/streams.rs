@@ -56,10 +56,6 @@ impl Write for Slow<Vec<u8>> {
     }
 }
 
-fn slow(bytes: &[u8]) -> Slow<&[u8]> {
-    Slow { bytes, at: 0, event: None }
-}
-
 type Value = Multihash<200>;
 
 /// A multihash, its encoding, and the length of its head.
@@ -94,32 +90,22 @@ fn each_byte(event: Event, check: impl Fn(&Case, usize, Slow<&[u8]>, Slow<Vec<u8
     }
 }
 
-/// Both multihashes of a stream are read, and no byte more; the first is written.
-fn check_whole(case: &Case, mut reader: Slow<&[u8]>, mut writer: Slow<Vec<u8>>) {
-    assert_eq!(Value::read(&mut reader).expect("a multihash"), case.value);
-    assert_eq!(Value::read(&mut reader).expect("a multihash").digest(), b"z");
-    assert_eq!(reader.bytes, b"rest");
-    assert_eq!(case.value.write(&mut writer).expect("it is written"), case.encoding.len());
-    assert_eq!(writer.bytes, case.encoding);
-}
-
 fn texts(error: &Error) -> (String, Option<String>) {
     (error.to_string(), error.source().map(ToString::to_string))
 }
 
-#[test]
-fn one_byte_a_call() {
-    for case in cases() {
-        let stream = [&case.encoding, REST].concat();
-        check_whole(&case, slow(&stream), Slow { bytes: Vec::new(), at: 0, event: None });
-    }
-}
-
+/// Both multihashes of a stream are read, and no byte more; the first is written.
 #[cfg(feature = "std")]
 #[test]
 fn interrupted() {
     let interrupt: Event = || Err(io::ErrorKind::Interrupted.into());
-    each_byte(interrupt, |case, _, reader, writer| check_whole(case, reader, writer));
+    each_byte(interrupt, |case, _, mut reader, mut writer| {
+        assert_eq!(Value::read(&mut reader).expect("a multihash"), case.value);
+        assert_eq!(Value::read(&mut reader).expect("a multihash").digest(), b"z");
+        assert_eq!(reader.bytes, b"rest");
+        assert_eq!(case.value.write(&mut writer).expect("it is written"), case.encoding.len());
+        assert_eq!(writer.bytes, case.encoding);
+    });
 }
 
 #[cfg(feature = "std")]
@@ -181,43 +167,6 @@ fn ends() {
             assert_eq!(writer.bytes, case.encoding[..at]);
         },
     );
-}
-
-/// What stays in a reader after an error, and that nothing after a value is read.
-#[test]
-fn trailing() {
-    for (bytes, left) in [
-        (&b""[..], 0),
-        (b"\x12", 0),
-        (b"\x92", 0),
-        (b"\x92\x00\x03abc", 4),
-        (b"\x12\x83\x00abc", 3),
-        (b"\x12\x05abcde", 5),
-        (b"\x12\xff\x01abc", 3),
-        (b"\x12\x03ab", 0),
-        (b"\x80\x80\x01\x04abc", 3),
-        (b"\xff\xff\xff\xff\xff\xff\xff\xff\xff\x01\x03abc", 5),
-        (b"\x12\xff\xff\xff\xff\xff\xff\xff\xff\xff\x01abc", 4),
-        (b"\x12\x03abcrest", 4),
-        (b"\x00\x00rest", 4),
-        (b"\xff\xff\xff\xff\xff\xff\xff\xff\x7f\x83\x01rest", 4),
-    ] {
-        let (mut slice, mut reader) = (bytes, slow(bytes));
-        let found = Multihash::<3>::read(&mut slice).map_err(|error| error.to_string());
-        assert_eq!(found, Multihash::<3>::read(&mut reader).map_err(|error| error.to_string()));
-        assert_eq!(reader.bytes.len(), left, "{bytes:?}");
-        // without `std` a slice that is too short keeps its bytes
-        let kept = if !HAS_STD && found == Err(UNEXPECTED_EOF.into()) { 2 } else { left };
-        assert_eq!(slice.len(), kept, "{bytes:?}");
-        #[cfg(feature = "std")]
-        {
-            let mut cursor = io::Cursor::new(bytes);
-            assert_eq!(found, Multihash::<3>::read(&mut cursor).map_err(|error| error.to_string()));
-            assert_eq!(bytes.len() - cursor.position() as usize, left);
-            let buffered = io::BufReader::with_capacity(3, bytes);
-            assert_eq!(found, Multihash::<3>::read(buffered).map_err(|error| error.to_string()));
-        }
-    }
 }
 
 /// `read` and `write` decode and encode heads of two bytes in plain Rust, and `encoded_len` all lengths. For

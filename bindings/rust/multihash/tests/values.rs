@@ -19,13 +19,6 @@ fn text<T>(result: Result<T, Error>) -> String {
 }
 
 #[test]
-fn identity() {
-    const IDENTITY: u64 = 0;
-    assert_eq!(of::<64>(IDENTITY, b"content").digest(), b"content");
-    assert_eq!(text(Multihash::<6>::wrap(IDENTITY, b"content")), "Invalid multihash size 7.");
-}
-
-#[test]
 fn parts() {
     let multihash = WRAPPED.expect("a multihash");
     const PARTS: fn(&Multihash<64>) -> (u64, u8) = {
@@ -45,6 +38,9 @@ fn parts() {
         format!("{:?}", of::<4>(18, &[0, 255])),
         "Multihash { code: 18, size: 2, digest: [0, 255, 0, 0] }"
     );
+    #[allow(deprecated)] // earlier names
+    let earlier: multihash::Result<multihash::MultihashGeneric<64>> = Ok(multihash);
+    assert_eq!(earlier.expect("a multihash"), multihash);
 }
 
 #[test]
@@ -73,8 +69,10 @@ fn sizes() {
         long.resize::<300>().map(|large| (large == long, large.size())).expect("it fits"),
         (true, 200)
     );
-    assert_eq!(text(long.resize::<199>()), "Invalid multihash size 200.");
-    assert_eq!(long.truncate(20).resize::<20>().expect("it fits").digest(), [7; 20]);
+    assert_eq!(text(long.truncate(199).resize::<198>()), "Invalid multihash size 199.");
+    // bytes that were removed are not copied
+    let short = long.truncate(20).resize::<30>().expect("it fits").into_inner();
+    assert_eq!((short.1, short.2), (std::array::from_fn(|at| if at < 20 { 7 } else { 0 }), 20));
 }
 
 /// The order, equality and hashes of values with other capacities, made by `truncate` or borrowed.
@@ -96,6 +94,7 @@ fn order_and_hash() {
             assert_eq!(are_equal, [at == to; 3]);
             let hashes = [hasher.hash_one(right), hasher.hash_one(longer), hasher.hash_one(borrowed)];
             assert_eq!(hashes.map(|it| it == hasher.hash_one(left)), [at == to; 3]);
+            assert_eq!(hashes[0], hasher.hash_one((right.code(), right.digest()))); // as upstream
         }
     }
     assert!(all.into_iter().rev().collect::<BTreeSet<_>>().into_iter().eq(all));

@@ -1,9 +1,15 @@
-//! The test vectors of the library, for this package and for `multihash_c`.
-#![cfg(feature = "std")]
+//! The test vectors of the library, for this package and for `multihash_c`, by each kind of reader and writer.
 use multihash::Multihash;
 use multihash_c::{varint, Error, Head, MultihashRef, LENGTH_MAX, SCALE_LENGTH_MAX};
 use std::path::Path;
 use std::{env, fs};
+
+#[cfg(not(feature = "std"))]
+use multihash::no_std_io as io;
+#[cfg(feature = "std")]
+use std::io;
+
+use io::Read;
 
 const COLUMNS: &str = "S\tinput\tread\tread_taken\tfrom_bytes\tscale_decode\tscale_taken";
 
@@ -40,8 +46,17 @@ fn owned<const S: usize>(found: Result<Multihash<S>, multihash::Error>) -> Resul
 
 fn text(error: Error) -> String {
     match error {
-        Error::Insufficient => "unexpected end of file".into(),
+        Error::Insufficient if cfg!(feature = "std") => "unexpected end of file".into(),
         other => other.to_string(),
+    }
+}
+
+/// A reader that returns one byte a call.
+struct Slow<'a>(&'a [u8]);
+
+impl Read for Slow<'_> {
+    fn read(&mut self, out: &mut [u8]) -> Result<usize, io::Error> {
+        self.0.read(&mut out[..1])
     }
 }
 
@@ -58,13 +73,26 @@ struct Row<'a> {
 impl Row<'_> {
     fn check<const S: usize>(&self) {
         assert_eq!(owned(Multihash::<S>::from_bytes(self.input)), wanted(self.from_bytes).map_err(text));
-        let mut rest = self.input;
+        let (mut rest, mut slow) = (self.input, Slow(self.input));
         let found = Multihash::<S>::read(&mut rest);
         self.is_taken(self.read_taken, rest);
         if let Ok(multihash) = &found {
             check_owned(multihash, &self.input[..self.input.len() - rest.len()]);
         }
-        assert_eq!(owned(found), wanted(self.read).map_err(text));
+        let wanted = wanted(self.read).map_err(text);
+        assert_eq!((owned(found), owned(Multihash::<S>::read(&mut slow))), (wanted.clone(), wanted.clone()));
+        // what is read before the input ends is consumed
+        let taken = self.read_taken.parse().unwrap_or(self.input.len());
+        assert_eq!(slow.0.len(), self.input.len() - taken);
+        #[cfg(feature = "std")]
+        {
+            let mut cursor = io::Cursor::new(self.input);
+            let found = owned(Multihash::<S>::read(&mut cursor as &mut dyn Read));
+            assert_eq!((found, cursor.position()), (wanted.clone(), taken as u64));
+            let mut buffered = io::BufReader::with_capacity(3, &self.input[..]);
+            assert_eq!(owned(Multihash::<S>::read(&mut buffered)), wanted);
+            assert_eq!(buffered.buffer().len() + buffered.get_ref().len(), self.input.len() - taken);
+        }
         self.check_borrowed(S);
         self.check_head();
         check_varints(self.input);
@@ -117,14 +145,6 @@ fn check_varints(mut bytes: &[u8]) {
         Ok(head) => assert_eq!((code, length), (Ok(head.code()), Ok(head.digest_length()))),
         Err(error) => assert_eq!(length, Err(error)),
     }
-    for number in code.into_iter().chain(length) {
-        let mut out = [0xa5; varint::LENGTH];
-        let length = varint::encode(number, &mut out).expect("room");
-        assert_eq!(varint::read(&mut &out[..length]), Ok(number));
-        assert_eq!(out[length..], [0xa5; varint::LENGTH][length..]);
-        assert_eq!(varint::encode(number, &mut out[..length - 1]), Err(Error::NoRoom(length)));
-        assert_eq!(varint::read(&mut &out[..length - 1]), Err(Error::Insufficient));
-    }
 }
 
 /// Every way to write a multihash gives its encoding, which it also has.
@@ -146,12 +166,21 @@ fn check_encoders(multihash: &MultihashRef<'_>, encoding: &[u8]) {
 }
 
 fn check_owned<const S: usize>(multihash: &Multihash<S>, encoding: &[u8]) {
-    let mut written = Vec::new();
-    assert_eq!(multihash.write(&mut written).expect("a vector"), encoding.len());
-    assert_eq!((&written[..], &multihash.to_bytes()[..]), (encoding, encoding));
-    assert_eq!((Vec::from(*multihash).len(), multihash.encoded_len()), (encoding.len(), encoding.len()));
+    let mut out = [0xa5; LENGTH_MAX + 1];
+    let length = multihash.write(&mut out[..]).expect("room");
+    assert_eq!((&out[..length], &out[length..]), (encoding, &[0xa5; LENGTH_MAX + 1][length..]));
+    assert_eq!(multihash.encoded_len(), length);
+    #[cfg(feature = "alloc")]
+    {
+        let mut written = b"before".to_vec();
+        assert_eq!(multihash.write(&mut written).expect("a vector"), length);
+        assert_eq!((&written[6..], &multihash.to_bytes()[..]), (encoding, encoding));
+        let again = [Vec::from(*multihash), MultihashRef::from(multihash).to_bytes()];
+        assert_eq!(again, [encoding, encoding]);
+    }
     let (code, digest, size) = multihash.into_inner();
     assert_eq!(Multihash::<S>::wrap(code, &digest[..size.into()]).expect("it fits"), *multihash);
+    assert_eq!(digest[size.into()..], [0; S][size.into()..]);
     let borrowed = MultihashRef::from(multihash);
     assert_eq!(Multihash::<S>::try_from(borrowed).expect("it fits"), *multihash);
 }
@@ -162,21 +191,15 @@ fn check_line(line: &str) {
         panic!("{line}")
     };
     let row = Row { input: &bytes_of(input), read, read_taken, from_bytes, scale_decode, scale_taken };
-    match size {
-        "0" => row.check::<0>(),
-        "1" => row.check::<1>(),
-        "2" => row.check::<2>(),
-        "4" => row.check::<4>(),
-        "16" => row.check::<16>(),
-        "32" => row.check::<32>(),
-        "64" => row.check::<64>(),
-        "128" => row.check::<128>(),
-        "200" => row.check::<200>(),
-        "255" => row.check::<255>(),
-        "256" => row.check::<256>(),
-        "300" => row.check::<300>(),
-        _ => panic!("a size that this test does not have: {size}"),
+    macro_rules! check {
+        ($($size:literal)*) => {
+            match size {
+                $(stringify!($size) => row.check::<$size>(),)*
+                _ => panic!("a size that this test does not have: {size}"),
+            }
+        };
     }
+    check!(0 1 2 4 16 32 64 128 200 255 256 300)
 }
 
 #[test]

@@ -1,59 +1,53 @@
-//! Values, limits, hostile arguments, and errors. The test vectors are in the package `multihash`.
+//! Constants, limits, hostile arguments, and errors. The test vectors are in the package `multihash`.
 use multihash_c::{
     varint, Error, Head, MultihashRef, CODE_MAX, DIGEST_MAX, HEAD_MAX, LENGTH_MAX, SCALE_LENGTH_MAX,
 };
 
-/// `wrap` in a constant.
+/// What a constant may be made of.
 const WRAPPED: MultihashRef<'static> = match MultihashRef::wrap(0x12, b"abc") {
     Ok(multihash) => multihash,
-    Err(_) => panic!("it is a multihash"),
+    Err(error) => panic!("{}", error.as_str()),
 };
+const PARTS: (u64, u8, &[u8], Option<&[u8]>) =
+    (WRAPPED.code(), WRAPPED.size(), WRAPPED.digest(), WRAPPED.encoding());
+const PARTS_OF_HEAD: fn(&Head) -> (u64, u64, usize) = {
+    const fn parts(head: &Head) -> (u64, u64, usize) {
+        (head.code(), head.digest_length(), head.digest_offset())
+    }
+    parts
+};
+const INCOMPLETE: [bool; 3] = [
+    Error::Insufficient.is_incomplete(),
+    Error::UnexpectedEof.is_incomplete(),
+    Error::NotMinimal.is_incomplete(),
+];
 
 fn of(code: u64, digest: &[u8]) -> MultihashRef<'_> {
     MultihashRef::wrap(code, digest).expect("a multihash")
 }
 
 #[test]
-fn lengths() {
+fn constants() {
+    assert_eq!((PARTS, INCOMPLETE), ((0x12, 3, &b"abc"[..], None), [true, true, false]));
     let longest = of(CODE_MAX, &[7; DIGEST_MAX]);
-    assert_eq!(longest.encoded_len(), LENGTH_MAX);
-    assert_eq!(longest.with_encoding(<[u8]>::len), LENGTH_MAX);
+    assert_eq!(longest.encode(&mut [0; LENGTH_MAX]), Ok(LENGTH_MAX));
     assert_eq!(longest.scale_encode(&mut [0; SCALE_LENGTH_MAX]), Ok(SCALE_LENGTH_MAX));
-    assert_eq!(longest.scale_encode(&mut [0; SCALE_LENGTH_MAX - 1]), Err(Error::NoRoom(SCALE_LENGTH_MAX)));
     let mut varints = [0xff; HEAD_MAX];
     (varints[8], varints[17]) = (0x7f, 0x7f);
     let head = Head::read(&varints).expect("two varints");
-    assert_eq!((head.code(), head.digest_length(), head.digest_offset()), (CODE_MAX, CODE_MAX, HEAD_MAX));
+    assert_eq!(PARTS_OF_HEAD(&head), (CODE_MAX, CODE_MAX, HEAD_MAX));
 }
 
 #[test]
 fn wrapping() {
-    assert_eq!(
-        (WRAPPED.code(), WRAPPED.size(), WRAPPED.digest(), WRAPPED.encoding()),
-        (0x12, 3, &b"abc"[..], None)
-    );
     assert_eq!(MultihashRef::wrap(u64::MAX, &[0; 256]), Err(Error::InvalidSize(256)));
     assert_eq!(MultihashRef::wrap(1 << 63, b"abcd"), Err(Error::InvalidCode(1 << 63)));
     assert_eq!(MultihashRef::try_from(&b"\x01\x01ab"[..]), Err(Error::InvalidSize(1)));
     assert_eq!(format!("{WRAPPED:?}"), "MultihashRef { code: 18, digest: [97, 98, 99] }");
-    assert!(WRAPPED.with_encoding(|bytes| bytes == b"\x12\x03abc"));
-    #[cfg(feature = "alloc")]
-    assert_eq!(WRAPPED.to_bytes(), b"\x12\x03abc");
-}
-
-#[test]
-fn encodings() {
-    let mut input = &b"\x80\x02\x03abc\x12\x01zrest"[..];
-    // a limit whose lower half is 0
-    let both = [3, usize::MAX << (usize::BITS / 2)].map(|limit| MultihashRef::read_limit(&mut input, limit));
-    let both = both.map(|found| found.expect("a multihash"));
-    assert_eq!(
-        (both.map(|it| it.encoding()), input),
-        ([Some(&b"\x80\x02\x03abc"[..]), Some(b"\x12\x01z")], &b"rest"[..])
-    );
-    assert_eq!(both.map(|it| it.digest()), [&b"abc"[..], b"z"]);
-    assert_eq!(both[1], of(0x12, b"z"));
     assert_eq!(size_of::<MultihashRef>(), 32);
+    // a limit whose lower half is 0
+    let limit = usize::MAX << (usize::BITS / 2);
+    assert_eq!(MultihashRef::read_limit(&mut &b"\x12\x03abc"[..], limit), Ok(WRAPPED));
 }
 
 #[test]
@@ -64,10 +58,11 @@ fn varints() {
         let mut rest = &out[..];
         assert_eq!((varint::read(&mut rest), rest.len()), (Ok(number), varint::LENGTH - length));
         assert_eq!(length, 1.max((64 - number.leading_zeros() as usize).div_ceil(7)));
+        let mut short = [0xa5; varint::LENGTH];
+        assert_eq!(varint::encode(number, &mut short[..length - 1]), Err(Error::NoRoom(length)));
+        assert_eq!(short, [0xa5; varint::LENGTH]);
     }
-    assert_eq!(varint::encode(CODE_MAX, &mut out), Ok(varint::LENGTH));
     assert_eq!(varint::encode(CODE_MAX + 1, &mut []), Err(Error::InvalidCode(1 << 63)));
-    assert_eq!(varint::encode(0, &mut []), Err(Error::NoRoom(1)));
     for (bytes, error, left) in [
         (&[][..], Error::Insufficient, 0),
         (&[0x80; 8], Error::Insufficient, 0),
@@ -78,17 +73,6 @@ fn varints() {
         let mut rest = bytes;
         assert_eq!((varint::read(&mut rest), rest.len()), (Err(error), left));
     }
-}
-
-#[test]
-fn slices_of_no_bytes() {
-    assert_eq!(MultihashRef::from_bytes(&[]), Err(Error::Insufficient));
-    assert_eq!(MultihashRef::read_limit(&mut &[][..], usize::MAX), Err(Error::Insufficient));
-    assert_eq!(MultihashRef::scale_decode(&mut &[][..]), Err(Error::UnexpectedEof));
-    assert_eq!(Head::read(&[]), Err(Error::Insufficient));
-    assert_eq!(of(0, &[]).encode(&mut []), Err(Error::NoRoom(2)));
-    assert_eq!(of(0, &[]).scale_encode(&mut []), Err(Error::NoRoom(9)));
-    assert!(of(0, &[]).with_encoding(|bytes| bytes == [0, 0]));
 }
 
 #[test]
@@ -108,40 +92,37 @@ fn long_slices() {
     assert_eq!(long[..4], [1, 1, b'a', 0]);
 }
 
+/// The text of each error, as an error of `std::io` too.
 #[test]
 fn errors() {
-    let texts = [
-        (Error::Overflow, "input bytes exceed maximum"),
-        (Error::InvalidSize(256), "Invalid multihash size 256."),
-        (Error::InvalidCode(1 << 63), "Invalid multihash code 9223372036854775808."),
-        (Error::NoRoom(3), "failed to write whole buffer"),
-    ];
-    for (error, text) in texts {
-        let error: Box<dyn std::error::Error + Send + Sync> = Box::new(error);
-        assert_eq!(error.to_string(), text);
+    for (error, text, kind) in [
+        (Error::Insufficient, "not enough input bytes", "UnexpectedEof"),
+        (Error::Overflow, "input bytes exceed maximum", "InvalidData"),
+        (Error::NotMinimal, "encoding is not minimal", "InvalidData"),
+        (Error::InvalidSize(256), "Invalid multihash size 256.", "InvalidData"),
+        (Error::InvalidCode(1 << 63), "Invalid multihash code 9223372036854775808.", "InvalidData"),
+        (Error::UnexpectedEof, "failed to fill whole buffer", "UnexpectedEof"),
+        (Error::NoRoom(3), "failed to write whole buffer", "WriteZero"),
+    ] {
+        let boxed: Box<dyn std::error::Error + Send + Sync> = Box::new(error);
+        assert_eq!((boxed.to_string(), text.starts_with(error.as_str())), (text.into(), true));
+        #[cfg(feature = "std")]
+        {
+            let error_of_std = std::io::Error::from(error);
+            assert_eq!(format!("{:?}", error_of_std.kind()), kind);
+            assert_eq!(error_of_std.get_ref().and_then(|inner| inner.downcast_ref()), Some(&error));
+        }
+        let _ = kind;
     }
-    let are_incomplete =
-        [Error::Insufficient, Error::UnexpectedEof, Error::NotMinimal].map(|error| error.is_incomplete());
-    assert_eq!(are_incomplete, [true, true, false]);
 }
 
-/// As errors of `std::io`, and of a writer that is full.
+/// A writer that is full.
 #[cfg(feature = "std")]
 #[test]
-fn errors_of_std() {
-    use std::io::{self, ErrorKind};
-    let kind = |error: Error| io::Error::from(error).kind();
-    assert_eq!([Error::Insufficient, Error::UnexpectedEof].map(kind), [ErrorKind::UnexpectedEof; 2]);
-    assert_eq!(
-        [Error::Overflow, Error::NotMinimal, Error::InvalidSize(9)].map(kind),
-        [ErrorKind::InvalidData; 3]
-    );
-    assert_eq!(kind(Error::NoRoom(9)), ErrorKind::WriteZero);
-    let inner = io::Error::from(Error::Overflow);
-    assert_eq!(inner.get_ref().and_then(|inner| inner.downcast_ref()), Some(&Error::Overflow));
+fn writers() {
     let mut written = Vec::new();
     assert_eq!((WRAPPED.write(&mut written).expect("a vector"), &written[..]), (5, &b"\x12\x03abc"[..]));
     let mut out = [0xa5; 4];
-    assert_eq!(WRAPPED.write(&mut out[..]).expect_err("it is full").kind(), ErrorKind::WriteZero);
-    assert_eq!(out, *b"\x12\x03ab");
+    let error = WRAPPED.write(&mut out[..]).expect_err("it is full");
+    assert_eq!((error.kind(), out), (std::io::ErrorKind::WriteZero, *b"\x12\x03ab"));
 }
