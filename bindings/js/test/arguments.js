@@ -127,35 +127,27 @@ function looseEquals(module) {
 /** A digest that grows while its code and bytes are encoded is read once. */
 function growing(module) {
   const buffer = new ArrayBuffer(4, { maxByteLength: 64 });
-  const { set } = Uint8Array.prototype;
   const prototype = Object.getPrototypeOf(Uint8Array.prototype);
+  const { set } = prototype;
   prototype.set = function (...words) {
     set.apply(this, words);
     buffer.resize(12);
   };
-  let multihash;
   try {
-    multihash = module.Multihash.of(18, new Uint8Array(buffer));
+    const multihash = module.Multihash.of(18, new Uint8Array(buffer));
+    same(`${hex(multihash.bytes)} ${buffer.byteLength}`, '120400000000 12', 'a digest that grows');
   } finally {
     prototype.set = set;
   }
-  same(`${hex(multihash.bytes)} ${buffer.byteLength}`, '120400000000 12', 'a digest that grows');
 }
 
 /** An error's fields are its own, whatever Object.prototype has. */
 function polluted(module) {
-  Object.prototype.size = 5;
-  Object.prototype.code = 6;
-  let found;
-  try {
-    module.head(unhex('8000'));
-  } catch (error) {
-    found = `${error.message} ${error.size} ${error.code} ${error.taken}`;
-  } finally {
-    delete Object.prototype.size;
-    delete Object.prototype.code;
-  }
-  same(found, 'encoding is not minimal undefined undefined 2', 'fields of Object.prototype');
+  Object.assign(Object.prototype, { size: 5, code: 6 });
+  const { message, size, code, taken } = fails(module.MultihashError, () => module.head(unhex('8000')), 'polluted');
+  delete Object.prototype.size;
+  delete Object.prototype.code;
+  same(`${message} ${size} ${code} ${taken}`, 'encoding is not minimal undefined undefined 2', 'fields');
 }
 
 function multihashes(module) {
@@ -188,48 +180,30 @@ function multihashes(module) {
   }
 }
 
-/** JSON.stringify of each has only texts and numbers that are exact. */
-function inJSON(module) {
-  const multihashes = [[22, '22'], [2 ** 53 - 1, '9007199254740991'], [2n ** 53n, '"9007199254740992"']];
-  for (const [code, text] of multihashes) {
-    const found = JSON.stringify({ found: [module.Multihash.of(code, Uint8Array.of(0, 171))] });
-    same(found, `{"found":[{"code":${text},"size":2,"digest":"00ab"}]}`, 'a multihash in JSON');
-  }
-  const texts = {
-    '80': '{"name":"MultihashError","message":"not enough input bytes","status":"insufficient","taken":1}',
-    '0000ff':
-      '{"name":"MultihashError","message":"Invalid multihash size 1.","status":"invalid_size","size":1,"taken":3}',
-    '12ffffffffffffffff7f': '{"name":"MultihashError","message":"Invalid multihash size 9223372036854775807.",' +
-      '"status":"invalid_size","size":"9223372036854775807","taken":10}',
-  };
-  for (const [input, text] of Object.entries(texts))
-    same(JSON.stringify(fails(module.MultihashError, () => module.decode(unhex(input)))), text, 'an error in JSON');
-  const code = fails(module.MultihashError, () => module.encode(1n << 63n, EXAMPLE));
-  same(JSON.parse(JSON.stringify(code)).code, '9223372036854775808', 'a code in JSON');
-}
-
 /** Whether a clone of an error keeps its cause, which Safari drops. */
 const keepsCause = () => structuredClone(new Error('text', { cause: 3 })).cause === 3;
 
+/** The text of each error, and what JSON.stringify makes of it: only texts and numbers that are exact. */
 function errors(module) {
-  const texts = {
-    80: 'not enough input bytes',
-    ffffffffffffffffff: 'input bytes exceed maximum',
-    8000: 'encoding is not minimal',
-    '010200': 'failed to fill whole buffer',
-    '010000': 'Invalid multihash size 1.',
-  };
-  const made = Object.entries(texts).map(([input, text]) =>
-    [fails(module.MultihashError, () => module.decode(unhex(input)), input), text]);
-  for (const [error, text] of made) {
-    same(error.message, text, 'message');
-    same(error.isIncomplete, error.taken === 1 || error.status === 'unexpected_eof', 'isIncomplete');
-  }
-  const invalidCode = fails(module.MultihashError, () => module.scaleDecode(new Uint8Array(9).fill(255)), 'a code');
-  same(`${invalidCode.status} ${invalidCode.code}`, `invalid_code ${2n ** 64n - 1n}`, 'code of an error');
-  for (const error of [invalidCode, ...made.map(([each]) => each)]) {
-    const clone = structuredClone(error);
-    const again = module.MultihashError.from(clone);
+  const { decode, encode, scaleDecode } = module;
+  const cases = [
+    [() => decode(unhex('80')), 'not enough input bytes', '"insufficient","taken":1', true],
+    [() => decode(unhex('ffffffffffffffffff')), 'input bytes exceed maximum', '"overflow","taken":9', false],
+    [() => decode(unhex('8000')), 'encoding is not minimal', '"not_minimal","taken":2', false],
+    [() => decode(unhex('010200')), 'failed to fill whole buffer', '"unexpected_eof","taken":3', true],
+    [() => decode(unhex('0000ff')), 'Invalid multihash size 1.', '"invalid_size","size":1,"taken":3', false],
+    [() => decode(unhex('12ffffffffffffffff7f')), 'Invalid multihash size 9223372036854775807.',
+      '"invalid_size","size":"9223372036854775807","taken":10', false],
+    [() => encode(1n << 63n, EXAMPLE), 'Invalid multihash code 9223372036854775808.',
+      '"invalid_code","code":"9223372036854775808"', false],
+    [() => scaleDecode(new Uint8Array(9).fill(255)), 'Invalid multihash code 18446744073709551615.',
+      '"invalid_code","code":"18446744073709551615","taken":8', false],
+  ];
+  for (const [call, message, rest, isIncomplete] of cases) {
+    const error = fails(module.MultihashError, call, message);
+    same(JSON.stringify(error), `{"name":"MultihashError","message":"${message}","status":${rest}}`, 'an error in JSON');
+    same(`${error.message} ${error.isIncomplete}`, `${message} ${isIncomplete}`, 'message and isIncomplete');
+    const again = module.MultihashError.from(structuredClone(error));
     const fields = ['name', 'message', 'status', 'size', 'code', 'taken', 'isIncomplete'];
     if (keepsCause()) for (const field of fields) same(again?.[field], error[field], `${field} of a clone`);
     same(`${module.MultihashError.from(error) === error} ${again instanceof module.MultihashError}`,
@@ -237,6 +211,10 @@ function errors(module) {
   }
   const others = [null, undefined, 3, {}, new Error('text'), new Error('text', { cause: { status: 'ok' } })];
   for (const value of others) same(module.MultihashError.from(value), undefined, 'from');
+  for (const [code, text] of [[22, '22'], [2 ** 53 - 1, '9007199254740991'], [2n ** 53n, '"9007199254740992"']]) {
+    const found = JSON.stringify({ found: [module.Multihash.of(code, Uint8Array.of(0, 171))] });
+    same(found, `{"found":[{"code":${text},"size":2,"digest":"00ab"}]}`, 'a multihash in JSON');
+  }
 }
 
 /** Where WebAssembly is there and forbidden, as by a policy, the error lists engines, and has that of the engine. */
@@ -287,5 +265,4 @@ export function hostile(module) {
   growing(module);
   polluted(module);
   errors(module);
-  inJSON(module);
 }

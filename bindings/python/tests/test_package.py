@@ -10,13 +10,14 @@ import io
 import mmap
 import os
 import pickle
+import re
 import resource
 import sys
 import tempfile
-import threading
 import types
 import unittest
 import weakref
+from concurrent.futures import ThreadPoolExecutor
 from pathlib import Path
 
 import verified_multihash as vm
@@ -415,26 +416,19 @@ class Interpreters(unittest.TestCase):
     def test_interpreters(self):
         """Interpreters with locks of their own, two at once."""
         interpreters = importlib.import_module("_interpreters" if sys.version_info > (3, 13) else "_xxsubinterpreters")
-        program = "import sys; sys.path[:] = %r\nimport verified_multihash as vm\nfor n in range(20000): " % (sys.path,)
-        program += "assert vm.decode(vm.encode(n, b'abc')) == vm.Multihash(n, b'abc')\ntry: vm.decode(b'')\n"
-        program += (
-            "except vm.MultihashError as error: assert error.status is vm.Status.INSUFFICIENT\nelse: assert False"
-        )
-        errors = []
+        program = "import sys; sys.path[:] = %r\nimport verified_multihash as vm\n" % (sys.path,)
+        program += "for n in range(20000): assert vm.decode(vm.encode(n, b'abc')) == vm.Multihash(n, b'abc')\n"
+        program += "try: vm.decode(b'')\nexcept vm.MultihashError as error: assert error.is_incomplete\n"
 
-        def run():
+        def run(_):
             number = interpreters.create()
             try:
-                errors.append(interpreters.run_string(number, program))
+                return interpreters.run_string(number, program)
             finally:
                 interpreters.destroy(number)
 
-        threads = [threading.Thread(target=run) for _ in range(2)]
-        for thread in threads:
-            thread.start()
-        for thread in threads:
-            thread.join()
-        self.assertEqual(errors, [None, None])
+        with ThreadPoolExecutor(2) as threads:
+            self.assertEqual(list(threads.map(run, range(2))), [None, None])
 
 
 class Names(unittest.TestCase):
@@ -457,6 +451,24 @@ class Names(unittest.TestCase):
             names = list(inspect.signature(call).parameters)
             by_name, by_position = call(**dict(zip(names, arguments))), call(*arguments)
             self.assertEqual((str(by_name), len(names)), (str(by_position), len(arguments)))
+
+    def test_stub(self):
+        """Results and attributes have the types of the stub."""
+
+        def kind(value):
+            parts = ", ".join(map(kind, value)) if type(value) is tuple else ""
+            return "Tuple[%s]" % parts if parts else type(value).__name__
+
+        stub = Path(vm.__file__).with_name("_core.pyi").read_text("utf-8")
+        results = {call.__name__: call(*arguments) for call, arguments in NAMED_CALLS.items()}
+        results.update(head=vm._core.head(bytes(2)), status_text=vm._core.status_text(1))
+        for name, wanted in re.findall(r"^def (\w+)\(.*\) -> (.*): \.\.\.$", stub, re.M):
+            self.assertEqual(kind(results.pop(name)), wanted, name)
+        self.assertEqual(list(results), ["read_from", "Multihash", "MultihashError"])
+        for name, wanted in re.findall(r"^    def (\w+)\(self.*\) -> (.*): \.\.\.$", stub, re.M):
+            found = getattr(VALUE, name)
+            found = found(*[VALUE] * (wanted == "bool")) if callable(found) else found
+            self.assertEqual(kind(found), wanted, name)
 
 
 class Readme(unittest.TestCase):

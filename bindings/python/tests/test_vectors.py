@@ -13,24 +13,14 @@ MORE = bytes(400)
 
 
 class Counts:
-    """A file that counts its reads."""
+    """A file that counts its reads, which return at most that many bytes."""
 
-    def __init__(self, data):
-        self.file, self.reads = io.BytesIO(data), 0
+    def __init__(self, data, most=500):
+        self.file, self.reads, self.most = io.BytesIO(data), 0, most
 
     def read(self, size):
         self.reads += 1
-        return self.file.read(size)
-
-
-class Drip:
-    """A file whose reads return one byte at most."""
-
-    def __init__(self, data):
-        self.file = io.BytesIO(data)
-
-    def read(self, size):
-        return self.file.read(min(size, 1))
+        return self.file.read(min(size, self.most))
 
 
 def shown(call, *arguments):
@@ -69,14 +59,10 @@ class Vectors(unittest.TestCase):
             self.assertEqual(shown(vm.head, data), (word, taken, None))
 
     def check_file(self, data, size, result, consumed):
-        file = Drip(data)
-        found = shown(lambda _: (vm.read_from(file, size), 0), data)[0] if data else vm.read_from(file, size)
-        self.assertEqual(found, result if data else None)
-        self.assertEqual(file.file.tell(), consumed)
-        counts = Counts(data)
-        if data:
-            shown(lambda _: (vm.read_from(counts, size), 0), data)
-        self.assertLessEqual(counts.reads, vm.HEAD_MAX + 1)  # not one for each byte of the digest
+        for file in (Counts(data, 1), Counts(data)):
+            found = shown(lambda _: (vm.read_from(file, size), 0), data)[0] if data else vm.read_from(file, size)
+            self.assertEqual((found, file.file.tell()), (result if data else None, consumed))
+        self.assertLessEqual(file.reads, vm.HEAD_MAX + 1)  # not one for each byte of the digest
 
     def check_long(self, data, size, result, taken):
         """The whole input with more bytes than any encoding has, where the list has its result."""

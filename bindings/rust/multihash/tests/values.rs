@@ -1,7 +1,7 @@
 //! Values: what upstream's documentation shows, limits, order, hashes, texts, and hostile arguments.
 #![cfg(feature = "std")]
 use multihash::{Error, Multihash};
-use multihash_c::{MultihashRef, DIGEST_MAX, LENGTH_MAX, SCALE_LENGTH_MAX};
+use multihash_c::{MultihashRef, DIGEST_MAX, LENGTH_MAX};
 use std::collections::{BTreeSet, HashSet};
 use std::hash::{BuildHasher, BuildHasherDefault, DefaultHasher};
 
@@ -50,6 +50,8 @@ fn limits() {
     assert_eq!(longest.write(&mut [0; LENGTH_MAX][..]).expect("room"), LENGTH_MAX);
     assert_eq!(text(Multihash::<300>::wrap(1, &[7; DIGEST_MAX + 1])), "Invalid multihash size 256.");
     assert_eq!(text(Multihash::<3>::wrap(u64::MAX, b"abcd")), "Invalid multihash size 4.");
+    let borrowed = MultihashRef::wrap(1, b"abc").expect("a multihash");
+    assert_eq!(text(Multihash::<2>::try_from(borrowed)), "Invalid multihash size 3.");
     assert_eq!(text(Multihash::<4>::wrap(1 << 63, b"abcd")), "Invalid multihash code 9223372036854775808.");
     // 2^32 and 2, or as much as fits: no page is touched but the first
     let long = vec![0; 1_usize.checked_shl(32).unwrap_or(1 << 16) + 2];
@@ -129,15 +131,4 @@ fn errors() {
     );
     let boxed: Box<dyn std::error::Error + Send + Sync> = cut.into();
     assert!(boxed.downcast::<Error>().is_ok());
-}
-
-#[test]
-fn scale() {
-    let mut form = [0; SCALE_LENGTH_MAX];
-    let multihash = of::<4>(0x12, b"abc");
-    let length = MultihashRef::from(&multihash).scale_encode(&mut form).expect("room");
-    assert_eq!(form[..length], *b"\x12\0\0\0\0\0\0\0\x03abc");
-    let found = MultihashRef::scale_decode(&mut &form[..]).expect("a form");
-    assert_eq!(Multihash::<4>::try_from(found).expect("it fits"), multihash);
-    assert_eq!(text(Multihash::<2>::try_from(found)), "Invalid multihash size 3.");
 }
