@@ -92,10 +92,13 @@ impl<const S: usize> Multihash<S> {
     ///
     /// That of the writer. A prefix of the encoding may have been written.
     pub fn write<W: Write>(&self, mut w: W) -> Result<usize, Error> {
-        if let Some(head) = self.short_head() {
-            w.write_all(&head).map_err(Error::io)?;
+        if self.code < MORE.into() {
+            // one number of four bytes, which a processor writes and reads again faster than three bytes
+            let head = (self.code as u32 | u32::from(self.size) << 8 | 1 << 16).to_le_bytes();
+            let length = 2 + usize::from(self.size / MORE);
+            w.write_all(&head[..length]).map_err(Error::io)?;
             w.write_all(self.digest()).map_err(Error::io)?;
-            return Ok(head.len() + usize::from(self.size));
+            return Ok(length + usize::from(self.size));
         }
         self.borrowed().with_encoding(|bytes| match w.write_all(bytes) {
             Ok(()) => Ok(bytes.len()),
@@ -140,13 +143,6 @@ impl<const S: usize> Multihash<S> {
     /// Returns the code, the array that starts with the digest, and the length of the digest.
     pub fn into_inner(self) -> (u64, [u8; S], u8) {
         (self.code, self.digest, self.size)
-    }
-
-    /// Returns the varints of the code and the size if each is one byte, which is its own number. They are made
-    /// as one number, which a processor writes and reads again faster than two.
-    fn short_head(&self) -> Option<[u8; 2]> {
-        let is_short = (self.code | u64::from(self.size)) < MORE.into();
-        is_short.then(|| (self.code as u16 | u16::from(self.size) << 8).to_le_bytes())
     }
 
     pub(crate) fn borrowed(&self) -> MultihashRef<'_> {

@@ -1,0 +1,72 @@
+//! Calls of a crate `multihash`, whose instructions valgrind's tool callgrind counts: each is made `TURNS` times, and a
+//! request to callgrind then writes the count with the call's name. See `speed.py`.
+use multihash::Multihash;
+use std::arch::asm;
+use std::ffi::CString;
+use std::hash::{BuildHasher, BuildHasherDefault, DefaultHasher};
+use std::hint::black_box;
+use std::io::{BufReader, Cursor, Read};
+
+const TURNS: usize = 64;
+const ZERO_STATS: usize = 0x4354_0001;
+const DUMP_STATS_AT: usize = 0x4354_0003;
+
+/// A request to callgrind, as valgrind.h makes it on x86-64: instructions that do nothing without valgrind.
+fn request(kind: usize, text: usize) {
+    let words = [kind, text, 0, 0, 0, 0];
+    // SAFETY: the instructions change no register but rdx.
+    unsafe {
+        asm!("rol rdi, 3", "rol rdi, 13", "rol rdi, 61", "rol rdi, 51", "xchg rbx, rbx",
+            in("rax") words.as_ptr(), inout("rdx") 0_usize => _);
+    }
+}
+
+fn count<T>(name: &str, mut call: impl FnMut() -> T) {
+    black_box(call());
+    let name = CString::new(name).expect("a name");
+    request(ZERO_STATS, 0);
+    for _ in 0..TURNS {
+        black_box(call());
+    }
+    request(DUMP_STATS_AT, name.as_ptr() as usize);
+}
+
+fn calls<const S: usize>(code: u64, size: usize) {
+    let digest: Vec<u8> = (0..size).map(|at| at as u8).collect();
+    let value = black_box(Multihash::<S>::wrap(code, &digest).expect("it fits"));
+    let same = black_box(value);
+    let bytes = black_box(value.to_bytes());
+    let stream = bytes.repeat(TURNS + 1);
+    let (mut slice, mut cursor, mut of_dyn) = (&stream[..], Cursor::new(&stream[..]), &stream[..]);
+    let mut of_dyn: &mut dyn Read = black_box(&mut of_dyn);
+    let mut buffered = BufReader::new(&stream[..]);
+    let (mut out, mut vector) = ([0; 300], Vec::with_capacity(stream.len()));
+    let hasher = BuildHasherDefault::<DefaultHasher>::default();
+    let of = |call: &str| format!("{call} {} {size}", (64 - (code | 1).leading_zeros()).div_ceil(7));
+    count(&of("nothing"), || ());
+    count(&of("wrap"), || Multihash::<S>::wrap(black_box(code), black_box(&digest)));
+    count(&of("from_bytes"), || Multihash::<S>::from_bytes(black_box(&bytes)));
+    count(&of("read, slice"), || Multihash::<S>::read(&mut slice));
+    count(&of("read, Cursor"), || Multihash::<S>::read(&mut cursor));
+    count(&of("read, BufReader"), || Multihash::<S>::read(&mut buffered));
+    count(&of("read, dyn Read"), || Multihash::<S>::read(&mut of_dyn));
+    count(&of("write, slice"), || black_box(&value).write(black_box(&mut out[..])));
+    count(&of("write, Vec"), || black_box(&value).write(&mut vector));
+    count(&of("to_bytes"), || black_box(&value).to_bytes());
+    count(&of("encoded_len"), || black_box(&value).encoded_len());
+    count(&of("=="), || black_box(&value) == black_box(&same));
+    count(&of("cmp"), || black_box(&value).cmp(black_box(&same)));
+    count(&of("Hash"), || hasher.hash_one(black_box(&value)));
+    count(&of("truncate"), || black_box(&value).truncate(20));
+    count(&of("resize"), || black_box(&value).resize::<255>());
+    count(&of("into_inner"), || black_box(value).into_inner());
+}
+
+fn main() {
+    for code in [0x12, 0x80, 0xb220, 1 << 62] {
+        for size in [0, 20, 32, 64] {
+            calls::<64>(code, size);
+        }
+        calls::<255>(code, 255);
+    }
+}
