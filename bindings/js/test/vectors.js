@@ -66,6 +66,9 @@ function order(left, right) {
   return at < 0 ? 0 : keys[0][at] < keys[1][at] ? -1 : 1;
 }
 
+/** The length of the code and the size of a truncated SCALE form, as far as they are complete. */
+const partsOf = ({ length }) => length < 8 ? 0 : Math.min(length, 9);
+
 export function vectors(module, text) {
   const [columns, ...lines] = text.trim().split('\n');
   same(columns, COLUMNS, 'columns');
@@ -82,7 +85,7 @@ export function vectors(module, text) {
       if (!/^(insufficient|unexpected_eof)/.test(read)) checkLong(module, data, read, taken);
     }
     const [form, formTaken] = written(module, () => module.scaleDecode(data));
-    if (isForAll(scale, Number(S))) same(`${form} ${scaleTaken === '-' || formTaken}`, `${scale} ${scaleTaken === '-' || scaleTaken}`, line);
+    if (isForAll(scale, Number(S))) same(`${form} ${formTaken}`, `${scale} ${scaleTaken === '-' ? partsOf(data) : scaleTaken}`, line);
     if (!multihash) continue;
     checkBack(module, multihash, data, taken);
     for (const [left, right] of [[before, multihash], [multihash, before]])
