@@ -6,7 +6,8 @@ import unittest
 from unittest.mock import ANY
 
 import verified_multihash as vm
-from verified_multihash import Multihash, MultihashError, Status
+from test_package import NAMED_CALLS
+from verified_multihash import Multihash, MultihashError
 
 try:
     from _testcapi import remove_mem_hooks, set_nomemory
@@ -100,6 +101,10 @@ class Memory(unittest.TestCase):
         after = [sys.getrefcount(kind) for kind in (Multihash, Named)]
         self.assertLess(max(now - then for now, then in zip(after, before)), 10)
 
-    def test_all_statuses(self):
-        for status in list(Status)[1:]:
-            self.assertIs(MultihashError(status).status, status)
+    def test_no_argument_is_kept(self):
+        for call, arguments in NAMED_CALLS.items():
+            before = [sys.getrefcount(each) for each in arguments]
+            for _ in range(1000):
+                call(*arguments)
+            after = [sys.getrefcount(each) for each in arguments]
+            self.assertLess(max(now - then for now, then in zip(after, before)), 500, call)

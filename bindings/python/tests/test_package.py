@@ -138,10 +138,6 @@ class Sha256(Multihash):
         return (self.digest,)
 
 
-class Named(Multihash):
-    """A subclass, whose values have dictionaries."""
-
-
 class Text(bytes):
     """A subclass of bytes, which may lie about what it is."""
 
@@ -249,7 +245,7 @@ class Readers(unittest.TestCase):
         closed = io.BytesIO(b"\0\0")
         closed.close()
         wrong = (closed, ValueError, "closed file"), (Reads(b"abc"), ValueError, "returned 3 bytes")
-        wrong += (Reads(None), BlockingIOError, ""), (io.StringIO("\0\0"), TypeError, "")
+        wrong += (Reads(None), BlockingIOError, ""), (io.StringIO("\0\0"), TypeError, ""), (Reads(2), TypeError, "")
         for kind in self.readers:
             for file, error, text in wrong:
                 self.assertRaisesRegex(error, text, kind(file).read)
@@ -328,6 +324,9 @@ class Readers(unittest.TestCase):
 
 
 class Values(unittest.TestCase):
+    class Named(Multihash):
+        """A subclass, whose values have dictionaries."""
+
     def test_order(self):
         pairs = [
             (0, b"zz"),
@@ -354,7 +353,7 @@ class Values(unittest.TestCase):
 
     def test_values(self):
         source = bytearray(b"abc")
-        for value, kind in ((Multihash(True, source), Multihash), (Named(1, source), Named)):
+        for value, kind in ((Multihash(True, source), Multihash), (self.Named(1, source), self.Named)):
             source[0] = 0
             self.assertEqual((repr(value), hash(value)), ("%s(code=1, digest=b'abc')" % kind.__qualname__, hash(VALUE)))
             self.assertTrue(value == VALUE and VALUE == value and VALUE <= value <= VALUE)

@@ -202,4 +202,7 @@ fn debug_without_std() {
     let end = "Io(Error { kind: UnexpectedEof, error: \"failed to fill whole buffer\" })";
     assert_eq!(of(b"\x12\x01"), format!("Error {{ kind: {end} }}"));
     assert_eq!(of(b"\x12"), "Error { kind: Varint(Insufficient) }");
+    let cut = Multihash::<3>::from_bytes(b"\x12\x01").expect_err("an end");
+    let shown = (format!("{cut:9.6}"), format!("{:9.6}", cut.source().expect("its source")));
+    assert_eq!(shown, (UNEXPECTED_EOF.into(), "failed   ".into()));
 }

@@ -2,6 +2,8 @@
 use multihash_c::{
     varint, Error, Head, MultihashRef, CODE_MAX, DIGEST_MAX, HEAD_MAX, LENGTH_MAX, SCALE_LENGTH_MAX,
 };
+use std::fmt;
+use std::hash::Hash;
 
 /// What a constant may be made of.
 const WRAPPED: MultihashRef<'static> = match MultihashRef::wrap(0x12, b"abc") {
@@ -26,6 +28,8 @@ fn of(code: u64, digest: &[u8]) -> MultihashRef<'_> {
     MultihashRef::wrap(code, digest).expect("a multihash")
 }
 
+fn is_common<T: Copy + fmt::Debug + Eq + Hash + Send + Sync>(_: T) {}
+
 #[test]
 fn constants() {
     assert_eq!((PARTS, INCOMPLETE), ((0x12, 3, &b"abc"[..], None), [true, true, false]));
@@ -36,6 +40,7 @@ fn constants() {
     (varints[8], varints[17]) = (0x7f, 0x7f);
     let head = Head::read(&varints).expect("two varints");
     assert_eq!(PARTS_OF_HEAD(&head), (CODE_MAX, CODE_MAX, HEAD_MAX));
+    is_common((head, WRAPPED, Error::Overflow));
 }
 
 #[test]
