@@ -34,7 +34,7 @@ CODE_CALLS = [vm.encode, vm.scale_encode, Multihash, lambda code, digest: vm.enc
 NAMED_CALLS = {
     vm.decode: [b"\1\3abc"], vm.read: [b"\1\3abc", 3], vm.head: [b"\1\3"], vm.scale_decode: [bytes(9)],
     vm.encode: [1, b"a"], vm.scale_encode: [1, b"a"], vm.encoded_len: [1, 2], vm.compare: [Multihash(1, b"")] * 2,
-    vm.read_from: [io.BytesIO(bytes(9)), 2], Multihash: [1, b"a"], MultihashError: [4, 3, 0, 7],
+    vm.read_from: [io.BytesIO(bytes(8)), 2], Multihash: [1, b"a"], MultihashError: [4, 3, 0, 7],
 }  # fmt: skip
 
 
