@@ -55,6 +55,10 @@ static int get_input(PyObject *argument, Py_ssize_t most, input *to)
     if (PyBytes_CheckExact(argument)) {
         to->owner = argument;
         Py_INCREF(argument);
+    } else if (Py_TYPE(argument) == &PyByteArray_Type) {
+        whole = PyByteArray_Size(argument);
+        to->owner = PyBytes_FromStringAndSize(PyByteArray_AsString(argument), whole < most ? whole : most);
+        if (to->owner == NULL) return -1;
     } else {
         PyObject *view = PyMemoryView_FromObject(argument); /* rejects numbers, texts and lists */
         if (view == NULL) return -1;
@@ -71,6 +75,19 @@ static int get_input(PyObject *argument, Py_ssize_t most, input *to)
     to->length = (size_t)length;
     to->whole = (size_t)(whole < 0 ? length : whole);
     return 0;
+}
+
+/* One argument or two of a function, by position or name. The parser takes a seventh of the usual call. */
+static int get_arguments(PyObject *arguments, PyObject *named, const char *format, char **names, PyObject **first,
+                         PyObject **second)
+{
+    Py_ssize_t wanted = second == NULL ? 1 : 2;
+    if (named != NULL || PyTuple_Size(arguments) != wanted) {
+        return PyArg_ParseTupleAndKeywords(arguments, named, format, names, first, second);
+    }
+    *first = PyTuple_GetItem(arguments, 0);
+    if (second != NULL) *second = PyTuple_GetItem(arguments, 1);
+    return 1;
 }
 
 /* A whole number that is not negative, and in place of the argument a new int. One of more than 64 bits is the
@@ -194,7 +211,7 @@ static PyObject *multihash_new(PyTypeObject *type, PyObject *arguments, PyObject
     PyObject *code, *digest;
     uint64_t number;
     input bytes;
-    if (!PyArg_ParseTupleAndKeywords(arguments, named, "OO:Multihash", names, &code, &digest)) return NULL;
+    if (!get_arguments(arguments, named, "OO:Multihash", names, &code, &digest)) return NULL;
     if (get_pair(&code, digest, &number, &bytes) < 0) return NULL;
     multihash_encoded length = multihash_encoded_len(number, bytes.whole);
     if (length.status == MULTIHASH_OK) {
@@ -280,7 +297,14 @@ static PyObject *multihash_reduce(PyObject *self, PyObject *unused)
 static PyObject *multihash_hexdigest(PyObject *self, PyObject *unused)
 {
     (void)unused;
-    return PyObject_CallMethod(((multihash_object *)self)->digest, "hex", NULL);
+    char digits[2 * MULTIHASH_DIGEST_MAX];
+    size_t length;
+    const uint8_t *digest = digest_of(self, &length);
+    for (size_t i = 0; i < length; i++) {
+        digits[2 * i] = "0123456789abcdef"[digest[i] >> 4];
+        digits[2 * i + 1] = "0123456789abcdef"[digest[i] & 15];
+    }
+    return PyUnicode_FromStringAndSize(digits, (Py_ssize_t)(2 * length));
 }
 
 static PyObject *multihash_bytes(PyObject *self, PyObject *unused)
@@ -363,12 +387,7 @@ static PyObject *decode(PyObject *module, PyObject *arguments, PyObject *named)
     static char *names[] = {"data", NULL};
     PyObject *data;
     input from;
-    /* The parser of arguments takes a seventh of the usual call. */
-    if (named == NULL && PyTuple_Size(arguments) == 1) {
-        data = PyTuple_GetItem(arguments, 0);
-    } else if (!PyArg_ParseTupleAndKeywords(arguments, named, "O:decode", names, &data)) {
-        return NULL;
-    }
+    if (!get_arguments(arguments, named, "O:decode", names, &data, NULL)) return NULL;
     if (get_input(data, MULTIHASH_HEAD_MAX + MULTIHASH_DIGEST_MAX, &from) < 0) return NULL;
     PyObject *multihash = decoded(module, &from, multihash_from_prefix(from.bytes, from.length, from.whole));
     Py_DECREF(from.owner);
@@ -381,7 +400,7 @@ static PyObject *read_front(PyObject *module, PyObject *arguments, PyObject *nam
     PyObject *data, *most = NULL;
     uint64_t limit = MULTIHASH_DIGEST_MAX;
     input from;
-    if (!PyArg_ParseTupleAndKeywords(arguments, named, "O|O:read", names, &data, &most)) return NULL;
+    if (!get_arguments(arguments, named, "O|O:read", names, &data, &most)) return NULL;
     if (most != NULL && get_number(&most, "limit", &limit) < 0) return NULL;
     Py_XDECREF(most);
     if (get_input(data, MULTIHASH_HEAD_MAX + MULTIHASH_DIGEST_MAX, &from) < 0) return NULL;
@@ -393,7 +412,7 @@ static PyObject *scale_decode(PyObject *module, PyObject *arguments, PyObject *n
     static char *names[] = {"data", NULL};
     PyObject *data;
     input from;
-    if (!PyArg_ParseTupleAndKeywords(arguments, named, "O:scale_decode", names, &data)) return NULL;
+    if (!get_arguments(arguments, named, "O:scale_decode", names, &data, NULL)) return NULL;
     if (get_input(data, MULTIHASH_SCALE_LENGTH_MAX, &from) < 0) return NULL;
     return decoded_front(module, &from, multihash_scale_decode(from.bytes, from.length));
 }
@@ -421,7 +440,7 @@ static PyObject *encoded(encoder *function, const char *format, PyObject *argume
     PyObject *code, *digest;
     uint64_t number;
     input bytes;
-    if (!PyArg_ParseTupleAndKeywords(arguments, named, format, names, &code, &digest)) return NULL;
+    if (!get_arguments(arguments, named, format, names, &code, &digest)) return NULL;
     if (get_pair(&code, digest, &number, &bytes) < 0) return NULL;
     /* What is longer was not copied whole. */
     multihash_encoded made = bytes.whole > MULTIHASH_DIGEST_MAX
@@ -451,7 +470,7 @@ static PyObject *encoded_len(PyObject *module, PyObject *arguments, PyObject *na
     PyObject *code, *length, *result = NULL;
     uint64_t number, size;
     (void)module;
-    if (!PyArg_ParseTupleAndKeywords(arguments, named, "OO:encoded_len", names, &code, &length)) return NULL;
+    if (!get_arguments(arguments, named, "OO:encoded_len", names, &code, &length)) return NULL;
     if (get_number(&code, "code", &number) < 0) return NULL;
     if (get_number(&length, "length", &size) == 0) {
         multihash_encoded made = multihash_encoded_len(number, clamped(size));
@@ -467,7 +486,7 @@ static PyObject *compare(PyObject *module, PyObject *arguments, PyObject *named)
 {
     static char *names[] = {"left", "right", NULL};
     PyObject *sides[2];
-    if (!PyArg_ParseTupleAndKeywords(arguments, named, "OO:compare", names, &sides[0], &sides[1])) return NULL;
+    if (!get_arguments(arguments, named, "OO:compare", names, &sides[0], &sides[1])) return NULL;
     for (int side = 0; side < 2; side++) {
         if (!PyObject_TypeCheck(sides[side], type_of_module(module))) {
             return PyErr_Format(PyExc_TypeError, "expected a Multihash, not %R", Py_TYPE(sides[side]));

@@ -50,10 +50,11 @@ class MultihashError(ValueError):
 
         Only then can more input change the result of `read`, `read_from`, a reader, `head` and `scale_decode`.
         """
-        return self.status in (Status.INSUFFICIENT, Status.UNEXPECTED_EOF)
+        return self.status in _INCOMPLETE
 
 
-# Each status of an error, its text, and the attribute whose number follows that. A look-up of an enum is slower.
+# Here, since a look-up of an enum is slow: each status of an error, its text, and the attribute whose number follows.
+_INCOMPLETE = (Status.INSUFFICIENT, Status.UNEXPECTED_EOF)
 _NUMBERS = {Status.INVALID_SIZE: "size", Status.INVALID_CODE: "code"}
 _ERRORS = {int(it): (it, _core.status_text(it), _NUMBERS.get(it)) for it in Status if it is not Status.OK}
 
@@ -86,7 +87,7 @@ class _AsyncReadable(Protocol):
 
 def head(data: Buffer) -> Head:
     """Decodes the code and the digest's length at the front of the bytes, without looking at the digest."""
-    return Head(*_core.head(data))
+    return tuple.__new__(Head, _core.head(data))  # without the arguments of Head, which take longer
 
 
 class _Reader:
@@ -117,7 +118,7 @@ class _Reader:
         if chunk is None:
             self._has_lost = False
             raise BlockingIOError("the file has no bytes now")
-        data = memoryview(chunk).tobytes()
+        data = chunk if type(chunk) is bytes else memoryview(chunk).tobytes()
         if len(data) > wanted:
             raise ValueError("read(%d) returned %d bytes" % (wanted, len(data)))
         self._rest += data
@@ -204,7 +205,7 @@ def _missing(data: bytes, limit: int) -> int:
     if not data:
         return 2  # an encoding has at least two bytes
     try:
-        found = head(data)
+        _, size, length = _core.head(data)
     except MultihashError as error:
         return 1 if error.is_incomplete else 0
-    return found.length + found.digest_length - len(data) if found.digest_length <= min(limit, DIGEST_MAX) else 0
+    return length + size - len(data) if size <= limit and size <= DIGEST_MAX else 0
