@@ -143,6 +143,9 @@ function wide(offset) {
   return high < 0x200000 ? high * 0x100000000 + low : (BigInt(high) << 32n) | BigInt(low);
 }
 
+/** A code as results have it: a bigint only where a number would not be exact. */
+const resultOf = (number) => (number > Number.MAX_SAFE_INTEGER ? number : Number(number));
+
 /** A number of 32 bits in the result: a status, a length or an offset. */
 function word(offset) {
   return words[offset >> 2];
@@ -197,6 +200,7 @@ function failure(taken) {
 }
 
 const MAKING = Symbol('making');
+const DIGITS = '0123456789abcdef';
 
 /** A code, which names a hash function, and a digest. */
 export class Multihash {
@@ -209,7 +213,11 @@ export class Multihash {
 
   /** Makes the multihash of a code and a digest, which is copied. */
   static of(code, digest) {
-    return decode(encode(code, digest)); // the digest is read once: its memory may grow meanwhile
+    const number = bits64(code, 'a code');
+    const length = putDigest(number, digest); // the digest is read once: its memory may grow meanwhile
+    library.multihash_encoded_len(resultAt, number, length);
+    made(number);
+    return new Multihash(MAKING, resultOf(number), copied(first, Number(length)));
   }
 
   /** The encoding, a new array each time. */
@@ -219,7 +227,8 @@ export class Multihash {
 
   /** The code, and the digest in hexadecimal, for JSON.stringify. */
   toJSON() {
-    const digest = Array.from(this.digest, (byte) => byte.toString(16).padStart(2, '0')).join('');
+    let digest = '';
+    for (const byte of this.digest) digest += DIGITS[byte >> 4] + DIGITS[byte & 15];
     return { code: forJSON(this.code), size: this.size, digest };
   }
 

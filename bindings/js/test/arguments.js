@@ -201,7 +201,7 @@ function errors(module) {
   ];
   for (const [call, message, rest, isIncomplete] of cases) {
     const error = fails(module.MultihashError, call, message);
-    same(JSON.stringify(error), `{"name":"MultihashError","message":"${message}","status":${rest}}`, 'an error in JSON');
+    same(JSON.stringify(error), `{"name":"MultihashError","message":"${message}","status":${rest}}`, 'in JSON');
     same(`${error.message} ${error.isIncomplete}`, `${message} ${isIncomplete}`, 'message and isIncomplete');
     const again = module.MultihashError.from(structuredClone(error));
     const fields = ['name', 'message', 'status', 'size', 'code', 'taken', 'isIncomplete'];

@@ -42,7 +42,8 @@ function checkHead(module, data, read, taken) {
 function checkLong(module, data, read, taken) {
   const long = Uint8Array.of(...data, ...MORE);
   const wanted = read.startsWith('pair') ? `invalid_size ${long.length - taken}` : read;
-  same(written(module, () => module.decode(long)).slice(0, 2).join(' '), `${wanted} ${long.length}`, 'decode, a long input');
+  const found = written(module, () => module.decode(long)).slice(0, 2).join(' ');
+  same(found, `${wanted} ${long.length}`, 'decode, a long input');
 }
 
 function checkBack(module, multihash, data, taken) {
@@ -85,7 +86,8 @@ export function vectors(module, text) {
       if (!/^(insufficient|unexpected_eof)/.test(read)) checkLong(module, data, read, taken);
     }
     const [form, formTaken] = written(module, () => module.scaleDecode(data));
-    if (isForAll(scale, Number(S))) same(`${form} ${formTaken}`, `${scale} ${scaleTaken === '-' ? partsOf(data) : scaleTaken}`, line);
+    const consumed = scaleTaken === '-' ? partsOf(data) : scaleTaken;
+    if (isForAll(scale, Number(S))) same(`${form} ${formTaken}`, `${scale} ${consumed}`, `scaleDecode ${line}`);
     if (!multihash) continue;
     checkBack(module, multihash, data, taken);
     for (const [left, right] of [[before, multihash], [multihash, before]])

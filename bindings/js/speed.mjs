@@ -1,0 +1,243 @@
+// Times of each call beside plain JavaScript that copies its results, with the same checks, by turns, as minima.
+//   node speed.mjs           prints the table of README.md
+//   node speed.mjs --write   also writes it
+import { readFileSync, writeFileSync } from 'node:fs';
+import * as ours from './index.js';
+
+const ROUNDS = 25;
+const CALLS = 20000;
+const { MultihashError } = ours;
+const fail = (status, details) => {
+  throw new MultihashError(status, details);
+};
+
+// ---- plain JavaScript
+
+class Multihash {
+  constructor(code, digest) {
+    this.code = code;
+    this.size = digest.length;
+    this.digest = digest;
+  }
+
+  static of(code, digest) {
+    checkPair(code, digest.length);
+    return new Multihash(code, digest.slice());
+  }
+
+  get bytes() {
+    return encode(this.code, this.digest);
+  }
+
+  equals(other) {
+    const [left, right] = [this.digest, other.digest];
+    if (other.code !== this.code || left.length !== right.length) return false;
+    for (let index = 0; index < left.length; index++) if (left[index] !== right[index]) return false;
+    return true;
+  }
+
+  toJSON() {
+    return { code: this.code, size: this.size, digest: Array.from(this.digest, hex).join('') };
+  }
+}
+
+const hex = (byte) => byte.toString(16).padStart(2, '0');
+
+function checkPair(code, size) {
+  if (!Number.isSafeInteger(code) || code < 0) throw new RangeError('a code');
+  if (size > 255) fail('invalid_size', { size });
+}
+
+function varint(bytes, from) {
+  for (let value = 0, scale = 1, at = from; ; scale *= 128) {
+    if (at >= bytes.length) fail('insufficient', { taken: at });
+    if (at - from >= 9) fail('overflow', { taken: at });
+    const byte = bytes[at++];
+    value += (byte & 0x7f) * scale;
+    if (byte >= 0x80) continue;
+    if (byte === 0 && at - from > 1) fail('not_minimal', { taken: at });
+    return [value, at];
+  }
+}
+
+function head(bytes) {
+  if (!(bytes instanceof Uint8Array)) throw new TypeError('bytes');
+  const [code, at] = varint(bytes, 0);
+  const [digestLength, taken] = varint(bytes, at);
+  return { code, digestLength, taken };
+}
+
+function read(bytes, limit = 255) {
+  const { code, digestLength, taken } = head(bytes);
+  if (digestLength > limit) fail('invalid_size', { size: digestLength, taken });
+  const digest = bytes.slice(taken, taken + digestLength);
+  if (digest.length !== digestLength) fail('unexpected_eof', { taken });
+  return { multihash: new Multihash(code, digest), taken: taken + digestLength };
+}
+
+function decode(bytes) {
+  const { multihash, taken } = read(bytes);
+  if (taken !== bytes.length) fail('invalid_size', { size: bytes.length - taken, taken: bytes.length });
+  return multihash;
+}
+
+const lengthOf = (number) => {
+  let length = 1;
+  for (let left = number; left >= 128; left = Math.floor(left / 128)) length++;
+  return length;
+};
+
+function put(out, from, number) {
+  let [at, left] = [from, number];
+  for (; left >= 128; left = Math.floor(left / 128)) out[at++] = (left % 128) + 128;
+  out[at++] = left;
+  return at;
+}
+
+function encodedLength(code, size) {
+  checkPair(code, size);
+  return lengthOf(code) + lengthOf(size) + size;
+}
+
+function encode(code, digest) {
+  const out = new Uint8Array(encodedLength(code, digest.length));
+  out.set(digest, put(out, put(out, 0, code), digest.length));
+  return out;
+}
+
+function compare(left, right) {
+  if (left.code !== right.code) return left.code < right.code ? -1 : 1;
+  if (left.size !== right.size) return left.size < right.size ? -1 : 1;
+  for (let index = 0; index < left.size; index++) {
+    const difference = left.digest[index] - right.digest[index];
+    if (difference !== 0) return Math.sign(difference);
+  }
+  return 0;
+}
+
+function scaleDecode(bytes) {
+  if (bytes.length < 9) fail('unexpected_eof', { taken: bytes.length < 8 ? 0 : 8 });
+  let code = 0;
+  for (let index = 7; index >= 0; index--) code = code * 256 + bytes[index];
+  const digest = bytes.slice(9, 9 + bytes[8]);
+  if (digest.length !== bytes[8]) fail('unexpected_eof', { taken: 9 });
+  return { multihash: new Multihash(code, digest), taken: 9 + digest.length };
+}
+
+function scaleEncode(code, digest) {
+  checkPair(code, digest.length);
+  const out = new Uint8Array(9 + digest.length);
+  for (let index = 0, left = code; index < 8; index++, left = Math.floor(left / 256)) out[index] = left % 256;
+  out[8] = digest.length;
+  out.set(digest, 9);
+  return out;
+}
+
+class MultihashReader {
+  constructor(source) {
+    this.iterator = source[Symbol.asyncIterator]();
+    this.bytes = new Uint8Array();
+    this.at = 0;
+  }
+
+  async read() {
+    for (;;) {
+      try {
+        const { multihash, taken } = read(this.bytes.subarray(this.at));
+        this.at += taken;
+        return multihash;
+      } catch (error) {
+        if (!error.isIncomplete) throw error;
+        const { done, value } = await this.iterator.next();
+        if (done && this.at === this.bytes.length) return null;
+        if (done) throw error;
+        const rest = this.bytes.subarray(this.at);
+        this.bytes = new Uint8Array(rest.length + value.length);
+        this.bytes.set(rest);
+        this.bytes.set(value, rest.length);
+        this.at = 0;
+      }
+    }
+  }
+
+  async *[Symbol.asyncIterator]() {
+    for (let multihash; (multihash = await this.read()) !== null; ) yield multihash;
+  }
+}
+
+const plain = { Multihash, MultihashReader, compare, decode, encode, encodedLength, head, read, scaleDecode,
+  scaleEncode };
+
+// ---- the calls
+
+const digest = new Uint8Array(32).map((_, index) => index * 7);
+const bytes = Uint8Array.of(18, 32, ...digest);
+const long = Uint8Array.of(18, 255, 1, ...new Uint8Array(255).fill(7));
+const form = Uint8Array.of(18, 0, 0, 0, 0, 0, 0, 0, 32, ...digest);
+const chunk = new Uint8Array(1000 * 34).map((_, index) => bytes[index % 34]);
+
+function callsOf(it) {
+  const [left, right] = [it.decode(bytes), it.decode(bytes)];
+  const caught = (input) => {
+    try {
+      it.decode(input);
+    } catch (error) {
+      return error;
+    }
+  };
+  const [error, cut] = [caught(bytes.subarray(0, 20)), bytes.subarray(0, 20)];
+  return {
+    '`decode` of 34 bytes': () => it.decode(bytes),
+    '`decode` of 258 bytes': () => it.decode(long),
+    '`read`': () => it.read(bytes),
+    '`head`': () => it.head(bytes),
+    '`encode` of 32 bytes': () => it.encode(18, digest),
+    '`encodedLength`': () => it.encodedLength(18, 32),
+    '`compare`': () => it.compare(left, right),
+    '`scaleDecode`': () => it.scaleDecode(form),
+    '`scaleEncode`': () => it.scaleEncode(18, digest),
+    '`Multihash.of`': () => it.Multihash.of(18, digest),
+    '`bytes`': () => left.bytes,
+    '`equals`': () => left.equals(right),
+    '`toJSON`': () => left.toJSON(),
+    '`code`, `size`, `digest`': () => left.code + left.size + left.digest.length,
+    'an error': () => caught(cut),
+    '`status`, `taken`, `isIncomplete` of an error': () => error.status.length + error.taken + error.isIncomplete,
+  };
+}
+
+async function* chunks() {
+  yield chunk;
+}
+
+async function ofStream(it) {
+  const start = process.cpuUsage();
+  let count = 0;
+  for await (const multihash of new it.MultihashReader(chunks())) count += multihash.size / 32;
+  const { user, system } = process.cpuUsage(start);
+  return ((user + system) * 1000) / count;
+}
+
+let sink = 0;
+function nanoseconds(call) {
+  const start = process.hrtime.bigint();
+  for (let left = CALLS; left > 0; left--) sink += typeof call() === 'object' ? 1 : 0;
+  return Number(process.hrtime.bigint() - start) / CALLS;
+}
+
+const [mine, theirs] = [callsOf(ours), callsOf(plain)];
+const names = [...Object.keys(mine), 'an item of a stream'];
+const least = Object.fromEntries(names.map((name) => [name, [Infinity, Infinity]]));
+const keep = (name, ...times) => (least[name] = least[name].map((time, index) => Math.min(time, times[index])));
+for (let round = 0; round < ROUNDS; round++) {
+  for (const name of Object.keys(mine)) keep(name, nanoseconds(mine[name]), nanoseconds(theirs[name]));
+  for (let turn = 0; turn < 10; turn++) keep('an item of a stream', await ofStream(ours), await ofStream(plain));
+}
+let table = '| Call | Time | Plain JavaScript | Share |\n|---|---:|---:|---:|\n';
+for (const [name, [here, there]] of Object.entries(least))
+  table += `| ${name} | ${here.toFixed(0)} ns | ${there.toFixed(0)} ns | ${(here / there).toFixed(2)} |\n`;
+console.log(table + (sink ? '' : 'nothing was called'));
+if (process.argv[2] === '--write') {
+  const page = new URL('README.md', import.meta.url);
+  writeFileSync(page, readFileSync(page, 'utf8').replace(/\| Call \| Time [^]*?\n\n/, () => `${table}\n`));
+}
