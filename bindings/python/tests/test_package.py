@@ -51,47 +51,17 @@ def copies(value):
     return [copy.copy(value), copy.deepcopy(value), *(pickle.loads(pickle.dumps(value, n)) for n in range(6))]
 
 
-class Reads:
-    """A file that returns the same from each read, whatever it is asked for."""
+class Turns:
+    """A file whose reads return these in turn, or raise them, and the last one again and again."""
 
-    def __init__(self, result):
-        self.result = result
+    def __init__(self, *results):
+        self.results = list(results)
 
     def read(self, _):
-        return self.result
-
-
-class Waits:
-    """A file that has no bytes before each byte."""
-
-    def __init__(self, data, fails):
-        self.file, self.fails, self.has = io.BytesIO(data), fails, False
-
-    def read(self, size):
-        self.has = not self.has
-        if self.has:
-            result = self.fails()
-            if result is None:
-                return None
+        result = self.results.pop(0) if len(self.results) > 1 else self.results[0]
+        if isinstance(result, type):
             raise result
-        return self.file.read(min(size, 1))
-
-
-class Fails(io.RawIOBase):
-    """A file that fails once, after some bytes."""
-
-    def __init__(self, data, error):
-        self.data, self.error = io.BytesIO(data), error
-
-    def readable(self):
-        return True
-
-    def readinto(self, buffer):
-        count = self.data.readinto(buffer)
-        if count == 0 and self.error:
-            error, self.error, self.data = self.error, None, io.BytesIO(b"c" + bytes(9))
-            raise error
-        return count
+        return result
 
 
 class Counts:
@@ -244,8 +214,8 @@ class Readers(unittest.TestCase):
     def test_files(self):
         closed = io.BytesIO(b"\0\0")
         closed.close()
-        wrong = (closed, ValueError, "closed file"), (Reads(b"abc"), ValueError, "returned 3 bytes")
-        wrong += (Reads(None), BlockingIOError, ""), (io.StringIO("\0\0"), TypeError, ""), (Reads(2), TypeError, "")
+        wrong = (closed, ValueError, "closed file"), (Turns(b"abc"), ValueError, "returned 3 bytes")
+        wrong += (Turns(None), BlockingIOError, ""), (io.StringIO("\0\0"), TypeError, ""), (Turns(2), TypeError, "")
         for kind in self.readers:
             for file, error, text in wrong:
                 self.assertRaisesRegex(error, text, kind(file).read)
@@ -259,8 +229,9 @@ class Readers(unittest.TestCase):
     def test_waiting_files(self):
         """A reader keeps what it has read when a file has no bytes."""
         data = b"".join(bytes(Multihash(1 << 40, bytes([n] * n))) for n in range(4))
-        for kind, fails in ((kind, fails) for kind in self.readers for fails in (lambda: None, BlockingIOError)):
-            reader, found, waits = kind(Waits(data, fails)), [], 0
+        for kind, fails in ((kind, fails) for kind in self.readers for fails in (None, BlockingIOError)):
+            turns = [turn for byte in data for turn in (fails, bytes([byte]))]
+            reader, found, waits = kind(Turns(*turns)), [], 0
             while len(found) < 4:
                 try:
                     found.append(reader.read())
@@ -268,7 +239,7 @@ class Readers(unittest.TestCase):
                     waits += 1
             self.assertEqual((b"".join(map(bytes, found)), waits), (data, len(data)))
             with self.assertRaisesRegex(io.UnsupportedOperation, "MultihashReader"):
-                vm.read_from(Waits(data, fails))
+                vm.read_from(Turns(*turns))
 
     def test_growing_files(self):
         """A reader goes on where the file has grown; a multihash that is none stays."""
@@ -294,7 +265,7 @@ class Readers(unittest.TestCase):
     def test_failing_files(self):
         """After an error of a file, which loses bytes if it is buffered, nothing more is read from it."""
         for error in (TimeoutError, KeyboardInterrupt):
-            reader = vm.MultihashReader(io.BufferedReader(Fails(b"\1\3ab", error)))
+            reader = vm.MultihashReader(Turns(b"\1\3", b"ab", error))
             self.assertRaises(error, reader.read)
             for _ in range(2):
                 self.assertRaisesRegex(ValueError, "failed before", reader.read)
