@@ -9,7 +9,7 @@ SHOWN = "code 22\nsize 32\ndigest %s\n" % HEX[4:]
 NOT_READ = (1, "", "mh_show: input not read\n")
 HERE = Path(__file__).resolve().parent
 # in the repository, or beside this file in an sdist
-PLACES = (HERE.parents[2] / "checks" / "not_shown.txt", HERE / "not_shown.txt")
+PLACES = (HERE.parents[2] / "checks" / "lib" / "not_shown.txt", HERE / "not_shown.txt")
 LISTED = next(path for path in PLACES if path.exists()).read_text("utf-8").splitlines()[1:]
 
 
