@@ -49,7 +49,7 @@ function checkLong(module, data, read, taken) {
 function checkBack(module, multihash, data, taken) {
   const { code, digest, size } = multihash;
   for (const bytes of [module.encode(code, digest), multihash.bytes, module.Multihash.of(code, digest).bytes])
-    same(hex(bytes), hex(data.subarray(0, taken)), 'an encoding');
+    same(`${hex(bytes)} ${bytes.buffer.byteLength}`, `${hex(data.subarray(0, taken))} ${taken}`, 'an encoding');
   same(module.encodedLength(code, size), taken, 'encodedLength');
   const form = module.scaleEncode(code, digest);
   const head = new DataView(new ArrayBuffer(9));

@@ -108,27 +108,20 @@ fn order_and_hash() {
 fn errors() {
     use std::error::Error as _;
     let of = |bytes: &[u8]| Multihash::<4>::from_bytes(bytes).expect_err("no multihash");
-    for (bytes, shown, text) in [
-        (&b"\x12\x05abcde"[..], "InvalidSize(5)", "Invalid multihash size 5."),
-        (b"\x12\x03abcd", "InvalidSize(1)", "Invalid multihash size 1."),
-        (b"\x92\x00\x00", "Varint(NotMinimal)", "encoding is not minimal"),
-        (&[0xff; 12], "Varint(Overflow)", "input bytes exceed maximum"),
-        (b"\x12", "Io(Kind(UnexpectedEof))", "unexpected end of file"),
+    for (bytes, shown) in [
+        (&b"\x12\x05abcde"[..], "InvalidSize(5)"),
+        (b"\x92\x00\x00", "Varint(NotMinimal)"),
+        (&[0xff; 12], "Varint(Overflow)"),
+        (b"\x12", "Io(Kind(UnexpectedEof))"),
     ] {
         let error = of(bytes);
-        assert_eq!(
-            (error.to_string(), format!("{error:?}")),
-            (text.into(), format!("Error {{ kind: {shown} }}"))
-        );
+        assert_eq!(format!("{error:?}"), format!("Error {{ kind: {shown} }}"));
         assert_eq!(error.source().is_some(), shown.starts_with("Io"));
     }
     let cut = of(b"\x12\x03ab");
-    let source =
-        cut.source().and_then(|source| source.downcast_ref::<std::io::Error>()).expect("an io::Error");
-    assert_eq!(
-        (source.kind(), format!("{cut:99.9}")), // without width and precision
-        (std::io::ErrorKind::UnexpectedEof, "failed to fill whole buffer".into())
-    );
+    let kind = cut.source().and_then(|it| it.downcast_ref()).map(std::io::Error::kind);
+    assert_eq!(kind, Some(std::io::ErrorKind::UnexpectedEof));
+    assert_eq!(format!("{cut:99.9}"), "failed to fill whole buffer"); // without width and precision
     let boxed: Box<dyn std::error::Error + Send + Sync> = cut.into();
     assert!(boxed.downcast::<Error>().is_ok());
 }

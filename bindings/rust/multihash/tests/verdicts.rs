@@ -95,7 +95,7 @@ impl Row<'_> {
         }
         self.check_borrowed(S);
         self.check_head();
-        check_varints(self.input);
+        check_varints(self.input, self.read_taken);
     }
 
     fn is_taken(&self, taken: &str, rest: &[u8]) {
@@ -136,14 +136,17 @@ impl Row<'_> {
     }
 }
 
-/// Both varints, decoded one by one, are those of the head.
-fn check_varints(mut bytes: &[u8]) {
-    let whole = Head::read(bytes);
+/// Both varints, decoded one by one, are those of the head, or end where an error is determined.
+fn check_varints(input: &[u8], taken: &str) {
+    let mut bytes = input;
     let code = varint::read(&mut bytes);
     let length = code.and_then(|_| varint::read(&mut bytes));
-    match whole {
+    match Head::read(input) {
         Ok(head) => assert_eq!((code, length), (Ok(head.code()), Ok(head.digest_length()))),
-        Err(error) => assert_eq!(length, Err(error)),
+        Err(error) => {
+            assert_eq!(length, Err(error));
+            assert_eq!(input.len() - bytes.len(), taken.parse().unwrap_or(input.len()));
+        }
     }
 }
 

@@ -68,16 +68,6 @@ fn varints() {
         assert_eq!(short, [0xa5; varint::LENGTH]);
     }
     assert_eq!(varint::encode(CODE_MAX + 1, &mut []), Err(Error::InvalidCode(1 << 63)));
-    for (bytes, error, left) in [
-        (&[][..], Error::Insufficient, 0),
-        (&[0x80; 8], Error::Insufficient, 0),
-        (&[0xff; 12], Error::Overflow, 3),
-        (&[0x80, 0, 7], Error::NotMinimal, 1),
-        (&[0xff, 0xff, 0xff, 0xff, 0xff, 0xff, 0xff, 0xff, 0, 1], Error::NotMinimal, 1),
-    ] {
-        let mut rest = bytes;
-        assert_eq!((varint::read(&mut rest), rest.len()), (Err(error), left));
-    }
 }
 
 #[test]
