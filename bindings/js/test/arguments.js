@@ -1,6 +1,6 @@
 // Arguments of wrong types and ranges, and what results and errors are.
 import base64 from '../bytes.js';
-import { fails, hex, same, unhex } from './check.js';
+import { fails, hex, same, tally, unhex } from './check.js';
 
 const EXAMPLE = unhex('1620644bcc7e564373040999aac89e7622f3ca71fba1d972fd94a31c3bfbf24e3938');
 
@@ -236,7 +236,7 @@ export async function forbidden() {
 export async function missing() {
   const { fetch, process } = globalThis;
   Object.assign(globalThis, { fetch: async () => ({ ok: false, status: 404 }), process: undefined });
-  const error = await import('../index.js?missing').catch((found) => found);
+  const error = await import(`../index.js?${tally.checks}`).catch((found) => found); // each time anew
   Object.assign(globalThis, { fetch, process });
   same(/multihash.wasm: status 404$/.test(error.message), true, 'a module that is missing');
 }

@@ -10,6 +10,7 @@ from verified_multihash import MultihashError, Status
 BESIDE = Path(__file__).parent / "verdicts.tsv"
 COLUMNS = "S\tinput\tread\tread_taken\tfrom_bytes\tscale_decode\tscale_taken"
 MORE = bytes(400)
+KINDS = (bytes, bytearray, memoryview)
 
 
 class Counts:
@@ -70,7 +71,8 @@ class Vectors(unittest.TestCase):
             result = "invalid_size %d" % (len(data + MORE) - taken)
         elif result in ("insufficient", "unexpected_eof") or not is_for_all(result, size):
             return
-        self.assertEqual(shown(vm.decode, data + MORE), (result, len(data + MORE), None))
+        for kind in KINDS:
+            self.assertEqual(shown(vm.decode, kind(data + MORE)), (result, len(data + MORE), None))
 
     def check_back(self, multihash, data, taken):
         encoding, form = vm.encode(multihash.code, multihash.digest), vm.scale_encode(multihash.code, multihash.digest)
@@ -78,7 +80,11 @@ class Vectors(unittest.TestCase):
         self.assertEqual(vm.encoded_len(multihash.code, len(multihash.digest)), taken)
         code, size = multihash.code.to_bytes(8, "little"), bytes([len(multihash.digest)])
         self.assertEqual(form, code + size + multihash.digest)
-        self.assertEqual(vm.scale_decode(form + MORE), (multihash, len(form)))
+        for kind in KINDS:
+            self.assertEqual(vm.scale_decode(kind(form + MORE)), (multihash, len(form)))
+            self.assertEqual(
+                (vm.read(kind(data))[0], vm.Multihash(multihash.code, kind(multihash.digest))), (multihash, multihash)
+            )
 
     def check_line(self, line):
         size, data, read, read_taken, whole, scale, scale_taken = line.split("\t")
