@@ -29,7 +29,8 @@ in_node() {
 
 # The tests find a result that differs, and that there are no vectors.
 planted() {
-  sed '77s/unexpected_eof/overflow/' "$vectors/verdicts.tsv" > "$work/planted" && rejects " wrong" in_node "$work/planted" &&
+  sed '77s/unexpected_eof\t-$/overflow\t-/' "$vectors/verdicts.tsv" > "$work/planted" &&
+    rejects " 1 wrong" in_node "$work/planted" &&
     head -n 1 "$vectors/verdicts.tsv" > "$work/planted" && rejects " 1 wrong" in_node "$work/planted"
 }
 
@@ -52,13 +53,6 @@ old_module() {
     --disable-multi-value --disable-reference-types)
   wasm-validate "${others[@]}" "$here/multihash.wasm" &&
     rejects "invalid section code: 12" wasm-validate "${others[@]}" --disable-bulk-memory "$here/multihash.wasm"
-}
-
-types() {
-  local strict=(tsc --noEmit --strict --target es2022 --module nodenext --moduleResolution nodenext)
-  "${strict[@]}" --lib es2022 "$here/test/example.ts" &&
-    "${strict[@]}" --lib es2022,dom,dom.iterable "$here/test/example_dom.ts" &&
-    echo "the examples have the types that they say"
 }
 
 # The example of README.md in that language.
@@ -87,6 +81,14 @@ packed_script() {
         found.decode(Uint8Array.of(2, 0)).code));
       import('verified-multihash').then((found) => console.log(found.decode(Uint8Array.of(1, 0)).code));" > out) &&
     sort "$at/out" | paste -sd ' ' | grep -x '1 undefined 2'
+}
+
+# The types of what is packed.
+packed_types() {
+  local strict=(tsc --noEmit --strict --target es2022 --module nodenext --moduleResolution nodenext)
+  cp "$here"/test/example*.ts "$work/elsewhere" && echo '{ "type": "module" }' > "$work/elsewhere/package.json" &&
+    cd "$work/elsewhere" && "${strict[@]}" --lib es2022 example.ts &&
+    "${strict[@]}" --lib es2022,dom,dom.iterable example_dom.ts
 }
 
 # In a browser, pages show texts: each line of standard input is a page, a tab, and a text.
@@ -137,8 +139,8 @@ part "where nothing is compiled" node node --experimental-vm-modules --no-warnin
 part "vectors that differ" node planted
 part "old engines" node old_engine index
 part "old engines, inline" node old_engine inline
-part "types" tsc types
 part "the packed package's script" npm packed_script
+part "the packed package's types" "npm tsc" packed_types
 test_browser chromium chromium
 part "another text than the demo page's" chromium rejects " 1 wrong" another_text chromium
 part "the demo page from the disk" chromium demo_of_disk

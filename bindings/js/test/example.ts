@@ -1,7 +1,7 @@
 // What the types say, for tsc --noEmit --strict: each public name has this type, and no other.
 import * as multihash from 'verified-multihash';
 import * as inline from 'verified-multihash/inline';
-import { connect } from 'verified-multihash/module';
+import * as compiled from 'verified-multihash/module';
 import type { ByteStream, Details, Head, Multihash, MultihashError, MultihashReader, Read, Status, Wide } from
   'verified-multihash';
 
@@ -62,7 +62,7 @@ export const same: [
   Same<Status, Result | 'no_room'>,
   Same<Readonly<Omit<typeof multihash, Classes>>, Readonly<Names>>,
   Same<typeof inline, typeof multihash>,
-  Same<typeof connect, (module: object) => void>,
+  Same<Readonly<typeof compiled>, Readonly<typeof multihash & { connect: (module: object) => void }>>,
   Same<Flat<Multihash>, OfMultihash>,
   Same<Flat<Omit<MultihashError, keyof Error>> & Pick<MultihashError, 'cause'>, Flat<Omit<OfError, 'cause'>> &
     Pick<OfError, 'cause'>>,
