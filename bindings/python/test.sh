@@ -179,7 +179,7 @@ else
 fi
 try "the tests with the debug allocator" unit_tests "$here/tests" PYTHONMALLOC=debug
 has 1 mypy stubtest && try "types" types
-try "the times beside plain Python" "$python" -I "$here/speed.py"
+try "the times beside plain Python" "$python" -I "$here/beside_plain.py"
 try "the folder, installed" imports "$here"
 has 1 objcopy ar && try "an archive of another version" other_version
 try "an altered archive" altered_archive

@@ -73,7 +73,8 @@ export const same: [
   Same<typeof multihash.Multihash.of, (code: Wide, digest: Uint8Array) => Multihash>,
   Same<typeof multihash.MultihashError.from, (value: unknown) => MultihashError | undefined>,
   Same<ConstructorParameters<typeof MultihashError>, [status: Status, details?: Details]>,
-  Same<ConstructorParameters<typeof MultihashReader>, [source: ByteStream | AsyncIterable<Uint8Array>, options?: Options]>,
+  Same<ConstructorParameters<typeof MultihashReader>,
+    [source: ByteStream | AsyncIterable<Uint8Array>, options?: Options]>,
 ] = [true, true, true, true, true, true, true, true, true, true, true, true, true, true, true];
 
 /** As in js-multiformats, whose `CID.create` takes it. */

@@ -1,5 +1,5 @@
 //! Calls of a crate `multihash`, whose instructions valgrind's tool callgrind counts: each is made `TURNS` times, and a
-//! request to callgrind then writes the count with the call's name. See `speed.py`.
+//! request to callgrind then writes the count with the call's name. See `beside_upstream.py`.
 use multihash::Multihash;
 use std::arch::asm;
 use std::ffi::CString;

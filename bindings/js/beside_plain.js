@@ -1,6 +1,6 @@
 // Times of each call beside plain JavaScript that copies its results, with the same checks, by turns, as minima.
-//   node speed.mjs           prints the table of README.md
-//   node speed.mjs --write   also writes it
+//   node beside_plain.js           prints the table of README.md
+//   node beside_plain.js --write   also writes it
 import { readFileSync, writeFileSync } from 'node:fs';
 import * as ours from './index.js';
 

@@ -1,8 +1,8 @@
 #!/usr/bin/env python3
 """Counts the instructions of each call of the package multihash beside those of upstream's crate.
 
-    bindings/rust/speed.py UPSTREAM   prints the shares, all above 1 and the table of multihash/README.md
-    bindings/rust/speed.py UPSTREAM --write   also writes that table
+    bindings/rust/beside_upstream.py UPSTREAM   prints the shares, all above 1 and the table of multihash/README.md
+    bindings/rust/beside_upstream.py UPSTREAM --write   also writes that table
 
 UPSTREAM is a folder with upstream's package, whose dependencies Cargo finds. Needs valgrind, on x86-64. A count is that
 of the default release profile, and of one with fat link-time optimization.

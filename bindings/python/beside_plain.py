@@ -1,8 +1,7 @@
-#!/usr/bin/env python3
 """Times of each call beside plain Python with the same checks, by turns, as medians of CPU time.
 
-    python3 -I speed.py           prints the table of README.md; the status is 1 if a call takes too long
-    python3 -I speed.py --write   also writes that table
+    python3 -I beside_plain.py           prints the table of README.md; the status is 1 if a call takes too long
+    python3 -I beside_plain.py --write   also writes that table
 """
 import io
 import re
