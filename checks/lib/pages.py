@@ -1,10 +1,9 @@
 #!/usr/bin/env python3
 """Compares what the pages say with the sources.
 
-It compares CONTRACTS.md with the sources, the names in CALLING.md, of files, examples, links, limits
-and the table of checks, and runs README's commands and programs: mh_show as 'rt ci' built it, if
-BUILT says so, otherwise 'rt run' builds it. The differences of pages.edits are planted in pages and
-sources.
+It compares CONTRACTS.md with the sources, names, numbers, files, examples, links, limits and the table of checks, and
+runs README's commands and programs: mh_show as 'rt ci' built it, if BUILT says so, otherwise 'rt run' builds it. The
+differences of pages.edits are planted in pages and sources.
 """
 import difflib
 import os
@@ -49,6 +48,7 @@ LIMITS = {
     C: (
         "digests have at most {digest} bytes. `multihash_compare` accepts any code and digest, "
         "`multihash_head` any length.",
+        "accepts a digest of at most `limit` bytes.",
     ),
 }
 # a path or a file's name; and a path below these folders, in all texts
@@ -64,15 +64,55 @@ NOT_HERE = {
     "verified-multihash/inline",
     "verified-multihash/module",
 }
+# files whose words no page has to name; words of other programs and of examples, and of proofs
+NO_SOURCES = {".md", ".a", ".edits", ".tsv", ".wasm"}
+NAMES_ELSEWHERE = {
+    *"Arbitrary CC_TARGET CC_riscv64gc_unknown_linux_gnu CMAKE_TOOLCHAIN_FILE CRYPTO_memcmp".split(),
+    *"MULTIHASH_C_STATIC NDEBUG PACKAGING PASS activate area compare_digest crypto dac8208d650f15bf externally-managed-environment".split(),
+    *"ff gcc gcc-aarch64-linux-gnu hmac is_ ldconfig makefile minutes multihash-codetable my_vectors pc_path".split(),
+    *"postMessage py-multihash pymultihash python3-dev rattle-kit-13f rc tests_ timingSafeEqual x86-64-v3".split(),
+}
+NAMES_IN_PROOFS = {"BTreeMap", "HashMap", "checker", "prog"}
+# a number from 10 on, or a version; files whose numbers pages state, and numbers from elsewhere
+NUMBER = re.compile(r"2\^\d+|(?<![\w.#^/-])(?:\d{2,}(?!\.?\d)|\d+\.\d+\.\d+|\d+\.\d{2})(?!\w)")
+NUMBERED = (
+    "bindings/c/include/multihash.h",
+    "bindings/c/fuzz/test.sh",
+    "bindings/js/core.js",
+    "bindings/js/package.json",
+    "bindings/js/test.sh",
+    "bindings/python/pyproject.toml",
+    "bindings/rust/Cargo.toml",
+    "bindings/rust/multihash/Cargo.toml",
+    "checks/portable.t",
+    "CMakeLists.txt",
+    "crates/multihash/src/varint.rt",
+    "crates/storage/src/prefixed.rt",
+    "crates/vectors/src/check.rt",
+)
+NUMBERS_ELSEWHERE = {
+    *"9223372036854775808 127 129 17 72".split(),
+    *"0.25 0.75 1.22 1.48 37 46 62 67 8000".split(),
+    *"1.63 1.95 2.17 3.11 3.12 20 20.19 22.12".split(),
+}
 Texts = dict[str, str]
+
+
+def listed() -> list[Path]:
+    """Returns the paths of the repository's files."""
+    command = ["git", "ls-files", "-co", "--exclude-standard"]
+    names = subprocess.run(command, cwd=TOP, capture_output=True, text=True, check=True).stdout
+    return [Path(name) for name in names.splitlines() if (TOP / name).exists()]
+
+
+def read(path: Path) -> str:
+    return (TOP / path).read_bytes().decode("utf-8", "replace")
 
 
 def read_texts() -> Texts:
     """Returns the pages, and the sources that CONTRACTS.md is about."""
-    command = ["git", "ls-files", "-co", "--exclude-standard", "*.md"]
-    listed = subprocess.run(command, cwd=TOP, capture_output=True, text=True, check=True)
-    paths = [path for path in (*listed.stdout.split(), MAN) if (TOP / path).exists()]
-    return {path: (TOP / path).read_text("utf-8") for path in paths} | contracts.sources()
+    paths = [*map(str, listed()), MAN]
+    return {path: read(Path(path)) for path in paths if path == MAN or path.endswith(".md")} | contracts.sources()
 
 
 def pages_of(texts: Texts) -> Texts:
@@ -98,14 +138,34 @@ def contract_errors(texts: Texts) -> Iterator[str]:
 
 
 def name_errors(texts: Texts) -> Iterator[str]:
-    """Returns the names in backquotes in CALLING.md that no source has, but paths and capitals."""
-    sources = TOP.glob("crates/*/[!o]*/**/*.[ar]*t")
-    known = {word for path in sources for word in re.findall(r"[\w-]+", path.read_text("utf-8"))}
-    known |= {"BTreeMap", "HashMap", "checker", "prog"}
-    quoted = re.findall(r"`([^`\n]+)`", FENCE.sub("", texts[CALLING]))
-    quoted = [text for text in quoted if not re.search(r"/|\.antt|[A-Z]{3}", text)]
-    gone = {*re.findall(r"[A-Za-z][\w-]+", " ".join(quoted))} - known
-    yield from (f"{CALLING}: no source has {name}" for name in sorted(gone))
+    """Returns the words in backquotes, and in commands, that no source has: in CALLING.md no source of a crate."""
+    sources = [path for path in listed() if path.suffix not in NO_SOURCES]
+    words = {path: {*re.findall(r"[\w-]+", read(path))} for path in sources}
+    known = {word for found in words.values() for word in found} | NAMES_ELSEWHERE
+    of_crates = {word for path, found in words.items() if path.parts[0] == "crates" for word in found}
+    for page, text in pages_of(texts).items():
+        commands = [body for language, body in FENCE.findall(text) if language == "sh" and page != ARCHITECTURE]
+        quoted = re.findall(r"`([^`\n]+)`", FENCE.sub("", text)) + commands
+        if page == CALLING:
+            quoted = [text for text in quoted if not re.search(r"/|\.antt|[A-Z]{3}", text)]
+        named = {*re.findall(r"(?<![\w-])(?:-D)?([A-Za-z_][\w-]+)", " ".join(quoted))}
+        for name in sorted(named - (of_crates | NAMES_IN_PROOFS if page == CALLING else known)):
+            yield f"{page}: no source has {name}"
+
+
+def number_errors(texts: Texts) -> Iterator[str]:
+    """Returns the numbers from 10 on, and the versions, that no limit is and no file of NUMBERED has."""
+    known = {str(limit) for limit in limits().values()} | NUMBERS_ELSEWHERE
+    for path in NUMBERED:
+        known |= {*NUMBER.findall(read(Path(path)))}
+    for page, text in pages_of(texts).items():
+        if page in (CONTRACTS, SPEED):
+            continue
+        # a row of measured times and shares, what a link leads to, and bytes
+        text = re.sub(r"(?m)^\|.*\| *\d\.\d+ .*\|$|\]\([^)]*\)|`([0-9a-f]{2} ?)+`", "", FENCE.sub("", text))
+        for number in NUMBER.findall(re.sub(r"(?<=\d),(?=\d{3})", "", text.replace(r"\*\*", "^"))):
+            if number not in known:
+                yield f"{page}: no source has the number {number}"
 
 
 def code_of(path: Path) -> list[str]:
@@ -171,15 +231,13 @@ def options_gone(command: str) -> list[str]:
 
 def file_errors(texts: Texts) -> Iterator[str]:
     """Returns the names of files that are gone, in pages those in backquotes and options too."""
-    command = ["git", "ls-files", "-co", "--exclude-standard"]
-    listed = subprocess.run(command, cwd=TOP, capture_output=True, text=True, check=True)
-    paths = [Path(path) for path in listed.stdout.splitlines() if (TOP / path).exists()]
+    paths = listed()
     found = {path for file in paths for path in (file, file.with_suffix(""), *file.parents)}
     ends = {"/".join(path.parts[at:]) for path in found for at in range(len(path.parts))}
     for path in map(str, paths):
         if path.endswith(".edits"):
             continue
-        text = texts.get(path) or (TOP / path).read_bytes().decode("utf-8", "replace")
+        text = texts.get(path) or read(Path(path))
         words = [word for word in BELOW.findall(text) if not (TOP / word).exists()]
         if path.endswith(".md") and path != CONTRACTS:
             spans = re.findall(r"`([^`\n]+)`", FENCE.sub("", text))
@@ -223,13 +281,14 @@ def limits() -> dict[str, int | str]:
         "length": r"MULTIHASH_LENGTH_MAX (\d+)\n",
         "scale": r"MULTIHASH_SCALE_LENGTH_MAX (\d+)\n",
         "status": r"tell\(alloc, err, &e\);\n +(\d+)\n",
+        "head": r"MULTIHASH_HEAD_MAX (\d+)\n",
         "continuation": r"\nmax_continuation = (\d)\n",
         "python": r'requires-python = ">=3\.(\d+)"',
     }
     found = {name: int(re.findall(form, text)[0]) for name, form in forms.items()}
     long = found["length"] - found["digest"]
     found["wasm"] = round((TOP / "bindings/js/multihash.wasm").stat().st_size / 1000)
-    found["over"] = found["digest"] + 1
+    found["over"], found["seen"] = found["digest"] + 1, found["head"] + found["digest"]
     continuation = digits[found["continuation"]]
     # a length of one byte less
     return {**found, "long": long, "short": long - 1, "continuation": continuation}
@@ -325,27 +384,25 @@ def program_results(texts: Texts) -> Iterator[tap.Result]:
             planted = [other] if program.language == "JavaScript" else []
             name, gone = f"{README}, {program.language}", start.missing(program.language)
             for number, each in enumerate([program, *planted]):
-                which = f"planted: {name}" if number else name
                 if gone:
-                    yield tap.left_out(which, f"{gone} is not installed")
+                    yield tap.left_out(name, f"{gone} is not installed")
                     continue
                 error, text = start.run(each, copy, Path(work) / f"{program.language}{number}")
                 if number:
-                    yield which, "" if error else "it is not found"
+                    yield tap.planted(name, error)
                 else:
-                    yield which, error
+                    yield name, error
                     shown[program.language] = text
     yield "what the programs print", "\n".join(start.judge(texts[README], shown))
     for old, new in ((start.SHOWN, "another"), ("| [C, C++]", "| C, C++ |"), ("// hello.mjs", "//")):
-        found = any(start.judge(texts[README].replace(old, new), shown))
-        yield f"planted in {README}: {old}", "" if found else "it is not found"
-    is_seen = any(start.judge(texts[README], {"C": "code 1, digest hello"}))
-    yield "planted: another output", "" if is_seen else "it is not found"
+        yield tap.planted(f"{README}: {old}", [*start.judge(texts[README].replace(old, new), shown)])
+    yield tap.planted("another output", [*start.judge(texts[README], {"C": "code 1, digest hello"})])
 
 
 CHECKS: dict[str, Callable[[Texts], Iterator[str]]] = {
     "contract_errors": contract_errors,
     "name_errors": name_errors,
+    "number_errors": number_errors,
     "example_errors": example_errors,
     "link_errors": link_errors,
     "file_errors": file_errors,
@@ -359,15 +416,13 @@ CHECKS: dict[str, Callable[[Texts], Iterator[str]]] = {
 
 
 def planted(texts: Texts) -> Iterator[tap.Result]:
-    """Plants differences, each of which has to be found, and nothing."""
-    nothing = edits.Planted("nothing", "", "link_errors", [])
-    for name, _, seen, its_edits in [nothing, *edits.read(Path(__file__).with_name("pages.edits"))]:
-        found = any(CHECKS[seen]({**texts, **edits.apply(texts, its_edits)}))
-        yield f"planted: {name}", "" if found == bool(its_edits) else f"{seen}: found: {found}"
+    """Plants differences, each of which has to be found."""
+    for name, _, seen, its_edits in edits.read(Path(__file__).with_name("pages.edits")):
+        yield tap.planted(name, any(CHECKS[seen]({**texts, **edits.apply(texts, its_edits)})))
     for page, sentences in LIMITS.items():
         texts_without = (flat(texts[page]).replace(sentence.format(**limits()), "") for sentence in sentences)
         found = all(any(limit_errors({**texts, page: text})) for text in texts_without)
-        yield f"planted in {page}: a sentence less", "" if found else "it is not found"
+        yield tap.planted(f"{page}: a sentence less", found)
 
 
 def results() -> Iterator[tap.Result]:
