@@ -18,7 +18,7 @@ expect() {
   echo "$result $number - ${text//'#'/}"
 }
 
-echo 1..40
+echo 1..41
 expect "not ok 1 - a\nok 2 - b" ". checks/lib/tap.sh; try a false; try b true"
 expect "not ok 1 - a" ". checks/lib/tap.sh; try a no_such_command"
 expect "ok 1 - a b" ". checks/lib/tap.sh; try \$'a\\nb#' true"
@@ -41,6 +41,7 @@ expect "not ok 1 - a\nok 2 - b\n1" "$(report '("a", "why"), ("b", "")')"
 expect "ok 1 - a\n0" "$(report '("a", "")')"
 expect 1 "$(report "")"
 expect "ok 1 - a b\n0" "$(report '("a#\nb", "")')"
+expect "not ok 1 - planted: a\nok 2 - planted: b\n1" "$(report 'tap.planted("a", ""), tap.planted("b", "why")')"
 expect "ok 1 - a # SKIP why\n0" "$(report 'tap.left_out("a", "why")')"
 
 # Writes a check.

@@ -226,18 +226,16 @@ def error_of(files: Files) -> str:
 
 def plant(files: Files, difference: edits.Planted) -> tap.Result:
     """Plants a difference, which has to be found."""
-    found = error_of({**files, **edits.apply(files, difference.edits)})
-    return f"planted: {difference.name}", "" if found else "it is not found"
+    return tap.planted(difference.name, error_of({**files, **edits.apply(files, difference.edits)}))
 
 
 def results() -> Iterator[tap.Result]:
     files = read_files()
     differences = edits.read(Path(__file__).with_name("header.edits"))
     if not shutil.which("c++"):
-        why = "c++ is not installed"
         del LANGUAGES["C++"]
         yield "the header and the bindings", error_of(files)
-        yield from (tap.left_out(f"planted: {each.name}", why) for each in differences)
+        yield from (tap.left_out(each.name, "c++ is not installed") for each in differences)
         return
     yield "the header and the bindings", error_of(files)
     with ThreadPoolExecutor(4) as pool:

@@ -216,6 +216,14 @@ def differences(found: Mapping[str, list[int]], stored: Mapping[str, list[int]])
     return "\n".join(sorted(lines))
 
 
+def text_errors(rows: Rows, page: str, svg: str) -> Iterator[str]:
+    """Compares the page's tables, and the chart, with the stored numbers."""
+    if table(rows) not in page or c_table(calls_of(page)) not in page:
+        yield "docs/SPEED.md does not have the tables of these numbers"
+    if chart(rows) != svg:
+        yield "docs/speed.svg is not the chart of docs/speed.tsv"
+
+
 def can_count() -> bool:
     """Returns whether valgrind is there; without AVX2 libc's copies have other counts."""
     return bool(shutil.which("valgrind")) and "avx2" in Path("/proc/cpuinfo").read_text("utf-8")
@@ -223,16 +231,16 @@ def can_count() -> bool:
 
 def results(program: str, rows: Rows) -> Iterator[tap.Result]:
     """Compares the counts with the stored ones, and these with the page and the chart."""
-    page = PAGE.read_text("utf-8")
+    page, svg = PAGE.read_text("utf-8"), CHART.read_text("utf-8")
     calls = calls_of(page)
     has_cases = run([program, "cases"]).splitlines() == list(rows)
     yield "docs/speed.tsv", "" if has_cases else "it has other cases than the program"
-    has_tables = table(rows) in page and c_table(calls) in page
-    yield "docs/SPEED.md", "" if has_tables else "it does not have the tables of these numbers"
-    has_chart = chart(rows) == CHART.read_text("utf-8")
-    yield "docs/speed.svg", "" if has_chart else "it is not the chart of docs/speed.tsv"
-    is_seen = differences({"a": [103]}, {"a": [100]}) and differences({"a": [1]}, {"b": [1]})
-    yield "planted: a count that is 3 % off, and another case", "" if is_seen else "not seen"
+    yield "docs/SPEED.md and its chart", "\n".join(text_errors(rows, page, svg))
+    for count, before in ((103, 100), (97, 100), (12, 10)):
+        yield tap.planted(f"{count} for {before}", differences({"a": [count]}, {"a": [before]}))
+    yield tap.planted("another case", differences({"a": [1]}, {"b": [1]}))
+    yield tap.planted("a case less", [*text_errors(dict([*rows.items()][:-1]), page, svg)])
+    yield tap.planted("another chart", [*text_errors(rows, page, svg[1:])])
     if not can_count():
         why = "no valgrind, or a processor without AVX2"
         yield tap.left_out("the calls from C", why)

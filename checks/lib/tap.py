@@ -20,6 +20,11 @@ def report(results: Iterable[Result]) -> int:
     return 1 if failed or not number else 0
 
 
+def planted(what: str, found: object) -> Result:
+    """Returns the result of a planted difference: something has to be found."""
+    return f"planted: {what}", "" if found else "it is not found"
+
+
 def left_out(what: str, why: str) -> Result:
     """Returns the result of a check that is not wanted in this run, or whose tool is missing.
 

@@ -141,8 +141,7 @@ def main() -> int:
         "an own input that is another": f"{but_last}{rules_of_crate().line(0, bytes(77))}\n",
         "an empty list": "",
     }.items():
-        is_seen = text != stored and error_of(text)
-        results.append((f"planted: {what}", "" if is_seen else "it is not seen"))
+        results.append(tap.planted(what, text != stored and error_of(text)))
     return tap.report(results)
 
 
