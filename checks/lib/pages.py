@@ -67,10 +67,11 @@ NOT_HERE = {
 # files whose words no page has to name; words of other programs and of examples, and of proofs
 NO_SOURCES = {".md", ".a", ".edits", ".tsv", ".wasm"}
 NAMES_ELSEWHERE = {
-    *"Arbitrary CC_TARGET CC_riscv64gc_unknown_linux_gnu CMAKE_TOOLCHAIN_FILE CRYPTO_memcmp".split(),
-    *"MULTIHASH_C_STATIC NDEBUG PACKAGING PASS activate area compare_digest crypto dac8208d650f15bf externally-managed-environment".split(),
-    *"ff gcc gcc-aarch64-linux-gnu hmac is_ ldconfig makefile minutes multihash-codetable my_vectors pc_path".split(),
-    *"postMessage py-multihash pymultihash python3-dev rattle-kit-13f rc tests_ timingSafeEqual x86-64-v3".split(),
+    *"Arbitrary CC_TARGET CC_riscv64gc_unknown_linux_gnu CMAKE_TOOLCHAIN_FILE CRYPTO_memcmp MULTIHASH_C_STATIC".split(),
+    *"NDEBUG PACKAGING PASS activate area compare_digest crypto dac8208d650f15bf".split(),
+    *"externally-managed-environment ff gcc gcc-aarch64-linux-gnu hmac is_ ldconfig makefile minutes".split(),
+    *"multihash-codetable my_vectors pc_path postMessage py-multihash pymultihash python3-dev rattle-kit-13f".split(),
+    *"rc tests_ timingSafeEqual x86-64-v3".split(),
 }
 NAMES_IN_PROOFS = {"BTreeMap", "HashMap", "checker", "prog"}
 # a number from 10 on, or a version; files whose numbers pages state, and numbers from elsewhere
@@ -340,38 +341,24 @@ def check_errors(texts: Texts) -> Iterator[str]:
         yield f"{ARCHITECTURE}: there is only a row, or only a file, of {sorted(rows ^ files)}"
 
 
-def commands_of(readme: str) -> Iterator[str]:
-    """Returns the commands that README.md shows."""
-    for language, body in FENCE.findall(readme):
-        if language == "sh":
-            yield from (line.split("#")[0].strip() for line in body.splitlines())
-    yield from re.findall(r"`((?:bash |rt |tools/|\.ci/)[^`]+)`", FENCE.sub("", readme))
-
-
 def command_errors(texts: Texts) -> Iterator[str]:
-    """Runs the commands that need no installation, and looks for other commands and outputs."""
-    shown = (TOP / "crates/mh_show/stdout").read_text("utf-8")
-    if shown not in {body for _, body in FENCE.findall(texts[README])}:
+    """Runs the commands of README.md, each of which prints what mh_show prints. The page shows that."""
+    shown = read(Path("crates/mh_show/stdout"))
+    blocks = FENCE.findall(texts[README])
+    if ("text", shown) not in blocks:
         yield "it shows another output than that of mh_show"
-    commands = [command for command in commands_of(texts[README]) if command]
-    for tool in ("rt", "cc"):
-        if not any(tool in command.split() for command in commands):
-            yield f"it has no command that runs {tool}"
+    commands = [line for language, body in blocks if language == "sh" for line in body.splitlines()]
+    if len(commands) != 2:
+        yield f"it has other commands: {commands}"
     with tempfile.TemporaryDirectory() as work:
         start.copy_repository(copy := Path(work) / "copy")
         for command in commands:
-            if not {"rt", "cc"} & set(command.split()):
-                if not os.access(TOP / command.removeprefix("bash ").split()[0], os.X_OK):
-                    yield f"there is no {command}"
-                continue
-            where = copy if "cc" in command.split() else TOP
             if os.environ.get("BUILT") == "rt ci":
                 command = command.replace("rt run", "out/mh_show")
-            words = ["bash", "-c", command]
-            ran = subprocess.run(words, cwd=where, capture_output=True, text=True)
+            where = TOP if "crates" in command else copy
+            ran = subprocess.run(["bash", "-c", command], cwd=where, capture_output=True, text=True)
             if ran.returncode != 0 or not ran.stdout.startswith(shown):
-                printed = f"{ran.stdout!r}, {ran.stderr[-300:]!r}"
-                yield f"{command}: status {ran.returncode}, printed {printed}"
+                yield f"{command}: status {ran.returncode}, printed {ran.stdout!r}, {ran.stderr[-300:]!r}"
 
 
 def program_results(texts: Texts) -> Iterator[tap.Result]:
