@@ -2,12 +2,13 @@
 # Runs each program on input that it has to reject.
 # checks/lib/rejected.txt has the cases of crates/vectors: a line '== CASE FILE', followed by the text of the file
 # verdicts.tsv that it reads, or by what it must write to stdout or stderr. A file without such a line is empty.
-# The status must be 1.
+# Of stdout it has what is written for from_bytes, and so for from_value, and once for the readers of read and of
+# scale_decode. The status must be 1.
 # Runs mh_show on texts, on digests of each size, on the longest input, and on streams that fail.
 # Each program is built once, or used as 'rt ci' built it, if BUILT says so.
 # shellcheck source=checks/lib/tap.sh
 . "$(dirname "$0")/lib/tap.sh"
-plan 383
+plan 386
 crates=$PWD/crates
 
 # Builds a program, with cached proofs, and runs it on no input.
@@ -27,8 +28,22 @@ judge() {
   (cd "$work/room" && timeout 120 "$crates/vectors/out/vectors" < /dev/null > "$work/stdout" 2> "$work/all")
   status=$?
   head -n "$lines" "$work/all" > "$work/stderr"
-  [ "$status" = 1 ] && diff "$run.stdout" "$work/stdout" >&2 && diff "$run.stderr" "$work/stderr" >&2
+  agrees "$run" "$work" "$status"
   count $? "vectors $(basename "$run"): status $status"
+}
+
+# Compares what it wrote, and a status with 1.
+agrees() { [ "$3" = 1 ] && diff "$1.stdout" "$2/stdout" >&2 && diff "$1.stderr" "$2/stderr" >&2; }
+
+# Writes the lines for each call and reader.
+for_each() {
+  local call name
+  for call in from_bytes "read over the slice" "read, one byte a call" "read, two bytes a call" \
+    "read, three bytes a call" "scale_decode over the slice" "scale_decode, one byte a call" \
+    "scale_decode, four bytes a call" from_value; do
+    name=${call/from_value/from_bytes}
+    sed -n "s/^${name%%[ ,]*}: /$call: /p" "$1"
+  done
 }
 
 # Each malformed line is between two good lines of a list, whose replay must name it.
@@ -111,14 +126,26 @@ build mh_show
 mkdir "$work/vectors"
 awk -v to="$work/vectors" '/^== / { file = to "/" $2 "." $3; next } { print > file }' checks/lib/rejected.txt
 while read -r name; do
+  touch "$work/vectors/$name.stdout" && for_each "$work/vectors/$name.stdout" > "$work/each"
+  mv "$work/each" "$work/vectors/$name.stdout"
   judge "$work/vectors/$name"
 done < <(awk '/^== / { print $2 }' checks/lib/rejected.txt | sort -u)
 expect_malformed
 # Another output than the wanted one is seen.
-judge "$work/planted" 2> "$work/log" | grep -q "^not ok "
-count $? "a run without its output is seen"
-expect_show "code 0\nsize 1\ndigest 00\n0" 0000 | grep -q "^not ok "
-count $? "another output is seen"
+mkdir "$work/planted"
+touch "$work/none."{stdout,stderr} "$work/planted/"{stdout,stderr}
+agrees "$work/none" "$work/planted" 1 && ! agrees "$work/none" "$work/planted" 0
+count $? "another status is seen"
+for name in stdout stderr; do
+  echo more > "$work/planted/$name"
+  ! agrees "$work/none" "$work/planted" 1 2> "$work/log"
+  count $? "another $name is seen"
+  : > "$work/planted/$name"
+done
+for wanted in "code 0\nsize 1\ndigest 00\n0" "code 0\nsize 0\ndigest -\n1"; do
+  expect_show "$wanted" 0000 | grep -q "^not ok "
+  count $? "another output, or status, is seen"
+done
 expect_sizes 00 0 x
 expect_sizes 01 1 ""
 expect_sizes 12 18 x

@@ -13,14 +13,14 @@ import re
 import shutil
 import subprocess
 import sys
-from collections.abc import Iterator
+from collections.abc import Iterable, Iterator
 from concurrent.futures import ThreadPoolExecutor
 from pathlib import Path
 from typing import NamedTuple
 
 import edits
 import tap
-from rt_source import Item, Unread, items
+from rt_source import Item, items
 
 TOP = Path(__file__).resolve().parents[2]
 CRATE = "crates/multihash_c"
@@ -130,8 +130,6 @@ def of_crate(files: Files) -> Declared:
     exports = [item for item in every if "no_mangle" in item.attributes]
     [put_text] = [item.source for item in exports if item.name == "multihash_put_status_text"]
     texts = re.findall(r'(?:status::(\w+)|_) => put_text\(b"([^"]*)", out\)', put_text)
-    if len(texts) != put_text.count("=>"):
-        raise Unread("a text of a status")
     # the most bytes of a varint; a length that is accepted has two
     varint = int(group(r"\nmax_continuation = (\d+)\n", files["crates/multihash/specs/Varint.antt"])) + 1
     most = {"DIGEST_MAX": 255, "HEAD_MAX": 2 * varint, "LENGTH_MAX": varint + 2 + 255, "SCALE_LENGTH_MAX": 9 + 255}
@@ -171,37 +169,22 @@ def header_errors(header: str, crate: Declared, language: str) -> Iterator[str]:
         yield f"{language}: the crate has {crate.macros}, and the header {found}"
 
 
-def constants_of(files: Files, folder: str, names: list[str]) -> dict[str, str]:
-    """Returns the constants of these names in the files of a folder.
-
-    A value that is no number is an error.
-    """
-    one = "|".join(names)
-    form = rf"(?<![.\w])({one})(?:: *&?[\w' ]+)?(?: = |: )([^;\n]*);?(?: *(?:#|//)[^\n]*)?$"
-    loose = rf"(?<![.\w])(?:{one})\b *(?::[^=\n:]*)?=(?![=>])"
-    found: dict[str, str] = {}
-    for path, text in files.items():
-        if not path.startswith(folder):
-            continue
-        constants = re.findall(form, text, re.M)
-        is_unread = len(re.findall(loose, text)) > len(constants)
-        for name, value in constants:
-            is_unread |= not value.isdigit() or found.get(name, value) != value
-        if is_unread:
-            raise Unread(f"{path}: a constant is not read, or has two values: {constants}")
-        found |= dict(constants)
-    return found
+def constants_of(files: Files, folder: str, names: Iterable[str]) -> set[tuple[str, str]]:
+    """Returns the constants of these names in the files of a folder, with their values as they are written."""
+    form = rf"(?<![.\w])({'|'.join(names)})(?:: *&?[\w' ]+)?(?: = |: )([^;\n]*);?(?: *(?:#|//)[^\n]*)?$"
+    texts = (text for path, text in files.items() if path.startswith(folder))
+    return {constant for text in texts for constant in re.findall(form, text, re.M)}
 
 
 def binding_errors(files: Files, crate: Declared) -> Iterator[str]:
     numbers = {**crate.statuses, **crate.lengths}
     statuses = re.findall(r"'(\w+)'", group(r"\nconst STATUSES = \[([^\]]*)\];\n", files[f"{JS}/core.js"]))
-    of_script = {name.upper(): str(at) for at, name in enumerate(statuses)} | constants_of(files, JS, [*crate.lengths])
+    of_script = {(name.upper(), str(at)) for at, name in enumerate(statuses)} | constants_of(files, JS, crate.lengths)
     of_types = group(r"\nexport type Status =((?:\n  \|.*)+)", files[f"{JS}/index.d.ts"])
     for name, found, wanted in (
-        ("Rust's numbers", constants_of(files, RUST, [*numbers]), numbers),
-        ("Python's numbers", constants_of(files, PYTHON, [*numbers]), numbers),
-        ("JavaScript's numbers", of_script, numbers),
+        ("Rust's numbers", constants_of(files, RUST, numbers), {*numbers.items()}),
+        ("Python's numbers", constants_of(files, PYTHON, numbers), {*numbers.items()}),
+        ("JavaScript's numbers", of_script, {*numbers.items()}),
         ("TypeScript's statuses", re.findall(r"\| '(\w+)'", of_types), statuses[1:]),
         ("Rust's structs", structs_of(items(files[f"{RUST}/src/ffi.rs"])), crate.structs),
         ("Rust's version", group(r'\nversion = "(.*)"\n', files[f"{RUST}/Cargo.toml"]), crate.version),

@@ -28,6 +28,8 @@ abbrev pub most : ℕ
 most = 512
 """,
     "crates/small/proofs/Lib.antt": "mod SumVectors\n",
+    "crates/small/proofs/Examples/More.antt": "",
+    "crates/small/mutants/definitions.edits": "",
     "crates/small/proofs/SumVectors.antt": """\
 use Rattle.std.proofs.Common.{◌≡◌, refl}
 use Rattle.small.specs.Sum.{most}
@@ -72,6 +74,7 @@ weakened | result ≤ most  | n as u16 + 6 | n as u16 + 6  | n as u16 + 7     | 
 two      | result ≡ n + 3 | n as u16 + 3 | n as u16 + 3  | n as u16 + 600   | value | ['bound'
 other    | result ≡ n + 4 | n as u16 + 4 | n as u16 + 4  | n as u16 + 5     | bound | ['value']
 absent   | result ≡ n + 5 | n as u16 + 5 | n as u16 + 99 | n as u16         | value | 0 times
+twice    | result ≡ n + 8 | n as u16 + 8 | ensures bound | ensures next    | value | 9 times
 no_body  | result ≡ n + 7 | n as u16 + 7 | fn no_body(n  | fn no_body(m     | value | no one body
 """
 CASES = [Case(*map(str.strip, line.split("|"))) for line in TABLE.strip().splitlines()]
@@ -167,11 +170,16 @@ def results(root: Path) -> Iterator[tap.Result]:
     for words in (["init", "-q"], ["add", "crates"], [*AUTHOR, "commit", "-q", "-m", "small"]):
         subprocess.run(["git", *words], cwd=root, check=True)
     mutants.ROOT = root
-    for what, is_wanted in {"definitions as they were": False, "definitions that changed": True}.items():
-        is_tried = mutants.Options("", "HEAD", 1, False, []).tries_definitions("small")
-        yield what, "" if is_tried == is_wanted else f"whether they are tried: {is_tried}"
-        with (root / "crates/small/specs/Sum.antt").open("a") as specs:
-            specs.write("-- more\n")
+    options = mutants.Options("", "HEAD", 1, False, [])
+    yield "definitions as they were", "they are tried" if options.tries_definitions("small") else ""
+    for name in ("proofs/Examples/More.antt", "proofs/SumVectors.antt", "mutants/definitions.edits", "specs/Sum.antt"):
+        path = root / "crates/small" / name
+        before = path.read_text("utf-8")
+        path.write_text(f"{before}\n", "utf-8")
+        yield f"definitions: another {name}", "" if options.tries_definitions("small") else "they are not tried"
+        path.write_text(before, "utf-8")
+    path.write_text(f"{before}-- more\n", "utf-8")
+    (root / "crates/small/proofs/Examples/More.antt").unlink()  # no check reads it
     printed = start(root, "--since", "HEAD").communicate()[0]
     wanted = {case.name: case.reported for case in CASES} | {"less": "", "as_much": "no example"}
     wanted["unread.edits"] = "in no known form: olds"
