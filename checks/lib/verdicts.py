@@ -8,11 +8,11 @@ It computes them from the rules of docs/FORMAT.md by itself and calls nothing of
                                       capacity and the input are needed
 
 The inputs of the first lines came from outside. None is there twice with one capacity."""
+import difflib
 import hashlib
 import re
 import sys
 from collections.abc import Callable
-from itertools import zip_longest
 from pathlib import Path
 
 import tap
@@ -119,10 +119,10 @@ def made_of(stored: str) -> str:
 
 
 def error_of(stored: str) -> str:
-    """Returns the stored lines that differ, with what is made in their places."""
+    """Returns how the stored lines differ from those that are made."""
     try:
-        pairs = zip_longest(stored.splitlines(), made_of(stored).splitlines(), fillvalue="")
-        return "\n".join(f"{line}\n  made: {made}" for line, made in pairs if line != made)
+        made = made_of(stored).splitlines()
+        return "\n".join(difflib.unified_diff(stored.splitlines(), made, "stored", "made", lineterm="", n=0))
     except ValueError as error:
         return str(error)
 
