@@ -208,6 +208,8 @@ function errors(module) {
   }
   const others = [null, undefined, 3, {}, new Error('text'), new Error('text', { cause: { status: 'ok' } })];
   for (const value of others) same(module.MultihashError.from(value), undefined, 'from');
+  for (const status of ['ok', 'text', 1, undefined])
+    fails(TypeError, () => new module.MultihashError(status), 'no status of an error');
   for (const [code, text] of [[22, '22'], [2 ** 53 - 1, '9007199254740991'], [2n ** 53n, '"9007199254740992"']]) {
     const found = JSON.stringify({ found: [module.Multihash.of(code, Uint8Array.of(0, 171))] });
     same(found, `{"found":[{"code":${text},"size":2,"digest":"00ab"}]}`, 'a multihash in JSON');

@@ -46,6 +46,12 @@ def shown(number):
         return hex(number)
 
 
+def parameters_of(call):
+    """The parameters that a function shows; CPython 3.8 finds none of a class in C."""
+    is_found = call is not Multihash or sys.version_info > (3, 9)
+    return inspect.signature(call).parameters if is_found else dict.fromkeys(Multihash.__match_args__)
+
+
 def copies(value):
     """Copies, and what each protocol of pickle makes of a value."""
     return [copy.copy(value), copy.deepcopy(value), *(pickle.loads(pickle.dumps(value, n)) for n in range(6))]
@@ -415,10 +421,10 @@ class Names(unittest.TestCase):
         self.assertEqual(sorted(vm.__all__), sorted(public | constants))
         self.assertTrue(Path(vm.__file__).with_name("py.typed").exists())
         for call in (*NAMED_CALLS, vm.MultihashReader, vm.AsyncMultihashReader):
-            limit = inspect.signature(call).parameters.get("limit")
+            limit = parameters_of(call).get("limit")
             self.assertIn(limit and limit.default, (None, vm.DIGEST_MAX))
         for call, arguments in NAMED_CALLS.items():
-            names = list(inspect.signature(call).parameters)
+            names = list(parameters_of(call))
             by_name, by_position = call(**dict(zip(names, arguments))), call(*arguments)
             self.assertEqual((str(by_name), len(names)), (str(by_position), len(arguments)))
 
