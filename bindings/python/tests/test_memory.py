@@ -1,5 +1,6 @@
 """Calls whose allocations fail, one after the other, and calls that keep what they allocated."""
 import copy
+import functools
 import pickle
 import sys
 import unittest
@@ -14,43 +15,31 @@ try:
 except ImportError:
     set_nomemory = None
 
-DATA = bytes.fromhex("9210") + b"\x20" + bytes(range(32))
-VALUE = vm.decode(DATA)
+VALUE = Multihash(0x810, b"abc")
 OTHER = Multihash(1 << 62, bytes(255))
+LONG = bytes(1 << 10)
 
 
 class Named(Multihash):
     """A subclass, whose values have dictionaries."""
 
 
-CALLS = {
-    "decode": lambda: vm.decode(DATA),
-    "decode, another buffer": lambda: vm.decode(memoryview(DATA)),
-    "decode, an error": lambda: vm.decode(DATA[:9]),
-    "decode, trailing bytes": lambda: vm.decode(memoryview(bytes(1 << 10))),
-    "read": lambda: vm.read(bytearray(DATA), limit=64),
-    "read, an error": lambda: vm.read(DATA, 1 << 70)[0] == vm.read(DATA, 1),
-    "head": lambda: vm.head(DATA),
-    "head, an error": lambda: vm.head(b"\x80\x00"),
-    "scale_decode": lambda: vm.scale_decode(vm.scale_encode(VALUE.code, VALUE.digest)),
-    "scale_decode, an error": lambda: vm.scale_decode(bytes([255] * 9)),
-    "encode": lambda: vm.encode(1 << 62, memoryview(DATA)),
-    "encode, an error": lambda: vm.encode(1 << 100, b""),
-    "encode, a long digest": lambda: vm.encode(1, bytearray(1 << 10)),
-    "encoded_len": lambda: vm.encoded_len(1 << 62, 255),
-    "encoded_len, an error": lambda: vm.encoded_len(1, 1 << 100),
-    "encoded_len, a negative number": lambda: vm.encoded_len(1, -(1 << 100)),
-    "compare": lambda: vm.compare(VALUE, OTHER),
-    "compare, no value": lambda: vm.compare(VALUE, 1),
-    "Multihash": lambda: Multihash(code=1 << 62, digest=bytearray(b"abc")),
-    "Multihash, an error": lambda: Multihash(1 << 63, bytearray(b"abc")),
-    "Multihash, no code": lambda: Multihash("1", b""),
-    "Multihash, no digest": lambda: Multihash(1, 2),
-    "a subclass": lambda: Named(1 << 62, b"abc"),
-    "attributes": lambda: (OTHER.code, OTHER.digest, OTHER.hexdigest(), bytes(OTHER), repr(OTHER), hash(OTHER)),
-    "order": lambda: (VALUE == OTHER, VALUE < OTHER, VALUE == 1, VALUE == Named(VALUE.code, VALUE.digest)),
-    "pickle": lambda: pickle.loads(pickle.dumps(OTHER)),
-}
+def calls():
+    """Each function with right arguments, and with one that is wrong, too large, or another kind of buffer."""
+    in_c = {getattr(vm._core, call.__name__, None): arguments for call, arguments in NAMED_CALLS.items()}
+    for call, arguments in ((call, arguments) for call, arguments in in_c.items() if call):
+        yield call, arguments
+        for at, right in enumerate(arguments):
+            kinds = (bytearray(right), memoryview(right)) if isinstance(right, bytes) else ()
+            for other in (None, -(1 << 100), 1 << 70, LONG, bytearray(LONG), memoryview(LONG), *kinds):
+                yield call, [*arguments[:at], other, *arguments[at + 1 :]]
+
+
+CALLS = {str((call.__name__, each)): functools.partial(call, *each) for call, each in calls()}
+CALLS["a subclass"] = lambda: Named(1 << 62, b"abc")
+CALLS["values"] = lambda: (OTHER.code, OTHER.digest, OTHER.hexdigest(), bytes(OTHER), repr(OTHER), hash(OTHER))
+CALLS["order"] = lambda: (VALUE == OTHER, VALUE < OTHER, VALUE == 1, VALUE == Named(VALUE.code, VALUE.digest))
+CALLS["pickle"] = lambda: pickle.loads(pickle.dumps(OTHER))
 
 
 def result_of(call):
@@ -70,18 +59,17 @@ def result_of(call):
 class Memory(unittest.TestCase):
     @unittest.skipIf(set_nomemory is None, "_testcapi is not installed")
     def test_failing_allocations(self):
+        failed = 0
         for name, call in CALLS.items():
             with self.subTest(call=name):
-                wanted, failed = result_of(call), 0
+                wanted = result_of(call)
                 for number in range(300):
                     set_nomemory(number, number + 1)
                     found = result_of(call)
                     remove_mem_hooks()
-                    if found is MemoryError:
-                        failed += 1
-                    else:
-                        self.assertEqual(found, wanted)
-                self.assertEqual(failed > 0, name != "compare")
+                    failed += found is MemoryError
+                    self.assertIn(found, (MemoryError, wanted))
+        self.assertGreater(failed, len(CALLS))
 
     @unittest.skipIf(sys.getallocatedblocks() == 0, "PYTHONMALLOC is malloc, which counts no blocks")
     def test_no_block_is_kept(self):
