@@ -31,7 +31,7 @@ fn parts() {
     assert_eq!(multihash.to_bytes(), b"\x12\x03abc");
     assert_eq!(Vec::from(multihash), b"\x12\x03abc");
     assert_eq!(multihash.into_inner().1[..4], *b"abc\0");
-    assert_eq!(Multihash::<0>::default().to_bytes(), [0, 0]);
+    assert_eq!(Multihash::<3>::default().into_inner(), (0, [0; 3], 0));
     assert_eq!(Multihash::<0>::default(), Multihash::<64>::default());
     assert_eq!(size_of::<Multihash<64>>(), 80);
     assert_eq!(
@@ -39,7 +39,7 @@ fn parts() {
         "Multihash { code: 18, size: 2, digest: [0, 255, 0, 0] }"
     );
     #[allow(deprecated)] // earlier names
-    let earlier: multihash::Result<multihash::MultihashGeneric<64>> = Ok(multihash);
+    let earlier: multihash::Result<multihash::MultihashGeneric<64>> = Multihash::wrap(0x12, b"abc");
     assert_eq!(earlier.expect("a multihash"), multihash);
 }
 

@@ -91,7 +91,7 @@ impl Row<'_> {
             let mut cursor = io::Cursor::new(self.input);
             let found = owned(Multihash::<S>::read(&mut cursor as &mut dyn Read));
             assert_eq!((found, cursor.position()), (wanted.clone(), taken as u64));
-            let mut buffered = io::BufReader::with_capacity(3, &self.input[..]);
+            let mut buffered = io::BufReader::with_capacity(3, self.input);
             assert_eq!(owned(Multihash::<S>::read(&mut buffered)), wanted);
             assert_eq!(buffered.buffer().len() + buffered.get_ref().len(), self.input.len() - taken);
         }
