@@ -310,17 +310,15 @@ def share_errors(texts: Texts) -> Iterator[str]:
         if int(here) / int(tuned) > 1.05:
             shares.setdefault(case.split()[0], []).append(int(here) / int(tuned))
     page = texts[SPEED].partition("## Where the Rust crate needs fewer")[2]
-    rows = re.findall(r"^\| (`\w+`|others) \| (\d+) \| ([\d.]+) to ([\d.]+) \|", page, re.M)
-    if len(rows) < 7:
-        yield f"{SPEED} does not say of which calls"
+    rows = re.findall(r"^\| ([^|]+) \| (\d+) \| ([\d.]+) to ([\d.]+) \|", page, re.M)
     for name, count, low, high in rows:
         found = shares.get(name.strip("`"), [])
         off = [abs(float(low) - min(found)), abs(float(high) - max(found))] if found else [0.0]
-        if name != "others" and (len(found) != int(count) or max(off) > 0.0501):
+        if found and len(found) != int(count) or max(off) > 0.0501:
             yield f"{SPEED}: {name} has other shares"
-    said = f"In {sum(map(len, shares.values()))} of the "
-    if said not in page:
-        yield f"{SPEED} does not say: {said}"
+    total = sum(map(len, shares.values()))
+    if sum(int(row[1]) for row in rows) != total or f"In {total} of the " not in page:
+        yield f"{SPEED}: {total} cases have such shares"
 
 
 def status_errors(texts: Texts) -> Iterator[str]:
