@@ -74,8 +74,8 @@ NAMES_ELSEWHERE = {
     *"rc tests_ timingSafeEqual x86-64-v3".split(),
 }
 NAMES_IN_PROOFS = {"BTreeMap", "HashMap", "checker", "prog"}
-# a number from 10 on, or a version; files whose numbers pages state, and numbers from elsewhere
-NUMBER = re.compile(r"2\^\d+|(?<![\w.#^/-])(?:\d{2,}(?!\.?\d)|\d+\.\d+\.\d+|\d+\.\d{2})(?!\w)")
+# a number from 10 on that is not measured, or a version; files whose numbers pages state, and numbers from elsewhere
+NUMBER = re.compile(r"2\^\d+|(?<![\w.#^/-])(?:\d{2,}(?!\.?\d)|\d+\.\d+\.\d+|[1-9]\d*\.\d{2})(?!\w| %| .s\b| kB)")
 NUMBERED = (
     "bindings/c/include/multihash.h",
     "bindings/c/fuzz/test.sh",
@@ -92,9 +92,7 @@ NUMBERED = (
     "crates/vectors/src/check.rt",
 )
 NUMBERS_ELSEWHERE = {
-    *"9223372036854775808 127 129 17 72".split(),
-    *"0.25 0.75 1.22 1.48 37 46 62 67 8000".split(),
-    *"1.63 1.95 2.17 3.11 3.12 20 20.19 22.12".split(),
+    *"9223372036854775808 127 129 17 72 1.22 1.48 62 67 8000 1.63 1.95 2.17 3.11 3.12 20 20.19 22.12".split(),
 }
 Texts = dict[str, str]
 
