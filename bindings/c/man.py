@@ -1,7 +1,7 @@
 #!/usr/bin/env python3
 """Writes the man page multihash(3): the comments and declarations of multihash.h. Those of its functions include it.
 
-    bindings/c/man.py HEADER CHANGES OUT    CHANGES has the date of the page, OUT is the folder of the pages
+    man.py HEADER CHANGES OUT    CHANGES has the date of the page, OUT is the folder of the pages
 """
 from __future__ import annotations
 
@@ -12,7 +12,7 @@ import textwrap
 from pathlib import Path
 
 FUNCTION = r"/\*((?:(?!\*/).)*)\*/\n(?:static inline )?(const char \*|\w+ )(multihash_\w+)\(([^()]*)\)"
-STRUCT = r"/\*((?:(?!\*/).)*)\*/\n(typedef struct .*?\} \w+;)"
+TYPE = r"/\*((?:(?!\*/).)*)\*/\n(typedef (?:struct .*?\} |uint32_t )\w+;)"
 STATUS = r"/\*((?:(?!\*/).)*)\*/\s*(MULTIHASH_\w+) = \d+"
 CONSTANTS = r"/\*((?:(?!\*/).)*)\*/\n((?:#define MULTIHASH_\w+ [^\n]*\n)+)"
 
@@ -74,7 +74,7 @@ def page(header: str, changes: str) -> str:
         made += prototype(kind, name, parameters)
     [first] = re.findall(r"\A/\*(.*?)\*/", header, re.S)
     made += [".Sh DESCRIPTION", *paragraphs(first)[1:], ".Ss Types and constants"]
-    for comment, declaration in [*re.findall(STRUCT, header, re.S), *re.findall(CONSTANTS, header, re.S)]:
+    for comment, declaration in [*re.findall(TYPE, header, re.S), *re.findall(CONSTANTS, header, re.S)]:
         made += [text(plain(comment)), *literal(declaration), ".Pp"]
     del made[-1]
     for comment, _, name, _ in functions:
