@@ -18,8 +18,9 @@ size_t two_varints(const uint8_t *input, size_t length);
 void check_error(multihash_decoded found, multihash_status status, uint64_t size, size_t taken);
 void check_head(const uint8_t *input, size_t length, multihash_decoded read);
 void check_prefixes(const uint8_t *input, size_t length, multihash_decoded whole);
-void check_errors(void);
+void check_limit(void);
 void check_every_cut(void);
+void check_scale_cuts(void);
 
 /* encoding.c */
 void check_back(encoder encode, const uint8_t *input, multihash_decoded found);
