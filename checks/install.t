@@ -1,10 +1,10 @@
 #!/usr/bin/env bash
-# What CMake builds, installs and packs of the library for C.
+# What CMake builds, installs and packs of the library for C, and what is released.
 # That is its tests, its files, programs built against it, its man pages, the packages for Rust and for Debian, of the
 # archives, in an emulator for aarch64, and of the portable source.
 # shellcheck source=checks/lib/tap.sh
 . "$(dirname "$0")/lib/tap.sh"
-plan 30
+plan 28
 set -o pipefail
 # shellcheck source=checks/lib/proved.sh
 . checks/lib/proved.sh
@@ -13,8 +13,8 @@ header=$top/bindings/c/include/multihash.h
 version=$(sed -n 's/^#define MULTIHASH_VERSION "\([0-9.]*\)"$/\1/p' "$header")
 major=${version%%.*}
 expected=$top/crates/mh_show/stdout
-warnings=(-std=c11 -Wall -Wextra -Wpedantic -Wconversion -Wsign-conversion -Wshadow -Werror)
 prefix="$work/a prefix"
+export LC_ALL=C
 ulimit -c 0
 
 # ---- what is installed
@@ -42,31 +42,46 @@ files_in() {
     while read -r function; do echo "./share/man/man3/$function.3"; done
 }
 
-# The page has no link to what is not installed, and the changelog has the version.
+# The documents are the repository's, and the page has no link to what is not installed.
 has_documents() {
-  local document=$1/share/doc/multihash_c
-  cmp "$header" "$1/include/multihash.h" && grep -q "^$version (" "$document/changelog" &&
-    [ -s "$document/README.md" ] && ! grep -n '](\.*/' "$document/README.md"
+  local document=$1/share/doc/multihash_c name
+  cmp "$header" "$1/include/multihash.h" && cmp CHANGES "$document/changelog" && cmp LICENSE "$document/copyright" &&
+    cmp bindings/c/README.md "$document/README.md" && ! grep -n '](\.*/' "$document/README.md" &&
+    for name in "$document"/examples/*; do cmp "bindings/c/examples/${name##*/}" "$name" || return 1; done
+}
+
+# pkg-config finds the version, the header and the library, and names nothing more.
+has_flags() {
+  local -x PKG_CONFIG_PATH=$1/$2/pkgconfig
+  local flags
+  flags=$(pkg-config --cflags --libs multihash_c) && eval "flags=($flags)" && pkg-config --validate multihash_c &&
+    [ "$(pkg-config --modversion multihash_c) ${flags[2]} ${#flags[@]}" = "$version -lmultihash_c 3" ] &&
+    [ "${flags[0]#-I}" -ef "$1/include" ] && [ "${flags[1]#-L}" -ef "$1/$2" ]
 }
 
 # A shared library exports the functions of the header, each with its version of a map, whose versions have as many
 # functions as they say.
 exports_exactly() {
-  local -x LC_ALL=C
   awk '/^MULTIHASH_C/ { node = $1; left = $4 } /^    multihash_/ { sub(/;/, "", $1); print $1 "@@" node; left-- }
     /^}/ && left { print "another number of functions than it says: " node > "/dev/stderr"; exit 1 }' "$2" | sort \
     > "$work/versions" && sed 's/@.*//' "$work/versions" | diff <(checks/lib/header.py --exports) - &&
     readelf -W --dyn-syms "$1" | awk '$7 ~ /^[0-9]+$/ && $4 != "SECTION" { print $8 }' | sort | diff "$work/versions" -
 }
 
-# The shared library has its name, its exports, and read-only relocations.
-has_shared_library() {
-  local library=$1 name
+# A shared library has read-only relocations, a stack that is no code, and what the other words say.
+has_segments() {
+  local library=$1 text
   readelf -W -d -l "$library" > "$work/segments" || return 1
-  for name in "SONAME.*libmultihash_c.so.$major]" "NEEDED.*libc.so.6" BIND_NOW GNU_RELRO; do
-    grep -q "$name" "$work/segments" || { echo "not in the shared library: $name"; return 1; }
+  for text in BIND_NOW GNU_RELRO 'GNU_STACK.* RW  ' "${@:2}"; do
+    grep -q "$text" "$work/segments" || { echo "not in $library: $text"; return 1; }
   done
-  exports_exactly "$library" bindings/c/src/multihash_c.map
+}
+
+# The shared library has its name and its exports.
+has_shared_library() {
+  local library=$1
+  has_segments "$library" "SONAME.*libmultihash_c.so.$major]" "NEEDED.*libc.so.6" &&
+    exports_exactly "$library" bindings/c/src/multihash_c.map
 }
 
 # A prefix has what it should have, with that folder for libraries, and further files.
@@ -75,7 +90,7 @@ is_installed() {
   (cd "$to" && find . ! -type d | sort) > "$work/installed"
   files_in "$libdir" "${@:3}" | sort | diff - "$work/installed" || return 1
   find "$to" -xtype l | grep . && return 1
-  has_documents "$to" && has_shared_library "$to/$libdir/libmultihash_c.so" &&
+  has_documents "$to" && has_flags "$to" "$libdir" && has_shared_library "$to/$libdir/libmultihash_c.so" &&
     echo "$(wc -l < "$work/installed") files"
 }
 
@@ -102,18 +117,25 @@ installs_below() {
     installed_test "$work/below/opt/multihash"
 }
 
-# The package works where it was unpacked.
+# The package works where it was unpacked: also of another archive, and with another folder for libraries.
 packs() {
-  (cd "$work/built" && cpack -B "$work/packed") && mkdir "$work/un packed" &&
-    tar xf "$work"/packed/multihash_c-*.tar.gz -C "$work/un packed" --strip-components=1 &&
-    is_installed "$work/un packed" lib &&
-    installed_test "$work/un packed"
+  local name
+  build other -DMULTIHASH_C_ARCHIVE="$work/source/libmultihash_c.a" -DCMAKE_INSTALL_LIBDIR=lib/other || return 1
+  for name in built other; do
+    mkdir "$work/un packed $name" && (cd "$work/$name" && cpack -B "$work/$name/packed") &&
+      tar xf "$work/$name/packed/multihash_c-$version-$(uname -m).tar.gz" -C "$work/un packed $name" \
+        --strip-components=1 || return 1
+  done
+  cmp "$work/source/libmultihash_c.a" "$work/un packed other/lib/other/libmultihash_c.a" &&
+    is_installed "$work/un packed built" lib && installed_test "$work/un packed built" &&
+    is_installed "$work/un packed other" lib/other && installed_test "$work/un packed other"
 }
 
 # A copy of it whose header does not fit the library.
-plant_installed() {
-  cp -r "$work/un packed" "$work/planted" &&
-    sed -i 's/MULTIHASH_NOT_MINIMAL = 3/MULTIHASH_NOT_MINIMAL = 9/' "$work/planted/include/multihash.h"
+planted_installation() {
+  cp -r "$work/un packed built" "$work/planted" &&
+    sed -i 's/MULTIHASH_NOT_MINIMAL = 3/MULTIHASH_NOT_MINIMAL = 9/' "$work/planted/include/multihash.h" &&
+    installed_test "$work/planted"
 }
 
 # A map whose released version has a function more than it says.
@@ -137,45 +159,76 @@ test_installation() {
   try "a function in a released version" rejects "another number of functions than it says: MULTIHASH_C_1.0" \
     another_function
   try "installing below a folder" installs_below
+  try "the portable source" from_source
   try "packing" packs
-  try "a planted installation" plant_installed
-  try "the installed test of it" rejects "failed: static: a non-minimal varint" installed_test "$work/planted"
+  try "the installed test of a planted header" rejects "failed: static: a non-minimal varint" planted_installation
   try "the installed test of nothing" rejects "no multihash_c.pc" bindings/c/examples/test.sh "$work/none"
   try "an altered archive" altered_archive
 }
 
 # ---- programs
 
+# The example in a project that has the repository as a folder, which brings the library and nothing else.
+# shellcheck disable=SC2016
+by_subdirectory() {
+  local to=$work/folder
+  mkdir "$to" && printf '%s\n' 'cmake_minimum_required(VERSION 3.20)' 'project(example LANGUAGES C)' \
+    'enable_testing()' "add_subdirectory(\"$top\" multihash_c)" 'add_executable(show ${source})' \
+    'target_link_libraries(show multihash_c::static)' > "$to/CMakeLists.txt" &&
+    cmake -S "$to" -B "$to/build" -Dsource="$top/bindings/c/examples/show.c" -DMULTIHASH_C_SHARED=OFF \
+      -DCMAKE_BUILD_TYPE=Release -DCMAKE_INSTALL_PREFIX="$to/prefix" && cmake --build "$to/build" &&
+    cmake --install "$to/build" && "$to/build/show" | diff - "$expected" &&
+    ctest --test-dir "$to/build" 2>&1 | grep 'No tests were found' &&
+    (cd "$to/prefix" && find . ! -type d | sort) | diff <(files_in lib | grep -vE '/share/|\.so' | sort) -
+}
+
 # The example, built by CMake over what find_package finds, statically and not.
 # shellcheck disable=SC2016
 by_find_package() {
-  local to=$work/project kind
+  local to=$work/project kind other
   mkdir "$to" && printf '%s\n' 'cmake_minimum_required(VERSION 3.20)' 'project(example LANGUAGES C)' \
     "find_package(multihash_c ${version%.*} REQUIRED)" 'foreach(kind static shared)' \
     'add_executable(${kind} ${source})' \
     'target_link_libraries(${kind} multihash_c::${kind})' 'endforeach()' > "$to/CMakeLists.txt" &&
-    cmake -S "$to" -B "$to/build" -Dsource="$top/bindings/c/examples/show.c" -DCMAKE_PREFIX_PATH="$work/un packed" &&
-    cmake --build "$to/build" || return 1
+    cmake -S "$to" -B "$to/build" -Dsource="$top/bindings/c/examples/show.c" \
+      -DCMAKE_PREFIX_PATH="$work/un packed built" && cmake --build "$to/build" || return 1
   for kind in static shared; do "$to/build/$kind" | diff - "$expected" || return 1; done
-  sed -i "s/multihash_c ${version%.*}/multihash_c $((major + 1))/" "$to/CMakeLists.txt" &&
-    rejects "compatible with requested version" cmake -S "$to" -B "$to/build"
+  for other in $((major - 1)).9 "$major.99" $((major + 1)); do
+    sed -i "s/(multihash_c [0-9.]*/(multihash_c $other/" "$to/CMakeLists.txt" &&
+      rejects "compatible with requested version" cmake -S "$to" -B "$to/build" || return 1
+  done
 }
 
 # The example of bindings/c/README.md for Go, in a module of its own. cgo takes no prefix with a blank.
 in_go() {
   local lib=$work/go/lib
-  cp -r "$work/un packed" "$work/go" &&
+  cp -r "$work/un packed built" "$work/go" &&
     awk '$0 == "```go" { on = 1; next } on && /^```/ { exit } on' bindings/c/README.md > "$work/go/main.go" &&
     echo 'module example' > "$work/go/go.mod" &&
     (cd "$work/go" && PKG_CONFIG_PATH=$lib/pkgconfig LD_LIBRARY_PATH=$lib GOCACHE=$work/go.cache go run .) |
     grep -x 'code 18, digest abc'
 }
 
-pages() {
-  mandoc -T lint -W style "$prefix/share/man/man3/multihash.3" crates/mh_show/mh_show.1 || return 1
-  sed 's/^\.Sh NAME/.Sh NAMES/' crates/mh_show/mh_show.1 > "$work/planted.1"
-  rejects "NAMES" mandoc -T lint -W style "$work/planted.1"
+# Each page of a function is that of the library, which has each comment and each function of the header, and the date
+# of the version.
+man_pages() {
+  local name text page
+  mandoc -T lint -W style man3/multihash.3 "$top/crates/mh_show/mh_show.1" || return 1
+  page=$(mandoc -T utf8 man3/multihash.3 | sed 's/.\x08//g')
+  for name in man3/*; do mandoc -T utf8 "$name" | sed 's/.\x08//g' | diff - <(echo "$page") || return 1; done
+  page=$(tr -cd '[:alnum:]' <<< "$page")
+  while read -r text; do
+    [[ $page = *"$text"* ]] || { echo "not in the man page: $text"; return 1; }
+  done < <(date -d "$(sed -n "s/^$version (\(.*\))/\1/p" "$top/CHANGES")" '+%B%-d%Y'
+    perl -0777 -ne 'for (m{/\*(.*?)\*/}gs, m{^(?:static inline )?((?:const char \*|\w+ )multihash_\w+\([^()]*\))}gm) {
+      s/[^[:alnum:]]//g; print "$_\n" }' "$1")
 }
+
+pages() (
+  cd "$prefix/share/man" && man_pages "$header" || return 1
+  sed 's/-1 if the left one/-2 if the left one/' "$header" > "$work/planted.h"
+  rejects "not in the man page" man_pages "$work/planted.h"
+)
 
 crates=("/usr/share/cargo/registry/"{cc-1,pkg-config-0.3,serde_json-1}".*")
 # Runs a command of Cargo for the packages for Rust; what is set comes first.
@@ -193,6 +246,7 @@ rust_crate() {
 
 test_programs() {
   try "a project of CMake" by_find_package
+  try "a folder of a project of CMake" by_subdirectory
   has 1 go && try Go in_go
   has 1 mandoc && try "man pages" pages
   has 1 cargo "${crates[@]}" && try "the packages for Rust, as installed" rust_crate
@@ -201,23 +255,39 @@ test_programs() {
 # ---- packages for Debian
 
 debian=(dpkg-buildpackage dh lintian man)
-# Builds the packages for an architecture in a copy of what they are made of, after an edit of it. They have no errors
-# by lintian.
+# Builds the packages in a copy of what they are made of, after an edit of it. The tests pass, and lintian finds no
+# errors.
 build_packages() {
-  local architecture=$1 to=$work/debian-$2 from
-  mkdir -p "$to/source"/{bindings,crates/vectors} && from=$to/source && cp -r bindings/c "$from/bindings" &&
+  local to=$work/debian-$1 from=$work/debian-$1/source
+  mkdir -p "$from"/{bindings,crates/vectors} && cp -r bindings/c "$from/bindings" &&
     cp -r CHANGES CMakeLists.txt LICENSE bindings/c/debian "$from" &&
-    cp -r crates/vectors/data "$from/crates/vectors" &&
-    eval "${3-}" && (cd "$from" && dpkg-buildpackage -b -d -us -uc -a"$architecture") &&
-    lintian --allow-root --fail-on error "$to"/*.changes || return 1
-  mkdir "$to/root" && for package in "$to"/*.deb; do dpkg -x "$package" "$to/root" || return 1; done
+    cp -r crates/vectors/data "$from/crates/vectors" && eval "${2-}" &&
+    (cd "$from" && dpkg-buildpackage -b -d -us -uc) 2>&1 | tee "$to/log" &&
+    lintian --allow-root --fail-on error "$to"/*.changes && grep '100% tests passed.* out of 4' "$to/log"
 }
 
-# A package without the file that its licence demands.
-lints_planted() {
-  local to=$work/planted-package
-  dpkg-deb -R "$work"/debian-amd64/libmultihash-c1_*.deb "$to" && rm "$to/usr/share/doc/libmultihash-c1/copyright" &&
-    dpkg-deb --build --root-owner-group "$to" "$to.deb" && lintian --allow-root --fail-on error "$to.deb"
+# Only root owns what a listing of tar has, and others may read it, but not write.
+is_for_all() {
+  ! awk '{ print $1, $2 }' "$1" | grep -vxE '(-rw-r--r--|[-d]rwxr-xr-x|l.{9}) (root/root|0/0)'
+}
+
+# The packages of a folder for an architecture have what is installed, and no more: one what programs load, the other,
+# which needs it in this version, the rest; and the licence. They are unpacked together.
+has_packages() {
+  local architecture=$2 lib=lib/$3 package file
+  printf './%s\n' "$lib"/libmultihash_c.so.{"$major","$version"} \
+    share/doc/libmultihash-c1/{changelog{.Debian,}.gz,copyright} > "$work/files.c1"
+  files_in "$lib" share/doc/multihash_c/changelog.Debian | sed -E -e '/\.so\./d' -e 's/-release\./-none./' \
+    -e 's,doc/multihash_c/,doc/libmultihash-c-dev/,' -e 's/(\.3|\.md|changelog|\.Debian)$/&.gz/' > "$work/files.c-dev"
+  for package in c1 c-dev; do
+    file=$1/libmultihash-${package}_$version-1_$architecture.deb
+    dpkg -c "$file" > "$work/listed" && is_for_all "$work/listed" &&
+      awk '!/^d/ { sub(/\/usr/, "", $6); print $6 }' "$work/listed" | sort | diff <(sort "$work/files.$package") - &&
+      dpkg-deb -f "$file" Multi-Arch | grep -x same && dpkg -x "$file" "$work/root-$architecture" || return 1
+  done
+  dpkg-deb -f "$file" Depends | grep -F "libmultihash-c1 (= $version-1)" &&
+    tr -cd '[:alnum:]' < "$work/root-$architecture/usr/share/doc/libmultihash-c1/copyright" |
+    grep "$(sed 1,4d LICENSE | tr -cd '[:alnum:]')"
 }
 
 # A function that a later version brought: the map may say so, but Debian's list has to have that version.
@@ -226,63 +296,42 @@ later_function() {
   local edit='sed -i -e "/ multihash_head;/d" -e "s/# 12 f/# 11 f/" "$from"/bindings/c/src/multihash_c.map &&
     printf "MULTIHASH_C_1.1 { # 1 functions\n    multihash_head;\n} MULTIHASH_C_1.0;\n" >> \
       "$from"/bindings/c/src/multihash_c.map'
-  rejects "+ multihash_head@MULTIHASH_C_1.1" build_packages amd64 later "$edit" || return 1
+  rejects "+ multihash_head@MULTIHASH_C_1.1" build_packages later "$edit" || return 1
   local from=$work/debian-later/source
   exports_exactly "$from"/obj-*/libmultihash_c.so "$from/bindings/c/src/multihash_c.map"
 }
 
-# What the packages have works from where they were unpacked.
+# What the packages have works from where they were unpacked: both libraries, by a compiler and what runs its programs.
 try_packages() (
-  root=$work/debian-$1/root
+  root=$work/root-$1
   library=$root/usr/lib/$2
-  shift 2
+  compiler=$3
+  shift 3
   export PKG_CONFIG_SYSROOT_DIR=$root PKG_CONFIG_LIBDIR=$library/pkgconfig
-  flags=$(pkg-config --cflags --libs multihash_c) && eval "flags=($flags)" &&
-    "$1" bindings/c/examples/show.c "${flags[@]}" -L"$library" -o "$work/packaged" && shift &&
-    "$@" "$work/packaged" > "$work/shown" && diff "$work/shown" "$expected" &&
-    man -M "$root/usr/share/man" -w 3 multihash_encode
+  flags=$(pkg-config --cflags --libs multihash_c) && eval "flags=($flags)" || return 1
+  for option in -O2 -static; do
+    "$compiler" "$option" bindings/c/examples/show.c "${flags[@]}" -L"$library" -o "$work/packaged" &&
+      "$@" "$work/packaged" > "$work/shown" && diff "$work/shown" "$expected" || return 1
+  done
+  man -M "$root/usr/share/man" -w 3 multihash_encode
 )
 
 test_packages() {
   has 4 "${debian[@]}" || return
-  try "packages for amd64" build_packages amd64 amd64
-  try "a planted package" rejects "E: libmultihash-c1: no-copyright-file" lints_planted
+  try "building packages" build_packages amd64
   try "a function of a later version" later_function
+  try "packages for amd64" has_packages "$work/debian-amd64" amd64 x86_64-linux-gnu
   try "a program by the packages for amd64" try_packages amd64 x86_64-linux-gnu cc \
-    env LD_LIBRARY_PATH="$work/debian-amd64/root/usr/lib/x86_64-linux-gnu"
+    env LD_LIBRARY_PATH="$work/root-amd64/usr/lib/x86_64-linux-gnu"
 }
 
 # ---- aarch64, and the portable source
 
 emulator="qemu-aarch64 -L /usr/aarch64-linux-gnu"
 
-installs_aarch64() {
-  install_built arm && is_installed "$work/aarch64" lib &&
-    cmp bindings/c/prebuilt/aarch64/libmultihash_c.a "$work/aarch64/lib/libmultihash_c.a"
-}
-
 tested_on_aarch64() {
   local -x CC=aarch64-linux-gnu-gcc RUN=$emulator
-  installed_test "$work/aarch64"
-}
-
-fenced_on_aarch64() {
-  aarch64-linux-gnu-gcc "${warnings[@]}" -O2 -static bindings/c/tests/fenced.c -I "$work/aarch64/include" \
-    -L "$work/aarch64/lib" -lmultihash_c -o "$work/fenced" && qemu-aarch64 "$work/fenced" 2> "$work/signals"
-}
-
-test_aarch64() {
-  has 6 aarch64-linux-gnu-gcc qemu-aarch64 || return
-  try "aarch64: building" build arm -DCMAKE_TOOLCHAIN_FILE=bindings/c/aarch64.cmake \
-    -DCMAKE_INSTALL_PREFIX="$work/aarch64"
-  try "aarch64: installing" installs_aarch64
-  try "aarch64: the installed test" tested_on_aarch64
-  try "aarch64: fenced buffers" fenced_on_aarch64
-  has 2 "${debian[@]}" || return
-  try "packages for arm64" build_packages arm64 arm64
-  # shellcheck disable=SC2086
-  try "a program by the packages for arm64" try_packages arm64 aarch64-linux-gnu aarch64-linux-gnu-gcc \
-    $emulator -E LD_LIBRARY_PATH="$work/debian-arm64/root/usr/lib/aarch64-linux-gnu"
+  installed_test "$work/multihash_c-$version-aarch64"
 }
 
 from_source() {
@@ -290,11 +339,13 @@ from_source() {
     is_installed "$work/source.prefix" lib && installed_test "$work/source.prefix"
 }
 
-# Flags of a distribution reach the compiler and the linker, and hide no function of the shared library.
+# Flags of a distribution reach the compiler, before those of the build type, and the linker, and hide no function of
+# the shared library.
 with_flags() {
   local library=$work/flags/libmultihash_c.so object=CMakeFiles/multihash_c_objects.dir/bindings/c/src/multihash.c.o
   CFLAGS="-fvisibility=hidden -fcf-protection" LDFLAGS=-Wl,--build-id=0x01234567 cmake -S "$top" -B "$work/flags" \
-    -DMULTIHASH_C_ARCHIVE=OFF -DBUILD_TESTING=OFF && cmake --build "$work/flags" &&
+    -DMULTIHASH_C_ARCHIVE=OFF -DBUILD_TESTING=OFF &&
+    cmake --build "$work/flags" --verbose | grep -e '-fcf-protection -O3 -DNDEBUG' &&
     exports_exactly "$library" bindings/c/src/multihash_c.map && readelf -n "$library" |
     grep 'Build ID: 01234567' &&
     readelf -n "$work/flags/$object" | grep 'IBT, SHSTK'
@@ -307,44 +358,105 @@ build_for_level() {
   (cd "$crate" && rt lib "--cpu=x86-64-$1") && build "$1" -DMULTIHASH_C_ARCHIVE="$crate/out/libmultihash_c.a"
 }
 
-# A commit in which one byte of an archive differs is not released.
-changed_archive() {
-  local changed=$work/changed as=(-c user.name=tester -c user.email=tester)
-  git clone -q . "$changed" && printf x |
-    dd of="$changed/bindings/c/prebuilt/x86_64/libmultihash_c.a" bs=1 seek=9999 conv=notrunc status=none &&
-    git -C "$changed" "${as[@]}" commit -q -a -m changed &&
-    rejects "not that of prebuilt/SHA256SUMS" "$changed/tools/release" "$work/wrong"
-}
+# ---- a release
 
-# The bill of materials of a release has the checksum of each file.
+# The bill of materials has each file with its checksum, and what of the kit is in those that have some of it; relations
+# are between what it names.
 has_materials() {
-  local name sum
-  python3 -m json.tool "$1"/*.spdx.json > "$work/materials" || return 1
-  while read -r sum name; do
-    [[ $name = *.spdx.json ]] || grep -F -A 12 "\"name\": \"$name\"" "$work/materials" | grep -F "$sum" || return 1
-  done < "$1/SHA256SUMS"
+  python3 - "$1" << 'END'
+import hashlib, json, pathlib, sys
+
+[bill] = pathlib.Path(sys.argv[1]).glob("*.spdx.json")
+found = json.loads(bill.read_text())
+names = {each["SPDXID"]: each["name"] for each in found["packages"]}
+sums = {(each["name"], it["checksumValue"]) for each in found["packages"] for it in each.get("checksums", [])}
+files = [path for path in bill.parent.iterdir() if path.name not in (bill.name, "SHA256SUMS")]
+keys = "spdxElementId", "relationshipType", "relatedSpdxElement"
+related = [tuple(each[key] for key in keys) for each in found["relationships"]]
+made = {names[left] for left, kind, _ in related if kind == "GENERATED_FROM"}
+assert {(path.name, hashlib.sha256(path.read_bytes()).hexdigest()) for path in files} <= sums, "sums"
+assert {end for left, _, right in related for end in (left, right)} == {*names, "SPDXRef-DOCUMENT"}, "relations"
+assert {path.name for path in files} - made == {"multihash-0.19.5.crate", f"{names[related[0][2]]}.tar.gz"}, "made"
+END
 }
 
-# A release has the same bytes each time, and their checksums.
-release_twice() {
-  changed_archive && tools/release "$work/release" && (cd "$work/release" && sha256sum --quiet -c SHA256SUMS) &&
-    has_materials "$work/release" &&
-    tools/release "$work/again" && diff -r "$work/release" "$work/again" && find "$work/again" -type f | wc -l
+# Its files, of root and for all; the package for JavaScript has all but tests and times; the modules for Python are as
+# the shared libraries for C.
+has_files() (
+  printf '%s\n' SHA256SUMS "multihash-$version".{spdx.json,tar.gz} multihash-0.19.5.crate \
+    "multihash_c-$version"{-{aarch64,source,x86_64}.tar.gz,.crate} "verified-multihash-$version.tgz" \
+    libmultihash-c{1,-dev}_"$version"-1_{amd64,arm64}.deb \
+    "verified_multihash-$version"{.tar.gz,-cp38-abi3-manylinux2014_{aarch64,x86_64}.whl} | sort |
+    diff - <(ls "$1") || return 1
+  for name in "$1"/*.{crate,gz,tgz}; do tar --numeric-owner -tvf "$name"; done > "$work/listed"
+  tar -tf "$1/verified-multihash-$version.tgz" | sort |
+    diff <(git -C bindings/js ls-files | grep -vE '^(test/|demo/|beside_)|\.sh$' | sed 's,^,package/,' | sort) - ||
+    return 1
+  for name in "$1"/*.whl; do
+    python3 -m zipfile -e "$name" "$work/wheel" && has_segments "$work/wheel/verified_multihash/_core.abi3.so" &&
+      grep -x 'License: MIT' "$work"/wheel/*.dist-info/METADATA && rm -r "$work/wheel" || return 1
+  done
+  is_for_all "$work/listed" && cd "$1" && sha256sum --quiet -c SHA256SUMS &&
+    cut -c 67- SHA256SUMS | diff - <(ls -I SHA256SUMS)
+)
+
+# What the owner says of it is in the packages.
+has_owner() {
+  dpkg-deb -f "$1/libmultihash-c1_$version-1_arm64.deb" Maintainer Homepage | sed 's/^[^:]*: //' | cat - \
+    <(tar -xOf "$1/multihash_c-$version.crate" "multihash_c-$version/Cargo.toml" | grep '^repository') \
+    <(tar -xOf "$1/verified-multihash-$version.tgz" package/package.json | grep -o '"repository.*"') |
+    diff - <(printf '%s\n' 'A Tester <tester@forge.example>' https://forge.example/ \
+      'repository = "https://forge.example/multihash"' '"repository": "https://forge.example/multihash"')
+}
+
+# A release is made of the last commit, whose owner is another one here, and not of a commit in which one byte of an
+# archive differs. With all it has the same bytes in another run.
+releases() {
+  local from=$work/clone to=$work/release archive=bindings/c/prebuilt/x86_64/libmultihash_c.a architecture
+  local commit=(git -C "$work/clone" -c user.name=tester -c user.email=tester commit -q -a -m changed)
+  git clone -q . "$from" && printf '%s\n' 'maintainer=A Tester <tester@forge.example>' homepage=https://forge.example/ \
+    repository=https://forge.example/multihash > "$from/tools/owner" && "${commit[@]}" &&
+    printf x | dd of="$from/$archive" bs=1 seek=9999 conv=notrunc status=none && "${commit[@]}" &&
+    rejects "not that of prebuilt/SHA256SUMS" "$from/tools/release" "$work/wrong" &&
+    git -C "$from" reset -q --hard HEAD~ && echo changed >> "$from/CHANGES" &&
+    (umask 077 && "$from/tools/release" "$to") && has_files "$to" && has_materials "$to" && has_owner "$to" &&
+    mkdir "$work/head" && git -C "$from" archive HEAD | tar -x -C "$work/head" &&
+    tar -xf "$to/multihash-$version.tar.gz" -C "$work" &&
+    diff -r -x control -x changelog -x Cargo.toml -x package.json "$work/head" "$work/multihash-$version" || return 1
+  for architecture in x86_64 aarch64; do
+    tar -xf "$to/multihash_c-$version-$architecture.tar.gz" -C "$work" &&
+      is_installed "$work/multihash_c-$version-$architecture" lib &&
+      cmp {bindings/c/prebuilt/"$architecture","$work/multihash_c-$version-$architecture/lib"}/libmultihash_c.a ||
+      return 1
+  done
+  [ "${ALL-}" != 1 ] || { "$from/tools/release" "$work/again" && diff -r "$to" "$work/again"; }
+}
+
+test_release() {
+  has 4 aarch64-linux-gnu-gcc cargo npm qemu-aarch64 "${debian[@]}" "${crates[@]}" || return
+  try "a release" releases
+  try "the installed test of that for aarch64" tested_on_aarch64
+  try "packages for arm64" has_packages "$work/release" arm64 aarch64-linux-gnu
+  # shellcheck disable=SC2086
+  try "a program by the packages for arm64" try_packages arm64 aarch64-linux-gnu aarch64-linux-gnu-gcc \
+    $emulator -E LD_LIBRARY_PATH="$work/root-arm64/usr/lib/aarch64-linux-gnu"
 }
 
 test_more() {
-  with_all 4 || return
+  with_all 3 || return
   local name
   for name in v2 v3; do has 1 rt && try "x86_64-$name" build_for_level "$name"; done
-  has 1 arm-linux-gnueabihf-gcc "${debian[@]}" && try "packages for armhf" build_packages armhf armhf
-  has 1 aarch64-linux-gnu-gcc cargo npm "${debian[@]}" "${crates[@]}" && try "a release" release_twice
+  has 1 arm-linux-gnueabihf-gcc qemu-arm && try "armhf" build armhf -DCMAKE_SYSTEM_NAME=Linux \
+    -DCMAKE_SYSTEM_PROCESSOR=armv7l -DCMAKE_C_COMPILER=arm-linux-gnueabihf-gcc \
+    -DCMAKE_CROSSCOMPILING_EMULATOR="qemu-arm;-L;/usr/arm-linux-gnueabihf"
 }
 
-has 30 cc cmake python3 readelf pkg-config || exit 0
+has 28 cc cmake python3 readelf pkg-config || exit 0
 test_installation
 test_programs
 test_packages
-test_aarch64
-try "the portable source" from_source
+has 1 aarch64-linux-gnu-gcc qemu-aarch64 &&
+  try "building for aarch64" build arm -DCMAKE_TOOLCHAIN_FILE=bindings/c/aarch64.cmake
+test_release
 try "flags of a distribution" with_flags
 test_more
