@@ -21,15 +21,17 @@ rust_binding() {
 }
 
 # A clone without archives has the portable source, which another compiler can build too, also for a target without a
-# C library, for which Rust's core is not installed here.
+# C library, for which Rust's core is not installed here. A big-endian machine gets it too.
 rust_source() {
-  local folder=$work/repository target=thumbv7em-none-eabi
+  local folder=$work/repository target
   mv "$folder/bindings/c/prebuilt" "$work/kept" && in_crate cargo test && in_crate cargo clean -p multihash_c &&
     rejects "no-compiler" in_crate CC=no-compiler cargo build &&
     mv "$work/kept" "$folder/bindings/c/prebuilt" || return 1
   [ -n "$(type -P clang)" ] || return 0
-  rejects "can't find crate for \`core\`" in_crate CC=clang AR=ar cargo build -p multihash_c --no-default-features \
-    --target "$target" && [ -n "$(find "$work/target/$target" -name libmultihash_c.a)" ]
+  for target in thumbv7em-none-eabi aarch64_be-unknown-linux-gnu; do
+    rejects "can't find crate for \`core\`" in_crate CC=clang AR=ar cargo build -p multihash_c --no-default-features \
+      --target "$target" && [ -n "$(find "$work/target/$target" -name '*multihash.o')" ] || return 1
+  done
 }
 
 # What is packed needs no repository: it has the archives, and else the portable source.
@@ -41,7 +43,8 @@ rust_packed() {
   done
   printf '[workspace]\n[patch.crates-io]\nmultihash_c.path = "../multihash_c-%s"\n' "$version" \
     >> "$packed/multihash-0.19.5/Cargo.toml"
-  in_crate cargo test --manifest-path "$packed/multihash-0.19.5/Cargo.toml" &&
+  diff -r bindings/c/prebuilt "$packed/multihash_c-$version/prebuilt" &&
+    in_crate cargo test --manifest-path "$packed/multihash-0.19.5/Cargo.toml" &&
     rm -r "$packed/multihash_c-$version/prebuilt" &&
     in_crate cargo test --manifest-path "$packed/multihash-0.19.5/Cargo.toml"
 }
@@ -92,12 +95,13 @@ rust_lints() {
     in_crate cargo clippy --no-default-features --features alloc
 }
 
-# The archive is found in a directory of any name. A relative path is rejected, and a library that pkg-config does not
-# find.
+# The archive is found in a directory of any name, and missed once it is gone. A relative path is rejected, and a
+# library that pkg-config does not find.
 rust_build() {
   local directory=$work/$'a \xff directory'
   mkdir -p "$directory" && cp bindings/c/prebuilt/x86_64/libmultihash_c.a "$directory" &&
-    in_crate MULTIHASH_C_LIB_DIR="$directory" cargo test -p multihash_c &&
+    in_crate MULTIHASH_C_LIB_DIR="$directory" cargo test -p multihash_c && rm "$directory"/* &&
+    rejects "libmultihash_c.a: No such file" in_crate MULTIHASH_C_LIB_DIR="$directory" cargo build &&
     rejects "not an absolute path" in_crate MULTIHASH_C_LIB_DIR=prebuilt cargo build &&
     rejects "multihash_c >= 1.0" in_crate MULTIHASH_C_SYSTEM=1 PKG_CONFIG_LIBDIR="$work/none" cargo build
 }
