@@ -1,5 +1,4 @@
 pub mod BytesVectors
-pub mod EncodingVectors
 pub mod JsonVectors
 pub mod PairVectors
 pub mod ReadingVectors

@@ -1,19 +1,19 @@
 -- What failed calls consumed from known readers: what each part of a definition rejects by itself.
 use Rattle.std.proofs.Common.{◌≡◌, ◌<◌, ℕ, List, [], ◌∷◌, ◌++◌, length, drop, refl, sym, ap, ◌∙◌, arith, subst, inl, inr, append-nil}
 use Rattle.std.specs.Prelude.{⊤, Option, Some, None}
-use Rattle.multihash.specs.Varint.{VarintError, insufficient, overflow, not_minimal, IsVarint, IsInsufficient, BeginsMalformed, IsMalformed}
+use Rattle.multihash.specs.Varint.{VarintError, insufficient, overflow, not_minimal, IsInsufficient, BeginsMalformed}
 use Rattle.multihash.specs.Verdict.{Verdict, invalid_size, malformed, unexpected_eof, HasVerdict, IsIncomplete}
 use Rattle.multihash.specs.Settling.{IsShortestSettling}
 use Rattle.multihash.specs.Reading.{Consumes}
 use Rattle.multihash.specs.Fault.{IsUnexpectedEof}
 use Rattle.multihash.specs.Refusal.{Refusal, of_io, of_size, of_code, of_varint, of_not_bytes, IsVarintError, IsAnyVarintError, IsFrontError}
-use Rattle.multihash.specs.Consuming.{IsFrontErrorAt, IsHeadError, ConsumesVarint, ReadMayFailWith, ConsumesAtVarintError, ConsumesAtError, ConsumesShortestSettling, ConsumesNothingSettling, FailsBy, VarintFails, ExactFails}
-use Rattle.multihash.proofs.Varints.VarintLemmas.{front_unique, number, error, varint_unique}
+use Rattle.multihash.specs.Consuming.{IsFrontErrorAt, IsHeadError, ReadMayFailWith, ConsumesAtVarintError, ConsumesAtError, ConsumesShortestSettling, ConsumesNothingSettling, FailsBy, VarintFails, ExactFails}
+use Rattle.multihash.proofs.Varints.VarintLemmas.{front_unique, error}
 use Rattle.multihash.proofs.Readings.VerdictLemmas.{verdict_unique}
 use Rattle.multihash.proofs.Readings.SettlingLemmas.{shortest_unique, shortest_code_error}
 use Rattle.multihash.proofs.Examples.RefusalVectors.{other, eof}
 use Rattle.multihash.proofs.Examples.ReadingVectors.{told, taken_is}
-use Rattle.multihash.proofs.Examples.VarintVectors.{all_continuation, varint_5, not_another}
+use Rattle.multihash.proofs.Examples.VarintVectors.{all_continuation}
 use Rattle.multihash.proofs.Examples.VerdictVectors.{code_alone, size_above_limit, size_settles, shortest_of_size}
 
 -- ---- errors
@@ -56,22 +56,6 @@ read_rejects_only e (inl (size, is, large)) = subst ReadRejects (sym is) large
 read_rejects_only e (inr (inl (f, is))) = subst ReadRejects (sym is) tt
 read_rejects_only e (inr (inr (own, is, kind))) = subst ReadRejects (sym is) kind
 
--- ---- a varint that was consumed
-
-takes_no_other_varint : ¬ (ConsumesVarint 6 (Some (5 ∷ 9 ∷ [])) (Some (9 ∷ [])))
-takes_no_other_varint (bytes, is, consumes) =
-    not_another 6 5 (5 ∷ []) varint_5 (λ e. omega (arith, e))
-    (subst (IsVarint 6) (taken_is (5 ∷ []) (9 ∷ []) bytes consumes) is)
-
--- no more is consumed
-takes_varint_alone : ¬ (ConsumesVarint 5 (Some (5 ∷ 9 ∷ [])) (Some []))
-takes_varint_alone (bytes, is, consumes) =
-    omega (
-      arith,
-      ap (λ (z : List ℕ). length z) (varint_unique 5 bytes (5 ∷ []) is varint_5),
-      ap (λ (z : List ℕ). length z) (taken_is (5 ∷ 9 ∷ []) [] bytes consumes),
-    )
-
 -- ---- a rejected varint
 
 not_insufficient : ¬ (IsInsufficient (0x80 ∷ 0x00 ∷ []))
@@ -84,12 +68,6 @@ not_insufficient h =
 pub gives_none_back : (consumed : List ℕ) → ¬ (Consumes (Some []) consumed (Some (7 ∷ [])))
 gives_none_back [] h = omega (arith, ap (λ (o : Option (List ℕ)). length (told o)) h)
 gives_none_back (b ∷ consumed) h = omega (arith, ap (λ (o : Option (List ℕ)). length (told o)) h)
-
-begins_a_varint : ¬ (IsMalformed (5 ∷ []))
-begins_a_varint (f, has) =
-    let same : number 5 [] ≡ error f =
-    front_unique (5 ∷ []) (number 5 []) (error f) (5 ∷ [], varint_5, refl) has in
-    cc
 
 varint_takes_its_own : ¬ (ConsumesAtVarintError of_not_bytes (Some []) (Some (7 ∷ [])))
 varint_takes_its_own h = gives_none_back h.consumed h.consumes
@@ -198,30 +176,8 @@ shortest_of_padded S =
       has = padded_front [];
     })
 
--- all of an input that is insufficient
-abbrev pub ends_open : (input : List ℕ) → ((S : ℕ) → HasVerdict S input (malformed insufficient)) → IsHeadError input (of_varint insufficient) (length input)
-ends_open input has = record {
-  error = insufficient;
-  named = refl;
-  verdict = has;
-  within = omega arith;
-  settled = λ S late. absurd (late tt);
-  insufficient = λ same. omega arith;
-}
-
 pub not_cut : not_minimal ≡ insufficient → ⊥
 not_cut same = cc
-
--- the bytes up to the zero
-abbrev pub ends_padded : IsHeadError padded (of_varint not_minimal) 2
-ends_padded = record {
-  error = not_minimal;
-  named = refl;
-  verdict = λ S. inl (padded_front (0x07 ∷ []));
-  within = omega arith;
-  settled = λ S late. record { front = 0x80 ∷ 0x00 ∷ []; shortest = shortest_of_padded S; consumes = refl };
-  insufficient = λ same. absurd (not_cut same);
-}
 
 named_so : (f g : VarintError) → IsVarintError f (of_varint g) → f ≡ g
 named_so f g is = cc

@@ -1,38 +1,14 @@
--- Known pairs: their limits, truncation and order, and what hashing them feeds.
-use Rattle.std.proofs.Common.{◌≡◌, ℕ, List, [], ◌∷◌, ◌<◌, replicate, refl, arith, true, false}
+-- The order of known pairs, and what hashing one feeds.
+use Rattle.std.proofs.Common.{◌≡◌, ℕ, List, [], ◌∷◌, refl}
 use Rattle.std.specs.Prelude.{codes}
-use Rattle.std.proofs.lemmas.List.Elements.{All-head}
-use Rattle.multihash.specs.Pair.{Pair, IsPair, digest_limit, FitsBuffer, truncated}
-use Rattle.multihash.proofs.Examples.VarintVectors.{too_large}
+use Rattle.multihash.specs.Pair.{Pair}
 use Rattle.std.specs.declared.cmp.Ordering.{Ordering}
 use Rattle.std.specs.declared.cmp.Ordering.TheVariants.{Less, Equal, Greater}
 use Rattle.std.specs.Hash.{le_bytes}
-use Rattle.multihash.specs.Comparing.{equal_pairs, compare_pairs, hashed_pair}
+use Rattle.multihash.specs.Comparing.{compare_pairs, hashed_pair}
 
 abbrev pub pair : ℕ → List ℕ → Pair
 pair code digest = record { code = code; digest = digest }
-
-limits : (digest_limit 0 ≡ 0) × (digest_limit 64 ≡ 64) × (digest_limit 255 ≡ 255) × (digest_limit 300 ≡ 255)
-limits = (refl, refl, refl, refl)
-
-no_larger_code : (digest : List ℕ) → ¬ (IsPair (pair too_large digest))
-no_larger_code digest h = omega (arith, h.in_range)
-
-no_digest_of_256 : (code : ℕ) → ¬ (IsPair (pair code (256 ∷ [])))
-no_digest_of_256 code h = let small = All-head (λ byte. byte < 256) 256 [] h.are_bytes in omega (arith, small)
-
-fits_not : ¬ (FitsBuffer 4 (pair 0 (codes "abcde")))
-fits_not h = omega (arith, h)
-
--- however large the capacity, a digest has at most 255 bytes
-fits_never : ¬ (FitsBuffer 300 (pair 0 (replicate 256 0)))
-fits_never h = omega (arith, h)
-
-truncates : (truncated 3 (pair 7 (codes "foobar")) ≡ pair 7 (codes "foo")) × (truncated 0 (pair 7 (codes "foobar")) ≡ pair 7 [])
-    × (truncated 9 (pair 7 (codes "foobar")) ≡ pair 7 (codes "foobar"))
-truncates = (refl, refl, refl)
-
--- ---- order
 
 data Row : Type 0 where
   row : (p q : Pair) (o : Ordering) → compare_pairs p q ≡ o → Row
@@ -47,14 +23,6 @@ orders =
     row (pair 0 (codes "bz")) (pair 0 (codes "ca")) Less refl ∷
     row (pair 0 (codes "ab")) (pair 0 (codes "ab")) Equal refl ∷
     []
-
--- ---- equality
-
-equal_pairs_are : (equal_pairs (pair 7 (codes "ab")) (pair 7 (codes "ab")) ≡ true) × (equal_pairs (pair 7 (codes "ab")) (pair 8 (codes "ab")) ≡ false)
-    × (equal_pairs (pair 7 (codes "ab")) (pair 7 (codes "ac")) ≡ false) × (equal_pairs (pair 7 (codes "ab")) (pair 7 (codes "a")) ≡ false)
-equal_pairs_are = (refl, refl, refl, refl)
-
--- ---- hashing
 
 abbrev eight : ℕ → List ℕ
 eight n = n ∷ 0 ∷ 0 ∷ 0 ∷ 0 ∷ 0 ∷ 0 ∷ 0 ∷ []

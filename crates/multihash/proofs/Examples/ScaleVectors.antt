@@ -1,18 +1,16 @@
--- What each part of the SCALE form rejects by itself, and what a failed decoding consumed. The verdicts on
--- known inputs are seen by the test vectors of the crate `vectors`.
-use Rattle.std.proofs.Common.{◌≡◌, ℕ, List, [], ◌∷◌, ◌<◌, ◌++◌, ltb, true, length, refl, sym, subst, ap, ◌∙◌, arith, length-append, inl, inr}
+-- Known SCALE forms, and what a failed decoding consumed. Weaker parts of the form fail `scale_same` and
+-- `scale_verdict_unique`.
+use Rattle.std.proofs.Common.{◌≡◌, ℕ, List, [], ◌∷◌, ◌<◌, ◌++◌, ltb, true, length, refl, sym, subst, ap, arith, inl, inr}
 use Rattle.std.specs.Prelude.{Some}
 use Rattle.std.specs.List.{list_all}
-use Rattle.std.proofs.lemmas.List.Elements.{All-head}
 use Rattle.multihash.specs.Bytes.{place_value}
 use Rattle.multihash.specs.Pair.{Pair}
 use Rattle.multihash.specs.Verdict.{Verdict, accepted, invalid_size, invalid_code, unexpected_eof}
-use Rattle.multihash.specs.Scale.{IsScaleCode, IsScale, HasScaleSize, HasScaleVerdict, ScaleMayFailWith, ConsumesAtScaleError}
+use Rattle.multihash.specs.Scale.{IsScaleCode, IsScale, HasScaleVerdict, ScaleMayFailWith, ConsumesAtScaleError}
 use Rattle.multihash.proofs.Examples.BytesVectors.{all_below}
 use Rattle.multihash.proofs.Examples.PairVectors.{pair}
-use Rattle.multihash.proofs.Examples.VarintVectors.{largest, too_large}
+use Rattle.multihash.proofs.Examples.VarintVectors.{largest}
 use Rattle.multihash.proofs.Forms.ScaleLemmas.{scale_found, has_scale_found, scale_verdict_unique}
-use Rattle.multihash.proofs.Writings.EncodingLemmas.{same_cut}
 use Rattle.multihash.specs.Fault.{IsUnexpectedEof}
 use Rattle.multihash.specs.Refusal.{Refusal, of_io, of_size, of_code, of_varint, of_not_bytes}
 use Rattle.multihash.specs.Reading.{Consumes}
@@ -46,38 +44,9 @@ code_of_255 = record { eight = refl; are_bytes = all_below 256 all_255 refl; val
 pub scale_code_above : (rest : List ℕ) → HasScaleVerdict 4 (all_255 ++ rest) (invalid_code 18446744073709551615)
 scale_code_above rest = (all_255, rest, code_of_255, omega arith, refl)
 
--- ---- each part rejects by itself
-
+-- the one part that they do not need
 no_scale_of_256 : (p : Pair) (bytes : List ℕ) → length p.digest ≡ 256 → ¬ (IsScale p bytes)
 no_scale_of_256 p bytes size h = omega (arith, h.size)
-
-no_scale_of_larger_code : (digest bytes : List ℕ) → ¬ (IsScale (pair too_large digest) bytes)
-no_scale_of_larger_code digest bytes h = omega (arith, h.in_range)
-
-no_scale_size_after_larger_code : (size : ℕ) (rest : List ℕ) → ¬ (HasScaleSize size (all_255 ++ 0 ∷ []) rest)
-no_scale_size_after_larger_code size rest h =
-    let cut = same_cut h.code_bytes all_255 (size ∷ rest) (0 ∷ []) h.is_code.eight (sym h.cut) in
-    let code : h.code ≡ 18446744073709551615 = sym h.is_code.value ∙ (ap (place_value 256) cut.0 ∙ code_of_255.value) in
-    omega (arith, h.in_range, code)
-
-no_highest_first : ¬ (IsScaleCode 1 (0 ∷ 0 ∷ 0 ∷ 0 ∷ 0 ∷ 0 ∷ 0 ∷ 1 ∷ []))
-unfolding place_value
-no_highest_first h = omega (arith, h.value)
-
-no_number_above_255 : ¬ (IsScaleCode 256 (256 ∷ 0 ∷ 0 ∷ 0 ∷ 0 ∷ 0 ∷ 0 ∷ 0 ∷ []))
-no_number_above_255 h = omega (arith, All-head (λ byte. byte < 256) 256 (0 ∷ 0 ∷ 0 ∷ 0 ∷ 0 ∷ 0 ∷ 0 ∷ []) h.are_bytes)
-
-no_nine_bytes : (code : ℕ) → ¬ (IsScaleCode code (zeros ++ 0 ∷ []))
-no_nine_bytes code h = omega (arith, h.eight)
-
--- and the digest, with no byte after it
-no_byte_after : ¬ (IsScale (pair 0 []) (zeros ++ 0 ∷ 7 ∷ []))
-no_byte_after h =
-    omega (arith, ap (λ (z : List ℕ). length z) h.spelled, h.is_code.eight, length-append h.code (0 ∷ []))
-
-no_other_rest : ¬ (HasScaleSize 5 (zeros ++ 5 ∷ 7 ∷ []) [])
-no_other_rest h =
-    omega (arith, ap (λ (z : List ℕ). length z) h.cut, h.is_code.eight, length-append h.code_bytes (5 ∷ []))
 
 -- ---- errors
 

@@ -1,12 +1,8 @@
--- Concatenated encodings of known pairs, and what reading lists of multihashes consumed.
+-- What reading lists of multihashes consumed: what `read_list_of_encodings` does not need.
 use Rattle.std.proofs.Common.{◌≡◌, ℕ, List, [], ◌∷◌, length, refl, ap, ◌∙◌, arith, ◌<◌, ◌⊎◌, sym, subst, inl, inr, append-nil}
 use Rattle.std.specs.Prelude.{codes, Option, Some, None, IfSome}
 use Rattle.multihash.specs.Pair.{Pair, FitsBuffer}
-use Rattle.multihash.specs.Encoding.{IsEncoding}
-use Rattle.multihash.specs.Streams.{AreConcatenated, ConsumesPairs, StopsAfterPairs}
-use Rattle.multihash.proofs.Forms.StreamLemmas.{concatenated_whole, parts_same}
-use Rattle.multihash.proofs.Writings.EncodingLemmas.{encoding_same}
-use Rattle.multihash.proofs.Examples.VarintVectors.{varint_0, varint_1}
+use Rattle.multihash.specs.Streams.{ConsumesPairs, StopsAfterPairs}
 use Rattle.multihash.proofs.Examples.PairVectors.{pair}
 use Rattle.std.proofs.lemmas.List.Elements.{All-head, All-tail}
 use Rattle.multihash.specs.Varint.{insufficient}
@@ -24,59 +20,10 @@ use Rattle.multihash.proofs.Examples.ReadingVectors.{taken_is}
 use Rattle.multihash.proofs.Examples.VerdictVectors.{size_5, empty_digest}
 use Rattle.multihash.proofs.Examples.ConsumingVectors.{takes_no_byte_after_size}
 
-concatenated_one : AreConcatenated (pair 0 (codes "A") ∷ []) (0 ∷ 1 ∷ 65 ∷ [])
-concatenated_one = (
-  0 ∷ 1 ∷ 65 ∷ [],
-  [],
-  record { code = 0 ∷ []; size = 1 ∷ []; is_code = varint_0; is_size = varint_1; spelled = refl },
-  refl,
-  refl,
-)
-
-concatenated_two : AreConcatenated (pair 0 (codes "A") ∷ pair 1 (codes "B") ∷ [])
-    (0 ∷ 1 ∷ 65 ∷ 1 ∷ 1 ∷ 66 ∷ [])
-concatenated_two = (
-  0 ∷ 1 ∷ 65 ∷ [],
-  1 ∷ 1 ∷ 66 ∷ [],
-  record { code = 0 ∷ []; size = 1 ∷ []; is_code = varint_0; is_size = varint_1; spelled = refl },
-  (
-    1 ∷ 1 ∷ 66 ∷ [],
-    [],
-    record { code = 1 ∷ []; size = 1 ∷ []; is_code = varint_1; is_size = varint_1; spelled = refl },
-    refl,
-    refl,
-  ),
-  refl,
-)
-
-abbrev first_code : List Pair → ℕ
-first_code [] = 0
-first_code (p ∷ ps) = p.code
-
--- the order of the pairs counts
-not_concatenated_backwards : ¬ (AreConcatenated (pair 1 (codes "B") ∷ pair 0 (codes "A") ∷ []) (0 ∷ 1 ∷ 65 ∷ 1 ∷ 1 ∷ 66 ∷ []))
-not_concatenated_backwards h =
-    let same = concatenated_whole (pair 1 (codes "B") ∷ pair 0 (codes "A") ∷ []) (pair 0 (codes "A") ∷ pair 1 (codes "B") ∷ [])
-    (0 ∷ 1 ∷ 65 ∷ 1 ∷ 1 ∷ 66 ∷ []) h concatenated_two in
-    omega (arith, ap first_code same)
-
 abbrev a : Pair
 a = pair 0 (codes "A")
 
-abbrev b : Pair
-b = pair 1 (codes "B")
-
 -- ---- the pairs that were consumed
-
--- the pairs are those that the bytes encode, in their order
-takes_pairs_in_order : ¬
-    (ConsumesPairs 4 (b ∷ a ∷ []) (Some (0 ∷ 1 ∷ 65 ∷ 1 ∷ 1 ∷ 66 ∷ 7 ∷ [])) (Some (7 ∷ [])))
-takes_pairs_in_order h =
-    let is = taken_is (0 ∷ 1 ∷ 65 ∷ 1 ∷ 1 ∷ 66 ∷ []) (7 ∷ []) h.bytes h.consumes in
-    let same =
-    concatenated_whole (b ∷ a ∷ []) (a ∷ b ∷ []) (0 ∷ 1 ∷ 65 ∷ 1 ∷ 1 ∷ 66 ∷ [])
-    (subst (AreConcatenated (b ∷ a ∷ [])) is h.concatenated) concatenated_two in
-    omega (arith, ap first_code same)
 
 -- each pair fits, not the first alone
 takes_no_second_pair_that_fits_not : (old new : Option (List ℕ)) → ¬ (ConsumesPairs 1 (a ∷ pair 1 (codes "BB") ∷ []) old new)
@@ -85,16 +32,6 @@ takes_no_second_pair_that_fits_not old new h =
       arith,
       All-head (FitsBuffer 1) (pair 1 (codes "BB")) []
           (All-tail (FitsBuffer 1) a (pair 1 (codes "BB") ∷ []) h.fit),
-    )
-
--- nothing after the last is consumed
-takes_nothing_after_pairs : ¬ (ConsumesPairs 4 (a ∷ []) (Some (0 ∷ 1 ∷ 65 ∷ 7 ∷ [])) (Some []))
-takes_nothing_after_pairs h =
-    omega (
-      arith,
-      ap (λ (z : List ℕ). length z)
-          (parts_same IsEncoding encoding_same (a ∷ []) h.bytes (0 ∷ 1 ∷ 65 ∷ []) h.concatenated concatenated_one),
-      ap (λ (z : List ℕ). length z) (taken_is (0 ∷ 1 ∷ 65 ∷ 7 ∷ []) [] h.bytes h.consumes),
     )
 
 -- ---- a list that was rejected at its first pair
