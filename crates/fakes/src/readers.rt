@@ -88,8 +88,7 @@ impl Read for Silent<'_> {
     }
 }
 
-/// A reader of a slice with known input, which counts its calls. It may fail once, after `calls` successful
-/// calls of either kind, with an error of its own.
+/// A reader of a slice with known input, which counts its calls.
 #[derive(Drop)]
 pub struct Counts<'a> {
     pub left: &'a [u8],
@@ -99,9 +98,6 @@ pub struct Counts<'a> {
     pub others: usize,
     /// The calls of `read_exact`.
     pub whole: usize,
-    calls: usize,
-    why: ErrorKind,
-    may_fail: bool,
 }
 
 impl<'a> Counts<'a> {
@@ -111,18 +107,7 @@ impl<'a> Counts<'a> {
             single: 0,
             others: 0,
             whole: 0,
-            calls: 0,
-            why: ErrorKind::LINK_DOWN,
-            may_fail: false,
         }
-    }
-
-    pub fn failing(left: &'a [u8], calls: usize, why: ErrorKind) -> Self {
-        let mut counts = Counts::new(left);
-        counts.calls = calls;
-        counts.why = why;
-        counts.may_fail = true;
-        counts
     }
 
     /// The calls of `read` for one byte, those for more or none, and those of `read_exact`.
@@ -134,7 +119,7 @@ impl<'a> Counts<'a> {
 impl Read for Counts<'_> {
     ghost rest = { λ c. Some c.left.now };
 
-    ghost failures = { λ c. (if c.may_fail then 0 else 1) };
+    ghost failures = { λ _. 0 };
 
     fn read(&mut self, buf: &mut [u8]) -> Result<usize, Error> {
         if buf.len() == 1 {
@@ -142,23 +127,11 @@ impl Read for Counts<'_> {
         } else {
             self.others = self.others.saturating_add(1);
         }
-        if self.calls > 0 {
-            self.calls -= 1;
-        } else if self.may_fail {
-            self.may_fail = false;
-            return Err(own_error(self.why));
-        }
         self.left.read(buf)
     }
 
     fn read_exact(&mut self, buf: &mut [u8]) -> Result<(), Error> {
         self.whole = self.whole.saturating_add(1);
-        if self.calls > 0 {
-            self.calls -= 1;
-        } else if self.may_fail && !buf.is_empty() {
-            self.may_fail = false;
-            return Err(own_error(self.why));
-        }
         self.left.read_exact(buf)
     }
 }

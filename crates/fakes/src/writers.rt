@@ -109,8 +109,7 @@ impl Write for FailWrite {
     }
 }
 
-/// A vector as a writer that counts its calls. It may fail once, after `calls` successful calls of either
-/// kind, with an error of its own.
+/// A vector as a writer that counts its calls.
 #[derive(Drop)]
 pub struct CountsWrites {
     pub held: Vec<u8>,
@@ -118,9 +117,6 @@ pub struct CountsWrites {
     pub parts: usize,
     /// The calls of `write_all`.
     pub whole: usize,
-    calls: usize,
-    why: ErrorKind,
-    may_fail: bool,
 }
 
 impl CountsWrites {
@@ -129,18 +125,7 @@ impl CountsWrites {
             held: Vec::new(alloc),
             parts: 0,
             whole: 0,
-            calls: 0,
-            why: ErrorKind::DISK_GONE,
-            may_fail: false,
         }
-    }
-
-    pub fn failing(alloc: Global, calls: usize, why: ErrorKind) -> Self {
-        let mut counts = CountsWrites::new(alloc);
-        counts.calls = calls;
-        counts.why = why;
-        counts.may_fail = true;
-        counts
     }
 }
 
@@ -153,7 +138,7 @@ impl Write for CountsWrites {
 
     ghost full = { λ _. ⊥ };
 
-    ghost failures = { λ w. (if w.may_fail then 0 else 1) };
+    ghost failures = { λ _. 0 };
 
     ghost appends_nothing = { λ w. AppendsAtEnd-none w.held.items };
 
@@ -162,23 +147,11 @@ impl Write for CountsWrites {
 
     fn write(&mut self, buf: &[u8]) -> Result<usize, Error> {
         self.parts = self.parts.saturating_add(1);
-        if self.calls > 0 {
-            self.calls -= 1;
-        } else if self.may_fail {
-            self.may_fail = false;
-            return Err(own_error(self.why));
-        }
         self.held.write(buf)
     }
 
     fn write_all(&mut self, buf: &[u8]) -> Result<(), Error> {
         self.whole = self.whole.saturating_add(1);
-        if self.calls > 0 {
-            self.calls -= 1;
-        } else if self.may_fail && !buf.is_empty() {
-            self.may_fail = false;
-            return Err(own_error(self.why));
-        }
         self.held.write_all(buf)
     }
 }

@@ -3,8 +3,8 @@ use fakes::{check, check_eq, expect_bytes, expect_ok};
 use multihash::Multihash;
 use std::alloc::Global;
 use std::process::Abort;
-use storage::content::{SHA2_256, UnknownCode, hash_of, verify};
-use storage::merkle::{Step, leaf_node, parent, root_and_path, verify_path};
+use storage::content::{SHA2_256, hash_of};
+use storage::merkle::{leaf_node, parent, root_and_path, verify_path};
 
 // SHA-256 of `abc`, from FIPS 180-4.
 const ABC: [u8; 32] = [
@@ -32,16 +32,6 @@ fn hash_of_abc(rt: HostRuntime) {
     check!(&rt; hash_of::<255>(b"abc").same_as(&hash));
 }
 
-#[test]
-fn verify_abc(rt: HostRuntime) {
-    let hash = expect_ok!(&rt; Multihash::<64>::wrap(SHA2_256, &ABC));
-    check_eq!(&rt; verify(&hash, b"abc"), Ok(true));
-    check_eq!(&rt; verify(&hash, b"abd"), Ok(false));
-    check_eq!(&rt; verify(&hash.truncate(31), b"abc"), Ok(false));
-    let other = expect_ok!(&rt; Multihash::<32>::wrap(0x13, &ABC));
-    check_eq!(&rt; verify(&other, b"abc"), Err(UnknownCode { code: 0x13 }));
-}
-
 fn expect_root(rt: &impl Abort, alloc: Global, leaves: &[Multihash<32>]) {
     assert!(rt; leaves.len() == 3);
     let (root, path) = expect_ok!(rt; root_and_path(alloc, leaves, 2));
@@ -56,48 +46,6 @@ fn known_tree(rt: HostRuntime) {
         &PARENT,
     );
     expect_root(&rt, rt.alloc(), &[a, b, hash_of(b"c")]);
-}
-
-// The path leads from this leaf to the root, and from no other; and no step can be another.
-fn expect_path(rt: &impl Abort, alloc: Global, leaves: &[Multihash<32>], index: usize) {
-    let Some(leaf) = leaves.get(index) else {
-        return;
-    };
-    let (root, mut path) = expect_ok!(rt; root_and_path(alloc, leaves, index));
-    for (i, other) in leaves.iter().enumerate() {
-        check_eq!(rt; verify_path(other, &path, &root), i == index, (i, index));
-    }
-    expect_steps(rt, leaf, &mut path, &root);
-    check!(rt; verify_path(leaf, &path, &root));
-    // The node above the leaf is no leaf.
-    if let [first, above @ ..] = path.as_slice() {
-        let inner = first.above(&leaf_node(leaf));
-        check!(rt; !verify_path(&inner, above, &root), index);
-    }
-}
-
-// No step can be of the other side, or have a shorter sibling.
-fn expect_steps(rt: &impl Abort, leaf: &Multihash<32>, path: &mut [Step], root: &Multihash<32>) {
-    for i in 0..path.len() {
-        let step = path[i];
-        path[i].is_left = !step.is_left;
-        check!(rt; !verify_path(leaf, path, root), i);
-        path[i].is_left = step.is_left;
-        path[i].sibling = step.sibling.truncate(31);
-        check!(rt; !verify_path(leaf, path, root), i);
-        path[i] = step;
-    }
-}
-
-#[test]
-fn paths_from_each_leaf(rt: HostRuntime) {
-    let blocks: [&[u8]; 5] = [b"a", b"b", b"c", b"d", b"e"];
-    let leaves = blocks.map(|block| hash_of(block));
-    for count in 1..=leaves.len() {
-        for index in 0..count {
-            expect_path(&rt, rt.alloc(), &leaves[..count], index);
-        }
-    }
 }
 
 // Memory is available for trees of more than sixteen leaves.

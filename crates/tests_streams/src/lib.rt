@@ -7,13 +7,9 @@ mod content;
 #[cfg(test)]
 mod doubles;
 #[cfg(test)]
-mod headline;
-#[cfg(test)]
 mod list;
 #[cfg(test)]
 mod no_std_io;
-#[cfg(test)]
-mod retries;
 #[cfg(test)]
 mod stored;
 #[cfg(test)]

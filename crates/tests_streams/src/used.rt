@@ -1,14 +1,18 @@
-//! That the calls of `examples` succeed, for long inputs too, and what they print.
+//! That the calls of `examples` succeed, for long inputs too, how often they call a reader, and that they print
+//! their errors. What they return is stated by their contracts, but for `StdReader`, whose input is not known.
 use examples::any_reader::read_up_to;
-use examples::content_id::{ContentId, ContentIdError};
+use examples::content_id::ContentIdError;
 use examples::forms::{json, scale, there_and_back};
+use examples::headline::{list_through, same};
 use examples::merkle::through;
-use examples::section::{read_section, section_front};
-use examples::slices::encode_into;
+use examples::retries::Retries;
+use examples::section::section_front;
+use examples::std_reader::StdReader;
 use fakes::error_kind::ErrorKind;
-use fakes::readers::Cuts;
-use fakes::{check, check_eq, expect_bytes, expect_ok};
-use multihash::Multihash;
+use fakes::readers::{Cuts, FailAt};
+use fakes::{check, check_eq, expect_bytes, expect_ok, expect_rejected};
+use multihash::no_std_io::Read;
+use multihash::{Multihash, varint};
 use std::alloc::Global;
 use std::process::Abort;
 
@@ -20,15 +24,19 @@ const SECTION: [u8; 41] = [
     0x7b, 0x9a, 0xf0, 0xb4, 97, 97, 97, 97,
 ];
 
-// The bytes after those that are written are unchanged.
 #[test]
-fn an_encoding_goes_into_a_slice(rt: HostRuntime) {
+fn a_section_is_read(rt: HostRuntime) {
     let rt = &rt;
-    let multihash = expect_ok!(rt; Multihash::<4>::wrap(300, &[7, 8, 9]));
-    let mut buffer = [1u8; 8];
-    check_eq!(rt; encode_into(&multihash, &mut buffer), Some(6));
-    expect_bytes!(rt; &buffer, &[0xac, 0x02, 3, 7, 8, 9, 1, 1]);
-    check_eq!(rt; encode_into(&multihash, &mut buffer[..5]), None);
+    let mut bytes = [0u8; 36];
+    match section_front::<32>(&SECTION) {
+        Ok(Some((id, data, rest))) => {
+            expect_ok!(rt; id.write(&mut bytes.as_mut_slice()));
+            expect_bytes!(rt; data, b"aaaa");
+            check!(rt; rest.is_empty());
+        }
+        _ => check!(rt; false),
+    }
+    expect_bytes!(rt; &bytes, &SECTION[1..37]);
 }
 
 #[test]
@@ -45,22 +53,20 @@ fn each_form_is_made_and_read(rt: HostRuntime) {
 fn expect_memory(rt: &impl Abort, alloc: Global, items: &[Multihash<4>], input: &[u8]) {
     let back = through::<4, 4, _, _>(alloc, items, &[], &mut Vec::new(alloc), &mut { input });
     check!(rt; expect_ok!(rt; back).as_slice() == items);
+    let back = list_through::<4, 4, _, _>(alloc, items, &mut Vec::new(alloc), &mut { input });
+    check!(rt; expect_ok!(rt; back).as_slice() == items);
+    if let [first, second, ..] = items {
+        check!(rt; expect_ok!(rt; same(alloc, first, second)).same);
+    }
 }
 
 fn expect_items(rt: &impl Abort, alloc: Global, count: usize) {
-    let mut input = expect_ok!(rt; vec![in alloc; 0u8; count.saturating_mul(2)]);
-    let mut left = input.as_slice();
-    let items = expect_ok!(rt; read_up_to::<4, _>(alloc, &mut left, usize::MAX));
-    check_eq!(rt; (items.len(), left.len()), (count, 0));
+    let input = expect_ok!(rt; vec![in alloc; 0u8; count.saturating_mul(2)]);
+    let items = expect_ok!(rt; read_up_to::<4, _>(alloc, &mut input.as_slice(), usize::MAX));
+    check_eq!(rt; items.len(), count);
     // Its vector doubles.
     check!(rt; count < 1000 || items.capacity() > count);
     expect_memory(rt, alloc, &items, &input);
-    expect_ok!(rt; input.push(128));
-    let mut left = input.as_slice();
-    check!(rt; read_up_to::<4, _>(alloc, &mut left, usize::MAX).is_err());
-    let mut left = input.as_slice();
-    let items = expect_ok!(rt; read_up_to::<4, _>(alloc, &mut left, count));
-    check_eq!(rt; (items.len(), left.len()), (count, 1));
 }
 
 #[test]
@@ -70,50 +76,53 @@ fn streams_of_each_length_are_read(rt: HostRuntime) {
     }
 }
 
-fn expect_content(rt: &impl Abort, id: &ContentId<32>) {
-    let mut bytes = [0u8; 36];
-    expect_ok!(rt; id.write(&mut bytes.as_mut_slice()));
-    expect_bytes!(rt; &bytes, &SECTION[1..37]);
+#[test]
+fn each_number_of_an_identifier_is_printed(rt: HostRuntime) {
+    for bit in 0..64u32 {
+        let number = 1u64 << bit;
+        expect_ok!(&rt; format!(in rt.alloc(); "{}", ContentIdError::OtherVersion(number)));
+        expect_ok!(&rt; format!(in rt.alloc(); "{}", ContentIdError::Trailing(1usize << bit)));
+    }
 }
 
-fn section_error(bytes: &[u8]) -> Option<ErrorKind> {
-    match section_front::<32>(bytes) {
-        Err(ContentIdError::Rejected(e)) => ErrorKind::of(&e),
-        _ => None,
+// Each failure costs a try, and a call reads 64 bytes at most.
+#[test]
+fn a_reader_is_called_again(rt: HostRuntime) {
+    let rt = &rt;
+    let mut stream = [7u8; 102];
+    stream[1] = 100;
+    for calls in 0..4 {
+        let inner = FailAt::new(Cuts::new(&stream, 200), calls, ErrorKind::LINK_DOWN);
+        let mut again = Retries::new(inner, 2);
+        expect_ok!(rt; Multihash::<100>::read(&mut again));
+        check_eq!(rt; (again.tries(), again.reader.asked), (1, 5), calls);
+    }
+}
+
+// (0, `A`) and (18, `B`).
+const STREAM: [u8; 6] = [0, 1, 65, 18, 1, 66];
+
+#[derive(Drop)]
+struct Broken;
+
+impl std::io::Read for Broken {
+    fn read(&mut self, _buf: &mut [u8]) -> std::io::Result<usize> {
+        Err(std::io::ErrorKind::Other.into())
     }
 }
 
 #[test]
-fn a_section_is_read(rt: HostRuntime) {
+fn a_stream_of_std_is_read(rt: HostRuntime) {
     let rt = &rt;
-    let mut reader = Cuts::new(&SECTION, 1);
-    let next = expect_ok!(rt; read_section::<32, _>(&mut reader));
-    let (id, len) = expect_ok!(rt; next);
-    expect_content(rt, &id);
-    check_eq!(rt; (len, reader.left.len()), (4, 4));
-    match section_front::<32>(&SECTION) {
-        Ok(Some((id, data, rest))) => {
-            expect_content(rt, &id);
-            expect_bytes!(rt; data, b"aaaa");
-            check!(rt; matches!(section_front::<32>(rest), Ok(None)));
-        }
-        _ => check!(rt; false),
+    let mut reader = StdReader::new(STREAM.as_slice());
+    for (code, digest) in [(0, b"A"), (18, b"B")] {
+        let wanted = expect_ok!(rt; Multihash::<4>::wrap(code, digest));
+        check_eq!(rt; expect_ok!(rt; Multihash::<4>::read_next(&mut reader)), Some(wanted));
     }
-    let mut short = SECTION;
-    short[0] = 35;
-    let text = ErrorKind::Other("the identifier is longer than its section");
-    check_eq!(rt; section_error(&short), Some(text));
-    check_eq!(rt; section_error(&SECTION[..40]), Some(ErrorKind::UnexpectedEof));
-    check_eq!(rt; section_error(&SECTION[..4]), Some(ErrorKind::Insufficient));
-}
-
-#[test]
-fn each_number_of_trailing_bytes_is_reported(rt: HostRuntime) {
-    let rt = &rt;
-    let alloc = rt.alloc();
-    for n in (0..200).chain([1 << 20, usize::MAX]) {
-        let text = expect_ok!(rt; format!(in alloc; "{}", ContentIdError::Trailing(n)));
-        let wanted = expect_ok!(rt; format!(in alloc; "{n} bytes after a content identifier"));
-        check_eq!(rt; text.as_str(), wanted.as_str());
-    }
+    check!(rt; expect_ok!(rt; Multihash::<4>::read_next(&mut reader)).is_none());
+    check!(rt; expect_ok!(rt; varint::read_next(&mut reader)).is_none());
+    let failed = Multihash::<4>::read(&mut StdReader::new(Broken));
+    expect_rejected!(rt; &failed, ErrorKind::Other("not read"), "a failing reader");
+    let mut reader = StdReader::new([7; 64].as_slice());
+    check_eq!(rt; expect_ok!(rt; reader.read(&mut [0; 64])), 64);
 }

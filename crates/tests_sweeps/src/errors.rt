@@ -4,8 +4,8 @@ ghost use Rattle.std.specs.Prelude.{◌<◌, ◌^◌};
 
 use fakes::error_kind::{ErrorKind, is_failed};
 use fakes::forms::{CASES, Code, Form, LENGTHS, case, different, many};
-use fakes::readers::{Counts, Cuts, FailAt};
-use fakes::writers::{CountsWrites, Drip, FailWrite};
+use fakes::readers::{Cuts, FailAt};
+use fakes::writers::{Drip, FailWrite};
 use fakes::{check, check_eq, expect_bytes, expect_ok, expect_rejected};
 use multihash::no_std_io::{Read, Write};
 use multihash::{Multihash, varint};
@@ -156,114 +156,6 @@ fn each_byte_fails(rt: HostRuntime) {
             }
         }
     }
-}
-
-// Forty pairs of no bytes.
-#[test]
-fn each_item_of_a_list_fails(rt: HostRuntime) {
-    expect_errors::<0>(&rt, rt.alloc(), Form::List(40), (0, &[0]), &[], true);
-}
-
-// The number of bytes returned before that many calls: those of a varint one by one, SCALE's parts as wholes.
-fn given_before(form: Form, calls: usize) -> usize {
-    match (form, calls) {
-        (Form::Scale, 1) => 8,
-        (Form::Scale, 2) => 9,
-        _ => calls,
-    }
-}
-
-// A reader with its own `read_exact`, which fails at a call.
-fn expect_request_error<const S: usize>(
-    rt: &impl Abort,
-    alloc: Global,
-    form: Form,
-    items: &[Multihash<S>],
-    input: &[u8],
-    calls: usize,
-    why: ErrorKind,
-)
-    requires { S < 2 ^ 16 }
-{
-    let rest = input.get(given_before(form, calls)..).unwrap_or(&[]);
-    for borrowed in [false, true] {
-        let mut reader = Counts::failing(input, calls, why);
-        let outcome = form.reads(alloc, items, &mut reader, borrowed);
-        expect_rejected!(rt; &outcome, why, (form, calls));
-        expect_bytes!(rt; reader.left, rest);
-        let (single, others, whole) = reader.asked();
-        let asked = single.saturating_add(others).saturating_add(whole);
-        check_eq!(rt; asked, calls.saturating_add(1), (form, calls));
-    }
-}
-
-// A writer with its own `write_all`, which fails at a call of it.
-fn expect_call_error<const S: usize>(
-    rt: &impl Abort,
-    alloc: Global,
-    form: Form,
-    items: &[Multihash<S>],
-    calls: usize,
-    front: &[u8],
-)
-    requires { S < 2 ^ 16 }
-{
-    for why in [ErrorKind::DISK_GONE, ErrorKind::OutOfMemory] {
-        let mut writer = CountsWrites::failing(alloc, calls, why);
-        let outcome = form.writes(items, &mut writer, false);
-        expect_rejected!(rt; &outcome, why, (form, calls));
-        expect_bytes!(rt; &writer.held, front);
-        check_eq!(rt; (writer.parts, writer.whole), (0, calls.saturating_add(1)), form);
-    }
-}
-
-// Each call for both forms of a pair. A digest of no bytes is always read and written.
-fn expect_call_errors<const S: usize>(rt: &impl Abort, alloc: Global, code: Code, digest: &[u8])
-    requires { S < 2 ^ 16 }
-{
-    // The head of a SCALE form is one write.
-    for (form, first, last) in [(Form::Binary, code.1.len(), 2), (Form::Scale, 9, 1)] {
-        let items = expect_ok!(rt; form.items::<S>(alloc, code, digest));
-        let bytes = expect_ok!(rt; form.bytes(alloc, code, digest));
-        let (single, _, whole) = form.requests(code, digest.len());
-        for calls in 0..single.saturating_add(whole) {
-            expect_request_error(rt, alloc, form, &items, &bytes, calls, ErrorKind::LINK_DOWN);
-            expect_request_error(
-                rt,
-                alloc,
-                form,
-                &items,
-                &bytes,
-                calls,
-                ErrorKind::OutOfMemory,
-            );
-        }
-        let second = bytes.len().saturating_sub(digest.len());
-        for (calls, written) in [(0, 0), (1, first), (last, second)] {
-            let front = bytes.get(..written).unwrap_or(&[]);
-            expect_call_error(rt, alloc, form, &items, calls, front);
-        }
-    }
-}
-
-// The cases from that one on.
-fn expect_each_call_fails<const S: usize>(rt: &impl Abort, alloc: Global, from: usize)
-    requires { S < 2 ^ 16 }
-{
-    let bytes = different();
-    for n in from..CASES {
-        if let Some((code, digest)) = case(&bytes, S, n) {
-            expect_call_errors::<S>(rt, alloc, code, digest);
-        }
-    }
-}
-
-#[test]
-fn each_call_of_each_length_fails(rt: HostRuntime) {
-    expect_each_call_fails::<32>(&rt, rt.alloc(), LENGTHS);
-    expect_each_call_fails::<64>(&rt, rt.alloc(), LENGTHS);
-    expect_each_call_fails::<255>(&rt, rt.alloc(), 1);
-    expect_each_call_fails::<300>(&rt, rt.alloc(), LENGTHS);
 }
 
 // The traits' own `read_exact` and `write_all`, of more bytes than a digest has.

@@ -3,15 +3,12 @@
 //! turn, and counts them.
 ghost use Rattle.std.specs.Prelude.{◌<◌, ◌^◌};
 
-use crate::values::hash_of;
 use fakes::error_kind::{ErrorKind, LARGEST_CODE, is_rejected};
-use fakes::{check, check_eq, expect_bytes, expect_ok, expect_rejected};
+use fakes::{check, check_eq, expect_bytes, expect_ok};
 use multihash::list::{read_list, write_list};
-use multihash::no_std_io::{self, Read, SliceWriter, Write};
-use multihash::{Error, Head, Multihash, laws, varint};
-use serde_json::Value;
+use multihash::no_std_io::Write;
+use multihash::{Error, Multihash};
 use std::alloc::Global;
-use std::cmp::Ordering;
 use std::process::Abort;
 use std::test::Fail;
 use storage::content;
@@ -277,119 +274,4 @@ fn too_many_places_are_rejected(rt: HostRuntime) -> Result<(), Fail> {
         expect_bytes!(&rt; left, &STREAM);
     }
     Ok(())
-}
-
-fn expect_parts<const S: usize>(rt: &impl Abort, m: &Multihash<S>)
-    requires { S < 2 ^ 16 }
-{
-    check_eq!(rt; (m.size(), m.digest().len(), m.into_inner().2, hash_of(m)), (32, 32, 32, hash_of(m)));
-    let cut = m.truncate(31);
-    check!(rt; cut != *m && cut.cmp(m) == Ordering::Less && !cut.same_as(m));
-    let larger = expect_ok!(rt; m.resize::<64>());
-    check_eq!(rt; (larger.same_as(m), m.clone().is_ok()), (true, true));
-}
-
-fn expect_read<const S: usize>(rt: &impl Abort, alloc: Global, m: &Multihash<S>, bytes: &[u8])
-    requires { S < 2 ^ 16 }
-{
-    check!(rt; expect_ok!(rt; Multihash::<S>::from_bytes(bytes)) == *m);
-    let mut left = bytes;
-    check!(rt; expect_ok!(rt; Multihash::<S>::read(&mut left)) == *m);
-    check_eq!(rt; expect_ok!(rt; Head::read_front(bytes)).digest_len, 32);
-    check!(rt; expect_ok!(rt; read_list::<S, _>(alloc, &mut left, 0)).is_empty());
-}
-
-fn expect_varints(rt: &impl Abort, code: u64, bytes: &[u8]) {
-    let len = expect_ok!(rt; varint::len(code));
-    let rest = bytes.get(len..).unwrap_or(&[]);
-    check_eq!(rt; expect_ok!(rt; varint::read_front(bytes)), (code, rest));
-    let mut left = bytes;
-    check_eq!(rt; expect_ok!(rt; varint::read(&mut left)), code);
-    let mut buffer = [0u8; 9];
-    check_eq!(rt; expect_ok!(rt; varint::write(code, &mut buffer.as_mut_slice())), len);
-}
-
-fn expect_written<const S: usize>(rt: &impl Abort, m: &Multihash<S>)
-    requires { S < 2 ^ 16 }
-{
-    let mut buffer = [0u8; 64];
-    check!(rt; write_list(&[*m], &mut buffer.as_mut_slice()).is_ok());
-    check!(rt; m.scale_encode(&mut buffer.as_mut_slice()).is_ok());
-    let decoded = expect_ok!(rt; Multihash::<S>::scale_decode(&mut buffer.as_slice()));
-    check!(rt; decoded == *m);
-}
-
-fn expect_no_memory<const S: usize>(rt: &impl Abort, alloc: Global)
-    requires { S < 2 ^ 16 }
-{
-    for code in USUAL {
-        let m = expect_ok!(rt; Multihash::<S>::wrap(code, &[65; 32]));
-        let mut buffer = [0u8; 64];
-        let len = expect_ok!(rt; m.write(&mut buffer.as_mut_slice()));
-        check_eq!(rt; len, m.encoded_len());
-        let bytes = buffer.get(..len).unwrap_or(&[]);
-        expect_parts(rt, &m);
-        expect_read(rt, alloc, &m, bytes);
-        expect_varints(rt, code, bytes);
-        expect_written(rt, &m);
-    }
-}
-
-// Passes also if each allocation fails, since none of these calls makes one. So do those below.
-#[test]
-fn usual_values_need_no_memory(rt: HostRuntime) {
-    expect_no_memory::<32>(&rt, rt.alloc());
-    expect_no_memory::<64>(&rt, rt.alloc());
-    expect_no_memory::<300>(&rt, rt.alloc());
-}
-
-fn expect_slices(rt: &impl Abort) {
-    let mut left = [0u8; 9].as_slice();
-    let mut buf = [0u8; 3];
-    check_eq!(rt; (left.read(&mut buf).is_ok(), left.read_exact(&mut buf).is_ok()), (true, true));
-    let mut kept = [0u8; 3];
-    expect_writes(rt, &mut kept.as_mut_slice());
-    expect_writes(rt, &mut SliceWriter::new(&mut kept));
-}
-
-fn expect_writes<W: Write>(rt: &impl Abort, w: &mut W) {
-    check_eq!(rt; (w.write(&[1]).is_ok(), w.write_all(&[1, 2]).is_ok()), (true, true));
-}
-
-#[test]
-fn slices_and_laws_need_no_memory(rt: HostRuntime) {
-    expect_slices(&rt);
-    laws::one_verdict();
-    laws::settles();
-    laws::prefix_free();
-    laws::split_unique();
-    laws::scale_unique();
-    laws::json_unique();
-}
-
-// The error of a reader or a writer itself, with the text `x`.
-fn expect_own_error(rt: &impl Abort, e: &Error) {
-    check!(rt; matches!(e.io(), Some(e) if e.is_other() && e.text() == "x" && !e.is_write_zero()));
-    check_eq!(rt; (e.invalid_size(), e.invalid_code()), (None, None));
-    check_eq!(rt; [e.is_overflow(), e.is_insufficient(), e.is_not_minimal(), e.is_incomplete()], [false; 4]);
-}
-
-fn expect_io_errors(rt: &impl Abort) {
-    expect_own_error(rt, &Error::from(no_std_io::Error::other("x")));
-    let e = &Error::from(no_std_io::Error::out_of_memory());
-    expect_memory_error(rt, e);
-    check!(rt; !e.is_incomplete() && !e.is_not_bytes());
-}
-
-fn expect_no_value(rt: &impl Abort, value: &Value, why: ErrorKind) {
-    expect_rejected!(rt; &Multihash::<4>::from_value(value), why, ());
-}
-
-#[test]
-fn errors_need_no_memory(rt: HostRuntime) {
-    expect_io_errors(&rt);
-    let empty = Value::Array(Vec::new(rt.alloc()));
-    expect_no_value(&rt, &empty, ErrorKind::Insufficient);
-    expect_no_value(&rt, &Value::Null, ErrorKind::NotBytes);
-    expect_rejected!(&rt; &Multihash::<4>::wrap(u64::MAX, &[]), ErrorKind::InvalidCode(u64::MAX), ());
 }

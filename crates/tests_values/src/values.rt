@@ -4,13 +4,13 @@ ghost use Rattle.std.specs.Prelude.{◌<◌, ◌^◌};
 use fakes::error_kind::{ErrorKind, is_rejected};
 use fakes::readers::Cuts;
 use fakes::{check, check_eq, expect_bytes, expect_ok, expect_rejected};
-use multihash::{Head, Multihash, MultihashGeneric};
+use multihash::{Multihash, MultihashGeneric};
 use std::alloc::Global;
 use std::cmp::Ordering;
 use std::hash::{DefaultHasher, Hash, Hasher};
 use std::process::Abort;
 
-pub(crate) fn hash_of<T: Hash>(x: &T) -> u64 {
+fn hash_of<T: Hash>(x: &T) -> u64 {
     let mut state = DefaultHasher::new();
     x.hash(&mut state);
     state.finish()
@@ -143,35 +143,4 @@ fn stale_tails_stay_inside(rt: HostRuntime) {
     expect_equal_values(rt, &m, &other);
     expect_bytes!(rt; m.truncate(5).digest(), b"foo");
     check!(rt; expect_ok!(rt; m.resize::<3>()).same_as(&m));
-}
-
-fn head_of(code: u64, digest_len: u64, digest_offset: usize) -> Head {
-    Head {
-        code,
-        digest_len,
-        digest_offset,
-    }
-}
-
-// Both ways, and the clone of one.
-fn expect_alike(rt: &impl Abort, head: Head, alike: bool) {
-    let first = head_of(1, 2, 3);
-    check_eq!(rt; (first == head, head != first), (alike, !alike), head);
-    let copy = expect_ok!(rt; head.clone());
-    check_eq!(rt;
-        (copy.code, copy.digest_len, copy.digest_offset),
-        (head.code, head.digest_len, head.digest_offset)
-    );
-}
-
-#[test]
-fn heads_differ_in_each_field(rt: HostRuntime) {
-    let rt = &rt;
-    expect_alike(rt, head_of(1, 2, 3), true);
-    for shift in 0..64u32 {
-        let bit = 1u64 << shift;
-        expect_alike(rt, head_of(1 ^ bit, 2, 3), false);
-        expect_alike(rt, head_of(1, 2 ^ bit, 3), false);
-        expect_alike(rt, head_of(1, 2, 3 ^ (1usize << shift)), false);
-    }
 }
