@@ -12,7 +12,7 @@ has_totals() {
 45 passed, 0 failed
 mh_show 6
 tests_streams 29
-tests_sweeps 24
+tests_sweeps 21
 tests_values 22
 vectors 1
 LIST

@@ -3,7 +3,7 @@
 ghost use Rattle.std.specs.Prelude.{◌<◌, ◌^◌};
 
 use fakes::error_kind::ErrorKind;
-use fakes::forms::{CASES, CODES, Calls, Code, Form, LENGTHS, case, different, many};
+use fakes::forms::{CASES, Calls, Code, Form, LENGTHS, case, different, many};
 use fakes::readers::{Counts, Cuts, FailAt};
 use fakes::writers::CountsWrites;
 use fakes::{check, check_eq, expect_bytes, expect_ok, expect_rejected};
@@ -153,27 +153,6 @@ fn an_ended_reader_is_not_asked_again(rt: HostRuntime) {
         if let Some((code, digest)) = case(&bytes, 255, n) {
             expect_ends(&rt, rt.alloc(), code, digest);
         }
-    }
-}
-
-// The varint of a size ends after each of its bytes.
-fn expect_size_ends(rt: &impl Abort, alloc: Global, code: Code) {
-    let size = Form::Binary.bytes(alloc, code, &[]);
-    let size = expect_ok!(rt; size);
-    for at in 0..code.1.len() {
-        let mut input = expect_ok!(rt; vec![in alloc; 1u8]);
-        check!(rt; input.write_all(size.get(..at).unwrap_or(&[])).is_ok());
-        let mut reader = Counts::new(&input);
-        let outcome = Multihash::<4>::read(&mut reader);
-        let asked = (at.saturating_add(2), 0, 0);
-        expect_end(rt, &outcome, ErrorKind::Insufficient, &reader, asked);
-    }
-}
-
-#[test]
-fn a_reader_that_ended_within_a_size_is_not_asked_again(rt: HostRuntime) {
-    for code in CODES {
-        expect_size_ends(&rt, rt.alloc(), code);
     }
 }
 

@@ -2,7 +2,6 @@
 //! capacity is allocated.
 ghost use Rattle.std.specs.Prelude.{◌<◌, ◌^◌};
 
-use fakes::error_kind::{ErrorKind, is_rejected};
 use fakes::forms::{CASES, case, different, many};
 use fakes::{check, check_eq, expect_ok};
 use multihash::Multihash;
@@ -125,54 +124,6 @@ fn each_count_is_read_and_written(rt: HostRuntime) {
         expect_list::<32>(&rt, rt.alloc(), &input, count);
         expect_list::<64>(&rt, rt.alloc(), &input, count);
         expect_list::<300>(&rt, rt.alloc(), &input, count);
-    }
-}
-
-// The input ends before the first pair, whose capacity is allocated already.
-fn expect_places<const S: usize>(rt: &impl Abort, alloc: Global, count: usize)
-    requires { S < 2 ^ 16 }
-{
-    let outcome = read_list::<S, _>(alloc, &mut [].as_slice(), count);
-    check!(rt; is_rejected(&outcome, ErrorKind::Insufficient), count);
-}
-
-#[test]
-fn each_count_has_places(rt: HostRuntime) {
-    for count in 1..20000 {
-        expect_places::<0>(&rt, rt.alloc(), count);
-        expect_places::<64>(&rt, rt.alloc(), count);
-    }
-}
-
-// Appends 500 pairs in each of three ways, each to one vector, and returns how often their capacities
-// changed.
-fn count_growths(rt: &impl Abort, alloc: Global, m: &Multihash<255>) -> usize {
-    let mut held = Vec::new(alloc);
-    let mut reference = Vec::new(alloc);
-    let mut scale = Vec::new(alloc);
-    let mut growths = 0usize;
-    for _ in 0..500 {
-        let before = (held.capacity(), reference.capacity(), scale.capacity());
-        check!(rt; m.write(&mut held).is_ok());
-        check!(rt; m.write(&mut &mut reference).is_ok());
-        check!(rt; m.scale_encode(&mut scale).is_ok());
-        if (held.capacity(), reference.capacity(), scale.capacity()) != before {
-            growths = growths.saturating_add(1);
-        }
-    }
-    growths
-}
-
-// Three vectors that double their capacity grow some 50 times up to 130,000 bytes.
-#[test]
-fn a_vector_grows_seldom(rt: HostRuntime) {
-    let bytes = different();
-    for len in 0..256 {
-        if let Some((code, digest)) = case(&bytes, 255, len) {
-            let m = expect_ok!(&rt; Multihash::wrap(code.0, digest));
-            let growths = count_growths(&rt, rt.alloc(), &m);
-            check!(&rt; growths < 60, (len, growths));
-        }
     }
 }
 
