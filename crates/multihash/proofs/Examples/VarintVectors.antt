@@ -1,6 +1,6 @@
 -- Varints of known numbers, for the other examples. That an input has one front, `front_unique` shows: it fails
 -- with a weaker part of a definition.
-use Rattle.std.proofs.Common.{◌≡◌, ℕ, ltb, Bool, true, List, [], ◌∷◌, ◌++◌, refl, sym, arith, append-nil, ◌+◌, ◌-◌}
+use Rattle.std.proofs.Common.{◌≡◌, ℕ, ltb, Bool, true, List, [], ◌∷◌, ◌++◌, refl, arith, ◌+◌}
 use Rattle.std.specs.List.{All, list_all}
 use Rattle.std.proofs.lemmas.Bool.{ltb-true, and_parts}
 use Rattle.std.proofs.lemmas.List.Elements.{All-nil, All-cons}
