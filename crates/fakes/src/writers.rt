@@ -57,9 +57,10 @@ impl Write for Drip {
     }
 }
 
-/// Like `Drip`, but it fails once, after `calls` successful calls, with this error of its own.
+/// Like `Drip`, but it fails once, after `calls` successful calls, with this error of its own; `A` is its
+/// `ALLOCATES`, which the library asks for.
 #[derive(Drop)]
-pub struct FailWrite {
+pub struct FailWrite<const A: bool> {
     pub drip: Drip,
     /// The number of calls.
     pub asked: usize,
@@ -68,7 +69,7 @@ pub struct FailWrite {
     failed: bool,
 }
 
-impl FailWrite {
+impl<const A: bool> FailWrite<A> {
     pub fn new(drip: Drip, calls: usize, why: ErrorKind) -> Self {
         FailWrite {
             drip,
@@ -80,10 +81,10 @@ impl FailWrite {
     }
 }
 
-impl Write for FailWrite {
-    const ALLOCATES: bool = false;
+impl<const A: bool> Write for FailWrite<A> {
+    const ALLOCATES: bool = A;
 
-    ghost allocates = { false };
+    ghost allocates = { A };
 
     ghost appended = { λ old bytes new.
         AppendsAtEnd old.drip.held.items bytes new.drip.held.items };

@@ -62,7 +62,7 @@ fn hashing_passes_errors_on(rt: HostRuntime) {
         check!(rt; hash == hash_of(&b"abc"[..n]));
         check_eq!(rt; inner.asked, 3.min(n + 1));
         let drip = expect_ok!(rt; Drip::new(rt.alloc(), 3, 1));
-        let mut writer = HashingWriter::new(FailWrite::new(drip, n, ErrorKind::DISK_GONE));
+        let mut writer = HashingWriter::new(FailWrite::<false>::new(drip, n, ErrorKind::DISK_GONE));
         check_eq!(rt; is_failed(&writer.write_all(b"abc"), ErrorKind::DISK_GONE), n < 3);
         let (hash, inner) = writer.finish();
         check!(rt; hash == hash_of(&b"abc"[..n]));
@@ -87,7 +87,7 @@ fn the_log_passes_errors_on(rt: HostRuntime) {
         check!(rt; is_entry_rejected(&outcome, ErrorKind::LINK_DOWN), n);
         check_eq!(rt; reader.asked, n + 1);
         let drip = expect_ok!(rt; Drip::new(alloc, FIRST, 1));
-        let mut writer = FailWrite::new(drip, n, ErrorKind::DISK_GONE);
+        let mut writer = FailWrite::<false>::new(drip, n, ErrorKind::DISK_GONE);
         let outcome = write_entry(&hash_of(b"one"), b"one", &mut writer);
         expect_rejected!(rt; &outcome, ErrorKind::DISK_GONE, n);
         check_eq!(rt; writer.asked, n + 1);

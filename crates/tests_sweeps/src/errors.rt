@@ -37,7 +37,12 @@ fn expect_reader_error<const S: usize>(
 }
 
 // A writer without its own `write_all`, which fails or is full after that many bytes.
-fn failing_writer(rt: &impl Abort, alloc: Global, at: usize, why: ErrorKind) -> FailWrite {
+fn failing_writer<const A: bool>(
+    rt: &impl Abort,
+    alloc: Global,
+    at: usize,
+    why: ErrorKind,
+) -> FailWrite<A> {
     let is_full = why == ErrorKind::WriteZero;
     let room = if is_full { at } else { MOST };
     let calls = if is_full { MOST } else { at };
@@ -45,7 +50,7 @@ fn failing_writer(rt: &impl Abort, alloc: Global, at: usize, why: ErrorKind) -> 
     FailWrite::new(drip, calls, why)
 }
 
-fn expect_writer_error<const S: usize>(
+fn expect_writer_error<const S: usize, const A: bool>(
     rt: &impl Abort,
     alloc: Global,
     form: Form,
@@ -57,7 +62,7 @@ fn expect_writer_error<const S: usize>(
 {
     let at = front.len();
     for borrowed in [false, true] {
-        let mut writer = failing_writer(rt, alloc, at, why);
+        let mut writer = failing_writer::<A>(rt, alloc, at, why);
         let outcome = form.writes(items, &mut writer, borrowed);
         expect_rejected!(rt; &outcome, why, (form, at));
         expect_bytes!(rt; &writer.drip.held, front);
@@ -83,9 +88,14 @@ fn expect_errors_at<const S: usize>(
         }
     }
     let front = bytes.get(..at).unwrap_or(&[]);
-    expect_writer_error(rt, alloc, form, items, front, ErrorKind::DISK_GONE);
-    expect_writer_error(rt, alloc, form, items, front, ErrorKind::OutOfMemory);
-    expect_writer_error(rt, alloc, form, items, front, ErrorKind::WriteZero);
+    for why in [
+        ErrorKind::DISK_GONE,
+        ErrorKind::OutOfMemory,
+        ErrorKind::WriteZero,
+    ] {
+        expect_writer_error::<S, false>(rt, alloc, form, items, front, why);
+        expect_writer_error::<S, true>(rt, alloc, form, items, front, why);
+    }
 }
 
 // The calls of varints, at each byte of the code's.
@@ -96,7 +106,7 @@ fn expect_varint_errors(rt: &impl Abort, alloc: Global, code: Code) {
             expect_rejected!(rt; &varint::read_next(&mut reader), why, at);
         }
         for why in [ErrorKind::DISK_GONE, ErrorKind::OutOfMemory] {
-            let mut writer = failing_writer(rt, alloc, at, why);
+            let mut writer = failing_writer::<false>(rt, alloc, at, why);
             expect_rejected!(rt; &varint::write(code.0, &mut writer), why, at);
         }
     }
@@ -171,7 +181,7 @@ fn expect_long_error(rt: &impl Abort, alloc: Global, bytes: &[u8], at: usize) {
         ErrorKind::OutOfMemory,
         ErrorKind::WriteZero,
     ] {
-        let mut writer = failing_writer(rt, alloc, at, why);
+        let mut writer = failing_writer::<false>(rt, alloc, at, why);
         let outcome = writer.write_all(bytes);
         check!(rt; is_failed(&outcome, why), (why, at));
         expect_bytes!(rt; &writer.drip.held, bytes.get(..at).unwrap_or(&[]));
