@@ -166,6 +166,8 @@ fn each_byte_fails(rt: HostRuntime) {
             }
         }
     }
+    // Forty pairs of no bytes.
+    expect_errors::<0>(&rt, rt.alloc(), Form::List(40), (0, &[0]), &[], true);
 }
 
 // The traits' own `read_exact` and `write_all`, of more bytes than a digest has.
