@@ -1,7 +1,9 @@
--- The order of known pairs, and what hashing one feeds.
-use Rattle.std.proofs.Common.{◌≡◌, ℕ, List, [], ◌∷◌, refl}
+-- What is no pair, the order of known pairs, and what hashing one feeds.
+use Rattle.std.proofs.Common.{◌≡◌, ◌<◌, ℕ, List, [], ◌∷◌, refl, arith}
 use Rattle.std.specs.Prelude.{codes}
-use Rattle.multihash.specs.Pair.{Pair}
+use Rattle.std.proofs.lemmas.List.Elements.{All-head}
+use Rattle.multihash.specs.Pair.{Pair, IsPair}
+use Rattle.multihash.proofs.Examples.VarintVectors.{too_large}
 use Rattle.std.specs.declared.cmp.Ordering.{Ordering}
 use Rattle.std.specs.declared.cmp.Ordering.TheVariants.{Less, Equal, Greater}
 use Rattle.std.specs.Hash.{le_bytes}
@@ -9,6 +11,12 @@ use Rattle.multihash.specs.Comparing.{compare_pairs, hashed_pair}
 
 abbrev pub pair : ℕ → List ℕ → Pair
 pair code digest = record { code = code; digest = digest }
+
+no_larger_code : (digest : List ℕ) → ¬ (IsPair (pair too_large digest))
+no_larger_code digest h = omega (arith, h.in_range)
+
+no_digest_of_256 : (code : ℕ) → ¬ (IsPair (pair code (256 ∷ [])))
+no_digest_of_256 code h = let small = All-head (λ byte. byte < 256) 256 [] h.are_bytes in omega (arith, small)
 
 data Row : Type 0 where
   row : (p q : Pair) (o : Ordering) → compare_pairs p q ≡ o → Row
