@@ -56,6 +56,10 @@ fn a_vector_grows(rt: HostRuntime) {
     check_eq!(rt; Write::write(&mut reference, &[4]).ok(), Some(1));
     check!(rt; Write::write_all(&mut reference, &[5, 6]).is_ok());
     expect_bytes!(rt; &held, &[1, 2, 3, 4, 5, 6]);
-    check!(rt; <Vec<u8> as Write>::ALLOCATES && <&mut Vec<u8> as Write>::ALLOCATES);
-    check!(rt; !<&mut [u8] as Write>::ALLOCATES && !<&mut &mut [u8] as Write>::ALLOCATES);
+}
+
+#[test]
+fn who_allocates(rt: HostRuntime) {
+    check!(&rt; <Vec<u8> as Write>::ALLOCATES && <&mut Vec<u8> as Write>::ALLOCATES);
+    check!(&rt; !<&mut [u8] as Write>::ALLOCATES && !<&mut &mut [u8] as Write>::ALLOCATES);
 }
