@@ -13,7 +13,7 @@ has_totals() {
 mh_show 6
 tests_streams 30
 tests_sweeps 21
-tests_values 22
+tests_values 23
 vectors 1
 LIST
 }

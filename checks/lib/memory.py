@@ -31,9 +31,7 @@ TESTS = {
     "allocating_write_of_a_vector": 1,
     "allocating_push": 1,
     "allocating_root_and_path": 4,
-    "usual_values_need_no_memory": 0,
-    "slices_and_laws_need_no_memory": 0,
-    "errors_need_no_memory": 0,
+    "calls_need_no_memory": 0,
 }
 # inputs of mh_show, the last of which cannot be read, and how many allocations it makes
 SHOWN = {"example": 8, "0041": 5, "0": 4, "a folder": 4}

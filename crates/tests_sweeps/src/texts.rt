@@ -31,6 +31,16 @@ fn errors_are_printed(rt: HostRuntime) {
         expect_printed(rt, alloc, &Multihash::<1>::from_bytes(input));
     }
     expect_printed(rt, alloc, &Multihash::<1>::from_value(&Value::Null));
+    let wanted = "Invalid multihash code 18446744073709551615.";
+    expect_text(rt, alloc, u64::MAX, &[], wanted);
+    expect_text(rt, alloc, 0, &[0; 256], "Invalid multihash size 256.");
+}
+
+fn expect_text(rt: &impl Abort, alloc: Global, code: u64, digest: &[u8], wanted: &str) {
+    match Multihash::<300>::wrap(code, digest) {
+        Ok(_) => check!(rt; false),
+        Err(e) => check_eq!(rt; expect_ok!(rt; format!(in alloc; "{e}")).as_str(), wanted),
+    }
 }
 
 // A code that many above 2^63, and a head with such a size. A size of 0 is never rejected.
