@@ -9,7 +9,7 @@ const VARINT_MAX: usize = HEAD_MAX / 2;
 /// A byte with this bit is not the last one of its varint.
 pub(crate) const MORE: u8 = 0x80;
 
-/// Reads the two varints, and no byte after them. A code below 128 is its one byte, and so is such a length; a length
+/// Reads the two varints, and no byte after them. A code or a length below 128 is one byte, itself; a length
 /// of 128 to 255 is two bytes, itself and 1. Every other head is decoded by `Head::read`.
 pub(crate) fn head<R: Read>(r: &mut R) -> Result<(u64, u64), Error> {
     let mut bytes = [0; 3];
