@@ -94,7 +94,7 @@ packed_types() {
 # In a browser, pages show texts: each line of standard input is a page, a tab, and a text.
 shows() {
   mkdir -p "$work/frames" && cat > "$work/frames/frames" &&
-    node "$here/test/browser.js" "$1" test/framed.html "$here" "$work/frames" "$work/elsewhere"
+    node "$here/test/browser.js" "$1" 'test/page.html?frames' "$here" "$work/frames" "$work/elsewhere"
 }
 
 # The page of README.md, over the unpacked package.
