@@ -132,17 +132,19 @@ under_sanitizers() {
     unit_tests "$here/tests" "$(preloaded)" ASAN_OPTIONS=detect_leaks=0:allocator_may_return_null=1 PYTHONMALLOC=malloc
 }
 
-# A copy of the sdist whose module reads after the end of the input.
-planted_read() {
-  cp -r "$to/sdist" "$to/planted" && sed -i 's/from->bytes + found.digest_offset/& + 4096/' "$to/planted/src/core.c" &&
-    ! cmp "$to/sdist/src/core.c" "$to/planted/src/core.c" && under_sanitizers "$to/planted"
+# A copy of the sdist whose module has an edit of sed.
+planted() {
+  rm -rf "$to/planted" && cp -r "$to/sdist" "$to/planted" && sed -i "$1" "$to/planted/src/core.c" &&
+    ! cmp "$to/sdist/src/core.c" "$to/planted/src/core.c"
 }
 
-# A copy whose module keeps each argument.
+planted_read() {
+  planted 's/from->bytes + found.digest_offset/& + 4096/' && under_sanitizers "$to/planted"
+}
+
+# Each argument is kept.
 planted_leak() {
-  rm -rf "$to/planted" && cp -r "$to/sdist" "$to/planted" &&
-    sed -i '/^    Py_DECREF(from->owner);$/d' "$to/planted/src/core.c" &&
-    ! cmp "$to/sdist/src/core.c" "$to/planted/src/core.c" && installs "$to/planted" && unit_tests "$here/tests"
+  planted '/^    Py_DECREF(from->owner);$/d' && installs "$to/planted" && unit_tests "$here/tests"
 }
 
 # The package and the examples of README.md are typed, the module has the names of its stub, and wrong arguments are

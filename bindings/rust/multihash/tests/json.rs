@@ -1,7 +1,7 @@
 //! `serde`: the encoding as bytes, in JSON as an array of numbers.
 use multihash::Multihash;
-use serde::de::value::{BorrowedBytesDeserializer, Error, SeqDeserializer};
-use serde::de::{IntoDeserializer, Visitor};
+use serde::de::value::Error;
+use serde::de::Visitor;
 use serde::ser::Impossible;
 use serde::{forward_to_deserialize_any, Deserialize, Deserializer, Serialize, Serializer};
 
@@ -45,15 +45,6 @@ fn long_sequences() {
     check::<254>(265);
     check::<255>(266);
     check::<300>(266);
-}
-
-#[test]
-fn bytes_and_sequences() {
-    let borrowed = BorrowedBytesDeserializer::<Error>::new(&ENCODING);
-    assert_eq!(Multihash::<9>::deserialize(borrowed), Ok(full().resize().expect("it fits")));
-    let sequence = SeqDeserializer::<_, Error>::new(ENCODING.into_iter());
-    assert_eq!(Multihash::<4>::deserialize(sequence), Ok(full()));
-    assert!(Multihash::<4>::deserialize(IntoDeserializer::<Error>::into_deserializer(7u8)).is_err());
 }
 
 /// A format that has only bytes: what asks for anything else fails.
@@ -121,14 +112,4 @@ impl Serializer for BytesAlone {
 fn bytes_alone() {
     assert_eq!(full().serialize(BytesAlone), Ok(ENCODING.to_vec()));
     assert_eq!(Multihash::<4>::deserialize(BytesAlone), Ok(full()));
-}
-
-/// As a field of another type.
-#[test]
-fn inside() {
-    let pair = (full(), vec![full(); 2]);
-    let text = serde_json::to_string(&pair).expect("JSON");
-    assert_eq!(serde_json::from_str::<(Multihash<4>, Vec<Multihash<4>>)>(&text).expect("a pair"), pair);
-    fn has_both<T: Serialize + for<'a> Deserialize<'a>>() {}
-    has_both::<Multihash<0>>();
 }

@@ -2,7 +2,6 @@
 #![cfg(feature = "std")]
 use multihash::{Error, Multihash};
 use multihash_c::{MultihashRef, DIGEST_MAX, LENGTH_MAX};
-use std::collections::{BTreeSet, HashSet};
 use std::hash::{BuildHasher, BuildHasherDefault, DefaultHasher};
 
 const CODE_MAX: u64 = (1 << 63) - 1;
@@ -53,10 +52,6 @@ fn limits() {
     let borrowed = MultihashRef::wrap(1, b"abc").expect("a multihash");
     assert_eq!(text(Multihash::<2>::try_from(borrowed)), "Invalid multihash size 3.");
     assert_eq!(text(Multihash::<4>::wrap(1 << 63, b"abcd")), "Invalid multihash code 9223372036854775808.");
-    // 2^32 and 2, or as much as fits: no page is touched but the first
-    let long = vec![0; 1_usize.checked_shl(32).unwrap_or(1 << 16) + 2];
-    let texts = [0, 2].map(|taken| format!("Invalid multihash size {}.", long.len() - taken));
-    assert_eq!([text(Multihash::<300>::wrap(1, &long)), text(Multihash::<1>::from_bytes(&long))], texts);
     assert_eq!(text(Multihash::<0>::from_bytes(&[])), "unexpected end of file");
 }
 
@@ -99,8 +94,6 @@ fn order_and_hash() {
             assert_eq!(hashes[0], hasher.hash_one((right.code(), right.digest()))); // as upstream
         }
     }
-    assert!(all.into_iter().rev().collect::<BTreeSet<_>>().into_iter().eq(all));
-    assert!(all.iter().all(|one| all.into_iter().collect::<HashSet<_>>().contains(one)));
     assert!(all[0] > Multihash::default());
 }
 
