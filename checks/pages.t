@@ -1,5 +1,4 @@
 #!/usr/bin/env bash
 # What the pages say, README.md's programs, and that docs/CONTRACTS.md is what the sources say.
-cd "$(dirname "$0")/.." || exit 2
-echo 1..60
-exec checks/lib/pages.py
+echo 1..58
+exec "$(dirname "$0")/lib/pages.py"

@@ -49,7 +49,8 @@ stub() { printf '#!/bin/bash\necho 1..1\n%s\n' "$2" > "$1" && chmod +x "$1"; }
 
 # Whether a check, or a script that it runs, has a text.
 # shellcheck disable=SC2046 # no path has a blank
-has() { grep -q "$2" "$top/$1" $(grep -oE '(checks/lib|bindings)/[a-z_/]+\.(py|sh)' "$top/$1" | sed "s|^|$top/|"); }
+has() { grep -q "$2" "$top/$1" $(grep -oE '(lib|bindings)/[a-z_/]+\.(py|sh)' "$top/$1" |
+  sed "s|^lib|checks/lib|; s|^|$top/|"); }
 
 # Runs .ci/run over stubs by the rules of checks/, after a text: what reads programs of 'rt ci' fails before it ended,
 # and what reads the proofs of the mutants before these.

@@ -18,7 +18,7 @@ import contracts
 import edits
 import start
 import tap
-from rt_source import Unread, functions
+from rt_source import Unread
 
 TOP = Path(__file__).resolve().parents[2]
 README, CALLING, FORMAT = "README.md", "crates/multihash/CALLING.md", "docs/FORMAT.md"
@@ -167,21 +167,11 @@ def number_errors(texts: Texts) -> Iterator[str]:
                 yield f"{page}: no source has the number {number}"
 
 
-def code_of(path: Path) -> list[str]:
-    """Returns the text of a source, and the same without its contracts."""
-    text = short = path.read_text("utf-8")
-    for _, function in reversed([*functions(text)]):
-        start = function.signature_end()
-        end = max([start, *(clause.end + 1 for clause in function.clauses())])
-        short = short[:start] + short[end:]
-    return [flat(code).replace("pub ", "") for code in (text, short)]
-
-
 def example_errors(texts: Texts) -> Iterator[str]:
-    """Returns the paragraphs of the examples that no caller has, with or without contracts."""
+    """Returns the paragraphs of the examples that no caller has, but for `pub`."""
     crates = [TOP / "crates" / crate / "src" for crate in ("examples", "storage")]
     callers = [path for crate in crates for path in crate.rglob("*.rt")]
-    sources = "\n".join(code for path in callers for code in code_of(path))
+    sources = "\n".join(flat(read(path)).replace("pub ", "") for path in callers)
     blocks = FENCE.findall(texts[CALLING])
     examples = [body for language, body in blocks if language == "rust"]
     if not examples:
