@@ -40,7 +40,7 @@ PLANTED = {
     "void *made = malloc(1); free(made); return !made;": True,
     "return !malloc(1);": False,
     "free(malloc(1)); return 0;": False,
-    "void *made = malloc(1); free(made); made = malloc(1); free(made); return !made;": False,
+    "void *made = malloc(1); if (made) free(malloc(1)); free(made); return !made;": False,
     "return 1;": False,
 }
 
