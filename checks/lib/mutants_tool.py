@@ -14,6 +14,7 @@ from collections.abc import Iterable, Iterator
 from pathlib import Path
 from typing import NamedTuple
 
+import edits
 import mutants
 import proving
 import tap
@@ -104,7 +105,7 @@ class Printed(proving.Prover):
 
 def lay_out(root: Path) -> None:
     """Makes a repository with the small crate and its mutants."""
-    source, edits = HEAD, "file: src/lib.rt\n"
+    source, text = HEAD, "file: src/lib.rt\n"
     for case in CASES:
         source += f"""
 pub fn {case.name}(n: u8) -> u16
@@ -114,17 +115,17 @@ pub fn {case.name}(n: u8) -> u16
     {case.body}
 }}
 """
-        edits += f"\n# {case.name}: breaks {case.named}\nold: {case.old}\nnew: {case.new}\n"
-    first, others = edits.split("\n\n", 2)[1:]
+        text += f"\n# {case.name}: breaks {case.named}\nold: {case.old}\nnew: {case.new}\n"
+    first, others = text.split("\n\n", 2)[1:]
     made = {
         "crates/small/src/lib.rt": source,
         "crates/small/must-fail/next.edit": "clause: value\nfile: src/lib.rt\n" + first.partition("\n")[2],
         "crates/small/mutants/lib.edits": f"file: src/lib.rt\n\n{others}{DEFINITIONS}",
-        "crates/small/mutants/unread.edits": edits + "olds: n\n",
+        "crates/small/mutants/unread.edits": text + "olds: n\n",
     }
-    for path, text in {**TEXTS, **made}.items():
+    for path, content in {**TEXTS, **made}.items():
         (root / path).parent.mkdir(parents=True, exist_ok=True)
-        (root / path).write_text(text, "utf-8")
+        (root / path).write_text(content, "utf-8")
     shutil.copytree(Path(__file__).resolve().parent, root / "checks/lib")
 
 
@@ -170,6 +171,8 @@ def results(root: Path) -> Iterator[tap.Result]:
     for words in (["init", "-q"], ["add", "crates"], [*AUTHOR, "commit", "-q", "-m", "small"]):
         subprocess.run(["git", *words], cwd=root, check=True)
     mutants.ROOT = root
+    pair = [edits.Edit("a", "y", "22"), edits.Edit("a", "x", "1")]
+    yield "two edits of a file", "" if edits.apply({"a": "x y"}, pair) == {"a": "1 22"} else "not both"
     options = mutants.Options("", "HEAD", 1, False, [])
     yield "definitions as they were", "they are tried" if options.tries_definitions("small") else ""
     for name in ("proofs/Examples/More.antt", "proofs/SumVectors.antt", "mutants/definitions.edits", "specs/Sum.antt"):
