@@ -1,21 +1,28 @@
--- What the definitions exclude: a message that collides with itself, a block that failed though all of it was
--- read or though it is too long, another root of two leaves, no path from one of them, and no entry where there
--- is one. What they do not exclude: paths of which one goes on where the other ends.
-use Rattle.std.proofs.Common.{◌≡◌, ◌<◌, ◌++◌, ℕ, zero, suc, List, [], ◌∷◌, length, length-append, append-nil, Option, None, Some, inl, inr, refl, sym, ap, ◌∙◌, arith}
+-- What the definitions exclude: a message that collides with itself or with one of another hash, errors that
+-- are not the block's, another root of two leaves or of one, no path from a leaf, and a valid prefix that is not
+-- entries or not the longest. What they do not exclude: paths of which one goes on where the other ends.
+use Rattle.std.proofs.Common.{◌≡◌, ◌<◌, ◌++◌, ℕ, zero, suc, List, [], ◌∷◌, length, length-append, append-nil, Option, Some, inl, inr, refl, sym, ap, ◌∙◌, arith}
+use Rattle.std.specs.Prelude.{⊤}
 use Rattle.std.specs.List.{Contains}
 use Rattle.std.specs.Io.KnownBytes.{prepend_known}
 use Rattle.multihash.specs.Reading.{ConsumesFewerThan}
-use Rattle.multihash.specs.Pair.{Pair}
-use Rattle.multihash.specs.Refusal.{Refusal}
-use Rattle.multihash.proofs.Varints.VarintLemmas.{varint_some}
+use Rattle.multihash.specs.Pair.{Pair, FitsBuffer}
+use Rattle.multihash.specs.Refusal.{Refusal, IsEof}
+use Rattle.multihash.specs.Multihash.{Fields, pair_of}
+use Rattle.multihash.proofs.CallingLemmas.{number_read, number_found}
+use Rattle.multihash.proofs.Examples.VarintVectors.{varint_1}
+use Rattle.multihash.proofs.Varints.VarintLemmas.{varint_some, same_number}
+use Rattle.sha2.specs.Sha256.{sha256}
+use Rattle.sha2.proofs.Facts256.{length-sha256}
+use Rattle.multihash.specs.Streams.{AreParts}
 use Rattle.storage.specs.Content.{content_pair}
-use Rattle.storage.specs.Merkle.{Collides, PathStep, leaf_pair, parent_pair}
-use Rattle.storage.specs.Levels.{level, level_above, index_above, IsRoot, IsPath, none, without_step, one_more, IsPathToRoot}
-use Rattle.storage.specs.Log.{IsEntry, IsValidPrefix}
-use Rattle.storage.specs.Prefixed.{BlockFails}
-use Rattle.storage.specs.Step.{TurnAlike}
+use Rattle.storage.specs.Merkle.{Collides, PathStep, leaf_pair, parent_pair, root_from, messages_from}
+use Rattle.storage.specs.Levels.{level, level_above, IsRoot, IsPath, none, without_step, one_more, IsPathToRoot, LeadsFrom}
+use Rattle.storage.specs.Log.{IsEntry, ConsumesPair, IsValidPrefix}
+use Rattle.storage.specs.Prefixed.{IsFailed, BlockFails, PrefixedFails, IsTruncated}
+use Rattle.storage.specs.Step.{TurnAlike, IsOnlyPath, steps_of}
 use Rattle.storage.specs.declared.prefixed.PrefixedError.{PrefixedError}
-use Rattle.storage.specs.declared.prefixed.PrefixedError.TheVariants.{Failed}
+use Rattle.storage.specs.declared.prefixed.PrefixedError.TheVariants.{Failed, TooLong}
 use Rattle.storage.specs.declared.merkle.Step.{Step}
 
 only : (m x : List ℕ) → Contains (m ∷ []) x → m ≡ x
@@ -24,6 +31,9 @@ only m x (suc k, within, is) = absurd (omega (arith, within))
 
 one_message : (m : List ℕ) → ¬ (Collides (m ∷ []) (m ∷ []))
 one_message m c = c.differ (sym (only m c.first c.of_first) ∙ only m c.second c.of_second)
+
+one_hash : (m x : List ℕ) → Collides (m ∷ []) (x ∷ []) → sha256 m ≡ sha256 x
+one_hash m x c = rw (only m c.first c.of_first, only x c.second c.of_second) c.collide
 
 -- a block of one byte
 few : ¬ (ConsumesFewerThan 1 (Some (7 ∷ [])) (Some []))
@@ -42,8 +52,45 @@ long_block : (before after : ℕ) (e : Refusal) (old new : Option (List ℕ)) �
 long_block before after e old new (inl (long, over, counted, kept)) = cc
 long_block before after e old new (inr (within, fails)) = omega (arith, within)
 
+uncounted : (limit n : ℕ) (e : PrefixedError) (old new : Option (List ℕ)) → ¬ (BlockFails limit 0 2 e n old new)
+uncounted limit n e old new (inl (long, over, counted, kept)) = omega (arith, counted)
+uncounted limit n e old new (inr (within, inl (memory, counted, consumed))) = omega (arith, counted)
+uncounted limit n e old new (inr (within, inr (r, is, fails))) =
+    elim fails.cause [ inl own ↦ omega (arith, own.0) | inr eof ↦ omega (arith, eof.0) ]
+
+too_long_is_not_failed : (n : ℕ) → ¬ (IsFailed (λ _. ⊤) (TooLong n))
+too_long_is_not_failed n (r, is, _) = cc
+
+-- the length 1 is above the limit 0
+too_long : (e : PrefixedError) (new : Option (List ℕ)) → PrefixedFails 0 0 0 e (Some (1 ∷ [])) new → (e ≡ TooLong 1) × (new ≡ Some [])
+too_long e new (inl (r, is, fails)) = absurd (number_found 0 0 refl r 1 (1 ∷ []) [] (Some (1 ∷ [])) new varint_1 refl fails)
+too_long e new (inr (n, mid, first, fails)) =
+    let told = number_read 1 n (1 ∷ []) [] varint_1 (Some (1 ∷ [])) mid refl first in
+    elim fails [ inl (is, over, same, kept) ↦ (is ∙ ap TooLong told.0, kept ∙ told.1) | inr (within, _) ↦ absurd (omega (arith, within, told.0)) ]
+
+truncated_is_eof : (input : List ℕ) (e : Refusal) → IsTruncated input e → IsEof e
+truncated_is_eof input e (n, len, rest, is, cut, short, eof) = eof
+
+whole_is_not_truncated : (e : Refusal) → ¬ (IsTruncated (1 ∷ 7 ∷ []) e)
+whole_is_not_truncated e (n, len, rest, is, cut, short, eof) =
+    let told = same_number (1 ∷ 7 ∷ []) n 1 rest (7 ∷ []) (len, is, cut) (1 ∷ [], varint_1, refl) in
+    omega (arith, short, told.0, ap (λ (z : List ℕ). length z) told.1)
+
+consumed_pair_fits : (S : ℕ) (p : Pair) (old new : Option (List ℕ)) → ConsumesPair S p old new → FitsBuffer S p
+consumed_pair_fits S p old new h = h.0
+
 shorter : (step : Step) → TurnAlike (step ∷ []) [] × TurnAlike [] (step ∷ [])
 shorter step = (inl (step.is_left ∷ [], refl), inr (step.is_left ∷ [], refl))
+
+-- another leaf or other steps lead to the root only if two messages collide
+one_leaf : (leaf root : Pair) (path others : List Step) (other : Fields 32) → IsOnlyPath leaf path root → TurnAlike path others
+    → root ≡ root_from (pair_of other) (steps_of others)
+    → ¬ (Collides (messages_from leaf (steps_of path)) (messages_from (pair_of other) (steps_of others)))
+    → (leaf ≡ pair_of other) × (steps_of path ≡ steps_of others)
+one_leaf leaf root path others other is_only alike leads apart = elim (is_only other others alike leads) [ inl same ↦ same | inr both ↦ absurd (apart both) ]
+
+no_step_from_the_root : (leaf root : Pair) → LeadsFrom (leaf ∷ []) 0 [] root → root ≡ leaf_pair leaf
+no_step_from_the_root leaf root h = cc (h.is_leaf, h.leads)
 
 -- the root of two leaves is their parent, and no leaf
 module _ (a b : Pair) where
@@ -84,3 +131,25 @@ one_entry block entry is h = omega (
   length-append is.is_prefixed.len block,
   h.longest entry [] (block ∷ [], (entry, [], is, refl, sym (append-nil entry))) (sym (append-nil entry)),
 )
+
+no_prefix_of_no_bytes : (front : List ℕ) → IsValidPrefix front [] → front ≡ []
+no_prefix_of_no_bytes [] h = refl
+no_prefix_of_no_bytes (b ∷ front) h = let cut = h.cut in cc
+
+-- three zeros are an entry with a multihash that is not the block's
+three_zeros : ¬ (IsValidPrefix (0 ∷ 0 ∷ 0 ∷ []) (0 ∷ 0 ∷ 0 ∷ []))
+three_zeros h = by h.entries.0 h.entries.1
+  where
+    by : (blocks : List (List ℕ)) → AreParts (λ block. IsEntry (content_pair block) block) blocks (0 ∷ 0 ∷ 0 ∷ []) → ⊥
+    by [] empty = cc
+    by (block ∷ blocks) (part, rest, is, parts, cut) = omega (
+      arith,
+      ap (λ (z : List ℕ). length z) cut,
+      length-append part rest,
+      ap (λ (z : List ℕ). length z) is.parts,
+      length-append is.encoding is.prefixed,
+      ap (λ (z : List ℕ). length z) is.encodes.spelled,
+      length-append is.encodes.code (is.encodes.size ++ sha256 block),
+      length-append is.encodes.size (sha256 block),
+      length-sha256 block,
+    )
