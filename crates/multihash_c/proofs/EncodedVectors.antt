@@ -1,10 +1,12 @@
--- What encoding known pairs returns to a C caller and writes to a buffer, and what no encoding returns.
-use Rattle.std.proofs.Common.{◌≡◌, ℕ, List, [], ◌∷◌, length, get_or, replicate, refl, sym, ap, ◌∙◌, subst, arith}
-use Rattle.multihash.specs.Varint.{IsVarint}
+-- What encoding known pairs returns to a C caller and writes to a buffer, and that it is one outcome.
+use Rattle.std.proofs.Common.{◌≡◌, ◌-◌, ℕ, List, [], ◌∷◌, length, get_or, inl, inr, refl, sym, ap, ◌∙◌, subst, arith}
+use Rattle.std.proofs.lemmas.Bool.{cases_lt}
+use Rattle.multihash.specs.Varint.{IsVarint, varint_limit}
+use Rattle.multihash.specs.Pair.{Pair}
 use Rattle.multihash.specs.Encoding.{IsEncoding}
-use Rattle.multihash.proofs.Examples.VarintVectors.{varint_0, varint_1, varint_128}
+use Rattle.multihash.proofs.Examples.VarintVectors.{varint_0, varint_1}
 use Rattle.multihash_c.specs.declared.encode.Encoded.{Encoded}
-use Rattle.multihash_c.specs.Encoded.{IsTooLong, IsLargeCode, IsPut, ReportsLength, Puts}
+use Rattle.multihash_c.specs.Encoded.{IsTooLong, IsLargeCode, IsPut, ReportsLength, Puts, WritesForm}
 use Rattle.multihash.proofs.Writings.EncodingLemmas.{encoding_same}
 
 abbrev outcome : ℕ → ℕ → ℕ → Encoded
@@ -15,37 +17,16 @@ outcome status size length = record { status = status; size = size; length = len
 too_long : IsTooLong 256 (outcome 4 256 0)
 too_long = record { is_status = refl; is_size = refl; no_length = refl }
 
-too_long_is_not_ok : ¬ (IsTooLong 256 (outcome 0 256 0))
-too_long_is_not_ok h = omega (arith, h.is_status)
-
-too_long_is_no_large_code : ¬ (IsTooLong 256 (outcome 5 256 0))
-too_long_is_no_large_code h = omega (arith, h.is_status)
-
-too_long_has_its_size : ¬ (IsTooLong 256 (outcome 4 255 0))
-too_long_has_its_size h = omega (arith, h.is_size)
-
-too_long_has_no_larger_size : ¬ (IsTooLong 256 (outcome 4 257 0))
-too_long_has_no_larger_size h = omega (arith, h.is_size)
-
-too_long_has_no_bytes : ¬ (IsTooLong 256 (outcome 4 256 1))
-too_long_has_no_bytes h = omega (arith, h.no_length)
+too_long_alone : (size : ℕ) (e : Encoded) → IsTooLong size e → (e.status ≡ 4) × (e.size ≡ size) × (e.length ≡ 0)
+too_long_alone size e h = (h.is_status, h.is_size, h.no_length)
 
 -- ---- a code out of range
 
 large_code : IsLargeCode (outcome 5 0 0)
 large_code = record { is_status = refl; no_size = refl; no_length = refl }
 
-large_code_is_not_ok : ¬ (IsLargeCode (outcome 0 0 0))
-large_code_is_not_ok h = omega (arith, h.is_status)
-
-large_code_is_not_too_long : ¬ (IsLargeCode (outcome 4 0 0))
-large_code_is_not_too_long h = omega (arith, h.is_status)
-
-large_code_has_no_size : ¬ (IsLargeCode (outcome 5 1 0))
-large_code_has_no_size h = omega (arith, h.no_size)
-
-large_code_has_no_bytes : ¬ (IsLargeCode (outcome 5 0 1))
-large_code_has_no_bytes h = omega (arith, h.no_length)
+large_code_alone : (e : Encoded) → IsLargeCode e → (e.status ≡ 5) × (e.size ≡ 0) × (e.length ≡ 0)
+large_code_alone e h = (h.is_status, h.no_size, h.no_length)
 
 -- ---- bytes in a buffer
 
@@ -64,68 +45,16 @@ has_no_room : IsPut (1 ∷ 2 ∷ []) (outcome 7 0 2) (7 ∷ []) (7 ∷ [])
 has_no_room =
     record { is_length = refl; no_size = refl; fits = λ room. absurd (omega (arith, room)); no_room = λ short. (refl, refl) }
 
-counts_no_fewer : ¬ (IsPut (1 ∷ 2 ∷ []) (outcome 0 0 1) (7 ∷ 8 ∷ 9 ∷ []) (1 ∷ 2 ∷ 9 ∷ []))
-counts_no_fewer h = omega (arith, h.is_length)
-
--- nor the capacity of the buffer
-counts_no_places : ¬ (IsPut (1 ∷ 2 ∷ []) (outcome 0 0 3) (7 ∷ 8 ∷ 9 ∷ []) (1 ∷ 2 ∷ 9 ∷ []))
-counts_no_places h = omega (arith, h.is_length)
-
-counts_without_room : ¬ (IsPut (1 ∷ 2 ∷ []) (outcome 7 0 0) (7 ∷ []) (7 ∷ []))
-counts_without_room h = omega (arith, h.is_length)
-
-names_no_size : ¬ (IsPut (1 ∷ 2 ∷ []) (outcome 0 2 2) (7 ∷ 8 ∷ 9 ∷ []) (1 ∷ 2 ∷ 9 ∷ []))
-names_no_size h = omega (arith, h.no_size)
-
-names_no_size_without_room : ¬ (IsPut (1 ∷ 2 ∷ []) (outcome 7 2 2) (7 ∷ []) (7 ∷ []))
-names_no_size_without_room h = omega (arith, h.no_size)
-
--- bytes that fit are not rejected, whether or not they are written
-rejects_none_that_fit : ¬ (IsPut (1 ∷ 2 ∷ []) (outcome 7 0 2) (7 ∷ 8 ∷ []) (1 ∷ 2 ∷ []))
-rejects_none_that_fit h = omega (arith, (h.fits (omega arith)).0)
-
-leaves_none_that_fit : ¬ (IsPut (1 ∷ 2 ∷ []) (outcome 7 0 2) (7 ∷ 8 ∷ []) (7 ∷ 8 ∷ []))
-leaves_none_that_fit h = omega (arith, (h.fits (omega arith)).0)
-
-writes_what_fits : ¬ (IsPut (1 ∷ 2 ∷ []) (outcome 0 0 2) (7 ∷ 8 ∷ []) (7 ∷ 8 ∷ []))
-writes_what_fits h = omega (arith, ap (λ (z : List ℕ). get_or z 0 0) (h.fits (omega arith)).1)
-
-writes_all_of_it : ¬ (IsPut (1 ∷ 2 ∷ []) (outcome 0 0 2) (7 ∷ 8 ∷ []) (1 ∷ 8 ∷ []))
-writes_all_of_it h = omega (arith, ap (λ (z : List ℕ). get_or z 1 0) (h.fits (omega arith)).1)
-
--- at the front
-writes_not_after : ¬ (IsPut (1 ∷ 2 ∷ []) (outcome 0 0 2) (7 ∷ 8 ∷ 9 ∷ []) (7 ∷ 1 ∷ 2 ∷ []))
-writes_not_after h = omega (arith, ap (λ (z : List ℕ). get_or z 0 0) (h.fits (omega arith)).1)
-
--- and nothing else
-keeps_the_places_after : ¬ (IsPut (1 ∷ 2 ∷ []) (outcome 0 0 2) (7 ∷ 8 ∷ 9 ∷ []) (1 ∷ 2 ∷ 0 ∷ []))
-keeps_the_places_after h = omega (arith, ap (λ (z : List ℕ). get_or z 2 0) (h.fits (omega arith)).1)
-
-keeps_every_place : ¬ (IsPut (1 ∷ 2 ∷ []) (outcome 0 0 2) (7 ∷ 8 ∷ 9 ∷ []) (1 ∷ 2 ∷ []))
-keeps_every_place h = omega (arith, ap (λ (z : List ℕ). length z) (h.fits (omega arith)).1)
-
--- without enough capacity the call has not succeeded
-is_not_ok_without_room : ¬ (IsPut (1 ∷ 2 ∷ []) (outcome 0 0 2) (7 ∷ []) (7 ∷ []))
-is_not_ok_without_room h = omega (arith, (h.no_room (omega arith)).0)
-
--- the error is that of the capacity
-rejects_no_size_without_room : ¬ (IsPut (1 ∷ 2 ∷ []) (outcome 4 0 2) (7 ∷ []) (7 ∷ []))
-rejects_no_size_without_room h = omega (arith, (h.no_room (omega arith)).0)
-
--- and nothing is written, not even what fits
-writes_none_without_room : ¬ (IsPut (1 ∷ 2 ∷ []) (outcome 7 0 2) (7 ∷ []) (1 ∷ []))
-writes_none_without_room h = omega (arith, ap (λ (z : List ℕ). get_or z 0 0) (h.no_room (omega arith)).1)
-
--- a capacity of 0 is too small as well
-has_no_places : IsPut (1 ∷ 2 ∷ []) (outcome 7 0 2) [] []
-has_no_places =
-    record { is_length = refl; no_size = refl; fits = λ room. absurd (omega (arith, room)); no_room = λ short. (refl, refl) }
-
-is_not_ok_without_places : ¬ (IsPut (1 ∷ 2 ∷ []) (outcome 0 0 2) [] [])
-is_not_ok_without_places h = omega (arith, (h.no_room (omega arith)).0)
-
-makes_no_places : ¬ (IsPut (1 ∷ 2 ∷ []) (outcome 7 0 2) [] (1 ∷ 2 ∷ []))
-makes_no_places h = omega (arith, ap (λ (z : List ℕ). length z) (h.no_room (omega arith)).1)
+-- a call has one outcome
+put_once : (bytes old new other : List ℕ) (d e : Encoded) → IsPut bytes d old new → IsPut bytes e old other
+    → (d.length ≡ e.length) × (d.size ≡ e.size) × (d.status ≡ e.status) × (new ≡ other)
+put_once bytes old new other d e h k = (h.is_length ∙ sym k.is_length, h.no_size ∙ sym k.no_size, by.0, by.1)
+  where
+    by : (d.status ≡ e.status) × (new ≡ other)
+    by = elim (cases_lt (length old) (length bytes)) [
+      | inl short ↦ ((h.no_room short).0 ∙ sym (k.no_room short).0, (h.no_room short).1 ∙ sym (k.no_room short).1)
+      | inr room ↦ ((h.fits room).0 ∙ sym (k.fits room).0, (h.fits room).1 ∙ sym (k.fits room).1)
+    ]
 
 -- ---- bytes that satisfy a predicate
 
@@ -161,11 +90,8 @@ reports_length = record {
   );
 }
 
-length_is_ok : ¬ (ReportsLength 0 1 (outcome 7 0 3))
-length_is_ok h = omega (arith, h.is_ok)
-
-length_names_no_size : ¬ (ReportsLength 0 1 (outcome 0 1 3))
-length_names_no_size h = omega (arith, h.no_size)
+length_is_ok : (code size : ℕ) (e : Encoded) → ReportsLength code size e → (e.status ≡ 0) × (e.size ≡ 0)
+length_is_ok code size e h = (h.is_ok, h.no_size)
 
 -- the length is that of the encoding
 length_reported : (code size : ℕ) (e : Encoded) → ReportsLength code size e → (digest bytes : List ℕ) → length digest ≡ size
@@ -174,24 +100,17 @@ length_reported code size e h digest bytes long is =
     let (own, is_own, counted) = h.is_length digest long in
     counted ∙ ap (λ (z : List ℕ). length z) (encoding_same (record { code = code; digest = digest }) own bytes is_own is)
 
--- a size of 128 needs a byte more
-length_of_128 : (n : ℕ) → ReportsLength 0 128 (outcome 0 0 n) → n ≡ 131
-length_of_128 n h =
-    length_reported 0 128 (outcome 0 0 n) h (replicate 128 0) (0 ∷ 128 ∷ 1 ∷ replicate 128 0) refl (record {
-      code = 0 ∷ [];
-      size = 128 ∷ 1 ∷ [];
-      is_code = varint_0;
-      is_size = varint_128;
-      spelled = refl;
-    })
+-- ---- a digest of 256 bytes, a code of 2^63, and the longest of both that is written
 
--- and so does a code of 128
-length_of_code_128 : (n : ℕ) → ReportsLength 128 0 (outcome 0 0 n) → n ≡ 3
-length_of_code_128 n h =
-    length_reported 128 0 (outcome 0 0 n) h [] (128 ∷ 1 ∷ 0 ∷ []) refl (record {
-      code = 128 ∷ 1 ∷ [];
-      size = 0 ∷ [];
-      is_code = varint_128;
-      is_size = varint_0;
-      spelled = refl;
-    })
+module _ (IsForm : Pair → List ℕ → Type 0) (digest : List ℕ) (e : Encoded) (old new : List ℕ) where
+  writes_no_longer : length digest ≡ 256 → WritesForm IsForm (record { code = varint_limit; digest = digest }) e old new
+      → IsTooLong (length digest) e × (new ≡ old)
+  writes_no_longer long h = h.too_long (omega (arith, long))
+
+  writes_no_larger_code : length digest ≡ 255 → WritesForm IsForm (record { code = varint_limit; digest = digest }) e old new
+      → IsLargeCode e × (new ≡ old)
+  writes_no_larger_code long h = h.large_code (omega (arith, long)) (omega arith)
+
+  writes_longest : length digest ≡ 255 → WritesForm IsForm (record { code = varint_limit - 1; digest = digest }) e old new
+      → Puts (IsForm (record { code = varint_limit - 1; digest = digest })) e old new
+  writes_longest long h = h.puts (omega (arith, long)) (omega arith)
