@@ -31,6 +31,11 @@ pub struct UnknownCode {
 }
 
 impl fmt::Display for UnknownCode {
+    ghost use Rattle.std.specs.Prelude.{◌++◌, Some, codes};
+    ghost use Rattle.std.specs.Fmt.{decimal};
+
+    ghost output = { λ e. Some (codes "no hash function is known for the code " ++ decimal e.code) };
+
     fn fmt<W: fmt::Write>(&self, f: &mut fmt::Formatter<W>) -> fmt::Result {
         write!(f, "no hash function is known for the code {}", self.code)
     }
