@@ -29,16 +29,16 @@ varint_297 = record {
 
 -- ---- version 1
 
-abbrev two_bytes : Pair
+abbrev pub two_bytes : Pair
 two_bytes = record { code = 0x12; digest = 7 ∷ 8 ∷ [] }
 
 encodes_two : IsEncoding two_bytes (0x12 ∷ 0x02 ∷ 7 ∷ 8 ∷ [])
 encodes_two = record { code = 0x12 ∷ []; size = 0x02 ∷ []; is_code = one_byte 0x12 (omega arith); is_size = varint_2; spelled = refl }
 
-abbrev dag_json : List ℕ
+abbrev pub dag_json : List ℕ
 dag_json = 0x01 ∷ 0xa9 ∷ 0x02 ∷ 0x12 ∷ 0x02 ∷ 7 ∷ 8 ∷ []
 
-names_dag_json : IsContentId (version_1 0x0129 two_bytes) dag_json
+pub names_dag_json : IsContentId (version_1 0x0129 two_bytes) dag_json
 names_dag_json = record {
   version = 0x01 ∷ [];
   codec_bytes = 0xa9 ∷ 0x02 ∷ [];

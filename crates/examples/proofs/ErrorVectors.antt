@@ -1,0 +1,127 @@
+-- The errors of known inputs, and what is no error.
+use Rattle.std.proofs.Common.{◌≡◌, ◌↔◌, ◌<◌, ◌≤◌, ℕ, List, [], ◌∷◌, ◌++◌, length, Option, None, Some, inl, inr, refl, sym, ap, ◌∙◌, subst, arith}
+use Rattle.multihash.specs.Varint.{IsVarint}
+use Rattle.multihash.specs.Fault.{IsOther}
+use Rattle.multihash.specs.Pair.{Pair, FitsBuffer}
+use Rattle.multihash.specs.Encoding.{IsEncoding}
+use Rattle.multihash.specs.Verdict.{malformed}
+use Rattle.multihash.specs.Refusal.{IsIo}
+use Rattle.multihash.proofs.CallingLemmas.{number_read, number_found, rejected_no_encoding, head_of_encoding}
+use Rattle.multihash.proofs.Examples.VarintVectors.{varint_2}
+use Rattle.multihash.proofs.Varints.VarintWriteLemmas.{one_byte}
+use Rattle.multihash.proofs.Writings.EncodingLemmas.{encoding_unique}
+use Rattle.examples.specs.ContentId.{version_0, version_1, IsContentId, FitsContentId, IsRejected, HashFails, ContentIdFails, HasTrailingBytes}
+use Rattle.examples.specs.Section.{SectionFails}
+use Rattle.examples.specs.PeerId.{IsPeer, PeerFails}
+use Rattle.examples.specs.declared.content_id.ContentIdError.{ContentIdError}
+use Rattle.examples.specs.declared.content_id.ContentIdError.TheVariants.{OtherVersion, Trailing}
+use Rattle.examples.specs.declared.peer_id.PeerError.{PeerError}
+use Rattle.examples.specs.declared.peer_id.PeerError.TheVariants.{Malformed, NotAllowed, OtherLength}
+use Rattle.examples.proofs.ContentIdLemmas.{content_same, id_fails, id_found, one_place}
+use Rattle.examples.proofs.ContentIdVectors.{two_bytes, dag_json, names_dag_json}
+
+-- ---- content identifiers
+
+other_version : (S : ℕ) (e : ContentIdError) (new : Option (List ℕ)) → ContentIdFails S 0 0 e (Some (2 ∷ [])) new
+    → (e ≡ OtherVersion 2) × (new ≡ Some [])
+other_version S e new (inl (r, _, fails)) = absurd (number_found 0 0 refl r 2 (2 ∷ []) [] (Some (2 ∷ [])) new varint_2 refl fails)
+other_version S e new (inr (n, mid, first, fails)) =
+    let told = number_read 2 n (2 ∷ []) [] varint_2 (Some (2 ∷ [])) mid refl first in
+    elim fails [
+      | inl (_, _, (is, _, kept)) ↦ (is ∙ ap OtherVersion told.0, kept ∙ told.1)
+      | inr (known, _) ↦ elim known [ inl one ↦ absurd (omega (arith, one, told.0)) | inr hash ↦ absurd (omega (arith, hash, told.0)) ]
+    ]
+
+-- the digest of version 0 has 32 bytes, not 31
+other_size : (S : ℕ) (e : ContentIdError) (new : Option (List ℕ)) → ContentIdFails S 0 0 e (Some (0x12 ∷ 0x1f ∷ [])) new
+    → (e ≡ OtherVersion 0x12) × (new ≡ Some [])
+other_size S e new fails = by fails
+  where
+    input : Option (List ℕ)
+    input = Some (0x12 ∷ 0x1f ∷ [])
+
+    code : IsVarint 0x12 (0x12 ∷ [])
+    code = one_byte 0x12 (omega arith)
+
+    size : IsVarint 0x1f (0x1f ∷ [])
+    size = one_byte 0x1f (omega arith)
+
+    by : ContentIdFails S 0 0 e input new → (e ≡ OtherVersion 0x12) × (new ≡ Some [])
+    by (inl (r, _, fails)) = absurd (number_found 0 0 refl r 0x12 (0x12 ∷ []) (0x1f ∷ []) input new code refl fails)
+    by (inr (version, mid, first, inl (_, other, _))) = absurd (other (number_read 0x12 version (0x12 ∷ []) (0x1f ∷ []) code input mid refl first).0)
+    by (inr (version, mid, first, inr (_, inl (r, _, fails)))) =
+        let told = number_read 0x12 version (0x12 ∷ []) (0x1f ∷ []) code input mid refl first in
+        absurd (number_found 0 0 refl r 0x1f (0x1f ∷ []) [] mid new size told.1 fails)
+    by (inr (version, mid, first, inr (_, inr (number, left, second, fails)))) =
+        let told = number_read 0x12 version (0x12 ∷ []) (0x1f ∷ []) code input mid refl first in
+        let two = number_read 0x1f number (0x1f ∷ []) [] size mid left told.1 second in
+        hash version number left told.0 two.0 two.1 fails
+      where
+        hash : (version number : ℕ) (left : Option (List ℕ)) → version ≡ 0x12 → number ≡ 0x1f → left ≡ Some []
+            → HashFails S 0 0 e version number left new → (e ≡ OtherVersion 0x12) × (new ≡ Some [])
+        hash version number left one two at (inl (is, _)) = absurd (omega (arith, one, is))
+        hash version number left one two at (inr (inl (_, is, _))) = absurd (omega (arith, two, is))
+        hash version number left one two at (inr (inr (_, _, (is, _, kept)))) = (is, kept ∙ at)
+
+-- trailing bytes are no error of reading, and each error counts one failure at most
+module _ (S : ℕ) (old new : Option (List ℕ)) where
+  not_trailing : (before after n : ℕ) → ¬ (ContentIdFails S before after (Trailing n) old new)
+  not_trailing before after n (inl (r, is, _)) = cc
+  not_trailing before after n (inr (_, _, _, inl (_, _, (is, _, _)))) = cc
+  not_trailing before after n (inr (_, _, _, inr (_, inl (r, is, _)))) = cc
+  not_trailing before after n (inr (_, _, _, inr (_, inr (_, _, _, inl (_, (r, is, _)))))) = cc
+  not_trailing before after n (inr (_, _, _, inr (_, inr (_, _, _, inr (inl (_, _, (r, is, _))))))) = cc
+  not_trailing before after n (inr (_, _, _, inr (_, inr (_, _, _, inr (inr (_, _, (is, _, _))))))) = cc
+
+  counts_one : (n : ℕ) → ¬ (ContentIdFails S 0 1 (OtherVersion n) old new)
+  counts_one n (inl (r, is, _)) = cc
+  counts_one n (inr (_, _, _, inl (_, _, (_, same, _)))) = omega (arith, same)
+  counts_one n (inr (_, _, _, inr (_, inl (r, is, _)))) = cc
+  counts_one n (inr (_, _, _, inr (_, inr (_, _, _, inl (_, (r, is, _)))))) = cc
+  counts_one n (inr (_, _, _, inr (_, inr (_, _, _, inr (inl (_, _, (r, is, _))))))) = cc
+  counts_one n (inr (_, _, _, inr (_, inr (_, _, _, inr (inr (_, _, (_, same, _))))))) = omega (arith, same)
+
+fits_exactly : (S codec : ℕ) (p : Pair) → FitsContentId S (version_1 codec p) ↔ FitsBuffer S p
+fits_exactly S codec p = (λ fits. fits, λ fits. fits)
+
+fits_any : (S : ℕ) (digest : List ℕ) → FitsContentId S (version_0 digest)
+fits_any S digest = tt
+
+one_byte_after : (S n : ℕ) → HasTrailingBytes S n (dag_json ++ 9 ∷ []) → (n ≡ 1) × (2 ≤ S)
+one_byte_after S n h =
+    let one = one_place encoding_unique h.content (version_1 0x0129 two_bytes) h.bytes dag_json h.rest (9 ∷ []) h.is names_dag_json (sym h.cut) in
+    let fits : FitsContentId S (version_1 0x0129 two_bytes) = subst (FitsContentId S) one.0 h.fits in
+    (omega (arith, h.many, ap length one.2), omega (arith, fits))
+
+none_after : (S : ℕ) (input : List ℕ) → ¬ (HasTrailingBytes S 0 input)
+none_after S input h = omega (arith, h.some)
+
+-- an identifier of 7 bytes in a section of n
+module _ (S n : ℕ) (is_len : IsVarint n (n ∷ [])) (fits : FitsBuffer S two_bytes) where
+  longer_than_its_section : (e : ContentIdError) (new : Option (List ℕ)) → SectionFails S 0 0 e (Some (n ∷ dag_json)) new
+      → (n < 7) × IsRejected (IsIo IsOther) e
+  longer_than_its_section e new (inl (r, _, fails)) =
+      absurd (number_found 0 0 refl r n (n ∷ []) dag_json (Some (n ∷ dag_json)) new is_len refl fails)
+  longer_than_its_section e new (inr (len, mid, first, fails)) =
+      let told = number_read n len (n ∷ []) dag_json is_len (Some (n ∷ dag_json)) mid refl first in
+      elim fails [
+        | inl fails ↦ absurd (id_fails S (version_1 0x0129 two_bytes) dag_json [] names_dag_json fits 0 0 refl e mid new told.1 fails)
+        | inr (content, (id, (names, shorter), consumes), _, is) ↦
+            let same = (id_found content (version_1 0x0129 two_bytes) dag_json [] mid new (id, names, consumes) names_dag_json told.1).0 in
+            let long = ap length (content_same (version_1 0x0129 two_bytes) id dag_json (subst (λ c. IsContentId c id) same names) names_dag_json) in
+            (omega (arith, shorter, long, told.0), is)
+      ]
+
+-- ---- peer identifiers
+
+-- an identifier has no error
+no_error : (p : Pair) (bytes : List ℕ) (e : PeerError) → IsPeer p → IsEncoding p bytes → ¬ (PeerFails bytes e)
+no_error p bytes (Malformed r) is encodes (f, named, v) =
+    let fits : FitsBuffer 42 p = elim is [ inl identity ↦ omega (arith, identity.1) | inr hash ↦ omega (arith, hash.1) ] in
+    rejected_no_encoding 42 {e = r} (malformed f, v 42, named) p encodes fits
+no_error p bytes (NotAllowed code size) is encodes (len, head, other) =
+    let same = head_of_encoding code size len bytes head p encodes in
+    other (rw (same.0, same.1) is)
+no_error p bytes (OtherLength n) is encodes (code, size, len, head, allowed, long, other) =
+    let same = head_of_encoding code size len bytes head p encodes in
+    other (long ∙ (ap length same.2 ∙ sym same.1))
