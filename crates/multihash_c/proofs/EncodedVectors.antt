@@ -1,10 +1,9 @@
 -- What encoding known pairs returns to a C caller and writes to a buffer, and that it is one outcome.
-use Rattle.std.proofs.Common.{◌≡◌, ◌-◌, ℕ, List, [], ◌∷◌, length, get_or, inl, inr, refl, sym, ap, ◌∙◌, subst, arith}
+use Rattle.std.proofs.Common.{◌≡◌, ◌-◌, ℕ, List, [], ◌∷◌, length, get_or, inl, inr, sym, ap, ◌∙◌, arith}
 use Rattle.std.proofs.lemmas.Bool.{cases_lt}
-use Rattle.multihash.specs.Varint.{IsVarint, varint_limit}
+use Rattle.multihash.specs.Varint.{varint_limit}
 use Rattle.multihash.specs.Pair.{Pair}
 use Rattle.multihash.specs.Encoding.{IsEncoding}
-use Rattle.multihash.proofs.Examples.VarintVectors.{varint_0, varint_1}
 use Rattle.multihash_c.specs.declared.encode.Encoded.{Encoded}
 use Rattle.multihash_c.specs.Encoded.{IsTooLong, IsLargeCode, IsPut, ReportsLength, Puts, WritesForm}
 use Rattle.multihash.proofs.Writings.EncodingLemmas.{encoding_same}
@@ -14,36 +13,15 @@ outcome status size length = record { status = status; size = size; length = len
 
 -- ---- a digest that is too long
 
-too_long : IsTooLong 256 (outcome 4 256 0)
-too_long = record { is_status = refl; is_size = refl; no_length = refl }
-
 too_long_alone : (size : ℕ) (e : Encoded) → IsTooLong size e → (e.status ≡ 4) × (e.size ≡ size) × (e.length ≡ 0)
 too_long_alone size e h = (h.is_status, h.is_size, h.no_length)
 
 -- ---- a code out of range
 
-large_code : IsLargeCode (outcome 5 0 0)
-large_code = record { is_status = refl; no_size = refl; no_length = refl }
-
 large_code_alone : (e : Encoded) → IsLargeCode e → (e.status ≡ 5) × (e.size ≡ 0) × (e.length ≡ 0)
 large_code_alone e h = (h.is_status, h.no_size, h.no_length)
 
 -- ---- bytes in a buffer
-
--- the byte after them is unchanged
-puts_in_front : IsPut (1 ∷ 2 ∷ []) (outcome 0 0 2) (7 ∷ 8 ∷ 9 ∷ []) (1 ∷ 2 ∷ 9 ∷ [])
-puts_in_front =
-    record { is_length = refl; no_size = refl; fits = λ room. (refl, refl); no_room = λ short. absurd (omega (arith, short)) }
-
--- a capacity of as many bytes is enough
-puts_in_all : IsPut (1 ∷ 2 ∷ []) (outcome 0 0 2) (7 ∷ 8 ∷ []) (1 ∷ 2 ∷ [])
-puts_in_all =
-    record { is_length = refl; no_size = refl; fits = λ room. (refl, refl); no_room = λ short. absurd (omega (arith, short)) }
-
--- a capacity of 1 is too small: the byte is unchanged, and the length is returned
-has_no_room : IsPut (1 ∷ 2 ∷ []) (outcome 7 0 2) (7 ∷ []) (7 ∷ [])
-has_no_room =
-    record { is_length = refl; no_size = refl; fits = λ room. absurd (omega (arith, room)); no_room = λ short. (refl, refl) }
 
 -- a call has one outcome
 put_once : (bytes old new other : List ℕ) (d e : Encoded) → IsPut bytes d old new → IsPut bytes e old other
@@ -58,9 +36,6 @@ put_once bytes old new other d e h k = (h.is_length ∙ sym k.is_length, h.no_si
 
 -- ---- bytes that satisfy a predicate
 
-puts_two_bytes : Puts (λ bytes. length bytes ≡ 2) (outcome 0 0 2) (7 ∷ 8 ∷ 9 ∷ []) (1 ∷ 2 ∷ 9 ∷ [])
-puts_two_bytes = (1 ∷ 2 ∷ [], refl, puts_in_front)
-
 -- the bytes that were written satisfy it
 puts_no_three_bytes : ¬ (Puts (λ bytes. length bytes ≡ 3) (outcome 0 0 2) (7 ∷ 8 ∷ 9 ∷ []) (1 ∷ 2 ∷ 9 ∷ []))
 puts_no_three_bytes (bytes, three, put) = omega (arith, three, put.is_length)
@@ -71,24 +46,6 @@ puts_what_it_reports (bytes, is, put) =
     omega (arith, ap (λ (z : List ℕ). get_or z 0 0) (put.no_room (omega (arith, ap (λ (z : List ℕ). length z) is))).1)
 
 -- ---- the length of an encoding
-
--- one byte of each varint, and the digest's
-reports_length : ReportsLength 0 1 (outcome 0 0 3)
-reports_length = record {
-  is_ok = refl;
-  no_size = refl;
-  is_length = λ digest one. (
-    0 ∷ 1 ∷ digest,
-    record {
-      code = 0 ∷ [];
-      size = 1 ∷ [];
-      is_code = varint_0;
-      is_size = subst (λ n. IsVarint n (1 ∷ [])) (sym one) varint_1;
-      spelled = refl;
-    },
-    omega (arith, one),
-  );
-}
 
 length_is_ok : (code size : ℕ) (e : Encoded) → ReportsLength code size e → (e.status ≡ 0) × (e.size ≡ 0)
 length_is_ok code size e h = (h.is_ok, h.no_size)

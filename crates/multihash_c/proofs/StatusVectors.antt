@@ -1,8 +1,8 @@
 -- The texts of statuses, and what is no status's text.
 use Rattle.std.proofs.Common.{◌≡◌, ℕ, List, refl, arith}
 use Rattle.std.specs.Prelude.{codes}
-use Rattle.multihash.specs.Varint.{VarintError, insufficient, overflow, not_minimal}
-use Rattle.multihash_c.specs.Status.{status_of_error, IsStatusText}
+use Rattle.multihash.specs.Varint.{insufficient, overflow, not_minimal}
+use Rattle.multihash_c.specs.Status.{IsStatusText}
 
 -- each status has one text
 text_of_ok : (text : List ℕ) → IsStatusText 0 text → text ≡ codes "ok"
@@ -31,20 +31,3 @@ text_of_no_room text h = h.no_room refl
 
 text_of_none : (text : List ℕ) → IsStatusText 8 text → text ≡ codes "unknown status"
 text_of_none text h = h.unknown (omega arith)
-
--- the text of no status
-no_error_is_8 : (f : VarintError) → ¬ (8 ≡ status_of_error f)
-no_error_is_8 insufficient e = omega (arith, e)
-no_error_is_8 overflow e = omega (arith, e)
-no_error_is_8 not_minimal e = omega (arith, e)
-
-reports_none : IsStatusText 8 (codes "unknown status")
-reports_none = record {
-  ok = λ e. absurd (omega (arith, e));
-  error = λ f e. absurd (no_error_is_8 f e);
-  size = λ e. absurd (omega (arith, e));
-  code = λ e. absurd (omega (arith, e));
-  eof = λ e. absurd (omega (arith, e));
-  no_room = λ e. absurd (omega (arith, e));
-  unknown = λ above. refl;
-}
