@@ -7,7 +7,7 @@ use Rattle.multihash.proofs.Writings.WritingLemmas.{length_of_not_nil}
 use Rattle.mh_show.specs.declared.run.RunError.TheVariants.{Input, NotShown, Output}
 use Rattle.mh_show.specs.declared.show.ShowError.TheVariants.{NotHex, Refused, Memory}
 use Rattle.mh_show.specs.Shown.{ShowsAs, NamesNone, IsRejectedAs}
-use Rattle.mh_show.specs.Run.{error_line, ReadsWhole, AppendsPrefixOf, TriesToAppend, ShowsInput, ShowsPart, EndsRun, ReportsError}
+use Rattle.mh_show.specs.Run.{error_line, ReadsWhole, TriesToAppend, ShowsInput, ShowsPart, EndsRun, ReportsError}
 use Rattle.mh_show.proofs.ShownVectors.{digits_name_some, no_pair_rejected, shows_only}
 
 -- ---- a whole input
@@ -23,37 +23,12 @@ leaves_no_text h = omega (arith, ap (λ (z : List ℕ). length z) h.at_end)
 reads_no_longer : (text : List ℕ) → length text ≡ 65537 → ¬ (ReadsWhole (Some text) (Some []) text)
 reads_no_longer text long h = omega (arith, long, h.short)
 
--- ---- a part
-
-appends_no_whole : ¬ (AppendsPrefixOf (Some []) (Some (codes "ab")) (codes "ab"))
-appends_no_whole h =
-    let (rest, some, cut) = h.strict in
-    omega (
-      arith,
-      length_of_not_nil rest some,
-      ap (λ (z : List ℕ). length z) h.appends,
-      ap (λ (z : List ℕ). length z) cut,
-      length-append h.part rest,
-    )
-
 -- the first bytes of an output are known
 first_of : (part rest bytes new : List ℕ) → bytes ≡ part ++ rest → new ≡ part → 0 < length new
     → get_or bytes 0 0 ≡ get_or new 0 0
 first_of [] rest bytes new cut is some = absurd (omega (arith, ap (λ (z : List ℕ). length z) is))
 first_of (c ∷ part) rest bytes new cut is some =
     ap (λ (z : List ℕ). get_or z 0 0) cut ∙ sym (ap (λ (z : List ℕ). get_or z 0 0) is)
-
-appends_no_other_part : ¬ (AppendsPrefixOf (Some []) (Some (codes "b")) (codes "ab"))
-appends_no_other_part h =
-    omega (
-      arith,
-      first_of h.part h.strict.0 (codes "ab") (codes "b") h.strict.2 h.appends
-          (omega arith),
-    )
-
-tries_with_no_other : ¬ (TriesToAppend (Some []) (Some (codes "b")) (codes "ab"))
-tries_with_no_other (inl e) = omega (arith, ap (λ (z : List ℕ). length z) e)
-tries_with_no_other (inr part) = appends_no_other_part part
 
 -- ---- runs
 

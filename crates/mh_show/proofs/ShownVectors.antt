@@ -125,14 +125,6 @@ shows_only lines (line, bytes, p, is, names, whole, e) =
     let of : p ≡ pair 0 [] = cc in
     subst (λ (q : Pair). lines ≡ shown q) of e
 
-shows_no_other_code : ¬ (ShowsAs (codes "0000\n") (codes "code 1\nsize 0\ndigest -\n"))
-shows_no_other_code h =
-    omega (
-      arith,
-      ap (λ (z : List ℕ). get_or z 5 0)
-          (shows_only (codes "code 1\nsize 0\ndigest -\n") h),
-    )
-
 -- a text that names no bytes shows nothing
 no_digits_show : (lines : List ℕ) → ¬ (ShowsAs (codes "zz\n") lines)
 unfolding decode_pairs
