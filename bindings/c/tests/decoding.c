@@ -59,8 +59,9 @@ void check_error(multihash_decoded found, multihash_status status, uint64_t size
 /* A limit above the longest digest's length changes nothing. */
 void check_limit(void)
 {
-    static const uint8_t bytes[] = {0x01, 0x80, 0x02, 0x00};
+    static const uint8_t bytes[] = {0x01, 0x80, 0x02, 0x00}, digest[] = {0x01, 0x01, 0x00};
     check_error(multihash_read_limit(bytes, 4, SIZE_MAX), MULTIHASH_INVALID_SIZE, 256, 3);
+    CHECK(multihash_read_limit(digest, 3, SIZE_MAX / 2 + 1).status == MULTIHASH_OK);
 }
 
 /* Each prefix of the encoding of a code and a digest whose varints have that many bytes, and then the whole.
