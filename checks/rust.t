@@ -29,8 +29,8 @@ rust_source() {
     mv "$work/kept" "$folder/bindings/c/prebuilt" || return 1
   [ -n "$(type -P clang)" ] || return 0
   for target in thumbv7em-none-eabi aarch64_be-unknown-linux-gnu; do
-    rejects "can't find crate for \`core\`" in_crate CC=clang AR=ar cargo build -p multihash_c --no-default-features \
-      --target "$target" && [ -n "$(find "$work/target/$target" -name '*multihash.o')" ] || return 1
+    rejects "can't find crate for \`core\`" in_crate CC=clang AR=ar CFLAGS=-ffreestanding cargo build -p multihash_c \
+      --no-default-features --target "$target" && [ -n "$(find "$work/target/$target" -name '*multihash.o')" ] || return 1
   done
 }
 
