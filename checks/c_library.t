@@ -4,7 +4,7 @@
 # valgrind, with all warnings as errors; and runs the examples.
 # shellcheck source=checks/lib/tap.sh
 . "$(dirname "$0")/lib/tap.sh"
-plan 32
+plan 33
 set -o pipefail
 # shellcheck source=checks/lib/proved.sh
 . checks/lib/proved.sh
@@ -157,9 +157,9 @@ counted_calls() {
 }
 
 # C by hand, which is counted beside the library, has the same results: those of the vectors, and of drawn inputs.
-plain_c() {
-  build_and_run plain "" cc "${c_flags[@]}" -O2 "$c"/tests/{plain,test,decoding,encoding,verdicts,shared}.c &&
-    cc "${c_flags[@]}" -O2 -I "$c/include" "$c"/tests/{plain,draws}.c -o "$work/draws" &&
+by_hand() {
+  build_and_run "$1" "" cc "${c_flags[@]}" -O2 "$c/tests/$1.c" "$c"/tests/{test,decoding,encoding,verdicts,shared}.c &&
+    cc "${c_flags[@]}" -O2 -I "$c/include" "$c/tests/$1.c" "$c/tests/draws.c" -o "$work/draws" &&
     "$work/draws" 1 100000 | diff - "$c/tests/draws.txt"
 }
 
@@ -212,7 +212,7 @@ stream_example() {
 
 # ---- all of it
 
-has 32 cc python3 rt || exit 0
+has 33 cc python3 rt || exit 0
 try "static library" build_library
 try "the prebuilt archives" prebuilt_archives
 try "a planted archive of them" rejects "aarch64/libmultihash_c.a differ: byte 10000" planted_prebuilt
@@ -221,7 +221,8 @@ test_compilers
 has 1 valgrind && try valgrind under_valgrind
 has 1 qemu-x86_64 && try "a processor of the baseline" on_old_processor
 try "the counted calls" counted_calls
-try "C by hand" plain_c
+try "C by hand" by_hand plain
+try "fast C by hand" by_hand fast
 try "what is planted in C by hand" planted_in_c
 try "the example of the page" example_in bindings/c/README.md
 sed 's/int main(void)/int main()/' bindings/c/README.md > "$work/page.md"

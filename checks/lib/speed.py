@@ -36,7 +36,9 @@ HEAD = (
     "# case\tinstructions here\ttuned Rust crate\tdefault Rust crate\tnanoseconds here"
     "\ttuned Rust crate\tshare in time"
 )
-C_BUILDS = [C / "prebuilt/x86_64/libmultihash_c.a", C / "tests/plain.c", C / "src/multihash.c"]
+C_BUILDS = [
+    C / name for name in ("prebuilt/x86_64/libmultihash_c.a", "tests/plain.c", "tests/fast.c", "src/multihash.c")
+]
 NAMES = {
     "read_slice": "read, slice",
     "write_slice": "write, slice",
@@ -155,10 +157,13 @@ def table(rows: Rows) -> str:
 
 
 def c_table(calls: Mapping[str, list[int]]) -> str:
-    lines = ["| Call from C | archive | plain C | share | portable source | share |", "|---" + 5 * "|---:" + "|"]
-    for name, (archive, plain, portable) in calls.items():
-        shares = f"{archive / plain:.2f} | {portable} | {portable / plain:.2f}"
-        lines.append(f"| `{name}` | {archive} | {plain} | {shares} |")
+    lines = [
+        "| Call from C | archive | plain C | share | fast C | share | portable source |",
+        "|---" + 6 * "|---:" + "|",
+    ]
+    for name, (archive, plain, fast, portable) in calls.items():
+        shares = f"{plain} | {archive / plain:.2f} | {fast} | {archive / fast:.2f}"
+        lines.append(f"| `{name}` | {archive} | {shares} | {portable} |")
     return "\n".join([*lines, ""])
 
 
@@ -202,7 +207,7 @@ def count_c() -> dict[str, list[int]]:
 
 def calls_of(page: str) -> dict[str, list[int]]:
     """Returns the counts of the calls from C that the page has."""
-    form = r"^\| `(\w+)` \| (\d+) \| (\d+) \| \S+ \| (\d+) \|"
+    form = r"^\| `(\w+)` \| (\d+) \| (\d+) \| \S+ \| (\d+) \| \S+ \| (\d+) \|"
     return {name: [*map(int, counts)] for name, *counts in re.findall(form, page, re.M)}
 
 
