@@ -59,6 +59,10 @@ pub fn len(n: u64) -> Result<usize, Error>
     ensures short { IfOk result (λ len. len ≤ max_continuation + 1) }
     ensures err { IfErr result (λ e. IsInvalidCode n e × (varint_limit ≤ n)) }
 {
+    // Most numbers have one byte, so this test comes first.
+    if n < 128 {
+        return Ok(len_in_range(n));
+    }
     if n > MAX {
         return Err(Error::from_code(n));
     }

@@ -1,22 +1,22 @@
 -- The word of a slice's first bytes, and what it shows of the varint at their front. All for speed: no loop
 -- over the bytes of a varint.
-use Rattle.std.proofs.Common.{◌≡◌, ℕ, zero, suc, ◌-◌, ◌<◌, ◌≤◌, List, [], ◌++◌, length, get_or, take, drop, replicate, refl, sym, ap, ◌∙◌, arith, length-append, length-drop, ◌+◌, ◌*◌, ◌/◌, ◌%◌, ◌^◌, ◌∷◌, bit_and, bit_or, Some}
+use Rattle.std.proofs.Common.{◌≡◌, ℕ, zero, suc, ◌-◌, ◌<◌, ◌≤◌, List, [], ◌++◌, length, get_or, take, drop, replicate, refl, sym, ap, ◌∙◌, arith, length-append, length-drop, add-one, ◌+◌, ◌*◌, ◌/◌, ◌%◌, ◌^◌, ◌∷◌, bit_and, bit_or, Some}
 use Prim.Native.Nat.{min}
 use Rattle.std.specs.Int.{byte_worth, sum_through, from_le_bytes, w128}
-use Rattle.std.proofs.Math.Seq.{take-suc, take-add}
-use Rattle.std.proofs.lemmas.List.{drop-replicate, length-replicate, length-take, length-take-le, take_min, take_all, get_or_past, get_or-take, get_or-drop, nil_from_length, take_more, take-take, take-append-drop, drop_more, drop-take}
-use Rattle.std.proofs.lemmas.List.Elements.{All-from_get_or, All-nil, All-take, All-drop, All-more}
+use Rattle.std.proofs.Math.Seq.{take-suc}
+use Rattle.std.proofs.lemmas.List.{drop-replicate, length-replicate, length-take, length-take-le, take_min, take_all, get_or_past, get_or-take, nil_from_length, take_more, take-take, take-append-drop, drop_more}
+use Rattle.std.proofs.lemmas.List.Elements.{All-from_get_or, All-nil, All-take, All-more}
 use Rattle.multihash.specs.Bytes.{IsBytes, place_value}
 use Rattle.multihash.specs.Private.Word.{IsFrontWord, BeginsWithContinuation, digits_low}
 use Rattle.multihash.proofs.Varints.DigitLemmas.{place_value-nil, place_value-cons, place_value_append, place_value_last, low_digits, or_digits}
-use Rattle.std.proofs.Math.Nat.{add-zero, lt_of_not-le, zero-add}
-use Rattle.std.proofs.lemmas.Nat.{and_mask}
+use Rattle.std.proofs.Math.Nat.{lt_of_not-le}
+use Rattle.std.proofs.lemmas.Nat.{and_le_r, and_mask}
 use Rattle.multihash.specs.Varint.{max_continuation, last_byte_limit, IsContinuation, IsVarint, insufficient, overflow, not_minimal, IsInsufficient, IsOverflow, IsNotMinimal}
 use Rattle.multihash.specs.Refusal.{Refusal, IsVarintError}
 use Rattle.multihash.specs.Consuming.{IsFrontErrorAt}
 use Rattle.multihash.proofs.Varints.VarintLemmas.{varint_from_bytes, overflow_after, zero_after}
 use Rattle.multihash.proofs.Varints.VarintReadLemmas.{ReadsContinuation, input_ended, read_overflow, ends_in_zero}
-use Rattle.multihash.proofs.Varints.WordLemmas.{byte_at, byte_of, halves, low_bytes, high_bytes, digits_low_of, stops, stop_at, varint_bits, StopsAt, first_unmarked, last_place, too_large, kept_last, few_continuation, too_large_byte}
+use Rattle.multihash.proofs.Varints.WordLemmas.{byte_at, byte_of, low_bytes, digits_low_of, stops, stop_at, varint_bits, StopsAt, first_unmarked, kept_last}
 
 -- ---- filling a word
 
@@ -73,15 +73,14 @@ cut_front xs n word few is = record {
 
 -- ---- the end of the continuation bytes at the front of an input
 
--- further continuation bytes after those at the front of the input
-begins_more : (xs : List ℕ) (at m : ℕ) → BeginsWithContinuation at xs → ((i : ℕ) → i < m → 128 ≤ get_or xs (at + i) 0) → BeginsWithContinuation (at + m) xs
-begins_more xs at zero begins more = rw (add-zero at) begins
-begins_more xs at (suc m) begins more =
-    let front = begins_more xs at m begins (λ i run. more i (omega arith)) in
-    let large : 128 ≤ get_or xs (at + m) 0 = more m (omega arith) in
-    let within : at + m < length xs = lt_of_not-le (λ past. omega (arith, large, get_or_past xs (at + m) 0 past)) in
-    let next : at + suc m ≡ at + m + 1 = omega arith in
-    rw next (record { enough = omega arith; all_continuation = All-more IsContinuation xs (at + m) 0 within front.all_continuation large })
+-- each of that many bytes is a continuation byte
+begins : (xs : List ℕ) (m : ℕ) → ((i : ℕ) → i < m → 128 ≤ get_or xs i 0) → BeginsWithContinuation m xs
+begins xs zero each = record { enough = omega arith; all_continuation = All-nil IsContinuation }
+begins xs (suc m) each =
+    let front = begins xs m (λ i run. each i (omega arith)) in
+    let large : 128 ≤ get_or xs m 0 = each m (omega arith) in
+    let within : m < length xs = lt_of_not-le (λ past. omega (arith, large, get_or_past xs m 0 past)) in
+    rw (← add-one) (record { enough = omega arith; all_continuation = All-more IsContinuation xs m 0 within front.all_continuation large })
 
 cut_at_byte : (xs : List ℕ) (k : ℕ) → k < length xs → xs ≡ take k xs ++ get_or xs k 0 ∷ drop (k + 1) xs
 cut_at_byte xs k below = sym (take-append-drop k xs) ∙ ap (λ (back : List ℕ). take k xs ++ back) (drop_more xs k 0 below)
@@ -158,136 +157,88 @@ module _ (xs : List ℕ) (word present k last : ℕ) (f : IsFrontWord xs word pr
         (varint_from_bytes (take k xs) last (All-take (λ b. b < 256) k xs end.bytes) end.begins.all_continuation end.below_128 (omega (arith, long, end.few))
         (λ e. end.small (sym long ∙ e)) (λ z. nil_from_length (take k xs) (long ∙ minimal z)))
 
--- ---- what a half shows of the bytes that it holds, which are those from `at` on
-
-module _ (xs : List ℕ) (at half : ℕ) (bytes : IsBytes xs) (is : half ≡ place_value 256 (take 8 (drop at xs))) where
-  back_bytes : IsBytes (drop at xs)
-  back_bytes = All-drop (λ b. b < 256) at xs bytes
-
-  half_stop : StopsAt half (stop_at half)
-  half_stop = first_unmarked half (omega (arith, is, (halves (drop at xs) 8 back_bytes).0))
-
-  half_byte : (i : ℕ) → i < 8 → byte_at half i ≡ get_or xs (at + i) 0
-  half_byte i few =
-      ap (λ (n : ℕ). byte_at n i) is ∙ byte_of (take 8 (drop at xs)) i (All-take (λ b. b < 256) 8 (drop at xs) back_bytes)
-      ∙ get_or-take 8 (drop at xs) i 0 few ∙ get_or-drop at xs i 0
-
-  -- its continuation bytes, or fewer of them
-  half_begins : (m : ℕ) → BeginsWithContinuation at xs → m ≤ stop_at half → m ≤ 8 → BeginsWithContinuation (at + m) xs
-  half_begins m begins run few =
-      begins_more xs at m begins (λ i below. rw (← half_byte i (omega arith)) (half_stop.before i (omega arith)))
-
-  module _ (early : stop_at half < 8) where
-    half_end : BeginsWithContinuation at xs → at + stop_at half ≤ max_continuation
-        → (at + stop_at half ≡ max_continuation → varint_bits half / 2 ^ (8 * stop_at half) < last_byte_limit)
-        → EndsAt xs (at + stop_at half) (varint_bits half / 2 ^ (8 * stop_at half))
-    half_end begins few small =
-        let last = kept_last half (stop_at half) half_stop in
-        record {
-          bytes = bytes;
-          begins = half_begins (stop_at half) begins (omega arith) (omega arith);
-          few = few;
-          last_is = last ∙ half_byte (stop_at half) early;
-          below_128 = omega (arith, last, half_stop.here);
-          small = small;
-        }
-
-    half_digits : (n : ℕ) → stop_at half < n → digits_low n (varint_bits half) ≡ place_value 128 (low_digits (take (stop_at half + 1) (drop at xs)))
-    half_digits n enough =
-        let j = stop_at half + 1 in
-        let back = drop at xs in
-        let kept : varint_bits half ≡ place_value 256 (take j back) =
-        half_stop.varint ∙ ap (λ (m : ℕ). m % 2 ^ (8 * j)) is ∙ low_bytes (take 8 back) j (All-take (λ b. b < 256) 8 back back_bytes)
-        ∙ ap (place_value 256) (take-take j 8 back (omega arith)) in
-        ap (digits_low n) kept ∙ digits_low_of n (take j back) (All-take (λ b. b < 256) j back back_bytes) (omega (arith, length-take j back))
-
 -- ---- what a word shows of the bytes whose first it holds
 
 module _ (xs : List ℕ) (word present : ℕ) (bytes : IsBytes xs) (f : IsFrontWord xs word present) where
-  front_bytes : IsBytes (take 16 xs)
-  front_bytes = All-take (λ b. b < 256) 16 xs bytes
+  first_bytes : (n : ℕ) → IsBytes (take n xs)
+  first_bytes n = All-take (λ b. b < 256) n xs bytes
 
-  -- ---- the low half
-
+  -- the low half
   abbrev pub lower : ℕ
   lower = bit_and word 18446744073709551615
 
   low_is : lower ≡ place_value 256 (take 8 xs)
   low_is =
-      and_mask word 64 ∙ ap (λ (n : ℕ). n % 2 ^ 64) f.word_is ∙ low_bytes (take 16 xs) 8 front_bytes
+      and_mask word 64 ∙ ap (λ (n : ℕ). n % 2 ^ 64) f.word_is ∙ low_bytes (take 16 xs) 8 (first_bytes 16)
       ∙ ap (place_value 256) (take-take 8 16 xs (omega arith))
 
-  none_begins : BeginsWithContinuation 0 xs
-  none_begins = record { enough = omega arith; all_continuation = All-nil IsContinuation }
+  low_stop : StopsAt lower (stop_at lower)
+  low_stop = first_unmarked lower (omega (arith, and_le_r word 18446744073709551615))
+
+  low_byte : (i : ℕ) → i < 8 → byte_at lower i ≡ get_or xs i 0
+  low_byte i few = ap (λ (n : ℕ). byte_at n i) low_is ∙ byte_of (take 8 xs) i (first_bytes 8) ∙ get_or-take 8 xs i 0 few
+
+  -- its continuation bytes, or fewer of them
+  low_begins : (m : ℕ) → m ≤ stop_at lower → m ≤ 8 → BeginsWithContinuation m xs
+  low_begins m run few = begins xs m (λ i below. rw (← low_byte i (omega arith)) (low_stop.before i (omega arith)))
 
   -- all its bytes are continuation bytes
   pub low_continuation : stops lower ≡ 0 → BeginsWithContinuation 8 xs
-  low_continuation none = half_begins xs 0 lower bytes low_is 8 none_begins (omega (arith, (half_stop xs 0 lower bytes low_is).none none)) (omega arith)
-
-  pub low_early : ¬ (stops lower ≡ 0) → stop_at lower < 8
-  low_early some = (half_stop xs 0 lower bytes low_is).some some
+  low_continuation none = low_begins 8 (omega (arith, low_stop.none none)) (omega arith)
 
   pub low_end : ¬ (stops lower ≡ 0) → EndsAt xs (stop_at lower) (varint_bits lower / 2 ^ (8 * stop_at lower))
   low_end some =
-      let early = low_early some in
-      rw zero-add at (half_end xs 0 lower bytes low_is early none_begins (omega (arith, early)) (λ e. absurd (omega (arith, e, early))))
+      let early = low_stop.some some in
+      let last = kept_last lower (stop_at lower) low_stop in
+      record {
+        bytes = bytes;
+        begins = low_begins (stop_at lower) (omega arith) (omega arith);
+        few = omega (arith, early);
+        last_is = last ∙ low_byte (stop_at lower) early;
+        below_128 = omega (arith, last, low_stop.here);
+        small = λ e. absurd (omega (arith, e, early));
+      }
 
-  pub low_number : (some : ¬ (stops lower ≡ 0)) → stop_at lower < present
+  pub low_number : ¬ (stops lower ≡ 0) → stop_at lower < present
       → (varint_bits lower / 2 ^ (8 * stop_at lower) ≡ 0 → stop_at lower ≡ 0)
       → IsVarint (digits_low 8 (varint_bits lower)) (take (stop_at lower + 1) xs)
   low_number some within minimal =
-      rw (half_digits xs 0 lower bytes low_is (low_early some) 8 (low_early some))
+      let j = stop_at lower + 1 in
+      let few : j ≤ 8 = omega (arith, low_stop.some some) in
+      let kept : varint_bits lower ≡ place_value 256 (take j xs) =
+      low_stop.varint ∙ ap (λ (m : ℕ). m % 2 ^ (8 * j)) low_is ∙ low_bytes (take 8 xs) j (first_bytes 8)
+      ∙ ap (place_value 256) (take-take j 8 xs few) in
+      rw (ap (digits_low 8) kept ∙ digits_low_of 8 (take j xs) (first_bytes j) (omega (arith, few, length-take j xs)))
       (stops_at_number xs word present (stop_at lower) _ f (low_end some) within minimal)
 
-  -- ---- the high half
+  -- the byte after the low half, which holds as many bytes as a varint may have continuation bytes
+  module _ (begins : BeginsWithContinuation max_continuation xs) where
+    abbrev pub ninth : ℕ
+    ninth = bit_and (word / 2 ^ 64) 255
 
-  module _ (begins : BeginsWithContinuation 8 xs) where
-    abbrev pub upper : ℕ
-    upper = word / 2 ^ 64
+    ninth_is : ninth ≡ get_or xs 8 0
+    ninth_is =
+        and_mask (word / 2 ^ 64) 8 ∙ ap (λ (n : ℕ). byte_at n 8) f.word_is ∙ byte_of (take 16 xs) 8 (first_bytes 16)
+        ∙ get_or-take 16 xs 8 0 (omega arith)
 
-    high_is : upper ≡ place_value 256 (take 8 (drop 8 xs))
-    high_is = ap (λ (n : ℕ). n / 2 ^ 64) f.word_is ∙ high_bytes (take 16 xs) 8 front_bytes ∙ ap (place_value 256) (drop-take 8 8 xs)
+    pub high_over : last_byte_limit ≤ ninth → (e : Refusal) → IsVarintError overflow e → IsFrontErrorAt xs e (max_continuation + 1)
+    high_over large = overflow_at xs bytes begins (omega (arith, ninth_is, large))
 
-    high_stop : StopsAt upper (stop_at upper)
-    high_stop = half_stop xs 8 upper bytes high_is
+    module _ (small : ninth < last_byte_limit) where
+      pub high_end : EndsAt xs max_continuation ninth
+      high_end = record { bytes = bytes; begins = begins; few = omega arith; last_is = ninth_is; below_128 = omega (arith, small); small = λ _. small }
 
-    pub high_over : too_large ≤ varint_bits upper → (e : Refusal) → IsVarintError overflow e → IsFrontErrorAt xs e (max_continuation + 1)
-    high_over large =
-        let (run, byte) = too_large_byte upper (stop_at upper) high_stop large in
-        overflow_at xs bytes (half_begins xs 8 upper bytes high_is last_place begins run (omega arith))
-        (omega (arith, byte, half_byte xs 8 upper bytes high_is last_place (omega arith)))
-
-    module _ (small : varint_bits upper < too_large) where
-      high_few : stop_at upper ≤ last_place
-      high_few = few_continuation upper (stop_at upper) high_stop small
-
-      pub high_end : EndsAt xs (8 + stop_at upper) (varint_bits upper / 2 ^ (8 * stop_at upper))
-      high_end = half_end xs 8 upper bytes high_is (omega (arith, high_few)) begins (omega (arith, high_few)) last
-        where
-          last : 8 + stop_at upper ≡ max_continuation → varint_bits upper / 2 ^ (8 * stop_at upper) < last_byte_limit
-          last most = let same : stop_at upper ≡ last_place = omega (arith, most) in rw same (omega (arith, small))
-
-      -- the number that the code computes
-      abbrev pub high_value : ℕ
-      high_value = bit_or (digits_low 8 lower) (digits_low (max_continuation - 7) (varint_bits upper) * 2 ^ 56 % 2 ^ 64)
-
-      pub high_number : 8 + stop_at upper < present → ¬ (varint_bits upper / 2 ^ (8 * stop_at upper) ≡ 0)
-          → IsVarint high_value (take (8 + stop_at upper + 1) xs)
-      high_number within minimal =
-          let number = stops_at_number xs word present (8 + stop_at upper) _ f high_end within (λ z. absurd (minimal z)) in
+      pub high_number : max_continuation < present → ¬ (ninth ≡ 0)
+          → IsVarint (bit_or (digits_low 8 lower) (ninth * 2 ^ 56 % 2 ^ 64)) (take (max_continuation + 1) xs)
+      high_number within some =
+          let number = stops_at_number xs word present max_continuation ninth f high_end within (λ z. absurd (some z)) in
           let front = take 8 xs in
-          let back = take (stop_at upper + 1) (drop 8 xs) in
-          let buffer : 8 + stop_at upper + 1 ≡ 8 + (stop_at upper + 1) = omega arith in
-          let cut : take (8 + stop_at upper + 1) xs ≡ front ++ back = rw buffer (take-add 8 (stop_at upper + 1) xs) in
-          let value : digits_low 8 lower ≡ place_value 128 (low_digits front) =
-          ap (digits_low 8) low_is ∙ digits_low_of 8 front (All-take (λ b. b < 256) 8 xs bytes) (omega (arith, length-take 8 xs)) in
-          rw (
-            value,
-            half_digits xs 8 upper bytes high_is (omega (arith, high_few)) (max_continuation - 7) (omega (arith, high_few)),
-            or_digits front back 8 (length-take-le 8 xs begins.enough) (omega (arith, rw cut at number.in_range)),
-            ← cut,
-          )
-          number
+          let cut : take 9 xs ≡ front ++ ninth ∷ [] =
+          take_more xs 8 0 (omega (arith, within, f.present_is)) ∙ ap (λ (b : ℕ). front ++ b ∷ []) (sym ninth_is) in
+          let low : digits_low 8 lower ≡ place_value 128 (low_digits front) =
+          ap (digits_low 8) low_is ∙ digits_low_of 8 front (first_bytes 8) (omega (arith, length-take 8 xs)) in
+          let high : ninth ≡ place_value 128 (low_digits (ninth ∷ [])) = omega (arith, small, place_value-cons 128 (ninth % 128) [], place_value-nil 128) in
+          rw (low, high, or_digits front (ninth ∷ []) 8 (length-take-le 8 xs begins.enough) (omega (arith, rw cut at number.in_range)), ← cut) number
 
 -- fewer bytes than a word has, for the tactics
 pub ruleset short_front = (bytes_of, padded_front_word)

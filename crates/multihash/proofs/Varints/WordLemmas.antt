@@ -1,8 +1,8 @@
 -- The bytes of a word, the number of its digits, and the first byte of a half that is no continuation byte.
-use Rattle.std.proofs.Common.{◌≡◌, ℕ, zero, suc, ◌+◌, ◌-◌, ◌*◌, ◌/◌, ◌%◌, ◌^◌, ◌<◌, ◌≤◌, List, [], ◌∷◌, length, get_or, take, drop, sym, ap, ◌∙◌, arith, bit_and, bit_or, mul-le-mul_right, replicate, refl, add-one, inl, inr}
+use Rattle.std.proofs.Common.{◌≡◌, ℕ, zero, suc, ◌+◌, ◌-◌, ◌*◌, ◌/◌, ◌%◌, ◌^◌, ◌<◌, ◌≤◌, List, [], ◌∷◌, length, get_or, take, drop, sym, ap, ◌∙◌, arith, bit_and, replicate, refl, add-one, inl, inr}
 use Rattle.std.proofs.Math.Nat.{add-zero, mul-suc, mul_assoc, lt_of_not-le, pow-le-pow_right}
-use Rattle.std.proofs.lemmas.Nat.{or_comm, or_shifted, shr-shr, shr_high, shl_whole, mod_low, pow-add, pow_pos, and_assoc, and-not, and_comm, and_le_l, and_le_r, and_mask, and_mod, and_shr, field_of, mod_below, mod-pow-add, shr_le, shr_split}
-use Rattle.std.proofs.lemmas.Nat.Bits.{and_high, bit_at-suc, bit_at-zero, bit_at_and, bit_at_cat_low, bit_at_not, bit_at-pow_other, bit_at-trailing_zeros}
+use Rattle.std.proofs.lemmas.Nat.{and_block, shr-shr, shr_high, mod_low, pow-add, pow_pos, and_assoc, and-not, and_comm, and_le_l, and_le_r, and_mask, and_mod, and_shr, field_of, mod_below, mod-pow-add, shr_le, shr_split}
+use Rattle.std.proofs.lemmas.Nat.Bits.{bit_at-suc, bit_at-zero, bit_at_and, bit_at_cat_low, bit_at_not, bit_at-pow_other, bit_at-trailing_zeros}
 use Rattle.std.proofs.lemmas.List.{get_or-drop, get_or-replicate}
 use Rattle.std.proofs.lemmas.List.Elements.{All-drop, All-head, All-tail, All-replicate}
 use Rattle.multihash.specs.Bytes.{IsBytes, place_value}
@@ -12,8 +12,7 @@ use Prim.Native.Nat.{min}
 use Rattle.std.specs.Int.{w64, bit_at, bit_not, trailing_zeros}
 use Rattle.std.specs.Int.Bits.{and_self}
 use Rattle.std.specs.Int.Count.{trailing_of_zero}
-use Rattle.std.proofs.lemmas.Bool.{cases_lt, cases_eq}
-use Rattle.multihash.specs.Varint.{max_continuation, last_byte_limit}
+use Rattle.std.proofs.lemmas.Bool.{cases_lt}
 
 -- ---- bytes
 
@@ -55,23 +54,49 @@ byte_of ys i all =
 
 -- ---- the number of the digits
 
-digits_low_below : (i word : ℕ) → digits_low i word < 2 ^ (7 * i)
-unfolding digits_low
-digits_low_below zero word = omega arith
-digits_low_below (suc i) word =
-    let digit : word / 2 ^ (8 * i) % 128 ≤ 127 = omega arith in
-    rw (mul-suc 7 i, pow-add 2 (7 * i) 7) (grind (arith, digits_low_below i word, mul-le-mul_right (2 ^ (7 * i)) digit))
+-- the low j bits of each of n parts of w bits
+abbrev low_parts : ℕ → ℕ → ℕ → ℕ → ℕ
+low_parts w j zero x = 0
+low_parts w j (suc n) x = low_parts w j n (x / 2 ^ w) * 2 ^ w + x % 2 ^ w % 2 ^ j
 
--- one more digit, by a shift, a mask and `|`
-pub add_low : (i word : ℕ) → i < 8 → bit_or (digits_low i word) (bit_and (word / 2 ^ i) (127 * 2 ^ (7 * i) % 2 ^ 64)) ≡ digits_low (suc i) word
+-- the mask of these bits
+abbrev mask : ℕ → ℕ → ℕ → ℕ
+mask w j zero = 0
+mask w j (suc n) = mask w j n * 2 ^ w + (2 ^ j - 1)
+
+and_parts : (w j n x : ℕ) → j ≤ w → bit_and x (mask w j n) ≡ low_parts w j n x
+and_parts w j zero x few = omega (arith, and_le_r x 0)
+and_parts w j (suc n) x few =
+    let base : 0 < 2 = omega arith in
+    let small : 2 ^ j - 1 < 2 ^ w = omega (arith, pow-le-pow_right base few, pow_pos j) in
+    ap (λ (v : ℕ). bit_and v (mask w j (suc n))) (sym (shr_split x w))
+    ∙ and_block w (x / 2 ^ w) (mask w j n) (x % 2 ^ w) (2 ^ j - 1) (mod_below x (2 ^ w) (pow_pos w)) small
+    ∙ rw (and_parts w j n (x / 2 ^ w) few, and_mask (x % 2 ^ w) j) refl
+
+-- the digits of each two bytes
+twos_of : (half : ℕ) → half < 2 ^ 64 → bit_and half 35747867511423103 + bit_and (half / 2 ^ 8) 35747867511423103 * 2 ^ 7 % 2 ^ 64
+    ≡ half % 128 + 2 ^ 7 * (half / 2 ^ 8 % 128) + 2 ^ 16 * (half / 2 ^ 16 % 128 + 2 ^ 7 * (half / 2 ^ 24 % 128))
+    + 2 ^ 32 * (half / 2 ^ 32 % 128 + 2 ^ 7 * (half / 2 ^ 40 % 128)) + 2 ^ 48 * (half / 2 ^ 48 % 128 + 2 ^ 7 * (half / 2 ^ 56 % 128))
+twos_of half fits =
+    let low = rw (shr-shr half 16 16, shr-shr half 32 16) at (and_parts 16 7 4 half (omega arith)) in
+    let high = rw (shr-shr half 8 16, shr-shr half 24 16, shr-shr half 40 16) at (and_parts 16 7 4 (half / 2 ^ 8) (omega arith)) in
+    rw (low, high) (omega arith)
+
+-- those of each four, from a number for each two
+fours_of : (a b c d twos : ℕ) → a < 2 ^ 14 → b < 2 ^ 14 → c < 2 ^ 14 → d < 2 ^ 14 → twos ≡ a + 2 ^ 16 * b + 2 ^ 32 * c + 2 ^ 48 * d
+    → bit_and twos 70364449226751 + bit_and (twos / 2 ^ 16) 70364449226751 * 2 ^ 14 % 2 ^ 64 ≡ a + 2 ^ 14 * b + 2 ^ 32 * (c + 2 ^ 14 * d)
+fours_of a b c d twos p q r s is =
+    rw (and_parts 32 14 2 twos (omega arith), and_parts 32 14 2 (twos / 2 ^ 16) (omega arith)) (omega arith)
+
+-- those of all eight, as the code joins them
+pub digits_joined : (half : ℕ) → half < 2 ^ 64
+    → (twos : ℕ) → twos ≡ bit_and half 35747867511423103 + bit_and (half / 2 ^ 8) 35747867511423103 * 2 ^ 7 % 2 ^ 64
+    → (fours : ℕ) → fours ≡ bit_and twos 70364449226751 + bit_and (twos / 2 ^ 16) 70364449226751 * 2 ^ 14 % 2 ^ 64
+    → bit_and fours 4294967295 + fours / 2 ^ 32 * 2 ^ 28 % 2 ^ 64 ≡ digits_low 8 half
 unfolding digits_low
-add_low i word few =
-    let mask : 127 * 2 ^ (7 * i) % 2 ^ 64 ≡ 2 ^ (7 + 7 * i) - 2 ^ (7 * i) =
-    shl_whole 127 7 (7 * i) 64 (omega arith) (omega arith) ∙ omega (arith, pow-add 2 7 (7 * i)) in
-    let buffer : i + 7 * i ≡ 8 * i = omega arith in
-    rw (mask, and_high (word / 2 ^ i) 7 (7 * i), shr-shr word i (7 * i), buffer)
-    (or_comm (digits_low i word) (word / 2 ^ (8 * i) % 128 * 2 ^ (7 * i))
-    ∙ (or_shifted (word / 2 ^ (8 * i) % 128) (7 * i) (digits_low i word) (digits_low_below i word) ∙ omega arith))
+digits_joined half fits twos two fours four =
+    let parts = fours_of _ _ _ _ twos (omega arith) (omega arith) (omega arith) (omega arith) (two ∙ twos_of half fits) in
+    rw (and_mask fours 32) (omega (arith, four ∙ parts))
 
 -- the lowest digit first
 digits_low-cons : (i word : ℕ) → digits_low (suc i) word ≡ word % 128 + 128 * digits_low i (word / 256)
@@ -196,46 +221,8 @@ module _ (half : ℕ) (fits : half < 2 ^ 64) where
     | inr none ↦ none_stops (omega arith)
   ]
 
--- the index in the high half of the byte that may be too large
-abbrev pub last_place : ℕ
-last_place = max_continuation - 8
-
--- the bound that the code compares a high half with
-abbrev pub too_large : ℕ
-too_large = last_byte_limit * 256 ^ last_place
-
-module _ (half m : ℕ) (stop : StopsAt half m) where
-  -- the byte after the continuation bytes is the highest
-  pub kept_last : varint_bits half / 2 ^ (8 * m) ≡ byte_at half m
-  kept_last =
-      let buffer : 8 * (m + 1) ≡ 8 + 8 * m = omega arith in
-      ap (λ (n : ℕ). n / 2 ^ (8 * m)) (rw buffer at stop.varint) ∙ field_of half 8 (8 * m)
-
-  -- a byte up to it counts with its power of 256
-  kept_above : last_place ≤ m → byte_at half last_place * 256 ^ last_place ≤ varint_bits half
-  kept_above run =
-      let buffer : 8 * (m + 1) ≡ 8 * (m - last_place) + 8 * (last_place + 1) = omega arith in
-      omega (arith, rw buffer at stop.varint, mod-pow-add half (8 * (m - last_place)) (8 * (last_place + 1)), field_of half 8 (8 * last_place))
-
-  -- no more continuation bytes than a varint may have
-  pub few_continuation : varint_bits half < too_large → m ≤ last_place
-  few_continuation small =
-      let few : m < suc last_place = lt_of_not-le (λ more. omega (arith, small, kept_above (omega arith), stop.before last_place (omega arith))) in
-      omega arith
-
-  -- a half at or above the bound has a byte that is too large
-  pub too_large_byte : too_large ≤ varint_bits half → (last_place ≤ m) × (last_byte_limit ≤ byte_at half last_place)
-  too_large_byte large = elim (cases_lt m last_place) [
-    | inl few ↦
-        let base : 0 < 2 = omega arith in
-        let buffer : 8 * (m + 1) ≤ 8 * last_place = omega arith in
-        let most : 2 ^ (8 * (m + 1)) ≤ 2 ^ (8 * last_place) = pow-le-pow_right base buffer in
-        absurd (omega (arith, large, stop.varint, most, mod_below half (2 ^ (8 * (m + 1))) (pow_pos (8 * (m + 1)))))
-    | inr run ↦ (
-      run,
-      elim (cases_eq m last_place) [
-        | inl exact ↦ omega (arith, large, rw exact at kept_last)
-        | inr more ↦ omega (arith, run, stop.before last_place (omega (arith, run)))
-      ],
-    )
-  ]
+-- the byte after the continuation bytes is the highest
+pub kept_last : (half m : ℕ) → StopsAt half m → varint_bits half / 2 ^ (8 * m) ≡ byte_at half m
+kept_last half m stop =
+    let buffer : 8 * (m + 1) ≡ 8 + 8 * m = omega arith in
+    ap (λ (n : ℕ). n / 2 ^ (8 * m)) (rw buffer at stop.varint) ∙ field_of half 8 (8 * m)

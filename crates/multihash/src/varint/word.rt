@@ -11,17 +11,14 @@ use crate::Error;
 // The bytes of a word.
 const WORD_LEN: usize = 16;
 
-// The bytes of half a word.
-const HALF_LEN: usize = 8;
-
-// The high bit of each byte of a half.
+// The high bit of each byte of half a word.
 const HIGH_BITS: u64 = 0x8080_8080_8080_8080;
 
-// The most bytes of a varint in the high half.
-const HIGH_LEN: usize = MAX_LEN - HALF_LEN;
+// The low seven bits of the first byte of each two.
+const FIRST_OF_TWO: u64 = 0x007f_007f_007f_007f;
 
-// A high half of this value or more has a byte that makes the varint overflow.
-const TOO_LARGE: u64 = (LAST_BYTE_LIMIT as u64) << (8 * (MAX_CONTINUATION - HALF_LEN));
+// The low fourteen bits of the first two bytes of each four.
+const FIRST_OF_FOUR: u64 = 0x3fff_0000_3fff;
 
 // The number and the length of the varint at the front of the bytes. None if it is malformed;
 // `read_counted` then returns why.
@@ -129,7 +126,7 @@ fn read_word(word: u128, present: usize) -> Result<(u64, usize), (Error, usize)>
     if varint >> (8 * continuation_bytes) == 0 && continuation_bytes > 0 {
         return Err((Error::not_minimal(), continuation_bytes + 1));
     }
-    Ok((join_low(varint), continuation_bytes + 1))
+    Ok((join_digits(varint), continuation_bytes + 1))
 }
 
 // Does what `read_word` does, if all bytes of the low half are continuation bytes.
@@ -144,46 +141,26 @@ fn read_high(word: u128, present: usize) -> Result<(u64, usize), (Error, usize)>
         IsFrontErrorAt bytes e.0 e.1) }
 {
     let low = (word & 0xffff_ffff_ffff_ffff) as u64;
-    let high = (word >> 64) as u64;
-    let stops = !high & HIGH_BITS;
-    let varint = high & stops.wrapping_sub(1);
-    if varint >= TOO_LARGE {
+    let last = (word >> 64) as u64 & 0xff;
+    if last >= LAST_BYTE_LIMIT as u64 {
         return Err((Error::overflow(), MAX_LEN));
     }
-    let continuation_bytes = (stops.trailing_zeros() / 8) as usize;
-    if HALF_LEN + continuation_bytes >= present {
+    if present <= MAX_CONTINUATION {
         return Err((Error::insufficient(), present));
     }
-    if varint >> (8 * continuation_bytes) == 0 {
-        return Err((Error::not_minimal(), HALF_LEN + continuation_bytes + 1));
+    if last == 0 {
+        return Err((Error::not_minimal(), MAX_LEN));
     }
-    let number = join_digits::<HALF_LEN>(low) | join_digits::<HIGH_LEN>(varint) << (7 * HALF_LEN);
-    Ok((number, HALF_LEN + continuation_bytes + 1))
+    Ok((join_digits(low) | last << (7 * MAX_CONTINUATION), MAX_LEN))
 }
 
-// The number of the low seven bits of each byte of a low half, which mostly has few bytes of a varint.
+// The number of the low seven bits of each byte of a half: first of each two bytes, then of each four.
 #[inline(always)]
-#[tactic(auto, unfolding(crate::specs::Private::Word::digits_low))]
-fn join_low(half: u64) -> u64
+#[tactic(auto, using(std::proofs::lemmas::Nat::and_le_r))]
+fn join_digits(half: u64) -> u64
     ensures { result ≡ digits_low 8 half }
 {
-    if half < 1 << 32 {
-        join_digits::<4>(half)
-    } else {
-        join_digits::<HALF_LEN>(half)
-    }
-}
-
-// The number of the low seven bits of each of the lowest `N` bytes.
-#[inline(always)]
-#[tactic(auto, using(crate::proofs::Varints::WordLemmas::add_low), unfolding(crate::specs::Private::Word::digits_low))]
-fn join_digits<const N: usize>(half: u64) -> u64
-    requires { N ≤ 8 }
-    ensures { result ≡ digits_low N half }
-{
-    let mut number = 0;
-    for i in 0..N {
-        number |= (half >> i) & (0x7f << (7 * i));
-    }
-    number
+    let twos = (half & FIRST_OF_TWO) + (((half >> 8) & FIRST_OF_TWO) << 7);
+    let fours = (twos & FIRST_OF_FOUR) + (((twos >> 16) & FIRST_OF_FOUR) << 14);
+    (fours & 0xffff_ffff) + ((fours >> 32) << 28)
 }

@@ -32,7 +32,7 @@ returns-then-continuation_bytes-gt0-clause-err c = λ xs bytes f.
 
 pub returns-clause-ok : goal.returns-clause-ok
 returns-clause-ok c = λ xs bytes f.
-    rw c.join_low.ensures
+    rw c.join_digits.ensures
     (low_number xs _ _ bytes f c.if-stops-eq0.false c.if-continuation_bytes-present.false
     (λ z. elim c.else-varint-continuation_bytes-eq0.branch [
       | else-varint-continuation_bytes-eq0-via-then-varint-continuation_bytes-eq0+else-continuation_bytes-gt0 w ↦ omega (arith, w.if-continuation_bytes-gt0.false)

@@ -1,0 +1,6 @@
+use Rattle.std.proofs.Common.{refl}
+use Rattle.multihash.proofs.Varints.WordLemmas.{digits_joined}
+use Rattle.multihash.proofs.varint.word.join_digits.Goals as goal
+
+pub returns : goal.returns
+returns c = digits_joined c.args.half c.ranges.half.fits _ refl _ refl
