@@ -11,7 +11,7 @@ has_totals() {
     /^rt: [a-z_]+: its tests passed$/ { print substr($2, 1, length($2) - 1), tests }' "$1" | sort) << 'LIST'
 45 passed, 0 failed
 mh_show 6
-tests_streams 30
+tests_streams 31
 tests_sweeps 21
 tests_values 23
 vectors 1

@@ -1,9 +1,9 @@
-//! Tests of streams: the readers and writers of the library, lists, the functions of `examples` and
-//! `storage`, and what the tests stand on.
+//! Tests of streams: the readers and writers of the library, lists, the functions of `examples` and `storage`, and
+//! what the tests stand on.
 #![tactic(auto)]
 
 #[cfg(test)]
-mod content;
+mod callers;
 #[cfg(test)]
 mod doubles;
 #[cfg(test)]
@@ -12,5 +12,3 @@ mod list;
 mod no_std_io;
 #[cfg(test)]
 mod stored;
-#[cfg(test)]
-mod used;

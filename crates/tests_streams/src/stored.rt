@@ -1,18 +1,41 @@
-//! The log, the readers and the writers of `storage`: that their calls succeed and pass on errors, and how
-//! often they call, allocate and hash. What they return is stated by their contracts.
-use fakes::error_kind::{ErrorKind, is_failed};
-use fakes::readers::{Counts, Cuts, FailAt};
-use fakes::writers::{CountsWrites, Drip, FailWrite};
-use fakes::{check, check_eq, expect_bytes, expect_ok, expect_rejected};
+//! Known values of `storage` and `examples`, that their errors are printed, and that each block is hashed once.
+use crate::callers::SECTION;
+use examples::content_id::ContentIdError;
+use examples::peer_id::PeerError;
+use examples::retries::Retries;
+use examples::section::section_front;
+use fakes::error_kind::ErrorKind;
+use fakes::readers::{Cuts, FailAt};
+use fakes::writers::Drip;
+use fakes::{check, check_eq, expect_bytes, expect_ok};
 use multihash::Multihash;
-use multihash::no_std_io::{Read, Write};
+use multihash::no_std_io::{self, Write};
 use std::alloc::Global;
+use std::error::Error;
 use std::process::Abort;
 use std::time::CpuClock;
-use storage::chained_slices::ChainedSlices;
-use storage::content::UnknownCode;
-use storage::hashing::{ContentHasher, HashingReader, HashingWriter};
+use storage::content::{SHA2_256, UnknownCode, hash_of};
+use storage::hashing::{ContentHasher, HashingWriter};
 use storage::log::{Entry, EntryError, read_entry, valid_prefix, write_entry};
+use storage::merkle::{leaf_node, parent, root_and_path};
+
+// SHA-256 of `abc`, from FIPS 180-4.
+const ABC: [u8; 32] = [
+    186, 120, 22, 191, 143, 1, 207, 234, 65, 65, 64, 222, 93, 174, 34, 35, 176, 3, 97, 163, 150,
+    23, 122, 156, 180, 16, 255, 97, 242, 0, 21, 173,
+];
+
+// The digests of the node above the leaves of the blocks `a` and `b`, and of the root over `a`, `b` and `c`,
+// from another implementation of SHA-256.
+const PARENT: [u8; 32] = [
+    16, 121, 68, 82, 19, 182, 229, 173, 233, 224, 246, 161, 130, 99, 153, 130, 200, 16, 252, 31,
+    23, 86, 35, 162, 150, 246, 138, 171, 49, 230, 220, 65,
+];
+
+const ROOT: [u8; 32] = [
+    196, 244, 4, 232, 140, 234, 173, 132, 26, 133, 252, 170, 251, 105, 145, 252, 253, 11, 207, 111,
+    175, 246, 91, 61, 210, 144, 191, 185, 239, 27, 232, 174,
+];
 
 // The entries of `one` and of no bytes.
 const LOG: [u8; 73] = [
@@ -23,75 +46,25 @@ const LOG: [u8; 73] = [
     0xa4, 0x95, 0x99, 0x1b, 0x78, 0x52, 0xb8, 0x55, 0x00,
 ];
 
-// The length of the first entry.
-const FIRST: usize = 38;
-
-fn hash_of(bytes: &[u8]) -> Multihash<32> {
-    let mut hasher = ContentHasher::new();
-    hasher.update(bytes);
-    hasher.finish()
-}
-
-// One call gives as much of a slice as the buffer has room for.
 #[test]
-fn a_long_slice_is_read_at_once(rt: HostRuntime) {
-    let alloc = rt.alloc();
-    let rt = &rt;
-    let long = [7; 100];
-    let slices: [&[u8]; 1] = [&long];
-    let mut chained = ChainedSlices::new(&slices);
-    check_eq!(rt; expect_ok!(rt; chained.read(&mut [0; 100])), 100);
-    check_eq!(rt; expect_ok!(rt; HashingReader::new(long.as_slice()).read(&mut [0; 100])), 100);
-    check_eq!(rt; expect_ok!(rt; HashingWriter::new(Vec::new(alloc)).write(&long)), 100);
-    check_eq!(rt; expect_ok!(rt; ContentHasher::new().write(&long)), 100);
+fn hash_of_abc(rt: HostRuntime) {
+    let hash = hash_of::<32>(b"abc");
+    check_eq!(&rt; hash.code(), SHA2_256);
+    expect_bytes!(&rt; hash.digest(), &ABC);
 }
 
-fn is_entry_rejected(outcome: &Result<Entry<32>, EntryError>, why: ErrorKind) -> bool {
-    matches!(outcome, Err(EntryError::Failed(e)) if ErrorKind::of(e) == Some(why))
+fn expect_root(rt: &impl Abort, alloc: Global, leaves: &[Multihash<32>]) {
+    assert!(rt; leaves.len() == 3);
+    let (root, path) = expect_ok!(rt; root_and_path(alloc, leaves, 2));
+    expect_bytes!(rt; root.digest(), &ROOT);
+    check_eq!(rt; path.len(), 1);
 }
 
-// The errors of the inner reader and writer are passed on, and nothing is called after them or the end.
 #[test]
-fn hashing_passes_errors_on(rt: HostRuntime) {
-    let rt = &rt;
-    for n in 0..4 {
-        let inner = FailAt::new(Cuts::new(b"abc", 1), n, ErrorKind::LINK_DOWN);
-        let mut reader = HashingReader::new(inner);
-        check_eq!(rt; is_failed(&reader.read_exact(&mut [0; 3]), ErrorKind::LINK_DOWN), n < 3);
-        let (hash, inner) = reader.finish();
-        check!(rt; hash == hash_of(&b"abc"[..n]));
-        check_eq!(rt; inner.asked, 3.min(n + 1));
-        let drip = expect_ok!(rt; Drip::new(rt.alloc(), 3, 1));
-        let mut writer = HashingWriter::new(FailWrite::<false>::new(drip, n, ErrorKind::DISK_GONE));
-        check_eq!(rt; is_failed(&writer.write_all(b"abc"), ErrorKind::DISK_GONE), n < 3);
-        let (hash, inner) = writer.finish();
-        check!(rt; hash == hash_of(&b"abc"[..n]));
-        check_eq!(rt; inner.asked, 3.min(n + 1));
-    }
-    let inner = FailAt::new(Cuts::new(b"abc", 1), 9, ErrorKind::LINK_DOWN);
-    let mut reader = HashingReader::new(inner);
-    check!(rt; is_failed(&reader.read_exact(&mut [0; 4]), ErrorKind::UnexpectedEof));
-    check_eq!(rt; reader.finish().1.asked, 4);
-    check!(rt; HashingWriter::<Vec<u8>>::ALLOCATES && !HashingWriter::<Drip>::ALLOCATES);
-    check!(rt; !ContentHasher::ALLOCATES);
-}
-
-// After each byte.
-#[test]
-fn the_log_passes_errors_on(rt: HostRuntime) {
-    let alloc = rt.alloc();
-    let rt = &rt;
-    for n in 0..FIRST {
-        let mut reader = FailAt::new(Cuts::new(&LOG, 1), n, ErrorKind::LINK_DOWN);
-        let outcome: Result<Entry<32>, EntryError> = read_entry(alloc, &mut reader, 3);
-        check!(rt; is_entry_rejected(&outcome, ErrorKind::LINK_DOWN), n);
-        check_eq!(rt; reader.asked, n + 1);
-        let drip = expect_ok!(rt; Drip::new(alloc, FIRST, 1));
-        let mut writer = FailWrite::<false>::new(drip, n, ErrorKind::DISK_GONE);
-        let outcome = write_entry(&hash_of(b"one"), b"one", &mut writer);
-        expect_rejected!(rt; &outcome, ErrorKind::DISK_GONE, n);
-        check_eq!(rt; writer.asked, n + 1);
-    }
+fn known_tree(rt: HostRuntime) {
+    let (a, b) = (hash_of(b"a"), hash_of(b"b"));
+    expect_bytes!(&rt; parent(&leaf_node(&a), &leaf_node(&b)).digest(), &PARENT);
+    expect_root(&rt, rt.alloc(), &[a, b, hash_of(b"c")]);
 }
 
 #[test]
@@ -101,64 +74,91 @@ fn entries_are_read_back(rt: HostRuntime) {
     let mut log = Vec::new(alloc);
     let mut reader = Cuts::new(&LOG, 1);
     for block in [b"one".as_slice(), b""] {
-        expect_ok!(rt; write_entry(&hash_of(block), block, &mut log));
+        expect_ok!(rt; write_entry(&hash_of::<32>(block), block, &mut log));
         let entry: Entry<32> = expect_ok!(rt; read_entry(alloc, &mut reader, 3));
         check!(rt; entry.hash == hash_of(block));
         expect_bytes!(rt; &entry.block, block);
     }
     expect_bytes!(rt; &log, &LOG);
-    check!(rt; reader.left.is_empty());
+    expect_bytes!(rt; valid_prefix(&LOG), &LOG);
 }
 
-// Memory is available for blocks of more than a page. They are read page by page, into a vector that doubles.
 #[test]
-fn long_entries_are_read_back(rt: HostRuntime) {
-    let alloc = rt.alloc();
+fn a_section_is_read(rt: HostRuntime) {
     let rt = &rt;
-    for len in [4095, 4096, 4097, 5000, 20000, 70000] {
-        let block = expect_ok!(rt; vec![in alloc; 7u8; len]);
-        let mut log = Vec::new(alloc);
-        expect_ok!(rt; write_entry(&hash_of(&block), &block, &mut log));
-        let mut reader = Counts::new(&log);
-        let entry: Entry<32> = expect_ok!(rt; read_entry(alloc, &mut reader, len));
-        expect_bytes!(rt; &entry.block, &block);
-        check_eq!(rt; reader.whole, 1 + len.div_ceil(4096), len);
-        check_eq!(rt; entry.block.capacity() > len, len > 4096, len);
-        check!(rt; entry.block.capacity() / 2 <= len, len);
+    match section_front::<32>(&SECTION) {
+        Ok(Some((id, data, rest))) => {
+            let mut bytes = [0u8; 36];
+            expect_ok!(rt; id.write(&mut bytes.as_mut_slice()));
+            expect_bytes!(rt; &bytes, &SECTION[1..37]);
+            check_eq!(rt; (data, rest.len(), id.encoded_len()), (b"aaaa".as_slice(), 0, 36));
+        }
+        _ => check!(rt; false),
     }
 }
 
-// Three calls for the multihash, one for the length and one for the block.
 #[test]
-fn an_entry_is_written_by_five_calls(rt: HostRuntime) {
+fn a_failure_costs_a_try(rt: HostRuntime) {
     let rt = &rt;
-    for len in [3, 70000] {
-        let block = expect_ok!(rt; vec![in rt.alloc(); 7u8; len]);
-        let mut writer = CountsWrites::new(rt.alloc());
-        expect_ok!(rt; write_entry(&hash_of(&block), &block, &mut writer));
-        check_eq!(rt; (writer.parts, writer.whole), (0, 5), len);
+    for calls in 0..4 {
+        let reader = FailAt::new(Cuts::new(&[0, 2, 7, 8, 9], 1), calls, ErrorKind::LINK_DOWN);
+        let mut again = Retries::new(reader, 2);
+        let multihash = expect_ok!(rt; Multihash::<4>::read(&mut again));
+        expect_bytes!(rt; multihash.digest(), &[7, 8]);
+        check_eq!(rt; (again.tries(), again.reader.asked), (1, 5), calls);
     }
 }
 
-// The head of an entry that claims 2^62 bytes, and has none of them.
-const CLAIM: [u8; 11] = [18, 0, 128, 128, 128, 128, 128, 128, 128, 128, 64];
+#[test]
+fn hashing_writers_allocate_as_inner_ones(rt: HostRuntime) {
+    check!(&rt; HashingWriter::<Vec<u8>>::ALLOCATES && !HashingWriter::<Drip>::ALLOCATES);
+    check!(&rt; !ContentHasher::ALLOCATES);
+}
+
+// Contracts state the texts, but not that printing succeeds.
+fn expect_printed(rt: &impl Abort, alloc: Global, e: &impl Error) {
+    expect_ok!(rt; format!(in alloc; "{e}"));
+}
+
+fn expect_numbers(rt: &impl Abort, alloc: Global, n: u64) {
+    expect_printed(rt, alloc, &EntryError::TooLong(n));
+    expect_printed(rt, alloc, &UnknownCode { code: n });
+    expect_printed(rt, alloc, &ContentIdError::OtherVersion(n));
+    expect_printed(rt, alloc, &ContentIdError::Trailing(n as usize));
+    expect_printed(rt, alloc, &PeerError::OtherLength(n as usize));
+    expect_printed(rt, alloc, &PeerError::NotAllowed { code: n, size: 7 });
+    expect_printed(rt, alloc, &PeerError::NotAllowed { code: 7, size: n });
+}
 
 #[test]
-fn a_claimed_length_is_not_allocated(rt: HostRuntime) {
-    let alloc = rt.alloc();
-    let rt = &rt;
-    let mut left = CLAIM.as_slice();
-    let outcome: Result<Entry<32>, EntryError> = read_entry(alloc, &mut left, usize::MAX);
-    check!(rt; is_entry_rejected(&outcome, ErrorKind::UnexpectedEof));
+fn each_number_is_printed(rt: HostRuntime) {
+    for n in 0..200 {
+        expect_numbers(&rt, rt.alloc(), n);
+    }
+    for bit in 0..64u32 {
+        expect_numbers(&rt, rt.alloc(), 1 << bit);
+        expect_numbers(&rt, rt.alloc(), u64::MAX >> bit);
+    }
+}
+
+fn link_down() -> multihash::Error {
+    multihash::Error::from(no_std_io::Error::other("link down"))
+}
+
+#[test]
+fn each_inner_error_is_printed(rt: HostRuntime) {
+    expect_printed(&rt, rt.alloc(), &EntryError::Failed(link_down()));
+    expect_printed(&rt, rt.alloc(), &ContentIdError::Rejected(link_down()));
+    expect_printed(&rt, rt.alloc(), &PeerError::Malformed(link_down()));
 }
 
 // A log of a block of that many bytes, and then as many entries without a block.
 fn log_of(rt: &impl Abort, alloc: Global, len: usize, entries: usize) -> Vec<u8> {
     let block = expect_ok!(rt; vec![in alloc; 7u8; len]);
     let mut log = Vec::new(alloc);
-    expect_ok!(rt; write_entry(&hash_of(&block), &block, &mut log));
+    expect_ok!(rt; write_entry(&hash_of::<32>(&block), &block, &mut log));
     for _ in 0..entries {
-        expect_ok!(rt; write_entry(&hash_of(b""), b"", &mut log));
+        expect_ok!(rt; write_entry(&hash_of::<32>(b""), b"", &mut log));
     }
     log
 }
@@ -171,25 +171,15 @@ fn time_of(rt: &(impl Abort + CpuClock), log: &[u8]) -> u128 {
     end.saturating_sub(start).as_micros()
 }
 
-// Each block is hashed once: the time of 201 entries is not that of the long one 201 times.
+// Each block is hashed once: the time of 201 entries is not that of the long one 201 times. One of three tries
+// shows it, since a busy machine slows a try down.
 #[test]
 fn each_block_is_hashed_once(rt: HostRuntime) {
     let short = log_of(&rt, rt.alloc(), 1 << 14, 1);
     let long = log_of(&rt, rt.alloc(), 1 << 14, 200);
-    let (once, again) = (time_of(&rt, &short), time_of(&rt, &long));
-    check!(&rt; again / 20 <= once, (once, again));
-}
-
-// The text of `TooLong` is stated by its contract.
-#[test]
-fn each_number_is_printed(rt: HostRuntime) {
-    let alloc = rt.alloc();
-    let rt = &rt;
-    for bit in 0..64u32 {
-        let code = 1u64 << bit;
-        expect_ok!(rt; format!(in alloc; "{}", EntryError::TooLong(code)));
-        let text = expect_ok!(rt; format!(in alloc; "{}", UnknownCode { code }));
-        let wanted = format!(in alloc; "no hash function is known for the code {code}");
-        check_eq!(rt; text.as_str(), expect_ok!(rt; wanted).as_str());
+    let mut is_seen = false;
+    for _ in 0..3 {
+        is_seen = is_seen || time_of(&rt, &long) / 20 <= time_of(&rt, &short);
     }
+    check!(&rt; is_seen);
 }

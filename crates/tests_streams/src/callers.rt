@@ -1,0 +1,372 @@
+//! What no contract of `examples` and `storage` states: how often a reader or a writer is called and for how many
+//! bytes, that its error is passed on, what is reserved, and that memory suffices.
+use examples::any_reader::read_up_to;
+use examples::code_table;
+use examples::content_id::{Codec, ContentId, ContentIdError};
+use examples::forms::{json, scale, there_and_back};
+use examples::headline::{list_through, read_verdict, same};
+use examples::merkle::{through, write_node};
+use examples::retries::Retries;
+use examples::section::read_section;
+use examples::std_reader::StdReader;
+use fakes::error_kind::ErrorKind;
+use fakes::readers::{Counts, Cuts, FailAt};
+use fakes::writers::{CountsWrites, Drip, FailWrite};
+use fakes::{check, check_eq, expect_bytes, expect_ok, expect_rejected};
+use multihash::no_std_io::{self, Read, Write};
+use multihash::{Error, Multihash};
+use std::alloc::Global;
+use std::process::Abort;
+use storage::chained_slices::ChainedSlices;
+use storage::content::hash_of;
+use storage::hashing::{ContentHasher, HashingReader, HashingWriter};
+use storage::log::{EntryError, read_entry, write_entry};
+use storage::merkle::{root_and_path, verify_path};
+use storage::prefixed::{read_prefixed, write_prefixed};
+
+// A section of CARv1: the length 40, the identifier of `aaaa` as raw bytes, with its SHA-256 from another
+// implementation, and these bytes.
+pub(crate) const SECTION: [u8; 41] = [
+    40, 1, 0x55, 0x12, 32, 0x61, 0xbe, 0x55, 0xa8, 0xe2, 0xf6, 0xb4, 0xe1, 0x72, 0x33, 0x8b, 0xdd,
+    0xf1, 0x84, 0xd6, 0xdb, 0xee, 0x29, 0xc9, 0x88, 0x53, 0xe0, 0xa0, 0x48, 0x5e, 0xce, 0xe7, 0xf2,
+    0x7b, 0x9a, 0xf0, 0xb4, 97, 97, 97, 97,
+];
+
+// A call that reads.
+#[derive(Clone, Copy, Debug)]
+enum Reads {
+    Hashed,
+    Retried,
+    Verdict,
+    Coded,
+    UpTo(usize),
+    Listed,
+    Linked,
+    Identifier,
+    Section,
+    Prefixed,
+    Entry,
+}
+
+fn of_entry<T: Drop>(outcome: Result<T, EntryError>) -> Result<(), Error> {
+    match outcome {
+        Ok(_entry) => Ok(()),
+        Err(EntryError::Failed(e)) => Err(e),
+        Err(EntryError::TooLong(_n)) => Ok(()),
+    }
+}
+
+fn of_id<T: Drop>(outcome: Result<T, ContentIdError>) -> Result<(), Error> {
+    match outcome {
+        Ok(_id) => Ok(()),
+        Err(ContentIdError::Rejected(e)) => Err(e),
+        Err(_e) => Ok(()),
+    }
+}
+
+fn done<T: Drop>(outcome: Result<T, Error>) -> Result<(), Error> {
+    match outcome {
+        Ok(_value) => Ok(()),
+        Err(e) => Err(e),
+    }
+}
+
+impl Reads {
+    fn make<R: Read>(self, alloc: Global, r: &mut R) -> Result<(), Error> {
+        let one = [Multihash::<32>::default()];
+        let mut out = Vec::new(alloc);
+        match self {
+            Reads::Hashed => HashingReader::new(r)
+                .read_exact(&mut [0; 100])
+                .map_err(Error::from),
+            Reads::Retried => Retries::new(r, 0)
+                .read_exact(&mut [0; 100])
+                .map_err(Error::from),
+            Reads::Verdict => done(read_verdict::<32, _>(r)),
+            Reads::Coded => done(code_table::read::<32, _>(&[18], r)),
+            Reads::UpTo(limit) => done(read_up_to::<32, _>(alloc, r, limit)),
+            Reads::Listed => done(list_through::<32, 32, _, _>(alloc, &one, &mut out, r)),
+            Reads::Linked => done(through::<32, 32, _, _>(alloc, &one, &[], &mut out, r)),
+            Reads::Identifier => of_id(ContentId::<32>::read(r)),
+            Reads::Section => of_id(read_section::<32, _>(r)),
+            Reads::Prefixed => of_entry(read_prefixed(alloc, r, usize::MAX)),
+            Reads::Entry => of_entry(read_entry::<32, _>(alloc, r, usize::MAX)),
+        }
+    }
+}
+
+// The calls for one byte, the other ones, those of `read_exact`, and the bytes that all ask for.
+fn expect_asked(rt: &impl Abort, alloc: Global, call: Reads, input: &[u8], asked: [usize; 4]) {
+    let mut reader = Counts::new(input);
+    expect_ok!(rt; call.make(alloc, &mut reader));
+    check_eq!(rt; [reader.single, reader.others, reader.whole, reader.bytes], asked, call);
+}
+
+// A call that fails is the last, and its error is passed on; and so is one that meets the end.
+fn expect_last(rt: &impl Abort, alloc: Global, call: Reads, input: &[u8], calls: usize) {
+    for at in 0..calls {
+        for why in [ErrorKind::LINK_DOWN, ErrorKind::OutOfMemory] {
+            let mut reader = FailAt::new(Cuts::new(input, 300), at, why);
+            expect_rejected!(rt; &call.make(alloc, &mut reader), why, (call, at));
+            check_eq!(rt; reader.asked, at.saturating_add(1), call);
+        }
+    }
+    for len in 0..input.len() {
+        let mut reader = Counts::new(input.get(..len).unwrap_or(&[]));
+        let _outcome = call.make(alloc, &mut reader);
+        check_eq!(rt; reader.after_end, 0, (call, len));
+    }
+}
+
+const BLOCK: [u8; 4] = [3, 7, 8, 9];
+
+#[test]
+fn calls_of_readers_are_counted(rt: HostRuntime) {
+    let alloc = rt.alloc();
+    let rt = &rt;
+    let hundred = [7; 100];
+    let (id, hash) = (&SECTION[1..37], &SECTION[3..37]);
+    let mut entry = [0; 38];
+    entry[..34].copy_from_slice(hash);
+    entry[34..].copy_from_slice(&BLOCK);
+    let rows: [(Reads, &[u8], [usize; 4]); 14] = [
+        (Reads::Hashed, &hundred, [0, 1, 0, 100]),
+        (Reads::Retried, &hundred, [0, 2, 0, 100]),
+        (Reads::Verdict, hash, [2, 0, 1, 34]),
+        (Reads::Coded, hash, [2, 0, 1, 34]),
+        (Reads::UpTo(0), hash, [0; 4]),
+        (Reads::UpTo(1), hash, [2, 0, 1, 34]),
+        (Reads::UpTo(2), hash, [3, 0, 1, 35]),
+        (Reads::Listed, hash, [2, 0, 1, 34]),
+        (Reads::Linked, hash, [2, 0, 1, 34]),
+        (Reads::Identifier, hash, [2, 0, 1, 34]),
+        (Reads::Identifier, id, [4, 0, 1, 36]),
+        (Reads::Section, &SECTION, [5, 0, 1, 37]),
+        (Reads::Prefixed, &BLOCK, [1, 0, 1, 4]),
+        (Reads::Entry, &entry, [3, 0, 2, 38]),
+    ];
+    for (call, input, asked) in rows {
+        expect_asked(rt, alloc, call, input, asked);
+        let [single, others, whole, _] = asked;
+        expect_last(
+            rt,
+            alloc,
+            call,
+            input,
+            single.saturating_add(others).saturating_add(whole),
+        );
+    }
+}
+
+// A call that writes.
+#[derive(Clone, Copy, Debug)]
+enum Writes {
+    Hashed,
+    Prefixed,
+    Entry,
+    Node,
+    Version0,
+    Version1,
+}
+
+impl Writes {
+    fn make<W: Write>(self, content: &[u8], w: &mut W) -> Result<(), Error> {
+        let hash = hash_of::<32>(content);
+        match self {
+            Writes::Hashed => HashingWriter::new(w)
+                .write_all(content)
+                .map_err(Error::from),
+            Writes::Prefixed => write_prefixed(content, w),
+            Writes::Entry => write_entry(&hash, content, w),
+            Writes::Node => write_node(&[hash], content, w),
+            Writes::Version0 => ContentId::<32>::V0([7; 32]).write(w),
+            Writes::Version1 => match Codec::new(0x55) {
+                Some(codec) => ContentId::V1 { codec, hash }.write(w),
+                None => Ok(()),
+            },
+        }
+    }
+}
+
+// The calls of `write`, and those of `write_all`. A multihash is three, and a varint is one.
+#[test]
+fn calls_of_writers_are_counted(rt: HostRuntime) {
+    let alloc = rt.alloc();
+    let rt = &rt;
+    let long = expect_ok!(rt; vec![in alloc; 7u8; 70000]);
+    for (call, asked) in [
+        (Writes::Hashed, (1usize, 0usize)),
+        (Writes::Prefixed, (0, 2)),
+        (Writes::Entry, (0, 5)),
+        (Writes::Node, (0, 4)),
+        (Writes::Version0, (0, 3)),
+        (Writes::Version1, (0, 5)),
+    ] {
+        for content in [&BLOCK, long.as_slice()] {
+            let mut writer = CountsWrites::new(alloc);
+            expect_ok!(rt; call.make(content, &mut writer));
+            check_eq!(rt; (writer.parts, writer.whole), asked, call);
+        }
+        for at in 0..asked.0.saturating_add(asked.1) {
+            for why in [ErrorKind::DISK_GONE, ErrorKind::OutOfMemory] {
+                let drip = expect_ok!(rt; Drip::new(alloc, 100, 100));
+                let mut writer = FailWrite::<false>::new(drip, at, why);
+                expect_rejected!(rt; &call.make(&BLOCK, &mut writer), why, (call, at));
+                check_eq!(rt; writer.asked, at + 1, call);
+            }
+        }
+    }
+}
+
+// One call gives, or takes, as much as the buffer has room for.
+#[test]
+fn a_long_slice_is_read_at_once(rt: HostRuntime) {
+    let alloc = rt.alloc();
+    let rt = &rt;
+    let long = [7; 5000];
+    for n in (0..130).chain([255, 256, 4096, 5000]) {
+        let bytes = long.get(..n).unwrap_or(&long);
+        let mut buffer = long;
+        let buffer = buffer.get_mut(..n).unwrap_or(&mut []);
+        check_eq!(rt; expect_ok!(rt; ChainedSlices::new(&[bytes]).read(buffer)), n);
+        check_eq!(rt; expect_ok!(rt; HashingReader::new(bytes).read(buffer)), n);
+        check_eq!(rt; expect_ok!(rt; HashingWriter::new(Vec::new(alloc)).write(bytes)), n);
+        check_eq!(rt; expect_ok!(rt; ContentHasher::new().write(bytes)), n);
+        check_eq!(rt; expect_ok!(rt; Retries::new(bytes, 0).read(buffer)), n.min(64));
+    }
+}
+
+// A reader of `std::io`.
+#[derive(Drop)]
+struct Std<'a>(FailAt<'a>);
+
+impl std::io::Read for Std<'_> {
+    fn read(&mut self, buf: &mut [u8]) -> std::io::Result<usize> {
+        match self.0.read(buf) {
+            Ok(n) => Ok(n),
+            Err(_) => Err(std::io::ErrorKind::Other.into()),
+        }
+    }
+}
+
+// Its input is not known, so no contract states what is read. It fails once, and nothing is lost.
+fn expect_std(rt: &impl Abort, bytes: &[u8], most: usize, at: usize) {
+    let most = most.max(1);
+    let inner = FailAt::new(Cuts::new(bytes, most), at, ErrorKind::LINK_DOWN);
+    let mut reader = StdReader::new(Std(inner));
+    let mut buffer = [0u8; 200];
+    let mut filled = 0usize;
+    let mut calls = 0usize;
+    for _ in 0..200 {
+        match reader.read(buffer.get_mut(filled..).unwrap_or(&mut [])) {
+            Ok(0) => break,
+            Ok(n) => filled = filled.saturating_add(n),
+            Err(e) => check!(rt; calls == at && e.is_other() && e.text() == "not read"),
+        }
+        calls = calls.saturating_add(1);
+    }
+    expect_bytes!(rt; buffer.get(..filled).unwrap_or(&[]), bytes);
+    let parts = bytes.len().div_ceil(most.min(64));
+    check_eq!(rt; calls, parts.saturating_add(usize::from(at <= parts)), (most, at));
+}
+
+#[test]
+fn a_reader_of_std_is_read(rt: HostRuntime) {
+    let bytes = fakes::forms::different();
+    for len in 0..150 {
+        for most in [1, 7, 64, 200] {
+            expect_std(&rt, bytes.get(..len).unwrap_or(&[]), most, len % 3);
+        }
+    }
+}
+
+// A vector that is not made at once has doubled.
+fn expect_doubled(rt: &impl Abort, (len, capacity): (usize, usize), count: usize) {
+    check_eq!(rt; len, count);
+    check!(rt; capacity <= count.saturating_mul(2).max(8), (count, capacity));
+    check!(rt; capacity > count || count < 5000, (count, capacity));
+}
+
+// A block is read page by page.
+fn expect_block(rt: &impl Abort, alloc: Global, count: usize) {
+    let block = expect_ok!(rt; vec![in alloc; 7u8; count]);
+    let (mut out, mut log) = (Vec::new(alloc), Vec::new(alloc));
+    expect_ok!(rt; write_prefixed(&block, &mut out));
+    let mut reader = Counts::new(&out);
+    let read = expect_ok!(rt; read_prefixed(alloc, &mut reader, count));
+    expect_doubled(rt, (read.len(), read.capacity()), count);
+    check_eq!(rt; reader.whole, count.div_ceil(4096), count);
+    expect_ok!(rt; write_entry(&hash_of::<32>(&block), &block, &mut log));
+    let entry = expect_ok!(rt; read_entry::<32, _>(alloc, &mut log.as_slice(), count));
+    expect_doubled(rt, (entry.block.len(), entry.block.capacity()), count);
+}
+
+#[test]
+fn blocks_of_each_length_are_read(rt: HostRuntime) {
+    for count in (0..130).chain([255, 256, 1000, 4095, 4096, 4097, 5000, 20000, 70000]) {
+        expect_block(&rt, rt.alloc(), count);
+    }
+}
+
+fn expect_items(rt: &impl Abort, alloc: Global, count: usize) {
+    let bytes = expect_ok!(rt; vec![in alloc; 0u8; count.saturating_mul(2)]);
+    let items = expect_ok!(rt; read_up_to::<4, _>(alloc, &mut bytes.as_slice(), usize::MAX));
+    expect_doubled(rt, (items.len(), items.capacity()), count);
+    let (out, input) = (&mut Vec::new(alloc), &mut bytes.as_slice());
+    let list = expect_ok!(rt; list_through::<4, 4, _, _>(alloc, &items, out, input));
+    check_eq!(rt; (list.len(), list.capacity()), (count, count));
+    let (out, input) = (&mut Vec::new(alloc), &mut bytes.as_slice());
+    let list = expect_ok!(rt; through::<4, 4, _, _>(alloc, &items, &[], out, input));
+    check_eq!(rt; (list.len(), list.capacity()), (count, count));
+}
+
+#[test]
+fn streams_of_each_length_are_read(rt: HostRuntime) {
+    for count in (0..130).chain([255, 1000, 5000]) {
+        expect_items(&rt, rt.alloc(), count);
+    }
+}
+
+// The head of a block that claims 2^62 bytes, and has none of them.
+const CLAIM: [u8; 9] = [128, 128, 128, 128, 128, 128, 128, 128, 64];
+
+#[test]
+fn a_claimed_length_is_not_allocated(rt: HostRuntime) {
+    let read = read_prefixed(rt.alloc(), &mut CLAIM.as_slice(), usize::MAX);
+    expect_rejected!(&rt; &of_entry(read), ErrorKind::UnexpectedEof, ());
+}
+
+fn expect_leaves(rt: &impl Abort, alloc: Global, leaves: &[Multihash<32>], index: usize) {
+    assert!(rt; index < leaves.len());
+    let (root, path) = expect_ok!(rt; root_and_path(alloc, leaves, index));
+    check!(rt; verify_path(&leaves[index], &path, &root), leaves.len());
+    check!(rt; path.capacity() <= path.len().saturating_mul(2).max(8), leaves.len());
+}
+
+#[test]
+fn trees_of_each_size_are_made(rt: HostRuntime) {
+    let leaves = [hash_of(b"a"); 140];
+    for count in 1..140 {
+        let leaves = leaves.get(..count).unwrap_or(&leaves);
+        expect_leaves(&rt, rt.alloc(), leaves, 0);
+        expect_leaves(&rt, rt.alloc(), leaves, count - 1);
+    }
+}
+
+#[test]
+fn digests_of_each_length_are_compared(rt: HostRuntime) {
+    let bytes = [200; 255];
+    for len in 0..256 {
+        let m = expect_ok!(&rt; Multihash::<255>::wrap(300, bytes.get(..len).unwrap_or(&bytes)));
+        expect_ok!(&rt; same(rt.alloc(), &m, &m));
+    }
+}
+
+#[test]
+fn each_form_is_made_and_read(rt: HostRuntime) {
+    let alloc = rt.alloc();
+    let (_, m) = expect_ok!(&rt; there_and_back(alloc, &[7; 32]));
+    let m = expect_ok!(&rt; m.resize::<32>());
+    expect_ok!(&rt; scale(alloc, &m));
+    expect_ok!(&rt; json(alloc, &m));
+}
