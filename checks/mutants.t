@@ -6,5 +6,5 @@ cd "$(dirname "$0")/.." || exit 2
 options=(--jobs $((($(nproc) + 1) / 2)) --since "${SINCE-}")
 [ -z "${PROVED-}" ] || options+=(--proved "$PROVED")
 [ "${ALL-}" != 1 ] || options+=(--definitions)
-echo 1..144
+echo 1..157
 exec checks/lib/mutants.py "${options[@]}"
