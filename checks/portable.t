@@ -155,7 +155,8 @@ test_here() {
   try "an access after an output" rejects "Aborted" tests_planted 's/\(ADDRESS(OUT), out_length\))/\1 + 1)/'
   try "drawn inputs: an access before one" rejects "Segmentation fault" draws_planted -1
   try "drawn inputs: an access after one" rejects "Segmentation fault" draws_planted bytes_length
-  try "a wrong byte: another result" rejects "not so: " tests_planted '0,/ = 128ull;/s// = 129ull;/'
+  try "a wrong mask of digits: another result" rejects "not so: " tests_planted \
+    's/35747867511423103ull/35747867511423102ull/'
 }
 
 # ---- other machines
