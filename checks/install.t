@@ -90,6 +90,7 @@ is_installed() {
   (cd "$to" && find . ! -type d | sort) > "$work/installed"
   files_in "$libdir" "${@:3}" | sort | diff - "$work/installed" || return 1
   find "$to" -xtype l | grep . && return 1
+  find "$to" -path '*/bin/*' -not -perm 755 | grep . && return 1
   has_documents "$to" && has_flags "$to" "$libdir" && has_shared_library "$to/$libdir/libmultihash_c.so" &&
     echo "$(wc -l < "$work/installed") files"
 }
@@ -220,7 +221,8 @@ man_pages() {
   while read -r text; do
     [[ $page = *"$text"* ]] || { echo "not in the man page: $text"; return 1; }
   done < <(date -d "$(sed -n "s/^$version (\(.*\))/\1/p" "$top/CHANGES")" '+%B%-d%Y'
-    perl -0777 -ne 'for (m{/\*(.*?)\*/}gs, m{^(?:static inline )?((?:const char \*|\w+ )multihash_\w+\([^()]*\))}gm) {
+    perl -0777 -ne 'for (m{/\*(.*?)\*/}gs, m{^#define (MULTIHASH_\w+) }gm,
+      m{^(?:static inline )?((?:const char \*|\w+ )multihash_\w+\([^()]*\))}gm) {
       s/[^[:alnum:]]//g; print "$_\n" }' "$1")
 }
 

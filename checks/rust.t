@@ -14,7 +14,10 @@ in_crate() {
 }
 
 # The crate over C has the header's version. The tests pass with and without features, the pages have no warnings.
+# Without default features neither crate has one.
 rust_binding() {
+  in_crate cargo tree -p multihash --no-default-features -e normal -f "{p} [{f}]" > "$work/tree" || return 1
+  [ "$(grep -c ' \[\]$' "$work/tree")" = 2 ] || { cat "$work/tree"; return 1; }
   grep -qx "version = \"$version\"" bindings/rust/multihash_c/Cargo.toml && in_crate cargo doc --no-deps &&
     in_crate cargo test --no-default-features && in_crate cargo test --no-default-features --features alloc &&
     in_crate cargo test
@@ -23,14 +26,17 @@ rust_binding() {
 # A clone without archives has the portable source, which another compiler can build too, also for a target without a
 # C library, for which Rust's core is not installed here. A big-endian machine gets it too.
 rust_source() {
-  local folder=$work/repository target
+  local folder=$work/repository target flags
   mv "$folder/bindings/c/prebuilt" "$work/kept" && in_crate cargo test && in_crate cargo clean -p multihash_c &&
     rejects "no-compiler" in_crate CC=no-compiler cargo build &&
     mv "$work/kept" "$folder/bindings/c/prebuilt" || return 1
   [ -n "$(type -P clang)" ] || return 0
-  for target in thumbv7em-none-eabi aarch64_be-unknown-linux-gnu; do
-    rejects "can't find crate for \`core\`" in_crate CC=clang AR=ar CFLAGS=-ffreestanding cargo build -p multihash_c \
-      --no-default-features --target "$target" && [ -n "$(find "$work/target/$target" -name '*multihash.o')" ] || return 1
+  for target in thumbv7em-none-eabi wasm32-unknown-unknown aarch64_be-unknown-linux-gnu; do
+    flags=
+    [ "$target" != aarch64_be-unknown-linux-gnu ] || flags=-ffreestanding # here it has no headers of a C library
+    rejects "can't find crate for \`core\`" in_crate CC=clang AR=ar CFLAGS=$flags cargo build -p multihash_c \
+      --no-default-features --target "$target" &&
+      [ -n "$(find "$work/target/$target" -name '*multihash.o')" ] || return 1
   done
 }
 

@@ -18,12 +18,13 @@ expect() {
   echo "$result $number - ${text//'#'/}"
 }
 
-echo 1..41
+echo 1..42
 expect "not ok 1 - a\nok 2 - b" ". checks/lib/tap.sh; try a false; try b true"
 expect "not ok 1 - a" ". checks/lib/tap.sh; try a no_such_command"
 expect "ok 1 - a b" ". checks/lib/tap.sh; try \$'a\\nb#' true"
 expect "not ok 1 - a" ". checks/lib/tap.sh; try a rejects '' true"
 expect "not ok 1 - a" ". checks/lib/tap.sh; try a rejects 'a text' false"
+expect "not ok 1 - a" ". checks/lib/tap.sh; try a rejects 'a.b' sh -c 'echo axb; exit 1'"
 expect "not ok 1 - a\nok 2 - b" ". checks/lib/tap.sh; printf 'failed: a\npassed: b\n' | count_lines"
 expect "ok 1 # SKIP why" ". checks/lib/tap.sh; leave_out why 1"
 expect "ok 1 # SKIP no_such_command is not installed" \

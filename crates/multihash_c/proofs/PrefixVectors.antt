@@ -71,7 +71,7 @@ not_determined (inl all) = omega (arith, all)
 not_determined (inr (inl long)) = omega (arith, long)
 not_determined (inr (inr late)) = late code_alone
 
-reports_no_cut_as_end : ¬ (ReportsPrefix (0 ∷ []) 3 (outcome 6 0 0 0 0 3))
+reports_no_cut_as_end : ¬ (ReportsPrefix (0 ∷ []) 2 (outcome 6 0 0 0 0 2))
 reports_no_cut_as_end h = omega (arith, (h.cut (omega arith) code_alone).is_status)
 
 takes_no_prefix_alone : ¬ (ReportsPrefix both 3 (outcome 0 0 0 2 1 2))
