@@ -93,9 +93,8 @@ sdist() {
   local above=$to/above
   rm -rf "$to/sdist" "$above" && mkdir "$to/sdist" && tar xf "$to"/dist/*.tar.gz -C "$to/sdist" --strip-components=1 ||
     return 1
-  mkdir -p "$above/folder" "$above/bindings/c/prebuilt/$(uname -m)" &&
-    cp -r "$to/sdist" "$above/folder" &&
-    touch "$above/bindings/c/prebuilt/$(uname -m)/libmultihash_c.a" "$above/LICENSE" && imports "$above/folder/sdist" &&
+  mkdir -p "$above/folder/c/prebuilt/$(uname -m)" && cp -r "$to/sdist" "$above/folder" &&
+    touch "$above/folder/c/prebuilt/$(uname -m)/libmultihash_c.a" "$above/LICENSE" && imports "$above/folder/sdist" &&
     cmp "$here/../../LICENSE" "$to/sdist/LICENSE" && imports "$to"/dist/*.tar.gz &&
     unit_tests "$to/sdist/tests" -u MULTIHASH_VERDICTS
 }

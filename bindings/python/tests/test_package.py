@@ -70,6 +70,13 @@ class Turns:
         return result
 
 
+class AwaitedTurns(Turns):
+    """The same for reads that are awaited."""
+
+    async def read(self, size):
+        return super().read(size)
+
+
 class Counts:
     """A number that is one less each time it is asked for."""
 
@@ -275,6 +282,13 @@ class Readers(unittest.TestCase):
             self.assertRaises(error, reader.read)
             for _ in range(2):
                 self.assertRaisesRegex(ValueError, "failed before", reader.read)
+        for last, error in ((TimeoutError, TimeoutError), (b"ab", ValueError), ("a", TypeError)):
+            awaited = vm.AsyncMultihashReader(AwaitedTurns(b"\1\3", b"ab", last))
+            with self.assertRaises(error):
+                asyncio.run(awaited.read())
+            for _ in range(2):
+                with self.assertRaisesRegex(ValueError, "failed before"):
+                    asyncio.run(awaited.read())
 
     def test_cancelled_calls(self):
         """The bytes come one by one; a call that waits for more is ended by a time limit, and loses nothing."""

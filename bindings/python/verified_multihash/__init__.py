@@ -168,7 +168,8 @@ class MultihashReader(_Reader):
 class AsyncMultihashReader(_Reader):
     """Reads as a MultihashReader does from a stream whose `read` is awaited, such as an asyncio.StreamReader.
 
-    One call waits at a time. After a call that was cancelled, as by a time limit, the next one continues.
+    One call waits at a time. After a call that was cancelled, as by a time limit, the next one continues, since an
+    asyncio.StreamReader loses no bytes then.
     """
 
     def __init__(self, stream: _AsyncReadable, limit: int = DIGEST_MAX) -> None:
@@ -177,9 +178,18 @@ class AsyncMultihashReader(_Reader):
     async def read(self) -> Optional[Multihash]:
         """Returns the next multihash, or None at the end of the stream."""
         wanted = self._wanted()
-        while wanted and self._keep(await self._file.read(wanted), wanted):
+        while wanted and self._keep(await self._chunk(wanted), wanted):
             wanted = self._wanted()
         return self._decoded()
+
+    async def _chunk(self, wanted: int) -> Optional[bytes]:
+        try:
+            chunk: Optional[bytes] = await self._file.read(wanted)
+        except Exception as error:  # which no cancelled call is
+            self._has_lost = not isinstance(error, BlockingIOError)
+            raise
+        self._has_lost = True  # until the bytes are kept
+        return chunk
 
     async def __aiter__(self) -> AsyncIterator[Multihash]:
         multihash = await self.read()

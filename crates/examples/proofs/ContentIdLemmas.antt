@@ -104,7 +104,7 @@ make_version_1 version codec p a b encoding is_version first second encodes = re
   spelled = refl;
 }
 
--- for the tactics: the multihash of version 0, and the parts of version 1
+-- for the tactics: the multihash of version 0
 pub bare_is : (c : Content) (digest b : List ℕ) (p : Pair) → c ≡ version_0 digest → p ≡ record { code = 0x12; digest = digest } → length digest ≡ 32 → IsEncoding p b → IsContentId c b
 bare_is c digest b p is pair whole encodes =
     subst (λ x. IsContentId x b) (sym is) (record { whole = whole; encodes = subst (λ (q : Pair). IsEncoding q b) pair encodes })

@@ -171,12 +171,12 @@ fn time_of(rt: &(impl Abort + CpuClock), log: &[u8]) -> u128 {
     end.saturating_sub(start).as_micros()
 }
 
-// Each block is hashed once: the time of 201 entries is not that of the long one 201 times. One of three tries
+// Each block is hashed once: the time of 101 entries is not that of the long one 101 times. One of three tries
 // shows it, since a busy machine slows a try down.
 #[test]
 fn each_block_is_hashed_once(rt: HostRuntime) {
-    let short = log_of(&rt, rt.alloc(), 1 << 14, 1);
-    let long = log_of(&rt, rt.alloc(), 1 << 14, 200);
+    let short = log_of(&rt, rt.alloc(), 1 << 13, 1);
+    let long = log_of(&rt, rt.alloc(), 1 << 13, 100);
     let mut is_seen = false;
     for _ in 0..3 {
         is_seen = is_seen || time_of(&rt, &long) / 20 <= time_of(&rt, &short);
