@@ -6,16 +6,14 @@ The prover must leave open, in each, goals of exactly the clauses that it names.
     checks/lib/mutants.py [--only NAME] [--definitions | --since COMMIT] [--jobs N] [--proved FOLDER]
                       [CRATE..]
 
-They are in crates/*/mutants/*.edits and crates/*/must-fail/*.edit; docs/PLANTED.md says how to
-write one. Each round puts one mutant of each of several functions into a copy of a crate and checks
-the copy once: a function is proved against contracts, never against another's body. One that names
-a clause as FUNCTION#CLAUSE, or none, changes a definition: these are tried with --definitions, each
-in a check of its own, or in the crates whose specs/, examples or mutants of definitions differ from
---since. Needs 2 GB a job. First these crates, or of mutants of bodies the modules, are proved in a
-copy or in the folder --proved.
+They are in crates/*/mutants/*.edits; docs/PLANTED.md says how to write one. Each round puts one
+mutant of each of several functions into a copy of a crate and checks the copy once: a function is
+proved against contracts, never against another's body. One that names a clause as FUNCTION#CLAUSE,
+or none, has a check of its own. Those of definitions.edits are tried with --definitions, or in the
+crates whose specs/, examples or mutants of definitions differ from --since. Needs 2 GB a job. First
+these crates are proved in a copy or in the folder --proved.
 """
 import argparse
-import re
 import subprocess
 import sys
 import tempfile
@@ -41,6 +39,7 @@ class Written(NamedTuple):
     """A mutant as it is written, or why it cannot be read."""
 
     label: str
+    is_of_definitions: bool
     clauses: list[str]
     edits: list[edits.Edit]
     error: str = ""
@@ -50,29 +49,22 @@ class Mutant(NamedTuple):
     """A mutant, and the function whose body it changes, if that is one."""
 
     label: str
+    is_of_definitions: bool
     clauses: list[str]
     edits: list[edits.Edit]
     function: Function | None
 
-    @property
-    def is_of_definitions(self) -> bool:
-        names_function = any("#" in clause for clause in self.clauses)
-        changes_source = any(edit.path.startswith("src/") for edit in self.edits)
-        return not self.function and (names_function or not changes_source)
-
 
 def written(home: Path) -> Iterator[Written]:
     """Returns the mutants of a crate."""
-    for path in sorted([*home.glob("mutants/**/*.edits"), *home.glob("must-fail/*.edit")]):
-        # a file that 'rt ci' reads too has one mutant, and a first line 'clause: ok, short'
-        head = f"# {path.stem}: breaks "
-        text = re.sub(r"\Aclause: ", head, path.read_text("utf-8"))
+    for path in sorted(home.glob("mutants/*.edits")):
+        is_of_definitions = path.stem == "definitions"
         try:
-            for name, breaks, _, its_edits in edits.parse(text):
+            for name, breaks, _, its_edits in edits.read(path):
                 clauses = breaks.removeprefix("breaks ").split(", ") if breaks else []
-                yield Written(f"{home.name}/{name}", clauses, its_edits)
+                yield Written(f"{home.name}/{name}", is_of_definitions, clauses, its_edits)
         except ValueError as error:
-            yield Written(f"{home.name}/{path.name}", [], [], str(error))
+            yield Written(f"{home.name}/{path.name}", False, [], [], str(error))
 
 
 def error_of(mutant: Mutant, output: Output, goals: Iterable[Goal], names: list[str], state: str) -> str:
@@ -97,8 +89,8 @@ def error_of(mutant: Mutant, output: Output, goals: Iterable[Goal], names: list[
 class Crate:
     """A proved crate, its functions and its mutants."""
 
-    def __init__(self, proved: Path, name: str, prover: Prover, modules: list[str], output: Output) -> None:
-        self.proved, self.name, self.prover, self.modules = proved, name, prover, modules
+    def __init__(self, proved: Path, name: str, prover: Prover, output: Output) -> None:
+        self.proved, self.name, self.prover = proved, name, prover
         self.texts = proving.texts_of(proved / "crates" / name)
         # a check also prints the functions of the crates below where these were not proved by the
         # same process
@@ -111,16 +103,18 @@ class Crate:
         self.functions = {function.name: function for function in functions if function.name}
         self.mutants: list[Mutant] = []
         self.unread: list[tap.Result] = []
-        for label, clauses, its_edits, error in written(ROOT / "crates" / name):
+        for label, is_of_definitions, clauses, its_edits, error in written(ROOT / "crates" / name):
             try:
                 if error or not its_edits:
                     raise ValueError(error or "it replaces nothing")
                 edits.apply(self.texts, its_edits)
                 function = proving.function_of(self.texts, its_edits, functions)
-                mutant = Mutant(label, clauses, its_edits, function)
-                if not mutant.is_of_definitions and not (function and function.name):
+                needs_body = not any("#" in clause for clause in clauses) and any(
+                    edit.path.startswith("src/") for edit in its_edits
+                )
+                if not function.name if function else needs_body:
                     raise ValueError("it changes no one body that the prover names, and names no FUNCTION#CLAUSE")
-                self.mutants.append(mutant)
+                self.mutants.append(Mutant(label, is_of_definitions, clauses, its_edits, function))
             except ValueError as reason:
                 self.unread.append((label, str(reason)))
 
@@ -132,14 +126,14 @@ class Crate:
             changed = edits.apply(self.texts, [edit for mutant in mutants for edit in mutant.edits])
             for path, text in changed.items():
                 (home / path).write_text(text, "utf-8")
-            return self.prover.check(home, self.modules)
+            return self.prover.check(home)
 
     def rounds(self, wanted: list[Mutant]) -> list[list[Mutant]]:
-        """Returns rounds, with at most one mutant of each body, or with one of a definition."""
+        """Returns rounds, with at most one mutant of each body, or with one that changes more."""
         bodies: dict[str, list[Mutant]] = defaultdict(list)
         alone = []
         for mutant in wanted:
-            if mutant.function and not mutant.is_of_definitions:
+            if mutant.function:
                 bodies[mutant.function.name].append(mutant)
             else:
                 alone.append([mutant])
@@ -155,8 +149,8 @@ class Crate:
         results: list[tap.Result] = []
         unclear: list[Mutant] = []
         for mutant in mutants:
-            if not mutant.function or mutant.is_of_definitions:
-                return [(mutant.label, self.error_of_definition(mutant, output))]
+            if not mutant.function:
+                return [(mutant.label, self.error_of_whole(mutant, output))]
             found = output.found[mutant.function.name]
             clauses = (Goal(proving.clause_of(mutant.function, goal.name), goal.by_limit) for goal in found.goals)
             error = error_of(mutant, output, clauses, found.names, found.state)
@@ -183,7 +177,7 @@ class Crate:
         ]
         return others + [("no mutant of a body opens this", error) for error in output.others]
 
-    def error_of_definition(self, mutant: Mutant, output: Output) -> str:
+    def error_of_whole(self, mutant: Mutant, output: Output) -> str:
         """Judges a mutant by an example or lemma if it names no clause, else by all clauses."""
         if not mutant.clauses:
             unread = [error for error in output.unread if not error.startswith("src/")]
@@ -222,16 +216,6 @@ class Options(NamedTuple):
         diff = ["git", "diff", "--name-only", self.since, "--", *paths]
         return bool(self.since and subprocess.check_output(diff, cwd=ROOT))
 
-    def modules(self, crate: str) -> list[str]:
-        """Returns the modules that the mutants of bodies change.
-
-        There are none if definitions are to be tried, or one changes the root.
-        """
-        mutants = written(ROOT / "crates" / crate)
-        paths = {edit.path for mutant in mutants for edit in mutant.edits if edit.path.startswith("src/")}
-        modules = sorted(path[len("src/") : -len(".rt")].replace("/", "::") for path in paths)
-        return [] if self.tries_definitions(crate) or {"lib", "main"} & {*modules} else modules
-
 
 def prove(options: Options, proved: Path, prover: Prover) -> tuple[list[Crate], list[tap.Result]]:
     """Proves a copy of the crates that have mutants.
@@ -250,13 +234,12 @@ def prove(options: Options, proved: Path, prover: Prover) -> tuple[list[Crate], 
     wanted = [name for name in have_mutants if name in options.crates or not options.crates]
     proving.copy_crates(ROOT, proved)
     for name in dict.fromkeys(low for crate in wanted for low in (*below[crate], crate)):
-        modules = options.modules(name)
-        output = prover.check(proved / "crates" / name, modules)
+        output = prover.check(proved / "crates" / name)
         print(f"# {name}: {'proved' if output.is_proved else 'NOT proved'} without a mutant", flush=True)
         if not output.is_proved:
             errors.append((name, "it is not proved without a mutant"))
         elif name in wanted:
-            found.append(Crate(proved, name, prover, modules, output))
+            found.append(Crate(proved, name, prover, output))
     return found, errors
 
 

@@ -10,7 +10,7 @@ import subprocess
 import sys
 import tempfile
 import time
-from collections.abc import Iterable, Iterator
+from collections.abc import Iterator
 from pathlib import Path
 from typing import NamedTuple
 
@@ -30,7 +30,6 @@ most = 512
 """,
     "crates/small/proofs/Lib.antt": "mod SumVectors\n",
     "crates/small/proofs/Examples/More.antt": "",
-    "crates/small/mutants/definitions.edits": "",
     "crates/small/proofs/SumVectors.antt": """\
 use Rattle.std.proofs.Common.{◌≡◌, refl}
 use Rattle.small.specs.Sum.{most}
@@ -75,11 +74,12 @@ weakened | result ≤ most  | n as u16 + 6 | n as u16 + 6  | n as u16 + 7     | 
 two      | result ≡ n + 3 | n as u16 + 3 | n as u16 + 3  | n as u16 + 600   | value | ['bound'
 other    | result ≡ n + 4 | n as u16 + 4 | n as u16 + 4  | n as u16 + 5     | bound | ['value']
 absent   | result ≡ n + 5 | n as u16 + 5 | n as u16 + 99 | n as u16         | value | 0 times
-twice    | result ≡ n + 8 | n as u16 + 8 | ensures bound | ensures next    | value | 9 times
+twice    | result ≡ n + 8 | n as u16 + 8 | ensures bound | ensures next    | value | 10 times
 no_body  | result ≡ n + 7 | n as u16 + 7 | fn no_body(n  | fn no_body(m     | value | no one body
+stated   | result ≡ n + 9 | n as u16 + 9 | ≡ n + 9       | ≡ n + 8          | stated#value |
 """
 CASES = [Case(*map(str.strip, line.split("|"))) for line in TABLE.strip().splitlines()]
-DEFINITIONS = """
+DEFINITIONS = """\
 file: specs/Sum.antt
 
 # less
@@ -96,11 +96,11 @@ AUTHOR = ["-c", "user.name=a", "-c", "user.email=a"]
 class Printed(proving.Prover):
     """A prover that prints these lines."""
 
-    def __init__(self, lines: str) -> None:
-        self.lines = lines
+    def __init__(self, lines: str, status: int = 1) -> None:
+        self.lines, self.status = lines, status
 
-    def check(self, home: Path, modules: Iterable[str] = ()) -> proving.Output:
-        return proving.Output(home.name, self.lines, 1)
+    def check(self, home: Path) -> proving.Output:
+        return proving.Output(home.name, self.lines, self.status)
 
 
 def lay_out(root: Path) -> None:
@@ -116,11 +116,10 @@ pub fn {case.name}(n: u8) -> u16
 }}
 """
         text += f"\n# {case.name}: breaks {case.named}\nold: {case.old}\nnew: {case.new}\n"
-    first, others = text.split("\n\n", 2)[1:]
     made = {
         "crates/small/src/lib.rt": source,
-        "crates/small/must-fail/next.edit": "clause: value\nfile: src/lib.rt\n" + first.partition("\n")[2],
-        "crates/small/mutants/lib.edits": f"file: src/lib.rt\n\n{others}{DEFINITIONS}",
+        "crates/small/mutants/definitions.edits": DEFINITIONS,
+        "crates/small/mutants/lib.edits": text,
         "crates/small/mutants/unread.edits": text + "olds: n\n",
     }
     for path, content in {**TEXTS, **made}.items():
@@ -157,11 +156,14 @@ def printed_results(root: Path) -> Iterator[tap.Result]:
         ("a clause by a limit", printed("proved", limit).replace("next: proved", "next: open"), 1, 1),
     ):
         known = proving.Output("small", printed("proved"), 0)
-        crate = mutants.Crate(root, "small", Printed(lines), [], known)
+        crate = mutants.Crate(root, "small", Printed(lines), known)
         found = crate.try_round(crate.rounds(crate.mutants)[0][:count])
         is_right = len({label for label, error in found if error}) == len(found) == wanted
         yield what, "" if is_right else f"reported: {found}"
     options = mutants.Options("", "", 1, False, [])
+    found = [*mutants.results(options, root / "proved", Printed(printed("proved"), 0))]
+    waiting = [label for label, _ in found if "SKIP" in label]
+    yield "only definitions wait", "" if len(waiting) == DEFINITIONS.count("#") else f"left out: {waiting}"
     crates, errors = mutants.prove(options, root / "proved", Printed("logic=open"))
     yield "a crate that is not proved", "" if errors and not crates else "it passes"
 

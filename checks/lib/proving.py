@@ -133,7 +133,7 @@ def copy_crates(root: Path, to: Path) -> None:
         raise SystemExit("the copy cannot be made in the repository itself")
     for old in (path for part in PARTS for path in to.glob(f"crates/*/{part}")):
         shutil.rmtree(old)
-    ignored = shutil.ignore_patterns("out", "data", "mu*s", "must-fail")
+    ignored = shutil.ignore_patterns("out", "data", "mutants")
     shutil.copytree(root / "crates", to / "crates", dirs_exist_ok=True, ignore=ignored)
     for name in FILES:
         shutil.copy(root / name, to)
@@ -185,7 +185,7 @@ class Output:
         for path, error in (found.groups() for found in map(ERROR.match, lines) if found):
             self.add_error(crate, path, error)
         # before the last line are those of libraries that were built first
-        last = ["", *(line for line in lines if re.match("logic=|only=[1-9]", line))][-1]
+        last = ["", *(line for line in lines if line.startswith("logic="))][-1]
         self.is_proved = not status and bool(last)
         self.is_whole = bool(last) and not self.unread
         if not last:
@@ -213,12 +213,9 @@ class Prover:
         for number in (signal.SIGTERM, signal.SIGINT, signal.SIGHUP):
             signal.signal(number, self.end)
 
-    def check(self, home: Path, modules: Iterable[str] = ()) -> Output:
-        """Checks a crate, or what these modules of it have.
-
-        A second job would cost more CPU time and save none.
-        """
-        words = ["rt", "check", "--jobs", "1", *(f"--only={module}" for module in modules)]
+    def check(self, home: Path) -> Output:
+        """Checks a crate. A second job would cost more CPU time and save none."""
+        words = ["rt", "check", "--jobs", "1"]
         with subprocess.Popen(
             words, cwd=home, stdin=subprocess.DEVNULL, stdout=subprocess.PIPE, stderr=subprocess.STDOUT, text=True
         ) as child:
