@@ -30,7 +30,7 @@ import tap
 
 ROOT = Path(__file__).resolve().parents[2]
 HOME, C = ROOT / "crates/speed", ROOT / "bindings/c"
-CALLER = "speed::bench::Bench::run"
+CALLER = "speed::inputs::Inputs::run::*"
 DATA, CHART, PAGE = (ROOT / "docs" / name for name in ("speed.tsv", "speed.svg", "SPEED.md"))
 HEAD = (
     "# case\tinstructions here\ttuned Rust crate\tdefault Rust crate\tnanoseconds here"

@@ -19,14 +19,11 @@
 //! name = "rust_matrix"
 //! path = "REPOSITORY/crates/speed/rust/matrix.rs"
 //!
-//! [features]
-//! codecs = ["dep:parity-scale-codec", "dep:serde", "dep:serde_json", "multihash/scale-codec", "multihash/serde-codec"]
-//!
 //! [dependencies]
-//! multihash = "=0.19.5"
-//! parity-scale-codec = { version = "3", optional = true }
-//! serde = { version = "1", optional = true }
-//! serde_json = { version = "1", optional = true }
+//! multihash = { version = "=0.19.5", features = ["scale-codec", "serde-codec"] }
+//! parity-scale-codec = "3"
+//! serde = "1"
+//! serde_json = "1"
 //!
 //! [profile.tuned]
 //! inherits = "release"
@@ -35,9 +32,8 @@
 //! ```
 //!
 //! with the folder of this repository in place of `REPOSITORY`, and run
-//! `RUSTFLAGS="-C target-cpu=x86-64-v2" cargo build --profile tuned --features codecs`, or
-//! `cargo build --release --features codecs` for a program that is not tuned.
-//! Without the feature the SCALE and JSON forms are left out.
+//! `RUSTFLAGS="-C target-cpu=x86-64-v2" cargo build --profile tuned`, or `cargo build --release` for a program
+//! that is not tuned.
 use multihash::{Error, Multihash};
 use std::cmp::Ordering;
 use std::hint::black_box;
@@ -47,23 +43,17 @@ const LIST: usize = 1000;
 const CHECK_CALLS: u32 = 1000;
 const LONGEST_CODE: u32 = 9;
 
-/// Buffers and digests, in bytes.
-const SIZES: [(usize, usize); 10] =
-    [(64, 0), (64, 20), (64, 32), (64, 48), (64, 64), (0, 0), (32, 20), (32, 32), (255, 32), (255, 255)];
+/// Digests and buffers, in bytes.
+const SIZES: [(usize, usize); 4] = [(20, 64), (32, 64), (64, 64), (255, 255)];
 
 /// The Rust crate has no `same_as`: its `==` is counted, which compares buffers of any two sizes too.
-const OPERATIONS: [&str; 24] = [
-    "wrap", "from_bytes", "to_bytes", "read_slice", "write_slice", "write_vec", "encoded_len", "eq", "same_as", "cmp",
-    "eq_first", "eq_17th", "eq_last", "eq_length", "cmp_first", "cmp_17th", "cmp_last", "cmp_length", "hash",
-    "truncate", "resize", "into_inner", "write_list", "read_list",
+const OPERATIONS: [&str; 22] = [
+    "wrap", "from_bytes", "to_bytes", "read_slice", "write_slice", "write_vec", "encoded_len", "eq", "eq_last",
+    "same_as", "cmp", "cmp_last", "hash", "truncate", "resize", "into_inner", "scale_encode", "scale_decode",
+    "to_value", "from_value", "write_list", "read_list",
 ];
 
 const WITH_VARINTS: [&str; 6] = ["from_bytes", "to_bytes", "read_slice", "write_slice", "write_vec", "encoded_len"];
-
-#[cfg(feature = "codecs")]
-const CODECS: [&str; 4] = ["scale_encode", "scale_decode", "to_value", "from_value"];
-#[cfg(not(feature = "codecs"))]
-const CODECS: [&str; 0] = [];
 
 /// The calls, each in a function of its own that is not inlined.
 mod calls {
@@ -186,12 +176,12 @@ macro_rules! sum_of_pairs {
 }
 
 macro_rules! sum_of_bytes {
-    ($bytes:expr, $varied:expr, $count:expr, |$now:ident| $told:expr) => {{
-        let (bytes, varied) = ($bytes.as_mut_slice(), $varied);
+    ($bytes:expr, $count:expr, |$now:ident| $told:expr) => {{
+        let bytes = $bytes.as_mut_slice();
         let mut sum = 0_u64;
         for _ in 0..$count {
             if let Some(last) = bytes.last_mut() {
-                *last = (sum & 0xff) as u8 & varied;
+                *last = (sum & 0xff) as u8;
             }
             let $now: &[u8] = bytes;
             sum = sum.wrapping_add($told);
@@ -200,7 +190,6 @@ macro_rules! sum_of_bytes {
     }};
 }
 
-#[cfg(feature = "codecs")]
 #[path = "codecs.rs"]
 mod codecs;
 
@@ -214,9 +203,7 @@ struct Inputs<const S: usize> {
     stream: Vec<u8>,
     room: Vec<u8>,
     vector: Vec<u8>,
-    varied: u8,
     half: u8,
-    #[cfg(feature = "codecs")]
     codecs: codecs::Forms,
 }
 
@@ -235,14 +222,12 @@ impl<const S: usize> Inputs<S> {
             code,
             encoding: multihash.to_bytes(),
             left: vec![multihash; 8],
-            right: vec![unlike(operation, &multihash)?; 8],
+            right: vec![other(operation, &multihash)?; 8],
             items,
             room: stream.clone(),
             vector: stream.clone(),
             stream,
-            varied: if size == 0 { 0 } else { u8::MAX },
             half: multihash.size() / 2,
-            #[cfg(feature = "codecs")]
             codecs: codecs::Forms::new(&multihash)?,
             digest,
         })
@@ -250,12 +235,12 @@ impl<const S: usize> Inputs<S> {
 
     /// `None` where no operation has this name.
     fn run(&mut self, operation: &str, n: u32) -> Option<u64> {
-        let (code, v) = (self.code, self.varied);
+        let code = self.code;
         Some(match operation {
-            "wrap" => sum_of_bytes!(self.digest, v, n, |digest| told(&calls::wrap::<S>(code, digest))),
-            "from_bytes" => sum_of_bytes!(self.encoding, v, n, |bytes| told(&calls::from_bytes::<S>(bytes))),
+            "wrap" => sum_of_bytes!(self.digest, n, |digest| told(&calls::wrap::<S>(code, digest))),
+            "from_bytes" => sum_of_bytes!(self.encoding, n, |bytes| told(&calls::from_bytes::<S>(bytes))),
             "to_bytes" => sum_of_values!(self.left, n, |m| calls::to_bytes(m).len() as u64),
-            "read_slice" => sum_of_bytes!(self.encoding, v, n, |bytes| {
+            "read_slice" => sum_of_bytes!(self.encoding, n, |bytes| {
                 let mut rest = bytes;
                 told(&calls::read_slice::<S>(&mut rest)).wrapping_add(rest.len() as u64)
             }),
@@ -272,8 +257,15 @@ impl<const S: usize> Inputs<S> {
                 let (code, _, size) = calls::into_inner(m);
                 code.wrapping_add(u64::from(size))
             }),
+            "eq" | "eq_last" | "same_as" => {
+                sum_of_pairs!(self.left, self.right, n, |a, b| u64::from(calls::eq(a, b)))
+            }
+            "cmp" | "cmp_last" => {
+                sum_of_pairs!(self.left, self.right, n, |a, b| u64::from(calls::cmp(a, b) == Ordering::Equal))
+            }
             "write_list" | "read_list" => self.run_list(operation, n / LIST as u32),
-            _ => return self.run_other(operation, n),
+            "scale_encode" | "scale_decode" | "to_value" | "from_value" => self.run_codec(operation, n),
+            _ => return None,
         })
     }
 
@@ -281,43 +273,20 @@ impl<const S: usize> Inputs<S> {
         if operation == "write_list" {
             return (0..n).map(|_| u64::from(calls::write_list(&self.items, &mut self.room).is_ok())).sum();
         }
-        sum_of_bytes!(self.stream, self.varied, n, |bytes| {
+        sum_of_bytes!(self.stream, n, |bytes| {
             let mut rest = bytes;
             let read = calls::read_list::<S>(&mut rest, LIST).map_or(0, |items| items.len() as u64);
             read.wrapping_add(rest.len() as u64)
         })
     }
-
-    fn run_other(&mut self, operation: &str, n: u32) -> Option<u64> {
-        #[cfg(feature = "codecs")]
-        if CODECS.contains(&operation) {
-            return Some(self.run_codec(operation, n));
-        }
-        Some(match operation.split('_').next() {
-            Some("eq" | "same") => {
-                sum_of_pairs!(self.left, self.right, n, |a, b| u64::from(calls::eq(a, b)))
-            }
-            Some("cmp") => {
-                sum_of_pairs!(self.left, self.right, n, |a, b| u64::from(calls::cmp(a, b) == Ordering::Equal))
-            }
-            _ => return None,
-        })
-    }
 }
 
-/// What the values are compared with: the same, or one that differs as the operation's name says.
-fn unlike<const S: usize>(operation: &str, multihash: &Multihash<S>) -> Option<Multihash<S>> {
-    let size = multihash.digest().len();
-    let place = match operation.strip_prefix("eq_").or(operation.strip_prefix("cmp_")) {
-        None => return Some(*multihash),
-        Some("first") => 0,
-        Some("17th") => 16,
-        Some("last") => size.checked_sub(1)?,
-        Some("length") => return Some(multihash.truncate(size.checked_sub(1)? as u8)),
-        Some(_) => return None,
-    };
+/// What the values are compared with: the same, or one that differs in the last byte.
+fn other<const S: usize>(operation: &str, multihash: &Multihash<S>) -> Option<Multihash<S>> {
     let mut digest = multihash.digest().to_vec();
-    *digest.get_mut(place)? ^= 1;
+    if matches!(operation, "eq_last" | "cmp_last") {
+        *digest.last_mut()? ^= 1;
+    }
     Multihash::wrap(multihash.code(), &digest).ok()
 }
 
@@ -339,20 +308,13 @@ type Case = (String, usize, u32, usize);
 
 /// The cases of crates/speed, in its order.
 fn cases(operation: &str) -> Vec<Case> {
-    let differs = operation.starts_with("eq_") || operation.starts_with("cmp_");
-    let sizes = SIZES.iter().filter(|(_, size)| !differs || *size > 0);
-    let mut cases: Vec<Case> = sizes.map(|(buffer, size)| (operation.to_string(), *size, 1, *buffer)).collect();
-    if WITH_VARINTS.contains(&operation) {
-        cases.extend((2..=LONGEST_CODE).map(|code_len| (operation.to_string(), 32, code_len, 64)));
-        cases.push((operation.to_string(), 64, LONGEST_CODE, 64));
-    }
-    cases
+    let longest = |size| if size == 32 && WITH_VARINTS.contains(&operation) { LONGEST_CODE } else { 1 };
+    let of_sizes = |(size, buffer)| (1..=longest(size)).map(move |code_len| (operation.to_string(), size, code_len, buffer));
+    SIZES.into_iter().flat_map(of_sizes).collect()
 }
 
 fn run_case(case: &Case, count: u32) -> Option<u64> {
     match case.3 {
-        0 => run_in::<0>(case, count),
-        32 => run_in::<32>(case, count),
         64 => run_in::<64>(case, count),
         255 => run_in::<255>(case, count),
         _ => None,
@@ -367,10 +329,10 @@ fn run_in<const S: usize>((operation, size, code_len, _): &Case, count: u32) -> 
 
 /// What the program prints, or `None` where its words name no case.
 fn output(words: &[&str]) -> Option<String> {
-    let operations = || OPERATIONS.into_iter().chain(CODECS);
     let lines: Vec<String> = match words {
-        ["cases"] => operations().flat_map(cases).map(|(o, s, c, b)| format!("{o} {s} {c} {b}\n")).collect(),
-        ["check"] => operations()
+        ["cases"] => OPERATIONS.into_iter().flat_map(cases).map(|(o, s, c, b)| format!("{o} {s} {c} {b}\n")).collect(),
+        ["check"] => OPERATIONS
+            .into_iter()
             .map(|o| {
                 let sums = cases(o).iter().map(|case| run_case(case, CHECK_CALLS)).collect::<Option<Vec<u64>>>()?;
                 Some(format!("{o} {}\n", sums.into_iter().fold(0, u64::wrapping_add)))

@@ -1,8 +1,7 @@
 //! The inputs of the calls of a case.
 ghost use Rattle.std.specs.Prelude.{◌<◌, ◌≤◌};
 
-use crate::case::{Case, LONGEST_CODE};
-use crate::operation::{Difference, Operation};
+use crate::cases::{Case, LONGEST_CODE};
 use anyhow::{Context, Result, ensure};
 use multihash::{Multihash, list};
 use serde_json::Value;
@@ -24,7 +23,7 @@ pub struct Inputs<const S: usize> {
     pub digest: Vec<u8>,
     pub encoding: Vec<u8>,
     pub scale: Vec<u8>,
-    /// `left` and `right` are equal, except for an operation on digests that differ.
+    /// `left` and `right` are equal, except for an operation on digests that differ in the last byte.
     pub left: Vec<Multihash<S>>,
     pub right: Vec<Multihash<S>>,
     pub values: Vec<Value>,
@@ -35,8 +34,6 @@ pub struct Inputs<const S: usize> {
     pub output: Vec<u8>,
     /// A vector with enough capacity.
     pub vector: Vec<u8>,
-    /// The bits of the last input byte that change from call to call: all, or none where it is the size.
-    pub varied: u8,
     /// Half of the digest's size.
     pub half: u8,
     ghost small: { S ≤ 255 },
@@ -75,7 +72,6 @@ impl<const S: usize> Inputs<S> {
             output: stream.clone()?,
             vector: stream.clone()?,
             stream,
-            varied: if case.size == 0 { 0 } else { u8::MAX },
             half: multihash.size() / 2,
         })
     }
@@ -100,34 +96,13 @@ fn values<const S: usize>(alloc: Global, multihash: &Multihash<S>) -> Result<Vec
 // The values that `left` is compared with.
 fn others<const S: usize>(
     alloc: Global,
-    operation: Operation,
+    operation: &str,
     multihash: &Multihash<S>,
 ) -> Result<Vec<Multihash<S>>> {
-    let other = match operation.difference() {
-        Some(difference) => unlike(alloc, difference, multihash)?,
-        None => *multihash,
-    };
-    Ok(vec![in alloc; other; ROUND]?)
-}
-
-// A multihash of the same code whose digest has this difference.
-fn unlike<const S: usize>(
-    alloc: Global,
-    difference: Difference,
-    multihash: &Multihash<S>,
-) -> Result<Multihash<S>> {
-    let last = multihash
-        .digest()
-        .len()
-        .checked_sub(1)
-        .context("a digest with bytes")?;
-    let place = match difference {
-        Difference::FirstByte => 0,
-        Difference::SeventeenthByte => 16,
-        Difference::LastByte => last,
-        Difference::Length => return Ok(multihash.truncate(last as u8)),
-    };
     let mut digest = multihash.digest().to_vec(alloc)?;
-    *digest.get_mut(place).context("a digest with that byte")? ^= 1;
-    Ok(Multihash::wrap(multihash.code(), &digest)?)
+    if matches!(operation, "eq_last" | "cmp_last") {
+        *digest.last_mut().context("a digest with bytes")? ^= 1;
+    }
+    let other = Multihash::wrap(multihash.code(), &digest)?;
+    Ok(vec![in alloc; other; ROUND]?)
 }

@@ -2,7 +2,7 @@
 //! calls, and a part of each result is added to a sum.
 use crate::calls;
 use crate::inputs::{Inputs, LIST};
-use crate::operation::Operation;
+use anyhow::{Result, bail};
 use multihash::{Error, Multihash};
 use std::alloc::Global;
 use std::cmp::Ordering;
@@ -38,12 +38,12 @@ macro_rules! sum_of_pairs {
 
 // The sum over calls, each on the same bytes with another last byte.
 macro_rules! sum_of_bytes {
-    ($bytes:expr, $varied:expr, $count:expr, |$now:ident| $term:expr) => {{
-        let (bytes, varied) = ($bytes.as_mut_slice(), $varied);
+    ($bytes:expr, $count:expr, |$now:ident| $term:expr) => {{
+        let bytes = $bytes.as_mut_slice();
         let mut sum = 0_u64;
         for _ in 0..$count {
             if let Some(last) = bytes.last_mut() {
-                *last = (sum & 0xff) as u8 & varied;
+                *last = (sum & 0xff) as u8;
             }
             let $now: &[u8] = bytes;
             sum = sum.wrapping_add($term);
@@ -55,40 +55,46 @@ macro_rules! sum_of_bytes {
 impl<const S: usize> Inputs<S> {
     /// Makes `count` calls of an operation, a multiple of 8, and returns the sum of their results. For a
     /// list, `count` items are written or read, a thousand a call.
-    pub fn run(&mut self, alloc: Global, operation: Operation, count: u32) -> u64 {
-        match operation {
-            Operation::Wrap => self.wrap(count),
-            Operation::FromBytes => self.from_bytes(count),
-            Operation::ToBytes => self.to_bytes(alloc, count),
-            Operation::ReadSlice => self.read_slice(count),
-            Operation::WriteSlice => self.write_slice(count),
-            Operation::WriteVec => self.write_vec(count),
-            Operation::EncodedLen => self.encoded_len(count),
-            Operation::Equal | Operation::EqualUnlike(_) => self.eq(count),
-            Operation::SameAs => self.same_as(count),
-            Operation::Compare | Operation::CompareUnlike(_) => self.cmp(count),
-            Operation::Hash => self.hash(count),
-            Operation::Truncate => self.truncate(count),
-            Operation::Resize => self.resize(count),
-            Operation::IntoInner => self.into_inner(count),
-            Operation::ScaleEncode => self.scale_encode(count),
-            Operation::ScaleDecode => self.scale_decode(count),
-            Operation::ToValue => self.to_value(alloc, count),
-            Operation::FromValue => self.from_value(count),
-            Operation::WriteList => self.write_list(count),
-            Operation::ReadList => self.read_list(alloc, count),
-        }
+    ///
+    /// # Errors
+    ///
+    /// An operation that is not measured.
+    #[inline(never)]
+    pub fn run(&mut self, alloc: Global, operation: &str, count: u32) -> Result<u64> {
+        Ok(match operation {
+            "wrap" => self.wrap(count),
+            "from_bytes" => self.from_bytes(count),
+            "to_bytes" => self.to_bytes(alloc, count),
+            "read_slice" => self.read_slice(count),
+            "write_slice" => self.write_slice(count),
+            "write_vec" => self.write_vec(count),
+            "encoded_len" => self.encoded_len(count),
+            "eq" | "eq_last" => self.eq(count),
+            "same_as" => self.same_as(count),
+            "cmp" | "cmp_last" => self.cmp(count),
+            "hash" => self.hash(count),
+            "truncate" => self.truncate(count),
+            "resize" => self.resize(count),
+            "into_inner" => self.into_inner(count),
+            "scale_encode" => self.scale_encode(count),
+            "scale_decode" => self.scale_decode(count),
+            "to_value" => self.to_value(alloc, count),
+            "from_value" => self.from_value(count),
+            "write_list" => self.write_list(count),
+            "read_list" => self.read_list(alloc, count),
+            _ => bail!("the operation is not measured"),
+        })
     }
 
     fn wrap(&mut self, count: u32) -> u64 {
         let code = self.code;
-        sum_of_bytes!(self.digest, self.varied, count, |digest| {
+        sum_of_bytes!(self.digest, count, |digest| {
             code_plus_size(&calls::wrap::<S>(code, digest))
         })
     }
 
     fn from_bytes(&mut self, count: u32) -> u64 {
-        sum_of_bytes!(self.encoding, self.varied, count, |bytes| {
+        sum_of_bytes!(self.encoding, count, |bytes| {
             code_plus_size(&calls::from_bytes::<S>(bytes))
         })
     }
@@ -101,7 +107,7 @@ impl<const S: usize> Inputs<S> {
     }
 
     fn read_slice(&mut self, count: u32) -> u64 {
-        sum_of_bytes!(self.encoding, self.varied, count, |bytes| {
+        sum_of_bytes!(self.encoding, count, |bytes| {
             let mut rest = bytes;
             let read = code_plus_size(&calls::read_slice::<S>(&mut rest));
             read.wrapping_add(rest.len() as u64)
@@ -171,7 +177,7 @@ impl<const S: usize> Inputs<S> {
     }
 
     fn scale_decode(&mut self, count: u32) -> u64 {
-        sum_of_bytes!(self.scale, self.varied, count, |bytes| {
+        sum_of_bytes!(self.scale, count, |bytes| {
             let mut rest = bytes;
             let read = code_plus_size(&calls::scale_decode::<S>(&mut rest));
             read.wrapping_add(rest.len() as u64)
@@ -201,7 +207,7 @@ impl<const S: usize> Inputs<S> {
     }
 
     fn read_list(&mut self, alloc: Global, count: u32) -> u64 {
-        sum_of_bytes!(self.stream, self.varied, count / LIST as u32, |bytes| {
+        sum_of_bytes!(self.stream, count / LIST as u32, |bytes| {
             let mut rest = bytes;
             let read = match calls::read_list::<S>(alloc, &mut rest, LIST) {
                 Ok(items) => items.len() as u64,
