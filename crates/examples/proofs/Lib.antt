@@ -1,6 +1,5 @@
 pub mod ContentIdLemmas
-pub mod ContentIdVectors
-pub mod ErrorVectors
+pub mod IdentifierVectors
 pub mod HeadlineLemmas
 pub mod PeerLemmas
 pub mod SliceLemmas

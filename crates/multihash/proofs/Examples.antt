@@ -1,11 +1,5 @@
-pub mod BytesVectors
-pub mod JsonVectors
-pub mod PairVectors
+pub mod KnownVectors
+pub mod FormVectors
 pub mod ReadingVectors
-pub mod RefusalVectors
-pub mod ScaleVectors
-pub mod StreamVectors
 pub mod ConsumingVectors
-pub mod VarintVectors
-pub mod VerdictVectors
 pub mod WritingVectors

@@ -1,17 +1,25 @@
--- What decoding known inputs returns to a C caller, and what no decoding returns.
-use Rattle.std.proofs.Common.{◌≡◌, ℕ, List, [], ◌∷◌, length, get_or, refl, sym, ap, ◌∙◌, arith, ◌++◌, length-append}
-use Rattle.multihash.specs.Varint.{VarintError}
-use Rattle.multihash.specs.Verdict.{Verdict, accepted, invalid_size, invalid_code, malformed, unexpected_eof}
-use Rattle.multihash.proofs.Examples.PairVectors.{pair}
+-- What decoding known inputs returns to a C caller, also by their first bytes, and what no decoding returns. Two
+-- results of one input agree: with a weaker part of a definition they may differ.
+use Rattle.std.proofs.Common.{◌≡◌, ℕ, List, [], ◌∷◌, length, get_or, refl, sym, ap, ◌∙◌, arith, ◌++◌, length-append, drop, replicate, subst, inl, inr, length-drop, ◌≤◌}
+use Rattle.multihash.specs.Varint.{VarintError, insufficient, overflow, not_minimal}
+use Rattle.multihash.specs.Verdict.{Verdict, accepted, invalid_size, invalid_code, malformed, unexpected_eof, HasHead, HasVerdict, HasWholeVerdict}
+use Rattle.multihash.proofs.Examples.KnownVectors.{pair, all_below, code_named, varint_0, varint_1, code_alone}
 use Rattle.multihash_c.specs.declared.decode.Decoded.{Decoded}
 use Rattle.multihash_c.specs.Status.{status_of_error}
-use Rattle.multihash_c.specs.Decoded.{ReportsPair, ReportsError, Reports, ConsumesForm}
+use Rattle.multihash_c.specs.Decoded.{ReportsPair, ReportsError, Reports, ConsumesForm, ReportsPrefix, Determines, ReadsWithin, ReportsHead, ReportsHeadError}
 use Rattle.multihash_c.proofs.DecodedLemmas.{reported_length, byte_fits}
 use Rattle.multihash.specs.Scale.{HasScaleVerdict}
-use Rattle.multihash.proofs.Examples.BytesVectors.{all_below}
 use Rattle.multihash.proofs.Forms.ScaleLemmas.{scale_verdict_unique}
-use Rattle.multihash.proofs.Examples.ScaleVectors.{zeros, all_255, scale_code_above}
-use Rattle.multihash.proofs.Examples.VerdictVectors.{code_named}
+use Rattle.multihash.proofs.Examples.FormVectors.{zeros, all_255, scale_code_above}
+use Rattle.std.proofs.lemmas.List.{take_all}
+use Rattle.multihash.proofs.Readings.VerdictLemmas.{whole_exact, whole_trailing, whole_verdict_unique, verdict_unique}
+use Rattle.multihash_c.proofs.ReadLemmas.{head_kept, head_no_error}
+use Rattle.std.specs.Prelude.{Some}
+use Rattle.multihash.specs.Consuming.{ConsumesShortestSettling}
+use Rattle.multihash.proofs.Readings.ReadingLemmas.{Consumes-cut}
+use Rattle.multihash.proofs.Readings.SettlingLemmas.{shortest_unique}
+use Rattle.multihash.proofs.CallingLemmas.{head_unique}
+use Rattle.multihash_c.specs.declared.decode.Front.{Front}
 
 abbrev pub outcome : ℕ → ℕ → ℕ → ℕ → ℕ → ℕ → Decoded
 outcome status size code offset length taken = record {
@@ -120,3 +128,135 @@ takes_whole_code taken h = h.code refl
 
 takes_whole_size : (taken : ℕ) → ConsumesForm unexpected_eof (zeros ++ 2 ∷ 7 ∷ []) taken → taken ≡ 9
 takes_whole_size taken h = h.size (omega arith)
+
+-- ---- the first bytes of an input
+
+-- the code 0 and the size 1
+abbrev both : List ℕ
+both = 0 ∷ 1 ∷ []
+
+both_head : HasHead 0 1 2 both
+both_head = record {
+  within = omega arith;
+  varints = record { code = 0; code_bytes = 0 ∷ []; size_bytes = 1 ∷ []; is_code = varint_0; is_size = varint_1; cut = refl };
+  is_code = refl;
+}
+
+both_end : ¬ (HasVerdict 255 both (malformed insufficient))
+both_end has = head_no_error 0 1 2 both insufficient both_head has
+
+-- one byte follows
+reports_pair : ReportsPrefix both 3 (outcome 0 0 0 2 1 3)
+reports_pair = record {
+  verdict = λ input long begins enough.
+      let exact : length (drop 2 input) ≡ 1 = omega (arith, long, length-drop 2 input) in (
+        accepted (record { code = 0; digest = drop 2 input }),
+        whole_exact 0 1 2 input (head_kept 0 1 2 both input begins both_head) 255 (omega arith) (drop 2 input) refl exact,
+        record {
+          is_ok = refl;
+          no_size = refl;
+          is_code = refl;
+          is_end = refl;
+          inside = omega (arith, long);
+          is_digest = sym (take_all 1 (drop 2 input) (omega (arith, exact)));
+        },
+      );
+  cut = λ short has. absurd (both_end has);
+  taken = refl;
+}
+
+-- two bytes follow
+reports_trailing : ReportsPrefix both 4 (outcome 4 1 0 0 0 4)
+reports_trailing = record {
+  verdict = λ input long begins enough. (
+    invalid_size 1,
+    whole_trailing 0 1 2 input (head_kept 0 1 2 both input begins both_head) 255 (omega arith) (drop 2 input) refl 1
+        (omega (arith, long, length-drop 2 input)) (omega (arith, long, length-drop 2 input)),
+    record { is_status = refl; is_size = refl; is_code = refl; no_offset = refl; no_length = refl },
+  );
+  cut = λ short has. absurd (both_end has);
+  taken = refl;
+}
+
+-- the code alone determines nothing, unless nothing follows
+determined : Determines (0 ∷ []) 1
+determined = inl (omega arith)
+
+-- as many bytes as two varints may have
+determined_by_two_longest : Determines (replicate 18 0x80) 19
+determined_by_two_longest = inr (inl (omega arith))
+
+not_determined : ¬ (Determines (0 ∷ []) 3)
+not_determined (inl all) = omega (arith, all)
+not_determined (inr (inl long)) = omega (arith, long)
+not_determined (inr (inr late)) = late code_alone
+
+reports_no_cut_as_end : ¬ (ReportsPrefix (0 ∷ []) 2 (outcome 6 0 0 0 0 2))
+reports_no_cut_as_end h = omega (arith, (h.cut (omega arith) code_alone).is_status)
+
+takes_no_prefix_alone : ¬ (ReportsPrefix both 3 (outcome 0 0 0 2 1 2))
+takes_no_prefix_alone h = omega (arith, h.taken)
+
+-- the digest is there, though not in the prefix
+reports_no_end : ¬ (ReportsPrefix both 3 (outcome 6 0 0 0 0 3))
+reports_no_end h =
+    let whole : List ℕ = 0 ∷ 1 ∷ 9 ∷ [] in
+    let (v, has, reports) = h.verdict whole refl (9 ∷ [], refl) (inr (inr both_end)) in
+    let there : HasWholeVerdict 255 whole (accepted (pair 0 (9 ∷ []))) =
+    whole_exact 0 1 2 whole (head_kept 0 1 2 both whole (9 ∷ [], refl) both_head) 255 (omega arith) (9 ∷ []) refl refl in
+    let told : Reports whole (outcome 6 0 0 0 0 3) (accepted (pair 0 (9 ∷ []))) =
+    subst (Reports whole (outcome 6 0 0 0 0 3)) (whole_verdict_unique 255 whole v (accepted (pair 0 (9 ∷ []))) has there) reports in
+    omega (arith, told.is_ok)
+
+-- ---- two results of one input
+
+-- the prefix that settles has as many bytes as were consumed
+settled_at : (limit : ℕ) (input : List ℕ) (taken : ℕ) → taken ≤ length input
+    → (c : ConsumesShortestSettling limit input (Some (drop taken input))) → length c.front ≡ taken
+settled_at limit input taken inside c =
+    omega (
+      arith,
+      inside,
+      ap (λ (z : List ℕ). length z) (Consumes-cut input c.front (drop taken input) c.consumes),
+      length-append c.front (drop taken input),
+      length-drop taken input,
+    )
+
+module _ (limit : ℕ) (input : List ℕ) (a b : Decoded) (h : ReadsWithin limit input a) (k : ReadsWithin limit input b) where
+  settles_alike : ConsumesShortestSettling limit input (Some (drop a.taken input)) → ConsumesShortestSettling limit input (Some (drop b.taken input))
+      → a.taken ≡ b.taken
+  settles_alike c d =
+      sym (settled_at limit input a.taken h.inside c)
+      ∙ (ap (λ (z : List ℕ). length z) (shortest_unique limit input c.front d.front c.shortest d.shortest) ∙ settled_at limit input b.taken k.inside d)
+
+  takes_same : (v : Verdict) → HasVerdict limit input v → a.taken ≡ b.taken
+  takes_same (accepted p) has = settles_alike (h.settled (accepted p) has (λ early. early)) (k.settled (accepted p) has (λ early. early))
+  takes_same (invalid_size n) has = settles_alike (h.settled (invalid_size n) has (λ early. early)) (k.settled (invalid_size n) has (λ early. early))
+  takes_same (invalid_code n) has = settles_alike (h.settled (invalid_code n) has (λ early. early)) (k.settled (invalid_code n) has (λ early. early))
+  takes_same (malformed insufficient) has = h.insufficient has ∙ sym (k.insufficient has)
+  takes_same (malformed overflow) has =
+      settles_alike (h.settled (malformed overflow) has (λ early. early)) (k.settled (malformed overflow) has (λ early. early))
+  takes_same (malformed not_minimal) has =
+      settles_alike (h.settled (malformed not_minimal) has (λ early. early)) (k.settled (malformed not_minimal) has (λ early. early))
+  takes_same unexpected_eof has =
+      let (code, size, head) = h.cut has in
+      let (c, s, at) = k.cut has in
+      (head_unique code size a.taken input head c s b.taken at).2
+
+  pub reads_same : Same a b × (a.taken ≡ b.taken)
+  reads_same =
+      let (v, has, reports) = h.verdict in
+      let (w, given, other) = k.verdict in
+      (reports_same input a b v reports (subst (Reports input b) (verdict_unique limit input w v given has) other), takes_same v has)
+
+heads_same : (input : List ℕ) (f g : Front) → ReportsHead input f → ReportsHead input g
+    → (f.status ≡ g.status) × (f.code ≡ g.code) × (f.digest_length ≡ g.digest_length) × (f.taken ≡ g.taken)
+heads_same input f g h k =
+    let same = head_unique f.code f.digest_length f.taken input h.has g.code g.digest_length g.taken k.has in
+    (h.is_ok ∙ sym k.is_ok, same.0, same.1, same.2)
+
+head_errors_same : (input : List ℕ) (f g : Front) → ReportsHeadError input f → ReportsHeadError input g
+    → (f.status ≡ g.status) × (f.code ≡ g.code) × (f.digest_length ≡ g.digest_length) × (f.taken ≡ g.taken)
+head_errors_same input f g h k =
+    let same = reads_same 0 input _ _ (h.reads 0) (k.reads 0) in
+    (same.0.0, h.no_code ∙ sym k.no_code, h.no_length ∙ sym k.no_length, same.1)

@@ -1,12 +1,18 @@
--- What encoding known pairs returns to a C caller and writes to a buffer, and that it is one outcome.
-use Rattle.std.proofs.Common.{◌≡◌, ◌-◌, ℕ, List, [], ◌∷◌, length, get_or, inl, inr, sym, ap, ◌∙◌, arith}
+-- What encoding known pairs returns to a C caller and writes to a buffer, that it is one outcome, the sign of an
+-- order, and the texts of statuses.
+use Rattle.std.proofs.Common.{◌≡◌, ◌-◌, ℕ, List, [], ◌∷◌, length, get_or, inl, inr, sym, ap, ◌∙◌, arith, refl}
 use Rattle.std.proofs.lemmas.Bool.{cases_lt}
-use Rattle.multihash.specs.Varint.{varint_limit}
+use Rattle.multihash.specs.Varint.{varint_limit, insufficient, overflow, not_minimal}
 use Rattle.multihash.specs.Pair.{Pair}
 use Rattle.multihash.specs.Encoding.{IsEncoding}
 use Rattle.multihash_c.specs.declared.encode.Encoded.{Encoded}
 use Rattle.multihash_c.specs.Encoded.{IsTooLong, IsLargeCode, IsPut, ReportsLength, Puts, WritesForm}
 use Rattle.multihash.proofs.Writings.EncodingLemmas.{encoding_same}
+use Rattle.std.specs.Prelude.{ℤ, codes}
+use Rattle.std.specs.declared.cmp.Ordering.{Ordering}
+use Rattle.std.specs.declared.cmp.Ordering.TheVariants.{Less, Equal, Greater}
+use Rattle.multihash_c.specs.Compared.{IsSign}
+use Rattle.multihash_c.specs.Status.{IsStatusText}
 
 abbrev outcome : ℕ → ℕ → ℕ → Encoded
 outcome status size length = record { status = status; size = size; length = length }
@@ -71,3 +77,40 @@ module _ (IsForm : Pair → List ℕ → Type 0) (digest : List ℕ) (e : Encode
   writes_longest : length digest ≡ 255 → WritesForm IsForm (record { code = varint_limit - 1; digest = digest }) e old new
       → Puts (IsForm (record { code = varint_limit - 1; digest = digest })) e old new
   writes_longest long h = h.puts (omega (arith, long)) (omega arith)
+
+-- ---- an order
+
+one_sign : (order : Ordering) (a b : ℤ) → IsSign order a → IsSign order b → a ≡ b
+one_sign Less a b h k = h ∙ sym k
+one_sign Equal a b h k = h ∙ sym k
+one_sign Greater a b h k = h ∙ sym k
+
+-- ---- statuses
+
+-- each status has one text
+text_of_ok : (text : List ℕ) → IsStatusText 0 text → text ≡ codes "ok"
+text_of_ok text h = h.ok refl
+
+text_of_insufficient : (text : List ℕ) → IsStatusText 1 text → text ≡ codes "not enough input bytes"
+text_of_insufficient text h = h.error insufficient refl
+
+text_of_overflow : (text : List ℕ) → IsStatusText 2 text → text ≡ codes "input bytes exceed maximum"
+text_of_overflow text h = h.error overflow refl
+
+text_of_not_minimal : (text : List ℕ) → IsStatusText 3 text → text ≡ codes "encoding is not minimal"
+text_of_not_minimal text h = h.error not_minimal refl
+
+text_of_invalid_size : (text : List ℕ) → IsStatusText 4 text → text ≡ codes "Invalid multihash size"
+text_of_invalid_size text h = h.size refl
+
+text_of_invalid_code : (text : List ℕ) → IsStatusText 5 text → text ≡ codes "Invalid multihash code"
+text_of_invalid_code text h = h.code refl
+
+text_of_unexpected_eof : (text : List ℕ) → IsStatusText 6 text → text ≡ codes "failed to fill whole buffer"
+text_of_unexpected_eof text h = h.eof refl
+
+text_of_no_room : (text : List ℕ) → IsStatusText 7 text → text ≡ codes "failed to write whole buffer"
+text_of_no_room text h = h.no_room refl
+
+text_of_none : (text : List ℕ) → IsStatusText 8 text → text ≡ codes "unknown status"
+text_of_none text h = h.unknown (omega arith)

@@ -11,10 +11,8 @@ use Rattle.multihash.specs.Consuming.{IsFrontErrorAt, IsHeadError, ReadMayFailWi
 use Rattle.multihash.proofs.Varints.VarintLemmas.{front_unique, error}
 use Rattle.multihash.proofs.Readings.VerdictLemmas.{verdict_unique}
 use Rattle.multihash.proofs.Readings.SettlingLemmas.{shortest_unique, shortest_code_error}
-use Rattle.multihash.proofs.Examples.RefusalVectors.{other, eof}
-use Rattle.multihash.proofs.Examples.ReadingVectors.{told, taken_is}
-use Rattle.multihash.proofs.Examples.VarintVectors.{all_continuation}
-use Rattle.multihash.proofs.Examples.VerdictVectors.{code_alone, size_above_limit, size_settles, shortest_of_size}
+use Rattle.multihash.proofs.Examples.ReadingVectors.{other, eof, told, taken_is}
+use Rattle.multihash.proofs.Examples.KnownVectors.{all_continuation, code_alone, size_above_limit, size_settles, shortest_of_size}
 
 -- ---- errors
 

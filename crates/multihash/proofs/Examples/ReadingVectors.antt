@@ -1,11 +1,65 @@
--- What each part of a definition rejects by itself: what readers consumed, how they failed, and their laws.
-use Rattle.std.proofs.Common.{◌≡◌, ◌<◌, ℕ, List, [], ◌∷◌, ◌++◌, length, get_or, refl, sym, ap, arith, inl, inr}
-use Rattle.std.specs.Prelude.{Option, Some, None, Result, Ok, Err}
+-- What each part of a definition rejects by itself: kinds of errors, what readers consumed, how they failed, and
+-- their laws.
+use Rattle.std.proofs.Common.{◌≡◌, ℕ, List, [], refl, inl, inr, ◌<◌, ◌∷◌, ◌++◌, length, get_or, sym, ap, arith}
+use Rattle.std.specs.Prelude.{codes, Option, Some, None, Result, Ok, Err}
+use Rattle.multihash.specs.Fault.{Fault, UnexpectedEof, WriteZero, OutOfMemory, Other, IsOwnFault, IsUnexpectedEof}
+use Rattle.std.specs.Fmt.{digits}
+use Rattle.multihash.specs.Varint.{insufficient}
+use Rattle.multihash.specs.Refusal.{Refusal, of_io, of_size, of_code, of_varint, of_not_bytes, IsEof, IsOutOfMemory, IsReaderError, refusal_text}
 use Rattle.std.proofs.lemmas.Bool.{false≢true}
 use Rattle.std.proofs.lemmas.List.{append_cancel_right}
-use Rattle.multihash.specs.Fault.{Fault, IsUnexpectedEof, IsOwnFault}
 use Rattle.multihash.specs.Reading.{Consumes, EndsInNone, HasFewerThan, ConsumesFewerThan, CountsReaderFailures, ReadLaws, ReadExactLaws, NoOtherError}
-use Rattle.multihash.proofs.Examples.RefusalVectors.{other, eof}
+
+-- ---- errors of readers and writers
+
+abbrev pub other : Fault
+other = record { kind = Other; text = [] }
+
+abbrev pub eof : Fault
+eof = record { kind = UnexpectedEof; text = [] }
+
+abbrev pub full : Fault
+full = record { kind = WriteZero; text = [] }
+
+abbrev pub memory : Fault
+memory = record { kind = OutOfMemory; text = [] }
+
+no_own_eof : (text : List ℕ) → ¬ (IsOwnFault (record { kind = UnexpectedEof; text = text }))
+no_own_eof text (inl h) = cc
+no_own_eof text (inr h) = cc
+
+no_own_full : (text : List ℕ) → ¬ (IsOwnFault (record { kind = WriteZero; text = text }))
+no_own_full text (inl h) = cc
+no_own_full text (inr h) = cc
+
+-- the size in an error
+abbrev pub size_in : Refusal → ℕ
+size_in (of_io error) = 0
+size_in (of_size size) = size
+size_in (of_code code) = 0
+size_in (of_varint error) = 0
+size_in of_not_bytes = 0
+
+no_other_ends : ¬ (IsEof (of_io other)) × ¬ (IsEof (of_io full)) × ¬ (IsEof (of_io memory)) × ¬ (IsEof (of_varint insufficient))
+    × ((code : ℕ) → ¬ (IsEof (of_code code)))
+no_other_ends = ((λ (error, e, kind). cc), (λ (error, e, kind). cc), (λ (error, e, kind). cc), (λ (error, e, kind). cc), λ code (error, e, kind). cc)
+
+no_other_wants_memory : ¬ (IsOutOfMemory (of_io eof)) × ¬ (IsOutOfMemory (of_io full)) × ¬ (IsOutOfMemory (of_io other))
+no_other_wants_memory = ((λ (error, e, kind). cc), (λ (error, e, kind). cc), λ (error, e, kind). cc)
+
+end_is_no_reader_error : ¬ (IsReaderError (of_io eof))
+end_is_no_reader_error (error, e, inl kind) = cc
+end_is_no_reader_error (error, e, inr kind) = cc
+
+full_is_no_reader_error : ¬ (IsReaderError (of_io full))
+full_is_no_reader_error (error, e, inl kind) = cc
+full_is_no_reader_error (error, e, inr kind) = cc
+
+-- the numbers in texts
+texts : (refusal_text (of_size 256) ≡ codes "Invalid multihash size 256.")
+    × (refusal_text (of_code 18446744073709551615) ≡ codes "Invalid multihash code 18446744073709551615.")
+unfolding digits
+texts = (refl, refl)
 
 -- ---- what was consumed
 

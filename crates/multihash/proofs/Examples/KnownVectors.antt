@@ -1,0 +1,177 @@
+-- Lists of numbers, varints, pairs and verdicts on known inputs, for the other examples, and what is none. A
+-- weaker part of a varint or a verdict fails `front_unique`, `one_verdict` or `settles`.
+use Rattle.std.proofs.Common.{◌≡◌, ℕ, ◌<◌, ltb, true, List, [], ◌∷◌, refl, arith, Bool, ◌++◌, ◌+◌}
+use Rattle.std.specs.List.{All, list_all}
+use Rattle.std.proofs.lemmas.Bool.{ltb-true, and_parts}
+use Rattle.std.proofs.lemmas.List.Elements.{All-nil, All-cons, All-head}
+use Rattle.multihash.specs.Bytes.{place_value, ExactlyOne}
+use Rattle.multihash.specs.Varint.{IsContinuation, continuation_bytes, varint_limit, IsVarint, insufficient}
+use Rattle.std.specs.Prelude.{codes}
+use Rattle.multihash.specs.Pair.{Pair, IsPair}
+use Rattle.std.specs.declared.cmp.Ordering.{Ordering}
+use Rattle.std.specs.declared.cmp.Ordering.TheVariants.{Less, Equal, Greater}
+use Rattle.std.specs.Hash.{le_bytes}
+use Rattle.multihash.specs.Comparing.{compare_pairs, hashed_pair}
+use Rattle.multihash.specs.Verdict.{Verdict, accepted, invalid_size, invalid_code, malformed, unexpected_eof, BeginsWithSize, HasVerdict}
+use Rattle.multihash.proofs.Readings.VerdictLemmas.{found, has_found}
+use Rattle.multihash.specs.Settling.{Settles, IsShortestSettling}
+use Rattle.multihash.proofs.Readings.SettlingLemmas.{shortest_size}
+
+-- ---- lists of numbers
+
+-- each fact is computed
+pub all_below : (bound : ℕ) (xs : List ℕ) → list_all (λ x. ltb x bound) xs ≡ true → All (λ x. x < bound) xs
+all_below bound [] e = All-nil (λ x. x < bound)
+all_below bound (x ∷ xs) e =
+    let parts = and_parts (ltb x bound) (list_all (λ y. ltb y bound) xs) e in
+    All-cons (λ y. y < bound) x xs (ltb-true x bound parts.0) (all_below bound xs parts.1)
+
+-- place values: the lowest digit first, in both bases
+values : (place_value 128 (44 ∷ 2 ∷ []) ≡ 300) × (place_value 256 (1 ∷ 2 ∷ 3 ∷ []) ≡ 197121) × (place_value 128 (0 ∷ 0 ∷ 1 ∷ []) ≡ 16384)
+    × (place_value 128 [] ≡ 0)
+unfolding place_value
+values = (refl, refl, refl, refl)
+
+-- two different values are not exactly one
+two_are_not_one : ¬ (ExactlyOne (λ (n : ℕ). n < 2))
+two_are_not_one h = omega (arith, h.only 0 (omega arith), h.only 1 (omega arith))
+
+none_is_not_one : ¬ (ExactlyOne (λ (n : ℕ). n < 0))
+none_is_not_one h = omega (arith, h.holds)
+
+-- ---- varints
+
+-- every number in a literal list has 128 added
+pub all_continuation : (xs : List ℕ) → list_all (λ x. ltb 127 x) xs ≡ true → All IsContinuation xs
+all_continuation [] e = All-nil IsContinuation
+all_continuation (x ∷ xs) e =
+    let parts = and_parts (ltb 127 x) (list_all (λ y. ltb 127 y) xs) e in
+    All-cons IsContinuation x xs (ltb-true 127 x parts.0) (all_continuation xs parts.1)
+
+ends_well : List ℕ → ℕ → Bool
+ends_well [] last = true
+ends_well (d ∷ front) last = ltb 0 last
+
+ends_well-minimal : (front : List ℕ) (last : ℕ) → ends_well front last ≡ true → last ≡ 0 → front ≡ []
+unfolding ends_well
+ends_well-minimal [] last e z = refl
+ends_well-minimal (d ∷ front) last e z = absurd (omega (arith, ltb-true 0 last e, z))
+
+-- a varint of literal digits; each fact is computed
+varint_of : (front : List ℕ) (last n : ℕ) → list_all (λ d. ltb d 128) (front ++ last ∷ []) ≡ true → ends_well front last ≡ true
+    → place_value 128 (front ++ last ∷ []) ≡ n → ltb n varint_limit ≡ true → IsVarint n (continuation_bytes front ++ last ∷ [])
+varint_of front last n digits minimal value range = record {
+  front = front;
+  last = last;
+  digits = all_below 128 (front ++ last ∷ []) digits;
+  minimal = ends_well-minimal front last minimal;
+  value = value;
+  in_range = ltb-true n varint_limit range;
+  spelled = refl;
+}
+
+pub varint_0 : IsVarint 0 (0x00 ∷ [])
+unfolding place_value ends_well
+varint_0 = varint_of [] 0x00 0 refl refl refl refl
+
+pub varint_1 : IsVarint 1 (0x01 ∷ [])
+unfolding place_value ends_well
+varint_1 = varint_of [] 0x01 1 refl refl refl refl
+
+pub varint_2 : IsVarint 2 (0x02 ∷ [])
+unfolding place_value ends_well
+varint_2 = varint_of [] 0x02 2 refl refl refl refl
+
+pub varint_4 : IsVarint 4 (0x04 ∷ [])
+unfolding place_value ends_well
+varint_4 = varint_of [] 0x04 4 refl refl refl refl
+
+pub varint_5 : IsVarint 5 (0x05 ∷ [])
+unfolding place_value ends_well
+varint_5 = varint_of [] 0x05 5 refl refl refl refl
+
+pub varint_128 : IsVarint 128 (0x80 ∷ 0x01 ∷ [])
+unfolding place_value ends_well
+varint_128 = varint_of (0x00 ∷ []) 0x01 128 refl refl refl refl
+
+-- the largest number that has a varint, and the first that has none
+abbrev pub largest : ℕ
+largest = 9223372036854775807
+
+abbrev pub too_large : ℕ
+too_large = largest + 1
+
+-- ---- pairs
+
+abbrev pub pair : ℕ → List ℕ → Pair
+pair code digest = record { code = code; digest = digest }
+
+no_larger_code : (digest : List ℕ) → ¬ (IsPair (pair too_large digest))
+no_larger_code digest h = omega (arith, h.in_range)
+
+no_digest_of_256 : (code : ℕ) → ¬ (IsPair (pair code (256 ∷ [])))
+no_digest_of_256 code h = let small = All-head (λ byte. byte < 256) 256 [] h.are_bytes in omega (arith, small)
+
+data Row : Type 0 where
+  row : (p q : Pair) (o : Ordering) → compare_pairs p q ≡ o → Row
+
+orders : List Row
+orders =
+    -- the code decides, then the length, then the first byte that differs, whatever follows
+    row (pair 0 (codes "zzz")) (pair 1 []) Less refl ∷
+    row (pair 1 []) (pair 0 (codes "a")) Greater refl ∷
+    row (pair 0 (codes "b")) (pair 0 (codes "aa")) Less refl ∷
+    row (pair 0 (codes "aaa")) (pair 0 (codes "ab")) Greater refl ∷
+    row (pair 0 (codes "bz")) (pair 0 (codes "ca")) Less refl ∷
+    row (pair 0 (codes "ab")) (pair 0 (codes "ab")) Equal refl ∷
+    []
+
+abbrev eight : ℕ → List ℕ
+eight n = n ∷ 0 ∷ 0 ∷ 0 ∷ 0 ∷ 0 ∷ 0 ∷ 0 ∷ []
+
+-- the code, the digest's length, and each byte
+feeds_code_length_and_bytes : hashed_pair (pair 3 (codes "AB")) ≡ eight 3 ∷ eight 2 ∷ (65 ∷ []) ∷ (66 ∷ []) ∷ []
+unfolding le_bytes
+feeds_code_length_and_bytes = refl
+
+-- ---- verdicts
+
+-- the code of a verdict, or 0
+abbrev pub code_named : Verdict → ℕ
+code_named (accepted p) = p.code
+code_named (invalid_size size) = 0
+code_named (invalid_code code) = code
+code_named (malformed f) = 0
+code_named unexpected_eof = 0
+
+-- an input whose verdict is the computed one
+abbrev pub known : (S : ℕ) (x : List ℕ) → list_all (λ b. ltb b 256) x ≡ true → HasVerdict S x (found S x)
+known S x bytes = has_found S x (all_below 256 x bytes)
+
+pub code_alone : HasVerdict 4 (0x00 ∷ []) (malformed insufficient)
+unfolding place_value
+code_alone = known 4 (0x00 ∷ []) refl
+
+pub empty_digest : HasVerdict 4 (0x00 ∷ 0x00 ∷ []) (accepted (pair 0 []))
+unfolding place_value
+empty_digest = known 4 (0x00 ∷ 0x00 ∷ []) refl
+
+pub size_above_limit : HasVerdict 4 (0x00 ∷ 0x05 ∷ []) (invalid_size 5)
+unfolding place_value
+size_above_limit = known 4 (0x00 ∷ 0x05 ∷ []) refl
+
+-- the code 0, the size 5, and what follows
+abbrev pub size_5 : (more : List ℕ) → BeginsWithSize 5 (0x00 ∷ 0x05 ∷ more) more
+size_5 more = record { code = 0; code_bytes = 0x00 ∷ []; size_bytes = 0x05 ∷ []; is_code = varint_0; is_size = varint_5; cut = refl }
+
+-- a size above the capacity, whatever follows
+pub size_settles : Settles 4 (0 ∷ 5 ∷ [])
+size_settles = record { verdict = invalid_size 5; always = λ more _. (more, size_5 more, omega arith) }
+
+-- the two bytes of the size, and no byte after them
+pub shortest_of_size : IsShortestSettling 4 (0 ∷ 5 ∷ 9 ∷ []) (0 ∷ 5 ∷ [])
+shortest_of_size = record {
+  begins = (9 ∷ [], refl);
+  settles = size_settles;
+  shortest = λ shorter before. (shortest_size 4 5 (0 ∷ 5 ∷ 9 ∷ []) (9 ∷ []) (size_5 (9 ∷ [])) (omega arith)).shortest shorter before;
+}
