@@ -2,7 +2,7 @@
 //! made here and not by the library.
 ghost use Rattle.std.specs.Prelude.{◌<◌, ◌^◌};
 
-use crate::error_kind::{ErrorKind, LARGEST_CODE};
+use crate::expect::{ErrorKind, LARGEST_CODE};
 use multihash::list::{read_list, write_list};
 use multihash::no_std_io::{Read, Write};
 use multihash::{Error, Multihash};

@@ -5,10 +5,6 @@
 #[cfg(test)]
 mod callers;
 #[cfg(test)]
-mod doubles;
-#[cfg(test)]
-mod list;
-#[cfg(test)]
-mod no_std_io;
+mod library;
 #[cfg(test)]
 mod stored;

@@ -2,10 +2,9 @@
 //! borrowed one is called like the original.
 ghost use Rattle.std.specs.Prelude.{◌<◌, ◌^◌};
 
-use fakes::error_kind::ErrorKind;
+use fakes::expect::ErrorKind;
 use fakes::forms::{CASES, Calls, Code, Form, LENGTHS, case, different, many};
-use fakes::readers::{Counts, Cuts, FailAt};
-use fakes::writers::CountsWrites;
+use fakes::streams::{Counts, CountsWrites, Cuts, FailAt};
 use fakes::{check, check_eq, expect_bytes, expect_ok, expect_rejected};
 use multihash::list::{read_list, write_list};
 use multihash::no_std_io::{self, Read, Write};

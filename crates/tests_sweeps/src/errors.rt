@@ -2,10 +2,9 @@
 //! each call, that what was not consumed is left, and that no call is made after it.
 ghost use Rattle.std.specs.Prelude.{◌<◌, ◌^◌};
 
-use fakes::error_kind::{ErrorKind, is_failed};
+use fakes::expect::{ErrorKind, is_failed};
 use fakes::forms::{CASES, Code, Form, LENGTHS, case, different, many};
-use fakes::readers::{Cuts, FailAt};
-use fakes::writers::{Drip, FailWrite};
+use fakes::streams::{Cuts, Drip, FailAt, FailWrite};
 use fakes::{check, check_eq, expect_bytes, expect_ok, expect_rejected};
 use multihash::no_std_io::{Read, Write};
 use multihash::{Multihash, varint};

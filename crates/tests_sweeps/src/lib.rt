@@ -7,8 +7,6 @@ mod asked;
 #[cfg(test)]
 mod errors;
 #[cfg(test)]
-mod grown;
+mod lengths;
 #[cfg(test)]
 mod texts;
-#[cfg(test)]
-mod written;

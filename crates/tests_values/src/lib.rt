@@ -2,10 +2,6 @@
 #![tactic(auto)]
 
 #[cfg(test)]
-mod encodings;
-#[cfg(test)]
-mod json;
-#[cfg(test)]
 mod memory;
 #[cfg(test)]
 mod values;

@@ -4,8 +4,8 @@
 ghost use Rattle.std.specs.Prelude.{◌<◌, ◌^◌};
 
 use crate::values::hash_of;
-use fakes::error_kind::{ErrorKind, LARGEST_CODE, is_failed, is_rejected};
-use fakes::readers::Cuts;
+use fakes::expect::{ErrorKind, LARGEST_CODE, is_failed, is_rejected};
+use fakes::streams::Cuts;
 use fakes::{check, check_eq, expect_bytes, expect_ok};
 use multihash::list::{read_list, write_list};
 use multihash::no_std_io::{self, Read, Write};

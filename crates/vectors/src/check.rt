@@ -3,7 +3,7 @@ ghost use Rattle.std.specs.Prelude.{◌≤◌};
 
 use crate::line::{Line, Reading};
 use crate::verdict::Verdict;
-use fakes::readers::Cuts;
+use fakes::streams::Cuts;
 use multihash::{Error, Multihash};
 use std::fmt;
 
