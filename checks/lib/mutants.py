@@ -35,36 +35,30 @@ EXAMPLES = ("specs", "proofs/Examples", "proofs/*Vectors.antt", "mutants/definit
 BY_LIMIT = " by a limit"
 
 
-class Written(NamedTuple):
-    """A mutant as it is written, or why it cannot be read."""
+class Mutant(NamedTuple):
+    """A mutant, or why it cannot be read, and the function whose body it changes, if that is one."""
 
     label: str
     is_of_definitions: bool
     clauses: list[str]
     edits: list[edits.Edit]
     error: str = ""
+    function: Function | None = None
+
+    def needs_body(self) -> bool:
+        return "#" not in "".join(self.clauses) and any(edit.path.startswith("src/") for edit in self.edits)
 
 
-class Mutant(NamedTuple):
-    """A mutant, and the function whose body it changes, if that is one."""
-
-    label: str
-    is_of_definitions: bool
-    clauses: list[str]
-    edits: list[edits.Edit]
-    function: Function | None
-
-
-def written(home: Path) -> Iterator[Written]:
+def written(home: Path) -> Iterator[Mutant]:
     """Returns the mutants of a crate."""
     for path in sorted(home.glob("mutants/*.edits")):
         is_of_definitions = path.stem == "definitions"
         try:
             for name, breaks, _, its_edits in edits.read(path):
                 clauses = breaks.removeprefix("breaks ").split(", ") if breaks else []
-                yield Written(f"{home.name}/{name}", is_of_definitions, clauses, its_edits)
+                yield Mutant(f"{home.name}/{name}", is_of_definitions, clauses, its_edits)
         except ValueError as error:
-            yield Written(f"{home.name}/{path.name}", False, [], [], str(error))
+            yield Mutant(f"{home.name}/{path.name}", False, [], [], str(error))
 
 
 def error_of(mutant: Mutant, output: Output, goals: Iterable[Goal], names: list[str], state: str) -> str:
@@ -103,20 +97,17 @@ class Crate:
         self.functions = {function.name: function for function in functions if function.name}
         self.mutants: list[Mutant] = []
         self.unread: list[tap.Result] = []
-        for label, is_of_definitions, clauses, its_edits, error in written(ROOT / "crates" / name):
+        for mutant in written(ROOT / "crates" / name):
             try:
-                if error or not its_edits:
-                    raise ValueError(error or "it replaces nothing")
-                edits.apply(self.texts, its_edits)
-                function = proving.function_of(self.texts, its_edits, functions)
-                needs_body = not any("#" in clause for clause in clauses) and any(
-                    edit.path.startswith("src/") for edit in its_edits
-                )
-                if not function.name if function else needs_body:
+                if mutant.error or not mutant.edits:
+                    raise ValueError(mutant.error or "it replaces nothing")
+                edits.apply(self.texts, mutant.edits)
+                function = proving.function_of(self.texts, mutant.edits, functions)
+                if not function.name if function else mutant.needs_body():
                     raise ValueError("it changes no one body that the prover names, and names no FUNCTION#CLAUSE")
-                self.mutants.append(Mutant(label, is_of_definitions, clauses, its_edits, function))
+                self.mutants.append(mutant._replace(function=function))
             except ValueError as reason:
-                self.unread.append((label, str(reason)))
+                self.unread.append((mutant.label, str(reason)))
 
     def check(self, mutants: list[Mutant]) -> Output:
         """Checks a copy of the crate with these mutants in it."""
