@@ -1,16 +1,18 @@
--- What the headline concludes from the verdict that was returned.
-use Rattle.std.proofs.Common.{◌≡◌, ◌⊎◌, ◌↔◌, ◌+◌, ℕ, List, Option, Some, Result, Ok, Err, IfSome, IsOkAnd, IsErrAnd, MatchResult, inl, inr, sym, ◌∙◌, subst}
+-- What the headline concludes from the verdict that was returned, and what follows what was consumed at an error.
+use Rattle.std.proofs.Common.{◌≡◌, ◌⊎◌, ◌↔◌, ◌+◌, ℕ, List, Option, Some, Result, Ok, Err, IfSome, IsOkAnd, IsErrAnd, MatchResult, inl, inr, sym, ◌∙◌, subst, ◌<◌, ◌++◌, length, IfOk, ap, append_assoc}
 use Rattle.std.proofs.lemmas.Option.{IfSome_then}
 use Rattle.multihash.specs.Bytes.{ExactlyOne}
-use Rattle.multihash.specs.Pair.{Pair, FitsBuffer}
+use Rattle.multihash.specs.Pair.{Pair, FitsBuffer, digest_limit}
 use Rattle.multihash.specs.Encoding.{IsEncoding}
-use Rattle.multihash.specs.Verdict.{Verdict, accepted, HasVerdict, HasWholeVerdict, IsIncomplete}
+use Rattle.multihash.specs.Verdict.{Verdict, accepted, HasVerdict, HasWholeVerdict, IsIncomplete, BeginsWithSize}
 use Rattle.multihash.specs.Settling.{IsShortestSettling}
 use Rattle.multihash.specs.Consuming.{ReadMayFailWith, ConsumesShortestSettling}
 use Rattle.multihash.specs.Reading.{Consumes, CountsReaderFailures}
 use Rattle.multihash.specs.Refusal.{Refusal, IsReaderError}
 use Rattle.multihash.specs.Outcome.{IsErrorOf, IsResultOf}
 use Rattle.multihash.specs.Multihash.{Fields, pair_of}
+use Rattle.multihash.proofs.Readings.SettlingLemmas.{shortest_size, shortest_unique}
+use Rattle.multihash.proofs.EncodingLemmas.{same_cut}
 
 -- a pair is the result exactly if the bytes are its encoding and it fits
 pub returns_pair : (S : ℕ) (bytes : List ℕ) (r : Result (Fields S) Refusal) (v : Verdict) → HasWholeVerdict S bytes v → IsResultOf r v
@@ -68,3 +70,23 @@ unless_failed P Q IsListed before after (Err e) (inr (same, listed)) met = inl (
 pub or_other : {T E : Type 0} (P : T → Type 0) (Q R : E → Type 0) (r : Result T E) → MatchResult r P Q → MatchResult r P (λ e. Q e ⊎ R e)
 or_other P Q R (Ok t) h = h
 or_other P Q R (Err e) h = inl h
+
+-- ---- slices
+
+-- what was consumed is before what is left
+pub in_front : (S : ℕ) (input left : List ℕ) (r : Result (Fields S) Refusal)
+    → IfOk r (λ m. (bytes : List ℕ) × IsEncoding (pair_of m) bytes × Consumes (Some input) bytes (Some left))
+    → IfOk r (λ m. (bytes : List ℕ) × IsEncoding (pair_of m) bytes × (input ≡ bytes ++ left))
+in_front S input left (Ok m) ok =
+    let cut : input ≡ ok.0 ++ left = cc (ok.2) in
+    (ok.0, ok.1, cut)
+in_front S input left (Err e) ok = tt
+
+-- what follows the two varints of a size that is too large is left
+pub left_after : (S size : ℕ) (input rest left : List ℕ) → BeginsWithSize size input rest → digest_limit S < size
+    → ConsumesShortestSettling S input (Some left) → left ≡ rest
+left_after S size input rest left h over took =
+    let front = h.code_bytes ++ h.size_bytes in
+    let same : took.front ≡ front = shortest_unique S input took.front front took.shortest (shortest_size S size input rest h over) in
+    let cut : input ≡ took.front ++ left = cc (took.consumes) in
+    (same_cut took.front front left rest (ap length same) (sym cut ∙ (h.cut ∙ sym (append_assoc h.code_bytes h.size_bytes rest)))).1

@@ -11,12 +11,12 @@ use Rattle.multihash.proofs.Varints.VarintLemmas.{same_number}
 use Rattle.multihash.proofs.Varints.VarintWriteLemmas.{one_byte}
 use Rattle.examples.specs.ContentId.{version_0, version_1, IsContentId, FitsContentId, IsRejected, HashFails, ContentIdFails, HasTrailingBytes}
 use Rattle.examples.specs.Section.{ConsumesHead, SectionFails}
-use Rattle.examples.proofs.ContentIdLemmas.{content_same, id_fails, id_found, one_place}
+use Rattle.examples.proofs.IdentifierLemmas.{content_same, id_fails, id_found, one_place}
 use Rattle.multihash.specs.Fault.{IsOther}
 use Rattle.multihash.specs.Verdict.{malformed}
 use Rattle.multihash.specs.Refusal.{IsIo}
 use Rattle.multihash.proofs.CallingLemmas.{number_read, number_found, rejected_no_encoding, head_of_encoding}
-use Rattle.multihash.proofs.Writings.EncodingLemmas.{encoding_unique}
+use Rattle.multihash.proofs.EncodingLemmas.{encoding_unique}
 use Rattle.examples.specs.PeerId.{IsPeer, PeerFails}
 use Rattle.examples.specs.declared.content_id.ContentIdError.{ContentIdError}
 use Rattle.examples.specs.declared.content_id.ContentIdError.TheVariants.{OtherVersion, Trailing}

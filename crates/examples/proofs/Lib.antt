@@ -1,5 +1,3 @@
-pub mod ContentIdLemmas
-pub mod IdentifierVectors
 pub mod HeadlineLemmas
-pub mod PeerLemmas
-pub mod SliceLemmas
+pub mod IdentifierLemmas
+pub mod IdentifierVectors

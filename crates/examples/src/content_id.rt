@@ -143,7 +143,7 @@ impl<const S: usize> ContentId<S> {
     /// # Errors
     ///
     /// The writer's error. A strict prefix of the identifier has been appended then.
-    #[tactic(auto, using(crate::proofs::ContentIdLemmas::bare_is))]
+    #[tactic(auto, using(crate::proofs::IdentifierLemmas::bare_is))]
     pub fn write<W: Write>(&self, w: &mut W) -> Result<(), Error>
         ensures ok { OnOk result ((bytes : List ℕ) × IsContentId (content_of self.now) bytes
             × W.appended w.old bytes w.new) }
@@ -166,7 +166,7 @@ impl<const S: usize> ContentId<S> {
     }
 
     /// Returns the identifier's length in bytes.
-    #[tactic(auto, using(crate::proofs::ContentIdLemmas::bare_is))]
+    #[tactic(auto, using(crate::proofs::IdentifierLemmas::bare_is))]
     pub fn encoded_len(&self) -> usize
         ensures { (bytes : List ℕ) × IsContentId (content_of self.now) bytes
             × (result ≡ length bytes) }

@@ -50,7 +50,7 @@ impl From<Error> for PeerError {
 /// # Errors
 ///
 /// The variant of [`PeerError`] that applies: no two do.
-#[tactic(auto, using(crate::proofs::PeerLemmas::head_of_peer))]
+#[tactic(auto, using(crate::proofs::IdentifierLemmas::head_of_peer))]
 pub fn read_peer(bytes: &[u8]) -> Result<Multihash<42>, PeerError>
     ensures ok { IfOk result (λ peer. IsPeer (pair_of peer) × IsEncoding (pair_of peer) bytes.now) }
     ensures found { (p : Pair) → IsPeer p → IsEncoding p bytes.now →
@@ -70,7 +70,7 @@ pub fn read_peer(bytes: &[u8]) -> Result<Multihash<42>, PeerError>
 }
 
 /// Bytes that are no identifier have one error.
-#[tactic(auto, using(crate::proofs::PeerLemmas::fails_once))]
+#[tactic(auto, using(crate::proofs::IdentifierLemmas::fails_once))]
 pub fn one_error()
     ensures { (bytes : List ℕ) (e f : PeerError) → PeerFails bytes e → PeerFails bytes f → e ≡ f }
 {}

@@ -13,7 +13,7 @@ use Rattle.mh_show.specs.Shown.{newline, shown, IsLine, NamesByte, NamesBytes, S
 use Rattle.mh_show.proofs.NamingLemmas.{line_unique, named_decodes, decoded_names, bytes_unique}
 use Rattle.std.specs.Prelude.{⊤, Option, Some}
 use Rattle.std.proofs.lemmas.List.{append_cancel_right}
-use Rattle.multihash.proofs.Writings.WritingLemmas.{length_of_not_nil}
+use Rattle.multihash.proofs.WritingLemmas.{length_of_not_nil}
 use Rattle.mh_show.specs.declared.run.RunError.TheVariants.{Input, NotShown, Output}
 use Rattle.mh_show.specs.declared.show.ShowError.TheVariants.{NotHex, Refused, Memory}
 use Rattle.mh_show.specs.Run.{error_line, ReadsWhole, TriesToAppend, ShowsInput, ShowsPart, EndsRun, ReportsError}

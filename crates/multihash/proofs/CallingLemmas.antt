@@ -19,13 +19,13 @@ use Rattle.multihash.specs.declared.no_std_io.slice_writer.SliceWriter.{SliceWri
 use Rattle.multihash.specs.Refusal.{Refusal, of_io, of_varint, IsIo, IsEof, IsOutOfMemory, IsInvalidSize, IsVarintError, IsFrontError, IsAnyVarintError}
 use Rattle.multihash.specs.Outcome.{IsErrorOf, IsResultOf}
 use Rattle.multihash.specs.Multihash.{Fields, pair_of}
-use Rattle.multihash.proofs.Writings.WritingLemmas.{slice_writer_has_room}
+use Rattle.multihash.proofs.WritingLemmas.{slice_writer_has_room}
 use Rattle.multihash.proofs.Readings.ReadingLemmas.{Consumes-told, Consumes-concatenated, IfSome-consumed}
 use Rattle.multihash.proofs.Readings.VerdictLemmas.{verdict_unique, whole_verdict_unique}
 use Rattle.multihash.proofs.Varints.VarintLemmas.{number_no_error, same_number}
 use Rattle.multihash.proofs.Forms.ScaleLemmas.{scale_split, scale_verdict_unique}
 use Rattle.multihash.proofs.Forms.StreamLemmas.{part_read, next_part, parts_unique}
-use Rattle.multihash.proofs.Writings.EncodingLemmas.{encoding_same, encoding_unique}
+use Rattle.multihash.proofs.EncodingLemmas.{encoding_same, encoding_unique}
 
 -- reading that many pairs of a stream did not stop at an error
 pub never_stops : (S count : ℕ) (e : Refusal) (n : ℕ) (new : Option (List ℕ)) (pairs : List Pair) (bytes more : List ℕ)

@@ -217,7 +217,7 @@ impl<const S: usize> Multihash<S> {
 
     // The digest followed by zeros. As in `wrap`, a length known at compile time is moved as a whole.
     #[inline(always)]
-    #[tactic(auto, using(crate::proofs::Writings::EncodingLemmas::zeros_after))]
+    #[tactic(auto, using(crate::proofs::EncodingLemmas::zeros_after))]
     fn array_of(digest: &[u8]) -> [u8; S]
         requires { length digest.now ≤ S }
         ensures { result ≡ digest.now ++ replicate (S - length digest.now) 0 }
@@ -235,7 +235,7 @@ impl<const S: usize> Multihash<S> {
 
     // The bytes followed by zeros.
     #[inline(always)]
-    #[tactic(auto, using(crate::proofs::Writings::EncodingLemmas::zeros_after))]
+    #[tactic(auto, using(crate::proofs::EncodingLemmas::zeros_after))]
     pub(crate) fn padded<const N: usize>(bytes: &[u8; N]) -> [u8; S]
         requires { N ≤ S }
         ensures { result ≡ bytes.now ++ replicate (S - N) 0 }

@@ -10,7 +10,7 @@ use Rattle.std.specs.Int.{from_le_bytes, from_be_bytes, to_le_bytes, swap_bytes}
 use Rattle.std.specs.Ordering.{nat_cmp, ordering_then, MatchOrdering}
 use Rattle.std.specs.declared.cmp.Ordering.{Ordering}
 use Rattle.std.specs.declared.cmp.Ordering.TheVariants.{Less, Equal, Greater}
-use Rattle.multihash.proofs.Values.WindowLemmas.{window, order_of, order_of_window, longer_front, then_then}
+use Rattle.multihash.proofs.ComparingLemmas.{window, order_of, order_of_window, longer_front, then_then}
 
 -- ---- the number of bytes, the highest first
 

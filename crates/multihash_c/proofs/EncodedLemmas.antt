@@ -10,8 +10,8 @@ use Rattle.multihash.specs.Filling.{Fills, IsFilled, Fills-concatenated}
 use Rattle.multihash.specs.Writing.{AppendsPrefix, IsWriterFaultOrFull}
 use Rattle.multihash.specs.Refusal.{Refusal, IsIo, IsInvalidCode}
 use Rattle.multihash.specs.declared.no_std_io.slice_writer.SliceWriter.{SliceWriter}
-use Rattle.multihash.proofs.Writings.EncodingLemmas.{encoding_of_parts, length-parts, encoding_same}
-use Rattle.multihash.proofs.Writings.WritingLemmas.{slice_writer_has_room, filled_slice, filled_length}
+use Rattle.multihash.proofs.EncodingLemmas.{encoding_of_parts, length-parts, encoding_same}
+use Rattle.multihash.proofs.WritingLemmas.{slice_writer_has_room, filled_slice, filled_length}
 
 -- what `count` ensures for the length of a form and the size of the buffer
 abbrev Counted : ℕ → ℕ → Encoded → Type 0

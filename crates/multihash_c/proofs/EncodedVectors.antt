@@ -7,7 +7,7 @@ use Rattle.multihash.specs.Pair.{Pair}
 use Rattle.multihash.specs.Encoding.{IsEncoding}
 use Rattle.multihash_c.specs.declared.encode.Encoded.{Encoded}
 use Rattle.multihash_c.specs.Encoded.{IsTooLong, IsLargeCode, IsPut, ReportsLength, Puts, WritesForm}
-use Rattle.multihash.proofs.Writings.EncodingLemmas.{encoding_same}
+use Rattle.multihash.proofs.EncodingLemmas.{encoding_same}
 use Rattle.std.specs.Prelude.{ℤ, codes}
 use Rattle.std.specs.declared.cmp.Ordering.{Ordering}
 use Rattle.std.specs.declared.cmp.Ordering.TheVariants.{Less, Equal, Greater}

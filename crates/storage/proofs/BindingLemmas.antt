@@ -9,9 +9,8 @@ use Rattle.multihash.specs.Pair.{Pair}
 use Rattle.multihash.specs.Encoding.{IsEncoding, encoding_of}
 use Rattle.multihash.specs.Comparing.{compare_pairs}
 use Rattle.multihash.specs.Multihash.{Fields, pair_of}
-use Rattle.multihash.proofs.Values.OrderLemmas.{tie_exactly}
-use Rattle.multihash.proofs.Writings.EncodingLemmas.{encoding_unique}
-use Rattle.multihash.proofs.Writings.EncodedLemmas.{is_encoding_of, encoding_of_value}
+use Rattle.multihash.proofs.ComparingLemmas.{tie_exactly}
+use Rattle.multihash.proofs.EncodingLemmas.{encoding_unique, is_encoding_of, encoding_of_value}
 use Rattle.storage.specs.declared.merkle.Step.{Step}
 use Rattle.storage.specs.Content.{content_pair}
 use Rattle.storage.specs.Merkle.{above, leaf_pair, leaf_message, message_above, messages_above, messages_from, root_from, Collides}

@@ -10,7 +10,7 @@ use Rattle.multihash.specs.Outcome.{IsErrorOf}
 use Rattle.multihash.specs.Reading.{Consumes}
 use Rattle.multihash.specs.Refusal.{Refusal, IsOutOfMemory}
 use Rattle.multihash.specs.Consuming.{ConsumesSome}
-use Rattle.multihash.proofs.Writings.EncodingLemmas.{encoding_unique}
+use Rattle.multihash.proofs.EncodingLemmas.{encoding_unique}
 use Rattle.multihash.proofs.Readings.ReadingLemmas.{Consumes-told}
 use Rattle.multihash.proofs.CallingLemmas.{read_of_encoding}
 use Rattle.multihash.proofs.Forms.StreamLemmas.{part_follows, part_read}

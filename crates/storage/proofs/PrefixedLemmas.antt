@@ -5,7 +5,7 @@ use Rattle.multihash.specs.Varint.{IsVarint}
 use Rattle.multihash.specs.Refusal.{IsOutOfMemory}
 use Rattle.multihash.proofs.CallingLemmas.{number_read, number_cut, number_found, number_early, exact_found, exact_early}
 use Rattle.multihash.proofs.Varints.VarintLemmas.{same_number, varint_unique}
-use Rattle.multihash.proofs.Writings.EncodingLemmas.{same_cut}
+use Rattle.multihash.proofs.EncodingLemmas.{same_cut}
 use Rattle.storage.specs.Prefixed.{IsPrefixed, IsFailed, IsEarly, PrefixedFails}
 use Rattle.storage.specs.declared.prefixed.PrefixedError.{PrefixedError}
 

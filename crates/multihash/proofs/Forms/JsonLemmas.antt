@@ -6,7 +6,7 @@ use Rattle.multihash.specs.Bytes.{IsBytes}
 use Rattle.multihash.specs.Pair.{Pair}
 use Rattle.multihash.specs.Encoding.{IsEncoding}
 use Rattle.multihash.specs.Json.{number_array, IsByteArray, IsJsonList}
-use Rattle.multihash.proofs.Writings.EncodingLemmas.{encoding_unique, encoding_bytes}
+use Rattle.multihash.proofs.EncodingLemmas.{encoding_unique, encoding_bytes}
 use Rattle.serde_json.specs.Read.{max_depth, read}
 use Rattle.std.specs.List.{list_all}
 use Rattle.std.proofs.lemmas.Bool.{false≢true, and_parts, cases_lt, lt-ltb, le-ltb}

@@ -13,7 +13,7 @@ use Rattle.multihash.specs.Refusal.{Refusal, of_io, of_size, of_code, of_varint,
 use Rattle.multihash.specs.Consuming.{ReadMayFailWith, ConsumesShortestSettling, ConsumesNothingSettling, EndsOrFails, ReadMeets, ConsumesAtVarintError, ConsumesVarint, IsFrontErrorAt, IsHeadError}
 use Rattle.multihash.specs.Outcome.{IsErrorOf, IsResultOf}
 use Rattle.multihash.specs.Multihash.{Fields, pair_of}
-use Rattle.multihash.proofs.Values.ValueLemmas.{digest_fits}
+use Rattle.multihash.proofs.EncodingLemmas.{digest_fits}
 use Rattle.multihash.proofs.Readings.ReadingLemmas.{IfSome-consumed, Consumes-concatenated, Consumes-cut}
 use Rattle.multihash.proofs.Readings.VerdictLemmas.{verdict_unique, coded, sized}
 use Rattle.multihash.proofs.Readings.SettlingLemmas.{verdict_kept, none_settles, EndsEarly, before_digest, shortest_from, before_second, before_both}

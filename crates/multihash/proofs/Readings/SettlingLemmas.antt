@@ -12,7 +12,7 @@ use Rattle.multihash.specs.Pair.{Pair, FitsBuffer, digest_limit}
 use Rattle.multihash.specs.Encoding.{IsEncoding}
 use Rattle.multihash.proofs.Varints.DigitLemmas.{All-continuation_bytes}
 use Rattle.multihash.proofs.Varints.VarintLemmas.{varint_length, number_no_error}
-use Rattle.multihash.proofs.Writings.WritingLemmas.{length_of_not_nil}
+use Rattle.multihash.proofs.WritingLemmas.{length_of_not_nil}
 
 pub split_prefix : (f g p : List ℕ) → IsStrictPrefix p (f ++ g) → IsStrictPrefix p f ⊎ ((q : List ℕ) × (p ≡ f ++ q) × IsStrictPrefix q g)
 split_prefix [] g p h = inr (p, refl, h)

@@ -11,7 +11,7 @@ use Rattle.multihash.specs.Verdict.{Verdict, accepted, invalid_size, invalid_cod
 use Rattle.multihash.proofs.Varints.DigitLemmas.{All-append_right}
 use Rattle.multihash.proofs.Varints.VarintWriteLemmas.{one_byte}
 use Rattle.multihash.proofs.Varints.VarintLemmas.{Front, number, error, HasFront, front_is, front_of, front_of_has}
-use Rattle.multihash.proofs.Writings.EncodingLemmas.{encoding_cut}
+use Rattle.multihash.proofs.EncodingLemmas.{encoding_cut}
 use Rattle.multihash.specs.Refusal.{Refusal}
 use Rattle.multihash.specs.Consuming.{ConsumesVarint}
 use Rattle.multihash.specs.Outcome.{IsErrorOf}

@@ -1,4 +1,4 @@
-use Rattle.examples.proofs.ContentIdLemmas.{one_place}
+use Rattle.examples.proofs.IdentifierLemmas.{one_place}
 use Rattle.examples.proofs.content_id.one_identifier.Goals as goal
 
 pub returns : goal.returns

@@ -3,7 +3,7 @@ use Rattle.multihash.specs.Multihash.{pair_of}
 use Rattle.multihash.proofs.CallingLemmas.{from_bytes_of_encoding}
 use Rattle.multihash.proofs.Forms.JsonLemmas.{json_bytes}
 use Rattle.multihash.proofs.OutcomeLemmas.{passed_on}
-use Rattle.multihash.proofs.Values.ValueLemmas.{digest_fits}
+use Rattle.multihash.proofs.EncodingLemmas.{digest_fits}
 use Rattle.examples.proofs.forms.json.Goals as goal
 
 pub returns-in_err-back : goal.returns-in_err-back

@@ -2,7 +2,7 @@ use Rattle.std.proofs.Common.{◌≡◌, [], ◌++◌, refl, sym, ◌∙◌, sub
 use Rattle.multihash.specs.Scale.{IsScale}
 use Rattle.multihash.specs.Multihash.{pair_of}
 use Rattle.multihash.proofs.CallingLemmas.{scale_pair, scale_taken}
-use Rattle.multihash.proofs.Values.ValueLemmas.{digest_fits}
+use Rattle.multihash.proofs.EncodingLemmas.{digest_fits}
 use Rattle.examples.proofs.forms.scale.Goals as goal
 
 pub returns-in_err-back : goal.returns-in_err-back

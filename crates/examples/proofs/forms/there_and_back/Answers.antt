@@ -1,7 +1,7 @@
 use Rattle.std.proofs.Common.{◌≡◌, inl, Ok, Err, sym, ◌∙◌, subst}
 use Rattle.multihash.specs.Encoding.{IsEncoding}
 use Rattle.multihash.specs.Multihash.{pair_of}
-use Rattle.multihash.proofs.Values.ValueLemmas.{digest_fits}
+use Rattle.multihash.proofs.EncodingLemmas.{digest_fits}
 use Rattle.multihash.proofs.CallingLemmas.{from_bytes_of_encoding}
 use Rattle.multihash.proofs.OutcomeLemmas.{passed_on}
 use Rattle.examples.proofs.forms.there_and_back.Goals as goal

@@ -3,7 +3,7 @@ use Rattle.multihash.specs.Streams.{AreConcatenated}
 use Rattle.multihash.specs.Writing.{AppendsPrefix}
 use Rattle.multihash.specs.Multihash.{pair_of}
 use Rattle.multihash.proofs.OutcomeLemmas.{OnErr-always}
-use Rattle.multihash.proofs.Writings.WritingLemmas.{AppendsPrefix-append, AppendsPrefix-concatenated}
+use Rattle.multihash.proofs.WritingLemmas.{AppendsPrefix-append, AppendsPrefix-concatenated}
 use Rattle.examples.proofs.merkle.write_node.Goals as goal
 
 pub returns-in_err-write_list-clause-err : goal.returns-in_err-write_list-clause-err

@@ -2,7 +2,7 @@ use Rattle.std.proofs.Common.{subst}
 use Rattle.multihash.specs.Encoding.{IsEncoding}
 use Rattle.multihash.specs.Multihash.{pair_of}
 use Rattle.multihash.proofs.CallingLemmas.{accepted_encoding, rejected_no_encoding}
-use Rattle.multihash.proofs.Values.ValueLemmas.{digest_fits}
+use Rattle.multihash.proofs.EncodingLemmas.{digest_fits}
 use Rattle.examples.proofs.peer_id.is_peer.Goals as goal
 
 pub returns-in-Ok : goal.returns-in-Ok

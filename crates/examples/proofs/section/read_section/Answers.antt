@@ -1,6 +1,6 @@
 use Rattle.std.proofs.Common.{◌∙◌, length, inl, inr, ap, arith, rules}
 use Rattle.multihash.proofs.OutcomeLemmas.{passed_on}
-use Rattle.examples.proofs.ContentIdLemmas.{content_same}
+use Rattle.examples.proofs.IdentifierLemmas.{content_same}
 use Rattle.examples.proofs.section.read_section.Goals as goal
 
 pub returns-in_err-id-clause-err : goal.returns-in_err-id-clause-err

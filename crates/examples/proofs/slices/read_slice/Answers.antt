@@ -1,6 +1,6 @@
 use Rattle.std.proofs.Common.{refl}
 use Rattle.multihash.specs.Verdict.{invalid_size}
-use Rattle.examples.proofs.SliceLemmas.{in_front, left_after}
+use Rattle.examples.proofs.HeadlineLemmas.{in_front, left_after}
 use Rattle.multihash.proofs.CallingLemmas.{rejected_size}
 use Rattle.examples.proofs.slices.read_slice.Goals as goal
 

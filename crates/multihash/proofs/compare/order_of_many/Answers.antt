@@ -1,5 +1,5 @@
 use Rattle.std.proofs.Common.{◌-◌, ◌∙◌, length, sym, refl, arith}
-use Rattle.multihash.proofs.Values.WindowLemmas.{window, longer_front, order_of_window, order_of_last, same_of_order, other_order}
+use Rattle.multihash.proofs.ComparingLemmas.{window, longer_front, order_of_window, order_of_last, same_of_order, other_order}
 use Rattle.std.proofs.lemmas.Map.Lookups.{exact_bytes}
 use Rattle.multihash.proofs.compare.order_of_many.Goals as goal
 

@@ -1,5 +1,5 @@
 use Rattle.std.proofs.Common.{◌∙◌, sym}
-use Rattle.multihash.proofs.Values.WindowLemmas.{window, order_of_left, order_of_right, same_of_order, other_order}
+use Rattle.multihash.proofs.ComparingLemmas.{window, order_of_left, order_of_right, same_of_order, other_order}
 use Rattle.multihash.proofs.compare.order_of_pair.Goals as goal
 
 pub returns-then-is_ne : goal.returns-then-is_ne

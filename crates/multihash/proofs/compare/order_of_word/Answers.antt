@@ -1,7 +1,7 @@
 use Rattle.std.proofs.Common.{◌≡◌, ◌<◌, ◌+◌, get_or, arith}
 use Rattle.std.specs.Cmp.{nat_cmp_is}
 use Rattle.std.specs.declared.cmp.Ordering.TheVariants.{Less, Equal, Greater}
-use Rattle.multihash.proofs.Values.WindowLemmas.{order_at_first}
+use Rattle.multihash.proofs.ComparingLemmas.{order_at_first}
 use Rattle.multihash.proofs.compare.order_of_word.Goals as goal
 
 pub returns-then-a-place : goal.returns-then-a-place

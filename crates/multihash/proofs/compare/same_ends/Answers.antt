@@ -1,5 +1,5 @@
 use Rattle.std.proofs.Common.{◌-◌, length, arith}
-use Rattle.multihash.proofs.Values.WindowLemmas.{last_pointwise}
+use Rattle.multihash.proofs.ComparingLemmas.{last_pointwise}
 use Rattle.multihash.proofs.compare.same_ends.Goals as goal
 
 pub returns-then-same_word : goal.returns-then-same_word

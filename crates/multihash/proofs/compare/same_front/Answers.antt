@@ -1,4 +1,4 @@
-use Rattle.multihash.proofs.Values.WindowLemmas.{all_front, lowest_front}
+use Rattle.multihash.proofs.ComparingLemmas.{all_front, lowest_front}
 use Rattle.multihash.proofs.compare.same_front.Goals as goal
 
 pub returns-then-unlike-eq0-clause-same : goal.returns-then-unlike-eq0-clause-same

@@ -1,5 +1,5 @@
 use Rattle.std.proofs.Common.{◌-◌, length, arith}
-use Rattle.multihash.proofs.Values.WindowLemmas.{longer_front, last_pointwise}
+use Rattle.multihash.proofs.ComparingLemmas.{longer_front, last_pointwise}
 use Rattle.multihash.proofs.compare.same_many.Goals as goal
 
 pub loop-at-init : goal.loop-at-init

@@ -1,6 +1,6 @@
 use Rattle.std.proofs.Common.{◌∙◌, ap, sym, refl, take, drop}
 use Rattle.std.proofs.lemmas.Bool.{and_parts}
-use Rattle.multihash.proofs.Values.WindowLemmas.{left_half, right_half, both_halves}
+use Rattle.multihash.proofs.ComparingLemmas.{left_half, right_half, both_halves}
 use Rattle.multihash.proofs.compare.same_pair.Goals as goal
 
 pub returns : goal.returns

@@ -1,6 +1,6 @@
 use Rattle.std.proofs.Common.{◌≡◌, subst}
 use Rattle.std.specs.Cmp.{unsigned_Decides}
-use Rattle.multihash.proofs.Values.WindowLemmas.{window, whole_front}
+use Rattle.multihash.proofs.ComparingLemmas.{window, whole_front}
 use Rattle.multihash.proofs.compare.same_word.Goals as goal
 
 pub returns : goal.returns

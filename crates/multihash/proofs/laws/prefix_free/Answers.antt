@@ -2,7 +2,7 @@ use Rattle.std.proofs.Common.{[], refl, ◌++◌, sym, ◌∙◌, append-nil, ar
 use Rattle.multihash.specs.Verdict.{accepted}
 use Rattle.multihash.proofs.Readings.VerdictLemmas.{verdict_unique}
 use Rattle.multihash.proofs.laws.prefix_free.Goals as goal
-use Rattle.multihash.proofs.Writings.EncodingLemmas.{encoding_exists, encoding_unique, encoding_same}
+use Rattle.multihash.proofs.EncodingLemmas.{encoding_exists, encoding_unique, encoding_same}
 
 pub returns-clause-one_encoding : goal.returns-clause-one_encoding
 returns-clause-one_encoding c p pair size =

@@ -1,5 +1,5 @@
 use Rattle.multihash.specs.Encoding.{IsEncoding}
-use Rattle.multihash.proofs.Writings.EncodingLemmas.{encoding_unique, encoding_same}
+use Rattle.multihash.proofs.EncodingLemmas.{encoding_unique, encoding_same}
 use Rattle.multihash.proofs.Forms.StreamLemmas.{parts_unique, parts_same, concatenated_whole}
 use Rattle.multihash.proofs.laws.split_unique.Goals as goal
 

@@ -1,7 +1,7 @@
 use Rattle.std.proofs.Common.{◌≡◌, ◌+◌, ◌-◌, ◌∙◌, length, arith, refl, subst, sym}
 use Rattle.std.specs.Prelude.{pos}
 use Rattle.std.proofs.lemmas.List.{take_all}
-use Rattle.multihash.proofs.Values.WindowLemmas.{order_of_same}
+use Rattle.multihash.proofs.ComparingLemmas.{order_of_same}
 use Rattle.multihash_c.specs.Compared.{IsSign}
 use Rattle.multihash_c.proofs.compare.compare_last.Goals as goal
 

@@ -1,5 +1,5 @@
 use Rattle.std.proofs.Common.{arith, rules, subst}
-use Rattle.multihash.proofs.Values.WindowLemmas.{order_of}
+use Rattle.multihash.proofs.ComparingLemmas.{order_of}
 use Rattle.multihash_c.specs.Compared.{IsSign}
 use Rattle.multihash_c.proofs.ComparedLemmas.{UnlikeWords, unlike_words}
 use Rattle.multihash_c.proofs.compare.sign_at.Goals as goal

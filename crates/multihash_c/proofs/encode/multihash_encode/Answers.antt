@@ -1,7 +1,7 @@
 use Rattle.std.proofs.Common.{List, ℕ, length, refl, inl, inr, ap, ◌∙◌}
 use Rattle.multihash.specs.Pair.{Pair}
 use Rattle.multihash.specs.Encoding.{IsEncoding}
-use Rattle.multihash.proofs.Writings.EncodingLemmas.{encoding_same}
+use Rattle.multihash.proofs.EncodingLemmas.{encoding_same}
 use Rattle.multihash_c.proofs.EncodedLemmas.{writes_form}
 use Rattle.multihash_c.proofs.encode.multihash_encode.Goals as goal
 use Rattle.multihash_c.proofs.encode.multihash_encode.Goals.{then-encoding_length-out, else-encoding_length-out}

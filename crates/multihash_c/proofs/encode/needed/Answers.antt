@@ -1,5 +1,5 @@
 use Rattle.std.proofs.Common.{◌++◌, refl, sym, arith}
-use Rattle.multihash.proofs.Writings.EncodingLemmas.{encoding_of_parts, length-parts}
+use Rattle.multihash.proofs.EncodingLemmas.{encoding_of_parts, length-parts}
 use Rattle.multihash_c.proofs.encode.needed.Goals as goal
 
 pub returns-in-Ok-Ok-clause-ok : goal.returns-in-Ok-Ok-clause-ok

@@ -1,7 +1,7 @@
 use Rattle.std.proofs.Common.{rules, ℕ, List, length, ap, refl, arith}
 use Rattle.std.proofs.lemmas.Result.{IfOk-at_ok}
 use Rattle.multihash.specs.Pair.{Pair}
-use Rattle.multihash.proofs.Writings.EncodingLemmas.{encoding_of_parts}
+use Rattle.multihash.proofs.EncodingLemmas.{encoding_of_parts}
 use Rattle.multihash_c.proofs.EncodedLemmas.{varint_has_room, parts_long, room_after, stand_at_front}
 use Rattle.multihash_c.proofs.encode.put_encoding.Goals as goal
 

@@ -1,6 +1,6 @@
 use Rattle.std.proofs.Common.{rules, arith}
 use Rattle.std.proofs.lemmas.Grind.{common_steps}
-use Rattle.multihash.proofs.Writings.WritingLemmas.{fills_slice}
+use Rattle.multihash.proofs.WritingLemmas.{fills_slice}
 use Rattle.multihash_c.proofs.encode.write_digest.Goals as goal
 
 pub returns : goal.returns

@@ -1,4 +1,4 @@
-use Rattle.multihash.proofs.Writings.EncodedLemmas.{encoding_is}
+use Rattle.multihash.proofs.EncodingLemmas.{encoding_is}
 use Rattle.storage.proofs.merkle.push.Goals as goal
 
 pub returns : goal.returns

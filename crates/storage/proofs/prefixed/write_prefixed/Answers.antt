@@ -1,5 +1,5 @@
 use Rattle.std.proofs.Common.{◌++◌, inl, inr, refl, arith}
-use Rattle.multihash.proofs.Writings.WritingLemmas.{stops_in_front, stops_in_back}
+use Rattle.multihash.proofs.WritingLemmas.{stops_in_front, stops_in_back}
 use Rattle.storage.specs.Prefixed.{IsPrefixed}
 use Rattle.storage.proofs.PrefixedLemmas.{make_prefixed}
 use Rattle.storage.proofs.prefixed.write_prefixed.Goals as goal

@@ -2,7 +2,7 @@ use Rattle.std.proofs.Common.{◌≡◌, ◌∷◌, [], ◌++◌, refl, sym, sub
 use Rattle.multihash.specs.Multihash.{pair_of}
 use Rattle.multihash.proofs.Varints.VarintWriteLemmas.{one_byte}
 use Rattle.examples.specs.ContentId.{version_1, content_of, IsContentId}
-use Rattle.examples.proofs.ContentIdLemmas.{make_version_1}
+use Rattle.examples.proofs.IdentifierLemmas.{make_version_1}
 use Rattle.examples.proofs.content_id.ContentId.encoded_len.Goals as goal
 
 pub returns-in-V1 : goal.returns-in-V1

@@ -2,7 +2,7 @@ use Rattle.std.proofs.Common.{◌≡◌, [], length, Some, inl, inr, refl, sym, 
 use Rattle.multihash.proofs.Readings.ReadingLemmas.{Consumes-cut}
 use Rattle.multihash.proofs.OutcomeLemmas.{passed_on}
 use Rattle.examples.specs.ContentId.{content_of}
-use Rattle.examples.proofs.ContentIdLemmas.{content_fits}
+use Rattle.examples.proofs.IdentifierLemmas.{content_fits}
 use Rattle.examples.proofs.content_id.ContentId.from_bytes.Goals as goal
 
 pub returns-in_err-id-clause-found : goal.returns-in_err-id-clause-found

@@ -4,7 +4,7 @@ use Rattle.multihash.specs.Multihash.{pair_of}
 use Rattle.multihash.proofs.CallingLemmas.{varint_fails, exact_fails}
 use Rattle.multihash.proofs.OutcomeLemmas.{passed_on}
 use Rattle.examples.specs.declared.content_id.ContentIdError.TheVariants.{Rejected}
-use Rattle.examples.proofs.ContentIdLemmas.{make_version_0, make_version_1, takes_three, id_fails, rejected_found, id_found}
+use Rattle.examples.proofs.IdentifierLemmas.{make_version_0, make_version_1, takes_three, id_fails, rejected_found, id_found}
 use Rattle.examples.proofs.content_id.ContentId.read.Goals as goal
 use Rattle.examples.proofs.content_id.ContentId.read.Goals.{else-version-ne-VERSION-via-then-version-ne-VERSION+else-version-ne-SHA2_256, else-version-ne-VERSION-via-else-version-ne-VERSION}
 

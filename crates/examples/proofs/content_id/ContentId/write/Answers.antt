@@ -1,11 +1,10 @@
 use Rattle.std.proofs.Common.{◌≡◌, ◌++◌, inl, inr, refl, sym, subst, arith, rules}
 use Rattle.multihash.specs.Multihash.{pair_of}
-use Rattle.multihash.proofs.Writings.EncodingLemmas.{encoding_exists}
-use Rattle.multihash.proofs.Writings.WritingLemmas.{stops_in_first, stops_in_second, stops_in_third}
+use Rattle.multihash.proofs.EncodingLemmas.{encoding_exists, digest_fits}
+use Rattle.multihash.proofs.WritingLemmas.{stops_in_first, stops_in_second, stops_in_third}
 use Rattle.multihash.proofs.Varints.VarintWriteLemmas.{varint_exists}
-use Rattle.multihash.proofs.Values.ValueLemmas.{digest_fits}
 use Rattle.examples.specs.ContentId.{version_1, content_of, IsContentId}
-use Rattle.examples.proofs.ContentIdLemmas.{make_version_1, bare_is}
+use Rattle.examples.proofs.IdentifierLemmas.{make_version_1, bare_is}
 use Rattle.examples.proofs.content_id.ContentId.write.Goals as goal
 use Rattle.examples.proofs.content_id.ContentId.write.Goals.{in-V0+in_ok-write-in-V0, in-V1+in_ok-write-in-V1+in_ok-write-in-V1-2+in_ok-write-in-V1-3}
 

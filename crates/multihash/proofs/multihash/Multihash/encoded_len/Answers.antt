@@ -1,6 +1,6 @@
 use Rattle.std.proofs.Common.{◌++◌, refl, ◌∙◌, arith}
 use Rattle.multihash.specs.Multihash.{pair_of}
-use Rattle.multihash.proofs.Writings.EncodingLemmas.{encoding_of_parts, length-parts, encoding_length}
+use Rattle.multihash.proofs.EncodingLemmas.{encoding_of_parts, length-parts, encoding_length}
 use Rattle.multihash.proofs.multihash.Multihash.encoded_len.Goals as goal
 
 pub returns-clause-encoding : goal.returns-clause-encoding

@@ -8,7 +8,7 @@ use Rattle.multihash.specs.Multihash.{pair_of}
 use Rattle.multihash.proofs.OutcomeLemmas.{passed_err}
 use Rattle.multihash.proofs.Forms.JsonLemmas.{array_unique, length-member_bytes}
 use Rattle.multihash.proofs.Readings.VerdictLemmas.{whole_pair, whole_rejected}
-use Rattle.multihash.proofs.Values.ValueLemmas.{digest_fits}
+use Rattle.multihash.proofs.EncodingLemmas.{digest_fits}
 use Rattle.multihash.proofs.multihash.Multihash.from_value.Given as given
 use Rattle.multihash.proofs.multihash.Multihash.from_value.Goals as goal
 

@@ -1,5 +1,5 @@
 use Rattle.std.proofs.Common.{◌-◌, replicate, ℕ, ◌∙◌, sym}
-use Rattle.multihash.proofs.Writings.EncodingLemmas.{pair_in_front}
+use Rattle.multihash.proofs.EncodingLemmas.{pair_in_front}
 use Rattle.multihash.proofs.multihash.Multihash.wrap.Goals as goal
 
 pub returns-in-Some-clause-ok : goal.returns-in-Some-clause-ok

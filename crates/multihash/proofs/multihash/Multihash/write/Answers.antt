@@ -1,9 +1,9 @@
 use Rattle.std.proofs.Common.{length, refl, ◌∙◌, arith}
 use Rattle.multihash.specs.Encoding.{IsEncoding}
 use Rattle.multihash.specs.Multihash.{pair_of}
-use Rattle.multihash.proofs.Writings.EncodingLemmas.{encoding_of_parts, length-parts}
+use Rattle.multihash.proofs.EncodingLemmas.{encoding_of_parts, length-parts}
 use Rattle.multihash.proofs.Varints.VarintWriteLemmas.{varint_exists}
-use Rattle.multihash.proofs.Writings.WritingLemmas.{stops_in_first, stops_in_second, stops_in_third}
+use Rattle.multihash.proofs.WritingLemmas.{stops_in_first, stops_in_second, stops_in_third}
 use Rattle.multihash.proofs.multihash.Multihash.write.Goals as goal
 
 pub returns-in_err-code-clause-err : goal.returns-in_err-code-clause-err

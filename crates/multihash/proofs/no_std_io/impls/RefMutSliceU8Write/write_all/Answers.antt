@@ -1,7 +1,7 @@
 use Rattle.std.proofs.Common.{[], length, take, rules, refl, arith}
 use Rattle.std.proofs.lemmas.Grind.{common_steps}
 use Rattle.multihash.specs.Writing.{AdvancesPast}
-use Rattle.multihash.proofs.Writings.WritingLemmas.{AppendsPrefix-take}
+use Rattle.multihash.proofs.WritingLemmas.{AppendsPrefix-take}
 use Rattle.multihash.proofs.no_std_io.impls.RefMutSliceU8Write.write_all.Goals as goal
 
 pub returns-then-buf-all-clause-laws : goal.returns-then-buf-all-clause-laws

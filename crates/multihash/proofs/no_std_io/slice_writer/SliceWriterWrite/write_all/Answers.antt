@@ -1,6 +1,6 @@
 use Rattle.std.proofs.Common.{[], rules, refl, arith}
 use Rattle.std.proofs.lemmas.Grind.{common_steps}
-use Rattle.multihash.proofs.Writings.WritingLemmas.{AppendsPrefix-take, filled_length}
+use Rattle.multihash.proofs.WritingLemmas.{AppendsPrefix-take, filled_length}
 use Rattle.multihash.proofs.no_std_io.slice_writer.SliceWriterWrite.write_all.Goals as goal
 
 pub returns-else-branch-buf-clause-laws : goal.returns-else-branch-buf-clause-laws

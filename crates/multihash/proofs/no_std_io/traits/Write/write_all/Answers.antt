@@ -1,6 +1,6 @@
 use Rattle.std.proofs.Common.{◌++◌, rules, take, arith}
 use Rattle.std.proofs.lemmas.Grind.{common_steps}
-use Rattle.multihash.proofs.Writings.WritingLemmas.{concatenated-take-range, AppendsPrefix-take}
+use Rattle.multihash.proofs.WritingLemmas.{concatenated-take-range, AppendsPrefix-take}
 use Rattle.multihash.proofs.no_std_io.traits.Write.write_all.Goals as goal
 
 pub loop-left-preserved : goal.loop-left-preserved

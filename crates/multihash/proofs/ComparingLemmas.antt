@@ -1,8 +1,18 @@
--- Lists that are compared by windows, of which the last may overlap the one before: equality and order. All
--- for speed: `cmp` of 20 bytes or more needs less than half of the instructions of a comparison by bytes.
-use Rattle.std.proofs.Common.{◌≡◌, ◌≢◌, ◌==◌, ◌+◌, ◌-◌, ◌%◌, ◌^◌, ◌<◌, ◌≤◌, ℕ, suc, List, [], ◌∷◌, ◌++◌, Bool, true, false, not, cond, eqb, inl, inr, ◌⊎◌, ◌↔◌, IsTrue, length, take, drop, get_or, map, refl, sym, ap, subst, ◌∙◌, arith, length-drop, w8, zero}
-use Rattle.std.specs.Cmp.{unsigned_Decides, nat_cmp_is}
-use Rattle.std.specs.Cmp.Lexicographic.{pointwise, slice_cmp}
+-- What follows from how pairs compare: when they tie, and which part decides. And lists that are compared by
+-- windows, of which the last may overlap the one before: equality and order. All windows are for speed: `cmp` of
+-- 20 bytes or more needs less than half of the instructions of a comparison by bytes.
+use Rattle.std.proofs.Common.{◌≡◌, ◌<◌, ℕ, List, ◌∷◌, [], length, IsTrue, ◌↔◌, Bool, true, sym, ◌∙◌, ap, subst, rules, ◌≢◌, ◌==◌, ◌+◌, ◌-◌, ◌%◌, ◌^◌, ◌≤◌, suc, ◌++◌, false, not, cond, eqb, inl, inr, ◌⊎◌, take, drop, get_or, map, refl, arith, length-drop, w8, zero}
+use Rattle.std.specs.Cmp.{IsTotalOrder, unsigned_Decides, nat_cmp_is}
+use Rattle.std.specs.Cmp.Rules.{comparing}
+use Rattle.std.specs.Cmp.Lexicographic.{slice_cmp, pointwise}
+use Rattle.std.specs.Ordering.{is_eq, nat_cmp, ordering_then, is_ne}
+use Rattle.std.specs.declared.cmp.Ordering.TheVariants.{Less, Equal, Greater}
+use Rattle.std.proofs.lemmas.Cmp.{tied_itself}
+use Rattle.multihash.specs.Encoding.{IsEncoding}
+use Rattle.multihash.proofs.Varints.VarintLemmas.{varint_unique}
+use Rattle.multihash.proofs.Varints.VarintWriteLemmas.{one_byte}
+use Rattle.multihash.specs.Pair.{Pair}
+use Rattle.multihash.specs.Comparing.{equal_pairs, compare_pairs}
 use Rattle.std.specs.List.{prefix_len}
 use Rattle.std.specs.Simd.Lanes.{zip2, mask_l, top}
 use Rattle.std.specs.Int.Count.{count_trailing_zeros}
@@ -11,10 +21,56 @@ use Rattle.std.proofs.Math.Seq.{take-add}
 use Rattle.std.proofs.lemmas.Bool.Decides.{eqb_tells}
 use Rattle.std.proofs.lemmas.List.{take-append-drop, take-take, drop-take, drop-drop, take_all, map-id}
 use Rattle.std.proofs.lemmas.Slice.Eq.{slice_eq-Decides}
-use Rattle.std.specs.Ordering.{nat_cmp, ordering_then, is_ne}
 use Rattle.std.proofs.lemmas.Map.Lookups.{exact_bytes}
 use Rattle.std.specs.declared.cmp.Ordering.{Ordering}
-use Rattle.std.specs.declared.cmp.Ordering.TheVariants.{Less, Equal, Greater}
+
+-- ---- equality
+
+pub equal_exactly : (p q : Pair) → IsTrue (equal_pairs p q) ↔ (p ≡ q)
+equal_exactly p q = search (comparing, rules) depth 9
+
+-- ---- order
+
+pub pairs_total : IsTotalOrder compare_pairs
+pairs_total = search (comparing, rules) depth 9
+
+-- pairs tie exactly if they are the same
+pub tie_exactly : (p q : Pair) → IsTrue (is_eq (compare_pairs p q)) ↔ (p ≡ q)
+tie_exactly p q =
+    let ties : equal_pairs p q ≡ is_eq (compare_pairs p q) = search (comparing, rules) depth 9 in
+    subst (λ (b : Bool). IsTrue b ↔ (p ≡ q)) ties (equal_exactly p q)
+
+-- the same, as a search states it
+pub tie_same : (p q : Pair) → (compare_pairs p q ≡ Equal) ↔ (p ≡ q)
+tie_same p q = ((λ tie. (tie_exactly p q).0 (ap is_eq tie)), λ same. rw same (tied_itself pairs_total q))
+
+-- no pair is less than itself
+pub pairs_irreflexive : (p : Pair) → ¬ (compare_pairs p p ≡ Less)
+pairs_irreflexive p less = let both : Equal ≡ Less = sym (tied_itself pairs_total p) ∙ less in cc
+
+-- so keys of an ordered map that tie are one pair: by the parts, as tactics see a key
+pub same_key : (c d : ℕ) (x y : List ℕ) → is_eq (compare_pairs (record { code = c; digest = x }) (record { code = d; digest = y })) ≡ true → (c ≡ d) × (x ≡ y)
+same_key c d x y tie =
+    let same = (tie_exactly (record { code = c; digest = x }) (record { code = d; digest = y })).0 tie in
+    (ap (λ (p : Pair). p.code) same, ap (λ (p : Pair). p.digest) same)
+
+-- ---- the order of the encodings
+
+-- the code and the digest's length have a byte each in the encoding
+abbrev pub HasShortHead : Pair → Type 0
+HasShortHead p = (p.code < 128) × (length p.digest < 128)
+
+short_bytes : (p : Pair) (x : List ℕ) → HasShortHead p → IsEncoding p x → x ≡ p.code ∷ length p.digest ∷ p.digest
+short_bytes p x short e =
+    let code = varint_unique p.code e.code (p.code ∷ []) e.is_code (one_byte p.code short.0) in
+    let size = varint_unique (length p.digest) e.size (length p.digest ∷ []) e.is_size (one_byte (length p.digest) short.1) in
+    rw (e.spelled, code, size)
+
+-- then pairs are ordered as their encodings are, byte by byte; in general they are not
+pub order_of_bytes : (p q : Pair) (x y : List ℕ) → HasShortHead p → HasShortHead q → IsEncoding p x → IsEncoding q y → compare_pairs p q ≡ slice_cmp nat_cmp x y
+order_of_bytes p q x y short also e f = rw (short_bytes p x short e, short_bytes q y also f)
+
+-- ---- windows
 
 -- the n bytes from the index `at` on
 abbrev pub window : ℕ → ℕ → List ℕ → List ℕ

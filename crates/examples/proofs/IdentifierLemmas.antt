@@ -1,5 +1,6 @@
--- The two varints at the front of a content identifier; there is one identifier at one position.
-use Rattle.std.proofs.Common.{◌≡◌, ℕ, List, ◌++◌, length, Option, Some, IfErr, MatchResult, inl, inr, Result, Ok, Err, refl, sym, ap, ◌∙◌, subst, arith, append_assoc}
+-- The two varints at the front of a content identifier; there is one identifier at one position. Bytes that are no
+-- peer identifier have one error, and a malformed varint is one.
+use Rattle.std.proofs.Common.{◌≡◌, ℕ, List, ◌++◌, length, Option, Some, IfErr, MatchResult, inl, inr, Result, Ok, Err, refl, sym, ap, ◌∙◌, subst, arith, append_assoc, drop}
 use Rattle.std.specs.Result.{IsErrAnd}
 use Rattle.std.proofs.lemmas.List.{append_cancel_right}
 use Rattle.multihash.specs.Pair.{Pair, FitsBuffer}
@@ -7,16 +8,20 @@ use Rattle.multihash.specs.Encoding.{IsEncoding}
 use Rattle.multihash.specs.Varint.{IsVarint}
 use Rattle.multihash.specs.Reading.{Consumes}
 use Rattle.multihash.specs.Consuming.{ConsumesVarint}
-use Rattle.multihash.proofs.CallingLemmas.{number_read, number_found, exact_found, read_of_encoding}
+use Rattle.multihash.proofs.CallingLemmas.{number_read, number_found, exact_found, read_of_encoding, head_unique, head_no_error, head_of_encoding}
 use Rattle.multihash.proofs.Forms.StreamLemmas.{part_read}
 use Rattle.multihash.proofs.Readings.ReadingLemmas.{Consumes-concatenated}
-use Rattle.multihash.proofs.Values.ValueLemmas.{digest_fits}
+use Rattle.multihash.proofs.EncodingLemmas.{digest_fits, encoding_unique, encoding_same}
 use Rattle.multihash.proofs.Varints.VarintLemmas.{same_number, varint_unique}
-use Rattle.multihash.proofs.Writings.EncodingLemmas.{encoding_unique, encoding_same}
 use Rattle.examples.specs.ContentId.{Content, version_0, version_1, content_of, IsContentId, FitsContentId, HashFails, ContentIdFails}
 use Rattle.examples.specs.declared.content_id.ContentId.{ContentId}
 use Rattle.examples.specs.declared.content_id.ContentId.TheVariants.{V0, V1}
 use Rattle.examples.specs.declared.content_id.ContentIdError.{ContentIdError}
+use Rattle.multihash.specs.Verdict.{malformed, HasHead}
+use Rattle.multihash.proofs.Readings.VerdictLemmas.{verdict_unique}
+use Rattle.examples.specs.PeerId.{PeerFails}
+use Rattle.examples.specs.declared.peer_id.PeerError.{PeerError}
+use Rattle.examples.specs.declared.peer_id.PeerError.TheVariants.{Malformed, NotAllowed, OtherLength}
 
 -- the numbers of both varints
 abbrev pub first_number : Content → ℕ
@@ -205,3 +210,26 @@ module _ (unique : (p q : Pair) (x y r s : List ℕ) → IsEncoding p x → IsEn
 pub id_found : (c d : Content) (y more : List ℕ) (old new : Option (List ℕ)) → (x : List ℕ) × IsContentId c x × Consumes old x new
     → IsContentId d y → old ≡ Some (y ++ more) → (c ≡ d) × (new ≡ Some more)
 id_found = part_read IsContentId (one_place encoding_unique)
+
+-- ---- peer identifiers
+
+pub fails_once : (bytes : List ℕ) (e f : PeerError) → PeerFails bytes e → PeerFails bytes f → e ≡ f
+fails_once bytes (Malformed a) (Malformed b) (f, named, v) (g, also, w) =
+    let same : malformed f ≡ malformed g = verdict_unique 42 bytes (malformed f) (malformed g) (v 42) (w 42) in
+    cc
+fails_once bytes (Malformed a) (NotAllowed c s) (f, _, v) (k, h, _) = absurd (head_no_error c s k bytes h 42 f (v 42))
+fails_once bytes (Malformed a) (OtherLength n) (f, _, v) (c, s, k, h, _, _, _) = absurd (head_no_error c s k bytes h 42 f (v 42))
+fails_once bytes (NotAllowed c s) (Malformed b) (k, h, _) (f, _, v) = absurd (head_no_error c s k bytes h 42 f (v 42))
+fails_once bytes (NotAllowed c s) (NotAllowed d t) (k, h, _) (l, g, _) = let one = head_unique c s k bytes h d t l g in cc (one.0, one.1)
+fails_once bytes (NotAllowed c s) (OtherLength n) (k, h, other) (d, t, l, g, is, _, _) =
+    let one = head_unique c s k bytes h d t l g in absurd (other (rw (one.0, one.1) is))
+fails_once bytes (OtherLength m) (Malformed b) (c, s, k, h, _, _, _) (f, _, v) = absurd (head_no_error c s k bytes h 42 f (v 42))
+fails_once bytes (OtherLength m) (NotAllowed d t) (c, s, k, h, is, _, _) (l, g, other) =
+    let one = head_unique d t l bytes g c s k h in absurd (other (rw (one.0, one.1) is))
+fails_once bytes (OtherLength m) (OtherLength n) (c, s, k, h, _, long, _) (d, t, l, g, _, also, _) =
+    let one = head_unique c s k bytes h d t l g in cc (long, also, one.2)
+
+-- for the tactics
+pub head_of_peer : (code size len : ℕ) (bytes : List ℕ) → HasHead code size len bytes → (p : Pair) → IsEncoding p bytes
+    → (code ≡ p.code) × (size ≡ length p.digest) × (drop len bytes ≡ p.digest)
+head_of_peer = head_of_encoding

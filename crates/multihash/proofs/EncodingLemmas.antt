@@ -1,14 +1,18 @@
--- Encodings: their parts and lengths; each pair has one; they are bytes.
-use Rattle.std.proofs.Common.{◌≡◌, ℕ, ◌<◌, ◌≤◌, ◌+◌, List, [], ◌∷◌, ◌++◌, length, take, refl, sym, ap, ◌∙◌, subst, arith, length-append, append_assoc}
-use Rattle.multihash.specs.Pair.{Pair}
+-- Encodings: their parts and lengths; each pair has one; they are bytes. What is known of every value, also of one
+-- that nothing has read yet: its digest fits the buffer. The encoding of a pair in range is `encoding_of` it.
+use Rattle.std.proofs.Common.{◌≡◌, ℕ, ◌<◌, ◌≤◌, ◌+◌, List, [], ◌∷◌, ◌++◌, length, take, refl, sym, ap, ◌∙◌, subst, arith, length-append, append_assoc, map, get_or, ◌↔◌}
+use Rattle.multihash.specs.Pair.{Pair, FitsBuffer}
 use Rattle.multihash.specs.Varint.{IsVarint, max_continuation, varint_limit, continuation_bytes}
-use Rattle.multihash.specs.Encoding.{IsEncoding}
-use Rattle.std.proofs.lemmas.List.{take_at, append_cancel_left, append_cancel_right, drop-replicate}
+use Rattle.multihash.specs.Encoding.{IsEncoding, varint_of, encoding_of}
+use Rattle.std.proofs.lemmas.List.{take_at, append_cancel_left, append_cancel_right, drop-replicate, length-take}
 use Rattle.std.proofs.lemmas.List.Elements.{All-append, All-push, All-same, All-map, All-head}
 use Rattle.multihash.specs.Bytes.{IsBytes}
 use Rattle.multihash.proofs.Varints.DigitLemmas.{All-append_left, All-append_right}
 use Rattle.multihash.proofs.Varints.VarintLemmas.{varint_bytes, varint_longest, varint_unique, front_within, same_number}
-use Rattle.multihash.proofs.Varints.VarintWriteLemmas.{varint_exists}
+use Rattle.multihash.proofs.Varints.VarintWriteLemmas.{varint_exists, is_varint_of}
+use Rattle.std.specs.List.{All}
+use Rattle.multihash.specs.Streams.{AreConcatenated}
+use Rattle.multihash.specs.Multihash.{Fields, pair_of}
 
 -- the varints of a pair's code and of its digest's length, and the digest
 pub encoding_of_parts : (p : Pair) (code size : ℕ) (digest a b : List ℕ) → code ≡ p.code → size ≡ length p.digest → digest ≡ p.digest
@@ -98,3 +102,49 @@ pair_in_front code size digest front rest long same =
 
 -- the zeros after bytes that are copied to the front of zeros
 pub ruleset zeros_after = (drop-replicate)
+
+-- ---- values
+
+pub digest_fits : {S : ℕ} (m : Fields S) → FitsBuffer S (pair_of m)
+digest_fits m = omega (arith, length-take m.size m.buffer, m.fits)
+
+-- an encoding is at most the code's bytes, two of the size and 255 of the digest
+pub encoding_within : {S : ℕ} (m : Fields S) (bytes : List ℕ) → IsEncoding (pair_of m) bytes
+    → length bytes ≤ (max_continuation + 1) + 2 + 255
+encoding_within m bytes e = omega (arith, encoding_length (pair_of m) bytes e (omega (arith, digest_fits m)))
+
+pub all_fit : {S : ℕ} (items : List (Fields S)) → All (FitsBuffer S) (map pair_of items)
+all_fit {S} items = All-map (FitsBuffer S) pair_of items (λ k d within. digest_fits (get_or items k d))
+
+-- the pairs of a list of values have a concatenated encoding
+pub have_stream : {S : ℕ} (items : List (Fields S)) → (bytes : List ℕ) × AreConcatenated (map pair_of items) bytes
+have_stream [] = ([], refl)
+have_stream (m ∷ items) =
+    let first = encoding_exists (pair_of m) m.in_range (omega (arith, digest_fits m)) in
+    let later = have_stream items in
+    (_, (first.0, later.0, first.1, later.1, refl))
+
+-- ---- an encoding as a function
+
+pub is_encoding_of : (p : Pair) → p.code < varint_limit → length p.digest < varint_limit → IsEncoding p (encoding_of p)
+unfolding encoding_of
+is_encoding_of p code size = record {
+  code = varint_of p.code;
+  size = varint_of (length p.digest);
+  is_code = is_varint_of p.code code;
+  is_size = is_varint_of (length p.digest) size;
+  spelled = refl;
+}
+
+-- only pairs in range have an encoding
+pub encoding_is : (p : Pair) (bytes : List ℕ) → IsEncoding p bytes → bytes ≡ encoding_of p
+encoding_is p bytes e = encoding_same p bytes (encoding_of p) e (is_encoding_of p e.is_code.in_range e.is_size.in_range)
+
+pub encoding_exactly : (p : Pair) (bytes : List ℕ) → p.code < varint_limit → length p.digest < varint_limit
+    → IsEncoding p bytes ↔ (bytes ≡ encoding_of p)
+encoding_exactly p bytes code size =
+    (encoding_is p bytes, λ same. subst (IsEncoding p) (sym same) (is_encoding_of p code size))
+
+-- each value is in range
+pub encoding_of_value : {S : ℕ} (m : Fields S) → IsEncoding (pair_of m) (encoding_of (pair_of m))
+encoding_of_value m = is_encoding_of (pair_of m) m.in_range (omega (arith, digest_fits m))

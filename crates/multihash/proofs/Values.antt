@@ -1,3 +1,0 @@
-pub mod OrderLemmas
-pub mod ValueLemmas
-pub mod WindowLemmas

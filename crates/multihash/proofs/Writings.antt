@@ -1,3 +1,0 @@
-pub mod EncodedLemmas
-pub mod EncodingLemmas
-pub mod WritingLemmas
