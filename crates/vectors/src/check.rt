@@ -1,8 +1,7 @@
 //! The checks on one line.
 ghost use Rattle.std.specs.Prelude.{◌≤◌};
 
-use crate::line::{Line, Reading};
-use crate::verdict::Verdict;
+use crate::line::{Line, Reading, Verdict};
 use fakes::streams::Cuts;
 use multihash::{Error, Multihash};
 use std::fmt;

@@ -14,7 +14,6 @@ use std::process::ExitCode;
 mod check;
 mod line;
 mod replay;
-mod verdict;
 
 const LIST: &str = "verdicts.tsv";
 
