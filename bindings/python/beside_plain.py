@@ -8,7 +8,7 @@ import re
 import sys
 import time
 from pathlib import Path
-from statistics import median
+
 from typing import Any, BinaryIO, Callable, Dict, NamedTuple, Optional, Tuple
 
 import verified_multihash as vm
@@ -264,7 +264,7 @@ def main() -> int:
     table = "| Call | this package | plain Python | share |\n|---|---:|---:|---:|\n"
     for name in ours:
         rounds = [(nanoseconds(ours[name]), nanoseconds(plain[name]), nanoseconds(lambda: None)) for _ in range(ROUNDS)]
-        here, there, call = (median(times) for times in zip(*rounds))
+        here, there, call = (min(times) for times in zip(*rounds))
         share = (here - call) / (there - call)
         slow |= share > (OF_OTHERS if any(word in name for word in OTHERS) else LIMIT)
         table += "| %s | %.2f µs | %.2f µs | %.2f |\n" % (name, (here - call) / 1e3, (there - call) / 1e3, share)

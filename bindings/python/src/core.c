@@ -1,14 +1,16 @@
 /* The functions of verified_multihash over the library for C. They convert arguments and results, and decide
- * nothing. The state of the module is the type Multihash. It is written in the stable ABI of CPython 3.8. */
+ * nothing. The state of the module is its type and how its errors are made. It is written in the stable ABI of
+ * CPython 3.8. */
 #define Py_LIMITED_API 0x03080000
 #define PY_SSIZE_T_CLEAN
 #include <Python.h>
 #include <stddef.h>
-#include <stdlib.h>
 #include <string.h>
 #include <structmember.h>
 
 #include "multihash.h"
+
+static long version; /* of CPython, as sys.hexversion */
 
 /* ---- arguments */
 
@@ -81,12 +83,12 @@ static int get_input(PyObject *argument, Py_ssize_t most, input *to)
 static int get_arguments(PyObject *arguments, PyObject *named, const char *format, char **names, PyObject **first,
                          PyObject **second)
 {
-    Py_ssize_t wanted = second == NULL ? 1 : 2;
-    if (named != NULL || PyTuple_Size(arguments) != wanted) {
+    Py_ssize_t most = second == NULL ? 1 : 2, least = format[1] == '|' ? 1 : most, count = PyTuple_Size(arguments);
+    if (named != NULL || count < least || count > most) {
         return PyArg_ParseTupleAndKeywords(arguments, named, format, names, first, second);
     }
     *first = PyTuple_GetItem(arguments, 0);
-    if (second != NULL) *second = PyTuple_GetItem(arguments, 1);
+    if (count == 2) *second = PyTuple_GetItem(arguments, 1);
     return 1;
 }
 
@@ -129,34 +131,75 @@ static int get_pair(PyObject **code, PyObject *digest, uint64_t *number, input *
     return -1;
 }
 
-/* ---- errors */
+/* ---- the state and errors */
 
-/* Raises a MultihashError. The numbers are taken over; null is a failure that has raised an error. */
-static PyObject *raise_error(multihash_status status, PyObject *size, PyObject *code, size_t taken)
+typedef struct state {
+    PyObject *type;
+    PyObject *error;    /* MultihashError, */
+    PyObject *statuses; /* the members of Status by their numbers, */
+    PyObject *names;    /* and the names of an error's attributes */
+} state;
+
+static struct PyModuleDef definition;
+
+/* The module of a type, which keeps it; null is a failure that has raised an error. */
+static PyObject *module_of_type(PyTypeObject *type)
 {
-    PyObject *name = NULL, *package = NULL, *class = NULL, *error = NULL;
-    if (size != NULL && code != NULL) name = PyUnicode_FromString("verified_multihash");
-    if (name != NULL) package = PyImport_GetModule(name); /* faster, as it is there already */
-    if (name != NULL && package == NULL && PyErr_Occurred() == NULL) package = PyImport_Import(name);
-    if (package != NULL) class = PyObject_GetAttrString(package, "MultihashError");
-    if (class != NULL) error = PyObject_CallFunction(class, "IOOn", status, size, code, (Py_ssize_t)taken);
-    if (error != NULL) PyErr_SetObject(class, error);
+    PyObject *module = PyObject_GetAttrString((PyObject *)type, "_core");
+    if (module == NULL) return NULL;
+    Py_DECREF(module);
+    if (PyModule_GetDef(module) == &definition) return module;
+    return PyErr_Format(PyExc_TypeError, "not the module of a Multihash: %R", module);
+}
+
+/* Raises a MultihashError, without its __init__, which takes longer. The numbers are taken over; null is a failure
+ * that has raised an error. */
+static PyObject *raise_error(PyObject *module, multihash_status status, PyObject *size, PyObject *code, size_t taken)
+{
+    const state *its = module == NULL ? NULL : PyModule_GetState(module);
+    PyObject *count = size == NULL || code == NULL || its == NULL ? NULL : PyLong_FromSize_t(taken), *error = NULL;
+    PyObject *values[] = {count == NULL ? NULL : PyTuple_GetItem(its->statuses, (Py_ssize_t)status), size, code, count,
+                          status == MULTIHASH_INSUFFICIENT || status == MULTIHASH_UNEXPECTED_EOF ? Py_True : Py_False};
+    PyObject *arguments = values[0] == NULL ? NULL : PyTuple_Pack(4, values[0], size, code, count);
+    if (arguments != NULL) {
+        newfunc make = (newfunc)PyType_GetSlot((PyTypeObject *)its->error, Py_tp_new);
+        error = make((PyTypeObject *)its->error, arguments, NULL);
+    }
+    int is_whole = error != NULL;
+    for (Py_ssize_t at = 0; is_whole && at < 5; at++) {
+        is_whole = PyObject_SetAttr(error, PyTuple_GetItem(its->names, at), values[at]) == 0;
+    }
+    if (is_whole) PyErr_SetObject(its->error, error);
     Py_XDECREF(error);
-    Py_XDECREF(class);
-    Py_XDECREF(package);
-    Py_XDECREF(name);
+    Py_XDECREF(arguments);
+    Py_XDECREF(count);
     Py_XDECREF(size);
     Py_XDECREF(code);
     return NULL;
 }
 
 /* Raises the error of an encoding. The length, which may be null, and the code are taken over. */
-static PyObject *encoding_error(multihash_status status, PyObject *length, PyObject *code)
+static PyObject *encoding_error(PyObject *module, multihash_status status, PyObject *length, PyObject *code)
 {
     int is_size = status == MULTIHASH_INVALID_SIZE;
     PyObject *none = length == NULL ? NULL : PyLong_FromLong(0);
     Py_XDECREF(is_size ? code : length);
-    return is_size ? raise_error(status, length, none, 0) : raise_error(status, none, code, 0);
+    return is_size ? raise_error(module, status, length, none, 0) : raise_error(module, status, none, code, 0);
+}
+
+/* For the package, once: how errors are made. */
+static PyObject *set_error(PyObject *module, PyObject *arguments)
+{
+    state *its = PyModule_GetState(module);
+    PyObject *class, *statuses, *names;
+    if (!PyArg_ParseTuple(arguments, "OOO:set_error", &class, &statuses, &names)) return NULL;
+    its->error = class;
+    its->statuses = statuses;
+    its->names = names;
+    Py_INCREF(class);
+    Py_INCREF(statuses);
+    Py_INCREF(names);
+    Py_RETURN_NONE;
 }
 
 /* ---- the type */
@@ -168,10 +211,6 @@ typedef struct multihash_object {
     PyObject *code;   /* an int, and its number: an attribute that is an object is read faster */
     uint64_t number;
 } multihash_object;
-
-typedef struct state {
-    PyObject *type;
-} state;
 
 static PyTypeObject *type_of_module(PyObject *module)
 {
@@ -189,18 +228,19 @@ static PyTypeObject *type_of_value(PyObject *value)
     }
 }
 
-/* Makes a multihash of a code and a digest, which is taken over; null is a failure that has raised an error. */
-static PyObject *new_multihash(PyTypeObject *type, uint64_t code, PyObject *digest)
+/* Makes a multihash of a code, its number and a digest, which are taken over; null is a failure that has raised an
+ * error. */
+static PyObject *new_multihash(PyTypeObject *type, uint64_t number, PyObject *code, PyObject *digest)
 {
-    PyObject *number = digest == NULL ? NULL : PyLong_FromUnsignedLongLong(code);
-    multihash_object *made = number == NULL ? NULL : (multihash_object *)PyType_GenericAlloc(type, 0);
+    multihash_object *made = NULL;
+    if (code != NULL && digest != NULL) made = (multihash_object *)PyType_GenericAlloc(type, 0);
     if (made == NULL) {
-        Py_XDECREF(number);
+        Py_XDECREF(code);
         Py_XDECREF(digest);
         return NULL;
     }
-    made->number = code;
-    made->code = number;
+    made->number = number;
+    made->code = code;
     made->digest = digest;
     return (PyObject *)made;
 }
@@ -215,11 +255,13 @@ static PyObject *multihash_new(PyTypeObject *type, PyObject *arguments, PyObject
     if (get_pair(&code, digest, &number, &bytes) < 0) return NULL;
     multihash_encoded length = multihash_encoded_len(number, bytes.whole);
     if (length.status == MULTIHASH_OK) {
+        if (Py_TYPE(code) == &PyLong_Type) return new_multihash(type, number, code, bytes.owner);
         Py_DECREF(code);
-        return new_multihash(type, number, bytes.owner);
+        return new_multihash(type, number, PyLong_FromUnsignedLongLong(number), bytes.owner);
     }
+    PyObject *module = module_of_type(type);
     Py_DECREF(bytes.owner);
-    return encoding_error(length.status, PyLong_FromSize_t(bytes.whole), code);
+    return encoding_error(module, length.status, PyLong_FromSize_t(bytes.whole), code);
 }
 
 static void multihash_dealloc(PyObject *self)
@@ -270,15 +312,55 @@ static Py_hash_t multihash_hash(PyObject *self)
     return hash == -1 ? -2 : hash;
 }
 
+/* Puts both digits of a byte. */
+static char *put_hex(char *to, uint8_t byte)
+{
+    *to++ = "0123456789abcdef"[byte >> 4];
+    *to++ = "0123456789abcdef"[byte & 15];
+    return to;
+}
+
+/* Puts what `repr` makes of bytes, at most four characters for each, and three. */
+static char *put_bytes(char *to, const uint8_t *bytes, size_t length)
+{
+    char quote = memchr(bytes, '\'', length) != NULL && memchr(bytes, '"', length) == NULL ? '"' : '\'';
+    *to++ = 'b';
+    *to++ = quote;
+    for (size_t i = 0; i < length; i++) {
+        char byte = (char)bytes[i];
+        if (bytes[i] >= ' ' && bytes[i] < 127) {
+            if (byte == quote || byte == '\\') *to++ = '\\';
+            *to++ = byte;
+            continue;
+        }
+        *to++ = '\\';
+        *to++ = byte == '\t' ? 't' : byte == '\n' ? 'n' : byte == '\r' ? 'r' : 'x';
+        if (to[-1] == 'x') to = put_hex(to, bytes[i]);
+    }
+    *to++ = quote;
+    return to;
+}
+
+/* As "%s(code=%r, digest=%r)", which takes longer than all else. */
 static PyObject *multihash_repr(PyObject *self)
 {
-    const multihash_object *it = (const multihash_object *)self;
-    PyObject *name = PyObject_GetAttrString((PyObject *)Py_TYPE(self), "__qualname__"), *text = NULL;
-    if (name != NULL) {
-        text = PyUnicode_FromFormat("%U(code=%R, digest=%R)", name, it->code, it->digest);
-    }
+    char text[40 + 4 * MULTIHASH_DIGEST_MAX], *middle = text + 26, *first = middle, *end;
+    uint64_t number = ((multihash_object *)self)->number;
+    size_t length;
+    const uint8_t *digest = digest_of(self, &length);
+    do {
+        *--first = (char)('0' + number % 10);
+    } while ((number /= 10) > 0);
+    first = memcpy(first - 6, "(code=", 6);
+    memcpy(middle, ", digest=", 9);
+    end = put_bytes(middle + 9, digest, length);
+    *end++ = ')';
+    PyObject *name = PyObject_GetAttrString((PyObject *)Py_TYPE(self), "__qualname__");
+    PyObject *rest = name == NULL ? NULL : PyUnicode_FromStringAndSize(first, end - first);
+    PyObject *whole = rest == NULL ? NULL : PyUnicode_Concat(name, rest);
     Py_XDECREF(name);
-    return text;
+    Py_XDECREF(rest);
+    return whole;
 }
 
 static PyObject *multihash_arguments(PyObject *self, PyObject *unused)
@@ -297,14 +379,11 @@ static PyObject *multihash_reduce(PyObject *self, PyObject *unused)
 static PyObject *multihash_hexdigest(PyObject *self, PyObject *unused)
 {
     (void)unused;
-    char digits[2 * MULTIHASH_DIGEST_MAX];
+    char digits[2 * MULTIHASH_DIGEST_MAX], *to = digits;
     size_t length;
     const uint8_t *digest = digest_of(self, &length);
-    for (size_t i = 0; i < length; i++) {
-        digits[2 * i] = "0123456789abcdef"[digest[i] >> 4];
-        digits[2 * i + 1] = "0123456789abcdef"[digest[i] & 15];
-    }
-    return PyUnicode_FromStringAndSize(digits, (Py_ssize_t)(2 * length));
+    for (size_t i = 0; i < length; i++) to = put_hex(to, digest[i]);
+    return PyUnicode_FromStringAndSize(digits, to - digits);
 }
 
 static PyObject *multihash_bytes(PyObject *self, PyObject *unused)
@@ -367,11 +446,12 @@ static PyObject *decoded(PyObject *module, const input *from, multihash_decoded 
 {
     if (found.status != MULTIHASH_OK) {
         PyObject *size = PyLong_FromUnsignedLongLong(found.size), *code = PyLong_FromUnsignedLongLong(found.code);
-        return raise_error(found.status, size, code, found.taken);
+        return raise_error(module, found.status, size, code, found.taken);
     }
     const char *digest = (const char *)from->bytes + found.digest_offset;
-    PyObject *copied = PyBytes_FromStringAndSize(digest, (Py_ssize_t)found.digest_length);
-    return new_multihash(type_of_module(module), found.code, copied);
+    PyObject *code = PyLong_FromUnsignedLongLong(found.code);
+    PyObject *copied = code == NULL ? NULL : PyBytes_FromStringAndSize(digest, (Py_ssize_t)found.digest_length);
+    return new_multihash(type_of_module(module), found.code, code, copied);
 }
 
 /* The same with the number of bytes consumed. */
@@ -420,20 +500,210 @@ static PyObject *scale_decode(PyObject *module, PyObject *arguments, PyObject *n
 static PyObject *head(PyObject *module, PyObject *data)
 {
     input from;
-    (void)module;
     if (get_input(data, MULTIHASH_HEAD_MAX, &from) < 0) return NULL;
     multihash_front found = multihash_head(from.bytes, from.length);
     Py_DECREF(from.owner);
-    if (found.status != MULTIHASH_OK) return raise_error(found.status, PyLong_FromLong(0), PyLong_FromLong(0), found.taken);
+    if (found.status != MULTIHASH_OK) {
+        return raise_error(module, found.status, PyLong_FromLong(0), PyLong_FromLong(0), found.taken);
+    }
     unsigned long long code = found.code, length = found.digest_length;
     return Py_BuildValue("KKn", code, length, (Py_ssize_t)found.taken);
 }
+
+/* ---- readers */
+
+typedef struct reader_object {
+    PyObject_HEAD
+    PyObject *module;
+    PyObject *read; /* of the file */
+    size_t limit;
+    char has_lost; /* whether the file may have lost bytes */
+    size_t length; /* of the bytes that were read and belong to no multihash that was returned */
+    uint8_t rest[MULTIHASH_HEAD_MAX + MULTIHASH_DIGEST_MAX];
+} reader_object;
+
+static int reader_init(PyObject *self, PyObject *arguments, PyObject *named)
+{
+    static char *names[] = {"file", "limit", NULL};
+    reader_object *it = (reader_object *)self;
+    PyObject *file, *most = NULL, *module, *read, *old = it->read;
+    uint64_t limit = MULTIHASH_DIGEST_MAX;
+    if (!get_arguments(arguments, named, "O|O:MultihashReader", names, &file, &most)) return -1;
+    if (most != NULL && get_number(&most, "limit", &limit) < 0) return -1;
+    Py_XDECREF(most);
+    if ((module = module_of_type(Py_TYPE(self))) == NULL) return -1;
+    if ((read = PyObject_GetAttrString(file, "read")) == NULL) return -1;
+    if (it->module == NULL) Py_INCREF(it->module = module);
+    it->read = read;
+    it->limit = clamped(limit);
+    it->length = 0;
+    it->has_lost = 0;
+    Py_XDECREF(old);
+    return 0;
+}
+
+static int reader_traverse(PyObject *self, visitproc visit, void *arg)
+{
+    if (version >= 0x03090000) Py_VISIT(Py_TYPE(self));
+    Py_VISIT(((reader_object *)self)->module);
+    Py_VISIT(((reader_object *)self)->read);
+    return 0;
+}
+
+static int reader_clear(PyObject *self)
+{
+    Py_CLEAR(((reader_object *)self)->read);
+    return 0;
+}
+
+static void reader_dealloc(PyObject *self)
+{
+    PyTypeObject *type = Py_TYPE(self);
+    PyObject_GC_UnTrack(self);
+    reader_clear(self);
+    Py_XDECREF(((reader_object *)self)->module);
+    ((freefunc)PyType_GetSlot(type, Py_tp_free))(self);
+    Py_DECREF(type);
+}
+
+/* The number of bytes that the multihash still needs at least; 0 also where it is rejected. */
+static size_t missing(const reader_object *it)
+{
+    if (it->length == 0) return 2; /* an encoding has at least two bytes */
+    multihash_front found = multihash_head(it->rest, it->length);
+    if (found.status != MULTIHASH_OK) return found.status == MULTIHASH_INSUFFICIENT;
+    if (found.digest_length > it->limit || found.digest_length > MULTIHASH_DIGEST_MAX) return 0;
+    return found.taken + (size_t)found.digest_length - it->length;
+}
+
+/* The number of bytes to read, none if the next result is known; negative with an error set. */
+static Py_ssize_t wanted(const reader_object *it)
+{
+    size_t count = missing(it);
+    const char *why = it->read == NULL ? "not initialized" : "the file failed before, so bytes may be lost";
+    if (count == 0 || (it->read != NULL && !it->has_lost)) return (Py_ssize_t)count;
+    PyErr_SetString(PyExc_ValueError, why);
+    return -1;
+}
+
+/* Keeps what the file returned: 1, or 0 at its end, where these are no bytes; negative with an error set. */
+static int keep(reader_object *it, PyObject *chunk)
+{
+    input from;
+    it->has_lost = chunk != Py_None;
+    if (chunk == Py_None) PyErr_SetString(PyExc_BlockingIOError, "the file has no bytes now");
+    if (chunk == Py_None || get_input(chunk, sizeof it->rest, &from) < 0) return -1;
+    size_t most = missing(it); /* the file may have called this reader */
+    it->has_lost = from.whole > most;
+    if (it->has_lost) {
+        PyErr_Format(PyExc_ValueError, "read(%zu) returned %zu bytes", most, from.whole);
+    } else {
+        memcpy(it->rest + it->length, from.bytes, from.whole);
+        it->length += from.whole;
+    }
+    Py_DECREF(from.owner);
+    return it->has_lost ? -1 : from.whole > 0;
+}
+
+/* Reads at most that many bytes, and keeps them. */
+static int read_chunk(reader_object *it, Py_ssize_t count)
+{
+    PyObject *number = PyLong_FromSsize_t(count), *read = it->read;
+    if (number == NULL) return -1;
+    Py_INCREF(read);
+    it->has_lost = 1; /* until the bytes are kept */
+    PyObject *chunk = PyObject_CallFunctionObjArgs(read, number, NULL);
+    int kept = chunk == NULL ? -1 : keep(it, chunk);
+    if (chunk == NULL && PyErr_ExceptionMatches(PyExc_BlockingIOError)) it->has_lost = 0;
+    Py_XDECREF(chunk);
+    Py_DECREF(read);
+    Py_DECREF(number);
+    return kept;
+}
+
+/* The multihash of the bytes, or None if there are none. */
+static PyObject *reader_decoded(PyObject *self, PyObject *unused)
+{
+    reader_object *it = (reader_object *)self;
+    const input from = {NULL, it->rest, it->length, it->length};
+    (void)unused;
+    if (it->length == 0) Py_RETURN_NONE;
+    PyObject *multihash = decoded(it->module, &from, multihash_read_limit(it->rest, it->length, it->limit));
+    if (multihash != NULL) it->length = 0;
+    return multihash;
+}
+
+static PyObject *reader_next(PyObject *self, PyObject *unused)
+{
+    reader_object *it = (reader_object *)self;
+    Py_ssize_t count;
+    int kept = 1;
+    while ((count = wanted(it)) > 0 && (kept = read_chunk(it, count)) > 0) continue;
+    return count < 0 || kept < 0 ? NULL : reader_decoded(self, unused);
+}
+
+static PyObject *reader_wanted(PyObject *self, PyObject *unused)
+{
+    Py_ssize_t count = wanted((reader_object *)self);
+    (void)unused;
+    return count < 0 ? NULL : PyLong_FromSsize_t(count);
+}
+
+static PyObject *reader_keep(PyObject *self, PyObject *chunk)
+{
+    int kept = keep((reader_object *)self, chunk);
+    return kept < 0 ? NULL : PyBool_FromLong(kept);
+}
+
+static PyObject *reader_rest(PyObject *self, void *unused)
+{
+    (void)unused;
+    const reader_object *it = (const reader_object *)self;
+    return PyBytes_FromStringAndSize((const char *)it->rest, (Py_ssize_t)it->length);
+}
+
+static PyMethodDef reader_methods[] = {
+    {"_decoded", reader_decoded, METH_NOARGS, NULL}, {"_keep", reader_keep, METH_O, NULL},
+    {"_next", reader_next, METH_NOARGS, NULL},       {"_wanted", reader_wanted, METH_NOARGS, NULL},
+    {NULL, NULL, 0, NULL},
+};
+
+static PyMemberDef reader_members[] = {
+    {"_read", T_OBJECT_EX, offsetof(reader_object, read), READONLY, NULL},
+    {"_has_lost", T_BOOL, offsetof(reader_object, has_lost), 0, NULL},
+    {NULL, 0, 0, 0, NULL},
+};
+
+static PyGetSetDef reader_attributes[] = {
+    {"rest", reader_rest, NULL, "The bytes that were read and belong to no multihash that was returned.", NULL},
+    {NULL, NULL, NULL, NULL, NULL},
+};
+
+static PyType_Slot reader_slots[] = {
+    {Py_tp_doc, "Reader(file, limit=255)\n--\n\nWhat both readers are, but for the call of the file."},
+    {Py_tp_init, reader_init},
+    {Py_tp_traverse, reader_traverse},
+    {Py_tp_clear, reader_clear},
+    {Py_tp_dealloc, reader_dealloc},
+    {Py_tp_methods, reader_methods},
+    {Py_tp_members, reader_members},
+    {Py_tp_getset, reader_attributes},
+    {0, NULL},
+};
+
+static PyType_Spec reader_spec = {
+    "verified_multihash._core.Reader",
+    sizeof(reader_object),
+    0,
+    Py_TPFLAGS_DEFAULT | Py_TPFLAGS_BASETYPE | Py_TPFLAGS_HAVE_GC,
+    reader_slots,
+};
 
 /* ---- encoding */
 
 typedef multihash_encoded encoder(uint64_t, const uint8_t *, size_t, uint8_t *, size_t);
 
-static PyObject *encoded(encoder *function, const char *format, PyObject *arguments, PyObject *named)
+static PyObject *encoded(PyObject *module, encoder *function, const char *format, PyObject *arguments, PyObject *named)
 {
     static char *names[] = {"code", "digest", NULL};
     uint8_t out[MULTIHASH_LENGTH_MAX];
@@ -447,21 +717,19 @@ static PyObject *encoded(encoder *function, const char *format, PyObject *argume
                                  ? multihash_encoded_len(number, bytes.whole)
                                  : function(number, bytes.bytes, bytes.whole, out, sizeof out);
     Py_DECREF(bytes.owner);
-    if (made.status != MULTIHASH_OK) return encoding_error(made.status, PyLong_FromSize_t(bytes.whole), code);
+    if (made.status != MULTIHASH_OK) return encoding_error(module, made.status, PyLong_FromSize_t(bytes.whole), code);
     Py_DECREF(code);
     return PyBytes_FromStringAndSize((const char *)out, (Py_ssize_t)made.length);
 }
 
 static PyObject *encode(PyObject *module, PyObject *arguments, PyObject *named)
 {
-    (void)module;
-    return encoded(multihash_encode, "OO:encode", arguments, named);
+    return encoded(module, multihash_encode, "OO:encode", arguments, named);
 }
 
 static PyObject *scale_encode(PyObject *module, PyObject *arguments, PyObject *named)
 {
-    (void)module;
-    return encoded(multihash_scale_encode, "OO:scale_encode", arguments, named);
+    return encoded(module, multihash_scale_encode, "OO:scale_encode", arguments, named);
 }
 
 static PyObject *encoded_len(PyObject *module, PyObject *arguments, PyObject *named)
@@ -469,12 +737,11 @@ static PyObject *encoded_len(PyObject *module, PyObject *arguments, PyObject *na
     static char *names[] = {"code", "digest_length", NULL};
     PyObject *code, *length, *result = NULL;
     uint64_t number, size;
-    (void)module;
     if (!get_arguments(arguments, named, "OO:encoded_len", names, &code, &length)) return NULL;
     if (get_number(&code, "code", &number) < 0) return NULL;
     if (get_number(&length, "length", &size) == 0) {
         multihash_encoded made = multihash_encoded_len(number, clamped(size));
-        if (made.status != MULTIHASH_OK) return encoding_error(made.status, length, code);
+        if (made.status != MULTIHASH_OK) return encoding_error(module, made.status, length, code);
         result = PyLong_FromSize_t(made.length);
         Py_DECREF(length);
     }
@@ -530,9 +797,21 @@ static PyMethodDef functions[] = {
      "Returns the length of the encoding of a code and a digest of that length."},
     {"compare", WITH_NAMES(compare),
      "compare(left, right)\n--\n\nCompares two multihashes: returns -1, 0 or 1 by their order."},
+    {"set_error", set_error, METH_VARARGS, NULL},
     {"status_text", status_text, METH_O, NULL},
     {NULL, NULL, 0, NULL},
 };
+
+/* Adds a type, which keeps the module. It is taken over. */
+static int add_type(PyObject *module, const char *name, PyObject *type)
+{
+    if (type != NULL && PyObject_SetAttrString(type, "_core", module) == 0 &&
+        PyModule_AddObject(module, name, type) == 0) {
+        return 0;
+    }
+    Py_XDECREF(type);
+    return -1;
+}
 
 static int fill_module(PyObject *module)
 {
@@ -541,30 +820,35 @@ static int fill_module(PyObject *module)
                      MULTIHASH_VERSION_NUMBER);
         return -1;
     }
-    PyObject *type = PyType_FromSpec(&multihash_spec), *names = NULL;
-    if (type == NULL) return -1;
-    ((state *)PyModule_GetState(module))->type = type;
-    names = Py_BuildValue("(ss)", "code", "digest");
-    int is_wrong = names == NULL || PyObject_SetAttrString(type, "__match_args__", names) < 0;
+    PyObject *type = PyType_FromSpec(&multihash_spec), *names = Py_BuildValue("(ss)", "code", "digest");
+    int is_wrong = type == NULL || names == NULL || PyObject_SetAttrString(type, "__match_args__", names) < 0;
     Py_XDECREF(names);
+    ((state *)PyModule_GetState(module))->type = type;
     if (is_wrong) return -1;
     Py_INCREF(type);
-    if (PyModule_AddObject(module, "Multihash", type) == 0) return 0;
-    Py_DECREF(type);
-    return -1;
+    if (add_type(module, "Multihash", type) < 0) return -1;
+    return add_type(module, "Reader", PyType_FromSpec(&reader_spec));
 }
 
 static int visit_state(PyObject *module, visitproc visit, void *arg)
 {
     state *its = PyModule_GetState(module);
-    if (its != NULL) Py_VISIT(its->type);
+    if (its == NULL) return 0;
+    Py_VISIT(its->type);
+    Py_VISIT(its->error);
+    Py_VISIT(its->statuses);
+    Py_VISIT(its->names);
     return 0;
 }
 
 static int clear_state(PyObject *module)
 {
     state *its = PyModule_GetState(module);
-    if (its != NULL) Py_CLEAR(its->type);
+    if (its == NULL) return 0;
+    Py_CLEAR(its->type);
+    Py_CLEAR(its->error);
+    Py_CLEAR(its->statuses);
+    Py_CLEAR(its->names);
     return 0;
 }
 
@@ -596,7 +880,8 @@ __attribute__((visibility("default"))) /* CPython 3.8 does not say so */
 #endif
 PyMODINIT_FUNC PyInit__core(void)
 {
-    const char *version = Py_GetVersion();
-    if (strncmp(version, "3.", 2) != 0 || strtol(version + 2, NULL, 10) >= 12) definition.m_slots = slots_of_3_12;
+    PyObject *hexversion = PySys_GetObject("hexversion");
+    version = hexversion == NULL ? 0 : PyLong_AsLong(hexversion);
+    if (version >= 0x030c0000) definition.m_slots = slots_of_3_12;
     return PyModuleDef_Init(&definition);
 }

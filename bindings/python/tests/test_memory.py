@@ -1,6 +1,7 @@
 """Calls whose allocations fail, one after the other, and calls that keep what they allocated."""
 import copy
 import functools
+import io
 import pickle
 import sys
 import unittest
@@ -35,11 +36,23 @@ def calls():
                 yield call, [*arguments[:at], other, *arguments[at + 1 :]]
 
 
-CALLS = {str((call.__name__, each)): functools.partial(call, *each) for call, each in calls()}
-CALLS["a subclass"] = lambda: Named(1 << 62, b"abc")
-CALLS["values"] = lambda: (OTHER.code, OTHER.digest, OTHER.hexdigest(), bytes(OTHER), repr(OTHER), hash(OTHER))
-CALLS["order"] = lambda: (VALUE == OTHER, VALUE < OTHER, VALUE == 1, VALUE == Named(VALUE.code, VALUE.digest))
-CALLS["pickle"] = lambda: pickle.loads(pickle.dumps(OTHER))
+CALLS = {str((call.__name__, each)): (call, each) for call, each in calls()}
+CALLS["a subclass"] = lambda: Named(1 << 62, b"abc"), ()
+CALLS["values"] = lambda: (OTHER.code, OTHER.digest, OTHER.hexdigest(), bytes(OTHER), repr(OTHER), hash(OTHER)), ()
+CALLS["order"] = lambda: (VALUE == OTHER, VALUE < OTHER, VALUE == 1, VALUE == Named(VALUE.code, VALUE.digest)), ()
+CALLS["pickle"] = lambda: pickle.loads(pickle.dumps(OTHER)), ()
+CALLS["reader"] = lambda: vm.read_from(io.BytesIO(bytes(OTHER))), ()
+
+
+def prepared(call, arguments):
+    """A call with new objects for its arguments, so that one that is kept is a block more."""
+
+    def anew(argument):
+        if isinstance(argument, memoryview):
+            return memoryview(anew(argument.tobytes()))
+        return pickle.loads(pickle.dumps(argument))
+
+    return functools.partial(call, *map(anew, arguments))
 
 
 def result_of(call):
@@ -53,7 +66,7 @@ def result_of(call):
             raise
         return MemoryError  # CPython's, from 3.11 on, where it has no memory for a traceback
     except (MultihashError, TypeError, ValueError) as error:
-        return type(error), str(error) or ANY  # CPython up to 3.10 leaves the text out if it has no memory for it
+        return type(error), error.args or ANY  # CPython up to 3.10 leaves the text out if it has no memory for it
 
 
 class Memory(unittest.TestCase):
@@ -62,10 +75,11 @@ class Memory(unittest.TestCase):
         failed = 0
         for name, call in CALLS.items():
             with self.subTest(call=name):
-                wanted = result_of(call)
+                wanted = result_of(prepared(*call))
                 for number in range(300):
+                    again = prepared(*call)
                     set_nomemory(number, number + 1)
-                    found = result_of(call)
+                    found = result_of(again)
                     remove_mem_hooks()
                     failed += found is MemoryError
                     self.assertIn(found, (MemoryError, wanted))
@@ -76,10 +90,10 @@ class Memory(unittest.TestCase):
         for name, call in CALLS.items():
             with self.subTest(call=name):
                 for _ in range(20):
-                    result_of(call)
+                    result_of(prepared(*call))
                 before = sys.getallocatedblocks()
                 for _ in range(2000):
-                    result_of(call)
+                    result_of(prepared(*call))
                 self.assertLess(sys.getallocatedblocks() - before, 1000)
 
     def test_nothing_is_kept(self):

@@ -4,6 +4,7 @@ import asyncio
 import copy
 import ctypes
 import doctest
+import gc
 import importlib
 import inspect
 import io
@@ -12,6 +13,7 @@ import os
 import pickle
 import re
 import resource
+import subprocess
 import sys
 import tempfile
 import types
@@ -47,8 +49,8 @@ def shown(number):
 
 
 def parameters_of(call):
-    """The parameters that a function shows; CPython 3.8 finds none of a class in C."""
-    is_found = call is not Multihash or sys.version_info > (3, 9)
+    """The parameters that a function shows; CPython 3.8 and 3.9 find none of a class in C."""
+    is_found = call is not Multihash or sys.version_info > (3, 10)
     return inspect.signature(call).parameters if is_found else dict.fromkeys(Multihash.__match_args__)
 
 
@@ -134,7 +136,7 @@ class Arguments(unittest.TestCase):
             call(*arguments)
         error = raised.exception
         self.assertIs(type(error.status), Status)
-        self.assertEqual(error.args, (str(error),))
+        self.assertEqual(error.args, (error.status, error.size, error.code, error.taken))
         return error.status, error.size, error.code, str(error)
 
     def test_only_buffers(self):
@@ -290,6 +292,30 @@ class Readers(unittest.TestCase):
                 with self.assertRaisesRegex(ValueError, "failed before"):
                     asyncio.run(awaited.read())
 
+    def test_own_readers(self):
+        """A file that begins its reader anew adds no more than is missing. Both are collected, with their class."""
+        turns = iter([b"\1\xff", b"\1", None, b"\1\xff", b"\1", bytes(254), b""])
+
+        def chunk(size):
+            turn = next(turns)
+            if turn is None:
+                self.assertRaisesRegex(ValueError, "failed before", reader.read)
+                reader.__init__(file)
+                self.assertRaises(MultihashError, reader.read)
+            return bytes(size) if turn is None else turn
+
+        class Own(vm.MultihashReader):
+            """A reader that its class has."""
+
+        file = types.SimpleNamespace(read=chunk)
+        Own.kept = reader = Own(file)
+        self.assertRaisesRegex(ValueError, r"read\(1\) returned 255 bytes", reader.read)
+        self.assertEqual(reader.rest, b"\1\xff\1" + bytes(254))
+        references = [weakref.ref(Own), weakref.ref(reader), weakref.ref(chunk)]
+        del Own, reader, chunk, file
+        gc.collect()
+        self.assertEqual([each() for each in references], [None] * 3)
+
     def test_cancelled_calls(self):
         """The bytes come one by one; a call that waits for more is ended by a time limit, and loses nothing."""
         data = b"".join(bytes(Multihash(1 << 40, bytes([n] * n))) for n in range(4))
@@ -357,6 +383,13 @@ class Values(unittest.TestCase):
             value.__init__(2, b"")
             self.assertEqual((value, type(value.code)), (VALUE, int))
 
+    def test_formats(self):
+        """Texts are what Python makes of the parts."""
+        for digest in (*map(bytes, zip(range(256))), bytes(range(255)), b"'\"\\", b""):
+            for code in (0, 9, 10, (1 << 63) - 1):
+                value, text = Multihash(code, digest), "Multihash(code=%r, digest=%r)" % (code, digest)
+                self.assertEqual((repr(value), value.hexdigest()), (text, digest.hex()))
+
     def test_copies(self):
         """They keep all attributes, those of subclasses and errors too, which may have other parameters."""
         value, error = Sha256(b"abc"), MultihashError(Status.INVALID_CODE, 2, 1 << 64, 8)
@@ -402,9 +435,8 @@ class Costs(unittest.TestCase):
 
 
 class Interpreters(unittest.TestCase):
-    @unittest.skipIf(sys.version_info < (3, 12), "earlier interpreters share a lock")
     def test_interpreters(self):
-        """Interpreters with locks of their own, two at once."""
+        """Two at once, from CPython 3.12 on with locks of their own."""
         interpreters = importlib.import_module("_interpreters" if sys.version_info > (3, 13) else "_xxsubinterpreters")
         program = "import sys; sys.path[:] = %r\nimport verified_multihash as vm\n" % (sys.path,)
         program += "for n in range(20000): assert vm.decode(vm.encode(n, b'abc')) == vm.Multihash(n, b'abc')\n"
@@ -419,6 +451,15 @@ class Interpreters(unittest.TestCase):
 
         with ThreadPoolExecutor(2) as threads:
             self.assertEqual(list(threads.map(run, range(2))), [None, None])
+
+    def test_versions(self):
+        """From CPython 3.12 on the module asks for locks of its own, by a slot that an earlier one does not know."""
+        program = "import sys; sys.path[:] = %r; sys.hexversion = %d; import verified_multihash"
+        for version in (0x3080000, 0x3090000, 0x30A0000, 0x30B0FF0, 0x30C0000, 0x30D0000, 0x3100000, 0x4000000):
+            words = [sys.executable, "-c", program % (sys.path, version)]
+            ended = subprocess.run(words, stderr=subprocess.PIPE, timeout=60, check=False)
+            found = ended.returncode, b"unknown slot ID 3" in ended.stderr
+            self.assertEqual(found, (version >= 0x30C0000 > sys.hexversion,) * 2, version)
 
 
 class Names(unittest.TestCase):
@@ -447,15 +488,16 @@ class Names(unittest.TestCase):
 
         def kind(value):
             parts = ", ".join(map(kind, value)) if type(value) is tuple else ""
-            return "Tuple[%s]" % parts if parts else type(value).__name__
+            return "Tuple[%s]" % parts if parts else "None" if value is None else type(value).__name__
 
         stub = Path(vm.__file__).with_name("_core.pyi").read_text("utf-8")
         results = {call.__name__: call(*arguments) for call, arguments in NAMED_CALLS.items()}
-        results.update(head=vm._core.head(bytes(2)), status_text=vm._core.status_text(1))
+        results.update(head=vm._core.head(bytes(2)), status_text=vm._core.status_text(1), set_error=None)
         for name, wanted in re.findall(r"^def (\w+)\(.*\) -> (.*): \.\.\.$", stub, re.M):
             self.assertEqual(kind(results.pop(name)), wanted, name)
         self.assertEqual(list(results), ["read_from", "Multihash", "MultihashError"])
-        for name, wanted in re.findall(r"^    def (\w+)\(self.*\) -> (.*): \.\.\.$", stub, re.M):
+        of_values = stub.partition("class Reader")[0]
+        for name, wanted in re.findall(r"^    def (\w+)\(self.*\) -> (.*): \.\.\.$", of_values, re.M):
             found = getattr(VALUE, name)
             found = found(*[VALUE] * (wanted == "bool")) if callable(found) else found
             self.assertEqual(kind(found), wanted, name)

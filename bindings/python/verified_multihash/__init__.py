@@ -6,8 +6,7 @@ Input that is no multihash, and a code or a digest that no multihash has, is a M
 from __future__ import annotations
 
 import io
-import operator
-from typing import TYPE_CHECKING, Any, AsyncIterator, Iterator, NamedTuple, Optional, Protocol, Tuple, Union
+from typing import TYPE_CHECKING, AsyncIterator, Iterator, NamedTuple, Optional, Protocol, Union
 
 from . import _core
 from ._core import Multihash, compare, decode, encode, encoded_len, read, scale_decode, scale_encode
@@ -30,33 +29,30 @@ class MultihashError(ValueError):
 
     `size` is the length of a digest that is too long, or the number of trailing bytes, at INVALID_SIZE, else
     0. `code` is the code at INVALID_CODE, else 0. `taken` is the number of bytes that a decoding consumed.
+    `is_incomplete` says whether the input is truncated: it ends within or before a varint, or within the digest.
+    Only then can more input change the result of `read`, `read_from`, a reader, `head` and `scale_decode`.
     """
 
+    __slots__ = ("status", "size", "code", "taken", "is_incomplete")
+
     def __init__(self, status: int, size: int = 0, code: int = 0, taken: int = 0) -> None:
-        if status not in _ERRORS:
-            raise ValueError("no status of an error: %r" % (status,))
-        self.status, text, number = _ERRORS[status]
+        self.status = Status(status)
+        if self.status is Status.OK:
+            raise ValueError("OK is the status of no error")
         self.size = size
         self.code = code
         self.taken = taken
-        super().__init__(text + " %s." % _shown(getattr(self, number)) if number else text)
+        self.is_incomplete = self.status in (Status.INSUFFICIENT, Status.UNEXPECTED_EOF)
+        super().__init__(self.status, size, code, taken)
 
-    def __reduce__(self) -> Tuple[Any, ...]:
-        return type(self), (int(self.status), self.size, self.code, self.taken), self.__dict__
-
-    @property
-    def is_incomplete(self) -> bool:
-        """Whether the input is truncated: it ends within or before a varint, or within the digest.
-
-        Only then can more input change the result of `read`, `read_from`, a reader, `head` and `scale_decode`.
-        """
-        return self.status in _INCOMPLETE
+    def __str__(self) -> str:
+        text = _core.status_text(self.status)
+        numbers = {Status.INVALID_SIZE: self.size, Status.INVALID_CODE: self.code}
+        return "%s %s." % (text, _shown(numbers[self.status])) if self.status in numbers else text
 
 
-# Here, since a look-up of an enum is slow: each status of an error, its text, and the attribute whose number follows.
-_INCOMPLETE = (Status.INSUFFICIENT, Status.UNEXPECTED_EOF)
-_NUMBERS = {Status.INVALID_SIZE: "size", Status.INVALID_CODE: "code"}
-_ERRORS = {int(it): (it, _core.status_text(it), _NUMBERS.get(it)) for it in Status if it is not Status.OK}
+# The library's errors are made by _core, as __init__ does it.
+_core.set_error(MultihashError, tuple(Status), MultihashError.__slots__)
 
 
 def _shown(number: int) -> str:
@@ -90,50 +86,7 @@ def head(data: Buffer) -> Head:
     return tuple.__new__(Head, _core.head(data))  # without the arguments of Head, which take longer
 
 
-class _Reader:
-    """What both readers are, but for the call of the file."""
-
-    def __init__(self, file: Any, limit: int) -> None:
-        self._file = file
-        self._limit = operator.index(limit)
-        if self._limit < 0:
-            raise ValueError("a limit is not negative")
-        self._rest = b""
-        self._has_lost = False  # whether the file may have lost bytes
-
-    @property
-    def rest(self) -> bytes:
-        """The bytes that were read and belong to no multihash that was returned."""
-        return self._rest
-
-    def _wanted(self) -> int:
-        """The number of bytes to read, none if the next result is known."""
-        wanted = _missing(self._rest, self._limit)
-        if wanted and self._has_lost:
-            raise ValueError("the file failed before, so bytes may be lost")
-        return wanted
-
-    def _keep(self, chunk: Optional[bytes], wanted: int) -> bool:
-        """Keeps what the file returned, at most that many bytes. False at its end, where these are none."""
-        if chunk is None:
-            self._has_lost = False
-            raise BlockingIOError("the file has no bytes now")
-        data = chunk if type(chunk) is bytes else memoryview(chunk).tobytes()
-        if len(data) > wanted:
-            raise ValueError("read(%d) returned %d bytes" % (wanted, len(data)))
-        self._rest += data
-        self._has_lost = False
-        return bool(data)
-
-    def _decoded(self) -> Optional[Multihash]:
-        if not self._rest:
-            return None
-        multihash = read(self._rest, self._limit)[0]
-        self._rest = b""
-        return multihash
-
-
-class MultihashReader(_Reader):
+class MultihashReader(_core.Reader):
     """Reads concatenated encodings from a binary file: each `read` the next one, and no byte after it.
 
     `file.read` may return fewer bytes than it is asked for. If it returns None or raises a BlockingIOError, since
@@ -147,25 +100,13 @@ class MultihashReader(_Reader):
 
     def read(self) -> Optional[Multihash]:
         """Returns the next multihash, or None at the end of the file."""
-        wanted = self._wanted()
-        while wanted and self._keep(self._chunk(wanted), wanted):
-            wanted = self._wanted()
-        return self._decoded()
+        return self._next()
 
     def __iter__(self) -> Iterator[Multihash]:
         return iter(self.read, None)
 
-    def _chunk(self, wanted: int) -> Optional[bytes]:
-        self._has_lost = True  # until the bytes are kept: a signal may raise an error at any place
-        try:
-            chunk: Optional[bytes] = self._file.read(wanted)
-        except BlockingIOError:
-            self._has_lost = False
-            raise
-        return chunk
 
-
-class AsyncMultihashReader(_Reader):
+class AsyncMultihashReader(_core.Reader):
     """Reads as a MultihashReader does from a stream whose `read` is awaited, such as an asyncio.StreamReader.
 
     One call waits at a time. After a call that was cancelled, as by a time limit, the next one continues, since an
@@ -178,18 +119,14 @@ class AsyncMultihashReader(_Reader):
     async def read(self) -> Optional[Multihash]:
         """Returns the next multihash, or None at the end of the stream."""
         wanted = self._wanted()
-        while wanted and self._keep(await self._chunk(wanted), wanted):
-            wanted = self._wanted()
+        while wanted:
+            try:
+                chunk = await self._read(wanted)
+            except Exception as error:  # which no cancelled call is
+                self._has_lost = not isinstance(error, BlockingIOError)
+                raise
+            wanted = self._wanted() if self._keep(chunk) else 0
         return self._decoded()
-
-    async def _chunk(self, wanted: int) -> Optional[bytes]:
-        try:
-            chunk: Optional[bytes] = await self._file.read(wanted)
-        except Exception as error:  # which no cancelled call is
-            self._has_lost = not isinstance(error, BlockingIOError)
-            raise
-        self._has_lost = True  # until the bytes are kept
-        return chunk
 
     async def __aiter__(self) -> AsyncIterator[Multihash]:
         multihash = await self.read()
@@ -205,17 +142,6 @@ def read_from(file: _Readable, limit: int = DIGEST_MAX) -> Optional[Multihash]:
     that has no bytes for the time being is an io.UnsupportedOperation: a MultihashReader keeps what it has read.
     """
     try:
-        return MultihashReader(file, limit).read()
+        return _core.Reader(file, limit)._next()
     except BlockingIOError as error:
         raise io.UnsupportedOperation("the file does not block: MultihashReader reads from it") from error
-
-
-def _missing(data: bytes, limit: int) -> int:
-    """The number of bytes that the multihash still needs at least; 0 also where it is rejected."""
-    if not data:
-        return 2  # an encoding has at least two bytes
-    try:
-        _, size, length = _core.head(data)
-    except MultihashError as error:
-        return 1 if error.is_incomplete else 0
-    return length + size - len(data) if size <= limit and size <= DIGEST_MAX else 0
