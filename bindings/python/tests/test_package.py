@@ -292,8 +292,8 @@ class Readers(unittest.TestCase):
                 with self.assertRaisesRegex(ValueError, "failed before"):
                     asyncio.run(awaited.read())
 
-    def test_own_readers(self):
-        """A file that begins its reader anew adds no more than is missing. Both are collected, with their class."""
+    def own_reader(self):
+        """A file begins its reader anew, which gets no more than is missing. The three that know each other."""
         turns = iter([b"\1\xff", b"\1", None, b"\1\xff", b"\1", bytes(254), b""])
 
         def chunk(size):
@@ -304,15 +304,15 @@ class Readers(unittest.TestCase):
                 self.assertRaises(MultihashError, reader.read)
             return bytes(size) if turn is None else turn
 
-        class Own(vm.MultihashReader):
-            """A reader that its class has."""
-
+        own = type("Own", (vm.MultihashReader,), {})
         file = types.SimpleNamespace(read=chunk)
-        Own.kept = reader = Own(file)
+        own.kept = reader = own(file)
         self.assertRaisesRegex(ValueError, r"read\(1\) returned 255 bytes", reader.read)
         self.assertEqual(reader.rest, b"\1\xff\1" + bytes(254))
-        references = [weakref.ref(Own), weakref.ref(reader), weakref.ref(chunk)]
-        del Own, reader, chunk, file
+        return [weakref.ref(own), weakref.ref(reader), weakref.ref(chunk)]
+
+    def test_collected(self):
+        references = self.own_reader()
         gc.collect()
         self.assertEqual([each() for each in references], [None] * 3)
 
