@@ -135,7 +135,8 @@ static int get_pair(PyObject **code, PyObject *digest, uint64_t *number, input *
 
 typedef struct state {
     PyObject *type;
-    PyObject *error;    /* MultihashError, */
+    PyObject *error;    /* MultihashError, its slot, */
+    newfunc new_error;
     PyObject *statuses; /* the members of Status by their numbers, */
     PyObject *names;    /* and the names of an error's attributes */
 } state;
@@ -161,10 +162,7 @@ static PyObject *raise_error(PyObject *module, multihash_status status, PyObject
     PyObject *values[] = {count == NULL ? NULL : PyTuple_GetItem(its->statuses, (Py_ssize_t)status), size, code, count,
                           status == MULTIHASH_INSUFFICIENT || status == MULTIHASH_UNEXPECTED_EOF ? Py_True : Py_False};
     PyObject *arguments = values[0] == NULL ? NULL : PyTuple_Pack(4, values[0], size, code, count);
-    if (arguments != NULL) {
-        newfunc make = (newfunc)PyType_GetSlot((PyTypeObject *)its->error, Py_tp_new);
-        error = make((PyTypeObject *)its->error, arguments, NULL);
-    }
+    if (arguments != NULL) error = its->new_error((PyTypeObject *)its->error, arguments, NULL);
     int is_whole = error != NULL;
     for (Py_ssize_t at = 0; is_whole && at < 5; at++) {
         is_whole = PyObject_SetAttr(error, PyTuple_GetItem(its->names, at), values[at]) == 0;
@@ -194,6 +192,7 @@ static PyObject *set_error(PyObject *module, PyObject *arguments)
     PyObject *class, *statuses, *names;
     if (!PyArg_ParseTuple(arguments, "OOO:set_error", &class, &statuses, &names)) return NULL;
     its->error = class;
+    its->new_error = (newfunc)PyType_GetSlot((PyTypeObject *)class, Py_tp_new);
     its->statuses = statuses;
     its->names = names;
     Py_INCREF(class);
@@ -526,7 +525,7 @@ static int reader_init(PyObject *self, PyObject *arguments, PyObject *named)
 {
     static char *names[] = {"file", "limit", NULL};
     reader_object *it = (reader_object *)self;
-    PyObject *file, *most = NULL, *module, *read, *old = it->read;
+    PyObject *file, *most = NULL, *module, *read;
     uint64_t limit = MULTIHASH_DIGEST_MAX;
     if (!get_arguments(arguments, named, "O|O:MultihashReader", names, &file, &most)) return -1;
     if (most != NULL && get_number(&most, "limit", &limit) < 0) return -1;
@@ -534,10 +533,11 @@ static int reader_init(PyObject *self, PyObject *arguments, PyObject *named)
     if ((module = module_of_type(Py_TYPE(self))) == NULL) return -1;
     if ((read = PyObject_GetAttrString(file, "read")) == NULL) return -1;
     if (it->module == NULL) Py_INCREF(it->module = module);
-    it->read = read;
     it->limit = clamped(limit);
     it->length = 0;
     it->has_lost = 0;
+    PyObject *old = it->read; /* now: `file` may begin this reader anew, too */
+    it->read = read;
     Py_XDECREF(old);
     return 0;
 }

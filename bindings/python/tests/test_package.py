@@ -32,11 +32,13 @@ BYTES_CALLS = [
 ]  # fmt: skip
 VALUE = Multihash(1, b"abc")
 CODE_CALLS = [vm.encode, vm.scale_encode, Multihash, lambda code, digest: vm.encoded_len(code, len(digest))]
-# Arguments with which a function is called by position, and by the names that it shows.
+# Arguments with which a function is called by position, and by the names that it shows; large, so that each is a block.
+CODE = 1 << 62
 NAMED_CALLS = {
-    vm.decode: [b"\1\3abc"], vm.read: [b"\1\3abc", 3], vm.head: [b"\1\3"], vm.scale_decode: [bytes(9)],
-    vm.encode: [1, b"abc"], vm.scale_encode: [1, b"abc"], vm.encoded_len: [1, 2], vm.compare: [Multihash(1, b"")] * 2,
-    vm.read_from: [io.BytesIO(bytes(8)), 2], Multihash: [1, b"abc"], MultihashError: [4, 3, 0, 7],
+    vm.decode: [b"\1\3abc"], vm.read: [b"\1\3abc", CODE], vm.head: [b"\1\3"], vm.scale_decode: [bytes(9)],
+    vm.encode: [CODE, b"abc"], vm.scale_encode: [CODE, b"abc"], vm.encoded_len: [CODE, 2],
+    vm.compare: [Multihash(CODE, b"")] * 2, vm.read_from: [io.BytesIO(bytes(8)), 2], Multihash: [CODE, b"abc"],
+    MultihashError: [4, 3, 0, 7],
 }  # fmt: skip
 
 
