@@ -1,10 +1,13 @@
 """Calls whose allocations fail, one after the other, and calls that keep what they allocated."""
 import copy
 import functools
+import gc
+import importlib
 import io
 import pickle
 import sys
 import unittest
+import weakref
 from unittest.mock import ANY
 
 import verified_multihash as vm
@@ -109,3 +112,19 @@ class Memory(unittest.TestCase):
                 call(*arguments)
             after = map(sys.getrefcount, counted)
             self.assertLess(max([0, *(now - then for now, then in zip(after, before))]), 500, call)
+
+    def test_modules(self):
+        """A package that was imported anew and is gone is collected, with its module, types and errors."""
+
+        def imported():
+            known = {name: it for name, it in sys.modules.items() if name.startswith(vm.__name__)}
+            for name in known:
+                del sys.modules[name]
+            again = importlib.import_module(vm.__name__)
+            sys.modules.update(known)
+            self.assertRaises(again.MultihashError, again.decode, again.encode(1, b"")[:1])
+            return [weakref.ref(it) for it in (again, again._core, again.Multihash, again.MultihashError, again.Status)]
+
+        references = imported()
+        gc.collect()
+        self.assertEqual([each() for each in references], [None] * 5)

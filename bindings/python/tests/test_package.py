@@ -56,6 +56,10 @@ def parameters_of(call):
     return inspect.signature(call).parameters if is_found else dict.fromkeys(Multihash.__match_args__)
 
 
+def attributes_of(error):
+    return [getattr(error, name) for name in (*MultihashError.__slots__, "args", "__dict__")]
+
+
 def copies(value):
     """Copies, and what each protocol of pickle makes of a value."""
     return [copy.copy(value), copy.deepcopy(value), *(pickle.loads(pickle.dumps(value, n)) for n in range(6))]
@@ -138,7 +142,7 @@ class Arguments(unittest.TestCase):
             call(*arguments)
         error = raised.exception
         self.assertIs(type(error.status), Status)
-        self.assertEqual(error.args, (error.status, error.size, error.code, error.taken))
+        self.assertEqual(attributes_of(error), attributes_of(MultihashError(*error.args)))
         return error.status, error.size, error.code, str(error)
 
     def test_only_buffers(self):
@@ -400,7 +404,7 @@ class Values(unittest.TestCase):
         for again in copies(value):
             self.assertEqual((type(again), again, again.more, again.slot), (Sha256, Multihash(18, b"abc"), "kept", 3))
         for again in copies(error):
-            self.assertEqual((type(again), again.__dict__, str(again)), (MultihashError, error.__dict__, str(error)))
+            self.assertEqual((type(again), attributes_of(again)), (MultihashError, attributes_of(error)))
 
     @unittest.skipIf(sys.version_info < (3, 9), "the stable ABI has no weak references")
     def test_weak_references(self):
