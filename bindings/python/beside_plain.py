@@ -15,7 +15,7 @@ import verified_multihash as vm
 ROUNDS, CALLS = 15, 5000
 # What a share may be here: times vary, so more than the page says; of calls that are C in plain Python too, more.
 LIMIT, OF_OTHERS = 0.6, 1.3
-OTHERS = ("`hexdigest", "`repr", "`digest`")
+OTHERS = ("`hexdigest", "`repr", "`digest`", "`status`")
 DATA = bytes([18, 32]) + bytes(range(32))
 FORM = bytes([18]) + bytes(7) + DATA[1:]
 PAGE = Path(__file__).with_name("README.md")

@@ -837,7 +837,6 @@ static int visit_state(PyObject *module, visitproc visit, void *arg)
     Py_VISIT(its->type);
     Py_VISIT(its->error);
     Py_VISIT(its->statuses);
-    Py_VISIT(its->names);
     return 0;
 }
 
