@@ -183,17 +183,24 @@ by_subdirectory() {
     (cd "$to/prefix" && find . ! -type d | sort) | diff <(files_in lib | grep -vE '/share/|\.so' | sort) -
 }
 
-# The example, built by CMake over what find_package finds, statically and not.
+# The first block of the page in that language.
+block_in() {
+  awk -v fence="\`\`\`$1" '$0 == fence { on = 1; next } on && /^```/ { exit } on' bindings/c/README.md
+}
+
+# The example, built by CMake as the page says over what find_package finds, statically and not.
 # shellcheck disable=SC2016
 by_find_package() {
   local to=$work/project kind other
-  mkdir "$to" && printf '%s\n' 'cmake_minimum_required(VERSION 3.20)' 'project(example LANGUAGES C)' \
-    "find_package(multihash_c ${version%.*} REQUIRED)" 'foreach(kind static shared)' \
-    'add_executable(${kind} ${source})' \
-    'target_link_libraries(${kind} multihash_c::${kind})' 'endforeach()' > "$to/CMakeLists.txt" &&
-    cmake -S "$to" -B "$to/build" -Dsource="$top/bindings/c/examples/show.c" \
-      -DCMAKE_PREFIX_PATH="$work/un packed built" && cmake --build "$to/build" || return 1
-  for kind in static shared; do "$to/build/$kind" | diff - "$expected" || return 1; done
+  for kind in shared static; do
+    mkdir -p "$to" && { printf '%s\n' 'cmake_minimum_required(VERSION 3.20)' 'project(example LANGUAGES C)' \
+      'add_executable(program ${source})' && block_in cmake | sed -E "s/(.*::)shared(.*::)static$/\1$kind\2/"; } \
+      > "$to/CMakeLists.txt" && grep "(multihash_c ${version%.*} " "$to/CMakeLists.txt" &&
+      grep "multihash_c::$kind)" "$to/CMakeLists.txt" &&
+      cmake -S "$to" -B "$to/build" -Dsource="$top/bindings/c/examples/show.c" \
+        -DCMAKE_PREFIX_PATH="$work/un packed built" && cmake --build "$to/build" &&
+      "$to/build/program" | diff - "$expected" || return 1
+  done
   for other in $((major - 1)).9 "$major.99" $((major + 1)); do
     sed -i "s/(multihash_c [0-9.]*/(multihash_c $other/" "$to/CMakeLists.txt" &&
       rejects "compatible with requested version" cmake -S "$to" -B "$to/build" || return 1
@@ -204,7 +211,7 @@ by_find_package() {
 in_go() {
   local lib=$work/go/lib
   cp -r "$work/un packed built" "$work/go" &&
-    awk '$0 == "```go" { on = 1; next } on && /^```/ { exit } on' bindings/c/README.md > "$work/go/main.go" &&
+    block_in go > "$work/go/main.go" &&
     echo 'module example' > "$work/go/go.mod" &&
     (cd "$work/go" && PKG_CONFIG_PATH=$lib/pkgconfig LD_LIBRARY_PATH=$lib GOCACHE=$work/go.cache go run .) |
     grep -x 'code 18, digest abc'

@@ -1,56 +1,30 @@
 #!/usr/bin/env python3
 """Compares what the pages say with the sources.
 
-It compares CONTRACTS.md with the sources, names, numbers, files, examples, links, limits and the table of checks, and
-runs README's commands and programs: mh_show as 'rt ci' built it, if BUILT says so, otherwise 'rt run' builds it. The
-differences of pages.edits are planted in pages and sources.
+It compares CONTRACTS.md with the sources, files, links and tables, what claims.py compares, and runs README's commands
+and programs: mh_show as 'rt ci' built it, if BUILT says so, otherwise 'rt run' builds it. The differences of
+pages.edits are planted in pages and sources, and each number, name, option, cell and byte is changed in turn.
 """
 import difflib
 import os
 import re
+import shutil
 import subprocess
 import sys
 import tempfile
 from collections.abc import Callable, Iterator
 from pathlib import Path
 
+import claims
 import contracts
 import edits
 import start
 import tap
+from claims import ARCHITECTURE, CONTRACTS, FENCE, README, SPEED, C
 from rt_source import Unread
 
 TOP = Path(__file__).resolve().parents[2]
-README, CALLING, FORMAT = "README.md", "crates/multihash/CALLING.md", "docs/FORMAT.md"
-CONTRACTS, C, MAN = "docs/CONTRACTS.md", "bindings/c/README.md", "crates/mh_show/mh_show.1"
-ARCHITECTURE, SPEED = "docs/ARCHITECTURE.md", "docs/SPEED.md"
-JS, PYTHON = "bindings/js/README.md", "bindings/python/README.md"
-FENCE = re.compile(r"^ *```(\S*)[^\n]*\n(.*?)^ *```$", re.M | re.S)
-# the sentences with limits, or parts of them; limits() has the numbers
-LIMITS = {
-    README: ("`wrap` of {over} bytes or more",),
-    JS: ("module of {wasm} kB.",),
-    PYTHON: ("needs CPython 3.{python} or later",),
-    MAN: (
-        "a digest of at most {capacity} bytes.",
-        "The input has at most {input:,} bytes.",
-        "exits with status {status}.",
-    ),
-    FORMAT: (
-        "2 to {length} bytes",
-        "at most `S + {short}`",
-        "`min(S, {digest}) + {long}`",
-        "9 to {scale} bytes",
-        "begin with {continuation} continuation bytes and",
-        "{input:,} bytes, a digest of {capacity}",
-    ),
-    CALLING: ("an encoding has at most {length} bytes",),
-    C: (
-        "digests have at most {digest} bytes. `multihash_compare` accepts any code and digest, "
-        "`multihash_head` any length.",
-        "accepts a digest of at most `limit` bytes.",
-    ),
-}
+MAN = "crates/mh_show/mh_show.1"
 # a path or a file's name; and a path below these folders, in all texts
 PATH = re.compile(
     r"[\w.@-]+(?:/[\w.@-]+)+" r"|[\w-]+\.(?:antt|c|edits?|h|html|js|json|map|md|py|rs|rt|sh|t|toml|ts|tsv|txt|wasm|yml)"
@@ -63,36 +37,6 @@ NOT_HERE = {
     "share/doc/multihash_c/examples",
     "verified-multihash/inline",
     "verified-multihash/module",
-}
-# files whose words no page has to name; words of other programs and of examples, and of proofs
-NO_SOURCES = {".md", ".a", ".edits", ".tsv", ".wasm"}
-NAMES_ELSEWHERE = {
-    *"Arbitrary CC_TARGET CC_riscv64gc_unknown_linux_gnu CMAKE_TOOLCHAIN_FILE CRYPTO_memcmp MULTIHASH_C_STATIC".split(),
-    *"NDEBUG PACKAGING PASS activate area compare_digest crypto dac8208d650f15bf".split(),
-    *"externally-managed-environment ff gcc gcc-aarch64-linux-gnu hmac is_ ldconfig makefile minutes".split(),
-    *"multihash-codetable my_vectors pc_path postMessage py-multihash pymultihash python3-dev rattle-kit-13f".split(),
-    *"rc tests_ timingSafeEqual x86-64-v3".split(),
-}
-NAMES_IN_PROOFS = {"BTreeMap", "HashMap", "checker", "prog"}
-# a number from 10 on that is not measured, or a version; files whose numbers pages state, and numbers from elsewhere
-NUMBER = re.compile(r"2\^\d+|(?<![\w.#^/-])(?:\d{2,}(?!\.?\d)|\d+\.\d+\.\d+|[1-9]\d*\.\d{2})(?!\w| %| .s\b| kB)")
-NUMBERED = (
-    "bindings/c/include/multihash.h",
-    "bindings/c/fuzz/test.sh",
-    "bindings/js/core.js",
-    "bindings/js/package.json",
-    "bindings/js/test.sh",
-    "bindings/python/pyproject.toml",
-    "bindings/rust/Cargo.toml",
-    "bindings/rust/multihash/Cargo.toml",
-    "checks/portable.t",
-    "CMakeLists.txt",
-    "crates/multihash/src/varint.rt",
-    "crates/storage/src/prefixed.rt",
-    "crates/vectors/src/check.rt",
-)
-NUMBERS_ELSEWHERE = {
-    *"9223372036854775808 127 129 17 72 1.22 1.48 62 67 8000 1.63 1.95 2.17 3.11 3.12 20 20.19 22.12".split(),
 }
 Texts = dict[str, str]
 
@@ -115,11 +59,7 @@ def read_texts() -> Texts:
 
 
 def pages_of(texts: Texts) -> Texts:
-    return {path: text for path, text in texts.items() if path.endswith(".md")}
-
-
-def flat(text: str) -> str:
-    return " ".join(text.split())
+    return {path: text for path, text in texts.items() if path.endswith((".md", ".1"))}
 
 
 def contract_errors(texts: Texts) -> Iterator[str]:
@@ -134,54 +74,6 @@ def contract_errors(texts: Texts) -> Iterator[str]:
         yield "checks/lib/contracts.py writes, if it is meant:"
         stored, made = texts[CONTRACTS].splitlines(), page.splitlines()
         yield from difflib.unified_diff(stored, made, lineterm="", n=0)
-
-
-def name_errors(texts: Texts) -> Iterator[str]:
-    """Returns the words in backquotes, and in commands, that no source has: in CALLING.md no source of a crate."""
-    sources = [path for path in listed() if path.suffix not in NO_SOURCES]
-    words = {path: {*re.findall(r"[\w-]+", read(path))} for path in sources}
-    known = {word for found in words.values() for word in found} | NAMES_ELSEWHERE
-    of_crates = {word for path, found in words.items() if path.parts[0] == "crates" for word in found}
-    for page, text in pages_of(texts).items():
-        commands = [body for language, body in FENCE.findall(text) if language == "sh" and page != ARCHITECTURE]
-        quoted = re.findall(r"`([^`\n]+)`", FENCE.sub("", text)) + commands
-        if page == CALLING:
-            quoted = [text for text in quoted if not re.search(r"/|\.antt|[A-Z]{3}", text)]
-        named = {*re.findall(r"(?<![\w-])(?:-D)?([A-Za-z_][\w-]+)", " ".join(quoted))}
-        for name in sorted(named - (of_crates | NAMES_IN_PROOFS if page == CALLING else known)):
-            yield f"{page}: no source has {name}"
-
-
-def number_errors(texts: Texts) -> Iterator[str]:
-    """Returns the numbers from 10 on, and the versions, that no limit is and no file of NUMBERED has."""
-    known = {str(limit) for limit in limits().values()} | NUMBERS_ELSEWHERE
-    for path in NUMBERED:
-        known |= {*NUMBER.findall(read(Path(path)))}
-    for page, text in pages_of(texts).items():
-        if page in (CONTRACTS, SPEED):
-            continue
-        # a row of measured times and shares, what a link leads to, and bytes
-        text = re.sub(r"(?m)^\|.*\| *\d\.\d+ .*\|$|\]\([^)]*\)|`([0-9a-f]{2} ?)+`", "", FENCE.sub("", text))
-        for number in NUMBER.findall(re.sub(r"(?<=\d),(?=\d{3})", "", text.replace(r"\*\*", "^"))):
-            if number not in known:
-                yield f"{page}: no source has the number {number}"
-
-
-def example_errors(texts: Texts) -> Iterator[str]:
-    """Returns the paragraphs of the examples that no caller has, but for `pub`."""
-    crates = [TOP / "crates" / crate / "src" for crate in ("examples", "storage")]
-    callers = [path for crate in crates for path in crate.rglob("*.rt")]
-    sources = "\n".join(flat(read(path)).replace("pub ", "") for path in callers)
-    blocks = FENCE.findall(texts[CALLING])
-    examples = [body for language, body in blocks if language == "rust"]
-    if not examples:
-        yield f"{CALLING} has no example"
-    for paragraph in (part for body in examples for part in body.split("\n\n")):
-        if flat(paragraph).replace("pub ", "") not in sources:
-            yield f"{CALLING}: no source has this: {paragraph}"
-    for language, _ in blocks:
-        if language not in ("rust", "sh", "text", ""):
-            yield f"{CALLING}: a block is in {language}"
 
 
 def anchors(text: str) -> set[str]:
@@ -252,44 +144,6 @@ def table_errors(texts: Texts) -> Iterator[str]:
                 yield f"{page}: this is no row of a table: {line}"
 
 
-def limits() -> dict[str, int | str]:
-    """Returns the limits that the sources have. header.py compares the header with the crate."""
-    digits = "zero one two three four five six seven eight nine".split()
-    files = (
-        "crates/mh_show/src/show.rt",
-        "crates/mh_show/src/run.rt",
-        "crates/multihash/specs/Varint.antt",
-        "bindings/c/include/multihash.h",
-        "bindings/python/pyproject.toml",
-    )
-    text = "\n".join((TOP / file).read_text("utf-8") for file in files)
-    forms = {
-        "capacity": r"Multihash::<(\d+)>::from_bytes",
-        "input": r"const MOST_INPUT: usize = (\d+);",
-        "digest": r"MULTIHASH_DIGEST_MAX (\d+)\n",
-        "length": r"MULTIHASH_LENGTH_MAX (\d+)\n",
-        "scale": r"MULTIHASH_SCALE_LENGTH_MAX (\d+)\n",
-        "status": r"tell\(alloc, err, &e\);\n +(\d+)\n",
-        "head": r"MULTIHASH_HEAD_MAX (\d+)\n",
-        "continuation": r"\nmax_continuation = (\d)\n",
-        "python": r'requires-python = ">=3\.(\d+)"',
-    }
-    found = {name: int(re.findall(form, text)[0]) for name, form in forms.items()}
-    long = found["length"] - found["digest"]
-    found["wasm"] = round((TOP / "bindings/js/multihash.wasm").stat().st_size / 1000)
-    found["over"], found["seen"] = found["digest"] + 1, found["head"] + found["digest"]
-    continuation = digits[found["continuation"]]
-    # a length of one byte less
-    return {**found, "long": long, "short": long - 1, "continuation": continuation}
-
-
-def limit_errors(texts: Texts) -> Iterator[str]:
-    for page, sentences in LIMITS.items():
-        for sentence in sentences:
-            if sentence.format(**limits()) not in flat(texts[page]):
-                yield f"{page} does not say: {sentence.format(**limits())}"
-
-
 def share_errors(texts: Texts) -> Iterator[str]:
     """Compares the calls of which the Rust crate needs fewer instructions with speed.tsv."""
     shares: dict[str, list[float]] = {}
@@ -333,6 +187,8 @@ def command_errors(texts: Texts) -> Iterator[str]:
     blocks = FENCE.findall(texts[README])
     if ("text", shown) not in blocks:
         yield "it shows another output than that of mh_show"
+    if f"$ echo {read(Path('crates/mh_show/stdin')).strip()} | mh_show\n{shown}" not in texts[MAN]:
+        yield f"{MAN} shows another output"
     commands = [line for language, body in blocks if language == "sh" for line in body.splitlines()]
     if len(commands) != 2:
         yield f"it has other commands: {commands}"
@@ -372,36 +228,69 @@ def program_results(texts: Texts) -> Iterator[tap.Result]:
     yield tap.planted("another output", [*start.judge(texts[README], {"C": "code 1, digest hello"})])
 
 
+def claim_errors(check: Callable[[str, str], Iterator[str]]) -> Callable[[Texts], Iterator[str]]:
+    """Returns the check of all pages by a check of one."""
+    return lambda texts: (f"{page}: {error}" for page, text in pages_of(texts).items() for error in check(page, text))
+
+
+OF_CLAIMS = {
+    "number_errors": claims.number_errors,
+    "name_errors": claims.name_errors,
+    "call_errors": claims.call_errors,
+    "option_errors": claims.option_errors,
+    "block_errors": claims.block_errors,
+    "row_errors": claims.row_errors,
+    "time_errors": claims.time_errors,
+    "byte_errors": claims.byte_errors,
+}
 CHECKS: dict[str, Callable[[Texts], Iterator[str]]] = {
     "contract_errors": contract_errors,
-    "name_errors": name_errors,
-    "number_errors": number_errors,
-    "example_errors": example_errors,
     "link_errors": link_errors,
     "file_errors": file_errors,
     "table_errors": table_errors,
-    "limit_errors": limit_errors,
     "status_errors": status_errors,
     "share_errors": share_errors,
     "check_errors": check_errors,
     "command_errors": command_errors,
+    **{name: claim_errors(check) for name, check in OF_CLAIMS.items()},
 }
 
 
 def planted(texts: Texts) -> Iterator[tap.Result]:
-    """Plants differences, each of which has to be found."""
+    """Plants differences, each of which has to be found, and changes each thing that claims.py compares."""
     for name, _, seen, its_edits in edits.read(Path(__file__).with_name("pages.edits")):
         yield tap.planted(name, any(CHECKS[seen]({**texts, **edits.apply(texts, its_edits)})))
-    for page, sentences in LIMITS.items():
-        texts_without = (flat(texts[page]).replace(sentence.format(**limits()), "") for sentence in sentences)
-        found = all(any(limit_errors({**texts, page: text})) for text in texts_without)
-        yield tap.planted(f"{page}: a sentence less", found)
+    for name, check in OF_CLAIMS.items():
+        changed = [
+            (page, change) for page, text in pages_of(texts).items() for change in claims.changes(name, page, text)
+        ]
+        both = (check, claims.option_errors)
+        unseen = [f"{page}: {was}" for page, (was, text) in changed if not any(any(one(page, text)) for one in both)]
+        if changed:
+            yield f"planted: {name}, at each place", "\n".join(unseen)
+
+
+def package_results(texts: Texts) -> Iterator[tap.Result]:
+    """Compares the packages to install with those that Debian has, if apt knows them."""
+    has_apt = shutil.which("apt-cache") and any(Path("/var/lib/apt/lists").glob("*_Packages*"))
+    command = ["apt-cache", "pkgnames"] if has_apt else ["true"]
+    known = {*subprocess.run(command, capture_output=True, text=True, check=True).stdout.split()}
+    for name, page in (
+        ("the packages", texts[ARCHITECTURE]),
+        ("another package", texts[ARCHITECTURE].replace("wabt", "wab")),
+    ):
+        errors = "\n".join(claims.package_errors(ARCHITECTURE, page, known))
+        if not has_apt:
+            yield tap.left_out(name, "apt has no lists of packages")
+        else:
+            yield (name, errors) if name == "the packages" else tap.planted(name, errors)
 
 
 def results() -> Iterator[tap.Result]:
     texts = read_texts()
     for name, check in CHECKS.items():
         yield name, "\n".join(check(texts))
+    yield from package_results(texts)
     yield from program_results(texts)
     yield from planted(texts)
 

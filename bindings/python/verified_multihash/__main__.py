@@ -2,7 +2,7 @@
 
     python -m verified_multihash [HEX]
 
-reads HEX, or else a line of standard input: an encoding in hexadecimal, with a digest of at most 64 bytes. It prints
+reads HEX, or else standard input to its end: an encoding in hexadecimal, with a digest of at most 64 bytes. It prints
 the code, the digest's length and the digest. If that fails it prints the reason to standard error, with status 1.
 """
 import os

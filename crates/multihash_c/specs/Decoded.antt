@@ -28,6 +28,7 @@ pub record ReportsError (d : Decoded) (status size code : ℕ) : Type 0 where
   pub no_offset : d.digest_offset ≡ 0
   pub no_length : d.digest_length ≡ 0
 
+-- that verdict, in the fields that have a meaning for its status
 abbrev pub Reports : List ℕ → Decoded → Verdict → Type 0
 Reports input d (accepted p) = ReportsPair input d p
 Reports input d (invalid_size size) = ReportsError d status_invalid_size size 0
@@ -100,5 +101,6 @@ pub record ReportsHeadError (input : List ℕ) (f : Front) : Type 0 where
     taken = f.taken;
   })
 
+-- the result of reading both varints, and the number of bytes consumed
 abbrev pub ReadsFront : List ℕ → Front → Type 0
 ReadsFront input f = ReportsHead input f ⊎ ReportsHeadError input f

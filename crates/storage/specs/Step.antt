@@ -5,9 +5,11 @@ use Rattle.multihash.specs.Multihash.{Fields, pair_of}
 use Rattle.storage.specs.declared.merkle.Step.{Step}
 use Rattle.storage.specs.Merkle.{PathStep, root_from, messages_from, Collides}
 
+-- the sibling's code and digest, and its side
 abbrev pub step_of : Step → PathStep
 step_of step = record { sibling = pair_of step.sibling; is_left = step.is_left }
 
+-- those of the steps of a path
 abbrev pub steps_of : List Step → List PathStep
 steps_of path = map step_of path
 
