@@ -4,15 +4,12 @@ A number is one of a phrase of numbers.txt, or is in a source after the same wor
 looked up in the folders of the page. The cells of a table and the lines of a block are those of a source, unless
 another check runs them. A block that nothing reads is an error.
 """
-import hashlib
 import re
 import subprocess
 from collections import Counter
 from collections.abc import Iterator
 from functools import cache
 from pathlib import Path
-
-import verdicts
 
 TOP = Path(__file__).resolve().parents[2]
 README, FORMAT, C, PACKAGING = "README.md", "docs/FORMAT.md", "bindings/c/README.md", "bindings/c/PACKAGING.md"
@@ -51,7 +48,7 @@ FOLDERS = {
     SOURCE: ("bindings/c", "CMakeLists.txt", "tools", "checks"),
     PACKAGING: ("bindings/c", "CMakeLists.txt", "tools", "checks"),
     JS: ("bindings/js",),
-    PYTHON: ("bindings/python",),
+    PYTHON: ("bindings/python", "bindings/c/include"),
     "bindings/rust/README.md": ("bindings/rust", "checks/rust.t"),
     RUST: ("bindings/rust",),
     RUST_C: ("bindings/rust",),
@@ -78,12 +75,12 @@ NO_ROWS = {
     *"OK NO_ROOM no_room arb categories default include keywords little required-features scale-codec".split()
 } | {*"CMAKE_INSTALL_PREFIX CMAKE_INSTALL_LIBDIR CMAKE_TOOLCHAIN_FILE".split()}
 NAMES_ELSEWHERE = {
-    *"Arbitrary CC_TARGET CC_riscv64gc_unknown_linux_gnu CMAKE_TOOLCHAIN_FILE CRYPTO_memcmp MULTIHASH_C_STATIC".split(),
-    *"NDEBUG PACKAGING PASS activate area compare_digest crypto dac8208d650f15bf".split(),
-    *"externally-managed-environment ff gcc gcc-aarch64-linux-gnu hmac is_ ldconfig makefile minutes".split(),
-    *"multihash-codetable my_vectors my_vectors.tsv pc_path postMessage py-multihash pymultihash".split(),
-    *"python3-dev rattle-kit-13f rc tests_ timingSafeEqual x86-64-v3 BTreeMap HashMap checker prog Buffer".split(),
-    *"install python3 using socket multihash_c FOLDER SHA256SUMS cd sha256sum tree update CODE DIGEST SIZE WouldBlock add apt-get command".split(),
+    *"Arbitrary BTreeMap Buffer CC_TARGET CC_riscv64gc_unknown_linux_gnu CMAKE_TOOLCHAIN_FILE CODE".split(),
+    *"CRYPTO_memcmp DIGEST FOLDER HashMap MULTIHASH_C_STATIC NDEBUG PACKAGING PASS SHA256SUMS SIZE WouldBlock activate add".split(),
+    *"apt-get area cd checker command compare_digest crypto dac8208d650f15bf gcc".split(),
+    *"externally-managed-environment gcc-aarch64-linux-gnu hmac install is_ ldconfig makefile minutes multihash-codetable".split(),
+    *"my_vectors my_vectors.tsv pc_path postMessage prog prove py-multihash pymultihash python3 python3-dev".split(),
+    *"rattle-kit-13f rc sha256sum slice_reader socket tests_ timingSafeEqual tree update using x86-64-v3".split(),
 }
 TOLD = {C, PACKAGING, JS, PYTHON, RUST, RUST_C}
 # blocks that a check compiles or runs, or of which it compares the output, by their languages or first words
@@ -224,18 +221,34 @@ def row_errors(page: str, text: str) -> Iterator[str]:
 def words_of(below: tuple[str, ...]) -> set[str]:
     forms = (r"\w[\w-]*", r"\w[\w-]*\.\w+")
     words = {word for text in sources(below).values() for form in forms for word in re.findall(form, text)}
-    words |= {Path(name).name for name in sources()}
-    return words | {word[1:] for word in words if word.startswith("D")} | NAMES_ELSEWHERE
+    words |= {word[1:] for word in words if word.startswith("D")} | {Path(name).name for name in sources()}
+    return words | NAMES_ELSEWHERE
+
+
+def neighbours(text: str) -> set[tuple[str, str]]:
+    """Returns the words that follow one another, but for options and for words that stand for others."""
+    words = [match for match in re.finditer(r"(?<![\w-])[A-Za-z_]\w+(?:-\w+)*", text)]
+    pairs = ((left[0], right[0]) for left, right in zip(words, words[1:]) if right.start() - left.end() <= 3)
+    return {pair for pair in pairs if not any(re.fullmatch("[A-Z]+|sh|.*NAME", word) for word in pair)}
+
+
+@cache
+def known_neighbours() -> set[tuple[str, str]]:
+    names = (name.replace("/src/", "/") for name in sources())
+    texts = [*sources().values(), *names, (TOP / CONTRACTS).read_text("utf-8"), lines_with("rt")]
+    return {pair for text in texts for pair in neighbours(text)}
 
 
 def name_errors(page: str, text: str) -> Iterator[str]:
-    """Returns the words in backquotes that no source of the page's folders has."""
-    spans = re.findall(r"`([^`\n]+)`", FENCE.sub("", text))
-    if page == CALLING:
-        spans = [span for span in spans if not re.search(r"/|\.antt|[A-Z]{3}", span)]
-    named = {*re.findall(r"(?<![\w-])(?:-D)?([A-Za-z_][\w-]+)", " ".join(spans))}
-    for name in sorted(named - words_of(FOLDERS.get(page, ()))):
-        yield f"no source has {name}"
+    """Returns the words in backquotes that the page's folders have not, and those that no source has after another."""
+    for span in re.findall(r"`([^`\n]+)`", FENCE.sub("", text)) if page != CONTRACTS else ():
+        its_words = {*re.findall(r"(?<![\w-])(?:-D)?([A-Za-z_][\w-]+)", span)}
+        is_of_others = re.fullmatch(HEX, f"`{span}`") or page == README and "$MH" in span or its_words & NAMES_ELSEWHERE
+        for pair in neighbours(span) - known_neighbours() if not is_of_others else ():
+            yield f"no source has {' and then '.join(pair)}: {span}"
+        is_path = page == CALLING and re.search(r"/|\.antt|[A-Z]{3}", span)
+        for name in its_words - words_of(FOLDERS.get(page, ())) if not (is_of_others or is_path) else ():
+            yield f"no source has {name}: {span}"
 
 
 def call_errors(page: str, text: str) -> Iterator[str]:
@@ -309,65 +322,6 @@ def package_errors(page: str, text: str, known: set[str]) -> Iterator[str]:
     [block] = re.findall(r"apt-get install (.*?)\$", flat(text)) if page == ARCHITECTURE else [""]
     for name in {*block.replace("\\", "").split()} - known:
         yield f"there is no package {name}"
-
-
-def hexadecimal(data: bytes) -> str:
-    return data.hex(" ")
-
-
-def varint(number: int) -> bytes:
-    digits = [(number >> 7 * at) & 127 for at in range(max(1, -(-number.bit_length() // 7)))]
-    return bytes([*(digit | 128 for digit in digits[:-1]), digits[-1]])
-
-
-def encoded(code: int, digest: bytes) -> bytes:
-    return varint(code) + varint(len(digest)) + digest
-
-
-def byte_errors(page: str, text: str) -> Iterator[str]:
-    """Computes the bytes of README.md and FORMAT.md: of the first example, of FORMAT.md all."""
-    empty = encoded(0x12, hashlib.sha256().digest())
-    shown = re.findall(r"(?m)^ ?12 +20 +(.*) \.\. (\w+)(?: .*, (\d+) bytes)?$", text)
-    if page in (README, FORMAT) and shown != [
-        (hexadecimal(empty[2:10]), empty[-1:].hex(), str(len(empty)) * (page == FORMAT))
-    ]:
-        yield f"the multihash of the empty input is {hexadecimal(empty)}"
-    if page != FORMAT:
-        return
-    rules = verdicts.rules_of_crate()
-    form = r"(?m)^ ([0-9a-f ]+?) {3,}code (\d+), digest \"(\w+)\", (\d+) bytes$"
-    examples = [
-        (flat(data), encoded(int(code), digest.encode()), length)
-        for data, code, digest, length in re.findall(form, text)
-    ]
-    wanted = [(data, bytes_) for data, bytes_, length in examples if len(bytes_) == int(length)]
-    for number, data in re.findall(rf"(?m)^\| (\d+|2\^\d+ - 1) \| {HEX} \|$", text):
-        wanted.append((data, varint(eval(number.replace("^", "**")))))  # a power and a difference
-    scale = re.findall(rf"{HEX} for the code (\d+) and the digest {HEX}", flat(text))
-    wanted += [(data, int(code).to_bytes(8, "little") + bytes.fromhex("01" + digest)) for data, code, digest in scale]
-    order = re.findall(rf"code (\d+) is less than (\d+), but its varint {HEX} is greater than {HEX}", flat(text))
-    for less, greater, its_data, other in order:
-        wanted += [(its_data, varint(int(less))), (other, varint(int(greater)))]
-    for data, bytes_ in wanted:
-        if data != hexadecimal(bytes_):
-            yield f"{data} is {hexadecimal(bytes_)}"
-    seen = {data for data, _ in wanted} | {digest for *_, digest in scale}
-    size, rows = next((head[-1], rows) for head, rows in tables(text) if "`S` =" in head[-1])
-    for row in rows:
-        name = (re.findall(r"`(?:is_)?(\w+)\(", row[2]) or ["pair"])[0]
-        for data, nine in re.findall(HEX + "( nine times)?", row[3]):
-            seen.add(data)
-            found = verdicts.result(rules.read, int(size.split()[-1]), bytes.fromhex(data * (9 if nine else 1)))[0]
-            if not found.startswith({"io": "unexpected_eof"}.get(name, name)):
-                yield f"{data} is {found}"
-    for number, data in re.findall(rf"number: (\d+) for {HEX}", flat(text)):
-        if rules.line(4, bytes.fromhex(data)).split("\t")[4] != f"invalid_size {number}":
-            yield f"{data} has another size than {number}"
-    if len(wanted) != 8 or {*re.findall(HEX, text)} - seen:
-        yield f"these bytes are not computed: {sorted({*re.findall(HEX, text)} - seen)}"
-    grammar = re.findall(r"= \*(\d)continuation last .*\n\w+ = %x(\w+)-(\w+) .*\nlast +=  *%x(\w+)-(\w+) ", text)
-    if grammar != [(str(rules.max_continuation), "80", "FF", "00", "7F")]:
-        yield f"it has another grammar: {grammar}"
 
 
 def changes(name: str, page: str, text: str) -> Iterator[tuple[str, str]]:

@@ -18,6 +18,7 @@ from pathlib import Path
 import claims
 import contracts
 import edits
+import examples
 import start
 import tap
 from claims import ARCHITECTURE, CONTRACTS, FENCE, README, SPEED, C
@@ -241,7 +242,7 @@ OF_CLAIMS = {
     "block_errors": claims.block_errors,
     "row_errors": claims.row_errors,
     "time_errors": claims.time_errors,
-    "byte_errors": claims.byte_errors,
+    "byte_errors": examples.byte_errors,
 }
 CHECKS: dict[str, Callable[[Texts], Iterator[str]]] = {
     "contract_errors": contract_errors,
