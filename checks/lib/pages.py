@@ -152,11 +152,11 @@ def share_errors(texts: Texts) -> Iterator[str]:
         case, here, tuned, *_ = line.split("\t")
         if int(here) / int(tuned) > 1.05:
             shares.setdefault(case.split()[0], []).append(int(here) / int(tuned))
-    page = texts[SPEED].partition("## Where the Rust crate needs fewer")[2]
-    rows = re.findall(r"^\| ([^|]+) \| (\d+) \| ([\d.]+) to ([\d.]+) \|", page, re.M)
+    page = texts[SPEED].partition("## Where the Rust crate needs fewer")[2].partition("\n## ")[0]
+    rows = re.findall(r"^\| ([^|]+) \| (\d+) \| ([\d.]+)(?: to ([\d.]+))? \|", page, re.M)
     for name, count, low, high in rows:
         found = shares.get(name.strip("`"), [])
-        off = [abs(float(low) - min(found)), abs(float(high) - max(found))] if found else [0.0]
+        off = [abs(float(low) - min(found)), abs(float(high or low) - max(found))] if found else [0.0]
         if found and len(found) != int(count) or max(off) > 0.0501:
             yield f"{SPEED}: {name} has other shares"
     total = sum(map(len, shares.values()))
