@@ -226,9 +226,10 @@ def words_of(below: tuple[str, ...]) -> set[str]:
 
 
 def neighbours(text: str) -> set[tuple[str, str]]:
-    """Returns the words that follow one another, but for options and for words that stand for others."""
+    """Returns the words that follow one another, but for options, parameters and words that stand for others."""
     words = [match for match in re.finditer(r"(?<![\w-])[A-Za-z_]\w+(?:-\w+)*", text)]
-    pairs = ((left[0], right[0]) for left, right in zip(words, words[1:]) if right.start() - left.end() <= 3)
+    both = ((left, right, text[left.end() : right.start()]) for left, right in zip(words, words[1:]))
+    pairs = ((left[0], right[0]) for left, right, between in both if len(between) <= 3 and "(" not in between)
     return {pair for pair in pairs if not any(re.fullmatch("[A-Z]+|sh|.*NAME", word) for word in pair)}
 
 
