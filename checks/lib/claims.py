@@ -260,7 +260,9 @@ def call_errors(page: str, text: str) -> Iterator[str]:
             parameters = [part.split("=")[0].strip() for part in call[2].split(",")]
             texts = (its_text for its_text in sources(FOLDERS.get(page, ())).values() if call[1] in its_text)
             lists = (
-                found for its_text in texts for found in re.findall(rf"\b{call[1]}(?:<.*?>)?\(([^()]*)\)", its_text)
+                found
+                for its_text in texts
+                for found in re.findall(rf"\b(?:{call[1]}|__init__)(?:<.*?>)?\(([^()]*)\)", its_text)
             )
             if not any(parameters == re.findall(r"(?:^|,)\s*(?!self\b|&self\b)\W*(\w+)", found) for found in lists):
                 yield f"no source has a call {span}"
