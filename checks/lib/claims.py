@@ -76,11 +76,12 @@ NO_ROWS = {
 } | {*"CMAKE_INSTALL_PREFIX CMAKE_INSTALL_LIBDIR CMAKE_TOOLCHAIN_FILE".split()}
 NAMES_ELSEWHERE = {
     *"Arbitrary BTreeMap Buffer CC_TARGET CC_riscv64gc_unknown_linux_gnu CMAKE_TOOLCHAIN_FILE CODE".split(),
-    *"x86-64-v3 CRYPTO_memcmp DIGEST FOLDER HashMap MULTIHASH_C_STATIC NDEBUG PACKAGING PASS SHA256SUMS SIZE WouldBlock".split(),
-    *"activate add apt-get area cd checker command compare_digest crypto dac8208d650f15bf gcc".split(),
-    *"externally-managed-environment gcc-aarch64-linux-gnu hmac install is_ ldconfig makefile minutes".split(),
-    *"multihash-codetable my_vectors my_vectors.tsv pc_path postMessage prog prove py-multihash pymultihash".split(),
-    *"python3 python3-dev rattle-kit-13f rc sha256sum slice_reader socket tests_ timingSafeEqual tree update using".split(),
+    *"CRYPTO_memcmp DIGEST FOLDER HashMap MULTIHASH_C_STATIC NDEBUG PACKAGING PASS SHA256SUMS SIZE".split(),
+    *"WouldBlock activate add apt-get area cd checker command compare_digest crypto dac8208d650f15bf".split(),
+    *"externally-managed-environment gcc gcc-aarch64-linux-gnu hmac install is_ ldconfig makefile minutes".split(),
+    *"multihash-codetable my_vectors my_vectors.tsv pc_path postMessage prog prove py-multihash".split(),
+    *"pymultihash python3 python3-dev rattle-kit-13f rc sha256sum slice_reader socket tests_".split(),
+    *"timingSafeEqual tree update using x86-64-v3".split(),
 }
 TOLD = {C, PACKAGING, JS, PYTHON, RUST, RUST_C}
 # blocks that a check compiles or runs, or of which it compares the output, by their languages or first words
