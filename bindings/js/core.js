@@ -18,21 +18,19 @@ const PREFIX_MAX = HEAD_MAX + DIGEST_MAX;
 
 // Numbers as BigInts, as lengths, most codes and addresses are passed: to make one is slower than a call. The length
 // of bytes in the module's memory is always one of them, so 32-bit addresses suffice.
-let NUMBERS;
+const NUMBERS = [];
 
-// The module's functions; its memory, which no function grows, and the words of a result in it; and, in the
-// memory after what the module uses, the addresses of that result, two inputs and an output.
+// The module's functions; its memory, which no function grows, and the words of a result and the first of an input in
+// it; and, in the memory after what the module uses, the addresses of that result, two inputs and an output.
 let library, memory, words, result, first, second, output;
 let resultAt, firstAt, secondAt, outputAt;
+const FIRST_WORD = 16;
 
 // Views of the memory by address and length: to make one is as slow as to copy from it.
 const views = [];
 
-// The library's text of each status.
-let texts;
-
-/** The version of the library, as `"1.0.0"`. */
-export let version;
+/** The version of the library. */
+export const version = '1.0.0';
 
 // A module that fills memory at once, as ours does.
 const PROBE = Uint8Array.of(
@@ -78,19 +76,19 @@ export async function connectLater(bytes) {
 /** Connects the functions once: all entries have the same module, so the first of them serves all. */
 export function connectTo(functions) {
   if (library) return;
-  library = functions;
-  NUMBERS = Array.from({ length: PREFIX_MAX + 1 }, (_, number) => BigInt(number));
-  memory = new Uint8Array(library.memory.buffer);
-  const free = (Number(library.__heap_base.value) + 7) & ~7;
-  [result, first, second, output] = [0, 64, 64 + 512, 64 + 1024].map((offset) => free + offset);
-  if (output + LENGTH_MAX > memory.length) throw new Error('the WebAssembly module is of another version');
-  words = new Uint32Array(memory.buffer, result, (first - result) / 4);
+  const number = version.split('.').reduce((number, part) => 100 * number + Number(part), 0);
+  if (functions.multihash_version?.() !== number)
+    throw new TypeError(`the module is not multihash.wasm of version ${version}`);
+  for (let number = 0; number <= PREFIX_MAX; number++) NUMBERS[number] = BigInt(number);
+  memory = new Uint8Array(functions.memory.buffer);
+  const free = (Number(functions.__heap_base.value) + 7) & ~7;
+  [result, first, output, second] = [0, 64, 352, 624].map((offset) => free + offset);
+  words = new Uint32Array(memory.buffer, result, FIRST_WORD + 1);
   [resultAt, firstAt, secondAt, outputAt] = [result, first, second, output].map(BigInt);
-  const number = library.multihash_version();
-  texts = STATUSES.map((_, status) => textOf(status));
-  version = [number / 10000, (number / 100) % 100, number % 100].map(Math.floor).join('.');
+  library = functions;
 }
 
+/** The library's text of a status. */
 function textOf(status) {
   library.multihash_put_status_text(resultAt, status, outputAt, NUMBERS[LENGTH_MAX]);
   return String.fromCharCode(...memory.subarray(output, output + word(16)));
@@ -144,7 +142,7 @@ function wide(offset) {
 }
 
 /** A code as results have it: a bigint only where a number would not be exact. */
-const resultOf = (number) => (number > Number.MAX_SAFE_INTEGER ? number : Number(number));
+const resultOf = (code) => (code > Number.MAX_SAFE_INTEGER ? code : Number(code) + 0); // -0 is 0
 
 /** A number of 32 bits in the result: a status, a length or an offset. */
 function word(offset) {
@@ -153,7 +151,7 @@ function word(offset) {
 
 /** Copies bytes of the module's memory. */
 function copied(at, length) {
-  const row = (views[at - result] ??= []);
+  const row = (views[at - first] ??= []);
   return new Uint8Array((row[length] ??= memory.subarray(at, at + length)));
 }
 
@@ -166,7 +164,7 @@ export class MultihashError extends Error {
     const number = STATUSES.indexOf(status);
     if (number < 1) throw new TypeError('no status of an error');
     const named = size ?? code;
-    super(texts[number] + (named === undefined ? '' : ` ${named}.`), { cause: { status, size, code, taken } });
+    super(textOf(number) + (named === undefined ? '' : ` ${named}.`), { cause: { status, size, code, taken } });
     Object.assign(this, { status, size, code, taken });
   }
 
@@ -213,11 +211,11 @@ export class Multihash {
 
   /** Makes the multihash of a code and a digest, which is copied. */
   static of(code, digest) {
-    const number = bits64(code, 'a code');
-    const length = putDigest(number, digest); // the digest is read once: its memory may grow meanwhile
-    library.multihash_encoded_len(resultAt, number, length);
-    made(number);
-    return new Multihash(MAKING, resultOf(number), copied(first, Number(length)));
+    const length = checkedLength(digest);
+    if (length > DIGEST_MAX) encodedLength(code, length); // which throws
+    const copy = new Uint8Array(digest); // once: its memory may grow meanwhile
+    encodedLength(code, copy.length);
+    return new Multihash(MAKING, resultOf(code), copy);
   }
 
   /** The encoding, a new array each time. */
@@ -289,8 +287,14 @@ export function readAt(bytes, at, limit) {
 
 /** Decodes the two varints before a digest. */
 export function head(bytes) {
-  const length = put(bytes, first);
-  library.multihash_head(resultAt, firstAt, NUMBERS[Math.min(length, PREFIX_MAX)]);
+  const length = checkedLength(bytes);
+  // four bytes, which suffice for most heads, are copied faster so than by `set`
+  words[FIRST_WORD] = bytes[0] | (bytes[1] << 8) | (bytes[2] << 16) | (bytes[3] << 24);
+  library.multihash_head(resultAt, firstAt, NUMBERS[Math.min(length, 4)]);
+  if (STATUSES[word(0)] === 'insufficient') {
+    put(bytes, first);
+    library.multihash_head(resultAt, firstAt, NUMBERS[Math.min(length, PREFIX_MAX)]);
+  }
   if (word(0) !== 0) throw failure(word(24));
   return { code: wide(8), digestLength: wide(16), taken: word(24) };
 }
@@ -307,8 +311,8 @@ export function scaleDecode(bytes) {
 
 /** The length in the result of an encoding. */
 function made(code) {
+  if (word(0) === 0) return word(16);
   const status = STATUSES[word(0)];
-  if (status === 'ok') return word(16);
   const size = status === 'invalid_size' ? wide(8) : undefined;
   throw new MultihashError(status, { size, code: status === 'invalid_code' ? code : undefined });
 }

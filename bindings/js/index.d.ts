@@ -47,9 +47,12 @@ export class MultihashError extends Error implements Details {
    * `scaleDecode` and `MultihashReader` only then can more input change the result.
    */
   readonly isIncomplete: boolean;
-  /** The same fields as a plain object, which `structuredClone` keeps. */
+  /** The same fields as a plain object, which `structuredClone` keeps in most engines. */
   readonly cause: Details & { readonly status: Status };
-  /** The error of which `value` is a clone, `value` itself if it is a `MultihashError`, else undefined. */
+  /**
+   * The error of which `value` is a clone, by its `cause`; `value` itself if it is a `MultihashError`; undefined for a
+   * value without such a `cause`.
+   */
   static from(value: unknown): MultihashError | undefined;
   /** The name, the text and the fields, a bigint as decimal text. */
   toJSON(): {
@@ -142,10 +145,11 @@ export class MultihashReader implements AsyncIterable<Multihash> {
   read(): Promise<Multihash | null>;
   /**
    * Unlocks a `ReadableStream`, for another reader. `rest` has the bytes that were received, and each `read` is
-   * rejected with a `TypeError` from then on, unless the reader has ended before. Nothing cancels the source then.
+   * rejected with a `TypeError` from then on, also one that waits, unless the reader has ended before. Nothing cancels
+   * the source then.
    */
   release(): void;
-  /** Cancels the source: `read` returns null from then on, also a call that waits for a `ReadableStream`. */
+  /** Cancels the source: `read` returns null from then on, also a call that waits. */
   cancel(reason?: unknown): Promise<void>;
   [Symbol.asyncIterator](): AsyncGenerator<Multihash, void, void>;
 }

@@ -4,9 +4,7 @@ import { connectTo } from './core.js';
 
 /** Connects the functions to multihash.wasm, a WebAssembly.Module. They cannot be called before. */
 export function connect(module) {
-  const functions = new WebAssembly.Instance(module).exports;
-  if (!functions.multihash_version) throw new TypeError('the module is not multihash.wasm');
-  connectTo(functions);
+  connectTo(new WebAssembly.Instance(module).exports);
 }
 
 export * from './api.js';

@@ -63,10 +63,13 @@ export class MultihashReader {
     let multihash;
     while (!multihash) {
       const { done, value } = await this.#source.next();
-      if (done) return this.#at === this.#bytes.length ? null : read(this.rest, this.#limit).multihash; // which throws
-      this.#bytes = joined(this.#bytes, this.#at, value);
-      this.#at = 0;
-      multihash = this.#received();
+      if (!done) {
+        this.#bytes = joined(this.#bytes, this.#at, value);
+        this.#at = 0;
+      }
+      // after a release or a cancellation meanwhile, `rest` has what was received
+      if (this.#end || (done && this.#at === this.#bytes.length)) return null;
+      multihash = done ? read(this.rest, this.#limit).multihash : this.#received(); // the former throws
     }
     return multihash;
   }

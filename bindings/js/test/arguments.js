@@ -29,11 +29,8 @@ function noBytes() {
 function bytesAlone(module) {
   for (const wrong of noBytes()) {
     const what = Object.prototype.toString.call(wrong);
-    for (const name of ['decode', 'read', 'head', 'scaleDecode'])
-      fails(TypeError, () => module[name](wrong), `${name} ${what}`);
-    for (const name of ['encode', 'scaleEncode']) fails(TypeError, () => module[name](18, wrong), `${name} ${what}`);
-    fails(TypeError, () => module.Multihash.of(18, wrong), `of ${what}`);
-    fails(TypeError, () => module.compare(wrong, wrong), `compare ${what}`);
+    for (const [name, call] of Object.entries(CALLS))
+      if (name !== 'rest' || wrong !== undefined) fails(TypeError, () => call(module, wrong, wrong), `${name} ${what}`);
   }
 }
 
@@ -62,66 +59,116 @@ function numbers(module) {
   same(fails(module.MultihashError, () => module.read(EXAMPLE, 0), 'limit 0')?.size, 32, 'size at limit 0');
   const long = 2n ** 63n + 256n;
   const sizes = [() => module.encode(1n << 63n, new Uint8Array(256)), () => module.encodedLength(1n << 63n, long)];
-  same(`${sizes.map((call) => fails(module.MultihashError, call, 'size first')?.size)}`, `256,${long}`, 'size');
+  const found = sizes.map((call) => fails(module.MultihashError, call, 'size first'));
+  same(`${found.map(({ size, code }) => [size, code])}`, `256,,${long},`, 'size');
 }
 
-/** Results keep nothing of the module's memory or of the input, also where a subclass lies. */
-function ownBytes(module) {
-  class Lying extends Uint8Array {
-    get length() {
-      return 5e9;
-    }
-    get buffer() {
-      return new ArrayBuffer(1);
-    }
-    get [Symbol.toStringTag]() {
-      return 'Uint8Array';
-    }
-    static get [Symbol.species]() {
-      return Array;
+/** A subclass that says something else of itself than its bytes are. */
+class Lying extends Uint8Array {
+  get length() {
+    return 5e9;
+  }
+  get byteOffset() {
+    return 0;
+  }
+  get buffer() {
+    return new ArrayBuffer(1);
+  }
+  get [Symbol.toStringTag]() {
+    return 'Int8Array';
+  }
+  static get [Symbol.species]() {
+    return Array;
+  }
+}
+
+// a page may lack the constructor SharedArrayBuffer, so this is the buffer of a memory
+const SHARED = new WebAssembly.Memory({ initial: 1, maximum: 1, shared: true }).buffer;
+
+/** The same bytes amid others in a larger buffer, of each kind, as views of each kind. */
+function viewsOf(bytes) {
+  const amid = (buffer, kind = Uint8Array, length = bytes.length) => {
+    new Uint8Array(buffer).fill(0x81);
+    const view = new kind(buffer, 3, length);
+    Uint8Array.prototype.set.call(view, bytes);
+    return view;
+  };
+  const [all, maxByteLength] = [bytes.length + 7, 8000];
+  const shrunk = new ArrayBuffer(all, { maxByteLength });
+  const tracking = amid(shrunk, Uint8Array, undefined);
+  shrunk.resize(bytes.length + 3);
+  const views = [bytes.slice(), amid(new ArrayBuffer(all)), amid(new ArrayBuffer(all), Lying), amid(SHARED),
+    amid(new ArrayBuffer(all, { maxByteLength })), tracking];
+  return globalThis.Buffer ? [...views, Buffer.from(amid(new ArrayBuffer(all)).buffer, 3, bytes.length)] : views;
+}
+
+/** A multihash whose digest was replaced. */
+const withDigest = (module, digest) => Object.assign(module.Multihash.of(18, new Uint8Array()), { digest });
+
+const CALLS = {
+  decode: (module, bytes) => module.decode(bytes),
+  read: (module, bytes) => module.read(bytes),
+  limit: (module, bytes) => module.read(bytes, 31),
+  head: (module, bytes) => module.head(bytes),
+  scaleDecode: (module, bytes) => module.scaleDecode(bytes),
+  encode: (module, bytes) => module.encode(18, bytes),
+  scaleEncode: (module, bytes) => module.scaleEncode(2n ** 62n, bytes),
+  of: (module, bytes) => module.Multihash.of(2n ** 62n, bytes),
+  bytes: (module, bytes) => withDigest(module, bytes).bytes,
+  pair: (module, ...digests) => {
+    const [one, other] = digests.map((digest) => withDigest(module, digest));
+    return [one.equals(other), other.equals(one), module.compare(one, other), module.compare(other, one)];
+  },
+  rest: (module, rest) => new module.MultihashReader({ [Symbol.asyncIterator]: () => ({ next() {} }) }, { rest }).rest,
+};
+
+/** What a call gives, as text, after its input and the module's memory have changed. */
+function outcome(module, call, bytes, plain) {
+  let found;
+  try {
+    found = call(module, bytes, plain);
+  } catch (error) {
+    found = error;
+  }
+  Uint8Array.prototype.fill.call(bytes, 1);
+  module.decode(module.encode(1, new Uint8Array(255).fill(1)));
+  const fields = found instanceof module.Multihash ? { ...found } : found;
+  const text = JSON.stringify(fields, (_, value) => {
+    if (value instanceof Uint8Array) return `${value.constructor.name} ${value.buffer.byteLength} ${hex(value)}`;
+    return typeof value === 'bigint' ? `${value}n` : value;
+  });
+  return `${found?.constructor.name} ${text}`;
+}
+
+/** Each call gives for each kind of view what it gives for a plain array, whose result the vectors have. */
+function views(module) {
+  const starts = ['', '12', '80', '8000', '1200', '1602abcd', '969a8001', '9680808080808001', 'ffffffffffffffff7f00'];
+  const inputs = [...starts.map(unhex), EXAMPLE, module.scaleEncode(2n ** 53n, EXAMPLE)];
+  const rest = Array.from({ length: 3000 }, (_, index) => (index * 7) & 127);
+  for (const length of [33, 255, 256, 258, 266, 272, 273, 274, 275, 3000])
+    for (const start of ['', '9601ff01', hex(EXAMPLE)])
+      inputs.push(Uint8Array.of(...unhex(start), ...rest).slice(0, length));
+  for (const input of inputs) {
+    for (const [name, call] of Object.entries(CALLS)) {
+      const [wanted, ...others] = viewsOf(input).map((view) => outcome(module, call, view, input));
+      others.forEach((found, index) => same(found, wanted, `${name} of ${hex(input).slice(0, 20)}, view ${index}`));
     }
   }
-  const input = new Lying(EXAMPLE);
-  const multihash = module.decode(input);
-  const encoding = module.encode(22, new Lying(EXAMPLE.subarray(2)));
-  input.fill(0);
-  module.decode(module.encode(1, new Uint8Array(200).fill(1)));
-  same(hex(multihash.digest), hex(EXAMPLE.subarray(2)), 'the digest later');
-  same(hex(encoding), hex(EXAMPLE), 'the encoding later');
-  for (const bytes of [multihash.digest, encoding]) same(bytes.constructor, Uint8Array, 'class of a result');
-  // a page may lack the constructor SharedArrayBuffer, so this is the buffer of a memory
-  const shared = new Uint8Array(new WebAssembly.Memory({ initial: 1, maximum: 1, shared: true }).buffer, 0, 34);
-  shared.set(EXAMPLE);
-  const ofShared = [module.decode(shared).bytes, module.encode(22, shared.subarray(2))];
-  for (const bytes of ofShared)
-    same(`${hex(bytes)} ${bytes.buffer.constructor.name}`, `${hex(EXAMPLE)} ArrayBuffer`, 'shared bytes');
-  const long = new Uint8Array(3e6);
-  long.set(EXAMPLE);
-  for (const length of [272, 273, 274, 275, 3e6]) {
-    const input = long.subarray(0, length);
-    same(fails(module.MultihashError, () => module.decode(input), 'a long input')?.size, length - 34, 'trailing bytes');
-  }
-  same(module.read(long).taken, 34, 'a long input');
 }
 
 /** Only a number or a bigint is a code, and only a Uint8Array a digest. */
 function looseEquals(module) {
-  class Short extends Uint8Array {
-    get length() {
-      return 1;
-    }
-  }
   const multihash = module.Multihash.of(0, Uint8Array.of(5));
   for (const code of ['0', '', false, [], [0], null, undefined, Symbol('0'), Object.create(null),
     { valueOf: () => 0 }]) {
     same(multihash.equals({ code, digest: Uint8Array.of(5) }), false, 'equals, a code that is none');
   }
-  for (const digest of [[5], '5', new Int8Array([5]), new Short([5, 6, 7])])
+  for (const digest of [[5], '5', new Int8Array([5]), new Lying([5, 6, 7])])
     same(multihash.equals({ code: 0, digest }), false, 'equals, another digest');
-  same(multihash.equals({ code: 0n, digest: new Short([5]) }), true, 'equals, a subclass');
+  same(multihash.equals({ code: 0n, digest: new Lying([5]) }), true, 'equals, a subclass');
 }
 
-/** A digest that grows while its code and bytes are encoded is read once. */
+/** A digest that grows while it is copied has its length of before. */
 function growing(module) {
   const buffer = new ArrayBuffer(4, { maxByteLength: 64 });
   const prototype = Object.getPrototypeOf(Uint8Array.prototype);
@@ -131,8 +178,7 @@ function growing(module) {
     buffer.resize(12);
   };
   try {
-    const multihash = module.Multihash.of(18, new Uint8Array(buffer));
-    same(`${hex(multihash.bytes)} ${buffer.byteLength}`, '120400000000 12', 'a digest that grows');
+    same(`${hex(module.encode(18, new Uint8Array(buffer)))} ${buffer.byteLength}`, '120400000000 12', 'growing');
   } finally {
     prototype.set = set;
   }
@@ -152,8 +198,9 @@ function multihashes(module) {
   const other = module.Multihash.of(22n, EXAMPLE.subarray(2));
   same(`${multihash.code} ${multihash.size} ${hex(multihash.bytes)}`, `22 32 ${hex(EXAMPLE)}`, 'fields');
   same(multihash.equals(other) && multihash.equals({ code: 22n, digest: EXAMPLE.slice(2) }), true, 'equals');
+  const changed = (_, at) => other.digest.map((byte, index) => (index === at ? byte ^ 1 : byte));
   const digests = [other.digest.subarray(1), other.digest.subarray(0, 31), Uint8Array.of(...other.digest, 0),
-    new Uint8Array(32)];
+    ...Array.from(other.digest, changed)];
   const unequal = [[21, other.digest], ...digests.map((digest) => [22, digest])].map((pair) =>
     module.Multihash.of(...pair));
   for (const value of [...unequal, null, undefined, 22, 'text', {}, EXAMPLE])
@@ -170,11 +217,9 @@ function multihashes(module) {
   same(`${module.compare(multihash, busy)} ${module.compare(busy, multihash)}`, '0 0', 'a getter that decodes');
   const near = [2n ** 60n, 2n ** 60n + 1n].map((code) => module.Multihash.of(code, EXAMPLE));
   same(`${module.compare(...near)} ${near[0].equals(near[1])}`, '-1 false', 'codes that are the same as a double');
-  const tampered = module.decode(EXAMPLE);
-  for (const digest of [3, [1], new Uint8Array(300)]) {
-    tampered.digest = digest;
-    fails(TypeError, () => module.compare(tampered, other), 'a digest that was replaced');
-  }
+  for (const pair of [[other, { ...other }], [{ ...other }, other]])
+    fails(TypeError, () => module.compare(...pair), 'an object that is no multihash');
+  fails(TypeError, () => module.compare(other, withDigest(module, new Uint8Array(300))), 'a digest that is too long');
 }
 
 /** Whether a clone of an error keeps its cause, which Safari drops. */
@@ -206,13 +251,16 @@ function errors(module) {
     same(`${module.MultihashError.from(error) === error} ${again instanceof module.MultihashError}`,
       `true ${keepsCause()}`, 'from');
   }
+  same(JSON.stringify(Object.getOwnPropertyDescriptor(module.MultihashError.prototype, 'name')),
+    '{"value":"MultihashError","writable":true,"enumerable":false,"configurable":true}', 'name, as of other errors');
   const others = [null, undefined, 3, {}, new Error('text'), new Error('text', { cause: { status: 'ok' } })];
   for (const value of others) same(module.MultihashError.from(value), undefined, 'from');
   for (const status of ['ok', 'text', 1, undefined])
     fails(TypeError, () => new module.MultihashError(status), 'no status of an error');
-  for (const [code, text] of [[22, '22'], [2 ** 53 - 1, '9007199254740991'], [2n ** 53n, '"9007199254740992"']]) {
-    const found = JSON.stringify({ found: [module.Multihash.of(code, Uint8Array.of(0, 171))] });
-    same(found, `{"found":[{"code":${text},"size":2,"digest":"00ab"}]}`, 'a multihash in JSON');
+  for (const [code, text] of [[22, '22'], [2n ** 53n - 1n, '9007199254740991'], [2n ** 53n, '"9007199254740992"']]) {
+    const made = module.Multihash.of(code, Uint8Array.of(0, 171));
+    const wanted = `{"code":${text},"size":2,"digest":"00ab"}`;
+    same(JSON.stringify([made, decode(made.bytes)]), `[${wanted},${wanted}]`, 'multihashes in JSON');
   }
 }
 
@@ -243,10 +291,14 @@ export async function missing() {
   same(/multihash.wasm: status 404$/.test(error.message), true, 'a module that is missing');
 }
 
-/** Where both entries connect at once, the first of them serves both. */
+/** Where both entries connect at once, the first of them serves both; a module of another version serves none. */
 export async function both() {
   const bytes = Uint8Array.from(atob(base64), (letter) => letter.charCodeAt(0));
-  const core = await import('../core.js?both');
+  const core = await import(`../core.js?${tally.checks}`); // each time anew
+  const { exports } = new WebAssembly.Instance(new WebAssembly.Module(bytes));
+  for (const number of [undefined, 1, 9999, 10001, 10100, 20000])
+    fails(TypeError, () => core.connectTo({ ...exports, multihash_version: () => number }), 'another version');
+  fails(RangeError, () => core.connectTo({ ...exports, memory: {} }), 'no memory');
   const later = core.connectLater(bytes);
   core.connect(bytes);
   for (const byte of [1, 2]) {
@@ -272,7 +324,7 @@ export function hostile(module) {
   repeated(module);
   bytesAlone(module);
   numbers(module);
-  ownBytes(module);
+  views(module);
   multihashes(module);
   growing(module);
   polluted(module);

@@ -16,6 +16,11 @@ async function drained(reader) {
   return { found, rest: reader.rest };
 }
 
+const RELEASED = 'the reader was released';
+
+/** What a call of a reader gives, or the text of its error. */
+const told = (call) => call.then(String, ({ message }) => message);
+
 const listed = (found) => found.map((multihash) => hex(multihash.bytes)).join(' ');
 
 async function cutAt(module, stream, cut, wanted) {
@@ -45,8 +50,9 @@ async function readableStream(module, stream, wanted) {
   for await (const multihash of new module.MultihashReader(source)) found.push(multihash);
   same(`${listed(found)} ${source.locked}`, `${wanted} false`, 'a byte at a time');
   const broken = new module.MultihashReader(byteStream(stream, (controller) => controller.error(new Error('broken'))));
-  const errors = [await drained(broken), await drained(broken)].map(({ error }) => error?.message);
-  same(`${errors}`, 'broken,broken', 'a stream that fails');
+  same((await drained(broken)).error?.message, 'broken', 'a stream that fails');
+  broken.release();
+  same(await told(broken.read()), 'broken', 'a release after the end');
 }
 
 /** At an error the stream is released, and another reader goes on with it; a loop that it ends cancels the stream. */
@@ -88,17 +94,49 @@ async function givenUp(module, stream) {
   whole.release();
   same(hex(whole.rest), hex(stream.subarray(34)), 'rest after a release');
   const looped = await whole[Symbol.asyncIterator]().next().catch((error) => error);
-  same(`${looped.message}, ${(await drained(whole)).error?.message}`,
-    'the reader was released, the reader was released', 'after a release');
-  for (const [cut, waits, name] of [[0, true, 'cancel'], [20, true, 'cancel'],
-    [20, false, Symbol.asyncDispose ?? 'cancel']]) {
+  same(`${looped.message}, ${(await drained(whole)).error?.message}`, `${RELEASED}, ${RELEASED}`, 'after a release');
+  for (const [cut, waits, name, ending = 'null'] of [[0, true, 'cancel'], [20, true, 'cancel'],
+    [20, false, Symbol.asyncDispose ?? 'cancel'], [20, true, 'release', RELEASED]]) {
     const source = byteStream(stream.subarray(0, cut), undefined, (reason) => reasons.push(reason));
     const reader = new module.MultihashReader(source);
-    const pending = waits ? reader.read() : null;
+    const pending = waits ? told(reader.read()) : 'null';
     await reader[name](cut);
-    same(`${await pending} ${await reader.read()} ${source.locked}`, 'null null false', 'a reader that was cancelled');
+    const [there, later] = [await pending, await told(reader.read())];
+    same(`${there} ${later} ${source.locked}`, `${ending} ${ending} false`, `given up at ${cut}`);
   }
   same(`${reasons}`, ',0,20,20', 'reasons');
+}
+
+/** A call that waits while its reader is given up ends as later ones do, and `rest` has what it had waited for. */
+async function waiting(module, stream) {
+  for (const [name, ending] of [['release', RELEASED], ['cancel', 'null']]) {
+    for (const part of [stream.subarray(0, 20), stream]) {
+      let deliver;
+      const chunk = new Promise((resolve) => (deliver = resolve));
+      const next = () => chunk;
+      const reader = new module.MultihashReader({ [Symbol.asyncIterator]: () => ({ next }) });
+      const calls = [reader.read(), reader.read()];
+      await reader[name]();
+      deliver({ done: false, value: part });
+      for (const call of [...calls, reader.read()]) same(await told(call), ending, `a call that waits at a ${name}`);
+      same(hex(reader.rest), hex(part), 'rest of a call that waited');
+    }
+  }
+}
+
+/** What a source does where it is cancelled is awaited, and its error is that of the call, also after the end. */
+async function cancellations(module, stream) {
+  const fail = async () => {
+    await null;
+    throw new Error('stuck');
+  };
+  const iterable = { [Symbol.asyncIterator]: () => ({ return: fail, next: async () => ({ value: stream }) }) };
+  for (const [source, limit] of [[byteStream(stream, undefined, fail), 32], [byteStream(stream, undefined, fail), 31],
+    [iterable, 32]]) {
+    const reader = new module.MultihashReader(source, { limit });
+    await told(reader.read()); // with the limit of 31 the reader has ended
+    same(await told(reader.cancel()), 'stuck', 'an error of a cancellation');
+  }
 }
 
 async function badSources(module, stream) {
@@ -118,53 +156,27 @@ async function badSources(module, stream) {
   for (const [kind, option] of options) fails(kind, () => new module.MultihashReader(chunks(), option), 'an option');
 }
 
-/** After an error of a source another reader goes on with the rest; a source whose loop is left is closed. */
-async function failing(module, stream) {
-  let [turn, closed] = [0, false];
-  const parts = [stream.subarray(0, 20), new Error('broken'), stream.subarray(20)];
-  const source = {
-    [Symbol.asyncIterator]: () => source,
-    async next() {
-      const value = parts[turn++];
-      if (value instanceof Error) throw value;
-      return { done: value === undefined, value };
-    },
-    async return() {
-      closed = true;
-      return { done: true };
-    },
-  };
-  const reader = new module.MultihashReader(source);
-  const broken = await drained(reader);
-  same(`${broken.error?.message} ${broken.rest.length}`, 'broken 20', 'a source that fails');
-  broken.rest.fill(0);
-  for await (const multihash of new module.MultihashReader(source, { rest: reader.rest })) {
-    same(hex(multihash.bytes), hex(stream.subarray(0, 34)), 'after a failure');
-    break;
-  }
-  same(closed, true, 'closed');
-}
-
-/** What a reader has received is its own: a source may use its memory again. A source needs no `return`. */
-async function reused(module, stream, wanted) {
+/** What a reader has received is its own: a source may use its memory again. After its error the rest is there. */
+async function iterables(module, stream, wanted) {
   const chunk = new Uint8Array(7);
-  let at = 0;
-  const next = async () => {
-    chunk.set(stream.subarray(at, at + 7));
-    at += 7;
-    return { done: at - 7 >= stream.length, value: chunk.subarray(0, stream.length - at + 7) };
-  };
-  const rest = stream.slice(0, 20);
-  at = 20;
-  const reader = new module.MultihashReader({ [Symbol.asyncIterator]: () => ({ next }) }, { rest });
-  rest.fill(0);
+  async function* parts(end) {
+    for (let at = 0; at < end; at += 7) {
+      chunk.set(stream.subarray(at, at + 7));
+      yield chunk.subarray(0, end - at);
+    }
+    if (end < stream.length) throw new Error('broken');
+  }
   const found = [];
-  for await (const multihash of reader) found.push(multihash);
+  for await (const multihash of new module.MultihashReader(parts(stream.length))) found.push(multihash);
   same(listed(found), wanted, 'memory that is used again');
+  const reader = new module.MultihashReader(parts(20));
+  const broken = await drained(reader);
+  broken.rest.fill(0);
+  same(`${broken.error?.message} ${hex(reader.rest)}`, `broken ${hex(stream.subarray(0, 20))}`, 'a source that fails');
 }
 
 export async function streams(module) {
-  const digests = [new Uint8Array(32).fill(7), new Uint8Array(), new Uint8Array(200).fill(9)];
+  const digests = [new Uint8Array(32).fill(7), new Uint8Array(), new Uint8Array(255).fill(9)];
   const encodings = digests.map((digest, index) => module.encode([0x12, 0, 2n ** 62n][index], digest));
   const stream = Uint8Array.from(encodings.flatMap((bytes) => [...bytes]));
   const wanted = encodings.map(hex).join(' ');
@@ -172,9 +184,10 @@ export async function streams(module) {
   await readableStream(module, stream, wanted);
   await malformedStream(module, stream, wanted);
   await badSources(module, stream);
-  await failing(module, stream);
   await givenUp(module, stream);
-  await reused(module, stream, wanted);
+  await cancellations(module, stream);
+  await waiting(module, stream);
+  await iterables(module, stream, wanted);
   const reader = new module.MultihashReader(chunks(stream));
   const together = await Promise.all([reader.read(), reader.read(), reader.read(), reader.read()]);
   same(listed(together.slice(0, 3)) + together[3], `${wanted}null`, 'calls that overlap');

@@ -1,10 +1,19 @@
 // All tests, in Node.js and in a page, over the text of the vectors.
 import { both, forbidden, hostile, missing } from './arguments.js';
-import { tally } from './check.js';
+import { fails, same, tally } from './check.js';
 import { streams } from './stream.js';
 import { vectors } from './vectors.js';
 
+/** The checks see a value of another type, an error of another class, and that there is none. */
+function checksOfChecks() {
+  const [before, wrong] = [tally.errors.length, () => { throw new RangeError(); }];
+  for (const [found, wanted] of [[1, '1'], [undefined, null], [NaN, 0]]) same(found, wanted, 'another type');
+  for (const call of [wrong, () => 0]) fails(TypeError, call, 'another error');
+  same(tally.errors.splice(before).length, 5, 'what is wrong');
+}
+
 export async function suite(module, text) {
+  checksOfChecks();
   hostile(module);
   vectors(module, text);
   await streams(module);

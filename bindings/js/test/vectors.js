@@ -6,6 +6,7 @@ const MORE = new Uint8Array(400);
 
 /** A result as the vectors write it, the number of bytes consumed, and what was found. */
 function written(module, call, taken) {
+  module.encode(0, MORE.subarray(0, 255)); // so that what the module has of an earlier input is other bytes
   try {
     const found = call();
     const { multihash = found } = found;
@@ -78,7 +79,7 @@ export function vectors(module, text) {
   for (const line of lines) {
     const [S, input, read, readTaken, whole, scale, scaleTaken] = line.split('\t');
     const data = unhex(input);
-    const [found, taken, multihash] = written(module, () => module.read(data, Number(S)));
+    const [found, taken, multihash] = written(module, () => module.read(data, ...(S === '255' ? [] : [Number(S)])));
     same(`${found} ${taken}`, `${read} ${checkHead(module, data, read, readTaken)}`, `read ${line}`);
     if (isForAll(read, Number(S))) {
       const [decoded, length] = written(module, () => module.decode(data), data.length);
