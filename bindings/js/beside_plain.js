@@ -1,11 +1,12 @@
 // Times of each call beside plain JavaScript that copies its results, with the same checks, by turns, as minima.
 //   node beside_plain.js           prints the table of README.md
 //   node beside_plain.js --write   also writes it
+//   node beside_plain.js --check   compares only the results
 import { readFileSync, writeFileSync } from 'node:fs';
 import * as ours from './index.js';
 
-const ROUNDS = 25;
-const CALLS = 20000;
+const ROUNDS = 250;
+const CALLS = 2000;
 const { MultihashError } = ours;
 const fail = (status, details) => {
   throw new MultihashError(status, details);
@@ -180,7 +181,7 @@ function callsOf(it) {
   const [left, right] = [it.decode(bytes), it.decode(bytes)];
   const caught = (input) => {
     try {
-      it.decode(input);
+      it.read(input);
     } catch (error) {
       return error;
     }
@@ -226,12 +227,17 @@ function nanoseconds(call) {
 }
 
 const [mine, theirs] = [callsOf(ours), callsOf(plain)];
+for (const name of Object.keys(mine)) {
+  const [here, there] = [mine, theirs].map((calls) => JSON.stringify(calls[name]()));
+  if (here !== there) throw new Error(`${name}: ${here}, and in plain JavaScript ${there}`);
+}
+if (process.argv[2] === '--check') process.exit();
 const names = [...Object.keys(mine), 'an item of a stream'];
 const least = Object.fromEntries(names.map((name) => [name, [Infinity, Infinity]]));
 const keep = (name, ...times) => (least[name] = least[name].map((time, index) => Math.min(time, times[index])));
 for (let round = 0; round < ROUNDS; round++) {
   for (const name of Object.keys(mine)) keep(name, nanoseconds(mine[name]), nanoseconds(theirs[name]));
-  for (let turn = 0; turn < 10; turn++) keep('an item of a stream', await ofStream(ours), await ofStream(plain));
+  for (let turn = 0; turn < 1; turn++) keep('an item of a stream', await ofStream(ours), await ofStream(plain));
 }
 let table = '| Call | Time | Plain JavaScript | Share |\n|---|---:|---:|---:|\n';
 for (const [name, [here, there]] of Object.entries(least))

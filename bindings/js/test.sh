@@ -8,7 +8,7 @@
 here=$(dirname "$(readlink -f "${BASH_SOURCE[0]}")")
 # shellcheck source=checks/lib/tap.sh
 . "$here/../../checks/lib/tap.sh"
-plan 22
+plan 23
 set -o pipefail
 # shellcheck source=checks/lib/proved.sh
 . checks/lib/proved.sh
@@ -53,6 +53,13 @@ old_module() {
     --disable-multi-value --disable-reference-types)
   wasm-validate "${others[@]}" "$here/multihash.wasm" &&
     rejects "invalid section code: 12" wasm-validate "${others[@]}" --disable-bulk-memory "$here/multihash.wasm"
+}
+
+# What is timed beside the package gives the same results.
+plain() {
+  node "$here/beside_plain.js" --check &&
+    sed "s|'./index.js'|'$here/index.js'|; s/'0')/'1')/" "$here/beside_plain.js" > "$work/plain.mjs" &&
+    rejects "in plain JavaScript" node "$work/plain.mjs" --check
 }
 
 # The example of README.md in that language.
@@ -137,6 +144,7 @@ part "in Node.js, inline" node in_node "$vectors/verdicts.tsv" inline
 part "in Node.js, a compiled module" node in_node "$vectors/verdicts.tsv" module
 part "where nothing is compiled" node node --experimental-vm-modules --no-warnings "$here/test/compiled.js"
 part "vectors that differ" node planted
+part "plain JavaScript" node plain
 part "old engines" node old_engine index
 part "old engines, inline" node old_engine inline
 part "the packed package's script" npm packed_script
