@@ -21,6 +21,7 @@ COPIES = {
     "tests/not_shown.txt": "checks/lib/not_shown.txt",
     "tests/verdicts.tsv": "crates/vectors/data/verdicts.tsv",
 }
+SOURCES = ["src/arguments.c", "src/core.c", "src/reader.c", "src/value.c"]
 in_repository = not os.path.exists("PKG-INFO")
 if in_repository:
     os.makedirs("portable", exist_ok=True)
@@ -38,7 +39,7 @@ if not archive and in_repository and system == "linux" and sys.maxsize > 2**32 a
 
 core = Extension(
     "verified_multihash._core",
-    ["src/core.c"] if archive else ["src/core.c", "portable/multihash.c"],
+    SOURCES if archive else [*SOURCES, "portable/multihash.c"],
     include_dirs=["portable"],
     extra_objects=[archive] if archive else [],
     extra_compile_args=["/std:c11"] if system.startswith("win") else ["-std=c11", "-fvisibility=hidden"],

@@ -138,7 +138,7 @@ planted() {
 }
 
 planted_read() {
-  planted 's/from->bytes + found.digest_offset/& + 4096/' && under_sanitizers "$to/planted"
+  planted 's/bytes + found.digest_offset/& + 4096/' && under_sanitizers "$to/planted"
 }
 
 # Each argument is kept.

@@ -1,0 +1,67 @@
+/* What the files of the module share. They convert arguments and results, and decide nothing. They are in the stable
+ * ABI of CPython 3.8. */
+#define Py_LIMITED_API 0x03080000
+#define PY_SSIZE_T_CLEAN
+#include <Python.h>
+#include <stddef.h>
+#include <string.h>
+#include <structmember.h>
+
+#include "multihash.h"
+
+/* ---- core.c */
+
+extern long version; /* of CPython, as sys.hexversion */
+
+/* The module of a type, which keeps it; null is a failure that has raised an error. */
+PyObject *module_of_type(PyTypeObject *type);
+
+/* Raises the error of an encoding. The length, which may be null, and the code are taken over. */
+PyObject *encoding_error(PyObject *module, multihash_status status, PyObject *length, PyObject *code);
+
+/* The multihash that a decoding found in these bytes. */
+PyObject *decoded(PyObject *module, const uint8_t *bytes, multihash_decoded found);
+
+/* ---- arguments.c */
+
+/* Bytes of an argument: all of them, or the first ones where it is no bytes object. */
+typedef struct input {
+    PyObject *owner; /* the bytes object */
+    const uint8_t *bytes;
+    size_t length;
+    size_t whole; /* the length of the argument */
+} input;
+
+/* Takes any object with the buffer protocol. Copies some `most` bytes of what is no bytes object. */
+int get_input(PyObject *argument, Py_ssize_t most, input *to);
+
+/* One argument or two of a function, by position or name. */
+int get_arguments(PyObject *arguments, PyObject *named, const char *format, char **names, PyObject **first,
+                  PyObject **second);
+
+/* A whole number that is not negative, and in place of the argument a new int. One of more than 64 bits is the
+ * largest, which the library rejects too. */
+int get_number(PyObject **argument, const char *name, uint64_t *number);
+
+/* The same of a limit or a digest's length: what is larger is rejected as the largest is. */
+int get_size(PyObject **argument, const char *name, size_t *size);
+
+/* The arguments of a function: a code, as `get_number` has it, and a digest, of which at most one byte more than the
+ * longest has is copied. */
+int get_pair(PyObject *arguments, PyObject *named, const char *format, PyObject **code, uint64_t *number,
+             input *digest);
+
+/* ---- value.c */
+
+extern PyType_Spec multihash_spec;
+
+/* Makes a multihash of a code, its number and a digest, which are taken over; null is a failure that has raised an
+ * error. */
+PyObject *new_multihash(PyTypeObject *type, uint64_t number, PyObject *code, PyObject *digest);
+
+/* -1, 0 or 1. */
+int order_of(PyObject *left, PyObject *right);
+
+/* ---- reader.c */
+
+extern PyType_Spec reader_spec;

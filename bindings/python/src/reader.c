@@ -1,0 +1,189 @@
+/* What both readers are. */
+#include "core.h"
+
+typedef struct reader_object {
+    PyObject_HEAD
+    PyObject *module;
+    PyObject *read; /* of the file */
+    size_t limit;
+    char has_lost; /* whether the file may have lost bytes */
+    size_t length; /* of the bytes that were read and belong to no multihash that was returned */
+    uint8_t rest[MULTIHASH_HEAD_MAX + MULTIHASH_DIGEST_MAX];
+} reader_object;
+
+static int reader_init(PyObject *self, PyObject *arguments, PyObject *named)
+{
+    static char *names[] = {"file", "limit", NULL};
+    reader_object *it = (reader_object *)self;
+    PyObject *file, *most = NULL, *module, *read;
+    size_t limit = MULTIHASH_DIGEST_MAX;
+    if (!get_arguments(arguments, named, "O|O:MultihashReader", names, &file, &most)) return -1;
+    if (most != NULL && get_size(&most, "limit", &limit) < 0) return -1;
+    Py_XDECREF(most);
+    if ((module = module_of_type(Py_TYPE(self))) == NULL) return -1;
+    if ((read = PyObject_GetAttrString(file, "read")) == NULL) return -1;
+    if (it->module == NULL) Py_INCREF(it->module = module);
+    it->limit = limit;
+    it->length = 0;
+    it->has_lost = 0;
+    PyObject *old = it->read; /* now: `file` may begin this reader anew, too */
+    it->read = read;
+    Py_XDECREF(old);
+    return 0;
+}
+
+static int reader_traverse(PyObject *self, visitproc visit, void *arg)
+{
+    if (version >= 0x03090000) Py_VISIT(Py_TYPE(self));
+    Py_VISIT(((reader_object *)self)->module);
+    Py_VISIT(((reader_object *)self)->read);
+    return 0;
+}
+
+static int reader_clear(PyObject *self)
+{
+    Py_CLEAR(((reader_object *)self)->read);
+    return 0;
+}
+
+static void reader_dealloc(PyObject *self)
+{
+    PyTypeObject *type = Py_TYPE(self);
+    PyObject_GC_UnTrack(self);
+    reader_clear(self);
+    Py_XDECREF(((reader_object *)self)->module);
+    ((freefunc)PyType_GetSlot(type, Py_tp_free))(self);
+    Py_DECREF(type);
+}
+
+/* The number of bytes that the multihash still needs at least; 0 also where it is rejected. */
+static size_t missing(const reader_object *it)
+{
+    if (it->length == 0) return 2; /* an encoding has at least two bytes */
+    multihash_front found = multihash_head(it->rest, it->length);
+    if (found.status != MULTIHASH_OK) return found.status == MULTIHASH_INSUFFICIENT;
+    if (found.digest_length > it->limit || found.digest_length > MULTIHASH_DIGEST_MAX) return 0;
+    return found.taken + (size_t)found.digest_length - it->length;
+}
+
+/* The number of bytes to read, none if the next result is known; negative with an error set. */
+static Py_ssize_t wanted(const reader_object *it)
+{
+    size_t count = missing(it);
+    const char *why = it->read == NULL ? "not initialized" : "the file failed before, so bytes may be lost";
+    if (count == 0 || (it->read != NULL && !it->has_lost)) return (Py_ssize_t)count;
+    PyErr_SetString(PyExc_ValueError, why);
+    return -1;
+}
+
+/* Keeps what the file returned: 1, or 0 at its end, where these are no bytes; negative with an error set. */
+static int keep(reader_object *it, PyObject *chunk)
+{
+    input from;
+    it->has_lost = chunk != Py_None;
+    if (chunk == Py_None) PyErr_SetString(PyExc_BlockingIOError, "the file has no bytes now");
+    if (chunk == Py_None || get_input(chunk, sizeof it->rest, &from) < 0) return -1;
+    size_t most = missing(it); /* the file may have called this reader */
+    it->has_lost = from.whole > most;
+    if (it->has_lost) {
+        PyErr_Format(PyExc_ValueError, "read(%zu) returned %zu bytes", most, from.whole);
+    } else {
+        memcpy(it->rest + it->length, from.bytes, from.whole);
+        it->length += from.whole;
+    }
+    Py_DECREF(from.owner);
+    return it->has_lost ? -1 : from.whole > 0;
+}
+
+/* Reads at most that many bytes, and keeps them. */
+static int read_chunk(reader_object *it, Py_ssize_t count)
+{
+    PyObject *number = PyLong_FromSsize_t(count), *read = it->read;
+    if (number == NULL) return -1;
+    Py_INCREF(read);
+    it->has_lost = 1; /* until the bytes are kept */
+    PyObject *chunk = PyObject_CallFunctionObjArgs(read, number, NULL);
+    int kept = chunk == NULL ? -1 : keep(it, chunk);
+    if (chunk == NULL && PyErr_ExceptionMatches(PyExc_BlockingIOError)) it->has_lost = 0;
+    Py_XDECREF(chunk);
+    Py_DECREF(read);
+    Py_DECREF(number);
+    return kept;
+}
+
+/* The multihash of the bytes, or None if there are none. */
+static PyObject *reader_decoded(PyObject *self, PyObject *unused)
+{
+    reader_object *it = (reader_object *)self;
+    (void)unused;
+    if (it->length == 0) Py_RETURN_NONE;
+    PyObject *multihash = decoded(it->module, it->rest, multihash_read_limit(it->rest, it->length, it->limit));
+    if (multihash != NULL) it->length = 0;
+    return multihash;
+}
+
+static PyObject *reader_next(PyObject *self, PyObject *unused)
+{
+    reader_object *it = (reader_object *)self;
+    Py_ssize_t count;
+    int kept = 1;
+    while ((count = wanted(it)) > 0 && (kept = read_chunk(it, count)) > 0) continue;
+    return count < 0 || kept < 0 ? NULL : reader_decoded(self, unused);
+}
+
+static PyObject *reader_wanted(PyObject *self, PyObject *unused)
+{
+    Py_ssize_t count = wanted((reader_object *)self);
+    (void)unused;
+    return count < 0 ? NULL : PyLong_FromSsize_t(count);
+}
+
+static PyObject *reader_keep(PyObject *self, PyObject *chunk)
+{
+    int kept = keep((reader_object *)self, chunk);
+    return kept < 0 ? NULL : PyBool_FromLong(kept);
+}
+
+static PyObject *reader_rest(PyObject *self, void *unused)
+{
+    (void)unused;
+    const reader_object *it = (const reader_object *)self;
+    return PyBytes_FromStringAndSize((const char *)it->rest, (Py_ssize_t)it->length);
+}
+
+static PyMethodDef reader_methods[] = {
+    {"_decoded", reader_decoded, METH_NOARGS, NULL}, {"_keep", reader_keep, METH_O, NULL},
+    {"_next", reader_next, METH_NOARGS, NULL},       {"_wanted", reader_wanted, METH_NOARGS, NULL},
+    {NULL, NULL, 0, NULL},
+};
+
+static PyMemberDef reader_members[] = {
+    {"_read", T_OBJECT_EX, offsetof(reader_object, read), READONLY, NULL},
+    {"_has_lost", T_BOOL, offsetof(reader_object, has_lost), 0, NULL},
+    {NULL, 0, 0, 0, NULL},
+};
+
+static PyGetSetDef reader_attributes[] = {
+    {"rest", reader_rest, NULL, "The bytes that were read and belong to no multihash that was returned.", NULL},
+    {NULL, NULL, NULL, NULL, NULL},
+};
+
+static PyType_Slot reader_slots[] = {
+    {Py_tp_doc, "Reader(file, limit=255)\n--\n\nWhat both readers are, but for the call of the file."},
+    {Py_tp_init, reader_init},
+    {Py_tp_traverse, reader_traverse},
+    {Py_tp_clear, reader_clear},
+    {Py_tp_dealloc, reader_dealloc},
+    {Py_tp_methods, reader_methods},
+    {Py_tp_members, reader_members},
+    {Py_tp_getset, reader_attributes},
+    {0, NULL},
+};
+
+PyType_Spec reader_spec = {
+    "verified_multihash._core.Reader",
+    sizeof(reader_object),
+    0,
+    Py_TPFLAGS_DEFAULT | Py_TPFLAGS_BASETYPE | Py_TPFLAGS_HAVE_GC,
+    reader_slots,
+};
