@@ -12,6 +12,7 @@ top=$PWD
 c=$top/bindings/c
 library=$PROVED/crates/multihash_c/out/libmultihash_c.a
 list=$top/crates/vectors/data/verdicts.tsv
+tests=("$c"/tests/{test,verdicts,models,draws,buffer}.c)
 warnings=(-Wall -Wextra -Wpedantic -Wconversion -Wsign-conversion -Wshadow -Wcast-qual -Werror)
 c_flags=(-std=c11 "${warnings[@]}" -Wstrict-prototypes -Wmissing-prototypes)
 cpp_flags=(-std=c++17 "${warnings[@]}")
@@ -27,7 +28,7 @@ build_library() {
 prebuilt_archives() {
   cmp "$library" bindings/c/prebuilt/x86_64/libmultihash_c.a &&
     STEPS=$work/steps tools/generate --check archives > "$work/same" &&
-    sed 's/^the same.*: //' "$work/same" | sort | diff <(git ls-files bindings/c/{prebuilt,tests/draws.txt}) -
+    sed 's/^the same.*: //' "$work/same" | sort | diff <(git ls-files bindings/c/prebuilt) -
 }
 
 # A copy of the archives in which a byte and its checksum were changed.
@@ -53,7 +54,7 @@ names_and_calls() {
   checks/lib/header.py --exports > "$work/names" && [ -s "$work/names" ] || return 1
   while read -r name; do
     grep -q "\`$name\`" "$1" || { echo "not in $1: $name"; return 1; }
-    grep -q "\b$name(" "$c"/tests/{test,decoding,encoding,verdicts}.c || { echo "not called: $name"; return 1; }
+    grep -q "\b$name\b" "$c"/tests/{test,models}.c || { echo "not called: $name"; return 1; }
   done < "$work/names"
 }
 
@@ -109,20 +110,20 @@ stands_alone() {
 
 # ---- programs
 
-# The program `$1`, which the remaining words build, passes for each line of the test vectors; `$2` is a command that
-# runs it, or empty.
+# The program `$1`, which the remaining words build, passes for each line of the test vectors and for drawn inputs; `$2`
+# is a command that runs it, or empty.
 build_and_run() {
   local to=$work/$1 under=$2
   shift 2
   "$@" -I "$c/include" -o "$to" || return 1
   # shellcheck disable=SC2086
-  $under "$to" "$list" | grep "^$(($(wc -l < "$list") - 1)) lines, "
+  $under "$to" "$list" 1 20000 | grep -x "$(($(wc -l < "$list") - 1)) lines, drawn: 20000"
 }
 
 # What a compiler has to pass: its command, with the flags for the language.
 test_compiler() {
-  local name=$1 from=("${@:2}") test=("$c"/tests/{test,decoding,encoding,verdicts,shared}.c -x none "$library")
-  local sanitize=(-fsanitize=address -fsanitize=undefined -fno-sanitize-recover=all)
+  local name=$1 from=("${@:2}") test=("${tests[@]}" -x none "$library")
+  local sanitize=(-DHEAP -fsanitize=address -fsanitize=undefined -fno-sanitize-recover=all)
   try "$name, header alone" stands_alone "${from[@]}"
   try "$name, plain" build_and_run "$name" "" "${from[@]}" -O2 "${test[@]}"
   try "$name, address and undefined-behaviour sanitizers" build_and_run "$name-san" "" "${from[@]}" -g -O1 \
@@ -139,15 +140,13 @@ test_compilers() {
 # Each access of the library is checked, which the compilers' sanitizers do not see.
 under_valgrind() {
   build_and_run valgrind "valgrind -q --error-exitcode=9 --leak-check=full --errors-for-leak-kinds=all" cc \
-    "${c_flags[@]}" -g -O1 \
-    "$c"/tests/{test,decoding,encoding,verdicts,shared}.c "$library"
+    "${c_flags[@]}" -g -O1 -DHEAP "${tests[@]}" "$library"
 }
 
 # A processor without what x86-64-v2 adds.
 on_old_processor() {
   build_and_run old "qemu-x86_64 -cpu qemu64,-pni,-ssse3,-sse4.1,-sse4.2,-popcnt,-cx16" cc "${c_flags[@]}" \
-    -O2 -static \
-    "$c"/tests/{test,decoding,encoding,verdicts,shared}.c "$library"
+    -O2 -static "${tests[@]}" "$library"
 }
 
 # The calls that are counted for docs/SPEED.md compile too.
@@ -156,21 +155,19 @@ counted_calls() {
     "$work/count" read_34 10
 }
 
-# C by hand, which is counted beside the library, has the same results: those of the vectors, and of drawn inputs.
+# C by hand, which is counted beside the library, has the same results.
 by_hand() {
-  build_and_run "$1" "" cc "${c_flags[@]}" -O2 "$c/tests/$1.c" "$c"/tests/{test,decoding,encoding,verdicts,shared}.c &&
-    cc "${c_flags[@]}" -O2 -I "$c/include" "$c/tests/$1.c" "$c/tests/draws.c" -o "$work/draws" &&
-    "$work/draws" 1 100000 | diff - "$c/tests/draws.txt"
+  build_and_run "$1" "" cc "${c_flags[@]}" -O2 "$c/tests/$1.c" "${tests[@]}"
 }
 
 # The tests find each difference that is planted in C by hand.
 planted_in_c() {
-  local edit tests=("$c"/tests/{test,decoding,encoding,verdicts,shared}.c)
+  local edit
   while read -r edit; do
     sed "$edit" "$c/tests/plain.c" > "$work/planted.c"
     if cmp -s "$c/tests/plain.c" "$work/planted.c" ||
-      ! cc -std=c11 -I "$c/include" "$work/planted.c" "${tests[@]}" -o "$work/planted" ||
-      ! rejects "not so: " "$work/planted" "$list"; then
+      ! cc -std=c11 -DHEAP -I "$c/include" "$work/planted.c" "${tests[@]}" -o "$work/planted" ||
+      ! rejects "not so: " "$work/planted" "$list" 1 20000; then
       echo "not found: $edit"
       return 1
     fi

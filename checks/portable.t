@@ -4,7 +4,7 @@
 # sanitizers, on other machines in emulators, and against the archive's results.
 # shellcheck source=checks/lib/tap.sh
 . "$(dirname "$0")/lib/tap.sh"
-plan 30
+plan 28
 set -o pipefail
 # shellcheck source=checks/lib/proved.sh
 . checks/lib/proved.sh
@@ -13,9 +13,8 @@ tree=$work/tree
 steps=$work/steps
 translate=tools/translate.py
 tests=$top/bindings/c/tests
-parts=("$tests"/{test,decoding,encoding,verdicts,shared}.c)
+parts=("$tests"/{test,verdicts,models,draws,buffer}.c)
 vectors=$top/crates/vectors/data/verdicts.tsv
-archive=$top/bindings/c/prebuilt/x86_64/libmultihash_c.a
 warnings=(-Wall -Wextra -Wpedantic -Wconversion -Wsign-conversion -Wshadow -Wcast-qual -Wstrict-prototypes
   -Wmissing-prototypes -Werror)
 ulimit -c 0
@@ -78,39 +77,34 @@ two_files() {
     cmp "$work/one.o" "$work/apart.o" && wc -c < "$tree/multihash.c"
 }
 
-# The tests pass over multihash.c of a folder, whose results for drawn inputs are the archive's. Results are kept in a
-# folder; the last words are a compiler with options, and RUN runs a program.
+# The tests pass over multihash.c of a folder. Results are kept in a folder; the last words are a compiler with options,
+# and RUN runs a program.
 passes() {
   local from=$1 to=$work/$2 compile=("${@:3}" -std=c11 -I "$1")
   mkdir "$to" && "${compile[@]}" -c "$from/multihash.c" -o "$to/multihash.o" &&
     "${compile[@]}" "${parts[@]}" "$to/multihash.o" -o "$to/test.exe" &&
-    "${compile[@]}" "$tests/draws.c" "$to/multihash.o" -o "$to/draws.exe" && ${RUN-} "$to/test.exe" "$vectors" &&
-    ${RUN-} "$to/draws.exe" 1 100000 | tr -d '\r' | diff - "$tests/draws.txt"
-}
-
-# The results for a million inputs under sanitizers are the archive's.
-like_the_archive() {
-  [ -s "$work/drawn" ] || "$work/cc-sanitizers/draws.exe" 2 1000000 > "$work/drawn" || return 1
-  cc -O2 -I bindings/c/include "$tests/draws.c" "$archive" -o "$work/archive" &&
-    "$work/archive" "$1" 1000000 | diff - "$work/drawn" && grep '^1000000 inputs: ' "$work/drawn"
+    ${RUN-} "$to/test.exe" "$vectors" 1 100000 > "$to/shown" && tr -d '\r' < "$to/shown" |
+    grep -x '[1-9][0-9]* lines, drawn: 100000'
 }
 
 # Objects for machines without a C library, and for macOS and MSVC's mode of Clang without their headers. All that
-# they call are three functions. Generated code has two warnings, which only that mode does not leave out by itself.
+# they need are three functions, and what linkers make. Generated code has two warnings, which only that mode does not
+# leave out by itself.
 freestanding() {
   local target
   for target in arm64-apple-macos11 x86_64-pc-windows-msvc wasm32-unknown-unknown thumbv7em-none-eabi \
     riscv32-unknown-elf; do
     clang --target=$target -ffreestanding -nostdlibinc "${warnings[@]}" -Wno-conversion -Wno-unused-parameter \
-      -std=c11 -O2 -c "$tree/multihash.c" -o "$work/free.o" || return 1
+      -std=c11 -O2 -c "$tree/multihash.c" -o "$work/free.o" &&
+      llvm-nm --undefined-only -j "$work/free.o" | sed 's/^_*//' | sort | paste -sd ' ' |
+      grep -xE '(bzero )?(linear_memory )?memcpy memmove memset( stack_pointer)?' || return 1
   done
-  nm --undefined-only -f posix "$work/free.o" | awk '{ print $1 }' | sort | paste -sd ' ' |
-    grep -x 'memcpy memmove memset'
 }
 
 test_compiler() {
   try "$1" passes "$tree" "$1" "$1" -O2 "${warnings[@]}"
-  try "$1, sanitizers" passes "$tree" "$1-sanitizers" "$1" -g -O1 -fsanitize=address,undefined -fno-sanitize-recover=all
+  try "$1, sanitizers" passes "$tree" "$1-sanitizers" "$1" -g -O1 -DHEAP -fsanitize=address,undefined \
+    -fno-sanitize-recover=all
 }
 
 # The object needs four functions of the C library, and has no section that is written.
@@ -130,31 +124,19 @@ tests_planted() {
   passes "$work/planted" planted.built cc -O1
 }
 
-# The drawn inputs over a copy whose call reads a byte beside its input, unchecked.
-draws_planted() {
-  rm -rf "$work/planted" && cp -r "$tree" "$work/planted" &&
-    sed -i "/^multihash_decoded multihash_from_bytes/,/^}/s/= ANY_INPUT/= bytes[$1] == 1/" \
-      "$work/planted/multihash.c" &&
-    cc -std=c11 -O1 -I "$work/planted" "$tests/draws.c" "$work/planted/multihash.c" -o "$work/planted.draws" || return 0
-  "$work/planted.draws" 1 1000
-}
-
 test_here() {
+  local at
   try "two files" two_files
   test_compiler cc
   with_all 2 && has 2 clang && test_compiler clang
-  has 1 clang nm && try "objects without a C library" freestanding
-  if [ "$(uname -m)" = x86_64 ]; then
-    try "the archive's results" like_the_archive 2
-    try "its results for other inputs" rejects "< 1000000 inputs: " like_the_archive 3
-  else
-    leave_out "the archive is for another machine" 2
-  fi
+  has 1 clang llvm-nm && try "objects without a C library" freestanding
   has 1 nm objdump && try "what the object needs" keeps_no_state
   try "an access after an input" rejects "Aborted" tests_planted 's/\(w2c_multihash_head(.*bytes_length\))/\1 + 1)/'
   try "an access after an output" rejects "Aborted" tests_planted 's/\(ADDRESS(OUT), out_length\))/\1 + 1)/'
-  try "drawn inputs: an access before one" rejects "Segmentation fault" draws_planted -1
-  try "drawn inputs: an access after one" rejects "Segmentation fault" draws_planted bytes_length
+  for at in -1 bytes_length; do
+    try "an unchecked access at $at" rejects "Segmentation fault" tests_planted \
+      "/^multihash_decoded multihash_from_bytes/,/^}/s/= ANY_INPUT/= bytes_length \&\& bytes[$at] == 1/"
+  done
   try "a wrong mask of digits: another result" rejects "not so: " tests_planted \
     's/35747867511423103ull/35747867511423102ull/'
 }
@@ -175,7 +157,7 @@ on_windows() {
   if [ -d "$WINEPREFIX" ]; then wineserver -k; fi
 }
 
-has 30 cc python3 || exit 0
+has 28 cc python3 || exit 0
 if has 10 rt wasm2c=1.0.32 wasm2wat=1.0.32 wat2wasm=1.0.32; then
   try "the generated file" generated
   try "a wrong byte of it" rejects "module.h differ: " planted_generated

@@ -11,8 +11,8 @@ here=$(dirname "$(readlink -f "${BASH_SOURCE[0]}")")
 read -r -a flags <<< "${CFLAGS:--g -O1 -fsanitize=fuzzer-no-link,address,undefined -fno-sanitize-recover=all}"
 work=${WORK:-$OUT}
 mkdir -p "$work/seeds" "$work/objects"
-for file in "$here/fuzz.c" "${SOURCE:-$here/../src}/multihash.c"; do
-  "${CC:-clang}" "${flags[@]}" -std=c11 -Wall -Wextra -I "$here/../include" -c "$file" \
+for file in "$here"/{fuzz.c,../tests/{models,buffer}.c} "${SOURCE:-$here/../src}/multihash.c"; do
+  "${CC:-clang}" "${flags[@]}" -std=c11 -DHEAP -Wall -Wextra -I "$here/../include" -c "$file" \
     -o "$work/objects/$(basename "$file" .c).o"
 done
 "${CXX:-clang}" "${flags[@]}" "$work"/objects/*.o "${LIB_FUZZING_ENGINE:--fsanitize=fuzzer}" -o "$OUT/multihash_fuzzer"

@@ -6,6 +6,7 @@
 
 #include <stdio.h>
 #include <stdlib.h>
+#include <string.h>
 
 /* Ends the program if the condition is false. */
 #define CHECK(fact)                                                          \
@@ -16,9 +17,24 @@
         }                                                                    \
     } while (0)
 
-/* The value of each byte that a call must not write. */
-#define MARK 0xa5
-
 typedef multihash_encoded (*encoder)(uint64_t, const uint8_t *, size_t, uint8_t *, size_t);
+
+/* buffer.c */
+uint8_t *buffer(size_t length);
+uint8_t *copy_of(const uint8_t *bytes, size_t length);
+void release(uint8_t *bytes);
+
+/* models.c */
+void check_decodings(const uint8_t *bytes, size_t length, size_t limit);
+void check_encodings(uint64_t code, const uint8_t *digest, size_t length, size_t room);
+void check_length(uint64_t code, size_t length);
+void check_order(uint64_t code, const uint8_t *left, size_t left_length, uint64_t other_code, const uint8_t *right,
+                 size_t right_length);
+void check_text(multihash_status status, size_t room);
+void check_input(uint64_t code, const uint8_t *bytes, size_t length, size_t limit);
+
+/* draws.c and verdicts.c */
+void draw_inputs(uint64_t seed, unsigned long count);
+void replay(const char *name);
 
 #endif

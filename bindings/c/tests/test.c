@@ -1,44 +1,81 @@
-/* Calls each export: each prefix of an encoding, null with length 0, every capacity near what is needed, each
- * error of an encoding, and each line of the test vectors, whose file is the argument. Valid C11 and C++17.
- * Prints one line, and exits with status 1 at the first error. */
-#include "test.h"
+/* Compares each export with the models: prefixes of encodings, every capacity, each error of an encoding, null with
+ * length 0, the test vectors, whose file is the first argument, and drawn inputs. Valid C11 and C++17. Exits with
+ * status 1 at the first error.
+ *
+ *   test VECTORS SEED COUNT */
+#include "check.h"
 
-static void check_order(void)
+/* Each prefix of the longest encoding whose code and digest's length have that many bytes. */
+static void check_cuts(size_t code_bytes, size_t size_bytes)
 {
-    static const uint8_t ab[] = {'a', 'b'}, ac[] = {'a', 'c'}, b[] = {'b'}, high[] = {'a', 0xff};
-    static uint8_t zeros[300];
-    CHECK(multihash_compare(1, ac, 2, 2, ab, 2) == -1 && multihash_compare(2, ab, 2, 1, ac, 2) == 1);
-    CHECK(multihash_compare(2, ab, 2, 2, b, 1) == 1 && multihash_compare(2, b, 1, 2, ab, 2) == -1);
-    CHECK(multihash_compare(2, ab, 2, 2, ac, 2) == -1 && multihash_compare(2, ac, 2, 2, ab, 2) == 1);
-    CHECK(multihash_compare(2, high, 2, 2, ab, 2) == 1 && multihash_compare(2, ab, 2, 2, ab, 2) == 0);
-    CHECK(multihash_compare(UINT64_MAX, b, 1, 0, b, 1) == 1);
-    CHECK(multihash_compare(2, zeros, 300, 2, ac, 2) == 1);
-    CHECK(multihash_compare(2, zeros, 300, 2, zeros, 300) == 0);
-    CHECK(multihash_compare(1, NULL, 0, 1, ab, 1) == -1);
-}
-
-/* The library writes the text that the header has, if it fits, and nothing else. */
-static void check_put_text(multihash_status status)
-{
-    const char *text = multihash_status_text(status);
-    size_t need = strlen(text);
-    CHECK(multihash_put_status_text(status, NULL, 0).length == need);
-    for (size_t room = 0; room <= need + 2; room++) {
-        uint8_t out[64];
-        size_t written = room < need ? 0 : need;
-        memset(out, MARK, sizeof out);
-        multihash_encoded result = multihash_put_status_text(status, out, room);
-        CHECK(result.status == (room < need ? MULTIHASH_NO_ROOM : MULTIHASH_OK));
-        CHECK(result.length == need && result.size == 0 && memcmp(out, text, written) == 0);
-        check_marks(out + written, sizeof out - written);
+    uint8_t bytes[MULTIHASH_LENGTH_MAX] = {0};
+    size_t size = size_bytes == 1 ? 127 : 255, whole = code_bytes + size_bytes + size;
+    memset(bytes, 0xff, code_bytes + size_bytes);
+    bytes[code_bytes - 1] = 0x7f;
+    bytes[code_bytes + size_bytes - 1] = size_bytes == 1 ? 0x7f : 0x01;
+    CHECK(multihash_from_bytes(bytes, whole).digest_length == size);
+    for (size_t length = 0; length <= whole; length++) {
+        uint8_t *input = copy_of(bytes, length);
+        check_decodings(input, length, length % 2 == 0 ? SIZE_MAX : size);
+        release(input);
     }
 }
 
-static void check_put_texts(void)
+/* Each capacity from 0 to more than is needed, and each error of an encoding before those of capacities. */
+static void check_capacities(void)
 {
-    for (multihash_status i = 0; i < 300; i++) check_put_text(i);
-    for (unsigned bits = 9; bits < 32; bits++) check_put_text((uint32_t)1 << bits);
-    check_put_text(UINT32_MAX);
+    static const uint64_t codes[] = {0, 127, 128, INT64_MAX, (uint64_t)INT64_MAX + 1, UINT64_MAX};
+    static const size_t lengths[] = {0, 1, 127, 128, 255, 256, 300};
+    uint8_t digest[300];
+    for (size_t i = 0; i < sizeof digest; i++) digest[i] = (uint8_t)(7 * i + 3);
+    for (size_t i = 0; i < sizeof codes / sizeof codes[0]; i++) {
+        for (size_t k = 0; k < sizeof lengths / sizeof lengths[0]; k++) {
+            uint8_t *exact = copy_of(digest, lengths[k]);
+            for (size_t room = 0; room <= 320; room++) check_encodings(codes[i], exact, lengths[k], room);
+            release(exact);
+        }
+    }
+}
+
+static void check_lengths(void)
+{
+    for (size_t length = 0; length <= 600; length++) {
+        for (unsigned bits = 0; bits < 64; bits++) {
+            check_length(((uint64_t)1 << bits) - 1, length);
+            check_length((uint64_t)1 << bits, length);
+        }
+    }
+    check_length(0, SIZE_MAX);
+}
+
+/* Each two of these in both orders: digests that differ early or late, null, and more than an encoding has. */
+static void check_orders(void)
+{
+    static const char zeros[300] = {0};
+    static const struct value {
+        uint64_t code;
+        const char *digest;
+        size_t length;
+    } values[] = {
+        {1, NULL, 0}, {1, "ac", 2}, {2, "ab", 2}, {2, "ac", 2}, {2, "a\xff", 2},
+        {2, "b", 1}, {2, zeros, 300}, {UINT64_MAX, NULL, 0}, {UINT64_MAX, "b", 1},
+    };
+    for (size_t i = 0; i < sizeof values / sizeof values[0]; i++) {
+        for (size_t k = 0; k < sizeof values / sizeof values[0]; k++) {
+            const struct value *left = &values[i], *right = &values[k];
+            check_order(left->code, (const uint8_t *)left->digest, left->length, right->code,
+                        (const uint8_t *)right->digest, right->length);
+        }
+    }
+}
+
+static void check_texts(void)
+{
+    for (size_t room = 0; room <= 40; room++) {
+        for (multihash_status i = 0; i < 300; i++) check_text(i, room);
+        for (unsigned bits = 9; bits < 32; bits++) check_text((multihash_status)1 << bits, room);
+        check_text(UINT32_MAX, room);
+    }
 }
 
 static void check_version(void)
@@ -51,15 +88,18 @@ static void check_version(void)
 
 int main(int argc, char **argv)
 {
-    CHECK(argc == 2);
-    check_limit();
-    check_every_cut();
-    check_scale_cuts();
-    check_longest(INT64_MAX);
-    check_order();
+    CHECK(argc == 4);
+    for (size_t code_bytes = 1; code_bytes <= 9; code_bytes++) {
+        check_cuts(code_bytes, 1);
+        check_cuts(code_bytes, 2);
+    }
+    check_capacities();
     check_lengths();
-    check_put_texts();
+    check_orders();
+    check_texts();
     check_version();
     replay(argv[1]);
+    draw_inputs(strtoul(argv[2], NULL, 10), strtoul(argv[3], NULL, 10));
+    printf("drawn: %s\n", argv[3]);
     return 0;
 }

@@ -1,5 +1,5 @@
-/* The test vectors: each line's results are compared with those of the library. */
-#include "test.h"
+/* The test vectors: each line's results are compared with those of the library, and those with the models. */
+#include "check.h"
 
 #include <inttypes.h>
 
@@ -13,44 +13,32 @@ typedef struct verdict_line {
     const char *column[7];
 } verdict_line;
 
-static size_t results_compared, truncated_compared;
-
-/* The result as the test vectors write it. A field without a meaning for the status must be 0. */
+/* The result as the test vectors write it. The models have the fields that are not in it. */
 static void format(multihash_decoded found, const uint8_t *input, char *to, size_t places)
 {
     static const char *const words[] = {"?", "insufficient", "overflow", "not_minimal",
                                         "?", "?",            "unexpected_eof", "?"};
+    CHECK(found.status < sizeof words / sizeof words[0]);
     if (found.status == MULTIHASH_OK) {
-        CHECK(found.size == 0 && found.digest_offset + found.digest_length == found.taken);
         int at = snprintf(to, places, "pair %" PRIu64 " %s", found.code, found.digest_length == 0 ? "-" : "");
         for (size_t i = 0; i < found.digest_length; i++) {
             at += snprintf(to + at, places - (size_t)at, "%02x", input[found.digest_offset + i]);
         }
-        return;
-    }
-    CHECK(found.digest_offset == 0 && found.digest_length == 0);
-    if (found.status == MULTIHASH_INVALID_SIZE) {
-        CHECK(found.code == 0);
+    } else if (found.status == MULTIHASH_INVALID_SIZE) {
         snprintf(to, places, "invalid_size %" PRIu64, found.size);
-        return;
-    }
-    if (found.status == MULTIHASH_INVALID_CODE) {
-        CHECK(found.size == 0);
+    } else if (found.status == MULTIHASH_INVALID_CODE) {
         snprintf(to, places, "invalid_code %" PRIu64, found.code);
-        return;
+    } else {
+        snprintf(to, places, "%s", words[found.status]);
     }
-    CHECK(found.size == 0 && found.code == 0 && found.status < sizeof words / sizeof words[0]);
-    snprintf(to, places, "%s", words[found.status]);
 }
 
-static void check_result(multihash_decoded found, const uint8_t *input, const char *verdict,
-                         const char *taken)
+static void check_result(multihash_decoded found, const uint8_t *input, const char *verdict, const char *taken)
 {
     static char formatted[LINE_MAX_BYTES];
     format(found, input, formatted, sizeof formatted);
     CHECK(strcmp(formatted, verdict) == 0);
     if (strcmp(taken, "-") != 0) CHECK(found.taken == strtoul(taken, NULL, 10));
-    results_compared++;
 }
 
 /* Whether the result for that capacity is the result for 255 too: no digest was rejected that 255 holds. */
@@ -61,17 +49,17 @@ static int is_for_all(const char *verdict, unsigned long size)
     return size >= 255 || rejected > 255;
 }
 
-/* What reading consumes of a truncated input: all of it, or both varints if the digest is truncated. */
-static void check_truncated(multihash_decoded found, const uint8_t *input, size_t length)
+/* The bytes of a text in hexadecimal; a dash is no bytes. */
+static size_t parse_hex(const char *text, uint8_t *to, size_t places)
 {
-    if (found.status == MULTIHASH_INSUFFICIENT) {
-        CHECK(found.taken == length);
-    } else if (found.status == MULTIHASH_UNEXPECTED_EOF) {
-        CHECK(found.taken == two_varints(input, length));
-    } else {
-        return;
+    size_t length = strcmp(text, "-") == 0 ? 0 : strlen(text) / 2;
+    CHECK(length <= places);
+    for (size_t i = 0; i < length; i++) {
+        unsigned byte = 0;
+        CHECK(sscanf(text + 2 * i, "%2x", &byte) == 1);
+        to[i] = (uint8_t)byte;
     }
-    truncated_compared++;
+    return length;
 }
 
 /* Splits a line at tabs. */
@@ -91,29 +79,20 @@ static void parse_line(char *text, verdict_line *line)
     line->input_length = parse_hex(line->column[1], line->input, sizeof line->input);
 }
 
-/* Each decoding of a line, on an exact copy of the input. */
 static void check_line(const verdict_line *line)
 {
     size_t length = line->input_length;
-    uint8_t *input = exact_copy(line->input, length);
-    multihash_decoded read = multihash_read(input, length);
-    multihash_decoded whole = multihash_from_bytes(input, length);
-    multihash_decoded scale = multihash_scale_decode(input, length);
-    CHECK(read.taken <= length && whole.taken == length && scale.taken <= length);
-    multihash_decoded within = multihash_read_limit(input, length, line->size);
-    check_result(within, input, line->column[2], line->column[3]);
-    check_truncated(within, input, length);
-    check_truncated(read, input, length);
-    check_head(input, length, read);
-    check_prefixes(input, length, whole);
+    uint8_t *input = copy_of(line->input, length);
+    check_result(multihash_read_limit(input, length, line->size), input, line->column[2], line->column[3]);
     if (is_for_all(line->column[2], line->size)) {
-        check_result(read, input, line->column[2], line->column[3]);
-        check_result(whole, input, line->column[4], "-");
+        check_result(multihash_read(input, length), input, line->column[2], line->column[3]);
+        check_result(multihash_from_bytes(input, length), input, line->column[4], "-");
     }
-    if (is_for_all(line->column[5], line->size)) check_result(scale, input, line->column[5], line->column[6]);
-    if (read.status == MULTIHASH_OK) check_back(multihash_encode, input, read);
-    if (scale.status == MULTIHASH_OK) check_back(multihash_scale_encode, input, scale);
-    free(input);
+    if (is_for_all(line->column[5], line->size)) {
+        check_result(multihash_scale_decode(input, length), input, line->column[5], line->column[6]);
+    }
+    check_decodings(input, length, line->size);
+    release(input);
 }
 
 void replay(const char *name)
@@ -130,7 +109,6 @@ void replay(const char *name)
         check_line(&line);
         lines++;
     }
-    CHECK(fclose(list) == 0 && lines > 0 && truncated_compared > 0);
-    printf("%zu lines, %zu results, %zu truncated inputs, %zu heads, %zu prefixes, %zu capacities\n",
-           lines, results_compared, truncated_compared, heads_compared, prefixes_compared, rooms_tried);
+    CHECK(fclose(list) == 0 && lines > 0);
+    printf("%zu lines, ", lines);
 }

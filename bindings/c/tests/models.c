@@ -1,0 +1,235 @@
+/* The results of each call by docs/FORMAT.md, stated apart from the library, with which it is compared: each field,
+ * and each byte of a buffer. What was decoded is encoded to the same bytes, and what was encoded is decoded again. */
+#include "check.h"
+
+/* The value of each byte that a call must not write. */
+#define MARK 0xa5
+
+/* ---- the models */
+
+static multihash_decoded decoded(multihash_status status, uint64_t size, uint64_t code, size_t offset, size_t length,
+                                 size_t taken)
+{
+    multihash_decoded found = {status, size, code, offset, length, taken};
+    return found;
+}
+
+static multihash_decoded failed(multihash_status status, uint64_t size, uint64_t code, size_t taken)
+{
+    return decoded(status, size, code, 0, 0, taken);
+}
+
+static multihash_encoded encoded(multihash_status status, uint64_t size, size_t length)
+{
+    multihash_encoded made = {status, size, length};
+    return made;
+}
+
+/* The status and number of a varint. `taken` grows by its bytes, or by those that determine its error. */
+static multihash_status model_varint(const uint8_t *bytes, size_t length, uint64_t *number, size_t *taken)
+{
+    *number = 0;
+    for (size_t i = 0; i < length; i++) {
+        *taken += 1;
+        if (i == 8 && bytes[i] > 127) return MULTIHASH_OVERFLOW;
+        *number |= (uint64_t)(bytes[i] & 127) << 7 * i;
+        if (bytes[i] <= 127) return i > 0 && bytes[i] == 0 ? MULTIHASH_NOT_MINIMAL : MULTIHASH_OK;
+    }
+    return MULTIHASH_INSUFFICIENT;
+}
+
+static multihash_front model_head(const uint8_t *bytes, size_t length)
+{
+    multihash_front head = {MULTIHASH_OK, 0, 0, 0};
+    head.status = model_varint(bytes, length, &head.code, &head.taken);
+    if (head.status == MULTIHASH_OK) {
+        size_t at = head.taken;
+        head.status = model_varint(bytes + at, length - at, &head.digest_length, &head.taken);
+    }
+    if (head.status != MULTIHASH_OK) head.code = head.digest_length = 0;
+    return head;
+}
+
+/* A code, and a digest of that length at `at` in `length` bytes. */
+static multihash_decoded model_digest(uint64_t code, uint64_t digest, size_t at, size_t length)
+{
+    if (digest > length - at) return failed(MULTIHASH_UNEXPECTED_EOF, 0, 0, at);
+    return decoded(MULTIHASH_OK, 0, code, at, (size_t)digest, at + (size_t)digest);
+}
+
+/* What is read from `length` bytes, of which those at hand have the head. */
+static multihash_decoded model_read(const uint8_t *bytes, size_t present, size_t length, size_t limit)
+{
+    multihash_front head = model_head(bytes, present < length ? present : length);
+    if (head.status != MULTIHASH_OK) return failed(head.status, 0, 0, head.taken);
+    if (head.digest_length > limit || head.digest_length > MULTIHASH_DIGEST_MAX) {
+        return failed(MULTIHASH_INVALID_SIZE, head.digest_length, 0, head.taken);
+    }
+    return model_digest(head.code, head.digest_length, head.taken, length);
+}
+
+static multihash_decoded model_whole(const uint8_t *bytes, size_t present, size_t length)
+{
+    multihash_decoded found = model_read(bytes, present, length, MULTIHASH_DIGEST_MAX);
+    if (found.status == MULTIHASH_OK && found.taken < length) {
+        found = failed(MULTIHASH_INVALID_SIZE, length - found.taken, 0, length);
+    }
+    found.taken = length;
+    return found;
+}
+
+static multihash_decoded model_scale(const uint8_t *bytes, size_t length)
+{
+    uint64_t code = 0;
+    if (length < 8) return failed(MULTIHASH_UNEXPECTED_EOF, 0, 0, 0);
+    for (int i = 7; i >= 0; i--) code = code << 8 | bytes[i];
+    if (code > INT64_MAX) return failed(MULTIHASH_INVALID_CODE, 0, code, 8);
+    if (length < 9) return failed(MULTIHASH_UNEXPECTED_EOF, 0, 0, 8);
+    return model_digest(code, bytes[8], 9, length);
+}
+
+static size_t varint_length(uint64_t number)
+{
+    size_t length = 1;
+    for (; number > 127; number >>= 7) length++;
+    return length;
+}
+
+/* The result of an encoding that needs that many bytes. */
+static multihash_encoded model_encoding(uint64_t code, size_t length, size_t need, size_t room)
+{
+    if (length > MULTIHASH_DIGEST_MAX) return encoded(MULTIHASH_INVALID_SIZE, length, 0);
+    if (code > INT64_MAX) return encoded(MULTIHASH_INVALID_CODE, 0, 0);
+    return encoded(room < need ? MULTIHASH_NO_ROOM : MULTIHASH_OK, 0, need);
+}
+
+/* ---- the checks */
+
+static int same(multihash_decoded a, multihash_decoded b)
+{
+    return a.status == b.status && a.size == b.size && a.code == b.code && a.digest_offset == b.digest_offset &&
+           a.digest_length == b.digest_length && a.taken == b.taken;
+}
+
+static int same_encoded(multihash_encoded a, multihash_encoded b)
+{
+    return a.status == b.status && a.size == b.size && a.length == b.length;
+}
+
+static uint8_t *marked(size_t room)
+{
+    uint8_t *out = buffer(room);
+    if (room > 0) memset(out, MARK, room);
+    return out;
+}
+
+/* Nothing was written after the first bytes. */
+static void check_marks(const uint8_t *out, size_t written, size_t room)
+{
+    for (size_t i = written; i < room; i++) CHECK(out[i] == MARK);
+}
+
+/* Encodes into `room` bytes. The model decodes what was written to the same. */
+static void check_encoding(encoder encode, uint64_t code, const uint8_t *digest, size_t length, size_t room)
+{
+    int is_scale = encode == multihash_scale_encode;
+    size_t need = is_scale ? 9 + length : varint_length(code) + varint_length(length) + length;
+    multihash_encoded wanted = model_encoding(code, length, need, room);
+    size_t written = wanted.status == MULTIHASH_OK ? need : 0;
+    uint8_t *out = marked(room);
+    CHECK(same_encoded(encode(code, digest, length, out, room), wanted));
+    if (written > 0) {
+        multihash_decoded back = is_scale ? model_scale(out, written) : model_whole(out, written, written);
+        CHECK(same(back, decoded(MULTIHASH_OK, 0, code, need - length, length, need)));
+        CHECK(length == 0 || memcmp(out + back.digest_offset, digest, length) == 0);
+    }
+    check_marks(out, written, room);
+    release(out);
+}
+
+void check_encodings(uint64_t code, const uint8_t *digest, size_t length, size_t room)
+{
+    check_encoding(multihash_encode, code, digest, length, room);
+    check_encoding(multihash_scale_encode, code, digest, length, room);
+}
+
+void check_length(uint64_t code, size_t length)
+{
+    size_t need = varint_length(code) + varint_length(length) + length;
+    CHECK(same_encoded(multihash_encoded_len(code, length), model_encoding(code, length, need, SIZE_MAX)));
+}
+
+/* Encodes what was decoded: to the bytes that it was decoded from, with less capacity, and with more. */
+static void check_back(encoder encode, const uint8_t *bytes, multihash_decoded found)
+{
+    uint8_t out[MULTIHASH_LENGTH_MAX];
+    if (found.status != MULTIHASH_OK) return;
+    uint8_t *digest = copy_of(bytes + found.digest_offset, found.digest_length);
+    CHECK(encode(found.code, digest, found.digest_length, out, sizeof out).length == found.taken);
+    CHECK(memcmp(out, bytes, found.taken) == 0);
+    check_encoding(encode, found.code, digest, found.digest_length, 0);
+    for (size_t room = found.taken - 2; room <= found.taken + 3; room++) {
+        check_encoding(encode, found.code, digest, found.digest_length, room);
+    }
+    release(digest);
+}
+
+/* Each decoding of the bytes, and of their prefixes, also as the front of longer input. */
+void check_decodings(const uint8_t *bytes, size_t length, size_t limit)
+{
+    multihash_front head = multihash_head(bytes, length), wanted = model_head(bytes, length);
+    CHECK(head.status == wanted.status && head.code == wanted.code);
+    CHECK(head.digest_length == wanted.digest_length && head.taken == wanted.taken);
+    CHECK(same(multihash_from_bytes(bytes, length), model_whole(bytes, length, length)));
+    CHECK(same(multihash_read_limit(bytes, length, limit), model_read(bytes, length, length, limit)));
+    CHECK(same(multihash_scale_decode(bytes, length), model_scale(bytes, length)));
+    CHECK(same(multihash_from_prefix(bytes, length, length + 300), model_whole(bytes, length, length + 300)));
+    for (size_t part = 0; part <= length; part++) {
+        CHECK(same(multihash_read(bytes, part), model_read(bytes, part, part, MULTIHASH_DIGEST_MAX)));
+        CHECK(same(multihash_from_prefix(bytes, part, length), model_whole(bytes, part, length)));
+        CHECK(same(multihash_from_prefix(bytes, length, part), model_whole(bytes, length, part)));
+    }
+    check_back(multihash_encode, bytes, multihash_read(bytes, length));
+    check_back(multihash_scale_encode, bytes, multihash_scale_decode(bytes, length));
+}
+
+void check_order(uint64_t code, const uint8_t *left, size_t left_length, uint64_t other_code, const uint8_t *right,
+                 size_t right_length)
+{
+    int order = code != other_code ? (code < other_code ? -1 : 1) : left_length < right_length ? -1 : 1;
+    if (code == other_code && left_length == right_length) {
+        order = left_length == 0 ? 0 : memcmp(left, right, left_length);
+    }
+    CHECK(multihash_compare(code, left, left_length, other_code, right, right_length) == (order > 0) - (order < 0));
+}
+
+/* The library writes the text that the header has, if it fits. */
+void check_text(multihash_status status, size_t room)
+{
+    const char *text = multihash_status_text(status);
+    size_t need = strlen(text), written = room < need ? 0 : need;
+    uint8_t *out = marked(room);
+    CHECK(same_encoded(multihash_put_status_text(status, out, room), model_encoding(0, 0, need, room)));
+    CHECK(written == 0 || memcmp(out, text, written) == 0);
+    check_marks(out, written, room);
+    release(out);
+}
+
+/* All of this: the bytes are what is decoded, and a digest. A copy of them differs in one bit, which the code says. */
+void check_input(uint64_t code, const uint8_t *bytes, size_t length, size_t limit)
+{
+    size_t half = length / 2, room = length + limit % 24;
+    check_decodings(bytes, length, limit);
+    check_length(code, length);
+    check_encodings(code, bytes, length, room);
+    check_encodings(code, bytes, length, limit);
+    check_text((multihash_status)code, room % 40);
+    if (length == 0) return;
+    uint8_t *other = copy_of(bytes, length);
+    check_order(code, bytes, half, code, bytes + half, length - half);
+    check_order(code, bytes, length, code ^ code << 7, other, length);
+    other[code % length] ^= (uint8_t)(1u << limit % 8);
+    check_order(code, bytes, length, code, other, length);
+    check_order(code, bytes, length, code, other, length - 1);
+    release(other);
+}
