@@ -4,7 +4,7 @@
 # valgrind, with all warnings as errors; and runs the examples.
 # shellcheck source=checks/lib/tap.sh
 . "$(dirname "$0")/lib/tap.sh"
-plan 33
+plan 32
 set -o pipefail
 # shellcheck source=checks/lib/proved.sh
 . checks/lib/proved.sh
@@ -149,12 +149,6 @@ on_old_processor() {
     -O2 -static "${tests[@]}" "$library"
 }
 
-# The calls that are counted for docs/SPEED.md compile too.
-counted_calls() {
-  cc "${c_flags[@]}" -O2 -I "$c/include" "$c/tests/count.c" "$library" -o "$work/count" &&
-    "$work/count" read_34 10
-}
-
 # C by hand, which is counted beside the library, has the same results.
 by_hand() {
   build_and_run "$1" "" cc "${c_flags[@]}" -O2 "$c/tests/$1.c" "${tests[@]}"
@@ -209,7 +203,7 @@ stream_example() {
 
 # ---- all of it
 
-has 33 cc python3 rt || exit 0
+has 32 cc python3 rt || exit 0
 try "static library" build_library
 try "the prebuilt archives" prebuilt_archives
 try "a planted archive of them" rejects "aarch64/libmultihash_c.a differ: byte 10000" planted_prebuilt
@@ -217,7 +211,6 @@ has 9 nm objdump ar && look_at_library
 test_compilers
 has 1 valgrind && try valgrind under_valgrind
 has 1 qemu-x86_64 && try "a processor of the baseline" on_old_processor
-try "the counted calls" counted_calls
 try "C by hand" by_hand plain
 try "fast C by hand" by_hand fast
 try "what is planted in C by hand" planted_in_c

@@ -5,31 +5,32 @@
 . "$(dirname "$0")/lib/tap.sh"
 plan 7
 set -o pipefail
+archive=$PWD/bindings/c/prebuilt/$(uname -m)/libmultihash_c.a
 version=$(sed -n 's/^#define MULTIHASH_VERSION "\([0-9.]*\)"$/\1/p' bindings/c/include/multihash.h)
 
 # Runs a command of Cargo for the packages for Rust; what is set comes first.
 in_crate() {
-  env -u MULTIHASH_C_LIB_DIR RUSTFLAGS="-D warnings" RUSTDOCFLAGS="-D warnings" \
-    bindings/rust/offline.sh "$work" "$@"
+  env -u MULTIHASH_C_LIB_DIR -u MULTIHASH_C_SYSTEM -u CC -u CFLAGS KEEP=1 RUSTFLAGS="-D warnings" \
+    RUSTDOCFLAGS="-D warnings" bindings/rust/offline.sh "$work" "$@"
 }
 
-# The crate over C has the header's version. The tests pass with and without features, the pages have no warnings.
-# Without default features neither crate has one.
+# The tests pass with and without features, the pages have no warnings.
 rust_binding() {
-  in_crate cargo tree -p multihash --no-default-features -e normal -f "{p} [{f}]" > "$work/tree" || return 1
-  [ "$(grep -c ' \[\]$' "$work/tree")" = 2 ] || { cat "$work/tree"; return 1; }
-  grep -qx "version = \"$version\"" bindings/rust/multihash_c/Cargo.toml && in_crate cargo doc --no-deps &&
-    in_crate cargo test --no-default-features && in_crate cargo test --no-default-features --features alloc &&
-    in_crate cargo test
+  in_crate cargo doc --no-deps && in_crate cargo test --no-default-features &&
+    in_crate cargo test --no-default-features --features alloc && in_crate cargo test
 }
 
-# A clone without archives has the portable source, which another compiler can build too, also for a target without a
-# C library, for which Rust's core is not installed here. A big-endian machine gets it too.
+# A clone without archives has the portable source, each file of which is watched. Another compiler can build it too,
+# also for a target without a C library, for which Rust's core is not installed here. A big-endian machine gets it too.
 rust_source() {
-  local folder=$work/repository target flags
-  mv "$folder/bindings/c/prebuilt" "$work/kept" && in_crate cargo test && in_crate cargo clean -p multihash_c &&
-    rejects "no-compiler" in_crate CC=no-compiler cargo build &&
-    mv "$work/kept" "$folder/bindings/c/prebuilt" || return 1
+  local c=$work/repository/bindings/c target flags file
+  mv "$c/prebuilt" "$work/kept" && in_crate cargo test || return 1
+  for file in "$c"/src/*.[ch] "$c"/include/*; do
+    cp -p "$file" "$work/file" && echo '#error planted' >> "$file" && rejects "#error planted" in_crate cargo build &&
+      cp -p "$work/file" "$file" || return 1
+  done
+  in_crate cargo clean -p multihash_c && rejects "no-compiler" in_crate CC=no-compiler cargo build &&
+    mv "$work/kept" "$c/prebuilt" || return 1
   [ -n "$(type -P clang)" ] || return 0
   for target in thumbv7em-none-eabi wasm32-unknown-unknown aarch64_be-unknown-linux-gnu; do
     flags=
@@ -40,9 +41,11 @@ rust_source() {
   done
 }
 
-# What is packed needs no repository: it has the archives, and else the portable source.
+# What is packed is of the repository, not of an earlier copy, and needs none: it has the archives, else the portable
+# source.
 rust_packed() {
   local packed=$work/packed package
+  echo 'compile_error!("an earlier copy");' >> "$work/repository/bindings/rust/multihash/src/lib.rs"
   bindings/rust/pack.sh "$work" && mkdir "$packed" || return 1
   for package in multihash-0.19.5 "multihash_c-$version"; do
     tar xf "$work/target/package/$package.crate" -C "$packed" && cmp LICENSE "$packed/$package/LICENSE" || return 1
@@ -55,8 +58,8 @@ rust_packed() {
     in_crate cargo test --manifest-path "$packed/multihash-0.19.5/Cargo.toml"
 }
 
-# The line of the pages replaces upstream's package by this one in a whole dependency graph, after an update if a
-# Cargo.lock names another version. A crate that asks for an absent feature is an error, and does not undo this.
+# The line of the pages replaces upstream's package by this one in a whole dependency graph. A crate that asks for an
+# absent feature is an error, and does not undo this.
 rust_switch() {
   in_crate cargo test --manifest-path switch/Cargo.toml &&
     in_crate cargo build --manifest-path switch/client/Cargo.toml --no-default-features || return 1
@@ -64,30 +67,6 @@ rust_switch() {
   for feature in scale-codec arb; do
     rejects "see its README" in_crate cargo build -p multihash --features "$feature" || return 1
   done
-  rust_locked
-}
-
-# The same in a program whose Cargo.lock names an empty package multihash 0.19.6, in a registry beside Debian's crates.
-rust_locked() {
-  local program=$work/repository/bindings/rust/locked registry=$work/registry
-  local stub=$registry/multihash-0.19.6 here=(CARGO_HOME="$work/locked" cargo)
-  mkdir -p "$stub/src" "$work/locked" &&
-    ln -s "$(sed -n 's/^directory = "\(.*\)"/\1/p' "$work/cargo/config.toml")"/* "$registry" &&
-    sed "s|^directory = .*|directory = \"$registry\"|" "$work/cargo/config.toml" > "$work/locked/config.toml" ||
-    return 1
-  : > "$stub/src/lib.rs"
-  echo '{"files":{}}' > "$stub/.cargo-checksum.json"
-  printf '[package]\nname = "multihash"\nversion = "0.19.6"\n[features]\nstd = []\nalloc = []\n' > "$stub/Cargo.toml"
-  printf 'serde-codec = []\n' >> "$stub/Cargo.toml"
-  cp -r "$work/repository/bindings/rust/switch" "$program" && rm -f "$program/Cargo.lock" &&
-    sed -i '/^\[patch/,/^$/d' "$program/Cargo.toml" &&
-    in_crate "${here[@]}" generate-lockfile --manifest-path "$program/Cargo.toml" &&
-    grep -A1 'name = "multihash"' "$program/Cargo.lock" | grep 0.19.6 || return 1
-  cp "$work/repository/bindings/rust/switch/Cargo.toml" "$program"
-  in_crate "${here[@]}" tree --manifest-path "$program/Cargo.toml" -i multihash | grep -x 'multihash v0.19.6' &&
-    in_crate "${here[@]}" update --manifest-path "$program/Cargo.toml" -p multihash &&
-    in_crate "${here[@]}" tree --manifest-path "$program/Cargo.toml" -i multihash | grep '^multihash v0.19.5 (/' &&
-    in_crate "${here[@]}" test --manifest-path "$program/Cargo.toml"
 }
 
 rust_serde() {
@@ -105,7 +84,7 @@ rust_lints() {
 # library that pkg-config does not find.
 rust_build() {
   local directory=$work/$'a \xff directory'
-  mkdir -p "$directory" && cp bindings/c/prebuilt/x86_64/libmultihash_c.a "$directory" &&
+  mkdir -p "$directory" && cp "$archive" "$directory" &&
     in_crate MULTIHASH_C_LIB_DIR="$directory" cargo test -p multihash_c && rm "$directory"/* &&
     rejects "libmultihash_c.a: No such file" in_crate MULTIHASH_C_LIB_DIR="$directory" cargo build &&
     rejects "not an absolute path" in_crate MULTIHASH_C_LIB_DIR=prebuilt cargo build &&
@@ -116,7 +95,7 @@ has 7 cc cargo rustc=1.82+ "/usr/share/cargo/registry/"{cc-1,pkg-config-0.3,serd
 try "the tests" rust_binding
 try "the portable source" rust_source
 try "the packed packages" rust_packed
-try "the build script" rust_build
+has 1 "$archive" && try "the build script" rust_build
 try "the switch from upstream's package" rust_switch
 try serde rust_serde
 has 1 cargo-clippy && try lints rust_lints

@@ -16,7 +16,7 @@ to=
 if [ $# = 2 ]; then mkdir -p "$2" && to=$(readlink -f "$2") || exit 2; fi
 # shellcheck source=checks/lib/tap.sh
 . "$here/../../checks/lib/tap.sh"
-plan 18
+plan 17
 set -o pipefail
 to=${to:-$work}
 header=$PWD/bindings/c/include/multihash.h
@@ -53,11 +53,6 @@ looks_at_archive() {
   archive_with 'int pthread_detach(unsigned long); int multihash_version(void) { return pthread_detach(0); }' &&
     rejects "pack.sh: the module needs GLIBC_2.34" "$here/pack.sh" "$to/wrong" "$to/other/libmultihash_c.a" &&
     [ -z "$(find "$to/wrong" -name '*.whl')" ]
-}
-
-for_aarch64() {
-  "$here/pack.sh" "$to/arm" "$here/../c/prebuilt/aarch64/libmultihash_c.a" &&
-    ls "$to"/arm/*-cp38-abi3-manylinux2014_aarch64.whl
 }
 
 # Installs what is named without a network, the kit, or a package that builds, in place of what was installed.
@@ -163,13 +158,12 @@ types() {
     grep 'Found 5 errors' wrong.log
 }
 
-has 18 cc "$PYTHON" || exit 0
+has 17 cc "$PYTHON" || exit 0
 "$PYTHON" -c 'import build, setuptools, venv, wheel' 2> "$work/log" ||
-  { leave_out "build, setuptools, venv or wheel is not installed" 18 && exit 0; }
+  { leave_out "build, setuptools, venv or wheel is not installed" 17 && exit 0; }
 try "the sdist and the wheel, built twice" builds
 try "the module without warnings" without_warnings
 has 1 objcopy ar && try "archives" looks_at_archive
-has 1 aarch64-linux-gnu-gcc && try "the wheel for aarch64" for_aarch64
 try "an environment" "$PYTHON" -m venv --clear --system-site-packages "$to/venv"
 try "the wheel, installed" imports "$to"/dist/*.whl
 try "the tests" unit_tests "$here/tests"

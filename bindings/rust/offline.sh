@@ -5,14 +5,15 @@
 #   bindings/rust/offline.sh WORK [NAME=VALUE ...] cargo COMMAND [WORD ...]
 #
 # WORK is a folder for the copy, WORK/repository/bindings/rust. Beside it is what the build script takes from the
-# repository: the archives and the portable source.
+# repository: the archives and the portable source. An earlier copy is used only with KEEP=1.
 set -euo pipefail
 top=$(readlink -f "$(dirname "$(readlink -f "$0")")/../..")
 work=$(readlink -f "$1")
 copy=$work/repository
 shift
 
-if [ ! -d "$copy" ]; then
+if [ "${KEEP-}" != 1 ] || [ ! -d "$copy" ]; then
+  rm -rf "$copy"
   mkdir -p "$copy" "$work/cargo"
   tar -c --exclude=target --exclude=Cargo.lock --exclude=build -C "$top" crates.txt bindings/rust \
     bindings/c/{include,prebuilt,src} | tar -x -C "$copy"

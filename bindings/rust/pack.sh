@@ -16,4 +16,4 @@ for licence in "${licences[@]}"; do cp "$here/../../LICENSE" "$licence"; done
 cp -r "$copy"/bindings/c/prebuilt/* "$package/prebuilt"
 cp "$copy"/bindings/c/{src/{multihash.c,module.h,memory.h},include/multihash.h} \
   "$package/portable"
-"$here/offline.sh" "$work" cargo package --workspace --exclude-lockfile --no-verify
+KEEP=1 "$here/offline.sh" "$work" cargo package --workspace --exclude-lockfile --no-verify

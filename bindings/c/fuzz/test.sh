@@ -1,6 +1,6 @@
 #!/usr/bin/env bash
-# Runs the fuzz target, which finds nothing, and over two planted bugs, which it finds, but the test vectors do not.
-# Needs Clang.
+# Runs the fuzz target, which finds nothing, and over a planted bug, which it finds, but the test vectors do not. Needs
+# Clang.
 set -euo pipefail
 cd "$(dirname "$(readlink -f "${BASH_SOURCE[0]}")")"
 unset CC CXX CFLAGS LIB_FUZZING_ENGINE SOURCE WORK
@@ -33,6 +33,3 @@ fuzz plain 20000 || { cat "$work/log"; exit 1; }
 grep -x 'Done 20000 runs in .*' "$work/log"
 finds result '/w2c_multihash_from_bytes(/s/bytes_length)/bytes_length - (bytes_length > 281))/' \
   "not so: same(multihash_from_bytes(bytes, length), "
-beyond='bytes_length > 281 ? bytes[bytes_length] == 1'
-finds read "/^multihash_decoded multihash_from_bytes/,/^}/s/= ANY/= $beyond : ANY/" \
-  "AddressSanitizer: heap-buffer-overflow"

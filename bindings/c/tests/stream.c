@@ -110,20 +110,6 @@ static void check_end(size_t cut)
     CHECK(close(ends_of[0]) == 0 && close(more[0]) == 0);
 }
 
-/* Byte by byte: a multihash is returned at its last byte, and not before. */
-static void check_bytes(void)
-{
-    int ends_of[2];
-    size_t at = 0;
-    open_pipe(ends_of, whole, 0);
-    stream from = {.descriptor = ends_of[0], .limit = LIMIT};
-    for (size_t i = 0; i < whole_length; i++) {
-        CHECK(write(ends_of[1], whole + i, 1) == 1);
-        CHECK(read_on(&from, &at) == STREAM_FAILED && at == items_in(i + 1));
-    }
-    CHECK(close(ends_of[0]) == 0 && close(ends_of[1]) == 0);
-}
-
 /* What follows a multihash stays in the pipe. */
 static void check_rest(void)
 {
@@ -181,7 +167,6 @@ int main(void)
     put_together();
     for (size_t cut = 0; cut <= whole_length; cut++) check_pause(cut);
     for (size_t cut = 0; cut <= whole_length; cut++) check_end(cut);
-    check_bytes();
     check_rest();
     check_interrupted();
     check_rejected("\x12\x41\x07\x07", 4, MULTIHASH_INVALID_SIZE, 65, 2);

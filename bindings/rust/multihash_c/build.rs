@@ -75,7 +75,7 @@ fn link_installed() {
 fn compile() {
     let source = shipped("portable", "src");
     let headers = shipped("portable", "include");
-    println!("cargo:rerun-if-changed={}", source.display());
+    println!("cargo:rerun-if-changed={}\ncargo:rerun-if-changed={}", source.display(), headers.display());
     let mut build = cc::Build::new();
     build.file(source.join("multihash.c")).include(headers).opt_level(2).warnings(false);
     build.flag(if build.get_compiler().is_like_msvc() { "/std:c11" } else { "-std=c11" });

@@ -1,0 +1,280 @@
+#!/usr/bin/env python3
+"""Compares a release with its source: the files of each package, with owners and modes; each field that describes a
+package; checksums and the bill of materials.
+
+    checks/lib/packed.py RELEASE SOURCE    SOURCE is the clone that the release was made of
+
+A field's value is mostly a fact of another file, else it stands here, or a pattern does. Prints what differs.
+"""
+import email.parser
+import hashlib
+import json
+import re
+import subprocess
+import sys
+import tarfile
+import tomllib
+import zipfile
+from collections.abc import Iterator
+from pathlib import Path
+from typing import Any
+
+RELEASE, SOURCE = map(Path, sys.argv[1:])
+Fields = dict[str, Any]
+
+
+def fact(form: str, name: str) -> str:
+    """The group of a form that a file of the source has once."""
+    found = re.findall(form, (SOURCE / name).read_text("utf-8"), re.M)
+    return str(found[0]) if len(found) == 1 else sys.exit("not there once: " + form)
+
+
+VERSION = fact(r'^#define MULTIHASH_VERSION "(.*)"$', "bindings/c/include/multihash.h")
+DATE = fact(rf"^{re.escape(VERSION)} \(([\d-]+)\)$", "CHANGES")
+UPSTREAM = fact(r"This one ports the Rust crate `multihash` (\S+)\. ", "README.md")
+LICENCE, HOLDER = fact(r"\A(\S+) License$", "LICENSE"), fact(r"^Copyright \(c\) \d{4} (.*)$", "LICENSE")
+CMAKE, NODE, PYTHON, RUST = (
+    fact(rf"\| {name} ([\d.]+)\b", "README.md") for name in ("CMake", "Node.js", "CPython", "Rust")
+)
+MAINTAINER, HOMEPAGE, REPOSITORY = (
+    fact(rf"^{name}=(.*)$", "tools/owner") or None for name in ("maintainer", "homepage", "repository")
+)
+FILES = subprocess.check_output(["git", "-C", SOURCE, "ls-files", "-s"], text=True).splitlines()
+EXECUTABLE = {line.partition("\t")[2]: line.startswith("100755") for line in FILES}
+TEXT = re.compile(r"[A-Z].*|library for [\s\S]*")
+WORDS = re.compile(r"(?=.*\bmultihash\b)[\w, '\[\]-]*\bmultiformats\b.*\bverified\b.*")
+ANY = re.compile(r"(?s).+")
+
+
+def below(folder: str, to: str = "", without: str = "$^") -> set[str]:
+    """The files of a folder of the source, as they are in a package."""
+    paths = (path[len(folder) :] for path in EXECUTABLE if path.startswith(folder))
+    return {to + path for path in paths if not re.search(without, path)}
+
+
+def members(name: str) -> Iterator[tuple[str, str]]:
+    """The files of an archive, by their paths in the package, with what is wrong with the owner or the mode."""
+    if name.endswith(".whl"):
+        yield from ((path, "") for path in zipfile.ZipFile(RELEASE / name).namelist())
+        return
+    for each in tarfile.open(RELEASE / name):
+        path = each.name.partition("/")[2]
+        is_program = path.endswith("examples/test.sh") or name == f"multihash-{VERSION}.tar.gz" and EXECUTABLE.get(path)
+        wanted = each.mode if each.issym() else 0o755 if each.isdir() or is_program else 0o644
+        wrong = "" if (each.uid, each.gid, each.mode) == (0, 0, wanted) else f"{each.uid} {each.gid} {each.mode:o}"
+        if wrong or not each.isdir():
+            yield path, wrong
+
+
+def content(name: str, path: str) -> str:
+    if name.endswith(".whl"):
+        return zipfile.ZipFile(RELEASE / name).read(path).decode()
+    file = tarfile.open(RELEASE / name).extractfile(path)
+    return file.read().decode() if file else sys.exit(f"{name}: no {path}")
+
+
+def files() -> dict[str, set[str] | None]:
+    """The files of a release, with those that each has to have; checks/release.t knows the others'."""
+    common, cargo = {"LICENSE", "README.md"}, {"Cargo.toml", "Cargo.toml.orig"}
+    source = {"multihash.c", "multihash.h"}
+    portable = {f"portable/{name}" for name in source | {"memory.h", "module.h"}} | {"LICENSE"}
+    egg = {f"verified_multihash.egg-info/{part}.txt" for part in ("SOURCES", "dependency_links", "top_level")}
+    egg |= {"verified_multihash.egg-info/PKG-INFO", "PKG-INFO", "setup.cfg", "tests/not_shown.txt"}
+    info = {f"verified_multihash-{VERSION}.dist-info/{part}" for part in "LICENSE METADATA RECORD WHEEL".split()}
+    info |= {f"verified_multihash-{VERSION}.dist-info/top_level.txt", "verified_multihash/_core.abi3.so"}
+    wanted: dict[str, set[str] | None] = {
+        "SHA256SUMS": None,
+        f"multihash-{VERSION}.spdx.json": None,
+        f"multihash-{VERSION}.tar.gz": {*EXECUTABLE},
+        f"multihash_c-{VERSION}-source.tar.gz": common | source,
+        f"verified-multihash-{VERSION}.tgz": below("bindings/js/", "", r"^(test|demo)/|^beside_|\.sh$"),
+        f"multihash-{UPSTREAM}.crate": common | cargo | below("bindings/rust/multihash/"),
+        f"multihash_c-{VERSION}.crate": cargo
+        | portable
+        | below("bindings/rust/multihash_c/")
+        | below("bindings/c/prebuilt/", "prebuilt/"),
+        f"verified_multihash-{VERSION}.tar.gz": egg
+        | portable
+        | below("bindings/python/", "", r"^beside_|\.sh$")
+        | {"tests/verdicts.tsv"},
+    }
+    for machine, architecture in (("x86_64", "amd64"), ("aarch64", "arm64")):
+        wheel = below("bindings/python/verified_multihash/", "verified_multihash/") | info
+        wanted[f"verified_multihash-{VERSION}-cp38-abi3-manylinux2014_{machine}.whl"] = wheel
+        wanted[f"multihash_c-{VERSION}-{machine}.tar.gz"] = None
+        wanted.update({f"libmultihash-c{part}_{VERSION}-1_{architecture}.deb": None for part in (VERSION[0], "-dev")})
+    return wanted
+
+
+def file_errors() -> Iterator[str]:
+    wanted, found = files(), {path.name: path for path in sorted(RELEASE.iterdir())}
+    if {*found} != {*wanted}:
+        yield f"the files of the release: {sorted({*found} ^ {*wanted})}"
+    sums = (f"{hashlib.sha256(path.read_bytes()).hexdigest()}  {name}\n" for name, path in found.items())
+    if (RELEASE / "SHA256SUMS").read_text() != "".join(each for each in sums if not each.endswith(" SHA256SUMS\n")):
+        yield "SHA256SUMS"
+    for name in sorted({*found} & {*wanted}):
+        if name.endswith((".crate", ".gz", ".tgz", ".whl")):
+            of_it = dict(members(name))
+            differing = {*of_it} ^ (wanted[name] or {*of_it})
+            yield from (f"{name}: {path}: {wrong}" for path, wrong in of_it.items() if wrong)
+            yield from (f"{name}: {path} is there, or is not" for path in sorted(differing))
+
+
+def npm() -> Fields:
+    folder = SOURCE / "bindings/js"
+    names = {path.name.removesuffix(".d.ts") for path in folder.glob("*.d.ts")}
+    entries = {name: {"types": f"./{name}.d.ts", "default": f"./{name}.js"} for name in names}
+    exports: Fields = {"." if name == "index" else f"./{name}": entry for name, entry in entries.items()}
+    exports |= {path: path for path in ("./multihash.wasm", "./package.json")}
+    connecting = (path for path in folder.glob("*.js") if re.search(r"(?m)^(await )?connect\w*\(", path.read_text()))
+    fields = {"name": "verified-multihash", "version": VERSION, "description": TEXT, "keywords": WORDS}
+    fields |= {"license": LICENCE, "repository": REPOSITORY, "author": HOLDER, "type": "module", "exports": exports}
+    fields |= {"types": "./index.d.ts", "files": ANY, "engines": {"node": f">={NODE}"}}
+    return fields | {"sideEffects": sorted(f"./{path.name}" for path in connecting)}
+
+
+def crate(name: str, version: str) -> Fields:
+    package: Fields = {"name": name, "version": version, "edition": "2021", "rust-version": RUST, "license": LICENCE}
+    package |= {"repository": REPOSITORY, "description": TEXT, "readme": "README.md", "keywords": WORDS}
+    package |= {f"auto{kind}": False for kind in ("lib", "bins", "examples", "tests", "benches")}
+    features: Fields = {"default": ["std"], "std": ["alloc"], "alloc": []}
+    fields = {"package": package, "features": features, "lib": ANY, "test": ANY}
+    if name == "multihash_c":
+        package |= {"include": ANY, "categories": ["encoding", "external-ffi-bindings", "no-std"]}
+        package |= {"build": "build.rs", "links": name}
+        return fields | {"build-dependencies": {"cc": {"version": "1"}, "pkg-config": {"version": "0.3"}}}
+    package |= {"include": ANY, "categories": ["encoding", "no-std"], "build": False, "publish": False}
+    features |= {"serde": ["dep:serde"], "serde-codec": ["serde"], "scale-codec": [], "arb": []}
+    plain: Fields = {"default-features": False}
+    needed = {"multihash_c": plain | {"version": VERSION}, "serde": plain | {"version": "1", "optional": True}}
+    return fields | {"dependencies": needed, "dev-dependencies": {"serde_json": {"version": "1"}}}
+
+
+def python() -> Fields:
+    classes = ("Programming Language :: Python :: 3", "Programming Language :: Python :: Implementation :: CPython")
+    fields: Fields = {"Metadata-Version": ANY, "Name": "verified-multihash", "Version": VERSION, "Summary": TEXT}
+    fields |= {"Author": HOLDER, "License": LICENCE, "License-File": "LICENSE", "Keywords": WORDS}
+    fields |= {"Classifier": [*classes, "Typing :: Typed"], "Requires-Python": f">={PYTHON}"}
+    return fields | {"Description-Content-Type": "text/markdown"}
+
+
+def debian(package: str, architecture: str) -> Fields:
+    depends: Any = re.compile(r"libc6(:arm64)? \(>= [\d.]+\)"), f"libmultihash-c{VERSION[0]} (= {VERSION}-1)"
+    is_dev = package.endswith("-dev")
+    fields: Fields = {"Package": package, "Source": "multihash-c", "Version": f"{VERSION}-1"}
+    fields |= {"Architecture": architecture, "Maintainer": MAINTAINER, "Homepage": HOMEPAGE, "Installed-Size": ANY}
+    fields |= {"Depends": depends[is_dev], "Section": "libdevel" if is_dev else "libs", "Priority": "optional"}
+    return fields | {"Multi-Arch": "same", "Description": TEXT}
+
+
+def headers(text: str) -> Fields:
+    """The fields of a package for Python or Debian, or of a file for pkg-config."""
+    found = email.parser.HeaderParser().parsestr(text)
+    values: dict[str, list[str]] = {name: found.get_all(name, []) for name in found}
+    return {name: of_it[0] if len(of_it) == 1 else of_it for name, of_it in values.items()}
+
+
+def fields() -> Iterator[tuple[str, Fields, Fields]]:
+    """The fields of each package, and those that it has to have."""
+    required = fact(r"^cmake_minimum_required\(VERSION ([\d.]+)\)$", "CMakeLists.txt")
+    yield "CMakeLists.txt", {"version": required}, {"version": CMAKE}
+    name = f"verified-multihash-{VERSION}.tgz"
+    yield name, json.loads(content(name, "package/package.json")), npm()
+    for package, version in (("multihash", UPSTREAM), ("multihash_c", VERSION)):
+        name = f"{package}-{version}"
+        yield name, tomllib.loads(content(f"{name}.crate", f"{name}/Cargo.toml")), crate(package, version)
+    name = f"verified_multihash-{VERSION}"
+    yield name, headers(content(f"{name}.tar.gz", f"{name}/PKG-INFO")), python()
+    for machine, architecture in (("x86_64", "amd64"), ("aarch64", "arm64")):
+        tag = f"cp38-abi3-manylinux2014_{machine}"
+        wheel, info = f"{name}-{tag}.whl", f"{name}.dist-info"
+        yield wheel, headers(content(wheel, f"{info}/METADATA")), python()
+        built: Fields = {"Wheel-Version": "1.0", "Generator": ANY, "Root-Is-Purelib": "false", "Tag": tag}
+        yield wheel, headers(content(wheel, f"{info}/WHEEL")), built
+        for package in (f"libmultihash-c{VERSION[0]}", "libmultihash-c-dev"):
+            file = RELEASE / f"{package}_{VERSION}-1_{architecture}.deb"
+            yield file.name, headers(subprocess.getoutput(f"dpkg-deb -f '{file}'")), debian(package, architecture)
+        folder = f"multihash_c-{VERSION}-{machine}"
+        text = content(f"{folder}.tar.gz", f"{folder}/lib/pkgconfig/multihash_c.pc").partition("\n\n")[2]
+        pc: Fields = {"Name": "multihash_c", "Description": TEXT, "URL": ANY, "Version": VERSION}
+        flags = {"Cflags": "-I${includedir}", "Libs": "-L${libdir} -lmultihash_c"}
+        yield f"{folder}: multihash_c.pc", headers(text), pc | flags
+
+
+def field_errors(name: str, found: Any, wanted: Any) -> Iterator[str]:
+    """A field too few or too many, and each value that differs; the order of conditions of exports counts."""
+    if isinstance(found, dict) and isinstance(wanted, dict) and {*wanted} != {"types", "default"}:
+        for field in sorted({*found, *wanted}):
+            yield from field_errors(f"{name}: {field}", found.get(field), wanted.get(field))
+    elif isinstance(wanted, re.Pattern):
+        if not found or not wanted.fullmatch(str(found)):
+            yield f"{name}: {found!r} is not as {wanted.pattern!r}"
+    elif json.dumps(found) != json.dumps(wanted):
+        yield f"{name}: {found!r}, and not {wanted!r}"
+
+
+def made_of(name: str) -> set[str]:
+    """What the kit made of a file of the release, by the bill of materials."""
+    archives = {f"bindings/c/prebuilt/{machine}/libmultihash_c.a" for machine in ("x86_64", "aarch64")}
+    source = {"bindings/c/src/module.h"}
+    if machine := re.search(r"x86_64|amd64|aarch64|arm64", name):
+        return {path for path in archives if ("x86" in path) == (machine[0] in ("x86_64", "amd64"))}
+    if name == f"multihash_c-{VERSION}.crate":
+        return archives | source
+    if name in (f"verified_multihash-{VERSION}.tar.gz", f"multihash_c-{VERSION}-source.tar.gz"):
+        return source
+    return {"bindings/js/multihash.wasm"} if name.endswith(".tgz") else set()
+
+
+TOOLS = {"cc", "aarch64-linux-gnu-gcc", "ld", "cmake", "dpkg-buildpackage", "cargo", "npm", "tar", "gzip", "debhelper"}
+TOOLS |= {"python", "build", "setuptools", "wheel", "wasm2c", "wasm-opt"}
+
+
+def material_errors() -> Iterator[str]:
+    """The bill has each file with its checksum and what the kit made of it, the kit, and the tools."""
+    path = RELEASE / f"multihash-{VERSION}.spdx.json"
+    bill = json.loads(path.read_text())
+    rows, relations = bill.pop("packages"), bill.pop("relationships")
+    creators = [f"Organization: {HOLDER}", f"Tool: tools/release-{VERSION}"]
+    about: Fields = {"spdxVersion": "SPDX-2.3", "dataLicense": "CC0-1.0", "SPDXID": "SPDXRef-DOCUMENT"}
+    about |= {"name": f"multihash-{VERSION}", "creationInfo": {"created": f"{DATE}T00:00:00Z", "creators": creators}}
+    about |= {"documentNamespace": re.compile(rf"https://spdx.org/spdxdocs/multihash-{VERSION}-[0-9a-f]{{32}}")}
+    yield from field_errors(path.name, bill, about)
+    names = {each["SPDXID"]: each["name"] for each in rows}
+    keys = ("spdxElementId", "relationshipType", "relatedSpdxElement")
+    related = [tuple(each[key] for key in keys) for each in relations]
+    if {end for left, _, right in related for end in (left, right)} != {*names, "SPDXRef-DOCUMENT"}:
+        yield f"{path.name}: relations"
+    made = {(names[left], names[right]) for left, kind, right in related if kind == "GENERATED_FROM"}
+    release = {name for name in names.values() if name.startswith("bindings/")}
+    if made != {(name, of) for name in files() for of in made_of(name)} | {
+        (of, f"multihash-{VERSION}") for of in release
+    }:
+        yield f"{path.name}: what the kit made"
+    tools = {*names.values()} - release - {*files()} - {f"multihash-{VERSION}"}
+    if tools != {*TOOLS, fact("`(rattle-kit-[^`]*)`", "README.md")} or not all(each["versionInfo"] for each in rows):
+        yield f"{path.name}: tools {sorted(tools)}"
+    described = {each["name"]: each for each in rows}
+    of_all: Fields = {"SPDXID": ANY, "downloadLocation": "NOASSERTION", "filesAnalyzed": False}
+    of_all |= {"primaryPackagePurpose": "ARCHIVE", "licenseConcluded": LICENCE, "licenseDeclared": LICENCE}
+    of_all |= {"copyrightText": re.compile(f"Copyright .* {HOLDER}")}
+    for name in sorted({*files()} - {path.name, "SHA256SUMS"}):
+        digest = hashlib.sha256((RELEASE / name).read_bytes()).hexdigest()
+        own: Fields = {"name": name, "packageFileName": name, "versionInfo": VERSION}
+        own |= {"checksums": [{"algorithm": "SHA256", "checksumValue": digest}]}
+        if name == f"multihash-{UPSTREAM}.crate":
+            own["versionInfo"] = UPSTREAM
+        yield from field_errors(path.name, described.get(name), of_all | own)
+
+
+def main() -> int:
+    errors = [*file_errors(), *material_errors()]
+    for name, found, wanted in fields():
+        errors += field_errors(name, found, wanted)
+    print("\n".join(errors))
+    return bool(errors)
+
+
+if __name__ == "__main__":
+    sys.exit(main())
