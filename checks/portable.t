@@ -96,8 +96,8 @@ freestanding() {
     riscv32-unknown-elf; do
     clang --target=$target -ffreestanding -nostdlibinc "${warnings[@]}" -Wno-conversion -Wno-unused-parameter \
       -std=c11 -O2 -c "$tree/multihash.c" -o "$work/free.o" &&
-      llvm-nm --undefined-only -j "$work/free.o" | sed 's/^_*//' | sort | paste -sd ' ' |
-      grep -xE '(bzero )?(linear_memory )?memcpy memmove memset( stack_pointer)?' || return 1
+      llvm-nm --undefined-only -j "$work/free.o" | sed -E 's/^_*//; /^stack_(chk_fail|chk_guard|pointer)$/d' | sort |
+      paste -sd ' ' | grep -x 'memcpy memmove memset' || return 1
   done
 }
 
