@@ -167,24 +167,14 @@ planted_in_c() {
     fi
   done << 'END'
 s/i > 0 && bytes\[i\] == 0/0/
-s/< MULTIHASH_HEAD_MAX/<= MULTIHASH_HEAD_MAX/
 s/front.digest_length = size/front.digest_length = (uint8_t)size/
 s/length < whole_length ? length : whole_length/length/
 s/whole_length - offset > size/whole_length - offset > size + 1/
-s/found.size = size/found.size = 255/
 s/size > limit || //
-s/found.taken += size;//
-s/found.taken = 9/found.taken = 8/
-s/found.code = code;$/found.code = code \& INT32_MAX;/
-s/length > MULTIHASH_DIGEST_MAX/length > MULTIHASH_DIGEST_MAX + 1/
 s/code > INT64_MAX/code > UINT64_MAX/
-s/result.length > out_length/result.length > out_length + 1/
 s/(out, digest, length);/&\nout[length] = 0;/
-s/(out + 9, digest, length);/&\nout[length + 9] = 0;/
 s/left_code < right_code ? -1 : 1/-1/
-s/left_length < right_length ? -1 : 1/-1/
 s/(order > 0) - /(order > 1) - /
-s/strlen(text)/strlen(text) + 1/
 s/_NUMBER;/_NUMBER + 1;/
 END
 }

@@ -174,7 +174,7 @@ static void check_back(encoder encode, const uint8_t *bytes, multihash_decoded f
     release(digest);
 }
 
-/* Each decoding of the bytes, and of their prefixes, also as the front of longer input. */
+/* Each decoding of the bytes, and of prefixes that end near the head or the end, also as the front of longer input. */
 void check_decodings(const uint8_t *bytes, size_t length, size_t limit)
 {
     multihash_front head = multihash_head(bytes, length), wanted = model_head(bytes, length);
@@ -185,6 +185,7 @@ void check_decodings(const uint8_t *bytes, size_t length, size_t limit)
     CHECK(same(multihash_scale_decode(bytes, length), model_scale(bytes, length)));
     CHECK(same(multihash_from_prefix(bytes, length, length + 300), model_whole(bytes, length, length + 300)));
     for (size_t part = 0; part <= length; part++) {
+        if (part == MULTIHASH_HEAD_MAX + 3 && length > part + 8) part = length - 8;
         CHECK(same(multihash_read(bytes, part), model_read(bytes, part, part, MULTIHASH_DIGEST_MAX)));
         CHECK(same(multihash_from_prefix(bytes, part, length), model_whole(bytes, part, length)));
         CHECK(same(multihash_from_prefix(bytes, length, part), model_whole(bytes, length, part)));
