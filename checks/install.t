@@ -65,6 +65,7 @@ packs() {
 machines() {
   local system processor options archive shared
   while IFS=, read -r system processor options archive shared; do
+    [ -z "$options" ] || [ "$machine" = x86_64 ] || continue
     rm -rf "$work/machine"
     cmake -S "$top" -B "$work/machine" -DCMAKE_SYSTEM_NAME="$system" -DCMAKE_SYSTEM_PROCESSOR="$processor" \
       -DCMAKE_C_FLAGS="$options" -DCMAKE_TRY_COMPILE_TARGET_TYPE=STATIC_LIBRARY &&
