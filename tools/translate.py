@@ -41,7 +41,7 @@ PROVIDED = re.compile(r"^(?:(?:static inline|ALWAYS_INLINE) [^(\n]*?|#define )(\
 INLINED = {
     "w2c_multihash__varint__word__front_by_word",
     "w2c_multihash_c__decode__longer",
-    "w2c_multihash_c__encode__put_apart",
+    "w2c_multihash_c__encode__scale_encode_apart",
     "w2c_multihash_head",
     "w2c_rattle__export_multihash_head",
 }

@@ -1,10 +1,10 @@
 //! Encoding for C, and the texts of statuses, which are written to a buffer like encodings.
-ghost use Rattle.std.specs.Prelude.{◌≡◌, ◌+◌, ◌<◌, ◌≤◌, ◌⊎◌, ℕ, List, ◌++◌, length, drop, IfOk, IfErr};
+ghost use Rattle.std.specs.Prelude.{◌≡◌, ◌+◌, ◌<◌, ◌≤◌, ◌⊎◌, ℕ, List, [], ◌∷◌, ◌++◌, length, drop, IfOk, IfErr};
 ghost use Rattle.multihash.specs.Varint.{varint_limit};
 ghost use Rattle.multihash.specs.Encoding.{IsEncoding};
-ghost use Rattle.multihash.specs.Scale.{IsScale};
+ghost use Rattle.multihash.specs.Scale.{IsScale, IsScaleCode};
 ghost use Rattle.multihash.specs.Filling.{Fills};
-ghost use Rattle.multihash_c.specs.Encoded.{IsTooLong, IsLargeCode, IsEncodedLength, ReportsLength, WritesForm, IsPut, Puts};
+ghost use Rattle.multihash_c.specs.Encoded.{IsTooLong, IsLargeCode, IsEncodedLength, ReportsLength, WritesForm, HasParts, IsPut, Puts};
 ghost use Rattle.multihash_c.specs.Status.{status_ok, status_no_room, IsStatusText};
 
 use crate::{DIGEST_MAX, SCALE_HEAD, status};
@@ -52,18 +52,18 @@ pub extern "C" fn multihash_encode(code: u64, digest: &[u8], out: &mut [u8]) -> 
 pub extern "C" fn multihash_scale_encode(code: u64, digest: &[u8], out: &mut [u8]) -> Encoded
     ensures { WritesForm IsScale (record { code = code; digest = digest.now }) result out.old out.new }
 {
-    // With one helper for these tests and those of `needed` it needs seven more instructions.
+    if digest.len() == USUAL_DIGEST {
+        return scale_encode(code, digest, out);
+    }
     if digest.len() > DIGEST_MAX {
         return rejected_size(digest.len() as u64);
     }
-    if code > varint::MAX {
-        return rejected_code();
+    let (status, length) = scale_encode_apart(code, digest, out);
+    Encoded {
+        status,
+        size: 0,
+        length,
     }
-    let form_length = SCALE_HEAD + digest.len();
-    if form_length <= out.len() {
-        put_scale_form(code, digest, out);
-    }
-    count(form_length, out.len())
 }
 
 /// Returns the length of the encoding of a code and a digest of that many bytes.
@@ -112,6 +112,37 @@ fn encode_usual(code: u64, digest: &[u8], out: &mut [u8]) -> Encoded
         put_digest(digest, &mut out[2..]);
     }
     count(USUAL_ENCODING, out.len())
+}
+
+// Does what `scale_encode` does. The status and the length are plain numbers, which stay in registers: so
+// those that only this function needs are saved only for such an input.
+#[inline(never)]
+fn scale_encode_apart(code: u64, digest: &[u8], out: &mut [u8]) -> (u32, usize)
+    requires { length digest.now ≤ 255 }
+    ensures { (e : Encoded) → HasParts result.0 result.1 e →
+        WritesForm IsScale (record { code = code; digest = digest.now }) e out.old out.new }
+{
+    let encoded = scale_encode(code, digest, out);
+    (encoded.status, encoded.length)
+}
+
+// What `multihash_scale_encode` returns, for every input.
+#[inline(always)]
+fn scale_encode(code: u64, digest: &[u8], out: &mut [u8]) -> Encoded
+    ensures { WritesForm IsScale (record { code = code; digest = digest.now }) result out.old out.new }
+{
+    // With one helper for these tests and those of `needed` it needs seven more instructions.
+    if digest.len() > DIGEST_MAX {
+        return rejected_size(digest.len() as u64);
+    }
+    if code > varint::MAX {
+        return rejected_code();
+    }
+    let form_length = SCALE_HEAD + digest.len();
+    if form_length <= out.len() {
+        put_scale_form(code, digest, out);
+    }
+    count(form_length, out.len())
 }
 
 // The length of the encoding of a code and a digest of that many bytes, or the result if there is none.
@@ -195,37 +226,50 @@ fn put_encoding(code: u64, digest: &[u8], buffer: &mut [u8])
     let mut writer = SliceWriter::new(buffer);
     varint::write(code, &mut writer).unwrap();
     varint::write(digest.len() as u64, &mut writer).unwrap();
-    write_digest::<false>(digest, &mut writer);
+    write_digest(digest, &mut writer);
 }
 
 // Writes the SCALE form of a code and a digest to the front of a buffer that is large enough.
+#[inline(always)]
 fn put_scale_form(code: u64, digest: &[u8], buffer: &mut [u8])
+    requires in_range { code < varint_limit }
     requires short { length digest.now ≤ 255 }
-    requires fits { (bytes : List ℕ) × IsScale (record { code = code; digest = digest.now }) bytes
-        × (length bytes ≤ length buffer.old) }
+    requires fits { 9 + length digest.now ≤ length buffer.old }
     ensures { (bytes : List ℕ) × IsScale (record { code = code; digest = digest.now }) bytes
         × (buffer.new ≡ bytes ++ drop (length bytes) buffer.old) }
 {
-    let mut writer = SliceWriter::new(buffer);
-    writer.write_all(&code.to_le_bytes()).unwrap();
-    writer.write_all(&[digest.len() as u8]).unwrap();
-    write_digest::<true>(digest, &mut writer);
+    put_parts(&scale_head(code, digest.len() as u8), digest, buffer);
 }
 
-// Appends a digest, for which there is enough capacity. If `APART`, one of another than the usual length is
-// copied by a call: so the caller saves fewer registers.
+// The bytes of the form before the digest.
 #[inline(always)]
-fn write_digest<const APART: bool>(digest: &[u8], writer: &mut SliceWriter<'_>)
+fn scale_head(code: u64, size: u8) -> [u8; SCALE_HEAD]
+    requires { code < varint_limit }
+    ensures { (bytes : List ℕ) × IsScaleCode code bytes × (result ≡ bytes ++ size ∷ []) }
+{
+    let mut head = [size; SCALE_HEAD];
+    head[..SCALE_HEAD - 1].copy_from_slice(&code.to_le_bytes());
+    head
+}
+
+// Appends a digest, for which there is enough capacity.
+#[inline(always)]
+fn write_digest(digest: &[u8], writer: &mut SliceWriter<'_>)
     requires { writer.old.filled + length digest.now ≤ length writer.old.buffer.now }
     ensures { Fills writer.old digest.now writer.new }
 {
-    let buffer = &mut writer.buffer[writer.filled..];
-    if APART && digest.len() != USUAL_DIGEST {
-        put_apart(digest, buffer);
-    } else {
-        put_digest(digest, buffer);
-    }
+    put_digest(digest, &mut writer.buffer[writer.filled..]);
     writer.filled += digest.len();
+}
+
+// Copies two parts, one after the other, to the front of a buffer that is large enough.
+#[inline(always)]
+fn put_parts(head: &[u8], digest: &[u8], buffer: &mut [u8])
+    requires { length head.now + length digest.now ≤ length buffer.old }
+    ensures { buffer.new ≡ (head.now ++ digest.now) ++ drop (length (head.now ++ digest.now)) buffer.old }
+{
+    put_digest(head, buffer);
+    put_digest(digest, &mut buffer[head.len()..]);
 }
 
 // Copies a digest to the front of a buffer that is large enough. The usual length is copied as a whole.
@@ -238,13 +282,4 @@ fn put_digest(digest: &[u8], buffer: &mut [u8])
         Some(whole) => *buffer.first_chunk_mut().unwrap() = *whole,
         None => buffer[..digest.len()].copy_from_slice(digest),
     }
-}
-
-// Copies a digest to the front of a buffer that is large enough, whatever its length.
-#[inline(never)]
-fn put_apart(digest: &[u8], buffer: &mut [u8])
-    requires { length digest.now ≤ length buffer.old }
-    ensures { buffer.new ≡ digest.now ++ drop (length digest.now) buffer.old }
-{
-    buffer[..digest.len()].copy_from_slice(digest);
 }
