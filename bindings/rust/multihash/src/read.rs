@@ -16,37 +16,54 @@ pub(crate) fn head<R: Read>(r: &mut R) -> Result<(u64, u64), Error> {
     fill(r, &mut bytes[..2])?;
     let [code, length, _] = bytes;
     if code & MORE != 0 {
-        return long_head(r, bytes, 2);
+        return long_code(r, [code, length]);
     }
     if length & MORE != 0 {
         fill(r, &mut bytes[2..])?;
         if bytes[2] != 1 {
-            return long_head(r, bytes, 3);
+            return long_length(r, bytes);
         }
     }
     Ok((code.into(), length.into()))
 }
 
-/// Continues after that many bytes, one byte at a time until these determine the result: both varints have ended,
-/// the last one has ended in a zero, or one has nine bytes and no end. `Head::read` is called then, with zeros
-/// after them, which it does not reach.
+/// Continues after two bytes of which the first does not end the code.
 #[inline(never)]
-fn long_head<R: Read>(r: &mut R, first: [u8; 3], mut length: usize) -> Result<(u64, u64), Error> {
+fn long_code<R: Read>(r: &mut R, first: [u8; 2]) -> Result<(u64, u64), Error> {
+    let mut bytes = [0; HEAD_MAX];
+    bytes[..2].copy_from_slice(&first);
+    let end = rest_of_varint(r, &mut bytes[..VARINT_MAX], 2)?;
+    let last = bytes[end - 1];
+    if last != 0 && last & MORE == 0 {
+        rest_of_varint(r, &mut bytes[end..end + VARINT_MAX], 0)?;
+    }
+    decoded(&bytes)
+}
+
+/// Continues after a code of one byte and two bytes of the length.
+#[cold]
+fn long_length<R: Read>(r: &mut R, first: [u8; 3]) -> Result<(u64, u64), Error> {
     let mut bytes = [0; HEAD_MAX];
     bytes[..3].copy_from_slice(&first);
-    // How many varints have ended, and how many bytes of the next one there are: a third byte is of the second varint.
-    let is_open = bytes[length - 1] & MORE != 0;
-    let (mut ended, mut open) = (length - 1 - usize::from(is_open), 2 * usize::from(is_open));
-    while ended < 2 && bytes[length - 1] != 0 && open < VARINT_MAX {
-        let next = &mut bytes[length..=length]; // the result for `HEAD_MAX` bytes is determined
-        fill(r, next)?;
-        let is_last = next[0] & MORE == 0;
-        ended += usize::from(is_last);
-        open = if is_last { 0 } else { open + 1 };
+    rest_of_varint(r, &mut bytes[1..=VARINT_MAX], 2)?;
+    decoded(&bytes)
+}
+
+/// The result of all bytes that determine it, and zeros after them, which are not reached.
+fn decoded(bytes: &[u8; HEAD_MAX]) -> Result<(u64, u64), Error> {
+    let head = Head::read(bytes).map_err(Error::of_format)?;
+    Ok((head.code(), head.digest_length()))
+}
+
+/// Reads on, one byte at a time, until a varint of which that many bytes are there has ended or has all its bytes.
+/// Returns how many it has then.
+#[inline(always)]
+fn rest_of_varint<R: Read>(r: &mut R, bytes: &mut [u8], mut length: usize) -> Result<usize, Error> {
+    while length < bytes.len() && (length == 0 || bytes[length - 1] & MORE != 0) {
+        fill(r, &mut bytes[length..=length])?;
         length += 1;
     }
-    let head = Head::read(&bytes).map_err(Error::of_format)?;
-    Ok((head.code(), head.digest_length()))
+    Ok(length)
 }
 
 /// Fills `out`. An end of the input is the same error for both.
