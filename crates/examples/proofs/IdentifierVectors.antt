@@ -1,5 +1,5 @@
 -- Known content identifiers, a section, the errors of known inputs, and what is no error.
-use Rattle.std.proofs.Common.{List, ℕ, [], ◌∷◌, Some, length, replicate, refl, ap, arith, ◌≡◌, ◌↔◌, ◌<◌, ◌≤◌, ◌++◌, Option, None, inl, inr, sym, ◌∙◌, subst}
+use Rattle.std.proofs.Common.{List, ℕ, [], ◌∷◌, Some, length, replicate, refl, ap, arith, ◌≡◌, ◌↔◌, ◌<◌, ◌≤◌, ◌++◌, Option, inl, inr, sym, ◌∙◌, subst}
 use Rattle.std.proofs.lemmas.Bool.{ltb-true}
 use Rattle.multihash.specs.Bytes.{place_value}
 use Rattle.multihash.specs.Pair.{Pair, FitsBuffer}
