@@ -18,14 +18,22 @@ expect() {
   echo "$result $number - ${text//'#'/}"
 }
 
-echo 1..42
+echo 1..50
 expect "not ok 1 - a\nok 2 - b" ". checks/lib/tap.sh; try a false; try b true"
 expect "not ok 1 - a" ". checks/lib/tap.sh; try a no_such_command"
 expect "ok 1 - a b" ". checks/lib/tap.sh; try \$'a\\nb#' true"
 expect "not ok 1 - a" ". checks/lib/tap.sh; try a rejects '' true"
 expect "not ok 1 - a" ". checks/lib/tap.sh; try a rejects 'a text' false"
 expect "not ok 1 - a" ". checks/lib/tap.sh; try a rejects 'a.b' sh -c 'echo axb; exit 1'"
-expect "not ok 1 - a\nok 2 - b" ". checks/lib/tap.sh; printf 'failed: a\npassed: b\n' | count_lines"
+expect "not ok 1 - a" ". checks/lib/tap.sh; try a rejects a false"
+expect "ok 1 - a" ". checks/lib/tap.sh; try a prints b echo abc"
+expect "not ok 1 - a" ". checks/lib/tap.sh; try a prints b sh -c 'echo abc; exit 1'"
+expect "not ok 1 - a" ". checks/lib/tap.sh; try a prints a.c echo abc"
+expect "ok 1 - a\nnot ok 2 - a" ". checks/lib/tap.sh; try a true; try a true"
+text='. checks/lib/tap.sh; all() { cmp .ci/run .ci/run && (diff .ci .ci) && rejects none ls none; }; try "a: N comparisons" all'
+expect "ok 1 - a: 3 comparisons" "${text/N/3}"
+expect "not ok 1 - a: 2 comparisons" "${text/N/2}"
+expect "not ok 1 - a: 4 comparisons" "${text/N/4}"
 expect "ok 1 # SKIP why" ". checks/lib/tap.sh; leave_out why 1"
 expect "ok 1 # SKIP no_such_command is not installed" \
   ". checks/lib/tap.sh; has 1 sh no_such_command && try a true"
@@ -40,6 +48,7 @@ expect "1..1\nok 1 # SKIP why\n0" "(. checks/lib/tap.sh; plan 1; leave_out why 1
 report() { echo "python3 -c 'import sys, tap; sys.exit(tap.report([$1]))'; echo \$?"; }
 expect "not ok 1 - a\nok 2 - b\n1" "$(report '("a", "why"), ("b", "")')"
 expect "ok 1 - a\n0" "$(report '("a", "")')"
+expect "ok 1 - a\nnot ok 2 - a\n1" "$(report '("a", ""), ("a", "")')"
 expect 1 "$(report "")"
 expect "ok 1 - a b\n0" "$(report '("a#\nb", "")')"
 expect "not ok 1 - planted: a\nok 2 - planted: b\n1" "$(report 'tap.planted("a", ""), tap.planted("b", "why")')"

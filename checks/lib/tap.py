@@ -8,9 +8,15 @@ SKIP = "# SKIP "
 
 
 def report(results: Iterable[Result]) -> int:
-    """Prints results as they come. Returns the exit status: without a result it is 1 too."""
+    """Prints results as they come. Returns the exit status: without a result it is 1 too.
+
+    Two results with one name are a failure.
+    """
     failed = number = 0
+    names: set[str] = set()
     for number, (what, error) in enumerate(results, 1):
+        error = "a second result of this name" if what in names else error
+        names.add(what)
         failed += bool(error)
         name, skip, why = what.replace("\n", " ").partition(SKIP)
         result = "not ok" if error else "ok"

@@ -5,7 +5,7 @@
 #   ALL=1    with_all leaves out nothing; .ci/run fails where something is left out
 set -u
 cd "$(dirname "${BASH_SOURCE[0]}")/../.." || exit 2
-planned=0 number=0 failed=0
+planned=0 number=0 failed=0 names=$'\n'
 work=$(mktemp -d) || exit 2
 
 finish() {
@@ -19,45 +19,49 @@ plan() {
   echo "1..$1"
 }
 
-# Counts a check by its status.
+# Counts a check by its status. A second one of the same name fails.
 count() {
   local result=ok name=${2//'#'/}
-  [ "$1" = 0 ] || result="not ok" failed=1
+  name=${name//$'\n'/ }
+  [ "$1" = 0 ] && [[ $names != *$'\n'"$name"$'\n'* ]] || result="not ok" failed=1
+  names+=$name$'\n'
   number=$((number + 1))
-  echo "$result $number - ${name//$'\n'/ }"
+  echo "$result $number - $name"
 }
 
-# Counts each line of standard input that begins with 'passed: ' or 'failed: ', and shows the others.
-count_lines() {
-  local line
-  while IFS= read -r line; do
-    case $line in
-      "passed: "*) count 0 "${line#*: }" ;;
-      "failed: "*) count 1 "${line#*: }" ;;
-      *) echo "# $line" >&2 ;;
-    esac
-  done
-}
+# Each comparison is counted.
+compared() { printf . >> "$work/compared"; }
+cmp() { compared && command cmp "$@"; }
+diff() { compared && command diff "$@"; }
+grep() { compared && command grep "$@"; }
 
-# Runs a command and counts it. If it fails shows what it printed.
+# Runs a command and counts it. If it fails shows what it printed. A name may end in the number of its comparisons, as
+# 'a folder: 3 comparisons', which are its calls of cmp, diff, grep, prints and rejects.
 try() {
-  local name=$1
+  local name=$1 result=0 made
   shift
-  if "$@" > "$work/log" 2>&1; then
-    count 0 "$name"
-  else
-    count 1 "$name"
-    sed 's/^/# /' "$work/log" >&2
+  : > "$work/compared"
+  "$@" > "$work/log" 2>&1 || result=1
+  made=$(wc -c < "$work/compared")
+  if [[ $name =~ ([0-9]+)\ comparisons?$ && ${BASH_REMATCH[1]} != "$made" ]]; then
+    echo "it made $made" >> "$work/log"
+    result=1
   fi
+  count $result "$name"
+  [ $result = 0 ] || sed 's/^/# /' "$work/log" >&2
 }
 
-# A command that must fail, and print a text.
-rejects() {
-  local text=$1
-  shift
-  ! "$@" > "$work/rejected" 2>&1 && grep -F -- "$text" "$work/rejected" && return
-  echo "not rejected, or without the text: $text"
-  cat "$work/rejected"
+# Commands that must end with status 0, or with another, and print a text.
+prints() { ends 0 "$@"; }
+rejects() { ends '[!0]*' "$@"; }
+ends() {
+  local wanted=$1 text=$2 ended=0 printed
+  printed=$(mktemp -p "$work")
+  "${@:3}" > "$printed" 2>&1 || ended=$?
+  # shellcheck disable=SC2053 # a pattern
+  [[ $ended = $wanted ]] && grep -F -- "$text" "$printed" && return
+  echo "status $ended, or without the text: $text"
+  cat "$printed"
   return 1
 }
 
