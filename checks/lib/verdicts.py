@@ -4,10 +4,10 @@
 It computes them from the rules of docs/FORMAT.md by itself and calls nothing of the library.
 
     checks/lib/verdicts.py            checks each line
-    checks/lib/verdicts.py --write    writes the results of the stored inputs: of a new one only the
-                                      capacity and the input are needed
+    checks/lib/verdicts.py --write    writes the results of the stored inputs, of a new one only the
+                                      capacity and the input are needed, and what crates/vectors prints
 
-The inputs of the first lines came from outside. None is there twice with one capacity."""
+Of the first inputs 3000 came from outside. None is there twice with one capacity."""
 import difflib
 import hashlib
 import re
@@ -18,15 +18,12 @@ from pathlib import Path
 import tap
 
 TOP = Path(__file__).resolve().parents[2]
-STORED, BOUND = TOP / "crates/vectors/data/verdicts.tsv", TOP / "crates/multihash/specs/Varint.antt"
+BOUND = TOP / "crates/multihash/specs/Varint.antt"
+STORED, PRINTED = TOP / "crates/vectors/data/verdicts.tsv", TOP / "crates/vectors/stdout"
 COLUMNS = ("S", "input", "read", "read_taken", "from_bytes", "scale_decode", "scale_taken")
 
-# The SHA-256 of the sizes and inputs of so many first lines, which no bound changes: of those that
-# came from outside, and of these with our own.
-SHA256 = {
-    3000: "295042049837f3cd1c893ce5238a82627e5b67977d12fb7fa61d41cd0c66e8de",
-    6000: "fe8ecaa6eb54534e0a29677cf6481a9664bb035168e2ac3fde86d63c6488109c",
-}
+# The number of the first inputs, and the SHA-256 of these with their capacities, which no bound changes.
+FIRST, SHA256 = 6000, "fe8ecaa6eb54534e0a29677cf6481a9664bb035168e2ac3fde86d63c6488109c"
 
 LONGEST_DIGEST, SCALE_CODE, SCALE_HEAD = 255, 8, 9
 
@@ -70,7 +67,7 @@ class Rules:
 
     def scale_decode(self, size: int, data: bytes) -> tuple[int, bytes, int]:
         code = int.from_bytes(data[:SCALE_CODE], "little")
-        if len(data) >= SCALE_CODE and code >= self.limit:
+        if code >= self.limit:
             raise Rejected(f"invalid_code {code}", SCALE_CODE)
         if len(data) < SCALE_HEAD:
             raise Rejected("unexpected_eof", 0)
@@ -107,10 +104,9 @@ def rules_of_crate() -> Rules:
 def made_of(stored: str) -> str:
     """Makes the list of the stored inputs, by the bound on numbers that the definitions state."""
     inputs = [tuple(line.split("\t")[:2]) for line in stored.splitlines()[1:]]
-    for count, wanted in SHA256.items():
-        text = "".join("\t".join(line) + "\n" for line in inputs[:count])
-        if (found := hashlib.sha256(text.encode()).hexdigest()) != wanted:
-            raise ValueError(f"the first {count} inputs are others: their SHA-256 is {found}")
+    first = "".join("\t".join(line) + "\n" for line in inputs[:FIRST])
+    if hashlib.sha256(first.encode()).hexdigest() != SHA256:
+        raise ValueError(f"the first {FIRST} inputs are others")
     if len({*inputs}) < len(inputs):
         raise ValueError("an input is there twice with one capacity")
     rules = rules_of_crate()
@@ -121,8 +117,8 @@ def made_of(stored: str) -> str:
 def error_of(stored: str) -> str:
     """Returns how the stored lines differ from those that are made."""
     try:
-        made = made_of(stored).splitlines()
-        return "\n".join(difflib.unified_diff(stored.splitlines(), made, "stored", "made", lineterm="", n=0))
+        lines, made = stored.split("\n"), made_of(stored).split("\n")
+        return "\n".join(difflib.unified_diff(lines, made, "stored", "made", lineterm="", n=0))
     except ValueError as error:
         return str(error)
 
@@ -130,15 +126,20 @@ def error_of(stored: str) -> str:
 def main() -> int:
     stored = STORED.read_text("utf-8")
     if sys.argv[1:] == ["--write"]:
-        return STORED.write_text(made_of(stored), "utf-8") < 1
-    results = [("the results of the stored inputs", error_of(stored))]
-    but_last = stored[: stored.rindex("\n", 0, -1) + 1]
+        STORED.write_text(made_of(stored), "utf-8")
+        printed = re.sub(r"\d+(?= lines)", str(stored.count("\n") - 1), PRINTED.read_text("utf-8"))
+        return PRINTED.write_text(printed, "utf-8") < 1
+    last, new = stored.splitlines(True)[FIRST], f"{rules_of_crate().line(0, bytes(77))}\n"
+    results = [("the results of the stored inputs", error_of(stored)), ("an appended input", error_of(stored + new))]
     for what, text in {
         "another result of the first line": stored.replace("invalid_size 3", "invalid_size 4", 1),
-        "an input from outside that is another": stored.replace("88f5bac6a53b03", "88f5bac6a53b04", 1),
-        "an input that is there twice": "".join([stored, *stored.splitlines(True)[-1:]]),
-        "an own input that is lost": but_last,
-        "an own input that is another": f"{but_last}{rules_of_crate().line(0, bytes(77))}\n",
+        "another result of the last line": stored + new.replace("invalid", "valid"),
+        "another capacity": stored.replace("\n1\t88f5bac6a53b03", "\n2\t88f5bac6a53b03", 1),
+        "another first input": stored.replace("88f5bac6a53b03", "88f5bac6a53b04", 1),
+        "one of the first inputs that is lost": stored.replace(last, ""),
+        "another input in its place": stored.replace(last, new),
+        "an input that is there twice": stored + last,
+        "no end of the last line": stored[:-1],
         "an empty list": "",
     }.items():
         results.append(tap.planted(what, text != stored and error_of(text)))
