@@ -113,8 +113,8 @@ impl Check {
 }
 
 impl Reading {
-    // Whether this is the result, and the listed number of bytes was consumed. None is listed of an incomplete
-    // input: of one that ends within a varint all bytes are, of one that ends within the digest both varints.
+    // Whether this is the result, and the listed number of bytes was consumed. The line of an incomplete input lists
+    // none: all bytes have to be consumed if it ends within a varint, and at least both varints if within the digest.
     fn is_found<const S: usize>(
         &self,
         found: &Result<Multihash<S>, Error>,
@@ -154,10 +154,18 @@ impl Reading {
     }
 }
 
-// Of an input that ends within the digest both varints are consumed: with a byte less it is not found.
+// Of an input that ends within a varint all bytes are consumed, of one that ends within the digest both varints:
+// with a byte less it is not found.
 #[test]
-fn both_varints_are_consumed(rt: HostRuntime) {
+fn incomplete_inputs_are_consumed(rt: HostRuntime) {
     let input = [0x92, 1, 2, 7];
+    let listed = Reading {
+        verdict: Verdict::Insufficient,
+        consumed: None,
+    };
+    let found = Multihash::<4>::read(&mut &input[..1]);
+    fakes::check!(&rt; listed.is_found(&found, &input[..1], &input[1..1]));
+    fakes::check!(&rt; !listed.is_found(&found, &input[..1], &input[..1]));
     let listed = Reading {
         verdict: Verdict::UnexpectedEof,
         consumed: None,
