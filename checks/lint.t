@@ -38,7 +38,7 @@ short() {
 names() {
   tsc --noEmit --allowJs --checkJs --target es2022 --module es2022 --moduleResolution node --noUnusedLocals \
     --noFallthroughCasesInSwitch --allowUnreachableCode false "$@" > "$work/names"
-  ! grep -E 'error TS([18][0-9]{3}|2304|2448|2451|2552|6053|6133|7027|7029):' "$work/names"
+  ! grep -E 'error TS([18][0-9]{3}|18004|230[45]|2448|2451|2552|6053|6133|7027|7029):' "$work/names"
 }
 
 # Tries a linter, a command with options, over scripts, and over a planted script between two of them, which it has to

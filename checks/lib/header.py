@@ -170,8 +170,11 @@ def header_errors(header: str, crate: Declared, language: str) -> Iterator[str]:
 
 
 def constants_of(files: Files, folder: str, names: Iterable[str]) -> set[tuple[str, str]]:
-    """Returns the constants of these names in the files of a folder, with their values as they are written."""
-    form = rf"(?<![.\w])({'|'.join(names)})(?:: *&?[\w' ]+)?(?: = |: )([^;\n]*);?(?: *(?:#|//)[^\n]*)?$"
+    """Returns the constants of these names in the files of a folder, with their values as they are written.
+
+    What follows the name, with a type or not, is '=' or ':'.
+    """
+    form = rf"(?<![.\w])({'|'.join(names)})(?: *:[^=\n]*)?(?: *=(?![=>])|:(?!:)) *([^;\n]*?);?(?: *(?:#|//)[^\n]*)?$"
     texts = (text for path, text in files.items() if path.startswith(folder))
     return {constant for text in texts for constant in re.findall(form, text, re.M)}
 

@@ -35,14 +35,20 @@ TESTS = {
 }
 # inputs of mh_show, the last of which cannot be read, and how many allocations it makes
 SHOWN = {"example": 8, "0041": 5, "0": 4, "a folder": 4}
-# programs, and whether they end as they should: with status 1 if their allocation fails
-PLANTED = {
-    "void *made = malloc(1); free(made); return !made;": True,
-    "return !malloc(1);": False,
-    "free(malloc(1)); return 0;": False,
-    "void *made = malloc(1); if (made) free(malloc(1)); free(made); return !made;": False,
-    "return 1;": False,
-}
+# programs, how many allocations each is to make, and whether it ends as it should: with status 1 if one failed
+THREE = "void *a = malloc(1), *b = malloc(1), *c = malloc(1); free(a); free(b); free(c); "
+PLANTED = (
+    ("void *made = malloc(1); free(made); return !made;", 1, True),
+    ("return !malloc(1);", 1, False),
+    ("free(malloc(1)); return 0;", 1, False),
+    ("void *made = malloc(1); if (made) free(malloc(1)); free(made); return !made;", 1, False),
+    ("return 1;", 1, False),
+    ('write(1, "1", 1); void *made = malloc(1); free(made); return !made;', 1, False),
+    (f"{THREE}return !a || !b || !c;", 3, True),
+    (f"{THREE}return !a || !c;", 3, False),
+    (f"{THREE}return !a || !b;", 3, False),
+    (f"{THREE}return !a || !b || !c;", 2, False),
+)
 
 
 class Counted:
@@ -74,7 +80,7 @@ class Counted:
     def error_of(
         self, command: list[str], wanted: int, failed: str, passed: str, stdin: Path = Path(os.devnull)
     ) -> str:
-        """Returns what is wrong, if so many allocations are wanted, and these patterns of what is printed."""
+        """Returns what is wrong, if that number of allocations is wanted, and these patterns of the output."""
         for number in range(1, wanted + 2):
             printed, asked, live = self.run(command, number, stdin)
             form = failed if number <= wanted else passed
@@ -95,15 +101,16 @@ def build(crate: str, name: str, word: str) -> str:
 
 def results(work: Path) -> Iterator[tap.Result]:
     counted = Counted(work)
-    for number, (text, is_right) in enumerate(PLANTED.items()):
-        planted = counted.build(f"#include <stdlib.h>\nint main(void) {{ {text} }}\n", f"planted{number}")
-        error = counted.error_of([str(planted)], 1, "1", "0")
-        yield f"planted: {text}", "" if is_right != bool(error) else f"found: {error}"
+    for number, (text, wanted, is_right) in enumerate(PLANTED):
+        source = f"#include <stdlib.h>\n#include <unistd.h>\nint main(void) {{ {text} }}\n"
+        planted = counted.build(source, f"planted{number}")
+        error = counted.error_of([str(planted)], wanted, "1", "0")
+        yield f"planted, {wanted}: {text}", "" if is_right != bool(error) else f"found: {error}"
     program = build("tests_values", "tests_values_tests", "test")
     listed = subprocess.run([program, "--list"], capture_output=True, text=True, check=True).stdout
     tests = {path.rpartition("::")[2]: path for path in re.findall(r"(?m)^(\S+): test$", listed)}
-    wanted = {name for name in tests if re.search(r"^allocating_|_no_memory$", name)}
-    yield "the tests are those listed", " ".join(sorted(wanted ^ {*TESTS}))
+    named = {name for name in tests if re.search(r"^allocating_|_no_memory$", name)}
+    yield "the tests are those listed", " ".join(sorted(named ^ {*TESTS}))
     for name, number in TESTS.items():
         failed, passed = rf"(.*\n)?{re.escape(FAILED)}\n(.*\n)?101", r"(.*\n)?test result: ok\n(.*\n)?0"
         yield name, counted.error_of([program, tests.get(name, "")], number, failed, passed)
