@@ -3,15 +3,17 @@
 # a planted script.
 # shellcheck source=checks/lib/tap.sh
 . "$(dirname "$0")/lib/tap.sh"
-plan 16
+plan 18
 
 listed() { git ls-files -co --exclude-standard "$@"; }
 # Prints the paths of the scripts in a language, by their first lines.
+# shellcheck disable=SC2033
 scripts() { listed -z | xargs -0 grep -lIE -m 1 -e "$1" 2> "$work/log" | sort; }
 
 shell=$(scripts '^(#! ?/.*\b(ba)?sh|# shellcheck shell=bash)$')
 python=$({ listed '*.py' && scripts '^#!.*python'; } | sort -u)
 javascript=$(listed '*.js' '*.ts')
+tested=$(listed '*.t' '*test.sh' | grep -vE '^bindings/(c|python)/|/(c_library|install|portable)\.t$')
 # All but the tests of the package for Python have types.
 typed=$(grep -v '^bindings/python/tests/' <<< "$python")
 
@@ -41,6 +43,20 @@ names() {
   ! grep -E 'error TS([18][0-9]{3}|18004|230[45]|2448|2451|2552|6053|6133|7027|7029):' "$work/names"
 }
 
+# Each function that compares and that 'try' runs is run by 'rejects' too, or its result says its number of comparisons.
+planted() {
+  local script text name failed=0
+  for script in "$@"; do
+    text=$(sed -e ':a' -e '/\\$/N; s/\\\n */ /; ta' "$script")
+    while read -r name; do
+      sed -n "/^$name() [{(]/,/^[})]/p" <<< "$text" | grep -qE '\<(cmp|diff|grep|prints|rejects)\>' || continue
+      grep -qE "\\<rejects ('[^']*'|\"[^\"]*\"|[^ ]+) $name\\>|comparisons?\" $name\\>" <<< "$text" && continue
+      echo "$script: no planted case of $name" && failed=1
+    done < <(sed -nE 's/.*\<try ("[^"]*"|[^ ]+) ([a-z_]+)\>.*/\2/p' <<< "$text")
+  done
+  return $failed
+}
+
 # Tries a linter, a command with options, over scripts, and over a planted script between two of them, which it has to
 # reject with a text.
 try_linter() {
@@ -58,6 +74,8 @@ try_linter() {
   try "each script is in a list" are_known $shell $python $javascript
   try "a script that is in none" rejects "> checks/lib/tap.sh" are_known ${shell/tap.sh/} $python $javascript
   try_linter syntax syntax.sh "unexpected end of file" "if true; then" $shell
+  try_linter planted compares.sh "no planted case of same" \
+    'same() {\n  cmp a b\n}\ntry "one of two" same a' $tested
   try_linter short long.js long.js:1 "$(printf '%121s' .)" $shell $python $javascript
   has 2 shellcheck && try_linter "shellcheck -x" cd.sh SC2164 "#!/bin/bash\ncd /tmp" $shell
   has 2 black && try_linter "black --check --line-length 120" layout.py "would reformat" "number  =  1" $python
