@@ -30,7 +30,8 @@ expect "ok 1 - a" ". checks/lib/tap.sh; try a prints b echo abc"
 expect "not ok 1 - a" ". checks/lib/tap.sh; try a prints b sh -c 'echo abc; exit 1'"
 expect "not ok 1 - a" ". checks/lib/tap.sh; try a prints a.c echo abc"
 expect "ok 1 - a\nnot ok 2 - a" ". checks/lib/tap.sh; try a true; try a true"
-text='. checks/lib/tap.sh; all() { cmp .ci/run .ci/run && (diff .ci .ci) && rejects none ls none; }; try "a: N comparisons" all'
+text='. checks/lib/tap.sh; all() { cmp .ci/run .ci/run && (diff .ci .ci) && rejects none ls none; }
+  try "a: N comparisons" all'
 expect "ok 1 - a: 3 comparisons" "${text/N/3}"
 expect "not ok 1 - a: 2 comparisons" "${text/N/2}"
 expect "not ok 1 - a: 4 comparisons" "${text/N/4}"
