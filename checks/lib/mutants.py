@@ -3,15 +3,15 @@
 
 The prover must leave open, in each, goals of exactly the clauses that it names.
 
-    checks/lib/mutants.py [--only NAME] [--definitions | --since COMMIT] [--jobs N] [--proved FOLDER]
-                      [CRATE..]
+    checks/lib/mutants.py [--only NAME] [--definitions | --since COMMIT] [--left-out N] [--jobs N]
+                      [--proved FOLDER] [CRATE..]
 
 They are in crates/*/mutants/*.edits; docs/PLANTED.md says how to write one. Each round puts one
 mutant of each of several functions into a copy of a crate and checks the copy once: a function is
 proved against contracts, never against another's body. One that names a clause as FUNCTION#CLAUSE,
 or none, has a check of its own. Those of definitions.edits are tried with --definitions, or in the
-crates whose specs/, examples or mutants of definitions differ from --since. Needs 2 GB a job. First
-these crates are proved in a copy or in the folder --proved.
+crates that differ from --since, else left out, whose number has to be that of --left-out. Needs
+2 GB a job. First these crates are proved in a copy or in the folder --proved.
 """
 import argparse
 import subprocess
@@ -30,7 +30,6 @@ import tap
 from proving import Function, Goal, Output, Prover
 
 ROOT = Path(__file__).resolve().parents[2]
-EXAMPLES = ("specs", "proofs/Examples", "proofs/*Vectors.antt", "mutants/definitions.edits")
 # what follows a clause of which no goal is open but one where the search gave up at a limit
 BY_LIMIT = " by a limit"
 
@@ -195,6 +194,7 @@ class Options(NamedTuple):
     jobs: int
     definitions: bool
     crates: list[str]
+    left_out: int | None = None
 
     def names(self, label: str) -> bool:
         return self.only in ("", label, label.rpartition("/")[2])
@@ -203,7 +203,7 @@ class Options(NamedTuple):
         """Returns whether a crate's definitions are to be tried."""
         if self.definitions or self.only:
             return True
-        paths = [*(f"crates/{crate}/{path}" for path in EXAMPLES), "checks/lib/mutants.py"]
+        paths = [f"crates/{crate}", "checks/lib/mutants.py", "checks/lib/proving.py"]
         diff = ["git", "diff", "--name-only", self.since, "--", *paths]
         return bool(self.since and subprocess.check_output(diff, cwd=ROOT))
 
@@ -238,7 +238,7 @@ def results(options: Options, folder: Path, prover: Prover) -> Iterator[tap.Resu
     """Tries the mutants of the crates."""
     crates, errors = prove(options, folder, prover)
     yield from errors
-    rounds = []
+    rounds, left_out = [], 0
     for crate in crates:
         yield from (result for result in crate.unread if options.names(result[0]))
         tried = []
@@ -246,8 +246,11 @@ def results(options: Options, folder: Path, prover: Prover) -> Iterator[tap.Resu
             if not mutant.is_of_definitions or options.tries_definitions(crate.name):
                 tried += [mutant] if options.names(mutant.label) else []
             else:
-                yield tap.left_out(mutant.label, "definitions and examples did not change")
+                left_out += 1
+                yield tap.left_out(mutant.label, "the crate did not change")
         rounds += [(crate, mutants) for mutants in crate.rounds(tried)]
+    is_so = options.left_out in (None, left_out)
+    yield "the number of mutants left out", "" if is_so else f"it is {left_out}, and not {options.left_out}"
     pool = ThreadPoolExecutor(options.jobs)
     try:
         for future in as_completed([pool.submit(crate.try_round, mutants) for crate, mutants in rounds]):
@@ -260,12 +263,13 @@ def main() -> int:
     parser = argparse.ArgumentParser(description=__doc__, formatter_class=argparse.RawDescriptionHelpFormatter)
     parser.add_argument("--only", default="")
     parser.add_argument("--since", default="")
+    parser.add_argument("--left-out", type=int)
     parser.add_argument("--jobs", type=int, default=2)
     parser.add_argument("--proved", default="")
     parser.add_argument("--definitions", action="store_true")
     parser.add_argument("crates", nargs="*", metavar="CRATE")
     given = parser.parse_args()
-    options = Options(given.only, given.since, given.jobs, given.definitions, given.crates)
+    options = Options(given.only, given.since, given.jobs, given.definitions, given.crates, given.left_out)
     prover = Prover()
     with tempfile.TemporaryDirectory(prefix="mutants-") as folder:
         return tap.report(results(options, Path(given.proved or folder).resolve(), prover))

@@ -90,6 +90,15 @@ new: 511
 old: 512
 new: 0x200
 """
+# what an error of a proof may say, by what it is
+SAID = {
+    "a goal": ["wrong", "nothing depends on it"],
+    "a limit": ["gave up at one of its limits", "no proof was found. It stopped at 9"],
+    "a name": ["no a can be named from here", "it has no field", "a is not in scope", "a is no name", "it has no `a`"],
+    "a name too": ["record `a` is gone", "`b`: module `a` is gone"],
+    "another's": ["depends on a", "they depend on a", "a was not admitted", "a is not proved", "a, b are not proved"],
+    "another's too": ["it waits for the proof of a"],
+}
 AUTHOR = ["-c", "user.name=a", "-c", "user.email=a"]
 
 
@@ -141,6 +150,15 @@ def provers(root: Path) -> list[Path]:
     return [folder for folder in folders if str(root / "proved") in os.path.realpath(folder)]
 
 
+def said(text: str) -> str:
+    """Returns what an error is for mutants.py."""
+    printed = f"./proofs/cited/Answers.antt:1:1: error: `goal`: {text}\nlogic=open"
+    found = proving.Output("small", printed, 1).found["small::cited"]
+    if found.goals:
+        return "a limit" if found.goals[0].by_limit else "a goal"
+    return "a name" if found.names else "another's"
+
+
 def printed_results(root: Path) -> Iterator[tap.Result]:
     """Judges mutants, some or none, by what a prover prints."""
 
@@ -160,10 +178,13 @@ def printed_results(root: Path) -> Iterator[tap.Result]:
         found = crate.try_round(crate.rounds(crate.mutants)[0][:count])
         is_right = len({label for label, error in found if error}) == len(found) == wanted
         yield what, "" if is_right else f"reported: {found}"
-    options = mutants.Options("", "", 1, False, [])
-    found = [*mutants.results(options, root / "proved", Printed(printed("proved"), 0))]
-    waiting = [label for label, _ in found if "SKIP" in label]
-    yield "only definitions wait", "" if len(waiting) == DEFINITIONS.count("#") else f"left out: {waiting}"
+    for kind, texts in SAID.items():
+        yield f"an error is {kind}", " ".join(text for text in texts if said(text) != kind.removesuffix(" too"))
+    for number in (DEFINITIONS.count("#"), 1):
+        options = mutants.Options("", "", 1, False, [], number)
+        tried = dict(mutants.results(options, root / "proved", Printed(printed("proved"), 0)))
+        is_wrong = bool(tried["the number of mutants left out"])
+        yield f"{number} left out", "" if is_wrong == (number == 1) else f"reported: {tried}"
     crates, errors = mutants.prove(options, root / "proved", Printed("logic=open"))
     yield "a crate that is not proved", "" if errors and not crates else "it passes"
 
@@ -177,11 +198,14 @@ def results(root: Path) -> Iterator[tap.Result]:
     yield "two edits of a file", "" if edits.apply({"a": "x y"}, pair) == {"a": "1 22"} else "not both"
     options = mutants.Options("", "HEAD", 1, False, [])
     yield "definitions as they were", "they are tried" if options.tries_definitions("small") else ""
-    for name in ("proofs/Examples/More.antt", "proofs/SumVectors.antt", "mutants/definitions.edits", "specs/Sum.antt"):
+    for name in ("proofs/Examples/More.antt", "mutants/definitions.edits", "src/lib.rt", "specs/Sum.antt"):
         path = root / "crates/small" / name
         before = path.read_text("utf-8")
         path.write_text(f"{before}\n", "utf-8")
-        yield f"definitions: another {name}", "" if options.tries_definitions("small") else "they are not tried"
+        is_tried = options.tries_definitions("small")
+        path.unlink()
+        is_tried &= options.tries_definitions("small")
+        yield f"definitions: another {name}, or none", "" if is_tried else "they are not tried"
         path.write_text(before, "utf-8")
     path.write_text(f"{before}-- more\n", "utf-8")
     (root / "crates/small/proofs/Examples/More.antt").unlink()  # no check reads it
