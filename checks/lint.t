@@ -13,7 +13,7 @@ scripts() { listed -z | xargs -0 grep -lIE -m 1 -e "$1" 2> "$work/log" | sort; }
 shell=$(scripts '^(#! ?/.*\b(ba)?sh|# shellcheck shell=bash)$')
 python=$({ listed '*.py' && scripts '^#!.*python'; } | sort -u)
 javascript=$(listed '*.js' '*.ts')
-tested=$(listed '*.t' '*test.sh' | grep -vE '^bindings/(c|python)/|/(c_library|install|portable)\.t$')
+tested=$(listed "*.t" "*test.sh" | grep -vE "^bindings/(c|python)/|/(c_library|install|portable|release|rust)\.t$")
 # All but the tests of the package for Python have types.
 typed=$(grep -v '^bindings/python/tests/' <<< "$python")
 
@@ -43,19 +43,23 @@ names() {
   ! grep -E 'error TS([18][0-9]{3}|18004|230[45]|2448|2451|2552|6053|6133|7027|7029):' "$work/names"
 }
 
-# Each function that compares and that 'try' runs is run by 'rejects' too, or its result says its number of comparisons.
+# Each function that compares and that 'try' runs is run by 'rejects' too, or by a function that it runs, or its result
+# says its number of comparisons.
 planted() {
-  local script text name failed=0
+  local script text name runs failed=0
   for script in "$@"; do
     text=$(sed -e ':a' -e '/\\$/N; s/\\\n */ /; ta' "$script")
+    runs=$(sed -nE "s/.*\\<rejects ('[^']*'|\"[^\"]*\"|[^'\" ]+) ([a-z_]+)\\>.*/\\2/p" <<< "$text")
+    runs=$(for name in $runs; do echo "$name" && body "$name" <<< "$text"; done)
     while read -r name; do
-      sed -n "/^$name() [{(]/,/^[})]/p" <<< "$text" | grep -qE '\<(cmp|diff|grep|prints|rejects)\>' || continue
-      grep -qE "\\<rejects ('[^']*'|\"[^\"]*\"|[^ ]+) $name\\>|comparisons?\" $name\\>" <<< "$text" && continue
-      echo "$script: no planted case of $name" && failed=1
-    done < <(sed -nE 's/.*\<try ("[^"]*"|[^ ]+) ([a-z_]+)\>.*/\2/p' <<< "$text")
+      body "$name" <<< "$text" | grep -qE '\<(cmp|diff|grep|prints)\>' || continue
+      grep -qw "$name" <<< "$runs" || grep -qE "comparisons?\" $name\\>" <<< "$text" ||
+        { echo "$script: no planted case of $name" && failed=1; }
+    done < <(sed -nE 's/.*\<try ("[^"]*"|[^" ]+) ([a-z_]+)\>.*/\2/p' <<< "$text")
   done
   return $failed
 }
+body() { sed -n "/^$1() [{(]/,/^[})]/p"; }
 
 # Tries a linter, a command with options, over scripts, and over a planted script between two of them, which it has to
 # reject with a text.
