@@ -43,7 +43,7 @@ PLANTED = (
     ("free(malloc(1)); return 0;", 1, False),
     ("void *made = malloc(1); if (made) free(malloc(1)); free(made); return !made;", 1, False),
     ("return 1;", 1, False),
-    ('write(1, "1", 1); void *made = malloc(1); free(made); return !made;', 1, False),
+    ('void *made = malloc(1); if (made) write(1, "0", 1); free(made); return !made;', 1, False),
     (f"{THREE}return !a || !b || !c;", 3, True),
     (f"{THREE}return !a || !c;", 3, False),
     (f"{THREE}return !a || !b;", 3, False),
