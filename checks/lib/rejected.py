@@ -16,18 +16,9 @@ import tap
 
 CRATES = Path(__file__).resolve().parents[2] / "crates"
 # the calls that crates/vectors makes, and the columns that have their results
-READ, SCALE = (2, 3), (5, 6)
-CALLS = {
-    "from_bytes": (4,),
-    "read over the slice": READ,
-    "read, one byte a call": READ,
-    "read, two bytes a call": READ,
-    "read, three bytes a call": READ,
-    "scale_decode over the slice": SCALE,
-    "scale_decode, one byte a call": SCALE,
-    "scale_decode, four bytes a call": SCALE,
-    "from_value": (4,),
-}
+HOW = [" over the slice", *(f", {count} a call" for count in ("one byte", "two bytes", "three bytes", "four bytes"))]
+CALLS = {"from_bytes": [4], **{f"read{how}": [2, 3] for how in HOW[:4]}}
+CALLS |= {f"scale_decode{how}": [5, 6] for how in (*HOW[:2], HOW[4])} | {"from_value": [4]}
 # the first line of a list, and lines with each result of each call
 HEAD = "S|input|read|read_taken|from_bytes|scale_decode|scale_taken"
 LINES = """\
