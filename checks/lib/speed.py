@@ -231,8 +231,10 @@ def differences(found: Mapping[str, list[int]], stored: Mapping[str, list[int]])
     return "\n".join(sorted(lines))
 
 
-def text_errors(rows: Rows, page: str, svg: str) -> Iterator[str]:
-    """Compares the page's tables, and the chart, with the stored numbers."""
+def text_errors(rows: Rows, cases: list[str], page: str, svg: str) -> Iterator[str]:
+    """Compares the cases of the program, the page's tables, and the chart, with the stored numbers."""
+    if cases != [*rows]:
+        yield "docs/speed.tsv has other cases than the program"
     if table(rows) not in page or c_table(calls_of(page)) not in page:
         yield "docs/SPEED.md does not have the tables of these numbers"
     if chart(rows) != svg:
@@ -248,19 +250,19 @@ def results(program: str, rows: Rows) -> Iterator[tap.Result]:
     """Compares the counts with the stored ones, and these with the page and the chart."""
     page, svg = PAGE.read_text("utf-8"), CHART.read_text("utf-8")
     calls = calls_of(page)
-    has_cases = run([program, "cases"]).splitlines() == list(rows)
-    yield "docs/speed.tsv", "" if has_cases else "it has other cases than the program"
-    yield "docs/SPEED.md and its chart", "\n".join(text_errors(rows, page, svg))
+    cases = run([program, "cases"]).splitlines()
+    yield "docs/speed.tsv, docs/SPEED.md and its chart", "\n".join(text_errors(rows, cases, page, svg))
     small = {"a": [100, 100, 100], "b": [10, 10, 10], "c": [100, 100, 100]}
     yield "2 %, and 1", differences(small | {"a": [102, 98, 101], "b": [11, 9, 10]}, small)
     for case, other in PLANTED:
         yield tap.planted(f"{case}: {other}", differences(small | {case: other}, small))
     yield tap.planted("a call less", differences({}, small))
-    yield tap.planted("a case less", [*text_errors(dict([*rows.items()][:-1]), page, svg)])
+    yield tap.planted("a case less", [*text_errors(rows, cases[:-1], page, svg)])
+    yield tap.planted("its sum", [*text_errors(dict([*rows.items()][:-1]), cases[:-1], page, svg)])
     for name, text in (("a case", table(rows)), ("a call from C", c_table(calls))):
         changed = page.replace(text, re.sub(r"\d\.\d\d", "9.99", text, count=1))
-        yield tap.planted(f"another share of {name}", [*text_errors(rows, changed, svg)])
-    yield tap.planted("another chart", [*text_errors(rows, page, svg[1:])])
+        yield tap.planted(f"another share of {name}", [*text_errors(rows, cases, changed, svg)])
+    yield tap.planted("another chart", [*text_errors(rows, cases, page, svg[1:])])
     if not can_count():
         why = "no valgrind, or a processor without AVX2"
         yield tap.left_out("the calls from C", why)
