@@ -51,22 +51,11 @@ MALFORMED = {
 }
 OTHER_TEXTS = ("", LINES[0].rpartition("|")[0], f"{LINES[0]}|4", f"# {LINES[0]}")
 SIZES = "no buffer of size 3: the sizes are 0, 1, 2, 4, 16, 32, 64, 128, 200, 255, 256 and 300"
-# texts that mh_show rejects, by the reason
-NOT_SHOWN = {
-    "not enough input bytes": ("", "\n"),
-    "Invalid multihash size 65.": ("0041",),
-    "Invalid multihash size 128.": ("008001", f"008001{256 * '0'}"),
-    "Invalid multihash size 9223372036854775807.": ("00ffffffffffffffff7f",),
-    "Invalid multihash size 2.": ("00000000",),
-    "encoding is not minimal": ("8000", "808080808080808000"),
-    "failed to fill whole buffer": ("0001",),
-    "input bytes exceed maximum": ("ffffffffffffffffff", "ffffffffffffffffff0200"),
-    "not hexadecimal": ("0", "0\n", "zz", "00\n\n", "0000\r\n", "000\r\n", "0x0000", " 0000"),
-    "input not read": (65537 * "0",),
-}
 NOT_READ, NOT_WRITTEN = "mh_show: input not read\n1", "mh_show: output not written\n1"
-# other streams for a text, and what is written: the first error is reported
+# texts and other streams for them, and what is written: the first error is reported
 STREAMS = (
+    (f"008001{256 * '0'}", "", "mh_show: Invalid multihash size 128.\n1"),
+    (65537 * "0", "", NOT_READ),
     ("", "< /dev/zero", NOT_READ),
     ("", "< /", NOT_READ),
     ("", "<&-", NOT_READ),
@@ -156,8 +145,10 @@ def shown() -> Iterator[tuple[str, str, str]]:
             digest, end = digits[: 2 * size], "\n" if (size + len(encoded)) % 4 else ""
             yield f"{encoded}{size:02x}{digest}{end}", "", f"code {code}\nsize {size}\ndigest {digest or '-'}\n0"
     yield "1603aAbBCc\n", "", "code 22\nsize 3\ndigest aabbcc\n0"
-    for reason, texts in NOT_SHOWN.items():
-        yield from ((text, "", f"mh_show: {reason}\n1") for text in texts)
+    # texts that mh_show rejects, which Python's tests read too
+    for line in Path(__file__).with_name("not_shown.txt").read_text("utf-8").splitlines()[1:]:
+        text, _, reason = line.replace("\\n", "\n").replace("\\r", "\r").partition("|")
+        yield text, "", f"mh_show: {reason}\n1"
     for size in (512, 1024, 2048, 4096, 8192, 16384, 32768, 65536):
         yield size * "0", "", f"mh_show: Invalid multihash size {size // 2 - 2}.\n1"
     yield from STREAMS
