@@ -4,7 +4,7 @@
 # valgrind, with all warnings as errors; and runs the examples.
 # shellcheck source=checks/lib/tap.sh
 . "$(dirname "$0")/lib/tap.sh"
-plan 32
+plan 36
 set -o pipefail
 # shellcheck source=checks/lib/proved.sh
 . checks/lib/proved.sh
@@ -117,13 +117,31 @@ build_and_run() {
   shift 2
   "$@" -I "$c/include" -o "$to" || return 1
   # shellcheck disable=SC2086
-  $under "$to" "$list" 1 20000 | grep -x "$(($(wc -l < "$list") - 1)) lines, drawn: 20000"
+  prints "$(($(wc -l < "$list") - 1)) lines, drawn: 20000" $under "$to" "$list" 1 20000
 }
+
+# A program with a fault, which prints what the tests print: only its status under a tool tells.
+faulty() {
+  local under=$1 fault=$2
+  printf '%s\n' '#include <limits.h>' '#include <stdio.h>' '#include <stdlib.h>' 'int main(void) {' \
+    "volatile int most = INT_MAX; char *volatile made = malloc(1); $fault" \
+    "return puts(\"$(($(wc -l < "$list") - 1)) lines, drawn: 20000\") < 0; }" > "$work/faulty.c"
+  build_and_run faulty "$under" cc -g "${@:3}" "$work/faulty.c"
+}
+
+# The tests over vectors of which one in the middle is wrong.
+wrong_vector() {
+  local list=$work/wrong.tsv
+  sed '3000s/invalid_size/overflow/' crates/vectors/data/verdicts.tsv > "$list"
+  build_and_run wrong "" cc "${tests[@]}" "$library"
+}
+
+valgrind=(valgrind -q --error-exitcode=9 --leak-check=full --errors-for-leak-kinds=all)
+sanitize=(-DHEAP -fsanitize=address -fsanitize=undefined -fno-sanitize-recover=all)
 
 # What a compiler has to pass: its command, with the flags for the language.
 test_compiler() {
   local name=$1 from=("${@:2}") test=("${tests[@]}" -x none "$library")
-  local sanitize=(-DHEAP -fsanitize=address -fsanitize=undefined -fno-sanitize-recover=all)
   try "$name, header alone" stands_alone "${from[@]}"
   try "$name, plain" build_and_run "$name" "" "${from[@]}" -O2 "${test[@]}"
   try "$name, address and undefined-behaviour sanitizers" build_and_run "$name-san" "" "${from[@]}" -g -O1 \
@@ -139,8 +157,7 @@ test_compilers() {
 
 # Each access of the library is checked, which the compilers' sanitizers do not see.
 under_valgrind() {
-  build_and_run valgrind "valgrind -q --error-exitcode=9 --leak-check=full --errors-for-leak-kinds=all" cc \
-    "${c_flags[@]}" -g -O1 -DHEAP "${tests[@]}" "$library"
+  build_and_run valgrind "${valgrind[*]}" cc "${c_flags[@]}" -g -O1 -DHEAP "${tests[@]}" "$library"
 }
 
 # A processor without what x86-64-v2 adds.
@@ -193,17 +210,20 @@ stream_example() {
 
 # ---- all of it
 
-has 32 cc python3 rt || exit 0
+has 36 cc python3 rt || exit 0
 try "static library" build_library
-try "the prebuilt archives" prebuilt_archives
+try "the prebuilt archives: 2 comparisons" prebuilt_archives
 try "a planted archive of them" rejects "aarch64/libmultihash_c.a differ: byte 10000" planted_prebuilt
 has 9 nm objdump ar && look_at_library
 test_compilers
-has 1 valgrind && try valgrind under_valgrind
+try "an access after a buffer" rejects AddressSanitizer faulty "" 'made[1] = 0; free(made);' "${sanitize[@]}"
+try "a sum that is too large" rejects "signed integer overflow" faulty "" 'most++; free(made);' "${sanitize[@]}"
+try "a wrong vector" rejects "not so: " wrong_vector
+has 2 valgrind && try valgrind under_valgrind && try "a leak" rejects "definitely lost" faulty "${valgrind[*]}" 'made = 0;'
 has 1 qemu-x86_64 && try "a processor of the baseline" on_old_processor
 try "C by hand" by_hand plain
 try "fast C by hand" by_hand fast
-try "what is planted in C by hand" planted_in_c
+try "what is planted in C by hand: 40 comparisons" planted_in_c
 try "the example of the page" example_in bindings/c/README.md
 sed 's/int main(void)/int main()/' bindings/c/README.md > "$work/page.md"
 try "another example" rejects "> int main()" example_in "$work/page.md"

@@ -13,7 +13,7 @@ scripts() { listed -z | xargs -0 grep -lIE -m 1 -e "$1" 2> "$work/log" | sort; }
 shell=$(scripts '^(#! ?/.*\b(ba)?sh|# shellcheck shell=bash)$')
 python=$({ listed '*.py' && scripts '^#!.*python'; } | sort -u)
 javascript=$(listed '*.js' '*.ts')
-tested=$(listed "*.t" "*test.sh" | grep -vE "^bindings/(c|python)/|/(c_library|install|portable|release|rust)\.t$")
+tested=$(listed "*.t" "*test.sh" | grep -vE "^bindings/(c|python)/|/(install|release|rust)\.t$")
 # All but the tests of the package for Python have types.
 typed=$(grep -v '^bindings/python/tests/' <<< "$python")
 

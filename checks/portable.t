@@ -4,7 +4,7 @@
 # sanitizers, on other machines in emulators, and against the archive's results.
 # shellcheck source=checks/lib/tap.sh
 . "$(dirname "$0")/lib/tap.sh"
-plan 28
+plan 29
 set -o pipefail
 # shellcheck source=checks/lib/proved.sh
 . checks/lib/proved.sh
@@ -95,10 +95,17 @@ freestanding() {
   for target in arm64-apple-macos11 x86_64-pc-windows-msvc wasm32-unknown-unknown thumbv7em-none-eabi \
     riscv32-unknown-elf; do
     clang --target=$target -ffreestanding -nostdlibinc "${warnings[@]}" -Wno-conversion -Wno-unused-parameter \
-      -std=c11 -O2 -c "$tree/multihash.c" -o "$work/free.o" &&
+      -std=c11 -O2 -c "$1/multihash.c" -o "$work/free.o" &&
       llvm-nm --undefined-only -j "$work/free.o" | sed -E 's/^_*//; /^stack_(chk_fail|chk_guard|pointer)$/d' | sort |
-      paste -sd ' ' | grep -x 'memcpy memmove memset' || return 1
+      paste -sd ' ' | tee -a /dev/stderr | grep -x 'memcpy memmove memset' || return 1
   done
+}
+
+# The same of a copy that calls another function on a machine in the middle.
+another_function() {
+  rm -rf "$work/planted" && cp -r "$tree" "$work/planted" && printf '%s\n' '#ifdef __wasm__' 'int another(void);' \
+    'int one_more(void);' 'int one_more(void) { return another(); }' '#endif' >> "$work/planted/multihash.c"
+  freestanding "$work/planted"
 }
 
 test_compiler() {
@@ -126,11 +133,12 @@ tests_planted() {
 
 test_here() {
   local at
-  try "two files" two_files
+  try "two files: 5 comparisons" two_files
   test_compiler cc
   with_all 2 && has 2 clang && test_compiler clang
-  has 1 clang llvm-nm && try "objects without a C library" freestanding
-  has 1 nm objdump && try "what the object needs" keeps_no_state
+  has 2 clang llvm-nm && try "objects without a C library" freestanding "$tree" &&
+    try "one of them that needs another function" rejects "another memcpy" another_function
+  has 1 nm objdump && try "what the object needs: 2 comparisons" keeps_no_state
   try "an access after an input" rejects "Aborted" tests_planted 's/\(w2c_multihash_head(.*bytes_length\))/\1 + 1)/'
   try "an access after an output" rejects "Aborted" tests_planted 's/\(ADDRESS(OUT), out_length\))/\1 + 1)/'
   for at in -1 bytes_length; do
@@ -157,7 +165,7 @@ on_windows() {
   if [ -d "$WINEPREFIX" ]; then wineserver -k; fi
 }
 
-has 28 cc python3 || exit 0
+has 29 cc python3 || exit 0
 if has 10 rt wasm2c=1.0.32 wasm2wat=1.0.32 wat2wasm=1.0.32; then
   try "the generated file" generated
   try "a wrong byte of it" rejects "module.h differ: " planted_generated
