@@ -132,9 +132,9 @@ module _ (n m : ℕ) (varint rest : List ℕ) (is : IsVarint n varint) where
       (both.0, told ∙ ap Some both.1)
 
   -- a varint was read from a part of the input: the rest of the part is left
-  pub number_cut : (part more : List ℕ) (new : Option (List ℕ)) → varint ++ rest ≡ part ++ more → ConsumesVarint m (Some part) new
+  pub number_in_part : (part more : List ℕ) (new : Option (List ℕ)) → varint ++ rest ≡ part ++ more → ConsumesVarint m (Some part) new
       → (left : List ℕ) × (new ≡ Some left) × (m ≡ n) × (rest ≡ left ++ more)
-  number_cut part more new cut (read, also, consumes) =
+  number_in_part part more new cut (read, also, consumes) =
       let (left, told, split) = Consumes-told part read new consumes in
       let whole = cut ∙ (ap (λ (z : List ℕ). z ++ more) split ∙ append_assoc read left more) in
       let both = same_number (varint ++ rest) m n (left ++ more) rest (read, also, whole) (varint, is, refl) in
@@ -149,9 +149,9 @@ module _ (before after : ℕ) (same : after ≡ before) (e : Refusal) where
       number_no_error (varint ++ rest) n rest error (varint, is, refl) bad
 
   -- a part of the input is rejected only if it ends within the varint
-  pub number_early : (n : ℕ) (varint rest part more : List ℕ) (new : Option (List ℕ)) → IsVarint n varint → varint ++ rest ≡ part ++ more
+  pub number_truncated : (n : ℕ) (varint rest part more : List ℕ) (new : Option (List ℕ)) → IsVarint n varint → varint ++ rest ≡ part ++ more
       → VarintFails before after e (Some part) new → IsVarintError insufficient e
-  number_early n varint rest part more new is cut fails =
+  number_truncated n varint rest part more new is cut fails =
       let (error, named, bad) = fails.front same in
       named ∙ ap of_varint (error_of_part n varint rest part more error is cut bad)
 
@@ -161,8 +161,8 @@ module _ (before after : ℕ) (same : after ≡ before) (e : Refusal) where
   exact_found n body more old new long at fails = omega (arith, (rw at at fails.short) same, length-append body more, long)
 
   -- otherwise the input ended
-  pub exact_early : (n : ℕ) (old new : Option (List ℕ)) → ExactFails n before after e old new → IsEof e
-  exact_early n old new fails = elim fails.cause [ inl own ↦ absurd (omega (arith, own.0, same)) | inr ended ↦ ended.1 ]
+  pub exact_truncated : (n : ℕ) (old new : Option (List ℕ)) → ExactFails n before after e old new → IsEof e
+  exact_truncated n old new fails = elim fails.cause [ inl own ↦ absurd (omega (arith, own.0, same)) | inr ended ↦ ended.1 ]
 
 -- reading exactly `n` bytes failed, after calls that counted no failure: the facts are the laws of `read_exact`
 pub exact_fails : (n before middle after : ℕ) (old new : Option (List ℕ)) (error : Fault) → middle ≡ before

@@ -62,4 +62,4 @@ pub record ConsumesAtScaleError (S : ℕ) (e : Refusal) (old new : Option (List 
       HasScaleVerdict S consumed (invalid_code code) × (length consumed ≡ 8)
   pub size : (size : ℕ) → IsInvalidSize size e →
       HasScaleVerdict S consumed (invalid_size size) × (length consumed ≡ 9)
-  pub early : (IsEof e ⊎ IsReaderError e) → HasScaleVerdict S consumed unexpected_eof
+  pub truncated : (IsEof e ⊎ IsReaderError e) → HasScaleVerdict S consumed unexpected_eof

@@ -147,7 +147,7 @@ impl Error {
     /// also changes an error of `from_bytes` or `from_value` that counts trailing bytes.
     pub fn is_incomplete(&self) -> bool
         ensures ends { IsTrue result ↔ (IsVarintError insufficient self.now ⊎ IsEof self.now) }
-        ensures early { (v : Verdict) → IsErrorOf self.now v → (IsTrue result ↔ IsIncomplete v) }
+        ensures incomplete { (v : Verdict) → IsErrorOf self.now v → (IsTrue result ↔ IsIncomplete v) }
     {
         match &self.kind {
             Kind::Io(e) => e.is_unexpected_eof(),

@@ -79,18 +79,18 @@ reports_same input a b unexpected_eof h k = (errors_same a b 6 0 0 h k).0
 
 -- ---- a pair
 
-takes_no_byte_after_form : ¬ (ConsumesForm (accepted (pair 0 [])) (zeros ++ 0 ∷ 7 ∷ []) 10)
-takes_no_byte_after_form h =
+consumes_no_byte_after_form : ¬ (ConsumesForm (accepted (pair 0 [])) (zeros ++ 0 ∷ 7 ∷ []) 10)
+consumes_no_byte_after_form h =
     omega (arith, ap (λ (z : List ℕ). length z) h.spelled, h.is_code.eight, length-append h.code (0 ∷ []))
 
-takes_no_part_of_form : ¬ (ConsumesForm (accepted (pair 0 [])) (zeros ++ 0 ∷ []) 8)
-takes_no_part_of_form h =
+consumes_no_part_of_form : ¬ (ConsumesForm (accepted (pair 0 [])) (zeros ++ 0 ∷ []) 8)
+consumes_no_part_of_form h =
     omega (arith, ap (λ (z : List ℕ). length z) h.spelled, h.is_code.eight, length-append h.code (0 ∷ []))
 
 -- ---- no size is rejected
 
-takes_no_size : (size taken : ℕ) (bytes : List ℕ) → ¬ (ConsumesForm (invalid_size size) bytes taken)
-takes_no_size size taken bytes h = h
+consumes_no_size : (size taken : ℕ) (bytes : List ℕ) → ¬ (ConsumesForm (invalid_size size) bytes taken)
+consumes_no_size size taken bytes h = h
 
 -- a size of one byte is never too large, and a larger number has no byte
 no_byte_is_too_large : (size : ℕ) → ¬ (HasScaleVerdict 255 (zeros ++ 255 ∷ []) (invalid_size size))
@@ -98,14 +98,14 @@ no_byte_is_too_large size = byte_fits (zeros ++ 255 ∷ []) size (all_below 256 
 
 -- ---- a code that is too large
 
-takes_no_size_after_code : ¬ (ConsumesForm (invalid_code 18446744073709551615) (all_255 ++ 0 ∷ []) 9)
-takes_no_size_after_code h = omega (arith, h.1)
+consumes_no_size_after_code : ¬ (ConsumesForm (invalid_code 18446744073709551615) (all_255 ++ 0 ∷ []) 9)
+consumes_no_size_after_code h = omega (arith, h.1)
 
-takes_no_code_in_range : ¬ (ConsumesForm (invalid_code 0) zeros 8)
-takes_no_code_in_range ((bytes, rest, is, above, cut), eight) = omega (arith, above)
+consumes_no_code_in_range : ¬ (ConsumesForm (invalid_code 0) zeros 8)
+consumes_no_code_in_range ((bytes, rest, is, above, cut), eight) = omega (arith, above)
 
-takes_no_other_code : ¬ (ConsumesForm (invalid_code 9223372036854775808) all_255 8)
-takes_no_other_code h =
+consumes_no_other_code : ¬ (ConsumesForm (invalid_code 9223372036854775808) all_255 8)
+consumes_no_other_code h =
     omega (
       arith,
       ap code_named
@@ -115,19 +115,19 @@ takes_no_other_code h =
 
 -- ---- no varint is read
 
-takes_no_varint : (f : VarintError) (taken : ℕ) (bytes : List ℕ) → ¬ (ConsumesForm (malformed f) bytes taken)
-takes_no_varint f taken bytes h = h
+consumes_no_varint : (f : VarintError) (taken : ℕ) (bytes : List ℕ) → ¬ (ConsumesForm (malformed f) bytes taken)
+consumes_no_varint f taken bytes h = h
 
 -- ---- truncated input
 
-takes_no_part_of_cut_code : (taken : ℕ) → ConsumesForm unexpected_eof (0 ∷ 0 ∷ 0 ∷ 0 ∷ 0 ∷ 0 ∷ 0 ∷ []) taken → taken ≡ 0
-takes_no_part_of_cut_code taken h = h.no_code (omega arith)
+consumes_no_part_of_truncated_code : (taken : ℕ) → ConsumesForm unexpected_eof (0 ∷ 0 ∷ 0 ∷ 0 ∷ 0 ∷ 0 ∷ 0 ∷ []) taken → taken ≡ 0
+consumes_no_part_of_truncated_code taken h = h.no_code (omega arith)
 
-takes_whole_code : (taken : ℕ) → ConsumesForm unexpected_eof zeros taken → taken ≡ 8
-takes_whole_code taken h = h.code refl
+consumes_whole_code : (taken : ℕ) → ConsumesForm unexpected_eof zeros taken → taken ≡ 8
+consumes_whole_code taken h = h.code refl
 
-takes_whole_size : (taken : ℕ) → ConsumesForm unexpected_eof (zeros ++ 2 ∷ 7 ∷ []) taken → taken ≡ 9
-takes_whole_size taken h = h.size (omega arith)
+consumes_whole_size : (taken : ℕ) → ConsumesForm unexpected_eof (zeros ++ 2 ∷ 7 ∷ []) taken → taken ≡ 9
+consumes_whole_size taken h = h.size (omega arith)
 
 -- ---- the first bytes of an input
 
@@ -191,11 +191,11 @@ not_determined (inl all) = omega (arith, all)
 not_determined (inr (inl long)) = omega (arith, long)
 not_determined (inr (inr late)) = late code_alone
 
-reports_no_cut_as_end : ¬ (ReportsPrefix (0 ∷ []) 2 (outcome 6 0 0 0 0 2))
-reports_no_cut_as_end h = omega (arith, (h.cut (omega arith) code_alone).is_status)
+reports_no_insufficient_as_end : ¬ (ReportsPrefix (0 ∷ []) 2 (outcome 6 0 0 0 0 2))
+reports_no_insufficient_as_end h = omega (arith, (h.cut (omega arith) code_alone).is_status)
 
-takes_no_prefix_alone : ¬ (ReportsPrefix both 3 (outcome 0 0 0 2 1 2))
-takes_no_prefix_alone h = omega (arith, h.taken)
+consumes_no_prefix_alone : ¬ (ReportsPrefix both 3 (outcome 0 0 0 2 1 2))
+consumes_no_prefix_alone h = omega (arith, h.taken)
 
 -- the digest is there, though not in the prefix
 reports_no_end : ¬ (ReportsPrefix both 3 (outcome 6 0 0 0 0 3))
@@ -229,16 +229,16 @@ module _ (limit : ℕ) (input : List ℕ) (a b : Decoded) (h : ReadsWithin limit
       sym (settled_at limit input a.taken h.inside c)
       ∙ (ap (λ (z : List ℕ). length z) (shortest_unique limit input c.front d.front c.shortest d.shortest) ∙ settled_at limit input b.taken k.inside d)
 
-  takes_same : (v : Verdict) → HasVerdict limit input v → a.taken ≡ b.taken
-  takes_same (accepted p) has = settles_alike (h.settled (accepted p) has (λ early. early)) (k.settled (accepted p) has (λ early. early))
-  takes_same (invalid_size n) has = settles_alike (h.settled (invalid_size n) has (λ early. early)) (k.settled (invalid_size n) has (λ early. early))
-  takes_same (invalid_code n) has = settles_alike (h.settled (invalid_code n) has (λ early. early)) (k.settled (invalid_code n) has (λ early. early))
-  takes_same (malformed insufficient) has = h.insufficient has ∙ sym (k.insufficient has)
-  takes_same (malformed overflow) has =
-      settles_alike (h.settled (malformed overflow) has (λ early. early)) (k.settled (malformed overflow) has (λ early. early))
-  takes_same (malformed not_minimal) has =
-      settles_alike (h.settled (malformed not_minimal) has (λ early. early)) (k.settled (malformed not_minimal) has (λ early. early))
-  takes_same unexpected_eof has =
+  consumes_same : (v : Verdict) → HasVerdict limit input v → a.taken ≡ b.taken
+  consumes_same (accepted p) has = settles_alike (h.settled (accepted p) has (λ incomplete. incomplete)) (k.settled (accepted p) has (λ incomplete. incomplete))
+  consumes_same (invalid_size n) has = settles_alike (h.settled (invalid_size n) has (λ incomplete. incomplete)) (k.settled (invalid_size n) has (λ incomplete. incomplete))
+  consumes_same (invalid_code n) has = settles_alike (h.settled (invalid_code n) has (λ incomplete. incomplete)) (k.settled (invalid_code n) has (λ incomplete. incomplete))
+  consumes_same (malformed insufficient) has = h.insufficient has ∙ sym (k.insufficient has)
+  consumes_same (malformed overflow) has =
+      settles_alike (h.settled (malformed overflow) has (λ incomplete. incomplete)) (k.settled (malformed overflow) has (λ incomplete. incomplete))
+  consumes_same (malformed not_minimal) has =
+      settles_alike (h.settled (malformed not_minimal) has (λ incomplete. incomplete)) (k.settled (malformed not_minimal) has (λ incomplete. incomplete))
+  consumes_same unexpected_eof has =
       let (code, size, head) = h.cut has in
       let (c, s, at) = k.cut has in
       (head_unique code size a.taken input head c s b.taken at).2
@@ -247,7 +247,7 @@ module _ (limit : ℕ) (input : List ℕ) (a b : Decoded) (h : ReadsWithin limit
   reads_same =
       let (v, has, reports) = h.verdict in
       let (w, given, other) = k.verdict in
-      (reports_same input a b v reports (subst (Reports input b) (verdict_unique limit input w v given has) other), takes_same v has)
+      (reports_same input a b v reports (subst (Reports input b) (verdict_unique limit input w v given has) other), consumes_same v has)
 
 heads_same : (input : List ℕ) (f g : Front) → ReportsHead input f → ReportsHead input g
     → (f.status ≡ g.status) × (f.code ≡ g.code) × (f.digest_length ≡ g.digest_length) × (f.taken ≡ g.taken)

@@ -19,7 +19,7 @@ use Rattle.multihash_c.specs.Decoded.{Reports, ReportsError, Determines, ReadsWi
 
 -- an input has one verdict, so it is not both incomplete and complete
 other_kind : (S : ℕ) (x : List ℕ) (v w : Verdict) → HasVerdict S x v → HasVerdict S x w → IsIncomplete w → ¬ (IsIncomplete v) → ⊥
-other_kind S x v w has also early late = late (subst IsIncomplete (verdict_unique S x w v also has) early)
+other_kind S x v w has also incomplete late = late (subst IsIncomplete (verdict_unique S x w v also has) incomplete)
 
 module _ (limit code size len : ℕ) (input : List ℕ) (h : HasHead code size len input) (d : Decoded) where
   -- a verdict that is not incomplete, after its shortest prefix
@@ -36,7 +36,7 @@ module _ (limit code size len : ℕ) (input : List ℕ) (h : HasHead code size l
   -- a size that is too large
   pub size_read : digest_limit limit < size → d.taken ≡ len → Reports input d (invalid_size size) → ReadsWithin limit input d
   size_read over at reports =
-      complete_read (invalid_size size) (h.varints.code_bytes ++ h.varints.size_bytes) (drop len input, h.varints, over) (λ early. early) reports
+      complete_read (invalid_size size) (h.varints.code_bytes ++ h.varints.size_bytes) (drop len input, h.varints, over) (λ incomplete. incomplete) reports
       (omega (arith, h.within, at)) (shortest_size limit size input (drop len input) h.varints over)
       (rw at (h.varints.cut ∙ sym (append_assoc h.varints.code_bytes h.varints.size_bytes (drop len input))))
 
@@ -65,7 +65,7 @@ module _ (limit code size len : ℕ) (input : List ℕ) (h : HasHead code size l
       pair_begins size input (drop len input) h.varints p.digest rest long (sym (take-append-drop size (drop len input))) in
       let left : rest ≡ drop d.taken input = drop-drop size len input ∙ ap (λ n. drop n input) (sym at) in
       let fits : length p.digest ≤ digest_limit limit = omega (arith, long, within) in
-      complete_read (accepted p) begins.encoding (rest, begins, fits) (λ early. early) (reports p h.is_code refl) (omega (arith, there, at))
+      complete_read (accepted p) begins.encoding (rest, begins, fits) (λ incomplete. incomplete) (reports p h.is_code refl) (omega (arith, there, at))
       (shortest_pair limit p input rest begins fits) (begins.cut ∙ ap (λ (z : List ℕ). begins.encoding ++ z) left)
 
 -- ---- a varint is malformed
@@ -76,7 +76,7 @@ module _ (input : List ℕ) (e : Refusal) (taken : ℕ) (h : IsHeadError input e
     verdict = (malformed h.error, h.verdict limit, reports);
     inside = omega (arith, h.within, at);
     settled = λ v also late.
-        rw at (h.settled limit (λ early. other_kind limit input v (malformed h.error) also (h.verdict limit) early late));
+        rw at (h.settled limit (λ incomplete. other_kind limit input v (malformed h.error) also (h.verdict limit) incomplete late));
     insufficient = λ also.
         let same = verdict_unique limit input (malformed h.error) (malformed insufficient) (h.verdict limit) also in at ∙ h.insufficient (cc);
     cut = λ also. absurd (cc (verdict_unique limit input (malformed h.error) unexpected_eof (h.verdict limit) also));

@@ -3,10 +3,10 @@ use Rattle.std.proofs.Common.{◌≡◌, ◌≤◌, ℕ, List, ◌++◌, Option,
 use Rattle.std.proofs.lemmas.List.{append_cancel_right}
 use Rattle.multihash.specs.Varint.{IsVarint}
 use Rattle.multihash.specs.Refusal.{IsOutOfMemory}
-use Rattle.multihash.proofs.CallingLemmas.{number_read, number_cut, number_found, number_early, exact_found, exact_early}
+use Rattle.multihash.proofs.CallingLemmas.{number_read, number_in_part, number_found, number_truncated, exact_found, exact_truncated}
 use Rattle.multihash.proofs.Varints.VarintLemmas.{same_number, varint_unique}
 use Rattle.multihash.proofs.EncodingLemmas.{same_cut}
-use Rattle.storage.specs.Prefixed.{IsPrefixed, IsFailed, IsEarly, PrefixedFails}
+use Rattle.storage.specs.Prefixed.{IsPrefixed, IsFailed, IsTruncatedOrMemory, PrefixedFails}
 use Rattle.storage.specs.declared.prefixed.PrefixedError.{PrefixedError}
 
 -- the parts of a block with its length and of what follows it
@@ -45,12 +45,12 @@ module _ (limit before after : ℕ) (same : after ≡ before) (e : PrefixedError
         absurd (exact_found before after same r n block more mid new (omega (arith, told.0)) told.1 fails)
 
   -- if the input ends within the bytes, the error says so, or is out of memory
-  pub prefixed_early : (part more : List ℕ) (new : Option (List ℕ)) → bytes ≡ part ++ more → PrefixedFails limit before after e (Some part) new
-      → IsFailed IsEarly e
-  prefixed_early part more new cut (inl (r, is, fails)) =
-      (r, is, inl (number_early before after same r (length block) h.len block part more new h.is_len (sym h.parts ∙ cut) fails))
-  prefixed_early part more new cut (inr (n, mid, first, inl over)) =
-      let (_, _, long, _) = number_cut (length block) n h.len block h.is_len part more mid (sym h.parts ∙ cut) first in
+  pub prefixed_truncated : (part more : List ℕ) (new : Option (List ℕ)) → bytes ≡ part ++ more → PrefixedFails limit before after e (Some part) new
+      → IsFailed IsTruncatedOrMemory e
+  prefixed_truncated part more new cut (inl (r, is, fails)) =
+      (r, is, inl (number_truncated before after same r (length block) h.len block part more new h.is_len (sym h.parts ∙ cut) fails))
+  prefixed_truncated part more new cut (inr (n, mid, first, inl over)) =
+      let (_, _, long, _) = number_in_part (length block) n h.len block h.is_len part more mid (sym h.parts ∙ cut) first in
       absurd (omega (arith, over.1, within, long))
-  prefixed_early part more new cut (inr (n, mid, first, inr (_, inl memory))) = (memory.0.0, memory.0.1, inr (inr memory.0.2))
-  prefixed_early part more new cut (inr (n, mid, first, inr (_, inr (r, is, fails)))) = (r, is, inr (inl (exact_early before after same r n mid new fails)))
+  prefixed_truncated part more new cut (inr (n, mid, first, inr (_, inl memory))) = (memory.0.0, memory.0.1, inr (inr memory.0.2))
+  prefixed_truncated part more new cut (inr (n, mid, first, inr (_, inr (r, is, fails)))) = (r, is, inr (inl (exact_truncated before after same r n mid new fails)))

@@ -41,9 +41,9 @@ PrefixedFails limit before after e =
     FailsInTurn (λ old new. IsFailed (λ r. VarintFails before after r old new) e) ConsumesVarint
     (BlockFails limit before after e)
 
--- the input ended early, or an allocation failed
-abbrev pub IsEarly : Refusal → Type 0
-IsEarly r = IsVarintError insufficient r ⊎ IsEof r ⊎ IsOutOfMemory r
+-- the input was truncated, or an allocation failed
+abbrev pub IsTruncatedOrMemory : Refusal → Type 0
+IsTruncatedOrMemory r = IsVarintError insufficient r ⊎ IsEof r ⊎ IsOutOfMemory r
 
 -- a length is at the front of the input, and fewer bytes follow it
 abbrev pub IsTruncated : List ℕ → Refusal → Type 0

@@ -18,7 +18,7 @@ const CHUNK: usize = 4096;
 /// The error of reading a block with its length.
 #[derive(Debug, Drop)]
 pub enum PrefixedError {
-    /// A varint or a multihash is malformed, the input ends early, the reader failed, or an allocation did.
+    /// A varint or a multihash is malformed, the input is truncated, the reader failed, or an allocation did.
     Failed(Error),
     /// The block has this many bytes, more than the limit.
     TooLong(u64),

@@ -11,7 +11,7 @@ use Rattle.multihash.specs.Consuming.{IsFrontErrorAt, IsHeadError, ReadMayFailWi
 use Rattle.multihash.proofs.Varints.VarintLemmas.{front_unique, error}
 use Rattle.multihash.proofs.Readings.VerdictLemmas.{verdict_unique}
 use Rattle.multihash.proofs.Readings.SettlingLemmas.{shortest_unique, shortest_code_error}
-use Rattle.multihash.proofs.Examples.ReadingVectors.{other, eof, told, taken_is}
+use Rattle.multihash.proofs.Examples.ReadingVectors.{other, eof, told, consumed_is}
 use Rattle.multihash.proofs.Examples.KnownVectors.{all_continuation, code_alone, size_above_limit, size_settles, shortest_of_size}
 
 -- ---- errors
@@ -63,19 +63,19 @@ not_insufficient h =
     cc
 
 -- no more is left than there was
-pub gives_none_back : (consumed : List ℕ) → ¬ (Consumes (Some []) consumed (Some (7 ∷ [])))
-gives_none_back [] h = omega (arith, ap (λ (o : Option (List ℕ)). length (told o)) h)
-gives_none_back (b ∷ consumed) h = omega (arith, ap (λ (o : Option (List ℕ)). length (told o)) h)
+pub returns_no_byte : (consumed : List ℕ) → ¬ (Consumes (Some []) consumed (Some (7 ∷ [])))
+returns_no_byte [] h = omega (arith, ap (λ (o : Option (List ℕ)). length (told o)) h)
+returns_no_byte (b ∷ consumed) h = omega (arith, ap (λ (o : Option (List ℕ)). length (told o)) h)
 
 varint_takes_its_own : ¬ (ConsumesAtVarintError of_not_bytes (Some []) (Some (7 ∷ [])))
-varint_takes_its_own h = gives_none_back h.consumed h.consumes
+varint_takes_its_own h = returns_no_byte h.consumed h.consumes
 
 -- the consumed bytes show that the varint is malformed
 shows_no_other_error : ¬
     (ConsumesAtVarintError (of_varint overflow) (Some (0x80 ∷ 0x00 ∷ [])) (Some []))
 shows_no_other_error h =
     let has =
-    subst (BeginsMalformed overflow) (taken_is (0x80 ∷ 0x00 ∷ []) [] h.consumed h.consumes)
+    subst (BeginsMalformed overflow) (consumed_is (0x80 ∷ 0x00 ∷ []) [] h.consumed h.consumes)
     (h.shows overflow refl) in
     let same : error overflow ≡ error not_minimal =
     front_unique (0x80 ∷ 0x00 ∷ []) (error overflow) (error not_minimal) has (padded_front []) in
@@ -84,11 +84,11 @@ shows_no_other_error h =
 no_byte_after_the_zero : ¬
     (ConsumesAtVarintError (of_varint not_minimal) (Some (0x80 ∷ 0x00 ∷ 0x07 ∷ [])) (Some []))
 no_byte_after_the_zero h =
-    let is = taken_is (0x80 ∷ 0x00 ∷ 0x07 ∷ []) [] h.consumed h.consumes in
-    let early =
+    let is = consumed_is (0x80 ∷ 0x00 ∷ 0x07 ∷ []) [] h.consumed h.consumes in
+    let sooner =
     h.no_sooner (0x80 ∷ 0x00 ∷ [])
     (0x07 ∷ [], (λ e. omega (arith, ap (λ (z : List ℕ). length z) e)), is) in
-    not_insufficient early
+    not_insufficient sooner
 
 insufficient_takes_all : ¬
     (ConsumesAtVarintError (of_varint insufficient) (Some (0x80 ∷ 0x80 ∷ [])) (Some (0x80 ∷ [])))
@@ -98,25 +98,25 @@ insufficient_takes_all h = omega (arith, ap (λ (z : List ℕ). length z) (h.all
 fails_not_after_varint : ¬ (ConsumesAtVarintError (of_io other) (Some (0x80 ∷ 0x00 ∷ [])) (Some []))
 fails_not_after_varint h =
     not_insufficient
-    (subst IsInsufficient (taken_is (0x80 ∷ 0x00 ∷ []) [] h.consumed h.consumes)
+    (subst IsInsufficient (consumed_is (0x80 ∷ 0x00 ∷ []) [] h.consumed h.consumes)
     (h.failed (other, refl, inl refl)))
 
 -- ---- a failed `read`
 
 -- an input whose verdict is not incomplete has no incomplete one
-not_early : (a consumed : List ℕ) (v w : Verdict) → Consumes (Some (a ++ [])) consumed (Some []) → HasVerdict 4 a w → ¬ (IsIncomplete w)
+not_incomplete : (a consumed : List ℕ) (v w : Verdict) → Consumes (Some (a ++ [])) consumed (Some []) → HasVerdict 4 a w → ¬ (IsIncomplete w)
     → HasVerdict 4 consumed v → ¬ (IsIncomplete v)
-not_early a consumed v w consumes late stays h early =
-    stays (subst IsIncomplete (verdict_unique 4 a v w (subst (λ (z : List ℕ). HasVerdict 4 z v) (taken_is a [] consumed consumes) h) late) early)
+not_incomplete a consumed v w consumes late stays h incomplete =
+    stays (subst IsIncomplete (verdict_unique 4 a v w (subst (λ (z : List ℕ). HasVerdict 4 z v) (consumed_is a [] consumed consumes) h) late) incomplete)
 
 read_takes_its_own : ¬ (ConsumesAtError 4 of_not_bytes (Some []) (Some (7 ∷ [])))
-read_takes_its_own h = gives_none_back h.consumed h.consumes
+read_takes_its_own h = returns_no_byte h.consumed h.consumes
 
 -- the consumed bytes are insufficient by themselves
 insufficient_after_no_size : ¬
     (ConsumesAtError 4 (of_varint insufficient) (Some (0 ∷ 5 ∷ [])) (Some []))
 insufficient_after_no_size h =
-    not_early (0 ∷ 5 ∷ []) h.consumed (malformed insufficient) (invalid_size 5) h.consumes size_above_limit (λ e. e) (h.insufficient refl).0 tt
+    not_incomplete (0 ∷ 5 ∷ []) h.consumed (malformed insufficient) (invalid_size 5) h.consumes size_above_limit (λ e. e) (h.insufficient refl).0 tt
 
 -- and they are all of the input
 insufficient_leaves_none : ¬
@@ -128,45 +128,45 @@ ends_not_inside_varint : ¬ (ConsumesAtError 4 (of_io eof) (Some (0 ∷ [])) (So
 ends_not_inside_varint h =
     let same : unexpected_eof ≡ malformed insufficient =
     verdict_unique 4 (0 ∷ []) unexpected_eof (malformed insufficient)
-    (subst (λ (z : List ℕ). HasVerdict 4 z unexpected_eof) (taken_is (0 ∷ []) [] h.consumed h.consumes)
+    (subst (λ (z : List ℕ). HasVerdict 4 z unexpected_eof) (consumed_is (0 ∷ []) [] h.consumed h.consumes)
     (h.eof (eof, refl, refl))) code_alone in
     cc
 
 -- a reader is not called after the bytes that settle
 fails_not_after_size : ¬ (ConsumesAtError 4 (of_io other) (Some (0 ∷ 5 ∷ [])) (Some []))
 fails_not_after_size h =
-    let (v, early, has) = h.failed (other, refl, inl refl) in
-    not_early (0 ∷ 5 ∷ []) h.consumed v (invalid_size 5) h.consumes size_above_limit (λ e. e) has early
+    let (v, incomplete, has) = h.failed (other, refl, inl refl) in
+    not_incomplete (0 ∷ 5 ∷ []) h.consumed v (invalid_size 5) h.consumes size_above_limit (λ e. e) has incomplete
 
 -- ---- the shortest prefix that settles
 
-pub takes_no_byte_after_size : ¬ (ConsumesShortestSettling 4 (0 ∷ 5 ∷ 9 ∷ []) (Some []))
-takes_no_byte_after_size h =
+pub consumes_no_byte_after_size : ¬ (ConsumesShortestSettling 4 (0 ∷ 5 ∷ 9 ∷ []) (Some []))
+consumes_no_byte_after_size h =
     omega (
       arith,
       ap (λ (z : List ℕ). length z)
           (shortest_unique 4 (0 ∷ 5 ∷ 9 ∷ []) h.front (0 ∷ 5 ∷ []) h.shortest shortest_of_size),
-      ap (λ (z : List ℕ). length z) (taken_is (0 ∷ 5 ∷ 9 ∷ []) [] h.front h.consumes),
+      ap (λ (z : List ℕ). length z) (consumed_is (0 ∷ 5 ∷ 9 ∷ []) [] h.front h.consumes),
     )
 
 -- ---- nothing that was consumed settles
 
-pub takes_what_settles : ¬ (ConsumesNothingSettling 4 (0 ∷ 5 ∷ 9 ∷ []) (Some (9 ∷ [])))
-takes_what_settles h =
+pub consumes_what_settles : ¬ (ConsumesNothingSettling 4 (0 ∷ 5 ∷ 9 ∷ []) (Some (9 ∷ [])))
+consumes_what_settles h =
     h.unsettled (0 ∷ 5 ∷ []) (
       [],
-      taken_is (0 ∷ 5 ∷ []) (9 ∷ []) h.consumed h.consumes ∙ sym
+      consumed_is (0 ∷ 5 ∷ []) (9 ∷ []) h.consumed h.consumes ∙ sym
           (append-nil (0 ∷ 5 ∷ [])),
     ) size_settles
 
 unsettled_takes_its_own : ¬ (ConsumesNothingSettling 4 [] (Some (7 ∷ [])))
-unsettled_takes_its_own h = gives_none_back h.consumed h.consumes
+unsettled_takes_its_own h = returns_no_byte h.consumed h.consumes
 
 -- ---- the error of a head
 
 pub shortest_of_padded : (S : ℕ) → IsShortestSettling S padded (0x80 ∷ 0x00 ∷ [])
 shortest_of_padded S =
-    shortest_code_error S not_minimal padded (λ early. early) (record {
+    shortest_code_error S not_minimal padded (λ incomplete. incomplete) (record {
       shown = 0x80 ∷ 0x00 ∷ [];
       rest = 0x07 ∷ [];
       cut = refl;
@@ -183,14 +183,14 @@ named_so f g is = cc
 -- no byte after the zero is consumed
 settled_so : (taken : ℕ) → IsHeadError padded (of_varint not_minimal) taken → ConsumesShortestSettling 4 padded (Some (drop taken padded))
 settled_so taken h =
-    h.settled 4 (λ early. subst (λ f. IsIncomplete (malformed f)) (named_so h.error not_minimal h.named) early)
+    h.settled 4 (λ incomplete. subst (λ f. IsIncomplete (malformed f)) (named_so h.error not_minimal h.named) incomplete)
 
 two_taken : (t : List ℕ) → IsShortestSettling 4 padded t → length t ≡ 2
 two_taken t s = ap (λ (z : List ℕ). length z) (shortest_unique 4 padded t (0x80 ∷ 0x00 ∷ []) s (shortest_of_padded 4))
 
 ends_at_no_byte_after_zero : ¬ (IsHeadError padded (of_varint not_minimal) 3)
 ends_at_no_byte_after_zero h =
-    let t = settled_so 3 h in omega (arith, two_taken t.front t.shortest, ap (λ (z : List ℕ). length z) (taken_is padded [] t.front t.consumes))
+    let t = settled_so 3 h in omega (arith, two_taken t.front t.shortest, ap (λ (z : List ℕ). length z) (consumed_is padded [] t.front t.consumes))
 
 ends_inside : ¬ (IsHeadError (0x80 ∷ 0x00 ∷ []) (of_varint not_minimal) 3)
 ends_inside h = omega (arith, h.within)
@@ -236,7 +236,7 @@ varint_fails_by_no_size h =
     elim h.cause [ inl own ↦ omega (arith, own.0) | inr listed ↦ let is = listed.1.1 in cc ]
 
 varint_fails_and_gives_none_back : ¬ (VarintFails 3 4 (of_io other) (Some []) (Some (7 ∷ [])))
-varint_fails_and_gives_none_back h = gives_none_back h.consumed.consumed h.consumed.consumes
+varint_fails_and_gives_none_back h = returns_no_byte h.consumed.consumed h.consumed.consumes
 
 exact_fails_by_no_size : ¬ (ExactFails 2 3 3 (of_size 0) None None)
 exact_fails_by_no_size h =

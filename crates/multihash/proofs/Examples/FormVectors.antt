@@ -14,8 +14,8 @@ use Rattle.multihash.proofs.Forms.ScaleLemmas.{scale_found, has_scale_found, sca
 use Rattle.multihash.specs.Fault.{IsUnexpectedEof}
 use Rattle.multihash.specs.Refusal.{Refusal, of_io, of_size, of_code, of_varint, of_not_bytes}
 use Rattle.multihash.specs.Reading.{Consumes}
-use Rattle.multihash.proofs.Examples.ReadingVectors.{other, eof, taken_is, size_in}
-use Rattle.multihash.proofs.Examples.ConsumingVectors.{gives_none_back, takes_no_byte_after_size}
+use Rattle.multihash.proofs.Examples.ReadingVectors.{other, eof, consumed_is, size_in}
+use Rattle.multihash.proofs.Examples.ConsumingVectors.{returns_no_byte, consumes_no_byte_after_size}
 use Rattle.multihash.specs.Streams.{ConsumesPairs, StopsAfterPairs}
 use Rattle.std.proofs.lemmas.List.Elements.{All-head, All-tail}
 use Rattle.multihash.specs.Varint.{insufficient}
@@ -83,37 +83,37 @@ decoding_rejects_only e (inr (inr (error, is, kind))) = subst DecodingRejects (s
 -- ---- what was consumed
 
 decoding_takes_its_own : ¬ (ConsumesAtScaleError 4 of_not_bytes (Some []) (Some (7 ∷ [])))
-decoding_takes_its_own h = gives_none_back h.consumed h.consumes
+decoding_takes_its_own h = returns_no_byte h.consumed h.consumes
 
 -- a size that fits is not rejected, nor a code in range
-takes_no_size_that_fits : ¬ (ConsumesAtScaleError 4 (of_size 3) (Some (zeros ++ 3 ∷ [])) (Some []))
-takes_no_size_that_fits h = omega (arith, (h.size 3 refl).0.2)
+consumes_no_size_that_fits : ¬ (ConsumesAtScaleError 4 (of_size 3) (Some (zeros ++ 3 ∷ [])) (Some []))
+consumes_no_size_that_fits h = omega (arith, (h.size 3 refl).0.2)
 
-takes_no_code_in_range : ¬ (ConsumesAtScaleError 4 (of_code 0) (Some zeros) (Some []))
-takes_no_code_in_range h = let (bytes, rest, is_code, above, cut) = (h.code 0 refl).0 in omega (arith, above)
+consumes_no_code_in_range : ¬ (ConsumesAtScaleError 4 (of_code 0) (Some zeros) (Some []))
+consumes_no_code_in_range h = let (bytes, rest, is_code, above, cut) = (h.code 0 refl).0 in omega (arith, above)
 
 -- no byte after the size, nor the size after a code that is too large
-takes_no_more_than_nine : ¬ (ConsumesAtScaleError 4 (of_size 5) (Some (zeros ++ 5 ∷ 7 ∷ [])) (Some []))
-takes_no_more_than_nine h = omega (arith, (h.size 5 refl).1, ap (λ (z : List ℕ). length z) (taken_is (zeros ++ 5 ∷ 7 ∷ []) [] h.consumed h.consumes))
+consumes_no_more_than_nine : ¬ (ConsumesAtScaleError 4 (of_size 5) (Some (zeros ++ 5 ∷ 7 ∷ [])) (Some []))
+consumes_no_more_than_nine h = omega (arith, (h.size 5 refl).1, ap (λ (z : List ℕ). length z) (consumed_is (zeros ++ 5 ∷ 7 ∷ []) [] h.consumed h.consumes))
 
-takes_no_size_after_code : ¬ (ConsumesAtScaleError 4 (of_code 18446744073709551615) (Some (all_255 ++ 0 ∷ [])) (Some []))
-takes_no_size_after_code h =
-    omega (arith, (h.code 18446744073709551615 refl).1, ap (λ (z : List ℕ). length z) (taken_is (all_255 ++ 0 ∷ []) [] h.consumed h.consumes))
+consumes_no_size_after_code : ¬ (ConsumesAtScaleError 4 (of_code 18446744073709551615) (Some (all_255 ++ 0 ∷ [])) (Some []))
+consumes_no_size_after_code h =
+    omega (arith, (h.code 18446744073709551615 refl).1, ap (λ (z : List ℕ). length z) (consumed_is (all_255 ++ 0 ∷ []) [] h.consumed h.consumes))
 
 -- if all of an input was consumed, its verdict is the one of the error
 claimed : (a consumed : List ℕ) (v w : Verdict) → Consumes (Some (a ++ [])) consumed (Some [])
     → HasScaleVerdict 4 consumed v → HasScaleVerdict 4 a w → v ≡ w
-claimed a consumed v w consumes has own = scale_verdict_unique 4 a v w (subst (λ (z : List ℕ). HasScaleVerdict 4 z v) (taken_is a [] consumed consumes) has) own
+claimed a consumed v w consumes has own = scale_verdict_unique 4 a v w (subst (λ (z : List ℕ). HasScaleVerdict 4 z v) (consumed_is a [] consumed consumes) has) own
 
 -- no unexpected end of file for a complete pair
 ends_not_after_pair : ¬ (ConsumesAtScaleError 4 (of_io eof) (Some (zeros ++ 0 ∷ [])) (Some []))
 ends_not_after_pair h =
-    let same = claimed (zeros ++ 0 ∷ []) h.consumed unexpected_eof (accepted (pair 0 [])) h.consumes (h.early (inl (eof, refl, refl))) scale_empty_digest_of_4 in cc
+    let same = claimed (zeros ++ 0 ∷ []) h.consumed unexpected_eof (accepted (pair 0 [])) h.consumes (h.truncated (inl (eof, refl, refl))) scale_empty_digest_of_4 in cc
 
 -- a reader is not called after a size that is rejected
 fails_not_after_size : ¬ (ConsumesAtScaleError 4 (of_io other) (Some (zeros ++ 5 ∷ [])) (Some []))
 fails_not_after_size h =
-    let same = claimed (zeros ++ 5 ∷ []) h.consumed unexpected_eof (invalid_size 5) h.consumes (h.early (inr (other, refl, inl refl))) scale_size_first in cc
+    let same = claimed (zeros ++ 5 ∷ []) h.consumed unexpected_eof (invalid_size 5) h.consumes (h.truncated (inr (other, refl, inl refl))) scale_size_first in cc
 
 -- ---- lists
 
@@ -123,8 +123,8 @@ a = pair 0 (codes "A")
 -- ---- the pairs that were consumed
 
 -- each pair fits, not the first alone
-takes_no_second_pair_that_fits_not : (old new : Option (List ℕ)) → ¬ (ConsumesPairs 1 (a ∷ pair 1 (codes "BB") ∷ []) old new)
-takes_no_second_pair_that_fits_not old new h =
+consumes_no_second_pair_that_fits_not : (old new : Option (List ℕ)) → ¬ (ConsumesPairs 1 (a ∷ pair 1 (codes "BB") ∷ []) old new)
+consumes_no_second_pair_that_fits_not old new h =
     omega (
       arith,
       All-head (FitsBuffer 1) (pair 1 (codes "BB")) []
@@ -159,7 +159,7 @@ skips_no_pair h =
     let at = none_before 4 h.pairs (Some (0 ∷ 0 ∷ [])) h.following h.fewer h.consumed in
     let consumes =
     subst (λ (o : Option (List ℕ)). Consumes o h.failed.err.consumed (Some [])) at h.failed.err.consumes in
-    let consumed = taken_is (0 ∷ 0 ∷ []) [] h.failed.err.consumed consumes in
+    let consumed = consumed_is (0 ∷ 0 ∷ []) [] h.failed.err.consumed consumes in
     let has =
     subst (λ (z : List ℕ). HasVerdict 4 z (malformed insufficient)) consumed
     (h.failed.err.insufficient refl).0 in
@@ -202,14 +202,14 @@ rejects_by_the_verdict h =
 -- no byte after the settling prefix was consumed
 rejects_with_nothing_after : ¬ (StopsAfterPairs 4 1 (of_size 5) 3 3 (Some (0 ∷ 5 ∷ 9 ∷ [])) (Some []))
 rejects_with_nothing_after h =
-    takes_no_byte_after_size (settled_after 1 (of_size 5) 3 3 _ _ (0 ∷ 5 ∷ 9 ∷ []) h (none_before 4 h.pairs _ h.following h.fewer h.consumed) refl
-    (invalid_size 5) size_5_rejected (λ early. early))
+    consumes_no_byte_after_size (settled_after 1 (of_size 5) 3 3 _ _ (0 ∷ 5 ∷ 9 ∷ []) h (none_before 4 h.pairs _ h.following h.fewer h.consumed) refl
+    (invalid_size 5) size_5_rejected (λ incomplete. incomplete))
 
 empty_digest_settles : Settles 4 (0 ∷ 0 ∷ [])
-empty_digest_settles = late_settles 4 (0 ∷ 0 ∷ []) (accepted (pair 0 [])) (λ early. early) empty_digest
+empty_digest_settles = late_settles 4 (0 ∷ 0 ∷ []) (accepted (pair 0 [])) (λ incomplete. incomplete) empty_digest
 
 -- before a failure no settling prefix was consumed
 fails_with_nothing_settled : ¬ (StopsAfterPairs 4 1 (of_io other) 3 4 (Some (0 ∷ 0 ∷ 7 ∷ [])) (Some (7 ∷ [])))
 fails_with_nothing_settled h =
     let u = unsettled_after 1 (of_io other) 3 4 _ _ (0 ∷ 0 ∷ 7 ∷ []) h (none_before 4 h.pairs _ h.following h.fewer h.consumed) (omega arith) in
-    u.unsettled (0 ∷ 0 ∷ []) ([], taken_is (0 ∷ 0 ∷ []) (7 ∷ []) u.consumed u.consumes ∙ sym (append-nil (0 ∷ 0 ∷ []))) empty_digest_settles
+    u.unsettled (0 ∷ 0 ∷ []) ([], consumed_is (0 ∷ 0 ∷ []) (7 ∷ []) u.consumed u.consumes ∙ sym (append-nil (0 ∷ 0 ∷ []))) empty_digest_settles

@@ -44,8 +44,8 @@ no_other_ends : ¬ (IsEof (of_io other)) × ¬ (IsEof (of_io full)) × ¬ (IsEof
     × ((code : ℕ) → ¬ (IsEof (of_code code)))
 no_other_ends = ((λ (error, e, kind). cc), (λ (error, e, kind). cc), (λ (error, e, kind). cc), (λ (error, e, kind). cc), λ code (error, e, kind). cc)
 
-no_other_wants_memory : ¬ (IsOutOfMemory (of_io eof)) × ¬ (IsOutOfMemory (of_io full)) × ¬ (IsOutOfMemory (of_io other))
-no_other_wants_memory = ((λ (error, e, kind). cc), (λ (error, e, kind). cc), λ (error, e, kind). cc)
+no_other_is_out_of_memory : ¬ (IsOutOfMemory (of_io eof)) × ¬ (IsOutOfMemory (of_io full)) × ¬ (IsOutOfMemory (of_io other))
+no_other_is_out_of_memory = ((λ (error, e, kind). cc), (λ (error, e, kind). cc), λ (error, e, kind). cc)
 
 end_is_no_reader_error : ¬ (IsReaderError (of_io eof))
 end_is_no_reader_error (error, e, inl kind) = cc
@@ -68,12 +68,12 @@ told None = []
 told (Some bytes) = bytes
 
 -- if the rest is known before and after a call, so are the bytes consumed
-pub taken_is : (a b consumed : List ℕ) → Consumes (Some (a ++ b)) consumed (Some b) → consumed ≡ a
-taken_is a b consumed h = append_cancel_right consumed a b (sym (ap told h))
+pub consumed_is : (a b consumed : List ℕ) → Consumes (Some (a ++ b)) consumed (Some b) → consumed ≡ a
+consumed_is a b consumed h = append_cancel_right consumed a b (sym (ap told h))
 
 -- the bytes consumed are the first ones
-takes_no_last : ¬ (Consumes (Some (1 ∷ 2 ∷ 3 ∷ [])) (3 ∷ []) (Some (1 ∷ 2 ∷ [])))
-takes_no_last h = omega (arith, ap (λ (o : Option (List ℕ)). get_or (told o) 0 0) h)
+consumes_no_last : ¬ (Consumes (Some (1 ∷ 2 ∷ 3 ∷ [])) (3 ∷ []) (Some (1 ∷ 2 ∷ [])))
+consumes_no_last h = omega (arith, ap (λ (o : Option (List ℕ)). get_or (told o) 0 0) h)
 
 -- an input does not become known, nor unknown
 reports_no_more : (consumed rest : List ℕ) → ¬ (Consumes (Some rest) consumed None) × ¬ (Consumes None consumed (Some rest))
@@ -92,8 +92,8 @@ no_error_at_the_end h = h.always refl refl
 not_fewer_than : ¬ (HasFewerThan 1 (Some (1 ∷ [])))
 not_fewer_than h = omega (arith, h)
 
-takes_not_fewer : ¬ (ConsumesFewerThan 1 (Some (1 ∷ 2 ∷ [])) (Some (2 ∷ [])))
-takes_not_fewer h = none h.consumed h.fewer h.consumes
+consumes_not_fewer : ¬ (ConsumesFewerThan 1 (Some (1 ∷ 2 ∷ [])) (Some (2 ∷ [])))
+consumes_not_fewer h = none h.consumed h.fewer h.consumes
   where
     none : (consumed : List ℕ) → length consumed < 1 → Consumes (Some (1 ∷ 2 ∷ [])) consumed (Some (2 ∷ []))
         → ⊥
@@ -101,8 +101,8 @@ takes_not_fewer h = none h.consumed h.fewer h.consumes
     none (b ∷ consumed) fewer e = omega arith
 
 -- the consumed bytes are the reader's
-takes_fewer_of_its_own : ¬ (ConsumesFewerThan 9 (Some (1 ∷ [])) (Some (1 ∷ 2 ∷ [])))
-takes_fewer_of_its_own h = none h.consumed h.consumes
+consumes_fewer_of_its_own : ¬ (ConsumesFewerThan 9 (Some (1 ∷ [])) (Some (1 ∷ 2 ∷ [])))
+consumes_fewer_of_its_own h = none h.consumed h.consumes
   where
     none : (consumed : List ℕ) → Consumes (Some (1 ∷ [])) consumed (Some (1 ∷ 2 ∷ [])) → ⊥
     none [] e = omega (arith, ap (λ (o : Option (List ℕ)). length (told o)) e)
@@ -148,9 +148,9 @@ left s = Some s.0
 abbrev failed : State → ℕ
 failed s = s.1
 
-counts_no_more_than_places : ¬
+counts_no_more_than_capacity : ¬
     (ReadLaws left failed (1 ∷ 2 ∷ 3 ∷ [], 0) (3 ∷ [], 0) (7 ∷ 8 ∷ []) (1 ∷ 2 ∷ []) (Ok 3))
-counts_no_more_than_places h = omega (arith, h.count)
+counts_no_more_than_capacity h = omega (arith, h.count)
 
 writes_not_beyond_count : ¬
     (ReadLaws left failed (1 ∷ 2 ∷ [], 0) (2 ∷ [], 0) (7 ∷ 8 ∷ []) (1 ∷ 9 ∷ []) (Ok 1))
@@ -196,8 +196,8 @@ ends_by_no_counted_error h = elim h.faults [ inl (counted, own) ↦ elim own [ i
 fills_with_no_other_bytes : ¬ (Filling (1 ∷ 2 ∷ [], 0) (2 ∷ [], 0) (7 ∷ []) (5 ∷ []) (Ok 0))
 fills_with_no_other_bytes h = omega (arith, ap (λ (o : Option (List ℕ)). get_or (told o) 0 0) h.consumes)
 
-fills_no_places_always : ¬ (Filling (1 ∷ [], 0) (1 ∷ [], 1) [] [] (Err other))
-fills_no_places_always h = false≢true (h.empty refl)
+fills_no_bytes_always : ¬ (Filling (1 ∷ [], 0) (1 ∷ [], 1) [] [] (Err other))
+fills_no_bytes_always h = false≢true (h.empty refl)
 
 ends_at_the_end_alone : ¬ (Filling (1 ∷ [], 0) (1 ∷ [], 0) (7 ∷ []) (7 ∷ []) (Err eof))
 ends_at_the_end_alone h = omega (arith, h.eof refl)

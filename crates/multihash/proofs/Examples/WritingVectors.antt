@@ -26,8 +26,8 @@ invents_no_error = (
 )
 
 -- a writer that does not allocate is out of memory only with a counted failure
-wants_no_memory : ¬ (IsWriterFault false 3 3 memory)
-wants_no_memory h = elim h.cause [ inl one ↦ omega (arith, one) | inr (allocates, e, same) ↦ false≢true allocates ]
+needs_no_memory : ¬ (IsWriterFault false 3 3 memory)
+needs_no_memory h = elim h.cause [ inl one ↦ omega (arith, one) | inr (allocates, e, same) ↦ false≢true allocates ]
 
 -- neither the end of the input nor a full writer is an error of the writer itself
 no_own_kind : (allocates : Bool) (before after : ℕ) → ¬ (IsWriterFault allocates before after eof) × ¬ (IsWriterFault allocates before after full)
@@ -75,14 +75,14 @@ State = List ℕ × ℕ
 abbrev appends : State → List ℕ → State → Type 0
 appends old bytes new = AppendsAtEnd old.0 bytes new.0
 
-abbrev has_no_place : State → Type 0
-has_no_place s = 3 ≤ length s.0
+abbrev has_three_bytes : State → Type 0
+has_three_bytes s = 3 ≤ length s.0
 
 abbrev failed : State → ℕ
 failed s = s.1
 
 abbrev Writes : State → List ℕ → State → Result ℕ Fault → Type 0
-Writes old bytes new outcome = WriteLaws appends has_no_place failed false old bytes new outcome
+Writes old bytes new outcome = WriteLaws appends has_three_bytes failed false old bytes new outcome
 
 counts_no_more_than_bytes : ¬ (Writes ([], 0) (1 ∷ []) (1 ∷ [], 0) (Ok 2))
 counts_no_more_than_bytes h = omega (arith, h.count)
@@ -93,8 +93,8 @@ writes_no_other_bytes h = omega (arith, ap (λ (z : List ℕ). get_or z 0 0) h.o
 stuck_when_full_alone : ¬ (Writes ([], 0) (1 ∷ []) ([], 0) (Ok 0))
 stuck_when_full_alone h = omega (arith, h.stuck refl (omega arith))
 
-full_takes_no_byte : ¬ (Writes (7 ∷ 8 ∷ 9 ∷ [], 0) (1 ∷ []) (7 ∷ 8 ∷ 9 ∷ 1 ∷ [], 0) (Ok 1))
-full_takes_no_byte h = omega (arith, h.filled (omega arith))
+full_accepts_no_byte : ¬ (Writes (7 ∷ 8 ∷ 9 ∷ [], 0) (1 ∷ []) (7 ∷ 8 ∷ 9 ∷ 1 ∷ [], 0) (Ok 1))
+full_accepts_no_byte h = omega (arith, h.filled (omega arith))
 
 fails_and_appends_nothing : ¬ (Writes ([], 0) (1 ∷ 2 ∷ []) (1 ∷ [], 1) (Err other))
 fails_and_appends_nothing h = omega (arith, ap (λ (z : List ℕ). length z) h.err)
@@ -107,8 +107,8 @@ full_is_no_error : ¬ (Writes (7 ∷ 8 ∷ 9 ∷ [], 0) (1 ∷ []) (7 ∷ 8 ∷ 
 full_is_no_error h = (full_alone 0 0 ⊥ h.faults).1
 
 -- this writer, which does not allocate, is not out of memory without a counted failure
-write_wants_no_memory : ¬ (Writes ([], 0) (1 ∷ []) ([], 0) (Err memory))
-write_wants_no_memory h =
+write_needs_no_memory : ¬ (Writes ([], 0) (1 ∷ []) ([], 0) (Err memory))
+write_needs_no_memory h =
     elim h.faults [
       | inl own ↦ elim own.cause [ inl one ↦ omega (arith, one) | inr (allocates, e, same) ↦ false≢true allocates ]
       | inr stuck ↦ stuck.2
@@ -117,7 +117,7 @@ write_wants_no_memory h =
 -- ---- the laws of `write_all`
 
 abbrev WritesAll : State → List ℕ → State → Result ℕ Fault → Type 0
-WritesAll old bytes new outcome = WriteAllLaws appends has_no_place failed false old bytes new outcome
+WritesAll old bytes new outcome = WriteAllLaws appends has_three_bytes failed false old bytes new outcome
 
 writes_all_or_fails : ¬ (WritesAll ([], 0) (1 ∷ 2 ∷ []) (1 ∷ [], 0) (Ok 0))
 writes_all_or_fails h = omega (arith, ap (λ (z : List ℕ). length z) h.ok)
@@ -137,15 +137,15 @@ fails_before_the_end h = none h.err.part h.err.strict.0 h.err.strict.1 (h.err.ap
 writes_all_with_no_hidden_error : ¬ (WritesAll ([], 0) (1 ∷ []) (1 ∷ [], 1) (Ok 0))
 writes_all_with_no_hidden_error h = omega (arith, h.faults)
 
-write_all_wants_no_memory : ¬ (WritesAll ([], 0) (1 ∷ []) ([], 0) (Err memory))
-write_all_wants_no_memory h =
+write_all_needs_no_memory : ¬ (WritesAll ([], 0) (1 ∷ []) ([], 0) (Err memory))
+write_all_needs_no_memory h =
     elim h.faults [
       | inl own ↦ elim own.cause [ inl one ↦ omega (arith, one) | inr (allocates, e, same) ↦ false≢true allocates ]
       | inr stuck ↦ let is = stuck.0 in cc
     ]
 
-full_with_no_place_alone : ¬ (WritesAll ([], 0) (1 ∷ 2 ∷ []) (1 ∷ [], 0) (Err full))
-full_with_no_place_alone h = omega (arith, (full_alone 0 0 (has_no_place (1 ∷ [], 0)) h.faults).1)
+full_at_capacity_alone : ¬ (WritesAll ([], 0) (1 ∷ 2 ∷ []) (1 ∷ [], 0) (Err full))
+full_at_capacity_alone h = omega (arith, (full_alone 0 0 (has_three_bytes (1 ∷ [], 0)) h.faults).1)
 
 -- ---- slices and vectors
 
@@ -179,15 +179,15 @@ fills_no_other_slice old new bytes other h = other h.same_slice
 is_not_filled : (w : SliceWriter) → length w.buffer.now ≡ 2 → w.filled ≡ 1 → ¬ (IsFilled w)
 is_not_filled w long filled h = omega (arith, long, filled, h)
 
-gives_up_no_more : (new : List ℕ) → ¬ (AdvancesPast (7 ∷ []) (1 ∷ 2 ∷ []) new)
-gives_up_no_more new h = omega (arith, h.room)
+advances_no_further : (new : List ℕ) → ¬ (AdvancesPast (7 ∷ []) (1 ∷ 2 ∷ []) new)
+advances_no_further new h = omega (arith, h.room)
 
-gives_up_the_first : ¬ (AdvancesPast (7 ∷ 8 ∷ []) (1 ∷ []) (7 ∷ []))
-gives_up_the_first h = omega (arith, ap (λ (z : List ℕ). get_or z 0 0) h.left)
+advances_past_the_first : ¬ (AdvancesPast (7 ∷ 8 ∷ []) (1 ∷ []) (7 ∷ []))
+advances_past_the_first h = omega (arith, ap (λ (z : List ℕ). get_or z 0 0) h.left)
 
 -- past as many as were requested
-gives_up_as_many : ¬ (AdvancesPast (7 ∷ 8 ∷ 9 ∷ []) (1 ∷ 2 ∷ []) (8 ∷ 9 ∷ [])) × ¬ (AdvancesPast (7 ∷ 8 ∷ 9 ∷ []) (1 ∷ []) [])
-gives_up_as_many = ((λ h. omega (arith, ap (λ (z : List ℕ). length z) h.left)), λ h. omega (arith, ap (λ (z : List ℕ). length z) h.left))
+advances_past_as_many : ¬ (AdvancesPast (7 ∷ 8 ∷ 9 ∷ []) (1 ∷ 2 ∷ []) (8 ∷ 9 ∷ [])) × ¬ (AdvancesPast (7 ∷ 8 ∷ 9 ∷ []) (1 ∷ []) [])
+advances_past_as_many = ((λ h. omega (arith, ap (λ (z : List ℕ). length z) h.left)), λ h. omega (arith, ap (λ (z : List ℕ). length z) h.left))
 
 -- the old bytes are unchanged, and only the new bytes follow
 appends_no_other : ¬ (AppendsAtEnd (7 ∷ []) (1 ∷ []) (1 ∷ 7 ∷ []))

@@ -220,7 +220,7 @@ module _ (S : ℕ) (old new : Option (List ℕ)) (before after : ℕ) where
           consumes = consumes;
           code = λ k named. let is = error_unique e v (invalid_code k) given named in (subst (HasScaleVerdict S consumed) is own, eight k is);
           size = λ k named. let is = error_unique e v (invalid_size k) given named in (subst (HasScaleVerdict S consumed) is own, nine k is);
-          early = λ io. absurd (elim io [
+          truncated = λ io. absurd (elim io [
             | inl eof ↦ late (rw (error_unique e v unexpected_eof given eof) tt)
             | inr error ↦ own_no_verdict e v error given
           ]);
@@ -278,7 +278,7 @@ module _ (S : ℕ) (old new : Option (List ℕ)) (before after : ℕ) where
           consumes = consumes;
           code = λ k named. absurd (cc named);
           size = λ k named. absurd (cc named);
-          early = λ _. inside front short;
+          truncated = λ _. inside front short;
         };
       }
 

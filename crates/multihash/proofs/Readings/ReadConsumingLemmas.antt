@@ -16,7 +16,7 @@ use Rattle.multihash.specs.Multihash.{Fields, pair_of}
 use Rattle.multihash.proofs.EncodingLemmas.{digest_fits}
 use Rattle.multihash.proofs.Readings.ReadingLemmas.{IfSome-consumed, Consumes-concatenated, Consumes-cut}
 use Rattle.multihash.proofs.Readings.VerdictLemmas.{verdict_unique, coded, sized}
-use Rattle.multihash.proofs.Readings.SettlingLemmas.{verdict_kept, none_settles, EndsEarly, before_digest, shortest_from, before_second, before_both}
+use Rattle.multihash.proofs.Readings.SettlingLemmas.{verdict_kept, none_settles, IsIncompleteInput, before_digest, shortest_from, before_second, before_both}
 
 -- ---- errors and verdicts
 
@@ -79,7 +79,7 @@ listed S e consumed unexpected_eof given has = inr (inr given)
 module _ (S : ℕ) (consumed : List ℕ) (old new : Option (List ℕ)) (before after : ℕ) (consumes : Consumes old consumed new) (v : Verdict)
     (has : HasVerdict S consumed v) where
   -- a verdict that is not incomplete, while every strict prefix is incomplete
-  module _ (unrisen : after ≡ before) (late : ¬ (IsIncomplete v)) (no_sooner : (p : List ℕ) → IsStrictPrefix p consumed → EndsEarly S p) where
+  module _ (unrisen : after ≡ before) (late : ¬ (IsIncomplete v)) (no_sooner : (p : List ℕ) → IsStrictPrefix p consumed → IsIncompleteInput S p) where
     kept : (left : List ℕ) → HasVerdict S (consumed ++ left) v
     kept left = verdict_kept S consumed left v late has
 
@@ -192,7 +192,7 @@ module _ (S : ℕ) (e : Refusal) (old mid new : Option (List ℕ)) (before after
     (how : ((after ≡ before + 1) × IsReaderError e) ⊎ ((after ≡ before) × IsAnyVarintError e)) where
   module _ (a : List ℕ) (consumes : Consumes old (a ++ t.consumed) new)
       (shows : (f : VarintError) → BeginsMalformed f t.consumed → HasVerdict S (a ++ t.consumed) (malformed f))
-      (no_sooner : (p : List ℕ) → IsStrictPrefix p (a ++ t.consumed) → EndsEarly S p) where
+      (no_sooner : (p : List ℕ) → IsStrictPrefix p (a ++ t.consumed) → IsIncompleteInput S p) where
     rejected : (f : VarintError) → after ≡ before → IsVarintError f e → HasVerdict S (a ++ t.consumed) (malformed f) → ReadMeets S old new before after (Err e)
     rejected insufficient same given has =
         at_incomplete S _ _ _ _ _ consumes (malformed insufficient) has tt e same given (λ _. t.all given)

@@ -105,20 +105,20 @@ open_varint (m ∷ ms) h = (
 )
 
 -- some bytes after an incomplete input change its verdict
-pub early_not_settles : (S : ℕ) (x : List ℕ) (v : Verdict) → IsIncomplete v → HasVerdict S x v → ¬ (Settles S x)
-early_not_settles S x (accepted p) early h s = early
-early_not_settles S x (invalid_size size) early h s = early
-early_not_settles S x (invalid_code code) early h s = early
-early_not_settles S x (malformed insufficient) early (inl h) s =
+pub incomplete_not_settles : (S : ℕ) (x : List ℕ) (v : Verdict) → IsIncomplete v → HasVerdict S x v → ¬ (Settles S x)
+incomplete_not_settles S x (accepted p) incomplete h s = incomplete
+incomplete_not_settles S x (invalid_size size) incomplete h s = incomplete
+incomplete_not_settles S x (invalid_code code) incomplete h s = incomplete
+incomplete_not_settles S x (malformed insufficient) incomplete (inl h) s =
     let (more, bytes, ends) = open_varint x h in
     let same = same_after S x more (malformed insufficient) (malformed not_minimal) s (inl h) bytes (inl ends) in cc
-early_not_settles S x (malformed insufficient) early (inr (rest, c, h)) s =
+incomplete_not_settles S x (malformed insufficient) incomplete (inr (rest, c, h)) s =
     let (more, bytes, ends) = open_varint rest h in
     let same = same_after S x more (malformed insufficient) (malformed not_minimal) s (inr (rest, c, h)) bytes
     (inr (rest ++ more, code_kept x rest more c, ends)) in cc
-early_not_settles S x (malformed overflow) early h s = early
-early_not_settles S x (malformed not_minimal) early h s = early
-early_not_settles S x unexpected_eof early (size, rest, h, within, short) s =
+incomplete_not_settles S x (malformed overflow) incomplete h s = incomplete
+incomplete_not_settles S x (malformed not_minimal) incomplete h s = incomplete
+incomplete_not_settles S x unexpected_eof incomplete (size, rest, h, within, short) s =
     let more : List ℕ = replicate (size - length rest) 0 in
     let digest : List ℕ = rest ++ more in
     let len : length digest ≡ size = omega (arith, length-append rest more, length-replicate {A = ℕ} (size - length rest) 0) in
@@ -130,16 +130,16 @@ pub late_settles : (S : ℕ) (x : List ℕ) (v : Verdict) → ¬ (IsIncomplete v
 late_settles S x v late h = record { verdict = v; always = λ more _. verdict_kept S x more v late h }
 
 pub settles_exactly : (S : ℕ) (x : List ℕ) (v : Verdict) → HasVerdict S x v → Settles S x ↔ ¬ (IsIncomplete v)
-settles_exactly S x v h = (λ s early. early_not_settles S x v early h s, λ late. late_settles S x v late h)
+settles_exactly S x v h = (λ s incomplete. incomplete_not_settles S x v incomplete h s, λ late. late_settles S x v late h)
 
 -- if an input's verdict is incomplete, no prefix of it settles one
 pub none_settles : (S : ℕ) (x : List ℕ) (v : Verdict) → HasVerdict S x v → IsIncomplete v
     → (front : List ℕ) → IsPrefix front x → ¬ (Settles S front)
-none_settles S x v h early front (rest, cut) s =
+none_settles S x v h incomplete front (rest, cut) s =
     let own = own_verdict S front s in
-    let late : ¬ (IsIncomplete s.verdict) = λ soon. early_not_settles S front s.verdict soon own s in
+    let late : ¬ (IsIncomplete s.verdict) = λ soon. incomplete_not_settles S front s.verdict soon own s in
     let kept = subst (λ (z : List ℕ). HasVerdict S z s.verdict) (sym cut) (verdict_kept S front rest s.verdict late own) in
-    late (subst IsIncomplete (verdict_unique S x v s.verdict h kept) early)
+    late (subst IsIncomplete (verdict_unique S x v s.verdict h kept) incomplete)
 
 -- ---- incomplete inputs
 
@@ -177,23 +177,23 @@ varint_no_sooner n bytes v p begins =
     before_step bytes p (record { front = continuation_bytes v.front; last = v.last; all_continuation = All-continuation_bytes v.front; few = few; cut = v.spelled }) begins
 
 -- the input's verdict is incomplete
-abbrev pub EndsEarly : ℕ → List ℕ → Type 0
-EndsEarly S x = (v : Verdict) × HasVerdict S x v × IsIncomplete v
+abbrev pub IsIncompleteInput : ℕ → List ℕ → Type 0
+IsIncompleteInput S x = (v : Verdict) × HasVerdict S x v × IsIncomplete v
 
-pub before_second : (S code : ℕ) (f t p : List ℕ) → IsVarint code f → NoSooner t → IsStrictPrefix p (f ++ t) → EndsEarly S p
+pub before_second : (S code : ℕ) (f t p : List ℕ) → IsVarint code f → NoSooner t → IsStrictPrefix p (f ++ t) → IsIncompleteInput S p
 before_second S code f t p is_code no_sooner b =
     elim (split_prefix f t p b) [
-      | inl early ↦ (malformed insufficient, inl (varint_no_sooner code f is_code p early), tt)
+      | inl sooner ↦ (malformed insufficient, inl (varint_no_sooner code f is_code p sooner), tt)
       | inr (q, cut, more) ↦ (malformed insufficient, inr (q, coded code f p q is_code cut, no_sooner q more), tt)
     ]
 
-pub before_both : (S code size : ℕ) (f t p : List ℕ) → IsVarint code f → IsVarint size t → IsStrictPrefix p (f ++ t) → EndsEarly S p
+pub before_both : (S code size : ℕ) (f t p : List ℕ) → IsVarint code f → IsVarint size t → IsStrictPrefix p (f ++ t) → IsIncompleteInput S p
 before_both S code size f t p is_code is_size = before_second S code f t p is_code (varint_no_sooner size t is_size)
 
-pub before_digest : (S : ℕ) (p : Pair) (t x : List ℕ) → IsEncoding p t → FitsBuffer S p → IsStrictPrefix x t → EndsEarly S x
+pub before_digest : (S : ℕ) (p : Pair) (t x : List ℕ) → IsEncoding p t → FitsBuffer S p → IsStrictPrefix x t → IsIncompleteInput S x
 before_digest S p t x e fits (rest, some, cut) =
     elim (split_prefix (e.code ++ e.size) p.digest x (rest, some, append_assoc e.code e.size p.digest ∙ (sym e.spelled ∙ cut))) [
-      | inl early ↦ before_both S p.code (length p.digest) e.code e.size x e.is_code e.is_size early
+      | inl sooner ↦ before_both S p.code (length p.digest) e.code e.size x e.is_code e.is_size sooner
       | inr (z, z_cut, (left, some, d_cut)) ↦
           let both = sized p.code (length p.digest) e.code e.size x z e.is_code e.is_size (z_cut ∙ append_assoc e.code e.size z) in
           let short : length z < length p.digest = omega (arith, ap length d_cut, length-append z left, length_of_not_nil left some) in
@@ -204,11 +204,11 @@ before_digest S p t x e fits (rest, some, cut) =
 
 -- a prefix whose verdict is not incomplete, while all its strict prefixes are incomplete
 pub shortest_from : (S : ℕ) (x t rest : List ℕ) (v : Verdict) → x ≡ t ++ rest → HasVerdict S t v → ¬ (IsIncomplete v)
-    → ((p : List ℕ) → IsStrictPrefix p t → EndsEarly S p) → IsShortestSettling S x t
+    → ((p : List ℕ) → IsStrictPrefix p t → IsIncompleteInput S p) → IsShortestSettling S x t
 shortest_from S x t rest v cut h late before = record {
   begins = (rest, cut);
   settles = late_settles S t v late h;
-  shortest = λ p b. let e = before p b in early_not_settles S p e.0 e.2 e.1;
+  shortest = λ p b. let e = before p b in incomplete_not_settles S p e.0 e.2 e.1;
 }
 
 -- the shortest prefix that shows that the varint is malformed

@@ -35,7 +35,7 @@ impl Model for Error {
 }
 
 impl Error {
-    /// Returns the error for an input that ends too early. It prints `failed to fill whole buffer`.
+    /// Returns the error for truncated input. It prints `failed to fill whole buffer`.
     pub fn unexpected_eof() -> Self
         ensures { IsUnexpectedEof result }
     {

@@ -13,5 +13,5 @@ returns-clause-ok g c = in_front g.row.S c.args.stream.now c.read-outcome.new.r.
 pub returns-clause-long : goal.returns-clause-long
 returns-clause-long g c size rest h over = (
   rejected_size g.row.S size _ rest c.read-outcome.result h over (c.read-outcome.ensures.verdict refl),
-  left_after g.row.S size _ rest _ h over (c.read-outcome.ensures.settled refl (invalid_size size) (rest, h, over) (λ early. early)),
+  left_after g.row.S size _ rest _ h over (c.read-outcome.ensures.settled refl (invalid_size size) (rest, h, over) (λ incomplete. incomplete)),
 )
