@@ -1,6 +1,6 @@
 -- What a writer's call appended, how it failed, and the laws of both calls. The effect of appending: a
 -- shorter slice, or more items of a vector.
-use Rattle.std.specs.Prelude.{◌≡◌, ◌+◌, ◌<◌, ◌≤◌, ℕ, Bool, IsTrue, List, [], ◌⊎◌, length, take, Result, MatchResult, IfOk, OnOk, OnErr, IsOk, ◌++◌, drop, refl}
+use Rattle.std.specs.Prelude.{◌≡◌, ◌+◌, ◌<◌, ◌≤◌, ℕ, Bool, IsTrue, List, [], ◌⊎◌, length, take, Result, MatchResult, IfOk, OnOk, OnErr, IsOk, IsErr, ◌++◌, drop, refl}
 use Rattle.multihash.specs.Fault.{Fault, IsWriteZero, IsOutOfMemoryFault, IsOwnFault}
 use Rattle.multihash.specs.Bytes.{IsStrictPrefix}
 use Rattle.std.proofs.Common.{sym, ap, ◌∙◌, arith, append_assoc, append-nil, length-append, length-drop}
@@ -52,6 +52,7 @@ abbrev pub WriteAllLaws : {S A : Type 0} → (S → List ℕ → S → Type 0) �
 WriteAllLaws appended full failures allocates old bytes new outcome = record {
   ok : OnOk outcome (appended old bytes new);
   empty : length bytes ≡ 0 → IsOk outcome;
+  filled : full old → 0 < length bytes → IsErr outcome;
   err : OnErr outcome (AppendsPrefix appended old bytes new);
   faults : CountsWriterFailures IsFault allocates (failures old) (failures new) (full new) outcome;
 }

@@ -125,6 +125,9 @@ writes_all_or_fails h = omega (arith, ap (λ (z : List ℕ). length z) h.ok)
 writes_nothing_always : ¬ (WritesAll ([], 0) [] ([], 1) (Err other))
 writes_nothing_always h = false≢true (h.empty refl)
 
+full_accepts_no_bytes : ¬ (WritesAll (7 ∷ 8 ∷ 9 ∷ [], 0) (1 ∷ []) (7 ∷ 8 ∷ 9 ∷ 1 ∷ [], 0) (Ok 0))
+full_accepts_no_bytes h = false≢true (h.filled (omega arith) (omega arith))
+
 fails_before_the_end : ¬ (WritesAll ([], 0) (1 ∷ []) (1 ∷ [], 1) (Err other))
 fails_before_the_end h = none h.err.part h.err.strict.0 h.err.strict.1 (h.err.appends) h.err.strict.2
   where

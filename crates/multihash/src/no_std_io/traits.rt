@@ -92,7 +92,8 @@ pub trait Write {
         ensures laws { WriteLaws appended full failures allocates
             self.old buf.now self.new result };
 
-    /// Appends the whole of `buf`. It always succeeds for an empty buffer.
+    /// Appends the whole of `buf`. It always succeeds for an empty buffer, and fails for any other if the
+    /// writer was full before.
     ///
     /// # Errors
     ///
