@@ -126,7 +126,7 @@ consumes_no_part_of_truncated_code taken h = h.no_code (omega arith)
 consumes_whole_code : (taken : ℕ) → ConsumesForm unexpected_eof zeros taken → taken ≡ 8
 consumes_whole_code taken h = h.code refl
 
-consumes_whole_size : (taken : ℕ) → ConsumesForm unexpected_eof (zeros ++ 2 ∷ 7 ∷ []) taken → taken ≡ 9
+consumes_whole_size : (taken : ℕ) → ConsumesForm unexpected_eof (zeros ++ 2 ∷ []) taken → taken ≡ 9
 consumes_whole_size taken h = h.size (omega arith)
 
 -- ---- the first bytes of an input
