@@ -137,6 +137,14 @@ module _ (S : ℕ) (old new : Option (List ℕ)) where
   counts_one n (inr (_, _, _, inr (_, inr (_, _, _, inr (inl (_, _, (r, is, _))))))) = cc
   counts_one n (inr (_, _, _, inr (_, inr (_, _, _, inr (inr (_, _, (_, same, _))))))) = omega (arith, same)
 
+  counts_no_two : (e : ContentIdError) → ¬ (ContentIdFails S 0 2 e old new)
+  counts_no_two e (inl (r, _, fails)) = elim fails.cause [ inl own ↦ omega (arith, own.0) | inr listed ↦ omega (arith, listed.0) ]
+  counts_no_two e (inr (_, _, _, inl (_, _, (_, same, _)))) = omega (arith, same)
+  counts_no_two e (inr (_, _, _, inr (_, inl (r, _, fails)))) = elim fails.cause [ inl own ↦ omega (arith, own.0) | inr listed ↦ omega (arith, listed.0) ]
+  counts_no_two e (inr (_, _, _, inr (_, inr (_, _, _, inl (_, (r, _, fails)))))) = elim fails.faults [ inl own ↦ omega (arith, own.0) | inr listed ↦ omega (arith, listed.0) ]
+  counts_no_two e (inr (_, _, _, inr (_, inr (_, _, _, inr (inl (_, _, (r, _, fails))))))) = elim fails.cause [ inl own ↦ omega (arith, own.0) | inr listed ↦ omega (arith, listed.0) ]
+  counts_no_two e (inr (_, _, _, inr (_, inr (_, _, _, inr (inr (_, _, (_, same, _))))))) = omega (arith, same)
+
 fits_exactly : (S codec : ℕ) (p : Pair) → FitsContentId S (version_1 codec p) ↔ FitsBuffer S p
 fits_exactly S codec p = (λ fits. fits, λ fits. fits)
 
@@ -167,6 +175,12 @@ module _ (S n : ℕ) (is_len : IsVarint n (n ∷ [])) (fits : FitsBuffer S two_b
             let long = ap length (content_same (version_1 0x0129 two_bytes) id dag_json (subst (λ c. IsContentId c id) same names) names_dag_json) in
             (omega (arith, shorter, long, told.0), is)
       ]
+
+-- each error counts one failure at most
+section_counts_one : (S : ℕ) (e : ContentIdError) (old new : Option (List ℕ)) → ¬ (SectionFails S 0 2 e old new)
+section_counts_one S e old new (inl (r, _, fails)) = elim fails.cause [ inl own ↦ omega (arith, own.0) | inr listed ↦ omega (arith, listed.0) ]
+section_counts_one S e old new (inr (_, _, _, inr (_, _, same, _))) = omega (arith, same)
+section_counts_one S e old new (inr (_, mid, _, inl fails)) = counts_no_two S mid new e fails
 
 -- ---- peer identifiers
 
