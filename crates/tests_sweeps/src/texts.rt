@@ -1,11 +1,11 @@
 //! That errors are printed, at any width and precision: contracts state their texts, but not that printing
-//! succeeds. And `Debug` of a multihash.
+//! succeeds. And `Debug`.
 ghost use Rattle.std.specs.Prelude.{◌<◌, ◌^◌};
 
 use fakes::forms::{CASES, case, different};
 use fakes::{check, check_eq, expect_ok};
 use multihash::no_std_io::{self, Read, Write};
-use multihash::{Error, Multihash, varint};
+use multihash::{Error, Head, Multihash, varint};
 use serde_json::Value;
 use std::alloc::Global;
 use std::error;
@@ -138,10 +138,29 @@ fn values_of_each_length_are_shown(rt: HostRuntime) {
     expect_values_shown::<300>(&rt, rt.alloc());
 }
 
-// The bytes that `truncate` left in the buffer are not shown.
+// The bytes that `truncate` left in the buffer are not shown. Errors and heads are shown as derived.
 #[test]
-fn a_cut_digest_is_shown_alone(rt: HostRuntime) {
-    let cut = expect_ok!(&rt; Multihash::<64>::wrap(18, b"foobar")).truncate(3);
+fn known_values_are_shown(rt: HostRuntime) {
+    let alloc = rt.alloc();
+    let rt = &rt;
+    let cut = expect_ok!(rt; Multihash::<64>::wrap(18, b"foobar")).truncate(3);
     let wanted = "Multihash { code: 18, size: 3, digest: [102, 111, 111] }";
-    expect_shown(&rt, rt.alloc(), &cut, wanted);
+    expect_shown(rt, alloc, &cut, wanted);
+    let head = expect_ok!(rt; Head::read_front(&[18, 3, 7]));
+    let wanted = "Head { code: 18, digest_len: 3, digest_offset: 2 }";
+    expect_shown(rt, alloc, &head, wanted);
+    for (input, kind) in [
+        ([].as_slice(), "Insufficient"),
+        (&[255; 9], "Overflow"),
+        (&[128, 0], "NotMinimal"),
+        (&[0, 5], "InvalidSize(5)"),
+        (
+            &[0, 1],
+            "Io(Error { kind: UnexpectedEof(\"failed to fill whole buffer\") })",
+        ),
+    ] {
+        let wanted = expect_ok!(rt; format!(in alloc; "Err(Error {{ kind: {kind} }})"));
+        let outcome = Multihash::<4>::from_bytes(input);
+        expect_shown(rt, alloc, &outcome, wanted.as_str());
+    }
 }

@@ -1,9 +1,13 @@
 //! Failing allocations. A test whose name begins with `allocating` passes if no allocation fails. If one
 //! does, it checks what is left then, and fails with `FAILED`: `checks/memory.t` makes each allocation fail in
 //! turn, and counts them.
-ghost use Rattle.std.specs.Prelude.{◌<◌, ◌^◌};
+ghost use Rattle.std.specs.Prelude.{◌<◌, ◌^◌, length};
 
 use crate::values::hash_of;
+use examples::any_reader::read_up_to;
+use examples::forms::{json, scale, there_and_back};
+use examples::headline::{list_through, same};
+use examples::merkle::through;
 use fakes::expect::{ErrorKind, LARGEST_CODE, is_failed, is_rejected};
 use fakes::streams::Cuts;
 use fakes::{check, check_eq, expect_bytes, expect_ok};
@@ -16,7 +20,9 @@ use std::cmp::Ordering;
 use std::process::Abort;
 use std::test::Fail;
 use storage::content;
+use storage::log::{EntryError, read_entry};
 use storage::merkle::{root_and_path, verify_path};
+use storage::prefixed::read_prefixed;
 
 const FAILED: &str = "an allocation failed";
 
@@ -258,15 +264,68 @@ fn keep(held: &mut Vec<Multihash<200>>, multihash: Multihash<200>) -> Result<(),
     Ok(())
 }
 
+fn makes_tree(rt: &impl Abort, alloc: Global, leaves: &[Multihash<32>]) -> bool
+    requires { 0 < length leaves.now }
+{
+    let outcome = root_and_path(alloc, leaves, 0).map_err(Error::from);
+    if let Ok((root, path)) = &outcome {
+        check!(rt; verify_path(&leaves[0], path, root));
+    }
+    succeeded(rt, &outcome)
+}
+
+fn of_entry<T: Drop>(outcome: Result<T, EntryError>) -> Result<T, Error> {
+    match outcome {
+        Ok(made) => Ok(made),
+        Err(EntryError::Failed(e)) => Err(e),
+        Err(EntryError::TooLong(size)) => Err(Error::from(no_std_io::Error::other("too long"))),
+    }
+}
+
+// More than a new vector has capacity for: trees, and a block of 10000 bytes without and with a multihash.
 #[test]
-fn allocating_root_and_path(rt: HostRuntime) -> Result<(), Fail> {
-    let first = content::hash_of(b"a");
-    let leaves = [first, content::hash_of(b"b"), content::hash_of(b"c")];
-    let outcome = root_and_path(rt.alloc(), &leaves, 0).map_err(Error::from);
-    let (root, path) = unless_rejected(&rt, outcome)?;
-    check_eq!(&rt; path.len(), 2);
-    check!(&rt; verify_path(&first, &path, &root));
-    Ok(())
+fn allocating_storage(rt: HostRuntime) -> Result<(), Fail> {
+    let alloc = rt.alloc();
+    let rt = &rt;
+    let leaves = [content::hash_of(b"a"); 17];
+    let mut entry = [0u8; 10004];
+    entry[2..4].copy_from_slice(&[0x90, 0x4e]);
+    let mut block = &entry[2..];
+    unless_failed(
+        makes_tree(rt, alloc, &leaves[..1])
+            && makes_tree(rt, alloc, &leaves[..5])
+            && makes_tree(rt, alloc, &leaves)
+            && succeeded(rt, &of_entry(read_prefixed(alloc, &mut block, 10000)))
+            && succeeded(
+                rt,
+                &of_entry(read_entry::<4, _>(alloc, &mut entry.as_slice(), 10000)),
+            ),
+    )
+}
+
+// Lists of nine.
+#[test]
+fn allocating_examples(rt: HostRuntime) -> Result<(), Fail> {
+    let alloc = rt.alloc();
+    let rt = &rt;
+    let (m, nine) = (content::hash_of::<32>(b"a"), [Multihash::<4>::default(); 9]);
+    let (input, mut out) = ([0u8; 18], [0u8; 36]);
+    let mut room = out.as_mut_slice();
+    unless_failed(
+        succeeded(
+            rt,
+            &read_up_to::<4, _>(alloc, &mut input.as_slice(), usize::MAX),
+        ) && succeeded(
+            rt,
+            &list_through::<4, 4, _, _>(alloc, &nine, &mut room, &mut input.as_slice()),
+        ) && succeeded(
+            rt,
+            &through::<4, 4, _, _>(alloc, &nine, &[], &mut room, &mut input.as_slice()),
+        ) && succeeded(rt, &same(alloc, &m, &m))
+            && succeeded(rt, &there_and_back(alloc, m.digest()))
+            && succeeded(rt, &scale(alloc, &m))
+            && succeeded(rt, &json(alloc, &m)),
+    )
 }
 
 #[test]
