@@ -219,7 +219,8 @@ test_compilers
 try "an access after a buffer" rejects AddressSanitizer faulty "" 'made[1] = 0; free(made);' "${sanitize[@]}"
 try "a sum that is too large" rejects "signed integer overflow" faulty "" 'most++; free(made);' "${sanitize[@]}"
 try "a wrong vector" rejects "not so: " wrong_vector
-has 2 valgrind && try valgrind under_valgrind && try "a leak" rejects "definitely lost" faulty "${valgrind[*]}" 'made = 0;'
+has 2 valgrind && try valgrind under_valgrind &&
+  try "a leak" rejects "definitely lost" faulty "${valgrind[*]}" 'made = 0;'
 has 1 qemu-x86_64 && try "a processor of the baseline" on_old_processor
 try "C by hand" by_hand plain
 try "fast C by hand" by_hand fast

@@ -91,7 +91,7 @@ planted_source() {
     sed -i "$edit" "$work/planted/$name" && rejects "$text" checks/lib/packed.py "$2" "$work/planted" || return 1
     git -C "$work/planted" checkout -q "$name"
   done << 'END'
-README.md:s/| Node.js [0-9.]*/| Node.js 18/:engines
+README.md:s/| Node.js /&1/:engines
 bindings/js/module.js:$ a connect();:sideEffects
 LICENSE:s/ (c) 2026 .*/ (c) 2026 Another/:creators
 tools/owner:s/^repository=.*/repository=another/:package: repository

@@ -131,7 +131,7 @@ def values() -> dict[str, str]:
         "rust": ("bindings/rust/Cargo.toml", r'rust-version = "(.*)"'),
         "cmake": ("CMakeLists.txt", r"cmake_minimum_required\(VERSION (.*)\)"),
         "inputs": ("bindings/c/fuzz/test.sh", r"fuzz plain (\d+)"),
-        "drawn": ("CMakeLists.txt", r"_draws 1 (\d+)\)"),
+        "drawn": ("CMakeLists.txt", r"\$\{vectors\} 1 (\d+)\)"),
         "chunk": ("crates/storage/src/prefixed.rt", r"const CHUNK: usize = (\d+);"),
     }
     found = {name: re.findall(form, (TOP / file).read_text("utf-8"))[0] for name, (file, form) in forms.items()}
@@ -156,7 +156,7 @@ def phrases() -> tuple[str, ...]:
 @cache
 def known_pairs() -> Pairs:
     """Returns the words after which the sources have one number, with it."""
-    left_out = ("module.h", "bytes.js", "draws.txt")
+    left_out = ("module.h", "bytes.js")
     texts = (flat(text) for name, text in sources().items() if not name.endswith(left_out))
     pairs = {pair for text in texts for pair in PAIR.findall(text) if pair[0] not in WEAK}
     several = Counter(word for word, _ in pairs)
