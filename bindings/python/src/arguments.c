@@ -14,14 +14,10 @@ static Py_ssize_t number_of_view(PyObject *view, const char *name)
 static PyObject *front_of_view(PyObject *view, Py_ssize_t most)
 {
     Py_ssize_t dimensions = number_of_view(view, "ndim");
-    PyObject *front = view, *copied = NULL;
     if (dimensions < 0) return NULL;
-    if (dimensions == 1) {
-        front = PySequence_GetSlice(view, 0, most);
-    } else {
-        Py_INCREF(front);
-    }
-    if (front != NULL) copied = PyObject_CallMethod(front, "tobytes", NULL);
+    if (dimensions != 1) return PyObject_CallMethod(view, "tobytes", NULL);
+    PyObject *front = PySequence_GetSlice(view, 0, most);
+    PyObject *copied = front == NULL ? NULL : PyObject_CallMethod(front, "tobytes", NULL);
     Py_XDECREF(front);
     return copied;
 }
@@ -74,13 +70,10 @@ int get_number(PyObject **argument, const char *name, uint64_t *number)
     if (index == NULL) return -1;
     int overflow;
     long long value = PyLong_AsLongLongAndOverflow(index, &overflow);
-    int is_wrong = value == -1 && overflow == 0 && PyErr_Occurred() != NULL;
-    if (!is_wrong && (overflow < 0 || (overflow == 0 && value < 0))) {
-        PyErr_Format(PyExc_ValueError, "a %s is not negative", name);
-        is_wrong = 1;
-    }
+    int is_wrong = overflow < 0 || (overflow == 0 && value < 0);
+    if (is_wrong) PyErr_Format(PyExc_ValueError, "a %s is not negative", name);
     *number = (uint64_t)value;
-    if (!is_wrong && overflow > 0) {
+    if (overflow > 0) {
         *number = PyLong_AsUnsignedLongLong(index);
         if (PyErr_Occurred() != NULL && PyErr_ExceptionMatches(PyExc_OverflowError)) PyErr_Clear();
         is_wrong = PyErr_Occurred() != NULL;

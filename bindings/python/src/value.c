@@ -9,17 +9,6 @@ typedef struct multihash_object {
     uint64_t number;
 } multihash_object;
 
-/* Multihash, of which the value's type is a subclass or which it is: the one whose base is object. */
-static PyTypeObject *type_of_value(PyObject *value)
-{
-    PyTypeObject *type = Py_TYPE(value);
-    for (;;) {
-        PyTypeObject *base = PyType_GetSlot(type, Py_tp_base);
-        if (base == &PyBaseObject_Type) return type;
-        type = base;
-    }
-}
-
 PyObject *new_multihash(PyTypeObject *type, uint64_t number, PyObject *code, PyObject *digest)
 {
     multihash_object *made = NULL;
@@ -83,7 +72,12 @@ int order_of(PyObject *left, PyObject *right)
 
 static PyObject *multihash_compared(PyObject *left, PyObject *right, int operation)
 {
-    if (Py_TYPE(left) != Py_TYPE(right) && !PyObject_TypeCheck(right, type_of_value(left))) Py_RETURN_NOTIMPLEMENTED;
+    PyTypeObject *type = Py_TYPE(left), *base;
+    if (type != Py_TYPE(right)) {
+        /* Multihash, of which it is a subclass or which it is: the one whose base is object. */
+        while ((base = PyType_GetSlot(type, Py_tp_base)) != &PyBaseObject_Type) type = base;
+        if (!PyObject_TypeCheck(right, type)) Py_RETURN_NOTIMPLEMENTED;
+    }
     Py_RETURN_RICHCOMPARE(order_of(left, right), 0, operation);
 }
 

@@ -309,7 +309,8 @@ class Interpreters(unittest.TestCase):
 class Names(unittest.TestCase):
     def test_exports(self):
         module = ctypes.CDLL(vm._core.__file__)
-        self.assertEqual([hasattr(module, name) for name in ("PyInit__core", "multihash_read")], [True, False])
+        names = "PyInit__core", "multihash_read", "get_input"
+        self.assertEqual([hasattr(module, name) for name in names], [True, False, False])
 
     def test_names(self):
         """All that is public is exported, and each parameter has the name that it shows."""
