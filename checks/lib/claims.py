@@ -93,7 +93,7 @@ READ_BY_OTHERS = {
     RUST: ("rust",),  # its tests, as RUST_C's
     RUST_C: ("rust",),
     FORMAT: ("",),  # byte_errors
-    ARCHITECTURE: ("sh",),  # package_errors
+    ARCHITECTURE: ("sh",),  # apt-get
 }
 Pairs = set[tuple[str, str]]
 
@@ -319,13 +319,6 @@ def block_errors(page: str, text: str) -> Iterator[str]:
             missing = {line for line in lines if line not in flat_sources(FOLDERS.get(page, ()))}
         for line in sorted(missing):
             yield f"no source has this of a block: {line}"
-
-
-def package_errors(page: str, text: str, known: set[str]) -> Iterator[str]:
-    """Returns the packages in a block that Debian has not."""
-    [block] = re.findall(r"apt-get install (.*?)\$", flat(text)) if page == ARCHITECTURE else [""]
-    for name in {*block.replace("\\", "").split()} - known:
-        yield f"there is no package {name}"
 
 
 def changes(name: str, page: str, text: str) -> Iterator[tuple[str, str]]:

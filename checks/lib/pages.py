@@ -8,7 +8,6 @@ pages.edits are planted in pages and sources, and each number, name, option, cel
 import difflib
 import os
 import re
-import shutil
 import subprocess
 import sys
 import tempfile
@@ -271,27 +270,10 @@ def planted(texts: Texts) -> Iterator[tap.Result]:
             yield f"planted: {name}, at each place", "\n".join(unseen)
 
 
-def package_results(texts: Texts) -> Iterator[tap.Result]:
-    """Compares the packages to install with those that Debian has, if apt knows them."""
-    has_apt = shutil.which("apt-cache") and any(Path("/var/lib/apt/lists").glob("*_Packages*"))
-    command = ["apt-cache", "pkgnames"] if has_apt else ["true"]
-    known = {*subprocess.run(command, capture_output=True, text=True, check=True).stdout.split()}
-    for name, page in (
-        ("the packages", texts[ARCHITECTURE]),
-        ("another package", texts[ARCHITECTURE].replace("wabt", "wab")),
-    ):
-        errors = "\n".join(claims.package_errors(ARCHITECTURE, page, known))
-        if not has_apt:
-            yield tap.left_out(name, "apt has no lists of packages")
-        else:
-            yield (name, errors) if name == "the packages" else tap.planted(name, errors)
-
-
 def results() -> Iterator[tap.Result]:
     texts = read_texts()
     for name, check in CHECKS.items():
         yield name, "\n".join(check(texts))
-    yield from package_results(texts)
     yield from program_results(texts)
     yield from planted(texts)
 
