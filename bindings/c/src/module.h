@@ -2564,36 +2564,18 @@ static void w2c_multihash_encoded_len(memory* instance, u64 w2c_p0, u64 w2c_p1, 
 }
 
 static void w2c_rattle__export_multihash_encoded_len(memory* instance, u64 w2c_p0, u64 w2c_p1, u64 w2c_p2) {
-  u64 w2c_l3 = 0;
-  u32 w2c_i0, w2c_i1, w2c_i3;
+  u32 w2c_l3 = 0;
+  u64 w2c_l4 = 0;
+  u32 w2c_i0, w2c_i1, w2c_i2, w2c_i3;
   u64 w2c_j0, w2c_j1, w2c_j2, w2c_j3, w2c_j4;
   w2c_j0 = instance->w2c___stack_pointer;
   w2c_j1 = 16ull;
   w2c_i0 = (u64)((s64)w2c_j0 < (s64)w2c_j1);
   if (w2c_i0) {goto w2c_B0;}
   w2c_j0 = w2c_p2;
-  w2c_j1 = 255ull;
-  w2c_i0 = w2c_j0 <= w2c_j1;
-  if (w2c_i0) {goto w2c_B4;}
-  w2c_j0 = 4ull;
-  w2c_p1 = w2c_j0;
-  goto w2c_B3;
-  w2c_B4:;
-  w2c_j0 = 1ull;
-  w2c_l3 = w2c_j0;
-  w2c_j0 = w2c_p1;
-  w2c_j1 = 128ull;
+  w2c_j1 = 256ull;
   w2c_i0 = w2c_j0 < w2c_j1;
   if (w2c_i0) {goto w2c_B1;}
-  w2c_j0 = w2c_p1;
-  w2c_j1 = 0ull;
-  w2c_i0 = (u64)((s64)w2c_j0 >= (s64)w2c_j1);
-  if (w2c_i0) {goto w2c_B2;}
-  w2c_j0 = 5ull;
-  w2c_p1 = w2c_j0;
-  w2c_j0 = 0ull;
-  w2c_p2 = w2c_j0;
-  w2c_B3:;
   w2c_j0 = w2c_p0;
   w2c_j1 = 0ull;
   w2c_j2 = 16ull;
@@ -2603,27 +2585,58 @@ static void w2c_rattle__export_multihash_encoded_len(memory* instance, u64 w2c_p
   w2c_j2 = 8ull;
   i64_store(instance, w2c_j0, w2c_j1, w2c_j2);
   w2c_j0 = w2c_p0;
-  w2c_j1 = w2c_p1;
+  w2c_j1 = 4ull;
   w2c_j2 = 0ull;
+  i64_store(instance, w2c_j0, w2c_j1, w2c_j2);
+  goto w2c_Bfunc;
+  w2c_B1:;
+  w2c_j0 = w2c_p1;
+  w2c_j1 = 127ull;
+  w2c_i0 = w2c_j0 > w2c_j1;
+  if (w2c_i0) {goto w2c_B2;}
+  w2c_j0 = w2c_p0;
+  w2c_j1 = 0ull;
+  w2c_j2 = 8ull;
+  i64_store(instance, w2c_j0, w2c_j1, w2c_j2);
+  w2c_j0 = w2c_p0;
+  w2c_j1 = 0ull;
+  w2c_j2 = 0ull;
+  i64_store(instance, w2c_j0, w2c_j1, w2c_j2);
+  w2c_j0 = w2c_p0;
+  w2c_j1 = 2ull;
+  w2c_j2 = 3ull;
+  w2c_j3 = w2c_p2;
+  w2c_j4 = 128ull;
+  w2c_i3 = w2c_j3 < w2c_j4;
+  w2c_j1 = w2c_i3 ? w2c_j1 : w2c_j2;
+  w2c_j2 = w2c_p2;
+  w2c_j1 += w2c_j2;
+  w2c_j2 = 16ull;
   i64_store(instance, w2c_j0, w2c_j1, w2c_j2);
   goto w2c_Bfunc;
   w2c_B2:;
   w2c_j0 = w2c_p1;
-  w2c_j1 = 16384ull;
-  w2c_i0 = w2c_j0 >= w2c_j1;
-  if (w2c_i0) {goto w2c_B5;}
+  w2c_j1 = 0ull;
+  w2c_i0 = (u64)((s64)w2c_j0 >= (s64)w2c_j1);
+  if (w2c_i0) {goto w2c_B4;}
+  w2c_i0 = 5u;
+  w2c_l3 = w2c_i0;
+  w2c_j0 = 0ull;
+  w2c_p2 = w2c_j0;
+  goto w2c_B3;
+  w2c_B4:;
   w2c_j0 = 2ull;
-  w2c_l3 = w2c_j0;
-  goto w2c_B1;
-  w2c_B5:;
+  w2c_l4 = w2c_j0;
+  w2c_j0 = w2c_p1;
+  w2c_j1 = 16384ull;
+  w2c_i0 = w2c_j0 < w2c_j1;
+  if (w2c_i0) {goto w2c_B5;}
+  w2c_j0 = 3ull;
+  w2c_l4 = w2c_j0;
   w2c_j0 = w2c_p1;
   w2c_j1 = 2097152ull;
-  w2c_i0 = w2c_j0 >= w2c_j1;
-  if (w2c_i0) {goto w2c_B6;}
-  w2c_j0 = 3ull;
-  w2c_l3 = w2c_j0;
-  goto w2c_B1;
-  w2c_B6:;
+  w2c_i0 = w2c_j0 < w2c_j1;
+  if (w2c_i0) {goto w2c_B5;}
   w2c_i0 = 70u;
   w2c_j1 = w2c_p1;
   w2c_j1 = I64_CLZ(w2c_j1);
@@ -2634,29 +2647,38 @@ static void w2c_rattle__export_multihash_encoded_len(memory* instance, u64 w2c_p
   w2c_i1 = 7u;
   w2c_i0 = DIV_U(w2c_i0, w2c_i1);
   w2c_j0 = (u64)(w2c_i0);
-  w2c_l3 = w2c_j0;
-  w2c_B1:;
+  w2c_l4 = w2c_j0;
+  w2c_B5:;
+  w2c_j0 = 1ull;
+  w2c_j1 = 2ull;
+  w2c_j2 = w2c_p2;
+  w2c_j3 = 128ull;
+  w2c_i2 = w2c_j2 < w2c_j3;
+  w2c_j0 = w2c_i2 ? w2c_j0 : w2c_j1;
+  w2c_j1 = w2c_p2;
+  w2c_j0 += w2c_j1;
+  w2c_j1 = w2c_l4;
+  w2c_j0 += w2c_j1;
+  w2c_p2 = w2c_j0;
+  w2c_i0 = 0u;
+  w2c_l3 = w2c_i0;
+  w2c_B3:;
+  w2c_j0 = w2c_p0;
+  w2c_j1 = w2c_p2;
+  w2c_j2 = 16ull;
+  i64_store(instance, w2c_j0, w2c_j1, w2c_j2);
   w2c_j0 = w2c_p0;
   w2c_j1 = 0ull;
   w2c_j2 = 8ull;
   i64_store(instance, w2c_j0, w2c_j1, w2c_j2);
   w2c_j0 = w2c_p0;
-  w2c_j1 = 0ull;
-  w2c_j2 = 0ull;
-  i64_store(instance, w2c_j0, w2c_j1, w2c_j2);
+  w2c_i1 = 0u;
+  w2c_j2 = 4ull;
+  i32_store(instance, w2c_j0, w2c_i1, w2c_j2);
   w2c_j0 = w2c_p0;
-  w2c_j1 = 1ull;
-  w2c_j2 = 2ull;
-  w2c_j3 = w2c_p2;
-  w2c_j4 = 128ull;
-  w2c_i3 = w2c_j3 < w2c_j4;
-  w2c_j1 = w2c_i3 ? w2c_j1 : w2c_j2;
-  w2c_j2 = w2c_p2;
-  w2c_j1 += w2c_j2;
-  w2c_j2 = w2c_l3;
-  w2c_j1 += w2c_j2;
-  w2c_j2 = 16ull;
-  i64_store(instance, w2c_j0, w2c_j1, w2c_j2);
+  w2c_i1 = w2c_l3;
+  w2c_j2 = 0ull;
+  i32_store(instance, w2c_j0, w2c_i1, w2c_j2);
   goto w2c_Bfunc;
   w2c_B0:;
   UNREACHABLE;

@@ -1,6 +1,6 @@
 //! Encoding for C, and the texts of statuses, which are written to a buffer like encodings.
 ghost use Rattle.std.specs.Prelude.{◌≡◌, ◌+◌, ◌<◌, ◌≤◌, ◌⊎◌, ℕ, List, [], ◌∷◌, ◌++◌, length, drop, IfOk, IfErr};
-ghost use Rattle.multihash.specs.Varint.{varint_limit};
+ghost use Rattle.multihash.specs.Varint.{IsVarint, varint_limit};
 ghost use Rattle.multihash.specs.Encoding.{IsEncoding};
 ghost use Rattle.multihash.specs.Scale.{IsScale, IsScaleCode};
 ghost use Rattle.multihash.specs.Filling.{Fills};
@@ -74,11 +74,17 @@ pub extern "C" fn multihash_encoded_len(code: u64, digest_length: usize) -> Enco
     ensures length { digest_length ≤ 255 → code < varint_limit →
         ReportsLength code digest_length result }
 {
-    let length = match needed(code, digest_length) {
-        Ok(length) => length,
-        Err(result) => return result,
-    };
-    count(length, length)
+    if digest_length > DIGEST_MAX {
+        return rejected_size(digest_length as u64);
+    }
+    // Most codes have one byte, so this test comes first.
+    if code < 128 {
+        return count_parts(1, digest_length);
+    }
+    match varint::len(code) {
+        Ok(code_length) => count_parts(code_length, digest_length),
+        Err(_) => rejected_code(),
+    }
 }
 
 /// Writes the text of a status to the front of `out`: ASCII, with no zero byte at its end.
@@ -143,6 +149,21 @@ fn scale_encode(code: u64, digest: &[u8], out: &mut [u8]) -> Encoded
         put_scale_form(code, digest, out);
     }
     count(form_length, out.len())
+}
+
+// The result for a code whose varint has that many bytes and a digest of that many.
+#[inline(always)]
+fn count_parts(code_length: usize, digest_length: usize) -> Encoded
+    requires few { code_length ≤ 9 }
+    requires short { digest_length ≤ 255 }
+    ensures { (code : ℕ) (bytes : List ℕ) → IsVarint code bytes → code_length ≡ length bytes →
+        ReportsLength code digest_length result }
+{
+    let Ok(size_length) = varint::len(digest_length as u64) else {
+        unreachable!()
+    };
+    let length = code_length + size_length + digest_length;
+    count(length, length)
 }
 
 // The length of the encoding of a code and a digest of that many bytes, or the result if there is none.
