@@ -224,7 +224,7 @@ has 2 valgrind && try valgrind under_valgrind &&
 has 1 qemu-x86_64 && try "a processor of the baseline" on_old_processor
 try "C by hand" by_hand plain
 try "fast C by hand" by_hand fast
-try "what is planted in C by hand: 40 comparisons" planted_in_c
+try "what is planted in C by hand: 20 comparisons" planted_in_c
 try "the example of the page" example_in bindings/c/README.md
 sed 's/int main(void)/int main()/' bindings/c/README.md > "$work/page.md"
 try "another example" rejects "> int main()" example_in "$work/page.md"
