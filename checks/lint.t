@@ -3,7 +3,7 @@
 # a planted script.
 # shellcheck source=checks/lib/tap.sh
 . "$(dirname "$0")/lib/tap.sh"
-plan 18
+plan 19
 
 listed() { git ls-files -co --exclude-standard "$@"; }
 # Prints the paths of the scripts in a language, by their first lines.
@@ -17,10 +17,10 @@ tested=$(listed "*.t" "*test.sh" | grep -vE "^bindings/(c|python)/|/(install|rel
 # All but the tests of the package for Python have types.
 typed=$(grep -v '^bindings/python/tests/' <<< "$python")
 
-# Each script, by its name or as it can be executed, is among these.
+# Each script, by its name or as it can be executed, is among these, and each check can be executed.
 are_known() {
   diff /dev/null <({ listed '*.js' '*.mjs' '*.py' '*.sh' '*.t' '*.ts' &&
-    git ls-files -s | awk '$1 == 100755 { print $4 }'; } |
+    git ls-files -s | awk '$1 == 100755 { print $4; next } $4 ~ /^checks\/.*\.t$/ { print $4, "cannot be run" }'; } |
     grep -vxF -e bindings/c/debian/rules -f <(printf '%s\n' "$@"))
 }
 
@@ -76,6 +76,8 @@ try_linter() {
 # shellcheck disable=SC2086 # no path has a blank
 {
   try "each script is in a list" are_known $shell $python $javascript
+  try "Python with types" diff - <({ echo "$typed" && listed 'bindings/python/tests/*.py'; } | sort) \
+    <<< "$python"
   try "a script that is in none" rejects "> checks/lib/tap.sh" are_known ${shell/tap.sh/} $python $javascript
   try_linter syntax syntax.sh "unexpected end of file" "if true; then" $shell
   try_linter planted compares.sh "no planted case of same" \

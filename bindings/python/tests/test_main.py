@@ -37,7 +37,7 @@ class Main(unittest.TestCase):
             text, _, reason = line.encode().decode("unicode_escape").partition("|")
             with self.subTest(text=text):
                 self.assertEqual(run(text=text), (1, "", "mh_show: %s\n" % reason))
-                self.assertEqual(run(text), (1, "", "mh_show: %s\n" % reason))
+                self.assertEqual(run(text, text=HEX), (1, "", "mh_show: %s\n" % reason))
 
     def test_input(self):
         self.assertEqual(run(text="0" * 65536), (1, "", "mh_show: Invalid multihash size 32766.\n"))

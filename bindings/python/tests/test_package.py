@@ -33,6 +33,7 @@ VALUE = Multihash(1, b"abc")
 CODE_CALLS = [vm.encode, vm.scale_encode, Multihash, lambda code, digest: vm.encoded_len(code, len(digest))]
 # Arguments with which a function is called by position, and by the names that it shows; large, so that each is a block.
 CODE = 1 << 62
+NEGATIVE = (-1, -(1 << 63), -(1 << 63) - 1, -(1 << 64), -(1 << 700))
 NAMED_CALLS = {
     vm.decode: [b"\1\3abc"], vm.read: [b"\1\3abc", CODE], vm.head: [b"\1\3"], vm.scale_decode: [bytes(9)],
     vm.encode: [CODE, b"abc"], vm.scale_encode: [CODE, b"abc"], vm.encoded_len: [CODE, 2],
@@ -137,7 +138,8 @@ class Arguments(unittest.TestCase):
         for call in CODE_CALLS:
             for wrong in (18.0, "18", None, b"\x12"):
                 self.assertRaises(TypeError, call, wrong, b"")
-            self.assertRaisesRegex(ValueError, "not negative", call, -1, b"")
+            for code in NEGATIVE:
+                self.assertRaisesRegex(ValueError, "not negative", call, code, b"")
             for code in (1 << 63, (1 << 64) - 1, 1 << 64, (1 << 64) + 18, 1 << 700, 10**5000):
                 text = "Invalid multihash code %s." % shown(code)
                 self.assertEqual(self.error_of(call, code, bytes(255)), (Status.INVALID_CODE, 0, code, text))
@@ -148,7 +150,8 @@ class Arguments(unittest.TestCase):
         self.assertEqual(self.error_of(vm.scale_decode, bytes(7) + b"\x80\0")[2], 1 << 63)
         for length in (256, 1 << 63, 1 << 64, (1 << 64) + 5, 1 << 700):
             self.assertEqual(self.error_of(vm.encoded_len, 18, length)[:3], (Status.INVALID_SIZE, length, 0))
-        self.assertRaisesRegex(ValueError, "not negative", vm.encoded_len, 18, -1)
+        for length in NEGATIVE:
+            self.assertRaisesRegex(ValueError, "not negative", vm.encoded_len, 18, length)
         self.assertRaises(TypeError, vm.encoded_len, 18, 2.0)
 
     def test_limits(self):
@@ -165,7 +168,8 @@ class Arguments(unittest.TestCase):
             self.assertEqual(call(data[255]).digest, bytes(255))
             self.assertEqual(self.error_of(call, data[3], 2)[:2], (Status.INVALID_SIZE, 3))
             self.assertEqual(self.error_of(call, b"\x01\x80\x02" + bytes(256), 1 << 64)[:2], (Status.INVALID_SIZE, 256))
-            self.assertRaisesRegex(ValueError, "not negative", call, b"", -1)
+            for limit in NEGATIVE:
+                self.assertRaisesRegex(ValueError, "not negative", call, b"", limit)
             for wrong in (3.0, "3"):
                 self.assertRaises(TypeError, call, data[3], wrong)
 

@@ -248,8 +248,9 @@ impl std::io::Read for Std<'_> {
     }
 }
 
-// Its input is not known, so no contract states what is read. It fails once, and nothing is lost.
-fn expect_std(rt: &impl Abort, bytes: &[u8], most: usize, at: usize) {
+// Its input is not known, so no contract states what is read. It fails once, and nothing is lost. A call of the inner
+// reader returns at most `most` bytes, and the buffer of each call has `room`.
+fn expect_std(rt: &impl Abort, bytes: &[u8], (most, room): (usize, usize), at: usize) {
     let most = most.max(1);
     let inner = FailAt::new(Cuts::new(bytes, most), at, ErrorKind::LINK_DOWN);
     let mut reader = StdReader::new(Std(inner));
@@ -257,7 +258,8 @@ fn expect_std(rt: &impl Abort, bytes: &[u8], most: usize, at: usize) {
     let mut filled = 0usize;
     let mut calls = 0usize;
     for _ in 0..200 {
-        match reader.read(buffer.get_mut(filled..).unwrap_or(&mut [])) {
+        let end = filled.saturating_add(room).min(200);
+        match reader.read(buffer.get_mut(filled..end).unwrap_or(&mut [])) {
             Ok(0) => break,
             Ok(n) => filled = filled.saturating_add(n),
             Err(e) => check!(rt; calls == at && e.is_other() && e.text() == "not read"),
@@ -265,16 +267,16 @@ fn expect_std(rt: &impl Abort, bytes: &[u8], most: usize, at: usize) {
         calls = calls.saturating_add(1);
     }
     expect_bytes!(rt; buffer.get(..filled).unwrap_or(&[]), bytes);
-    let parts = bytes.len().div_ceil(most.min(64));
-    check_eq!(rt; calls, parts.saturating_add(usize::from(at <= parts)), (most, at));
+    let parts = bytes.len().div_ceil(most.min(room).min(64).max(1));
+    check_eq!(rt; calls, parts.saturating_add(usize::from(at <= parts)), (most, room, at));
 }
 
 #[test]
 fn a_reader_of_std_is_read(rt: HostRuntime) {
     let bytes = fakes::forms::different();
     for len in 0..150 {
-        for most in [1, 7, 64, 200] {
-            expect_std(&rt, bytes.get(..len).unwrap_or(&[]), most, len % 3);
+        for limits in [(1, 200), (7, 200), (64, 200), (200, 200), (200, 1), (200, 65)] {
+            expect_std(&rt, bytes.get(..len).unwrap_or(&[]), limits, len % 3);
         }
     }
 }
