@@ -275,7 +275,14 @@ fn expect_std(rt: &impl Abort, bytes: &[u8], (most, room): (usize, usize), at: u
 fn a_reader_of_std_is_read(rt: HostRuntime) {
     let bytes = fakes::forms::different();
     for len in 0..150 {
-        for limits in [(1, 200), (7, 200), (64, 200), (200, 200), (200, 1), (200, 65)] {
+        for limits in [
+            (1, 200),
+            (7, 200),
+            (64, 200),
+            (200, 200),
+            (200, 1),
+            (200, 65),
+        ] {
             expect_std(&rt, bytes.get(..len).unwrap_or(&[]), limits, len % 3);
         }
     }
