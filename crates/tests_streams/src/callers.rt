@@ -1,5 +1,5 @@
-//! What no contract of `examples` and `storage` states: how often a reader or a writer is called and for how many
-//! bytes, that its error is passed on, what is reserved, and that memory suffices.
+//! What no contract of `examples` and `storage` states: how often a reader or a writer is called and for how
+//! many bytes, that its error is passed on, what is reserved, and that memory suffices.
 use examples::any_reader::read_up_to;
 use examples::code_table;
 use examples::content_id::{Codec, ContentId, ContentIdError};
@@ -248,8 +248,8 @@ impl std::io::Read for Std<'_> {
     }
 }
 
-// Its input is not known, so no contract states what is read. It fails once, and nothing is lost. A call of the inner
-// reader returns at most `most` bytes, and the buffer of each call has `room`.
+// Its input is not known, so no contract states what is read. It fails once, and nothing is lost. A call of the
+// inner reader returns at most `most` bytes, and the buffer of each call has `room`.
 fn expect_std(rt: &impl Abort, bytes: &[u8], (most, room): (usize, usize), at: usize) {
     let most = most.max(1);
     let inner = FailAt::new(Cuts::new(bytes, most), at, ErrorKind::LINK_DOWN);
