@@ -51,7 +51,7 @@ impl<const S: usize> Inputs<S> {
         let forms = &mut self.codecs;
         match operation {
             "scale_encode" => sum_of_values!(self.left, n, |m| scale_encode(m, &mut self.room) as u64),
-            "scale_decode" => sum_of_bytes!(forms.scale, n, |bytes| {
+            "scale_decode" => sum_of_bytes!(forms.scale, self.varied, n, |bytes| {
                 let mut rest = bytes;
                 told(&scale_decode::<S>(&mut rest)).wrapping_add(rest.len() as u64)
             }),

@@ -176,12 +176,12 @@ macro_rules! sum_of_pairs {
 }
 
 macro_rules! sum_of_bytes {
-    ($bytes:expr, $count:expr, |$now:ident| $told:expr) => {{
-        let bytes = $bytes.as_mut_slice();
+    ($bytes:expr, $varied:expr, $count:expr, |$now:ident| $told:expr) => {{
+        let (bytes, varied) = ($bytes.as_mut_slice(), $varied);
         let mut sum = 0_u64;
         for _ in 0..$count {
             if let Some(last) = bytes.last_mut() {
-                *last = (sum & 0xff) as u8;
+                *last = (sum & 0xff) as u8 & varied;
             }
             let $now: &[u8] = bytes;
             sum = sum.wrapping_add($told);
@@ -203,6 +203,7 @@ struct Inputs<const S: usize> {
     stream: Vec<u8>,
     room: Vec<u8>,
     vector: Vec<u8>,
+    varied: u8,
     half: u8,
     codecs: codecs::Forms,
 }
@@ -227,6 +228,7 @@ impl<const S: usize> Inputs<S> {
             room: stream.clone(),
             vector: stream.clone(),
             stream,
+            varied: if size == 0 { 0 } else { u8::MAX },
             half: multihash.size() / 2,
             codecs: codecs::Forms::new(&multihash)?,
             digest,
@@ -235,12 +237,12 @@ impl<const S: usize> Inputs<S> {
 
     /// `None` where no operation has this name.
     fn run(&mut self, operation: &str, n: u32) -> Option<u64> {
-        let code = self.code;
+        let (code, v) = (self.code, self.varied);
         Some(match operation {
-            "wrap" => sum_of_bytes!(self.digest, n, |digest| told(&calls::wrap::<S>(code, digest))),
-            "from_bytes" => sum_of_bytes!(self.encoding, n, |bytes| told(&calls::from_bytes::<S>(bytes))),
+            "wrap" => sum_of_bytes!(self.digest, v, n, |digest| told(&calls::wrap::<S>(code, digest))),
+            "from_bytes" => sum_of_bytes!(self.encoding, v, n, |bytes| told(&calls::from_bytes::<S>(bytes))),
             "to_bytes" => sum_of_values!(self.left, n, |m| calls::to_bytes(m).len() as u64),
-            "read_slice" => sum_of_bytes!(self.encoding, n, |bytes| {
+            "read_slice" => sum_of_bytes!(self.encoding, v, n, |bytes| {
                 let mut rest = bytes;
                 told(&calls::read_slice::<S>(&mut rest)).wrapping_add(rest.len() as u64)
             }),
@@ -273,7 +275,7 @@ impl<const S: usize> Inputs<S> {
         if operation == "write_list" {
             return (0..n).map(|_| u64::from(calls::write_list(&self.items, &mut self.room).is_ok())).sum();
         }
-        sum_of_bytes!(self.stream, n, |bytes| {
+        sum_of_bytes!(self.stream, self.varied, n, |bytes| {
             let mut rest = bytes;
             let read = calls::read_list::<S>(&mut rest, LIST).map_or(0, |items| items.len() as u64);
             read.wrapping_add(rest.len() as u64)

@@ -34,6 +34,8 @@ pub struct Inputs<const S: usize> {
     pub output: Vec<u8>,
     /// A vector with enough capacity.
     pub vector: Vec<u8>,
+    /// The bits of the last input byte that change from call to call: all, or none where it is the size.
+    pub varied: u8,
     /// Half of the digest's size.
     pub half: u8,
     ghost small: { S ≤ 255 },
@@ -72,6 +74,7 @@ impl<const S: usize> Inputs<S> {
             output: stream.clone()?,
             vector: stream.clone()?,
             stream,
+            varied: if case.size == 0 { 0 } else { u8::MAX },
             half: multihash.size() / 2,
         })
     }

@@ -38,12 +38,12 @@ macro_rules! sum_of_pairs {
 
 // The sum over calls, each on the same bytes with another last byte.
 macro_rules! sum_of_bytes {
-    ($bytes:expr, $count:expr, |$now:ident| $term:expr) => {{
-        let bytes = $bytes.as_mut_slice();
+    ($bytes:expr, $varied:expr, $count:expr, |$now:ident| $term:expr) => {{
+        let (bytes, varied) = ($bytes.as_mut_slice(), $varied);
         let mut sum = 0_u64;
         for _ in 0..$count {
             if let Some(last) = bytes.last_mut() {
-                *last = (sum & 0xff) as u8;
+                *last = (sum & 0xff) as u8 & varied;
             }
             let $now: &[u8] = bytes;
             sum = sum.wrapping_add($term);
@@ -88,13 +88,13 @@ impl<const S: usize> Inputs<S> {
 
     fn wrap(&mut self, count: u32) -> u64 {
         let code = self.code;
-        sum_of_bytes!(self.digest, count, |digest| {
+        sum_of_bytes!(self.digest, self.varied, count, |digest| {
             code_plus_size(&calls::wrap::<S>(code, digest))
         })
     }
 
     fn from_bytes(&mut self, count: u32) -> u64 {
-        sum_of_bytes!(self.encoding, count, |bytes| {
+        sum_of_bytes!(self.encoding, self.varied, count, |bytes| {
             code_plus_size(&calls::from_bytes::<S>(bytes))
         })
     }
@@ -107,7 +107,7 @@ impl<const S: usize> Inputs<S> {
     }
 
     fn read_slice(&mut self, count: u32) -> u64 {
-        sum_of_bytes!(self.encoding, count, |bytes| {
+        sum_of_bytes!(self.encoding, self.varied, count, |bytes| {
             let mut rest = bytes;
             let read = code_plus_size(&calls::read_slice::<S>(&mut rest));
             read.wrapping_add(rest.len() as u64)
@@ -177,7 +177,7 @@ impl<const S: usize> Inputs<S> {
     }
 
     fn scale_decode(&mut self, count: u32) -> u64 {
-        sum_of_bytes!(self.scale, count, |bytes| {
+        sum_of_bytes!(self.scale, self.varied, count, |bytes| {
             let mut rest = bytes;
             let read = code_plus_size(&calls::scale_decode::<S>(&mut rest));
             read.wrapping_add(rest.len() as u64)
@@ -207,7 +207,7 @@ impl<const S: usize> Inputs<S> {
     }
 
     fn read_list(&mut self, alloc: Global, count: u32) -> u64 {
-        sum_of_bytes!(self.stream, count / LIST as u32, |bytes| {
+        sum_of_bytes!(self.stream, self.varied, count / LIST as u32, |bytes| {
             let mut rest = bytes;
             let read = match calls::read_list::<S>(alloc, &mut rest, LIST) {
                 Ok(items) => items.len() as u64,
