@@ -9,12 +9,10 @@ use Rattle.multihash.proofs.Examples.KnownVectors.{all_below, varint_1, varint_2
 use Rattle.multihash.proofs.Readings.ReadingLemmas.{Consumes-told}
 use Rattle.multihash.proofs.Varints.VarintLemmas.{same_number}
 use Rattle.multihash.proofs.Varints.VarintWriteLemmas.{one_byte}
-use Rattle.examples.specs.ContentId.{version_0, version_1, IsContentId, FitsContentId, IsRejected, HashFails, ContentIdFails, HasTrailingBytes}
-use Rattle.examples.specs.Section.{ConsumesHead, SectionFails}
+use Rattle.examples.specs.ContentId.{version_0, version_1, IsContentId, FitsContentId, HashFails, ContentIdFails, HasTrailingBytes}
+use Rattle.examples.specs.Section.{ConsumesHead, SectionFails, too_long}
 use Rattle.examples.proofs.IdentifierLemmas.{content_same, id_fails, id_found, one_place}
-use Rattle.multihash.specs.Fault.{IsOther}
 use Rattle.multihash.specs.Verdict.{malformed}
-use Rattle.multihash.specs.Refusal.{IsIo}
 use Rattle.multihash.proofs.CallingLemmas.{number_read, number_found, rejected_no_encoding, head_of_encoding}
 use Rattle.multihash.proofs.EncodingLemmas.{encoding_unique}
 use Rattle.examples.specs.PeerId.{IsPeer, PeerFails}
@@ -163,7 +161,7 @@ none_after S input h = omega (arith, h.some)
 -- an identifier of 7 bytes in a section of n
 module _ (S n : ℕ) (is_len : IsVarint n (n ∷ [])) (fits : FitsBuffer S two_bytes) where
   longer_than_its_section : (e : ContentIdError) (new : Option (List ℕ)) → SectionFails S 0 0 e (Some (n ∷ dag_json)) new
-      → (n < 7) × IsRejected (IsIo IsOther) e
+      → (n < 7) × (e ≡ too_long)
   longer_than_its_section e new (inl (r, _, fails)) =
       absurd (number_found 0 0 refl r n (n ∷ []) dag_json (Some (n ∷ dag_json)) new is_len refl fails)
   longer_than_its_section e new (inr (len, mid, first, fails)) =

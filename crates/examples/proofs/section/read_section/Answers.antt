@@ -21,4 +21,4 @@ returns-in-None-clause-err g c =
     let len = rw c.in-Some.is at c.in_ok-len.ensures in
     let id = c.in_ok-id.ensures in
     let same = ap length (content_same _ _ id.ok.0 c.encoded_len.ensures.1 id.ok.1) in
-    inr (_, _, len.ok, inr (_, (_, (id.ok.1, omega (arith, c.encoded_len.ensures.2, same, c.in-None.ensures)), id.ok.2), id.unfailed ∙ len.faults, search (rules, c.other.ensures.kind)))
+    inr (_, _, len.ok, inr (_, (_, (id.ok.1, omega (arith, c.encoded_len.ensures.2, same, c.in-None.ensures)), id.ok.2), id.unfailed ∙ len.faults, search rules))
