@@ -208,8 +208,22 @@ class Options(NamedTuple):
         return bool(self.since and subprocess.check_output(diff, cwd=ROOT))
 
 
-def prove(options: Options, proved: Path, prover: Prover) -> tuple[list[Crate], list[tap.Result]]:
-    """Proves a copy of the crates that have mutants.
+def left_out(options: Options) -> Iterator[tap.Result]:
+    """Returns the mutants of definitions that are not to be tried, and why one cannot be read."""
+    for name in proving.crates_of(ROOT):
+        if options.tries_definitions(name) or name not in (options.crates or [name]):
+            continue
+        for mutant in written(ROOT / "crates" / name):
+            if mutant.is_of_definitions:
+                try:
+                    edits.apply(proving.texts_of(ROOT / "crates" / name), mutant.edits)
+                    yield mutant.label, ""
+                except ValueError as reason:
+                    yield mutant.label, str(reason)
+
+
+def prove(options: Options, others: set[str], proved: Path, prover: Prover) -> tuple[list[Crate], list[tap.Result]]:
+    """Proves a copy of the crates that have mutants beside the others, which are left out.
 
     Returns them, and what is wrong with those that are not proved.
     """
@@ -217,7 +231,9 @@ def prove(options: Options, proved: Path, prover: Prover) -> tuple[list[Crate], 
     found: list[Crate] = []
     errors: list[tap.Result] = []
     have_mutants = [
-        name for name in below if any(options.names(mutant.label) for mutant in written(ROOT / "crates" / name))
+        name
+        for name in below
+        if any(options.names(m.label) and m.label not in others for m in written(ROOT / "crates" / name))
     ]
     if not have_mutants or not {*options.crates} <= {*have_mutants}:
         what = options.only or " ".join(options.crates)
@@ -236,21 +252,19 @@ def prove(options: Options, proved: Path, prover: Prover) -> tuple[list[Crate], 
 
 def results(options: Options, folder: Path, prover: Prover) -> Iterator[tap.Result]:
     """Tries the mutants of the crates."""
-    crates, errors = prove(options, folder, prover)
+    skipped = list(left_out(options))
+    for label, error in skipped:
+        yield (label, error) if error else tap.left_out(label, "the crate did not change")
+    is_so = options.left_out in (None, len(skipped))
+    yield "the number of mutants left out", "" if is_so else f"it is {len(skipped)}, and not {options.left_out}"
+    others = {label for label, _ in skipped}
+    crates, errors = prove(options, others, folder, prover)
     yield from errors
-    rounds, left_out = [], 0
+    rounds = []
     for crate in crates:
-        yield from (result for result in crate.unread if options.names(result[0]))
-        tried = []
-        for mutant in crate.mutants:
-            if not mutant.is_of_definitions or options.tries_definitions(crate.name):
-                tried += [mutant] if options.names(mutant.label) else []
-            else:
-                left_out += 1
-                yield tap.left_out(mutant.label, "the crate did not change")
+        yield from (result for result in crate.unread if options.names(result[0]) and result[0] not in others)
+        tried = [mutant for mutant in crate.mutants if options.names(mutant.label) and mutant.label not in others]
         rounds += [(crate, mutants) for mutants in crate.rounds(tried)]
-    is_so = options.left_out in (None, left_out)
-    yield "the number of mutants left out", "" if is_so else f"it is {left_out}, and not {options.left_out}"
     pool = ThreadPoolExecutor(options.jobs)
     try:
         for future in as_completed([pool.submit(crate.try_round, mutants) for crate, mutants in rounds]):

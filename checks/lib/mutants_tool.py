@@ -185,7 +185,7 @@ def printed_results(root: Path) -> Iterator[tap.Result]:
         tried = dict(mutants.results(options, root / "proved", Printed(printed("proved"), 0)))
         is_wrong = bool(tried["the number of mutants left out"])
         yield f"{number} left out", "" if is_wrong == (number == 1) else f"reported: {tried}"
-    crates, errors = mutants.prove(options, root / "proved", Printed("logic=open"))
+    crates, errors = mutants.prove(options, set(), root / "proved", Printed("logic=open"))
     yield "a crate that is not proved", "" if errors and not crates else "it passes"
 
 
