@@ -168,15 +168,15 @@ on_old_processor() {
 
 # C by hand, which is counted beside the library, has the same results.
 by_hand() {
-  build_and_run "$1" "" cc "${c_flags[@]}" -O2 "$c/tests/$1.c" "${tests[@]}"
+  build_and_run "$1" "" cc "${c_flags[@]}" -O2 "$c/speed/$1.c" "${tests[@]}"
 }
 
 # The tests find each difference that is planted in C by hand.
 planted_in_c() {
   local edit
   while read -r edit; do
-    sed "$edit" "$c/tests/plain.c" > "$work/planted.c"
-    if cmp -s "$c/tests/plain.c" "$work/planted.c" ||
+    sed "$edit" "$c/speed/plain.c" > "$work/planted.c"
+    if cmp -s "$c/speed/plain.c" "$work/planted.c" ||
       ! cc -std=c11 -DHEAP -I "$c/include" "$work/planted.c" "${tests[@]}" -o "$work/planted" ||
       ! rejects "not so: " "$work/planted" "$list" 1 20000; then
       echo "not found: $edit"

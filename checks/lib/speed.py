@@ -38,7 +38,7 @@ HEAD = (
     "\ttuned Rust crate\tshare in time"
 )
 C_BUILDS = [
-    C / name for name in ("prebuilt/x86_64/libmultihash_c.a", "tests/plain.c", "tests/fast.c", "src/multihash.c")
+    C / name for name in ("prebuilt/x86_64/libmultihash_c.a", "speed/plain.c", "speed/fast.c", "src/multihash.c")
 ]
 NAMES = {
     "read_slice": "read, slice",
@@ -208,7 +208,7 @@ def count_c() -> dict[str, list[int]]:
     """Returns the instructions of each call from C: of each of the builds."""
     with tempfile.TemporaryDirectory() as work:
         program, counts = f"{work}/count", []
-        source = C / "tests/count.c"
+        source = C / "speed/count.c"
         for build in C_BUILDS:
             run(["cc", "-std=c11", "-O2", f"-I{C}/include", source, build, "-o", program])
             counts.append(count_all(program, run([program]).split()))
