@@ -238,6 +238,8 @@ export class Multihash {
     // a number and a bigint of the same value are the same code
     if ((typeof code !== 'number' && typeof code !== 'bigint') || code != this.code || lengthOf.call(right) !== length)
       return false;
+    // `put` throws a TypeError if a buffer is detached: its length is 0 then
+    if (length === 0) [left, right].forEach((digest) => put(digest, first));
     for (let index = 0; index < length; index++) if (left[index] !== right[index]) return false;
     return true;
   }

@@ -48,7 +48,8 @@ function numbers(module) {
     for (const wrong of ['18', null, {}, [18], true, Symbol('code')])
       fails(TypeError, () => call(wrong), `${name} ${typeof wrong}`);
     for (const wrong of [-1, 1.5, NaN, Infinity, 2 ** 53, -1n, 1n << 64n])
-      fails(RangeError, () => call(wrong), `${name} ${wrong}`);
+      same(fails(RangeError, () => call(wrong), `${name} ${wrong}`).message.split(' has')[0],
+        `a ${{ length: 'length', limit: 'limit' }[name] ?? 'code'}`, name);
   }
   for (const name of ['encode', 'scaleEncode', 'of', 'encodedLength']) {
     const error = fails(module.MultihashError, () => calls[name](1n << 63n), name);
@@ -58,9 +59,11 @@ function numbers(module) {
   same(module.read(EXAMPLE, (1n << 64n) - 1n).taken, 34, 'the largest limit');
   same(fails(module.MultihashError, () => module.read(EXAMPLE, 0), 'limit 0')?.size, 32, 'size at limit 0');
   const long = 2n ** 63n + 256n;
-  const sizes = [() => module.encode(1n << 63n, new Uint8Array(256)), () => module.encodedLength(1n << 63n, long)];
-  const found = sizes.map((call) => fails(module.MultihashError, call, 'size first'));
-  same(`${found.map(({ size, code }) => [size, code])}`, `256,,${long},`, 'size');
+  const sizes = ['encode', 'scaleEncode'].flatMap((name) =>
+    [256, 300].map((size) => () => module[name](1n << 63n, new Uint8Array(size))));
+  const found = [...sizes, () => module.encodedLength(1n << 63n, long)].map((call) =>
+    fails(module.MultihashError, call, 'size first'));
+  same(`${found.map(({ size, code }) => [size, code])}`, `256,,300,,256,,300,,${long},`, 'size');
 }
 
 /** A subclass that says something else of itself than its bytes are. */
@@ -166,6 +169,10 @@ function looseEquals(module) {
   for (const digest of [[5], '5', new Int8Array([5]), new Lying([5, 6, 7])])
     same(multihash.equals({ code: 0, digest }), false, 'equals, another digest');
   same(multihash.equals({ code: 0n, digest: new Lying([5]) }), true, 'equals, a subclass');
+  const empty = module.Multihash.of(18, new Uint8Array());
+  for (const gone of [detached(), outOfBounds()].map((digest) => withDigest(module, digest)))
+    for (const pair of [[gone, empty], [empty, gone]])
+      fails(TypeError, () => pair[0].equals(pair[1]), 'equals, a digest that is gone');
 }
 
 /** A digest that grows while it is copied has its length of before. */
