@@ -1,8 +1,8 @@
 """Calls whose allocations fail, one after the other, and calls that keep what they allocated."""
-import copy
+import contextlib
 import functools
 import gc
-import importlib
+import importlib.util
 import io
 import pickle
 import sys
@@ -21,6 +21,7 @@ except ImportError:
 VALUE = Multihash(0x810, b"abc")
 OTHER = Multihash(1 << 62, bytes(255))
 LONG = bytes(1 << 10)
+RUNS = 100
 
 
 class Named(Multihash):
@@ -39,11 +40,14 @@ def calls():
 
 
 CALLS = {str((call.__name__, each)): (call, each) for call, each in calls()}
-CALLS["a subclass"] = lambda: Named(1 << 62, b"abc"), ()
+CALLS["a subclass"] = Named, [1 << 62, b"abc"]
 CALLS["values"] = lambda: (OTHER.code, OTHER.digest, OTHER.hexdigest(), bytes(OTHER), repr(OTHER), hash(OTHER)), ()
 CALLS["order"] = lambda: (VALUE == OTHER, VALUE < OTHER, VALUE == 1, VALUE == Named(VALUE.code, VALUE.digest)), ()
-CALLS["pickle"] = lambda: pickle.loads(pickle.dumps(OTHER)), ()
-CALLS["reader"] = lambda: vm.read_from(io.BytesIO(bytes(OTHER))), ()
+CALLS["pickle"] = VALUE.__getnewargs__, ()
+CALLS["reader"] = lambda data, limit: vm.read_from(io.BytesIO(data), limit), [bytes(OTHER), 1 << 62]
+
+
+LASTING = [vm._core, vm.MultihashReader, MultihashError, Multihash, Named, VALUE, OTHER, *vm.Status]
 
 
 def prepared(call, arguments):
@@ -71,51 +75,64 @@ def result_of(call):
         return type(error), error.args or ANY  # CPython up to 3.10 leaves the text out if it has no memory for it
 
 
+def failing(call, number):
+    """The result of a call in which the allocation of that number fails."""
+    set_nomemory(number, number + 1)
+    try:
+        return call()
+    finally:
+        remove_mem_hooks()
+
+
+def held():
+    """The number of blocks, and of references to what lasts."""
+    gc.collect()
+    return sys.getallocatedblocks() + sum(map(sys.getrefcount, LASTING))
+
+
+def keeps(call, number=None):
+    """Whether each run of a call, in which that allocation fails, keeps a block or a reference. And its result."""
+    for _ in range(5):  # CPython keeps some for itself
+        before = held()
+        for _ in range(RUNS):
+            again = prepared(*call)
+            found = result_of(again if number is None else functools.partial(failing, again, number))
+        del again
+        if held() - before < RUNS // 2:
+            return False, found
+    return True, found
+
+
 class Memory(unittest.TestCase):
+    @classmethod
+    def setUpClass(cls):
+        gc.freeze()  # what is there is not looked at each time
+        cls.addClassCleanup(gc.unfreeze)
+
     @unittest.skipIf(set_nomemory is None, "_testcapi is not installed")
     def test_failing_allocations(self):
         failed = 0
         for name, call in CALLS.items():
             with self.subTest(call=name):
-                wanted = result_of(prepared(*call))
-                for number in range(300):
-                    again = prepared(*call)
-                    set_nomemory(number, number + 1)
-                    found = result_of(again)
-                    remove_mem_hooks()
+                wanted, number, last = result_of(prepared(*call)), 0, 0
+                while number - last < 20:  # the call has no more allocations
+                    is_kept, found = keeps(call, number)
+                    self.assertIn(found, (MemoryError, wanted), number)
+                    self.assertFalse(is_kept, number)
                     failed += found is MemoryError
-                    self.assertIn(found, (MemoryError, wanted))
+                    last, number = number if found is MemoryError else last, number + 1
         self.assertGreater(failed, len(CALLS))
 
-    @unittest.skipIf(sys.getallocatedblocks() == 0, "PYTHONMALLOC is malloc, which counts no blocks")
-    def test_no_block_is_kept(self):
+    def test_nothing_is_kept(self):
         for name, call in CALLS.items():
             with self.subTest(call=name):
-                for _ in range(20):
-                    result_of(prepared(*call))
-                before = sys.getallocatedblocks()
-                for _ in range(2000):
-                    result_of(prepared(*call))
-                self.assertLess(sys.getallocatedblocks() - before, 1000)
-
-    def test_nothing_is_kept(self):
-        """Neither types nor arguments have more references after calls."""
-
-        def of_types(_, named):
-            return VALUE == named(1, b""), copy.copy(VALUE), copy.copy(named(1, b""))
-
-        for call, arguments in [*NAMED_CALLS.items(), (of_types, [Multihash, Named])]:
-            counted = [each for each in arguments if not isinstance(each, int)]  # small numbers may be immortal
-            before = list(map(sys.getrefcount, counted))
-            for _ in range(1000):
-                call(*arguments)
-            after = map(sys.getrefcount, counted)
-            self.assertLess(max([0, *(now - then for now, then in zip(after, before))]), 500, call)
+                self.assertFalse(keeps(call)[0], "it is kept")
 
     def test_modules(self):
         """Of a package that was imported anew no type is left, though its module has a reader, which has the module."""
 
         def types():
+            gc.collect()
             names = {"Multihash", "MultihashError", "MultihashReader", "Reader", "Status"}
             return sum(isinstance(it, type) and it.__name__ in names for it in gc.get_objects())
 
@@ -124,7 +141,9 @@ class Memory(unittest.TestCase):
             self.assertEqual(again.read_from(io.BytesIO(bytes(2))).digest, b"")
             self.assertRaises(again.MultihashError, again.Multihash, 1, LONG)
 
-        gc.collect()
+        def import_core():
+            vm._core.__loader__.exec_module(importlib.util.module_from_spec(vm._core.__spec__))
+
         known = {name: it for name, it in sys.modules.items() if name.startswith(vm.__name__)}
         before = types()
         for name in known:
@@ -132,5 +151,7 @@ class Memory(unittest.TestCase):
         use(importlib.import_module(vm.__name__))
         self.assertGreater(types(), before + 4)
         sys.modules.update(known)
-        gc.collect()
+        for number in range(300 if set_nomemory else 0):
+            with contextlib.suppress(SystemError):  # of CPython, which sets no error for some
+                result_of(functools.partial(failing, import_core, number))
         self.assertEqual(types(), before)
