@@ -36,6 +36,8 @@ PATTERNS = (
     HEADER,
     f"{CRATE}/src/**/*.rt",
     "crates/multihash/specs/Varint.antt",
+    "crates/multihash/src/multihash.rt",
+    "bindings/c/tests/models.c",
     f"{RUST}/Cargo.toml",
     f"{RUST}/src/**/*.rs",
     f"{PYTHON}/**/*.py",
@@ -198,11 +200,27 @@ def binding_errors(files: Files, crate: Declared) -> Iterator[str]:
             yield f"{name} are {found}, and the crate's {wanted}"
 
 
+def order_errors(files: Files, statuses: dict[str, str]) -> Iterator[str]:
+    """Returns the comments that list a call's errors in another order than they are judged.
+
+    That is the order of the statuses, after those of varints. The model with which the tests of C compare each call has
+    it too.
+    """
+    form = r"Errors: .*?\*/|# Errors\n(?: *///[^\n]*\n)+|model_encoding\([^;]*\n\{.*?\n\}"
+    for path, text in files.items():
+        for section in re.findall(form, text, re.S):
+            names = re.findall(r"(?:MULTIHASH_|Error::)(\w+)", section)
+            listed = [statuses.get(re.sub(r"(?<=[a-z])(?=[A-Z])", "_", name).upper(), "") for name in names]
+            ordered = [number for number in listed if number > statuses["NOT_MINIMAL"]]
+            if ordered != sorted(ordered):
+                yield f"{path} has errors in another order: {flat(section)}"
+
+
 def error_of(files: Files) -> str:
     """Returns what differs, or what cannot be read."""
     try:
         crate = of_crate(files)
-        errors = [*binding_errors(files, crate)]
+        errors = [*binding_errors(files, crate), *order_errors(files, crate.statuses)]
         for language in LANGUAGES:
             errors += header_errors(files[HEADER], crate, language)
         return "\n".join(errors)
