@@ -230,6 +230,13 @@ class Values(unittest.TestCase):
             value.__init__(2, b"")
             self.assertEqual((value, type(value.code)), (VALUE, int))
 
+    def test_modules(self):
+        """A subclass that has another module than Multihash makes no error and no reader."""
+        for module in (sys, None, 3):
+            for kind, *arguments in ((Multihash, 1, bytes(256)), (vm.MultihashReader, io.BytesIO())):
+                own = type("Own", (kind,), {"_core": module})
+                self.assertRaisesRegex(TypeError, "not the module of", own, *arguments)
+
     def test_formats(self):
         """Texts are what Python makes of the parts."""
         for digest in (*map(bytes, zip(range(256))), bytes(range(255)), b"'\"\\", b""):
