@@ -1,6 +1,7 @@
 // Arguments of wrong types and ranges, and what results and errors are.
 import base64 from '../bytes.js';
 import { fails, hex, same, tally, unhex } from './check.js';
+import { order } from './vectors.js';
 
 const EXAMPLE = unhex('1620644bcc7e564373040999aac89e7622f3ca71fba1d972fd94a31c3bfbf24e3938');
 
@@ -210,6 +211,8 @@ function multihashes(module) {
     ...Array.from(other.digest, changed)];
   const unequal = [[21, other.digest], ...digests.map((digest) => [22, digest])].map((pair) =>
     module.Multihash.of(...pair));
+  for (const pair of unequal.flatMap((value) => [[value, multihash], [multihash, value]]))
+    same(module.compare(...pair), order(...pair), 'compare');
   for (const value of [...unequal, null, undefined, 22, 'text', {}, EXAMPLE])
     same(multihash.equals(value), false, 'equals');
   multihash.bytes.fill(0);

@@ -62,7 +62,7 @@ function checkBack(module, multihash, data, taken) {
 }
 
 /** The order by the code, the digest's length, and the digest. */
-function order(left, right) {
+export function order(left, right) {
   const keys = [left, right].map(({ code, size, digest }) => [BigInt(code), size, hex(digest)]);
   const at = keys[0].findIndex((key, index) => key !== keys[1][index]);
   return at < 0 ? 0 : keys[0][at] < keys[1][at] ? -1 : 1;
