@@ -81,7 +81,7 @@ export class Multihash<Code extends Wide = Wide> {
   readonly digest: Uint8Array;
   /** The encoding, a new array each time. */
   readonly bytes: Uint8Array;
-  /** Whether `other` has the same code and the same digest. An empty digest beside a detached one is a `TypeError`. */
+  /** Whether `other` has the same code and digest. An empty digest beside a detached one is a `TypeError`. */
   equals(other: unknown): boolean;
   /** Returns this multihash, whose code is a `number`. Throws a `RangeError` if it is a `bigint`. */
   narrow(): Multihash<number>;

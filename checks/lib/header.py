@@ -203,8 +203,8 @@ def binding_errors(files: Files, crate: Declared) -> Iterator[str]:
 def order_errors(files: Files, statuses: dict[str, str]) -> Iterator[str]:
     """Returns the comments that list a call's errors in another order than they are judged.
 
-    That is the order of the statuses, after those of varints. The model with which the tests of C compare each call has
-    it too.
+    That is the order of the statuses, after those of varints. The model with which the tests of C compare
+    each call has it too.
     """
     form = r"Errors: .*?\*/|# Errors\n(?: *///[^\n]*\n)+|model_encoding\([^;]*\n\{.*?\n\}"
     for path, text in files.items():

@@ -11,7 +11,8 @@ static void format(multihash_decoded found, const uint8_t *input, char *to, size
     static const char *const words[] = {"pair", "insufficient", "overflow", "not_minimal", "invalid_size",
                                         "invalid_code", "unexpected_eof", "?"};
     CHECK(found.status < sizeof words / sizeof words[0]);
-    int at = snprintf(to, places, "%s", words[found.status]), is_size = found.status == MULTIHASH_INVALID_SIZE;
+    int at = snprintf(to, places, "%s", words[found.status]);
+    int is_size = found.status == MULTIHASH_INVALID_SIZE;
     if (found.status != MULTIHASH_OK && !is_size && found.status != MULTIHASH_INVALID_CODE) return;
     at += snprintf(to + at, places - (size_t)at, " %" PRIu64, is_size ? found.size : found.code);
     if (found.status != MULTIHASH_OK) return;

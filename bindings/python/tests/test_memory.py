@@ -91,7 +91,7 @@ def held():
 
 
 def keeps(call, number=None):
-    """Whether each run of a call, in which that allocation fails, keeps a block or a reference. And its result."""
+    """Whether each run of a call, with that allocation failing, keeps a block or a reference; its result."""
     for _ in range(5):  # CPython keeps some for itself
         before = held()
         for _ in range(RUNS):
