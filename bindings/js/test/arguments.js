@@ -263,6 +263,7 @@ function errors(module) {
   }
   same(JSON.stringify(Object.getOwnPropertyDescriptor(module.MultihashError.prototype, 'name')),
     '{"value":"MultihashError","writable":true,"enumerable":false,"configurable":true}', 'name, as of other errors');
+  same(new module.MultihashError('invalid_size', { size: 0 }).message, 'Invalid multihash size 0.', 'size 0');
   const others = [null, undefined, 3, {}, new Error('text'), new Error('text', { cause: { status: 'ok' } })];
   for (const value of others) same(module.MultihashError.from(value), undefined, 'from');
   for (const status of ['ok', 'text', 1, undefined])
@@ -295,10 +296,10 @@ export async function forbidden() {
 /** A module that cannot be fetched is an error that names its place. */
 export async function missing() {
   const { fetch, process } = globalThis;
-  Object.assign(globalThis, { fetch: async () => ({ ok: false, status: 404 }), process: undefined });
+  Object.assign(globalThis, { fetch: async () => ({ ok: false, status: 500 }), process: undefined });
   const error = await import(`../index.js?${tally.checks}`).catch((found) => found); // each time anew
   Object.assign(globalThis, { fetch, process });
-  same(/multihash.wasm: status 404$/.test(error.message), true, 'a module that is missing');
+  same(/multihash.wasm: status 500$/.test(error.message), true, 'a module that is missing');
 }
 
 /** Where both entries connect at once, the first of them serves both; a module of another version serves none. */

@@ -117,6 +117,7 @@ fn errors() {
 fn writers() {
     let mut written = Vec::new();
     assert_eq!((WRAPPED.write(&mut written).expect("a vector"), &written[..]), (5, &b"\x12\x03abc"[..]));
+    assert_eq!(WRAPPED.to_bytes(), written);
     let mut out = [0xa5; 4];
     let error = WRAPPED.write(&mut out[..]).expect_err("it is full");
     assert_eq!((error.kind(), out), (std::io::ErrorKind::WriteZero, *b"\x12\x03ab"));
