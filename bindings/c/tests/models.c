@@ -225,10 +225,11 @@ void check_input(uint64_t code, const uint8_t *bytes, size_t length, size_t limi
     check_encodings(code, bytes, length, room);
     check_encodings(code, bytes, length, limit);
     check_text((multihash_status)code, room % 40);
-    if (length == 0) return;
     uint8_t *other = copy_of(bytes, length);
+    check_order(code, bytes, length, code ^ (uint64_t)(limit % 2) << limit % 64, other, length);
+    if (length == 0) return;
     check_order(code, bytes, half, code, bytes + half, length - half);
-    check_order(code, bytes, length, code ^ code << 7, other, length);
+    check_order(code, bytes + half, length - half, code, bytes, half);
     other[code % length] ^= (uint8_t)(1u << limit % 8);
     check_order(code, bytes, length, code, other, length);
     check_order(code, bytes, length, code, other, length - 1);

@@ -48,27 +48,6 @@ static void check_lengths(void)
     check_length(0, SIZE_MAX);
 }
 
-/* Each two of these in both orders: digests that differ early or late, null, and more than an encoding has. */
-static void check_orders(void)
-{
-    static const char zeros[300] = {0};
-    static const struct value {
-        uint64_t code;
-        const char *digest;
-        size_t length;
-    } values[] = {
-        {1, NULL, 0}, {1, "ac", 2}, {2, "ab", 2}, {2, "ac", 2}, {2, "a\xff", 2},
-        {2, "b", 1}, {2, zeros, 300}, {UINT64_MAX, NULL, 0}, {UINT64_MAX, "b", 1},
-    };
-    for (size_t i = 0; i < sizeof values / sizeof values[0]; i++) {
-        for (size_t k = 0; k < sizeof values / sizeof values[0]; k++) {
-            const struct value *left = &values[i], *right = &values[k];
-            check_order(left->code, (const uint8_t *)left->digest, left->length, right->code,
-                        (const uint8_t *)right->digest, right->length);
-        }
-    }
-}
-
 static void check_texts(void)
 {
     for (size_t room = 0; room <= 40; room++) {
@@ -95,7 +74,6 @@ int main(int argc, char **argv)
     }
     check_capacities();
     check_lengths();
-    check_orders();
     check_texts();
     check_version();
     replay(argv[1]);
