@@ -201,10 +201,9 @@ def binding_errors(files: Files, crate: Declared) -> Iterator[str]:
 
 
 def order_errors(files: Files, statuses: dict[str, str]) -> Iterator[str]:
-    """Returns the comments that list a call's errors in another order than they are judged.
+    """Returns the comments that list errors in another order than they are judged: by their numbers.
 
-    That is the order of the statuses, after those of varints. The model with which the tests of C compare
-    each call has it too.
+    The model with which the tests of C compare each call has this order too.
     """
     form = r"Errors: .*?\*/|# Errors\n(?: *///[^\n]*\n)+|model_encoding\([^;]*\n\{.*?\n\}"
     for path, text in files.items():

@@ -28,8 +28,6 @@ void release(uint8_t *bytes);
 void check_decodings(const uint8_t *bytes, size_t length, size_t limit);
 void check_encodings(uint64_t code, const uint8_t *digest, size_t length, size_t room);
 void check_length(uint64_t code, size_t length);
-void check_order(uint64_t code, const uint8_t *left, size_t left_length, uint64_t other_code, const uint8_t *right,
-                 size_t right_length);
 void check_text(multihash_status status, size_t room);
 void check_input(uint64_t code, const uint8_t *bytes, size_t length, size_t limit);
 

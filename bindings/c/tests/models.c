@@ -194,8 +194,8 @@ void check_decodings(const uint8_t *bytes, size_t length, size_t limit)
     check_back(multihash_scale_encode, bytes, multihash_scale_decode(bytes, length));
 }
 
-void check_order(uint64_t code, const uint8_t *left, size_t left_length, uint64_t other_code, const uint8_t *right,
-                 size_t right_length)
+static void check_order(uint64_t code, const uint8_t *left, size_t left_length, uint64_t other_code,
+                        const uint8_t *right, size_t right_length)
 {
     int order = code != other_code ? (code < other_code ? -1 : 1) : left_length < right_length ? -1 : 1;
     if (code == other_code && left_length == right_length) {
