@@ -167,8 +167,10 @@ function looseEquals(module) {
     { valueOf: () => 0 }]) {
     same(multihash.equals({ code, digest: Uint8Array.of(5) }), false, 'equals, a code that is none');
   }
-  for (const digest of [[5], '5', new Int8Array([5]), new Lying([5, 6, 7])])
+  for (const digest of [[5], '5', new Int8Array([5]), new Lying([5, 6, 7])]) {
     same(multihash.equals({ code: 0, digest }), false, 'equals, another digest');
+    same(withDigest(module, digest).equals({ code: 18, digest: multihash.digest }), false, 'equals, a digest before');
+  }
   same(multihash.equals({ code: 0n, digest: new Lying([5]) }), true, 'equals, a subclass');
   const empty = module.Multihash.of(18, new Uint8Array());
   for (const gone of [detached(), outOfBounds()].map((digest) => withDigest(module, digest)))
@@ -220,7 +222,7 @@ function multihashes(module) {
   looseEquals(module);
   same(multihash.narrow(), multihash, 'a code that is a number');
   fails(RangeError, () => module.Multihash.of(2n ** 53n, EXAMPLE).narrow(), 'a code that is a bigint');
-  fails(TypeError, () => new module.Multihash(22, EXAMPLE), 'constructor');
+  fails(TypeError, () => new module.Multihash(Symbol('making'), 22, EXAMPLE), 'constructor');
   same(Object.is(module.Multihash.of(-0, EXAMPLE).code, 0), true, 'code -0');
   const digest = { get: () => (module.decode(module.encode(1, new Uint8Array(40))), EXAMPLE.slice(2)) };
   const busy = Object.create(module.Multihash.prototype, { code: { value: 22 }, digest });
@@ -246,6 +248,7 @@ function errors(module) {
     [() => decode(unhex('0000ff')), 'Invalid multihash size 1.', '"invalid_size","size":1,"taken":3', false],
     [() => decode(unhex('12ffffffffffffffff7f')), 'Invalid multihash size 9223372036854775807.',
       '"invalid_size","size":"9223372036854775807","taken":10', false],
+    [() => encode(1, new Uint8Array(256)), 'Invalid multihash size 256.', '"invalid_size","size":256', false],
     [() => encode(1n << 63n, EXAMPLE), 'Invalid multihash code 9223372036854775808.',
       '"invalid_code","code":"9223372036854775808"', false],
     [() => scaleDecode(new Uint8Array(9).fill(255)), 'Invalid multihash code 18446744073709551615.',
