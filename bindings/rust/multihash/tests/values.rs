@@ -27,8 +27,6 @@ fn parts() {
         parts
     };
     assert_eq!((PARTS(&multihash), multihash.digest()), ((0x12, 3), &b"abc"[..]));
-    assert_eq!(multihash.to_bytes(), b"\x12\x03abc");
-    assert_eq!(Vec::from(multihash), b"\x12\x03abc");
     assert_eq!(multihash.into_inner().1[..4], *b"abc\0");
     assert_eq!(Multihash::<3>::default().into_inner(), (0, [0; 3], 0));
     assert_eq!(Multihash::<0>::default(), Multihash::<64>::default());
@@ -59,7 +57,6 @@ fn limits() {
 fn sizes() {
     let long = of::<200>(0x12, &[7; 200]);
     assert_eq!(long.truncate(127), of::<127>(0x12, &[7; 127]));
-    assert_eq!(long.truncate(127).to_bytes(), of::<127>(0x12, &[7; 127]).to_bytes());
     assert_eq!(long.truncate(201), long);
     assert_eq!(of::<9>(18, b"ab").truncate(3).size(), 2);
     assert_eq!(
