@@ -169,7 +169,7 @@ function looseEquals(module) {
   }
   for (const digest of [[5], '5', new Int8Array([5]), new Lying([5, 6, 7])]) {
     same(multihash.equals({ code: 0, digest }), false, 'equals, another digest');
-    same(withDigest(module, digest).equals({ code: 18, digest: multihash.digest }), false, 'equals, a digest before');
+    same(withDigest(module, digest).equals({ ...multihash, code: 18 }), false, 'equals, a replaced digest');
   }
   same(multihash.equals({ code: 0n, digest: new Lying([5]) }), true, 'equals, a subclass');
   const empty = module.Multihash.of(18, new Uint8Array());
