@@ -139,9 +139,9 @@ test_browser() {
 
 part "the WebAssembly built anew" "rt wasm-opt=108 wasm2wat=1.0.32" "$here/build.sh" --check
 part "the WebAssembly for old engines" wasm-validate old_module
-part "in Node.js" node in_node "$vectors/verdicts.tsv"
-part "in Node.js, inline" node in_node "$vectors/verdicts.tsv" inline
-part "in Node.js, a compiled module" node in_node "$vectors/verdicts.tsv" module
+for entry in $(sed -n 's|.*"default": "./\(.*\)[.]js".*|\1|p' "$here/package.json"); do
+  part "in Node.js, $entry" node in_node "$vectors/verdicts.tsv" "$entry"
+done
 part "where nothing is compiled" node node --experimental-vm-modules --no-warnings "$here/test/compiled.js"
 part "vectors that differ" node planted
 part "plain JavaScript" node plain

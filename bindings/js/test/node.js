@@ -4,17 +4,17 @@ import { same } from './check.js';
 import { suite, summary } from './suite.js';
 
 const [, , vectors, which = 'index'] = process.argv;
-const { Module } = WebAssembly;
-const compiled = which === 'module' && new Module(readFileSync(new URL('../multihash.wasm', import.meta.url)));
-// as in pages of Chrome before 115, where index.js works
-if (which !== 'inline') {
-  WebAssembly.Module = function TooLarge() {
-    throw new RangeError('the module is too large to be compiled at once');
-  };
-}
+const wasm = new URL('../multihash.wasm', import.meta.url);
+const compiled = which === 'module' && new WebAssembly.Module(readFileSync(wasm));
+// Each entry compiles in its own way, if it does: index.js also in pages of Chrome before 115, with this error.
+const other = which === 'inline' ? 'instantiate' : 'Module';
+const before = WebAssembly[other];
+WebAssembly[other] = function TooLarge() {
+  throw new RangeError('the module is too large to be compiled at once');
+};
 const module = await import(`../${which}.js`);
 if (compiled) module.connect(compiled);
-WebAssembly.Module = Module;
+WebAssembly[other] = before;
 const types = readFileSync(new URL('../index.d.ts', import.meta.url), 'utf8');
 const names = Array.from(types.matchAll(/^export (?:const|class|function) (\w+)/gm), ([, name]) => name);
 if (compiled) names.push('connect');

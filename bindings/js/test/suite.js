@@ -4,6 +4,8 @@ import { fails, same, tally } from './check.js';
 import { streams } from './stream.js';
 import { vectors } from './vectors.js';
 
+const tested = new Set();
+
 /** The checks see a value of another type, an error of another class, and that there is none. */
 function checksOfChecks() {
   const [before, wrong] = [tally.errors.length, () => { throw new RangeError(); }];
@@ -14,6 +16,8 @@ function checksOfChecks() {
 
 export async function suite(module, text) {
   checksOfChecks();
+  same(tested.has(module), false, 'an entry is tested before');
+  tested.add(module);
   hostile(module);
   vectors(module, text);
   await streams(module);
