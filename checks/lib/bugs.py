@@ -1,12 +1,9 @@
 #!/usr/bin/env python3
 """Plants bugs that no contract excludes in copies of the crates, and checks that the tests fail.
 
-    checks/lib/bugs.py [--alone]
-
 They are in bugs.edits. In 'seen: CRATE MODULE::TEST [N]' is the test that has to fail and, with N, the number of the
 allocation that fails in it. With 'seen: passes CRATE MODULE::TEST' it has to pass. The bugs of one crate of tests are
-planted in one copy, so each has a test of its own, which no other bug changes: --alone shows that. It plants each bug
-in a copy of its own, which needs four times as long.
+planted in one copy, so each has a test of its own, which no other bug changes.
 """
 import re
 import subprocess
@@ -39,17 +36,15 @@ class Group(NamedTuple):
 
     crate: str
     allocation: str
-    alone: str
 
 
-def groups(is_alone: bool) -> dict[Group, list[Bug]]:
+def groups() -> dict[Group, list[Bug]]:
     """Returns the bugs, by the run that tries them."""
     found: dict[Group, list[Bug]] = defaultdict(list)
     for name, _, seen, its_edits in edits.read(BUGS):
         is_bug = not seen.startswith("passes ")
         crate, test, *allocation = seen.removeprefix("passes ").split()
-        group = Group(crate, "".join(allocation), name if is_alone else "")
-        found[group].append(Bug(name, test, "fails" if is_bug else "passes", its_edits))
+        found[Group(crate, "".join(allocation))].append(Bug(name, test, "fails" if is_bug else "passes", its_edits))
     return found
 
 
@@ -91,8 +86,8 @@ def judged(bugs: list[Bug], log: str) -> Iterator[tap.Result]:
         yield bug.name, "" if found == bug.wanted else error
 
 
-def results(is_alone: bool) -> Iterator[tap.Result]:
-    found = groups(is_alone)
+def results() -> Iterator[tap.Result]:
+    found = groups()
     for group, bugs in sorted(found.items()):
         yield from try_group(group, bugs)
     tests = [(group.crate, bug.test) for group, bugs in found.items() for bug in bugs]
@@ -104,4 +99,4 @@ def results(is_alone: bool) -> Iterator[tap.Result]:
 
 
 if __name__ == "__main__":
-    sys.exit(tap.report(results("--alone" in sys.argv)))
+    sys.exit(tap.report(results()))
