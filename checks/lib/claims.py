@@ -75,13 +75,11 @@ NO_ROWS = {
     *"OK NO_ROOM no_room arb categories default include keywords little required-features scale-codec".split()
 } | {*"CMAKE_INSTALL_PREFIX CMAKE_INSTALL_LIBDIR CMAKE_TOOLCHAIN_FILE".split()}
 NAMES_ELSEWHERE = {
-    *"Arbitrary BTreeMap Buffer CC_TARGET CC_riscv64gc_unknown_linux_gnu CMAKE_TOOLCHAIN_FILE CODE".split(),
-    *"CRYPTO_memcmp DIGEST FOLDER HashMap MULTIHASH_C_STATIC NDEBUG PACKAGING PASS SHA256SUMS SIZE".split(),
-    *"WouldBlock activate add apt-get area cd checker command compare_digest crypto dac8208d650f15bf".split(),
-    *"externally-managed-environment gcc gcc-aarch64-linux-gnu hmac install is_ ldconfig makefile minutes".split(),
-    *"multihash-codetable my_vectors my_vectors.tsv pc_path postMessage prog prove py-multihash".split(),
-    *"pymultihash python3 python3-dev rattle-kit-13f rc sha256sum slice_reader socket tests_".split(),
-    *"timingSafeEqual tree update using x86-64-v3".split(),
+    *"Arbitrary BTreeMap CC_TARGET CC_riscv64gc_unknown_linux_gnu CODE CRYPTO_memcmp FOLDER HashMap".split(),
+    *"MULTIHASH_C_STATIC PACKAGING PASS WouldBlock area checker crypto dac8208d650f15bf".split(),
+    *"externally-managed-environment gcc-aarch64-linux-gnu hmac is_ multihash-codetable my_vectors.tsv".split(),
+    *"pc_path postMessage prog py-multihash pymultihash python3 python3-dev rattle-kit-13f rc".split(),
+    *"sha256sum socket tests_ tree update using x86-64-v3".split(),
 }
 TOLD = {C, PACKAGING, JS, PYTHON, RUST, RUST_C}
 # blocks that a check compiles or runs, or of which it compares the output, by their languages or first words
