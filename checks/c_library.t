@@ -4,17 +4,17 @@
 # valgrind, with all warnings as errors; and runs the examples.
 # shellcheck source=checks/lib/tap.sh
 . "$(dirname "$0")/lib/tap.sh"
-plan 36
+plan 37
 set -o pipefail
 # shellcheck source=checks/lib/proved.sh
 . checks/lib/proved.sh
+# shellcheck source=checks/lib/warnings.sh
+. checks/lib/warnings.sh
 top=$PWD
 c=$top/bindings/c
 library=$PROVED/crates/multihash_c/out/libmultihash_c.a
 list=$top/crates/vectors/data/verdicts.tsv
 tests=("$c"/tests/{test,verdicts,models,draws,buffer}.c)
-warnings=(-Wall -Wextra -Wpedantic -Wconversion -Wsign-conversion -Wshadow -Wcast-qual -Werror)
-c_flags=(-std=c11 "${warnings[@]}" -Wstrict-prototypes -Wmissing-prototypes)
 cpp_flags=(-std=c++17 "${warnings[@]}")
 
 # ---- the library
@@ -48,18 +48,13 @@ exports_exactly() {
     echo "exports the $(wc -l < "$work/declared") functions that the header declares"
 }
 
-# The page of the library names each function that the header declares, and a test in C calls it.
-names_and_calls() {
+# A test in C calls each function that the header declares.
+calls_each() {
   local name
   checks/lib/header.py --exports > "$work/names" && [ -s "$work/names" ] || return 1
   while read -r name; do
-    grep -q "\`$name\`" "$1" || { echo "not in $1: $name"; return 1; }
-    grep -q "\b$name\b" "$c"/tests/{test,models}.c || { echo "not called: $name"; return 1; }
+    grep -q "\b$name\b" "$@" || { echo "not called: $name"; return 1; }
   done < "$work/names"
-}
-
-page_without_one() {
-  sed 's/multihash_head/another/' bindings/c/README.md > "$work/page.md" && names_and_calls "$work/page.md"
 }
 
 # It needs functions that copy and fill memory, and no others.
@@ -90,8 +85,8 @@ plant_archive() {
 
 look_at_library() {
   try "exports" exports_exactly "$library"
-  try "page and tests of the exports" names_and_calls bindings/c/README.md
-  try "a page without one" rejects "not in $work/page.md: multihash_head" page_without_one
+  try "tests of the exports" calls_each "$c"/tests/{test,models}.c
+  try "tests without one" rejects "not called: multihash_version" calls_each "$c/tests/models.c"
   try "needs" needs_copies_alone "$library"
   try "state" writes_nothing "$library"
   try "a planted archive" plant_archive
@@ -198,7 +193,7 @@ END
 
 # The example of the page is the one that is installed.
 example_in() {
-  awk '$0 == "```c" && !seen { on = seen = 1; next } on && /^```/ { exit } on' "$1" | diff bindings/c/examples/show.c -
+  block_of "$1" c | diff bindings/c/examples/show.c -
 }
 
 # The reader of a stream that is installed, over pipes that are cut at each byte.
@@ -210,12 +205,13 @@ stream_example() {
 
 # ---- all of it
 
-has 36 cc python3 rt || exit 0
+has 37 cc python3 rt || exit 0
 try "static library" build_library
 try "the prebuilt archives: 2 comparisons" prebuilt_archives
 try "a planted archive of them" rejects "aarch64/libmultihash_c.a differ: byte 10000" planted_prebuilt
 has 9 nm objdump ar && look_at_library
 test_compilers
+try "warnings: 9 comparisons" warns
 try "an access after a buffer" rejects AddressSanitizer faulty "" 'made[1] = 0; free(made);' "${sanitize[@]}"
 try "a sum that is too large" rejects "signed integer overflow" faulty "" 'most++; free(made);' "${sanitize[@]}"
 try "a wrong vector" rejects "not so: " wrong_vector

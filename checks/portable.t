@@ -8,6 +8,8 @@ plan 29
 set -o pipefail
 # shellcheck source=checks/lib/proved.sh
 . checks/lib/proved.sh
+# shellcheck source=checks/lib/warnings.sh
+. checks/lib/warnings.sh
 top=$PWD
 tree=$work/tree
 steps=$work/steps
@@ -15,8 +17,6 @@ translate=tools/translate.py
 tests=$top/bindings/c/tests
 parts=("$tests"/{test,verdicts,models,draws,buffer}.c)
 vectors=$top/crates/vectors/data/verdicts.tsv
-warnings=(-Wall -Wextra -Wpedantic -Wconversion -Wsign-conversion -Wshadow -Wcast-qual -Wstrict-prototypes
-  -Wmissing-prototypes -Werror)
 ulimit -c 0
 
 # ---- the generated file
@@ -71,8 +71,8 @@ two_files() {
   tools/portable_c "$tree" && mkdir "$work/a folder" && tools/portable_c "$work/a folder/tree" &&
     diff -r "$tree" "$work/a folder/tree" && cmp LICENSE "$tree/LICENSE" &&
     cmp bindings/c/src/README.md "$tree/README.md" && cmp bindings/c/include/multihash.h "$tree/multihash.h" &&
-    cc -std=c11 -O2 "${warnings[@]}" -c "$tree/multihash.c" -o "$work/one.o" &&
-    cc -std=c11 -O2 "${warnings[@]}" -I bindings/c/include -c bindings/c/src/multihash.c \
+    cc -O2 "${c_flags[@]}" -c "$tree/multihash.c" -o "$work/one.o" &&
+    cc -O2 "${c_flags[@]}" -I bindings/c/include -c bindings/c/src/multihash.c \
     -o "$work/apart.o" &&
     cmp "$work/one.o" "$work/apart.o" && wc -c < "$tree/multihash.c"
 }
@@ -94,7 +94,7 @@ freestanding() {
   local target
   for target in arm64-apple-macos11 x86_64-pc-windows-msvc wasm32-unknown-unknown thumbv7em-none-eabi \
     riscv32-unknown-elf; do
-    clang --target=$target -ffreestanding -nostdlibinc "${warnings[@]}" -Wno-conversion -Wno-unused-parameter \
+    clang --target=$target -ffreestanding -nostdlibinc "${c_flags[@]}" -Wno-conversion -Wno-unused-parameter \
       -std=c11 -O2 -c "$1/multihash.c" -o "$work/free.o" &&
       llvm-nm --undefined-only -j "$work/free.o" | sed -E 's/^_*//; /^stack_(chk_fail|chk_guard|pointer)$/d' | sort |
       paste -sd ' ' | tee -a /dev/stderr | grep -x 'memcpy memmove memset' || return 1
@@ -109,7 +109,7 @@ another_function() {
 }
 
 test_compiler() {
-  try "$1" passes "$tree" "$1" "$1" -O2 "${warnings[@]}"
+  try "$1" passes "$tree" "$1" "$1" -O2 "${c_flags[@]}"
   try "$1, sanitizers" passes "$tree" "$1-sanitizers" "$1" -g -O1 -DHEAP -fsanitize=address,undefined \
     -fno-sanitize-recover=all
 }
@@ -155,7 +155,7 @@ test_here() {
 on_machine() {
   local name=$1 compiler=$2-gcc
   local -x RUN=$3
-  has 1 "$compiler" "$RUN" && try "$name" passes "$tree" "$name" "$compiler" -O2 "${warnings[@]}" -static
+  has 1 "$compiler" "$RUN" && try "$name" passes "$tree" "$name" "$compiler" -O2 "${c_flags[@]}" -static
 }
 
 # Wine keeps its files below the folder of this test; its server ends with it.

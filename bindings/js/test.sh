@@ -62,12 +62,6 @@ plain() {
     rejects "in plain JavaScript" node "$work/plain.mjs" --check
 }
 
-# The example of README.md in that language.
-example_in() {
-  awk -v fence="\`\`\`$1" '$0 == fence && !seen { on = seen = 1; next } on && /^```/ { exit } on' \
-    "$here/README.md"
-}
-
 # What is packed, unpacked elsewhere, runs the script of README.md, and is imported from CommonJS.
 packed_script() {
   local at=$work/elsewhere
@@ -75,8 +69,8 @@ packed_script() {
     mkdir -p "$at/node_modules/verified-multihash" &&
     tar xzf "$work"/verified-multihash-*.tgz --strip-components 1 -C "$at/node_modules/verified-multihash" ||
     return 1
-  example_in js > "$at/script.mjs"
-  example_in html > "$at/page.html"
+  block_of "$here/README.md" js > "$at/script.mjs"
+  block_of "$here/README.md" html > "$at/page.html"
   (cd "$at" && node script.mjs > out 2> err) || return 1
   cmp "$top/LICENSE" "$at/node_modules/verified-multihash/LICENSE" &&
     diff "$at/out" "$top/crates/mh_show/stdout" && grep -x 'invalid_size 34' "$at/err" &&
@@ -139,9 +133,9 @@ test_browser() {
 
 part "the WebAssembly built anew" "rt wasm-opt=108 wasm2wat=1.0.32" "$here/build.sh" --check
 part "the WebAssembly for old engines" wasm-validate old_module
-for entry in $(sed -n 's|.*"default": "./\(.*\)[.]js".*|\1|p' "$here/package.json"); do
+while read -r entry; do
   part "in Node.js, $entry" node in_node "$vectors/verdicts.tsv" "$entry"
-done
+done < <(sed -n 's|.*"default": "./\(.*\)[.]js".*|\1|p' "$here/package.json")
 part "where nothing is compiled" node node --experimental-vm-modules --no-warnings "$here/test/compiled.js"
 part "vectors that differ" node planted
 part "plain JavaScript" node plain

@@ -65,6 +65,9 @@ ends() {
   return 1
 }
 
+# The first block of a page in a language.
+block_of() { awk -v fence="\`\`\`$2" '$0 == fence { on = 1; next } on && /^```/ { exit } on' "$1"; }
+
 # Leaves out a number of checks, and says why.
 leave_out() {
   local why=$1 checks=$2

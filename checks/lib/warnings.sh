@@ -1,0 +1,17 @@
+# shellcheck shell=bash
+# Sourced after tap.sh: the warnings of C and C++ compilers, each of which is an error.
+# shellcheck disable=SC2034,SC2154 # what others use, or have set
+warnings=(-Wall -Wextra -Wpedantic -Wconversion -Wsign-conversion -Wshadow -Wcast-qual -Werror)
+c_flags=(-std=c11 "${warnings[@]}" -Wstrict-prototypes -Wmissing-prototypes)
+
+# The C compiler rejects each of these with an error of its own.
+warns() {
+  local kind
+  printf '%s\n' 'int warns();' 'int more(long left, const char *text, int last) {' 'signed char half = left;' \
+    'unsigned also = half; int none; { char *left = (char *)text; if (left) return 1 ?: 2; }' 'return (int)also; }' \
+    > "$work/warns.c"
+  for kind in unused-variable unused-parameter pedantic conversion sign-conversion shadow cast-qual strict-prototypes \
+    missing-prototypes; do
+    rejects "[-Werror=$kind]" cc "${c_flags[@]}" -fsyntax-only "$work/warns.c" || return 1
+  done
+}
