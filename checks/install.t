@@ -3,11 +3,13 @@
 # pages and the packages for Rust, of the archives, in an emulator for aarch64, and of the portable source.
 # shellcheck source=checks/lib/tap.sh
 . "$(dirname "$0")/lib/tap.sh"
-plan 18
+plan 20
 set -o pipefail
 # shellcheck source=checks/lib/installed.sh
 . checks/lib/installed.sh
 prefix="$work/a prefix"
+own=$(find bindings/c/prebuilt -name "$machine" | wc -l) # archives for this machine
+x86=$([ "$machine" != x86_64 ] || echo 1)
 
 # ---- what is installed
 
@@ -26,8 +28,7 @@ install_built() {
 # In the configured prefix, whose name has a blank. The archive keeps its bytes.
 installs() {
   install_built built && is_installed "$prefix" lib &&
-    { [ ! -e "bindings/c/prebuilt/$machine" ] || cmp "bindings/c/prebuilt/$machine/libmultihash_c.a" \
-      "$prefix/lib/libmultihash_c.a"; }
+    { [ "$own" = 0 ] || cmp "bindings/c/prebuilt/$machine/libmultihash_c.a" "$prefix/lib/libmultihash_c.a"; }
 }
 
 # Below DESTDIR, from where pkg-config has to find it, in another folder for libraries; with the program, another one
@@ -65,7 +66,7 @@ packs() {
 machines() {
   local system processor options archive shared
   while IFS=, read -r system processor options archive shared; do
-    [ -z "$options" ] || [ "$machine" = x86_64 ] || continue
+    [ -z "$options" ] || [ "$x86" = 1 ] || continue
     rm -rf "$work/machine"
     cmake -S "$top" -B "$work/machine" -DCMAKE_SYSTEM_NAME="$system" -DCMAKE_SYSTEM_PROCESSOR="$processor" \
       -DCMAKE_C_FLAGS="$options" -DCMAKE_TRY_COMPILE_TARGET_TYPE=STATIC_LIBRARY &&
@@ -81,11 +82,27 @@ Generic,aarch64,,OFF,OFF
 END
 }
 
-# A copy of it whose header does not fit the library.
-planted_installation() {
-  cp -r "$work/un packed built" "$work/planted" &&
-    sed -i 's/MULTIHASH_NOT_MINIMAL = 3/MULTIHASH_NOT_MINIMAL = 9/' "$work/planted/include/multihash.h" &&
-    installed_test "$work/planted"
+# The test of a copy whose header does not fit the library, or whose examples print something else.
+planted_test() {
+  rm -rf "$work/planted" && cp -r "$work/un packed built" "$work/planted" &&
+    (cd "$work/planted" && sed -i "$@") && installed_test "$work/planted"
+}
+
+# Each of these differences of an installation is found.
+planted_prefix() {
+  local text edit
+  while IFS='|' read -r text edit; do
+    rm -rf "$work/planted" && cp -a "$work/un packed built" "$work/planted" && (cd "$work/planted" && eval "$edit") &&
+      rejects "$text" is_installed "$work/planted" lib || return 1
+  done << 'END'
+> ./more|touch more
+< ./include/multihash.h|rm include/multihash.h
+/lib/libmultihash_c.so|ln -sf none lib/libmultihash_c.so
+/multihash.h|chmod 755 include/multihash.h
+EOF on CHANGES|echo >> share/doc/multihash_c/changelog
+flags: 11.0.0 -lmultihash_c 3|sed -i 's/^Version: ./&1/' lib/pkgconfig/multihash_c.pc
+BIND_NOW|cc -shared -x c /dev/null -o lib/libmultihash_c.so.?.*
+END
 }
 
 # A map whose released version has a function more than it says.
@@ -116,27 +133,31 @@ with_flags() {
     cmake --build "$work/flags" --verbose | grep -e '-fno-pie -g3 -O3 -DNDEBUG' &&
     exports_exactly "$library" bindings/c/src/multihash_c.map && readelf -n "$library" |
     grep 'Build ID: 01234567' && readelf -S "$work/flags/$object" | grep debug_macro &&
-    ctest --test-dir "$work/flags" 2>&1 | grep 'No tests were found' &&
+    rejects 'No tests were found' build flags &&
     install_built flags --prefix "$work/no pages" && [ -d "$work/no pages/share/doc" ] &&
     [ ! -e "$work/no pages/share/man" ]
 }
 
 test_installation() {
-  try "building" build built -DCMAKE_INSTALL_PREFIX="$prefix"
-  try "installing" installs
+  try "building: 1 comparison" build built -DCMAKE_INSTALL_PREFIX="$prefix"
+  try "installing: $((18 + own)) comparisons" installs
   try "the installed test" installed_test "$prefix"
   try "a function in a released version" rejects "another number of functions than it says: MULTIHASH_C_1.0" \
     another_function
   try "installing below a folder" installs_below
   try "the portable source" from_source
-  try "packing" packs
-  try "the installed test of a planted header" rejects "failed: static: a non-minimal varint" planted_installation
+  try "packing: 40 comparisons" packs
+  try "planted differences: 42 comparisons" planted_prefix
+  try "the installed test of a planted header" rejects "failed: static: a non-minimal varint" \
+    planted_test 's/MULTIHASH_NOT_MINIMAL = 3/MULTIHASH_NOT_MINIMAL = 9/' include/multihash.h
+  try "the installed test of planted examples" rejects "4 passed, 10 failed" \
+    planted_test 's/printf(\(stderr, \)\?"/&x/' share/doc/multihash_c/examples/{show,stream}.c
   try "the installed test of nothing" rejects "no multihash_c.pc" bindings/c/examples/test.sh "$work/none"
-  if [ -e "bindings/c/prebuilt/$machine" ]; then try "an altered archive" altered_archive; else
+  if [ "$own" = 1 ]; then try "an altered archive" altered_archive; else
     leave_out "there is no archive for this machine" 1
   fi
-  try "other machines" machines
-  try "flags of a distribution" with_flags
+  try "other machines: $((10 + 2 * x86)) comparisons" machines
+  try "flags of a distribution: 7 comparisons" with_flags
 }
 
 # ---- programs
@@ -159,11 +180,6 @@ by_subdirectory() {
     (cd "$to/prefix" && find . ! -type d | sort) | diff <(files_in lib | grep -vE '/share/|\.so' | sort) -
 }
 
-# The first block of the page in that language.
-block_in() {
-  awk -v fence="\`\`\`$1" '$0 == fence { on = 1; next } on && /^```/ { exit } on' bindings/c/README.md
-}
-
 # The example, built by CMake as the page says over what find_package finds, statically and not. What is in a folder
 # that it does not search has to be named.
 # shellcheck disable=SC2016
@@ -173,7 +189,8 @@ by_find_package() {
   for other in built other; do
     for kind in shared static; do
       { printf '%s\n' 'cmake_minimum_required(VERSION 3.20)' 'project(example LANGUAGES C)' \
-        'add_executable(program ${source})' && block_in cmake | sed -E "s/(.*::)shared(.*::)static$/\1$kind\2/"; } \
+        'add_executable(program ${source})' &&
+        block_of bindings/c/README.md cmake | sed -E "s/(.*::)shared(.*::)static$/\1$kind\2/"; } \
         > "$to/CMakeLists.txt" && grep "(multihash_c ${version%.*} " "$to/CMakeLists.txt" &&
         grep "multihash_c::$kind)" "$to/CMakeLists.txt" &&
         cmake -S "$to" -B "$to/$other" -Dsource="$top/bindings/c/examples/show.c" "${found[@]}" &&
@@ -194,7 +211,7 @@ by_find_package() {
 in_go() {
   local lib=$work/go/lib
   cp -r "$work/un packed built" "$work/go" &&
-    block_in go > "$work/go/main.go" &&
+    block_of bindings/c/README.md go > "$work/go/main.go" &&
     echo 'module example' > "$work/go/go.mod" &&
     (cd "$work/go" && PKG_CONFIG_PATH=$lib/pkgconfig LD_LIBRARY_PATH=$lib GOCACHE=$work/go.cache go run .) |
     grep -x 'code 18, digest abc'
@@ -238,15 +255,15 @@ rust_crate() {
 }
 
 test_programs() {
-  try "a project of CMake" by_find_package
-  try "a folder of a project of CMake" by_subdirectory
-  has 1 go && try Go in_go
+  try "a project of CMake: 15 comparisons" by_find_package
+  try "a folder of a project of CMake: 5 comparisons" by_subdirectory
+  has 1 go && try "Go: 1 comparison" in_go
   has 1 mandoc && try "man pages" pages
   has 1 cargo "${crates[@]}" && try "the packages for Rust, as installed" rust_crate
 }
 
-has 18 cc cmake python3 readelf pkg-config || exit 0
+has 20 cc cmake python3 readelf pkg-config || exit 0
 test_installation
 test_programs
 has 1 aarch64-linux-gnu-gcc qemu-aarch64 &&
-  try "building for aarch64" build arm -DCMAKE_TOOLCHAIN_FILE=bindings/c/aarch64.cmake
+  try "building for aarch64: 1 comparison" build arm -DCMAKE_TOOLCHAIN_FILE=bindings/c/aarch64.cmake

@@ -3,7 +3,7 @@
 # a planted script.
 # shellcheck source=checks/lib/tap.sh
 . "$(dirname "$0")/lib/tap.sh"
-plan 19
+plan 20
 
 listed() { git ls-files -co --exclude-standard "$@"; }
 # Prints the paths of the scripts in a language, by their first lines.
@@ -13,7 +13,8 @@ scripts() { listed -z | xargs -0 grep -lIE -m 1 -e "$1" 2> "$work/log" | sort; }
 shell=$(scripts '^(#! ?/.*\b(ba)?sh|# shellcheck shell=bash)$')
 python=$({ listed '*.py' && scripts '^#!.*python'; } | sort -u)
 javascript=$(listed '*.js' '*.ts')
-tested=$(listed "*.t" "*test.sh" | grep -vE "^bindings/(c|python)/|/(install|release|rust)\.t$")
+# install.t plants what the installed test finds
+tested=$(listed "*.t" "*test.sh" | grep -v ^bindings/c/examples/)
 # All but the tests of the package for Python have types.
 typed=$(grep -v '^bindings/python/tests/' <<< "$python")
 
@@ -43,12 +44,28 @@ names() {
   ! grep -E 'error TS([18][0-9]{3}|18004|230[45]|2448|2451|2552|6053|6133|7027|7029):' "$work/names"
 }
 
+# Each kind of error that names has.
+planted_names() {
+  local error text
+  while read -r error text; do
+    echo "export {}; $text" > "$work/name.js" && rejects "error $error:" names "$work/name.js" || return 1
+  done << 'END'
+TS1181 const [;
+TS2304 missing();
+TS2451 let one = 1; let one = one;
+TS6133 const number = 1;
+TS7027 throw 1; export let after;
+TS7029 switch (Date.now()) { case 1: Date.now(); case 2: }
+TS8010 export let typed: number;
+END
+}
+
 # Each function that compares and that 'try' runs is run by 'rejects' too, or by a function that it runs, or its result
 # says its number of comparisons.
 planted() {
   local script text name runs failed=0
   for script in "$@"; do
-    text=$(sed -e ':a' -e '/\\$/N; s/\\\n */ /; ta' "$script")
+    text=$(sed -e ':a' -e '/\\$/N; s/ *\\\n */ /; ta' "$script")
     runs=$(sed -nE "s/.*\\<rejects ('[^']*'|\"[^\"]*\"|[^'\" ]+) ([a-z_]+)\\>.*/\\2/p" <<< "$text")
     runs=$(for name in $runs; do echo "$name" && body "$name" <<< "$text"; done)
     while read -r name; do
@@ -88,5 +105,6 @@ try_linter() {
   has 2 pyflakes3 && try_linter pyflakes3 unused.py "imported but unused" "import os" $python
   has 2 mypy && try_linter "mypy --strict --cache-dir $work/mypy" untyped.py "missing a type annotation" \
     "def same(number): return number" $typed
-  has 2 tsc && try_linter names unused.js TS6133 "export {};\nconst number = 1;" $javascript
+  has 3 tsc && try_linter names unused.js TS6133 "export {};\nconst number = 1;" $javascript &&
+    try "each error of names: 14 comparisons" planted_names
 }

@@ -76,8 +76,8 @@ test_packages() {
   has 4 "${debian[@]}" || return
   try "building packages" build_packages amd64
   try "a function of a later version" later_function
-  try "packages for amd64" has_packages "$work/debian-amd64" amd64 x86_64-linux-gnu
-  try "a program by the packages for amd64" try_packages amd64 x86_64-linux-gnu cc \
+  try "packages for amd64: 16 comparisons" has_packages "$work/debian-amd64" amd64 x86_64-linux-gnu
+  try "a program by the packages for amd64: 2 comparisons" try_packages amd64 x86_64-linux-gnu cc \
     env LD_LIBRARY_PATH="$work/root-amd64/usr/lib/x86_64-linux-gnu"
 }
 
@@ -98,6 +98,24 @@ tools/owner:s/^repository=.*/repository=another/:package: repository
 END
 }
 
+# Each of these differences of a release is found.
+planted_release() {
+  local text edit
+  while IFS=: read -r text edit; do
+    rm -rf "$work/planted" && cp -r "$1" "$work/planted" && (cd "$work/planted" && eval "$edit") &&
+      rejects "$text" checks/lib/packed.py "$work/planted" "$2" || return 1
+  done << 'END'
+the files of the release:touch more
+SHA256SUMS:echo >> SHA256SUMS
+1 0 600:tar --owner=1 --mode=600 -czf multihash_c-*-source.tar.gz SHA256SUMS
+LICENSE is there, or is not:tar -czf multihash_c-*-source.tar.gz SHA256SUMS
+checksumValue:echo >> libmultihash-c-dev_*_amd64.deb
+what the kit made:sed -i s/GENERATED_FROM/DEPENDS_ON/ multihash-*.spdx.json
+tools [':sed -i 's/"name": "ld"/"name": "more"/' multihash-*.spdx.json
+1, and not None:sed -i '0,/{/s//{"more": 1,/' multihash-*.spdx.json
+END
+}
+
 # A release is made of the last commit, whose owner is another one here, and not of a commit in which one byte of an
 # archive differs. With all it has the same bytes in another run.
 releases() {
@@ -110,6 +128,7 @@ releases() {
     git -C "$from" reset -q --hard HEAD~ && echo changed >> "$from/CHANGES" &&
     (umask 077 && "$from/tools/release" "$to") && git -C "$from" checkout -q CHANGES &&
     checks/lib/packed.py "$to" "$from" && planted_source "$from" "$to" &&
+    planted_release "$to" "$from" &&
     tar -xf "$to/multihash-$version.tar.gz" -C "$work" &&
     diff -r -x .git -x control -x changelog -x Cargo.toml -x package.json "$from" "$work/multihash-$version" || return 1
   for architecture in x86_64 aarch64; do
@@ -132,11 +151,11 @@ tested_on_aarch64() {
 
 test_release() {
   has 4 aarch64-linux-gnu-gcc cargo npm qemu-aarch64 "${debian[@]}" "${crates[@]}" || return
-  try "a release" releases
+  try "a release: $((58 + ${ALL:-0})) comparisons" releases
   try "the installed test of that for aarch64" tested_on_aarch64
-  try "packages for arm64" has_packages "$work/release" arm64 aarch64-linux-gnu
+  try "packages for arm64: 16 comparisons" has_packages "$work/release" arm64 aarch64-linux-gnu
   # shellcheck disable=SC2086
-  try "a program by the packages for arm64" try_packages arm64 aarch64-linux-gnu aarch64-linux-gnu-gcc \
+  try "a program by the packages for arm64: 2 comparisons" try_packages arm64 aarch64-linux-gnu aarch64-linux-gnu-gcc \
     $emulator -E LD_LIBRARY_PATH="$work/root-arm64/usr/lib/aarch64-linux-gnu"
 }
 

@@ -3,7 +3,7 @@
 # that uses upstream's package, and with serde; and their build script.
 # shellcheck source=checks/lib/tap.sh
 . "$(dirname "$0")/lib/tap.sh"
-plan 7
+plan 8
 set -o pipefail
 archive=$PWD/bindings/c/prebuilt/$(uname -m)/libmultihash_c.a
 version=$(sed -n 's/^#define MULTIHASH_VERSION "\([0-9.]*\)"$/\1/p' bindings/c/include/multihash.h)
@@ -80,6 +80,21 @@ rust_lints() {
     in_crate cargo clippy --no-default-features --features alloc
 }
 
+# Each warning of a command is an error: a line is planted in a file.
+planted_warnings() {
+  local file command text line
+  while IFS=, read -r file command text line; do
+    file=$work/repository/bindings/rust/multihash/$file
+    # shellcheck disable=SC2086 # words
+    cp "$file" "$work/file" && echo "$line" >> "$file" && rejects "$text" in_crate cargo $command &&
+      cp "$work/file" "$file" || return 1
+  done << 'END'
+src/lib.rs,build,never used,fn planted() {}
+src/lib.rs,doc --no-deps,unresolved link,/** [gone] */ pub mod planted {}
+tests/values.rs,clippy --all-targets,needless-return,pub fn planted() -> u8 { return 1; }
+END
+}
+
 # The archive is found in a directory of any name, and missed once it is gone. A relative path is rejected, and a
 # library that pkg-config does not find.
 rust_build() {
@@ -91,11 +106,11 @@ rust_build() {
     rejects "multihash_c >= 1.0" in_crate MULTIHASH_C_SYSTEM=1 PKG_CONFIG_LIBDIR="$work/none" cargo build
 }
 
-has 7 cc cargo rustc=1.82+ "/usr/share/cargo/registry/"{cc-1,pkg-config-0.3,serde_json-1}".*" || exit 0
+has 8 cc cargo rustc=1.82+ "/usr/share/cargo/registry/"{cc-1,pkg-config-0.3,serde_json-1}".*" || exit 0
 try "the tests" rust_binding
 try "the portable source" rust_source
-try "the packed packages" rust_packed
+try "the packed packages: 3 comparisons" rust_packed
 has 1 "$archive" && try "the build script" rust_build
 try "the switch from upstream's package" rust_switch
 try serde rust_serde
-has 1 cargo-clippy && try lints rust_lints
+has 2 cargo-clippy && try lints rust_lints && try "a warning of each command: 3 comparisons" planted_warnings

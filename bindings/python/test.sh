@@ -16,7 +16,7 @@ to=
 if [ $# = 2 ]; then mkdir -p "$2" && to=$(readlink -f "$2") || exit 2; fi
 # shellcheck source=checks/lib/tap.sh
 . "$here/../../checks/lib/tap.sh"
-plan 17
+plan 19
 set -o pipefail
 to=${to:-$work}
 header=$PWD/bindings/c/include/multihash.h
@@ -32,8 +32,9 @@ builds() {
   diff -r "$to/dist" "$to/again" && ls "$to"/dist/verified_multihash-[0-9]*.tar.gz && basename "$to"/dist/*.whl
 }
 
+warnings="-Wall -Wextra -Wshadow -Wconversion -Wsign-conversion -Werror"
 without_warnings() {
-  CFLAGS="-Wall -Wextra -Wshadow -Wconversion -Wsign-conversion -Werror" "$here/pack.sh" "$to/warned" "$archive"
+  CFLAGS=$warnings "$here/pack.sh" "$to/warned" "$archive"
 }
 
 # An archive with a function less than the header's, which `$1` has in C.
@@ -81,6 +82,11 @@ unit_tests() {
 failing_allocations() {
   (cd "$here/tests" && "$python" -m unittest -v test_memory.Memory.test_failing_allocations) 2>&1 | tee "$to/memory.log"
   grep '^test_failing_allocations .* ok$' "$to/memory.log"
+}
+
+# Without that module they are skipped.
+skipped_allocations() {
+  mkdir "$to/none" && echo 'raise ImportError' > "$to/none/_testcapi.py" && PYTHONPATH=$to/none failing_allocations
 }
 
 # The sdist is all that is needed: its own tests run too. What is in the folders above it is not used.
@@ -136,6 +142,10 @@ planted_read() {
   planted 's/bytes + found.digest_offset/& + 4096/' && under_sanitizers "$to/planted"
 }
 
+planted_warning() {
+  planted '1s/^/signed char planted(long more) { return more; }\n/' && CFLAGS=$warnings installs "$to/planted"
+}
+
 # Each argument is kept.
 planted_leak() {
   planted '/^    Py_DECREF(from->owner);$/d' && installs "$to/planted" && unit_tests "$here/tests"
@@ -158,10 +168,10 @@ types() {
     grep 'Found 5 errors' wrong.log
 }
 
-has 17 cc "$PYTHON" || exit 0
+has 19 cc "$PYTHON" || exit 0
 "$PYTHON" -c 'import build, setuptools, venv, wheel' 2> "$work/log" ||
-  { leave_out "build, setuptools, venv or wheel is not installed" 17 && exit 0; }
-try "the sdist and the wheel, built twice" builds
+  { leave_out "build, setuptools, venv or wheel is not installed" 19 && exit 0; }
+try "the sdist and the wheel, built twice: 1 comparison" builds
 try "the module without warnings" without_warnings
 has 1 objcopy ar && try "archives" looks_at_archive
 try "an environment" "$PYTHON" -m venv --clear --system-site-packages "$to/venv"
@@ -172,13 +182,15 @@ if "$python" -c 'import _testcapi' 2> "$work/log"; then
 else
   leave_out "_testcapi is not installed" 1
 fi
+try "failing allocations, skipped" rejects "... skipped" skipped_allocations
 try "the tests with the debug allocator" unit_tests "$here/tests" PYTHONMALLOC=debug
-has 1 mypy stubtest && try "types" types
+has 1 mypy stubtest && try "types: 3 comparisons" types
 try "the times beside plain Python" "$python" -I "$here/beside_plain.py"
 try "the folder, installed" imports "$here"
 has 1 objcopy ar && try "an archive of another version" other_version
-try "an altered archive" altered_archive
-try "the sdist, installed: the portable source" sdist
+try "an altered archive: 2 comparisons" altered_archive
+try "the sdist, installed, the portable source: 4 comparisons" sdist
 try "sanitizers" under_sanitizers "$to/sdist"
+try "a warning" rejects "conversion]" planted_warning
 try "a read after the end of the input" rejects AddressSanitizer planted_read
 try "an argument that is kept" rejects "it is kept" planted_leak

@@ -35,9 +35,10 @@ has_documents() {
 # pkg-config finds the version, the header and the library, and names nothing more.
 has_flags() {
   local -x PKG_CONFIG_PATH=$1/$2/pkgconfig
-  local flags
+  local flags found
   flags=$(pkg-config --cflags --libs multihash_c) && eval "flags=($flags)" && pkg-config --validate multihash_c &&
-    [ "$(pkg-config --modversion multihash_c) ${flags[2]} ${#flags[@]}" = "$version -lmultihash_c 3" ] &&
+    found="$(pkg-config --modversion multihash_c) ${flags[2]} ${#flags[@]}" && echo "flags: $found" &&
+    [ "$found" = "$version -lmultihash_c 3" ] &&
     [ "${flags[0]#-I}" -ef "$1/$include" ] && [ "${flags[1]#-L}" -ef "$1/$2" ]
 }
 
