@@ -2,7 +2,7 @@
 # Runs a command of Cargo in a copy of this folder, without a network. What the packages depend on comes from
 # Debian's packages librust-cc-dev, librust-pkg-config-dev and librust-serde-json-dev.
 #
-#   bindings/rust/offline.sh WORK [NAME=VALUE ...] cargo COMMAND [WORD ...]
+#   bindings/rust/offline.sh WORK [NAME=VALUE..] cargo COMMAND [WORD..]
 #
 # WORK is a folder for the copy, WORK/repository/bindings/rust. Beside it is what the build script takes from the
 # repository: the archives and the portable source. An earlier copy is used only with KEEP=1.

@@ -4,7 +4,8 @@ import re
 from collections.abc import Iterator
 
 import verdicts
-from claims import FORMAT, HEX, README, flat, tables
+from claims import FORMAT, HEX, README, flat
+from rows import tables
 
 
 def hexadecimal(data: bytes) -> str:

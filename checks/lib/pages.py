@@ -1,9 +1,9 @@
 #!/usr/bin/env python3
 """Compares what the pages say with the sources.
 
-It compares CONTRACTS.md with the sources, files, links and tables, what claims.py compares, and runs README's commands
-and programs: mh_show as 'rt ci' built it, if BUILT says so, otherwise 'rt run' builds it. The differences of
-pages.edits are planted in pages and sources, and each number, name, option, cell and byte is changed in turn.
+It compares CONTRACTS.md with the sources, files, links, and what claims.py and rows.py compare, and runs README's
+commands and programs: mh_show as 'rt ci' built it, if BUILT says so, otherwise 'rt run' builds it. The differences
+of pages.edits are planted.
 """
 import difflib
 import os
@@ -11,6 +11,7 @@ import re
 import subprocess
 import sys
 import tempfile
+from collections import defaultdict
 from collections.abc import Callable, Iterator
 from pathlib import Path
 
@@ -18,26 +19,24 @@ import claims
 import contracts
 import edits
 import examples
+import rows
+import speed
 import start
 import tap
-from claims import ARCHITECTURE, CONTRACTS, FENCE, README, SPEED, C
+from claims import CONTRACTS, FENCE, HEADER, README, SPEED, C, read
 from rt_source import Unread
 
 TOP = Path(__file__).resolve().parents[2]
 MAN = "crates/mh_show/mh_show.1"
+ENDS = (".md", MAN, HEADER)
 # a path or a file's name; and a path below these folders, in all texts
 PATH = re.compile(
     r"[\w.@-]+(?:/[\w.@-]+)+" r"|[\w-]+\.(?:antt|c|edits?|h|html|js|json|map|md|py|rs|rt|sh|t|toml|ts|tsv|txt|wasm|yml)"
 )
 BELOW = re.compile(r"(?<![\w./-])(?:\.ci|checks|docs|tools)/[\w./-]*\w")
 # files of programs, and of what is built and installed
-NOT_HERE = {
-    ".cargo/config.toml",
-    "out/libmultihash_c.a",
-    "share/doc/multihash_c/examples",
-    "verified-multihash/inline",
-    "verified-multihash/module",
-}
+NOT_HERE = {".cargo/config.toml", "out/libmultihash_c.a", "share/doc/multihash_c/examples"}
+NOT_HERE |= {"verified-multihash/inline", "verified-multihash/module"}
 Texts = dict[str, str]
 
 
@@ -48,18 +47,14 @@ def listed() -> list[Path]:
     return [Path(name) for name in names.splitlines() if (TOP / name).exists()]
 
 
-def read(path: Path) -> str:
-    return (TOP / path).read_bytes().decode("utf-8", "replace")
-
-
 def read_texts() -> Texts:
     """Returns the pages, and the sources that CONTRACTS.md is about."""
     paths = [*map(str, listed()), MAN]
-    return {path: read(Path(path)) for path in paths if path == MAN or path.endswith(".md")} | contracts.sources()
+    return {path: read(path) for path in paths if path.endswith(ENDS)} | contracts.sources()
 
 
 def pages_of(texts: Texts) -> Texts:
-    return {path: text for path, text in texts.items() if path.endswith((".md", ".1"))}
+    return {path: text for path, text in texts.items() if path.endswith(ENDS)}
 
 
 def contract_errors(texts: Texts) -> Iterator[str]:
@@ -102,27 +97,18 @@ def link_errors(texts: Texts) -> Iterator[str]:
                 yield f"{page}: a link leads nowhere: {link}"
 
 
-def options_gone(command: str) -> list[str]:
-    """Returns the options of a command that its script in the repository does not have."""
-    script, *words = command.split() or [""]
-    text = (TOP / script).read_text("utf-8") if (TOP / script).is_file() else command
-    known = re.findall(r"--[\w-]+", text)
-    return [word for word in words if word.startswith("--") and word.split("=")[0] not in known]
-
-
 def file_errors(texts: Texts) -> Iterator[str]:
-    """Returns the names of files that are gone, in pages those in backquotes and options too."""
+    """Returns the names of files that are gone, in pages those in backquotes too."""
     paths = listed()
     found = {path for file in paths for path in (file, file.with_suffix(""), *file.parents)}
     ends = {"/".join(path.parts[at:]) for path in found for at in range(len(path.parts))}
     for path in map(str, paths):
         if path.endswith(".edits"):
             continue
-        text = texts.get(path) or read(Path(path))
+        text = texts.get(path) or read(path)
         words = [word for word in BELOW.findall(text) if not (TOP / word).exists()]
         if path.endswith(".md") and path != CONTRACTS:
             spans = re.findall(r"`([^`\n]+)`", FENCE.sub("", text))
-            words += [option for span in spans for option in options_gone(span)]
             named = (word.removeprefix("./").rstrip("/,") for word in " ".join(spans).split())
             words += [word for word in named if PATH.fullmatch(word) and word not in ends]
         for word in sorted({*words} - NOT_HERE):
@@ -130,42 +116,31 @@ def file_errors(texts: Texts) -> Iterator[str]:
                 yield f"{path}: there is no {word}"
 
 
-def table_errors(texts: Texts) -> Iterator[str]:
-    """Returns the rows that have not the cells of their table's first two lines."""
-    for page, text in pages_of(texts).items():
-        cells: list[int] = []
-        for line in FENCE.sub("", text).splitlines():
-            if not line.startswith("|"):
-                cells = []
-                continue
-            cells.append(len(re.findall(r"\|", re.sub(r"`[^`]*`|\\\|", "", line))))
-            is_second = len(cells) == 2 and not re.fullmatch(r"[|:-]+", line)
-            if cells[0] != cells[-1] or not line.endswith("|") or is_second:
-                yield f"{page}: this is no row of a table: {line}"
-
-
-def share_errors(texts: Texts) -> Iterator[str]:
+def speed_errors(texts: Texts) -> Iterator[str]:
     """Compares the calls of which the Rust crate needs fewer instructions with speed.tsv."""
-    shares: dict[str, list[float]] = {}
-    for line in (TOP / "docs/speed.tsv").read_text("utf-8").splitlines()[1:]:
-        case, here, tuned, *_ = line.split("\t")
-        if int(here) / int(tuned) > 1.05:
-            shares.setdefault(case.split()[0], []).append(int(here) / int(tuned))
-    page = texts[SPEED].partition("## Where the Rust crate needs fewer")[2].partition("\n## ")[0]
-    rows = re.findall(r"^\| ([^|]+) \| (\d+) \| ([\d.]+)(?: to ([\d.]+))? \|", page, re.M)
-    for name, count, low, high in rows:
-        found = shares.get(name.strip("`"), [])
-        off = [abs(float(low) - min(found)), abs(float(high or low) - max(found))] if found else [0.0]
-        if found and len(found) != int(count) or max(off) > 0.0501:
-            yield f"{SPEED}: {name} has other shares"
-    total = sum(map(len, shares.values()))
-    if sum(int(row[1]) for row in rows) != total or f"In {total} of the " not in page:
+    page, stored, shares = texts[SPEED], speed.read_rows(), defaultdict[str, list[float]](list)
+    for case, fields in stored.items():
+        if speed.share(fields) > 1.05:
+            shares[speed.name_of(case).partition(", beside")[0]].append(speed.share(fields))
+    its_rows = re.findall(r"^\| ([^|]+) \| (\d+) \| ([\d.]+)(?: to ([\d.]+))? \| [^|]*\|$", page, re.M)
+    for cell, count, low, high in its_rows:
+        found = [share for name in re.findall(r"`(.*?)`", cell) for share in shares.pop(name, [0.0])] or [0.0]
+        off = max(abs(float(low) - min(found)), abs(float(high or low) - max(found)))
+        if len(found) != int(count) or off > 0.0501:
+            yield f"{SPEED}: {cell} has other shares"
+    if shares:
+        yield f"{SPEED}: it does not have {[*shares]}"
+    total = sum(speed.share(fields) > 1.05 for fields in stored.values())
+    if (
+        f"\nIn {total} of the {len(stored)} cases the share of the tuned crate's instructions is above 1.05:"
+        not in page
+    ):
         yield f"{SPEED}: {total} cases have such shares"
 
 
 def status_errors(texts: Texts) -> Iterator[str]:
     """Compares the table of errors in the page for C with the header."""
-    header = (TOP / "bindings/c/include/multihash.h").read_text("utf-8")
+    header = texts[HEADER]
     numbers = re.findall(r"^ +(MULTIHASH_\w+) = (\d+)", header, re.M)
     said = dict(re.findall(r"case (MULTIHASH_\w+):\s*return \"([^\"]*)\";", header))
     rows = re.findall(r"^\| `(MULTIHASH_\w+)` \| (\d+) \| ([^|]*) \|", texts[C], re.M)
@@ -173,21 +148,13 @@ def status_errors(texts: Texts) -> Iterator[str]:
         yield f"{C}: its table of errors is not that of the header"
 
 
-def check_errors(texts: Texts) -> Iterator[str]:
-    """Compares the table of checks in ARCHITECTURE.md with the files."""
-    rows = set(re.findall(r"^\| `(\w+)` \|", texts[ARCHITECTURE].partition("| Check |")[2], re.M))
-    files = {path.stem for path in (TOP / "checks").glob("*.t")}
-    if rows != files:
-        yield f"{ARCHITECTURE}: there is only a row, or only a file, of {sorted(rows ^ files)}"
-
-
 def command_errors(texts: Texts) -> Iterator[str]:
     """Runs the commands of README.md, each of which prints what mh_show prints. The page shows that."""
-    shown = read(Path("crates/mh_show/stdout"))
+    shown = read("crates/mh_show/stdout")
     blocks = FENCE.findall(texts[README])
     if ("text", shown) not in blocks:
         yield "it shows another output than that of mh_show"
-    if f"$ echo {read(Path('crates/mh_show/stdin')).strip()} | mh_show\n{shown}" not in texts[MAN]:
+    if f"$ echo {read('crates/mh_show/stdin').strip()} | mh_show\n{shown}" not in texts[MAN]:
         yield f"{MAN} shows another output"
     commands = [line for language, body in blocks if language == "sh" for line in body.splitlines()]
     if len(commands) != 2:
@@ -204,7 +171,7 @@ def command_errors(texts: Texts) -> Iterator[str]:
 
 
 def program_results(texts: Texts) -> Iterator[tap.Result]:
-    """Installs each package and runs its program, and plants another output and another package."""
+    """Installs each package and runs its program; plants other outputs and a package."""
     shown = {}
     with tempfile.TemporaryDirectory() as work:
         start.copy_repository(copy := Path(work) / "copy")
@@ -223,51 +190,52 @@ def program_results(texts: Texts) -> Iterator[tap.Result]:
                     yield name, error
                     shown[program.language] = text
     yield "what the programs print", "\n".join(start.judge(texts[README], shown))
-    for old, new in ((start.SHOWN, "another"), ("| [C, C++]", "| C, C++ |"), ("// hello.mjs", "//")):
-        yield tap.planted(f"{README}: {old}", [*start.judge(texts[README].replace(old, new), shown)])
+    yield tap.planted(f"{README}: a row less", [*start.judge(texts[README].replace("| [C, C++]", "| C"), shown)])
     yield tap.planted("another output", [*start.judge(texts[README], {"C": "code 1, digest hello"})])
 
 
 def claim_errors(check: Callable[[str, str], Iterator[str]]) -> Callable[[Texts], Iterator[str]]:
     """Returns the check of all pages by a check of one."""
-    return lambda texts: (f"{page}: {error}" for page, text in pages_of(texts).items() for error in check(page, text))
+
+    def errors(texts: Texts) -> Iterator[str]:
+        for page, text in pages_of(texts).items():
+            try:
+                yield from (f"{page}: {error}" for error in check(page, text))
+            except ValueError as wrong:
+                yield f"{page}: {wrong}"
+
+    return errors
 
 
 OF_CLAIMS = {
     "number_errors": claims.number_errors,
     "name_errors": claims.name_errors,
     "call_errors": claims.call_errors,
-    "option_errors": claims.option_errors,
+    "usage_errors": claims.usage_errors,
     "block_errors": claims.block_errors,
-    "row_errors": claims.row_errors,
-    "time_errors": claims.time_errors,
+    "row_errors": rows.row_errors,
+    "place_errors": claims.place_errors,
+    "lemma_errors": rows.lemma_errors,
+    "difference_errors": rows.difference_errors,
+    "comment_errors": rows.comment_errors,
+    "time_errors": rows.time_errors,
     "byte_errors": examples.byte_errors,
 }
 CHECKS: dict[str, Callable[[Texts], Iterator[str]]] = {
     "contract_errors": contract_errors,
     "link_errors": link_errors,
     "file_errors": file_errors,
-    "table_errors": table_errors,
     "status_errors": status_errors,
-    "share_errors": share_errors,
-    "check_errors": check_errors,
+    "speed_errors": speed_errors,
     "command_errors": command_errors,
     **{name: claim_errors(check) for name, check in OF_CLAIMS.items()},
 }
 
 
 def planted(texts: Texts) -> Iterator[tap.Result]:
-    """Plants differences, each of which has to be found, and changes each thing that claims.py compares."""
+    """Plants differences, each of which has to be found."""
     for name, _, seen, its_edits in edits.read(Path(__file__).with_name("pages.edits")):
         yield tap.planted(name, any(CHECKS[seen]({**texts, **edits.apply(texts, its_edits)})))
-    for name, check in OF_CLAIMS.items():
-        changed = [
-            (page, change) for page, text in pages_of(texts).items() for change in claims.changes(name, page, text)
-        ]
-        both = (check, claims.option_errors)
-        unseen = [f"{page}: {was}" for page, (was, text) in changed if not any(any(one(page, text)) for one in both)]
-        if changed:
-            yield f"planted: {name}, at each place", "\n".join(unseen)
 
 
 def results() -> Iterator[tap.Result]:
