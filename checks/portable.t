@@ -49,7 +49,7 @@ rejects_planted() {
 # shellcheck disable=SC2016
 test_translation() {
   try "an unknown access" rejects_planted "an access is known: memory.grow" linked.wat \
-    '0,/^ +memory\.fill$/s//&\n    memory.grow/'
+    '0,/^ +memory\.copy$/s//&\n    memory.grow/'
   try "a call of itself" rejects_planted '$__rattle_leave is not recursive' linked.wat \
     's/^  \(func \$__rattle_leave .*/&\n    call $__rattle_leave/'
   try "another use of the stack" rejects "has at most one frame" translates_edited linked.wat \
@@ -88,7 +88,7 @@ passes() {
 }
 
 # Objects for machines without a C library, and for macOS and MSVC's mode of Clang without their headers. All that
-# they need are three functions, and what linkers make. Generated code has two warnings, which only that mode does not
+# they need are two functions, and what linkers make. Generated code has two warnings, which only that mode does not
 # leave out by itself.
 freestanding() {
   local target
@@ -97,7 +97,7 @@ freestanding() {
     clang --target=$target -ffreestanding -nostdlibinc "${c_flags[@]}" -Wno-conversion -Wno-unused-parameter \
       -std=c11 -O2 -c "$1/multihash.c" -o "$work/free.o" &&
       llvm-nm --undefined-only -j "$work/free.o" | sed -E 's/^_*//; /^stack_(chk_fail|chk_guard|pointer)$/d' | sort |
-      paste -sd ' ' | tee -a /dev/stderr | grep -x 'memcpy memmove memset' || return 1
+      paste -sd ' ' | tee -a /dev/stderr | grep -x 'memcpy memmove' || return 1
   done
 }
 
@@ -114,14 +114,14 @@ test_compiler() {
     -fno-sanitize-recover=all
 }
 
-# The object needs four functions of the C library, and has no section that is written.
+# The object needs three functions of the C library, and has no section that is written.
 keeps_no_state() {
   local needed written
   needed=$(nm --undefined-only -f posix "$work/cc/multihash.o" | awk '{ print $1 }' | sort | paste -sd ' ')
   objdump -h "$work/cc/multihash.o" > "$work/sections" && grep -q ' \.text ' "$work/sections" || return 1
   written=$(awk '$2 ~ /^\.t?(data|bss)/ && $3 !~ /^0+$/' "$work/sections")
   echo "needs: $needed"
-  [ -z "$written" ] && ! tr ' ' '\n' <<< "$needed" | grep -vxE 'abort|mem(cpy|move|set)|_GLOBAL_OFFSET_TABLE_'
+  [ -z "$written" ] && ! tr ' ' '\n' <<< "$needed" | grep -vxE 'abort|mem(cpy|move)|_GLOBAL_OFFSET_TABLE_'
 }
 
 # The tests over a copy that was edited.

@@ -12,7 +12,7 @@ import sys
 from pathlib import Path
 
 ACCESS = re.compile(r"( *)(i(?:32|64))\.(load|store)(\w*)(?: offset=(\d+))?(?: align=\d+)?(\)*)")
-BULK = re.compile(r"( *)memory\.(copy|fill)(\)*)")
+COPY = re.compile(r"( *)memory\.copy(\)*)")
 # What says something of the memory itself, and does no access.
 ABOUT_MEMORY = re.compile(r'  \((?:memory |data |export "memory" |export "__heap_base" ).*')
 DATA = re.compile(r'  \(data (?:\$\S+ )?\(i64\.const (\d+)\) "((?:[^"\\]|\\[0-9a-f]{2})*)"\)(\)?)')
@@ -23,7 +23,6 @@ FRAME = re.compile(r"global\.get \$__stack_pointer\s+i64\.const (\d+)\s+i64\.sub
 NO_FRAME = re.compile(
     r"global\.get \$__stack_pointer\s+(?:local\.tee \d+\s+)?i64\.const (?:16\s+i64\.lt_s|15\s+i64\.gt_s)\s"
 )
-BULK_PARAMETERS = {"copy": "i64 i64 i64", "fill": "i64 i32 i64"}
 # A function traps if less than this is left of the stack below its frame.
 STACK_LEFT = 16
 GLOBALS = r"""static void init_globals\(Z_module_instance_t\* instance\) \{
@@ -41,6 +40,7 @@ PROVIDED = re.compile(r"^(?:(?:static inline|ALWAYS_INLINE) [^(\n]*?|#define )(\
 INLINED = {
     "w2c_multihash__varint__word__front_by_word",
     "w2c_multihash_c__decode__longer",
+    "w2c_multihash_c__encode__encode_apart",
     "w2c_multihash_c__encode__scale_encode_apart",
     "w2c_multihash_head",
     "w2c_rattle__export_multihash_head",
@@ -74,9 +74,9 @@ def access_call(line: str) -> tuple[str, str, str] | None:
         name = f"{width}_{kind}{narrow}"
         signature = f"(param i64 i64) (result {width})" if kind == "load" else f"(param i64 {width} i64)"
         return name, signature, f"{indent}i64.const {offset or 0}\n{indent}call ${name}{end}"
-    if found := BULK.fullmatch(line):
-        indent, kind, end = found.groups()
-        return f"memory_{kind}", f"(param {BULK_PARAMETERS[kind]})", f"{indent}call $memory_{kind}{end}"
+    if found := COPY.fullmatch(line):
+        indent, end = found.groups()
+        return "memory_copy", "(param i64 i64 i64)", f"{indent}call $memory_copy{end}"
     return None
 
 

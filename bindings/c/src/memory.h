@@ -15,10 +15,9 @@
 #if __STDC_HOSTED__
 #include <stdlib.h>
 #include <string.h>
-#else /* without a C library: these three are all that compilers call there too */
+#else /* without a C library: compilers call these two there too */
 void *memcpy(void *, const void *, size_t);
 void *memmove(void *, const void *, size_t);
-void *memset(void *, int, size_t);
 #define abort() __builtin_trap()
 #endif
 
@@ -225,11 +224,6 @@ ALWAYS_INLINE void i64_store8(memory *m, u64 address, u64 value, u64 offset)
 ALWAYS_INLINE void memory_copy(memory *m, u64 to, u64 from, u64 size)
 {
     if (size > 0) memmove(writable(m, to, size), readable(m, from, size), (size_t)size);
-}
-
-ALWAYS_INLINE void memory_fill(memory *m, u64 to, u32 byte, u64 size)
-{
-    if (size > 0) memset(writable(m, to, size), (int)(byte & 0xff), (size_t)size);
 }
 
 /* The number of zero bits before the highest one, and after the lowest one. */

@@ -1,17 +1,18 @@
 -- What encoding returns and writes, whether the bytes fit or not.
-use Rattle.std.proofs.Common.{◌≡◌, ℕ, ◌<◌, ◌≤◌, List, ◌++◌, length, drop, arith, ◌+◌, ◌⊎◌, take, false, ap, sym, refl, ◌∙◌, inl, inr, Result, Ok, Err, IfErr, IsOk}
+use Rattle.std.proofs.Common.{◌≡◌, ℕ, ◌<◌, ◌≤◌, List, [], ◌∷◌, ◌++◌, length, map, drop, arith, ◌+◌, ◌^◌, ◌⊎◌, take, ap, sym, refl, ◌∙◌, inl, inr, append_assoc, add-one}
+use Rattle.std.proofs.Math.ListN.{set}
+use Rattle.std.proofs.Math.Nat.{lt_of_not-le, pow-le-pow_right, mul-le-mul_right}
+use Rattle.std.proofs.lemmas.Grind.{common_steps}
+use Rattle.std.proofs.lemmas.List.{length_push, length-map, length-take-le, set_split}
 use Rattle.multihash.specs.Pair.{Pair}
 use Rattle.multihash.specs.Varint.{varint_limit, IsVarint}
 use Rattle.multihash_c.specs.Status.{status_ok, status_no_room}
 use Rattle.multihash_c.specs.Encoded.{WritesForm, HasParts}
 use Rattle.multihash_c.specs.declared.encode.Encoded.{Encoded}
 use Rattle.multihash.specs.Encoding.{IsEncoding}
-use Rattle.multihash.specs.Filling.{Fills, IsFilled, Fills-concatenated}
-use Rattle.multihash.specs.Writing.{AppendsPrefix, IsWriterFaultOrFull}
-use Rattle.multihash.specs.Refusal.{Refusal, IsIo, IsInvalidCode}
-use Rattle.multihash.specs.declared.no_std_io.slice_writer.SliceWriter.{SliceWriter}
 use Rattle.multihash.proofs.EncodingLemmas.{encoding_of_parts, length-parts, encoding_same}
-use Rattle.multihash.proofs.WritingLemmas.{slice_writer_has_room, filled_slice, filled_length}
+use Rattle.multihash.proofs.Varints.DigitLemmas.{place_value_below}
+use Rattle.multihash.proofs.Varints.VarintWriteLemmas.{Wrote}
 
 -- what `count` ensures for the length of a form and the size of the buffer
 abbrev Counted : ℕ → ℕ → Encoded → Type 0
@@ -72,16 +73,31 @@ same_parts IsForm p other e old new short parts writes = record {
       );
 }
 
--- ---- varints and a digest, written to a `SliceWriter`
+-- ---- varints and a digest, one after the other
 
--- a varint is written if there is enough capacity: the first fact is the clause `err` of `varint::write`
-pub varint_has_room : (n : ℕ) (old new : SliceWriter) (r : Result ℕ Refusal)
-    → IfErr r (λ e. (IsInvalidCode n e × (varint_limit ≤ n) × (new ≡ old))
-    ⊎ (IsIo (IsWriterFaultOrFull false 0 0 (IsFilled new)) e × ((bytes : List ℕ) × IsVarint n bytes × AppendsPrefix Fills old bytes new)))
-    → n < varint_limit → ((bytes : List ℕ) → IsVarint n bytes → old.filled + length bytes ≤ length old.buffer.now) → IsOk r
-varint_has_room n old new (Ok x) stopped below enough = refl
-varint_has_room n old new (Err e) (inl large) below enough = absurd (omega (arith, below, large.1))
-varint_has_room n old new (Err e) (inr (errors, part)) below enough = slice_writer_has_room {T = ℕ} old new (IsVarint n) (Err e) part errors enough
+-- a varint is longer than the bytes written before its last one
+pub more_follows : (now bytes : List ℕ) (len n rest : ℕ) → Wrote now len n rest → IsVarint n bytes → len < length bytes
+more_follows now bytes len n rest h v =
+    let long : length bytes ≡ length (v.front ++ v.last ∷ []) =
+    ap length v.spelled ∙ omega (arith, length_push (map (λ d. d + 128) v.front) v.last, length_push v.front v.last, length-map v.front (λ d. d + 128)) in
+    lt_of_not-le (λ few.
+    let base : 0 < 128 = omega arith in
+    let some : 0 < len = omega (arith, few, long, length_push v.front v.last) in
+    let high : 128 ^ length bytes ≤ 128 ^ len = pow-le-pow_right base few in
+    let below : n < 128 ^ length bytes = rw (v.value, ← long) at (place_value_below 128 (v.front ++ v.last ∷ []) v.digits) in
+    omega (arith, high, below, h.value, mul-le-mul_right (128 ^ len) (h.more some)))
+
+-- lists that are the same from an index on are so from the next
+pub drop_next : (xs ys : List ℕ) (i : ℕ) → drop i xs ≡ drop i ys → drop (i + 1) xs ≡ drop (i + 1) ys
+drop_next xs ys i same = grind (arith, common_steps)
+
+-- a last byte is set after those that were written, and what follows it is unchanged
+pub put_after : (xs ys : List ℕ) (i x : ℕ) → i < length xs → drop i xs ≡ drop i ys
+    → (i + 1 ≡ length (take i xs ++ x ∷ [])) × (set xs i x ≡ (take i xs ++ x ∷ []) ++ drop (length (take i xs ++ x ∷ [])) ys)
+put_after xs ys i x inside same =
+    let long : i + 1 ≡ length (take i xs ++ x ∷ []) = omega (arith, length_push (take i xs) x, length-take-le i xs (omega arith)) in
+    let split : set xs i x ≡ take i xs ++ (x ∷ drop (i + 1) xs) = rw (add-one i) (set_split xs i x inside) in
+    (long, rw (← long) (split ∙ (ap (λ (z : List ℕ). take i xs ++ (x ∷ z)) (drop_next xs ys i same) ∙ sym (append_assoc (take i xs) (x ∷ []) (drop (i + 1) ys)))))
 
 -- an encoding is as long as its parts, whichever varints they are
 pub parts_long : (p : Pair) (bytes a b : List ℕ) → IsEncoding p bytes → IsVarint p.code a → IsVarint (length p.digest) b
@@ -89,21 +105,3 @@ pub parts_long : (p : Pair) (bytes a b : List ℕ) → IsEncoding p bytes → Is
 parts_long p bytes a b e is_code is_size =
     ap length (encoding_same p bytes (a ++ (b ++ p.digest)) e (encoding_of_parts p p.code (length p.digest) p.digest a b refl refl refl is_code is_size))
     ∙ sym (length-parts a b p.digest)
-
--- the capacity that is left after a part
-pub room_after : (old new : SliceWriter) (part : List ℕ) (more : ℕ) → Fills old part new
-    → old.filled + (length part + more) ≤ length old.buffer.now → new.filled + more ≤ length new.buffer.now
-room_after old new part more filled room =
-    omega (arith, room, filled.fills.count, filled_length old.buffer.now part new.buffer.now old.filled new.filled filled.fills)
-
--- three parts that are written to a new writer are at the front of its buffer
-pub stand_at_front : (buffer : List ℕ) (old between later new : SliceWriter) (a b c : List ℕ) → old.filled ≡ 0 → old.buffer.now ≡ buffer
-    → Fills old a between → Fills between b later → Fills later c new
-    → (new.buffer.ghost_name ≡ old.buffer.ghost_name) × (new.buffer.now ≡ (a ++ (b ++ c)) ++ drop (length (a ++ (b ++ c))) buffer)
-stand_at_front buffer old between later new a b c none kept first second third =
-    let bytes : List ℕ = a ++ (b ++ c) in
-    let whole = Fills-concatenated old between new a (b ++ c) first (Fills-concatenated between later new b c second third) in
-    let spelled = filled_slice old.buffer.now bytes new.buffer.now old.filled new.filled whole.fills in
-    let from_front : length bytes ≡ old.filled + length bytes = omega (arith, none) in
-    let no_front = ap (λ n. take n old.buffer.now ++ (bytes ++ drop (old.filled + length bytes) old.buffer.now)) none in
-    (whole.same_slice, rw (← kept, from_front) (spelled ∙ no_front))

@@ -1,14 +1,12 @@
 //! Encoding for C, and the texts of statuses, which are written to a buffer like encodings.
-ghost use Rattle.std.specs.Prelude.{◌≡◌, ◌+◌, ◌<◌, ◌≤◌, ◌⊎◌, ℕ, List, [], ◌∷◌, ◌++◌, length, drop, IfOk, IfErr};
+ghost use Rattle.std.specs.Prelude.{◌≡◌, ◌+◌, ◌<◌, ◌≤◌, ◌⊎◌, ℕ, List, [], ◌∷◌, ◌++◌, length, drop};
 ghost use Rattle.multihash.specs.Varint.{IsVarint, varint_limit};
 ghost use Rattle.multihash.specs.Encoding.{IsEncoding};
 ghost use Rattle.multihash.specs.Scale.{IsScale, IsScaleCode};
-ghost use Rattle.multihash.specs.Filling.{Fills};
 ghost use Rattle.multihash_c.specs.Encoded.{IsTooLong, IsLargeCode, IsEncodedLength, ReportsLength, WritesForm, HasParts, IsPut, Puts};
 ghost use Rattle.multihash_c.specs.Status.{status_ok, status_no_room, IsStatusText};
 
 use crate::{DIGEST_MAX, SCALE_HEAD, status};
-use multihash::no_std_io::{SliceWriter, Write};
 use multihash::varint;
 
 // The usual length of a digest.
@@ -34,17 +32,19 @@ pub struct Encoded {
 pub extern "C" fn multihash_encode(code: u64, digest: &[u8], out: &mut [u8]) -> Encoded
     ensures { WritesForm IsEncoding (record { code = code; digest = digest.now }) result out.old out.new }
 {
-    if code < 128 && digest.len() == USUAL_DIGEST {
-        return encode_usual(code, digest, out);
+    if digest.len() == USUAL_DIGEST {
+        if code < 128 {
+            return encode_usual(code, digest, out);
+        }
+    } else if digest.len() > DIGEST_MAX {
+        return rejected_size(digest.len() as u64);
     }
-    let encoding_length = match needed(code, digest.len()) {
-        Ok(length) => length,
-        Err(rejected) => return rejected,
-    };
-    if encoding_length <= out.len() {
-        put_encoding(code, digest, out);
+    let (status, length) = encode_apart(sized_len(digest.len()), code, digest, out);
+    Encoded {
+        status,
+        size: 0,
+        length,
     }
-    count(encoding_length, out.len())
 }
 
 /// Writes the SCALE form of a code and a digest to the front of `out`.
@@ -120,6 +120,38 @@ fn encode_usual(code: u64, digest: &[u8], out: &mut [u8]) -> Encoded
     count(USUAL_ENCODING, out.len())
 }
 
+// Does what `encode_any` does, and returns plain numbers as `scale_encode_apart` does. With the length first,
+// the other parameters are in the registers in which the caller has them.
+#[inline(never)]
+fn encode_apart(after_code: usize, code: u64, digest: &[u8], out: &mut [u8]) -> (u32, usize)
+    requires short { length digest.now ≤ 255 }
+    requires after { (size : List ℕ) × IsVarint (length digest.now) size
+        × (after_code ≡ length size + length digest.now) }
+    ensures { (e : Encoded) → HasParts result.0 result.1 e →
+        WritesForm IsEncoding (record { code = code; digest = digest.now }) e out.old out.new }
+{
+    let encoded = encode_any(after_code, code, digest, out);
+    (encoded.status, encoded.length)
+}
+
+// What `multihash_encode` returns, for every digest that is not too long. That many bytes follow the code.
+#[inline(always)]
+fn encode_any(after_code: usize, code: u64, digest: &[u8], out: &mut [u8]) -> Encoded
+    requires short { length digest.now ≤ 255 }
+    requires after { (size : List ℕ) × IsVarint (length digest.now) size
+        × (after_code ≡ length size + length digest.now) }
+    ensures { WritesForm IsEncoding (record { code = code; digest = digest.now }) result out.old out.new }
+{
+    let Ok(code_length) = varint::len(code) else {
+        return rejected_code();
+    };
+    let encoding_length = code_length + after_code;
+    if encoding_length <= out.len() {
+        put_encoding(code, digest, out);
+    }
+    count(encoding_length, out.len())
+}
+
 // Does what `scale_encode` does. The status and the length are plain numbers, which stay in registers: so
 // those that only this function needs are saved only for such an input.
 #[inline(never)]
@@ -159,28 +191,21 @@ fn count_parts(code_length: usize, digest_length: usize) -> Encoded
     ensures { (code : ℕ) (bytes : List ℕ) → IsVarint code bytes → code_length ≡ length bytes →
         ReportsLength code digest_length result }
 {
-    let Ok(size_length) = varint::len(digest_length as u64) else {
-        unreachable!()
-    };
-    let length = code_length + size_length + digest_length;
+    let length = code_length + sized_len(digest_length);
     count(length, length)
 }
 
-// The length of the encoding of a code and a digest of that many bytes, or the result if there is none.
+// The number of bytes of a digest of that length, with the varint of its length.
 #[inline(always)]
-fn needed(code: u64, digest_length: usize) -> Result<usize, Encoded>
-    ensures ok { IfOk result (λ len. IsEncodedLength code digest_length len
-        × (digest_length ≤ 255) × (code < varint_limit)) }
-    ensures err { IfErr result (λ e. ((255 < digest_length) × IsTooLong digest_length e)
-        ⊎ ((digest_length ≤ 255) × (varint_limit ≤ code) × IsLargeCode e)) }
+fn sized_len(digest_length: usize) -> usize
+    requires { digest_length ≤ 255 }
+    ensures length { (size : List ℕ) × IsVarint digest_length size × (result ≡ length size + digest_length) }
+    ensures short { result ≤ digest_length + 9 }
 {
-    if digest_length > DIGEST_MAX {
-        return Err(rejected_size(digest_length as u64));
-    }
-    match (varint::len(code), varint::len(digest_length as u64)) {
-        (Ok(code_length), Ok(size_length)) => Ok(code_length + size_length + digest_length),
-        _ => Err(rejected_code()),
-    }
+    let Ok(size_length) = varint::len(digest_length as u64) else {
+        unreachable!()
+    };
+    size_length + digest_length
 }
 
 // The result for a digest that is too long.
@@ -244,10 +269,76 @@ fn put_encoding(code: u64, digest: &[u8], buffer: &mut [u8])
     ensures { (bytes : List ℕ) × IsEncoding (record { code = code; digest = digest.now }) bytes
         × (buffer.new ≡ bytes ++ drop (length bytes) buffer.old) }
 {
-    let mut writer = SliceWriter::new(buffer);
-    varint::write(code, &mut writer).unwrap();
-    varint::write(digest.len() as u64, &mut writer).unwrap();
-    write_digest(digest, &mut writer);
+    // After one byte, as mostly, the digest has a constant place.
+    if code < 128 {
+        buffer[0] = code as u8;
+        put_sized(digest, &mut buffer[1..]);
+        return;
+    }
+    let code_length = put_varint(code, buffer);
+    put_sized(digest, &mut buffer[code_length..]);
+}
+
+// Writes the varint of a digest's length and the digest to the front of a buffer that is large enough.
+#[inline(always)]
+fn put_sized(digest: &[u8], buffer: &mut [u8])
+    requires short { length digest.now ≤ 255 }
+    requires fits { (size : List ℕ) → IsVarint (length digest.now) size →
+        length size + length digest.now ≤ length buffer.old }
+    ensures { (size : List ℕ) × IsVarint (length digest.now) size
+        × (buffer.new ≡ (size ++ digest.now) ++ drop (length (size ++ digest.now)) buffer.old) }
+{
+    // As a byte: so the compiler sees that the varint has two bytes at most.
+    let size_length = put_varint(digest.len() as u8 as u64, buffer);
+    put_digest(digest, &mut buffer[size_length..]);
+}
+
+// Writes the varint of a number to the front of a buffer that is large enough, and returns its length.
+#[inline(always)]
+fn put_varint(n: u64, buffer: &mut [u8]) -> usize
+    requires in_range { n < varint_limit }
+    requires fits { (bytes : List ℕ) → IsVarint n bytes → length bytes ≤ length buffer.old }
+    ensures { (bytes : List ℕ) × IsVarint n bytes × (result ≡ length bytes)
+        × (buffer.new ≡ bytes ++ drop (length bytes) buffer.old) }
+{
+    if n < 128 {
+        buffer[0] = n as u8;
+        return 1;
+    }
+    // The longer codes in use have two bytes or three.
+    if n < 1 << 14 {
+        *buffer.first_chunk_mut().unwrap() = [(n & 0x7f) as u8 | 0x80, (n >> 7) as u8];
+        return 2;
+    }
+    if n < 1 << 21 {
+        let rest = n >> 7;
+        *buffer.first_chunk_mut().unwrap() = [
+            (n & 0x7f) as u8 | 0x80,
+            (rest & 0x7f) as u8 | 0x80,
+            (rest >> 7) as u8,
+        ];
+        return 3;
+    }
+    put_digits(n, buffer)
+}
+
+// Does what `put_varint` does, byte by byte.
+#[inline(always)]
+fn put_digits(n: u64, buffer: &mut [u8]) -> usize
+    requires in_range { n < varint_limit }
+    requires fits { (bytes : List ℕ) → IsVarint n bytes → length bytes ≤ length buffer.old }
+    ensures { (bytes : List ℕ) × IsVarint n bytes × (result ≡ length bytes)
+        × (buffer.new ≡ bytes ++ drop (length bytes) buffer.old) }
+{
+    let mut at = 0;
+    let mut rest = n;
+    while rest >= 128 {
+        buffer[at] = (rest & 0x7f) as u8 | 0x80;
+        at += 1;
+        rest >>= 7;
+    }
+    buffer[at] = rest as u8;
+    at + 1
 }
 
 // Writes the SCALE form of a code and a digest to the front of a buffer that is large enough.
@@ -271,16 +362,6 @@ fn scale_head(code: u64, size: u8) -> [u8; SCALE_HEAD]
     let mut head = [size; SCALE_HEAD];
     head[..SCALE_HEAD - 1].copy_from_slice(&code.to_le_bytes());
     head
-}
-
-// Appends a digest, for which there is enough capacity.
-#[inline(always)]
-fn write_digest(digest: &[u8], writer: &mut SliceWriter<'_>)
-    requires { writer.old.filled + length digest.now ≤ length writer.old.buffer.now }
-    ensures { Fills writer.old digest.now writer.new }
-{
-    put_digest(digest, &mut writer.buffer[writer.filled..]);
-    writer.filled += digest.len();
 }
 
 // Copies two parts, one after the other, to the front of a buffer that is large enough.

@@ -4,7 +4,7 @@ use Rattle.multihash_c.proofs.encode.count_parts.Goals as goal
 
 pub returns : goal.returns
 returns c = λ code a is_code long.
-    let (b, is_size, size_long) = c.in-Ok.ensures.ok in
+    let (b, is_size, size_long) = c.sized_len.ensures.length in
     record {
       is_ok = c.count.ensures.fits (omega arith);
       no_size = c.count.ensures.no_size;
