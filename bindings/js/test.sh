@@ -24,7 +24,8 @@ part() {
 }
 
 in_node() {
-  timeout 600 node "$here/test/node.js" "$@"
+  # Node.js 20 may hang where it compiles beside a collection of garbage
+  timeout 600 node --no-concurrent-recompilation "$here/test/node.js" "$@"
 }
 
 # The tests find a result that differs, and that there are no vectors.
