@@ -2,7 +2,8 @@
 -- are not the block's, another root of two leaves or of one, no path from a leaf, and a valid prefix that is not
 -- entries or not the longest. What they do not exclude: paths of which one goes on where the other ends.
 use Rattle.std.proofs.Common.{◌≡◌, ◌<◌, ◌++◌, ℕ, zero, suc, List, [], ◌∷◌, length, length-append, append-nil, Option, Some, inl, inr, refl, sym, ap, ◌∙◌, arith}
-use Rattle.std.specs.Prelude.{⊤}
+use Rattle.std.specs.Prelude.{⊤, codes}
+use Rattle.std.specs.Fmt.{digits}
 use Rattle.std.specs.List.{Contains}
 use Rattle.std.specs.Io.KnownBytes.{prepend_known}
 use Rattle.multihash.specs.Reading.{ConsumesFewerThan}
@@ -19,7 +20,7 @@ use Rattle.storage.specs.Content.{content_pair}
 use Rattle.storage.specs.Merkle.{Collides, PathStep, leaf_pair, parent_pair, root_from, messages_from}
 use Rattle.storage.specs.Levels.{level, level_above, IsRoot, IsPath, none, without_step, one_more, IsPathToRoot, LeadsFrom}
 use Rattle.storage.specs.Log.{IsEntry, ConsumesPair, IsValidPrefix}
-use Rattle.storage.specs.Prefixed.{IsFailed, BlockFails, PrefixedFails, IsTruncated}
+use Rattle.storage.specs.Prefixed.{error_text, IsFailed, BlockFails, PrefixedFails, IsTruncated}
 use Rattle.storage.specs.Step.{TurnAlike, IsOnlyPath, steps_of}
 use Rattle.storage.specs.declared.prefixed.PrefixedError.{PrefixedError}
 use Rattle.storage.specs.declared.prefixed.PrefixedError.TheVariants.{Failed, TooLong}
@@ -153,3 +154,7 @@ three_zeros h = by h.entries.0 h.entries.1
       length-append is.encodes.size (sha256 block),
       length-sha256 block,
     )
+
+text : error_text (TooLong 77) ≡ codes "a block of 77 bytes is too long"
+unfolding digits
+text = refl
