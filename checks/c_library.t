@@ -198,7 +198,7 @@ example_in() {
 
 # The reader of a stream that is installed, over pipes that are cut at each byte.
 stream_example() {
-  cc "${c_flags[@]}" -I "$c/include" -I bindings/c/examples "$c/tests/stream.c" "$library" \
+  cc "${c_flags[@]}" "${sanitize[@]}" -I "$c/include" -I bindings/c/examples "$c/tests/stream.c" "$library" \
     -o "$work/stream" &&
     "$work/stream"
 }

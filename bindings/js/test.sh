@@ -24,7 +24,7 @@ part() {
 }
 
 in_node() {
-  # Node.js 20 may hang where it compiles beside a collection of garbage
+  # Node.js may hang where it compiles beside a collection of garbage
   timeout 600 node --no-concurrent-recompilation "$here/test/node.js" "$@"
 }
 

@@ -155,7 +155,8 @@ def number_errors(page: str, text: str) -> Iterator[str]:
     text = flat(prose(text) if page != HEADER else " ".join(re.findall(r"/\*.*?\*/", text, re.S)))
     spans = [match.span() for phrase in phrases() for match in re.finditer(phrase, text)]
     before = {match.start(2): match[1] for match in PAIR.finditer(text)}
-    for match in NUMBER.finditer(text) if page != CONTRACTS else ():
+    names = re.finditer(r"MULTIHASH_\w+_MAX", text) if page == HEADER else ()  # of numbers
+    for match in (*NUMBER.finditer(text), *names) if page != CONTRACTS else ():
         if not any(start <= match.start() and match.end() <= end for start, end in spans):
             pair = (before.get(match.start(), ""), match[0])
             if pair not in known_pairs():

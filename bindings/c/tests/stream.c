@@ -13,7 +13,7 @@ int example_main(void);
 #include <string.h>
 #include <sys/time.h>
 
-#define LIMIT 64
+#define LIMIT MULTIHASH_DIGEST_MAX
 
 /* The items of the stream: the bytes of both varints, the code, and the digest's length. */
 static const struct item {
@@ -26,7 +26,7 @@ static const struct item {
     {"\x00\x00", 2, 0, 0},
     {"\xb2\x40\x01", 3, 8242, 1},
     {"\x16\x40", 2, 22, 64},
-    {"\xff\xff\xff\xff\xff\xff\xff\xff\x7f\x03", 10, INT64_MAX, 3},
+    {"\xff\xff\xff\xff\xff\xff\xff\xff\x7f\xff\x01", 11, INT64_MAX, 255},
     {"\x81\x02\x00", 3, 257, 0},
 };
 
@@ -133,7 +133,7 @@ static void check_rejected(const char *bytes, size_t length, multihash_status st
     multihash_decoded found;
     open_pipe(ends_of, (const uint8_t *)bytes, length);
     CHECK(close(ends_of[1]) == 0);
-    stream from = {.descriptor = ends_of[0], .limit = LIMIT};
+    stream from = {.descriptor = ends_of[0], .limit = 64};
     CHECK(next_multihash(&from, &found) == STREAM_REJECTED && found.status == status && found.size == size);
     CHECK(next_multihash(&from, &found) == STREAM_REJECTED && found.status == status);
     CHECK(read(ends_of[0], rest, sizeof rest) == (ssize_t)left && close(ends_of[0]) == 0);

@@ -6,6 +6,7 @@ import doctest
 import importlib
 import inspect
 import io
+import itertools
 import mmap
 import os
 import pickle
@@ -202,9 +203,11 @@ class Values(unittest.TestCase):
             (2, bytes(255)),
             ((1 << 63) - 1, b""),
         ]
+        kinds = Multihash, self.Named, type("Sibling", (Multihash,), {}), type("Inner", (self.Named,), {})
         ordered = [Multihash(*pair) for pair in pairs]
-        for i, left in enumerate(ordered):
-            for k, right in enumerate(map(copy.deepcopy, ordered)):
+        for one, other in itertools.product(kinds, repeat=2):
+            for (i, left), (k, right) in itertools.product(enumerate(pairs), repeat=2):
+                left, right = one(*left), other(*right)
                 self.assertEqual(vm.compare(left, right), (i > k) - (i < k))
                 self.assertEqual((left < right, left <= right, left > right), (i < k, i <= k, i > k))
                 self.assertEqual((left >= right, left == right, left != right), (i >= k, i == k, i != k))
