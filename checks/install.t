@@ -82,6 +82,12 @@ Generic,aarch64,,OFF,OFF
 END
 }
 
+# The toolchain file has the archive for its machine.
+builds_for_aarch64() {
+  build arm -DCMAKE_TOOLCHAIN_FILE=bindings/c/aarch64.cmake &&
+    grep 'MULTIHASH_C_ARCHIVE:.*=.*/aarch64/libmultihash_c.a' "$work/arm/CMakeCache.txt"
+}
+
 # The test of a copy whose header does not fit the library, or whose examples print something else.
 planted_test() {
   rm -rf "$work/planted" && cp -r "$work/un packed built" "$work/planted" &&
@@ -266,4 +272,4 @@ has 20 cc cmake python3 readelf pkg-config || exit 0
 test_installation
 test_programs
 has 1 aarch64-linux-gnu-gcc qemu-aarch64 &&
-  try "building for aarch64: 1 comparison" build arm -DCMAKE_TOOLCHAIN_FILE=bindings/c/aarch64.cmake
+  try "building for aarch64: 2 comparisons" builds_for_aarch64

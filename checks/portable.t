@@ -4,7 +4,7 @@
 # sanitizers, on other machines in emulators, and against the archive's results.
 # shellcheck source=checks/lib/tap.sh
 . "$(dirname "$0")/lib/tap.sh"
-plan 29
+plan 30
 set -o pipefail
 # shellcheck source=checks/lib/proved.sh
 . checks/lib/proved.sh
@@ -114,14 +114,28 @@ test_compiler() {
     -fno-sanitize-recover=all
 }
 
-# The object needs three functions of the C library, and has no section that is written.
+# An object needs three functions of the C library, and has no section that is written.
 keeps_no_state() {
   local needed written
-  needed=$(nm --undefined-only -f posix "$work/cc/multihash.o" | awk '{ print $1 }' | sort | paste -sd ' ')
-  objdump -h "$work/cc/multihash.o" > "$work/sections" && grep -q ' \.text ' "$work/sections" || return 1
+  needed=$(nm --undefined-only -f posix "$1" | awk '{ print $1 }' | sort | paste -sd ' ')
+  objdump -h "$1" > "$work/sections" && grep -q ' \.text ' "$work/sections" || return 1
   written=$(awk '$2 ~ /^\.t?(data|bss)/ && $3 !~ /^0+$/' "$work/sections")
-  echo "needs: $needed"
+  echo "needs: $needed, is written: $written"
   [ -z "$written" ] && ! tr ' ' '\n' <<< "$needed" | grep -vxE 'abort|mem(cpy|move)|_GLOBAL_OFFSET_TABLE_'
+}
+
+# An object of each kind of state.
+planted_state() {
+  local section state
+  while read -r section state; do
+    printf '%s\nint next(void) { return count++; }\n' "$state" | cc -O2 -xc -c - -o "$work/state.o" &&
+      rejects " $section " keeps_no_state "$work/state.o" || return 1
+  done << 'END'
+.bss static int count;
+.data static int count = 1;
+.tbss static _Thread_local int count;
+.tdata static _Thread_local int count = 1;
+END
 }
 
 # The tests over a copy that was edited.
@@ -138,7 +152,8 @@ test_here() {
   with_all 2 && has 2 clang && test_compiler clang
   has 2 clang llvm-nm && try "objects without a C library" freestanding "$tree" &&
     try "one of them that needs another function" rejects "another memcpy" another_function
-  has 1 nm objdump && try "what the object needs: 2 comparisons" keeps_no_state
+  has 2 nm objdump && try "what the object needs: 2 comparisons" keeps_no_state "$work/cc/multihash.o" &&
+    try "objects with state" planted_state
   try "an access after an input" rejects "Aborted" tests_planted 's/\(w2c_multihash_head(.*bytes_length\))/\1 + 1)/'
   try "an access after an output" rejects "Aborted" tests_planted 's/\(ADDRESS(OUT), out_length\))/\1 + 1)/'
   for at in -1 bytes_length; do
@@ -165,7 +180,7 @@ on_windows() {
   if [ -d "$WINEPREFIX" ]; then wineserver -k; fi
 }
 
-has 29 cc python3 || exit 0
+has 30 cc python3 || exit 0
 if has 10 rt wasm2c=1.0.32 wasm2wat=1.0.32 wat2wasm=1.0.32; then
   try "the generated file" generated
   try "a wrong byte of it" rejects "module.h differ: " planted_generated

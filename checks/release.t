@@ -112,6 +112,7 @@ LICENSE is there, or is not:tar -czf multihash_c-*-source.tar.gz SHA256SUMS
 checksumValue:echo >> libmultihash-c-dev_*_amd64.deb
 what the kit made:sed -i s/GENERATED_FROM/DEPENDS_ON/ multihash-*.spdx.json
 tools [':sed -i 's/"name": "ld"/"name": "more"/' multihash-*.spdx.json
+copyrightText:sed -i s/copyrightText/copyright/ multihash-*.spdx.json
 1, and not None:sed -i '0,/{/s//{"more": 1,/' multihash-*.spdx.json
 END
 }
@@ -126,7 +127,7 @@ releases() {
     printf x | dd of="$from/$archive" bs=1 seek=9999 conv=notrunc status=none && "${commit[@]}" &&
     rejects "not that of prebuilt/SHA256SUMS" "$from/tools/release" "$work/wrong" &&
     git -C "$from" reset -q --hard HEAD~ && echo changed >> "$from/CHANGES" &&
-    (umask 077 && "$from/tools/release" "$to") && git -C "$from" checkout -q CHANGES &&
+    (umask 077 && TZ=Asia/Tokyo "$from/tools/release" "$to") && git -C "$from" checkout -q CHANGES &&
     checks/lib/packed.py "$to" "$from" && planted_source "$from" "$to" &&
     planted_release "$to" "$from" &&
     tar -xf "$to/multihash-$version.tar.gz" -C "$work" &&
@@ -151,7 +152,7 @@ tested_on_aarch64() {
 
 test_release() {
   has 4 aarch64-linux-gnu-gcc cargo npm qemu-aarch64 "${debian[@]}" "${crates[@]}" || return
-  try "a release: $((58 + ${ALL:-0})) comparisons" releases
+  try "a release: $((59 + ${ALL:-0})) comparisons" releases
   try "the installed test of that for aarch64" tested_on_aarch64
   try "packages for arm64: 16 comparisons" has_packages "$work/release" arm64 aarch64-linux-gnu
   # shellcheck disable=SC2086

@@ -102,7 +102,7 @@ rust_build() {
   mkdir -p "$directory" && cp "$archive" "$directory" &&
     in_crate MULTIHASH_C_LIB_DIR="$directory" cargo test -p multihash_c && rm "$directory"/* &&
     rejects "libmultihash_c.a: No such file" in_crate MULTIHASH_C_LIB_DIR="$directory" cargo build &&
-    rejects "not an absolute path" in_crate MULTIHASH_C_LIB_DIR=prebuilt cargo build &&
+    rejects "not an absolute path" in_crate MULTIHASH_C_SYSTEM=1 MULTIHASH_C_LIB_DIR=prebuilt cargo build &&
     rejects "multihash_c >= 1.0" in_crate MULTIHASH_C_SYSTEM=1 PKG_CONFIG_LIBDIR="$work/none" cargo build
 }
 

@@ -18,7 +18,7 @@ expect() {
   echo "$result $number - ${text//'#'/}"
 }
 
-echo 1..50
+echo 1..52
 expect "not ok 1 - a\nok 2 - b" ". checks/lib/tap.sh; try a false; try b true"
 expect "not ok 1 - a" ". checks/lib/tap.sh; try a no_such_command"
 expect "ok 1 - a b" ". checks/lib/tap.sh; try \$'a\\nb#' true"
@@ -107,6 +107,7 @@ expect 1 "ran 'echo \"ok 1 # SKIP\"' '' --all"
 expect 0 "ran '[ \"\$ALL\" ] && echo ok 1' '' --all"
 expect 0 "ran '[ \"\$SINCE\" = a ] && echo ok 1' '' --since a"
 expect 1 "ran '' 'sed -i s/1$/0/ checks/rt.t'"
+expect 1 "ran '' 'sed -i \"s/1..1$/\\x271..0 # SKIP why\\x27/\" checks/rt.t'"
 expect 2 "ran 'echo ok 1' 'rm checks/rules.yml'"
 expect 2 "ran 'echo ok 1' 'echo \"  - checks/lint.t\" >> checks/rules.yml'"
 expect 2 "ran '' 'rm checks/rt.t'"
@@ -118,3 +119,6 @@ text='[ $0 = checks/rt.t ] && touch "$PROVED/built" || [ "$BUILT" ] && echo ok 1
 expect 0 "ran '$text' 'cp checks/rt.t checks/lint.t'"
 # the last: only one of two checks is run
 expect 1 "ran 'echo ok 1' 'cp checks/rt.t checks/lint.t; sed -i \"s|timer checks|&/rt.t|\" .ci/run'"
+
+# The tests of a crate fail.
+expect 123 "printf '#!/bin/sh\nexit 1' > rt; chmod +x rt; PATH=\$PWD:\$PATH \$top/tools/tests fakes > log; echo \$?"

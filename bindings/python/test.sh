@@ -16,7 +16,7 @@ to=
 if [ $# = 2 ]; then mkdir -p "$2" && to=$(readlink -f "$2") || exit 2; fi
 # shellcheck source=checks/lib/tap.sh
 . "$here/../../checks/lib/tap.sh"
-plan 19
+plan 20
 set -o pipefail
 to=${to:-$work}
 header=$PWD/bindings/c/include/multihash.h
@@ -142,6 +142,11 @@ planted_read() {
   planted 's/bytes + found.digest_offset/& + 4096/' && under_sanitizers "$to/planted"
 }
 
+planted_shift() {
+  planted '1s/^/__attribute__((constructor)) static void planted(void) { volatile int n = 40; n = 1 << n; }\n/' &&
+    under_sanitizers "$to/planted"
+}
+
 planted_warning() {
   planted '1s/^/signed char planted(long more) { return more; }\n/' && CFLAGS=$warnings installs "$to/planted"
 }
@@ -168,7 +173,7 @@ types() {
     grep 'Found 5 errors' wrong.log
 }
 
-has 19 cc "$PYTHON" || exit 0
+has 20 cc "$PYTHON" || exit 0
 "$PYTHON" -c 'import build, setuptools, venv, wheel' 2> "$work/log" ||
   { leave_out "build, setuptools, venv or wheel is not installed" 19 && exit 0; }
 try "the sdist and the wheel, built twice: 1 comparison" builds
@@ -193,4 +198,5 @@ try "the sdist, installed, the portable source: 4 comparisons" sdist
 try "sanitizers" under_sanitizers "$to/sdist"
 try "a warning" rejects "conversion]" planted_warning
 try "a read after the end of the input" rejects AddressSanitizer planted_read
+try "a shift that is too large" rejects "runtime error: shift exponent" planted_shift
 try "an argument that is kept" rejects "it is kept" planted_leak
