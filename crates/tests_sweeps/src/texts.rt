@@ -146,6 +146,9 @@ fn known_values_are_shown(rt: HostRuntime) {
     let cut = expect_ok!(rt; Multihash::<64>::wrap(18, b"foobar")).truncate(3);
     let wanted = "Multihash { code: 18, size: 3, digest: [102, 111, 111] }";
     expect_shown(rt, alloc, &cut, wanted);
+    let lines = expect_ok!(rt; format!(in alloc; "{:#?}", cut.truncate(1)));
+    let wanted = "Multihash {\n    code: 18,\n    size: 1,\n    digest: [\n        102,\n    ],\n}";
+    check_eq!(rt; lines.as_str(), wanted);
     let head = expect_ok!(rt; Head::read_front(&[18, 3, 7]));
     let wanted = "Head { code: 18, digest_len: 3, digest_offset: 2 }";
     expect_shown(rt, alloc, &head, wanted);

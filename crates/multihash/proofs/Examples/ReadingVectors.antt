@@ -55,11 +55,12 @@ full_is_no_reader_error : ¬ (IsReaderError (of_io full))
 full_is_no_reader_error (error, e, inl kind) = cc
 full_is_no_reader_error (error, e, inr kind) = cc
 
--- the numbers in texts
+-- the texts that multihash_c does not have, or not with a number
 texts : (refusal_text (of_size 256) ≡ codes "Invalid multihash size 256.")
     × (refusal_text (of_code 18446744073709551615) ≡ codes "Invalid multihash code 18446744073709551615.")
+    × (refusal_text of_not_bytes ≡ codes "Failed to deserialize Multihash")
 unfolding digits
-texts = (refl, refl)
+texts = (refl, refl, refl)
 
 -- ---- what was consumed
 
