@@ -175,7 +175,7 @@ types() {
 
 has 20 cc "$PYTHON" || exit 0
 "$PYTHON" -c 'import build, setuptools, venv, wheel' 2> "$work/log" ||
-  { leave_out "build, setuptools, venv or wheel is not installed" 19 && exit 0; }
+  { leave_out "build, setuptools, venv or wheel is not installed" 20 && exit 0; }
 try "the sdist and the wheel, built twice: 1 comparison" builds
 try "the module without warnings" without_warnings
 has 1 objcopy ar && try "archives" looks_at_archive

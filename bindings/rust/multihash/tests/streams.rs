@@ -1,7 +1,8 @@
-//! Readers and writers, of `std` or `no_std_io`: short, interrupted, and failing ones.
+//! Readers and writers, of `std` or `no_std_io`: short, interrupted, failing, panicking, and wrong ones.
 use multihash::{Error, Multihash};
 use multihash_c::MultihashRef;
 use std::error::Error as _;
+use std::panic::{catch_unwind, AssertUnwindSafe};
 
 #[cfg(not(feature = "std"))]
 use multihash::no_std_io as io;
@@ -125,6 +126,20 @@ fn failing() {
                     failure.source().and_then(|it| it.downcast_ref::<io::Error>()).expect("its source");
                 assert_eq!((source.kind(), failure.to_string()), (kind, "größer".into()));
             }
+            assert_eq!(reader.bytes, [&case.encoding[at..], REST].concat());
+            assert_eq!(writer.bytes, case.encoding[..at]);
+        });
+    }
+}
+
+/// One that panics, and one that returns a wrong number.
+#[test]
+fn panicking() {
+    let events: [Event; 2] = [|| panic!("on purpose"), || Ok(usize::MAX)];
+    for event in events {
+        each_byte(event, |case, at, mut reader, mut writer| {
+            catch_unwind(AssertUnwindSafe(|| Value::read(&mut reader))).expect_err("a panic");
+            catch_unwind(AssertUnwindSafe(|| case.value.write(&mut writer))).expect_err("a panic");
             assert_eq!(reader.bytes, [&case.encoding[at..], REST].concat());
             assert_eq!(writer.bytes, case.encoding[..at]);
         });
