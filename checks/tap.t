@@ -18,7 +18,7 @@ expect() {
   echo "$result $number - ${text//'#'/}"
 }
 
-echo 1..52
+echo 1..51
 expect "not ok 1 - a\nok 2 - b" ". checks/lib/tap.sh; try a false; try b true"
 expect "not ok 1 - a" ". checks/lib/tap.sh; try a no_such_command"
 expect "ok 1 - a b" ". checks/lib/tap.sh; try \$'a\\nb#' true"
@@ -64,16 +64,16 @@ has() { grep -q "$2" "$top/$1" $(grep -oE '(lib|bindings)/[a-z_/]+\.(py|sh)' "$t
   sed "s|^lib|checks/lib|; s|^|$top/|"); }
 
 # Runs .ci/run over stubs by the rules of checks/, after a text: what reads programs of 'rt ci' fails before it ended,
-# and what reads the proofs of the mutants before these.
+# and what reads the proofs of bugs.t before that.
 # shellcheck disable=SC2016 # the checks expand it
 in_order() {
   local check text
   for check in checks/*.t; do
     text='echo ok 1'
     if has "$check" BUILT; then text='[ -e "$PROVED/rt.t" ] && echo ok 1'; fi
-    if has "$check" lib/proved.sh; then text='[ -e "$PROVED/mutants.t" ] && echo ok 1'; fi
+    if has "$check" lib/proved.sh; then text='[ -e "$PROVED/bugs.t" ] && echo ok 1'; fi
     case $check in
-      */rt.t | */mutants.t) text='sleep 3; touch "$PROVED/${0##*/}"; echo ok 1' ;;
+      */rt.t | */bugs.t) text='sleep 3; touch "$PROVED/${0##*/}"; echo ok 1' ;;
       */tap.t) text='echo ok 1' ;;
     esac
     stub "$check" "$text"
@@ -105,7 +105,6 @@ expect 0 "ran 'echo \"ok 1 # SKIP\"'"
 expect 1 "ran 'echo \"ok 1 - a # skip why\"' '' --all"
 expect 1 "ran 'echo \"ok 1 # SKIP\"' '' --all"
 expect 0 "ran '[ \"\$ALL\" ] && echo ok 1' '' --all"
-expect 0 "ran '[ \"\$SINCE\" = a ] && echo ok 1' '' --since a"
 expect 1 "ran '' 'sed -i s/1$/0/ checks/rt.t'"
 expect 1 "ran '' 'sed -i \"s/1..1$/\\x271..0 # SKIP why\\x27/\" checks/rt.t'"
 expect 2 "ran 'echo ok 1' 'rm checks/rules.yml'"

@@ -1,4 +1,4 @@
-"""Reads planted differences: mutants, bugs, differences of the header and of pages.
+"""Reads planted differences: bugs, differences of the header and of pages.
 
     file: PATH               after an empty line: of all that follow
 

@@ -1,6 +1,6 @@
 # shellcheck shell=bash
-# Sourced after tap.sh: a check that builds a crate does it in a copy of what the mutants proved, if PROVED names it. A
-# crate that they did not prove is proved there. Without PROVED the crates here are built.
+# Sourced after tap.sh: a check that builds a crate does it in a copy of what bugs.t proved, if PROVED names it. A
+# crate that it did not prove is proved there. Without PROVED the crates here are built.
 
 # shellcheck disable=SC2154 # tap.sh has the work folder
 # Copies the crates of the library for C and of mh_show.
