@@ -1,5 +1,5 @@
 #!/usr/bin/env bash
-# Builds multihash.wasm from crates/multihash_c, and from it bytes.js and demo.html. Needs wasm-opt (Binaryen).
+# Builds multihash.wasm from crates/multihash_c, and from it bytes.js and a line of demo.html. Needs wasm-opt (Binaryen).
 #
 #   bindings/js/build.sh            writes the three files
 #   bindings/js/build.sh --check    builds them elsewhere, and compares them byte for byte with those here, and
@@ -71,20 +71,20 @@ build_bytes() {
   printf "// Made by build.sh: multihash.wasm in base64.\nexport default '%s';\n" "$(base64 -w 0 "$1")"
 }
 
-# The page with the code of core.js on one line, without its comments, over the module's bytes.
+# demo.html, whose function `load` has the code of core.js on one line, without its comments, over the module's bytes.
 build_page() {
   {
     sed -e '/^ *\/\*\*.*\*\/$/d' -e 's/\(^\| \+\)\/\/ .*$//' -e 's/^export //' -e 's/^ *//' "$here/core.js" |
       tr '\n' ' '
     printf "connect(Uint8Array.from(atob('%s'), (letter) => letter.charCodeAt(0)));\n" "$(base64 -w 0 "$1")"
   } > "$work/module.js"
-  sed -e "/^MODULE$/{r $work/module.js" -e 'd}' "$here/demo/page.html"
+  sed -e "/^function load() {$/{n;r $work/module.js" -e 'd}' "$here/demo.html"
 }
 
 build_into() {
   "$top/tools/link_wasm" "$work/linked.wasm" && lower_wasm "$work/linked.wasm" "$1/multihash.wasm" &&
     build_bytes "$1/multihash.wasm" > "$1/bytes.js" &&
-    build_page "$1/multihash.wasm" > "$1/demo.html"
+    build_page "$1/multihash.wasm" > "$work/demo.html" && cp "$work/demo.html" "$1"
 }
 
 case ${1-} in

@@ -8,7 +8,7 @@
 here=$(dirname "$(readlink -f "${BASH_SOURCE[0]}")")
 # shellcheck source=checks/lib/tap.sh
 . "$here/../../checks/lib/tap.sh"
-plan 23
+plan 22
 set -o pipefail
 # shellcheck source=checks/lib/proved.sh
 . checks/lib/proved.sh
@@ -25,7 +25,7 @@ part() {
 
 in_node() {
   # Node.js may hang where it compiles beside a collection of garbage
-  timeout 600 node --no-concurrent-recompilation "$here/test/node.js" "$@"
+  timeout 600 node --no-concurrent-recompilation --experimental-vm-modules --no-warnings "$here/test/node.js" "$@"
 }
 
 # The tests find a result that differs, and that there are no vectors.
@@ -85,12 +85,12 @@ packed_script() {
     sort "$at/out" | paste -sd ' ' | grep -x '1 undefined 2'
 }
 
-# The types of what is packed.
+# The types of what is packed, which need none of pages.
 packed_types() {
   local strict=(tsc --noEmit --strict --target es2022 --module nodenext --moduleResolution nodenext)
-  cp "$here"/test/example*.ts "$work/elsewhere" && echo '{ "type": "module" }' > "$work/elsewhere/package.json" &&
-    cd "$work/elsewhere" && "${strict[@]}" --lib es2022 example.ts &&
-    "${strict[@]}" --lib es2022,dom,dom.iterable example_dom.ts
+  cp "$here/test/example.ts" "$work/elsewhere" && echo '{ "type": "module" }' > "$work/elsewhere/package.json" &&
+    cd "$work/elsewhere" && "${strict[@]}" --lib es2022 node_modules/verified-multihash/module.d.ts &&
+    "${strict[@]}" --lib es2022,dom,dom.iterable example.ts
 }
 
 # In a browser, pages show texts: each line of standard input is a page, a tab, and a text.
@@ -137,7 +137,6 @@ part "the WebAssembly for old engines" wasm-validate old_module
 while read -r entry; do
   part "in Node.js, $entry" node in_node "$vectors/verdicts.tsv" "$entry"
 done < <(sed -n 's|.*"default": "./\(.*\)[.]js".*|\1|p' "$here/package.json")
-part "where nothing is compiled" node node --experimental-vm-modules --no-warnings "$here/test/compiled.js"
 part "vectors that differ" node planted
 part "plain JavaScript" node plain
 part "old engines" node old_engine index

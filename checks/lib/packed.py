@@ -123,8 +123,9 @@ def file_errors() -> Iterator[str]:
 
 def npm() -> Fields:
     folder = SOURCE / "bindings/js"
-    names = {path.name.removesuffix(".d.ts") for path in folder.glob("*.d.ts")}
-    entries = {name: {"types": f"./{name}.d.ts", "default": f"./{name}.js"} for name in names}
+    names = (path.stem for path in folder.glob("*.js") if "export * from './api.js'" in path.read_text())
+    types = {name: name if (folder / f"{name}.d.ts").exists() else "index" for name in names}
+    entries = {name: {"types": f"./{of_it}.d.ts", "default": f"./{name}.js"} for name, of_it in types.items()}
     exports: Fields = {"." if name == "index" else f"./{name}": entry for name, entry in entries.items()}
     exports |= {path: path for path in ("./multihash.wasm", "./package.json")}
     connecting = (path for path in folder.glob("*.js") if re.search(r"(?m)^(await )?connect\w*\(", path.read_text()))

@@ -93,3 +93,15 @@ export const wide: MultihashDigest = found;
 found.code = 3;
 // @ts-expect-error Multihash.of makes one
 new multihash.Multihash(18, found.digest);
+
+// A host for workers has: import module from 'verified-multihash/multihash.wasm';
+compiled.connect(await WebAssembly.compileStreaming(fetch('multihash.wasm')));
+
+declare const content: BufferSource;
+export const bytes = multihash.encode(0x12, new Uint8Array(await crypto.subtle.digest('SHA-256', content)));
+const { body } = await fetch('multihashes.bin');
+if (body !== null)
+  for await (const { code } of new multihash.MultihashReader(body, { limit: 64 })) console.log(code);
+export const ofStream = (stream: ReadableStream<Uint8Array>): MultihashReader => new multihash.MultihashReader(stream);
+// @ts-expect-error a stream of texts
+export const ofTexts = (stream: ReadableStream<string>): MultihashReader => new multihash.MultihashReader(stream);
