@@ -187,7 +187,7 @@ if has 10 rt wasm2c=1.0.32 wasm2wat=1.0.32 wat2wasm=1.0.32; then
   test_translation
 fi
 test_here
-has 1 clang && try "fuzzing" bindings/c/fuzz/test.sh
+has 1 clang && try "fuzzing" bindings/c/fuzz.sh
 with_all 1 && on_machine aarch64 aarch64-linux-gnu qemu-aarch64
 with_all 1 && on_machine riscv64 riscv64-linux-gnu qemu-riscv64
 on_machine "armhf, 32 bits" arm-linux-gnueabihf qemu-arm

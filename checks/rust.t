@@ -58,21 +58,43 @@ rust_packed() {
     in_crate cargo test --manifest-path "$packed/multihash-0.19.5/Cargo.toml"
 }
 
+# Writes a program over a library, both of which name upstream's package; the program has the line of the pages too.
+write_program() {
+  local at=$work/repository/bindings/rust/program
+  mkdir -p "$at"/{src,library/src} && cd "$at" || return 1
+  { block_of ../multihash/README.md toml | sed 's,path/of/bindings/rust,..,' && printf '%s\n' '[workspace]' \
+    '[package]' 'name = "program"' 'edition = "2021"' '[dependencies]' 'library.path = "library"' \
+    'multihash = "0.19"'; } > Cargo.toml
+  printf '%s\n' '[package]' 'name = "library"' 'edition = "2021"' '[features]' 'default = ["std"]' \
+    'std = ["multihash/std"]' 'serde = ["multihash/serde-codec"]' '[dependencies]' \
+    'multihash = { version = "0.19.5", default-features = false }' > library/Cargo.toml
+  printf '%s\n' '#![no_std]' 'use multihash::{Error, Multihash};' \
+    'pub fn read(bytes: &[u8]) -> Result<Multihash<64>, Error> { Multihash::read(bytes) }' > library/src/lib.rs
+  cat > src/main.rs << 'END'
+fn main() {
+    assert_eq!(library::read(b"\x12\x03abc").unwrap(), multihash::Multihash::wrap(0x12, b"abc").unwrap());
+    // upstream's package accepts a code of ten bytes
+    let error = library::read(b"\xff\xff\xff\xff\xff\xff\xff\xff\xff\x01\x00").unwrap_err();
+    assert_eq!(error.to_string(), "input bytes exceed maximum");
+}
+END
+}
+
 # The line of the pages replaces upstream's package by this one in a whole dependency graph. A crate that asks for an
 # absent feature is an error, and does not undo this.
 rust_switch() {
-  in_crate cargo test --manifest-path switch/Cargo.toml &&
-    in_crate cargo build --manifest-path switch/client/Cargo.toml --no-default-features || return 1
   local feature
+  (write_program) && in_crate cargo run --manifest-path program/Cargo.toml &&
+    in_crate cargo build --manifest-path program/library/Cargo.toml --no-default-features || return 1
   for feature in scale-codec arb; do
     rejects "see its README" in_crate cargo build -p multihash --features "$feature" || return 1
   done
 }
 
 rust_serde() {
-  in_crate cargo test --features serde --test json &&
+  in_crate cargo test --features serde --test values &&
     in_crate cargo build -p multihash --no-default-features --features serde-codec &&
-    in_crate cargo build --manifest-path switch/client/Cargo.toml --features serde
+    in_crate cargo build --manifest-path program/library/Cargo.toml --features serde
 }
 
 rust_lints() {

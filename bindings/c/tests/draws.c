@@ -1,5 +1,21 @@
-/* Inputs that are drawn, the same ones on every machine. */
+/* Inputs that are drawn: the same ones on every machine, or with FUZZ by libFuzzer. */
 #include "check.h"
+
+#ifdef FUZZ
+
+int LLVMFuzzerTestOneInput(const uint8_t *data, size_t size);
+
+/* The first byte is a limit. The others are what is decoded, and a digest, with the code that the first eight are. */
+int LLVMFuzzerTestOneInput(const uint8_t *data, size_t size)
+{
+    uint64_t code = 0;
+    if (size == 0) return 0;
+    if (size > 8) memcpy(&code, data + 1, 8);
+    check_input(code, data + 1, size - 1, data[0]);
+    return 0;
+}
+
+#else
 
 #define LONGEST 300
 
@@ -69,3 +85,5 @@ void draw_inputs(uint64_t seed, unsigned long count)
         release(input);
     }
 }
+
+#endif

@@ -115,3 +115,98 @@ fn errors() {
     let boxed: Box<dyn std::error::Error + Send + Sync> = cut.into();
     assert!(boxed.downcast::<Error>().is_ok());
 }
+
+/// `serde`: the encoding as bytes, in JSON as an array of numbers.
+#[cfg(feature = "serde")]
+mod json {
+    use super::{of, CODE_MAX};
+    use multihash::Multihash;
+    use serde::de::value::Error;
+    use serde::ser::Impossible;
+    use serde::{Serialize, Serializer};
+
+    #[test]
+    fn json() {
+        let full = of::<4>(CODE_MAX, b"abcd");
+        let text = serde_json::to_string(&full).expect("JSON");
+        assert_eq!(text, "[255,255,255,255,255,255,255,255,127,4,97,98,99,100]");
+        assert_eq!(serde_json::from_str::<Multihash<4>>(&text).expect("a multihash"), full);
+        assert_eq!(full.serialize(BytesAlone), Ok(full.to_bytes()));
+        // a text is accepted for bytes, and for nothing else that this could ask for
+        let found: Multihash<4> = serde_json::from_str(r#""\u0012\u0002ab""#).expect("a multihash");
+        assert_eq!(found, of::<2>(0x12, b"ab"));
+        let error = |text| serde_json::from_str::<Multihash<3>>(text).expect_err("an error").to_string();
+        assert!(error("[18,4,97,98,99,100]").starts_with("Invalid multihash size 4."));
+        assert!(error("[18,1]").starts_with("failed to fill whole buffer"));
+        assert!(error("[18,256]").contains("256"));
+        assert!(error("7").contains("expected a valid Multihash in bytes"));
+    }
+
+    /// A sequence of more numbers than an encoding has is an error before its end, and the longest encoding is decoded.
+    #[test]
+    fn long_sequences() {
+        fn check<const S: usize>(longest: usize) {
+            let value = of::<S>(CODE_MAX, &[7; 255][..S.min(255)]);
+            let text = serde_json::to_string(&value).expect("JSON");
+            assert_eq!(value.encoded_len(), longest);
+            assert_eq!(serde_json::from_str::<Multihash<S>>(&text).expect("the longest"), value);
+            let zeros = format!("[0,0{}", ",0".repeat(longest - 2));
+            let error = |text: String| serde_json::from_str::<Multihash<S>>(&text).expect_err("an error");
+            assert!(error(zeros.clone() + "]").to_string().starts_with("Invalid multihash size"));
+            assert!(error(zeros.clone() + ",").is_eof());
+            let long = error(zeros + ",0,");
+            assert!(long.is_data(), "{long}");
+            assert!(long.to_string().starts_with(&format!("invalid length {}", longest + 1)));
+        }
+        check::<3>(13);
+        check::<127>(137);
+        check::<128>(139);
+        check::<254>(265);
+        check::<255>(266);
+        check::<300>(266);
+    }
+
+    /// A format that has only bytes: what asks for anything else fails.
+    struct BytesAlone;
+
+    macro_rules! others {
+        ($($name:ident ($($type:ty),*) $result:ident;)*) => {
+            $(fn $name(self, $(_: $type),*) -> Result<Self::$result, Error> { unreachable!() })*
+        };
+        (of values: $($name:ident ($($type:ty),*);)*) => {
+            $(fn $name<T: Serialize + ?Sized>(self, $(_: $type,)* _: &T) -> Result<Self::Ok, Error> { unreachable!() })*
+        };
+    }
+
+    type Name = &'static str;
+    type Never = Impossible<Vec<u8>, Error>;
+
+    impl Serializer for BytesAlone {
+        type Ok = Vec<u8>;
+        type Error = Error;
+        type SerializeSeq = Never;
+        type SerializeTuple = Never;
+        type SerializeTupleStruct = Never;
+        type SerializeTupleVariant = Never;
+        type SerializeMap = Never;
+        type SerializeStruct = Never;
+        type SerializeStructVariant = Never;
+
+        fn serialize_bytes(self, bytes: &[u8]) -> Result<Vec<u8>, Error> {
+            Ok(bytes.to_vec())
+        }
+
+        others! {
+            serialize_bool(bool) Ok; serialize_i8(i8) Ok; serialize_i16(i16) Ok; serialize_i32(i32) Ok;
+            serialize_i64(i64) Ok; serialize_u8(u8) Ok; serialize_u16(u16) Ok; serialize_u32(u32) Ok;
+            serialize_u64(u64) Ok; serialize_f32(f32) Ok; serialize_f64(f64) Ok; serialize_char(char) Ok;
+            serialize_str(&str) Ok; serialize_none() Ok; serialize_unit() Ok; serialize_unit_struct(Name) Ok;
+            serialize_unit_variant(Name, u32, Name) Ok; serialize_seq(Option<usize>) SerializeSeq;
+            serialize_tuple(usize) SerializeTuple; serialize_tuple_struct(Name, usize) SerializeTupleStruct;
+            serialize_tuple_variant(Name, u32, Name, usize) SerializeTupleVariant;
+            serialize_map(Option<usize>) SerializeMap; serialize_struct(Name, usize) SerializeStruct;
+            serialize_struct_variant(Name, u32, Name, usize) SerializeStructVariant;
+        }
+        others! { of values: serialize_some(); serialize_newtype_struct(Name); serialize_newtype_variant(Name, u32, Name); }
+    }
+}

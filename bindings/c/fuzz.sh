@@ -1,0 +1,54 @@
+#!/usr/bin/env bash
+# Fuzzes the portable source, by Clang: libFuzzer finds nothing, and a planted bug, which the test vectors do not find.
+#
+#   bindings/c/fuzz.sh
+#   OUT=FOLDER bindings/c/fuzz.sh   builds the target, FOLDER/multihash_fuzzer, and its seeds, and runs nothing
+#
+# CC, CXX, CFLAGS, LIB_FUZZING_ENGINE and WORK are as in OSS-Fuzz, which reads the seeds from the .zip.
+set -euo pipefail
+here=$(dirname "$(readlink -f "${BASH_SOURCE[0]}")")
+read -r -a flags <<< "${CFLAGS:--g -O1 -fsanitize=fuzzer-no-link,address,undefined -fno-sanitize-recover=all}"
+
+# Builds the target of a source, and the seeds, the inputs of the test vectors, in a folder.
+build() {
+  local source=$1 out=$2 work=${WORK:-$2} file
+  mkdir -p "$out" "$work/seeds" "$work/objects"
+  for file in "$here"/tests/{draws,models,buffer}.c "$source/multihash.c"; do
+    "${CC:-clang}" "${flags[@]}" -std=c11 -DFUZZ -DHEAP -Wall -Wextra -I "$here/include" -c "$file" \
+      -o "$work/objects/$(basename "$file" .c).o"
+  done
+  "${CXX:-clang}" "${flags[@]}" "$work"/objects/*.o "${LIB_FUZZING_ENGINE:--fsanitize=fuzzer}" \
+    -o "$out/multihash_fuzzer"
+  python3 - "$here/../../crates/vectors/data/verdicts.tsv" "$work/seeds" << 'END'
+import pathlib, sys
+
+for number, line in enumerate(pathlib.Path(sys.argv[1]).read_text("ascii").splitlines()[1:]):
+    size, data = line.split("\t")[:2]
+    seed = bytes([min(int(size), 255)]) + bytes.fromhex(data.strip("-"))
+    pathlib.Path(sys.argv[2], str(number)).write_bytes(seed)
+END
+  (cd "$work/seeds" && python3 -m zipfile -c "$(readlink -f "$out")/multihash_fuzzer_seed_corpus.zip" .)
+}
+
+if [ -n "${OUT-}" ]; then
+  build "$here/src" "$(readlink -f "$OUT")"
+  exit
+fi
+work=$(mktemp -d)
+trap 'rm -rf "$work"' EXIT
+
+# Runs the target that was built in a folder: the seeds, and then drawn inputs up to a number.
+fuzz() {
+  mkdir -p "$work/$1/drawn" && timeout 300 "$work/$1/multihash_fuzzer" -seed=1 -runs="$2" -len_control=0 -max_len=600 \
+    -artifact_prefix="$work/" "$work/$1/drawn" "$work/$1/seeds" 2> "$work/log"
+}
+
+build "$here/src" "$work/plain"
+fuzz plain 20000 || { cat "$work/log"; exit 1; }
+grep -x 'Done 20000 runs in .*' "$work/log"
+
+cp -r "$here/src" "$work/source"
+sed -i '/w2c_multihash_from_bytes(/s/bytes_length)/bytes_length - (bytes_length > 281))/' "$work/source/multihash.c"
+build "$work/source" "$work/planted"
+fuzz planted 0 || { echo "the test vectors find what is planted, or it cannot run"; exit 1; }
+! fuzz planted 20000 && grep -F -m 1 "not so: same(multihash_from_bytes(bytes, length), " "$work/log"
