@@ -81,7 +81,7 @@ export function connectTo(functions) {
     throw new TypeError(`the module is not multihash.wasm of version ${version}`);
   for (let number = 0; number <= PREFIX_MAX; number++) NUMBERS[number] = BigInt(number);
   memory = new Uint8Array(functions.memory.buffer);
-  const free = (Number(functions.__heap_base.value) + 7) & ~7;
+  const free = Number(functions.__heap_base.value);
   [result, first, output, second] = [0, 64, 352, 624].map((offset) => free + offset);
   words = new Uint32Array(memory.buffer, result, FIRST_WORD + 1);
   [resultAt, firstAt, secondAt, outputAt] = [result, first, second, output].map(BigInt);
@@ -91,7 +91,7 @@ export function connectTo(functions) {
 /** The library's text of a status. */
 function textOf(status) {
   library.multihash_put_status_text(resultAt, status, outputAt, NUMBERS[LENGTH_MAX]);
-  return String.fromCharCode(...memory.subarray(output, output + word(16)));
+  return String.fromCharCode(...memory.subarray(output, output + words[4]));
 }
 
 // ---- arguments
@@ -134,20 +134,15 @@ export function bits64(number, what) {
 // ---- results
 
 /** A number of 64 bits in the result: a bigint only where a number would not be exact. */
-function wide(offset) {
-  const low = words[offset >> 2];
-  const high = words[(offset >> 2) + 1];
+function wide(at) {
+  const low = words[at];
+  const high = words[at + 1];
   if (high === 0) return low;
   return high < 0x200000 ? high * 0x100000000 + low : (BigInt(high) << 32n) | BigInt(low);
 }
 
 /** A code as results have it: a bigint only where a number would not be exact. */
 const resultOf = (code) => (code > Number.MAX_SAFE_INTEGER ? code : Number(code) + 0); // -0 is 0
-
-/** A number of 32 bits in the result: a status, a length or an offset. */
-function word(offset) {
-  return words[offset >> 2];
-}
 
 /** Copies bytes of the module's memory. */
 function copied(at, length) {
@@ -189,11 +184,11 @@ export class MultihashError extends Error {
 Object.defineProperty(MultihashError.prototype, 'name',
   { value: 'MultihashError', writable: true, configurable: true });
 
-/** The error in the result of a decoding, after `taken` bytes. */
-function failure(taken) {
-  const status = STATUSES[word(0)];
-  const size = status === 'invalid_size' ? wide(8) : undefined;
-  const code = status === 'invalid_code' ? wide(16) : undefined;
+/** The error in the result: of a decoding after `taken` bytes, or of an encoding, where the code is given. */
+function failure(taken, given) {
+  const status = STATUSES[words[0]];
+  const size = status === 'invalid_size' ? wide(2) : undefined;
+  const code = status === 'invalid_code' ? (given ?? wide(4)) : undefined;
   return new MultihashError(status, { size, code, taken });
 }
 
@@ -211,8 +206,7 @@ export class Multihash {
 
   /** Makes the multihash of a code and a digest, which is copied. */
   static of(code, digest) {
-    const length = checkedLength(digest);
-    if (length > DIGEST_MAX) encodedLength(code, length); // which throws
+    checkedLength(digest);
     const copy = new Uint8Array(digest); // once: its memory may grow meanwhile
     encodedLength(code, copy.length);
     return new Multihash(MAKING, resultOf(code), copy);
@@ -253,7 +247,7 @@ export class Multihash {
 
 /** What a decoding of the first input found. */
 function found() {
-  return new Multihash(MAKING, wide(16), copied(first + word(24), word(32)));
+  return new Multihash(MAKING, wide(4), copied(first + words[6], words[8]));
 }
 
 // ---- decoding
@@ -263,7 +257,7 @@ export function decode(bytes) {
   const length = put(bytes, first);
   if (length <= PREFIX_MAX) library.multihash_from_bytes(resultAt, firstAt, NUMBERS[length]);
   else library.multihash_from_prefix(resultAt, firstAt, NUMBERS[PREFIX_MAX], BigInt(length));
-  if (word(0) !== 0) throw failure(length);
+  if (words[0] !== 0) throw failure(length);
   return found();
 }
 
@@ -272,8 +266,8 @@ export function read(bytes, limit = DIGEST_MAX) {
   const most = bits64(limit, 'a limit');
   const length = put(bytes, first);
   library.multihash_read_limit(resultAt, firstAt, NUMBERS[Math.min(length, PREFIX_MAX)], most);
-  if (word(0) !== 0) throw failure(word(40));
-  return { multihash: found(), taken: word(40) };
+  if (words[0] !== 0) throw failure(words[10]);
+  return { multihash: found(), taken: words[10] };
 }
 
 /** The same for a plain Uint8Array from an index on; undefined if it has only the start of an encoding. */
@@ -281,10 +275,10 @@ export function readAt(bytes, at, limit) {
   const length = Math.min(bytes.length - at, PREFIX_MAX);
   memory.set(length === bytes.length ? bytes : bytes.subarray(at, at + length), first);
   library.multihash_read_limit(resultAt, firstAt, NUMBERS[length], limit);
-  const status = word(0);
+  const status = words[0];
   if (status === 1 || status === 6) return undefined; // `insufficient` and `unexpected_eof`
-  if (status !== 0) throw failure(word(40));
-  return { multihash: found(), taken: word(40) };
+  if (status !== 0) throw failure(words[10]);
+  return { multihash: found(), taken: words[10] };
 }
 
 /** Decodes the two varints before a digest. */
@@ -293,30 +287,28 @@ export function head(bytes) {
   // four bytes, which suffice for most heads, are copied faster so than by `set`
   words[FIRST_WORD] = bytes[0] | (bytes[1] << 8) | (bytes[2] << 16) | (bytes[3] << 24);
   library.multihash_head(resultAt, firstAt, NUMBERS[Math.min(length, 4)]);
-  if (STATUSES[word(0)] === 'insufficient') {
+  if (STATUSES[words[0]] === 'insufficient') {
     put(bytes, first);
     library.multihash_head(resultAt, firstAt, NUMBERS[Math.min(length, PREFIX_MAX)]);
   }
-  if (word(0) !== 0) throw failure(word(24));
-  return { code: wide(8), digestLength: wide(16), taken: word(24) };
+  if (words[0] !== 0) throw failure(words[6]);
+  return { code: wide(2), digestLength: wide(4), taken: words[6] };
 }
 
 /** Decodes the multihash whose SCALE form is a prefix of the bytes. */
 export function scaleDecode(bytes) {
   const length = put(bytes, first);
   library.multihash_scale_decode(resultAt, firstAt, NUMBERS[Math.min(length, PREFIX_MAX)]);
-  if (word(0) !== 0) throw failure(word(40));
-  return { multihash: found(), taken: word(40) };
+  if (words[0] !== 0) throw failure(words[10]);
+  return { multihash: found(), taken: words[10] };
 }
 
 // ---- encoding
 
 /** The length in the result of an encoding. */
 function made(code) {
-  if (word(0) === 0) return word(16);
-  const status = STATUSES[word(0)];
-  const size = status === 'invalid_size' ? wide(8) : undefined;
-  throw new MultihashError(status, { size, code: status === 'invalid_code' ? code : undefined });
+  if (words[0] !== 0) throw failure(undefined, code);
+  return words[4];
 }
 
 /** Copies a digest to the first input and returns its length as a BigInt. Throws where it is too long. */

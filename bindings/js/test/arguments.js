@@ -30,8 +30,10 @@ function noBytes() {
 function bytesAlone(module) {
   for (const wrong of noBytes()) {
     const what = Object.prototype.toString.call(wrong);
+    const text = what === '[object Uint8Array]' ? undefined : 'bytes have to be a Uint8Array';
     for (const [name, call] of Object.entries(CALLS))
-      if (name !== 'rest' || wrong !== undefined) fails(TypeError, () => call(module, wrong, wrong), `${name} ${what}`);
+      if (name !== 'rest' || wrong !== undefined)
+        fails(TypeError, () => call(module, wrong, wrong), `${name} ${what}`, text);
   }
 }
 
@@ -46,11 +48,13 @@ function numbers(module) {
     limit: (number) => module.read(EXAMPLE, number),
   };
   for (const [name, call] of Object.entries(calls)) {
+    const what = `a ${{ length: 'length', limit: 'limit' }[name] ?? 'code'} has to be`;
     for (const wrong of ['18', null, {}, [18], true, Symbol('code')])
-      fails(TypeError, () => call(wrong), `${name} ${typeof wrong}`);
-    for (const wrong of [-1, 1.5, NaN, Infinity, 2 ** 53, -1n, 1n << 64n])
-      same(fails(RangeError, () => call(wrong), `${name} ${wrong}`).message.split(' has')[0],
-        `a ${{ length: 'length', limit: 'limit' }[name] ?? 'code'}`, name);
+      fails(TypeError, () => call(wrong), `${name} ${typeof wrong}`, `${what} a number or a bigint`);
+    for (const wrong of [-1, 1.5, NaN, Infinity, 2 ** 53])
+      fails(RangeError, () => call(wrong), `${name} ${wrong}`, `${what} a whole number, from 2^53 a bigint`);
+    for (const wrong of [-1n, 1n << 64n])
+      fails(RangeError, () => call(wrong), `${name} ${wrong}`, `${what} from 0 to 2^64 - 1`);
   }
   for (const name of ['encode', 'scaleEncode', 'of', 'encodedLength']) {
     const error = fails(module.MultihashError, () => calls[name](1n << 63n), name);
@@ -221,8 +225,10 @@ function multihashes(module) {
   same(hex(multihash.bytes), hex(EXAMPLE), 'bytes are a copy');
   looseEquals(module);
   same(multihash.narrow(), multihash, 'a code that is a number');
-  fails(RangeError, () => module.Multihash.of(2n ** 53n, EXAMPLE).narrow(), 'a code that is a bigint');
-  fails(TypeError, () => new module.Multihash(Symbol('making'), 22, EXAMPLE), 'constructor');
+  fails(RangeError, () => module.Multihash.of(2n ** 53n, EXAMPLE).narrow(), 'a code that is a bigint',
+    'the code is 2^53 or more');
+  fails(TypeError, () => new module.Multihash(Symbol('making'), 22, EXAMPLE), 'constructor',
+    'Multihash.of(code, digest) makes a multihash');
   same(Object.is(module.Multihash.of(-0, EXAMPLE).code, 0), true, 'code -0');
   const digest = { get: () => (module.decode(module.encode(1, new Uint8Array(40))), EXAMPLE.slice(2)) };
   const busy = Object.create(module.Multihash.prototype, { code: { value: 22 }, digest });
@@ -230,7 +236,7 @@ function multihashes(module) {
   const near = [2n ** 60n, 2n ** 60n + 1n].map((code) => module.Multihash.of(code, EXAMPLE));
   same(`${module.compare(...near)} ${near[0].equals(near[1])}`, '-1 false', 'codes that are the same as a double');
   for (const pair of [[other, { ...other }], [{ ...other }, other]])
-    fails(TypeError, () => module.compare(...pair), 'an object that is no multihash');
+    fails(TypeError, () => module.compare(...pair), 'compare, an object', 'multihashes have to be a Multihash');
   fails(TypeError, () => module.compare(other, withDigest(module, new Uint8Array(300))), 'a digest that is too long');
 }
 
@@ -270,7 +276,7 @@ function errors(module) {
   const others = [null, undefined, 3, {}, new Error('text'), new Error('text', { cause: { status: 'ok' } })];
   for (const value of others) same(module.MultihashError.from(value), undefined, 'from');
   for (const status of ['ok', 'text', 1, undefined])
-    fails(TypeError, () => new module.MultihashError(status), 'no status of an error');
+    fails(TypeError, () => new module.MultihashError(status), 'a wrong status', 'no status of an error');
   for (const [code, text] of [[22, '22'], [2n ** 53n - 1n, '9007199254740991'], [2n ** 53n, '"9007199254740992"']]) {
     const made = module.Multihash.of(code, Uint8Array.of(0, 171));
     const wanted = `{"code":${text},"size":2,"digest":"00ab"}`;
@@ -311,7 +317,8 @@ export async function both() {
   const core = await import(`../core.js?${tally.checks}`); // each time anew
   const { exports } = new WebAssembly.Instance(new WebAssembly.Module(bytes));
   for (const number of [undefined, 1, 9999, 10001, 10100, 20000])
-    fails(TypeError, () => core.connectTo({ ...exports, multihash_version: () => number }), 'another version');
+    fails(TypeError, () => core.connectTo({ ...exports, multihash_version: () => number }), `version ${number}`,
+      `the module is not multihash.wasm of version ${core.version}`);
   fails(RangeError, () => core.connectTo({ ...exports, memory: {} }), 'no memory');
   const later = core.connectLater(bytes);
   core.connect(bytes);
@@ -320,6 +327,8 @@ export async function both() {
     same(hex(multihash.bytes), hex(Uint8Array.of(18, 4, byte, byte, byte, byte)), 'connected twice');
     await later;
   }
+  core.connect(); // nothing is compiled once more
+  await core.connectLater();
 }
 
 /** A call leaves nothing on the module's stack. */

@@ -16,12 +16,13 @@ export function same(found, wanted, what) {
   if (found !== wanted) tally.errors.push(`${what}: ${String(found)}, wanted ${String(wanted)}`);
 }
 
-/** The error of a call, which has to be of that class. */
-export function fails(kind, call, what) {
+/** The error of a call, which has to be of that class, and to have that text if one is given. */
+export function fails(kind, call, what, text) {
   try {
     call();
   } catch (error) {
     same(error.constructor.name, kind.name, what);
+    if (text) same(error.message, text, what);
     return error;
   }
   same('no error', kind.name, what);

@@ -150,9 +150,9 @@ async function badSources(module, stream) {
   for (const text of [await drained(texts), await drained(texts)]) {
     same(`${text.error?.name} ${text.found.length} ${text.rest.length}`, 'TypeError 0 9', 'a chunk that is text');
   }
-  for (const source of [null, 3, 'ab', [stream], { [Symbol.asyncIterator]: () => null },
-    { [Symbol.asyncIterator]: 3 }]) {
-    fails(TypeError, () => new module.MultihashReader(source), 'a source');
+  for (const source of [null, 3, 'ab', [stream], { [Symbol.asyncIterator]: () => null }]) {
+    fails(TypeError, () => new module.MultihashReader(source), 'a source',
+      'the source has to be a ReadableStream or an async iterable');
   }
   const options = [[RangeError, { limit: -1 }], [RangeError, { limit: 0.5 }], [TypeError, { limit: '64' }],
     [TypeError, { rest: 'ab' }]];
