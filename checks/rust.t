@@ -14,17 +14,19 @@ in_crate() {
     RUSTDOCFLAGS="-D warnings" bindings/rust/offline.sh "$work" "$@"
 }
 
-# The tests pass with and without features, the pages have no warnings.
+# The tests pass with and without features, the pages have no warnings, and need no library on docs.rs.
 rust_binding() {
-  in_crate cargo doc --no-deps && in_crate cargo test --no-default-features &&
+  in_crate DOCS_RS=1 MULTIHASH_C_LIB_DIR=none cargo doc --no-deps && in_crate cargo test --no-default-features &&
     in_crate cargo test --no-default-features --features alloc && in_crate cargo test
 }
 
 # A clone without archives has the portable source, each file of which is watched. Another compiler can build it too,
-# also for a target without a C library, for which Rust's core is not installed here. A big-endian machine gets it too.
+# also for a target without a C library, for which Rust's core is not installed here. Another system, byte order or width
+# of addresses than the archive of the processor is for gets it too.
 rust_source() {
   local c=$work/repository/bindings/c target flags file
-  mv "$c/prebuilt" "$work/kept" && in_crate cargo test || return 1
+  mv "$c/prebuilt" "$work/kept" && in_crate cargo test &&
+    grep '"-O2".*"-std=c11"' "$work"/target/debug/build/multihash_c-*/output || return 1
   for file in "$c"/src/*.[ch] "$c"/include/*; do
     cp -p "$file" "$work/file" && echo '#error planted' >> "$file" && rejects "#error planted" in_crate cargo build &&
       cp -p "$work/file" "$file" || return 1
@@ -32,9 +34,10 @@ rust_source() {
   in_crate cargo clean -p multihash_c && rejects "no-compiler" in_crate CC=no-compiler cargo build &&
     mv "$work/kept" "$c/prebuilt" || return 1
   [ -n "$(type -P clang)" ] || return 0
-  for target in thumbv7em-none-eabi wasm32-unknown-unknown aarch64_be-unknown-linux-gnu; do
+  for target in thumbv7em-none-eabi wasm32-unknown-unknown x86_64-unknown-none \
+    aarch64_be-unknown-linux-gnu x86_64-unknown-linux-gnux32; do
     flags=
-    [ "$target" != aarch64_be-unknown-linux-gnu ] || flags=-ffreestanding # here it has no headers of a C library
+    [[ $target != *-linux-* ]] || flags=-ffreestanding # here it has no headers of a C library
     rejects "can't find crate for \`core\`" in_crate CC=clang AR=ar CFLAGS=$flags cargo build -p multihash_c \
       --no-default-features --target "$target" &&
       [ -n "$(find "$work/target/$target" -name '*multihash.o')" ] || return 1

@@ -16,7 +16,7 @@ to=
 if [ $# = 2 ]; then mkdir -p "$2" && to=$(readlink -f "$2") || exit 2; fi
 # shellcheck source=checks/lib/tap.sh
 . "$here/../../checks/lib/tap.sh"
-plan 20
+plan 18
 set -o pipefail
 to=${to:-$work}
 header=$PWD/bindings/c/include/multihash.h
@@ -73,20 +73,14 @@ imports() {
 unit_tests() {
   local tests=$1
   shift
-  (cd "$to" && env "$@" timeout 600 "$python" -m unittest discover -s "$tests") 2> "$to/unit.log"; local status=$?
+  (cd "$to" && env "$@" timeout 600 "$python" -m unittest discover -v -s "$tests") 2> "$to/unit.log"; local status=$?
   cat "$to/unit.log"
   [ $status = 0 ] && grep -E '^Ran [1-9][0-9]* tests' "$to/unit.log"
 }
 
-# Each allocation of each call fails once, in the tests too, which skip this without CPython's module _testcapi.
-failing_allocations() {
-  (cd "$here/tests" && "$python" -m unittest -v test_memory.Memory.test_failing_allocations) 2>&1 | tee "$to/memory.log"
-  grep '^test_failing_allocations .* ok$' "$to/memory.log"
-}
-
-# Without that module they are skipped.
-skipped_allocations() {
-  mkdir "$to/none" && echo 'raise ImportError' > "$to/none/_testcapi.py" && PYTHONPATH=$to/none failing_allocations
+# All tests, also that of failing allocations, which is skipped without CPython's module _testcapi.
+all_tests() {
+  unit_tests "$here/tests" && grep '^test_failing_allocations .* ok$' "$to/unit.log"
 }
 
 # The sdist is all that is needed: its own tests run too. What is in the folders above it is not used.
@@ -173,21 +167,19 @@ types() {
     grep 'Found 5 errors' wrong.log
 }
 
-has 20 cc "$PYTHON" || exit 0
+has 18 cc "$PYTHON" || exit 0
 "$PYTHON" -c 'import build, setuptools, venv, wheel' 2> "$work/log" ||
-  { leave_out "build, setuptools, venv or wheel is not installed" 20 && exit 0; }
+  { leave_out "build, setuptools, venv or wheel is not installed" 18 && exit 0; }
 try "the sdist and the wheel, built twice: 1 comparison" builds
 try "the module without warnings" without_warnings
 has 1 objcopy ar && try "archives" looks_at_archive
 try "an environment" "$PYTHON" -m venv --clear --system-site-packages "$to/venv"
 try "the wheel, installed" imports "$to"/dist/*.whl
-try "the tests" unit_tests "$here/tests"
 if "$python" -c 'import _testcapi' 2> "$work/log"; then
-  try "failing allocations" failing_allocations
+  try "the tests: 2 comparisons" all_tests
 else
   leave_out "_testcapi is not installed" 1
 fi
-try "failing allocations, skipped" rejects "... skipped" skipped_allocations
 try "the tests with the debug allocator" unit_tests "$here/tests" PYTHONMALLOC=debug
 has 1 mypy stubtest && try "types: 3 comparisons" types
 try "the times beside plain Python" "$python" -I "$here/beside_plain.py"

@@ -193,7 +193,7 @@ def binding_errors(files: Files, crate: Declared) -> Iterator[str]:
         ("TypeScript's statuses", re.findall(r"\| '(\w+)'", of_types), statuses[1:]),
         ("Rust's structs", structs_of(items(files[f"{RUST}/src/ffi.rs"])), crate.structs),
         ("Rust's version", group(r'\nversion = "(.*)"\n', files[f"{RUST}/Cargo.toml"]), crate.version),
-        ("Python's version", group(r'\n__version__ = "(.*)"\n', files[f"{PYTHON}/_library.py"]), crate.version),
+        ("Python's version", group(r'\n__version__ = "(.*)"\n', files[f"{PYTHON}/__init__.py"]), crate.version),
         ("JavaScript's version", group(r'\n  "version": "(.*)",\n', files[f"{JS}/package.json"]), crate.version),
     ):
         if found != wanted:

@@ -30,7 +30,7 @@ TABLES = {
     (JS, "Call | What it does"): (TYPES, r"^export function (\w+)\("),
     (JS, "Call | Time"): ("bindings/js/beside_plain.js", r"^(?:    |const names = .*)'([^']+)'(?:: \(|\];)"),
     (JS, "`status` | When"): (TYPES, r"^  \| '(\w+)'"),
-    (PYTHON, "`status` | Meaning"): ("bindings/python/verified_multihash/_library.py", r"^    ([A-Z_]+) = \d"),
+    (PYTHON, "`status` | Meaning"): ("bindings/python/verified_multihash/__init__.py", r"^    ([A-Z_]+) = \d"),
     (PYTHON, "Call | this package"): ("bindings/python/beside_plain.py", r'^        "([^"]+)": (?:lambda|\w+\()'),
     (RUST, "Feature | What it adds"): ("bindings/rust/multihash/Cargo.toml", r"^([\w-]+) = \["),
     (RUST, "Call | a code of one byte"): (

@@ -5,12 +5,12 @@ Input that is no multihash, and a code or a digest that no multihash has, is a M
 """
 from __future__ import annotations
 
+import enum
 import io
 from typing import TYPE_CHECKING, AsyncIterator, Iterator, NamedTuple, Optional, Protocol, Union
 
 from . import _core
 from ._core import Multihash, compare, decode, encode, encoded_len, read, scale_decode, scale_encode
-from ._library import DIGEST_MAX, HEAD_MAX, LENGTH_MAX, SCALE_LENGTH_MAX, Status, __version__
 
 if TYPE_CHECKING:
     from _typeshed import ReadableBuffer as Buffer
@@ -22,6 +22,27 @@ __all__ = [
     "MultihashError", "MultihashReader", "Status", "__version__", "compare", "decode", "encode", "encoded_len", "head",
     "read", "read_from", "scale_decode", "scale_encode",
 ]  # fmt: skip
+
+# The numbers of the C library.
+__version__ = "1.0.0"
+
+DIGEST_MAX = 255
+HEAD_MAX = 18
+LENGTH_MAX = 266
+SCALE_LENGTH_MAX = 264
+
+
+class Status(enum.IntEnum):
+    """The result of a call, with the numbers of the C library."""
+
+    OK = 0
+    INSUFFICIENT = 1  # the input ends within or before a varint
+    OVERFLOW = 2  # a varint has more than nine bytes, as every number of 2^63 or more needs
+    NOT_MINIMAL = 3  # a varint of more than one byte ends in a zero byte
+    INVALID_SIZE = 4  # a digest is too long: `size` is its length; or bytes follow the encoding: `size` is their number
+    INVALID_CODE = 5  # `code` is 2^63 or more
+    UNEXPECTED_EOF = 6  # the input ends within the digest, or before it in the SCALE form
+    NO_ROOM = 7
 
 
 class MultihashError(ValueError):

@@ -14,8 +14,7 @@ use std::path::{Path, PathBuf};
 const ARCHIVE: &str = "libmultihash_c.a";
 
 fn main() {
-    println!("cargo:rerun-if-changed=build.rs");
-    if env::var_os("DOCS_RS").is_some() {
+    if variable("DOCS_RS").is_some() {
         return; // pages need no library
     }
     if let Some(directory) = variable("MULTIHASH_C_LIB_DIR").map(PathBuf::from) {
