@@ -21,8 +21,8 @@ rust_binding() {
 }
 
 # A clone without archives has the portable source, each file of which is watched. Another compiler can build it too,
-# also for a target without a C library, for which Rust's core is not installed here. Another system, byte order or width
-# of addresses than the archive of the processor is for gets it too.
+# also for a target without a C library, for which Rust's core is not installed here. Another system, byte order or
+# width of addresses than the archive of the processor is for gets it too.
 rust_source() {
   local c=$work/repository/bindings/c target flags file
   mv "$c/prebuilt" "$work/kept" && in_crate cargo test &&
