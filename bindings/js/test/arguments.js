@@ -331,20 +331,7 @@ export async function both() {
   await core.connectLater();
 }
 
-/** A call leaves nothing on the module's stack. */
-function repeated(module) {
-  const value = module.decode(EXAMPLE);
-  for (let left = 1e5; left > 0; left--) {
-    const { code, taken } = module.head(EXAMPLE);
-    const { multihash } = module.read(module.encode(code, value.digest));
-    const { multihash: again } = module.scaleDecode(module.scaleEncode(code, multihash.digest));
-    if (module.compare(module.decode(EXAMPLE), again) !== 0 || module.encodedLength(code, 32) !== taken + 32) break;
-  }
-  same(hex(value.bytes), hex(EXAMPLE), 'after 100,000 calls');
-}
-
 export function hostile(module) {
-  repeated(module);
   bytesAlone(module);
   numbers(module);
   views(module);

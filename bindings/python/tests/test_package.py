@@ -184,8 +184,9 @@ class Arguments(unittest.TestCase):
             self.assertEqual(self.error_of(vm.decode, data)[1:], (0, 0, text))
             self.assertIs(MultihashError(self.error_of(vm.decode, data)[0]).is_incomplete, is_incomplete)
         self.assertEqual([MultihashError(n).is_incomplete for n in (4, 5, 7)], [False] * 3)
-        for wrong in (0, 8, -1):
-            self.assertRaises(ValueError, MultihashError, wrong)
+        self.assertEqual(MultihashError(1).args, (1, 0, 0, 0))
+        for wrong, text in ((0, "^OK is the status of no error$"), (8, ""), (-1, "")):
+            self.assertRaisesRegex(ValueError, text, MultihashError, wrong)
 
 
 class Values(unittest.TestCase):
