@@ -11,7 +11,7 @@ has_totals() {
   diff - <(echo "status $1" && tail -n 1 "$2" && awk '/^test result: ok\. / { tests = $4 }
     /^rt: [a-z_]+: its tests passed$/ { print substr($2, 1, length($2) - 1), tests }' "$2" | sort) << 'LIST'
 status 0
-11 passed, 0 failed
+12 passed, 0 failed
 mh_show 6
 tests_streams 31
 tests_sweeps 21

@@ -15,7 +15,7 @@ from rt_source import Item, items
 
 TOP = Path(__file__).resolve().parents[2]
 PAGE = TOP / "docs" / "CONTRACTS.md"
-PLACES = ("examples/src/headline.rt", "multihash", "multihash_c", "mh_show", "storage", "examples")
+PLACES = ("headline", "multihash", "multihash_c", "mh_show", "storage", "examples")
 # attributes that no caller can see
 OF_BODIES = re.compile(r"#\[(allow|cold|inline|tactic)\b")
 INTRODUCTION = """\

@@ -1,3 +1,2 @@
-pub mod HeadlineLemmas
 pub mod IdentifierLemmas
 pub mod IdentifierVectors

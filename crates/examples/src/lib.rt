@@ -5,7 +5,6 @@ pub mod any_reader;
 pub mod code_table;
 pub mod content_id;
 pub mod forms;
-pub mod headline;
 pub mod merkle;
 pub mod peer_id;
 pub mod retries;

@@ -1,6 +1,8 @@
 //! The main theorems, as the contracts of four functions. Each returns what it made, so a body that does
 //! not do the work fails its contract. No contract can state that an allocation succeeds: `same` and
 //! `list_through` may run out of memory, and nothing else stops `same`.
+#![tactic(auto)]
+
 ghost use Rattle.std.specs.Prelude.{◌≡◌, ◌<◌, ◌⊎◌, ◌↔◌, ℕ, List, ◌+◌, ◌++◌, map, All, Some, IfSome, IfOk, IfErr, IsOkAnd, IsErr, IsErrAnd, IsTrue, MatchResult};
 ghost use Rattle.multihash.specs.Bytes.{ExactlyOne, IsPrefix};
 ghost use Rattle.multihash.specs.Pair.{Pair, FitsBuffer};
