@@ -14,7 +14,8 @@ ConsumesHead content n = InTurn ConsumesVarint
 
 -- the error of a section that ends within its identifier
 abbrev pub too_long : ContentIdError
-too_long = Rejected (of_io (record { kind = Other; text = codes "the identifier is longer than its section" }))
+too_long =
+    Rejected (of_io (record { kind = Other; text = codes "the identifier is longer than its section" }))
 
 -- reading the length or the identifier failed, or the identifier is longer than the length
 abbrev pub SectionFails : ℕ → ℕ → ℕ → ContentIdError → Option (List ℕ) → Option (List ℕ) → Type 0

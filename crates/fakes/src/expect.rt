@@ -1,7 +1,7 @@
 //! Checks of tests, and kinds of errors. A library may not end the process, so each check returns what is
 //! wrong, and the macros call `expect` on that in the test. A check is proved once, while `assert!` is proved
-//! at each call. Each borrow of a local and each branch makes the proof of a test longer: so a note is a value
-//! and no formatted text, and `expect_ok!` replaces `?`.
+//! at each call. Each borrow of a local and each branch makes the proof of a test longer: so a note is a
+//! value and no formatted text, and `expect_ok!` replaces `?`.
 ghost use Rattle.multihash.specs.Fault.{IsOwnFault};
 
 use multihash::{Error, no_std_io};

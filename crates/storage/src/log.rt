@@ -53,8 +53,8 @@ pub fn write_entry<const S: usize, W: Write>(
 ///
 /// # Errors
 ///
-/// - [`EntryError::Failed`] with the errors of [`Multihash::read`] and of `varint::read`; the parts before the
-///   one that failed were consumed, and of that one what those calls consume.
+/// - [`EntryError::Failed`] with the errors of [`Multihash::read`] and of `varint::read`; the parts before
+///   the one that failed were consumed, and of that one what those calls consume.
 /// - [`EntryError::TooLong`] with the block's length if that is above `limit`; the multihash and the length
 ///   were consumed.
 /// - [`EntryError::Failed`] with out of memory, with an unexpected end within the block, or with the reader's

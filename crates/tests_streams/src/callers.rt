@@ -248,8 +248,8 @@ impl std::io::Read for Std<'_> {
     }
 }
 
-// Its input is not known, so no contract states what is read. It fails once, and nothing is lost. A call of the
-// inner reader returns at most `most` bytes, and the buffer of each call has `room`.
+// Its input is not known, so no contract states what is read. It fails once, and nothing is lost. A call of
+// the inner reader returns at most `most` bytes, and the buffer of each call has `room`.
 fn expect_std(rt: &impl Abort, bytes: &[u8], (most, room): (usize, usize), at: usize) {
     let most = most.max(1);
     let inner = FailAt::new(Cuts::new(bytes, most), at, ErrorKind::LINK_DOWN);

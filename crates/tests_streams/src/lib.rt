@@ -1,5 +1,5 @@
-//! Tests of streams: the readers and writers of the library, lists, the functions of `examples` and `storage`,
-//! and what the tests stand on.
+//! Tests of streams: the readers and writers of the library, lists, the functions of `examples` and
+//! `storage`, and what the tests stand on.
 #![tactic(auto)]
 
 #[cfg(test)]

@@ -1,5 +1,5 @@
-//! Known calls of readers and writers, and of lists. And what the tests stand on: `is_rejected` and `is_failed`
-//! return false for each other error and for none.
+//! Known calls of readers and writers, and of lists. And what the tests stand on: `is_rejected` and
+//! `is_failed` return false for each other error and for none.
 use fakes::expect::{ErrorKind, is_failed, is_rejected};
 use fakes::streams::{Cuts, Drip, FailAt};
 use fakes::{check, check_eq, expect_bytes, expect_ok, expect_rejected};

@@ -1,4 +1,5 @@
-//! Known values of `storage` and `examples`, that their errors are printed, and that each block is hashed once.
+//! Known values of `storage` and `examples`, that their errors are printed, and that each block is hashed
+//! once.
 use crate::callers::SECTION;
 use examples::content_id::ContentIdError;
 use examples::peer_id::PeerError;
@@ -170,8 +171,8 @@ fn time_of(rt: &(impl Abort + CpuClock), log: &[u8]) -> u128 {
     end.saturating_sub(start).as_micros()
 }
 
-// Each block is hashed once: the time of 101 entries is not that of the long one 101 times. One of three tries
-// shows it, since a busy machine slows a try down.
+// Each block is hashed once: the time of 101 entries is not that of the long one 101 times. One of three
+// tries shows it, since a busy machine slows a try down.
 #[test]
 fn each_block_is_hashed_once(rt: HostRuntime) {
     let short = log_of(&rt, rt.alloc(), 1 << 13, 1);

@@ -1,6 +1,7 @@
 //! What is written for each length of a digest, in each form: into slices of the exact length, into shorter
-//! ones, which are filled, and by few bytes per call. Contracts state the bytes in a vector or a `SliceWriter`. And
-//! that memory is available for each length, each usual code and each count, and exactly the promised capacity.
+//! ones, which are filled, and by few bytes per call. Contracts state the bytes in a vector or a
+//! `SliceWriter`. And that memory is available for each length, each usual code and each count, and exactly
+//! the promised capacity.
 ghost use Rattle.std.specs.Prelude.{◌<◌, ◌^◌};
 
 use fakes::expect::{ErrorKind, is_rejected};

@@ -1,5 +1,5 @@
-//! Failing allocations. A test whose name begins with `allocating` passes if none fails. If one does, it checks
-//! what is left, and fails with `FAILED`: `checks/memory.t` makes each fail in turn, and counts them.
+//! Failing allocations. A test whose name begins with `allocating` passes if none fails. If one does, it
+//! checks what is left, and fails with `FAILED`: `checks/memory.t` makes each fail in turn, and counts them.
 ghost use Rattle.std.specs.Prelude.{◌<◌, ◌^◌, length};
 
 use crate::values::hash_of;

@@ -1,5 +1,5 @@
-//! Known values: their forms, comparing, hashing, truncating and resizing. Tables are lines of one text, since
-//! one in Rattle needs a proof for each row.
+//! Known values: their forms, comparing, hashing, truncating and resizing. Tables are lines of one text,
+//! since one in Rattle needs a proof for each row.
 ghost use Rattle.std.specs.Prelude.{◌<◌, ◌^◌};
 
 use fakes::expect::{ErrorKind, is_rejected};

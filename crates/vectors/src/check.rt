@@ -113,8 +113,9 @@ impl Check {
 }
 
 impl Reading {
-    // Whether this is the result, and the listed number of bytes was consumed. The line of an incomplete input lists
-    // none: all bytes have to be consumed if it ends within a varint, and at least both varints if within the digest.
+    // Whether this is the result, and the listed number of bytes was consumed. The line of an incomplete
+    // input lists none: all bytes have to be consumed if it ends within a varint, and at least both varints
+    // if within the digest.
     fn is_found<const S: usize>(
         &self,
         found: &Result<Multihash<S>, Error>,
@@ -154,8 +155,8 @@ impl Reading {
     }
 }
 
-// Of an input that ends within a varint all bytes are consumed, of one that ends within the digest both varints:
-// with a byte less it is not found.
+// Of an input that ends within a varint all bytes are consumed, of one that ends within the digest both
+// varints: with a byte less it is not found.
 #[test]
 fn incomplete_inputs_are_consumed(rt: HostRuntime) {
     let input = [0x92, 1, 2, 7];
