@@ -9,16 +9,16 @@ use Rattle.multihash.specs.Varint.{IsVarint}
 use Rattle.multihash.specs.Reading.{Consumes}
 use Rattle.multihash.specs.Consuming.{ConsumesVarint}
 use Rattle.multihash.proofs.CallingLemmas.{number_read, number_found, exact_found, read_of_encoding, head_unique, head_no_error, head_of_encoding}
-use Rattle.multihash.proofs.Forms.StreamLemmas.{part_read}
-use Rattle.multihash.proofs.Readings.ReadingLemmas.{Consumes-concatenated}
+use Rattle.multihash.proofs.StreamLemmas.{part_read}
+use Rattle.multihash.proofs.ReadingLemmas.{Consumes-concatenated}
 use Rattle.multihash.proofs.EncodingLemmas.{digest_fits, encoding_unique, encoding_same}
-use Rattle.multihash.proofs.Varints.VarintLemmas.{same_number, varint_unique}
+use Rattle.multihash.proofs.VarintLemmas.{same_number, varint_unique}
 use Rattle.examples.specs.ContentId.{Content, version_0, version_1, content_of, IsContentId, FitsContentId, HashFails, ContentIdFails}
 use Rattle.examples.specs.declared.content_id.ContentId.{ContentId}
 use Rattle.examples.specs.declared.content_id.ContentId.TheVariants.{V0, V1}
 use Rattle.examples.specs.declared.content_id.ContentIdError.{ContentIdError}
 use Rattle.multihash.specs.Verdict.{malformed, HasHead}
-use Rattle.multihash.proofs.Readings.VerdictLemmas.{verdict_unique}
+use Rattle.multihash.proofs.VerdictLemmas.{verdict_unique}
 use Rattle.examples.specs.PeerId.{PeerFails}
 use Rattle.examples.specs.declared.peer_id.PeerError.{PeerError}
 use Rattle.examples.specs.declared.peer_id.PeerError.TheVariants.{Malformed, NotAllowed, OtherLength}

@@ -5,10 +5,10 @@ use Rattle.multihash.specs.Bytes.{place_value}
 use Rattle.multihash.specs.Pair.{Pair, FitsBuffer}
 use Rattle.multihash.specs.Encoding.{IsEncoding}
 use Rattle.multihash.specs.Varint.{IsVarint, varint_limit}
-use Rattle.multihash.proofs.Examples.KnownVectors.{all_below, varint_1, varint_2}
-use Rattle.multihash.proofs.Readings.ReadingLemmas.{Consumes-told}
-use Rattle.multihash.proofs.Varints.VarintLemmas.{same_number}
-use Rattle.multihash.proofs.Varints.VarintWriteLemmas.{one_byte}
+use Rattle.multihash.proofs.KnownVectors.{all_below, varint_1, varint_2}
+use Rattle.multihash.proofs.ReadingLemmas.{Consumes-told}
+use Rattle.multihash.proofs.VarintLemmas.{same_number}
+use Rattle.multihash.proofs.VarintWriteLemmas.{one_byte}
 use Rattle.std.specs.Prelude.{codes}
 use Rattle.std.specs.Fmt.{digits}
 use Rattle.examples.specs.ContentId.{content_error_text, version_0, version_1, IsContentId, FitsContentId, HashFails, ContentIdFails, HasTrailingBytes}

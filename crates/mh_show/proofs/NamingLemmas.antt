@@ -6,7 +6,7 @@ use Rattle.std.proofs.lemmas.List.Elements.{All-head, All-tail}
 use Rattle.hex.specs.Hex.{hex_digit_value, is_hex_digit, pair_value, decode_pairs, decode_of}
 use Rattle.hex.proofs.Pairs.{cons_byte, decode_pairs-ok_pair}
 use Rattle.hex.proofs.HexLemmas.{decode_of-even, decode_of-ok, decode_of-same}
-use Rattle.multihash.proofs.Forms.JsonLemmas.{some_value}
+use Rattle.multihash.proofs.JsonLemmas.{some_value}
 use Rattle.mh_show.specs.Shown.{newline, IsLine, NamesByte, NamesBytes}
 
 pub line_unique : (text a b : List ℕ) → IsLine a text → IsLine b text → a ≡ b

@@ -7,7 +7,7 @@ use Rattle.multihash.specs.Bytes.{IsPrefix, IsStrictPrefix}
 use Rattle.multihash.specs.Verdict.{Verdict, accepted, HasWholeVerdict}
 use Rattle.multihash.specs.Refusal.{Refusal}
 use Rattle.multihash.specs.Outcome.{IsErrorOf}
-use Rattle.multihash.proofs.Readings.VerdictLemmas.{whole_verdict_unique}
+use Rattle.multihash.proofs.VerdictLemmas.{whole_verdict_unique}
 use Rattle.mh_show.specs.declared.run.RunError.{RunError}
 use Rattle.mh_show.specs.declared.run.RunError.TheVariants.{Input, NotShown, Output}
 use Rattle.mh_show.specs.declared.show.ShowError.TheVariants.{NotHex, Refused, Memory}

@@ -9,7 +9,7 @@ use Rattle.multihash.specs.Streams.{AreConcatenated, ConsumesPairs, StopsAfterPa
 use Rattle.multihash.specs.Varint.{VarintError, insufficient, IsVarint}
 use Rattle.multihash.specs.Verdict.{Verdict, accepted, invalid_size, malformed, BeginsWithSize, HasHead, HasVerdict, HasWholeVerdict}
 use Rattle.multihash.specs.Consuming.{ConsumesVarint, ConsumesAtVarintError, FailsBy, VarintFails, ExactFails}
-use Rattle.multihash.proofs.Readings.SettlingLemmas.{error_of_part}
+use Rattle.multihash.proofs.SettlingLemmas.{error_of_part}
 use Rattle.multihash.specs.Fault.{Fault, IsOwnFault, IsUnexpectedEof}
 use Rattle.multihash.specs.Reading.{Consumes, ConsumesFewerThan, HasFewerThan}
 use Rattle.multihash.specs.Scale.{IsScale, HasScaleVerdict}
@@ -20,11 +20,11 @@ use Rattle.multihash.specs.Refusal.{Refusal, of_io, of_varint, IsIo, IsEof, IsOu
 use Rattle.multihash.specs.Outcome.{IsErrorOf, IsResultOf}
 use Rattle.multihash.specs.Multihash.{Fields, pair_of}
 use Rattle.multihash.proofs.WritingLemmas.{slice_writer_has_room}
-use Rattle.multihash.proofs.Readings.ReadingLemmas.{Consumes-told, Consumes-concatenated, IfSome-consumed}
-use Rattle.multihash.proofs.Readings.VerdictLemmas.{verdict_unique, whole_verdict_unique}
-use Rattle.multihash.proofs.Varints.VarintLemmas.{number_no_error, same_number}
-use Rattle.multihash.proofs.Forms.ScaleLemmas.{scale_split, scale_verdict_unique}
-use Rattle.multihash.proofs.Forms.StreamLemmas.{part_read, next_part, parts_unique}
+use Rattle.multihash.proofs.ReadingLemmas.{Consumes-told, Consumes-concatenated, IfSome-consumed}
+use Rattle.multihash.proofs.VerdictLemmas.{verdict_unique, whole_verdict_unique}
+use Rattle.multihash.proofs.VarintLemmas.{number_no_error, same_number}
+use Rattle.multihash.proofs.ScaleLemmas.{scale_split, scale_verdict_unique}
+use Rattle.multihash.proofs.StreamLemmas.{part_read, next_part, parts_unique}
 use Rattle.multihash.proofs.EncodingLemmas.{encoding_same, encoding_unique}
 
 -- reading that many pairs of a stream did not stop at an error

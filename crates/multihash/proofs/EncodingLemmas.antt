@@ -7,9 +7,9 @@ use Rattle.multihash.specs.Encoding.{IsEncoding, varint_of, encoding_of}
 use Rattle.std.proofs.lemmas.List.{take_at, append_cancel_left, append_cancel_right, drop-replicate, length-take}
 use Rattle.std.proofs.lemmas.List.Elements.{All-append, All-push, All-same, All-map, All-head}
 use Rattle.multihash.specs.Bytes.{IsBytes}
-use Rattle.multihash.proofs.Varints.DigitLemmas.{All-append_left, All-append_right}
-use Rattle.multihash.proofs.Varints.VarintLemmas.{varint_bytes, varint_longest, varint_unique, front_within, same_number}
-use Rattle.multihash.proofs.Varints.VarintWriteLemmas.{varint_exists, is_varint_of}
+use Rattle.multihash.proofs.DigitLemmas.{All-append_left, All-append_right}
+use Rattle.multihash.proofs.VarintLemmas.{varint_bytes, varint_longest, varint_unique, front_within, same_number}
+use Rattle.multihash.proofs.VarintWriteLemmas.{varint_exists, is_varint_of}
 use Rattle.std.specs.List.{All}
 use Rattle.multihash.specs.Streams.{AreConcatenated}
 use Rattle.multihash.specs.Multihash.{Fields, pair_of}

@@ -4,7 +4,7 @@ ghost use Rattle.std.specs.List.{list_all};
 ghost use Rattle.serde_json.specs.View.{view};
 ghost use Rattle.multihash.specs.Encoding.{IsEncoding};
 ghost use Rattle.multihash.specs.Json.{IsByteArray, IsJsonList};
-ghost use Rattle.multihash.specs.Private.Members.{byte_of_data, member_bytes, is_byte, AppendsMembers, AppendsMembers-none, AppendsMembers-concatenated};
+ghost use Rattle.multihash.specs.Private.{byte_of_data, member_bytes, is_byte, AppendsMembers, AppendsMembers-none, AppendsMembers-concatenated};
 ghost use Rattle.multihash.specs.Verdict.{Verdict, HasWholeVerdict};
 ghost use Rattle.multihash.specs.Fault.{IsOutOfMemoryFault};
 ghost use Rattle.multihash.specs.Refusal.{IsNotBytes, IsOutOfMemory};
@@ -151,7 +151,7 @@ impl Read for ByteMembers<'_> {
 
     ghost failures = { λ _. 0 };
 
-    #[tactic(auto, using(crate::proofs::Forms::JsonLemmas::first_member))]
+    #[tactic(auto, using(crate::proofs::JsonLemmas::first_member))]
     fn read(&mut self, buf: &mut [u8]) -> Result<usize, no_std_io::Error> {
         if buf.is_empty() {
             return Ok(0);

@@ -170,7 +170,7 @@ pub(crate) fn write_in_range<W: Write>(n: u64, w: &mut W) -> Result<usize, no_st
 
 // The varint of a number that has two bytes.
 #[inline(always)]
-#[tactic(auto, using(crate::proofs::Varints::VarintWriteLemmas::two_byte))]
+#[tactic(auto, using(crate::proofs::VarintWriteLemmas::two_byte))]
 fn two_bytes(n: u64) -> [u8; 2]
     requires least { 128 ≤ n }
     requires most { n < 2 ^ 14 }
@@ -181,7 +181,7 @@ fn two_bytes(n: u64) -> [u8; 2]
 
 // The varint of a number that has three bytes.
 #[inline(always)]
-#[tactic(auto, using(crate::proofs::Varints::VarintWriteLemmas::three_byte))]
+#[tactic(auto, using(crate::proofs::VarintWriteLemmas::three_byte))]
 fn three_bytes(n: u64) -> [u8; 3]
     requires least { 2 ^ 14 ≤ n }
     requires most { n < 2 ^ 21 }

@@ -9,7 +9,7 @@ use Rattle.multihash.specs.Pair.{Pair}
 use Rattle.multihash.specs.Scale.{IsScaleCode, IsScale, HasScaleSize, HasScaleVerdict}
 use Rattle.multihash.specs.Varint.{varint_limit}
 use Rattle.multihash.specs.Verdict.{accepted, invalid_size, invalid_code, unexpected_eof}
-use Rattle.multihash.proofs.Forms.ScaleLemmas.{code_read, scale_of, scale_length}
+use Rattle.multihash.proofs.ScaleLemmas.{code_read, scale_of, scale_length}
 use Rattle.multihash_c.proofs.ComparedLemmas.{take_bytes}
 use Rattle.multihash_c.specs.declared.decode.Decoded.{Decoded}
 use Rattle.multihash_c.specs.Decoded.{ReportsPair, ConsumesForm}

@@ -3,21 +3,21 @@
 use Rattle.std.proofs.Common.{◌≡◌, ℕ, List, [], ◌∷◌, length, get_or, refl, sym, ap, ◌∙◌, arith, ◌++◌, length-append, drop, replicate, subst, inl, inr, length-drop, ◌≤◌}
 use Rattle.multihash.specs.Varint.{VarintError, insufficient, overflow, not_minimal}
 use Rattle.multihash.specs.Verdict.{Verdict, accepted, invalid_size, invalid_code, malformed, unexpected_eof, HasHead, HasVerdict, HasWholeVerdict}
-use Rattle.multihash.proofs.Examples.KnownVectors.{pair, all_below, code_named, varint_0, varint_1, code_alone}
+use Rattle.multihash.proofs.KnownVectors.{pair, all_below, code_named, varint_0, varint_1, code_alone}
 use Rattle.multihash_c.specs.declared.decode.Decoded.{Decoded}
 use Rattle.multihash_c.specs.Status.{status_of_error}
 use Rattle.multihash_c.specs.Decoded.{ReportsPair, ReportsError, Reports, ConsumesForm, ReportsPrefix, Determines, ReadsWithin, ReportsHead, ReportsHeadError}
 use Rattle.multihash_c.proofs.DecodedLemmas.{reported_length, byte_fits}
 use Rattle.multihash.specs.Scale.{HasScaleVerdict}
-use Rattle.multihash.proofs.Forms.ScaleLemmas.{scale_verdict_unique}
-use Rattle.multihash.proofs.Examples.FormVectors.{zeros, all_255, scale_code_above}
+use Rattle.multihash.proofs.ScaleLemmas.{scale_verdict_unique}
+use Rattle.multihash.proofs.FormVectors.{zeros, all_255, scale_code_above}
 use Rattle.std.proofs.lemmas.List.{take_all}
-use Rattle.multihash.proofs.Readings.VerdictLemmas.{whole_exact, whole_trailing, whole_verdict_unique, verdict_unique}
+use Rattle.multihash.proofs.VerdictLemmas.{whole_exact, whole_trailing, whole_verdict_unique, verdict_unique}
 use Rattle.multihash_c.proofs.ReadLemmas.{head_kept, head_no_error}
 use Rattle.std.specs.Prelude.{Some}
 use Rattle.multihash.specs.Consuming.{ConsumesShortestSettling}
-use Rattle.multihash.proofs.Readings.ReadingLemmas.{Consumes-cut}
-use Rattle.multihash.proofs.Readings.SettlingLemmas.{shortest_unique}
+use Rattle.multihash.proofs.ReadingLemmas.{Consumes-cut}
+use Rattle.multihash.proofs.SettlingLemmas.{shortest_unique}
 use Rattle.multihash.proofs.CallingLemmas.{head_unique}
 use Rattle.multihash_c.specs.declared.decode.Front.{Front}
 

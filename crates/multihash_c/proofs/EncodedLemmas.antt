@@ -11,8 +11,8 @@ use Rattle.multihash_c.specs.Encoded.{WritesForm, HasParts}
 use Rattle.multihash_c.specs.declared.encode.Encoded.{Encoded}
 use Rattle.multihash.specs.Encoding.{IsEncoding}
 use Rattle.multihash.proofs.EncodingLemmas.{encoding_of_parts, length-parts, encoding_same}
-use Rattle.multihash.proofs.Varints.DigitLemmas.{place_value_below}
-use Rattle.multihash.proofs.Varints.VarintWriteLemmas.{Wrote}
+use Rattle.multihash.proofs.DigitLemmas.{place_value_below}
+use Rattle.multihash.proofs.VarintWriteLemmas.{Wrote}
 
 -- what `count` ensures for the length of a form and the size of the buffer
 abbrev Counted : ℕ → ℕ → Encoded → Type 0

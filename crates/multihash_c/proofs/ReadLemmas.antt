@@ -10,9 +10,9 @@ use Rattle.multihash.specs.Verdict.{Verdict, accepted, invalid_size, malformed, 
 use Rattle.multihash.specs.Refusal.{Refusal}
 use Rattle.multihash.specs.Consuming.{IsHeadError}
 use Rattle.multihash.specs.Settling.{IsShortestSettling}
-use Rattle.multihash.proofs.Varints.VarintLemmas.{varint_longest}
-use Rattle.multihash.proofs.Readings.VerdictLemmas.{verdict_unique, pair_begins, sized}
-use Rattle.multihash.proofs.Readings.SettlingLemmas.{verdict_kept, shortest_pair, shortest_size}
+use Rattle.multihash.proofs.VarintLemmas.{varint_longest}
+use Rattle.multihash.proofs.VerdictLemmas.{verdict_unique, pair_begins, sized}
+use Rattle.multihash.proofs.SettlingLemmas.{verdict_kept, shortest_pair, shortest_size}
 use Rattle.multihash_c.specs.declared.decode.Decoded.{Decoded}
 use Rattle.multihash_c.specs.Status.{status_of_error}
 use Rattle.multihash_c.specs.Decoded.{Reports, ReportsError, Determines, ReadsWithin}

@@ -11,9 +11,9 @@ use Rattle.multihash.specs.Reading.{Consumes}
 use Rattle.multihash.specs.Refusal.{Refusal, IsOutOfMemory}
 use Rattle.multihash.specs.Consuming.{ConsumesSome}
 use Rattle.multihash.proofs.EncodingLemmas.{encoding_unique}
-use Rattle.multihash.proofs.Readings.ReadingLemmas.{Consumes-told}
+use Rattle.multihash.proofs.ReadingLemmas.{Consumes-told}
 use Rattle.multihash.proofs.CallingLemmas.{read_of_encoding}
-use Rattle.multihash.proofs.Forms.StreamLemmas.{part_follows, part_read}
+use Rattle.multihash.proofs.StreamLemmas.{part_follows, part_read}
 use Rattle.sha2.proofs.Facts256.{length-sha256}
 use Rattle.storage.specs.Content.{content_pair}
 use Rattle.storage.specs.Log.{IsEntry, EntryFails, HasEntry, AreEntries}

@@ -4,7 +4,7 @@ use Rattle.std.proofs.lemmas.List.{append_cancel_right}
 use Rattle.multihash.specs.Varint.{IsVarint}
 use Rattle.multihash.specs.Refusal.{IsOutOfMemory}
 use Rattle.multihash.proofs.CallingLemmas.{number_read, number_in_part, number_found, number_truncated, exact_found, exact_truncated}
-use Rattle.multihash.proofs.Varints.VarintLemmas.{same_number, varint_unique}
+use Rattle.multihash.proofs.VarintLemmas.{same_number, varint_unique}
 use Rattle.multihash.proofs.EncodingLemmas.{same_cut}
 use Rattle.storage.specs.Prefixed.{IsPrefixed, IsFailed, IsTruncatedOrMemory, PrefixedFails}
 use Rattle.storage.specs.declared.prefixed.PrefixedError.{PrefixedError}

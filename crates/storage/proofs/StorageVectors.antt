@@ -11,8 +11,8 @@ use Rattle.multihash.specs.Pair.{Pair, FitsBuffer}
 use Rattle.multihash.specs.Refusal.{Refusal, IsEof}
 use Rattle.multihash.specs.Multihash.{Fields, pair_of}
 use Rattle.multihash.proofs.CallingLemmas.{number_read, number_found}
-use Rattle.multihash.proofs.Examples.KnownVectors.{varint_1}
-use Rattle.multihash.proofs.Varints.VarintLemmas.{varint_some, same_number}
+use Rattle.multihash.proofs.KnownVectors.{varint_1}
+use Rattle.multihash.proofs.VarintLemmas.{varint_some, same_number}
 use Rattle.sha2.specs.Sha256.{sha256}
 use Rattle.sha2.proofs.Facts256.{length-sha256}
 use Rattle.multihash.specs.Streams.{AreParts}

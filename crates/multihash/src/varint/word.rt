@@ -2,7 +2,7 @@
 ghost use Rattle.std.specs.Prelude.{◌≡◌, ◌<◌, ◌≤◌, ◌+◌, ℕ, List, length, take, drop, Some, IfSome, IfNone, IfOk, IfErr};
 ghost use Rattle.multihash.specs.Bytes.{IsBytes, place_value};
 ghost use Rattle.multihash.specs.Varint.{IsVarint, IsMalformed};
-ghost use Rattle.multihash.specs.Private.Word.{IsFrontWord, BeginsWithContinuation, IsFoundFront, digits_low};
+ghost use Rattle.multihash.specs.Private.{IsFrontWord, BeginsWithContinuation, IsFoundFront, digits_low};
 ghost use Rattle.multihash.specs.Consuming.{IsFrontErrorAt, ConsumesVarint};
 
 use super::{LAST_BYTE_LIMIT, MAX_CONTINUATION, MAX_LEN};
@@ -69,7 +69,7 @@ fn front_by_word(bytes: &[u8]) -> (u64, usize)
 
 // Does what `front_by_word` does, if fewer bytes remain than a word has.
 #[inline(never)]
-#[tactic(auto, using(crate::proofs::Varints::WordFrontLemmas::short_front))]
+#[tactic(auto, using(crate::proofs::WordFrontLemmas::short_front))]
 fn front_by_short_word(bytes: &[u8]) -> (u64, usize)
     requires { length bytes.now < 16 }
     ensures { IsFoundFront bytes.now result.0 result.1 }

@@ -3,7 +3,7 @@ use Rattle.std.proofs.lemmas.Result.{err_from_is_err_and}
 use Rattle.std.proofs.lemmas.List.{length-map}
 use Rattle.multihash.specs.Multihash.{pair_of}
 use Rattle.multihash.proofs.OutcomeLemmas.{passed_on}
-use Rattle.multihash.proofs.Forms.StreamLemmas.{ConsumesPairs-more}
+use Rattle.multihash.proofs.StreamLemmas.{ConsumesPairs-more}
 use Rattle.examples.proofs.any_reader.read_up_to.Goals as goal
 
 pub returns-in_err-multihash-clause-err : goal.returns-in_err-multihash-clause-err

@@ -1,7 +1,7 @@
 use Rattle.std.proofs.Common.{Ok, Err, arith}
 use Rattle.multihash.specs.Multihash.{pair_of}
 use Rattle.multihash.proofs.CallingLemmas.{from_bytes_of_encoding}
-use Rattle.multihash.proofs.Forms.JsonLemmas.{json_bytes}
+use Rattle.multihash.proofs.JsonLemmas.{json_bytes}
 use Rattle.multihash.proofs.OutcomeLemmas.{passed_on}
 use Rattle.multihash.proofs.EncodingLemmas.{digest_fits}
 use Rattle.examples.proofs.forms.json.Goals as goal

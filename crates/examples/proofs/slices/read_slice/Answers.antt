@@ -7,7 +7,7 @@ use Rattle.multihash.specs.Reading.{Consumes}
 use Rattle.multihash.specs.Refusal.{Refusal}
 use Rattle.multihash.specs.Multihash.{Fields, pair_of}
 use Rattle.multihash.proofs.CallingLemmas.{rejected_size}
-use Rattle.multihash.proofs.Readings.SettlingLemmas.{shortest_size, shortest_unique}
+use Rattle.multihash.proofs.SettlingLemmas.{shortest_size, shortest_unique}
 use Rattle.multihash.proofs.EncodingLemmas.{same_cut}
 use Rattle.examples.proofs.slices.read_slice.Goals as goal
 

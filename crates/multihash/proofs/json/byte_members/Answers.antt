@@ -1,8 +1,8 @@
 use Rattle.std.proofs.Common.{◌≡◌, Some, true, false, sym, ap, ◌∙◌}
 use Rattle.std.specs.List.{list_all}
 use Rattle.serde_json.specs.View.{view, items_view}
-use Rattle.multihash.specs.Private.Members.{is_byte}
-use Rattle.multihash.proofs.Forms.JsonLemmas.{byte_array, no_byte_array}
+use Rattle.multihash.specs.Private.{is_byte}
+use Rattle.multihash.proofs.JsonLemmas.{byte_array, no_byte_array}
 use Rattle.multihash.proofs.json.byte_members.Goals as goal
 
 pub returns-then-are_bytes : goal.returns-then-are_bytes

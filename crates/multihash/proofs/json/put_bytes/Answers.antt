@@ -1,8 +1,8 @@
 use Rattle.std.proofs.Common.{◌≡◌, ◌+◌, ◌∙◌, [], ◌∷◌, ◌++◌, take, drop, ap, sym, arith, append_assoc, append-nil}
 use Rattle.std.proofs.lemmas.List.{take_all, drop_all, take_more_set, drop_more}
 use Rattle.serde_json.specs.View.{view}
-use Rattle.multihash.specs.Private.Members.{byte_of_data, member_bytes}
-use Rattle.multihash.proofs.Forms.JsonLemmas.{member_byte, first_byte}
+use Rattle.multihash.specs.Private.{byte_of_data, member_bytes}
+use Rattle.multihash.proofs.JsonLemmas.{member_byte, first_byte}
 use Rattle.multihash.proofs.json.put_bytes.Goals as goal
 use Rattle.multihash.proofs.json.put_bytes.Goals.{in-Some, in_default}
 

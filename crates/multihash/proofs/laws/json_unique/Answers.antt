@@ -1,7 +1,7 @@
 use Rattle.std.proofs.Common.{sym, ◌∙◌}
 use Rattle.multihash.specs.Verdict.{accepted}
-use Rattle.multihash.proofs.Readings.VerdictLemmas.{whole_verdict_unique}
-use Rattle.multihash.proofs.Forms.JsonLemmas.{array_unique, json_same, json_bytes, json_is_array}
+use Rattle.multihash.proofs.VerdictLemmas.{whole_verdict_unique}
+use Rattle.multihash.proofs.JsonLemmas.{array_unique, json_same, json_bytes, json_is_array}
 use Rattle.multihash.proofs.laws.json_unique.Goals as goal
 
 pub returns-clause-same : goal.returns-clause-same

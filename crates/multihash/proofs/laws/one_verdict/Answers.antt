@@ -1,4 +1,4 @@
-use Rattle.multihash.proofs.Readings.VerdictLemmas.{found, verdict_is, has_found, verdict_unique, whole_found, whole_is, has_whole_found, whole_verdict_unique}
+use Rattle.multihash.proofs.VerdictLemmas.{found, verdict_is, has_found, verdict_unique, whole_found, whole_is, has_whole_found, whole_verdict_unique}
 use Rattle.multihash.proofs.laws.one_verdict.Goals as goal
 
 pub returns-clause-read : goal.returns-clause-read

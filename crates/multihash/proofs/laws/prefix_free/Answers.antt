@@ -1,6 +1,6 @@
 use Rattle.std.proofs.Common.{[], refl, ◌++◌, sym, ◌∙◌, append-nil, arith}
 use Rattle.multihash.specs.Verdict.{accepted}
-use Rattle.multihash.proofs.Readings.VerdictLemmas.{verdict_unique}
+use Rattle.multihash.proofs.VerdictLemmas.{verdict_unique}
 use Rattle.multihash.proofs.laws.prefix_free.Goals as goal
 use Rattle.multihash.proofs.EncodingLemmas.{encoding_exists, encoding_unique, encoding_same}
 

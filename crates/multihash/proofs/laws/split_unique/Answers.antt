@@ -1,6 +1,6 @@
 use Rattle.multihash.specs.Encoding.{IsEncoding}
 use Rattle.multihash.proofs.EncodingLemmas.{encoding_unique, encoding_same}
-use Rattle.multihash.proofs.Forms.StreamLemmas.{parts_unique, parts_same, concatenated_whole}
+use Rattle.multihash.proofs.StreamLemmas.{parts_unique, parts_same, concatenated_whole}
 use Rattle.multihash.proofs.laws.split_unique.Goals as goal
 
 pub returns-clause-as_many : goal.returns-clause-as_many

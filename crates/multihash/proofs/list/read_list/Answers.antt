@@ -2,7 +2,7 @@ use Rattle.std.proofs.Common.{◌≡◌, ◌<◌, [], ◌∷◌, ◌++◌, lengt
 use Rattle.std.proofs.lemmas.List.{length-map}
 use Rattle.multihash.specs.Multihash.{pair_of}
 use Rattle.multihash.proofs.OutcomeLemmas.{passed_on}
-use Rattle.multihash.proofs.Forms.StreamLemmas.{ConsumesPairs-more}
+use Rattle.multihash.proofs.StreamLemmas.{ConsumesPairs-more}
 use Rattle.multihash.proofs.list.read_list.Goals as goal
 
 pub returns-in_err-read-clause-err : goal.returns-in_err-read-clause-err

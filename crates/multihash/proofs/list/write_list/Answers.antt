@@ -6,7 +6,7 @@ use Rattle.multihash.specs.Streams.{AreConcatenated}
 use Rattle.multihash.specs.Writing.{AppendsPrefix}
 use Rattle.multihash.proofs.OutcomeLemmas.{OnErr-always}
 use Rattle.multihash.proofs.EncodingLemmas.{encoding_same, all_fit, have_stream}
-use Rattle.multihash.proofs.Forms.StreamLemmas.{parts_same}
+use Rattle.multihash.proofs.StreamLemmas.{parts_same}
 use Rattle.multihash.proofs.WritingLemmas.{AppendsPrefix-append, AppendsPrefix-concatenated}
 use Rattle.multihash.proofs.list.write_list.Given as given
 use Rattle.multihash.proofs.list.write_list.Goals as goal

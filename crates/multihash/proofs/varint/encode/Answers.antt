@@ -1,7 +1,7 @@
 use Rattle.std.proofs.Common.{◌<◌, length, ◌∙◌, arith, rules}
 use Rattle.std.proofs.lemmas.List.{take_more_set}
 use Rattle.std.proofs.Math.ListN.{length-set}
-use Rattle.multihash.proofs.Varints.VarintWriteLemmas.{none_wrote, wrote_more, wrote_last, wrote_few}
+use Rattle.multihash.proofs.VarintWriteLemmas.{none_wrote, wrote_more, wrote_last, wrote_few}
 use Rattle.multihash.proofs.varint.encode.Goals as goal
 
 pub loop-rest-init : goal.loop-rest-init

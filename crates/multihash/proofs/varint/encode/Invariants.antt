@@ -1,6 +1,6 @@
 -- The first `len` bytes encode the digits written so far.
 use Rattle.std.proofs.Common.{◌≡◌, length, take}
-use Rattle.multihash.proofs.Varints.VarintWriteLemmas.{Wrote}
+use Rattle.multihash.proofs.VarintWriteLemmas.{Wrote}
 use Rattle.multihash.proofs.varint.encode.Given as goal
 
 abbrev pub invariant-loop-rest : goal.invariant-loop-rest

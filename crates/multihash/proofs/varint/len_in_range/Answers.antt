@@ -1,6 +1,6 @@
 use Rattle.std.proofs.Common.{[], ◌∷◌, refl, sym, arith}
-use Rattle.multihash.proofs.Varints.VarintWriteLemmas.{one_byte, two_byte, three_byte, varint_exists}
-use Rattle.multihash.proofs.Varints.VarintLemmas.{varint_longest, length_by_bits}
+use Rattle.multihash.proofs.VarintWriteLemmas.{one_byte, two_byte, three_byte, varint_exists}
+use Rattle.multihash.proofs.VarintLemmas.{varint_longest, length_by_bits}
 use Rattle.multihash.proofs.varint.len_in_range.Goals as goal
 
 pub returns-then-n-lt128-clause-varint : goal.returns-then-n-lt128-clause-varint

@@ -1,7 +1,7 @@
 -- Only continuation bytes have been consumed, the sum is the value of their digits, and no read failed.
 use Rattle.std.proofs.Common.{◌≡◌, ◌<◌, [], ◌∷◌}
 use Rattle.std.specs.Io.KnownBytes.{prepend_known}
-use Rattle.multihash.proofs.Varints.VarintReadLemmas.{ReadsContinuation}
+use Rattle.multihash.proofs.VarintReadLemmas.{ReadsContinuation}
 use Rattle.multihash.proofs.varint.read_after.Given as goal
 
 abbrev pub invariant-loop-i : goal.invariant-loop-i

@@ -1,7 +1,7 @@
 use Rattle.std.proofs.Common.{◌∙◌}
 use Rattle.std.proofs.lemmas.List.{take_rest}
-use Rattle.multihash.proofs.Readings.ReadingLemmas.{Consumes-cut}
-use Rattle.multihash.proofs.Varints.VarintLemmas.{same_number, number_no_error}
+use Rattle.multihash.proofs.ReadingLemmas.{Consumes-cut}
+use Rattle.multihash.proofs.VarintLemmas.{same_number, number_no_error}
 use Rattle.multihash.proofs.varint.read_front.Goals as goal
 
 pub returns-in-Some-clause-found : goal.returns-in-Some-clause-found

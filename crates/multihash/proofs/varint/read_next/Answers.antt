@@ -1,7 +1,7 @@
 use Rattle.std.proofs.Common.{[], ◌∷◌, IfErr, refl}
 use Rattle.multihash.specs.Consuming.{ConsumesAtVarintError, none_is_insufficient}
-use Rattle.multihash.proofs.Varints.VarintReadLemmas.{none_read, reader_failed, input_ended}
-use Rattle.multihash.proofs.Varints.VarintWriteLemmas.{one_byte}
+use Rattle.multihash.proofs.VarintReadLemmas.{none_read, reader_failed, input_ended}
+use Rattle.multihash.proofs.VarintWriteLemmas.{one_byte}
 use Rattle.multihash.proofs.OutcomeLemmas.{passed_err}
 use Rattle.multihash.proofs.varint.read_next.Goals as goal
 

@@ -1,8 +1,8 @@
 use Rattle.std.proofs.Common.{ℕ, List, [], ◌∷◌, refl}
 use Rattle.multihash.specs.Varint.{IsVarint}
 use Rattle.multihash.specs.Writing.{AppendsPrefix}
-use Rattle.multihash.proofs.Varints.VarintWriteLemmas.{one_byte}
-use Rattle.multihash.proofs.Varints.VarintLemmas.{varint_longest}
+use Rattle.multihash.proofs.VarintWriteLemmas.{one_byte}
+use Rattle.multihash.proofs.VarintLemmas.{varint_longest}
 use Rattle.multihash.proofs.OutcomeLemmas.{OnErr-always}
 use Rattle.multihash.proofs.varint.write_in_range.Goals as goal
 

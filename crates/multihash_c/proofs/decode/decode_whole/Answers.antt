@@ -4,7 +4,7 @@ use Rattle.multihash.specs.Varint.{insufficient}
 use Rattle.multihash.specs.Verdict.{malformed, invalid_size, unexpected_eof, accepted}
 use Rattle.multihash_c.specs.Decoded.{ReportsError}
 use Rattle.multihash_c.specs.Status.{status_of_error}
-use Rattle.multihash.proofs.Readings.VerdictLemmas.{verdict_unique, whole_over, whole_short, whole_trailing, whole_exact}
+use Rattle.multihash.proofs.VerdictLemmas.{verdict_unique, whole_over, whole_short, whole_trailing, whole_exact}
 use Rattle.multihash_c.proofs.ReadLemmas.{head_kept, error_whole, head_no_error}
 use Rattle.multihash_c.proofs.decode.decode_whole.Goals as goal
 

@@ -2,7 +2,7 @@ use Rattle.std.proofs.Common.{ℕ, List, ◌++◌, length, refl, inl, inr, ◌�
 use Rattle.multihash.specs.Pair.{Pair}
 use Rattle.multihash.specs.Encoding.{IsEncoding}
 use Rattle.multihash.proofs.EncodingLemmas.{encoding_of_parts, length-parts}
-use Rattle.multihash.proofs.Varints.VarintLemmas.{varint_longest}
+use Rattle.multihash.proofs.VarintLemmas.{varint_longest}
 use Rattle.multihash_c.proofs.EncodedLemmas.{writes_form, parts_long}
 use Rattle.multihash_c.proofs.encode.encode_any.Goals as goal
 use Rattle.multihash_c.proofs.encode.encode_any.Goals.{then-encoding_length-out, else-encoding_length-out}

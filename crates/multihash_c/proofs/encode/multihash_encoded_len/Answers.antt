@@ -1,5 +1,5 @@
 use Rattle.std.proofs.Common.{[], ◌∷◌, refl, arith}
-use Rattle.multihash.proofs.Varints.VarintWriteLemmas.{one_byte}
+use Rattle.multihash.proofs.VarintWriteLemmas.{one_byte}
 use Rattle.multihash_c.proofs.encode.multihash_encoded_len.Goals as goal
 
 pub returns-then-code-lt128-clause-length : goal.returns-then-code-lt128-clause-length

@@ -1,6 +1,6 @@
 use Rattle.std.proofs.Common.{refl, ◌∙◌, arith}
 use Rattle.std.proofs.lemmas.List.{take_more_set, drop-set-lt}
-use Rattle.multihash.proofs.Varints.VarintWriteLemmas.{none_wrote, wrote_more, wrote_last, wrote_few, varint_exists}
+use Rattle.multihash.proofs.VarintWriteLemmas.{none_wrote, wrote_more, wrote_last, wrote_few, varint_exists}
 use Rattle.multihash_c.proofs.EncodedLemmas.{more_follows, drop_next, put_after}
 use Rattle.multihash_c.proofs.encode.put_digits.Goals as goal
 

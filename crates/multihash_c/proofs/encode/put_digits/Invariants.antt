@@ -1,6 +1,6 @@
 -- The first `at` bytes encode the digits written so far; those after them are unchanged.
 use Rattle.std.proofs.Common.{◌≡◌, take, drop}
-use Rattle.multihash.proofs.Varints.VarintWriteLemmas.{Wrote}
+use Rattle.multihash.proofs.VarintWriteLemmas.{Wrote}
 use Rattle.multihash_c.proofs.encode.put_digits.Given as goal
 
 abbrev pub invariant-loop-rest : goal.invariant-loop-rest

@@ -2,7 +2,7 @@ use Rattle.std.proofs.Common.{[], ◌∷◌, ℕ, List, ◌++◌, length, refl, 
 use Rattle.std.proofs.lemmas.Grind.{common_steps}
 use Rattle.multihash.specs.Pair.{Pair}
 use Rattle.multihash.proofs.EncodingLemmas.{encoding_of_parts}
-use Rattle.multihash.proofs.Varints.VarintWriteLemmas.{one_byte}
+use Rattle.multihash.proofs.VarintWriteLemmas.{one_byte}
 use Rattle.multihash_c.proofs.EncodedLemmas.{parts_long}
 use Rattle.multihash_c.proofs.encode.put_encoding.Goals as goal
 

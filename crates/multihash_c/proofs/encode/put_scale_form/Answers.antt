@@ -1,6 +1,6 @@
 use Rattle.std.proofs.Common.{◌≡◌, ℕ, List, [], ◌∷◌, ◌++◌, length, drop, refl, ap, ◌∙◌, subst, append_assoc, arith}
 use Rattle.multihash.specs.Pair.{Pair}
-use Rattle.multihash.proofs.Forms.ScaleLemmas.{scale_of}
+use Rattle.multihash.proofs.ScaleLemmas.{scale_of}
 use Rattle.multihash_c.proofs.encode.put_scale_form.Goals as goal
 
 pub returns : goal.returns

@@ -1,5 +1,5 @@
 use Rattle.std.proofs.Common.{rules, ◌≤◌, ◌<◌, length, refl, arith}
-use Rattle.multihash.proofs.Varints.VarintWriteLemmas.{one_byte, two_byte, three_byte}
+use Rattle.multihash.proofs.VarintWriteLemmas.{one_byte, two_byte, three_byte}
 use Rattle.multihash_c.proofs.EncodedLemmas.{put_after}
 use Rattle.multihash_c.proofs.encode.put_varint.Goals as goal
 

@@ -2,7 +2,7 @@ use Rattle.std.proofs.Common.{◌≤◌, ◌<◌, length, inl, inr, sym, ◌∙�
 use Rattle.multihash.specs.Pair.{Pair}
 use Rattle.multihash.specs.Varint.{varint_limit}
 use Rattle.multihash.specs.Scale.{IsScale}
-use Rattle.multihash.proofs.Forms.ScaleLemmas.{scale_exists, scale_length}
+use Rattle.multihash.proofs.ScaleLemmas.{scale_exists, scale_length}
 use Rattle.multihash_c.proofs.EncodedLemmas.{writes_form}
 use Rattle.multihash_c.proofs.encode.scale_encode.Goals as goal
 use Rattle.multihash_c.proofs.encode.scale_encode.Goals.{then-form_length-out, else-form_length-out}

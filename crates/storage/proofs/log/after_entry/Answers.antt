@@ -2,7 +2,7 @@ use Rattle.std.proofs.Common.{◌≡◌, ◌++◌, Some, append_assoc, refl, sym
 use Rattle.std.proofs.lemmas.Bool.{false≢true}
 use Rattle.multihash.specs.Encoding.{IsEncoding}
 use Rattle.multihash.specs.Multihash.{pair_of}
-use Rattle.multihash.proofs.Readings.ReadingLemmas.{Consumes-cut}
+use Rattle.multihash.proofs.ReadingLemmas.{Consumes-cut}
 use Rattle.storage.specs.Content.{content_pair}
 use Rattle.storage.proofs.LogLemmas.{hash_read, hash_consumed, content_fits}
 use Rattle.storage.proofs.log.after_entry.Goals as goal

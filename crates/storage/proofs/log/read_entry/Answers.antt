@@ -1,5 +1,5 @@
 use Rattle.std.proofs.Common.{◌++◌, inl, inr, refl}
-use Rattle.multihash.proofs.Readings.ReadingLemmas.{Consumes-concatenated}
+use Rattle.multihash.proofs.ReadingLemmas.{Consumes-concatenated}
 use Rattle.multihash.proofs.OutcomeLemmas.{passed_on}
 use Rattle.storage.specs.declared.prefixed.PrefixedError.TheVariants.{Failed}
 use Rattle.storage.proofs.LogLemmas.{rejected_found, entry_found}

@@ -1,6 +1,6 @@
 use Rattle.std.proofs.Common.{◌++◌, [], ◌∷◌, refl, sym, ap, ◌∙◌, append_assoc}
-use Rattle.multihash.proofs.Forms.StreamLemmas.{parts_push}
-use Rattle.multihash.proofs.Readings.ReadingLemmas.{cut_at}
+use Rattle.multihash.proofs.StreamLemmas.{parts_push}
+use Rattle.multihash.proofs.ReadingLemmas.{cut_at}
 use Rattle.storage.proofs.LogLemmas.{longest_entries}
 use Rattle.storage.proofs.log.valid_prefix.Goals as goal
 

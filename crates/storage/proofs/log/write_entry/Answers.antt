@@ -2,7 +2,7 @@ use Rattle.std.proofs.Common.{◌++◌, length, refl, arith}
 use Rattle.std.proofs.lemmas.Result.{on_ok_weaker, on_err_weaker}
 use Rattle.multihash.specs.Multihash.{pair_of}
 use Rattle.multihash.proofs.WritingLemmas.{AppendsPrefix-concatenated, stops_in_front}
-use Rattle.multihash.proofs.Varints.VarintWriteLemmas.{varint_exists}
+use Rattle.multihash.proofs.VarintWriteLemmas.{varint_exists}
 use Rattle.storage.specs.Log.{IsEntry}
 use Rattle.storage.proofs.PrefixedLemmas.{make_prefixed}
 use Rattle.storage.proofs.log.write_entry.Goals as goal

@@ -1,6 +1,6 @@
 use Rattle.std.proofs.Common.{◌++◌, inl, refl}
 use Rattle.std.proofs.lemmas.Result.{IfOk-weaker}
-use Rattle.multihash.proofs.Readings.ReadingLemmas.{Consumes-concatenated}
+use Rattle.multihash.proofs.ReadingLemmas.{Consumes-concatenated}
 use Rattle.multihash.proofs.CallingLemmas.{varint_fails}
 use Rattle.multihash.proofs.OutcomeLemmas.{passed_on}
 use Rattle.storage.specs.declared.prefixed.PrefixedError.TheVariants.{Failed}

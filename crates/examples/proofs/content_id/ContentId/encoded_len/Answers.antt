@@ -1,6 +1,6 @@
 use Rattle.std.proofs.Common.{◌≡◌, ◌∷◌, [], ◌++◌, refl, sym, subst, arith, rules, length-append}
 use Rattle.multihash.specs.Multihash.{pair_of}
-use Rattle.multihash.proofs.Varints.VarintWriteLemmas.{one_byte}
+use Rattle.multihash.proofs.VarintWriteLemmas.{one_byte}
 use Rattle.examples.specs.ContentId.{version_1, content_of, IsContentId}
 use Rattle.examples.proofs.IdentifierLemmas.{make_version_1}
 use Rattle.examples.proofs.content_id.ContentId.encoded_len.Goals as goal

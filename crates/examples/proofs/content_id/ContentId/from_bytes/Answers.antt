@@ -1,5 +1,5 @@
 use Rattle.std.proofs.Common.{◌≡◌, [], length, Some, inl, inr, refl, sym, ap, arith, append-nil}
-use Rattle.multihash.proofs.Readings.ReadingLemmas.{Consumes-cut}
+use Rattle.multihash.proofs.ReadingLemmas.{Consumes-cut}
 use Rattle.multihash.proofs.OutcomeLemmas.{passed_on}
 use Rattle.examples.specs.ContentId.{content_of}
 use Rattle.examples.proofs.IdentifierLemmas.{content_fits}

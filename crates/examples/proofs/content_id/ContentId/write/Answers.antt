@@ -2,7 +2,7 @@ use Rattle.std.proofs.Common.{◌≡◌, ◌++◌, inl, inr, refl, sym, subst, a
 use Rattle.multihash.specs.Multihash.{pair_of}
 use Rattle.multihash.proofs.EncodingLemmas.{encoding_exists, digest_fits}
 use Rattle.multihash.proofs.WritingLemmas.{stops_in_first, stops_in_second, stops_in_third}
-use Rattle.multihash.proofs.Varints.VarintWriteLemmas.{varint_exists}
+use Rattle.multihash.proofs.VarintWriteLemmas.{varint_exists}
 use Rattle.examples.specs.ContentId.{version_1, content_of, IsContentId}
 use Rattle.examples.proofs.IdentifierLemmas.{make_version_1, bare_is}
 use Rattle.examples.proofs.content_id.ContentId.write.Goals as goal

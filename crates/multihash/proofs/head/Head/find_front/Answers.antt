@@ -1,5 +1,5 @@
 use Rattle.std.proofs.lemmas.List.{take_rest}
-use Rattle.multihash.proofs.Readings.VerdictLemmas.{head_of, short_head}
+use Rattle.multihash.proofs.VerdictLemmas.{head_of, short_head}
 use Rattle.multihash.proofs.head.Head.find_front.Goals as goal
 
 pub returns-clause-some : goal.returns-clause-some

@@ -1,7 +1,7 @@
 use Rattle.std.proofs.lemmas.List.{take_rest}
 use Rattle.multihash.proofs.OutcomeLemmas.{passed_on}
-use Rattle.multihash.proofs.Readings.VerdictLemmas.{head_of}
-use Rattle.multihash.proofs.Readings.ReadConsumingLemmas.{code_error, size_error}
+use Rattle.multihash.proofs.VerdictLemmas.{head_of}
+use Rattle.multihash.proofs.ReadConsumingLemmas.{code_error, size_error}
 use Rattle.multihash.proofs.head.Head.read_counted.Goals as goal
 
 pub returns-in_err-code-clause-err : goal.returns-in_err-code-clause-err

@@ -1,7 +1,7 @@
 use Rattle.std.proofs.Common.{◌<◌, ◌∙◌, [], ◌++◌, length, drop, Some, ap, sym, refl, arith, rules}
-use Rattle.multihash.specs.Private.Members.{member_bytes}
+use Rattle.multihash.specs.Private.{member_bytes}
 use Rattle.multihash.specs.Reading.{ConsumesFewerThan}
-use Rattle.multihash.proofs.Forms.JsonLemmas.{bytes_split, length-member_bytes}
+use Rattle.multihash.proofs.JsonLemmas.{bytes_split, length-member_bytes}
 use Rattle.multihash.proofs.json.ByteMembersRead.read_exact.Goals as goal
 
 pub returns-then-self-buf : goal.returns-then-self-buf

@@ -4,7 +4,7 @@ use Rattle.multihash.specs.Verdict.{Verdict, invalid_size, unexpected_eof, accep
 use Rattle.multihash.specs.Outcome.{IsResultOf}
 use Rattle.multihash.proofs.OutcomeLemmas.{passed_err}
 use Rattle.multihash.proofs.EncodingLemmas.{pair_in_front}
-use Rattle.multihash.proofs.Readings.VerdictLemmas.{whole_over, whole_short, whole_trailing, whole_exact}
+use Rattle.multihash.proofs.VerdictLemmas.{whole_over, whole_short, whole_trailing, whole_exact}
 use Rattle.multihash.proofs.multihash.Multihash.from_bytes.Goals as goal
 
 pub returns-in_err-head : goal.returns-in_err-head

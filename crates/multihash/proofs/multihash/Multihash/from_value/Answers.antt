@@ -1,13 +1,13 @@
 use Rattle.std.proofs.Common.{◌≡◌, ◌<◌, ◌++◌, length, refl, sym, ◌∙◌, ap, inr, rules}
 use Rattle.std.proofs.lemmas.List.{nil_from_length}
-use Rattle.multihash.specs.Private.Members.{member_bytes}
+use Rattle.multihash.specs.Private.{member_bytes}
 use Rattle.multihash.specs.Verdict.{Verdict, accepted, invalid_size, HasWholeVerdict}
 use Rattle.multihash.specs.Encoding.{IsEncoding}
 use Rattle.multihash.specs.Outcome.{IsResultOf}
 use Rattle.multihash.specs.Multihash.{pair_of}
 use Rattle.multihash.proofs.OutcomeLemmas.{passed_err}
-use Rattle.multihash.proofs.Forms.JsonLemmas.{array_unique, length-member_bytes}
-use Rattle.multihash.proofs.Readings.VerdictLemmas.{whole_pair, whole_rejected}
+use Rattle.multihash.proofs.JsonLemmas.{array_unique, length-member_bytes}
+use Rattle.multihash.proofs.VerdictLemmas.{whole_pair, whole_rejected}
 use Rattle.multihash.proofs.EncodingLemmas.{digest_fits}
 use Rattle.multihash.proofs.multihash.Multihash.from_value.Given as given
 use Rattle.multihash.proofs.multihash.Multihash.from_value.Goals as goal

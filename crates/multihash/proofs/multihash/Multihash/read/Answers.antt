@@ -1,6 +1,6 @@
 use Rattle.multihash.specs.Consuming.{ReadMeets}
 use Rattle.multihash.proofs.OutcomeLemmas.{passed_err}
-use Rattle.multihash.proofs.Readings.ReadConsumingLemmas.{stops_in_code}
+use Rattle.multihash.proofs.ReadConsumingLemmas.{stops_in_code}
 use Rattle.multihash.proofs.multihash.Multihash.read.Goals as goal
 
 pub returns-in_err-code : goal.returns-in_err-code

@@ -9,8 +9,8 @@ use Rattle.multihash.specs.Fault.{Fault, IsUnexpectedEof, IsOwnFault}
 use Rattle.multihash.specs.Multihash.{Fields, pair_of}
 use Rattle.multihash.proofs.OutcomeLemmas.{passed_err}
 use Rattle.multihash.proofs.EncodingLemmas.{encoding_of_parts}
-use Rattle.multihash.proofs.Readings.ReadingLemmas.{Consumes-concatenated}
-use Rattle.multihash.proofs.Readings.ReadConsumingLemmas.{stops_in_size, stops_at_size, stops_in_digest, read_returned}
+use Rattle.multihash.proofs.ReadingLemmas.{Consumes-concatenated}
+use Rattle.multihash.proofs.ReadConsumingLemmas.{stops_in_size, stops_at_size, stops_in_digest, read_returned}
 use Rattle.multihash.proofs.multihash.Multihash.read_after.Goals as goal
 
 pub returns-in_err-read : goal.returns-in_err-read

@@ -2,7 +2,7 @@ use Rattle.std.proofs.Common.{inr, refl}
 use Rattle.multihash.specs.Varint.{insufficient}
 use Rattle.multihash.specs.Consuming.{ReadMeets, none_is_insufficient}
 use Rattle.multihash.proofs.OutcomeLemmas.{passed_err}
-use Rattle.multihash.proofs.Readings.ReadConsumingLemmas.{stops_in_code}
+use Rattle.multihash.proofs.ReadConsumingLemmas.{stops_in_code}
 use Rattle.multihash.proofs.multihash.Multihash.read_next.Goals as goal
 
 pub returns-in_err-code-clause-read : goal.returns-in_err-code-clause-read

@@ -1,7 +1,7 @@
 use Rattle.std.proofs.Common.{[], ◌++◌, length, ap, arith, append_assoc}
 use Rattle.multihash.specs.Scale.{IsScale}
 use Rattle.multihash.specs.Multihash.{pair_of}
-use Rattle.multihash.proofs.Forms.ScaleLemmas.{scale_length}
+use Rattle.multihash.proofs.ScaleLemmas.{scale_length}
 use Rattle.multihash.proofs.WritingLemmas.{stops_in_first, stops_in_third}
 use Rattle.multihash.proofs.multihash.Multihash.scale_encode.Given as given
 use Rattle.multihash.proofs.multihash.Multihash.scale_encode.Goals as goal

@@ -1,5 +1,5 @@
 use Rattle.std.proofs.Common.{arith}
-use Rattle.multihash.proofs.Forms.ScaleLemmas.{code_bytes}
+use Rattle.multihash.proofs.ScaleLemmas.{code_bytes}
 use Rattle.multihash.proofs.multihash.Multihash.scale_head.Goals as goal
 
 pub returns : goal.returns

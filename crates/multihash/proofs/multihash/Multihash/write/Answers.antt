@@ -2,7 +2,7 @@ use Rattle.std.proofs.Common.{length, refl, ◌∙◌, arith}
 use Rattle.multihash.specs.Encoding.{IsEncoding}
 use Rattle.multihash.specs.Multihash.{pair_of}
 use Rattle.multihash.proofs.EncodingLemmas.{encoding_of_parts, length-parts}
-use Rattle.multihash.proofs.Varints.VarintWriteLemmas.{varint_exists}
+use Rattle.multihash.proofs.VarintWriteLemmas.{varint_exists}
 use Rattle.multihash.proofs.WritingLemmas.{stops_in_first, stops_in_second, stops_in_third}
 use Rattle.multihash.proofs.multihash.Multihash.write.Goals as goal
 

@@ -1,5 +1,5 @@
 use Rattle.std.proofs.Common.{arith}
-use Rattle.multihash.proofs.Varints.WordFrontLemmas.{bytes_of, full_front_word}
+use Rattle.multihash.proofs.WordFrontLemmas.{bytes_of, full_front_word}
 use Rattle.multihash.proofs.varint.word.front_by_word.Goals as goal
 
 pub returns-in-Some : goal.returns-in-Some

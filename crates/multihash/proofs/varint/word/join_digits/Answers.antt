@@ -1,5 +1,5 @@
 use Rattle.std.proofs.Common.{refl}
-use Rattle.multihash.proofs.Varints.WordLemmas.{digits_joined}
+use Rattle.multihash.proofs.WordLemmas.{digits_joined}
 use Rattle.multihash.proofs.varint.word.join_digits.Goals as goal
 
 pub returns : goal.returns

@@ -1,5 +1,5 @@
 use Rattle.std.proofs.Common.{◌∙◌}
-use Rattle.multihash.proofs.Varints.WordFrontLemmas.{padded_word}
+use Rattle.multihash.proofs.WordFrontLemmas.{padded_word}
 use Rattle.multihash.proofs.varint.word.padded_word.Goals as goal
 
 pub returns : goal.returns

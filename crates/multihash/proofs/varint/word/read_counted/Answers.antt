@@ -1,8 +1,8 @@
 use Rattle.std.proofs.Common.{◌<◌, length, arith, sym, ap, Some, take}
 use Rattle.std.proofs.lemmas.List.{take-append-drop, take_more}
 use Rattle.std.proofs.lemmas.Result.{IfOk-weaker, IfErr-weaker}
-use Rattle.multihash.proofs.Varints.VarintWriteLemmas.{one_byte}
-use Rattle.multihash.proofs.Varints.WordFrontLemmas.{bytes_of, cut_front}
+use Rattle.multihash.proofs.VarintWriteLemmas.{one_byte}
+use Rattle.multihash.proofs.WordFrontLemmas.{bytes_of, cut_front}
 use Rattle.multihash.proofs.varint.word.read_counted.Goals as goal
 
 pub returns-clause-ok : goal.returns-clause-ok

@@ -1,6 +1,6 @@
 use Rattle.std.proofs.Common.{length, ◌<◌, arith, sym, ap, Some, take}
 use Rattle.std.proofs.lemmas.List.{take_more, take-append-drop}
-use Rattle.multihash.proofs.Varints.VarintWriteLemmas.{one_byte}
+use Rattle.multihash.proofs.VarintWriteLemmas.{one_byte}
 use Rattle.multihash.proofs.varint.word.read_front.Goals as goal
 
 pub returns-then-bytes-lt128-clause-some : goal.returns-then-bytes-lt128-clause-some

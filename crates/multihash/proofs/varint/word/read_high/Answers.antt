@@ -1,5 +1,5 @@
 use Rattle.std.proofs.Common.{arith}
-use Rattle.multihash.proofs.Varints.WordFrontLemmas.{high_over, high_end, high_number, ends_short, stops_at_zero}
+use Rattle.multihash.proofs.WordFrontLemmas.{high_over, high_end, high_number, ends_short, stops_at_zero}
 use Rattle.multihash.proofs.varint.word.read_high.Goals as goal
 
 pub returns-then-last-clause-err : goal.returns-then-last-clause-err

@@ -1,5 +1,5 @@
 use Rattle.std.proofs.Common.{◌-◌, rules, length}
-use Rattle.multihash.proofs.Readings.ReadingLemmas.{Consumes-concatenated, take-put_mid_more}
+use Rattle.multihash.proofs.ReadingLemmas.{Consumes-concatenated, take-put_mid_more}
 use Rattle.multihash.proofs.no_std_io.traits.Read.read_exact.Goals as goal
 
 pub loop-filled-preserved : goal.loop-filled-preserved

@@ -1,5 +1,5 @@
 use Rattle.std.proofs.Common.{◌-◌, List, ℕ, rules, length, sym, subst}
-use Rattle.multihash.proofs.Readings.ReadingLemmas.{Consumes-concatenated, take-put_mid_more}
+use Rattle.multihash.proofs.ReadingLemmas.{Consumes-concatenated, take-put_mid_more}
 use Rattle.storage.specs.Hashing.{AddsBytes, AddsBytes-concatenated}
 use Rattle.storage.proofs.hashing.reader.HashingReaderRead.read_exact.Goals as goal
 

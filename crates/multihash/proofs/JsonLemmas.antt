@@ -14,7 +14,7 @@ use Rattle.std.proofs.lemmas.List.Sums.{AllPass-from_list_all}
 use Rattle.std.proofs.lemmas.List.Elements.{All-nil, All-cons, All-head, All-tail}
 use Rattle.serde_json.specs.Find.{as_array}
 use Rattle.serde_json.specs.declared.value.Value.{Value}
-use Rattle.multihash.specs.Private.Members.{byte_of_data, member_bytes, is_byte}
+use Rattle.multihash.specs.Private.{byte_of_data, member_bytes, is_byte}
 
 abbrev pub numbers : List ℕ → Items
 numbers ns = items_of (map (λ n. number (unsigned n)) ns)

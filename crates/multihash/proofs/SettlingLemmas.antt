@@ -6,12 +6,12 @@ use Rattle.std.proofs.lemmas.List.Elements.{All-nil, All-cons, All-replicate}
 use Rattle.multihash.specs.Varint.{IsContinuation, VarintError, insufficient, overflow, not_minimal, IsInsufficient, IsNotMinimal, BeginsMalformed, max_continuation, continuation_bytes, IsVarint}
 use Rattle.multihash.specs.Verdict.{Verdict, accepted, invalid_size, invalid_code, malformed, unexpected_eof, BeginsWithSize, BeginsWithCode, HasVerdict, IsIncomplete, BeginsWith}
 use Rattle.multihash.specs.Settling.{Settles, IsShortestSettling}
-use Rattle.multihash.proofs.Readings.VerdictLemmas.{coded, sized, pair_begins, verdict_unique}
+use Rattle.multihash.proofs.VerdictLemmas.{coded, sized, pair_begins, verdict_unique}
 use Rattle.std.specs.List.{All}
 use Rattle.multihash.specs.Pair.{Pair, FitsBuffer, digest_limit}
 use Rattle.multihash.specs.Encoding.{IsEncoding}
-use Rattle.multihash.proofs.Varints.DigitLemmas.{All-continuation_bytes}
-use Rattle.multihash.proofs.Varints.VarintLemmas.{varint_length, number_no_error}
+use Rattle.multihash.proofs.DigitLemmas.{All-continuation_bytes}
+use Rattle.multihash.proofs.VarintLemmas.{varint_length, number_no_error}
 use Rattle.multihash.proofs.WritingLemmas.{length_of_not_nil}
 
 pub split_prefix : (f g p : List ℕ) → IsStrictPrefix p (f ++ g) → IsStrictPrefix p f ⊎ ((q : List ℕ) × (p ≡ f ++ q) × IsStrictPrefix q g)

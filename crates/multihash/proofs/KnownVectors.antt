@@ -13,9 +13,9 @@ use Rattle.std.specs.declared.cmp.Ordering.TheVariants.{Less, Equal, Greater}
 use Rattle.std.specs.Hash.{le_bytes}
 use Rattle.multihash.specs.Comparing.{compare_pairs, hashed_pair}
 use Rattle.multihash.specs.Verdict.{Verdict, accepted, invalid_size, invalid_code, malformed, unexpected_eof, BeginsWithSize, HasVerdict}
-use Rattle.multihash.proofs.Readings.VerdictLemmas.{found, has_found}
+use Rattle.multihash.proofs.VerdictLemmas.{found, has_found}
 use Rattle.multihash.specs.Settling.{Settles, IsShortestSettling}
-use Rattle.multihash.proofs.Readings.SettlingLemmas.{shortest_size}
+use Rattle.multihash.proofs.SettlingLemmas.{shortest_size}
 
 -- ---- lists of numbers
 

@@ -8,14 +8,14 @@ use Rattle.multihash.specs.Pair.{Pair, FitsBuffer, digest_limit}
 use Rattle.multihash.specs.Varint.{IsVarint}
 use Rattle.multihash.specs.Encoding.{IsEncoding}
 use Rattle.multihash.specs.Verdict.{Verdict, accepted, invalid_size, invalid_code, malformed, unexpected_eof, BeginsWith, BeginsWithSize, BeginsWithCode, HasVerdict, HasWholeVerdict, HasHead}
-use Rattle.multihash.proofs.Varints.DigitLemmas.{All-append_right}
-use Rattle.multihash.proofs.Varints.VarintWriteLemmas.{one_byte}
-use Rattle.multihash.proofs.Varints.VarintLemmas.{Front, number, error, HasFront, front_is, front_of, front_of_has}
+use Rattle.multihash.proofs.DigitLemmas.{All-append_right}
+use Rattle.multihash.proofs.VarintWriteLemmas.{one_byte}
+use Rattle.multihash.proofs.VarintLemmas.{Front, number, error, HasFront, front_is, front_of, front_of_has}
 use Rattle.multihash.proofs.EncodingLemmas.{encoding_cut}
 use Rattle.multihash.specs.Refusal.{Refusal}
 use Rattle.multihash.specs.Consuming.{ConsumesVarint}
 use Rattle.multihash.specs.Outcome.{IsErrorOf}
-use Rattle.multihash.proofs.Readings.ReadingLemmas.{Consumes-cut}
+use Rattle.multihash.proofs.ReadingLemmas.{Consumes-cut}
 
 -- ---- two varints, one after the other
 

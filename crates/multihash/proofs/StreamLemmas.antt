@@ -5,8 +5,8 @@ use Rattle.std.specs.List.{All}
 use Rattle.multihash.specs.Pair.{Pair, FitsBuffer}
 use Rattle.multihash.specs.Encoding.{IsEncoding}
 use Rattle.multihash.specs.Streams.{AreParts, AreConcatenated, ConsumesPairs}
-use Rattle.multihash.proofs.Varints.DigitLemmas.{All-append_right}
-use Rattle.multihash.proofs.Varints.VarintLemmas.{varint_some}
+use Rattle.multihash.proofs.DigitLemmas.{All-append_right}
+use Rattle.multihash.proofs.VarintLemmas.{varint_some}
 use Rattle.multihash.proofs.EncodingLemmas.{encoding_unique}
 use Rattle.std.proofs.lemmas.Bool.{cases_lt}
 use Rattle.std.proofs.lemmas.List.{map_push, nil_from_length}
@@ -14,7 +14,7 @@ use Rattle.std.proofs.lemmas.List.Elements.{All-push, All-head}
 use Rattle.multihash.specs.Consuming.{ConsumesSome}
 use Rattle.multihash.specs.Reading.{Consumes}
 use Rattle.multihash.specs.Multihash.{Fields, pair_of}
-use Rattle.multihash.proofs.Readings.ReadingLemmas.{Consumes-concatenated, Consumes-told}
+use Rattle.multihash.proofs.ReadingLemmas.{Consumes-concatenated, Consumes-told}
 
 module _ {A : Type 0} (IsPart : A → List ℕ → Type 0) where
   -- one more part

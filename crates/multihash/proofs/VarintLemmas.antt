@@ -7,7 +7,7 @@ use Rattle.std.proofs.lemmas.List.{length-map, length_push, map_push, same_from_
 use Rattle.std.proofs.lemmas.List.Elements.{All-nil, All-head, All-tail, All-push}
 use Rattle.multihash.specs.Bytes.{IsBytes, place_value}
 use Rattle.multihash.specs.Varint.{varint_limit, max_continuation, last_byte_limit, IsContinuation, continuation_bytes, IsVarint, IsOverflow, IsNotMinimal, VarintError, insufficient, overflow, not_minimal, BeginsMalformed}
-use Rattle.multihash.proofs.Varints.DigitLemmas.{place_value_below, place_value_last, place_value_unique, pow_power, All-append_left, All-append_right, All-continuation_bytes, IsDigit, low_digits, low_digits_below, continuation_bytes-low_digits, low_digits-continuation_bytes}
+use Rattle.multihash.proofs.DigitLemmas.{place_value_below, place_value_last, place_value_unique, pow_power, All-append_left, All-append_right, All-continuation_bytes, IsDigit, low_digits, low_digits_below, continuation_bytes-low_digits, low_digits-continuation_bytes}
 use Rattle.std.specs.Int.{w64, leading_zeros}
 use Rattle.std.proofs.lemmas.Nat.{leading_top}
 

@@ -8,7 +8,7 @@ use Rattle.std.proofs.lemmas.List.Elements.{All-nil, All-push}
 use Rattle.std.proofs.lemmas.Bool.{cases_lt, lt-ltb, le-ltb}
 use Rattle.multihash.specs.Bytes.{place_value}
 use Rattle.multihash.specs.Varint.{varint_limit, max_continuation, continuation_bytes, IsVarint}
-use Rattle.multihash.proofs.Varints.DigitLemmas.{place_value-nil, place_value_last, IsDigit}
+use Rattle.multihash.proofs.DigitLemmas.{place_value-nil, place_value_last, IsDigit}
 use Rattle.multihash.specs.Encoding.{varint_within, varint_of}
 
 -- that many digits have been written, and the rest is the number of those still to come

@@ -6,7 +6,7 @@ use Rattle.std.proofs.lemmas.Nat.{mod_below, div_below, le_bytes_8}
 use Rattle.std.proofs.lemmas.List.Elements.{All-nil, All-cons, All-head, All-same}
 use Rattle.multihash.specs.Bytes.{IsBytes, place_value}
 use Rattle.multihash.specs.Scale.{IsScaleCode, IsScale, HasScaleSize, HasScaleVerdict, ScaleMayFailWith, ConsumesAtScaleError}
-use Rattle.multihash.proofs.Varints.DigitLemmas.{place_value-nil, place_value-cons, place_value_unique, All-append_left, All-append_right}
+use Rattle.multihash.proofs.DigitLemmas.{place_value-nil, place_value-cons, place_value_unique, All-append_left, All-append_right}
 use Rattle.std.proofs.lemmas.Bool.{cases_lt, lt-ltb, le-ltb}
 use Rattle.std.proofs.lemmas.List.{take_at, drop_at, take-append-drop, length-take-le, append_cancel_left}
 use Rattle.multihash.specs.Pair.{Pair}
@@ -18,8 +18,8 @@ use Rattle.std.specs.Io.KnownBytes.{prepend_known}
 use Rattle.multihash.specs.Refusal.{Refusal, of_io, IsReaderError, IsInvalidSize, IsInvalidCode}
 use Rattle.multihash.specs.Outcome.{IsErrorOf, IsResultOf}
 use Rattle.multihash.specs.Multihash.{Fields, pair_of}
-use Rattle.multihash.proofs.Readings.ReadingLemmas.{IfSome-consumed, Consumes-concatenated}
-use Rattle.multihash.proofs.Readings.ReadConsumingLemmas.{error_unique, own_no_verdict}
+use Rattle.multihash.proofs.ReadingLemmas.{IfSome-consumed, Consumes-concatenated}
+use Rattle.multihash.proofs.ReadConsumingLemmas.{error_unique, own_no_verdict}
 
 byte_at-is : (i n : ℕ) → byte_at i n ≡ n / 256 ^ i % 256
 byte_at-is zero n = ap (λ (m : ℕ). m % 256) (sym (ap (λ (p : ℕ). n / p) (pow-zero 256) ∙ div-one n))

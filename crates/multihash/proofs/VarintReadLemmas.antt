@@ -12,10 +12,10 @@ use Rattle.multihash.specs.Fault.{Fault}
 use Rattle.multihash.specs.Reading.{Consumes}
 use Rattle.multihash.specs.Refusal.{Refusal, of_io, of_varint}
 use Rattle.multihash.specs.Consuming.{ConsumesVarint, ConsumesAtVarintError}
-use Rattle.multihash.proofs.Varints.DigitLemmas.{place_value-nil, place_value-cons, low_digits, or_digits}
-use Rattle.multihash.proofs.Varints.VarintLemmas.{low_digits_in_range, varint_from_bytes, overflow_after, zero_after}
-use Rattle.multihash.proofs.Readings.ReadingLemmas.{Consumes-none, Consumes-concatenated}
-use Rattle.multihash.proofs.Readings.SettlingLemmas.{before_step}
+use Rattle.multihash.proofs.DigitLemmas.{place_value-nil, place_value-cons, low_digits, or_digits}
+use Rattle.multihash.proofs.VarintLemmas.{low_digits_in_range, varint_from_bytes, overflow_after, zero_after}
+use Rattle.multihash.proofs.ReadingLemmas.{Consumes-none, Consumes-concatenated}
+use Rattle.multihash.proofs.SettlingLemmas.{before_step}
 
 -- that many bytes have been consumed, all continuation bytes, and the sum is the value of their digits
 pub record ReadsContinuation (old now : Option (List ℕ)) (sum i : ℕ) : Type 0 where

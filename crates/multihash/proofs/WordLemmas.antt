@@ -6,8 +6,8 @@ use Rattle.std.proofs.lemmas.Nat.Bits.{bit_at-suc, bit_at-zero, bit_at_and, bit_
 use Rattle.std.proofs.lemmas.List.{get_or-drop, get_or-replicate}
 use Rattle.std.proofs.lemmas.List.Elements.{All-drop, All-head, All-tail, All-replicate}
 use Rattle.multihash.specs.Bytes.{IsBytes, place_value}
-use Rattle.multihash.specs.Private.Word.{digits_low}
-use Rattle.multihash.proofs.Varints.DigitLemmas.{place_value-nil, place_value-cons, low_digits}
+use Rattle.multihash.specs.Private.{digits_low}
+use Rattle.multihash.proofs.DigitLemmas.{place_value-nil, place_value-cons, low_digits}
 use Prim.Native.Nat.{min}
 use Rattle.std.specs.Int.{w64, bit_at, bit_not, trailing_zeros}
 use Rattle.std.specs.Int.Bits.{and_self}

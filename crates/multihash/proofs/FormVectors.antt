@@ -3,28 +3,28 @@
 use Rattle.std.proofs.Common.{ℕ, ◌<◌, List, [], ◌∷◌, sym, subst, arith, ◌≡◌, ◌++◌, ltb, true, length, refl, ap, inl, inr, ◌∙◌, ◌⊎◌, append-nil}
 use Rattle.std.specs.List.{All, list_all}
 use Rattle.multihash.specs.Json.{IsByteArray, number_array}
-use Rattle.multihash.proofs.Forms.JsonLemmas.{array_unique}
+use Rattle.multihash.proofs.JsonLemmas.{array_unique}
 use Rattle.std.specs.Prelude.{Some, codes, Option, None, IfSome}
 use Rattle.multihash.specs.Bytes.{place_value}
 use Rattle.multihash.specs.Pair.{Pair, FitsBuffer}
 use Rattle.multihash.specs.Verdict.{Verdict, accepted, invalid_size, invalid_code, unexpected_eof, malformed, HasVerdict, IsIncomplete}
 use Rattle.multihash.specs.Scale.{IsScaleCode, IsScale, HasScaleVerdict, ScaleMayFailWith, ConsumesAtScaleError}
-use Rattle.multihash.proofs.Examples.KnownVectors.{all_below, pair, largest, size_5, empty_digest}
-use Rattle.multihash.proofs.Forms.ScaleLemmas.{scale_found, has_scale_found, scale_verdict_unique}
+use Rattle.multihash.proofs.KnownVectors.{all_below, pair, largest, size_5, empty_digest}
+use Rattle.multihash.proofs.ScaleLemmas.{scale_found, has_scale_found, scale_verdict_unique}
 use Rattle.multihash.specs.Fault.{IsUnexpectedEof}
 use Rattle.multihash.specs.Refusal.{Refusal, of_io, of_size, of_code, of_varint, of_not_bytes}
 use Rattle.multihash.specs.Reading.{Consumes}
-use Rattle.multihash.proofs.Examples.ReadingVectors.{other, eof, consumed_is, size_in}
-use Rattle.multihash.proofs.Examples.ConsumingVectors.{returns_no_byte, consumes_no_byte_after_size}
+use Rattle.multihash.proofs.ReadingVectors.{other, eof, consumed_is, size_in}
+use Rattle.multihash.proofs.ConsumingVectors.{returns_no_byte, consumes_no_byte_after_size}
 use Rattle.multihash.specs.Streams.{ConsumesPairs, StopsAfterPairs}
 use Rattle.std.proofs.lemmas.List.Elements.{All-head, All-tail}
 use Rattle.multihash.specs.Varint.{insufficient}
 use Rattle.multihash.specs.Settling.{Settles}
 use Rattle.multihash.specs.Outcome.{IsErrorOf}
 use Rattle.multihash.specs.Consuming.{ConsumesShortestSettling, ConsumesNothingSettling}
-use Rattle.multihash.proofs.Readings.ReadingLemmas.{Consumes-none}
-use Rattle.multihash.proofs.Readings.VerdictLemmas.{verdict_unique}
-use Rattle.multihash.proofs.Readings.SettlingLemmas.{late_settles}
+use Rattle.multihash.proofs.ReadingLemmas.{Consumes-none}
+use Rattle.multihash.proofs.VerdictLemmas.{verdict_unique}
+use Rattle.multihash.proofs.SettlingLemmas.{late_settles}
 
 -- ---- JSON
 

@@ -5,7 +5,7 @@ use Rattle.std.specs.Prelude.{⊤, Result, Ok, Err}
 use Rattle.std.proofs.lemmas.Bool.{false≢true}
 use Rattle.multihash.specs.Fault.{Fault}
 use Rattle.multihash.specs.Writing.{IsWriterFault, AppendsPrefix, IsWriterFaultOrFull, CountsWriterFailures, WriteLaws, WriteAllLaws, IsFault, AppendsAtEnd, AdvancesPast}
-use Rattle.multihash.proofs.Examples.ReadingVectors.{other, eof, full, memory}
+use Rattle.multihash.proofs.ReadingVectors.{other, eof, full, memory}
 use Rattle.multihash.specs.Filling.{FillsSlice, Fills, IsFilled}
 use Rattle.multihash.specs.declared.no_std_io.slice_writer.SliceWriter.{SliceWriter}
 

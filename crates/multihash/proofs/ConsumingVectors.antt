@@ -8,11 +8,11 @@ use Rattle.multihash.specs.Reading.{Consumes}
 use Rattle.multihash.specs.Fault.{IsUnexpectedEof}
 use Rattle.multihash.specs.Refusal.{Refusal, of_io, of_size, of_code, of_varint, of_not_bytes, IsVarintError, IsAnyVarintError, IsFrontError}
 use Rattle.multihash.specs.Consuming.{IsFrontErrorAt, IsHeadError, ReadMayFailWith, ConsumesAtVarintError, ConsumesAtError, ConsumesShortestSettling, ConsumesNothingSettling, FailsBy, VarintFails, ExactFails}
-use Rattle.multihash.proofs.Varints.VarintLemmas.{front_unique, error}
-use Rattle.multihash.proofs.Readings.VerdictLemmas.{verdict_unique}
-use Rattle.multihash.proofs.Readings.SettlingLemmas.{shortest_unique, shortest_code_error}
-use Rattle.multihash.proofs.Examples.ReadingVectors.{other, eof, told, consumed_is}
-use Rattle.multihash.proofs.Examples.KnownVectors.{all_continuation, code_alone, size_above_limit, size_settles, shortest_of_size}
+use Rattle.multihash.proofs.VarintLemmas.{front_unique, error}
+use Rattle.multihash.proofs.VerdictLemmas.{verdict_unique}
+use Rattle.multihash.proofs.SettlingLemmas.{shortest_unique, shortest_code_error}
+use Rattle.multihash.proofs.ReadingVectors.{other, eof, told, consumed_is}
+use Rattle.multihash.proofs.KnownVectors.{all_continuation, code_alone, size_above_limit, size_settles, shortest_of_size}
 
 -- ---- errors
 

@@ -14,9 +14,9 @@ use Rattle.multihash.specs.Consuming.{ReadMayFailWith, ConsumesShortestSettling,
 use Rattle.multihash.specs.Outcome.{IsErrorOf, IsResultOf}
 use Rattle.multihash.specs.Multihash.{Fields, pair_of}
 use Rattle.multihash.proofs.EncodingLemmas.{digest_fits}
-use Rattle.multihash.proofs.Readings.ReadingLemmas.{IfSome-consumed, Consumes-concatenated, Consumes-cut}
-use Rattle.multihash.proofs.Readings.VerdictLemmas.{verdict_unique, coded, sized}
-use Rattle.multihash.proofs.Readings.SettlingLemmas.{verdict_kept, none_settles, IsIncompleteInput, before_digest, shortest_from, before_second, before_both}
+use Rattle.multihash.proofs.ReadingLemmas.{IfSome-consumed, Consumes-concatenated, Consumes-cut}
+use Rattle.multihash.proofs.VerdictLemmas.{verdict_unique, coded, sized}
+use Rattle.multihash.proofs.SettlingLemmas.{verdict_kept, none_settles, IsIncompleteInput, before_digest, shortest_from, before_second, before_both}
 
 -- ---- errors and verdicts
 

@@ -1,5 +1,0 @@
-pub mod KnownVectors
-pub mod FormVectors
-pub mod ReadingVectors
-pub mod ConsumingVectors
-pub mod WritingVectors

@@ -1,3 +1,0 @@
-pub mod JsonLemmas
-pub mod ScaleLemmas
-pub mod StreamLemmas

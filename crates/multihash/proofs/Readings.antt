@@ -1,4 +1,0 @@
-pub mod ReadConsumingLemmas
-pub mod ReadingLemmas
-pub mod SettlingLemmas
-pub mod VerdictLemmas
