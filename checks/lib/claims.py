@@ -65,7 +65,7 @@ READ_BY_OTHERS = {
     C: ("c", "go", "cmake"),  # c_library.t, install.t
     JS: ("html", "import { decode, MultihashError }"),  # test.sh
     PYTHON: ("python",),  # its tests
-    RUST: ("rust",),  # its tests, as RUST_C's
+    RUST: ("rust", "toml"),  # its tests, as RUST_C's, and rust.t
     RUST_C: ("rust",),
     FORMAT: ("",),  # byte_errors
     ARCHITECTURE: ("sh",),  # apt-get
@@ -285,7 +285,7 @@ def block_errors(page: str, text: str) -> Iterator[str]:
             missing = {*words} - words_of(())
         else:
             lines = (re.sub(r" +(//|#) .*$", "", line).strip() for line in block[2].splitlines())
-            lines = (flat(line).replace("pub ", "").replace("path/of/bindings/rust/", "../") for line in lines)
+            lines = (flat(line).replace("pub ", "") for line in lines)
             missing = {line for line in lines if line not in flat_sources(folders(page))}
         for line in sorted(missing):
             yield f"no source has this of a block: {line}"

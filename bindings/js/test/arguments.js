@@ -238,6 +238,9 @@ function multihashes(module) {
   for (const pair of [[other, { ...other }], [{ ...other }, other]])
     fails(TypeError, () => module.compare(...pair), 'compare, an object', 'multihashes have to be a Multihash');
   fails(TypeError, () => module.compare(other, withDigest(module, new Uint8Array(300))), 'a digest that is too long');
+  const wrong = Object.assign(module.decode(EXAMPLE), { code: '22' });
+  for (const pair of [[other, wrong], [wrong, other]])
+    fails(TypeError, () => module.compare(...pair), 'a code', 'a code has to be a number or a bigint');
 }
 
 /** Whether a clone of an error keeps its cause, which Safari drops. */

@@ -1,9 +1,11 @@
 // What the types say, for tsc --noEmit --strict: each public name has this type, and no other.
 import * as multihash from 'verified-multihash';
+import { MultihashReader } from 'verified-multihash';
+import { encode } from 'verified-multihash';
+import type { ByteStream, Details, Head, Multihash, MultihashError, Read, Status, Wide } from 'verified-multihash';
 import * as inline from 'verified-multihash/inline';
 import * as compiled from 'verified-multihash/module';
-import type { ByteStream, Details, Head, Multihash, MultihashError, MultihashReader, Read, Status, Wide } from
-  'verified-multihash';
+import { connect, decode } from 'verified-multihash/module';
 
 type Same<Left, Right> =
   (<T>() => T extends Left ? 1 : 2) extends (<T>() => T extends Right ? 1 : 2) ? true : { found: Left };
@@ -94,14 +96,17 @@ found.code = 3;
 // @ts-expect-error Multihash.of makes one
 new multihash.Multihash(18, found.digest);
 
-// A host for workers has: import module from 'verified-multihash/multihash.wasm';
-compiled.connect(await WebAssembly.compileStreaming(fetch('multihash.wasm')));
+// A host for workers has: import compiled from 'verified-multihash/multihash.wasm';
+connect(await WebAssembly.compileStreaming(fetch('multihash.wasm')));
 
 declare const content: BufferSource;
-export const bytes = multihash.encode(0x12, new Uint8Array(await crypto.subtle.digest('SHA-256', content)));
-const { body } = await fetch('multihashes.bin');
-if (body !== null)
-  for await (const { code } of new multihash.MultihashReader(body, { limit: 64 })) console.log(code);
-export const ofStream = (stream: ReadableStream<Uint8Array>): MultihashReader => new multihash.MultihashReader(stream);
+export const read = decode;
+export const bytes = encode(0x12, new Uint8Array(await crypto.subtle.digest('SHA-256', content)));
+
+const response = await fetch('multihashes.bin');
+if (response.body !== null)
+  for await (const multihash of new MultihashReader(response.body, { limit: 64 })) console.log(multihash.code);
+
+export const ofStream = (stream: ReadableStream<Uint8Array>): MultihashReader => new MultihashReader(stream);
 // @ts-expect-error a stream of texts
-export const ofTexts = (stream: ReadableStream<string>): MultihashReader => new multihash.MultihashReader(stream);
+export const ofTexts = (stream: ReadableStream<string>): MultihashReader => new MultihashReader(stream);
