@@ -75,7 +75,7 @@ write_program() {
     'pub fn read(bytes: &[u8]) -> Result<Multihash<64>, Error> { Multihash::read(bytes) }' > library/src/lib.rs
   cat > src/main.rs << 'END'
 fn main() {
-    assert_eq!(library::read(b"\x12\x03abc").unwrap(), multihash::Multihash::wrap(0x12, b"abc").unwrap());
+    assert_eq!(library::read(b"\x12\x03abc").unwrap(), multihash::Multihash::<64>::wrap(0x12, b"abc").unwrap());
     // upstream's package accepts a code of ten bytes
     let error = library::read(b"\xff\xff\xff\xff\xff\xff\xff\xff\xff\x01\x00").unwrap_err();
     assert_eq!(error.to_string(), "input bytes exceed maximum");
