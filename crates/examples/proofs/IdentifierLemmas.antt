@@ -11,8 +11,8 @@ use Rattle.multihash.specs.Consuming.{ConsumesVarint}
 use Rattle.multihash.proofs.CallingLemmas.{number_read, number_found, exact_found, read_of_encoding, head_unique, head_no_error, head_of_encoding}
 use Rattle.multihash.proofs.StreamLemmas.{part_read}
 use Rattle.multihash.proofs.ReadingLemmas.{Consumes-concatenated}
-use Rattle.multihash.proofs.EncodingLemmas.{digest_fits, encoding_unique, encoding_same}
-use Rattle.multihash.proofs.VarintLemmas.{same_number, varint_unique}
+use Rattle.multihash.proofs.EncodingLemmas.{digest_fits, encoding_unique}
+use Rattle.multihash.proofs.VarintLemmas.{same_number}
 use Rattle.examples.specs.ContentId.{Content, version_0, version_1, content_of, IsContentId, FitsContentId, HashFails, ContentIdFails}
 use Rattle.examples.specs.declared.content_id.ContentId.{ContentId}
 use Rattle.examples.specs.declared.content_id.ContentId.TheVariants.{V0, V1}
@@ -113,18 +113,6 @@ make_version_1 version codec p a b encoding is_version first second encodes = re
 pub bare_is : (c : Content) (digest b : List ℕ) (p : Pair) → c ≡ version_0 digest → p ≡ record { code = 0x12; digest = digest } → length digest ≡ 32 → IsEncoding p b → IsContentId c b
 bare_is c digest b p is pair whole encodes =
     subst (λ x. IsContentId x b) (sym is) (record { whole = whole; encodes = subst (λ (q : Pair). IsEncoding q b) pair encodes })
-
--- a content has at most one identifier
-pub content_same : (c : Content) (a b : List ℕ) → IsContentId c a → IsContentId c b → a ≡ b
-content_same (version_0 digest) a b h k = encoding_same _ a b h.encodes k.encodes
-content_same (version_1 codec p) a b h k =
-    cc (
-      h.spelled,
-      k.spelled,
-      varint_unique 1 h.version k.version h.is_version k.is_version,
-      varint_unique codec h.codec_bytes k.codec_bytes h.is_codec k.is_codec,
-      encoding_same p h.encoding k.encoding h.encodes k.encodes,
-    )
 
 -- three parts were consumed one after another
 pub takes_three : (a b c d : Option (List ℕ)) (x y z : List ℕ) → Consumes a x b → Consumes b y c → Consumes c z d → Consumes a (x ++ (y ++ z)) d

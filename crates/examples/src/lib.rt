@@ -7,7 +7,5 @@ pub mod content_id;
 pub mod forms;
 pub mod merkle;
 pub mod peer_id;
-pub mod retries;
-pub mod section;
 pub mod slices;
 pub mod std_reader;

@@ -3,15 +3,12 @@
 use examples::any_reader::read_up_to;
 use examples::code_table;
 use examples::content_id::{Codec, ContentId, ContentIdError};
-use examples::forms::{json, scale, there_and_back};
 use examples::merkle::{through, write_node};
-use examples::retries::Retries;
-use examples::section::read_section;
 use examples::std_reader::StdReader;
 use fakes::expect::ErrorKind;
 use fakes::streams::{Counts, CountsWrites, Cuts, Drip, FailAt, FailWrite};
 use fakes::{check, check_eq, expect_bytes, expect_ok, expect_rejected};
-use headline::{list_through, read_verdict, same};
+use headline::{list_through, read_verdict};
 use multihash::no_std_io::{self, Read, Write};
 use multihash::{Error, Multihash};
 use std::alloc::Global;
@@ -23,26 +20,23 @@ use storage::log::{EntryError, read_entry, write_entry};
 use storage::merkle::{root_and_path, verify_path};
 use storage::prefixed::{read_prefixed, write_prefixed};
 
-// A section of CARv1: the length 40, the identifier of `aaaa` as raw bytes, with its SHA-256 from another
-// implementation, and these bytes.
-pub(crate) const SECTION: [u8; 41] = [
-    40, 1, 0x55, 0x12, 32, 0x61, 0xbe, 0x55, 0xa8, 0xe2, 0xf6, 0xb4, 0xe1, 0x72, 0x33, 0x8b, 0xdd,
+// The identifier of `aaaa` as raw bytes, with its SHA-256 from another implementation.
+const IDENTIFIER: [u8; 36] = [
+    1, 0x55, 0x12, 32, 0x61, 0xbe, 0x55, 0xa8, 0xe2, 0xf6, 0xb4, 0xe1, 0x72, 0x33, 0x8b, 0xdd,
     0xf1, 0x84, 0xd6, 0xdb, 0xee, 0x29, 0xc9, 0x88, 0x53, 0xe0, 0xa0, 0x48, 0x5e, 0xce, 0xe7, 0xf2,
-    0x7b, 0x9a, 0xf0, 0xb4, 97, 97, 97, 97,
+    0x7b, 0x9a, 0xf0, 0xb4,
 ];
 
 // A call that reads.
 #[derive(Clone, Copy, Debug)]
 enum Reads {
     Hashed,
-    Retried,
     Verdict,
     Coded,
     UpTo(usize),
     Listed,
     Linked,
     Identifier,
-    Section,
     Prefixed,
     Entry,
 }
@@ -78,16 +72,12 @@ impl Reads {
             Reads::Hashed => HashingReader::new(r)
                 .read_exact(&mut [0; 100])
                 .map_err(Error::from),
-            Reads::Retried => Retries::new(r, 0)
-                .read_exact(&mut [0; 100])
-                .map_err(Error::from),
             Reads::Verdict => done(read_verdict::<32, _>(r)),
             Reads::Coded => done(code_table::read::<32, _>(&[18], r)),
             Reads::UpTo(limit) => done(read_up_to::<32, _>(alloc, r, limit)),
             Reads::Listed => done(list_through::<32, 32, _, _>(alloc, &one, &mut out, r)),
             Reads::Linked => done(through::<32, 32, _, _>(alloc, &one, &[], &mut out, r)),
             Reads::Identifier => of_id(ContentId::<32>::read(r)),
-            Reads::Section => of_id(read_section::<32, _>(r)),
             Reads::Prefixed => of_entry(read_prefixed(alloc, r, usize::MAX)),
             Reads::Entry => of_entry(read_entry::<32, _>(alloc, r, usize::MAX)),
         }
@@ -124,13 +114,12 @@ fn calls_of_readers_are_counted(rt: HostRuntime) {
     let alloc = rt.alloc();
     let rt = &rt;
     let hundred = [7; 100];
-    let (id, hash) = (&SECTION[1..37], &SECTION[3..37]);
+    let hash = &IDENTIFIER[2..];
     let mut entry = [0; 38];
     entry[..34].copy_from_slice(hash);
     entry[34..].copy_from_slice(&BLOCK);
-    let rows: [(Reads, &[u8], [usize; 4]); 14] = [
+    let rows: [(Reads, &[u8], [usize; 4]); 12] = [
         (Reads::Hashed, &hundred, [0, 1, 0, 100]),
-        (Reads::Retried, &hundred, [0, 2, 0, 100]),
         (Reads::Verdict, hash, [2, 0, 1, 34]),
         (Reads::Coded, hash, [2, 0, 1, 34]),
         (Reads::UpTo(0), hash, [0; 4]),
@@ -139,8 +128,7 @@ fn calls_of_readers_are_counted(rt: HostRuntime) {
         (Reads::Listed, hash, [2, 0, 1, 34]),
         (Reads::Linked, hash, [2, 0, 1, 34]),
         (Reads::Identifier, hash, [2, 0, 1, 34]),
-        (Reads::Identifier, id, [4, 0, 1, 36]),
-        (Reads::Section, &SECTION, [5, 0, 1, 37]),
+        (Reads::Identifier, &IDENTIFIER, [4, 0, 1, 36]),
         (Reads::Prefixed, &BLOCK, [1, 0, 1, 4]),
         (Reads::Entry, &entry, [3, 0, 2, 38]),
     ];
@@ -231,7 +219,6 @@ fn a_long_slice_is_read_at_once(rt: HostRuntime) {
         check_eq!(rt; expect_ok!(rt; HashingReader::new(bytes).read(buffer)), n);
         check_eq!(rt; expect_ok!(rt; HashingWriter::new(Vec::new(alloc)).write(bytes)), n);
         check_eq!(rt; expect_ok!(rt; ContentHasher::new().write(bytes)), n);
-        check_eq!(rt; expect_ok!(rt; Retries::new(bytes, 0).read(buffer)), n.min(64));
     }
 }
 
@@ -359,22 +346,4 @@ fn trees_of_each_size_are_made(rt: HostRuntime) {
         expect_leaves(&rt, rt.alloc(), leaves, 0);
         expect_leaves(&rt, rt.alloc(), leaves, count - 1);
     }
-}
-
-#[test]
-fn digests_of_each_length_are_compared(rt: HostRuntime) {
-    let bytes = [200; 255];
-    for len in 0..256 {
-        let m = expect_ok!(&rt; Multihash::<255>::wrap(300, bytes.get(..len).unwrap_or(&bytes)));
-        expect_ok!(&rt; same(rt.alloc(), &m, &m));
-    }
-}
-
-#[test]
-fn each_form_is_made_and_read(rt: HostRuntime) {
-    let alloc = rt.alloc();
-    let (_, m) = expect_ok!(&rt; there_and_back(alloc, &[7; 32]));
-    let m = expect_ok!(&rt; m.resize::<32>());
-    expect_ok!(&rt; scale(alloc, &m));
-    expect_ok!(&rt; json(alloc, &m));
 }

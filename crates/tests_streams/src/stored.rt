@@ -1,12 +1,9 @@
 //! Known values of `storage` and `examples`, that their errors are printed, and that each block is hashed
 //! once.
-use crate::callers::SECTION;
 use examples::content_id::ContentIdError;
 use examples::peer_id::PeerError;
-use examples::retries::Retries;
-use examples::section::section_front;
 use fakes::expect::ErrorKind;
-use fakes::streams::{Cuts, Drip, FailAt};
+use fakes::streams::{Cuts, Drip};
 use fakes::{check, check_eq, expect_bytes, expect_ok};
 use multihash::Multihash;
 use multihash::no_std_io::{self, Write};
@@ -81,32 +78,6 @@ fn entries_are_read_back(rt: HostRuntime) {
     }
     expect_bytes!(rt; &log, &LOG);
     expect_bytes!(rt; valid_prefix(&LOG), &LOG);
-}
-
-#[test]
-fn a_section_is_read(rt: HostRuntime) {
-    let rt = &rt;
-    match section_front::<32>(&SECTION) {
-        Ok(Some((id, data, rest))) => {
-            let mut bytes = [0u8; 36];
-            expect_ok!(rt; id.write(&mut bytes.as_mut_slice()));
-            expect_bytes!(rt; &bytes, &SECTION[1..37]);
-            check_eq!(rt; (data, rest.len(), id.encoded_len()), (b"aaaa".as_slice(), 0, 36));
-        }
-        _ => check!(rt; false),
-    }
-}
-
-#[test]
-fn a_failure_costs_a_try(rt: HostRuntime) {
-    let rt = &rt;
-    for calls in 0..4 {
-        let reader = FailAt::new(Cuts::new(&[0, 2, 7, 8, 9], 1), calls, ErrorKind::LINK_DOWN);
-        let mut again = Retries::new(reader, 2);
-        let multihash = expect_ok!(rt; Multihash::<4>::read(&mut again));
-        expect_bytes!(rt; multihash.digest(), &[7, 8]);
-        check_eq!(rt; (again.tries(), again.reader.asked), (1, 5), calls);
-    }
 }
 
 #[test]
