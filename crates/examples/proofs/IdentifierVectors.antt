@@ -4,14 +4,16 @@ use Rattle.multihash.specs.Pair.{Pair, FitsBuffer}
 use Rattle.multihash.specs.Encoding.{IsEncoding}
 use Rattle.multihash.specs.Varint.{IsVarint}
 use Rattle.multihash.proofs.VarintWriteLemmas.{one_byte}
-use Rattle.examples.specs.ContentId.{version_1, IsContentId, FitsContentId, HashFails, ContentIdFails, HasTrailingBytes}
+use Rattle.examples.specs.ContentId.{content_error_text, version_1, IsContentId, FitsContentId, HashFails, ContentIdFails, HasTrailingBytes}
 use Rattle.examples.proofs.IdentifierLemmas.{one_place}
+use Rattle.std.specs.Prelude.{codes}
+use Rattle.std.specs.Fmt.{digits}
 use Rattle.multihash.specs.Verdict.{malformed}
 use Rattle.multihash.proofs.CallingLemmas.{number_read, number_found, rejected_no_encoding, head_of_encoding}
 use Rattle.multihash.proofs.EncodingLemmas.{encoding_unique}
-use Rattle.examples.specs.PeerId.{IsPeer, PeerFails}
+use Rattle.examples.specs.PeerId.{IsAllowed, IsPeer, PeerFails, peer_error_text}
 use Rattle.examples.specs.declared.content_id.ContentIdError.{ContentIdError}
-use Rattle.examples.specs.declared.content_id.ContentIdError.TheVariants.{OtherVersion}
+use Rattle.examples.specs.declared.content_id.ContentIdError.TheVariants.{OtherVersion, Trailing}
 use Rattle.examples.specs.declared.peer_id.PeerError.{PeerError}
 use Rattle.examples.specs.declared.peer_id.PeerError.TheVariants.{Malformed, NotAllowed, OtherLength}
 
@@ -100,6 +102,19 @@ none_after S input h = omega (arith, h.some)
 
 -- ---- peer identifiers
 
+allowed_sizes : IsAllowed 0 42 × ¬ (IsAllowed 0 43) × IsAllowed 0x12 32 × ¬ (IsAllowed 0x12 31) × ¬ (IsAllowed 0x12 33)
+allowed_sizes = (
+  inl (refl, omega arith),
+  no_other 0 43 (omega arith) (omega arith),
+  inr (refl, refl),
+  no_other 0x12 31 (omega arith) (omega arith),
+  no_other 0x12 33 (omega arith) (omega arith),
+)
+  where
+    no_other : (code size : ℕ) → ¬ ((code ≡ 0) × (size ≤ 42)) → ¬ (size ≡ 32) → ¬ (IsAllowed code size)
+    no_other code size identity hash (inl is) = identity is
+    no_other code size identity hash (inr is) = hash is.1
+
 -- an identifier has no error
 no_error : (p : Pair) (bytes : List ℕ) (e : PeerError) → IsPeer p → IsEncoding p bytes → ¬ (PeerFails bytes e)
 no_error p bytes (Malformed r) is encodes (f, named, v) =
@@ -111,3 +126,12 @@ no_error p bytes (NotAllowed code size) is encodes (len, head, other) =
 no_error p bytes (OtherLength n) is encodes (code, size, len, head, allowed, long, other) =
     let same = head_of_encoding code size len bytes head p encodes in
     other (long ∙ (ap length same.2 ∙ sym same.1))
+
+-- ---- texts
+
+texts : (content_error_text (OtherVersion 7) ≡ codes "no content identifier of version 7")
+    × (content_error_text (Trailing 10) ≡ codes "10 bytes after a content identifier")
+    × (peer_error_text (NotAllowed 18 31) ≡ codes "no peer has a hash of code 18 and 31 bytes")
+    × (peer_error_text (OtherLength 7) ≡ codes "7 bytes in place of the digest")
+unfolding digits
+texts = (refl, refl, refl, refl)
