@@ -12,7 +12,7 @@ use Rattle.mh_show.specs.declared.run.RunError.{RunError}
 use Rattle.mh_show.specs.declared.run.RunError.TheVariants.{Input, NotShown, Output}
 use Rattle.mh_show.specs.declared.show.ShowError.TheVariants.{NotHex, Refused, Memory}
 use Rattle.mh_show.specs.Shown.{most_bytes, shown, IsLine, NamesBytes, ShowsAs, NamesNone, IsRejectedAs}
-use Rattle.mh_show.specs.Run.{run_error_text, error_line, ReadsWhole, TriesToAppend, ShowsInput, ShowsPart, EndsRun, ReportsError}
+use Rattle.mh_show.specs.Run.{run_error_text, error_line, ReadsWhole, TriesToAppend, ShowsInput, EndsRun, ReportsError}
 use Rattle.mh_show.proofs.NamingLemmas.{line_unique, bytes_unique}
 
 module _ (text : List ℕ) where

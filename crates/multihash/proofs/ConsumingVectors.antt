@@ -1,18 +1,19 @@
 -- What failed calls consumed from known readers: what each part of a definition rejects by itself.
 use Rattle.std.proofs.Common.{◌≡◌, ◌<◌, ℕ, List, [], ◌∷◌, ◌++◌, length, drop, refl, sym, ap, ◌∙◌, arith, subst, inl, inr, append-nil}
-use Rattle.std.specs.Prelude.{⊤, Option, Some, None}
+use Rattle.std.specs.Prelude.{⊤, Some, None}
 use Rattle.multihash.specs.Varint.{VarintError, insufficient, overflow, not_minimal, IsInsufficient, BeginsMalformed}
 use Rattle.multihash.specs.Verdict.{Verdict, invalid_size, malformed, unexpected_eof, HasVerdict, IsIncomplete}
 use Rattle.multihash.specs.Settling.{IsShortestSettling}
 use Rattle.multihash.specs.Reading.{Consumes}
 use Rattle.multihash.specs.Fault.{IsUnexpectedEof}
 use Rattle.multihash.specs.Refusal.{Refusal, of_io, of_size, of_code, of_varint, of_not_bytes, IsVarintError, IsAnyVarintError, IsFrontError}
-use Rattle.multihash.specs.Consuming.{IsFrontErrorAt, IsHeadError, ReadMayFailWith, ConsumesAtVarintError, ConsumesAtError, ConsumesShortestSettling, ConsumesNothingSettling, FailsBy, VarintFails, ExactFails}
+use Rattle.multihash.specs.Outcome.{IsErrorOf}
+use Rattle.multihash.specs.Consuming.{IsFrontErrorAt, IsHeadError, ReadMayFailWith, ConsumesAtVarintError, ConsumesAtError, ConsumesShortestSettling, ConsumesNothingSettling, FailsBy, ReadFails, VarintFails, ExactFails}
 use Rattle.multihash.proofs.VarintLemmas.{front_unique, error}
 use Rattle.multihash.proofs.VerdictLemmas.{verdict_unique}
 use Rattle.multihash.proofs.SettlingLemmas.{shortest_unique, shortest_code_error}
-use Rattle.multihash.proofs.ReadingVectors.{other, eof, told, consumed_is}
-use Rattle.multihash.proofs.KnownVectors.{all_continuation, code_alone, size_above_limit, size_settles, shortest_of_size}
+use Rattle.multihash.proofs.ReadingVectors.{other, eof, consumed_is, returns_no_byte, size_in}
+use Rattle.multihash.proofs.KnownVectors.{size_5, all_continuation, code_alone, size_above_limit, size_settles, shortest_of_size}
 
 -- ---- errors
 
@@ -61,11 +62,6 @@ not_insufficient h =
     let same : error insufficient ≡ error not_minimal =
     front_unique (0x80 ∷ 0x00 ∷ []) (error insufficient) (error not_minimal) h (padded_front []) in
     cc
-
--- no more is left than there was
-pub returns_no_byte : (consumed : List ℕ) → ¬ (Consumes (Some []) consumed (Some (7 ∷ [])))
-returns_no_byte [] h = omega (arith, ap (λ (o : Option (List ℕ)). length (told o)) h)
-returns_no_byte (b ∷ consumed) h = omega (arith, ap (λ (o : Option (List ℕ)). length (told o)) h)
 
 varint_takes_its_own : ¬ (ConsumesAtVarintError of_not_bytes (Some []) (Some (7 ∷ [])))
 varint_takes_its_own h = returns_no_byte h.consumed h.consumes
@@ -140,7 +136,7 @@ fails_not_after_size h =
 
 -- ---- the shortest prefix that settles
 
-pub consumes_no_byte_after_size : ¬ (ConsumesShortestSettling 4 (0 ∷ 5 ∷ 9 ∷ []) (Some []))
+consumes_no_byte_after_size : ¬ (ConsumesShortestSettling 4 (0 ∷ 5 ∷ 9 ∷ []) (Some []))
 consumes_no_byte_after_size h =
     omega (
       arith,
@@ -151,7 +147,7 @@ consumes_no_byte_after_size h =
 
 -- ---- nothing that was consumed settles
 
-pub consumes_what_settles : ¬ (ConsumesNothingSettling 4 (0 ∷ 5 ∷ 9 ∷ []) (Some (9 ∷ [])))
+consumes_what_settles : ¬ (ConsumesNothingSettling 4 (0 ∷ 5 ∷ 9 ∷ []) (Some (9 ∷ [])))
 consumes_what_settles h =
     h.unsettled (0 ∷ 5 ∷ []) (
       [],
@@ -161,6 +157,32 @@ consumes_what_settles h =
 
 unsettled_takes_its_own : ¬ (ConsumesNothingSettling 4 [] (Some (7 ∷ [])))
 unsettled_takes_its_own h = returns_no_byte h.consumed h.consumes
+
+-- ---- the clauses of a failed `read`
+
+-- the error is one of those listed
+fails_with_no_code : ¬ (ReadFails 4 3 3 (of_code 5) None None)
+fails_with_no_code h = elim h.faults [
+  | inl own ↦ omega (arith, own.0)
+  | inr (same, listed) ↦ read_rejects_only (of_code 5) listed
+]
+
+size_5_rejected : HasVerdict 4 (0 ∷ 5 ∷ 9 ∷ []) (invalid_size 5)
+size_5_rejected = (9 ∷ [], size_5 (9 ∷ []), omega arith)
+
+-- and has the size of the input
+fails_with_no_other_size : ¬ (ReadFails 4 3 3 (of_size 6) (Some (0 ∷ 5 ∷ 9 ∷ [])) (Some (9 ∷ [])))
+fails_with_no_other_size h =
+    let (v, has, names) = h.verdict refl in
+    omega (arith, ap size_in (subst (IsErrorOf (of_size 6)) (verdict_unique 4 (0 ∷ 5 ∷ 9 ∷ []) v (invalid_size 5) has size_5_rejected) names))
+
+-- no byte after the settling prefix was consumed
+fails_with_nothing_after : ¬ (ReadFails 4 3 3 (of_size 5) (Some (0 ∷ 5 ∷ 9 ∷ [])) (Some []))
+fails_with_nothing_after h = consumes_no_byte_after_size (h.settled refl (invalid_size 5) size_5_rejected (λ incomplete. incomplete))
+
+-- and none that settles before a failure
+fails_with_nothing_settled : ¬ (ReadFails 4 3 4 (of_io other) (Some (0 ∷ 5 ∷ 9 ∷ [])) (Some (9 ∷ [])))
+fails_with_nothing_settled h = consumes_what_settles (h.unsettled (inl (omega arith)))
 
 -- ---- the error of a head
 
@@ -173,9 +195,6 @@ shortest_of_padded S =
       step = record { front = 0x80 ∷ []; last = 0x00; all_continuation = all_continuation (0x80 ∷ []) refl; few = omega arith; cut = refl };
       has = padded_front [];
     })
-
-pub not_cut : not_minimal ≡ insufficient → ⊥
-not_cut same = cc
 
 named_so : (f g : VarintError) → IsVarintError f (of_varint g) → f ≡ g
 named_so f g is = cc

@@ -1,30 +1,25 @@
 -- The other forms: a JSON value that is no byte array, known SCALE forms, and what reading SCALE and lists consumed.
 -- Weaker parts fail `json_unique`, `scale_same`, `scale_verdict_unique` and `read_list_of_encodings`.
-use Rattle.std.proofs.Common.{ℕ, ◌<◌, List, [], ◌∷◌, sym, subst, arith, ◌≡◌, ◌++◌, ltb, true, length, refl, ap, inl, inr, ◌∙◌, ◌⊎◌, append-nil}
+use Rattle.std.proofs.Common.{ℕ, ◌<◌, List, [], ◌∷◌, sym, subst, arith, ◌≡◌, ◌++◌, ltb, true, length, refl, ap, inl, inr, ◌∙◌}
 use Rattle.std.specs.List.{All, list_all}
 use Rattle.multihash.specs.Json.{IsByteArray, number_array}
 use Rattle.multihash.proofs.JsonLemmas.{array_unique}
-use Rattle.std.specs.Prelude.{Some, codes, Option, None, IfSome}
+use Rattle.std.specs.Prelude.{Some, codes, Option}
 use Rattle.multihash.specs.Bytes.{place_value}
 use Rattle.multihash.specs.Pair.{Pair, FitsBuffer}
-use Rattle.multihash.specs.Verdict.{Verdict, accepted, invalid_size, invalid_code, unexpected_eof, malformed, HasVerdict, IsIncomplete}
+use Rattle.multihash.specs.Verdict.{Verdict, accepted, invalid_size, invalid_code, unexpected_eof, malformed, HasVerdict}
 use Rattle.multihash.specs.Scale.{IsScaleCode, IsScale, HasScaleVerdict, ScaleMayFailWith, ConsumesAtScaleError}
-use Rattle.multihash.proofs.KnownVectors.{all_below, pair, largest, size_5, empty_digest}
+use Rattle.multihash.proofs.KnownVectors.{all_below, pair, largest, empty_digest}
 use Rattle.multihash.proofs.ScaleLemmas.{scale_found, has_scale_found, scale_verdict_unique}
 use Rattle.multihash.specs.Fault.{IsUnexpectedEof}
 use Rattle.multihash.specs.Refusal.{Refusal, of_io, of_size, of_code, of_varint, of_not_bytes}
 use Rattle.multihash.specs.Reading.{Consumes}
-use Rattle.multihash.proofs.ReadingVectors.{other, eof, consumed_is, size_in}
-use Rattle.multihash.proofs.ConsumingVectors.{returns_no_byte, consumes_no_byte_after_size}
+use Rattle.multihash.proofs.ReadingVectors.{other, eof, consumed_is, returns_no_byte}
 use Rattle.multihash.specs.Streams.{ConsumesPairs, StopsAfterPairs}
 use Rattle.std.proofs.lemmas.List.Elements.{All-head, All-tail}
 use Rattle.multihash.specs.Varint.{insufficient}
-use Rattle.multihash.specs.Settling.{Settles}
-use Rattle.multihash.specs.Outcome.{IsErrorOf}
-use Rattle.multihash.specs.Consuming.{ConsumesShortestSettling, ConsumesNothingSettling}
 use Rattle.multihash.proofs.ReadingLemmas.{Consumes-none}
 use Rattle.multihash.proofs.VerdictLemmas.{verdict_unique}
-use Rattle.multihash.proofs.SettlingLemmas.{late_settles}
 
 -- ---- JSON
 
@@ -144,15 +139,6 @@ none_before S (p ∷ pairs) old middle fewer h = absurd (omega arith)
 stops_before_the_last : ¬ (StopsAfterPairs 4 0 (of_varint insufficient) 3 3 (Some []) (Some []))
 stops_before_the_last h = omega (arith, h.fewer)
 
--- the error is one of those of `read`
-rejects_no_code : ¬ (StopsAfterPairs 4 1 (of_code 5) 3 3 None None)
-rejects_no_code h = elim h.failed.faults [
-  | inl own ↦ omega (arith, own.0)
-  | inr (same, inl (size, is, large)) ↦ cc
-  | inr (same, inr (inl (error, is))) ↦ cc
-  | inr (same, inr (inr (error, is, end))) ↦ cc
-]
-
 -- the bytes consumed before the rejected one are encodings of pairs
 skips_no_pair : ¬ (StopsAfterPairs 4 1 (of_varint insufficient) 3 3 (Some (0 ∷ 0 ∷ [])) (Some []))
 skips_no_pair h =
@@ -166,50 +152,3 @@ skips_no_pair h =
     let same : malformed insufficient ≡ accepted (pair 0 []) =
     verdict_unique 4 (0 ∷ 0 ∷ []) (malformed insufficient) (accepted (pair 0 [])) has empty_digest in
     cc
-
--- all of an insufficient input was consumed
-rejects_with_all_taken : ¬
-    (StopsAfterPairs 4 1 (of_varint insufficient) 3 3 (Some (0x80 ∷ [])) (Some (0x80 ∷ [])))
-rejects_with_all_taken h = omega (arith, ap (λ (z : List ℕ). length z) (h.failed.err.insufficient refl).1)
-
--- what an error states of the input after the pairs
-module _ (count : ℕ) (e : Refusal) (before after : ℕ) (old new : Option (List ℕ)) (left : List ℕ) (h : StopsAfterPairs 4 count e before after old new)
-    (at : h.following ≡ Some left) where
-  verdict_after : after ≡ before → (v : Verdict) × HasVerdict 4 left v × IsErrorOf e v
-  verdict_after = subst (λ o. IfSome o (λ left. after ≡ before → (v : Verdict) × HasVerdict 4 left v × IsErrorOf e v)) at h.failed.verdict
-
-  settled_after : after ≡ before → (v : Verdict) → HasVerdict 4 left v → ¬ (IsIncomplete v)
-      → ConsumesShortestSettling 4 left new
-  settled_after = subst (λ o. IfSome o (λ left. after ≡ before → (v : Verdict) → HasVerdict 4 left v → ¬ (IsIncomplete v) → ConsumesShortestSettling 4 left new)) at h.failed.settled
-
-  unsettled_after : before < after → ConsumesNothingSettling 4 left new
-  unsettled_after rose =
-      subst (λ o. IfSome o (λ left. (before < after) ⊎ ((v : Verdict) × HasVerdict 4 left v × IsIncomplete v) → ConsumesNothingSettling 4 left new)) at h.failed.unsettled (inl rose)
-
-size_5_rejected : HasVerdict 4 (0 ∷ 5 ∷ 9 ∷ []) (invalid_size 5)
-size_5_rejected = (9 ∷ [], size_5 (9 ∷ []), omega arith)
-
--- the size that is rejected is that of the input
-no_size_6 : ((v : Verdict) × HasVerdict 4 (0 ∷ 5 ∷ 9 ∷ []) v × IsErrorOf (of_size 6) v) → ⊥
-no_size_6 (v, has, names) =
-    omega (arith, ap size_in (subst (IsErrorOf (of_size 6)) (verdict_unique 4 (0 ∷ 5 ∷ 9 ∷ []) v (invalid_size 5) has size_5_rejected) names))
-
--- the error is that of the input after the pairs
-rejects_by_the_verdict : ¬ (StopsAfterPairs 4 1 (of_size 6) 3 3 (Some (0 ∷ 5 ∷ 9 ∷ [])) (Some (9 ∷ [])))
-rejects_by_the_verdict h =
-    no_size_6 (verdict_after 1 (of_size 6) 3 3 _ _ (0 ∷ 5 ∷ 9 ∷ []) h (none_before 4 h.pairs _ h.following h.fewer h.consumed) refl)
-
--- no byte after the settling prefix was consumed
-rejects_with_nothing_after : ¬ (StopsAfterPairs 4 1 (of_size 5) 3 3 (Some (0 ∷ 5 ∷ 9 ∷ [])) (Some []))
-rejects_with_nothing_after h =
-    consumes_no_byte_after_size (settled_after 1 (of_size 5) 3 3 _ _ (0 ∷ 5 ∷ 9 ∷ []) h (none_before 4 h.pairs _ h.following h.fewer h.consumed) refl
-    (invalid_size 5) size_5_rejected (λ incomplete. incomplete))
-
-empty_digest_settles : Settles 4 (0 ∷ 0 ∷ [])
-empty_digest_settles = late_settles 4 (0 ∷ 0 ∷ []) (accepted (pair 0 [])) (λ incomplete. incomplete) empty_digest
-
--- before a failure no settling prefix was consumed
-fails_with_nothing_settled : ¬ (StopsAfterPairs 4 1 (of_io other) 3 4 (Some (0 ∷ 0 ∷ 7 ∷ [])) (Some (7 ∷ [])))
-fails_with_nothing_settled h =
-    let u = unsettled_after 1 (of_io other) 3 4 _ _ (0 ∷ 0 ∷ 7 ∷ []) h (none_before 4 h.pairs _ h.following h.fewer h.consumed) (omega arith) in
-    u.unsettled (0 ∷ 0 ∷ []) ([], consumed_is (0 ∷ 0 ∷ []) (7 ∷ []) u.consumed u.consumes ∙ sym (append-nil (0 ∷ 0 ∷ []))) empty_digest_settles

@@ -1,18 +1,14 @@
--- Lists of numbers, varints, pairs and verdicts on known inputs, for the other examples, and what is none. A
--- weaker part of a varint or a verdict fails `front_unique`, `one_verdict` or `settles`.
-use Rattle.std.proofs.Common.{◌≡◌, ℕ, ◌<◌, ltb, true, List, [], ◌∷◌, refl, arith, Bool, ◌++◌, ◌+◌}
+-- Lists of numbers, pairs and verdicts on known inputs, for the other examples, and what is none. A weaker part
+-- of a varint or a verdict fails `front_unique`, `one_verdict` or `settles`.
+use Rattle.std.proofs.Common.{◌≡◌, ℕ, ◌<◌, ltb, true, List, [], ◌∷◌, refl, arith, ◌+◌}
 use Rattle.std.specs.List.{All, list_all}
 use Rattle.std.proofs.lemmas.Bool.{ltb-true, and_parts}
 use Rattle.std.proofs.lemmas.List.Elements.{All-nil, All-cons, All-head}
 use Rattle.multihash.specs.Bytes.{place_value, ExactlyOne}
-use Rattle.multihash.specs.Varint.{IsContinuation, continuation_bytes, varint_limit, IsVarint, insufficient}
-use Rattle.std.specs.Prelude.{codes}
+use Rattle.multihash.specs.Varint.{IsContinuation, insufficient}
 use Rattle.multihash.specs.Pair.{Pair, IsPair}
-use Rattle.std.specs.declared.cmp.Ordering.{Ordering}
-use Rattle.std.specs.declared.cmp.Ordering.TheVariants.{Less, Equal, Greater}
-use Rattle.std.specs.Hash.{le_bytes}
-use Rattle.multihash.specs.Comparing.{compare_pairs, hashed_pair}
 use Rattle.multihash.specs.Verdict.{Verdict, accepted, invalid_size, invalid_code, malformed, unexpected_eof, BeginsWithSize, HasVerdict}
+use Rattle.multihash.proofs.VarintWriteLemmas.{one_byte}
 use Rattle.multihash.proofs.VerdictLemmas.{found, has_found}
 use Rattle.multihash.specs.Settling.{Settles, IsShortestSettling}
 use Rattle.multihash.proofs.SettlingLemmas.{shortest_size}
@@ -25,12 +21,6 @@ all_below bound [] e = All-nil (λ x. x < bound)
 all_below bound (x ∷ xs) e =
     let parts = and_parts (ltb x bound) (list_all (λ y. ltb y bound) xs) e in
     All-cons (λ y. y < bound) x xs (ltb-true x bound parts.0) (all_below bound xs parts.1)
-
--- place values: the lowest digit first, in both bases
-values : (place_value 128 (44 ∷ 2 ∷ []) ≡ 300) × (place_value 256 (1 ∷ 2 ∷ 3 ∷ []) ≡ 197121) × (place_value 128 (0 ∷ 0 ∷ 1 ∷ []) ≡ 16384)
-    × (place_value 128 [] ≡ 0)
-unfolding place_value
-values = (refl, refl, refl, refl)
 
 -- two different values are not exactly one
 two_are_not_one : ¬ (ExactlyOne (λ (n : ℕ). n < 2))
@@ -47,52 +37,6 @@ all_continuation [] e = All-nil IsContinuation
 all_continuation (x ∷ xs) e =
     let parts = and_parts (ltb 127 x) (list_all (λ y. ltb 127 y) xs) e in
     All-cons IsContinuation x xs (ltb-true 127 x parts.0) (all_continuation xs parts.1)
-
-ends_well : List ℕ → ℕ → Bool
-ends_well [] last = true
-ends_well (d ∷ front) last = ltb 0 last
-
-ends_well-minimal : (front : List ℕ) (last : ℕ) → ends_well front last ≡ true → last ≡ 0 → front ≡ []
-unfolding ends_well
-ends_well-minimal [] last e z = refl
-ends_well-minimal (d ∷ front) last e z = absurd (omega (arith, ltb-true 0 last e, z))
-
--- a varint of literal digits; each fact is computed
-varint_of : (front : List ℕ) (last n : ℕ) → list_all (λ d. ltb d 128) (front ++ last ∷ []) ≡ true → ends_well front last ≡ true
-    → place_value 128 (front ++ last ∷ []) ≡ n → ltb n varint_limit ≡ true → IsVarint n (continuation_bytes front ++ last ∷ [])
-varint_of front last n digits minimal value range = record {
-  front = front;
-  last = last;
-  digits = all_below 128 (front ++ last ∷ []) digits;
-  minimal = ends_well-minimal front last minimal;
-  value = value;
-  in_range = ltb-true n varint_limit range;
-  spelled = refl;
-}
-
-pub varint_0 : IsVarint 0 (0x00 ∷ [])
-unfolding place_value ends_well
-varint_0 = varint_of [] 0x00 0 refl refl refl refl
-
-pub varint_1 : IsVarint 1 (0x01 ∷ [])
-unfolding place_value ends_well
-varint_1 = varint_of [] 0x01 1 refl refl refl refl
-
-pub varint_2 : IsVarint 2 (0x02 ∷ [])
-unfolding place_value ends_well
-varint_2 = varint_of [] 0x02 2 refl refl refl refl
-
-pub varint_4 : IsVarint 4 (0x04 ∷ [])
-unfolding place_value ends_well
-varint_4 = varint_of [] 0x04 4 refl refl refl refl
-
-pub varint_5 : IsVarint 5 (0x05 ∷ [])
-unfolding place_value ends_well
-varint_5 = varint_of [] 0x05 5 refl refl refl refl
-
-pub varint_128 : IsVarint 128 (0x80 ∷ 0x01 ∷ [])
-unfolding place_value ends_well
-varint_128 = varint_of (0x00 ∷ []) 0x01 128 refl refl refl refl
 
 -- the largest number that has a varint, and the first that has none
 abbrev pub largest : ℕ
@@ -111,28 +55,6 @@ no_larger_code digest h = omega (arith, h.in_range)
 
 no_digest_of_256 : (code : ℕ) → ¬ (IsPair (pair code (256 ∷ [])))
 no_digest_of_256 code h = let small = All-head (λ byte. byte < 256) 256 [] h.are_bytes in omega (arith, small)
-
-data Row : Type 0 where
-  row : (p q : Pair) (o : Ordering) → compare_pairs p q ≡ o → Row
-
-orders : List Row
-orders =
-    -- the code decides, then the length, then the first byte that differs, whatever follows
-    row (pair 0 (codes "zzz")) (pair 1 []) Less refl ∷
-    row (pair 1 []) (pair 0 (codes "a")) Greater refl ∷
-    row (pair 0 (codes "b")) (pair 0 (codes "aa")) Less refl ∷
-    row (pair 0 (codes "aaa")) (pair 0 (codes "ab")) Greater refl ∷
-    row (pair 0 (codes "bz")) (pair 0 (codes "ca")) Less refl ∷
-    row (pair 0 (codes "ab")) (pair 0 (codes "ab")) Equal refl ∷
-    []
-
-abbrev eight : ℕ → List ℕ
-eight n = n ∷ 0 ∷ 0 ∷ 0 ∷ 0 ∷ 0 ∷ 0 ∷ 0 ∷ []
-
--- the code, the digest's length, and each byte
-feeds_code_length_and_bytes : hashed_pair (pair 3 (codes "AB")) ≡ eight 3 ∷ eight 2 ∷ (65 ∷ []) ∷ (66 ∷ []) ∷ []
-unfolding le_bytes
-feeds_code_length_and_bytes = refl
 
 -- ---- verdicts
 
@@ -162,7 +84,7 @@ size_above_limit = known 4 (0x00 ∷ 0x05 ∷ []) refl
 
 -- the code 0, the size 5, and what follows
 abbrev pub size_5 : (more : List ℕ) → BeginsWithSize 5 (0x00 ∷ 0x05 ∷ more) more
-size_5 more = record { code = 0; code_bytes = 0x00 ∷ []; size_bytes = 0x05 ∷ []; is_code = varint_0; is_size = varint_5; cut = refl }
+size_5 more = record { code = 0; code_bytes = 0x00 ∷ []; size_bytes = 0x05 ∷ []; is_code = one_byte 0 (omega arith); is_size = one_byte 5 (omega arith); cut = refl }
 
 -- a size above the capacity, whatever follows
 pub size_settles : Settles 4 (0 ∷ 5 ∷ [])

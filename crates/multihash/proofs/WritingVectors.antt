@@ -1,6 +1,6 @@
 -- What each part of a definition rejects by itself: how writers fail, what they append, their laws, and what
 -- slices and vectors contain then.
-use Rattle.std.proofs.Common.{◌≡◌, ◌≢◌, ◌≤◌, ℕ, Bool, true, false, List, [], ◌∷◌, ◌++◌, length, get_or, refl, sym, ap, ◌∙◌, arith, inl, inr, length-append}
+use Rattle.std.proofs.Common.{◌≡◌, ◌≢◌, ◌≤◌, ℕ, Bool, true, false, List, [], ◌∷◌, ◌++◌, length, get_or, refl, sym, ap, ◌∙◌, arith, inl, inr}
 use Rattle.std.specs.Prelude.{⊤, Result, Ok, Err}
 use Rattle.std.proofs.lemmas.Bool.{false≢true}
 use Rattle.multihash.specs.Fault.{Fault}
@@ -99,9 +99,6 @@ full_accepts_no_byte h = omega (arith, h.filled (omega arith))
 fails_and_appends_nothing : ¬ (Writes ([], 0) (1 ∷ 2 ∷ []) (1 ∷ [], 1) (Err other))
 fails_and_appends_nothing h = omega (arith, ap (λ (z : List ℕ). length z) h.err)
 
-writes_with_no_hidden_error : ¬ (Writes ([], 0) (1 ∷ []) (1 ∷ [], 1) (Ok 1))
-writes_with_no_hidden_error h = omega (arith, h.faults)
-
 -- a full writer returns 0
 full_is_no_error : ¬ (Writes (7 ∷ 8 ∷ 9 ∷ [], 0) (1 ∷ []) (7 ∷ 8 ∷ 9 ∷ [], 0) (Err full))
 full_is_no_error h = (full_alone 0 0 ⊥ h.faults).1
@@ -128,17 +125,8 @@ writes_nothing_always h = false≢true (h.empty refl)
 full_accepts_no_bytes : ¬ (WritesAll (7 ∷ 8 ∷ 9 ∷ [], 0) (1 ∷ []) (7 ∷ 8 ∷ 9 ∷ 1 ∷ [], 0) (Ok 0))
 full_accepts_no_bytes h = false≢true (h.filled (omega arith) (omega arith))
 
-fails_before_the_end : ¬ (WritesAll ([], 0) (1 ∷ []) (1 ∷ [], 1) (Err other))
-fails_before_the_end h = none h.err.part h.err.strict.0 h.err.strict.1 (h.err.appends) h.err.strict.2
-  where
-    none : (part rest : List ℕ) → rest ≢ [] → 1 ∷ [] ≡ part → ¬ (1 ∷ [] ≡ part ++ rest)
-    none part [] some is e = some refl
-    none [] (r ∷ rest) some is e = omega (arith, ap (λ (z : List ℕ). length z) is)
-    none (p ∷ part) (r ∷ rest) some is e =
-        omega (arith, ap (λ (z : List ℕ). length z) e, length-append (p ∷ part) (r ∷ rest))
-
-writes_all_with_no_hidden_error : ¬ (WritesAll ([], 0) (1 ∷ []) (1 ∷ [], 1) (Ok 0))
-writes_all_with_no_hidden_error h = omega (arith, h.faults)
+fails_before_the_end : ¬ (WritesAll ([], 0) (1 ∷ 2 ∷ []) (1 ∷ 2 ∷ [], 1) (Err other))
+fails_before_the_end h = appends_no_whole (record { part = h.err.part; strict = h.err.strict; appends = h.err.appends })
 
 write_all_needs_no_memory : ¬ (WritesAll ([], 0) (1 ∷ []) ([], 0) (Err memory))
 write_all_needs_no_memory h =

@@ -2,13 +2,11 @@
 use Rattle.std.proofs.Common.{◌≡◌, ℕ, ◌+◌, ◌<◌, ◌≤◌, ◌^◌, List, [], ◌∷◌, ◌++◌, length, get_or, take, drop, ap, sym, ◌∙◌, subst, arith, refl, inl, inr, append_assoc, append-nil, take-append-drop, length-drop}
 use Rattle.std.specs.Int.{from_le_bytes, w64}
 use Rattle.std.proofs.lemmas.List.{length-take-le, take_all, get_or-drop, drop_more, drop-drop}
-use Rattle.std.proofs.lemmas.List.Elements.{All-head, All-drop}
-use Rattle.std.proofs.Math.Seq.{drop-append_seam, take-append_seam}
-use Rattle.multihash.specs.Bytes.{IsBytes}
+use Rattle.std.proofs.Math.Seq.{take-append_seam}
 use Rattle.multihash.specs.Pair.{Pair}
 use Rattle.multihash.specs.Scale.{IsScaleCode, IsScale, HasScaleSize, HasScaleVerdict}
 use Rattle.multihash.specs.Varint.{varint_limit}
-use Rattle.multihash.specs.Verdict.{accepted, invalid_size, invalid_code, unexpected_eof}
+use Rattle.multihash.specs.Verdict.{accepted, invalid_code, unexpected_eof}
 use Rattle.multihash.proofs.ScaleLemmas.{code_read, scale_of, scale_length}
 use Rattle.multihash_c.proofs.ComparedLemmas.{take_bytes}
 use Rattle.multihash_c.specs.declared.decode.Decoded.{Decoded}
@@ -28,15 +26,6 @@ reported_length input d p h =
       ap length h.is_digest,
       length-take-le d.digest_length (drop d.digest_offset input) (omega (arith, h.is_end, h.inside, length-drop d.digest_offset input)),
     )
-
--- a size that is one byte is not above 255
-pub byte_fits : (input : List ℕ) (size : ℕ) → IsBytes input → ¬ (HasScaleVerdict 255 input (invalid_size size))
-byte_fits input size bytes (rest, has, over) =
-    let left : drop (length has.code_bytes) input ≡ size ∷ rest =
-    ap (λ (z : List ℕ). drop (length has.code_bytes) z) has.cut ∙ drop-append_seam has.code_bytes (size ∷ rest) in
-    let following : IsBytes (size ∷ rest) =
-    subst IsBytes left (All-drop (λ byte. byte < 256) (length has.code_bytes) input bytes) in
-    omega (arith, over, All-head (λ byte. byte < 256) size rest following)
 
 -- the first eight bytes of the input, read as a code, and what follows
 module _ (input front rest : List ℕ) (code : ℕ) (parts : (front ≡ take 8 input) × (rest ≡ drop 8 input) × (length rest + 8 ≡ length input))

@@ -2,17 +2,16 @@
 -- results of one input agree: with a weaker part of a definition they may differ.
 use Rattle.std.proofs.Common.{◌≡◌, ℕ, List, [], ◌∷◌, length, get_or, refl, sym, ap, ◌∙◌, arith, ◌++◌, length-append, drop, replicate, subst, inl, inr, length-drop, ◌≤◌}
 use Rattle.multihash.specs.Varint.{VarintError, insufficient, overflow, not_minimal}
-use Rattle.multihash.specs.Verdict.{Verdict, accepted, invalid_size, invalid_code, malformed, unexpected_eof, HasHead, HasVerdict, HasWholeVerdict}
-use Rattle.multihash.proofs.KnownVectors.{pair, all_below, code_named, varint_0, varint_1, code_alone}
+use Rattle.multihash.specs.Verdict.{Verdict, accepted, invalid_size, invalid_code, malformed, unexpected_eof, HasHead, HasVerdict, HasWholeVerdict, IsIncomplete}
+use Rattle.multihash.proofs.KnownVectors.{pair, code_named, code_alone}
+use Rattle.multihash.proofs.VarintWriteLemmas.{one_byte}
 use Rattle.multihash_c.specs.declared.decode.Decoded.{Decoded}
 use Rattle.multihash_c.specs.Status.{status_of_error}
 use Rattle.multihash_c.specs.Decoded.{ReportsPair, ReportsError, Reports, ConsumesForm, ReportsPrefix, Determines, ReadsWithin, ReportsHead, ReportsHeadError}
-use Rattle.multihash_c.proofs.DecodedLemmas.{reported_length, byte_fits}
-use Rattle.multihash.specs.Scale.{HasScaleVerdict}
+use Rattle.multihash_c.proofs.DecodedLemmas.{reported_length}
 use Rattle.multihash.proofs.ScaleLemmas.{scale_verdict_unique}
 use Rattle.multihash.proofs.FormVectors.{zeros, all_255, scale_code_above}
-use Rattle.std.proofs.lemmas.List.{take_all}
-use Rattle.multihash.proofs.VerdictLemmas.{whole_exact, whole_trailing, whole_verdict_unique, verdict_unique}
+use Rattle.multihash.proofs.VerdictLemmas.{whole_exact, whole_verdict_unique, verdict_unique}
 use Rattle.multihash_c.proofs.ReadLemmas.{head_kept, head_no_error}
 use Rattle.std.specs.Prelude.{Some}
 use Rattle.multihash.specs.Consuming.{ConsumesShortestSettling}
@@ -92,10 +91,6 @@ consumes_no_part_of_form h =
 consumes_no_size : (size taken : ℕ) (bytes : List ℕ) → ¬ (ConsumesForm (invalid_size size) bytes taken)
 consumes_no_size size taken bytes h = h
 
--- a size of one byte is never too large, and a larger number has no byte
-no_byte_is_too_large : (size : ℕ) → ¬ (HasScaleVerdict 255 (zeros ++ 255 ∷ []) (invalid_size size))
-no_byte_is_too_large size = byte_fits (zeros ++ 255 ∷ []) size (all_below 256 (zeros ++ 255 ∷ []) refl)
-
 -- ---- a code that is too large
 
 consumes_no_size_after_code : ¬ (ConsumesForm (invalid_code 18446744073709551615) (all_255 ++ 0 ∷ []) 9)
@@ -138,45 +133,12 @@ both = 0 ∷ 1 ∷ []
 both_head : HasHead 0 1 2 both
 both_head = record {
   within = omega arith;
-  varints = record { code = 0; code_bytes = 0 ∷ []; size_bytes = 1 ∷ []; is_code = varint_0; is_size = varint_1; cut = refl };
+  varints = record { code = 0; code_bytes = 0 ∷ []; size_bytes = 1 ∷ []; is_code = one_byte 0 (omega arith); is_size = one_byte 1 (omega arith); cut = refl };
   is_code = refl;
 }
 
 both_end : ¬ (HasVerdict 255 both (malformed insufficient))
 both_end has = head_no_error 0 1 2 both insufficient both_head has
-
--- one byte follows
-reports_pair : ReportsPrefix both 3 (outcome 0 0 0 2 1 3)
-reports_pair = record {
-  verdict = λ input long begins enough.
-      let exact : length (drop 2 input) ≡ 1 = omega (arith, long, length-drop 2 input) in (
-        accepted (record { code = 0; digest = drop 2 input }),
-        whole_exact 0 1 2 input (head_kept 0 1 2 both input begins both_head) 255 (omega arith) (drop 2 input) refl exact,
-        record {
-          is_ok = refl;
-          no_size = refl;
-          is_code = refl;
-          is_end = refl;
-          inside = omega (arith, long);
-          is_digest = sym (take_all 1 (drop 2 input) (omega (arith, exact)));
-        },
-      );
-  cut = λ short has. absurd (both_end has);
-  taken = refl;
-}
-
--- two bytes follow
-reports_trailing : ReportsPrefix both 4 (outcome 4 1 0 0 0 4)
-reports_trailing = record {
-  verdict = λ input long begins enough. (
-    invalid_size 1,
-    whole_trailing 0 1 2 input (head_kept 0 1 2 both input begins both_head) 255 (omega arith) (drop 2 input) refl 1
-        (omega (arith, long, length-drop 2 input)) (omega (arith, long, length-drop 2 input)),
-    record { is_status = refl; is_size = refl; is_code = refl; no_offset = refl; no_length = refl },
-  );
-  cut = λ short has. absurd (both_end has);
-  taken = refl;
-}
 
 -- the code alone determines nothing, unless nothing follows
 determined : Determines (0 ∷ []) 1
@@ -229,15 +191,16 @@ module _ (limit : ℕ) (input : List ℕ) (a b : Decoded) (h : ReadsWithin limit
       sym (settled_at limit input a.taken h.inside c)
       ∙ (ap (λ (z : List ℕ). length z) (shortest_unique limit input c.front d.front c.shortest d.shortest) ∙ settled_at limit input b.taken k.inside d)
 
+  late : (v : Verdict) → HasVerdict limit input v → ¬ (IsIncomplete v) → a.taken ≡ b.taken
+  late v has stays = settles_alike (h.settled v has stays) (k.settled v has stays)
+
   consumes_same : (v : Verdict) → HasVerdict limit input v → a.taken ≡ b.taken
-  consumes_same (accepted p) has = settles_alike (h.settled (accepted p) has (λ incomplete. incomplete)) (k.settled (accepted p) has (λ incomplete. incomplete))
-  consumes_same (invalid_size n) has = settles_alike (h.settled (invalid_size n) has (λ incomplete. incomplete)) (k.settled (invalid_size n) has (λ incomplete. incomplete))
-  consumes_same (invalid_code n) has = settles_alike (h.settled (invalid_code n) has (λ incomplete. incomplete)) (k.settled (invalid_code n) has (λ incomplete. incomplete))
+  consumes_same (accepted p) has = late (accepted p) has (λ incomplete. incomplete)
+  consumes_same (invalid_size n) has = late (invalid_size n) has (λ incomplete. incomplete)
+  consumes_same (invalid_code n) has = late (invalid_code n) has (λ incomplete. incomplete)
   consumes_same (malformed insufficient) has = h.insufficient has ∙ sym (k.insufficient has)
-  consumes_same (malformed overflow) has =
-      settles_alike (h.settled (malformed overflow) has (λ incomplete. incomplete)) (k.settled (malformed overflow) has (λ incomplete. incomplete))
-  consumes_same (malformed not_minimal) has =
-      settles_alike (h.settled (malformed not_minimal) has (λ incomplete. incomplete)) (k.settled (malformed not_minimal) has (λ incomplete. incomplete))
+  consumes_same (malformed overflow) has = late (malformed overflow) has (λ incomplete. incomplete)
+  consumes_same (malformed not_minimal) has = late (malformed not_minimal) has (λ incomplete. incomplete)
   consumes_same unexpected_eof has =
       let (code, size, head) = h.cut has in
       let (c, s, at) = k.cut has in

@@ -1,9 +1,9 @@
 //! Encoding for C, and the texts of statuses, which are written to a buffer like encodings.
-ghost use Rattle.std.specs.Prelude.{◌≡◌, ◌+◌, ◌<◌, ◌≤◌, ◌⊎◌, ℕ, List, [], ◌∷◌, ◌++◌, length, drop};
+ghost use Rattle.std.specs.Prelude.{◌≡◌, ◌+◌, ◌<◌, ◌≤◌, ℕ, List, [], ◌∷◌, ◌++◌, length, drop};
 ghost use Rattle.multihash.specs.Varint.{IsVarint, varint_limit};
 ghost use Rattle.multihash.specs.Encoding.{IsEncoding};
 ghost use Rattle.multihash.specs.Scale.{IsScale, IsScaleCode};
-ghost use Rattle.multihash_c.specs.Encoded.{IsTooLong, IsLargeCode, IsEncodedLength, ReportsLength, WritesForm, HasParts, IsPut, Puts};
+ghost use Rattle.multihash_c.specs.Encoded.{IsTooLong, IsLargeCode, ReportsLength, WritesForm, HasParts, IsPut, Puts};
 ghost use Rattle.multihash_c.specs.Status.{status_ok, status_no_room, IsStatusText};
 
 use crate::{DIGEST_MAX, SCALE_HEAD, status};

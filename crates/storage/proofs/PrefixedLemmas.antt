@@ -4,7 +4,7 @@ use Rattle.std.proofs.lemmas.List.{append_cancel_right}
 use Rattle.multihash.specs.Varint.{IsVarint}
 use Rattle.multihash.specs.Refusal.{IsOutOfMemory}
 use Rattle.multihash.proofs.CallingLemmas.{number_read, number_in_part, number_found, number_truncated, exact_found, exact_truncated}
-use Rattle.multihash.proofs.VarintLemmas.{same_number, varint_unique}
+use Rattle.multihash.proofs.VarintLemmas.{same_number}
 use Rattle.multihash.proofs.EncodingLemmas.{same_cut}
 use Rattle.storage.specs.Prefixed.{IsPrefixed, IsFailed, IsTruncatedOrMemory, PrefixedFails}
 use Rattle.storage.specs.declared.prefixed.PrefixedError.{PrefixedError}
@@ -15,10 +15,6 @@ prefixed_cut block bytes more h = ap (λ (z : List ℕ). z ++ more) h.parts ∙ 
 
 pub make_prefixed : (n : ℕ) (block len : List ℕ) → length block ≡ n → IsVarint n len → IsPrefixed block (len ++ block)
 make_prefixed n block len long is_len = record { len = len; is_len = subst (λ k. IsVarint k len) (sym long) is_len; parts = refl }
-
--- a block is written in one way
-pub prefixed_same : (x a b : List ℕ) → IsPrefixed x a → IsPrefixed x b → a ≡ b
-prefixed_same x a b h k = cc (h.parts, k.parts, varint_unique (length x) h.len k.len h.is_len k.is_len)
 
 -- two blocks at the front of one list are equal, and so is what follows them
 pub prefixed_unique : (x y a b r s : List ℕ) → IsPrefixed x a → IsPrefixed y b → a ++ r ≡ b ++ s → (x ≡ y) × (a ≡ b) × (r ≡ s)

@@ -1,17 +1,16 @@
 -- What the definitions exclude: a message that collides with itself or with one of another hash, errors that
 -- are not the block's, another root of two leaves or of one, no path from a leaf, and a valid prefix that is not
 -- entries or not the longest. What they do not exclude: paths of which one goes on where the other ends.
-use Rattle.std.proofs.Common.{◌≡◌, ◌<◌, ◌++◌, ℕ, zero, suc, List, [], ◌∷◌, length, length-append, append-nil, Option, Some, inl, inr, refl, sym, ap, ◌∙◌, arith}
+use Rattle.std.proofs.Common.{◌≡◌, ◌++◌, ℕ, zero, suc, List, [], ◌∷◌, length, length-append, append-nil, Option, Some, inl, inr, refl, sym, ap, ◌∙◌, arith}
 use Rattle.std.specs.Prelude.{⊤, codes}
 use Rattle.std.specs.Fmt.{digits}
 use Rattle.std.specs.List.{Contains}
-use Rattle.std.specs.Io.KnownBytes.{prepend_known}
-use Rattle.multihash.specs.Reading.{ConsumesFewerThan}
 use Rattle.multihash.specs.Pair.{Pair, FitsBuffer}
 use Rattle.multihash.specs.Refusal.{Refusal, IsEof}
 use Rattle.multihash.specs.Multihash.{Fields, pair_of}
 use Rattle.multihash.proofs.CallingLemmas.{number_read, number_found}
-use Rattle.multihash.proofs.KnownVectors.{varint_1}
+use Rattle.multihash.proofs.ReadingVectors.{consumes_not_fewer}
+use Rattle.multihash.proofs.VarintWriteLemmas.{one_byte}
 use Rattle.multihash.proofs.VarintLemmas.{varint_some, same_number}
 use Rattle.sha2.specs.Sha256.{sha256}
 use Rattle.sha2.proofs.Facts256.{length-sha256}
@@ -36,18 +35,10 @@ one_message m c = c.differ (sym (only m c.first c.of_first) ∙ only m c.second 
 one_hash : (m x : List ℕ) → Collides (m ∷ []) (x ∷ []) → sha256 m ≡ sha256 x
 one_hash m x c = rw (only m c.first c.of_first, only x c.second c.of_second) c.collide
 
--- a block of one byte
-few : ¬ (ConsumesFewerThan 1 (Some (7 ∷ [])) (Some []))
-few h = by h.consumed h.fewer h.consumes
-  where
-    by : (consumed : List ℕ) → length consumed < 1 → Some (7 ∷ []) ≡ prepend_known consumed (Some []) → ⊥
-    by [] fewer consumes = cc
-    by (b ∷ bytes) fewer consumes = omega (arith, fewer)
-
-whole_block : (limit before after : ℕ) (e : PrefixedError) → ¬ (BlockFails limit before after e 1 (Some (7 ∷ [])) (Some []))
+whole_block : (limit before after : ℕ) (e : PrefixedError) → ¬ (BlockFails limit before after e 1 (Some (1 ∷ 2 ∷ [])) (Some (2 ∷ [])))
 whole_block limit before after e (inl (long, over, counted, kept)) = cc
-whole_block limit before after e (inr (within, inl (memory, counted, consumed))) = few consumed
-whole_block limit before after e (inr (within, inr (r, is, fails))) = few fails.consumed
+whole_block limit before after e (inr (within, inl (memory, counted, consumed))) = consumes_not_fewer consumed
+whole_block limit before after e (inr (within, inr (r, is, fails))) = consumes_not_fewer fails.consumed
 
 long_block : (before after : ℕ) (e : Refusal) (old new : Option (List ℕ)) → ¬ (BlockFails 0 before after (Failed e) 1 old new)
 long_block before after e old new (inl (long, over, counted, kept)) = cc
@@ -64,9 +55,9 @@ too_long_is_not_failed n (r, is, _) = cc
 
 -- the length 1 is above the limit 0
 too_long : (e : PrefixedError) (new : Option (List ℕ)) → PrefixedFails 0 0 0 e (Some (1 ∷ [])) new → (e ≡ TooLong 1) × (new ≡ Some [])
-too_long e new (inl (r, is, fails)) = absurd (number_found 0 0 refl r 1 (1 ∷ []) [] (Some (1 ∷ [])) new varint_1 refl fails)
+too_long e new (inl (r, is, fails)) = absurd (number_found 0 0 refl r 1 (1 ∷ []) [] (Some (1 ∷ [])) new (one_byte 1 (omega arith)) refl fails)
 too_long e new (inr (n, mid, first, fails)) =
-    let told = number_read 1 n (1 ∷ []) [] varint_1 (Some (1 ∷ [])) mid refl first in
+    let told = number_read 1 n (1 ∷ []) [] (one_byte 1 (omega arith)) (Some (1 ∷ [])) mid refl first in
     elim fails [ inl (is, over, same, kept) ↦ (is ∙ ap TooLong told.0, kept ∙ told.1) | inr (within, _) ↦ absurd (omega (arith, within, told.0)) ]
 
 truncated_is_eof : (input : List ℕ) (e : Refusal) → IsTruncated input e → IsEof e
@@ -74,7 +65,7 @@ truncated_is_eof input e (n, len, rest, is, cut, short, eof) = eof
 
 whole_is_not_truncated : (e : Refusal) → ¬ (IsTruncated (1 ∷ 7 ∷ []) e)
 whole_is_not_truncated e (n, len, rest, is, cut, short, eof) =
-    let told = same_number (1 ∷ 7 ∷ []) n 1 rest (7 ∷ []) (len, is, cut) (1 ∷ [], varint_1, refl) in
+    let told = same_number (1 ∷ 7 ∷ []) n 1 rest (7 ∷ []) (len, is, cut) (1 ∷ [], (one_byte 1 (omega arith)), refl) in
     omega (arith, short, told.0, ap (λ (z : List ℕ). length z) told.1)
 
 consumed_pair_fits : (S : ℕ) (p : Pair) (old new : Option (List ℕ)) → ConsumesPair S p old new → FitsBuffer S p
