@@ -29,7 +29,7 @@ TESTS = {
     "allocating_write_of_a_long_list": 3,
     "allocating_room_alone": 1,
     "allocating_write_of_a_vector": 1,
-    "allocating_push": 1,
+    "allocating_push": 2,
     # trees of 1, 5 and 17 leaves: the leaves by 1 each; the levels above by 0, 3 and 8; the paths by 0, 1 and 2;
     # each block by 3, of 4096, 8192 and 16384 bytes
     "allocating_storage": 23,
