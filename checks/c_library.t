@@ -42,7 +42,7 @@ planted_prebuilt() {
 
 # The archive exports what the header declares, no more and no less.
 exports_exactly() {
-  checks/lib/header.py --exports > "$work/declared" && [ -s "$work/declared" ] || return 1
+  checks/header.t --exports > "$work/declared" && [ -s "$work/declared" ] || return 1
   nm --defined-only --extern-only -f posix "$1" | awk '!/:$/ && NF { print $1 }' | sort |
     diff "$work/declared" - &&
     echo "exports the $(wc -l < "$work/declared") functions that the header declares"
@@ -51,7 +51,7 @@ exports_exactly() {
 # A test in C calls each function that the header declares.
 calls_each() {
   local name
-  checks/lib/header.py --exports > "$work/names" && [ -s "$work/names" ] || return 1
+  checks/header.t --exports > "$work/names" && [ -s "$work/names" ] || return 1
   while read -r name; do
     grep -q "\b$name\b" "$@" || { echo "not called: $name"; return 1; }
   done < "$work/names"

@@ -1,5 +1,259 @@
-#!/usr/bin/env bash
-# That the header for C, and the numbers, structs and versions of the bindings, are those of the crate, and
-# that comments list errors in the order in which they are judged.
-echo 1..26
-exec "$(dirname "$0")/lib/header.py"
+#!/usr/bin/env python3
+"""Compares the header for C, and the numbers, structs and version of the bindings, with the crate.
+
+    checks/header.t              checks
+    checks/header.t --exports    prints the names of the functions that the header declares
+
+The header's declarations are made from the crate. The preprocessed header has to be these
+declarations and nothing else, in C and in C++, and its macros have to be the crate's constants. A
+text in no known form is an error. Then the differences of header.edits are planted, each of which
+has to be found.
+"""
+import re
+import shutil
+import subprocess
+import sys
+from collections.abc import Iterable, Iterator
+from concurrent.futures import ThreadPoolExecutor
+from pathlib import Path
+from typing import NamedTuple
+
+LIB = Path(__file__).with_name("lib")
+sys.path.append(str(LIB))
+import edits
+import tap
+from rt_source import Item, items
+
+TOP = Path(__file__).resolve().parents[1]
+CRATE = "crates/multihash_c"
+HEADER = "bindings/c/include/multihash.h"
+LANGUAGES = {"C": ["cc", "-x", "c", "-std=c11"], "C++": ["c++", "-x", "c++", "-std=c++17"]}
+# The header's conditions: any other hides text from these preprocessors.
+CONDITIONS = ["ifndef MULTIHASH_H", "ifdef __cplusplus", "ifdef __cplusplus"]
+TYPES = {"u32": "uint32_t", "u64": "uint64_t", "i32": "int32_t", "usize": "size_t"}
+
+# The files that are compared.
+RUST, PYTHON, JS = "bindings/rust/multihash_c", "bindings/python/verified_multihash", "bindings/js"
+PATTERNS = (
+    HEADER,
+    f"{CRATE}/src/**/*.rt",
+    "crates/multihash/specs/Varint.antt",
+    "crates/multihash/src/multihash.rt",
+    "bindings/c/tests/models.c",
+    f"{RUST}/Cargo.toml",
+    f"{RUST}/src/**/*.rs",
+    f"{PYTHON}/**/*.py",
+    f"{JS}/core.js",
+    f"{JS}/index.d.ts",
+    f"{JS}/package.json",
+)
+
+Files = dict[str, str]
+Structs = dict[str, list[tuple[str, str]]]
+
+
+class Declared(NamedTuple):
+    """What the crate has, from which the header and the bindings are judged."""
+
+    declarations: list[str]
+    macros: dict[str, str]
+    structs: Structs
+    statuses: dict[str, str]
+    lengths: dict[str, str]
+    version: str
+
+
+def read_files() -> Files:
+    """Returns the texts that are compared, by their paths."""
+    return {str(path.relative_to(TOP)): path.read_text("utf-8") for pattern in PATTERNS for path in TOP.glob(pattern)}
+
+
+def flat(text: str) -> str:
+    """Returns a text with one blank between its words."""
+    return " ".join(re.findall(r'"[^"]*"|\w+|[^\w\s]', text))
+
+
+def group(form: str, text: str) -> str:
+    """Returns the group of a form that the text has once."""
+    [found] = re.findall(form, text)
+    return str(found)
+
+
+def parameter(text: str) -> str:
+    """Returns a parameter of an export in C: a slice is a pointer and a length."""
+    name, _, kind = text.partition(": ")
+    if slice_of := re.fullmatch(r"&(mut )?\[u8\]", kind):
+        return f"{'' if slice_of[1] else 'const '}uint8_t *{name}, size_t {name}_length"
+    return f"{'multihash_status' if name == 'status' else TYPES.get(kind, kind)} {name}"
+
+
+def structs_of(sources: list[Item]) -> Structs:
+    """Returns the structs that C sees, with their fields."""
+    found = {}
+    for item in sources:
+        if item.kind == "struct" and item.attributes.startswith("#[repr(C)]\n"):
+            fields = [(name, TYPES.get(kind, kind)) for _, name, kind in item.parts()]
+            found[f"multihash_{item.name.lower()}"] = fields
+    return found
+
+
+def declaration(item: Item) -> str:
+    """Returns the declaration of an export. checks/c_library.t sees any other."""
+    [(name, parameters, result)] = re.findall(r"^(\w+)\((.*)\) -> (\w+)$", item.signature())
+    parts = ", ".join(map(parameter, filter(None, parameters.split(", ")))) or "void"
+    return f"{TYPES.get(result, f'multihash_{result.lower()}')} {name}({parts});"
+
+
+def numbers_of(sources: list[Item]) -> dict[str, str]:
+    """Returns the constants of a file that are numbers."""
+    form = re.compile(r"(?:pub )?const (\w+): u32 = (\d+);\s*")
+    found = (form.fullmatch(item.source) for item in sources)
+    return {constant[1]: constant[2] for constant in found if constant}
+
+
+def declarations(
+    structs: Structs, exports: list[Item], statuses: dict[str, str], texts: list[tuple[str, str]]
+) -> Iterator[str]:
+    """Returns the declarations that the header has to have, in C."""
+    yield "typedef uint32_t multihash_status;"
+    numbers = ", ".join(f"MULTIHASH_{name} = {number}" for name, number in statuses.items())
+    yield f"enum {{ {numbers} }};"
+    for name, fields in structs.items():
+        typed = [("multihash_status" if field == "status" else kind, field) for field, kind in fields]
+        members = " ".join(f"{kind} {field};" for kind, field in typed)
+        yield f"typedef struct {name} {{ {members} }} {name};"
+    yield from map(declaration, exports)
+    cases = " ".join(f'{f"case MULTIHASH_{name}" if name else "default"}: return "{text}";' for name, text in texts)
+    signature = "static inline const char *multihash_status_text(multihash_status status)"
+    yield f"{signature} {{ switch (status) {{ {cases} }} }}"
+
+
+def of_crate(files: Files) -> Declared:
+    sources = {path: items(text) for path, text in files.items() if path.startswith(f"{CRATE}/src")}
+    every = [item for found in sources.values() for item in found]
+    exports = [item for item in every if "no_mangle" in item.attributes]
+    [put_text] = [item.source for item in exports if item.name == "multihash_put_status_text"]
+    texts = re.findall(r'(?:status::(\w+)|_) => put_text\(b"([^"]*)", out\)', put_text)
+    # the most bytes of a varint; a length that is accepted has two
+    varint = int(group(r"\nmax_continuation = (\d+)\n", files["crates/multihash/specs/Varint.antt"])) + 1
+    most = {"DIGEST_MAX": 255, "HEAD_MAX": 2 * varint, "LENGTH_MAX": varint + 2 + 255, "SCALE_LENGTH_MAX": 9 + 255}
+    lengths, statuses = {name: str(number) for name, number in most.items()}, numbers_of(
+        sources[f"{CRATE}/src/status.rt"]
+    )
+    of_version = numbers_of(sources[f"{CRATE}/src/version.rt"])
+    major, minor, patch = (int(of_version[part]) for part in ("MAJOR", "MINOR", "PATCH"))
+    version, number = f"{major}.{minor}.{patch}", 10000 * major + 100 * minor + patch
+    macros = {"H": "", "VERSION": f'"{version}"', "VERSION_NUMBER": str(number), **lengths}
+    structs = structs_of(every)
+    return Declared([*declarations(structs, exports, statuses, texts)], macros, structs, statuses, lengths, version)
+
+
+def preprocessed(text: str, language: str, *options: str) -> str:
+    """Returns what the preprocessor makes of the header, without the standard's headers."""
+    words = [*LANGUAGES[language], "-E", "-P", "-nostdinc", "-DSIZE_MAX=1", "-DUINT64_MAX=1", *options, "-"]
+    return subprocess.check_output(words, input=re.sub(r"#include <std(def|int)\.h>\n", "", text), text=True)
+
+
+def header_errors(header: str, crate: Declared, language: str) -> Iterator[str]:
+    conditions = re.findall(r"(?m)^\s*#\s*((?:if|el).*)", header)
+    if conditions != CONDITIONS:
+        yield f"{language}: the header's conditions are {conditions}"
+    rest = flat(preprocessed(header, language))
+    if language == "C++":
+        rest = rest.removeprefix('extern "C" { ').removesuffix("}")
+    for wanted in map(flat, crate.declarations):
+        if wanted not in rest:
+            yield f"{language}: the header lacks {wanted}"
+        rest = rest.replace(wanted, "", 1)
+    if rest.strip():
+        yield f"{language}: the header has more than the crate: {rest.strip()}"
+    macros, predefined = ({*preprocessed(text, language, "-dM").splitlines()} for text in (header, ""))
+    if macros - predefined != {f"#define MULTIHASH_{name} {value}" for name, value in crate.macros.items()}:
+        found = sorted(macros - predefined)
+        yield f"{language}: the crate has {crate.macros}, and the header {found}"
+
+
+def constants_of(files: Files, folder: str, names: Iterable[str]) -> set[tuple[str, str]]:
+    """Returns the constants of these names in the files of a folder, with their values as they are written.
+
+    What follows the name, with a type or not, is '=' or ':'.
+    """
+    form = rf"(?<![.\w])({'|'.join(names)})(?: *:[^=\n]*)?(?: *=(?![=>])|:(?!:)) *([^;\n]*?);?(?: *(?:#|//)[^\n]*)?$"
+    texts = (text for path, text in files.items() if path.startswith(folder))
+    return {constant for text in texts for constant in re.findall(form, text, re.M)}
+
+
+def binding_errors(files: Files, crate: Declared) -> Iterator[str]:
+    numbers = {**crate.statuses, **crate.lengths}
+    statuses = re.findall(r"'(\w+)'", group(r"\nconst STATUSES = \[([^\]]*)\];\n", files[f"{JS}/core.js"]))
+    of_script = {(name.upper(), str(at)) for at, name in enumerate(statuses)} | constants_of(files, JS, crate.lengths)
+    of_types = group(r"\nexport type Status =((?:\n  \|.*)+)", files[f"{JS}/index.d.ts"])
+    for name, found, wanted in (
+        ("Rust's numbers", constants_of(files, RUST, numbers), {*numbers.items()}),
+        ("Python's numbers", constants_of(files, PYTHON, numbers), {*numbers.items()}),
+        ("JavaScript's numbers", of_script, {*numbers.items()}),
+        ("TypeScript's statuses", re.findall(r"\| '(\w+)'", of_types), statuses[1:]),
+        ("Rust's structs", structs_of(items(files[f"{RUST}/src/ffi.rs"])), crate.structs),
+        ("Rust's version", group(r'\nversion = "(.*)"\n', files[f"{RUST}/Cargo.toml"]), crate.version),
+        ("Python's version", group(r'\n__version__ = "(.*)"\n', files[f"{PYTHON}/__init__.py"]), crate.version),
+        ("JavaScript's version", group(r'\n  "version": "(.*)",\n', files[f"{JS}/package.json"]), crate.version),
+    ):
+        if found != wanted:
+            yield f"{name} are {found}, and the crate's {wanted}"
+
+
+def order_errors(files: Files, statuses: dict[str, str]) -> Iterator[str]:
+    """Returns the comments that list errors in another order than they are judged: by their numbers.
+
+    The model with which the tests of C compare each call has this order too.
+    """
+    form = r"Errors: .*?\*/|# Errors\n(?: *///[^\n]*\n)+|model_encoding\([^;]*\n\{.*?\n\}"
+    for path, text in files.items():
+        for section in re.findall(form, text, re.S):
+            names = re.findall(r"(?:MULTIHASH_|Error::)(\w+)", section)
+            listed = [statuses.get(re.sub(r"(?<=[a-z])(?=[A-Z])", "_", name).upper(), "") for name in names]
+            ordered = [number for number in listed if number > statuses["NOT_MINIMAL"]]
+            if ordered != sorted(ordered):
+                yield f"{path} has errors in another order: {flat(section)}"
+
+
+def error_of(files: Files) -> str:
+    """Returns what differs, or what cannot be read."""
+    try:
+        crate = of_crate(files)
+        errors = [*binding_errors(files, crate), *order_errors(files, crate.statuses)]
+        for language in LANGUAGES:
+            errors += header_errors(files[HEADER], crate, language)
+        return "\n".join(errors)
+    except (KeyError, ValueError, subprocess.CalledProcessError) as error:
+        return f"not read: {error!r}"
+
+
+def plant(files: Files, difference: edits.Planted) -> tap.Result:
+    """Plants a difference, which has to be found."""
+    return tap.planted(difference.name, error_of({**files, **edits.apply(files, difference.edits)}))
+
+
+def results() -> Iterator[tap.Result]:
+    files = read_files()
+    differences = edits.read(LIB / "header.edits")
+    if not shutil.which("c++"):
+        del LANGUAGES["C++"]
+        yield "the header and the bindings", error_of(files)
+        yield from (tap.left_out(each.name, "c++ is not installed") for each in differences)
+        return
+    yield "the header and the bindings", error_of(files)
+    with ThreadPoolExecutor(4) as pool:
+        yield from pool.map(lambda each: plant(files, each), differences)
+
+
+def main() -> int:
+    if sys.argv[1:] == ["--exports"]:
+        header = preprocessed(read_files()[HEADER], "C")
+        print("\n".join(sorted(re.findall(r"(\w+)\([^()]*\);", header))))
+        return 0
+    return tap.report(results(), 26)
+
+
+if __name__ == "__main__":
+    sys.exit(main())

@@ -103,8 +103,8 @@ try_linter() {
   has 2 shellcheck && try_linter "shellcheck -x" cd.sh SC2164 "#!/bin/bash\ncd /tmp" $shell
   has 2 black && try_linter "black --check --line-length 120" layout.py "would reformat" "number  =  1" $python
   has 2 pyflakes3 && try_linter pyflakes3 unused.py "imported but unused" "import os" $python
-  has 2 mypy && try_linter "mypy --strict --cache-dir $work/mypy" untyped.py "missing a type annotation" \
-    "def same(number): return number" $typed
+  has 2 mypy && try_linter "mypy --strict --scripts-are-modules --cache-dir $work/mypy" untyped.py \
+    "missing a type annotation" "def same(number): return number" $typed
   has 3 tsc && try_linter names unused.js TS6133 "export {};\nconst number = 1;" $javascript &&
     try "each error of names: 14 comparisons" planted_names
 }

@@ -1,4 +1,131 @@
-#!/usr/bin/env bash
-# That each allocation may fail, in tests and in mh_show: their number, and that each is freed.
-echo 1..28
-exec "$(dirname "$0")/lib/memory.py"
+#!/usr/bin/env python3
+"""Makes each allocation fail in turn, in the tests and in mh_show.
+
+It runs each by itself while its Nth allocation fails, N counted upwards until it makes fewer. A test in which one
+failed, and that found all as it should be, fails with FAILED; mh_show has to print that it is out of memory, and
+nothing else. Each run has to free what it allocated. memory.c, which is loaded before malloc, makes allocations fail
+and counts them. The programs are those that 'rt ci' built, if BUILT says so; otherwise they are built here.
+"""
+import os
+import re
+import subprocess
+import sys
+import tempfile
+from collections.abc import Iterator
+from pathlib import Path
+
+sys.path.append(str(Path(__file__).with_name("lib")))
+import tap
+
+CRATES = Path(__file__).resolve().parents[1] / "crates"
+FAILED = 'error: "an allocation failed"'
+# how many allocations each test makes
+TESTS = {
+    "allocating_forms_at_each_size": 26,
+    "allocating_forms_of_usual_digests": 18,
+    "allocating_read_list": 1,
+    "allocating_read_of_lists": 16,
+    "allocating_write": 2,
+    "allocating_scale_encode": 2,
+    "allocating_write_of_a_long_list": 3,
+    "allocating_room_alone": 1,
+    "allocating_write_of_a_vector": 1,
+    "allocating_push": 2,
+    # trees of 1, 5 and 17 leaves: the leaves by 1 each; the levels above by 0, 3 and 8; the paths by 0, 1 and 2;
+    # each block by 3, of 4096, 8192 and 16384 bytes
+    "allocating_storage": 23,
+    # 3 for 4, 8 and 16 items, 1, 1; 2 encodings; 1, 2 and 1 for the forms
+    "allocating_examples": 11,
+    "calls_need_no_memory": 0,
+}
+# inputs of mh_show, the last of which cannot be read, and how many allocations it makes
+SHOWN = {"example": 8, "0041": 5, "0": 4, "a folder": 4}
+# programs, how many allocations each is to make, and whether it ends as it should: with status 1 if one failed
+THREE = "void *a = malloc(1), *b = malloc(1), *c = malloc(1); free(a); free(b); free(c); "
+PLANTED = (
+    ("void *made = malloc(1); free(made); return !made;", 1, True),
+    ("return !malloc(1);", 1, False),
+    ("free(malloc(1)); return 0;", 1, False),
+    ("void *made = malloc(1); if (made) free(malloc(1)); free(made); return !made;", 1, False),
+    ("return 1;", 1, False),
+    ('void *made = malloc(1); if (made) write(1, "0", 1); free(made); return !made;', 1, False),
+    (f"{THREE}return !a || !b || !c;", 3, True),
+    (f"{THREE}return !a || !c;", 3, False),
+    (f"{THREE}return !a || !b;", 3, False),
+    (f"{THREE}return !a || !b || !c;", 2, False),
+)
+
+
+class Counted:
+    """Runs programs while an allocation fails."""
+
+    def __init__(self, work: Path) -> None:
+        self.work = work
+        source = CRATES.with_name("checks") / "lib/memory.c"
+        self.build(source.read_text("utf-8"), "memory.so", "-shared", "-fPIC")
+
+    def build(self, text: str, name: str, *options: str) -> Path:
+        words = ["cc", "-std=c11", "-fno-builtin", *options, "-x", "c", "-", "-o", name]
+        subprocess.run(words, input=text, cwd=self.work, text=True, check=True)
+        return self.work / name
+
+    def run(self, command: list[str], fail: int, stdin: Path) -> tuple[str, int, int]:
+        """Returns what was printed with the status after it, and the numbers of allocations and of leaks."""
+        counts = self.work / "counts"
+        counts.write_text("0 1", "utf-8")
+        preload = {"LD_PRELOAD": f"{self.work}/memory.so", "COUNTS": str(counts), "FAIL": str(fail)}
+        files = os.open(stdin, os.O_RDONLY)
+        ran = subprocess.run(
+            command, stdin=files, stdout=-1, stderr=subprocess.STDOUT, env=os.environ | preload, text=True, timeout=60
+        )
+        os.close(files)
+        asked, live = map(int, counts.read_text("utf-8").split())
+        return f"{ran.stdout}{ran.returncode}", asked, live
+
+    def error_of(
+        self, command: list[str], wanted: int, failed: str, passed: str, stdin: Path = Path(os.devnull)
+    ) -> str:
+        """Returns what is wrong, if that number of allocations is wanted, and these patterns of the output."""
+        for number in range(1, wanted + 2):
+            printed, asked, live = self.run(command, number, stdin)
+            form = failed if number <= wanted else passed
+            if (asked >= number) != (number <= wanted) or live or not re.fullmatch(form, printed, re.S):
+                return f"where number {number} fails, allocations: {asked}, not freed: {live}, it prints: {printed}"
+        return ""
+
+
+def build(crate: str, name: str, word: str) -> str:
+    """Returns a program of a crate, which is built if 'rt ci' did not."""
+    program = CRATES / crate / "out" / name
+    if os.environ.get("BUILT") != "rt ci":
+        program.unlink(missing_ok=True)
+        command = f"cd {CRATES / crate} && rt {word} < {'stdin' if word == 'run' else '/dev/null'} >&2"
+        subprocess.run(["bash", "-c", command], check=True)
+    return str(program)
+
+
+def results(work: Path) -> Iterator[tap.Result]:
+    counted = Counted(work)
+    for number, (text, wanted, is_right) in enumerate(PLANTED):
+        source = f"#include <stdlib.h>\n#include <unistd.h>\nint main(void) {{ {text} }}\n"
+        planted = counted.build(source, f"planted{number}")
+        error = counted.error_of([str(planted)], wanted, "1", "0")
+        yield f"planted, {wanted}: {text}", "" if is_right != bool(error) else f"found: {error}"
+    program = build("tests_values", "tests_values_tests", "test")
+    listed = subprocess.run([program, "--list"], capture_output=True, text=True, check=True).stdout
+    tests = {path.rpartition("::")[2]: path for path in re.findall(r"(?m)^(\S+): test$", listed)}
+    named = {name for name in tests if re.search(r"^allocating_|_no_memory$", name)}
+    yield "the tests are those listed", " ".join(sorted(named ^ {*TESTS}))
+    for name, number in TESTS.items():
+        failed, passed = rf"(.*\n)?{re.escape(FAILED)}\n(.*\n)?101", r"(.*\n)?test result: ok\n(.*\n)?0"
+        yield name, counted.error_of([program, tests.get(name, "")], number, failed, passed)
+    show = build("mh_show", "mh_show", "run")
+    for text, number in SHOWN.items():
+        stdin = {"example": CRATES / "mh_show/stdin", "a folder": Path("/")}.get(text, work / "input")
+        (work / "input").write_text(f"{text}\n", "utf-8")
+        yield f"mh_show on {text}", counted.error_of([show], number, r"mh_show: out of memory\n1", ".*", stdin)
+
+
+if __name__ == "__main__":
+    with tempfile.TemporaryDirectory(prefix="memory-") as folder:
+        sys.exit(tap.report(results(Path(folder)), 28))

@@ -1,4 +1,184 @@
-#!/usr/bin/env bash
-# What the programs write, and their status, for rejected input and failing I/O; mh_show on digests of each size.
-echo 1..410
-exec "$(dirname "$0")/lib/rejected.py"
+#!/usr/bin/env python3
+"""Runs crates/vectors and mh_show on input that they have to reject, and compares all that they write.
+
+The programs are those of 'rt ci', if BUILT says so; otherwise they are built here.
+"""
+import hashlib
+import os
+import subprocess
+import sys
+import tempfile
+from collections.abc import Iterator
+from pathlib import Path
+from typing import NamedTuple
+
+sys.path.append(str(Path(__file__).with_name("lib")))
+import tap
+
+CRATES = Path(__file__).resolve().parents[1] / "crates"
+# the calls that crates/vectors makes, and the columns that have their results
+HOW = [" over the slice", *(f", {count} a call" for count in ("one byte", "two bytes", "three bytes", "four bytes"))]
+CALLS = {"from_bytes": [4], **{f"read{how}": [2, 3] for how in HOW[:4]}}
+CALLS |= {f"scale_decode{how}": [5, 6] for how in (*HOW[:2], HOW[4])} | {"from_value": [4]}
+# the first line of a list, and lines with each result of each call
+HEAD = "S|input|read|read_taken|from_bytes|scale_decode|scale_taken"
+LINES = """\
+4|390286ce|pair 57 86ce|4|pair 57 86ce|unexpected_eof|-
+1|390286ce|invalid_size 2|2|invalid_size 2|unexpected_eof|-
+4|39000000000000000286ceff|pair 57 -|2|invalid_size 10|pair 57 86ce|11
+1|39000000000000000286ce|pair 57 -|2|invalid_size 9|invalid_size 2|9
+1|80|insufficient|-|insufficient|unexpected_eof|-
+1|8000|not_minimal|2|not_minimal|unexpected_eof|-
+4|0002ff|unexpected_eof|-|unexpected_eof|unexpected_eof|-
+200|ffffffffffffffffff|overflow|9|overflow|invalid_code 18446744073709551615|8
+200|00ffffffffffffffff7f|invalid_size 9223372036854775807|10|invalid_size 9223372036854775807|\
+invalid_code 18446744073709551360|8
+""".splitlines()
+RESULTS = [
+    *"insufficient|overflow|not_minimal|unexpected_eof|pair 57 86ce|pair 57 86cf|pair 58 86ce|pair 57 86".split("|"),
+    *"pair 57 -|pair 0 -|invalid_size 2|invalid_size 3|invalid_size 9|invalid_size 2147483647".split("|"),
+    *"invalid_size 9223372036854775806|invalid_code 2|invalid_code 18446744073709551360".split("|"),
+]
+TAKEN = ["-", *map(str, range(13))]
+# what is no line: another one of these columns, or another text
+MALFORMED = {
+    0: ("", "four", "-1", "3"),
+    1: ("", "390286c", "x"),
+    2: ("", "pairs 57 86ce", "pair 57", "pair x 86ce", "pair 57 8", "insufficient ", "overflow 1", "invalid_size x"),
+    3: ("", "four", "-1"),
+    4: ("", "invalid_code", "not minimal"),
+    5: ("", "invalid_code x"),
+    6: ("", "x"),
+}
+OTHER_TEXTS = ("", LINES[0].rpartition("|")[0], f"{LINES[0]}|4", f"# {LINES[0]}")
+SIZES = "no buffer of size 3: the sizes are 0, 1, 2, 4, 16, 32, 64, 128, 200, 255, 256 and 300"
+NOT_READ, NOT_WRITTEN = "mh_show: input not read\n1", "mh_show: output not written\n1"
+# texts and other streams for them, and what is written: the first error is reported
+STREAMS = (
+    (f"008001{256 * '0'}", "", "mh_show: Invalid multihash size 128.\n1"),
+    (65537 * "0", "", NOT_READ),
+    ("", "< /dev/zero", NOT_READ),
+    ("", "< /", NOT_READ),
+    ("", "<&-", NOT_READ),
+    ("", "< / > /dev/full", NOT_READ),
+    ("160100", "> /dev/full", NOT_WRITTEN),
+    ("160100", ">&-", NOT_WRITTEN),
+    ("160100", "2> /dev/full", "code 22\nsize 1\ndigest 00\n0"),
+    ("zz", "2> /dev/full", "1"),
+    ("zz", "2>&-", "1"),
+    ("zz", "> /dev/full", "mh_show: not hexadecimal\n1"),
+)
+
+
+class Written(NamedTuple):
+    """What a program wrote, and its status. Of standard error a text may be the first part."""
+
+    stdout: str
+    stderr: str
+    status: int
+
+    def error_of(self, wanted: "Written") -> str:
+        is_so = self._replace(stderr="") == wanted._replace(stderr="")
+        # without a text nothing is written
+        is_so &= self.stderr.startswith(wanted.stderr) and bool(self.stderr) == bool(wanted.stderr)
+        return "" if is_so else f"it writes {self}, and not {wanted}"
+
+
+def build(name: str) -> str:
+    """Returns a program, which is built and run on no input if 'rt ci' did not build it."""
+    program = CRATES / name / "out" / name
+    if os.environ.get("BUILT") != "rt ci":
+        program.unlink(missing_ok=True)
+        words = ["rt", "run", "--jobs", "1"]
+        subprocess.run(words, cwd=CRATES / name, stdin=subprocess.DEVNULL, stdout=sys.stderr, check=False)
+    return str(program)
+
+
+def run(words: list[str], text: str = "", folder: str = "/") -> Written:
+    ran = subprocess.run(words, input=text, cwd=folder, capture_output=True, text=True, timeout=120)
+    return Written(ran.stdout, ran.stderr, ran.returncode)
+
+
+def replayed(lines: list[str], wrong: dict[int, int]) -> str:
+    """Returns what is written for lines, if those of these numbers have a wrong column."""
+    text = ""
+    for call, columns in CALLS.items():
+        others = [lines[at].split("|") for at, column in wrong.items() if column in columns]
+        text += "".join(f"{call}: disagrees at size {size}, input {data}\n" for size, data, *_ in others)
+        text += f"{call}: {len(lines) - len(others)} lines agree\n"
+    return text
+
+
+def with_column(line: str, column: int, text: str) -> str:
+    columns = line.split("|")
+    return "|".join([*columns[:column], text, *columns[column + 1 :]])
+
+
+def lists() -> Iterator[tuple[str, list[str], Written]]:
+    """Returns lists of lines, with their names and what is written for them."""
+    lines, wrong = [*LINES], {}
+    for line in LINES:
+        for column in range(2, 7):
+            for other in TAKEN if column in (3, 6) else RESULTS:
+                if other != line.split("|")[column]:
+                    wrong[len(lines)] = column
+                    lines.append(with_column(line, column, other))
+    yield "each result, wrong", [HEAD, *lines, *LINES], Written(replayed([*lines, *LINES], wrong), "", 1)
+    for column, at in {column: at for at, column in wrong.items()}.items():
+        some = [LINES[0], lines[at], LINES[0]]
+        yield f"one wrong result: {lines[at]}", [HEAD, *some], Written(replayed(some, {1: column}), "", 1)
+    yield "no lines", [HEAD], Written("", "Error: a list of no lines\n", 1)
+    for head in ("", HEAD[2:], "S|input|read"):
+        text = head.replace("|", "\\t")
+        yield f"first line {text}", [head, LINES[0]], Written("", f'Error: line 1, "{text}": other columns\n', 1)
+    malformed = {with_column(LINES[0], column, text) for column, texts in MALFORMED.items() for text in texts}
+    for line in sorted({*malformed, *OTHER_TEXTS}):
+        reason = f"\nCaused by:\n    {SIZES}\n" if line.startswith("3|") else ""
+        error = 'Error: line 3, "{}"\n{}'.format(line.replace("|", "\\t"), reason)
+        yield f"malformed {line}", [HEAD, LINES[0], line, *LINES], Written(replayed(LINES[:1], {}), error, 1)
+
+
+def shown() -> Iterator[tuple[str, str, str]]:
+    """Returns texts and other streams for mh_show, with what is written, and the status on a last line."""
+    digits = hashlib.sha512(b"multihash").hexdigest()
+    for encoded, code in (("00", 0), ("01", 1), ("12", 18), ("8001", 128), ("ffffffffffffffff7f", 2**63 - 1)):
+        for size in range(65):
+            digest, end = digits[: 2 * size], "\n" if (size + len(encoded)) % 4 else ""
+            yield f"{encoded}{size:02x}{digest}{end}", "", f"code {code}\nsize {size}\ndigest {digest or '-'}\n0"
+    yield "1603aAbBCc\n", "", "code 22\nsize 3\ndigest aabbcc\n0"
+    # texts that mh_show rejects, which Python's tests read too
+    for line in CRATES.with_name("checks").joinpath("lib/not_shown.txt").read_text("utf-8").splitlines()[1:]:
+        text, _, reason = line.replace("\\n", "\n").replace("\\r", "\r").partition("|")
+        yield text, "", f"mh_show: {reason}\n1"
+    for size in (512, 1024, 2048, 4096, 8192, 16384, 32768, 65536):
+        yield size * "0", "", f"mh_show: Invalid multihash size {size // 2 - 2}.\n1"
+    yield from STREAMS
+
+
+def show(program: str, text: str, streams: str) -> Written:
+    """Runs mh_show, whose two streams are one; the status is the last line."""
+    return run(["bash", "-c", f'"$0" 2>&1 {streams}; echo $?', program], text)
+
+
+def results(folder: str) -> Iterator[tap.Result]:
+    vectors, mh_show = build("vectors"), build("mh_show")
+    wanted = Written("a\n", "b\n", 1)
+    for found in (
+        Written("a\na\n", "b\n", 1),
+        Written("a\n", "c\n", 1),
+        Written("a\n", "", 1),
+        Written("a\n", "b\n", 0),
+    ):
+        yield tap.planted(str(found), found.error_of(wanted))
+    yield tap.planted("an error where there is none", wanted.error_of(wanted._replace(stderr="")))
+    for name, lines, wanted in lists():
+        Path(folder, "verdicts.tsv").write_text("".join(f"{line}\n" for line in lines).replace("|", "\t"), "utf-8")
+        yield f"vectors: {name}", run([vectors], folder=folder).error_of(wanted)
+    for text, streams, written in shown():
+        name = f"mh_show {streams} on {len(text)} bytes {text[:40]!r}"
+        yield name, show(mh_show, text, streams).error_of(Written(f"{written}\n", "", 0))
+
+
+if __name__ == "__main__":
+    with tempfile.TemporaryDirectory(prefix="rejected-") as work:
+        sys.exit(tap.report(results(work), 410))

@@ -100,7 +100,7 @@ def folders(page: str) -> tuple[str, ...]:
 
 @cache
 def values() -> dict[str, str]:
-    """Returns the limits and the versions that the sources have. header.py compares the header with the crate."""
+    """Returns the limits and the versions that the sources have. checks/header.t compares the header with the crate."""
     forms = {
         "capacity": ("crates/mh_show/src/show.rt", r"Multihash::<(\d+)>::from_bytes"),
         "input": ("crates/mh_show/src/run.rt", r"const MOST_INPUT: usize = (\d+);"),

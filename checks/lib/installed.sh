@@ -20,7 +20,7 @@ files_in() {
   printf './%s\n' "$include"/multihash.h "$libdir"/libmultihash_c.{a,so,so."$major",so."$version"} \
     "$libdir"/cmake/multihash_c/multihash_c-config{,-release,-version}.cmake "$libdir/pkgconfig/multihash_c.pc" \
     "$document"/{README.md,changelog,copyright,examples/{show.c,stream.c,test.sh}} "${@:2}"
-  { checks/lib/header.py --exports && printf '%s\n' multihash{,_status_text}; } | sed "s,.*,./$man/man3/&.3,"
+  { checks/header.t --exports && printf '%s\n' multihash{,_status_text}; } | sed "s,.*,./$man/man3/&.3,"
 }
 
 # The documents are the repository's, and the page has no link to what is not installed.
@@ -47,7 +47,7 @@ has_flags() {
 exports_exactly() {
   awk '/^MULTIHASH_C/ { node = $1; left = $4 } /^    multihash_/ { sub(/;/, "", $1); print $1 "@@" node; left-- }
     /^}/ && left { print "another number of functions than it says: " node > "/dev/stderr"; exit 1 }' "$2" | sort \
-    > "$work/versions" && sed 's/@.*//' "$work/versions" | diff <(checks/lib/header.py --exports) - &&
+    > "$work/versions" && sed 's/@.*//' "$work/versions" | diff <(checks/header.t --exports) - &&
     readelf -W --dyn-syms "$1" | awk '$7 ~ /^[0-9]+$/ && $4 != "SECTION" { print $8 }' | sort | diff "$work/versions" -
 }
 

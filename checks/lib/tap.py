@@ -7,11 +7,13 @@ Result = tuple[str, str]
 SKIP = "# SKIP "
 
 
-def report(results: Iterable[Result]) -> int:
-    """Prints results as they come. Returns the exit status: without a result it is 1 too.
+def report(results: Iterable[Result], plan: int = 0) -> int:
+    """Prints the plan, if there is one, and results as they come.
 
-    Two results with one name are a failure.
+    Returns the exit status: without a result it is 1 too. Two results with one name are a failure.
     """
+    if plan:
+        print(f"1..{plan}", flush=True)
     failed = number = 0
     names: set[str] = set()
     for number, (what, error) in enumerate(results, 1):
