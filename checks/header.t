@@ -5,16 +5,15 @@
     checks/header.t --exports    prints the names of the functions that the header declares
 
 The header's declarations are made from the crate. The preprocessed header has to be these
-declarations and nothing else, in C and in C++, and its macros have to be the crate's constants. A
-text in no known form is an error. Then the differences of header.edits are planted, each of which
-has to be found.
+declarations and nothing else, in C and in C++, and its macros have to be the crate's constants.
+Comments have to list errors in the order in which they are judged. A text in no known form is an
+exception. Then the differences of header.edits are planted, each of which has to be found.
 """
 import re
 import shutil
 import subprocess
 import sys
 from collections.abc import Iterable, Iterator
-from concurrent.futures import ThreadPoolExecutor
 from pathlib import Path
 from typing import NamedTuple
 
@@ -27,7 +26,7 @@ from rt_source import Item, items
 TOP = Path(__file__).resolve().parents[1]
 CRATE = "crates/multihash_c"
 HEADER = "bindings/c/include/multihash.h"
-LANGUAGES = {"C": ["cc", "-x", "c", "-std=c11"], "C++": ["c++", "-x", "c++", "-std=c++17"]}
+LANGUAGES = ("c", "c++")
 # The header's conditions: any other hides text from these preprocessors.
 CONDITIONS = ["ifndef MULTIHASH_H", "ifdef __cplusplus", "ifdef __cplusplus"]
 TYPES = {"u32": "uint32_t", "u64": "uint64_t", "i32": "int32_t", "usize": "size_t"}
@@ -91,7 +90,7 @@ def structs_of(sources: list[Item]) -> Structs:
     """Returns the structs that C sees, with their fields."""
     found = {}
     for item in sources:
-        if item.kind == "struct" and item.attributes.startswith("#[repr(C)]\n"):
+        if item.attributes.startswith("#[repr(C)]\n"):
             fields = [(name, TYPES.get(kind, kind)) for _, name, kind in item.parts()]
             found[f"multihash_{item.name.lower()}"] = fields
     return found
@@ -137,29 +136,30 @@ def of_crate(files: Files) -> Declared:
     # the most bytes of a varint; a length that is accepted has two
     varint = int(group(r"\nmax_continuation = (\d+)\n", files["crates/multihash/specs/Varint.antt"])) + 1
     most = {"DIGEST_MAX": 255, "HEAD_MAX": 2 * varint, "LENGTH_MAX": varint + 2 + 255, "SCALE_LENGTH_MAX": 9 + 255}
-    lengths, statuses = {name: str(number) for name, number in most.items()}, numbers_of(
-        sources[f"{CRATE}/src/status.rt"]
-    )
-    of_version = numbers_of(sources[f"{CRATE}/src/version.rt"])
-    major, minor, patch = (int(of_version[part]) for part in ("MAJOR", "MINOR", "PATCH"))
-    version, number = f"{major}.{minor}.{patch}", 10000 * major + 100 * minor + patch
-    macros = {"H": "", "VERSION": f'"{version}"', "VERSION_NUMBER": str(number), **lengths}
+    lengths = {name: str(number) for name, number in most.items()}
+    statuses, numbers = (numbers_of(sources[f"{CRATE}/src/{name}.rt"]) for name in ("status", "version"))
+    major, minor, patch = (numbers[part] for part in ("MAJOR", "MINOR", "PATCH"))
+    version, number = f"{major}.{minor}.{patch}", f"{major}{minor:>02}{patch:>02}"
+    macros = {"H": "", "VERSION": f'"{version}"', "VERSION_NUMBER": number, **lengths}
     structs = structs_of(every)
     return Declared([*declarations(structs, exports, statuses, texts)], macros, structs, statuses, lengths, version)
 
 
-def preprocessed(text: str, language: str, *options: str) -> str:
-    """Returns what the preprocessor makes of the header, without the standard's headers."""
-    words = [*LANGUAGES[language], "-E", "-P", "-nostdinc", "-DSIZE_MAX=1", "-DUINT64_MAX=1", *options, "-"]
-    return subprocess.check_output(words, input=re.sub(r"#include <std(def|int)\.h>\n", "", text), text=True)
+def preprocessed(text: str, language: str) -> tuple[set[str], str]:
+    """Returns the macros after a text without the standard's headers, and what the preprocessor makes of the rest."""
+    text = re.sub(r"#include <std(def|int)\.h>\n", "", text)
+    made = subprocess.check_output(["cc", "-x", language, "-E", "-P", "-dD", "-"], input=text, text=True)
+    macros = re.compile(r"^#(?:define|undef) .*\n", re.M)
+    return {*macros.findall(made)}, macros.sub("", made)
 
 
 def header_errors(header: str, crate: Declared, language: str) -> Iterator[str]:
     conditions = re.findall(r"(?m)^\s*#\s*((?:if|el).*)", header)
     if conditions != CONDITIONS:
         yield f"{language}: the header's conditions are {conditions}"
-    rest = flat(preprocessed(header, language))
-    if language == "C++":
+    macros, text = preprocessed(header, language)
+    rest = flat(text)
+    if language == "c++":
         rest = rest.removeprefix('extern "C" { ').removesuffix("}")
     for wanted in map(flat, crate.declarations):
         if wanted not in rest:
@@ -167,10 +167,9 @@ def header_errors(header: str, crate: Declared, language: str) -> Iterator[str]:
         rest = rest.replace(wanted, "", 1)
     if rest.strip():
         yield f"{language}: the header has more than the crate: {rest.strip()}"
-    macros, predefined = ({*preprocessed(text, language, "-dM").splitlines()} for text in (header, ""))
-    if macros - predefined != {f"#define MULTIHASH_{name} {value}" for name, value in crate.macros.items()}:
-        found = sorted(macros - predefined)
-        yield f"{language}: the crate has {crate.macros}, and the header {found}"
+    own = macros - preprocessed("", language)[0]
+    if own != {f"#define MULTIHASH_{name} {value}\n" for name, value in crate.macros.items()}:
+        yield f"{language}: the crate has {crate.macros}, and the header {own}"
 
 
 def constants_of(files: Files, folder: str, names: Iterable[str]) -> set[tuple[str, str]]:
@@ -203,10 +202,7 @@ def binding_errors(files: Files, crate: Declared) -> Iterator[str]:
 
 
 def order_errors(files: Files, statuses: dict[str, str]) -> Iterator[str]:
-    """Returns the comments that list errors in another order than they are judged: by their numbers.
-
-    The model with which the tests of C compare each call has this order too.
-    """
+    """Returns the comments, and the model of the tests of C, that have errors not in the order of their numbers."""
     form = r"Errors: .*?\*/|# Errors\n(?: *///[^\n]*\n)+|model_encoding\([^;]*\n\{.*?\n\}"
     for path, text in files.items():
         for section in re.findall(form, text, re.S):
@@ -218,41 +214,29 @@ def order_errors(files: Files, statuses: dict[str, str]) -> Iterator[str]:
 
 
 def error_of(files: Files) -> str:
-    """Returns what differs, or what cannot be read."""
-    try:
-        crate = of_crate(files)
-        errors = [*binding_errors(files, crate), *order_errors(files, crate.statuses)]
-        for language in LANGUAGES:
-            errors += header_errors(files[HEADER], crate, language)
-        return "\n".join(errors)
-    except (KeyError, ValueError, subprocess.CalledProcessError) as error:
-        return f"not read: {error!r}"
-
-
-def plant(files: Files, difference: edits.Planted) -> tap.Result:
-    """Plants a difference, which has to be found."""
-    return tap.planted(difference.name, error_of({**files, **edits.apply(files, difference.edits)}))
+    """Returns what differs."""
+    crate = of_crate(files)
+    errors = [*binding_errors(files, crate), *order_errors(files, crate.statuses)]
+    for language in LANGUAGES:
+        errors += header_errors(files[HEADER], crate, language)
+    return "\n".join(errors)
 
 
 def results() -> Iterator[tap.Result]:
     files = read_files()
-    differences = edits.read(LIB / "header.edits")
-    if not shutil.which("c++"):
-        del LANGUAGES["C++"]
-        yield "the header and the bindings", error_of(files)
-        yield from (tap.left_out(each.name, "c++ is not installed") for each in differences)
-        return
     yield "the header and the bindings", error_of(files)
-    with ThreadPoolExecutor(4) as pool:
-        yield from pool.map(lambda each: plant(files, each), differences)
+    for name, _, _, its_edits in edits.read(LIB / "header.edits"):
+        yield tap.planted(name, error_of({**files, **edits.apply(files, its_edits)}))
 
 
 def main() -> int:
     if sys.argv[1:] == ["--exports"]:
-        header = preprocessed(read_files()[HEADER], "C")
-        print("\n".join(sorted(re.findall(r"(\w+)\([^()]*\);", header))))
+        _, text = preprocessed(read_files()[HEADER], "c")
+        print("\n".join(sorted(re.findall(r"(\w+)\([^()]*\);", text))))
         return 0
-    return tap.report(results(), 26)
+    if not shutil.which("c++"):
+        return tap.report([tap.left_out("all", "c++ is not installed")], 1)
+    return tap.report(results(), 29)
 
 
 if __name__ == "__main__":
