@@ -5,12 +5,12 @@ The programs are those of 'rt ci', if BUILT says so; otherwise they are built he
 """
 import hashlib
 import os
+import re
 import subprocess
 import sys
 import tempfile
 from collections.abc import Iterator
 from pathlib import Path
-from typing import NamedTuple
 
 sys.path.append(str(Path(__file__).with_name("lib")))
 import tap
@@ -39,6 +39,8 @@ RESULTS = [
     *"pair 57 -|pair 0 -|invalid_size 2|invalid_size 3|invalid_size 9|invalid_size 2147483647".split("|"),
     *"invalid_size 9223372036854775806|invalid_code 2|invalid_code 18446744073709551360".split("|"),
 ]
+# how many lines of these are wrong
+WRONG = 670
 TAKEN = ["-", *map(str, range(13))]
 # what is no line: another one of these columns, or another text
 MALFORMED = {
@@ -51,6 +53,7 @@ MALFORMED = {
     6: ("", "x"),
 }
 OTHER_TEXTS = ("", LINES[0].rpartition("|")[0], f"{LINES[0]}|4", f"# {LINES[0]}")
+CAUSED = "\nCaused by:\n"
 SIZES = "no buffer of size 3: the sizes are 0, 1, 2, 4, 16, 32, 64, 128, 200, 255, 256 and 300"
 NOT_READ, NOT_WRITTEN = "mh_show: input not read\n1", "mh_show: output not written\n1"
 # texts and other streams for them, and what is written: the first error is reported
@@ -68,20 +71,14 @@ STREAMS = (
     ("zz", "2>&-", "1"),
     ("zz", "> /dev/full", "mh_show: not hexadecimal\n1"),
 )
-
-
-class Written(NamedTuple):
-    """What a program wrote, and its status. Of standard error a text may be the first part."""
-
-    stdout: str
-    stderr: str
-    status: int
-
-    def error_of(self, wanted: "Written") -> str:
-        is_so = self._replace(stderr="") == wanted._replace(stderr="")
-        # without a text nothing is written
-        is_so &= self.stderr.startswith(wanted.stderr) and bool(self.stderr) == bool(wanted.stderr)
-        return "" if is_so else f"it writes {self}, and not {wanted}"
+# texts that are not what is wanted
+PLANTED = (
+    ("a\na\n1\n", "a\n1\n"),
+    ("a\n0\n", "a\n1\n"),
+    ("a\n1\n", "a\nb\n1\n"),
+    (f"a\n{CAUSED}b\n1\n", f"a\n{CAUSED}c\n1\n"),
+    (f"a\n{CAUSED}b\n0\n", "a\n1\n"),
+)
 
 
 def build(name: str) -> str:
@@ -94,9 +91,17 @@ def build(name: str) -> str:
     return str(program)
 
 
-def run(words: list[str], text: str = "", folder: str = "/") -> Written:
-    ran = subprocess.run(words, input=text, cwd=folder, capture_output=True, text=True, timeout=120)
-    return Written(ran.stdout, ran.stderr, ran.returncode)
+def written(program: str, streams: str, text: str, folder: str) -> str:
+    """Returns what a program writes to its two streams, which are one, and its status after it."""
+    words = ["bash", "-c", f'"$0" 2>&1 {streams}; echo $?', program]
+    return subprocess.run(words, input=text, cwd=folder, stdout=subprocess.PIPE, text=True, timeout=120).stdout
+
+
+def error_of(found: str, wanted: str) -> str:
+    """Compares two texts; reasons of an error count only where they are wanted."""
+    if CAUSED not in wanted:
+        found = re.sub(f"{CAUSED}.*(?=1\n$)", "", found, flags=re.S)
+    return "" if found == wanted else f"it writes {found!r}, and not {wanted!r}"
 
 
 def replayed(lines: list[str], wrong: dict[int, int]) -> str:
@@ -114,8 +119,8 @@ def with_column(line: str, column: int, text: str) -> str:
     return "|".join([*columns[:column], text, *columns[column + 1 :]])
 
 
-def lists() -> Iterator[tuple[str, list[str], Written]]:
-    """Returns lists of lines, with their names and what is written for them."""
+def lists() -> Iterator[tuple[str, list[str], str]]:
+    """Returns lists of lines, with their names and what is written for them, with the status."""
     lines, wrong = [*LINES], {}
     for line in LINES:
         for column in range(2, 7):
@@ -123,19 +128,20 @@ def lists() -> Iterator[tuple[str, list[str], Written]]:
                 if other != line.split("|")[column]:
                     wrong[len(lines)] = column
                     lines.append(with_column(line, column, other))
-    yield "each result, wrong", [HEAD, *lines, *LINES], Written(replayed([*lines, *LINES], wrong), "", 1)
+    assert len(wrong) == WRONG
+    yield "each result, wrong", [HEAD, *lines, *LINES], f"{replayed([*lines, *LINES], wrong)}1\n"
     for column, at in {column: at for at, column in wrong.items()}.items():
         some = [LINES[0], lines[at], LINES[0]]
-        yield f"one wrong result: {lines[at]}", [HEAD, *some], Written(replayed(some, {1: column}), "", 1)
-    yield "no lines", [HEAD], Written("", "Error: a list of no lines\n", 1)
+        yield f"one wrong result: {lines[at]}", [HEAD, *some], f"{replayed(some, {1: column})}1\n"
+    yield "no lines", [HEAD], "Error: a list of no lines\n1\n"
     for head in ("", HEAD[2:], "S|input|read"):
         text = head.replace("|", "\\t")
-        yield f"first line {text}", [head, LINES[0]], Written("", f'Error: line 1, "{text}": other columns\n', 1)
+        yield f"first line {text}", [head, LINES[0]], f'Error: line 1, "{text}": other columns\n1\n'
     malformed = {with_column(LINES[0], column, text) for column, texts in MALFORMED.items() for text in texts}
     for line in sorted({*malformed, *OTHER_TEXTS}):
-        reason = f"\nCaused by:\n    {SIZES}\n" if line.startswith("3|") else ""
+        reason = f"{CAUSED}    {SIZES}\n" if line.startswith("3|") else ""
         error = 'Error: line 3, "{}"\n{}'.format(line.replace("|", "\\t"), reason)
-        yield f"malformed {line}", [HEAD, LINES[0], line, *LINES], Written(replayed(LINES[:1], {}), error, 1)
+        yield f"malformed {line}", [HEAD, LINES[0], line, *LINES], f"{replayed(LINES[:1], {})}{error}1\n"
 
 
 def shown() -> Iterator[tuple[str, str, str]]:
@@ -155,28 +161,16 @@ def shown() -> Iterator[tuple[str, str, str]]:
     yield from STREAMS
 
 
-def show(program: str, text: str, streams: str) -> Written:
-    """Runs mh_show, whose two streams are one; the status is the last line."""
-    return run(["bash", "-c", f'"$0" 2>&1 {streams}; echo $?', program], text)
-
-
 def results(folder: str) -> Iterator[tap.Result]:
     vectors, mh_show = build("vectors"), build("mh_show")
-    wanted = Written("a\n", "b\n", 1)
-    for found in (
-        Written("a\na\n", "b\n", 1),
-        Written("a\n", "c\n", 1),
-        Written("a\n", "", 1),
-        Written("a\n", "b\n", 0),
-    ):
-        yield tap.planted(str(found), found.error_of(wanted))
-    yield tap.planted("an error where there is none", wanted.error_of(wanted._replace(stderr="")))
+    for found, wanted in PLANTED:
+        yield tap.planted(f"{found!r} for {wanted!r}", error_of(found, wanted))
     for name, lines, wanted in lists():
         Path(folder, "verdicts.tsv").write_text("".join(f"{line}\n" for line in lines).replace("|", "\t"), "utf-8")
-        yield f"vectors: {name}", run([vectors], folder=folder).error_of(wanted)
-    for text, streams, written in shown():
+        yield f"vectors: {name}", error_of(written(vectors, "", "", folder), wanted)
+    for text, streams, wanted in shown():
         name = f"mh_show {streams} on {len(text)} bytes {text[:40]!r}"
-        yield name, show(mh_show, text, streams).error_of(Written(f"{written}\n", "", 0))
+        yield name, error_of(written(mh_show, streams, text, "/"), f"{wanted}\n")
 
 
 if __name__ == "__main__":
