@@ -17,7 +17,7 @@ TOP = Path(__file__).resolve().parents[2]
 PAGE = TOP / "docs" / "CONTRACTS.md"
 PLACES = ("headline", "multihash", "multihash_c", "mh_show", "storage", "examples")
 # attributes that no caller can see
-OF_BODIES = re.compile(r"#\[(allow|cold|inline|tactic)\b")
+OF_BODIES = re.compile(r"#\[(cold|inline|tactic)\b")
 INTRODUCTION = """\
 # Contracts
 
@@ -34,17 +34,14 @@ fix what implementations expose.
 def kept_lines(text: str) -> Iterator[str]:
     """Returns the lines of a text that are no comments and not empty."""
     for line in text.splitlines():
-        if line.strip() and not line.strip().startswith("//"):
-            yield line.rstrip()
+        if line and not line.lstrip().startswith("//"):
+            yield line
 
 
 def attribute_lines(item: Item, indent: str) -> Iterator[str]:
     """Returns the attributes that a caller can see."""
-    is_seen = False
     for line in map(str.strip, kept_lines(item.attributes)):
-        if line.startswith("#["):  # else it continues an attribute
-            is_seen = not OF_BODIES.match(line)
-        if is_seen:
+        if not OF_BODIES.match(line):
             yield indent + line
 
 
@@ -66,17 +63,14 @@ def member_lines(owner: Item) -> Iterator[str]:
     for member in owner.members():
         if member.kind == "fn" and (is_of_trait or member.is_public):
             yield from function_lines(member, "    ")
-        elif member.kind != "fn" and is_of_trait and not member.source.startswith("ghost use"):
+        elif is_of_trait and not member.source.startswith("ghost use"):
             yield from kept_lines("    " + member.source)
 
 
 def field_lines(item: Item) -> Iterator[str]:
     """Returns the cases of an enum, or the fields of a struct that are public or ghost."""
-    is_seen = False
     for line in kept_lines(item.text[item.inner() : item.end]):
-        if re.match(r"    \S", line):  # else it continues a field
-            is_seen = item.kind == "enum" or line.startswith(("    pub ", "    ghost "))
-        if is_seen and line != "}":
+        if line != "}" and (item.kind == "enum" or line.startswith(("    pub ", "    ghost "))):
             yield line
 
 
@@ -93,12 +87,11 @@ def item_lines(item: Item, private: set[str]) -> Iterator[str]:
         lines = [*(member_lines(item) if is_impl or item.kind == "trait" else field_lines(item))]
         if private.isdisjoint(re.findall(r"\w+", item.head)) if is_impl else item.is_public:
             first, _, _ = item.source.partition("\n")
-            if lines and first.endswith("{"):
-                yield from (*attribute_lines(item, ""), first, *lines, "}")
-            elif item.kind == "struct" and first.endswith("{"):
-                yield from (*attribute_lines(item, ""), f"{first} .. }}")
-            elif not is_impl or " for " in item.head:
-                yield from (*attribute_lines(item, ""), first)
+            yield from attribute_lines(item, "")
+            if lines:
+                yield from (first, *lines, "}")
+            else:
+                yield f"{first} .. }}" if first.endswith("{") else first
     elif item.is_public:
         yield from kept_lines(item.source)
 
