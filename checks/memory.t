@@ -14,10 +14,10 @@ import tempfile
 from collections.abc import Iterator
 from pathlib import Path
 
-sys.path.append(str(Path(__file__).with_name("lib")))
+LIB = Path(__file__).with_name("lib")
+sys.path.append(str(LIB))
 import tap
 
-CRATES = Path(__file__).resolve().parents[1] / "crates"
 FAILED = 'error: "an allocation failed"'
 # how many allocations each test makes
 TESTS = {
@@ -61,8 +61,7 @@ class Counted:
 
     def __init__(self, work: Path) -> None:
         self.work = work
-        source = CRATES.with_name("checks") / "lib/memory.c"
-        self.build(source.read_text("utf-8"), "memory.so", "-shared", "-fPIC")
+        self.build((LIB / "memory.c").read_text("utf-8"), "memory.so", "-shared", "-fPIC")
 
     def build(self, text: str, name: str, *options: str) -> Path:
         words = ["cc", "-std=c11", "-fno-builtin", *options, "-x", "c", "-", "-o", name]
@@ -94,16 +93,6 @@ class Counted:
         return ""
 
 
-def build(crate: str, name: str, word: str) -> str:
-    """Returns a program of a crate, which is built if 'rt ci' did not."""
-    program = CRATES / crate / "out" / name
-    if os.environ.get("BUILT") != "rt ci":
-        program.unlink(missing_ok=True)
-        command = f"cd {CRATES / crate} && rt {word} < {'stdin' if word == 'run' else '/dev/null'} >&2"
-        subprocess.run(["bash", "-c", command], check=True)
-    return str(program)
-
-
 def results(work: Path) -> Iterator[tap.Result]:
     counted = Counted(work)
     for number, (text, wanted, is_right) in enumerate(PLANTED):
@@ -111,7 +100,7 @@ def results(work: Path) -> Iterator[tap.Result]:
         planted = counted.build(source, f"planted{number}")
         error = counted.error_of([str(planted)], wanted, "1", "0")
         yield f"planted, {wanted}: {text}", "" if is_right != bool(error) else f"found: {error}"
-    program = build("tests_values", "tests_values_tests", "test")
+    program = tap.program("tests_values", "test")
     listed = subprocess.run([program, "--list"], capture_output=True, text=True, check=True).stdout
     tests = {path.rpartition("::")[2]: path for path in re.findall(r"(?m)^(\S+): test$", listed)}
     named = {name for name in tests if re.search(r"^allocating_|_no_memory$", name)}
@@ -119,9 +108,9 @@ def results(work: Path) -> Iterator[tap.Result]:
     for name, number in TESTS.items():
         failed, passed = rf"(.*\n)?{re.escape(FAILED)}\n(.*\n)?101", r"(.*\n)?test result: ok\n(.*\n)?0"
         yield name, counted.error_of([program, tests.get(name, "")], number, failed, passed)
-    show = build("mh_show", "mh_show", "run")
+    show = tap.program("mh_show")
     for text, number in SHOWN.items():
-        stdin = {"example": CRATES / "mh_show/stdin", "a folder": Path("/")}.get(text, work / "input")
+        stdin = {"example": tap.CRATES / "mh_show/stdin", "a folder": Path("/")}.get(text, work / "input")
         (work / "input").write_text(f"{text}\n", "utf-8")
         yield f"mh_show on {text}", counted.error_of([show], number, r"mh_show: out of memory\n1", ".*", stdin)
 

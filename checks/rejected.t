@@ -4,7 +4,6 @@
 The programs are those of 'rt ci', if BUILT says so; otherwise they are built here.
 """
 import hashlib
-import os
 import re
 import subprocess
 import sys
@@ -12,10 +11,10 @@ import tempfile
 from collections.abc import Iterator
 from pathlib import Path
 
-sys.path.append(str(Path(__file__).with_name("lib")))
+LIB = Path(__file__).with_name("lib")
+sys.path.append(str(LIB))
 import tap
 
-CRATES = Path(__file__).resolve().parents[1] / "crates"
 # the calls that crates/vectors makes, and the columns that have their results
 HOW = [" over the slice", *(f", {count} a call" for count in ("one byte", "two bytes", "three bytes", "four bytes"))]
 CALLS = {"from_bytes": [4], **{f"read{how}": [2, 3] for how in HOW[:4]}}
@@ -81,16 +80,6 @@ PLANTED = (
 )
 
 
-def build(name: str) -> str:
-    """Returns a program, which is built and run on no input if 'rt ci' did not build it."""
-    program = CRATES / name / "out" / name
-    if os.environ.get("BUILT") != "rt ci":
-        program.unlink(missing_ok=True)
-        words = ["rt", "run", "--jobs", "1"]
-        subprocess.run(words, cwd=CRATES / name, stdin=subprocess.DEVNULL, stdout=sys.stderr, check=False)
-    return str(program)
-
-
 def written(program: str, streams: str, text: str, folder: str) -> str:
     """Returns what a program writes to its two streams, which are one, and its status after it."""
     words = ["bash", "-c", f'"$0" 2>&1 {streams}; echo $?', program]
@@ -153,7 +142,7 @@ def shown() -> Iterator[tuple[str, str, str]]:
             yield f"{encoded}{size:02x}{digest}{end}", "", f"code {code}\nsize {size}\ndigest {digest or '-'}\n0"
     yield "1603aAbBCc\n", "", "code 22\nsize 3\ndigest aabbcc\n0"
     # texts that mh_show rejects, which Python's tests read too
-    for line in CRATES.with_name("checks").joinpath("lib/not_shown.txt").read_text("utf-8").splitlines()[1:]:
+    for line in (LIB / "not_shown.txt").read_text("utf-8").splitlines()[1:]:
         text, _, reason = line.replace("\\n", "\n").replace("\\r", "\r").partition("|")
         yield text, "", f"mh_show: {reason}\n1"
     for size in (512, 1024, 2048, 4096, 8192, 16384, 32768, 65536):
@@ -162,7 +151,7 @@ def shown() -> Iterator[tuple[str, str, str]]:
 
 
 def results(folder: str) -> Iterator[tap.Result]:
-    vectors, mh_show = build("vectors"), build("mh_show")
+    vectors, mh_show = tap.program("vectors"), tap.program("mh_show")
     for found, wanted in PLANTED:
         yield tap.planted(f"{found!r} for {wanted!r}", error_of(found, wanted))
     for name, lines, wanted in lists():

@@ -1,10 +1,14 @@
-"""Prints results as TAP, for prove."""
+"""Prints results as TAP, for prove. Builds what checks run."""
+import os
+import subprocess
 import sys
 from collections.abc import Iterable
+from pathlib import Path
 
 # what was checked, and what is wrong with it, if something is
 Result = tuple[str, str]
 SKIP = "# SKIP "
+CRATES = Path(__file__).resolve().parents[2] / "crates"
 
 
 def report(results: Iterable[Result], plan: int = 0) -> int:
@@ -39,3 +43,12 @@ def left_out(what: str, why: str) -> Result:
     .ci/run --all makes it a failure.
     """
     return f"{what} {SKIP}{why}", ""
+
+
+def program(crate: str, word: str = "run") -> str:
+    """Returns a program of a crate or of its tests, which is built and run on no input if 'rt ci' did not build it."""
+    path = CRATES / crate / "out" / (f"{crate}_tests" if word == "test" else crate)
+    if os.environ.get("BUILT") != "rt ci":
+        path.unlink(missing_ok=True)
+        subprocess.run(["rt", word, "--jobs", "1"], cwd=CRATES / crate, stdin=subprocess.DEVNULL, stdout=sys.stderr)
+    return str(path)
