@@ -222,11 +222,23 @@ def error_of(files: Files) -> str:
     return "\n".join(errors)
 
 
+def misplaced() -> Iterator[tap.Result]:
+    """Plants edits that cannot be read or made in a file."""
+    for text in ("else", "old: b\nnew: c", "old: c\nnew: b", "old:\nnew: b"):
+        error = ""
+        try:
+            edits.apply({"a": "bb"}, edits.parse(f"file: a\n\n# b\n{text}")[0].edits)
+        except ValueError as its_error:
+            error = str(its_error)
+        yield tap.planted(f"edits: {text}", error)
+
+
 def results() -> Iterator[tap.Result]:
     files = read_files()
     yield "the header and the bindings", error_of(files)
     for name, _, _, its_edits in edits.read(LIB / "header.edits"):
         yield tap.planted(name, error_of({**files, **edits.apply(files, its_edits)}))
+    yield from misplaced()
 
 
 def main() -> int:
@@ -236,7 +248,7 @@ def main() -> int:
         return 0
     if not shutil.which("c++"):
         return tap.report([tap.left_out("all", "c++ is not installed")], 1)
-    return tap.report(results(), 29)
+    return tap.report(results(), 33)
 
 
 if __name__ == "__main__":

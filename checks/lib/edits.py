@@ -49,13 +49,13 @@ def parse(text: str) -> list[Planted]:
             name, _, what = rest.partition(": ")
             found.append(Planted(name, what, "", []))
             file = default
-        elif word == "seen:" and found:
+        elif word == "seen:":
             found[-1] = found[-1]._replace(seen=rest)
         elif word == "file:":
             default, file = (default, rest) if previous else (rest, rest)
         elif word == "old:":
             old = part
-        elif word == "new:" and found and file:
+        elif word == "new:":
             found[-1].edits.append(Edit(file, old, part))
         elif line:
             raise ValueError(f"in no known form: {line}")
@@ -68,7 +68,7 @@ def apply(texts: Mapping[str, str], edits: list[Edit]) -> dict[str, str]:
     places: dict[str, list[tuple[int, Edit]]] = defaultdict(list)
     for edit in edits:
         text = texts.get(edit.path, "")
-        if (edit.path in texts) if not edit.old else text.count(edit.old) != 1:
+        if text.count(edit.old) != 1:  # in the text of a new file '' is once
             raise ValueError(f"'old:' is in {edit.path} {text.count(edit.old)} times: {edit.old[:60]}")
         places[edit.path].append((text.index(edit.old), edit))
     changed = {}

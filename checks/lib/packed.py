@@ -75,7 +75,7 @@ def content(name: str, path: str) -> str:
 
 def files() -> dict[str, set[str] | None]:
     """The files of a release, with those that each has to have; checks/release.t knows the others'."""
-    common, cargo = {"LICENSE", "README.md"}, {"Cargo.toml", "Cargo.toml.orig"}
+    common, cargo = {"LICENSE", "README.md"}, {"Cargo.toml.orig"}
     source = {"multihash.c", "multihash.h"}
     portable = {f"portable/{name}" for name in source | {"memory.h", "module.h"}} | {"LICENSE"}
     egg = {f"verified_multihash.egg-info/{part}.txt" for part in ("SOURCES", "dependency_links", "top_level")}
@@ -115,10 +115,10 @@ def file_errors() -> Iterator[str]:
         yield "SHA256SUMS"
     for name in sorted({*found} & {*wanted}):
         if name.endswith((".crate", ".gz", ".tgz", ".whl")):
-            of_it = dict(members(name))
-            differing = {*of_it} ^ (wanted[name] or {*of_it})
+            of_it, its_wanted = dict(members(name)), wanted[name]
             yield from (f"{name}: {path}: {wrong}" for path, wrong in of_it.items() if wrong)
-            yield from (f"{name}: {path} is there, or is not" for path in sorted(differing))
+            if its_wanted is not None:
+                yield from (f"{name}: {path} is there, or is not" for path in sorted({*of_it} ^ its_wanted))
 
 
 def npm() -> Fields:
