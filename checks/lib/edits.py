@@ -10,7 +10,6 @@
 
 In old and new texts '\\n' is the end of a line.
 """
-from collections import defaultdict
 from collections.abc import Mapping
 from pathlib import Path
 from typing import NamedTuple
@@ -64,17 +63,11 @@ def parse(text: str) -> list[Planted]:
 
 
 def apply(texts: Mapping[str, str], edits: list[Edit]) -> dict[str, str]:
-    """Returns the files that these edits change, with all of them in."""
-    places: dict[str, list[tuple[int, Edit]]] = defaultdict(list)
-    for edit in edits:
-        text = texts.get(edit.path, "")
-        if text.count(edit.old) != 1:  # in the text of a new file '' is once
-            raise ValueError(f"'old:' is in {edit.path} {text.count(edit.old)} times: {edit.old[:60]}")
-        places[edit.path].append((text.index(edit.old), edit))
-    changed = {}
-    for path, found in places.items():
-        text = texts.get(path, "")
-        for at, edit in sorted(found, reverse=True):
-            text = text[:at] + edit.new + text[at + len(edit.old) :]
-        changed[path] = text
+    """Returns the files that these edits change, one after another."""
+    changed: dict[str, str] = {}
+    for path, old, new in edits:
+        text = changed.get(path, texts.get(path, ""))
+        if text.count(old) != 1:  # in the text of a new file '' is once
+            raise ValueError(f"'old:' is in {path} {text.count(old)} times: {old[:60]}")
+        changed[path] = text.replace(old, new)
     return changed
