@@ -103,11 +103,18 @@ planted_release() {
   done << 'END'
 the files of the release:touch more
 SHA256SUMS:echo >> SHA256SUMS
-1 0 600:tar --owner=1 --mode=600 -czf multihash_c-*-source.tar.gz SHA256SUMS
+1 0 644:tar --owner=1 --group=0 --mode=644 -czf multihash_c-*-source.tar.gz SHA256SUMS
+0 1 644:tar --owner=0 --group=1 --mode=644 -czf multihash_c-*-source.tar.gz SHA256SUMS
+0 0 600:tar --owner=0 --group=0 --mode=600 -czf multihash_c-*-source.tar.gz SHA256SUMS
+0 0 700:mkdir d && tar --owner=0 --group=0 --mode=700 -czf multihash_c-*-source.tar.gz d && rmdir d
+more is there, or is not:mkdir d && touch d/more && tar -czf multihash_c-*-source.tar.gz d && rm -r d
 LICENSE is there, or is not:tar -czf multihash_c-*-source.tar.gz SHA256SUMS
 checksumValue:echo >> libmultihash-c-dev_*_amd64.deb
 what the kit made:sed -i s/GENERATED_FROM/DEPENDS_ON/ multihash-*.spdx.json
 tools [':sed -i 's/"name": "ld"/"name": "more"/' multihash-*.spdx.json
+tools [:sed -i '/"name": "ld"/{n;s/: ".*"/: ""/}' multihash-*.spdx.json
+relations:sed -i 's/"SPDXRef-DOCUMENT",/"SPDXRef-more",/' multihash-*.spdx.json
+documentNamespace:sed -i s,/spdxdocs/,/docs/, multihash-*.spdx.json
 copyrightText:sed -i s/copyrightText/copyright/ multihash-*.spdx.json
 1, and not None:sed -i '0,/{/s//{"more": 1,/' multihash-*.spdx.json
 END
@@ -148,7 +155,7 @@ tested_on_aarch64() {
 
 test_release() {
   has 4 aarch64-linux-gnu-gcc cargo npm qemu-aarch64 "${debian[@]}" "${crates[@]}" || return
-  try "a release: $((59 + ${ALL:-0})) comparisons" releases
+  try "a release: $((66 + ${ALL:-0})) comparisons" releases
   try "the installed test of that for aarch64" tested_on_aarch64
   try "packages for arm64: 16 comparisons" has_packages "$work/release" arm64 aarch64-linux-gnu
   # shellcheck disable=SC2086

@@ -60,7 +60,7 @@ def members(name: str) -> Iterator[tuple[str, str]]:
     for each in tarfile.open(RELEASE / name):
         path = each.name.partition("/")[2]
         is_program = path.endswith("examples/test.sh") or name == f"multihash-{VERSION}.tar.gz" and EXECUTABLE.get(path)
-        wanted = each.mode if each.issym() else 0o755 if each.isdir() or is_program else 0o644
+        wanted = 0o644 if each.isfile() and not is_program else 0o755
         wrong = "" if (each.uid, each.gid, each.mode) == (0, 0, wanted) else f"{each.uid} {each.gid} {each.mode:o}"
         if wrong or not each.isdir():
             yield path, wrong
@@ -113,12 +113,14 @@ def file_errors() -> Iterator[str]:
     sums = (f"{hashlib.sha256(path.read_bytes()).hexdigest()}  {name}\n" for name, path in found.items())
     if (RELEASE / "SHA256SUMS").read_text() != "".join(each for each in sums if not each.endswith(" SHA256SUMS\n")):
         yield "SHA256SUMS"
-    for name in sorted({*found} & {*wanted}):
-        if name.endswith((".crate", ".gz", ".tgz", ".whl")):
-            of_it, its_wanted = dict(members(name)), wanted[name]
-            yield from (f"{name}: {path}: {wrong}" for path, wrong in of_it.items() if wrong)
-            if its_wanted is not None:
-                yield from (f"{name}: {path} is there, or is not" for path in sorted({*of_it} ^ its_wanted))
+    archives = [name for name in found if name.endswith((".crate", ".gz", ".tgz", ".whl"))]
+    if len(archives) != 10:
+        yield f"the number of archives: {len(archives)}"
+    for name in archives:
+        of_it, its_wanted = dict(members(name)), wanted.get(name)
+        yield from (f"{name}: {path}: {wrong}" for path, wrong in of_it.items() if wrong)
+        if its_wanted is not None:
+            yield from (f"{name}: {path} is there, or is not" for path in sorted({*of_it} ^ its_wanted))
 
 
 def npm() -> Fields:
@@ -209,7 +211,7 @@ def field_errors(name: str, found: Any, wanted: Any) -> Iterator[str]:
         for field in sorted({*found, *wanted}):
             yield from field_errors(f"{name}: {field}", found.get(field), wanted.get(field))
     elif isinstance(wanted, re.Pattern):
-        if not found or not wanted.fullmatch(str(found)):
+        if not wanted.fullmatch(str(found or "")):
             yield f"{name}: {found!r} is not as {wanted.pattern!r}"
     elif json.dumps(found) != json.dumps(wanted):
         yield f"{name}: {found!r}, and not {wanted!r}"
@@ -270,9 +272,10 @@ def material_errors() -> Iterator[str]:
 
 
 def main() -> int:
-    errors = [*file_errors(), *material_errors()]
-    for name, found, wanted in fields():
-        errors += field_errors(name, found, wanted)
+    compared = [*fields()]
+    errors = [*file_errors(), *material_errors(), *(error for each in compared for error in field_errors(*each))]
+    if len(compared) != 15:
+        errors.append(f"the number of descriptions: {len(compared)}")
     print("\n".join(errors))
     return bool(errors)
 
