@@ -21,7 +21,7 @@ LIB = Path(__file__).with_name("lib")
 sys.path.append(str(LIB))
 import edits
 import tap
-from rt_source import Item, items
+from rt_source import Item, functions, items
 
 TOP = Path(__file__).resolve().parents[1]
 CRATE = "crates/multihash_c"
@@ -30,6 +30,15 @@ LANGUAGES = ("c", "c++")
 # The header's conditions: any other hides text from these preprocessors.
 CONDITIONS = ["ifndef MULTIHASH_H", "ifdef __cplusplus", "ifdef __cplusplus"]
 TYPES = {"u32": "uint32_t", "u64": "uint64_t", "i32": "int32_t", "usize": "size_t"}
+# Sources in no known form.
+UNREAD = (
+    "what\n",
+    "fn a() {\n",
+    "struct A { a: u8 }\n",
+    "struct A {\n    =\n}\n",
+    "fn a()\n    requires { { }\n    ensures { } }\n{\n}\n",
+    "mod a {\n    fn b() {}\n}\n",
+)
 
 # The files that are compared.
 RUST, PYTHON, JS = "bindings/rust/multihash_c", "bindings/python/verified_multihash", "bindings/js"
@@ -222,15 +231,28 @@ def error_of(files: Files) -> str:
     return "\n".join(errors)
 
 
-def misplaced() -> Iterator[tap.Result]:
-    """Plants edits that cannot be read or made in a file."""
-    for text in ("else", "old: b\nnew: c", "old: c\nnew: b", "old:\nnew: b"):
-        error = ""
-        try:
-            edits.apply({"a": "bb"}, edits.parse(f"file: a\n\n# b\n{text}")[0].edits)
-        except ValueError as its_error:
-            error = str(its_error)
-        yield tap.planted(f"edits: {text}", error)
+def make_edits(text: str) -> object:
+    return edits.apply({"a": "bb"}, edits.parse(f"file: a\n\n# b\n{text}")[0].edits)
+
+
+def read_source(text: str) -> object:
+    fields = [[*item.parts()] for item in items(text) if item.kind == "struct"]
+    return fields, [[*function.clauses()] for _, function in functions(text)]
+
+
+def unread() -> Iterator[tap.Result]:
+    """Plants edits that cannot be read or made, and sources in no known form."""
+    for read, texts in (
+        (make_edits, ("else", "old: b\nnew: c", "old: c\nnew: b", "old:\nnew: b")),
+        (read_source, UNREAD),
+    ):
+        for text in texts:
+            error = ""
+            try:
+                read(text)
+            except ValueError as its_error:
+                error = str(its_error)
+            yield tap.planted(text, error)
 
 
 def results() -> Iterator[tap.Result]:
@@ -238,7 +260,7 @@ def results() -> Iterator[tap.Result]:
     yield "the header and the bindings", error_of(files)
     for name, _, _, its_edits in edits.read(LIB / "header.edits"):
         yield tap.planted(name, error_of({**files, **edits.apply(files, its_edits)}))
-    yield from misplaced()
+    yield from unread()
 
 
 def main() -> int:
@@ -248,7 +270,7 @@ def main() -> int:
         return 0
     if not shutil.which("c++"):
         return tap.report([tap.left_out("all", "c++ is not installed")], 1)
-    return tap.report(results(), 33)
+    return tap.report(results(), 39)
 
 
 if __name__ == "__main__":
