@@ -100,7 +100,7 @@ def structs_of(sources: list[Item]) -> Structs:
     found = {}
     for item in sources:
         if item.attributes.startswith("#[repr(C)]\n"):
-            fields = [(name, TYPES.get(kind, kind)) for _, name, kind in item.parts()]
+            fields = [(name, TYPES.get(kind, kind)) for name, kind in item.parts()]
             found[f"multihash_{item.name.lower()}"] = fields
     return found
 

@@ -7,10 +7,10 @@ from typing import NamedTuple
 # enum; a clause of a contract.
 TEXT = re.compile(r'"(?:\\.|[^"\\])*"|\'(?:\\[^\']*|[^\\\'])\'|//[^\n]*', re.S)
 HEAD = re.compile(
-    r"(pub )?(?:pub\(\w+\) )?(?:unsafe )?(?:(?:const +|unsafe +|extern +)*(fn)\b"
-    r"|(ghost|use|impl|mod|struct|enum|trait|type|const|static|extern|macro_rules)\b) ?"
+    r"(pub )?(?:pub\(\w+\) )?(?:unsafe )?(?:(?:const +|extern +)*(fn)\b"
+    r"|(ghost|use|impl|mod|struct|enum|trait|type|const|extern|macro_rules)\b) ?"
 )
-PART = re.compile(r"(pub )?(?:pub\(\w+\) )?((?:ghost )?\w+)(?:: ([^\n]*),|[,(:\n]| \{)")
+PART = re.compile(r"(?:pub )?(?:pub\(\w+\) )?((?:ghost )?\w+)(?:: ([^\n]*),|[,(:\n])")
 CLAUSE = re.compile(
     r"\s*(requires|ensures)\*?(?: (\w+))? ?\{(.*?)\}(?=\s*\n\s*(?:requires|ensures|ghost|\{)|;\n)", re.S
 )
@@ -62,15 +62,14 @@ class Item(NamedTuple):
         """Returns the items in an impl or a trait."""
         return items(self.text, self.code, self.inner(), self.end, 4)
 
-    def parts(self) -> Iterator[tuple[bool, str, str]]:
-        """Returns the fields or cases: whether each is public, its name, and its type."""
+    def parts(self) -> Iterator[tuple[str, str]]:
+        """Returns the fields or cases: the name and the type of each."""
         for start, end in chunks(self.code, self.inner(), self.end, 4):
             chunk = self.code[start:end]
             found = PART.match(chunk)
-            if not found and not chunk.startswith("#"):
+            if not found:
                 raise Unread(f"no field and no case: {chunk[:90]}")
-            if found:
-                yield bool(found[1]), found[2], found[3] or ""
+            yield found[1], found[2] or ""
 
     def signature_end(self) -> int:
         found = re.compile(r"\n +(?=requires|ensures|ghost )|\s*\{\n|\s*\{\}|;\n").search(

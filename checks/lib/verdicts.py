@@ -5,7 +5,7 @@ It computes them from the rules of docs/FORMAT.md by itself and calls nothing of
 
     checks/lib/verdicts.py            checks each line
     checks/lib/verdicts.py --write    writes the results of the stored inputs, of a new one only the
-                                      capacity and the input are needed, and what crates/vectors prints
+                                      capacity and the input are needed; crates/vectors/stdout has their number
 
 Of the first inputs 3000 came from outside. None is there twice with one capacity."""
 import difflib
@@ -19,7 +19,7 @@ import tap
 
 TOP = Path(__file__).resolve().parents[2]
 BOUND = TOP / "crates/multihash/specs/Varint.antt"
-STORED, PRINTED = TOP / "crates/vectors/data/verdicts.tsv", TOP / "crates/vectors/stdout"
+STORED = TOP / "crates/vectors/data/verdicts.tsv"
 COLUMNS = ("S", "input", "read", "read_taken", "from_bytes", "scale_decode", "scale_taken")
 
 # The number of the first inputs, and the SHA-256 of these with their capacities, which no bound changes.
@@ -30,10 +30,6 @@ LONGEST_DIGEST, SCALE_CODE, SCALE_HEAD = 255, 8, 9
 
 class Rejected(Exception):
     """An error, and the number of bytes that determine it, 0 if more bytes can change it."""
-
-    def __init__(self, error: str, consumed: int) -> None:
-        super().__init__(error)
-        self.error, self.consumed = error, consumed
 
 
 class Rules:
@@ -93,7 +89,8 @@ def result(call: Callable[[int, bytes], tuple[int, bytes, int]], size: int, data
         code, found, end = call(size, data)
         return f"pair {code} {found.hex() or '-'}", end
     except Rejected as rejected:
-        return rejected.error, rejected.consumed
+        error, consumed = rejected.args
+        return error, consumed
 
 
 def rules_of_crate() -> Rules:
@@ -126,9 +123,7 @@ def error_of(stored: str) -> str:
 def main() -> int:
     stored = STORED.read_text("utf-8")
     if sys.argv[1:] == ["--write"]:
-        STORED.write_text(made_of(stored), "utf-8")
-        printed = re.sub(r"\d+(?= lines)", str(stored.count("\n") - 1), PRINTED.read_text("utf-8"))
-        return PRINTED.write_text(printed, "utf-8") < 1
+        return STORED.write_text(made_of(stored), "utf-8") == 0
     last, new = stored.splitlines(True)[FIRST], f"{rules_of_crate().line(0, bytes(77))}\n"
     results = [("the results of the stored inputs", error_of(stored)), ("an appended input", error_of(stored + new))]
     for what, text in {
