@@ -90,7 +90,7 @@ planted_source() {
 README.md:s/| Node.js /&1/:engines
 bindings/js/module.js:$ a connect();:sideEffects
 LICENSE:s/ (c) 2026 .*/ (c) 2026 Another/:creators
-tools/owner:s/^repository=.*/repository=another/:package: repository
+tools/owner:s/^repository=.*/repository=another/:repository
 END
 }
 

@@ -138,20 +138,14 @@ def npm() -> Fields:
 
 
 def crate(name: str, version: str) -> Fields:
-    package: Fields = {"name": name, "version": version, "edition": "2021", "rust-version": RUST, "license": LICENCE}
-    package |= {"repository": REPOSITORY, "description": TEXT, "readme": "README.md", "keywords": WORDS}
-    package |= {f"auto{kind}": False for kind in ("lib", "bins", "examples", "tests", "benches")}
-    features: Fields = {"default": ["std"], "std": ["alloc"], "alloc": []}
-    fields = {"package": package, "features": features, "lib": ANY, "test": ANY}
-    if name == "multihash_c":
-        package |= {"include": ANY, "categories": ["encoding", "external-ffi-bindings", "no-std"]}
-        package |= {"build": "build.rs", "links": name}
-        return fields | {"build-dependencies": {"cc": {"version": "1"}, "pkg-config": {"version": "0.3"}}}
-    package |= {"include": ANY, "categories": ["encoding", "no-std"], "build": False, "publish": False}
-    features |= {"serde": ["dep:serde"], "serde-codec": ["serde"], "scale-codec": [], "arb": []}
-    plain: Fields = {"default-features": False}
-    needed = {"multihash_c": plain | {"version": VERSION}, "serde": plain | {"version": "1", "optional": True}}
-    return fields | {"dependencies": needed, "dev-dependencies": {"serde_json": {"version": "1"}}}
+    """The description of a crate: its tests cover features and dependencies."""
+    fields: Fields = {"name": name, "version": version, "edition": "2021", "rust-version": RUST, "license": LICENCE}
+    fields |= {"repository": REPOSITORY, "description": TEXT, "readme": "README.md", "keywords": WORDS}
+    fields |= {f"auto{kind}": False for kind in ("lib", "bins", "examples", "tests", "benches")}
+    if name == "multihash":
+        return fields | {"include": ANY, "categories": ["encoding", "no-std"], "build": False, "publish": False}
+    fields |= {"include": ANY, "categories": ["encoding", "external-ffi-bindings", "no-std"]}
+    return fields | {"build": "build.rs", "links": name}
 
 
 def python() -> Fields:
@@ -186,7 +180,7 @@ def fields() -> Iterator[tuple[str, Fields, Fields]]:
     yield name, json.loads(content(name, "package/package.json")), npm()
     for package, version in (("multihash", UPSTREAM), ("multihash_c", VERSION)):
         name = f"{package}-{version}"
-        yield name, tomllib.loads(content(f"{name}.crate", f"{name}/Cargo.toml")), crate(package, version)
+        yield name, tomllib.loads(content(f"{name}.crate", f"{name}/Cargo.toml"))["package"], crate(package, version)
     name = f"verified_multihash-{VERSION}"
     yield name, headers(content(f"{name}.tar.gz", f"{name}/PKG-INFO")), python()
     for machine, architecture in (("x86_64", "amd64"), ("aarch64", "arm64")):
