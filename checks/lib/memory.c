@@ -1,25 +1,18 @@
 /* Is loaded before a program (LD_PRELOAD) and makes the allocation fail whose number is in the variable FAIL. At the
  * end writes the number of allocations, and of those not freed, to the file COUNTS. */
-#include <errno.h>
 #include <stdio.h>
 #include <stdlib.h>
 
 extern void *__libc_malloc(size_t), *__libc_realloc(void *, size_t);
 extern void __libc_free(void *);
-static unsigned long asked, failing;
-static long live;
+static long asked, failing, live;
 
 __attribute__((constructor)) static void begin(void) {
-    /* what was allocated before the program began is not its own */
-    asked = 0;
-    live = 0;
-    failing = strtoul(getenv("FAIL"), 0, 10);
+    failing = atol(getenv("FAIL"));
 }
 
 static int fails(void) {
     asked += 1;
-    if (asked == failing)
-        errno = ENOMEM;
     return asked == failing;
 }
 
@@ -41,11 +34,10 @@ void free(void *old) {
 }
 
 __attribute__((destructor)) static void end(void) {
-    unsigned long its_asked = asked;
-    long its_live = live;
+    long its_asked = asked, its_live = live;
     FILE *counts;
     failing = 0; /* fopen allocates */
     counts = fopen(getenv("COUNTS"), "w");
-    fprintf(counts, "%lu %ld\n", its_asked, its_live);
+    fprintf(counts, "%ld %ld\n", its_asked, its_live);
     fclose(counts);
 }

@@ -5,7 +5,7 @@ It computes them from the rules of docs/FORMAT.md by itself and calls nothing of
 
     checks/lib/verdicts.py            checks each line
     checks/lib/verdicts.py --write    writes the results of the stored inputs, of a new one only the
-                                      capacity and the input are needed; crates/vectors/stdout has their number
+                                      capacity and the input are needed
 
 Of the first inputs 3000 came from outside. None is there twice with one capacity."""
 import difflib
