@@ -7,7 +7,7 @@
 The header's declarations are made from the crate. The preprocessed header has to be these
 declarations and nothing else, in C and in C++, and its macros have to be the crate's constants.
 Comments have to list errors in the order in which they are judged. A text in no known form is an
-exception. Then the differences of header.edits are planted, each of which has to be found.
+exception. Then the differences of checks/lib/header.edits are planted, which all have to be found.
 """
 import re
 import shutil
