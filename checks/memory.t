@@ -44,6 +44,7 @@ SHOWN = {"example": 8, "0041": 5, "0": 4, "a folder": 4}
 THREE = "void *a = malloc(1), *b = malloc(1), *c = malloc(1); free(a); free(b); free(c); "
 PLANTED = (
     ("void *made = malloc(1); free(made); return !made;", 1, True),
+    ("void *made = malloc(1); _exit(!made);", 1, False),
     ("return !malloc(1);", 1, False),
     ("free(malloc(1)); return 0;", 1, False),
     ("void *made = malloc(1); if (made) free(malloc(1)); free(made); return !made;", 1, False),
@@ -64,8 +65,7 @@ class Counted:
         self.build((LIB / "memory.c").read_text("utf-8"), "memory.so", "-shared", "-fPIC")
 
     def build(self, text: str, name: str, *options: str) -> Path:
-        words = ["cc", "-std=c11", "-fno-builtin", *options, "-x", "c", "-", "-o", name]
-        subprocess.run(words, input=text, cwd=self.work, text=True, check=True)
+        subprocess.run(["cc", *options, "-xc", "-", "-o", name], input=text, cwd=self.work, text=True, check=True)
         return self.work / name
 
     def run(self, command: list[str], fail: int, stdin: Path) -> tuple[str, int, int]:
@@ -117,4 +117,4 @@ def results(work: Path) -> Iterator[tap.Result]:
 
 if __name__ == "__main__":
     with tempfile.TemporaryDirectory(prefix="memory-") as folder:
-        sys.exit(tap.report(results(Path(folder)), 28))
+        sys.exit(tap.report(results(Path(folder)), 29))

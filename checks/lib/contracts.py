@@ -96,11 +96,6 @@ def item_lines(item: Item, private: set[str]) -> Iterator[str]:
         yield from kept_lines(item.source)
 
 
-def first_lines(text: str) -> Iterator[str]:
-    """Returns the first paragraph of what a file says of itself."""
-    return takewhile(lambda line: line.startswith("//! "), text.splitlines())
-
-
 def section_of(path: str, text: str) -> str:
     """Returns the section of a file, which is empty if the file has no public items."""
     top_items = items(text)
@@ -109,7 +104,9 @@ def section_of(path: str, text: str) -> str:
     # an empty line precedes and follows what has several lines
     block = "\n".join("\n".join(lines if len(lines) < 2 else ["", *lines, ""]) for lines in blocks if lines)
     block = re.sub(r"\n{3,}", "\n\n", block).strip("\n")
-    description = " ".join(line[3:].strip() for line in first_lines(text))
+    # the first paragraph of what a file says of itself
+    lines = takewhile(lambda line: line.startswith("//! "), text.splitlines())
+    description = " ".join(line[3:].strip() for line in lines)
     return f"\n### [{path}](../{path})\n\n{description}\n\n```text\n{block}\n```\n" if block else ""
 
 
