@@ -93,7 +93,7 @@ packed_types() {
     "${strict[@]}" --lib es2022,dom,dom.iterable example.ts
 }
 
-# In a browser, pages show texts: each line of standard input is a page, a tab, and a text.
+# In a browser, pages show texts: each line of standard input is a page, and texts after tabs.
 shows() {
   mkdir -p "$work/frames" && cat > "$work/frames/frames" &&
     node "$here/test/browser.js" "$1" 'test/page.html?frames' "$here" "$work/frames" "$work/elsewhere"
@@ -107,10 +107,21 @@ packed_page() {
 demo() {
   local example
   example=$(cat "$top/crates/mh_show/stdin")
-  printf 'demo.html#%s\t%s\n' "$example" 'Valid: code 22, digest of 32 bytes.' \
-    "${example}00" 'Byte 35 of 35: 00' 168002 'The first 2 bytes (1680) can begin a multihash.' \
-    1620ab 'Still needed: 31 bytes.' 12808000 'The first 2 bytes (1280) can begin a multihash.' \
-    12z0 'is not a hexadecimal digit' 1200 'Valid: code 18, digest of 0 bytes.' | shows "$1"
+  sed 's/^/demo.html#/; s/|/\t/g' << END | shows "$1"
+$example|Valid: code 22, digest of 32 bytes.|22 (0x16)|3 to 34|32
+${example}00|1 byte follows the multihash.|Byte 35 of 35: 00|The first 34 bytes are a multihash.|Keep the first 34 bytes
+${example}0000|2 bytes follow|invalid_size: Invalid multihash size 2.|not a part of the multihash|35 to 36
+16|The input ends inside or before a varint.|No byte: the input ends after 1 byte, |at least 1 byte.
+1680|a varint that is not complete|insufficient: not enough input bytes|the varint of the code
+1620ab|The input ends inside the digest.|Still needed: 31 bytes.|unexpected_eof: failed to fill whole buffer
+168002|A digest of 256 bytes is too long: it may have 255.|2 bytes (1680) can begin a multihash.|Byte 3 of 3: 02
+12808000|A varint is longer than needed: it ends in a zero byte.|The first 2 bytes (1280) can begin a multihash.
+ffffffffffffffffff01|A varint has more than nine bytes|Byte 9 of 10: ff|a varint of more than nine bytes
+12z0|, after 2 digits, is not a hexadecimal digit.
+120|The number of digits, 3, is odd: each byte has two.
+1200|Valid: code 18, digest of 0 bytes.|empty|none
+0x1201|Still needed: 1 byte.
+END
 }
 
 another_text() {
