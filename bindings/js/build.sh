@@ -1,5 +1,5 @@
 #!/usr/bin/env bash
-# Builds multihash.wasm from crates/multihash_c, and from it bytes.js and a line of demo.html. Needs wasm-opt (Binaryen).
+# Builds multihash.wasm from crates/multihash_c, by wasm-opt (Binaryen), and from it bytes.js and a line of demo.html.
 #
 #   bindings/js/build.sh            writes the three files
 #   bindings/js/build.sh --check    builds them elsewhere, and compares them byte for byte with those here, and

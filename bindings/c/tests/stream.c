@@ -15,34 +15,24 @@ int example_main(void);
 
 #define LIMIT MULTIHASH_DIGEST_MAX
 
-/* The items of the stream: the bytes of both varints, the code, and the digest's length. */
+/* The items of the stream. */
 static const struct item {
-    const char *head;
-    size_t head_length;
     uint64_t code;
     size_t digest_length;
-} items[] = {
-    {"\x12\x20", 2, 18, 32},
-    {"\x00\x00", 2, 0, 0},
-    {"\xb2\x40\x01", 3, 8242, 1},
-    {"\x16\x40", 2, 22, 64},
-    {"\xff\xff\xff\xff\xff\xff\xff\xff\x7f\xff\x01", 11, INT64_MAX, 255},
-    {"\x81\x02\x00", 3, 257, 0},
-};
+} items[] = {{18, 32}, {0, 0}, {8242, 1}, {22, 64}, {INT64_MAX, 255}, {257, 0}};
 
 #define ITEMS (sizeof items / sizeof items[0])
 
 static uint8_t whole[512];
-static size_t whole_length, ends[ITEMS + 1], reads_counted;
+static size_t whole_length, ends[ITEMS + 1];
 
 static void put_together(void)
 {
+    uint8_t digest[MULTIHASH_DIGEST_MAX];
+    for (size_t i = 0; i < sizeof digest; i++) digest[i] = (uint8_t)(0x80 + i);
     for (size_t i = 0; i < ITEMS; i++) {
-        memcpy(whole + whole_length, items[i].head, items[i].head_length);
-        whole_length += items[i].head_length;
-        for (size_t k = 0; k < items[i].digest_length; k++) {
-            whole[whole_length++] = (uint8_t)(0x80 + 16 * i + k);
-        }
+        whole_length += multihash_encode(items[i].code, digest, items[i].digest_length, whole + whole_length,
+                                         sizeof whole - whole_length).length;
         ends[i + 1] = whole_length;
     }
 }
@@ -72,7 +62,6 @@ static stream_result read_on(stream *from, size_t *at)
         CHECK(found.digest_length == items[*at].digest_length && from->have == ends[*at + 1] - ends[*at]);
         CHECK(memcmp(from->bytes, whole + ends[*at], from->have) == 0);
         *at += 1;
-        reads_counted++;
     }
     return result;
 }
@@ -151,7 +140,6 @@ int main(void)
     check_rejected("\x12\xff\xff\xff\xff\xff\xff\xff\xff\x7f\x07", 11, MULTIHASH_INVALID_SIZE, INT64_MAX, 1);
     check_rejected("\x80\x00\x07", 3, MULTIHASH_NOT_MINIMAL, 0, 1);
     check_rejected("\xff\xff\xff\xff\xff\xff\xff\xff\xff\x01", 10, MULTIHASH_OVERFLOW, 0, 1);
-    CHECK(reads_counted >= 2 * (whole_length + 1) * ITEMS);
-    printf("%zu cuts, %zu multihashes\n", 2 * (whole_length + 1), reads_counted);
+    printf("%zu cuts\n", 2 * (whole_length + 1));
     return 0;
 }

@@ -88,7 +88,7 @@ class Readers(unittest.TestCase):
                 except BlockingIOError:
                     waits += 1
             self.assertEqual((b"".join(map(bytes, found)), waits), (data, len(data)))
-            with self.assertRaisesRegex(io.UnsupportedOperation, "^the file does not block: MultihashReader reads from it$"):
+            with self.assertRaisesRegex(io.UnsupportedOperation, "^the file does not block: MultihashReader"):
                 vm.read_from(Turns(*turns))
 
     def test_growing_files(self):

@@ -79,22 +79,14 @@ impl Row<'_> {
             check_owned(multihash, &self.input[..self.input.len() - rest.len()]);
         }
         let wanted = wanted(self.read).map_err(text);
-        assert_eq!((owned(found), owned(Multihash::<S>::read(&mut slow))), (wanted.clone(), wanted.clone()));
+        assert_eq!(owned(Multihash::<S>::read(&mut slow as &mut dyn Read)), wanted);
+        assert_eq!(owned(found), wanted);
         // what is read before the input ends is consumed, but without `std` a slice keeps a truncated digest
         let taken = self.read_taken.parse().unwrap_or(self.input.len());
         assert_eq!(slow.0.len(), self.input.len() - taken);
         let head = Head::read(self.input).map_or(taken, |head| head.digest_offset());
         let keeps = cfg!(not(feature = "std")) && self.read == "unexpected_eof";
         assert_eq!(self.input.len() - rest.len(), if keeps { head } else { taken });
-        #[cfg(feature = "std")]
-        {
-            let mut cursor = io::Cursor::new(self.input);
-            let found = owned(Multihash::<S>::read(&mut cursor as &mut dyn Read));
-            assert_eq!((found, cursor.position()), (wanted.clone(), taken as u64));
-            let mut buffered = io::BufReader::with_capacity(3, self.input);
-            assert_eq!(owned(Multihash::<S>::read(&mut buffered)), wanted);
-            assert_eq!(buffered.buffer().len() + buffered.get_ref().len(), self.input.len() - taken);
-        }
         self.check_borrowed(S);
         self.check_head();
         check_varints(self.input, self.read_taken);
