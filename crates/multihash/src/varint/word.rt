@@ -156,7 +156,7 @@ fn read_high(word: u128, present: usize) -> Result<(u64, usize), (Error, usize)>
 
 // The number of the low seven bits of each byte of a half: first of each two bytes, then of each four.
 #[inline(always)]
-#[tactic(auto, using(std::proofs::lemmas::Nat::and_le_r))]
+#[tactic(auto, using(crate::proofs::WordLemmas::digits_joined, std::proofs::lemmas::Nat::and_le_r))]
 fn join_digits(half: u64) -> u64
     ensures { result ≡ digits_low 8 half }
 {
