@@ -237,7 +237,7 @@ const least = Object.fromEntries(names.map((name) => [name, [Infinity, Infinity]
 const keep = (name, ...times) => (least[name] = least[name].map((time, index) => Math.min(time, times[index])));
 for (let round = 0; round < ROUNDS; round++) {
   for (const name of Object.keys(mine)) keep(name, nanoseconds(mine[name]), nanoseconds(theirs[name]));
-  for (let turn = 0; turn < 1; turn++) keep('an item of a stream', await ofStream(ours), await ofStream(plain));
+  keep('an item of a stream', await ofStream(ours), await ofStream(plain));
 }
 let table = '| Call | Time | Plain JavaScript | Share |\n|---|---:|---:|---:|\n';
 for (const [name, [here, there]] of Object.entries(least))

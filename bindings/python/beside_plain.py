@@ -7,6 +7,7 @@ import io
 import re
 import sys
 import time
+from functools import partial
 from pathlib import Path
 from typing import Any, BinaryIO, Callable, Dict, NamedTuple, Optional, Tuple
 
@@ -194,28 +195,17 @@ class PlainReader:
         return read_from(self.file)
 
 
+def caught(call: Callable[..., Any], *arguments: Any) -> Any:
+    try:
+        return call(*arguments)
+    except ValueError as error:
+        return error
+
+
 def calls_of(it: Any, kind: Any, reader: Any) -> Dict[str, Callable[[], Any]]:
     left, right, digest, array = it.decode(DATA), it.decode(DATA), DATA[2:], bytearray(DATA)
     file, long = io.BytesIO(DATA), bytes(256)
-    of_file = reader(file)
-
-    def error_of(call: Callable[..., Any], *arguments: Any) -> Callable[[], Any]:
-        def caught() -> None:
-            try:
-                call(*arguments)
-            except ValueError:
-                pass
-
-        return caught
-
-    def again(call: Callable[[], Any]) -> Callable[[], Any]:
-        def from_start() -> None:
-            file.seek(0)
-            call()
-
-        return from_start
-
-    error = error_value(it.decode)
+    of_file, error = reader(file), caught(it.decode, DATA[:20])
     return {
         "`decode`, `bytes` of 34 bytes": lambda: it.decode(DATA),
         "`decode`, `bytearray`": lambda: it.decode(array),
@@ -233,21 +223,14 @@ def calls_of(it: Any, kind: Any, reader: Any) -> Dict[str, Callable[[], Any]]:
         "`bytes`": lambda: bytes(left),
         "`hexdigest()`": lambda: left.hexdigest(),
         "`repr`": lambda: repr(left),
-        "`read_from`": again(lambda: it.read_from(file)),
-        "`MultihashReader.read`": again(of_file.read),
-        "an error of `decode`": error_of(it.decode, DATA[:20]),
-        "an error of `encode`": error_of(it.encode, 18, long),
+        "`read_from`": lambda: (file.seek(0), it.read_from(file)),
+        "`MultihashReader.read`": lambda: (file.seek(0), of_file.read()),
+        "an error of `decode`": partial(caught, it.decode, DATA[:20]),
+        "an error of `encode`": partial(caught, it.encode, 18, long),
         "`code`, `digest`": lambda: (left.code, left.digest),
         "`status`, `size`, `taken` of an error": lambda: (error.status, error.size, error.taken),
         "`is_incomplete` of an error": lambda: error.is_incomplete,
     }
-
-
-def error_value(decoding: Callable[[bytes], Any]) -> Any:
-    try:
-        return decoding(DATA[:20])
-    except ValueError as error:
-        return error
 
 
 def nanoseconds(call: Callable[[], Any]) -> float:
