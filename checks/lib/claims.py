@@ -15,7 +15,7 @@ TOP = Path(__file__).resolve().parents[2]
 README, FORMAT, C, PACKAGING = "README.md", "docs/FORMAT.md", "bindings/c/README.md", "bindings/c/PACKAGING.md"
 JS, PYTHON, RUST = "bindings/js/README.md", "bindings/python/README.md", "bindings/rust/multihash/README.md"
 RUST_C, CALLING = "bindings/rust/multihash_c/README.md", "crates/multihash/CALLING.md"
-ARCHITECTURE, CONTRACTS, SPEED = "docs/ARCHITECTURE.md", "docs/CONTRACTS.md", "docs/SPEED.md"
+ARCHITECTURE, CONTRACTS = "docs/ARCHITECTURE.md", "docs/CONTRACTS.md"
 VECTORS, SOURCE, DIFFERENCES = "crates/vectors/data/README.md", "bindings/c/src/README.md", "docs/DIFFERENCES.md"
 HEADER, TYPES = "bindings/c/include/multihash.h", "bindings/js/index.d.ts"
 FENCE = re.compile(r"^ *```(\S*)[^\n]*\n(.*?)^ *```$", re.M | re.S)
@@ -44,7 +44,7 @@ NO_PROSE = [
     ),
     re.compile(r"\]\([^)]*\)|^\[[^]]*\]: .*$", re.M),
 ]
-NO_SOURCES = {".md", ".a", ".edits", ".tsv", ".wasm", ".svg"}
+NO_SOURCES = {".md", ".a", ".edits", ".tsv", ".wasm"}
 # the usage of programs of others
 USAGE = """. FILE; ar rc ARCHIVE OBJECT; cargo add NAME --path FOLDER; cargo tree -i NAME; cargo update -p NAME
 cc -O2 -c FILE; cc -std=c11 [-static] FILE $(pkg-config --cflags --libs multihash_c) -o PROGRAM; cd FOLDER
@@ -55,7 +55,7 @@ python -m verified_multihash [HEX]; python3 -m venv FOLDER; rt check; rt ci; rt 
 rt lib [--cpu=x86-64-v3]; rt try --data verdicts.tsv=my_vectors.tsv; sha256sum --check SHA256SUMS"""
 NAMES_ELSEWHERE = {
     *"Arbitrary BTreeMap CC_TARGET CC_riscv64gc_unknown_linux_gnu CODE CRYPTO_memcmp HashMap".split(),
-    *"MULTIHASH_C_STATIC PACKAGING PASS WouldBlock area checker compare_digest crypto dac8208d650f15bf".split(),
+    *"MULTIHASH_C_STATIC PACKAGING PASS SIZE WouldBlock area checker compare_digest crypto dac8208d650f15bf".split(),
     *"externally-managed-environment gcc-aarch64-linux-gnu hmac makefile postMessage py-multihash".split(),
     *"pymultihash python3-dev rattle-kit-13f socket tests_ timingSafeEqual tree update using x86-64-v3".split(),
 }

@@ -11,7 +11,6 @@ import re
 import subprocess
 import sys
 import tempfile
-from collections import defaultdict
 from collections.abc import Callable, Iterator
 from pathlib import Path
 
@@ -20,10 +19,9 @@ import contracts
 import edits
 import examples
 import rows
-import speed
 import start
 import tap
-from claims import CONTRACTS, FENCE, HEADER, README, SPEED, C, read
+from claims import CONTRACTS, FENCE, HEADER, README, C, read
 from rt_source import Unread
 
 TOP = Path(__file__).resolve().parents[2]
@@ -116,28 +114,6 @@ def file_errors(texts: Texts) -> Iterator[str]:
                 yield f"{path}: there is no {word}"
 
 
-def speed_errors(texts: Texts) -> Iterator[str]:
-    """Compares the calls of which the Rust crate needs fewer instructions with speed.tsv."""
-    page, stored, shares = texts[SPEED], speed.read_rows(), defaultdict[str, list[float]](list)
-    for case, fields in stored.items():
-        if speed.share(fields) > 1.05:
-            shares[speed.name_of(case).partition(", beside")[0]].append(speed.share(fields))
-    its_rows = re.findall(r"^\| ([^|]+) \| (\d+) \| ([\d.]+)(?: to ([\d.]+))? \| [^|]*\|$", page, re.M)
-    for cell, count, low, high in its_rows:
-        found = [share for name in re.findall(r"`(.*?)`", cell) for share in shares.pop(name, [0.0])] or [0.0]
-        off = max(abs(float(low) - min(found)), abs(float(high or low) - max(found)))
-        if len(found) != int(count) or off > 0.0501:
-            yield f"{SPEED}: {cell} has other shares"
-    if shares:
-        yield f"{SPEED}: it does not have {[*shares]}"
-    total = sum(speed.share(fields) > 1.05 for fields in stored.values())
-    if (
-        f"\nIn {total} of the {len(stored)} cases the share of the tuned crate's instructions is above 1.05:"
-        not in page
-    ):
-        yield f"{SPEED}: {total} cases have such shares"
-
-
 def status_errors(texts: Texts) -> Iterator[str]:
     """Compares the table of errors in the page for C with the header."""
     header = texts[HEADER]
@@ -226,7 +202,6 @@ CHECKS: dict[str, Callable[[Texts], Iterator[str]]] = {
     "link_errors": link_errors,
     "file_errors": file_errors,
     "status_errors": status_errors,
-    "speed_errors": speed_errors,
     "command_errors": command_errors,
     **{name: claim_errors(check) for name, check in OF_CLAIMS.items()},
 }

@@ -1,4 +1,4 @@
-/* Makes many calls of one operation, to be counted. The arguments are its name and the number of calls; with
+/* Makes many calls of one operation, to be counted. The arguments are the number of calls and its name; with
  * none it prints the names. Inputs and results are in memory that the compiler cannot see through. */
 #include "multihash.h"
 
@@ -100,8 +100,8 @@ int main(int argc, char **argv)
     for (size_t i = 0; i < sizeof operations / sizeof operations[0]; i++) {
         if (argc != 3) {
             printf("%s\n", operations[i].name);
-        } else if (strcmp(argv[1], operations[i].name) == 0) {
-            long calls = strtol(argv[2], NULL, 10);
+        } else if (strcmp(argv[2], operations[i].name) == 0) {
+            long calls = strtol(argv[1], NULL, 10);
             for (long k = 0; k < calls; k++) sum += operations[i].call();
             printf("%llu\n", (unsigned long long)sum);
         }
