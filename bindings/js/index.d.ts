@@ -17,12 +17,12 @@ export type Wide = number | bigint;
 
 /** Why a call failed. */
 export type Status =
-  | 'insufficient' // the input ends inside or before a varint
-  | 'overflow' // a varint has more than nine bytes, as every number of 2^63 or above needs
-  | 'not_minimal' // a varint of more than one byte ends in a zero
+  | 'insufficient' // the input ends within or before a varint
+  | 'overflow' // a varint has more than nine bytes, as every number of 2^63 or more needs
+  | 'not_minimal' // a varint of more than one byte ends in a zero byte
   | 'invalid_size' // a digest is too long: `size` is its length; or bytes follow the encoding: `size` is their number
-  | 'invalid_code' // `code` is 2^63 or above
-  | 'unexpected_eof' // the input ends inside the digest, or before it in the SCALE form
+  | 'invalid_code' // `code` is 2^63 or more
+  | 'unexpected_eof' // the input ends within the digest, or before it in the SCALE form
   | 'no_room'; // an output is too short: no function here returns it
 
 /** The fields of an error. */

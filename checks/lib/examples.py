@@ -1,15 +1,14 @@
-"""Computes the bytes that README.md and FORMAT.md show, and their results, by the rules of verdicts.py."""
+"""Computes the bytes that README.md, FORMAT.md and the page of test vectors show, and their results, by the rules of
+verdicts.py."""
 import hashlib
 import re
 from collections.abc import Iterator
 
 import verdicts
-from claims import FORMAT, HEX, README, flat
+from claims import FORMAT, HEX, README, VECTORS, flat
 from rows import tables
 
-
-def hexadecimal(data: bytes) -> str:
-    return data.hex(" ")
+RULES = verdicts.rules_of_crate()
 
 
 def varint(number: int) -> bytes:
@@ -21,47 +20,83 @@ def encoded(code: int, digest: bytes) -> bytes:
     return varint(code) + varint(len(digest)) + digest
 
 
-def byte_errors(page: str, text: str) -> Iterator[str]:
-    """Computes the bytes of README.md and FORMAT.md: of the first example, of FORMAT.md all."""
+def shown_errors(page: str, text: str) -> Iterator[str]:
+    """Computes the first example: the multihash of the empty input."""
     empty = encoded(0x12, hashlib.sha256().digest())
     shown = re.findall(r"(?m)^ ?12 +20 +(.*) \.\. (\w+)(?: .*, (\d+) bytes)?$", text)
-    if page in (README, FORMAT) and shown != [
-        (hexadecimal(empty[2:10]), empty[-1:].hex(), str(len(empty)) * (page == FORMAT))
-    ]:
-        yield f"the multihash of the empty input is {hexadecimal(empty)}"
-    if page != FORMAT:
-        return
-    rules = verdicts.rules_of_crate()
+    length = str(len(empty)) * (page == FORMAT)
+    if page in (README, FORMAT) and shown != [(empty[2:10].hex(" "), empty[-1:].hex(), length)]:
+        yield f"the multihash of the empty input is {empty.hex(' ')}"
+
+
+def encoding_errors(text: str) -> Iterator[str]:
+    """Computes the encodings and the varints of FORMAT.md."""
     form = r"(?m)^ ([0-9a-f ]+?) {3,}code (\d+), digest \"(\w+)\", (\d+) bytes$"
-    examples = [
-        (flat(data), encoded(int(code), digest.encode()), length)
-        for data, code, digest, length in re.findall(form, text)
-    ]
-    wanted = [(data, bytes_) for data, bytes_, length in examples if len(bytes_) == int(length)]
+    shown = [(flat(data), encoded(int(code), it.encode()), size) for data, code, it, size in re.findall(form, text)]
+    wanted = [(data, bytes_) for data, bytes_, size in shown if size == str(len(bytes_))]
     for number, data in re.findall(rf"(?m)^\| (\d+|2\^\d+ - 1) \| {HEX} \|$", text):
         wanted.append((data, varint(eval(number.replace("^", "**")))))  # a power and a difference
-    scale = re.findall(rf"{HEX} for the code (\d+) and the digest {HEX}", flat(text))
-    wanted += [(data, int(code).to_bytes(8, "little") + bytes.fromhex("01" + digest)) for data, code, digest in scale]
     order = re.findall(rf"code (\d+) is less than (\d+), but its varint {HEX} is greater than {HEX}", flat(text))
     for less, greater, its_data, other in order:
         wanted += [(its_data, varint(int(less))), (other, varint(int(greater)))]
-    for data, bytes_ in wanted:
-        if data != hexadecimal(bytes_):
-            yield f"{data} is {hexadecimal(bytes_)}"
-    seen = {data for data, _ in wanted} | {digest for *_, digest in scale}
-    size, rows = next((head[-1], rows) for head, rows in tables(text) if "`S` =" in head[-1])
-    for row in rows:
-        name = (re.findall(r"`(?:is_)?(\w+)\(", row[2]) or ["pair"])[0]
-        for data, nine in re.findall(HEX + "( nine times)?", row[3]):
-            seen.add(data)
-            found = verdicts.result(rules.read, int(size.split()[-1]), bytes.fromhex(data * (9 if nine else 1)))[0]
-            if not found.startswith({"io": "unexpected_eof"}.get(name, name)):
-                yield f"{data} is {found}"
-    for number, data in re.findall(rf"number: (\d+) for {HEX}", flat(text)):
-        if rules.line(4, bytes.fromhex(data)).split("\t")[4] != f"invalid_size {number}":
-            yield f"{data} has another size than {number}"
-    if len(wanted) != 8 or {*re.findall(HEX, text)} - seen:
-        yield f"these bytes are not computed: {sorted({*re.findall(HEX, text)} - seen)}"
+    yield from (f"{data} is {bytes_.hex(' ')}" for data, bytes_ in wanted if data != bytes_.hex(" "))
+    if len(wanted) != 7:
+        yield f"it has other examples than these: {wanted}"
+
+
+def result_errors(text: str) -> Iterator[str]:
+    """Computes the results and the consumed bytes in the tables of FORMAT.md."""
+    for head, rows in (table for table in tables(text) if table[0][-1] == "Consumed"):
+        call = RULES.read if head[1] == "Verdict" else RULES.scale_decode
+        for row in rows:
+            method = re.findall(r"`(?:is_)?(\w+)\(", row[2]) or [re.sub(r"^(?:an|that|the) ", "", row[1])]
+            name = {"truncated": "unexpected_eof", "io": "unexpected_eof"}.get(method[0], method[0].replace(" ", "_"))
+            for data in re.findall(HEX, row[-2]):
+                found, taken = verdicts.result(call, int(head[-2].split()[-1]), bytes.fromhex(data))
+                if found.split()[0] != name or row[-1] != str(taken or ""):
+                    yield f"{data} is {found}, and {taken} bytes are consumed"
+    for method, number, data in re.findall(rf"`(\w+)\(\)` is their number: (\d+) for {HEX}", flat(text)):
+        if RULES.line(4, bytes.fromhex(data)).split("\t")[4] != f"{method} {number}":
+            yield f"{data} has another result than {method} {number}"
+
+
+def grammar_errors(text: str) -> Iterator[str]:
+    """Compares the grammar of varints with the rules."""
     grammar = re.findall(r"= \*(\d)continuation last .*\n\w+ = %x(\w+)-(\w+) .*\nlast +=  *%x(\w+)-(\w+) ", text)
-    if grammar != [(str(rules.max_continuation), "80", "FF", "00", "7F")]:
+    if grammar != [(str(RULES.max_continuation), "80", "FF", "00", "7F")]:
         yield f"it has another grammar: {grammar}"
+
+
+def line_errors(text: str) -> Iterator[str]:
+    """Computes what mh_show prints for the examples of FORMAT.md."""
+    named = re.findall(r"`((?:[0-9a-fA-F]{2})+)`", text.rpartition("\n## ")[2])
+    blocks = re.findall(r"```text\n(.*?)```", text, re.S)
+    for data, block in zip(named, blocks, strict=False):
+        found, _ = verdicts.result(RULES.read, 64, bytes.fromhex(data))
+        code, digest = re.findall(r"\S+", found)[1:] or ("", "")
+        if block != f"code {code}\nsize {len(digest.strip('-')) // 2}\ndigest {digest}\n":
+            yield f"mh_show prints something else for {data}"
+    if len(named) != len(blocks) or not named:
+        yield f"not each of these has a block: {named}"
+
+
+def vector_errors(text: str) -> Iterator[str]:
+    """Computes the lines that the page of test vectors shows: their results are all that there are."""
+    head, *lines = re.findall(r"(?m)^\S+(?:\t\S.*)+$", text)
+    if head.split("\t") != [*verdicts.COLUMNS]:
+        yield f"its columns are others: {head}"
+    for line in lines:
+        size, data, *_ = line.split("\t")
+        if line != RULES.line(int(size), bytes.fromhex(data)):
+            yield f"not computed: {line}"
+    results = {field.split()[0] for line in lines for field in line.split("\t")[2:] if field[0].isalpha()}
+    if len(results) != 7:
+        yield f"only these results are in its lines: {results}"
+
+
+def byte_errors(page: str, text: str) -> Iterator[str]:
+    """Computes all that a page shows of bytes."""
+    yield from shown_errors(page, text)
+    of_page = {FORMAT: (encoding_errors, result_errors, grammar_errors, line_errors), VECTORS: (vector_errors,)}
+    for errors in of_page.get(page, ()):
+        yield from errors(text)

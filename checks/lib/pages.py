@@ -1,9 +1,9 @@
 #!/usr/bin/env python3
 """Compares what the pages say with the sources.
 
-It compares CONTRACTS.md with the sources, files, links, and what claims.py and rows.py compare, and runs README's
-commands and programs: mh_show as 'rt ci' built it, if BUILT says so, otherwise 'rt run' builds it. The differences
-of pages.edits are planted.
+It compares CONTRACTS.md with the sources, files, links, and what claims.py, rows.py and examples.py compare, and runs
+README's commands and programs: mh_show as 'rt ci' built it, if BUILT says so, otherwise 'rt run' builds it. The
+differences of pages.edits are planted.
 """
 import difflib
 import os
@@ -21,34 +21,19 @@ import examples
 import rows
 import start
 import tap
-from claims import CONTRACTS, FENCE, HEADER, README, C, read
+from claims import CONTRACTS, FENCE, HEADER, README, read
 from rt_source import Unread
 
 TOP = Path(__file__).resolve().parents[2]
 MAN = "crates/mh_show/mh_show.1"
 ENDS = (".md", MAN, HEADER)
-# a path or a file's name; and a path below these folders, in all texts
-PATH = re.compile(
-    r"[\w.@-]+(?:/[\w.@-]+)+" r"|[\w-]+\.(?:antt|c|edits?|h|html|js|json|map|md|py|rs|rt|sh|t|toml|ts|tsv|txt|wasm|yml)"
-)
 BELOW = re.compile(r"(?<![\w./-])(?:\.ci|checks|docs|tools)/[\w./-]*\w")
-# files of programs, and of what is built and installed
-NOT_HERE = {".cargo/config.toml", "out/libmultihash_c.a", "share/doc/multihash_c/examples"}
-NOT_HERE |= {"verified-multihash/inline", "verified-multihash/module"}
 Texts = dict[str, str]
-
-
-def listed() -> list[Path]:
-    """Returns the paths of the repository's files."""
-    command = ["git", "ls-files", "-co", "--exclude-standard"]
-    names = subprocess.run(command, cwd=TOP, capture_output=True, text=True, check=True).stdout
-    return [Path(name) for name in names.splitlines() if (TOP / name).exists()]
 
 
 def read_texts() -> Texts:
     """Returns the pages, and the sources that CONTRACTS.md is about."""
-    paths = [*map(str, listed()), MAN]
-    return {path: read(path) for path in paths if path.endswith(ENDS)} | contracts.sources()
+    return {path: read(path) for path in claims.paths() if path.endswith(ENDS)} | contracts.sources()
 
 
 def pages_of(texts: Texts) -> Texts:
@@ -96,32 +81,10 @@ def link_errors(texts: Texts) -> Iterator[str]:
 
 
 def file_errors(texts: Texts) -> Iterator[str]:
-    """Returns the names of files that are gone, in pages those in backquotes too."""
-    paths = listed()
-    found = {path for file in paths for path in (file, file.with_suffix(""), *file.parents)}
-    ends = {"/".join(path.parts[at:]) for path in found for at in range(len(path.parts))}
-    for path in map(str, paths):
-        if path.endswith(".edits"):
-            continue
-        text = texts.get(path) or read(path)
-        words = [word for word in BELOW.findall(text) if not (TOP / word).exists()]
-        if path.endswith(".md") and path != CONTRACTS:
-            spans = re.findall(r"`([^`\n]+)`", FENCE.sub("", text))
-            named = (word.removeprefix("./").rstrip("/,") for word in " ".join(spans).split())
-            words += [word for word in named if PATH.fullmatch(word) and word not in ends]
-        for word in sorted({*words} - NOT_HERE):
-            if "NAME" not in word:
-                yield f"{path}: there is no {word}"
-
-
-def status_errors(texts: Texts) -> Iterator[str]:
-    """Compares the table of errors in the page for C with the header."""
-    header = texts[HEADER]
-    numbers = re.findall(r"^ +(MULTIHASH_\w+) = (\d+)", header, re.M)
-    said = dict(re.findall(r"case (MULTIHASH_\w+):\s*return \"([^\"]*)\";", header))
-    rows = re.findall(r"^\| `(MULTIHASH_\w+)` \| (\d+) \| ([^|]*) \|", texts[C], re.M)
-    if rows != [(name, number, said.get(name)) for name, number in numbers]:
-        yield f"{C}: its table of errors is not that of the header"
+    """Returns the names of files below some folders, in all files, that are gone."""
+    for path in claims.paths():
+        words = {*BELOW.findall(texts.get(path) or read(path))} if not path.endswith(".edits") else set()
+        yield from (f"{path}: there is no {it}" for it in sorted(words) if "NAME" not in it and not (TOP / it).exists())
 
 
 def command_errors(texts: Texts) -> Iterator[str]:
@@ -152,25 +115,20 @@ def program_results(texts: Texts) -> Iterator[tap.Result]:
     with tempfile.TemporaryDirectory() as work:
         start.copy_repository(copy := Path(work) / "copy")
         for program in start.programs(texts[README]):
-            other = program._replace(install=program.install.replace("$MH", "$MH/none"))
-            planted = [other] if program.language == "JavaScript" else []
-            name, gone = f"{README}, {program.language}", start.missing(program.language)
-            for number, each in enumerate([program, *planted]):
-                if gone:
-                    yield tap.left_out(name, f"{gone} is not installed")
-                    continue
-                error, text = start.run(each, copy, Path(work) / f"{program.language}{number}")
-                if number:
-                    yield tap.planted(name, error)
-                else:
-                    yield name, error
-                    shown[program.language] = text
+            name = f"{README}, {program.language}"
+            if gone := start.missing(program.language):
+                yield tap.left_out(name, f"{gone} is not installed")
+                continue
+            error, shown[program.language] = start.run(program, copy, Path(work) / program.language)
+            yield name, error
+        none = start.programs(texts[README])[-1]._replace(language="C", install="cmake -S $MH/none -B build")
+        yield tap.planted("a package that is not there", start.run(none, copy, Path(work) / "none")[0])
     yield "what the programs print", "\n".join(start.judge(texts[README], shown))
     yield tap.planted(f"{README}: a row less", [*start.judge(texts[README].replace("| [C, C++]", "| C"), shown)])
     yield tap.planted("another output", [*start.judge(texts[README], {"C": "code 1, digest hello"})])
 
 
-def claim_errors(check: Callable[[str, str], Iterator[str]]) -> Callable[[Texts], Iterator[str]]:
+def of_all_pages(check: Callable[[str, str], Iterator[str]]) -> Callable[[Texts], Iterator[str]]:
     """Returns the check of all pages by a check of one."""
 
     def errors(texts: Texts) -> Iterator[str]:
@@ -183,27 +141,25 @@ def claim_errors(check: Callable[[str, str], Iterator[str]]) -> Callable[[Texts]
     return errors
 
 
-OF_CLAIMS = {
-    "number_errors": claims.number_errors,
-    "name_errors": claims.name_errors,
-    "call_errors": claims.call_errors,
-    "usage_errors": claims.usage_errors,
-    "block_errors": claims.block_errors,
-    "row_errors": rows.row_errors,
-    "place_errors": claims.place_errors,
-    "lemma_errors": rows.lemma_errors,
-    "difference_errors": rows.difference_errors,
-    "comment_errors": rows.comment_errors,
-    "time_errors": rows.time_errors,
-    "byte_errors": examples.byte_errors,
-}
+OF_A_PAGE = (
+    claims.number_errors,
+    claims.name_errors,
+    claims.told_errors,
+    claims.usage_errors,
+    claims.block_errors,
+    rows.row_errors,
+    rows.status_errors,
+    rows.time_errors,
+    rows.difference_errors,
+    rows.comment_errors,
+    examples.byte_errors,
+)
 CHECKS: dict[str, Callable[[Texts], Iterator[str]]] = {
     "contract_errors": contract_errors,
     "link_errors": link_errors,
     "file_errors": file_errors,
-    "status_errors": status_errors,
     "command_errors": command_errors,
-    **{name: claim_errors(check) for name, check in OF_CLAIMS.items()},
+    **{check.__name__: of_all_pages(check) for check in OF_A_PAGE},
 }
 
 

@@ -1,80 +1,116 @@
 """Compares the tables of pages with their sources, and names in comments of the header with its declarations."""
 import re
-from collections import Counter
 from collections.abc import Iterator
+from typing import NamedTuple
 
-from claims import (
-    README,
-    C,
-    PACKAGING,
-    JS,
-    PYTHON,
-    RUST,
-    RUST_C,
-    CALLING,
-    ARCHITECTURE,
-    VECTORS,
-    DIFFERENCES,
-    HEADER,
-    TYPES,
-    FENCE,
-    read,
-    sources,
-)
+from claims import ARCHITECTURE, C, CALLING, CONTRACTS, DECISIONS, DIFFERENCES, FENCE, FORMAT, HEADER, JS, PACKAGING
+from claims import PYTHON, README, RUST, RUST_C, SPEED, TYPES, flat, read, sources
 
-# a page, the first cells of a table: the source, and the form of its names or first cells there, in order
+
+class Source(NamedTuple):
+    """What has the rows of a table, in their order: a file, the form of names there, those without a row, and
+    names of others, which have no comment."""
+
+    file: str
+    form: str
+    left_out: tuple[str, ...] = ()
+    others: tuple[str, ...] = ()
+
+
+OF_CMAKE = ("CMAKE_INSTALL_PREFIX", "CMAKE_INSTALL_LIBDIR", "CMAKE_TOOLCHAIN_FILE")
+OF_CARGO = ("keywords", "categories", "include", "default")
+# a page, and the first cells of a table, whose last cells are in the comments of these names
 TABLES = {
-    (C, "Function | What it does"): (HEADER, r"^(?:static inline )?(?:const char \*|\w+ )(multihash_\w+)\("),
-    (C, "Status | Number"): (HEADER, r"^ +(MULTIHASH_\w+) = "),
-    (PACKAGING, "Option of the first command | Meaning"): ("CMakeLists.txt", r"^#   ([A-Z_]+) "),
-    (JS, "Call | What it does"): (TYPES, r"^export function (\w+)\("),
+    (C, "Function | What it does"): Source(HEADER, r"^(?:static inline )?(?:const char \*|\w+ )(multihash_\w+)\("),
+    (C, "Status | Number"): Source(HEADER, r"^ +(MULTIHASH_\w+) = "),
+    (PACKAGING, "Option of the first command | Meaning"): Source("CMakeLists.txt", r"^#   ([A-Z_]+) ", (), OF_CMAKE),
+    (JS, "Call | What it does"): Source(TYPES, r"^export function (\w+)\("),
+    (JS, "`status` | When"): Source(TYPES, r"^  \| '(\w+)'", ("no_room",)),
+    (PYTHON, "`status` | Meaning"): Source(
+        "bindings/python/verified_multihash/__init__.py", r"^    ([A-Z_]+) = \d", ("OK", "NO_ROOM")
+    ),
+    (RUST, "Feature | What it adds"): Source(
+        "bindings/rust/multihash/Cargo.toml", r"^([\w-]+) = \[", (*OF_CARGO, "scale-codec", "arb", "required-features")
+    ),
+    (RUST_C, "Feature | What it adds"): Source("bindings/rust/multihash_c/Cargo.toml", r"^([\w-]+) = \[", OF_CARGO),
+}
+# the files of tables of modules, whose last cells are the first sentences of these
+MODULES = {
+    (ARCHITECTURE, "`crates/` | What it is"): r"crates/(\w+)/src/(?:lib|main)\.rt",
+    (CALLING, "Module | What it has"): r"crates/((?:examples|storage)/src/(?!lib|headline|pins)\w+)\.rt",
+}
+# a page, and the first cells of a table of what was measured: the program that measures, and the form of its calls
+MEASURED = {
     (JS, "Call | Time"): ("bindings/js/beside_plain.js", r"^(?:    |const names = .*)'([^']+)'(?:: \(|\];)"),
-    (JS, "`status` | When"): (TYPES, r"^  \| '(\w+)'"),
-    (PYTHON, "`status` | Meaning"): ("bindings/python/verified_multihash/__init__.py", r"^    ([A-Z_]+) = \d"),
-    (PYTHON, "Call | this package"): ("bindings/python/beside_plain.py", r'^        "([^"]+)": (?:lambda|\w+\()'),
-    (RUST, "Feature | What it adds"): ("bindings/rust/multihash/Cargo.toml", r"^([\w-]+) = \["),
+    (PYTHON, "Call | this package"): ("bindings/python/beside_plain.py", r'^        "([^"]+)": (?:lambda|partial\()'),
     (RUST, "Call | a code of one byte"): (
         "bindings/rust/beside_upstream.py",
         r'"([^"{}]+)"(?=(?:,\s*"[^"]+")*\]  # fmt: skip)',
     ),
-    (RUST_C, "Feature | What it adds"): ("bindings/rust/multihash_c/Cargo.toml", r"^([\w-]+) = \["),
-    (ARCHITECTURE, "`crates/` | What it is"): ("crates.txt", r"^(\w+)(?: staticlib)?:"),
-    (VECTORS, "Column | What it is"): ("checks/lib/verdicts.py", r'"(\w+)"(?=(?:, "\w+")*\)$)'),
 }
-NO_ROWS = {
-    *"OK NO_ROOM no_room arb categories default include keywords little required-features scale-codec".split()
-} | {*"CMAKE_INSTALL_PREFIX CMAKE_INSTALL_LIBDIR CMAKE_TOOLCHAIN_FILE".split()}
-TOLD = {C, PACKAGING, JS, PYTHON, RUST, RUST_C}
+# the numbers of rows of other tables, whose cells program_results, byte_errors and speed_errors compare, or nothing
+ROWS = {README: (5, 11), FORMAT: (8, 4, 6, 6), JS: (3,), RUST: (15,), DIFFERENCES: (16, 21), DECISIONS: (10,)}
+ROWS |= {ARCHITECTURE: (12,), SPEED: (22, 6, 10), "CONTRIBUTING.md": (8,), "bindings/rust/README.md": (2,)}
+Rows = list[list[str]]
 
 
-def tables(text: str) -> Iterator[tuple[list[str], list[list[str]]]]:
+def tables(text: str) -> Iterator[tuple[list[str], Rows]]:
     """Returns the cells of each table's head, and those of its rows."""
     for table in re.findall(r"(?m)(?:^\|.*\n)+", FENCE.sub("", text)):
         rows = [[cell.strip() for cell in re.split(r"(?<!\\)\|", line)[1:-1]] for line in table.splitlines()]
-        if {len(row) for row in rows} != {len(rows[0])} or len(rows) < 2 or not re.match(r"[:-]+$", rows[1][0]):
+        if {len(row) for row in rows} != {len(rows[0])} or len(rows) < 2 or not re.match(r":?-+:?$", rows[1][0]):
             raise ValueError(f"not all rows have the cells of the head: {rows[0]}")
         yield rows[0], rows[2:]
 
 
+def module_rows(form: str) -> Rows:
+    """Returns the names of modules, and the first sentences of their files."""
+    found = []
+    for path, text in sorted(sources(("crates",)).items()):
+        if match := re.fullmatch(form, path):
+            docs = flat(" ".join(re.findall(r"^//! ?(.*)$", text.partition("\n//!\n")[0], re.M)))
+            found.append([f"`{match[1].replace('/src/', '::')}`", re.split(r"(?<=\.)\s", docs)[0]])
+    return found
+
+
+def told_errors(rows: Rows, source: Source) -> Iterator[str]:
+    """Compares the first cells with the names of a source, and the last ones with the comments there."""
+    text = read(source.file)
+    names = [name for name in dict.fromkeys(re.findall(source.form, text, re.M)) if name not in source.left_out]
+    in_cells = [re.findall(r"`(?:-D)?([\w-]+)", row[0]) for row in rows]
+    found = [name for cell in in_cells for name in cell]
+    if names + [*source.others] != sorted(found, key=source.others.__contains__):
+        yield f"a table has other rows than {source.file}: {names}"
+    for cell, row in zip(in_cells, rows):
+        at = re.search(r"[\s/*#]+".join(map(re.escape, row[-1].split())), text)
+        start = text.rfind("\n", 0, at.start()) if at else len(text)
+        # comments are before a name or in its line, of CMake after it
+        after = [match[1] for match in re.finditer(source.form, text, re.M) if match.end() > start]
+        if {*cell} <= {*names} and (not after or after[0] not in cell):
+            yield f"{source.file} does not say this of {cell}: {row[-1]}"
+
+
 def row_errors(page: str, text: str) -> Iterator[str]:
-    """Compares the tables whose rows a source has: the names in their order, and in some pages the last cells."""
-    found = {" | ".join(head[:2]): rows for head, rows in reversed([*tables(text)])}
-    for head, (source, form) in ((head, which) for (its_page, head), which in TABLES.items() if its_page == page):
-        its_text = read(source)
-        names = [name for name in dict.fromkeys(re.findall(form, its_text, re.M)) if name not in NO_ROWS]
-        cells_of = [row[0] for row in found.get(head, [])]
-        alone = [cell.strip("`") for cell in cells_of]
-        in_cells = [re.findall(r"`(?:-D)?([\w-]+)", cell) for cell in cells_of]
-        listed = [name for in_row in in_cells for name in in_row if name not in NO_ROWS]
-        if names not in (cells_of, alone, listed):
-            yield f"the table {head} has other rows than {source}: {names}"
-        for in_row, row in zip(in_cells, found.get(head, [])) if page in TOLD else []:
-            at = re.search(r"[\s/*#]+".join(map(re.escape, row[-1].split())), its_text)
-            start = its_text.rfind("\n", 0, at.start()) if at else len(its_text)
-            # comments are before a name or in its line, of CMake after it
-            after = [match[1] for match in re.finditer(form, its_text, re.M) if match.end() > start]
-            if {*in_row} <= {*names} and not row[-1][0].isdigit() and (not after or after[0] not in in_row):
-                yield f"{source} does not say this of {in_row}: {row[-1]}"
+    """Compares tables with their sources, of the others the number of rows."""
+    others = []
+    known = {key for key in (*TABLES, *MODULES, *MEASURED) if key[0] == page}
+    for head, rows in tables(text):
+        key = (page, " | ".join(head[:2]))
+        known.discard(key)
+        if key in TABLES:
+            yield from told_errors(rows, TABLES[key])
+        elif key in MODULES:
+            if rows != module_rows(MODULES[key]):
+                yield f"its table of modules is not {module_rows(MODULES[key])}"
+        elif key in MEASURED:
+            file, form = MEASURED[key]
+            if [row[0].strip("`") for row in rows] != [name.strip("`") for name in re.findall(form, read(file), re.M)]:
+                yield f"a table has other rows than {file}"
+        else:
+            others.append(len(rows))
+    if tuple(others) != ROWS.get(page, ()) and page != CONTRACTS:
+        yield f"its tables have {others} rows: state that in checks/lib/rows.py"
+    yield from (f"it has no table {head}" for _, head in known)
 
 
 def time_errors(page: str, text: str) -> Iterator[str]:
@@ -87,29 +123,24 @@ def time_errors(page: str, text: str) -> Iterator[str]:
             yield f"the share of {name} is {least:.2f} to {most:.2f}"
 
 
-def lemma_errors(page: str, text: str) -> Iterator[str]:
-    """Compares the table of lemmas with the proofs: each is there once, and those for callers all."""
-    if page == CALLING:
-        cells = [row[-1] for head, rows in tables(text) if head[-1] == "Lemmas" for row in rows]
-        names = Counter(re.findall(r"`([\w-]+)`", "".join(cells)))
-        proofs = sources(("crates/multihash/proofs",)).items()
-        lemmas = [(path, name) for path, its in proofs for name in re.findall(r"(?m)^ *pub ([\w-]+) :", its)]
-        wanted = {name for path, name in lemmas if re.search("Calling|Outcome", path)}
-        wrong = (+(names - Counter({*names}))).keys() | {*names} - {name for _, name in lemmas} | wanted - {*names}
-        yield from (f"it is no lemma, or not in one row: {name}" for name in sorted(wrong))
-
-
 def difference_errors(page: str, text: str) -> Iterator[str]:
-    """Compares README.md's differences with the first of DIFFERENCES.md, and the names there with Cargo's package."""
-    found, first = ([rows for head, rows in tables(its) if head[-1] == "Here"] for its in (text, read(DIFFERENCES)))
-    if page == README and found != [first[0][:4]]:
-        yield f"these are not the first differences of {DIFFERENCES}"
+    """Returns the public names of the library that neither DIFFERENCES.md nor Cargo's package has."""
     if page == DIFFERENCES:
         files = sources(("crates/multihash/src",)).items()
         here = "".join(its for path, its in files if not path.endswith(("laws.rt", "pins.rt")))
         known = text + "".join(sources(("bindings/rust/multihash/src",)).values())
         names = re.findall(r"(?m)^ *pub (?:fn|struct|enum|trait|type|mod|const) (\w+)", here)
         yield from (f"it does not have {name}" for name in sorted({*names} - {*re.findall(r"\w+", known)}))
+
+
+def status_errors(page: str, text: str) -> Iterator[str]:
+    """Compares the numbers and the texts of errors in the page for C with the header."""
+    header = read(HEADER)
+    numbers = re.findall(r"^ +(MULTIHASH_\w+) = (\d+)", header, re.M)
+    said = dict(re.findall(r"case (MULTIHASH_\w+):\s*return \"([^\"]*)\";", header))
+    found = re.findall(r"^\| `(MULTIHASH_\w+)` \| (\d+) \| ([^|]*) \|", text, re.M)
+    if page == C and found != [(name, number, said.get(name)) for name, number in numbers]:
+        yield "its table of errors is not that of the header"
 
 
 def comment_errors(page: str, text: str) -> Iterator[str]:

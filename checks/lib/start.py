@@ -12,8 +12,8 @@ from collections.abc import Iterator
 from pathlib import Path
 from typing import NamedTuple
 
-TOP = Path(__file__).resolve().parents[2]
-FENCE = re.compile(r"^```(\S*)[^\n]*\n(.*?)^```$", re.M | re.S)
+from claims import FENCE, TOP
+
 ROW = re.compile(r"^\| \[(\w+)[^\]]*\]\([^)]*\) \| `([^`]+)` \|", re.M)
 HEAD = re.compile(r"(?://|#) (\S+): (.*)\n")
 SHOWN = "code 0, digest hello"
@@ -88,12 +88,9 @@ def prepare(program: Program, folder: Path) -> dict[str, str]:
         subprocess.run(command, cwd=folder, check=True, env={**os.environ, **environment})
         return environment
     if language == "C":
-        local = folder / "root/usr/local/lib"
-        return {
-            "DESTDIR": f"{folder}/root",
-            "PKG_CONFIG_PATH": f"{local}/pkgconfig",
-            "PKG_CONFIG_SYSROOT_DIR": f"{folder}/root",
-        }
+        root = f"{folder}/root"
+        found = {"PKG_CONFIG_PATH": f"{root}/usr/local/lib/pkgconfig", "PKG_CONFIG_SYSROOT_DIR": root}
+        return {"DESTDIR": root, **found}
     (folder / "crates").mkdir()
     (folder / "crates.txt").write_text(program.crates, "utf-8")
     return {}

@@ -21,7 +21,8 @@ use multihash::no_std_io::{Read, Write};
 use multihash::{Error, Multihash, laws, list};
 use std::alloc::Global;
 
-/// Reads the multihash that the whole of `bytes` encodes.
+/// Reads the multihash that the whole of `bytes` encodes. Each byte string has one result for each capacity: the
+/// multihash that it encodes, or one error.
 pub fn verdict<const S: usize>(bytes: &[u8]) -> Result<Multihash<S>, Error>
     // The grammar assigns exactly one verdict to the bytes, and it is the result.
     ensures one { (one : ExactlyOne (HasWholeVerdict S bytes.now)) × IsResultOf result one.value }
@@ -34,7 +35,7 @@ pub fn verdict<const S: usize>(bytes: &[u8]) -> Result<Multihash<S>, Error>
     Multihash::from_bytes(bytes)
 }
 
-/// Reads the multihash that comes next in a reader. The clauses say what was read and what is left if the
+/// Reads the multihash that comes next in a reader. `read` stops at the byte that decides the result. The clauses say what was read and what is left if the
 /// reader's input is known (`rest`), as it is for a slice.
 pub fn read_verdict<const S: usize, R: Read>(r: &mut R) -> Result<Multihash<S>, Error>
     // Either the reader failed, once, and its error is the result; or it did not fail, the grammar assigns
@@ -71,7 +72,8 @@ pub struct Compared {
     pub same: bool,
 }
 
-/// Compares two multihashes, whatever the capacities of their buffers.
+/// Compares two multihashes, whatever the capacities of their buffers. Values are equal exactly if their
+/// encodings are equal.
 pub fn same<const A: usize, const B: usize>(
     alloc: Global,
     a: &Multihash<A>,
@@ -106,7 +108,7 @@ pub fn same<const A: usize, const B: usize>(
 }
 
 /// Writes a list to any writer, and reads it back from any reader, into values of the same capacity or of
-/// another.
+/// another. What was written is read back, if the digest fits.
 ///
 /// `W.appended` is all that contracts know of what a writer did. For `&mut [u8]` it holds of any bytes of the
 /// right length, so no reader meets the premise of `back`; for a vector one does.
