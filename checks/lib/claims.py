@@ -153,15 +153,15 @@ def number_errors(page: str, text: str) -> Iterator[str]:
 
 # what is in backquotes and in no source: names of others, and what stands for several texts
 ELSEWHERE = """\
-&mut r; CMAKE_PREFIX_PATH; (x : T) × P; (x : T) → P; -DMULTIHASH_C_ARCHIVE=FILE; -DMULTIHASH_C_PROGRAM=FILE; -DMULTIHASH_C_SHARED=OFF
-/usr/local; Arbitrary; CRYPTO_memcmp; From<Multihash<S>>; IfSome (R.rest r.old) P; MULTIHASH_C_STATIC; P → Q
-PKG_CONFIG_PATH=PREFIX/lib/pkgconfig; LD_LIBRARY_PATH=PREFIX/lib; Result: PASS; S + 10
-#[tactic(..)]; area: what changes; c.from_residual-in_err-NAME.ensures.1; checks/NAME.t
-c.in_err-NAME.ensures.CLAUSE; const fn; crates/NAME; crates/NAME/mutants/; crates/tests_*; crypto.timingSafeEqual
-gcc-aarch64-linux-gnu; hmac.compare_digest; min(S, 255) + 11; mutants/NAME.edits; postMessage
-python3-dev; rattle-kit-13f; read(r: R); requires { S < 65536 }; returns-in_err-NAME; socket.makefile("rb"); tests_*
-the borrow checker does not cover this function yet; to_bytes(&self) -> Vec<u8>; write(w: W); x.entry; x.new; x.now
-to_bytes(&self, alloc) -> Result<Vec<u8>, Error>; x.old; {:?}; λ x. .."""
+#[tactic(..)]; &mut r; (x : T) × P; (x : T) → P; -DMULTIHASH_C_ARCHIVE=FILE; -DMULTIHASH_C_PROGRAM=FILE
+-DMULTIHASH_C_SHARED=OFF; /usr/local; Arbitrary; area: what changes; c.from_residual-in_err-NAME.ensures.1
+c.in_err-NAME.ensures.CLAUSE; checks/NAME.t; CMAKE_PREFIX_PATH; const fn; crates/NAME; crates/NAME/mutants/
+crates/tests_*; crypto.timingSafeEqual; CRYPTO_memcmp; From<Multihash<S>>; gcc-aarch64-linux-gnu; hmac.compare_digest
+IfSome (R.rest r.old) P; LD_LIBRARY_PATH=PREFIX/lib; min(S, 255) + 11; MULTIHASH_C_STATIC; mutants/NAME.edits; P → Q
+PKG_CONFIG_PATH=PREFIX/lib/pkgconfig; postMessage; python3-dev; rattle-kit-13f; read(r: R); requires { S < 65536 }
+Result: PASS; returns-in_err-NAME; S + 10; socket.makefile("rb"); tests_*
+the borrow checker does not cover this function yet; to_bytes(&self) -> Vec<u8>
+to_bytes(&self, alloc) -> Result<Vec<u8>, Error>; write(w: W); x.entry; x.new; x.now; x.old; {:?}; λ x. .."""
 
 
 @cache
