@@ -154,9 +154,12 @@ async function badSources(module, stream) {
     fails(TypeError, () => new module.MultihashReader(source), 'a source',
       'the source has to be a ReadableStream or an async iterable');
   }
-  const options = [[RangeError, { limit: -1 }], [RangeError, { limit: 0.5 }], [TypeError, { limit: '64' }],
-    [TypeError, { rest: 'ab' }]];
-  for (const [kind, option] of options) fails(kind, () => new module.MultihashReader(chunks(), option), 'an option');
+  const whole = 'a limit has to be a whole number, from 2^53 a bigint';
+  const options = [[RangeError, { limit: -1 }, whole], [RangeError, { limit: 0.5 }, whole],
+    [TypeError, { limit: '64' }, 'a limit has to be a number or a bigint'],
+    [TypeError, { rest: 'ab' }, 'bytes have to be a Uint8Array']];
+  for (const [kind, option, text] of options)
+    fails(kind, () => new module.MultihashReader(chunks(), option), 'an option', text);
 }
 
 /** What a reader has received is its own: a source may use its memory again. After its error the rest is there. */
