@@ -123,6 +123,7 @@ fn encode_usual(code: u64, digest: &[u8], out: &mut [u8]) -> Encoded
 // Does what `encode_any` does, and returns plain numbers as `scale_encode_apart` does. With the length first,
 // the other parameters are in the registers in which the caller has them.
 #[inline(never)]
+#[tactic(auto, using(crate::proofs::EncodedLemmas::same_parts))]
 fn encode_apart(after_code: usize, code: u64, digest: &[u8], out: &mut [u8]) -> (u32, usize)
     requires short { length digest.now ≤ 255 }
     requires after { (size : List ℕ) × IsVarint (length digest.now) size
@@ -155,6 +156,7 @@ fn encode_any(after_code: usize, code: u64, digest: &[u8], out: &mut [u8]) -> En
 // Does what `scale_encode` does. The status and the length are plain numbers, which stay in registers: so
 // those that only this function needs are saved only for such an input.
 #[inline(never)]
+#[tactic(auto, using(crate::proofs::EncodedLemmas::same_parts))]
 fn scale_encode_apart(code: u64, digest: &[u8], out: &mut [u8]) -> (u32, usize)
     requires { length digest.now ≤ 255 }
     ensures { (e : Encoded) → HasParts result.0 result.1 e →
@@ -366,6 +368,7 @@ fn scale_head(code: u64, size: u8) -> [u8; SCALE_HEAD]
 
 // Copies two parts, one after the other, to the front of a buffer that is large enough.
 #[inline(always)]
+#[tactic(auto, using(std::proofs::lemmas::Grind::common_steps))]
 fn put_parts(head: &[u8], digest: &[u8], buffer: &mut [u8])
     requires { length head.now + length digest.now ≤ length buffer.old }
     ensures { buffer.new ≡ (head.now ++ digest.now) ++ drop (length (head.now ++ digest.now)) buffer.old }
