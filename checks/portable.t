@@ -4,7 +4,7 @@
 # sanitizers, on other machines in emulators, and against the archive's results.
 # shellcheck source=checks/lib/tap.sh
 . "$(dirname "$0")/lib/tap.sh"
-plan 30
+plan 31
 set -o pipefail
 # shellcheck source=checks/lib/proved.sh
 . checks/lib/proved.sh
@@ -61,6 +61,8 @@ test_translation() {
   try "another global" rejects_planted "the module has the globals" calls.c \
     's/w2c_in_call = 0u/w2c_in_call = 1u/'
   try "an access less" rejects_planted "each access is a call" calls.c '0,/\(\*Z_memoryZ_i64_store\).*;$/s///'
+  try "a function less" rejects_planted "the module has the functions that are placed" calls.c \
+    's/w2c_multihash_head\(/w2c_more(/'
   try "a call that memory.h lacks" rejects_planted "memory.h has I64_POPCNT" calls.c 's/I64_CTZ\(/I64_POPCNT(/'
 }
 
@@ -180,8 +182,8 @@ on_windows() {
   if [ -d "$WINEPREFIX" ]; then wineserver -k; fi
 }
 
-has 30 cc python3 || exit 0
-if has 10 rt wasm2c=1.0.32 wasm2wat=1.0.32 wat2wasm=1.0.32; then
+has 31 cc python3 || exit 0
+if has 11 rt wasm2c=1.0.32 wasm2wat=1.0.32 wat2wasm=1.0.32; then
   try "the generated file" generated
   try "a wrong byte of it" rejects "module.h differ: " planted_generated
   test_translation

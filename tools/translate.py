@@ -10,13 +10,14 @@ A text in no known form is an error, as that of another version of WABT may be.
 import re
 import sys
 from pathlib import Path
+from typing import TypeVar
 
 ACCESS = re.compile(r"( *)(i(?:32|64))\.(load|store)(\w*)(?: offset=(\d+))?(?: align=\d+)?(\)*)")
 COPY = re.compile(r"( *)memory\.copy(\)*)")
 # What says something of the memory itself, and does no access.
 ABOUT_MEMORY = re.compile(r'  \((?:memory |data |export "memory" |export "__heap_base" ).*')
 DATA = re.compile(r'  \(data (?:\$\S+ )?\(i64\.const (\d+)\) "((?:[^"\\]|\\[0-9a-f]{2})*)"\)(\)?)')
-OTHER_MEMORY = re.compile(r"\b(?:memory|table|elem|data)\.\w+|\bcall_indirect\b|\((?:table|elem) ")
+OTHER_MEMORY = re.compile(r"\b(?:memory|data)\.\w+")
 FUNCTION = re.compile(r"  \(func (\S+) ")
 # What a function does first with the top of the stack: it allocates its frame, or only checks how much is left.
 FRAME = re.compile(r"global\.get \$__stack_pointer\s+i64\.const (\d+)\s+i64\.sub\s+local\.tee ")
@@ -49,22 +50,17 @@ APART = {"w2c_multihash__varint__word__front_by_short_word", "w2c_multihash_c__d
 # Called for input that is not short: a call that reads short input only ends there.
 LONGER = re.compile(r"^(?=  w2c_multihash_c__decode__longer\()", re.MULTILINE)
 HEAD = re.compile(r"^static (void|u32|u64) (w2c_\w+)\((.*)\)(;| \{)$", re.MULTILINE)
-KEYWORDS = {"if", "while", "for", "switch", "return", "sizeof"}
+Fact = TypeVar("Fact")
 
 
 class Unread(Exception):
     """A text in no known form."""
 
 
-def need(fact: object, what: str) -> None:
+def need(fact: Fact | None, what: str) -> Fact:
     if not fact:
         raise Unread(f"not so: {what}")
-
-
-def matched(found: re.Match[str] | None, what: str) -> re.Match[str]:
-    if found is None:
-        raise Unread(f"not so: {what}")
-    return found
+    return fact
 
 
 def access_call(line: str) -> tuple[str, str, str] | None:
@@ -127,25 +123,21 @@ def texts(linked: str) -> tuple[int, bytes]:
     """Returns the address and the bytes of the module's data."""
     found = [DATA.fullmatch(line) for line in linked.splitlines() if line.startswith("  (data ")]
     need(len(found) == 1, "the module has one block of data")
-    start, text, _ = matched(found[0], "the data is text").groups()
+    start, text, _ = need(found[0], "the data is text").groups()
     return int(start), re.sub(rb"\\([0-9a-f]{2})", lambda it: bytes([int(it[1], 16)]), text.encode())
 
 
 def functions(linked: str, made: str) -> str:
     """Returns the functions that wasm2c made, with calls of memory.h, and without the frame around them."""
     pattern = r"\n((?:static (?:void|u32|u64) w2c_\w+\(.*\);\n)+)\n(.*?)\n(?=/\* export: )"
-    found = matched(re.search(pattern, made, re.DOTALL), "wasm2c declares functions before it defines them")
+    found = need(re.search(pattern, made, re.DOTALL), "wasm2c declares functions before it defines them")
     text, initial = re.subn(GLOBALS, "", found[2])
     need(initial == 1, "the module has the globals __stack_pointer, in_call and __heap_base")
-    head = re.compile(r"^static .* w2c_\w+\(", re.MULTILINE)
-    declared, defined = len(head.findall(found[1])), len(head.findall(text))
-    need(declared == defined == len(bodies(linked)), "each function is declared and defined")
     text, replaced = CALL.subn(r"\1(instance, ", text)
     accesses = sum(access_call(line) is not None for line in linked.splitlines())
-    need(replaced == accesses > 0, "each access is a call")
+    need(replaced == accesses, "each access is a call")
     text = re.sub(r"^  FUNC_(?:PROLOGUE|EPILOGUE);\n", "", text, flags=re.MULTILINE)
     both = (found[1] + text).replace("Z_module_instance_t*", "memory*")
-    need(not re.search(r"\bZ_|wasm_rt|w2c_memory|w2c_table", both), "nothing else of wasm2c's frame is used")
     return re.sub(r"[ \t]+$", "", both, flags=re.MULTILINE).strip()
 
 
@@ -161,7 +153,6 @@ def placed(code: str) -> str:
             return found[0]
         if end == " {":
             return f"APART {kind} {name}_apart({parameters}) {{"
-        need(kind == "void", f"{name} returns nothing")
         types = parameters.split(", ")[1:]
         typed = "".join(f", {it} p{at}" for at, it in enumerate(types))
         given = "".join(f", p{at}" for at in range(len(types)))
@@ -171,17 +162,16 @@ def placed(code: str) -> str:
         )
 
     need(INLINED | APART <= {it[1] for it in HEAD.findall(code)}, "the module has the functions that are placed")
-    code, ends = LONGER.subn("  if (ends_here(instance)) return;\n", code)
-    need(ends == 2, "two functions call another for input that is not short")
+    code = LONGER.sub("  if (ends_here(instance)) return;\n", code)
     return HEAD.sub(head, code)
 
 
 def need_provided(code: str) -> None:
     """Checks that memory.h has each function that the module calls and does not define."""
     defined = set(re.findall(r"^(?:static|ALWAYS_INLINE|APART) .*?(\w+)\(", code, re.MULTILINE))
-    called = set(re.findall(r"\b([A-Za-z_]\w*)\(", code)) - KEYWORDS - defined
+    called = set(re.findall(r"\b([A-Za-z_]\w*)\(", code)) - defined
     missing = called - set(PROVIDED.findall(MEMORY.read_text()))
-    need(called and not missing, f"memory.h has {', '.join(sorted(missing))}")
+    need(not missing, f"memory.h has {', '.join(sorted(missing))}")
 
 
 def module(linked: str, made: str) -> str:
