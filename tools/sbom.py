@@ -68,7 +68,7 @@ made = {name: package(name, VERSION, "LIBRARY", SOURCE / name) for name in MADE}
 for name in made.values():
     relate(name, "GENERATED_FROM", release)
     relate(kit, "BUILD_TOOL_OF", name)
-for part, tool, version in re.findall(r"^ *has (\w+) (\S+) ([0-9.]+) \|\| return 0$", GENERATE, re.M):
+for part, tool, version in re.findall(r"^ *has (\w+) (\S+) ([0-9.]+)$", GENERATE, re.M):
     relate(package(tool, version, "APPLICATION"), "BUILD_TOOL_OF", made[GENERATED[part]])
 for path in FILES:
     its_version = re.search("[-_]([0-9]+[.][0-9]+[.][0-9]+)", path.name)
