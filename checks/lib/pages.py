@@ -21,7 +21,7 @@ import examples
 import rows
 import start
 import tap
-from claims import CONTRACTS, FENCE, HEADER, README, read
+from claims import CONTRACTS, FENCE, HEADER, README, C, read
 from rt_source import Unread
 
 TOP = Path(__file__).resolve().parents[2]
@@ -76,6 +76,8 @@ def link_errors(texts: Texts) -> Iterator[str]:
             if re.match(r"[a-z]+:", target):  # other addresses are not followed
                 continue
             to = os.path.normpath(os.path.join(os.path.dirname(page), target)) if target else page
+            if page == C and target:
+                yield f"{page}: it is installed without {target}"
             if not (TOP / to).exists() or anchor and anchor not in anchors(texts.get(to, "")):
                 yield f"{page}: a link leads nowhere: {link}"
 
