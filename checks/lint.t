@@ -3,52 +3,58 @@
 # a planted script.
 # shellcheck source=checks/lib/tap.sh
 . "$(dirname "$0")/lib/tap.sh"
-plan 20
+plan 22
 
 listed() { git ls-files -co --exclude-standard "$@"; }
 # Prints the paths of the scripts in a language, by their first lines.
-# shellcheck disable=SC2033
-scripts() { listed -z | xargs -0 grep -lIE -m 1 -e "$1" 2> "$work/log" | sort; }
+scripts() { git grep -lIE --untracked "$1" | sort; }
 
 shell=$(scripts '^(#! ?/.*\b(ba)?sh|# shellcheck shell=bash)$')
-python=$({ listed '*.py' && scripts '^#!.*python'; } | sort -u)
+python=$({ listed '*.py'; scripts '^#!.*python'; } | sort -u)
 javascript=$(listed '*.js' '*.ts')
+# those that end at the first command that fails
+ending=$(scripts '^(set -e|\. .*/tap\.sh"$|# Sourced after tap\.sh)')
 # install.t plants what the installed test finds
-tested=$(listed "*.t" "*test.sh" | grep -v ^bindings/c/examples/)
+tested=$(listed "*.t" "*test.sh" | sed '/^bindings\/c\/examples\//d')
 # All but the tests of the package for Python have types.
-typed=$(grep -v '^bindings/python/tests/' <<< "$python")
+typed=$(sed '/^bindings\/python\/tests\//d' <<< "$python")
 
 # Each script, by its name or as it can be executed, is among these, and each check can be executed.
 are_known() {
-  diff /dev/null <({ listed '*.js' '*.mjs' '*.py' '*.sh' '*.t' '*.ts' &&
+  { listed '*.js' '*.mjs' '*.py' '*.sh' '*.t' '*.ts'
     git ls-files -s | awk '$1 == 100755 { print $4; next } $4 ~ /^checks\/.*\.t$/ { print $4, "cannot be run" }'; } |
-    grep -vxF -e bindings/c/debian/rules -f <(printf '%s\n' "$@"))
+    sort -u | comm -23 - <(printf '%s\n' bindings/c/debian/rules "$@" | sort) | diff /dev/null -
 }
 
 # bash reads one script alone.
-syntax() {
-  local script failed=0
-  for script in "$@"; do bash -n "$script" || failed=1; done
-  return $failed
-}
+syntax() { for script in "$@"; do bash -n "$script"; done; }
 
 # No line is longer than 120 columns, but of bytes.js, which build.sh makes.
 short() {
   awk 'length($0) > 120 && FILENAME !~ /bytes\.js$/ { print FILENAME ":" FNR; long = 1 } END { exit long }' "$@"
 }
 
+# In a script that ends at the first command that fails, bash goes on after one before '&&', and in a function that is
+# called in a condition, which shellcheck rejects.
+chains() {
+  awk '{ text = $0; gsub(/\047[^\047]*\047|\[\[[^]]* \]\]/, "", text) }
+    text ~ /^ *([A-Za-z_=]+ |[(["{!])[^#]*&&( |$)/ && text !~ /^ *(if|elif|while) / { print FILENAME ":" FNR; all = 1 }
+    END { exit all }' "$@"
+}
+
 # Errors of syntax, of names that are unknown or not used, and of code that is not reached: JavaScript states no types.
 names() {
-  tsc --noEmit --allowJs --checkJs --target es2022 --module es2022 --moduleResolution node --noUnusedLocals \
-    --noFallthroughCasesInSwitch --allowUnreachableCode false "$@" > "$work/names"
-  ! grep -E 'error TS([18][0-9]{3}|18004|230[45]|2448|2451|2552|6053|6133|7027|7029):' "$work/names"
+  { tsc --noEmit --allowJs --checkJs --target es2022 --module es2022 --moduleResolution node --noUnusedLocals \
+    --noFallthroughCasesInSwitch --allowUnreachableCode false "$@" || true; } |
+    sed -nE '/error TS([18][0-9]{3}|18004|230[45]|2448|2451|2552|6053|6133|7027|7029):/p' | diff /dev/null -
 }
 
 # Each kind of error that names has.
 planted_names() {
   local error text
   while read -r error text; do
-    echo "export {}; $text" > "$work/name.js" && rejects "error $error:" names "$work/name.js" || return 1
+    echo "export {}; $text" > "$work/name.js"
+    rejects "error $error:" names "$work/name.js"
   done << 'END'
 TS1181 const [;
 TS2304 missing();
@@ -63,20 +69,21 @@ END
 # Each function that compares and that 'try' runs is run by 'rejects' too, or by a function that it runs, or its result
 # says its number of comparisons.
 planted() {
-  local script text name runs failed=0
+  local script text name its runs failed=0
   for script in "$@"; do
     text=$(sed -e ':a' -e '/\\$/N; s/ *\\\n */ /; ta' "$script")
-    runs=$(sed -nE "s/.*\\<rejects ('[^']*'|\"[^\"]*\"|[^'\" ]+) ([a-z_]+)\\>.*/\\2/p" <<< "$text")
-    runs=$(for name in $runs; do echo "$name" && body "$name" <<< "$text"; done)
+    runs=$(sed -nE "s/.*\\<rejects(_edits)? ('[^']*'|\"[^\"]*\"|[^'\" ]+) ([a-z_]+)\\>.*/\\3/p" <<< "$text")
+    runs=$(for name in $runs; do echo "$name"; body "$name" <<< "$text"; done)
     while read -r name; do
-      body "$name" <<< "$text" | grep -qE '\<(cmp|diff|grep|prints)\>' || continue
-      grep -qw "$name" <<< "$runs" || grep -qE "comparisons?\" $name\\>" <<< "$text" ||
-        { echo "$script: no planted case of $name" && failed=1; }
+      its=$(body "$name" <<< "$text")
+      [[ $its =~ [^a-z_](cmp|diff|grep|prints)[^a-z_] ]] || continue
+      command grep -qw "$name" <<< "$runs" || command grep -qE "comparisons?\" $name\\>" <<< "$text" ||
+        { echo "$script: no planted case of $name"; failed=1; }
     done < <(sed -nE 's/.*\<try ("[^"]*"|[^" ]+) ([a-z_]+)\>.*/\2/p' <<< "$text")
   done
   return $failed
 }
-body() { sed -n "/^$1() [{(]/,/^[})]/p"; }
+body() { sed -n "/^$1() [{(].*[})]\$/{p;q}; /^$1() [{(]/,/^[})]/p"; }
 
 # Tries a linter, a command with options, over scripts, and over a planted script between two of them, which it has to
 # reject with a text.
@@ -93,18 +100,20 @@ try_linter() {
 # shellcheck disable=SC2086 # no path has a blank
 {
   try "each script is in a list" are_known $shell $python $javascript
-  try "Python with types" diff - <({ echo "$typed" && listed 'bindings/python/tests/*.py'; } | sort) \
-    <<< "$python"
   try "a script that is in none" rejects "> checks/lib/tap.sh" are_known ${shell/tap.sh/} $python $javascript
+  try "Python with types" diff - <({ echo "$typed"; listed 'bindings/python/tests/*.py'; } | sort) \
+    <<< "$python"
   try_linter syntax syntax.sh "unexpected end of file" "if true; then" $shell
   try_linter planted compares.sh "no planted case of same" \
     'same() {\n  cmp a b\n}\ntry "one of two" same a' $tested
   try_linter short long.js long.js:1 "$(printf '%121s' .)" $shell $python $javascript
-  has 2 shellcheck && try_linter "shellcheck -x" cd.sh SC2164 "#!/bin/bash\ncd /tmp" $shell
-  has 2 black && try_linter "black --check --line-length 120" layout.py "would reformat" "number  =  1" $python
-  has 2 pyflakes3 && try_linter pyflakes3 unused.py "imported but unused" "import os" $python
-  has 2 mypy && try_linter "mypy --strict --scripts-are-modules --cache-dir $work/mypy" untyped.py \
+  try_linter chains chain.sh chain.sh:2 'set -e\nfalse && true\ntrue' $ending
+  needs=shellcheck try_linter "shellcheck -x -o check-set-e-suppressed" cd.sh SC2310 \
+    "#!/bin/bash\nset -e\nf() { cd /tmp; }\nf || exit" $shell
+  needs=black try_linter "black --check --line-length 120" layout.py "would reformat" "number  =  1" $python
+  needs=pyflakes3 try_linter pyflakes3 unused.py "imported but unused" "import os" $python
+  needs=mypy try_linter "mypy --strict --scripts-are-modules --cache-dir $work/mypy" untyped.py \
     "missing a type annotation" "def same(number): return number" $typed
-  has 3 tsc && try_linter names unused.js TS6133 "export {};\nconst number = 1;" $javascript &&
-    try "each error of names: 14 comparisons" planted_names
+  needs=tsc try_linter names unused.js TS6133 "export {};\nconst number = 1;" $javascript
+  needs=tsc try "each error of names: 14 comparisons" planted_names
 }

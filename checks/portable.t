@@ -4,89 +4,79 @@
 # sanitizers, on other machines in emulators, and against the archive's results.
 # shellcheck source=checks/lib/tap.sh
 . "$(dirname "$0")/lib/tap.sh"
-plan 31
-set -o pipefail
+plan 18 cc python3
 # shellcheck source=checks/lib/proved.sh
 . checks/lib/proved.sh
 # shellcheck source=checks/lib/warnings.sh
 . checks/lib/warnings.sh
-top=$PWD
 tree=$work/tree
-steps=$work/steps
-translate=tools/translate.py
-tests=$top/bindings/c/tests
-parts=("$tests"/{test,verdicts,models,draws,buffer}.c)
-vectors=$top/crates/vectors/data/verdicts.tsv
+tests=bindings/c/tests
+export STEPS=$work/steps
 ulimit -c 0
 
 # ---- the generated file
 
-# What `module.h` is made of is kept for the next tests.
-generated() {
-  STEPS=$steps tools/generate --check source
-}
-
 # A copy of the repository in which one byte of the generated file differs.
 planted_generated() {
   local file=$work/repository/bindings/c/src/module.h
-  mkdir -p "${file%/*}" && sed '0,/ = 127ull;/s// = 126ull;/' bindings/c/src/module.h > "$file" &&
-    TREE=$work/repository STEPS=$steps tools/generate --check source
+  mkdir -p "${file%/*}"
+  sed '0,/ = 127ull;/s// = 126ull;/' bindings/c/src/module.h > "$file"
+  TREE=$work/repository tools/generate --check source
 }
 
-# Both steps of the translation, after an edit of what one of them reads.
-translates_edited() {
-  local file=$work/edited/$1
-  rm -rf "$work/edited" && cp -r "$steps" "$work/edited" && sed -i -E "$2" "$file" || return 0
-  cmp -s "$steps/$1" "$file" && echo "nothing was edited" && return 0
-  python3 "$translate" calls "$work/edited/linked.wat" > "$work/calls.wat" &&
-    python3 "$translate" module "$work/edited/linked.wat" "$work/edited/calls.c" > "$work/module.h"
+# Both steps of the translation.
+translates() {
+  python3 tools/translate.py calls "$1/linked.wat"
+  python3 tools/translate.py module "$1/linked.wat" "$1/calls.c"
 }
 
-rejects_planted() {
-  rejects "translate.py: not so: $1" translates_edited "$2" "$3"
+# After an edit of what one of them reads.
+planted_steps() {
+  rejects_edits "$STEPS" translates "$work/planted" << 'END'
+an access is known: memory.grow|sed -i -E '0,/^ +memory\.copy$/s//&\n memory.grow/' linked.wat
+$__rattle_leave is not recursive|sed -i -E 's/^  \(func \$__rattle_leave .*/&\n call $__rattle_leave/' linked.wat
+at most one frame|sed -i -E '0,/ global\.get \$__stack_pointer$/s//&\n i64.const 1\n i64.add/' linked.wat
+the module has one block of data|sed -i -E 's/^(  \(data .*)\)$/\1\n\1)/' linked.wat
+the own block ends before the texts|sed -i -E 's/^(  \(data .*\(i64.const )[0-9]+/\116/' linked.wat
+the module has the globals|sed -i -E 's/w2c_in_call = 0u/w2c_in_call = 1u/' calls.c
+each access is a call|sed -i -E '0,/\(\*Z_memoryZ_i64_store\).*;$/s///' calls.c
+the module has the functions that are placed|sed -i -E 's/w2c_multihash_head\(/w2c_more(/' calls.c
+memory.h has I64_POPCNT|sed -i -E 's/I64_CTZ\(/I64_POPCNT(/' calls.c
+END
 }
 
-# shellcheck disable=SC2016
-test_translation() {
-  try "an unknown access" rejects_planted "an access is known: memory.grow" linked.wat \
-    '0,/^ +memory\.copy$/s//&\n    memory.grow/'
-  try "a call of itself" rejects_planted '$__rattle_leave is not recursive' linked.wat \
-    's/^  \(func \$__rattle_leave .*/&\n    call $__rattle_leave/'
-  try "another use of the stack" rejects "has at most one frame" translates_edited linked.wat \
-    '0,/^ +global\.get \$__stack_pointer$/s//&\n    i64.const 1\n    i64.add/'
-  try "two blocks of data" rejects_planted "the module has one block of data" linked.wat \
-    's/^(  \(data .*)\)$/\1\n\1)/'
-  try "data below the stack" rejects_planted "the own block ends before the texts" linked.wat \
-    's/^(  \(data .*\(i64.const )[0-9]+/\116/'
-  try "another global" rejects_planted "the module has the globals" calls.c \
-    's/w2c_in_call = 0u/w2c_in_call = 1u/'
-  try "an access less" rejects_planted "each access is a call" calls.c '0,/\(\*Z_memoryZ_i64_store\).*;$/s///'
-  try "a function less" rejects_planted "the module has the functions that are placed" calls.c \
-    's/w2c_multihash_head\(/w2c_more(/'
-  try "a call that memory.h lacks" rejects_planted "memory.h has I64_POPCNT" calls.c 's/I64_CTZ\(/I64_POPCNT(/'
+# What is made on the way is kept for the planted cases.
+test_generated() {
+  try "the generated file" tools/generate --check source
+  try "a wrong byte of it" rejects "module.h differ: " planted_generated
+  try "planted steps: 9 comparisons" planted_steps
 }
 
 # ---- on this machine
 
 # The two files have the same bytes each time, and compile to the object of the repository's files.
 two_files() {
-  tools/portable_c "$tree" && mkdir "$work/a folder" && tools/portable_c "$work/a folder/tree" &&
-    diff -r "$tree" "$work/a folder/tree" && cmp LICENSE "$tree/LICENSE" &&
-    cmp bindings/c/src/README.md "$tree/README.md" && cmp bindings/c/include/multihash.h "$tree/multihash.h" &&
-    cc -O2 "${c_flags[@]}" -c "$tree/multihash.c" -o "$work/one.o" &&
-    cc -O2 "${c_flags[@]}" -I bindings/c/include -c bindings/c/src/multihash.c \
-    -o "$work/apart.o" &&
-    cmp "$work/one.o" "$work/apart.o" && wc -c < "$tree/multihash.c"
+  tools/portable_c "$tree"
+  mkdir "$work/a folder"
+  tools/portable_c "$work/a folder/tree"
+  diff -r "$tree" "$work/a folder/tree"
+  cmp LICENSE "$tree/LICENSE"
+  cmp bindings/c/src/README.md "$tree/README.md"
+  cmp bindings/c/include/multihash.h "$tree/multihash.h"
+  cc -O2 "${c_flags[@]}" -c "$tree/multihash.c" -o "$work/one.o"
+  cc -O2 "${c_flags[@]}" -I bindings/c/include -c bindings/c/src/multihash.c -o "$work/apart.o"
+  cmp "$work/one.o" "$work/apart.o"
 }
 
-# The tests pass over multihash.c of a folder. Results are kept in a folder; the last words are a compiler with options,
-# and RUN runs a program.
+# The tests pass over multihash.c of a folder. What is built is kept in another one; the last words are a compiler with
+# options, and RUN runs a program.
 passes() {
   local from=$1 to=$work/$2 compile=("${@:3}" -std=c11 -I "$1")
-  mkdir "$to" && "${compile[@]}" -c "$from/multihash.c" -o "$to/multihash.o" &&
-    "${compile[@]}" "${parts[@]}" "$to/multihash.o" -o "$to/test.exe" &&
-    ${RUN-} "$to/test.exe" "$vectors" 1 20000 > "$to/shown" && tr -d '\r' < "$to/shown" |
-    grep -x '[1-9][0-9]* lines, drawn: 20000'
+  mkdir "$to"
+  "${compile[@]}" -c "$from/multihash.c" -o "$to/multihash.o"
+  "${compile[@]}" "$tests"/{test,verdicts,models,draws,buffer}.c "$to/multihash.o" -o "$to/test"
+  ${RUN-} "$to/test" crates/vectors/data/verdicts.tsv 1 20000 > "$to/shown"
+  grep -x '[1-9][0-9]* lines, drawn: 20000' "$to/shown"
 }
 
 # Objects for machines without a C library, and for macOS and MSVC's mode of Clang without their headers. All that
@@ -97,101 +87,81 @@ freestanding() {
   for target in arm64-apple-macos11 x86_64-pc-windows-msvc wasm32-unknown-unknown thumbv7em-none-eabi \
     riscv32-unknown-elf; do
     clang --target=$target -ffreestanding -nostdlibinc "${c_flags[@]}" -Wno-conversion -Wno-unused-parameter \
-      -std=c11 -O2 -c "$1/multihash.c" -o "$work/free.o" &&
-      llvm-nm --undefined-only -j "$work/free.o" | sed -E 's/^_*//; /^stack_(chk_fail|chk_guard|pointer)$/d' | sort |
-      paste -sd ' ' | tee -a /dev/stderr | grep -x 'memcpy memmove' || return 1
+      -O2 -c "$1/multihash.c" -o "$work/free.o"
+    llvm-nm --undefined-only -j "$work/free.o" | sed -E 's/^_*//; /^stack_(chk_fail|chk_guard|pointer)$/d' | sort |
+      diff <(printf '%s\n' memcpy memmove) -
   done
 }
 
 # The same of a copy that calls another function on a machine in the middle.
 another_function() {
-  rm -rf "$work/planted" && cp -r "$tree" "$work/planted" && printf '%s\n' '#ifdef __wasm__' 'int another(void);' \
-    'int one_more(void);' 'int one_more(void) { return another(); }' '#endif' >> "$work/planted/multihash.c"
-  freestanding "$work/planted"
+  cp -r "$tree" "$work/another"
+  printf '%s\n' '#ifdef __wasm__' 'int another(void);' 'int one_more(void);' \
+    'int one_more(void) { return another(); }' '#endif' >> "$work/another/multihash.c"
+  freestanding "$work/another"
 }
 
 test_compiler() {
   try "$1" passes "$tree" "$1" "$1" -O2 "${c_flags[@]}"
-  try "$1, sanitizers" passes "$tree" "$1-sanitizers" "$1" -g -O1 -DHEAP -fsanitize=address,undefined \
-    -fno-sanitize-recover=all
+  try "$1, sanitizers" passes "$tree" "$1-sanitizers" "$1" "${sanitize[@]}"
 }
 
 # An object needs three functions of the C library, and has no section that is written.
 keeps_no_state() {
-  local needed written
-  needed=$(nm --undefined-only -f posix "$1" | awk '{ print $1 }' | sort | paste -sd ' ')
-  objdump -h "$1" > "$work/sections" && grep -q ' \.text ' "$work/sections" || return 1
-  written=$(awk '$2 ~ /^\.t?(data|bss)/ && $3 !~ /^0+$/' "$work/sections")
-  echo "needs: $needed, is written: $written"
-  [ -z "$written" ] && ! tr ' ' '\n' <<< "$needed" | grep -vxE 'abort|mem(cpy|move)|_GLOBAL_OFFSET_TABLE_'
+  nm --undefined-only -j "$1" | sed -E '/^(abort|memcpy|memmove|_GLOBAL_OFFSET_TABLE_)$/d' | diff /dev/null -
+  objdump -h "$1" | awk '$2 ~ /^\.t?(data|bss)/ && $3 !~ /^0+$/ { print $2 }' | diff /dev/null -
 }
 
-# An object of each kind of state.
+# An object of each kind of state, and one that needs another function.
 planted_state() {
-  local section state
-  while read -r section state; do
-    printf '%s\nint next(void) { return count++; }\n' "$state" | cc -O2 -xc -c - -o "$work/state.o" &&
-      rejects " $section " keeps_no_state "$work/state.o" || return 1
+  local name state
+  while read -r name state; do
+    printf '%s\nint next(void) { return count++; }\n' "$state" | cc -O2 -xc -c - -o "$work/state.o"
+    rejects "> $name" keeps_no_state "$work/state.o"
   done << 'END'
 .bss static int count;
 .data static int count = 1;
 .tbss static _Thread_local int count;
 .tdata static _Thread_local int count = 1;
+another int another(void); int other(void); int other(void) { return another(); } static int count;
 END
 }
 
-# The tests over a copy that was edited.
-tests_planted() {
-  rm -rf "$work/planted" "$work/planted.built" && cp -r "$tree" "$work/planted" &&
-    sed -i "$1" "$work/planted/multihash.c" && ! cmp "$tree/multihash.c" "$work/planted/multihash.c" || return 0
-  passes "$work/planted" planted.built cc -O1
+# The tests over a copy that was edited: an access after an input, after an output, unchecked ones before an input and
+# after it, and a mask of digits.
+planted_source() {
+  rejects_edits "$tree" passes "$work/planted" planted/built cc -O1 << 'END'
+Aborted|sed -i 's/\(w2c_multihash_head(.*bytes_length\))/\1 + 1)/' multihash.c
+Aborted|sed -i 's/\(ADDRESS(OUT), out_length\))/\1 + 1)/' multihash.c
+Segm|sed -i '/ multihash_from_bytes/,/^}/s/= ANY_INPUT/= bytes_length \&\& bytes[-1] == 1/' multihash.c
+Segm|sed -i '/ multihash_from_bytes/,/^}/s/= ANY_INPUT/= bytes_length \&\& bytes[bytes_length] == 1/' multihash.c
+not so: |sed -i 's/35747867511423103ull/35747867511423102ull/' multihash.c
+END
 }
 
 test_here() {
-  local at
   try "two files: 5 comparisons" two_files
   test_compiler cc
-  with_all 2 && has 2 clang && test_compiler clang
-  has 2 clang llvm-nm && try "objects without a C library" freestanding "$tree" &&
-    try "one of them that needs another function" rejects "another memcpy" another_function
-  has 2 nm objdump && try "what the object needs: 2 comparisons" keeps_no_state "$work/cc/multihash.o" &&
-    try "objects with state" planted_state
-  try "an access after an input" rejects "Aborted" tests_planted 's/\(w2c_multihash_head(.*bytes_length\))/\1 + 1)/'
-  try "an access after an output" rejects "Aborted" tests_planted 's/\(ADDRESS(OUT), out_length\))/\1 + 1)/'
-  for at in -1 bytes_length; do
-    try "an unchecked access at $at" rejects "Segmentation fault" tests_planted \
-      "/^multihash_decoded multihash_from_bytes/,/^}/s/= ANY_INPUT/= bytes_length \&\& bytes[$at] == 1/"
-  done
-  try "a wrong mask of digits: another result" rejects "not so: " tests_planted \
-    's/35747867511423103ull/35747867511423102ull/'
+  needs="all clang" test_compiler clang
+  needs="clang llvm-nm" try "objects without a C library: 5 comparisons" freestanding "$tree"
+  needs="clang llvm-nm" try "one of them that needs another function" rejects "> another" another_function
+  needs="nm objdump" try "what the object needs: 2 comparisons" keeps_no_state "$work/cc/multihash.o"
+  needs="nm objdump" try "objects with state: 14 comparisons" planted_state
+  try "planted source: 5 comparisons" planted_source
 }
 
 # ---- other machines
 
 # The tests on a machine, by a compiler and a command that runs its programs.
 on_machine() {
-  local name=$1 compiler=$2-gcc
   local -x RUN=$3
-  has 1 "$compiler" "$RUN" && try "$name" passes "$tree" "$name" "$compiler" -O2 "${c_flags[@]}" -static
+  needs="$needs $2-gcc $3" try "$1" passes "$tree" "$1" "$2-gcc" -O2 "${c_flags[@]}" -static
 }
 
-# Wine keeps its files below the folder of this test; its server ends with it.
-on_windows() {
-  local -x WINEPREFIX=$work/wine WINEDEBUG=-all
-  on_machine Windows x86_64-w64-mingw32 wine
-  if [ -d "$WINEPREFIX" ]; then wineserver -k; fi
-}
-
-has 31 cc python3 || exit 0
-if has 11 rt wasm2c=1.0.32 wasm2wat=1.0.32 wat2wasm=1.0.32; then
-  try "the generated file" generated
-  try "a wrong byte of it" rejects "module.h differ: " planted_generated
-  test_translation
-fi
+needs="rt wasm2c=1.0.32 wasm2wat=1.0.32 wat2wasm=1.0.32" test_generated
 test_here
-has 1 clang && try "fuzzing" bindings/c/fuzz.sh
-with_all 1 && on_machine aarch64 aarch64-linux-gnu qemu-aarch64
-with_all 1 && on_machine riscv64 riscv64-linux-gnu qemu-riscv64
+needs=clang try "fuzzing" bindings/c/fuzz.sh
+needs=all on_machine aarch64 aarch64-linux-gnu qemu-aarch64
+needs=all on_machine riscv64 riscv64-linux-gnu qemu-riscv64
 on_machine "armhf, 32 bits" arm-linux-gnueabihf qemu-arm
 on_machine "s390x, big-endian" s390x-linux-gnu qemu-s390x
-on_windows

@@ -8,7 +8,7 @@ plan 2
 # Compares the status of 'rt ci' and the totals that it printed: its own, and the number of the tests of each crate that
 # has some.
 has_totals() {
-  diff - <(echo "status $1" && tail -n 1 "$2" && awk '/^test result: ok\. / { tests = $4 }
+  diff - <(echo "status $1"; tail -n 1 "$2"; awk '/^test result: ok\. / { tests = $4 }
     /^rt: [a-z_]+: its tests passed$/ { print substr($2, 1, length($2) - 1), tests }' "$2" | sort) << 'LIST'
 status 0
 12 passed, 0 failed
@@ -23,15 +23,16 @@ LIST
 # Another status, and an output that lacks one of the lines with totals.
 planted() {
   local line
-  rejects "> status 1" has_totals 1 "$1" || return
+  rejects "> status 1" has_totals 1 "$1"
   while IFS= read -r line; do
-    grep -vxF -- "$line" "$1" > "$work/planted" && rejects "< " has_totals 0 "$work/planted" || return
-  done < <(grep -E '^rt: .*: its tests passed$|passed, 0 failed$' "$1")
+    command grep -vxF -- "$line" "$1" > "$work/planted"
+    rejects "< " has_totals 0 "$work/planted"
+  done < <(command grep -E '^rt: .*: its tests passed$|passed, 0 failed$' "$1")
 }
 
-rt ci > "$work/out" 2>&1 < /dev/null
-status=$?
+status=0
+rt ci > "$work/out" 2>&1 < /dev/null || status=$?
 try "rt ci: 1 comparison" has_totals $status "$work/out"
 # for .ci/run: the programs are those of this run
 if [ $failed != 0 ]; then sed 's/^/# /' "$work/out" >&2; elif [ "${PROVED-}" ]; then touch "$PROVED/built"; fi
-try "another status or total: 21 comparisons" planted "$work/out"
+try "another status or total: 14 comparisons" planted "$work/out"

@@ -3,9 +3,8 @@
 # that uses upstream's package, and with serde; and their build script.
 # shellcheck source=checks/lib/tap.sh
 . "$(dirname "$0")/lib/tap.sh"
-plan 8
-set -o pipefail
-archive=$PWD/bindings/c/prebuilt/$(uname -m)/libmultihash_c.a
+plan 9 cc cargo rustc=1.82+ /usr/share/cargo/registry/{cc-1,pkg-config-0.3,serde_json-1}.*
+archive=bindings/c/prebuilt/$(uname -m)/libmultihash_c.a
 version=$(sed -n 's/^#define MULTIHASH_VERSION "\([0-9.]*\)"$/\1/p' bindings/c/include/multihash.h)
 
 # Runs a command of Cargo for the packages for Rust; what is set comes first.
@@ -16,31 +15,40 @@ in_crate() {
 
 # The tests pass with and without features, the pages have no warnings, and need no library on docs.rs.
 rust_binding() {
-  in_crate DOCS_RS=1 MULTIHASH_C_LIB_DIR=none cargo doc --no-deps && in_crate cargo test --no-default-features &&
-    in_crate cargo test --no-default-features --features alloc && in_crate cargo test
+  in_crate DOCS_RS=1 MULTIHASH_C_LIB_DIR=none cargo doc --no-deps
+  in_crate cargo test --no-default-features
+  in_crate cargo test --no-default-features --features alloc
+  in_crate cargo test
 }
 
-# A clone without archives has the portable source, each file of which is watched. Another compiler can build it too,
-# also for a target without a C library, for which Rust's core is not installed here. Another system, byte order or
-# width of addresses than the archive of the processor is for gets it too.
+# A clone without archives has the portable source, each file of which is watched, and uses the compiler that CC names.
 rust_source() {
-  local c=$work/repository/bindings/c target flags file
-  mv "$c/prebuilt" "$work/kept" && in_crate cargo test &&
-    [[ $(cat "$work"/target/debug/build/multihash_c-*/output) = *'"-O2"'*'"-std=c11"'* ]] || return 1
+  local c=$work/repository/bindings/c file
+  mv "$c/prebuilt" "$work/kept"
+  in_crate cargo test
+  [[ $(cat "$work"/target/debug/build/multihash_c-*/output) = *'"-O2"'*'"-std=c11"'* ]]
   for file in "$c"/src/*.[ch] "$c"/include/*; do
-    cp -p "$file" "$work/file" && echo '#error planted' >> "$file" && rejects "#error planted" in_crate cargo build &&
-      cp -p "$work/file" "$file" || return 1
+    cp -p "$file" "$work/file"
+    echo '#error planted' >> "$file"
+    rejects "#error planted" in_crate cargo build
+    cp -p "$work/file" "$file"
   done
-  in_crate cargo clean -p multihash_c && rejects "no-compiler" in_crate CC=no-compiler cargo build &&
-    mv "$work/kept" "$c/prebuilt" || return 1
-  [ -n "$(type -P clang)" ] || return 0
+  in_crate cargo clean -p multihash_c
+  rejects "no-compiler" in_crate CC=no-compiler cargo build
+  mv "$work/kept" "$c/prebuilt"
+}
+
+# Another compiler builds it for targets without a C library, and where the system, the byte order or the width of
+# addresses is another than the archive of the processor is for. Rust's core for these is not installed here.
+rust_targets() {
+  local target flags
   for target in thumbv7em-none-eabi wasm32-unknown-unknown x86_64-unknown-none \
     aarch64_be-unknown-linux-gnu x86_64-unknown-linux-gnux32; do
     flags=
     [[ $target != *-linux-* ]] || flags=-ffreestanding # here it has no headers of a C library
     rejects "can't find crate for \`core\`" in_crate CC=clang AR=ar CFLAGS=$flags cargo build -p multihash_c \
-      --no-default-features --target "$target" &&
-      [ -n "$(find "$work/target/$target" -name '*multihash.o')" ] || return 1
+      --no-default-features --target "$target"
+    find "$work/target/$target" -name '*multihash.o' | grep .
   done
 }
 
@@ -49,23 +57,26 @@ rust_source() {
 rust_packed() {
   local packed=$work/packed package
   echo 'compile_error!("an earlier copy");' >> "$work/repository/bindings/rust/multihash/src/lib.rs"
-  bindings/rust/pack.sh "$work" && mkdir "$packed" || return 1
+  bindings/rust/pack.sh "$work"
+  mkdir "$packed"
   for package in multihash-0.19.5 "multihash_c-$version"; do
-    tar xf "$work/target/package/$package.crate" -C "$packed" && cmp LICENSE "$packed/$package/LICENSE" || return 1
+    tar xf "$work/target/package/$package.crate" -C "$packed"
+    cmp LICENSE "$packed/$package/LICENSE"
   done
   printf '[workspace]\n[patch.crates-io]\nmultihash_c.path = "../multihash_c-%s"\n' "$version" \
     >> "$packed/multihash-0.19.5/Cargo.toml"
-  diff -r bindings/c/prebuilt "$packed/multihash_c-$version/prebuilt" &&
-    in_crate cargo test --manifest-path "$packed/multihash-0.19.5/Cargo.toml" &&
-    rm -r "$packed/multihash_c-$version/prebuilt" &&
-    in_crate cargo test --manifest-path "$packed/multihash-0.19.5/Cargo.toml"
+  diff -r bindings/c/prebuilt "$packed/multihash_c-$version/prebuilt"
+  in_crate cargo test --manifest-path "$packed/multihash-0.19.5/Cargo.toml"
+  rm -r "$packed/multihash_c-$version/prebuilt"
+  in_crate cargo test --manifest-path "$packed/multihash-0.19.5/Cargo.toml"
 }
 
 # Writes a program over a library, both of which name upstream's package; the program has the line of the pages too.
 write_program() {
   local at=$work/repository/bindings/rust/program
-  mkdir -p "$at"/{src,library/src} && cd "$at" || return 1
-  { block_of ../multihash/README.md toml | sed 's,path/of/bindings/rust,..,' && printf '%s\n' '[workspace]' \
+  mkdir -p "$at"/{src,library/src}
+  cd "$at"
+  { block_of ../multihash/README.md toml | sed 's,path/of/bindings/rust,..,'; printf '%s\n' '[workspace]' \
     '[package]' 'name = "program"' 'edition = "2021"' '[dependencies]' 'library.path = "library"' \
     'multihash = "0.19"'; } > Cargo.toml
   printf '%s\n' '[package]' 'name = "library"' 'edition = "2021"' '[features]' 'default = ["std"]' \
@@ -87,22 +98,24 @@ END
 # absent feature is an error, and does not undo this.
 rust_switch() {
   local feature
-  (write_program) && in_crate cargo run --manifest-path program/Cargo.toml &&
-    in_crate cargo build --manifest-path program/library/Cargo.toml --no-default-features || return 1
+  (write_program)
+  in_crate cargo run --manifest-path program/Cargo.toml
+  in_crate cargo build --manifest-path program/library/Cargo.toml --no-default-features
   for feature in scale-codec arb; do
-    rejects "see its README" in_crate cargo build -p multihash --features "$feature" || return 1
+    rejects "see its README" in_crate cargo build -p multihash --features "$feature"
   done
 }
 
 rust_serde() {
-  in_crate cargo test --features serde --test values &&
-    in_crate cargo build -p multihash --no-default-features --features serde-codec &&
-    in_crate cargo build --manifest-path program/library/Cargo.toml --features serde
+  in_crate cargo test --features serde --test values
+  in_crate cargo build -p multihash --no-default-features --features serde-codec
+  in_crate cargo build --manifest-path program/library/Cargo.toml --features serde
 }
 
 rust_lints() {
-  in_crate cargo clippy --all-targets && in_crate cargo clippy --no-default-features --all-targets &&
-    in_crate cargo clippy --no-default-features --features alloc
+  in_crate cargo clippy --all-targets
+  in_crate cargo clippy --no-default-features --all-targets
+  in_crate cargo clippy --no-default-features --features alloc
 }
 
 # Each warning of a command is an error: a line is planted in a file.
@@ -110,9 +123,11 @@ planted_warnings() {
   local file command text line
   while IFS=, read -r file command text line; do
     file=$work/repository/bindings/rust/multihash/$file
+    cp "$file" "$work/file"
+    echo "$line" >> "$file"
     # shellcheck disable=SC2086 # words
-    cp "$file" "$work/file" && echo "$line" >> "$file" && rejects "$text" in_crate cargo $command &&
-      cp "$work/file" "$file" || return 1
+    rejects "$text" in_crate cargo $command
+    cp "$work/file" "$file"
   done << 'END'
 src/lib.rs,build,never used,fn planted() {}
 src/lib.rs,doc --no-deps,unresolved link,/** [gone] */ pub mod planted {}
@@ -124,18 +139,21 @@ END
 # library that pkg-config does not find.
 rust_build() {
   local directory=$work/$'a \xff directory'
-  mkdir -p "$directory" && cp "$archive" "$directory" &&
-    in_crate MULTIHASH_C_LIB_DIR="$directory" cargo test -p multihash_c && rm "$directory"/* &&
-    rejects "libmultihash_c.a: No such file" in_crate MULTIHASH_C_LIB_DIR="$directory" cargo build &&
-    rejects "not an absolute path" in_crate MULTIHASH_C_SYSTEM=1 MULTIHASH_C_LIB_DIR=prebuilt cargo build &&
-    rejects "multihash_c >= 1.0" in_crate MULTIHASH_C_SYSTEM=1 PKG_CONFIG_LIBDIR="$work/none" cargo build
+  mkdir "$directory"
+  cp "$archive" "$directory"
+  in_crate MULTIHASH_C_LIB_DIR="$directory" cargo test -p multihash_c
+  rm "$directory"/*
+  rejects "libmultihash_c.a: No such file" in_crate MULTIHASH_C_LIB_DIR="$directory" cargo build
+  rejects "not an absolute path" in_crate MULTIHASH_C_SYSTEM=1 MULTIHASH_C_LIB_DIR=prebuilt cargo build
+  rejects "multihash_c >= 1.0" in_crate MULTIHASH_C_SYSTEM=1 PKG_CONFIG_LIBDIR="$work/none" cargo build
 }
 
-has 8 cc cargo rustc=1.82+ "/usr/share/cargo/registry/"{cc-1,pkg-config-0.3,serde_json-1}".*" || exit 0
 try "the tests" rust_binding
-try "the portable source" rust_source
+try "the portable source: 5 comparisons" rust_source
+needs=clang try "the portable source for other targets: 10 comparisons" rust_targets
 try "the packed packages: 3 comparisons" rust_packed
-has 1 "$archive" && try "the build script" rust_build
-try "the switch from upstream's package" rust_switch
+needs=$archive try "the build script: 3 comparisons" rust_build
+try "the switch from upstream's package: 2 comparisons" rust_switch
 try serde rust_serde
-has 2 cargo-clippy && try lints rust_lints && try "a warning of each command: 3 comparisons" planted_warnings
+needs=cargo-clippy try lints rust_lints
+needs=cargo-clippy try "a warning of each command: 3 comparisons" planted_warnings

@@ -18,9 +18,13 @@ expect() {
   echo "$result $number - ${text//'#'/}"
 }
 
-echo 1..51
+echo 1..64
 expect "not ok 1 - a\nok 2 - b" ". checks/lib/tap.sh; try a false; try b true"
 expect "not ok 1 - a" ". checks/lib/tap.sh; try a no_such_command"
+expect "not ok 1 - a\n# why" ". checks/lib/tap.sh; try a sh -c 'echo why >&2; exit 1' 2>&1"
+expect "not ok 1 - a: 1 comparison\n# it made 0" ". checks/lib/tap.sh; try 'a: 1 comparison' true 2>&1"
+expect "ok 1 - a" "mkdir t; (export TMPDIR=\$PWD/t; . checks/lib/tap.sh; try a true); ls t"
+expect "ok 1 - a" "cd checks; . lib/tap.sh; [ \$LC_ALL = C.UTF-8 ]; try a ls checks"
 expect "ok 1 - a b" ". checks/lib/tap.sh; try \$'a\\nb#' true"
 expect "not ok 1 - a" ". checks/lib/tap.sh; try a rejects a echo a"
 expect "not ok 1 - a" ". checks/lib/tap.sh; try a rejects 'a text' false"
@@ -30,20 +34,26 @@ expect "ok 1 - a" ". checks/lib/tap.sh; try a prints b echo abc"
 expect "not ok 1 - a" ". checks/lib/tap.sh; try a prints b sh -c 'echo abc; exit 1'"
 expect "not ok 1 - a" ". checks/lib/tap.sh; try a prints a.c echo abc"
 expect "ok 1 - a\nnot ok 2 - a" ". checks/lib/tap.sh; try a true; try a true"
-text='. checks/lib/tap.sh; all() { cmp .ci/run .ci/run && (diff .ci .ci) && rejects none ls none; }
+# what fails in the middle, where bash by itself goes on
+# shellcheck disable=SC2016 # the check expands it
+for text in 'false; true' 'a=$(false; echo)' 'false | true' '(false; true); true' 'rejects b echo a; true' \
+  'rejects a c; true'; do
+  expect "not ok 1 - a" ". checks/lib/tap.sh; c() { false; echo a; false; }; d() { $text; }; try a d"
+done
+expect 1 "(. checks/lib/tap.sh; false; true); echo \$?"
+text='. checks/lib/tap.sh; all() { cmp .ci/run .ci/run; (diff .ci .ci); rejects none ls none; }
   try b cmp .ci/run .ci/run; try "a: N comparisons" all'
 expect "ok 1 - b\nok 2 - a: 3 comparisons" "${text/N/3}"
 expect "ok 1 - b\nnot ok 2 - a: 2 comparisons" "${text/N/2}"
 expect "ok 1 - b\nnot ok 2 - a: 4 comparisons" "${text/N/4}"
-expect "ok 1 # SKIP why" ". checks/lib/tap.sh; leave_out why 1"
-expect "ok 1 # SKIP no_such_command is not installed" \
-  ". checks/lib/tap.sh; has 1 sh no_such_command && try a true"
-expect "ok 1 # SKIP bash=1.0 is not installed" ". checks/lib/tap.sh; has 1 bash=1.0 && try a true"
-expect "ok 1 # SKIP bash=10+ is not installed" ". checks/lib/tap.sh; has 1 bash=10+ && try a true"
-expect "ok 1 - a" ". checks/lib/tap.sh; has 1 bash=1.0+ '/bin/s*' && try a true"
+for text in no_such_tool bash=1.0 bash=10+ /bin/no_such_* all; do
+  expect "ok 1 # SKIP $text is not there\nok 2 - a" ". checks/lib/tap.sh; needs='sh $text' try a true; try a true"
+done
+expect "ok 1 - a" ". checks/lib/tap.sh; ALL=1; needs='bash=1.0+ bash=${BASH_VERSION%%(*} /bin/s* all' try a true"
+expect "1..1\nok 1 # SKIP b is not there\n0" "(. checks/lib/tap.sh; plan 1 b sh; try a true); echo \$?"
 expect "1..2\nok 1 - a\nnot ok 2 - b\n1" "(. checks/lib/tap.sh; plan 2; try a true; try b false); echo \$?"
 expect "1..2\nok 1 - a\n1" "(. checks/lib/tap.sh; plan 2; try a true); echo \$?"
-expect "1..1\nok 1 # SKIP why\n0" "(. checks/lib/tap.sh; plan 1; leave_out why 1; false); echo \$?"
+expect "1..1\nok 1 # SKIP why\n1" "(. checks/lib/tap.sh; plan 1; leave_out why; false); echo \$?"
 
 # The same of tap.py.
 report() { echo "python3 -c 'import sys, tap; sys.exit(tap.report([$1]))'; echo \$?"; }

@@ -27,7 +27,7 @@ for number, line in enumerate(pathlib.Path(sys.argv[1]).read_text("ascii").split
     seed = bytes([min(int(size), 255)]) + bytes.fromhex(data.strip("-"))
     pathlib.Path(sys.argv[2], str(number)).write_bytes(seed)
 END
-  (cd "$work/seeds" && python3 -m zipfile -c "$(readlink -f "$out")/multihash_fuzzer_seed_corpus.zip" .)
+  (cd "$work/seeds"; python3 -m zipfile -c "$(readlink -f "$out")/multihash_fuzzer_seed_corpus.zip" .)
 }
 
 if [ -n "${OUT-}" ]; then
@@ -37,18 +37,21 @@ fi
 work=$(mktemp -d)
 trap 'rm -rf "$work"' EXIT
 
-# Runs the target that was built in a folder: the seeds, and then drawn inputs up to a number.
+# Runs the target that was built in a folder: the seeds, and then drawn inputs up to a number. The log says how it ends.
 fuzz() {
-  mkdir -p "$work/$1/drawn" && timeout 300 "$work/$1/multihash_fuzzer" -seed=1 -runs="$2" -len_control=0 -max_len=600 \
-    -artifact_prefix="$work/" "$work/$1/drawn" "$work/$1/seeds" 2> "$work/log"
+  mkdir -p "$work/$1/drawn"
+  timeout 300 "$work/$1/multihash_fuzzer" -seed=1 -runs="$2" -len_control=0 -max_len=600 -artifact_prefix="$work/" \
+    "$work/$1/drawn" "$work/$1/seeds" 2>&1 | tee "$work/log" || true
 }
 
 build "$here/src" "$work/plain"
-fuzz plain 20000 || { cat "$work/log"; exit 1; }
+fuzz plain 20000
 grep -x 'Done 20000 runs in .*' "$work/log"
 
 cp -r "$here/src" "$work/source"
 sed -i '/w2c_multihash_from_bytes(/s/bytes_length)/bytes_length - (bytes_length > 281))/' "$work/source/multihash.c"
 build "$work/source" "$work/planted"
-fuzz planted 0 || { echo "the test vectors find what is planted, or it cannot run"; exit 1; }
-! fuzz planted 20000 && grep -F -m 1 "not so: same(multihash_from_bytes(bytes, length), " "$work/log"
+fuzz planted 0
+grep -x 'Done .* runs in .*' "$work/log"
+fuzz planted 20000
+grep -F -m 1 "not so: same(multihash_from_bytes(bytes, length), " "$work/log"

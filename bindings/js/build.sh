@@ -25,8 +25,9 @@ lower_wasm() {
 # memory. Locals that are no parameters have numbers by their first use. `unreachable` is left out after a loop that
 # ends in a jump.
 instructions() {
-  cp "$1" "$work/stripped.wasm" && wasm-strip "$work/stripped.wasm" &&
-    wasm2wat --enable-memory64 "$work/stripped.wasm" | awk '
+  cp "$1" "$work/stripped.wasm"
+  wasm-strip "$work/stripped.wasm"
+  wasm2wat --enable-memory64 "$work/stripped.wasm" | awk '
     { gsub(/\(;[^;]*;\)/, ""); gsub(/[()]/, " ") }
     $1 == "type" || $1 == "local" || $1 == "i32.wrap_i64" { next }
     $1 == "unreachable" && last == "end" && closed == "loop" && before ~ /^br [0-9]+$/ { next }
@@ -55,16 +56,19 @@ wraps() {
 # address, or a length of a copy. As both are valid, these stand at such operands.
 differs_in_wraps() {
   local operands linked lowered
-  wasm2wat --enable-memory64 "$1" > "$work/linked.wat" && wasm2wat "$2" > "$work/lowered.wat" || return 1
-  instructions "$1" > "$work/linked" && instructions "$2" > "$work/lowered" && diff "$work/linked" "$work/lowered" ||
-    return 1
+  wasm2wat --enable-memory64 "$1" > "$work/linked.wat"
+  wasm2wat "$2" > "$work/lowered.wat"
+  instructions "$1" > "$work/linked"
+  instructions "$2" > "$work/lowered"
+  diff "$work/linked" "$work/lowered"
   operands=$(awk '/\.(load|store)/ { n++ } /memory\.copy/ { n += 3 } /memory\.fill/ { n += 2 } END { print n + 0 }' \
     "$work/linked")
   linked=$(wraps "$work/linked.wat")
   lowered=$(wraps "$work/lowered.wat")
   echo "$(wc -l < "$work/linked") instructions, and $lowered times i32.wrap_i64: $linked," \
     "and $operands for addresses and lengths"
-  [ "$operands" -gt 0 ] && [ $((linked + operands)) = "$lowered" ]
+  [ "$operands" -gt 0 ]
+  [ $((linked + operands)) = "$lowered" ]
 }
 
 build_bytes() {
@@ -82,9 +86,11 @@ build_page() {
 }
 
 build_into() {
-  "$top/tools/link_wasm" "$work/linked.wasm" && lower_wasm "$work/linked.wasm" "$1/multihash.wasm" &&
-    build_bytes "$1/multihash.wasm" > "$1/bytes.js" &&
-    build_page "$1/multihash.wasm" > "$work/demo.html" && cp "$work/demo.html" "$1"
+  "$top/tools/link_wasm" "$work/linked.wasm"
+  lower_wasm "$work/linked.wasm" "$1/multihash.wasm"
+  build_bytes "$1/multihash.wasm" > "$1/bytes.js"
+  build_page "$1/multihash.wasm" > "$work/demo.html"
+  cp "$work/demo.html" "$1"
 }
 
 case ${1-} in

@@ -9,7 +9,6 @@ here=$(dirname "$(readlink -f "${BASH_SOURCE[0]}")")
 # shellcheck source=checks/lib/tap.sh
 . "$here/../../checks/lib/tap.sh"
 plan 22
-set -o pipefail
 # shellcheck source=checks/lib/proved.sh
 . checks/lib/proved.sh
 top=$PWD
@@ -19,8 +18,7 @@ vectors=$top/crates/vectors/data
 part() {
   local name=$1 tools=$2
   shift 2
-  # shellcheck disable=SC2086
-  has 1 $tools && try "$name" "$@"
+  needs=$tools try "$name" "$@"
 }
 
 in_node() {
@@ -30,9 +28,10 @@ in_node() {
 
 # The tests find a result that differs, and that there are no vectors.
 planted() {
-  sed '77s/unexpected_eof\t-$/overflow\t-/' "$vectors/verdicts.tsv" > "$work/planted" &&
-    rejects " 1 wrong" in_node "$work/planted" &&
-    head -n 1 "$vectors/verdicts.tsv" > "$work/planted" && rejects " 1 wrong" in_node "$work/planted"
+  sed '77s/unexpected_eof\t-$/overflow\t-/' "$vectors/verdicts.tsv" > "$work/planted"
+  rejects " 1 wrong" in_node "$work/planted"
+  head -n 1 "$vectors/verdicts.tsv" > "$work/planted"
+  rejects " 1 wrong" in_node "$work/planted"
 }
 
 # In an engine without WebAssembly, without BigInt, or without bulk memory operations, the import throws an error that
@@ -44,7 +43,7 @@ old_engine() {
     node "$option" --input-type=module -e "
       $lack;
       await import('$here/$1.js').then(() => process.exit(1), (error) => console.log(error.message));" |
-      grep 'WebAssembly.*BigInt.*Node.js 20.16, Chrome 89, Edge 89, Firefox 90 and Safari 15' || return 1
+      grep 'WebAssembly.*BigInt.*Node.js 20.16, Chrome 89, Edge 89, Firefox 90 and Safari 15'
   done
 }
 
@@ -52,51 +51,55 @@ old_engine() {
 old_module() {
   local others=(--disable-mutable-globals --disable-saturating-float-to-int --disable-sign-extension --disable-simd
     --disable-multi-value --disable-reference-types)
-  wasm-validate "${others[@]}" "$here/multihash.wasm" &&
-    rejects "invalid section code: 12" wasm-validate "${others[@]}" --disable-bulk-memory "$here/multihash.wasm"
+  wasm-validate "${others[@]}" "$here/multihash.wasm"
+  rejects "invalid section code: 12" wasm-validate "${others[@]}" --disable-bulk-memory "$here/multihash.wasm"
 }
 
 # What is timed beside the package gives the same results.
 plain() {
-  node "$here/beside_plain.js" --check &&
-    sed "s|'./index.js'|'$here/index.js'|; s/'0')/'1')/" "$here/beside_plain.js" > "$work/plain.mjs" &&
-    rejects "in plain JavaScript" node "$work/plain.mjs" --check
+  node "$here/beside_plain.js" --check
+  sed "s|'./index.js'|'$here/index.js'|; s/'0')/'1')/" "$here/beside_plain.js" > "$work/plain.mjs"
+  rejects "in plain JavaScript" node "$work/plain.mjs" --check
 }
 
 # What is packed, unpacked elsewhere, runs the script of README.md, and is imported from CommonJS.
 packed_script() {
   local at=$work/elsewhere
-  (cd "$here" && npm pack --silent --pack-destination "$work") &&
-    mkdir -p "$at/node_modules/verified-multihash" &&
-    tar xzf "$work"/verified-multihash-*.tgz --strip-components 1 -C "$at/node_modules/verified-multihash" ||
-    return 1
+  (cd "$here"; npm pack --silent --pack-destination "$work")
+  mkdir -p "$at/node_modules/verified-multihash"
+  tar xzf "$work"/verified-multihash-*.tgz --strip-components 1 -C "$at/node_modules/verified-multihash"
   block_of "$here/README.md" js > "$at/script.mjs"
   block_of "$here/README.md" html > "$at/page.html"
-  (cd "$at" && node script.mjs > out 2> err) || return 1
-  cmp "$top/LICENSE" "$at/node_modules/verified-multihash/LICENSE" &&
-    diff "$at/out" "$top/crates/mh_show/stdout" && grep -x 'invalid_size 34' "$at/err" &&
-    (cd "$at" && node --no-warnings --input-type=commonjs -e "
-      if (process.features.require_module) require('verified-multihash/inline').decode(Uint8Array.of(1, 0));
-      const compiled = new \
-        WebAssembly.Module(require('fs').readFileSync(require.resolve('verified-multihash/multihash.wasm')));
-      import('verified-multihash/module').then((found) => console.log(found.connect(compiled), \
-        found.decode(Uint8Array.of(2, 0)).code));
-      import('verified-multihash').then((found) => console.log(found.decode(Uint8Array.of(1, 0)).code));" > out) &&
-    sort "$at/out" | paste -sd ' ' | grep -x '1 undefined 2'
+  cd "$at"
+  node script.mjs > out 2> err
+  cmp "$top/LICENSE" node_modules/verified-multihash/LICENSE
+  diff out "$top/crates/mh_show/stdout"
+  grep -x 'invalid_size 34' err
+  node --no-warnings --input-type=commonjs -e "
+    if (process.features.require_module) require('verified-multihash/inline').decode(Uint8Array.of(1, 0));
+    const compiled = new \
+      WebAssembly.Module(require('fs').readFileSync(require.resolve('verified-multihash/multihash.wasm')));
+    import('verified-multihash/module').then((found) => console.log(found.connect(compiled), \
+      found.decode(Uint8Array.of(2, 0)).code));
+    import('verified-multihash').then((found) => console.log(found.decode(Uint8Array.of(1, 0)).code));" |
+    sort | paste -sd ' ' | grep -x '1 undefined 2'
 }
 
 # The types of what is packed, which need none of pages.
 packed_types() {
   local strict=(tsc --noEmit --strict --target es2022 --module nodenext --moduleResolution nodenext)
-  cp "$here/test/example.ts" "$work/elsewhere" && echo '{ "type": "module" }' > "$work/elsewhere/package.json" &&
-    cd "$work/elsewhere" && "${strict[@]}" --lib es2022 node_modules/verified-multihash/module.d.ts &&
-    "${strict[@]}" --lib es2022,dom,dom.iterable example.ts
+  cd "$work/elsewhere"
+  cp "$here/test/example.ts" .
+  echo '{ "type": "module" }' > package.json
+  "${strict[@]}" --lib es2022 node_modules/verified-multihash/module.d.ts
+  "${strict[@]}" --lib es2022,dom,dom.iterable example.ts
 }
 
 # In a browser, pages show texts: each line of standard input is a page, and texts after tabs.
 shows() {
-  mkdir -p "$work/frames" && cat > "$work/frames/frames" &&
-    node "$here/test/browser.js" "$1" 'test/page.html?frames' "$here" "$work/frames" "$work/elsewhere"
+  mkdir -p "$work/frames"
+  cat > "$work/frames/frames"
+  node "$here/test/browser.js" "$1" 'test/page.html?frames' "$here" "$work/frames" "$work/elsewhere"
 }
 
 # The page of README.md, over the unpacked package.

@@ -9,7 +9,8 @@ set -euo pipefail
 umask 022
 here=$(dirname "$(readlink -f "$0")")
 python=${PYTHON:-/usr/bin/python3}
-mkdir -p "$1" && out=$(readlink -f "$1")
+mkdir -p "$1"
+out=$(readlink -f "$1")
 work=$(mktemp -d)
 trap 'rm -rf "$work"' EXIT
 export SOURCE_DATE_EPOCH=${SOURCE_DATE_EPOCH:-315532800} CFLAGS="${CFLAGS-} -g0"
@@ -28,7 +29,8 @@ for_machine() {
   local headers
   headers=$("$python" \
     -c 'import sysconfig; print(sysconfig.get_config_var("MULTIARCH"), sysconfig.get_path("include"))')
-  mkdir -p "$work/$1-linux-gnu" && ln -s "/usr/include/${headers%% *}/${headers##*/}" "$work/$1-linux-gnu"
+  mkdir -p "$work/$1-linux-gnu"
+  ln -s "/usr/include/${headers%% *}/${headers##*/}" "$work/$1-linux-gnu"
   export CC=$1-linux-gnu-gcc CFLAGS="$CFLAGS -I$work" _PYTHON_HOST_PLATFORM=linux-$1
 }
 
@@ -53,7 +55,8 @@ tar -c --exclude=build --exclude='*.egg-info' -C "$here/../.." LICENSE bindings/
   bindings/c/{include,src} crates/vectors/data | tar -x -C "$work/repository"
 build -s -o "$work" "$work/repository/bindings/python"
 name=verified_multihash-$(sed -n 's/^__version__ = "\(.*\)"$/\1/p' "$here/verified_multihash/__init__.py")
-mkdir "$work/$name" && tar xf "$work"/*.tar.gz -C "$work/$name" --strip-components=1
+mkdir "$work/$name"
+tar xf "$work"/*.tar.gz -C "$work/$name" --strip-components=1
 tar --sort=name --mode=u=rwX,go=rX --mtime="@$SOURCE_DATE_EPOCH" --owner=0 --group=0 --numeric-owner \
   -C "$work" -c "$name" |
   gzip -n9 > "$out/$name.tar.gz"

@@ -16,20 +16,22 @@ to=
 if [ $# = 2 ]; then mkdir -p "$2" && to=$(readlink -f "$2") || exit 2; fi
 # shellcheck source=checks/lib/tap.sh
 . "$here/../../checks/lib/tap.sh"
-plan 18
-set -o pipefail
+plan 18 cc "${PYTHON:=/usr/bin/python3}"
 to=${to:-$work}
 header=$PWD/bindings/c/include/multihash.h
 # What is tested is what was installed.
 unset PYTHONPATH LD_LIBRARY_PATH MULTIHASH_C_ARCHIVE CFLAGS
-export PYTHONDONTWRITEBYTECODE=1 PYTHON=${PYTHON:-/usr/bin/python3}
+export PYTHONDONTWRITEBYTECODE=1 PYTHON
 export MULTIHASH_VERDICTS=${MULTIHASH_VERDICTS:-$PWD/crates/vectors/data/verdicts.tsv}
 python=$to/venv/bin/python
 
 builds() {
   rm -rf "$to/dist" "$to/again"
-  "$here/pack.sh" "$to/dist" "$archive" && "$here/pack.sh" "$to/again" "$archive" || return 1
-  diff -r "$to/dist" "$to/again" && ls "$to"/dist/verified_multihash-[0-9]*.tar.gz && basename "$to"/dist/*.whl
+  "$here/pack.sh" "$to/dist" "$archive"
+  "$here/pack.sh" "$to/again" "$archive"
+  diff -r "$to/dist" "$to/again"
+  ls "$to"/dist/verified_multihash-[0-9]*.tar.gz
+  basename "$to"/dist/*.whl
 }
 
 warnings="-Wall -Wextra -Wshadow -Wconversion -Wsign-conversion -Werror"
@@ -40,20 +42,23 @@ without_warnings() {
 # An archive with a function less than the header's, which `$1` has in C.
 archive_with() {
   local at=$to/other
-  rm -rf "$at" && mkdir "$at" && printf '%s\n' "$1" > "$at/version.c" &&
-    objcopy --redefine-sym multihash_version=multihash_other "$archive" "$at/libmultihash_c.a" &&
-    cc -fPIC -c "$at/version.c" -o "$at/version.o" && ar r "$at/libmultihash_c.a" "$at/version.o"
+  rm -rf "$at"
+  mkdir "$at"
+  printf '%s\n' "$1" > "$at/version.c"
+  objcopy --redefine-sym multihash_version=multihash_other "$archive" "$at/libmultihash_c.a"
+  cc -fPIC -c "$at/version.c" -o "$at/version.o"
+  ar r "$at/libmultihash_c.a" "$at/version.o"
 }
 
 # A file that is no archive, or a later glibc, makes no wheel.
 looks_at_archive() {
   local name
   for name in "$here/README.md" none.a; do
-    rejects "pack.sh: no archive for x86-64 or aarch64" "$here/pack.sh" "$to/wrong" "$name" || return 1
+    rejects "pack.sh: no archive for x86-64 or aarch64" "$here/pack.sh" "$to/wrong" "$name"
   done
-  archive_with 'int pthread_detach(unsigned long); int multihash_version(void) { return pthread_detach(0); }' &&
-    rejects "pack.sh: the module needs GLIBC_2.34" "$here/pack.sh" "$to/wrong" "$to/other/libmultihash_c.a" &&
-    [ -z "$(find "$to/wrong" -name '*.whl')" ]
+  archive_with 'int pthread_detach(unsigned long); int multihash_version(void) { return pthread_detach(0); }'
+  rejects "pack.sh: the module needs GLIBC_2.34" "$here/pack.sh" "$to/wrong" "$to/other/libmultihash_c.a"
+  [ -z "$(find "$to/wrong" -name '*.whl')" ]
 }
 
 # Installs what is named without a network, the kit, or a package that builds, in place of what was installed.
@@ -64,8 +69,9 @@ installs() {
 
 # What is installed is imported, from the environment.
 imports() {
-  installs "$1" && cd "$to" &&
-    "$python" -c 'import verified_multihash as found; print(found.__version__, found.__file__)' |
+  installs "$1"
+  cd "$to"
+  "$python" -c 'import verified_multihash as found; print(found.__version__, found.__file__)' |
     grep "^[0-9.]* $to/venv/"
 }
 
@@ -73,46 +79,51 @@ imports() {
 unit_tests() {
   local tests=$1
   shift
-  (cd "$to" && env "$@" timeout 600 "$python" -m unittest discover -v -s "$tests") 2> "$to/unit.log"; local status=$?
-  cat "$to/unit.log"
-  [ $status = 0 ] && grep -E '^Ran [1-9][0-9]* tests' "$to/unit.log"
+  cd "$to"
+  env "$@" timeout 600 "$python" -m unittest discover -v -s "$tests" 2>&1 | tee "$to/unit.log"
+  grep -E '^Ran [1-9][0-9]* tests' "$to/unit.log"
 }
 
 # All tests, also that of failing allocations, which is skipped without CPython's module _testcapi.
 all_tests() {
-  unit_tests "$here/tests" && grep '^test_failing_allocations .* ok$' "$to/unit.log"
+  unit_tests "$here/tests"
+  grep '^test_failing_allocations .* ok$' "$to/unit.log"
 }
 
 # The sdist is all that is needed: its own tests run too. What is in the folders above it is not used.
 sdist() {
   local above=$to/above
-  rm -rf "$to/sdist" "$above" && mkdir "$to/sdist" && tar xf "$to"/dist/*.tar.gz -C "$to/sdist" --strip-components=1 ||
-    return 1
-  mkdir -p "$above/folder/c/prebuilt/$(uname -m)" && cp -r "$to/sdist" "$above/folder" &&
-    touch "$above/folder/c/prebuilt/$(uname -m)/libmultihash_c.a" "$above/LICENSE" && imports "$above/folder/sdist" &&
-    cmp "$here/../../LICENSE" "$to/sdist/LICENSE" && imports "$to"/dist/*.tar.gz &&
-    unit_tests "$to/sdist/tests" -u MULTIHASH_VERDICTS
+  rm -rf "$to/sdist" "$above"
+  mkdir "$to/sdist"
+  tar xf "$to"/dist/*.tar.gz -C "$to/sdist" --strip-components=1
+  mkdir -p "$above/folder/c/prebuilt/$(uname -m)"
+  cp -r "$to/sdist" "$above/folder"
+  touch "$above/folder/c/prebuilt/$(uname -m)/libmultihash_c.a" "$above/LICENSE"
+  imports "$above/folder/sdist"
+  cmp "$here/../../LICENSE" "$to/sdist/LICENSE"
+  imports "$to"/dist/*.tar.gz
+  unit_tests "$to/sdist/tests" -u MULTIHASH_VERDICTS
 }
 
 # An archive of another version than the header's is not imported.
 other_version() {
   local number
   number=$(sed -n 's/^#define MULTIHASH_VERSION_NUMBER //p' "$header")
-  archive_with "unsigned multihash_version(void) { return $((number + 1)); }" &&
-    MULTIHASH_C_ARCHIVE=$to/other/libmultihash_c.a rejects \
-    "ImportError: the library for C has version $((number + 1))," \
-      imports "$here"
+  archive_with "unsigned multihash_version(void) { return $((number + 1)); }"
+  MULTIHASH_C_ARCHIVE=$to/other/libmultihash_c.a rejects \
+    "ImportError: the library for C has version $((number + 1))," imports "$here"
 }
 
 # A folder whose archive differs in one byte is not installed.
 altered_archive() {
   local top=$here/../.. copy=$to/altered archive
   archive=bindings/c/prebuilt/$(uname -m)/libmultihash_c.a
-  rm -rf "$copy" && mkdir "$copy" &&
-    tar -C "$top" -c --exclude=build LICENSE bindings/python checks/lib/not_shown.txt \
-    bindings/c/{include,prebuilt,src} crates/vectors/data | tar -x -C "$copy" &&
-    printf x | dd of="$copy/$archive" bs=1 seek=9999 conv=notrunc && ! cmp "$copy/$archive" "$top/$archive" &&
-    rejects "not the archive of prebuilt/SHA256SUMS" installs "$copy/bindings/python"
+  rm -rf "$copy"
+  mkdir "$copy"
+  tar -C "$top" -c --exclude=build LICENSE bindings/python checks/lib/not_shown.txt \
+    bindings/c/{include,prebuilt,src} crates/vectors/data | tar -x -C "$copy"
+  printf x | dd of="$copy/$archive" bs=1 seek=9999 conv=notrunc
+  rejects "not the archive of prebuilt/SHA256SUMS" installs "$copy/bindings/python"
 }
 
 # The portable source and the module, built with sanitizers, which the interpreter loads first.
@@ -122,70 +133,74 @@ preloaded() {
 }
 
 under_sanitizers() {
-  CFLAGS=$sanitize installs "$1" &&
-    unit_tests "$here/tests" "$(preloaded)" ASAN_OPTIONS=detect_leaks=0:allocator_may_return_null=1 PYTHONMALLOC=malloc
+  CFLAGS=$sanitize installs "$1"
+  unit_tests "$here/tests" "$(preloaded)" ASAN_OPTIONS=detect_leaks=0:allocator_may_return_null=1 PYTHONMALLOC=malloc
 }
 
 # A copy of the sdist whose module has an edit of sed.
 planted() {
-  rm -rf "$to/planted" && cp -r "$to/sdist" "$to/planted" && sed -i "$1" "$to/planted/src/core.c" &&
-    ! cmp "$to/sdist/src/core.c" "$to/planted/src/core.c"
+  rm -rf "$to/planted"
+  cp -r "$to/sdist" "$to/planted"
+  sed -i "$1" "$to/planted/src/core.c"
 }
 
 planted_read() {
-  planted 's/bytes + found.digest_offset/& + 4096/' && under_sanitizers "$to/planted"
+  planted 's/bytes + found.digest_offset/& + 4096/'
+  under_sanitizers "$to/planted"
 }
 
 planted_shift() {
-  planted '1s/^/__attribute__((constructor)) static void planted(void) { volatile int n = 40; n = 1 << n; }\n/' &&
-    under_sanitizers "$to/planted"
+  planted '1s/^/__attribute__((constructor)) static void planted(void) { volatile int n = 40; n = 1 << n; }\n/'
+  under_sanitizers "$to/planted"
 }
 
 planted_warning() {
-  planted '1s/^/signed char planted(long more) { return more; }\n/' && CFLAGS=$warnings installs "$to/planted"
+  planted '1s/^/signed char planted(long more) { return more; }\n/'
+  CFLAGS=$warnings installs "$to/planted"
 }
 
 # Each argument is kept.
 planted_leak() {
-  planted '/^    Py_DECREF(from->owner);$/d' && installs "$to/planted" && unit_tests "$here/tests"
+  planted '/^    Py_DECREF(from->owner);$/d'
+  installs "$to/planted"
+  unit_tests "$here/tests"
 }
 
 # The package and the examples of README.md are typed, the module has the names of its stub, and wrong arguments are
 # found.
 types() {
   local strict=(mypy --strict --cache-dir "$to/mypy" --python-executable "$python")
-  cd "$to" || return 1
+  cd "$to"
   python3 -c 'import doctest, sys; print(doctest.script_from_examples(sys.stdin.read()))' < "$here/README.md" |
     grep -vE '"1220"|\(SHA2_256, 32\)$' > readme_examples.py
   printf '%s\n' 'import verified_multihash as vm' 'vm.encode(0x12, 32)' 'vm.decode("1220")' \
     'vm.Multihash("sha2-256", b"")' 'vm.Multihash(1, b"").code = 2' \
     'vm.read_from("name")' > wrong.py
-  "${strict[@]}" -p verified_multihash && "${strict[@]}" readme_examples.py || return 1
+  "${strict[@]}" -p verified_multihash
+  "${strict[@]}" readme_examples.py
   PYTHONPATH=$("$python" -c 'import sysconfig; print(sysconfig.get_path("purelib"))') \
-    stubtest verified_multihash._core || return 1
-  ! "${strict[@]}" wrong.py > wrong.log && grep -q '^multihash = ' readme_examples.py &&
-    grep 'Found 5 errors' wrong.log
+    stubtest verified_multihash._core
+  grep '^multihash = ' readme_examples.py
+  rejects 'Found 5 errors' "${strict[@]}" wrong.py
 }
 
-has 18 cc "$PYTHON" || exit 0
-"$PYTHON" -c 'import build, setuptools, venv, wheel' 2> "$work/log" ||
-  { leave_out "build, setuptools, venv or wheel is not installed" 18 && exit 0; }
+"$PYTHON" -c 'import build, setuptools, venv, wheel' 2> "$work/log" || all_need=python3-build+setuptools+venv+wheel
 try "the sdist and the wheel, built twice: 1 comparison" builds
 try "the module without warnings" without_warnings
-has 1 objcopy ar && try "archives" looks_at_archive
+needs="objcopy ar" try "archives" looks_at_archive
 try "an environment" "$PYTHON" -m venv --clear --system-site-packages "$to/venv"
 try "the wheel, installed" imports "$to"/dist/*.whl
 if "$python" -c 'import _testcapi' 2> "$work/log"; then
   try "the tests: 2 comparisons" all_tests
 else
-  leave_out "_testcapi is not installed" 1
+  leave_out "_testcapi is not installed"
 fi
 try "the tests with the debug allocator" unit_tests "$here/tests" PYTHONMALLOC=debug
-has 1 mypy stubtest && try "types: 3 comparisons" types
+needs="mypy stubtest" try "types: 3 comparisons" types
 try "the times beside plain Python" "$python" -I "$here/beside_plain.py"
 try "the folder, installed" imports "$here"
-has 1 objcopy ar && try "an archive of another version" other_version
-try "an altered archive: 2 comparisons" altered_archive
+needs="objcopy ar" try "an archive of another version" other_version
+try "an altered archive: 1 comparison" altered_archive
 try "the sdist, installed, the portable source: 4 comparisons" sdist
 try "sanitizers" under_sanitizers "$to/sdist"
 try "a warning" rejects "conversion]" planted_warning

@@ -152,7 +152,7 @@ def try_proof(crate: str, bugs: list[Bug]) -> Iterator[tap.Result]:
 
 
 def try_round(copy: Path, crate: str, bugs: list[Bug]) -> Iterator[tap.Result]:
-    """Checks a copy with bugs of several functions. A function that calls another of these is tried again without it."""
+    """Checks a copy with bugs of several functions. One that calls another of these is tried again without it."""
     plant(copy, bugs)
     _, log = check(copy / "crates" / crate)
     waiting = [bug for bug in bugs if WAITS.search(open_clauses(log, bug.seen_by)[0])]

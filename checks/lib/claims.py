@@ -82,7 +82,7 @@ NO_PROSE = [
     re.compile(r"^\|.*\| *\d+\.\d\d .*\|$|^\|[^|]*\| \d+ \| [\d.]+ .*\|$|^In \d.*:$", re.M),  # measured
     re.compile(r"^\| [\d^ -]+ \| +\|$|\| +\| \d* \|$|^\| `MULTIHASH_\w+` \| \d|^\d\. |\]\([^)]*\)", re.M),
 ]
-# the sources of limits and versions. header.py compares the header with the crate
+# the sources of limits and versions. header.t compares the header with the crate
 VALUES = {
     "capacity": ("crates/mh_show/src/show.rt", r"Multihash::<(\d+)>::from_bytes"),
     "input": ("crates/mh_show/src/run.rt", r"const MOST_INPUT: usize = (\d+);"),

@@ -3,17 +3,13 @@
 # crate that it did not prove is proved there. Without PROVED the crates here are built.
 
 # shellcheck disable=SC2154 # tap.sh has the work folder
-# Copies the crates of the library for C and of mh_show.
-copy_proved() {
-  local name
-  mkdir "$work/copy" && tar -c --exclude=out HANDLES crates/multihash crates/multihash_c crates/mh_show |
-    tar -x -C "$work/copy" || return
+if [ -n "${PROVED-}" ]; then
+  mkdir "$work/copy"
+  tar -c --exclude=out HANDLES crates/multihash crates/multihash_c crates/mh_show | tar -x -C "$work/copy"
   for name in multihash multihash_c mh_show; do
-    [ ! -d "$PROVED/crates/$name/out" ] || cp -a "$PROVED/crates/$name/out" "$work/copy/crates/$name/" || return
+    [ ! -d "$PROVED/crates/$name/out" ] || cp -a "$PROVED/crates/$name/out" "$work/copy/crates/$name/"
   done
   grep -E '^(multihash|multihash_c staticlib|mh_show):' crates.txt > "$work/copy/crates.txt"
   PROVED=$work/copy
-}
-
-if [ -n "${PROVED-}" ]; then copy_proved || exit 2; fi
+fi
 export PROVED=${PROVED:-$PWD}

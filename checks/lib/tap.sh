@@ -1,107 +1,118 @@
 # shellcheck shell=bash
 # Prints results as TAP, for prove. A script that sources this is at the top of the repository then, and says first how
-# many checks it makes, 'plan N'. Its status is 1 if one failed, or another number was made.
+# many checks it makes, 'plan N'. Its status is 1 if one failed, or another number was made. A command that fails ends
+# its check, and outside of one the script: lint.t rejects what bash would go on after.
 #
-#   ALL=1    with_all leaves out nothing; .ci/run fails where something is left out
-set -u
-cd "$(dirname "${BASH_SOURCE[0]}")/../.." || exit 2
-planned=0 number=0 failed=0 names=$'\n'
-work=$(mktemp -d) || exit 2
+#   plan N TOOL..           without one of these tools all checks are left out
+#   needs="TOOL.." try ..   without one of these this one is
+#   ALL=1                   the tool 'all' is there; .ci/run fails where something is left out
+set -euo pipefail
+shopt -s inherit_errexit
+cd "$(dirname "${BASH_SOURCE[0]}")/../.."
+export LC_ALL=C.UTF-8
+planned=0 number=0 failed=0 names=$'\n' all_need="" needs=""
+work=$(mktemp -d)
 
 finish() {
+  local ended=$?
   rm -rf "$work"
-  exit $((failed || number != planned))
+  exit $((ended || failed || number != planned))
 }
 trap finish EXIT
 
 plan() {
-  planned=$1
+  planned=$1 all_need=${*:2}
   echo "1..$1"
 }
 
-# Counts a check by its status. A second one of the same name fails.
-count() {
-  local result=ok name=${2//'#'/}
-  name=${name//$'\n'/ }
-  [ "$1" = 0 ] && [[ $names != *$'\n'"$name"$'\n'* ]] || result="not ok" failed=1
-  names+=$name$'\n'
-  number=$((number + 1))
-  echo "$result $number - $name"
+# Each comparison is counted.
+cmp() { compared cmp "$@"; }
+diff() { compared diff "$@"; }
+grep() { compared grep "$@"; }
+compared() {
+  printf . >> "$work/compared"
+  command "$@"
 }
 
-# Each comparison is counted.
-compared() { printf . >> "$work/compared"; }
-cmp() { compared && command cmp "$@"; }
-diff() { compared && command diff "$@"; }
-grep() { compared && command grep "$@"; }
-
-# Runs a command and counts it. If it fails shows what it printed. A name may end in the number of its comparisons, as
-# 'a folder: 3 comparisons', which are its calls of cmp, diff, grep, prints and rejects.
+# Runs a command, and prints its result; if it fails also what it printed. A name may end in the number of its
+# comparisons, as 'a folder: 3 comparisons', which are its calls of cmp, diff, grep, prints and rejects. There is no
+# second check of the same name.
 try() {
-  local name=$1 result=0 made
-  shift
+  local - name=$1 tool ended made result=ok
+  for tool in $all_need $needs; do
+    # shellcheck disable=SC2310 # what it says is its status
+    is_there "$tool" > "$work/log" || { leave_out "$tool is not there"; return; }
+  done
   : > "$work/compared"
-  "$@" > "$work/log" 2>&1 || result=1
+  set +e
+  (set -e; "${@:2}") > "$work/log" 2>&1
+  ended=$?
   made=$(wc -c < "$work/compared")
   if [[ $name =~ ([0-9]+)\ comparisons?$ && ${BASH_REMATCH[1]} != "$made" ]]; then
     echo "it made $made" >> "$work/log"
-    result=1
+    ended=1
   fi
-  count $result "$name"
-  [ $result = 0 ] || sed 's/^/# /' "$work/log" >&2
+  name=${name//'#'/} name=${name//$'\n'/ }
+  [[ $ended = 0 && $names != *$'\n'"$name"$'\n'* ]] || result="not ok" failed=1
+  names+=$name$'\n'
+  number=$((number + 1))
+  echo "$result $number - $name"
+  [ $ended = 0 ] || sed 's/^/# /' "$work/log" >&2
 }
 
 # Commands that must end with status 0, or with another, and print a text.
 prints() { ends 0 "$@"; }
 rejects() { ends '[!0]*' "$@"; }
 ends() {
-  local wanted=$1 text=$2 ended=0 printed
+  local - ended found printed
   printed=$(mktemp -p "$work")
-  "${@:3}" > "$printed" 2>&1 || ended=$?
+  set +e
+  (set -e; "${@:3}") > "$printed" 2>&1
+  ended=$?
+  grep -F -- "$2" "$printed"
+  found=$?
   # shellcheck disable=SC2053 # a pattern
-  [[ $ended = $wanted ]] && grep -F -- "$text" "$printed" && return
-  echo "status $ended, or without the text: $text"
+  [[ $ended = $1 && $found = 0 ]] && return
+  echo "status $ended, or without the text: $2"
   cat "$printed"
   return 1
+}
+
+# Each line of the standard input, 'TEXT|EDIT', is a shell command in a copy of a folder, "$work/planted", after which a
+# command must end with another status than 0 and print the text.
+rejects_edits() {
+  local text edit
+  while IFS='|' read -r text edit; do
+    rm -rf "$work/planted"
+    cp -a "$1" "$work/planted"
+    (cd "$work/planted"; eval "$edit")
+    rejects "$text" "${@:2}"
+  done
 }
 
 # The first block of a page in a language.
 block_of() { awk -v fence="\`\`\`$2" '$0 == fence { on = 1; next } on && /^```/ { exit } on' "$1"; }
 
-# Leaves out a number of checks, and says why.
+# Leaves a check out, and says why.
 leave_out() {
-  local why=$1 checks=$2
-  echo "# left out: $why" >&2
-  for ((; checks > 0; checks--)); do
-    number=$((number + 1))
-    echo "ok $number # SKIP $why"
-  done
+  number=$((number + 1))
+  echo "# left out: $1" >&2
+  echo "ok $number # SKIP $1"
 }
 
-# Whether all is to be tested, else a number of checks is left out, which show little that the others do not.
-with_all() { [ "${ALL-}" = 1 ] || { leave_out "only with ALL=1" "$1" && false; }; }
-
-# Whether a tool has a version: '1.0.32', or '1.82+' for this and later ones.
-is_version() {
-  local its
-  its=$("$1" --version 2>&1 | grep -oE '[0-9]+(\.[0-9]+)*' | head -n 1)
-  [ "$its" = "$2" ] || { [ "$2" != "${2%+}" ] &&
-    [ "$(printf '%s\n' "${2%+}" "$its" | sort -V | head -n 1)" = "${2%+}" ]; }
-}
-
-# Whether a tool is installed, as NAME or NAME=VERSION, or a path is there that fits a pattern.
+# Whether a tool is there: NAME, NAME=VERSION, NAME=VERSION+ for later ones too, or a path.
 is_there() {
   case $1 in
-    /*) compgen -G "$1" ;;
-    *=*) command -v "${1%%=*}" && is_version "${1%%=*}" "${1#*=}" ;;
+    all) [ "${ALL-}" = 1 ] ;;
+    */*) [ -e "$1" ] ;;
+    *=*) is_version "${1%%=*}" "${1#*=}" ;;
     *) command -v "$1" ;;
   esac
 }
-
-# Whether all these are installed, else a number of checks is left out.
-has() {
-  local checks=$1 tool
-  for tool in "${@:2}"; do
-    is_there "$tool" > "$work/log" || { leave_out "$tool is not installed" "$checks" && return 1; }
-  done
+is_version() {
+  [[ $("$1" --version 2>&1) =~ [0-9]+(\.[0-9]+)* ]] || return
+  case $2 in
+    *+) printf '%s\n' "${2%+}" "${BASH_REMATCH[0]}" | sort -VC ;;
+    *) [ "$2" = "${BASH_REMATCH[0]}" ] ;;
+  esac
 }

@@ -1,8 +1,9 @@
 # shellcheck shell=bash
-# Sourced after tap.sh: the warnings of C and C++ compilers, each of which is an error.
+# Sourced after tap.sh: the warnings of C and C++ compilers, each of which is an error, and their sanitizers.
 # shellcheck disable=SC2034,SC2154 # what others use, or have set
 warnings=(-Wall -Wextra -Wpedantic -Wconversion -Wsign-conversion -Wshadow -Wcast-qual -Werror)
 c_flags=(-std=c11 "${warnings[@]}" -Wstrict-prototypes -Wmissing-prototypes)
+sanitize=(-g -O1 -DHEAP "-fsanitize=address,undefined" -fno-sanitize-recover=all)
 
 # The C compiler rejects each of these with an error of its own.
 warns() {
@@ -12,6 +13,6 @@ warns() {
     > "$work/warns.c"
   for kind in unused-variable unused-parameter pedantic conversion sign-conversion shadow cast-qual strict-prototypes \
     missing-prototypes; do
-    rejects "[-Werror=$kind]" cc "${c_flags[@]}" -fsyntax-only "$work/warns.c" || return 1
+    rejects "[-Werror=$kind]" cc "${c_flags[@]}" -fsyntax-only "$work/warns.c"
   done
 }
