@@ -12,6 +12,8 @@ export const SCALE_LENGTH_MAX = 264;
 
 const STATUSES = ['ok', 'insufficient', 'overflow', 'not_minimal', 'invalid_size', 'invalid_code', 'unexpected_eof',
   'no_room'];
+// Those of truncated input.
+const INCOMPLETE = ['insufficient', 'unexpected_eof'];
 
 // The longest prefix of an input that a result depends on, except for the number of trailing bytes.
 const PREFIX_MAX = HEAD_MAX + DIGEST_MAX;
@@ -178,7 +180,7 @@ export class MultihashError extends Error {
 
   /** Whether the input is truncated. In `read`, `head` and `scaleDecode` only then can more input change the result. */
   get isIncomplete() {
-    return this.status === 'insufficient' || this.status === 'unexpected_eof';
+    return INCOMPLETE.includes(this.status);
   }
 }
 Object.defineProperty(MultihashError.prototype, 'name',
@@ -275,9 +277,8 @@ export function readAt(bytes, at, limit) {
   const length = Math.min(bytes.length - at, PREFIX_MAX);
   memory.set(length === bytes.length ? bytes : bytes.subarray(at, at + length), first);
   library.multihash_read_limit(resultAt, firstAt, NUMBERS[length], limit);
-  const status = words[0];
-  if (status === 1 || status === 6) return undefined; // `insufficient` and `unexpected_eof`
-  if (status !== 0) throw failure(words[10]);
+  if (INCOMPLETE.includes(STATUSES[words[0]])) return undefined;
+  if (words[0] !== 0) throw failure(words[10]);
   return { multihash: found(), taken: words[10] };
 }
 

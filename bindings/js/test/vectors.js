@@ -4,7 +4,7 @@ import { hex, same, unhex } from './check.js';
 const COLUMNS = 'S\tinput\tread\tread_taken\tfrom_bytes\tscale_decode\tscale_taken';
 const MORE = new Uint8Array(400);
 
-/** A result as the vectors write it, the number of bytes consumed, and what was found. */
+/** A result as the vectors write it, the number of bytes consumed, and the multihash or the error. */
 function written(module, call, taken) {
   module.encode(0, MORE.subarray(0, 255)); // so that what the module has of an earlier input is other bytes
   try {
@@ -16,9 +16,12 @@ function written(module, call, taken) {
   } catch (error) {
     if (!(error instanceof module.MultihashError)) throw error;
     const words = [error.status, error.size ?? error.code ?? []].flat().join(' ');
-    return [words, error.taken];
+    return [words, error.taken, error];
   }
 }
+
+/** The vectors have no number of bytes consumed where more input can change the result, as the error says. */
+const sameEnd = (found, taken) => same(found.isIncomplete ?? false, taken === '-', 'isIncomplete');
 
 /** Whether a result for a buffer of that size is the result for 255 too. */
 const isForAll = (verdict, size) => size >= 255 || !verdict.startsWith('invalid_size') ||
@@ -79,21 +82,25 @@ export function vectors(module, text) {
   for (const line of lines) {
     const [S, input, read, readTaken, whole, scale, scaleTaken] = line.split('\t');
     const data = unhex(input);
-    const [found, taken, multihash] = written(module, () => module.read(data, ...(S === '255' ? [] : [Number(S)])));
-    same(`${found} ${taken}`, `${read} ${checkHead(module, data, read, readTaken)}`, `read ${line}`);
+    const [words, taken, found] = written(module, () => module.read(data, ...(S === '255' ? [] : [Number(S)])));
+    same(`${words} ${taken}`, `${read} ${checkHead(module, data, read, readTaken)}`, `read ${line}`);
+    sameEnd(found, readTaken);
     if (isForAll(read, Number(S))) {
       const [decoded, length] = written(module, () => module.decode(data), data.length);
       same(`${decoded} ${length}`, `${whole} ${data.length}`, `decode ${line}`);
       if (!/^(insufficient|unexpected_eof)/.test(read)) checkLong(module, data, read, taken);
     }
-    const [form, formTaken] = written(module, () => module.scaleDecode(data));
+    const [form, formTaken, of] = written(module, () => module.scaleDecode(data));
     const consumed = scaleTaken === '-' ? partsOf(data) : scaleTaken;
-    if (isForAll(scale, Number(S))) same(`${form} ${formTaken}`, `${scale} ${consumed}`, `scaleDecode ${line}`);
-    if (!multihash) continue;
-    checkBack(module, multihash, data, taken);
-    for (const [left, right] of [[before, multihash], [multihash, before]])
+    if (isForAll(scale, Number(S))) {
+      same(`${form} ${formTaken}`, `${scale} ${consumed}`, `scaleDecode ${line}`);
+      sameEnd(of, scaleTaken);
+    }
+    if (found instanceof Error) continue;
+    checkBack(module, found, data, taken);
+    for (const [left, right] of [[before, found], [found, before]])
       same(module.compare(left, right), order(left, right), 'compare');
-    same(multihash.equals(before), order(before, multihash) === 0, 'equals');
-    before = multihash;
+    same(found.equals(before), order(before, found) === 0, 'equals');
+    before = found;
   }
 }

@@ -175,15 +175,14 @@ class Arguments(unittest.TestCase):
                 self.assertRaises(TypeError, call, data[3], wrong)
 
     def test_texts(self):
-        for data, text, is_incomplete in (
-            (b"\x80", "not enough input bytes", True),
-            (b"\x01\x02\x00", "failed to fill whole buffer", True),
-            (b"\xff" * 9, "input bytes exceed maximum", False),
-            (b"\x80\x00", "encoding is not minimal", False),
+        for data, text in (
+            (b"\x80", "not enough input bytes"),
+            (b"\x01\x02\x00", "failed to fill whole buffer"),
+            (b"\xff" * 9, "input bytes exceed maximum"),
+            (b"\x80\x00", "encoding is not minimal"),
         ):
             self.assertEqual(self.error_of(vm.decode, data)[1:], (0, 0, text))
-            self.assertIs(MultihashError(self.error_of(vm.decode, data)[0]).is_incomplete, is_incomplete)
-        self.assertEqual([MultihashError(n).is_incomplete for n in (4, 5, 7)], [False] * 3)
+        self.assertIs(MultihashError(Status.NO_ROOM).is_incomplete, False)
         self.assertEqual(MultihashError(1).args, (1, 0, 0, 0))
         for wrong, text in ((0, "^OK is the status of no error$"), (8, ""), (-1, "")):
             self.assertRaisesRegex(ValueError, text, MultihashError, wrong)

@@ -25,14 +25,14 @@ class Counts:
 
 
 def shown(call, *arguments):
-    """The result as the list has it, the number of bytes that were consumed, and the multihash or None."""
+    """The result as the list has it, the number of bytes that were consumed, and the multihash or the error."""
     try:
         found = call(*arguments)
     except MultihashError as error:
         number = {Status.INVALID_SIZE: " %d" % error.size, Status.INVALID_CODE: " %d" % error.code}.get(
             error.status, ""
         )
-        return error.status.name.lower() + number, error.taken, None
+        return error.status.name.lower() + number, error.taken, error
     multihash, taken = found if isinstance(found, tuple) else (found, len(arguments[0]))
     return "pair %d %s" % (multihash.code, multihash.digest.hex() or "-"), taken, multihash
 
@@ -57,7 +57,7 @@ class Vectors(unittest.TestCase):
             self.assertEqual(head[1:], (int(rest), taken))
         elif word != "unexpected_eof":
             self.assertRaises(MultihashError, vm.head, data)
-            self.assertEqual(shown(vm.head, data), (word, taken, None))
+            self.assertEqual(shown(vm.head, data)[:2], (word, taken))
 
     def check_file(self, data, size, result, consumed):
         for file in (Counts(data, 1), Counts(data)):
@@ -72,7 +72,7 @@ class Vectors(unittest.TestCase):
         elif result in ("insufficient", "unexpected_eof") or not is_for_all(result, size):
             return
         for kind in KINDS:
-            self.assertEqual(shown(vm.decode, kind(data + MORE)), (result, len(data + MORE), None))
+            self.assertEqual(shown(vm.decode, kind(data + MORE))[:2], (result, len(data + MORE)))
 
     def check_back(self, multihash, data, taken):
         encoding, form = vm.encode(multihash.code, multihash.digest), vm.scale_encode(multihash.code, multihash.digest)
@@ -86,23 +86,29 @@ class Vectors(unittest.TestCase):
                 (vm.read(kind(data))[0], vm.Multihash(multihash.code, kind(multihash.digest))), (multihash, multihash)
             )
 
+    def check_taken(self, listed, taken, found):
+        """The list has no number where more input can change the result, as the error says, also one that is made."""
+        errors = (found, MultihashError(found.status)) if isinstance(found, MultihashError) else ()
+        self.assertEqual([error.is_incomplete for error in errors], [listed == "-"] * len(errors))
+        self.assertIn(listed, ("-", str(taken)))
+
     def check_line(self, line):
         size, data, read, read_taken, whole, scale, scale_taken = line.split("\t")
         size, data = int(size), bytes.fromhex(data.replace("-", ""))
-        result, taken, multihash = shown(vm.read, data, size)
+        result, taken, found = shown(vm.read, data, size)
         self.assertEqual(result, read)
-        self.assertIn(read_taken, ("-", str(taken)))
+        self.check_taken(read_taken, taken, found)
         self.check_head(data, read, len(data) if read_taken == "-" else int(read_taken))
         self.check_file(data, size, read, len(data) if read_taken == "-" else int(read_taken))
         self.check_long(data, size, read, taken)
         if is_for_all(read, size):
             self.assertEqual(shown(vm.decode, data)[:2], (whole, len(data)))
         if is_for_all(scale, size):
-            result, scale_count, _ = shown(vm.scale_decode, data)
+            result, scale_count, form = shown(vm.scale_decode, data)
             self.assertEqual(result, scale)
-            self.assertIn(scale_taken, ("-", str(scale_count)))
-        if multihash is not None:
-            self.check_back(multihash, data, taken)
+            self.check_taken(scale_taken, scale_count, form)
+        if isinstance(found, vm.Multihash):
+            self.check_back(found, data, taken)
 
     def test_list(self):
         with open(os.environ.get("MULTIHASH_VERDICTS", BESIDE), encoding="ascii") as file:

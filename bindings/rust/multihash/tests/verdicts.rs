@@ -92,7 +92,9 @@ impl Row<'_> {
         check_varints(self.input, self.read_taken);
     }
 
-    fn is_taken(&self, taken: &str, rest: &[u8]) {
+    /// The number of bytes consumed, for which a line has `-` where more input can change the result.
+    fn is_taken(&self, taken: &str, rest: &[u8], found: &Result<MultihashRef<'_>, Error>) {
+        assert_eq!(found.is_err_and(|error| error.is_incomplete()), taken == "-");
         assert!(taken == "-" || taken == (self.input.len() - rest.len()).to_string());
     }
 
@@ -100,7 +102,7 @@ impl Row<'_> {
         let mut rest = self.input;
         let found = MultihashRef::read_limit(&mut rest, limit);
         assert_eq!(borrowed(found), wanted(self.read));
-        self.is_taken(self.read_taken, rest);
+        self.is_taken(self.read_taken, rest, &found);
         if let Ok(multihash) = found {
             check_encoders(&multihash, &self.input[..self.input.len() - rest.len()]);
         }
@@ -109,7 +111,7 @@ impl Row<'_> {
             let mut rest = self.input;
             let found = MultihashRef::scale_decode(&mut rest);
             assert_eq!(borrowed(found), wanted(self.scale_decode));
-            self.is_taken(self.scale_taken, rest);
+            self.is_taken(self.scale_taken, rest, &found);
             assert_eq!(found.ok().and_then(|found| found.encoding()), None);
         }
     }

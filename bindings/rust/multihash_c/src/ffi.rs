@@ -146,14 +146,20 @@ mod tests {
         fn multihash_version() -> u32;
     }
 
+    /// Each status that has a text.
     #[test]
     fn texts_are_the_library_s() {
-        for status in INSUFFICIENT..=NO_ROOM {
+        for status in INSUFFICIENT.. {
             let mut text = [0; 64];
             // SAFETY: pointer and length are those of a slice.
             let made = unsafe { multihash_put_status_text(status, text.as_mut_ptr(), text.len()) };
             assert_eq!(made.status, OK);
-            assert_eq!(Error::of(status, 0, 0, 0).as_str().as_bytes(), &text[..made.length]);
+            let text = &text[..made.length];
+            if text == b"unknown status" {
+                assert!(status > NO_ROOM);
+                break;
+            }
+            assert_eq!(Error::of(status, 0, 0, 0).as_str().as_bytes(), text);
         }
     }
 
