@@ -5,7 +5,7 @@ import unittest
 from pathlib import Path
 
 import verified_multihash as vm
-from verified_multihash import MultihashError, Status
+from verified_multihash import MultihashError
 
 BESIDE = Path(__file__).parent / "verdicts.tsv"
 COLUMNS = "S\tinput\tread\tread_taken\tfrom_bytes\tscale_decode\tscale_taken"
@@ -29,9 +29,8 @@ def shown(call, *arguments):
     try:
         found = call(*arguments)
     except MultihashError as error:
-        number = {Status.INVALID_SIZE: " %d" % error.size, Status.INVALID_CODE: " %d" % error.code}.get(
-            error.status, ""
-        )
+        number = " %d" % (error.size or error.code) if error.size or error.code else ""
+        assert (number + "." in str(error)) == bool(number)
         return error.status.name.lower() + number, error.taken, error
     multihash, taken = found if isinstance(found, tuple) else (found, len(arguments[0]))
     return "pair %d %s" % (multihash.code, multihash.digest.hex() or "-"), taken, multihash

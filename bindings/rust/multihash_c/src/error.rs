@@ -68,7 +68,8 @@ impl fmt::Display for Error {
         f.write_str(self.as_str())?;
         match self {
             Error::InvalidSize(number) | Error::InvalidCode(number) => write!(f, " {number}."),
-            _ => Ok(()),
+            Error::Insufficient | Error::Overflow | Error::NotMinimal => Ok(()),
+            Error::UnexpectedEof | Error::NoRoom(_) => Ok(()),
         }
     }
 }
