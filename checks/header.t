@@ -25,7 +25,7 @@ from rt_source import Item, functions, items
 
 TOP = Path(__file__).resolve().parents[1]
 CRATE = "crates/multihash_c"
-HEADER = "bindings/c/include/multihash.h"
+HEADER, MAP = "bindings/c/include/multihash.h", "bindings/c/src/multihash_c.map"
 LANGUAGES = ("c", "c++")
 # The header's conditions: any other hides text from these preprocessors.
 CONDITIONS = ["ifndef MULTIHASH_H", "ifdef __cplusplus", "ifdef __cplusplus"]
@@ -44,6 +44,7 @@ UNREAD = (
 RUST, PYTHON, JS = "bindings/rust/multihash_c", "bindings/python/verified_multihash", "bindings/js"
 PATTERNS = (
     HEADER,
+    MAP,
     f"{CRATE}/src/**/*.rt",
     "crates/multihash/specs/Varint.antt",
     "crates/multihash/src/multihash.rt",
@@ -196,22 +197,27 @@ def binding_errors(files: Files, crate: Declared) -> Iterator[str]:
     statuses = re.findall(r"'(\w+)'", group(r"\nconst STATUSES = \[([^\]]*)\];\n", files[f"{JS}/core.js"]))
     of_script = {(name.upper(), str(at)) for at, name in enumerate(statuses)} | constants_of(files, JS, crate.lengths)
     of_types = group(r"\nexport type Status =((?:\n  \|.*)+)", files[f"{JS}/index.d.ts"])
+    of_rust = structs_of(items(files[f"{RUST}/src/ffi.rs"]))
     for name, found, wanted in (
         ("Rust's numbers", constants_of(files, RUST, numbers), {*numbers.items()}),
         ("Python's numbers", constants_of(files, PYTHON, numbers), {*numbers.items()}),
         ("JavaScript's numbers", of_script, {*numbers.items()}),
         ("TypeScript's statuses", re.findall(r"\| '(\w+)'", of_types), statuses[1:]),
-        ("Rust's structs", structs_of(items(files[f"{RUST}/src/ffi.rs"])), crate.structs),
+        ("Rust's structs", of_rust, {name: crate.structs.get(name) for name in of_rust}),
         ("Rust's version", group(r'\nversion = "(.*)"\n', files[f"{RUST}/Cargo.toml"]), crate.version),
         ("Python's version", group(r'\n__version__ = "(.*)"\n', files[f"{PYTHON}/__init__.py"]), crate.version),
         ("JavaScript's version", group(r'\n  "version": "(.*)",\n', files[f"{JS}/package.json"]), crate.version),
     ):
         if found != wanted:
             yield f"{name} are {found}, and the crate's {wanted}"
+    for version in re.findall(r"(?m)^MULTIHASH_C_(\S+) ", files[MAP]):
+        if [*map(int, version.split("."))] > [*map(int, crate.version.split("."))]:
+            yield f"{MAP} has a function of version {version}, and the crate is {crate.version}"
 
 
 def order_errors(files: Files, statuses: dict[str, str]) -> Iterator[str]:
-    """Returns the comments, and the model of the tests of C, that have errors not in the order of their numbers."""
+    """Returns the comments, and the model of the tests of C, that have errors not in the order of their numbers, and
+    errors of no function."""
     form = r"Errors: .*?\*/|# Errors\n(?: *///[^\n]*\n)+|model_encoding\([^;]*\n\{.*?\n\}"
     for path, text in files.items():
         for section in re.findall(form, text, re.S):
@@ -220,6 +226,8 @@ def order_errors(files: Files, statuses: dict[str, str]) -> Iterator[str]:
             ordered = [number for number in listed if number > statuses["NOT_MINIMAL"]]
             if ordered != sorted(ordered):
                 yield f"{path} has errors in another order: {flat(section)}"
+    listed = re.findall(r"MULTIHASH_(\w+)", " ".join(re.findall(r"Errors: .*?\*/", files[HEADER], re.S)))
+    yield from (f"{HEADER} has no function with the error {name}" for name in {*statuses} - {"OK", *listed})
 
 
 def error_of(files: Files) -> str:
@@ -270,7 +278,7 @@ def main() -> int:
         return 0
     if not shutil.which("c++"):
         return tap.report([tap.left_out("all", "c++ is not installed")], 1)
-    return tap.report(results(), 39)
+    return tap.report(results(), 41)
 
 
 if __name__ == "__main__":

@@ -18,7 +18,7 @@ JS, PYTHON, RUST = "bindings/js/README.md", "bindings/python/README.md", "bindin
 RUST_C, CALLING = "bindings/rust/multihash_c/README.md", "crates/multihash/CALLING.md"
 ARCHITECTURE, CONTRACTS, SPEED = "docs/ARCHITECTURE.md", "docs/CONTRACTS.md", "docs/SPEED.md"
 VECTORS, DIFFERENCES, DECISIONS = "crates/vectors/data/README.md", "docs/DIFFERENCES.md", "docs/DECISIONS.md"
-HEADER, TYPES = "bindings/c/include/multihash.h", "bindings/js/index.d.ts"
+HEADER, TYPES, MAN = "bindings/c/include/multihash.h", "bindings/js/index.d.ts", "crates/mh_show/mh_show.1"
 FENCE = re.compile(r"^ *```(\S*)[^\n]*\n(.*?)^ *```$", re.M | re.S)
 HEX = r"`((?:[0-9a-f]{2} )*[0-9a-f]{2})`"
 COMMENT = re.compile(r"(?:^|(?<=\s))(?:#|//)(?= )([^\n]*)", re.M)

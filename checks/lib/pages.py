@@ -21,11 +21,10 @@ import examples
 import rows
 import start
 import tap
-from claims import CONTRACTS, FENCE, HEADER, README, C, read
+from claims import CONTRACTS, FENCE, HEADER, MAN, README, C, read
 from rt_source import Unread
 
 TOP = Path(__file__).resolve().parents[2]
-MAN = "crates/mh_show/mh_show.1"
 ENDS = (".md", MAN, HEADER)
 BELOW = re.compile(r"(?<![\w./-])(?:\.ci|checks|docs|tools)/[\w./-]*\w")
 Texts = dict[str, str]

@@ -3,7 +3,20 @@ import re
 from collections.abc import Iterator
 from typing import NamedTuple
 
-from claims import ARCHITECTURE, C, CALLING, CONTRACTS, DECISIONS, DIFFERENCES, FENCE, FORMAT, HEADER, JS, PACKAGING
+from claims import (
+    ARCHITECTURE,
+    C,
+    CALLING,
+    CONTRACTS,
+    DECISIONS,
+    DIFFERENCES,
+    FENCE,
+    FORMAT,
+    HEADER,
+    JS,
+    MAN,
+    PACKAGING,
+)
 from claims import PYTHON, README, RUST, RUST_C, SPEED, TYPES, flat, read, sources
 
 
@@ -124,7 +137,11 @@ def time_errors(page: str, text: str) -> Iterator[str]:
 
 
 def difference_errors(page: str, text: str) -> Iterator[str]:
-    """Returns the public names of the library that neither DIFFERENCES.md nor Cargo's package has."""
+    """Returns the public names of the library that neither DIFFERENCES.md nor Cargo's package has, and the methods of
+    the error that FORMAT.md does not have."""
+    if page == FORMAT:
+        methods = re.findall(r"pub fn (\w+)\(&self\)", read("crates/multihash/src/error.rt"))
+        yield from (f"it does not have {name}()" for name in methods if f"{name}()" not in text)
     if page == DIFFERENCES:
         files = sources(("crates/multihash/src",)).items()
         here = "".join(its for path, its in files if not path.endswith(("laws.rt", "pins.rt")))
@@ -134,13 +151,16 @@ def difference_errors(page: str, text: str) -> Iterator[str]:
 
 
 def status_errors(page: str, text: str) -> Iterator[str]:
-    """Compares the numbers and the texts of errors in the page for C with the header."""
+    """Compares the errors in the page for C, and the texts of those of the program, with the header."""
     header = read(HEADER)
     numbers = re.findall(r"^ +(MULTIHASH_\w+) = (\d+)", header, re.M)
     said = dict(re.findall(r"case (MULTIHASH_\w+):\s*return \"([^\"]*)\";", header))
     found = re.findall(r"^\| `(MULTIHASH_\w+)` \| (\d+) \| ([^|]*) \|", text, re.M)
     if page == C and found != [(name, number, said.get(name)) for name, number in numbers]:
         yield "its table of errors is not that of the header"
+    if page == MAN:
+        of_program = {*said.values()} - {"ok", "Invalid multihash code", "failed to write whole buffer"}
+        yield from (f"it does not have {line}" for line in of_program if f"\n.It {line}" not in text)
 
 
 def comment_errors(page: str, text: str) -> Iterator[str]:

@@ -8,6 +8,11 @@ use Rattle.multihash.specs.Bytes.{place_value, ExactlyOne}
 use Rattle.multihash.specs.Varint.{IsContinuation, insufficient}
 use Rattle.multihash.specs.Pair.{Pair, IsPair}
 use Rattle.multihash.specs.Verdict.{Verdict, accepted, invalid_size, invalid_code, malformed, unexpected_eof, BeginsWithSize, HasVerdict}
+use Rattle.std.specs.Prelude.{codes}
+use Rattle.std.specs.declared.cmp.Ordering.{Ordering}
+use Rattle.std.specs.declared.cmp.Ordering.TheVariants.{Less, Equal, Greater}
+use Rattle.std.specs.Hash.{le_bytes}
+use Rattle.multihash.specs.Comparing.{compare_pairs, hashed_pair}
 use Rattle.multihash.proofs.VarintWriteLemmas.{one_byte}
 use Rattle.multihash.proofs.VerdictLemmas.{found, has_found}
 use Rattle.multihash.specs.Settling.{Settles, IsShortestSettling}
@@ -97,3 +102,27 @@ shortest_of_size = record {
   settles = size_settles;
   shortest = λ shorter before. (shortest_size 4 5 (0 ∷ 5 ∷ 9 ∷ []) (9 ∷ []) (size_5 (9 ∷ [])) (omega arith)).shortest shorter before;
 }
+
+-- ---- order and hash
+
+data Row : Type 0 where
+  row : (p q : Pair) (o : Ordering) → compare_pairs p q ≡ o → Row
+
+orders : List Row
+orders =
+    -- the code decides, then the length, then the first byte that differs, whatever follows
+    row (pair 0 (codes "zzz")) (pair 1 []) Less refl ∷
+    row (pair 1 []) (pair 0 (codes "a")) Greater refl ∷
+    row (pair 0 (codes "b")) (pair 0 (codes "aa")) Less refl ∷
+    row (pair 0 (codes "aaa")) (pair 0 (codes "ab")) Greater refl ∷
+    row (pair 0 (codes "bz")) (pair 0 (codes "ca")) Less refl ∷
+    row (pair 0 (codes "ab")) (pair 0 (codes "ab")) Equal refl ∷
+    []
+
+abbrev eight : ℕ → List ℕ
+eight n = n ∷ 0 ∷ 0 ∷ 0 ∷ 0 ∷ 0 ∷ 0 ∷ 0 ∷ []
+
+-- the code, the digest's length, and each byte
+feeds_code_length_and_bytes : hashed_pair (pair 3 (codes "AB")) ≡ eight 3 ∷ eight 2 ∷ (65 ∷ []) ∷ (66 ∷ []) ∷ []
+unfolding le_bytes
+feeds_code_length_and_bytes = refl

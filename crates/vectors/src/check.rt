@@ -136,7 +136,9 @@ impl Reading {
             (Verdict::Insufficient | Verdict::UnexpectedEof, Some(_)) | (_, None) => false,
             (_, Some(count)) => consumed == count,
         };
-        self.verdict.is_result(found) && is_consumed
+        self.verdict.is_result(found)
+            && is_consumed
+            && is_incomplete(found) == self.consumed.is_none()
     }
 
     // The same for `scale_decode`, which may consume any part of an incomplete input.
@@ -151,8 +153,14 @@ impl Reading {
             (Verdict::UnexpectedEof, Some(_)) | (_, None) => false,
             (_, Some(count)) => input.len().saturating_sub(left.len()) == count,
         };
-        self.verdict.is_result(found) && is_consumed
+        self.verdict.is_result(found)
+            && is_consumed
+            && is_incomplete(found) == self.consumed.is_none()
     }
+}
+
+fn is_incomplete<const S: usize>(found: &Result<Multihash<S>, Error>) -> bool {
+    matches!(found, Err(e) if e.is_incomplete())
 }
 
 // Of an input that ends within a varint all bytes are consumed, of one that ends within the digest both
