@@ -1,9 +1,9 @@
 #!/usr/bin/env python3
 """Writes docs/CONTRACTS.md: the public items of crates, with the contracts of their functions.
 
-A line is left out or kept, never changed, so no clause can change, and no public name can go,
-without a difference in that page. Left out are comments, bodies and what is private. The words of
-the clauses follow, with the comments of their definitions.
+A line is left out or kept, never changed, so no clause and no documentation can change, and no
+public name can go, without a difference in that page. Left out are other comments, bodies and what
+is private. The words of the clauses follow, with the comments of their definitions.
 """
 import re
 import sys
@@ -22,8 +22,8 @@ INTRODUCTION = """\
 # Contracts
 
 Written by `checks/lib/contracts.py`, and compared with the sources in CI: the main theorems, then
-the public items of these crates, as they stand in their files, without comments and bodies. A
-difference here is a changed promise. [CALLING.md](../crates/multihash/CALLING.md#what-contracts-see)
+the public items of these crates, as they stand in their files, without bodies. A difference here is
+a changed promise. [CALLING.md](../crates/multihash/CALLING.md#what-contracts-see)
 says how to read a clause; its words are [at the end](#words).
 
 The functions of `laws.rt` and `pins.rt` do nothing: their clauses are laws of the definitions, and
@@ -32,14 +32,18 @@ fix what implementations expose.
 
 
 def kept_lines(text: str) -> Iterator[str]:
-    """Returns the lines of a text that are no comments and not empty."""
+    """Returns the lines of a text that are not empty, and no comments but those of documentation."""
     for line in text.splitlines():
-        if line and not line.lstrip().startswith("//"):
+        if line and (not line.lstrip().startswith("//") or line.lstrip().startswith("///")):
             yield line
 
 
 def attribute_lines(item: Item, indent: str) -> Iterator[str]:
-    """Returns the attributes that a caller can see."""
+    """Returns an item's documentation, and the attributes that a caller can see."""
+    above = item.text[: item.start].splitlines()
+    above = above[: len(above) - bool(indent) - item.attributes.count("\n")]
+    documentation = takewhile(lambda line: line.startswith(f"{indent}///"), reversed(above))
+    yield from reversed([*documentation])
     for line in map(str.strip, kept_lines(item.attributes)):
         if not OF_BODIES.match(line):
             yield indent + line
@@ -150,7 +154,7 @@ def written_page(texts: dict[str, str]) -> str:
             page += f"\n## {crate}\n" if crate != last else ""
             page += section_of(path, text)
             last = crate
-    used = {*re.findall(r"[\w-]+", page)}
+    used = {*re.findall(r"[\w-]+", re.sub(r"(?m)^ *///.*$", "", page))}
     page += "\n## Words\n\nThose that the clauses above use, by the files that define them.\n"
     for path, text in texts.items():
         rows = [*word_rows(text, used)] if path.endswith(".antt") else []

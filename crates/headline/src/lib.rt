@@ -35,8 +35,8 @@ pub fn verdict<const S: usize>(bytes: &[u8]) -> Result<Multihash<S>, Error>
     Multihash::from_bytes(bytes)
 }
 
-/// Reads the multihash that comes next in a reader. `read` stops at the byte that decides the result. The clauses say what was read and what is left if the
-/// reader's input is known (`rest`), as it is for a slice.
+/// Reads the multihash that comes next in a reader. `read` stops at the byte that decides the result. The clauses
+/// say what was read and what is left if the reader's input is known (`rest`), as it is for a slice.
 pub fn read_verdict<const S: usize, R: Read>(r: &mut R) -> Result<Multihash<S>, Error>
     // Either the reader failed, once, and its error is the result; or it did not fail, the grammar assigns
     // exactly one verdict to the rest, and that is the result.
