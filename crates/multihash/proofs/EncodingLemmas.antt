@@ -1,6 +1,6 @@
 -- Encodings: their parts and lengths; each pair has one; they are bytes. What is known of every value, also of one
 -- that nothing has read yet: its digest fits the buffer. The encoding of a pair in range is `encoding_of` it.
-use Rattle.std.proofs.Common.{◌≡◌, ℕ, ◌<◌, ◌≤◌, ◌+◌, List, [], ◌∷◌, ◌++◌, length, take, refl, sym, ap, ◌∙◌, subst, arith, length-append, append_assoc, map, get_or, ◌↔◌}
+use Rattle.std.proofs.Common.{◌≡◌, ℕ, ◌<◌, ◌≤◌, ◌+◌, List, [], ◌∷◌, ◌++◌, length, take, refl, sym, ap, ◌∙◌, subst, arith, length-append, append_assoc, map, get_or}
 use Rattle.multihash.specs.Pair.{Pair, FitsBuffer}
 use Rattle.multihash.specs.Varint.{IsVarint, max_continuation, varint_limit, continuation_bytes}
 use Rattle.multihash.specs.Encoding.{IsEncoding, varint_of, encoding_of}
@@ -108,11 +108,6 @@ pub ruleset zeros_after = (drop-replicate)
 pub digest_fits : {S : ℕ} (m : Fields S) → FitsBuffer S (pair_of m)
 digest_fits m = omega (arith, length-take m.size m.buffer, m.fits)
 
--- an encoding is at most the code's bytes, two of the size and 255 of the digest
-pub encoding_within : {S : ℕ} (m : Fields S) (bytes : List ℕ) → IsEncoding (pair_of m) bytes
-    → length bytes ≤ (max_continuation + 1) + 2 + 255
-encoding_within m bytes e = omega (arith, encoding_length (pair_of m) bytes e (omega (arith, digest_fits m)))
-
 pub all_fit : {S : ℕ} (items : List (Fields S)) → All (FitsBuffer S) (map pair_of items)
 all_fit {S} items = All-map (FitsBuffer S) pair_of items (λ k d within. digest_fits (get_or items k d))
 
@@ -139,11 +134,6 @@ is_encoding_of p code size = record {
 -- only pairs in range have an encoding
 pub encoding_is : (p : Pair) (bytes : List ℕ) → IsEncoding p bytes → bytes ≡ encoding_of p
 encoding_is p bytes e = encoding_same p bytes (encoding_of p) e (is_encoding_of p e.is_code.in_range e.is_size.in_range)
-
-pub encoding_exactly : (p : Pair) (bytes : List ℕ) → p.code < varint_limit → length p.digest < varint_limit
-    → IsEncoding p bytes ↔ (bytes ≡ encoding_of p)
-encoding_exactly p bytes code size =
-    (encoding_is p bytes, λ same. subst (IsEncoding p) (sym same) (is_encoding_of p code size))
 
 -- each value is in range
 pub encoding_of_value : {S : ℕ} (m : Fields S) → IsEncoding (pair_of m) (encoding_of (pair_of m))

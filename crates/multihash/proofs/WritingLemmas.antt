@@ -90,14 +90,6 @@ pub full_of_errors : (n : ℕ) (is_full : Type 0) (e : Fault) → IsWriterFaultO
 full_of_errors n is_full e (inl error) = elim error.cause [ inl rose ↦ absurd (omega arith) | inr memory ↦ absurd (false≢true memory.0) ]
 full_of_errors n is_full e (inr full) = full.2
 
--- the slice after filling it, as one list
-pub filled_slice : (old bytes new : List ℕ) (n m : ℕ) → FillsSlice old n bytes new m → new ≡ take n old ++ (bytes ++ drop (n + length bytes) old)
-filled_slice old bytes new n m h =
-    let rest : List ℕ = drop (n + length bytes) old in
-    let unchanged : drop m new ≡ rest = h.advances.left ∙ drop-drop (length bytes) n old in
-    sym (take-append-drop m new) ∙ ap (λ (z : List ℕ). z ++ drop m new) h.appends ∙ ap (λ (z : List ℕ). (take n old ++ bytes) ++ z) unchanged
-    ∙ append_assoc (take n old) bytes rest
-
 -- and a slice that is this list has been filled
 pub fills_slice : (old bytes new : List ℕ) (n m : ℕ) → n + length bytes ≤ length old → m ≡ n + length bytes
     → new ≡ take n old ++ (bytes ++ drop (n + length bytes) old) → FillsSlice old n bytes new m
