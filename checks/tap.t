@@ -18,7 +18,7 @@ expect() {
   echo "$result $number - ${text//'#'/}"
 }
 
-echo 1..64
+echo 1..63
 expect "not ok 1 - a\nok 2 - b" ". checks/lib/tap.sh; try a false; try b true"
 expect "not ok 1 - a" ". checks/lib/tap.sh; try a no_such_command"
 expect "not ok 1 - a\n# why" ". checks/lib/tap.sh; try a sh -c 'echo why >&2; exit 1' 2>&1"
@@ -128,6 +128,3 @@ text='[ $0 = checks/rt.t ] && touch "$PROVED/built" || [ "$BUILT" ] && echo ok 1
 expect 0 "ran '$text' 'cp checks/rt.t checks/lint.t'"
 # the last: only one of two checks is run
 expect 1 "ran 'echo ok 1' 'cp checks/rt.t checks/lint.t; sed -i \"s|timer checks|&/rt.t|\" .ci/run'"
-
-# The tests of a crate fail.
-expect 123 "printf '#!/bin/sh\nexit 1' > rt; chmod +x rt; PATH=\$PWD:\$PATH \$top/tools/tests fakes > log; echo \$?"

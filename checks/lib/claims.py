@@ -263,7 +263,7 @@ cmake -B FOLDER [-DCMAKE_INSTALL_PREFIX=/usr | -DMULTIHASH_C_ARCHIVE=OFF]; cmake
 cmake --install FOLDER; cp -r FROM TO; ctest --test-dir FOLDER; dpkg-buildpackage -b -us -uc -d [-aarm64]; node FILE
 npm install FOLDER; pip install [--no-build-isolation] FOLDER; prove [--verbose] --exec '' CHECK; python -m build
 python -m verified_multihash [HEX]; python3 -m venv FOLDER; rt check; rt ci; rt lemma WORD..
-rt lib; rt try --data verdicts.tsv=my_vectors.tsv; sha256sum --check SHA256SUMS"""
+rt lib; rt try --test; rt try --data verdicts.tsv=my_vectors.tsv; sha256sum --check SHA256SUMS"""
 # blocks that a check compiles or runs, or of which it compares the output, by their languages or first words
 READ_BY_OTHERS = {
     README: ("text", "js", "python", "rust", "c", "sh"),  # run, byte_errors
