@@ -62,7 +62,7 @@ planted_archive() {
   ar r "$work/planted.a" "$work/more.o"
   rejects "> multihash_more" exports_exactly "$work/planted.a"
   rejects "> malloc" needs_copies_alone "$work/planted.a"
-  rejects ALLOC writes_nothing "$work/planted.a"
+  rejects "  ALLOC" writes_nothing "$work/planted.a"
 }
 
 # A test in C calls each function that the header declares.

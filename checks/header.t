@@ -21,7 +21,7 @@ LIB = Path(__file__).with_name("lib")
 sys.path.append(str(LIB))
 import edits
 import tap
-from rt_source import Item, functions, items
+from rt_source import Item, items
 
 TOP = Path(__file__).resolve().parents[1]
 CRATE = "crates/multihash_c"
@@ -37,7 +37,6 @@ UNREAD = (
     "struct A { a: u8 }\n",
     "struct A {\n    =\n}\n",
     "fn a()\n    requires { { }\n    ensures { } }\n{\n}\n",
-    "mod a {\n    fn b() {}\n}\n",
 )
 
 # The files that are compared.
@@ -245,7 +244,7 @@ def make_edits(text: str) -> object:
 
 def read_source(text: str) -> object:
     fields = [[*item.parts()] for item in items(text) if item.kind == "struct"]
-    return fields, [[*function.clauses()] for _, function in functions(text)]
+    return fields, [[*item.clauses()] for item in items(text) if item.kind == "fn"]
 
 
 def unread() -> Iterator[tap.Result]:
@@ -278,7 +277,7 @@ def main() -> int:
         return 0
     if not shutil.which("c++"):
         return tap.report([tap.left_out("all", "c++ is not installed")], 1)
-    return tap.report(results(), 41)
+    return tap.report(results(), 40)
 
 
 if __name__ == "__main__":

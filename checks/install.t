@@ -97,7 +97,7 @@ builds_for_windows() {
 
 # The test of a copy whose header does not fit the library, or whose examples print something else.
 planted_test() {
-  rejects_edits "$work/un packed built" installed_test "$work/planted" << 'END'
+  rejects_edits "$work/un packed built" "$work/planted/$document/examples/test.sh" "$work/planted" << 'END'
 failed: static: a non-minimal varint|sed -i 's/MULTIHASH_NOT_MINIMAL = 3/MULTIHASH_NOT_MINIMAL = 9/' include/multihash.h
 4 passed, 10 failed|sed -i 's/printf(\(stderr, \)\?"/&x/' share/doc/multihash_c/examples/*.c
 END
@@ -262,6 +262,7 @@ man_pages() {
   local text page
   mandoc -T lint man3/multihash.3 "$top/crates/mh_show/mh_show.1"
   grep -Lx '.so man3/multihash.3' man3/* | diff <(echo man3/multihash.3) -
+  sed -n 's/^\.Nm \(\S*\).*/\1.3/p' man3/multihash.3 | sort | diff <(ls man3) -
   page=$(mandoc -T utf8 man3/multihash.3 | sed 's/.\x08//g' | tr -cd '[:alnum:]')
   { date -d "$(sed -n "s/^$version (\(.*\))/\1/p" "$top/CHANGES")" '+%B%-d%Y'
     printf '%s\n' "LIBRARYmultihashcversion${version//./}pkgconfigcflagslibsmultihashc" SYNOPSISincludemultihashh
@@ -298,7 +299,7 @@ test_programs() {
   try "a project of CMake: 15 comparisons" by_find_package
   try "a folder of a project of CMake: 4 comparisons" by_subdirectory
   needs=go try "Go: 1 comparison" in_go
-  needs=mandoc try "man pages: 5 comparisons" pages
+  needs=mandoc try "man pages: 7 comparisons" pages
   needs="cargo $crates" try "the packages for Rust, as installed" rust_crate
 }
 

@@ -4,7 +4,7 @@
 # sanitizers, on other machines in emulators, and against the archive's results.
 # shellcheck source=checks/lib/tap.sh
 . "$(dirname "$0")/lib/tap.sh"
-plan 18 cc python3
+plan 19 cc python3
 # shellcheck source=checks/lib/proved.sh
 . checks/lib/proved.sh
 # shellcheck source=checks/lib/warnings.sh
@@ -63,9 +63,19 @@ two_files() {
   cmp LICENSE "$tree/LICENSE"
   cmp bindings/c/src/README.md "$tree/README.md"
   cmp bindings/c/include/multihash.h "$tree/multihash.h"
+  same_object bindings/c/src
+}
+
+# The one file compiles to the same object as the several.
+same_object() {
   cc -O2 "${c_flags[@]}" -c "$tree/multihash.c" -o "$work/one.o"
-  cc -O2 "${c_flags[@]}" -I bindings/c/include -c bindings/c/src/multihash.c -o "$work/apart.o"
+  cc -O2 "${c_flags[@]}" -I bindings/c/include -c "$1/multihash.c" -o "$work/apart.o"
   cmp "$work/one.o" "$work/apart.o"
+}
+another_source() {
+  cp -r bindings/c/src "$work/another"
+  sed -i '0,/ = 127ull;/s// = 126ull;/' "$work/another/module.h"
+  rejects differ same_object "$work/another"
 }
 
 # The tests pass over multihash.c of a folder. What is built is kept in another one; the last words are a compiler with
@@ -141,6 +151,7 @@ END
 
 test_here() {
   try "two files: 5 comparisons" two_files
+  try "two files of another source" another_source
   test_compiler cc
   needs="all clang" test_compiler clang
   needs="clang llvm-nm" try "objects without a C library: 5 comparisons" freestanding "$tree"

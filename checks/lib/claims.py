@@ -260,7 +260,7 @@ def alike(words: list[str], others: list[str]) -> float:
 USAGE = """. FILE; ar rc ARCHIVE OBJECT; cargo add NAME --path FOLDER; cargo tree -i NAME; cargo update -p NAME
 cc -O2 -c FILE; cc -std=c11 [-static] FILE $(pkg-config --cflags --libs multihash_c) -o PROGRAM; cd FOLDER
 cmake -B FOLDER [-DCMAKE_INSTALL_PREFIX=/usr | -DMULTIHASH_C_ARCHIVE=OFF]; cmake --build FOLDER
-cmake --install FOLDER; cp -r FROM TO; ctest --test-dir FOLDER; dpkg-buildpackage -b -us -uc -d [-aarm64]; node FILE
+cmake --install FOLDER; DESTDIR=/tmp/package cmake --install FOLDER; cp -r FROM TO; ctest --test-dir FOLDER; dpkg-buildpackage -b -us -uc -d [-aarm64]; node FILE
 npm install FOLDER; pip install [--no-build-isolation] FOLDER; prove [--verbose] --exec '' CHECK; python -m build
 python -m verified_multihash [HEX]; python3 -m venv FOLDER; rt check; rt ci; rt lemma WORD..
 rt lib; rt try --test; rt try --data verdicts.tsv=my_vectors.tsv; sha256sum --check SHA256SUMS"""
@@ -329,7 +329,7 @@ def usage_errors(page: str, text: str) -> Iterator[str]:
     paths = re.findall(r"(?<![\w/.])((?:bindings|crates|docs)/[\w./]+)", "\n".join(blocks))
     yield from (f"there is no {path}" for path in paths if not (TOP / path).exists())
     for command in re.split(r"\n|&&", "\n".join([*blocks, *commands])):
-        command = re.sub(r"^[\s(]*(?:[A-Z]+=\S+ )*|(?<=check)\)$", "", command.strip())
+        command = re.sub(r"^[\s(]*|(?<=check)\)$", "", command.strip())
         if command and not form.fullmatch(command):
             yield f"no usage has this form: {command}"
     comments = (

@@ -166,7 +166,9 @@ CHECKS: dict[str, Callable[[Texts], Iterator[str]]] = {
 
 def planted(texts: Texts) -> Iterator[tap.Result]:
     """Plants differences, each of which has to be found."""
-    for name, _, seen, its_edits in edits.read(Path(__file__).with_name("pages.edits")):
+    found = edits.read(Path(__file__).with_name("pages.edits"))
+    yield "each comparison has a planted difference", " ".join(sorted({*CHECKS} - {it.seen for it in found}))
+    for name, _, seen, its_edits in found:
         yield tap.planted(name, any(CHECKS[seen]({**texts, **edits.apply(texts, its_edits)})))
 
 

@@ -130,14 +130,3 @@ def items(text: str, code: str = "", start: int = 0, end: int | None = None, dep
         found.append(Item(kind, name, is_public, attributes, text, code, at, after, to))
         attributes = ""
     return found
-
-
-def functions(text: str) -> Iterator[tuple[Item | None, Item]]:
-    """Returns each function of a text, after the impl or the trait that it is a member of."""
-    for item in items(text):
-        if item.kind == "fn":
-            yield None, item
-        elif item.kind in ("impl", "trait"):
-            yield from ((item, member) for member in item.members() if member.kind == "fn")
-        elif item.kind == "mod" and "{" in item.code[item.after : item.end]:
-            raise Unread(f"a module in a file: {item.source[:90]}")
