@@ -155,9 +155,9 @@ def number_errors(page: str, text: str) -> Iterator[str]:
 ELSEWHERE = """\
 #[tactic(..)]; &mut r; (x : T) × P; (x : T) → P; -DMULTIHASH_C_ARCHIVE=FILE; -DMULTIHASH_C_PROGRAM=FILE
 -DMULTIHASH_C_SHARED=OFF; /usr/local; Arbitrary; area: what changes; c.from_residual-in_err-NAME.ensures.1
-c.in_err-NAME.ensures.CLAUSE; checks/NAME.t; CMAKE_PREFIX_PATH; const fn; crates/NAME; crates/NAME/mutants/
-crates/tests_*; crypto.timingSafeEqual; CRYPTO_memcmp; From<Multihash<S>>; gcc-aarch64-linux-gnu; hmac.compare_digest
-IfSome (R.rest r.old) P; LD_LIBRARY_PATH=PREFIX/lib; min(S, 255) + 11; MULTIHASH_C_STATIC; mutants/NAME.edits; P → Q
+c.in_err-NAME.ensures.CLAUSE; checks/NAME.t; CMAKE_PREFIX_PATH; const fn; crates/NAME
+crypto.timingSafeEqual; CRYPTO_memcmp; From<Multihash<S>>; gcc-aarch64-linux-gnu; hmac.compare_digest
+IfSome (R.rest r.old) P; LD_LIBRARY_PATH=PREFIX/lib; min(S, 255) + 11; MULTIHASH_C_STATIC; P → Q
 PKG_CONFIG_PATH=PREFIX/lib/pkgconfig; postMessage; python3-dev; rattle-kit-13f; read(r: R); requires { S < 65536 }
 Result: PASS; returns-in_err-NAME; S + 10; socket.makefile("rb"); tests_*
 the borrow checker does not cover this function yet; to_bytes(&self) -> Vec<u8>
