@@ -187,7 +187,7 @@ test_installation() {
   try "the portable source" from_source
   try "packing: 22 comparisons" packs
   try "planted differences: 62 comparisons" planted_prefix
-  try "the installed test of planted files: 4 comparisons" planted_test
+  try "the installed test of planted files: 2 comparisons" planted_test
   try "the installed test of nothing" rejects "no multihash_c.pc" bindings/c/examples/test.sh "$work/none"
   try "other machines: 5 comparisons" machines
   needs=/lib64/ld-linux-x86-64.so.2 try "x86-64 with 32 bits: 1 comparison" gets Linux x86_64 -m32 OFF ON

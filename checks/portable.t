@@ -61,6 +61,7 @@ two_files() {
   tools/portable_c "$work/a folder/tree"
   diff -r "$tree" "$work/a folder/tree"
   cmp LICENSE "$tree/LICENSE"
+  diff LICENSE <(sed -n "3,$(($(wc -l < LICENSE) + 2))p" "$tree/multihash.c")
   cmp bindings/c/src/README.md "$tree/README.md"
   cmp bindings/c/include/multihash.h "$tree/multihash.h"
   same_object bindings/c/src
@@ -150,7 +151,7 @@ END
 }
 
 test_here() {
-  try "two files: 5 comparisons" two_files
+  try "two files: 6 comparisons" two_files
   try "two files of another source" another_source
   test_compiler cc
   needs="all clang" test_compiler clang

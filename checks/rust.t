@@ -15,10 +15,13 @@ in_crate() {
 
 # The tests pass with and without features, the pages have no warnings, and need no library on docs.rs.
 rust_binding() {
+  local features
   in_crate DOCS_RS=1 MULTIHASH_C_LIB_DIR=none cargo doc --no-deps
   in_crate cargo test --no-default-features
   in_crate cargo test --no-default-features --features alloc
   in_crate cargo test
+  features=$(in_crate cargo tree -p multihash -e normal,features)
+  [[ $features = multihash* && $features != *"multihash_c feature"* ]]
 }
 
 # A clone without archives has the portable source, each file of which is watched, and uses the compiler that CC names.

@@ -47,6 +47,7 @@ fuzz() {
 build "$here/src" "$work/plain"
 fuzz plain 20000
 grep -x 'Done 20000 runs in .*' "$work/log"
+[ "$(grep -c 'runtime error: ' "$work/log")" = 0 ]
 
 cp -r "$here/src" "$work/source"
 sed -i '/w2c_multihash_from_bytes(/s/bytes_length)/bytes_length - (bytes_length > 281))/' "$work/source/multihash.c"

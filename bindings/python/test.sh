@@ -28,7 +28,7 @@ python=$to/venv/bin/python
 builds() {
   rm -rf "$to/dist" "$to/again"
   "$here/pack.sh" "$to/dist" "$archive"
-  "$here/pack.sh" "$to/again" "$archive"
+  (umask 077; "$here/pack.sh" "$to/again" "$archive")
   diff -r "$to/dist" "$to/again"
   ls "$to"/dist/verified_multihash-[0-9]*.tar.gz
   basename "$to"/dist/*.whl
