@@ -74,9 +74,9 @@ same_object() {
   cmp "$work/one.o" "$work/apart.o"
 }
 another_source() {
-  cp -r bindings/c/src "$work/another"
-  sed -i '0,/ = 127ull;/s// = 126ull;/' "$work/another/module.h"
-  rejects differ same_object "$work/another"
+  cp -r bindings/c/src "$work/source of another"
+  sed -i '0,/ = 127ull;/s// = 126ull;/' "$work/source of another/module.h"
+  rejects differ same_object "$work/source of another"
 }
 
 # The tests pass over multihash.c of a folder. What is built is kept in another one; the last words are a compiler with

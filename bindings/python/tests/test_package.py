@@ -341,6 +341,9 @@ class Names(unittest.TestCase):
             names = list(parameters_of(call))
             by_name, by_position = call(**dict(zip(names, arguments))), call(*arguments)
             self.assertEqual((str(by_name), len(names)), (str(by_position), len(arguments)))
+            self.assertRaises(TypeError, call, *arguments, 1)
+        for call in (vm.encode, vm.scale_encode, vm.encoded_len, vm.compare, Multihash):
+            self.assertRaises(TypeError, call, 1)
 
     def test_stub(self):
         """Results and attributes have the types of the stub."""
