@@ -259,11 +259,11 @@ def alike(words: list[str], others: list[str]) -> float:
 # the usage of programs of others
 USAGE = """. FILE; ar rc ARCHIVE OBJECT; cargo add NAME --path FOLDER; cargo tree -i NAME; cargo update -p NAME
 cc -O2 -c FILE; cc -std=c11 [-static] FILE $(pkg-config --cflags --libs multihash_c) -o PROGRAM; cd FOLDER
-cmake -B FOLDER [-DCMAKE_INSTALL_PREFIX=/usr | -DMULTIHASH_C_ARCHIVE=OFF]; cmake --build FOLDER
-cmake --install FOLDER; DESTDIR=/tmp/package cmake --install FOLDER; cp -r FROM TO; ctest --test-dir FOLDER; dpkg-buildpackage -b -us -uc -d [-aarm64]; node FILE
+cmake -B FOLDER [-DCMAKE_INSTALL_PREFIX=/usr | -DMULTIHASH_C_ARCHIVE=OFF]; cmake --build FOLDER; ctest --test-dir FOLDER
+cmake --install FOLDER; DESTDIR=/tmp/package cmake --install FOLDER; dpkg-buildpackage -b -us -uc -d [-aarm64]
 npm install FOLDER; pip install [--no-build-isolation] FOLDER; prove [--verbose] --exec '' CHECK; python -m build
-python -m verified_multihash [HEX]; python3 -m venv FOLDER; rt check; rt ci; rt lemma WORD..
-rt lib; rt try --test; rt try --data verdicts.tsv=my_vectors.tsv; sha256sum --check SHA256SUMS"""
+python -m verified_multihash [HEX]; python3 -m venv FOLDER; rt check; rt ci; rt lemma WORD..; cp -r FROM TO
+rt lib; node FILE; rt try --test; rt try --data verdicts.tsv=my_vectors.tsv; sha256sum --check SHA256SUMS"""
 # blocks that a check compiles or runs, or of which it compares the output, by their languages or first words
 READ_BY_OTHERS = {
     README: ("text", "js", "python", "rust", "c", "sh"),  # run, byte_errors
