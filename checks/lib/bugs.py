@@ -18,6 +18,7 @@ import sys
 import tempfile
 from collections import defaultdict
 from collections.abc import Iterator
+from concurrent.futures import ThreadPoolExecutor
 from itertools import zip_longest
 from pathlib import Path
 from typing import NamedTuple
@@ -135,7 +136,7 @@ def open_clauses(log: str, function: str) -> tuple[str, set[str]]:
     return state[2], {re.sub("^returns.*-clause-|(?<=^returns)-.*", "", goal) for goal in goals}
 
 
-def try_proof(crate: str, bugs: list[Bug]) -> Iterator[tap.Result]:
+def try_proof(group: Group, bugs: list[Bug]) -> Iterator[tap.Result]:
     """Proves a crate in the folder PROVED, or another, and plants bugs in a copy of it."""
     bodies: dict[str, list[Bug]] = defaultdict(list)
     for bug in bugs:
@@ -143,12 +144,12 @@ def try_proof(crate: str, bugs: list[Bug]) -> Iterator[tap.Result]:
     with tempfile.TemporaryDirectory(prefix="bugs-") as folder:
         proved = Path(os.environ.get("PROVED") or f"{folder}/proved")
         copy_crates(proved)
-        status, log = check(proved / "crates" / crate)
-        yield f"{crate} without a bug", log[-300:] if status else ""
+        status, log = check(proved / "crates" / group.crate)
+        yield f"{group.crate} without a bug", log[-300:] if status else ""
         copy = Path(folder) / "planted"
         shutil.copytree(proved, copy)
         for planted in zip_longest(*bodies.values()):
-            yield from try_round(copy, crate, [bug for bug in planted if bug])
+            yield from try_round(copy, group.crate, [bug for bug in planted if bug])
 
 
 def try_round(copy: Path, crate: str, bugs: list[Bug]) -> Iterator[tap.Result]:
@@ -173,9 +174,10 @@ def rejected(bugs: list[Bug], log: str) -> Iterator[tap.Result]:
 
 def results() -> Iterator[tap.Result]:
     found = groups()
-    # the proof first, as other checks wait for it
-    for group, bugs in sorted(found.items(), key=lambda item: (not item[0].is_proof, item[0])):
-        yield from try_proof(group.crate, bugs) if group.is_proof else try_tests(group, bugs)
+    with ThreadPoolExecutor(2) as pool:  # the proof beside the tests
+        ordered = sorted(found.items(), key=lambda item: (not item[0].is_proof, item[0]))
+        for tried in pool.map(lambda item: [*(try_proof if item[0].is_proof else try_tests)(*item)], ordered):
+            yield from tried
     tests = [(group.crate, bug.seen_by) for group, bugs in found.items() if not group.is_proof for bug in bugs]
     yield "each bug of tests has a test of its own", "" if len({*tests}) == len(tests) else "two have one"
     bugs = [Bug("", "a", "fails", []), Bug("", "ab", "passes", [])]
