@@ -1,10 +1,5 @@
 #!/usr/bin/env bash
 # Tests the module for JavaScript. It prints results as TAP, and its status is 1 if one failed.
-#
-#   bindings/js/test.sh
-#
-#   PROVED=FOLDER    a copy of the repository whose crates are proved: build.sh builds a copy of these, else it builds
-#                    here
 here=$(dirname "$(readlink -f "${BASH_SOURCE[0]}")")
 # shellcheck source=checks/lib/tap.sh
 . "$here/../../checks/lib/tap.sh"
@@ -95,7 +90,8 @@ packed_types() {
   "${strict[@]}" --lib es2022,dom,dom.iterable example.ts
 }
 
-# In a browser, pages show texts: each line of standard input is a page, and texts after tabs.
+# In a browser, pages show texts: each line of standard input is a page, and texts after tabs, some of which are actions
+# of page.html.
 shows() {
   mkdir -p "$work/frames"
   cat > "$work/frames/frames"
@@ -108,8 +104,9 @@ packed_page() {
 }
 
 demo() {
-  local example
+  local example bytes
   example=$(cat "$top/crates/mh_show/stdin")
+  bytes=$(printf '07%.0s' {1..301})
   sed 's/^/demo.html#/; s/|/\t/g' << END | shows "$1"
 $example|Valid: code 22, digest of 32 bytes.|22 (0x16)|3 to 34|32
 ${example}00|1 byte follows the multihash.|Byte 35 of 35: 00|The first 34 bytes are a multihash.|Keep the first 34 bytes
@@ -124,6 +121,13 @@ ffffffffffffffffff01|A varint has more than nine bytes|Byte 9 of 10: ff|a varint
 120|The number of digits, 3, is odd: each byte has two.
 1200|Valid: code 18, digest of 0 bytes.|empty|none
 0x1201|Still needed: 1 byte.
+%200x12%2001|Still needed: 1 byte.
+1200${bytes}|301 bytes follow|… and 1 byte more|3 to 303
+ffffffffffffffff7fff01${bytes::508}|9223372036854775807|12 to 265|Still needed: 1 byte.
+168002|> Keep the first 2 bytes|The whole input can begin a multihash.|= 0x1300|Valid: code 19|# 12 01|1 byte.
+|> Trailing bytes|3 bytes follow|> A multihash|Valid: code 22|> Truncated digest|ends inside the digest
+|> Unfinished varint|before a varint|> Not minimal|longer than needed
+|> Code too large|more than nine bytes|> Digest too long|is too long
 END
 }
 

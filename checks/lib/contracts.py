@@ -15,7 +15,7 @@ from rt_source import Item, items
 
 TOP = Path(__file__).resolve().parents[2]
 PAGE = TOP / "docs" / "CONTRACTS.md"
-PLACES = ("headline", "multihash", "multihash_c", "mh_show", "storage", "examples")
+CRATES = ("headline", "multihash", "multihash_c", "mh_show", "storage", "examples")
 # attributes that no caller can see
 OF_BODIES = re.compile(r"#\[(cold|inline|tactic)\b")
 INTRODUCTION = """\
@@ -117,10 +117,9 @@ def section_of(path: str, text: str) -> str:
 def sources() -> dict[str, str]:
     """Returns the text of each file of the crates, and of their definitions."""
     paths: list[Path] = []
-    for place in PLACES:
-        path = TOP / "crates" / place
-        paths += [path] if path.is_file() else sorted((path / "src").rglob("*.rt"))
-    for crate in sorted({place.split("/")[0] for place in PLACES}):
+    for crate in CRATES:
+        paths += sorted((TOP / "crates" / crate / "src").rglob("*.rt"))
+    for crate in sorted(CRATES):
         paths += sorted((TOP / "crates" / crate / "specs").glob("*.antt"))
     return {str(path.relative_to(TOP)): path.read_text("utf-8") for path in paths}
 
