@@ -1,5 +1,6 @@
 //! Makes the calls that `crates/speed` makes, of the Rust crate `multihash`: the same inputs, loop and sums.
-//! `rust_speed COUNT ROW..` with the words of `crates/speed/args` prints `crates/speed/stdout`.
+//! `rust_speed COUNT ROW..` with the words of `crates/speed/args` before `hash_of` prints `crates/speed/stdout` up to
+//! there.
 //!
 //! To build it, write into an empty folder a Cargo.toml of
 //!

@@ -5,11 +5,14 @@
 use anyhow::{Context, Result};
 use multihash::{Error, Multihash, list};
 use serde_json::Value;
-use std::alloc::Global;
+use std::alloc::{AllocError, Global};
 use std::env;
 use std::hash::{DefaultHasher, Hash, Hasher};
+use storage::content::{hash_of, verify};
+use storage::log::{valid_prefix, write_entry};
+use storage::merkle::{Step, root_and_path, verify_path};
 
-// The number of inputs, and of the items of a list.
+// The number of inputs, of the items of a list, of the entries of a log, and of the leaves of a tree.
 const ROUND: usize = 8;
 
 // Codes whose varints have one byte and nine.
@@ -36,6 +39,10 @@ struct Input {
     stream: Vec<u8>,
     output: Vec<u8>,
     vector: Vec<u8>,
+    log: Vec<u8>,
+    leaves: Vec<Multihash<32>>,
+    root: Multihash<32>,
+    path: Vec<Step>,
 }
 
 impl Input {
@@ -47,6 +54,13 @@ impl Input {
         let items = vec![in alloc; left; ROUND]?;
         let mut stream = Vec::new(alloc);
         list::write_list(&items, &mut stream)?;
+        let leaf = hash_of::<32>(&digest);
+        let mut log = Vec::new(alloc);
+        for _ in 0..ROUND {
+            write_entry(&leaf, &digest, &mut log)?;
+        }
+        let leaves = vec![in alloc; leaf; ROUND]?;
+        let (root, path) = root_and_path(alloc, &leaves, 0)?;
         Ok(Input {
             alloc,
             code,
@@ -61,6 +75,10 @@ impl Input {
             vector: stream.clone()?,
             stream,
             digest,
+            log,
+            leaves,
+            root,
+            path,
         })
     }
 }
@@ -134,7 +152,7 @@ fn making(calls: &mut Calls, row: &str) -> Option<u64> {
     })
 }
 
-// The other calls.
+// The other calls of `multihash`.
 fn using(calls: &mut Calls, row: &str) -> Option<u64> {
     Some(match row {
         "to_bytes" => calls.sum(|it| it.left.to_bytes(it.alloc), ok),
@@ -152,6 +170,21 @@ fn using(calls: &mut Calls, row: &str) -> Option<u64> {
         "scale_encode" => calls.sum(|it| it.left.scale_encode(&mut it.output.as_mut_slice()), ok),
         "to_value" => calls.sum(|it| it.left.to_value(it.alloc), ok),
         "write_list, 8 items" => calls.sum(write_list, ok),
+        _ => return storing(calls, row),
+    })
+}
+
+// The calls of `storage`.
+fn storing(calls: &mut Calls, row: &str) -> Option<u64> {
+    Some(match row {
+        "hash_of" => calls.sum(|it| hash_of::<64>(&it.digest), |m| u64::from(m.size())),
+        "verify" | "verify, long code" => calls.sum(|it| verify(&it.left, &it.digest), ok),
+        "valid_prefix, 8 entries" => calls.sum(|it| valid_prefix(&it.log).len(), |len| *len as u64),
+        "root_and_path, 8 leaves" => calls.sum(root_of, ok),
+        "verify_path, 3 steps" => calls.sum(
+            |it| verify_path(&it.leaves[0], &it.path, &it.root),
+            |is_path| u64::from(*is_path),
+        ),
         _ => return None,
     })
 }
@@ -173,6 +206,13 @@ fn hash(it: &mut Input) -> u64 {
 
 fn write_list(it: &mut Input) -> Result<(), Error> {
     list::write_list(&it.items, &mut it.output.as_mut_slice())
+}
+
+fn root_of(it: &mut Input) -> Result<(Multihash<32>, Vec<Step>), AllocError> {
+    if it.leaves.is_empty() {
+        return Err(AllocError);
+    }
+    root_and_path(it.alloc, &it.leaves, 0)
 }
 
 fn ok<T, E>(made: &Result<T, E>) -> u64 {

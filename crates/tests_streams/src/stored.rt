@@ -1,5 +1,4 @@
-//! Known values of `storage` and `examples`, that their errors are printed, and that each block is hashed
-//! once.
+//! Known values of `storage` and `examples`, and that their errors are printed.
 use examples::content_id::ContentIdError;
 use examples::peer_id::PeerError;
 use fakes::expect::ErrorKind;
@@ -10,7 +9,6 @@ use multihash::no_std_io::{self, Write};
 use std::alloc::Global;
 use std::error::Error;
 use std::process::Abort;
-use std::time::CpuClock;
 use storage::content::{SHA2_256, UnknownCode, hash_of};
 use storage::hashing::{ContentHasher, HashingWriter};
 use storage::log::{Entry, EntryError, read_entry, valid_prefix, write_entry};
@@ -121,36 +119,4 @@ fn each_inner_error_is_printed(rt: HostRuntime) {
     expect_printed(&rt, rt.alloc(), &EntryError::Failed(link_down()));
     expect_printed(&rt, rt.alloc(), &ContentIdError::Rejected(link_down()));
     expect_printed(&rt, rt.alloc(), &PeerError::Malformed(link_down()));
-}
-
-// A log of a block of that many bytes, and then as many entries without a block.
-fn log_of(rt: &impl Abort, alloc: Global, len: usize, entries: usize) -> Vec<u8> {
-    let block = expect_ok!(rt; vec![in alloc; 7u8; len]);
-    let mut log = Vec::new(alloc);
-    expect_ok!(rt; write_entry(&hash_of::<32>(&block), &block, &mut log));
-    for _ in 0..entries {
-        expect_ok!(rt; write_entry(&hash_of::<32>(b""), b"", &mut log));
-    }
-    log
-}
-
-// The time of the processor in which the whole log is found to be valid.
-fn time_of(rt: &(impl Abort + CpuClock), log: &[u8]) -> u128 {
-    let start = expect_ok!(rt; rt.thread_cpu_time());
-    check_eq!(rt; valid_prefix(log).len(), log.len());
-    let end = expect_ok!(rt; rt.thread_cpu_time());
-    end.saturating_sub(start).as_micros()
-}
-
-// Each block is hashed once: the time of 101 entries is not that of the long one 101 times. One of three
-// tries shows it, since a busy machine slows a try down.
-#[test]
-fn each_block_is_hashed_once(rt: HostRuntime) {
-    let short = log_of(&rt, rt.alloc(), 1 << 13, 1);
-    let long = log_of(&rt, rt.alloc(), 1 << 13, 100);
-    let mut is_seen = false;
-    for _ in 0..3 {
-        is_seen = is_seen || time_of(&rt, &long) / 20 <= time_of(&rt, &short);
-    }
-    check!(&rt; is_seen);
 }
