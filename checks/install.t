@@ -3,7 +3,7 @@
 # pages and the packages for Rust, of the archives, in emulators for aarch64 and Windows, and of the portable source.
 # shellcheck source=checks/lib/tap.sh
 . "$(dirname "$0")/lib/tap.sh"
-plan 22 cc cmake python3 readelf pkg-config
+plan 23 cc cmake python3 readelf pkg-config
 # shellcheck source=checks/lib/installed.sh
 . checks/lib/installed.sh
 # shellcheck source=checks/lib/warnings.sh
@@ -19,7 +19,15 @@ build() {
   cmake -S "$top" -B "$to" "${@:2}"
   cmake --build "$to"
   prints '100% tests passed, 0 tests failed out of 2' ctest --output-on-failure --test-dir "$to"
-  [ "$(command grep -c ' lines, drawn: 100000' "$to/Testing/Temporary/LastTest.log")" = 2 ]
+  both_ran "$to/Testing/Temporary/LastTest.log"
+}
+
+# The tests of both libraries drew inputs.
+both_ran() { command grep -c ' lines, drawn: 100000' "$1" | diff - <(echo 2); }
+
+planted_log() {
+  sed '0,/ drawn: 100000/s// drawn: 10000/' "$work/built/Testing/Temporary/LastTest.log" > "$work/planted.log"
+  both_ran "$work/planted.log"
 }
 
 install_built() { cmake --install "$work/$1" "${@:2}"; }
@@ -98,6 +106,7 @@ builds_for_windows() {
 # The test of a copy whose header does not fit the library, or whose examples print something else.
 planted_test() {
   rejects_edits "$work/un packed built" "$work/planted/$document/examples/test.sh" "$work/planted" << 'END'
+failed: static: show.c builds|rm lib/libmultihash_c.a
 failed: static: a non-minimal varint|sed -i 's/MULTIHASH_NOT_MINIMAL = 3/MULTIHASH_NOT_MINIMAL = 9/' include/multihash.h
 4 passed, 10 failed|sed -i 's/printf(\(stderr, \)\?"/&x/' share/doc/multihash_c/examples/*.c
 END
@@ -176,7 +185,8 @@ with_flags() {
 }
 
 test_installation() {
-  try "building: 1 comparison" build built -DCMAKE_INSTALL_PREFIX="$prefix"
+  try "building: 2 comparisons" build built -DCMAKE_INSTALL_PREFIX="$prefix"
+  try "a test that draws less" rejects "< 1" planted_log
   try "installing: 9 comparisons" installs
   needs=$own try "the archive keeps its bytes" cmp "$own" "$prefix/lib/libmultihash_c.a"
   try "after edits: 5 comparisons" after_edits
@@ -185,9 +195,9 @@ test_installation() {
     another_function
   try "installing below a folder" installs_below
   try "the portable source" from_source
-  try "packing: 22 comparisons" packs
+  try "packing: 23 comparisons" packs
   try "planted differences: 62 comparisons" planted_prefix
-  try "the installed test of planted files: 2 comparisons" planted_test
+  try "the installed test of planted files: 3 comparisons" planted_test
   try "the installed test of nothing" rejects "no multihash_c.pc" bindings/c/examples/test.sh "$work/none"
   try "other machines: 5 comparisons" machines
   needs=/lib64/ld-linux-x86-64.so.2 try "x86-64 with 32 bits: 1 comparison" gets Linux x86_64 -m32 OFF ON
@@ -305,5 +315,5 @@ test_programs() {
 
 test_installation
 test_programs
-needs="aarch64-linux-gnu-gcc qemu-aarch64" try "building for aarch64: 2 comparisons" builds_for_aarch64
-needs="x86_64-w64-mingw32-gcc wine" try "building for Windows: 1 comparison" builds_for_windows
+needs="aarch64-linux-gnu-gcc qemu-aarch64" try "building for aarch64: 3 comparisons" builds_for_aarch64
+needs="x86_64-w64-mingw32-gcc wine" try "building for Windows: 2 comparisons" builds_for_windows

@@ -74,7 +74,9 @@ try_packages() {
   for option in -O2 -static; do
     "$3" "$option" bindings/c/examples/show.c "${flags[@]}" -L"$root/usr/lib/$2" -o "$work/packaged"
     "${@:4}" -E LD_LIBRARY_PATH="$root/usr/lib/$2" "$work/packaged" | diff - "$expected"
+    readelf -d "$work/packaged" | sed -n "s/.*NEEDED.*\[\(libmultihash.*\)\]/$option \1/p" >> "$work/needed-$1"
   done
+  diff "$work/needed-$1" <(echo "-O2 libmultihash_c.so.$major")
   man -M "$root/usr/share/man" -w 3 multihash_encode
 }
 
@@ -83,7 +85,7 @@ test_packages() {
   try "a warning of a package" rejects "W: libmultihash-c1: file-missing-in-md5sums" planted_package
   try "a function of a later version: 4 comparisons" later_function
   try "packages for amd64: 11 comparisons" has_packages "$work/debian-amd64" amd64 x86_64-linux-gnu
-  needs=qemu-x86_64 try "a program by the packages for amd64: 2 comparisons" try_packages amd64 x86_64-linux-gnu cc \
+  needs=qemu-x86_64 try "a program by the packages for amd64: 3 comparisons" try_packages amd64 x86_64-linux-gnu cc \
     qemu-x86_64
 }
 
@@ -162,7 +164,7 @@ test_release() {
     installed_test "$work/multihash_c-$version-aarch64"
   try "packages for arm64: 11 comparisons" has_packages "$work/release" arm64 aarch64-linux-gnu
   # shellcheck disable=SC2086
-  try "a program by the packages for arm64: 2 comparisons" try_packages arm64 aarch64-linux-gnu aarch64-linux-gnu-gcc \
+  try "a program by the packages for arm64: 3 comparisons" try_packages arm64 aarch64-linux-gnu aarch64-linux-gnu-gcc \
     $emulator
 }
 

@@ -71,6 +71,11 @@ NUMBER = re.compile(
     r"(?<![\w.\-/^#+\\])(?:2\^\d+|\d[\d,]*\d(?:\.\d+)*|\d(?:\.\d+)*|(?:%s)(?!-?\w))(?![\w-]|\.\w)"
     % "|".join([*WORDS[3:], "sixteen", "hundred", "thousand"])
 )
+# a number with what compares it
+COMPARED = re.compile(
+    r"(?:\b(?:above|at least|at most|below|fewer than|less than|more than|over|up to) )?(?P<number>%s)"
+    r"(?: or (?:fewer|less|more)\b)?" % NUMBER.pattern
+)
 # a word and the number after it; words that say nothing of it
 PAIR = re.compile(r"([\w+.-]*\w)[\s`(,:=|/\"'>\[*-]{1,3}(?=(%s))" % NUMBER.pattern)
 WEAK = {*"a about above an and as at below by bytes first for from has have in is least most of on or".split()}
@@ -80,6 +85,7 @@ NO_PROSE = [
     re.compile(HEX + r"|`[0-9a-fA-F]{4,}`|^\| `[\w:]+` \| [A-Z][^|]*\. \|$", re.M),
     re.compile(r"^\.Bd(?s:.*?)^\.Ed|^\.Dd.*", re.M),
     re.compile(r"^\|.*\| *\d+\.\d\d .*\|$|^\|[^|]*\| \d+ \| [\d.]+ .*\|$|^In \d.*:$", re.M),  # measured
+    re.compile(r"^\|[^|`]*\| \d+ \|$", re.M),  # counted
     re.compile(r"^\| [\d^ -]+ \| +\|$|\| +\| \d* \|$|^\| `MULTIHASH_\w+` \| \d|^\d\. |\]\([^)]*\)", re.M),
 ]
 # the sources of limits and versions. header.t compares the header with the crate
@@ -138,14 +144,15 @@ def prose(text: str) -> str:
 
 
 def number_errors(page: str, text: str) -> Iterator[str]:
-    """Returns the numbers that no phrase has, and that no source has after the same word."""
+    """Returns the numbers that no phrase has, with what compares them, and that no source has after the same word."""
     text = flat(prose(text) if page != HEADER else " ".join(re.findall(r"/\*.*?\*/", text, re.S)))
     spans = [match.span() for phrase in phrases() for match in re.finditer(phrase, text)]
     before = {match.start(2): match[1] for match in PAIR.finditer(text)}
-    names = re.finditer(r"MULTIHASH_\w+_MAX", text) if page == HEADER else ()  # of numbers
-    for match in (*NUMBER.finditer(text), *names) if page != CONTRACTS else ():
+    names = re.finditer(r"(?P<number>MULTIHASH_\w+_MAX)", text) if page == HEADER else ()  # of numbers
+    for match in (*COMPARED.finditer(text), *names) if page != CONTRACTS else ():
         if not any(start <= match.start() and match.end() <= end for start, end in spans):
-            if (before.get(match.start(), ""), match[0]) not in known_pairs():
+            pair = before.get(match.start("number"), ""), match[0]
+            if pair not in known_pairs():
                 yield f"no source has this number: {text[max(match.start() - 30, 0) : match.end() + 20]}"
 
 

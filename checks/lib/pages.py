@@ -122,8 +122,11 @@ def program_results(texts: Texts) -> Iterator[tap.Result]:
                 continue
             error, shown[program.language] = start.run(program, copy, Path(work) / program.language)
             yield name, error
-        none = start.programs(texts[README])[-1]._replace(language="C", install="cmake -S $MH/none -B build")
-        yield tap.planted("a package that is not there", start.run(none, copy, Path(work) / "none")[0])
+        last = start.programs(texts[README])[-1]
+        commands = ("a package", "cmake -S $MH/none -B build", "true"), ("a program", "true", "false")
+        for what, install, command in commands:
+            fails = last._replace(install=install, command=command)
+            yield tap.planted(f"{what} that fails", start.run(fails, copy, Path(work) / what)[0])
     yield "what the programs print", "\n".join(start.judge(texts[README], shown))
     yield tap.planted(f"{README}: a row less", [*start.judge(texts[README].replace("| [C, C++]", "| C"), shown)])
     yield tap.planted("another output", [*start.judge(texts[README], {"C": "code 1, digest hello"})])

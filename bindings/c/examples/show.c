@@ -3,6 +3,7 @@
 
 #include <inttypes.h>
 #include <stdio.h>
+#include <string.h>
 
 static const uint8_t bytes[] = {0x16, 0x20, 0x64, 0x4b, 0xcc, 0x7e, 0x56, 0x43, 0x73, 0x04, 0x09, 0x99,
                                 0xaa, 0xc8, 0x9e, 0x76, 0x22, 0xf3, 0xca, 0x71, 0xfb, 0xa1, 0xd9, 0x72,
@@ -22,5 +23,5 @@ int main(void)
     uint8_t again[MULTIHASH_LENGTH_MAX];
     multihash_encoded made = multihash_encode(found.code, bytes + found.digest_offset, found.digest_length,
                                               again, sizeof again);
-    return made.status != MULTIHASH_OK || made.length != sizeof bytes;
+    return made.status != MULTIHASH_OK || memcmp(again, bytes, sizeof bytes) != 0;
 }
