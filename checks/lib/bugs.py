@@ -10,6 +10,7 @@ They are in bugs.edits, each with what has to see it:
 The bugs of one crate of tests are planted in one copy, so each has a test of its own, which no other bug changes. A
 function is proved against contracts, never against another's body, so one copy has a bug of each function.
 """
+import os
 import re
 import shutil
 import subprocess
@@ -65,9 +66,9 @@ def groups() -> dict[Group, list[Bug]]:
     return found
 
 
-def copy_crates(to: Path, without: str = "out") -> None:
-    """Copies the crates. Leaves there what is not copied: what a check of them keeps in 'out'."""
-    shutil.copytree(ROOT / "crates", to / "crates", dirs_exist_ok=True, ignore=shutil.ignore_patterns(without))
+def copy_crates(to: Path) -> None:
+    """Copies the sources of the crates, and leaves there what a check kept."""
+    shutil.copytree(ROOT / "crates", to / "crates", dirs_exist_ok=True, ignore=shutil.ignore_patterns("out"))
     for name in ("crates.txt", "HANDLES"):
         shutil.copy(ROOT / name, to)
 
@@ -110,8 +111,9 @@ def judged(bugs: list[Bug], log: str) -> Iterator[tap.Result]:
 
 
 def check(home: Path) -> tuple[int, str]:
-    """Checks a crate. Returns the status and what it printed."""
-    done = subprocess.run(["rt", "check"], cwd=home, text=True, stdout=subprocess.PIPE, stderr=subprocess.STDOUT)
+    """Checks a crate, on half of the cores, as 'rt ci' runs beside it. Returns the status and what it printed."""
+    words = ["rt", "check", "--jobs", str(((os.cpu_count() or 1) + 1) // 2)]
+    done = subprocess.run(words, cwd=home, text=True, stdout=subprocess.PIPE, stderr=subprocess.STDOUT)
     return done.returncode, done.stdout
 
 
@@ -135,16 +137,19 @@ def open_clauses(log: str, function: str) -> tuple[str, set[str]]:
 
 
 def try_proof(group: Group, bugs: list[Bug]) -> Iterator[tap.Result]:
-    """Plants bugs in a copy of the crates, with what 'rt ci' proved of them."""
+    """Proves a crate in the folder PROVED, or another, and plants bugs in a copy of it."""
     bodies: dict[str, list[Bug]] = defaultdict(list)
     for bug in bugs:
         bodies[bug.seen_by].append(bug)
     with tempfile.TemporaryDirectory(prefix="bugs-") as folder:
-        copy_crates(Path(folder), without="")
-        status, log = check(Path(folder) / "crates" / group.crate)
+        proved = Path(os.environ.get("PROVED") or f"{folder}/proved")
+        copy_crates(proved)
+        status, log = check(proved / "crates" / group.crate)
         yield f"{group.crate} without a bug", log[-300:] if status else ""
+        copy = Path(folder) / "planted"
+        shutil.copytree(proved, copy)
         for planted in zip_longest(*bodies.values()):
-            yield from try_round(Path(folder), group.crate, [bug for bug in planted if bug])
+            yield from try_round(copy, group.crate, [bug for bug in planted if bug])
 
 
 def try_round(copy: Path, crate: str, bugs: list[Bug]) -> Iterator[tap.Result]:
