@@ -38,14 +38,16 @@ installs() {
   is_installed "$prefix" lib
 }
 
-# Below DESTDIR, from where pkg-config has to find it, in another folder for libraries; with the program, another one
-# here.
+# Below DESTDIR, from where pkg-config has to find it, in other folders, each named from the root; with the program,
+# another one here.
 installs_below() {
   local -x PKG_CONFIG_SYSROOT_DIR=$work/below
-  build lib64 -DCMAKE_INSTALL_PREFIX=/opt/multihash -DCMAKE_INSTALL_LIBDIR=/opt/multihash/lib/64 \
+  local include=headers/c document=pages/c man=manual to=/opt/multihash
+  build lib64 -DCMAKE_INSTALL_PREFIX=$to -DCMAKE_INSTALL_LIBDIR=$to/lib/64 -DCMAKE_INSTALL_INCLUDEDIR=$to/$include \
+    -DCMAKE_INSTALL_DOCDIR=$to/$document -DCMAKE_INSTALL_MANDIR=$to/$man -DCMAKE_INSTALL_BINDIR=$to/programs \
     -DMULTIHASH_C_PROGRAM="$(type -P true)"
   DESTDIR=$work/below install_built lib64
-  is_installed "$work/below/opt/multihash" lib/64 bin/mh_show "$man/man1/mh_show.1"
+  is_installed "$work/below/opt/multihash" lib/64 programs/mh_show "$man/man1/mh_show.1"
   installed_test "$work/below/opt/multihash"
 }
 

@@ -169,10 +169,12 @@ CHECKS: dict[str, Callable[[Texts], Iterator[str]]] = {
 
 def planted(texts: Texts) -> Iterator[tap.Result]:
     """Plants differences, each of which has to be found."""
-    found = edits.read(Path(__file__).with_name("pages.edits"))
-    yield "each comparison has a planted difference", " ".join(sorted({*CHECKS} - {it.seen for it in found}))
-    for name, _, seen, its_edits in found:
-        yield tap.planted(name, any(CHECKS[seen]({**texts, **edits.apply(texts, its_edits)})))
+    lines = Path(__file__).with_name("pages.edits").read_text("utf-8").splitlines()[1:]
+    found = [[part.replace("\\n", "\n").replace("\\t", "\t") for part in line.split("\t")] for line in lines]
+    yield "each comparison has a planted difference", " ".join(sorted({*CHECKS} - {seen for seen, *_ in found}))
+    for seen, *edit in found:
+        changed = edits.apply(texts, [edits.Edit(*edit)])
+        yield tap.planted(f"{seen}: {' > '.join(edit)}", any(CHECKS[seen]({**texts, **changed})))
 
 
 def results() -> Iterator[tap.Result]:

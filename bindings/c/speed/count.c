@@ -74,6 +74,12 @@ static uint64_t compare_32(void)
                                        18, (uint8_t *)hidden(digest + 32), 32);
 }
 
+static uint64_t compare_64(void)
+{
+    return (uint64_t)multihash_compare(18, (uint8_t *)hidden(digest), 64,
+                                       18, (uint8_t *)hidden(long_bytes + 10), 64);
+}
+
 static const struct {
     const char *name;
     uint64_t (*call)(void);
@@ -82,7 +88,8 @@ static const struct {
     {"read_34", read_34},                 {"read_long_code", read_long_code},
     {"head_34", head_34},                 {"encoded_len_32", encoded_len_32},
     {"encode_32", encode_32},             {"compare_32", compare_32},
-    {"scale_encode_32", scale_encode_32}, {"scale_decode_32", scale_decode_32},
+    {"compare_64", compare_64},           {"scale_encode_32", scale_encode_32},
+    {"scale_decode_32", scale_decode_32},
 };
 
 static void fill(void)
