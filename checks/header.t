@@ -14,6 +14,8 @@ import shutil
 import subprocess
 import sys
 from collections.abc import Iterable, Iterator
+from itertools import groupby
+from operator import itemgetter
 from pathlib import Path
 from typing import NamedTuple
 
@@ -239,7 +241,7 @@ def error_of(files: Files) -> str:
 
 
 def make_edits(text: str) -> object:
-    return edits.apply({"a": "bb"}, edits.parse(f"file: a\n\n# b\n{text}")[0].edits)
+    return edits.apply({"a": "bb"}, edits.parse(f"# b\nfile: a\n{text}")[0].edits)
 
 
 def read_source(text: str) -> object:
@@ -265,8 +267,9 @@ def unread() -> Iterator[tap.Result]:
 def results() -> Iterator[tap.Result]:
     files = read_files()
     yield "the header and the bindings", error_of(files)
-    for name, _, _, its_edits in edits.read(LIB / "header.edits"):
-        yield tap.planted(name, error_of({**files, **edits.apply(files, its_edits)}))
+    for name, rows in groupby(edits.rows(LIB / "header.edits"), itemgetter(0)):
+        changed = edits.apply(files, [edits.Edit(*row[1:]) for row in rows])
+        yield tap.planted(name, error_of({**files, **changed}))
     yield from unread()
 
 

@@ -1,16 +1,15 @@
-"""Reads planted differences: bugs, differences of the header and of pages.
-
-    file: PATH               after an empty line: of all that follow
+"""Reads planted differences, of bugs.edits in this form:
 
     # NAME: TEXT             begins a difference
-    seen: TEXT               what has to see it, if that is written
+    seen: TEXT               what has to see it
     file: PATH
     old: TEXT                a text that the file has exactly once; none: the file is new
     new: TEXT                what replaces it
 
-In old and new texts '\\n' is the end of a line.
+Others are in lines, with tabs between their parts, whose first line names these. In texts '\\n' is the end of a line,
+and in lines '\\t' is a tab.
 """
-from collections.abc import Mapping
+from collections.abc import Iterator, Mapping
 from pathlib import Path
 from typing import NamedTuple
 
@@ -37,28 +36,32 @@ def read(path: Path) -> list[Planted]:
     return parse(path.read_text("utf-8"))
 
 
+def rows(path: Path) -> Iterator[list[str]]:
+    """Returns the parts of each line, but of the first."""
+    for line in path.read_text("utf-8").splitlines()[1:]:
+        yield [part.replace("\\n", "\n").replace("\\t", "\t") for part in line.split("\t")]
+
+
 def parse(text: str) -> list[Planted]:
     """Returns the differences of a text. A line in no known form is an error."""
     found: list[Planted] = []
-    default = file = old = previous = ""
+    file = old = ""
     for line in text.splitlines():
         word, _, rest = line.partition(" ")
         part = rest.replace("\\n", "\n")
         if word == "#":
             name, _, what = rest.partition(": ")
             found.append(Planted(name, what, "", []))
-            file = default
         elif word == "seen:":
             found[-1] = found[-1]._replace(seen=rest)
         elif word == "file:":
-            default, file = (default, rest) if previous else (rest, rest)
+            file = rest
         elif word == "old:":
             old = part
         elif word == "new:":
             found[-1].edits.append(Edit(file, old, part))
         elif line:
             raise ValueError(f"in no known form: {line}")
-        previous = line
     return found
 
 

@@ -169,8 +169,7 @@ CHECKS: dict[str, Callable[[Texts], Iterator[str]]] = {
 
 def planted(texts: Texts) -> Iterator[tap.Result]:
     """Plants differences, each of which has to be found."""
-    lines = Path(__file__).with_name("pages.edits").read_text("utf-8").splitlines()[1:]
-    found = [[part.replace("\\n", "\n").replace("\\t", "\t") for part in line.split("\t")] for line in lines]
+    found = [*edits.rows(Path(__file__).with_name("pages.edits"))]
     yield "each comparison has a planted difference", " ".join(sorted({*CHECKS} - {seen for seen, *_ in found}))
     for seen, *edit in found:
         changed = edits.apply(texts, [edits.Edit(*edit)])
