@@ -4,7 +4,7 @@
 # valgrind, with all warnings as errors; and runs the examples.
 # shellcheck source=checks/lib/tap.sh
 . "$(dirname "$0")/lib/tap.sh"
-plan 34 cc python3 rt
+plan 35 cc python3 rt
 # shellcheck source=checks/lib/proved.sh
 . checks/lib/proved.sh
 # shellcheck source=checks/lib/warnings.sh
@@ -178,7 +178,8 @@ needs="nm objdump ar" look_at_library
 try "tests of the exports" calls_each "$c"/tests/{test,models}.c
 try "tests without one" rejects "> multihash_version" calls_each "$c/tests/models.c"
 test_compilers
-try "warnings: 9 comparisons" warns
+try "warnings: 9 comparisons" warns "strict-prototypes missing-prototypes" cc "${c_flags[@]}"
+needs=c++ try "warnings of C++: 7 comparisons" warns "" c++ "${cpp_flags[@]}" -x c++
 try "a read after an input" rejects heap-buffer-overflow faulty "" "$overread" "${sanitize[@]}"
 try "a sum that is too large" rejects "signed integer overflow" faulty "" most++ "${sanitize[@]}"
 try "a wrong vector" rejects "not so: " wrong_vector

@@ -3,7 +3,7 @@
 # a planted script.
 # shellcheck source=checks/lib/tap.sh
 . "$(dirname "$0")/lib/tap.sh"
-plan 22
+plan 23
 
 listed() { git ls-files -co --exclude-standard "$@"; }
 # Prints the paths of the scripts in a language, by their first lines.
@@ -101,6 +101,8 @@ try_linter() {
 {
   try "each script is in a list" are_known $shell $python $javascript
   try "a script that is in none" rejects "> checks/lib/tap.sh" are_known ${shell/tap.sh/} $python $javascript
+  try "scripts that go on after a failure" diff - <(comm -23 <(echo "$shell") <(echo "$ending")) \
+    < <(printf '%s\n' .ci/run bindings/c/examples/test.sh checks/{bugs,js,pages,python,speed,tap,verdicts}.t)
   try "Python with types" diff - <({ echo "$typed"; listed 'bindings/python/tests/*.py'; } | sort) \
     <<< "$python"
   try_linter syntax syntax.sh "unexpected end of file" "if true; then" $shell

@@ -11,7 +11,7 @@ import re
 import subprocess
 import sys
 import tempfile
-from collections.abc import Iterator
+from collections.abc import Iterable, Iterator
 from pathlib import Path
 
 LIB = Path(__file__).with_name("lib")
@@ -93,6 +93,12 @@ class Counted:
         return ""
 
 
+def others(tests: Iterable[str]) -> str:
+    """Returns the tests that allocate and are not listed, and those that are listed alone."""
+    named = {name for name in tests if re.search(r"^allocating_|_no_memory$", name)}
+    return " ".join(sorted(named ^ {*TESTS}))
+
+
 def results(work: Path) -> Iterator[tap.Result]:
     counted = Counted(work)
     for number, (text, wanted, is_right) in enumerate(PLANTED):
@@ -103,8 +109,9 @@ def results(work: Path) -> Iterator[tap.Result]:
     program = tap.program("tests_values", "test")
     listed = subprocess.run([program, "--list"], capture_output=True, text=True, check=True).stdout
     tests = {path.rpartition("::")[2]: path for path in re.findall(r"(?m)^(\S+): test$", listed)}
-    named = {name for name in tests if re.search(r"^allocating_|_no_memory$", name)}
-    yield "the tests are those listed", " ".join(sorted(named ^ {*TESTS}))
+    yield "the tests are those listed", others(tests)
+    yield tap.planted("a test that is not listed", others([*tests, "allocating_more"]))
+    yield tap.planted("a test that is gone", others({*tests} - {"allocating_push"}))
     for name, number in TESTS.items():
         failed, passed = rf"(.*\n)?{re.escape(FAILED)}\n(.*\n)?101", r"(.*\n)?test result: ok\n(.*\n)?0"
         yield name, counted.error_of([program, tests.get(name, "")], number, failed, passed)
@@ -117,4 +124,4 @@ def results(work: Path) -> Iterator[tap.Result]:
 
 if __name__ == "__main__":
     with tempfile.TemporaryDirectory(prefix="memory-") as folder:
-        sys.exit(tap.report(results(Path(folder)), 29))
+        sys.exit(tap.report(results(Path(folder)), 31))

@@ -13,13 +13,19 @@ in_crate() {
     RUSTDOCFLAGS="-D warnings" bindings/rust/offline.sh "$work" "$@"
 }
 
+# Runs a number of tests.
+tests() {
+  in_crate "${@:2}" | tee "$work/tests"
+  awk '/^test result: ok\. / { passed += $4 } END { print passed }' "$work/tests" | diff - <(echo "$1")
+}
+
 # The tests pass with and without features, the pages have no warnings, and need no library on docs.rs.
 rust_binding() {
   local features
   in_crate DOCS_RS=1 MULTIHASH_C_LIB_DIR=none cargo doc --no-deps
-  in_crate cargo test --no-default-features
-  in_crate cargo test --no-default-features --features alloc
-  in_crate cargo test
+  tests 13 cargo test --no-default-features
+  tests 13 cargo test --no-default-features --features alloc
+  tests 23 cargo test
   features=$(in_crate cargo tree -p multihash -e normal,features)
   [[ $features = multihash* && $features != *"multihash_c feature"* ]]
 }
@@ -28,7 +34,7 @@ rust_binding() {
 rust_source() {
   local c=$work/repository/bindings/c file
   mv "$c/prebuilt" "$work/kept"
-  in_crate cargo test
+  tests 23 cargo test
   [[ $(cat "$work"/target/debug/build/multihash_c-*/output) = *'"-O2"'*'"-std=c11"'* ]]
   for file in "$c"/src/*.[ch] "$c"/include/*; do
     cp -p "$file" "$work/file"
@@ -60,6 +66,7 @@ rust_targets() {
 rust_packed() {
   local packed=$work/packed package
   echo 'compile_error!("an earlier copy");' >> "$work/repository/bindings/rust/multihash/src/lib.rs"
+  touch "$work/repository/bindings/rust/multihash/src/old.rs"
   bindings/rust/pack.sh "$work"
   mkdir "$packed"
   for package in multihash-0.19.5 "multihash_c-$version"; do
@@ -68,10 +75,11 @@ rust_packed() {
   done
   printf '[workspace]\n[patch.crates-io]\nmultihash_c.path = "../multihash_c-%s"\n' "$version" \
     >> "$packed/multihash-0.19.5/Cargo.toml"
+  [ ! -e "$packed/multihash-0.19.5/src/old.rs" ]
   diff -r bindings/c/prebuilt "$packed/multihash_c-$version/prebuilt"
-  in_crate cargo test --manifest-path "$packed/multihash-0.19.5/Cargo.toml"
+  tests 12 cargo test --manifest-path "$packed/multihash-0.19.5/Cargo.toml"
   rm -r "$packed/multihash_c-$version/prebuilt"
-  in_crate cargo test --manifest-path "$packed/multihash-0.19.5/Cargo.toml"
+  tests 12 cargo test --manifest-path "$packed/multihash-0.19.5/Cargo.toml"
 }
 
 # Writes a program over a library, both of which name upstream's package; the program has the line of the pages too.
@@ -110,7 +118,7 @@ rust_switch() {
 }
 
 rust_serde() {
-  in_crate cargo test --features serde --test values
+  tests 13 cargo test --features serde --test values
   in_crate cargo build -p multihash --no-default-features --features serde-codec
   in_crate cargo build --manifest-path program/library/Cargo.toml --features serde
 }
@@ -144,19 +152,19 @@ rust_build() {
   local directory=$work/$'a \xff directory'
   mkdir "$directory"
   cp "$archive" "$directory"
-  in_crate MULTIHASH_C_LIB_DIR="$directory" cargo test -p multihash_c
+  tests 11 MULTIHASH_C_LIB_DIR="$directory" cargo test -p multihash_c
   rm "$directory"/*
   rejects "libmultihash_c.a: No such file" in_crate MULTIHASH_C_LIB_DIR="$directory" cargo build
   rejects "not an absolute path" in_crate MULTIHASH_C_SYSTEM=1 MULTIHASH_C_LIB_DIR=prebuilt cargo build
   rejects "multihash_c >= 1.0" in_crate MULTIHASH_C_SYSTEM=1 PKG_CONFIG_LIBDIR="$work/none" cargo build
 }
 
-try "the tests" rust_binding
-try "the portable source: 5 comparisons" rust_source
+try "the tests: 3 comparisons" rust_binding
+try "the portable source: 6 comparisons" rust_source
 needs=clang try "the portable source for other targets: 10 comparisons" rust_targets
-try "the packed packages: 3 comparisons" rust_packed
-needs=$archive try "the build script: 3 comparisons" rust_build
+try "the packed packages: 5 comparisons" rust_packed
+needs=$archive try "the build script: 4 comparisons" rust_build
 try "the switch from upstream's package: 2 comparisons" rust_switch
-try serde rust_serde
+try "serde: 1 comparison" rust_serde
 needs=cargo-clippy try lints rust_lints
 needs=cargo-clippy try "a warning of each command: 3 comparisons" planted_warnings

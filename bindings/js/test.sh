@@ -87,12 +87,21 @@ packed_script() {
 
 # The types of what is packed, which need none of pages.
 packed_types() {
-  local strict=(tsc --noEmit --strict --target es2022 --module nodenext --moduleResolution nodenext)
+  local strict=(tsc --noEmit --strict --exactOptionalPropertyTypes --target es2022 --module nodenext
+    --moduleResolution nodenext) text line
   cd "$work/elsewhere"
   cp "$here/test/example.ts" .
   echo '{ "type": "module" }' > package.json
   "${strict[@]}" --lib es2022 node_modules/verified-multihash/module.d.ts
   "${strict[@]}" --lib es2022,dom,dom.iterable example.ts
+  while IFS='|' read -r text line; do
+    echo "$line" > planted.ts
+    rejects "$text" "${strict[@]}" --lib es2022 planted.ts
+  done << 'END'
+Cannot find namespace 'WebAssembly'|export declare const planted: WebAssembly.Module;
+exactOptionalPropertyTypes|export const planted: { rest?: number } = { rest: undefined };
+Type 'null' is not assignable|export const planted: number = null;
+END
 }
 
 # In a browser, pages show texts: each line of standard input is a page, and texts after tabs, some of which are actions
@@ -128,7 +137,7 @@ ffffffffffffffffff01|A varint has more than nine bytes|Byte 9 of 10: ff|a varint
 0x1201|Still needed: 1 byte.
 %200x12%2001|Still needed: 1 byte.
 1200${bytes}|301 bytes follow|… and 1 byte more|3 to 303
-ffffffffffffffff7fff01${bytes::508}|9223372036854775807|12 to 265|Still needed: 1 byte.
+ffffffffffffffff7fff01${bytes::508}|9223372036854775807|12 to 265|! following|Still needed: 1 byte.
 168002|> Keep the first 2 bytes|The whole input can begin a multihash.|= 0x1300|Valid: code 19|# 12 01|1 byte.
 |> Trailing bytes|3 bytes follow|> A multihash|Valid: code 22|> Truncated digest|ends inside the digest
 |> Unfinished varint|before a varint|> Not minimal|longer than needed
@@ -165,7 +174,7 @@ part "plain JavaScript" node plain
 part "old engines" node old_engine index
 part "old engines, inline" node old_engine inline
 part "the packed package's script" npm packed_script
-part "the packed package's types" "npm tsc" packed_types
+part "the packed package's types: 3 comparisons" "npm tsc" packed_types
 test_browser chromium chromium
 part "another text than the demo page's" chromium rejects " 1 wrong" another_text chromium
 part "the demo page from the disk" chromium demo_of_disk

@@ -16,7 +16,7 @@ to=
 if [ $# = 2 ]; then mkdir -p "$2" && to=$(readlink -f "$2") || exit 2; fi
 # shellcheck source=checks/lib/tap.sh
 . "$here/../../checks/lib/tap.sh"
-plan 18 cc "${PYTHON:=/usr/bin/python3}"
+plan 19 cc "${PYTHON:=/usr/bin/python3}"
 to=${to:-$work}
 header=$PWD/bindings/c/include/multihash.h
 # What is tested is what was installed.
@@ -154,6 +154,12 @@ planted_shift() {
   under_sanitizers "$to/planted"
 }
 
+planted_write() {
+  planted '/^static int fill_module/,/{/s/{/{ char *block = PyMem_Malloc(1); block[1] = 1; PyMem_Free(block);/'
+  installs "$to/planted"
+  unit_tests "$here/tests" PYTHONMALLOC=debug
+}
+
 planted_warning() {
   planted '1s/^/signed char planted(long more) { return more; }\n/'
   CFLAGS=$warnings installs "$to/planted"
@@ -203,6 +209,7 @@ needs="objcopy ar" try "an archive of another version" other_version
 try "an altered archive: 1 comparison" altered_archive
 try "the sdist, installed, the portable source: 4 comparisons" sdist
 try "sanitizers" under_sanitizers "$to/sdist"
+try "a write after a block" rejects "bad trailing pad byte" planted_write
 try "a warning" rejects "conversion]" planted_warning
 try "a read after the end of the input" rejects AddressSanitizer planted_read
 try "a shift that is too large" rejects "runtime error: shift exponent" planted_shift

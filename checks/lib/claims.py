@@ -213,14 +213,14 @@ def sentences(text: str) -> Iterator[str]:
 
 
 @cache
-def known_sentences() -> dict[str, set[str]]:
-    """Returns the sentences of comments and pages, with their files."""
-    found = defaultdict(set)
+def known_sentences() -> dict[str, dict[str, list[int]]]:
+    """Returns the sentences of comments and pages, with their files and their numbers there."""
+    found: dict[str, dict[str, list[int]]] = defaultdict(lambda: defaultdict(list))
     texts = {page: [FENCE.sub("\n\n", read(page))] for page in paths() if is_told(page)}
     texts |= {path: [MARKS.sub("", it) for it in COMMENTS.findall(text + "\n")] for path, text in sources().items()}
     for path, its in texts.items():
-        for sentence in (sentence for text in its for sentence in sentences(text)):
-            found[sentence].add(path)
+        for number, sentence in enumerate(sentence for text in its for sentence in sentences(text)):
+            found[sentence][path].append(number)
     return found
 
 
@@ -247,11 +247,21 @@ def told_errors(page: str, text: str) -> Iterator[str]:
     """Returns the sentences that differ little from one of a source or of another page, and are no part of it."""
     for sentence in sentences(FENCE.sub("\n\n", text)) if is_told(page) else ():
         near = Counter(other for words in triples(sentence) for other in sentences_by_words().get(words, ()))
-        others = [other for other, _ in near.most_common(9) if known_sentences()[other] != {page}]
+        others = [other for other, _ in near.most_common(9) if known_sentences()[other].keys() != {page}]
         if not any(sentence in other for other in others):
             for other in others:
                 if other not in sentence and alike(sentence.split(), other.split()) >= ALIKE:
-                    yield f"{sorted(known_sentences()[other] - {page})[0]} says '{other}': {sentence}"
+                    yield f"{min(known_sentences()[other].keys() - {page})} says '{other}': {sentence}"
+    yield from order_errors(page, text)
+
+
+def order_errors(page: str, text: str) -> Iterator[str]:
+    """Returns two sentences of a page that are in another order in another file, where each is once."""
+    its = [known_sentences().get(sentence, {}) for sentence in sentences(FENCE.sub("\n\n", text))]
+    for first, second in zip(its, its[1:]) if is_told(page) else ():
+        for path in sorted(first.keys() & second.keys() - {page}):
+            if len(first[path]) == len(second[path]) == 1 and first[path] > second[path]:
+                yield f"{path} has another order of its sentences {first[path]} and {second[path]}"
 
 
 def alike(words: list[str], others: list[str]) -> float:

@@ -72,10 +72,15 @@ def member_lines(owner: Item) -> Iterator[str]:
 
 
 def field_lines(item: Item) -> Iterator[str]:
-    """Returns the cases of an enum, or the fields of a struct that are public or ghost."""
+    """Returns the cases of an enum, or the fields of a struct that are public or ghost, with their documentation."""
+    documentation: list[str] = []
     for line in kept_lines(item.text[item.inner() : item.end]):
-        if line != "}" and (item.kind == "enum" or line.startswith(("    pub ", "    ghost "))):
-            yield line
+        if line.startswith("    ///"):
+            documentation.append(line)
+        elif line != "}":
+            if item.kind == "enum" or line.startswith(("    pub ", "    ghost ")):
+                yield from (*documentation, line)
+            documentation = []
 
 
 def item_lines(item: Item, private: set[str]) -> Iterator[str]:
@@ -97,6 +102,7 @@ def item_lines(item: Item, private: set[str]) -> Iterator[str]:
             else:
                 yield f"{first} .. }}" if first.endswith("{") else first
     elif item.is_public:
+        yield from attribute_lines(item, "")
         yield from kept_lines(item.source)
 
 
