@@ -31,7 +31,7 @@ C_BUILDS = [
     C / name for name in ("prebuilt/x86_64/libmultihash_c.a", "speed/plain.c", "speed/fast.c", "src/multihash.c")
 ]
 # the heads of the tables: this library's counts, and others, before the shares in them
-STORAGE = "| Call of `storage` | instructions |"
+OTHERS = "| Other call | instructions |"
 RUST = "| Call | instructions | tuned Rust | share | default Rust | share |"
 FROM_C = "| Call from C | archive | plain C | share | fast C | share | portable source |"
 CAUSES = "| Call | Cause |"
@@ -106,7 +106,7 @@ def differences(found: Counts, stored: Counts) -> str:
 def text_errors(page: str, names: list[str]) -> Iterator[str]:
     """Compares the page's rows with those of the program, its shares with its counts, and what has a cause."""
     counts = rows_of(page, RUST)
-    if [*counts, *rows_of(page, STORAGE)] != names:
+    if [*counts, *rows_of(page, OTHERS)] != names:
         yield "the page has other rows than crates/speed/args"
     for head in (RUST, FROM_C):
         if table(head, rows_of(page, head)) not in page:
@@ -144,7 +144,7 @@ def results(program: str, names: list[str]) -> Iterator[tap.Result]:
         yield tap.left_out("the calls of crates/speed", why)
         return
     yield "the calls from C", differences(count_c(), rows_of(page, FROM_C))
-    stored = {name: counts[:1] for head in (RUST, STORAGE) for name, counts in rows_of(page, head).items()}
+    stored = {name: counts[:1] for head in (RUST, OTHERS) for name, counts in rows_of(page, head).items()}
     found = {name: [number] for name, number in count(program, names).items()}
     yield "the calls of crates/speed", differences(found, stored)
 
@@ -152,14 +152,14 @@ def results(program: str, names: list[str]) -> Iterator[tap.Result]:
 def write(programs: list[str], names: list[str]) -> None:
     """Writes the tables of the page."""
     page = PAGE.read_text("utf-8")
-    before, in_storage = rows_of(page, RUST), [*rows_of(page, STORAGE)]
-    of_storage = {name: [number] for name, number in count(programs[0], in_storage).items()}
-    names = [name for name in names if name not in in_storage]
+    before, in_others = rows_of(page, RUST), [*rows_of(page, OTHERS)]
+    of_others = {name: [number] for name, number in count(programs[0], in_others).items()}
+    names = [name for name in names if name not in in_others]
     columns = [count(program, names) for program in programs]
     counts = {name: [found[name] for found in columns] for name in names}
     if len(programs) == 1:
         counts = {name: [*found, *before[name][1:]] for name, found in counts.items()}
-    for head, rows in ((RUST, counts), (STORAGE, of_storage), (FROM_C, count_c())):
+    for head, rows in ((RUST, counts), (OTHERS, of_others), (FROM_C, count_c())):
         page = re.sub(re.escape(head) + r"\n(?:\|.*\n)+", table(head, rows), page)
     PAGE.write_text(page, "utf-8")
 

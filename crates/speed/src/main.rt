@@ -46,8 +46,8 @@ struct Input {
 }
 
 impl Input {
-    fn new(alloc: Global, code: u64) -> Result<Self> {
-        let digest = vec![in alloc; 0xa5_u8; 32]?;
+    fn new(alloc: Global, code: u64, len: usize) -> Result<Self> {
+        let digest = vec![in alloc; 0xa5_u8; len]?;
         let left = Mh::wrap(code, &digest)?;
         let mut scale = Vec::new(alloc);
         left.scale_encode(&mut scale)?;
@@ -93,9 +93,16 @@ fn main(rt: HostRuntime) -> Result<()> {
         } else {
             CODE
         };
+        let len = if row.ends_with("64 bytes") {
+            64
+        } else if row.ends_with("48 bytes") {
+            48
+        } else {
+            32
+        };
         let mut inputs = Vec::new(rt.alloc());
         for _ in 0..ROUND {
-            inputs.push(Input::new(rt.alloc(), code)?)?;
+            inputs.push(Input::new(rt.alloc(), code, len)?)?;
         }
         let sum = making(&mut Calls { inputs, count }, row).context("the row is not measured")?;
         println!(rt; "{row}: {sum}")?;
@@ -138,14 +145,18 @@ impl Calls {
 // The calls that make a multihash.
 fn making(calls: &mut Calls, row: &str) -> Option<u64> {
     Some(match row {
-        "wrap" => calls.sum(|it| Mh::wrap(it.code, &it.digest), ok),
-        "from_bytes" | "from_bytes, long code" => calls.sum(|it| Mh::from_bytes(&it.encoding), ok),
-        "read, slice" | "read, long code" => {
+        "wrap" | "wrap, 48 bytes" => calls.sum(|it| Mh::wrap(it.code, &it.digest), ok),
+        "from_bytes" | "from_bytes, long code" | "from_bytes, 64 bytes" => {
+            calls.sum(|it| Mh::from_bytes(&it.encoding), ok)
+        }
+        "read, slice" | "read, long code" | "read, 64 bytes" => {
             calls.sum(|it| Mh::read(&mut it.encoding.as_slice()), ok)
         }
         "truncate" => calls.sum(|it| it.left.truncate(it.half), |m| u64::from(m.size())),
-        "resize" => calls.sum(|it| it.left.resize::<255>(), ok),
-        "scale_decode" => calls.sum(|it| Mh::scale_decode(&mut it.scale.as_slice()), ok),
+        "resize" | "resize, 48 bytes" => calls.sum(|it| it.left.resize::<255>(), ok),
+        "scale_decode" | "scale_decode, 48 bytes" => {
+            calls.sum(|it| Mh::scale_decode(&mut it.scale.as_slice()), ok)
+        }
         "from_value" => calls.sum(|it| Mh::from_value(&it.value), ok),
         "read_list, 8 items" => calls.sum(read_list, ok),
         _ => return using(calls, row),
@@ -161,7 +172,7 @@ fn using(calls: &mut Calls, row: &str) -> Option<u64> {
         "encoded_len" => calls.sum(|it| it.left.encoded_len(), |len| *len as u64),
         "==" => calls.sum(|it| it.left == it.right, |equal| u64::from(*equal)),
         "same_as" => calls.sum(|it| it.left.same_as(&it.right), |same| u64::from(*same)),
-        "cmp" => calls.sum(
+        "cmp" | "cmp, 48 bytes" => calls.sum(
             |it| it.left.cmp(&it.right),
             |order| u64::from(order.is_eq()),
         ),

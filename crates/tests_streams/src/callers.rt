@@ -205,6 +205,32 @@ fn calls_of_writers_are_counted(rt: HostRuntime) {
     }
 }
 
+// After a write that fails, nothing is read.
+#[test]
+fn nothing_is_read_after_a_failed_write(rt: HostRuntime) {
+    let (alloc, why) = (rt.alloc(), ErrorKind::DISK_GONE);
+    let one = [hash_of::<32>(&BLOCK)];
+    for (at, is_linked) in [
+        (0, true),
+        (1, true),
+        (2, true),
+        (0, false),
+        (1, false),
+        (2, false),
+    ] {
+        let drip = expect_ok!(&rt; Drip::new(alloc, 100, 100));
+        let mut writer = FailWrite::<false>::new(drip, at, why);
+        let mut reader = Counts::new(&IDENTIFIER);
+        let failed = done(if is_linked {
+            through::<32, 32, _, _>(alloc, &one, &[], &mut writer, &mut reader)
+        } else {
+            list_through::<32, 32, _, _>(alloc, &one, &mut writer, &mut reader)
+        });
+        expect_rejected!(&rt; &failed, why, at);
+        check_eq!(&rt; reader.asked(), (0, 0, 0), at);
+    }
+}
+
 // One call gives, or takes, as much as the buffer has room for.
 #[test]
 fn a_long_slice_is_read_at_once(rt: HostRuntime) {
