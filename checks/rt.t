@@ -33,6 +33,5 @@ planted() {
 status=0
 rt ci > "$work/out" 2>&1 < /dev/null || status=$?
 try "rt ci: 1 comparison" has_totals $status "$work/out"
-# for .ci/run: the programs are those of this run
-if [ $failed != 0 ]; then sed 's/^/# /' "$work/out" >&2; elif [ "${PROVED-}" ]; then touch "$PROVED/built"; fi
+[ $failed = 0 ] || sed 's/^/# /' "$work/out" >&2
 try "another status or total: 14 comparisons" planted "$work/out"

@@ -73,17 +73,16 @@ stub() { printf '#!/bin/bash\necho 1..1\n%s\n' "$2" > "$1" && chmod +x "$1"; }
 has() { grep -q "$2" "$top/$1" $(grep -oE '(lib|bindings)/[a-z_/]+\.(py|sh)' "$top/$1" |
   sed "s|^lib|checks/lib|; s|^|$top/|"); }
 
-# Runs .ci/run over stubs by the rules of checks/, after a text: what reads programs of 'rt ci' fails before it ended,
-# and what reads the proofs of bugs.t before that.
+# Runs .ci/run over stubs by the rules of checks/, after a text: what reads programs or proofs of 'rt ci' fails before
+# it ended.
 # shellcheck disable=SC2016 # the checks expand it
 in_order() {
   local check text
   for check in checks/*.t; do
     text='echo ok 1'
-    if has "$check" BUILT; then text='[ -e "$PROVED/rt.t" ] && echo ok 1'; fi
-    if has "$check" lib/proved.sh; then text='[ -e "$PROVED/bugs.t" ] && echo ok 1'; fi
+    if has "$check" "BUILT\|lib/proved\|'rt ci'"; then text='[ "$BUILT" ] && echo ok 1'; fi
     case $check in
-      */rt.t | */bugs.t) text='sleep 3; touch "$PROVED/${0##*/}"; echo ok 1' ;;
+      */rt.t) text='sleep 3; echo ok 1' ;;
       */tap.t) text='echo ok 1' ;;
     esac
     stub "$check" "$text"
@@ -124,7 +123,7 @@ expect 2 "ran '' '' --wrong"
 expect 0 "ran 'echo ok 1' 'echo --wrong > .proverc'; rm .proverc"
 expect 0 "ran '[ \"\${BUILT-}\" ] || echo ok 1' 'export BUILT=\"rt ci\"'"
 # shellcheck disable=SC2016 # the check expands it
-text='[ $0 = checks/rt.t ] && touch "$PROVED/built" || [ "$BUILT" ] && echo ok 1'
+text='[ $0 = checks/rt.t ] || [ "$BUILT" ] && echo ok 1'
 expect 0 "ran '$text' 'cp checks/rt.t checks/lint.t'"
 # the last: only one of two checks is run
 expect 1 "ran 'echo ok 1' 'cp checks/rt.t checks/lint.t; sed -i \"s|timer checks|&/rt.t|\" .ci/run'"

@@ -1,10 +1,5 @@
 #!/usr/bin/env bash
 # Tests the module for JavaScript. It prints results as TAP, and its status is 1 if one failed.
-#
-#   bindings/js/test.sh
-#
-#   PROVED=FOLDER    a copy of the repository whose crates are proved: build.sh builds a copy of these, else it builds
-#                    here
 here=$(dirname "$(readlink -f "${BASH_SOURCE[0]}")")
 # shellcheck source=checks/lib/tap.sh
 . "$here/../../checks/lib/tap.sh"

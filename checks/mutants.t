@@ -1,0 +1,4 @@
+#!/usr/bin/env bash
+# That the proof rejects mutants.
+echo 1..46
+exec "$(dirname "$0")/lib/mutants.py"
