@@ -200,13 +200,14 @@ def name_errors(page: str, text: str) -> Iterator[str]:
 # ---- sentences
 
 ALIKE = 0.8  # how much of two sentences' words are the same if they say one thing
-COMMENTS = re.compile(r'/\*.*?\*/|(?:^\s*(?://[/!]?|#|--) ?.*\n)+|""".*?"""|(?://|#) .*$', re.M | re.S)
+COMMENTS = re.compile(r'/\*.*?\*/|(?:^\s*(?://[/!]?|#|--) ?[^\n]*\n)+|""".*?"""|(?://|#) [^\n]*$', re.M | re.S)
+PARTS = re.compile(r"\n\s*\n|\n(?=[-\d|]|\* | *\S+ {2,}\S)|\||(?<=\S) {2,}(?=\S)")
 MARKS = re.compile(r'^\s*(?://[/!]?|#+|/\*+|\*+/?|--|""")\s?|\*/|"""', re.M)
 
 
 def sentences(text: str) -> Iterator[str]:
     """Returns the sentences of five or more words, without headings, in lower case."""
-    for part in re.split(r"\n\s*\n|\n(?=[-\d]|\||\* )|\|", re.sub(r"^#+ .*$", "", text, flags=re.M)):
+    for part in PARTS.split(re.sub(r"^#+ .*$", "", text, flags=re.M)):
         for sentence in re.split(r"(?<=[.:;])\s+", flat(part).lower()):
             if len(sentence.split()) > 4:
                 yield sentence.strip("*-; `").rstrip(".:;,`")
@@ -248,7 +249,8 @@ def told_errors(page: str, text: str) -> Iterator[str]:
     for sentence in sentences(FENCE.sub("\n\n", text)) if is_told(page) else ():
         near = Counter(other for words in triples(sentence) for other in sentences_by_words().get(words, ()))
         others = [other for other, _ in near.most_common(9) if known_sentences()[other].keys() != {page}]
-        if not any(sentence in other for other in others):
+        part = re.compile(rf"{re.escape(sentence)}(?:[,;:.)`]| [(&<]|$)")
+        if not any(map(part.search, others)):
             for other in others:
                 if other not in sentence and alike(sentence.split(), other.split()) >= ALIKE:
                     yield f"{min(known_sentences()[other].keys() - {page})} says '{other}': {sentence}"
@@ -256,12 +258,13 @@ def told_errors(page: str, text: str) -> Iterator[str]:
 
 
 def order_errors(page: str, text: str) -> Iterator[str]:
-    """Returns two sentences of a page that are in another order in another file, where each is once."""
-    its = [known_sentences().get(sentence, {}) for sentence in sentences(FENCE.sub("\n\n", text))]
-    for first, second in zip(its, its[1:]) if is_told(page) else ():
-        for path in sorted(first.keys() & second.keys() - {page}):
-            if len(first[path]) == len(second[path]) == 1 and first[path] > second[path]:
-                yield f"{path} has another order of its sentences {first[path]} and {second[path]}"
+    """Returns two sentences of a page that are in another order in all other files where each is once."""
+    its = [*sentences(FENCE.sub("\n\n", text))] if is_told(page) else []
+    for sentence, following in zip(its, its[1:]):
+        first, second = (known_sentences().get(it, {}) for it in (sentence, following))
+        both = [path for path in first.keys() & second.keys() - {page} if len(first[path]) == len(second[path]) == 1]
+        if both and all(first[path] > second[path] for path in both):
+            yield f"{min(both)} has another order of these sentences: {sentence}; {following}"
 
 
 def alike(words: list[str], others: list[str]) -> float:

@@ -72,13 +72,15 @@ def member_lines(owner: Item) -> Iterator[str]:
 
 
 def field_lines(item: Item) -> Iterator[str]:
-    """Returns the cases of an enum, or the fields of a struct that are public or ghost, with their documentation."""
+    """Returns the cases of an enum, or the fields of a struct that are public, ghost or named by a ghost member."""
     documentation: list[str] = []
     for line in kept_lines(item.text[item.inner() : item.end]):
         if line.startswith("    ///"):
             documentation.append(line)
         elif line != "}":
-            if item.kind == "enum" or line.startswith(("    pub ", "    ghost ")):
+            name = re.escape(line.strip().partition(":")[0])
+            is_named = re.search(rf"(?m)^    ghost \w+ = .*\.{name}\b", item.text)
+            if item.kind == "enum" or is_named or line.startswith(("    pub ", "    ghost ")):
                 yield from (*documentation, line)
             documentation = []
 

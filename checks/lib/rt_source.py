@@ -30,7 +30,7 @@ class Clause(NamedTuple):
 
 
 class Item(NamedTuple):
-    """An item of a text. Its code is the text without strings, characters and comments."""
+    """A named part of a source. Its code is the text without strings, characters and comments."""
 
     kind: str
     name: str

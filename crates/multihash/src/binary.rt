@@ -90,17 +90,6 @@ impl<const S: usize> Multihash<S> {
     {
         let size = Self::fitting_size(varint::read(r)?)?;
         let mut digest = [0; S];
-
-        // A buffer of more than 64 bytes is filled as a part of the value, which saves a copy.
-        if S > 64 {
-            let mut m = Multihash {
-                code,
-                digest,
-                size: usize::from(size),
-            };
-            Self::read_digest(r, size, &mut m.digest)?;
-            return Ok(m);
-        }
         Self::read_digest(r, size, &mut digest)?;
         Ok(Multihash {
             code,

@@ -59,26 +59,10 @@ returns-in_err-read_digest g c a is =
     stopped g.row.S _ _ _ _ _ _ _ _ _ _ (a, is, refl) size.ok fitting.ok fitting.fits size.faults _ _ c.from_residual-in_err-read_digest.ensures.1
     digest.eof digest.err digest.faults
 
-pub returns-then-this-gt64 : goal.returns-then-this-gt64
-returns-then-this-gt64 g c a is =
+pub returns : goal.returns
+returns g c a is =
     let size = c.in_ok-read.ensures in
     let fitting = c.in_ok-size.ensures in
     let digest = c.in_ok-read_digest.ensures in
     filled g.row.S _ _ _ _ _ _ _ _ _ _ (a, is, refl) size.ok fitting.ok fitting.fits size.faults _ _
     (omega (arith, c.from.ensures, fitting.ok, fitting.fits)) c.from.ensures digest.full digest.ok digest.faults
-
-pub returns-in_err-read_digest-2 : goal.returns-in_err-read_digest-2
-returns-in_err-read_digest-2 g c a is =
-    let size = c.in_ok-read.ensures in
-    let fitting = c.in_ok-size.ensures in
-    let digest = c.in_err-read_digest-2.ensures in
-    stopped g.row.S _ _ _ _ _ _ _ _ _ _ (a, is, refl) size.ok fitting.ok fitting.fits size.faults _ _ c.from_residual-in_err-read_digest-2.ensures.1
-    digest.eof digest.err digest.faults
-
-pub returns : goal.returns
-returns g c a is =
-    let size = c.in_ok-read.ensures in
-    let fitting = c.in_ok-size.ensures in
-    let digest = c.in_ok-read_digest-2.ensures in
-    filled g.row.S _ _ _ _ _ _ _ _ _ _ (a, is, refl) size.ok fitting.ok fitting.fits size.faults _ _
-    (omega (arith, c.from-2.ensures, fitting.ok, fitting.fits)) c.from-2.ensures digest.full digest.ok digest.faults
