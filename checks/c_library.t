@@ -4,7 +4,7 @@
 # valgrind, with all warnings as errors; and runs the examples.
 # shellcheck source=checks/lib/tap.sh
 . "$(dirname "$0")/lib/tap.sh"
-plan 35 cc python3 rt
+plan 36 cc python3 rt
 # shellcheck source=checks/lib/proved.sh
 . checks/lib/proved.sh
 # shellcheck source=checks/lib/warnings.sh
@@ -162,11 +162,18 @@ END
 # The example of the page is the one that is installed.
 example_in() { block_of "$1" c | diff bindings/c/examples/show.c -; }
 
-# The reader of a stream that is installed, over pipes that are cut at each byte.
+# The reader of a stream that is installed, after an edit, over pipes that are cut at each byte.
 stream_example() {
-  cc "${c_flags[@]}" "${sanitize[@]}" -I "$c/include" -I bindings/c/examples "$c/tests/stream.c" "$library" \
-    -o "$work/stream"
+  sed "$1" bindings/c/examples/stream.c > "$work/stream.c"
+  cc "${c_flags[@]}" "${sanitize[@]}" -I "$c/include" -I "$work" "$c/tests/stream.c" "$library" -o "$work/stream"
   "$work/stream"
+}
+
+planted_in_stream() {
+  local edit
+  for edit in 's/errno != EINTR/1/' 's/> from->limit/> 255/' 's/= !is_rejected/= 0/' 's/? 2 : 1/? 3 : 1/'; do
+    rejects "not so: " stream_example "$edit"
+  done
 }
 
 # ---- all of it
@@ -195,4 +202,5 @@ try "what is planted in C by hand: 10 comparisons" planted_in_c
 try "the example of the page" example_in bindings/c/README.md
 sed 's/int main(void)/int main()/' bindings/c/README.md > "$work/page.md"
 try "another example" rejects "> int main()" example_in "$work/page.md"
-try "the reader of a stream" stream_example
+try "the reader of a stream" stream_example ""
+try "what is planted in it: 4 comparisons" planted_in_stream

@@ -206,8 +206,8 @@ MARKS = re.compile(r'^\s*(?://[/!]?|#+|/\*+|\*+/?|--|""")\s?|\*/|"""', re.M)
 
 
 def sentences(text: str) -> Iterator[str]:
-    """Returns the sentences of five or more words, without headings, in lower case."""
-    for part in PARTS.split(re.sub(r"^#+ .*$", "", text, flags=re.M)):
+    """Returns the sentences of five or more words, without headings, macros and backquotes, in lower case."""
+    for part in PARTS.split(re.sub(r"^(?:#+|\.Sh) .*$|\n\.[A-Z][a-z]\b|`", "", text, flags=re.M)):
         for sentence in re.split(r"(?<=[.:;])\s+", flat(part).lower()):
             if len(sentence.split()) > 4:
                 yield sentence.strip("*-; `").rstrip(".:;,`")
@@ -241,7 +241,7 @@ def triples(sentence: str) -> list[tuple[str, ...]]:
 
 
 def is_told(page: str) -> bool:
-    return page.endswith(".md") and page not in (CONTRACTS, SPEED)
+    return page == MAN or page.endswith(".md") and page not in (CONTRACTS, SPEED)
 
 
 def told_errors(page: str, text: str) -> Iterator[str]:

@@ -207,6 +207,7 @@ fn defaults_are_empty(rt: HostRuntime) {
     expect_bytes!(rt; &expect_ok!(rt; m.to_bytes(rt.alloc())), &[0, 0]);
     check!(rt; m.same_as(&Multihash::<64>::default()));
     check_eq!(rt; Multihash::<0>::default().into_inner(), (0, [], 0));
+    check_eq!(rt; m.into_inner(), (0, [0; 32], 0));
 }
 
 fn expect_unwrapped<const S: usize>(rt: &impl Abort, code: u64, digest: &[u8], why: ErrorKind)
