@@ -102,7 +102,7 @@ try_linter() {
   try "each script is in a list" are_known $shell $python $javascript
   try "a script that is in none" rejects "> checks/lib/tap.sh" are_known ${shell/tap.sh/} $python $javascript
   try "scripts that go on after a failure" diff - <(comm -23 <(echo "$shell") <(echo "$ending")) \
-    < <(printf '%s\n' .ci/run bindings/c/examples/test.sh checks/{bugs,js,pages,python,speed,tap,verdicts}.t)
+    < <(printf '%s\n' .ci/run bindings/c/examples/test.sh checks/{bugs,js,mutants,pages,python,speed,tap,verdicts}.t)
   try "Python with types" diff - <({ echo "$typed"; listed 'bindings/python/tests/*.py'; } | sort) \
     <<< "$python"
   try_linter syntax syntax.sh "unexpected end of file" "if true; then" $shell

@@ -7,8 +7,9 @@ plan 9 cc cargo rustc=1.82+ /usr/share/cargo/registry/{cc-1,pkg-config-0.3,serde
 archive=bindings/c/prebuilt/$(uname -m)/libmultihash_c.a
 version=$(sed -n 's/^#define MULTIHASH_VERSION "\([0-9.]*\)"$/\1/p' bindings/c/include/multihash.h)
 
-# Runs a command of Cargo for the packages for Rust; what is set comes first.
+# Runs a command of Cargo for the packages for Rust, and counts it; what is set comes first.
 in_crate() {
+  printf . >> "$work/compared"
   env -u MULTIHASH_C_LIB_DIR -u MULTIHASH_C_SYSTEM -u CC -u CFLAGS KEEP=1 RUSTFLAGS="-D warnings" \
     RUSTDOCFLAGS="-D warnings" bindings/rust/offline.sh "$work" "$@"
 }
@@ -159,12 +160,12 @@ rust_build() {
   rejects "multihash_c >= 1.0" in_crate MULTIHASH_C_SYSTEM=1 PKG_CONFIG_LIBDIR="$work/none" cargo build
 }
 
-try "the tests: 3 comparisons" rust_binding
-try "the portable source: 6 comparisons" rust_source
-needs=clang try "the portable source for other targets: 10 comparisons" rust_targets
-try "the packed packages: 5 comparisons" rust_packed
-needs=$archive try "the build script: 4 comparisons" rust_build
-try "the switch from upstream's package: 2 comparisons" rust_switch
-try "serde: 1 comparison" rust_serde
-needs=cargo-clippy try lints rust_lints
-needs=cargo-clippy try "a warning of each command: 3 comparisons" planted_warnings
+try "the tests: 8 comparisons" rust_binding
+try "the portable source: 13 comparisons" rust_source
+needs=clang try "the portable source for other targets: 15 comparisons" rust_targets
+try "the packed packages: 7 comparisons" rust_packed
+needs=$archive try "the build script: 8 comparisons" rust_build
+try "the switch from upstream's package: 6 comparisons" rust_switch
+try "serde: 4 comparisons" rust_serde
+needs=cargo-clippy try "lints: 3 comparisons" rust_lints
+needs=cargo-clippy try "a warning of each command: 6 comparisons" planted_warnings

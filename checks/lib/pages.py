@@ -88,14 +88,19 @@ def file_errors(texts: Texts) -> Iterator[str]:
         yield from (f"{path}: there is no {it}" for it in sorted(words) if "NAME" not in it and not (TOP / it).exists())
 
 
-def command_errors(texts: Texts) -> Iterator[str]:
-    """Runs the commands of README.md, each of which prints what mh_show prints. The page shows that."""
+def output_errors(texts: Texts) -> Iterator[str]:
+    """Compares the output of mh_show that pages show."""
     shown = read("crates/mh_show/stdout")
-    blocks = FENCE.findall(texts[README])
-    if ("text", shown) not in blocks:
+    if ("text", shown) not in FENCE.findall(texts[README]):
         yield "it shows another output than that of mh_show"
     if f"$ echo {read('crates/mh_show/stdin').strip()} | mh_show\n{shown}" not in texts[MAN]:
         yield f"{MAN} shows another output"
+
+
+def command_errors(texts: Texts) -> Iterator[str]:
+    """Runs the commands of README.md, each of which prints what mh_show prints."""
+    shown = read("crates/mh_show/stdout")
+    blocks = FENCE.findall(texts[README])
     commands = [line for language, body in blocks if language == "sh" for line in body.splitlines()]
     if len(commands) != 2:
         yield f"it has other commands: {commands}"
@@ -162,6 +167,7 @@ CHECKS: dict[str, Callable[[Texts], Iterator[str]]] = {
     "contract_errors": contract_errors,
     "link_errors": link_errors,
     "file_errors": file_errors,
+    "output_errors": output_errors,
     "command_errors": command_errors,
     **{check.__name__: of_all_pages(check) for check in OF_A_PAGE},
 }
