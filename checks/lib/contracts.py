@@ -32,10 +32,8 @@ fix what implementations expose.
 
 
 def kept_lines(text: str) -> Iterator[str]:
-    """Returns the lines of a text that are not empty, and no comments but those of documentation."""
-    for line in text.splitlines():
-        if line and (not line.lstrip().startswith("//") or line.lstrip().startswith("///")):
-            yield line
+    """Returns the lines of a text that are not empty."""
+    return filter(None, text.splitlines())
 
 
 def attribute_lines(item: Item, indent: str) -> Iterator[str]:
