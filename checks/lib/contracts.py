@@ -1,5 +1,5 @@
 #!/usr/bin/env python3
-"""Writes docs/CONTRACTS.md: the public items of crates, with the contracts of their functions.
+"""Writes docs/CONTRACTS.md: the public items of crates, with the contracts of their functions, and those of bindings.
 
 A line is left out or kept, never changed, so no clause and no documentation can change, and no
 public name can go, without a difference in that page. Left out are other comments, bodies and what
@@ -18,12 +18,24 @@ PAGE = TOP / "docs" / "CONTRACTS.md"
 CRATES = ("headline", "multihash", "multihash_c", "mh_show", "storage", "examples")
 # attributes that no caller can see
 OF_BODIES = re.compile(r"#\[(cold|inline|tactic)\b")
+# the files of the bindings that declare what is public, and what is kept of them
+TO_BODY = r"\A(?s:.+?)(?=\n\{|\s*\Z)"
+BINDINGS = {
+    "c/include/*.h": TO_BODY,
+    "js/*.d.ts": TO_BODY,
+    "python/src/*.c": r'^ *(?:\{(?:"(?!_[a-z])\w+"|Py_tp_doc)|static const char ).*(?:\n +".*)*',
+    "python/verified_multihash/*.py": r'^(?: *(?:class|(?:async )?def) (?!_).*\n +)?"""(?s:.*?)"""$'
+    r"|^ *(?:[A-Z_]+|__version__) = .*",
+    "python/verified_multihash/*.pyi": TO_BODY,
+    "rust/*/src/*.rs": r"^//!.*|(?:^ *///.*\n)*(?:^ *#\[.*\n)*^ *pub .*"
+    r"|(?:^ *///.*\n)+(?:^ *#\[.*\n)*^ *(?:impl|fn .*self|[A-Z]\w+[(,]).*",
+}
 INTRODUCTION = """\
 # Contracts
 
 Written by `checks/lib/contracts.py`, and compared with the sources in CI: the main theorems, then
-the public items of these crates, as they stand in their files, without bodies. A difference here is
-a changed promise. [CALLING.md](../crates/multihash/CALLING.md#what-contracts-see)
+the public items of these crates and of the bindings, as they stand in their files, without bodies. A
+difference here is a changed promise. [CALLING.md](../crates/multihash/CALLING.md#what-contracts-see)
 says how to read a clause; its words are [at the end](#words).
 
 The functions of `laws.rt` and `pins.rt` do nothing: their clauses are laws of the definitions, and
@@ -120,13 +132,22 @@ def section_of(path: str, text: str) -> str:
     return f"\n### [{path}](../{path})\n\n{description}\n\n```text\n{block}\n```\n" if block else ""
 
 
+def binding_section(path: str, text: str, form: str) -> str:
+    """Returns the section of a file of a binding, which is empty if nothing in it has the form."""
+    lines = "\n".join(re.findall(form, text, re.M)).splitlines()
+    block = "\n".join(line for line in lines if not OF_BODIES.match(line.strip()))
+    return f"\n### [{path}](../{path})\n\n```text\n{block}\n```\n" if block else ""
+
+
 def sources() -> dict[str, str]:
-    """Returns the text of each file of the crates, and of their definitions."""
+    """Returns the text of each file of the crates, of their definitions, and of the bindings' declarations."""
     paths: list[Path] = []
     for crate in CRATES:
         paths += sorted((TOP / "crates" / crate / "src").rglob("*.rt"))
     for crate in sorted(CRATES):
         paths += sorted((TOP / "crates" / crate / "specs").glob("*.antt"))
+    for files in BINDINGS:
+        paths += sorted((TOP / "bindings").glob(files))
     return {str(path.relative_to(TOP)): path.read_text("utf-8") for path in paths}
 
 
@@ -160,6 +181,9 @@ def written_page(texts: dict[str, str]) -> str:
             page += section_of(path, text)
             last = crate
     used = {*re.findall(r"[\w-]+", re.sub(r"(?m)^ *///.*$", "", page))}
+    page += "\n## bindings\n"
+    for files, form in BINDINGS.items():
+        page += "".join(binding_section(path, text, form) for path, text in texts.items() if Path(path).match(files))
     page += "\n## Words\n\nThose that the clauses above use, by the files that define them.\n"
     for path, text in texts.items():
         rows = [*word_rows(text, used)] if path.endswith(".antt") else []

@@ -41,7 +41,7 @@ def pages_of(texts: Texts) -> Texts:
 
 def contract_errors(texts: Texts) -> Iterator[str]:
     """Compares CONTRACTS.md with the sources."""
-    sources = {path: text for path, text in texts.items() if path.endswith((".rt", ".antt"))}
+    sources = {path: texts[path] for path in contracts.sources()}
     try:
         page = contracts.written_page(sources)
     except Unread as error:
