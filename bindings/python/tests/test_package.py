@@ -135,6 +135,22 @@ class Arguments(unittest.TestCase):
         for call in BYTES_CALLS[:3]:
             self.assertEqual(self.error_of(call, memoryview(b""))[0], Status.INSUFFICIENT)
 
+    def test_views(self):
+        """Arrays of wider items give the result of their bytes, also where these end inside what a call looks at."""
+
+        def result(call, data):
+            try:
+                return call(data)
+            except MultihashError as error:
+                return attributes_of(error)
+
+        longest = b"\xff" * 8 + b"\x7f"
+        for start in (b"", b"\1\3", longest, longest * 2, longest + b"\xff\1"):
+            for size in range(0, 321, 8):
+                data = (start + bytes(320))[:size]
+                for call, kind in itertools.product(BYTES_CALLS, "BHIQ"):
+                    self.assertEqual(result(call, array.array(kind, data)), result(call, data), (kind, data))
+
     def test_numbers(self):
         for call in CODE_CALLS:
             for wrong in (18.0, "18", None, b"\x12"):
