@@ -42,6 +42,19 @@ old_engine() {
   done
 }
 
+# A wasm-opt that changes one local is found, and a folder without the crates is an error.
+built_anew() {
+  "$here/build.sh" --check
+  # shellcheck disable=SC2317 # build.sh runs it
+  wasm-opt() {
+    command wasm-opt "$@"
+    wasm2wat "${!#}" | sed '0,/local.get 1/s//local.get 0/' | wat2wasm - -o "${!#}"
+  }
+  export -f wasm-opt
+  rejects "> local.get 0" "$here/build.sh" --check
+  rejects "No such file" env PROVED="$work/none" tools/link_wasm "$work/none.wasm"
+}
+
 # The module has the instructions of WebAssembly's first version and bulk memory operations, and no others.
 old_module() {
   local others=(--disable-mutable-globals --disable-saturating-float-to-int --disable-sign-extension --disable-simd
@@ -159,7 +172,7 @@ test_browser() {
   part "the demo page in $name" "$tools" demo "$name"
 }
 
-part "the WebAssembly built anew" "rt wasm-opt=108 wasm2wat=1.0.32" "$here/build.sh" --check
+part "the WebAssembly built anew: 2 comparisons" "rt wasm-opt=108 wasm2wat=1.0.32" built_anew
 part "the WebAssembly for old engines" wasm-validate old_module
 while read -r entry; do
   part "in Node.js, $entry" node in_node "$vectors/verdicts.tsv" "$entry"
