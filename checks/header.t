@@ -6,8 +6,9 @@
 
 The header's declarations are made from the crate. The preprocessed header has to be these
 declarations and nothing else, in C and in C++, and its macros have to be the crate's constants.
-Comments have to list errors in the order in which they are judged. A text in no known form is an
-exception. Then the differences of checks/lib/header.edits are planted, which all have to be found.
+Comments have to list errors in the order in which they are judged, and those of the test vectors. A
+text in no known form is an exception. Then the differences of checks/lib/header.edits are planted,
+which all have to be found.
 """
 import re
 import shutil
@@ -28,6 +29,7 @@ from rt_source import Item, items
 TOP = Path(__file__).resolve().parents[1]
 CRATE = "crates/multihash_c"
 HEADER, MAP = "bindings/c/include/multihash.h", "bindings/c/src/multihash_c.map"
+VERDICTS = "crates/vectors/data/verdicts.tsv"
 LANGUAGES = ("c", "c++")
 # The header's conditions: any other hides text from these preprocessors.
 CONDITIONS = ["ifndef MULTIHASH_H", "ifdef __cplusplus", "ifdef __cplusplus"]
@@ -46,6 +48,7 @@ RUST, PYTHON, JS = "bindings/rust/multihash_c", "bindings/python/verified_multih
 PATTERNS = (
     HEADER,
     MAP,
+    VERDICTS,
     f"{CRATE}/src/**/*.rt",
     "crates/multihash/specs/Varint.antt",
     "crates/multihash/src/multihash.rt",
@@ -231,10 +234,20 @@ def order_errors(files: Files, statuses: dict[str, str]) -> Iterator[str]:
     yield from (f"{HEADER} has no function with the error {name}" for name in {*statuses} - {"OK", *listed})
 
 
+def verdict_errors(files: Files) -> Iterator[str]:
+    """Compares the errors in the comments of decoders with those of the test vectors for the capacity 255."""
+    heads, *lines = (line.split("\t") for line in files[VERDICTS].splitlines())
+    for call in ("read", "from_bytes", "scale_decode"):
+        said = re.findall(r"MULTIHASH_(\w+)", group(rf"Errors:([^/]*)\*/\n\w+ multihash_{call}\(", files[HEADER]))
+        found = {line[heads.index(call)].partition(" ")[0].upper() for line in lines if line[0] == "255"}
+        if {"PAIR", *said} != found:
+            yield f"{HEADER} has the errors {said} of {call}, and the test vectors {sorted(found)}"
+
+
 def error_of(files: Files) -> str:
     """Returns what differs."""
     crate = of_crate(files)
-    errors = [*binding_errors(files, crate), *order_errors(files, crate.statuses)]
+    errors = [*binding_errors(files, crate), *order_errors(files, crate.statuses), *verdict_errors(files)]
     for language in LANGUAGES:
         errors += header_errors(files[HEADER], crate, language)
     return "\n".join(errors)
@@ -280,7 +293,7 @@ def main() -> int:
         return 0
     if not shutil.which("c++"):
         return tap.report([tap.left_out("all", "c++ is not installed")], 1)
-    return tap.report(results(), 40)
+    return tap.report(results(), 41)
 
 
 if __name__ == "__main__":
