@@ -3,7 +3,7 @@
 # a planted script.
 # shellcheck source=checks/lib/tap.sh
 . "$(dirname "$0")/lib/tap.sh"
-plan 23
+plan 26
 
 listed() { git ls-files -co --exclude-standard "$@"; }
 # Prints the paths of the scripts in a language, by their first lines.
@@ -85,6 +85,21 @@ planted() {
 }
 body() { sed -n "/^$1() [{(].*[})]\$/{p;q}; /^$1() [{(]/,/^[})]/p"; }
 
+# Each function of a shell script is named in another line of one.
+are_run() {
+  awk '/^ *#/ { next } { own = /^[a-z_]+\(\) / ? substr($1, 1, length($1) - 2) : "" } own { file[own] = FILENAME }
+    { for (at = split($0, words, /[^a-z_]+/); at; at--) if (words[at] != own) named[words[at]] }
+    END { for (own in file) if (!(own in named)) { print file[own] ": " own " is not run"; all = 1 } exit all }' "$@"
+}
+
+# Each script that needs a word ends with an error without one.
+without_words() {
+  for script in bindings/{c/man.py,python/pack.sh,rust/{beside_upstream.py,offline.sh,pack.sh}} checks/lib/packed.py \
+    tools/{link_wasm,portable_c,release,sbom.py}; do
+    rejects "${script##*/}" "$script" < /dev/null
+  done
+}
+
 # Tries a linter, a command with options, over scripts, and over a planted script between two of them, which it has to
 # reject with a text.
 try_linter() {
@@ -109,6 +124,7 @@ try_linter() {
   try_linter planted compares.sh "no planted case of same" \
     'same() {\n  cmp a b\n}\ntry "one of two" same a' $tested
   try_linter short long.js long.js:1 "$(printf '%121s' .)" $shell $python $javascript
+  try_linter are_run unused.sh "unused is not run" "unused() { true; } # unused" $shell
   try_linter chains chain.sh chain.sh:2 'set -e\nfalse && true\ntrue' $ending
   needs=shellcheck try_linter "shellcheck -x -o check-set-e-suppressed" cd.sh SC2310 \
     "#!/bin/bash\nset -e\nf() { cd /tmp; }\nf || exit" $shell
@@ -117,5 +133,6 @@ try_linter() {
   needs=mypy try_linter "mypy --strict --scripts-are-modules --cache-dir $work/mypy" untyped.py \
     "missing a type annotation" "def same(number): return number" $typed
   needs=tsc try_linter names unused.js TS6133 "export {};\nconst number = 1;" $javascript
+  try "scripts without their words: 10 comparisons" without_words
   needs=tsc try "each error of names: 14 comparisons" planted_names
 }
