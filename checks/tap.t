@@ -18,7 +18,7 @@ expect() {
   echo "$result $number - ${text//'#'/}"
 }
 
-echo 1..63
+echo 1..65
 expect "not ok 1 - a\nok 2 - b" ". checks/lib/tap.sh; try a false; try b true"
 expect "not ok 1 - a" ". checks/lib/tap.sh; try a no_such_command"
 expect "not ok 1 - a\n# why" ". checks/lib/tap.sh; try a sh -c 'echo why >&2; exit 1' 2>&1"
@@ -95,6 +95,7 @@ in_order() {
 # Runs .ci/run over a check, a text, after another text, and prints its status.
 ran() {
   rm -f checks/*.t
+  cp "$top/.ci/run" .ci
   printf -- '---\nseq:\n  - checks/rt.t\n  - checks/*.t\n' > checks/rules.yml
   stub checks/rt.t "$1"
   eval "${2-}"
@@ -109,10 +110,7 @@ expect 1 "in_order 'sed -i /js.t/d checks/rules.yml'"
 expect 0 "ran 'echo ok 1'"
 expect 1 "ran 'echo not ok 1'"
 expect 1 "ran 'echo ok 1; exit 1'"
-expect 1 "ran 'echo \"not ok 1 # TODO\"'"
 expect 0 "ran 'echo \"ok 1 # SKIP\"'"
-expect 1 "ran 'echo \"ok 1 - a # skip why\"' '' --all"
-expect 1 "ran 'echo \"ok 1 # SKIP\"' '' --all"
 expect 0 "ran '[ \"\$ALL\" ] && echo ok 1' '' --all"
 expect 1 "ran '' 'sed -i s/1$/0/ checks/rt.t'"
 expect 1 "ran '' 'sed -i \"s/1..1$/\\x271..0 # SKIP why\\x27/\" checks/rt.t'"
@@ -125,5 +123,15 @@ expect 0 "ran '[ \"\${BUILT-}\" ] || echo ok 1' 'export BUILT=\"rt ci\"'"
 # shellcheck disable=SC2016 # the check expands it
 text='[ $0 = checks/rt.t ] || [ "$BUILT" ] && echo ok 1'
 expect 0 "ran '$text' 'cp checks/rt.t checks/lint.t'"
-# the last: only one of two checks is run
+# only one of two checks is run
 expect 1 "ran 'echo ok 1' 'cp checks/rt.t checks/lint.t; sed -i \"s|timer checks|&/rt.t|\" .ci/run'"
+# parts of what it edits for prove: a run fails, and passes without the part
+while IFS='|' read -r edit text option; do
+  expect "1\n0" "ran '$text' '' $option; ran '$text' 'sed -i $edit .ci/run' $option"
+done << 'END'
+s,skip/I,skip/,|echo "ok 1 # SKIP"|--all
+s,skip/I,SKIP/,|echo "ok 1 - a # skip why"|--all
+s,#.*skip,#.skip,|echo "ok 1 #skip"|--all
+s,#//g,-//g,|echo "not ok 1 # TODO"|
+s,#//g,#//,|echo "not ok 1 # # TODO"|
+END
