@@ -289,9 +289,12 @@ man_pages() {
   done < "$work/texts"
 }
 
+# Literal blocks alone have backquotes. Debian's packages have the pages, so Python is there when they are built.
 pages() {
   cd "$prefix/share/man"
   man_pages "$header"
+  sed '/^\.Bd/,/^\.Ed/d' man3/multihash.3 "$top/crates/mh_show/mh_show.1" | tr -cd '`' | diff /dev/null -
+  grep '^Build-Depends:.*\<python3\>' "$top/bindings/c/debian/control"
   sed 's/-1 if the left one/-2 if the left one/' "$header" > "$work/planted.h"
   rejects "not in the man page" man_pages "$work/planted.h"
 }
@@ -313,7 +316,7 @@ test_programs() {
   try "a project of CMake: 15 comparisons" by_find_package
   try "a folder of a project of CMake: 4 comparisons" by_subdirectory
   needs=go try "Go: 1 comparison" in_go
-  needs=mandoc try "man pages: 7 comparisons" pages
+  needs=mandoc try "man pages: 9 comparisons" pages
   needs="cargo $crates" try "the packages for Rust, as installed" rust_crate
 }
 
