@@ -1,8 +1,9 @@
 """Compares numbers, names, sentences, commands and blocks of pages with the sources.
 
 A number is one of a phrase of numbers.txt, or is in a source after the same word. What is in backquotes is in a source
-of the page's folders. A sentence that is nearly one of a source's comments, or of another page, is the same. A command
-has the form of its usage. The lines of a block are those of a source, unless another check runs them.
+of the page's folders. A sentence that is nearly one of a source's comments, or of another page, is the same, and two
+have one order. A command has the form of its usage. The lines of a block are those of a source, unless another check
+runs them.
 """
 import re
 import subprocess

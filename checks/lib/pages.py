@@ -81,11 +81,11 @@ def link_errors(texts: Texts) -> Iterator[str]:
                 yield f"{page}: a link leads nowhere: {link}"
 
 
-def file_errors(texts: Texts) -> Iterator[str]:
+def file_errors(texts: Texts, top: Path = TOP) -> Iterator[str]:
     """Returns the names of files below some folders, in all files, that are gone."""
     for path in claims.paths():
         words = {*BELOW.findall(texts.get(path) or read(path))} if not path.endswith(".edits") else set()
-        yield from (f"{path}: there is no {it}" for it in sorted(words) if "NAME" not in it and not (TOP / it).exists())
+        yield from (f"{path}: there is no {it}" for it in sorted(words) if "NAME" not in it and not (top / it).exists())
 
 
 def output_errors(texts: Texts) -> Iterator[str]:
@@ -180,6 +180,8 @@ def planted(texts: Texts) -> Iterator[tap.Result]:
     for seen, *edit in found:
         changed = edits.apply(texts, [edits.Edit(*edit)])
         yield tap.planted(f"{seen}: {' > '.join(edit)}", any(CHECKS[seen]({**texts, **changed})))
+    gone = {error.rpartition(" ")[2] for error in file_errors(texts, Path("none"))}
+    yield tap.planted("file_errors: no file is there", {"checks/lint.t", ".ci/run"} <= gone)
 
 
 def results() -> Iterator[tap.Result]:
