@@ -73,7 +73,7 @@ plain() {
 # What is packed, unpacked elsewhere, runs the script of README.md, and is imported from CommonJS.
 packed_script() {
   local at=$work/elsewhere
-  (cd "$here"; npm pack --silent --pack-destination "$work")
+  (cd "$here"; npm pack --loglevel=error --pack-destination "$work")
   mkdir -p "$at/node_modules/verified-multihash"
   tar xzf "$work"/verified-multihash-*.tgz --strip-components 1 -C "$at/node_modules/verified-multihash"
   block_of "$here/README.md" js > "$at/script.mjs"
