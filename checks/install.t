@@ -270,22 +270,26 @@ in_go() {
   go run . | diff <(echo 'code 18, digest abc') -
 }
 
-# Each page of a function is that of the library, which has each comment and each function of the header, and the date
-# of the version.
+# Each page of a function is that of the library, which has each comment of the header, after the name that it is of,
+# each function, and the date of the version.
 man_pages() {
   local text page
   mandoc -T lint man3/multihash.3 "$top/crates/mh_show/mh_show.1"
   grep -Lx '.so man3/multihash.3' man3/* | diff <(echo man3/multihash.3) -
   sed -n 's/^\.Nm \(\S*\).*/\1.3/p' man3/multihash.3 | sort | diff <(ls man3) -
-  page=$(mandoc -T utf8 man3/multihash.3 | sed 's/.\x08//g' | tr -cd '[:alnum:]')
-  { date -d "$(sed -n "s/^$version (\(.*\))/\1/p" "$top/CHANGES")" '+%B%-d%Y'
-    printf '%s\n' "LIBRARYmultihashcversion${version//./}pkgconfigcflagslibsmultihashc" SYNOPSISincludemultihashh
-    perl -0777 -ne 'for (m{/\*(.*?)\*/}gs, m{^(#define MULTIHASH_\w+ .*)}gm,
-      m{^(typedef (?:struct .*?^\} )?[\w ]+;)}gms,
-      m{^(?:static inline )?((?:const char \*|\w+ )multihash_\w+\([^()]*\))}gm) {
-      s/[^[:alnum:]]//g; print "$_\n" }' "$1"; } > "$work/texts"
+  [ "$(command grep -c '^\.It Errors$' man3/multihash.3)" = "$(command grep -c '^ \* Errors:' "$1")" ]
+  page=$(mandoc -T utf8 man3/multihash.3 | sed 's/.\x08//g' | tr -cs '[:alnum:]' ' ')
+  { date -d "$(sed -n "s/^$version (\(.*\))/\1/p" "$top/CHANGES")" '+%B %-d %Y'
+    printf '%s\n' "status text decode and encode multihashes LIBRARY multihash c version ${version//./ }" \
+      "pkg config cflags libs multihash c prints" "SYNOPSIS include multihash h multihash decoded"
+    sed -n '/.*](\(https:[^)]*\)).*/{s//SEE ALSO The multihash format \1/p;q}' "$top/README.md" | tr -s ':/.' ' '
+    perl -0777 -ne 'my @of = m{/\*((?:(?!\*/).)*)\*/\s*(?:static inline )?(?:const char \*|\w+ )?(\w+)(?=\(| =)}gs;
+      for (m{/\*(.*?)\*/}gs, m{^(#define MULTIHASH_\w+ .*)}gm, m{^(typedef (?:struct .*?^\} )?[\w ]+;)}gms,
+      m{^(?:static inline )?((?:const char \*|\w+ )multihash_\w+\([^()]*\))}gm,
+      map { "$of[2 * $_ + 1] $of[2 * $_]" } 0 .. $#of / 2) { s/[^[:alnum:]]+/ /g; print "$_\n" }' "$1"; } \
+    > "$work/texts"
   while read -r text; do
-    [[ $page = *"$text"* ]] || { echo "not in the man page: $text"; return 1; }
+    [[ $page = *" $text "* ]] || { echo "not in the man page: $text"; return 1; }
   done < "$work/texts"
 }
 
