@@ -32,8 +32,9 @@ planted_log() {
 
 install_built() { cmake --install "$work/$1" "${@:2}"; }
 
-# In the configured prefix, whose name has a blank.
+# In the configured prefix, whose name has a blank. One of the tests loads the shared library.
 installs() {
+  readelf -d "$work"/built/*_test | command grep -cF "[libmultihash_c.so.$major]" | diff - <(echo 1)
   install_built built
   is_installed "$prefix" lib
 }
@@ -52,13 +53,14 @@ installs_below() {
 }
 
 # The package works where it was unpacked: also of another archive, which was changed after a build, and with other
-# folders of each kind.
+# folders of each kind. Paths on the command line may be relative ones.
 packs() {
   local name archive=$work/own.a
   cp "$prefix/lib/libmultihash_c.a" "$archive"
-  build other -DMULTIHASH_C_ARCHIVE="$archive" -DBUILD_SHARED_LIBS=ON -DMULTIHASH_C_PROGRAM="$(type -P true)" \
-    -DCMAKE_INSTALL_LIBDIR=lib/other -DCMAKE_INSTALL_INCLUDEDIR=headers/c -DCMAKE_INSTALL_DOCDIR=pages/c \
-    -DCMAKE_INSTALL_MANDIR=manual -DCMAKE_INSTALL_BINDIR=other/bin
+  build other -DMULTIHASH_C_ARCHIVE="$(realpath --relative-to=. "$archive")" -DBUILD_SHARED_LIBS=ON \
+    -DMULTIHASH_C_PROGRAM="$(realpath -s --relative-to=. "$(type -P true)")" -DCMAKE_INSTALL_LIBDIR=lib/other \
+    -DCMAKE_INSTALL_INCLUDEDIR=headers/c -DCMAKE_INSTALL_DOCDIR=pages/c -DCMAKE_INSTALL_MANDIR=manual \
+    -DCMAKE_INSTALL_BINDIR=other/bin
   cp "$work/source/libmultihash_c.a" "$archive"
   cmake --build "$work/other"
   for name in built other; do
@@ -105,12 +107,17 @@ builds_for_windows() {
   wineserver -k || true
 }
 
-# The test of a copy whose header does not fit the library, or whose examples print something else.
+# The test of what pkg-config finds, without it, and of a copy whose header does not fit the library, or whose examples
+# print something else.
 planted_test() {
+  local test=$prefix/$document/examples/test.sh
+  PKG_CONFIG_PATH=$prefix/lib/pkgconfig LD_LIBRARY_PATH=$prefix/lib prints '14 passed, 0 failed' "$test"
+  PKG_CONFIG=none rejects '0 passed, 14 failed' "$test" "$prefix"
   rejects_edits "$work/un packed built" "$work/planted/$document/examples/test.sh" "$work/planted" << 'END'
 failed: static: show.c builds|rm lib/libmultihash_c.a
 failed: static: a non-minimal varint|sed -i 's/MULTIHASH_NOT_MINIMAL = 3/MULTIHASH_NOT_MINIMAL = 9/' include/multihash.h
 6 passed, 8 failed|sed -i 's/return result != STREAM_END/return 0/' share/doc/multihash_c/examples/stream.c
+8 passed, 6 failed|sed -i 's/return result/if (result != STREAM_END) puts(""); &/' share/doc/*/examples/stream.c
 4 passed, 10 failed|sed -i 's/printf(\(stderr, \)\?"/&x/' share/doc/multihash_c/examples/*.c
 END
 }
@@ -191,7 +198,7 @@ with_flags() {
 test_installation() {
   try "building: 2 comparisons" build built -DCMAKE_INSTALL_PREFIX="$prefix"
   try "a test that draws less" rejects "< 1" planted_log
-  try "installing: 9 comparisons" installs
+  try "installing: 10 comparisons" installs
   needs=$own try "the archive keeps its bytes" cmp "$own" "$prefix/lib/libmultihash_c.a"
   try "after edits: 5 comparisons" after_edits
   try "the installed test" installed_test "$prefix"
@@ -201,7 +208,7 @@ test_installation() {
   try "the portable source" from_source
   try "packing: 23 comparisons" packs
   try "planted differences: 72 comparisons" planted_prefix
-  try "the installed test of planted files: 4 comparisons" planted_test
+  try "the installed test of planted files: 7 comparisons" planted_test
   try "the installed test of nothing" rejects "no multihash_c.pc" bindings/c/examples/test.sh "$work/none"
   try "other machines: 5 comparisons" machines
   needs=/lib64/ld-linux-x86-64.so.2 try "x86-64 with 32 bits: 1 comparison" gets Linux x86_64 -m32 OFF ON
@@ -226,6 +233,7 @@ by_subdirectory() {
     cmake --build "$to/build"
     "$to/build/show" | diff - "$expected"
   done
+  readelf -Ws "$to/build/multihash_c/libmultihash_c.a" | grep ' HIDDEN .* multihash_encode$'
   cmake --install "$to/build"
   prints 'No tests were found' ctest --test-dir "$to/build"
   (cd "$to/prefix"; find . ! -type d | sort) | diff <(files_in lib | sed -E '/\/share\/|\.so/d' | sort) -
@@ -318,7 +326,7 @@ rust_crate() {
 
 test_programs() {
   try "a project of CMake: 15 comparisons" by_find_package
-  try "a folder of a project of CMake: 4 comparisons" by_subdirectory
+  try "a folder of a project of CMake: 5 comparisons" by_subdirectory
   needs=go try "Go: 1 comparison" in_go
   needs=mandoc try "man pages: 9 comparisons" pages
   needs="cargo $crates" try "the packages for Rust, as installed" rust_crate

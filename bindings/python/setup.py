@@ -43,7 +43,7 @@ core = Extension(
     include_dirs=["portable"],
     extra_objects=[archive] if archive else [],
     extra_compile_args=["/std:c11"] if system.startswith("win") else ["-std=c11", "-fvisibility=hidden"],
-    extra_link_args=["-Wl,--exclude-libs,ALL", "-Wl,-z,relro", "-Wl,-z,now"] if system == "linux" else [],
+    extra_link_args=["-Wl,--exclude-libs,ALL", "-Wl,-z,now"] if system == "linux" else [],
     py_limited_api=True,
 )
 # An earlier build may have linked another archive.
