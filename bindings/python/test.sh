@@ -34,7 +34,7 @@ builds() {
   basename "$to"/dist/*.whl
 }
 
-warnings="-Wall -Wextra -Wshadow -Wconversion -Wsign-conversion -Werror"
+warnings="-std=c89 -Wall -Wextra -Wshadow -Wconversion -Wsign-conversion -Werror"
 without_warnings() {
   CFLAGS=$warnings "$here/pack.sh" "$to/warned" "$archive"
 }
@@ -56,8 +56,8 @@ looks_at_archive() {
   for name in "$here/README.md" none.a; do
     rejects "pack.sh: no archive for x86-64 or aarch64" "$here/pack.sh" "$to/wrong" "$name"
   done
-  archive_with 'int pthread_detach(unsigned long); int multihash_version(void) { return pthread_detach(0); }'
-  rejects "pack.sh: the module needs GLIBC_2.34" "$here/pack.sh" "$to/wrong" "$to/other/libmultihash_c.a"
+  archive_with 'int __cxa_thread_atexit_impl(void); int multihash_version(void) { return __cxa_thread_atexit_impl(); }'
+  rejects "pack.sh: the module needs GLIBC_2.18" "$here/pack.sh" "$to/wrong" "$to/other/libmultihash_c.a"
   [ -z "$(find "$to/wrong" -name '*.whl')" ]
 }
 
@@ -114,9 +114,9 @@ other_version() {
     "ImportError: the library for C has version $((number + 1))," imports "$here"
 }
 
-# A folder whose archive differs in one byte is not installed.
+# A folder whose archive differs in one byte is not installed. Other systems have other options, and take no archive.
 altered_archive() {
-  local top=$here/../.. copy=$to/altered archive
+  local top=$here/../.. copy=$to/altered archive system options
   archive=bindings/c/prebuilt/$(uname -m)/libmultihash_c.a
   rm -rf "$copy"
   mkdir "$copy"
@@ -124,6 +124,14 @@ altered_archive() {
     bindings/c/{include,prebuilt,src} crates/vectors/data | tar -x -C "$copy"
   printf x | dd of="$copy/$archive" bs=1 seek=9999 conv=notrunc
   rejects "not the archive of prebuilt/SHA256SUMS" installs "$copy/bindings/python"
+  while read -r system options; do
+    CC=echo LDSHARED=echo _PYTHON_HOST_PLATFORM=$system env -C "$copy/bindings/python" "$python" setup.py build_ext |
+      sed -nE '/^echo .*multihash\.o/s/.*(multihash\.o|abi3\.so)//p' | xargs | diff - <(echo "$options")
+  done << END
+win-amd64 /std:c11
+other-$(uname -m) -std=c11 -fvisibility=hidden
+linux-other -std=c11 -fvisibility=hidden -Wl,--exclude-libs,ALL -Wl,-z,now
+END
 }
 
 # The portable source and the module, built with sanitizers, which the interpreter loads first.
@@ -206,7 +214,7 @@ needs="mypy stubtest" try "types: 3 comparisons" types
 try "the times beside plain Python" "$python" -I "$here/beside_plain.py"
 try "the folder, installed" imports "$here"
 needs="objcopy ar" try "an archive of another version" other_version
-try "an altered archive: 1 comparison" altered_archive
+try "an altered archive: 4 comparisons" altered_archive
 try "the sdist, installed, the portable source: 4 comparisons" sdist
 try "sanitizers" under_sanitizers "$to/sdist"
 try "a write after a block" rejects "bad trailing pad byte" planted_write
