@@ -30,12 +30,10 @@ END
   (cd "$work/seeds"; python3 -m zipfile -c "$(readlink -f "$out")/multihash_fuzzer_seed_corpus.zip" .)
 }
 
-if [ -n "${OUT-}" ]; then
-  build "$here/src" "$(readlink -f "$OUT")"
-  exit
-fi
 work=$(mktemp -d)
 trap 'rm -rf "$work"' EXIT
+build "$here/src" "$(readlink -f "${OUT:-$work/plain}")"
+[ -z "${OUT-}" ] || exit 0
 
 # Runs the target that was built in a folder: the seeds, and then drawn inputs up to a number. The log says how it ends.
 fuzz() {
@@ -44,7 +42,7 @@ fuzz() {
     "$work/$1/drawn" "$work/$1/seeds" 2>&1 | tee "$work/log" || true
 }
 
-build "$here/src" "$work/plain"
+[ "$(python3 -m zipfile -l "$work/plain/multihash_fuzzer_seed_corpus.zip" | wc -l)" -gt 1000 ]
 fuzz plain 20000
 grep -x 'Done 20000 runs in .*' "$work/log"
 [ "$(grep -c 'runtime error: ' "$work/log")" = 0 ]

@@ -44,7 +44,7 @@ old_engine() {
 
 # A wasm-opt that changes one local is found, and a folder without the crates is an error.
 built_anew() {
-  "$here/build.sh" --check
+  tools/generate --check wasm
   # shellcheck disable=SC2317 # build.sh runs it
   wasm-opt() {
     command wasm-opt "$@"
