@@ -113,6 +113,7 @@ checksumValue|echo >> libmultihash-c-dev_*_amd64.deb
 what the kit made|sed -i s/GENERATED_FROM/DEPENDS_ON/ multihash-*.spdx.json
 tools ['|sed -i 's/"name": "ld"/"name": "more"/' multihash-*.spdx.json
 tools [|sed -i '/"name": "ld"/{n;s/: ".*"/: ""/}' multihash-*.spdx.json
+CONTAINED_BY|sed -i s/CONTAINS/CONTAINED_BY/ multihash-*.spdx.json
 relations|sed -i 's/"SPDXRef-DOCUMENT",/"SPDXRef-more",/' multihash-*.spdx.json
 documentNamespace|sed -i s,/spdxdocs/,/docs/, multihash-*.spdx.json
 copyrightText|sed -i s/copyrightText/copyright/ multihash-*.spdx.json
@@ -137,8 +138,10 @@ releases() {
   (umask 077; TZ=Asia/Tokyo "$from/tools/release" "$to")
   git -C "$from" checkout -q CHANGES
   checks/lib/packed.py "$to" "$from"
+  rejects "there is already" "$from/tools/release" "$to"
   planted_release "$to" "$from"
   tar -xf "$to/multihash-$version.tar.gz" -C "$work"
+  grep '^ -- A Tester <tester@forge.example>  ' "$work/multihash-$version/bindings/c/debian/changelog"
   diff -r -x .git -x control -x changelog -x Cargo.toml -x package.json "$from" "$work/multihash-$version"
   while read -r architecture needed; do
     python3 -m zipfile -e "$to"/*_"$architecture".whl "$work/wheel"
@@ -159,7 +162,7 @@ END
 
 test_release() {
   local emulator="qemu-aarch64 -L /usr/aarch64-linux-gnu"
-  try "a release: $((45 + ${ALL:-0})) comparisons" releases
+  try "a release: $((48 + ${ALL:-0})) comparisons" releases
   CC=aarch64-linux-gnu-gcc RUN=$emulator try "the installed test of that for aarch64" \
     installed_test "$work/multihash_c-$version-aarch64"
   try "packages for arm64: 11 comparisons" has_packages "$work/release" arm64 aarch64-linux-gnu

@@ -226,6 +226,8 @@ def made_of(name: str) -> set[str]:
 
 TOOLS = {"cc", "aarch64-linux-gnu-gcc", "ld", "cmake", "dpkg-buildpackage", "cargo", "npm", "tar", "gzip", "debhelper"}
 TOOLS |= {"python", "build", "setuptools", "wheel", "wasm2c", "wasm-opt"}
+RELATIONS = {"None DESCRIBES SOURCE", "SOURCE CONTAINS ARCHIVE", "ARCHIVE GENERATED_FROM LIBRARY"}
+RELATIONS |= {"LIBRARY GENERATED_FROM SOURCE", "APPLICATION BUILD_TOOL_OF LIBRARY", "APPLICATION BUILD_TOOL_OF SOURCE"}
 
 
 def material_errors() -> Iterator[str]:
@@ -243,6 +245,9 @@ def material_errors() -> Iterator[str]:
     related = [tuple(each[key] for key in keys) for each in relations]
     if {end for left, _, right in related for end in (left, right)} != {*names, "SPDXRef-DOCUMENT"}:
         yield f"{path.name}: relations"
+    purposes = {each["SPDXID"]: each["primaryPackagePurpose"] for each in rows}
+    if wrong := {f"{purposes.get(left)} {kind} {purposes.get(right)}" for left, kind, right in related} ^ RELATIONS:
+        yield f"{path.name}: relations {sorted(wrong)}"
     made = {(names[left], names[right]) for left, kind, right in related if kind == "GENERATED_FROM"}
     release = {name for name in names.values() if name.startswith("bindings/")}
     if made != {(name, of) for name in files() for of in made_of(name)} | {
@@ -254,12 +259,13 @@ def material_errors() -> Iterator[str]:
         yield f"{path.name}: tools {sorted(tools)}"
     described = {each["name"]: each for each in rows}
     of_all: Fields = {"SPDXID": ANY, "downloadLocation": "NOASSERTION", "filesAnalyzed": False}
-    of_all |= {"primaryPackagePurpose": "ARCHIVE", "licenseConcluded": LICENCE, "licenseDeclared": LICENCE}
+    of_all |= {"licenseConcluded": LICENCE, "licenseDeclared": LICENCE}
     of_all |= {"copyrightText": re.compile(f"Copyright .* {HOLDER}")}
-    for name in sorted({*files()} - {path.name, "SHA256SUMS"}):
-        digest = hashlib.sha256((RELEASE / name).read_bytes()).hexdigest()
+    for name in sorted({*files(), *release} - {path.name, "SHA256SUMS"}):
+        at, purpose = (SOURCE, "LIBRARY") if name in release else (RELEASE, "ARCHIVE")
+        digest = hashlib.sha256((at / name).read_bytes()).hexdigest()
         own: Fields = {"name": name, "packageFileName": name, "versionInfo": VERSION}
-        own |= {"checksums": [{"algorithm": "SHA256", "checksumValue": digest}]}
+        own |= {"primaryPackagePurpose": purpose, "checksums": [{"algorithm": "SHA256", "checksumValue": digest}]}
         if name == f"multihash-{UPSTREAM}.crate":
             own["versionInfo"] = UPSTREAM
         yield from field_errors(path.name, described.get(name), of_all | own)
