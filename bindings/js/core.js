@@ -1,4 +1,4 @@
-// Multihashes over the proved library, compiled to WebAssembly. A program imports index.js, inline.js or
+// Multihashes over a proved library, compiled to WebAssembly. A program imports index.js, inline.js or
 // module.js, which connect the functions here to an instance of the module.
 
 /** The most bytes of a digest. */

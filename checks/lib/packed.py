@@ -41,7 +41,6 @@ MAINTAINER, HOMEPAGE, REPOSITORY = (
 )
 FILES = subprocess.check_output(["git", "-C", SOURCE, "ls-files", "-s"], text=True).splitlines()
 EXECUTABLE = {line.partition("\t")[2]: line.startswith("100755") for line in FILES}
-TEXT = re.compile(r"[A-Z].*|library for [\s\S]*")
 WORDS = re.compile(r"(?=.*\bmultihash\b)[\w, '\[\]-]*\bmultiformats\b.*\bverified\b.*")
 ANY = re.compile(r"(?s).+")
 
@@ -131,7 +130,8 @@ def npm() -> Fields:
     exports: Fields = {"." if name == "index" else f"./{name}": entry for name, entry in entries.items()}
     exports |= {path: path for path in ("./multihash.wasm", "./package.json")}
     connecting = (path for path in folder.glob("*.js") if re.search(r"(?m)^(await )?connect\w*\(", path.read_text()))
-    fields = {"name": "verified-multihash", "version": VERSION, "description": TEXT, "keywords": WORDS}
+    fields = {"name": "verified-multihash", "version": VERSION, "keywords": WORDS}
+    fields |= {"description": fact(r"\A// (.*?)\. ", "bindings/js/core.js")}
     fields |= {"license": LICENCE, "repository": REPOSITORY, "author": HOLDER, "type": "module", "exports": exports}
     fields |= {"types": "./index.d.ts", "files": ANY, "engines": {"node": f">={NODE}"}}
     return fields | {"sideEffects": sorted(f"./{path.name}" for path in connecting)}
@@ -140,7 +140,8 @@ def npm() -> Fields:
 def crate(name: str, version: str) -> Fields:
     """The description of a crate: its tests cover features and dependencies."""
     fields: Fields = {"name": name, "version": version, "edition": "2021", "rust-version": RUST, "license": LICENCE}
-    fields |= {"repository": REPOSITORY, "description": TEXT, "readme": "README.md", "keywords": WORDS}
+    fields |= {"repository": REPOSITORY, "readme": "README.md", "keywords": WORDS}
+    fields |= {"description": fact(rf"^\| \[`{name}`\].*\| (.*) \|$", "bindings/rust/README.md").replace("`", "")}
     fields |= {f"auto{kind}": False for kind in ("lib", "bins", "examples", "tests", "benches")}
     if name == "multihash":
         return fields | {"include": ANY, "categories": ["encoding", "no-std"], "build": False, "publish": False}
@@ -150,7 +151,8 @@ def crate(name: str, version: str) -> Fields:
 
 def python() -> Fields:
     classes = ("Programming Language :: Python :: 3", "Programming Language :: Python :: Implementation :: CPython")
-    fields: Fields = {"Metadata-Version": ANY, "Name": "verified-multihash", "Version": VERSION, "Summary": TEXT}
+    fields: Fields = {"Metadata-Version": ANY, "Name": "verified-multihash", "Version": VERSION}
+    fields |= {"Summary": fact(r'\A"""(.*)\.$', "bindings/python/verified_multihash/__init__.py")}
     fields |= {"Author": HOLDER, "License": LICENCE, "License-File": "LICENSE", "Keywords": WORDS}
     fields |= {"Classifier": [*classes, "Typing :: Typed"], "Requires-Python": f">={PYTHON}"}
     return fields | {"Description-Content-Type": "text/markdown"}
@@ -162,7 +164,8 @@ def debian(package: str, architecture: str) -> Fields:
     fields: Fields = {"Package": package, "Source": "multihash-c", "Version": f"{VERSION}-1"}
     fields |= {"Architecture": architecture, "Maintainer": MAINTAINER, "Homepage": HOMEPAGE, "Installed-Size": ANY}
     fields |= {"Depends": depends[is_dev], "Section": "libdevel" if is_dev else "libs", "Priority": "optional"}
-    return fields | {"Multi-Arch": "same", "Description": TEXT}
+    [text] = {*re.findall(r"\n A (?:.+\n)+ \.\n", (SOURCE / "bindings/c/debian/control").read_text())}
+    return fields | {"Multi-Arch": "same", "Description": re.compile(f"library for .*{re.escape(text)} This .*")}
 
 
 def headers(text: str) -> Fields:
@@ -194,7 +197,8 @@ def fields() -> Iterator[tuple[str, Fields, Fields]]:
             yield file.name, headers(subprocess.getoutput(f"dpkg-deb -f '{file}'")), debian(package, architecture)
         folder = f"multihash_c-{VERSION}-{machine}"
         text = content(f"{folder}.tar.gz", f"{folder}/lib/pkgconfig/multihash_c.pc").partition("\n\n")[2]
-        pc: Fields = {"Name": "multihash_c", "Description": TEXT, "URL": ANY, "Version": VERSION}
+        pc: Fields = {"Name": "multihash_c", "Version": VERSION, "URL": fact(r"\A[^(]*\((.*?)\)", "README.md")}
+        pc |= {"Description": fact(r"\A/\* (.*)\.$", "bindings/c/include/multihash.h")}
         flags = {"Cflags": "-I${includedir}", "Libs": "-L${libdir} -lmultihash_c"}
         yield f"{folder}: multihash_c.pc", headers(text), pc | flags
 
