@@ -57,10 +57,10 @@ installs_below() {
 packs() {
   local name archive=$work/own.a
   cp "$prefix/lib/libmultihash_c.a" "$archive"
-  build other -DMULTIHASH_C_ARCHIVE="$(realpath --relative-to=. "$archive")" -DBUILD_SHARED_LIBS=ON \
-    -DMULTIHASH_C_PROGRAM="$(realpath -s --relative-to=. "$(type -P true)")" -DCMAKE_INSTALL_LIBDIR=lib/other \
-    -DCMAKE_INSTALL_INCLUDEDIR=headers/c -DCMAKE_INSTALL_DOCDIR=pages/c -DCMAKE_INSTALL_MANDIR=manual \
-    -DCMAKE_INSTALL_BINDIR=other/bin
+  cp "$(type -P true)" "$work/program"
+  (cd "$work"; build other -DMULTIHASH_C_ARCHIVE=own.a -DBUILD_SHARED_LIBS=ON -DMULTIHASH_C_PROGRAM=program \
+    -DCMAKE_INSTALL_LIBDIR=lib/other -DCMAKE_INSTALL_INCLUDEDIR=headers/c -DCMAKE_INSTALL_DOCDIR=pages/c \
+    -DCMAKE_INSTALL_MANDIR=manual -DCMAKE_INSTALL_BINDIR=other/bin)
   cp "$work/source/libmultihash_c.a" "$archive"
   cmake --build "$work/other"
   for name in built other; do
