@@ -95,6 +95,7 @@ def group(form: str, text: str) -> str:
 def parameter(text: str) -> str:
     """Returns a parameter of an export in C: a slice is a pointer and a length."""
     name, _, kind = text.partition(": ")
+    kind = re.sub(r"\*(?:mut |(const ))u8", r"\1uint8_t *", kind)  # of Rust
     if slice_of := re.fullmatch(r"&(mut )?\[u8\]", kind):
         return f"{'' if slice_of[1] else 'const '}uint8_t *{name}, size_t {name}_length"
     return f"{'multihash_status' if name == 'status' else TYPES.get(kind, kind)} {name}"
@@ -201,13 +202,16 @@ def binding_errors(files: Files, crate: Declared) -> Iterator[str]:
     statuses = re.findall(r"'(\w+)'", group(r"\nconst STATUSES = \[([^\]]*)\];\n", files[f"{JS}/core.js"]))
     of_script = {(name.upper(), str(at)) for at, name in enumerate(statuses)} | constants_of(files, JS, crate.lengths)
     of_types = group(r"\nexport type Status =((?:\n  \|.*)+)", files[f"{JS}/index.d.ts"])
-    of_rust = structs_of(items(files[f"{RUST}/src/ffi.rs"]))
+    ffi = items(files[f"{RUST}/src/ffi.rs"])
+    of_rust = structs_of(ffi)
+    functions = {flat(declaration(it)) for item in ffi if item.kind == "extern" for it in item.members()}
     for name, found, wanted in (
         ("Rust's numbers", constants_of(files, RUST, numbers), {*numbers.items()}),
         ("Python's numbers", constants_of(files, PYTHON, numbers), {*numbers.items()}),
         ("JavaScript's numbers", of_script, {*numbers.items()}),
         ("TypeScript's statuses", re.findall(r"\| '(\w+)'", of_types), statuses[1:]),
         ("Rust's structs", of_rust, {name: crate.structs.get(name) for name in of_rust}),
+        ("Rust's functions", functions, functions & {*map(flat, crate.declarations)}),
         ("Rust's version", group(r'\nversion = "(.*)"\n', files[f"{RUST}/Cargo.toml"]), crate.version),
         ("Python's version", group(r'\n__version__ = "(.*)"\n', files[f"{PYTHON}/__init__.py"]), crate.version),
         ("JavaScript's version", group(r'\n  "version": "(.*)",\n', files[f"{JS}/package.json"]), crate.version),
