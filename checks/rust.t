@@ -119,6 +119,7 @@ rust_switch() {
 }
 
 rust_serde() {
+  [[ $(in_crate cargo tree -p multihash -e normal,features --features serde) = *$'\n└── serde v'* ]]
   tests 13 cargo test --features serde --test values
   in_crate cargo build -p multihash --no-default-features --features serde-codec
   in_crate cargo build --manifest-path program/library/Cargo.toml --features serde
@@ -134,16 +135,21 @@ rust_lints() {
 planted_warnings() {
   local file command text line
   while IFS=, read -r file command text line; do
-    file=$work/repository/bindings/rust/multihash/$file
+    file=$work/repository/bindings/rust/$file
     cp "$file" "$work/file"
     echo "$line" >> "$file"
     # shellcheck disable=SC2086 # words
     rejects "$text" in_crate cargo $command
     cp "$work/file" "$file"
   done << 'END'
-src/lib.rs,build,never used,fn planted() {}
-src/lib.rs,doc --no-deps,unresolved link,/** [gone] */ pub mod planted {}
-tests/values.rs,clippy --all-targets,needless-return,pub fn planted() -> u8 { return 1; }
+multihash/src/lib.rs,build,never used,fn planted() {}
+multihash/src/lib.rs,build,missing documentation,pub mod planted {}
+multihash/src/lib.rs,build,incompatible with previous forbid,#[allow(unsafe_code)] mod planted {}
+multihash/src/lib.rs,doc --no-deps,unresolved link,/** [gone] */ pub mod planted {}
+multihash/tests/values.rs,clippy --all-targets,needless-return,pub fn planted() -> u8 { return 1; }
+multihash_c/src/lib.rs,build,missing documentation,pub mod planted {}
+multihash_c/src/lib.rs,build,usage of an `unsafe` block,const _: () = unsafe {};
+multihash_c/src/ffi.rs,clippy,missing a safety comment,const _: () = unsafe {};
 END
 }
 
