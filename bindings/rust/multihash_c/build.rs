@@ -57,8 +57,8 @@ fn prebuilt() -> Option<PathBuf> {
 fn link(archive: &Path) {
     let out = PathBuf::from(env::var_os("OUT_DIR").expect("OUT_DIR"));
     println!("cargo:rerun-if-changed={}", archive.display());
-    let _ = fs::remove_file(out.join(ARCHIVE)); // of an earlier build, which may be read-only
-    fs::copy(archive, out.join(ARCHIVE)).unwrap_or_else(|error| panic!("{}: {error}", archive.display()));
+    let copied = fs::read(archive).and_then(|bytes| fs::write(out.join(ARCHIVE), bytes));
+    copied.unwrap_or_else(|error| panic!("{}: {error}", archive.display()));
     println!("cargo:rustc-link-search=native={}", out.display());
     println!("cargo:rustc-link-lib=static=multihash_c");
 }
