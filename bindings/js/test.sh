@@ -129,9 +129,10 @@ demo() {
   local example bytes
   example=$(cat "$top/crates/mh_show/stdin")
   bytes=$(printf '07%.0s' {1..301})
-  sed 's/^/demo.html#/; s/|/\t/g' << END | shows "$1"
-$example|Valid: code 22, digest of 32 bytes.|22 (0x16)|3 to 34|32
+  sed 's/^/demo.html#/; s/|/\t/g' << END | prints '22 pages, 0 wrong' shows "$1"
+$example|Valid: code 22, digest of 32 bytes.|22 (0x16)|3 to 34|32|~ #summary.good[role=status]|~ .digest > .eighth
 ${example}00|1 byte follows the multihash.|Byte 35 of 35: 00|The first 34 bytes are a multihash.|Keep the first 34 bytes
+${example}00|~ [aria-invalid=true]|~ .decided[title="Byte 35"]|~ tbody th[scope=row] > .following
 ${example}0000|2 bytes follow|invalid_size: Invalid multihash size 2.|not a part of the multihash|35 to 36
 16|The input ends inside or before a varint.|No byte: the input ends after 1 byte, |at least 1 byte.
 1680|a varint that is not complete|insufficient: not enough input bytes|the varint of the code
@@ -139,16 +140,17 @@ ${example}0000|2 bytes follow|invalid_size: Invalid multihash size 2.|not a part
 168002|A digest of 256 bytes is too long: it may have 255.|2 bytes (1680) can begin a multihash.|Byte 3 of 3: 02
 12808000|A varint is longer than needed: it ends in a zero byte.|The first 2 bytes (1280) can begin a multihash.
 ffffffffffffffffff01|A varint has more than nine bytes|Byte 9 of 10: ff|a varint of more than nine bytes
-12z0|, after 2 digits, is not a hexadecimal digit.
+%|, after 0 digits, is not
+12%F0%9D%9F%8E0|𝟎|, after 2 digits, is not a hexadecimal digit.
 120|The number of digits, 3, is odd: each byte has two.
-1200|Valid: code 18, digest of 0 bytes.|empty|none
-0x1201|Still needed: 1 byte.
+1200|Valid: code 18, digest of 0 bytes.|empty|none|~ label[for=input] + #input[aria-describedby=help] + #help
+0X1E01|30 (0x1e)|Still needed: 1 byte.
 %200x12%2001|Still needed: 1 byte.
 1200${bytes}|301 bytes follow|… and 1 byte more|3 to 303
 ffffffffffffffff7fff01${bytes::508}|9223372036854775807|12 to 265|! following|Still needed: 1 byte.
-168002|> Keep the first 2 bytes|The whole input can begin a multihash.|= 0x1300|Valid: code 19|# 12 01|1 byte.
-|> Trailing bytes|3 bytes follow|> A multihash|Valid: code 22|> Truncated digest|ends inside the digest
-|> Unfinished varint|before a varint|> Not minimal|longer than needed
+168002|> Keep the first 2 bytes|~ #input:focus|The whole input can begin|= 0x1300|Valid: code 19|# 12 01|1 byte.
+|Valid: code 22|= |Paste a multihash|! The parts|> Trailing bytes|3 bytes follow|> A multihash|Valid: code 22
+|> Truncated digest|inside the digest|> Unfinished varint|before a varint|> Not minimal|a varint that is longer
 |> Code too large|more than nine bytes|> Digest too long|is too long
 END
 }
@@ -169,7 +171,7 @@ test_browser() {
   local name=$1 tools=$2
   part "in $name" "$tools" node "$here/test/browser.js" "$name" test/page.html "$here" "$vectors"
   part "the packed package's page in $name" "$tools" packed_page "$name"
-  part "the demo page in $name" "$tools" demo "$name"
+  part "the demo page in $name: 1 comparison" "$tools" demo "$name"
 }
 
 part "the WebAssembly built anew: 2 comparisons" "rt wasm-opt=108 wasm2wat=1.0.32" built_anew
