@@ -1,11 +1,11 @@
 // Times of each call beside plain JavaScript that copies its results, with the same checks, by turns, as minima.
 //   node beside_plain.js           prints the table of README.md
-//   node beside_plain.js --write   also writes it
+//   node beside_plain.js --write   also writes it; a number after that is the number of rounds
 //   node beside_plain.js --check   compares only the results
 import { readFileSync, writeFileSync } from 'node:fs';
 import * as ours from './index.js';
 
-const ROUNDS = 250;
+const ROUNDS = Number(process.argv[3] ?? 250);
 const CALLS = 2000;
 const { MultihashError } = ours;
 const fail = (status, details) => {
@@ -245,5 +245,5 @@ for (const [name, [here, there]] of Object.entries(least))
 console.log(table + (sink ? '' : 'nothing was called'));
 if (process.argv[2] === '--write') {
   const page = new URL('README.md', import.meta.url);
-  writeFileSync(page, readFileSync(page, 'utf8').replace(/\| Call \| Time [^]*?\n\n/, () => `${table}\n`));
+  writeFileSync(page, readFileSync(page, 'utf8').replace(/\| Call \| Time (.+\n)+/, () => table));
 }
