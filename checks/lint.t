@@ -66,20 +66,21 @@ TS8010 export let typed: number;
 END
 }
 
-# Each function that compares and that 'try' runs is run by 'rejects' too, or by a function that it runs, or its result
-# says its number of comparisons.
+# Each function that compares and that 'try' or 'part' runs is run by 'rejects' too, or by a function that it runs, or
+# its result says its number of comparisons.
 planted() {
-  local script text name its runs failed=0
+  local script text name its runs lacks failed=0 word='("[^"]*"|[^" ]+)'
   for script in "$@"; do
-    text=$(sed -e ':a' -e '/\\$/N; s/ *\\\n */ /; ta' "$script")
+    text=$(sed -e ':a' -e '/\\$/N; s/ *\\\n */ /; ta' "$script") lacks=
     runs=$(sed -nE "s/.*\\<rejects(_edits)? ('[^']*'|\"[^\"]*\"|[^'\" ]+) ([a-z_]+)\\>.*/\\3/p" <<< "$text")
     runs=$(for name in $runs; do echo "$name"; body "$name" <<< "$text"; done)
     while read -r name; do
       its=$(body "$name" <<< "$text")
       [[ $its =~ [^a-z_](cmp|diff|grep|prints)[^a-z_] ]] || continue
-      command grep -qw "$name" <<< "$runs" || command grep -qE "comparisons?\" $name\\>" <<< "$text" ||
-        { echo "$script: no planted case of $name"; failed=1; }
-    done < <(sed -nE 's/.*\<try ("[^"]*"|[^" ]+) ([a-z_]+)\>.*/\2/p' <<< "$text")
+      command grep -qw "$name" <<< "$runs" || command grep -qE "comparisons?\"( $word)? $name\\>" <<< "$text" ||
+        lacks+=" $name"
+    done < <(sed -nE "s/.*\\<(try|part $word) $word ([a-z_]+)\\>.*/\\4/p" <<< "$text")
+    [ -z "$lacks" ] || { echo "$script: no planted case of$lacks"; failed=1; }
   done
   return $failed
 }
@@ -121,8 +122,8 @@ try_linter() {
   try "Python with types" diff - <({ echo "$typed"; listed 'bindings/python/tests/*.py'; } | sort) \
     <<< "$python"
   try_linter syntax syntax.sh "unexpected end of file" "if true; then" $shell
-  try_linter planted compares.sh "no planted case of same" \
-    'same() {\n  cmp a b\n}\ntry "one of two" same a' $tested
+  try_linter planted compares.sh "no planted case of same other" \
+    'same() {\n  cmp a b\n}\ntry "one of two" same a\nother() {\n  diff a b\n}\npart "two" cc other' $tested
   try_linter short long.js long.js:1 "$(printf '%121s' .)" $shell $python $javascript
   try_linter are_run unused.sh "unused is not run" "unused() { true; } # unused" $shell
   try_linter chains chain.sh chain.sh:2 'set -e\nfalse && true\ntrue' $ending

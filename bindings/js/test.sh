@@ -184,14 +184,14 @@ part "the WebAssembly for old engines: 1 comparison" wasm-validate old_module
 while read -r entry; do
   part "in Node.js, $entry" node in_node "$vectors/verdicts.tsv" "$entry"
 done < <(sed -n 's|.*"default": "./\(.*\)[.]js".*|\1|p' "$here/package.json")
-part "vectors that differ" node planted
+part "vectors that differ: 2 comparisons" node planted
 part "plain JavaScript: 2 comparisons" node plain
-part "old engines" node old_engine index
-part "old engines, inline" node old_engine inline
-part "the packed package's script" npm packed_script
+part "old engines: 4 comparisons" node old_engine index
+part "old engines, inline: 4 comparisons" node old_engine inline
+part "the packed package's script: 4 comparisons" npm packed_script
 part "the packed package's types: 3 comparisons" "npm tsc" packed_types
 test_browser chromium chromium
 part "another text than the demo page's" chromium rejects " 1 wrong" another_text chromium
-part "the demo page from the disk" chromium demo_of_disk
+part "the demo page from the disk: 1 comparison" chromium demo_of_disk
 test_browser firefox firefox-esr
 test_browser webkit "WebKitWebDriver xvfb-run"

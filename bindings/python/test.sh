@@ -201,7 +201,7 @@ types() {
 "$PYTHON" -c 'import build, setuptools, venv, wheel' 2> "$work/log" || all_need=python3-build+setuptools+venv+wheel
 try "the sdist and the wheel, built twice: 1 comparison" builds
 try "the module without warnings" without_warnings
-needs="objcopy ar" try "archives" looks_at_archive
+needs="objcopy ar" try "archives: 3 comparisons" looks_at_archive
 try "an environment" "$PYTHON" -m venv --clear --system-site-packages "$to/venv"
 try "the wheel, installed" imports "$to"/dist/*.whl
 if "$python" -c 'import _testcapi' 2> "$work/log"; then
