@@ -129,7 +129,7 @@ class Memory(unittest.TestCase):
                 self.assertFalse(keeps(call)[0], "it is kept")
 
     def test_modules(self):
-        """Of a package that was imported anew no type is left, though its module has a reader, which has the module."""
+        """Of a package that was imported anew no type and name is left, though its module has a reader with it."""
 
         def types():
             gc.collect()
@@ -140,6 +140,7 @@ class Memory(unittest.TestCase):
             again.reader = again.MultihashReader(io.BytesIO(bytes(again.Multihash(1, b"abc"))))
             self.assertEqual(again.read_from(io.BytesIO(bytes(2))).digest, b"")
             self.assertRaises(again.MultihashError, again.Multihash, 1, LONG)
+            return again.MultihashError.__slots__
 
         def import_core():
             vm._core.__loader__.exec_module(importlib.util.module_from_spec(vm._core.__spec__))
@@ -148,10 +149,10 @@ class Memory(unittest.TestCase):
         before = types()
         for name in known:
             del sys.modules[name]
-        use(importlib.import_module(vm.__name__))
+        names = use(importlib.import_module(vm.__name__))
         self.assertGreater(types(), before + 4)
         sys.modules.update(known)
         for number in range(300 if set_nomemory else 0):
             with contextlib.suppress(SystemError):  # of CPython, which sets no error for some
                 result_of(functools.partial(failing, import_core, number))
-        self.assertEqual(types(), before)
+        self.assertEqual((types(), sys.getrefcount(names)), (before, sys.getrefcount(known)))
