@@ -61,8 +61,7 @@ differs_in_wraps() {
   instructions "$1" > "$work/linked"
   instructions "$2" > "$work/lowered"
   diff "$work/linked" "$work/lowered"
-  operands=$(awk '/\.(load|store)/ { n++ } /memory\.copy/ { n += 3 } /memory\.fill/ { n += 2 } END { print n + 0 }' \
-    "$work/linked")
+  operands=$(awk '/\.(load|store)/ { n++ } /memory\.copy/ { n += 3 } END { print n + 0 }' "$work/linked")
   linked=$(wraps "$work/linked.wat")
   lowered=$(wraps "$work/lowered.wat")
   echo "$(wc -l < "$work/linked") instructions, and $lowered times i32.wrap_i64: $linked," \
