@@ -174,4 +174,4 @@ needs=$archive try "the build script: 8 comparisons" rust_build
 try "the switch from upstream's package: 6 comparisons" rust_switch
 try "serde: 4 comparisons" rust_serde
 needs=cargo-clippy try "lints: 3 comparisons" rust_lints
-needs=cargo-clippy try "a warning of each command: 6 comparisons" planted_warnings
+needs=cargo-clippy try "a warning of each command: 16 comparisons" planted_warnings
