@@ -159,7 +159,7 @@ void check_length(uint64_t code, size_t length)
     CHECK(same_encoded(multihash_encoded_len(code, length), model_encoding(code, length, need, SIZE_MAX)));
 }
 
-/* Encodes what was decoded: to the bytes that it was decoded from, with less capacity, and with more. */
+/* Encodes what was decoded: to the bytes that it was decoded from, and with less capacity. */
 static void check_back(encoder encode, const uint8_t *bytes, multihash_decoded found)
 {
     uint8_t out[MULTIHASH_LENGTH_MAX];
@@ -167,10 +167,7 @@ static void check_back(encoder encode, const uint8_t *bytes, multihash_decoded f
     uint8_t *digest = copy_of(bytes + found.digest_offset, found.digest_length);
     CHECK(encode(found.code, digest, found.digest_length, out, sizeof out).length == found.taken);
     CHECK(memcmp(out, bytes, found.taken) == 0);
-    check_encoding(encode, found.code, digest, found.digest_length, 0);
-    for (size_t room = found.taken - 2; room <= found.taken + 3; room++) {
-        check_encoding(encode, found.code, digest, found.digest_length, room);
-    }
+    check_encoding(encode, found.code, digest, found.digest_length, found.taken - 1);
     release(digest);
 }
 

@@ -54,7 +54,6 @@ static void check_line(char *text)
     uint8_t *input = copy_of(bytes, length);
     check_result(multihash_read_limit(input, length, limit), input, column[2], column[3]);
     if (limit >= MULTIHASH_DIGEST_MAX) {
-        check_result(multihash_read(input, length), input, column[2], column[3]);
         check_result(multihash_from_bytes(input, length), input, column[4], "-");
         check_result(multihash_scale_decode(input, length), input, column[5], column[6]);
     }
