@@ -94,55 +94,14 @@ static Py_hash_t multihash_hash(PyObject *self)
     return hash == -1 ? -2 : hash;
 }
 
-/* Puts both digits of a byte. */
-static char *put_hex(char *to, uint8_t byte)
-{
-    *to++ = "0123456789abcdef"[byte >> 4];
-    *to++ = "0123456789abcdef"[byte & 15];
-    return to;
-}
-
-/* Puts what `repr` makes of bytes, at most four characters for each, and three. */
-static char *put_bytes(char *to, const uint8_t *bytes, size_t length)
-{
-    char quote = memchr(bytes, '\'', length) != NULL && memchr(bytes, '"', length) == NULL ? '"' : '\'';
-    *to++ = 'b';
-    *to++ = quote;
-    for (size_t i = 0; i < length; i++) {
-        char byte = (char)bytes[i];
-        if (bytes[i] >= ' ' && bytes[i] < 127) {
-            if (byte == quote || byte == '\\') *to++ = '\\';
-            *to++ = byte;
-            continue;
-        }
-        *to++ = '\\';
-        *to++ = byte == '\t' ? 't' : byte == '\n' ? 'n' : byte == '\r' ? 'r' : 'x';
-        if (to[-1] == 'x') to = put_hex(to, bytes[i]);
-    }
-    *to++ = quote;
-    return to;
-}
-
-/* As "%s(code=%r, digest=%r)", which takes longer than all else. */
 static PyObject *multihash_repr(PyObject *self)
 {
-    char text[40 + 4 * MULTIHASH_DIGEST_MAX], *middle = text + 26, *first = middle, *end;
-    uint64_t number = ((multihash_object *)self)->number;
-    size_t length;
-    const uint8_t *digest = digest_of(self, &length);
-    do {
-        *--first = (char)('0' + number % 10);
-    } while ((number /= 10) > 0);
-    first = memcpy(first - 6, "(code=", 6);
-    memcpy(middle, ", digest=", 9);
-    end = put_bytes(middle + 9, digest, length);
-    *end++ = ')';
+    const multihash_object *it = (const multihash_object *)self;
     PyObject *name = PyObject_GetAttrString((PyObject *)Py_TYPE(self), "__qualname__");
-    PyObject *rest = name == NULL ? NULL : PyUnicode_FromStringAndSize(first, end - first);
-    PyObject *whole = rest == NULL ? NULL : PyUnicode_Concat(name, rest);
-    Py_XDECREF(name);
-    Py_XDECREF(rest);
-    return whole;
+    if (name == NULL) return NULL;
+    PyObject *shown = PyUnicode_FromFormat("%U(code=%R, digest=%R)", name, it->code, it->digest);
+    Py_DECREF(name);
+    return shown;
 }
 
 static PyObject *multihash_arguments(PyObject *self, PyObject *unused)
@@ -161,11 +120,7 @@ static PyObject *multihash_reduce(PyObject *self, PyObject *unused)
 static PyObject *multihash_hexdigest(PyObject *self, PyObject *unused)
 {
     (void)unused;
-    char digits[2 * MULTIHASH_DIGEST_MAX], *to = digits;
-    size_t length;
-    const uint8_t *digest = digest_of(self, &length);
-    for (size_t i = 0; i < length; i++) to = put_hex(to, digest[i]);
-    return PyUnicode_FromStringAndSize(digits, to - digits);
+    return PyObject_CallMethod(((multihash_object *)self)->digest, "hex", NULL);
 }
 
 static PyObject *multihash_bytes(PyObject *self, PyObject *unused)
