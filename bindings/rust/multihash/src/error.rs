@@ -44,22 +44,12 @@ impl Error {
     }
 
     /// The input ends before or inside a varint.
-    #[cfg(feature = "std")]
     pub(crate) fn insufficient() -> Self {
-        Self::io(io::ErrorKind::UnexpectedEof.into())
-    }
-
-    /// The input ends before or inside a varint.
-    #[cfg(not(feature = "std"))]
-    pub(crate) const fn insufficient() -> Self {
-        Self::new(Kind::Varint(Varint::Insufficient))
-    }
-
-    /// The input ends inside the digest: the error of a reader with too few bytes.
-    fn unexpected_end() -> Self {
-        Self::io(
-            io::Read::read_exact(&mut &[][..], &mut [0]).expect_err("no bytes fill no buffer of one byte"),
-        )
+        #[cfg(feature = "std")]
+        let kind = Kind::Io(io::ErrorKind::UnexpectedEof.into());
+        #[cfg(not(feature = "std"))]
+        let kind = Kind::Varint(Varint::Insufficient);
+        Self::new(kind)
     }
 
     /// The error of a decoding.
@@ -71,7 +61,10 @@ impl Error {
             Format::NotMinimal => Self::new(Kind::Varint(Varint::NotMinimal)),
             Format::InvalidSize(size) => Self::of_size(size),
             Format::InvalidCode(code) => Self::of_code(code),
-            Format::UnexpectedEof => Self::unexpected_end(),
+            // the error of a reader with too few bytes
+            Format::UnexpectedEof => {
+                Self::io(io::Read::read_exact(&mut &[][..], &mut [0]).expect_err("there are no bytes"))
+            }
             other => unreachable!("an error of a call that this crate does not make: {other}"),
         }
     }

@@ -100,7 +100,7 @@ impl<const S: usize> Multihash<S> {
             w.write_all(self.digest()).map_err(Error::io)?;
             return Ok(length + usize::from(self.size));
         }
-        self.borrowed().with_encoding(|bytes| match w.write_all(bytes) {
+        MultihashRef::from(self).with_encoding(|bytes| match w.write_all(bytes) {
             Ok(()) => Ok(bytes.len()),
             Err(error) => Err(Error::io(error)),
         })
@@ -114,7 +114,7 @@ impl<const S: usize> Multihash<S> {
     /// Returns the encoding.
     #[cfg(feature = "alloc")]
     pub fn to_bytes(&self) -> alloc::vec::Vec<u8> {
-        self.borrowed().with_encoding(<[u8]>::to_vec)
+        MultihashRef::from(self).with_encoding(<[u8]>::to_vec)
     }
 
     /// Returns the multihash with the first `size` bytes of the digest, or with all if it has fewer.
@@ -143,10 +143,6 @@ impl<const S: usize> Multihash<S> {
     /// Returns the code, the array that starts with the digest, and the length of the digest.
     pub fn into_inner(self) -> (u64, [u8; S], u8) {
         (self.code, self.digest, self.size)
-    }
-
-    pub(crate) fn borrowed(&self) -> MultihashRef<'_> {
-        MultihashRef::wrap(self.code, self.digest()).expect("each value has a valid code and digest")
     }
 }
 
@@ -207,7 +203,7 @@ impl<const S: usize> From<Multihash<S>> for alloc::vec::Vec<u8> {
 /// For the SCALE form, and other functions of the crate `multihash_c`.
 impl<'a, const S: usize> From<&'a Multihash<S>> for MultihashRef<'a> {
     fn from(multihash: &'a Multihash<S>) -> Self {
-        multihash.borrowed()
+        MultihashRef::wrap(multihash.code, multihash.digest()).expect("each value has a valid code and digest")
     }
 }
 

@@ -1,13 +1,13 @@
 //! The encoding as bytes, or as a sequence of numbers where a format has no bytes.
 use crate::Multihash;
 use core::fmt;
-use multihash_c::{DIGEST_MAX, LENGTH_MAX};
+use multihash_c::{MultihashRef, DIGEST_MAX, LENGTH_MAX};
 use serde::de::{Error, SeqAccess, Visitor};
 use serde::{Deserialize, Deserializer, Serialize, Serializer};
 
 impl<const S: usize> Serialize for Multihash<S> {
     fn serialize<T: Serializer>(&self, serializer: T) -> Result<T::Ok, T::Error> {
-        self.borrowed().with_encoding(|bytes| serializer.serialize_bytes(bytes))
+        MultihashRef::from(self).with_encoding(|bytes| serializer.serialize_bytes(bytes))
     }
 }
 
