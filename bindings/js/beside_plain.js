@@ -116,32 +116,13 @@ function compare(left, right) {
   return 0;
 }
 
-function scaleDecode(bytes) {
-  if (bytes.length < 9) fail('unexpected_eof', { taken: bytes.length < 8 ? 0 : 8 });
-  let code = 0;
-  for (let index = 7; index >= 0; index--) code = code * 256 + bytes[index];
-  const digest = bytes.slice(9, 9 + bytes[8]);
-  if (digest.length !== bytes[8]) fail('unexpected_eof', { taken: 9 });
-  return { multihash: new Multihash(code, digest), taken: 9 + digest.length };
-}
-
-function scaleEncode(code, digest) {
-  checkPair(code, digest.length);
-  const out = new Uint8Array(9 + digest.length);
-  for (let index = 0, left = code; index < 8; index++, left = Math.floor(left / 256)) out[index] = left % 256;
-  out[8] = digest.length;
-  out.set(digest, 9);
-  return out;
-}
-
-const plain = { Multihash, compare, decode, encode, encodedLength, head, read, scaleDecode, scaleEncode };
+const plain = { Multihash, compare, decode, encode, encodedLength, head, read };
 
 // ---- the calls
 
 const digest = new Uint8Array(32).map((_, index) => index * 7);
 const bytes = Uint8Array.of(18, 32, ...digest);
 const long = Uint8Array.of(18, 255, 1, ...new Uint8Array(255).fill(7));
-const form = Uint8Array.of(18, 0, 0, 0, 0, 0, 0, 0, 32, ...digest);
 
 function callsOf(it) {
   const [left, right, cut] = [it.decode(bytes), it.decode(bytes), bytes.subarray(0, 20)];
@@ -153,8 +134,6 @@ function callsOf(it) {
     '`encode` of 32 bytes': () => it.encode(18, digest),
     '`encodedLength`': () => it.encodedLength(18, 32),
     '`compare`': () => it.compare(left, right),
-    '`scaleDecode`': () => it.scaleDecode(form),
-    '`scaleEncode`': () => it.scaleEncode(18, digest),
     '`Multihash.of`': () => it.Multihash.of(18, digest),
     '`bytes`': () => left.bytes,
     '`equals`': () => left.equals(right),

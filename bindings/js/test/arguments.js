@@ -258,8 +258,6 @@ function errors(module) {
     [() => decode(unhex('12ffffffffffffffff7f')), 'Invalid multihash size 9223372036854775807.',
       '"invalid_size","size":"9223372036854775807","taken":10', false],
     [() => encode(1, new Uint8Array(256)), 'Invalid multihash size 256.', '"invalid_size","size":256', false],
-    [() => encode(1n << 63n, EXAMPLE), 'Invalid multihash code 9223372036854775808.',
-      '"invalid_code","code":"9223372036854775808"', false],
     [() => scaleDecode(new Uint8Array(9).fill(255)), 'Invalid multihash code 18446744073709551615.',
       '"invalid_code","code":"18446744073709551615","taken":8', false],
   ];
