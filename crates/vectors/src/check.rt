@@ -92,21 +92,20 @@ impl Check {
                 .is_result(&Multihash::<S>::from_value(&line.json)),
             Check::ReadSlice => {
                 let found = Multihash::<S>::read(&mut slice);
-                line.read.is_found(&found, &line.input, slice)
+                line.read.is_found(&found, &line.input, slice, false)
             }
             Check::ReadOneByte | Check::ReadTwoBytes | Check::ReadThreeBytes => {
                 let found = Multihash::<S>::read(&mut cuts);
-                line.read.is_found(&found, &line.input, cuts.left)
+                line.read.is_found(&found, &line.input, cuts.left, false)
             }
             Check::ScaleSlice => {
                 let found = Multihash::<S>::scale_decode(&mut slice);
-                line.scale_decode
-                    .is_found_in_scale(&found, &line.input, slice)
+                line.scale_decode.is_found(&found, &line.input, slice, true)
             }
             Check::ScaleOneByte | Check::ScaleFourBytes => {
                 let found = Multihash::<S>::scale_decode(&mut cuts);
                 line.scale_decode
-                    .is_found_in_scale(&found, &line.input, cuts.left)
+                    .is_found(&found, &line.input, cuts.left, true)
             }
         }
     }
@@ -115,43 +114,23 @@ impl Check {
 impl Reading {
     // Whether this is the result, and the listed number of bytes was consumed. The line of an incomplete
     // input lists none: all bytes have to be consumed if it ends within a varint, and at least both varints
-    // if within the digest.
+    // if within the digest. `scale_decode` may consume any part of it.
     fn is_found<const S: usize>(
         &self,
         found: &Result<Multihash<S>, Error>,
         input: &[u8],
         left: &[u8],
+        is_scale: bool,
     ) -> bool {
         let consumed = input.len().saturating_sub(left.len());
         let is_consumed = match (&self.verdict, self.consumed) {
             (Verdict::Insufficient, None) => left.is_empty(),
             (Verdict::UnexpectedEof, None) => {
-                input
-                    .iter()
-                    .take(consumed)
-                    .filter(|&&byte| byte < 128)
-                    .count()
-                    >= 2
+                let last = input.iter().take(consumed).filter(|&&byte| byte < 128);
+                is_scale || last.count() >= 2
             }
             (Verdict::Insufficient | Verdict::UnexpectedEof, Some(_)) | (_, None) => false,
             (_, Some(count)) => consumed == count,
-        };
-        self.verdict.is_result(found)
-            && is_consumed
-            && is_incomplete(found) == self.consumed.is_none()
-    }
-
-    // The same for `scale_decode`, which may consume any part of an incomplete input.
-    fn is_found_in_scale<const S: usize>(
-        &self,
-        found: &Result<Multihash<S>, Error>,
-        input: &[u8],
-        left: &[u8],
-    ) -> bool {
-        let is_consumed = match (&self.verdict, self.consumed) {
-            (Verdict::UnexpectedEof, None) => true,
-            (Verdict::UnexpectedEof, Some(_)) | (_, None) => false,
-            (_, Some(count)) => input.len().saturating_sub(left.len()) == count,
         };
         self.verdict.is_result(found)
             && is_consumed
@@ -173,13 +152,13 @@ fn incomplete_inputs_are_consumed(rt: HostRuntime) {
         consumed: None,
     };
     let found = Multihash::<4>::read(&mut &input[..1]);
-    fakes::check!(&rt; listed.is_found(&found, &input[..1], &input[1..1]));
-    fakes::check!(&rt; !listed.is_found(&found, &input[..1], &input[..1]));
+    fakes::check!(&rt; listed.is_found(&found, &input[..1], &input[1..1], false));
+    fakes::check!(&rt; !listed.is_found(&found, &input[..1], &input[..1], false));
     let listed = Reading {
         verdict: Verdict::UnexpectedEof,
         consumed: None,
     };
     let found = Multihash::<4>::read(&mut &input[..]);
-    fakes::check!(&rt; listed.is_found(&found, &input, &input[3..]));
-    fakes::check!(&rt; !listed.is_found(&found, &input, &input[2..]));
+    fakes::check!(&rt; listed.is_found(&found, &input, &input[3..], false));
+    fakes::check!(&rt; !listed.is_found(&found, &input, &input[2..], false));
 }

@@ -8,7 +8,7 @@ use std::alloc::Global;
 /// The first line of a file, which names the columns.
 pub const COLUMNS: &str = "S\tinput\tread\tread_taken\tfrom_bytes\tscale_decode\tscale_taken";
 
-// The capacities that test vectors may have, as `is_known_size` and `Check::agrees` know them.
+// The capacities that test vectors may have, as `parse_size` and `Check::agrees` know them.
 const SIZES: &str = "0, 1, 2, 4, 16, 32, 64, 128, 200, 255, 256 and 300";
 
 /// The expected result of a reading call, and the number of bytes that it has to consume: none if more input
@@ -52,10 +52,6 @@ impl Line {
     /// A line with other columns or an unknown capacity; out of memory.
     pub fn parse(alloc: Global, text: &str) -> Result<Self> {
         let columns: Vec<&str> = text.split('\t').collect(alloc)?;
-        Self::parse_columns(alloc, columns.as_slice())
-    }
-
-    fn parse_columns(alloc: Global, columns: &[&str]) -> Result<Self> {
         let [
             size,
             input,
@@ -64,15 +60,19 @@ impl Line {
             from_bytes,
             scale_decode,
             scale_taken,
-        ] = columns
+        ] = columns.as_slice()
         else {
             bail!("{} columns", columns.len());
         };
         let size = parse_size(size)?;
         let input = parse_bytes(alloc, input)?;
+        let mut members = Vec::with_capacity(alloc, input.len())?;
+        for byte in &input {
+            members.push(Value::from(*byte))?;
+        }
         Ok(Line {
             size,
-            json: number_array(alloc, &input)?,
+            json: Value::Array(members),
             input,
             read: Reading::parse(alloc, read, read_taken)?,
             from_bytes: Verdict::parse(alloc, from_bytes)?,
@@ -84,27 +84,13 @@ impl Line {
 fn parse_size(text: &str) -> Result<usize> {
     let size = text.parse::<usize>().context("a size")?;
     ensure!(
-        is_known_size(size),
+        matches!(
+            size,
+            0 | 1 | 2 | 4 | 16 | 32 | 64 | 128 | 200 | 255 | 256 | 300
+        ),
         "no buffer of size {size}: the sizes are {SIZES}"
     );
     Ok(size)
-}
-
-// Whether test vectors may have this capacity.
-fn is_known_size(size: usize) -> bool {
-    matches!(
-        size,
-        0 | 1 | 2 | 4 | 16 | 32 | 64 | 128 | 200 | 255 | 256 | 300
-    )
-}
-
-// The bytes as an array of numbers.
-fn number_array(alloc: Global, bytes: &[u8]) -> Result<Value> {
-    let mut members = Vec::with_capacity(alloc, bytes.len())?;
-    for byte in bytes {
-        members.push(Value::from(*byte))?;
-    }
-    Ok(Value::Array(members))
 }
 
 /// The verdict on an input, as a line states it.
@@ -166,17 +152,11 @@ impl Verdict {
             (Verdict::Insufficient, Err(error)) => error.is_insufficient(),
             (Verdict::Overflow, Err(error)) => error.is_overflow(),
             (Verdict::NotMinimal, Err(error)) => error.is_not_minimal(),
-            (Verdict::UnexpectedEof, Err(error)) => is_unexpected_eof(error),
+            (Verdict::UnexpectedEof, Err(error)) => {
+                error.io().is_some_and(|io| io.is_unexpected_eof())
+            }
             _ => false,
         }
-    }
-}
-
-// Whether the input ended within the digest, or within the fixed part of the SCALE form.
-fn is_unexpected_eof(error: &Error) -> bool {
-    match error.io() {
-        Some(io) => io.is_unexpected_eof(),
-        None => false,
     }
 }
 

@@ -17,17 +17,13 @@ use std::fmt::Write;
 pub fn replay<W: Write>(alloc: Global, list: &str, report: &mut W) -> Result<bool> {
     let mut lines = Vec::new(alloc);
     let parsed = parse(alloc, list, &mut lines);
-    let all_agree = lines.is_empty() || replay_lines(&lines, report)?;
-    parsed?;
-    Ok(all_agree)
-}
-
-// Makes each check on each line.
-fn replay_lines<W: Write>(lines: &[Line], report: &mut W) -> Result<bool> {
     let mut all_agree = true;
-    for check in Check::ALL {
-        all_agree = replay_check(check, lines, report)? && all_agree;
+    if !lines.is_empty() {
+        for check in Check::ALL {
+            all_agree = replay_check(check, &lines, report)? && all_agree;
+        }
     }
+    parsed?;
     Ok(all_agree)
 }
 
