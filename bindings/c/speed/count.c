@@ -68,17 +68,17 @@ static uint64_t scale_encode_32(void)
                                   sizeof out).length;
 }
 
-static uint64_t compare_32(void)
-{
-    return (uint64_t)multihash_compare(18, (uint8_t *)hidden(digest), 32,
-                                       18, (uint8_t *)hidden(digest + 32), 32);
-}
-
-static uint64_t compare_64(void)
-{
-    return (uint64_t)multihash_compare(18, (uint8_t *)hidden(digest), 64,
-                                       18, (uint8_t *)hidden(long_bytes + 10), 64);
-}
+#define COMPARE(length)                                                                     \
+    static uint64_t compare_##length(void)                                                  \
+    {                                                                                       \
+        return (uint64_t)multihash_compare(18, (uint8_t *)hidden(digest), length,           \
+                                           18, (uint8_t *)hidden(long_bytes + 10), length); \
+    }
+COMPARE(8)
+COMPARE(16)
+COMPARE(32)
+COMPARE(33)
+COMPARE(64)
 
 static const struct {
     const char *name;
@@ -87,9 +87,10 @@ static const struct {
     {"from_bytes_34", from_bytes_34},     {"from_bytes_long_code", from_bytes_long_code},
     {"read_34", read_34},                 {"read_long_code", read_long_code},
     {"head_34", head_34},                 {"encoded_len_32", encoded_len_32},
-    {"encode_32", encode_32},             {"compare_32", compare_32},
-    {"compare_64", compare_64},           {"scale_encode_32", scale_encode_32},
-    {"scale_decode_32", scale_decode_32},
+    {"encode_32", encode_32},             {"compare_8", compare_8},
+    {"compare_16", compare_16},           {"compare_32", compare_32},
+    {"compare_33", compare_33},           {"compare_64", compare_64},
+    {"scale_encode_32", scale_encode_32}, {"scale_decode_32", scale_decode_32},
 };
 
 static void fill(void)
