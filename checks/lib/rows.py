@@ -63,7 +63,7 @@ MEASURED = {
 }
 # the numbers of rows of other tables, whose cells program_results, byte_errors and speed_errors compare, or nothing
 ROWS = {README: (5, 11), FORMAT: (8, 4, 6, 6), JS: (3,), RUST: (15,), DIFFERENCES: (16, 21), DECISIONS: (10,)}
-ROWS |= {ARCHITECTURE: (12,), SPEED: (22, 12, 6, 14), "CONTRIBUTING.md": (8,), "bindings/rust/README.md": (2,)}
+ROWS |= {ARCHITECTURE: (12,), SPEED: (22, 13, 6, 14), "CONTRIBUTING.md": (8,), "bindings/rust/README.md": (2,)}
 Rows = list[list[str]]
 
 

@@ -170,7 +170,7 @@ fn using(calls: &mut Calls, row: &str) -> Option<u64> {
         "write, slice" => calls.sum(|it| it.left.write(&mut it.output.as_mut_slice()), ok),
         "write, vector" => calls.sum(write_cleared, ok),
         "encoded_len" => calls.sum(|it| it.left.encoded_len(), |len| *len as u64),
-        "==" => calls.sum(|it| it.left == it.right, |equal| u64::from(*equal)),
+        "==" | "==, 48 bytes" => calls.sum(|it| it.left == it.right, |equal| u64::from(*equal)),
         "same_as" => calls.sum(|it| it.left.same_as(&it.right), |same| u64::from(*same)),
         "cmp" | "cmp, 48 bytes" => calls.sum(
             |it| it.left.cmp(&it.right),
