@@ -172,6 +172,6 @@ needs=clang try "the portable source for other targets: 15 comparisons" rust_tar
 try "the packed packages: 7 comparisons" rust_packed
 needs=$archive try "the build script: 8 comparisons" rust_build
 try "the switch from upstream's package: 6 comparisons" rust_switch
-try "serde: 4 comparisons" rust_serde
+try "serde: 5 comparisons" rust_serde
 needs=cargo-clippy try "lints: 3 comparisons" rust_lints
 needs=cargo-clippy try "a warning of each command: 16 comparisons" planted_warnings

@@ -279,7 +279,7 @@ def main() -> int:
     compared = [*fields()]
     errors = [*file_errors(), *material_errors(), *(error for each in compared for error in field_errors(*each))]
     numbers = len(compared), sum(value is ANY for *_, wanted in compared for value in wanted.values())
-    if numbers != (15, 14):
+    if numbers != (15, 12):
         errors.append(f"the numbers of descriptions, and of fields with any value: {numbers}")
     print("\n".join(errors))
     return bool(errors)
