@@ -13,7 +13,7 @@ has_totals() {
 status 0
 12 passed, 0 failed
 mh_show 6
-tests_streams 27
+tests_streams 26
 tests_sweeps 21
 tests_values 24
 vectors 1

@@ -153,13 +153,15 @@ multihash_c/src/ffi.rs,clippy,missing a safety comment,const _: () = unsafe {};
 END
 }
 
-# The archive is found in a directory of any name, and missed once it is gone. A relative path is rejected, and a
-# library that pkg-config does not find.
+# The archive is found in a directory of any name, and missed in another and once it is gone. A relative path is
+# rejected, and a library that pkg-config does not find.
 rust_build() {
   local directory=$work/$'a \xff directory'
   mkdir "$directory"
   cp "$archive" "$directory"
   tests 11 MULTIHASH_C_LIB_DIR="$directory" cargo test -p multihash_c
+  rejects "libmultihash_c.a: No such file" in_crate MULTIHASH_C_LIB_DIR="$work/none" cargo build
+  in_crate MULTIHASH_C_LIB_DIR="$directory" cargo build
   rm "$directory"/*
   rejects "libmultihash_c.a: No such file" in_crate MULTIHASH_C_LIB_DIR="$directory" cargo build
   rejects "not an absolute path" in_crate MULTIHASH_C_SYSTEM=1 MULTIHASH_C_LIB_DIR=prebuilt cargo build
@@ -170,7 +172,7 @@ try "the tests: 8 comparisons" rust_binding
 try "the portable source: 13 comparisons" rust_source
 needs=clang try "the portable source for other targets: 15 comparisons" rust_targets
 try "the packed packages: 7 comparisons" rust_packed
-needs=$archive try "the build script: 8 comparisons" rust_build
+needs=$archive try "the build script: 11 comparisons" rust_build
 try "the switch from upstream's package: 6 comparisons" rust_switch
 try "serde: 5 comparisons" rust_serde
 needs=cargo-clippy try "lints: 3 comparisons" rust_lints

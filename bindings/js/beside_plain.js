@@ -138,14 +138,16 @@ function callsOf(it) {
     '`bytes`': () => left.bytes,
     '`equals`': () => left.equals(right),
     '`toJSON`': () => left.toJSON(),
-    'an error': () => {
-      try {
-        return it.read(cut);
-      } catch (error) {
-        return error;
-      }
-    },
+    'an error': () => errorOf(it, cut),
   };
+}
+
+function errorOf(it, input) {
+  try {
+    return it.read(input);
+  } catch (error) {
+    return error;
+  }
 }
 
 let sink = 0;
@@ -159,6 +161,10 @@ const [mine, theirs] = [callsOf(ours), callsOf(plain)];
 for (const name of Object.keys(mine)) {
   const [here, there] = [mine, theirs].map((calls) => JSON.stringify(calls[name]()));
   if (here !== there) throw new Error(`${name}: ${here}, and in plain JavaScript ${there}`);
+}
+for (const text of ['', '80', '8000', '12', '1280', '12ff02', `${'ff'.repeat(9)}01`, `12${'80'.repeat(9)}`]) {
+  const [here, there] = [ours, plain].map((it) => JSON.stringify(errorOf(it, Buffer.from(text, 'hex'))));
+  if (here !== there) throw new Error(`${text}: ${here}, and in plain JavaScript ${there}`);
 }
 if (process.argv[2] === '--check') process.exit();
 const least = Object.fromEntries(Object.keys(mine).map((name) => [name, [Infinity, Infinity]]));

@@ -54,7 +54,7 @@ MODULES = {
 }
 # a page, and the first cells of a table of what was measured: the program that measures, and the form of its calls
 MEASURED = {
-    (JS, "Call | Time"): ("bindings/js/beside_plain.js", r"^(?:    |const names = .*)'([^']+)'(?:: \(|\];)"),
+    (JS, "Call | Time"): ("bindings/js/beside_plain.js", r"^    '([^']+)': \("),
     (PYTHON, "Call | this package"): ("bindings/python/beside_plain.py", r'^        "([^"]+)": (?:lambda|partial\()'),
     (RUST, "Call | a code of one byte"): (
         "bindings/rust/beside_upstream.py",

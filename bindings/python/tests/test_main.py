@@ -51,6 +51,11 @@ class Main(unittest.TestCase):
             self.assertEqual(run(HEX, stderr=full), (0, SHOWN, ""))
             self.assertEqual(run("zz", stderr=full), (1, "", ""))
 
+    def test_short_writes(self):
+        short = "import os, runpy; w = os.write; os.write = lambda to, text: w(to, text[:7]); "
+        command = [sys.executable, "-c", short + "runpy.run_module('verified_multihash', run_name='__main__')", HEX]
+        self.assertEqual(subprocess.check_output(command, timeout=60).decode(), SHOWN)
+
 
 if __name__ == "__main__":
     unittest.main()

@@ -1,7 +1,7 @@
 //! Known calls of readers and writers, and of lists. And what the tests stand on: `is_rejected` and
 //! `is_failed` return false for each other error and for none.
 use fakes::expect::{ErrorKind, is_failed, is_rejected};
-use fakes::streams::{Cuts, Drip, FailAt};
+use fakes::streams::{Cuts, Drip};
 use fakes::{check, check_eq, expect_bytes, expect_ok, expect_rejected};
 use multihash::list::{read_list, write_list};
 use multihash::no_std_io::{Read, Write};
@@ -88,19 +88,6 @@ fn two_of_a_stream(rt: HostRuntime) {
         expect_rejected!(rt; &failed, ErrorKind::Insufficient, most);
         check!(rt; reader.left.is_empty());
     }
-}
-
-// A failed call has consumed nothing, so the value can be read after it.
-#[test]
-fn a_reader_that_failed_is_read_again(rt: HostRuntime) {
-    let rt = &rt;
-    let mut reader = FailAt::new(Cuts::new(&STREAM, 1), 0, ErrorKind::LINK_DOWN);
-    let failed = Multihash::<4>::read(&mut reader);
-    expect_rejected!(rt; &failed, ErrorKind::LINK_DOWN, "the first call");
-    for item in &expect_ok!(rt; two()) {
-        check!(rt; expect_ok!(rt; Multihash::<4>::read(&mut reader)) == *item);
-    }
-    expect_bytes!(rt; reader.cuts.left, &[7]);
 }
 
 #[test]
