@@ -189,7 +189,7 @@ try "warnings: 9 comparisons" warns "strict-prototypes missing-prototypes" cc "$
 needs=c++ try "warnings of C++: 7 comparisons" warns "" c++ "${cpp_flags[@]}" -x c++
 try "a read after an input" rejects heap-buffer-overflow faulty "" "$overread" "${sanitize[@]}"
 try "a sum that is too large" rejects "signed integer overflow" faulty "" most++ "${sanitize[@]}"
-try "a wrong vector" rejects "not so: " wrong_vector
+try "a wrong vector" rejects "verdicts.c:29: not so: strcmp(" wrong_vector
 # each access of the library, which the compilers' sanitizers do not see
 needs=valgrind try valgrind build_and_run valgrind "${valgrind[*]}" cc "${c_flags[@]}" -g -O1 -DHEAP "${tests[@]}" \
   "$library"

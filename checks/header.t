@@ -297,7 +297,7 @@ def main() -> int:
         return 0
     if not shutil.which("c++"):
         return tap.report([tap.left_out("all", "c++ is not installed")], 1)
-    return tap.report(results(), 42)
+    return tap.report(results(), 43)
 
 
 if __name__ == "__main__":
