@@ -23,6 +23,7 @@ TO_BODY = r"\A(?s:.+?)(?=\n\{|\s*\Z)"
 BINDINGS = {
     "c/include/*.h": TO_BODY,
     "js/*.d.ts": TO_BODY,
+    "js/demo.html": r"^<(?:title|h\d|p|label|dt|thead|noscript)\b.*(?:\n[^<\n].*)*",
     "python/src/*.c": r'^ *(?:\{(?:"(?!_[a-z])\w+"|Py_tp_doc)|static const char ).*(?:\n +".*)*',
     "python/verified_multihash/*.py": r'^(?: *(?:class|(?:async )?def) (?!_).*\n +)?"""(?s:.*?)"""$'
     r"|^ *(?:[A-Z_]+|__version__) = .*",
