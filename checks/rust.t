@@ -156,14 +156,16 @@ END
 # The archive is found in a directory of any name, and missed in another and once it is gone. A relative path is
 # rejected, and a library that pkg-config does not find.
 rust_build() {
-  local directory=$work/$'a \xff directory'
-  mkdir "$directory"
+  local directory=$work/$'a \xff directory' plain=$work/plain
+  mkdir "$directory" "$plain"
   cp "$archive" "$directory"
+  cp "$archive" "$plain"
   tests 11 MULTIHASH_C_LIB_DIR="$directory" cargo test -p multihash_c
+  in_crate MULTIHASH_C_LIB_DIR="$plain" cargo build
   rejects "libmultihash_c.a: No such file" in_crate MULTIHASH_C_LIB_DIR="$work/none" cargo build
-  in_crate MULTIHASH_C_LIB_DIR="$directory" cargo build
-  rm "$directory"/*
-  rejects "libmultihash_c.a: No such file" in_crate MULTIHASH_C_LIB_DIR="$directory" cargo build
+  in_crate MULTIHASH_C_LIB_DIR="$plain" cargo build
+  rm "$plain"/*
+  rejects "libmultihash_c.a: No such file" in_crate MULTIHASH_C_LIB_DIR="$plain" cargo build
   rejects "not an absolute path" in_crate MULTIHASH_C_SYSTEM=1 MULTIHASH_C_LIB_DIR=prebuilt cargo build
   rejects "multihash_c >= 1.0" in_crate MULTIHASH_C_SYSTEM=1 PKG_CONFIG_LIBDIR="$work/none" cargo build
 }
@@ -172,7 +174,7 @@ try "the tests: 8 comparisons" rust_binding
 try "the portable source: 13 comparisons" rust_source
 needs=clang try "the portable source for other targets: 15 comparisons" rust_targets
 try "the packed packages: 7 comparisons" rust_packed
-needs=$archive try "the build script: 11 comparisons" rust_build
+needs=$archive try "the build script: 12 comparisons" rust_build
 try "the switch from upstream's package: 6 comparisons" rust_switch
 try "serde: 5 comparisons" rust_serde
 needs=cargo-clippy try "lints: 3 comparisons" rust_lints
