@@ -3,7 +3,7 @@
 # a planted script.
 # shellcheck source=checks/lib/tap.sh
 . "$(dirname "$0")/lib/tap.sh"
-plan 27
+plan 26
 
 listed() { git ls-files -co --exclude-standard "$@"; }
 # Prints the paths of the scripts in a language, by their first lines.
@@ -119,7 +119,6 @@ try_linter() {
   try "a script that is in none" rejects "> checks/lib/tap.sh" are_known ${shell/tap.sh/} $python $javascript
   try "scripts that go on after a failure" diff - <(comm -23 <(echo "$shell") <(echo "$ending")) \
     < <(printf '%s\n' .ci/run bindings/c/examples/test.sh checks/{bugs,js,mutants,pages,python,speed,tap,verdicts}.t)
-  try "no command of debian/rules may fail" diff /dev/null <(sed -n '/^\t *@*-/p' bindings/c/debian/rules)
   try "Python with types" diff - <({ echo "$typed"; listed 'bindings/python/tests/*.py'; } | sort) \
     <<< "$python"
   try_linter syntax syntax.sh "unexpected end of file" "if true; then" $shell

@@ -130,7 +130,7 @@ long_lengths() {
     echo "#include \"multihash.h\"
       int main(void) { uint8_t byte = 0; (void)multihash_${call//MORE/(size_t)1 << 61}; }" > "$work/long.c"
     cc -I "$tree" "$work/long.c" "$work/cc/multihash.o" -o "$work/long"
-    rejects Aborted "$work/long"
+    rejects Aborted bash -c "'$work/long'; exit"
   done
 }
 

@@ -2,7 +2,7 @@
 # The packages for Debian, and what is released: files, what they say of themselves, and programs built against them.
 # shellcheck source=checks/lib/tap.sh
 . "$(dirname "$0")/lib/tap.sh"
-plan 9 cc cmake python3=3.11+ readelf pkg-config dpkg-buildpackage dh lintian man /lib64/ld-linux-x86-64.so.2
+plan 10 cc cmake python3=3.11+ readelf pkg-config dpkg-buildpackage dh lintian man /lib64/ld-linux-x86-64.so.2
 # shellcheck source=checks/lib/installed.sh
 . checks/lib/installed.sh
 
@@ -80,9 +80,18 @@ try_packages() {
   man -M "$root/usr/share/man" -w 3 multihash_encode
 }
 
+# A test that fails ends the build.
+planted_test() {
+  mkdir "$work/failing"
+  printf '#!/bin/sh\necho planted\nexit 1\n' > "$work/failing/dh_auto_test"
+  chmod +x "$work/failing/dh_auto_test"
+  rejects planted env PATH="$work/failing:$PATH" bindings/c/debian/rules override_dh_auto_test
+}
+
 test_packages() {
   try "building packages: 1 comparison" build_packages amd64
   try "a warning of a package" rejects "W: libmultihash-c1: file-missing-in-md5sums" planted_package
+  try "a test that fails: 1 comparison" planted_test
   try "a function of a later version: 4 comparisons" later_function
   try "packages for amd64: 11 comparisons" has_packages "$work/debian-amd64" amd64 x86_64-linux-gnu
   needs=qemu-x86_64 try "a program by the packages for amd64: 3 comparisons" try_packages amd64 x86_64-linux-gnu cc \

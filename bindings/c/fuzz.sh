@@ -42,6 +42,7 @@ fuzz() {
     "$work/$1/drawn" "$work/$1/seeds" 2>&1 | tee "$work/log" || true
 }
 
+nm -u "$work/plain/objects/buffer.o" | grep -w malloc
 [ "$(python3 -m zipfile -l "$work/plain/multihash_fuzzer_seed_corpus.zip" | wc -l)" -gt 1000 ]
 fuzz plain 20000
 grep -x 'Done 20000 runs in .*' "$work/log"

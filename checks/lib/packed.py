@@ -258,6 +258,9 @@ def material_errors() -> Iterator[str]:
         (of, f"multihash-{VERSION}") for of in release
     }:
         yield f"{path.name}: what the kit made"
+    pairs = ("wasm2c", "bindings/c/src/module.h"), ("wasm-opt", "bindings/js/multihash.wasm")
+    if not {*pairs} <= {(names.get(left), names[right]) for left, kind, right in related if kind == "BUILD_TOOL_OF"}:
+        yield f"{path.name}: what made the WebAssembly"
     tools = {*names.values()} - release - {*files()} - {f"multihash-{VERSION}"}
     if tools != {*TOOLS, fact("`(rattle-kit-[^`]*)`", "README.md")} or not all(each["versionInfo"] for each in rows):
         yield f"{path.name}: tools {sorted(tools)}"
