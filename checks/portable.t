@@ -123,7 +123,7 @@ keeps_no_state() {
   objdump -h "$1" | awk '$2 ~ /^\.t?(data|bss)/ && $3 !~ /^0+$/ { print $2 }' | diff /dev/null -
 }
 
-# A length of 2^61, of which the function does not know otherwise, ends the program.
+# A length of 2^61 ends the program.
 long_lengths() {
   local call
   for call in 'encode(1, 0, 0, &byte, MORE)' 'compare(1, &byte, MORE, 1, &byte, MORE)'; do

@@ -82,10 +82,9 @@ try_packages() {
 
 # A test that fails ends the build.
 planted_test() {
-  mkdir "$work/failing"
-  printf '#!/bin/sh\necho planted\nexit 1\n' > "$work/failing/dh_auto_test"
-  chmod +x "$work/failing/dh_auto_test"
-  rejects planted env PATH="$work/failing:$PATH" bindings/c/debian/rules override_dh_auto_test
+  mkdir "$work/bin"
+  install -m 755 <(printf '#!/bin/sh\necho planted\nexit 1\n') "$work/bin/dh_auto_test"
+  rejects planted env PATH="$work/bin:$PATH" bindings/c/debian/rules override_dh_auto_test
 }
 
 test_packages() {
