@@ -4,7 +4,7 @@
 # sanitizers, on other machines in emulators, and against the archive's results.
 # shellcheck source=checks/lib/tap.sh
 . "$(dirname "$0")/lib/tap.sh"
-plan 20 cc python3
+plan 19 cc python3
 # shellcheck source=checks/lib/proved.sh
 . checks/lib/proved.sh
 # shellcheck source=checks/lib/warnings.sh
@@ -123,17 +123,6 @@ keeps_no_state() {
   objdump -h "$1" | awk '$2 ~ /^\.t?(data|bss)/ && $3 !~ /^0+$/ { print $2 }' | diff /dev/null -
 }
 
-# A length of 2^61 ends the program.
-long_lengths() {
-  local call
-  for call in 'encode(1, 0, 0, &byte, MORE)' 'compare(1, &byte, MORE, 1, &byte, MORE)'; do
-    echo "#include \"multihash.h\"
-      int main(void) { uint8_t byte = 0; (void)multihash_${call//MORE/(size_t)1 << 61}; }" > "$work/long.c"
-    cc -I "$tree" "$work/long.c" "$work/cc/multihash.o" -o "$work/long"
-    rejects Aborted bash -c "'$work/long'; exit"
-  done
-}
-
 # An object of each kind of state, and one that needs another function.
 planted_state() {
   local name state
@@ -168,7 +157,6 @@ test_here() {
   needs="all clang" test_compiler clang
   needs="clang llvm-nm" try "objects without a C library: 5 comparisons" freestanding "$tree"
   needs="clang llvm-nm" try "one of them that needs another function" rejects "> another" another_function
-  try "lengths that are too long: 2 comparisons" long_lengths
   needs="nm objdump" try "what the object needs: 2 comparisons" keeps_no_state "$work/cc/multihash.o"
   needs="nm objdump" try "objects with state: 14 comparisons" planted_state
   try "planted source: 5 comparisons" planted_source

@@ -46,6 +46,7 @@ static void check_lengths(void)
         }
     }
     check_length(0, SIZE_MAX);
+    check_encodings(0, (const uint8_t *)"", SIZE_MAX, 9); /* rejected without an access */
 }
 
 static void check_texts(void)

@@ -3,7 +3,7 @@
 use Rattle.std.proofs.Common.{◌≡◌, ℕ, List, [], refl, inl, inr, ◌<◌, ◌∷◌, ◌++◌, length, get_or, sym, ap, arith}
 use Rattle.std.specs.Prelude.{codes, Option, Some, None, Result, Ok, Err}
 use Rattle.std.specs.Fmt.{digits}
-use Rattle.multihash.specs.Fault.{Fault, UnexpectedEof, WriteZero, OutOfMemory, Other, IsOwnFault, IsUnexpectedEof}
+use Rattle.multihash.specs.Fault.{Fault, UnexpectedEof, WriteZero, OutOfMemory, Other, IsOwnFault, IsUnexpectedEof, HasStandardText}
 use Rattle.multihash.specs.Varint.{insufficient}
 use Rattle.multihash.specs.Refusal.{Refusal, of_io, of_size, of_code, of_varint, of_not_bytes, IsEof, IsOutOfMemory, IsReaderError, refusal_text}
 use Rattle.std.proofs.lemmas.Bool.{false≢true}
@@ -31,6 +31,9 @@ no_own_eof text (inr h) = cc
 no_own_full : (text : List ℕ) → ¬ (IsOwnFault (record { kind = WriteZero; text = text }))
 no_own_full text (inl h) = cc
 no_own_full text (inr h) = cc
+
+no_standard_text_is_empty : ¬ (HasStandardText eof) × ¬ (HasStandardText full) × ¬ (HasStandardText memory)
+no_standard_text_is_empty = ((λ h. cc), (λ h. cc), λ h. cc)
 
 -- the size in an error
 abbrev pub size_in : Refusal → ℕ
