@@ -51,8 +51,8 @@ function checkPair(code, size) {
 
 function varint(bytes, from) {
   for (let value = 0, scale = 1, at = from; ; scale *= 128) {
-    if (at >= bytes.length) fail('insufficient', { taken: at });
     if (at - from >= 9) fail('overflow', { taken: at });
+    if (at >= bytes.length) fail('insufficient', { taken: at });
     const byte = bytes[at++];
     value += (byte & 0x7f) * scale;
     if (byte >= 0x80) continue;
