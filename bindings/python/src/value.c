@@ -94,10 +94,19 @@ static Py_hash_t multihash_hash(PyObject *self)
     return hash == -1 ? -2 : hash;
 }
 
+/* An attribute, by a name that is there once: CPython's cache keeps each new one. */
+static PyObject *attribute_of(PyObject *it, const char *text)
+{
+    PyObject *name = PyUnicode_InternFromString(text);
+    PyObject *found = name == NULL ? NULL : PyObject_GetAttr(it, name);
+    Py_XDECREF(name);
+    return found;
+}
+
 static PyObject *multihash_repr(PyObject *self)
 {
     const multihash_object *it = (const multihash_object *)self;
-    PyObject *name = PyObject_GetAttrString((PyObject *)Py_TYPE(self), "__qualname__");
+    PyObject *name = attribute_of((PyObject *)Py_TYPE(self), "__qualname__");
     if (name == NULL) return NULL;
     PyObject *shown = PyUnicode_FromFormat("%U(code=%R, digest=%R)", name, it->code, it->digest);
     Py_DECREF(name);
@@ -120,7 +129,10 @@ static PyObject *multihash_reduce(PyObject *self, PyObject *unused)
 static PyObject *multihash_hexdigest(PyObject *self, PyObject *unused)
 {
     (void)unused;
-    return PyObject_CallMethod(((multihash_object *)self)->digest, "hex", NULL);
+    PyObject *hex = attribute_of(((multihash_object *)self)->digest, "hex");
+    PyObject *digits = hex == NULL ? NULL : PyObject_CallObject(hex, NULL);
+    Py_XDECREF(hex);
+    return digits;
 }
 
 static PyObject *multihash_bytes(PyObject *self, PyObject *unused)
