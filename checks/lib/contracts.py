@@ -114,7 +114,7 @@ def item_lines(item: Item, private: set[str]) -> Iterator[str]:
                 yield from (first, *lines, "}")
             else:
                 yield f"{first} .. }}" if first.endswith("{") else first
-    elif item.is_public:
+    elif item.is_public or item.name in ("laws", "pins"):
         yield from attribute_lines(item, "")
         yield from kept_lines(item.source)
 

@@ -47,7 +47,7 @@ def open_clauses(log: str, function: str) -> tuple[str, set[str]]:
 
 
 def try_proof(group: Group, bugs: list[Bug]) -> Iterator[tap.Result]:
-    """Plants mutants in a copy of the crates, with what 'rt ci' proved of one."""
+    """Plants mutants in a copy of the crates, with what rt.t proved of one."""
     bodies: dict[str, list[Bug]] = defaultdict(list)
     for bug in bugs:
         bodies[bug.seen_by].append(bug)

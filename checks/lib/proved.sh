@@ -1,6 +1,6 @@
 # shellcheck shell=bash
-# Sourced after tap.sh: a check that builds a crate does it in a copy of the crates, with what 'rt ci' proved of them.
-# What it did not prove is proved in the copy.
+# Sourced after tap.sh: a check that builds a crate does it in a copy of the crates, with what rt.t proved of them. What
+# it did not prove is proved in the copy.
 
 # shellcheck disable=SC2154 # tap.sh has the work folder
 export PROVED=$work/copy

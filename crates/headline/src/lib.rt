@@ -21,8 +21,8 @@ use multihash::no_std_io::{Read, Write};
 use multihash::{Error, Multihash, laws, list};
 use std::alloc::Global;
 
-/// Reads the multihash that the whole of `bytes` encodes. Each byte string has one result for each capacity: the
-/// multihash that it encodes, or one error.
+/// Reads the multihash that the whole of `bytes` encodes. Each byte string has one result for each capacity:
+/// the multihash that it encodes, or one error.
 pub fn verdict<const S: usize>(bytes: &[u8]) -> Result<Multihash<S>, Error>
     // The grammar assigns exactly one verdict to the bytes, and it is the result.
     ensures one { (one : ExactlyOne (HasWholeVerdict S bytes.now)) × IsResultOf result one.value }
@@ -35,8 +35,8 @@ pub fn verdict<const S: usize>(bytes: &[u8]) -> Result<Multihash<S>, Error>
     Multihash::from_bytes(bytes)
 }
 
-/// Reads the multihash that comes next in a reader. `read` stops at the byte that decides the result. The clauses
-/// say what was read and what is left if the reader's input is known (`rest`), as it is for a slice.
+/// Reads the multihash that comes next in a reader. `read` stops at the byte that decides the result. The
+/// clauses say what was read and what is left if the reader's input is known (`rest`), as it is for a slice.
 pub fn read_verdict<const S: usize, R: Read>(r: &mut R) -> Result<Multihash<S>, Error>
     // Either the reader failed, once, and its error is the result; or it did not fail, the grammar assigns
     // exactly one verdict to the rest, and that is the result.
