@@ -14,10 +14,10 @@ in_crate() {
     RUSTDOCFLAGS="-D warnings" bindings/rust/offline.sh "$work" "$@"
 }
 
-# Runs a number of tests.
+# Runs a number of tests. None is left out, and neither Cargo nor a build script warns.
 tests() {
-  in_crate "${@:2}" | tee "$work/tests"
-  awk '/^test result: ok\. / { passed += $4 } END { print passed }' "$work/tests" | diff - <(echo "$1")
+  in_crate "${@:2}" 2>&1 | tee "$work/tests"
+  awk '/^(warning|left out)/; /^test result: ok/ { n += $4 } END { print n }' "$work/tests" | diff - <(echo "$1")
 }
 
 # The tests pass with and without features, the pages have no warnings, and need no library on docs.rs.
@@ -36,7 +36,7 @@ rust_source() {
   local c=$work/repository/bindings/c file
   mv "$c/prebuilt" "$work/kept"
   tests 23 cargo test
-  [[ $(cat "$work"/target/debug/build/multihash_c-*/output) = *'"-O2"'*'"-std=c11"'* ]]
+  [[ $(cat "$work"/target/debug/build/multihash_c-*/output) = *'"-O2"'*'/include" "-std=c11" "-o"'* ]]
   for file in "$c"/src/*.[ch] "$c"/include/*; do
     cp -p "$file" "$work/file"
     echo '#error planted' >> "$file"
@@ -78,7 +78,7 @@ rust_packed() {
     >> "$packed/multihash-0.19.5/Cargo.toml"
   [ ! -e "$packed/multihash-0.19.5/src/old.rs" ]
   diff -r bindings/c/prebuilt "$packed/multihash_c-$version/prebuilt"
-  tests 12 cargo test --manifest-path "$packed/multihash-0.19.5/Cargo.toml"
+  tests 12 cargo test --manifest-path "$packed/multihash-0.19.5/Cargo.toml" -- --show-output
   rm -r "$packed/multihash_c-$version/prebuilt"
   tests 12 cargo test --manifest-path "$packed/multihash-0.19.5/Cargo.toml"
 }
@@ -119,7 +119,7 @@ rust_switch() {
 }
 
 rust_serde() {
-  [[ $(in_crate cargo tree -p multihash -e normal,features --features serde) = *$'\n└── serde v'* ]]
+  [[ $(in_crate cargo tree -p multihash -e normal,features --features serde-codec) = *$'\n└── serde v'* ]]
   tests 13 cargo test --features serde --test values
   in_crate cargo build -p multihash --no-default-features --features serde-codec
   in_crate cargo build --manifest-path program/library/Cargo.toml --features serde
@@ -154,7 +154,7 @@ END
 }
 
 # The archive is found in a directory of any name, and missed in another and once it is gone. A relative path is
-# rejected, and a library that pkg-config does not find.
+# rejected, and a library that pkg-config does not find. The archive that comes with the source needs no compiler.
 rust_build() {
   local directory=$work/$'a \xff directory' plain=$work/plain
   mkdir "$directory" "$plain"
@@ -166,15 +166,16 @@ rust_build() {
   in_crate MULTIHASH_C_LIB_DIR="$plain" cargo build
   rm "$plain"/*
   rejects "libmultihash_c.a: No such file" in_crate MULTIHASH_C_LIB_DIR="$plain" cargo build
-  rejects "not an absolute path" in_crate MULTIHASH_C_SYSTEM=1 MULTIHASH_C_LIB_DIR=prebuilt cargo build
+  in_crate CC=none cargo build
   rejects "multihash_c >= 1.0" in_crate MULTIHASH_C_SYSTEM=1 PKG_CONFIG_LIBDIR="$work/none" cargo build
+  rejects "not an absolute path" in_crate MULTIHASH_C_SYSTEM=1 MULTIHASH_C_LIB_DIR=prebuilt cargo build
 }
 
 try "the tests: 8 comparisons" rust_binding
 try "the portable source: 13 comparisons" rust_source
 needs=clang try "the portable source for other targets: 15 comparisons" rust_targets
 try "the packed packages: 7 comparisons" rust_packed
-needs=$archive try "the build script: 12 comparisons" rust_build
+needs=$archive try "the build script: 13 comparisons" rust_build
 try "the switch from upstream's package: 6 comparisons" rust_switch
 try "serde: 5 comparisons" rust_serde
 needs=cargo-clippy try "lints: 3 comparisons" rust_lints

@@ -15,9 +15,9 @@ shift
 if [ "${KEEP-}" != 1 ] || [ ! -d "$copy" ]; then
   rm -rf "$copy"
   mkdir -p "$copy" "$work/cargo"
-  tar -c --format=posix --exclude=target --exclude=Cargo.lock --exclude=build -C "$top" bindings/rust \
+  tar -c --format=posix --exclude=target --exclude=Cargo.lock -C "$top" bindings/rust \
     bindings/c/{include,prebuilt,src} | tar -x -C "$copy"
-  printf '%s\n' '[net]' 'offline = true' '[source.crates-io]' 'replace-with = "here"' \
+  printf '%s\n' '[source.crates-io]' 'replace-with = "here"' \
     '[source.here]' 'directory = "/usr/share/cargo/registry"' > "$work/cargo/config.toml"
 fi
 verdicts=${MULTIHASH_VERDICTS:-$top/crates/vectors/data/verdicts.tsv}

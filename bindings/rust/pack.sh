@@ -9,11 +9,10 @@ work=$(readlink -f "$1")
 copy=$work/repository
 "$here/offline.sh" "$work" true
 package=$copy/bindings/rust/multihash_c
-licences=("$package/LICENSE" "$copy/bindings/rust/multihash/LICENSE")
-trap 'rm -r "$package/prebuilt" "$package/portable" "${licences[@]}"' EXIT
-mkdir "$package/prebuilt" "$package/portable"
-for licence in "${licences[@]}"; do cp "$here/../../LICENSE" "$licence"; done
-cp -r "$copy"/bindings/c/prebuilt/* "$package/prebuilt"
+mkdir "$package/portable"
+cp "$here/../../LICENSE" "$package"
+cp "$here/../../LICENSE" "$copy/bindings/rust/multihash"
+cp -r "$copy/bindings/c/prebuilt" "$package"
 cp "$copy"/bindings/c/{src/{multihash.c,module.h,memory.h},include/multihash.h} \
   "$package/portable"
 KEEP=1 "$here/offline.sh" "$work" cargo package --workspace --exclude-lockfile --no-verify
