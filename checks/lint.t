@@ -13,7 +13,7 @@ shell=$(scripts '^(#! ?/.*\b(ba)?sh|# shellcheck shell=bash)$')
 python=$({ listed '*.py'; scripts '^#!.*python'; } | sort -u)
 javascript=$(listed '*.js' '*.ts')
 # those that end at the first command that fails
-ending=$(scripts '^(set -e|\. .*/tap\.sh"$|# Sourced after tap\.sh)')
+ending=$(scripts '^(set -euo pipefail$|\. .*/tap\.sh"$|# Sourced after tap\.sh)')
 # install.t plants what the installed test finds
 tested=$(listed "*.t" "*test.sh" | sed '/^bindings\/c\/examples\//d')
 # All but the tests of the package for Python have types.

@@ -66,7 +66,6 @@ rust_targets() {
 # source.
 rust_packed() {
   local packed=$work/packed package
-  echo 'compile_error!("an earlier copy");' >> "$work/repository/bindings/rust/multihash/src/lib.rs"
   touch "$work/repository/bindings/rust/multihash/src/old.rs"
   bindings/rust/pack.sh "$work"
   mkdir "$packed"
@@ -92,7 +91,7 @@ write_program() {
     '[package]' 'name = "program"' 'edition = "2021"' '[dependencies]' 'library.path = "library"' \
     'multihash = "0.19"'; } > Cargo.toml
   printf '%s\n' '[package]' 'name = "library"' 'edition = "2021"' '[features]' 'default = ["std"]' \
-    'std = ["multihash/std"]' 'serde = ["multihash/serde-codec"]' '[dependencies]' \
+    'std = ["multihash/std"]' '[dependencies]' \
     'multihash = { version = "0.19.5", default-features = false }' > library/Cargo.toml
   printf '%s\n' '#![no_std]' 'use multihash::{Error, Multihash};' \
     'pub fn read(bytes: &[u8]) -> Result<Multihash<64>, Error> { Multihash::read(bytes) }' > library/src/lib.rs
@@ -122,7 +121,6 @@ rust_serde() {
   [[ $(in_crate cargo tree -p multihash -e normal,features --features serde-codec) = *$'\n└── serde v'* ]]
   tests 13 cargo test --features serde --test values
   in_crate cargo build -p multihash --no-default-features --features serde-codec
-  in_crate cargo build --manifest-path program/library/Cargo.toml --features serde
 }
 
 rust_lints() {
@@ -177,6 +175,6 @@ needs=clang try "the portable source for other targets: 15 comparisons" rust_tar
 try "the packed packages: 7 comparisons" rust_packed
 needs=$archive try "the build script: 13 comparisons" rust_build
 try "the switch from upstream's package: 6 comparisons" rust_switch
-try "serde: 5 comparisons" rust_serde
+try "serde: 4 comparisons" rust_serde
 needs=cargo-clippy try "lints: 3 comparisons" rust_lints
 needs=cargo-clippy try "a warning of each command: 16 comparisons" planted_warnings
