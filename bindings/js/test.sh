@@ -42,7 +42,7 @@ old_engine() {
   done
 }
 
-# A wasm-opt that changes one local is found, and a folder without the crates is an error.
+# A wasm-opt that changes one local is found, no file is left, and a folder without the crates is an error.
 built_anew() {
   tools/generate --check wasm
   # shellcheck disable=SC2317 # build.sh runs it
@@ -51,7 +51,9 @@ built_anew() {
     wasm2wat "${!#}" | sed '0,/local.get 1/s//local.get 0/' | wat2wasm - -o "${!#}"
   }
   export -f wasm-opt
-  rejects "> local.get 0" "$here/build.sh" --check
+  mkdir "$work/left"
+  TMPDIR=$work/left rejects "> local.get 0" "$here/build.sh" --check
+  rmdir "$work/left"
   rejects "No such file" env PROVED="$work/none" tools/link_wasm "$work/none.wasm"
 }
 

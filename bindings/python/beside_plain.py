@@ -1,18 +1,21 @@
 """Times of each call beside plain Python with the same checks: the least CPU time of each in turns.
 
     python3 -I beside_plain.py   prints the table of README.md; the status is 1 if a call takes too long
+
+Before that the results of both are compared.
 """
 import io
 import sys
 import time
 from functools import partial
-from typing import Any, BinaryIO, Callable, Dict, NamedTuple, Optional, Tuple
+from typing import Any, BinaryIO, Callable, Dict, Iterator, NamedTuple, Optional, Tuple
 
 import verified_multihash as vm
 
 ROUNDS, CALLS = 15, 5000
 LIMIT = 0.6  # of a share: times vary, so it is more than the page says
 DATA = bytes([18, 32]) + bytes(range(32))
+VARINTS = [bytes.fromhex(it) for it in ("", "00", "80", "80" * 9, "8000", "ff7f", "ff" * 8 + "7f", "ff01", "8002")]
 
 
 class PlainError(ValueError):
@@ -61,10 +64,10 @@ def take_varint(data: bytes, at: int) -> Tuple[int, int]:
     value = shift = 0
     i = at
     while True:
-        if i >= len(data):
-            raise PlainError("insufficient", taken=i)
         if i - at >= 9:
             raise PlainError("overflow", taken=i)
+        if i >= len(data):
+            raise PlainError("insufficient", taken=i)
         byte = data[i]
         i += 1
         value |= (byte & 127) << shift
@@ -99,7 +102,11 @@ def read(data: bytes, limit: int = 255) -> Tuple[Plain, int]:
 
 
 def decode(data: bytes) -> Plain:
-    multihash, taken = read(data)
+    try:
+        multihash, taken = read(data)
+    except PlainError as error:
+        error.taken = len(data)
+        raise
     if taken != len(data):
         raise PlainError("invalid size", len(data) - taken, taken=len(data))
     return multihash
@@ -182,6 +189,34 @@ def calls_of(it: Any, kind: Any, reader: Any) -> Dict[str, Callable[[], Any]]:
     }
 
 
+def shown(result: Any) -> Any:
+    """A result in the form that it has in both."""
+    if isinstance(result, tuple):
+        return [shown(each) for each in result]
+    if isinstance(result, (vm.Multihash, Plain)):
+        return bytes(result)
+    if isinstance(result, vm.MultihashError):
+        return result.status.name.replace("_", " ").lower(), result.size, result.code, result.taken
+    return (result.status, result.size, result.code, result.taken) if isinstance(result, PlainError) else result
+
+
+def results(it: Any, kind: Any, reader: Any) -> Iterator[Any]:
+    """The results of calls: of bytes, whose varints and digests end anywhere, and of pairs."""
+    for varint in VARINTS:
+        for data in (varint, varint + DATA, DATA[:1] + varint + DATA * 9):
+            yield from (caught(call, data[:end]) for call in (it.decode, it.read, it.head) for end in range(len(data)))
+            yield from (caught(it.read_from, io.BytesIO(data), limit) for limit in (31, 32, 127, 255, 256))
+            yield caught(reader(io.BytesIO(data)).read)
+    for code in (0, 127, 128, 1 << 56, (1 << 63) - 1, 1 << 63):
+        for size in (0, 127, 128, 255, 256):
+            yield caught(it.encode, code, bytes(size))
+            yield caught(it.encoded_len, code, size)
+    values = [kind(code, digest) for code in (1, 2) for digest in (b"", b"ab", b"b")]
+    for left in values:
+        for right in values:
+            yield left == right, left < right, it.compare(left, right), hash(left) == hash(right)
+
+
 def nanoseconds(call: Callable[[], Any]) -> float:
     began = time.process_time()
     for _ in range(CALLS):
@@ -191,6 +226,11 @@ def nanoseconds(call: Callable[[], Any]) -> float:
 
 def main() -> int:
     ours, plain = calls_of(vm, vm.Multihash, vm.MultihashReader), calls_of(sys.modules[__name__], Plain, PlainReader)
+    both = zip(results(vm, vm.Multihash, vm.MultihashReader), results(sys.modules[__name__], Plain, PlainReader))
+    calls = ((ours[name](), plain[name]()) for name in ours if name != "`hash`")
+    for here, there in (*both, *calls):
+        if shown(here) != shown(there):
+            sys.exit("%r, in plain Python %r" % (shown(here), shown(there)))
     slow = False
     table = "| Call | this package | plain Python | share |\n|---|---:|---:|---:|\n"
     for name in ours:

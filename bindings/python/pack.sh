@@ -31,7 +31,7 @@ for_machine() {
     -c 'import sysconfig; print(sysconfig.get_config_var("MULTIARCH"), sysconfig.get_path("include"))')
   mkdir -p "$work/$1-linux-gnu"
   ln -s "/usr/include/${headers%% *}/${headers##*/}" "$work/$1-linux-gnu"
-  export CC=$1-linux-gnu-gcc CFLAGS="$CFLAGS -I$work" _PYTHON_HOST_PLATFORM=linux-$1
+  export CC=$1-linux-gnu-gcc CFLAGS="$CFLAGS -I$work"
 }
 
 # A wheel of the unpacked sdist, whose module needs no later glibc than its tag says.
@@ -51,7 +51,7 @@ wheel() (
 )
 
 mkdir "$work/repository"
-tar -c --exclude=build --exclude='*.egg-info' -C "$here/../.." LICENSE bindings/python checks/lib/not_shown.txt \
+tar -c --exclude='*.egg-info' -C "$here/../.." LICENSE bindings/python checks/lib/not_shown.txt \
   bindings/c/{include,src} crates/vectors/data | tar -x -C "$work/repository"
 build -s -o "$work" "$work/repository/bindings/python"
 name=verified_multihash-$(sed -n 's/^__version__ = "\(.*\)"$/\1/p' "$here/verified_multihash/__init__.py")

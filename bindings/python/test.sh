@@ -18,6 +18,7 @@ if [ $# = 2 ]; then mkdir -p "$2" && to=$(readlink -f "$2") || exit 2; fi
 . "$here/../../checks/lib/tap.sh"
 plan 19 cc "${PYTHON:=/usr/bin/python3}"
 to=${to:-$work}
+clone=$to/clone
 header=$PWD/bindings/c/include/multihash.h
 # What is tested is what was installed.
 unset PYTHONPATH LD_LIBRARY_PATH MULTIHASH_C_ARCHIVE CFLAGS
@@ -25,10 +26,16 @@ export PYTHONDONTWRITEBYTECODE=1 PYTHON
 export MULTIHASH_VERDICTS=${MULTIHASH_VERDICTS:-$PWD/crates/vectors/data/verdicts.tsv}
 python=$to/venv/bin/python
 
+# Another clone, in which there is more of an earlier build, makes the same, and leaves no other file.
 builds() {
-  rm -rf "$to/dist" "$to/again"
+  rm -rf "$to/dist" "$to/again" "$clone"
+  mkdir -p "$clone/bindings/python/verified_multihash.egg-info"
+  tar -C "$here/../.." -c LICENSE bindings/python checks/lib/not_shown.txt \
+    bindings/c/{include,prebuilt,src} crates/vectors/data | tar -x -C "$clone"
+  echo pack.sh > "$clone/bindings/python/verified_multihash.egg-info/SOURCES.txt"
+  touch "$clone/bindings/python/tests/earlier.pyc"
   "$here/pack.sh" "$to/dist" "$archive"
-  (umask 077; "$here/pack.sh" "$to/again" "$archive")
+  (umask 077; TMPDIR=$to/again "$clone/bindings/python/pack.sh" "$to/again" "$archive")
   diff -r "$to/dist" "$to/again"
   ls "$to"/dist/verified_multihash-[0-9]*.tar.gz
   basename "$to"/dist/*.whl
@@ -65,6 +72,16 @@ looks_at_archive() {
 installs() {
   env PATH=/usr/bin:/bin "$python" -m pip install --quiet --disable-pip-version-check --no-index --no-build-isolation \
     --force-reinstall "$1"
+}
+
+# What is timed has the same results, and no call takes longer than a limit.
+beside_plain() {
+  local other=$to/beside_plain.py
+  "$python" -I "$here/beside_plain.py"
+  sed 's/= 0.6 /= 0 /; s/15, 5000/1, 99/' "$here/beside_plain.py" > "$other"
+  rejects "| 0." "$python" -I "$other"
+  sed -i 's/size > 255/size > 254/' "$other"
+  rejects "in plain Python" "$python" -I "$other"
 }
 
 # What is installed is imported, from the environment.
@@ -116,16 +133,11 @@ other_version() {
 
 # A folder whose archive differs in one byte is not installed. Other systems have other options, and take no archive.
 altered_archive() {
-  local top=$here/../.. copy=$to/altered archive system options
-  archive=bindings/c/prebuilt/$(uname -m)/libmultihash_c.a
-  rm -rf "$copy"
-  mkdir "$copy"
-  tar -C "$top" -c --exclude=build LICENSE bindings/python checks/lib/not_shown.txt \
-    bindings/c/{include,prebuilt,src} crates/vectors/data | tar -x -C "$copy"
-  printf x | dd of="$copy/$archive" bs=1 seek=9999 conv=notrunc
-  rejects "not the archive of prebuilt/SHA256SUMS" installs "$copy/bindings/python"
+  local system options
+  printf x | dd of="$clone/bindings/c/prebuilt/$(uname -m)/libmultihash_c.a" bs=1 seek=9999 conv=notrunc
+  rejects "not the archive of prebuilt/SHA256SUMS" installs "$clone/bindings/python"
   while read -r system options; do
-    CC=echo LDSHARED=echo _PYTHON_HOST_PLATFORM=$system env -C "$copy/bindings/python" "$python" setup.py build_ext |
+    CC=echo LDSHARED=echo _PYTHON_HOST_PLATFORM=$system env -C "$clone/bindings/python" "$python" setup.py build_ext |
       sed -nE '/^echo .*multihash\.o/s/.*(multihash\.o|abi3\.so)//p' | xargs | diff - <(echo "$options")
   done << END
 win-amd64 /std:c11
@@ -169,8 +181,8 @@ planted_write() {
 }
 
 planted_warning() {
-  planted '1s/^/signed char planted(long more) { return more; }\n/'
-  CFLAGS=$warnings installs "$to/planted"
+  sed -i '1s/^/signed char planted(long more) { return more; }\n/' "$clone/bindings/python/src/core.c"
+  CFLAGS=$warnings "$clone/bindings/python/pack.sh" "$to/warned" "$archive"
 }
 
 # Each argument is kept.
@@ -211,7 +223,7 @@ else
 fi
 try "the tests with the debug allocator" unit_tests "$here/tests" PYTHONMALLOC=debug
 needs="mypy stubtest" try "types: 3 comparisons" types
-try "the times beside plain Python" "$python" -I "$here/beside_plain.py"
+try "the times beside plain Python: 2 comparisons" beside_plain
 try "the folder, installed" imports "$here"
 needs="objcopy ar" try "an archive of another version" other_version
 try "an altered archive: 4 comparisons" altered_archive
