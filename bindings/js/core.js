@@ -34,7 +34,7 @@ const views = [];
 /** The version of the library. */
 export const version = '1.0.0';
 
-// A module that fills memory at once. Ours copies at once, which engines have since the same version.
+// A module that uses memory.fill. Ours uses memory.copy: an engine has both bulk memory operations, or neither.
 const PROBE = Uint8Array.of(
   ...[0, 97, 115, 109, 1, 0, 0, 0, 1, 4, 1, 96, 0, 0, 3, 2, 1, 0, 5, 3, 1, 0, 1],
   ...[10, 13, 1, 11, 0, 65, 0, 65, 0, 65, 0, 252, 11, 0, 11],
