@@ -28,9 +28,9 @@ pub use error::Error;
 pub use multihash::Multihash;
 
 /// The result of a call.
-#[deprecated(note = "name the error: `Result<T, multihash::Error>`")]
-pub type Result<T> = core::result::Result<T, Error>;
+#[deprecated(note = "name the error: `Result<Value, multihash::Error>`")]
+pub type Result<Value> = core::result::Result<Value, Error>;
 
 /// An earlier name of [`Multihash`].
 #[deprecated(note = "use `multihash::Multihash`")]
-pub type MultihashGeneric<const N: usize> = Multihash<N>;
+pub type MultihashGeneric<const S: usize> = Multihash<S>;

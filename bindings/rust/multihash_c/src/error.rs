@@ -23,7 +23,7 @@ pub enum Error {
 }
 
 /// The result of a call.
-pub type Result<T> = core::result::Result<T, Error>;
+pub type Result<Value> = core::result::Result<Value, Error>;
 
 impl Error {
     /// Returns whether the input is truncated: it ends before or within a varint or the digest.
