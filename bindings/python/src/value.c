@@ -32,7 +32,6 @@ static PyObject *multihash_new(PyTypeObject *type, PyObject *arguments, PyObject
     if (get_pair(arguments, named, "OO:Multihash", &code, &number, &digest) < 0) return NULL;
     multihash_encoded length = multihash_encoded_len(number, digest.whole);
     if (length.status == MULTIHASH_OK) {
-        if (Py_TYPE(code) == &PyLong_Type) return new_multihash(type, number, code, digest.owner);
         Py_DECREF(code);
         return new_multihash(type, number, PyLong_FromUnsignedLongLong(number), digest.owner);
     }

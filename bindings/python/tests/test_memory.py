@@ -43,6 +43,7 @@ CALLS = {str((call.__name__, each)): (call, each) for call, each in calls()}
 CALLS["a subclass"] = Named, [1 << 62, b"abc"]
 CALLS["values"] = lambda: (OTHER.code, OTHER.digest, OTHER.hexdigest(), bytes(OTHER), repr(OTHER), hash(OTHER)), ()
 CALLS["order"] = lambda: (VALUE == OTHER, VALUE < OTHER, VALUE == 1, VALUE == Named(VALUE.code, VALUE.digest)), ()
+CALLS["a text"] = vm._core.status_text, [1 << 62]
 CALLS["pickle"] = VALUE.__getnewargs__, ()
 CALLS["reader"] = lambda data, limit: vm.read_from(io.BytesIO(data), limit), [bytes(OTHER), 1 << 62]
 

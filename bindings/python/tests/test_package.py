@@ -156,7 +156,7 @@ class Arguments(unittest.TestCase):
             for wrong in (18.0, "18", None, b"\x12"):
                 self.assertRaises(TypeError, call, wrong, b"")
             for code in NEGATIVE:
-                self.assertRaisesRegex(ValueError, "not negative", call, code, b"")
+                self.assertRaisesRegex(ValueError, "^a code is not negative$", call, code, b"")
             for code in (1 << 63, (1 << 64) - 1, 1 << 64, (1 << 64) + 18, 1 << 700, 10**5000):
                 text = "Invalid multihash code %s." % shown(code)
                 self.assertEqual(self.error_of(call, code, bytes(255)), (Status.INVALID_CODE, 0, code, text))
@@ -168,7 +168,7 @@ class Arguments(unittest.TestCase):
         for length in (256, 1 << 63, 1 << 64, (1 << 64) + 5, 1 << 700):
             self.assertEqual(self.error_of(vm.encoded_len, 18, length)[:3], (Status.INVALID_SIZE, length, 0))
         for length in NEGATIVE:
-            self.assertRaisesRegex(ValueError, "not negative", vm.encoded_len, 18, length)
+            self.assertRaisesRegex(ValueError, "^a length is not negative$", vm.encoded_len, 18, length)
         self.assertRaises(TypeError, vm.encoded_len, 18, 2.0)
 
     def test_limits(self):
@@ -186,7 +186,7 @@ class Arguments(unittest.TestCase):
             self.assertEqual(self.error_of(call, data[3], 2)[:2], (Status.INVALID_SIZE, 3))
             self.assertEqual(self.error_of(call, b"\x01\x80\x02" + bytes(256), 1 << 64)[:2], (Status.INVALID_SIZE, 256))
             for limit in NEGATIVE:
-                self.assertRaisesRegex(ValueError, "not negative", call, b"", limit)
+                self.assertRaisesRegex(ValueError, "^a limit is not negative$", call, b"", limit)
             for wrong in (3.0, "3"):
                 self.assertRaises(TypeError, call, data[3], wrong)
 
@@ -229,8 +229,8 @@ class Values(unittest.TestCase):
                 self.assertEqual((left >= right, left == right, left != right), (i >= k, i == k, i != k))
                 self.assertEqual(len({left, right}), 1 + (i != k))
         for wrong in ((1, b"b"), None, b"\1\0"):
-            self.assertRaises(TypeError, vm.compare, wrong, ordered[0])
-            self.assertRaises(TypeError, vm.compare, ordered[0], wrong)
+            for pair in ((wrong, ordered[0]), (ordered[0], wrong)):
+                self.assertRaisesRegex(TypeError, "expected a Multihash, not %s" % type(wrong), vm.compare, *pair)
             self.assertRaises(TypeError, lambda: ordered[0] < wrong)
             self.assertNotEqual(ordered[0], wrong)
 
@@ -350,6 +350,7 @@ class Names(unittest.TestCase):
         constants = {name for name in vars(vm) if name.endswith("_MAX")} | {"__version__"}
         self.assertEqual(sorted(vm.__all__), sorted(public | constants))
         self.assertTrue(Path(vm.__file__).with_name("py.typed").exists())
+        self.assertEqual(Multihash.__match_args__, tuple(parameters_of(Multihash)))
         for call in (*NAMED_CALLS, vm.MultihashReader, vm.AsyncMultihashReader):
             limit = parameters_of(call).get("limit")
             self.assertIn(limit and limit.default, (None, vm.DIGEST_MAX))

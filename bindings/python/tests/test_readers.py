@@ -63,10 +63,11 @@ class Readers(unittest.TestCase):
         closed = io.BytesIO(b"\0\0")
         closed.close()
         wrong = (closed, ValueError, "closed file"), (Turns(b"abc"), ValueError, "returned 3 bytes")
-        wrong += (Turns(None), BlockingIOError, ""), (io.StringIO("\0\0"), TypeError, ""), (Turns(2), TypeError, "")
+        wrong += (Turns(None), BlockingIOError, "no bytes"), (Turns(2), TypeError, ""), (io.StringIO(), TypeError, "")
         for call in (vm.MultihashReader, vm.AsyncMultihashReader, vm.read_from):
             self.assertRaises(AttributeError, call, object())
         for kind in self.readers:
+            self.assertRaisesRegex(ValueError, "^not initialized$", kind.__new__(kind).read)
             for file, error, text in wrong:
                 self.assertRaisesRegex(error, text, kind(file).read)
             self.assertIsNone(kind(io.BytesIO()).read())
