@@ -75,7 +75,7 @@ export class MultihashReader {
       }
       // after a release or a cancellation meanwhile, `rest` has what was received
       if (this.#end || (done && this.#at === this.#bytes.length)) return null;
-      multihash = done ? read(this.rest, this.#limit).multihash : this.#received(); // the former throws
+      multihash = done ? read(this.rest).multihash : this.#received(); // the former throws
     }
     return multihash;
   }
@@ -143,7 +143,7 @@ function chunksOfStream(stream) {
         if (isHeld) await reader.cancel(reason);
         else if (!stream.locked) await stream.cancel(reason);
       } finally {
-        if (isHeld) this.release();
+        this.release();
       }
     },
   };

@@ -68,13 +68,15 @@ old_module() {
 
 # What is timed beside the package gives the same results, and its table is that of README.md but for the numbers.
 plain() {
-  local copy=$work/timed
+  local copy=$work/timed edit
   cp -r "$here" "$copy"
   sed -i 's/ ns |.*//' "$copy/README.md"
   node "$copy/beside_plain.js" --write 1
   diff <(sed 's/[0-9.]\+/N/g' "$here/README.md") <(sed 's/[0-9.]\+/N/g' "$copy/README.md")
-  sed -i "s/'0')/'1')/" "$copy/beside_plain.js"
-  rejects "in plain JavaScript" node "$copy/beside_plain.js" --check
+  for edit in "s/'0')/'1')/" 's/taken: at /taken: 0 /'; do
+    sed "$edit" "$here/beside_plain.js" > "$copy/beside_plain.js"
+    rejects "in plain JavaScript" node "$copy/beside_plain.js" --check
+  done
 }
 
 # What is packed, unpacked elsewhere, runs the script of README.md, and is imported from CommonJS.
@@ -143,19 +145,19 @@ ${example}00|~ [aria-invalid=true]|~ .decided[title="Byte 35"]|~ tbody th[scope=
 ${example}0000|2 bytes follow|invalid_size: Invalid multihash size 2.|not a part of the multihash|35 to 36
 16|The input ends inside or before a varint.|No byte: the input ends after 1 byte, |at least 1 byte.
 1680|a varint that is not complete|insufficient: not enough input bytes|the varint of the code
-1620ab|The input ends inside the digest.|Still needed: 31 bytes.|unexpected_eof: failed to fill whole buffer
-168002|A digest of 256 bytes is too long: it may have 255.|2 bytes (1680) can begin a multihash.|Byte 3 of 3: 02
+1620ab|The input ends inside the digest.|Still needed: 31 bytes.|unexpected_eof: failed to fill whole buffer|~ td.digits
+168002|A digest of 256 bytes is too long: it may have 255.|2 bytes (1680) can begin a multihash.|Byte 3 of 3: 02|! empty
 12808000|A varint is longer than needed: it ends in a zero byte.|The first 2 bytes (1280) can begin a multihash.
-ffffffffffffffffff01|A varint has more than nine bytes|Byte 9 of 10: ff|a varint of more than nine bytes
+ffffffffffffffffff01|A varint has more than nine bytes|Byte 9 of 10: ff|a varint of more than nine bytes|~ .byte + .hidden
 %|, after 0 digits, is not
 12%F0%9D%9F%8E0|𝟎|, after 2 digits, is not a hexadecimal digit.
 120|The number of digits, 3, is odd: each byte has two.
-1200|Valid: code 18, digest of 0 bytes.|empty|none|~ label[for=input] + #input[aria-describedby=help] + #help
+1200|Valid: code 18, digest of 0 bytes.|empty|none|~ label[for=input] + #input[aria-describedby=help] + #help|! more
 0X1E01|30 (0x1e)|Still needed: 1 byte.
 %200x12%2001|Still needed: 1 byte.
 1200${bytes}|301 bytes follow|… and 1 byte more|3 to 303
 ffffffffffffffff7fff01${bytes::508}|9223372036854775807|12 to 265|! following|Still needed: 1 byte.
-168002|> Keep the first 2 bytes|~ #input:focus|The whole input can begin|= 0x1300|Valid: code 19|# 12 01|1 byte.
+168002|> Keep the first 2 bytes|~ #input:focus|The whole input can begin|! Keep|= 0x1300|Valid: code 19|# 12 01|1 byte.
 |Valid: code 22|= |Paste a multihash|! The parts|> Trailing bytes|3 bytes follow|> A multihash|Valid: code 22
 |> Truncated digest|inside the digest|> Unfinished varint|before a varint|> Not minimal|a varint that is longer
 |> Code too large|more than nine bytes|> Digest too long|is too long
@@ -187,7 +189,7 @@ while read -r entry; do
   part "in Node.js, $entry" node in_node "$vectors/verdicts.tsv" "$entry"
 done < <(sed -n 's|.*"default": "./\(.*\)[.]js".*|\1|p' "$here/package.json")
 part "vectors that differ: 2 comparisons" node planted
-part "plain JavaScript: 2 comparisons" node plain
+part "plain JavaScript: 3 comparisons" node plain
 part "old engines: 4 comparisons" node old_engine index
 part "old engines, inline: 4 comparisons" node old_engine inline
 part "the packed package's script: 4 comparisons" npm packed_script

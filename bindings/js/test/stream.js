@@ -150,7 +150,8 @@ async function badSources(module, stream) {
   for (const text of [await drained(texts), await drained(texts)]) {
     same(`${text.error?.name} ${text.found.length} ${text.rest.length}`, 'TypeError 0 9', 'a chunk that is text');
   }
-  for (const source of [null, 3, 'ab', [stream], { [Symbol.asyncIterator]: () => null }]) {
+  for (const source of [null, 3, 'ab', [stream], { [Symbol.asyncIterator]: () => null },
+    { [Symbol.asyncIterator]: () => ({}) }]) {
     fails(TypeError, () => new module.MultihashReader(source), 'a source',
       'the source has to be a ReadableStream or an async iterable');
   }
