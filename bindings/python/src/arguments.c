@@ -24,8 +24,7 @@ static PyObject *front_of_view(PyObject *view, Py_ssize_t most)
 
 int get_input(PyObject *argument, Py_ssize_t most, input *to)
 {
-    char *bytes;
-    Py_ssize_t length, whole = -1;
+    Py_ssize_t whole = -1;
     if (PyBytes_CheckExact(argument)) {
         to->owner = argument;
         Py_INCREF(argument);
@@ -41,13 +40,9 @@ int get_input(PyObject *argument, Py_ssize_t most, input *to)
         Py_DECREF(view);
         if (to->owner == NULL) return -1;
     }
-    if (PyBytes_AsStringAndSize(to->owner, &bytes, &length) < 0) {
-        Py_DECREF(to->owner);
-        return -1;
-    }
-    to->bytes = (const uint8_t *)bytes;
-    to->length = (size_t)length;
-    to->whole = (size_t)(whole < 0 ? length : whole);
+    to->bytes = (const uint8_t *)PyBytes_AsString(to->owner);
+    to->length = (size_t)PyBytes_Size(to->owner);
+    to->whole = whole < 0 ? to->length : (size_t)whole;
     return 0;
 }
 
