@@ -148,6 +148,7 @@ fn panicking() {
 
 #[test]
 fn ends() {
+    assert_eq!((&mut [0_u8; 0][..]).write(REST).expect("nothing fails"), 0);
     each_byte(
         || Ok(0),
         |case, at, mut reader, mut writer| {
