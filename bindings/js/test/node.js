@@ -27,8 +27,7 @@ async function compiledBefore() {
   fails(TypeError, () => entry.decode(Uint8Array.of(1, 0)), 'a call before connect');
   const empty = new Module(Uint8Array.of(0, 97, 115, 109, 1, 0, 0, 0));
   for (const wrong of [undefined, {}, bytesOf('multihash.wasm'), empty])
-    fails(TypeError, () => entry.connect(wrong), 'another module', wrong === empty &&
-      `the module is not multihash.wasm of version ${entry.version}`);
+    fails(TypeError, () => entry.connect(wrong), 'another module');
   for (const encoding of ['1200', '1202abab']) {
     entry.connect(new Module(bytesOf('multihash.wasm'))); // the second one changes nothing
     const { code, digest } = entry.decode(unhex(encoding));
