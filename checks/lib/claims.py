@@ -157,19 +157,6 @@ def number_errors(page: str, text: str) -> Iterator[str]:
                 yield f"no source has this number: {text[max(match.start() - 30, 0) : match.end() + 20]}"
 
 
-def phrase_errors(texts: dict[str, str], of: tuple[str, ...] = ()) -> Iterator[str]:
-    """Returns the phrases that no page has, and those that hold of another number."""
-    text = "\n".join(flat(prose(it)) for it in texts.values())
-    for phrase in of or phrases():
-        found = [*re.finditer(phrase, text)]
-        for match in found:
-            for number in NUMBER.finditer(match[0]):
-                if re.fullmatch(phrase, f"{match[0][:number.start()]}77{match[0][number.end():]}"):
-                    yield f"it holds of another number than {number[0]}: {phrase}"
-        if not found:
-            yield f"no page has: {phrase}"
-
-
 # ---- names
 
 # what is in backquotes and in no source: names of others, and what stands for several texts

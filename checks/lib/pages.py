@@ -169,7 +169,6 @@ CHECKS: dict[str, Callable[[Texts], Iterator[str]]] = {
     "file_errors": file_errors,
     "output_errors": output_errors,
     "command_errors": command_errors,
-    "phrase_errors": claims.phrase_errors,
     **{check.__name__: of_all_pages(check) for check in OF_A_PAGE},
 }
 
@@ -181,7 +180,6 @@ def planted(texts: Texts) -> Iterator[tap.Result]:
     for seen, *edit in found:
         changed = edits.apply(texts, [edits.Edit(*edit)])
         yield tap.planted(f"{seen}: {' > '.join(edit)}", any(CHECKS[seen]({**texts, **changed})))
-    yield tap.planted("phrase_errors: any number", any(claims.phrase_errors(texts, (r"CMake [.\d]+",))))
     gone = {error.rpartition(" ")[2] for error in file_errors(texts, Path("none"))}
     yield tap.planted("file_errors: no file is there", {"checks/lint.t", ".ci/run"} <= gone)
 
