@@ -154,6 +154,7 @@ s/size > limit || //
 s/code > INT64_MAX/code > UINT64_MAX/
 s/(out, digest, length);/&\nout[length] = 0;/
 s/left_code < right_code ? -1 : 1/-1/
+s/return left_length </return (uint8_t)left_length </
 s/(order > 0) - /(order > 1) - /
 s/_NUMBER;/_NUMBER + 1;/
 END
@@ -171,7 +172,8 @@ stream_example() {
 
 planted_in_stream() {
   local edit
-  for edit in 's/errno != EINTR/1/' 's/> from->limit/> 255/' 's/= !is_rejected/= 0/' 's/? 2 : 1/? 3 : 1/'; do
+  for edit in 's/errno != EINTR/1/' 's/> from->limit/> 255/' 's/= !is_rejected/= 0/' 's/? 2 : 1/? 3 : 1/' \
+    's/: STREAM_CUT/: STREAM_END/' 's/STREAM_FAILED;/STREAM_CUT;/'; do
     rejects "not so: " stream_example "$edit"
   done
 }
@@ -198,9 +200,9 @@ needs=qemu-x86_64 try "a processor of the baseline: 7 comparisons" old_processor
 # what is counted beside the library
 try "C by hand" build_and_run plain "" cc "${c_flags[@]}" -O2 "$c/speed/plain.c" "${tests[@]}"
 try "fast C by hand" build_and_run fast "" cc "${c_flags[@]}" -O2 "$c/speed/fast.c" "${tests[@]}"
-try "what is planted in C by hand: 10 comparisons" planted_in_c
+try "what is planted in C by hand: 11 comparisons" planted_in_c
 try "the example of the page" example_in bindings/c/README.md
 sed 's/int main(void)/int main()/' bindings/c/README.md > "$work/page.md"
 try "another example" rejects "> int main()" example_in "$work/page.md"
 try "the reader of a stream" stream_example ""
-try "what is planted in it: 4 comparisons" planted_in_stream
+try "what is planted in it: 6 comparisons" planted_in_stream
