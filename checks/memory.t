@@ -40,21 +40,21 @@ TESTS = {
 }
 # inputs of mh_show, the last of which cannot be read, and how many allocations it makes
 SHOWN = {"example": 8, "0041": 5, "0": 4, "a folder": 4}
-# programs, how many allocations each is to make, and whether it ends as it should: with status 1 if one failed
+# programs by how many allocations each is to make. The first ends as it should, with status 1 if one failed, and not for
+# another number; the others do not
 THREE = "void *a = malloc(1), *b = malloc(1), *c = malloc(1); free(a); free(b); free(c); "
-PLANTED = (
-    ("void *made = malloc(1); free(made); return !made;", 1, True),
-    ("void *made = malloc(1); _exit(!made);", 1, False),
-    ("return !malloc(1);", 1, False),
-    ("free(malloc(1)); return 0;", 1, False),
-    ("void *made = malloc(1); if (made) free(malloc(1)); free(made); return !made;", 1, False),
-    ("return 1;", 1, False),
-    ('void *made = malloc(1); if (made) write(1, "0", 1); free(made); return !made;', 1, False),
-    (f"{THREE}return !a || !b || !c;", 3, True),
-    (f"{THREE}return !a || !c;", 3, False),
-    (f"{THREE}return !a || !b;", 3, False),
-    (f"{THREE}return !a || !b || !c;", 2, False),
-)
+PLANTED = {
+    1: (
+        "void *made = malloc(1); free(made); return !made;",
+        "void *made = malloc(1); _exit(!made);",
+        "return !malloc(1);",
+        "free(malloc(1)); return 0;",
+        "void *made = malloc(1); if (made) free(malloc(1)); free(made); return !made;",
+        "return 1;",
+        'void *made = malloc(1); if (made) write(1, "0", 1); free(made); return !made;',
+    ),
+    3: (f"{THREE}return !a || !b || !c;", f"{THREE}return !a || !c;", f"{THREE}return !a || !b;"),
+}
 
 
 class Counted:
@@ -101,11 +101,14 @@ def others(tests: Iterable[str]) -> str:
 
 def results(work: Path) -> Iterator[tap.Result]:
     counted = Counted(work)
-    for number, (text, wanted, is_right) in enumerate(PLANTED):
-        source = f"#include <stdlib.h>\n#include <unistd.h>\nint main(void) {{ {text} }}\n"
-        planted = counted.build(source, f"planted{number}")
-        error = counted.error_of([str(planted)], wanted, "1", "0")
-        yield f"planted, {wanted}: {text}", "" if is_right != bool(error) else f"found: {error}"
+    for wanted, texts in PLANTED.items():
+        for text in texts:
+            source = f"#include <stdlib.h>\n#include <unistd.h>\nint main(void) {{ {text} }}\n"
+            command = [str(counted.build(source, "planted"))]
+            for number in (wanted - 1, wanted, wanted + 1) if text == texts[0] else (wanted,):
+                error = counted.error_of(command, number, "1", "0")
+                is_right = text == texts[0] and number == wanted
+                yield f"planted, {number}: {text}", "" if is_right != bool(error) else f"found: {error}"
     program = tap.program("tests_values", "test")
     listed = subprocess.run([program, "--list"], capture_output=True, text=True, check=True).stdout
     tests = {path.rpartition("::")[2]: path for path in re.findall(r"(?m)^(\S+): test$", listed)}
@@ -124,4 +127,4 @@ def results(work: Path) -> Iterator[tap.Result]:
 
 if __name__ == "__main__":
     with tempfile.TemporaryDirectory(prefix="memory-") as folder:
-        sys.exit(tap.report(results(Path(folder)), 31))
+        sys.exit(tap.report(results(Path(folder)), 34))
