@@ -70,8 +70,8 @@ STREAMS = (
     ("zz", "2>&-", "1"),
     ("zz", "> /dev/full", "mh_show: not hexadecimal\n1"),
 )
-# how many texts end in a newline
-NEWLINES = 250
+# how many texts end in a newline, and in one after a return
+NEWLINES = [250, 2]
 # texts that are not what is wanted
 PLANTED = (
     ("a\na\n1\n", "a\n1\n"),
@@ -159,7 +159,7 @@ def results(folder: str) -> Iterator[tap.Result]:
     for name, lines, wanted in lists():
         Path(folder, "verdicts.tsv").write_text("".join(f"{line}\n" for line in lines).replace("|", "\t"), "utf-8")
         yield f"vectors: {name}", error_of(written(vectors, "", "", folder), wanted)
-    assert sum(text.endswith("\n") for text, *_ in shown()) == NEWLINES
+    assert [sum(text.endswith(end) for text, *_ in shown()) for end in ("\n", "\r\n")] == NEWLINES
     for text, streams, wanted in shown():
         name = f"mh_show {streams} on {len(text)} bytes {text[:40]!r}"
         yield name, error_of(written(mh_show, streams, text, "/"), f"{wanted}\n")
