@@ -144,10 +144,16 @@ def prose(text: str) -> str:
     return text
 
 
+def is_exact(phrase: str, text: str) -> bool:
+    """Returns whether the phrase has no other numbers than this text of it."""
+    return not any(re.fullmatch(phrase, f"{text[: it.start()]}77{text[it.end() :]}") for it in NUMBER.finditer(text))
+
+
 def number_errors(page: str, text: str) -> Iterator[str]:
     """Returns the numbers that no phrase has, with what compares them, and that no source has after the same word."""
     text = flat(prose(text) if page != HEADER else " ".join(re.findall(r"/\*.*?\*/", text, re.S)))
-    spans = [match.span() for phrase in phrases() for match in re.finditer(phrase, text)]
+    found = [(phrase, match) for phrase in phrases() for match in re.finditer(phrase, text)]
+    spans = [match.span() for phrase, match in found if is_exact(phrase, match[0])]
     before = {match.start(2): match[1] for match in PAIR.finditer(text)}
     names = re.finditer(r"(?P<number>MULTIHASH_\w+_MAX)", text) if page == HEADER else ()  # of numbers
     for match in (*COMPARED.finditer(text), *names) if page != CONTRACTS else ():
