@@ -18,7 +18,7 @@ expect() {
   echo "$result $number - ${text//'#'/}"
 }
 
-echo 1..65
+echo 1..66
 expect "not ok 1 - a\nok 2 - b" ". checks/lib/tap.sh; try a false; try b true"
 expect "not ok 1 - a" ". checks/lib/tap.sh; try a no_such_command"
 expect "not ok 1 - a\n# why" ". checks/lib/tap.sh; try a sh -c 'echo why >&2; exit 1' 2>&1"
@@ -30,6 +30,7 @@ expect "not ok 1 - a" ". checks/lib/tap.sh; try a rejects a echo a"
 expect "not ok 1 - a" ". checks/lib/tap.sh; try a rejects 'a text' false"
 expect "not ok 1 - a" ". checks/lib/tap.sh; try a rejects 'a.b' sh -c 'echo axb; exit 1'"
 expect "not ok 1 - a" ". checks/lib/tap.sh; try a rejects a false"
+expect "not ok 1 - a" ". checks/lib/tap.sh; d() { rejects_edits .ci ls none <<< 'a text|true'; }; try a d"
 expect "ok 1 - a" ". checks/lib/tap.sh; try a prints b echo abc"
 expect "not ok 1 - a" ". checks/lib/tap.sh; try a prints b sh -c 'echo abc; exit 1'"
 expect "not ok 1 - a" ". checks/lib/tap.sh; try a prints a.c echo abc"
