@@ -68,12 +68,14 @@ packs() {
     (cd "$work/$name"; cpack -B "$work/$name/packed")
     tar xf "$work/$name/packed/multihash_c-$version-$machine.tar.gz" -C "$work/un packed $name" --strip-components=1
   done
+  mv "$prefix" "$work/moved"
   is_installed "$work/un packed built" lib
   installed_test "$work/un packed built"
   cmp "$archive" "$work/un packed other/lib/other/libmultihash_c.a"
   local include=headers/c document=pages/c man=manual
   is_installed "$work/un packed other" lib/other other/bin/mh_show manual/man1/mh_show.1
   installed_test "$work/un packed other"
+  mv "$work/moved" "$prefix"
 }
 
 # What a machine gets, by CMake's names and a compiler's options: an archive only on Linux with 64 bits, and a shared
@@ -118,6 +120,7 @@ failed: static: show.c builds|rm lib/libmultihash_c.a
 failed: static: a non-minimal varint|sed -i 's/MULTIHASH_NOT_MINIMAL = 3/MULTIHASH_NOT_MINIMAL = 9/' include/multihash.h
 6 passed, 8 failed|sed -i 's/return result != STREAM_END/return 0/' share/doc/multihash_c/examples/stream.c
 8 passed, 6 failed|sed -i 's/return result/if (result != STREAM_END) puts(""); &/' share/doc/*/examples/stream.c
+10 passed, 4 failed|sed -i 's/return [mr][a-z.]* !=/return 1 ||/' share/doc/multihash_c/examples/*.c
 4 passed, 10 failed|sed -i 's/printf(\(stderr, \)\?"/&x/' share/doc/multihash_c/examples/*.c
 END
 }
@@ -134,6 +137,8 @@ planted_prefix() {
 diff -r|echo >> share/doc/multihash_c/changelog
 EOF on|echo >> include/multihash.h
 > 11.0.0|sed -i 's/^Version: ./&1/' lib/pkgconfig/multihash_c.pc
+> -I|sed -i 's,^includedir=.*,&/..,' lib/pkgconfig/multihash_c.pc
+> -L|sed -i 's,^libdir=.*,&/..,' lib/pkgconfig/multihash_c.pc
 > -lm|sed -i 's/^Libs: .*/& -lm/' lib/pkgconfig/multihash_c.pc
 < BIND_NOW|cc -shared -xc /dev/null -o lib/libmultihash_c.so.?.*
 > more|cc -shared -Wl,--no-as-needed,-z,now,-soname=libmultihash_c.so.1 -xc - -o lib/libm*.so.?.* <<< 'int more;'
@@ -207,8 +212,8 @@ test_installation() {
   try "installing below a folder" installs_below
   try "the portable source" from_source
   try "packing: 23 comparisons" packs
-  try "planted differences: 72 comparisons" planted_prefix
-  try "the installed test of planted files: 7 comparisons" planted_test
+  try "planted differences: 86 comparisons" planted_prefix
+  try "the installed test of planted files: 8 comparisons" planted_test
   try "the installed test of nothing" rejects "no multihash_c.pc" bindings/c/examples/test.sh "$work/none"
   try "other machines: 5 comparisons" machines
   needs=/lib64/ld-linux-x86-64.so.2 try "x86-64 with 32 bits: 1 comparison" gets Linux x86_64 -m32 OFF ON
