@@ -40,18 +40,18 @@ TESTS = {
 }
 # inputs of mh_show, the last of which cannot be read, and how many allocations it makes
 SHOWN = {"example": 8, "0041": 5, "0": 4, "a folder": 4}
-# programs by how many allocations each is to make. The first ends as it should, with status 1 if one failed, and not for
-# another number; the others do not
+# programs, by how many allocations each is to make. The first ends as it should, with status 1 if one failed
+ONE = "void *made = malloc(1); "
 THREE = "void *a = malloc(1), *b = malloc(1), *c = malloc(1); free(a); free(b); free(c); "
 PLANTED = {
     1: (
-        "void *made = malloc(1); free(made); return !made;",
-        "void *made = malloc(1); _exit(!made);",
+        f"{ONE}free(made); return !made;",
+        f"{ONE}_exit(!made);",
         "return !malloc(1);",
         "free(malloc(1)); return 0;",
-        "void *made = malloc(1); if (made) free(malloc(1)); free(made); return !made;",
+        f"{ONE}if (made) free(malloc(1)); free(made); return !made;",
         "return 1;",
-        'void *made = malloc(1); if (made) write(1, "0", 1); free(made); return !made;',
+        f'{ONE}if (made) write(1, "0", 1); free(made); return !made;',
     ),
     3: (f"{THREE}return !a || !b || !c;", f"{THREE}return !a || !c;", f"{THREE}return !a || !b;"),
 }
