@@ -145,7 +145,7 @@ def prose(text: str) -> str:
 
 
 def is_exact(phrase: str, text: str) -> bool:
-    """Returns whether the phrase has no other numbers than this text of it."""
+    """Returns whether the phrase has the numbers of this text alone."""
     return not any(re.fullmatch(phrase, f"{text[: it.start()]}77{text[it.end() :]}") for it in NUMBER.finditer(text))
 
 
