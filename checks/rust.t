@@ -99,8 +99,7 @@ write_program() {
 fn main() {
     assert_eq!(library::read(b"\x12\x03abc").unwrap(), multihash::Multihash::<64>::wrap(0x12, b"abc").unwrap());
     // upstream's package accepts a code of ten bytes
-    let error = library::read(b"\xff\xff\xff\xff\xff\xff\xff\xff\xff\x01\x00").unwrap_err();
-    assert_eq!(error.to_string(), "input bytes exceed maximum");
+    println!("{}", library::read(b"\xff\xff\xff\xff\xff\xff\xff\xff\xff\x01\x00").unwrap_err());
 }
 END
 }
@@ -110,7 +109,7 @@ END
 rust_switch() {
   local feature
   (write_program)
-  in_crate cargo run --manifest-path program/Cargo.toml
+  in_crate cargo run --manifest-path program/Cargo.toml | diff <(echo input bytes exceed maximum) -
   in_crate cargo build --manifest-path program/library/Cargo.toml --no-default-features
   for feature in scale-codec arb; do
     rejects "see its README" in_crate cargo build -p multihash --features "$feature"
@@ -174,7 +173,7 @@ try "the portable source: 13 comparisons" rust_source
 needs=clang try "the portable source for other targets: 15 comparisons" rust_targets
 try "the packed packages: 7 comparisons" rust_packed
 needs=$archive try "the build script: 13 comparisons" rust_build
-try "the switch from upstream's package: 6 comparisons" rust_switch
+try "the switch from upstream's package: 7 comparisons" rust_switch
 try "serde: 4 comparisons" rust_serde
 needs=cargo-clippy try "lints: 3 comparisons" rust_lints
 needs=cargo-clippy try "a warning of each command: 16 comparisons" planted_warnings
